@@ -1,0 +1,105 @@
+-- What the leftmost goal of a branch gives.
+use Rattle.std.specs.Prelude.{◌≡◌, ℕ, ◌+◌, Bool, true, false, ◌&&◌, if◌then◌else◌, List, [], ◌∷◌, ◌++◌, map, ◌⊎◌}
+use Rattle.std.specs.Str.{bytes_eq}
+use Rattle.fd_model.specs.declared.kinds.QueryFault.{QueryFault}
+use Rattle.fd_model.specs.declared.kinds.BuiltinKind.{BuiltinKind}
+use Rattle.fd_model.specs.declared.kinds.BuiltinKind.TheVariants.{Write, Nl}
+use Rattle.fd_model.specs.Term.{Term, Terms, Var, Atom, Comp, no_terms, term, Substitution}
+use Rattle.fd_model.specs.Unifier.{Equation}
+use Rattle.fd_model.specs.Family.{Family}
+use Rattle.fd_model.specs.Range.{Indexical}
+use Rattle.fd_model.specs.Closed.{constrained}
+use Rattle.fd_model.specs.Goal.{Goal, listed, True, Fail, Unify, Post, Constrain, Label, Call, Either, Builtin, Clause, Program, Branch}
+use Rattle.fd_model.specs.Renaming.{rename_term, rename_goal}
+use Rattle.fd_model.specs.Seen.{IsConsistent, IsView, seen}
+use Rattle.fd_model.specs.Posting.{post, Found, offends, posts}
+
+-- a fault; or branches of which some may not be consistent; or a goal whose row isn't given yet
+pub data Offer : Type 0 where
+  Faults : QueryFault → Offer
+  Gives : List Branch → Offer
+  Awaited : Offer
+
+abbrev pub with_goals : Branch → List Goal → Branch
+with_goals b gs = record { goals = gs; equations = b.equations; posted = b.posted; fresh = b.fresh }
+
+-- more equations, and the next fresh number
+abbrev pub with_equations : Branch → List Goal → List Equation → ℕ → Branch
+with_equations b gs es n = record { goals = gs; equations = es ++ b.equations; posted = b.posted; fresh = n }
+
+-- one more posted range, the equations of its fresh variables, and the next fresh number
+abbrev pub with_range : Branch → List Goal → Indexical → List Equation → ℕ → Branch
+with_range b gs p es n = record { goals = gs; equations = es ++ b.equations; posted = p ∷ b.posted; fresh = n }
+
+abbrev pub same_count : Terms → Terms → Bool
+same_count no_terms no_terms = true
+same_count no_terms (term u us) = false
+same_count (term t ts) no_terms = false
+same_count (term t ts) (term u us) = same_count ts us
+
+-- the head has the goal's name and arity
+abbrev pub fits_head : Term → Term → Bool
+fits_head (Atom a) (Atom b) = bytes_eq a b
+fits_head (Comp f ts) (Comp g us) = bytes_eq f g && same_count ts us
+fits_head _ _ = false
+
+-- an equation for each argument
+abbrev pub paired : Terms → Terms → List Equation
+paired no_terms us = []
+paired (term t ts) no_terms = []
+paired (term t ts) (term u us) = record { left = t; right = u } ∷ paired ts us
+
+abbrev pub argument_equations : Term → Term → List Equation
+argument_equations (Comp f ts) (Comp g us) = paired ts us
+argument_equations _ _ = []
+
+-- the clause renamed apart, its body in front
+abbrev pub by_clause : Branch → Term → List Goal → Clause → Branch
+by_clause b t rest c =
+    with_equations b (map (rename_goal (λ x. b.fresh + x)) c.body ++ rest) (argument_equations t (rename_term (λ x. b.fresh + x) c.head)) (b.fresh + c.variables)
+
+abbrev pub by_clauses : List Clause → Branch → Term → List Goal → List Branch
+by_clauses [] b t rest = []
+by_clauses (c ∷ cs) b t rest = if fits_head t c.head then by_clause b t rest c ∷ by_clauses cs b t rest else by_clauses cs b t rest
+
+abbrev pub by_post : Branch → List Goal → Found → Offer
+by_post b rest (offends f) = Faults f
+by_post b rest (posts p n es) = Gives (with_range b rest p es n ∷ [])
+
+abbrev pub by_builtin : BuiltinKind → Branch → List Goal → Offer
+by_builtin Write b rest = Gives (with_goals b rest ∷ [])
+by_builtin Nl b rest = Gives (with_goals b rest ∷ [])
+by_builtin _ b rest = Awaited
+
+-- the children of each kind of goal, where look gives each variable as it is seen
+abbrev pub offer : Program → (ℕ → Term) → Branch → Goal → List Goal → Offer
+offer prog look b True rest = Gives (with_goals b rest ∷ [])
+offer prog look b Fail rest = Gives []
+offer prog look b (Unify s t) rest = Gives (with_equations b rest (record { left = s; right = t } ∷ []) b.fresh ∷ [])
+offer prog look b (Post t r) rest = by_post b rest (post look t r b.fresh)
+offer prog look b (Constrain c t) rest = Awaited
+offer prog look b (Label o t) rest = Awaited
+offer prog look b (Call t) rest = Gives (by_clauses prog.clauses b t rest)
+offer prog look b (Either g h) rest = Gives (with_goals b (listed g ++ rest) ∷ with_goals b (listed h ++ rest) ∷ [])
+offer prog look b (Builtin k t) rest = by_builtin k b rest
+
+-- the consistent ones among the branches, in order
+abbrev pub Kept : ℕ → List Branch → List Branch → Type 0
+Kept M [] cs = cs ≡ []
+Kept M (b ∷ bs) cs =
+    (IsConsistent M b.equations b.posted × ((ds : List Branch) × (cs ≡ b ∷ ds) × Kept M bs ds))
+    ⊎ ((IsConsistent M b.equations b.posted → ⊥) × Kept M bs cs)
+
+abbrev pub KeptOffer : ℕ → Offer → Offer → Type 0
+KeptOffer M (Faults f) (Faults g) = f ≡ g
+KeptOffer M (Gives bs) (Gives cs) = Kept M bs cs
+KeptOffer M _ _ = ⊥
+
+-- each variable as it is seen in the branch
+abbrev pub look_in : Branch → Substitution → Family → ℕ → Term
+look_in b s D v = seen s D (constrained b.posted) (Var v)
+
+-- What the goal g of the branch b gives, with the other goals rest: one fault, or the children. s and D are the branch's view.
+pub record Children (M : ℕ) (prog : Program) (b : Branch) (g : Goal) (rest : List Goal) (s : Substitution) (D : Family) (o : Offer) : Type 0 where
+  pub view : IsView M b.equations b.posted s D
+  pub kept : KeptOffer M (offer prog (look_in b s D) b g rest) o

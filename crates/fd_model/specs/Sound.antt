@@ -1,0 +1,104 @@
+-- Programs that can run: what their goals need so that each branch has its children.
+use Rattle.std.specs.Prelude.{ℕ, ◌<◌, true, IsTrue, List, [], ◌∷◌}
+use Rattle.fd_model.specs.declared.kinds.BuiltinKind.{BuiltinKind}
+use Rattle.fd_model.specs.declared.kinds.BuiltinKind.TheVariants.{Write, Nl}
+use Rattle.fd_model.specs.Term.{Term, Terms, Var, Int, Atom, Comp, no_terms, term}
+use Rattle.fd_model.specs.Range.{Range}
+use Rattle.fd_model.specs.Check.{range_fits}
+use Rattle.fd_model.specs.Posting.{Place, range_places}
+use Rattle.fd_model.specs.Goal.{Goal, Goals, no_goals, goal, True, Fail, Unify, Post, Constrain, Label, Call, Either, Builtin, Clause, Query, Program}
+
+-- the row of the built-in is given
+abbrev pub IsGiven : BuiltinKind → Type 0
+IsGiven Write = Unit {0}
+IsGiven Nl = Unit {0}
+IsGiven _ = ⊥
+
+-- its row is given, and its ranges are accepted
+abbrev mutual
+  pub IsRunnable : ℕ → Goal → Type 0
+  IsRunnable M True = Unit {0}
+  IsRunnable M Fail = Unit {0}
+  IsRunnable M (Unify s t) = Unit {0}
+  IsRunnable M (Post t r) = IsTrue (range_fits M r true)
+  IsRunnable M (Constrain c t) = ⊥
+  IsRunnable M (Label o t) = ⊥
+  IsRunnable M (Call t) = Unit {0}
+  IsRunnable M (Either g h) = AllRunnable M g × AllRunnable M h
+  IsRunnable M (Builtin k t) = IsGiven k
+
+  pub AllRunnable : ℕ → Goals → Type 0
+  AllRunnable M no_goals = Unit {0}
+  AllRunnable M (goal g gs) = IsRunnable M g × AllRunnable M gs
+
+abbrev pub AreRunnable : ℕ → List Goal → Type 0
+AreRunnable M [] = Unit {0}
+AreRunnable M (g ∷ gs) = IsRunnable M g × AreRunnable M gs
+
+abbrev pub ClausesRunnable : ℕ → List Clause → Type 0
+ClausesRunnable M [] = Unit {0}
+ClausesRunnable M (c ∷ cs) = AreRunnable M c.body × ClausesRunnable M cs
+
+abbrev pub QueriesRunnable : ℕ → List Query → Type 0
+QueriesRunnable M [] = Unit {0}
+QueriesRunnable M (q ∷ qs) = AreRunnable M q.goals × QueriesRunnable M qs
+
+pub record IsRunnableProgram (M : ℕ) (prog : Program) : Type 0 where
+  pub clauses : ClausesRunnable M prog.clauses
+  pub queries : QueriesRunnable M prog.queries
+
+-- the variables of a term, a range or a goal are below n
+abbrev mutual
+  pub TermBelow : ℕ → Term → Type 0
+  TermBelow n (Var x) = x < n
+  TermBelow n (Int z) = Unit {0}
+  TermBelow n (Atom a) = Unit {0}
+  TermBelow n (Comp f ts) = TermsBelow n ts
+
+  pub TermsBelow : ℕ → Terms → Type 0
+  TermsBelow n no_terms = Unit {0}
+  TermsBelow n (term t ts) = TermBelow n t × TermsBelow n ts
+
+abbrev pub PlacesBelow : ℕ → List Place → Type 0
+PlacesBelow n [] = Unit {0}
+PlacesBelow n (p ∷ ps) = (p.variable < n) × PlacesBelow n ps
+
+abbrev pub RangeBelow : ℕ → Range → Type 0
+RangeBelow n r = PlacesBelow n (range_places r)
+
+abbrev mutual
+  pub GoalBelow : ℕ → Goal → Type 0
+  GoalBelow n True = Unit {0}
+  GoalBelow n Fail = Unit {0}
+  GoalBelow n (Unify s t) = TermBelow n s × TermBelow n t
+  GoalBelow n (Post t r) = TermBelow n t × RangeBelow n r
+  GoalBelow n (Constrain c t) = TermBelow n t
+  GoalBelow n (Label o t) = TermBelow n t
+  GoalBelow n (Call t) = TermBelow n t
+  GoalBelow n (Either g h) = GoalsBelow n g × GoalsBelow n h
+  GoalBelow n (Builtin k t) = TermBelow n t
+
+  pub GoalsBelow : ℕ → Goals → Type 0
+  GoalsBelow n no_goals = Unit {0}
+  GoalsBelow n (goal g gs) = GoalBelow n g × GoalsBelow n gs
+
+abbrev pub EachBelow : ℕ → List Goal → Type 0
+EachBelow n [] = Unit {0}
+EachBelow n (g ∷ gs) = GoalBelow n g × EachBelow n gs
+
+abbrev pub NumbersBelow : ℕ → List ℕ → Type 0
+NumbersBelow n [] = Unit {0}
+NumbersBelow n (x ∷ xs) = (x < n) × NumbersBelow n xs
+
+abbrev pub ClausesScoped : List Clause → Type 0
+ClausesScoped [] = Unit {0}
+ClausesScoped (c ∷ cs) = (TermBelow c.variables c.head × EachBelow c.variables c.body) × ClausesScoped cs
+
+abbrev pub QueriesScoped : List Query → Type 0
+QueriesScoped [] = Unit {0}
+QueriesScoped (q ∷ qs) = (NumbersBelow q.variables q.shown × EachBelow q.variables q.goals) × QueriesScoped qs
+
+-- each clause and each query has as many variables as it says
+pub record IsScoped (prog : Program) : Type 0 where
+  pub clauses : ClausesScoped prog.clauses
+  pub queries : QueriesScoped prog.queries

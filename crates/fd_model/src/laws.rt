@@ -1,0 +1,32 @@
+//! The laws of families, ranges and runs, each the contract of a function that does nothing.
+ghost use Rattle.fd_model.specs.Laws.{GreatestFamily, EveryOrder, Intervals, AcceptedIsMonotone, OneRun, SameTexts};
+
+/// The union of all closed families is a closed family, and contains each.
+pub fn greatest_family()
+    ensures { GreatestFamily }
+{}
+
+/// Whatever the order of activations, and wherever no activation narrows further, the family is that of the domains.
+pub fn every_order()
+    ensures { EveryOrder }
+{}
+
+/// The domain of a variable with constant intervals alone is their intersection.
+pub fn intervals()
+    ensures { Intervals }
+{}
+
+/// A range that the table accepts only shrinks when domains shrink.
+pub fn accepted_is_monotone()
+    ensures { AcceptedIsMonotone }
+{}
+
+/// Each runnable query has exactly one run.
+pub fn one_run()
+    ensures { OneRun }
+{}
+
+/// All most general unifiers give the same texts.
+pub fn same_texts()
+    ensures { SameTexts }
+{}
