@@ -1,0 +1,174 @@
+-- One piece after another: what several calls of a source or of a sink come to.
+use Rattle.std.proofs.Common.{◌≡◌, inl, inr, ℕ, ◌+◌, ◌-◌, ◌<◌, ◌≤◌, List, [], ◌∷◌, ◌++◌, Option, Some, None, IsSome, refl, sym, ap, ◌∙◌, subst, append_assoc, append-nil, arith, take, drop, length, take_all, length-drop, length-append, length-take-le, take-add, take-append-drop}
+use Rattle.std.proofs.lemmas.List.Folds.{concat-append}
+use Rattle.std.proofs.lemmas.List.{take-append-le, drop-drop}
+use Rattle.std.specs.List.{concat}
+use Rattle.byte_ports.specs.Ports.{Took, IsAtEnd, ReadPast, ReadWithin, Put, PutPart, Rose}
+
+some_same : (x y : List ℕ) → Some x ≡ Some y → x ≡ y
+some_same x y e = cc
+
+-- A source.
+
+-- no bytes are always taken
+pub took_none : (a : Option (List ℕ)) → Took a a []
+took_none None = tt
+took_none (Some x) = refl
+
+took_ends : (a b : Option (List ℕ)) (y z p q : List ℕ) → a ≡ Some (p ++ y) → b ≡ Some y → b ≡ Some (q ++ z) → a ≡ Some ((p ++ q) ++ z)
+took_ends a b y z p q e f g = let h : y ≡ q ++ z = cc in let k : (p ++ q) ++ z ≡ p ++ (q ++ z) = append_assoc p q z in cc
+
+-- what was taken by two calls is the one piece followed by the other
+pub took_more : (a b c : Option (List ℕ)) (p q : List ℕ) → Took a b p → Took b c q → Took a c (p ++ q)
+took_more a b None p q h g = tt
+took_more a None (Some z) p q h g = absurd (cc (g))
+took_more a (Some y) (Some z) p q h g = took_ends a (Some y) y z p q h refl g
+
+-- what is told after a call was told before it
+pub told_before_took : (a b : Option (List ℕ)) (p : List ℕ) → Took a b p → IsSome b → IsSome a
+told_before_took a None p h t = absurd (cc (t))
+told_before_took None (Some y) p h t = absurd (cc (h))
+told_before_took (Some x) (Some y) p h t = refl
+
+-- a text that was read to the end is what was left, where that is told at the start and at the end
+pub text_is_left : (a b : Option (List ℕ)) (bytes text : List ℕ) → a ≡ Some bytes → IsSome b → Took a b text → IsAtEnd b → text ≡ bytes
+text_is_left a None bytes text e t h end = absurd (cc (t))
+text_is_left a (Some rest) bytes text e t h end =
+    let whole : text ++ rest ≡ text ++ [] = ap (λ r. text ++ r) end in
+    let none : text ++ [] ≡ text = append-nil text in
+    let same : bytes ≡ text ++ rest = some_same bytes (text ++ rest) (sym e ∙ h) in
+    sym (same ∙ whole ∙ none)
+
+-- a piece that was taken is a front of what was left
+pub took_is_front : (a b : Option (List ℕ)) (bytes piece : List ℕ) → a ≡ Some bytes → IsSome b → Took a b piece → (rest : List ℕ) × (b ≡ Some rest) × (bytes ≡ piece ++ rest)
+took_is_front a None bytes piece e t h = absurd (cc (t))
+took_is_front a (Some rest) bytes piece e t h = (rest, refl, some_same bytes (piece ++ rest) (sym e ∙ h))
+
+longer_whole : (n : ℕ) (bytes piece rest : List ℕ) → n < length piece → bytes ≡ piece ++ rest → n < length bytes
+longer_whole n bytes piece rest l e = let k : length bytes ≡ length piece + length rest = ap length e ∙ length-append piece rest in omega (arith, k)
+
+-- where more than n bytes were taken, more than n were left
+pub past_was_left : (a b : Option (List ℕ)) (n : ℕ) (bytes : List ℕ) → a ≡ Some bytes → IsSome b → ReadPast a b n → n < length bytes
+past_was_left a None n bytes e t h = absurd (cc (t))
+past_was_left a (Some rest) n bytes e t h = longer_whole n bytes h.0 rest h.1 (some_same bytes (h.0 ++ rest) (sym e ∙ h.2))
+
+length_front : (n m : ℕ) (buf : List ℕ) → n ≤ length buf → m < n → m < length (take n buf)
+length_front n m buf w l = let k : length (take n buf) ≡ n = length-take-le n buf w in omega (arith, k)
+
+-- after a text, more bytes than the limit leaves were taken
+pub past_after : (a b c : Option (List ℕ)) (text buf : List ℕ) (n limit : ℕ) → length text ≤ limit → Took a b text → n ≤ length buf → Took b c (take n buf) → limit - length text < n → ReadPast a c limit
+past_after a b c text buf n limit s h w g l =
+    let k : length (text ++ take n buf) ≡ length text + length (take n buf) = length-append text (take n buf) in
+    let f : limit - length text < length (take n buf) = length_front n (limit - length text) buf w l in
+    (text ++ take n buf, omega (arith, k), took_more a b c text (take n buf) h g)
+
+-- after a text, at most as many bytes as the limit leaves were taken
+pub within_after : (a b c : Option (List ℕ)) (text buf : List ℕ) (n limit : ℕ) → length text ≤ limit → Took a b text → n ≤ length buf → Took b c (take n buf) → n ≤ limit - length text → ReadWithin a c limit
+within_after a b c text buf n limit s h w g l =
+    let k : length (text ++ take n buf) ≡ length text + length (take n buf) = length-append text (take n buf) in
+    let f : length (take n buf) ≡ n = length-take-le n buf w in
+    (text ++ take n buf, omega (arith, k), took_more a b c text (take n buf) h g)
+
+-- the n bytes that were put in front of a buffer stood at the place that was read, and are gone from what is left
+pub read_from : (left bytes held piece rest : List ℕ) (at n : ℕ) → left ≡ drop at bytes → held ≡ bytes → piece ≡ take ((at + n) - at) (drop at held) → length piece ≡ n → left ≡ take n (piece ++ rest) ++ drop (at + n) bytes
+read_from left bytes held piece rest at n e s f l =
+    let front : take n (piece ++ rest) ≡ piece = rw (take-append-le n piece rest (omega arith)) (take_all n piece (omega arith)) in
+    let back : drop n (drop at bytes) ≡ drop (at + n) bytes = drop-drop n at bytes in
+    let whole : take n (drop at bytes) ++ drop n (drop at bytes) ≡ drop at bytes = take-append-drop n (drop at bytes) in
+    let same : (at + n) - at ≡ n = omega arith in
+    let part : piece ≡ take n (drop at bytes) = f ∙ ap (λ k. take k (drop at held)) same ∙ ap (λ b. take n (drop at b)) s in
+    cc
+
+-- A sink.
+
+-- no bytes are always put
+pub put_none : (a : Option (List ℕ)) → Put a a []
+put_none None = tt
+put_none (Some x) = (x, refl, sym (append-nil x))
+
+put_ends : (x y y' z p q : List ℕ) → y ≡ x ++ p → y ≡ y' → z ≡ y' ++ q → z ≡ x ++ (p ++ q)
+put_ends x y y' z p q e f g = let h : z ≡ (x ++ p) ++ q = cc in h ∙ append_assoc x p q
+
+-- what two calls put is the one piece followed by the other
+pub put_more : (a b c : Option (List ℕ)) (p q : List ℕ) → Put a b p → Put b c q → Put a c (p ++ q)
+put_more a b None p q h g = tt
+put_more a None (Some z) p q h g = absurd (cc (g.1))
+put_more a (Some y) (Some z) p q h g = (h.0, h.1, put_ends h.0 y g.0 z p q h.2 (some_same y g.0 g.1) g.2)
+
+-- what was written is what was written before, followed by the piece
+pub written_is : (a b : Option (List ℕ)) (before piece : List ℕ) → a ≡ Some before → IsSome b → Put a b piece → b ≡ Some (before ++ piece)
+written_is a None before piece e t h = absurd (cc (t))
+written_is a (Some after) before piece e t h =
+    let same : before ≡ h.0 = some_same before h.0 (sym e ∙ h.1) in
+    ap Some (h.2 ∙ ap (λ b. b ++ piece) (sym same))
+
+-- what was written is what was written before, followed by a front of the piece
+pub written_part_is : (a b : Option (List ℕ)) (before piece : List ℕ) → a ≡ Some before → IsSome b → PutPart a b piece → (part : List ℕ) × (rest : List ℕ) × (piece ≡ part ++ rest) × (b ≡ Some (before ++ part))
+written_part_is a b before piece e t h = (h.0, h.1, h.2, written_is a b before h.0 e t h.3)
+
+-- what is told after a call was told before it
+pub told_before_put : (a b : Option (List ℕ)) (p : List ℕ) → Put a b p → IsSome b → IsSome a
+told_before_put a None p h t = absurd (cc (t))
+told_before_put None (Some y) p h t = absurd (cc (h.1))
+told_before_put (Some x) (Some y) p h t = refl
+
+-- a whole piece is a front of itself
+pub part_whole : (a b : Option (List ℕ)) (p : List ℕ) → Put a b p → PutPart a b p
+part_whole a b p h = (p, [], sym (append-nil p), h)
+
+-- no bytes are a front of each piece
+pub part_none : (a b : Option (List ℕ)) (p : List ℕ) → Put a b [] → PutPart a b p
+part_none a b p h = ([], p, refl, h)
+
+-- a front of a piece is a front of what begins with the piece
+pub part_longer : (a b : Option (List ℕ)) (p q : List ℕ) → PutPart a b p → PutPart a b (p ++ q)
+part_longer a b p q h = (h.0, h.1 ++ q, ap (λ r. r ++ q) h.2 ∙ append_assoc h.0 h.1 q, h.3)
+
+-- a piece and then a front of another are a front of the one followed by the other
+pub part_more : (a b c : Option (List ℕ)) (p q : List ℕ) → Put a b p → PutPart b c q → PutPart a c (p ++ q)
+part_more a b c p q h g =
+    let e : p ++ q ≡ (p ++ g.0) ++ g.1 = ap (λ r. p ++ r) g.2 ∙ sym (append_assoc p g.0 g.1) in
+    (p ++ g.0, g.1, e, put_more a b c p g.0 h g.3)
+
+-- a whole piece is a front of what begins with it
+pub part_of_more : (a b : Option (List ℕ)) (p q : List ℕ) → Put a b p → PutPart a b (p ++ q)
+part_of_more a b p q h = (p, q, refl, h)
+
+-- several pieces and then one more are all of them joined
+pub put_joined : (a b c : Option (List ℕ)) (ps : List (List ℕ)) (p : List ℕ) → Put a b (concat ps) → Put b c p → Put a c (concat (ps ++ p ∷ []))
+put_joined a b c ps p h g =
+    let e : concat (ps ++ p ∷ []) ≡ concat ps ++ (p ++ []) = concat-append ps (p ∷ []) in
+    subst (Put a c) (sym (e ∙ ap (λ r. concat ps ++ r) (append-nil p))) (put_more a b c (concat ps) p h g)
+
+-- several pieces and then a front of one more are a front of all of them joined, whatever follows
+pub part_joined : (a b c : Option (List ℕ)) (ps : List (List ℕ)) (p : List ℕ) (qs : List (List ℕ)) → Put a b (concat ps) → PutPart b c p → PutPart a c (concat (ps ++ p ∷ qs))
+part_joined a b c ps p qs h g =
+    let e : concat (ps ++ p ∷ qs) ≡ concat ps ++ (p ++ concat qs) = concat-append ps (p ∷ qs) in
+    subst (PutPart a c) (sym e) (part_more a b c (concat ps) (p ++ concat qs) h (part_longer b c p (concat qs) g))
+
+rest_is : (d : ℕ) (p : List ℕ) → take (length p - d) (drop d p) ≡ drop d p
+rest_is d p = take_all (length p - d) (drop d p) (omega (arith, length-drop d p))
+
+-- d bytes of a piece and then n of its rest are its first d + n
+pub put_rest : (a b c : Option (List ℕ)) (d n : ℕ) (p : List ℕ) → Put a b (take d p) → Put b c (take n (take (length p - d) (drop d p))) → Put a c (take (d + n) p)
+put_rest a b c d n p h g =
+    subst (Put a c) (sym (take-add d n p)) (put_more a b c (take d p) (take n (drop d p)) h (subst (λ q. Put b c (take n q)) (rest_is d p) g))
+
+-- d bytes of a piece and then none are a front of it
+pub put_stop : (a b c : Option (List ℕ)) (d : ℕ) (p : List ℕ) → Put a b (take d p) → Put b c [] → PutPart a c p
+put_stop a b c d p h g = (take d p, drop d p, sym (take-append-drop d p), subst (Put a c) (append-nil (take d p)) (put_more a b c (take d p) [] h g))
+
+-- Counts of faults.
+
+-- a count that rose has risen since any earlier time
+pub rose_since : (a b c : ℕ) → a ≤ b → Rose b c → Rose a c
+rose_since a b c l (inl h) = inl (omega arith)
+rose_since a b c l (inr h) = inr h
+
+-- a count that has risen stays so
+pub rose_until : (a b c : ℕ) → a ≤ b → Rose a b → b ≤ c → Rose a c
+rose_until a b c l h m = grind arith
+
+-- a count that is 0 all along has not risen
+pub never_rose : Rose 0 0 → ⊥
+never_rose h = grind arith

@@ -1,0 +1,14 @@
+use Rattle.std.proofs.Common.{length, ◌-◌, ◌≤◌, ◌≡◌, take}
+use Rattle.byte_ports.specs.Ports.{Put}
+use Rattle.byte_ports.proofs.ports.write_all.Given as goal
+
+abbrev pub invariant-loop-done : goal.invariant-loop-done
+invariant-loop-done g l = record {
+  in_range : l.done ≤ length l.piece;
+  put : Put (g.K.Sink.written l.fn.sink) (g.K.Sink.written l.sink) (take l.done l.piece);
+  later : g.K.Sink.faults l.fn.sink ≤ g.K.Sink.faults l.sink;
+  untouched : length l.piece ≡ 0 → l.sink ≡ l.fn.sink;
+}
+
+abbrev pub decreases-loop-done : goal.decreases-loop-done
+decreases-loop-done g l = length l.piece - l.done

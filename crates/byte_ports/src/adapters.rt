@@ -1,0 +1,110 @@
+// Std's readers and writers as sources and sinks.
+ghost use Rattle.std.specs.Prelude.{◌≡◌, ◌<◌, ◌≤◌, None, length, IfOk, OnOk, OnErr};
+ghost use Rattle.std.specs.Io.KnownBytes.{ReadConsumes, WriteAppends};
+ghost use Rattle.byte_ports.specs.Parts.{AdapterParts};
+ghost use Rattle.byte_ports.specs.Ports.{raised, Rose};
+
+use crate::ports::{Failed, Sink, Source};
+use std::io::{Read, Write};
+use std::marker::Model;
+
+/// A source over a reader of std. It tells no bytes. Contracts see the reader, and how many of its
+/// calls failed; the count stands still at its last value.
+#[derive(Drop)]
+pub struct ReaderSource<R> {
+    inner: R,
+    faults: u64,
+}
+
+impl<R> Model for ReaderSource<R> {
+    ghost use Rattle.byte_ports.specs.Parts.{AdapterParts};
+
+    ghost Value = { AdapterParts R };
+
+    ghost view = { λ s. record { inner = s.inner; faults = s.faults } };
+}
+
+impl<R: Read> ReaderSource<R> {
+    /// A source over this reader. No call has failed yet.
+    pub fn new(inner: R) -> ReaderSource<R>
+        ensures { result ≡ record { inner = inner; faults = 0 } }
+    {
+        ReaderSource { inner, faults: 0 }
+    }
+}
+
+impl<R: Read> Source for ReaderSource<R> {
+    ghost left = { λ _. None };
+
+    ghost faults = { λ s. s.faults };
+
+    /// Fails exactly where the reader does.
+    fn read(&mut self, buf: &mut [u8]) -> Result<usize, Failed>
+        ensures within { IfOk result (λ n. n ≤ length buf.new) }
+        ensures ok { OnOk result (self.new.faults ≡ self.old.faults) }
+        ensures err { OnErr result (self.new.faults ≡ raised self.old.faults) }
+        ensures later { self.old.faults ≤ self.new.faults }
+        ensures cause { OnErr result (Rose self.old.faults self.new.faults) }
+        ensures bytes { ReadConsumes (R.remaining self.old.inner) (R.remaining self.new.inner)
+            result buf.new }
+    {
+        match self.inner.read(buf) {
+            Ok(n) => Ok(n),
+            Err(_) => {
+                self.faults = self.faults.saturating_add(1);
+                Err(Failed)
+            }
+        }
+    }
+}
+
+/// A sink over a writer of std. It tells no bytes. Contracts see the writer, and how many of its
+/// calls failed; the count stands still at its last value.
+#[derive(Drop)]
+pub struct WriterSink<W> {
+    inner: W,
+    faults: u64,
+}
+
+impl<W> Model for WriterSink<W> {
+    ghost use Rattle.byte_ports.specs.Parts.{AdapterParts};
+
+    ghost Value = { AdapterParts W };
+
+    ghost view = { λ s. record { inner = s.inner; faults = s.faults } };
+}
+
+impl<W: Write> WriterSink<W> {
+    /// A sink over this writer. No call has failed yet.
+    pub fn new(inner: W) -> WriterSink<W>
+        ensures { result ≡ record { inner = inner; faults = 0 } }
+    {
+        WriterSink { inner, faults: 0 }
+    }
+}
+
+impl<W: Write> Sink for WriterSink<W> {
+    ghost written = { λ _. None };
+
+    ghost faults = { λ s. s.faults };
+
+    /// Fails where the writer does, and where it takes no byte of a piece that is not empty.
+    fn write(&mut self, piece: &[u8]) -> Result<usize, Failed>
+        ensures within { IfOk result (λ n. n ≤ length piece.now) }
+        ensures some { IfOk result (λ n. 0 < length piece.now → 0 < n) }
+        ensures ok { OnOk result (self.new.faults ≡ self.old.faults) }
+        ensures err { OnErr result (self.new.faults ≡ raised self.old.faults) }
+        ensures later { self.old.faults ≤ self.new.faults }
+        ensures cause { OnErr result (Rose self.old.faults self.new.faults) }
+        ensures bytes { WriteAppends (W.contents self.old.inner) (W.contents self.new.inner)
+            result piece.now }
+    {
+        match self.inner.write(piece) {
+            Ok(n) if n > 0 || piece.is_empty() => Ok(n),
+            _ => {
+                self.faults = self.faults.saturating_add(1);
+                Err(Failed)
+            }
+        }
+    }
+}

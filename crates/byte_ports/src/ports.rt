@@ -1,0 +1,182 @@
+// Sources and sinks, and the loops that read a whole text and write a whole piece.
+ghost use Rattle.std.specs.Prelude.{◌≡◌, ◌<◌, ◌≤◌, ℕ, List, [], Option, length, take, IfOk, IfErr, IsOk, OnOk, OnErr, IsErrOf};
+ghost use Rattle.byte_ports.specs.Ports.{Took, IsAtEnd, ReadPast, ReadWithin, Put, PutPart, Rose};
+ghost use Rattle.byte_ports.specs.declared.ports.ReadTextFault.TheVariants.{NoMemory};
+
+use std::alloc::{AllocError, Global};
+use thiserror::Error;
+
+/// A call of a source or a sink that failed.
+#[derive(Clone, Copy, Debug, PartialEq, Eq, Drop, Error)]
+#[error("the call failed")]
+pub struct Failed;
+
+/// Where bytes come from.
+///
+/// A source may tell the bytes that it has left, as one in memory does, or tell none, as one
+/// over a file does. What it tells after a call it told before it. Its count of faults never
+/// falls.
+pub trait Source {
+    /// The bytes not yet read, where they are told.
+    ghost left: { Self → Option (List ℕ) };
+
+    /// How many calls have failed, as far as the count goes.
+    ghost faults: { Self → ℕ };
+
+    /// Fills a front of `buf` with the next bytes, and gives how many. 0 for a buffer that is not
+    /// empty is the end of the input. A call that fails takes no byte, and raises the count of
+    /// faults, or leaves it at its last value, 2^64 - 1.
+    fn read(&mut self, buf: &mut [u8]) -> Result<usize, Failed>
+        ensures within { IfOk result (λ n. n ≤ length buf.new) }
+        ensures bytes { IfOk result (λ n. Took (left self.old) (left self.new) (take n buf.new)) }
+        ensures end { IfOk result (λ n. n ≡ 0 → 0 < length buf.new → IsAtEnd (left self.new)) }
+        ensures err { OnErr result (Took (left self.old) (left self.new) []) }
+        ensures later { faults self.old ≤ faults self.new }
+        ensures cause { OnErr result (Rose (faults self.old) (faults self.new)) };
+}
+
+/// Where bytes go.
+///
+/// A sink may tell the bytes that it has taken, as one in memory does, or tell none, as one
+/// over a file does. What it tells after a call it told before it. Its count of faults never
+/// falls.
+pub trait Sink {
+    /// The bytes taken, where they are told.
+    ghost written: { Self → Option (List ℕ) };
+
+    /// How many calls have failed, as far as the count goes.
+    ghost faults: { Self → ℕ };
+
+    /// Takes bytes from the front of `piece`, and gives how many: at least one, unless the piece
+    /// is empty. A call that fails takes no byte, and raises the count of faults, or leaves it at
+    /// its last value, 2^64 - 1.
+    fn write(&mut self, piece: &[u8]) -> Result<usize, Failed>
+        ensures within { IfOk result (λ n. n ≤ length piece.now) }
+        ensures some { IfOk result (λ n. 0 < length piece.now → 0 < n) }
+        ensures bytes { IfOk result
+            (λ n. Put (written self.old) (written self.new) (take n piece.now)) }
+        ensures err { OnErr result (Put (written self.old) (written self.new) []) }
+        ensures later { faults self.old ≤ faults self.new }
+        ensures cause { OnErr result (Rose (faults self.old) (faults self.new)) };
+}
+
+/// A piece that was not written whole, since the sink failed.
+#[derive(Clone, Copy, Debug, PartialEq, Eq, Drop, Error)]
+#[error("writing failed")]
+pub struct WriteFault;
+
+/// Writes the whole piece, by as many calls of the sink as it wants. Where the sink fails, a front
+/// of the piece was written, and no further call is made. An empty piece makes no call. Takes no
+/// memory.
+pub fn write_all<K: Sink>(sink: &mut K, piece: &[u8]) -> Result<(), WriteFault>
+    ensures ok { OnOk result (Put (K.written sink.old) (K.written sink.new) piece.now) }
+    ensures err { OnErr result (PutPart (K.written sink.old) (K.written sink.new) piece.now) }
+    ensures empty { piece.now ≡ [] → IsOk result × (sink.new ≡ sink.old) }
+
+    // The count of faults never falls, and `WriteFault` comes only where it rose.
+    ensures later { K.faults sink.old ≤ K.faults sink.new }
+    ensures cause { OnErr result (Rose (K.faults sink.old) (K.faults sink.new)) }
+{
+    let mut done = 0;
+    while done < piece.len() {
+        match sink.write(&piece[done..]) {
+            Ok(n) => done += n,
+            Err(_) => return Err(WriteFault),
+        }
+    }
+    Ok(())
+}
+
+/// The greatest length of a text, in bytes.
+pub const MAX_TEXT: usize = 16_777_216;
+
+/// The most bytes that one call of a source is asked for.
+const CHUNK: usize = 65_536;
+
+/// Why a text was not read to its end.
+#[derive(Clone, Copy, Debug, PartialEq, Eq, Drop, Error)]
+pub enum ReadTextFault {
+    /// The source failed.
+    #[error("reading failed")]
+    ReadFault,
+
+    /// The source gave more than `MAX_TEXT` bytes.
+    #[error("the text has more than 16777216 bytes")]
+    TooLarge,
+
+    /// Memory was wanting.
+    #[error("out of memory")]
+    NoMemory,
+}
+
+impl From<AllocError> for ReadTextFault {
+    ghost from_gives = { λ _ e. e ≡ NoMemory };
+
+    fn from(_error: AllocError) -> ReadTextFault {
+        ReadTextFault::NoMemory
+    }
+}
+
+/// Reads the bytes of a text to the end of the input. `TooLarge` comes as soon as a byte behind
+/// the first `MAX_TEXT` was read, so the call also returns on a source without end. After each
+/// error the bytes that were taken are a front of those that were left.
+pub fn read_text<S: Source>(alloc: Global, src: &mut S) -> Result<Vec<u8>, ReadTextFault>
+    // What was read stood in front of what is left.
+    ensures ok { IfOk result (λ text. Took (S.left src.old) (S.left src.new) text.items) }
+    ensures end { OnOk result (IsAtEnd (S.left src.new)) }
+    ensures size { IfOk result (λ text. length text.items ≤ MAX_TEXT) }
+
+    // `TooLarge` comes exactly where more than `MAX_TEXT` bytes were taken.
+    ensures large { IsErrOf result ReadTextFault.TooLarge
+        → ReadPast (S.left src.old) (S.left src.new) MAX_TEXT }
+    ensures fault { IsErrOf result ReadTextFault.ReadFault
+        → ReadWithin (S.left src.old) (S.left src.new) MAX_TEXT }
+    ensures memory { IsErrOf result ReadTextFault.NoMemory
+        → ReadWithin (S.left src.old) (S.left src.new) MAX_TEXT }
+
+    // The count of faults never falls, and `ReadFault` comes only where it rose.
+    ensures later { S.faults src.old ≤ S.faults src.new }
+    ensures cause { IsErrOf result ReadTextFault.ReadFault
+        → Rose (S.faults src.old) (S.faults src.new) }
+{
+    let mut buf = zeroes(alloc, CHUNK)?;
+    read_through(alloc, src, buf.as_mut_slice())
+}
+
+/// So many bytes 0.
+fn zeroes(alloc: Global, count: usize) -> Result<Vec<u8>, AllocError>
+    ensures { IfOk result (λ bytes. length bytes.items ≡ count) }
+{
+    vec![in alloc; 0u8; count]
+}
+
+/// Reads a text as `read_text` does, by calls for at most as many bytes as `buf` holds.
+fn read_through<S: Source>(
+    alloc: Global,
+    src: &mut S,
+    buf: &mut [u8],
+) -> Result<Vec<u8>, ReadTextFault>
+    requires { 0 < length buf.old }
+    ensures ok { IfOk result (λ text. Took (S.left src.old) (S.left src.new) text.items) }
+    ensures end { OnOk result (IsAtEnd (S.left src.new)) }
+    ensures size { IfOk result (λ text. length text.items ≤ MAX_TEXT) }
+    ensures large { IsErrOf result ReadTextFault.TooLarge
+        → ReadPast (S.left src.old) (S.left src.new) MAX_TEXT }
+    ensures fault { IsErrOf result ReadTextFault.ReadFault
+        → ReadWithin (S.left src.old) (S.left src.new) MAX_TEXT }
+    ensures memory { IsErrOf result ReadTextFault.NoMemory
+        → ReadWithin (S.left src.old) (S.left src.new) MAX_TEXT }
+    ensures later { S.faults src.old ≤ S.faults src.new }
+    ensures cause { IsErrOf result ReadTextFault.ReadFault
+        → Rose (S.faults src.old) (S.faults src.new) }
+{
+    let mut text: Vec<u8> = Vec::new(alloc);
+    'reading: loop {
+        match src.read(buf) {
+            Ok(0) => return Ok(text),
+            Ok(n) if n > MAX_TEXT - text.len() => return Err(ReadTextFault::TooLarge),
+            Ok(n) => text.extend_from_slice(&buf[..n])?,
+            Err(_) => return Err(ReadTextFault::ReadFault),
+        }
+    }
+}
