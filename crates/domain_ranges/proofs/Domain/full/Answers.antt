@@ -1,0 +1,7 @@
+use Rattle.std.proofs.Common.{◌∙◌}
+use Rattle.fd_model.specs.declared.TheConstants.{INFINITY}
+use Rattle.domain_ranges.proofs.Members.{members_full}
+use Rattle.domain_ranges.proofs.Domain.full.Goals as goal
+
+pub returns : goal.returns
+returns c = c.of_span.ensures ∙ members_full INFINITY

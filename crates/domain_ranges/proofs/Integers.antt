@@ -1,0 +1,37 @@
+-- Integers beside the numbers of U.
+use Rattle.std.proofs.Common.{◌≡◌, ℕ, true, false, arith, ℤ, pos, negsuc, int_le, ◌<ℤ◌, ◌≤◌, ◌≤ℤ◌, ◌∙◌, sym, ap, subst, to_z, of_z, SFits, to_z-of_z}
+use Rattle.std.proofs.lemmas.Bool.{true≢false}
+use mir.Syntax.{w128}
+use lib.Signed.{lt_z}
+use Rattle.std.proofs.lemmas.Int.{ints}
+use lib.IntN.{nat_abs}
+
+-- v is z, as the code holds it
+pub from_zero : (z v : ℤ) → v ≡ z → int_le (pos 0) v ≡ true → z ≡ pos (nat_abs v)
+from_zero z (pos n) e h = grind (arith, ints)
+from_zero z (negsuc n) e h = grind (arith, ints)
+
+pub below_zero : (z v : ℤ) → v ≡ z → int_le (pos 0) v ≡ false → z <ℤ pos 0
+below_zero z v e h = grind (arith, ints)
+
+pub above_all : (M : ℕ) (z v : ℤ) → v ≡ z → int_le v (pos M) ≡ false → pos M <ℤ z
+above_all M z v e h = grind (arith, ints)
+
+pub code_negative : (z v : ℤ) → v ≡ z → lt_z v (pos 0) ≡ true → z <ℤ pos 0
+code_negative z v e h = grind (arith, ints)
+
+pub code_is : (z : ℤ) (n : ℕ) → SFits w128 z → of_z w128 z ≡ n → z ≡ to_z w128 n
+code_is z n f h = sym (to_z-of_z f) ∙ ap (to_z w128) h
+
+two_up : (n : ℕ) → (n ≡ 0 → ⊥) → (n ≡ 1 → ⊥) → pos 2 ≤ℤ pos n
+two_up n g h = let l : 2 ≤ n = grind (arith, g, h) in omega (arith, ints)
+
+pub code_two : (z v : ℤ) → v ≡ z → lt_z v (pos 0) ≡ false → (of_z w128 z ≡ 0 → ⊥) → (of_z w128 z ≡ 1 → ⊥) → pos 2 ≤ℤ z
+code_two (pos n) v e f g h = two_up n g h
+code_two (negsuc n) v e f g h = absurd (true≢false (ap (λ u. lt_z u (pos 0)) (sym e) ∙ f))
+
+pub code_low : (z v k : ℤ) → v ≡ z → k ≤ℤ z → k ≤ℤ v
+code_low z v k e h = subst (λ u. k ≤ℤ u) (sym e) h
+
+pub one_low : (z : ℤ) → pos 2 ≤ℤ z → pos 1 ≤ℤ z
+one_low z h = omega (arith, ints)

@@ -1,0 +1,14 @@
+pub mod Spans
+pub mod Members
+pub mod Made
+pub mod Meeting
+pub mod Integers
+pub mod Joining
+pub mod Outcomes
+pub mod Places
+pub mod Gaps
+pub mod Dividing
+pub mod Shifting
+pub mod Scaling
+pub mod Images
+pub mod Union

@@ -1,0 +1,269 @@
+// Sets of numbers from 0 to INFINITY, as lists of intervals.
+#![tactic(auto)]
+
+ghost use Rattle.std.specs.Prelude.{◌≡◌, ◌<◌, ◌≤◌, ◌&&◌, ◌||◌, not, nat_le, ◌^◌, neg_ℤ, ◌≤ℤ◌, ◌<ℤ◌, ◌⊎◌, if◌then◌else◌, ℕ, List, [], ◌∷◌, length, slice_index_or, filter, pos, int_le, IfOk, OnErr, MatchOption, IsTrue, IfSome, OnSome, false};
+ghost use Rattle.domain_ranges.specs.Spans.{IsSpans, members, interval_count, has_int};
+ghost use Rattle.domain_ranges.specs.Sets.{is_shifted, is_scaled, is_quotient};
+ghost use Rattle.fd_model.specs.Family.{has, universe, IsRising};
+ghost use Rattle.fd_model.specs.Range.{least, greatest, is_none_left};
+
+mod intervals;
+
+use fd_model::{INFINITY, NoMemory};
+use smallvec::SmallVec;
+use std::alloc::Global;
+use std::marker::Model;
+
+/// A set of numbers from 0 to `INFINITY`: the values that a variable may have.
+///
+/// It is held as a strictly rising list of intervals that neither overlap nor touch. The first two take no memory:
+/// a call that makes a set gives `NoMemory` only where the set has more than two intervals.
+#[derive(Drop)]
+pub struct Domain {
+    list: SmallVec<(u32, u32), 2>,
+}
+
+impl Model for Domain {
+    ghost use Rattle.std.specs.Prelude.{ℕ, List};
+    ghost use Rattle.fd_model.specs.declared.TheConstants.{INFINITY};
+    ghost use Rattle.domain_ranges.specs.Spans.{IsSpans, members};
+
+    ghost Value = { List ℕ };
+
+    ghost view = { λ d. members d.list.items };
+
+    ghost invariant = { λ d. IsSpans 0 INFINITY d.list.items };
+}
+
+/// What has a domain for each variable number below some bound.
+pub trait View {
+    /// The sets of the variables, by their numbers.
+    ghost sets: { Self → List (List ℕ) };
+
+    /// The domain of the variable `k`, which is below the number of the sets.
+    fn domain(&self, k: usize) -> &Domain
+        requires { k < length (sets self.now) }
+        ensures { result.now ≡ slice_index_or (sets self.now) k (universe INFINITY) };
+}
+
+impl Domain {
+    /// The set of all numbers from 0 to `INFINITY`.
+    pub fn full(alloc: Global) -> Domain
+        ensures { result ≡ universe INFINITY }
+    {
+        Domain::of_span(alloc, (0, INFINITY))
+    }
+
+    /// The empty set.
+    pub fn empty(alloc: Global) -> Domain
+        ensures { result ≡ [] }
+    {
+        Domain {
+            list: SmallVec::new(alloc),
+        }
+    }
+
+    /// The numbers from `lo` to `hi`, both included, that are in 0 to `INFINITY`.
+    pub fn interval(alloc: Global, lo: i128, hi: i128) -> Domain
+        ensures { result
+            ≡ filter (λ n. int_le lo (pos n) && int_le (pos n) hi) (universe INFINITY) }
+    {
+        match intervals::cut(lo, hi) {
+            Some(span) => Domain::of_span(alloc, span),
+            None => Domain::empty(alloc),
+        }
+    }
+
+    /// The same set once more.
+    pub fn copy(&self) -> Result<Domain, NoMemory>
+        ensures set { IfOk result (λ copy. copy ≡ self.now) }
+        ensures rising { IsRising 0 INFINITY self.now }
+        ensures no_memory { OnErr result (2 < interval_count self.now) }
+    {
+        let list = SmallVec::from_slice(*self.list.allocator(), self.spans())?;
+        Ok(Domain { list })
+    }
+
+    /// The numbers in both sets.
+    pub fn intersect(&self, other: &Domain) -> Result<Domain, NoMemory>
+        ensures set { IfOk result (λ both. both ≡ filter (has other.now) self.now) }
+        ensures rising { IsRising 0 INFINITY (filter (has other.now) self.now) }
+        ensures operand { IsRising 0 INFINITY self.now }
+        ensures no_memory { OnErr result (2 < interval_count (filter (has other.now) self.now)) }
+    {
+        let list = intervals::meet_all(*self.list.allocator(), self.spans(), other.spans())?;
+        Ok(Domain { list })
+    }
+
+    /// The numbers in one of the two sets, or in both.
+    pub fn union(&self, other: &Domain) -> Result<Domain, NoMemory>
+        ensures set { IfOk result (λ either. either
+            ≡ filter (λ n. has self.now n || has other.now n) (universe INFINITY)) }
+        ensures no_memory { OnErr result (2 < interval_count
+            (filter (λ n. has self.now n || has other.now n) (universe INFINITY))) }
+    {
+        let list = intervals::join_all(*self.list.allocator(), self.spans(), other.spans())?;
+        Ok(Domain { list })
+    }
+
+    /// The numbers from 0 to `INFINITY` that are not in the set.
+    pub fn complement(&self) -> Result<Domain, NoMemory>
+        ensures set { IfOk result (λ others. others
+            ≡ filter (λ n. not (has self.now n)) (universe INFINITY)) }
+        ensures no_memory { OnErr result (2 < interval_count
+            (filter (λ n. not (has self.now n)) (universe INFINITY))) }
+    {
+        let list = intervals::gaps(*self.list.allocator(), self.spans())?;
+        Ok(Domain { list })
+    }
+
+    /// The members plus `c`, as far as they are in 0 to `INFINITY`: the range `r + c` of Codognet and Diaz (1996).
+    /// The magnitude of `c` is below 2 to the power of 126.
+    pub fn shift(&self, c: i128) -> Result<Domain, NoMemory>
+        requires low { neg_ℤ (pos (2 ^ 126)) <ℤ c }
+        requires high { c <ℤ pos (2 ^ 126) }
+        ensures set { IfOk result (λ moved. moved
+            ≡ filter (is_shifted INFINITY self.now c) (universe INFINITY)) }
+        ensures no_memory { OnErr result
+            (2 < interval_count (filter (is_shifted INFINITY self.now c) (universe INFINITY))) }
+    {
+        let list = intervals::shift_all(*self.list.allocator(), self.spans(), c)?;
+        Ok(Domain { list })
+    }
+
+    /// The members times `c`, as far as they are in 0 to `INFINITY`: the range `r * c`.
+    pub fn scale(&self, c: i128) -> Result<Domain, NoMemory>
+        ensures set { IfOk result (λ multiples. multiples
+            ≡ filter (is_scaled INFINITY self.now c) (universe INFINITY)) }
+        ensures no_memory { OnErr result
+            (2 < interval_count (filter (is_scaled INFINITY self.now c) (universe INFINITY))) }
+    {
+        let alloc = *self.list.allocator();
+        let spans = self.spans();
+        if c < 0 {
+            return Ok(Domain::zero_if(alloc, intervals::contains(spans, 0)));
+        }
+        if c == 0 {
+            return Ok(Domain::zero_if(alloc, !spans.is_empty()));
+        }
+        if c == 1 {
+            return self.copy();
+        }
+        let list = intervals::scale_all(alloc, spans, factor(c))?;
+        Ok(Domain { list })
+    }
+
+    /// The numbers from 0 to `INFINITY` whose product with `c` is a member: the range `r / c`. `c` is at least 1.
+    pub fn quotient(&self, c: i128) -> Result<Domain, NoMemory>
+        requires { pos 1 ≤ℤ c }
+        ensures set { IfOk result (λ quotients. quotients
+            ≡ filter (is_quotient INFINITY self.now c) (universe INFINITY)) }
+        ensures no_memory { OnErr result
+            (2 < interval_count (filter (is_quotient INFINITY self.now c) (universe INFINITY))) }
+    {
+        let list = intervals::divide_all(*self.list.allocator(), self.spans(), factor(c))?;
+        Ok(Domain { list })
+    }
+
+    /// The least member that is at least `n`, and `None` where there is none.
+    pub fn next_from(&self, n: u32) -> Option<u32>
+        ensures least { MatchOption result (filter (λ k. nat_le n k) self.now ≡ [])
+            (λ m. m ≡ least (filter (λ k. nat_le n k) self.now)) }
+        ensures from { IfSome result (λ m. n ≤ m) }
+        ensures member { IfSome result (λ m. IsTrue (has self.now m)) }
+        ensures rising { IsRising 0 INFINITY self.now }
+    {
+        intervals::next_from(self.spans(), n)
+    }
+
+    /// The least member, and `None` where there is none.
+    pub fn min(&self) -> Option<u32>
+        ensures least { MatchOption result (self.now ≡ []) (λ n. n ≡ least self.now) }
+        ensures some { OnSome result (is_none_left self.now ≡ false) }
+        ensures member { IfSome result (λ n. IsTrue (has self.now n)) }
+        ensures rising { IsRising 0 INFINITY self.now }
+    {
+        match self.spans() {
+            [] => None,
+            [first, ..] => Some(first.0),
+        }
+    }
+
+    /// The greatest member, and `None` where there is none.
+    pub fn max(&self) -> Option<u32>
+        ensures greatest { MatchOption result (self.now ≡ []) (λ n. n ≡ greatest self.now) }
+        ensures some { OnSome result (is_none_left self.now ≡ false) }
+        ensures member { IfSome result (λ n. IsTrue (has self.now n)) }
+        ensures rising { IsRising 0 INFINITY self.now }
+    {
+        match self.spans() {
+            [] => None,
+            [.., last] => Some(last.1),
+        }
+    }
+
+    /// How many members the set has.
+    pub fn size(&self) -> u32
+        ensures size { result ≡ length self.now }
+        ensures rising { IsRising 0 INFINITY self.now }
+    {
+        intervals::count(self.spans())
+    }
+
+    /// Whether `n` is a member.
+    pub fn contains(&self, n: i128) -> bool
+        ensures member { result ≡ has_int self.now n }
+        ensures rising { IsRising 0 INFINITY self.now }
+    {
+        let spans = self.spans();
+        n >= 0 && n <= INFINITY as i128 && intervals::contains(spans, n as u32)
+    }
+
+    /// The intervals, each with its least and its greatest number, in rising order.
+    pub fn spans(&self) -> &[(u32, u32)]
+        ensures members { members result.now ≡ self.now }
+        ensures spans { IsSpans 0 INFINITY result.now }
+        ensures rising { IsRising 0 INFINITY self.now }
+    {
+        self.list.as_slice()
+    }
+
+    /// The set of 0 alone, or the empty set.
+    fn zero_if(alloc: Global, there: bool) -> Domain
+        ensures { result ≡ members (if there then (0, 0) ∷ [] else []) }
+    {
+        if there {
+            Domain::of_span(alloc, (0, 0))
+        } else {
+            Domain::empty(alloc)
+        }
+    }
+
+    /// The numbers of one interval.
+    fn of_span(alloc: Global, span: (u32, u32)) -> Domain
+        requires order { span.0 ≤ span.1 }
+        requires high { span.1 ≤ INFINITY }
+        ensures { result ≡ members (span ∷ []) }
+    {
+        let mut list = SmallVec::new(alloc);
+        list.push_reserved(span);
+        Domain { list }
+    }
+}
+
+/// A number that as a factor or a divisor does what `c` does to the numbers up to `INFINITY`.
+fn factor(c: i128) -> u32
+    requires { pos 1 ≤ℤ c }
+    ensures same { (pos result ≡ c) ⊎ ((pos INFINITY <ℤ c) × (INFINITY < result)) }
+    ensures positive { 1 ≤ result }
+    ensures several { pos 2 ≤ℤ c → 2 ≤ result }
+{
+    if c > INFINITY as i128 {
+        INFINITY + 1
+    } else {
+        c as u32
+    }
+}
+
+#[cfg(test)]
+mod tests;

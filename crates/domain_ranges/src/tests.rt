@@ -1,0 +1,212 @@
+ghost use Rattle.std.specs.Prelude.{◌≡◌, ◌<◌, [], length, slice_index_or, MatchOption};
+ghost use Rattle.fd_model.specs.Family.{universe};
+ghost use Rattle.fd_model.specs.Range.{least};
+
+use super::*;
+use std::process::Abort;
+
+/// A call with a result of its own, at an interval where it takes a second set.
+enum Call {
+    Copy,
+    Intersect(i128, i128),
+    Union(i128, i128),
+    Complement,
+    Shift(i128),
+    Scale(i128),
+    Quotient(i128),
+}
+
+fn apply(rt: &impl Abort, alloc: Global, domain: &Domain, call: &Call) -> Result<Domain, NoMemory> {
+    match *call {
+        Call::Copy => domain.copy(),
+        Call::Intersect(lo, hi) => domain.intersect(&Domain::interval(alloc, lo, hi)),
+        Call::Union(lo, hi) => domain.union(&Domain::interval(alloc, lo, hi)),
+        Call::Complement => domain.complement(),
+        Call::Shift(c) => {
+            assert!(rt; -(1 << 126) < c && c < 1 << 126);
+            domain.shift(c)
+        }
+        Call::Scale(c) => domain.scale(c),
+        Call::Quotient(c) => {
+            assert!(rt; 1 <= c);
+            domain.quotient(c)
+        }
+    }
+}
+
+/// The domains of some variables.
+#[derive(Drop)]
+struct Domains {
+    list: Vec<Domain>,
+}
+
+impl Model for Domains {
+    ghost use Rattle.std.specs.Prelude.{List, ℕ};
+
+    ghost Value = { List (List ℕ) };
+
+    ghost view = { λ d. d.list.items };
+}
+
+impl View for Domains {
+    ghost sets = { λ d. d };
+
+    fn domain(&self, k: usize) -> &Domain {
+        &self.list[k]
+    }
+}
+
+fn least_of<V: View>(view: &V, k: usize) -> Option<u32>
+    requires { k < length (V.sets view.now) }
+    ensures { MatchOption result (slice_index_or (V.sets view.now) k (universe INFINITY) ≡ []) (λ n. n ≡ least (slice_index_or (V.sets view.now) k (universe INFINITY))) }
+{
+    view.domain(k).min()
+}
+
+/// The set that the calls make of the interval, one after another.
+fn made(
+    rt: &impl Abort,
+    alloc: Global,
+    lo: i128,
+    hi: i128,
+    calls: &[Call],
+) -> Result<Domain, NoMemory> {
+    let mut domain = Domain::interval(alloc, lo, hi);
+    for call in calls {
+        domain = apply(rt, alloc, &domain, call)?;
+    }
+    Ok(domain)
+}
+
+fn check(
+    rt: &impl Abort,
+    alloc: Global,
+    lo: i128,
+    hi: i128,
+    calls: &[Call],
+    want: &[(u32, u32)],
+) -> Result<(), NoMemory> {
+    let domain = made(rt, alloc, lo, hi, calls)?;
+    assert_eq!(rt; domain.spans(), want);
+    Ok(())
+}
+
+const TOP: i128 = INFINITY as i128;
+
+#[test]
+fn intervals_at_the_ends(rt: HostRuntime) {
+    let alloc = rt.alloc();
+    for (lo, hi, n, want) in [
+        (-9, 2, 0, true),
+        (-9, 2, -1, false),
+        (3, 5, 2, false),
+        (3, 5, 3, true),
+        (3, 5, 5, true),
+        (3, 5, 6, false),
+        (5, 4, 4, false),
+        (9, i128::MAX, 16_777_215, true),
+        (i128::MIN, i128::MAX, 16_777_216, false),
+    ] {
+        let domain = Domain::interval(alloc, lo, hi);
+        assert_eq!(rt; domain.contains(n), want, "{n} in {lo} to {hi}");
+    }
+}
+
+/// The quotient of 0 to 10 by 3, (1 and 4) times 3 plus 1, and 0 to 3 without 2.
+#[test]
+fn examples(rt: HostRuntime) -> Result<(), NoMemory> {
+    let alloc = rt.alloc();
+    check(&rt, alloc, 0, 10, &[Call::Quotient(3)], &[(0, 3)])?;
+    check(
+        &rt,
+        alloc,
+        1,
+        1,
+        &[Call::Union(4, 4), Call::Scale(3), Call::Shift(1)],
+        &[(4, 4), (13, 13)],
+    )?;
+    check(
+        &rt,
+        alloc,
+        2,
+        2,
+        &[Call::Complement, Call::Intersect(0, 3)],
+        &[(0, 1), (3, 3)],
+    )?;
+    Ok(())
+}
+
+#[test]
+fn moved_sets(rt: HostRuntime) -> Result<(), NoMemory> {
+    let alloc = rt.alloc();
+    check(&rt, alloc, 0, TOP, &[Call::Shift(1)], &[(1, INFINITY)])?;
+    check(&rt, alloc, 0, 5, &[Call::Shift(-3)], &[(0, 2)])?;
+    check(&rt, alloc, 0, TOP, &[Call::Shift((1 << 126) - 1)], &[])?;
+    check(&rt, alloc, 0, TOP, &[Call::Shift(1 - (1 << 126))], &[])?;
+    check(&rt, alloc, 0, 3, &[Call::Scale(-(1 << 98))], &[(0, 0)])?;
+    check(&rt, alloc, 0, 3, &[Call::Scale(1 << 98)], &[(0, 0)])?;
+    check(&rt, alloc, 1, 0, &[Call::Scale(0)], &[])?;
+    check(&rt, alloc, 5, TOP, &[Call::Scale(0)], &[(0, 0)])?;
+    check(&rt, alloc, 5, TOP, &[Call::Scale(1)], &[(5, INFINITY)])?;
+    Ok(())
+}
+
+#[test]
+fn other_sets(rt: HostRuntime) -> Result<(), NoMemory> {
+    let alloc = rt.alloc();
+    check(&rt, alloc, 0, TOP, &[Call::Quotient(1 << 98)], &[(0, 0)])?;
+    check(&rt, alloc, 1, TOP, &[Call::Quotient(1 << 98)], &[])?;
+    check(&rt, alloc, 7, 11, &[Call::Quotient(3)], &[(3, 3)])?;
+    check(
+        &rt,
+        alloc,
+        3,
+        6,
+        &[Call::Union(8, 9), Call::Quotient(3)],
+        &[(1, 3)],
+    )?;
+    check(
+        &rt,
+        alloc,
+        3,
+        3,
+        &[Call::Union(4, 4), Call::Copy],
+        &[(3, 4)],
+    )?;
+    check(&rt, alloc, 0, TOP, &[Call::Complement], &[])?;
+    check(&rt, alloc, 1, 0, &[Call::Complement], &[(0, INFINITY)])?;
+    check(
+        &rt,
+        alloc,
+        TOP,
+        TOP,
+        &[Call::Complement],
+        &[(0, INFINITY - 1)],
+    )?;
+    Ok(())
+}
+
+#[test]
+fn readers(rt: HostRuntime) -> Result<(), NoMemory> {
+    let alloc = rt.alloc();
+    let domain = made(&rt, alloc, 3, 5, &[Call::Union(9, 9)])?;
+    assert_eq!(rt; domain.min(), Some(3));
+    assert_eq!(rt; domain.max(), Some(9));
+    assert_eq!(rt; domain.size(), 4);
+    assert_eq!(rt; domain.next_from(6), Some(9));
+    assert_eq!(rt; domain.next_from(10), None);
+    assert_eq!(rt; Domain::empty(alloc).max(), None);
+    assert_eq!(rt; Domain::full(alloc).size(), 16_777_216);
+    Ok(())
+}
+
+#[test]
+fn a_view(rt: HostRuntime) -> Result<(), NoMemory> {
+    let alloc = rt.alloc();
+    let mut list = Vec::new(alloc);
+    list.push(Domain::interval(alloc, 3, 5))?;
+    assert!(rt; list.len() == 1);
+    let domains = Domains { list };
+    assert_eq!(rt; least_of(&domains, 0), Some(3));
+    Ok(())
+}
