@@ -1,0 +1,5 @@
+use Rattle.fd_model.proofs.TokenLaws.{one_verdict}
+use Rattle.char_tokens.proofs.one_verdict.Goals as goal
+
+pub returns : goal.returns
+returns c = one_verdict

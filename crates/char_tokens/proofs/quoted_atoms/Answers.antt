@@ -1,0 +1,5 @@
+use Rattle.fd_model.proofs.QuotedAtoms.{quoted_atoms}
+use Rattle.char_tokens.proofs.quoted_atoms.Goals as goal
+
+pub returns : goal.returns
+returns c = quoted_atoms
