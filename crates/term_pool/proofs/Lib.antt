@@ -1,0 +1,4 @@
+pub mod Names
+pub mod Laws
+pub mod Walks
+pub mod Kept

@@ -1,0 +1,4 @@
+pub mod Contents
+pub mod Terms
+pub mod Valid
+pub mod Stored
