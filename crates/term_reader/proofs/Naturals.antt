@@ -1,0 +1,94 @@
+-- The integers among the tokens of a text have no sign.
+use Rattle.std.proofs.Common.{◌≡◌, ℕ, List, [], ◌∷◌, Bool, true, false, cond, refl, subst, ◌+◌}
+use Rattle.std.specs.Prelude.{pos, nat_le, ◌==◌, ◌&&◌, All}
+use Rattle.std.specs.List.{AllByRecursion}
+use Rattle.std.specs.Str.{chars}
+use Rattle.std.specs.Char.{len_utf8}
+use Rattle.std.proofs.lemmas.Bool.{leb-true}
+use Rattle.std.proofs.lemmas.List.Elements.{All-from_recursion}
+use Rattle.fd_model.specs.Characters.{is_layout, is_symbol, is_solo, is_punct, begins_variable, not_newline, is_digit_of, starts_with, tail, run_size, past_run, value}
+use Rattle.fd_model.specs.Tokens.{Word, Variable, Integer, Punct, Stop, BadCharacter, FloatOut, StringOut, IntegerTooWide, base_at, has_base, has_fraction, ends_stop, Lexeme, Front, Gap, Token, Offends, greatest, number_front, based_front, decimal_front, integer_front, comment_front, Inside, Between, AfterQuote, AfterBackslash, AfterDigits, Past, Broken, inside, quoted_end, quoted_front, front_at, front_by, front_of, HasTokens, ended, after_gap, after_token}
+use Rattle.term_reader.specs.Seeing.{KindIsNatural, HasNatural}
+
+abbrev FrontBy : Front → Type 0
+FrontBy (Token k n) = KindIsNatural k
+FrontBy _ = Unit {0}
+
+record IsPlain (f : Front) : Type 0 where
+  by : FrontBy f
+
+either : (b : Bool) (x y : Front) → IsPlain x → IsPlain y → IsPlain (cond b x y)
+either true x y h k = h
+either false x y h k = k
+
+number_plain : (v n : ℕ) → IsPlain (number_front v n)
+number_plain v n = go (nat_le v greatest) refl
+  where
+    go : (b : Bool) → nat_le v greatest ≡ b → IsPlain (cond b (Token (Integer (pos v)) n) (Offends IntegerTooWide 0))
+    go true e = record { by = record { value = v; is = refl; within = leb-true v greatest e } }
+    go false e = record { by = tt }
+
+comment_plain : (n : ℕ) (cs : List ℕ) → IsPlain (comment_front n cs)
+comment_plain n [] = record { by = tt }
+comment_plain n (c ∷ cs) = either (c == 42 && starts_with 47 cs) (Gap (n + 2)) (comment_front (n + len_utf8 c) cs) (record { by = tt }) (comment_plain (n + len_utf8 c) cs)
+
+quoted_end_plain : (place : Inside) (n : ℕ) → IsPlain (quoted_end place n)
+quoted_end_plain Between n = record { by = tt }
+quoted_end_plain AfterQuote n = record { by = tt }
+quoted_end_plain (AfterBackslash from) n = record { by = tt }
+quoted_end_plain (AfterDigits from k v) n = record { by = tt }
+quoted_end_plain (Past m) n = record { by = tt }
+quoted_end_plain (Broken cause m) n = record { by = tt }
+
+quoted_plain : (place : Inside) (n : ℕ) (cs : List ℕ) → IsPlain (quoted_front place n cs)
+quoted_plain place n [] = quoted_end_plain place n
+quoted_plain place n (c ∷ cs) = quoted_plain (inside place n c) (n + len_utf8 c) cs
+
+integer_plain : (c : ℕ) (cs : List ℕ) → IsPlain (integer_front c cs)
+integer_plain c cs =
+    either (c == 48 && has_base cs) (based_front cs) (decimal_front c cs) (number_plain (value (base_at cs) 0 (tail cs)) (2 + run_size (is_digit_of (base_at cs)) (tail cs)))
+    (either (has_fraction (past_run (is_digit_of 10) cs)) (Offends FloatOut 0) _ (record { by = tt })
+    (either (c == 48 && starts_with 39 cs) (Offends BadCharacter 1) _ (record { by = tt })
+    (number_plain (value 10 0 (c ∷ cs)) (len_utf8 c + run_size (is_digit_of 10) cs))))
+
+at_plain : (c : ℕ) (cs : List ℕ) → IsPlain (front_at c cs)
+at_plain c cs =
+    either (is_layout c) (Gap (len_utf8 c)) _ (record { by = tt })
+    (either (c == 37) (Gap (len_utf8 c + run_size not_newline cs)) _ (record { by = tt })
+    (either (is_digit_of 10 c) (integer_front c cs) _ (integer_plain c cs)
+    (either (begins_variable c) (Token Variable _) _ (record { by = tt })
+    (either _ (Token Word _) _ (record { by = tt })
+    (either (c == 47 && starts_with 42 cs) (comment_front 2 (tail cs)) _ (comment_plain 2 (tail cs))
+    (either (c == 46 && ends_stop cs) (Token Stop (len_utf8 c)) _ (record { by = tt })
+    (either (is_symbol c) (Token Word (len_utf8 c + run_size is_symbol cs)) _ (record { by = tt })
+    (either (is_solo c) (Token Word (len_utf8 c)) _ (record { by = tt })
+    (either (is_punct c) (Token Punct (len_utf8 c)) _ (record { by = tt })
+    (either (c == 39) (quoted_front Between 1 cs) _ (quoted_plain Between 1 cs)
+    (either (c == 34) (Offends StringOut 0) (Offends BadCharacter 0) (record { by = tt }) (record { by = tt }))))))))))))
+
+by_plain : (cs : List ℕ) → IsPlain (front_by cs)
+by_plain [] = record { by = tt }
+by_plain (c ∷ cs) = at_plain c cs
+
+front_plain : (bytes : List ℕ) → IsPlain (front_of bytes)
+unfolding front_of
+front_plain bytes = by_plain (chars bytes)
+
+abbrev AllNatural : List Lexeme → Type 0
+AllNatural [] = Unit {0}
+AllNatural (l ∷ ls) = HasNatural l × AllNatural ls
+
+tokens_natural : {at : ℕ} {tight : Bool} {bytes : List ℕ} {ls : List Lexeme} → HasTokens at tight bytes ls → AllNatural ls
+tokens_natural (ended e) = tt
+tokens_natural (after_gap n e d) = tokens_natural d
+tokens_natural {bytes = bytes} (after_token k n e d) = let p : IsPlain (Token k n) = subst IsPlain e (front_plain bytes) in (p.by, tokens_natural d)
+
+by_recursion : (ls : List Lexeme) → AllNatural ls → All HasNatural ls
+by_recursion ls h = All-from_recursion HasNatural ls (same ls h)
+  where
+    same : (ls : List Lexeme) → AllNatural ls → AllByRecursion HasNatural ls
+    same [] h = tt
+    same (l ∷ ls) h = (h.0, same ls h.1)
+
+pub naturals : {text : List ℕ} (ls : List Lexeme) → HasTokens 0 true text ls → All HasNatural ls
+naturals ls d = by_recursion ls (tokens_natural d)

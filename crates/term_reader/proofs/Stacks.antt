@@ -1,0 +1,190 @@
+-- Stacks of items over a pool that grows.
+use Rattle.std.proofs.Common.{◌≡◌, ℕ, zero, suc, ◌-◌, ◌<◌, List, [], ◌∷◌, ◌++◌, length, take, drop, Option, Some, None, Bool, true, false, refl, sym, ap, subst, ◌∙◌, arith}
+use Rattle.std.specs.Prelude.{slice_get, reverse}
+use Rattle.std.proofs.lemmas.List.{reverse-append}
+use Rattle.std.proofs.lemmas.List.Elements.{All-from_recursion, All-drop, All-take}
+use Rattle.std.proofs.lemmas.Option.{slice_get_within, slice_get-get_or}
+use Rattle.fd_model.specs.PlacedTerm.{PlacedTerm, comp, one, two}
+use Rattle.fd_model.specs.Operators.{right_limit}
+use Rattle.fd_model.proofs.ReadingSteps.{Stack, top, paren, curly, before, between, reduce, gives_way}
+use Rattle.term_pool.specs.declared.TermId.{TermId}
+use Rattle.term_pool.specs.Contents.{Contents}
+use Rattle.term_pool.specs.Terms.{Extends}
+use Rattle.term_pool.specs.Valid.{IsPool}
+use Rattle.term_pool.proofs.Laws.{name_kept, extends_refl, extends_trans}
+use Rattle.term_reader.specs.Operators.{operator_of}
+use Rattle.term_reader.specs.declared.operators.Operator.{Operator}
+use Rattle.term_reader.specs.declared.parser.Item.{Item}
+use Rattle.term_reader.specs.declared.parser.Item.TheVariants.{Parenthesis, Curly, Call, List as Listed, Tail, Prefix, Infix}
+use Rattle.term_reader.specs.PlacedTerms.{placed_of, parts_of, Adds}
+use Rattle.term_reader.specs.View.{stack_of, HaveIds, HaveRoom, AreTerms, Steps, Stays, last_item}
+use Rattle.term_reader.proofs.PlacedLaws.{placed_kept, parts_kept, extends_length, extends_names}
+
+-- ---- the last element
+
+abbrev pub front : {X : Type 0} → List X → List X
+front xs = take (length xs - 1) xs
+
+last_at : {X : Type 0} (xs : List X) (k : ℕ) (x : X) → slice_get xs k ≡ Some x → suc k ≡ length xs → xs ≡ take k xs ++ x ∷ []
+last_at [] k x e h = absurd (omega arith)
+last_at (y ∷ []) zero x e h = let same : y ≡ x = cc in ap (λ z. z ∷ []) same
+last_at (y ∷ z ∷ xs) zero x e h = absurd (omega arith)
+last_at (y ∷ xs) (suc k) x e h = ap (λ zs. y ∷ zs) (last_at xs k x e (omega arith))
+
+pub last_splits : {X : Type 0} (xs : List X) (x : X) → slice_get xs (length xs - 1) ≡ Some x → xs ≡ front xs ++ x ∷ []
+last_splits xs x e = let within : length xs - 1 < length xs = slice_get_within xs (length xs - 1) x e in last_at xs (length xs - 1) x e (omega arith)
+
+pub last_none : {X : Type 0} (xs : List X) → slice_get xs (length xs - 1) ≡ None → xs ≡ []
+last_none [] e = refl
+last_none (y ∷ ys) e = let some = slice_get-get_or (y ∷ ys) (length (y ∷ ys) - 1) y (omega arith) in absurd cc
+
+-- the last item comes first
+pub turned : (xs : List Item) (x : Item) → last_item xs ≡ Some x → reverse xs ≡ x ∷ reverse (front xs)
+turned xs x e = ap reverse (last_splits xs x e) ∙ reverse-append (front xs) (x ∷ [])
+
+pub turned_push : (xs : List Item) (x : Item) → reverse (xs ++ x ∷ []) ≡ x ∷ reverse xs
+turned_push xs x = reverse-append xs (x ∷ [])
+
+-- ---- growing
+
+pub terms_more : (c d : Contents) → Extends c d → (ts : List TermId) → AreTerms c ts → AreTerms d ts
+terms_more c d x ts h k e within = let old = h k e within in let more = extends_length c d x in omega (arith, old, more)
+
+pub ids_more : (c d : Contents) → Extends c d → (xs : List Item) → HaveIds c xs → HaveIds d xs
+ids_more c d x [] h = tt
+ids_more c d x (Parenthesis ∷ xs) h = ids_more c d x xs h
+ids_more c d x (Curly p ∷ xs) h = ids_more c d x xs h
+ids_more c d x (Call p a from ∷ xs) h = (omega (arith, h.0, extends_names c d x), ids_more c d x xs h.1)
+ids_more c d x (Listed p from ∷ xs) h = ids_more c d x xs h
+ids_more c d x (Tail p from ∷ xs) h = ids_more c d x xs h
+ids_more c d x (Prefix p f ∷ xs) h = ids_more c d x xs h
+ids_more c d x (Infix p f l ∷ xs) h = (omega (arith, h.0, extends_length c d x), ids_more c d x xs h.1)
+
+pub stack_kept : (c d : Contents) → IsPool c → Extends c d → (s : Stack) (ts : List TermId) → AreTerms c ts → (xs : List Item) → HaveIds c xs → stack_of d s ts xs ≡ stack_of c s ts xs
+stack_kept c d v x s ts a [] h = refl
+stack_kept c d v x s ts a (Parenthesis ∷ xs) h = ap paren (stack_kept c d v x s ts a xs h)
+stack_kept c d v x s ts a (Curly p ∷ xs) h = ap (curly p) (stack_kept c d v x s ts a xs h)
+stack_kept c d v x s ts a (Call p n from ∷ xs) h =
+    rw (name_kept c d x n h.0, parts_kept c d v x (drop from ts) (All-drop (λ t. t.number < length c.entries) from ts a), stack_kept c d v x s (take from ts) (All-take (λ t. t.number < length c.entries) from ts a) xs h.1) refl
+stack_kept c d v x s ts a (Listed p from ∷ xs) h =
+    rw (parts_kept c d v x (drop from ts) (All-drop (λ t. t.number < length c.entries) from ts a), stack_kept c d v x s (take from ts) (All-take (λ t. t.number < length c.entries) from ts a) xs h) refl
+stack_kept c d v x s ts a (Tail p from ∷ xs) h =
+    rw (parts_kept c d v x (drop from ts) (All-drop (λ t. t.number < length c.entries) from ts a), stack_kept c d v x s (take from ts) (All-take (λ t. t.number < length c.entries) from ts a) xs h) refl
+stack_kept c d v x s ts a (Prefix p f ∷ xs) h = ap (before p f.name.now (operator_of f)) (stack_kept c d v x s ts a xs h)
+stack_kept c d v x s ts a (Infix p f l ∷ xs) h =
+    rw (placed_kept c d v x l h.0, stack_kept c d v x s ts a xs h.1) refl
+
+-- ---- nothing gives way
+
+abbrev pub is_bracket : Item → Bool
+is_bracket (Prefix p f) = false
+is_bracket (Infix p f l) = false
+is_bracket _ = true
+
+stays_as : (below : Option ℕ) (c : Contents) (xs : List Item) (ys : List Item) → reverse xs ≡ ys
+    → ((ts : List TermId) (done : List PlacedTerm) (q : ℕ) (t : PlacedTerm) → reduce below (stack_of c (top done) ts ys) q t ≡ record { stack = stack_of c (top done) ts ys; priority = q; term = t }) → Stays below c xs
+stays_as below c xs ys e h ts done q t = subst (λ (zs : List Item). reduce below (stack_of c (top done) ts zs) q t ≡ record { stack = stack_of c (top done) ts zs; priority = q; term = t }) (sym e) (h ts done q t)
+
+pub stays_none : (below : Option ℕ) (c : Contents) (xs : List Item) → xs ≡ [] → Stays below c xs
+stays_none below c xs e = stays_as below c xs [] (ap reverse e) (λ ts done q t. refl)
+
+bracket_stays : (below : Option ℕ) (c : Contents) (x : Item) (ys : List Item) → is_bracket x ≡ true → (ts : List TermId) (done : List PlacedTerm) (q : ℕ) (t : PlacedTerm)
+    → reduce below (stack_of c (top done) ts (x ∷ ys)) q t ≡ record { stack = stack_of c (top done) ts (x ∷ ys); priority = q; term = t }
+bracket_stays below c Parenthesis ys e ts done q t = refl
+bracket_stays below c (Curly p) ys e ts done q t = refl
+bracket_stays below c (Call p a from) ys e ts done q t = refl
+bracket_stays below c (Listed p from) ys e ts done q t = refl
+bracket_stays below c (Tail p from) ys e ts done q t = refl
+bracket_stays below c (Prefix p f) ys e ts done q t = absurd cc
+bracket_stays below c (Infix p f l) ys e ts done q t = absurd cc
+
+pub stays_bracket : (below : Option ℕ) (c : Contents) (xs : List Item) (x : Item) → last_item xs ≡ Some x → is_bracket x ≡ true → Stays below c xs
+stays_bracket below c xs x e h = stays_as below c xs (x ∷ reverse (front xs)) (turned xs x e) (bracket_stays below c x (reverse (front xs)) h)
+
+pub stays_prefix : (below : Option ℕ) (c : Contents) (xs : List Item) (p : ℕ) (f : Operator) → last_item xs ≡ Some (Prefix p f) → gives_way below (right_limit (operator_of f)) ≡ false → Stays below c xs
+stays_prefix below c xs p f e h = stays_as below c xs (Prefix p f ∷ reverse (front xs)) (turned xs (Prefix p f) e) (λ ts done q t. rw h refl)
+
+pub stays_infix : (below : Option ℕ) (c : Contents) (xs : List Item) (p : ℕ) (f : Operator) (l : TermId) → last_item xs ≡ Some (Infix p f l) → gives_way below (right_limit (operator_of f)) ≡ false → Stays below c xs
+stays_infix below c xs p f l e h = stays_as below c xs (Infix p f l ∷ reverse (front xs)) (turned xs (Infix p f l) e) (λ ts done q t. rw h refl)
+
+-- ---- one operator gives way
+
+parts_of_one : (c : Contents) (t : TermId) → parts_of c (t ∷ []) ≡ one (placed_of c t)
+unfolding parts_of
+parts_of_one c t = refl
+
+parts_of_two : (c : Contents) (s t : TermId) → parts_of c (s ∷ t ∷ []) ≡ two (placed_of c s) (placed_of c t)
+unfolding parts_of
+parts_of_two c s t = refl
+
+pub one_term : (c : Contents) (t : TermId) → t.number < length c.entries → AreTerms c (t ∷ [])
+one_term c t h = All-from_recursion (λ u. u.number < length c.entries) (t ∷ []) (h, tt)
+
+pub two_terms : (c : Contents) (s t : TermId) → s.number < length c.entries → t.number < length c.entries → AreTerms c (s ∷ t ∷ [])
+two_terms c s t h k = All-from_recursion (λ u. u.number < length c.entries) (s ∷ t ∷ []) (h, (k, tt))
+
+pub steps_prefix : (below : Option ℕ) (c d : Contents) (xs : List Item) (p : ℕ) (f : Operator) (s t : TermId) (q : ℕ) → last_item xs ≡ Some (Prefix p f) → gives_way below (right_limit (operator_of f)) ≡ true
+    → IsPool c → HaveIds c (reverse xs) → Adds c d (comp f.name.now p (parts_of c (s ∷ []))) t → Steps below c d xs (front xs) q f.priority s t
+steps_prefix below c d xs p f s t q e h v ids a =
+    let ys = reverse (front xs) in
+    let is = turned xs (Prefix p f) e in
+    let inner : HaveIds c ys = subst (HaveIds c) is ids in
+    record {
+      same = λ ts terms done.
+          let base = stack_of c (top done) ts ys in
+          let whole : comp f.name.now p (one (placed_of c s)) ≡ placed_of d t = ap (comp f.name.now p) (sym (parts_of_one c s)) ∙ sym a.is in
+          let stack_is : base ≡ stack_of d (top done) ts ys = sym (stack_kept c d v a.grows (top done) ts terms ys inner) in
+          let first : reduce below (before p f.name.now (operator_of f) base) q (placed_of c s) ≡ reduce below base f.priority (comp f.name.now p (one (placed_of c s))) = rw h refl in
+          ap (λ (zs : List Item). reduce below (stack_of c (top done) ts zs) q (placed_of c s)) is
+          ∙ first
+          ∙ ap (λ (u : PlacedTerm). reduce below base f.priority u) whole
+          ∙ ap (λ (u : Stack). reduce below u f.priority (placed_of d t)) stack_is;
+      grows = a.grows;
+      valid = a.valid;
+      ids = ids_more c d a.grows ys inner;
+      room = λ ts room. subst (HaveRoom ts) is room;
+      operand = a.within;
+    }
+
+pub steps_infix : (below : Option ℕ) (c d : Contents) (xs : List Item) (p : ℕ) (f : Operator) (l s t : TermId) (q : ℕ) → last_item xs ≡ Some (Infix p f l) → gives_way below (right_limit (operator_of f)) ≡ true
+    → IsPool c → HaveIds c (reverse xs) → Adds c d (comp f.name.now p (parts_of c (l ∷ s ∷ []))) t → Steps below c d xs (front xs) q f.priority s t
+steps_infix below c d xs p f l s t q e h v ids a =
+    let ys = reverse (front xs) in
+    let is = turned xs (Infix p f l) e in
+    let inner : HaveIds c (Infix p f l ∷ ys) = subst (HaveIds c) is ids in
+    record {
+      same = λ ts terms done.
+          let base = stack_of c (top done) ts ys in
+          let both = two (placed_of c l) (placed_of c s) in
+          let whole : comp f.name.now p both ≡ placed_of d t = ap (comp f.name.now p) (sym (parts_of_two c l s)) ∙ sym a.is in
+          let stack_is : base ≡ stack_of d (top done) ts ys = sym (stack_kept c d v a.grows (top done) ts terms ys inner.1) in
+          let first : reduce below (between p (operator_of f) (placed_of c l) base) q (placed_of c s) ≡ reduce below base f.priority (comp f.name.now p both) = rw h refl in
+          ap (λ (zs : List Item). reduce below (stack_of c (top done) ts zs) q (placed_of c s)) is
+          ∙ first
+          ∙ ap (λ (u : PlacedTerm). reduce below base f.priority u) whole
+          ∙ ap (λ (u : Stack). reduce below u f.priority (placed_of d t)) stack_is;
+      grows = a.grows;
+      valid = a.valid;
+      ids = ids_more c d a.grows ys inner.1;
+      room = λ ts room. subst (HaveRoom ts) is room;
+      operand = a.within;
+    }
+
+pub infix_left : (c : Contents) (xs : List Item) (p : ℕ) (f : Operator) (l : TermId) → last_item xs ≡ Some (Infix p f l) → HaveIds c (reverse xs) → l.number < length c.entries
+infix_left c xs p f l e ids = let inner : HaveIds c (Infix p f l ∷ reverse (front xs)) = subst (HaveIds c) (turned xs (Infix p f l) e) ids in inner.0
+
+pub steps_as : {below : Option ℕ} {c d : Contents} {xs ys zs : List Item} {q p : ℕ} {s t : TermId} → Steps below c d xs ys q p s t → zs ≡ ys → Steps below c d xs zs q p s t
+steps_as {below = below} {c = c} {d = d} {xs = xs} {q = q} {p = p} {s = s} {t = t} h e = subst (λ (vs : List Item). Steps below c d xs vs q p s t) (sym e) h
+
+pub steps_none : (below : Option ℕ) (c : Contents) (xs : List Item) (q : ℕ) (s : TermId) → IsPool c → HaveIds c (reverse xs) → s.number < length c.entries → Steps below c c xs xs q q s s
+steps_none below c xs q s v ids h = record { same = λ ts terms done. refl; grows = extends_refl c; valid = v; ids = ids; room = λ ts room. room; operand = h }
+
+pub steps_then : {below : Option ℕ} {c d e : Contents} {x y z : List Item} {q p r : ℕ} {s t u : TermId} → Steps below c d x y q p s t → Steps below d e y z p r t u → Steps below c e x z q r s u
+steps_then {c = c} {d = d} {e = e} h k = record {
+  same = λ ts terms done. h.same ts terms done ∙ k.same ts (terms_more c d h.grows ts terms) done;
+  grows = extends_trans c d e h.grows k.grows;
+  valid = k.valid;
+  ids = k.ids;
+  room = λ ts room. k.room ts (h.room ts room);
+  operand = k.operand;
+}

@@ -1,0 +1,5 @@
+use Rattle.term_reader.proofs.Operands.{moves_no_infix, not_infix}
+use Rattle.term_reader.proofs.parser.Parser.follow.Goals as goal
+
+pub returns-in-None : goal.returns-in-None
+returns-in-None c = moves_no_infix c.end_operand.result c.args.place c.args.operand c.args.token c.args.self.now c.end_operand.new.self (not_infix c.infix_at.result _ (c.infix_at.ensures c.args.place) c.in-None.is) c.end_operand.ensures

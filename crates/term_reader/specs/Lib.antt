@@ -1,0 +1,7 @@
+pub mod Operators
+pub mod PlacedTerms
+pub mod View
+pub mod Numbering
+pub mod Seeing
+pub mod Sentences
+pub mod Named

@@ -1,0 +1,98 @@
+-- What the reader has read.
+use Rattle.std.specs.Prelude.{◌≡◌, ℕ, ◌<◌, List, [], ◌∷◌, ◌++◌, length, map, reverse, Some, None, Bool, true, false, All}
+use Rattle.fd_model.specs.Term.{Name}
+use Rattle.fd_model.specs.PlacedTerm.{PlacedTerm}
+use Rattle.fd_model.specs.Tokens.{Lexeme, Stop, FaultOf}
+use Rattle.fd_model.specs.Reading as model
+use Rattle.fd_model.specs.Reading.{terminals, names_behind, sentence_names, place_at, IsSyntaxPlace, IsDeepPlace, Reading, sentences, token_fault, syntax_fault, too_deep, IsReading}
+use Rattle.fd_model.specs.GrammarFaults.{IsRead, IsSyntaxFault, IsTooDeep}
+use Rattle.fd_model.proofs.ReadingSteps.{want, top, run}
+use Rattle.char_tokens.specs.Views.{cause_of}
+use Rattle.char_tokens.specs.declared.token.TokenFault.TheVariants as faults
+use Rattle.term_pool.specs.Contents.{Contents, atom_name}
+use Rattle.term_pool.specs.Valid.{IsPool}
+use Rattle.term_reader.specs.PlacedTerms.{placed_of}
+use Rattle.term_reader.specs.View.{IsWhole, state}
+use Rattle.term_reader.specs.Seeing.{AreVariables, names_of}
+use Rattle.term_reader.specs.declared.reader.Sentence.{Sentence}
+use Rattle.term_reader.specs.declared.reader.Sentences.{Sentences}
+use Rattle.term_reader.specs.declared.reader.ReaderFault.{ReaderFault}
+use Rattle.term_reader.specs.declared.reader.ReaderFault.TheVariants.{Token, Syntax, TooDeep, NoMemory}
+use Rattle.term_reader.specs.declared.reader.Reader.{Reader}
+
+-- a sentence with its placed term and the names of its variables
+abbrev pub sentence_of : Contents → Sentence → model.Sentence
+sentence_of c s = record { term = placed_of c s.term; names = map (atom_name c) s.names.items }
+
+-- the sentences, in the order of the text
+abbrev pub sentences_of : Sentences → List model.Sentence
+sentences_of s = map (sentence_of s.pool) s.list.items
+
+-- term and names are of the pool
+pub record IsSentence (c : Contents) (s : Sentence) : Type 0 where
+  pub term : s.term.number < length c.entries
+  pub names : All (λ a. a.number < length c.names) s.names.items
+
+-- what holds between two calls
+pub record IsReader (r : Reader) : Type 0 where
+  pub parser : IsWhole r.parser
+  pub variables : AreVariables r.parser.pool r.variables
+  pub list : All (IsSentence r.parser.pool) r.list.items
+
+-- the names of the sentence's variables behind these tokens
+abbrev pub names_after : List Name → List Lexeme → List Name
+names_after names [] = names
+names_after names (l ∷ ls) = names_after (names_behind names l) ls
+
+abbrev pub read_of : Reader → List model.Sentence
+read_of r = map (sentence_of r.parser.pool) r.list.items
+
+abbrev pub done_of : List model.Sentence → List PlacedTerm
+done_of ss = reverse (map (λ s. s.term) ss)
+
+-- these tokens are read
+pub record HasRead (ls : List Lexeme) (r : Reader) : Type 0 where
+  pub run : run (terminals [] ls) (want (top [])) ≡ Some (state r.parser (done_of (read_of r)))
+  pub names : map (λ s. s.names) (read_of r) ≡ sentence_names [] ls
+  pub current : names_of r.parser.pool r.variables ≡ names_after [] ls
+
+abbrev pub IsStop : Lexeme → Type 0
+IsStop l = l.kind ≡ Stop
+
+-- the token behind those read is read too, or can't stand there
+abbrev pub Took : Bool → List Lexeme → Lexeme → Reader → Type 0
+Took true ls l r = HasRead (ls ++ l ∷ []) r
+Took false ls l r = run (terminals [] (ls ++ l ∷ [])) (want (top [])) ≡ None
+
+-- the terms and names of the sentences are of their pool
+pub record AreOwn (s : Sentences) : Type 0 where
+  pub pool : IsPool s.pool
+  pub list : All (IsSentence s.pool) s.list.items
+
+-- the tokens are these sentences
+pub record AreSentencesOf (ls : List Lexeme) (s : Sentences) : Type 0 where
+  pub terms : IsRead (terminals [] ls) (done_of (sentences_of s))
+  pub names : map (λ x. x.names) (sentences_of s) ≡ sentence_names [] ls
+
+-- the fault of the tokens of a text of this size, or want of memory
+abbrev pub IsFaultAmong : List Lexeme → ℕ → ReaderFault → Type 0
+IsFaultAmong ls size (Token f) = ⊥
+IsFaultAmong ls size (Syntax place) = (k : ℕ) × IsSyntaxFault (terminals [] ls) k × (place ≡ place_at ls size k)
+IsFaultAmong ls size (TooDeep place) = (k : ℕ) × IsTooDeep (terminals [] ls) k × (place ≡ place_at ls size k)
+IsFaultAmong ls size NoMemory = Unit {0}
+
+-- the fault is the text's, or want of memory
+abbrev pub IsFaultOf : List ℕ → ReaderFault → Type 0
+IsFaultOf text (Token (faults.At place cause)) = FaultOf text (cause_of cause) place
+IsFaultOf text (Token faults.NoMemory) = ⊥
+IsFaultOf text (Syntax place) = IsSyntaxPlace text place
+IsFaultOf text (TooDeep place) = IsDeepPlace text place
+IsFaultOf text NoMemory = Unit {0}
+
+-- the fault is this one, or want of memory
+abbrev pub IsFaultFor : Reading → ReaderFault → Type 0
+IsFaultFor v (Token (faults.At place cause)) = v ≡ token_fault (cause_of cause) place
+IsFaultFor v (Token faults.NoMemory) = ⊥
+IsFaultFor v (Syntax place) = v ≡ syntax_fault place
+IsFaultFor v (TooDeep place) = v ≡ too_deep place
+IsFaultFor v NoMemory = Unit {0}

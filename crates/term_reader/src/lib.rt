@@ -1,0 +1,36 @@
+//! Terms read from text: sentences in the grammar of ISO/IEC 13211-1, with this project's operators.
+#![tactic(auto)]
+
+ghost use Rattle.std.specs.Prelude.{◌≡◌, List, ℕ, IfOk, IfErr, MatchResult};
+ghost use Rattle.fd_model.specs.Reading.{Reading, IsReading, sentences};
+ghost use Rattle.term_reader.specs.Named.{HaveNames};
+ghost use Rattle.term_reader.specs.Sentences.{sentences_of, AreOwn, IsFaultOf, IsFaultFor};
+
+pub mod operators;
+mod parser;
+mod reader;
+mod terminals;
+#[cfg(test)]
+mod tests;
+mod variables;
+
+use crate::reader::read_tokens;
+use char_tokens::{TokenFault, tokens};
+pub use reader::{ReaderFault, Sentence, Sentences};
+use std::alloc::Global;
+
+/// The sentences of a text, or its first fault.
+pub fn read_sentences(alloc: Global, text: &str) -> Result<Sentences, ReaderFault>
+    ensures found { IfOk result (λ s. IsReading text.now (sentences (sentences_of s))) }
+    ensures own { IfOk result AreOwn }
+    ensures names { IfOk result HaveNames }
+    ensures fault { IfErr result (IsFaultOf text.now) }
+    ensures only { (v : Reading) → IsReading text.now v → MatchResult result (λ s. v ≡ sentences (sentences_of s)) (IsFaultFor v) }
+{
+    let found = match tokens(alloc, text) {
+        Ok(found) => found,
+        Err(TokenFault::NoMemory) => return Err(ReaderFault::NoMemory),
+        Err(fault) => return Err(ReaderFault::Token(fault)),
+    };
+    read_tokens(alloc, &found, text.len())
+}
