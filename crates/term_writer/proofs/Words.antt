@@ -1,0 +1,27 @@
+-- Ends of texts, and tests of their characters.
+use Rattle.std.proofs.Common.{◌≡◌, ◌∙◌, ℕ, zero, suc, ◌<◌, ◌+◌, List, [], ◌∷◌, ◌++◌, length, drop, get_or, Bool, Some, sym, ap, arith, append_assoc}
+use Rattle.std.specs.Prelude.{◌&&◌, ◌-◌, slice_get}
+use Rattle.std.specs.List.{list_all}
+use Rattle.std.proofs.lemmas.List.{at_drop_more}
+use Rattle.fd_model.specs.Characters.{is_symbol}
+use Rattle.fd_model.specs.Writing.{ends_with_symbol, quoted_byte, quoted_bytes}
+
+ends_at : (xs : List ℕ) (n y : ℕ) → length xs ≡ suc n → slice_get xs n ≡ Some y → is_symbol y ≡ ends_with_symbol xs
+ends_at [] n y e h = absurd cc
+ends_at (x ∷ []) zero y e h = ap is_symbol (let s : y ≡ x = cc in s)
+ends_at (x ∷ []) (suc n) y e h = absurd (omega arith)
+ends_at (x ∷ w ∷ xs) zero y e h = absurd (omega arith)
+ends_at (x ∷ w ∷ xs) (suc n) y e h = ends_at (w ∷ xs) n y (omega arith) h
+
+pub ends_last : (xs : List ℕ) (y : ℕ) → Some y ≡ slice_get xs (length xs - 1) → is_symbol y ≡ ends_with_symbol xs
+ends_last [] y h = absurd cc
+ends_last (x ∷ xs) y h = ends_at (x ∷ xs) (length (x ∷ xs) - 1) y (omega arith) (sym h)
+
+pub all_here : (p : ℕ → Bool) (cs : List ℕ) (n c : ℕ) → (n < length cs) × (c ≡ get_or cs n c) → list_all p (drop n cs) ≡ (p c && list_all p (drop (n + 1) cs))
+all_here p cs n c h = at_drop_more (list_all p) cs n c h.0 ∙ ap (λ (x : ℕ). p x && list_all p (drop (n + 1) cs)) (sym h.1)
+
+pub quoted_more : (text cs : List ℕ) (n : ℕ) (c : ℕ) → n < length cs → c ≡ get_or cs n c → (text ++ quoted_byte c) ++ quoted_bytes (drop (n + 1) cs) ≡ text ++ quoted_bytes (drop n cs)
+quoted_more text cs n c l e =
+    append_assoc text (quoted_byte c) (quoted_bytes (drop (n + 1) cs))
+    ∙ ap (λ (x : ℕ). text ++ (quoted_byte x ++ quoted_bytes (drop (n + 1) cs))) e
+    ∙ ap (λ (w : List ℕ). text ++ w) (sym (at_drop_more quoted_bytes cs n c l))

@@ -1,0 +1,16 @@
+use Rattle.std.proofs.Common.{◌≡◌}
+use Rattle.std.specs.Prelude.{All}
+use Rattle.fd_model.specs.Writing.{term_text}
+use Rattle.term_pool.specs.Terms.{term_of}
+use Rattle.term_writer.specs.Pieces.{finished, load, IsOf}
+use Rattle.term_writer.specs.Views.{mode_of, text_in}
+use Rattle.term_writer.proofs.terms.term_bytes.Given as goal
+
+abbrev pub invariant-loop-piece : goal.invariant-loop-piece
+invariant-loop-piece l = record {
+  within : All (IsOf l.pool) l.ahead.items;
+  whole : finished l.pool (mode_of l.mode) (text_in l.names) l.text.items l.ahead.items ≡ term_text (mode_of l.mode) (text_in l.names) l.fn.limit (term_of l.pool l.fn.t);
+}
+
+abbrev pub decreases-loop-piece : goal.decreases-loop-piece
+decreases-loop-piece l = load l.pool l.ahead.items

@@ -1,0 +1,5 @@
+pub mod Operators
+pub mod Views
+pub mod Pieces
+pub mod Spelled
+pub mod ReadBack
