@@ -1,0 +1,114 @@
+-- What the nodes' variables find.
+use Rattle.std.proofs.Common.{◌≡◌, ℕ, suc, ◌+◌, ◌≤◌, ◌<◌, List, ◌∷◌, ◌++◌, length, drop, get_or, Option, None, refl, sym, ◌∙◌, ap, subst, arith}
+use Rattle.std.specs.Prelude.{Result, Ok, Err, IfOk, OnOk}
+use Rattle.std.proofs.lemmas.List.{at_drop_more, drop_all}
+use Rattle.fd_model.specs.declared.range_node.RangeNode.{RangeNode}
+use Rattle.fd_model.specs.declared.range_node.RangeNode.TheVariants as node
+use Rattle.fd_model.specs.declared.range_node.Offence.{Offence}
+use Rattle.fd_model.specs.Family.{has}
+use Rattle.fd_model.specs.RangeVerdict.{clashes, where_first_clash, earlier, first}
+use Rattle.monotone_check.specs.Seen.{AreSeen, FindsAt}
+use Rattle.monotone_check.proofs.Firsts.{first-append, earlier_assoc, earlier_none}
+
+both_found : (xs ys : List Offence) (o : Option Offence) → o ≡ first xs → earlier o (first ys) ≡ first (xs ++ ys)
+both_found xs ys o e = ap (λ p. earlier p (first ys)) e ∙ sym (first-append xs ys)
+
+pub found_param : (x place : ℕ) (ps ys qs : List ℕ) (o : Option Offence) →
+    ((xs zs : List ℕ) → AreSeen xs ys → AreSeen zs ps → o ≡ first (where_first_clash (has xs x) (has zs x) place)) → ((zs : List ℕ) → AreSeen zs ps → AreSeen (x ∷ zs) qs) →
+    FindsAt place (node.Param x) ps ys qs ys o
+found_param x place ps ys qs o f g = λ at n ns ks bs e a b.
+    (x ∷ ks, bs, g ks a, b, both_found (where_first_clash (has bs x) (has ks x) (at n)) (clashes at (suc n) (x ∷ ks) bs ns) o (f bs ks b a ∙ ap (λ p. first (where_first_clash (has bs x) (has ks x) p)) (sym e)))
+
+pub found_min : (y place : ℕ) (ps ys zs : List ℕ) (o : Option Offence) →
+    ((xs us : List ℕ) → AreSeen xs ps → AreSeen us ys → o ≡ first (where_first_clash (has xs y) (has us y) place)) → ((us : List ℕ) → AreSeen us ys → AreSeen (y ∷ us) zs) →
+    FindsAt place (node.Min y) ps ys ps zs o
+found_min y place ps ys zs o f g = λ at n ns ks bs e a b.
+    (ks, y ∷ bs, a, g bs b, both_found (where_first_clash (has ks y) (has bs y) (at n)) (clashes at (suc n) ks (y ∷ bs) ns) o (f ks bs a b ∙ ap (λ p. first (where_first_clash (has ks y) (has bs y) p)) (sym e)))
+
+pub found_max : (y place : ℕ) (ps ys zs : List ℕ) (o : Option Offence) →
+    ((xs us : List ℕ) → AreSeen xs ps → AreSeen us ys → o ≡ first (where_first_clash (has xs y) (has us y) place)) → ((us : List ℕ) → AreSeen us ys → AreSeen (y ∷ us) zs) →
+    FindsAt place (node.Max y) ps ys ps zs o
+found_max y place ps ys zs o f g = λ at n ns ks bs e a b.
+    (ks, y ∷ bs, a, g bs b, both_found (where_first_clash (has ks y) (has bs y) (at n)) (clashes at (suc n) ks (y ∷ bs) ns) o (f ks bs a b ∙ ap (λ p. first (where_first_clash (has ks y) (has bs y) p)) (sym e)))
+
+pub found_val : (y place : ℕ) (ps ys zs : List ℕ) (o : Option Offence) →
+    ((xs us : List ℕ) → AreSeen xs ps → AreSeen us ys → o ≡ first (where_first_clash (has xs y) (has us y) place)) → ((us : List ℕ) → AreSeen us ys → AreSeen (y ∷ us) zs) →
+    FindsAt place (node.Val y) ps ys ps zs o
+found_val y place ps ys zs o f g = λ at n ns ks bs e a b.
+    (ks, y ∷ bs, a, g bs b, both_found (where_first_clash (has ks y) (has bs y) (at n)) (clashes at (suc n) ks (y ∷ bs) ns) o (f ks bs a b ∙ ap (λ p. first (where_first_clash (has ks y) (has bs y) p)) (sym e)))
+
+pub found_dom : (y place : ℕ) (ps ys zs : List ℕ) (o : Option Offence) →
+    ((xs us : List ℕ) → AreSeen xs ps → AreSeen us ys → o ≡ first (where_first_clash (has xs y) (has us y) place)) → ((us : List ℕ) → AreSeen us ys → AreSeen (y ∷ us) zs) →
+    FindsAt place (node.Dom y) ps ys ps zs o
+found_dom y place ps ys zs o f g = λ at n ns ks bs e a b.
+    (ks, y ∷ bs, a, g bs b, both_found (where_first_clash (has ks y) (has bs y) (at n)) (clashes at (suc n) ks (y ∷ bs) ns) o (f ks bs a b ∙ ap (λ p. first (where_first_clash (has ks y) (has bs y) p)) (sym e)))
+
+pub loop_step : (at : ℕ → ℕ) (i : ℕ) (nodes : List RangeNode) (d : RangeNode) (place : ℕ) (clash found next whole : Option Offence) (old_ps old_ys new_ps new_ys : List ℕ) → i < length nodes → at i ≡ place →
+    ((ps : List ℕ) × (ys : List ℕ) × AreSeen ps old_ps × AreSeen ys old_ys × (earlier clash (first (clashes at i ps ys (drop i nodes))) ≡ whole)) →
+    FindsAt place (get_or nodes i d) old_ps old_ys new_ps new_ys found → next ≡ earlier clash found →
+    (ps : List ℕ) × (ys : List ℕ) × AreSeen ps new_ps × AreSeen ys new_ys × (earlier next (first (clashes at (i + 1) ps ys (drop (i + 1) nodes))) ≡ whole)
+loop_step at i nodes d place clash found next whole old_ps old_ys new_ps new_ys l e (ps, ys, a, b, h) f g =
+    let (qs, zs, s, t, k) = f at i (drop (i + 1) nodes) ps ys e a b in (
+      qs,
+      zs,
+      s,
+      t,
+      ap (λ o. earlier o (first (clashes at (i + 1) qs zs (drop (i + 1) nodes)))) g
+          ∙ (earlier_assoc clash found (first (clashes at (i + 1) qs zs (drop (i + 1) nodes)))
+          ∙ (ap (λ m. earlier clash (earlier found (first (clashes at m qs zs (drop (i + 1) nodes))))) (one_more i)
+          ∙ (ap (λ o. earlier clash o) (k ∙ sym (at_drop_more (λ ns. first (clashes at i ps ys ns)) nodes i d l)) ∙ h))),
+    )
+  where
+    one_more : (n : ℕ) → n + 1 ≡ suc n
+    one_more n = omega arith
+
+pub loop_end : (at : ℕ → ℕ) (i : ℕ) (nodes : List RangeNode) (clash whole : Option Offence) (ps ys : List ℕ) → length nodes ≤ i → earlier clash (first (clashes at i ps ys (drop i nodes))) ≡ whole → clash ≡ whole
+loop_end at i nodes clash whole ps ys l h = sym (earlier_none clash) ∙ (ap (λ ns. earlier clash (first (clashes at i ps ys ns))) (sym (drop_all i nodes l)) ∙ h)
+
+pub ok_both : {A E : Type 0} (r : Result A E) (P : A → Type 0) (Q : Type 0) (R : A → Type 0) → IfOk r P → OnOk r Q → ((o : A) → P o → Q → R o) → IfOk r R
+ok_both (Ok o) P Q R h g f = f o h g
+ok_both (Err e) P Q R h g f = tt
+
+abbrev pub Clashing : ℕ → ℕ → List ℕ → List ℕ → Option Offence → Type 0
+Clashing x place other own o = (xs ys : List ℕ) → AreSeen xs other → AreSeen ys own → o ≡ first (where_first_clash (has xs x) (has ys x) place)
+
+abbrev pub Seeing : ℕ → List ℕ → List ℕ → Type 0
+Seeing x old new = (ys : List ℕ) → AreSeen ys old → AreSeen (x ∷ ys) new
+
+pub param_ok : {E : Type 0} (r : Result (Option Offence) E) (m : RangeNode) (x place : ℕ) (ps ys qs : List ℕ) → m ≡ node.Param x → IfOk r (Clashing x place ys ps) → OnOk r (Seeing x ps qs) → IfOk r (FindsAt place m ps ys qs ys)
+param_ok r m x place ps ys qs e h g = ok_both r (Clashing x place ys ps) (Seeing x ps qs) (FindsAt place m ps ys qs ys) h g (λ o f s. subst (λ k. FindsAt place k ps ys qs ys o) (sym e) (found_param x place ps ys qs o f s))
+
+pub min_ok : {E : Type 0} (r : Result (Option Offence) E) (m : RangeNode) (y place : ℕ) (ps ys zs : List ℕ) → m ≡ node.Min y → IfOk r (Clashing y place ps ys) → OnOk r (Seeing y ys zs) → IfOk r (FindsAt place m ps ys ps zs)
+min_ok r m y place ps ys zs e h g = ok_both r (Clashing y place ps ys) (Seeing y ys zs) (FindsAt place m ps ys ps zs) h g (λ o f s. subst (λ k. FindsAt place k ps ys ps zs o) (sym e) (found_min y place ps ys zs o f s))
+
+pub max_ok : {E : Type 0} (r : Result (Option Offence) E) (m : RangeNode) (y place : ℕ) (ps ys zs : List ℕ) → m ≡ node.Max y → IfOk r (Clashing y place ps ys) → OnOk r (Seeing y ys zs) → IfOk r (FindsAt place m ps ys ps zs)
+max_ok r m y place ps ys zs e h g = ok_both r (Clashing y place ps ys) (Seeing y ys zs) (FindsAt place m ps ys ps zs) h g (λ o f s. subst (λ k. FindsAt place k ps ys ps zs o) (sym e) (found_max y place ps ys zs o f s))
+
+pub val_ok : {E : Type 0} (r : Result (Option Offence) E) (m : RangeNode) (y place : ℕ) (ps ys zs : List ℕ) → m ≡ node.Val y → IfOk r (Clashing y place ps ys) → OnOk r (Seeing y ys zs) → IfOk r (FindsAt place m ps ys ps zs)
+val_ok r m y place ps ys zs e h g = ok_both r (Clashing y place ps ys) (Seeing y ys zs) (FindsAt place m ps ys ps zs) h g (λ o f s. subst (λ k. FindsAt place k ps ys ps zs o) (sym e) (found_val y place ps ys zs o f s))
+
+pub dom_ok : {E : Type 0} (r : Result (Option Offence) E) (m : RangeNode) (y place : ℕ) (ps ys zs : List ℕ) → m ≡ node.Dom y → IfOk r (Clashing y place ps ys) → OnOk r (Seeing y ys zs) → IfOk r (FindsAt place m ps ys ps zs)
+dom_ok r m y place ps ys zs e h g = ok_both r (Clashing y place ps ys) (Seeing y ys zs) (FindsAt place m ps ys ps zs) h g (λ o f s. subst (λ k. FindsAt place k ps ys ps zs o) (sym e) (found_dom y place ps ys zs o f s))
+
+pub found_none : (m : RangeNode) (place : ℕ) (ps ys : List ℕ) → ((x : ℕ) → m ≡ node.Param x → ⊥) → ((x : ℕ) → m ≡ node.Min x → ⊥) → ((x : ℕ) → m ≡ node.Max x → ⊥) → ((x : ℕ) → m ≡ node.Val x → ⊥) → ((x : ℕ) → m ≡ node.Dom x → ⊥) → FindsAt place m ps ys ps ys None
+found_none (node.Int z) place ps ys a b c d e = λ at n ns ks bs i f g. (ks, bs, f, g, refl)
+found_none node.Infinity place ps ys a b c d e = λ at n ns ks bs i f g. (ks, bs, f, g, refl)
+found_none (node.Param x) place ps ys a b c d e = absurd (a x refl)
+found_none (node.Min y) place ps ys a b c d e = absurd (b y refl)
+found_none (node.Max y) place ps ys a b c d e = absurd (c y refl)
+found_none (node.Val y) place ps ys a b c d e = absurd (d y refl)
+found_none node.Add place ps ys a b c d e = λ at n ns ks bs i f g. (ks, bs, f, g, refl)
+found_none node.Sub place ps ys a b c d e = λ at n ns ks bs i f g. (ks, bs, f, g, refl)
+found_none node.Mul place ps ys a b c d e = λ at n ns ks bs i f g. (ks, bs, f, g, refl)
+found_none node.DivDown place ps ys a b c d e = λ at n ns ks bs i f g. (ks, bs, f, g, refl)
+found_none node.DivUp place ps ys a b c d e = λ at n ns ks bs i f g. (ks, bs, f, g, refl)
+found_none node.Span place ps ys a b c d e = λ at n ns ks bs i f g. (ks, bs, f, g, refl)
+found_none node.One place ps ys a b c d e = λ at n ns ks bs i f g. (ks, bs, f, g, refl)
+found_none (node.Dom y) place ps ys a b c d e = absurd (e y refl)
+found_none node.Union place ps ys a b c d e = λ at n ns ks bs i f g. (ks, bs, f, g, refl)
+found_none node.Inter place ps ys a b c d e = λ at n ns ks bs i f g. (ks, bs, f, g, refl)
+found_none node.Outside place ps ys a b c d e = λ at n ns ks bs i f g. (ks, bs, f, g, refl)
+found_none node.Plus place ps ys a b c d e = λ at n ns ks bs i f g. (ks, bs, f, g, refl)
+found_none node.Minus place ps ys a b c d e = λ at n ns ks bs i f g. (ks, bs, f, g, refl)
+found_none node.Times place ps ys a b c d e = λ at n ns ks bs i f g. (ks, bs, f, g, refl)
+found_none node.Over place ps ys a b c d e = λ at n ns ks bs i f g. (ks, bs, f, g, refl)

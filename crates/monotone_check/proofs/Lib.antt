@@ -1,0 +1,14 @@
+pub mod Bounds
+pub mod Firsts
+pub mod Leaves
+pub mod Operators
+pub mod Ranges
+pub mod Reading
+pub mod Sizes
+pub mod Walks
+pub mod Clashes
+pub mod Whole
+pub mod Told
+pub mod AskReading
+pub mod Gathering
+pub mod Settling

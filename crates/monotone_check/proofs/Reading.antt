@@ -1,0 +1,310 @@
+-- Each node that is read leaves what is kept true of what waits.
+use Rattle.std.proofs.Common.{◌≡◌, ℕ, ℤ, suc, ◌+◌, ◌-◌, List, [], ◌∷◌, ◌++◌, Option, Some, None, refl, sym, ◌∙◌, ap, subst, arith, ◌⊎◌, inl, inr}
+use Rattle.std.specs.Prelude.{Result, IfOk}
+use Rattle.std.proofs.lemmas.Result.{IfOk-weaker}
+use Rattle.fd_model.specs.declared.TheConstants.{INFINITY}
+use Rattle.fd_model.specs.declared.range_node.RangeNode.{RangeNode}
+use Rattle.fd_model.specs.declared.range_node.RangeNode.TheVariants as node
+use Rattle.fd_model.specs.Range.{Range, Span, One, Dom, Union, Inter, Outside, Plus, Minus, Times, Over, Expr, Number, Infinity, Param, Min, Max, Val, Add, Sub, Mul, DivDown, DivUp}
+use Rattle.fd_model.specs.Flat.{built}
+use Rattle.fd_model.specs.RangeVerdict.{expr_size, range_size}
+use Rattle.monotone_check.specs.declared.summary.TermCheck.{TermCheck}
+use Rattle.monotone_check.specs.declared.summary.RangeCheck.{RangeCheck}
+use Rattle.monotone_check.specs.declared.pending.Pending.{Pending}
+use Rattle.monotone_check.specs.Summary.{IsTerm, IsRange}
+use Rattle.monotone_check.specs.Waiting.{AreTerms, AreRanges, before_terms, IsPending, Follows}
+use Rattle.monotone_check.specs.Steps.{PushesLeaf, PushesOperated, PushesSpan, PushesSingle, PushesDomain, PushesCombined, PushesComplement, PushesPointwise}
+use Rattle.monotone_check.proofs.Operators.{add_is, sub_is, mul_is, div_down_is, div_up_is}
+use Rattle.monotone_check.proofs.Ranges.{span_is, one_is, dom_is, union_is, inter_is, outside_is, plus_is, minus_is, times_is, over_is}
+
+pub follows : (M : ℕ) (at : ℕ → ℕ) (n : ℕ) (ns : List RangeNode) (rs : List Range) (ts : List Expr) (o : Option Range) (p : Pending) → o ≡ built ns rs ts → IsPending M at (suc n) rs ts p → Follows M at n ns o p
+follows M at n ns rs ts None p e i = tt
+follows M at n ns rs ts (Some r) p e i = (rs, ts, e, i)
+
+swapped : (n k : ℕ) → (n - k) - 1 ≡ (n - 1) - k
+swapped n k = omega arith
+
+one_less : (n : ℕ) → n ≡ suc n - 1
+one_less n = omega arith
+
+two_less : (n a b : ℕ) → (n - b) - a ≡ suc n - suc (a + b)
+two_less n a b = omega arith
+
+less : (n a : ℕ) → n - a ≡ suc n - suc a
+less n a = omega arith
+
+module _ (at : ℕ → ℕ) (n : ℕ) (ns : List RangeNode) (old new : Pending) where
+  put_term : (rs : List Range) (ts : List Expr) (front : List TermCheck) (e : Expr) (s : TermCheck) (before : ℕ) → new.terms.items ≡ front ++ s ∷ [] → IsTerm INFINITY at n e s →
+      before ≡ suc n - expr_size e → AreTerms INFINITY at before ts front → AreRanges INFINITY at (before_terms before ts) rs new.ranges.items → IsPending INFINITY at (suc n) rs (e ∷ ts) new
+  put_term rs ts front e s before i t l a r = record {
+    terms = (front, s, i, subst (λ k. IsTerm INFINITY at k e s) (one_less n) t, subst (λ k. AreTerms INFINITY at k ts front) l a);
+    ranges = subst (λ k. AreRanges INFINITY at (before_terms k ts) rs new.ranges.items) l r;
+  }
+
+  put_range : (rs : List Range) (front : List RangeCheck) (r : Range) (s : RangeCheck) (before : ℕ) → new.terms.items ≡ [] → new.ranges.items ≡ front ++ s ∷ [] → IsRange INFINITY at n r s →
+      before ≡ suc n - range_size r → AreRanges INFINITY at before rs front → IsPending INFINITY at (suc n) (r ∷ rs) [] new
+  put_range rs front r s before e i t l a = record {
+    terms = e;
+    ranges = (front, s, i, subst (λ k. IsRange INFINITY at k r s) (one_less n) t, subst (λ k. AreRanges INFINITY at k rs front) l a);
+  }
+
+  leaf_at : (rs : List Range) (ts : List Expr) (e : Expr) (s : TermCheck) → expr_size e ≡ 1 → IsPending INFINITY at n rs ts old → new.terms.items ≡ old.terms.items ++ s ∷ [] → new.ranges.items ≡ old.ranges.items → IsTerm INFINITY at n e s → IsPending INFINITY at (suc n) rs (e ∷ ts) new
+  leaf_at rs ts e s k p i j t = put_term rs ts old.terms.items e s n i t (here (expr_size e) k) p.terms (subst (λ l. AreRanges INFINITY at (before_terms n ts) rs l) (sym j) p.ranges) where
+    here : (m : ℕ) → m ≡ 1 → n ≡ suc n - m
+    here m h = omega arith
+
+  pub read_int : (z : ℤ) (rs : List Range) (ts : List Expr) → IsPending INFINITY at n rs ts old → PushesLeaf (node.Int z) (at n) old new → Follows INFINITY at n ns (built (node.Int z ∷ ns) rs ts) new
+  read_int z rs ts p (s, i, j, t) = follows INFINITY at n ns rs (Number z ∷ ts) (built ns rs (Number z ∷ ts)) new refl (leaf_at rs ts (Number z) s refl p i j (t.leaf at n refl))
+
+  pub read_infinity : (rs : List Range) (ts : List Expr) → IsPending INFINITY at n rs ts old → PushesLeaf node.Infinity (at n) old new → Follows INFINITY at n ns (built (node.Infinity ∷ ns) rs ts) new
+  read_infinity rs ts p (s, i, j, t) = follows INFINITY at n ns rs (Infinity ∷ ts) (built ns rs (Infinity ∷ ts)) new refl (leaf_at rs ts Infinity s refl p i j (t.leaf at n refl))
+
+  pub read_param : (x : ℕ) (rs : List Range) (ts : List Expr) → IsPending INFINITY at n rs ts old → PushesLeaf (node.Param x) (at n) old new → Follows INFINITY at n ns (built (node.Param x ∷ ns) rs ts) new
+  read_param x rs ts p (s, i, j, t) = follows INFINITY at n ns rs (Param x ∷ ts) (built ns rs (Param x ∷ ts)) new refl (leaf_at rs ts (Param x) s refl p i j (t.leaf at n refl))
+
+  pub read_min : (y : ℕ) (rs : List Range) (ts : List Expr) → IsPending INFINITY at n rs ts old → PushesLeaf (node.Min y) (at n) old new → Follows INFINITY at n ns (built (node.Min y ∷ ns) rs ts) new
+  read_min y rs ts p (s, i, j, t) = follows INFINITY at n ns rs (Min y ∷ ts) (built ns rs (Min y ∷ ts)) new refl (leaf_at rs ts (Min y) s refl p i j (t.leaf at n refl))
+
+  pub read_max : (y : ℕ) (rs : List Range) (ts : List Expr) → IsPending INFINITY at n rs ts old → PushesLeaf (node.Max y) (at n) old new → Follows INFINITY at n ns (built (node.Max y ∷ ns) rs ts) new
+  read_max y rs ts p (s, i, j, t) = follows INFINITY at n ns rs (Max y ∷ ts) (built ns rs (Max y ∷ ts)) new refl (leaf_at rs ts (Max y) s refl p i j (t.leaf at n refl))
+
+  pub read_val : (y : ℕ) (rs : List Range) (ts : List Expr) → IsPending INFINITY at n rs ts old → PushesLeaf (node.Val y) (at n) old new → Follows INFINITY at n ns (built (node.Val y ∷ ns) rs ts) new
+  read_val y rs ts p (s, i, j, t) = follows INFINITY at n ns rs (Val y ∷ ts) (built ns rs (Val y ∷ ts)) new refl (leaf_at rs ts (Val y) s refl p i j (t.leaf at n refl))
+
+  pub read_add : (rs : List Range) (ts : List Expr) → IsPending INFINITY at n rs ts old → PushesOperated node.Add (at n) old new → Follows INFINITY at n ns (built (node.Add ∷ ns) rs ts) new
+  read_add rs [] p f = tt
+  read_add rs (b ∷ []) p f = tt
+  read_add rs (b ∷ a ∷ ts) p f =
+      let (front, t, e, j, more) = p.terms in
+      let (front2, s, g, i, rest) = more in
+      let r = p.ranges in
+      let made = f front2 s t (e ∙ ap (λ l. l ++ t ∷ []) g) in
+      follows INFINITY at n ns rs (Add a b ∷ ts) (built ns rs (Add a b ∷ ts)) new refl
+      (put_term rs ts front2 (Add a b) made.0 ((n - expr_size b) - expr_size a) made.1
+      (add_is INFINITY at n a b s t made.0 (subst (λ k. IsTerm INFINITY at k a s) (swapped n (expr_size b)) i) j made.3)
+      (two_less n (expr_size a) (expr_size b)) rest (subst (λ l. AreRanges INFINITY at (before_terms n (b ∷ a ∷ ts)) rs l) (sym made.2) r))
+
+  pub read_sub : (rs : List Range) (ts : List Expr) → IsPending INFINITY at n rs ts old → PushesOperated node.Sub (at n) old new → Follows INFINITY at n ns (built (node.Sub ∷ ns) rs ts) new
+  read_sub rs [] p f = tt
+  read_sub rs (b ∷ []) p f = tt
+  read_sub rs (b ∷ a ∷ ts) p f =
+      let (front, t, e, j, more) = p.terms in
+      let (front2, s, g, i, rest) = more in
+      let r = p.ranges in
+      let made = f front2 s t (e ∙ ap (λ l. l ++ t ∷ []) g) in
+      follows INFINITY at n ns rs (Sub a b ∷ ts) (built ns rs (Sub a b ∷ ts)) new refl
+      (put_term rs ts front2 (Sub a b) made.0 ((n - expr_size b) - expr_size a) made.1
+      (sub_is INFINITY at n a b s t made.0 (subst (λ k. IsTerm INFINITY at k a s) (swapped n (expr_size b)) i) j made.3)
+      (two_less n (expr_size a) (expr_size b)) rest (subst (λ l. AreRanges INFINITY at (before_terms n (b ∷ a ∷ ts)) rs l) (sym made.2) r))
+
+  pub read_mul : (rs : List Range) (ts : List Expr) → IsPending INFINITY at n rs ts old → PushesOperated node.Mul (at n) old new → Follows INFINITY at n ns (built (node.Mul ∷ ns) rs ts) new
+  read_mul rs [] p f = tt
+  read_mul rs (b ∷ []) p f = tt
+  read_mul rs (b ∷ a ∷ ts) p f =
+      let (front, t, e, j, more) = p.terms in
+      let (front2, s, g, i, rest) = more in
+      let r = p.ranges in
+      let made = f front2 s t (e ∙ ap (λ l. l ++ t ∷ []) g) in
+      follows INFINITY at n ns rs (Mul a b ∷ ts) (built ns rs (Mul a b ∷ ts)) new refl
+      (put_term rs ts front2 (Mul a b) made.0 ((n - expr_size b) - expr_size a) made.1
+      (mul_is INFINITY at n a b s t made.0 (subst (λ k. IsTerm INFINITY at k a s) (swapped n (expr_size b)) i) j made.3)
+      (two_less n (expr_size a) (expr_size b)) rest (subst (λ l. AreRanges INFINITY at (before_terms n (b ∷ a ∷ ts)) rs l) (sym made.2) r))
+
+  pub read_div_down : (rs : List Range) (ts : List Expr) → IsPending INFINITY at n rs ts old → PushesOperated node.DivDown (at n) old new → Follows INFINITY at n ns (built (node.DivDown ∷ ns) rs ts) new
+  read_div_down rs [] p f = tt
+  read_div_down rs (b ∷ []) p f = tt
+  read_div_down rs (b ∷ a ∷ ts) p f =
+      let (front, t, e, j, more) = p.terms in
+      let (front2, s, g, i, rest) = more in
+      let r = p.ranges in
+      let made = f front2 s t (e ∙ ap (λ l. l ++ t ∷ []) g) in
+      follows INFINITY at n ns rs (DivDown a b ∷ ts) (built ns rs (DivDown a b ∷ ts)) new refl
+      (put_term rs ts front2 (DivDown a b) made.0 ((n - expr_size b) - expr_size a) made.1
+      (div_down_is INFINITY at n a b s t made.0 (subst (λ k. IsTerm INFINITY at k a s) (swapped n (expr_size b)) i) j made.3)
+      (two_less n (expr_size a) (expr_size b)) rest (subst (λ l. AreRanges INFINITY at (before_terms n (b ∷ a ∷ ts)) rs l) (sym made.2) r))
+
+  pub read_div_up : (rs : List Range) (ts : List Expr) → IsPending INFINITY at n rs ts old → PushesOperated node.DivUp (at n) old new → Follows INFINITY at n ns (built (node.DivUp ∷ ns) rs ts) new
+  read_div_up rs [] p f = tt
+  read_div_up rs (b ∷ []) p f = tt
+  read_div_up rs (b ∷ a ∷ ts) p f =
+      let (front, t, e, j, more) = p.terms in
+      let (front2, s, g, i, rest) = more in
+      let r = p.ranges in
+      let made = f front2 s t (e ∙ ap (λ l. l ++ t ∷ []) g) in
+      follows INFINITY at n ns rs (DivUp a b ∷ ts) (built ns rs (DivUp a b ∷ ts)) new refl
+      (put_term rs ts front2 (DivUp a b) made.0 ((n - expr_size b) - expr_size a) made.1
+      (div_up_is INFINITY at n a b s t made.0 (subst (λ k. IsTerm INFINITY at k a s) (swapped n (expr_size b)) i) j made.3)
+      (two_less n (expr_size a) (expr_size b)) rest (subst (λ l. AreRanges INFINITY at (before_terms n (b ∷ a ∷ ts)) rs l) (sym made.2) r))
+
+  pub read_span : (rs : List Range) (ts : List Expr) → IsPending INFINITY at n rs ts old → PushesSpan old new → Follows INFINITY at n ns (built (node.Span ∷ ns) rs ts) new
+  read_span rs [] p f = tt
+  read_span rs (b ∷ []) p f = tt
+  read_span rs (b ∷ a ∷ c ∷ ts) p f = tt
+  read_span rs (b ∷ a ∷ []) p f =
+      let (front, t, e, j, more) = p.terms in
+      let (front2, s, g, i, rest) = more in
+      let r = p.ranges in
+      let made = f front2 s t (e ∙ ap (λ l. l ++ t ∷ []) g) in
+      follows INFINITY at n ns (Span a b ∷ rs) [] (built ns (Span a b ∷ rs) []) new refl
+      (put_range rs old.ranges.items (Span a b) made.0 ((n - expr_size b) - expr_size a) (made.1 ∙ rest) made.2
+      (span_is INFINITY at n a b s t made.0 (subst (λ k. IsTerm INFINITY at k a s) (swapped n (expr_size b)) i) j made.3)
+      (two_less n (expr_size a) (expr_size b)) r)
+
+  pub read_one : (rs : List Range) (ts : List Expr) → IsPending INFINITY at n rs ts old → PushesSingle old new → Follows INFINITY at n ns (built (node.One ∷ ns) rs ts) new
+  read_one rs [] p f = tt
+  read_one rs (b ∷ a ∷ ts) p f = tt
+  read_one rs (a ∷ []) p f =
+      let (front, s, e, i, rest) = p.terms in
+      let r = p.ranges in
+      let made = f front s e in
+      follows INFINITY at n ns (One a ∷ rs) [] (built ns (One a ∷ rs) []) new refl
+      (put_range rs old.ranges.items (One a) made.0 (n - expr_size a) (made.1 ∙ rest) made.2 (one_is INFINITY at n a s made.0 i made.3) (less n (expr_size a)) r)
+
+  pub read_dom : (y : ℕ) (rs : List Range) (ts : List Expr) → IsPending INFINITY at n rs ts old → PushesDomain (at n) old new → Follows INFINITY at n ns (built (node.Dom y ∷ ns) rs ts) new
+  read_dom y rs (a ∷ ts) p f = tt
+  read_dom y rs [] p f =
+      follows INFINITY at n ns (Dom y ∷ rs) [] (built ns (Dom y ∷ rs) []) new refl
+      (put_range rs old.ranges.items (Dom y) f.0 n (f.1 ∙ p.terms) f.2 (dom_is INFINITY at n y f.0 f.3) (same n) p.ranges)
+    where
+      same : (m : ℕ) → m ≡ suc m - 1
+      same m = omega arith
+
+  pub read_union : (rs : List Range) (ts : List Expr) → IsPending INFINITY at n rs ts old → PushesCombined old new → Follows INFINITY at n ns (built (node.Union ∷ ns) rs ts) new
+  read_union [] [] p f = tt
+  read_union (q ∷ []) [] p f = tt
+  read_union [] (a ∷ ts) p f = tt
+  read_union (q ∷ []) (a ∷ ts) p f = tt
+  read_union (q ∷ r ∷ rs) (a ∷ ts) p f = tt
+  read_union (q ∷ r ∷ rs) [] p f =
+      let none = p.terms in
+      let (front, t, e, j, more) = p.ranges in
+      let (front2, s, g, i, rest) = more in
+      let made = f front2 s t (e ∙ ap (λ l. l ++ t ∷ []) g) in
+      follows INFINITY at n ns (Union r q ∷ rs) [] (built ns (Union r q ∷ rs) []) new refl
+      (put_range rs front2 (Union r q) made.0 ((n - range_size q) - range_size r) (made.1 ∙ none) made.2
+      (union_is INFINITY at n r q s t made.0 (subst (λ k. IsRange INFINITY at k r s) (swapped n (range_size q)) i) j made.3)
+      (two_less n (range_size r) (range_size q)) rest)
+
+  pub read_inter : (rs : List Range) (ts : List Expr) → IsPending INFINITY at n rs ts old → PushesCombined old new → Follows INFINITY at n ns (built (node.Inter ∷ ns) rs ts) new
+  read_inter [] [] p f = tt
+  read_inter (q ∷ []) [] p f = tt
+  read_inter [] (a ∷ ts) p f = tt
+  read_inter (q ∷ []) (a ∷ ts) p f = tt
+  read_inter (q ∷ r ∷ rs) (a ∷ ts) p f = tt
+  read_inter (q ∷ r ∷ rs) [] p f =
+      let none = p.terms in
+      let (front, t, e, j, more) = p.ranges in
+      let (front2, s, g, i, rest) = more in
+      let made = f front2 s t (e ∙ ap (λ l. l ++ t ∷ []) g) in
+      follows INFINITY at n ns (Inter r q ∷ rs) [] (built ns (Inter r q ∷ rs) []) new refl
+      (put_range rs front2 (Inter r q) made.0 ((n - range_size q) - range_size r) (made.1 ∙ none) made.2
+      (inter_is INFINITY at n r q s t made.0 (subst (λ k. IsRange INFINITY at k r s) (swapped n (range_size q)) i) j made.3)
+      (two_less n (range_size r) (range_size q)) rest)
+
+  pub read_outside : (rs : List Range) (ts : List Expr) → IsPending INFINITY at n rs ts old → PushesComplement old new → Follows INFINITY at n ns (built (node.Outside ∷ ns) rs ts) new
+  read_outside [] [] p f = tt
+  read_outside [] (a ∷ ts) p f = tt
+  read_outside (r ∷ rs) (a ∷ ts) p f = tt
+  read_outside (r ∷ rs) [] p f =
+      let none = p.terms in
+      let (front, s, e, i, rest) = p.ranges in
+      let made = f front s e in
+      follows INFINITY at n ns (Outside r ∷ rs) [] (built ns (Outside r ∷ rs) []) new refl
+      (put_range rs front (Outside r) made.0 (n - range_size r) (made.1 ∙ none) made.2 (outside_is INFINITY at n r s made.0 i made.3) (less n (range_size r)) rest)
+
+  pub read_plus : (rs : List Range) (ts : List Expr) → IsPending INFINITY at n rs ts old → PushesPointwise node.Plus (at n) old new → Follows INFINITY at n ns (built (node.Plus ∷ ns) rs ts) new
+  read_plus [] [] p f = tt
+  read_plus [] (a ∷ []) p f = tt
+  read_plus [] (b ∷ a ∷ ts) p f = tt
+  read_plus (r ∷ rs) [] p f = tt
+  read_plus (r ∷ rs) (b ∷ a ∷ ts) p f = tt
+  read_plus (r ∷ rs) (c ∷ []) p f =
+      let (before, t, e, j, none) = p.terms in
+      let (front, s, g, i, rest) = p.ranges in
+      let made = f before front s t e g in
+      follows INFINITY at n ns (Plus r c ∷ rs) [] (built ns (Plus r c ∷ rs) []) new refl
+      (put_range rs front (Plus r c) made.0 ((n - expr_size c) - range_size r) (made.1 ∙ none) made.2
+      (plus_is INFINITY at n r c s t made.0 (subst (λ k. IsRange INFINITY at k r s) (swapped n (expr_size c)) i) j made.3)
+      (two_less n (range_size r) (expr_size c)) rest)
+
+  pub read_minus : (rs : List Range) (ts : List Expr) → IsPending INFINITY at n rs ts old → PushesPointwise node.Minus (at n) old new → Follows INFINITY at n ns (built (node.Minus ∷ ns) rs ts) new
+  read_minus [] [] p f = tt
+  read_minus [] (a ∷ []) p f = tt
+  read_minus [] (b ∷ a ∷ ts) p f = tt
+  read_minus (r ∷ rs) [] p f = tt
+  read_minus (r ∷ rs) (b ∷ a ∷ ts) p f = tt
+  read_minus (r ∷ rs) (c ∷ []) p f =
+      let (before, t, e, j, none) = p.terms in
+      let (front, s, g, i, rest) = p.ranges in
+      let made = f before front s t e g in
+      follows INFINITY at n ns (Minus r c ∷ rs) [] (built ns (Minus r c ∷ rs) []) new refl
+      (put_range rs front (Minus r c) made.0 ((n - expr_size c) - range_size r) (made.1 ∙ none) made.2
+      (minus_is INFINITY at n r c s t made.0 (subst (λ k. IsRange INFINITY at k r s) (swapped n (expr_size c)) i) j made.3)
+      (two_less n (range_size r) (expr_size c)) rest)
+
+  pub read_times : (rs : List Range) (ts : List Expr) → IsPending INFINITY at n rs ts old → PushesPointwise node.Times (at n) old new → Follows INFINITY at n ns (built (node.Times ∷ ns) rs ts) new
+  read_times [] [] p f = tt
+  read_times [] (a ∷ []) p f = tt
+  read_times [] (b ∷ a ∷ ts) p f = tt
+  read_times (r ∷ rs) [] p f = tt
+  read_times (r ∷ rs) (b ∷ a ∷ ts) p f = tt
+  read_times (r ∷ rs) (c ∷ []) p f =
+      let (before, t, e, j, none) = p.terms in
+      let (front, s, g, i, rest) = p.ranges in
+      let made = f before front s t e g in
+      follows INFINITY at n ns (Times r c ∷ rs) [] (built ns (Times r c ∷ rs) []) new refl
+      (put_range rs front (Times r c) made.0 ((n - expr_size c) - range_size r) (made.1 ∙ none) made.2
+      (times_is INFINITY at n r c s t made.0 (subst (λ k. IsRange INFINITY at k r s) (swapped n (expr_size c)) i) j made.3)
+      (two_less n (range_size r) (expr_size c)) rest)
+
+  pub read_over : (rs : List Range) (ts : List Expr) → IsPending INFINITY at n rs ts old → PushesPointwise node.Over (at n) old new → Follows INFINITY at n ns (built (node.Over ∷ ns) rs ts) new
+  read_over [] [] p f = tt
+  read_over [] (a ∷ []) p f = tt
+  read_over [] (b ∷ a ∷ ts) p f = tt
+  read_over (r ∷ rs) [] p f = tt
+  read_over (r ∷ rs) (b ∷ a ∷ ts) p f = tt
+  read_over (r ∷ rs) (c ∷ []) p f =
+      let (before, t, e, j, none) = p.terms in
+      let (front, s, g, i, rest) = p.ranges in
+      let made = f before front s t e g in
+      follows INFINITY at n ns (Over r c ∷ rs) [] (built ns (Over r c ∷ rs) []) new refl
+      (put_range rs front (Over r c) made.0 ((n - expr_size c) - range_size r) (made.1 ∙ none) made.2
+      (over_is INFINITY at n r c s t made.0 (subst (λ k. IsRange INFINITY at k r s) (swapped n (expr_size c)) i) j made.3)
+      (two_less n (range_size r) (expr_size c)) rest)
+
+-- the same for each kind of node that the code tells apart
+abbrev pub Taken : RangeNode → ℕ → Pending → Pending → Type 0
+Taken m place old new = (at : ℕ → ℕ) (n : ℕ) (ns : List RangeNode) (rs : List Range) (ts : List Expr) → at n ≡ place → IsPending INFINITY at n rs ts old → Follows INFINITY at n ns (built (m ∷ ns) rs ts) new
+
+placed : (m : RangeNode) (place : ℕ) (old new : Pending) (P : RangeNode → ℕ → Pending → Pending → Type 0) →
+    ((at : ℕ → ℕ) (n : ℕ) (ns : List RangeNode) (rs : List Range) (ts : List Expr) → IsPending INFINITY at n rs ts old → P m (at n) old new → Follows INFINITY at n ns (built (m ∷ ns) rs ts) new) →
+    (k : RangeNode) → k ≡ m → P k place old new → Taken k place old new
+placed m place old new P f k e h = λ at n ns rs ts i p.
+    subst (λ j. Follows INFINITY at n ns (built (j ∷ ns) rs ts) new) (sym e) (f at n ns rs ts p (subst (λ q. P m q old new) (sym i) (subst (λ j. P j place old new) e h)))
+
+pub leaf_taken : (m : RangeNode) (place : ℕ) (old new : Pending) → (((z : ℤ) × (m ≡ node.Int z)) ⊎ ((m ≡ node.Infinity) ⊎ (((x : ℕ) × (m ≡ node.Param x)) ⊎ (((y : ℕ) × (m ≡ node.Min y)) ⊎ (((y : ℕ) × (m ≡ node.Max y)) ⊎ ((y : ℕ) × (m ≡ node.Val y))))))) → PushesLeaf m place old new → Taken m place old new
+leaf_taken m place old new is f = elim is [ inl e0 ↦ placed (node.Int e0.0) place old new PushesLeaf (λ at n ns rs ts. read_int at n ns old new e0.0 rs ts) m e0.1 f | inr h0 ↦ elim h0 [ inl e1 ↦ placed node.Infinity place old new PushesLeaf (λ at n ns rs ts. read_infinity at n ns old new rs ts) m e1 f | inr h1 ↦ elim h1 [ inl e2 ↦ placed (node.Param e2.0) place old new PushesLeaf (λ at n ns rs ts. read_param at n ns old new e2.0 rs ts) m e2.1 f | inr h2 ↦ elim h2 [ inl e3 ↦ placed (node.Min e3.0) place old new PushesLeaf (λ at n ns rs ts. read_min at n ns old new e3.0 rs ts) m e3.1 f | inr h3 ↦ elim h3 [ inl e4 ↦ placed (node.Max e4.0) place old new PushesLeaf (λ at n ns rs ts. read_max at n ns old new e4.0 rs ts) m e4.1 f | inr h4 ↦ placed (node.Val h4.0) place old new PushesLeaf (λ at n ns rs ts. read_val at n ns old new h4.0 rs ts) m h4.1 f ] ] ] ] ]
+
+pub operator_taken : (m : RangeNode) (place : ℕ) (old new : Pending) → ((m ≡ node.Add) ⊎ ((m ≡ node.Sub) ⊎ ((m ≡ node.Mul) ⊎ ((m ≡ node.DivDown) ⊎ (m ≡ node.DivUp))))) → PushesOperated m place old new → Taken m place old new
+operator_taken m place old new is f = elim is [ inl e0 ↦ placed node.Add place old new PushesOperated (λ at n ns rs ts. read_add at n ns old new rs ts) m e0 f | inr h0 ↦ elim h0 [ inl e1 ↦ placed node.Sub place old new PushesOperated (λ at n ns rs ts. read_sub at n ns old new rs ts) m e1 f | inr h1 ↦ elim h1 [ inl e2 ↦ placed node.Mul place old new PushesOperated (λ at n ns rs ts. read_mul at n ns old new rs ts) m e2 f | inr h2 ↦ elim h2 [ inl e3 ↦ placed node.DivDown place old new PushesOperated (λ at n ns rs ts. read_div_down at n ns old new rs ts) m e3 f | inr h3 ↦ placed node.DivUp place old new PushesOperated (λ at n ns rs ts. read_div_up at n ns old new rs ts) m h3 f ] ] ] ]
+
+pub span_taken : (m : RangeNode) (place : ℕ) (old new : Pending) → m ≡ node.Span → PushesSpan old new → Taken m place old new
+span_taken m place old new is f = placed node.Span place old new (λ _ _ o k. PushesSpan o k) (λ at n ns rs ts. read_span at n ns old new rs ts) m is f
+
+pub one_taken : (m : RangeNode) (place : ℕ) (old new : Pending) → m ≡ node.One → PushesSingle old new → Taken m place old new
+one_taken m place old new is f = placed node.One place old new (λ _ _ o k. PushesSingle o k) (λ at n ns rs ts. read_one at n ns old new rs ts) m is f
+
+pub dom_taken : (m : RangeNode) (place y : ℕ) (old new : Pending) → m ≡ node.Dom y → PushesDomain place old new → Taken m place old new
+dom_taken m place y old new is f = placed (node.Dom y) place old new (λ _ p o k. PushesDomain p o k) (λ at n ns rs ts. read_dom at n ns old new y rs ts) m is f
+
+pub outside_taken : (m : RangeNode) (place : ℕ) (old new : Pending) → m ≡ node.Outside → PushesComplement old new → Taken m place old new
+outside_taken m place old new is f = placed node.Outside place old new (λ _ _ o k. PushesComplement o k) (λ at n ns rs ts. read_outside at n ns old new rs ts) m is f
+
+pub combined_taken : (m : RangeNode) (place : ℕ) (old new : Pending) → ((m ≡ node.Union) ⊎ (m ≡ node.Inter)) → PushesCombined old new → Taken m place old new
+combined_taken m place old new is f = elim is [ inl e0 ↦ placed node.Union place old new (λ _ _ o k. PushesCombined o k) (λ at n ns rs ts. read_union at n ns old new rs ts) m e0 f | inr h0 ↦ placed node.Inter place old new (λ _ _ o k. PushesCombined o k) (λ at n ns rs ts. read_inter at n ns old new rs ts) m h0 f ]
+
+pub pointwise_taken : (m : RangeNode) (place : ℕ) (old new : Pending) → ((m ≡ node.Plus) ⊎ ((m ≡ node.Minus) ⊎ ((m ≡ node.Times) ⊎ (m ≡ node.Over)))) → PushesPointwise m place old new → Taken m place old new
+pointwise_taken m place old new is f = elim is [ inl e0 ↦ placed node.Plus place old new PushesPointwise (λ at n ns rs ts. read_plus at n ns old new rs ts) m e0 f | inr h0 ↦ elim h0 [ inl e1 ↦ placed node.Minus place old new PushesPointwise (λ at n ns rs ts. read_minus at n ns old new rs ts) m e1 f | inr h1 ↦ elim h1 [ inl e2 ↦ placed node.Times place old new PushesPointwise (λ at n ns rs ts. read_times at n ns old new rs ts) m e2 f | inr h2 ↦ placed node.Over place old new PushesPointwise (λ at n ns rs ts. read_over at n ns old new rs ts) m h2 f ] ] ]
+
+pub ok_taken : {X Y : Type 0} (r : Result X Y) (m : RangeNode) (place : ℕ) (old new : Pending) (P : Type 0) → (P → Taken m place old new) → IfOk r (λ _. P) → IfOk r (λ _. Taken m place old new)
+ok_taken r m place old new P f h = IfOk-weaker r (λ _. P) (λ _. Taken m place old new) (λ _ p. f p) h

@@ -1,0 +1,8 @@
+use Rattle.monotone_check.proofs.AskReading.{asks_start, asks_step}
+use Rattle.monotone_check.proofs.asks.read_asks.Goals as goal
+
+pub loop-node-init : goal.loop-node-init
+loop-node-init c = asks_start c.args.nodes.now c.new-reading.result c.requires c.new-reading.ensures.terms c.new-reading.ensures.places
+
+pub loop-node-preserved : goal.loop-node-preserved
+loop-node-preserved c = asks_step c.loop-node.node-index c.args.nodes.now _ c.loop-node.reading _ c.loop-node-test.true c.loop-node.invariant c.in_ok-take.ensures

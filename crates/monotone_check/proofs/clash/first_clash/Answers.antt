@@ -1,0 +1,9 @@
+use Rattle.std.proofs.Common.{get_or, refl}
+use Rattle.monotone_check.proofs.Clashes.{loop_step}
+use Rattle.monotone_check.proofs.clash.first_clash.Goals as goal
+
+pub loop-number-preserved : goal.loop-number-preserved
+loop-number-preserved c =
+    loop_step (λ n. get_or c.args.places.now n 0) c.loop-number.number c.args.nodes.now _ _ c.loop-number.clash c.in_ok-meet_node.field-0 c.earlier-clash.result _
+    c.loop-number.uses.parameters.keys c.loop-number.uses.named.keys c.meet_node.new.self.parameters.keys c.meet_node.new.self.named.keys
+    c.loop-number-test.true refl c.loop-number.invariant c.in_ok-meet_node.ensures c.earlier-clash.ensures

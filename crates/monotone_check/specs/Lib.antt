@@ -1,0 +1,10 @@
+pub mod Wishes
+pub mod Summary
+pub mod Waiting
+pub mod Steps
+pub mod Seen
+pub mod Walked
+pub mod Faults
+pub mod Asked
+pub mod Opened
+pub mod Gathered
