@@ -1,0 +1,48 @@
+//! What cuts the writing of an output short.
+ghost use Rattle.clpfd.specs.declared.fault.Fault.TheVariants.{WriteFault, NoMemory};
+ghost use Rattle.std.specs.Prelude.{◌≡◌};
+ghost use Rattle.clpfd.specs.Headline.{fault_status};
+
+use byte_ports::WriteFault;
+use fd_model::{NoMemory, Status};
+use std::alloc::{AllocError, AllocFailed};
+use thiserror::Error;
+
+/// Why an output was not written whole.
+#[derive(Clone, Copy, Debug, Drop, Error)]
+pub enum Fault {
+    /// A write failed, and the sink counted it.
+    #[error("a write failed")]
+    WriteFault,
+    /// Memory was wanting.
+    #[error("out of memory")]
+    NoMemory,
+}
+
+impl Fault {
+    /// The status of a run that was cut short.
+    pub fn status(self) -> Status
+        ensures { result ≡ fault_status self }
+    {
+        match self {
+            Fault::WriteFault => Status::WriteFault,
+            Fault::NoMemory => Status::NoMemory,
+        }
+    }
+}
+
+impl From<WriteFault> for Fault {
+    ghost from_gives = { λ _ fault. fault ≡ WriteFault };
+
+    fn from(_fault: WriteFault) -> Fault {
+        Fault::WriteFault
+    }
+}
+
+impl From<NoMemory> for Fault {
+    ghost from_gives = { λ _ fault. fault ≡ NoMemory };
+
+    fn from(_fault: NoMemory) -> Fault {
+        Fault::NoMemory
+    }
+}
