@@ -24,6 +24,7 @@ pub mod Texts
 pub mod QuotedAtoms
 pub mod TokenSlices
 pub mod ReadingLaws
+pub mod SentenceVariables
 pub mod Waits
 pub mod Agrees
 pub mod Uses

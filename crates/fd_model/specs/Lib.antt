@@ -23,7 +23,9 @@ pub mod Lines
 pub mod Sound
 pub mod Run
 pub mod Check
-pub mod Form
+pub mod Forms
+pub mod Refusals
+pub mod Queries
 pub mod Verdict
 pub mod RangeVerdict
 pub mod Flat
@@ -31,6 +33,7 @@ pub mod Counts
 pub mod Met
 pub mod CheckLaws
 pub mod Spelling
+pub mod Features
 pub mod Output
 pub mod Characters
 pub mod Tokens
