@@ -2,3 +2,4 @@ pub mod Contents
 pub mod Terms
 pub mod Valid
 pub mod Stored
+pub mod PlacedTerms
