@@ -19,10 +19,10 @@ leb_of a b h = grind (arith, nat_tests)
 of_leb : (a b : ℕ) → leb a b ≡ true → a ≤ b
 of_leb a b h = grind (arith, nat_tests)
 
-less_or : (n m : ℕ) → (n < m) ⊎ (m ≤ n)
+pub less_or : (n m : ℕ) → (n < m) ⊎ (m ≤ n)
 less_or n m = grind arith
 
-suc_times : (n b : ℕ) → suc n * b ≡ n * b + b
+pub suc_times : (n b : ℕ) → suc n * b ≡ n * b + b
 suc_times n b = omega arith
 
 -- a quotient rounded up, and one rounded down

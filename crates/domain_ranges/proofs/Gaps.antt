@@ -6,7 +6,8 @@ use Rattle.fd_model.specs.Family.{universe}
 use Rattle.domain_ranges.specs.Spans.{Span, within, IsSpans, members, interval_count, gap}
 use Rattle.domain_ranges.proofs.Spans.{not_within, in_head, past_first}
 use Rattle.domain_ranges.proofs.Made.{Made, IsNext, made_none, made_skip, made_push, made_all, made_many}
-use Rattle.domain_ranges.proofs.Meeting.{drop_next}
+use Rattle.domain_ranges.proofs.Meeting.{drop_next, below_first}
+use Rattle.domain_ranges.proofs.Places.{ltb_less, ltb_not}
 
 -- out is made below next, and from there on the intervals to come tell
 pub record Gapped (M : ℕ) (ss out : List Span) (next : ℕ) (rest : List Span) : Type 0 where
@@ -18,9 +19,6 @@ pub record Gapped (M : ℕ) (ss out : List Span) (next : ℕ) (rest : List Span)
 
 pub gapped_start : (M : ℕ) (ss : List Span) → IsSpans 0 M ss → Gapped M ss [] 0 ss
 gapped_start M ss r = record { made = made_none M (λ n. not (within ss n)); low = 0; spans = r; start = omega arith; same = λ n h g. refl }
-
-below_first : (M low n : ℕ) (x : Span) (xs : List Span) → IsSpans low M (x ∷ xs) → n < x.0 → within (x ∷ xs) n ≡ false
-below_first M low n x xs r h = not_within x.0 M n (x ∷ xs) (within (x ∷ xs) n) (omega arith, r.1, r.2, r.3) h refl
 
 next_gap : (M : ℕ) (ss out : List Span) (next : ℕ) (x : Span) (xs : List Span) → Gapped M ss out next (x ∷ xs) → next < x.0 → IsNext M (λ n. not (within ss n)) next (next, x.0 - 1)
 next_gap M ss out next x xs g h =
@@ -38,24 +36,18 @@ next_gap M ss out next x xs g h =
 in_first : (M : ℕ) (ss out : List Span) (next : ℕ) (x : Span) (xs : List Span) → Gapped M ss out next (x ∷ xs) → (n : ℕ) → n ≤ M → next ≤ n → x.0 ≤ n → n ≤ x.1 → not (within ss n) ≡ false
 in_first M ss out next x xs g n h k a b = ap not (g.same n h k ∙ in_head x xs n a b)
 
-is_less : (a b : ℕ) → ltb a b ≡ true → a < b
-is_less a b h = grind (arith, nat_tests)
-
-not_less : (a b : ℕ) → ltb a b ≡ false → b ≤ a
-not_less a b h = grind (arith, nat_tests)
-
 made_gap : (M : ℕ) (ss out : List Span) (next : ℕ) (x : Span) (xs : List Span) → Gapped M ss out next (x ∷ xs) → Made M (λ n. not (within ss n)) (out ++ gap next x.0) (x.1 + 1)
 made_gap M ss out next x xs g =
     let r = g.spans in
     let start : next ≤ x.0 = omega (arith, g.start, r.0) in
     elim (cases_Bool (ltb next x.0)) [
       | inl t ↦
-          let h : next < x.0 = is_less next x.0 t in
+          let h : next < x.0 = ltb_less next x.0 t in
           let e : x.0 - 1 + 2 ≡ x.0 + 1 = omega arith in
           rw t (made_skip M (λ n. not (within ss n)) (out ++ (next, x.0 - 1) ∷ []) (x.0 + 1) (x.1 + 1) (subst (Made M (λ n. not (within ss n)) (out ++ (next, x.0 - 1) ∷ [])) e (made_push M (λ n. not (within ss n)) out next (next, x.0 - 1) g.made (next_gap M ss out next x xs g h))) (omega (arith, r.1))
           (λ n l k j. in_first M ss out next x xs g n l (omega arith) (omega arith) (omega arith)))
       | inr t ↦
-          let h : x.0 ≤ next = not_less next x.0 t in
+          let h : x.0 ≤ next = ltb_not next x.0 t in
           rw t (rw append-nil (made_skip M (λ n. not (within ss n)) out next (x.1 + 1) g.made (omega (arith, r.1)) (λ n l k j. in_first M ss out next x xs g n l k (omega arith) (omega arith))))
     ]
 
@@ -89,11 +81,11 @@ last_gap M ss out next g h = record {
 pub gapped_done : (M : ℕ) (ss out : List Span) (next : ℕ) → Gapped M ss out next [] → (end : ℕ) × (M < end) × Made M (λ n. not (within ss n)) (out ++ gap next (M + 1)) end
 gapped_done M ss out next g = elim (cases_Bool (ltb next (M + 1))) [
   | inl t ↦
-      let h : next < M + 1 = is_less next (M + 1) t in
+      let h : next < M + 1 = ltb_less next (M + 1) t in
       let e : M + 1 - 1 ≡ M = omega arith in
       rw (t, e) (M + 2, omega arith, made_push M (λ n. not (within ss n)) out next (next, M) g.made (last_gap M ss out next g (omega arith)))
   | inr t ↦
-      let h : M + 1 ≤ next = not_less next (M + 1) t in
+      let h : M + 1 ≤ next = ltb_not next (M + 1) t in
       rw t (rw append-nil (next, omega arith, g.made))
 ]
 

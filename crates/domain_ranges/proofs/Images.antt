@@ -14,8 +14,8 @@ use Rattle.domain_ranges.specs.Spans.{Span, within, IsSpans, members, shifted, s
 use Rattle.domain_ranges.specs.Sets.{is_shifted, is_scaled, is_quotient}
 use Rattle.domain_ranges.proofs.Spans.{within_high, in_head, in_later, head_or_later}
 use Rattle.domain_ranges.proofs.Members.{has_within, members_is, members_none, least_once}
-use Rattle.domain_ranges.proofs.Dividing.{same_bool}
-use Rattle.domain_ranges.proofs.Shifting.{comes, comes_parts}
+use Rattle.domain_ranges.proofs.Dividing.{same_bool, suc_times}
+use Rattle.domain_ranges.proofs.Shifting.{comes, comes_parts, not_true}
 use Rattle.domain_ranges.proofs.Scaling.{scaled_from, scaled_at}
 
 -- a set by its test
@@ -98,10 +98,6 @@ shift_is M ss ns c n r e = same_bool (shifted ss c n) (is_shifted M ns c n)
     (λ t. let f = shifted_from ss c n t in some_has M (λ k. has ns k && int_eq (pos k +ℤ c) (pos n)) f.0 (within_high 0 M ss f.0 r f.1) (and_from (has ns f.0) (int_eq (pos f.0 +ℤ c) (pos n)) (sym (has_within M ss ns f.0 r e) ∙ f.1) (int_same (pos f.0 +ℤ c) (pos n) f.2)))
     (λ t. let f = some_from M (λ k. has ns k && int_eq (pos k +ℤ c) (pos n)) t in let both = and_parts (has ns f.0) (int_eq (pos f.0 +ℤ c) (pos n)) f.2 in shifted_of ss c f.0 n (has_within M ss ns f.0 r e ∙ both.0) (same_int (pos f.0 +ℤ c) (pos n) both.1))
 
--- a factor past M is as good as any other past M
-suc_times : (n b : ℕ) → suc n * b ≡ n * b + b
-suc_times n b = omega arith
-
 zero_times : (b : ℕ) → 0 * b ≡ 0
 zero_times b = omega arith
 
@@ -176,10 +172,6 @@ negative_zero M ns (negsuc k) h = same_bool (has ns 0) (is_scaled M ns (negsuc k
 no_members : (xs : List ℕ) → ((k : ℕ) → has xs k ≡ false) → xs ≡ []
 no_members [] h = refl
 no_members (x ∷ xs) h = absurd (true≢false (sym (or_left (x == x) (has xs x) (eq-eqb x x refl)) ∙ h x))
-
-not_true : (b : Bool) → (b ≡ true → ⊥) → b ≡ false
-not_true false f = refl
-not_true true f = absurd (f refl)
 
 pub negative_none : (M : ℕ) (ns : List ℕ) (c : ℤ) (n : ℕ) → c <ℤ pos 0 → 0 < n → is_scaled M ns c n ≡ false
 negative_none M ns (pos k) n h g = absurd (omega (arith, ints))

@@ -4,7 +4,7 @@ use Rattle.std.proofs.lemmas.Bool.{cases_Bool, true≢false}
 use Rattle.std.proofs.lemmas.Bool.Decides.{nat_tests}
 use Rattle.fd_model.specs.Family.{universe}
 use Rattle.domain_ranges.specs.Spans.{Span, within, IsSpans, members, interval_count, listed, written, joined}
-use Rattle.domain_ranges.proofs.Made.{Made, IsNext, made_none, made_push, made_all, made_many}
+use Rattle.domain_ranges.proofs.Made.{Made, IsNext, made_none, made_push, made_all, made_many, out_high, out_low}
 
 -- the least number of the open interval, or else the end of what is made
 abbrev pub front : Option Span → ℕ → ℕ
@@ -45,17 +45,11 @@ not_yet n k true f h = absurd (omega (arith, f refl))
 assoc_or : (o x r l : Bool) → l ≡ (x || r) → (o || l) ≡ ((o || x) || r)
 assoc_or o x r l e = grind arith
 
-either_false : (a b c : Bool) → c ≡ (a || b) → a ≡ false → b ≡ false → c ≡ false
+pub either_false : (a b c : Bool) → c ≡ (a || b) → a ≡ false → b ≡ false → c ≡ false
 either_false a b c e h g = grind arith
 
-either_true : (a b c : Bool) → c ≡ (a || b) → a ≡ true → c ≡ true
+pub either_true : (a b c : Bool) → c ≡ (a || b) → a ≡ true → c ≡ true
 either_true a b c e h = grind arith
-
-one_low : (s : Span) (n : ℕ) → n < s.0 → within (s ∷ []) n ≡ false
-one_low s n h = grind (arith, nat_tests)
-
-one_high : (s : Span) (n : ℕ) → s.1 < n → within (s ∷ []) n ≡ false
-one_high s n h = grind (arith, nat_tests)
 
 one_in : (s : Span) (n : ℕ) → s.0 ≤ n → n ≤ s.1 → within (s ∷ []) n ≡ true
 one_in s n h g = grind (arith, nat_tests)
@@ -95,9 +89,9 @@ next_open M p out rest s j e =
       from = open_.0;
       order = open_.1;
       high = open_.2;
-      before = λ n k l. either_false (within (s ∷ []) n) (rest n) (p n) (j.same n (omega (arith, open_.1, open_.2)) k) (one_low s n l) (not_yet n s.0 (rest n) (j.start n) l);
+      before = λ n k l. either_false (within (s ∷ []) n) (rest n) (p n) (j.same n (omega (arith, open_.1, open_.2)) k) (out_low s n l) (not_yet n s.0 (rest n) (j.start n) l);
       inside = λ n k l. either_true (within (s ∷ []) n) (rest n) (p n) (j.same n (omega (arith, open_.2)) (omega (arith, open_.0))) (one_in s n k l);
-      after = λ k. either_false (within (s ∷ []) (s.1 + 1)) (rest (s.1 + 1)) (p (s.1 + 1)) (j.same (s.1 + 1) k (omega (arith, open_.0, open_.1))) (one_high s (s.1 + 1) (omega arith)) e;
+      after = λ k. either_false (within (s ∷ []) (s.1 + 1)) (rest (s.1 + 1)) (p (s.1 + 1)) (j.same (s.1 + 1) k (omega (arith, open_.0, open_.1))) (out_high s (s.1 + 1) (omega arith)) e;
     }
 
 not_low : (x : Span) (n : ℕ) → n < x.0 → (leb x.0 n && leb n x.1) ≡ false
@@ -118,7 +112,7 @@ join_apart M p out rest rest' s x j f t =
       made = made_push M p out j.at s j.made next;
       open_span = (omega arith, f.order, f.high, tt);
       start = λ n h. f.later n h;
-      same = λ n g h. j.same n g (omega (arith, next.from, next.order)) ∙ ap (λ b. b || rest n) (one_high s n (omega arith)) ∙ f.same n g ∙ or_nil (leb x.0 n && leb n x.1) (rest' n);
+      same = λ n g h. j.same n g (omega (arith, next.from, next.order)) ∙ ap (λ b. b || rest n) (out_high s n (omega arith)) ∙ f.same n g ∙ or_nil (leb x.0 n && leb n x.1) (rest' n);
     }
 
 pub apart_many : (M : ℕ) (p : ℕ → Bool) (out : List Span) (rest rest' : ℕ → Bool) (s x : Span) → Joining M p out (Some s) rest → IsFirst M rest x rest' → s.1 + 1 < x.0 → 2 ≤ length out → 2 < interval_count (filter p (universe M))
@@ -148,16 +142,16 @@ last_next M p out rest s j none =
       from = open_.0;
       order = open_.1;
       high = open_.2;
-      before = λ n k l. either_false (within (s ∷ []) n) (rest n) (p n) (j.same n (omega (arith, open_.1, open_.2)) k) (one_low s n l) (none n (omega (arith, open_.1, open_.2)));
+      before = λ n k l. either_false (within (s ∷ []) n) (rest n) (p n) (j.same n (omega (arith, open_.1, open_.2)) k) (out_low s n l) (none n (omega (arith, open_.1, open_.2)));
       inside = λ n k l. either_true (within (s ∷ []) n) (rest n) (p n) (j.same n (omega (arith, open_.2)) (omega (arith, open_.0))) (one_in s n k l);
-      after = λ k. either_false (within (s ∷ []) (s.1 + 1)) (rest (s.1 + 1)) (p (s.1 + 1)) (j.same (s.1 + 1) k (omega (arith, open_.0, open_.1))) (one_high s (s.1 + 1) (omega arith)) (none (s.1 + 1) k);
+      after = λ k. either_false (within (s ∷ []) (s.1 + 1)) (rest (s.1 + 1)) (p (s.1 + 1)) (j.same (s.1 + 1) k (omega (arith, open_.0, open_.1))) (out_high s (s.1 + 1) (omega arith)) (none (s.1 + 1) k);
     }
 
 -- at the end
 pub join_done : (M : ℕ) (p : ℕ → Bool) (out : List Span) (last : Option Span) (rest : ℕ → Bool) → Joining M p out last rest → ((n : ℕ) → n ≤ M → rest n ≡ false) → members (out ++ listed last) ≡ filter p (universe M)
 join_done M p out None rest j none = rw append-nil (made_all M p out j.at j.made (λ n g h. j.same n g h ∙ none n g))
 join_done M p out (Some s) rest j none = made_all M p (out ++ s ∷ []) (s.1 + 2) (made_push M p out j.at s j.made (last_next M p out rest s j none))
-    (λ n g h. either_false (within (s ∷ []) n) (rest n) (p n) (j.same n g (omega (arith, j.open_span.0, j.open_span.1))) (one_high s n (omega arith)) (none n g))
+    (λ n g h. either_false (within (s ∷ []) n) (rest n) (p n) (j.same n g (omega (arith, j.open_span.0, j.open_span.1))) (out_high s n (omega arith)) (none n g))
 
 pub done_many : (M : ℕ) (p : ℕ → Bool) (out : List Span) (s : Span) (rest : ℕ → Bool) → Joining M p out (Some s) rest → ((n : ℕ) → n ≤ M → rest n ≡ false) → 2 ≤ length out → 2 < interval_count (filter p (universe M))
 done_many M p out s rest j none l =

@@ -47,10 +47,10 @@ or_none a b c e f = grind arith
 or_some : (a b c : Bool) → a ≡ false → b ≡ c → (a || b) ≡ c
 or_some a b c e f = grind arith
 
-out_low : (s : Span) (n : ℕ) → n < s.0 → within (s ∷ []) n ≡ false
+pub out_low : (s : Span) (n : ℕ) → n < s.0 → within (s ∷ []) n ≡ false
 out_low s n h = grind (arith, nat_tests)
 
-out_high : (s : Span) (n : ℕ) → s.1 < n → within (s ∷ []) n ≡ false
+pub out_high : (s : Span) (n : ℕ) → s.1 < n → within (s ∷ []) n ≡ false
 out_high s n h = grind (arith, nat_tests)
 
 pushed_same : (M : ℕ) (p : ℕ → Bool) (out : List Span) (k : ℕ) (s : Span) (n : ℕ) → Made M p out k → IsNext M p k s → n ≤ M → n < s.1 + 2 → (within out n || within (s ∷ []) n) ≡ p n

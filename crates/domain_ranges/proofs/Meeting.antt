@@ -36,9 +36,9 @@ both_false a b c e h = grind (arith, h)
 both_true : (a b c : Bool) → c ≡ (a && b) → a ≡ true → b ≡ true → c ≡ true
 both_true a b c e h g = grind arith
 
--- below the start of a list
-below : (M low n : ℕ) (x : Span) (xs : List Span) → IsSpans low M (x ∷ xs) → n < x.0 → within (x ∷ xs) n ≡ false
-below M low n x xs r h = not_within x.0 M n (x ∷ xs) (within (x ∷ xs) n) (omega arith, r.1, r.2, r.3) h refl
+-- below_first the start of a list
+pub below_first : (M low n : ℕ) (x : Span) (xs : List Span) → IsSpans low M (x ∷ xs) → n < x.0 → within (x ∷ xs) n ≡ false
+below_first M low n x xs r h = not_within x.0 M n (x ∷ xs) (within (x ∷ xs) n) (omega arith, r.1, r.2, r.3) h refl
 
 le_max : (n a b : ℕ) → n < max a b → (n < a) ⊎ (n < b)
 le_max n a b h = grind arith
@@ -57,7 +57,7 @@ next_meet M p out ra rb x y s h g =
       order = g;
       high = omega (arith, r.2);
       before = λ n k l. both_false (within (x ∷ ra) n) (within (y ∷ rb) n) (p n) (s.same n (omega (arith, r.2)) k)
-          (elim (le_max n x.0 y.0 l) [ inl e ↦ inl (below M s.left.0 n x ra r e) | inr e ↦ inr (below M s.right.0 n y rb q e) ]);
+          (elim (le_max n x.0 y.0 l) [ inl e ↦ inl (below_first M s.left.0 n x ra r e) | inr e ↦ inr (below_first M s.right.0 n y rb q e) ]);
       inside = λ n k l. both_true (within (x ∷ ra) n) (within (y ∷ rb) n) (p n) (s.same n (omega (arith, r.2)) (omega arith)) (in_head x ra n (omega arith) (omega arith)) (in_head y rb n (omega arith) (omega arith));
       after = λ k. let place : min x.1 y.1 + 1 ≡ suc x.1 = omega arith in
           ap p place ∙ both_false (within (x ∷ ra) (suc x.1)) (within (y ∷ rb) (suc x.1)) (p (suc x.1)) (s.same (suc x.1) (omega arith) (omega arith)) (inl (behind_first s.left.0 M x ra r));
@@ -72,7 +72,7 @@ none_meet M p out ra rb x y s h g n l k j =
     both_false (within (x ∷ ra) n) (within (y ∷ rb) n) (p n) (s.same n l k)
     (elim where_n [
       | inl e ↦ inl (ap (within (x ∷ ra)) e ∙ behind_first s.left.0 M x ra r)
-      | inr e ↦ inr (below M s.right.0 n y rb q e)
+      | inr e ↦ inr (below_first M s.right.0 n y rb q e)
     ])
 
 -- the next start, once the first is done with

@@ -7,6 +7,8 @@ use Rattle.domain_ranges.specs.Spans.{Span, within, IsSpans, members, interval_c
 use Rattle.domain_ranges.proofs.Spans.{within_low, in_head, past_first}
 use Rattle.domain_ranges.proofs.Made.{Made, IsNext, made_none, made_push, made_all, made_many}
 use Rattle.domain_ranges.proofs.Meeting.{drop_next}
+use Rattle.domain_ranges.proofs.Dividing.{less_or}
+use Rattle.domain_ranges.proofs.Shifting.{not_true}
 
 -- the members below next are done with
 pub record Scaling (M c : ℕ) (ss out : List Span) (next : ℕ) (rest : List Span) : Type 0 where
@@ -31,15 +33,8 @@ scaled_at ss c e h g =
     let q : e * c / c ≡ e = mul-div_cancel e h in
     and_from (e * c / c * c == e * c) (within ss (e * c / c)) (eq-eqb (e * c / c * c) (e * c) (ap (λ k. k * c) q)) (ap (within ss) q ∙ g)
 
-not_true : (b : Bool) → (b ≡ true → ⊥) → b ≡ false
-not_true false f = refl
-not_true true f = absurd (f refl)
-
 suc_times : (n c : ℕ) → suc n * c ≡ n * c + c
 suc_times n c = omega arith
-
-less_or : (n m : ℕ) → (n < m) ⊎ (m ≤ n)
-less_or n m = grind arith
 
 -- a multiple from at on is of a member from the next one on
 from_next : (M c : ℕ) (ss out rest : List Span) (next : ℕ) (s : Scaling M c ss out next rest) (n : ℕ) → s.at ≤ n → n / c * c ≡ n → next ≤ n / c

@@ -8,6 +8,7 @@ use Rattle.fd_model.specs.Family.{universe}
 use Rattle.domain_ranges.specs.Spans.{Span, IsSpans, members, interval_count, shifted}
 use Rattle.domain_ranges.proofs.Made.{Made, IsNext, made_none, made_push, made_all, made_many}
 use Rattle.domain_ranges.proofs.Meeting.{drop_next}
+use Rattle.domain_ranges.proofs.Joining.{either_false, either_true}
 
 -- whether n comes of the interval
 abbrev pub comes : Span → ℤ → ℕ → Bool
@@ -52,15 +53,9 @@ leb_low s n h = grind (arith, nat_tests)
 leb_high : (s : Span) (n : ℕ) → s.1 < n → (leb s.0 n && leb n s.1) ≡ false
 leb_high s n h = grind (arith, nat_tests)
 
-not_true : (b : Bool) → (b ≡ true → ⊥) → b ≡ false
+pub not_true : (b : Bool) → (b ≡ true → ⊥) → b ≡ false
 not_true false f = refl
 not_true true f = absurd (f refl)
-
-neither : (a b c : Bool) → c ≡ (a || b) → a ≡ false → b ≡ false → c ≡ false
-neither a b c e h g = grind arith
-
-one_of : (a b c : Bool) → c ≡ (a || b) → a ≡ true → c ≡ true
-one_of a b c e h = grind arith
 
 beyond : (s1 x1 : ℕ) (c : ℤ) (n : ℕ) → pos s1 ≤ℤ (pos x1 +ℤ c) → (pos (x1 + 2) +ℤ c) ≤ℤ pos n → s1 + 2 ≤ n
 beyond s1 x1 c n h g = omega (arith, ints)
@@ -84,9 +79,9 @@ next_moved M c ss out xs x s t m =
       from = from;
       order = m.order;
       high = m.high;
-      before = λ n k l. neither (comes x c n) (shifted xs c n) (shifted ss c n) (t.same n (omega (arith, m.order, m.high)) k) (sym (m.same n (omega (arith, m.order, m.high))) ∙ leb_low s n l) (late M c x s xs r.3 m n (omega (arith, m.order)));
-      inside = λ n k l. one_of (comes x c n) (shifted xs c n) (shifted ss c n) (t.same n (omega (arith, m.high)) (omega arith)) (sym (m.same n (omega (arith, m.high))) ∙ leb_both s n k l);
-      after = λ k. neither (comes x c (s.1 + 1)) (shifted xs c (s.1 + 1)) (shifted ss c (s.1 + 1)) (t.same (s.1 + 1) k (omega (arith, m.order))) (sym (m.same (s.1 + 1) k) ∙ leb_high s (s.1 + 1) (omega arith)) (late M c x s xs r.3 m (s.1 + 1) (omega arith));
+      before = λ n k l. either_false (comes x c n) (shifted xs c n) (shifted ss c n) (t.same n (omega (arith, m.order, m.high)) k) (sym (m.same n (omega (arith, m.order, m.high))) ∙ leb_low s n l) (late M c x s xs r.3 m n (omega (arith, m.order)));
+      inside = λ n k l. either_true (comes x c n) (shifted xs c n) (shifted ss c n) (t.same n (omega (arith, m.high)) (omega arith)) (sym (m.same n (omega (arith, m.high))) ∙ leb_both s n k l);
+      after = λ k. either_false (comes x c (s.1 + 1)) (shifted xs c (s.1 + 1)) (shifted ss c (s.1 + 1)) (t.same (s.1 + 1) k (omega (arith, m.order))) (sym (m.same (s.1 + 1) k) ∙ leb_high s (s.1 + 1) (omega arith)) (late M c x s xs r.3 m (s.1 + 1) (omega arith));
     }
 
 moved_start : (s1 x1 : ℕ) (c : ℤ) → pos s1 ≤ℤ (pos x1 +ℤ c) → pos (s1 + 2) ≤ℤ (pos (x1 + 2) +ℤ c)

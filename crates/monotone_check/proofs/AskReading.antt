@@ -18,6 +18,7 @@ use Rattle.monotone_check.specs.declared.asking.Asked.{Asked}
 use Rattle.monotone_check.specs.declared.asks.Reading.{Reading}
 use Rattle.monotone_check.specs.Asked.{raise, raise_all, told, raised, asks_now, Opens, OpensParameter, Operates, Closes, ClosesQuotient}
 use Rattle.monotone_check.specs.Opened.{all_asks, IsAsking, FollowsAsking, TakesAsks, IsAskedSoFar}
+use Rattle.monotone_check.proofs.Walks.{builds_all, some_same}
 
 Asks : Type 0
 Asks = List (ℕ × Need)
@@ -371,9 +372,6 @@ param_takes m x old new e f = via (node.Param x) m old new e (λ ns rs ts i. ask
 pub over_takes : (m : RangeNode) (old new : Reading) → m ≡ node.Over → ClosesQuotient old new → TakesAsks m old new
 over_takes m old new e f = via node.Over m old new e (λ ns rs ts i. ask_over ns old new rs ts i f)
 
-builds_all : (nodes : List RangeNode) → IsSpelled nodes → Some (spelled nodes) ≡ built nodes [] []
-builds_all nodes (r, e) = subst (λ ns. Some (spelled ns) ≡ built ns [] []) e (ap Some (spelled-nodes r) ∙ sym (builds_range r [] []))
-
 pub asks_start : (nodes : List RangeNode) (q : Reading) → IsSpelled nodes → q.terms.items ≡ [] → q.asking.places.items ≡ [] → IsAskedSoFar 0 nodes q
 asks_start nodes q s t p = ([], [], builds_all nodes s, (t, ap (λ l. told 0 l) p))
 
@@ -384,9 +382,6 @@ pub asks_step : (i : ℕ) (nodes : List RangeNode) (d : RangeNode) (old new : Re
 asks_step i nodes d old new l (rs, ts, e, p) f =
     let g : Some (spelled nodes) ≡ built (get_or nodes i d ∷ drop (i + 1) nodes) rs ts = e ∙ at_drop_more (λ ns. built ns rs ts) nodes i d l in
     from_follows (drop (i + 1) nodes) (spelled nodes) _ new g (f (drop (i + 1) nodes) rs ts p)
-
-some_same : (r q : Range) → Some r ≡ Some q → r ≡ q
-some_same r q e = cc
 
 alone : (r : Range) (rs : List Range) (ts : List Expr) (q : Reading) → Some r ≡ built [] rs ts → IsAsking rs ts q → asks_now q ≡ asks r
 alone r [] [] q e h = absurd cc

@@ -18,7 +18,7 @@ use Rattle.monotone_check.specs.Gathered.{put, put_all}
 abbrev keys : List (ℕ × Need) → List ℕ
 keys es = map (λ d. d.0) es
 
-eq_sym : (x y : ℕ) → (x == y) ≡ (y == x)
+pub eq_sym : (x y : ℕ) → (x == y) ≡ (y == x)
 eq_sym x y = grind arith
 
 stronger_assoc : (a b c : Need) → stronger (stronger a b) c ≡ stronger a (stronger b c)

@@ -14,28 +14,7 @@ use Rattle.fd_model.proofs.Directions.{first_of_two, second_of_two}
 use Rattle.monotone_check.specs.declared.summary.TermCheck.{TermCheck}
 use Rattle.monotone_check.specs.Summary.{literal_of, IsTerm, both_literal, operator_literal, kept, product_first, quotient_first, operands_first, operator_first, IsOperated}
 use Rattle.monotone_check.proofs.Firsts.{first_two, first_three}
-
--- the value of a literal is within its bound
-abs_add : (x y : ℤ) → nat_abs (x +ℤ y) ≤ nat_abs x + nat_abs y
-abs_add x y = omega (arith, ints)
-
-abs_sub : (x y : ℤ) → nat_abs (x -ℤ y) ≤ nat_abs x + nat_abs y
-abs_sub x y = omega (arith, ints)
-
-abs_neg : (n : ℕ) → nat_abs (neg_ℤ (pos n)) ≤ n
-abs_neg n = omega (arith, ints)
-
-abs_mul : (x y : ℤ) → nat_abs (x *ℤ y) ≤ nat_abs x * nat_abs y
-abs_mul (pos m) (pos n) = omega arith
-abs_mul (pos m) (negsuc n) = abs_neg (m * suc n)
-abs_mul (negsuc m) (pos n) = abs_neg (suc m * n)
-abs_mul (negsuc m) (negsuc n) = omega arith
-
-sums : (a b c d e : ℕ) → a ≤ b + c → b ≤ d → c ≤ e → a ≤ d + e
-sums a b c d e h g i = omega arith
-
-products : (a b c d e : ℕ) → a ≤ b * c → b ≤ d → c ≤ e → a ≤ d * e
-products a b c d e h g i = let k = mul-le-mul g i in omega (arith, k)
+use Rattle.fd_model.proofs.Limits.{abs_add, abs_mul, abs_sub, not_over, products, sums}
 
 pub literal_bound : (M : ℕ) (e : Expr) → is_literal e ≡ true → nat_abs (literal_value M e) ≤ bound M e
 literal_bound M (Number z) h = omega arith
@@ -49,9 +28,6 @@ literal_bound M (Sub a b) h = sums _ _ _ _ _ (abs_sub (literal_value M a) (liter
 literal_bound M (Mul a b) h = products _ _ _ _ _ (abs_mul (literal_value M a) (literal_value M b)) (literal_bound M a (first_of_two (is_literal a) (is_literal b) h)) (literal_bound M b (second_of_two (is_literal a) (is_literal b) h))
 literal_bound M (DivDown a b) h = absurd (true≢false (sym h))
 literal_bound M (DivUp a b) h = absurd (true≢false (sym h))
-
-not_over : (n : ℕ) → not (over_limit n) ≡ true → n ≤ 2 ^ 126 - 1
-not_over n h = grind arith
 
 small : (m n : ℕ) → m ≤ n → n ≤ 2 ^ 126 - 1 → m < 2 ^ 127
 small m n h g = omega arith
@@ -95,10 +71,10 @@ either : (M : ℕ) (n : RangeNode) (a b : TermCheck) (p : ℕ) (r : TermCheck) �
 either M n a b p r o w true = o.natural w
 either M n a b p r o w false = o.plain w
 
-within_left : (a b c : Bool) → ((a && b) && c) ≡ true → a ≡ true
+pub within_left : (a b c : Bool) → ((a && b) && c) ≡ true → a ≡ true
 within_left a b c h = grind arith
 
-within_right : (a b c : Bool) → ((a && b) && c) ≡ true → b ≡ true
+pub within_right : (a b c : Bool) → ((a && b) && c) ≡ true → b ≡ true
 within_right a b c h = grind arith
 
 within_here : (a b c : Bool) → ((a && b) && c) ≡ true → c ≡ true

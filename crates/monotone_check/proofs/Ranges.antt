@@ -12,6 +12,7 @@ use Rattle.monotone_check.specs.declared.summary.TermCheck.{TermCheck}
 use Rattle.monotone_check.specs.declared.summary.RangeCheck.{RangeCheck}
 use Rattle.monotone_check.specs.Summary.{IsTerm, IsRange, by_growth, divisor_first, IsSpan, IsSingle, IsDomain, IsCombined, IsComplement, IsPointwise}
 use Rattle.monotone_check.proofs.Firsts.{first_two, first_three}
+use Rattle.monotone_check.proofs.Operators.{within_left, within_right}
 
 no_parameter : (c : Expr) → is_literal c ≡ true → is_parameter c ≡ false
 no_parameter (Number z) h = refl
@@ -36,12 +37,6 @@ divisor false false v place o t e f g h = ap (λ l. divisor_first l t) e ∙ (ap
 growth : (u : RangeCheck) (f g : Option Offence) (F : Bool → List Offence) → u.shrinking ≡ f → u.growing ≡ g → f ≡ first (F true) → g ≡ first (F false) → (w : Bool) → by_growth u w ≡ first (F w)
 growth u f g F h k a b true = h ∙ a
 growth u f g F h k a b false = k ∙ b
-
-within_left : (a b c : Bool) → ((a && b) && c) ≡ true → a ≡ true
-within_left a b c h = grind arith
-
-within_right : (a b c : Bool) → ((a && b) && c) ≡ true → b ≡ true
-within_right a b c h = grind arith
 
 module _ (M : ℕ) (at : ℕ → ℕ) (n : ℕ) where
   pub span_is : (a b : Expr) (s t : TermCheck) (u : RangeCheck) → IsTerm M at (n - 1 - expr_size b) a s → IsTerm M at (n - 1) b t → IsSpan s t u → IsRange M at n (Span a b) u

@@ -9,12 +9,10 @@ use Rattle.fd_model.specs.Needs.{stronger}
 use Rattle.monotone_check.specs.declared.asking.Asked.{Asked}
 use Rattle.monotone_check.specs.Asked.{raise, reaches, told}
 use Rattle.monotone_check.specs.Gathered.{put, put_all}
+use Rattle.monotone_check.proofs.Gathering.{eq_sym}
 
 abbrev keys : List (ℕ × Need) → List ℕ
 keys es = map (λ d. d.0) es
-
-eq_sym : (x y : ℕ) → (x == y) ≡ (y == x)
-eq_sym x y = grind arith
 
 -- an entry that is found is joined where it stands, and another one stands at the end
 pub join_found : (es : List (ℕ × Need)) (d : ℕ × Need) (x : ℕ) (n : Need) (k : ℕ) → k < length es → k ≡ position_or_len (nat_eq x) (keys es) →

@@ -15,7 +15,7 @@ use Rattle.monotone_check.specs.Waiting.{IsPending, Follows}
 use Rattle.monotone_check.specs.Walked.{IsWalked}
 use Rattle.monotone_check.proofs.Sizes.{count_nodes}
 
-builds_all : (nodes : List RangeNode) → IsSpelled nodes → Some (spelled nodes) ≡ built nodes [] []
+pub builds_all : (nodes : List RangeNode) → IsSpelled nodes → Some (spelled nodes) ≡ built nodes [] []
 builds_all nodes (r, e) = subst (λ ns. Some (spelled ns) ≡ built ns [] []) e (ap Some (spelled-nodes r) ∙ sym (builds_range r [] []))
 
 pub walk_start : (at : ℕ → ℕ) (nodes : List RangeNode) (p : Pending) → IsSpelled nodes → p.ranges.items ≡ [] → p.terms.items ≡ [] → IsWalked at 0 nodes p
@@ -40,7 +40,7 @@ record IsAlone (at : ℕ → ℕ) (i : ℕ) (r : Range) (p : Pending) : Type 0 w
   items : p.ranges.items ≡ kept ∷ []
   whole : IsRange INFINITY at (i - 1) r kept
 
-some_same : (r q : Range) → Some r ≡ Some q → r ≡ q
+pub some_same : (r q : Range) → Some r ≡ Some q → r ≡ q
 some_same r q e = cc
 
 alone : (at : ℕ → ℕ) (i : ℕ) (r : Range) (rs : List Range) (ts : List Expr) (p : Pending) → Some r ≡ built [] rs ts → IsPending INFINITY at i rs ts p → IsAlone at i r p
