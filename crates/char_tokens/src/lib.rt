@@ -15,7 +15,7 @@ mod tests;
 mod token;
 
 pub use quoted::unquote;
-pub use scanner::tokens;
+pub use scanner::{Scanner, tokens};
 pub use token::{Kind, Token, TokenCause, TokenFault};
 
 /// Each text has either exactly one list of tokens or exactly one first fault.

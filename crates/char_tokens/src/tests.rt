@@ -3,87 +3,90 @@ use super::*;
 use std::alloc::{AllocError, Global};
 use std::test::Fail;
 
-/// A text, and what it gives: each token as its kind's letter, its place, an integer's value and its text, behind `_` where it is not tight; or the fault and its place.
+/// A text, and what it gives: each token as its kind's letter, its place behind `@`, an integer's value and its text behind `:`, all behind `_` where it is not tight; or the fault and its place.
 const TEXTS: &[(&str, &str)] = &[
     // layout and comments
     ("", ""),
     (" \t\r\n\x0c\x0b", ""),
     ("% only a comment", ""),
     ("/* closed */", ""),
-    ("a b", "W0:a _W2:b"),
-    ("a%b\nc", "W0:a _W4:c"),
-    ("a /* b */c", "W0:a _W9:c"),
-    ("a/***/b", "W0:a _W6:b"),
+    ("a b", "W@0:a _W@2:b"),
+    ("a%b\nc", "W@0:a _W@4:c"),
+    ("a /* b */c", "W@0:a _W@9:c"),
+    ("a/***/b", "W@0:a _W@6:b"),
     // words of letters
-    ("abc", "W0:abc"),
-    ("aB_9z", "W0:aB_9z"),
-    ("Éa", "W0:Éa"),
-    ("αβ γ", "W0:αβ _W5:γ"),
+    ("abc", "W@0:abc"),
+    ("aB_9z", "W@0:aB_9z"),
+    ("Éa", "W@0:Éa"),
+    ("αβ γ", "W@0:αβ _W@5:γ"),
     // variables
-    ("_", "V0:_"),
-    ("_x1 Y2z", "V0:_x1 _V4:Y2z"),
-    ("AÉ", "V0:AÉ"),
+    ("_", "V@0:_"),
+    ("_x1 Y2z", "V@0:_x1 _V@4:Y2z"),
+    ("AÉ", "V@0:AÉ"),
     // words of symbol characters, by the longest run
-    ("3:-{2}", "I0=3:3 W1::- P3:{ I4=2:2 P5:}"),
-    ("0..-1", "I0=0:0 W1:..- I4=1:1"),
-    ("X#=-1", "V0:X W1:#=- I4=1:1"),
-    ("-/**/1", "W0:-/**/ I5=1:1"),
-    ("//*", "W0://*"),
-    ("#$&*+-./:<=>?@^~\\", "W0:#$&*+-./:<=>?@^~\\"),
+    ("3:-{2}", "I@0=3:3 W@1::- P@3:{ I@4=2:2 P@5:}"),
+    ("0..-1", "I@0=0:0 W@1:..- I@4=1:1"),
+    ("X#=-1", "V@0:X W@1:#=- I@4=1:1"),
+    ("-/**/1", "W@0:-/**/ I@5=1:1"),
+    ("//*", "W@0://*"),
+    ("#$&*+-./:<=>?@^~\\", "W@0:#$&*+-./:<=>?@^~\\"),
     // solo words
-    ("!;", "W0:! W1:;"),
-    ("!.", "W0:! S1:."),
+    ("!;", "W@0:! W@1:;"),
+    ("!.", "W@0:! S@1:."),
     // quoted atoms
-    ("''", "Q0:''"),
-    ("''''", "Q0:''''"),
-    ("'it''s'x", "Q0:'it''s' W7:x"),
-    ("'%/*'(b)", "Q0:'%/*' P5:( W6:b P7:)"),
+    ("''", "Q@0:''"),
+    ("''''", "Q@0:''''"),
+    ("'it''s'x", "Q@0:'it''s' W@7:x"),
+    ("'%/*'(b)", "Q@0:'%/*' P@5:( W@6:b P@7:)"),
     (
         "'\\\\ \\' \\\" \\n \\t \\r'",
-        "Q0:'\\\\ \\' \\\" \\n \\t \\r'",
+        "Q@0:'\\\\ \\' \\\" \\n \\t \\r'",
     ),
-    ("'\\x41\\b'.", "Q0:'\\x41\\b' S8:."),
-    ("'\\x10FFFF\\' '\\x0\\'", "Q0:'\\x10FFFF\\' _Q12:'\\x0\\'"),
+    ("'\\x41\\b'.", "Q@0:'\\x41\\b' S@8:."),
+    ("'\\x10FFFF\\' '\\x0\\'", "Q@0:'\\x10FFFF\\' _Q@12:'\\x0\\'"),
     // integers
-    ("0 007", "I0=0:0 _I2=7:007"),
-    ("0x1fF", "I0=511:0x1fF"),
-    ("0o17,0b101", "I0=15:0o17 P4:, I5=5:0b101"),
-    ("0b12", "I0=1:0b1 I3=2:2"),
-    ("0xg", "I0=0:0 W1:xg"),
-    ("0o8", "I0=0:0 W1:o8"),
-    ("0b", "I0=0:0 W1:b"),
-    ("0X1", "I0=0:0 V1:X1"),
-    ("1e5", "I0=1:1 W1:e5"),
-    ("0x1.5", "I0=1:0x1 W3:. I4=5:5"),
-    ("1..5", "I0=1:1 W1:.. I3=5:5"),
-    ("1.a", "I0=1:1 W1:. W2:a"),
+    ("0 007", "I@0=0:0 _I@2=7:007"),
+    ("0x1fF", "I@0=511:0x1fF"),
+    ("0o17,0b101", "I@0=15:0o17 P@4:, I@5=5:0b101"),
+    ("0b12", "I@0=1:0b1 I@3=2:2"),
+    ("0xg", "I@0=0:0 W@1:xg"),
+    ("0o8", "I@0=0:0 W@1:o8"),
+    ("0b", "I@0=0:0 W@1:b"),
+    ("0X1", "I@0=0:0 V@1:X1"),
+    ("1e5", "I@0=1:1 W@1:e5"),
+    ("0x1.5", "I@0=1:0x1 W@3:. I@4=5:5"),
+    ("1..5", "I@0=1:1 W@1:.. I@3=5:5"),
+    ("1.a", "I@0=1:1 W@1:. W@2:a"),
     (
         "9223372036854775807",
-        "I0=9223372036854775807:9223372036854775807",
+        "I@0=9223372036854775807:9223372036854775807",
     ),
     (
         "0x7fffffffffffffff",
-        "I0=9223372036854775807:0x7fffffffffffffff",
+        "I@0=9223372036854775807:0x7fffffffffffffff",
     ),
     // a quote behind an integer
-    ("00'a'", "I0=0:00 Q2:'a'"),
-    ("0x0'a'", "I0=0:0x0 Q3:'a'"),
-    ("10'a'", "I0=10:10 Q2:'a'"),
-    ("0 'a'", "I0=0:0 _Q2:'a'"),
+    ("00'a'", "I@0=0:00 Q@2:'a'"),
+    ("0x0'a'", "I@0=0:0x0 Q@3:'a'"),
+    ("10'a'", "I@0=10:10 Q@2:'a'"),
+    ("0 'a'", "I@0=0:0 _Q@2:'a'"),
     // punctuation
-    ("()[]{},|", "P0:( P1:) P2:[ P3:] P4:{ P5:} P6:, P7:|"),
+    (
+        "()[]{},|",
+        "P@0:( P@1:) P@2:[ P@3:] P@4:{ P@5:} P@6:, P@7:|",
+    ),
     (
         "f(X,[a|T]).",
-        "W0:f P1:( V2:X P3:, P4:[ W5:a P6:| V7:T P8:] P9:) S10:.",
+        "W@0:f P@1:( V@2:X P@3:, P@4:[ W@5:a P@6:| V@7:T P@8:] P@9:) S@10:.",
     ),
-    ("f (X)", "W0:f _P2:( V3:X P4:)"),
+    ("f (X)", "W@0:f _P@2:( V@3:X P@4:)"),
     // stops
-    ("a.", "W0:a S1:."),
-    ("a.%b", "W0:a S1:."),
-    ("a. b.\n", "W0:a S1:. _W3:b S4:."),
-    ("a.b", "W0:a W1:. W2:b"),
-    ("a..\n", "W0:a W1:.."),
-    (".(", "W0:. P1:("),
+    ("a.", "W@0:a S@1:."),
+    ("a.%b", "W@0:a S@1:."),
+    ("a. b.\n", "W@0:a S@1:. _W@3:b S@4:."),
+    ("a.b", "W@0:a W@1:. W@2:b"),
+    ("a..\n", "W@0:a W@1:.."),
+    (".(", "W@0:. P@1:("),
     // no token can start here
     ("`", "BadCharacter 0"),
     ("a \0", "BadCharacter 2"),
@@ -149,12 +152,12 @@ fn shown(alloc: Global, text: &str) -> Result<String, AllocError> {
         }
         out.push_str(if token.tight { "" } else { "_" })?;
         let head = match token.kind {
-            Kind::Word => format!(in alloc; "W{}", token.place)?,
-            Kind::Quoted => format!(in alloc; "Q{}", token.place)?,
-            Kind::Variable => format!(in alloc; "V{}", token.place)?,
-            Kind::Integer(value) => format!(in alloc; "I{}={value}", token.place)?,
-            Kind::Punct => format!(in alloc; "P{}", token.place)?,
-            Kind::Stop => format!(in alloc; "S{}", token.place)?,
+            Kind::Word => format!(in alloc; "W@{}", token.place)?,
+            Kind::Quoted => format!(in alloc; "Q@{}", token.place)?,
+            Kind::Variable => format!(in alloc; "V@{}", token.place)?,
+            Kind::Integer(value) => format!(in alloc; "I@{}={value}", token.place)?,
+            Kind::Punct => format!(in alloc; "P@{}", token.place)?,
+            Kind::Stop => format!(in alloc; "S@{}", token.place)?,
         };
         out.push_str(&head)?;
         out.push(':')?;
@@ -173,5 +176,20 @@ fn texts_give_their_tokens_or_their_first_fault(rt: HostRuntime) -> Result<(), F
         let found = unquote(rt.alloc(), text)?;
         assert_eq!(rt; found.as_str(), *want, "at {text}");
     }
+    Ok(())
+}
+
+#[test]
+fn a_scanner_gives_token_by_token(rt: HostRuntime) -> Result<(), Fail> {
+    let mut scanner = Scanner::new("X% b\n in.");
+    for (text, place, tight) in [("X", 0, true), ("in", 6, false), (".", 8, true)] {
+        let next = scanner.next_token();
+        assert!(rt;
+            matches!(&next, Ok(Some(token)) if token.text == text && token.place == place && token.tight == tight),
+            "{text} at {place}: {next:?}"
+        );
+    }
+    assert!(rt; matches!(scanner.next_token(), Ok(None)));
+    assert!(rt; scanner.finish().is_ok());
     Ok(())
 }
