@@ -13,7 +13,7 @@ use Rattle.term_reader.specs.declared.parser.Item.{Item}
 use Rattle.term_reader.specs.declared.parser.Item.TheVariants.{Parenthesis, Curly, Call, List as Listed, Tail}
 use Rattle.term_reader.specs.declared.parser.Closing.TheVariants as closings
 use Rattle.term_reader.specs.declared.parser.Parser.{Parser}
-use Rattle.term_reader.specs.PlacedTerms.{placed_of}
+use Rattle.term_pool.specs.PlacedTerms.{placed_of}
 use Rattle.term_reader.specs.View.{terminal_at, stack_of, stack, Moves, last_item, closing_of, TakesArguments}
 use Rattle.term_reader.proofs.Stacks.{front, last_none, turned}
 use Rattle.term_reader.proofs.Moves.{moves_not}

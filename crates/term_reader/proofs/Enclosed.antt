@@ -1,5 +1,5 @@
 -- What the end of an operand makes of a bracket on top.
-use Rattle.std.proofs.Common.{◌≡◌, ℕ, ◌<◌, ◌≤◌, List, [], ◌∷◌, ◌++◌, length, take, drop, Option, Some, None, true, refl, sym, ap, subst, ◌∙◌, arith, length-append}
+use Rattle.std.proofs.Common.{◌≡◌, ℕ, ◌<◌, ◌≤◌, List, [], ◌∷◌, ◌++◌, length, take, drop, Option, Some, None, true, sym, ap, subst, ◌∙◌, arith, length-append}
 use Rattle.std.specs.Prelude.{reverse}
 use Rattle.std.proofs.lemmas.List.{drop-append-le, take-append-le}
 use Rattle.std.proofs.lemmas.List.Elements.{All-drop, All-take, All-push}
@@ -19,9 +19,10 @@ use Rattle.term_reader.specs.declared.parser.Item.{Item}
 use Rattle.term_reader.specs.declared.parser.Item.TheVariants.{Parenthesis, Curly, Call, List as Listed, Tail, Prefix, Infix}
 use Rattle.term_reader.specs.declared.parser.Expecting.TheVariants as expect
 use Rattle.term_reader.specs.declared.parser.Parser.{Parser}
-use Rattle.term_reader.specs.PlacedTerms.{placed_of, parts_of, Adds}
+use Rattle.term_pool.specs.PlacedTerms.{placed_of}
+use Rattle.term_reader.specs.PlacedTerms.{parts_of, Adds}
 use Rattle.term_reader.specs.View.{stack_of, stack, HaveIds, HaveRoom, AreTerms, IsWhole, Moves, last_item, TakesArguments}
-use Rattle.term_reader.proofs.PlacedLaws.{parts_kept, parts_of-last}
+use Rattle.term_reader.proofs.PlacedLaws.{parts_kept, parts_of-last, parts_of_one}
 use Rattle.term_reader.proofs.Stacks.{front, turned, turned_push}
 use Rattle.term_reader.proofs.Moves.{moves_term, moves_same}
 
@@ -156,16 +157,12 @@ moves_bar r r2 t p from w h o e0 e1 e2 e3 =
     ∙ ap (λ (xs : PlacedTerms). Some (want (tail p xs (stack_of r.pool (top done) (take from ts) ys)))) (sym (parts_push r.pool from ts t o.room.0))
     ∙ ap (λ (us : List TermId). Some (want (tail p (parts_of r.pool (drop from (ts ++ t ∷ []))) (stack_of r.pool (top done) us ys)))) (sym (take_push from ts t o.room.0)))
 
-parts_of_single : (c : Contents) (t : TermId) → parts_of c (t ∷ []) ≡ one (placed_of c t)
-unfolding parts_of
-parts_of_single c t = refl
-
 pub moves_curly : (r r2 : Parser) (inner t : TermId) (p : ℕ) → IsWhole r → OnTop r (Curly p) → Adds r.pool r2.pool (comp curly_name p (parts_of r.pool (inner ∷ []))) t
     → r2.arguments.items ≡ r.arguments.items → r2.items.items ≡ front r.items.items → r2.expecting ≡ expect.BehindOperand t
     → Moves r.pool (λ done. closed (stack r done) (placed_of r.pool inner) terminals.close_curly) r2 true
 moves_curly r r2 inner t p w o k e1 e2 e3 =
     moves_term r.pool r2 r.arguments.items (reverse (front r.items.items)) t (comp curly_name p (one (placed_of r.pool inner))) (λ done. closed (stack r done) (placed_of r.pool inner) terminals.close_curly)
-    w.pool (subst (λ (xs : PlacedTerms). Adds r.pool r2.pool (comp curly_name p xs) t) (parts_of_single r.pool inner) k) w.arguments o.ids o.room e1 (ap reverse e2) e3
+    w.pool (subst (λ (xs : PlacedTerms). Adds r.pool r2.pool (comp curly_name p xs) t) (parts_of_one r.pool inner) k) w.arguments o.ids o.room e1 (ap reverse e2) e3
     (λ done. ap (λ (s : Stack). closed s (placed_of r.pool inner) terminals.close_curly) (stack_on_top r (Curly p) o done))
 
 pub moves_parenthesis : (r r2 : Parser) (t : TermId) → IsWhole r → t.number < length r.pool.entries → OnTop r Parenthesis → r2.pool ≡ r.pool

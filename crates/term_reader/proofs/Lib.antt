@@ -14,5 +14,6 @@ pub mod Readers
 pub mod Texts
 pub mod Naturals
 pub mod Verdicts
+pub mod Readable
 pub mod Plain
 pub mod Named

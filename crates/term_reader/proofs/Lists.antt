@@ -10,9 +10,10 @@ use Rattle.term_pool.specs.Contents.{Contents, atom_name}
 use Rattle.term_pool.specs.Terms.{Extends}
 use Rattle.term_pool.specs.Valid.{IsPool}
 use Rattle.term_pool.proofs.Laws.{extends_refl, extends_trans}
-use Rattle.term_reader.specs.PlacedTerms.{placed_of, parts_of, Adds}
+use Rattle.term_pool.specs.PlacedTerms.{placed_of}
+use Rattle.term_reader.specs.PlacedTerms.{parts_of, Adds}
 use Rattle.term_reader.specs.View.{AreTerms}
-use Rattle.term_reader.proofs.PlacedLaws.{placed_kept, parts_of-last, parts_of_none}
+use Rattle.term_reader.proofs.PlacedLaws.{placed_kept, parts_of-last, parts_of_none, parts_of_two}
 
 -- ---- lists
 
@@ -45,10 +46,6 @@ list_ends c d elements place count last term k e = record {
   is = sym (ap (λ (n : ℕ). list_of place (parts_of c (take n elements)) (placed_of d term)) e ∙ ap (λ (xs : PlacedTerms). list_of place xs (placed_of d term)) (parts_of_none c)) ∙ k.same;
 }
 
-parts_of_cell : (c : Contents) (s t : TermId) → parts_of c (s ∷ t ∷ []) ≡ two (placed_of c s) (placed_of c t)
-unfolding parts_of
-parts_of_cell c s t = refl
-
 -- the element before the others goes into a cell
 pub list_goes_on : (c d e : Contents) (elements : List TermId) (place count : ℕ) (last term cell d0 : TermId) → IsPool c → AreTerms c elements → ListSoFar c d elements place (count + 1) last term
     → Adds d e (comp (atom_name d CONS) place (parts_of d (get_or elements count d0 ∷ term ∷ []))) cell → ListSoFar c e elements place count last cell
@@ -59,7 +56,7 @@ list_goes_on c d e elements place count last term cell d0 v terms k a =
     let parts : parts_of c (take (count + 1) elements) ≡ with_last (parts_of c (take count elements)) (placed_of c x) = ap (parts_of c) split ∙ parts_of-last c (take count elements) x in
     let cell_is : placed_of e cell ≡ comp cons_name place (two (placed_of c x) (placed_of d term)) =
     a.is ∙ ap (λ (n : Name). comp n place (parts_of d (x ∷ term ∷ []))) k.valid.cons
-    ∙ ap (comp cons_name place) (parts_of_cell d x term)
+    ∙ ap (comp cons_name place) (parts_of_two d x term)
     ∙ ap (λ (u : PlacedTerm). comp cons_name place (two u (placed_of d term))) (placed_kept c d v k.grows x mine) in
     record {
       within = omega (arith, k.within);

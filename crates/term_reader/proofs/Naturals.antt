@@ -1,13 +1,13 @@
 -- The integers among the tokens of a text have no sign.
 use Rattle.std.proofs.Common.{◌≡◌, ℕ, List, [], ◌∷◌, Bool, true, false, cond, refl, subst, ◌+◌}
-use Rattle.std.specs.Prelude.{pos, nat_le, ◌==◌, ◌&&◌, All}
-use Rattle.std.specs.List.{AllByRecursion}
+use Rattle.std.specs.Prelude.{pos, nat_le, ◌==◌, ◌&&◌}
 use Rattle.std.specs.Str.{chars}
 use Rattle.std.specs.Char.{len_utf8}
 use Rattle.std.proofs.lemmas.Bool.{leb-true}
-use Rattle.std.proofs.lemmas.List.Elements.{All-from_recursion}
 use Rattle.fd_model.specs.Characters.{is_layout, is_symbol, is_solo, is_punct, begins_variable, not_newline, is_digit_of, starts_with, tail, run_size, past_run, value}
-use Rattle.fd_model.specs.Tokens.{Word, Variable, Integer, Punct, Stop, BadCharacter, FloatOut, StringOut, IntegerTooWide, base_at, has_base, has_fraction, ends_stop, Lexeme, Front, Gap, Token, Offends, greatest, number_front, based_front, decimal_front, integer_front, comment_front, Inside, Between, AfterQuote, AfterBackslash, AfterDigits, Past, Broken, inside, quoted_end, quoted_front, front_at, front_by, front_of, HasTokens, ended, after_gap, after_token}
+use Rattle.fd_model.specs.Tokens.{Word, Variable, Integer, Punct, Stop, BadCharacter, FloatOut, StringOut, IntegerTooWide, base_at, has_base, has_fraction, ends_stop, Lexeme, Front, Gap, Token, Offends, greatest, number_front, based_front, decimal_front, integer_front, comment_front, Inside, Between, AfterQuote, AfterBackslash, AfterDigits, Past, Broken, inside, quoted_end, quoted_front, front_at, front_by, front_of}
+use Rattle.char_tokens.specs.Left.{Left}
+use Rattle.char_tokens.specs.Scanning.{IsNext}
 use Rattle.term_reader.specs.Seeing.{KindIsNatural, HasNatural}
 
 abbrev FrontBy : Front → Type 0
@@ -74,21 +74,6 @@ front_plain : (bytes : List ℕ) → IsPlain (front_of bytes)
 unfolding front_of
 front_plain bytes = by_plain (chars bytes)
 
-abbrev AllNatural : List Lexeme → Type 0
-AllNatural [] = Unit {0}
-AllNatural (l ∷ ls) = HasNatural l × AllNatural ls
-
-tokens_natural : {at : ℕ} {tight : Bool} {bytes : List ℕ} {ls : List Lexeme} → HasTokens at tight bytes ls → AllNatural ls
-tokens_natural (ended e) = tt
-tokens_natural (after_gap n e d) = tokens_natural d
-tokens_natural {bytes = bytes} (after_token k n e d) = let p : IsPlain (Token k n) = subst IsPlain e (front_plain bytes) in (p.by, tokens_natural d)
-
-by_recursion : (ls : List Lexeme) → AllNatural ls → All HasNatural ls
-by_recursion ls h = All-from_recursion HasNatural ls (same ls h)
-  where
-    same : (ls : List Lexeme) → AllNatural ls → AllByRecursion HasNatural ls
-    same [] h = tt
-    same (l ∷ ls) h = (h.0, same ls h.1)
-
-pub naturals : {text : List ℕ} (ls : List Lexeme) → HasTokens 0 true text ls → All HasNatural ls
-naturals ls d = by_recursion ls (tokens_natural d)
+-- the token that stands next
+pub next_natural : (old new : Left) (l : Lexeme) → IsNext old new l → HasNatural l
+next_natural old new l i = let p : IsPlain (Token l.kind i.size) = subst IsPlain i.front (front_plain i.rest) in p.by

@@ -29,7 +29,8 @@ use Rattle.term_reader.specs.declared.parser.Item.TheVariants.{Parenthesis, Curl
 use Rattle.term_reader.specs.declared.parser.Expecting.{Expecting}
 use Rattle.term_reader.specs.declared.parser.Expecting.TheVariants as expect
 use Rattle.term_reader.specs.declared.parser.Parser.{Parser}
-use Rattle.term_reader.specs.PlacedTerms.{placed_of, parts_of, Adds}
+use Rattle.term_pool.specs.PlacedTerms.{placed_of}
+use Rattle.term_reader.specs.PlacedTerms.{parts_of, Adds}
 use Rattle.term_reader.specs.View.{terminal_at, IsTerminal, stack_of, stack_over, stack, state, state_by, HaveRoom, IsWhole, IsExpecting, Moves, Steps, Stays, last_item, item_limit, closing_of, allows_lone, HasOperand, IsNegative}
 use Rattle.term_reader.proofs.PlacedLaws.{placed_kept, extends_length, extends_names, parts_of_none}
 use Rattle.term_reader.proofs.Stacks.{front, last_none, turned, turned_push, terms_more, ids_more, stack_kept}

@@ -3,7 +3,7 @@ use Rattle.std.proofs.Common.{◌≡◌, ℕ, suc, ◌<◌, ◌≤◌, ◌+◌, 
 use Rattle.std.specs.Prelude.{slice_get, unwrap_or, All, Result, Ok, Err, IfOk, OnOk}
 use Rattle.std.proofs.lemmas.List.Elements.{All-head, All-tail}
 use Rattle.fd_model.specs.Term.{Name}
-use Rattle.fd_model.specs.PlacedTerm.{PlacedTerm, atom, comp, no_parts, part, with_last}
+use Rattle.fd_model.specs.PlacedTerm.{PlacedTerm, atom, comp, no_parts, one, part, two, with_last}
 use Rattle.term_pool.specs.declared.AtomId.{AtomId}
 use Rattle.term_pool.specs.declared.TermId.{TermId}
 use Rattle.term_pool.specs.Contents as pool
@@ -12,21 +12,9 @@ use Rattle.term_pool.specs.Terms.{Extends}
 use Rattle.term_pool.specs.Valid.{IsPool, IsWithin}
 use Rattle.term_pool.proofs.Names.{slice_get-append, slice_get_seam, name_in-append}
 use Rattle.term_pool.proofs.Laws.{extends_trans}
-use Rattle.term_reader.specs.PlacedTerms.{parts_by, placed_by, numbered, placed_from, placed_of, parts_of, Adds}
-
--- parts with the same terms make the same term
-parts_by_same : (p q : TermId → PlacedTerm) (n : ℕ) (ts : List TermId) → All (λ t. t.number < n) ts → ((t : TermId) → t.number < n → p t ≡ q t) → parts_by p ts ≡ parts_by q ts
-parts_by_same p q n [] a same = refl
-parts_by_same p q n (t ∷ ts) a same =
-    let one : p t ≡ q t = same t (All-head (λ t. t.number < n) t ts a) in
-    let rest : parts_by p ts ≡ parts_by q ts = parts_by_same p q n ts (All-tail (λ t. t.number < n) t ts a) same in
-    ap (λ (x : PlacedTerm). part x (parts_by p ts)) one ∙ ap (part (q t)) rest
-
-placed_by_same : (names : List Name) (p q : TermId → PlacedTerm) (m n at : ℕ) (s : Shape) → IsWithin m n s → ((t : TermId) → t.number < n → p t ≡ q t) → placed_by names p at s ≡ placed_by names q at s
-placed_by_same names p q m n at (pool.var x) w same = refl
-placed_by_same names p q m n at (pool.int z) w same = refl
-placed_by_same names p q m n at (pool.atom a) w same = refl
-placed_by_same names p q m n at (pool.comp f ts) w same = ap (comp (name_in names f) at) (parts_by_same p q n ts w.1 same)
+use Rattle.term_pool.proofs.PlacedShapes.{parts_by_same, numbered_seam, front_kept}
+use Rattle.term_pool.specs.PlacedTerms.{parts_by, placed_by, numbered, placed_from, placed_of}
+use Rattle.term_reader.specs.PlacedTerms.{parts_of, Adds}
 
 -- more names change no term
 placed_by_names : (names more : List Name) (p : TermId → PlacedTerm) (n at : ℕ) (s : Shape) → IsWithin (length names) n s → placed_by (names ++ more) p at s ≡ placed_by names p at s
@@ -34,12 +22,6 @@ placed_by_names names more p n at (pool.var x) w = refl
 placed_by_names names more p n at (pool.int z) w = refl
 placed_by_names names more p n at (pool.atom a) w = ap (λ (m : Name). atom m at) (name_in-append names more a w)
 placed_by_names names more p n at (pool.comp f ts) w = ap (λ (m : Name). comp m at (parts_by p ts)) (name_in-append names more f w.0)
-
-numbered-append : (terms more : List PlacedTerm) (t : TermId) → t.number < length terms → numbered (terms ++ more) t ≡ numbered terms t
-numbered-append terms more t h = ap (λ (o : Option PlacedTerm). unwrap_or o (atom [] 0)) (slice_get-append terms more t.number h)
-
-numbered_seam : (terms : List PlacedTerm) (x : PlacedTerm) (t : TermId) → t.number ≡ length terms → numbered (terms ++ x ∷ []) t ≡ x
-numbered_seam terms x t h = ap (λ (o : Option PlacedTerm). unwrap_or o (atom [] 0)) (slice_get_seam terms x t.number h)
 
 placed_from-append : (names : List Name) (terms : List PlacedTerm) (es fs : List Entry) → placed_from names terms (es ++ fs) ≡ placed_from names (placed_from names terms es) fs
 placed_from-append names terms [] fs = refl
@@ -50,13 +32,6 @@ length-placed_from names terms [] = omega arith
 length-placed_from names terms (e ∷ es) =
     let x = placed_by names (numbered terms) e.place e.shape in
     length-placed_from names (terms ++ x ∷ []) es ∙ omega (arith, length-append terms (x ∷ []))
-
--- the terms that are there stay
-front_kept : (names : List Name) (terms : List PlacedTerm) (es : List Entry) (t : TermId) → t.number < length terms → numbered (placed_from names terms es) t ≡ numbered terms t
-front_kept names terms [] t h = refl
-front_kept names terms (e ∷ es) t h =
-    let x = placed_by names (numbered terms) e.place e.shape in
-    front_kept names (terms ++ x ∷ []) es t (omega (arith, length-append terms (x ∷ []))) ∙ numbered-append terms (x ∷ []) t h
 
 -- the terms are the same under more names
 names_kept : (names more : List Name) (terms : List PlacedTerm) (es : List Entry) → ((i : ℕ) (e : Entry) → slice_get es i ≡ Some e → (n : ℕ) × IsWithin (length names) n e.shape)
@@ -120,6 +95,14 @@ parts_of-last c ts t = parts_by-last (placed_of c) ts t
 pub parts_of_none : (c : Contents) → parts_of c [] ≡ no_parts
 unfolding parts_of
 parts_of_none c = refl
+
+pub parts_of_one : (c : Contents) (t : TermId) → parts_of c (t ∷ []) ≡ one (placed_of c t)
+unfolding parts_of
+parts_of_one c t = refl
+
+pub parts_of_two : (c : Contents) (s t : TermId) → parts_of c (s ∷ t ∷ []) ≡ two (placed_of c s) (placed_of c t)
+unfolding parts_of
+parts_of_two c s t = refl
 
 pub added : {E : Type 0} (r : Result TermId E) (old new : Contents) (e : Entry) → IsPool old → IsWithin (length old.names) (length old.entries) e.shape
     → OnOk r (new ≡ record old { entries = old.entries ++ e ∷ [] }) → Extends old new → IsPool new → IfOk r (λ t. t.number ≡ length old.entries) → IfOk r (Adds old new (placed_by old.names (placed_of old) e.place e.shape))

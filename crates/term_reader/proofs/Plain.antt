@@ -10,7 +10,7 @@ use Rattle.term_pool.specs.Contents as pool
 use Rattle.term_pool.specs.Contents.{Shape, Entry, Contents, name_in, place_at}
 use Rattle.term_pool.specs.Terms as terms
 use Rattle.term_pool.specs.Terms.{term_by, terms_by, terms_from, term_of}
-use Rattle.term_reader.specs.PlacedTerms.{parts_by, placed_by, numbered, placed_from, placed_of}
+use Rattle.term_pool.specs.PlacedTerms.{parts_by, placed_by, numbered, placed_from, placed_of}
 
 parts_plain : (p : TermId → PlacedTerm) (q : TermId → Term) (ts : List TermId) → ((t : TermId) → plain (p t) ≡ q t) → all_plain (parts_by p ts) ≡ terms_by q ts
 parts_plain p q [] h = refl

@@ -21,7 +21,7 @@ use Rattle.term_reader.specs.declared.parser.Parser.{Parser}
 use Rattle.term_reader.specs.declared.variables.Variables.{Variables}
 use Rattle.term_reader.specs.declared.reader.Sentence.{Sentence}
 use Rattle.term_reader.specs.declared.reader.Reader.{Reader}
-use Rattle.term_reader.specs.PlacedTerms.{placed_of}
+use Rattle.term_pool.specs.PlacedTerms.{placed_of}
 use Rattle.term_reader.specs.View.{IsWhole, Moves, moved, state, terminal_at, HasEnded}
 use Rattle.term_reader.specs.Numbering.{IsIndexed}
 use Rattle.term_reader.specs.Seeing.{AreVariables, names_of, names_on, Sees}

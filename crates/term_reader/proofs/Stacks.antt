@@ -16,9 +16,10 @@ use Rattle.term_reader.specs.Operators.{operator_of}
 use Rattle.term_reader.specs.declared.operators.Operator.{Operator}
 use Rattle.term_reader.specs.declared.parser.Item.{Item}
 use Rattle.term_reader.specs.declared.parser.Item.TheVariants.{Parenthesis, Curly, Call, List as Listed, Tail, Prefix, Infix}
-use Rattle.term_reader.specs.PlacedTerms.{placed_of, parts_of, Adds}
+use Rattle.term_pool.specs.PlacedTerms.{placed_of}
+use Rattle.term_reader.specs.PlacedTerms.{parts_of, Adds}
 use Rattle.term_reader.specs.View.{stack_of, HaveIds, HaveRoom, AreTerms, Steps, Stays, last_item}
-use Rattle.term_reader.proofs.PlacedLaws.{placed_kept, parts_kept, extends_length, extends_names}
+use Rattle.term_reader.proofs.PlacedLaws.{placed_kept, parts_kept, parts_of_one, parts_of_two, extends_length, extends_names}
 
 -- ---- the last element
 
@@ -108,14 +109,6 @@ pub stays_infix : (below : Option ℕ) (c : Contents) (xs : List Item) (p : ℕ)
 stays_infix below c xs p f l e h = stays_as below c xs (Infix p f l ∷ reverse (front xs)) (turned xs (Infix p f l) e) (λ ts done q t. rw h refl)
 
 -- ---- one operator gives way
-
-parts_of_one : (c : Contents) (t : TermId) → parts_of c (t ∷ []) ≡ one (placed_of c t)
-unfolding parts_of
-parts_of_one c t = refl
-
-parts_of_two : (c : Contents) (s t : TermId) → parts_of c (s ∷ t ∷ []) ≡ two (placed_of c s) (placed_of c t)
-unfolding parts_of
-parts_of_two c s t = refl
 
 pub one_term : (c : Contents) (t : TermId) → t.number < length c.entries → AreTerms c (t ∷ [])
 one_term c t h = All-from_recursion (λ u. u.number < length c.entries) (t ∷ []) (h, tt)

@@ -1,49 +1,52 @@
--- What is read, or refused, of all tokens.
-use Rattle.std.proofs.Common.{◌≡◌, ℕ, zero, suc, ◌+◌, ◌<◌, ◌≤◌, ◌⊎◌, inl, inr, List, [], ◌∷◌, ◌++◌, length, map, take, drop, get_or, Some, None, true, false, refl, sym, ap, subst, ◌∙◌, arith}
+-- What is read, or refused, of a text.
+use Rattle.std.proofs.Common.{◌≡◌, ℕ, zero, suc, ◌+◌, ◌<◌, ◌≤◌, ◌⊎◌, inl, inr, List, [], ◌∷◌, ◌++◌, length, map, take, drop, Some, None, true, false, refl, sym, ap, subst, ◌∙◌, arith, length-append, append_assoc, append-nil}
 use Rattle.std.specs.Prelude.{All}
-use Rattle.std.proofs.lemmas.List.{take-append-drop, take_more, take_all}
+use Rattle.std.proofs.lemmas.List.{take-append-drop, take-append-le, take_all}
 use Rattle.std.proofs.lemmas.Bool.{cases_lt}
 use Rattle.fd_model.specs.PlacedTerm.{PlacedTerm}
 use Rattle.fd_model.specs.Term.{Name}
 use Rattle.fd_model.specs.Terminals.{Terminal}
-use Rattle.fd_model.specs.Tokens.{Lexeme}
-use Rattle.fd_model.specs.Reading.{terminals, terminal_of, names_behind, place_at, Reading, sentences, token_fault, syntax_fault, too_deep, IsReading, IsSentences}
+use Rattle.fd_model.specs.Tokens.{Lexeme, HasTokens, TokensOf}
+use Rattle.fd_model.specs.Reading as model
+use Rattle.fd_model.specs.Reading.{terminals, terminal_of, names_behind, place_at, IsSentences, IsSyntaxPlace, IsDeepPlace}
 use Rattle.fd_model.specs.Grammar.{IsText, Begins}
 use Rattle.fd_model.specs.GrammarFaults.{deepest, open_behind, brackets, IsShallow, IsRead, IsSyntaxFault, IsTooDeep}
 use Rattle.fd_model.proofs.ReadingSteps.{State, want, top, run}
 use Rattle.fd_model.proofs.ReadingWhole.{accepts}
-use Rattle.char_tokens.specs.declared.token.Token.{Token}
-use Rattle.char_tokens.specs.Views.{lexeme_of, lexemes}
-use Rattle.term_reader.specs.declared.reader.Reader.{Reader}
-use Rattle.term_reader.specs.View.{state}
-use Rattle.fd_model.specs.Reading as model
+use Rattle.char_tokens.specs.declared.token.TokenFault.{TokenFault}
+use Rattle.char_tokens.specs.declared.token.TokenFault.TheVariants as faults
+use Rattle.char_tokens.specs.Views.{cause_of}
+use Rattle.char_tokens.specs.Left.{Left}
+use Rattle.char_tokens.specs.Scanning.{IsNext, Refuses, IsFirstFault, AreTokens}
+use Rattle.char_tokens.proofs.Reading.{Completes, completes_all, completes_more, next_tokens, next_fault, fault_first}
 use Rattle.term_pool.specs.Contents.{Contents}
 use Rattle.term_pool.specs.Valid.{IsPool}
+use Rattle.term_reader.specs.declared.reader.Reader.{Reader}
 use Rattle.term_reader.specs.declared.reader.Sentence.{Sentence}
-use Rattle.term_reader.specs.Seeing.{HasNatural}
 use Rattle.term_reader.specs.declared.reader.Sentences.{Sentences}
-use Rattle.term_reader.specs.Sentences.{sentence_of, sentences_of, AreSentencesOf, AreOwn, IsSentence, names_after, read_of, done_of, HasRead, IsReader, Took}
+use Rattle.term_reader.specs.View.{state}
+use Rattle.term_reader.specs.Sentences.{sentence_of, sentences_of, AreOwn, IsSentence, names_after, read_of, done_of, HasRead, IsReader, Took, IsFaultOf, fault_of}
 use Rattle.term_reader.proofs.Sound.{sound}
 use Rattle.term_reader.proofs.Complete.{begins, begins_none}
 use Rattle.term_reader.proofs.Readers.{start, terminals-append}
 
 -- ---- tokens by their numbers
 
-pub length-terminals : (names : List Name) (ls : List Lexeme) → length (terminals names ls) ≡ length ls
+length-terminals : (names : List Name) (ls : List Lexeme) → length (terminals names ls) ≡ length ls
 length-terminals names [] = refl
 length-terminals names (l ∷ ls) = ap suc (length-terminals (names_behind names l) ls)
 
-pub take-terminals : (names : List Name) (ls : List Lexeme) (k : ℕ) → take k (terminals names ls) ≡ terminals names (take k ls)
+take-terminals : (names : List Name) (ls : List Lexeme) (k : ℕ) → take k (terminals names ls) ≡ terminals names (take k ls)
 take-terminals names ls zero = refl
 take-terminals names [] (suc k) = refl
 take-terminals names (l ∷ ls) (suc k) = ap (λ (ts : List Terminal). terminal_of names l ∷ ts) (take-terminals (names_behind names l) ls k)
 
-pub place_at_get : (ls : List Lexeme) (size k : ℕ) (d : Lexeme) → k < length ls → place_at ls size k ≡ (get_or ls k d).place
-place_at_get [] size k d h = absurd (omega (arith, h))
-place_at_get (l ∷ ls) size zero d h = refl
-place_at_get (l ∷ ls) size (suc k) d h = place_at_get ls size k d (omega (arith, h))
+-- the place of the token behind those read
+place_behind : (ls more : List Lexeme) (l : Lexeme) (size : ℕ) → place_at (ls ++ l ∷ more) size (length ls) ≡ l.place
+place_behind [] more l size = refl
+place_behind (x ∷ ls) more l size = place_behind ls more l size
 
-pub place_at_end : (ls : List Lexeme) (size : ℕ) → place_at ls size (length ls) ≡ size
+place_at_end : (ls : List Lexeme) (size : ℕ) → place_at ls size (length ls) ≡ size
 place_at_end [] size = refl
 place_at_end (l ∷ ls) size = place_at_end ls size
 
@@ -51,172 +54,196 @@ brackets-append : (n : ℕ) (ts us : List Terminal) → brackets n (ts ++ us) �
 brackets-append n [] us = refl
 brackets-append n (x ∷ ts) us = brackets-append (open_behind n x) ts us
 
+-- the tokens in front of others
+take_front : (ls more : List Lexeme) (k : ℕ) → k ≤ length ls → take k (terminals [] (ls ++ more)) ≡ take k (terminals [] ls)
+take_front ls more k h = take-terminals [] (ls ++ more) k ∙ ap (terminals []) (take-append-le k ls more h) ∙ sym (take-terminals [] ls k)
+
+front_is : (ls more : List Lexeme) → take (length ls) (terminals [] (ls ++ more)) ≡ terminals [] ls
+front_is ls more = take_front ls more (length ls) (omega arith) ∙ take_all (length ls) (terminals [] ls) (omega (arith, length-terminals [] ls))
+
+-- the tokens in front of others, and the next one
+next_is : (ls more : List Lexeme) (l : Lexeme) → take (length ls + 1) (terminals [] (ls ++ l ∷ more)) ≡ terminals [] (ls ++ l ∷ [])
+next_is ls more l =
+    ap (λ (n : ℕ). take n (terminals [] (ls ++ l ∷ more))) (sym (length-append ls (l ∷ [])))
+    ∙ ap (λ (ks : List Lexeme). take (length (ls ++ l ∷ [])) (terminals [] ks)) (sym (append_assoc ls (l ∷ []) more))
+    ∙ front_is (ls ++ l ∷ []) more
+
+shallow_front : (ls more : List Lexeme) → IsShallow (terminals [] ls) (length ls) → IsShallow (terminals [] (ls ++ more)) (length ls)
+shallow_front ls more h j le = subst (λ (ts : List Terminal). brackets 0 ts ≤ deepest) (sym (take_front ls more j le)) (h j le)
+
 -- ---- the loop
 
--- The first i tokens are read.
-pub record ReadTo (ls : List Lexeme) (i depth : ℕ) (r : Reader) : Type 0 where
+-- These tokens are read, and so many brackets are open behind them.
+pub record ReadAll (ls : List Lexeme) (depth : ℕ) (r : Reader) : Type 0 where
   pub whole : IsReader r
-  pub read : HasRead (take i ls) r
-  pub brackets_open : depth ≡ brackets 0 (take i (terminals [] ls))
-  pub shallow : IsShallow (terminals [] ls) i
+  pub read : HasRead ls r
+  pub brackets_open : depth ≡ brackets 0 (terminals [] ls)
+  pub shallow : IsShallow (terminals [] ls) (length ls)
 
-pub read_none : (ls : List Lexeme) (r : Reader) → IsReader r → HasRead [] r → ReadTo ls 0 0 r
-read_none ls r w h = record { whole = w; read = h; brackets_open = refl; shallow = λ j le. shallow j le }
+read_none : (r : Reader) → IsReader r → HasRead [] r → ReadAll [] 0 r
+read_none r w h = record { whole = w; read = h; brackets_open = refl; shallow = λ j le. shallow j le }
   where
-    shallow : (j : ℕ) → j ≤ 0 → brackets 0 (take j (terminals [] ls)) ≤ deepest
+    shallow : (j : ℕ) → j ≤ 0 → brackets 0 (take j (terminals [] [])) ≤ deepest
     shallow zero le = omega arith
     shallow (suc j) le = absurd (omega (arith, le))
 
-next_taken : (ls : List Lexeme) (i : ℕ) (d : Lexeme) → i < length ls → take (i + 1) ls ≡ take i ls ++ get_or ls i d ∷ []
-next_taken ls i d h = take_more ls i d h
-
 -- the depth behind one more token
-pub depth_next : (ls : List Lexeme) (i depth : ℕ) (d : Lexeme) (r : Reader) → i < length ls → ReadTo ls i depth r → brackets 0 (take (i + 1) (terminals [] ls)) ≡ open_behind depth (terminal_of (names_after [] (take i ls)) (get_or ls i d))
-depth_next ls i depth d r h k =
-    let l = get_or ls i d in
-    let x = terminal_of (names_after [] (take i ls)) l in
-    let all : take (i + 1) (terminals [] ls) ≡ take i (terminals [] ls) ++ x ∷ [] =
-    take-terminals [] ls (i + 1) ∙ ap (terminals []) (next_taken ls i d h) ∙ terminals-append [] (take i ls) (l ∷ []) ∙ ap (λ (ts : List Terminal). ts ++ x ∷ []) (sym (take-terminals [] ls i)) in
-    ap (brackets 0) all ∙ brackets-append 0 (take i (terminals [] ls)) (x ∷ []) ∙ ap (λ (n : ℕ). open_behind n x) (sym k.brackets_open)
+depth_next : (ls : List Lexeme) (l : Lexeme) (depth : ℕ) (r : Reader) → ReadAll ls depth r → brackets 0 (terminals [] (ls ++ l ∷ [])) ≡ open_behind depth (terminal_of (names_after [] ls) l)
+depth_next ls l depth r k =
+    let x = terminal_of (names_after [] ls) l in
+    ap (brackets 0) (terminals-append [] ls (l ∷ [])) ∙ brackets-append 0 (terminals [] ls) (x ∷ []) ∙ ap (λ (n : ℕ). open_behind n x) (sym k.brackets_open)
 
-shallow_next : (ts : List Terminal) (i : ℕ) → IsShallow ts i → brackets 0 (take (i + 1) ts) ≤ deepest → IsShallow ts (i + 1)
-shallow_next ts i h k j le = go (cases_lt i j)
+shallow_next : (ls : List Lexeme) (l : Lexeme) → IsShallow (terminals [] ls) (length ls) → brackets 0 (terminals [] (ls ++ l ∷ [])) ≤ deepest → IsShallow (terminals [] (ls ++ l ∷ [])) (length (ls ++ l ∷ []))
+shallow_next ls l h k j le = go (cases_lt (length ls) j)
   where
-    go : (i < j) ⊎ (j ≤ i) → brackets 0 (take j ts) ≤ deepest
-    go (inl lt) = let same : j ≡ i + 1 = omega (arith, lt, le) in subst (λ (n : ℕ). brackets 0 (take n ts) ≤ deepest) (sym same) k
-    go (inr small) = h j small
+    all : List Terminal
+    all = terminals [] (ls ++ l ∷ [])
 
-pub read_next : (ls : List Lexeme) (i depth next : ℕ) (d : Lexeme) (r r2 : Reader) → i < length ls → ReadTo ls i depth r → IsReader r2 → HasRead (take i ls ++ get_or ls i d ∷ []) r2
-    → next ≡ open_behind depth (terminal_of (names_after [] (take i ls)) (get_or ls i d)) → next ≤ deepest → ReadTo ls (i + 1) next r2
-read_next ls i depth next d r r2 h k w took is le =
-    let behind = depth_next ls i depth d r h k in
+    go : (length ls < j) ⊎ (j ≤ length ls) → brackets 0 (take j all) ≤ deepest
+    go (inl lt) = subst (λ (ts : List Terminal). brackets 0 ts ≤ deepest) (sym (take_all j all (omega (arith, lt, length-terminals [] (ls ++ l ∷ []), length-append ls (l ∷ []))))) k
+    go (inr small) = shallow_front ls (l ∷ []) h j small
+
+read_next : (ls : List Lexeme) (l : Lexeme) (depth next : ℕ) (r r2 : Reader) → ReadAll ls depth r → IsReader r2 → HasRead (ls ++ l ∷ []) r2 → next ≡ open_behind depth (terminal_of (names_after [] ls) l) → next ≤ deepest → ReadAll (ls ++ l ∷ []) next r2
+read_next ls l depth next r r2 k w took is le =
+    let behind = depth_next ls l depth r k in
     record {
       whole = w;
-      read = subst (λ (xs : List Lexeme). HasRead xs r2) (sym (next_taken ls i d h)) took;
+      read = took;
       brackets_open = is ∙ sym behind;
-      shallow = shallow_next (terminals [] ls) i k.shallow (omega (arith, le, is, behind));
+      shallow = shallow_next ls l k.shallow (omega (arith, le, is, behind));
     }
 
 -- ---- faults
 
-run_taken : (ls : List Lexeme) (i : ℕ) (r : Reader) → HasRead (take i ls) r → run (take i (terminals [] ls)) start ≡ Some (state r.parser (done_of (read_of r)))
-run_taken ls i r h = ap (λ (ts : List Terminal). run ts start) (take-terminals [] ls i) ∙ h.run
+begins_front : (ls more : List Lexeme) (depth : ℕ) (r : Reader) → ReadAll ls depth r → Begins (take (length ls) (terminals [] (ls ++ more)))
+begins_front ls more depth r k = subst Begins (sym (front_is ls more)) (begins (terminals [] ls) (state r.parser (done_of (read_of r))) k.read.run)
 
-pub refused : (ls : List Lexeme) (i depth : ℕ) (d : Lexeme) (r : Reader) → i < length ls → ReadTo ls i depth r → run (terminals [] (take i ls ++ get_or ls i d ∷ [])) start ≡ None → IsSyntaxFault (terminals [] ls) i
-refused ls i depth d r h k dies =
-    let ts = terminals [] ls in
-    let dead : run (take (i + 1) ts) start ≡ None = ap (λ (us : List Terminal). run us start) (take-terminals [] ls (i + 1) ∙ ap (terminals []) (next_taken ls i d h)) ∙ dies in
+refused : (ls more : List Lexeme) (l : Lexeme) (depth : ℕ) (r : Reader) → ReadAll ls depth r → run (terminals [] (ls ++ l ∷ [])) start ≡ None → IsSyntaxFault (terminals [] (ls ++ l ∷ more)) (length ls)
+refused ls more l depth r k dies =
+    let ts = terminals [] (ls ++ l ∷ more) in
+    let front = take (length ls + 1) ts in
+    let dead : run front start ≡ None = ap (λ (us : List Terminal). run us start) (next_is ls more l) ∙ dies in
     record {
-      within = omega (arith, h, length-terminals [] ls);
-      fits = begins (take i ts) (state r.parser (done_of (read_of r))) (run_taken ls i r k.read);
-      ends = λ b. absurd (begins_none (take (i + 1) ts) dead b);
-      whole = λ terms e. begins_none (take (i + 1) ts) dead (drop (i + 1) ts, terms, subst (λ (l : List Terminal). IsText l terms) (sym (take-append-drop (i + 1) ts)) e);
-      shallow = k.shallow;
+      within = omega (arith, length-terminals [] (ls ++ l ∷ more), length-append ls (l ∷ more));
+      fits = begins_front ls (l ∷ more) depth r k;
+      ends = λ b. absurd (begins_none front dead b);
+      whole = λ terms e. begins_none front dead (drop (length ls + 1) ts, terms, subst (λ (us : List Terminal). IsText us terms) (sym (take-append-drop (length ls + 1) ts)) e);
+      shallow = shallow_front ls (l ∷ more) k.shallow;
     }
 
-pub deep : (ls : List Lexeme) (i depth next : ℕ) (d : Lexeme) (r r2 : Reader) → i < length ls → ReadTo ls i depth r → HasRead (take i ls ++ get_or ls i d ∷ []) r2
-    → next ≡ open_behind depth (terminal_of (names_after [] (take i ls)) (get_or ls i d)) → deepest < next → IsTooDeep (terminals [] ls) i
-deep ls i depth next d r r2 h k took is lt =
-    let ts = terminals [] ls in
+deep : (ls more : List Lexeme) (l : Lexeme) (depth next : ℕ) (r r2 : Reader) → ReadAll ls depth r → HasRead (ls ++ l ∷ []) r2 → next ≡ open_behind depth (terminal_of (names_after [] ls) l) → deepest < next → IsTooDeep (terminals [] (ls ++ l ∷ more)) (length ls)
+deep ls more l depth next r r2 k took is lt =
+    let all = next_is ls more l in
     record {
-      within = omega (arith, h, length-terminals [] ls);
-      fits = begins (take (i + 1) ts) (state r2.parser (done_of (read_of r2))) (run_taken ls (i + 1) r2 (subst (λ (xs : List Lexeme). HasRead xs r2) (sym (next_taken ls i d h)) took));
-      deep = omega (arith, lt, is, depth_next ls i depth d r h k);
-      shallow = k.shallow;
+      within = omega (arith, length-terminals [] (ls ++ l ∷ more), length-append ls (l ∷ more));
+      fits = subst Begins (sym all) (begins (terminals [] (ls ++ l ∷ [])) (state r2.parser (done_of (read_of r2))) took.run);
+      deep = omega (arith, lt, is, depth_next ls l depth r k, ap (brackets 0) all);
+      shallow = shallow_front ls (l ∷ more) k.shallow;
     }
 
 -- ---- the end of the tokens
 
-pub all_taken : (ls : List Lexeme) (i : ℕ) (r : Reader) → length ls ≤ i → HasRead (take i ls) r → HasRead ls r
-all_taken ls i r h k = subst (λ (xs : List Lexeme). HasRead xs r) (take_all i ls h) k
+ended : (ls : List Lexeme) (depth : ℕ) (r : Reader) → ReadAll ls depth r → ((done : List PlacedTerm) → state r.parser done ≡ want (top done)) → IsRead (terminals [] ls) (done_of (read_of r))
+ended ls depth r k b = record {
+  text = sound (terminals [] ls) (done_of (read_of r)) (k.read.run ∙ ap (λ (st : State). Some st) (b (done_of (read_of r))));
+  shallow = subst (IsShallow (terminals [] ls)) (sym (length-terminals [] ls)) k.shallow;
+}
 
-shallow_all : (ls : List Lexeme) (i : ℕ) → length ls ≤ i → IsShallow (terminals [] ls) i → IsShallow (terminals [] ls) (length (terminals [] ls))
-shallow_all ls i h k j le = k j (omega (arith, h, le, length-terminals [] ls))
-
-pub ended : (ls : List Lexeme) (i depth : ℕ) (r : Reader) → length ls ≤ i → ReadTo ls i depth r → ((done : List PlacedTerm) → state r.parser done ≡ want (top done)) → IsRead (terminals [] ls) (done_of (read_of r))
-ended ls i depth r h k b =
-    let all = all_taken ls i r h k.read in
-    record {
-      text = sound (terminals [] ls) (done_of (read_of r)) (all.run ∙ ap (λ (st : State). Some st) (b (done_of (read_of r))));
-      shallow = shallow_all ls i h k.shallow;
-    }
-
-pub unended : (ls : List Lexeme) (i depth : ℕ) (r : Reader) → length ls ≤ i → ReadTo ls i depth r → ((done terms : List PlacedTerm) → state r.parser done ≡ want (top terms) → ⊥) → IsSyntaxFault (terminals [] ls) (length ls)
-unended ls i depth r h k open_still =
+unended : (ls : List Lexeme) (depth : ℕ) (r : Reader) → ReadAll ls depth r → ((done terms : List PlacedTerm) → state r.parser done ≡ want (top terms) → ⊥) → IsSyntaxFault (terminals [] ls) (length ls)
+unended ls depth r k open_still =
     let ts = terminals [] ls in
     let done = done_of (read_of r) in
-    let all = all_taken ls i r h k.read in
     let n = length-terminals [] ls in
     record {
       within = omega (arith, n);
-      fits = subst Begins (sym (take_all (length ls) ts (omega (arith, n)))) (begins ts (state r.parser done) all.run);
+      fits = subst Begins (sym (take_all (length ls) ts (omega (arith, n)))) (begins ts (state r.parser done) k.read.run);
       ends = λ b. sym n;
-      whole = λ terms e. open_still done terms (let same : Some (state r.parser done) ≡ Some (want (top terms)) = sym all.run ∙ accepts ts terms e in cc);
-      shallow = λ j le. k.shallow j (omega (arith, le, h));
+      whole = λ terms e. open_still done terms (let same : Some (state r.parser done) ≡ Some (want (top terms)) = sym k.read.run ∙ accepts ts terms e in cc);
+      shallow = k.shallow;
     }
 
--- ---- by the tokens of the code
+-- ---- by what is left of the text
 
-get_lexeme : (ts : List Token) (i : ℕ) (d : Token) → get_or (lexemes ts) i (lexeme_of d) ≡ lexeme_of (get_or ts i d)
-get_lexeme [] i d = refl
-get_lexeme (t ∷ ts) zero d = refl
-get_lexeme (t ∷ ts) (suc i) d = get_lexeme ts i d
+-- Some tokens are read, and what is left completes them.
+pub record ReadUpTo (text : List ℕ) (left : Left) (depth : ℕ) (r : Reader) : Type 0 where
+  pub seen : List Lexeme
+  pub completes : Completes text left seen
+  pub all : ReadAll seen depth r
 
-length-lexemes : (ts : List Token) → length (lexemes ts) ≡ length ts
-length-lexemes [] = refl
-length-lexemes (t ∷ ts) = ap suc (length-lexemes ts)
+pub up_to_none : (text : List ℕ) (left : Left) (r : Reader) → left ≡ record { bytes = text; place = 0 } → IsReader r → HasRead [] r → ReadUpTo text left 0 r
+up_to_none text left r e w h = record { seen = []; completes = completes_all text left [] e refl; all = read_none r w h }
 
-pub natural_at : (ts : List Token) (i : ℕ) (d : Token) → All HasNatural (lexemes ts) → i < length ts → HasNatural (lexeme_of (get_or ts i d))
-natural_at ts i d h lt = subst HasNatural (get_lexeme ts i d) (h i (lexeme_of d) (omega (arith, lt, length-lexemes ts)))
+pub depth_within : (text : List ℕ) (left : Left) (depth : ℕ) (r : Reader) → ReadUpTo text left depth r → depth ≤ deepest
+depth_within text left depth r k = let h = k.all.shallow (length k.seen) (omega arith) in omega (arith, h, k.all.brackets_open, ap (brackets 0) (take_all (length k.seen) (terminals [] k.seen) (omega (arith, length-terminals [] k.seen))))
 
-token_place : (ts : List Token) (size i : ℕ) (d : Token) → i < length ts → (get_or ts i d).place ≡ place_at (lexemes ts) size i
-token_place ts size i d lt = sym (place_at_get (lexemes ts) size i (lexeme_of d) (omega (arith, lt, length-lexemes ts)) ∙ ap (λ (l : Lexeme). l.place) (get_lexeme ts i d))
+pub up_to_next : (text : List ℕ) (old new : Left) (l : Lexeme) (depth next : ℕ) (r r2 : Reader) → IsNext old new l → ReadUpTo text old depth r → IsReader r2 → ((ls : List Lexeme) → HasRead ls r → Took true ls l r2)
+    → ((names : List Name) → next ≡ open_behind depth (terminal_of names l)) → next ≤ deepest → ReadUpTo text new next r2
+up_to_next text old new l depth next r r2 i k w m is le = record {
+  seen = k.seen ++ l ∷ [];
+  completes = completes_more text old new k.seen l i k.completes;
+  all = read_next k.seen l depth next r r2 k.all w (m k.seen k.all.read) (is (names_after [] k.seen)) le;
+}
 
-pub fault_refused : (ts : List Token) (size i depth : ℕ) (d : Token) (r r2 : Reader) → i < length ts → ReadTo (lexemes ts) i depth r → ((ls : List Lexeme) → HasRead ls r → Took false ls (lexeme_of (get_or ts i d)) r2)
-    → (k : ℕ) × IsSyntaxFault (terminals [] (lexemes ts)) k × ((get_or ts i d).place ≡ place_at (lexemes ts) size k)
-fault_refused ts size i depth d r r2 lt k m =
-    let within : i < length (lexemes ts) = omega (arith, lt, length-lexemes ts) in
-    let dies = subst (λ (l : Lexeme). Took false (take i (lexemes ts)) l r2) (sym (get_lexeme ts i d)) (m (take i (lexemes ts)) k.read) in
-    (i, refused (lexemes ts) i depth (lexeme_of d) r within k dies, token_place ts size i d lt)
+-- the tokens of the text, where those behind the next one are given
+all_tokens : (text : List ℕ) (old new : Left) (l : Lexeme) (seen more : List Lexeme) → IsNext old new l → Completes text old seen → HasTokens new.place true new.bytes more → TokensOf text (seen ++ l ∷ more)
+all_tokens text old new l seen more i c h = c.tokens (l ∷ more) (next_tokens old new l more i h)
 
-pub fault_deep : (ts : List Token) (size i depth next : ℕ) (d : Token) (r r2 : Reader) → i < length ts → ReadTo (lexemes ts) i depth r → ((ls : List Lexeme) → HasRead ls r → Took true ls (lexeme_of (get_or ts i d)) r2)
-    → ((names : List Name) → next ≡ open_behind depth (terminal_of names (lexeme_of (get_or ts i d)))) → deepest < next → (k : ℕ) × IsTooDeep (terminals [] (lexemes ts)) k × ((get_or ts i d).place ≡ place_at (lexemes ts) size k)
-fault_deep ts size i depth next d r r2 lt k m is more =
-    let within : i < length (lexemes ts) = omega (arith, lt, length-lexemes ts) in
-    let at = sym (get_lexeme ts i d) in
-    let took = subst (λ (l : Lexeme). Took true (take i (lexemes ts)) l r2) at (m (take i (lexemes ts)) k.read) in
-    let names = names_after [] (take i (lexemes ts)) in
-    (i, deep (lexemes ts) i depth next (lexeme_of d) r r2 within k took (subst (λ (l : Lexeme). next ≡ open_behind depth (terminal_of names l)) at (is names)) more, token_place ts size i d lt)
+pub fault_refused : (text : List ℕ) (old new : Left) (l : Lexeme) (depth : ℕ) (r r2 : Reader) → IsNext old new l → ReadUpTo text old depth r → ((ls : List Lexeme) → HasRead ls r → Took false ls l r2) → AreTokens new → IsSyntaxPlace text l.place
+fault_refused text old new l depth r r2 i k m h = record {
+  lexemes = k.seen ++ l ∷ h.0;
+  tokens = all_tokens text old new l k.seen h.0 i k.completes h.1;
+  number = length k.seen;
+  fault = refused k.seen h.0 l depth r k.all (m k.seen k.all.read);
+  at = sym (place_behind k.seen h.0 l (length text));
+}
 
-pub kept : (ts : List Token) (i depth next : ℕ) (d : Token) (r r2 : Reader) → i < length ts → ReadTo (lexemes ts) i depth r → IsReader r2 → ((ls : List Lexeme) → HasRead ls r → Took true ls (lexeme_of (get_or ts i d)) r2)
-    → ((names : List Name) → next ≡ open_behind depth (terminal_of names (lexeme_of (get_or ts i d)))) → next ≤ deepest → ReadTo (lexemes ts) (i + 1) next r2
-kept ts i depth next d r r2 lt k w m is le =
-    let within : i < length (lexemes ts) = omega (arith, lt, length-lexemes ts) in
-    let at = sym (get_lexeme ts i d) in
-    let took = subst (λ (l : Lexeme). Took true (take i (lexemes ts)) l r2) at (m (take i (lexemes ts)) k.read) in
-    let names = names_after [] (take i (lexemes ts)) in
-    read_next (lexemes ts) i depth next (lexeme_of d) r r2 within k w took (subst (λ (l : Lexeme). next ≡ open_behind depth (terminal_of names l)) at (is names)) le
+pub fault_deep : (text : List ℕ) (old new : Left) (l : Lexeme) (depth next : ℕ) (r r2 : Reader) → IsNext old new l → ReadUpTo text old depth r → ((ls : List Lexeme) → HasRead ls r → Took true ls l r2)
+    → ((names : List Name) → next ≡ open_behind depth (terminal_of names l)) → deepest < next → AreTokens new → IsDeepPlace text l.place
+fault_deep text old new l depth next r r2 i k m is more h = record {
+  lexemes = k.seen ++ l ∷ h.0;
+  tokens = all_tokens text old new l k.seen h.0 i k.completes h.1;
+  number = length k.seen;
+  fault = deep k.seen h.0 l depth next r r2 k.all (m k.seen k.all.read) (is (names_after [] k.seen)) more;
+  at = sym (place_behind k.seen h.0 l (length text));
+}
 
-pub found : (ts : List Token) (i depth : ℕ) (r : Reader) (s : Sentences) → length ts ≤ i → ReadTo (lexemes ts) i depth r → ((done : List PlacedTerm) → state r.parser done ≡ want (top done)) → s.pool ≡ r.parser.pool → s.list.items ≡ r.list.items → AreSentencesOf (lexemes ts) s
-found ts i depth r s le k b e1 e2 =
-    let past : length (lexemes ts) ≤ i = omega (arith, le, length-lexemes ts) in
+-- a fault of the tokens that are left
+pub fault_left : (text : List ℕ) (left : Left) (depth : ℕ) (r : Reader) (f : TokenFault) → ReadUpTo text left depth r → IsFirstFault left f → IsFaultOf text (fault_of f)
+fault_left text left depth r (faults.At place cause) k h = k.completes.faults (cause_of cause) place h
+fault_left text left depth r faults.NoMemory k h = absurd h
+
+pub fault_next : (text : List ℕ) (left : Left) (depth : ℕ) (r : Reader) (f : TokenFault) → ReadUpTo text left depth r → Refuses left f → IsFaultOf text (fault_of f)
+fault_next text left depth r f k h = fault_left text left depth r f k (fault_first left f h)
+
+-- a fault of the tokens behind the next one
+pub fault_behind : (text : List ℕ) (old new : Left) (l : Lexeme) (depth : ℕ) (r : Reader) (f : TokenFault) → IsNext old new l → ReadUpTo text old depth r → IsFirstFault new f → IsFaultOf text (fault_of f)
+fault_behind text old new l depth r (faults.At place cause) i k h = k.completes.faults (cause_of cause) place (next_fault old new l (cause_of cause) place i h)
+fault_behind text old new l depth r faults.NoMemory i k h = absurd h
+
+all_seen : (text : List ℕ) (left : Left) (seen : List Lexeme) → Completes text left seen → HasTokens left.place true left.bytes [] → TokensOf text seen
+all_seen text left seen c h = subst (TokensOf text) (append-nil seen) (c.tokens [] h)
+
+pub found : (text : List ℕ) (left : Left) (depth : ℕ) (r : Reader) (s : Sentences) → ReadUpTo text left depth r → HasTokens left.place true left.bytes [] → ((done : List PlacedTerm) → state r.parser done ≡ want (top done)) → s.pool ≡ r.parser.pool → s.list.items ≡ r.list.items → IsSentences text (sentences_of s)
+found text left depth r s k h b e1 e2 =
     let same : sentences_of s ≡ read_of r = ap (λ (c : Contents). map (sentence_of c) s.list.items) e1 ∙ ap (map (sentence_of r.parser.pool)) e2 in
     record {
-      terms = subst (λ (ss : List model.Sentence). IsRead (terminals [] (lexemes ts)) (done_of ss)) (sym same) (ended (lexemes ts) i depth r past k b);
-      names = ap (map (λ y. y.names)) same ∙ (all_taken (lexemes ts) i r past k.read).names;
+      lexemes = k.seen;
+      tokens = all_seen text left k.seen k.completes h;
+      terms = subst (λ (ss : List model.Sentence). IsRead (terminals [] k.seen) (done_of ss)) (sym same) (ended k.seen depth r k.all b);
+      names = ap (map (λ y. y.names)) same ∙ k.all.read.names;
     }
 
-pub fault_unended : (ts : List Token) (size i depth : ℕ) (r : Reader) → length ts ≤ i → ReadTo (lexemes ts) i depth r → ((done terms : List PlacedTerm) → state r.parser done ≡ want (top terms) → ⊥)
-    → (k : ℕ) × IsSyntaxFault (terminals [] (lexemes ts)) k × (size ≡ place_at (lexemes ts) size k)
-fault_unended ts size i depth r le k b =
-    let past : length (lexemes ts) ≤ i = omega (arith, le, length-lexemes ts) in
-    (length (lexemes ts), unended (lexemes ts) i depth r past k b, sym (place_at_end (lexemes ts) size))
+pub fault_unended : (text : List ℕ) (left : Left) (depth : ℕ) (r : Reader) → ReadUpTo text left depth r → HasTokens left.place true left.bytes [] → ((done terms : List PlacedTerm) → state r.parser done ≡ want (top terms) → ⊥) → IsSyntaxPlace text (length text)
+fault_unended text left depth r k h b = record {
+  lexemes = k.seen;
+  tokens = all_seen text left k.seen k.completes h;
+  number = length k.seen;
+  fault = unended k.seen depth r k.all b;
+  at = sym (place_at_end k.seen (length text));
+}
 
-pub depth_within : (ls : List Lexeme) (i depth : ℕ) (r : Reader) → ReadTo ls i depth r → depth ≤ deepest
-depth_within ls i depth r k = let h = k.shallow i (omega arith) in omega (arith, h, k.brackets_open)
-
-pub own : (ls : List Lexeme) (i depth : ℕ) (r : Reader) (s : Sentences) → ReadTo ls i depth r → s.pool ≡ r.parser.pool → s.list.items ≡ r.list.items → AreOwn s
-own ls i depth r s k e1 e2 = record {
-  pool = subst IsPool (sym e1) k.whole.parser.pool;
-  list = subst (λ (l : List Sentence). All (IsSentence s.pool) l) (sym e2) (subst (λ (c : Contents). All (IsSentence c) r.list.items) (sym e1) k.whole.list);
+pub own : (text : List ℕ) (left : Left) (depth : ℕ) (r : Reader) (s : Sentences) → ReadUpTo text left depth r → s.pool ≡ r.parser.pool → s.list.items ≡ r.list.items → AreOwn s
+own text left depth r s k e1 e2 = record {
+  pool = subst IsPool (sym e1) k.all.whole.parser.pool;
+  list = subst (λ (l : List Sentence). All (IsSentence s.pool) l) (sym e2) (subst (λ (c : Contents). All (IsSentence c) r.list.items) (sym e1) k.all.whole.list);
 }

@@ -5,3 +5,4 @@ pub mod Numbering
 pub mod Seeing
 pub mod Sentences
 pub mod Named
+pub mod Laws

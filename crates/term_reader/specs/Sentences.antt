@@ -5,13 +5,13 @@ use Rattle.fd_model.specs.PlacedTerm.{PlacedTerm}
 use Rattle.fd_model.specs.Tokens.{Lexeme, Stop, FaultOf}
 use Rattle.fd_model.specs.Reading as model
 use Rattle.fd_model.specs.Reading.{terminals, names_behind, sentence_names, place_at, IsSyntaxPlace, IsDeepPlace, Reading, sentences, token_fault, syntax_fault, too_deep, IsReading}
-use Rattle.fd_model.specs.GrammarFaults.{IsRead, IsSyntaxFault, IsTooDeep}
 use Rattle.fd_model.proofs.ReadingSteps.{want, top, run}
 use Rattle.char_tokens.specs.Views.{cause_of}
+use Rattle.char_tokens.specs.declared.token.TokenFault.{TokenFault}
 use Rattle.char_tokens.specs.declared.token.TokenFault.TheVariants as faults
 use Rattle.term_pool.specs.Contents.{Contents, atom_name}
 use Rattle.term_pool.specs.Valid.{IsPool}
-use Rattle.term_reader.specs.PlacedTerms.{placed_of}
+use Rattle.term_pool.specs.PlacedTerms.{placed_of}
 use Rattle.term_reader.specs.View.{IsWhole, state}
 use Rattle.term_reader.specs.Seeing.{AreVariables, names_of}
 use Rattle.term_reader.specs.declared.reader.Sentence.{Sentence}
@@ -69,18 +69,6 @@ pub record AreOwn (s : Sentences) : Type 0 where
   pub pool : IsPool s.pool
   pub list : All (IsSentence s.pool) s.list.items
 
--- the tokens are these sentences
-pub record AreSentencesOf (ls : List Lexeme) (s : Sentences) : Type 0 where
-  pub terms : IsRead (terminals [] ls) (done_of (sentences_of s))
-  pub names : map (λ x. x.names) (sentences_of s) ≡ sentence_names [] ls
-
--- the fault of the tokens of a text of this size, or want of memory
-abbrev pub IsFaultAmong : List Lexeme → ℕ → ReaderFault → Type 0
-IsFaultAmong ls size (Token f) = ⊥
-IsFaultAmong ls size (Syntax place) = (k : ℕ) × IsSyntaxFault (terminals [] ls) k × (place ≡ place_at ls size k)
-IsFaultAmong ls size (TooDeep place) = (k : ℕ) × IsTooDeep (terminals [] ls) k × (place ≡ place_at ls size k)
-IsFaultAmong ls size NoMemory = Unit {0}
-
 -- the fault is the text's, or want of memory
 abbrev pub IsFaultOf : List ℕ → ReaderFault → Type 0
 IsFaultOf text (Token (faults.At place cause)) = FaultOf text (cause_of cause) place
@@ -96,3 +84,8 @@ IsFaultFor v (Token faults.NoMemory) = ⊥
 IsFaultFor v (Syntax place) = v ≡ syntax_fault place
 IsFaultFor v (TooDeep place) = v ≡ too_deep place
 IsFaultFor v NoMemory = Unit {0}
+
+-- what a fault of the tokens is to the reader
+abbrev pub fault_of : TokenFault → ReaderFault
+fault_of (faults.At place cause) = Token (faults.At place cause)
+fault_of faults.NoMemory = NoMemory

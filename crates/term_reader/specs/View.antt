@@ -9,7 +9,8 @@ use Rattle.term_pool.specs.Contents.{Contents, atom_name}
 use Rattle.term_pool.specs.Terms.{Extends}
 use Rattle.term_pool.specs.Valid.{IsPool}
 use Rattle.term_reader.specs.Operators.{operator_of}
-use Rattle.term_reader.specs.PlacedTerms.{placed_of, parts_of}
+use Rattle.term_pool.specs.PlacedTerms.{placed_of}
+use Rattle.term_reader.specs.PlacedTerms.{parts_of}
 use Rattle.term_reader.specs.declared.parser.Terminal.{Terminal}
 use Rattle.term_reader.specs.declared.parser.Terminal.TheVariants as terminals
 use Rattle.term_reader.specs.declared.parser.Item.{Item}

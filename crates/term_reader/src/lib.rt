@@ -6,6 +6,7 @@ ghost use Rattle.fd_model.specs.Reading.{Reading, IsReading, sentences};
 ghost use Rattle.term_reader.specs.Named.{HaveNames};
 ghost use Rattle.term_reader.specs.Sentences.{sentences_of, AreOwn, IsFaultOf, IsFaultFor};
 
+pub mod laws;
 pub mod operators;
 mod parser;
 mod reader;
@@ -14,8 +15,7 @@ mod terminals;
 mod tests;
 mod variables;
 
-use crate::reader::read_tokens;
-use char_tokens::{TokenFault, tokens};
+use crate::reader::read_text;
 pub use reader::{ReaderFault, Sentence, Sentences};
 use std::alloc::Global;
 
@@ -27,10 +27,5 @@ pub fn read_sentences(alloc: Global, text: &str) -> Result<Sentences, ReaderFaul
     ensures fault { IfErr result (IsFaultOf text.now) }
     ensures only { (v : Reading) → IsReading text.now v → MatchResult result (λ s. v ≡ sentences (sentences_of s)) (IsFaultFor v) }
 {
-    let found = match tokens(alloc, text) {
-        Ok(found) => found,
-        Err(TokenFault::NoMemory) => return Err(ReaderFault::NoMemory),
-        Err(fault) => return Err(ReaderFault::Token(fault)),
-    };
-    read_tokens(alloc, &found, text.len())
+    read_text(alloc, text)
 }

@@ -13,7 +13,8 @@ ghost use Rattle.term_pool.specs.declared.AtomId.{AtomId as Atom};
 ghost use Rattle.term_pool.specs.Contents.{Contents, atom_name};
 ghost use Rattle.term_pool.specs.Valid.{IsPool};
 ghost use Rattle.term_pool.specs.Terms.{Extends};
-ghost use Rattle.term_reader.specs.PlacedTerms.{placed_of, parts_of, Adds};
+ghost use Rattle.term_pool.specs.PlacedTerms.{placed_of};
+ghost use Rattle.term_reader.specs.PlacedTerms.{parts_of, Adds};
 ghost use Rattle.term_reader.specs.View.{AreTerms, HaveIds, HaveRoom, IsTerminal, IsWhole, Moves, Steps, Stays, item_limit, last_item, stack, state, terminal_at, closing_of, allows_lone, EndsWith, StandsAtStop, IsNegative, IsNatural, TakesArguments};
 
 use crate::operators::{COMMA, Operator, infix, prefix};

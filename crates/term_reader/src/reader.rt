@@ -1,18 +1,19 @@
-//! Sentences read from the tokens of a text.
+//! Sentences read from a text, token by token.
 
-ghost use Rattle.std.specs.Prelude.{◌≡◌, ◌≤◌, ◌<◌, ◌++◌, ◌∷◌, [], ℕ, List, length, map, IfOk, IfErr, IsTrue, All};
+ghost use Rattle.std.specs.Prelude.{◌≡◌, ◌≤◌, [], List, IfOk, IfErr, IsTrue};
 ghost use Rattle.fd_model.specs.Tokens.{Lexeme};
-ghost use Rattle.fd_model.specs.Reading.{terminal_of};
+ghost use Rattle.fd_model.specs.Reading.{terminal_of, IsSentences};
 ghost use Rattle.fd_model.specs.GrammarFaults.{open_behind, deepest};
 ghost use Rattle.fd_model.specs.Term.{Name};
-ghost use Rattle.char_tokens.specs.Views.{lexeme_of, lexemes};
+ghost use Rattle.char_tokens.specs.Views.{lexeme_of};
+ghost use Rattle.term_reader.specs.declared.reader.ReaderFault.TheVariants.{NoMemory};
 ghost use Rattle.term_reader.specs.Seeing.{HasNatural};
-ghost use Rattle.term_reader.specs.Sentences.{HasRead, IsReader, IsStop, Took, AreSentencesOf, AreOwn, IsFaultAmong};
+ghost use Rattle.term_reader.specs.Sentences.{HasRead, IsReader, IsStop, Took, AreOwn, IsFaultOf, fault_of, sentences_of};
 
 use crate::parser::Parser;
 use crate::terminals::terminal;
 use crate::variables::Variables;
-use char_tokens::{Kind, Token, TokenFault};
+use char_tokens::{Kind, Scanner, Token, TokenFault};
 use fd_model::NoMemory;
 use std::alloc::Global;
 use term_pool::{AtomId, Pool, TermId};
@@ -47,6 +48,25 @@ pub enum ReaderFault {
     TooDeep { place: usize },
     #[error("out of memory")]
     NoMemory,
+}
+
+impl From<TokenFault> for ReaderFault {
+    ghost from_gives = { λ t e. e ≡ fault_of t };
+
+    fn from(fault: TokenFault) -> ReaderFault {
+        match fault {
+            TokenFault::At { place, cause } => ReaderFault::Token(TokenFault::At { place, cause }),
+            TokenFault::NoMemory => ReaderFault::NoMemory,
+        }
+    }
+}
+
+impl From<NoMemory> for ReaderFault {
+    ghost from_gives = { λ _ e. e ≡ NoMemory };
+
+    fn from(_error: NoMemory) -> ReaderFault {
+        ReaderFault::NoMemory
+    }
 }
 
 /// The greatest number of brackets that may be open at one place.
@@ -117,30 +137,23 @@ impl Reader {
     }
 }
 
-/// The sentences that the tokens of a text of this size are.
-pub fn read_tokens(
-    alloc: Global,
-    tokens: &[Token<'_>],
-    size: usize,
-) -> Result<Sentences, ReaderFault>
-    requires { All HasNatural (lexemes tokens.now) }
-    ensures found { IfOk result (AreSentencesOf (lexemes tokens.now)) }
+/// The sentences of a text, or its first fault. A fault of the tokens comes before those of the grammar, so behind one of these the tokens are read to the end.
+pub fn read_text(alloc: Global, text: &str) -> Result<Sentences, ReaderFault>
+    ensures found { IfOk result (λ s. IsSentences text.now (sentences_of s)) }
     ensures own { IfOk result AreOwn }
-    ensures fault { IfErr result (IsFaultAmong (lexemes tokens.now) size) }
+    ensures fault { IfErr result (IsFaultOf text.now) }
 {
-    let mut reader = match Reader::new(alloc) {
-        Ok(reader) => reader,
-        Err(_) => return Err(ReaderFault::NoMemory),
-    };
+    let mut scanner = Scanner::new(text);
+    let mut reader = Reader::new(alloc)?;
     let mut depth = 0;
-    for token in tokens {
-        match reader.read(alloc, *token) {
-            Ok(true) => {}
-            Ok(false) => return Err(ReaderFault::Syntax { place: token.place }),
-            Err(_) => return Err(ReaderFault::NoMemory),
+    while let Some(token) = scanner.next_token()? {
+        if !reader.read(alloc, token)? {
+            scanner.finish()?;
+            return Err(ReaderFault::Syntax { place: token.place });
         }
-        depth = depth_behind(depth, *token);
+        depth = depth_behind(depth, token);
         if depth > DEEPEST {
+            scanner.finish()?;
             return Err(ReaderFault::TooDeep { place: token.place });
         }
     }
@@ -152,6 +165,6 @@ pub fn read_tokens(
             list,
         })
     } else {
-        Err(ReaderFault::Syntax { place: size })
+        Err(ReaderFault::Syntax { place: text.len() })
     }
 }

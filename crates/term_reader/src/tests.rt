@@ -3,6 +3,7 @@ ghost use Rattle.std.specs.Prelude.{◌<◌, length, All, OnOk};
 ghost use Rattle.term_reader.specs.Sentences.{AreOwn};
 
 use super::*;
+use char_tokens::TokenFault;
 use std::alloc::AllocError;
 use std::test::Fail;
 use term_pool::{AtomId, Node, Pool, TermId};

@@ -2,7 +2,8 @@ use Rattle.std.proofs.Common.{◌≡◌, ◌∙◌, ◌≤◌, ◌<◌, ◌-◌,
 use Rattle.std.proofs.lemmas.List.Elements.{All-drop}
 use Rattle.fd_model.specs.Grammar.{list_of}
 use Rattle.term_pool.specs.declared.TermId.{TermId}
-use Rattle.term_reader.specs.PlacedTerms.{placed_of, parts_of, Adds}
+use Rattle.term_pool.specs.PlacedTerms.{placed_of}
+use Rattle.term_reader.specs.PlacedTerms.{parts_of, Adds}
 use Rattle.term_reader.specs.View.{AreTerms}
 use Rattle.term_reader.specs.declared.parser.Item.TheVariants as its
 use Rattle.term_reader.proofs.Enclosed.{on_top, moves_tail}

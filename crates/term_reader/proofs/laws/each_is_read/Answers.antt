@@ -1,0 +1,5 @@
+use Rattle.term_reader.proofs.Readable as readable
+use Rattle.term_reader.proofs.laws.each_is_read.Goals as goal
+
+pub returns : goal.returns
+returns c = readable.each_is_read

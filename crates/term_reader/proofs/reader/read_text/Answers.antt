@@ -1,0 +1,79 @@
+use Rattle.std.proofs.Common.{refl}
+use Rattle.std.proofs.lemmas.Result.{err_from_is_err_and}
+use Rattle.char_tokens.specs.Views.{lexeme_of}
+use Rattle.char_tokens.specs.Scanning as scanning
+use Rattle.char_tokens.proofs.Reading.{next_shorter}
+use Rattle.term_reader.proofs.Naturals.{next_natural}
+use Rattle.term_reader.proofs.Texts.{depth_within, up_to_next, fault_refused, fault_deep, fault_next, fault_behind, found, fault_unended, own}
+use Rattle.term_reader.proofs.reader.read_text.Goals as goal
+
+pub returns-in_err-token-clause-fault : goal.returns-in_err-token-clause-fault
+returns-in_err-token-clause-fault c =
+    let p = err_from_is_err_and c.from_residual-in_err-token.result c.from_residual-in_err-token.ensures.1 in
+    rw (p.1, p.2) (fault_next c.args.text.now c.loop-reader.scanner c.loop-reader.depth c.loop-reader.reader _ c.loop-reader.invariant c.in_err-token.ensures.fault)
+
+pub read-requires-clause-natural : goal.read-requires-clause-natural
+read-requires-clause-natural c =
+    let h : scanning.HasRead c.loop-reader.scanner c.next_token.new.self c.in_ok-token.field-0 = c.in_ok-token.ensures.read in
+    let i = rw c.in-Some.is at h in
+    next_natural c.loop-reader.scanner c.next_token.new.self (lexeme_of c.in-Some.token) i
+
+pub returns-in_err-finish-clause-fault : goal.returns-in_err-finish-clause-fault
+returns-in_err-finish-clause-fault c =
+    let h : scanning.HasRead c.loop-reader.scanner c.next_token.new.self c.in_ok-token.field-0 = c.in_ok-token.ensures.read in
+    let i = rw c.in-Some.is at h in
+    let p = err_from_is_err_and c.from_residual-in_err-finish.result c.from_residual-in_err-finish.ensures.1 in
+    rw (p.1, p.2) (fault_behind c.args.text.now c.loop-reader.scanner c.next_token.new.self (lexeme_of c.in-Some.token) c.loop-reader.depth c.loop-reader.reader _ i c.loop-reader.invariant c.in_err-finish.ensures.fault)
+
+pub returns-then-not-branch-clause-fault : goal.returns-then-not-branch-clause-fault
+returns-then-not-branch-clause-fault c =
+    let h : scanning.HasRead c.loop-reader.scanner c.next_token.new.self c.in_ok-token.field-0 = c.in_ok-token.ensures.read in
+    let i = rw c.in-Some.is at h in
+    let m = rw c.if-not-branch.true at c.in_ok-read.ensures.took in
+    fault_refused c.args.text.now c.loop-reader.scanner c.next_token.new.self (lexeme_of c.in-Some.token) c.loop-reader.depth c.loop-reader.reader c.read.new.self i c.loop-reader.invariant m c.in_ok-finish.ensures.tokens
+
+pub depth_behind-depth-requires : goal.depth_behind-depth-requires
+depth_behind-depth-requires c = depth_within c.args.text.now c.loop-reader.scanner c.loop-reader.depth c.loop-reader.reader c.loop-reader.invariant
+
+pub returns-in_err-finish-2-clause-fault : goal.returns-in_err-finish-2-clause-fault
+returns-in_err-finish-2-clause-fault c =
+    let h : scanning.HasRead c.loop-reader.scanner c.next_token.new.self c.in_ok-token.field-0 = c.in_ok-token.ensures.read in
+    let i = rw c.in-Some.is at h in
+    let p = err_from_is_err_and c.from_residual-in_err-finish-2.result c.from_residual-in_err-finish-2.ensures.1 in
+    rw (p.1, p.2) (fault_behind c.args.text.now c.loop-reader.scanner c.next_token.new.self (lexeme_of c.in-Some.token) c.loop-reader.depth c.loop-reader.reader _ i c.loop-reader.invariant c.in_err-finish-2.ensures.fault)
+
+pub returns-then-depth-gt-DEEPEST-clause-fault : goal.returns-then-depth-gt-DEEPEST-clause-fault
+returns-then-depth-gt-DEEPEST-clause-fault c =
+    let h : scanning.HasRead c.loop-reader.scanner c.next_token.new.self c.in_ok-token.field-0 = c.in_ok-token.ensures.read in
+    let i = rw c.in-Some.is at h in
+    let m = rw c.if-not-branch.false at c.in_ok-read.ensures.took in
+    fault_deep c.args.text.now c.loop-reader.scanner c.next_token.new.self (lexeme_of c.in-Some.token) c.loop-reader.depth c.depth_behind-depth.result c.loop-reader.reader c.read.new.self i c.loop-reader.invariant m c.depth_behind-depth.ensures c.if-depth-gt-DEEPEST.true c.in_ok-finish-2.ensures.tokens
+
+pub loop-reader-smaller : goal.loop-reader-smaller
+loop-reader-smaller c =
+    let h : scanning.HasRead c.loop-reader.scanner c.next_token.new.self c.in_ok-token.field-0 = c.in_ok-token.ensures.read in
+    let i = rw c.in-Some.is at h in
+    next_shorter c.loop-reader.scanner c.next_token.new.self (lexeme_of c.in-Some.token) i
+
+pub loop-reader-preserved : goal.loop-reader-preserved
+loop-reader-preserved c =
+    let h : scanning.HasRead c.loop-reader.scanner c.next_token.new.self c.in_ok-token.field-0 = c.in_ok-token.ensures.read in
+    let i = rw c.in-Some.is at h in
+    let m = rw c.if-not-branch.false at c.in_ok-read.ensures.took in
+    let w = rw c.if-not-branch.false at c.in_ok-read.ensures.whole in
+    up_to_next c.args.text.now c.loop-reader.scanner c.next_token.new.self (lexeme_of c.in-Some.token) c.loop-reader.depth c.depth_behind-depth.result c.loop-reader.reader c.read.new.self i c.loop-reader.invariant (w refl) m c.depth_behind-depth.ensures c.if-depth-gt-DEEPEST.false
+
+pub returns-then-is_between-clause-found : goal.returns-then-is_between-clause-found
+returns-then-is_between-clause-found c =
+    let h : scanning.HasRead c.loop-reader.scanner c.next_token.new.self c.in_ok-token.field-0 = c.in_ok-token.ensures.read in
+    let n = rw c.in_default.is at h in
+    found c.args.text.now c.loop-reader.scanner c.loop-reader.depth c.loop-reader.reader (record { pool = c.into_pool.result; list = c.loop-reader.reader.list }) c.loop-reader.invariant n.0 (c.is_between.ensures.between c.if-is_between.true) c.into_pool.ensures refl
+
+pub returns-else-is_between-clause-fault : goal.returns-else-is_between-clause-fault
+returns-else-is_between-clause-fault c =
+    let h : scanning.HasRead c.loop-reader.scanner c.next_token.new.self c.in_ok-token.field-0 = c.in_ok-token.ensures.read in
+    let n = rw c.in_default.is at h in
+    fault_unended c.args.text.now c.loop-reader.scanner c.loop-reader.depth c.loop-reader.reader c.loop-reader.invariant n.0 (c.is_between.ensures.begun c.if-is_between.false)
+
+pub returns-then-is_between-clause-own : goal.returns-then-is_between-clause-own
+returns-then-is_between-clause-own c = own c.args.text.now c.loop-reader.scanner c.loop-reader.depth c.loop-reader.reader _ c.loop-reader.invariant c.into_pool.ensures refl
