@@ -8,11 +8,12 @@ use Rattle.fd_model.specs.Term.{Name, Term, Terms, Var, Int, Atom, Comp, no_term
 use Rattle.fd_model.specs.PlacedTerm.{PlacedTerm, PlacedTerms, var, int, atom, comp, part, one, two}
 use Rattle.fd_model.specs.Operators.{Operator, infix_operators, infix_of, is_operator, left_limit, right_limit}
 use Rattle.fd_model.specs.Terminals.{Terminal, name, operator_word, variable, opens, closes, open_list, close_list, open_curly, close_curly, comma, bar, comma_operator, infix_operator, is_minus, place_of}
+use Rattle.fd_model.specs.Writing.{is_letter_word}
 use Rattle.fd_model.specs.Grammar.{Reads, an_integer, a_negative, a_variable, an_atom, empty_list, empty_curly, named_call, operator_call, in_parens, a_list, a_list_tail, in_curly, an_infix, Arg, a_term, Args, last, more, list_of}
 use Rattle.fd_model.proofs.OperatorLaws.{within_infix}
 use Rattle.term_writer.specs.Spelled.{placed, all_placed, operator_terminal, call_terminal, InTokens, called, after_bar, atom_tokens, one_tokens, operands, infix_tokens, two_tokens, two_rest, atom_rest, integer_tokens, tokens_of, further, HasArguments, AllHaveArguments, Within, SpelledIsRead}
 
-text_is : (a b : Name) → bytes_eq a b ≡ true → a ≡ b
+pub text_is : (a b : Name) → bytes_eq a b ≡ true → a ≡ b
 text_is a b e = (bytes_eq-Decides a b).0 e
 
 at_zero : {ts rest : List Terminal} {t : PlacedTerm} (limit : ℕ) → Reads ts rest 0 t → Within ts rest limit t
@@ -38,7 +39,7 @@ pub record Stands (f : Name) (op : Operator) : Type 0 where
   pub named : op.name ≡ f
   pub place : place_of (operator_terminal f) ≡ 0
 
-row_named : (rows : List Operator) (f : Name) (op : Operator) → find (λ g. bytes_eq g.name f) rows ≡ Some op → op.name ≡ f
+pub row_named : (rows : List Operator) (f : Name) (op : Operator) → find (λ g. bytes_eq g.name f) rows ≡ Some op → op.name ≡ f
 row_named [] f op e = absurd cc
 row_named (g ∷ gs) f op e = go (bytes_eq g.name f) refl e (λ e2. row_named gs f op e2)
   where
@@ -50,7 +51,7 @@ comma_is : infix_of (codes ",") ≡ Some comma_operator
 unfolding infix_of
 comma_is = refl
 
-infix_stands : (f : Name) (op : Operator) → infix_of f ≡ Some op → Stands f op
+pub infix_stands : (f : Name) (op : Operator) → infix_of f ≡ Some op → Stands f op
 unfolding operator_terminal infix_of
 infix_stands f op e = go (bytes_eq f (codes ",")) refl
   where
@@ -100,18 +101,18 @@ minus_is : is_minus (codes "-") ≡ true
 unfolding is_minus
 minus_is = refl
 
-integer_reads : (z : ℤ) (r : List Terminal) → Reads (integer_tokens z r) r 0 (int z 0)
-integer_reads (pos n) r = an_integer
-integer_reads (negsuc n) r = a_negative minus_is
+integer_reads : (z : ℤ) (tight : Bool) (r : List Terminal) → Reads (integer_tokens z tight r) r 0 (int z 0)
+integer_reads (pos n) tight r = an_integer
+integer_reads (negsuc n) tight r = a_negative minus_is
 
 -- ---- a spelling is right
 
 pub record Right (sp : InTokens) (t : PlacedTerm) : Type 0 where
-  pub at : (limit : ℕ) (r : List Terminal) → Within (sp.at limit r) r limit t
+  pub at : (tight : Bool) (limit : ℕ) (r : List Terminal) → Within (sp.at tight limit r) r limit t
   pub rest : (r : List Terminal) → TailOf r (sp.rest r) t
 
-barred : (sp : ℕ → List Terminal → List Terminal) (t : PlacedTerm) → ((limit : ℕ) (r : List Terminal) → Within (sp limit r) r limit t) → Right (record { at = sp; rest = after_bar sp }) t
-barred sp t h = record { at = h; rest = λ r. behind_bar (as_arg (h 999 (close_list ∷ r))) }
+barred : (sp : Bool → ℕ → List Terminal → List Terminal) (t : PlacedTerm) → ((tight : Bool) (limit : ℕ) (r : List Terminal) → Within (sp tight limit r) r limit t) → Right (record { at = sp; rest = after_bar sp }) t
+barred sp t h = record { at = h; rest = λ r. behind_bar (as_arg (h true 999 (close_list ∷ r))) }
 
 atom_reads : (a : Name) (r : List Terminal) → Reads (atom_tokens a r) r 0 (atom a 0)
 atom_reads a r = go (bytes_eq a (codes "[]")) refl (bytes_eq a (codes "{}")) refl
@@ -121,49 +122,50 @@ atom_reads a r = go (bytes_eq a (codes "[]")) refl (bytes_eq a (codes "{}")) ref
     go false e true k = subst (λ (x : Name). Reads (open_curly 0 ∷ close_curly ∷ r) r 0 (atom x 0)) (sym (text_is a (codes "{}") k)) empty_curly
     go false e false k = an_atom
 
-atom_right : (a : Name) → Right (record { at = λ limit. atom_tokens a; rest = atom_rest a }) (atom a 0)
-atom_right a = record { at = λ limit r. at_zero limit (atom_reads a r); rest = λ r. go r (bytes_eq a (codes "[]")) refl }
+atom_right : (a : Name) → Right (record { at = λ tight limit. atom_tokens a; rest = atom_rest a }) (atom a 0)
+atom_right a = record { at = λ tight limit r. at_zero limit (atom_reads a r); rest = λ r. go r (bytes_eq a (codes "[]")) refl }
   where
-    go : (r : List Terminal) (b : Bool) → bytes_eq a (codes "[]") ≡ b → TailOf r (cond b (close_list ∷ r) (after_bar (λ limit. atom_tokens a) r)) (atom a 0)
+    go : (r : List Terminal) (b : Bool) → bytes_eq a (codes "[]") ≡ b → TailOf r (cond b (close_list ∷ r) (after_bar (λ tight limit. atom_tokens a) r)) (atom a 0)
     go r true e = subst (λ (x : Name). TailOf r (close_list ∷ r) (atom x 0)) (sym (text_is a (codes "[]") e)) ends_here
     go r false e = behind_bar (a_term (atom_reads a (close_list ∷ r)) (omega arith))
 
-one_reads : (f : Name) (sp : InTokens) (t : PlacedTerm) → Right sp t → (limit : ℕ) (r : List Terminal) → Within (one_tokens f sp limit r) r limit (comp f 0 (one t))
+one_reads : (f : Name) (sp : InTokens) (t : PlacedTerm) → Right sp t → (limit : ℕ) (r : List Terminal) → Within (one_tokens f sp r) r limit (comp f 0 (one t))
 one_reads f sp t h limit r = at_zero limit (go (bytes_eq f (codes "{}")) refl)
   where
-    go : (b : Bool) → bytes_eq f (codes "{}") ≡ b → Reads (cond b (open_curly 0 ∷ sp.at 1200 (close_curly ∷ r)) (called f (sp.at 999 (closes ∷ r)))) r 0 (comp f 0 (one t))
-    go true e = let w = h.at 1200 (close_curly ∷ r) in subst (λ (x : Name). Reads (open_curly 0 ∷ sp.at 1200 (close_curly ∷ r)) r 0 (comp x 0 (one t))) (sym (text_is f (codes "{}") e)) (in_curly w.reads w.fits)
-    go false e = call_reads f (sp.at 999 (closes ∷ r)) r (one t) (last (as_arg (h.at 999 (closes ∷ r))))
+    go : (b : Bool) → bytes_eq f (codes "{}") ≡ b → Reads (cond b (open_curly 0 ∷ sp.at true 1200 (close_curly ∷ r)) (called f (sp.at true 999 (closes ∷ r)))) r 0 (comp f 0 (one t))
+    go true e = let w = h.at true 1200 (close_curly ∷ r) in subst (λ (x : Name). Reads (open_curly 0 ∷ sp.at true 1200 (close_curly ∷ r)) r 0 (comp x 0 (one t))) (sym (text_is f (codes "{}") e)) (in_curly w.reads w.fits)
+    go false e = call_reads f (sp.at true 999 (closes ∷ r)) r (one t) (last (as_arg (h.at true 999 (closes ∷ r))))
 
-operands_read : (f : Name) (op : Operator) (a b : InTokens) (t u : PlacedTerm) → Right a t → Right b u → Stands f op → (r : List Terminal) → Reads (operands f op a b r) r op.priority (comp f 0 (two t u))
-operands_read f op a b t u h k s r =
-    let left = h.at (left_limit op) (operator_terminal f ∷ b.at (right_limit op) r) in
-    let right = k.at (right_limit op) r in
+operands_read : (f : Name) (op : Operator) (a b : InTokens) (t u : PlacedTerm) → Right a t → Right b u → Stands f op → (tight : Bool) (r : List Terminal) → Reads (operands f op a b tight r) r op.priority (comp f 0 (two t u))
+operands_read f op a b t u h k s tight r =
+    let behind : Bool = not (is_letter_word op.name) in
+    let left = h.at tight (left_limit op) (operator_terminal f ∷ b.at behind (right_limit op) r) in
+    let right = k.at behind (right_limit op) r in
     let read = an_infix op s.token left.reads left.fits right.reads right.fits in
-    subst (λ (p : ℕ). Reads (operands f op a b r) r op.priority (comp f p (two t u))) s.place
-    (subst (λ (x : Name). Reads (operands f op a b r) r op.priority (comp x (place_of (operator_terminal f)) (two t u))) s.named read)
+    subst (λ (p : ℕ). Reads (operands f op a b tight r) r op.priority (comp f p (two t u))) s.place
+    (subst (λ (x : Name). Reads (operands f op a b tight r) r op.priority (comp x (place_of (operator_terminal f)) (two t u))) s.named read)
 
-infix_reads : (f : Name) (found : Option Operator) → infix_of f ≡ found → (a b : InTokens) (t u : PlacedTerm) → Right a t → Right b u → (limit : ℕ) (r : List Terminal) → Within (infix_tokens f found a b limit r) r limit (comp f 0 (two t u))
-infix_reads f None e a b t u h k limit r =
-    at_zero limit (call_reads f (a.at 999 (comma 0 ∷ b.at 999 (closes ∷ r))) r (two t u) (more (as_arg (h.at 999 (comma 0 ∷ b.at 999 (closes ∷ r)))) (last (as_arg (k.at 999 (closes ∷ r))))))
-infix_reads f (Some op) e a b t u h k limit r = go (nat_le op.priority limit) refl
+infix_reads : (f : Name) (found : Option Operator) → infix_of f ≡ found → (a b : InTokens) (t u : PlacedTerm) → Right a t → Right b u → (tight : Bool) (limit : ℕ) (r : List Terminal) → Within (infix_tokens f found a b tight limit r) r limit (comp f 0 (two t u))
+infix_reads f None e a b t u h k tight limit r =
+    at_zero limit (call_reads f (a.at true 999 (comma 0 ∷ b.at true 999 (closes ∷ r))) r (two t u) (more (as_arg (h.at true 999 (comma 0 ∷ b.at true 999 (closes ∷ r)))) (last (as_arg (k.at true 999 (closes ∷ r))))))
+infix_reads f (Some op) e a b t u h k tight limit r = go (nat_le op.priority limit) refl
   where
-    go : (c : Bool) → nat_le op.priority limit ≡ c → Within (cond c (operands f op a b r) (opens 0 false ∷ operands f op a b (closes ∷ r))) r limit (comp f 0 (two t u))
-    go true le = record { priority = op.priority; fits = leb-true op.priority limit le; reads = operands_read f op a b t u h k (infix_stands f op e) r }
-    go false le = at_zero limit (in_parens (operands_read f op a b t u h k (infix_stands f op e) (closes ∷ r)) (within_infix (operator_terminal f) op (infix_stands f op e).token))
+    go : (c : Bool) → nat_le op.priority limit ≡ c → Within (cond c (operands f op a b tight r) (opens 0 tight ∷ operands f op a b true (closes ∷ r))) r limit (comp f 0 (two t u))
+    go true le = record { priority = op.priority; fits = leb-true op.priority limit le; reads = operands_read f op a b t u h k (infix_stands f op e) tight r }
+    go false le = at_zero limit (in_parens (operands_read f op a b t u h k (infix_stands f op e) true (closes ∷ r)) (within_infix (operator_terminal f) op (infix_stands f op e).token))
 
 two_right : (f : Name) (a b : InTokens) (t u : PlacedTerm) → Right a t → Right b u → Right (record { at = two_tokens f a b; rest = two_rest f a b }) (comp f 0 (two t u))
-two_right f a b t u h k = record { at = λ limit r. at_limit limit r (bytes_eq f (codes ".")) refl; rest = λ r. rest r (bytes_eq f (codes ".")) refl }
+two_right f a b t u h k = record { at = λ tight limit r. at_limit tight limit r (bytes_eq f (codes ".")) refl; rest = λ r. rest r (bytes_eq f (codes ".")) refl }
   where
-    at_limit : (limit : ℕ) (r : List Terminal) (c : Bool) → bytes_eq f (codes ".") ≡ c → Within (cond c (open_list 0 ∷ a.at 999 (b.rest r)) (infix_tokens f (infix_of f) a b limit r)) r limit (comp f 0 (two t u))
-    at_limit limit r true e =
-        let list = list_reads (list_from (k.rest r) (a.at 999 (b.rest r)) t (as_arg (h.at 999 (b.rest r)))) in
-        at_zero limit (subst (λ (x : Name). Reads (open_list 0 ∷ a.at 999 (b.rest r)) r 0 (comp x 0 (two t u))) (sym (text_is f (codes ".") e)) list)
-    at_limit limit r false e = infix_reads f (infix_of f) refl a b t u h k limit r
+    at_limit : (tight : Bool) (limit : ℕ) (r : List Terminal) (c : Bool) → bytes_eq f (codes ".") ≡ c → Within (cond c (open_list 0 ∷ a.at true 999 (b.rest r)) (infix_tokens f (infix_of f) a b tight limit r)) r limit (comp f 0 (two t u))
+    at_limit tight limit r true e =
+        let list = list_reads (list_from (k.rest r) (a.at true 999 (b.rest r)) t (as_arg (h.at true 999 (b.rest r)))) in
+        at_zero limit (subst (λ (x : Name). Reads (open_list 0 ∷ a.at true 999 (b.rest r)) r 0 (comp x 0 (two t u))) (sym (text_is f (codes ".") e)) list)
+    at_limit tight limit r false e = infix_reads f (infix_of f) refl a b t u h k tight limit r
 
-    rest : (r : List Terminal) (c : Bool) → bytes_eq f (codes ".") ≡ c → TailOf r (cond c (comma 0 ∷ a.at 999 (b.rest r)) (after_bar (two_tokens f a b) r)) (comp f 0 (two t u))
-    rest r true e = subst (λ (x : Name). TailOf r (comma 0 ∷ a.at 999 (b.rest r)) (comp x 0 (two t u))) (sym (text_is f (codes ".") e)) (element (as_arg (h.at 999 (b.rest r))) (k.rest r))
-    rest r false e = behind_bar (as_arg (at_limit 999 (close_list ∷ r) (bytes_eq f (codes ".")) refl))
+    rest : (r : List Terminal) (c : Bool) → bytes_eq f (codes ".") ≡ c → TailOf r (cond c (comma 0 ∷ a.at true 999 (b.rest r)) (after_bar (two_tokens f a b) r)) (comp f 0 (two t u))
+    rest r true e = subst (λ (x : Name). TailOf r (comma 0 ∷ a.at true 999 (b.rest r)) (comp x 0 (two t u))) (sym (text_is f (codes ".") e)) (element (as_arg (h.at true 999 (b.rest r))) (k.rest r))
+    rest r false e = behind_bar (as_arg (at_limit true 999 (close_list ∷ r) (bytes_eq f (codes ".")) refl))
 
 -- further arguments, with the bracket behind them
 pub record Closes (ts : List Terminal) (r : List Terminal) (xs : PlacedTerms) : Type 0 where
@@ -171,30 +173,30 @@ pub record Closes (ts : List Terminal) (r : List Terminal) (xs : PlacedTerms) : 
 
 mutual
   pub reads_term : (t : Term) → HasArguments t → Right (tokens_of t) (placed t)
-  reads_term (Var x) h = barred (λ limit r. variable 0 x ∷ r) (var x 0) (λ limit r. at_zero limit a_variable)
-  reads_term (Int z) h = barred (λ limit. integer_tokens z) (int z 0) (λ limit r. at_zero limit (integer_reads z r))
+  reads_term (Var x) h = barred (λ tight limit r. variable 0 x ∷ r) (var x 0) (λ tight limit r. at_zero limit a_variable)
+  reads_term (Int z) h = barred (λ tight limit. integer_tokens z tight) (int z 0) (λ tight limit r. at_zero limit (integer_reads z tight r))
   reads_term (Atom a) h = atom_right a
   reads_term (Comp f no_terms) h = absurd h
-  reads_term (Comp f (term a no_terms)) h = barred (one_tokens f (tokens_of a)) (comp f 0 (one (placed a))) (one_reads f (tokens_of a) (placed a) (reads_term a h.0))
+  reads_term (Comp f (term a no_terms)) h = barred (λ tight limit. one_tokens f (tokens_of a)) (comp f 0 (one (placed a))) (λ tight. one_reads f (tokens_of a) (placed a) (reads_term a h.0))
   reads_term (Comp f (term a (term b no_terms))) h = two_right f (tokens_of a) (tokens_of b) (placed a) (placed b) (reads_term a h.0) (reads_term b h.1.0)
   reads_term (Comp f (term a (term b (term c ts)))) h =
       let sa = reads_term a h.0 in
       let sb = reads_term b h.1.0 in
       let sc = reads_term c h.1.1.0 in
       let sx = reads_all ts h.1.1.1 in
-      barred (λ limit r. called f ((tokens_of a).at 999 (comma 0 ∷ (tokens_of b).at 999 (comma 0 ∷ (tokens_of c).at 999 (further ts (closes ∷ r)))))) (comp f 0 (part (placed a) (part (placed b) (part (placed c) (all_placed ts)))))
-      (λ limit r.
-      let tc = (tokens_of c).at 999 (further ts (closes ∷ r)) in
-      let tb = (tokens_of b).at 999 (comma 0 ∷ tc) in
-      at_zero limit (call_reads f ((tokens_of a).at 999 (comma 0 ∷ tb)) r _
-      (more (as_arg (sa.at 999 (comma 0 ∷ tb))) (more (as_arg (sb.at 999 (comma 0 ∷ tc))) ((sx r).all tc (placed c) (as_arg (sc.at 999 (further ts (closes ∷ r)))))))))
+      barred (λ tight limit r. called f ((tokens_of a).at true 999 (comma 0 ∷ (tokens_of b).at true 999 (comma 0 ∷ (tokens_of c).at true 999 (further ts (closes ∷ r)))))) (comp f 0 (part (placed a) (part (placed b) (part (placed c) (all_placed ts)))))
+      (λ tight limit r.
+      let tc = (tokens_of c).at true 999 (further ts (closes ∷ r)) in
+      let tb = (tokens_of b).at true 999 (comma 0 ∷ tc) in
+      at_zero limit (call_reads f ((tokens_of a).at true 999 (comma 0 ∷ tb)) r _
+      (more (as_arg (sa.at true 999 (comma 0 ∷ tb))) (more (as_arg (sb.at true 999 (comma 0 ∷ tc))) ((sx r).all tc (placed c) (as_arg (sc.at true 999 (further ts (closes ∷ r)))))))))
 
   pub reads_all : (ts : Terms) → AllHaveArguments ts → (r : List Terminal) → Closes (further ts (closes ∷ r)) r (all_placed ts)
   reads_all no_terms h r = record { all = λ vs x d. last d }
   reads_all (term y ys) h r =
       let sy = reads_term y h.0 in
       let sx = reads_all ys h.1 r in
-      record { all = λ vs x d. more d (sx.all ((tokens_of y).at 999 (further ys (closes ∷ r))) (placed y) (as_arg (sy.at 999 (further ys (closes ∷ r))))) }
+      record { all = λ vs x d. more d (sx.all ((tokens_of y).at true 999 (further ys (closes ∷ r))) (placed y) (as_arg (sy.at true 999 (further ys (closes ∷ r))))) }
 
 pub spelled_is_read : SpelledIsRead
-spelled_is_read t h limit r = (reads_term t h).at limit r
+spelled_is_read t h tight limit r = (reads_term t h).at tight limit r

@@ -9,3 +9,15 @@ mod Rests
 mod Derived
 mod Quoting
 mod QuotedNames
+mod Moved
+mod Classes
+mod Fronts
+mod Lexing
+mod Bare
+mod Leaves
+mod Beginnings
+mod Lexed
+mod Compounds
+mod Numbers
+mod Sentences
+mod Variables

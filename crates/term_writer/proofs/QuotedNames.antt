@@ -16,6 +16,7 @@ use Rattle.fd_model.specs.Characters.{starts_with, is_symbol, is_punct, begins_v
 use Rattle.fd_model.specs.Tokens.{Token, Quoted, Between, AfterQuote, Past, quoted_front, quoted_spells, front_of, front_by, front_at, unquoted}
 use Rattle.fd_model.specs.Writing.{quoted_byte, quoted_bytes, quoted_name}
 use Rattle.term_writer.proofs.Quoting.{size, size-append, stands, all_front, all_spells}
+use Rattle.fd_model.proofs.QuotedAtoms.{front_past}
 
 is_low : ℕ → Bool
 is_low b = nat_lt b 128
@@ -126,7 +127,7 @@ module _ (a : Name) (u : IsUtf8 a) where
   unfolding spelled
   quoted_chars = ap chars (sym spelled_bytes) ∙ chars-encodes spelled spelled_scalars
 
-  quoted_utf8 : IsUtf8 (quoted_name a)
+  pub quoted_utf8 : IsUtf8 (quoted_name a)
   quoted_utf8 = (spelled, (spelled_scalars, spelled_bytes))
 
 pub name_of : (a : Name) → IsUtf8 a → unquoted (quoted_name a) ≡ a
@@ -135,13 +136,9 @@ name_of a u =
     ap (λ (cs : List ℕ). encodes (quoted_spells Between (tail cs))) (quoted_chars a u)
     ∙ ap encodes (all_spells (chars a) (39 ∷ []) ∙ append-nil (chars a)) ∙ encodes-chars a u
 
-sizes : (cs : List ℕ) → size cs ≡ length (encodes cs)
+pub sizes : (cs : List ℕ) → size cs ≡ length (encodes cs)
 sizes [] = refl
 sizes (c ∷ cs) = omega (arith, sizes cs, length-append (encode c) (encodes cs), length-encode c)
-
-front_past : (m n : ℕ) (cs : List ℕ) → quoted_front (Past m) n cs ≡ Token Quoted m
-front_past m n [] = refl
-front_past m n (c ∷ cs) = front_past m (n + len_utf8 c) cs
 
 ends_quote : (m : ℕ) (ds : List ℕ) → starts_with 39 ds ≡ false → quoted_front AfterQuote m ds ≡ Token Quoted m
 ends_quote m [] h = refl

@@ -1,11 +1,12 @@
 -- How a term is spelled in tokens, in mode Quoted. Each place is 0.
-use Rattle.std.specs.Prelude.{ℕ, ◌≤◌, ℤ, pos, negsuc, suc, List, ◌∷◌, true, false, Option, Some, None, ◌&&◌, not, nat_le, if◌then◌else◌, codes}
+use Rattle.std.specs.Prelude.{ℕ, ◌≤◌, ℤ, pos, negsuc, suc, List, ◌∷◌, true, Bool, Option, Some, None, ◌&&◌, not, nat_le, if◌then◌else◌, codes}
 use Rattle.std.specs.Str.{bytes_eq}
 use Rattle.fd_model.specs.Term.{Name, Term, Terms, Var, Int, Atom, Comp, no_terms, term}
 use Rattle.fd_model.specs.PlacedTerm.{PlacedTerm, PlacedTerms, var, int, atom, comp, no_parts, part}
 use Rattle.fd_model.specs.Operators.{Operator, infix_of, is_operator, left_limit, right_limit}
 use Rattle.fd_model.specs.Terminals.{Terminal, name, operator_word, variable, integer, opens, closes, open_list, close_list, open_curly, close_curly, comma, bar}
 use Rattle.fd_model.specs.Grammar.{Reads}
+use Rattle.fd_model.specs.Writing.{is_letter_word}
 
 abbrev mutual
   pub placed : Term → PlacedTerm
@@ -26,60 +27,61 @@ operator_terminal f = if bytes_eq f (codes ",") then comma 0 else operator_word 
 unfoldable pub call_terminal : Name → Terminal
 call_terminal f = if is_operator f && not (bytes_eq f (codes ",")) then operator_word 0 f else name 0 f
 
--- a term's tokens before what follows them, at a limit; and the same term's behind an element of a list, with the list's end
+-- A term's tokens before what follows them, at a limit, where the flag is that of a first token which shows whether it is tight; and the same term's behind an element of a list, with the list's end.
 pub record InTokens : Type 0 where
-  pub at : ℕ → List Terminal → List Terminal
+  pub at : Bool → ℕ → List Terminal → List Terminal
   pub rest : List Terminal → List Terminal
 
 abbrev pub called : Name → List Terminal → List Terminal
 called f inner = call_terminal f ∷ opens 0 true ∷ inner
 
-abbrev pub after_bar : (ℕ → List Terminal → List Terminal) → List Terminal → List Terminal
-after_bar at r = bar ∷ at 999 (close_list ∷ r)
+abbrev pub after_bar : (Bool → ℕ → List Terminal → List Terminal) → List Terminal → List Terminal
+after_bar at r = bar ∷ at true 999 (close_list ∷ r)
 
 abbrev pub atom_tokens : Name → List Terminal → List Terminal
 atom_tokens a r = if bytes_eq a (codes "[]") then open_list 0 ∷ close_list ∷ r else if bytes_eq a (codes "{}") then open_curly 0 ∷ close_curly ∷ r else name 0 a ∷ r
 
-abbrev pub one_tokens : Name → InTokens → ℕ → List Terminal → List Terminal
-one_tokens f a limit r = if bytes_eq f (codes "{}") then open_curly 0 ∷ a.at 1200 (close_curly ∷ r) else called f (a.at 999 (closes ∷ r))
+abbrev pub one_tokens : Name → InTokens → List Terminal → List Terminal
+one_tokens f a r = if bytes_eq f (codes "{}") then open_curly 0 ∷ a.at true 1200 (close_curly ∷ r) else called f (a.at true 999 (closes ∷ r))
 
-abbrev pub operands : Name → Operator → InTokens → InTokens → List Terminal → List Terminal
-operands f o a b r = a.at (left_limit o) (operator_terminal f ∷ b.at (right_limit o) r)
+-- a word of letters has a space behind it
+abbrev pub operands : Name → Operator → InTokens → InTokens → Bool → List Terminal → List Terminal
+operands f o a b tight r = a.at tight (left_limit o) (operator_terminal f ∷ b.at (not (is_letter_word o.name)) (right_limit o) r)
 
-abbrev pub infix_tokens : Name → Option Operator → InTokens → InTokens → ℕ → List Terminal → List Terminal
-infix_tokens f None a b limit r = called f (a.at 999 (comma 0 ∷ b.at 999 (closes ∷ r)))
-infix_tokens f (Some o) a b limit r = if nat_le o.priority limit then operands f o a b r else opens 0 false ∷ operands f o a b (closes ∷ r)
+abbrev pub infix_tokens : Name → Option Operator → InTokens → InTokens → Bool → ℕ → List Terminal → List Terminal
+infix_tokens f None a b tight limit r = called f (a.at true 999 (comma 0 ∷ b.at true 999 (closes ∷ r)))
+infix_tokens f (Some o) a b tight limit r = if nat_le o.priority limit then operands f o a b tight r else opens 0 tight ∷ operands f o a b true (closes ∷ r)
 
-abbrev pub two_tokens : Name → InTokens → InTokens → ℕ → List Terminal → List Terminal
-two_tokens f a b limit r = if bytes_eq f (codes ".") then open_list 0 ∷ a.at 999 (b.rest r) else infix_tokens f (infix_of f) a b limit r
+abbrev pub two_tokens : Name → InTokens → InTokens → Bool → ℕ → List Terminal → List Terminal
+two_tokens f a b tight limit r = if bytes_eq f (codes ".") then open_list 0 ∷ a.at true 999 (b.rest r) else infix_tokens f (infix_of f) a b tight limit r
 
 abbrev pub two_rest : Name → InTokens → InTokens → List Terminal → List Terminal
-two_rest f a b r = if bytes_eq f (codes ".") then comma 0 ∷ a.at 999 (b.rest r) else after_bar (two_tokens f a b) r
+two_rest f a b r = if bytes_eq f (codes ".") then comma 0 ∷ a.at true 999 (b.rest r) else after_bar (two_tokens f a b) r
 
 abbrev pub atom_rest : Name → List Terminal → List Terminal
-atom_rest a r = if bytes_eq a (codes "[]") then close_list ∷ r else after_bar (λ limit. atom_tokens a) r
+atom_rest a r = if bytes_eq a (codes "[]") then close_list ∷ r else after_bar (λ tight limit. atom_tokens a) r
 
-abbrev pub integer_tokens : ℤ → List Terminal → List Terminal
-integer_tokens (pos n) r = integer 0 false (pos n) ∷ r
-integer_tokens (negsuc n) r = operator_word 0 (codes "-") ∷ integer 0 true (pos (suc n)) ∷ r
+abbrev pub integer_tokens : ℤ → Bool → List Terminal → List Terminal
+integer_tokens (pos n) tight r = integer 0 tight (pos n) ∷ r
+integer_tokens (negsuc n) tight r = operator_word 0 (codes "-") ∷ integer 0 true (pos (suc n)) ∷ r
 
 abbrev mutual
   pub tokens_of : Term → InTokens
-  tokens_of (Var x) = record { at = λ limit r. variable 0 x ∷ r; rest = after_bar (λ limit r. variable 0 x ∷ r) }
-  tokens_of (Int z) = record { at = λ limit. integer_tokens z; rest = after_bar (λ limit. integer_tokens z) }
-  tokens_of (Atom a) = record { at = λ limit. atom_tokens a; rest = atom_rest a }
-  tokens_of (Comp f no_terms) = record { at = λ limit r. called f (closes ∷ r); rest = after_bar (λ limit r. called f (closes ∷ r)) }
-  tokens_of (Comp f (term a no_terms)) = record { at = one_tokens f (tokens_of a); rest = after_bar (one_tokens f (tokens_of a)) }
+  tokens_of (Var x) = record { at = λ tight limit r. variable 0 x ∷ r; rest = after_bar (λ tight limit r. variable 0 x ∷ r) }
+  tokens_of (Int z) = record { at = λ tight limit. integer_tokens z tight; rest = after_bar (λ tight limit. integer_tokens z tight) }
+  tokens_of (Atom a) = record { at = λ tight limit. atom_tokens a; rest = atom_rest a }
+  tokens_of (Comp f no_terms) = record { at = λ tight limit r. called f (closes ∷ r); rest = after_bar (λ tight limit r. called f (closes ∷ r)) }
+  tokens_of (Comp f (term a no_terms)) = record { at = λ tight limit. one_tokens f (tokens_of a); rest = after_bar (λ tight limit. one_tokens f (tokens_of a)) }
   tokens_of (Comp f (term a (term b no_terms))) = record { at = two_tokens f (tokens_of a) (tokens_of b); rest = two_rest f (tokens_of a) (tokens_of b) }
   tokens_of (Comp f (term a (term b (term c ts)))) =
       record {
-        at = λ limit r. called f ((tokens_of a).at 999 (comma 0 ∷ (tokens_of b).at 999 (comma 0 ∷ (tokens_of c).at 999 (further ts (closes ∷ r)))));
-        rest = after_bar (λ limit r. called f ((tokens_of a).at 999 (comma 0 ∷ (tokens_of b).at 999 (comma 0 ∷ (tokens_of c).at 999 (further ts (closes ∷ r))))));
+        at = λ tight limit r. called f ((tokens_of a).at true 999 (comma 0 ∷ (tokens_of b).at true 999 (comma 0 ∷ (tokens_of c).at true 999 (further ts (closes ∷ r)))));
+        rest = after_bar (λ tight limit r. called f ((tokens_of a).at true 999 (comma 0 ∷ (tokens_of b).at true 999 (comma 0 ∷ (tokens_of c).at true 999 (further ts (closes ∷ r))))));
       }
 
   pub further : Terms → List Terminal → List Terminal
   further no_terms r = r
-  further (term t ts) r = comma 0 ∷ (tokens_of t).at 999 (further ts r)
+  further (term t ts) r = comma 0 ∷ (tokens_of t).at true 999 (further ts r)
 
 -- each compound has arguments
 abbrev mutual
@@ -102,4 +104,4 @@ pub record Within (ts rest : List Terminal) (limit : ℕ) (t : PlacedTerm) : Typ
 
 -- The tokens that spell a term derive it, whatever follows them.
 abbrev pub SpelledIsRead : Type 0
-SpelledIsRead = (t : Term) → HasArguments t → (limit : ℕ) (r : List Terminal) → Within ((tokens_of t).at limit r) r limit (placed t)
+SpelledIsRead = (t : Term) → HasArguments t → (tight : Bool) (limit : ℕ) (r : List Terminal) → Within ((tokens_of t).at tight limit r) r limit (placed t)

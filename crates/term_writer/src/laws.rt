@@ -2,6 +2,7 @@
 
 ghost use Rattle.term_writer.specs.ReadBack.{QuotedIsRead};
 ghost use Rattle.term_writer.specs.Spelled.{SpelledIsRead};
+ghost use Rattle.term_writer.specs.Written.{WrittenIsRead};
 
 /// The tokens that spell a term derive it again, where each compound has an argument.
 pub fn spelled_is_read()
@@ -11,4 +12,12 @@ pub fn spelled_is_read()
 /// A name in quotes is read as one token that spells the name.
 pub fn quoted_is_read()
     ensures { QuotedIsRead }
+{}
+
+/// The tokens of what `write_term` writes in mode `Quoted` derive the term, and with ` .` behind it, it is one sentence of that term.
+///
+/// Places differ, and variables are numbered anew by their texts. Names must be UTF-8, integers without their sign at most 2^63 - 1,
+/// variables' texts those of variables other than `_`; each compound has an argument, none is named `[]`, and `{}` has one.
+pub fn written_is_read()
+    ensures { WrittenIsRead }
 {}

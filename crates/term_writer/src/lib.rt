@@ -40,7 +40,7 @@ pub struct VarText {
 /// Appends a term's text. `limit` is the greatest priority that is written without parentheses.
 ///
 /// Operators are those of ISO/IEC 13211-1 and a few more. A variable without an entry in `vars` is written as no byte; where it
-/// has several, the first holds.
+/// has several, the first holds. What mode `Quoted` writes is read as the same term: `laws::written_is_read`.
 pub fn write_term(
     alloc: Global,
     pool: &Pool,
