@@ -1,0 +1,7 @@
+mod Wanted
+mod Rows
+mod Positions
+mod Walks
+mod Steps
+mod Whole
+mod Reading

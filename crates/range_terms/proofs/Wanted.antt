@@ -1,0 +1,66 @@
+-- Nodes, places and offenders, put one behind the other.
+use Rattle.std.proofs.Common.{◌≡◌, ℕ, List, [], ◌∷◌, ◌++◌, refl, sym, ap, ◌∙◌}
+use Rattle.std.proofs.lemmas.List.{append-nil, append_assoc}
+use Rattle.fd_model.specs.declared.range_node.RangeNode.{RangeNode}
+use Rattle.fd_model.specs.declared.range_node.RangeNode.TheVariants as node
+use Rattle.fd_model.specs.Range.{Range, Span, One, Dom, Union, Inter, Outside, Plus, Minus, Times, Over, Expr, Number, Infinity, Param, Min, Max, Val, Add, Sub, Mul, DivDown, DivUp}
+use Rattle.fd_model.specs.Flat.{expr_nodes, range_nodes, nodes_of}
+use Rattle.range_terms.specs.Wanted.{Wanted, nothing, one_node, joined}
+
+-- what follows the nodes of a term may follow later
+pub expr_append : (e : Expr) (xs ys : List RangeNode) → expr_nodes e (xs ++ ys) ≡ expr_nodes e xs ++ ys
+expr_append (Number z) xs ys = refl
+expr_append Infinity xs ys = refl
+expr_append (Param x) xs ys = refl
+expr_append (Min y) xs ys = refl
+expr_append (Max y) xs ys = refl
+expr_append (Val y) xs ys = refl
+expr_append (Add a b) xs ys = ap (expr_nodes a) (expr_append b (node.Add ∷ xs) ys) ∙ expr_append a (expr_nodes b (node.Add ∷ xs)) ys
+expr_append (Sub a b) xs ys = ap (expr_nodes a) (expr_append b (node.Sub ∷ xs) ys) ∙ expr_append a (expr_nodes b (node.Sub ∷ xs)) ys
+expr_append (Mul a b) xs ys = ap (expr_nodes a) (expr_append b (node.Mul ∷ xs) ys) ∙ expr_append a (expr_nodes b (node.Mul ∷ xs)) ys
+expr_append (DivDown a b) xs ys = ap (expr_nodes a) (expr_append b (node.DivDown ∷ xs) ys) ∙ expr_append a (expr_nodes b (node.DivDown ∷ xs)) ys
+expr_append (DivUp a b) xs ys = ap (expr_nodes a) (expr_append b (node.DivUp ∷ xs) ys) ∙ expr_append a (expr_nodes b (node.DivUp ∷ xs)) ys
+
+-- and of a range
+pub range_append : (r : Range) (xs ys : List RangeNode) → range_nodes r (xs ++ ys) ≡ range_nodes r xs ++ ys
+range_append (Span a b) xs ys = ap (expr_nodes a) (expr_append b (node.Span ∷ xs) ys) ∙ expr_append a (expr_nodes b (node.Span ∷ xs)) ys
+range_append (One t) xs ys = expr_append t (node.One ∷ xs) ys
+range_append (Dom y) xs ys = refl
+range_append (Union r q) xs ys = ap (range_nodes r) (range_append q (node.Union ∷ xs) ys) ∙ range_append r (range_nodes q (node.Union ∷ xs)) ys
+range_append (Inter r q) xs ys = ap (range_nodes r) (range_append q (node.Inter ∷ xs) ys) ∙ range_append r (range_nodes q (node.Inter ∷ xs)) ys
+range_append (Outside r) xs ys = range_append r (node.Outside ∷ xs) ys
+range_append (Plus r c) xs ys = ap (range_nodes r) (expr_append c (node.Plus ∷ xs) ys) ∙ range_append r (expr_nodes c (node.Plus ∷ xs)) ys
+range_append (Minus r c) xs ys = ap (range_nodes r) (expr_append c (node.Minus ∷ xs) ys) ∙ range_append r (expr_nodes c (node.Minus ∷ xs)) ys
+range_append (Times r c) xs ys = ap (range_nodes r) (expr_append c (node.Times ∷ xs) ys) ∙ range_append r (expr_nodes c (node.Times ∷ xs)) ys
+range_append (Over r c) xs ys = ap (range_nodes r) (expr_append c (node.Over ∷ xs) ys) ∙ range_append r (expr_nodes c (node.Over ∷ xs)) ys
+
+-- a node behind those of two terms, of two ranges, of a range and a term
+pub two_exprs : (a b : Expr) (n : RangeNode) → expr_nodes a (expr_nodes b (n ∷ [])) ≡ (expr_nodes a [] ++ expr_nodes b []) ++ n ∷ []
+two_exprs a b n = expr_append a [] (expr_nodes b (n ∷ [])) ∙ ap (λ (k : List RangeNode). expr_nodes a [] ++ k) (expr_append b [] (n ∷ [])) ∙ sym (append_assoc (expr_nodes a []) (expr_nodes b []) (n ∷ []))
+
+pub two_ranges : (r q : Range) (n : RangeNode) → range_nodes r (range_nodes q (n ∷ [])) ≡ (nodes_of r ++ nodes_of q) ++ n ∷ []
+two_ranges r q n = range_append r [] (range_nodes q (n ∷ [])) ∙ ap (λ (k : List RangeNode). nodes_of r ++ k) (range_append q [] (n ∷ [])) ∙ sym (append_assoc (nodes_of r) (nodes_of q) (n ∷ []))
+
+pub range_and_expr : (r : Range) (c : Expr) (n : RangeNode) → range_nodes r (expr_nodes c (n ∷ [])) ≡ (nodes_of r ++ expr_nodes c []) ++ n ∷ []
+range_and_expr r c n = range_append r [] (expr_nodes c (n ∷ [])) ∙ ap (λ (k : List RangeNode). nodes_of r ++ k) (expr_append c [] (n ∷ [])) ∙ sym (append_assoc (nodes_of r) (expr_nodes c []) (n ∷ []))
+
+abbrev of_lists : List RangeNode → List ℕ → List ℕ → Wanted
+of_lists ns ps os = record { nodes = ns; places = ps; offenders = os }
+
+same_wanted : (u v : Wanted) → u.nodes ≡ v.nodes → u.places ≡ v.places → u.offenders ≡ v.offenders → u ≡ v
+same_wanted u v a b c =
+    ap (λ (k : List RangeNode). of_lists k u.places u.offenders) a ∙ ap (λ (k : List ℕ). of_lists v.nodes k u.offenders) b ∙ ap (λ (k : List ℕ). of_lists v.nodes v.places k) c
+
+-- an operator's node behind its one operand, or its two
+pub behind_one : (u : Wanted) (ns : List RangeNode) (n : RangeNode) (p : ℕ) → ns ≡ u.nodes ++ n ∷ [] → of_lists ns (u.places ++ p ∷ []) u.offenders ≡ joined u (one_node n p)
+behind_one u ns n p e = same_wanted (of_lists ns (u.places ++ p ∷ []) u.offenders) (joined u (one_node n p)) e refl (sym (append-nil u.offenders))
+
+pub behind_two : (u v : Wanted) (ns : List RangeNode) (n : RangeNode) (p : ℕ) → ns ≡ (u.nodes ++ v.nodes) ++ n ∷ [] → of_lists ns (u.places ++ (v.places ++ p ∷ [])) (u.offenders ++ v.offenders) ≡ joined (joined u v) (one_node n p)
+behind_two u v ns n p e =
+    same_wanted (of_lists ns (u.places ++ (v.places ++ p ∷ [])) (u.offenders ++ v.offenders)) (joined (joined u v) (one_node n p)) e (sym (append_assoc u.places v.places (p ∷ []))) (sym (append-nil (u.offenders ++ v.offenders)))
+
+pub joined-nil : (u : Wanted) → joined u nothing ≡ u
+joined-nil u = same_wanted (joined u nothing) u (append-nil u.nodes) (append-nil u.places) (append-nil u.offenders)
+
+pub joined_assoc : (u v w : Wanted) → joined (joined u v) w ≡ joined u (joined v w)
+joined_assoc u v w = same_wanted (joined (joined u v) w) (joined u (joined v w)) (append_assoc u.nodes v.nodes w.nodes) (append_assoc u.places v.places w.places) (append_assoc u.offenders v.offenders w.offenders)

@@ -1,0 +1,16 @@
+use Rattle.std.proofs.Common.{sym, subst}
+use Rattle.fd_model.specs.PlacedTerm.{comp}
+use Rattle.term_pool.specs.PlacedTerms.{placed_of, parts_by}
+use Rattle.range_terms.specs.Wanted.{wanted}
+use Rattle.range_terms.specs.Forms.{IsForm}
+use Rattle.range_terms.specs.declared.forms.Position.{Position}
+use Rattle.range_terms.proofs.forms.compound_form.Goals as goal
+
+pub returns-in-Range : goal.returns-in-Range
+returns-in-Range c = λ p. subst (λ (l : Position). IsForm c.args.pool.now (wanted l (comp c.args.name.now p (parts_by (placed_of c.args.pool.now) c.args.parts.now))) p c.args.parts.now c.range_form.result) (sym c.in-Range.is) (c.range_form.ensures p)
+
+pub returns-in-Term : goal.returns-in-Term
+returns-in-Term c = λ p. subst (λ (l : Position). IsForm c.args.pool.now (wanted l (comp c.args.name.now p (parts_by (placed_of c.args.pool.now) c.args.parts.now))) p c.args.parts.now c.term_form.result) (sym c.in-Term.is) (c.term_form.ensures p)
+
+pub returns-in-Constant : goal.returns-in-Constant
+returns-in-Constant c = λ p. subst (λ (l : Position). IsForm c.args.pool.now (wanted l (comp c.args.name.now p (parts_by (placed_of c.args.pool.now) c.args.parts.now))) p c.args.parts.now c.constant_form.result) (sym c.in-Constant.is) (c.constant_form.ensures p)

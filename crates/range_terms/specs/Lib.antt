@@ -1,0 +1,6 @@
+pub mod Wanted
+pub mod Forms
+pub mod Names
+pub mod Walk
+pub mod Faults
+pub mod Reads

@@ -1,0 +1,36 @@
+-- What is read of variables, node by node.
+use Rattle.std.specs.Prelude.{◌≡◌, ℕ, Bool, not, nat_eq, List, [], ◌∷◌, ◌++◌, filter, Option, Some, None}
+use Rattle.std.specs.List.{list_any}
+use Rattle.std.specs.Option.{option_to_list}
+use Rattle.fd_model.specs.declared.range_node.RangeNode.{RangeNode}
+use Rattle.fd_model.specs.declared.range_node.RangeNode.TheVariants as node
+use Rattle.fd_model.specs.declared.range_node.Feature.{Feature}
+use Rattle.fd_model.specs.declared.range_node.Feature.TheVariants as feature
+use Rattle.fd_model.specs.Features.{each_once}
+use Rattle.range_terms.specs.declared.reads.Seen.{Seen}
+
+abbrev pub node_feature : RangeNode → Option (ℕ × Feature)
+node_feature (node.Min y) = Some (y, feature.Min)
+node_feature (node.Max y) = Some (y, feature.Max)
+node_feature (node.Val y) = Some (y, feature.Val)
+node_feature (node.Dom y) = Some (y, feature.Dom)
+node_feature n = None
+
+abbrev pub node_features : List RangeNode → List (ℕ × Feature)
+node_features [] = []
+node_features (n ∷ ns) = option_to_list (node_feature n) ++ node_features ns
+
+-- whether the pair was met
+abbrev pub sees : Seen → ℕ × Feature → Bool
+sees s (y, feature.Min) = list_any (nat_eq y) s.min.keys
+sees s (y, feature.Max) = list_any (nat_eq y) s.max.keys
+sees s (y, feature.Val) = list_any (nat_eq y) s.val.keys
+sees s (y, feature.Dom) = list_any (nat_eq y) s.dom.keys
+
+-- the pairs of these nodes that were not met, each once
+abbrev pub unseen : Seen → List RangeNode → List (ℕ × Feature)
+unseen s ns = filter (λ e. not (sees s e)) (each_once (node_features ns))
+
+-- what is found and what is to come stay the same when the node is taken
+abbrev pub Meets : RangeNode → Seen → List (ℕ × Feature) → Seen → List (ℕ × Feature) → Type 0
+Meets n old found new found_new = (ns : List RangeNode) → found_new ++ unseen new ns ≡ found ++ unseen old (n ∷ ns)

@@ -1,0 +1,35 @@
+-- What is to come of a term in its position: nodes, their places, and the places of what fits nowhere.
+use Rattle.std.specs.Prelude.{ℕ, true, false, List, [], ◌∷◌, ◌++◌}
+use Rattle.fd_model.specs.declared.range_node.RangeNode.{RangeNode}
+use Rattle.fd_model.specs.PlacedTerm.{PlacedTerm}
+use Rattle.fd_model.specs.Range as fd
+use Rattle.fd_model.specs.Flat.{expr_nodes, nodes_of}
+use Rattle.fd_model.specs.Spelling.{Reading, read_expr, read_range}
+use Rattle.range_terms.specs.declared.forms.Position.{Position}
+use Rattle.range_terms.specs.declared.forms.Position.TheVariants as position
+
+pub record Wanted : Type 0 where
+  pub nodes : List RangeNode
+  pub places : List ℕ
+  pub offenders : List ℕ
+
+abbrev pub nothing : Wanted
+nothing = record { nodes = []; places = []; offenders = [] }
+
+abbrev pub one_node : RangeNode → ℕ → Wanted
+one_node n p = record { nodes = n ∷ []; places = p ∷ []; offenders = [] }
+
+-- one behind the other
+abbrev pub joined : Wanted → Wanted → Wanted
+joined u v = record { nodes = u.nodes ++ v.nodes; places = u.places ++ v.places; offenders = u.offenders ++ v.offenders }
+
+abbrev pub of_expr : Reading fd.Expr → Wanted
+of_expr r = record { nodes = expr_nodes r.value []; places = r.places; offenders = r.offenders }
+
+abbrev pub of_range : Reading fd.Range → Wanted
+of_range r = record { nodes = nodes_of r.value; places = r.places; offenders = r.offenders }
+
+unfoldable pub wanted : Position → PlacedTerm → Wanted
+wanted position.Range t = of_range (read_range t)
+wanted position.Term t = of_expr (read_expr true t)
+wanted position.Constant t = of_expr (read_expr false t)

@@ -1,0 +1,73 @@
+//! Terms read as ranges, and what a range reads of its variables.
+#![tactic(auto)]
+
+ghost use Rattle.std.specs.Prelude.{◌≡◌, ◌<◌, length, None, MatchResult, IfOk};
+ghost use Rattle.fd_model.specs.Features.{features_of};
+ghost use Rattle.fd_model.specs.Flat.{nodes_of};
+ghost use Rattle.fd_model.specs.Spelling.{read_range as reading_of, not_a_range};
+ghost use Rattle.term_pool.specs.PlacedTerms.{placed_of};
+ghost use Rattle.range_terms.specs.Faults.{IsFaultOf};
+
+mod forms;
+mod names;
+mod reads;
+mod walk;
+
+use crate::reads::read_features;
+use crate::walk::{Found, read_term};
+use fd_model::{Feature, FlatRange, NoMemory};
+use std::alloc::Global;
+use term_pool::{Pool, TermId};
+use thiserror::Error;
+
+/// A range as it was read.
+#[derive(Drop)]
+pub struct SourceRange {
+    /// The range itself.
+    pub range: FlatRange,
+    /// The place of each node in postfix order, in bytes of the text.
+    pub places: Vec<usize>,
+}
+
+/// Why a term is not read as a range.
+#[derive(Debug, Drop, Error)]
+pub enum RangeFault {
+    /// It spells no range. The place is the smallest one of the subterms that fit nowhere, in bytes of the text.
+    #[error("not a range at {place}")]
+    NotARange { place: usize },
+    /// Memory was wanting.
+    #[error("out of memory")]
+    NoMemory,
+}
+
+/// The range that a term of the pool spells, with the place of each of its nodes.
+pub fn read_range(alloc: Global, pool: &Pool, t: TermId) -> Result<SourceRange, RangeFault>
+    requires { t.number < length pool.now.entries }
+    ensures spelled { MatchResult result (λ s. (not_a_range (placed_of pool.now t) ≡ None) × (s.range ≡ (reading_of (placed_of pool.now t)).value) × (s.places.items ≡ (reading_of (placed_of pool.now t)).places)) (IsFaultOf (not_a_range (placed_of pool.now t))) }
+    ensures placed { IfOk result (λ s. length s.places.items ≡ length (nodes_of s.range)) }
+{
+    let Found {
+        nodes,
+        places,
+        offender,
+    } = match read_term(alloc, pool, t) {
+        Ok(found) => found,
+        Err(NoMemory) => return Err(RangeFault::NoMemory),
+    };
+    if let Some(place) = offender {
+        return Err(RangeFault::NotARange { place });
+    }
+    let range = FlatRange::from_nodes(nodes).unwrap();
+    Ok(SourceRange { range, places })
+}
+
+/// The variables that the range reads by `min`, `max`, `val` and `dom`, each with what is read of it. Each pair comes once, in the
+/// order of first occurrence. The error is want of memory.
+pub fn features(alloc: Global, range: &FlatRange) -> Result<Vec<(u64, Feature)>, NoMemory>
+    ensures { IfOk result (λ v. v.items ≡ features_of range.now) }
+{
+    read_features(alloc, range.nodes())
+}
+
+#[cfg(test)]
+mod tests;

@@ -1,0 +1,282 @@
+//! Texts read as ranges and then checked, as the rules of ranges state it.
+
+ghost use Rattle.std.specs.Prelude.{◌<◌, length};
+
+use super::*;
+use fd_model::RangeNode;
+use monotone_check::{CheckFault, check};
+use std::alloc::AllocError;
+use std::process::Abort;
+use std::test::Fail;
+use term_pool::Node;
+use term_reader::read_sentences;
+
+/// A range, and what is said of it: it is accepted, it is no range, or the check refuses it, each with the place. Of a query the range is that of its last goal.
+const RANGES: &[(&str, &str)] = &[
+    // each form of a range
+    ("1..3", "accepted"),
+    ("{5}", "accepted"),
+    ("dom(Y)", "accepted"),
+    ("-{2}", "accepted"),
+    ("1..3:dom(Y)", "accepted"),
+    ("dom(Y)&1..3", "accepted"),
+    ("dom(Y)+P", "accepted"),
+    ("dom(Y)-P*Q", "accepted"),
+    ("dom(Y)*(P-1)", "accepted"),
+    ("dom(Y)/P", "accepted"),
+    ("'..'(1,3)", "accepted"),
+    ("'dom'(Y)", "accepted"),
+    ("16777215..infinity", "accepted"),
+    ("?- X in 0..3, X in -{2}", "accepted"),
+    ("?- X in 1..3: -{2}", "accepted"),
+    ("?- Y in 0..3, X in 0..7/<min(Y)", "accepted"),
+    // no range
+    ("Y", "not a range 0"),
+    ("3", "not a range 0"),
+    ("-3", "not a range 0"),
+    ("infinity", "not a range 0"),
+    ("dom", "not a range 0"),
+    ("{}", "not a range 0"),
+    ("min(Y)", "not a range 0"),
+    ("dom(3)", "not a range 0"),
+    ("dom(X,Y)", "not a range 0"),
+    ("range(X,Y,Z)", "not a range 0"),
+    ("[1,2]", "not a range 0"),
+    ("+(1..3)", "not a range 0"),
+    ("3*dom(X)", "not a range 0"),
+    ("1..3=dom(X)", "not a range 4"),
+    // no range under a range
+    ("-X", "not a range 1"),
+    ("- 3", "not a range 2"),
+    ("{1}:3", "not a range 4"),
+    ("3&{1}", "not a range 0"),
+    // no number
+    ("1..a", "not a range 3"),
+    ("a..b", "not a range 0"),
+    ("1..dom(X)", "not a range 3"),
+    ("1..min(3)", "not a range 3"),
+    ("1..max(X,Y)", "not a range 3"),
+    ("1..val(f(X))", "not a range 3"),
+    ("1..foo(a,b)", "not a range 3"),
+    ("1..foo(a,b,c)", "not a range 3"),
+    ("1..infinity(X)", "not a range 3"),
+    ("1..3/2", "not a range 4"),
+    ("1..7//2", "not a range 4"),
+    ("1..7 mod 2", "not a range 5"),
+    ("1.. -X", "not a range 4"),
+    ("1.. - 3", "not a range 4"),
+    ("{1,2}", "not a range 2"),
+    ("(1..2)..3", "not a range 2"),
+    ("(1..a)&(b..2)", "not a range 4"),
+    // min, max and val where no domain may change the number
+    ("dom(X)+min(Y)", "not a range 7"),
+    ("dom(X)-(1-max(Y))", "not a range 10"),
+    ("dom(X)*val(Y)", "not a range 7"),
+    ("dom(X)/(2*min(Y)/<3)", "not a range 10"),
+    ("dom(X)+dom(Y)", "not a range 7"),
+    // directions
+    ("min(Y)+1..infinity", "accepted"),
+    ("0..max(X)-1", "accepted"),
+    ("-dom(Y)", "not monotone 1"),
+    ("-(-dom(Y))", "accepted"),
+    ("max(Y)..9", "not monotone 0"),
+    ("0..min(Y)", "not monotone 3"),
+    ("-(min(Y)..9)", "not monotone 2"),
+    ("-(max(Y)..min(Z))", "accepted"),
+    ("{min(Y)}", "not monotone 1"),
+    ("{val(Y)+P}", "accepted"),
+    ("1..3& -dom(Y)", "not monotone 7"),
+    ("(-dom(Y))*2", "not monotone 2"),
+    ("0-max(Y)..9", "accepted"),
+    ("0-min(Y)..9", "not monotone 2"),
+    ("-2*max(Y)..9", "accepted"),
+    ("-2*min(Y)..9", "not monotone 3"),
+    ("min(Y)* -2..9", "not monotone 0"),
+    ("(3-5)*max(Y)..9", "accepted"),
+    ("0*max(Y)..9", "not monotone 2"),
+    ("0..max(Y)*max(Z)", "accepted"),
+    ("0..max(Y)*min(Z)", "not monotone 10"),
+    ("0..max(Y)/<max(Z)", "not monotone 11"),
+    ("0..max(Y)/<min(Z)", "accepted"),
+    ("?- Y in 0..3, X in -dom(Y)", "not monotone 20"),
+    // two uses of one variable
+    ("Y..max(Y)", "not monotone 3"),
+    ("min(Y)..Y", "not monotone 8"),
+    ("{P}:dom(P)", "not monotone 4"),
+    ("{val(P)}+P", "not monotone 9"),
+    // natural terms
+    ("0..(max(Y)-1)*max(Z)", "not natural 10"),
+    ("0..(3-5+P)*max(Y)", "not natural 5"),
+    ("0..(2-1+P)*max(Y)", "accepted"),
+    ("0..(P+ -1)*max(Y)", "not natural 7"),
+    ("0..9/<(P-1)", "not natural 8"),
+    ("0..(max(Y)-1)/<P", "accepted"),
+    ("?- X in 0..(max(Y)-1)*max(Z)", "not natural 18"),
+    // divisors
+    ("min(Y)/>2..9", "accepted"),
+    ("0..max(Y)/< -1", "bad divisor 12"),
+    ("0..max(Y)/>(1-1)", "bad divisor 13"),
+    ("dom(Y)/(1+1)", "accepted"),
+    ("dom(Y)/0", "bad divisor 7"),
+    ("dom(Y)/(P+1)", "bad divisor 9"),
+    ("?- X in 0..max(Y)/<0", "bad divisor 19"),
+    // width
+    ("A*B..9", "accepted"),
+    ("max(Y)..A*B*C", "too wide 11"),
+    ("A*(B*C*D)..9", "too wide 1"),
+    (
+        "dom(Y)*(9223372036854775807*9223372036854775807)",
+        "too wide 6",
+    ),
+    ("dom(Y)+A*B*(1+1)", "too wide 6"),
+    ("?- X in A*B*C..9", "too wide 11"),
+];
+
+/// The last part of a term with this name, and another term itself.
+fn last_part(pool: &Pool, t: TermId, name: &str) -> TermId
+    requires { t.number < length pool.now.entries }
+    ensures { result.number < length pool.now.entries }
+{
+    match pool.view(t) {
+        Node::Comp(atom, [.., last]) if pool.name_of(atom) == name => *last,
+        _ => t,
+    }
+}
+
+/// The range in a text's one term.
+fn range_in(pool: &Pool, t: TermId) -> TermId
+    requires { t.number < length pool.now.entries }
+    ensures { result.number < length pool.now.entries }
+{
+    let goals = last_part(pool, t, "?-");
+    last_part(pool, last_part(pool, goals, ","), "in")
+}
+
+fn said_of(alloc: Global, pool: &Pool, t: TermId) -> Result<String, AllocError>
+    requires { t.number < length pool.now.entries }
+{
+    let SourceRange { range, places } = match read_range(alloc, pool, t) {
+        Ok(source) => source,
+        Err(RangeFault::NotARange { place }) => return format!(in alloc; "not a range {place}"),
+        Err(RangeFault::NoMemory) => return format!(in alloc; "out of memory"),
+    };
+    match check(alloc, range, &places) {
+        Ok(_) => format!(in alloc; "accepted"),
+        Err(CheckFault::NotMonotone { place }) => format!(in alloc; "not monotone {place}"),
+        Err(CheckFault::NotNatural { place }) => format!(in alloc; "not natural {place}"),
+        Err(CheckFault::BadDivisor { place }) => format!(in alloc; "bad divisor {place}"),
+        Err(CheckFault::TooWide { place }) => format!(in alloc; "too wide {place}"),
+        Err(CheckFault::NoMemory) => format!(in alloc; "out of memory"),
+    }
+}
+
+/// What is said of the range in each sentence of a text.
+fn said(alloc: Global, text: &str) -> Result<String, AllocError> {
+    let mut out = String::new(alloc);
+    let sentences = match read_sentences(alloc, text) {
+        Ok(sentences) => sentences,
+        Err(_) => return format!(in alloc; "no sentence"),
+    };
+    for sentence in &sentences.list {
+        let range = range_in(&sentences.pool, sentence.term);
+        out.push_str(said_of(alloc, &sentences.pool, range)?.as_str())?;
+    }
+    Ok(out)
+}
+
+#[test]
+fn ranges_are_read_and_checked(rt: HostRuntime) -> Result<(), Fail> {
+    for (range, want) in RANGES {
+        let text = format!(in rt.alloc(); "{range}.")?;
+        let found = said(rt.alloc(), &text)?;
+        assert_eq!(rt; found.as_str(), *want, "at {text}");
+    }
+    Ok(())
+}
+
+/// The range that a text spells.
+fn source(rt: &impl Abort, alloc: Global, text: &str) -> Result<SourceRange, Fail> {
+    let sentences = read_sentences(alloc, text)?;
+    for sentence in &sentences.list {
+        return Ok(read_range(alloc, &sentences.pool, sentence.term)?);
+    }
+    panic!(rt; "no sentence in {text}")
+}
+
+#[test]
+fn nodes_have_the_places_of_their_names(rt: HostRuntime) -> Result<(), Fail> {
+    let text = "(1+min(A)-max(B)*val(C)/<D/>E..infinity:{2}& -dom(F))*2/4+1-G.";
+    let nodes = [
+        (RangeNode::Int(1), 1),
+        (RangeNode::Min(0), 3),
+        (RangeNode::Add, 2),
+        (RangeNode::Max(1), 10),
+        (RangeNode::Val(2), 17),
+        (RangeNode::Mul, 16),
+        (RangeNode::Param(3), 25),
+        (RangeNode::DivDown, 23),
+        (RangeNode::Param(4), 28),
+        (RangeNode::DivUp, 26),
+        (RangeNode::Sub, 9),
+        (RangeNode::Infinity, 31),
+        (RangeNode::Span, 29),
+        (RangeNode::Int(2), 41),
+        (RangeNode::One, 40),
+        (RangeNode::Dom(5), 46),
+        (RangeNode::Outside, 45),
+        (RangeNode::Inter, 43),
+        (RangeNode::Union, 39),
+        (RangeNode::Int(2), 54),
+        (RangeNode::Times, 53),
+        (RangeNode::Int(4), 56),
+        (RangeNode::Over, 55),
+        (RangeNode::Int(1), 58),
+        (RangeNode::Plus, 57),
+        (RangeNode::Param(6), 60),
+        (RangeNode::Minus, 59),
+    ];
+    let found = source(&rt, rt.alloc(), text)?;
+    assert_eq!(rt; found.places.len(), nodes.len());
+    for ((node, place), (found_node, found_place)) in nodes
+        .iter()
+        .zip(found.range.nodes().iter().zip(&found.places))
+    {
+        assert_eq!(rt; (found_node, found_place), (node, place));
+    }
+    Ok(())
+}
+
+#[test]
+fn each_feature_comes_once(rt: HostRuntime) -> Result<(), Fail> {
+    let found = source(
+        &rt,
+        rt.alloc(),
+        "max(B)+min(A)..max(A)-min(A):dom(A)&{max(B)+val(B)+P}.",
+    )?;
+    let pairs = [
+        (0, Feature::Max),
+        (1, Feature::Min),
+        (1, Feature::Max),
+        (1, Feature::Dom),
+        (0, Feature::Val),
+    ];
+    assert_eq!(rt;
+        features(rt.alloc(), &found.range)?.as_slice(),
+        pairs.as_slice()
+    );
+    Ok(())
+}
+
+#[test]
+fn a_range_may_be_as_deep_as_it_is_long(rt: HostRuntime) -> Result<(), Fail> {
+    for (part, last) in [("- ", "dom(X)."), ("1+", "1..9.")] {
+        let mut text = String::new(rt.alloc());
+        for _ in 0..100_000 {
+            text.push_str(part)?;
+        }
+        text.push_str(last)?;
+        let found = source(&rt, rt.alloc(), &text)?;
+        assert!(rt; found.places.len() > 100_000);
+    }
+    Ok(())
+}
