@@ -1,0 +1,68 @@
+-- What is compiled is the range.
+use Rattle.std.proofs.Common.{◌≡◌, ℕ, suc, ◌+◌, ◌<◌, ◌≤◌, Bool, true, false, cond, not, ◌==◌, nat_lt, nat_eq, List, [], ◌∷◌, ◌++◌, length, map, take, get_or, Option, Some, None, IsTrue, refl, sym, ◌∙◌, ap, subst, arith}
+use Rattle.std.specs.Prelude.{MatchOption}
+use Rattle.std.specs.List.{position, position_or_len}
+use Rattle.std.proofs.lemmas.List.{take_more}
+use Rattle.fd_model.specs.declared.TheConstants.{INFINITY}
+use Rattle.fd_model.specs.declared.range_node.Need.{Need}
+use Rattle.fd_model.specs.declared.range_node.Feature.{Feature}
+use Rattle.fd_model.specs.declared.range_node.RangeNode.{RangeNode}
+use Rattle.fd_model.specs.Range.{Range}
+use Rattle.fd_model.specs.Flat.{nodes_of, spelled, spelled-nodes}
+use Rattle.fd_model.specs.RangeVerdict.{is_accepted}
+use Rattle.fd_model.specs.Needs.{needs, once}
+use Rattle.fd_model.specs.Features.{each_once}
+use Rattle.range_code.specs.Asked.{need_in}
+use Rattle.range_code.specs.Nodes.{node_variables, node_features, node_variable, node_feature, listed, rename_node}
+use Rattle.range_code.specs.Slots.{slots_of, slot_of, in_slots, IsCompiled}
+use Rattle.range_code.specs.Gathered.{IsNumbered, IsRead}
+use Rattle.range_code.specs.declared.compile.Numbered.{Numbered}
+use Rattle.range_code.specs.declared.compile.Read.{Read}
+use Rattle.range_code.proofs.Variables.{node_variables_of, node_features_of, names_of, one_more, one_more_read}
+use Rattle.range_code.proofs.Asking.{need_more, needs_found}
+
+pub copied : (o : Option Range) (x r : Range) (P : Type 0) (items ns : List RangeNode) → o ≡ Some x → MatchOption o P (λ f. nodes_of f ≡ items) → items ≡ ns → ns ≡ nodes_of r → x ≡ r
+copied o x r P items ns e h f g =
+    let same : nodes_of x ≡ items = subst (λ q. MatchOption q P (λ f. nodes_of f ≡ items)) e h in
+    sym (spelled-nodes x) ∙ (ap spelled (same ∙ (f ∙ g)) ∙ spelled-nodes r)
+
+-- where no element passes, the first place that passes is the length
+pub none_passes : (p : ℕ → Bool) (xs : List ℕ) (n : ℕ) → position p xs ≡ None → n ≡ length xs → n ≡ position_or_len p xs
+none_passes p xs n e h = h ∙ by_test (nat_lt (position_or_len p xs) (length xs)) refl e where
+  within : (xs : List ℕ) → position_or_len p xs ≤ length xs
+  within [] = omega arith
+  within (x ∷ xs) = more (p x) (position_or_len p xs) (length xs) (within xs) where
+    more : (c : Bool) (m n : ℕ) → m ≤ n → cond (not c) (1 + m) 0 ≤ suc n
+    more true m n h = omega arith
+    more false m n h = omega arith
+
+  by_test : (c : Bool) → nat_lt (position_or_len p xs) (length xs) ≡ c → cond c (Some (position_or_len p xs)) None ≡ None → length xs ≡ position_or_len p xs
+  by_test true f g = absurd cc
+  by_test false f g = let w = within xs in grind (arith, w, f)
+
+-- one more node
+pub numbered_more : (nodes : List RangeNode) (i : ℕ) (d : RangeNode) (old new : Numbered) → i < length nodes → IsNumbered (node_variables (take i nodes)) old →
+    ((xs : List ℕ) → IsNumbered xs old → IsNumbered (xs ++ listed (node_variable (get_or nodes i d))) new) → IsNumbered (node_variables (take (i + 1) nodes)) new
+numbered_more nodes i d old new l h f = subst (λ xs. IsNumbered xs new) (sym (ap node_variables (take_more nodes i d l) ∙ one_more (take i nodes) (get_or nodes i d))) (f (node_variables (take i nodes)) h)
+
+pub read_more : (nodes : List RangeNode) (i : ℕ) (d : RangeNode) (old new : Read) → i < length nodes → IsRead (node_features (take i nodes)) old →
+    ((ds : List (ℕ × Feature)) → IsRead ds old → IsRead (ds ++ listed (node_feature (get_or nodes i d))) new) → IsRead (node_features (take (i + 1) nodes)) new
+read_more nodes i d old new l h f = subst (λ ds. IsRead ds new) (sym (ap node_features (take_more nodes i d l) ∙ one_more_read (take i nodes) (get_or nodes i d))) (f (node_features (take i nodes)) h)
+
+pub needs_more : (ds : List (ℕ × Need)) (i : ℕ) (d : ℕ × Need) (old new : Option Need) (y : ℕ) → i < length ds → new ≡ cond ((get_or ds i d).0 == y) (Some (get_or ds i d).1) old → old ≡ need_in (take i ds) y → new ≡ need_in (take (i + 1) ds) y
+needs_more ds i d old new y l e h = e ∙ (ap (λ o. cond ((get_or ds i d).0 == y) (Some (get_or ds i d).1) o) h ∙ (sym (need_more (take i ds) (get_or ds i d) y) ∙ ap (λ k. need_in k y) (sym (take_more ds i d l))))
+
+-- the whole
+pub compiled : (r q : Range) (ns : List RangeNode) (slots keys : List ℕ) (asked : List (ℕ × Need)) (ms : List RangeNode) (fs : List (ℕ × Feature)) (by_slot : List (Option Need)) →
+    IsTrue (is_accepted INFINITY r) → q ≡ r → ns ≡ nodes_of q → slots ≡ once (node_variables ns) → keys ≡ once (node_variables ns) → ms ≡ map (rename_node (λ y. position_or_len (nat_eq y) keys)) ns → fs ≡ each_once (node_features ms) → asked ≡ needs r → by_slot ≡ map (need_in asked) slots →
+    IsCompiled q slots by_slot fs ms
+compiled r q ns slots keys asked ms fs by_slot a e n s k m f d b =
+    let all : once (node_variables ns) ≡ slots_of q = ap once (ap node_variables n ∙ node_variables_of q) in
+    let named : ms ≡ nodes_of (in_slots q) = m ∙ (ap (λ l. map (rename_node (λ y. position_or_len (nat_eq y) l)) ns) (k ∙ all) ∙ (ap (map (rename_node (slot_of q))) n ∙ names_of (slot_of q) q)) in
+    record {
+      accepted = subst (λ p. IsTrue (is_accepted INFINITY p)) (sym e) a;
+      slots = s ∙ all;
+      needs = b ∙ (ap (λ l. map (need_in l) slots) (d ∙ ap needs (sym e)) ∙ (ap (map (need_in (needs q))) (s ∙ all) ∙ needs_found q));
+      features = f ∙ (ap (λ l. each_once (node_features l)) named ∙ ap each_once (node_features_of (in_slots q)));
+      nodes = named;
+    }

@@ -1,0 +1,13 @@
+pub mod Tables
+pub mod Reading
+pub mod Variables
+pub mod Once
+pub mod Fits
+pub mod Framing
+pub mod Standings
+pub mod Walks
+pub mod Asking
+pub mod Compiling
+pub mod Opening
+pub mod Posted
+pub mod Running

@@ -1,0 +1,204 @@
+-- Each node that is read leaves the values and sets that wait those of the terms and ranges that wait.
+use Rattle.std.proofs.Common.{◌≡◌, ℕ, ℤ, List, [], ◌∷◌, ◌++◌, Option, Some, None, refl, sym, ◌∙◌, ap, subst, ◌⊎◌, inl, inr}
+use Rattle.fd_model.specs.declared.TheConstants.{INFINITY}
+use Rattle.fd_model.specs.declared.range_node.RangeNode.{RangeNode}
+use Rattle.fd_model.specs.declared.range_node.RangeNode.TheVariants as node
+use Rattle.fd_model.specs.Family.{Family, IsRising}
+use Rattle.fd_model.specs.Range.{Range, Span, One, Dom, Union, Inter, Outside, Plus, Minus, Times, Over, Expr, Number, Infinity, Param, Min, Max, Val, Add, Sub, Mul, DivDown, DivUp, in_range}
+use Rattle.fd_model.specs.Check.{fill_range}
+use Rattle.fd_model.specs.Flat.{built}
+use Rattle.range_code.specs.declared.work.Work.{Work}
+use Rattle.range_code.specs.Work.{leaf_value, filled_value, filled_set, stacked_values, stacked_sets, IsPending, Follows}
+use Rattle.range_code.specs.Steps.{PushesValue, PushesSet, Operates, between, Spans, Singles, combined, Combines, outside, Complements, moved, Moves}
+use Rattle.range_code.proofs.Tables.{one_is, dom_is, union_is, inter_is, outside_is, plus_is, minus_is, times_is, over_is}
+
+follows : (S : Family) (p : ℕ → ℤ) (ns : List RangeNode) (rs : List Range) (ts : List Expr) (o : Option Range) (w : Work) → o ≡ built ns rs ts → IsPending S p rs ts w → Follows S p ns o w
+follows S p ns rs ts None w e i = tt
+follows S p ns rs ts (Some r) w e i = (rs, ts, e, i)
+
+module _ (S : Family) (p : ℕ → ℤ) (ns : List RangeNode) (old new : Work) where
+  put_term : (rs : List Range) (ts : List Expr) (front : List ℤ) (e : Expr) → front ≡ stacked_values S p ts → new.values.items ≡ front ++ filled_value S p e ∷ [] → new.sets.items ≡ old.sets.items → old.sets.items ≡ stacked_sets S p rs →
+      IsPending S p rs (e ∷ ts) new
+  put_term rs ts front e f v s o = record { values = v ∙ ap (λ l. l ++ filled_value S p e ∷ []) f; sets = s ∙ o }
+
+  put_range : (rs : List Range) (front : List (List ℕ)) (r : Range) (s : List ℕ) → front ≡ stacked_sets S p rs → s ≡ filled_set S p r → new.values.items ≡ [] → new.sets.items ≡ front ++ s ∷ [] → IsPending S p (r ∷ rs) [] new
+  put_range rs front r s f e v i = record { values = v; sets = i ∙ (ap (λ l. l ++ s ∷ []) f ∙ ap (λ x. stacked_sets S p rs ++ x ∷ []) e) }
+
+  pub read_int : (z : ℤ) (rs : List Range) (ts : List Expr) → IsPending S p rs ts old → PushesValue (leaf_value S p (node.Int z)) old new → Follows S p ns (built (node.Int z ∷ ns) rs ts) new
+  read_int z rs ts w f = follows S p ns rs (Number z ∷ ts) (built ns rs (Number z ∷ ts)) new refl (put_term rs ts old.values.items (Number z) w.values f.0 f.1 w.sets)
+
+  pub read_infinity : (rs : List Range) (ts : List Expr) → IsPending S p rs ts old → PushesValue (leaf_value S p node.Infinity) old new → Follows S p ns (built (node.Infinity ∷ ns) rs ts) new
+  read_infinity rs ts w f = follows S p ns rs (Infinity ∷ ts) (built ns rs (Infinity ∷ ts)) new refl (put_term rs ts old.values.items Infinity w.values f.0 f.1 w.sets)
+
+  pub read_param : (x : ℕ) (rs : List Range) (ts : List Expr) → IsPending S p rs ts old → PushesValue (leaf_value S p (node.Param x)) old new → Follows S p ns (built (node.Param x ∷ ns) rs ts) new
+  read_param x rs ts w f = follows S p ns rs (Param x ∷ ts) (built ns rs (Param x ∷ ts)) new refl (put_term rs ts old.values.items (Param x) w.values f.0 f.1 w.sets)
+
+  pub read_min : (y : ℕ) (rs : List Range) (ts : List Expr) → IsPending S p rs ts old → PushesValue (leaf_value S p (node.Min y)) old new → Follows S p ns (built (node.Min y ∷ ns) rs ts) new
+  read_min y rs ts w f = follows S p ns rs (Min y ∷ ts) (built ns rs (Min y ∷ ts)) new refl (put_term rs ts old.values.items (Min y) w.values f.0 f.1 w.sets)
+
+  pub read_max : (y : ℕ) (rs : List Range) (ts : List Expr) → IsPending S p rs ts old → PushesValue (leaf_value S p (node.Max y)) old new → Follows S p ns (built (node.Max y ∷ ns) rs ts) new
+  read_max y rs ts w f = follows S p ns rs (Max y ∷ ts) (built ns rs (Max y ∷ ts)) new refl (put_term rs ts old.values.items (Max y) w.values f.0 f.1 w.sets)
+
+  pub read_val : (y : ℕ) (rs : List Range) (ts : List Expr) → IsPending S p rs ts old → PushesValue (leaf_value S p (node.Val y)) old new → Follows S p ns (built (node.Val y ∷ ns) rs ts) new
+  read_val y rs ts w f = follows S p ns rs (Val y ∷ ts) (built ns rs (Val y ∷ ts)) new refl (put_term rs ts old.values.items (Val y) w.values f.0 f.1 w.sets)
+
+  pub read_add : (rs : List Range) (ts : List Expr) → IsPending S p rs ts old → Operates node.Add old new → Follows S p ns (built (node.Add ∷ ns) rs ts) new
+  read_add rs [] w f = tt
+  read_add rs (b ∷ []) w f = tt
+  read_add rs (b ∷ a ∷ ts) w f =
+      let made = f (stacked_values S p ts) (filled_value S p a) (filled_value S p b) w.values in
+      follows S p ns rs (Add a b ∷ ts) (built ns rs (Add a b ∷ ts)) new refl (put_term rs ts (stacked_values S p ts) (Add a b) refl made.0 made.1 w.sets)
+
+  pub read_sub : (rs : List Range) (ts : List Expr) → IsPending S p rs ts old → Operates node.Sub old new → Follows S p ns (built (node.Sub ∷ ns) rs ts) new
+  read_sub rs [] w f = tt
+  read_sub rs (b ∷ []) w f = tt
+  read_sub rs (b ∷ a ∷ ts) w f =
+      let made = f (stacked_values S p ts) (filled_value S p a) (filled_value S p b) w.values in
+      follows S p ns rs (Sub a b ∷ ts) (built ns rs (Sub a b ∷ ts)) new refl (put_term rs ts (stacked_values S p ts) (Sub a b) refl made.0 made.1 w.sets)
+
+  pub read_mul : (rs : List Range) (ts : List Expr) → IsPending S p rs ts old → Operates node.Mul old new → Follows S p ns (built (node.Mul ∷ ns) rs ts) new
+  read_mul rs [] w f = tt
+  read_mul rs (b ∷ []) w f = tt
+  read_mul rs (b ∷ a ∷ ts) w f =
+      let made = f (stacked_values S p ts) (filled_value S p a) (filled_value S p b) w.values in
+      follows S p ns rs (Mul a b ∷ ts) (built ns rs (Mul a b ∷ ts)) new refl (put_term rs ts (stacked_values S p ts) (Mul a b) refl made.0 made.1 w.sets)
+
+  pub read_div_down : (rs : List Range) (ts : List Expr) → IsPending S p rs ts old → Operates node.DivDown old new → Follows S p ns (built (node.DivDown ∷ ns) rs ts) new
+  read_div_down rs [] w f = tt
+  read_div_down rs (b ∷ []) w f = tt
+  read_div_down rs (b ∷ a ∷ ts) w f =
+      let made = f (stacked_values S p ts) (filled_value S p a) (filled_value S p b) w.values in
+      follows S p ns rs (DivDown a b ∷ ts) (built ns rs (DivDown a b ∷ ts)) new refl (put_term rs ts (stacked_values S p ts) (DivDown a b) refl made.0 made.1 w.sets)
+
+  pub read_div_up : (rs : List Range) (ts : List Expr) → IsPending S p rs ts old → Operates node.DivUp old new → Follows S p ns (built (node.DivUp ∷ ns) rs ts) new
+  read_div_up rs [] w f = tt
+  read_div_up rs (b ∷ []) w f = tt
+  read_div_up rs (b ∷ a ∷ ts) w f =
+      let made = f (stacked_values S p ts) (filled_value S p a) (filled_value S p b) w.values in
+      follows S p ns rs (DivUp a b ∷ ts) (built ns rs (DivUp a b ∷ ts)) new refl (put_term rs ts (stacked_values S p ts) (DivUp a b) refl made.0 made.1 w.sets)
+
+  pub read_span : (rs : List Range) (ts : List Expr) → IsPending S p rs ts old → Spans old new → Follows S p ns (built (node.Span ∷ ns) rs ts) new
+  read_span rs [] w f = tt
+  read_span rs (b ∷ []) w f = tt
+  read_span rs (b ∷ a ∷ c ∷ ts) w f = tt
+  read_span rs (b ∷ a ∷ []) w f =
+      let made = f [] (filled_value S p a) (filled_value S p b) w.values in
+      follows S p ns (Span a b ∷ rs) [] (built ns (Span a b ∷ rs) []) new refl (put_range rs old.sets.items (Span a b) (between (filled_value S p a) (filled_value S p b)) w.sets refl made.0 made.1)
+
+  pub read_one : (rs : List Range) (ts : List Expr) → IsPending S p rs ts old → Singles old new → Follows S p ns (built (node.One ∷ ns) rs ts) new
+  read_one rs [] w f = tt
+  read_one rs (b ∷ a ∷ ts) w f = tt
+  read_one rs (a ∷ []) w f =
+      let made = f [] (filled_value S p a) w.values in
+      follows S p ns (One a ∷ rs) [] (built ns (One a ∷ rs) []) new refl (put_range rs old.sets.items (One a) (between (filled_value S p a) (filled_value S p a)) w.sets (one_is INFINITY (filled_value S p a)) made.0 made.1)
+
+  pub read_dom : (y : ℕ) (rs : List Range) (ts : List Expr) → IsRising 0 INFINITY (S y) → IsPending S p rs ts old → PushesSet (S y) old new → Follows S p ns (built (node.Dom y ∷ ns) rs ts) new
+  read_dom y rs (a ∷ ts) r w f = tt
+  read_dom y rs [] r w f = follows S p ns (Dom y ∷ rs) [] (built ns (Dom y ∷ rs) []) new refl (put_range rs old.sets.items (Dom y) (S y) w.sets (dom_is INFINITY (S y) r) (f.0 ∙ w.values) f.1)
+
+  pub read_union : (rs : List Range) (ts : List Expr) → IsPending S p rs ts old → Combines node.Union old new → Follows S p ns (built (node.Union ∷ ns) rs ts) new
+  read_union [] [] w f = tt
+  read_union (q ∷ []) [] w f = tt
+  read_union [] (a ∷ ts) w f = tt
+  read_union (q ∷ []) (a ∷ ts) w f = tt
+  read_union (q ∷ r ∷ rs) (a ∷ ts) w f = tt
+  read_union (q ∷ r ∷ rs) [] w f =
+      let made = f (stacked_sets S p rs) (filled_set S p r) (filled_set S p q) w.sets in
+      follows S p ns (Union r q ∷ rs) [] (built ns (Union r q ∷ rs) []) new refl
+      (put_range rs (stacked_sets S p rs) (Union r q) (combined node.Union (filled_set S p r) (filled_set S p q)) refl (union_is INFINITY (in_range INFINITY S (fill_range p r)) (in_range INFINITY S (fill_range p q))) (made.0 ∙ w.values) made.1)
+
+  pub read_inter : (rs : List Range) (ts : List Expr) → IsPending S p rs ts old → Combines node.Inter old new → Follows S p ns (built (node.Inter ∷ ns) rs ts) new
+  read_inter [] [] w f = tt
+  read_inter (q ∷ []) [] w f = tt
+  read_inter [] (a ∷ ts) w f = tt
+  read_inter (q ∷ []) (a ∷ ts) w f = tt
+  read_inter (q ∷ r ∷ rs) (a ∷ ts) w f = tt
+  read_inter (q ∷ r ∷ rs) [] w f =
+      let made = f (stacked_sets S p rs) (filled_set S p r) (filled_set S p q) w.sets in
+      follows S p ns (Inter r q ∷ rs) [] (built ns (Inter r q ∷ rs) []) new refl
+      (put_range rs (stacked_sets S p rs) (Inter r q) (combined node.Inter (filled_set S p r) (filled_set S p q)) refl (inter_is INFINITY (in_range INFINITY S (fill_range p r)) (in_range INFINITY S (fill_range p q))) (made.0 ∙ w.values) made.1)
+
+  pub read_outside : (rs : List Range) (ts : List Expr) → IsPending S p rs ts old → Complements old new → Follows S p ns (built (node.Outside ∷ ns) rs ts) new
+  read_outside [] [] w f = tt
+  read_outside [] (a ∷ ts) w f = tt
+  read_outside (r ∷ rs) (a ∷ ts) w f = tt
+  read_outside (r ∷ rs) [] w f =
+      let made = f (stacked_sets S p rs) (filled_set S p r) w.sets in
+      follows S p ns (Outside r ∷ rs) [] (built ns (Outside r ∷ rs) []) new refl
+      (put_range rs (stacked_sets S p rs) (Outside r) (outside (filled_set S p r)) refl (outside_is INFINITY (in_range INFINITY S (fill_range p r))) (made.0 ∙ w.values) made.1)
+
+  pub read_plus : (rs : List Range) (ts : List Expr) → IsPending S p rs ts old → Moves node.Plus old new → Follows S p ns (built (node.Plus ∷ ns) rs ts) new
+  read_plus [] [] w f = tt
+  read_plus [] (a ∷ []) w f = tt
+  read_plus [] (b ∷ a ∷ ts) w f = tt
+  read_plus (r ∷ rs) [] w f = tt
+  read_plus (r ∷ rs) (b ∷ a ∷ ts) w f = tt
+  read_plus (r ∷ rs) (c ∷ []) w f =
+      let made = f [] (stacked_sets S p rs) (filled_set S p r) (filled_value S p c) w.values w.sets in
+      follows S p ns (Plus r c ∷ rs) [] (built ns (Plus r c ∷ rs) []) new refl
+      (put_range rs (stacked_sets S p rs) (Plus r c) (moved node.Plus (filled_set S p r) (filled_value S p c)) refl (plus_is INFINITY (in_range INFINITY S (fill_range p r)) (filled_value S p c)) made.0 made.1)
+
+  pub read_minus : (rs : List Range) (ts : List Expr) → IsPending S p rs ts old → Moves node.Minus old new → Follows S p ns (built (node.Minus ∷ ns) rs ts) new
+  read_minus [] [] w f = tt
+  read_minus [] (a ∷ []) w f = tt
+  read_minus [] (b ∷ a ∷ ts) w f = tt
+  read_minus (r ∷ rs) [] w f = tt
+  read_minus (r ∷ rs) (b ∷ a ∷ ts) w f = tt
+  read_minus (r ∷ rs) (c ∷ []) w f =
+      let made = f [] (stacked_sets S p rs) (filled_set S p r) (filled_value S p c) w.values w.sets in
+      follows S p ns (Minus r c ∷ rs) [] (built ns (Minus r c ∷ rs) []) new refl
+      (put_range rs (stacked_sets S p rs) (Minus r c) (moved node.Minus (filled_set S p r) (filled_value S p c)) refl (minus_is INFINITY (in_range INFINITY S (fill_range p r)) (filled_value S p c)) made.0 made.1)
+
+  pub read_times : (rs : List Range) (ts : List Expr) → IsPending S p rs ts old → Moves node.Times old new → Follows S p ns (built (node.Times ∷ ns) rs ts) new
+  read_times [] [] w f = tt
+  read_times [] (a ∷ []) w f = tt
+  read_times [] (b ∷ a ∷ ts) w f = tt
+  read_times (r ∷ rs) [] w f = tt
+  read_times (r ∷ rs) (b ∷ a ∷ ts) w f = tt
+  read_times (r ∷ rs) (c ∷ []) w f =
+      let made = f [] (stacked_sets S p rs) (filled_set S p r) (filled_value S p c) w.values w.sets in
+      follows S p ns (Times r c ∷ rs) [] (built ns (Times r c ∷ rs) []) new refl
+      (put_range rs (stacked_sets S p rs) (Times r c) (moved node.Times (filled_set S p r) (filled_value S p c)) refl (times_is INFINITY (in_range INFINITY S (fill_range p r)) (filled_value S p c)) made.0 made.1)
+
+  pub read_over : (rs : List Range) (ts : List Expr) → IsPending S p rs ts old → Moves node.Over old new → Follows S p ns (built (node.Over ∷ ns) rs ts) new
+  read_over [] [] w f = tt
+  read_over [] (a ∷ []) w f = tt
+  read_over [] (b ∷ a ∷ ts) w f = tt
+  read_over (r ∷ rs) [] w f = tt
+  read_over (r ∷ rs) (b ∷ a ∷ ts) w f = tt
+  read_over (r ∷ rs) (c ∷ []) w f =
+      let made = f [] (stacked_sets S p rs) (filled_set S p r) (filled_value S p c) w.values w.sets in
+      follows S p ns (Over r c ∷ rs) [] (built ns (Over r c ∷ rs) []) new refl
+      (put_range rs (stacked_sets S p rs) (Over r c) (moved node.Over (filled_set S p r) (filled_value S p c)) refl (over_is INFINITY (in_range INFINITY S (fill_range p r)) (filled_value S p c)) made.0 made.1)
+
+-- the same for each kind of node that the code tells apart
+abbrev pub Taken : Family → (ℕ → ℤ) → RangeNode → Work → Work → Type 0
+Taken S p m old new = (ns : List RangeNode) (rs : List Range) (ts : List Expr) → IsPending S p rs ts old → Follows S p ns (built (m ∷ ns) rs ts) new
+
+at_node : (S : Family) (p : ℕ → ℤ) (m : RangeNode) (old new : Work) (P : RangeNode → Type 0) → (P m → Taken S p m old new) → (k : RangeNode) → k ≡ m → P k → Taken S p k old new
+at_node S p m old new P f k e h = subst (λ j. Taken S p j old new) (sym e) (f (subst P e h))
+
+module _ (S : Family) (p : ℕ → ℤ) (old new : Work) where
+  pub leaf_taken : (m : RangeNode) → (((z : ℤ) × (m ≡ node.Int z)) ⊎ ((m ≡ node.Infinity) ⊎ (((x : ℕ) × (m ≡ node.Param x)) ⊎ (((y : ℕ) × (m ≡ node.Min y)) ⊎ (((y : ℕ) × (m ≡ node.Max y)) ⊎ ((y : ℕ) × (m ≡ node.Val y))))))) → PushesValue (leaf_value S p m) old new → Taken S p m old new
+  leaf_taken m is f = elim is [ inl e0 ↦ at_node S p (node.Int e0.0) old new (λ k. PushesValue (leaf_value S p k) old new) (λ f ns rs ts w. read_int S p ns old new e0.0 rs ts w f) m e0.1 f | inr h0 ↦ elim h0 [ inl e1 ↦ at_node S p node.Infinity old new (λ k. PushesValue (leaf_value S p k) old new) (λ f ns rs ts w. read_infinity S p ns old new rs ts w f) m e1 f | inr h1 ↦ elim h1 [ inl e2 ↦ at_node S p (node.Param e2.0) old new (λ k. PushesValue (leaf_value S p k) old new) (λ f ns rs ts w. read_param S p ns old new e2.0 rs ts w f) m e2.1 f | inr h2 ↦ elim h2 [ inl e3 ↦ at_node S p (node.Min e3.0) old new (λ k. PushesValue (leaf_value S p k) old new) (λ f ns rs ts w. read_min S p ns old new e3.0 rs ts w f) m e3.1 f | inr h3 ↦ elim h3 [ inl e4 ↦ at_node S p (node.Max e4.0) old new (λ k. PushesValue (leaf_value S p k) old new) (λ f ns rs ts w. read_max S p ns old new e4.0 rs ts w f) m e4.1 f | inr h4 ↦ at_node S p (node.Val h4.0) old new (λ k. PushesValue (leaf_value S p k) old new) (λ f ns rs ts w. read_val S p ns old new h4.0 rs ts w f) m h4.1 f ] ] ] ] ]
+
+  pub operator_taken : (m : RangeNode) → ((m ≡ node.Add) ⊎ ((m ≡ node.Sub) ⊎ ((m ≡ node.Mul) ⊎ ((m ≡ node.DivDown) ⊎ (m ≡ node.DivUp))))) → Operates m old new → Taken S p m old new
+  operator_taken m is f = elim is [ inl e0 ↦ at_node S p node.Add old new (λ k. Operates k old new) (λ f ns rs ts w. read_add S p ns old new rs ts w f) m e0 f | inr h0 ↦ elim h0 [ inl e1 ↦ at_node S p node.Sub old new (λ k. Operates k old new) (λ f ns rs ts w. read_sub S p ns old new rs ts w f) m e1 f | inr h1 ↦ elim h1 [ inl e2 ↦ at_node S p node.Mul old new (λ k. Operates k old new) (λ f ns rs ts w. read_mul S p ns old new rs ts w f) m e2 f | inr h2 ↦ elim h2 [ inl e3 ↦ at_node S p node.DivDown old new (λ k. Operates k old new) (λ f ns rs ts w. read_div_down S p ns old new rs ts w f) m e3 f | inr h3 ↦ at_node S p node.DivUp old new (λ k. Operates k old new) (λ f ns rs ts w. read_div_up S p ns old new rs ts w f) m h3 f ] ] ] ]
+
+  pub span_taken : (m : RangeNode) → m ≡ node.Span → Spans old new → Taken S p m old new
+  span_taken m is f = at_node S p node.Span old new (λ k. Spans old new) (λ f ns rs ts w. read_span S p ns old new rs ts w f) m is f
+
+  pub one_taken : (m : RangeNode) → m ≡ node.One → Singles old new → Taken S p m old new
+  one_taken m is f = at_node S p node.One old new (λ k. Singles old new) (λ f ns rs ts w. read_one S p ns old new rs ts w f) m is f
+
+  pub combined_taken : (m : RangeNode) → ((m ≡ node.Union) ⊎ (m ≡ node.Inter)) → Combines m old new → Taken S p m old new
+  combined_taken m is f = elim is [ inl e0 ↦ at_node S p node.Union old new (λ k. Combines k old new) (λ f ns rs ts w. read_union S p ns old new rs ts w f) m e0 f | inr h0 ↦ at_node S p node.Inter old new (λ k. Combines k old new) (λ f ns rs ts w. read_inter S p ns old new rs ts w f) m h0 f ]
+
+  pub outside_taken : (m : RangeNode) → m ≡ node.Outside → Complements old new → Taken S p m old new
+  outside_taken m is f = at_node S p node.Outside old new (λ k. Complements old new) (λ f ns rs ts w. read_outside S p ns old new rs ts w f) m is f
+
+  pub moved_taken : (m : RangeNode) → ((m ≡ node.Plus) ⊎ ((m ≡ node.Minus) ⊎ ((m ≡ node.Times) ⊎ (m ≡ node.Over)))) → Moves m old new → Taken S p m old new
+  moved_taken m is f = elim is [ inl e0 ↦ at_node S p node.Plus old new (λ k. Moves k old new) (λ f ns rs ts w. read_plus S p ns old new rs ts w f) m e0 f | inr h0 ↦ elim h0 [ inl e1 ↦ at_node S p node.Minus old new (λ k. Moves k old new) (λ f ns rs ts w. read_minus S p ns old new rs ts w f) m e1 f | inr h1 ↦ elim h1 [ inl e2 ↦ at_node S p node.Times old new (λ k. Moves k old new) (λ f ns rs ts w. read_times S p ns old new rs ts w f) m e2 f | inr h2 ↦ at_node S p node.Over old new (λ k. Moves k old new) (λ f ns rs ts w. read_over S p ns old new rs ts w f) m h2 f ] ] ]
+
+  pub dom_taken : (m : RangeNode) (y : ℕ) → m ≡ node.Dom y → IsRising 0 INFINITY (S y) → PushesSet (S y) old new → Taken S p m old new
+  dom_taken m y is r f = at_node S p (node.Dom y) old new (λ k. PushesSet (S y) old new) (λ f ns rs ts w. read_dom S p ns old new y rs ts r w f) m is f

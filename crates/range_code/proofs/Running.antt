@@ -1,0 +1,210 @@
+-- A run gives the set of the range that is posted.
+use Rattle.std.proofs.Common.{◌≡◌, ℕ, ℤ, Bool, true, false, cond, ◌||◌, ◌==◌, List, [], ◌∷◌, map, filter, length, Option, refl, sym, ◌∙◌, ap, subst, inl, inr, eqb-true, eq-eqb}
+use Rattle.std.specs.Prelude.{Result, IfOk}
+use Rattle.std.specs.List.{All, list_any}
+use Rattle.std.proofs.lemmas.Bool.{true≢false, or_left, or_right, or_cases}
+use Rattle.std.proofs.lemmas.Result.{IfOk-weaker}
+use Rattle.std.proofs.lemmas.List.Elements.{All-head, All-tail}
+use Rattle.fd_model.specs.declared.TheConstants.{INFINITY}
+use Rattle.fd_model.specs.declared.range_node.Need.{Need}
+use Rattle.fd_model.specs.declared.range_node.Feature.{Feature}
+use Rattle.fd_model.specs.declared.range_node.RangeNode.{RangeNode}
+use Rattle.fd_model.specs.Family.{Family, has, universe, IsRising, IsFamily}
+use Rattle.fd_model.specs.Range.{Range, Span, One, Dom, Union, Inter, Outside, Plus, Minus, Times, Over, Expr, Number, Infinity, Param, Min, Max, Val, Add, Sub, Mul, DivDown, DivUp, reads, vals, in_range, set_of, is_none_left, is_several}
+use Rattle.fd_model.specs.Needs.{meets_needs}
+use Rattle.fd_model.specs.Check.{fill, fill_range}
+use Rattle.fd_model.specs.RangeVerdict.{is_accepted}
+use Rattle.fd_model.specs.Renaming.{rename_expr, rename_range}
+use Rattle.fd_model.specs.Features.{range_features, features_of}
+use Rattle.fd_model.specs.Flat.{nodes_of, spelled, IsSpelled, spelled-nodes}
+use Rattle.fd_model.specs.CheckLaws.{AreBounded}
+use Rattle.fd_model.proofs.Limits.{bounded_values}
+use Rattle.fd_model.proofs.Meeting.{needs_met}
+use Rattle.fd_model.proofs.Renaming.{two, reads_map, set_same}
+use Rattle.range_code.specs.declared.frame.Arg.{Arg}
+use Rattle.range_code.specs.declared.frame.Standing.TheVariants.{Empty, Open, Settled}
+use Rattle.range_code.specs.Slots.{slot_of, in_slots, IsCompiled}
+use Rattle.range_code.specs.Frames.{IsFrame, slot_variable, slot_integer, family_of, slot_set, posted}
+use Rattle.range_code.specs.Nodes.{IsSeen, IsReadable}
+use Rattle.range_code.specs.Standing.{opens, standing_of}
+use Rattle.range_code.specs.Work.{RangeFits, filled_set}
+use Rattle.range_code.proofs.Variables.{node_features_of}
+use Rattle.range_code.proofs.Fits.{divides, fits}
+use Rattle.range_code.proofs.Framing.{all_readable}
+use Rattle.range_code.proofs.Posted.{fits_table, one_use, frame_meets}
+use Rattle.range_code.proofs.Standings.{features_seen, all_once, any_read, any_val, reads_filled, vals_filled}
+
+-- integers filled in before or after the variables are named anew
+fill_named : (f : ℕ → ℕ) (p : ℕ → ℤ) (e : Expr) → fill p (rename_expr f e) ≡ rename_expr f (fill (λ y. p (f y)) e)
+fill_named f p (Number z) = refl
+fill_named f p Infinity = refl
+fill_named f p (Param x) = refl
+fill_named f p (Min y) = refl
+fill_named f p (Max y) = refl
+fill_named f p (Val y) = refl
+fill_named f p (Add a b) = two Add (fill_named f p a) (fill_named f p b)
+fill_named f p (Sub a b) = two Sub (fill_named f p a) (fill_named f p b)
+fill_named f p (Mul a b) = two Mul (fill_named f p a) (fill_named f p b)
+fill_named f p (DivDown a b) = two DivDown (fill_named f p a) (fill_named f p b)
+fill_named f p (DivUp a b) = two DivUp (fill_named f p a) (fill_named f p b)
+
+range_named : (f : ℕ → ℕ) (p : ℕ → ℤ) (r : Range) → fill_range p (rename_range f r) ≡ rename_range f (fill_range (λ y. p (f y)) r)
+range_named f p (Span a b) = two Span (fill_named f p a) (fill_named f p b)
+range_named f p (Union r q) = two Union (range_named f p r) (range_named f p q)
+range_named f p (Inter r q) = two Inter (range_named f p r) (range_named f p q)
+range_named f p (Plus r c) = two Plus (range_named f p r) (fill_named f p c)
+range_named f p (Minus r c) = two Minus (range_named f p r) (fill_named f p c)
+range_named f p (Times r c) = two Times (range_named f p r) (fill_named f p c)
+range_named f p (Over r c) = two Over (range_named f p r) (fill_named f p c)
+range_named f p (One t) = ap One (fill_named f p t)
+range_named f p (Dom y) = refl
+range_named f p (Outside r) = ap Outside (range_named f p r)
+
+-- what a list has
+has_map : (f : ℕ → ℕ) (xs : List ℕ) (y : ℕ) → has xs y ≡ true → has (map f xs) (f y) ≡ true
+has_map f [] y h = absurd (true≢false (sym h))
+has_map f (x ∷ xs) y h = elim (or_cases (x == y) (has xs y) h) [
+  | inl e ↦ or_left (f x == f y) (has (map f xs) (f y)) (eq-eqb (f x) (f y) (ap f (eqb-true x y e)))
+  | inr e ↦ or_right (f x == f y) (has (map f xs) (f y)) (has_map f xs y e)
+]
+
+has_any : (xs : List ℕ) (y : ℕ) → list_any (λ z. z == y) xs ≡ has xs y
+has_any [] y = refl
+has_any (x ∷ xs) y = ap (λ b. (x == y) || b) (has_any xs y)
+
+one_of : (P : ℕ → Type 0) (ds : List (ℕ × Feature)) (y : ℕ) → All (λ d. P d.0) ds → list_any (λ d. d.0 == y) ds ≡ true → P y
+one_of P [] y h g = absurd (true≢false (sym g))
+one_of P (d ∷ ds) y h g = elim (or_cases (d.0 == y) (list_any (λ e. e.0 == y) ds) g) [
+  | inl e ↦ subst P (eqb-true d.0 y e) (All-head (λ e. P e.0) d ds h)
+  | inr e ↦ one_of P ds y (All-tail (λ e. P e.0) d ds h) e
+]
+
+empty_rises : (c : Bool) (xs : List ℕ) → (c ≡ true → IsRising 0 INFINITY xs) → IsRising 0 INFINITY (cond c xs [])
+empty_rises true xs h = h refl
+empty_rises false xs h = tt
+
+module _ (sets : List (List ℕ)) (r : Range) (args : List Arg) where
+  abbrev Sets : Family
+  Sets = slot_set sets args
+
+  abbrev integers : ℕ → ℤ
+  integers = slot_integer args
+
+  abbrev by_variable : ℕ → ℤ
+  by_variable y = integers (slot_of r y)
+
+  -- the set of the posted range, by slots
+  posted_is : set_of INFINITY (family_of sets) (posted r args) ≡ set_of INFINITY Sets (fill_range integers (in_slots r))
+  posted_is =
+      set_same INFINITY (λ y. slot_variable args (slot_of r y)) (family_of sets) (λ y. Sets (slot_of r y)) (fill_range by_variable r) (λ v h. refl)
+      ∙ sym (ap (set_of INFINITY Sets) (range_named (slot_of r) integers r) ∙ set_same INFINITY (slot_of r) Sets (λ y. Sets (slot_of r y)) (fill_range by_variable r) (λ v h. refl))
+
+  abbrev filled : Range
+  filled = fill_range integers (in_slots r)
+
+  abbrev features : List (ℕ × Feature)
+  features = features_of (in_slots r)
+
+  none_is : list_any (λ d. is_none_left (Sets d.0)) features ≡ list_any (λ y. is_none_left (Sets y)) (reads filled)
+  none_is = any_read (λ y. is_none_left (Sets y)) (in_slots r) ∙ sym (ap (list_any (λ y. is_none_left (Sets y))) (reads_filled integers (in_slots r)))
+
+  open_is : list_any (opens Sets) features ≡ list_any (λ y. is_several (Sets y)) (vals filled)
+  open_is = any_val (λ y. is_several (Sets y)) (in_slots r) ∙ sym (ap (list_any (λ y. is_several (Sets y))) (vals_filled integers (in_slots r)))
+
+  by_standing : (x y : Bool) → list_any (λ d. is_none_left (Sets d.0)) features ≡ x → list_any (opens Sets) features ≡ y →
+      set_of INFINITY (family_of sets) (posted r args) ≡ filter (λ n. cond x false (cond y true (in_range INFINITY Sets filled n))) (universe INFINITY)
+  by_standing x y h g = posted_is ∙ (ap (λ b. filter (λ n. cond b false (cond (list_any (λ z. is_several (Sets z)) (vals filled)) true (in_range INFINITY Sets filled n))) (universe INFINITY)) (sym none_is ∙ h)
+      ∙ ap (λ b. filter (λ n. cond x false (cond b true (in_range INFINITY Sets filled n))) (universe INFINITY)) (sym open_is ∙ g))
+
+  keeps_none : (xs : List ℕ) → filter (λ n. false) xs ≡ []
+  keeps_none [] = refl
+  keeps_none (x ∷ xs) = keeps_none xs
+
+  keeps_all : (xs : List ℕ) → filter (λ n. true) xs ≡ xs
+  keeps_all [] = refl
+  keeps_all (x ∷ xs) = ap (λ l. x ∷ l) (keeps_all xs)
+
+  empty_by : (x y : Bool) → list_any (λ d. is_none_left (Sets d.0)) features ≡ x → list_any (opens Sets) features ≡ y → Empty ≡ cond x Empty (cond y Open Settled) → [] ≡ set_of INFINITY (family_of sets) (posted r args)
+  empty_by true y h g e = sym (by_standing true y h g ∙ keeps_none (universe INFINITY))
+  empty_by false true h g e = absurd cc
+  empty_by false false h g e = absurd cc
+
+  open_by : (x y : Bool) → list_any (λ d. is_none_left (Sets d.0)) features ≡ x → list_any (opens Sets) features ≡ y → Open ≡ cond x Empty (cond y Open Settled) → universe INFINITY ≡ set_of INFINITY (family_of sets) (posted r args)
+  open_by true y h g e = absurd cc
+  open_by false true h g e = sym (by_standing false true h g ∙ keeps_all (universe INFINITY))
+  open_by false false h g e = absurd cc
+
+  settled_by : (x y : Bool) → list_any (λ d. is_none_left (Sets d.0)) features ≡ x → list_any (opens Sets) features ≡ y → Settled ≡ cond x Empty (cond y Open Settled) → filled_set Sets integers (in_slots r) ≡ set_of INFINITY (family_of sets) (posted r args)
+  settled_by true y h g e = absurd cc
+  settled_by false true h g e = absurd cc
+  settled_by false false h g e = sym (by_standing false false h g)
+
+-- the same for what is kept of the range
+module _ (sets : List (List ℕ)) (r q : Range) (args : List Arg) (vs : List ℕ) (ns : List (Option Need)) (fs ds : List (ℕ × Feature)) (ms nodes : List RangeNode)
+    (k : IsCompiled q vs ns fs ms) (same : q ≡ r) (fit : IsFrame (length sets) r args) (e : ds ≡ fs) (m : nodes ≡ ms) where
+  features_are : ds ≡ features_of (in_slots r)
+  features_are = e ∙ (k.features ∙ ap (λ x. features_of (in_slots x)) same)
+
+  nodes_are : nodes ≡ nodes_of (in_slots r)
+  nodes_are = m ∙ (k.nodes ∙ ap (λ x. nodes_of (in_slots x)) same)
+
+  accepted : is_accepted INFINITY r ≡ true
+  accepted = subst (λ x. is_accepted INFINITY x ≡ true) same k.accepted
+
+  read_nodes : All (IsReadable (length sets) args) (nodes_of (in_slots r))
+  read_nodes = all_readable (length sets) r args fit (one_use r accepted)
+
+  pub nodes_readable : All (IsReadable (length sets) args) nodes
+  nodes_readable = subst (All (IsReadable (length sets) args)) (sym nodes_are) read_nodes
+
+  abbrev Seen : ℕ × Feature → Type 0
+  Seen d = IsSeen (length sets) args d.0
+
+  pub features_there : All Seen ds
+  features_there = subst (All Seen) (sym features_are) (all_once Seen (range_features (in_slots r)) (subst (All Seen) (node_features_of (in_slots r)) (features_seen (length sets) args (nodes_of (in_slots r)) read_nodes)))
+
+  pub nodes_spelled : IsSpelled nodes
+  nodes_spelled = (in_slots r, sym nodes_are)
+
+  spells : spelled nodes ≡ in_slots r
+  spells = ap spelled nodes_are ∙ spelled-nodes (in_slots r)
+
+  met : meets_needs (by_variable sets r args) r ≡ true
+  met = frame_meets (length sets) r args accepted fit
+
+  -- the sets of the variables that are read, and empty ones for the others
+  abbrev Rising : Family
+  Rising y = cond (has (reads r) y) (Sets sets r args (slot_of r y)) []
+
+  module _ (rises : All (λ d. IsRising 0 INFINITY (Sets sets r args d.0)) ds) where
+    read_rises : (y : ℕ) → has (reads r) y ≡ true → IsRising 0 INFINITY (Sets sets r args (slot_of r y))
+    read_rises y h =
+        let there : has (reads (in_slots r)) (slot_of r y) ≡ true = subst (λ l. has l (slot_of r y) ≡ true) (sym (reads_map (slot_of r) r)) (has_map (slot_of r) (reads r) y h) in
+        one_of (λ x. IsRising 0 INFINITY (Sets sets r args x)) (features_of (in_slots r)) (slot_of r y) (subst (All (λ d. IsRising 0 INFINITY (Sets sets r args d.0))) features_are rises)
+        (any_read (λ z. z == slot_of r y) (in_slots r) ∙ (has_any (reads (in_slots r)) (slot_of r y) ∙ there))
+
+    family : IsFamily INFINITY Rising
+    family = record { rising = λ y. empty_rises (has (reads r) y) (Sets sets r args (slot_of r y)) (read_rises y) }
+
+    pub nodes_fit : RangeFits (Sets sets r args) (integers sets r args) (spelled nodes)
+    nodes_fit =
+        let b : AreBounded INFINITY Rising (fill_range (by_variable sets r args) r) = bounded_values INFINITY r (by_variable sets r args) Rising accepted met family in
+        subst (RangeFits (Sets sets r args) (integers sets r args)) (sym spells)
+        (fits (slot_of r) Rising (Sets sets r args) (integers sets r args) r (λ y h. ap (λ c. cond c (Sets sets r args (slot_of r y)) []) h) b.values b.divisors
+        (divides Rising (by_variable sets r args) r true (fits_table r accepted) (needs_met (by_variable sets r args) r met)))
+
+  abbrev none : Bool
+  none = list_any (λ d. is_none_left (Sets sets r args d.0)) (features_of (in_slots r))
+
+  abbrev several : Bool
+  several = list_any (opens (Sets sets r args)) (features_of (in_slots r))
+
+  pub gives_empty : (d : List ℕ) → d ≡ [] → Empty ≡ standing_of (Sets sets r args) ds → d ≡ set_of INFINITY (family_of sets) (posted r args)
+  gives_empty d h s = h ∙ empty_by sets r args none several refl refl (s ∙ ap (standing_of (Sets sets r args)) features_are)
+
+  pub gives_all : (d : List ℕ) → d ≡ universe INFINITY → Open ≡ standing_of (Sets sets r args) ds → d ≡ set_of INFINITY (family_of sets) (posted r args)
+  gives_all d h s = h ∙ open_by sets r args none several refl refl (s ∙ ap (standing_of (Sets sets r args)) features_are)
+
+  pub gives_table : {E : Type 0} (res : Result (List ℕ) E) → Settled ≡ standing_of (Sets sets r args) ds → IfOk res (λ d. d ≡ filled_set (Sets sets r args) (integers sets r args) (spelled nodes)) → IfOk res (λ d. d ≡ set_of INFINITY (family_of sets) (posted r args))
+  gives_table res s h = IfOk-weaker res (λ d. d ≡ filled_set (Sets sets r args) (integers sets r args) (spelled nodes)) (λ d. d ≡ set_of INFINITY (family_of sets) (posted r args))
+      (λ d g. g ∙ (ap (filled_set (Sets sets r args) (integers sets r args)) spells ∙ settled_by sets r args none several refl refl (s ∙ ap (standing_of (Sets sets r args)) features_are))) h

@@ -1,0 +1,233 @@
+-- How the variables of a range stand, told from what it reads.
+use Rattle.std.proofs.Common.{◌≡◌, ℕ, ℤ, ◌+◌, ◌<◌, length, take, get_or, Option, Some, None, subst, Bool, true, false, cond, not, ◌||◌, ◌&&◌, ◌==◌, List, [], ◌∷◌, ◌++◌, filter, refl, sym, ◌∙◌, ap, inl, inr, eqb-true}
+use Rattle.std.specs.Prelude.{OnSome}
+use Rattle.std.specs.Option.{is_some}
+use Rattle.std.specs.List.{All, list_any}
+use Rattle.std.proofs.lemmas.Bool.{cases_Bool, true≢false}
+use Rattle.std.proofs.lemmas.List.Elements.{All-nil, All-cons, All-head, All-tail, All-filter, All-more}
+use Rattle.std.proofs.lemmas.List.Folds.{list_any-append, list_any_more}
+use Rattle.fd_model.specs.declared.range_node.Feature.{Feature}
+use Rattle.fd_model.specs.declared.range_node.Feature.TheVariants as feature
+use Rattle.fd_model.specs.declared.range_node.RangeNode.{RangeNode}
+use Rattle.fd_model.specs.declared.range_node.RangeNode.TheVariants as node
+use Rattle.fd_model.specs.Range.{Range, Span, One, Dom, Union, Inter, Outside, Plus, Minus, Times, Over, Expr, Number, Infinity, Param, Min, Max, Val, Add, Sub, Mul, DivDown, DivUp, reads, expr_reads, vals, expr_vals, is_none_left, is_several}
+use Rattle.fd_model.specs.Check.{fill, fill_range}
+use Rattle.fd_model.specs.declared.TheConstants.{INFINITY}
+use Rattle.fd_model.specs.Family.{Family, IsRising}
+use Rattle.fd_model.specs.Features.{expr_features, range_features, is_same_feature, is_same_pair, each_once, features_of}
+use Rattle.fd_model.proofs.Renaming.{two}
+use Rattle.range_code.specs.declared.frame.Arg.{Arg}
+use Rattle.range_code.specs.Nodes.{IsSeen, IsReadable, node_features, node_feature, listed}
+use Rattle.range_code.specs.Standing.{is_val, opens}
+
+-- what nodes read is there
+module _ (count : ℕ) (args : List Arg) where
+  abbrev Seen : ℕ × Feature → Type 0
+  Seen d = IsSeen count args d.0
+
+  one_seen : (m : RangeNode) (ds : List (ℕ × Feature)) → IsReadable count args m → All Seen ds → All Seen (listed (node_feature m) ++ ds)
+  one_seen (node.Min y) ds h g = All-cons Seen (y, feature.Min) ds h g
+  one_seen (node.Max y) ds h g = All-cons Seen (y, feature.Max) ds h g
+  one_seen (node.Val y) ds h g = All-cons Seen (y, feature.Val) ds h g
+  one_seen (node.Dom y) ds h g = All-cons Seen (y, feature.Dom) ds h g
+  one_seen (node.Int z) ds h g = g
+  one_seen node.Infinity ds h g = g
+  one_seen (node.Param x) ds h g = g
+  one_seen node.Add ds h g = g
+  one_seen node.Sub ds h g = g
+  one_seen node.Mul ds h g = g
+  one_seen node.DivDown ds h g = g
+  one_seen node.DivUp ds h g = g
+  one_seen node.Span ds h g = g
+  one_seen node.One ds h g = g
+  one_seen node.Union ds h g = g
+  one_seen node.Inter ds h g = g
+  one_seen node.Outside ds h g = g
+  one_seen node.Plus ds h g = g
+  one_seen node.Minus ds h g = g
+  one_seen node.Times ds h g = g
+  one_seen node.Over ds h g = g
+
+  pub features_seen : (ns : List RangeNode) → All (IsReadable count args) ns → All Seen (node_features ns)
+  features_seen [] h = All-nil Seen
+  features_seen (m ∷ ns) h = one_seen m (node_features ns) (All-head (IsReadable count args) m ns h) (features_seen ns (All-tail (IsReadable count args) m ns h))
+
+-- what holds of all pairs holds of them once each
+pub all_once : (P : ℕ × Feature → Type 0) (ds : List (ℕ × Feature)) → All P ds → All P (each_once ds)
+all_once P [] h = All-nil P
+all_once P (d ∷ ds) h = All-cons P d (filter (λ e. not (is_same_pair e d)) (each_once ds)) (All-head P d ds h) (All-filter (λ e. not (is_same_pair e d)) P (each_once ds) (all_once P ds (All-tail P d ds h)))
+
+left : (a b : Bool) → (a && b) ≡ true → a ≡ true
+left true b h = refl
+left false b h = h
+
+right : (a b : Bool) → (a && b) ≡ true → b ≡ true
+right true b h = h
+right false b h = absurd (true≢false (sym h))
+
+same_name : (f g : Feature) → is_same_feature f g ≡ true → f ≡ g
+same_name feature.Min feature.Min h = refl
+same_name feature.Min feature.Max h = absurd (true≢false (sym h))
+same_name feature.Min feature.Val h = absurd (true≢false (sym h))
+same_name feature.Min feature.Dom h = absurd (true≢false (sym h))
+same_name feature.Max feature.Min h = absurd (true≢false (sym h))
+same_name feature.Max feature.Max h = refl
+same_name feature.Max feature.Val h = absurd (true≢false (sym h))
+same_name feature.Max feature.Dom h = absurd (true≢false (sym h))
+same_name feature.Val feature.Min h = absurd (true≢false (sym h))
+same_name feature.Val feature.Max h = absurd (true≢false (sym h))
+same_name feature.Val feature.Val h = refl
+same_name feature.Val feature.Dom h = absurd (true≢false (sym h))
+same_name feature.Dom feature.Min h = absurd (true≢false (sym h))
+same_name feature.Dom feature.Max h = absurd (true≢false (sym h))
+same_name feature.Dom feature.Val h = absurd (true≢false (sym h))
+same_name feature.Dom feature.Dom h = refl
+
+same_is : (d e : ℕ × Feature) → is_same_pair d e ≡ true → d ≡ e
+same_is d e h = two (λ x f. (x, f)) (eqb-true d.0 e.0 (left (d.0 == e.0) (is_same_feature d.1 e.1) h)) (same_name d.1 e.1 (right (d.0 == e.0) (is_same_feature d.1 e.1) h))
+
+without : (t : ℕ × Feature → Bool) (d : ℕ × Feature) (l : List (ℕ × Feature)) → (t d || list_any t (filter (λ e. not (is_same_pair e d)) l)) ≡ (t d || list_any t l)
+without t d [] = refl
+without t d (e ∷ l) = elim (cases_Bool (is_same_pair e d)) [
+  | inl i ↦ ap (λ b. t d || list_any t (cond (not b) (e ∷ filter (λ z. not (is_same_pair z d)) l) (filter (λ z. not (is_same_pair z d)) l))) i ∙ (without t d l ∙ again (t d) (t e) (list_any t l) (ap t (same_is e d i)))
+  | inr i ↦ ap (λ b. t d || list_any t (cond (not b) (e ∷ filter (λ z. not (is_same_pair z d)) l) (filter (λ z. not (is_same_pair z d)) l))) i ∙ past (t d) (t e) (list_any t (filter (λ z. not (is_same_pair z d)) l)) (list_any t l) (without t d l)
+] where
+  again : (a b c : Bool) → b ≡ a → (a || c) ≡ (a || (b || c))
+  again true b c h = refl
+  again false b c h = ap (λ x. x || c) (sym h)
+
+  past : (a b c k : Bool) → (a || c) ≡ (a || k) → (a || (b || c)) ≡ (a || (b || k))
+  past true b c k h = refl
+  past false b c k h = ap (λ x. b || x) h
+
+any_once : (t : ℕ × Feature → Bool) (ds : List (ℕ × Feature)) → list_any t (each_once ds) ≡ list_any t ds
+any_once t [] = refl
+any_once t (d ∷ ds) = without t d (each_once ds) ∙ ap (λ b. t d || b) (any_once t ds)
+
+either_list : {A B : Type 0} (s : A → Bool) (t : B → Bool) (xs ys : List A) (us vs : List B) → list_any s xs ≡ list_any t us → list_any s ys ≡ list_any t vs → list_any s (xs ++ ys) ≡ list_any t (us ++ vs)
+either_list s t xs ys us vs h g = list_any-append s xs ys ∙ (two (λ a b. a || b) h g ∙ sym (list_any-append t us vs))
+
+any_expr_reads : (t : ℕ → Bool) (e : Expr) → list_any (λ d. t d.0) (expr_features e) ≡ list_any t (expr_reads e)
+any_expr_reads t (Number z) = refl
+any_expr_reads t Infinity = refl
+any_expr_reads t (Param x) = refl
+any_expr_reads t (Min y) = refl
+any_expr_reads t (Max y) = refl
+any_expr_reads t (Val y) = refl
+any_expr_reads t (Add a b) = either_list (λ d. t d.0) t (expr_features a) (expr_features b) (expr_reads a) (expr_reads b) (any_expr_reads t a) (any_expr_reads t b)
+any_expr_reads t (Sub a b) = either_list (λ d. t d.0) t (expr_features a) (expr_features b) (expr_reads a) (expr_reads b) (any_expr_reads t a) (any_expr_reads t b)
+any_expr_reads t (Mul a b) = either_list (λ d. t d.0) t (expr_features a) (expr_features b) (expr_reads a) (expr_reads b) (any_expr_reads t a) (any_expr_reads t b)
+any_expr_reads t (DivDown a b) = either_list (λ d. t d.0) t (expr_features a) (expr_features b) (expr_reads a) (expr_reads b) (any_expr_reads t a) (any_expr_reads t b)
+any_expr_reads t (DivUp a b) = either_list (λ d. t d.0) t (expr_features a) (expr_features b) (expr_reads a) (expr_reads b) (any_expr_reads t a) (any_expr_reads t b)
+
+any_reads : (t : ℕ → Bool) (r : Range) → list_any (λ d. t d.0) (range_features r) ≡ list_any t (reads r)
+any_reads t (Span a b) = either_list (λ d. t d.0) t (expr_features a) (expr_features b) (expr_reads a) (expr_reads b) (any_expr_reads t a) (any_expr_reads t b)
+any_reads t (Union r q) = either_list (λ d. t d.0) t (range_features r) (range_features q) (reads r) (reads q) (any_reads t r) (any_reads t q)
+any_reads t (Inter r q) = either_list (λ d. t d.0) t (range_features r) (range_features q) (reads r) (reads q) (any_reads t r) (any_reads t q)
+any_reads t (Plus r c) = either_list (λ d. t d.0) t (range_features r) (expr_features c) (reads r) (expr_reads c) (any_reads t r) (any_expr_reads t c)
+any_reads t (Minus r c) = either_list (λ d. t d.0) t (range_features r) (expr_features c) (reads r) (expr_reads c) (any_reads t r) (any_expr_reads t c)
+any_reads t (Times r c) = either_list (λ d. t d.0) t (range_features r) (expr_features c) (reads r) (expr_reads c) (any_reads t r) (any_expr_reads t c)
+any_reads t (Over r c) = either_list (λ d. t d.0) t (range_features r) (expr_features c) (reads r) (expr_reads c) (any_reads t r) (any_expr_reads t c)
+any_reads t (One a) = any_expr_reads t a
+any_reads t (Dom y) = refl
+any_reads t (Outside r) = any_reads t r
+
+any_expr_vals : (t : ℕ → Bool) (e : Expr) → list_any (λ d. is_val d.1 && t d.0) (expr_features e) ≡ list_any t (expr_vals e)
+any_expr_vals t (Number z) = refl
+any_expr_vals t Infinity = refl
+any_expr_vals t (Param x) = refl
+any_expr_vals t (Min y) = refl
+any_expr_vals t (Max y) = refl
+any_expr_vals t (Val y) = refl
+any_expr_vals t (Add a b) = either_list (λ d. is_val d.1 && t d.0) t (expr_features a) (expr_features b) (expr_vals a) (expr_vals b) (any_expr_vals t a) (any_expr_vals t b)
+any_expr_vals t (Sub a b) = either_list (λ d. is_val d.1 && t d.0) t (expr_features a) (expr_features b) (expr_vals a) (expr_vals b) (any_expr_vals t a) (any_expr_vals t b)
+any_expr_vals t (Mul a b) = either_list (λ d. is_val d.1 && t d.0) t (expr_features a) (expr_features b) (expr_vals a) (expr_vals b) (any_expr_vals t a) (any_expr_vals t b)
+any_expr_vals t (DivDown a b) = either_list (λ d. is_val d.1 && t d.0) t (expr_features a) (expr_features b) (expr_vals a) (expr_vals b) (any_expr_vals t a) (any_expr_vals t b)
+any_expr_vals t (DivUp a b) = either_list (λ d. is_val d.1 && t d.0) t (expr_features a) (expr_features b) (expr_vals a) (expr_vals b) (any_expr_vals t a) (any_expr_vals t b)
+
+any_vals : (t : ℕ → Bool) (r : Range) → list_any (λ d. is_val d.1 && t d.0) (range_features r) ≡ list_any t (vals r)
+any_vals t (Span a b) = either_list (λ d. is_val d.1 && t d.0) t (expr_features a) (expr_features b) (expr_vals a) (expr_vals b) (any_expr_vals t a) (any_expr_vals t b)
+any_vals t (Union r q) = either_list (λ d. is_val d.1 && t d.0) t (range_features r) (range_features q) (vals r) (vals q) (any_vals t r) (any_vals t q)
+any_vals t (Inter r q) = either_list (λ d. is_val d.1 && t d.0) t (range_features r) (range_features q) (vals r) (vals q) (any_vals t r) (any_vals t q)
+any_vals t (Plus r c) = either_list (λ d. is_val d.1 && t d.0) t (range_features r) (expr_features c) (vals r) (expr_vals c) (any_vals t r) (any_expr_vals t c)
+any_vals t (Minus r c) = either_list (λ d. is_val d.1 && t d.0) t (range_features r) (expr_features c) (vals r) (expr_vals c) (any_vals t r) (any_expr_vals t c)
+any_vals t (Times r c) = either_list (λ d. is_val d.1 && t d.0) t (range_features r) (expr_features c) (vals r) (expr_vals c) (any_vals t r) (any_expr_vals t c)
+any_vals t (Over r c) = either_list (λ d. is_val d.1 && t d.0) t (range_features r) (expr_features c) (vals r) (expr_vals c) (any_vals t r) (any_expr_vals t c)
+any_vals t (One a) = any_expr_vals t a
+any_vals t (Dom y) = refl
+any_vals t (Outside r) = any_vals t r
+
+pub any_read : (t : ℕ → Bool) (r : Range) → list_any (λ d. t d.0) (features_of r) ≡ list_any t (reads r)
+any_read t r = any_once (λ d. t d.0) (range_features r) ∙ any_reads t r
+
+pub any_val : (t : ℕ → Bool) (r : Range) → list_any (λ d. is_val d.1 && t d.0) (features_of r) ≡ list_any t (vals r)
+any_val t r = any_once (λ d. is_val d.1 && t d.0) (range_features r) ∙ any_vals t r
+
+-- parameters' integers change nothing of what is read
+expr_reads_filled : (p : ℕ → ℤ) (e : Expr) → expr_reads (fill p e) ≡ expr_reads e
+expr_reads_filled p (Number z) = refl
+expr_reads_filled p Infinity = refl
+expr_reads_filled p (Param x) = refl
+expr_reads_filled p (Min y) = refl
+expr_reads_filled p (Max y) = refl
+expr_reads_filled p (Val y) = refl
+expr_reads_filled p (Add a b) = two (λ x y. x ++ y) (expr_reads_filled p a) (expr_reads_filled p b)
+expr_reads_filled p (Sub a b) = two (λ x y. x ++ y) (expr_reads_filled p a) (expr_reads_filled p b)
+expr_reads_filled p (Mul a b) = two (λ x y. x ++ y) (expr_reads_filled p a) (expr_reads_filled p b)
+expr_reads_filled p (DivDown a b) = two (λ x y. x ++ y) (expr_reads_filled p a) (expr_reads_filled p b)
+expr_reads_filled p (DivUp a b) = two (λ x y. x ++ y) (expr_reads_filled p a) (expr_reads_filled p b)
+
+pub reads_filled : (p : ℕ → ℤ) (r : Range) → reads (fill_range p r) ≡ reads r
+reads_filled p (Span a b) = two (λ x y. x ++ y) (expr_reads_filled p a) (expr_reads_filled p b)
+reads_filled p (Union r q) = two (λ x y. x ++ y) (reads_filled p r) (reads_filled p q)
+reads_filled p (Inter r q) = two (λ x y. x ++ y) (reads_filled p r) (reads_filled p q)
+reads_filled p (Plus r c) = two (λ x y. x ++ y) (reads_filled p r) (expr_reads_filled p c)
+reads_filled p (Minus r c) = two (λ x y. x ++ y) (reads_filled p r) (expr_reads_filled p c)
+reads_filled p (Times r c) = two (λ x y. x ++ y) (reads_filled p r) (expr_reads_filled p c)
+reads_filled p (Over r c) = two (λ x y. x ++ y) (reads_filled p r) (expr_reads_filled p c)
+reads_filled p (One a) = expr_reads_filled p a
+reads_filled p (Dom y) = refl
+reads_filled p (Outside r) = reads_filled p r
+
+expr_vals_filled : (p : ℕ → ℤ) (e : Expr) → expr_vals (fill p e) ≡ expr_vals e
+expr_vals_filled p (Number z) = refl
+expr_vals_filled p Infinity = refl
+expr_vals_filled p (Param x) = refl
+expr_vals_filled p (Min y) = refl
+expr_vals_filled p (Max y) = refl
+expr_vals_filled p (Val y) = refl
+expr_vals_filled p (Add a b) = two (λ x y. x ++ y) (expr_vals_filled p a) (expr_vals_filled p b)
+expr_vals_filled p (Sub a b) = two (λ x y. x ++ y) (expr_vals_filled p a) (expr_vals_filled p b)
+expr_vals_filled p (Mul a b) = two (λ x y. x ++ y) (expr_vals_filled p a) (expr_vals_filled p b)
+expr_vals_filled p (DivDown a b) = two (λ x y. x ++ y) (expr_vals_filled p a) (expr_vals_filled p b)
+expr_vals_filled p (DivUp a b) = two (λ x y. x ++ y) (expr_vals_filled p a) (expr_vals_filled p b)
+
+pub vals_filled : (p : ℕ → ℤ) (r : Range) → vals (fill_range p r) ≡ vals r
+vals_filled p (Span a b) = two (λ x y. x ++ y) (expr_vals_filled p a) (expr_vals_filled p b)
+vals_filled p (Union r q) = two (λ x y. x ++ y) (vals_filled p r) (vals_filled p q)
+vals_filled p (Inter r q) = two (λ x y. x ++ y) (vals_filled p r) (vals_filled p q)
+vals_filled p (Plus r c) = two (λ x y. x ++ y) (vals_filled p r) (expr_vals_filled p c)
+vals_filled p (Minus r c) = two (λ x y. x ++ y) (vals_filled p r) (expr_vals_filled p c)
+vals_filled p (Times r c) = two (λ x y. x ++ y) (vals_filled p r) (expr_vals_filled p c)
+vals_filled p (Over r c) = two (λ x y. x ++ y) (vals_filled p r) (expr_vals_filled p c)
+vals_filled p (One a) = expr_vals_filled p a
+vals_filled p (Dom y) = refl
+vals_filled p (Outside r) = vals_filled p r
+
+-- how the variables of the first pairs stand
+pub record Stands (S : Family) (ds : List (ℕ × Feature)) (opened : Bool) : Type 0 where
+  pub none : list_any (λ d. is_none_left (S d.0)) ds ≡ false
+  pub several : opened ≡ list_any (opens S) ds
+  pub rising : All (λ d. IsRising 0 INFINITY (S d.0)) ds
+
+some_left : (o : Option ℕ) (P : Type 0) → is_some o ≡ true → OnSome o P → P
+some_left (Some n) P h g = g
+some_left None P h g = absurd (true≢false (sym h))
+
+pub stands_more : (S : Family) (ds : List (ℕ × Feature)) (i : ℕ) (e : ℕ × Feature) (xs : List ℕ) (o : Option ℕ) (opened next : Bool) → i < length ds → xs ≡ S (get_or ds i e).0 → IsRising 0 INFINITY xs → is_some o ≡ true → OnSome o (is_none_left xs ≡ false) →
+    next ≡ (opened || (is_val (get_or ds i e).1 && is_several xs)) → Stands S (take i ds) opened → Stands S (take (i + 1) ds) next
+stands_more S ds i e xs o opened next l h r g k n s = record {
+  none = list_any_more (λ d. is_none_left (S d.0)) ds i e l ∙ two (λ a b. a || b) s.none (ap is_none_left (sym h) ∙ some_left o (is_none_left xs ≡ false) g k);
+  several = n ∙ (ap (λ b. b || (is_val (get_or ds i e).1 && is_several xs)) s.several ∙ (ap (λ l. list_any (opens S) (take i ds) || (is_val (get_or ds i e).1 && is_several l)) h ∙ sym (list_any_more (opens S) ds i e l)));
+  rising = All-more (λ d. IsRising 0 INFINITY (S d.0)) ds i e l s.rising (subst (IsRising 0 INFINITY) h r);
+}

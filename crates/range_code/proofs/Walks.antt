@@ -1,0 +1,232 @@
+-- The walk over a range's nodes.
+use Rattle.std.proofs.Common.{◌≡◌, ℕ, ℤ, ◌+◌, ◌<◌, ◌≤◌, List, [], ◌∷◌, ◌++◌, length, drop, get_or, Option, Some, refl, sym, ◌∙◌, ap, subst}
+use Rattle.std.specs.Option.{option_to_list}
+use Rattle.std.proofs.lemmas.List.{at_drop_more, drop_all}
+use Rattle.fd_model.specs.declared.range_node.RangeNode.{RangeNode}
+use Rattle.fd_model.specs.declared.range_node.RangeNode.TheVariants as node
+use Rattle.fd_model.specs.Family.{Family}
+use Rattle.fd_model.specs.Range.{Range, Span, One, Dom, Union, Inter, Outside, Plus, Minus, Times, Over, Expr, Number, Infinity, Param, Min, Max, Val, Add, Sub, Mul, DivDown, DivUp}
+use Rattle.fd_model.specs.Flat.{built, spelled, IsSpelled, builds_range, spelled-nodes}
+use Rattle.range_code.specs.declared.work.Work.{Work}
+use Rattle.range_code.specs.Work.{filled_value, filled_set, Fits, RangeFits, CanOperate, CanMove, CanTake, stacked_values, IsPending, Follows}
+
+some_same : (r q : Range) → Some r ≡ Some q → r ≡ q
+some_same r q e = cc
+
+-- the last of two equal lists
+record SameEnds (A : Type 0) (xs ys : List A) (x y : A) : Type 0 where
+  fronts : xs ≡ ys
+  lasts : x ≡ y
+
+ends_same : {A : Type 0} (xs ys : List A) (x y : A) → xs ++ x ∷ [] ≡ ys ++ y ∷ [] → SameEnds A xs ys x y
+ends_same [] [] x y e = record { fronts = refl; lasts = cc }
+ends_same [] (z ∷ []) x y e = absurd cc
+ends_same [] (z ∷ w ∷ zs) x y e = absurd cc
+ends_same (z ∷ []) [] x y e = absurd cc
+ends_same (z ∷ w ∷ zs) [] x y e = absurd cc
+ends_same (z ∷ zs) (w ∷ ws) x y e =
+    let heads : z ≡ w = cc in
+    let tails : zs ++ x ∷ [] ≡ ws ++ y ∷ [] = cc in
+    let k = ends_same zs ws x y tails in
+    let f : zs ≡ ws = k.fronts in
+    record { fronts = cc; lasts = k.lasts }
+
+module _ (S : Family) (p : ℕ → ℤ) where
+  -- all that waits fits
+  abbrev TermsFit : List Expr → Type 0
+  TermsFit [] = Unit {0}
+  TermsFit (t ∷ ts) = Fits S p t × TermsFit ts
+
+  abbrev RangesFit : List Range → Type 0
+  RangesFit [] = Unit {0}
+  RangesFit (r ∷ rs) = RangeFits S p r × RangesFit rs
+
+  record Fit (rs : List Range) (ts : List Expr) : Type 0 where
+    ranges : RangesFit rs
+    terms : TermsFit ts
+
+  -- where the whole range fits, all that waits does
+  all_fit : (ns : List RangeNode) (rs : List Range) (ts : List Expr) (r : Range) → Some r ≡ built ns rs ts → RangeFits S p r → Fit rs ts
+  all_fit [] [] [] r e h = absurd cc
+  all_fit [] [] (t ∷ ts) r e h = absurd cc
+  all_fit [] (q ∷ []) [] r e h = record { ranges = (subst (RangeFits S p) (some_same r q e) h, tt); terms = tt }
+  all_fit [] (q ∷ []) (t ∷ ts) r e h = absurd cc
+  all_fit [] (q ∷ x ∷ rs) [] r e h = absurd cc
+  all_fit [] (q ∷ x ∷ rs) (t ∷ ts) r e h = absurd cc
+  all_fit (node.Int z ∷ ns) rs ts r e h = let k = all_fit ns rs (Number z ∷ ts) r e h in record { ranges = k.ranges; terms = k.terms.1 }
+  all_fit (node.Infinity ∷ ns) rs ts r e h = let k = all_fit ns rs (Infinity ∷ ts) r e h in record { ranges = k.ranges; terms = k.terms.1 }
+  all_fit (node.Param x ∷ ns) rs ts r e h = let k = all_fit ns rs (Param x ∷ ts) r e h in record { ranges = k.ranges; terms = k.terms.1 }
+  all_fit (node.Min y ∷ ns) rs ts r e h = let k = all_fit ns rs (Min y ∷ ts) r e h in record { ranges = k.ranges; terms = k.terms.1 }
+  all_fit (node.Max y ∷ ns) rs ts r e h = let k = all_fit ns rs (Max y ∷ ts) r e h in record { ranges = k.ranges; terms = k.terms.1 }
+  all_fit (node.Val y ∷ ns) rs ts r e h = let k = all_fit ns rs (Val y ∷ ts) r e h in record { ranges = k.ranges; terms = k.terms.1 }
+  all_fit (node.Add ∷ ns) rs [] r e h = absurd cc
+  all_fit (node.Add ∷ ns) rs (b ∷ []) r e h = absurd cc
+  all_fit (node.Add ∷ ns) rs (b ∷ a ∷ ts) r e h = let k = all_fit ns rs (Add a b ∷ ts) r e h in record { ranges = k.ranges; terms = (k.terms.0.1, (k.terms.0.0, k.terms.1)) }
+  all_fit (node.Sub ∷ ns) rs [] r e h = absurd cc
+  all_fit (node.Sub ∷ ns) rs (b ∷ []) r e h = absurd cc
+  all_fit (node.Sub ∷ ns) rs (b ∷ a ∷ ts) r e h = let k = all_fit ns rs (Sub a b ∷ ts) r e h in record { ranges = k.ranges; terms = (k.terms.0.1, (k.terms.0.0, k.terms.1)) }
+  all_fit (node.Mul ∷ ns) rs [] r e h = absurd cc
+  all_fit (node.Mul ∷ ns) rs (b ∷ []) r e h = absurd cc
+  all_fit (node.Mul ∷ ns) rs (b ∷ a ∷ ts) r e h = let k = all_fit ns rs (Mul a b ∷ ts) r e h in record { ranges = k.ranges; terms = (k.terms.0.1, (k.terms.0.0, k.terms.1)) }
+  all_fit (node.DivDown ∷ ns) rs [] r e h = absurd cc
+  all_fit (node.DivDown ∷ ns) rs (b ∷ []) r e h = absurd cc
+  all_fit (node.DivDown ∷ ns) rs (b ∷ a ∷ ts) r e h = let k = all_fit ns rs (DivDown a b ∷ ts) r e h in record { ranges = k.ranges; terms = (k.terms.0.1, (k.terms.0.0, k.terms.1)) }
+  all_fit (node.DivUp ∷ ns) rs [] r e h = absurd cc
+  all_fit (node.DivUp ∷ ns) rs (b ∷ []) r e h = absurd cc
+  all_fit (node.DivUp ∷ ns) rs (b ∷ a ∷ ts) r e h = let k = all_fit ns rs (DivUp a b ∷ ts) r e h in record { ranges = k.ranges; terms = (k.terms.0.1, (k.terms.0.0, k.terms.1)) }
+  all_fit (node.Span ∷ ns) rs [] r e h = absurd cc
+  all_fit (node.Span ∷ ns) rs (b ∷ []) r e h = absurd cc
+  all_fit (node.Span ∷ ns) rs (b ∷ a ∷ c ∷ ts) r e h = absurd cc
+  all_fit (node.Span ∷ ns) rs (b ∷ a ∷ []) r e h = let k = all_fit ns (Span a b ∷ rs) [] r e h in record { ranges = k.ranges.1; terms = (k.ranges.0.1, (k.ranges.0.0, tt)) }
+  all_fit (node.One ∷ ns) rs [] r e h = absurd cc
+  all_fit (node.One ∷ ns) rs (b ∷ a ∷ ts) r e h = absurd cc
+  all_fit (node.One ∷ ns) rs (a ∷ []) r e h = let k = all_fit ns (One a ∷ rs) [] r e h in record { ranges = k.ranges.1; terms = (k.ranges.0, tt) }
+  all_fit (node.Dom y ∷ ns) rs (a ∷ ts) r e h = absurd cc
+  all_fit (node.Dom y ∷ ns) rs [] r e h = let k = all_fit ns (Dom y ∷ rs) [] r e h in record { ranges = k.ranges.1; terms = tt }
+  all_fit (node.Union ∷ ns) [] [] r e h = absurd cc
+  all_fit (node.Union ∷ ns) (q ∷ []) [] r e h = absurd cc
+  all_fit (node.Union ∷ ns) [] (a ∷ ts) r e h = absurd cc
+  all_fit (node.Union ∷ ns) (q ∷ []) (a ∷ ts) r e h = absurd cc
+  all_fit (node.Union ∷ ns) (q ∷ x ∷ rs) (a ∷ ts) r e h = absurd cc
+  all_fit (node.Union ∷ ns) (q ∷ x ∷ rs) [] r e h = let k = all_fit ns (Union x q ∷ rs) [] r e h in record { ranges = (k.ranges.0.1, (k.ranges.0.0, k.ranges.1)); terms = tt }
+  all_fit (node.Inter ∷ ns) [] [] r e h = absurd cc
+  all_fit (node.Inter ∷ ns) (q ∷ []) [] r e h = absurd cc
+  all_fit (node.Inter ∷ ns) [] (a ∷ ts) r e h = absurd cc
+  all_fit (node.Inter ∷ ns) (q ∷ []) (a ∷ ts) r e h = absurd cc
+  all_fit (node.Inter ∷ ns) (q ∷ x ∷ rs) (a ∷ ts) r e h = absurd cc
+  all_fit (node.Inter ∷ ns) (q ∷ x ∷ rs) [] r e h = let k = all_fit ns (Inter x q ∷ rs) [] r e h in record { ranges = (k.ranges.0.1, (k.ranges.0.0, k.ranges.1)); terms = tt }
+  all_fit (node.Outside ∷ ns) [] [] r e h = absurd cc
+  all_fit (node.Outside ∷ ns) [] (a ∷ ts) r e h = absurd cc
+  all_fit (node.Outside ∷ ns) (q ∷ rs) (a ∷ ts) r e h = absurd cc
+  all_fit (node.Outside ∷ ns) (q ∷ rs) [] r e h = let k = all_fit ns (Outside q ∷ rs) [] r e h in record { ranges = (k.ranges.0, k.ranges.1); terms = tt }
+  all_fit (node.Plus ∷ ns) [] [] r e h = absurd cc
+  all_fit (node.Plus ∷ ns) [] (a ∷ []) r e h = absurd cc
+  all_fit (node.Plus ∷ ns) [] (b ∷ a ∷ ts) r e h = absurd cc
+  all_fit (node.Plus ∷ ns) (q ∷ rs) [] r e h = absurd cc
+  all_fit (node.Plus ∷ ns) (q ∷ rs) (b ∷ a ∷ ts) r e h = absurd cc
+  all_fit (node.Plus ∷ ns) (q ∷ rs) (c ∷ []) r e h = let k = all_fit ns (Plus q c ∷ rs) [] r e h in record { ranges = (k.ranges.0.0, k.ranges.1); terms = (k.ranges.0.1, tt) }
+  all_fit (node.Minus ∷ ns) [] [] r e h = absurd cc
+  all_fit (node.Minus ∷ ns) [] (a ∷ []) r e h = absurd cc
+  all_fit (node.Minus ∷ ns) [] (b ∷ a ∷ ts) r e h = absurd cc
+  all_fit (node.Minus ∷ ns) (q ∷ rs) [] r e h = absurd cc
+  all_fit (node.Minus ∷ ns) (q ∷ rs) (b ∷ a ∷ ts) r e h = absurd cc
+  all_fit (node.Minus ∷ ns) (q ∷ rs) (c ∷ []) r e h = let k = all_fit ns (Minus q c ∷ rs) [] r e h in record { ranges = (k.ranges.0.0, k.ranges.1); terms = (k.ranges.0.1, tt) }
+  all_fit (node.Times ∷ ns) [] [] r e h = absurd cc
+  all_fit (node.Times ∷ ns) [] (a ∷ []) r e h = absurd cc
+  all_fit (node.Times ∷ ns) [] (b ∷ a ∷ ts) r e h = absurd cc
+  all_fit (node.Times ∷ ns) (q ∷ rs) [] r e h = absurd cc
+  all_fit (node.Times ∷ ns) (q ∷ rs) (b ∷ a ∷ ts) r e h = absurd cc
+  all_fit (node.Times ∷ ns) (q ∷ rs) (c ∷ []) r e h = let k = all_fit ns (Times q c ∷ rs) [] r e h in record { ranges = (k.ranges.0.0, k.ranges.1); terms = (k.ranges.0.1, tt) }
+  all_fit (node.Over ∷ ns) [] [] r e h = absurd cc
+  all_fit (node.Over ∷ ns) [] (a ∷ []) r e h = absurd cc
+  all_fit (node.Over ∷ ns) [] (b ∷ a ∷ ts) r e h = absurd cc
+  all_fit (node.Over ∷ ns) (q ∷ rs) [] r e h = absurd cc
+  all_fit (node.Over ∷ ns) (q ∷ rs) (b ∷ a ∷ ts) r e h = absurd cc
+  all_fit (node.Over ∷ ns) (q ∷ rs) (c ∷ []) r e h = let k = all_fit ns (Over q c ∷ rs) [] r e h in record { ranges = (k.ranges.0.0, k.ranges.1); terms = (k.ranges.0.1, tt) }
+
+  two_on_top : (ts : List Expr) (a b : Expr) (items front : List ℤ) (x y : ℤ) (n : RangeNode) → items ≡ stacked_values S p (b ∷ a ∷ ts) → CanOperate n (filled_value S p a) (filled_value S p b) → items ≡ (front ++ x ∷ []) ++ y ∷ [] → CanOperate n x y
+  two_on_top ts a b items front x y n e h g =
+      let k = ends_same (front ++ x ∷ []) (stacked_values S p ts ++ filled_value S p a ∷ []) y (filled_value S p b) (sym g ∙ e) in
+      let j = ends_same front (stacked_values S p ts) x (filled_value S p a) k.fronts in
+      subst (λ z. CanOperate n z y) (sym j.lasts) (subst (CanOperate n (filled_value S p a)) (sym k.lasts) h)
+
+  one_on_top : (ts : List Expr) (c : Expr) (items front : List ℤ) (x : ℤ) (n : RangeNode) → items ≡ stacked_values S p (c ∷ ts) → CanMove n (filled_value S p c) → items ≡ front ++ x ∷ [] → CanMove n x
+  one_on_top ts c items front x n e h g = subst (CanMove n) (sym (ends_same front (stacked_values S p ts) x (filled_value S p c) (sym g ∙ e)).lasts) h
+
+  -- so the operands of the next node may be taken
+  pub can_take : (m : RangeNode) (ns : List RangeNode) (rs : List Range) (ts : List Expr) (r : Range) (w : Work) → Some r ≡ built (m ∷ ns) rs ts → RangeFits S p r → IsPending S p rs ts w → CanTake m w
+  can_take (node.Int z) ns rs ts r w e h k = (λ front a b i. tt, λ front c i. tt)
+  can_take node.Infinity ns rs ts r w e h k = (λ front a b i. tt, λ front c i. tt)
+  can_take (node.Param x) ns rs ts r w e h k = (λ front a b i. tt, λ front c i. tt)
+  can_take (node.Min y) ns rs ts r w e h k = (λ front a b i. tt, λ front c i. tt)
+  can_take (node.Max y) ns rs ts r w e h k = (λ front a b i. tt, λ front c i. tt)
+  can_take (node.Val y) ns rs ts r w e h k = (λ front a b i. tt, λ front c i. tt)
+  can_take node.Span ns rs ts r w e h k = (λ front a b i. tt, λ front c i. tt)
+  can_take node.One ns rs ts r w e h k = (λ front a b i. tt, λ front c i. tt)
+  can_take (node.Dom y) ns rs ts r w e h k = (λ front a b i. tt, λ front c i. tt)
+  can_take node.Union ns rs ts r w e h k = (λ front a b i. tt, λ front c i. tt)
+  can_take node.Inter ns rs ts r w e h k = (λ front a b i. tt, λ front c i. tt)
+  can_take node.Outside ns rs ts r w e h k = (λ front a b i. tt, λ front c i. tt)
+  can_take node.Times ns rs ts r w e h k = (λ front a b i. tt, λ front c i. tt)
+  can_take node.Add ns rs [] r w e h k = absurd cc
+  can_take node.Add ns rs (b ∷ []) r w e h k = absurd cc
+  can_take node.Add ns rs (b ∷ a ∷ ts) r w e h k =
+      let f = all_fit ns rs (Add a b ∷ ts) r e h in (λ front x y i. two_on_top ts a b w.values.items front x y node.Add k.values f.terms.0.2 i, λ front c i. tt)
+  can_take node.Sub ns rs [] r w e h k = absurd cc
+  can_take node.Sub ns rs (b ∷ []) r w e h k = absurd cc
+  can_take node.Sub ns rs (b ∷ a ∷ ts) r w e h k =
+      let f = all_fit ns rs (Sub a b ∷ ts) r e h in (λ front x y i. two_on_top ts a b w.values.items front x y node.Sub k.values f.terms.0.2 i, λ front c i. tt)
+  can_take node.Mul ns rs [] r w e h k = absurd cc
+  can_take node.Mul ns rs (b ∷ []) r w e h k = absurd cc
+  can_take node.Mul ns rs (b ∷ a ∷ ts) r w e h k =
+      let f = all_fit ns rs (Mul a b ∷ ts) r e h in (λ front x y i. two_on_top ts a b w.values.items front x y node.Mul k.values f.terms.0.2 i, λ front c i. tt)
+  can_take node.DivDown ns rs [] r w e h k = absurd cc
+  can_take node.DivDown ns rs (b ∷ []) r w e h k = absurd cc
+  can_take node.DivDown ns rs (b ∷ a ∷ ts) r w e h k =
+      let f = all_fit ns rs (DivDown a b ∷ ts) r e h in (λ front x y i. two_on_top ts a b w.values.items front x y node.DivDown k.values f.terms.0.2 i, λ front c i. tt)
+  can_take node.DivUp ns rs [] r w e h k = absurd cc
+  can_take node.DivUp ns rs (b ∷ []) r w e h k = absurd cc
+  can_take node.DivUp ns rs (b ∷ a ∷ ts) r w e h k =
+      let f = all_fit ns rs (DivUp a b ∷ ts) r e h in (λ front x y i. two_on_top ts a b w.values.items front x y node.DivUp k.values f.terms.0.2 i, λ front c i. tt)
+  can_take node.Plus ns [] [] r w e h k = absurd cc
+  can_take node.Plus ns [] (a ∷ []) r w e h k = absurd cc
+  can_take node.Plus ns [] (b ∷ a ∷ ts) r w e h k = absurd cc
+  can_take node.Plus ns (q ∷ rs) [] r w e h k = absurd cc
+  can_take node.Plus ns (q ∷ rs) (b ∷ a ∷ ts) r w e h k = absurd cc
+  can_take node.Plus ns (q ∷ rs) (c ∷ []) r w e h k =
+      let f = all_fit ns (Plus q c ∷ rs) [] r e h in (λ front a b i. tt, λ front x i. one_on_top [] c w.values.items front x node.Plus k.values f.ranges.0.2 i)
+  can_take node.Minus ns [] [] r w e h k = absurd cc
+  can_take node.Minus ns [] (a ∷ []) r w e h k = absurd cc
+  can_take node.Minus ns [] (b ∷ a ∷ ts) r w e h k = absurd cc
+  can_take node.Minus ns (q ∷ rs) [] r w e h k = absurd cc
+  can_take node.Minus ns (q ∷ rs) (b ∷ a ∷ ts) r w e h k = absurd cc
+  can_take node.Minus ns (q ∷ rs) (c ∷ []) r w e h k =
+      let f = all_fit ns (Minus q c ∷ rs) [] r e h in (λ front a b i. tt, λ front x i. one_on_top [] c w.values.items front x node.Minus k.values f.ranges.0.2 i)
+  can_take node.Over ns [] [] r w e h k = absurd cc
+  can_take node.Over ns [] (a ∷ []) r w e h k = absurd cc
+  can_take node.Over ns [] (b ∷ a ∷ ts) r w e h k = absurd cc
+  can_take node.Over ns (q ∷ rs) [] r w e h k = absurd cc
+  can_take node.Over ns (q ∷ rs) (b ∷ a ∷ ts) r w e h k = absurd cc
+  can_take node.Over ns (q ∷ rs) (c ∷ []) r w e h k =
+      let f = all_fit ns (Over q c ∷ rs) [] r e h in (λ front a b i. tt, λ front x i. one_on_top [] c w.values.items front x node.Over k.values f.ranges.0.2 i)
+
+-- the nodes from the number i on build the range on top of what waits
+abbrev pub IsWalked : Family → (ℕ → ℤ) → ℕ → List RangeNode → Work → Type 0
+IsWalked S p i nodes w = (rs : List Range) × (ts : List Expr) × (Some (spelled nodes) ≡ built (drop i nodes) rs ts) × IsPending S p rs ts w
+
+builds_all : (nodes : List RangeNode) → IsSpelled nodes → Some (spelled nodes) ≡ built nodes [] []
+builds_all nodes (r, e) = subst (λ ns. Some (spelled ns) ≡ built ns [] []) e (ap Some (spelled-nodes r) ∙ sym (builds_range r [] []))
+
+pub walk_start : (S : Family) (p : ℕ → ℤ) (nodes : List RangeNode) (w : Work) → IsSpelled nodes → w.values.items ≡ [] → w.sets.items ≡ [] → IsWalked S p 0 nodes w
+walk_start S p nodes w s v i = ([], [], builds_all nodes s, record { values = v; sets = i })
+
+next_is : (nodes : List RangeNode) (i : ℕ) (d : RangeNode) (rs : List Range) (ts : List Expr) → i < length nodes → Some (spelled nodes) ≡ built (drop i nodes) rs ts → Some (spelled nodes) ≡ built (get_or nodes i d ∷ drop (i + 1) nodes) rs ts
+next_is nodes i d rs ts l e = e ∙ at_drop_more (λ ns. built ns rs ts) nodes i d l
+
+pub walk_takes : (S : Family) (p : ℕ → ℤ) (i : ℕ) (nodes : List RangeNode) (d : RangeNode) (w : Work) → i < length nodes → RangeFits S p (spelled nodes) → IsWalked S p i nodes w → CanTake (get_or nodes i d) w
+walk_takes S p i nodes d w l h (rs, ts, e, k) = can_take S p (get_or nodes i d) (drop (i + 1) nodes) rs ts (spelled nodes) w (next_is nodes i d rs ts l e) h k
+
+from_follows : (S : Family) (p : ℕ → ℤ) (ns : List RangeNode) (r : Range) (o : Option Range) (w : Work) → Some r ≡ o → Follows S p ns o w → (rs : List Range) × (ts : List Expr) × (Some r ≡ built ns rs ts) × IsPending S p rs ts w
+from_follows S p ns r o w e f = subst (λ q. Follows S p ns q w) (sym e) f
+
+pub walk_step : (S : Family) (p : ℕ → ℤ) (i : ℕ) (nodes : List RangeNode) (d : RangeNode) (old new : Work) → i < length nodes → IsWalked S p i nodes old →
+    ((ns : List RangeNode) (rs : List Range) (ts : List Expr) → IsPending S p rs ts old → Follows S p ns (built (get_or nodes i d ∷ ns) rs ts) new) → IsWalked S p (i + 1) nodes new
+walk_step S p i nodes d old new l (rs, ts, e, k) f = from_follows S p (drop (i + 1) nodes) (spelled nodes) _ new (next_is nodes i d rs ts l e) (f (drop (i + 1) nodes) rs ts k)
+
+alone : (S : Family) (p : ℕ → ℤ) (r : Range) (rs : List Range) (ts : List Expr) (w : Work) → Some r ≡ built [] rs ts → IsPending S p rs ts w → w.sets.items ≡ filled_set S p r ∷ []
+alone S p r [] [] w e h = absurd cc
+alone S p r [] (t ∷ ts) w e h = absurd cc
+alone S p r (q ∷ []) (t ∷ ts) w e h = absurd cc
+alone S p r (q ∷ x ∷ rs) [] w e h = absurd cc
+alone S p r (q ∷ x ∷ rs) (t ∷ ts) w e h = absurd cc
+alone S p r (q ∷ []) [] w e h = h.sets ∙ ap (λ k. filled_set S p k ∷ []) (sym (some_same r q e))
+
+-- at the end there is the set of the range alone
+pub walk_gives : (S : Family) (p : ℕ → ℤ) (i : ℕ) (nodes : List RangeNode) (w : Work) (front : List (List ℕ)) (o : Option (List ℕ)) (x : List ℕ) → length nodes ≤ i → IsWalked S p i nodes w →
+    w.sets.items ≡ front ++ option_to_list o → o ≡ Some x → x ≡ filled_set S p (spelled nodes)
+walk_gives S p i nodes w front o x h (rs, ts, e, k) g f =
+    let a = alone S p (spelled nodes) rs ts w (e ∙ ap (λ ns. built ns rs ts) (drop_all i nodes h)) k in
+    sym (ends_same [] front (filled_set S p (spelled nodes)) x (sym a ∙ (g ∙ ap (λ q. front ++ option_to_list q) f))).lasts
+
+pub walk_some : (S : Family) (p : ℕ → ℤ) (i : ℕ) (nodes : List RangeNode) (w : Work) → length nodes ≤ i → IsWalked S p i nodes w → w.sets.items ≡ filled_set S p (spelled nodes) ∷ []
+walk_some S p i nodes w h (rs, ts, e, k) = alone S p (spelled nodes) rs ts w (e ∙ ap (λ ns. built ns rs ts) (drop_all i nodes h)) k

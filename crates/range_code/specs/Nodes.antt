@@ -1,0 +1,59 @@
+-- The variables of nodes, and what nodes read of them.
+use Rattle.std.specs.Prelude.{ℕ, ◌<◌, List, [], ◌∷◌, ◌++◌, length, Option, Some, None}
+use Rattle.fd_model.specs.declared.range_node.Feature.{Feature}
+use Rattle.fd_model.specs.declared.range_node.Feature.TheVariants as feature
+use Rattle.fd_model.specs.declared.range_node.RangeNode.{RangeNode}
+use Rattle.fd_model.specs.declared.range_node.RangeNode.TheVariants as node
+use Rattle.range_code.specs.declared.frame.Arg.{Arg}
+use Rattle.range_code.specs.Frames.{slot_variable}
+
+-- the variable of a node
+abbrev pub node_variable : RangeNode → Option ℕ
+node_variable (node.Param x) = Some x
+node_variable (node.Min y) = Some y
+node_variable (node.Max y) = Some y
+node_variable (node.Val y) = Some y
+node_variable (node.Dom y) = Some y
+node_variable _ = None
+
+abbrev pub listed : {A : Type 0} → Option A → List A
+listed None = []
+listed (Some x) = x ∷ []
+
+abbrev pub node_variables : List RangeNode → List ℕ
+node_variables [] = []
+node_variables (n ∷ ns) = listed (node_variable n) ++ node_variables ns
+
+-- the node with another variable
+abbrev pub rename_node : (ℕ → ℕ) → RangeNode → RangeNode
+rename_node f (node.Param x) = node.Param (f x)
+rename_node f (node.Min y) = node.Min (f y)
+rename_node f (node.Max y) = node.Max (f y)
+rename_node f (node.Val y) = node.Val (f y)
+rename_node f (node.Dom y) = node.Dom (f y)
+rename_node f n = n
+
+-- what a node reads of a variable
+abbrev pub node_feature : RangeNode → Option (ℕ × Feature)
+node_feature (node.Min y) = Some (y, feature.Min)
+node_feature (node.Max y) = Some (y, feature.Max)
+node_feature (node.Val y) = Some (y, feature.Val)
+node_feature (node.Dom y) = Some (y, feature.Dom)
+node_feature _ = None
+
+abbrev pub node_features : List RangeNode → List (ℕ × Feature)
+node_features [] = []
+node_features (n ∷ ns) = listed (node_feature n) ++ node_features ns
+
+-- a slot that has an argument, and its variable is one of so many
+abbrev pub IsSeen : ℕ → List Arg → ℕ → Type 0
+IsSeen count args slot = (slot < length args) × (slot_variable args slot < count)
+
+-- what a node names is there
+abbrev pub IsReadable : ℕ → List Arg → RangeNode → Type 0
+IsReadable count args (node.Param x) = x < length args
+IsReadable count args (node.Min y) = IsSeen count args y
+IsReadable count args (node.Max y) = IsSeen count args y
+IsReadable count args (node.Val y) = IsSeen count args y
+IsReadable count args (node.Dom y) = IsSeen count args y
+IsReadable count args _ = Unit {0}

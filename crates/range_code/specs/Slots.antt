@@ -1,0 +1,45 @@
+-- The slots of a range: one for each of its variables, in the order of first occurrence.
+use Rattle.std.specs.Prelude.{◌≡◌, ℕ, if◌then◌else◌, nat_eq, IsTrue, List, map, Option, Some, None}
+use Rattle.std.specs.List.{position_or_len}
+use Rattle.fd_model.specs.declared.range_node.Need.{Need}
+use Rattle.fd_model.specs.declared.range_node.Feature.{Feature}
+use Rattle.fd_model.specs.declared.range_node.RangeNode.{RangeNode}
+use Rattle.fd_model.specs.declared.TheConstants.{INFINITY}
+use Rattle.fd_model.specs.Family.{has}
+use Rattle.fd_model.specs.Range.{Range}
+use Rattle.fd_model.specs.Posting.{range_places}
+use Rattle.fd_model.specs.Needs.{once, need_of}
+use Rattle.fd_model.specs.RangeVerdict.{params, is_accepted}
+use Rattle.fd_model.specs.Renaming.{rename_range}
+use Rattle.fd_model.specs.Features.{features_of}
+use Rattle.fd_model.specs.Flat.{nodes_of}
+
+-- the variable of each slot
+abbrev pub slots_of : Range → List ℕ
+slots_of r = once (map (λ p. p.variable) (range_places r))
+
+-- the slot of a variable
+abbrev pub slot_of : Range → ℕ → ℕ
+slot_of r y = position_or_len (nat_eq y) (slots_of r)
+
+-- the need of a parameter, and none of another variable
+abbrev pub need_at : Range → ℕ → Option Need
+need_at r y = if has (params r) y then Some (need_of r y) else None
+
+abbrev pub slot_needs : Range → List (Option Need)
+slot_needs r = map (need_at r) (slots_of r)
+
+-- the range with the slots as its variables
+abbrev pub in_slots : Range → Range
+in_slots r = rename_range (slot_of r) r
+
+abbrev pub slot_features : Range → List (ℕ × Feature)
+slot_features r = features_of (in_slots r)
+
+-- what is kept of an accepted range
+pub record IsCompiled (r : Range) (vs : List ℕ) (ns : List (Option Need)) (fs : List (ℕ × Feature)) (ms : List RangeNode) : Type 0 where
+  pub accepted : IsTrue (is_accepted INFINITY r)
+  pub slots : vs ≡ slots_of r
+  pub needs : ns ≡ slot_needs r
+  pub features : fs ≡ slot_features r
+  pub nodes : ms ≡ nodes_of (in_slots r)

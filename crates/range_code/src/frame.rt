@@ -1,0 +1,100 @@
+// The arguments of a range, and what they give.
+
+ghost use Rattle.std.specs.Prelude.{◌≡◌, ◌<◌, ◌&&◌, ℕ, length, slice_index_or};
+ghost use Rattle.std.specs.List.{All};
+ghost use Rattle.fd_model.specs.Family.{IsRising};
+ghost use Rattle.range_code.specs.Frames.{variable_of, integer_of, slot_integer, slot_set};
+ghost use Rattle.range_code.specs.Nodes.{IsSeen, IsReadable};
+ghost use Rattle.range_code.specs.Standing.{is_val, standing_of};
+ghost use Rattle.fd_model.specs.Range.{is_several};
+
+use domain_ranges::{Domain, View};
+use fd_model::{Feature, INFINITY};
+
+/// What stands in a slot of a range.
+#[derive(Clone, Copy, Debug, PartialEq, Eq)]
+pub enum Arg {
+    /// A variable, by its number in the view.
+    Var(usize),
+    /// A parameter's integer.
+    Int(i64),
+}
+
+/// How the variables of a range stand: one has no value left, or one that is to have a single value has several, or neither.
+#[derive(Clone, Copy)]
+pub(crate) enum Standing {
+    Empty,
+    Open,
+    Settled,
+}
+
+/// The variable, and 0 for an integer.
+fn variable(arg: Arg) -> usize
+    ensures { result ≡ variable_of arg }
+{
+    match arg {
+        Arg::Var(number) => number,
+        Arg::Int(_) => 0,
+    }
+}
+
+/// The integer, and 0 for a variable.
+fn integer(arg: Arg) -> i64
+    ensures { result ≡ integer_of arg }
+{
+    match arg {
+        Arg::Var(_) => 0,
+        Arg::Int(value) => value,
+    }
+}
+
+/// The integer of the slot.
+pub(crate) fn slot_value(args: &[Arg], slot: usize) -> i64
+    requires { slot < length args.now }
+    ensures { result ≡ slot_integer args.now slot }
+{
+    integer(args[slot])
+}
+
+/// The domain of the slot's variable.
+pub(crate) fn slot_domain<'v, V: View>(args: &[Arg], slot: usize, view: &'v V) -> &'v Domain
+    requires { IsSeen (length (V.sets view.now)) args.now slot }
+    ensures { result.now ≡ slot_set (V.sets view.now) args.now slot }
+{
+    view.domain(variable(args[slot]))
+}
+
+/// Whether the feature wants one value where the domain has several.
+fn is_open(domain: &Domain, feature: Feature) -> bool
+    ensures { result ≡ (is_val feature && is_several domain.now) }
+{
+    match feature {
+        Feature::Val => domain.min() != domain.max(),
+        Feature::Min | Feature::Max | Feature::Dom => false,
+    }
+}
+
+/// How the variables of the features stand.
+pub(crate) fn find_standing<V: View>(
+    features: &[(usize, Feature)],
+    args: &[Arg],
+    view: &V,
+) -> Standing
+    requires { All (λ d. IsSeen (length (V.sets view.now)) args.now d.0) features.now }
+    ensures value { result ≡ standing_of (slot_set (V.sets view.now) args.now) features.now }
+    ensures rising { result ≡ Standing.Settled → All (λ d. IsRising 0 INFINITY (slot_set (V.sets view.now) args.now d.0)) features.now }
+{
+    let mut open = false;
+    for (slot, feature) in features {
+        let domain = slot_domain(args, *slot, view);
+        if domain.min().is_none() {
+            return Standing::Empty;
+        }
+        open |= is_open(domain, *feature);
+    }
+    if open {
+        Standing::Open
+    } else {
+        Standing::Settled
+    }
+}
