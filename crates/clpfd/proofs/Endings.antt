@@ -1,19 +1,27 @@
 -- How a run ends, from what its last call says.
-use Rattle.std.proofs.Common.{◌≡◌, ◌≢◌, ℕ, ◌<◌, ◌≤◌, ◌⊎◌, inl, inr, List, [], ◌∷◌, length, Option, None, Err, refl, sym, subst, ◌∙◌, arith, codes, Bool, true, false, ◌==◌, map, string_bytes, String, Global, eqb-true, true≢false}
+use Rattle.std.proofs.Common.{◌≡◌, ◌≢◌, ℕ, ◌<◌, ◌≤◌, ◌⊎◌, inl, inr, List, [], ◌∷◌, length, Option, Some, None, Ok, Err, Result, refl, ap, sym, subst, ◌∙◌, arith, codes, Bool, true, false, ◌==◌, map, string_bytes, String, Global, eqb-true, true≢false}
 use Rattle.fd_model.specs.declared.Status.{Status}
 use Rattle.fd_model.specs.declared.Status.TheVariants.{Done, Usage, Refused, Stopped, ReadFault, WriteFault, NoMemory}
-use Rattle.fd_model.specs.Verdict.{Verdict, accepted, refused, max_text}
-use Rattle.fd_model.specs.Form.{WrittenGoal, IsWritten, IsUnwritten, last, more}
+use Rattle.fd_model.specs.Verdict.{Verdict, accepted, refused, max_text, sentences_verdict, reading_verdict}
+use Rattle.fd_model.specs.Reading.{Reading, sentences, IsReading}
+use Rattle.fd_model.specs.Refusals.{Refusal, first_refusal}
+use Rattle.fd_model.specs.Queries.{program_of}
 use Rattle.fd_model.specs.Output.{Output, VerdictOutput, refusal, usage, stop_status}
+use Rattle.std.specs.Str.{IsUtf8}
+use Rattle.std.specs.Str.Lossy.{utf8_valid_len}
+use Rattle.term_pool.specs.PlacedTerms.{placed_of}
 use Rattle.byte_ports.specs.Ports.{Put, PutPart, Took, IsAtEnd, ReadPast, Rose}
 use Rattle.byte_ports.proofs.Pieces.{put_none, part_none, text_is_left, past_was_left}
 use Rattle.clpfd.specs.declared.fault.Fault.{Fault}
 use Rattle.clpfd.specs.declared.fault.Fault.TheVariants as fault
-use Rattle.clpfd.specs.Headline.{M, Headline, Ends, IsDecided, IsText, Ending, Wrote, fault_status}
-use Rattle.clpfd.specs.Shown.{AreQueries}
-use Rattle.clpfd.specs.WrittenRuns.{written_output}
-use Rattle.clpfd.proofs.OneOutput.{one_output, output_once, large_output, unwritten_output, accepted_output}
-use Rattle.clpfd.proofs.WrittenRuns.{none_stops}
+use Rattle.term_reader.specs.Sentences.{sentence_of, sentences_of}
+use Rattle.term_reader.specs.declared.reader.Sentence as code
+use Rattle.term_reader.specs.declared.reader.Sentences.{Sentences}
+use Rattle.clpfd.specs.Checked.{terms_of}
+use Rattle.clpfd.specs.Headline.{M, Headline, Ends, IsDecided, IsText, Ending, EndsAs, Wrote, fault_status}
+use Rattle.clpfd.specs.QueryOutputs.{sentences_output, sentences_stop}
+use Rattle.clpfd.proofs.AcceptedRuns.{accepted_queries, accepted_once}
+use Rattle.clpfd.proofs.OneOutput.{one_output, output_once, verdict_output, large_output, bytes_verdict, read_verdict}
 
 no_pair : (r s t u : Status) → (r ≡ s) ⊎ (r ≡ t) → r ≡ u → (s ≡ u → ⊥) → (t ≡ u → ⊥) → ⊥
 no_pair r s t u (inl e) f a b = a (sym e ∙ f)
@@ -166,29 +174,59 @@ pub some_words : (xs : List (String Global)) → false ≡ (length xs == 0) → 
 some_words [] h e = absurd (true≢false (sym h))
 some_words (x ∷ xs) h e = cc
 
+-- a text that is refused
+pub refused_ending : (a b : Option (List ℕ)) (x y : ℕ) (result : Status) (place : ℕ) (reason : List ℕ) → Ending a b x y result Refused (refusal place reason) → EndsAs a b x y result (refused place reason)
+refused_ending a b x y result place reason e out st o = subst (λ s. Ending a b x y result s out) (sym o.1) (subst (λ p. Ending a b x y result Refused p) (sym o.0) e)
+
+-- memory was wanting, and nothing was written
+pub no_memory : (a : Option (List ℕ)) (x y : ℕ) (result : Status) (v : Verdict) → result ≡ NoMemory → EndsAs a a x y result v
+no_memory a x y result v e out st o = inr (inr (e, part_none a a out (put_none a)))
+
+-- bytes that are no text
+pub bytes_ending : (text : List ℕ) → length text ≤ max_text → (IsUtf8 text → ⊥) → (a b : Option (List ℕ)) (x y : ℕ) (result : Status) → Ending a b x y result Refused (refusal (utf8_valid_len text) (codes "not UTF-8"))
+    → (out : List ℕ) (st : Status) → Output M [] text out st → Ending a b x y result st out
+bytes_ending text h u a b x y result e out st o =
+    refused_ending a b x y result (utf8_valid_len text) (codes "not UTF-8") e out st (verdict_output M text (refused (utf8_valid_len text) (codes "not UTF-8")) out st (bytes_verdict M text h u) o)
+
+-- a text that is read so
+pub read_ending : (text : List ℕ) → length text ≤ max_text → IsUtf8 text → (r : Reading) → IsReading text r → (a b : Option (List ℕ)) (x y : ℕ) (result : Status) → EndsAs a b x y result (reading_verdict M r)
+    → (out : List ℕ) (st : Status) → Output M [] text out st → Ending a b x y result st out
+read_ending text h u r i a b x y result e out st o = e out st (verdict_output M text (reading_verdict M r) out st (read_verdict M text r h u i) o)
+
+-- the terms of the sentences
+same_terms : (s : Sentences) (xs : List code.Sentence) → map (λ x. x.term) (map (sentence_of s.pool) xs) ≡ map (λ x. placed_of s.pool x.term) xs
+same_terms s [] = refl
+same_terms s (x ∷ xs) = ap (λ l. placed_of s.pool x.term ∷ l) (same_terms s xs)
+
+pub terms_are : (s : Sentences) → map (λ x. x.term) (sentences_of s) ≡ terms_of s
+terms_are s = same_terms s s.list.items
+
+refusal_is : (s : Sentences) (o : Option Refusal) → first_refusal M (terms_of s) (terms_of s) ≡ o → reading_verdict M (sentences (sentences_of s)) ≡ sentences_verdict (sentences_of s) o
+refusal_is s o e = ap (sentences_verdict (sentences_of s)) (ap (λ ts. first_refusal M ts ts) (terms_are s) ∙ e)
+
+pub sentence_ending : (s : Sentences) (r : Refusal) → first_refusal M (terms_of s) (terms_of s) ≡ Some r → (a b : Option (List ℕ)) (x y : ℕ) (result : Status) → Ending a b x y result Refused (refusal r.place r.reason)
+    → EndsAs a b x y result (reading_verdict M (sentences (sentences_of s)))
+sentence_ending s r e a b x y result h = subst (EndsAs a b x y result) (sym (refusal_is s (Some r) e)) (refused_ending a b x y result r.place r.reason h)
+
 -- the answers were written
-are_queries : (text : List ℕ) (queries : List (List WrittenGoal)) → IsWritten text queries → AreQueries queries
-are_queries text [] w = tt
-are_queries text (q ∷ queries) (last p h e) = (h, tt)
-are_queries text (q ∷ queries) (more p rest qs h e w) = (h, are_queries rest queries w)
+pub accepted_ending : (text : List ℕ) (s : Sentences) → IsReading text (sentences (sentences_of s)) → first_refusal M (terms_of s) (terms_of s) ≡ None → (a b : Option (List ℕ)) (x y : ℕ) (result : Status)
+    → Ending a b x y result (stop_status (sentences_stop M 1000000 (sentences_of s))) (sentences_output M 1000000 1 (sentences_of s)) → EndsAs a b x y result (reading_verdict M (sentences (sentences_of s)))
+accepted_ending text s i e a b x y result h =
+    subst (EndsAs a b x y result) (sym (refusal_is s None e))
+    (λ out st o.
+    let queries = accepted_queries M text (sentences_of s) i (ap (λ ts. first_refusal M ts ts) (terms_are s) ∙ e) in
+    let once = accepted_once M (program_of (sentences_of s)) 1000000 1 (sentences_of s) out o.0 queries o.1 in
+    subst (λ t. Ending a b x y result t out) (sym (o.2 ∙ ap stop_status once.1))
+    (subst (λ p. Ending a b x y result (stop_status (sentences_stop M 1000000 (sentences_of s))) p) (sym once.0) h))
 
-pub written_are : (text : List ℕ) (queries : List (List WrittenGoal)) → IsWritten text queries → AreQueries queries
-written_are text queries w = are_queries text queries w
-
-pub accepted_ending : (text : List ℕ) (queries : List (List WrittenGoal)) → length text ≤ max_text → IsWritten text queries → (a b : Option (List ℕ)) (x y : ℕ) (result : Status) → Ending a b x y result Done (written_output M 1000000 1 queries)
-    → (out : List ℕ) (st : Status) → Output M [] text out st → Ending a b x y result st out
-accepted_ending text queries h w a b x y result e out st o =
-    let made : Output M [] text (written_output M 1000000 1 queries) Done = subst (λ t. Output M [] text (written_output M 1000000 1 queries) (stop_status t)) (none_stops M 1000000 text queries (omega arith) w) (accepted_output M text queries h w) in
-    let once = output_once M [] text (written_output M 1000000 1 queries) out Done st made o in
-    subst (λ s. Ending a b x y result s out) (sym once.1) (subst (λ p. Ending a b x y result Done p) (sym once.0) e)
-
-pub unwritten_ending : (text : List ℕ) → length text ≤ max_text → IsUnwritten text → (a b : Option (List ℕ)) (x y : ℕ) (result : Status) → Ending a b x y result Refused (refusal 0 (codes "not built"))
-    → (out : List ℕ) (st : Status) → Output M [] text out st → Ending a b x y result st out
-unwritten_ending text h u a b x y result e out st o =
-    let once = output_once M [] text (refusal 0 (codes "not built")) out Refused st (unwritten_output M text h u) o in
-    subst (λ s. Ending a b x y result s out) (sym once.1) (subst (λ p. Ending a b x y result Refused p) (sym once.0) e)
+-- how the writing of all queries ends
+pub stopped_ending : (a b : Option (List ℕ)) (x y : ℕ) (r : Result Bool Fault) (stop : Bool) (out : List ℕ) (b1 : Bool) → r ≡ Ok b1 → Wrote a b x y r out → b1 ≡ stop → Ending a b x y (stop_status b1) (stop_status stop) out
+stopped_ending a b x y r stop out b1 e w s = inl (ap stop_status s, subst (λ (q : Result Bool Fault). Wrote a b x y q out) e w)
 
 -- a fault's status
-pub fault_ending : (a b : Option (List ℕ)) (x y : ℕ) (f : Fault) (st : Status) (out : List ℕ) → Wrote a b x y (Err f) out → Ending a b x y (fault_status f) st out
-fault_ending a b x y fault.WriteFault st out w = inr (inl (refl, w.0, w.1 refl))
-fault_ending a b x y fault.NoMemory st out w = inr (inr (refl, w.0))
+pub fault_ending : {A : Type 0} (a b : Option (List ℕ)) (x y : ℕ) (r : Result A Fault) (f : Fault) (st : Status) (out : List ℕ) → r ≡ Err f → Wrote a b x y r out → Ending a b x y (fault_status f) st out
+fault_ending {A} a b x y r f st out e w = by_fault f (subst (λ (q : Result A Fault). Wrote a b x y q out) e w)
+  where
+    by_fault : (f : Fault) → PutPart a b out × (f ≡ fault.WriteFault → Rose x y) → Ending a b x y (fault_status f) st out
+    by_fault fault.WriteFault c = inr (inl (refl, c.0, c.1 refl))
+    by_fault fault.NoMemory c = inr (inr (refl, c.0))

@@ -1,15 +1,14 @@
 -- Texts joined one after another.
-use Rattle.std.proofs.Common.{◌≡◌, ℕ, zero, suc, ◌+◌, ◌<◌, ◌≤◌, List, [], ◌∷◌, ◌++◌, refl, ap, sym, ◌∙◌, arith, append_assoc, length, map, take, slice_index_or, codes}
+use Rattle.std.proofs.Common.{◌≡◌, ℕ, zero, suc, ◌+◌, ◌<◌, ◌≤◌, List, [], ◌∷◌, ◌++◌, refl, ap, sym, ◌∙◌, subst, arith, append_assoc, length, map, take, slice_index_or, codes}
 use Rattle.std.proofs.lemmas.List.{length-take-le, take_more}
-use Rattle.std.specs.Borrow.{Bor}
-use Rattle.clpfd.specs.Flat.{names_in}
+use Rattle.clpfd.specs.declared.solve.Shown.{Shown}
 use Rattle.fd_model.specs.Term.{Name}
 use Rattle.fd_model.specs.Lines.{joined, interval_text, intervals, domain_text}
 use Rattle.domain_ranges.specs.Spans.{IsSpans, members}
-use Rattle.clpfd.specs.IntervalLines.{value_text, value_texts, number_after}
-use Rattle.clpfd.proofs.IntervalSets.{joined_more, value_texts_more, number_after_all, number_after_more}
+use Rattle.clpfd.specs.ConstantLines.{value_text, value_texts, number_after}
+use Rattle.clpfd.proofs.ConstantSets.{joined_more, value_texts_more, number_after_all, number_after_more}
 use Rattle.clpfd.proofs.SpanIntervals.{span_intervals}
-use Rattle.clpfd.specs.Shown.{separator_at, spans_text, interval_of_span}
+use Rattle.clpfd.specs.Shown.{separator_at, spans_text, interval_of_span, set_in, shown_names, shown_numbers, AllBelow}
 
 regrouped : (t sep rest last : List ℕ) → t ++ (sep ++ (rest ++ last)) ≡ (t ++ (sep ++ rest)) ++ last
 regrouped t sep rest last = ap (λ x. t ++ x) (sym (append_assoc sep rest last)) ∙ sym (append_assoc t (sep ++ rest) last)
@@ -96,27 +95,49 @@ after_le k (x ∷ y ∷ ys) = omega arith
 pub number_le : (number next i : ℕ) (s : List ℕ) → number ≤ i + 1 → next ≡ number_after number s → next ≤ i + 2
 number_le number next i s h e = let l = after_le number s in omega (arith, e, h, l)
 
-pub names_length : (keys : List (Bor (List ℕ))) → length (names_in keys) ≡ length keys
-names_length [] = refl
-names_length (k ∷ keys) = let later = names_length keys in omega (arith, later)
+pub count_map : {A B : Type 0} (f : A → B) (xs : List A) → length (map f xs) ≡ length xs
+count_map f [] = refl
+count_map f (x ∷ xs) = let later = count_map f xs in omega (arith, later)
 
-name_at : (keys : List (Bor (List ℕ))) (i : ℕ) (d : Bor (List ℕ)) → slice_index_or (names_in keys) i d.now ≡ (slice_index_or keys i d).now
-name_at [] i d = refl
-name_at (k ∷ keys) zero d = refl
-name_at (k ∷ keys) (suc i) d = name_at keys i d
+pub at_map : {A B : Type 0} (f : A → B) (xs : List A) (i : ℕ) (d : A) (e : B) → i < length xs → slice_index_or (map f xs) i e ≡ f (slice_index_or xs i d)
+at_map f [] i d e h = absurd (omega arith)
+at_map f (x ∷ xs) zero d e h = refl
+at_map f (x ∷ xs) (suc i) d e h = at_map f xs i d e (omega arith)
+
+-- what is read of shown variables past their end
+abbrev pub no_variable : Shown
+no_variable = record { name = record { ref_ptr = (0, 0); now = [] }; number = 0 }
+
+-- the number of a shown variable is that of a domain
+pub number_below : (n : ℕ) (shown : List Shown) (i : ℕ) (d : Shown) → i < length shown → AllBelow n (shown_numbers shown) → (slice_index_or shown i d).number < n
+number_below n shown i d h b =
+    let size : length (shown_numbers shown) ≡ length shown = count_map (λ x. x.number) shown in
+    subst (λ v. v < n) (at_map (λ x. x.number) shown i d 0 h) (b i 0 (omega (arith, size, h)))
 
 -- one variable's value more, in the terms of the loop
-pub values_are : (init t0 t1 t2 t3 t4 : List ℕ) (keys : List (Bor (List ℕ))) (sets : List (List ℕ)) (i number next : ℕ) (d : Bor (List ℕ)) (s e : List ℕ) → s ≡ slice_index_or sets i e → i < length keys → length keys ≡ length sets
-    → (t0 ≡ init ++ joined (codes ", ") (value_texts 1 (take i (names_in keys)) (take i sets))) × (number ≡ number_after_all 1 (take i sets)) × (number ≤ i + 1)
-    → t1 ≡ t0 ++ separator_at i (codes ", ") → t2 ≡ t1 ++ (slice_index_or keys i d).now → t3 ≡ t2 ++ codes " = " → t4 ≡ t3 ++ value_text number s → next ≡ number_after number s
-    → (t4 ≡ init ++ joined (codes ", ") (value_texts 1 (take (i + 1) (names_in keys)) (take (i + 1) sets))) × (next ≡ number_after_all 1 (take (i + 1) sets)) × (next ≤ i + 1 + 1)
-values_are init t0 t1 t2 t3 t4 keys sets i number next d s e at h same inv f1 f2 f3 f4 f5 =
-    let names = names_in keys in
-    let size : i < length names = let l = names_length keys in omega (arith, h, l) in
-    let both : length names ≡ length sets = names_length keys ∙ same in
-    let n : take (i + 1) names ≡ take i names ++ (slice_index_or keys i d).now ∷ [] = take_more names i d.now size ∙ ap (λ x. take i names ++ x ∷ []) (name_at keys i d) in
-    let more : take (i + 1) sets ≡ take i sets ++ s ∷ [] = take_more sets i e (omega (arith, h, same)) ∙ ap (λ x. take i sets ++ x ∷ []) (sym at) in (
-      values_step init t0 t1 t2 t3 t4 names sets i number (slice_index_or keys i d).now s size both inv.0 inv.1 n more f1 f2 f3 f4,
+pub values_are : (init t0 t1 t2 t3 t4 : List ℕ) (shown : List Shown) (domains : List (List ℕ)) (i number next : ℕ) (d : Shown) (s e : List ℕ) → s ≡ slice_index_or domains (slice_index_or shown i d).number e → i < length shown → AllBelow (length domains) (shown_numbers shown)
+    → (t0 ≡ init ++ joined (codes ", ") (value_texts 1 (take i (shown_names shown)) (take i (map (set_in domains) (shown_numbers shown))))) × (number ≡ number_after_all 1 (take i (map (set_in domains) (shown_numbers shown)))) × (number ≤ i + 1)
+    → t1 ≡ t0 ++ separator_at i (codes ", ") → t2 ≡ t1 ++ (slice_index_or shown i d).name.now → t3 ≡ t2 ++ codes " = " → t4 ≡ t3 ++ value_text number s → next ≡ number_after number s
+    → (t4 ≡ init ++ joined (codes ", ") (value_texts 1 (take (i + 1) (shown_names shown)) (take (i + 1) (map (set_in domains) (shown_numbers shown))))) × (next ≡ number_after_all 1 (take (i + 1) (map (set_in domains) (shown_numbers shown)))) × (next ≤ i + 1 + 1)
+values_are init t0 t1 t2 t3 t4 shown domains i number next d s e at h below inv f1 f2 f3 f4 f5 =
+    let names = shown_names shown in
+    let sets = map (set_in domains) (shown_numbers shown) in
+    let one : length names ≡ length shown = count_map (λ x. x.name.now) shown in
+    let two : length sets ≡ length shown = count_map (set_in domains) (shown_numbers shown) ∙ count_map (λ x. x.number) shown in
+    let size : i < length names = omega (arith, h, one) in
+    let both : length names ≡ length sets = omega (arith, one, two) in
+    let v = slice_index_or shown i d in
+    let n : take (i + 1) names ≡ take i names ++ v.name.now ∷ [] = take_more names i [] size ∙ ap (λ x. take i names ++ x ∷ []) (at_map (λ x. x.name.now) shown i d [] h) in
+    let there : v.number < length domains = number_below (length domains) shown i d h below in
+    let numbers : i < length (shown_numbers shown) = let k : length (shown_numbers shown) ≡ length shown = count_map (λ x. x.number) shown in omega (arith, h, k) in
+    let own : slice_index_or sets i [] ≡ s = at_map (set_in domains) (shown_numbers shown) i 0 [] numbers ∙ ap (set_in domains) (at_map (λ x. x.number) shown i d 0 h) ∙ any_default domains v.number [] e there ∙ sym at in
+    let more : take (i + 1) sets ≡ take i sets ++ s ∷ [] = take_more sets i [] (omega (arith, h, two)) ∙ ap (λ x. take i sets ++ x ∷ []) own in (
+      values_step init t0 t1 t2 t3 t4 names sets i number v.name.now s size both inv.0 inv.1 n more f1 f2 f3 f4,
       number_step sets i number next s inv.1 more f5,
       (let l = number_le number next i s inv.2 f5 in omega (arith, l)),
     )
+  where
+    any_default : (xs : List (List ℕ)) (k : ℕ) (a b : List ℕ) → k < length xs → slice_index_or xs k a ≡ slice_index_or xs k b
+    any_default [] k a b h = absurd (omega arith)
+    any_default (x ∷ xs) zero a b h = refl
+    any_default (x ∷ xs) (suc k) a b h = any_default xs k a b (omega arith)

@@ -1,72 +1,43 @@
 -- There is exactly one output for words and a text.
-use Rattle.std.proofs.Common.{◌≡◌, ℕ, zero, suc, ◌<◌, ◌≤◌, ◌+◌, List, [], ◌∷◌, ◌++◌, length, Option, Some, None, refl, ap, sym, ◌∙◌, subst, inl, inr, ◌⊎◌, arith, codes, length-append, append-nil, eqb-true, ◌==◌}
+use Rattle.std.proofs.Common.{◌≡◌, ℕ, ◌<◌, ◌≤◌, List, [], ◌∷◌, length, map, false, Option, Some, None, refl, ap, sym, ◌∙◌, subst, inl, inr, ◌⊎◌, arith, codes}
+use Rattle.std.specs.Str.{IsUtf8, is_utf8}
+use Rattle.std.specs.Str.Lossy.{utf8_valid_len}
 use Rattle.std.proofs.lemmas.Bool.{cases_Bool, cases_lt, true≢false}
+use Rattle.std.proofs.lemmas.Str.{IsUtf8-from_is_utf8, is_utf8-from_IsUtf8}
 use Rattle.fd_model.specs.declared.Status.{Status}
 use Rattle.fd_model.specs.declared.Status.TheVariants.{Usage, Refused}
-use Rattle.fd_model.specs.Form.{WrittenGoal, IsWritten, IsUnwritten, none, last, more, spelled_query, program_of}
-use Rattle.fd_model.specs.Verdict.{Verdict, accepted, refused, max_text, IsVerdict}
+use Rattle.fd_model.specs.Reading.{Sentence, Reading, sentences, token_fault, syntax_fault, too_deep, IsReading, IsSentences}
+use Rattle.fd_model.specs.Refusals.{Refusal, first_refusal}
+use Rattle.fd_model.specs.Queries.{program_of}
+use Rattle.fd_model.specs.Verdict.{Verdict, accepted, refused, max_text, cause_name, sentences_verdict, reading_verdict, IsVerdict}
 use Rattle.fd_model.specs.Output.{Output, VerdictOutput, refusal, usage, stop_status}
 use Rattle.fd_model.proofs.Unique.{queries_once}
-use Rattle.clpfd.specs.Fronts.{QueryFront, query_front}
-use Rattle.clpfd.specs.WrittenRuns.{written_output, written_stop}
+use Rattle.fd_model.proofs.ReadingLaws.{one_verdict_of_reading}
+use Rattle.term_reader.proofs.Readable.{each_is_read}
 use Rattle.clpfd.specs.OneOutput.{OneOutput}
-use Rattle.clpfd.proofs.Reading.{completes_start, completes_more, unwritten_front, unwritten_behind, query_is, one_form}
-use Rattle.clpfd.proofs.WrittenRuns.{written_queries}
-
-abbrev IsDecided : List ℕ → Type 0
-IsDecided text = ((queries : List (List WrittenGoal)) × IsWritten text queries) ⊎ IsUnwritten text
-
--- each text is of the form or isn't
-by_rest : (text : List ℕ) (q : List WrittenGoal) (rest : List ℕ) → query_front text ≡ Some (record { goals = q; rest = rest }) → ((r : List ℕ) → rest ≡ 10 ∷ r → IsDecided r) → IsDecided text
-by_rest text q [] e later =
-    let i = query_is text (record { goals = q; rest = [] }) e in
-    inl (q ∷ [], last q i.query (i.text ∙ append-nil (spelled_query q)))
-by_rest text q (c ∷ r) e later = elim (cases_Bool (c == 10)) [
-  | inl t ↦
-      let at : c ≡ 10 = eqb-true c 10 t in
-      let front : query_front text ≡ Some (record { goals = q; rest = 10 ∷ r }) = e ∙ ap (λ d. Some (record { goals = q; rest = d ∷ r })) at in
-      let i = query_is text (record { goals = q; rest = 10 ∷ r }) front in
-      elim (later r (ap (λ d. d ∷ r) at)) [
-        | inl w ↦ inl (q ∷ w.0, more q r w.0 i.query i.text w.1)
-        | inr u ↦ inr ((completes_more text text r [] q front (completes_start text)).needed u)
-      ]
-  | inr t ↦ inr (unwritten_behind text (record { goals = q; rest = c ∷ r }) e (λ k. cc) (λ s k. (let at : c ≡ 10 = cc in true≢false (sym (ap (λ d. d == 10) at) ∙ t))))
-]
-
-shorter : (text r : List ℕ) (q : List WrittenGoal) (n : ℕ) → length text ≤ suc n → text ≡ spelled_query q ++ (10 ∷ r) → length r ≤ n
-shorter text r q n l e = let k : length text ≡ length (spelled_query q) + length (10 ∷ r) = ap length e ∙ length-append (spelled_query q) (10 ∷ r) in omega (arith, k)
-
-by_front : (text : List ℕ) (n : ℕ) → length text ≤ suc n → (text ≡ [] → ⊥) → ((r : List ℕ) → length r ≤ n → IsDecided r) → (f : Option QueryFront) → query_front text ≡ f → IsDecided text
-by_front text n l some later None e = inr (unwritten_front text e some)
-by_front text n l some later (Some f) e = by_rest text f.goals f.rest e (λ r k.
-    let i = query_is text f e in
-    later r (shorter text r f.goals n l (i.text ∙ ap (λ x. spelled_query f.goals ++ x) k)))
-
-decide : (n : ℕ) (text : List ℕ) → length text ≤ n → IsDecided text
-decide n [] l = inl ([], none)
-decide zero (c ∷ cs) l = absurd (omega arith)
-decide (suc n) (c ∷ cs) l = by_front (c ∷ cs) n l (λ k. cc) (λ r h. decide n r h) (query_front (c ∷ cs)) refl
+use Rattle.clpfd.specs.QueryOutputs.{sentences_output, sentences_stop}
+use Rattle.clpfd.proofs.AcceptedRuns.{accepted_queries, accepted_run}
 
 -- Each text has a verdict, and it is one.
-pub large_verdict : (text : List ℕ) → max_text < length text → IsVerdict text (refused max_text (codes "too large"))
-large_verdict text h = inl (h, refl)
+pub large_verdict : (M : ℕ) (text : List ℕ) → max_text < length text → IsVerdict M text (refused max_text (codes "too large"))
+large_verdict M text h = inl (h, refl)
 
-pub unwritten_verdict : (text : List ℕ) → length text ≤ max_text → IsUnwritten text → IsVerdict text (refused 0 (codes "not built"))
-unwritten_verdict text h u = inr (inl (h, u, refl))
+pub bytes_verdict : (M : ℕ) (text : List ℕ) → length text ≤ max_text → (IsUtf8 text → ⊥) → IsVerdict M text (refused (utf8_valid_len text) (codes "not UTF-8"))
+bytes_verdict M text h u = inr (inl (h, u, refl))
 
-pub written_verdict : (text : List ℕ) (queries : List (List WrittenGoal)) → length text ≤ max_text → IsWritten text queries → IsVerdict text (accepted (program_of queries))
-written_verdict text queries h w = inr (inr (h, (queries, w, refl)))
+pub read_verdict : (M : ℕ) (text : List ℕ) (r : Reading) → length text ≤ max_text → IsUtf8 text → IsReading text r → IsVerdict M text (reading_verdict M r)
+read_verdict M text r h u i = inr (inr (h, u, (r, i, refl)))
 
-one_verdict : (text : List ℕ) (v w : Verdict) → IsVerdict text v → IsVerdict text w → v ≡ w
-one_verdict text v w (inl a) (inl b) = a.1 ∙ sym b.1
-one_verdict text v w (inl a) (inr (inl b)) = absurd (let x = a.0 in let y = b.0 in omega arith)
-one_verdict text v w (inl a) (inr (inr b)) = absurd (let x = a.0 in let y = b.0 in omega arith)
-one_verdict text v w (inr (inl a)) (inl b) = absurd (let x = a.0 in let y = b.0 in omega arith)
-one_verdict text v w (inr (inl a)) (inr (inl b)) = a.2 ∙ sym b.2
-one_verdict text v w (inr (inl a)) (inr (inr b)) = absurd (a.1 b.1.0 b.1.1)
-one_verdict text v w (inr (inr a)) (inl b) = absurd (let x = a.0 in let y = b.0 in omega arith)
-one_verdict text v w (inr (inr a)) (inr (inl b)) = absurd (b.1 a.1.0 a.1.1)
-one_verdict text v w (inr (inr a)) (inr (inr b)) = a.1.2 ∙ ap (λ x. accepted (program_of x)) (one_form b.1.0 a.1.1 b.1.1) ∙ sym b.1.2
+one_verdict : (M : ℕ) (text : List ℕ) (v w : Verdict) → IsVerdict M text v → IsVerdict M text w → v ≡ w
+one_verdict M text v w (inl a) (inl b) = a.1 ∙ sym b.1
+one_verdict M text v w (inl a) (inr (inl b)) = absurd (let x = a.0 in let y = b.0 in omega arith)
+one_verdict M text v w (inl a) (inr (inr b)) = absurd (let x = a.0 in let y = b.0 in omega arith)
+one_verdict M text v w (inr (inl a)) (inl b) = absurd (let x = a.0 in let y = b.0 in omega arith)
+one_verdict M text v w (inr (inl a)) (inr (inl b)) = a.2 ∙ sym b.2
+one_verdict M text v w (inr (inl a)) (inr (inr b)) = absurd (a.1 b.1)
+one_verdict M text v w (inr (inr a)) (inl b) = absurd (let x = a.0 in let y = b.0 in omega arith)
+one_verdict M text v w (inr (inr a)) (inr (inl b)) = absurd (b.1 a.1)
+one_verdict M text v w (inr (inr a)) (inr (inr b)) = a.2.2 ∙ ap (reading_verdict M) (one_verdict_of_reading text a.2.0 b.2.0 a.2.1 b.2.1) ∙ sym b.2.2
 
 verdict_output_once : (M : ℕ) (v : Verdict) (out other : List ℕ) (st s : Status) → VerdictOutput M v 1000000 None out st → VerdictOutput M v 1000000 None other s → (other ≡ out) × (s ≡ st)
 verdict_output_once M (refused place reason) out other st s a b = (b.0 ∙ sym a.0, b.1 ∙ sym a.1)
@@ -74,28 +45,52 @@ verdict_output_once M (accepted prog) out other st s a b =
     let one = queries_once M prog 1000000 None 1 prog.queries out other a.0 b.0 a.1 b.1 in
     (sym one.0, b.2 ∙ ap stop_status (sym one.1) ∙ sym a.2)
 
+-- the output of a text is that of its verdict
+pub verdict_output : (M : ℕ) (text : List ℕ) (v : Verdict) (out : List ℕ) (st : Status) → IsVerdict M text v → Output M [] text out st → VerdictOutput M v 1000000 None out st
+verdict_output M text v out st i o = subst (λ w. VerdictOutput M w 1000000 None out st) (one_verdict M text o.0 v o.1 i) o.2
+
 pub output_once : (M : ℕ) (words : List (List ℕ)) (text out other : List ℕ) (st s : Status) → Output M words text out st → Output M words text other s → (other ≡ out) × (s ≡ st)
-output_once M [] text out other st s a b = verdict_output_once M a.0 out other st s a.2 (subst (λ v. VerdictOutput M v 1000000 None other s) (one_verdict text b.0 a.0 b.1 a.1) b.2)
+output_once M [] text out other st s a b = verdict_output_once M a.0 out other st s a.2 (verdict_output M text a.0 other s a.1 b)
 output_once M (w ∷ ws) text out other st s a b = (b.0 ∙ sym a.0, b.1 ∙ sym a.1)
 
 pub large_output : (M : ℕ) (text : List ℕ) → max_text < length text → Output M [] text (refusal max_text (codes "too large")) Refused
-large_output M text h = (refused max_text (codes "too large"), large_verdict text h, (refl, refl))
+large_output M text h = (refused max_text (codes "too large"), large_verdict M text h, (refl, refl))
 
-pub unwritten_output : (M : ℕ) (text : List ℕ) → length text ≤ max_text → IsUnwritten text → Output M [] text (refusal 0 (codes "not built")) Refused
-unwritten_output M text h u = (refused 0 (codes "not built"), unwritten_verdict text h u, (refl, refl))
+bytes_output : (M : ℕ) (text : List ℕ) → length text ≤ max_text → (IsUtf8 text → ⊥) → Output M [] text (refusal (utf8_valid_len text) (codes "not UTF-8")) Refused
+bytes_output M text h u = (refused (utf8_valid_len text) (codes "not UTF-8"), bytes_verdict M text h u, (refl, refl))
 
-pub accepted_output : (M : ℕ) (text : List ℕ) (queries : List (List WrittenGoal)) → length text ≤ max_text → IsWritten text queries → Output M [] text (written_output M 1000000 1 queries) (stop_status (written_stop M 1000000 queries))
-accepted_output M text queries h w =
-    (accepted (program_of queries), written_verdict text queries h w, (written_stop M 1000000 queries, written_queries M (program_of queries) 1000000 1 queries, refl))
+-- what is read has an output
+abbrev HasOutput : ℕ → Verdict → Type 0
+HasOutput M v = (out : List ℕ) × (st : Status) × VerdictOutput M v 1000000 None out st
+
+pub accepted_has : (M : ℕ) (text : List ℕ) (ss : List Sentence) → IsSentences text ss → first_refusal M (map (λ s. s.term) ss) (map (λ s. s.term) ss) ≡ None
+    → VerdictOutput M (accepted (program_of ss)) 1000000 None (sentences_output M 1000000 1 ss) (stop_status (sentences_stop M 1000000 ss))
+accepted_has M text ss i e = (sentences_stop M 1000000 ss, accepted_run M (program_of ss) 1000000 1 ss (accepted_queries M text ss i e), refl)
+
+by_refusal : (M : ℕ) (text : List ℕ) (ss : List Sentence) → IsSentences text ss → (o : Option Refusal) → first_refusal M (map (λ s. s.term) ss) (map (λ s. s.term) ss) ≡ o → HasOutput M (sentences_verdict ss o)
+by_refusal M text ss i None e = (sentences_output M 1000000 1 ss, stop_status (sentences_stop M 1000000 ss), accepted_has M text ss i e)
+by_refusal M text ss i (Some r) e = (refusal r.place r.reason, Refused, (refl, refl))
+
+reading_has : (M : ℕ) (text : List ℕ) (r : Reading) → IsReading text r → HasOutput M (reading_verdict M r)
+reading_has M text (sentences ss) i = by_refusal M text ss i (first_refusal M (map (λ s. s.term) ss) (map (λ s. s.term) ss)) refl
+reading_has M text (token_fault cause place) i = (refusal place (cause_name cause), Refused, (refl, refl))
+reading_has M text (syntax_fault place) i = (refusal place (codes "syntax"), Refused, (refl, refl))
+reading_has M text (too_deep place) i = (refusal place (codes "too deep"), Refused, (refl, refl))
 
 with_one : (M : ℕ) (words : List (List ℕ)) (text out : List ℕ) (st : Status) → Output M words text out st → (o : List ℕ) × (s : Status) × Output M words text o s × ((other : List ℕ) (t : Status) → Output M words text other t → (other ≡ o) × (t ≡ s))
 with_one M words text out st o = (out, st, o, λ other s p. output_once M words text out other st s o p)
 
+not_utf8 : (text : List ℕ) → is_utf8 text ≡ false → IsUtf8 text → ⊥
+not_utf8 text e u = true≢false (sym (is_utf8-from_IsUtf8 text u) ∙ e)
+
 by_size : (M : ℕ) (text : List ℕ) → (max_text < length text) ⊎ (length text ≤ max_text) → (o : List ℕ) × (s : Status) × Output M [] text o s × ((other : List ℕ) (t : Status) → Output M [] text other t → (other ≡ o) × (t ≡ s))
 by_size M text (inl h) = with_one M [] text _ _ (large_output M text h)
-by_size M text (inr h) = elim (decide (length text) text (omega arith)) [
-  | inl w ↦ with_one M [] text _ _ (accepted_output M text w.0 h w.1)
-  | inr u ↦ with_one M [] text _ _ (unwritten_output M text h u)
+by_size M text (inr h) = elim (cases_Bool (is_utf8 text)) [
+  | inl u ↦
+      let read = each_is_read text in
+      let has = reading_has M text read.0 read.1 in
+      with_one M [] text has.0 has.1 (reading_verdict M read.0, read_verdict M text read.0 h (IsUtf8-from_is_utf8 text u) read.1, has.2)
+  | inr u ↦ with_one M [] text _ _ (bytes_output M text h (not_utf8 text u))
 ]
 
 pub one_output : OneOutput

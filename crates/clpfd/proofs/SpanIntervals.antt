@@ -4,7 +4,7 @@ use Rattle.std.specs.Prelude.{map}
 use Rattle.fd_model.specs.Family.{IsRising, count_up}
 use Rattle.fd_model.specs.Lines.{intervals}
 use Rattle.domain_ranges.specs.Spans.{Span, IsSpans, members}
-use Rattle.clpfd.proofs.IntervalSets.{intervals_run}
+use Rattle.clpfd.proofs.ConstantSets.{intervals_run}
 
 -- numbers from low on in front of rising ones
 run_rising : (low n high : ℕ) (rest : List ℕ) → low + n ≤ suc high → IsRising (low + n) high rest → IsRising low high (count_up low n ++ rest)

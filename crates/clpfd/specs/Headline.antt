@@ -1,8 +1,9 @@
 -- The headline: what a run writes, how it ends, and what stays as it was.
-use Rattle.std.specs.Prelude.{◌≡◌, ◌≢◌, ◌⊎◌, ℕ, List, [], ◌∷◌, Option, Some, IsSome, Result, MatchResult}
+use Rattle.std.specs.Prelude.{◌≡◌, ◌≢◌, ◌⊎◌, ℕ, List, [], ◌∷◌, Option, Some, None, IsSome, Result, MatchResult}
 use Rattle.fd_model.specs.declared.Status.{Status}
 use Rattle.fd_model.specs.declared.Status.TheVariants.{Done, Usage, Refused, Stopped, ReadFault, WriteFault, NoMemory}
-use Rattle.fd_model.specs.Output.{Output}
+use Rattle.fd_model.specs.Output.{Output, VerdictOutput}
+use Rattle.fd_model.specs.Verdict.{Verdict}
 use Rattle.clpfd.specs.declared.fault.Fault.{Fault}
 use Rattle.clpfd.specs.declared.fault.Fault.TheVariants as fault
 use Rattle.byte_ports.specs.Ports.{Put, PutPart, Rose, IsAtEnd}
@@ -59,11 +60,15 @@ Ending old new before now result st piece =
     ⊎ (((result ≡ WriteFault) × PutPart old new piece × Rose before now)
     ⊎ ((result ≡ NoMemory) × PutPart old new piece))
 
+-- The run ended as the verdict on the text says.
+abbrev pub EndsAs : Option (List ℕ) → Option (List ℕ) → ℕ → ℕ → Status → Verdict → Type 0
+EndsAs old new before now result v = (out : List ℕ) (st : Status) → VerdictOutput M v 1000000 None out st → Ending old new before now result st out
+
 -- the status of a run that was cut short
 abbrev pub fault_status : Fault → Status
 fault_status fault.WriteFault = WriteFault
 fault_status fault.NoMemory = NoMemory
 
 -- the same where the call answers a Result
-abbrev pub Wrote : Option (List ℕ) → Option (List ℕ) → ℕ → ℕ → Result (Unit {0}) Fault → List ℕ → Type 0
+abbrev pub Wrote : {A : Type 0} → Option (List ℕ) → Option (List ℕ) → ℕ → ℕ → Result A Fault → List ℕ → Type 0
 Wrote old new before now result piece = MatchResult result (λ _. Put old new piece) (λ e. PutPart old new piece × (e ≡ fault.WriteFault → Rose before now))

@@ -1,7 +1,6 @@
-pub mod Fronts
-pub mod Flat
-pub mod IntervalLines
-pub mod WrittenRuns
+pub mod ConstantLines
+pub mod Checked
+pub mod QueryOutputs
 pub mod OneOutput
 pub mod Headline
 pub mod Shown

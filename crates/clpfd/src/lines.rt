@@ -1,10 +1,10 @@
 //! The lines of a query's answer.
-ghost use Rattle.std.specs.Prelude.{◌≡◌, ◌≢◌, ◌<◌, ◌^◌, ◌++◌, ◌∷◌, [], length, codes, decimal, MatchOption, IfOk, OnOk};
+ghost use Rattle.std.specs.Prelude.{◌≡◌, ◌≢◌, ◌<◌, ◌^◌, ◌++◌, ◌∷◌, [], length, map, codes, decimal, MatchOption, IfOk, OnOk};
 ghost use Rattle.fd_model.specs.Lines.{domain_text, interval_text, joined};
-ghost use Rattle.clpfd.specs.IntervalLines.{open_text, value_text, number_after, value_texts};
-ghost use Rattle.clpfd.specs.Flat.{names_in};
-ghost use Rattle.clpfd.specs.Shown.{interval_of_span, spans_text, separator_at};
+ghost use Rattle.clpfd.specs.ConstantLines.{open_text, value_text, number_after, value_texts};
+ghost use Rattle.clpfd.specs.Shown.{interval_of_span, spans_text, separator_at, set_in, shown_names, shown_numbers, AllBelow};
 
+use crate::solve::Shown;
 use domain_ranges::Domain;
 use fd_model::NoMemory;
 use itoa::Buffer;
@@ -99,17 +99,21 @@ fn put_value(text: &mut Vec<u8>, number: u64, domain: &Domain) -> Result<u64, No
     }
 }
 
-/// Appends the values of variables, `Name = Value` joined by `, `.
-pub fn put_values(text: &mut Vec<u8>, names: &[&[u8]], domains: &[Domain]) -> Result<(), NoMemory>
-    requires { length names.now ≡ length domains.now }
-    ensures { OnOk result (text.new.items ≡ text.old.items ++ joined (codes ", ") (value_texts 1 (names_in names.now) domains.now)) }
+/// Appends the values of variables, `Name = Value` joined by `, `. The domains are those of all variables, by their numbers.
+pub fn put_values(
+    text: &mut Vec<u8>,
+    shown: &[Shown<'_>],
+    domains: &[Domain],
+) -> Result<(), NoMemory>
+    requires { AllBelow (length domains.now) (shown_numbers shown.now) }
+    ensures { OnOk result (text.new.items ≡ text.old.items ++ joined (codes ", ") (value_texts 1 (shown_names shown.now) (map (set_in domains.now) (shown_numbers shown.now)))) }
 {
     let mut number = 1;
-    for (index, name) in names.iter().enumerate() {
+    for (index, variable) in shown.iter().enumerate() {
         put_separator(text, index, b", ")?;
-        text.extend_from_slice(name)?;
+        text.extend_from_slice(variable.name.as_bytes())?;
         text.extend_from_slice(b" = ")?;
-        number = put_value(text, number, &domains[index])?;
+        number = put_value(text, number, &domains[variable.number])?;
     }
     Ok(())
 }

@@ -1,10 +1,10 @@
 use Rattle.std.proofs.Common.{◌≡◌, false, map, take}
 use Rattle.fd_model.specs.Family.{universe}
-use Rattle.clpfd.specs.IntervalLines.{narrow_each, some_empty}
-use Rattle.clpfd.specs.Shown.{interval_goal, IsNumbered}
+use Rattle.clpfd.specs.Checked.{set_goal}
+use Rattle.clpfd.specs.Shown.{narrow_all, leaves_none, IsNumbered}
 use Rattle.clpfd.proofs.solve.narrowed_domains.Given as goal
 
 abbrev pub invariant-loop-goal : goal.invariant-loop-goal
 invariant-loop-goal l =
-    IsNumbered (narrow_each (map interval_goal (take l.goal-index l.goals)) (λ x. universe 16777215)) l.count l.domains.items
-    × (some_empty (map interval_goal (take l.goal-index l.goals)) (narrow_each (map interval_goal (take l.goal-index l.goals)) (λ x. universe 16777215)) ≡ false)
+    IsNumbered (narrow_all (map set_goal (take l.goal-index l.goals)) (λ x. universe 16777215)) l.count l.domains.items
+    × (leaves_none (map set_goal (take l.goal-index l.goals)) (narrow_all (map set_goal (take l.goal-index l.goals)) (λ x. universe 16777215)) ≡ false)

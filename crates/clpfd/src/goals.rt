@@ -1,0 +1,109 @@
+//! What the terms of a text are: sentences, heads, goals.
+ghost use Rattle.std.specs.Prelude.{◌≡◌, ◌<◌, length};
+ghost use Rattle.term_pool.specs.Terms.{term_of, shape_term};
+ghost use Rattle.term_pool.specs.Valid.{shape_of, IsPool, IsWithin};
+ghost use Rattle.term_pool.specs.PlacedTerms.{placed_of};
+ghost use Rattle.clpfd.specs.Checked.{AreJoined, IsBodyOf, IsFunctorOf, IsHeadOf, IsPostOf, IsSeen};
+
+use crate::refusal::Functor;
+use domain_ranges::Domain;
+use term_pool::{Node, Pool, TermId};
+
+/// A goal that takes from the domain of its variable the numbers outside a set.
+#[derive(Drop)]
+pub struct Goal {
+    /// The variable's number in its query.
+    pub variable: u64,
+    pub set: Domain,
+}
+
+/// A goal `V in R`: the variable's number in its query, and the term R.
+#[derive(Clone, Copy)]
+pub struct Post {
+    pub variable: u64,
+    pub range: TermId,
+}
+
+/// What a term is at its top. Its parts have smaller numbers.
+pub fn look(pool: &Pool, t: TermId) -> Node<'_>
+    requires { t.number < length pool.now.entries }
+    ensures placed { IsSeen pool.now t (shape_of result) }
+    ensures within { IsWithin (length pool.now.names) t.number (shape_of result) }
+    ensures term { term_of pool.now t ≡ shape_term pool.now (shape_of result) }
+    ensures valid { IsPool pool.now }
+{
+    pool.view(t)
+}
+
+/// The name and the number of arguments of an atom or a compound term.
+pub fn functor_of(pool: &Pool, t: TermId) -> Option<Functor>
+    requires { t.number < length pool.now.entries }
+    ensures functor { IsFunctorOf pool.now (placed_of pool.now t) result }
+    ensures valid { IsPool pool.now }
+{
+    match look(pool, t) {
+        Node::Var(_) | Node::Int(_) => None,
+        Node::Atom(name) => Some(Functor { name, arity: 0 }),
+        Node::Comp(name, parts) => Some(Functor {
+            name,
+            arity: parts.len(),
+        }),
+    }
+}
+
+/// The body of a sentence `?- B`.
+pub fn query_body(pool: &Pool, t: TermId) -> Option<TermId>
+    requires { t.number < length pool.now.entries }
+    ensures { IsBodyOf pool.now t result }
+{
+    match look(pool, t) {
+        Node::Comp(name, &[body]) if pool.name_of(name) == "?-" => Some(body),
+        _ => None,
+    }
+}
+
+/// The term whose functor a sentence defines: the head of a clause, or a fact.
+pub fn head_of(pool: &Pool, t: TermId) -> Option<TermId>
+    requires { t.number < length pool.now.entries }
+    ensures { IsHeadOf pool.now t result }
+{
+    match look(pool, t) {
+        Node::Comp(name, &[_]) => {
+            if matches!(pool.name_of(name), "?-" | ":-") {
+                None
+            } else {
+                Some(t)
+            }
+        }
+        Node::Comp(name, &[head, _]) if pool.name_of(name) == ":-" => Some(head),
+        _ => Some(t),
+    }
+}
+
+/// The two bodies that a `,` joins.
+pub fn conjunction(pool: &Pool, t: TermId) -> Option<(TermId, TermId)>
+    requires { t.number < length pool.now.entries }
+    ensures { AreJoined pool.now t result }
+{
+    match look(pool, t) {
+        Node::Comp(name, &[left, right]) if pool.name_of(name) == "," => Some((left, right)),
+        _ => None,
+    }
+}
+
+/// The variable and the range of a goal `V in R`.
+pub fn post_of(pool: &Pool, t: TermId) -> Option<Post>
+    requires { t.number < length pool.now.entries }
+    ensures { IsPostOf pool.now (placed_of pool.now t) result }
+{
+    let Node::Comp(name, &[target, range]) = look(pool, t) else {
+        return None;
+    };
+    if pool.name_of(name) != "in" {
+        return None;
+    }
+    match look(pool, target) {
+        Node::Var(variable) => Some(Post { variable, range }),
+        _ => None,
+    }
+}
