@@ -299,6 +299,36 @@ fn too_many_brackets_and_arguments(rt: HostRuntime) -> Result<(), Fail> {
 }
 
 #[test]
+fn texts_of_the_greatest_size_and_above(rt: HostRuntime) -> Result<(), Fail> {
+    let refusal = "refused at 16777216: too large\n";
+    for (size, output, status) in [
+        (16_777_216, "", Status::Done),
+        (16_777_217, refusal, Status::Refused),
+        (20_000_000, refusal, Status::Refused),
+    ] {
+        let text = repeated(rt.alloc(), "", " ", size, "")?;
+        let (ended, bytes) = answers(rt.alloc(), text.as_bytes())?;
+        assert_eq!(rt; bytes.as_slice(), output.as_bytes(), "at {size}");
+        assert_eq!(rt; ended, status);
+    }
+    Ok(())
+}
+
+#[test]
+fn a_query_of_a_million_goals_and_one(rt: HostRuntime) -> Result<(), Fail> {
+    for (front, output, status) in [
+        ("?- X in 0..9", "query 1\nbudget\n", Status::Stopped),
+        ("?- X in 5..9", "query 1\nend\n", Status::Done),
+    ] {
+        let text = repeated(rt.alloc(), front, ",X in 0..1", 1_000_000, ".")?;
+        let (ended, bytes) = answers(rt.alloc(), text.as_bytes())?;
+        assert_eq!(rt; bytes.as_slice(), output.as_bytes());
+        assert_eq!(rt; ended, status);
+    }
+    Ok(())
+}
+
+#[test]
 fn a_failed_third_write(rt: HostRuntime) -> Result<(), Fail> {
     let failing = [3].to_vec(rt.alloc())?;
     let text = b"?- X in 1..5, X in 3..9.".as_slice();
