@@ -7,7 +7,7 @@ use crate::plan::Plan;
 use crate::ports::{Failed, Sink, Source};
 use crate::shelf::Shelf;
 use crate::sure::SureSource;
-use fd_model::NoMemory;
+use fd_language::NoMemory;
 use std::alloc::Global;
 use std::marker::Model;
 

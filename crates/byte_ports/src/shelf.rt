@@ -1,7 +1,7 @@
 // Bytes with room for a given number more.
 ghost use Rattle.std.specs.Prelude.{◌≡◌, ◌+◌, ◌-◌, ◌≤◌, [], ◌++◌, length, IfOk};
 
-use fd_model::NoMemory;
+use fd_language::NoMemory;
 use std::alloc::Global;
 use std::marker::Model;
 

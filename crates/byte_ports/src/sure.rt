@@ -4,7 +4,7 @@ ghost use Rattle.byte_ports.specs.Parts.{SureSinkParts};
 
 use crate::ports::{Failed, Sink, Source};
 use crate::shelf::Shelf;
-use fd_model::NoMemory;
+use fd_language::NoMemory;
 use std::alloc::Global;
 use std::marker::Model;
 

@@ -7,9 +7,9 @@ use Rattle.std.proofs.lemmas.Str.{chars_past_char, chars-nil}
 use Rattle.std.proofs.lemmas.List.{drop-drop}
 use Rattle.std.proofs.lemmas.Bool.{lt-leb, le-leb, leb-true, leb-false}
 use Rattle.std.proofs.Math.Nat.{mul-le-mul_left}
-use Rattle.fd_model.specs.Characters.{is_digit_of, starts_with, run_size, past_run, value}
-use Rattle.fd_model.specs.Tokens as model
-use Rattle.fd_model.specs.Tokens.{Gap, Token, Offends, Integer, FloatOut, IntegerTooWide, greatest, has_fraction, number_front, decimal_front}
+use Rattle.fd_language.specs.Characters.{is_digit_of, starts_with, run_size, past_run, value}
+use Rattle.fd_language.specs.Tokens as model
+use Rattle.fd_language.specs.Tokens.{Gap, Token, Offends, Integer, FloatOut, IntegerTooWide, greatest, has_fraction, number_front, decimal_front}
 use Rattle.char_tokens.specs.declared.front.Front.{Front}
 use Rattle.char_tokens.specs.declared.front.Front.TheVariants as fronts
 use Rattle.char_tokens.specs.Views.{integer_of, next_integer, front_is, kind_of, cause_of, IsBehind}

@@ -8,7 +8,7 @@ use Rattle.std.proofs.lemmas.Str.{encodes-append}
 use Rattle.char_tokens.specs.declared.quoted.Inside.{Inside as Held}
 use Rattle.char_tokens.specs.declared.quoted.Inside.TheVariants as places
 use Rattle.char_tokens.specs.Views.{IsHeld}
-use Rattle.fd_model.specs.Tokens.{Inside, inside, spells, quoted_front, quoted_spells}
+use Rattle.fd_language.specs.Tokens.{Inside, inside, spells, quoted_front, quoted_spells}
 
 -- one more hexadecimal digit
 pub digit_fits : (k v d : ℕ) → k < 6 → v < 16 ^ k → d < 16 → (v * 16 + d < 16 ^ (k + 1)) × (v * 16 + d < 16777216)

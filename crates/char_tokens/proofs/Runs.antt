@@ -4,8 +4,8 @@ use Rattle.std.specs.Prelude.{encode_utf8, ◌==◌, ◌&&◌}
 use Rattle.std.specs.Char.{len_utf8}
 use Rattle.std.specs.Str.{chars, IsUtf8, encode_utf8_all, all_scalars}
 use Rattle.std.proofs.lemmas.Str.{chars_past_char, length-encode, drop_past_char, chars-nil, IsUtf8-past_char, encode_ascii, len_utf8_ascii}
-use Rattle.fd_model.specs.Characters.{run_size, past_run, starts_with}
-use Rattle.fd_model.specs.Tokens.{comment_front}
+use Rattle.fd_language.specs.Characters.{run_size, past_run, starts_with}
+use Rattle.fd_language.specs.Tokens.{comment_front}
 
 -- rest is the text behind so many bytes
 pub record IsAt (text : List ℕ) (size : ℕ) (rest : List ℕ) : Type 0 where

@@ -1,7 +1,7 @@
 -- What stands next in what is left of a text.
 use Rattle.std.specs.Prelude.{◌≡◌, ℕ, ◌+◌, ◌≤◌, List, [], Bool, true, false, Option, Some, None, length, take, drop}
-use Rattle.fd_model.specs.Tokens as model
-use Rattle.fd_model.specs.Tokens.{Lexeme, Gap, Offends, front_of, HasTokens, HasFault}
+use Rattle.fd_language.specs.Tokens as model
+use Rattle.fd_language.specs.Tokens.{Lexeme, Gap, Offends, front_of, HasTokens, HasFault}
 use Rattle.char_tokens.specs.declared.token.Token.{Token}
 use Rattle.char_tokens.specs.declared.token.TokenFault.{TokenFault}
 use Rattle.char_tokens.specs.declared.token.TokenFault.TheVariants as faults

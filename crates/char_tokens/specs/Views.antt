@@ -2,8 +2,8 @@
 use Rattle.std.specs.Prelude.{◌≡◌, ℕ, ◌+◌, ◌*◌, ◌^◌, ◌<◌, ◌≤◌, List, [], ◌∷◌, Bool, true, map, Option, Some, None, nat_le, if◌then◌else◌, length, drop}
 use Rattle.std.specs.Str.{chars, IsUtf8}
 use Rattle.unicode_ident.specs.Ident.{is_xid_continue}
-use Rattle.fd_model.specs.Characters.{is_symbol, not_newline, tail}
-use Rattle.fd_model.specs.Tokens as model
+use Rattle.fd_language.specs.Characters.{is_symbol, not_newline, tail}
+use Rattle.fd_language.specs.Tokens as model
 use Rattle.char_tokens.specs.declared.characters.Class.{Class}
 use Rattle.char_tokens.specs.declared.characters.Class.TheVariants as classes
 use Rattle.char_tokens.specs.declared.token.Kind.{Kind}

@@ -3,8 +3,8 @@
 ghost use Rattle.std.specs.Prelude.{◌≡◌, ◌<◌, ◌+◌, ◌≤◌, ◌∷◌, ◌++◌, [], length, drop, MatchOption, encode_utf8};
 ghost use Rattle.std.specs.Char.{IsScalar, len_utf8};
 ghost use Rattle.std.specs.Str.{chars, IsUtf8};
-ghost use Rattle.fd_model.specs.Characters as Characters;
-ghost use Rattle.fd_model.specs.Tokens as Tokens;
+ghost use Rattle.fd_language.specs.Characters as Characters;
+ghost use Rattle.fd_language.specs.Tokens as Tokens;
 ghost use Rattle.char_tokens.specs.Views as Views;
 
 /// The first character, and the text behind it.
@@ -35,7 +35,7 @@ pub(crate) fn is_layout(c: char) -> bool
     c == ' ' || ('\t' <= c && c <= '\r')
 }
 
-#[tactic(auto, unfolding(fd_model::specs::Characters::is_symbol))]
+#[tactic(auto, unfolding(fd_language::specs::Characters::is_symbol))]
 pub(crate) fn is_symbol(c: char) -> bool
     ensures { result ≡ Characters.is_symbol c }
 {
@@ -67,7 +67,7 @@ pub(crate) fn is_solo(c: char) -> bool
     c == '!' || c == ';'
 }
 
-#[tactic(auto, unfolding(fd_model::specs::Characters::is_punct))]
+#[tactic(auto, unfolding(fd_language::specs::Characters::is_punct))]
 pub(crate) fn is_punct(c: char) -> bool
     ensures { result ≡ Characters.is_punct c }
 {
@@ -77,7 +77,7 @@ pub(crate) fn is_punct(c: char) -> bool
     }
 }
 
-#[tactic(auto, unfolding(fd_model::specs::Characters::begins_variable))]
+#[tactic(auto, unfolding(fd_language::specs::Characters::begins_variable))]
 pub(crate) fn begins_variable(c: char) -> bool
     ensures { result ≡ Characters.begins_variable c }
 {

@@ -2,8 +2,8 @@
 
 ghost use Rattle.std.specs.Prelude.{true, ◌≡◌, ◌==◌, ◌&&◌, ◌++◌, ◌∷◌};
 ghost use Rattle.std.specs.Str.{chars, IsUtf8};
-ghost use Rattle.fd_model.specs.Characters as Characters;
-ghost use Rattle.fd_model.specs.Tokens as Tokens;
+ghost use Rattle.fd_language.specs.Characters as Characters;
+ghost use Rattle.fd_language.specs.Tokens as Tokens;
 ghost use Rattle.char_tokens.specs.Views as Views;
 
 use crate::characters::{first_char, starts_with};

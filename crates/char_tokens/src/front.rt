@@ -2,7 +2,7 @@
 
 ghost use Rattle.std.specs.Prelude.{true, ◌≡◌, ◌++◌, encode_utf8};
 ghost use Rattle.std.specs.Str.{chars, IsUtf8};
-ghost use Rattle.fd_model.specs.Tokens as Tokens;
+ghost use Rattle.fd_language.specs.Tokens as Tokens;
 ghost use Rattle.char_tokens.specs.Views as Views;
 
 use crate::characters::{
@@ -24,7 +24,7 @@ pub(crate) enum Front {
 }
 
 /// What the text begins with, and the text behind it.
-#[tactic(auto, unfolding(fd_model::specs::Tokens::front_of))]
+#[tactic(auto, unfolding(fd_language::specs::Tokens::front_of))]
 pub(crate) fn front_of(text: &str) -> (Front, &str)
     ensures front { Views.front_is result.0 ≡ Tokens.front_of text.now }
     ensures behind { Views.IsBehind text.now result.0 result.1.now }

@@ -1,8 +1,8 @@
 //! The tokens of a text of clauses, with their places in bytes.
 #![tactic(auto)]
 
-ghost use Rattle.fd_model.specs.QuotedAtoms.{QuotedAtoms};
-ghost use Rattle.fd_model.specs.Tokens.{OneVerdict};
+ghost use Rattle.fd_language.specs.QuotedAtoms.{QuotedAtoms};
+ghost use Rattle.fd_language.specs.Tokens.{OneVerdict};
 
 mod characters;
 mod comment;

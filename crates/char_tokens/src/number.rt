@@ -3,8 +3,8 @@
 ghost use Rattle.std.specs.Prelude.{ℕ, true, false, ◌≡◌, ◌==◌, ◌&&◌, ◌<◌, ◌+◌, ◌≤◌, ◌∷◌, ◌++◌, length, drop, MatchOption, IfSome, encode_utf8};
 ghost use Rattle.std.specs.Char.{len_utf8};
 ghost use Rattle.std.specs.Str.{chars, IsUtf8};
-ghost use Rattle.fd_model.specs.Characters as Characters;
-ghost use Rattle.fd_model.specs.Tokens as Tokens;
+ghost use Rattle.fd_language.specs.Characters as Characters;
+ghost use Rattle.fd_language.specs.Tokens as Tokens;
 ghost use Rattle.char_tokens.specs.Views as Views;
 
 use crate::characters::{first_char, starts_with};

@@ -3,14 +3,14 @@
 ghost use Rattle.std.specs.Prelude.{true, ◌≡◌, ◌+◌, ◌*◌, ◌^◌, ◌<◌, ◌≤◌, ◌++◌, ◌∷◌, [], IfOk, OnOk, if◌then◌else◌};
 ghost use Rattle.std.specs.Str.{chars, IsUtf8, encode_utf8_all};
 ghost use Rattle.std.specs.String.{string_bytes};
-ghost use Rattle.fd_model.specs.Characters as Characters;
-ghost use Rattle.fd_model.specs.Tokens as Tokens;
+ghost use Rattle.fd_language.specs.Characters as Characters;
+ghost use Rattle.fd_language.specs.Tokens as Tokens;
 ghost use Rattle.char_tokens.specs.Views as Views;
 
 use crate::characters::first_char;
 use crate::front::Front;
 use crate::token::{Kind, TokenCause};
-use fd_model::NoMemory;
+use fd_language::NoMemory;
 use std::alloc::Global;
 
 /// Where a reader stands inside a quoted atom. Places are in bytes from its beginning.

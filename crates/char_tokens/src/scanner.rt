@@ -2,8 +2,8 @@
 
 ghost use Rattle.std.specs.Prelude.{◌≡◌, ◌≤◌, ◌+◌, [], List, ℕ, length, true, IfOk, IfErr, OnErr, MatchResult, MatchOption, IfSome};
 ghost use Rattle.std.specs.Str.{IsUtf8};
-ghost use Rattle.fd_model.specs.TokenSlices.{AreSlices};
-ghost use Rattle.fd_model.specs.Tokens as Tokens;
+ghost use Rattle.fd_language.specs.TokenSlices.{AreSlices};
+ghost use Rattle.fd_language.specs.Tokens as Tokens;
 ghost use Rattle.char_tokens.specs.Views.{lexeme_of, lexemes, IsFaultIn, IsFaultAt};
 ghost use Rattle.char_tokens.specs.Scanning.{AreTokens, HasRead, IsFirstFault, IsNext, Refuses};
 

@@ -1,10 +1,10 @@
 -- The goals of an accepted sentence are on its variables.
 use Rattle.std.proofs.Common.{◌≡◌, ℕ, zero, suc, ◌<◌, Bool, true, false, cond, List, [], ◌∷◌, ◌++◌, Option, Some, None, refl, ap, sym, ◌∙◌, subst, arith, length, map, drop, slice_index_or, codes}
 use Rattle.std.specs.Str.{bytes_eq}
-use Rattle.fd_model.specs.PlacedTerm.{PlacedTerm, var, int, atom, comp, no_parts, part, plain, place}
+use Rattle.fd_language.specs.PlacedTerm.{PlacedTerm, var, int, atom, comp, no_parts, part, plain, place}
 use Rattle.fd_model.specs.Forms.{not_yet_names, reserved_names, is_named}
 use Rattle.fd_model.specs.Refusals.{Form, query, clause, directive, fact, form_of, goals_of, posted_range, Refusal, Functor, refused_at, functor_of, functor_name, or_later, other_refusal, goal_refusal, goals_refusal, form_refusal, sentence_refusal, first_refusal, too_wide, wide_places}
-use Rattle.fd_model.specs.Spelling.{least_place}
+use Rattle.fd_language.specs.Spelling.{least_place}
 use Rattle.term_reader.specs.Named.{VariablesBelow}
 use Rattle.clpfd.specs.Checked.{SetGoal, constant_goal, goals_in, query_goals, set_goal, goal_set}
 use Rattle.clpfd.specs.ConstantLines.{ConstantGoal}

@@ -4,17 +4,18 @@ use Rattle.std.specs.Prelude.{map, length, codes, decimal}
 use Rattle.std.specs.List.{AllByRecursion}
 use Rattle.std.proofs.lemmas.Bool.{true≢false, or_cases}
 use Rattle.std.proofs.lemmas.List.Elements.{recursion_from_All}
-use Rattle.fd_model.specs.Term.{Name}
-use Rattle.fd_model.specs.Family.{has, IsRising}
+use Rattle.fd_language.specs.Term.{Name}
+use Rattle.fd_language.specs.Family.{has, IsRising}
 use Rattle.fd_model.specs.Goal.{Program, Query, Event, start_of}
-use Rattle.fd_model.specs.Lines.{variables_of, line, events_bytes}
+use Rattle.fd_language.specs.Variables.{variables_of}
+use Rattle.fd_model.specs.Lines.{line, events_bytes}
 use Rattle.fd_model.specs.Output.{Queries, is_stop, or_stop}
-use Rattle.fd_model.specs.PlacedTerm.{PlacedTerm, plain}
+use Rattle.fd_language.specs.PlacedTerm.{PlacedTerm, plain}
 use Rattle.fd_model.specs.Queries.{is_shown, shown_from, query_of, queries_by, queries_of}
-use Rattle.fd_model.specs.Reading.{Sentence, IsSentences}
+use Rattle.fd_language.specs.Reading.{Sentence, IsSentences}
 use Rattle.fd_model.specs.Refusals.{Form, query, form_of, goals_of, first_refusal}
 use Rattle.fd_model.specs.Run.{Run}
-use Rattle.fd_model.proofs.SentenceVariables.{stands, below}
+use Rattle.fd_language.proofs.SentenceVariables.{stands, below}
 use Rattle.fd_model.proofs.Unique.{run_once}
 use Rattle.clpfd.specs.Checked.{constant_goal, goals_in, query_goals}
 use Rattle.clpfd.specs.ConstantLines.{is_target, IsConstantQuery}

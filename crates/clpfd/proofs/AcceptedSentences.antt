@@ -4,16 +4,16 @@ use Rattle.std.specs.Prelude.{map, codes}
 use Rattle.std.specs.List.{AllByRecursion}
 use Rattle.std.specs.Str.{bytes_eq}
 use Rattle.std.proofs.lemmas.List.{append-nil, map-append}
-use Rattle.fd_model.specs.Term.{Var}
-use Rattle.fd_model.specs.Family.{has}
+use Rattle.fd_language.specs.Term.{Var}
+use Rattle.fd_language.specs.Family.{has}
 use Rattle.fd_model.specs.Goal.{Goal, Post}
-use Rattle.fd_model.specs.Posting.{Place, range_places}
-use Rattle.fd_model.specs.Lines.{variables_of}
-use Rattle.fd_model.specs.PlacedTerm.{PlacedTerm, var, comp, no_parts, part, place, plain}
-use Rattle.fd_model.specs.RangeVerdict.{verdict}
-use Rattle.fd_model.specs.declared.range_node.Offence.{Offence}
-use Rattle.fd_model.specs.declared.range_node.Offence.TheVariants.{NotMonotone, NotNatural, BadDivisor, TooWide}
-use Rattle.fd_model.specs.Spelling.{read_range, not_a_range, least_place}
+use Rattle.fd_language.specs.Places.{Place, range_places}
+use Rattle.fd_language.specs.Variables.{variables_of}
+use Rattle.fd_language.specs.PlacedTerm.{PlacedTerm, var, comp, no_parts, part, place, plain}
+use Rattle.fd_language.specs.RangeVerdict.{verdict}
+use Rattle.fd_language.specs.declared.range_node.Offence.{Offence}
+use Rattle.fd_language.specs.declared.range_node.Offence.TheVariants.{NotMonotone, NotNatural, BadDivisor, TooWide}
+use Rattle.fd_language.specs.Spelling.{read_range, not_a_range, least_place}
 use Rattle.fd_model.specs.Queries.{goal_of}
 use Rattle.fd_model.specs.Forms.{is_named, reserved_names, not_yet_names}
 use Rattle.fd_model.specs.Refusals.{Refusal, Functor, Form, query, clause, directive, fact, form_of, functor_of, goals_of, posted_range, or_later, unspelled, offence_refusal, unless_constant, range_refusal, by_range, by_functor, goal_refusal, goals_refusal, wide_places, too_wide, form_refusal, sentence_refusal, first_refusal}

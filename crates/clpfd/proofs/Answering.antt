@@ -1,7 +1,7 @@
 -- The events of a query, by how it ends.
 use Rattle.std.proofs.Common.{◌≡◌, ℕ, List, ap, sym, ◌∙◌, subst, length, map, filter}
 use Rattle.std.proofs.lemmas.List.{length-map}
-use Rattle.fd_model.specs.Term.{Name}
+use Rattle.fd_language.specs.Term.{Name}
 use Rattle.fd_model.specs.Queries.{is_shown}
 use Rattle.term_pool.specs.declared.AtomId.{AtomId}
 use Rattle.term_pool.specs.Contents.{Contents, atom_name}

@@ -2,18 +2,18 @@
 use Rattle.std.proofs.Common.{◌≡◌, ℕ, ◌≤◌, Bool, true, false, cond, not, ◌||◌, ◌&&◌, ◌==◌, ℤ, pos, List, [], ◌∷◌, ◌++◌, Option, Some, None, filter, refl, ap, sym, ◌∙◌, subst, inl, inr, ◌⊎◌, arith, eqb-true, eq-eqb}
 use Rattle.std.proofs.lemmas.Bool.{cases_Bool, true≢false, or_left, or_right}
 use Rattle.std.proofs.lemmas.List.Elements.{filter_agree}
-use Rattle.fd_model.specs.Term.{Term, Var, Int, Atom, Comp, Name, Terms, Substitution, apply}
-use Rattle.fd_model.specs.Unifier.{Equation, IsMostGeneral, Unifies}
-use Rattle.fd_model.specs.Family.{has, IsSubset, universe, Family, IsFamily, IsInside}
-use Rattle.fd_model.specs.Range.{Range, Indexical, set_of, reads}
+use Rattle.fd_language.specs.Term.{Term, Var, Int, Atom, Comp, Name, Terms, Substitution, apply}
+use Rattle.fd_language.specs.Unifier.{Equation, IsMostGeneral, Unifies}
+use Rattle.fd_language.specs.Family.{has, IsSubset, universe, Family, IsFamily, IsInside}
+use Rattle.fd_language.specs.Range.{Range, Indexical, set_of, reads}
 use Rattle.fd_model.specs.Closed.{IsClosed, AllPosted, constrained}
 use Rattle.fd_model.specs.Domains.{Domains}
 use Rattle.fd_model.specs.Seen.{IsView, IsConsistent}
-use Rattle.fd_model.proofs.Sets.{has-filter, has-filter_back, has_high, universe_rising, in_universe}
-use Rattle.fd_model.proofs.Greatest.{rising-filter}
+use Rattle.fd_language.proofs.Sets.{has-filter, has-filter_back, has_high, universe_rising, in_universe}
+use Rattle.fd_language.proofs.Greatest.{rising-filter}
 use Rattle.fd_model.proofs.Closing.{closed_either, outside_one, first_passes, later_passes, build_one}
-use Rattle.fd_model.proofs.Monotone.{in_right}
-use Rattle.fd_model.proofs.Directions.{first_of_two, second_of_two}
+use Rattle.fd_language.proofs.Monotone.{in_right}
+use Rattle.fd_language.proofs.Directions.{first_of_two, second_of_two}
 use Rattle.clpfd.specs.ConstantLines.{IsConstant, in_constant}
 use Rattle.clpfd.proofs.ConstantRanges.{reads_none, in_constant_set, from_constant_set}
 

@@ -1,13 +1,13 @@
 -- A range in which no variable stands reads none, is what it is under any names and integers, and has one set.
 use Rattle.std.proofs.Common.{◌≡◌, ℕ, ◌≤◌, true, ℤ, List, [], ◌∷◌, ◌++◌, refl, ap, sym, ◌∙◌, subst}
 use Rattle.std.proofs.lemmas.Bool.{true≢false}
-use Rattle.fd_model.specs.Family.{has, Family, universe}
-use Rattle.fd_model.specs.Range.{Range, Span, One, Dom, Union, Inter, Outside, Plus, Minus, Times, Over, Expr, Number, Infinity, Param, Min, Max, Val, Add, Sub, Mul, DivDown, DivUp, reads, expr_reads, set_of}
-use Rattle.fd_model.specs.Renaming.{rename_range, rename_expr}
-use Rattle.fd_model.specs.Check.{fill, fill_range}
-use Rattle.fd_model.specs.Posting.{expr_places, range_places}
-use Rattle.fd_model.proofs.Sets.{has-filter, has-filter_back, in_universe}
-use Rattle.fd_model.proofs.Renaming.{two, set_agree}
+use Rattle.fd_language.specs.Family.{has, Family, universe}
+use Rattle.fd_language.specs.Range.{Range, Span, One, Dom, Union, Inter, Outside, Plus, Minus, Times, Over, Expr, Number, Infinity, Param, Min, Max, Val, Add, Sub, Mul, DivDown, DivUp, reads, expr_reads, set_of}
+use Rattle.fd_language.specs.RangeRenaming.{rename_range, rename_expr}
+use Rattle.fd_language.specs.Check.{fill, fill_range}
+use Rattle.fd_language.specs.Places.{expr_places, range_places}
+use Rattle.fd_language.proofs.Sets.{has-filter, has-filter_back, in_universe}
+use Rattle.fd_language.proofs.RangeRenaming.{two, set_agree}
 use Rattle.clpfd.specs.ConstantLines.{IsConstant, nowhere, constant_set, in_constant}
 
 -- of two parts

@@ -5,9 +5,9 @@ use Rattle.std.proofs.lemmas.Bool.{cases_Bool, true≢false, or_left, or_right, 
 use Rattle.std.proofs.lemmas.Bool.Decides.{nat_tests}
 use Rattle.std.proofs.lemmas.List.Elements.{filter_agree}
 use mathlib.Core.Path.{fun_ext}
-use Rattle.fd_model.specs.Term.{Name}
-use Rattle.fd_model.specs.Family.{has, Family, universe, IsRising}
-use Rattle.fd_model.specs.Range.{is_none_left}
+use Rattle.fd_language.specs.Term.{Name}
+use Rattle.fd_language.specs.Family.{has, Family, universe, IsRising}
+use Rattle.fd_language.specs.Range.{is_none_left}
 use Rattle.fd_model.specs.Closed.{constrained}
 use Rattle.fd_model.specs.Goal.{Query, Branch, Program, Event, Answer, End, Budget, start_of}
 use Rattle.fd_model.specs.Run.{Run, over, any, spent, taken}

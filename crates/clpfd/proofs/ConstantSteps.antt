@@ -1,16 +1,17 @@
 -- One goal `V in r` of a constant range: what it makes of a branch of constant ranges.
 use Rattle.std.proofs.Common.{◌≡◌, ℕ, ◌+◌, ◌<◌, ◌≤◌, Bool, true, false, cond, ◌||◌, ◌==◌, pos, List, [], ◌∷◌, ◌++◌, Option, Some, None, filter, refl, ap, sym, ◌∙◌, subst, inl, inr, ◌⊎◌, arith, eqb-true, eq-eqb, ne_eqb}
 use Rattle.std.proofs.lemmas.Bool.{cases_Bool, true≢false, or_left}
-use Rattle.fd_model.specs.Term.{Term, Var, Int, apply}
-use Rattle.fd_model.specs.Family.{has, Family}
-use Rattle.fd_model.specs.Range.{Range, Indexical, is_none_left}
+use Rattle.fd_language.specs.Term.{Term, Var, Int, apply}
+use Rattle.fd_language.specs.Family.{has, Family}
+use Rattle.fd_language.specs.Range.{Range, Indexical, is_none_left}
 use Rattle.fd_model.specs.Closed.{constrained}
 use Rattle.fd_model.specs.Seen.{IsConsistent, set_at, by_set}
 use Rattle.fd_model.specs.Goal.{Goal, Post, Branch, Program}
-use Rattle.fd_model.specs.Children.{offer, Offer, Gives, by_post, Children, KeptOffer, look_in}
-use Rattle.fd_model.specs.Posting.{Place, place, post, post_at, posts, integer_of, slot}
-use Rattle.fd_model.specs.Renaming.{rename_range}
-use Rattle.fd_model.specs.Check.{fill_range}
+use Rattle.fd_model.specs.Children.{offer, Offer, Gives, by_post, Children, KeptOffer, look_in, sets_in}
+use Rattle.fd_language.specs.Places.{Place, place}
+use Rattle.fd_model.specs.Posting.{post, post_at, posts, integer_of, slot}
+use Rattle.fd_language.specs.RangeRenaming.{rename_range}
+use Rattle.fd_language.specs.Check.{fill_range}
 use Rattle.clpfd.specs.ConstantLines.{ConstantGoal, IsConstant, post_of, in_constant, narrow_one}
 use Rattle.clpfd.proofs.ConstantRanges.{range_same}
 use Rattle.clpfd.proofs.ConstantBranches.{Known, sub, by_known, D, D_high, D_target, D_other, D_known, Plain, view, domains_in, consistent, not_consistent, range_on, target_constrained, still_constrained, constrained_is, more_known, known_new, known_old, binds_more, not_known, fresh_set, fresh_has}
@@ -72,13 +73,13 @@ post_fixed look v f m r c e =
     ∙ fixed_shape look v f m r e
     ∙ ap (λ q. posts (range_on f q) (f + 1) (record { left = Var f; right = Int (pos m) } ∷ [])) (range_same (λ y. integer_of (look y)) (slot f (v ∷ [])) r c)
 
-offer_open : (prog : Program) (look : ℕ → Term) (b : Branch) (rest : List Goal) (v : ℕ) (r : Range) → IsConstant r → look v ≡ Var v → offer prog look b (Post (Var v) r) rest ≡ Gives (open_child b rest v r ∷ [])
+offer_open : (M : ℕ) (prog : Program) (look : ℕ → Term) (sets : ℕ → Option (List ℕ)) (b : Branch) (rest : List Goal) (v : ℕ) (r : Range) → IsConstant r → look v ≡ Var v → offer M prog look sets b (Post (Var v) r) rest ≡ Gives (open_child b rest v r ∷ [])
 unfolding open_child
-offer_open prog look b rest v r c e = ap (by_post b rest) (post_open look v b.fresh r c e)
+offer_open M prog look sets b rest v r c e = ap (by_post b rest) (post_open look v b.fresh r c e)
 
-offer_fixed : (prog : Program) (look : ℕ → Term) (b : Branch) (rest : List Goal) (v m : ℕ) (r : Range) → IsConstant r → look v ≡ Int (pos m) → offer prog look b (Post (Var v) r) rest ≡ Gives (fixed_child b rest m r ∷ [])
+offer_fixed : (M : ℕ) (prog : Program) (look : ℕ → Term) (sets : ℕ → Option (List ℕ)) (b : Branch) (rest : List Goal) (v m : ℕ) (r : Range) → IsConstant r → look v ≡ Int (pos m) → offer M prog look sets b (Post (Var v) r) rest ≡ Gives (fixed_child b rest m r ∷ [])
 unfolding fixed_child
-offer_fixed prog look b rest v m r c e = ap (by_post b rest) (post_fixed look v b.fresh m r c e)
+offer_fixed M prog look sets b rest v m r c e = ap (by_post b rest) (post_fixed look v b.fresh m r c e)
 
 pub apart : (x n : ℕ) → x < n → (n == x) ≡ false
 apart x n h = ne_eqb n x (λ e. omega arith)
@@ -157,7 +158,7 @@ pub data Led (M n : ℕ) (prog : Program) (val : Known) (b : Branch) (g : Consta
       → Children M prog b (post_of g) rest (sub val) (D M val b.posted) (Gives (c ∷ [])) → Led M n prog val b g rest S
 
 by_offer : (M : ℕ) (prog : Program) (val : Known) (b c : Branch) (g : Goal) (rest : List Goal) → Plain val b.equations b.posted
-    → offer prog (look_in b (sub val) (D M val b.posted)) b g rest ≡ Gives (c ∷ []) → (o : Offer) → KeptOffer M (Gives (c ∷ [])) o → Children M prog b g rest (sub val) (D M val b.posted) o
+    → offer M prog (look_in b (sub val) (D M val b.posted)) (sets_in b (sub val) (D M val b.posted)) b g rest ≡ Gives (c ∷ []) → (o : Offer) → KeptOffer M (Gives (c ∷ [])) o → Children M prog b g rest (sub val) (D M val b.posted) o
 by_offer M prog val b c g rest p e o k = record { view = view M val b.equations b.posted p; kept = subst (λ q. KeptOffer M q o) (sym e) k }
 
 kept_one : (M : ℕ) (c : Branch) → IsConsistent M c.equations c.posted → KeptOffer M (Gives (c ∷ [])) (Gives (c ∷ []))
@@ -173,7 +174,7 @@ led_open : (M n : ℕ) (prog : Program) (val : Known) (b : Branch) (g : Constant
     → by_set (cond (has (constrained b.posted) g.variable) (Some (S g.variable)) None) g.variable ≡ Var g.variable → Led M n prog val b g rest S
 unfolding open_child
 led_open M n prog val b g rest S a l s i e =
-    let offered = offer_open prog (look_in b (sub val) (D M val b.posted)) b rest g.variable g.range a (look_at M n val b S g.variable l s ∙ e) in
+    let offered = offer_open M prog (look_in b (sub val) (D M val b.posted)) (sets_in b (sub val) (D M val b.posted)) b rest g.variable g.range a (look_at M n val b S g.variable l s ∙ e) in
     let next : State M n val (open_child b rest g.variable g.range) (narrow_one M g S) = open_state M n val b rest g S a l s in
     let here : has (constrained (open_child b rest g.variable g.range).posted) g.variable ≡ true = target_constrained b.posted g.variable g.range in
     elim (empty_or_some (narrow_one M g S g.variable)) [
@@ -253,7 +254,7 @@ led_fixed : (M n : ℕ) (prog : Program) (val : Known) (b : Branch) (g : Constan
 unfolding fixed_child
 led_fixed M n prog val b g rest S m a l s i c e =
     let seen_one : by_set (cond (has (constrained b.posted) g.variable) (Some (S g.variable)) None) g.variable ≡ Int (pos m) = rw (c, e) refl in
-    let offered = offer_fixed prog (look_in b (sub val) (D M val b.posted)) b rest g.variable m g.range a (look_at M n val b S g.variable l s ∙ seen_one) in
+    let offered = offer_fixed M prog (look_in b (sub val) (D M val b.posted)) (sets_in b (sub val) (D M val b.posted)) b rest g.variable m g.range a (look_at M n val b S g.variable l s ∙ seen_one) in
     let low : m ≤ M = D_high M val b.posted g.variable m (subst (λ q. has q m ≡ true) (sym (s.shown g.variable l ∙ e)) (or_left (m == m) false (eq-eqb m m refl))) in
     elim (cases_Bool (in_constant M g.range m)) [
       | inl t ↦

@@ -2,13 +2,14 @@
 use Rattle.std.proofs.Common.{◌≡◌, ℕ, suc, ◌+◌, ◌<◌, ◌≤◌, Bool, true, false, cond, not, ◌==◌, List, [], ◌∷◌, ◌++◌, Some, None, filter, refl, ap, sym, ◌∙◌, subst, inl, inr, ◌⊎◌, arith, eqb-true, eq-eqb, ne_eqb}
 use Rattle.std.specs.Prelude.{map, codes, decimal}
 use Rattle.std.proofs.lemmas.Bool.{true≢false, or_left, or_right, or_cases}
-use Rattle.fd_model.specs.Term.{Name, Term, Terms, Var}
-use Rattle.fd_model.specs.Family.{has, Family, IsRising}
+use Rattle.fd_language.specs.Term.{Name, Term, Terms, Var}
+use Rattle.fd_language.specs.Family.{has, Family, IsRising}
 use Rattle.fd_model.specs.Closed.{constrained}
 use Rattle.fd_model.specs.Seen.{by_set}
 use Rattle.fd_model.specs.Goal.{Query, Branch}
 use Rattle.fd_model.specs.Children.{look_in}
-use Rattle.fd_model.specs.Lines.{joined, domain_text, domain_part, variables_of, variables_of_all, distinct, place_in, open_text, as_terms, equals_text, line_of, answer_line}
+use Rattle.fd_language.specs.Variables.{variables_of, variables_of_all, distinct}
+use Rattle.fd_model.specs.Lines.{joined, domain_text, domain_part, place_in, open_text, as_terms, equals_text, line_of, answer_line}
 use Rattle.clpfd.specs.ConstantLines.{value_texts, constant_line, family_line}
 use Rattle.clpfd.proofs.ConstantBranches.{Known, sub, D}
 use Rattle.clpfd.proofs.ConstantSteps.{State, look_at, set_found}

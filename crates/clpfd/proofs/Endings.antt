@@ -3,7 +3,7 @@ use Rattle.std.proofs.Common.{◌≡◌, ◌≢◌, ℕ, ◌<◌, ◌≤◌, ◌
 use Rattle.fd_model.specs.declared.Status.{Status}
 use Rattle.fd_model.specs.declared.Status.TheVariants.{Done, Usage, Refused, Stopped, ReadFault, WriteFault, NoMemory}
 use Rattle.fd_model.specs.Verdict.{Verdict, accepted, refused, max_text, sentences_verdict, reading_verdict}
-use Rattle.fd_model.specs.Reading.{Reading, sentences, IsReading}
+use Rattle.fd_language.specs.Reading.{Reading, sentences, IsReading}
 use Rattle.fd_model.specs.Refusals.{Refusal, first_refusal}
 use Rattle.fd_model.specs.Queries.{program_of}
 use Rattle.fd_model.specs.Output.{Output, VerdictOutput, refusal, usage, stop_status}

@@ -5,7 +5,7 @@ use Rattle.std.specs.Str.{bytes_eq}
 use Rattle.std.specs.Option.{option_eq}
 use Rattle.std.proofs.lemmas.Bool.Decides.{eqb_tells}
 use Rattle.std.proofs.lemmas.Slice.Eq.{bytes_eq-Decides}
-use Rattle.fd_model.specs.PlacedTerm.{PlacedTerm}
+use Rattle.fd_language.specs.PlacedTerm.{PlacedTerm}
 use Rattle.fd_model.specs.Refusals as model
 use Rattle.fd_model.specs.Refusals.{is_that}
 use Rattle.term_pool.specs.declared.AtomId.{AtomId}

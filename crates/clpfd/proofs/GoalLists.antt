@@ -7,7 +7,7 @@ use Rattle.term_pool.specs.Terms.{term_of, size, total_size}
 use Rattle.term_pool.proofs.Walks.{total_size-nil, total_size-cons, total_size-append}
 use Rattle.clpfd.specs.declared.check.Queries.{Queries}
 use Rattle.clpfd.specs.declared.goals.Goal.{Goal}
-use Rattle.fd_model.specs.PlacedTerm.{PlacedTerm}
+use Rattle.fd_language.specs.PlacedTerm.{PlacedTerm}
 use Rattle.fd_model.specs.Refusals as model
 use Rattle.fd_model.specs.Refusals.{or_later, goals_of, goal_refusal, goals_refusal}
 use Rattle.term_pool.specs.declared.TermId.{TermId}

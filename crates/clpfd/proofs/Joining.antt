@@ -2,7 +2,7 @@
 use Rattle.std.proofs.Common.{◌≡◌, ℕ, zero, suc, ◌+◌, ◌<◌, ◌≤◌, List, [], ◌∷◌, ◌++◌, refl, ap, sym, ◌∙◌, subst, arith, append_assoc, length, map, take, slice_index_or, codes}
 use Rattle.std.proofs.lemmas.List.{length-take-le, take_more}
 use Rattle.clpfd.specs.declared.solve.Shown.{Shown}
-use Rattle.fd_model.specs.Term.{Name}
+use Rattle.fd_language.specs.Term.{Name}
 use Rattle.fd_model.specs.Lines.{joined, interval_text, intervals, domain_text}
 use Rattle.domain_ranges.specs.Spans.{IsSpans, members}
 use Rattle.clpfd.specs.ConstantLines.{value_text, value_texts, number_after}

@@ -2,8 +2,8 @@
 use Rattle.std.proofs.Common.{◌≡◌, ℕ, zero, suc, ◌+◌, ◌<◌, Bool, true, false, ◌||◌, List, [], ◌∷◌, ◌++◌, refl, ap, sym, ◌∙◌, subst, arith, Option, Some, None, MatchOption, Vec, Global, length, map, filter, take, drop, slice_index_or, slice_set, eq-eqb}
 use Rattle.std.specs.List.{range_with_len}
 use Rattle.std.proofs.lemmas.List.{take_more}
-use Rattle.fd_model.specs.Family.{Family, has, universe}
-use Rattle.fd_model.specs.Range.{is_none_left}
+use Rattle.fd_language.specs.Family.{Family, has, universe}
+use Rattle.fd_language.specs.Range.{is_none_left}
 use Rattle.clpfd.specs.declared.goals.Goal.{Goal}
 use Rattle.clpfd.specs.Checked.{SetGoal, set_goal}
 use Rattle.clpfd.specs.Shown.{narrow_by, narrow_all, leaves_none, narrowed_set, IsNumbered, VariablesBelow}

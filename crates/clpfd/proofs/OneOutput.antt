@@ -6,13 +6,13 @@ use Rattle.std.proofs.lemmas.Bool.{cases_Bool, cases_lt, true≢false}
 use Rattle.std.proofs.lemmas.Str.{IsUtf8-from_is_utf8, is_utf8-from_IsUtf8}
 use Rattle.fd_model.specs.declared.Status.{Status}
 use Rattle.fd_model.specs.declared.Status.TheVariants.{Usage, Refused}
-use Rattle.fd_model.specs.Reading.{Sentence, Reading, sentences, token_fault, syntax_fault, too_deep, IsReading, IsSentences}
+use Rattle.fd_language.specs.Reading.{Sentence, Reading, sentences, token_fault, syntax_fault, too_deep, IsReading, IsSentences}
 use Rattle.fd_model.specs.Refusals.{Refusal, first_refusal}
 use Rattle.fd_model.specs.Queries.{program_of}
 use Rattle.fd_model.specs.Verdict.{Verdict, accepted, refused, max_text, cause_name, sentences_verdict, reading_verdict, IsVerdict}
 use Rattle.fd_model.specs.Output.{Output, VerdictOutput, refusal, usage, stop_status}
 use Rattle.fd_model.proofs.Unique.{queries_once}
-use Rattle.fd_model.proofs.ReadingLaws.{one_verdict_of_reading}
+use Rattle.fd_language.proofs.ReadingLaws.{one_verdict_of_reading}
 use Rattle.term_reader.proofs.Readable.{each_is_read}
 use Rattle.clpfd.specs.OneOutput.{OneOutput}
 use Rattle.clpfd.specs.QueryOutputs.{sentences_output, sentences_stop}

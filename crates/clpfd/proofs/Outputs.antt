@@ -5,8 +5,8 @@ use Rattle.std.proofs.lemmas.List.{take_more, length-map}
 use Rattle.std.proofs.lemmas.Grind.{flat_map-append}
 use Rattle.fd_model.specs.Lines.{line, events_bytes}
 use Rattle.fd_model.specs.Output.{is_stop, or_stop}
-use Rattle.fd_model.specs.PlacedTerm.{PlacedTerm, atom, plain}
-use Rattle.fd_model.specs.Reading as model
+use Rattle.fd_language.specs.PlacedTerm.{PlacedTerm, atom, plain}
+use Rattle.fd_language.specs.Reading as model
 use Rattle.fd_model.specs.Refusals.{first_refusal}
 use Rattle.byte_ports.specs.Ports.{Put, PutPart}
 use Rattle.byte_ports.proofs.Pieces.{put_more, part_more, part_longer, rose_since}

@@ -2,8 +2,8 @@
 use Rattle.std.proofs.Common.{◌≡◌, ℕ, Bool, true, false, cond, List, Option, Some, None, refl, sym, ap, ◌∙◌}
 use Rattle.std.specs.Prelude.{codes}
 use Rattle.std.specs.Str.{bytes_eq}
-use Rattle.fd_model.specs.Term.{Name}
-use Rattle.fd_model.specs.PlacedTerm.{PlacedTerm, var, int, atom, comp, no_parts, part, place}
+use Rattle.fd_language.specs.Term.{Name}
+use Rattle.fd_language.specs.PlacedTerm.{PlacedTerm, var, int, atom, comp, no_parts, part, place}
 use Rattle.fd_model.specs.Refusals.{goal_refusal, range_refusal, posted_range}
 use Rattle.term_pool.proofs.Names.{same_text}
 use Rattle.clpfd.specs.Checked.{SetGoal}

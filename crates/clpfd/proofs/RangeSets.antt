@@ -2,16 +2,16 @@
 use Rattle.std.proofs.Common.{◌≡◌, ℕ, ◌≤◌, ◌-◌, ◌^◌, ℤ, pos, true, List, [], ◌∷◌, length, map, filter, Some, None, refl, ap, sym, ◌∙◌, subst, arith, codes}
 use Rattle.std.specs.Prelude.{nat_abs, int_le, ◌&&◌, ◌==◌}
 use Rattle.std.proofs.lemmas.Bool.{le-ltb}
-use Rattle.fd_model.specs.PlacedTerm.{PlacedTerm, int, comp, two}
-use Rattle.fd_model.specs.Family.{Family, universe}
-use Rattle.fd_model.specs.Range.{Range, Span, Number, set_of}
-use Rattle.fd_model.specs.Renaming.{rename_range}
-use Rattle.fd_model.specs.Check.{fill_range}
-use Rattle.fd_model.specs.RangeVerdict.{is_accepted}
-use Rattle.fd_model.specs.Posting.{Place, range_places}
-use Rattle.fd_model.specs.Needs.{once}
+use Rattle.fd_language.specs.PlacedTerm.{PlacedTerm, int, comp, two}
+use Rattle.fd_language.specs.Family.{Family, universe}
+use Rattle.fd_language.specs.Range.{Range, Span, Number, set_of}
+use Rattle.fd_language.specs.RangeRenaming.{rename_range}
+use Rattle.fd_language.specs.Check.{fill_range}
+use Rattle.fd_language.specs.RangeVerdict.{is_accepted}
+use Rattle.fd_language.specs.Places.{Place, range_places}
+use Rattle.fd_language.specs.Needs.{once}
 use Rattle.fd_model.specs.Refusals.{refused_at, unless_constant, offence_refusal, or_later}
-use Rattle.fd_model.proofs.Yes.{verdict_agrees}
+use Rattle.fd_language.proofs.Yes.{verdict_agrees}
 use Rattle.range_code.specs.Slots.{slots_of}
 use Rattle.clpfd.specs.Checked.{IsSpan}
 use Rattle.clpfd.specs.Headline.{M}

@@ -3,12 +3,12 @@ use Rattle.std.proofs.Common.{◌≡◌, ℕ, Bool, true, false, cond, List, [],
 use Rattle.std.specs.Prelude.{map, min, codes}
 use Rattle.std.specs.Str.{bytes_eq}
 use Rattle.std.proofs.lemmas.List.{append-nil, map-append}
-use Rattle.fd_model.specs.Term.{Name}
-use Rattle.fd_model.specs.Range.{Range, Span, One, Union, Inter, Outside, Plus, Minus, Times, Over, Expr, Infinity, Min, Max, Val, Add, Sub, Mul, DivDown, DivUp}
-use Rattle.fd_model.specs.Posting.{Place, expr_places, range_places}
-use Rattle.fd_model.specs.Lines.{variables_of}
-use Rattle.fd_model.specs.PlacedTerm.{PlacedTerm, var, int, atom, comp, no_parts, part, plain}
-use Rattle.fd_model.specs.Spelling.{Reading, read, offends, read_one, expr_operator, expr_feature, read_feature, read_operator, read_expr, RangeForm, of_terms, of_ranges, pointwise, no_form, range_form, empty_range, read_form, read_dom, read_single, read_range, least_place, not_a_range}
+use Rattle.fd_language.specs.Term.{Name}
+use Rattle.fd_language.specs.Range.{Range, Span, One, Union, Inter, Outside, Plus, Minus, Times, Over, Expr, Infinity, Min, Max, Val, Add, Sub, Mul, DivDown, DivUp}
+use Rattle.fd_language.specs.Places.{Place, expr_places, range_places}
+use Rattle.fd_language.specs.Variables.{variables_of}
+use Rattle.fd_language.specs.PlacedTerm.{PlacedTerm, var, int, atom, comp, no_parts, part, plain}
+use Rattle.fd_language.specs.Spelling.{Reading, read, offends, read_one, expr_operator, expr_feature, read_feature, read_operator, read_expr, RangeForm, of_terms, of_ranges, pointwise, no_form, range_form, empty_range, read_form, read_dom, read_single, read_range, least_place, not_a_range}
 
 -- the variables that stand at these places
 abbrev pub variables_at : List Place → List ℕ

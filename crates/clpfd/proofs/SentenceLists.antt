@@ -5,8 +5,8 @@ use Rattle.std.specs.List.{flat_map, list_any}
 use Rattle.std.proofs.lemmas.List.{take_more, map-append, length-map}
 use Rattle.std.proofs.lemmas.Grind.{flat_map-append}
 use Rattle.std.proofs.Math.Seq.{split_at}
-use Rattle.fd_model.specs.PlacedTerm.{PlacedTerm}
-use Rattle.fd_model.specs.Spelling.{least_place}
+use Rattle.fd_language.specs.PlacedTerm.{PlacedTerm}
+use Rattle.fd_language.specs.Spelling.{least_place}
 use Rattle.fd_model.specs.Refusals as model
 use Rattle.fd_model.specs.Refusals.{Form, query, form_of, goals_of, or_later, wide_places, too_wide, form_refusal, sentence_refusal, first_refusal}
 use Rattle.term_pool.specs.Contents.{Contents}

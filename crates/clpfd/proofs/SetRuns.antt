@@ -4,10 +4,10 @@ use Rattle.std.specs.Prelude.{set}
 use Rattle.std.specs.List.{range_with_len}
 use Rattle.std.proofs.lemmas.List.Folds.{list_any-append}
 use mathlib.Core.Path.{fun_ext}
-use Rattle.fd_model.specs.Family.{Family, has, universe, IsRising}
-use Rattle.fd_model.specs.Range.{is_none_left}
-use Rattle.fd_model.proofs.Sets.{universe_rising}
-use Rattle.fd_model.proofs.Greatest.{rising-filter}
+use Rattle.fd_language.specs.Family.{Family, has, universe, IsRising}
+use Rattle.fd_language.specs.Range.{is_none_left}
+use Rattle.fd_language.proofs.Sets.{universe_rising}
+use Rattle.fd_language.proofs.Greatest.{rising-filter}
 use Rattle.clpfd.specs.Headline.{M}
 use Rattle.clpfd.specs.Checked.{SetGoal, goal_set}
 use Rattle.clpfd.specs.ConstantLines.{ConstantGoal, in_constant, narrow_one, narrow_each, some_empty}

@@ -4,8 +4,8 @@ use Rattle.std.specs.Prelude.{min}
 use Rattle.std.specs.List.{take-map}
 use Rattle.std.proofs.lemmas.Bool.{le-ltb, lt-ltb}
 use Rattle.std.proofs.lemmas.List.{take_all, length-map}
-use Rattle.fd_model.specs.Term.{Name}
-use Rattle.fd_model.specs.Family.{Family, universe}
+use Rattle.fd_language.specs.Term.{Name}
+use Rattle.fd_language.specs.Family.{Family, universe}
 use Rattle.fd_model.specs.Goal.{Answer, End, Budget}
 use Rattle.clpfd.specs.declared.goals.Goal.{Goal}
 use Rattle.clpfd.specs.Headline.{M}

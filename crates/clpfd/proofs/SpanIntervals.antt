@@ -1,7 +1,7 @@
 -- The intervals of a set are the spans that it is made of.
 use Rattle.std.proofs.Common.{◌≡◌, ℕ, zero, suc, ◌+◌, ◌-◌, ◌≤◌, List, [], ◌∷◌, ◌++◌, refl, ap, sym, ◌∙◌, subst, arith}
 use Rattle.std.specs.Prelude.{map}
-use Rattle.fd_model.specs.Family.{IsRising, count_up}
+use Rattle.fd_language.specs.Family.{IsRising, count_up}
 use Rattle.fd_model.specs.Lines.{intervals}
 use Rattle.domain_ranges.specs.Spans.{Span, IsSpans, members}
 use Rattle.clpfd.proofs.ConstantSets.{intervals_run}

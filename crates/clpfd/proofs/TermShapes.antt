@@ -2,8 +2,8 @@
 use Rattle.std.proofs.Common.{◌≡◌, ℕ, suc, ◌<◌, ◌≤◌, Bool, true, false, List, [], ◌∷◌, None, refl, sym, ap, ◌∙◌, subst, arith, length, cond}
 use Rattle.std.specs.Prelude.{codes}
 use Rattle.std.specs.Str.{bytes_eq}
-use Rattle.fd_model.specs.Term.{Name}
-use Rattle.fd_model.specs.PlacedTerm.{PlacedTerm, PlacedTerms, var, int, atom, comp, part}
+use Rattle.fd_language.specs.Term.{Name}
+use Rattle.fd_language.specs.PlacedTerm.{PlacedTerm, PlacedTerms, var, int, atom, comp, part}
 use Rattle.fd_model.specs.Refusals.{clause, fact, form_of, head_in, functor_of, goals_of, posted_range, count}
 use Rattle.term_pool.specs.declared.TermId.{TermId}
 use Rattle.term_pool.specs.PlacedTerms.{parts_by}

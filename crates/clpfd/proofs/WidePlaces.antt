@@ -1,7 +1,7 @@
 -- The smallest place of a compound term with too many arguments, among the terms that a walk has passed and those that it has before it.
 use Rattle.std.proofs.Common.{◌≡◌, ℕ, ◌<◌, ◌≤◌, Bool, true, false, cond, nat_lt, min, List, [], ◌∷◌, ◌++◌, Option, Some, None, refl, sym, ap, ◌∙◌, arith, length, Bor}
-use Rattle.fd_model.specs.PlacedTerm.{PlacedTerm, comp}
-use Rattle.fd_model.specs.Spelling.{least_place}
+use Rattle.fd_language.specs.PlacedTerm.{PlacedTerm, comp}
+use Rattle.fd_language.specs.Spelling.{least_place}
 use Rattle.fd_model.specs.Refusals.{wide_places, wide_places_of, count}
 use Rattle.term_pool.specs.declared.TermId.{TermId}
 use Rattle.term_pool.specs.Contents.{Contents}

@@ -1,14 +1,14 @@
 -- What the checking of a text's sentences keeps, and what it refuses.
 use Rattle.std.specs.Prelude.{◌≡◌, ℕ, ◌+◌, ◌<◌, Bool, true, false, List, [], ◌∷◌, ◌++◌, length, map, Option, Some, None, Result, MatchResult, codes, min}
 use Rattle.std.specs.List.{flat_map}
-use Rattle.fd_model.specs.PlacedTerm.{PlacedTerm, var, comp, no_parts, part, place}
-use Rattle.fd_model.specs.Range.{Range}
-use Rattle.fd_model.specs.Spelling.{read_range, empty_range, least_place}
+use Rattle.fd_language.specs.PlacedTerm.{PlacedTerm, var, comp, no_parts, part, place}
+use Rattle.fd_language.specs.Range.{Range}
+use Rattle.fd_language.specs.Spelling.{read_range, empty_range, least_place}
 use Rattle.fd_model.specs.Refusals as model
 use Rattle.fd_model.specs.Refusals.{Form, query, clause, directive, fact, form_of, head_in, goals_of, posted_range, first_refusal, refused_at, functor_name, range_refusal, unless_constant, goal_refusal, goals_refusal, sentence_refusal, wide_places}
 use Rattle.monotone_check.specs.declared.CheckFault as check
 use Rattle.monotone_check.specs.declared.CheckFault.TheVariants as offence
-use Rattle.fd_model.specs.Posting.{range_places}
+use Rattle.fd_language.specs.Places.{range_places}
 use Rattle.term_pool.specs.declared.TermId.{TermId}
 use Rattle.term_pool.specs.Contents.{Contents, Shape, atom_name}
 use Rattle.term_pool.specs.Terms.{term_of, size}

@@ -1,10 +1,10 @@
 -- Queries whose goals are all `V in r`, where the range r names no variable: the sets that the goals leave, the answer's line and the events.
 use Rattle.std.specs.Prelude.{◌≡◌, ◌<◌, ℕ, zero, suc, Bool, true, ◌||◌, ◌&&◌, not, ◌==◌, if◌then◌else◌, nat_lt, ℤ, pos, int_le, List, [], ◌∷◌, ◌++◌, length, map, filter, take, codes, decimal}
 use Rattle.std.specs.List.{list_any}
-use Rattle.fd_model.specs.Term.{Name, Var}
-use Rattle.fd_model.specs.Family.{Family, has, universe, IsRising}
-use Rattle.fd_model.specs.Range.{Range, in_set, set_of, is_none_left}
-use Rattle.fd_model.specs.Posting.{range_places}
+use Rattle.fd_language.specs.Term.{Name, Var}
+use Rattle.fd_language.specs.Family.{Family, has, universe, IsRising}
+use Rattle.fd_language.specs.Range.{Range, in_set, set_of, is_none_left}
+use Rattle.fd_language.specs.Places.{range_places}
 use Rattle.fd_model.specs.Goal.{Goal, Post, Query, Event, Answer, End, Budget}
 use Rattle.fd_model.specs.Lines.{domain_text, joined}
 

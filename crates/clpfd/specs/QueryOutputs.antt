@@ -3,8 +3,8 @@ use Rattle.std.specs.Prelude.{ℕ, ◌+◌, Bool, false, List, [], ◌∷◌, �
 use Rattle.fd_model.specs.Goal.{Event}
 use Rattle.fd_model.specs.Lines.{line, events_bytes}
 use Rattle.fd_model.specs.Output.{is_stop, or_stop}
-use Rattle.fd_model.specs.Reading.{Sentence}
-use Rattle.fd_model.specs.Term.{Name}
+use Rattle.fd_language.specs.Reading.{Sentence}
+use Rattle.fd_language.specs.Term.{Name}
 use Rattle.fd_model.specs.Queries.{is_shown, shown_from}
 use Rattle.clpfd.specs.Checked.{query_goals}
 use Rattle.clpfd.specs.ConstantLines.{ConstantGoal, constant_events}

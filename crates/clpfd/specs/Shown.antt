@@ -1,9 +1,9 @@
 -- Variables, domains and texts as the code holds them.
 use Rattle.std.specs.Prelude.{◌≡◌, ◌<◌, ℕ, zero, suc, List, [], ◌∷◌, ◌==◌, if◌then◌else◌, length, map, filter, slice_index_or, codes, All, Bool}
 use Rattle.std.specs.List.{list_any, range_with_len}
-use Rattle.fd_model.specs.Term.{Name}
-use Rattle.fd_model.specs.Family.{Family, has}
-use Rattle.fd_model.specs.Range.{is_none_left}
+use Rattle.fd_language.specs.Term.{Name}
+use Rattle.fd_language.specs.Family.{Family, has}
+use Rattle.fd_language.specs.Range.{is_none_left}
 use Rattle.fd_model.specs.Lines.{Interval, interval_text, joined}
 use Rattle.fd_model.specs.Goal.{Event, Answer, End, Budget}
 use Rattle.fd_model.specs.Queries.{is_shown, shown_from}

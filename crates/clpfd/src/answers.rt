@@ -19,7 +19,7 @@ use crate::lines::{put_number, put_values};
 use crate::solve::{Outcome, Shown, shown_variables, solve};
 use byte_ports::{Sink, write_all};
 use domain_ranges::Domain;
-use fd_model::NoMemory;
+use fd_language::NoMemory;
 use std::alloc::Global;
 use term_pool::{AtomId, Pool};
 use term_reader::Sentences;

@@ -1,6 +1,6 @@
 //! The sentences of a text, checked from the first to the last.
 ghost use Rattle.std.specs.Prelude.{◌≡◌, ◌<◌, [], Some, None, length, map, IfOk, IfErr, OnOk, OnErr, MatchResult, Contains};
-ghost use Rattle.fd_model.specs.PlacedTerm.{place};
+ghost use Rattle.fd_language.specs.PlacedTerm.{place};
 ghost use Rattle.fd_model.specs.Refusals as Refusals;
 ghost use Rattle.fd_model.specs.Refusals.{goals_of, goals_refusal, posted_range, form_of, head_in, is_that, refused_at, sentence_refusal};
 ghost use Rattle.term_pool.specs.PlacedTerms.{placed_of};
@@ -12,7 +12,7 @@ use crate::forms::{is_built_in, is_not_yet, is_reserved};
 use crate::goals::{Goal, conjunction, functor_of, head_of, look, post_of, query_body};
 use crate::ranges::constant_set;
 use crate::refusal::{CheckFault, Functor, Reason, Refusal};
-use fd_model::NoMemory;
+use fd_language::NoMemory;
 use std::alloc::Global;
 use term_pool::{Node, Pool, TermId};
 use term_reader::Sentences;

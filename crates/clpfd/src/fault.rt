@@ -4,7 +4,8 @@ ghost use Rattle.std.specs.Prelude.{◌≡◌};
 ghost use Rattle.clpfd.specs.Headline.{fault_status};
 
 use byte_ports::WriteFault;
-use fd_model::{NoMemory, Status};
+use fd_language::NoMemory;
+use fd_model::Status;
 use std::alloc::{AllocError, AllocFailed};
 use thiserror::Error;
 

@@ -6,7 +6,7 @@ ghost use Rattle.clpfd.specs.Shown.{interval_of_span, spans_text, separator_at, 
 
 use crate::solve::Shown;
 use domain_ranges::Domain;
-use fd_model::NoMemory;
+use fd_language::NoMemory;
 use itoa::Buffer;
 
 /// Appends a number in decimal.

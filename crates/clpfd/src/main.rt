@@ -2,8 +2,8 @@
 #![tactic(auto)]
 
 ghost use Rattle.std.specs.Prelude.{◌≡◌, ◌≢◌, ◌≤◌, ℕ, None, List, [], length, map, string_bytes, IfOk};
-ghost use Rattle.fd_model.specs.Reading as Reading;
-ghost use Rattle.fd_model.specs.Reading.{IsReading};
+ghost use Rattle.fd_language.specs.Reading as Reading;
+ghost use Rattle.fd_language.specs.Reading.{IsReading};
 ghost use Rattle.fd_model.specs.Refusals.{first_refusal};
 ghost use Rattle.fd_model.specs.Output.{Output, refusal as refusal_line, stop_status};
 ghost use Rattle.fd_model.specs.Verdict as Verdict;
@@ -32,7 +32,7 @@ use byte_ports::{
 };
 use char_tokens::{TokenCause, TokenFault};
 use check::{Queries, check_sentences};
-use fd_model::NoMemory;
+use fd_language::NoMemory;
 pub use fd_model::Status;
 use lines::put_number;
 use refusal::{CheckFault, Refusal, reason_bytes};

@@ -1,13 +1,13 @@
 //! The sets of ranges that name no variable.
 ghost use Rattle.std.specs.Prelude.{◌≡◌, ◌<◌, [], length, MatchResult, IsTrue};
-ghost use Rattle.fd_model.specs.RangeVerdict.{is_accepted};
+ghost use Rattle.fd_language.specs.RangeVerdict.{is_accepted};
 ghost use Rattle.term_pool.specs.PlacedTerms.{placed_of};
 ghost use Rattle.clpfd.specs.Checked.{IsConstantSet, IsFaultOf, IsSetOf, IsSpan};
 
 use crate::goals::look;
 use crate::refusal::{CheckFault, Reason, Refusal};
 use domain_ranges::{Domain, View};
-use fd_model::NoMemory;
+use fd_language::NoMemory;
 use monotone_check::{Checked, check};
 use range_code::{Activations, compile_range, run_range};
 use range_terms::{RangeFault, read_range};

@@ -6,7 +6,7 @@ ghost use Rattle.term_pool.specs.Contents.{Contents};
 ghost use Rattle.clpfd.specs.Checked.{functor_in, reason_text, reason_words, IsReasonIn};
 
 use crate::lines::put_number;
-use fd_model::NoMemory;
+use fd_language::NoMemory;
 use std::alloc::{AllocFailed, Global};
 use term_pool::{AtomId, Pool};
 use term_writer::write_atom;

@@ -1,9 +1,9 @@
 //! The variables of a query and what its goals leave them.
 ghost use Rattle.std.specs.Prelude.{◌≡◌, ◌<◌, true, false, not, List, ℕ, length, map, slice_set, IfOk, OnOk, MatchOption};
 ghost use Rattle.std.specs.List.{range_with_len};
-ghost use Rattle.fd_model.specs.Term.{Name};
-ghost use Rattle.fd_model.specs.Family.{universe};
-ghost use Rattle.fd_model.specs.Range.{is_none_left};
+ghost use Rattle.fd_language.specs.Term.{Name};
+ghost use Rattle.fd_language.specs.Family.{universe};
+ghost use Rattle.fd_language.specs.Range.{is_none_left};
 ghost use Rattle.clpfd.specs.Headline.{M};
 ghost use Rattle.clpfd.specs.Checked.{set_goal, goal_set};
 ghost use Rattle.clpfd.specs.ConstantLines.{ConstantGoal, constant_events};
@@ -11,7 +11,7 @@ ghost use Rattle.clpfd.specs.Shown.{AreNames, AreShown, names_in, narrow_all, le
 
 use crate::goals::Goal;
 use domain_ranges::Domain;
-use fd_model::{INFINITY, NoMemory};
+use fd_language::{INFINITY, NoMemory};
 use std::alloc::Global;
 use term_pool::{AtomId, Pool};
 

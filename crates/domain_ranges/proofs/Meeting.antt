@@ -3,7 +3,7 @@ use Rattle.std.proofs.Common.{◌≡◌, ℕ, suc, ◌+◌, ◌<◌, ◌≤◌, 
 use Rattle.std.proofs.lemmas.Bool.{cases_Bool}
 use Rattle.std.proofs.lemmas.Bool.Decides.{nat_tests}
 use Rattle.std.proofs.Math.Seq.{drop-cons}
-use Rattle.fd_model.specs.Family.{universe}
+use Rattle.fd_language.specs.Family.{universe}
 use Rattle.domain_ranges.specs.Spans.{Span, within, IsSpans, members, interval_count, meet}
 use Rattle.domain_ranges.proofs.Spans.{not_within, in_head, past_first, behind_first}
 use Rattle.domain_ranges.proofs.Made.{Made, IsNext, made_none, made_skip, made_push, made_all, made_many}

@@ -4,7 +4,7 @@ use mir.Syntax.{w128}
 use Rattle.std.proofs.lemmas.Bool.{true≢false, or_cases}
 use Rattle.std.proofs.lemmas.Bool.Decides.{nat_tests}
 use Rattle.std.proofs.lemmas.Int.{ints}
-use Rattle.fd_model.specs.Family.{universe}
+use Rattle.fd_language.specs.Family.{universe}
 use Rattle.domain_ranges.specs.Spans.{Span, IsSpans, members, interval_count, shifted}
 use Rattle.domain_ranges.proofs.Made.{Made, IsNext, made_none, made_push, made_all, made_many}
 use Rattle.domain_ranges.proofs.Meeting.{drop_next}

@@ -1,8 +1,8 @@
 -- Sets of numbers that are made from a set and an integer.
 use Rattle.std.specs.Prelude.{ℕ, Bool, ◌&&◌, ℤ, pos, ◌+ℤ◌, ◌*ℤ◌, List}
 use Rattle.std.specs.Ordering.{int_eq}
-use Rattle.fd_model.specs.Family.{has}
-use Rattle.fd_model.specs.Range.{some_number}
+use Rattle.fd_language.specs.Family.{has}
+use Rattle.fd_language.specs.Range.{some_number}
 
 -- whether the number is e + c for a member e
 abbrev pub is_shifted : ℕ → List ℕ → ℤ → ℕ → Bool

@@ -1,7 +1,7 @@
 -- Sets of numbers as lists of intervals that rise and don't touch.
 use Rattle.std.specs.Prelude.{ℕ, suc, ◌+◌, ◌-◌, ◌≤◌, Bool, false, ◌&&◌, not, ◌==◌, ◌*◌, ◌/◌, nat_le, nat_lt, int_le, ◌+ℤ◌, max, min, if◌then◌else◌, ℤ, pos, negsuc, List, [], ◌∷◌, ◌++◌, filter, length, Option, Some, None}
 use Rattle.std.specs.List.{list_any}
-use Rattle.fd_model.specs.Family.{has, count_up}
+use Rattle.fd_language.specs.Family.{has, count_up}
 
 -- an interval, from its least to its greatest number
 abbrev pub Span : Type 0

@@ -2,9 +2,9 @@
 
 ghost use Rattle.std.specs.Prelude.{◌≡◌, ◌<◌, ◌≤◌, ◌+◌, ◌&&◌, ◌||◌, not, ◌*◌, ◌^◌, ◌<ℤ◌, neg_ℤ, IsTrue, IsSome, ℕ, Bool, false, [], ◌∷◌, ◌++◌, length, pos, int_le, nat_le, slice_index_or, max, min, filter, IfSome, IfNone, IfOk, OnOk, OnErr};
 ghost use Rattle.domain_ranges.specs.Spans.{Span, within, IsSpans, members, interval_count, meet, listed, written, joined, gap, shifted, scaled};
-ghost use Rattle.fd_model.specs.Family.{universe};
+ghost use Rattle.fd_language.specs.Family.{universe};
 
-use fd_model::{INFINITY, NoMemory};
+use fd_language::{INFINITY, NoMemory};
 use smallvec::SmallVec;
 use std::alloc::Global;
 

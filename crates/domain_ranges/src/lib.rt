@@ -4,12 +4,12 @@
 ghost use Rattle.std.specs.Prelude.{◌≡◌, ◌<◌, ◌≤◌, ◌&&◌, ◌||◌, not, nat_le, ◌^◌, neg_ℤ, ◌≤ℤ◌, ◌<ℤ◌, ◌⊎◌, if◌then◌else◌, ℕ, List, [], ◌∷◌, length, slice_index_or, filter, pos, int_le, IfOk, OnErr, MatchOption, IsTrue, IfSome, OnSome, false};
 ghost use Rattle.domain_ranges.specs.Spans.{IsSpans, members, interval_count, has_int};
 ghost use Rattle.domain_ranges.specs.Sets.{is_shifted, is_scaled, is_quotient};
-ghost use Rattle.fd_model.specs.Family.{has, universe, IsRising};
-ghost use Rattle.fd_model.specs.Range.{least, greatest, is_none_left};
+ghost use Rattle.fd_language.specs.Family.{has, universe, IsRising};
+ghost use Rattle.fd_language.specs.Range.{least, greatest, is_none_left};
 
 mod intervals;
 
-use fd_model::{INFINITY, NoMemory};
+use fd_language::{INFINITY, NoMemory};
 use smallvec::SmallVec;
 use std::alloc::Global;
 use std::marker::Model;
@@ -25,7 +25,7 @@ pub struct Domain {
 
 impl Model for Domain {
     ghost use Rattle.std.specs.Prelude.{ℕ, List};
-    ghost use Rattle.fd_model.specs.declared.TheConstants.{INFINITY};
+    ghost use Rattle.fd_language.specs.declared.TheConstants.{INFINITY};
     ghost use Rattle.domain_ranges.specs.Spans.{IsSpans, members};
 
     ghost Value = { List ℕ };

@@ -1,6 +1,6 @@
 ghost use Rattle.std.specs.Prelude.{◌≡◌, ◌<◌, [], length, slice_index_or, MatchOption};
-ghost use Rattle.fd_model.specs.Family.{universe};
-ghost use Rattle.fd_model.specs.Range.{least};
+ghost use Rattle.fd_language.specs.Family.{universe};
+ghost use Rattle.fd_language.specs.Range.{least};
 
 use super::*;
 use std::process::Abort;

@@ -1,29 +1,39 @@
 -- Each runnable branch has its children, and each list of consistent runnable branches has a run.
-use Rattle.std.proofs.Common.{◌≡◌, ℕ, zero, suc, ◌+◌, Bool, cond, map, true, false, ◌==◌, List, [], ◌∷◌, ◌++◌, Option, Some, None, refl, sym, ◌∙◌, subst, inl, inr, ◌⊎◌, eqb-true, eq-eqb}
+use Rattle.std.proofs.Common.{◌≡◌, ℕ, zero, suc, ◌+◌, Bool, cond, map, true, false, ◌==◌, List, [], ◌∷◌, ◌++◌, Option, Some, None, refl, sym, ◌∙◌, subst, inl, inr, ◌⊎◌, eqb-true, eq-eqb, Result, Ok, Err}
 use Rattle.std.proofs.lemmas.Bool.{or_cases, or_left, or_right, true≢false}
-use Rattle.fd_model.specs.Term.{Term, Var, Substitution}
-use Rattle.fd_model.specs.Unifier.{Equation, IsMostGeneral}
-use Rattle.fd_model.specs.Family.{Family, has, IsInside}
-use Rattle.fd_model.specs.Range.{Range, Indexical}
+use Rattle.fd_language.specs.Term.{Term, Var, Substitution, apply}
+use Rattle.fd_language.specs.Unifier.{Equation, IsMostGeneral}
+use Rattle.fd_language.specs.Family.{Family, has, IsInside}
+use Rattle.fd_language.specs.Range.{Range, Indexical}
 use Rattle.fd_model.specs.declared.kinds.BuiltinKind.{BuiltinKind}
 use Rattle.fd_model.specs.declared.kinds.BuiltinKind.TheVariants.{Write, Nl}
 use Rattle.fd_model.specs.Goal.{Goal, Goals, no_goals, goal, listed, True, Fail, Unify, Post, Constrain, Label, Call, Either, Builtin, Clause, Query, Branch, Program, Event, Answer, End, Budget, Limit, Fault, start_of}
 use Rattle.fd_model.specs.Closed.{constrained, AllPosted, IsClosed}
-use Rattle.fd_model.specs.Laws.{IsMonotone, OneRun}
+use Rattle.fd_language.specs.Monotonicity.{IsMonotone}
+use Rattle.fd_model.specs.Laws.{OneRun}
+use Rattle.fd_model.specs.declared.kinds.Order.{Order}
+use Rattle.fd_model.specs.Labelling.{read_list, values_by, pick}
+use Rattle.fd_model.specs.Members.{Member}
 use Rattle.fd_model.specs.Seen.{IsConsistent, IsView}
 use Rattle.fd_model.specs.Posting.{post, Found, offends, posts}
 use Rattle.fd_model.specs.Renaming.{rename_goal, rename_goals}
-use Rattle.fd_model.specs.Children.{Offer, Faults, Gives, Awaited, Kept, KeptOffer, offer, look_in, with_goals, with_equations, with_range, by_clauses, by_clause, by_post, by_builtin, fits_head}
+use Rattle.fd_model.specs.declared.kinds.QueryFault.{QueryFault}
+use Rattle.fd_model.specs.declared.kinds.ConstraintKind.{ConstraintKind}
+use Rattle.fd_model.specs.LinearRows.{Expansion}
+use Rattle.fd_model.specs.Constraining.{constrain, arguments}
+use Rattle.fd_model.proofs.RowsMonotone.{monotone_rows}
+use Rattle.fd_model.specs.Children.{Offer, Faults, Gives, Awaited, Kept, KeptOffer, offer, look_in, sets_in, by_value, by_pick, by_listing, with_goals, with_equations, with_range, with_expansion, by_clauses, by_clause, by_post, by_constraint, by_builtin, fits_head}
 use Rattle.fd_model.specs.Lines.{answer_line, says}
 use Rattle.fd_model.specs.Sound.{IsRunnable, AllRunnable, AreRunnable, ClausesRunnable, IsRunnableProgram, IsGiven}
-use Rattle.fd_model.specs.Check.{range_fits}
+use Rattle.fd_language.specs.Check.{range_fits}
 use Rattle.fd_model.specs.Run.{IsLimit, Run, over, last, fewer, any, spent, faulty, taken}
 use Rattle.fd_model.proofs.Closing.{greatest_for, closed_either}
-use Rattle.fd_model.proofs.Solving.{solved, Solved}
+use Rattle.fd_language.proofs.Solving.{solved, Solved}
 use Rattle.fd_model.proofs.Canonical.{canonical}
 use Rattle.fd_model.proofs.Accepting.{posted_monotone}
 use Rattle.fd_model.proofs.Unique.{run_once}
-use Rattle.fd_model.proofs.Fitting.{range_fits_same}
+use Rattle.fd_language.proofs.Fitting.{range_fits_same}
+use Rattle.fd_model.proofs.Growing.{posted_both}
 
 -- some variable of the list has no value, or each has one
 some_empty : (D : Family) (vs : List ℕ) → ((x : ℕ) → has vs x ≡ true → (n : ℕ) × (has (D x) n ≡ true)) ⊎ ((x : ℕ) × (has vs x ≡ true) × (D x ≡ []))
@@ -110,6 +120,12 @@ module _ (M : ℕ) (b : Branch) (rest : List Goal) (posted : AllPosted (λ p. Is
       let kids : with_range b rest p es n ∷ [] ≡ cs = cc in
       subst (AllSound M) kids (record { goals = others; posted = (posted_monotone M look t r b.fresh n p es fits e, posted) }, tt)
 
+  constraint_sound : (look : ℕ → Term) (c : ConstraintKind) (t : Term) (r : Result Expansion QueryFault) → constrain look c t b.fresh ≡ r → (cs : List Branch) → by_constraint b rest r ≡ Gives cs → AllSound M cs
+  constraint_sound look c t (Err f) e cs i = absurd (cc)
+  constraint_sound look c t (Ok x) e cs i =
+      let kids : with_expansion b rest x ∷ [] ≡ cs = cc in
+      subst (AllSound M) kids (record { goals = others; posted = posted_both (λ p. IsMonotone M p.range) x.ranges b.posted (monotone_rows M c (arguments (apply look t)) b.fresh x e) posted }, tt)
+
   one_sound : (c : Branch) (cs : List Branch) → Gives (c ∷ []) ≡ Gives cs → IsSound M c → AllSound M cs
   one_sound c cs e h = let kids : c ∷ [] ≡ cs = cc in subst (AllSound M) kids (h, tt)
 
@@ -118,20 +134,40 @@ module _ (M : ℕ) (b : Branch) (rest : List Goal) (posted : AllPosted (λ p. Is
   builtin_sound Nl h cs e = one_sound (with_goals b rest) cs e (record { goals = others; posted = posted })
   builtin_sound _ h cs e = absurd h
 
+  values_sound : (g : Goal) → IsRunnable M g → (x : ℕ) (ns : List ℕ) → AllSound M (map (by_value b (g ∷ rest) x) ns)
+  values_sound g h x [] = tt
+  values_sound g h x (n ∷ ns) = (record { goals = (h, others); posted = posted }, values_sound g h x ns)
+
+  pick_sound : (values : ℕ → List ℕ) (g : Goal) → IsRunnable M g → (r : Option ℕ) (cs : List Branch) → by_pick values b g rest r ≡ Gives cs → AllSound M cs
+  pick_sound values g h None cs e = one_sound (with_goals b rest) cs e (record { goals = others; posted = posted })
+  pick_sound values g h (Some x) cs e = let kids : map (by_value b (g ∷ rest) x) (values x) ≡ cs = cc in subst (AllSound M) kids (values_sound g h x (values x))
+
+  listing_sound : (values : ℕ → List ℕ) (o : Order) (g : Goal) → IsRunnable M g → (l : Result (List Member) QueryFault) (cs : List Branch) → by_listing values b o g rest l ≡ Gives cs → AllSound M cs
+  listing_sound values o g h (Err f) cs e = absurd (cc)
+  listing_sound values o g h (Ok ms) cs e = pick_sound values g h (pick o values ms) cs e
+
+  pick_given : (values : ℕ → List ℕ) (g : Goal) (r : Option ℕ) → by_pick values b g rest r ≡ Awaited → ⊥
+  pick_given values g None e = cc
+  pick_given values g (Some x) e = cc
+
+  listing_given : (values : ℕ → List ℕ) (o : Order) (g : Goal) (l : Result (List Member) QueryFault) → by_listing values b o g rest l ≡ Awaited → ⊥
+  listing_given values o g (Err f) e = cc
+  listing_given values o g (Ok ms) e = pick_given values g (pick o values ms) e
+
   -- the children of a sound branch are sound
-  offer_sound : (prog : Program) (look : ℕ → Term) (g : Goal) → IsRunnableProgram M prog → IsRunnable M g → (cs : List Branch) → offer prog look b g rest ≡ Gives cs → AllSound M cs
-  offer_sound prog look True p h cs e = one_sound (with_goals b rest) cs e (record { goals = others; posted = posted })
-  offer_sound prog look Fail p h cs e = let kids : [] ≡ cs = cc in subst (AllSound M) kids tt
-  offer_sound prog look (Unify s t) p h cs e = one_sound (with_equations b rest (record { left = s; right = t } ∷ []) b.fresh) cs e (record { goals = others; posted = posted })
-  offer_sound prog look (Post t r) p h cs e = post_sound look t r h (post look t r b.fresh) refl cs e
-  offer_sound prog look (Constrain c t) p h cs e = absurd h
-  offer_sound prog look (Label o t) p h cs e = absurd h
-  offer_sound prog look (Call t) p h cs e = let kids : by_clauses prog.clauses b t rest ≡ cs = cc in subst (AllSound M) kids (clauses_sound prog.clauses t p.clauses)
-  offer_sound prog look (Either x y) p h cs e =
+  pub offer_sound : (prog : Program) (look : ℕ → Term) (sets : ℕ → Option (List ℕ)) (g : Goal) → IsRunnableProgram M prog → IsRunnable M g → (cs : List Branch) → offer M prog look sets b g rest ≡ Gives cs → AllSound M cs
+  offer_sound prog look sets True p h cs e = one_sound (with_goals b rest) cs e (record { goals = others; posted = posted })
+  offer_sound prog look sets Fail p h cs e = let kids : [] ≡ cs = cc in subst (AllSound M) kids tt
+  offer_sound prog look sets (Unify s t) p h cs e = one_sound (with_equations b rest (record { left = s; right = t } ∷ []) b.fresh) cs e (record { goals = others; posted = posted })
+  offer_sound prog look sets (Post t r) p h cs e = post_sound look t r h (post look t r b.fresh) refl cs e
+  offer_sound prog look sets (Constrain c t) p h cs e = constraint_sound look c t (constrain look c t b.fresh) refl cs e
+  offer_sound prog look sets (Label o t) p h cs e = listing_sound (λ x. values_by M (sets x)) o (Label o t) tt (read_list (apply look t)) cs e
+  offer_sound prog look sets (Call t) p h cs e = let kids : by_clauses prog.clauses b t rest ≡ cs = cc in subst (AllSound M) kids (clauses_sound prog.clauses t p.clauses)
+  offer_sound prog look sets (Either x y) p h cs e =
       let kids : with_goals b (listed x ++ rest) ∷ with_goals b (listed y ++ rest) ∷ [] ≡ cs = cc in
       subst (AllSound M) kids
       (record { goals = runnable_both M (listed x) rest (runnable_listed M x h.0) others; posted = posted }, (record { goals = runnable_both M (listed y) rest (runnable_listed M y h.1) others; posted = posted }, tt))
-  offer_sound prog look (Builtin k t) p h cs e = builtin_sound k h cs e
+  offer_sound prog look sets (Builtin k t) p h cs e = builtin_sound k h cs e
 
   builtin_given : (k : BuiltinKind) → IsGiven k → by_builtin k b rest ≡ Awaited → ⊥
   builtin_given Write h e = cc
@@ -142,17 +178,21 @@ module _ (M : ℕ) (b : Branch) (rest : List Goal) (posted : AllPosted (λ p. Is
   post_given (offends f) e = cc
   post_given (posts p n es) e = cc
 
+  constraint_given : (r : Result Expansion QueryFault) → by_constraint b rest r ≡ Awaited → ⊥
+  constraint_given (Err f) e = cc
+  constraint_given (Ok x) e = cc
+
   -- its row is given
-  offer_given : (prog : Program) (look : ℕ → Term) (g : Goal) → IsRunnable M g → offer prog look b g rest ≡ Awaited → ⊥
-  offer_given prog look True h e = cc
-  offer_given prog look Fail h e = cc
-  offer_given prog look (Unify s t) h e = cc
-  offer_given prog look (Post t r) h e = post_given (post look t r b.fresh) e
-  offer_given prog look (Constrain c t) h e = h
-  offer_given prog look (Label o t) h e = h
-  offer_given prog look (Call t) h e = cc
-  offer_given prog look (Either x y) h e = cc
-  offer_given prog look (Builtin k t) h e = builtin_given k h e
+  offer_given : (prog : Program) (look : ℕ → Term) (sets : ℕ → Option (List ℕ)) (g : Goal) → IsRunnable M g → offer M prog look sets b g rest ≡ Awaited → ⊥
+  offer_given prog look sets True h e = cc
+  offer_given prog look sets Fail h e = cc
+  offer_given prog look sets (Unify s t) h e = cc
+  offer_given prog look sets (Post t r) h e = post_given (post look t r b.fresh) e
+  offer_given prog look sets (Constrain c t) h e = constraint_given (constrain look c t b.fresh) e
+  offer_given prog look sets (Label o t) h e = listing_given (λ x. values_by M (sets x)) o (Label o t) (read_list (apply look t)) e
+  offer_given prog look sets (Call t) h e = cc
+  offer_given prog look sets (Either x y) h e = cc
+  offer_given prog look sets (Builtin k t) h e = builtin_given k h e
 
 module _ (M : ℕ) (prog : Program) (q : Query) (runnable : IsRunnableProgram M prog) where
   abbrev IsLive : Branch → Type 0
@@ -182,13 +222,13 @@ module _ (M : ℕ) (prog : Program) (q : Query) (runnable : IsRunnableProgram M 
   view_of b l = has_view M b.equations b.posted l.0.posted l.1
 
   by_offer : (m : ℕ) (k : Option ℕ) (b : Branch) (bs : List Branch) (g : Goal) (rest : List Goal) → IsLive b → AllLive bs → b.goals ≡ g ∷ rest → IsRunnable M g → AreRunnable M rest → ((cs : List Branch) → AllLive cs → HasRun m k cs)
-      → (s : Substitution) (D : Family) → IsView M b.equations b.posted s D → (o : Offer) → offer prog (look_in b s D) b g rest ≡ o → HasRun (suc m) k (b ∷ bs)
+      → (s : Substitution) (D : Family) → IsView M b.equations b.posted s D → (o : Offer) → offer M prog (look_in b s D) (sets_in b s D) b g rest ≡ o → HasRun (suc m) k (b ∷ bs)
   by_offer m k b bs g rest l ls e h hs later s D v (Faults f) i = (Fault f ∷ [], 1, faulty g rest s D e (record { view = v; kept = subst (λ o. KeptOffer M o (Faults f)) (sym i) refl }))
   by_offer m k b bs g rest l ls e h hs later s D v (Gives cs) i =
-      let ks = keep cs (offer_sound M b rest l.0.posted hs prog (look_in b s D) g runnable h cs i) in
+      let ks = keep cs (offer_sound M b rest l.0.posted hs prog (look_in b s D) (sets_in b s D) g runnable h cs i) in
       let more = later (ks.0 ++ bs) (live_both ks.0 bs ks.2 ls) in
       (says s D b g ++ more.0, suc more.1, taken g rest s D ks.0 e (record { view = v; kept = subst (λ o. KeptOffer M o (Gives ks.0)) (sym i) ks.1 }) more.2)
-  by_offer m k b bs g rest l ls e h hs later s D v Awaited i = absurd (offer_given M b rest l.0.posted hs prog (look_in b s D) g h i)
+  by_offer m k b bs g rest l ls e h hs later s D v Awaited i = absurd (offer_given M b rest l.0.posted hs prog (look_in b s D) (sets_in b s D) g h i)
 
   by_limit : (n : ℕ) (k : Option ℕ) (b : Branch) (bs : List Branch) → b.goals ≡ [] → IsLive b → IsLimit k → ((j : Option ℕ) → IsLimit j → HasRun n j bs) → HasRun n k (b ∷ bs)
   by_limit n None b bs e l a later = let v = view_of b l in let more = later None tt in (Answer (answer_line q v.0 v.1 b) ∷ more.0, more.1, any v.0 v.1 e v.2 more.2)

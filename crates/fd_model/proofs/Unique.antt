@@ -1,19 +1,19 @@
 -- There is one view of a branch, one list of children, one run.
 use Rattle.std.proofs.Common.{◌≡◌, ℕ, suc, ◌+◌, ◌≤◌, Bool, codes, decimal, List, [], ◌∷◌, ◌++◌, Option, refl, ap, sym, ◌∙◌, subst, inl, inr, arith}
 use mathlib.Core.Path.{fun_ext}
-use Rattle.fd_model.specs.Term.{Term, Terms, Var, Int, Atom, Comp, Substitution, apply, apply_all, no_terms, term}
-use Rattle.fd_model.specs.Unifier.{Equation, IsMostGeneral}
-use Rattle.fd_model.specs.Family.{Family, IsInside}
-use Rattle.fd_model.specs.Range.{Indexical}
+use Rattle.fd_language.specs.Term.{Term, Terms, Var, Int, Atom, Comp, Substitution, apply, apply_all, no_terms, term}
+use Rattle.fd_language.specs.Unifier.{Equation, IsMostGeneral}
+use Rattle.fd_language.specs.Family.{Family, IsInside}
+use Rattle.fd_language.specs.Range.{Indexical}
 use Rattle.fd_model.specs.Closed.{IsClosed}
 use Rattle.fd_model.specs.declared.kinds.QueryFault.{QueryFault}
 use Rattle.fd_model.specs.Goal.{Goal, Branch, Program, Query, Event, Answer, Limit, Fault}
 use Rattle.fd_model.specs.Seen.{IsView}
-use Rattle.fd_model.specs.Children.{Children, Offer, Faults, Gives, Awaited, Kept, KeptOffer, offer, look_in}
+use Rattle.fd_model.specs.Children.{Children, Offer, Faults, Gives, Awaited, Kept, KeptOffer, offer, look_in, sets_in}
 use Rattle.fd_model.specs.Lines.{answer_line, says, line, events_bytes}
 use Rattle.fd_model.specs.Output.{Queries, is_stop, or_stop}
 use Rattle.fd_model.specs.Run.{Run, over, last, fewer, any, spent, faulty, taken}
-use Rattle.fd_model.proofs.Sets.{rising_same}
+use Rattle.fd_language.proofs.Sets.{rising_same}
 use Rattle.fd_model.proofs.Closing.{var_from}
 
 -- what s leaves as it is, u leaves as it is
@@ -82,9 +82,9 @@ module _ (M : ℕ) (prog : Program) (b : Branch) (s u : Substitution) (D E : Fam
   children_once g h rest others o p e c d =
       let goals : g ≡ h = cc in
       let more : rest ≡ others = cc in
-      let same : offer prog (look_in b s D) b g rest ≡ offer prog (look_in b u E) b h others =
-      from_view (λ x X. offer prog (look_in b x X) b g rest) c.view d.view ∙ ap (λ x. offer prog (look_in b u E) b x rest) goals ∙ ap (λ x. offer prog (look_in b u E) b h x) more in
-      offer_once M (offer prog (look_in b u E) b h others) o p (subst (λ x. KeptOffer M x o) same c.kept) d.kept
+      let same : offer M prog (look_in b s D) (sets_in b s D) b g rest ≡ offer M prog (look_in b u E) (sets_in b u E) b h others =
+      from_view (λ x X. offer M prog (look_in b x X) (sets_in b x X) b g rest) c.view d.view ∙ ap (λ x. offer M prog (look_in b u E) (sets_in b u E) b x rest) goals ∙ ap (λ x. offer M prog (look_in b u E) (sets_in b u E) b h x) more in
+      offer_once M (offer M prog (look_in b u E) (sets_in b u E) b h others) o p (subst (λ x. KeptOffer M x o) same c.kept) d.kept
 
   fault_once : (g h : Goal) (rest others : List Goal) (f e : QueryFault) → g ∷ rest ≡ h ∷ others → Children M prog b g rest s D (Faults f) → Children M prog b h others u E (Faults e) → Fault f ∷ [] ≡ Fault e ∷ []
   fault_once g h rest others f e same c d = let one = children_once g h rest others (Faults f) (Faults e) same c d in cc

@@ -2,10 +2,10 @@
 use Rattle.std.specs.Prelude.{ℕ, ◌<◌, true, IsTrue, List, [], ◌∷◌}
 use Rattle.fd_model.specs.declared.kinds.BuiltinKind.{BuiltinKind}
 use Rattle.fd_model.specs.declared.kinds.BuiltinKind.TheVariants.{Write, Nl}
-use Rattle.fd_model.specs.Term.{Term, Terms, Var, Int, Atom, Comp, no_terms, term}
-use Rattle.fd_model.specs.Range.{Range}
-use Rattle.fd_model.specs.Check.{range_fits}
-use Rattle.fd_model.specs.Posting.{Place, range_places}
+use Rattle.fd_language.specs.Term.{Term, Terms, Var, Int, Atom, Comp, no_terms, term}
+use Rattle.fd_language.specs.Range.{Range}
+use Rattle.fd_language.specs.Check.{range_fits}
+use Rattle.fd_language.specs.Places.{Place, range_places}
 use Rattle.fd_model.specs.Goal.{Goal, Goals, no_goals, goal, True, Fail, Unify, Post, Constrain, Label, Call, Either, Builtin, Clause, Query, Program}
 
 -- the row of the built-in is given
@@ -21,8 +21,8 @@ abbrev mutual
   IsRunnable M Fail = Unit {0}
   IsRunnable M (Unify s t) = Unit {0}
   IsRunnable M (Post t r) = IsTrue (range_fits M r true)
-  IsRunnable M (Constrain c t) = ⊥
-  IsRunnable M (Label o t) = ⊥
+  IsRunnable M (Constrain c t) = Unit {0}
+  IsRunnable M (Label o t) = Unit {0}
   IsRunnable M (Call t) = Unit {0}
   IsRunnable M (Either g h) = AllRunnable M g × AllRunnable M h
   IsRunnable M (Builtin k t) = IsGiven k

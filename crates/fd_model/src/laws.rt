@@ -1,5 +1,6 @@
 //! The laws of families, ranges and runs, each the contract of a function that does nothing.
-ghost use Rattle.fd_model.specs.Laws.{GreatestFamily, EveryOrder, Intervals, AcceptedIsMonotone, OneRun, SameTexts};
+ghost use Rattle.fd_model.specs.Laws.{GreatestFamily, EveryOrder, Intervals, OneRun, SameTexts};
+ghost use Rattle.fd_model.specs.ProgramLaws.{ScopedProgram};
 
 /// The union of all closed families is a closed family, and contains each.
 pub fn greatest_family()
@@ -16,14 +17,14 @@ pub fn intervals()
     ensures { Intervals }
 {}
 
-/// A range that the table accepts only shrinks when domains shrink.
-pub fn accepted_is_monotone()
-    ensures { AcceptedIsMonotone }
-{}
-
 /// Each runnable query has exactly one run.
 pub fn one_run()
     ensures { OneRun }
+{}
+
+/// The program of an accepted text names no variable beyond those that its clauses and queries have.
+pub fn scoped_program()
+    ensures { ScopedProgram }
 {}
 
 /// All most general unifiers give the same texts.

@@ -1,41 +1,15 @@
-// The definitions of clp(FD), their laws, and the constants and flat types that programs and definitions share.
+// What a text means when it runs: families closed under what is posted, branches, runs, lines and outputs, and their laws.
 #![tactic(auto)]
 
 ghost use Rattle.std.specs.Prelude.{◌≡◌};
 ghost use Rattle.fd_model.specs.Output.{status_number};
 
-pub mod check_laws;
-mod counting;
-mod flat_range;
-pub mod grammar_laws;
 pub mod kinds;
+pub mod labelling_laws;
 pub mod laws;
-mod range_node;
+pub mod rewriting_laws;
 
-pub use flat_range::FlatRange;
-pub use range_node::{Feature, Need, Offence, RangeNode};
-use std::alloc::{AllocError, AllocFailed};
-use thiserror::Error;
-
-/// The greatest number of the universe, and the value of `infinity` in ranges.
-pub const INFINITY: u32 = 16_777_215;
-
-/// Memory was wanting. The error of a call that has no other.
-#[derive(Clone, Copy, Debug, PartialEq, Eq, Drop, Error)]
-#[error("out of memory")]
-pub struct NoMemory;
-
-impl From<AllocError> for NoMemory {
-    fn from(_error: AllocError) -> NoMemory {
-        NoMemory
-    }
-}
-
-impl<T: Drop> From<AllocFailed<T>> for NoMemory {
-    fn from(_error: AllocFailed<T>) -> NoMemory {
-        NoMemory
-    }
-}
+pub use fd_language::{Feature, FlatRange, INFINITY, Need, NoMemory, Offence, RangeNode};
 
 /// How a run of the program ends.
 #[derive(Clone, Copy, Debug, PartialEq, Eq)]

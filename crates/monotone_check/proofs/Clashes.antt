@@ -2,11 +2,11 @@
 use Rattle.std.proofs.Common.{◌≡◌, ℕ, suc, ◌+◌, ◌≤◌, ◌<◌, List, ◌∷◌, ◌++◌, length, drop, get_or, Option, None, refl, sym, ◌∙◌, ap, subst, arith}
 use Rattle.std.specs.Prelude.{Result, Ok, Err, IfOk, OnOk}
 use Rattle.std.proofs.lemmas.List.{at_drop_more, drop_all}
-use Rattle.fd_model.specs.declared.range_node.RangeNode.{RangeNode}
-use Rattle.fd_model.specs.declared.range_node.RangeNode.TheVariants as node
-use Rattle.fd_model.specs.declared.range_node.Offence.{Offence}
-use Rattle.fd_model.specs.Family.{has}
-use Rattle.fd_model.specs.RangeVerdict.{clashes, where_first_clash, earlier, first}
+use Rattle.fd_language.specs.declared.range_node.RangeNode.{RangeNode}
+use Rattle.fd_language.specs.declared.range_node.RangeNode.TheVariants as node
+use Rattle.fd_language.specs.declared.range_node.Offence.{Offence}
+use Rattle.fd_language.specs.Family.{has}
+use Rattle.fd_language.specs.RangeVerdict.{clashes, where_first_clash, earlier, first}
 use Rattle.monotone_check.specs.Seen.{AreSeen, FindsAt}
 use Rattle.monotone_check.proofs.Firsts.{first-append, earlier_assoc, earlier_none}
 

@@ -1,7 +1,7 @@
 -- The first of two lists of offences.
 use Rattle.std.proofs.Common.{◌≡◌, ℕ, Bool, true, false, cond, ◌||◌, ◌&&◌, ◌==◌, nat_lt, List, [], ◌∷◌, ◌++◌, Option, Some, None, refl, sym, ◌∙◌, ap, arith, eqb-true}
-use Rattle.fd_model.specs.declared.range_node.Offence.{Offence}
-use Rattle.fd_model.specs.RangeVerdict.{place_of, kind_of, is_before, earlier, first}
+use Rattle.fd_language.specs.declared.range_node.Offence.{Offence}
+use Rattle.fd_language.specs.RangeVerdict.{place_of, kind_of, is_before, earlier, first}
 
 before : ℕ → ℕ → ℕ → ℕ → Bool
 before p k q l = nat_lt p q || ((p == q) && nat_lt k l)

@@ -2,15 +2,15 @@
 use Rattle.std.proofs.Common.{◌≡◌, ℕ, Bool, true, false, cond, not, ◌||◌, ◌&&◌, ◌==◌, List, [], ◌∷◌, ◌++◌, map, filter, refl, sym, ◌∙◌, ap, subst, arith, eqb-true, eq-eqb}
 use Rattle.std.specs.Prelude.{Result, IfOk}
 use Rattle.std.proofs.lemmas.Result.{IfOk-weaker}
-use Rattle.fd_model.specs.declared.range_node.RangeNode.{RangeNode}
-use Rattle.fd_model.specs.Flat.{nodes_of, spelled, spelled-nodes}
+use Rattle.fd_language.specs.declared.range_node.RangeNode.{RangeNode}
+use Rattle.fd_language.specs.Flat.{nodes_of, spelled, spelled-nodes}
 use Rattle.std.proofs.lemmas.Bool.{cases_Bool, true≢false}
 use Rattle.std.proofs.Common.{◌⊎◌, inl, inr}
-use Rattle.fd_model.specs.declared.range_node.Need.{Need}
-use Rattle.fd_model.specs.declared.range_node.Need.TheVariants.{Whole, Natural, Divisor}
-use Rattle.fd_model.specs.Family.{has}
-use Rattle.fd_model.specs.Range.{Range}
-use Rattle.fd_model.specs.Needs.{stronger, strongest, once, asks, needs}
+use Rattle.fd_language.specs.declared.range_node.Need.{Need}
+use Rattle.fd_language.specs.declared.range_node.Need.TheVariants.{Whole, Natural, Divisor}
+use Rattle.fd_language.specs.Family.{has}
+use Rattle.fd_language.specs.Range.{Range}
+use Rattle.fd_language.specs.Needs.{stronger, strongest, once, asks, needs}
 use Rattle.monotone_check.specs.declared.asking.Asked.{Asked}
 use Rattle.monotone_check.specs.Asked.{told}
 use Rattle.monotone_check.specs.Gathered.{put, put_all}

@@ -1,8 +1,8 @@
 -- What is kept of a parameter and of a value.
 use Rattle.std.proofs.Common.{◌≡◌, ℕ, Bool, true, false, None, sym, ◌∙◌}
-use Rattle.fd_model.specs.Range.{Param, Val}
-use Rattle.fd_model.specs.Check.{Wish}
-use Rattle.fd_model.specs.declared.TheConstants.{INFINITY}
+use Rattle.fd_language.specs.Range.{Param, Val}
+use Rattle.fd_language.specs.Check.{Wish}
+use Rattle.fd_language.specs.declared.TheConstants.{INFINITY}
 use Rattle.monotone_check.specs.declared.summary.TermCheck.{TermCheck}
 use Rattle.monotone_check.specs.Wishes.{by_wish}
 use Rattle.monotone_check.specs.Summary.{IsTerm, pick}

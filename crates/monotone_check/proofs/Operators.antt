@@ -3,18 +3,18 @@ use Rattle.std.proofs.Common.{◌≡◌, ℕ, suc, ◌+◌, ◌-◌, ◌*◌, �
 use Rattle.std.specs.Int.{w128}
 use Rattle.std.proofs.lemmas.Int.{ints, fits_signed_from_abs}
 use Rattle.std.proofs.lemmas.Bool.{true≢false}
-use Rattle.fd_model.specs.declared.range_node.RangeNode.{RangeNode}
-use Rattle.fd_model.specs.declared.range_node.RangeNode.TheVariants as node
-use Rattle.fd_model.specs.declared.range_node.Offence.{Offence}
-use Rattle.fd_model.specs.Range.{Expr, Number, Infinity, Param, Min, Max, Val, Add, Sub, Mul, DivDown, DivUp}
-use Rattle.fd_model.specs.Needs.{is_literal}
-use Rattle.fd_model.specs.Check.{Wish, turn, literal_value, is_parameter}
-use Rattle.fd_model.specs.RangeVerdict.{expr_size, bound, wide_in_expr, where_too_wide, over_limit, where_below_zero, where_natural, unless_divides, scaled, expr_offences, quotient_offences, expr_within, earlier, first}
-use Rattle.fd_model.proofs.Directions.{first_of_two, second_of_two}
+use Rattle.fd_language.specs.declared.range_node.RangeNode.{RangeNode}
+use Rattle.fd_language.specs.declared.range_node.RangeNode.TheVariants as node
+use Rattle.fd_language.specs.declared.range_node.Offence.{Offence}
+use Rattle.fd_language.specs.Range.{Expr, Number, Infinity, Param, Min, Max, Val, Add, Sub, Mul, DivDown, DivUp}
+use Rattle.fd_language.specs.Needs.{is_literal}
+use Rattle.fd_language.specs.Check.{Wish, turn, literal_value, is_parameter}
+use Rattle.fd_language.specs.RangeVerdict.{expr_size, bound, wide_in_expr, where_too_wide, over_limit, where_below_zero, where_natural, unless_divides, scaled, expr_offences, quotient_offences, expr_within, earlier, first}
+use Rattle.fd_language.proofs.Directions.{first_of_two, second_of_two}
 use Rattle.monotone_check.specs.declared.summary.TermCheck.{TermCheck}
 use Rattle.monotone_check.specs.Summary.{literal_of, IsTerm, both_literal, operator_literal, kept, product_first, quotient_first, operands_first, operator_first, IsOperated}
 use Rattle.monotone_check.proofs.Firsts.{first_two, first_three}
-use Rattle.fd_model.proofs.Limits.{abs_add, abs_mul, abs_sub, not_over, products, sums}
+use Rattle.fd_language.proofs.Limits.{abs_add, abs_mul, abs_sub, not_over, products, sums}
 
 pub literal_bound : (M : ℕ) (e : Expr) → is_literal e ≡ true → nat_abs (literal_value M e) ≤ bound M e
 literal_bound M (Number z) h = omega arith

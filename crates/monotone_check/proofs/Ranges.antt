@@ -1,13 +1,13 @@
 -- What is kept of a range follows from what is kept of its operands.
 use Rattle.std.proofs.Common.{◌≡◌, ℕ, ◌+◌, ◌-◌, Bool, true, false, cond, not, ◌||◌, ◌&&◌, ℤ, pos, int_le, List, Option, Some, None, refl, sym, ◌∙◌, ap, arith}
 use Rattle.std.proofs.lemmas.Bool.{true≢false}
-use Rattle.fd_model.specs.declared.range_node.RangeNode.TheVariants as node
-use Rattle.fd_model.specs.declared.range_node.Offence.{Offence}
-use Rattle.fd_model.specs.Range.{Range, Span, One, Dom, Union, Inter, Outside, Plus, Minus, Times, Over, Expr, Number, Infinity, Param, Min, Max, Val, Add, Sub, Mul, DivDown, DivUp}
-use Rattle.fd_model.specs.Needs.{is_literal}
-use Rattle.fd_model.specs.Check.{Rising, Falling, Constant, literal_value, is_parameter}
-use Rattle.fd_model.specs.RangeVerdict.{expr_size, range_size, bound, wide_in_expr, wide_in_range, where_too_wide, over_limit, factor_over_limit, unless_divides, expr_offences, range_offences, expr_within, range_within, first}
-use Rattle.fd_model.proofs.Directions.{first_of_two, second_of_two}
+use Rattle.fd_language.specs.declared.range_node.RangeNode.TheVariants as node
+use Rattle.fd_language.specs.declared.range_node.Offence.{Offence}
+use Rattle.fd_language.specs.Range.{Range, Span, One, Dom, Union, Inter, Outside, Plus, Minus, Times, Over, Expr, Number, Infinity, Param, Min, Max, Val, Add, Sub, Mul, DivDown, DivUp}
+use Rattle.fd_language.specs.Needs.{is_literal}
+use Rattle.fd_language.specs.Check.{Rising, Falling, Constant, literal_value, is_parameter}
+use Rattle.fd_language.specs.RangeVerdict.{expr_size, range_size, bound, wide_in_expr, wide_in_range, where_too_wide, over_limit, factor_over_limit, unless_divides, expr_offences, range_offences, expr_within, range_within, first}
+use Rattle.fd_language.proofs.Directions.{first_of_two, second_of_two}
 use Rattle.monotone_check.specs.declared.summary.TermCheck.{TermCheck}
 use Rattle.monotone_check.specs.declared.summary.RangeCheck.{RangeCheck}
 use Rattle.monotone_check.specs.Summary.{IsTerm, IsRange, by_growth, divisor_first, IsSpan, IsSingle, IsDomain, IsCombined, IsComplement, IsPointwise}

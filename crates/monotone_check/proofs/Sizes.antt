@@ -1,10 +1,10 @@
 -- A range has as many nodes as its size says.
 use Rattle.std.proofs.Common.{◌≡◌, ℕ, suc, ◌+◌, List, [], ◌∷◌, length, ◌∙◌, arith}
-use Rattle.fd_model.specs.declared.range_node.RangeNode.{RangeNode}
-use Rattle.fd_model.specs.declared.range_node.RangeNode.TheVariants as node
-use Rattle.fd_model.specs.Range.{Range, Span, One, Dom, Union, Inter, Outside, Plus, Minus, Times, Over, Expr, Number, Infinity, Param, Min, Max, Val, Add, Sub, Mul, DivDown, DivUp}
-use Rattle.fd_model.specs.Flat.{expr_nodes, range_nodes, nodes_of}
-use Rattle.fd_model.specs.RangeVerdict.{expr_size, range_size}
+use Rattle.fd_language.specs.declared.range_node.RangeNode.{RangeNode}
+use Rattle.fd_language.specs.declared.range_node.RangeNode.TheVariants as node
+use Rattle.fd_language.specs.Range.{Range, Span, One, Dom, Union, Inter, Outside, Plus, Minus, Times, Over, Expr, Number, Infinity, Param, Min, Max, Val, Add, Sub, Mul, DivDown, DivUp}
+use Rattle.fd_language.specs.Flat.{expr_nodes, range_nodes, nodes_of}
+use Rattle.fd_language.specs.RangeVerdict.{expr_size, range_size}
 
 two : (l m a b r : ℕ) → l ≡ a + m → m ≡ b + suc r → l ≡ suc (a + b) + r
 two l m a b r e f = omega arith

@@ -2,8 +2,8 @@
 use Rattle.std.proofs.Common.{◌≡◌, ℕ, zero, suc, ◌+◌, ◌-◌, ◌<◌, ◌≤◌, Bool, true, false, cond, not, ◌||◌, nat_lt, min, List, [], ◌∷◌, ◌++◌, length, get_or, refl, sym, ◌∙◌, ap, arith}
 use Rattle.std.specs.Prelude.{slice_set}
 use Rattle.std.proofs.lemmas.Bool.{true≢false}
-use Rattle.fd_model.specs.declared.range_node.Need.{Need}
-use Rattle.fd_model.specs.declared.range_node.Need.TheVariants.{Whole, Natural, Divisor}
+use Rattle.fd_language.specs.declared.range_node.Need.{Need}
+use Rattle.fd_language.specs.declared.range_node.Need.TheVariants.{Whole, Natural, Divisor}
 use Rattle.monotone_check.specs.declared.asking.Asked.{Asked}
 use Rattle.monotone_check.specs.Asked.{raise, reaches, told, raised}
 

@@ -2,12 +2,12 @@
 use Rattle.std.proofs.Common.{◌≡◌, ℕ, suc, ◌+◌, ◌-◌, ◌<◌, ◌≤◌, List, [], ◌∷◌, ◌++◌, length, drop, get_or, Option, Some, sym, ◌∙◌, ap, subst, arith}
 use Rattle.std.specs.Option.{option_to_list}
 use Rattle.std.proofs.lemmas.List.{at_drop_more, drop_all}
-use Rattle.fd_model.specs.declared.range_node.RangeNode.{RangeNode}
-use Rattle.fd_model.specs.declared.TheConstants.{INFINITY}
-use Rattle.fd_model.specs.Range.{Range, Expr}
-use Rattle.fd_model.specs.Flat.{built, spelled, IsSpelled, builds_range, spelled-nodes}
-use Rattle.fd_model.specs.RangeVerdict.{range_size}
-use Rattle.fd_model.proofs.Waits.{spells_back}
+use Rattle.fd_language.specs.declared.range_node.RangeNode.{RangeNode}
+use Rattle.fd_language.specs.declared.TheConstants.{INFINITY}
+use Rattle.fd_language.specs.Range.{Range, Expr}
+use Rattle.fd_language.specs.Flat.{built, spelled, IsSpelled, builds_range, spelled-nodes}
+use Rattle.fd_language.specs.RangeVerdict.{range_size}
+use Rattle.fd_language.proofs.Waits.{spells_back}
 use Rattle.monotone_check.specs.declared.pending.Pending.{Pending}
 use Rattle.monotone_check.specs.declared.summary.RangeCheck.{RangeCheck}
 use Rattle.monotone_check.specs.Summary.{IsRange}

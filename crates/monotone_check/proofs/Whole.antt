@@ -2,13 +2,13 @@
 use Rattle.std.proofs.Common.{◌≡◌, ℕ, ◌-◌, true, false, List, [], ◌++◌, get_or, Option, Some, None, refl, sym, ◌∙◌, ap, subst}
 use Rattle.std.specs.Prelude.{is_some}
 use Rattle.std.proofs.lemmas.Bool.{true≢false}
-use Rattle.fd_model.specs.declared.range_node.RangeNode.{RangeNode}
-use Rattle.fd_model.specs.declared.range_node.Offence.{Offence}
-use Rattle.fd_model.specs.declared.TheConstants.{INFINITY}
-use Rattle.fd_model.specs.Range.{Range}
-use Rattle.fd_model.specs.Flat.{nodes_of, spelled, spelled-nodes}
-use Rattle.fd_model.specs.RangeVerdict.{range_size, wide_in_range, range_offences, clashes, earlier, first, width_first, verdict, range_within}
-use Rattle.fd_model.proofs.Agrees.{nil-first, nil-range}
+use Rattle.fd_language.specs.declared.range_node.RangeNode.{RangeNode}
+use Rattle.fd_language.specs.declared.range_node.Offence.{Offence}
+use Rattle.fd_language.specs.declared.TheConstants.{INFINITY}
+use Rattle.fd_language.specs.Range.{Range}
+use Rattle.fd_language.specs.Flat.{nodes_of, spelled, spelled-nodes}
+use Rattle.fd_language.specs.RangeVerdict.{range_size, wide_in_range, range_offences, clashes, earlier, first, width_first, verdict, range_within}
+use Rattle.fd_language.proofs.Agrees.{nil-first, nil-range}
 use Rattle.monotone_check.specs.declared.summary.RangeCheck.{RangeCheck}
 use Rattle.monotone_check.specs.Summary.{IsRange}
 use Rattle.monotone_check.proofs.Firsts.{first-append}

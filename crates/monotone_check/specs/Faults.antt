@@ -1,7 +1,7 @@
 -- What a refusal says of the verdict.
 use Rattle.std.specs.Prelude.{◌≡◌, Option, Some}
-use Rattle.fd_model.specs.declared.range_node.Offence.{Offence}
-use Rattle.fd_model.specs.declared.range_node.Offence.TheVariants as offence
+use Rattle.fd_language.specs.declared.range_node.Offence.{Offence}
+use Rattle.fd_language.specs.declared.range_node.Offence.TheVariants as offence
 use Rattle.monotone_check.specs.declared.CheckFault.{CheckFault}
 use Rattle.monotone_check.specs.declared.CheckFault.TheVariants.{NotMonotone, NotNatural, BadDivisor, TooWide, NoMemory}
 

@@ -1,7 +1,7 @@
 -- Needs, put together place by place.
 use Rattle.std.specs.Prelude.{ℕ, ◌==◌, if◌then◌else◌, List, [], ◌∷◌}
-use Rattle.fd_model.specs.declared.range_node.Need.{Need}
-use Rattle.fd_model.specs.Needs.{stronger}
+use Rattle.fd_language.specs.declared.range_node.Need.{Need}
+use Rattle.fd_language.specs.Needs.{stronger}
 
 -- one more place: its need joins those of the parameter, or stands at the end
 abbrev pub put : List (ℕ × Need) → ℕ → Need → List (ℕ × Need)

@@ -1,11 +1,11 @@
 -- What is asked of the parameters of the ranges and terms that wait for their operators.
 use Rattle.std.specs.Prelude.{◌≡◌, ℕ, List, [], ◌∷◌, ◌++◌, length, drop, false, Option, Some, None}
-use Rattle.fd_model.specs.declared.range_node.Need.{Need}
-use Rattle.fd_model.specs.declared.range_node.RangeNode.{RangeNode}
-use Rattle.fd_model.specs.Range.{Range, Expr}
-use Rattle.fd_model.specs.Needs.{is_literal, expr_asks, asks}
-use Rattle.fd_model.specs.Check.{is_parameter}
-use Rattle.fd_model.specs.Flat.{built, spelled}
+use Rattle.fd_language.specs.declared.range_node.Need.{Need}
+use Rattle.fd_language.specs.declared.range_node.RangeNode.{RangeNode}
+use Rattle.fd_language.specs.Range.{Range, Expr}
+use Rattle.fd_language.specs.Needs.{is_literal, expr_asks, asks}
+use Rattle.fd_language.specs.Check.{is_parameter}
+use Rattle.fd_language.specs.Flat.{built, spelled}
 use Rattle.monotone_check.specs.declared.asks.OpenTerm.{OpenTerm}
 use Rattle.monotone_check.specs.declared.asks.Reading.{Reading}
 use Rattle.monotone_check.specs.Asked.{asks_now}

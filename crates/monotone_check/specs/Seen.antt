@@ -1,10 +1,10 @@
 -- The variables that were met, and the clashes of those that are still to come.
 use Rattle.std.specs.Prelude.{◌≡◌, ℕ, suc, List, ◌∷◌, nat_eq, Option}
 use Rattle.std.specs.List.{list_any}
-use Rattle.fd_model.specs.declared.range_node.RangeNode.{RangeNode}
-use Rattle.fd_model.specs.declared.range_node.Offence.{Offence}
-use Rattle.fd_model.specs.Family.{has}
-use Rattle.fd_model.specs.RangeVerdict.{clashes, earlier, first}
+use Rattle.fd_language.specs.declared.range_node.RangeNode.{RangeNode}
+use Rattle.fd_language.specs.declared.range_node.Offence.{Offence}
+use Rattle.fd_language.specs.Family.{has}
+use Rattle.fd_language.specs.RangeVerdict.{clashes, earlier, first}
 
 -- the keys are those of the list
 abbrev pub AreSeen : List ℕ → List ℕ → Type 0

@@ -1,9 +1,9 @@
 -- The terms and ranges that wait for their operators, and what is kept of each.
 use Rattle.std.specs.Prelude.{◌≡◌, ℕ, suc, ◌-◌, List, [], ◌∷◌, ◌++◌, Option, Some, None}
-use Rattle.fd_model.specs.declared.range_node.RangeNode.{RangeNode}
-use Rattle.fd_model.specs.Range.{Range, Expr}
-use Rattle.fd_model.specs.Flat.{built}
-use Rattle.fd_model.specs.RangeVerdict.{expr_size, range_size}
+use Rattle.fd_language.specs.declared.range_node.RangeNode.{RangeNode}
+use Rattle.fd_language.specs.Range.{Range, Expr}
+use Rattle.fd_language.specs.Flat.{built}
+use Rattle.fd_language.specs.RangeVerdict.{expr_size, range_size}
 use Rattle.monotone_check.specs.declared.summary.TermCheck.{TermCheck}
 use Rattle.monotone_check.specs.declared.summary.RangeCheck.{RangeCheck}
 use Rattle.monotone_check.specs.declared.pending.Pending.{Pending}

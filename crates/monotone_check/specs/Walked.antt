@@ -1,9 +1,9 @@
 -- How far a range is walked.
 use Rattle.std.specs.Prelude.{◌≡◌, ℕ, List, Some, drop}
-use Rattle.fd_model.specs.declared.range_node.RangeNode.{RangeNode}
-use Rattle.fd_model.specs.declared.TheConstants.{INFINITY}
-use Rattle.fd_model.specs.Range.{Range, Expr}
-use Rattle.fd_model.specs.Flat.{built, spelled}
+use Rattle.fd_language.specs.declared.range_node.RangeNode.{RangeNode}
+use Rattle.fd_language.specs.declared.TheConstants.{INFINITY}
+use Rattle.fd_language.specs.Range.{Range, Expr}
+use Rattle.fd_language.specs.Flat.{built, spelled}
 use Rattle.monotone_check.specs.declared.pending.Pending.{Pending}
 use Rattle.monotone_check.specs.Waiting.{IsPending}
 

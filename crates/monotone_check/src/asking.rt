@@ -1,12 +1,12 @@
 // What is asked of each parameter, from left to right.
 
 ghost use Rattle.std.specs.Prelude.{◌≡◌, ℕ, suc, ◌+◌, List, [], ◌∷◌, ◌++◌, length, Some, None, IfOk, OnOk, OnErr};
-ghost use Rattle.fd_model.specs.Needs.{expr_asks};
-ghost use Rattle.fd_model.specs.declared.range_node.Need.{Need as Asks};
-ghost use Rattle.fd_model.specs.declared.range_node.Need.TheVariants.{Whole, Divisor};
+ghost use Rattle.fd_language.specs.Needs.{expr_asks};
+ghost use Rattle.fd_language.specs.declared.range_node.Need.{Need as Asks};
+ghost use Rattle.fd_language.specs.declared.range_node.Need.TheVariants.{Whole, Divisor};
 ghost use Rattle.monotone_check.specs.Asked.{told, raised};
 
-use fd_model::{Need, NoMemory};
+use fd_language::{Need, NoMemory};
 use std::alloc::Global;
 
 /// A place of a parameter. A natural term that ends here asks for at least `Natural` from the number `floor` on.

@@ -1,13 +1,13 @@
 // What is asked of the parameters, node by node.
 
 ghost use Rattle.std.specs.Prelude.{◌≡◌, ℕ, suc, List, [], ◌∷◌, ◌++◌, IsTrue, IfOk, OnOk};
-ghost use Rattle.fd_model.specs.Needs.{asks};
-ghost use Rattle.fd_model.specs.Flat.{spelled, IsSpelled};
+ghost use Rattle.fd_language.specs.Needs.{asks};
+ghost use Rattle.fd_language.specs.Flat.{spelled, IsSpelled};
 ghost use Rattle.monotone_check.specs.Opened.{TakesAsks};
 ghost use Rattle.monotone_check.specs.Asked.{told, AsksOf, joins, Opens, OpensParameter, Operates, Closes, ClosesQuotient};
 
 use crate::asking::Asking;
-use fd_model::{NoMemory, RangeNode};
+use fd_language::{NoMemory, RangeNode};
 use std::alloc::Global;
 
 /// A term that waits for its operator: whether it is a literal, or a parameter alone, and the number of its first place of a parameter.

@@ -1,13 +1,13 @@
 // Variables with two uses: as a parameter, and in min, max, val or dom.
 
 ghost use Rattle.std.specs.Prelude.{◌≡◌, ℕ, suc, List, [], ◌∷◌, length, slice_index, Option, IfOk, OnOk, IsTrue};
-ghost use Rattle.fd_model.specs.declared.range_node.RangeNode.{RangeNode as Spelled};
-ghost use Rattle.fd_model.specs.RangeVerdict.{clashes, first, where_first_clash, earlier as earlier_of};
-ghost use Rattle.fd_model.specs.Family.{has};
+ghost use Rattle.fd_language.specs.declared.range_node.RangeNode.{RangeNode as Spelled};
+ghost use Rattle.fd_language.specs.RangeVerdict.{clashes, first, where_first_clash, earlier as earlier_of};
+ghost use Rattle.fd_language.specs.Family.{has};
 ghost use Rattle.monotone_check.specs.Seen.{AreSeen, FindsAt};
 
 use crate::offences::earlier;
-use fd_model::{NoMemory, Offence, RangeNode};
+use fd_language::{NoMemory, Offence, RangeNode};
 use std::alloc::Global;
 use std::collections::HashSet;
 

@@ -2,13 +2,13 @@
 
 ghost use Rattle.std.specs.Prelude.{◌≡◌, ℕ, List, [], ◌∷◌, ◌++◌, length, reverse, IfOk, OnOk, map, nat_eq, nat_lt, if◌then◌else◌};
 ghost use Rattle.std.specs.List.{position_or_len};
-ghost use Rattle.fd_model.specs.Needs.{stronger as stronger_of};
-ghost use Rattle.fd_model.specs.declared.range_node.Need.{Need as Asks};
+ghost use Rattle.fd_language.specs.Needs.{stronger as stronger_of};
+ghost use Rattle.fd_language.specs.declared.range_node.Need.{Need as Asks};
 ghost use Rattle.monotone_check.specs.Asked.{told, raise};
 ghost use Rattle.monotone_check.specs.Gathered.{put, put_all};
 
 use crate::asking::Asked;
-use fd_model::{Need, NoMemory};
+use fd_language::{Need, NoMemory};
 use indexmap::IndexSet;
 use std::alloc::Global;
 

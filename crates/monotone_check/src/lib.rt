@@ -3,9 +3,9 @@
 #![tactic(auto)]
 
 ghost use Rattle.std.specs.Prelude.{◌≡◌, length, IsTrue, MatchResult, IfOk, Some, None};
-ghost use Rattle.fd_model.specs.Flat.{nodes_of};
-ghost use Rattle.fd_model.specs.Needs.{needs as needs_of};
-ghost use Rattle.fd_model.specs.RangeVerdict.{verdict, is_accepted};
+ghost use Rattle.fd_language.specs.Flat.{nodes_of};
+ghost use Rattle.fd_language.specs.Needs.{needs as needs_of};
+ghost use Rattle.fd_language.specs.RangeVerdict.{verdict, is_accepted};
 ghost use Rattle.monotone_check.specs.Faults.{IsFaultOf};
 
 mod asking;
@@ -22,7 +22,7 @@ use crate::clash::first_clash;
 use crate::gather::gather;
 use crate::offences::earlier;
 use crate::walk::summarize;
-use fd_model::{FlatRange, INFINITY, Need, NoMemory, Offence};
+use fd_language::{FlatRange, INFINITY, Need, NoMemory, Offence};
 use std::alloc::Global;
 use std::marker::Model;
 use thiserror::Error;
@@ -57,16 +57,16 @@ pub struct Checked {
 impl Model for Checked {
     ghost use Rattle.std.specs.Prelude.{IsTrue};
     ghost use Rattle.std.specs.Coded.{code_by, coded_list};
-    ghost use Rattle.fd_model.specs.contracts.range_node.RangeNode as node;
-    ghost use Rattle.fd_model.specs.Range.{Range};
-    ghost use Rattle.fd_model.specs.Flat.{nodes_of, spelled, spelled-nodes};
+    ghost use Rattle.fd_language.specs.contracts.range_node.RangeNode as node;
+    ghost use Rattle.fd_language.specs.Range.{Range};
+    ghost use Rattle.fd_language.specs.Flat.{nodes_of, spelled, spelled-nodes};
 
     ghost Value = { Range };
 
     ghost coded = { code_by _ (coded_list node.the_row.coded) nodes_of spelled spelled-nodes };
 
-    ghost use Rattle.fd_model.specs.RangeVerdict.{is_accepted};
-    ghost use Rattle.fd_model.specs.declared.TheConstants.{INFINITY};
+    ghost use Rattle.fd_language.specs.RangeVerdict.{is_accepted};
+    ghost use Rattle.fd_language.specs.declared.TheConstants.{INFINITY};
 
     ghost view = { λ c. c.range };
 

@@ -1,11 +1,11 @@
 // Offences, and which of them comes first.
 
 ghost use Rattle.std.specs.Prelude.{◌≡◌, ℕ, ◌<◌, IsTrue, Option};
-ghost use Rattle.fd_model.specs.RangeVerdict.{is_before, earlier as earlier_of, place_of, kind_of};
-ghost use Rattle.fd_model.specs.Check.{Wish, turn};
+ghost use Rattle.fd_language.specs.RangeVerdict.{is_before, earlier as earlier_of, place_of, kind_of};
+ghost use Rattle.fd_language.specs.Check.{Wish, turn};
 ghost use Rattle.monotone_check.specs.Wishes.{by_wish};
 
-use fd_model::Offence;
+use fd_language::Offence;
 
 /// The place of the node, and the rank of its kind at equal places.
 fn rank(offence: Offence) -> (usize, u8)

@@ -1,16 +1,16 @@
 // The terms and ranges that wait for their operators.
 
 ghost use Rattle.std.specs.Prelude.{◌≡◌, ℕ, suc, List, [], ◌∷◌, ◌++◌, Some, None, IfOk};
-ghost use Rattle.fd_model.specs.declared.range_node.RangeNode.{RangeNode as Spelled};
-ghost use Rattle.fd_model.specs.Range.{Range, Expr};
-ghost use Rattle.fd_model.specs.Flat.{built};
+ghost use Rattle.fd_language.specs.declared.range_node.RangeNode.{RangeNode as Spelled};
+ghost use Rattle.fd_language.specs.Range.{Range, Expr};
+ghost use Rattle.fd_language.specs.Flat.{built};
 ghost use Rattle.monotone_check.specs.Waiting.{IsPending, Follows};
 ghost use Rattle.monotone_check.specs.Steps.{PushesLeaf, PushesOperated, PushesSpan, PushesSingle, PushesDomain, PushesCombined, PushesComplement, PushesPointwise};
 
 use crate::summary::{
     RangeCheck, TermCheck, combined, complement, domain, leaf, operate, pointwise, single, span,
 };
-use fd_model::{INFINITY, NoMemory, RangeNode};
+use fd_language::{INFINITY, NoMemory, RangeNode};
 use std::alloc::Global;
 
 /// What is kept of the ranges and terms that wait for their operators, the last one last. The nodes spell a range, so an operator's

@@ -1,10 +1,10 @@
 //! Ranges with their verdicts, as the rules of the check give them.
 
 ghost use Rattle.std.specs.Prelude.{◌≡◌, length};
-ghost use Rattle.fd_model.specs.Flat.{nodes_of};
+ghost use Rattle.fd_language.specs.Flat.{nodes_of};
 
 use super::*;
-use fd_model::RangeNode;
+use fd_language::RangeNode;
 use std::process::Abort;
 use std::test::Fail;
 

@@ -1,13 +1,13 @@
 // The check of a whole range, node by node.
 
 ghost use Rattle.std.specs.Prelude.{◌≡◌, ℕ, ◌-◌, length, slice_index, IfOk};
-ghost use Rattle.fd_model.specs.Flat.{spelled, IsSpelled};
-ghost use Rattle.fd_model.specs.RangeVerdict.{range_size};
+ghost use Rattle.fd_language.specs.Flat.{spelled, IsSpelled};
+ghost use Rattle.fd_language.specs.RangeVerdict.{range_size};
 ghost use Rattle.monotone_check.specs.Summary.{IsRange};
 
 use crate::pending::Pending;
 use crate::summary::RangeCheck;
-use fd_model::{INFINITY, NoMemory, RangeNode};
+use fd_language::{INFINITY, NoMemory, RangeNode};
 use std::alloc::Global;
 
 /// What is kept of the range that the nodes spell.

@@ -2,14 +2,14 @@
 use Rattle.std.proofs.Common.{◌≡◌, ℕ, Bool, true, false, cond, ◌||◌, ◌==◌, List, [], ◌∷◌, ◌++◌, map, Option, Some, None, refl, sym, ◌∙◌, ap, eqb-true, inl, inr}
 use Rattle.std.proofs.lemmas.Bool.{cases_Bool, true≢false}
 use Rattle.std.proofs.lemmas.List.{map-append}
-use Rattle.fd_model.specs.declared.range_node.Need.{Need}
-use Rattle.fd_model.specs.declared.range_node.Need.TheVariants.{Divisor}
-use Rattle.fd_model.specs.Family.{has}
-use Rattle.fd_model.specs.Range.{Range, Span, One, Dom, Union, Inter, Outside, Plus, Minus, Times, Over, Expr, Number, Infinity, Param, Min, Max, Val, Add, Sub, Mul, DivDown, DivUp}
-use Rattle.fd_model.specs.Needs.{is_literal, quotient_asks, expr_asks, over_asks, asks, parameters, need_of, needs}
-use Rattle.fd_model.specs.RangeVerdict.{params, expr_params}
-use Rattle.fd_model.proofs.Directions.{first_of_two, second_of_two}
-use Rattle.fd_model.proofs.Renaming.{two}
+use Rattle.fd_language.specs.declared.range_node.Need.{Need}
+use Rattle.fd_language.specs.declared.range_node.Need.TheVariants.{Divisor}
+use Rattle.fd_language.specs.Family.{has}
+use Rattle.fd_language.specs.Range.{Range, Span, One, Dom, Union, Inter, Outside, Plus, Minus, Times, Over, Expr, Number, Infinity, Param, Min, Max, Val, Add, Sub, Mul, DivDown, DivUp}
+use Rattle.fd_language.specs.Needs.{is_literal, quotient_asks, expr_asks, over_asks, asks, parameters, need_of, needs}
+use Rattle.fd_language.specs.Range.{params, expr_params}
+use Rattle.fd_language.proofs.Directions.{first_of_two, second_of_two}
+use Rattle.fd_language.proofs.RangeRenaming.{two}
 use Rattle.range_code.specs.Asked.{unless_found, need_in}
 use Rattle.range_code.specs.Slots.{slots_of, need_at, slot_needs}
 use Rattle.range_code.proofs.Once.{has_once}

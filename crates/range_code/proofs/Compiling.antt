@@ -3,15 +3,15 @@ use Rattle.std.proofs.Common.{◌≡◌, ℕ, suc, ◌+◌, ◌<◌, ◌≤◌, 
 use Rattle.std.specs.Prelude.{MatchOption}
 use Rattle.std.specs.List.{position, position_or_len}
 use Rattle.std.proofs.lemmas.List.{take_more}
-use Rattle.fd_model.specs.declared.TheConstants.{INFINITY}
-use Rattle.fd_model.specs.declared.range_node.Need.{Need}
-use Rattle.fd_model.specs.declared.range_node.Feature.{Feature}
-use Rattle.fd_model.specs.declared.range_node.RangeNode.{RangeNode}
-use Rattle.fd_model.specs.Range.{Range}
-use Rattle.fd_model.specs.Flat.{nodes_of, spelled, spelled-nodes}
-use Rattle.fd_model.specs.RangeVerdict.{is_accepted}
-use Rattle.fd_model.specs.Needs.{needs, once}
-use Rattle.fd_model.specs.Features.{each_once}
+use Rattle.fd_language.specs.declared.TheConstants.{INFINITY}
+use Rattle.fd_language.specs.declared.range_node.Need.{Need}
+use Rattle.fd_language.specs.declared.range_node.Feature.{Feature}
+use Rattle.fd_language.specs.declared.range_node.RangeNode.{RangeNode}
+use Rattle.fd_language.specs.Range.{Range}
+use Rattle.fd_language.specs.Flat.{nodes_of, spelled, spelled-nodes}
+use Rattle.fd_language.specs.RangeVerdict.{is_accepted}
+use Rattle.fd_language.specs.Needs.{needs, once}
+use Rattle.fd_language.specs.Features.{each_once}
 use Rattle.range_code.specs.Asked.{need_in}
 use Rattle.range_code.specs.Nodes.{node_variables, node_features, node_variable, node_feature, listed, rename_node}
 use Rattle.range_code.specs.Slots.{slots_of, slot_of, in_slots, IsCompiled}

@@ -5,17 +5,17 @@ use Rattle.std.proofs.lemmas.Int.{ints}
 use Rattle.std.proofs.lemmas.Bool.{true≢false, or_left}
 use Rattle.std.proofs.Common.{arith}
 use Rattle.std.proofs.lemmas.List.Elements.{All-nil, All-cons, All-head, All-tail, All-append}
-use Rattle.fd_model.specs.declared.TheConstants.{INFINITY}
-use Rattle.fd_model.specs.Family.{Family, has, universe}
-use Rattle.fd_model.specs.Range.{Range, Span, One, Dom, Union, Inter, Outside, Plus, Minus, Times, Over, Expr, Number, Infinity, Param, Min, Max, Val, Add, Sub, Mul, DivDown, DivUp, value, div_down, div_up, least, greatest, reads, expr_reads}
-use Rattle.fd_model.specs.Needs.{is_literal}
-use Rattle.fd_model.specs.Check.{Constant, fill, fill_range, literal_value, is_parameter, expr_fits, range_fits}
-use Rattle.fd_model.specs.Met.{expr_values, expr_divisors, range_values, range_divisors}
-use Rattle.fd_model.specs.Renaming.{rename_expr, rename_range}
-use Rattle.fd_model.proofs.Directions.{first_of_two, second_of_two, literal_is}
-use Rattle.fd_model.proofs.Meeting.{expr_meets, over_meets, range_meets}
-use Rattle.fd_model.proofs.Renaming.{two}
-use Rattle.fd_model.proofs.Monotone.{in_left, in_right}
+use Rattle.fd_language.specs.declared.TheConstants.{INFINITY}
+use Rattle.fd_language.specs.Family.{Family, has, universe}
+use Rattle.fd_language.specs.Range.{Range, Span, One, Dom, Union, Inter, Outside, Plus, Minus, Times, Over, Expr, Number, Infinity, Param, Min, Max, Val, Add, Sub, Mul, DivDown, DivUp, value, div_down, div_up, least, greatest, reads, expr_reads}
+use Rattle.fd_language.specs.Needs.{is_literal}
+use Rattle.fd_language.specs.Check.{Constant, fill, fill_range, literal_value, is_parameter, expr_fits, range_fits}
+use Rattle.fd_language.specs.Met.{expr_values, expr_divisors, range_values, range_divisors}
+use Rattle.fd_language.specs.RangeRenaming.{rename_expr, rename_range}
+use Rattle.fd_language.proofs.Directions.{first_of_two, second_of_two, literal_is}
+use Rattle.fd_language.proofs.Meeting.{expr_meets, over_meets, range_meets}
+use Rattle.fd_language.proofs.RangeRenaming.{two}
+use Rattle.fd_language.proofs.Monotone.{in_left, in_right}
 use Rattle.range_code.specs.Work.{IsLimited, filled_value, Fits, RangeFits}
 
 front_all : {A : Type 0} (P : A → Type 0) (xs ys : List A) → All P (xs ++ ys) → All P xs

@@ -3,18 +3,19 @@ use Rattle.std.proofs.Common.{◌≡◌, ℕ, suc, ◌+◌, ◌<◌, Bool, true,
 use Rattle.std.specs.List.{All, list_all, position_or_len}
 use Rattle.std.proofs.lemmas.Bool.{cases_Bool, true≢false, or_left, or_cases}
 use Rattle.std.proofs.lemmas.List.Elements.{All-nil, All-cons}
-use Rattle.fd_model.specs.declared.range_node.Need.{Need}
-use Rattle.fd_model.specs.declared.range_node.RangeNode.{RangeNode}
-use Rattle.fd_model.specs.declared.range_node.RangeNode.TheVariants as node
-use Rattle.fd_model.specs.Family.{has}
-use Rattle.fd_model.specs.Range.{Range, Span, One, Dom, Union, Inter, Outside, Plus, Minus, Times, Over, Expr, Number, Infinity, Param, Min, Max, Val, Add, Sub, Mul, DivDown, DivUp, reads, expr_reads}
-use Rattle.fd_model.specs.RangeVerdict.{params, expr_params, has_one_use}
-use Rattle.fd_model.specs.Needs.{need_of}
-use Rattle.fd_model.specs.Posting.{Place, expr_places, range_places}
-use Rattle.fd_model.specs.Flat.{expr_nodes, range_nodes, nodes_of}
-use Rattle.fd_model.specs.Renaming.{rename_expr, rename_range}
-use Rattle.fd_model.proofs.Sets.{has_either}
-use Rattle.fd_model.proofs.Monotone.{in_left, in_right}
+use Rattle.fd_language.specs.declared.range_node.Need.{Need}
+use Rattle.fd_language.specs.declared.range_node.RangeNode.{RangeNode}
+use Rattle.fd_language.specs.declared.range_node.RangeNode.TheVariants as node
+use Rattle.fd_language.specs.Family.{has}
+use Rattle.fd_language.specs.Range.{Range, Span, One, Dom, Union, Inter, Outside, Plus, Minus, Times, Over, Expr, Number, Infinity, Param, Min, Max, Val, Add, Sub, Mul, DivDown, DivUp, reads, expr_reads}
+use Rattle.fd_language.specs.Range.{params, expr_params}
+use Rattle.fd_language.specs.RangeVerdict.{has_one_use}
+use Rattle.fd_language.specs.Needs.{need_of}
+use Rattle.fd_language.specs.Places.{Place, expr_places, range_places}
+use Rattle.fd_language.specs.Flat.{expr_nodes, range_nodes, nodes_of}
+use Rattle.fd_language.specs.RangeRenaming.{rename_expr, rename_range}
+use Rattle.fd_language.proofs.Sets.{has_either}
+use Rattle.fd_language.proofs.Monotone.{in_left, in_right}
 use Rattle.range_code.specs.declared.frame.Arg.{Arg}
 use Rattle.range_code.specs.declared.frame.Arg.TheVariants.{Var, Int}
 use Rattle.range_code.specs.Slots.{slots_of, slot_of, need_at, in_slots}

@@ -4,10 +4,10 @@ use Rattle.std.specs.List.{list_any}
 use Rattle.std.proofs.lemmas.Bool.{cases_Bool}
 use Rattle.std.proofs.lemmas.List.Elements.{filter-append}
 use Rattle.std.proofs.lemmas.List.Folds.{list_any-append}
-use Rattle.fd_model.specs.declared.range_node.Feature.{Feature}
-use Rattle.fd_model.specs.Family.{has}
-use Rattle.fd_model.specs.Needs.{once}
-use Rattle.fd_model.specs.Features.{is_same_pair, is_same_feature, each_once}
+use Rattle.fd_language.specs.declared.range_node.Feature.{Feature}
+use Rattle.fd_language.specs.Family.{has}
+use Rattle.fd_language.specs.Needs.{once}
+use Rattle.fd_language.specs.Features.{is_same_pair, is_same_feature, each_once}
 use Rattle.range_code.specs.Gathered.{has_pair}
 use Rattle.range_code.proofs.Variables.{nothing_behind}
 

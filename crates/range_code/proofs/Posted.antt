@@ -3,17 +3,18 @@ use Rattle.std.proofs.Common.{◌≡◌, ℕ, ℤ, ◌<◌, Bool, true, cond, �
 use Rattle.std.specs.List.{list_all}
 use Rattle.std.proofs.lemmas.Bool.{true≢false, or_left, or_right, or_cases}
 use Rattle.std.proofs.lemmas.List.Folds.{list_all-map}
-use Rattle.fd_model.specs.declared.TheConstants.{INFINITY}
-use Rattle.fd_model.specs.declared.range_node.Need.{Need}
-use Rattle.fd_model.specs.Family.{has}
-use Rattle.fd_model.specs.Range.{Range, reads}
-use Rattle.fd_model.specs.Needs.{meets, asks, parameters, need_of, meets_needs}
-use Rattle.fd_model.specs.Check.{fill_range, range_fits}
-use Rattle.fd_model.specs.RangeVerdict.{params, range_within, is_accepted, has_one_use}
-use Rattle.fd_model.specs.Laws.{IsMonotone}
-use Rattle.fd_model.proofs.Directions.{first_of_two, second_of_two}
-use Rattle.fd_model.proofs.Monotone.{accepted_is_monotone}
-use Rattle.fd_model.proofs.Renaming.{two, reads_map, monotone_renamed}
+use Rattle.fd_language.specs.declared.TheConstants.{INFINITY}
+use Rattle.fd_language.specs.declared.range_node.Need.{Need}
+use Rattle.fd_language.specs.Family.{has}
+use Rattle.fd_language.specs.Range.{Range, reads}
+use Rattle.fd_language.specs.Needs.{meets, asks, parameters, need_of, meets_needs}
+use Rattle.fd_language.specs.Check.{fill_range, range_fits}
+use Rattle.fd_language.specs.Range.{params}
+use Rattle.fd_language.specs.RangeVerdict.{range_within, is_accepted, has_one_use}
+use Rattle.fd_language.specs.Monotonicity.{IsMonotone}
+use Rattle.fd_language.proofs.Directions.{first_of_two, second_of_two}
+use Rattle.fd_language.proofs.Monotone.{accepted_is_monotone}
+use Rattle.fd_language.proofs.RangeRenaming.{two, reads_map, monotone_renamed}
 use Rattle.range_code.specs.declared.frame.Arg.{Arg}
 use Rattle.range_code.specs.declared.frame.Arg.TheVariants.{Var, Int}
 use Rattle.range_code.specs.Slots.{slot_of}

@@ -5,22 +5,22 @@ use Rattle.std.specs.List.{All, list_any}
 use Rattle.std.proofs.lemmas.Bool.{true≢false, or_left, or_right, or_cases}
 use Rattle.std.proofs.lemmas.Result.{IfOk-weaker}
 use Rattle.std.proofs.lemmas.List.Elements.{All-head, All-tail}
-use Rattle.fd_model.specs.declared.TheConstants.{INFINITY}
-use Rattle.fd_model.specs.declared.range_node.Need.{Need}
-use Rattle.fd_model.specs.declared.range_node.Feature.{Feature}
-use Rattle.fd_model.specs.declared.range_node.RangeNode.{RangeNode}
-use Rattle.fd_model.specs.Family.{Family, has, universe, IsRising, IsFamily}
-use Rattle.fd_model.specs.Range.{Range, Span, One, Dom, Union, Inter, Outside, Plus, Minus, Times, Over, Expr, Number, Infinity, Param, Min, Max, Val, Add, Sub, Mul, DivDown, DivUp, reads, vals, in_range, set_of, is_none_left, is_several}
-use Rattle.fd_model.specs.Needs.{meets_needs}
-use Rattle.fd_model.specs.Check.{fill, fill_range}
-use Rattle.fd_model.specs.RangeVerdict.{is_accepted}
-use Rattle.fd_model.specs.Renaming.{rename_expr, rename_range}
-use Rattle.fd_model.specs.Features.{range_features, features_of}
-use Rattle.fd_model.specs.Flat.{nodes_of, spelled, IsSpelled, spelled-nodes}
-use Rattle.fd_model.specs.CheckLaws.{AreBounded}
-use Rattle.fd_model.proofs.Limits.{bounded_values}
-use Rattle.fd_model.proofs.Meeting.{needs_met}
-use Rattle.fd_model.proofs.Renaming.{two, reads_map, set_same}
+use Rattle.fd_language.specs.declared.TheConstants.{INFINITY}
+use Rattle.fd_language.specs.declared.range_node.Need.{Need}
+use Rattle.fd_language.specs.declared.range_node.Feature.{Feature}
+use Rattle.fd_language.specs.declared.range_node.RangeNode.{RangeNode}
+use Rattle.fd_language.specs.Family.{Family, has, universe, IsRising, IsFamily}
+use Rattle.fd_language.specs.Range.{Range, Span, One, Dom, Union, Inter, Outside, Plus, Minus, Times, Over, Expr, Number, Infinity, Param, Min, Max, Val, Add, Sub, Mul, DivDown, DivUp, reads, vals, in_range, set_of, is_none_left, is_several}
+use Rattle.fd_language.specs.Needs.{meets_needs}
+use Rattle.fd_language.specs.Check.{fill, fill_range}
+use Rattle.fd_language.specs.RangeVerdict.{is_accepted}
+use Rattle.fd_language.specs.RangeRenaming.{rename_expr, rename_range}
+use Rattle.fd_language.specs.Features.{range_features, features_of}
+use Rattle.fd_language.specs.Flat.{nodes_of, spelled, IsSpelled, spelled-nodes}
+use Rattle.fd_language.specs.CheckLaws.{AreBounded}
+use Rattle.fd_language.proofs.Limits.{bounded_values}
+use Rattle.fd_language.proofs.Meeting.{needs_met}
+use Rattle.fd_language.proofs.RangeRenaming.{two, reads_map, set_same}
 use Rattle.range_code.specs.declared.frame.Arg.{Arg}
 use Rattle.range_code.specs.declared.frame.Standing.TheVariants.{Empty, Open, Settled}
 use Rattle.range_code.specs.Slots.{slot_of, in_slots, IsCompiled}

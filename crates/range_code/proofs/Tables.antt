@@ -6,10 +6,10 @@ use Rattle.std.specs.Ordering.{int_eq}
 use Rattle.std.proofs.lemmas.Int.{ints}
 use Rattle.std.proofs.lemmas.Bool.{cases_Bool, true≢false}
 use Rattle.std.proofs.lemmas.List.Elements.{filter_agree}
-use Rattle.fd_model.specs.Family.{has, universe, count_up, IsRising}
-use Rattle.fd_model.specs.Range.{some_number}
-use Rattle.fd_model.proofs.Sets.{has-filter, has-filter_back, universe_rising, in_universe, rising_same, rising_inside}
-use Rattle.fd_model.proofs.Greatest.{rising-filter}
+use Rattle.fd_language.specs.Family.{has, universe, count_up, IsRising}
+use Rattle.fd_language.specs.Range.{some_number}
+use Rattle.fd_language.proofs.Sets.{has-filter, has-filter_back, universe_rising, in_universe, rising_same, rising_inside}
+use Rattle.fd_language.proofs.Greatest.{rising-filter}
 use Rattle.domain_ranges.specs.Sets.{is_shifted, is_scaled, is_quotient}
 
 keeps_up : (p q : ℕ → Bool) (low k : ℕ) → ((n : ℕ) → n < low + k → p n ≡ q n) → filter p (count_up low k) ≡ filter q (count_up low k)

@@ -1,12 +1,12 @@
 -- The variables of a range's nodes are those of its places.
 use Rattle.std.proofs.Common.{◌≡◌, ℕ, List, [], ◌∷◌, ◌++◌, map, refl, ◌∙◌, ap}
-use Rattle.fd_model.specs.declared.range_node.RangeNode.{RangeNode}
-use Rattle.fd_model.specs.declared.range_node.RangeNode.TheVariants as node
-use Rattle.fd_model.specs.Range.{Range, Span, One, Dom, Union, Inter, Outside, Plus, Minus, Times, Over, Expr, Number, Infinity, Param, Min, Max, Val, Add, Sub, Mul, DivDown, DivUp}
-use Rattle.fd_model.specs.Posting.{Place, expr_places, range_places}
-use Rattle.fd_model.specs.Flat.{expr_nodes, range_nodes, nodes_of}
-use Rattle.fd_model.specs.Renaming.{rename_expr, rename_range}
-use Rattle.fd_model.specs.Features.{expr_features, range_features}
+use Rattle.fd_language.specs.declared.range_node.RangeNode.{RangeNode}
+use Rattle.fd_language.specs.declared.range_node.RangeNode.TheVariants as node
+use Rattle.fd_language.specs.Range.{Range, Span, One, Dom, Union, Inter, Outside, Plus, Minus, Times, Over, Expr, Number, Infinity, Param, Min, Max, Val, Add, Sub, Mul, DivDown, DivUp}
+use Rattle.fd_language.specs.Places.{Place, expr_places, range_places}
+use Rattle.fd_language.specs.Flat.{expr_nodes, range_nodes, nodes_of}
+use Rattle.fd_language.specs.RangeRenaming.{rename_expr, rename_range}
+use Rattle.fd_language.specs.Features.{expr_features, range_features}
 use Rattle.range_code.specs.Nodes.{listed, node_variable, node_variables, rename_node, node_feature, node_features}
 
 abbrev of_places : List Place → List ℕ

@@ -2,11 +2,11 @@
 use Rattle.std.proofs.Common.{◌≡◌, ℕ, ℤ, ◌+◌, ◌<◌, ◌≤◌, List, [], ◌∷◌, ◌++◌, length, drop, get_or, Option, Some, refl, sym, ◌∙◌, ap, subst}
 use Rattle.std.specs.Option.{option_to_list}
 use Rattle.std.proofs.lemmas.List.{at_drop_more, drop_all}
-use Rattle.fd_model.specs.declared.range_node.RangeNode.{RangeNode}
-use Rattle.fd_model.specs.declared.range_node.RangeNode.TheVariants as node
-use Rattle.fd_model.specs.Family.{Family}
-use Rattle.fd_model.specs.Range.{Range, Span, One, Dom, Union, Inter, Outside, Plus, Minus, Times, Over, Expr, Number, Infinity, Param, Min, Max, Val, Add, Sub, Mul, DivDown, DivUp}
-use Rattle.fd_model.specs.Flat.{built, spelled, IsSpelled, builds_range, spelled-nodes}
+use Rattle.fd_language.specs.declared.range_node.RangeNode.{RangeNode}
+use Rattle.fd_language.specs.declared.range_node.RangeNode.TheVariants as node
+use Rattle.fd_language.specs.Family.{Family}
+use Rattle.fd_language.specs.Range.{Range, Span, One, Dom, Union, Inter, Outside, Plus, Minus, Times, Over, Expr, Number, Infinity, Param, Min, Max, Val, Add, Sub, Mul, DivDown, DivUp}
+use Rattle.fd_language.specs.Flat.{built, spelled, IsSpelled, builds_range, spelled-nodes}
 use Rattle.range_code.specs.declared.work.Work.{Work}
 use Rattle.range_code.specs.Work.{filled_value, filled_set, Fits, RangeFits, CanOperate, CanMove, CanTake, stacked_values, IsPending, Follows}
 

@@ -1,6 +1,6 @@
 -- The needs of parameters, found by their variables.
 use Rattle.std.specs.Prelude.{ℕ, ◌==◌, if◌then◌else◌, List, [], ◌∷◌, Option, Some, None}
-use Rattle.fd_model.specs.declared.range_node.Need.{Need}
+use Rattle.fd_language.specs.declared.range_node.Need.{Need}
 
 abbrev pub unless_found : Option Need → Option Need → Option Need
 unless_found (Some n) m = Some n

@@ -1,12 +1,12 @@
 -- The arguments of a range, one for each slot, and the range that they make of it.
 use Rattle.std.specs.Prelude.{ℕ, ◌<◌, IsTrue, ℤ, pos, List, [], ◌∷◌, slice_index_or, Option, Some, None}
-use Rattle.fd_model.specs.declared.range_node.Need.{Need}
-use Rattle.fd_model.specs.declared.TheConstants.{INFINITY}
-use Rattle.fd_model.specs.Family.{Family, universe}
-use Rattle.fd_model.specs.Range.{Range}
-use Rattle.fd_model.specs.Needs.{meets}
-use Rattle.fd_model.specs.Check.{fill_range}
-use Rattle.fd_model.specs.Renaming.{rename_range}
+use Rattle.fd_language.specs.declared.range_node.Need.{Need}
+use Rattle.fd_language.specs.declared.TheConstants.{INFINITY}
+use Rattle.fd_language.specs.Family.{Family, universe}
+use Rattle.fd_language.specs.Range.{Range}
+use Rattle.fd_language.specs.Needs.{meets}
+use Rattle.fd_language.specs.Check.{fill_range}
+use Rattle.fd_language.specs.RangeRenaming.{rename_range}
 use Rattle.range_code.specs.declared.frame.Arg.{Arg}
 use Rattle.range_code.specs.declared.frame.Arg.TheVariants.{Var, Int}
 use Rattle.range_code.specs.Slots.{slot_of, slot_needs}

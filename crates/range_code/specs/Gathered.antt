@@ -1,10 +1,10 @@
 -- What is gathered of a range node by node.
 use Rattle.std.specs.Prelude.{◌≡◌, ℕ, Bool, nat_eq, List}
 use Rattle.std.specs.List.{list_any}
-use Rattle.fd_model.specs.declared.range_node.Feature.{Feature}
-use Rattle.fd_model.specs.declared.range_node.Feature.TheVariants as feature
-use Rattle.fd_model.specs.Needs.{once}
-use Rattle.fd_model.specs.Features.{is_same_pair, each_once}
+use Rattle.fd_language.specs.declared.range_node.Feature.{Feature}
+use Rattle.fd_language.specs.declared.range_node.Feature.TheVariants as feature
+use Rattle.fd_language.specs.Needs.{once}
+use Rattle.fd_language.specs.Features.{is_same_pair, each_once}
 use Rattle.range_code.specs.declared.compile.Numbered.{Numbered}
 use Rattle.range_code.specs.declared.compile.Met.{Met}
 use Rattle.range_code.specs.declared.compile.Read.{Read}

@@ -1,9 +1,9 @@
 -- The variables of nodes, and what nodes read of them.
 use Rattle.std.specs.Prelude.{ℕ, ◌<◌, List, [], ◌∷◌, ◌++◌, length, Option, Some, None}
-use Rattle.fd_model.specs.declared.range_node.Feature.{Feature}
-use Rattle.fd_model.specs.declared.range_node.Feature.TheVariants as feature
-use Rattle.fd_model.specs.declared.range_node.RangeNode.{RangeNode}
-use Rattle.fd_model.specs.declared.range_node.RangeNode.TheVariants as node
+use Rattle.fd_language.specs.declared.range_node.Feature.{Feature}
+use Rattle.fd_language.specs.declared.range_node.Feature.TheVariants as feature
+use Rattle.fd_language.specs.declared.range_node.RangeNode.{RangeNode}
+use Rattle.fd_language.specs.declared.range_node.RangeNode.TheVariants as node
 use Rattle.range_code.specs.declared.frame.Arg.{Arg}
 use Rattle.range_code.specs.Frames.{slot_variable}
 

@@ -1,10 +1,10 @@
 -- How the variables of a range stand before it is evaluated.
 use Rattle.std.specs.Prelude.{ℕ, Bool, true, false, ◌&&◌, if◌then◌else◌, List}
 use Rattle.std.specs.List.{list_any}
-use Rattle.fd_model.specs.declared.range_node.Feature.{Feature}
-use Rattle.fd_model.specs.declared.range_node.Feature.TheVariants as feature
-use Rattle.fd_model.specs.Family.{Family}
-use Rattle.fd_model.specs.Range.{is_none_left, is_several}
+use Rattle.fd_language.specs.declared.range_node.Feature.{Feature}
+use Rattle.fd_language.specs.declared.range_node.Feature.TheVariants as feature
+use Rattle.fd_language.specs.Family.{Family}
+use Rattle.fd_language.specs.Range.{is_none_left, is_several}
 use Rattle.range_code.specs.declared.frame.Standing.{Standing}
 use Rattle.range_code.specs.declared.frame.Standing.TheVariants.{Empty, Open, Settled}
 

@@ -1,9 +1,9 @@
 -- What each kind of node takes from what waits, and what it puts there.
 use Rattle.std.specs.Prelude.{◌≡◌, ℕ, ◌&&◌, ◌||◌, not, ℤ, pos, int_le, neg_ℤ, List, [], ◌∷◌, ◌++◌, filter}
-use Rattle.fd_model.specs.declared.range_node.RangeNode.{RangeNode}
-use Rattle.fd_model.specs.declared.range_node.RangeNode.TheVariants as node
-use Rattle.fd_model.specs.declared.TheConstants.{INFINITY}
-use Rattle.fd_model.specs.Family.{has, universe}
+use Rattle.fd_language.specs.declared.range_node.RangeNode.{RangeNode}
+use Rattle.fd_language.specs.declared.range_node.RangeNode.TheVariants as node
+use Rattle.fd_language.specs.declared.TheConstants.{INFINITY}
+use Rattle.fd_language.specs.Family.{has, universe}
 use Rattle.domain_ranges.specs.Sets.{is_shifted, is_scaled, is_quotient}
 use Rattle.range_code.specs.declared.work.Work.{Work}
 use Rattle.range_code.specs.Work.{operated}

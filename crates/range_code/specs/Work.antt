@@ -1,12 +1,12 @@
 -- The values and sets that wait for their operators while a range is evaluated.
 use Rattle.std.specs.Prelude.{◌≡◌, ℕ, ◌≤◌, ◌^◌, ◌-◌, ℤ, pos, ◌+ℤ◌, ◌-ℤ◌, ◌*ℤ◌, ◌≤ℤ◌, nat_abs, List, [], ◌∷◌, ◌++◌, filter, Option, Some, None}
-use Rattle.fd_model.specs.declared.range_node.RangeNode.{RangeNode}
-use Rattle.fd_model.specs.declared.range_node.RangeNode.TheVariants as node
-use Rattle.fd_model.specs.declared.TheConstants.{INFINITY}
-use Rattle.fd_model.specs.Family.{Family, universe}
-use Rattle.fd_model.specs.Range.{Range, Span, One, Dom, Union, Inter, Outside, Plus, Minus, Times, Over, Expr, Number, Infinity, Param, Min, Max, Val, Add, Sub, Mul, DivDown, DivUp, value, in_range, least, greatest, div_down, div_up}
-use Rattle.fd_model.specs.Check.{fill, fill_range}
-use Rattle.fd_model.specs.Flat.{built}
+use Rattle.fd_language.specs.declared.range_node.RangeNode.{RangeNode}
+use Rattle.fd_language.specs.declared.range_node.RangeNode.TheVariants as node
+use Rattle.fd_language.specs.declared.TheConstants.{INFINITY}
+use Rattle.fd_language.specs.Family.{Family, universe}
+use Rattle.fd_language.specs.Range.{Range, Span, One, Dom, Union, Inter, Outside, Plus, Minus, Times, Over, Expr, Number, Infinity, Param, Min, Max, Val, Add, Sub, Mul, DivDown, DivUp, value, in_range, least, greatest, div_down, div_up}
+use Rattle.fd_language.specs.Check.{fill, fill_range}
+use Rattle.fd_language.specs.Flat.{built}
 use Rattle.range_code.specs.declared.work.Work.{Work}
 
 -- the limit of values

@@ -3,13 +3,13 @@
 ghost use Rattle.std.specs.Prelude.{◌≡◌, ◌||◌, not, ℕ, nat_eq, List, [], ◌∷◌, ◌++◌, map, IfOk, OnOk};
 ghost use Rattle.std.specs.List.{list_any, position_or_len};
 ghost use Rattle.indexmap.specs.IndexMap.{get};
-ghost use Rattle.fd_model.specs.declared.range_node.Feature.{Feature as Told};
-ghost use Rattle.fd_model.specs.Features.{each_once};
+ghost use Rattle.fd_language.specs.declared.range_node.Feature.{Feature as Told};
+ghost use Rattle.fd_language.specs.Features.{each_once};
 ghost use Rattle.range_code.specs.Nodes.{node_variable, listed, node_variables, rename_node, node_feature, node_features};
 ghost use Rattle.range_code.specs.Asked.{need_in};
 ghost use Rattle.range_code.specs.Gathered.{IsNumbered, has_pair, AreMet, IsRead};
 
-use fd_model::{Feature, FlatRange, Need, NoMemory, RangeNode};
+use fd_language::{Feature, FlatRange, Need, NoMemory, RangeNode};
 use indexmap::{IndexMap, IndexSet};
 use std::alloc::Global;
 use std::collections::HashSet;

@@ -2,9 +2,9 @@
 
 ghost use Rattle.std.specs.Prelude.{◌≡◌, ℕ, ℤ, pos, List, ◌∷◌, length, IfOk, OnOk};
 ghost use Rattle.std.specs.List.{All};
-ghost use Rattle.fd_model.specs.declared.range_node.RangeNode.{RangeNode as Spelled};
-ghost use Rattle.fd_model.specs.Range.{Range, Expr, least as least_of, greatest as greatest_of};
-ghost use Rattle.fd_model.specs.Flat.{built, spelled, IsSpelled};
+ghost use Rattle.fd_language.specs.declared.range_node.RangeNode.{RangeNode as Spelled};
+ghost use Rattle.fd_language.specs.Range.{Range, Expr, least as least_of, greatest as greatest_of};
+ghost use Rattle.fd_language.specs.Flat.{built, spelled, IsSpelled};
 ghost use Rattle.range_code.specs.Frames.{slot_set, slot_integer};
 ghost use Rattle.range_code.specs.Nodes.{IsReadable};
 ghost use Rattle.range_code.specs.Work.{leaf_value, filled_set, RangeFits, CanTake, IsPending, Follows};
@@ -12,7 +12,7 @@ ghost use Rattle.range_code.specs.Work.{leaf_value, filled_set, RangeFits, CanTa
 use crate::frame::{Arg, slot_domain, slot_value};
 use crate::work::Work;
 use domain_ranges::{Domain, View};
-use fd_model::{INFINITY, NoMemory, RangeNode};
+use fd_language::{INFINITY, NoMemory, RangeNode};
 use std::alloc::Global;
 
 /// The least member, and 0 where there is none.

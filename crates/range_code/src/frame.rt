@@ -2,14 +2,14 @@
 
 ghost use Rattle.std.specs.Prelude.{◌≡◌, ◌<◌, ◌&&◌, ℕ, length, slice_index_or};
 ghost use Rattle.std.specs.List.{All};
-ghost use Rattle.fd_model.specs.Family.{IsRising};
+ghost use Rattle.fd_language.specs.Family.{IsRising};
 ghost use Rattle.range_code.specs.Frames.{variable_of, integer_of, slot_integer, slot_set};
 ghost use Rattle.range_code.specs.Nodes.{IsSeen, IsReadable};
 ghost use Rattle.range_code.specs.Standing.{is_val, standing_of};
-ghost use Rattle.fd_model.specs.Range.{is_several};
+ghost use Rattle.fd_language.specs.Range.{is_several};
 
 use domain_ranges::{Domain, View};
-use fd_model::{Feature, INFINITY};
+use fd_language::{Feature, INFINITY};
 
 /// What stands in a slot of a range.
 #[derive(Clone, Copy, Debug, PartialEq, Eq)]

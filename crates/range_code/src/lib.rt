@@ -2,7 +2,7 @@
 #![tactic(auto)]
 
 ghost use Rattle.std.specs.Prelude.{◌≡◌, ◌+◌, ◌-◌, ◌^◌, min, length, IfOk};
-ghost use Rattle.fd_model.specs.Range.{set_of};
+ghost use Rattle.fd_language.specs.Range.{set_of};
 ghost use Rattle.range_code.specs.Slots.{slots_of, slot_needs, slot_features};
 ghost use Rattle.range_code.specs.Frames.{IsFrame, posted, family_of};
 
@@ -16,7 +16,7 @@ use crate::evaluate::evaluate;
 pub use crate::frame::Arg;
 use crate::frame::{Standing, find_standing};
 use domain_ranges::{Domain, View};
-use fd_model::{Feature, FlatRange, INFINITY, Need, NoMemory, RangeNode};
+use fd_language::{Feature, FlatRange, INFINITY, Need, NoMemory, RangeNode};
 use monotone_check::{Checked, needs};
 use std::alloc::Global;
 use std::marker::Model;
@@ -35,9 +35,9 @@ pub struct RangeCode {
 
 impl Model for RangeCode {
     ghost use Rattle.std.specs.Coded.{code_by, coded_list};
-    ghost use Rattle.fd_model.specs.contracts.range_node.RangeNode as node;
-    ghost use Rattle.fd_model.specs.Range.{Range};
-    ghost use Rattle.fd_model.specs.Flat.{nodes_of, spelled, spelled-nodes};
+    ghost use Rattle.fd_language.specs.contracts.range_node.RangeNode as node;
+    ghost use Rattle.fd_language.specs.Range.{Range};
+    ghost use Rattle.fd_language.specs.Flat.{nodes_of, spelled, spelled-nodes};
 
     ghost Value = { Range };
 

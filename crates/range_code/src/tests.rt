@@ -1,7 +1,7 @@
 //! Sets of ranges over given domains, as the table of ranges has them.
 
 ghost use Rattle.std.specs.Prelude.{◌≡◌, ◌<◌, length, slice_index_or, MatchOption, IsTrue};
-ghost use Rattle.fd_model.specs.Flat.{nodes_of};
+ghost use Rattle.fd_language.specs.Flat.{nodes_of};
 ghost use Rattle.range_code.specs.Frames.{IsArg, AreArgs, IsFrame};
 
 use super::*;

@@ -1,13 +1,13 @@
 // The values and sets that wait for their operators.
 
 ghost use Rattle.std.specs.Prelude.{◌≡◌, ℕ, ℤ, List, [], ◌∷◌, ◌++◌, pos, ◌≤ℤ◌, IfOk, OnOk, vec_capacity};
-ghost use Rattle.fd_model.specs.Family.{IsRising};
-ghost use Rattle.fd_model.specs.Range.{div_down, div_up};
+ghost use Rattle.fd_language.specs.Family.{IsRising};
+ghost use Rattle.fd_language.specs.Range.{div_down, div_up};
 ghost use Rattle.range_code.specs.Work.{IsLimited, operated, CanOperate, CanTakeTerms, CanMove, CanTakeRange, CanTake};
 ghost use Rattle.range_code.specs.Steps.{PushesValue, PushesSet, Operates, Spans, Singles, combined, Combines, Complements, moved, Moves};
 
 use domain_ranges::Domain;
-use fd_model::{INFINITY, NoMemory, RangeNode};
+use fd_language::{INFINITY, NoMemory, RangeNode};
 use std::alloc::Global;
 
 /// The values of the terms and the sets of the ranges that wait for their operators, the last one last. The nodes spell a range, so an

@@ -2,14 +2,14 @@
 use Rattle.std.proofs.Common.{◌≡◌, ℕ, ◌<◌, ◌≤◌, Bool, true, false, cond, List, [], ◌∷◌, length, get_or, Option, Some, None, refl, sym, ap, subst, ◌∙◌, arith}
 use Rattle.std.specs.Prelude.{codes, ℤ}
 use Rattle.std.specs.Str.{bytes_eq}
-use Rattle.fd_model.specs.Term.{Name}
-use Rattle.fd_model.specs.PlacedTerm.{PlacedTerm, var, int, atom, comp, no_parts, one, two}
-use Rattle.fd_model.specs.declared.range_node.RangeNode.{RangeNode}
-use Rattle.fd_model.specs.declared.range_node.RangeNode.TheVariants as node
-use Rattle.fd_model.specs.Range as fd
-use Rattle.fd_model.specs.Range.{Range, Expr}
-use Rattle.fd_model.specs.Flat.{expr_nodes, nodes_of}
-use Rattle.fd_model.specs.Spelling.{Reading, read, offends, read_one, RangeForm, of_terms, of_ranges, pointwise, no_form, range_form, read_form, read_dom, read_expr, read_range, read_feature, read_operator, expr_operator, expr_feature, empty_range}
+use Rattle.fd_language.specs.Term.{Name}
+use Rattle.fd_language.specs.PlacedTerm.{PlacedTerm, var, int, atom, comp, no_parts, one, two}
+use Rattle.fd_language.specs.declared.range_node.RangeNode.{RangeNode}
+use Rattle.fd_language.specs.declared.range_node.RangeNode.TheVariants as node
+use Rattle.fd_language.specs.Range as fd
+use Rattle.fd_language.specs.Range.{Range, Expr}
+use Rattle.fd_language.specs.Flat.{expr_nodes, nodes_of}
+use Rattle.fd_language.specs.Spelling.{Reading, read, offends, read_one, RangeForm, of_terms, of_ranges, pointwise, no_form, range_form, read_form, read_dom, read_expr, read_range, read_feature, read_operator, expr_operator, expr_feature, empty_range}
 use Rattle.term_pool.specs.declared.TermId.{TermId}
 use Rattle.range_terms.specs.declared.names.RangeOperator.{RangeOperator}
 use Rattle.range_terms.specs.declared.forms.Position.{Position}

@@ -2,12 +2,12 @@
 use Rattle.std.proofs.Common.{◌≡◌, ℕ, Bool, true, false, cond, [], ◌∷◌, Option, Some, None, refl}
 use Rattle.std.specs.Prelude.{codes}
 use Rattle.std.specs.Str.{bytes_eq}
-use Rattle.fd_model.specs.Term.{Name}
-use Rattle.fd_model.specs.declared.range_node.RangeNode.{RangeNode}
-use Rattle.fd_model.specs.declared.range_node.RangeNode.TheVariants as node
-use Rattle.fd_model.specs.Range.{Range, Expr, Span, Union, Inter, Plus, Minus, Times, Over, Add, Sub, Mul, DivDown, DivUp, Min, Max, Val}
-use Rattle.fd_model.specs.Flat.{expr_nodes, range_nodes, nodes_of}
-use Rattle.fd_model.specs.Spelling.{RangeForm, of_terms, of_ranges, pointwise, no_form, range_form, expr_operator, expr_feature}
+use Rattle.fd_language.specs.Term.{Name}
+use Rattle.fd_language.specs.declared.range_node.RangeNode.{RangeNode}
+use Rattle.fd_language.specs.declared.range_node.RangeNode.TheVariants as node
+use Rattle.fd_language.specs.Range.{Range, Expr, Span, Union, Inter, Plus, Minus, Times, Over, Add, Sub, Mul, DivDown, DivUp, Min, Max, Val}
+use Rattle.fd_language.specs.Flat.{expr_nodes, range_nodes, nodes_of}
+use Rattle.fd_language.specs.Spelling.{RangeForm, of_terms, of_ranges, pointwise, no_form, range_form, expr_operator, expr_feature}
 use Rattle.range_terms.specs.declared.names.RangeOperator.{RangeOperator}
 use Rattle.range_terms.specs.declared.forms.Position.TheVariants as position
 use Rattle.range_terms.specs.Names.{operator_with, range_operator_of, term_operator_of, feature_of}

@@ -4,8 +4,8 @@ use Rattle.std.specs.Prelude.{All, min}
 use Rattle.std.specs.Option.{option_to_list}
 use Rattle.std.proofs.lemmas.List.{append-nil, append_assoc}
 use Rattle.std.proofs.lemmas.List.Elements.{All-append, All-nil}
-use Rattle.fd_model.specs.declared.range_node.RangeNode.{RangeNode}
-use Rattle.fd_model.specs.Spelling.{least_place}
+use Rattle.fd_language.specs.declared.range_node.RangeNode.{RangeNode}
+use Rattle.fd_language.specs.Spelling.{least_place}
 use Rattle.term_pool.specs.Contents.{Contents}
 use Rattle.range_terms.specs.declared.walk.Task.{Task}
 use Rattle.range_terms.specs.declared.walk.Found.{Found}

@@ -3,11 +3,11 @@ use Rattle.std.proofs.Common.{◌≡◌, ℕ, List, [], ◌++◌, Option, Some, 
 use Rattle.std.specs.Prelude.{MatchOption}
 use Rattle.std.specs.Option.{option_to_list, IsSome}
 use Rattle.std.proofs.lemmas.List.{append-nil}
-use Rattle.fd_model.specs.declared.range_node.RangeNode.{RangeNode}
-use Rattle.fd_model.specs.PlacedTerm.{PlacedTerm}
-use Rattle.fd_model.specs.Range.{Range}
-use Rattle.fd_model.specs.Flat.{nodes_of, spelled, spelled-nodes, IsSpelled}
-use Rattle.fd_model.specs.Spelling.{read_range, not_a_range, least_place}
+use Rattle.fd_language.specs.declared.range_node.RangeNode.{RangeNode}
+use Rattle.fd_language.specs.PlacedTerm.{PlacedTerm}
+use Rattle.fd_language.specs.Range.{Range}
+use Rattle.fd_language.specs.Flat.{nodes_of, spelled, spelled-nodes, IsSpelled}
+use Rattle.fd_language.specs.Spelling.{read_range, not_a_range, least_place}
 use Rattle.term_pool.specs.Contents.{Contents}
 use Rattle.range_terms.specs.declared.walk.Found.{Found}
 use Rattle.range_terms.specs.declared.forms.Position.TheVariants as position

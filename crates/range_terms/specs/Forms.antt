@@ -1,7 +1,7 @@
 -- What a term is read as: one node, or an operator's node behind its operands.
 use Rattle.std.specs.Prelude.{◌≡◌, ℕ, List, [], ◌∷◌}
-use Rattle.fd_model.specs.PlacedTerm.{PlacedTerm, var, int, atom, comp}
-use Rattle.fd_model.specs.declared.range_node.RangeNode.{RangeNode}
+use Rattle.fd_language.specs.PlacedTerm.{PlacedTerm, var, int, atom, comp}
+use Rattle.fd_language.specs.declared.range_node.RangeNode.{RangeNode}
 use Rattle.term_pool.specs.declared.TermId.{TermId}
 use Rattle.term_pool.specs.Contents.{Contents}
 use Rattle.range_terms.specs.declared.forms.Position.{Position}

@@ -1,9 +1,9 @@
 -- The nodes of the names of operators.
 use Rattle.std.specs.Prelude.{ℕ, Option, Some, None, if◌then◌else◌, codes}
 use Rattle.std.specs.Str.{bytes_eq}
-use Rattle.fd_model.specs.Term.{Name}
-use Rattle.fd_model.specs.declared.range_node.RangeNode.{RangeNode}
-use Rattle.fd_model.specs.declared.range_node.RangeNode.TheVariants as node
+use Rattle.fd_language.specs.Term.{Name}
+use Rattle.fd_language.specs.declared.range_node.RangeNode.{RangeNode}
+use Rattle.fd_language.specs.declared.range_node.RangeNode.TheVariants as node
 use Rattle.range_terms.specs.declared.names.RangeOperator.{RangeOperator}
 use Rattle.range_terms.specs.declared.forms.Position.{Position}
 use Rattle.range_terms.specs.declared.forms.Position.TheVariants as position

@@ -1,8 +1,8 @@
 -- What is read so far, and what is still ahead.
 use Rattle.std.specs.Prelude.{◌≡◌, ℕ, ◌+◌, ◌*◌, ◌<◌, List, [], ◌∷◌, ◌++◌, length, All}
 use Rattle.std.specs.Option.{option_to_list}
-use Rattle.fd_model.specs.Spelling.{least_place}
-use Rattle.fd_model.specs.declared.range_node.RangeNode.{RangeNode}
+use Rattle.fd_language.specs.Spelling.{least_place}
+use Rattle.fd_language.specs.declared.range_node.RangeNode.{RangeNode}
 use Rattle.term_pool.specs.Contents.{Contents}
 use Rattle.term_pool.specs.Terms.{term_of, size}
 use Rattle.range_terms.specs.declared.walk.Task.{Task}

@@ -1,10 +1,10 @@
 -- What is to come of a term in its position: nodes, their places, and the places of what fits nowhere.
 use Rattle.std.specs.Prelude.{ℕ, true, false, List, [], ◌∷◌, ◌++◌}
-use Rattle.fd_model.specs.declared.range_node.RangeNode.{RangeNode}
-use Rattle.fd_model.specs.PlacedTerm.{PlacedTerm}
-use Rattle.fd_model.specs.Range as fd
-use Rattle.fd_model.specs.Flat.{expr_nodes, nodes_of}
-use Rattle.fd_model.specs.Spelling.{Reading, read_expr, read_range}
+use Rattle.fd_language.specs.declared.range_node.RangeNode.{RangeNode}
+use Rattle.fd_language.specs.PlacedTerm.{PlacedTerm}
+use Rattle.fd_language.specs.Range as fd
+use Rattle.fd_language.specs.Flat.{expr_nodes, nodes_of}
+use Rattle.fd_language.specs.Spelling.{Reading, read_expr, read_range}
 use Rattle.range_terms.specs.declared.forms.Position.{Position}
 use Rattle.range_terms.specs.declared.forms.Position.TheVariants as position
 

@@ -1,8 +1,8 @@
 // What a term is read as in its position.
 
 ghost use Rattle.std.specs.Prelude.{◌≡◌, ℕ, ◌<◌, List, [], ◌∷◌, length, All, Some, MatchOption};
-ghost use Rattle.fd_model.specs.PlacedTerm.{var, comp, one, two};
-ghost use Rattle.fd_model.specs.Spelling.{read_dom};
+ghost use Rattle.fd_language.specs.PlacedTerm.{var, comp, one, two};
+ghost use Rattle.fd_language.specs.Spelling.{read_dom};
 ghost use Rattle.term_pool.specs.Contents.{Contents, Shape, shape_at, place_at, parts_of};
 ghost use Rattle.term_pool.specs.PlacedTerms.{placed_of, parts_by};
 ghost use Rattle.range_terms.specs.Wanted.{Wanted, wanted, of_range};
@@ -10,7 +10,7 @@ ghost use Rattle.range_terms.specs.Forms.{IsForm, IsNoVariable, IsOfTerms, IsNum
 ghost use Rattle.range_terms.specs.declared.forms.Position.TheVariants as place_in;
 
 use crate::names::{feature, range_operator, term_operator};
-use fd_model::RangeNode;
+use fd_language::RangeNode;
 use term_pool::{Node, Pool, TermId};
 
 /// Where a term stands in a range.

@@ -2,9 +2,9 @@
 #![tactic(auto)]
 
 ghost use Rattle.std.specs.Prelude.{◌≡◌, ◌<◌, length, None, MatchResult, IfOk};
-ghost use Rattle.fd_model.specs.Features.{features_of};
-ghost use Rattle.fd_model.specs.Flat.{nodes_of};
-ghost use Rattle.fd_model.specs.Spelling.{read_range as reading_of, not_a_range};
+ghost use Rattle.fd_language.specs.Features.{features_of};
+ghost use Rattle.fd_language.specs.Flat.{nodes_of};
+ghost use Rattle.fd_language.specs.Spelling.{read_range as reading_of, not_a_range};
 ghost use Rattle.term_pool.specs.PlacedTerms.{placed_of};
 ghost use Rattle.range_terms.specs.Faults.{IsFaultOf};
 
@@ -15,7 +15,7 @@ mod walk;
 
 use crate::reads::read_features;
 use crate::walk::{Found, read_term};
-use fd_model::{Feature, FlatRange, NoMemory};
+use fd_language::{Feature, FlatRange, NoMemory};
 use std::alloc::Global;
 use term_pool::{Pool, TermId};
 use thiserror::Error;

@@ -4,7 +4,7 @@ ghost use Rattle.std.specs.Prelude.{◌≡◌};
 ghost use Rattle.range_terms.specs.Names.{range_operator_of, term_operator_of, feature_of};
 
 use crate::forms::Position;
-use fd_model::RangeNode;
+use fd_language::RangeNode;
 
 /// An operator of two operands that gives a range, with the positions of its operands.
 #[derive(Clone, Copy)]

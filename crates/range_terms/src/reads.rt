@@ -2,11 +2,11 @@
 
 ghost use Rattle.std.specs.Prelude.{◌≡◌, ℕ, [], ◌∷◌, ◌||◌, not, nat_eq, IfOk, OnOk};
 ghost use Rattle.std.specs.List.{list_any};
-ghost use Rattle.fd_model.specs.declared.range_node.Feature.{Feature as Read};
-ghost use Rattle.fd_model.specs.Features.{is_same_pair, each_once};
+ghost use Rattle.fd_language.specs.declared.range_node.Feature.{Feature as Read};
+ghost use Rattle.fd_language.specs.Features.{is_same_pair, each_once};
 ghost use Rattle.range_terms.specs.Reads.{node_feature, node_features, sees, Meets};
 
-use fd_model::{Feature, NoMemory, RangeNode};
+use fd_language::{Feature, NoMemory, RangeNode};
 use std::alloc::Global;
 use std::collections::HashSet;
 

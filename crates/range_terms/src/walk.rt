@@ -9,7 +9,7 @@ ghost use Rattle.range_terms.specs.Forms.{of_operand};
 ghost use Rattle.range_terms.specs.declared.forms.Position.TheVariants as place_in;
 
 use crate::forms::{Form, Operand, Position, form_of};
-use fd_model::{NoMemory, RangeNode};
+use fd_language::{NoMemory, RangeNode};
 use std::alloc::Global;
 use term_pool::{Pool, TermId};
 

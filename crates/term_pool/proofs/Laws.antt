@@ -3,7 +3,7 @@ use Rattle.std.proofs.Common.{◌≡◌, ℕ, zero, suc, ◌<◌, ◌+◌, List,
 use Rattle.std.specs.Prelude.{slice_get, option_map, unwrap_or, All, IsUtf8}
 use Rattle.std.proofs.lemmas.List.{append-nil}
 use Rattle.std.proofs.lemmas.List.Elements.{All-head, All-tail}
-use Rattle.fd_model.specs.Term.{Name, Term, Atom, Comp, term}
+use Rattle.fd_language.specs.Term.{Name, Term, Atom, Comp, term}
 use Rattle.term_pool.specs.declared.AtomId.{AtomId}
 use Rattle.term_pool.specs.declared.TermId.{TermId}
 use Rattle.term_pool.specs.Contents.{Shape, var, int, atom, comp, Entry, Contents, atom_name, name_in, shape_at, place_at}

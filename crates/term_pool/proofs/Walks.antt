@@ -1,6 +1,6 @@
 -- Why a walk over the terms of a pool ends. It keeps a list of the ids that it has still to look at, and replaces an id by those of its parts.
 use Rattle.std.proofs.Common.{◌≡◌, ◌<◌, ◌+◌, List, [], ◌∷◌, ◌++◌, refl, sym, ap, ◌∙◌, arith}
-use Rattle.fd_model.specs.Term.{Term, Var, Int, Atom, Comp}
+use Rattle.fd_language.specs.Term.{Term, Var, Int, Atom, Comp}
 use Rattle.term_pool.specs.declared.TermId.{TermId}
 use Rattle.term_pool.specs.Contents.{Shape, var, int, atom, comp, Contents, parts_of}
 use Rattle.term_pool.specs.Terms.{terms_by, term_of, shape_term, size, sizes, total_size}

@@ -1,6 +1,6 @@
 -- The term that each number of a pool stands for.
 use Rattle.std.specs.Prelude.{◌≡◌, ℕ, ◌+◌, ◌<◌, List, [], ◌∷◌, ◌++◌, length, slice_get, unwrap_or}
-use Rattle.fd_model.specs.Term.{Name, Term, Terms, Var, Int, Atom, Comp, no_terms, term}
+use Rattle.fd_language.specs.Term.{Name, Term, Terms, Var, Int, Atom, Comp, no_terms, term}
 use Rattle.term_pool.specs.declared.TermId.{TermId}
 use Rattle.term_pool.specs.Contents.{Shape, var, int, atom, comp, Entry, Contents, name_in}
 

@@ -1,8 +1,8 @@
 -- What holds of every pool.
 use Rattle.std.specs.Prelude.{◌≡◌, ℕ, ◌^◌, ◌<◌, ◌≤◌, List, length, slice_get, Some, All, codes, FitsSigned, IsUtf8}
 use Rattle.std.specs.Int.{w64}
-use Rattle.fd_model.specs.Term.{Name, Term, Terms}
-use Rattle.fd_model.specs.Term as term
+use Rattle.fd_language.specs.Term.{Name, Term, Terms}
+use Rattle.fd_language.specs.Term as term
 use Rattle.term_pool.specs.declared.AtomId.{AtomId}
 use Rattle.term_pool.specs.declared.TheConstants.{NIL, CONS, SPAN}
 use Rattle.term_pool.specs.declared.Node.{Node}

@@ -7,14 +7,14 @@
 ghost use Rattle.std.specs.Prelude.{◌≡◌, ◌<◌, ◌++◌, [], ◌∷◌, List, length, map, string_bytes, slice_get, Some, Ok, IsTrue, IsOk, IfOk, OnOk, OnErr};
 ghost use Rattle.std.specs.List.{list_any};
 ghost use Rattle.std.specs.Str.{bytes_eq};
-ghost use Rattle.fd_model.specs.Term.{Name};
+ghost use Rattle.fd_language.specs.Term.{Name};
 ghost use Rattle.term_pool.specs.declared.AtomId.{AtomId as AtomNumber};
 ghost use Rattle.term_pool.specs.Contents.{Contents, first_names, atom_name, shape_at, place_at, interned};
 ghost use Rattle.term_pool.specs.Terms.{term_of, shape_term, KeepsTerms, Extends};
 ghost use Rattle.term_pool.specs.Valid.{IsPool, IsWithin, HasMachineNumbers, shape_of};
 ghost use Rattle.term_pool.specs.Stored.{stored_shape, HasParts, Grows};
 
-use fd_model::NoMemory;
+use fd_language::NoMemory;
 use indexmap::IndexSet;
 use std::alloc::{AllocError, Global};
 use std::marker::Model;

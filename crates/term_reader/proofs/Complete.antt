@@ -1,12 +1,12 @@
 -- What the machine has read can be completed, and what it refuses can't.
 use Rattle.std.proofs.Common.{◌≡◌, ℕ, List, [], ◌∷◌, ◌++◌, Option, Some, None, refl, sym, ap, ◌∙◌}
 use Rattle.std.specs.Prelude.{option_and_then}
-use Rattle.fd_model.specs.Term.{Name}
-use Rattle.fd_model.specs.PlacedTerm.{PlacedTerm, atom, comp, one, two, with_last}
-use Rattle.fd_model.specs.Terminals.{Terminal, closes, close_list, close_curly, stop}
-use Rattle.fd_model.specs.Grammar.{nil_name, curly_name, list_of, Begins}
-use Rattle.fd_model.proofs.ReadingSteps.{Stack, top, paren, args, items, tail, curly, before, between, State, want, at_list, at_curly_bracket, at_operator, after, reduce, ended, step, run, closing, completion, filler}
-use Rattle.fd_model.proofs.ReadingWhole.{accepts}
+use Rattle.fd_language.specs.Term.{Name}
+use Rattle.fd_language.specs.PlacedTerm.{PlacedTerm, atom, comp, one, two, with_last}
+use Rattle.fd_language.specs.Terminals.{Terminal, closes, close_list, close_curly, stop}
+use Rattle.fd_language.specs.Grammar.{nil_name, curly_name, list_of, Begins}
+use Rattle.fd_language.proofs.ReadingSteps.{Stack, top, paren, args, items, tail, curly, before, between, State, want, at_list, at_curly_bracket, at_operator, after, reduce, ended, step, run, closing, completion, filler}
+use Rattle.fd_language.proofs.ReadingWhole.{accepts}
 use Rattle.term_reader.proofs.Sound.{sound}
 
 then_same : (f g h : State → Option State) → ((s : State) → f s ≡ option_and_then h (g s)) → (o : Option State) → option_and_then f o ≡ option_and_then h (option_and_then g o)

@@ -1,9 +1,9 @@
 -- The cells of a list, from its end.
 use Rattle.std.proofs.Common.{◌≡◌, ℕ, ◌+◌, ◌<◌, ◌≤◌, List, [], ◌∷◌, ◌++◌, length, take, refl, sym, ap, ◌∙◌, arith, get_or}
 use Rattle.std.proofs.lemmas.List.{take_all, take_more}
-use Rattle.fd_model.specs.Term.{Name}
-use Rattle.fd_model.specs.PlacedTerm.{PlacedTerm, PlacedTerms, comp, no_parts, part, two, with_last}
-use Rattle.fd_model.specs.Grammar.{list_of, cons_name}
+use Rattle.fd_language.specs.Term.{Name}
+use Rattle.fd_language.specs.PlacedTerm.{PlacedTerm, PlacedTerms, comp, no_parts, part, two, with_last}
+use Rattle.fd_language.specs.Grammar.{list_of, cons_name}
 use Rattle.term_pool.specs.declared.TermId.{TermId}
 use Rattle.term_pool.specs.declared.TheConstants.{CONS}
 use Rattle.term_pool.specs.Contents.{Contents, atom_name}

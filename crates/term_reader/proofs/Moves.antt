@@ -1,9 +1,9 @@
 -- The parser's steps are the machine's.
 use Rattle.std.proofs.Common.{◌≡◌, ℕ, ℤ, List, Option, Some, None, Bool, true, false, refl, sym, ap, subst, ◌∙◌, ◌⊎◌, inl, inr, arith, w64, SFits}
 use Rattle.std.specs.Prelude.{reverse, neg_ℤ, ◌&&◌}
-use Rattle.fd_model.specs.PlacedTerm.{PlacedTerm}
-use Rattle.fd_model.specs.Terminals.{is_minus, is_negated}
-use Rattle.fd_model.proofs.ReadingSteps.{Stack, top, State, after, wanted, number_of}
+use Rattle.fd_language.specs.PlacedTerm.{PlacedTerm}
+use Rattle.fd_language.specs.Terminals.{is_minus, is_negated}
+use Rattle.fd_language.proofs.ReadingSteps.{Stack, top, State, after, wanted, number_of}
 use Rattle.term_pool.specs.declared.AtomId.{AtomId}
 use Rattle.term_pool.specs.declared.TermId.{TermId}
 use Rattle.term_pool.specs.Contents.{Contents, atom_name}

@@ -5,16 +5,16 @@ use Rattle.std.specs.List.{position_or_len, list_any, AllByRecursion}
 use Rattle.std.specs.Str.{bytes_eq}
 use Rattle.std.proofs.lemmas.List.{append-nil, append_assoc, reverse-append, reverse-reverse, length-map}
 use Rattle.std.proofs.lemmas.List.Elements.{All-from_recursion}
-use Rattle.fd_model.specs.Term.{Name}
-use Rattle.fd_model.specs.PlacedTerm.{PlacedTerm, PlacedTerms, var, int, atom, comp, no_parts, part, one, two, with_last, plain, all_plain}
-use Rattle.fd_model.specs.Operators.{Operator, right_limit, left_limit, prefix_of, is_operator}
-use Rattle.fd_model.specs.Terminals.{Terminal, name, operator_word, variable, integer, opens, closes, open_list, close_list, open_curly, close_curly, comma, bar, stop, infix_operator, place_of, is_tight_open, is_negated}
-use Rattle.fd_model.specs.Grammar.{list_of}
-use Rattle.fd_model.specs.Tokens.{Kind, Word, Quoted, Variable, Integer, Punct, Stop, Lexeme}
-use Rattle.fd_model.specs.Reading as model
-use Rattle.fd_model.specs.Reading.{is_anonymous, variable_number, with_variable, terminals, terminal_of, terminal_by, word_terminal, punct_terminal, names_behind, names_by, sentence_names, ended_by, IsSentences}
-use Rattle.fd_model.proofs.ReadingSteps.{Stack, top, paren, args, items, tail, curly, before, between, State, want, at_list, at_curly_bracket, at_operator, after, Reduced, reduce, gives_way, limit, is_close, is_close_list, is_close_curly, is_comma, is_bar, is_stop, closed, lone, placed, attach, or_else, ended, behind_operand, called, wanted, begun, step, run}
-use Rattle.fd_model.proofs.ReadingWhole.{accepts}
+use Rattle.fd_language.specs.Term.{Name}
+use Rattle.fd_language.specs.PlacedTerm.{PlacedTerm, PlacedTerms, var, int, atom, comp, no_parts, part, one, two, with_last, plain, all_plain}
+use Rattle.fd_language.specs.Operators.{Operator, right_limit, left_limit, prefix_of, is_operator}
+use Rattle.fd_language.specs.Terminals.{Terminal, name, operator_word, variable, integer, opens, closes, open_list, close_list, open_curly, close_curly, comma, bar, stop, infix_operator, place_of, is_tight_open, is_negated}
+use Rattle.fd_language.specs.Grammar.{list_of}
+use Rattle.fd_language.specs.Tokens.{Kind, Word, Quoted, Variable, Integer, Punct, Stop, Lexeme}
+use Rattle.fd_language.specs.Reading as model
+use Rattle.fd_language.specs.Reading.{is_anonymous, variable_number, with_variable, terminals, terminal_of, terminal_by, word_terminal, punct_terminal, names_behind, names_by, sentence_names, ended_by, IsSentences}
+use Rattle.fd_language.proofs.ReadingSteps.{Stack, top, paren, args, items, tail, curly, before, between, State, want, at_list, at_curly_bracket, at_operator, after, Reduced, reduce, gives_way, limit, is_close, is_close_list, is_close_curly, is_comma, is_bar, is_stop, closed, lone, placed, attach, or_else, ended, behind_operand, called, wanted, begun, step, run}
+use Rattle.fd_language.proofs.ReadingWhole.{accepts}
 use Rattle.term_pool.specs.Contents.{Contents, atom_name}
 use Rattle.term_reader.specs.declared.reader.Sentence.{Sentence}
 use Rattle.term_reader.specs.declared.reader.Sentences.{Sentences}

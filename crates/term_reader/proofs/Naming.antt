@@ -11,8 +11,8 @@ use Rattle.std.proofs.lemmas.List.Folds.{list_any_at, list_any_none}
 use Rattle.std.proofs.lemmas.List.Elements.{All-head, All-tail}
 use Rattle.std.proofs.lemmas.Option.{slice_get_within, slice_get-get_or, get_or_from_slice_get}
 use Rattle.std.proofs.lemmas.Slice.Eq.{bytes_eq-Decides}
-use Rattle.fd_model.specs.Term.{Name}
-use Rattle.fd_model.specs.Reading.{is_anonymous, variable_number, with_variable}
+use Rattle.fd_language.specs.Term.{Name}
+use Rattle.fd_language.specs.Reading.{is_anonymous, variable_number, with_variable}
 use Rattle.term_pool.specs.declared.AtomId.{AtomId}
 use Rattle.term_pool.specs.Contents.{Contents, atom_name}
 use Rattle.term_pool.specs.Valid.{IsPool}

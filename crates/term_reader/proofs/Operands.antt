@@ -4,15 +4,15 @@ use Rattle.std.specs.Prelude.{reverse, pos, neg_ℤ, nat_le, ◌==◌, option_ma
 use Rattle.std.proofs.lemmas.List.{take_all, drop_all}
 use Rattle.std.proofs.lemmas.Option.{slice_get-get_or}
 use Rattle.std.proofs.lemmas.Bool.{le-leb, lt-leb}
-use Rattle.fd_model.specs.Term.{Name}
-use Rattle.fd_model.specs.PlacedTerm.{PlacedTerm, PlacedTerms, int, atom, comp, no_parts, one, two}
-use Rattle.fd_model.specs.Operators.{right_limit, left_limit, infix_of, prefix_of}
-use Rattle.fd_model.specs.Operators as model
-use Rattle.fd_model.specs.Terminals as terminals
-use Rattle.fd_model.specs.Terminals.{infix_operator, is_minus, is_negated, is_tight_open, place_of}
-use Rattle.fd_model.specs.Grammar.{nil_name, curly_name}
-use Rattle.fd_model.proofs.ReadingSteps as machine
-use Rattle.fd_model.proofs.ReadingSteps.{Stack, top, paren, args, items, tail, curly, before, between, State, want, at_list, at_curly_bracket, at_operator, after, Reduced, reduce, gives_way, limit, closed, lone, placed, attach, or_else, ended, behind_operand, called, wanted, begun, number_of, step}
+use Rattle.fd_language.specs.Term.{Name}
+use Rattle.fd_language.specs.PlacedTerm.{PlacedTerm, PlacedTerms, int, atom, comp, no_parts, one, two}
+use Rattle.fd_language.specs.Operators.{right_limit, left_limit, infix_of, prefix_of}
+use Rattle.fd_language.specs.Operators as model
+use Rattle.fd_language.specs.Terminals as terminals
+use Rattle.fd_language.specs.Terminals.{infix_operator, is_minus, is_negated, is_tight_open, place_of}
+use Rattle.fd_language.specs.Grammar.{nil_name, curly_name}
+use Rattle.fd_language.proofs.ReadingSteps as machine
+use Rattle.fd_language.proofs.ReadingSteps.{Stack, top, paren, args, items, tail, curly, before, between, State, want, at_list, at_curly_bracket, at_operator, after, Reduced, reduce, gives_way, limit, closed, lone, placed, attach, or_else, ended, behind_operand, called, wanted, begun, number_of, step}
 use Rattle.term_pool.specs.declared.AtomId.{AtomId}
 use Rattle.term_pool.specs.declared.TermId.{TermId}
 use Rattle.term_pool.specs.declared.TheConstants.{NIL}

@@ -3,8 +3,8 @@ use Rattle.std.proofs.Common.{◌≡◌, ℕ, List, [], ◌∷◌, ◌++◌, Opt
 use Rattle.std.specs.Prelude.{slice_get, unwrap_or, option_map}
 use Rattle.std.proofs.lemmas.List.{map-append, append_assoc}
 use Rattle.std.proofs.lemmas.Option.{slice_get-map}
-use Rattle.fd_model.specs.Term.{Name, Term, Atom, Comp, term}
-use Rattle.fd_model.specs.PlacedTerm.{PlacedTerm, atom, plain, all_plain, place}
+use Rattle.fd_language.specs.Term.{Name, Term, Atom, Comp, term}
+use Rattle.fd_language.specs.PlacedTerm.{PlacedTerm, atom, plain, all_plain, place}
 use Rattle.term_pool.specs.declared.TermId.{TermId}
 use Rattle.term_pool.specs.Contents as pool
 use Rattle.term_pool.specs.Contents.{Shape, Entry, Contents, name_in, place_at}

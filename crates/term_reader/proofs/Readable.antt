@@ -3,17 +3,17 @@ use Rattle.std.proofs.Common.{◌≡◌, ℕ, zero, suc, ◌+◌, ◌<◌, ◌�
 use Rattle.std.specs.Prelude.{reverse}
 use Rattle.std.proofs.lemmas.List.{take-append-drop, take_all, reverse-reverse}
 use Rattle.std.proofs.lemmas.Bool.{cases_lt}
-use Rattle.fd_model.specs.Term.{Name}
-use Rattle.fd_model.specs.PlacedTerm.{PlacedTerm}
-use Rattle.fd_model.specs.Terminals.{Terminal}
-use Rattle.fd_model.specs.Tokens.{Lexeme, Cause, TokensOf, FaultOf}
-use Rattle.fd_model.specs.Grammar.{IsText, Begins}
-use Rattle.fd_model.specs.GrammarFaults.{deepest, brackets, IsShallow, IsRead, IsSyntaxFault, IsTooDeep}
-use Rattle.fd_model.specs.Reading.{terminals, sentence_names, place_at, Sentence, Reading, sentences, token_fault, syntax_fault, too_deep, IsReading}
-use Rattle.fd_model.proofs.ReadingSteps.{top, paren, args, items, tail, curly, before, between, State, want, at_list, at_curly_bracket, at_operator, after, run}
-use Rattle.fd_model.proofs.ReadingWhole.{accepts}
-use Rattle.fd_model.proofs.SentenceVariables.{as_many}
-use Rattle.fd_model.proofs.TokenLaws.{one_verdict}
+use Rattle.fd_language.specs.Term.{Name}
+use Rattle.fd_language.specs.PlacedTerm.{PlacedTerm}
+use Rattle.fd_language.specs.Terminals.{Terminal}
+use Rattle.fd_language.specs.Tokens.{Lexeme, Cause, TokensOf, FaultOf}
+use Rattle.fd_language.specs.Grammar.{IsText, Begins}
+use Rattle.fd_language.specs.GrammarFaults.{deepest, brackets, IsShallow, IsRead, IsSyntaxFault, IsTooDeep}
+use Rattle.fd_language.specs.Reading.{terminals, sentence_names, place_at, Sentence, Reading, sentences, token_fault, syntax_fault, too_deep, IsReading}
+use Rattle.fd_language.proofs.ReadingSteps.{top, paren, args, items, tail, curly, before, between, State, want, at_list, at_curly_bracket, at_operator, after, run}
+use Rattle.fd_language.proofs.ReadingWhole.{accepts}
+use Rattle.fd_language.proofs.SentenceVariables.{as_many}
+use Rattle.fd_language.proofs.TokenLaws.{one_verdict}
 use Rattle.term_reader.specs.Laws.{EachIsRead}
 use Rattle.term_reader.proofs.Sound.{sound}
 use Rattle.term_reader.proofs.Complete.{begins, begins_none}

@@ -3,13 +3,13 @@ use Rattle.std.proofs.Common.{◌≡◌, ℕ, ◌<◌, List, [], ◌∷◌, ◌+
 use Rattle.std.specs.Prelude.{reverse, option_and_then, All, IsTrue, Result, Ok, Err, IfOk, codes}
 use Rattle.std.proofs.lemmas.List.{append-nil, map-append, reverse-append}
 use Rattle.std.proofs.lemmas.List.Elements.{All-head, All-tail, All-push, All-nil}
-use Rattle.fd_model.specs.Term.{Name}
-use Rattle.fd_model.specs.PlacedTerm.{PlacedTerm}
-use Rattle.fd_model.specs.Terminals as grammar
-use Rattle.fd_model.specs.Tokens.{Kind, Stop, Lexeme}
-use Rattle.fd_model.specs.Reading as model
-use Rattle.fd_model.specs.Reading.{terminals, terminal_of, terminal_by, names_behind, names_by, sentence_names, ended_by}
-use Rattle.fd_model.proofs.ReadingSteps.{State, want, top, step, run, is_stop}
+use Rattle.fd_language.specs.Term.{Name}
+use Rattle.fd_language.specs.PlacedTerm.{PlacedTerm}
+use Rattle.fd_language.specs.Terminals as grammar
+use Rattle.fd_language.specs.Tokens.{Kind, Stop, Lexeme}
+use Rattle.fd_language.specs.Reading as model
+use Rattle.fd_language.specs.Reading.{terminals, terminal_of, terminal_by, names_behind, names_by, sentence_names, ended_by}
+use Rattle.fd_language.proofs.ReadingSteps.{State, want, top, step, run, is_stop}
 use Rattle.term_pool.specs.declared.AtomId.{AtomId}
 use Rattle.term_pool.specs.declared.TermId.{TermId}
 use Rattle.term_pool.specs.Contents.{Contents, atom_name}

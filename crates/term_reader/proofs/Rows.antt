@@ -2,10 +2,10 @@
 use Rattle.std.proofs.Common.{◌≡◌, ◌∙◌, sym, ap, subst, ℕ, List, [], ◌∷◌, Option, Some, None, Bool, true, false, cond, refl}
 use Rattle.std.specs.Prelude.{find, map, option_map, is_some, ◌||◌}
 use Rattle.std.specs.Str.{bytes_eq}
-use Rattle.fd_model.specs.Term.{Name}
+use Rattle.fd_language.specs.Term.{Name}
 use Rattle.term_pool.proofs.Names.{same_text}
-use Rattle.fd_model.specs.Operators as model
-use Rattle.fd_model.specs.Operators.{infix_of, prefix_of, is_operator}
+use Rattle.fd_language.specs.Operators as model
+use Rattle.fd_language.specs.Operators.{infix_of, prefix_of, is_operator}
 use Rattle.term_reader.specs.declared.operators.Operator.{Operator}
 use Rattle.term_reader.specs.Operators.{operator_of}
 

@@ -3,10 +3,10 @@ use Rattle.std.proofs.Common.{◌≡◌, ℕ, ◌<◌, List, [], ◌∷◌, ◌+
 use Rattle.std.specs.Prelude.{All, ◌==◌}
 use Rattle.std.specs.List.{list_any}
 use Rattle.std.proofs.lemmas.List.Elements.{All-head, All-tail, All-push}
-use Rattle.fd_model.specs.Term.{Name}
-use Rattle.fd_model.specs.Terminals as model
-use Rattle.fd_model.specs.Tokens.{Kind, Word, Quoted, Variable, Punct, Lexeme, unquoted}
-use Rattle.fd_model.specs.Reading.{terminal_of, terminal_by, names_behind, names_by, word_terminal, punct_terminal, variable_number, with_variable}
+use Rattle.fd_language.specs.Term.{Name}
+use Rattle.fd_language.specs.Terminals as model
+use Rattle.fd_language.specs.Tokens.{Kind, Word, Quoted, Variable, Punct, Lexeme, unquoted}
+use Rattle.fd_language.specs.Reading.{terminal_of, terminal_by, names_behind, names_by, word_terminal, punct_terminal, variable_number, with_variable}
 use Rattle.term_pool.specs.declared.AtomId.{AtomId}
 use Rattle.term_pool.specs.Contents.{Contents, atom_name}
 use Rattle.term_pool.specs.Terms.{Extends}

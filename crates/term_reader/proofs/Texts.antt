@@ -3,16 +3,16 @@ use Rattle.std.proofs.Common.{◌≡◌, ℕ, zero, suc, ◌+◌, ◌<◌, ◌�
 use Rattle.std.specs.Prelude.{All}
 use Rattle.std.proofs.lemmas.List.{take-append-drop, take-append-le, take_all}
 use Rattle.std.proofs.lemmas.Bool.{cases_lt}
-use Rattle.fd_model.specs.PlacedTerm.{PlacedTerm}
-use Rattle.fd_model.specs.Term.{Name}
-use Rattle.fd_model.specs.Terminals.{Terminal}
-use Rattle.fd_model.specs.Tokens.{Lexeme, HasTokens, TokensOf}
-use Rattle.fd_model.specs.Reading as model
-use Rattle.fd_model.specs.Reading.{terminals, terminal_of, names_behind, place_at, IsSentences, IsSyntaxPlace, IsDeepPlace}
-use Rattle.fd_model.specs.Grammar.{IsText, Begins}
-use Rattle.fd_model.specs.GrammarFaults.{deepest, open_behind, brackets, IsShallow, IsRead, IsSyntaxFault, IsTooDeep}
-use Rattle.fd_model.proofs.ReadingSteps.{State, want, top, run}
-use Rattle.fd_model.proofs.ReadingWhole.{accepts}
+use Rattle.fd_language.specs.PlacedTerm.{PlacedTerm}
+use Rattle.fd_language.specs.Term.{Name}
+use Rattle.fd_language.specs.Terminals.{Terminal}
+use Rattle.fd_language.specs.Tokens.{Lexeme, HasTokens, TokensOf}
+use Rattle.fd_language.specs.Reading as model
+use Rattle.fd_language.specs.Reading.{terminals, terminal_of, names_behind, place_at, IsSentences, IsSyntaxPlace, IsDeepPlace}
+use Rattle.fd_language.specs.Grammar.{IsText, Begins}
+use Rattle.fd_language.specs.GrammarFaults.{deepest, open_behind, brackets, IsShallow, IsRead, IsSyntaxFault, IsTooDeep}
+use Rattle.fd_language.proofs.ReadingSteps.{State, want, top, run}
+use Rattle.fd_language.proofs.ReadingWhole.{accepts}
 use Rattle.char_tokens.specs.declared.token.TokenFault.{TokenFault}
 use Rattle.char_tokens.specs.declared.token.TokenFault.TheVariants as faults
 use Rattle.char_tokens.specs.Views.{cause_of}

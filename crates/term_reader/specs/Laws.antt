@@ -1,6 +1,6 @@
 -- The statements of the laws of the reader.
 use Rattle.std.specs.Prelude.{ℕ, List}
-use Rattle.fd_model.specs.Reading.{Reading, IsReading}
+use Rattle.fd_language.specs.Reading.{Reading, IsReading}
 
 -- each text is sentences, or has a first fault
 abbrev pub EachIsRead : Type 0

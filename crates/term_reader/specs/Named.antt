@@ -1,6 +1,6 @@
 -- The variables of a sentence have names.
 use Rattle.std.specs.Prelude.{ℕ, ◌<◌, length, All}
-use Rattle.fd_model.specs.Term.{Term, Terms, Var, Int, Atom, Comp, no_terms, term}
+use Rattle.fd_language.specs.Term.{Term, Terms, Var, Int, Atom, Comp, no_terms, term}
 use Rattle.term_pool.specs.Contents.{Contents}
 use Rattle.term_pool.specs.Terms.{term_of}
 use Rattle.term_reader.specs.declared.reader.Sentence.{Sentence}

@@ -1,5 +1,5 @@
 -- The rows of the code's table as operators.
-use Rattle.fd_model.specs.Operators as model
+use Rattle.fd_language.specs.Operators as model
 use Rattle.term_reader.specs.declared.operators.Fixity.{Fixity}
 use Rattle.term_reader.specs.declared.operators.Fixity.TheVariants.{NotAssociative, RightAssociative, LeftAssociative, PrefixAssociative, PrefixNotAssociative}
 use Rattle.term_reader.specs.declared.operators.Operator.{Operator}

@@ -1,6 +1,6 @@
 -- The placed terms of several ids, and pools that grow by one.
 use Rattle.std.specs.Prelude.{◌≡◌, ℕ, ◌<◌, List, length}
-use Rattle.fd_model.specs.PlacedTerm.{PlacedTerm, PlacedTerms}
+use Rattle.fd_language.specs.PlacedTerm.{PlacedTerm, PlacedTerms}
 use Rattle.term_pool.specs.declared.TermId.{TermId}
 use Rattle.term_pool.specs.Contents.{Contents}
 use Rattle.term_pool.specs.PlacedTerms.{parts_by, placed_of}

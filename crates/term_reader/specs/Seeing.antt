@@ -1,9 +1,9 @@
 -- How the tokens of a text are seen by the grammar.
 use Rattle.std.specs.Prelude.{◌≡◌, ℕ, ◌<◌, List, length, map, Option, Some, None, All, codes}
-use Rattle.fd_model.specs.Term.{Name}
-use Rattle.fd_model.specs.Terminals as model
-use Rattle.fd_model.specs.Tokens.{Kind, Integer, Stop, Lexeme}
-use Rattle.fd_model.specs.Reading.{terminal_of, names_behind}
+use Rattle.fd_language.specs.Term.{Name}
+use Rattle.fd_language.specs.Terminals as model
+use Rattle.fd_language.specs.Tokens.{Kind, Integer, Stop, Lexeme}
+use Rattle.fd_language.specs.Reading.{terminal_of, names_behind}
 use Rattle.term_pool.specs.Contents.{Contents, atom_name}
 use Rattle.term_pool.specs.Valid.{IsPool}
 use Rattle.term_pool.specs.Terms.{Extends}

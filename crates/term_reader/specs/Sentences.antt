@@ -1,11 +1,11 @@
 -- What the reader has read.
 use Rattle.std.specs.Prelude.{◌≡◌, ℕ, ◌<◌, List, [], ◌∷◌, ◌++◌, length, map, reverse, Some, None, Bool, true, false, All}
-use Rattle.fd_model.specs.Term.{Name}
-use Rattle.fd_model.specs.PlacedTerm.{PlacedTerm}
-use Rattle.fd_model.specs.Tokens.{Lexeme, Stop, FaultOf}
-use Rattle.fd_model.specs.Reading as model
-use Rattle.fd_model.specs.Reading.{terminals, names_behind, sentence_names, place_at, IsSyntaxPlace, IsDeepPlace, Reading, sentences, token_fault, syntax_fault, too_deep, IsReading}
-use Rattle.fd_model.proofs.ReadingSteps.{want, top, run}
+use Rattle.fd_language.specs.Term.{Name}
+use Rattle.fd_language.specs.PlacedTerm.{PlacedTerm}
+use Rattle.fd_language.specs.Tokens.{Lexeme, Stop, FaultOf}
+use Rattle.fd_language.specs.Reading as model
+use Rattle.fd_language.specs.Reading.{terminals, names_behind, sentence_names, place_at, IsSyntaxPlace, IsDeepPlace, Reading, sentences, token_fault, syntax_fault, too_deep, IsReading}
+use Rattle.fd_language.proofs.ReadingSteps.{want, top, run}
 use Rattle.char_tokens.specs.Views.{cause_of}
 use Rattle.char_tokens.specs.declared.token.TokenFault.{TokenFault}
 use Rattle.char_tokens.specs.declared.token.TokenFault.TheVariants as faults

@@ -1,9 +1,9 @@
 -- What the parser's vectors stand for in the deciding machine.
 use Rattle.std.specs.Prelude.{◌≡◌, ℕ, ℤ, pos, neg_ℤ, ◌<◌, ◌≤◌, ◌-◌, List, [], ◌∷◌, length, reverse, take, drop, slice_get, Option, Some, None, Bool, true, false, IsTrue, All}
-use Rattle.fd_model.specs.PlacedTerm.{PlacedTerm, atom}
-use Rattle.fd_model.specs.Operators.{right_limit}
-use Rattle.fd_model.specs.Terminals as model
-use Rattle.fd_model.proofs.ReadingSteps.{Stack, top, paren, args, items, tail, curly, before, between, State, want, at_list, at_curly_bracket, at_operator, after, reduce, ended, step}
+use Rattle.fd_language.specs.PlacedTerm.{PlacedTerm, atom}
+use Rattle.fd_language.specs.Operators.{right_limit}
+use Rattle.fd_language.specs.Terminals as model
+use Rattle.fd_language.proofs.ReadingSteps.{Stack, top, paren, args, items, tail, curly, before, between, State, want, at_list, at_curly_bracket, at_operator, after, reduce, ended, step}
 use Rattle.term_pool.specs.declared.TermId.{TermId}
 use Rattle.term_pool.specs.Contents.{Contents, atom_name}
 use Rattle.term_pool.specs.Terms.{Extends}

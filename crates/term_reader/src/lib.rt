@@ -2,7 +2,7 @@
 #![tactic(auto)]
 
 ghost use Rattle.std.specs.Prelude.{◌≡◌, List, ℕ, IfOk, IfErr, MatchResult};
-ghost use Rattle.fd_model.specs.Reading.{Reading, IsReading, sentences};
+ghost use Rattle.fd_language.specs.Reading.{Reading, IsReading, sentences};
 ghost use Rattle.term_reader.specs.Named.{HaveNames};
 ghost use Rattle.term_reader.specs.Sentences.{sentences_of, AreOwn, IsFaultOf, IsFaultFor};
 

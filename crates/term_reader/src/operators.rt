@@ -2,7 +2,7 @@
 
 ghost use Rattle.std.specs.Prelude.{◌≡◌, find, Option, Some, None, map, option_map, is_some, ◌||◌};
 ghost use Rattle.std.specs.Str.{bytes_eq};
-ghost use Rattle.fd_model.specs.Operators.{infix_operators, prefix_operators, infix_of, prefix_of, is_operator, left_limit, right_limit};
+ghost use Rattle.fd_language.specs.Operators.{infix_operators, prefix_operators, infix_of, prefix_of, is_operator, left_limit, right_limit};
 ghost use Rattle.term_reader.specs.Operators.{operator_of};
 
 /// On which side an operand may have the operator's own priority.

@@ -1,13 +1,13 @@
 //! Terms read from the tokens of the grammar, from left to right, with a stack of what is begun.
 
 ghost use Rattle.std.specs.Prelude.{◌≡◌, ◌<◌, ◌≤◌, neg_ℤ, ℕ, List, [], ◌∷◌, ◌++◌, length, reverse, take, drop, slice_get, Option, Some, None, IfOk, IfSome, IfNone, MatchOption, IsTrue, IsFalse, IfErr, option_map, true, false, ◌⊎◌};
-ghost use Rattle.fd_model.specs.PlacedTerm.{PlacedTerm, var, int, atom, comp, no_parts};
-ghost use Rattle.fd_model.specs.Operators.{prefix_of};
-ghost use Rattle.fd_model.specs.Grammar.{list_of};
-ghost use Rattle.fd_model.specs.Terminals as Terminals;
-ghost use Rattle.fd_model.specs.Terminals.{infix_operator, is_minus, is_negated, is_tight_open};
+ghost use Rattle.fd_language.specs.PlacedTerm.{PlacedTerm, var, int, atom, comp, no_parts};
+ghost use Rattle.fd_language.specs.Operators.{prefix_of};
+ghost use Rattle.fd_language.specs.Grammar.{list_of};
+ghost use Rattle.fd_language.specs.Terminals as Terminals;
+ghost use Rattle.fd_language.specs.Terminals.{infix_operator, is_minus, is_negated, is_tight_open};
 ghost use Rattle.term_reader.specs.Operators.{operator_of};
-ghost use Rattle.fd_model.proofs.ReadingSteps as Machine;
+ghost use Rattle.fd_language.proofs.ReadingSteps as Machine;
 ghost use Rattle.term_pool.specs.declared.TermId.{TermId as Id};
 ghost use Rattle.term_pool.specs.declared.AtomId.{AtomId as Atom};
 ghost use Rattle.term_pool.specs.Contents.{Contents, atom_name};
@@ -18,7 +18,7 @@ ghost use Rattle.term_reader.specs.PlacedTerms.{parts_of, Adds};
 ghost use Rattle.term_reader.specs.View.{AreTerms, HaveIds, HaveRoom, IsTerminal, IsWhole, Moves, Steps, Stays, item_limit, last_item, stack, state, terminal_at, closing_of, allows_lone, EndsWith, StandsAtStop, IsNegative, IsNatural, TakesArguments};
 
 use crate::operators::{COMMA, Operator, infix, prefix};
-use fd_model::NoMemory;
+use fd_language::NoMemory;
 use std::alloc::Global;
 use term_pool::{AtomId, CONS, NIL, Node, Pool, TermId};
 

@@ -1,10 +1,10 @@
 //! Sentences read from a text, token by token.
 
 ghost use Rattle.std.specs.Prelude.{◌≡◌, ◌≤◌, [], List, IfOk, IfErr, IsTrue};
-ghost use Rattle.fd_model.specs.Tokens.{Lexeme};
-ghost use Rattle.fd_model.specs.Reading.{terminal_of, IsSentences};
-ghost use Rattle.fd_model.specs.GrammarFaults.{open_behind, deepest};
-ghost use Rattle.fd_model.specs.Term.{Name};
+ghost use Rattle.fd_language.specs.Tokens.{Lexeme};
+ghost use Rattle.fd_language.specs.Reading.{terminal_of, IsSentences};
+ghost use Rattle.fd_language.specs.GrammarFaults.{open_behind, deepest};
+ghost use Rattle.fd_language.specs.Term.{Name};
 ghost use Rattle.char_tokens.specs.Views.{lexeme_of};
 ghost use Rattle.term_reader.specs.declared.reader.ReaderFault.TheVariants.{NoMemory};
 ghost use Rattle.term_reader.specs.Seeing.{HasNatural};
@@ -14,7 +14,7 @@ use crate::parser::Parser;
 use crate::terminals::terminal;
 use crate::variables::Variables;
 use char_tokens::{Kind, Scanner, Token, TokenFault};
-use fd_model::NoMemory;
+use fd_language::NoMemory;
 use std::alloc::Global;
 use term_pool::{AtomId, Pool, TermId};
 use thiserror::Error;

@@ -1,9 +1,9 @@
 //! The tokens of the grammar, from those of the text.
 
 ghost use Rattle.std.specs.Prelude.{◌≡◌, ◌<◌, ℕ, List, [], ◌∷◌, length, Option, IfOk, map, All, string_bytes};
-ghost use Rattle.fd_model.specs.Tokens as Tokens;
-ghost use Rattle.fd_model.specs.Terminals as Terminals;
-ghost use Rattle.fd_model.specs.Reading.{punct_terminal, word_terminal};
+ghost use Rattle.fd_language.specs.Tokens as Tokens;
+ghost use Rattle.fd_language.specs.Terminals as Terminals;
+ghost use Rattle.fd_language.specs.Reading.{punct_terminal, word_terminal};
 ghost use Rattle.term_pool.specs.Contents.{Contents, atom_name};
 ghost use Rattle.term_pool.specs.Valid.{IsPool};
 ghost use Rattle.term_pool.specs.Terms.{Extends};
@@ -15,7 +15,7 @@ use crate::operators::is_operator;
 use crate::parser::Terminal;
 use crate::variables::Variables;
 use char_tokens::{Kind, Token, unquote};
-use fd_model::NoMemory;
+use fd_language::NoMemory;
 use std::alloc::Global;
 use term_pool::{AtomId, Pool};
 

@@ -3,7 +3,7 @@
 ghost use Rattle.std.specs.Prelude.{◌≡◌, ◌<◌, ◌++◌, ◌∷◌, [], ℕ, List, length, slice_get, Some, None, IfOk, OnOk, MatchOption};
 ghost use Rattle.term_reader.specs.Numbering.{IsIndexed, id_number, with_id};
 
-use fd_model::NoMemory;
+use fd_language::NoMemory;
 use std::alloc::Global;
 use std::mem::replace;
 use term_pool::AtomId;

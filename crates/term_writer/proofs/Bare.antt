@@ -9,12 +9,12 @@ use Rattle.std.proofs.lemmas.Str.{chars-nil, IsUtf8-nil, IsUtf8-append}
 use Rattle.std.proofs.lemmas.Slice.Eq.{bytes_eq-Decides}
 use Rattle.unicode_ident.specs.Ident.{is_xid_start, is_xid_continue}
 use Rattle.unicode_ident.proofs.IdentLemmas.{is_xid_start-ascii, is_xid_continue-ascii}
-use Rattle.fd_model.specs.Term.{Name}
-use Rattle.fd_model.specs.Characters.{is_symbol, is_layout, starts_with, starts_with_digit_of}
-use Rattle.fd_model.specs.Operators.{Operator, infix_operators, prefix_operators, infix_of, prefix_of, is_operator}
-use Rattle.fd_model.specs.Tokens.{Word, Token, ends_stop, front_of}
-use Rattle.fd_model.specs.Writing as writing
-use Rattle.fd_model.specs.Writing.{is_letter_word_of, is_letter_word, is_comment_start, is_symbol_word, is_bare, quoted_name, starts_with_symbol, ends_with_symbol}
+use Rattle.fd_language.specs.Term.{Name}
+use Rattle.fd_language.specs.Characters.{is_symbol, is_layout, starts_with, starts_with_digit_of}
+use Rattle.fd_language.specs.Operators.{Operator, infix_operators, prefix_operators, infix_of, prefix_of, is_operator}
+use Rattle.fd_language.specs.Tokens.{Word, Token, ends_stop, front_of}
+use Rattle.fd_language.specs.Writing as writing
+use Rattle.fd_language.specs.Writing.{is_letter_word_of, is_letter_word, is_comment_start, is_symbol_word, is_bare, quoted_name, starts_with_symbol, ends_with_symbol}
 use Rattle.term_writer.proofs.Derived.{infix_stands, row_named, text_is}
 use Rattle.term_writer.proofs.Classes.{symbol_is, symbol_low}
 use Rattle.term_writer.proofs.Fronts.{stops, letters_front, symbols_front}

@@ -5,11 +5,11 @@ use Rattle.std.specs.Str.{bytes_eq, chars}
 use Rattle.std.proofs.lemmas.Bool.{true≢false, cases_Bool, false_from_ne_true}
 use Rattle.std.proofs.lemmas.Str.{chars-append, chars-encodes, byte_from_char, char_from_byte}
 use lib.Utf8.{encode, encodes, scalars}
-use Rattle.fd_model.specs.Term.{Name}
-use Rattle.fd_model.specs.Characters.{is_symbol}
-use Rattle.fd_model.specs.Operators.{infix_of, prefix_of, is_operator}
-use Rattle.fd_model.specs.Writing as writing
-use Rattle.fd_model.specs.Writing.{is_empty_name, is_bare, quoted_name, starts_with_symbol, ends_with_symbol, atom_text, functor_text}
+use Rattle.fd_language.specs.Term.{Name}
+use Rattle.fd_language.specs.Characters.{is_symbol}
+use Rattle.fd_language.specs.Operators.{infix_of, prefix_of, is_operator}
+use Rattle.fd_language.specs.Writing as writing
+use Rattle.fd_language.specs.Writing.{is_empty_name, is_bare, quoted_name, starts_with_symbol, ends_with_symbol, atom_text, functor_text}
 use Rattle.term_writer.proofs.Classes.{symbol_low}
 use Rattle.term_writer.proofs.Joined.{ends-append}
 use Rattle.term_writer.proofs.Lexing.{chars_ascii}

@@ -6,8 +6,8 @@ use Rattle.std.specs.List.{list_all}
 use Rattle.std.proofs.lemmas.Bool.{true≢false, ne_eqb, eqb-true, lt-leb, le-ltb, ltb-true, and_parts, and_right, or_cases, or_from, cases_lt, not-true, false_from_ne_true, agree_below, agree_below_at}
 use Rattle.unicode_ident.specs.Ident.{is_xid_start, is_xid_continue}
 use Rattle.unicode_ident.proofs.IdentLemmas.{is_xid_start-ascii, is_xid_continue-ascii}
-use Rattle.fd_model.specs.Characters.{is_among, is_layout, is_symbol, begins_variable, is_digit_of}
-use Rattle.fd_model.specs.Tokens.{base_of}
+use Rattle.fd_language.specs.Characters.{is_among, is_layout, is_symbol, begins_variable, is_digit_of}
+use Rattle.fd_language.specs.Tokens.{base_of}
 
 always : ℕ → Bool
 always c = true

@@ -6,11 +6,11 @@ use Rattle.std.specs.Str.{bytes_eq, chars}
 use Rattle.std.proofs.lemmas.Bool.{false_from_ne_true}
 use Rattle.std.proofs.lemmas.Str.{IsUtf8-from_ascii}
 use Rattle.std.proofs.lemmas.Fmt.{IsAscii-decimal, decimal_nonempty}
-use Rattle.fd_model.specs.Term.{Name, Term, Terms, Var, Int, Atom, Comp, no_terms, term}
-use Rattle.fd_model.specs.Operators.{Operator, infix_of}
-use Rattle.fd_model.specs.Tokens.{greatest}
-use Rattle.fd_model.specs.Terminals.{Terminal, variable, integer, opens, closes, open_list, close_list, open_curly, close_curly, comma, bar}
-use Rattle.fd_model.specs.Writing.{Quoted, is_empty_name, in_parentheses, Spelling, spelled_alone, spelled_atom, spelled_one, spelled_two, spelled_infix, infix_text, call_text, arguments_text, functor_text, atom_text, spelled, spelled_each}
+use Rattle.fd_language.specs.Term.{Name, Term, Terms, Var, Int, Atom, Comp, no_terms, term}
+use Rattle.fd_language.specs.Operators.{Operator, infix_of}
+use Rattle.fd_language.specs.Tokens.{greatest}
+use Rattle.fd_language.specs.Terminals.{Terminal, variable, integer, opens, closes, open_list, close_list, open_curly, close_curly, comma, bar}
+use Rattle.fd_language.specs.Writing.{Quoted, is_empty_name, in_parentheses, Spelling, spelled_alone, spelled_atom, spelled_one, spelled_two, spelled_infix, infix_text, call_text, arguments_text, functor_text, atom_text, spelled, spelled_each}
 use Rattle.term_writer.specs.Spelled.{InTokens, called, after_bar, atom_tokens, atom_rest, one_tokens, operands, infix_tokens, two_tokens, two_rest, integer_tokens, tokens_of, further}
 use Rattle.term_writer.specs.Written.{IsVariable, IsFunctor, IsReadable, AllReadable}
 use Rattle.term_writer.proofs.Lexing.{Lexes, open_bracket, close_bracket, list_opens, list_closes, curly_opens, curly_closes, comma_first, before_close, before_list_end, before_curly_end, before_comma, before_bar}

@@ -4,13 +4,13 @@ use Rattle.std.specs.Prelude.{nat_le, ◌&&◌, not, find, codes}
 use Rattle.std.specs.Str.{bytes_eq}
 use Rattle.std.proofs.lemmas.Bool.{leb-true}
 use Rattle.std.proofs.lemmas.Slice.Eq.{bytes_eq-Decides}
-use Rattle.fd_model.specs.Term.{Name, Term, Terms, Var, Int, Atom, Comp, no_terms, term}
-use Rattle.fd_model.specs.PlacedTerm.{PlacedTerm, PlacedTerms, var, int, atom, comp, part, one, two}
-use Rattle.fd_model.specs.Operators.{Operator, infix_operators, infix_of, is_operator, left_limit, right_limit}
-use Rattle.fd_model.specs.Terminals.{Terminal, name, operator_word, variable, opens, closes, open_list, close_list, open_curly, close_curly, comma, bar, comma_operator, infix_operator, is_minus, place_of}
-use Rattle.fd_model.specs.Writing.{is_letter_word}
-use Rattle.fd_model.specs.Grammar.{Reads, an_integer, a_negative, a_variable, an_atom, empty_list, empty_curly, named_call, operator_call, in_parens, a_list, a_list_tail, in_curly, an_infix, Arg, a_term, Args, last, more, list_of}
-use Rattle.fd_model.proofs.OperatorLaws.{within_infix}
+use Rattle.fd_language.specs.Term.{Name, Term, Terms, Var, Int, Atom, Comp, no_terms, term}
+use Rattle.fd_language.specs.PlacedTerm.{PlacedTerm, PlacedTerms, var, int, atom, comp, part, one, two}
+use Rattle.fd_language.specs.Operators.{Operator, infix_operators, infix_of, is_operator, left_limit, right_limit}
+use Rattle.fd_language.specs.Terminals.{Terminal, name, operator_word, variable, opens, closes, open_list, close_list, open_curly, close_curly, comma, bar, comma_operator, infix_operator, is_minus, place_of}
+use Rattle.fd_language.specs.Writing.{is_letter_word}
+use Rattle.fd_language.specs.Grammar.{Reads, an_integer, a_negative, a_variable, an_atom, empty_list, empty_curly, named_call, operator_call, in_parens, a_list, a_list_tail, in_curly, an_infix, Arg, a_term, Args, last, more, list_of}
+use Rattle.fd_language.proofs.OperatorLaws.{within_infix}
 use Rattle.term_writer.specs.Spelled.{placed, all_placed, operator_terminal, call_terminal, InTokens, called, after_bar, atom_tokens, one_tokens, operands, infix_tokens, two_tokens, two_rest, atom_rest, integer_tokens, tokens_of, further, HasArguments, AllHaveArguments, Within, SpelledIsRead}
 
 pub text_is : (a b : Name) → bytes_eq a b ≡ true → a ≡ b

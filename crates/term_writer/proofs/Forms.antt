@@ -2,8 +2,8 @@
 use Rattle.std.proofs.Common.{◌≡◌, ◌<◌, ◌≤◌, List, [], ◌∷◌, ◌++◌, length, get_or, drop, Bool, false, cond, refl, ap, arith}
 use Rattle.std.specs.Prelude.{codes}
 use Rattle.std.specs.Str.{bytes_eq}
-use Rattle.fd_model.specs.Term.{Name}
-use Rattle.fd_model.specs.Writing.{spelled, spelled_alone, call_text}
+use Rattle.fd_language.specs.Term.{Name}
+use Rattle.fd_language.specs.Writing.{spelled, spelled_alone, call_text}
 use Rattle.term_pool.specs.declared.TermId.{TermId}
 use Rattle.term_writer.specs.declared.pieces.Form.TheVariants as form
 use Rattle.term_writer.specs.Pieces.{IsForm}

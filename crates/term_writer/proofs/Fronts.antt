@@ -6,8 +6,8 @@ use Rattle.std.specs.List.{list_all}
 use Rattle.std.specs.Str.Parse.{AllDigits, digits_value_after}
 use Rattle.std.proofs.lemmas.Bool.{le-leb, lt-ltb, le-ltb, and_parts, and_right}
 use Rattle.unicode_ident.specs.Ident.{is_xid_start, is_xid_continue}
-use Rattle.fd_model.specs.Characters.{is_symbol, begins_variable, is_digit_of, starts_with, starts_with_digit_of, run_size, past_run, value}
-use Rattle.fd_model.specs.Tokens.{Token, Offends, Word, Variable, Integer, IntegerTooWide, greatest, base_of, has_base, has_fraction, number_front, integer_front, ends_stop, front_at}
+use Rattle.fd_language.specs.Characters.{is_symbol, begins_variable, is_digit_of, starts_with, starts_with_digit_of, run_size, past_run, value}
+use Rattle.fd_language.specs.Tokens.{Token, Offends, Word, Variable, Integer, IntegerTooWide, greatest, base_of, has_base, has_fraction, number_front, integer_front, ends_stop, front_at}
 use Rattle.term_writer.proofs.Quoting.{size}
 use Rattle.term_writer.proofs.Classes.{variable_plain, letter_is, symbol_is, Digit, digit_is, no_base, no_digit}
 

@@ -2,9 +2,9 @@
 use Rattle.std.proofs.Common.{◌≡◌, ◌∙◌, ℕ, List, [], ◌∷◌, ◌++◌, Bool, true, false, cond, refl, sym, ap, append_assoc}
 use Rattle.std.specs.Prelude.{◌&&◌, codes}
 use Rattle.std.proofs.lemmas.List.{append-nil}
-use Rattle.fd_model.specs.Characters.{is_symbol}
-use Rattle.fd_model.specs.Term.{Name}
-use Rattle.fd_model.specs.Writing.{ends_with_symbol, starts_with_symbol, gap_between, is_letter_word, is_empty_name, between, quoted_name}
+use Rattle.fd_language.specs.Characters.{is_symbol}
+use Rattle.fd_language.specs.Term.{Name}
+use Rattle.fd_language.specs.Writing.{ends_with_symbol, starts_with_symbol, gap_between, is_letter_word, is_empty_name, between, quoted_name}
 use Rattle.term_writer.specs.Pieces.{joined, operator_text}
 
 and_false : (b : Bool) → (b && false) ≡ false

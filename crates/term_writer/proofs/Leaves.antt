@@ -7,13 +7,13 @@ use Rattle.std.specs.Str.Parse.{AllDigits, digits_value_after, digits_value}
 use Rattle.std.proofs.lemmas.Bool.{true≢false, and_parts, and_right, or_cases, or_left, or_right, not-true, lt-ltb}
 use Rattle.std.proofs.lemmas.Fmt.{decimal_is_IsNumeral, IsAscii-decimal}
 use Rattle.std.proofs.lemmas.Str.{chars-IsAscii, IsUtf8-from_ascii}
-use Rattle.fd_model.specs.Term.{Name}
-use Rattle.fd_model.specs.Characters.{is_symbol}
-use Rattle.fd_model.specs.Operators.{infix_of, prefix_of, is_operator}
-use Rattle.fd_model.specs.Tokens.{Word, Quoted, Variable, Integer, Token, greatest, front_of}
-use Rattle.fd_model.specs.Terminals.{Terminal, name, operator_word, variable, integer, open_list, close_list, open_curly, close_curly}
-use Rattle.fd_model.specs.Writing as writing
-use Rattle.fd_model.specs.Writing.{is_letter_word, is_symbol_word, is_bare, quoted_name, starts_with_symbol, ends_with_symbol, atom_text, functor_text}
+use Rattle.fd_language.specs.Term.{Name}
+use Rattle.fd_language.specs.Characters.{is_symbol}
+use Rattle.fd_language.specs.Operators.{infix_of, prefix_of, is_operator}
+use Rattle.fd_language.specs.Tokens.{Word, Quoted, Variable, Integer, Token, greatest, front_of}
+use Rattle.fd_language.specs.Terminals.{Terminal, name, operator_word, variable, integer, open_list, close_list, open_curly, close_curly}
+use Rattle.fd_language.specs.Writing as writing
+use Rattle.fd_language.specs.Writing.{is_letter_word, is_symbol_word, is_bare, quoted_name, starts_with_symbol, ends_with_symbol, atom_text, functor_text}
 use Rattle.term_writer.specs.Spelled.{call_terminal, atom_tokens}
 use Rattle.term_writer.specs.Written.{IsVariable}
 use Rattle.term_writer.proofs.QuotedNames.{name_of, token_of}

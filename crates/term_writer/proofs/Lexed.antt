@@ -5,12 +5,12 @@ use Rattle.std.specs.Str.{bytes_eq, chars}
 use Rattle.std.proofs.lemmas.Bool.{true≢false, and_right, false_from_ne_true, cases_Bool}
 use Rattle.std.proofs.lemmas.Slice.Eq.{bytes_eq-Decides}
 use Rattle.unicode_ident.proofs.IdentLemmas.{is_xid_start-ascii}
-use Rattle.fd_model.specs.Term.{Name}
-use Rattle.fd_model.specs.Characters.{is_symbol}
-use Rattle.fd_model.specs.Operators.{Operator, infix_of, prefix_of, is_operator, left_limit, right_limit}
-use Rattle.fd_model.specs.Tokens.{Word}
-use Rattle.fd_model.specs.Terminals.{Terminal, operator_word, close_list, comma}
-use Rattle.fd_model.specs.Writing.{is_letter_word, is_symbol_word, is_empty_name, starts_with_symbol, ends_with_symbol, gap_between, between, Spelling, spelled_by}
+use Rattle.fd_language.specs.Term.{Name}
+use Rattle.fd_language.specs.Characters.{is_symbol}
+use Rattle.fd_language.specs.Operators.{Operator, infix_of, prefix_of, is_operator, left_limit, right_limit}
+use Rattle.fd_language.specs.Tokens.{Word}
+use Rattle.fd_language.specs.Terminals.{Terminal, operator_word, close_list, comma}
+use Rattle.fd_language.specs.Writing.{is_letter_word, is_symbol_word, is_empty_name, starts_with_symbol, ends_with_symbol, gap_between, between, Spelling, spelled_by}
 use Rattle.term_writer.specs.Spelled.{InTokens, after_bar, operands, operator_terminal}
 use Rattle.term_writer.proofs.Derived.{infix_stands, text_is}
 use Rattle.term_writer.proofs.Joined.{symbol_space}

@@ -9,13 +9,13 @@ use Rattle.std.proofs.lemmas.Bool.{and_from}
 use lib.Utf8.{scalar}
 use Rattle.unicode_ident.specs.Ident.{is_xid_continue}
 use Rattle.unicode_ident.proofs.IdentLemmas.{is_xid_start-ascii, is_xid_continue-ascii}
-use Rattle.fd_model.specs.Term.{Name}
-use Rattle.fd_model.specs.Characters.{is_symbol, is_punct, begins_variable}
-use Rattle.fd_model.specs.Operators.{is_operator}
-use Rattle.fd_model.specs.Tokens.{Kind, Word, Quoted, Variable, Integer, Punct, Stop, Lexeme, Gap, Token, has_fraction, front_of, front_by, front_at, HasTokens, after_gap, after_token, unquoted}
-use Rattle.fd_model.specs.Terminals.{Terminal, name, operator_word, variable, integer, opens, closes, open_list, close_list, open_curly, close_curly, comma, bar, stop}
-use Rattle.fd_model.specs.Reading.{terminal_of, names_behind, ended_by, is_anonymous}
-use Rattle.fd_model.specs.Writing.{starts_with_symbol}
+use Rattle.fd_language.specs.Term.{Name}
+use Rattle.fd_language.specs.Characters.{is_symbol, is_punct, begins_variable}
+use Rattle.fd_language.specs.Operators.{is_operator}
+use Rattle.fd_language.specs.Tokens.{Kind, Word, Quoted, Variable, Integer, Punct, Stop, Lexeme, Gap, Token, has_fraction, front_of, front_by, front_at, HasTokens, after_gap, after_token, unquoted}
+use Rattle.fd_language.specs.Terminals.{Terminal, name, operator_word, variable, integer, opens, closes, open_list, close_list, open_curly, close_curly, comma, bar, stop}
+use Rattle.fd_language.specs.Reading.{terminal_of, names_behind, ended_by, is_anonymous}
+use Rattle.fd_language.specs.Writing.{starts_with_symbol}
 use Rattle.term_writer.proofs.Quoting.{size}
 use Rattle.term_writer.proofs.QuotedNames.{sizes}
 use Rattle.term_writer.proofs.Fronts as fronts

@@ -5,10 +5,10 @@ use Rattle.std.specs.List.{position_or_len, list_any}
 use Rattle.std.specs.Str.{bytes_eq}
 use Rattle.std.proofs.lemmas.Bool.{true≢false}
 use Rattle.std.proofs.lemmas.Slice.Eq.{bytes_eq-Decides}
-use Rattle.fd_model.specs.Term.{Name}
-use Rattle.fd_model.specs.Tokens.{Kind, Variable, Lexeme}
-use Rattle.fd_model.specs.Terminals.{Terminal, variable, stop}
-use Rattle.fd_model.specs.Reading.{is_anonymous, variable_number, with_variable, terminal_by, terminal_of, terminals, names_by, names_behind, ended_by, sentence_names}
+use Rattle.fd_language.specs.Term.{Name}
+use Rattle.fd_language.specs.Tokens.{Kind, Variable, Lexeme}
+use Rattle.fd_language.specs.Terminals.{Terminal, variable, stop}
+use Rattle.fd_language.specs.Reading.{is_anonymous, variable_number, with_variable, terminal_by, terminal_of, terminals, names_by, names_behind, ended_by, sentence_names}
 use Rattle.term_writer.proofs.Moved.{IsNumbered, Alike, like_variable, like_stop, AllAlike, no_token, and}
 use Rattle.term_writer.proofs.Lexing.{Spelt, at_end, at_stop, at_variable, at_other}
 

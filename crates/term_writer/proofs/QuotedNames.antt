@@ -11,12 +11,12 @@ use Rattle.std.proofs.lemmas.Str.{chars-append, chars-encodes, encodes-chars, sc
 use Rattle.std.proofs.Math.Utf8.{scalar, scalars, low_scalar}
 use lib.Utf8.{encode, encodes}
 use Rattle.unicode_ident.proofs.IdentLemmas.{is_xid_start-ascii}
-use Rattle.fd_model.specs.Term.{Name}
-use Rattle.fd_model.specs.Characters.{starts_with, is_symbol, is_punct, begins_variable, tail}
-use Rattle.fd_model.specs.Tokens.{Token, Quoted, Between, AfterQuote, Past, quoted_front, quoted_spells, front_of, front_by, front_at, unquoted}
-use Rattle.fd_model.specs.Writing.{quoted_byte, quoted_bytes, quoted_name}
+use Rattle.fd_language.specs.Term.{Name}
+use Rattle.fd_language.specs.Characters.{starts_with, is_symbol, is_punct, begins_variable, tail}
+use Rattle.fd_language.specs.Tokens.{Token, Quoted, Between, AfterQuote, Past, quoted_front, quoted_spells, front_of, front_by, front_at, unquoted}
+use Rattle.fd_language.specs.Writing.{quoted_byte, quoted_bytes, quoted_name}
 use Rattle.term_writer.proofs.Quoting.{size, size-append, stands, all_front, all_spells}
-use Rattle.fd_model.proofs.QuotedAtoms.{front_past}
+use Rattle.fd_language.proofs.QuotedAtoms.{front_past}
 
 is_low : ℕ → Bool
 is_low b = nat_lt b 128

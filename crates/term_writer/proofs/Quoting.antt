@@ -4,8 +4,8 @@ use Rattle.std.specs.Prelude.{◌==◌, ◌||◌, nat_lt}
 use Rattle.std.specs.Char.{len_utf8}
 use Rattle.std.specs.Fmt.{digits}
 use Rattle.std.proofs.lemmas.Bool.{eqb-true, or_cases, ltb-true}
-use Rattle.fd_model.specs.Tokens.{Between, quoted_front, quoted_spells}
-use Rattle.fd_model.specs.Writing.{quoted_byte, quoted_bytes}
+use Rattle.fd_language.specs.Tokens.{Between, quoted_front, quoted_spells}
+use Rattle.fd_language.specs.Writing.{quoted_byte, quoted_bytes}
 
 -- the bytes of characters
 abbrev pub size : List ℕ → ℕ

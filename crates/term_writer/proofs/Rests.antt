@@ -2,9 +2,9 @@
 use Rattle.std.proofs.Common.{◌≡◌, ◌∙◌, ℕ, ℤ, ◌<◌, List, [], ◌∷◌, ◌++◌, length, Bool, true, false, cond, Option, refl, sym, ap, subst, arith}
 use Rattle.std.specs.Prelude.{All, codes}
 use Rattle.std.specs.Str.{bytes_eq}
-use Rattle.fd_model.specs.Term.{Name, Term, Var, Int, Atom, Comp}
-use Rattle.fd_model.specs.Operators.{Operator, infix_of}
-use Rattle.fd_model.specs.Writing.{Mode, Spelling, spelled, spelled_alone, spelled_infix, atom_text, call_text}
+use Rattle.fd_language.specs.Term.{Name, Term, Var, Int, Atom, Comp}
+use Rattle.fd_language.specs.Operators.{Operator, infix_of}
+use Rattle.fd_language.specs.Writing.{Mode, Spelling, spelled, spelled_alone, spelled_infix, atom_text, call_text}
 use Rattle.term_pool.specs.declared.TermId.{TermId}
 use Rattle.term_pool.specs.Contents.{Contents}
 use Rattle.term_pool.specs.Terms.{terms_by, term_of}

@@ -2,7 +2,7 @@
 use Rattle.std.proofs.Common.{◌≡◌, ◌∙◌, sym, ap, ℕ, List, [], ◌∷◌, Option, Some, None, Bool, true, false, cond, refl}
 use Rattle.std.specs.Prelude.{find, map, option_map, is_some, ◌||◌}
 use Rattle.std.specs.Str.{bytes_eq}
-use Rattle.fd_model.specs.Operators.{infix_of, prefix_of, is_operator}
+use Rattle.fd_language.specs.Operators.{infix_of, prefix_of, is_operator}
 use Rattle.term_writer.specs.declared.operators.Operator.{Operator}
 use Rattle.term_writer.specs.Operators.{operator_of}
 

@@ -4,20 +4,20 @@ use Rattle.std.specs.Prelude.{codes, slice_get, nat_le, ◌==◌}
 use Rattle.std.specs.Str.{bytes_eq, chars}
 use Rattle.std.proofs.lemmas.Bool.{true≢false, or_cases, eqb-true, leb-true}
 use Rattle.unicode_ident.proofs.IdentLemmas.{is_xid_start-ascii}
-use Rattle.fd_model.specs.Term.{Name, Term, Terms, Var, Int, Atom, Comp, no_terms, term, apply, apply_all}
-use Rattle.fd_model.specs.PlacedTerm.{PlacedTerm, PlacedTerms, plain, all_plain}
-use Rattle.fd_model.specs.Characters.{is_symbol, is_punct, begins_variable}
-use Rattle.fd_model.specs.Operators.{Operator, prefix_operators, prefix_of}
-use Rattle.fd_model.specs.Family.{has}
-use Rattle.fd_model.specs.Lines.{variables_of, variables_of_all}
-use Rattle.fd_model.specs.Writing.{Quoted, term_text, starts_with_symbol}
-use Rattle.fd_model.specs.Tokens.{Stop, Token, front_at, ended, after_token}
-use Rattle.fd_model.specs.Terminals.{Terminal, stop}
-use Rattle.fd_model.specs.Grammar.{Reads, an_integer, a_negative, a_variable, an_atom, empty_list, empty_curly, named_call, operator_call, in_parens, operator_in_parens, a_list, a_list_tail, in_curly, a_prefix, an_infix, none, next}
-use Rattle.fd_model.specs.Reading.{terminals}
-use Rattle.fd_model.proofs.OperatorLaws.{within_infix}
-use Rattle.fd_model.proofs.Sets.{has_either}
-use Rattle.fd_model.proofs.TokenLaws.{front_empty}
+use Rattle.fd_language.specs.Term.{Name, Term, Terms, Var, Int, Atom, Comp, no_terms, term, apply, apply_all}
+use Rattle.fd_language.specs.PlacedTerm.{PlacedTerm, PlacedTerms, plain, all_plain}
+use Rattle.fd_language.specs.Characters.{is_symbol, is_punct, begins_variable}
+use Rattle.fd_language.specs.Operators.{Operator, prefix_operators, prefix_of}
+use Rattle.fd_language.specs.Family.{has}
+use Rattle.fd_language.specs.Variables.{variables_of, variables_of_all}
+use Rattle.fd_language.specs.Writing.{Quoted, term_text, starts_with_symbol}
+use Rattle.fd_language.specs.Tokens.{Stop, Token, front_at, ended, after_token}
+use Rattle.fd_language.specs.Terminals.{Terminal, stop}
+use Rattle.fd_language.specs.Grammar.{Reads, an_integer, a_negative, a_variable, an_atom, empty_list, empty_curly, named_call, operator_call, in_parens, operator_in_parens, a_list, a_list_tail, in_curly, a_prefix, an_infix, none, next}
+use Rattle.fd_language.specs.Reading.{terminals}
+use Rattle.fd_language.proofs.OperatorLaws.{within_infix}
+use Rattle.fd_language.proofs.Sets.{has_either}
+use Rattle.fd_language.proofs.TokenLaws.{front_empty}
 use Rattle.term_writer.specs.Spelled.{placed, all_placed, tokens_of, HasArguments, AllHaveArguments, Within}
 use Rattle.term_writer.specs.Written.{IsReadable, AllReadable, number_among, Derives, IsSentenceOf, WrittenIsRead}
 use Rattle.term_writer.proofs.Derived.{spelled_is_read}

@@ -6,10 +6,10 @@ use Rattle.std.specs.List.{list_all}
 use Rattle.std.proofs.lemmas.List.{append-nil}
 use Rattle.std.proofs.lemmas.List.Elements.{All-nil, All-cons, All-head, All-tail}
 use Rattle.std.proofs.lemmas.Bool.{and_parts}
-use Rattle.fd_model.specs.Characters.{is_symbol}
-use Rattle.fd_model.specs.Term.{Name, Term, Var, Int, Atom, Comp}
-use Rattle.fd_model.specs.Operators.{Operator, infix_operators, infix_of, left_limit, right_limit}
-use Rattle.fd_model.specs.Writing.{Mode, Spelling, spelled, spelled_each, spelled_alone, spelled_compound, spelled_two, spelled_infix, spelled_atom, infix_text, call_text, functor_text, arguments_text, starts_with_symbol, is_empty_name, between}
+use Rattle.fd_language.specs.Characters.{is_symbol}
+use Rattle.fd_language.specs.Term.{Name, Term, Var, Int, Atom, Comp}
+use Rattle.fd_language.specs.Operators.{Operator, infix_operators, infix_of, left_limit, right_limit}
+use Rattle.fd_language.specs.Writing.{Mode, Spelling, spelled, spelled_each, spelled_alone, spelled_compound, spelled_two, spelled_infix, spelled_atom, infix_text, call_text, functor_text, arguments_text, starts_with_symbol, is_empty_name, between}
 use Rattle.term_pool.specs.declared.TermId.{TermId}
 use Rattle.term_pool.specs.Contents.{Contents}
 use Rattle.term_pool.specs.Terms.{terms_by, term_of}

@@ -3,8 +3,8 @@ use Rattle.std.proofs.Common.{◌≡◌, ◌∙◌, ℕ, zero, suc, ◌<◌, ◌
 use Rattle.std.specs.Prelude.{◌&&◌, ◌-◌, slice_get}
 use Rattle.std.specs.List.{list_all}
 use Rattle.std.proofs.lemmas.List.{at_drop_more}
-use Rattle.fd_model.specs.Characters.{is_symbol}
-use Rattle.fd_model.specs.Writing.{ends_with_symbol, quoted_byte, quoted_bytes}
+use Rattle.fd_language.specs.Characters.{is_symbol}
+use Rattle.fd_language.specs.Writing.{ends_with_symbol, quoted_byte, quoted_bytes}
 
 ends_at : (xs : List ℕ) (n y : ℕ) → length xs ≡ suc n → slice_get xs n ≡ Some y → is_symbol y ≡ ends_with_symbol xs
 ends_at [] n y e h = absurd cc

@@ -2,7 +2,7 @@
 use Rattle.std.proofs.Common.{◌≡◌, ◌∙◌, ℕ, ◌+◌, ◌<◌, List, [], ◌∷◌, ◌++◌, refl, sym, ap, subst, arith}
 use Rattle.std.specs.Prelude.{All}
 use Rattle.std.proofs.lemmas.List.Elements.{All-append}
-use Rattle.fd_model.specs.Writing.{Mode}
+use Rattle.fd_language.specs.Writing.{Mode}
 use Rattle.term_pool.specs.Contents.{Contents}
 use Rattle.term_writer.specs.declared.pieces.Piece.{Piece}
 use Rattle.term_writer.specs.Pieces.{joined, piece_text, piece_weight, finished, load, IsOf, Replaces}

@@ -1,9 +1,9 @@
 -- What is still to be written of a term.
 use Rattle.std.specs.Prelude.{◌≡◌, ℕ, true, false, ◌+◌, ◌<◌, List, [], ◌∷◌, ◌++◌, length, Some, All, codes, if◌then◌else◌}
 use Rattle.std.specs.Str.{bytes_eq}
-use Rattle.fd_model.specs.Term.{Name, Term, Terms, Var, Int, Atom, Comp, no_terms, term}
-use Rattle.fd_model.specs.Operators.{infix_of}
-use Rattle.fd_model.specs.Writing.{Mode, is_letter_word, gap_between, spelled, spelled_each, spelled_alone, spelled_compound, call_text, arguments_text}
+use Rattle.fd_language.specs.Term.{Name, Term, Terms, Var, Int, Atom, Comp, no_terms, term}
+use Rattle.fd_language.specs.Operators.{infix_of}
+use Rattle.fd_language.specs.Writing.{Mode, is_letter_word, gap_between, spelled, spelled_each, spelled_alone, spelled_compound, call_text, arguments_text}
 use Rattle.term_pool.specs.declared.TermId.{TermId}
 use Rattle.term_pool.specs.Contents.{Contents}
 use Rattle.term_pool.specs.Terms.{terms_by, term_of}

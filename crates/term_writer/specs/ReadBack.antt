@@ -1,10 +1,10 @@
 -- What quotes keep.
 use Rattle.std.specs.Prelude.{◌≡◌, ℕ, List, ◌++◌, false, length, IsUtf8}
 use Rattle.std.specs.Str.{chars}
-use Rattle.fd_model.specs.Term.{Name}
-use Rattle.fd_model.specs.Characters.{starts_with}
-use Rattle.fd_model.specs.Tokens.{Token, Quoted, front_of, unquoted}
-use Rattle.fd_model.specs.Writing.{quoted_name}
+use Rattle.fd_language.specs.Term.{Name}
+use Rattle.fd_language.specs.Characters.{starts_with}
+use Rattle.fd_language.specs.Tokens.{Token, Quoted, front_of, unquoted}
+use Rattle.fd_language.specs.Writing.{quoted_name}
 
 -- A name in quotes is one token, unless a quote follows it, and spells the name.
 pub record QuotedIsRead : Type 0 where

@@ -1,12 +1,12 @@
 -- How a term is spelled in tokens, in mode Quoted. Each place is 0.
 use Rattle.std.specs.Prelude.{ℕ, ◌≤◌, ℤ, pos, negsuc, suc, List, ◌∷◌, true, Bool, Option, Some, None, ◌&&◌, not, nat_le, if◌then◌else◌, codes}
 use Rattle.std.specs.Str.{bytes_eq}
-use Rattle.fd_model.specs.Term.{Name, Term, Terms, Var, Int, Atom, Comp, no_terms, term}
-use Rattle.fd_model.specs.PlacedTerm.{PlacedTerm, PlacedTerms, var, int, atom, comp, no_parts, part}
-use Rattle.fd_model.specs.Operators.{Operator, infix_of, is_operator, left_limit, right_limit}
-use Rattle.fd_model.specs.Terminals.{Terminal, name, operator_word, variable, integer, opens, closes, open_list, close_list, open_curly, close_curly, comma, bar}
-use Rattle.fd_model.specs.Grammar.{Reads}
-use Rattle.fd_model.specs.Writing.{is_letter_word}
+use Rattle.fd_language.specs.Term.{Name, Term, Terms, Var, Int, Atom, Comp, no_terms, term}
+use Rattle.fd_language.specs.PlacedTerm.{PlacedTerm, PlacedTerms, var, int, atom, comp, no_parts, part}
+use Rattle.fd_language.specs.Operators.{Operator, infix_of, is_operator, left_limit, right_limit}
+use Rattle.fd_language.specs.Terminals.{Terminal, name, operator_word, variable, integer, opens, closes, open_list, close_list, open_curly, close_curly, comma, bar}
+use Rattle.fd_language.specs.Grammar.{Reads}
+use Rattle.fd_language.specs.Writing.{is_letter_word}
 
 abbrev mutual
   pub placed : Term → PlacedTerm

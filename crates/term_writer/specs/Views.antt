@@ -1,8 +1,8 @@
 -- How the crate's values are seen.
 use Rattle.std.specs.Prelude.{ℕ, Bool, true, false, List, [], ◌∷◌, Option, Some, None, slice_get, if◌then◌else◌, ◌==◌, nat_eq}
 use Rattle.indexmap.specs.IndexMap.{get}
-use Rattle.fd_model.specs.Term.{Name}
-use Rattle.fd_model.specs.Writing as model
+use Rattle.fd_language.specs.Term.{Name}
+use Rattle.fd_language.specs.Writing as model
 use Rattle.term_writer.specs.declared.Mode.{Mode}
 use Rattle.term_writer.specs.declared.Mode.TheVariants.{Quoted, Plain}
 use Rattle.term_writer.specs.declared.VarText.{VarText}

@@ -2,15 +2,15 @@
 use Rattle.std.specs.Prelude.{◌≡◌, ℕ, ◌≤◌, nat_abs, List, [], ◌∷◌, ◌++◌, true, false, length, slice_get, Some, IsUtf8, codes}
 use Rattle.std.specs.List.{position_or_len}
 use Rattle.std.specs.Str.{bytes_eq}
-use Rattle.fd_model.specs.Term.{Name, Term, Terms, Var, Int, Atom, Comp, no_terms, term, apply}
-use Rattle.fd_model.specs.Family.{has}
-use Rattle.fd_model.specs.Lines.{variables_of}
-use Rattle.fd_model.specs.Writing.{Quoted, term_text}
-use Rattle.fd_model.specs.PlacedTerm.{plain}
-use Rattle.fd_model.specs.Tokens.{greatest, Variable, Token, front_of, Lexeme, TokensOf}
-use Rattle.fd_model.specs.Terminals.{Terminal, stop}
-use Rattle.fd_model.specs.GrammarFaults.{IsShallow}
-use Rattle.fd_model.specs.Reading.{is_anonymous, terminals, Sentence, sentences, IsReading}
+use Rattle.fd_language.specs.Term.{Name, Term, Terms, Var, Int, Atom, Comp, no_terms, term, apply}
+use Rattle.fd_language.specs.Family.{has}
+use Rattle.fd_language.specs.Variables.{variables_of}
+use Rattle.fd_language.specs.Writing.{Quoted, term_text}
+use Rattle.fd_language.specs.PlacedTerm.{plain}
+use Rattle.fd_language.specs.Tokens.{greatest, Variable, Token, front_of, Lexeme, TokensOf}
+use Rattle.fd_language.specs.Terminals.{Terminal, stop}
+use Rattle.fd_language.specs.GrammarFaults.{IsShallow}
+use Rattle.fd_language.specs.Reading.{is_anonymous, terminals, Sentence, sentences, IsReading}
 use Rattle.term_writer.specs.Spelled.{Within}
 
 -- ---- what can be read back

@@ -4,18 +4,18 @@ ghost use Rattle.std.specs.Prelude.{false, [], ◌∷◌, MatchOption, ◌≡◌
 ghost use Rattle.std.specs.Fmt.{digits, digit_glyph};
 ghost use Rattle.std.specs.List.{list_all};
 ghost use Rattle.std.specs.Str.{bytes_eq, chars};
-ghost use Rattle.fd_model.specs.Characters as Characters;
-ghost use Rattle.fd_model.specs.Operators as Operators;
-ghost use Rattle.fd_model.specs.Writing as Writing;
+ghost use Rattle.fd_language.specs.Characters as Characters;
+ghost use Rattle.fd_language.specs.Operators as Operators;
+ghost use Rattle.fd_language.specs.Writing as Writing;
 ghost use Rattle.unicode_ident.specs.Ident as Ident;
 ghost use Rattle.term_writer.specs.Pieces.{joined};
 ghost use Rattle.term_writer.specs.Views.{mode_of, name_text};
 
 use crate::Mode;
 use crate::operators::is_operator;
-use fd_model::NoMemory;
+use fd_language::NoMemory;
 
-#[tactic(auto, unfolding(fd_model::specs::Characters::is_symbol))]
+#[tactic(auto, unfolding(fd_language::specs::Characters::is_symbol))]
 fn is_symbol(byte: u8) -> bool
     ensures { result ≡ Characters.is_symbol byte }
 {

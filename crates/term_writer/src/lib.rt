@@ -2,7 +2,7 @@
 #![tactic(auto)]
 
 ghost use Rattle.std.specs.Prelude.{◌≡◌, ◌<◌, ◌++◌, length, OnOk, OnErr};
-ghost use Rattle.fd_model.specs.Writing as Writing;
+ghost use Rattle.fd_language.specs.Writing as Writing;
 ghost use Rattle.term_pool.specs.Terms.{term_of};
 ghost use Rattle.term_writer.specs.Views.{mode_of, name_text, text_of};
 
@@ -15,7 +15,7 @@ mod terms;
 #[cfg(test)]
 mod tests;
 
-use fd_model::NoMemory;
+use fd_language::NoMemory;
 use std::alloc::Global;
 use term_pool::{Pool, TermId};
 

@@ -4,7 +4,7 @@ ghost use Rattle.std.specs.Prelude.{◌≡◌, ℕ, IfOk};
 ghost use Rattle.term_writer.specs.Views.{text_of, text_in};
 
 use crate::VarText;
-use fd_model::NoMemory;
+use fd_language::NoMemory;
 use indexmap::IndexMap;
 use std::alloc::Global;
 

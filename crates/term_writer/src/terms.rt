@@ -2,8 +2,8 @@
 
 ghost use Rattle.std.specs.Prelude.{◌≡◌, ℕ, ◌+◌, ◌<◌, List, [], ◌∷◌, Some, length, All, OnOk, IfOk, codes, nat_le, if◌then◌else◌};
 ghost use Rattle.std.specs.Fmt.{signed_decimal};
-ghost use Rattle.fd_model.specs.Operators.{infix_of};
-ghost use Rattle.fd_model.specs.Writing as Writing;
+ghost use Rattle.fd_language.specs.Operators.{infix_of};
+ghost use Rattle.fd_language.specs.Writing as Writing;
 ghost use Rattle.term_pool.specs.Contents.{Contents, atom_name};
 ghost use Rattle.term_pool.specs.Terms.{term_of, terms_by};
 ghost use Rattle.term_writer.specs.Operators.{operator_of};
@@ -15,7 +15,7 @@ use crate::names::Names;
 use crate::operators::Operator;
 use crate::pieces::{Form, Piece, Rest, form_of};
 use crate::{Mode, VarText};
-use fd_model::NoMemory;
+use fd_language::NoMemory;
 use itoa::Buffer;
 use std::alloc::Global;
 use term_pool::{AtomId, Node, Pool, TermId};

@@ -1,4 +1,4 @@
-use Rattle.fd_model.specs.Reading.{sentences}
+use Rattle.fd_language.specs.Reading.{sentences}
 use Rattle.term_reader.specs.Sentences.{sentences_of}
 use Rattle.clpfd.proofs.Endings.{read_ending}
 use Rattle.clpfd.proofs.answer_text.Goals as goal

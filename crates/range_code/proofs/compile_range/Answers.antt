@@ -1,5 +1,5 @@
 use Rattle.std.proofs.Common.{◌∙◌, ap, map}
-use Rattle.fd_model.specs.Features.{each_once}
+use Rattle.fd_language.specs.Features.{each_once}
 use Rattle.range_code.specs.Asked.{need_in}
 use Rattle.range_code.specs.Nodes.{node_features}
 use Rattle.range_code.proofs.Compiling.{compiled}

@@ -1,7 +1,7 @@
 use Rattle.std.proofs.Common.{◌≡◌, List, ap, ◌∙◌}
 use Rattle.std.proofs.lemmas.Result.{IfOk-weaker}
-use Rattle.fd_model.specs.declared.range_node.RangeNode.{RangeNode}
-use Rattle.fd_model.specs.Features.{each_once, features_of}
+use Rattle.fd_language.specs.declared.range_node.RangeNode.{RangeNode}
+use Rattle.fd_language.specs.Features.{each_once, features_of}
 use Rattle.range_terms.specs.Reads.{node_features}
 use Rattle.range_terms.proofs.Reading.{read_by_nodes}
 use Rattle.range_terms.proofs.features.Goals as goal

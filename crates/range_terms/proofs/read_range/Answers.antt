@@ -1,6 +1,6 @@
 use Rattle.std.proofs.Common.{◌≡◌}
 use Rattle.std.proofs.Common.{None}
-use Rattle.fd_model.specs.Spelling.{read_range}
+use Rattle.fd_language.specs.Spelling.{read_range}
 use Rattle.term_pool.specs.PlacedTerms.{placed_of}
 use Rattle.range_terms.proofs.Whole.{refused, not_refused, whole_nodes, whole_places, is_spelled, same_range, none_of, some_range, the_range}
 use Rattle.range_terms.proofs.read_range.Goals as goal

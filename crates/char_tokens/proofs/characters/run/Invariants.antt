@@ -2,7 +2,7 @@ use Rattle.std.proofs.Common.{◌≡◌, ◌+◌, length}
 use denote.Text.{Utf8}
 use denote.Shadow.{shadow}
 use Rattle.std.specs.Str.{chars}
-use Rattle.fd_model.specs.Characters.{run_size}
+use Rattle.fd_language.specs.Characters.{run_size}
 use Rattle.char_tokens.specs.Views.{passes}
 use Rattle.char_tokens.proofs.Runs.{IsAt}
 use Rattle.char_tokens.proofs.characters.run.Given as goal

@@ -4,8 +4,8 @@ use Rattle.std.specs.Char.{len_utf8}
 use Rattle.std.specs.Str.{chars, IsUtf8}
 use Rattle.std.proofs.lemmas.Bool.{and_parts, eqb-true}
 use Rattle.std.proofs.lemmas.Str.{IsCharBoundary-from_drop}
-use Rattle.fd_model.specs.Characters.{starts_with, tail}
-use Rattle.fd_model.specs.Tokens.{comment_front}
+use Rattle.fd_language.specs.Characters.{starts_with, tail}
+use Rattle.fd_language.specs.Tokens.{comment_front}
 use Rattle.char_tokens.proofs.Runs.{IsAt, at_next, starts_ascii, at_ascii, at_first, comment_on}
 use Rattle.char_tokens.proofs.comment.comment.Goals as goal
 

@@ -2,8 +2,8 @@ use Rattle.std.proofs.Common.{◌≡◌, length}
 use denote.Text.{Utf8}
 use denote.Shadow.{shadow}
 use Rattle.std.specs.Str.{chars}
-use Rattle.fd_model.specs.Characters.{tail}
-use Rattle.fd_model.specs.Tokens.{comment_front}
+use Rattle.fd_language.specs.Characters.{tail}
+use Rattle.fd_language.specs.Tokens.{comment_front}
 use Rattle.char_tokens.proofs.Runs.{IsAt}
 use Rattle.char_tokens.proofs.comment.comment.Given as goal
 

@@ -3,8 +3,8 @@ use Rattle.std.specs.Prelude.{◌==◌, ◌&&◌}
 use Rattle.std.specs.Char.{len_utf8}
 use Rattle.std.specs.Str.{chars}
 use Rattle.std.proofs.lemmas.Str.{chars_past_char}
-use Rattle.fd_model.specs.Characters.{is_digit_of, past_run, run_size, value, starts_with}
-use Rattle.fd_model.specs.Tokens.{has_fraction, number_front}
+use Rattle.fd_language.specs.Characters.{is_digit_of, past_run, run_size, value, starts_with}
+use Rattle.fd_language.specs.Tokens.{has_fraction, number_front}
 use Rattle.char_tokens.specs.Views.{integer_of}
 use Rattle.char_tokens.proofs.Runs.{run_here, past_here}
 use Rattle.char_tokens.proofs.Digits.{decimal_float, decimal_number}

@@ -3,7 +3,7 @@ use Rattle.std.specs.Char.{len_utf8, digit_value}
 use Rattle.std.specs.Str.{chars}
 use Rattle.std.proofs.lemmas.Str.{chars_past_char}
 use Rattle.std.proofs.lemmas.Bool.{lt-ltb}
-use Rattle.fd_model.specs.Characters.{is_digit_of}
+use Rattle.fd_language.specs.Characters.{is_digit_of}
 use Rattle.char_tokens.specs.Views.{next_integer}
 use Rattle.char_tokens.proofs.Runs.{IsAt, at_next, run_here, past_here}
 use Rattle.char_tokens.proofs.Digits.{SoFar, so_far_step}

@@ -2,7 +2,7 @@ use Rattle.std.proofs.Common.{◌≡◌, ◌+◌, length}
 use denote.Text.{Utf8}
 use denote.Shadow.{shadow}
 use Rattle.std.specs.Str.{chars}
-use Rattle.fd_model.specs.Characters.{is_digit_of, run_size, past_run}
+use Rattle.fd_language.specs.Characters.{is_digit_of, run_size, past_run}
 use Rattle.char_tokens.proofs.Runs.{IsAt}
 use Rattle.char_tokens.proofs.Digits.{SoFar}
 use Rattle.char_tokens.proofs.number.digits.Given as goal

@@ -2,7 +2,7 @@ use Rattle.std.proofs.Common.{◌≡◌, ◌∙◌, ◌+◌, ◌++◌, ◌∷◌
 use Rattle.std.specs.Prelude.{encode_utf8}
 use Rattle.std.specs.Str.{chars}
 use Rattle.std.proofs.lemmas.Str.{encode_ascii}
-use Rattle.fd_model.specs.Characters.{value}
+use Rattle.fd_language.specs.Characters.{value}
 use Rattle.char_tokens.proofs.Runs.{at_first}
 use Rattle.char_tokens.proofs.Digits.{behind_number, past_two}
 use Rattle.char_tokens.proofs.number.integer.Goals as goal

@@ -1,11 +1,11 @@
 use Rattle.std.proofs.Common.{◌≡◌, ◌∙◌, ◌+◌, ℕ, sym, ap, subst}
 use Rattle.std.specs.Char.{len_utf8}
 use Rattle.std.specs.Str.{chars}
-use Rattle.fd_model.specs.Tokens.{Past, Broken, quoted_front}
+use Rattle.fd_language.specs.Tokens.{Past, Broken, quoted_front}
 use Rattle.char_tokens.specs.Views.{inside_of, cause_of}
 use Rattle.char_tokens.proofs.Runs.{IsAt, at_next}
 use Rattle.char_tokens.proofs.Quoting.{quoted_step, still_held}
-use Rattle.fd_model.proofs.QuotedAtoms.{front_past, front_broken}
+use Rattle.fd_language.proofs.QuotedAtoms.{front_past, front_broken}
 use Rattle.char_tokens.proofs.quoted.quoted.Goals as goal
 
 pub returns-in-Ends-clause-front : goal.returns-in-Ends-clause-front

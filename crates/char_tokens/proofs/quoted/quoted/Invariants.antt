@@ -2,7 +2,7 @@ use Rattle.std.proofs.Common.{◌≡◌, length}
 use denote.Text.{Utf8}
 use denote.Shadow.{shadow}
 use Rattle.std.specs.Str.{chars}
-use Rattle.fd_model.specs.Tokens.{Between, quoted_front}
+use Rattle.fd_language.specs.Tokens.{Between, quoted_front}
 use Rattle.char_tokens.specs.Views.{inside_of, IsHeld}
 use Rattle.char_tokens.proofs.Runs.{IsAt}
 use Rattle.char_tokens.proofs.quoted.quoted.Given as goal

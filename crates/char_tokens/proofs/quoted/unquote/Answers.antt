@@ -2,11 +2,11 @@ use Rattle.std.proofs.Common.{◌∙◌, ◌++◌, ℕ, List, ap, arith}
 use Rattle.std.specs.Str.{chars, encode_utf8_all}
 use Rattle.std.specs.String.{string_bytes}
 use Rattle.std.proofs.lemmas.Str.{len_utf8_bounds}
-use Rattle.fd_model.specs.Tokens.{Between, Past, Broken, quoted_spells, unquoted}
+use Rattle.fd_language.specs.Tokens.{Between, Past, Broken, quoted_spells, unquoted}
 use Rattle.char_tokens.specs.Views.{inside_of, cause_of}
 use Rattle.char_tokens.proofs.Runs.{shorter}
 use Rattle.char_tokens.proofs.Quoting.{spells_end}
-use Rattle.fd_model.proofs.QuotedAtoms.{spells_past, spells_broken}
+use Rattle.fd_language.proofs.QuotedAtoms.{spells_past, spells_broken}
 use Rattle.char_tokens.proofs.quoted.unquote.Goals as goal
 
 pub loop-c-init : goal.loop-c-init

@@ -3,7 +3,7 @@ use denote.Text.{Utf8}
 use denote.Shadow.{shadow}
 use Rattle.std.specs.Str.{chars, encode_utf8_all}
 use Rattle.std.specs.String.{string_bytes}
-use Rattle.fd_model.specs.Tokens.{quoted_spells, unquoted}
+use Rattle.fd_language.specs.Tokens.{quoted_spells, unquoted}
 use Rattle.char_tokens.specs.Views.{inside_of, IsHeld}
 use Rattle.char_tokens.proofs.quoted.unquote.Given as goal
 

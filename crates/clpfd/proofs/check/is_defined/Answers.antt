@@ -1,6 +1,6 @@
 use Rattle.std.proofs.Common.{List, Bool, map, sym, ap, ◌∙◌}
 use Rattle.std.specs.List.{list_any}
-use Rattle.fd_model.specs.PlacedTerm.{PlacedTerm}
+use Rattle.fd_language.specs.PlacedTerm.{PlacedTerm}
 use Rattle.fd_model.specs.Refusals.{head_in, form_of, is_that}
 use Rattle.term_pool.specs.PlacedTerms.{placed_of}
 use Rattle.term_reader.specs.declared.reader.Sentence.{Sentence}

@@ -1,7 +1,7 @@
 use Rattle.std.proofs.Common.{◌≡◌, ◌<◌, ℕ, ◌++◌, [], ◌∷◌, List, Option, Some, length, nat_lt, arith, sym, ap, ◌∙◌, subst}
 use Rattle.std.specs.Prelude.{All}
 use Rattle.std.proofs.lemmas.List.Elements.{All-append, All-pop, All-weaker}
-use Rattle.fd_model.specs.PlacedTerm.{place}
+use Rattle.fd_language.specs.PlacedTerm.{place}
 use Rattle.term_pool.specs.declared.TermId.{TermId}
 use Rattle.term_pool.specs.Contents.{comp, atom_name}
 use Rattle.term_pool.specs.Terms.{total_size}

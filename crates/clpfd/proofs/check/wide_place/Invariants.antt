@@ -1,6 +1,6 @@
 use Rattle.std.proofs.Common.{◌≡◌, ◌<◌, length}
 use Rattle.std.specs.Prelude.{All}
-use Rattle.fd_model.specs.Spelling.{least_place}
+use Rattle.fd_language.specs.Spelling.{least_place}
 use Rattle.fd_model.specs.Refusals.{wide_places}
 use Rattle.term_pool.specs.Terms.{total_size}
 use Rattle.term_pool.specs.PlacedTerms.{placed_of}

@@ -1,5 +1,5 @@
 use Rattle.std.proofs.Common.{subst}
-use Rattle.fd_model.specs.PlacedTerm.{place}
+use Rattle.fd_language.specs.PlacedTerm.{place}
 use Rattle.term_pool.specs.Contents.{atom_name}
 use Rattle.term_pool.specs.declared.Node.{Node}
 use Rattle.term_pool.specs.Valid.{shape_of}

@@ -1,7 +1,7 @@
 use Rattle.std.proofs.Common.{◌≡◌, List, ℕ, false, subst, sym, ap, ◌∙◌}
 use Rattle.std.specs.Prelude.{codes}
 use Rattle.std.specs.Str.{bytes_eq}
-use Rattle.fd_model.specs.PlacedTerm.{place}
+use Rattle.fd_language.specs.PlacedTerm.{place}
 use Rattle.term_pool.specs.Contents.{atom_name}
 use Rattle.term_pool.specs.declared.Node.{Node}
 use Rattle.term_pool.specs.Valid.{shape_of}

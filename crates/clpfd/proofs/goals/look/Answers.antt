@@ -1,5 +1,5 @@
 use Rattle.std.proofs.Common.{◌≡◌, ℕ, ap, sym, ◌∙◌}
-use Rattle.fd_model.specs.PlacedTerm.{place}
+use Rattle.fd_language.specs.PlacedTerm.{place}
 use Rattle.term_pool.specs.Valid.{shape_of}
 use Rattle.term_pool.specs.PlacedTerms.{placed_of, placed_by}
 use Rattle.term_reader.proofs.Plain.{place_placed}

@@ -1,6 +1,6 @@
 use Rattle.std.proofs.Common.{◌≡◌, map}
 use Rattle.std.specs.List.{range_with_len}
-use Rattle.fd_model.specs.Family.{universe}
+use Rattle.fd_language.specs.Family.{universe}
 use Rattle.clpfd.proofs.solve.full_domains.Given as goal
 
 abbrev pub invariant-loop : goal.invariant-loop

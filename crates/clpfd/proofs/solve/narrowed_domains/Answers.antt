@@ -1,6 +1,6 @@
 use Rattle.std.proofs.Common.{rules, map, take}
 use Rattle.clpfd.specs.Checked.{set_goal}
-use Rattle.fd_model.specs.Family.{universe}
+use Rattle.fd_language.specs.Family.{universe}
 use Rattle.clpfd.specs.Shown.{narrow_all}
 use Rattle.clpfd.proofs.Narrowing.{variable_within, sets_step, some_step, none_step}
 use Rattle.clpfd.proofs.solve.narrowed_domains.Goals as goal

@@ -1,5 +1,5 @@
 use Rattle.std.proofs.Common.{◌≡◌, false, map, take}
-use Rattle.fd_model.specs.Family.{universe}
+use Rattle.fd_language.specs.Family.{universe}
 use Rattle.clpfd.specs.Checked.{set_goal}
 use Rattle.clpfd.specs.Shown.{narrow_all, leaves_none, IsNumbered}
 use Rattle.clpfd.proofs.solve.narrowed_domains.Given as goal

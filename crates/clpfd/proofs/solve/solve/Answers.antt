@@ -1,6 +1,6 @@
 use Rattle.std.proofs.Common.{rules, ◌≡◌, ◌∙◌, ◌≤◌, ap, map, take, length}
 use Rattle.std.specs.Prelude.{min}
-use Rattle.fd_model.specs.Family.{universe}
+use Rattle.fd_language.specs.Family.{universe}
 use Rattle.clpfd.specs.Checked.{set_goal}
 use Rattle.clpfd.specs.Shown.{narrow_all}
 use Rattle.clpfd.proofs.Narrowing.{count_sets, NoneLeft, AllLeft, is_none, is_some}

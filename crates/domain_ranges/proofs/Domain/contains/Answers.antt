@@ -1,6 +1,6 @@
 use Rattle.std.proofs.Common.{◌∙◌, sym, to_z-of_z, inl, inr}
 use Rattle.std.proofs.lemmas.Bool.{true≢false}
-use Rattle.fd_model.specs.declared.TheConstants.{INFINITY}
+use Rattle.fd_language.specs.declared.TheConstants.{INFINITY}
 use Rattle.domain_ranges.proofs.Members.{member_of, outside}
 use Rattle.domain_ranges.proofs.Integers.{from_zero, below_zero, above_all}
 use Rattle.domain_ranges.proofs.Domain.contains.Goals.{then-n-ge0, else-n-ge0}

@@ -1,6 +1,6 @@
 use Rattle.std.proofs.Common.{sym}
 use Rattle.std.proofs.lemmas.Bool.{true≢false}
-use Rattle.fd_model.specs.declared.TheConstants.{INFINITY}
+use Rattle.fd_language.specs.declared.TheConstants.{INFINITY}
 use Rattle.domain_ranges.proofs.Members.{three_spans}
 use Rattle.domain_ranges.proofs.Outcomes.{on_err, more_than_two}
 use Rattle.domain_ranges.proofs.Domain.copy.Goals as goal

@@ -1,5 +1,5 @@
 use Rattle.std.proofs.Common.{◌∙◌}
-use Rattle.fd_model.specs.declared.TheConstants.{INFINITY}
+use Rattle.fd_language.specs.declared.TheConstants.{INFINITY}
 use Rattle.domain_ranges.proofs.Members.{members_full}
 use Rattle.domain_ranges.proofs.Domain.full.Goals as goal
 

@@ -1,6 +1,6 @@
 use Rattle.std.proofs.Common.{rules, ◌∙◌, sym, SFits, to_z-of_z}
 use mir.Syntax.{w128}
-use Rattle.fd_model.specs.declared.TheConstants.{INFINITY}
+use Rattle.fd_language.specs.declared.TheConstants.{INFINITY}
 use Rattle.domain_ranges.proofs.Members.{interval_some, interval_none, members_none}
 use Rattle.domain_ranges.proofs.Domain.interval.Goals as goal
 

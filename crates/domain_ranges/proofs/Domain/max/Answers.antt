@@ -1,4 +1,4 @@
-use Rattle.fd_model.specs.declared.TheConstants.{INFINITY}
+use Rattle.fd_language.specs.declared.TheConstants.{INFINITY}
 use Rattle.domain_ranges.proofs.Members.{none_is, greatest_is, greatest_has}
 use Rattle.domain_ranges.proofs.Domain.max.Goals as goal
 

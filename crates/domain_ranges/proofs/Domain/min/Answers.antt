@@ -1,4 +1,4 @@
-use Rattle.fd_model.specs.declared.TheConstants.{INFINITY}
+use Rattle.fd_language.specs.declared.TheConstants.{INFINITY}
 use Rattle.domain_ranges.proofs.Members.{none_is, least_is, least_has}
 use Rattle.domain_ranges.proofs.Domain.min.Goals as goal
 

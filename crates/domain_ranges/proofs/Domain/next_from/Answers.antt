@@ -1,4 +1,4 @@
-use Rattle.fd_model.specs.declared.TheConstants.{INFINITY}
+use Rattle.fd_language.specs.declared.TheConstants.{INFINITY}
 use Rattle.domain_ranges.proofs.Images.{next_match, next_member}
 use Rattle.domain_ranges.proofs.Domain.next_from.Goals as goal
 

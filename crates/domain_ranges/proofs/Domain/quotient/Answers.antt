@@ -1,5 +1,5 @@
 use Rattle.std.proofs.Common.{subst, ◌∙◌, ◌<◌, to_z-of_z}
-use Rattle.fd_model.specs.declared.TheConstants.{INFINITY}
+use Rattle.fd_language.specs.declared.TheConstants.{INFINITY}
 use Rattle.domain_ranges.specs.Spans.{interval_count}
 use Rattle.domain_ranges.proofs.Images.{quotient_set, code_factor}
 use Rattle.domain_ranges.proofs.Outcomes.{on_err}

@@ -1,6 +1,6 @@
 use Rattle.std.proofs.Common.{subst, sym, ap, ◌∙◌, ◌<◌, ◌≤◌, ◌≡◌, to_z-of_z, filter, not, pos, arith, OnErr}
-use Rattle.fd_model.specs.Family.{universe}
-use Rattle.fd_model.specs.declared.TheConstants.{INFINITY}
+use Rattle.fd_language.specs.Family.{universe}
+use Rattle.fd_language.specs.declared.TheConstants.{INFINITY}
 use Rattle.domain_ranges.specs.Spans.{interval_count}
 use Rattle.domain_ranges.specs.Sets.{is_scaled}
 use Rattle.domain_ranges.proofs.Members.{has_within}

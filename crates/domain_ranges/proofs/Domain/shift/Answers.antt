@@ -1,6 +1,6 @@
 use Rattle.std.proofs.Common.{subst, ap, ◌∙◌, ◌<◌, to_z-of_z, filter}
-use Rattle.fd_model.specs.Family.{universe}
-use Rattle.fd_model.specs.declared.TheConstants.{INFINITY}
+use Rattle.fd_language.specs.Family.{universe}
+use Rattle.fd_language.specs.declared.TheConstants.{INFINITY}
 use Rattle.domain_ranges.specs.Spans.{interval_count, shifted}
 use Rattle.domain_ranges.proofs.Images.{shift_set}
 use Rattle.domain_ranges.proofs.Outcomes.{on_err}

@@ -1,6 +1,6 @@
 use Rattle.std.proofs.Common.{subst}
-use Rattle.fd_model.specs.Family.{IsRising}
-use Rattle.fd_model.specs.declared.TheConstants.{INFINITY}
+use Rattle.fd_language.specs.Family.{IsRising}
+use Rattle.fd_language.specs.declared.TheConstants.{INFINITY}
 use Rattle.domain_ranges.proofs.Members.{members_rising}
 use Rattle.domain_ranges.proofs.Domain.spans.Goals as goal
 

@@ -1,6 +1,6 @@
 use Rattle.std.proofs.Common.{arith, sym}
 use Rattle.domain_ranges.proofs.Places.{there, not_there, no_less}
-use Rattle.fd_model.specs.declared.TheConstants.{INFINITY}
+use Rattle.fd_language.specs.declared.TheConstants.{INFINITY}
 use Rattle.domain_ranges.proofs.intervals.contains.Goals as goal
 
 pub returns-then-place-spans : goal.returns-then-place-spans

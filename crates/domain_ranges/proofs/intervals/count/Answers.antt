@@ -1,7 +1,7 @@
 use Rattle.std.proofs.Common.{arith, refl, sym, ◌∙◌, ap, take_all}
 use Rattle.domain_ranges.proofs.Spans.{counted, Counted, count}
 use Rattle.domain_ranges.proofs.Members.{length_members}
-use Rattle.fd_model.specs.declared.TheConstants.{INFINITY}
+use Rattle.fd_language.specs.declared.TheConstants.{INFINITY}
 use Rattle.domain_ranges.proofs.intervals.count.Goals as goal
 
 pub overflow_add-count : goal.overflow_add-count

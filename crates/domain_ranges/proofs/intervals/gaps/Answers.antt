@@ -1,5 +1,5 @@
 use Rattle.std.proofs.Common.{rules, subst, sym, ap, ◌∙◌, ◌+◌, drop, get_or}
-use Rattle.fd_model.specs.declared.TheConstants.{INFINITY}
+use Rattle.fd_language.specs.declared.TheConstants.{INFINITY}
 use Rattle.domain_ranges.specs.Spans.{IsSpans, members}
 use Rattle.domain_ranges.proofs.Gaps.{Gapped, gapped_more, gapped_next, gapped_end, gap_many, last_many, gapped_set, gapped_spans}
 use Rattle.domain_ranges.proofs.Outcomes.{on_err}

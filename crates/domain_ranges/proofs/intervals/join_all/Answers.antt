@@ -1,6 +1,6 @@
 use Rattle.std.proofs.Common.{rules, subst, sym, ap, ◌∙◌, drop, ◌+◌, ◌<◌, ◌≤◌, ◌≡◌, ◌||◌, ◌++◌, Some, filter, length, IsSome, arith, get_or}
-use Rattle.fd_model.specs.Family.{universe}
-use Rattle.fd_model.specs.declared.TheConstants.{INFINITY}
+use Rattle.fd_language.specs.Family.{universe}
+use Rattle.fd_language.specs.declared.TheConstants.{INFINITY}
 use Rattle.domain_ranges.specs.Spans.{within, IsSpans, members, interval_count, listed, joined}
 use Rattle.domain_ranges.proofs.Joining.{Joining, join_more, join_many, join_done, close_many, close_spans}
 use Rattle.domain_ranges.proofs.Union.{in_either, first_left, first_right, none_left}

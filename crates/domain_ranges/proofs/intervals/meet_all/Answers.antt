@@ -1,7 +1,7 @@
 use Rattle.std.proofs.Common.{rules, subst, sym, drop, ◌+◌, ◌&&◌, inl, inr}
 use Rattle.domain_ranges.specs.Spans.{within}
 use Rattle.domain_ranges.proofs.Meeting.{Meeting, left_at, right_at, more_at, done_at}
-use Rattle.fd_model.specs.declared.TheConstants.{INFINITY}
+use Rattle.fd_language.specs.declared.TheConstants.{INFINITY}
 use Rattle.domain_ranges.proofs.Outcomes.{on_err}
 use Rattle.domain_ranges.proofs.intervals.meet_all.Goals.{then-meeting-test+else-j-b, else-meeting-test}
 use Rattle.domain_ranges.proofs.intervals.meet_all.Goals as goal

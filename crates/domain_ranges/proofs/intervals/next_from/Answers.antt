@@ -1,5 +1,5 @@
 use Rattle.std.proofs.Common.{arith, ap, sym, ◌∙◌, subst, ◌≤◌}
-use Rattle.fd_model.specs.declared.TheConstants.{INFINITY}
+use Rattle.fd_language.specs.declared.TheConstants.{INFINITY}
 use Rattle.domain_ranges.specs.Spans.{within}
 use Rattle.domain_ranges.proofs.Places.{next_least, next_there, none_from}
 use Rattle.domain_ranges.proofs.intervals.next_from.Goals as goal

@@ -2,7 +2,7 @@ use Rattle.std.proofs.Common.{rules, ltb, arith}
 use Rattle.std.proofs.lemmas.List.Sorted.{IsPartitionPoint-from_clause, IsPartitionedBy-ltb}
 use Rattle.domain_ranges.specs.Spans.{Span}
 use Rattle.domain_ranges.proofs.Places.{ends_rise, ltb_less, ltb_not}
-use Rattle.fd_model.specs.declared.TheConstants.{INFINITY}
+use Rattle.fd_language.specs.declared.TheConstants.{INFINITY}
 use Rattle.domain_ranges.proofs.intervals.place_from.Goals as goal
 
 pub returns-clause-before : goal.returns-clause-before

@@ -1,5 +1,5 @@
 use Rattle.std.proofs.Common.{rules, subst, sym, ◌+◌, drop, arith}
-use Rattle.fd_model.specs.declared.TheConstants.{INFINITY}
+use Rattle.fd_language.specs.declared.TheConstants.{INFINITY}
 use Rattle.domain_ranges.proofs.Scaling.{Scaling, member_in, member_out, member_many, member_past, scale_end}
 use Rattle.domain_ranges.proofs.Outcomes.{on_err}
 use Rattle.domain_ranges.proofs.intervals.scale_all.Goals.{else-scaling-test, then-scaling-test+then-member-limit}

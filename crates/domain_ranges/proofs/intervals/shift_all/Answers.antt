@@ -1,5 +1,5 @@
 use Rattle.std.proofs.Common.{subst, sym, ap, ◌∙◌, ◌+◌, ◌≡◌, ◌∷◌, [], ◌++◌, drop, get_or, to_z-of_z, ◌≤◌, arith}
-use Rattle.fd_model.specs.declared.TheConstants.{INFINITY}
+use Rattle.fd_language.specs.declared.TheConstants.{INFINITY}
 use Rattle.domain_ranges.proofs.Spans.{spans_at}
 use Rattle.domain_ranges.proofs.Shifting.{Shifting, IsMoved, shift_some, shift_none, shift_many, shift_done, code_sum, code_comes}
 use Rattle.domain_ranges.proofs.Outcomes.{on_err}

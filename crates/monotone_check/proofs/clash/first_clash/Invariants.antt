@@ -1,5 +1,5 @@
 use Rattle.std.proofs.Common.{◌≡◌, ℕ, get_or, drop, List, []}
-use Rattle.fd_model.specs.RangeVerdict.{clashes, first, earlier}
+use Rattle.fd_language.specs.RangeVerdict.{clashes, first, earlier}
 use Rattle.monotone_check.specs.Seen.{AreSeen}
 use Rattle.monotone_check.proofs.clash.first_clash.Given as goal
 

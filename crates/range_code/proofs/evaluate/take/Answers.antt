@@ -1,7 +1,7 @@
 use Rattle.std.proofs.Common.{subst}
 use Rattle.std.proofs.lemmas.Result.{on_ok_weaker}
-use Rattle.fd_model.specs.declared.TheConstants.{INFINITY}
-use Rattle.fd_model.specs.Family.{IsRising}
+use Rattle.fd_language.specs.declared.TheConstants.{INFINITY}
+use Rattle.fd_language.specs.Family.{IsRising}
 use Rattle.range_code.specs.Frames.{slot_set, slot_integer}
 use Rattle.range_code.specs.Steps.{PushesSet}
 use Rattle.range_code.proofs.Reading.{one_taken, dom_taken, combined_taken, outside_taken, moved_taken}

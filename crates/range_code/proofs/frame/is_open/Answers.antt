@@ -1,4 +1,4 @@
-use Rattle.fd_model.specs.declared.TheConstants.{INFINITY}
+use Rattle.fd_language.specs.declared.TheConstants.{INFINITY}
 use Rattle.range_code.proofs.Opening.{opens_is}
 use Rattle.range_code.proofs.frame.is_open.Goals as goal
 

@@ -1,5 +1,5 @@
 use Rattle.std.proofs.Common.{sym, subst}
-use Rattle.fd_model.specs.PlacedTerm.{comp}
+use Rattle.fd_language.specs.PlacedTerm.{comp}
 use Rattle.term_pool.specs.PlacedTerms.{placed_of, parts_by}
 use Rattle.range_terms.specs.Wanted.{wanted}
 use Rattle.range_terms.specs.Forms.{IsForm}

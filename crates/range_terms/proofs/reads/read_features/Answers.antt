@@ -1,5 +1,5 @@
 use Rattle.std.proofs.Common.{ℕ, List, ◌++◌, ap, ◌∙◌}
-use Rattle.fd_model.specs.declared.range_node.Feature.{Feature}
+use Rattle.fd_language.specs.declared.range_node.Feature.{Feature}
 use Rattle.range_terms.specs.declared.reads.Seen.{Seen}
 use Rattle.range_terms.specs.Reads.{unseen}
 use Rattle.range_terms.proofs.Reading.{none_met}

@@ -1,5 +1,5 @@
 use Rattle.std.proofs.Common.{◌≡◌, ◌++◌, drop}
-use Rattle.fd_model.specs.Features.{each_once}
+use Rattle.fd_language.specs.Features.{each_once}
 use Rattle.range_terms.specs.Reads.{node_features, unseen}
 use Rattle.range_terms.proofs.reads.read_features.Given as goal
 

@@ -1,4 +1,4 @@
-use Rattle.fd_model.specs.Terminals.{is_minus}
+use Rattle.fd_language.specs.Terminals.{is_minus}
 use Rattle.term_reader.proofs.parser.is_minus.Goals as goal
 
 pub returns : goal.returns

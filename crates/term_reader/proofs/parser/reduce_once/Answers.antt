@@ -1,7 +1,7 @@
 use Rattle.std.proofs.Common.{◌≡◌, ℕ, ◌-◌, ◌∙◌, sym, ap, refl, take, Some, None, false, true}
 use Rattle.term_reader.specs.declared.parser.Item.TheVariants.{Parenthesis, Curly, Call, List, Tail, Prefix, Infix}
-use Rattle.fd_model.specs.Operators.{right_limit}
-use Rattle.fd_model.proofs.ReadingSteps.{gives_way}
+use Rattle.fd_language.specs.Operators.{right_limit}
+use Rattle.fd_language.proofs.ReadingSteps.{gives_way}
 use Rattle.term_reader.specs.Operators.{operator_of}
 use Rattle.term_reader.specs.View.{last_item}
 use Rattle.term_reader.proofs.Stacks.{last_none, stays_none, stays_bracket, stays_prefix, stays_infix, infix_left, two_terms, steps_prefix, steps_infix, steps_as}

@@ -1,6 +1,6 @@
 use Rattle.std.proofs.Common.{◌≡◌, drop}
 use Rattle.std.specs.List.{list_all}
-use Rattle.fd_model.specs.Characters.{is_symbol}
+use Rattle.fd_language.specs.Characters.{is_symbol}
 use Rattle.term_writer.proofs.atoms.are_symbols.Given as goal
 
 abbrev pub invariant-loop-byte : goal.invariant-loop-byte

@@ -1,6 +1,6 @@
 use Rattle.std.proofs.Common.{◌∙◌, ap, List, option_map, find}
 use Rattle.std.specs.Str.{bytes_eq}
-use Rattle.fd_model.specs.Operators.{Operator, infix_of}
+use Rattle.fd_language.specs.Operators.{Operator, infix_of}
 use Rattle.term_writer.specs.Operators.{operator_of}
 use Rattle.term_writer.proofs.Rows.{found_as}
 use Rattle.term_writer.proofs.operators.infix.Goals as goal

@@ -2,7 +2,7 @@ use Rattle.std.proofs.Common.{◌≡◌, ◌∙◌, ◌<◌, ◌-◌, take, ◌+
 use Rattle.std.specs.Prelude.{All}
 use Rattle.std.proofs.lemmas.List.{take_rest}
 use Rattle.std.proofs.lemmas.List.Elements.{All-tail}
-use Rattle.fd_model.specs.Writing.{arguments_text, spelled_each}
+use Rattle.fd_language.specs.Writing.{arguments_text, spelled_each}
 use Rattle.term_pool.specs.declared.TermId.{TermId}
 use Rattle.term_pool.specs.Terms.{terms_by, term_of}
 use Rattle.term_writer.specs.Pieces.{piece_text, piece_weight, weights}

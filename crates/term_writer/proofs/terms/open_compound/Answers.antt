@@ -1,9 +1,9 @@
 use Rattle.std.proofs.Common.{refl, sym, ap, ◌∙◌, subst, List, ℕ, ◌+◌, true, false, ◌≡◌, Some}
 use Rattle.std.specs.Prelude.{codes}
 use Rattle.std.specs.Str.{bytes_eq}
-use Rattle.fd_model.specs.Term.{Name}
-use Rattle.fd_model.specs.Operators.{infix_of}
-use Rattle.fd_model.specs.Writing.{spelled_compound, spelled_each}
+use Rattle.fd_language.specs.Term.{Name}
+use Rattle.fd_language.specs.Operators.{infix_of}
+use Rattle.fd_language.specs.Writing.{spelled_compound, spelled_each}
 use Rattle.term_pool.specs.Contents.{atom_name}
 use Rattle.term_pool.specs.Terms.{term_of, terms_by}
 use Rattle.term_writer.specs.Operators.{operator_of}

@@ -7,8 +7,8 @@ use Rattle.std.proofs.lemmas.Int.{to_z-of_z}
 use Rattle.std.proofs.lemmas.Result.{on_ok_weaker}
 use Rattle.term_pool.specs.Valid.{IsStorable}
 use Rattle.term_pool.proofs.Laws.{term_is_storable}
-use Rattle.fd_model.specs.Term.{Var, Int, Atom}
-use Rattle.fd_model.specs.Writing.{atom_text}
+use Rattle.fd_language.specs.Term.{Var, Int, Atom}
+use Rattle.fd_language.specs.Writing.{atom_text}
 use Rattle.term_pool.specs.Contents.{atom_name}
 use Rattle.term_writer.specs.Views.{mode_of, text_in}
 use Rattle.term_writer.proofs.Steps.{leaf}

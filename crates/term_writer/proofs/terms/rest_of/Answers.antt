@@ -2,7 +2,7 @@ use Rattle.std.proofs.Common.{◌∙◌, sym, subst, ap, List, ℕ, ◌<◌, len
 use Rattle.std.specs.Prelude.{codes}
 use Rattle.std.specs.Str.{bytes_eq}
 use Rattle.std.proofs.lemmas.List.Elements.{All-weaker}
-use Rattle.fd_model.specs.Term.{Name}
+use Rattle.fd_language.specs.Term.{Name}
 use Rattle.term_writer.specs.declared.pieces.Form.TheVariants as form
 use Rattle.term_writer.specs.Pieces.{IsForm}
 use Rattle.term_pool.specs.Contents.{atom_name}

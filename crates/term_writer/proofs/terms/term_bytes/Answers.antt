@@ -2,7 +2,7 @@ use Rattle.std.proofs.Common.{◌≡◌, ◌∙◌, ◌<◌, ℕ, List, [], ◌�
 use Rattle.std.specs.Prelude.{All, Some}
 use Rattle.std.proofs.lemmas.List.{nil_from_length}
 use Rattle.std.proofs.lemmas.List.Elements.{All-pop, All-push, All-nil}
-use Rattle.fd_model.specs.Writing.{term_text}
+use Rattle.fd_language.specs.Writing.{term_text}
 use Rattle.term_pool.specs.Terms.{term_of}
 use Rattle.term_writer.specs.declared.pieces.Piece.{Piece}
 use Rattle.term_writer.specs.declared.pieces.Piece.TheVariants as piece

@@ -1,7 +1,7 @@
 use Rattle.std.proofs.Common.{◌≡◌, ◌<◌, ◌++◌, [], ◌∷◌, List, Some, length, refl, sym, ap, ◌∙◌, subst}
 use Rattle.std.specs.Prelude.{All}
 use Rattle.std.proofs.lemmas.List.Elements.{All-pop, All-push}
-use Rattle.fd_model.specs.PlacedTerm.{PlacedTerm}
+use Rattle.fd_language.specs.PlacedTerm.{PlacedTerm}
 use Rattle.term_pool.specs.declared.TermId.{TermId}
 use Rattle.term_pool.specs.Terms.{total_size}
 use Rattle.term_pool.proofs.Walks.{rest_is_smaller}

@@ -1,6 +1,6 @@
 use Rattle.std.proofs.Common.{◌≡◌, ◌<◌, length, List, ◌++◌, None}
 use Rattle.std.specs.Prelude.{All}
-use Rattle.fd_model.specs.PlacedTerm.{PlacedTerm}
+use Rattle.fd_language.specs.PlacedTerm.{PlacedTerm}
 use Rattle.fd_model.specs.Refusals.{goals_of, goals_refusal}
 use Rattle.term_pool.specs.Terms.{total_size}
 use Rattle.term_pool.specs.PlacedTerms.{placed_of}

@@ -1,5 +1,5 @@
 use Rattle.std.proofs.Common.{◌≡◌, ◌<◌, ◌⊎◌, inl, inr, refl, arith}
-use Rattle.fd_model.specs.Operators.{left_limit}
+use Rattle.fd_language.specs.Operators.{left_limit}
 use Rattle.term_reader.specs.Operators.{operator_of}
 use Rattle.term_reader.specs.View.{item_limit, last_item}
 use Rattle.term_reader.proofs.Operands.{moves_attach, moves_attach_not}

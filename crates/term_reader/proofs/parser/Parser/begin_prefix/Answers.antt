@@ -1,5 +1,5 @@
 use Rattle.std.proofs.Common.{◌≡◌, ◌∙◌, Some, refl, ap, sym, arith, option_map}
-use Rattle.fd_model.specs.Operators.{prefix_of}
+use Rattle.fd_language.specs.Operators.{prefix_of}
 use Rattle.term_pool.specs.Contents.{atom_name}
 use Rattle.term_reader.specs.Operators.{operator_of}
 use Rattle.term_reader.specs.View.{item_limit, last_item}

@@ -3,7 +3,7 @@ use Rattle.term_pool.specs.declared.TermId.{TermId}
 use Rattle.std.proofs.lemmas.List.Elements.{All-drop}
 use Rattle.term_reader.specs.PlacedTerms.{parts_of, Adds}
 use Rattle.term_reader.specs.View.{AreTerms}
-use Rattle.fd_model.specs.PlacedTerm.{comp}
+use Rattle.fd_language.specs.PlacedTerm.{comp}
 use Rattle.term_pool.specs.Contents.{atom_name}
 use Rattle.term_reader.specs.declared.parser.Item.TheVariants.{Call}
 use Rattle.term_reader.proofs.Enclosed.{on_top, moves_call, terms_push, more_room}

@@ -1,6 +1,6 @@
 use Rattle.std.proofs.Common.{◌≡◌, ◌∙◌, ◌≤◌, ◌<◌, ◌-◌, ◌++◌, ◌∷◌, [], refl, ap, sym, subst, length, take, drop, ℕ, List}
 use Rattle.std.proofs.lemmas.List.Elements.{All-drop}
-use Rattle.fd_model.specs.Grammar.{list_of}
+use Rattle.fd_language.specs.Grammar.{list_of}
 use Rattle.term_pool.specs.declared.TermId.{TermId}
 use Rattle.term_pool.specs.PlacedTerms.{placed_of}
 use Rattle.term_reader.specs.PlacedTerms.{parts_of, Adds}

@@ -1,0 +1,25 @@
+pub mod Sets
+pub mod Greatest
+pub mod Arithmetic
+pub mod Meeting
+pub mod Directions
+pub mod Monotone
+pub mod Solving
+pub mod RangeRenaming
+pub mod Fitting
+mod OperatorTable
+pub mod OperatorLaws
+pub mod ReadingSteps
+pub mod ReadingWhole
+pub mod GrammarVerdict
+pub mod TokenLaws
+pub mod QuotedAtoms
+pub mod TokenSlices
+pub mod ReadingLaws
+pub mod SentenceVariables
+pub mod Waits
+pub mod Agrees
+pub mod Uses
+pub mod Yes
+pub mod Limits
+pub mod Substituting

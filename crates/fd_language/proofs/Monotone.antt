@@ -1,0 +1,297 @@
+-- An accepted range is monotone.
+use Rattle.std.proofs.Common.{◌≡◌, ℕ, suc, ◌≤◌, Bool, true, false, cond, not, ◌||◌, ◌&&◌, ◌==◌, ℤ, pos, ◌+ℤ◌, ◌-ℤ◌, ◌*ℤ◌, ◌≤ℤ◌, int_le, List, [], ◌∷◌, ◌++◌, refl, sym, ◌∙◌, subst, inl, inr, arith, eqb-true, eq-eqb}
+use Rattle.std.proofs.lemmas.Int.{ints}
+use Rattle.std.proofs.lemmas.Bool.{true≢false, or_left, or_right, or_cases}
+use Rattle.std.specs.List.{list_any}
+use Rattle.std.specs.Ordering.{int_eq}
+use Rattle.fd_language.specs.Family.{Family, has, IsSubset, IsRising, IsFamily, IsInside, universe}
+use Rattle.fd_language.specs.Range.{Expr, Number, Infinity, Param, Min, Max, Val, Add, Sub, Mul, DivDown, DivUp, value, least, greatest, Range, Span, One, Dom, Union, Inter, Outside, Plus, Minus, Times, Over, in_range, in_set, some_number, expr_reads, expr_vals, reads, vals, is_none_left, is_several}
+use Rattle.fd_language.specs.Needs.{is_literal}
+use Rattle.fd_language.specs.Check.{Rising, Falling, Constant, literal_value, is_parameter, expr_fits, range_fits, fill, fill_range}
+use Rattle.fd_language.proofs.Meeting.{expr_meets, range_meets, over_meets, needs_met}
+use Rattle.fd_language.specs.Monotonicity.{AcceptedIsMonotone}
+use Rattle.fd_language.proofs.Sets.{has-filter, has-filter_back, has_low}
+use Rattle.fd_language.proofs.Directions.{Keeps, expr_moves, first_of_two, second_of_two, literal_is}
+
+-- from a test to a test that holds wherever the first does
+any_more : (f g : ℕ → Bool) → ((n : ℕ) → f n ≡ true → g n ≡ true) → (xs : List ℕ) → list_any f xs ≡ true → list_any g xs ≡ true
+any_more f g h [] e = e
+any_more f g h (x ∷ xs) e = elim (or_cases (f x) (list_any f xs) e) [ inl a ↦ or_left (g x) (list_any g xs) (h x a) | inr a ↦ or_right (g x) (list_any g xs) (any_more f g h xs a) ]
+
+or_more : (a b c d : Bool) → (a ≡ true → c ≡ true) → (b ≡ true → d ≡ true) → (a || b) ≡ true → (c || d) ≡ true
+or_more a b c d f g h = grind (arith, f, g)
+
+and_more : (a b c d : Bool) → (a ≡ true → c ≡ true) → (b ≡ true → d ≡ true) → (a && b) ≡ true → (c && d) ≡ true
+and_more a b c d f g h = grind (arith, f, g)
+
+not_more : (a b : Bool) → (b ≡ true → a ≡ true) → not a ≡ true → not b ≡ true
+not_more a b f h = grind (arith, f)
+
+span_more : (a b c d n : ℤ) → c ≤ℤ a → b ≤ℤ d → (int_le a n && int_le n b) ≡ true → (int_le c n && int_le n d) ≡ true
+span_more a b c d n h g e = grind (arith, ints)
+
+-- what the variables of a range keep
+abbrev RangeKeeps : Family → Family → Range → Type 0
+RangeKeeps S' S (Span a b) = Keeps S' S a × Keeps S' S b
+RangeKeeps S' S (One t) = Keeps S' S t
+RangeKeeps S' S (Dom y) = IsSubset (S y) (S' y)
+RangeKeeps S' S (Union r q) = RangeKeeps S' S r × RangeKeeps S' S q
+RangeKeeps S' S (Inter r q) = RangeKeeps S' S r × RangeKeeps S' S q
+RangeKeeps S' S (Outside r) = RangeKeeps S' S r
+RangeKeeps S' S (Plus r c) = RangeKeeps S' S r × Keeps S' S c
+RangeKeeps S' S (Minus r c) = RangeKeeps S' S r × Keeps S' S c
+RangeKeeps S' S (Times r c) = RangeKeeps S' S r × Keeps S' S c
+RangeKeeps S' S (Over r c) = RangeKeeps S' S r × Keeps S' S c
+
+-- at true from S to S', at false back
+abbrev Goes : Bool → Bool → Bool → Type 0
+Goes true inner outer = inner ≡ true → outer ≡ true
+Goes false inner outer = outer ≡ true → inner ≡ true
+
+or_goes : (w a b c d : Bool) → Goes w a c → Goes w b d → Goes w (a || b) (c || d)
+or_goes true a b c d f g = or_more a b c d f g
+or_goes false a b c d f g = or_more c d a b f g
+
+and_goes : (w a b c d : Bool) → Goes w a c → Goes w b d → Goes w (a && b) (c && d)
+and_goes true a b c d f g = and_more a b c d f g
+and_goes false a b c d f g = and_more c d a b f g
+
+not_goes : (w a b : Bool) → Goes (not w) a b → Goes w (not a) (not b)
+not_goes true a b f = not_more a b f
+not_goes false a b f = not_more b a f
+
+module _ (M : ℕ) (p : ℕ → ℤ) (S' S : Family) where
+  constant : (c : Expr) → Keeps S' S c → expr_fits M c Constant ≡ true → expr_meets p c false ≡ true → value M S' (fill p c) ≡ value M S (fill p c)
+  constant c k f m = expr_moves M p S' S c Constant false k f m
+
+  over_constant : (c : Expr) → (is_parameter c || (is_literal c && int_le (pos 1) (literal_value M c))) ≡ true → value M S' (fill p c) ≡ value M S (fill p c)
+  over_constant (Param x) h = refl
+  over_constant (Number z) h = refl
+  over_constant Infinity h = refl
+  over_constant (Min y) h = absurd (true≢false (sym h))
+  over_constant (Max y) h = absurd (true≢false (sym h))
+  over_constant (Val y) h = absurd (true≢false (sym h))
+  over_constant (Add a b) h = let l = first_of_two (is_literal (Add a b)) (int_le (pos 1) (literal_value M (Add a b))) h in literal_is M p S' (Add a b) l ∙ sym (literal_is M p S (Add a b) l)
+  over_constant (Sub a b) h = let l = first_of_two (is_literal (Sub a b)) (int_le (pos 1) (literal_value M (Sub a b))) h in literal_is M p S' (Sub a b) l ∙ sym (literal_is M p S (Sub a b) l)
+  over_constant (Mul a b) h = let l = first_of_two (is_literal (Mul a b)) (int_le (pos 1) (literal_value M (Mul a b))) h in literal_is M p S' (Mul a b) l ∙ sym (literal_is M p S (Mul a b) l)
+  over_constant (DivDown a b) h = absurd (true≢false (sym h))
+  over_constant (DivUp a b) h = absurd (true≢false (sym h))
+
+  -- a pointwise form: f is the operator with the number that is looked for
+  moved_by : (w : Bool) (f : ℤ → ℕ → Bool) (x y : ℤ) (a b : ℕ → Bool) → x ≡ y → ((e : ℕ) → Goes w (b e) (a e)) → Goes w (some_number M (λ e. b e && f y e)) (some_number M (λ e. a e && f x e))
+  moved_by true f x y a b e g = any_more (λ k. b k && f y k) (λ k. a k && f x k) (λ k. and_more (b k) (f y k) (a k) (f x k) (g k) (λ t. subst (λ z. f z k ≡ true) (sym e) t)) (universe M)
+  moved_by false f x y a b e g = any_more (λ k. a k && f x k) (λ k. b k && f y k) (λ k. and_more (a k) (f x k) (b k) (f y k) (g k) (λ t. subst (λ z. f z k ≡ true) e t)) (universe M)
+
+  range_moves : (r : Range) (w : Bool) → RangeKeeps S' S r → range_fits M r w ≡ true → range_meets p r ≡ true → (n : ℕ) → Goes w (in_range M S (fill_range p r) n) (in_range M S' (fill_range p r) n)
+  range_moves (Span a b) true k f m n = span_more (value M S (fill p a)) (value M S (fill p b)) (value M S' (fill p a)) (value M S' (fill p b)) (pos n)
+      (expr_moves M p S' S a Rising false k.0 (first_of_two (expr_fits M a Rising) (expr_fits M b Falling) f) (first_of_two (expr_meets p a false) (expr_meets p b false) m))
+      (expr_moves M p S' S b Falling false k.1 (second_of_two (expr_fits M a Rising) (expr_fits M b Falling) f) (second_of_two (expr_meets p a false) (expr_meets p b false) m))
+  range_moves (Span a b) false k f m n = span_more (value M S' (fill p a)) (value M S' (fill p b)) (value M S (fill p a)) (value M S (fill p b)) (pos n)
+      (expr_moves M p S' S a Falling false k.0 (first_of_two (expr_fits M a Falling) (expr_fits M b Rising) f) (first_of_two (expr_meets p a false) (expr_meets p b false) m))
+      (expr_moves M p S' S b Rising false k.1 (second_of_two (expr_fits M a Falling) (expr_fits M b Rising) f) (second_of_two (expr_meets p a false) (expr_meets p b false) m))
+  range_moves (One t) true k f m n = λ h. subst (λ z. int_eq z (pos n) ≡ true) (sym (constant t k f m)) h
+  range_moves (One t) false k f m n = λ h. subst (λ z. int_eq z (pos n) ≡ true) (constant t k f m) h
+  range_moves (Dom y) true k f m n = λ h. k.each n h
+  range_moves (Dom y) false k f m n = λ h. absurd (true≢false (sym f))
+  range_moves (Union r q) w k f m n = or_goes w (in_range M S (fill_range p r) n) (in_range M S (fill_range p q) n) (in_range M S' (fill_range p r) n) (in_range M S' (fill_range p q) n)
+      (range_moves r w k.0 (first_of_two (range_fits M r w) (range_fits M q w) f) (first_of_two (range_meets p r) (range_meets p q) m) n)
+      (range_moves q w k.1 (second_of_two (range_fits M r w) (range_fits M q w) f) (second_of_two (range_meets p r) (range_meets p q) m) n)
+  range_moves (Inter r q) w k f m n = and_goes w (in_range M S (fill_range p r) n) (in_range M S (fill_range p q) n) (in_range M S' (fill_range p r) n) (in_range M S' (fill_range p q) n)
+      (range_moves r w k.0 (first_of_two (range_fits M r w) (range_fits M q w) f) (first_of_two (range_meets p r) (range_meets p q) m) n)
+      (range_moves q w k.1 (second_of_two (range_fits M r w) (range_fits M q w) f) (second_of_two (range_meets p r) (range_meets p q) m) n)
+  range_moves (Outside r) w k f m n = not_goes w (in_range M S (fill_range p r) n) (in_range M S' (fill_range p r) n) (range_moves r (not w) k f m n)
+  range_moves (Plus r c) w k f m n =
+      moved_by w (λ z e. int_eq (pos e +ℤ z) (pos n)) (value M S' (fill p c)) (value M S (fill p c)) (in_range M S' (fill_range p r)) (in_range M S (fill_range p r))
+      (constant c k.1 (second_of_two (range_fits M r w) (expr_fits M c Constant) f) (second_of_two (range_meets p r) (expr_meets p c false) m))
+      (range_moves r w k.0 (first_of_two (range_fits M r w) (expr_fits M c Constant) f) (first_of_two (range_meets p r) (expr_meets p c false) m))
+  range_moves (Minus r c) w k f m n =
+      moved_by w (λ z e. int_eq (pos e -ℤ z) (pos n)) (value M S' (fill p c)) (value M S (fill p c)) (in_range M S' (fill_range p r)) (in_range M S (fill_range p r))
+      (constant c k.1 (second_of_two (range_fits M r w) (expr_fits M c Constant) f) (second_of_two (range_meets p r) (expr_meets p c false) m))
+      (range_moves r w k.0 (first_of_two (range_fits M r w) (expr_fits M c Constant) f) (first_of_two (range_meets p r) (expr_meets p c false) m))
+  range_moves (Times r c) w k f m n =
+      moved_by w (λ z e. int_eq (pos e *ℤ z) (pos n)) (value M S' (fill p c)) (value M S (fill p c)) (in_range M S' (fill_range p r)) (in_range M S (fill_range p r))
+      (constant c k.1 (second_of_two (range_fits M r w) (expr_fits M c Constant) f) (second_of_two (range_meets p r) (expr_meets p c false) m))
+      (range_moves r w k.0 (first_of_two (range_fits M r w) (expr_fits M c Constant) f) (first_of_two (range_meets p r) (expr_meets p c false) m))
+  range_moves (Over r c) w k f m n =
+      moved_by w (λ z e. int_eq (pos n *ℤ z) (pos e)) (value M S' (fill p c)) (value M S (fill p c)) (in_range M S' (fill_range p r)) (in_range M S (fill_range p r))
+      (over_constant c (second_of_two (range_fits M r w) (is_parameter c || (is_literal c && int_le (pos 1) (literal_value M c))) f))
+      (range_moves r w k.0 (first_of_two (range_fits M r w) (is_parameter c || (is_literal c && int_le (pos 1) (literal_value M c))) f) (first_of_two (range_meets p r) (over_meets p c) m))
+
+-- the least and the greatest number of a rising list
+pub least_low : (low high n : ℕ) (xs : List ℕ) → IsRising low high xs → has xs n ≡ true → least xs ≤ n
+least_low low high n [] r h = absurd (true≢false (sym h))
+least_low low high n (x ∷ xs) r h = has_low x high (x ∷ xs) n (omega arith, r.1, r.2) h
+
+pub least_in : (xs : List ℕ) → is_none_left xs ≡ false → has xs (least xs) ≡ true
+least_in [] h = absurd (true≢false h)
+least_in (x ∷ xs) h = or_left (x == x) (has xs x) (eq-eqb x x refl)
+
+pub greatest_in : (xs : List ℕ) → is_none_left xs ≡ false → has xs (greatest xs) ≡ true
+greatest_in [] h = absurd (true≢false h)
+greatest_in (x ∷ []) h = or_left (x == x) false (eq-eqb x x refl)
+greatest_in (x ∷ y ∷ ys) h = or_right (x == greatest (y ∷ ys)) (has (y ∷ ys) (greatest (y ∷ ys))) (greatest_in (y ∷ ys) refl)
+
+pub greatest_high : (low high n : ℕ) (xs : List ℕ) → IsRising low high xs → has xs n ≡ true → n ≤ greatest xs
+greatest_high low high n [] r h = absurd (true≢false (sym h))
+greatest_high low high n (x ∷ []) r h = elim (or_cases (x == n) false h) [ inl e ↦ omega (arith, eqb-true x n e) | inr e ↦ absurd (true≢false (sym e)) ]
+greatest_high low high n (x ∷ y ∷ ys) r h = elim (or_cases (x == n) (has (y ∷ ys) n) h) [
+  | inl e ↦ let g : has (y ∷ ys) y ≡ true = or_left (y == y) (has ys y) (eq-eqb y y refl) in omega (arith, eqb-true x n e, r.2.0, greatest_high (suc x) high y (y ∷ ys) r.2 g)
+  | inr e ↦ greatest_high (suc x) high n (y ∷ ys) r.2 e
+]
+
+pub not_empty : (xs : List ℕ) (n : ℕ) → has xs n ≡ true → is_none_left xs ≡ false
+not_empty [] n h = absurd (true≢false (sym h))
+not_empty (x ∷ xs) n h = refl
+
+one_value : (xs : List ℕ) (n : ℕ) → is_several xs ≡ false → has xs n ≡ true → least xs ≡ n
+one_value [] n h g = absurd (true≢false (sym g))
+one_value (x ∷ []) n h g = elim (or_cases (x == n) false g) [ inl e ↦ eqb-true x n e | inr e ↦ absurd (true≢false (sym e)) ]
+one_value (x ∷ y ∷ ys) n h g = absurd (true≢false h)
+
+-- two members of a set of one value
+several_subset : (low high : ℕ) (xs ys : List ℕ) → IsRising low high xs → IsSubset xs ys → is_several ys ≡ false → is_several xs ≡ false
+several_subset low high [] ys r i h = refl
+several_subset low high (x ∷ []) ys r i h = refl
+several_subset low high (x ∷ z ∷ zs) ys r i h =
+    let a : least ys ≡ x = one_value ys x h (i.each x (or_left (x == x) (has (z ∷ zs) x) (eq-eqb x x refl))) in
+    let b : least ys ≡ z = one_value ys z h (i.each z (or_right (x == z) (has (z ∷ zs) z) (or_left (z == z) (has zs z) (eq-eqb z z refl)))) in
+    absurd (omega (arith, r.2.0))
+
+-- tests over lists
+none_step : (f : ℕ → Bool) (x n : ℕ) (xs : List ℕ) → (list_any f xs ≡ false → has xs n ≡ true → f n ≡ false) → list_any f (x ∷ xs) ≡ false → has (x ∷ xs) n ≡ true → f n ≡ false
+none_step f x n xs later h g = grind (arith, later, eqb-true)
+
+none_at : (f : ℕ → Bool) (xs : List ℕ) (n : ℕ) → list_any f xs ≡ false → has xs n ≡ true → f n ≡ false
+none_at f [] n h g = absurd (true≢false (sym g))
+none_at f (x ∷ xs) n h g = none_step f x n xs (none_at f xs n) h g
+
+none_both : (a b : Bool) → a ≡ false → b ≡ false → (a || b) ≡ false
+none_both a b h g = grind arith
+
+none_all : (f : ℕ → Bool) (xs : List ℕ) → ((n : ℕ) → has xs n ≡ true → f n ≡ false) → list_any f xs ≡ false
+none_all f [] h = refl
+none_all f (x ∷ xs) h = none_both (f x) (list_any f xs) (h x (or_left (x == x) (has xs x) (eq-eqb x x refl))) (none_all f xs (λ n g. h n (or_right (x == n) (has xs n) g)))
+
+pub in_left : (xs ys : List ℕ) (n : ℕ) → has xs n ≡ true → has (xs ++ ys) n ≡ true
+in_left [] ys n h = absurd (true≢false (sym h))
+in_left (x ∷ xs) ys n h = elim (or_cases (x == n) (has xs n) h) [ inl e ↦ or_left (x == n) (has (xs ++ ys) n) e | inr e ↦ or_right (x == n) (has (xs ++ ys) n) (in_left xs ys n e) ]
+
+pub in_right : (xs ys : List ℕ) (n : ℕ) → has ys n ≡ true → has (xs ++ ys) n ≡ true
+in_right [] ys n h = h
+in_right (x ∷ xs) ys n h = or_right (x == n) (has (xs ++ ys) n) (in_right xs ys n h)
+
+alone_in : (y : ℕ) → has (y ∷ []) y ≡ true
+alone_in y = or_left (y == y) false (eq-eqb y y refl)
+
+-- what a variable keeps, and what one that is read by val keeps
+record Bound (S' S : Family) (y : ℕ) : Type 0 where
+  low : least (S' y) ≤ least (S y)
+  high : greatest (S y) ≤ greatest (S' y)
+
+module _ (p : ℕ → ℤ) (S' S : Family) where
+  expr_keeps : (e : Expr) → ((y : ℕ) → has (expr_reads (fill p e)) y ≡ true → Bound S' S y) → ((y : ℕ) → has (expr_vals (fill p e)) y ≡ true → least (S' y) ≡ least (S y)) → Keeps S' S e
+  expr_keeps (Number z) h g = tt
+  expr_keeps Infinity h g = tt
+  expr_keeps (Param x) h g = tt
+  expr_keeps (Min y) h g = (h y (alone_in y)).low
+  expr_keeps (Max y) h g = (h y (alone_in y)).high
+  expr_keeps (Val y) h g = g y (alone_in y)
+  expr_keeps (Add a b) h g = (expr_keeps a (λ y i. h y (in_left _ _ y i)) (λ y i. g y (in_left _ _ y i)), expr_keeps b (λ y i. h y (in_right (expr_reads (fill p a)) _ y i)) (λ y i. g y (in_right (expr_vals (fill p a)) _ y i)))
+  expr_keeps (Sub a b) h g = (expr_keeps a (λ y i. h y (in_left _ _ y i)) (λ y i. g y (in_left _ _ y i)), expr_keeps b (λ y i. h y (in_right (expr_reads (fill p a)) _ y i)) (λ y i. g y (in_right (expr_vals (fill p a)) _ y i)))
+  expr_keeps (Mul a b) h g = (expr_keeps a (λ y i. h y (in_left _ _ y i)) (λ y i. g y (in_left _ _ y i)), expr_keeps b (λ y i. h y (in_right (expr_reads (fill p a)) _ y i)) (λ y i. g y (in_right (expr_vals (fill p a)) _ y i)))
+  expr_keeps (DivDown a b) h g = (expr_keeps a (λ y i. h y (in_left _ _ y i)) (λ y i. g y (in_left _ _ y i)), expr_keeps b (λ y i. h y (in_right (expr_reads (fill p a)) _ y i)) (λ y i. g y (in_right (expr_vals (fill p a)) _ y i)))
+  expr_keeps (DivUp a b) h g = (expr_keeps a (λ y i. h y (in_left _ _ y i)) (λ y i. g y (in_left _ _ y i)), expr_keeps b (λ y i. h y (in_right (expr_reads (fill p a)) _ y i)) (λ y i. g y (in_right (expr_vals (fill p a)) _ y i)))
+
+  range_keeps : IsInside S S' → (r : Range) → ((y : ℕ) → has (reads (fill_range p r)) y ≡ true → Bound S' S y) → ((y : ℕ) → has (vals (fill_range p r)) y ≡ true → least (S' y) ≡ least (S y)) → RangeKeeps S' S r
+  range_keeps i (Span a b) h g = (expr_keeps a (λ y k. h y (in_left _ _ y k)) (λ y k. g y (in_left _ _ y k)), expr_keeps b (λ y k. h y (in_right (expr_reads (fill p a)) _ y k)) (λ y k. g y (in_right (expr_vals (fill p a)) _ y k)))
+  range_keeps i (One t) h g = expr_keeps t h g
+  range_keeps i (Dom y) h g = i.at y
+  range_keeps i (Union r q) h g = (range_keeps i r (λ y k. h y (in_left _ _ y k)) (λ y k. g y (in_left _ _ y k)), range_keeps i q (λ y k. h y (in_right (reads (fill_range p r)) _ y k)) (λ y k. g y (in_right (vals (fill_range p r)) _ y k)))
+  range_keeps i (Inter r q) h g = (range_keeps i r (λ y k. h y (in_left _ _ y k)) (λ y k. g y (in_left _ _ y k)), range_keeps i q (λ y k. h y (in_right (reads (fill_range p r)) _ y k)) (λ y k. g y (in_right (vals (fill_range p r)) _ y k)))
+  range_keeps i (Outside r) h g = range_keeps i r h g
+  range_keeps i (Plus r c) h g = (range_keeps i r (λ y k. h y (in_left _ _ y k)) (λ y k. g y (in_left _ _ y k)), expr_keeps c (λ y k. h y (in_right (reads (fill_range p r)) _ y k)) (λ y k. g y (in_right (vals (fill_range p r)) _ y k)))
+  range_keeps i (Minus r c) h g = (range_keeps i r (λ y k. h y (in_left _ _ y k)) (λ y k. g y (in_left _ _ y k)), expr_keeps c (λ y k. h y (in_right (reads (fill_range p r)) _ y k)) (λ y k. g y (in_right (vals (fill_range p r)) _ y k)))
+  range_keeps i (Times r c) h g = (range_keeps i r (λ y k. h y (in_left _ _ y k)) (λ y k. g y (in_left _ _ y k)), expr_keeps c (λ y k. h y (in_right (reads (fill_range p r)) _ y k)) (λ y k. g y (in_right (vals (fill_range p r)) _ y k)))
+  range_keeps i (Over r c) h g = (range_keeps i r (λ y k. h y (in_left _ _ y k)) (λ y k. g y (in_left _ _ y k)), expr_keeps c (λ y k. h y (in_right (reads (fill_range p r)) _ y k)) (λ y k. g y (in_right (vals (fill_range p r)) _ y k)))
+
+-- a variable that is read by val is read
+in_either : (xs ys us vs : List ℕ) (n : ℕ) → (has xs n ≡ true → has us n ≡ true) → (has ys n ≡ true → has vs n ≡ true) → has (xs ++ ys) n ≡ true → has (us ++ vs) n ≡ true
+in_either [] ys us vs n f g h = in_right us vs n (g h)
+in_either (x ∷ xs) ys us vs n f g h = elim (or_cases (x == n) (has (xs ++ ys) n) h) [
+  | inl e ↦ in_left us vs n (f (or_left (x == n) (has xs n) e))
+  | inr e ↦ in_either xs ys us vs n (λ k. f (or_right (x == n) (has xs n) k)) g e
+]
+
+expr_vals_read : (e : Expr) (y : ℕ) → has (expr_vals e) y ≡ true → has (expr_reads e) y ≡ true
+expr_vals_read (Number z) y h = h
+expr_vals_read Infinity y h = h
+expr_vals_read (Param x) y h = h
+expr_vals_read (Min x) y h = absurd (true≢false (sym h))
+expr_vals_read (Max x) y h = absurd (true≢false (sym h))
+expr_vals_read (Val x) y h = h
+expr_vals_read (Add a b) y h = in_either (expr_vals a) (expr_vals b) (expr_reads a) (expr_reads b) y (expr_vals_read a y) (expr_vals_read b y) h
+expr_vals_read (Sub a b) y h = in_either (expr_vals a) (expr_vals b) (expr_reads a) (expr_reads b) y (expr_vals_read a y) (expr_vals_read b y) h
+expr_vals_read (Mul a b) y h = in_either (expr_vals a) (expr_vals b) (expr_reads a) (expr_reads b) y (expr_vals_read a y) (expr_vals_read b y) h
+expr_vals_read (DivDown a b) y h = in_either (expr_vals a) (expr_vals b) (expr_reads a) (expr_reads b) y (expr_vals_read a y) (expr_vals_read b y) h
+expr_vals_read (DivUp a b) y h = in_either (expr_vals a) (expr_vals b) (expr_reads a) (expr_reads b) y (expr_vals_read a y) (expr_vals_read b y) h
+
+range_vals : (r : Range) (y : ℕ) → has (vals r) y ≡ true → has (reads r) y ≡ true
+range_vals (Span a b) y h = in_either (expr_vals a) (expr_vals b) (expr_reads a) (expr_reads b) y (expr_vals_read a y) (expr_vals_read b y) h
+range_vals (One t) y h = expr_vals_read t y h
+range_vals (Dom x) y h = absurd (true≢false (sym h))
+range_vals (Union r q) y h = in_either (vals r) (vals q) (reads r) (reads q) y (range_vals r y) (range_vals q y) h
+range_vals (Inter r q) y h = in_either (vals r) (vals q) (reads r) (reads q) y (range_vals r y) (range_vals q y) h
+range_vals (Outside r) y h = range_vals r y h
+range_vals (Plus r c) y h = in_either (vals r) (expr_vals c) (reads r) (expr_reads c) y (range_vals r y) (expr_vals_read c y) h
+range_vals (Minus r c) y h = in_either (vals r) (expr_vals c) (reads r) (expr_reads c) y (range_vals r y) (expr_vals_read c y) h
+range_vals (Times r c) y h = in_either (vals r) (expr_vals c) (reads r) (expr_reads c) y (range_vals r y) (expr_vals_read c y) h
+range_vals (Over r c) y h = in_either (vals r) (expr_vals c) (reads r) (expr_reads c) y (range_vals r y) (expr_vals_read c y) h
+
+-- Set's order of cases
+set_parts : (a b c : Bool) → cond a false (cond b true c) ≡ true → (a ≡ false) × (b ≡ false → c ≡ true)
+set_parts true b c h = absurd (true≢false (sym h))
+set_parts false true c h = (refl, λ e. absurd (true≢false e))
+set_parts false false c h = (refl, λ e. h)
+
+set_made : (a b c : Bool) → a ≡ false → (b ≡ false → c ≡ true) → cond a false (cond b true c) ≡ true
+set_made true b c h g = absurd (true≢false h)
+set_made false true c h g = refl
+set_made false false c h g = g refl
+
+module _ (M : ℕ) (p : ℕ → ℤ) (r : Range) (f : range_fits M r true ≡ true) (m : range_meets p r ≡ true) (S S' : Family) (s : IsFamily M S) (t : IsFamily M S') (inside : IsInside S S') where
+  stays_some : (y : ℕ) → is_none_left (S y) ≡ false → is_none_left (S' y) ≡ false
+  stays_some y h = not_empty (S' y) (least (S y)) ((inside.at y).each (least (S y)) (least_in (S y) h))
+
+  bound_of : (y : ℕ) → is_none_left (S y) ≡ false → Bound S' S y
+  bound_of y h = record {
+    low = least_low 0 M (least (S y)) (S' y) (t.rising y) ((inside.at y).each (least (S y)) (least_in (S y) h));
+    high = greatest_high 0 M (greatest (S y)) (S' y) (t.rising y) ((inside.at y).each (greatest (S y)) (greatest_in (S y) h));
+  }
+
+  one_of : (y : ℕ) → is_none_left (S y) ≡ false → is_several (S' y) ≡ false → least (S' y) ≡ least (S y)
+  one_of y h g = one_value (S' y) (least (S y)) g ((inside.at y).each (least (S y)) (least_in (S y) h))
+
+  vals_read : (y : ℕ) → has (vals (fill_range p r)) y ≡ true → has (reads (fill_range p r)) y ≡ true
+  vals_read y h = range_vals (fill_range p r) y h
+
+  set_moves : (n : ℕ) → in_set M S (fill_range p r) n ≡ true → in_set M S' (fill_range p r) n ≡ true
+  set_moves n h =
+      let q : Range = fill_range p r in
+      let parts = set_parts (list_any (λ y. is_none_left (S y)) (reads q)) (list_any (λ y. is_several (S y)) (vals q)) (in_range M S q n) h in
+      let some : (y : ℕ) → has (reads q) y ≡ true → is_none_left (S y) ≡ false = λ y i. none_at (λ k. is_none_left (S k)) (reads q) y parts.0 i in
+      set_made (list_any (λ y. is_none_left (S' y)) (reads q)) (list_any (λ y. is_several (S' y)) (vals q)) (in_range M S' q n)
+      (none_all (λ y. is_none_left (S' y)) (reads q) (λ y i. stays_some y (some y i)))
+      (λ e.
+      let one : (y : ℕ) → has (vals q) y ≡ true → is_several (S' y) ≡ false = λ y i. none_at (λ k. is_several (S' k)) (vals q) y e i in
+      let inner : in_range M S q n ≡ true = parts.1 (none_all (λ y. is_several (S y)) (vals q) (λ y i. several_subset 0 M (S y) (S' y) (s.rising y) (inside.at y) (one y i))) in
+      let keeps = range_keeps p S' S inside r (λ y i. bound_of y (some y i)) (λ y i. one_of y (some y (vals_read y i)) (one y i)) in
+      range_moves M p S' S r true keeps f m n inner)
+
+pub accepted_is_monotone : AcceptedIsMonotone
+accepted_is_monotone M r p f m = record {
+  grows = λ S S' s t inside. record {
+    each = λ n h.
+        let back = has-filter_back (in_set M S (fill_range p r)) (universe M) n h in
+        has-filter (in_set M S' (fill_range p r)) (universe M) n back.0 (set_moves M p r f (needs_met p r m) S S' s t inside n back.1);
+  };
+}

@@ -1,0 +1,76 @@
+-- Lemmas on lists of numbers as sets.
+use Rattle.std.proofs.Common.{◌≡◌, ℕ, zero, suc, ◌+◌, ◌<◌, ◌≤◌, Bool, true, ◌==◌, List, [], ◌∷◌, ◌++◌, ◌⊎◌, filter, refl, sym, subst, inl, inr, arith, eqb-true, eq-eqb}
+use Rattle.std.proofs.lemmas.Bool.{or_cases, or_left, or_right, cases_Bool, true≢false}
+use Rattle.fd_language.specs.Family.{has, IsSubset, IsRising, count_up, universe}
+
+-- one element of a filter
+keeps : (p : ℕ → Bool) (x n : ℕ) (xs : List ℕ) → ((has xs n ≡ true) → has (filter p xs) n ≡ true) → has (x ∷ xs) n ≡ true → p n ≡ true → has (filter p (x ∷ xs)) n ≡ true
+keeps p x n xs later h t = grind (arith, later, eqb-true)
+
+pub has-filter : (p : ℕ → Bool) (xs : List ℕ) (n : ℕ) → has xs n ≡ true → p n ≡ true → has (filter p xs) n ≡ true
+has-filter p [] n h t = h
+has-filter p (x ∷ xs) n h t = keeps p x n xs (λ i. has-filter p xs n i t) h t
+
+kept : (p : ℕ → Bool) (x n : ℕ) (xs : List ℕ) → (has (filter p xs) n ≡ true → (has xs n ≡ true) × (p n ≡ true)) → has (filter p (x ∷ xs)) n ≡ true → (has (x ∷ xs) n ≡ true) × (p n ≡ true)
+kept p x n xs later h = grind (arith, later, eqb-true)
+
+pub has-filter_back : (p : ℕ → Bool) (xs : List ℕ) (n : ℕ) → has (filter p xs) n ≡ true → (has xs n ≡ true) × (p n ≡ true)
+has-filter_back p [] n h = grind arith
+has-filter_back p (x ∷ xs) n h = kept p x n xs (has-filter_back p xs n) h
+
+pub has_low : (low high : ℕ) (xs : List ℕ) (n : ℕ) → IsRising low high xs → has xs n ≡ true → low ≤ n
+has_low low high [] n r h = grind arith
+has_low low high (x ∷ xs) n r h =
+    elim (or_cases (x == n) (has xs n) h) [ inl e ↦ omega (arith, r.0, eqb-true x n e) | inr e ↦ omega (arith, r.0, has_low (suc x) high xs n r.2 e) ]
+
+pub has_high : (low high : ℕ) (xs : List ℕ) (n : ℕ) → IsRising low high xs → has xs n ≡ true → n ≤ high
+has_high low high [] n r h = grind arith
+has_high low high (x ∷ xs) n r h =
+    elim (or_cases (x == n) (has xs n) h) [ inl e ↦ omega (arith, r.1, eqb-true x n e) | inr e ↦ has_high (suc x) high xs n r.2 e ]
+
+first_in : (x : ℕ) (xs : List ℕ) → has (x ∷ xs) x ≡ true
+first_in x xs = or_left _ _ (eq-eqb x x refl)
+
+-- what is in a rising list after its first element is past it
+later_in : (low high x n : ℕ) (xs : List ℕ) → has (x ∷ xs) n ≡ true → x < n → has xs n ≡ true
+later_in low high x n xs h l = elim (or_cases (x == n) (has xs n) h) [ inl e ↦ absurd (omega (arith, eqb-true x n e)) | inr e ↦ e ]
+
+pub rising_same : (low high : ℕ) (xs ys : List ℕ) → IsRising low high xs → IsRising low high ys → IsSubset xs ys → IsSubset ys xs → xs ≡ ys
+rising_same low high [] [] r q i j = refl
+rising_same low high [] (y ∷ ys) r q i j = let h : has [] y ≡ true = j.each y (first_in y ys) in absurd (true≢false (sym h))
+rising_same low high (x ∷ xs) [] r q i j = let h : has [] x ≡ true = i.each x (first_in x xs) in absurd (true≢false (sym h))
+rising_same low high (x ∷ xs) (y ∷ ys) r q i j =
+    let below : y ≤ x = has_low y high (y ∷ ys) x (omega arith, q.1, q.2) (i.each x (first_in x xs)) in
+    let above : x ≤ y = has_low x high (x ∷ xs) y (omega arith, r.1, r.2) (j.each y (first_in y ys)) in
+    let heads : x ≡ y = omega arith in
+    let tails : xs ≡ ys = rising_same (suc x) high xs ys r.2 (subst (λ z. IsRising (suc z) high ys) (sym heads) q.2)
+    (record { each = λ n h. later_in low high y n ys (i.each n (or_right _ _ h)) (let l : suc x ≤ n = has_low (suc x) high xs n r.2 h in omega arith) })
+    (record { each = λ n h. later_in low high x n xs (j.each n (or_right _ _ h)) (let l : suc y ≤ n = has_low (suc y) high ys n q.2 h in omega arith) }) in
+    cc
+
+pub count_up_rising : (low n high : ℕ) → low + n ≤ suc high → IsRising low high (count_up low n)
+count_up_rising low zero high h = tt
+count_up_rising low (suc n) high h = (omega arith, omega arith, count_up_rising (suc low) n high (omega arith))
+
+pub universe_rising : (M : ℕ) → IsRising 0 M (universe M)
+unfolding universe
+universe_rising M = count_up_rising 0 (suc M) M (omega arith)
+
+pub in_count_up : (low n k : ℕ) → low ≤ k → k < low + n → has (count_up low n) k ≡ true
+in_count_up low zero k h l = absurd (omega arith)
+in_count_up low (suc n) k h l = elim (cases_Bool (low == k)) [ inl e ↦ or_left _ _ e | inr e ↦ or_right _ _ (in_count_up (suc low) n k (grind (arith, eqb-true, eq-eqb)) (omega arith)) ]
+
+pub in_universe : (M k : ℕ) → k ≤ M → has (universe M) k ≡ true
+unfolding universe
+in_universe M k h = in_count_up 0 (suc M) k (omega arith) (omega arith)
+
+pub rising_inside : (M : ℕ) (xs : List ℕ) → IsRising 0 M xs → IsSubset xs (universe M)
+rising_inside M xs r = record { each = λ n h. in_universe M n (has_high 0 M xs n r h) }
+
+-- a number of two lists is in one of them
+pub has_either : (xs ys : List ℕ) (n : ℕ) → has (xs ++ ys) n ≡ true → (has xs n ≡ true) ⊎ (has ys n ≡ true)
+has_either [] ys n h = inr h
+has_either (x ∷ xs) ys n h = elim (or_cases (x == n) (has (xs ++ ys) n) h) [
+  | inl e ↦ inl (or_left (x == n) (has xs n) e)
+  | inr e ↦ elim (has_either xs ys n e) [ inl f ↦ inl (or_right (x == n) (has xs n) f) | inr f ↦ inr f ]
+]

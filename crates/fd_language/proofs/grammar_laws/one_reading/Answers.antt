@@ -1,0 +1,5 @@
+use Rattle.fd_language.proofs.ReadingWhole as whole
+use Rattle.fd_language.proofs.grammar_laws.one_reading.Goals as goal
+
+pub returns : goal.returns
+returns c = whole.one_reading

@@ -1,0 +1,200 @@
+-- Value and Set. Ranges, the values of their terms and their sets.
+use Rattle.std.specs.Prelude.{ℕ, zero, suc, ◌/◌, Bool, true, false, ◌||◌, ◌&&◌, not, if◌then◌else◌, ℤ, pos, negsuc, ◌+ℤ◌, ◌-ℤ◌, ◌*ℤ◌, neg_ℤ, int_le, List, [], ◌∷◌, ◌++◌, filter, max}
+use Rattle.std.specs.List.{list_any}
+use Rattle.std.specs.Ordering.{int_eq}
+use Rattle.fd_language.specs.Family.{Family, has, universe}
+
+pub data Expr : Type 0 where
+  Number : ℤ → Expr
+  Infinity : Expr
+  Param : ℕ → Expr
+  Min : ℕ → Expr
+  Max : ℕ → Expr
+  Val : ℕ → Expr
+  Add : Expr → Expr → Expr
+  Sub : Expr → Expr → Expr
+  Mul : Expr → Expr → Expr
+  DivDown : Expr → Expr → Expr
+  DivUp : Expr → Expr → Expr
+
+pub data Range : Type 0 where
+  Span : Expr → Expr → Range
+  One : Expr → Range
+  Dom : ℕ → Range
+  Union : Range → Range → Range
+  Inter : Range → Range → Range
+  Outside : Range → Range
+  Plus : Range → Expr → Range
+  Minus : Range → Expr → Range
+  Times : Range → Expr → Range
+  Over : Range → Expr → Range
+
+pub record Indexical : Type 0 where
+  pub target : ℕ
+  pub range : Range
+
+-- the least and the greatest member of a rising list, and 0 where there is none
+abbrev pub least : List ℕ → ℕ
+least [] = 0
+least (x ∷ xs) = x
+
+abbrev pub greatest : List ℕ → ℕ
+greatest [] = 0
+greatest (x ∷ []) = x
+greatest (x ∷ y ∷ ys) = greatest (y ∷ ys)
+
+-- a divided by n + 1, rounded down: the quotient of a negative number is that of the number's distance below 0, less one
+abbrev pub down_by : ℤ → ℕ → ℤ
+down_by (pos a) n = pos (a / suc n)
+down_by (negsuc a) n = negsuc (a / suc n)
+
+-- a /< b, for a natural b. At 0 the greater of a and M
+abbrev pub div_down : ℕ → ℤ → ℤ → ℤ
+div_down M a (pos (suc n)) = down_by a n
+div_down M (pos a) (pos zero) = pos (max a M)
+div_down M (negsuc a) (pos zero) = pos M
+div_down M a (negsuc n) = pos 0
+
+-- a /> b, for a natural b. At 0 it is 0 for 0, and else the greater of a and M
+abbrev pub div_up : ℕ → ℤ → ℤ → ℤ
+div_up M a (pos (suc n)) = neg_ℤ (down_by (neg_ℤ a) n)
+div_up M (pos zero) (pos zero) = pos 0
+div_up M (pos (suc a)) (pos zero) = pos (max (suc a) M)
+div_up M (negsuc a) (pos zero) = pos M
+div_up M a (negsuc n) = pos 0
+
+-- Value
+abbrev pub value : ℕ → Family → Expr → ℤ
+value M S (Number n) = n
+value M S Infinity = pos M
+value M S (Param x) = pos 0
+value M S (Min y) = pos (least (S y))
+value M S (Max y) = pos (greatest (S y))
+value M S (Val y) = pos (least (S y))
+value M S (Add a b) = value M S a +ℤ value M S b
+value M S (Sub a b) = value M S a -ℤ value M S b
+value M S (Mul a b) = value M S a *ℤ value M S b
+value M S (DivDown a b) = div_down M (value M S a) (value M S b)
+value M S (DivUp a b) = div_up M (value M S a) (value M S b)
+
+-- some number of U passes
+abbrev pub some_number : ℕ → (ℕ → Bool) → Bool
+some_number M test = list_any test (universe M)
+
+-- whether the number n of U is in the range
+abbrev pub in_range : ℕ → Family → Range → ℕ → Bool
+in_range M S (Span a b) n = int_le (value M S a) (pos n) && int_le (pos n) (value M S b)
+in_range M S (One t) n = int_eq (value M S t) (pos n)
+in_range M S (Dom y) n = has (S y) n
+in_range M S (Union r q) n = in_range M S r n || in_range M S q n
+in_range M S (Inter r q) n = in_range M S r n && in_range M S q n
+in_range M S (Outside r) n = not (in_range M S r n)
+in_range M S (Plus r c) n = some_number M (λ e. in_range M S r e && int_eq (pos e +ℤ value M S c) (pos n))
+in_range M S (Minus r c) n = some_number M (λ e. in_range M S r e && int_eq (pos e -ℤ value M S c) (pos n))
+in_range M S (Times r c) n = some_number M (λ e. in_range M S r e && int_eq (pos e *ℤ value M S c) (pos n))
+in_range M S (Over r c) n = some_number M (λ e. in_range M S r e && int_eq (pos n *ℤ value M S c) (pos e))
+
+-- What stands at a leaf that names a variable.
+pub data Role : Type 0 where
+  a_parameter a_min a_max a_val a_dom : Role
+
+pub record Leaf : Type 0 where
+  pub variable : ℕ
+  pub role : Role
+
+abbrev pub leaf : Role → ℕ → Leaf
+leaf role y = record { variable = y; role = role }
+
+-- What f gives for each leaf of a term or a range that names a variable, in text order. This is the one walk over leaves.
+abbrev pub from_expr : {X : Type 0} → (Leaf → List X) → Expr → List X
+from_expr f (Number n) = []
+from_expr f Infinity = []
+from_expr f (Param x) = f (leaf a_parameter x)
+from_expr f (Min y) = f (leaf a_min y)
+from_expr f (Max y) = f (leaf a_max y)
+from_expr f (Val y) = f (leaf a_val y)
+from_expr f (Add a b) = from_expr f a ++ from_expr f b
+from_expr f (Sub a b) = from_expr f a ++ from_expr f b
+from_expr f (Mul a b) = from_expr f a ++ from_expr f b
+from_expr f (DivDown a b) = from_expr f a ++ from_expr f b
+from_expr f (DivUp a b) = from_expr f a ++ from_expr f b
+
+abbrev pub from_range : {X : Type 0} → (Leaf → List X) → Range → List X
+from_range f (Span a b) = from_expr f a ++ from_expr f b
+from_range f (One t) = from_expr f t
+from_range f (Dom y) = f (leaf a_dom y)
+from_range f (Union r q) = from_range f r ++ from_range f q
+from_range f (Inter r q) = from_range f r ++ from_range f q
+from_range f (Outside r) = from_range f r
+from_range f (Plus r c) = from_range f r ++ from_expr f c
+from_range f (Minus r c) = from_range f r ++ from_expr f c
+from_range f (Times r c) = from_range f r ++ from_expr f c
+from_range f (Over r c) = from_range f r ++ from_expr f c
+
+-- the leaves themselves
+abbrev pub leaves : Range → List Leaf
+leaves r = from_range (λ l. l ∷ []) r
+
+-- the variable of a leaf by min, max, val or dom
+abbrev pub read_by : Role → ℕ → List ℕ
+read_by a_parameter y = []
+read_by a_min y = y ∷ []
+read_by a_max y = y ∷ []
+read_by a_val y = y ∷ []
+read_by a_dom y = y ∷ []
+
+-- the variable of a leaf by val
+abbrev pub val_by : Role → ℕ → List ℕ
+val_by a_parameter y = []
+val_by a_min y = []
+val_by a_max y = []
+val_by a_val y = y ∷ []
+val_by a_dom y = []
+
+-- the variable of a leaf that is a parameter
+abbrev pub param_by : Role → ℕ → List ℕ
+param_by a_parameter y = y ∷ []
+param_by a_min y = []
+param_by a_max y = []
+param_by a_val y = []
+param_by a_dom y = []
+
+-- the variables that a term or a range names by min, max, val or dom
+abbrev pub expr_reads : Expr → List ℕ
+expr_reads t = from_expr (λ l. read_by l.role l.variable) t
+
+abbrev pub reads : Range → List ℕ
+reads r = from_range (λ l. read_by l.role l.variable) r
+
+-- those that it names by val
+abbrev pub expr_vals : Expr → List ℕ
+expr_vals t = from_expr (λ l. val_by l.role l.variable) t
+
+abbrev pub vals : Range → List ℕ
+vals r = from_range (λ l. val_by l.role l.variable) r
+
+-- its parameters
+abbrev pub expr_params : Expr → List ℕ
+expr_params t = from_expr (λ l. param_by l.role l.variable) t
+
+abbrev pub params : Range → List ℕ
+params r = from_range (λ l. param_by l.role l.variable) r
+
+abbrev pub is_none_left : List ℕ → Bool
+is_none_left [] = true
+is_none_left (x ∷ xs) = false
+
+abbrev pub is_several : List ℕ → Bool
+is_several [] = false
+is_several (x ∷ []) = false
+is_several (x ∷ y ∷ ys) = true
+
+-- whether n is in the set of the range: none is where a mentioned set is empty, each is where a val is open, and else those in the range
+abbrev pub in_set : ℕ → Family → Range → ℕ → Bool
+in_set M S r n =
+    if list_any (λ y. is_none_left (S y)) (reads r) then false else
+    if list_any (λ y. is_several (S y)) (vals r) then true else in_range M S r n
+
+-- Set: Set(r, S)
+abbrev pub set_of : ℕ → Family → Range → List ℕ
+set_of M S r = filter (in_set M S r) (universe M)

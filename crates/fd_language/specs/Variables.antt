@@ -1,0 +1,20 @@
+-- The variables of terms.
+use Rattle.std.specs.Prelude.{ℕ, not, ◌==◌, List, [], ◌∷◌, ◌++◌, filter}
+use Rattle.fd_language.specs.Term.{Term, Terms, Var, Int, Atom, Comp, no_terms, term}
+
+-- the variables of a term, each where it stands
+abbrev mutual
+  pub variables_of : Term → List ℕ
+  variables_of (Var x) = x ∷ []
+  variables_of (Int z) = []
+  variables_of (Atom a) = []
+  variables_of (Comp f ts) = variables_of_all ts
+
+  pub variables_of_all : Terms → List ℕ
+  variables_of_all no_terms = []
+  variables_of_all (term t ts) = variables_of t ++ variables_of_all ts
+
+-- each number once, in order of first occurrence
+abbrev pub distinct : List ℕ → List ℕ
+distinct [] = []
+distinct (x ∷ xs) = x ∷ filter (λ y. not (x == y)) (distinct xs)

@@ -1,0 +1,171 @@
+-- Worked constraints, by computation.
+use Rattle.std.proofs.Common.{◌≡◌, ℕ, pos, negsuc, List, [], ◌∷◌, refl, Result, Ok, Err, zero, suc, ◌<◌, ◌==◌, true, ◌++◌, None, arith}
+use Rattle.std.specs.Prelude.{codes, slice_index_or, if◌then◌else◌}
+use Rattle.fd_model.specs.declared.kinds.QueryFault.{QueryFault}
+use Rattle.fd_model.specs.declared.kinds.QueryFault.TheVariants.{Instantiation, BadType, Evaluation, Nonlinear}
+use Rattle.fd_model.specs.declared.kinds.Relation.TheVariants.{Equal, Differ, Less}
+use Rattle.fd_model.specs.declared.kinds.ConstraintKind.TheVariants.{Compare, AllDifferent, Element, Atmost}
+use Rattle.fd_language.specs.Term.{Term, Terms, Name, Var, Int, Atom, Comp, no_terms, term}
+use Rattle.fd_language.specs.Family.{Family, universe, has}
+use Rattle.fd_language.specs.Range.{Range, Span, Outside, Number, Infinity, Min, Max, Val, Sub, Mul, DivDown, DivUp, set_of}
+use Rattle.fd_model.specs.LinearRows.{Expansion, no_number}
+use Rattle.fd_model.specs.ListRows.{element_ranges, counter, counted}
+use Rattle.fd_model.specs.Constraining.{expand}
+use Rattle.fd_model.specs.declared.kinds.Order.TheVariants.{Leftmost}
+use Rattle.fd_model.specs.Goal.{Goal, Post, Constrain, Label, Program, Query, Event, start_of}
+use Rattle.fd_model.specs.Run.{Run}
+use Rattle.fd_model.specs.Members.{Open}
+use Rattle.fd_model.specs.FlatQueries.{IsFlat, IsSatisfied}
+use Rattle.fd_model.specs.FlatLines.{AreFlatEvents}
+use Rattle.fd_model.proofs.FlatLines.{flat_events}
+
+abbrev two : Term → Term → Terms
+two s t = term s (term t no_terms)
+
+abbrev operation : Name → Term → Term → Term
+operation f s t = Comp f (two s t)
+
+abbrev cell : Term → Term → Term
+cell h t = operation (codes ".") h t
+
+abbrev end : Term
+end = Atom (codes "[]")
+
+-- X #< Y, and X #\= Y
+less_ranges : expand (Compare Less) (two (Var 0) (Var 1)) 2 ≡ Ok record {
+  equated = [];
+  ranges =
+      record { target = 0; range = Span (Number (pos 0)) (DivDown (Sub (Number (negsuc 0)) (Mul (Number (negsuc 0)) (Max 1))) (Number (pos 1))) }
+      ∷ record { target = 1; range = Span (DivUp (Sub (Number (pos 1)) (Mul (Number (negsuc 0)) (Min 0))) (Number (pos 1))) Infinity } ∷ [];
+  fresh = 2;
+}
+less_ranges = refl
+
+differ_ranges : expand (Compare Differ) (two (Var 0) (Var 1)) 2 ≡ Ok record {
+  equated = [];
+  ranges =
+      record { target = 0; range = Outside (Span (DivUp (Sub (Number (pos 0)) (Mul (Number (negsuc 0)) (Val 1))) (Number (pos 1))) (DivDown (Sub (Number (pos 0)) (Mul (Number (negsuc 0)) (Val 1))) (Number (pos 1)))) }
+      ∷ record { target = 1; range = Outside (Span (DivUp (Sub (Number (pos 0)) (Mul (Number (negsuc 0)) (Val 0))) (Number (pos 1))) (DivDown (Sub (Number (pos 0)) (Mul (Number (negsuc 0)) (Val 0))) (Number (pos 1)))) } ∷ [];
+  fresh = 2;
+}
+differ_ranges = refl
+
+-- forms without variables: 2 #= 3 has no solution, and X - X #= 0 says nothing
+never : expand (Compare Equal) (two (Int (pos 2)) (Int (pos 3))) 0 ≡ Ok record { equated = []; ranges = record { target = 0; range = no_number } ∷ []; fresh = 1 }
+never = refl
+
+always : expand (Compare Equal) (two (operation (codes "-") (Var 0) (Var 0)) (Int (pos 0))) 1 ≡ Ok record { equated = []; ranges = []; fresh = 1 }
+always = refl
+
+-- X*Y #= 4, a #= X, and a coefficient of 2^63
+product : expand (Compare Equal) (two (operation (codes "*") (Var 0) (Var 1)) (Int (pos 4))) 2 ≡ Err Nonlinear
+product = refl
+
+not_a_sum : expand (Compare Equal) (two (Atom (codes "a")) (operation (codes "*") (Var 0) (Var 0))) 1 ≡ Err BadType
+not_a_sum = refl
+
+overflow : expand (Compare Equal) (two (operation (codes "-") (operation (codes "*") (Int (pos 9223372036854775807)) (Var 0)) (operation (codes "*") (Int (negsuc 0)) (Var 0))) (Int (pos 0))) 1 ≡ Err Evaluation
+overflow = refl
+
+-- fd_all_different([X|_]), fd_all_different([a|_]) and fd_all_different([-1])
+open_list : expand AllDifferent (term (cell (Var 0) (Var 1)) no_terms) 2 ≡ Err Instantiation
+open_list = refl
+
+wrong_element : expand AllDifferent (term (cell (Atom (codes "a")) (Var 1)) no_terms) 2 ≡ Err BadType
+wrong_element = refl
+
+one_integer : expand AllDifferent (term (cell (Int (negsuc 0)) end) no_terms) 0 ≡ Ok record { equated = (0, negsuc 0) ∷ []; ranges = record { target = 0; range = Span (Number (pos 0)) Infinity } ∷ []; fresh = 1 }
+one_integer = refl
+
+-- fd_element(I, [5,7,5], 5)
+abbrev elements : Terms
+elements = term (Var 0) (two (cell (Int (pos 5)) (cell (Int (pos 7)) (cell (Int (pos 5)) end))) (Int (pos 5)))
+
+element_rows : expand Element elements 1 ≡ Ok record { equated = (1, pos 5) ∷ []; ranges = element_ranges 0 (pos 5 ∷ pos 7 ∷ pos 5 ∷ []) 1; fresh = 2 }
+element_rows = refl
+
+-- fd_atmost(1, [3,Y], 3)
+abbrev counts : Terms
+counts = term (Int (pos 1)) (two (cell (Int (pos 3)) (cell (Var 0) end)) (Int (pos 3)))
+
+atmost_rows : expand Atmost counts 1 ≡ Ok record {
+  equated = (1, pos 3) ∷ [];
+  ranges =
+      counter (pos 3) 1 2 ∷ counted (pos 3) 1 2 ∷ counter (pos 3) 0 3 ∷ counted (pos 3) 0 3
+      ∷ record { target = 2; range = Span (Number (pos 0)) (DivDown (Sub (Number (pos 1)) (Mul (Number (pos 1)) (Min 3))) (Number (pos 1))) }
+      ∷ record { target = 3; range = Span (Number (pos 0)) (DivDown (Sub (Number (pos 1)) (Mul (Number (pos 1)) (Min 2))) (Number (pos 1))) } ∷ [];
+  fresh = 4;
+}
+atmost_rows = refl
+
+-- The sets of single ranges up to 9, where the variables from 0 on have these sets.
+abbrev sets : List (List ℕ) → Family
+sets ss v = slice_index_or ss v []
+
+abbrev range_at : ℕ → Result Expansion QueryFault → Range
+range_at n (Ok x) = (slice_index_or x.ranges n (record { target = 0; range = no_number })).range
+range_at n (Err f) = no_number
+
+-- X #\= Y where Y is 2, and where Y is open
+known_value : set_of 9 (sets ((1 ∷ 2 ∷ 3 ∷ []) ∷ (2 ∷ []) ∷ [])) (range_at 0 (expand (Compare Differ) (two (Var 0) (Var 1)) 2)) ≡ 0 ∷ 1 ∷ 3 ∷ 4 ∷ 5 ∷ 6 ∷ 7 ∷ 8 ∷ 9 ∷ []
+unfolding universe
+known_value = refl
+
+open_value : set_of 3 (sets ((1 ∷ 2 ∷ []) ∷ (2 ∷ 3 ∷ []) ∷ [])) (range_at 0 (expand (Compare Differ) (two (Var 0) (Var 1)) 2)) ≡ 0 ∷ 1 ∷ 2 ∷ 3 ∷ []
+unfolding universe
+open_value = refl
+
+-- X #< Y, where Y is at most 8
+below_eight : set_of 9 (sets ((0 ∷ []) ∷ (1 ∷ 8 ∷ []) ∷ [])) (range_at 0 (expand (Compare Less) (two (Var 0) (Var 1)) 2)) ≡ 0 ∷ 1 ∷ 2 ∷ 3 ∷ 4 ∷ 5 ∷ 6 ∷ 7 ∷ []
+unfolding universe
+below_eight = refl
+
+-- fd_element(I, [5,7,5], 5) has 1 and 3 for I
+indices : set_of 9 (sets ((0 ∷ 1 ∷ 2 ∷ 3 ∷ []) ∷ (5 ∷ []) ∷ [])) (range_at 1 (expand Element elements 1)) ≡ 1 ∷ 3 ∷ []
+unfolding universe
+indices = refl
+
+-- in fd_atmost(1, [3,Y], 3) the counter of 3 is 1, that of Y then is 0, and Y isn't 3
+first_counter : set_of 4 (sets ((3 ∷ 4 ∷ []) ∷ (3 ∷ []) ∷ (0 ∷ 1 ∷ []) ∷ (0 ∷ 1 ∷ []) ∷ [])) (range_at 0 (expand Atmost counts 1)) ≡ 1 ∷ []
+unfolding universe
+first_counter = refl
+
+second_counter : set_of 4 (sets ((3 ∷ 4 ∷ []) ∷ (3 ∷ []) ∷ (1 ∷ []) ∷ (0 ∷ 1 ∷ []) ∷ [])) (range_at 5 (expand Atmost counts 1)) ≡ 0 ∷ []
+unfolding universe
+second_counter = refl
+
+counted_variable : set_of 4 (sets ((3 ∷ 4 ∷ []) ∷ (3 ∷ []) ∷ (1 ∷ []) ∷ (0 ∷ []) ∷ [])) (range_at 3 (expand Atmost counts 1)) ≡ 0 ∷ 1 ∷ 2 ∷ 4 ∷ []
+unfolding universe
+counted_variable = refl
+
+-- ---- a flat query
+
+-- X in 0..1, X #\= Y, and the labelling of X and Y
+abbrev flat_goals : List Goal
+flat_goals = Post (Var 0) (Span (Number (pos 0)) (Number (pos 1))) ∷ Constrain (Compare Differ) (operation (codes "#\\=") (Var 0) (Var 1)) ∷ []
+
+abbrev flat_list : Term
+flat_list = cell (Var 0) (cell (Var 1) end)
+
+abbrev flat_query : Query
+flat_query = record { variables = 2; names = codes "X" ∷ codes "Y" ∷ []; shown = 0 ∷ 1 ∷ []; goals = flat_goals ++ Label Leftmost flat_list ∷ [] }
+
+each_listed : (x : ℕ) → x < 2 → has (0 ∷ 1 ∷ []) x ≡ true
+each_listed zero h = refl
+each_listed (suc zero) h = refl
+each_listed (suc (suc x)) h = absurd (omega arith)
+
+a_flat_query : IsFlat 3 flat_query flat_goals Leftmost (Open 0 ∷ Open 1 ∷ [])
+a_flat_query = record { list = flat_list; goals = refl; read = refl; flat = ((refl, refl), ((refl, omega arith), tt)); every = each_listed }
+
+-- its events
+flat_query_events : (prog : Program) (n : ℕ) (es : List Event) (r : ℕ) → Run 3 prog flat_query n None (start_of flat_query ∷ []) es r → AreFlatEvents 3 flat_query flat_goals Leftmost (0 ∷ 1 ∷ []) es
+flat_query_events prog n es r run =
+    flat_events 3 prog flat_query n None es r flat_goals Leftmost (Open 0 ∷ Open 1 ∷ []) (omega arith) ((omega arith, tt), ((omega arith, (omega arith, tt)), ((omega arith, ((omega arith, (tt, tt)), tt)), tt))) (omega arith, (omega arith, tt)) a_flat_query run
+
+-- (1, 0) satisfies its goals, and (1, 1) doesn't
+differs : IsSatisfied 3 (λ x. if x == 0 then 1 else 0) (Constrain (Compare Differ) (operation (codes "#\\=") (Var 0) (Var 1)))
+differs e = absurd (cc)
+
+same_no : IsSatisfied 3 (λ x. 1) (Constrain (Compare Differ) (operation (codes "#\\=") (Var 0) (Var 1))) → ⊥
+same_no h = h refl

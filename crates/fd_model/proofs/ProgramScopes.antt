@@ -1,0 +1,234 @@
+-- The program of accepted sentences names no variable beyond those of each sentence.
+use Rattle.std.proofs.Common.{◌≡◌, ℕ, suc, ◌+◌, ◌<◌, ◌≤◌, Bool, true, false, cond, ◌==◌, List, [], ◌∷◌, ◌++◌, map, length, Option, Some, None, refl, subst, inl, inr, arith, eq-eqb}
+use Rattle.std.proofs.lemmas.Bool.{or_left}
+use Rattle.std.specs.Str.{bytes_eq}
+use Rattle.std.specs.Prelude.{codes}
+use Rattle.fd_language.specs.Term.{Name, Term, Terms, Var, Int, Atom, Comp, no_terms, term}
+use Rattle.fd_language.specs.PlacedTerm.{PlacedTerm, var, int, atom, comp, no_parts, part, plain}
+use Rattle.fd_language.specs.Family.{has}
+use Rattle.fd_language.specs.Range.{Range, One, Outside, Over, Expr, Infinity, Val, DivUp}
+use Rattle.fd_language.specs.Places.{expr_places, range_places}
+use Rattle.fd_language.specs.Spelling.{Reading, read, offends, expr_operator, expr_feature, read_feature, read_operator, read_expr, RangeForm, of_terms, of_ranges, pointwise, no_form, range_form, empty_range, read_form, read_dom, read_one, read_range}
+use Rattle.fd_language.specs.Variables.{variables_of, variables_of_all}
+use Rattle.fd_language.specs.Reading.{Sentence, sentences, token_fault, syntax_fault, too_deep}
+use Rattle.fd_language.specs.Reading as reading
+use Rattle.fd_model.specs.Refusals.{Form, query, clause, directive, fact, form_of, goals_of, Refusal, first_refusal}
+use Rattle.fd_model.specs.Queries.{goal_of, is_shown, shown_from, queries_by, queries_of, program_of}
+use Rattle.fd_model.specs.Goal.{Post, Call, Query, Program}
+use Rattle.fd_model.specs.Sound.{TermBelow, TermsBelow, PlacesBelow, RangeBelow, GoalBelow, EachBelow, NumbersBelow, QueriesScoped, IsScoped}
+use Rattle.fd_model.specs.Verdict.{accepted, refused, sentences_verdict, reading_verdict}
+use Rattle.fd_model.specs.ProgramLaws.{ScopedProgram}
+use Rattle.fd_language.specs.Lists.{Each}
+use Rattle.fd_language.proofs.Monotone.{in_left, in_right}
+use Rattle.fd_model.proofs.Lists.{each_both}
+use Rattle.fd_model.proofs.Scoping.{places_both}
+use Rattle.fd_language.proofs.SentenceVariables.{each_below}
+
+either : {A : Type 0} (P : A → Type 0) (b : Bool) (x y : A) → P x → P y → P (cond b x y)
+either P true x y h g = h
+either P false x y h g = g
+
+mutual
+  term_below : (n : ℕ) (t : Term) → ((x : ℕ) → has (variables_of t) x ≡ true → x < n) → TermBelow n t
+  term_below n (Var x) h = h x (or_left (x == x) false (eq-eqb x x refl))
+  term_below n (Int z) h = tt
+  term_below n (Atom a) h = tt
+  term_below n (Comp f ts) h = terms_below n ts h
+
+  terms_below : (n : ℕ) (ts : Terms) → ((x : ℕ) → has (variables_of_all ts) x ≡ true → x < n) → TermsBelow n ts
+  terms_below n no_terms h = tt
+  terms_below n (term t ts) h = (term_below n t (λ x i. h x (in_left (variables_of t) (variables_of_all ts) x i)), terms_below n ts (λ x i. h x (in_right (variables_of t) (variables_of_all ts) x i)))
+
+-- ---- ranges
+
+module _ (n : ℕ) where
+  abbrev Scoped : Expr → Type 0
+  Scoped e = PlacesBelow n (expr_places e)
+
+  abbrev ScopedRead : Reading Expr → Type 0
+  ScopedRead e = PlacesBelow n (expr_places e.value)
+
+  abbrev RangeRead : Reading Range → Type 0
+  RangeRead r = RangeBelow n r.value
+
+  abbrev Feature : Option (ℕ → Expr) → Type 0
+  Feature None = Unit {0}
+  Feature (Some make) = (y : ℕ) → y < n → Scoped (make y)
+
+  abbrev Operator : Option (Expr → Expr → Expr) → Type 0
+  Operator None = Unit {0}
+  Operator (Some make) = (a b : Expr) → Scoped a → Scoped b → Scoped (make a b)
+
+  both_scoped : (a b : Expr) → Scoped a → Scoped b → PlacesBelow n (expr_places a ++ expr_places b)
+  both_scoped a b h g = places_both n (expr_places a) (expr_places b) h g
+
+  feature_is : (f : Name) → Feature (expr_feature f)
+  feature_is f =
+      either Feature (bytes_eq f (codes "min")) _ _ (λ y h. (h, tt))
+      (either Feature (bytes_eq f (codes "max")) _ _ (λ y h. (h, tt)) (either Feature (bytes_eq f (codes "val")) (Some Val) None (λ y h. (h, tt)) tt))
+
+  operator_is : (f : Name) → Operator (expr_operator f)
+  operator_is f =
+      either Operator (bytes_eq f (codes "+")) _ _ both_scoped
+      (either Operator (bytes_eq f (codes "-")) _ _ both_scoped
+      (either Operator (bytes_eq f (codes "*")) _ _ both_scoped
+      (either Operator (bytes_eq f (codes "/<")) _ _ both_scoped (either Operator (bytes_eq f (codes "/>")) (Some DivUp) None both_scoped tt))))
+
+  read_feature_scoped : (o : Option (ℕ → Expr)) (features : Bool) (p y : ℕ) → Feature o → y < n → ScopedRead (read_feature o features p y)
+  read_feature_scoped None features p y h l = tt
+  read_feature_scoped (Some make) true p y h l = h y l
+  read_feature_scoped (Some make) false p y h l = tt
+
+  read_operator_scoped : (o : Option (Expr → Expr → Expr)) (p : ℕ) (a b : Reading Expr) → Operator o → ScopedRead a → ScopedRead b → ScopedRead (read_operator o p a b)
+  read_operator_scoped None p a b h i j = tt
+  read_operator_scoped (Some make) p a b h i j = h a.value b.value i j
+
+  expr_scoped : (features : Bool) (t : PlacedTerm) → TermBelow n (plain t) → ScopedRead (read_expr features t)
+  expr_scoped features (var x p) h = (h, tt)
+  expr_scoped features (int z p) h = tt
+  expr_scoped features (atom a p) h = either ScopedRead (bytes_eq a (codes "infinity")) (read Infinity p) (offends Infinity p) tt tt
+  expr_scoped features (comp f p no_parts) h = tt
+  expr_scoped features (comp f p (part (var y q) no_parts)) h = read_feature_scoped (expr_feature f) features p y (feature_is f) h.0
+  expr_scoped features (comp f p (part (int z q) no_parts)) h = tt
+  expr_scoped features (comp f p (part (atom a q) no_parts)) h = tt
+  expr_scoped features (comp f p (part (comp g q ts) no_parts)) h = tt
+  expr_scoped features (comp f p (part a (part b no_parts))) h = read_operator_scoped (expr_operator f) p (read_expr features a) (read_expr features b) (operator_is f) (expr_scoped features a h.0) (expr_scoped features b h.1.0)
+  expr_scoped features (comp f p (part a (part b (part c ts)))) h = tt
+
+  abbrev IsForm : RangeForm → Type 0
+  IsForm (of_terms make) = (a b : Expr) → Scoped a → Scoped b → RangeBelow n (make a b)
+  IsForm (of_ranges make) = (r q : Range) → RangeBelow n r → RangeBelow n q → RangeBelow n (make r q)
+  IsForm (pointwise make) = (r : Range) (c : Expr) → RangeBelow n r → Scoped c → RangeBelow n (make r c)
+  IsForm no_form = Unit {0}
+
+  ranges_scoped : (r q : Range) → RangeBelow n r → RangeBelow n q → PlacesBelow n (range_places r ++ range_places q)
+  ranges_scoped r q h g = places_both n (range_places r) (range_places q) h g
+
+  point_scoped : (r : Range) (c : Expr) → RangeBelow n r → Scoped c → PlacesBelow n (range_places r ++ expr_places c)
+  point_scoped r c h g = places_both n (range_places r) (expr_places c) h g
+
+  form_is : (f : Name) → IsForm (range_form f)
+  form_is f =
+      either IsForm (bytes_eq f (codes "..")) _ _ both_scoped
+      (either IsForm (bytes_eq f (codes ":")) _ _ ranges_scoped
+      (either IsForm (bytes_eq f (codes "&")) _ _ ranges_scoped
+      (either IsForm (bytes_eq f (codes "+")) _ _ point_scoped
+      (either IsForm (bytes_eq f (codes "-")) _ _ point_scoped
+      (either IsForm (bytes_eq f (codes "*")) _ _ point_scoped (either IsForm (bytes_eq f (codes "/")) (pointwise Over) no_form point_scoped tt))))))
+
+  read_form_scoped : (o : RangeForm) (p : ℕ) (r q : Reading Range) (a b c : Reading Expr) → IsForm o → RangeRead r → RangeRead q → ScopedRead a → ScopedRead b → ScopedRead c → RangeRead (read_form o p r q a b c)
+  read_form_scoped (of_terms make) p r q a b c h i j k l m = h a.value b.value k l
+  read_form_scoped (of_ranges make) p r q a b c h i j k l m = h r.value q.value i j
+  read_form_scoped (pointwise make) p r q a b c h i j k l m = h r.value c.value i m
+  read_form_scoped no_form p r q a b c h i j k l m = tt
+
+  dom_scoped : (t : PlacedTerm) (p : ℕ) → TermBelow n (plain t) → RangeRead (read_dom t p)
+  dom_scoped (var y q) p h = (h, tt)
+  dom_scoped (int z q) p h = tt
+  dom_scoped (atom a q) p h = tt
+  dom_scoped (comp f q ts) p h = tt
+
+  range_scoped : (t : PlacedTerm) → TermBelow n (plain t) → RangeRead (read_range t)
+  range_scoped (var x p) h = tt
+  range_scoped (int z p) h = tt
+  range_scoped (atom a p) h = tt
+  range_scoped (comp f p no_parts) h = tt
+  range_scoped (comp f p (part t no_parts)) h =
+      either RangeRead (bytes_eq f (codes "{}")) (read_one One p (read_expr true t)) _ (expr_scoped true t h.0)
+      (either RangeRead (bytes_eq f (codes "-")) (read_one Outside p (read_range t)) _ (range_scoped t h.0)
+      (either RangeRead (bytes_eq f (codes "dom")) (read_dom t p) (offends empty_range p) (dom_scoped t p h.0) tt))
+  range_scoped (comp f p (part a (part b no_parts))) h =
+      read_form_scoped (range_form f) p (read_range a) (read_range b) (read_expr true a) (read_expr true b) (read_expr false b) (form_is f)
+      (range_scoped a h.0) (range_scoped b h.1.0) (expr_scoped true a h.0) (expr_scoped true b h.1.0) (expr_scoped false b h.1.0)
+  range_scoped (comp f p (part a (part b (part c ts)))) h = tt
+
+  -- ---- goals
+
+  abbrev IsBelow : PlacedTerm → Type 0
+  IsBelow t = TermBelow n (plain t)
+
+  goal_scoped : (t : PlacedTerm) → IsBelow t → GoalBelow n (goal_of t)
+  goal_scoped (var x p) h = h
+  goal_scoped (int z p) h = h
+  goal_scoped (atom a p) h = h
+  goal_scoped (comp f p no_parts) h = h
+  goal_scoped (comp f p (part (var x q) no_parts)) h = h
+  goal_scoped (comp f p (part (int z q) no_parts)) h = h
+  goal_scoped (comp f p (part (atom a q) no_parts)) h = h
+  goal_scoped (comp f p (part (comp g q us) no_parts)) h = h
+  goal_scoped (comp f p (part (var x q) (part r no_parts))) h =
+      either (GoalBelow n) (bytes_eq f (codes "in")) (Post (Var x) (read_range r).value) (Call (plain (comp f p (part (var x q) (part r no_parts))))) (h.0, range_scoped r h.1.0) h
+  goal_scoped (comp f p (part (int z q) (part r no_parts))) h = h
+  goal_scoped (comp f p (part (atom a q) (part r no_parts))) h = h
+  goal_scoped (comp f p (part (comp g q ts) (part r no_parts))) h = h
+  goal_scoped (comp f p (part (var x q) (part b (part c ts)))) h = h
+  goal_scoped (comp f p (part (int z q) (part b (part c ts)))) h = h
+  goal_scoped (comp f p (part (atom a q) (part b (part c ts)))) h = h
+  goal_scoped (comp f p (part (comp g q us) (part b (part c ts)))) h = h
+
+  goals_below : (t : PlacedTerm) → IsBelow t → Each IsBelow (goals_of t)
+  goals_below (var x p) h = (h, tt)
+  goals_below (int z p) h = (h, tt)
+  goals_below (atom a p) h = (h, tt)
+  goals_below (comp f p no_parts) h = (h, tt)
+  goals_below (comp f p (part a no_parts)) h = (h, tt)
+  goals_below (comp f p (part a (part b no_parts))) h =
+      either (Each IsBelow) (bytes_eq f (codes ",")) (goals_of a ++ goals_of b) (comp f p (part a (part b no_parts)) ∷ []) (each_both IsBelow (goals_of a) (goals_of b) (goals_below a h.0) (goals_below b h.1.0)) (h, tt)
+  goals_below (comp f p (part a (part b (part c ts)))) h = (h, tt)
+
+  goals_scoped : (ts : List PlacedTerm) → Each IsBelow ts → EachBelow n (map goal_of ts)
+  goals_scoped [] h = tt
+  goals_scoped (t ∷ ts) h = (goal_scoped t h.0, goals_scoped ts h.1)
+
+  -- ---- sentences
+
+  abbrev IsFormBelow : Form → Type 0
+  IsFormBelow (query b) = IsBelow b
+  IsFormBelow (clause h b) = Unit {0}
+  IsFormBelow directive = Unit {0}
+  IsFormBelow (fact t) = Unit {0}
+
+  form_below : (t : PlacedTerm) → IsBelow t → IsFormBelow (form_of t)
+  form_below (var x p) h = tt
+  form_below (int z p) h = tt
+  form_below (atom a p) h = tt
+  form_below (comp f p no_parts) h = tt
+  form_below (comp f p (part b no_parts)) h =
+      either IsFormBelow (bytes_eq f (codes "?-")) (query b) _ h.0 (either IsFormBelow (bytes_eq f (codes ":-")) directive (fact (comp f p (part b no_parts))) tt tt)
+  form_below (comp f p (part a (part b no_parts))) h = either IsFormBelow (bytes_eq f (codes ":-")) (clause a b) (fact (comp f p (part a (part b no_parts)))) tt tt
+  form_below (comp f p (part a (part b (part c ts)))) h = tt
+
+  shown_below : (k : ℕ) (names : List Name) → k + length names ≤ n → NumbersBelow n (shown_from k names)
+  shown_below k [] l = tt
+  shown_below k (name ∷ names) l =
+      let later = shown_below (suc k) names (omega arith) in
+      either (NumbersBelow n) (is_shown name) (k ∷ shown_from (suc k) names) (shown_from (suc k) names) (omega arith, later) later
+
+query_scoped : (names : List Name) (form : Form) (later : List Query) → IsFormBelow (length names) form → QueriesScoped later → QueriesScoped (queries_by names form later)
+query_scoped names (query b) later h g = ((shown_below (length names) 0 names (omega arith), goals_scoped (length names) (goals_of b) (goals_below (length names) b h)), g)
+query_scoped names (clause a b) later h g = g
+query_scoped names directive later h g = g
+query_scoped names (fact t) later h g = g
+
+queries_scoped : (ss : List Sentence) → Each (λ s. (x : ℕ) → has (variables_of (plain s.term)) x ≡ true → x < length s.names) ss → QueriesScoped (queries_of ss)
+queries_scoped [] h = tt
+queries_scoped (s ∷ ss) h = query_scoped s.names (form_of s.term) (queries_of ss) (form_below (length s.names) s.term (term_below (length s.names) (plain s.term) h.0)) (queries_scoped ss h.1)
+
+accepted_scoped : (ss : List Sentence) (o : Option Refusal) (prog : Program) → accepted prog ≡ sentences_verdict ss o → IsScoped (program_of ss) → IsScoped prog
+accepted_scoped ss None prog e h = let k : program_of ss ≡ prog = cc in subst IsScoped k h
+accepted_scoped ss (Some r) prog e h = absurd (cc)
+
+read_scoped : (M : ℕ) (text : List ℕ) (prog : Program) (r : reading.Reading) → reading.IsReading text r → accepted prog ≡ reading_verdict M r → IsScoped prog
+read_scoped M text prog (sentences ss) h e =
+    accepted_scoped ss (first_refusal M (map (λ s. s.term) ss) (map (λ s. s.term) ss)) prog e (record { clauses = tt; queries = queries_scoped ss (each_below text ss h) })
+read_scoped M text prog (token_fault cause place) h e = absurd (cc)
+read_scoped M text prog (syntax_fault place) h e = absurd (cc)
+read_scoped M text prog (too_deep place) h e = absurd (cc)
+
+not_accepted : (p : ℕ) (reason : List ℕ) (prog : Program) → accepted prog ≡ refused p reason → ⊥
+not_accepted p reason prog e = cc
+
+pub scoped_program : ScopedProgram
+scoped_program M text prog (inl h) = absurd (not_accepted _ _ prog h.1)
+scoped_program M text prog (inr (inl h)) = absurd (not_accepted _ _ prog h.2)
+scoped_program M text prog (inr (inr h)) = read_scoped M text prog h.2.0 h.2.1 h.2.2

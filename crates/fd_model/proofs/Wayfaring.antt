@@ -1,0 +1,331 @@
+-- What a way keeps: variables below the next fresh number, and added variables that follow the others.
+use Rattle.std.proofs.Common.{◌≡◌, ℕ, suc, ◌+◌, ◌<◌, ◌≤◌, Bool, true, false, not, cond, ◌||◌, ◌==◌, ℤ, List, [], ◌∷◌, ◌++◌, map, length, Option, Some, None, refl, sym, subst, inl, inr, arith, eqb-true, eq-eqb, Result, Ok, Err}
+use Rattle.std.proofs.lemmas.Bool.{or_cases, or_left, or_right, cases_Bool, true≢false}
+use Rattle.std.specs.Str.{bytes_eq}
+use Rattle.std.specs.Prelude.{codes}
+use Rattle.fd_model.specs.declared.kinds.QueryFault.{QueryFault}
+use Rattle.fd_model.specs.declared.kinds.Order.{Order}
+use Rattle.fd_model.specs.declared.kinds.Order.TheVariants.{Leftmost, FirstFail}
+use Rattle.fd_model.specs.declared.kinds.BuiltinKind.{BuiltinKind}
+use Rattle.fd_model.specs.declared.kinds.BuiltinKind.TheVariants.{Write, Nl}
+use Rattle.fd_language.specs.Term.{Term, Terms, Var, Int, Atom, Comp, Substitution, apply, no_terms, term}
+use Rattle.fd_language.specs.Unifier.{Equation}
+use Rattle.fd_language.specs.Family.{has}
+use Rattle.fd_language.specs.Range.{Range, Span, One, Dom, Union, Inter, Outside, Plus, Minus, Times, Over, Expr, Number, Infinity, Param, Min, Max, Val, Add, Sub, Mul, DivDown, DivUp, Indexical, reads, expr_reads}
+use Rattle.fd_model.specs.Closed.{constrained}
+use Rattle.fd_language.specs.Check.{fill, fill_range}
+use Rattle.fd_language.specs.Needs.{need_of}
+use Rattle.fd_language.specs.RangeRenaming.{rename_range}
+use Rattle.fd_model.specs.Renaming.{rename_term, rename_goal}
+use Rattle.fd_language.specs.Places.{Place, place, range_places}
+use Rattle.fd_model.specs.Posting.{is_integer, integer_of, integers_at, slot, slot_equations, Found, offends, posts, first_offence, unless_offence, post}
+use Rattle.fd_model.specs.Goal.{Goal, Clause, listed, True, Fail, Unify, Post, Constrain, Label, Call, Either, Builtin, Program, Query, Branch}
+use Rattle.fd_model.specs.Sound.{TermBelow, TermsBelow, PlacesBelow, GoalBelow, EachBelow, ClausesScoped}
+use Rattle.fd_model.specs.Seen.{IsConsistent}
+use Rattle.fd_model.specs.Children.{Offer, Faults, Gives, Awaited, with_goals, with_equations, fits_head, paired, argument_equations, by_clause, by_clauses, by_post, by_constraint, by_builtin, Kept, KeptOffer, look_in, offer, is_number, by_value, by_pick, by_listing, sets_in}
+use Rattle.fd_language.proofs.Sets.{has_either}
+use Rattle.fd_language.proofs.RangeRenaming.{two}
+use Rattle.fd_model.specs.Labelling.{read_list, values_by, first_open, pick, open_ones}
+use Rattle.fd_model.specs.Members.{Member, Open, Known}
+use Rattle.fd_model.proofs.GoalRows.{Rewritten, with_ranges, rewritten, EquationsBelow, IsFollowing}
+use Rattle.fd_language.specs.Lists.{Each}
+use Rattle.fd_model.specs.Answers.{Settles}
+use Rattle.fd_model.specs.Ways.{Way, begins, goes, added_in, added_by, WayAnswers}
+use Rattle.fd_model.proofs.Lists.{each_both, each_at}
+use Rattle.fd_model.proofs.Completing.{labelling_answers}
+use Rattle.fd_model.proofs.Heeding.{first_member}
+use Rattle.fd_model.proofs.Listing.{Cell, cell_of, variable, integer, with_element}
+use Rattle.fd_model.proofs.Picking.{fewest_there}
+use Rattle.fd_model.proofs.Slots.{slot_out, slot_high}
+use Rattle.fd_model.proofs.PostRows.{renamed, renamed_from}
+use Rattle.fd_model.proofs.ListNames.{named_left, named_right}
+use Rattle.fd_model.proofs.Growing.{constrained_either, settles_both}
+use Rattle.fd_model.proofs.Seeing.{wider, arguments_below as terms_below}
+use Rattle.fd_model.proofs.ExactRows.{following}
+use Rattle.fd_model.specs.LinearRows.{Expansion}
+use Rattle.fd_model.specs.Constraining.{constrain, arguments}
+use Rattle.fd_model.proofs.Scoping.{below_under, look_below, equations_wider, each_wider, each_both_below, listed_below, places_wider, term_renamed, body_renamed}
+use Rattle.fd_model.proofs.PostingRanges.{reads_below}
+
+-- a filled range reads the same variables
+module _ (f : ℕ → ℤ) where
+  expr_filled : (e : Expr) → expr_reads (fill f e) ≡ expr_reads e
+  expr_filled (Number z) = refl
+  expr_filled Infinity = refl
+  expr_filled (Param x) = refl
+  expr_filled (Min y) = refl
+  expr_filled (Max y) = refl
+  expr_filled (Val y) = refl
+  expr_filled (Add a b) = two (λ x y. x ++ y) (expr_filled a) (expr_filled b)
+  expr_filled (Sub a b) = two (λ x y. x ++ y) (expr_filled a) (expr_filled b)
+  expr_filled (Mul a b) = two (λ x y. x ++ y) (expr_filled a) (expr_filled b)
+  expr_filled (DivDown a b) = two (λ x y. x ++ y) (expr_filled a) (expr_filled b)
+  expr_filled (DivUp a b) = two (λ x y. x ++ y) (expr_filled a) (expr_filled b)
+
+  reads_filled : (r : Range) → reads (fill_range f r) ≡ reads r
+  reads_filled (Span a b) = two (λ x y. x ++ y) (expr_filled a) (expr_filled b)
+  reads_filled (One t) = expr_filled t
+  reads_filled (Dom y) = refl
+  reads_filled (Union r q) = two (λ x y. x ++ y) (reads_filled r) (reads_filled q)
+  reads_filled (Inter r q) = two (λ x y. x ++ y) (reads_filled r) (reads_filled q)
+  reads_filled (Outside r) = reads_filled r
+  reads_filled (Plus r c) = two (λ x y. x ++ y) (reads_filled r) (expr_filled c)
+  reads_filled (Minus r c) = two (λ x y. x ++ y) (reads_filled r) (expr_filled c)
+  reads_filled (Times r c) = two (λ x y. x ++ y) (reads_filled r) (expr_filled c)
+  reads_filled (Over r c) = two (λ x y. x ++ y) (reads_filled r) (expr_filled c)
+
+abbrev Low : ℕ → List ℕ → Type 0
+Low n xs = (x : ℕ) → has xs x ≡ true → x < n
+
+low_none : (n : ℕ) → Low n []
+low_none n x h = absurd (true≢false (sym h))
+
+-- what posting gives is below the next fresh number
+module _ (look : Substitution) where
+  abbrev Ints : List ℕ → Type 0
+  Ints ys = (y : ℕ) → has ys y ≡ true → is_integer (look y) ≡ true
+
+  ints_more : (ys : List ℕ) (x : ℕ) → Ints ys → is_integer (look x) ≡ true → Ints (ys ++ x ∷ [])
+  ints_more ys x h i y k = elim (has_either ys (x ∷ []) y k) [ inl j ↦ h y j | inr j ↦ elim (or_cases (x == y) false j) [ inl e ↦ subst (λ z. is_integer (look z) ≡ true) (eqb-true x y e) i | inr e ↦ absurd (true≢false (sym e)) ] ]
+
+  skipped : (p a b : Bool) → (p || (not a || b)) ≡ false → a ≡ true
+  skipped p a b h = grind arith
+
+  ints_at : (ps : List Place) (ys : List ℕ) → Ints ys → Ints (integers_at look ps ys)
+  ints_at [] ys h = h
+  ints_at (p ∷ ps) ys h = elim (cases_Bool (p.parameter || (not (is_integer (look p.variable)) || has ys p.variable))) [
+    | inl e ↦ rw e (ints_at ps ys h)
+    | inr e ↦ rw e (ints_at ps (ys ++ p.variable ∷ []) (ints_more ys p.variable h (skipped p.parameter (is_integer (look p.variable)) (has ys p.variable) e)))
+  ]
+
+  int_below : (m : ℕ) (t : Term) → is_integer t ≡ true → TermBelow m t
+  int_below m (Int z) h = tt
+  int_below m (Var x) h = absurd (true≢false (sym h))
+  int_below m (Atom a) h = tt
+  int_below m (Comp f ts) h = absurd (true≢false (sym h))
+
+  slots_below : (m n : ℕ) (ys : List ℕ) → n + length ys ≤ m → Ints ys → EquationsBelow m (slot_equations look n ys)
+  slots_below m n [] l h = tt
+  slots_below m n (y ∷ ys) l h = ((omega arith, int_below m (look y) (h y (first_member y ys))), slots_below m (suc n) ys (omega arith) (λ z i. h z (or_right (y == z) (has ys z) i)))
+
+  pub record IsBelow (n m : ℕ) (p : Indexical) (es : List Equation) : Type 0 where
+    pub fresh : n ≤ m
+    pub target : Low m (constrained (p ∷ []))
+    pub equations : EquationsBelow m es
+
+  no_posts : (f : QueryFault) (p : Indexical) (m : ℕ) (es : List Equation) → offends f ≡ posts p m es → ⊥
+  no_posts f p m es e = cc
+
+  at_below : (ps : List Place) (x : ℕ) (es ds : List Equation) (l n m : ℕ) (r : Range) (p : Indexical) → l ≤ n → x < n → EquationsBelow n es → PlacesBelow n (range_places r) → (o : Option QueryFault)
+      → unless_offence o (record { target = slot n (integers_at look ps []) x; range = rename_range (slot n (integers_at look ps [])) (fill_range (λ y. integer_of (look y)) r) }) (n + length (integers_at look ps [])) (es ++ slot_equations look n (integers_at look ps [])) ≡ posts p m ds → IsBelow l m p ds
+  at_below ps x es ds l n m r p le lx be br (Some f) e = absurd (no_posts f p m ds e)
+  at_below ps x es ds l n m r p le lx be br None e =
+      let ys = integers_at look ps [] in
+      let q = fill_range (λ y. integer_of (look y)) r in
+      let same_p : renamed q n x ys ≡ p = cc in
+      let same_m : n + length ys ≡ m = cc in
+      let same_e : es ++ slot_equations look n ys ≡ ds = cc in
+      let small : Low n (x ∷ reads q) = λ y h. elim (or_cases (x == y) (has (reads q) y) h) [ inl k ↦ subst (λ z. z < n) (eqb-true x y k) lx | inr k ↦ reads_below n y r br (subst (λ s. has s y ≡ true) (reads_filled (λ z. integer_of (look z)) r) k) ] in
+      let high : (y : ℕ) → y < n → slot n ys y < n + length ys = λ y h. elim (cases_Bool (has ys y)) [ inl k ↦ slot_high n ys y k | inr k ↦ subst (λ z. z < n + length ys) (sym (slot_out n ys y k)) (omega arith) ] in
+      subst (λ k. IsBelow l k p ds) same_m (subst (λ d. IsBelow l (n + length ys) p d) same_e (subst (λ k. IsBelow l (n + length ys) k (es ++ slot_equations look n ys)) same_p (record {
+        fresh = omega arith;
+        target = λ y h. (let g = renamed_from q n x ys y h in subst (λ z. z < n + length ys) g.2 (high g.0 (small g.0 g.1)));
+        equations = each_both (λ d. TermBelow (n + length ys) d.left × TermBelow (n + length ys) d.right) es (slot_equations look n ys) (equations_wider n (n + length ys) (omega arith) es be)
+            (slots_below (n + length ys) n ys (omega arith) (ints_at ps [] (λ y h. absurd (true≢false (sym h)))));
+      })))
+
+  pub post_below : (t : Term) (r : Range) (n m : ℕ) (p : Indexical) (es : List Equation) → TermBelow n t → PlacesBelow n (range_places r) → post look t r n ≡ posts p m es → IsBelow n m p es
+  post_below (Var v) r n m p es h b e = at_below (place v false ++ range_places r) v [] es n n m r p (omega arith) h tt b (first_offence (need_of r) look (place v false ++ range_places r)) e
+  post_below (Int z) r n m p es h b e = at_below (range_places r) n (record { left = Var n; right = Int z } ∷ []) es n (suc n) m r p (omega arith) (omega arith) ((omega arith, tt), tt) (places_wider n (suc n) (omega arith) (range_places r) b) (first_offence (need_of r) look (range_places r)) e
+  post_below (Atom a) r n m p es h b e = absurd (no_posts _ p m es e)
+  post_below (Comp f ts) r n m p es h b e = absurd (no_posts _ p m es e)
+
+-- the members of a list are below what its variables are below
+module _ (n : ℕ) where
+  cell_below : (t : Term) (l : Result (List Member) QueryFault) (ms : List Member) → TermBelow n t → Cell ms l t → ((rest : List Member) → l ≡ Ok rest → Low n (open_ones rest)) → Low n (open_ones ms)
+  cell_below _ l ms b (variable x rest e f) h = subst (λ k. Low n (open_ones k)) (sym e) (λ y i. elim (or_cases (x == y) (has (open_ones rest) y) i) [ inl k ↦ subst (λ z. z < n) (eqb-true x y k) b | inr k ↦ h rest f y k ])
+  cell_below _ l ms b (integer z rest e f) h = subst (λ k. Low n (open_ones k)) (sym e) (h rest f)
+
+  if_members : (b : Bool) (l : Result (List Member) QueryFault) (f : QueryFault) (ms : List Member) → cond b l (Err f) ≡ Ok ms → l ≡ Ok ms
+  if_members true l f ms e = e
+  if_members false l f ms e = absurd (cc)
+
+  pub list_below : (t : Term) (ms : List Member) → TermBelow n t → read_list t ≡ Ok ms → Low n (open_ones ms)
+  list_below (Var x) ms b e = absurd (cc)
+  list_below (Int z) ms b e = absurd (cc)
+  list_below (Atom a) ms b e = let h = if_members (bytes_eq a (codes "[]")) (Ok []) _ ms e in let k : [] ≡ ms = cc in subst (λ l. Low n (open_ones l)) k (low_none n)
+  list_below (Comp f no_terms) ms b e = absurd (cc)
+  list_below (Comp f (term h no_terms)) ms b e = absurd (cc)
+  list_below (Comp f (term h (term t no_terms))) ms b e =
+      cell_below h (read_list t) ms b.0 (cell_of h (read_list t) ms (if_members (bytes_eq f (codes ".")) (with_element h (read_list t)) _ ms e)) (λ rest g. list_below t rest b.1.0 g)
+  list_below (Comp f (term h (term t (term v vs)))) ms b e = absurd (cc)
+
+first_there : (ms : List Member) (x : ℕ) → first_open ms ≡ Some x → has (open_ones ms) x ≡ true
+first_there [] x e = absurd (cc)
+first_there (Known z ∷ ms) x e = first_there ms x e
+first_there (Open y ∷ ms) x e = let k : y ≡ x = cc in or_left (y == x) (has (open_ones ms) x) (eq-eqb y x k)
+
+pick_there : (o : Order) (values : ℕ → List ℕ) (ms : List Member) (x : ℕ) → pick o values ms ≡ Some x → has (open_ones ms) x ≡ true
+pick_there Leftmost values ms x e = first_there ms x e
+pick_there FirstFail values ms x e = fewest_there values ms x e
+
+-- the variables of a branch are below its next fresh number
+pub record IsSmall (b : Branch) : Type 0 where
+  pub goals : EachBelow b.fresh b.goals
+  pub equations : EquationsBelow b.fresh b.equations
+  pub posted : Low b.fresh (constrained b.posted)
+
+module _ (M : ℕ) (prog : Program) (scoped : ClausesScoped prog.clauses) where
+  -- what a way keeps
+  pub record IsTracked (b : Branch) (ws : List ℕ) : Type 0 where
+    pub small : IsSmall b
+    pub settles : Settles M b.posted ws
+    pub inside : (x : ℕ) → has ws x ≡ true → has (constrained b.posted) x ≡ true
+
+  module _ (b : Branch) (ws : List ℕ) (tracked : IsTracked b ws) (g : Goal) (rest : List Goal) (head : GoalBelow b.fresh g) (others : EachBelow b.fresh rest) (look : Substitution) (seen : (x : ℕ) → x < b.fresh → TermBelow b.fresh (look x)) where
+    -- the ranges are as they were
+    same_posted : (c : Branch) → c.posted ≡ b.posted → IsSmall c → IsTracked c ws
+    same_posted c e small = record {
+      small = small;
+      settles = subst (λ ps. Settles M ps ws) (sym e) tracked.settles;
+      inside = subst (λ ps. (x : ℕ) → has ws x ≡ true → has (constrained ps) x ≡ true) (sym e) tracked.inside;
+    }
+
+    same_goals : (gs : List Goal) → EachBelow b.fresh gs → IsTracked (with_goals b gs) ws
+    same_goals gs h = same_posted (with_goals b gs) refl (record { goals = h; equations = tracked.small.equations; posted = tracked.small.posted })
+
+    more_equations : (gs : List Goal) (es : List Equation) (n : ℕ) → b.fresh ≤ n → EachBelow n gs → EquationsBelow n es → IsTracked (with_equations b gs es n) ws
+    more_equations gs es n l h k = same_posted (with_equations b gs es n) refl (record {
+      goals = h;
+      equations = each_both (λ d. TermBelow n d.left × TermBelow n d.right) es b.equations k (equations_wider b.fresh n l b.equations tracked.small.equations);
+      posted = λ x c. (let i = tracked.small.posted x c in omega arith);
+    })
+
+    -- with a row
+    more_ranges : (w : Rewritten) → IsFollowing M b.fresh w → IsTracked (with_ranges b rest w) (w.added ++ ws)
+    more_ranges w k = record {
+      small = record {
+        goals = each_wider b.fresh w.fresh k.fresh rest others;
+        equations = each_both (λ d. TermBelow w.fresh d.left × TermBelow w.fresh d.right) w.equations b.equations k.equations (equations_wider b.fresh w.fresh k.fresh b.equations tracked.small.equations);
+        posted = λ x c. elim (constrained_either w.ranges b.posted x c) [ inl i ↦ k.below x i | inr i ↦ (let j = tracked.small.posted x i in let l = k.fresh in omega arith) ];
+      };
+      settles = settles_both M w.ranges b.posted w.added ws k.settles tracked.settles
+          (λ x c. elim (cases_Bool (has w.added x)) [ inl i ↦ absurd (let j = (k.added x i).0 in let l = tracked.small.posted x c in omega arith) | inr i ↦ i ]) tracked.inside;
+      inside = λ x h. elim (has_either w.added ws x h) [ inl i ↦ named_left w.ranges b.posted x (k.added x i).1 | inr i ↦ named_right w.ranges b.posted x (tracked.inside x i) ];
+    }
+
+    abbrev Tracks : List ℕ → Offer → Type 0
+    Tracks us (Faults f) = Unit {0}
+    Tracks us (Gives cs) = Each (λ c. IsTracked c us) cs
+    Tracks us Awaited = Unit {0}
+
+    by_posting : (f : Found) → ((p : Indexical) (m : ℕ) (es : List Equation) → f ≡ posts p m es → IsBelow look b.fresh m p es) → Tracks ws (by_post b rest f)
+    by_posting (offends f) h = tt
+    by_posting (posts p m es) h = let k = h p m es refl in (
+      more_ranges (record { ranges = p ∷ []; equations = es; fresh = m; added = [] })
+          (record { fresh = k.fresh; below = k.target; equations = k.equations; added = λ x i. absurd (true≢false (sym i)); settles = λ S family closed full others x c. others x c refl }),
+      tt,
+    )
+
+    by_row : (r : Result Expansion QueryFault) → ((x : Expansion) → r ≡ Ok x → IsFollowing M b.fresh (rewritten b.fresh x)) → Tracks (added_in b.fresh r ++ ws) (by_constraint b rest r)
+    by_row (Err f) h = tt
+    by_row (Ok x) h = (more_ranges (rewritten b.fresh x) (h x refl), tt)
+
+    by_numbers : (x : ℕ) → x < b.fresh → (ns : List ℕ) → Each (λ c. IsTracked c ws) (map (by_value b (g ∷ rest) x) ns)
+    by_numbers x l [] = tt
+    by_numbers x l (n ∷ ns) = (more_equations (g ∷ rest) (is_number x n ∷ []) b.fresh (omega arith) (head, others) ((l, tt), tt), by_numbers x l ns)
+
+    by_picked : (values : ℕ → List ℕ) (r : Option ℕ) → ((x : ℕ) → r ≡ Some x → x < b.fresh) → Tracks ws (by_pick values b g rest r)
+    by_picked values None h = (same_goals rest others, tt)
+    by_picked values (Some x) h = by_numbers x (h x refl) (values x)
+
+    by_listed : (values : ℕ → List ℕ) (o : Order) (l : Result (List Member) QueryFault) → ((ms : List Member) → l ≡ Ok ms → Low b.fresh (open_ones ms)) → Tracks ws (by_listing values b o g rest l)
+    by_listed values o (Err f) h = tt
+    by_listed values o (Ok ms) h = by_picked values (pick o values ms) (λ x e. h ms refl x (pick_there o values ms x e))
+
+    paired_below : (n : ℕ) (ts us : Terms) → TermsBelow n ts → TermsBelow n us → EquationsBelow n (paired ts us)
+    paired_below n no_terms us h k = tt
+    paired_below n (term t ts) no_terms h k = tt
+    paired_below n (term t ts) (term u us) h k = ((h.0, k.0), paired_below n ts us h.1 k.1)
+
+    arguments_below : (n : ℕ) (t u : Term) → TermBelow n t → TermBelow n u → EquationsBelow n (argument_equations t u)
+    arguments_below n (Comp f ts) (Comp h us) i k = paired_below n ts us i k
+    arguments_below n (Comp f ts) (Var x) i k = tt
+    arguments_below n (Comp f ts) (Int z) i k = tt
+    arguments_below n (Comp f ts) (Atom a) i k = tt
+    arguments_below n (Var x) u i k = tt
+    arguments_below n (Int z) u i k = tt
+    arguments_below n (Atom a) u i k = tt
+
+    clause_tracked : (t : Term) (c : Clause) → TermBelow b.fresh t → TermBelow c.variables c.head → EachBelow c.variables c.body → IsTracked (by_clause b t rest c) ws
+    clause_tracked t c h i k =
+        let shift : (x : ℕ) → x < c.variables → b.fresh + x < b.fresh + c.variables = λ x l. omega arith in
+        more_equations _ _ (b.fresh + c.variables) (omega arith)
+        (each_both_below (b.fresh + c.variables) (map (rename_goal (λ x. b.fresh + x)) c.body) rest (body_renamed c.variables (b.fresh + c.variables) (λ x. b.fresh + x) shift c.body k) (each_wider b.fresh (b.fresh + c.variables) (omega arith) rest others))
+        (arguments_below (b.fresh + c.variables) t (rename_term (λ x. b.fresh + x) c.head) (wider b.fresh (b.fresh + c.variables) (omega arith) t h) (term_renamed c.variables (b.fresh + c.variables) (λ x. b.fresh + x) shift c.head i))
+
+    by_head : (fits : Bool) (c : Branch) (cs : List Branch) → IsTracked c ws → Each (λ d. IsTracked d ws) cs → Each (λ d. IsTracked d ws) (cond fits (c ∷ cs) cs)
+    by_head true c cs h k = (h, k)
+    by_head false c cs h k = k
+
+    clauses_tracked : (t : Term) (cs : List Clause) → TermBelow b.fresh t → ClausesScoped cs → Each (λ d. IsTracked d ws) (by_clauses cs b t rest)
+    clauses_tracked t [] h k = tt
+    clauses_tracked t (c ∷ cs) h k = by_head (fits_head t c.head) (by_clause b t rest c) (by_clauses cs b t rest) (clause_tracked t c h k.0.0 k.0.1) (clauses_tracked t cs h k.1)
+
+    builtin_tracked : (k : BuiltinKind) → Tracks ws (by_builtin k b rest)
+    builtin_tracked Write = (same_goals rest others, tt)
+    builtin_tracked Nl = (same_goals rest others, tt)
+    builtin_tracked _ = tt
+
+    seen_below : (t : Term) → TermBelow b.fresh t → TermBelow b.fresh (apply look t)
+    seen_below t h = below_under b.fresh b.fresh look seen t h
+
+    offer_tracked : (sets : ℕ → Option (List ℕ)) (h : Goal) → GoalBelow b.fresh h → g ≡ h → Tracks (added_by look b.fresh h ++ ws) (offer M prog look sets b h rest)
+    offer_tracked sets True i e = (same_goals rest others, tt)
+    offer_tracked sets Fail i e = tt
+    offer_tracked sets (Unify s t) i e = (more_equations rest (record { left = s; right = t } ∷ []) b.fresh (omega arith) others (i, tt), tt)
+    offer_tracked sets (Post t r) i e = by_posting (post look t r b.fresh) (λ p m es f. post_below look t r b.fresh m p es i.0 i.1 f)
+    offer_tracked sets (Constrain c t) i e = by_row (constrain look c t b.fresh) (λ x f. following M c (arguments (apply look t)) b.fresh x (terms_below b.fresh (apply look t) (seen_below t i)) f)
+    offer_tracked sets (Label o t) i e =
+        subst (λ k. Tracks ws (by_listing (λ x. values_by M (sets x)) b o k rest (read_list (apply look t)))) e
+        (by_listed (λ x. values_by M (sets x)) o (read_list (apply look t)) (λ ms f. list_below b.fresh (apply look t) ms (seen_below t i) f))
+    offer_tracked sets (Call t) i e = clauses_tracked t prog.clauses i scoped
+    offer_tracked sets (Either x y) i e = (same_goals (listed x ++ rest) (each_both_below b.fresh (listed x) rest (listed_below b.fresh x i.0) others), (same_goals (listed y ++ rest) (each_both_below b.fresh (listed y) rest (listed_below b.fresh y i.1) others), tt))
+    offer_tracked sets (Builtin k t) i e = builtin_tracked k
+
+    kept_tracked : (us : List ℕ) (bs cs : List Branch) → Each (λ c. IsTracked c us) bs → Kept M bs cs → Each (λ c. IsTracked c us × IsConsistent M c.equations c.posted) cs
+    kept_tracked us [] cs h k = subst (Each (λ c. IsTracked c us × IsConsistent M c.equations c.posted)) (sym k) tt
+    kept_tracked us (c ∷ bs) cs h (inl k) = subst (Each (λ c. IsTracked c us × IsConsistent M c.equations c.posted)) (sym k.1.1) ((h.0, k.0), kept_tracked us bs k.1.0 h.1 k.1.2)
+    kept_tracked us (c ∷ bs) cs h (inr k) = kept_tracked us bs cs h.1 k.1
+
+    children_tracked : (us : List ℕ) (o : Offer) (cs : List Branch) → Tracks us o → KeptOffer M o (Gives cs) → Each (λ c. IsTracked c us × IsConsistent M c.equations c.posted) cs
+    children_tracked us (Faults f) cs h k = absurd k
+    children_tracked us (Gives bs) cs h k = kept_tracked us bs cs h k
+    children_tracked us Awaited cs h k = absurd k
+
+  heads_below : (n : ℕ) (gs : List Goal) (g : Goal) (rest : List Goal) → gs ≡ g ∷ rest → EachBelow n gs → GoalBelow n g × EachBelow n rest
+  heads_below n gs g rest e h = subst (EachBelow n) e h
+
+  module _ (q : Query) (goals : EachBelow q.variables q.goals) where
+    pub way_tracked : {b : Branch} {ws : List ℕ} → Way M prog q b ws → IsTracked b ws × IsConsistent M b.equations b.posted
+    way_tracked begins = (
+      record {
+        small = record { goals = goals; equations = tt; posted = λ x h. absurd (true≢false (sym h)) };
+        settles = λ S family closed full others x h. absurd (true≢false (sym h));
+        inside = λ x h. h;
+      },
+      record { unifier = λ x. Var x; general = record { unifies = tt; general = λ u x h. refl }; some = λ x h. absurd (true≢false (sym h)) },
+    )
+    way_tracked (goes {b = b} {c = c} {ws = ws} g rest s D cs way e k i) =
+        let before = way_tracked way in
+        let both = heads_below b.fresh b.goals g rest e before.0.small.goals in
+        let look = look_in b s D in
+        let seen : (x : ℕ) → x < b.fresh → TermBelow b.fresh (look x) = look_below b.fresh b s D k.view.general before.0.small.equations in
+        let us = added_by look b.fresh g ++ ws in
+        let after = children_tracked b ws before.0 g rest both.0 both.1 look seen us (offer M prog look (sets_in b s D) b g rest) cs (offer_tracked b ws before.0 g rest both.0 both.1 look seen (sets_in b s D) g both.0 refl) k.kept in
+        each_at (λ d. IsTracked d us × IsConsistent M d.equations d.posted) cs (λ d. d ≡ c) (IsTracked c us × IsConsistent M c.equations c.posted) after i (λ d h f. subst (λ d. IsTracked d us × IsConsistent M d.equations d.posted) f h)
+
+pub way_answers : WayAnswers
+way_answers M prog q scoped goals b ws o ms way l n k es r run =
+    let h = way_tracked M prog scoped q goals way in
+    labelling_answers M prog q n k b es r o ms ws h.1 h.0.settles l run
