@@ -1,5 +1,5 @@
 -- The variables of terms.
-use Rattle.std.specs.Prelude.{ℕ, not, ◌==◌, List, [], ◌∷◌, ◌++◌, filter}
+use Rattle.std.specs.Prelude.{ℕ, not, ◌==◌, ◌<◌, List, [], ◌∷◌, ◌++◌, filter}
 use Rattle.fd_language.specs.Term.{Term, Terms, Var, Int, Atom, Comp, no_terms, term}
 
 -- the variables of a term, each where it stands
@@ -18,3 +18,15 @@ abbrev mutual
 abbrev pub distinct : List ℕ → List ℕ
 distinct [] = []
 distinct (x ∷ xs) = x ∷ filter (λ y. not (x == y)) (distinct xs)
+
+-- the variables of a term are below n
+abbrev mutual
+  pub TermBelow : ℕ → Term → Type 0
+  TermBelow n (Var x) = x < n
+  TermBelow n (Int z) = Unit {0}
+  TermBelow n (Atom a) = Unit {0}
+  TermBelow n (Comp f ts) = TermsBelow n ts
+
+  pub TermsBelow : ℕ → Terms → Type 0
+  TermsBelow n no_terms = Unit {0}
+  TermsBelow n (term t ts) = TermBelow n t × TermsBelow n ts
