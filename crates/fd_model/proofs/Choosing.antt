@@ -6,7 +6,7 @@ use Rattle.std.proofs.lemmas.Int.{ints}
 use Rattle.std.proofs.lemmas.Bool.{or_cases, or_left, or_right, true≢false}
 use Rattle.fd_language.specs.Family.{has, universe}
 use Rattle.fd_language.specs.Term.{Term, no_terms, term}
-use Rattle.fd_model.specs.Sound.{TermBelow}
+use Rattle.fd_language.specs.Variables.{TermBelow}
 use Rattle.fd_model.specs.declared.kinds.ConstraintKind.TheVariants.{Element}
 use Rattle.fd_language.specs.Range.{Range, One, Dom, Union, Inter, Outside, Times, Number, in_range, some_number}
 use Rattle.fd_language.proofs.Sets.{has_high, universe_rising, in_universe}

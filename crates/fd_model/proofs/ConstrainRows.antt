@@ -6,7 +6,7 @@ use Rattle.fd_model.specs.declared.kinds.ConstraintKind.TheVariants.{Compare, Al
 use Rattle.fd_language.specs.Term.{Term, Terms, Var, Int, Atom, Comp, Substitution, apply, apply_all, no_terms, term}
 use Rattle.fd_language.specs.Family.{has}
 use Rattle.fd_language.specs.Variables.{variables_of, variables_of_all}
-use Rattle.fd_model.specs.Sound.{TermBelow, TermsBelow}
+use Rattle.fd_language.specs.Variables.{TermBelow, TermsBelow}
 use Rattle.fd_model.specs.Goal.{Goal, Constrain, Program, Branch}
 use Rattle.fd_model.specs.Children.{Gives as GivesBranches, offer, by_constraint}
 use Rattle.fd_model.specs.Constraining.{arguments, expand}

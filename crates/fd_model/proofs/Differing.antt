@@ -4,7 +4,7 @@ use Rattle.std.specs.Ordering.{int_eq}
 use Rattle.std.proofs.lemmas.Int.{ints}
 use Rattle.fd_language.specs.Family.{has}
 use Rattle.fd_language.specs.Term.{Term, no_terms, term}
-use Rattle.fd_model.specs.Sound.{TermBelow}
+use Rattle.fd_language.specs.Variables.{TermBelow}
 use Rattle.fd_model.specs.declared.kinds.ConstraintKind.TheVariants.{AllDifferent}
 use Rattle.fd_language.specs.Range.{Span, One, Outside, Val, Number, Infinity, set_of}
 use Rattle.fd_model.specs.LinearRows.{Expansion}

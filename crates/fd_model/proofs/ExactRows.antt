@@ -7,7 +7,7 @@ use Rattle.fd_language.specs.Unifier.{Unifies}
 use Rattle.fd_language.specs.Family.{has}
 use Rattle.fd_model.specs.Closed.{constrained}
 use Rattle.fd_language.specs.Variables.{variables_of_all}
-use Rattle.fd_model.specs.Sound.{TermsBelow}
+use Rattle.fd_language.specs.Variables.{TermsBelow}
 use Rattle.fd_model.specs.LinearRows.{Expansion}
 use Rattle.fd_model.specs.Constraining.{expand, equations}
 use Rattle.fd_model.specs.Satisfies.{Assignment, Satisfies}

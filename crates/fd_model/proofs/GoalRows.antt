@@ -6,7 +6,7 @@ use Rattle.fd_language.specs.Family.{has}
 use Rattle.fd_language.specs.Range.{Indexical, set_of}
 use Rattle.fd_model.specs.Closed.{AllPosted, constrained}
 use Rattle.fd_model.specs.Goal.{Goal, Branch}
-use Rattle.fd_model.specs.Sound.{TermBelow}
+use Rattle.fd_language.specs.Variables.{TermBelow}
 use Rattle.fd_model.specs.LinearRows.{Expansion}
 use Rattle.fd_model.specs.Constraining.{equations}
 use Rattle.fd_model.specs.Satisfies.{Assignment, singles}

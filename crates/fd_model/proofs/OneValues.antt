@@ -6,7 +6,7 @@ use Rattle.fd_model.specs.declared.kinds.Relation.{Relation}
 use Rattle.fd_model.specs.declared.kinds.ConstraintKind.{ConstraintKind}
 use Rattle.fd_model.specs.declared.kinds.ConstraintKind.TheVariants.{Compare, AllDifferent, Element, Atmost}
 use Rattle.fd_language.specs.Term.{Term, Terms, no_terms, term}
-use Rattle.fd_model.specs.Sound.{TermBelow, TermsBelow}
+use Rattle.fd_language.specs.Variables.{TermBelow, TermsBelow}
 use Rattle.fd_language.specs.Family.{Family, has, universe, IsFamily, IsSubset}
 use Rattle.fd_language.specs.Range.{Indexical, set_of, in_set}
 use Rattle.fd_model.specs.Closed.{constrained, AllPosted}

@@ -5,7 +5,7 @@ use Rattle.std.proofs.lemmas.Int.{ints}
 use Rattle.std.specs.Str.{bytes_eq}
 use Rattle.std.specs.Prelude.{codes}
 use Rattle.fd_language.specs.Term.{Term, Var, Int, Atom, Comp, no_terms, term}
-use Rattle.fd_model.specs.Sound.{TermBelow}
+use Rattle.fd_language.specs.Variables.{TermBelow}
 use Rattle.fd_model.specs.Members.{Member, Open, Known, as_member, as_integer, prepend, walk, place_of, after, placed, fresh_after, equated_from}
 use Rattle.fd_model.specs.Satisfies.{Assignment, worth, worths, IsNumber, AreNumbers}
 use Rattle.fd_model.specs.ConstraintLaws.{AllEquated}

@@ -15,7 +15,8 @@ use Rattle.fd_language.specs.Reading as reading
 use Rattle.fd_model.specs.Refusals.{Form, query, clause, directive, fact, form_of, goals_of, Refusal, first_refusal}
 use Rattle.fd_model.specs.Queries.{goal_of, is_shown, shown_from, queries_by, queries_of, program_of}
 use Rattle.fd_model.specs.Goal.{Post, Call, Query, Program}
-use Rattle.fd_model.specs.Sound.{TermBelow, TermsBelow, PlacesBelow, RangeBelow, GoalBelow, EachBelow, NumbersBelow, QueriesScoped, IsScoped}
+use Rattle.fd_language.specs.Variables.{TermBelow, TermsBelow}
+use Rattle.fd_model.specs.Sound.{PlacesBelow, RangeBelow, GoalBelow, EachBelow, NumbersBelow, QueriesScoped, IsScoped}
 use Rattle.fd_model.specs.Verdict.{accepted, refused, sentences_verdict, reading_verdict}
 use Rattle.fd_model.specs.ProgramLaws.{ScopedProgram}
 use Rattle.fd_language.specs.Lists.{Each}

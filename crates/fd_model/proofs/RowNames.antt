@@ -11,7 +11,7 @@ use Rattle.fd_model.specs.declared.kinds.Relation.TheVariants.{Equal, Differ, Le
 use Rattle.fd_language.specs.Variables.{variables_of, variables_of_all}
 use Rattle.fd_language.proofs.Monotone.{in_left, in_right}
 use Rattle.fd_language.specs.Term.{Term, Terms, Var, Int, Atom, Comp, no_terms, term}
-use Rattle.fd_model.specs.Sound.{TermBelow, TermsBelow}
+use Rattle.fd_language.specs.Variables.{TermBelow, TermsBelow}
 use Rattle.fd_language.specs.Family.{has}
 use Rattle.fd_language.specs.Range.{reads, Expr, expr_reads, Number, Min, Max, Val, Sub, Mul}
 use Rattle.fd_language.proofs.Sets.{has_either}

@@ -10,7 +10,8 @@ use Rattle.fd_language.specs.RangeRenaming.{rename_expr, rename_range}
 use Rattle.fd_model.specs.Renaming.{rename_term, rename_goal, rename_goals}
 use Rattle.fd_language.specs.Places.{Place, expr_places, range_places}
 use Rattle.fd_model.specs.Goal.{Goal, Goals, no_goals, goal, listed, True, Fail, Unify, Post, Constrain, Label, Call, Either, Builtin, Branch}
-use Rattle.fd_model.specs.Sound.{TermBelow, TermsBelow, PlacesBelow, GoalBelow, GoalsBelow, EachBelow}
+use Rattle.fd_language.specs.Variables.{TermBelow, TermsBelow}
+use Rattle.fd_model.specs.Sound.{PlacesBelow, GoalBelow, GoalsBelow, EachBelow}
 use Rattle.fd_model.specs.Seen.{by_set, set_at}
 use Rattle.fd_model.specs.Children.{look_in}
 use Rattle.fd_model.proofs.GoalRows.{EquationsBelow}

@@ -4,7 +4,7 @@ use Rattle.std.proofs.lemmas.Bool.{true≢false}
 use Rattle.fd_language.specs.Term.{Term, Terms, Var, Int, Atom, Comp, Substitution, apply, apply_all, no_terms, term}
 use Rattle.fd_language.specs.Family.{has}
 use Rattle.fd_language.specs.Variables.{variables_of, variables_of_all}
-use Rattle.fd_model.specs.Sound.{TermBelow, TermsBelow}
+use Rattle.fd_language.specs.Variables.{TermBelow, TermsBelow}
 use Rattle.fd_language.proofs.Sets.{has_either}
 use Rattle.fd_language.proofs.Monotone.{in_left, in_right}
 use Rattle.fd_model.specs.Constraining.{arguments}

@@ -20,7 +20,8 @@ use Rattle.fd_model.specs.Renaming.{rename_term, rename_goal}
 use Rattle.fd_language.specs.Places.{Place, place, range_places}
 use Rattle.fd_model.specs.Posting.{is_integer, integer_of, integers_at, slot, slot_equations, Found, offends, posts, first_offence, unless_offence, post}
 use Rattle.fd_model.specs.Goal.{Goal, Clause, listed, True, Fail, Unify, Post, Constrain, Label, Call, Either, Builtin, Program, Query, Branch}
-use Rattle.fd_model.specs.Sound.{TermBelow, TermsBelow, PlacesBelow, GoalBelow, EachBelow, ClausesScoped}
+use Rattle.fd_language.specs.Variables.{TermBelow, TermsBelow}
+use Rattle.fd_model.specs.Sound.{PlacesBelow, GoalBelow, EachBelow, ClausesScoped}
 use Rattle.fd_model.specs.Seen.{IsConsistent}
 use Rattle.fd_model.specs.Children.{Offer, Faults, Gives, Awaited, with_goals, with_equations, fits_head, paired, argument_equations, by_clause, by_clauses, by_post, by_constraint, by_builtin, Kept, KeptOffer, look_in, offer, is_number, by_value, by_pick, by_listing, sets_in}
 use Rattle.fd_language.proofs.Sets.{has_either}

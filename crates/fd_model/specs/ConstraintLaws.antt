@@ -11,7 +11,7 @@ use Rattle.fd_model.specs.Closed.{IsClosed, constrained, AllPosted}
 use Rattle.fd_language.specs.Monotonicity.{IsMonotone}
 use Rattle.fd_language.specs.Check.{range_fits}
 use Rattle.fd_language.specs.RangeVerdict.{is_accepted}
-use Rattle.fd_model.specs.Sound.{TermsBelow}
+use Rattle.fd_language.specs.Variables.{TermsBelow}
 use Rattle.fd_model.specs.Linear.{Linear, collect}
 use Rattle.fd_model.specs.LinearRows.{Expansion}
 use Rattle.fd_model.specs.Constraining.{expand, equations}

@@ -2,11 +2,11 @@
 use Rattle.std.specs.Prelude.{ℕ, ◌<◌, true, IsTrue, List, [], ◌∷◌}
 use Rattle.fd_model.specs.declared.kinds.BuiltinKind.{BuiltinKind}
 use Rattle.fd_model.specs.declared.kinds.BuiltinKind.TheVariants.{Write, Nl}
-use Rattle.fd_language.specs.Term.{Term, Terms, Var, Int, Atom, Comp, no_terms, term}
 use Rattle.fd_language.specs.Range.{Range}
 use Rattle.fd_language.specs.Check.{range_fits}
 use Rattle.fd_language.specs.Places.{Place, range_places}
 use Rattle.fd_model.specs.Goal.{Goal, Goals, no_goals, goal, True, Fail, Unify, Post, Constrain, Label, Call, Either, Builtin, Clause, Query, Program}
+use Rattle.fd_language.specs.Variables.{TermBelow}
 
 -- the row of the built-in is given
 abbrev pub IsGiven : BuiltinKind → Type 0
@@ -47,18 +47,7 @@ pub record IsRunnableProgram (M : ℕ) (prog : Program) : Type 0 where
   pub clauses : ClausesRunnable M prog.clauses
   pub queries : QueriesRunnable M prog.queries
 
--- the variables of a term, a range or a goal are below n
-abbrev mutual
-  pub TermBelow : ℕ → Term → Type 0
-  TermBelow n (Var x) = x < n
-  TermBelow n (Int z) = Unit {0}
-  TermBelow n (Atom a) = Unit {0}
-  TermBelow n (Comp f ts) = TermsBelow n ts
-
-  pub TermsBelow : ℕ → Terms → Type 0
-  TermsBelow n no_terms = Unit {0}
-  TermsBelow n (term t ts) = TermBelow n t × TermsBelow n ts
-
+-- the variables of a range or a goal are below n
 abbrev pub PlacesBelow : ℕ → List Place → Type 0
 PlacesBelow n [] = Unit {0}
 PlacesBelow n (p ∷ ps) = (p.variable < n) × PlacesBelow n ps
