@@ -3,7 +3,7 @@ use Rattle.std.proofs.Common.{◌≡◌, inl, inr, ℕ, ◌+◌, ◌-◌, ◌<�
 use Rattle.std.proofs.lemmas.List.Folds.{concat-append}
 use Rattle.std.proofs.lemmas.List.{take-append-le, drop-drop}
 use Rattle.std.specs.List.{concat}
-use Rattle.byte_ports.specs.Ports.{Took, IsAtEnd, ReadPast, ReadWithin, Put, PutPart, Rose}
+use Rattle.byte_ports.specs.Ports.{Took, IsAtEnd, ReadJust, ReadWithin, Put, PutPart, Rose}
 
 some_same : (x y : List ℕ) → Some x ≡ Some y → x ≡ y
 some_same x y e = cc
@@ -44,22 +44,18 @@ pub took_is_front : (a b : Option (List ℕ)) (bytes piece : List ℕ) → a ≡
 took_is_front a None bytes piece e t h = absurd (cc (t))
 took_is_front a (Some rest) bytes piece e t h = (rest, refl, some_same bytes (piece ++ rest) (sym e ∙ h))
 
-longer_whole : (n : ℕ) (bytes piece rest : List ℕ) → n < length piece → bytes ≡ piece ++ rest → n < length bytes
-longer_whole n bytes piece rest l e = let k : length bytes ≡ length piece + length rest = ap length e ∙ length-append piece rest in omega (arith, k)
+-- where n bytes were taken, at least n were left
+pub just_was_left : (a b : Option (List ℕ)) (n : ℕ) (bytes : List ℕ) → a ≡ Some bytes → IsSome b → ReadJust a b n → n ≤ length bytes
+just_was_left a None n bytes e t h = absurd (cc (t))
+just_was_left a (Some rest) n bytes e t h =
+    let k : length bytes ≡ length h.0 + length rest = ap length (some_same bytes (h.0 ++ rest) (sym e ∙ h.2)) ∙ length-append h.0 rest in
+    omega (arith, k, h.1)
 
--- where more than n bytes were taken, more than n were left
-pub past_was_left : (a b : Option (List ℕ)) (n : ℕ) (bytes : List ℕ) → a ≡ Some bytes → IsSome b → ReadPast a b n → n < length bytes
-past_was_left a None n bytes e t h = absurd (cc (t))
-past_was_left a (Some rest) n bytes e t h = longer_whole n bytes h.0 rest h.1 (some_same bytes (h.0 ++ rest) (sym e ∙ h.2))
-
-length_front : (n m : ℕ) (buf : List ℕ) → n ≤ length buf → m < n → m < length (take n buf)
-length_front n m buf w l = let k : length (take n buf) ≡ n = length-take-le n buf w in omega (arith, k)
-
--- after a text, more bytes than the limit leaves were taken
-pub past_after : (a b c : Option (List ℕ)) (text buf : List ℕ) (n limit : ℕ) → length text ≤ limit → Took a b text → n ≤ length buf → Took b c (take n buf) → limit - length text < n → ReadPast a c limit
-past_after a b c text buf n limit s h w g l =
+-- after a text, one byte more than the limit leaves was taken
+pub just_after : (a b c : Option (List ℕ)) (text buf : List ℕ) (n limit : ℕ) → length text ≤ limit → Took a b text → n ≤ length buf → Took b c (take n buf) → limit - length text < n → n ≤ (limit + 1) - length text → ReadJust a c (limit + 1)
+just_after a b c text buf n limit s h w g l m =
     let k : length (text ++ take n buf) ≡ length text + length (take n buf) = length-append text (take n buf) in
-    let f : limit - length text < length (take n buf) = length_front n (limit - length text) buf w l in
+    let f : length (take n buf) ≡ n = length-take-le n buf w in
     (text ++ take n buf, omega (arith, k), took_more a b c text (take n buf) h g)
 
 -- after a text, at most as many bytes as the limit leaves were taken

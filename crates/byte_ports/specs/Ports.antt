@@ -10,9 +10,9 @@ Took old new piece = MatchOption new ⊤ (λ after. old ≡ Some (piece ++ after
 abbrev pub IsAtEnd : Option (List ℕ) → Type 0
 IsAtEnd left = MatchOption left ⊤ (λ after. after ≡ [])
 
--- more than n bytes were taken
-abbrev pub ReadPast : Option (List ℕ) → Option (List ℕ) → ℕ → Type 0
-ReadPast old new n = (piece : List ℕ) × (n < length piece) × Took old new piece
+-- n bytes were taken
+abbrev pub ReadJust : Option (List ℕ) → Option (List ℕ) → ℕ → Type 0
+ReadJust old new n = (piece : List ℕ) × (length piece ≡ n) × Took old new piece
 
 -- at most n bytes were taken
 abbrev pub ReadWithin : Option (List ℕ) → Option (List ℕ) → ℕ → Type 0

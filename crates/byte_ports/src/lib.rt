@@ -1,4 +1,4 @@
-// Where the bytes of a text come from, and where those of an answer go.
+//! Where the bytes of a text come from, and where those of an answer go.
 #![tactic(auto)]
 
 pub mod adapters;

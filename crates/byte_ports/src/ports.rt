@@ -1,6 +1,6 @@
-// Sources and sinks, and the loops that read a whole text and write a whole piece.
-ghost use Rattle.std.specs.Prelude.{◌≡◌, ◌<◌, ◌≤◌, ℕ, List, [], Option, length, take, IfOk, IfErr, IsOk, OnOk, OnErr, IsErrOf};
-ghost use Rattle.byte_ports.specs.Ports.{Took, IsAtEnd, ReadPast, ReadWithin, Put, PutPart, Rose};
+//! Sources and sinks, and the loops that read a whole text and write a whole piece.
+ghost use Rattle.std.specs.Prelude.{◌≡◌, ◌+◌, ◌<◌, ◌≤◌, ℕ, List, [], Option, length, take, IfOk, IfErr, IsOk, OnOk, OnErr, IsErr, IsErrOf};
+ghost use Rattle.byte_ports.specs.Ports.{Took, IsAtEnd, ReadJust, ReadWithin, Put, PutPart, Rose};
 ghost use Rattle.byte_ports.specs.declared.ports.ReadTextFault.TheVariants.{NoMemory};
 
 use std::alloc::{AllocError, Global};
@@ -14,8 +14,8 @@ pub struct Failed;
 /// Where bytes come from.
 ///
 /// A source may tell the bytes that it has left, as one in memory does, or tell none, as one
-/// over a file does. What it tells after a call it told before it. Its count of faults never
-/// falls.
+/// over a file does. What it tells after a call it told before it. Its count of faults is the number
+/// of its failed calls: it never falls, and a call that succeeds leaves it as it was.
 pub trait Source {
     /// The bytes not yet read, where they are told.
     ghost left: { Self → Option (List ℕ) };
@@ -31,6 +31,7 @@ pub trait Source {
         ensures bytes { IfOk result (λ n. Took (left self.old) (left self.new) (take n buf.new)) }
         ensures end { IfOk result (λ n. n ≡ 0 → 0 < length buf.new → IsAtEnd (left self.new)) }
         ensures err { OnErr result (Took (left self.old) (left self.new) []) }
+        ensures ok { OnOk result (faults self.new ≡ faults self.old) }
         ensures later { faults self.old ≤ faults self.new }
         ensures cause { OnErr result (Rose (faults self.old) (faults self.new)) };
 }
@@ -38,8 +39,8 @@ pub trait Source {
 /// Where bytes go.
 ///
 /// A sink may tell the bytes that it has taken, as one in memory does, or tell none, as one
-/// over a file does. What it tells after a call it told before it. Its count of faults never
-/// falls.
+/// over a file does. What it tells after a call it told before it. Its count of faults is the number
+/// of its failed calls: it never falls, and a call that succeeds leaves it as it was.
 pub trait Sink {
     /// The bytes taken, where they are told.
     ghost written: { Self → Option (List ℕ) };
@@ -56,6 +57,7 @@ pub trait Sink {
         ensures bytes { IfOk result
             (λ n. Put (written self.old) (written self.new) (take n piece.now)) }
         ensures err { OnErr result (Put (written self.old) (written self.new) []) }
+        ensures ok { OnOk result (faults self.new ≡ faults self.old) }
         ensures later { faults self.old ≤ faults self.new }
         ensures cause { OnErr result (Rose (faults self.old) (faults self.new)) };
 }
@@ -73,9 +75,10 @@ pub fn write_all<K: Sink>(sink: &mut K, piece: &[u8]) -> Result<(), WriteFault>
     ensures err { OnErr result (PutPart (K.written sink.old) (K.written sink.new) piece.now) }
     ensures empty { piece.now ≡ [] → IsOk result × (sink.new ≡ sink.old) }
 
-    // The count of faults never falls, and `WriteFault` comes only where it rose.
+    // The count of faults never falls, and `WriteFault` comes only where it rose, and wherever it did.
     ensures later { K.faults sink.old ≤ K.faults sink.new }
     ensures cause { OnErr result (Rose (K.faults sink.old) (K.faults sink.new)) }
+    ensures told { K.faults sink.old < K.faults sink.new → IsErr result }
 {
     let mut done = 0;
     while done < piece.len() {
@@ -117,27 +120,29 @@ impl From<AllocError> for ReadTextFault {
     }
 }
 
-/// Reads the bytes of a text to the end of the input. `TooLarge` comes as soon as a byte behind
-/// the first `MAX_TEXT` was read, so the call also returns on a source without end. After each
-/// error the bytes that were taken are a front of those that were left.
+/// Reads the bytes of a text to the end of the input. `TooLarge` comes as soon as the byte behind
+/// the first `MAX_TEXT` was read, so the call also returns on a source without end; no byte behind
+/// that one is taken. After each error the bytes that were taken are a front of those that were left.
 pub fn read_text<S: Source>(alloc: Global, src: &mut S) -> Result<Vec<u8>, ReadTextFault>
     // What was read stood in front of what is left.
     ensures ok { IfOk result (λ text. Took (S.left src.old) (S.left src.new) text.items) }
     ensures end { OnOk result (IsAtEnd (S.left src.new)) }
     ensures size { IfOk result (λ text. length text.items ≤ MAX_TEXT) }
 
-    // `TooLarge` comes exactly where more than `MAX_TEXT` bytes were taken.
+    // `TooLarge` comes exactly where more than `MAX_TEXT` bytes were taken: one more.
     ensures large { IsErrOf result ReadTextFault.TooLarge
-        → ReadPast (S.left src.old) (S.left src.new) MAX_TEXT }
+        → ReadJust (S.left src.old) (S.left src.new) (MAX_TEXT + 1) }
     ensures fault { IsErrOf result ReadTextFault.ReadFault
         → ReadWithin (S.left src.old) (S.left src.new) MAX_TEXT }
     ensures memory { IsErrOf result ReadTextFault.NoMemory
         → ReadWithin (S.left src.old) (S.left src.new) MAX_TEXT }
 
-    // The count of faults never falls, and `ReadFault` comes only where it rose.
+    // The count of faults never falls, and `ReadFault` comes only where it rose, and wherever it did.
     ensures later { S.faults src.old ≤ S.faults src.new }
     ensures cause { IsErrOf result ReadTextFault.ReadFault
         → Rose (S.faults src.old) (S.faults src.new) }
+    ensures told { S.faults src.old < S.faults src.new
+        → IsErrOf result ReadTextFault.ReadFault }
 {
     let mut buf = zeroes(alloc, CHUNK)?;
     read_through(alloc, src, buf.as_mut_slice())
@@ -150,7 +155,8 @@ fn zeroes(alloc: Global, count: usize) -> Result<Vec<u8>, AllocError>
     vec![in alloc; 0u8; count]
 }
 
-/// Reads a text as `read_text` does, by calls for at most as many bytes as `buf` holds.
+/// Reads a text as `read_text` does, by calls for at most as many bytes as `buf` holds, and for none behind the first that is
+/// too many.
 fn read_through<S: Source>(
     alloc: Global,
     src: &mut S,
@@ -161,7 +167,7 @@ fn read_through<S: Source>(
     ensures end { OnOk result (IsAtEnd (S.left src.new)) }
     ensures size { IfOk result (λ text. length text.items ≤ MAX_TEXT) }
     ensures large { IsErrOf result ReadTextFault.TooLarge
-        → ReadPast (S.left src.old) (S.left src.new) MAX_TEXT }
+        → ReadJust (S.left src.old) (S.left src.new) (MAX_TEXT + 1) }
     ensures fault { IsErrOf result ReadTextFault.ReadFault
         → ReadWithin (S.left src.old) (S.left src.new) MAX_TEXT }
     ensures memory { IsErrOf result ReadTextFault.NoMemory
@@ -169,13 +175,17 @@ fn read_through<S: Source>(
     ensures later { S.faults src.old ≤ S.faults src.new }
     ensures cause { IsErrOf result ReadTextFault.ReadFault
         → Rose (S.faults src.old) (S.faults src.new) }
+    ensures told { S.faults src.old < S.faults src.new
+        → IsErrOf result ReadTextFault.ReadFault }
 {
     let mut text: Vec<u8> = Vec::new(alloc);
     'reading: loop {
-        match src.read(buf) {
+        let wanted = buf.len().min(MAX_TEXT + 1 - text.len());
+        let chunk = &mut buf[..wanted];
+        match src.read(chunk) {
             Ok(0) => return Ok(text),
             Ok(n) if n > MAX_TEXT - text.len() => return Err(ReadTextFault::TooLarge),
-            Ok(n) => text.extend_from_slice(&buf[..n])?,
+            Ok(n) => text.extend_from_slice(&chunk[..n])?,
             Err(_) => return Err(ReadTextFault::ReadFault),
         }
     }

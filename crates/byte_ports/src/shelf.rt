@@ -1,4 +1,4 @@
-// Bytes with room for a given number more.
+//! Bytes with room for a given number more.
 ghost use Rattle.std.specs.Prelude.{◌≡◌, ◌+◌, ◌-◌, ◌≤◌, [], ◌++◌, length, IfOk};
 
 use fd_language::NoMemory;

@@ -1,5 +1,4 @@
-// What no clause says: that the calls succeed with ample memory, and how std's readers and writers
-// are used.
+//! What no clause says: that the calls succeed with ample memory, and how std's readers and writers are used.
 ghost use Rattle.std.specs.Prelude.{◌≡◌, ◌≤◌, ◌<◌, None, length, IfOk, OnErr};
 
 use super::*;
@@ -105,6 +104,39 @@ fn a_sure_sink_tells_nothing_past_its_room(rt: HostRuntime) -> Result<(), Fail> 
     Ok(())
 }
 
+#[test]
+fn a_read_that_fails_once_is_not_tried_again(rt: HostRuntime) -> Result<(), Fail> {
+    let mut reader = FailsOnce::at(2);
+    let mut source = ReaderSource::new(&mut reader);
+    assert_eq!(rt;
+        read_text(rt.alloc(), &mut source).err(),
+        Some(ReadTextFault::ReadFault)
+    );
+    assert_eq!(rt; reader.calls, 2, "the failed call was the last one");
+    Ok(())
+}
+
+#[test]
+fn the_end_of_the_input_is_no_fault(rt: HostRuntime) -> Result<(), Fail> {
+    let mut reader = FailsOnce::at(0);
+    let mut source = ReaderSource::new(&mut reader);
+    assert_eq!(rt;
+        read_text(rt.alloc(), &mut source)?.as_slice(),
+        b"aaa".as_slice()
+    );
+    assert_eq!(rt; source.read(&mut [0; 1]), Ok(0));
+    assert_eq!(rt; reader.calls, 5, "three bytes, and the end twice");
+    Ok(())
+}
+
+#[test]
+fn a_write_that_fails_once_is_not_tried_again(rt: HostRuntime) {
+    let mut writer = FailsOnce::at(3);
+    let mut sink = WriterSink::new(&mut writer);
+    assert_eq!(rt; write_all(&mut sink, b"abcde"), Err(WriteFault));
+    assert_eq!(rt; writer.calls, 3, "the failed call was the last one");
+}
+
 // A source without end.
 #[derive(Drop)]
 struct Endless;
@@ -133,6 +165,49 @@ impl Read for Broken {
 impl Write for Broken {
     fn write(&mut self, _buf: &[u8]) -> io::Result<usize> {
         Ok(0)
+    }
+
+    fn flush(&mut self) -> io::Result<()> {
+        Ok(())
+    }
+}
+
+// A reader of three bytes and a writer, one byte a call, where the call of one number fails.
+#[derive(Drop)]
+struct FailsOnce {
+    calls: usize,
+    failing: usize,
+}
+
+impl FailsOnce {
+    fn at(failing: usize) -> FailsOnce {
+        FailsOnce { calls: 0, failing }
+    }
+
+    fn call(&mut self) -> io::Result<()> {
+        self.calls = self.calls.saturating_add(1);
+        if self.calls == self.failing {
+            return Err(io::Error::from(ErrorKind::BrokenPipe));
+        }
+        Ok(())
+    }
+}
+
+impl Read for FailsOnce {
+    fn read(&mut self, buf: &mut [u8]) -> io::Result<usize> {
+        self.call()?;
+        if self.calls > 3 || buf.is_empty() {
+            return Ok(0);
+        }
+        buf[0] = b'a';
+        Ok(1)
+    }
+}
+
+impl Write for FailsOnce {
+    fn write(&mut self, buf: &[u8]) -> io::Result<usize> {
+        self.call()?;
+        Ok(buf.len().min(1))
     }
 
     fn flush(&mut self) -> io::Result<()> {

@@ -1,4 +1,4 @@
-use Rattle.std.proofs.Common.{◌-◌, ◌≤◌, ◌<◌, length, vec_len}
+use Rattle.std.proofs.Common.{◌-◌, ◌≡◌, ◌≤◌, ◌<◌, length, vec_len}
 use Rattle.byte_ports.specs.Ports.{Took}
 use Rattle.byte_ports.proofs.ports.read_through.Given as goal
 
@@ -7,7 +7,7 @@ invariant-reading g l = record {
   took : Took (g.S.Source.left l.fn.src) (g.S.Source.left l.src) l.text.items;
   size : vec_len l.text ≤ 16777216;
   room : 0 < length l.buf;
-  later : g.S.Source.faults l.fn.src ≤ g.S.Source.faults l.src;
+  kept : g.S.Source.faults l.src ≡ g.S.Source.faults l.fn.src;
 }
 
 abbrev pub decreases-reading : goal.decreases-reading

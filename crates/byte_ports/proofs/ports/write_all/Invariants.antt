@@ -6,7 +6,7 @@ abbrev pub invariant-loop-done : goal.invariant-loop-done
 invariant-loop-done g l = record {
   in_range : l.done ≤ length l.piece;
   put : Put (g.K.Sink.written l.fn.sink) (g.K.Sink.written l.sink) (take l.done l.piece);
-  later : g.K.Sink.faults l.fn.sink ≤ g.K.Sink.faults l.sink;
+  kept : g.K.Sink.faults l.sink ≡ g.K.Sink.faults l.fn.sink;
   untouched : length l.piece ≡ 0 → l.sink ≡ l.fn.sink;
 }
 
