@@ -1,0 +1,243 @@
+-- The steps of a frame that stands for equations and ranges.
+use Rattle.std.proofs.Common.{◌≡◌, ℕ, suc, ◌<◌, ◌≤◌, true, ℤ, pos, List, [], ◌∷◌, ◌++◌, Option, Some, refl, ap, sym, ◌∙◌, subst, inl, inr, arith}
+use Rattle.std.proofs.lemmas.Bool.{true≢false}
+use Rattle.fd_language.specs.Term.{Term, Var, Int, Atom, Comp, Substitution, apply, apply_all}
+use Rattle.fd_language.specs.Unifier.{Equation, IsMostGeneral, Unifies}
+use Rattle.fd_language.specs.Family.{Family, has, IsSubset}
+use Rattle.fd_language.specs.Range.{Indexical, set_of}
+use Rattle.fd_model.specs.Closed.{AllPosted, constrained}
+use Rattle.fd_language.specs.Monotonicity.{IsMonotone}
+use Rattle.fd_language.specs.RangeRenaming.{rename_indexical}
+use Rattle.fd_model.specs.Seen.{IsConsistent}
+use Rattle.fd_model.specs.Models.{IsModel}
+use Rattle.fd_model.proofs.ListNames.{posted_left, posted_right, named_left, named_right}
+use Rattle.fd_model.proofs.Growing.{posted_both, constrained_either, join_both, split_both}
+use Rattle.fd_model.proofs.Models.{consistent_from, weaker as other_model}
+use Rattle.machine_relation.specs.Heap.{after, applied_each, Of, EquationsOf, Below}
+use Rattle.machine_relation.specs.Models.{HasModel, numbers}
+use Rattle.machine_relation.specs.Store.{Touch, posts, IsUnified, IsStored, IsPosted, ArePosted}
+use Rattle.machine_relation.specs.Held.{Frame, IsHeld, unified_frame}
+use Rattle.machine_relation.proofs.Growing.{more, no_more, below_both, more_each}
+use Rattle.machine_relation.proofs.Models.{weaker, model_from, sure_grown, with_numbers, without_numbers, number_for}
+use Rattle.machine_relation.proofs.Touching.{unified, Holds}
+use Rattle.machine_relation.proofs.Posting.{posted}
+use Rattle.machine_relation.proofs.Storing.{bound, without_cell, number_other}
+use Rattle.machine_relation.proofs.Placing.{Or, with_one, other, stored_cell, stored_place}
+
+swapped : (u : Substitution) (es ds fs : List Equation) → Unifies u (ds ++ (fs ++ es)) → Unifies u (fs ++ (ds ++ es))
+swapped u es ds fs h =
+    let both = split_both u ds (fs ++ es) h in
+    let later = split_both u fs es both.1 in
+    join_both u fs (ds ++ es) later.0 (join_both u ds es both.0 later.1)
+
+pub below_split : (P : ℕ → Type 0) (ds es : List Equation) → EquationsOf P (ds ++ es) → EquationsOf P ds × EquationsOf P es
+below_split P [] es h = (tt, h)
+below_split P (d ∷ ds) es h = let later = below_split P ds es h.1 in ((h.0, later.0), later.1)
+
+-- the relation knows equations only by their unifiers
+pub other_equations : (M : ℕ) (es ds : List Equation) (ps : List Indexical) (P : ℕ → Type 0) (h : ℕ) (look : Substitution) (link : ℕ → Option ℕ) (slot : ℕ → ℕ) (qs : List Indexical) → ((u : Substitution) → Unifies u es → Unifies u ds) → ((u : Substitution) → Unifies u ds → Unifies u es) → EquationsOf P ds → IsStored M es ps P h look link slot qs → IsStored M ds ps P h look link slot qs
+other_equations M es ds ps P h look link slot qs there back below st = record {
+  heap = record { scoped = below; unifies = there look st.heap.unifies; through = λ u k. st.heap.through u (back u k); cells = st.heap.cells };
+  used = st.used;
+  down = λ T m. other_model M es ds ps (λ v. T (slot v)) there (st.down T m);
+  up = λ S m. st.up S (other_model M ds es ps S back m);
+  agrees = st.agrees;
+  slots = st.slots;
+  linked = st.linked;
+  from = st.from;
+}
+
+module _ (M : ℕ) (f : Frame) (es : List Equation) (ps : List Indexical) (P : ℕ → Type 0) (look : Substitution) (s : IsHeld M f es ps P look) where
+  -- the store has a model: the branch is consistent
+  pub held_consistent : HasModel M f.store → IsConsistent M es ps
+  held_consistent m = consistent_from M es ps (λ v. m.0 (s.slot v)) (without_numbers M es ps s.fixed (λ v. m.0 (s.slot v)) (s.stored.down m.0 m.1))
+
+  -- and a consistent branch's store has one: so the store fails exactly where the branch is not consistent
+  pub held_model : AllPosted (λ p. IsMonotone M p.range) ps → IsConsistent M es ps → HasModel M f.store
+  held_model mono c = let m = model_from M es ps mono c in let t = s.stored.up m.0 (with_numbers M es ps s.fixed m.0 s.sure m.1) in (t.0, t.1)
+
+  -- the store has none: neither has the branch
+  pub no_model : ((T : Family) → IsModel M [] f.store T → ⊥) → (S : Family) → IsModel M es ps S → ⊥
+  no_model none S m = let t = s.stored.up S (with_numbers M es ps s.fixed S s.sure m) in none t.0 t.1
+
+  -- new equations
+  module _ (ds : List Equation) (below : EquationsOf P ds) where
+    grown_model : (S : Family) → IsModel M (ds ++ es) ps S → IsModel M (ds ++ (numbers s.fixed ++ es)) ps S
+    grown_model S m = other_model M (numbers s.fixed ++ (ds ++ es)) (ds ++ (numbers s.fixed ++ es)) ps S (λ u. swapped u es (numbers s.fixed) ds) (with_numbers M (ds ++ es) ps s.fixed S (sure_grown M ds es [] ps s.fixed s.sure) m)
+
+    -- they have a unifier on the heap, and the touches are posted
+    pub held_unify : (new : Substitution) (link' : ℕ → Option ℕ) (ts : List Touch) → IsUnified f.cells f.link (applied_each look ds) new link' ts → ((c : ℕ) → f.cells ≤ c → new c ≡ Var c) → IsHeld M (unified_frame f new link' ts) (ds ++ es) ps P (after new look)
+    held_unify new link' ts u outside =
+        let one = unified M (numbers s.fixed ++ es) ps P f.cells look f.link s.slot f.store s.stored ds below new link' ts u in
+        let first = below_split P ds (numbers s.fixed ++ es) one.heap.scoped in
+        let later = below_split P (numbers s.fixed) es first.1 in
+        record {
+          slot = s.slot;
+          fixed = s.fixed;
+          unused = λ c l. ap (apply new) (s.unused c l) ∙ outside c l;
+          stored = other_equations M (ds ++ (numbers s.fixed ++ es)) (numbers s.fixed ++ (ds ++ es)) ps P f.cells (after new look) link' s.slot (f.store ++ posts ts) (λ r. swapped r es ds (numbers s.fixed)) (λ r. swapped r es (numbers s.fixed) ds)
+              (below_both P (numbers s.fixed) (ds ++ es) later.0 (below_both P ds es first.0 later.1)) one;
+          sure = sure_grown M ds es [] ps s.fixed s.sure;
+        }
+
+    -- they have none
+    pub no_unifier : ((r : Substitution) → Unifies r (applied_each look ds) → ⊥) → (S : Family) → IsModel M (ds ++ es) ps S → ⊥
+    no_unifier none S m = let here = grown_model S m in no_more (numbers s.fixed ++ es) ds P f.cells look s.stored.heap below none here.unifier here.general.unifies
+
+    -- a linked cell would be an atom or a compound term
+    pub no_atom : (new : Substitution) → IsMostGeneral (applied_each look ds) new → ((c : ℕ) → c < f.cells → Below f.cells (new c)) → (c k : ℕ) (t : Term) → f.link c ≡ Some k → new c ≡ t → ((x : ℕ) → t ≡ Var x → ⊥) → ((z : ℤ) → t ≡ Int z → ⊥)
+        → (S : Family) → IsModel M (ds ++ es) ps S → ⊥
+    no_atom new g cells c k t e is no_var no_int S m =
+        let here = grown_model S m in
+        let heap = more (numbers s.fixed ++ es) ds P f.cells look new s.stored.heap below g cells in
+        let back = heap.through here.unifier here.general.unifies in
+        let v = s.stored.from c k e in
+        by_kind v.0 back.0 here v.1 (sym (back.1 v.0 (s.stored.used v.0 v.1)) ∙ ap (λ r. apply back.0 (apply new r)) v.2 ∙ ap (apply back.0) is) t refl
+      where
+        empty : (xs : List ℕ) (i : ℕ) → xs ≡ [] → has xs i ≡ true → ⊥
+        empty xs i h j = true≢false (sym (subst (λ l. has l i ≡ true) h j))
+
+        by_kind : (v : ℕ) (r : Substitution) (h : IsModel M (ds ++ (numbers s.fixed ++ es)) ps S) → has (constrained ps) v ≡ true → h.unifier v ≡ apply r t → (t' : Term) → t ≡ t' → ⊥
+        by_kind v r h con at (Var x) i = no_var x i
+        by_kind v r h con at (Int z) i = no_int z i
+        by_kind v r h con at (Atom a) i = let w = h.full v con in empty (S v) w.0 (h.closed.atoms v a con (at ∙ ap (apply r) i)) w.1
+        by_kind v r h con at (Comp a us) i = let w = h.full v con in empty (S v) w.0 (h.closed.compounds v a (apply_all r us) con (at ∙ ap (apply r) i)) w.1
+
+  -- one more range, on open cells
+  pub held_post : (p : Indexical) (of : ℕ → ℕ) (link' : ℕ → Option ℕ) (slot' : ℕ → ℕ) → IsPosted ps P look f.link s.slot f.store p of link' slot'
+      → IsHeld M (record { heap = f.heap; cells = f.cells; link = link'; store = f.store ++ rename_indexical of p ∷ [] }) es (p ∷ ps) P look
+  held_post p of link' slot' po = record {
+    slot = slot';
+    fixed = s.fixed;
+    unused = s.unused;
+    stored = posted M (numbers s.fixed ++ es) ps P f.cells look f.link s.slot f.store s.stored p of link' slot' po;
+    sure = sure_grown M [] es (p ∷ []) ps s.fixed s.sure;
+  }
+
+  -- the machine binds a cell whose set has one value, and nothing is posted
+  pub held_fix : (c k w : ℕ) → f.link c ≡ Some k → ((T : Family) → IsModel M [] f.store T → T k ≡ w ∷ []) → IsHeld M (record { heap = after (number_for c (pos w)) f.heap; cells = f.cells; link = without_cell c f.link; store = f.store }) es ps P (after (number_for c (pos w)) look)
+  held_fix c k w e one =
+      let r = bound M (numbers s.fixed ++ es) ps P f.cells look f.link s.slot f.store s.stored c k w e one in
+      record {
+        slot = s.slot;
+        fixed = record { variable = r.0; number = w } ∷ s.fixed;
+        unused = λ d l. ap (apply (number_for c (pos w))) (s.unused d l) ∙ number_other M (numbers s.fixed ++ es) ps P f.cells look f.link s.slot f.store s.stored c k w e one d (λ i. (
+            let v = s.stored.from c k e in
+            let low : c < f.cells = subst (Below f.cells) v.2 (s.stored.heap.cells v.0 (s.stored.used v.0 v.1)) in
+            omega (arith, low, l, i)
+            ));
+        stored = r.2;
+        sure = ((r.1, λ S m i h. r.3.0.1 S (with_numbers M es ps s.fixed S s.sure m) i h), s.sure);
+      }
+
+  -- the same on other known variables, and by another look
+  pub held_other : (look' : Substitution) → ((x : ℕ) → P x → look x ≡ look' x) → IsHeld M f es ps P look'
+  held_other look' same = record {
+    slot = s.slot;
+    fixed = s.fixed;
+    unused = s.unused;
+    stored = other M (numbers s.fixed ++ es) ps P f.cells look f.link s.slot f.store s.stored look' f.cells same (λ x p. subst (Below f.cells) (same x p) (s.stored.heap.cells x p));
+    sure = s.sure;
+  }
+
+  -- a new cell for a variable that wasn't known
+  pub held_cell : (v : ℕ) → (P v → ⊥) → IsHeld M (record { heap = f.heap; cells = suc f.cells; link = f.link; store = f.store }) es ps (Or P v) (with_one v (Var f.cells) look)
+  held_cell v new_one = record {
+    slot = s.slot;
+    fixed = s.fixed;
+    unused = λ c l. s.unused c (omega (arith, l));
+    stored = stored_cell M (numbers s.fixed ++ es) ps P f.cells look f.link s.slot f.store s.stored v new_one;
+    sure = s.sure;
+  }
+
+  -- such a variable takes a term that the heap has already
+  pub held_place : (v : ℕ) → (P v → ⊥) → (t : Term) → Of P t → IsHeld M f (record { left = t; right = Var v } ∷ es) ps (Or P v) (with_one v (apply look t) look)
+  held_place v new_one t o =
+      let e : Equation = record { left = t; right = Var v } in
+      let one = stored_place M (numbers s.fixed ++ es) ps P f.cells look f.link s.slot f.store s.stored v new_one t o in
+      let later = below_split (Or P v) (numbers s.fixed) es one.heap.scoped.1 in
+      record {
+        slot = s.slot;
+        fixed = s.fixed;
+        unused = s.unused;
+        stored = other_equations M (e ∷ (numbers s.fixed ++ es)) (numbers s.fixed ++ (e ∷ es)) ps (Or P v) f.cells (with_one v (apply look t) look) f.link s.slot f.store (λ u. swapped u es (e ∷ []) (numbers s.fixed)) (λ u. swapped u es (numbers s.fixed) (e ∷ []))
+            (below_both (Or P v) (numbers s.fixed) (e ∷ es) later.0 (one.heap.scoped.0, later.1)) one;
+        sure = sure_grown M (e ∷ []) es [] ps s.fixed s.sure;
+      }
+
+  -- the same known variables by another predicate
+  pub held_known : (Q : ℕ → Type 0) → ((x : ℕ) → P x → Q x) → ((x : ℕ) → Q x → P x) → IsHeld M f es ps Q look
+  held_known Q there back =
+      let st = s.stored in
+      record {
+        slot = s.slot;
+        fixed = s.fixed;
+        unused = s.unused;
+        stored = record {
+          heap = record { scoped = more_each P Q there (numbers s.fixed ++ es) st.heap.scoped; unifies = st.heap.unifies; through = λ u k. (let t = st.heap.through u k in (t.0, λ x l. t.1 x (back x l))); cells = λ x l. st.heap.cells x (back x l) };
+          used = λ v c. there v (st.used v c);
+          down = st.down;
+          up = st.up;
+          agrees = st.agrees;
+          slots = st.slots;
+          linked = st.linked;
+          from = st.from;
+        };
+        sure = s.sure;
+      }
+
+-- ranges that say no more of any family
+abbrev NoMore : ℕ → List Indexical → List Indexical → Type 0
+NoMore M ps qs = ((x : ℕ) → has (constrained qs) x ≡ true → has (constrained ps) x ≡ true) × ((S : Family) → Holds M S ps → Holds M S qs)
+
+-- and others that say the same
+stored_ranges : (M : ℕ) (es : List Equation) (ps qs : List Indexical) (P : ℕ → Type 0) (h : ℕ) (look : Substitution) (link : ℕ → Option ℕ) (slot : ℕ → ℕ) (rs : List Indexical) → NoMore M ps qs → NoMore M qs ps → IsStored M es ps P h look link slot rs → IsStored M es qs P h look link slot rs
+stored_ranges M es ps qs P h look link slot rs a b st = record {
+  heap = st.heap;
+  used = λ v c. st.used v (a.0 v c);
+  down = λ T m. weaker M es es ps qs (λ v. T (slot v)) (λ u k. k) (a.1 (λ v. T (slot v))) a.0 (st.down T m);
+  up = λ S m. (let t = st.up S (weaker M es es qs ps S (λ u k. k) (b.1 S) b.0 m) in (t.0, t.1, λ v c. t.2 v (a.0 v c)));
+  agrees = λ T m v c. st.agrees T m v (a.0 v c);
+  slots = λ v c. st.slots v (a.0 v c);
+  linked = λ v c d e. st.linked v c (a.0 v d) e;
+  from = λ c k e. (let g = st.from c k e in (g.0, b.0 g.0 g.1, g.2, g.3));
+}
+
+moved : (M : ℕ) (w : Indexical) (ws ps : List Indexical) → NoMore M (ws ++ (w ∷ ps)) (w ∷ (ws ++ ps)) × NoMore M (w ∷ (ws ++ ps)) (ws ++ (w ∷ ps))
+moved M w ws ps = (
+  (
+    λ x c. elim (constrained_either (w ∷ []) (ws ++ ps) x c) [
+      | inl d ↦ named_right ws (w ∷ ps) x (named_left (w ∷ []) ps x d)
+      | inr d ↦ elim (constrained_either ws ps x d) [ inl e ↦ named_left ws (w ∷ ps) x e | inr e ↦ named_right ws (w ∷ ps) x (named_right (w ∷ []) ps x e) ]
+    ],
+    λ S h. (let later = posted_right (λ p. IsSubset (S p.target) (set_of M S p.range)) ws (w ∷ ps) h in (later.0, posted_both (λ p. IsSubset (S p.target) (set_of M S p.range)) ws ps (posted_left (λ p. IsSubset (S p.target) (set_of M S p.range)) ws (w ∷ ps) h) later.1)),
+  ),
+  (
+    λ x c. elim (constrained_either ws (w ∷ ps) x c) [
+      | inl d ↦ named_right (w ∷ []) (ws ++ ps) x (named_left ws ps x d)
+      | inr d ↦ elim (constrained_either (w ∷ []) ps x d) [ inl e ↦ named_left (w ∷ []) (ws ++ ps) x e | inr e ↦ named_right (w ∷ []) (ws ++ ps) x (named_right ws ps x e) ]
+    ],
+    λ S h. posted_both (λ p. IsSubset (S p.target) (set_of M S p.range)) ws (w ∷ ps) (posted_left (λ p. IsSubset (S p.target) (set_of M S p.range)) ws ps h.1) (h.0, posted_right (λ p. IsSubset (S p.target) (set_of M S p.range)) ws ps h.1),
+  ),
+)
+
+-- several more ranges
+pub stored_posts : (M : ℕ) (es : List Equation) (P : ℕ → Type 0) (h : ℕ) (look : Substitution) (link' : ℕ → Option ℕ) (slot' : ℕ → ℕ) (qs' : List Indexical) (ws ps : List Indexical) (link : ℕ → Option ℕ) (slot : ℕ → ℕ) (qs : List Indexical)
+    → IsStored M es ps P h look link slot qs → ArePosted ps P look link slot qs ws link' slot' qs' → IsStored M es (ws ++ ps) P h look link' slot' qs'
+stored_posts M es P h look link' slot' qs' [] ps link slot qs st a =
+    subst (λ l. IsStored M es ps P h look l slot' qs') a.0 (subst (λ t. IsStored M es ps P h look link t qs') a.1 (subst (λ r. IsStored M es ps P h look link slot r) a.2 st))
+stored_posts M es P h look link' slot' qs' (w ∷ ws) ps link slot qs st a =
+    let one = posted M es ps P h look link slot qs st w a.0 a.1 a.2 a.3 in
+    let more = stored_posts M es P h look link' slot' qs' ws (w ∷ ps) a.1 a.2 (qs ++ rename_indexical a.0 w ∷ []) one a.4 in
+    let same = moved M w ws ps in
+    stored_ranges M es (ws ++ (w ∷ ps)) (w ∷ (ws ++ ps)) P h look link' slot' qs' same.0 same.1 more
+
+pub held_posts : (M : ℕ) (f : Frame) (es : List Equation) (ps : List Indexical) (P : ℕ → Type 0) (look : Substitution) (s : IsHeld M f es ps P look) (ws : List Indexical) (link' : ℕ → Option ℕ) (slot' : ℕ → ℕ) (qs' : List Indexical) → ArePosted ps P look f.link s.slot f.store ws link' slot' qs'
+    → IsHeld M (record { heap = f.heap; cells = f.cells; link = link'; store = qs' }) es (ws ++ ps) P look
+held_posts M f es ps P look s ws link' slot' qs' a = record {
+  slot = slot';
+  fixed = s.fixed;
+  unused = s.unused;
+  stored = stored_posts M (numbers s.fixed ++ es) P f.cells look link' slot' qs' ws ps f.link s.slot f.store s.stored a;
+  sure = sure_grown M [] es ws ps s.fixed s.sure;
+}

@@ -1,0 +1,226 @@
+-- The steps of a machine that walks over goals, where what a goal gives depends on what is seen; answers; and a spent budget.
+use Rattle.std.proofs.Common.{pos, ◌≡◌, ℕ, suc, ◌+◌, ◌<◌, ◌≤◌, ℤ, List, [], ◌∷◌, ◌++◌, Option, Some, None, map, refl, ap, sym, ◌∙◌, subst}
+use Rattle.fd_model.specs.declared.kinds.QueryFault.{QueryFault}
+use Rattle.fd_language.specs.Term.{Term, Var, Int, Substitution}
+use Rattle.fd_language.specs.Unifier.{Equation, IsMostGeneral, Unifies}
+use Rattle.fd_language.specs.Family.{Family}
+use Rattle.fd_language.specs.Range.{Range, Indexical}
+use Rattle.fd_model.specs.Goal.{Goal, True, Fail, Unify, Post, Constrain, Label, Call, Either, Builtin, Program, Query, Branch, Event, Budget, Limit, Fault}
+use Rattle.fd_language.specs.RangeRenaming.{rename_range}
+use Rattle.fd_model.specs.Renaming.{rename_term, rename_goal}
+use Rattle.fd_model.specs.Seen.{IsView}
+use Rattle.fd_model.specs.Posting.{post, Found, offends, posts}
+use Rattle.fd_model.specs.Children.{Faults, with_goals, with_equations, with_range, by_post, look_in, by_value}
+use Rattle.fd_model.specs.Lines.{says}
+use Rattle.fd_model.specs.Sound.{IsRunnableProgram, EachBelow, TermBelow, RangeBelow}
+use Rattle.fd_model.specs.Models.{IsModel}
+use Rattle.fd_language.proofs.RangeRenaming.{two}
+use Rattle.machine_relation.specs.Heap.{after, applied_each, EquationsOf, Below}
+use Rattle.machine_relation.specs.Models.{HasModel}
+use Rattle.machine_relation.specs.Store.{Touch, posts as touch_posts, IsUnified, ArePosted}
+use Rattle.machine_relation.specs.Ahead.{offered, Spends}
+use Rattle.machine_relation.specs.Held.{Frame, IsAtRest, unified_frame}
+use Rattle.machine_relation.specs.Machine.{IsAt, values, Choice, Waits, Walks, Returns}
+use Rattle.machine_relation.proofs.Renaming.{of_below}
+use Rattle.machine_relation.proofs.Cells.{place_from, more_cells, more_fresh, at_more}
+use Rattle.machine_relation.proofs.Models.{number_for}
+use Rattle.machine_relation.proofs.Storing.{without_cell}
+use Rattle.machine_relation.proofs.Ahead.{IsTold}
+use Rattle.machine_relation.proofs.Steps.{GivesAll, Speaks, live_spent, live_fault, live_none, live_one, live_gone, live_choice, live_last, live_fewer, live_any}
+use Rattle.machine_relation.proofs.Holding.{held_posts, held_unify}
+use Rattle.machine_relation.proofs.Views.{view_kind}
+use Rattle.machine_relation.proofs.PostGoals.{post_same}
+use Rattle.machine_relation.proofs.Walking.{at_fix, renamed_each, applied_renamed, gone_by, at_goals, at_consistent, at_no_model, at_no_unifier, at_no_atom, at_unify, IsFront, front_goal, no_goals_left}
+
+-- More ranges with fresh variables: new cells for these, the ranges on open cells, and then the equations that give fresh variables their integers.
+module _ (M : ℕ) (q : Query) (work : List Goal) (f : Frame) (b : Branch) (s : IsAt M q work f b) (j : ℕ) where
+  pub wide : (new : IsAt M q work (more_cells f j) (more_fresh b j)) × (new.place ≡ place_from b.fresh f.cells s.place)
+  wide = at_more M q work f b s j
+
+  module _ (ws : List Indexical) (link' : ℕ → Option ℕ) (slot' : ℕ → ℕ) (qs' : List Indexical) (a : ArePosted b.posted (λ v. v < b.fresh + j) (λ v. f.heap (wide.0.place v)) f.link wide.0.held.slot f.store ws link' slot' qs') where
+    abbrev pub row_frame : Frame
+    row_frame = record { heap = f.heap; cells = f.cells + j; link = link'; store = qs' }
+
+    pub at_row : (gs : List Goal) → EachBelow (b.fresh + j) gs → (es : List Equation) → EquationsOf (λ v. v < b.fresh + j) es → (new : Substitution) (link'' : ℕ → Option ℕ) (ts : List Touch) → IsUnified (f.cells + j) link' (applied_each f.heap (renamed_each wide.0.place es)) new link'' ts → ((c : ℕ) → f.cells + j ≤ c → new c ≡ Var c)
+        → IsAt M q (map (rename_goal wide.0.place) gs) (unified_frame row_frame new link'' ts) (record { goals = gs; equations = es ++ b.equations; posted = ws ++ b.posted; fresh = b.fresh + j })
+    at_row gs scoped es below new link'' ts u outside =
+        let held = held_posts M (more_cells f j) b.equations b.posted (λ v. v < b.fresh + j) (λ v. f.heap (wide.0.place v)) wide.0.held ws link' slot' qs' a in
+        record {
+          place = wide.0.place;
+          goals = refl;
+          scoped = scoped;
+          placed = wide.0.placed;
+          apart = wide.0.apart;
+          begun = wide.0.begun;
+          first = wide.0.first;
+          held = held_unify M row_frame b.equations (ws ++ b.posted) (λ v. v < b.fresh + j) (λ v. f.heap (wide.0.place v)) held es below new link'' ts (subst (λ l. IsUnified (f.cells + j) link' l new link'' ts) (sym (applied_renamed f.heap wide.0.place es)) u) outside;
+        }
+
+is_unify : (f : ℕ → ℕ) (g : Goal) (l r : Term) → Unify l r ≡ rename_goal f g → (a : Term) × (b : Term) × (g ≡ Unify a b) × (l ≡ rename_term f a) × (r ≡ rename_term f b)
+is_unify f True l r e = absurd (cc)
+is_unify f Fail l r e = absurd (cc)
+is_unify f (Unify a b) l r e = (a, b, refl, (cc), (cc))
+is_unify f (Post t q) l r e = absurd (cc)
+is_unify f (Constrain c t) l r e = absurd (cc)
+is_unify f (Label o t) l r e = absurd (cc)
+is_unify f (Call t) l r e = absurd (cc)
+is_unify f (Either a b) l r e = absurd (cc)
+is_unify f (Builtin c t) l r e = absurd (cc)
+
+is_post : (f : ℕ → ℕ) (g : Goal) (l : Term) (x : Range) → Post l x ≡ rename_goal f g → (t : Term) × (r : Range) × (g ≡ Post t r) × (l ≡ rename_term f t) × (x ≡ rename_range f r)
+is_post f True l x e = absurd (cc)
+is_post f Fail l x e = absurd (cc)
+is_post f (Unify a b) l x e = absurd (cc)
+is_post f (Post t r) l x e = (t, r, refl, (cc), (cc))
+is_post f (Constrain c t) l x e = absurd (cc)
+is_post f (Label o t) l x e = absurd (cc)
+is_post f (Call t) l x e = absurd (cc)
+is_post f (Either a b) l x e = absurd (cc)
+is_post f (Builtin c t) l x e = absurd (cc)
+
+module _ (M : ℕ) (prog : Program) (q : Query) (f : Frame) (cs : List Choice) (es : List Event) (r : ℕ) where
+  -- no budget is left for the goal in front
+  pub walk_spent : (k : Option ℕ) (g : Goal) (work : List Goal) → Walks M prog q (g ∷ work) f cs 0 k es r → (es ≡ Budget ∷ []) × (r ≡ 0)
+  walk_spent k g work m = let t = front_goal M q g work f m.branch m.here in live_spent M prog q Choice (Waits M q) (IsAt M q (g ∷ work) f) cs k es r m t.head t.rest t.goals
+
+  -- a cell whose set has one value is bound to it, which spends and says nothing
+  pub walk_fix : (n : ℕ) (k : Option ℕ) (work : List Goal) (c j w : ℕ) → f.link c ≡ Some j → ((T : Family) → IsModel M [] f.store T → T j ≡ w ∷ []) → Walks M prog q work f cs n k es r → Walks M prog q work (record { heap = after (number_for c (pos w)) f.heap; cells = f.cells; link = without_cell c f.link; store = f.store }) cs n k es r
+  walk_fix n k work c j w e one m = record { branch = m.branch; others = m.others; here = at_fix M q work f m.branch m.here c j w e one; consistent = m.consistent; wait = m.wait; ahead = m.ahead }
+
+  -- no goal is left: the last allowed answer, or one with more to come
+  module _ (n : ℕ) where
+    pub answered : (k : Option ℕ) (m : Walks M prog q [] f cs n k es r) → m.branch.goals ≡ []
+    answered k m = no_goals_left (rename_goal m.here.place) m.branch.goals m.here.goals
+
+    pub walk_last : (m : Walks M prog q [] f cs n (Some 1) es r) → IsTold M prog q n m.branch m.others es r m.consistent (answered (Some 1) m) (Limit ∷ []) × (r ≡ 0)
+    walk_last m = live_last M prog q Choice (Waits M q) (IsAt M q [] f) cs n es r m (answered (Some 1) m)
+
+    pub walk_fewer : (j : ℕ) (m : Walks M prog q [] f cs n (Some (suc (suc j))) es r) → (later : List Event) × IsTold M prog q n m.branch m.others es r m.consistent (answered (Some (suc (suc j))) m) later × Returns M prog q cs n (Some (suc j)) later r
+    walk_fewer j m = live_fewer M prog q Choice (Waits M q) (IsAt M q [] f) cs n j es r m (answered (Some (suc (suc j))) m)
+
+    pub walk_any : (m : Walks M prog q [] f cs n None es r) → (later : List Event) × IsTold M prog q n m.branch m.others es r m.consistent (answered None m) later × Returns M prog q cs n None later r
+    walk_any m = live_any M prog q Choice (Waits M q) (IsAt M q [] f) cs n es r m (answered None m)
+
+  module _ (runnable : IsRunnableProgram M prog) (n : ℕ) (k : Option ℕ) (g : Goal) (work : List Goal) (m : Walks M prog q (g ∷ work) f cs (suc n) k es r) where
+    pub front : IsFront g work m.here.place m.branch
+    front = front_goal M q g work f m.branch m.here
+
+    -- the goal's only child, for which other goals and another frame stand
+    pub walk_kid : (kid : Branch) (said : List Event) (work' : List Goal) (f' : Frame) → GivesAll M prog q Choice (Waits M q) m.branch front.head front.rest (kid ∷ []) → Speaks M prog q Choice (Waits M q) m.branch front.head said → IsAt M q work' f' kid → HasModel M f'.store → Spends (Walks M prog q work' f' cs n k) said es r
+    walk_kid kid said work' f' gives speaks there model =
+        live_one M prog q Choice (Waits M q) (IsAt M q (g ∷ work) f) cs k es r runnable n m front.head front.rest front.goals (IsAt M q work' f') kid said gives speaks there (at_consistent M q work' f' kid there model)
+
+    -- it has no model
+    pub walk_gone : (kid : Branch) (said : List Event) → GivesAll M prog q Choice (Waits M q) m.branch front.head front.rest (kid ∷ []) → Speaks M prog q Choice (Waits M q) m.branch front.head said → ((S : Family) → IsModel M kid.equations kid.posted S → ⊥) → Spends (Returns M prog q cs n k) said es r
+    walk_gone kid said gives speaks none = live_gone M prog q Choice (Waits M q) (IsAt M q (g ∷ work) f) cs k es r runnable n m front.head front.rest front.goals kid said gives speaks (gone_by M kid none)
+
+    -- nothing changes
+    pub walk_same : (said : List Event) → GivesAll M prog q Choice (Waits M q) m.branch front.head front.rest (with_goals m.branch front.rest ∷ []) → Speaks M prog q Choice (Waits M q) m.branch front.head said → Spends (Walks M prog q work f cs n k) said es r
+    walk_same said gives speaks =
+        live_one M prog q Choice (Waits M q) (IsAt M q (g ∷ work) f) cs k es r runnable n m front.head front.rest front.goals (IsAt M q work f) (with_goals m.branch front.rest) said gives speaks
+        (subst (λ w. IsAt M q w f (with_goals m.branch front.rest)) (sym front.others) (at_goals M q (g ∷ work) f m.branch m.here front.rest front.below.1)) m.consistent
+
+    -- it has no child
+    pub walk_none : (said : List Event) → GivesAll M prog q Choice (Waits M q) m.branch front.head front.rest [] → Speaks M prog q Choice (Waits M q) m.branch front.head said → Spends (Returns M prog q cs n k) said es r
+    walk_none said gives speaks = live_none M prog q Choice (Waits M q) (IsAt M q (g ∷ work) f) cs k es r runnable n m front.head front.rest front.goals said gives speaks
+
+    pub walk_fault : (e : QueryFault) → ((s : Substitution) (D : Family) → IsView M m.branch.equations m.branch.posted s D → offered M prog m.branch front.head front.rest s D ≡ Faults e) → (es ≡ Fault e ∷ []) × (r ≡ 1)
+    walk_fault e faulting = live_fault M prog q Choice (Waits M q) (IsAt M q (g ∷ work) f) cs k es r runnable n m front.head front.rest front.goals e faulting
+
+    -- one child with new equations ds
+    module _ (ds : List Equation) (said : List Event) (below : EquationsOf (λ v. v < m.branch.fresh) ds)
+        (gives : GivesAll M prog q Choice (Waits M q) m.branch front.head front.rest (with_equations m.branch front.rest ds m.branch.fresh ∷ [])) (speaks : Speaks M prog q Choice (Waits M q) m.branch front.head said) where
+      abbrev pub asks : List Equation
+      asks = applied_each f.heap (renamed_each m.here.place ds)
+
+      abbrev kid : Branch
+      kid = with_equations m.branch front.rest ds m.branch.fresh
+
+      there : (new : Substitution) (link' : ℕ → Option ℕ) (ts : List Touch) → IsUnified f.cells f.link asks new link' ts → ((c : ℕ) → f.cells ≤ c → new c ≡ Var c) → IsAt M q work (unified_frame f new link' ts) kid
+      there new link' ts u outside = subst (λ w. IsAt M q w (unified_frame f new link' ts) kid) (sym front.others) (at_unify M q (g ∷ work) f m.branch m.here front.rest front.below.1 ds below new link' ts u outside)
+
+      -- they unify, and the store has a model with the posts for what was touched
+      pub walk_equations : (new : Substitution) (link' : ℕ → Option ℕ) (ts : List Touch) → IsUnified f.cells f.link asks new link' ts → ((c : ℕ) → f.cells ≤ c → new c ≡ Var c) → HasModel M (f.store ++ touch_posts ts) → Spends (Walks M prog q work (unified_frame f new link' ts) cs n k) said es r
+      walk_equations new link' ts u outside model = walk_kid kid said work (unified_frame f new link' ts) gives speaks (there new link' ts u outside) model
+
+      -- they don't unify
+      pub walk_no_unifier : ((u : Substitution) → Unifies u asks → ⊥) → Spends (Returns M prog q cs n k) said es r
+      walk_no_unifier none = walk_gone kid said gives speaks (at_no_unifier M q (g ∷ work) f m.branch m.here front.rest front.below.1 ds below none)
+
+      -- a constrained variable meets an atom or a compound term
+      pub walk_atom : (new : Substitution) → IsMostGeneral asks new → ((c : ℕ) → c < f.cells → Below f.cells (new c)) → (c j : ℕ) (w : Term) → f.link c ≡ Some j → new c ≡ w → ((x : ℕ) → w ≡ Var x → ⊥) → ((z : ℤ) → w ≡ Int z → ⊥) → Spends (Returns M prog q cs n k) said es r
+      walk_atom new a cells c j w e h no_var no_int = walk_gone kid said gives speaks (at_no_atom M q (g ∷ work) f m.branch m.here front.rest front.below.1 ds below new a cells c j w e h no_var no_int)
+
+      -- they unify, and the store fails
+      pub walk_failed : (new : Substitution) (link' : ℕ → Option ℕ) (ts : List Touch) → IsUnified f.cells f.link asks new link' ts → ((c : ℕ) → f.cells ≤ c → new c ≡ Var c) → ((T : Family) → IsModel M [] (f.store ++ touch_posts ts) T → ⊥) → Spends (Returns M prog q cs n k) said es r
+      walk_failed new link' ts u outside none = walk_gone kid said gives speaks (at_no_model M q work (unified_frame f new link' ts) kid (there new link' ts u outside) none)
+
+    -- a child for each value of an open variable, whose cell is d, with the goal still in front
+    pub walk_values : (x d : ℕ) (ns : List ℕ) (said : List Event) → x < m.branch.fresh → f.heap (m.here.place x) ≡ Var d → GivesAll M prog q Choice (Waits M q) m.branch front.head front.rest (map (by_value m.branch (front.head ∷ front.rest) x) ns) → Speaks M prog q Choice (Waits M q) m.branch front.head said
+        → Spends (Returns M prog q (record { left = values ns d (g ∷ work); saved = f } ∷ cs) n k) said es r
+    walk_values x d ns said low at gives speaks =
+        live_choice M prog q Choice (Waits M q) (IsAt M q (g ∷ work) f) cs k es r runnable n m front.head front.rest front.goals (map (by_value m.branch (front.head ∷ front.rest) x) ns) (record { left = values ns d (g ∷ work); saved = f }) said gives speaks
+        (m.branch, x, m.here, low, at, ap (λ gs. map (by_value m.branch gs x) ns) (sym front.goals))
+
+  -- `A = B` is one equation, which says nothing: the lemmas above serve with these
+  module _ (runnable : IsRunnableProgram M prog) (n : ℕ) (k : Option ℕ) (l r' : Term) (work : List Goal) (m : Walks M prog q (Unify l r' ∷ work) f cs (suc n) k es r) where
+    abbrev at : IsFront (Unify l r') work m.here.place m.branch
+    at = front runnable n k (Unify l r') work m
+
+    pub sides : (a : Term) × (b : Term) × (at.head ≡ Unify a b) × (l ≡ rename_term m.here.place a) × (r' ≡ rename_term m.here.place b)
+    sides = is_unify m.here.place at.head l r' at.is
+
+    abbrev pub equation : List Equation
+    equation = record { left = sides.0; right = sides.1 } ∷ []
+
+    pub unify_below : EquationsOf (λ v. v < m.branch.fresh) equation
+    unify_below = let h = subst (λ g. EachBelow m.branch.fresh (g ∷ at.rest)) sides.2 at.below in ((of_below m.branch.fresh sides.0 h.0.0, of_below m.branch.fresh sides.1 h.0.1), tt)
+
+    pub unify_gives : GivesAll M prog q Choice (Waits M q) m.branch at.head at.rest (with_equations m.branch at.rest equation m.branch.fresh ∷ [])
+    unify_gives s D v = ap (λ g. offered M prog m.branch g at.rest s D) sides.2
+
+    pub unify_quiet : Speaks M prog q Choice (Waits M q) m.branch at.head []
+    unify_quiet s D v = ap (says s D m.branch) sides.2
+
+    -- on the heap it is the goal's own equation
+    pub unify_asks : applied_each f.heap (record { left = l; right = r' } ∷ []) ≡ applied_each f.heap (renamed_each m.here.place equation)
+    unify_asks = ap (λ e. applied_each f.heap (e ∷ [])) (two (λ x y. record { left = x; right = y }) sides.3 sides.4)
+
+    pub walk_unify : (new : Substitution) (link' : ℕ → Option ℕ) (ts : List Touch) → IsUnified f.cells f.link (applied_each f.heap (record { left = l; right = r' } ∷ [])) new link' ts → ((c : ℕ) → f.cells ≤ c → new c ≡ Var c) → HasModel M (f.store ++ touch_posts ts) → Spends (Walks M prog q work (unified_frame f new link' ts) cs n k) [] es r
+    walk_unify new link' ts u outside model = walk_equations runnable n k (Unify l r') work m equation [] unify_below unify_gives unify_quiet new link' ts (subst (λ x. IsUnified f.cells f.link x new link' ts) unify_asks u) outside model
+
+  -- `T in R`, where the store is at rest
+  module _ (runnable : IsRunnableProgram M prog) (n : ℕ) (k : Option ℕ) (l : Term) (x : Range) (work : List Goal) (m : Walks M prog q (Post l x ∷ work) f cs (suc n) k es r) (T : Family) (rest : IsAtRest M f T) where
+    abbrev ahead : IsFront (Post l x) work m.here.place m.branch
+    ahead = front runnable n k (Post l x) work m
+
+    pub asked : (t : Term) × (y : Range) × (ahead.head ≡ Post t y) × (l ≡ rename_term m.here.place t) × (x ≡ rename_range m.here.place y)
+    asked = is_post m.here.place ahead.head l x ahead.is
+
+    -- what the heap's terms give
+    abbrev pub found : Found
+    found = post (λ v. f.heap (m.here.place v)) asked.0 asked.1 m.branch.fresh
+
+    below : TermBelow m.branch.fresh asked.0 × RangeBelow m.branch.fresh asked.1
+    below = let h = subst (λ g. EachBelow m.branch.fresh (g ∷ ahead.rest)) asked.2 ahead.below in (h.0.0, h.0.1)
+
+    gives_found : (s : Substitution) (D : Family) → IsView M m.branch.equations m.branch.posted s D → offered M prog m.branch ahead.head ahead.rest s D ≡ by_post m.branch ahead.rest found
+    gives_found s D v =
+        ap (λ g. offered M prog m.branch g ahead.rest s D) asked.2
+        ∙ ap (by_post m.branch ahead.rest) (post_same m.branch.fresh (look_in m.branch s D) (λ w. f.heap (m.here.place w)) (λ w low. view_kind M f m.branch.equations m.branch.posted (λ u. u < m.branch.fresh) (λ u. f.heap (m.here.place u)) m.here.held T rest s D v m.consistent w low) asked.0 asked.1 m.branch.fresh below.0 below.1)
+
+    quiet : (s : Substitution) (D : Family) → IsView M m.branch.equations m.branch.posted s D → says s D m.branch ahead.head ≡ []
+    quiet s D v = ap (says s D m.branch) asked.2
+
+    pub walk_post_fault : (e : QueryFault) → found ≡ offends e → (es ≡ Fault e ∷ []) × (r ≡ 1)
+    walk_post_fault e h = walk_fault runnable n k (Post l x) work m e (λ s D v. gives_found s D v ∙ ap (by_post m.branch ahead.rest) h)
+
+    module _ (p : Indexical) (j : ℕ) (ds : List Equation) (is : found ≡ posts p j ds) where
+      abbrev pub child : Branch
+      child = with_range m.branch ahead.rest p ds j
+
+      pub walk_post : (work' : List Goal) (f' : Frame) → IsAt M q work' f' child → HasModel M f'.store → Spends (Walks M prog q work' f' cs n k) [] es r
+      walk_post work' f' there model = walk_kid runnable n k (Post l x) work m child [] work' f' (λ s D v. gives_found s D v ∙ ap (by_post m.branch ahead.rest) is) quiet there model
+
+      pub walk_post_failed : (work' : List Goal) (f' : Frame) → IsAt M q work' f' child → ((T' : Family) → IsModel M [] f'.store T' → ⊥) → Spends (Returns M prog q cs n k) [] es r
+      walk_post_failed work' f' there none = walk_gone runnable n k (Post l x) work m child [] (λ s D v. gives_found s D v ∙ ap (by_post m.branch ahead.rest) is) quiet (at_no_model M q work' f' child there none)

@@ -1,0 +1,35 @@
+-- What a machine's heap and store stand for together, whatever holds the goals.
+use Rattle.std.specs.Prelude.{◌≡◌, ℕ, ◌≤◌, List, [], ◌∷◌, ◌++◌, Option, Some}
+use Rattle.fd_language.specs.Term.{Var, Substitution}
+use Rattle.fd_language.specs.Unifier.{Equation}
+use Rattle.fd_language.specs.Family.{Family, IsInside}
+use Rattle.fd_language.specs.Range.{Indexical}
+use Rattle.fd_model.specs.Models.{IsModel}
+use Rattle.machine_relation.specs.Heap.{after}
+use Rattle.machine_relation.specs.Models.{Fix, numbers, Sure}
+use Rattle.machine_relation.specs.Store.{Touch, posts, IsStored}
+
+-- each cell's whole term, the number of cells, each open cell's variable of the store, and the store's ranges
+pub record Frame : Type 0 where
+  pub heap : Substitution
+  pub cells : ℕ
+  pub link : ℕ → Option ℕ
+  pub store : List Indexical
+
+-- The frame stands for the equations es and the ranges ps. look takes each known variable, that is each of P, to its term over cells, slot gives each constrained one its variable of the store, and fixed are those that were bound because their set has one value.
+pub record IsHeld (M : ℕ) (f : Frame) (es : List Equation) (ps : List Indexical) (P : ℕ → Type 0) (look : Substitution) : Type 0 where
+  pub slot : ℕ → ℕ
+  pub fixed : List Fix
+  pub unused : (c : ℕ) → f.cells ≤ c → f.heap c ≡ Var c
+  pub stored : IsStored M (numbers fixed ++ es) ps P f.cells look f.link slot f.store
+  pub sure : Sure M es ps fixed
+
+-- the frame after a unification, with its touches posted
+abbrev pub unified_frame : Frame → Substitution → (ℕ → Option ℕ) → List Touch → Frame
+unified_frame f new link ts = record { heap = after new f.heap; cells = f.cells; link = link; store = f.store ++ posts ts }
+
+-- The store is at rest: T has its sets, and no open cell's set has one value.
+pub record IsAtRest (M : ℕ) (f : Frame) (T : Family) : Type 0 where
+  pub model : IsModel M [] f.store T
+  pub most : (R : Family) → IsModel M [] f.store R → IsInside R T
+  pub several : (c k n : ℕ) → f.link c ≡ Some k → T k ≡ n ∷ [] → ⊥

@@ -1,0 +1,100 @@
+-- What the state of a machine that walks over goals stands for.
+use Rattle.std.specs.Prelude.{◌≡◌, ℕ, suc, ◌+◌, ◌*◌, ◌<◌, ◌≤◌, IsTrue, List, [], ◌∷◌, length, Option, None, map}
+use Rattle.fd_language.specs.Term.{Term, Var}
+use Rattle.fd_model.specs.Goal.{Goal, Call, Clause, Program, Query, Branch, Event}
+use Rattle.fd_model.specs.Renaming.{rename_goal}
+use Rattle.fd_model.specs.Sound.{EachBelow, ClausesScoped}
+use Rattle.fd_model.specs.Children.{by_clauses, by_value}
+use Rattle.machine_relation.specs.Ahead.{IsLive, IsBack}
+use Rattle.machine_relation.specs.Next.{is_final}
+use Rattle.machine_relation.specs.Held.{Frame, IsHeld}
+
+-- Goals over cells, with a frame, stand for a branch. place gives each variable of the branch a cell of its own, and those of the query have the first ones.
+pub record IsAt (M : ℕ) (q : Query) (work : List Goal) (f : Frame) (b : Branch) : Type 0 where
+  pub place : ℕ → ℕ
+  pub goals : work ≡ map (rename_goal place) b.goals
+  pub scoped : EachBelow b.fresh b.goals
+  pub placed : (v : ℕ) → v < b.fresh → place v < f.cells
+  pub apart : (v w : ℕ) → v < b.fresh → w < b.fresh → place v ≡ place w → v ≡ w
+  pub begun : q.variables ≤ b.fresh
+  pub first : (v : ℕ) → v < q.variables → place v ≡ v
+  pub held : IsHeld M f b.equations b.posted (λ v. v < b.fresh) (λ v. f.heap (place v))
+
+-- what is left to be tried: clauses for the goal of a term over cells with the goals behind it, other goals, or values of a cell with the goals that stand
+pub data Alternative : Type 0 where
+  clauses : List Clause → Term → List Goal → Alternative
+  others : List Goal → Alternative
+  values : List ℕ → ℕ → List Goal → Alternative
+
+-- the frame is that of when the choice came
+pub record Choice : Type 0 where
+  pub left : Alternative
+  pub saved : Frame
+
+-- the branches that are left, of which some may not be consistent
+abbrev pub WaitsBy : ℕ → Query → Frame → Alternative → List Branch → Type 0
+WaitsBy M q f (clauses cs t work) raw =
+    (b : Branch) × (a : Term) × (rest : List Goal) × IsAt M q (Call t ∷ work) f b × (b.goals ≡ Call a ∷ rest) × ClausesScoped cs × (raw ≡ by_clauses cs b a rest)
+WaitsBy M q f (others work) raw = (b : Branch) × IsAt M q work f b × (raw ≡ b ∷ [])
+WaitsBy M q f (values ns c work) raw =
+    (b : Branch) × (x : ℕ) × (s : IsAt M q work f b) × (x < b.fresh) × (f.heap (s.place x) ≡ Var c) × (raw ≡ map (by_value b b.goals x) ns)
+
+abbrev pub Waits : ℕ → Query → Choice → List Branch → Type 0
+Waits M q c raw = WaitsBy M q c.saved c.left raw
+
+-- a new machine for a query: each variable has its own open cell
+abbrev pub first_frame : Query → Frame
+first_frame q = record { heap = Var; cells = q.variables; link = λ c. None; store = [] }
+
+abbrev pub first_work : Query → List Goal
+first_work q = map (rename_goal (λ v. v)) q.goals
+
+-- at work on goals, the machine stands for these events and reductions
+abbrev pub Walks : ℕ → Program → Query → List Goal → Frame → List Choice → ℕ → Option ℕ → List Event → ℕ → Type 0
+Walks M prog q work f cs n k es r = IsLive M prog q Choice (Waits M q) (IsAt M q work f) cs n k es r
+
+-- and on its way back to its newest choice point
+abbrev pub Returns : ℕ → Program → Query → List Choice → ℕ → Option ℕ → List Event → ℕ → Type 0
+Returns M prog q cs n k es r = IsBack M prog q Choice (Waits M q) cs n k es r
+
+pub data Current : Type 0 where
+  works : List Goal → Frame → Current
+  returns : Current
+  ended : Event → Current
+
+-- the budget that is left, the answers that are still allowed, and the reductions that were spent
+pub record Machine : Type 0 where
+  pub current : Current
+  pub choices : List Choice
+  pub budget : ℕ
+  pub limit : Option ℕ
+  pub spent : ℕ
+
+abbrev pub new_machine : Query → ℕ → Option ℕ → Machine
+new_machine q n k = record { current = works (first_work q) (first_frame q); choices = []; budget = n; limit = k; spent = 0 }
+
+abbrev pub ended_machine : Event → List Choice → ℕ → Option ℕ → ℕ → Machine
+ended_machine e cs n k spent = record { current = ended e; choices = cs; budget = n; limit = k; spent = spent }
+
+abbrev pub StandsBy : ℕ → Program → Query → Current → Machine → List Event → ℕ → Type 0
+StandsBy M prog q (works work f) m es r = Walks M prog q work f m.choices m.budget m.limit es r
+StandsBy M prog q returns m es r = Returns M prog q m.choices m.budget m.limit es r
+StandsBy M prog q (ended e) m es r = IsTrue (is_final e) × (es ≡ e ∷ []) × (r ≡ 0)
+
+-- the events still to come, and the reductions of the whole run
+abbrev pub Stands : ℕ → Program → Query → Machine → List Event → ℕ → Type 0
+Stands M prog q m es total = (r : ℕ) × (total ≡ m.spent + r) × StandsBy M prog q m.current m es r
+
+-- how many alternatives are left, each with one more for its end
+abbrev pub left_of : Alternative → ℕ
+left_of (clauses cs t work) = suc (length cs)
+left_of (others work) = 1
+left_of (values ns c work) = suc (length ns)
+
+abbrev pub all_left : List Choice → ℕ
+all_left [] = 0
+all_left (c ∷ cs) = left_of c.left + all_left cs
+
+-- What falls with each step that says nothing: most is the greatest number of alternatives that a goal can bring.
+abbrev pub work_left : ℕ → ℕ → List Choice → ℕ
+work_left most n cs = n * suc (suc most) + all_left cs

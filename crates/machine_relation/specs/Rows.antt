@@ -1,0 +1,45 @@
+-- Constraints over cells: their rows, and how the ranges of a row are linked.
+use Rattle.std.specs.Prelude.{◌≡◌, ℕ, true, false, ℤ, List, [], ◌∷◌, ◌++◌, map, Option, Some, ◌⊎◌, Result, Ok, Err}
+use Rattle.fd_model.specs.declared.kinds.QueryFault.{QueryFault}
+use Rattle.fd_model.specs.declared.kinds.ConstraintKind.{ConstraintKind}
+use Rattle.fd_language.specs.Term.{Term}
+use Rattle.fd_language.specs.Family.{has}
+use Rattle.fd_language.specs.Range.{Indexical}
+use Rattle.fd_model.specs.Closed.{constrained}
+use Rattle.fd_language.specs.RangeRenaming.{rename_indexical}
+use Rattle.fd_model.specs.LinearRows.{Expansion}
+use Rattle.fd_model.specs.Constraining.{constrain}
+use Rattle.machine_relation.specs.Held.{Frame}
+use Rattle.machine_relation.specs.Store.{names}
+
+-- products, or variables equated with integers
+abbrev pub rename_products : (ℕ → ℕ) → List (ℕ × ℤ) → List (ℕ × ℤ)
+rename_products f [] = []
+rename_products f (t ∷ ts) = (f t.0, t.1) ∷ rename_products f ts
+
+abbrev pub rename_expansion : (ℕ → ℕ) → Expansion → Expansion
+rename_expansion f x = record { equated = rename_products f x.equated; ranges = map (rename_indexical f) x.ranges; fresh = f x.fresh }
+
+abbrev pub rename_row : (ℕ → ℕ) → Result Expansion QueryFault → Result Expansion QueryFault
+rename_row f (Err e) = Err e
+rename_row f (Ok x) = Ok (rename_expansion f x)
+
+-- the row of a constraint on the term t over cells, by a heap: the fresh variables are the next cells
+abbrev pub frame_row : Frame → ConstraintKind → Term → Result Expansion QueryFault
+frame_row f c t = constrain f.heap c t f.cells
+
+-- What a store supplies for a range on cells: each cell that it names is linked now, g gives its variable of the store; older links stay, and new ones go to variables that no posted range names.
+pub record IsJoined (link : ℕ → Option ℕ) (qs : List Indexical) (p : Indexical) (g : ℕ → ℕ) (link' : ℕ → Option ℕ) : Type 0 where
+  pub cell : (c : ℕ) → has (names p) c ≡ true → link' c ≡ Some (g c)
+  pub keep : (c k : ℕ) → link c ≡ Some k → link' c ≡ Some k
+  pub fresh : (c k : ℕ) → link' c ≡ Some k → (link c ≡ Some k) ⊎ ((has (names p) c ≡ true) × (has (constrained qs) k ≡ false))
+  pub one : (c d k : ℕ) → link' c ≡ Some k → link' d ≡ Some k → c ≡ d
+
+-- ranges on cells that are posted one after the other, the first of them first
+abbrev pub AreJoined : (ℕ → Option ℕ) → List Indexical → List Indexical → (ℕ → Option ℕ) → List Indexical → Type 0
+AreJoined link qs [] link' qs' = (link ≡ link') × (qs ≡ qs')
+AreJoined link qs (p ∷ ps) link' qs' = (g : ℕ → ℕ) × (l : ℕ → Option ℕ) × IsJoined link qs p g l × AreJoined l (qs ++ rename_indexical g p ∷ []) ps link' qs'
+
+-- the frame with the fresh variables' cells and the linked ranges of the row y
+abbrev pub joined_frame : Frame → Expansion → (ℕ → Option ℕ) → List Indexical → Frame
+joined_frame f y link' qs' = record { heap = f.heap; cells = y.fresh; link = link'; store = qs' }
