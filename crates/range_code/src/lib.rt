@@ -1,7 +1,8 @@
 //! Ranges that are prepared once and evaluated often: the set of a range over the current domains (Codognet and Diaz 1996).
 #![tactic(auto)]
 
-ghost use Rattle.std.specs.Prelude.{◌≡◌, ◌+◌, ◌-◌, ◌^◌, min, length, IfOk};
+ghost use Rattle.std.specs.Prelude.{◌≡◌, ◌+◌, ◌-◌, ◌^◌, min, length, IfOk, IsTrue};
+ghost use Rattle.fd_language.specs.RangeVerdict.{is_accepted};
 ghost use Rattle.fd_language.specs.Range.{set_of};
 ghost use Rattle.range_code.specs.Slots.{slots_of, slot_needs, slot_features};
 ghost use Rattle.range_code.specs.Frames.{IsFrame, posted, family_of};
@@ -90,7 +91,8 @@ impl RangeCode {
 
     /// What the range reads, as pairs of a slot and a feature. Each pair stands once, in the order of first occurrence.
     pub fn features(&self) -> &[(usize, Feature)]
-        ensures { result.now ≡ slot_features self.now }
+        ensures features { result.now ≡ slot_features self.now }
+        ensures accepted { IsTrue (is_accepted INFINITY self.now) }
     {
         &self.features
     }
