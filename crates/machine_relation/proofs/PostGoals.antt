@@ -11,7 +11,8 @@ use Rattle.fd_language.specs.Check.{fill, fill_range}
 use Rattle.fd_language.specs.Needs.{need_of}
 use Rattle.fd_language.specs.Places.{Place, place, expr_places, range_places}
 use Rattle.fd_model.specs.Posting.{offence_at, or_later, first_offence, is_integer, integers_at, slot, slot_equations, integer_of, unless_offence, post_at, post}
-use Rattle.fd_model.specs.Sound.{TermBelow, PlacesBelow, RangeBelow}
+use Rattle.fd_language.specs.Variables.{TermBelow}
+use Rattle.fd_model.specs.Sound.{PlacesBelow, RangeBelow}
 use Rattle.fd_language.proofs.RangeRenaming.{two}
 use Rattle.machine_relation.proofs.Renaming.{places_split}
 use Rattle.machine_relation.proofs.Views.{SameKind}

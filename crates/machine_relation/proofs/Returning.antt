@@ -9,7 +9,8 @@ use Rattle.fd_model.specs.Goal.{Goal, Call, Clause, Program, Query, Branch, Even
 use Rattle.fd_model.specs.Renaming.{rename_term, rename_goal}
 use Rattle.fd_model.specs.Seen.{IsConsistent}
 use Rattle.fd_model.specs.Children.{by_clause, by_clauses, fits_head, same_count, argument_equations, paired, is_number, by_value}
-use Rattle.fd_model.specs.Sound.{TermBelow, EachBelow, ClausesScoped}
+use Rattle.fd_language.specs.Variables.{TermBelow}
+use Rattle.fd_model.specs.Sound.{EachBelow, ClausesScoped}
 use Rattle.fd_model.specs.Models.{IsModel}
 use Rattle.fd_language.proofs.RangeRenaming.{two}
 use Rattle.fd_model.proofs.Scoping.{each_wider, each_both_below, term_renamed, body_renamed}

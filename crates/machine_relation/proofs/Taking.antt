@@ -12,7 +12,8 @@ use Rattle.fd_model.specs.Seen.{IsView}
 use Rattle.fd_model.specs.Posting.{post, Found, offends, posts}
 use Rattle.fd_model.specs.Children.{Faults, with_goals, with_equations, with_range, by_post, look_in, by_value}
 use Rattle.fd_model.specs.Lines.{says}
-use Rattle.fd_model.specs.Sound.{IsRunnableProgram, EachBelow, TermBelow, RangeBelow}
+use Rattle.fd_language.specs.Variables.{TermBelow}
+use Rattle.fd_model.specs.Sound.{IsRunnableProgram, EachBelow, RangeBelow}
 use Rattle.fd_model.specs.Models.{IsModel}
 use Rattle.fd_language.proofs.RangeRenaming.{two}
 use Rattle.machine_relation.specs.Heap.{after, applied_each, EquationsOf, Below}

@@ -9,7 +9,8 @@ use Rattle.fd_model.specs.Renaming.{rename_term, rename_goal}
 use Rattle.fd_model.specs.Seen.{IsView}
 use Rattle.fd_model.specs.Lines.{answer_line, only_argument, says, line_of, as_terms}
 use Rattle.fd_language.specs.Writing.{Plain, term_text}
-use Rattle.fd_model.specs.Sound.{IsRunnableProgram, NumbersBelow, TermBelow, EachBelow}
+use Rattle.fd_language.specs.Variables.{TermBelow}
+use Rattle.fd_model.specs.Sound.{IsRunnableProgram, NumbersBelow, EachBelow}
 use Rattle.machine_relation.specs.Ahead.{offered, Spends}
 use Rattle.machine_relation.specs.Held.{Frame, IsAtRest}
 use Rattle.machine_relation.specs.Machine.{Choice, Walks, Returns}
