@@ -1,4 +1,4 @@
-//! Characters by what they may begin, and the longest run of characters of a class.
+//! The longest run of characters of a class.
 
 ghost use Rattle.std.specs.Prelude.{◌≡◌, ◌<◌, ◌+◌, ◌≤◌, ◌∷◌, ◌++◌, [], length, drop, MatchOption, encode_utf8};
 ghost use Rattle.std.specs.Char.{IsScalar, len_utf8};
@@ -7,82 +7,7 @@ ghost use Rattle.fd_language.specs.Characters as Characters;
 ghost use Rattle.fd_language.specs.Tokens as Tokens;
 ghost use Rattle.char_tokens.specs.Views as Views;
 
-/// The first character, and the text behind it.
-pub(crate) fn first_char(text: &str) -> Option<(char, &str)>
-    ensures split { MatchOption result (text.now ≡ []) (λ r. IsScalar r.0 × (text.now ≡ encode_utf8 r.0 ++ r.1.now)) }
-    ensures characters { MatchOption result (chars text.now ≡ []) (λ r. chars text.now ≡ r.0 ∷ chars r.1.now) }
-{
-    let mut characters = text.chars();
-    match characters.next() {
-        None => None,
-        Some(c) => Some((c, characters.as_str())),
-    }
-}
-
-/// Whether the first character is the given one.
-pub(crate) fn starts_with(character: char, text: &str) -> bool
-    ensures { result ≡ Characters.starts_with character (chars text.now) }
-{
-    match first_char(text) {
-        None => false,
-        Some((c, _)) => c == character,
-    }
-}
-
-pub(crate) fn is_layout(c: char) -> bool
-    ensures { result ≡ Characters.is_layout c }
-{
-    c == ' ' || ('\t' <= c && c <= '\r')
-}
-
-#[tactic(auto, unfolding(fd_language::specs::Characters::is_symbol))]
-pub(crate) fn is_symbol(c: char) -> bool
-    ensures { result ≡ Characters.is_symbol c }
-{
-    match c {
-        '#'
-        | '$'
-        | '&'
-        | '*'
-        | '+'
-        | '-'
-        | '.'
-        | '/'
-        | ':'
-        | '<'
-        | '='
-        | '>'
-        | '?'
-        | '@'
-        | '^'
-        | '~'
-        | '\\' => true,
-        _ => false,
-    }
-}
-
-pub(crate) fn is_solo(c: char) -> bool
-    ensures { result ≡ Characters.is_solo c }
-{
-    c == '!' || c == ';'
-}
-
-#[tactic(auto, unfolding(fd_language::specs::Characters::is_punct))]
-pub(crate) fn is_punct(c: char) -> bool
-    ensures { result ≡ Characters.is_punct c }
-{
-    match c {
-        '(' | ')' | '[' | ']' | '{' | '}' | ',' | '|' => true,
-        _ => false,
-    }
-}
-
-#[tactic(auto, unfolding(fd_language::specs::Characters::begins_variable))]
-pub(crate) fn begins_variable(c: char) -> bool
-    ensures { result ≡ Characters.begins_variable c }
-{
-    c == '_' || c.is_ascii_uppercase()
-}
+use name_syntax::characters::{first_char, is_layout, is_symbol};
 
 /// Whether a dot that stands before the text is a stop.
 pub(crate) fn ends_stop(text: &str) -> bool

@@ -6,9 +6,9 @@ ghost use Rattle.fd_language.specs.Characters as Characters;
 ghost use Rattle.fd_language.specs.Tokens as Tokens;
 ghost use Rattle.char_tokens.specs.Views as Views;
 
-use crate::characters::{first_char, starts_with};
 use crate::front::Front;
 use crate::token::TokenCause;
+use name_syntax::characters::{first_char, starts_with};
 
 /// Whether a comment ends with this character and the next.
 fn closes(c: char, behind: &str) -> bool

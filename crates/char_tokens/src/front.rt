@@ -5,14 +5,14 @@ ghost use Rattle.std.specs.Str.{chars, IsUtf8};
 ghost use Rattle.fd_language.specs.Tokens as Tokens;
 ghost use Rattle.char_tokens.specs.Views as Views;
 
-use crate::characters::{
-    Class, begins_variable, ends_stop, first_char, is_layout, is_punct, is_solo, is_symbol,
-    run_behind, starts_with,
-};
+use crate::characters::{Class, ends_stop, run_behind};
 use crate::comment::comment;
 use crate::number::integer;
 use crate::quoted::quoted;
 use crate::token::{Kind, TokenCause};
+use name_syntax::characters::{
+    begins_variable, first_char, is_layout, is_punct, is_solo, is_symbol, starts_with,
+};
 
 /// What a text begins with: nothing, layout or a comment, a token, or a fault. Sizes are in bytes; a fault is placed so many bytes behind the beginning.
 #[derive(Clone, Copy)]

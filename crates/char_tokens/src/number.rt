@@ -7,9 +7,9 @@ ghost use Rattle.fd_language.specs.Characters as Characters;
 ghost use Rattle.fd_language.specs.Tokens as Tokens;
 ghost use Rattle.char_tokens.specs.Views as Views;
 
-use crate::characters::{first_char, starts_with};
 use crate::front::Front;
 use crate::token::{Kind, TokenCause};
+use name_syntax::characters::{first_char, starts_with};
 
 /// The number behind one more digit, where it is an integer.
 fn next_integer(value: Option<u64>, base: u32, digit: u32) -> Option<u64>

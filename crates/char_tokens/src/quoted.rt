@@ -7,10 +7,10 @@ ghost use Rattle.fd_language.specs.Characters as Characters;
 ghost use Rattle.fd_language.specs.Tokens as Tokens;
 ghost use Rattle.char_tokens.specs.Views as Views;
 
-use crate::characters::first_char;
 use crate::front::Front;
 use crate::token::{Kind, TokenCause};
 use fd_language::NoMemory;
+use name_syntax::characters::first_char;
 use std::alloc::Global;
 
 /// Where a reader stands inside a quoted atom. Places are in bytes from its beginning.

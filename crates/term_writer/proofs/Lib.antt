@@ -1,4 +1,3 @@
-mod Rows
 mod Joined
 mod Steps
 mod Work

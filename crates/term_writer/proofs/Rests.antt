@@ -8,7 +8,7 @@ use Rattle.fd_language.specs.Writing.{Mode, Spelling, spelled, spelled_alone, sp
 use Rattle.term_pool.specs.declared.TermId.{TermId}
 use Rattle.term_pool.specs.Contents.{Contents}
 use Rattle.term_pool.specs.Terms.{terms_by, term_of}
-use Rattle.term_writer.specs.declared.operators.Operator.{Operator as OperatorRow}
+use Rattle.name_syntax.specs.declared.operators.Operator.{Operator as CodeOperator}
 use Rattle.term_writer.specs.declared.pieces.Form.TheVariants as form
 use Rattle.term_writer.specs.declared.pieces.Rest.TheVariants as rest
 use Rattle.term_writer.specs.Pieces.{IsForm, IsRest, weight}
@@ -47,7 +47,7 @@ module _ (c : Contents) (t : TermId) where
         either true v w = refl
         either false v w = refl
 
-    pub rest_operation : (r : OperatorRow) (u v : TermId) → IsForm f ts (form.Infix r u v) → IsRest c t rest.Tail
+    pub rest_operation : (r : CodeOperator) (u v : TermId) → IsForm f ts (form.Infix r u v) → IsRest c t rest.Tail
     rest_operation r u v h =
         tail_as (Comp f (terms_by (term_of c) (u ∷ v ∷ []))) (as_parts (u ∷ v ∷ []) h.0) (λ mode vars.
         let x : Spelling = spelled mode vars (term_of c u) in

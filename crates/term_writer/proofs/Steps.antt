@@ -13,10 +13,10 @@ use Rattle.fd_language.specs.Writing.{Mode, Spelling, spelled, spelled_each, spe
 use Rattle.term_pool.specs.declared.TermId.{TermId}
 use Rattle.term_pool.specs.Contents.{Contents}
 use Rattle.term_pool.specs.Terms.{terms_by, term_of}
-use Rattle.term_writer.specs.declared.operators.Operator.{Operator as OperatorRow}
+use Rattle.name_syntax.specs.declared.operators.Operator.{Operator as CodeOperator}
 use Rattle.term_writer.specs.declared.pieces.Piece.{Piece}
 use Rattle.term_writer.specs.declared.pieces.Piece.TheVariants as piece
-use Rattle.term_writer.specs.Operators.{operator_of}
+use Rattle.name_syntax.specs.Operators.{operator_of}
 use Rattle.term_writer.specs.Pieces.{joined, operator_text, piece_text, piece_weight, finished, load, weight, weights, IsOf, IsCell, Replaces}
 use Rattle.term_writer.proofs.Joined.{joined-nil, joined-assoc, join_right, between_joined, bracketed, marked}
 
@@ -188,18 +188,18 @@ module _ (c : Contents) (mode : Mode) (vars : ℕ → List ℕ) where
       })
 
   -- an operator between its operands
-  pub operation : (f : Name) (ts : List TermId) (r : OperatorRow) (t u : TermId) (limit low high : ℕ) (text before behind : List ℕ) (old new : List Piece) (closing op opening : Piece)
+  pub operation : (f : Name) (ts : List TermId) (r : CodeOperator) (t u : TermId) (limit low high : ℕ) (text before behind : List ℕ) (old new : List Piece) (closing op opening : Piece)
       → new ≡ old ++ closing ∷ piece.Term u high ∷ op ∷ piece.Term t low ∷ opening ∷ []
-      → IsText c mode vars closing behind → IsText c mode vars op (operator_text (operator_of r).name) → IsText c mode vars opening before
+      → IsText c mode vars closing behind → IsText c mode vars op (operator_text f) → IsText c mode vars opening before
       → behind ≡ cond (nat_le r.priority limit) [] (codes ")") → before ≡ cond (nat_le r.priority limit) [] (codes "(")
-      → low ≡ left_limit (operator_of r) → high ≡ right_limit (operator_of r) → All (λ t. t.number < length c.entries) ts
-      → ts ≡ t ∷ u ∷ [] → bytes_eq f (codes ".") ≡ false → infix_of f ≡ Some (operator_of r)
+      → low ≡ left_limit (operator_of f r) → high ≡ right_limit (operator_of f r) → All (λ t. t.number < length c.entries) ts
+      → ts ≡ t ∷ u ∷ [] → bytes_eq f (codes ".") ≡ false → infix_of f ≡ Some (operator_of f r)
       → Replaces c mode vars ((spelled_compound mode f (spelled_each mode vars (terms_by (term_of c) ts))).at limit) (8 + weights (terms_by (term_of c) ts)) text old text new
   unfolding finished piece_text load piece_weight
   operation f ts r t u limit low high text before behind old new closing op opening pushed k p o behind_is before_is low_is high_is all e is found =
       let x : Spelling = spelled mode vars (term_of c t) in
       let y : Spelling = spelled mode vars (term_of c u) in
-      let q : Operator = operator_of r in
+      let q : Operator = operator_of f r in
       let both = subst (All (λ t. t.number < length c.entries)) e all in
       let a : List ℕ = x.at low in
       let b : List ℕ = y.at high in

@@ -1,4 +1,3 @@
-pub mod Operators
 pub mod Views
 pub mod Pieces
 pub mod Spelled

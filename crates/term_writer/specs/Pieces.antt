@@ -13,7 +13,7 @@ use Rattle.term_writer.specs.declared.pieces.Form.{Form}
 use Rattle.term_writer.specs.declared.pieces.Form.TheVariants as form
 use Rattle.term_writer.specs.declared.pieces.Rest.{Rest}
 use Rattle.term_writer.specs.declared.pieces.Rest.TheVariants as rest
-use Rattle.term_writer.specs.Operators.{operator_of}
+use Rattle.name_syntax.specs.Operators.{operator_of}
 
 -- two texts with a space between them where two symbol characters would touch
 abbrev pub joined : List ℕ → List ℕ → List ℕ
@@ -27,7 +27,7 @@ unfoldable pub piece_text : Contents → Mode → (ℕ → List ℕ) → Piece �
 piece_text c mode vars (piece.Term t limit) = (spelled mode vars (term_of c t)).at limit
 piece_text c mode vars (piece.Rest t) = (spelled mode vars (term_of c t)).rest
 piece_text c mode vars (piece.Arguments ts) = arguments_text (spelled_each mode vars (terms_by (term_of c) ts.now))
-piece_text c mode vars (piece.Operator o) = operator_text o.name.now
+piece_text c mode vars (piece.Operator o) = operator_text o.now
 piece_text c mode vars (piece.Text s) = s.now
 
 -- the text with the pieces behind it, the last of them first
@@ -78,7 +78,7 @@ pub record Replaces (c : Contents) (mode : Mode) (vars : ℕ → List ℕ) (want
 abbrev pub IsForm : Name → List TermId → Form → Type 0
 IsForm f ts (form.Curly t) = (ts ≡ t ∷ []) × (bytes_eq f (codes "{}") ≡ true)
 IsForm f ts (form.Cell t u) = (ts ≡ t ∷ u ∷ []) × (bytes_eq f (codes ".") ≡ true)
-IsForm f ts (form.Infix o t u) = (ts ≡ t ∷ u ∷ []) × (bytes_eq f (codes ".") ≡ false) × (infix_of f ≡ Some (operator_of o))
+IsForm f ts (form.Infix o t u) = (ts ≡ t ∷ u ∷ []) × (bytes_eq f (codes ".") ≡ false) × (infix_of f ≡ Some (operator_of f o))
 IsForm f ts form.Call =
     (mode : Mode) (vars : ℕ → List ℕ) (part : TermId → Term)
     → spelled_compound mode f (spelled_each mode vars (terms_by part ts)) ≡ spelled_alone (call_text mode f (spelled_each mode vars (terms_by part ts)))

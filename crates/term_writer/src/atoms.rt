@@ -1,6 +1,6 @@
 //! Atoms, in quotes where they must be.
 
-ghost use Rattle.std.specs.Prelude.{false, [], ◌∷◌, MatchOption, ◌≡◌, ◌<◌, ◌++◌, ◌||◌, ◌&&◌, not, if◌then◌else◌, codes, OnOk};
+ghost use Rattle.std.specs.Prelude.{false, ◌≡◌, ◌<◌, ◌++◌, ◌||◌, ◌&&◌, not, if◌then◌else◌, codes, OnOk};
 ghost use Rattle.std.specs.Fmt.{digits, digit_glyph};
 ghost use Rattle.std.specs.List.{list_all};
 ghost use Rattle.std.specs.Str.{bytes_eq, chars};
@@ -12,41 +12,16 @@ ghost use Rattle.term_writer.specs.Pieces.{joined};
 ghost use Rattle.term_writer.specs.Views.{mode_of, name_text};
 
 use crate::Mode;
-use crate::operators::is_operator;
 use fd_language::NoMemory;
-
-#[tactic(auto, unfolding(fd_language::specs::Characters::is_symbol))]
-fn is_symbol(byte: u8) -> bool
-    ensures { result ≡ Characters.is_symbol byte }
-{
-    match byte {
-        b'#'
-        | b'$'
-        | b'&'
-        | b'*'
-        | b'+'
-        | b'-'
-        | b'.'
-        | b'/'
-        | b':'
-        | b'<'
-        | b'='
-        | b'>'
-        | b'?'
-        | b'@'
-        | b'^'
-        | b'~'
-        | b'\\' => true,
-        _ => false,
-    }
-}
+use name_syntax::characters::{first_char, is_symbol};
+use name_syntax::operators::is_operator;
 
 fn ends_with_symbol(text: &[u8]) -> bool
     ensures { result ≡ Writing.ends_with_symbol text.now }
 {
     match text.last() {
         None => false,
-        Some(byte) => is_symbol(*byte),
+        Some(byte) => is_symbol(char::from(*byte)),
     }
 }
 
@@ -55,7 +30,7 @@ fn starts_with_symbol(text: &[u8]) -> bool
 {
     match text.first() {
         None => false,
-        Some(byte) => is_symbol(*byte),
+        Some(byte) => is_symbol(char::from(*byte)),
     }
 }
 
@@ -81,17 +56,6 @@ fn continues(text: &str) -> bool
     true
 }
 
-/// The first character, and the text behind it.
-fn first_char(text: &str) -> Option<(char, &str)>
-    ensures { MatchOption result (chars text.now ≡ []) (λ r. chars text.now ≡ r.0 ∷ chars r.1.now) }
-{
-    let mut characters = text.chars();
-    match characters.next() {
-        None => None,
-        Some(c) => Some((c, characters.as_str())),
-    }
-}
-
 /// Whether it is a word of letters.
 pub(crate) fn is_letter_word(name: &str) -> bool
     ensures { result ≡ Writing.is_letter_word name.now }
@@ -108,7 +72,7 @@ fn are_symbols(name: &[u8]) -> bool
     ensures { result ≡ list_all Characters.is_symbol name.now }
 {
     for byte in name {
-        if !is_symbol(*byte) {
+        if !is_symbol(char::from(*byte)) {
             return false;
         }
     }

@@ -9,7 +9,6 @@ ghost use Rattle.term_writer.specs.Views.{mode_of, name_text, text_of};
 mod atoms;
 pub mod laws;
 mod names;
-mod operators;
 mod pieces;
 mod terms;
 #[cfg(test)]

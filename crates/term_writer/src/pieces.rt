@@ -3,7 +3,7 @@
 ghost use Rattle.std.specs.Prelude.{[], ◌∷◌};
 ghost use Rattle.term_writer.specs.Pieces.{IsForm};
 
-use crate::operators::{Operator, infix};
+use name_syntax::operators::{Operator, roles_of};
 use term_pool::TermId;
 
 #[derive(Clone, Copy)]
@@ -14,8 +14,8 @@ pub(crate) enum Piece<'p> {
     Rest(TermId),
     /// Arguments, with commas between them.
     Arguments(&'p [TermId]),
-    /// An operator between its operands.
-    Operator(Operator),
+    /// The name of an operator between its operands.
+    Operator(&'p str),
     Text(&'static str),
 }
 
@@ -49,7 +49,7 @@ fn pair_form(name: &str, first: TermId, second: TermId) -> Form
     if name == "." {
         return Form::Cell(first, second);
     }
-    match infix(name) {
+    match roles_of(name).infix {
         Some(operator) => Form::Infix(operator, first, second),
         None => Form::Call,
     }

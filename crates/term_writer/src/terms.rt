@@ -6,17 +6,16 @@ ghost use Rattle.fd_language.specs.Operators.{infix_of};
 ghost use Rattle.fd_language.specs.Writing as Writing;
 ghost use Rattle.term_pool.specs.Contents.{Contents, atom_name};
 ghost use Rattle.term_pool.specs.Terms.{term_of, terms_by};
-ghost use Rattle.term_writer.specs.Operators.{operator_of};
 ghost use Rattle.term_writer.specs.Pieces.{IsOf, IsRest, Replaces, piece_text, piece_weight, operator_text, joined, weight, weights};
 ghost use Rattle.term_writer.specs.Views.{mode_of, text_in, text_of};
 
 use crate::atoms::{append, append_name, is_letter_word};
 use crate::names::Names;
-use crate::operators::Operator;
 use crate::pieces::{Form, Piece, Rest, form_of};
 use crate::{Mode, VarText};
 use fd_language::NoMemory;
 use itoa::Buffer;
+use name_syntax::operators::Operator;
 use std::alloc::Global;
 use term_pool::{AtomId, Node, Pool, TermId};
 
@@ -88,7 +87,7 @@ fn open_compound<'p>(
             ahead.extend_from_slice(&[
                 Piece::Text(behind),
                 Piece::Term(right, operator.right_limit()),
-                Piece::Operator(operator),
+                Piece::Operator(name),
                 Piece::Term(left, operator.left_limit()),
                 Piece::Text(before),
             ])?;
@@ -199,7 +198,7 @@ fn write_piece<'p>(
         Piece::Term(t, limit) => open_term(pool, mode, names, t, limit, text, ahead),
         Piece::Rest(t) => open_rest(pool, t, ahead),
         Piece::Arguments(parts) => open_arguments(parts, ahead),
-        Piece::Operator(operator) => append_operator(text, operator.name),
+        Piece::Operator(name) => append_operator(text, name),
         Piece::Text(token) => append(text, token.as_bytes()),
     }
 }

@@ -6,8 +6,8 @@ use Rattle.fd_language.specs.Operators.{infix_of}
 use Rattle.fd_language.specs.Writing.{spelled_compound, spelled_each}
 use Rattle.term_pool.specs.Contents.{atom_name}
 use Rattle.term_pool.specs.Terms.{term_of, terms_by}
-use Rattle.term_writer.specs.Operators.{operator_of}
-use Rattle.term_writer.specs.Pieces.{piece_text, piece_weight, weights, Replaces}
+use Rattle.name_syntax.specs.Operators.{operator_of}
+use Rattle.term_writer.specs.Pieces.{operator_text, piece_text, piece_weight, weights, Replaces}
 use Rattle.term_writer.specs.Views.{mode_of}
 use Rattle.term_writer.proofs.Steps.{curly, cell, operation, call}
 use Rattle.term_writer.proofs.terms.open_compound.Goals as goal
@@ -36,11 +36,11 @@ returns-in_ok-extend_from_slice-in-Infix c = λ vars.
     let pool = c.args.pool.now in
     let name = atom_name pool c.args.atom in
     let is : bytes_eq name (codes ".") ≡ false = ap (λ (n : List ℕ). bytes_eq n (codes ".")) (sym c.name_of-name.ensures.name) ∙ c.in-Infix.ensures.1 in
-    let found : infix_of name ≡ Some (operator_of c.in-Infix.operator) = ap infix_of (sym c.name_of-name.ensures.name) ∙ c.in-Infix.ensures.2 in
+    let found : infix_of name ≡ Some (operator_of name c.in-Infix.operator) = subst (λ (n : List ℕ). infix_of n ≡ Some (operator_of n c.in-Infix.operator)) c.name_of-name.ensures.name c.in-Infix.ensures.2 in
     operation pool (mode_of c.args.mode) vars name c.args.parts.now c.in-Infix.operator c.in-Infix.left c.in-Infix.right c.args.limit c.left_limit.result c.right_limit.result c.args.text.now.items c.parentheses.result.0.now c.parentheses.result.1.now
     c.args.ahead.now.items c.extend_from_slice-in-Infix.new.self.items _ _ _ c.in_ok-extend_from_slice-in-Infix.ensures.items
-    (record { text = refl; light = refl; within = tt }) (record { text = refl; light = refl; within = tt }) (record { text = refl; light = refl; within = tt })
-    c.parentheses.ensures.behind c.parentheses.ensures.before c.left_limit.ensures c.right_limit.ensures c.requires.parts c.in-Infix.ensures.0 is found
+    (record { text = refl; light = refl; within = tt }) (record { text = ap operator_text c.name_of-name.ensures.name; light = refl; within = tt }) (record { text = refl; light = refl; within = tt })
+    c.parentheses.ensures.behind c.parentheses.ensures.before (c.left_limit.ensures name) (c.right_limit.ensures name) c.requires.parts c.in-Infix.ensures.0 is found
 
 pub returns-in_ok-extend_from_slice-in-Call : goal.returns-in_ok-extend_from_slice-in-Call
 unfolding piece_text piece_weight

@@ -32,7 +32,7 @@ unfolding piece_text piece_weight
 returns-in-Operator c =
     subst (λ (p : Piece). OnOk c.append_operator.result (Replaces c.args.pool.now (mode_of c.args.mode) (text_in c.args.names.now) (piece_text c.args.pool.now (mode_of c.args.mode) (text_in c.args.names.now) p) (piece_weight c.args.pool.now p)
     c.args.text.now.items c.args.ahead.now.items c.append_operator.new.text.items c.args.ahead.now.items)) (sym c.in-Operator.is)
-    (on_ok_weaker c.append_operator.result (λ e. done c.args.pool.now (mode_of c.args.mode) (text_in c.args.names.now) (operator_text c.in-Operator.operator.name.now) 1 c.args.text.now.items c.append_operator.new.text.items c.args.ahead.now.items (omega arith) e) c.append_operator.ensures)
+    (on_ok_weaker c.append_operator.result (λ e. done c.args.pool.now (mode_of c.args.mode) (text_in c.args.names.now) (operator_text c.in-Operator.name.now) 1 c.args.text.now.items c.append_operator.new.text.items c.args.ahead.now.items (omega arith) e) c.append_operator.ensures)
 
 pub returns-in-Text : goal.returns-in-Text
 unfolding piece_text piece_weight

@@ -1,7 +1,7 @@
 use Rattle.std.proofs.Common.{ℕ, List, ◌++◌, ◌≡◌, ◌∙◌, sym, ap}
 use Rattle.std.specs.Prelude.{encode_utf8}
 use Rattle.std.proofs.lemmas.Str.{chars_past_char}
-use Rattle.char_tokens.proofs.characters.first_char.Goals as goal
+use Rattle.name_syntax.proofs.characters.first_char.Goals as goal
 
 pub returns-in-Some-clause-characters : goal.returns-in-Some-clause-characters
 returns-in-Some-clause-characters c =
