@@ -1,8 +1,8 @@
 -- The rows of the table, found by bisection. Lemmas that others may cite: `named_infix`, `named_prefix`.
-use Rattle.std.proofs.Common.{◌≡◌, ◌∙◌, sym, ap, subst, ℕ, zero, suc, ◌+◌, ◌<◌, ◌≤◌, List, [], ◌∷◌, length, get_or, Option, Some, None, Bool, true, false, cond, refl, arith, add-one, Ordering, Less, Equal, Greater, Result, Ok, Err}
-use Rattle.std.specs.Prelude.{find, map, option_map, is_some, ◌||◌, ◌&&◌}
+use Rattle.std.proofs.Common.{◌≡◌, ◌∙◌, sym, ap, subst, ℕ, zero, suc, ◌<◌, ◌≤◌, List, [], ◌∷◌, length, get_or, Option, Some, None, Bool, true, false, cond, refl, arith, add-one, Ordering, Less, Equal, Greater, Err}
+use Rattle.std.specs.Prelude.{find, map, option_map, is_some, ◌||◌}
 use Rattle.std.specs.Cmp.Lexicographic.{slice_cmp}
-use Rattle.std.specs.List.{AllAdjacentBelow, list_all, list_any, HoldsAt}
+use Rattle.std.specs.List.{list_any, HoldsAt}
 use Rattle.std.specs.List.Sorted.{IsBinarySearchResult, IsNonDecreasingBy}
 use Rattle.std.specs.Ordering.{nat_cmp, ordering_index, is_eq, is_lt}
 use Rattle.std.specs.Cmp.{first_so, second_so}

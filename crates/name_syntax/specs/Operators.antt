@@ -1,5 +1,5 @@
 -- The code's operators as those of the language.
-use Rattle.std.specs.Prelude.{◌≡◌, Bool, true, false, ◌&&◌, List, [], ◌∷◌, Option, map, option_map}
+use Rattle.std.specs.Prelude.{◌≡◌, Bool, true, ◌&&◌, List, [], ◌∷◌, map, option_map}
 use Rattle.std.specs.Cmp.Lexicographic.{slice_cmp}
 use Rattle.std.specs.List.{list_all, list_any}
 use Rattle.std.specs.Ordering.{nat_cmp, is_lt}
@@ -22,6 +22,10 @@ fixity_of PrefixNotAssociative = language.prefix_not_associative
 -- the operator of this name
 abbrev pub operator_of : Name → Operator → language.Operator
 operator_of name f = operator_row f.priority (fixity_of f.fixity) name
+
+-- the operator of no name, for what does not ask for it
+abbrev pub nameless : Operator → language.Operator
+nameless f = operator_of [] f
 
 -- ---- the rows of the code's table
 

@@ -2,8 +2,7 @@
 
 ghost use Rattle.std.specs.Prelude.{◌≡◌, ◌||◌, option_map, is_some};
 ghost use Rattle.fd_language.specs.Operators.{infix_of, prefix_of, is_operator, left_limit, right_limit};
-ghost use Rattle.fd_language.specs.Term.{Name};
-ghost use Rattle.name_syntax.specs.Operators.{operator_of, AreRows};
+ghost use Rattle.name_syntax.specs.Operators.{operator_of, nameless, AreRows};
 
 /// On which side an operand may have the operator's own priority.
 #[derive(Clone, Copy, Debug, PartialEq, Eq)]
@@ -46,7 +45,7 @@ pub const COMMA: Operator = Operator {
 impl Operator {
     /// The greatest priority that the left operand may have; 0 of a prefix operator.
     pub fn left_limit(self) -> u32
-        ensures { (o : Name) → result ≡ left_limit (operator_of o self) }
+        ensures { result ≡ left_limit (nameless self) }
     {
         match self.fixity {
             Fixity::LeftAssociative => self.priority,
@@ -57,7 +56,7 @@ impl Operator {
 
     /// The greatest priority that the right operand may have.
     pub fn right_limit(self) -> u32
-        ensures { (o : Name) → result ≡ right_limit (operator_of o self) }
+        ensures { result ≡ right_limit (nameless self) }
     {
         match self.fixity {
             Fixity::RightAssociative | Fixity::PrefixAssociative => self.priority,

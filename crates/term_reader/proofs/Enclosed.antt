@@ -102,8 +102,8 @@ moves_next r r2 t w h (Some (Curly p)) e k e0 e1 e2 e3 at = absurd k
 moves_next r r2 t w h (Some (Call p a from)) e k e0 e1 e2 e3 at = moves_argument r r2 t p from a w h (on_top r (Call p a from) w e) e0 e1 e2 e3 at
 moves_next r r2 t w h (Some (Listed p from)) e k e0 e1 e2 e3 at = moves_element r r2 t p from w h (on_top r (Listed p from) w e) e0 e1 e2 e3 at
 moves_next r r2 t w h (Some (Tail p from)) e k e0 e1 e2 e3 at = absurd k
-moves_next r r2 t w h (Some (Prefix p f)) e k e0 e1 e2 e3 at = absurd k
-moves_next r r2 t w h (Some (Infix p f l)) e k e0 e1 e2 e3 at = absurd k
+moves_next r r2 t w h (Some (Prefix p a f)) e k e0 e1 e2 e3 at = absurd k
+moves_next r r2 t w h (Some (Infix p a f l)) e k e0 e1 e2 e3 at = absurd k
 
 -- ---- lists, curly terms and parentheses on top
 

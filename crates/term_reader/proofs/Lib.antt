@@ -1,6 +1,5 @@
 pub mod Sound
 pub mod Complete
-pub mod Rows
 pub mod PlacedLaws
 pub mod Stacks
 pub mod Moves

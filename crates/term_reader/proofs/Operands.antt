@@ -20,8 +20,9 @@ use Rattle.term_pool.specs.Contents.{Contents, atom_name}
 use Rattle.term_pool.specs.Terms.{Extends}
 use Rattle.term_pool.specs.Valid.{IsPool}
 use Rattle.term_pool.proofs.Laws.{name_kept, extends_refl, extends_trans}
-use Rattle.term_reader.specs.Operators.{operator_of}
-use Rattle.term_reader.specs.declared.operators.Operator.{Operator}
+use Rattle.name_syntax.specs.declared.operators.Operator.{Operator}
+use Rattle.name_syntax.specs.declared.operators.Roles.{Roles}
+use Rattle.name_syntax.specs.Operators.{operator_of, nameless}
 use Rattle.term_reader.specs.declared.parser.Terminal.{Terminal}
 use Rattle.term_reader.specs.declared.parser.Terminal.TheVariants as tokens
 use Rattle.term_reader.specs.declared.parser.Item.{Item}
@@ -31,10 +32,9 @@ use Rattle.term_reader.specs.declared.parser.Expecting.TheVariants as expect
 use Rattle.term_reader.specs.declared.parser.Parser.{Parser}
 use Rattle.term_pool.specs.PlacedTerms.{placed_of}
 use Rattle.term_reader.specs.PlacedTerms.{parts_of, Adds}
-use Rattle.term_reader.specs.View.{terminal_at, IsTerminal, stack_of, stack_over, stack, state, state_by, HaveRoom, IsWhole, IsExpecting, Moves, Steps, Stays, last_item, item_limit, closing_of, allows_lone, HasOperand, IsNegative}
+use Rattle.term_reader.specs.View.{terminal_at, IsTerminal, IsOperatorWord, IsNamed, infix_name, stack_of, stack_over, stack, state, state_by, HaveRoom, IsWhole, IsExpecting, Moves, Steps, Stays, last_item, item_limit, closing_of, allows_lone, HasOperand, IsNegative}
 use Rattle.term_reader.proofs.PlacedLaws.{placed_kept, extends_length, extends_names, parts_of_none}
 use Rattle.term_reader.proofs.Stacks.{front, last_none, turned, turned_push, terms_more, ids_more, stack_kept}
-use Rattle.term_reader.proofs.Rows.{prefix_named}
 use Rattle.term_reader.proofs.Moves.{whole_is, moves_not, moves_term, moves_same}
 
 -- ---- outcomes
@@ -63,12 +63,21 @@ if_place (Err f) c o r p m = tt
 
 pub terminal_kept : (c d : Contents) → Extends c d → (x : Terminal) → IsTerminal c x → (p : ℕ) → terminal_at d p x ≡ terminal_at c p x
 terminal_kept c d e (tokens.Name a) h p = ap (λ (n : Name). terminals.name p n) (name_kept c d e a h)
-terminal_kept c d e (tokens.OperatorWord a) h p = ap (λ (n : Name). terminals.operator_word p n) (name_kept c d e a h)
+terminal_kept c d e (tokens.OperatorWord a r) h p = ap (λ (n : Name). terminals.operator_word p n) (name_kept c d e a h.own)
 terminal_kept c d e _ h p = refl
+
+pub word_more : (c d : Contents) → Extends c d → (a : AtomId) (r : Roles) → IsOperatorWord c a r → IsOperatorWord d a r
+word_more c d e a r h =
+    let same : atom_name c a ≡ atom_name d a = sym (name_kept c d e a h.own) in
+    record {
+      own = omega (arith, h.own, extends_names c d e);
+      between = subst (λ (n : Name). option_map (operator_of n) r.infix ≡ infix_of n) same h.between;
+      before = subst (λ (n : Name). option_map (operator_of n) r.prefix ≡ prefix_of n) same h.before;
+    }
 
 pub terminal_more : (c d : Contents) → Extends c d → (x : Terminal) → IsTerminal c x → IsTerminal d x
 terminal_more c d e (tokens.Name a) h = omega (arith, h, extends_names c d e)
-terminal_more c d e (tokens.OperatorWord a) h = omega (arith, h, extends_names c d e)
+terminal_more c d e (tokens.OperatorWord a r) h = word_more c d e a r h
 terminal_more c d e (tokens.Integer b z) h = h
 terminal_more c d e _ h = tt
 
@@ -76,7 +85,7 @@ expecting_more : (c d : Contents) → Extends c d → (e : Expecting) → IsExpe
 expecting_more c d x expect.Operand h = tt
 expecting_more c d x (expect.BehindOpenList p) h = tt
 expecting_more c d x (expect.BehindOpenCurly p) h = tt
-expecting_more c d x (expect.BehindOperator p a) h = omega (arith, h, extends_names c d x)
+expecting_more c d x (expect.BehindOperator p a r) h = word_more c d x a r h
 expecting_more c d x (expect.BehindName p a) h = omega (arith, h, extends_names c d x)
 expecting_more c d x (expect.BehindOperand t) h = omega (arith, h, extends_length c d x)
 
@@ -168,8 +177,8 @@ head_limit c done ts (Curly p) ys = refl
 head_limit c done ts (Call p a n) ys = refl
 head_limit c done ts (Listed p n) ys = refl
 head_limit c done ts (Tail p n) ys = refl
-head_limit c done ts (Prefix p f) ys = refl
-head_limit c done ts (Infix p f l) ys = refl
+head_limit c done ts (Prefix p a f) ys = refl
+head_limit c done ts (Infix p a f l) ys = refl
 
 pub limit_is : (r : Parser) (o : Option Item) → last_item r.items.items ≡ o → (done : List PlacedTerm) → limit (stack r done) ≡ item_limit o
 limit_is r None e done = ap (λ (zs : List Item). limit (stack_of r.pool (top done) r.arguments.items (reverse zs))) (last_none r.items.items e)
@@ -178,7 +187,7 @@ limit_is r (Some y) e done =
     ∙ head_limit r.pool done r.arguments.items y (reverse (front r.items.items))
 
 infix_place : (c : Contents) (p : ℕ) (x : Terminal) (f : model.Operator) → infix_operator (terminal_at c p x) ≡ Some f → place_of (terminal_at c p x) ≡ p
-infix_place c p (tokens.OperatorWord a) f e = refl
+infix_place c p (tokens.OperatorWord a r) f e = refl
 infix_place c p tokens.Comma f e = refl
 infix_place c p _ f e = absurd cc
 
@@ -193,37 +202,54 @@ placed_no p f d n e (inr h) = both (nat_le f.priority (limit d.stack)) (cond (na
     both true x z = z
     both false x z = refl
 
--- the parser r2 has the operator on top of r1
-pub moves_attach : (p place : ℕ) (f : Operator) (s t : TermId) (x : Terminal) (r r1 r2 : Parser) → IsWhole r → Steps (Some f.priority) r.pool r1.pool r.items.items r1.items.items 0 p s t → Stays (Some f.priority) r1.pool r1.items.items → r1.arguments ≡ r.arguments → r1.expecting ≡ r.expecting
-    → infix_operator (terminal_at r.pool place x) ≡ Some (operator_of f) → f.priority ≤ item_limit (last_item r1.items.items) → p ≤ left_limit (operator_of f)
-    → r2.pool ≡ r1.pool → r2.arguments ≡ r1.arguments → r2.items.items ≡ r1.items.items ++ Infix place f t ∷ [] → r2.expecting ≡ expect.Operand
+-- the name of an operator stays
+infix_kept : (c d : Contents) → Extends c d → (x : Terminal) → IsTerminal c x → infix_name d x ≡ infix_name c x
+infix_kept c d e (tokens.OperatorWord a r) h = name_kept c d e a h.own
+infix_kept c d e _ h = refl
+
+pub named_from : (b c d : Contents) (x : Terminal) (a : AtomId) → Extends b c → IsTerminal b x → IsNamed c d (infix_name c x) a → IsNamed c d (infix_name b x) a
+named_from b c d x a e h g = subst (λ (n : Name). IsNamed c d n a) (infix_kept b c e x h) g
+
+-- the parser r3 has the operator's atom besides what r1 has, and r2 the operator on top of it
+pub moves_attach : (p place : ℕ) (f : Operator) (a : AtomId) (s t : TermId) (x : Terminal) (r r1 r3 r2 : Parser) → IsWhole r → Steps (Some f.priority) r.pool r1.pool r.items.items r1.items.items 0 p s t → Stays (Some f.priority) r1.pool r1.items.items → r1.arguments ≡ r.arguments → r1.expecting ≡ r.expecting
+    → infix_operator (terminal_at r.pool place x) ≡ Some (operator_of (infix_name r.pool x) f) → f.priority ≤ item_limit (last_item r1.items.items) → p ≤ left_limit (nameless f)
+    → IsNamed r1.pool r3.pool (infix_name r.pool x) a → r3.arguments ≡ r1.arguments → r3.items ≡ r1.items → r3.expecting ≡ r1.expecting
+    → r2.pool ≡ r3.pool → r2.arguments ≡ r3.arguments → r2.items.items ≡ r3.items.items ++ Infix place a f t ∷ [] → r2.expecting ≡ expect.Operand
     → Moves r.pool (λ done. behind_operand (stack r done) (placed_of r.pool s) (terminal_at r.pool place x)) r2 true
-moves_attach p place f s t x r r1 r2 w k n e e' is h l e0 e1 e2 e3 =
+moves_attach p place f a s t x r r1 r3 r2 w k n e e' is h l g g1 g2 g3 e0 e1 e2 e3 =
     let w1 = whole_reduced r r1 w k e e' in
+    let w3 = whole_grown r1 r3 w1 g.grows g.valid g1 g2 g3 in
     let tok = terminal_at r.pool place x in
-    moves_from r.pool r1.pool (λ done. Some (want (between place (operator_of f) (placed_of r1.pool t) (stack r1 done)))) (λ done. behind_operand (stack r done) (placed_of r.pool s) tok) r2 true k.grows
+    let o : model.Operator = operator_of (infix_name r.pool x) f in
+    moves_from r.pool r3.pool (λ done. Some (want (between place (operator_of (atom_name r3.pool a) f) (placed_of r3.pool t) (stack r3 done)))) (λ done. behind_operand (stack r done) (placed_of r.pool s) tok) r2 true
+    (extends_trans r.pool r1.pool r3.pool k.grows g.grows)
     (λ done.
     let d : Reduced = record { stack = stack r1 done; priority = p; term = placed_of r1.pool t } in
-    ap (λ (o : Option model.Operator). or_else (attach (place_of tok) o (stack r done) (placed_of r.pool s)) (ended (reduce None (stack r done) 0 (placed_of r.pool s)) tok)) is
-    ∙ ap (λ (u : Reduced). or_else (placed (place_of tok) (operator_of f) u) (ended (reduce None (stack r done) 0 (placed_of r.pool s)) tok)) (reduced_is (Some f.priority) 0 p s t r r1 w k n e done)
-    ∙ ap (λ (q : ℕ). or_else (placed q (operator_of f) d) (ended (reduce None (stack r done) 0 (placed_of r.pool s)) tok)) (infix_place r.pool place x (operator_of f) is)
-    ∙ ap (λ (o : Option State). or_else o (ended (reduce None (stack r done) 0 (placed_of r.pool s)) tok)) (placed_yes place (operator_of f) d (item_limit (last_item r1.items.items)) (limit_is r1 (last_item r1.items.items) refl done) h l))
-    (moves_same r1.pool r2 r1.arguments.items (Infix place f t ∷ reverse r1.items.items) expect.Operand (λ done. Some (want (between place (operator_of f) (placed_of r1.pool t) (stack r1 done)))) e0 w1.pool w1.arguments (k.operand, w1.ids) w1.room tt
-    (rw e1 refl) (ap reverse e2 ∙ turned_push r1.items.items (Infix place f t)) e3 (λ done. refl))
+    ap (λ (u : Option model.Operator). or_else (attach (place_of tok) u (stack r done) (placed_of r.pool s)) (ended (reduce None (stack r done) 0 (placed_of r.pool s)) tok)) is
+    ∙ ap (λ (u : Reduced). or_else (placed (place_of tok) o u) (ended (reduce None (stack r done) 0 (placed_of r.pool s)) tok)) (reduced_is (Some f.priority) 0 p s t r r1 w k n e done)
+    ∙ ap (λ (q : ℕ). or_else (placed q o d) (ended (reduce None (stack r done) 0 (placed_of r.pool s)) tok)) (infix_place r.pool place x o is)
+    ∙ ap (λ (u : Option State). or_else u (ended (reduce None (stack r done) 0 (placed_of r.pool s)) tok)) (placed_yes place o d (item_limit (last_item r1.items.items)) (limit_is r1 (last_item r1.items.items) refl done) h l)
+    ∙ ap (λ (m : Name). Some (want (between place (operator_of m f) (placed_of r1.pool t) (stack r1 done)))) (sym g.is)
+    ∙ ap (λ (u : PlacedTerm). Some (want (between place (operator_of (atom_name r3.pool a) f) u (stack r1 done)))) (sym (placed_kept r1.pool r3.pool k.valid g.grows t k.operand))
+    ∙ ap (λ (u : Stack). Some (want (between place (operator_of (atom_name r3.pool a) f) (placed_of r3.pool t) u))) (sym (stack_grown r1 r3 w1 g.grows g1 g2 done)))
+    (moves_same r3.pool r2 r3.arguments.items (Infix place a f t ∷ reverse r3.items.items) expect.Operand (λ done. Some (want (between place (operator_of (atom_name r3.pool a) f) (placed_of r3.pool t) (stack r3 done)))) e0 w3.pool w3.arguments
+    (g.own, omega (arith, k.operand, extends_length r1.pool r3.pool g.grows), w3.ids) w3.room tt
+    (rw e1 refl) (ap reverse e2 ∙ turned_push r3.items.items (Infix place a f t)) e3 (λ done. refl))
 
 pub moves_attach_not : {E : Type 0} (res : Result Bool E) (p place : ℕ) (f : Operator) (s t : TermId) (x : Terminal) (r r1 r2 : Parser) → IsWhole r → IsTerminal r.pool x → Steps (Some f.priority) r.pool r1.pool r.items.items r1.items.items 0 p s t → Stays (Some f.priority) r1.pool r1.items.items → r1.arguments ≡ r.arguments
-    → infix_operator (terminal_at r.pool place x) ≡ Some (operator_of f) → (item_limit (last_item r1.items.items) < f.priority) ⊎ (left_limit (operator_of f) < p)
+    → infix_operator (terminal_at r.pool place x) ≡ Some (operator_of (infix_name r.pool x) f) → (item_limit (last_item r1.items.items) < f.priority) ⊎ (left_limit (nameless f) < p)
     → IfOk res (λ b. (at : ℕ) → Moves r1.pool (λ done. ended (reduce None (stack r1 done) p (placed_of r1.pool t)) (terminal_at r1.pool at x)) r2 b)
     → IfOk res (Moves r.pool (λ done. behind_operand (stack r done) (placed_of r.pool s) (terminal_at r.pool place x)) r2)
 moves_attach_not res p place f s t x r r1 r2 w h k n e is lacks m =
     let tok = terminal_at r.pool place x in
+    let o : model.Operator = operator_of (infix_name r.pool x) f in
     if_moves_from res r.pool r1.pool (λ done. ended (reduce None (stack r1 done) p (placed_of r1.pool t)) (terminal_at r1.pool place x)) (λ done. behind_operand (stack r done) (placed_of r.pool s) tok) r2 k.grows
     (λ done.
     let d : Reduced = record { stack = stack r1 done; priority = p; term = placed_of r1.pool t } in
     let comes = reduced_is (Some f.priority) 0 p s t r r1 w k n e done in
-    ap (λ (o : Option model.Operator). or_else (attach (place_of tok) o (stack r done) (placed_of r.pool s)) (ended (reduce None (stack r done) 0 (placed_of r.pool s)) tok)) is
-    ∙ ap (λ (u : Reduced). or_else (placed (place_of tok) (operator_of f) u) (ended (reduce None (stack r done) 0 (placed_of r.pool s)) tok)) comes
-    ∙ ap (λ (o : Option State). or_else o (ended (reduce None (stack r done) 0 (placed_of r.pool s)) tok)) (placed_no (place_of tok) (operator_of f) d (item_limit (last_item r1.items.items)) (limit_is r1 (last_item r1.items.items) refl done) lacks)
+    ap (λ (u : Option model.Operator). or_else (attach (place_of tok) u (stack r done) (placed_of r.pool s)) (ended (reduce None (stack r done) 0 (placed_of r.pool s)) tok)) is
+    ∙ ap (λ (u : Reduced). or_else (placed (place_of tok) o u) (ended (reduce None (stack r done) 0 (placed_of r.pool s)) tok)) comes
+    ∙ ap (λ (u : Option State). or_else u (ended (reduce None (stack r done) 0 (placed_of r.pool s)) tok)) (placed_no (place_of tok) o d (item_limit (last_item r1.items.items)) (limit_is r1 (last_item r1.items.items) refl done) lacks)
     ∙ ap (λ (u : Reduced). ended u tok) (reduce_further (Some f.priority) (stack r done) 0 (placed_of r.pool s) ∙ ap (λ (u : Reduced). reduce None u.stack u.priority u.term) comes)
     ∙ ap (λ (y : terminals.Terminal). ended (reduce None (stack r1 done) p (placed_of r1.pool t)) y) (sym (terminal_kept r.pool r1.pool k.grows x h place)))
     (if_place res r1.pool (λ at done. ended (reduce None (stack r1 done) p (placed_of r1.pool t)) (terminal_at r1.pool at x)) r2 place m)
@@ -237,8 +263,8 @@ moves_no_infix res place s x r r2 is m =
     (λ done. ap (λ (o : Option model.Operator). or_else (attach (place_of tok) o (stack r done) (placed_of r.pool s)) (ended (reduce None (stack r done) 0 (placed_of r.pool s)) tok)) is)
     (if_place res r.pool (λ at done. ended (reduce None (stack r done) 0 (placed_of r.pool s)) (terminal_at r.pool at x)) r2 place m)
 
-pub not_infix : (o : Option Operator) (u : Option model.Operator) → option_map operator_of o ≡ u → o ≡ None → u ≡ None
-not_infix o u e h = sym e ∙ ap (option_map operator_of) h
+pub not_infix : (n : Name) (o : Option Operator) (u : Option model.Operator) → option_map (operator_of n) o ≡ u → o ≡ None → u ≡ None
+not_infix n o u e h = sym e ∙ ap (option_map (operator_of n)) h
 
 -- ---- calls and prefix operators
 
@@ -264,14 +290,15 @@ stack_begins_list r r1 p from e e0 e1 e2 done =
     ∙ ap (λ (xs : PlacedTerms). items p xs (stack_of r.pool (top done) (take from ts) ys)) (ap (parts_of r.pool) (drop_all from ts (omega (arith, e))) ∙ parts_of_none r.pool)
     ∙ ap (λ (us : List TermId). items p no_parts (stack_of r.pool (top done) us ys)) (take_all from ts (omega (arith, e)))
 
-pub stack_prefixed : (r r1 : Parser) (p : ℕ) (f : Operator) → r1.pool ≡ r.pool → r1.arguments.items ≡ r.arguments.items → r1.items.items ≡ r.items.items ++ Prefix p f ∷ [] → (done : List PlacedTerm) → stack r1 done ≡ before p f.name.now (operator_of f) (stack r done)
-stack_prefixed r r1 p f e0 e1 e2 done =
+pub stack_prefixed : (r r1 : Parser) (p : ℕ) (a : AtomId) (f : Operator) → r1.pool ≡ r.pool → r1.arguments.items ≡ r.arguments.items → r1.items.items ≡ r.items.items ++ Prefix p a f ∷ [] → (done : List PlacedTerm)
+    → stack r1 done ≡ before p (atom_name r.pool a) (operator_of (atom_name r.pool a) f) (stack r done)
+stack_prefixed r r1 p a f e0 e1 e2 done =
     ap (λ (us : List TermId). stack_of r1.pool (top done) us (reverse r1.items.items)) e1
-    ∙ ap (λ (zs : List Item). stack_of r1.pool (top done) r.arguments.items zs) (ap reverse e2 ∙ turned_push r.items.items (Prefix p f))
-    ∙ ap (λ (c : Contents). stack_of c (top done) r.arguments.items (Prefix p f ∷ reverse r.items.items)) e0
+    ∙ ap (λ (zs : List Item). stack_of r1.pool (top done) r.arguments.items zs) (ap reverse e2 ∙ turned_push r.items.items (Prefix p a f))
+    ∙ ap (λ (c : Contents). stack_of c (top done) r.arguments.items (Prefix p a f ∷ reverse r.items.items)) e0
 
-pub moves_prefix : {E : Type 0} (res : Result Bool E) (r r1 r2 : Parser) (at place : ℕ) (a : AtomId) (f : Operator) (x : Terminal) → prefix_of (atom_name r.pool a) ≡ Some (operator_of f) → f.priority ≤ item_limit (last_item r.items.items)
-    → r1.pool ≡ r.pool → r1.arguments.items ≡ r.arguments.items → r1.items.items ≡ r.items.items ++ Prefix at f ∷ []
+pub moves_prefix : {E : Type 0} (res : Result Bool E) (r r1 r2 : Parser) (at place : ℕ) (a : AtomId) (f : Operator) (x : Terminal) → prefix_of (atom_name r.pool a) ≡ Some (operator_of (atom_name r.pool a) f) → f.priority ≤ item_limit (last_item r.items.items)
+    → r1.pool ≡ r.pool → r1.arguments.items ≡ r.arguments.items → r1.items.items ≡ r.items.items ++ Prefix at a f ∷ []
     → IfOk res (Moves r.pool (λ done. wanted (stack r1 done) (terminal_at r.pool place x)) r2)
     → IfOk res (Moves r.pool (λ done. begun at (atom_name r.pool a) (prefix_of (atom_name r.pool a)) (stack r done) (terminal_at r.pool place x)) r2)
 moves_prefix res r r1 r2 at place a f x is h e0 e1 e2 m =
@@ -279,19 +306,18 @@ moves_prefix res r r1 r2 at place a f x is h e0 e1 e2 m =
     let tok = terminal_at r.pool place x in
     if_moves res r.pool (λ done. wanted (stack r1 done) tok) (λ done. begun at n (prefix_of n) (stack r done) tok) r2
     (λ done. ap (λ (o : Option model.Operator). begun at n o (stack r done) tok) is
-    ∙ ap (λ (b : Bool). cond b (wanted (before at n (operator_of f) (stack r done)) tok) None) (le-leb f.priority (limit (stack r done)) (omega (arith, h, limit_is r (last_item r.items.items) refl done)))
-    ∙ ap (λ (m : Name). wanted (before at m (operator_of f) (stack r done)) tok) (sym (prefix_named n (operator_of f) is))
-    ∙ ap (λ (s : Stack). wanted s tok) (sym (stack_prefixed r r1 at f e0 e1 e2 done)))
+    ∙ ap (λ (b : Bool). cond b (wanted (before at n (operator_of n f) (stack r done)) tok) None) (le-leb f.priority (limit (stack r done)) (omega (arith, h, limit_is r (last_item r.items.items) refl done)))
+    ∙ ap (λ (s : Stack). wanted s tok) (sym (stack_prefixed r r1 at a f e0 e1 e2 done)))
     m
 
-pub moves_prefix_not : (r r2 : Parser) (at place : ℕ) (a : AtomId) (f : Operator) (x : Terminal) → prefix_of (atom_name r.pool a) ≡ Some (operator_of f) → item_limit (last_item r.items.items) < f.priority
+pub moves_prefix_not : (r r2 : Parser) (at place : ℕ) (a : AtomId) (f : Operator) (x : Terminal) → prefix_of (atom_name r.pool a) ≡ Some (operator_of (atom_name r.pool a) f) → item_limit (last_item r.items.items) < f.priority
     → Moves r.pool (λ done. begun at (atom_name r.pool a) (prefix_of (atom_name r.pool a)) (stack r done) (terminal_at r.pool place x)) r2 false
 moves_prefix_not r r2 at place a f x is h =
     let n = atom_name r.pool a in
     let tok = terminal_at r.pool place x in
     moves_not r.pool (λ done. begun at n (prefix_of n) (stack r done) tok) r2
     (λ done. ap (λ (o : Option model.Operator). begun at n o (stack r done) tok) is
-    ∙ ap (λ (b : Bool). cond b (wanted (before at n (operator_of f) (stack r done)) tok) None) (lt-leb f.priority (limit (stack r done)) (omega (arith, h, limit_is r (last_item r.items.items) refl done))))
+    ∙ ap (λ (b : Bool). cond b (wanted (before at n (operator_of n f) (stack r done)) tok) None) (lt-leb f.priority (limit (stack r done)) (omega (arith, h, limit_is r (last_item r.items.items) refl done))))
 
 -- ---- an operator word where an operand was wanted
 
@@ -421,8 +447,8 @@ stop_head c done ts (Curly p) ys t = refl
 stop_head c done ts (Call p a n) ys t = refl
 stop_head c done ts (Listed p n) ys t = refl
 stop_head c done ts (Tail p n) ys t = refl
-stop_head c done ts (Prefix p f) ys t = refl
-stop_head c done ts (Infix p f l) ys t = refl
+stop_head c done ts (Prefix p a f) ys t = refl
+stop_head c done ts (Infix p a f l) ys t = refl
 
 pub some_last : (xs : List Item) → length xs ≢ 0 → (x : Item) × (last_item xs ≡ Some x)
 some_last [] h = absurd (h refl)
@@ -443,8 +469,8 @@ not_top c done terms ts (Curly p) ys e = cc
 not_top c done terms ts (Call p a n) ys e = cc
 not_top c done terms ts (Listed p n) ys e = cc
 not_top c done terms ts (Tail p n) ys e = cc
-not_top c done terms ts (Prefix p f) ys e = cc
-not_top c done terms ts (Infix p f l) ys e = cc
+not_top c done terms ts (Prefix p a f) ys e = cc
+not_top c done terms ts (Infix p a f l) ys e = cc
 
 want_same : (s u : Stack) → want s ≡ want u → s ≡ u
 want_same s u e = cc
@@ -470,7 +496,7 @@ state_by_kept : (c d : Contents) → IsPool c → Extends c d → (s : Stack) (e
 state_by_kept c d v x s expect.Operand h = refl
 state_by_kept c d v x s (expect.BehindOpenList p) h = refl
 state_by_kept c d v x s (expect.BehindOpenCurly p) h = refl
-state_by_kept c d v x s (expect.BehindOperator p a) h = ap (λ (n : Name). at_operator p n s) (name_kept c d x a h)
+state_by_kept c d v x s (expect.BehindOperator p a r) h = ap (λ (n : Name). at_operator p n s) (name_kept c d x a h.own)
 state_by_kept c d v x s (expect.BehindName p a) h = ap (λ (n : Name). after (Some (p, n)) s (atom n p)) (name_kept c d x a h)
 state_by_kept c d v x s (expect.BehindOperand t) h = ap (λ (u : PlacedTerm). after None s u) (placed_kept c d v x t h)
 

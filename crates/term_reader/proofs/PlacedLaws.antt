@@ -1,7 +1,6 @@
 -- Laws of the placed terms that ids stand for.
-use Rattle.std.proofs.Common.{◌≡◌, ℕ, suc, ◌<◌, ◌≤◌, ◌+◌, List, [], ◌∷◌, ◌++◌, Option, Some, refl, ap, ◌∙◌, arith, length, length-append}
-use Rattle.std.specs.Prelude.{slice_get, unwrap_or, All, Result, Ok, Err, IfOk, OnOk}
-use Rattle.std.proofs.lemmas.List.Elements.{All-head, All-tail}
+use Rattle.std.proofs.Common.{◌≡◌, ℕ, suc, ◌<◌, ◌≤◌, ◌+◌, List, [], ◌∷◌, ◌++◌, Some, refl, ap, ◌∙◌, arith, length, length-append}
+use Rattle.std.specs.Prelude.{slice_get, All, Result, Ok, Err, IfOk, OnOk}
 use Rattle.fd_language.specs.Term.{Name}
 use Rattle.fd_language.specs.PlacedTerm.{PlacedTerm, atom, comp, no_parts, one, part, two, with_last}
 use Rattle.term_pool.specs.declared.AtomId.{AtomId}
@@ -10,7 +9,7 @@ use Rattle.term_pool.specs.Contents as pool
 use Rattle.term_pool.specs.Contents.{Shape, Entry, Contents, atom_name, name_in}
 use Rattle.term_pool.specs.Terms.{Extends}
 use Rattle.term_pool.specs.Valid.{IsPool, IsWithin}
-use Rattle.term_pool.proofs.Names.{slice_get-append, slice_get_seam, name_in-append}
+use Rattle.term_pool.proofs.Names.{name_in-append}
 use Rattle.term_pool.proofs.Laws.{extends_trans}
 use Rattle.term_pool.proofs.PlacedShapes.{parts_by_same, numbered_seam, front_kept}
 use Rattle.term_pool.specs.PlacedTerms.{parts_by, placed_by, numbered, placed_from, placed_of}

@@ -1,9 +1,12 @@
 -- Tokens as the grammar sees them, over a pool that grows.
-use Rattle.std.proofs.Common.{◌≡◌, ℕ, ◌<◌, List, [], ◌∷◌, ◌++◌, length, map, Some, Bool, true, false, cond, refl, sym, ap, subst, ◌∙◌, arith}
-use Rattle.std.specs.Prelude.{All, ◌==◌}
+use Rattle.std.proofs.Common.{◌≡◌, ℕ, ◌<◌, List, [], ◌∷◌, ◌++◌, length, map, Option, Some, Bool, true, false, cond, refl, sym, ap, subst, ◌∙◌, arith}
+use Rattle.std.specs.Prelude.{All, ◌==◌, option_map}
 use Rattle.std.specs.List.{list_any}
 use Rattle.std.proofs.lemmas.List.Elements.{All-head, All-tail, All-push}
 use Rattle.fd_language.specs.Term.{Name}
+use Rattle.fd_language.specs.Operators.{infix_of, prefix_of, is_operator}
+use Rattle.name_syntax.specs.declared.operators.Operator.{Operator}
+use Rattle.name_syntax.specs.Operators.{operator_of}
 use Rattle.fd_language.specs.Terminals as model
 use Rattle.fd_language.specs.Tokens.{Kind, Word, Quoted, Variable, Punct, Lexeme, unquoted}
 use Rattle.fd_language.specs.Reading.{terminal_of, terminal_by, names_behind, names_by, word_terminal, punct_terminal, variable_number, with_variable}
@@ -36,6 +39,29 @@ variables_more c d x v h = record {
   names = ids_more c d x v.names.items h.names;
   anonymous = omega (arith, h.anonymous, extends_names c d x);
   spelled = name_kept c d x v.anonymous h.anonymous ∙ h.spelled;
+}
+
+-- a word that is an operator
+pub knows_operator : (c d : Contents) (a : AtomId) (f g : Option Operator) (text : Name) → Extends c d → IsPool d → a.number < length d.names → atom_name d a ≡ text
+    → option_map (operator_of text) f ≡ infix_of text → option_map (operator_of text) g ≡ prefix_of text → is_operator text ≡ true → Knows c d (λ p. word_terminal p text) (tokens.OperatorWord a (record { «infix» = f; prefix = g }))
+knows_operator c d a f g text x v own named between before is = record {
+  grows = x;
+  valid = v;
+  terminal = record {
+    own = own;
+    between = subst (λ (n : Name). option_map (operator_of n) f ≡ infix_of n) (sym named) between;
+    before = subst (λ (n : Name). option_map (operator_of n) g ≡ prefix_of n) (sym named) before;
+  };
+  is = λ p. ap (model.operator_word p) named ∙ ap (λ (b : Bool). cond b (model.operator_word p text) (model.name p text)) (sym is);
+}
+
+-- a word that is none
+pub knows_name : (c d : Contents) (a : AtomId) (text : Name) → Extends c d → IsPool d → a.number < length d.names → atom_name d a ≡ text → is_operator text ≡ false → Knows c d (λ p. word_terminal p text) (tokens.Name a)
+knows_name c d a text x v own named is = record {
+  grows = x;
+  valid = v;
+  terminal = own;
+  is = λ p. ap (model.name p) named ∙ ap (λ (b : Bool). cond b (model.operator_word p text) (model.name p text)) (sym is);
 }
 
 -- a token that changes no variables

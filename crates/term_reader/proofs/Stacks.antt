@@ -8,12 +8,13 @@ use Rattle.fd_language.specs.PlacedTerm.{PlacedTerm, comp, one, two}
 use Rattle.fd_language.specs.Operators.{right_limit}
 use Rattle.fd_language.proofs.ReadingSteps.{Stack, top, paren, curly, before, between, reduce, gives_way}
 use Rattle.term_pool.specs.declared.TermId.{TermId}
-use Rattle.term_pool.specs.Contents.{Contents}
+use Rattle.term_pool.specs.Contents.{Contents, atom_name}
 use Rattle.term_pool.specs.Terms.{Extends}
 use Rattle.term_pool.specs.Valid.{IsPool}
 use Rattle.term_pool.proofs.Laws.{name_kept, extends_refl, extends_trans}
-use Rattle.term_reader.specs.Operators.{operator_of}
-use Rattle.term_reader.specs.declared.operators.Operator.{Operator}
+use Rattle.term_pool.specs.declared.AtomId.{AtomId}
+use Rattle.name_syntax.specs.declared.operators.Operator.{Operator}
+use Rattle.name_syntax.specs.Operators.{operator_of, nameless}
 use Rattle.term_reader.specs.declared.parser.Item.{Item}
 use Rattle.term_reader.specs.declared.parser.Item.TheVariants.{Parenthesis, Curly, Call, List as Listed, Tail, Prefix, Infix}
 use Rattle.term_pool.specs.PlacedTerms.{placed_of}
@@ -58,8 +59,8 @@ ids_more c d x (Curly p ∷ xs) h = ids_more c d x xs h
 ids_more c d x (Call p a from ∷ xs) h = (omega (arith, h.0, extends_names c d x), ids_more c d x xs h.1)
 ids_more c d x (Listed p from ∷ xs) h = ids_more c d x xs h
 ids_more c d x (Tail p from ∷ xs) h = ids_more c d x xs h
-ids_more c d x (Prefix p f ∷ xs) h = ids_more c d x xs h
-ids_more c d x (Infix p f l ∷ xs) h = (omega (arith, h.0, extends_length c d x), ids_more c d x xs h.1)
+ids_more c d x (Prefix p a f ∷ xs) h = (omega (arith, h.0, extends_names c d x), ids_more c d x xs h.1)
+ids_more c d x (Infix p a f l ∷ xs) h = (omega (arith, h.0, extends_names c d x), omega (arith, h.1, extends_length c d x), ids_more c d x xs h.2)
 
 pub stack_kept : (c d : Contents) → IsPool c → Extends c d → (s : Stack) (ts : List TermId) → AreTerms c ts → (xs : List Item) → HaveIds c xs → stack_of d s ts xs ≡ stack_of c s ts xs
 stack_kept c d v x s ts a [] h = refl
@@ -71,15 +72,15 @@ stack_kept c d v x s ts a (Listed p from ∷ xs) h =
     rw (parts_kept c d v x (drop from ts) (All-drop (λ t. t.number < length c.entries) from ts a), stack_kept c d v x s (take from ts) (All-take (λ t. t.number < length c.entries) from ts a) xs h) refl
 stack_kept c d v x s ts a (Tail p from ∷ xs) h =
     rw (parts_kept c d v x (drop from ts) (All-drop (λ t. t.number < length c.entries) from ts a), stack_kept c d v x s (take from ts) (All-take (λ t. t.number < length c.entries) from ts a) xs h) refl
-stack_kept c d v x s ts a (Prefix p f ∷ xs) h = ap (before p f.name.now (operator_of f)) (stack_kept c d v x s ts a xs h)
-stack_kept c d v x s ts a (Infix p f l ∷ xs) h =
-    rw (placed_kept c d v x l h.0, stack_kept c d v x s ts a xs h.1) refl
+stack_kept c d v x s ts a (Prefix p n f ∷ xs) h = rw (name_kept c d x n h.0, stack_kept c d v x s ts a xs h.1) refl
+stack_kept c d v x s ts a (Infix p n f l ∷ xs) h =
+    rw (name_kept c d x n h.0, placed_kept c d v x l h.1, stack_kept c d v x s ts a xs h.2) refl
 
 -- ---- nothing gives way
 
 abbrev pub is_bracket : Item → Bool
-is_bracket (Prefix p f) = false
-is_bracket (Infix p f l) = false
+is_bracket (Prefix p a f) = false
+is_bracket (Infix p a f l) = false
 is_bracket _ = true
 
 stays_as : (below : Option ℕ) (c : Contents) (xs : List Item) (ys : List Item) → reverse xs ≡ ys
@@ -96,17 +97,17 @@ bracket_stays below c (Curly p) ys e ts done q t = refl
 bracket_stays below c (Call p a from) ys e ts done q t = refl
 bracket_stays below c (Listed p from) ys e ts done q t = refl
 bracket_stays below c (Tail p from) ys e ts done q t = refl
-bracket_stays below c (Prefix p f) ys e ts done q t = absurd cc
-bracket_stays below c (Infix p f l) ys e ts done q t = absurd cc
+bracket_stays below c (Prefix p a f) ys e ts done q t = absurd cc
+bracket_stays below c (Infix p a f l) ys e ts done q t = absurd cc
 
 pub stays_bracket : (below : Option ℕ) (c : Contents) (xs : List Item) (x : Item) → last_item xs ≡ Some x → is_bracket x ≡ true → Stays below c xs
 stays_bracket below c xs x e h = stays_as below c xs (x ∷ reverse (front xs)) (turned xs x e) (bracket_stays below c x (reverse (front xs)) h)
 
-pub stays_prefix : (below : Option ℕ) (c : Contents) (xs : List Item) (p : ℕ) (f : Operator) → last_item xs ≡ Some (Prefix p f) → gives_way below (right_limit (operator_of f)) ≡ false → Stays below c xs
-stays_prefix below c xs p f e h = stays_as below c xs (Prefix p f ∷ reverse (front xs)) (turned xs (Prefix p f) e) (λ ts done q t. rw h refl)
+pub stays_prefix : (below : Option ℕ) (c : Contents) (xs : List Item) (p : ℕ) (a : AtomId) (f : Operator) → last_item xs ≡ Some (Prefix p a f) → gives_way below (right_limit (nameless f)) ≡ false → Stays below c xs
+stays_prefix below c xs p a f e h = stays_as below c xs (Prefix p a f ∷ reverse (front xs)) (turned xs (Prefix p a f) e) (λ ts done q t. rw h refl)
 
-pub stays_infix : (below : Option ℕ) (c : Contents) (xs : List Item) (p : ℕ) (f : Operator) (l : TermId) → last_item xs ≡ Some (Infix p f l) → gives_way below (right_limit (operator_of f)) ≡ false → Stays below c xs
-stays_infix below c xs p f l e h = stays_as below c xs (Infix p f l ∷ reverse (front xs)) (turned xs (Infix p f l) e) (λ ts done q t. rw h refl)
+pub stays_infix : (below : Option ℕ) (c : Contents) (xs : List Item) (p : ℕ) (a : AtomId) (f : Operator) (l : TermId) → last_item xs ≡ Some (Infix p a f l) → gives_way below (right_limit (nameless f)) ≡ false → Stays below c xs
+stays_infix below c xs p a f l e h = stays_as below c xs (Infix p a f l ∷ reverse (front xs)) (turned xs (Infix p a f l) e) (λ ts done q t. rw h refl)
 
 -- ---- one operator gives way
 
@@ -116,42 +117,19 @@ one_term c t h = All-from_recursion (λ u. u.number < length c.entries) (t ∷ [
 pub two_terms : (c : Contents) (s t : TermId) → s.number < length c.entries → t.number < length c.entries → AreTerms c (s ∷ t ∷ [])
 two_terms c s t h k = All-from_recursion (λ u. u.number < length c.entries) (s ∷ t ∷ []) (h, (k, tt))
 
-pub steps_prefix : (below : Option ℕ) (c d : Contents) (xs : List Item) (p : ℕ) (f : Operator) (s t : TermId) (q : ℕ) → last_item xs ≡ Some (Prefix p f) → gives_way below (right_limit (operator_of f)) ≡ true
-    → IsPool c → HaveIds c (reverse xs) → Adds c d (comp f.name.now p (parts_of c (s ∷ []))) t → Steps below c d xs (front xs) q f.priority s t
-steps_prefix below c d xs p f s t q e h v ids a =
+pub steps_prefix : (below : Option ℕ) (c d : Contents) (xs : List Item) (p : ℕ) (n : AtomId) (f : Operator) (s t : TermId) (q : ℕ) → last_item xs ≡ Some (Prefix p n f) → gives_way below (right_limit (nameless f)) ≡ true
+    → IsPool c → HaveIds c (reverse xs) → Adds c d (comp (atom_name c n) p (parts_of c (s ∷ []))) t → Steps below c d xs (front xs) q f.priority s t
+steps_prefix below c d xs p n f s t q e h v ids a =
     let ys = reverse (front xs) in
-    let is = turned xs (Prefix p f) e in
-    let inner : HaveIds c ys = subst (HaveIds c) is ids in
+    let o = atom_name c n in
+    let is = turned xs (Prefix p n f) e in
+    let inner : HaveIds c (Prefix p n f ∷ ys) = subst (HaveIds c) is ids in
     record {
       same = λ ts terms done.
           let base = stack_of c (top done) ts ys in
-          let whole : comp f.name.now p (one (placed_of c s)) ≡ placed_of d t = ap (comp f.name.now p) (sym (parts_of_one c s)) ∙ sym a.is in
-          let stack_is : base ≡ stack_of d (top done) ts ys = sym (stack_kept c d v a.grows (top done) ts terms ys inner) in
-          let first : reduce below (before p f.name.now (operator_of f) base) q (placed_of c s) ≡ reduce below base f.priority (comp f.name.now p (one (placed_of c s))) = rw h refl in
-          ap (λ (zs : List Item). reduce below (stack_of c (top done) ts zs) q (placed_of c s)) is
-          ∙ first
-          ∙ ap (λ (u : PlacedTerm). reduce below base f.priority u) whole
-          ∙ ap (λ (u : Stack). reduce below u f.priority (placed_of d t)) stack_is;
-      grows = a.grows;
-      valid = a.valid;
-      ids = ids_more c d a.grows ys inner;
-      room = λ ts room. subst (HaveRoom ts) is room;
-      operand = a.within;
-    }
-
-pub steps_infix : (below : Option ℕ) (c d : Contents) (xs : List Item) (p : ℕ) (f : Operator) (l s t : TermId) (q : ℕ) → last_item xs ≡ Some (Infix p f l) → gives_way below (right_limit (operator_of f)) ≡ true
-    → IsPool c → HaveIds c (reverse xs) → Adds c d (comp f.name.now p (parts_of c (l ∷ s ∷ []))) t → Steps below c d xs (front xs) q f.priority s t
-steps_infix below c d xs p f l s t q e h v ids a =
-    let ys = reverse (front xs) in
-    let is = turned xs (Infix p f l) e in
-    let inner : HaveIds c (Infix p f l ∷ ys) = subst (HaveIds c) is ids in
-    record {
-      same = λ ts terms done.
-          let base = stack_of c (top done) ts ys in
-          let both = two (placed_of c l) (placed_of c s) in
-          let whole : comp f.name.now p both ≡ placed_of d t = ap (comp f.name.now p) (sym (parts_of_two c l s)) ∙ sym a.is in
+          let whole : comp o p (one (placed_of c s)) ≡ placed_of d t = ap (comp o p) (sym (parts_of_one c s)) ∙ sym a.is in
           let stack_is : base ≡ stack_of d (top done) ts ys = sym (stack_kept c d v a.grows (top done) ts terms ys inner.1) in
-          let first : reduce below (between p (operator_of f) (placed_of c l) base) q (placed_of c s) ≡ reduce below base f.priority (comp f.name.now p both) = rw h refl in
+          let first : reduce below (before p o (operator_of o f) base) q (placed_of c s) ≡ reduce below base f.priority (comp o p (one (placed_of c s))) = rw h refl in
           ap (λ (zs : List Item). reduce below (stack_of c (top done) ts zs) q (placed_of c s)) is
           ∙ first
           ∙ ap (λ (u : PlacedTerm). reduce below base f.priority u) whole
@@ -163,8 +141,37 @@ steps_infix below c d xs p f l s t q e h v ids a =
       operand = a.within;
     }
 
-pub infix_left : (c : Contents) (xs : List Item) (p : ℕ) (f : Operator) (l : TermId) → last_item xs ≡ Some (Infix p f l) → HaveIds c (reverse xs) → l.number < length c.entries
-infix_left c xs p f l e ids = let inner : HaveIds c (Infix p f l ∷ reverse (front xs)) = subst (HaveIds c) (turned xs (Infix p f l) e) ids in inner.0
+pub steps_infix : (below : Option ℕ) (c d : Contents) (xs : List Item) (p : ℕ) (n : AtomId) (f : Operator) (l s t : TermId) (q : ℕ) → last_item xs ≡ Some (Infix p n f l) → gives_way below (right_limit (nameless f)) ≡ true
+    → IsPool c → HaveIds c (reverse xs) → Adds c d (comp (atom_name c n) p (parts_of c (l ∷ s ∷ []))) t → Steps below c d xs (front xs) q f.priority s t
+steps_infix below c d xs p n f l s t q e h v ids a =
+    let ys = reverse (front xs) in
+    let o = atom_name c n in
+    let is = turned xs (Infix p n f l) e in
+    let inner : HaveIds c (Infix p n f l ∷ ys) = subst (HaveIds c) is ids in
+    record {
+      same = λ ts terms done.
+          let base = stack_of c (top done) ts ys in
+          let both = two (placed_of c l) (placed_of c s) in
+          let whole : comp o p both ≡ placed_of d t = ap (comp o p) (sym (parts_of_two c l s)) ∙ sym a.is in
+          let stack_is : base ≡ stack_of d (top done) ts ys = sym (stack_kept c d v a.grows (top done) ts terms ys inner.2) in
+          let first : reduce below (between p (operator_of o f) (placed_of c l) base) q (placed_of c s) ≡ reduce below base f.priority (comp o p both) = rw h refl in
+          ap (λ (zs : List Item). reduce below (stack_of c (top done) ts zs) q (placed_of c s)) is
+          ∙ first
+          ∙ ap (λ (u : PlacedTerm). reduce below base f.priority u) whole
+          ∙ ap (λ (u : Stack). reduce below u f.priority (placed_of d t)) stack_is;
+      grows = a.grows;
+      valid = a.valid;
+      ids = ids_more c d a.grows ys inner.2;
+      room = λ ts room. subst (HaveRoom ts) is room;
+      operand = a.within;
+    }
+
+-- the ids of the last item, where it is an operator
+pub prefix_ids : (c : Contents) (xs : List Item) (p : ℕ) (n : AtomId) (f : Operator) → last_item xs ≡ Some (Prefix p n f) → HaveIds c (reverse xs) → n.number < length c.names
+prefix_ids c xs p n f e ids = let inner : HaveIds c (Prefix p n f ∷ reverse (front xs)) = subst (HaveIds c) (turned xs (Prefix p n f) e) ids in inner.0
+
+pub infix_ids : (c : Contents) (xs : List Item) (p : ℕ) (n : AtomId) (f : Operator) (l : TermId) → last_item xs ≡ Some (Infix p n f l) → HaveIds c (reverse xs) → (n.number < length c.names) × (l.number < length c.entries)
+infix_ids c xs p n f l e ids = let inner : HaveIds c (Infix p n f l ∷ reverse (front xs)) = subst (HaveIds c) (turned xs (Infix p n f l) e) ids in (inner.0, inner.1)
 
 pub steps_as : {below : Option ℕ} {c d : Contents} {xs ys zs : List Item} {q p : ℕ} {s t : TermId} → Steps below c d xs ys q p s t → zs ≡ ys → Steps below c d xs zs q p s t
 steps_as {below = below} {c = c} {d = d} {xs = xs} {q = q} {p = p} {s = s} {t = t} h e = subst (λ (vs : List Item). Steps below c d xs vs q p s t) (sym e) h

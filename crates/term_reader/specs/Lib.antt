@@ -1,4 +1,3 @@
-pub mod Operators
 pub mod PlacedTerms
 pub mod View
 pub mod Numbering

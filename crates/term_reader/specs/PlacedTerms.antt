@@ -1,5 +1,5 @@
 -- The placed terms of several ids, and pools that grow by one.
-use Rattle.std.specs.Prelude.{◌≡◌, ℕ, ◌<◌, List, length}
+use Rattle.std.specs.Prelude.{◌≡◌, ◌<◌, List, length}
 use Rattle.fd_language.specs.PlacedTerm.{PlacedTerm, PlacedTerms}
 use Rattle.term_pool.specs.declared.TermId.{TermId}
 use Rattle.term_pool.specs.Contents.{Contents}

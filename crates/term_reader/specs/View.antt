@@ -1,14 +1,17 @@
 -- What the parser's vectors stand for in the deciding machine.
-use Rattle.std.specs.Prelude.{◌≡◌, ℕ, ℤ, pos, neg_ℤ, ◌<◌, ◌≤◌, ◌-◌, List, [], ◌∷◌, length, reverse, take, drop, slice_get, Option, Some, None, Bool, true, false, IsTrue, All}
+use Rattle.std.specs.Prelude.{◌≡◌, ℕ, ℤ, pos, neg_ℤ, ◌<◌, ◌≤◌, ◌-◌, List, [], ◌∷◌, length, reverse, take, drop, slice_get, Option, Some, None, Bool, true, false, IsTrue, All, option_map, codes}
 use Rattle.fd_language.specs.PlacedTerm.{PlacedTerm, atom}
-use Rattle.fd_language.specs.Operators.{right_limit}
+use Rattle.fd_language.specs.Term.{Name}
+use Rattle.fd_language.specs.Operators.{right_limit, infix_of, prefix_of}
 use Rattle.fd_language.specs.Terminals as model
 use Rattle.fd_language.proofs.ReadingSteps.{Stack, top, paren, args, items, tail, curly, before, between, State, want, at_list, at_curly_bracket, at_operator, after, reduce, ended, step}
+use Rattle.term_pool.specs.declared.AtomId.{AtomId}
 use Rattle.term_pool.specs.declared.TermId.{TermId}
 use Rattle.term_pool.specs.Contents.{Contents, atom_name}
 use Rattle.term_pool.specs.Terms.{Extends}
 use Rattle.term_pool.specs.Valid.{IsPool}
-use Rattle.term_reader.specs.Operators.{operator_of}
+use Rattle.name_syntax.specs.declared.operators.Roles.{Roles}
+use Rattle.name_syntax.specs.Operators.{operator_of, nameless}
 use Rattle.term_pool.specs.PlacedTerms.{placed_of}
 use Rattle.term_reader.specs.PlacedTerms.{parts_of}
 use Rattle.term_reader.specs.declared.parser.Terminal.{Terminal}
@@ -24,7 +27,7 @@ use Rattle.term_reader.specs.declared.parser.Parser.{Parser}
 -- the grammar's token at a place
 abbrev pub terminal_at : Contents → ℕ → Terminal → model.Terminal
 terminal_at c p (terminals.Name a) = model.name p (atom_name c a)
-terminal_at c p (terminals.OperatorWord a) = model.operator_word p (atom_name c a)
+terminal_at c p (terminals.OperatorWord a r) = model.operator_word p (atom_name c a)
 terminal_at c p (terminals.Variable n) = model.variable p n
 terminal_at c p (terminals.Integer tight z) = model.integer p tight z
 terminal_at c p (terminals.Open tight) = model.opens p tight
@@ -42,10 +45,28 @@ pub record IsNatural (z : ℤ) : Type 0 where
   pub is : z ≡ pos value
   pub within : value ≤ 9223372036854775807
 
+-- the atom is of the pool, and the roles are those of its name
+pub record IsOperatorWord (c : Contents) (a : AtomId) (r : Roles) : Type 0 where
+  pub own : a.number < length c.names
+  pub between : option_map (operator_of (atom_name c a)) r.infix ≡ infix_of (atom_name c a)
+  pub before : option_map (operator_of (atom_name c a)) r.prefix ≡ prefix_of (atom_name c a)
+
+-- the name of the operator that a token is between two operands
+abbrev pub infix_name : Contents → Terminal → Name
+infix_name c (terminals.OperatorWord a r) = atom_name c a
+infix_name c _ = codes ","
+
+-- from the pool old, a is the atom of this name
+pub record IsNamed (old new : Contents) (name : Name) (a : AtomId) : Type 0 where
+  pub grows : Extends old new
+  pub valid : IsPool new
+  pub own : a.number < length new.names
+  pub is : atom_name new a ≡ name
+
 -- its atom is of the pool, and its integer has no sign
 abbrev pub IsTerminal : Contents → Terminal → Type 0
 IsTerminal c (terminals.Name a) = a.number < length c.names
-IsTerminal c (terminals.OperatorWord a) = a.number < length c.names
+IsTerminal c (terminals.OperatorWord a r) = IsOperatorWord c a r
 IsTerminal c (terminals.Integer tight z) = IsNatural z
 IsTerminal c _ = Unit {0}
 
@@ -57,8 +78,8 @@ stack_of c s ts (its.Curly p ∷ xs) = curly p (stack_of c s ts xs)
 stack_of c s ts (its.Call p a from ∷ xs) = args p (atom_name c a) (parts_of c (drop from ts)) (stack_of c s (take from ts) xs)
 stack_of c s ts (its.List p from ∷ xs) = items p (parts_of c (drop from ts)) (stack_of c s (take from ts) xs)
 stack_of c s ts (its.Tail p from ∷ xs) = tail p (parts_of c (drop from ts)) (stack_of c s (take from ts) xs)
-stack_of c s ts (its.Prefix p f ∷ xs) = before p f.name.now (operator_of f) (stack_of c s ts xs)
-stack_of c s ts (its.Infix p f l ∷ xs) = between p (operator_of f) (placed_of c l) (stack_of c s ts xs)
+stack_of c s ts (its.Prefix p a f ∷ xs) = before p (atom_name c a) (operator_of (atom_name c a) f) (stack_of c s ts xs)
+stack_of c s ts (its.Infix p a f l ∷ xs) = between p (operator_of (atom_name c a) f) (placed_of c l) (stack_of c s ts xs)
 
 -- the atoms and terms of the items are of the pool
 abbrev pub HaveIds : Contents → List Item → Type 0
@@ -68,8 +89,8 @@ HaveIds c (its.Curly p ∷ xs) = HaveIds c xs
 HaveIds c (its.Call p a from ∷ xs) = (a.number < length c.names) × HaveIds c xs
 HaveIds c (its.List p from ∷ xs) = HaveIds c xs
 HaveIds c (its.Tail p from ∷ xs) = HaveIds c xs
-HaveIds c (its.Prefix p f ∷ xs) = HaveIds c xs
-HaveIds c (its.Infix p f l ∷ xs) = (l.number < length c.entries) × HaveIds c xs
+HaveIds c (its.Prefix p a f ∷ xs) = (a.number < length c.names) × HaveIds c xs
+HaveIds c (its.Infix p a f l ∷ xs) = (a.number < length c.names) × (l.number < length c.entries) × HaveIds c xs
 
 -- each bracket has its arguments behind those of the brackets around it
 abbrev pub HaveRoom : List TermId → List Item → Type 0
@@ -79,8 +100,8 @@ HaveRoom ts (its.Curly p ∷ xs) = HaveRoom ts xs
 HaveRoom ts (its.Call p a from ∷ xs) = (from ≤ length ts) × HaveRoom (take from ts) xs
 HaveRoom ts (its.List p from ∷ xs) = (from ≤ length ts) × HaveRoom (take from ts) xs
 HaveRoom ts (its.Tail p from ∷ xs) = (from ≤ length ts) × HaveRoom (take from ts) xs
-HaveRoom ts (its.Prefix p f ∷ xs) = HaveRoom ts xs
-HaveRoom ts (its.Infix p f l ∷ xs) = HaveRoom ts xs
+HaveRoom ts (its.Prefix p a f ∷ xs) = HaveRoom ts xs
+HaveRoom ts (its.Infix p a f l ∷ xs) = HaveRoom ts xs
 
 -- the terms are of the pool
 abbrev pub AreTerms : Contents → List TermId → Type 0
@@ -94,7 +115,7 @@ abbrev pub state_by : Contents → Stack → Expecting → State
 state_by c s states.Operand = want s
 state_by c s (states.BehindOpenList p) = at_list p s
 state_by c s (states.BehindOpenCurly p) = at_curly_bracket p s
-state_by c s (states.BehindOperator p a) = at_operator p (atom_name c a) s
+state_by c s (states.BehindOperator p a r) = at_operator p (atom_name c a) s
 state_by c s (states.BehindName p a) = after (Some (p, atom_name c a)) s (atom (atom_name c a) p)
 state_by c s (states.BehindOperand t) = after None s (placed_of c t)
 
@@ -102,7 +123,7 @@ abbrev pub IsExpecting : Contents → Expecting → Type 0
 IsExpecting c states.Operand = Unit {0}
 IsExpecting c (states.BehindOpenList p) = Unit {0}
 IsExpecting c (states.BehindOpenCurly p) = Unit {0}
-IsExpecting c (states.BehindOperator p a) = a.number < length c.names
+IsExpecting c (states.BehindOperator p a r) = IsOperatorWord c a r
 IsExpecting c (states.BehindName p a) = a.number < length c.names
 IsExpecting c (states.BehindOperand t) = t.number < length c.entries
 
@@ -152,8 +173,8 @@ item_limit (Some (its.Curly p)) = 1200
 item_limit (Some (its.Call p a from)) = 999
 item_limit (Some (its.List p from)) = 999
 item_limit (Some (its.Tail p from)) = 999
-item_limit (Some (its.Prefix p f)) = right_limit (operator_of f)
-item_limit (Some (its.Infix p f l)) = right_limit (operator_of f)
+item_limit (Some (its.Prefix p a f)) = right_limit (nameless f)
+item_limit (Some (its.Infix p a f l)) = right_limit (nameless f)
 
 -- the token ends what is begun there
 abbrev pub closing_of : Option Item → Terminal → Closing

@@ -7,7 +7,6 @@ ghost use Rattle.term_reader.specs.Named.{HaveNames};
 ghost use Rattle.term_reader.specs.Sentences.{sentences_of, AreOwn, IsFaultOf, IsFaultFor};
 
 pub mod laws;
-pub mod operators;
 mod parser;
 mod reader;
 mod terminals;

@@ -6,7 +6,7 @@ ghost use Rattle.fd_language.specs.Operators.{prefix_of};
 ghost use Rattle.fd_language.specs.Grammar.{list_of};
 ghost use Rattle.fd_language.specs.Terminals as Terminals;
 ghost use Rattle.fd_language.specs.Terminals.{infix_operator, is_minus, is_negated, is_tight_open};
-ghost use Rattle.term_reader.specs.Operators.{operator_of};
+ghost use Rattle.name_syntax.specs.Operators.{operator_of};
 ghost use Rattle.fd_language.proofs.ReadingSteps as Machine;
 ghost use Rattle.term_pool.specs.declared.TermId.{TermId as Id};
 ghost use Rattle.term_pool.specs.declared.AtomId.{AtomId as Atom};
@@ -15,10 +15,10 @@ ghost use Rattle.term_pool.specs.Valid.{IsPool};
 ghost use Rattle.term_pool.specs.Terms.{Extends};
 ghost use Rattle.term_pool.specs.PlacedTerms.{placed_of};
 ghost use Rattle.term_reader.specs.PlacedTerms.{parts_of, Adds};
-ghost use Rattle.term_reader.specs.View.{AreTerms, HaveIds, HaveRoom, IsTerminal, IsWhole, Moves, Steps, Stays, item_limit, last_item, stack, state, terminal_at, closing_of, allows_lone, EndsWith, StandsAtStop, IsNegative, IsNatural, TakesArguments};
+ghost use Rattle.term_reader.specs.View.{AreTerms, HaveIds, HaveRoom, IsNamed, IsOperatorWord, IsTerminal, IsWhole, infix_name, Moves, Steps, Stays, item_limit, last_item, stack, state, terminal_at, closing_of, allows_lone, EndsWith, StandsAtStop, IsNegative, IsNatural, TakesArguments};
 
-use crate::operators::{COMMA, Operator, infix, prefix};
 use fd_language::NoMemory;
+use name_syntax::operators::{COMMA, Operator, Roles};
 use std::alloc::Global;
 use term_pool::{AtomId, CONS, NIL, Node, Pool, TermId};
 
@@ -27,7 +27,8 @@ use term_pool::{AtomId, CONS, NIL, Node, Pool, TermId};
 pub enum Terminal {
     /// A word that is no operator, or what a quoted atom spells.
     Name(AtomId),
-    OperatorWord(AtomId),
+    /// A word that is an operator, with what it is as one.
+    OperatorWord { name: AtomId, roles: Roles },
     Variable(u64),
     Integer { tight: bool, value: i64 },
     Open { tight: bool },
@@ -65,10 +66,12 @@ pub enum Item {
     },
     Prefix {
         place: usize,
+        name: AtomId,
         operator: Operator,
     },
     Infix {
         place: usize,
+        name: AtomId,
         operator: Operator,
         left: TermId,
     },
@@ -78,13 +81,26 @@ pub enum Item {
 #[derive(Clone, Copy, Debug)]
 pub enum Expecting {
     Operand,
-    BehindOpenList { place: usize },
-    BehindOpenCurly { place: usize },
+    BehindOpenList {
+        place: usize,
+    },
+    BehindOpenCurly {
+        place: usize,
+    },
     /// Behind an operator word where an operand was wanted.
-    BehindOperator { place: usize, name: AtomId },
+    BehindOperator {
+        place: usize,
+        name: AtomId,
+        roles: Roles,
+    },
     /// Behind a name, which may be that of a call.
-    BehindName { place: usize, name: AtomId },
-    BehindOperand { term: TermId },
+    BehindName {
+        place: usize,
+        name: AtomId,
+    },
+    BehindOperand {
+        term: TermId,
+    },
 }
 
 /// What a token ends.
@@ -187,7 +203,7 @@ fn add_named_atom(pool: &mut Pool, name: &str, place: usize) -> Result<TermId, N
 }
 
 /// Whether an operator with this right limit takes its operand before an operator of the priority `below`, or before anything else.
-fn gives_way(below: Option<u16>, right: u16) -> bool
+fn gives_way(below: Option<u32>, right: u32) -> bool
     ensures { result ≡ Machine.gives_way below right }
 {
     match below {
@@ -203,7 +219,7 @@ fn top_item(items: &[Item]) -> Option<Item>
 }
 
 /// The greatest priority of a term behind the item.
-fn limit(item: Option<Item>) -> u16
+fn limit(item: Option<Item>) -> u32
     ensures { result ≡ item_limit item }
 {
     match item {
@@ -219,10 +235,17 @@ fn limit(item: Option<Item>) -> u16
         ) => 999,
         Some(Item::List { place: _, from: _ }) => 999,
         Some(Item::Tail { place: _, from: _ }) => 999,
-        Some(Item::Prefix { place: _, operator }) => operator.right_limit(),
+        Some(
+            Item::Prefix {
+                place: _,
+                name: _,
+                operator,
+            },
+        ) => operator.right_limit(),
         Some(
             Item::Infix {
                 place: _,
+                name: _,
                 operator,
                 left: _,
             },
@@ -234,9 +257,9 @@ fn limit(item: Option<Item>) -> u16
 fn reduce_once(
     pool: &mut Pool,
     items: &mut Vec<Item>,
-    below: Option<u16>,
+    below: Option<u32>,
     operand: TermId,
-) -> Result<Option<(TermId, u16)>, NoMemory>
+) -> Result<Option<(TermId, u32)>, NoMemory>
     requires pool { IsPool pool.old }
     requires ids { HaveIds pool.old (reverse items.old.items) }
     requires operand { operand.number < length pool.old.entries }
@@ -249,16 +272,21 @@ fn reduce_once(
         return Ok(None);
     };
     match item {
-        Item::Prefix { place, operator } => {
+        Item::Prefix {
+            place,
+            name,
+            operator,
+        } => {
             if !gives_way(below, operator.right_limit()) {
                 return Ok(None);
             }
             items.pop();
-            let term = add_named(pool, operator.name, &[operand], place)?;
+            let term = add_compound(pool, name, &[operand], place)?;
             Ok(Some((term, operator.priority)))
         }
         Item::Infix {
             place,
+            name,
             operator,
             left,
         } => {
@@ -266,7 +294,7 @@ fn reduce_once(
                 return Ok(None);
             }
             items.pop();
-            let term = add_named(pool, operator.name, &[left, operand], place)?;
+            let term = add_compound(pool, name, &[left, operand], place)?;
             Ok(Some((term, operator.priority)))
         }
         Item::Parenthesis => Ok(None),
@@ -285,10 +313,10 @@ fn reduce_once(
 fn reduce(
     pool: &mut Pool,
     items: &mut Vec<Item>,
-    below: Option<u16>,
+    below: Option<u32>,
     operand: TermId,
-    priority: u16,
-) -> Result<(TermId, u16), NoMemory>
+    priority: u32,
+) -> Result<(TermId, u32), NoMemory>
     requires pool { IsPool pool.old }
     requires ids { HaveIds pool.old (reverse items.old.items) }
     requires operand { operand.number < length pool.old.entries }
@@ -373,14 +401,25 @@ fn is_close_curly(token: Terminal) -> bool
 }
 
 /// The operator that a token is between two operands.
-fn infix_at(pool: &Pool, token: Terminal) -> Option<Operator>
-    requires { IsTerminal pool.now token }
-    ensures { (p : ℕ) → option_map operator_of result ≡ infix_operator (terminal_at pool.now p token) }
+fn infix_at(token: Terminal) -> Option<Operator>
+    ensures { (c : Contents) (p : ℕ) → IsTerminal c token → option_map (operator_of (infix_name c token)) result ≡ infix_operator (terminal_at c p token) }
 {
     match token {
-        Terminal::OperatorWord(name) => infix(pool.name_of(name)),
+        Terminal::OperatorWord { name: _, roles } => roles.infix,
         Terminal::Comma => Some(COMMA),
         _ => None,
+    }
+}
+
+/// The atom that names the operator. The comma, which most often stands between arguments, is found only here.
+fn infix_atom(pool: &mut Pool, token: Terminal) -> Result<AtomId, NoMemory>
+    requires pool { IsPool pool.old }
+    requires token { IsTerminal pool.old token }
+    ensures { IfOk result (IsNamed pool.old pool.new (infix_name pool.old token)) }
+{
+    match token {
+        Terminal::OperatorWord { name, roles: _ } => Ok(name),
+        _ => pool.atom(","),
     }
 }
 
@@ -476,8 +515,8 @@ impl Parser {
                 self.expecting = Expecting::BehindName { place, name };
                 Ok(true)
             }
-            Terminal::OperatorWord(name) => {
-                self.expecting = Expecting::BehindOperator { place, name };
+            Terminal::OperatorWord { name, roles } => {
+                self.expecting = Expecting::BehindOperator { place, name, roles };
                 Ok(true)
             }
             Terminal::Variable(number) => {
@@ -627,7 +666,7 @@ impl Parser {
     fn end_operand(
         &mut self,
         operand: TermId,
-        priority: u16,
+        priority: u32,
         token: Terminal,
     ) -> Result<bool, NoMemory>
         requires whole { IsWhole self.old }
@@ -650,7 +689,7 @@ impl Parser {
         requires whole { IsWhole self.old }
         requires operand { operand.number < length self.old.pool.entries }
         requires token { IsTerminal self.old.pool token }
-        requires operator { infix_operator (terminal_at self.old.pool place token) ≡ Some (operator_of operator) }
+        requires operator { infix_operator (terminal_at self.old.pool place token) ≡ Some (operator_of (infix_name self.old.pool token) operator) }
         ensures { IfOk result (Moves self.old.pool (λ done. Machine.behind_operand (stack self.old done) (placed_of self.old.pool operand) (terminal_at self.old.pool place token)) self.new) }
     {
         let (left, priority) = reduce(
@@ -661,8 +700,10 @@ impl Parser {
             0,
         )?;
         if operator.priority <= limit(top_item(&self.items)) && priority <= operator.left_limit() {
+            let name = infix_atom(&mut self.pool, token)?;
             self.items.push(Item::Infix {
                 place,
+                name,
                 operator,
                 left,
             })?;
@@ -680,7 +721,7 @@ impl Parser {
         requires token { IsTerminal self.old.pool token }
         ensures { IfOk result (Moves self.old.pool (λ done. Machine.behind_operand (stack self.old done) (placed_of self.old.pool operand) (terminal_at self.old.pool place token)) self.new) }
     {
-        match infix_at(&self.pool, token) {
+        match infix_at(token) {
             Some(operator) => self.attach(operand, operator, token, place),
             None => self.end_operand(operand, 0, token),
         }
@@ -703,20 +744,23 @@ impl Parser {
         &mut self,
         at: usize,
         name: AtomId,
+        prefix: Option<Operator>,
         token: Terminal,
         place: usize,
     ) -> Result<bool, NoMemory>
         requires whole { IsWhole self.old }
         requires name { name.number < length self.old.pool.names }
+        requires prefix { option_map (operator_of (atom_name self.old.pool name)) prefix ≡ prefix_of (atom_name self.old.pool name) }
         requires token { IsTerminal self.old.pool token }
         ensures { IfOk result (Moves self.old.pool (λ done. Machine.begun at (atom_name self.old.pool name) (prefix_of (atom_name self.old.pool name)) (stack self.old done) (terminal_at self.old.pool place token)) self.new) }
     {
-        let Some(operator) = prefix(self.pool.name_of(name)) else {
+        let Some(operator) = prefix else {
             return Ok(false);
         };
         if operator.priority <= limit(top_item(&self.items)) {
             self.items.push(Item::Prefix {
                 place: at,
+                name,
                 operator,
             })?;
             self.operand(token, place)
@@ -730,11 +774,12 @@ impl Parser {
         &mut self,
         at: usize,
         name: AtomId,
+        roles: Roles,
         token: Terminal,
         place: usize,
     ) -> Result<bool, NoMemory>
         requires whole { IsWhole self.old }
-        requires name { name.number < length self.old.pool.names }
+        requires word { IsOperatorWord self.old.pool name roles }
         requires token { IsTerminal self.old.pool token }
         ensures { IfOk result (Moves self.old.pool (λ done. Machine.step (Machine.at_operator at (atom_name self.old.pool name) (stack self.old done)) (terminal_at self.old.pool place token)) self.new) }
     {
@@ -749,7 +794,7 @@ impl Parser {
             let term = add_atom(&mut self.pool, name, at)?;
             self.close(term, token)
         } else {
-            self.begin_prefix(at, name, token, place)
+            self.begin_prefix(at, name, roles.prefix, token, place)
         }
     }
 
@@ -847,9 +892,11 @@ impl Parser {
             Expecting::Operand => self.operand(token, place),
             Expecting::BehindOpenList { place: at } => self.behind_open_list(at, token, place),
             Expecting::BehindOpenCurly { place: at } => self.behind_open_curly(at, token, place),
-            Expecting::BehindOperator { place: at, name } => self.behind_operator(
-                at, name, token, place,
-            ),
+            Expecting::BehindOperator {
+                place: at,
+                name,
+                roles,
+            } => self.behind_operator(at, name, roles, token, place),
             Expecting::BehindName { place: at, name } => self.behind_name(at, name, token, place),
             Expecting::BehindOperand { term } => self.behind_operand(term, token, place),
         }
@@ -869,7 +916,11 @@ impl Parser {
             Expecting::Operand => Ok(None),
             Expecting::BehindOpenList { place: _ } => Ok(None),
             Expecting::BehindOpenCurly { place: _ } => Ok(None),
-            Expecting::BehindOperator { place: _, name: _ } => Ok(None),
+            Expecting::BehindOperator {
+                place: _,
+                name: _,
+                roles: _,
+            } => Ok(None),
         }
     }
 

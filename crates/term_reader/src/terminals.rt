@@ -11,11 +11,11 @@ ghost use Rattle.char_tokens.specs.Views.{lexeme_of};
 ghost use Rattle.term_reader.specs.View.{terminal_at, IsTerminal};
 ghost use Rattle.term_reader.specs.Seeing.{AreVariables, HasNatural, Sees, Knows};
 
-use crate::operators::is_operator;
 use crate::parser::Terminal;
 use crate::variables::Variables;
 use char_tokens::{Kind, Token, unquote};
 use fd_language::NoMemory;
+use name_syntax::operators::roles_of;
 use std::alloc::Global;
 use term_pool::{AtomId, Pool};
 
@@ -42,8 +42,9 @@ fn word(pool: &mut Pool, text: &str) -> Result<Terminal, NoMemory>
     ensures { IfOk result (λ x. Knows pool.old pool.new (λ p. word_terminal p text.now) x) }
 {
     let name = pool.atom(text)?;
-    if is_operator(text) {
-        Ok(Terminal::OperatorWord(name))
+    let roles = roles_of(text);
+    if roles.is_operator() {
+        Ok(Terminal::OperatorWord { name, roles })
     } else {
         Ok(Terminal::Name(name))
     }

@@ -13,7 +13,7 @@ use lib.Utf8.{encode, encodes}
 use Rattle.unicode_ident.proofs.IdentLemmas.{is_xid_start-ascii}
 use Rattle.fd_language.specs.Term.{Name}
 use Rattle.fd_language.specs.Characters.{starts_with, is_symbol, is_punct, begins_variable, tail}
-use Rattle.fd_language.specs.Tokens.{Token, Quoted, Between, AfterQuote, Past, quoted_front, quoted_spells, front_of, front_by, front_at, unquoted}
+use Rattle.fd_language.specs.Tokens.{Token, Quoted, Between, AfterQuote, quoted_front, quoted_spells, front_of, front_by, front_at, unquoted}
 use Rattle.fd_language.specs.Writing.{quoted_byte, quoted_bytes, quoted_name}
 use Rattle.term_writer.proofs.Quoting.{size, size-append, stands, all_front, all_spells}
 use Rattle.fd_language.proofs.QuotedAtoms.{front_past}

@@ -1,4 +1,4 @@
-use Rattle.std.proofs.Common.{rules, ◌≡◌}
+use Rattle.std.proofs.Common.{rules}
 use Rattle.std.proofs.lemmas.Fn.{always_returns_same}
 use Rattle.name_syntax.proofs.Rows.{beside, found_infix, found_prefix, absent_infix, absent_prefix}
 use Rattle.name_syntax.proofs.operators.roles_of.Goals as goal

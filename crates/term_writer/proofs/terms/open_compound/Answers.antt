@@ -40,7 +40,7 @@ returns-in_ok-extend_from_slice-in-Infix c = λ vars.
     operation pool (mode_of c.args.mode) vars name c.args.parts.now c.in-Infix.operator c.in-Infix.left c.in-Infix.right c.args.limit c.left_limit.result c.right_limit.result c.args.text.now.items c.parentheses.result.0.now c.parentheses.result.1.now
     c.args.ahead.now.items c.extend_from_slice-in-Infix.new.self.items _ _ _ c.in_ok-extend_from_slice-in-Infix.ensures.items
     (record { text = refl; light = refl; within = tt }) (record { text = ap operator_text c.name_of-name.ensures.name; light = refl; within = tt }) (record { text = refl; light = refl; within = tt })
-    c.parentheses.ensures.behind c.parentheses.ensures.before (c.left_limit.ensures name) (c.right_limit.ensures name) c.requires.parts c.in-Infix.ensures.0 is found
+    c.parentheses.ensures.behind c.parentheses.ensures.before c.left_limit.ensures c.right_limit.ensures c.requires.parts c.in-Infix.ensures.0 is found
 
 pub returns-in_ok-extend_from_slice-in-Call : goal.returns-in_ok-extend_from_slice-in-Call
 unfolding piece_text piece_weight
