@@ -1,4 +1,6 @@
 pub mod Sets
+pub mod Lists
+pub mod Leaves
 pub mod Greatest
 pub mod Arithmetic
 pub mod Meeting

@@ -10,7 +10,9 @@ use Rattle.fd_language.specs.Needs.{is_literal}
 use Rattle.fd_language.specs.Check.{Rising, Falling, Constant, literal_value, is_parameter, expr_fits, range_fits, fill, fill_range}
 use Rattle.fd_language.proofs.Meeting.{expr_meets, range_meets, over_meets, needs_met}
 use Rattle.fd_language.specs.Monotonicity.{AcceptedIsMonotone}
-use Rattle.fd_language.proofs.Sets.{has-filter, has-filter_back, has_low}
+use Rattle.fd_language.proofs.Sets.{has-filter, has-filter_back, has_low, alone_in}
+pub use Rattle.fd_language.proofs.Sets.{in_left, in_right}
+use Rattle.fd_language.proofs.Leaves.{vals_read}
 use Rattle.fd_language.proofs.Directions.{Keeps, expr_moves, first_of_two, second_of_two, literal_is}
 
 -- from a test to a test that holds wherever the first does
@@ -172,17 +174,6 @@ none_all : (f : ℕ → Bool) (xs : List ℕ) → ((n : ℕ) → has xs n ≡ tr
 none_all f [] h = refl
 none_all f (x ∷ xs) h = none_both (f x) (list_any f xs) (h x (or_left (x == x) (has xs x) (eq-eqb x x refl))) (none_all f xs (λ n g. h n (or_right (x == n) (has xs n) g)))
 
-pub in_left : (xs ys : List ℕ) (n : ℕ) → has xs n ≡ true → has (xs ++ ys) n ≡ true
-in_left [] ys n h = absurd (true≢false (sym h))
-in_left (x ∷ xs) ys n h = elim (or_cases (x == n) (has xs n) h) [ inl e ↦ or_left (x == n) (has (xs ++ ys) n) e | inr e ↦ or_right (x == n) (has (xs ++ ys) n) (in_left xs ys n e) ]
-
-pub in_right : (xs ys : List ℕ) (n : ℕ) → has ys n ≡ true → has (xs ++ ys) n ≡ true
-in_right [] ys n h = h
-in_right (x ∷ xs) ys n h = or_right (x == n) (has (xs ++ ys) n) (in_right xs ys n h)
-
-alone_in : (y : ℕ) → has (y ∷ []) y ≡ true
-alone_in y = or_left (y == y) false (eq-eqb y y refl)
-
 -- what a variable keeps, and what one that is read by val keeps
 record Bound (S' S : Family) (y : ℕ) : Type 0 where
   low : least (S' y) ≤ least (S y)
@@ -214,39 +205,6 @@ module _ (p : ℕ → ℤ) (S' S : Family) where
   range_keeps i (Times r c) h g = (range_keeps i r (λ y k. h y (in_left _ _ y k)) (λ y k. g y (in_left _ _ y k)), expr_keeps c (λ y k. h y (in_right (reads (fill_range p r)) _ y k)) (λ y k. g y (in_right (vals (fill_range p r)) _ y k)))
   range_keeps i (Over r c) h g = (range_keeps i r (λ y k. h y (in_left _ _ y k)) (λ y k. g y (in_left _ _ y k)), expr_keeps c (λ y k. h y (in_right (reads (fill_range p r)) _ y k)) (λ y k. g y (in_right (vals (fill_range p r)) _ y k)))
 
--- a variable that is read by val is read
-in_either : (xs ys us vs : List ℕ) (n : ℕ) → (has xs n ≡ true → has us n ≡ true) → (has ys n ≡ true → has vs n ≡ true) → has (xs ++ ys) n ≡ true → has (us ++ vs) n ≡ true
-in_either [] ys us vs n f g h = in_right us vs n (g h)
-in_either (x ∷ xs) ys us vs n f g h = elim (or_cases (x == n) (has (xs ++ ys) n) h) [
-  | inl e ↦ in_left us vs n (f (or_left (x == n) (has xs n) e))
-  | inr e ↦ in_either xs ys us vs n (λ k. f (or_right (x == n) (has xs n) k)) g e
-]
-
-expr_vals_read : (e : Expr) (y : ℕ) → has (expr_vals e) y ≡ true → has (expr_reads e) y ≡ true
-expr_vals_read (Number z) y h = h
-expr_vals_read Infinity y h = h
-expr_vals_read (Param x) y h = h
-expr_vals_read (Min x) y h = absurd (true≢false (sym h))
-expr_vals_read (Max x) y h = absurd (true≢false (sym h))
-expr_vals_read (Val x) y h = h
-expr_vals_read (Add a b) y h = in_either (expr_vals a) (expr_vals b) (expr_reads a) (expr_reads b) y (expr_vals_read a y) (expr_vals_read b y) h
-expr_vals_read (Sub a b) y h = in_either (expr_vals a) (expr_vals b) (expr_reads a) (expr_reads b) y (expr_vals_read a y) (expr_vals_read b y) h
-expr_vals_read (Mul a b) y h = in_either (expr_vals a) (expr_vals b) (expr_reads a) (expr_reads b) y (expr_vals_read a y) (expr_vals_read b y) h
-expr_vals_read (DivDown a b) y h = in_either (expr_vals a) (expr_vals b) (expr_reads a) (expr_reads b) y (expr_vals_read a y) (expr_vals_read b y) h
-expr_vals_read (DivUp a b) y h = in_either (expr_vals a) (expr_vals b) (expr_reads a) (expr_reads b) y (expr_vals_read a y) (expr_vals_read b y) h
-
-range_vals : (r : Range) (y : ℕ) → has (vals r) y ≡ true → has (reads r) y ≡ true
-range_vals (Span a b) y h = in_either (expr_vals a) (expr_vals b) (expr_reads a) (expr_reads b) y (expr_vals_read a y) (expr_vals_read b y) h
-range_vals (One t) y h = expr_vals_read t y h
-range_vals (Dom x) y h = absurd (true≢false (sym h))
-range_vals (Union r q) y h = in_either (vals r) (vals q) (reads r) (reads q) y (range_vals r y) (range_vals q y) h
-range_vals (Inter r q) y h = in_either (vals r) (vals q) (reads r) (reads q) y (range_vals r y) (range_vals q y) h
-range_vals (Outside r) y h = range_vals r y h
-range_vals (Plus r c) y h = in_either (vals r) (expr_vals c) (reads r) (expr_reads c) y (range_vals r y) (expr_vals_read c y) h
-range_vals (Minus r c) y h = in_either (vals r) (expr_vals c) (reads r) (expr_reads c) y (range_vals r y) (expr_vals_read c y) h
-range_vals (Times r c) y h = in_either (vals r) (expr_vals c) (reads r) (expr_reads c) y (range_vals r y) (expr_vals_read c y) h
-range_vals (Over r c) y h = in_either (vals r) (expr_vals c) (reads r) (expr_reads c) y (range_vals r y) (expr_vals_read c y) h
-
 -- Set's order of cases
 set_parts : (a b c : Bool) → cond a false (cond b true c) ≡ true → (a ≡ false) × (b ≡ false → c ≡ true)
 set_parts true b c h = absurd (true≢false (sym h))
@@ -271,9 +229,6 @@ module _ (M : ℕ) (p : ℕ → ℤ) (r : Range) (f : range_fits M r true ≡ tr
   one_of : (y : ℕ) → is_none_left (S y) ≡ false → is_several (S' y) ≡ false → least (S' y) ≡ least (S y)
   one_of y h g = one_value (S' y) (least (S y)) g ((inside.at y).each (least (S y)) (least_in (S y) h))
 
-  vals_read : (y : ℕ) → has (vals (fill_range p r)) y ≡ true → has (reads (fill_range p r)) y ≡ true
-  vals_read y h = range_vals (fill_range p r) y h
-
   set_moves : (n : ℕ) → in_set M S (fill_range p r) n ≡ true → in_set M S' (fill_range p r) n ≡ true
   set_moves n h =
       let q : Range = fill_range p r in
@@ -284,7 +239,7 @@ module _ (M : ℕ) (p : ℕ → ℤ) (r : Range) (f : range_fits M r true ≡ tr
       (λ e.
       let one : (y : ℕ) → has (vals q) y ≡ true → is_several (S' y) ≡ false = λ y i. none_at (λ k. is_several (S' k)) (vals q) y e i in
       let inner : in_range M S q n ≡ true = parts.1 (none_all (λ y. is_several (S y)) (vals q) (λ y i. several_subset 0 M (S y) (S' y) (s.rising y) (inside.at y) (one y i))) in
-      let keeps = range_keeps p S' S inside r (λ y i. bound_of y (some y i)) (λ y i. one_of y (some y (vals_read y i)) (one y i)) in
+      let keeps = range_keeps p S' S inside r (λ y i. bound_of y (some y i)) (λ y i. one_of y (some y (vals_read q y i)) (one y i)) in
       range_moves M p S' S r true keeps f m n inner)
 
 pub accepted_is_monotone : AcceptedIsMonotone

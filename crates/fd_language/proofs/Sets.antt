@@ -1,5 +1,6 @@
--- Lemmas on lists of numbers as sets.
-use Rattle.std.proofs.Common.{◌≡◌, ℕ, zero, suc, ◌+◌, ◌<◌, ◌≤◌, Bool, true, ◌==◌, List, [], ◌∷◌, ◌++◌, ◌⊎◌, filter, refl, sym, subst, inl, inr, arith, eqb-true, eq-eqb}
+-- Public lemmas on lists of numbers as sets.
+use Rattle.std.proofs.Common.{◌≡◌, ℕ, zero, suc, ◌+◌, ◌<◌, ◌≤◌, Bool, true, false, ◌==◌, List, [], ◌∷◌, ◌++◌, ◌⊎◌, filter, refl, sym, subst, inl, inr, arith, eqb-true, eq-eqb}
+use Rattle.std.specs.Prelude.{flat_map}
 use Rattle.std.proofs.lemmas.Bool.{or_cases, or_left, or_right, cases_Bool, true≢false}
 use Rattle.fd_language.specs.Family.{has, IsSubset, IsRising, count_up, universe}
 
@@ -74,3 +75,21 @@ has_either (x ∷ xs) ys n h = elim (or_cases (x == n) (has (xs ++ ys) n) h) [
   | inl e ↦ inl (or_left (x == n) (has xs n) e)
   | inr e ↦ elim (has_either xs ys n e) [ inl f ↦ inl (or_right (x == n) (has xs n) f) | inr f ↦ inr f ]
 ]
+
+-- a number of the first or of the second of two lists is in both together
+pub in_left : (xs ys : List ℕ) (n : ℕ) → has xs n ≡ true → has (xs ++ ys) n ≡ true
+in_left [] ys n h = absurd (true≢false (sym h))
+in_left (x ∷ xs) ys n h = elim (or_cases (x == n) (has xs n) h) [ inl e ↦ or_left (x == n) (has (xs ++ ys) n) e | inr e ↦ or_right (x == n) (has (xs ++ ys) n) (in_left xs ys n e) ]
+
+pub in_right : (xs ys : List ℕ) (n : ℕ) → has ys n ≡ true → has (xs ++ ys) n ≡ true
+in_right [] ys n h = h
+in_right (x ∷ xs) ys n h = or_right (x == n) (has (xs ++ ys) n) (in_right xs ys n h)
+
+-- a number is in its own list
+pub alone_in : (y : ℕ) → has (y ∷ []) y ≡ true
+alone_in y = or_left (y == y) false (eq-eqb y y refl)
+
+-- what f gives of each element is in what g gives of it
+pub in_flat : {X : Type 0} (f g : X → List ℕ) (n : ℕ) → ((x : X) → has (f x) n ≡ true → has (g x) n ≡ true) → (xs : List X) → has (flat_map f xs) n ≡ true → has (flat_map g xs) n ≡ true
+in_flat f g n h [] e = e
+in_flat f g n h (x ∷ xs) e = elim (has_either (f x) (flat_map f xs) n e) [ inl i ↦ in_left (g x) (flat_map g xs) n (h x i) | inr i ↦ in_right (g x) (flat_map g xs) n (in_flat f g n h xs i) ]

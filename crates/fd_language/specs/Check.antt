@@ -2,6 +2,7 @@
 use Rattle.std.specs.Prelude.{ℕ, Bool, true, false, ◌||◌, ◌&&◌, not, if◌then◌else◌, ℤ, pos, negsuc, int_le, []}
 use Rattle.fd_language.specs.Range.{Expr, Number, Infinity, Param, Min, Max, Val, Add, Sub, Mul, DivDown, DivUp, Range, Span, One, Dom, Union, Inter, Outside, Plus, Minus, Times, Over, value}
 use Rattle.fd_language.specs.Needs.{is_literal}
+use Rattle.fd_language.specs.NewLeaves.{NewLeaves, new_expr, new_range}
 
 pub data Wish : Type 0 where
   Rising Falling Constant : Wish
@@ -82,27 +83,11 @@ range_fits M (Times r c) w = range_fits M r w && expr_fits M c Constant
 range_fits M (Over r c) w = range_fits M r w && (is_parameter c || (is_literal c && int_le (pos 1) (literal_value M c)))
 
 -- each parameter replaced by its integer
+abbrev pub filling : (ℕ → ℤ) → NewLeaves
+filling p = record { param = λ x. Number (p x); least = λ y. Min y; greatest = λ y. Max y; one_value = λ y. Val y; domain = λ y. y }
+
 abbrev pub fill : (ℕ → ℤ) → Expr → Expr
-fill p (Number z) = Number z
-fill p Infinity = Infinity
-fill p (Param x) = Number (p x)
-fill p (Min y) = Min y
-fill p (Max y) = Max y
-fill p (Val y) = Val y
-fill p (Add a b) = Add (fill p a) (fill p b)
-fill p (Sub a b) = Sub (fill p a) (fill p b)
-fill p (Mul a b) = Mul (fill p a) (fill p b)
-fill p (DivDown a b) = DivDown (fill p a) (fill p b)
-fill p (DivUp a b) = DivUp (fill p a) (fill p b)
+fill p e = new_expr (filling p) e
 
 abbrev pub fill_range : (ℕ → ℤ) → Range → Range
-fill_range p (Span a b) = Span (fill p a) (fill p b)
-fill_range p (One t) = One (fill p t)
-fill_range p (Dom y) = Dom y
-fill_range p (Union r q) = Union (fill_range p r) (fill_range p q)
-fill_range p (Inter r q) = Inter (fill_range p r) (fill_range p q)
-fill_range p (Outside r) = Outside (fill_range p r)
-fill_range p (Plus r c) = Plus (fill_range p r) (fill p c)
-fill_range p (Minus r c) = Minus (fill_range p r) (fill p c)
-fill_range p (Times r c) = Times (fill_range p r) (fill p c)
-fill_range p (Over r c) = Over (fill_range p r) (fill p c)
+fill_range p r = new_range (filling p) r

@@ -1,8 +1,9 @@
 -- What a range reads of its variables.
-use Rattle.std.specs.Prelude.{ℕ, Bool, true, false, ◌&&◌, not, ◌==◌, List, [], ◌∷◌, filter}
+use Rattle.std.specs.Prelude.{ℕ, Bool, true, false, ◌&&◌, not, ◌==◌, List, [], ◌∷◌, filter, flat_map}
 use Rattle.fd_language.specs.declared.range_node.Feature.{Feature}
 use Rattle.fd_language.specs.declared.range_node.Feature.TheVariants as feature
-use Rattle.fd_language.specs.Range.{Range, Expr, Role, a_parameter, a_min, a_max, a_val, a_dom, from_expr, from_range}
+use Rattle.fd_language.specs.declared.range_node.RangeNode.{RangeNode}
+use Rattle.fd_language.specs.Range.{Range, Expr, Leaf, Role, a_parameter, a_min, a_max, a_val, a_dom, from_node, from_expr, from_range}
 
 -- the variable of a leaf with what is read of it
 abbrev pub feature_by : Role → ℕ → List (ℕ × Feature)
@@ -12,12 +13,19 @@ feature_by a_max y = (y, feature.Max) ∷ []
 feature_by a_val y = (y, feature.Val) ∷ []
 feature_by a_dom y = (y, feature.Dom) ∷ []
 
+abbrev pub feature_at : Leaf → List (ℕ × Feature)
+feature_at l = feature_by l.role l.variable
+
 -- A variable with what is read of it, for each min, max, val and dom, in text order.
 abbrev pub expr_features : Expr → List (ℕ × Feature)
-expr_features t = from_expr (λ l. feature_by l.role l.variable) t
+expr_features t = from_expr feature_at t
 
 abbrev pub range_features : Range → List (ℕ × Feature)
-range_features r = from_range (λ l. feature_by l.role l.variable) r
+range_features r = from_range feature_at r
+
+-- the same of nodes
+abbrev pub node_features : List RangeNode → List (ℕ × Feature)
+node_features ns = flat_map (from_node feature_at) ns
 
 abbrev pub is_same_feature : Feature → Feature → Bool
 is_same_feature feature.Min feature.Min = true

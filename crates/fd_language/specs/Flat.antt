@@ -3,34 +3,22 @@ use Rattle.std.specs.Prelude.{◌≡◌, List, [], ◌∷◌, Option, Some, None
 use Rattle.std.proofs.Common.{◌∙◌, ap}
 use Rattle.fd_language.specs.declared.range_node.RangeNode.{RangeNode}
 use Rattle.fd_language.specs.declared.range_node.RangeNode.TheVariants as node
-use Rattle.fd_language.specs.Range.{Range, Span, One, Dom, Union, Inter, Outside, Plus, Minus, Times, Over, Expr, Number, Infinity, Param, Min, Max, Val, Add, Sub, Mul, DivDown, DivUp}
+use Rattle.fd_language.specs.Range.{Range, Span, One, Dom, Union, Inter, Outside, Plus, Minus, Times, Over, Expr, Number, Infinity, Param, Min, Max, Val, Add, Sub, Mul, DivDown, DivUp, Walk, walk_expr, walk_range}
 
--- the nodes of a term in postfix order, and then the nodes that follow
-abbrev pub expr_nodes : Expr → List RangeNode → List RangeNode
-expr_nodes (Number z) rest = node.Int z ∷ rest
-expr_nodes Infinity rest = node.Infinity ∷ rest
-expr_nodes (Param x) rest = node.Param x ∷ rest
-expr_nodes (Min y) rest = node.Min y ∷ rest
-expr_nodes (Max y) rest = node.Max y ∷ rest
-expr_nodes (Val y) rest = node.Val y ∷ rest
-expr_nodes (Add a b) rest = expr_nodes a (expr_nodes b (node.Add ∷ rest))
-expr_nodes (Sub a b) rest = expr_nodes a (expr_nodes b (node.Sub ∷ rest))
-expr_nodes (Mul a b) rest = expr_nodes a (expr_nodes b (node.Mul ∷ rest))
-expr_nodes (DivDown a b) rest = expr_nodes a (expr_nodes b (node.DivDown ∷ rest))
-expr_nodes (DivUp a b) rest = expr_nodes a (expr_nodes b (node.DivUp ∷ rest))
+-- what stands in front of the nodes that follow
+abbrev pub InFront : Type 0
+InFront = List RangeNode → List RangeNode
 
--- those of a range
-abbrev pub range_nodes : Range → List RangeNode → List RangeNode
-range_nodes (Span a b) rest = expr_nodes a (expr_nodes b (node.Span ∷ rest))
-range_nodes (One t) rest = expr_nodes t (node.One ∷ rest)
-range_nodes (Dom y) rest = node.Dom y ∷ rest
-range_nodes (Union r q) rest = range_nodes r (range_nodes q (node.Union ∷ rest))
-range_nodes (Inter r q) rest = range_nodes r (range_nodes q (node.Inter ∷ rest))
-range_nodes (Outside r) rest = range_nodes r (node.Outside ∷ rest)
-range_nodes (Plus r c) rest = range_nodes r (expr_nodes c (node.Plus ∷ rest))
-range_nodes (Minus r c) rest = range_nodes r (expr_nodes c (node.Minus ∷ rest))
-range_nodes (Times r c) rest = range_nodes r (expr_nodes c (node.Times ∷ rest))
-range_nodes (Over r c) rest = range_nodes r (expr_nodes c (node.Over ∷ rest))
+-- in postfix order a node stands behind those of its operands
+abbrev pub postfix : Walk InFront
+postfix = record { at_leaf = λ n rest. n ∷ rest; at_one = λ n a rest. a (n ∷ rest); at_two = λ n a b rest. a (b (n ∷ rest)) }
+
+-- the nodes of a term or a range, and then the nodes that follow
+abbrev pub expr_nodes : Expr → InFront
+expr_nodes e = walk_expr postfix e
+
+abbrev pub range_nodes : Range → InFront
+range_nodes r = walk_range postfix r
 
 -- the list that spells the range
 abbrev pub nodes_of : Range → List RangeNode

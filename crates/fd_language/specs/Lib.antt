@@ -26,5 +26,7 @@ pub mod Reading
 pub mod Lists
 pub mod Variables
 pub mod Places
+pub mod NewLeaves
 pub mod RangeRenaming
+pub mod RangeLaws
 pub mod Monotonicity

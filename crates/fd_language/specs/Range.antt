@@ -3,6 +3,8 @@ use Rattle.std.specs.Prelude.{ℕ, zero, suc, ◌/◌, Bool, true, false, ◌||�
 use Rattle.std.specs.List.{list_any}
 use Rattle.std.specs.Ordering.{int_eq}
 use Rattle.fd_language.specs.Family.{Family, has, universe}
+use Rattle.fd_language.specs.declared.range_node.RangeNode.{RangeNode}
+use Rattle.fd_language.specs.declared.range_node.RangeNode.TheVariants as node
 
 pub data Expr : Type 0 where
   Number : ℤ → Expr
@@ -105,31 +107,55 @@ pub record Leaf : Type 0 where
 abbrev pub leaf : Role → ℕ → Leaf
 leaf role y = record { variable = y; role = role }
 
--- What f gives for each leaf of a term or a range that names a variable, in text order. This is the one walk over leaves.
+-- A walk over a term or a range from its leaves up: what is made of a leaf, and what of the operands' at a node of one and of two. A node is as it stands in postfix order.
+pub record Walk (X : Type 0) : Type 0 where
+  pub at_leaf : RangeNode → X
+  pub at_one : RangeNode → X → X
+  pub at_two : RangeNode → X → X → X
+
+abbrev pub walk_expr : {X : Type 0} → Walk X → Expr → X
+walk_expr w (Number z) = w.at_leaf (node.Int z)
+walk_expr w Infinity = w.at_leaf node.Infinity
+walk_expr w (Param x) = w.at_leaf (node.Param x)
+walk_expr w (Min y) = w.at_leaf (node.Min y)
+walk_expr w (Max y) = w.at_leaf (node.Max y)
+walk_expr w (Val y) = w.at_leaf (node.Val y)
+walk_expr w (Add a b) = w.at_two node.Add (walk_expr w a) (walk_expr w b)
+walk_expr w (Sub a b) = w.at_two node.Sub (walk_expr w a) (walk_expr w b)
+walk_expr w (Mul a b) = w.at_two node.Mul (walk_expr w a) (walk_expr w b)
+walk_expr w (DivDown a b) = w.at_two node.DivDown (walk_expr w a) (walk_expr w b)
+walk_expr w (DivUp a b) = w.at_two node.DivUp (walk_expr w a) (walk_expr w b)
+
+abbrev pub walk_range : {X : Type 0} → Walk X → Range → X
+walk_range w (Span a b) = w.at_two node.Span (walk_expr w a) (walk_expr w b)
+walk_range w (One t) = w.at_one node.One (walk_expr w t)
+walk_range w (Dom y) = w.at_leaf (node.Dom y)
+walk_range w (Union r q) = w.at_two node.Union (walk_range w r) (walk_range w q)
+walk_range w (Inter r q) = w.at_two node.Inter (walk_range w r) (walk_range w q)
+walk_range w (Outside r) = w.at_one node.Outside (walk_range w r)
+walk_range w (Plus r c) = w.at_two node.Plus (walk_range w r) (walk_expr w c)
+walk_range w (Minus r c) = w.at_two node.Minus (walk_range w r) (walk_expr w c)
+walk_range w (Times r c) = w.at_two node.Times (walk_range w r) (walk_expr w c)
+walk_range w (Over r c) = w.at_two node.Over (walk_range w r) (walk_expr w c)
+
+-- What f gives for a node that is a leaf with a variable. Of another node there is nothing.
+abbrev pub from_node : {X : Type 0} → (Leaf → List X) → RangeNode → List X
+from_node f (node.Param x) = f (leaf a_parameter x)
+from_node f (node.Min y) = f (leaf a_min y)
+from_node f (node.Max y) = f (leaf a_max y)
+from_node f (node.Val y) = f (leaf a_val y)
+from_node f (node.Dom y) = f (leaf a_dom y)
+from_node f n = []
+
+-- What f gives for each leaf of a term or a range that names a variable, in text order.
+abbrev pub collecting : {X : Type 0} → (Leaf → List X) → Walk (List X)
+collecting f = record { at_leaf = λ n. from_node f n; at_one = λ n xs. xs; at_two = λ n xs ys. xs ++ ys }
+
 abbrev pub from_expr : {X : Type 0} → (Leaf → List X) → Expr → List X
-from_expr f (Number n) = []
-from_expr f Infinity = []
-from_expr f (Param x) = f (leaf a_parameter x)
-from_expr f (Min y) = f (leaf a_min y)
-from_expr f (Max y) = f (leaf a_max y)
-from_expr f (Val y) = f (leaf a_val y)
-from_expr f (Add a b) = from_expr f a ++ from_expr f b
-from_expr f (Sub a b) = from_expr f a ++ from_expr f b
-from_expr f (Mul a b) = from_expr f a ++ from_expr f b
-from_expr f (DivDown a b) = from_expr f a ++ from_expr f b
-from_expr f (DivUp a b) = from_expr f a ++ from_expr f b
+from_expr f e = walk_expr (collecting f) e
 
 abbrev pub from_range : {X : Type 0} → (Leaf → List X) → Range → List X
-from_range f (Span a b) = from_expr f a ++ from_expr f b
-from_range f (One t) = from_expr f t
-from_range f (Dom y) = f (leaf a_dom y)
-from_range f (Union r q) = from_range f r ++ from_range f q
-from_range f (Inter r q) = from_range f r ++ from_range f q
-from_range f (Outside r) = from_range f r
-from_range f (Plus r c) = from_range f r ++ from_expr f c
-from_range f (Minus r c) = from_range f r ++ from_expr f c
-from_range f (Times r c) = from_range f r ++ from_expr f c
-from_range f (Over r c) = from_range f r ++ from_expr f c
+from_range f r = walk_range (collecting f) r
 
 -- the leaves themselves
 abbrev pub leaves : Range → List Leaf
@@ -159,26 +185,35 @@ param_by a_max y = []
 param_by a_val y = []
 param_by a_dom y = []
 
+abbrev pub read_at : Leaf → List ℕ
+read_at l = read_by l.role l.variable
+
+abbrev pub val_at : Leaf → List ℕ
+val_at l = val_by l.role l.variable
+
+abbrev pub param_at : Leaf → List ℕ
+param_at l = param_by l.role l.variable
+
 -- the variables that a term or a range names by min, max, val or dom
 abbrev pub expr_reads : Expr → List ℕ
-expr_reads t = from_expr (λ l. read_by l.role l.variable) t
+expr_reads t = from_expr read_at t
 
 abbrev pub reads : Range → List ℕ
-reads r = from_range (λ l. read_by l.role l.variable) r
+reads r = from_range read_at r
 
 -- those that it names by val
 abbrev pub expr_vals : Expr → List ℕ
-expr_vals t = from_expr (λ l. val_by l.role l.variable) t
+expr_vals t = from_expr val_at t
 
 abbrev pub vals : Range → List ℕ
-vals r = from_range (λ l. val_by l.role l.variable) r
+vals r = from_range val_at r
 
 -- its parameters
 abbrev pub expr_params : Expr → List ℕ
-expr_params t = from_expr (λ l. param_by l.role l.variable) t
+expr_params t = from_expr param_at t
 
 abbrev pub params : Range → List ℕ
-params r = from_range (λ l. param_by l.role l.variable) r
+params r = from_range param_at r
 
 abbrev pub is_none_left : List ℕ → Bool
 is_none_left [] = true

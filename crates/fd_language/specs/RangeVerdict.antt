@@ -6,36 +6,20 @@ use Rattle.fd_language.specs.declared.range_node.RangeNode.TheVariants as node
 use Rattle.fd_language.specs.declared.range_node.Offence.{Offence}
 use Rattle.fd_language.specs.declared.range_node.Offence.TheVariants.{NotMonotone, NotNatural, BadDivisor, TooWide}
 use Rattle.fd_language.specs.Family.{has}
-use Rattle.fd_language.specs.Range.{Range, Span, One, Dom, Union, Inter, Outside, Plus, Minus, Times, Over, Expr, Number, Infinity, Param, Min, Max, Val, Add, Sub, Mul, DivDown, DivUp, reads, params}
+use Rattle.fd_language.specs.Range.{Range, Span, One, Dom, Union, Inter, Outside, Plus, Minus, Times, Over, Expr, Number, Infinity, Param, Min, Max, Val, Add, Sub, Mul, DivDown, DivUp, Walk, walk_expr, walk_range, reads, params}
 use Rattle.fd_language.specs.Needs.{is_literal}
 use Rattle.fd_language.specs.Check.{Wish, Rising, Falling, Constant, turn, is_rising, is_falling, literal_value, is_parameter, range_fits}
 use Rattle.fd_language.specs.Flat.{nodes_of}
 
 -- How many nodes there are. The node of an operator stands behind those of its operands, so where it has the number n, its last operand has n - 1, and an operand before that of k nodes has n - 1 - k.
+abbrev pub counting : Walk ℕ
+counting = record { at_leaf = λ n. 1; at_one = λ n a. suc a; at_two = λ n a b. suc (a + b) }
+
 abbrev pub expr_size : Expr → ℕ
-expr_size (Number z) = 1
-expr_size Infinity = 1
-expr_size (Param x) = 1
-expr_size (Min y) = 1
-expr_size (Max y) = 1
-expr_size (Val y) = 1
-expr_size (Add a b) = suc (expr_size a + expr_size b)
-expr_size (Sub a b) = suc (expr_size a + expr_size b)
-expr_size (Mul a b) = suc (expr_size a + expr_size b)
-expr_size (DivDown a b) = suc (expr_size a + expr_size b)
-expr_size (DivUp a b) = suc (expr_size a + expr_size b)
+expr_size e = walk_expr counting e
 
 abbrev pub range_size : Range → ℕ
-range_size (Span a b) = suc (expr_size a + expr_size b)
-range_size (One t) = suc (expr_size t)
-range_size (Dom y) = 1
-range_size (Union r q) = suc (range_size r + range_size q)
-range_size (Inter r q) = suc (range_size r + range_size q)
-range_size (Outside r) = suc (range_size r)
-range_size (Plus r c) = suc (range_size r + expr_size c)
-range_size (Minus r c) = suc (range_size r + expr_size c)
-range_size (Times r c) = suc (range_size r + expr_size c)
-range_size (Over r c) = suc (range_size r + expr_size c)
+range_size r = walk_range counting r
 
 -- Width. The greatest magnitude that the values of a term may have.
 abbrev pub bound : ℕ → Expr → ℕ

@@ -5,6 +5,7 @@ pub mod check_laws;
 mod counting;
 mod flat_range;
 pub mod grammar_laws;
+pub mod range_laws;
 mod range_node;
 
 pub use flat_range::FlatRange;

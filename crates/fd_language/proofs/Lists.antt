@@ -1,0 +1,38 @@
+-- Public lemmas: what holds of each element of a list.
+use Rattle.std.proofs.Common.{Bool, true, false, cond, List, [], ◌∷◌, ◌++◌}
+use Rattle.std.specs.Prelude.{flat_map}
+use Rattle.fd_language.specs.Lists.{Each}
+
+module _ {X : Type 0} where
+  -- what holds wherever another fact does
+  pub each_map : (H G : X → Type 0) → ((x : X) → H x → G x) → (xs : List X) → Each H xs → Each G xs
+  each_map H G f [] h = tt
+  each_map H G f (x ∷ xs) h = (f x h.0, each_map H G f xs h.1)
+
+  -- what holds of all
+  pub each_all : (H : X → Type 0) → ((x : X) → H x) → (xs : List X) → Each H xs
+  each_all H f [] = tt
+  each_all H f (x ∷ xs) = (f x, each_all H f xs)
+
+  -- of two lists, and of the first and the second of two
+  pub each_both : (H : X → Type 0) (xs ys : List X) → Each H xs → Each H ys → Each H (xs ++ ys)
+  each_both H [] ys h g = g
+  each_both H (x ∷ xs) ys h g = (h.0, each_both H xs ys h.1 g)
+
+  pub each_before : (H : X → Type 0) (xs ys : List X) → Each H (xs ++ ys) → Each H xs
+  each_before H [] ys h = tt
+  each_before H (x ∷ xs) ys h = (h.0, each_before H xs ys h.1)
+
+  pub each_after : (H : X → Type 0) (xs ys : List X) → Each H (xs ++ ys) → Each H ys
+  each_after H [] ys h = h
+  each_after H (x ∷ xs) ys h = each_after H xs ys h.1
+
+  -- of either of two lists
+  pub each_either : (H : X → Type 0) (b : Bool) (xs ys : List X) → Each H xs → Each H ys → Each H (cond b xs ys)
+  each_either H true xs ys h g = h
+  each_either H false xs ys h g = g
+
+-- what each element gives, put together
+pub each_flat : {X Y : Type 0} (H : X → Type 0) (G : Y → Type 0) (f : X → List Y) → ((x : X) → H x → Each G (f x)) → (xs : List X) → Each H xs → Each G (flat_map f xs)
+each_flat H G f g [] h = tt
+each_flat H G f g (x ∷ xs) h = each_both G (f x) (flat_map f xs) (g x h.0) (each_flat H G f g xs h.1)

@@ -1,0 +1,24 @@
+-- The leaves of a range tell all that is collected of it.
+use Rattle.std.specs.Prelude.{◌≡◌, List, [], ◌∷◌, length, flat_map}
+use Rattle.fd_language.specs.Range.{Range, Leaf, leaves, from_node, reads, read_at, vals, val_at, params, param_at}
+use Rattle.fd_language.specs.Places.{range_places, place_at}
+use Rattle.fd_language.specs.Features.{range_features, feature_at, node_features}
+use Rattle.fd_language.specs.Flat.{nodes_of}
+use Rattle.fd_language.specs.RangeVerdict.{range_size}
+
+-- What a range reads, its vals, its parameters, its places and its features are filters of the list of its leaves, in text order.
+pub record AreOfLeaves (r : Range) : Type 0 where
+  pub reads_are : reads r ≡ flat_map read_at (leaves r)
+  pub vals_are : vals r ≡ flat_map val_at (leaves r)
+  pub params_are : params r ≡ flat_map param_at (leaves r)
+  pub places_are : range_places r ≡ flat_map place_at (leaves r)
+  pub features_are : range_features r ≡ flat_map feature_at (leaves r)
+
+-- The nodes have the same leaves in the same order, and there are as many nodes as the size says.
+pub record AreNodesOf (r : Range) : Type 0 where
+  pub node_leaves : flat_map (from_node (λ l. l ∷ [])) (nodes_of r) ≡ leaves r
+  pub features_are : node_features (nodes_of r) ≡ range_features r
+  pub size : length (nodes_of r) ≡ range_size r
+
+abbrev pub LeavesTell : Type 0
+LeavesTell = (r : Range) → AreOfLeaves r × AreNodesOf r
