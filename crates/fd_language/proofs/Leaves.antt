@@ -1,13 +1,14 @@
 -- Public lemmas on walks over ranges: what two walks have in common, and what is collected of the leaves.
 use Rattle.std.proofs.Common.{◌≡◌, ℕ, suc, ◌+◌, ℤ, List, [], ◌∷◌, ◌++◌, length, refl, ap, sym, subst, ◌∙◌, arith, true}
 use Rattle.std.proofs.lemmas.Bool.{true≢false}
-use Rattle.std.specs.Prelude.{flat_map}
+use Rattle.std.specs.Prelude.{flat_map, filter_map, Option, Some, None}
+use Rattle.std.specs.List.{cons_option}
 use Rattle.std.proofs.lemmas.List.{append-nil, append_assoc}
 use Rattle.std.proofs.lemmas.List.Concat.{flat_map-append}
 use mathlib.Core.Path.{fun_ext}
 use Rattle.fd_language.specs.declared.range_node.RangeNode.{RangeNode}
 use Rattle.fd_language.specs.declared.range_node.RangeNode.TheVariants as node
-use Rattle.fd_language.specs.Range.{Range, Span, One, Dom, Union, Inter, Outside, Plus, Minus, Times, Over, Expr, Number, Infinity, Param, Min, Max, Val, Add, Sub, Mul, DivDown, DivUp, Leaf, Role, leaf, a_parameter, a_min, a_max, a_val, a_dom, Walk, walk_expr, walk_range, from_node, collecting, from_expr, from_range, leaves, reads, read_by, read_at, vals, val_by, val_at, params, param_by, param_at}
+use Rattle.fd_language.specs.Range.{Range, Span, One, Dom, Union, Inter, Outside, Plus, Minus, Times, Over, Expr, Number, Infinity, Param, Min, Max, Val, Add, Sub, Mul, DivDown, DivUp, Leaf, Role, leaf, a_parameter, a_min, a_max, a_val, a_dom, Walk, walk_expr, walk_range, leaf_of, from_leaf, from_node, collecting, from_expr, from_range, leaves, reads, read_by, read_at, vals, val_by, val_at, params, param_by, param_at}
 use Rattle.fd_language.specs.Places.{place_at}
 use Rattle.fd_language.specs.Features.{feature_at}
 use Rattle.fd_language.specs.Lists.{Each}
@@ -106,6 +107,13 @@ nodes_leaves f r = ranges_related (λ (ns : InFront) xs. (rest : List RangeNode)
     (λ n h x y e rest. e (n ∷ rest) ∙ ap (λ l. y ++ (l ++ flat_map (from_node f) rest)) (no_leaf f n 0 h))
     (λ n h x u y v e g rest. e (u (n ∷ rest)) ∙ (ap (λ l. y ++ l) (g (n ∷ rest) ∙ ap (λ l. v ++ (l ++ flat_map (from_node f) rest)) (no_leaf f n 1 h)) ∙ sym (append_assoc y v (flat_map (from_node f) rest))))
     r
+
+listed : (ns : List RangeNode) → filter_map leaf_of ns ≡ flat_map (from_node (λ l. l ∷ [])) ns
+listed [] = refl
+listed (n ∷ ns) = with_rest (leaf_of n) (filter_map leaf_of ns) ∙ ap (λ l. from_node (λ l. l ∷ []) n ++ l) (listed ns) where
+  with_rest : (o : Option Leaf) (ls : List Leaf) → cons_option o ls ≡ from_leaf (λ l. l ∷ []) o ++ ls
+  with_rest None ls = refl
+  with_rest (Some l) ls = refl
 
 pub whole_nodes : {X : Type 0} (f : Leaf → List X) (r : Range) → flat_map (from_node f) (nodes_of r) ≡ from_range f r
 whole_nodes f r = nodes_leaves f r [] ∙ append-nil (from_range f r)
@@ -275,5 +283,5 @@ vals_read r v h =
 pub leaves_tell : LeavesTell
 leaves_tell r = (
   record { reads_are = range_leaves read_at r; vals_are = range_leaves val_at r; params_are = range_leaves param_at r; places_are = range_leaves place_at r; features_are = range_leaves feature_at r },
-  record { node_leaves = whole_nodes (λ l. l ∷ []) r; features_are = whole_nodes feature_at r; size = count_nodes r },
+  record { node_leaves = listed (nodes_of r) ∙ whole_nodes (λ l. l ∷ []) r; features_are = whole_nodes feature_at r; size = count_nodes r },
 )

@@ -1,85 +1,37 @@
 -- No variable has two uses exactly where the nodes show no clash.
-use Rattle.std.proofs.Common.{◌≡◌, ℕ, suc, Bool, true, false, not, ◌&&◌, ◌==◌, List, [], ◌∷◌, ◌++◌, refl, sym, ◌∙◌, ap, subst, inl, inr, ◌⊎◌, eqb-true, eq-eqb}
+use Rattle.std.proofs.Common.{◌≡◌, ℕ, suc, Bool, true, false, cond, not, ◌&&◌, ◌==◌, List, [], ◌∷◌, ◌++◌, refl, sym, ◌∙◌, ap, subst, inl, inr, ◌⊎◌, eqb-true, eq-eqb}
 use Rattle.std.proofs.lemmas.Bool.{true≢false, or_left, or_right, or_cases}
 use Rattle.std.specs.List.{list_all}
 use Rattle.fd_language.specs.declared.range_node.RangeNode.{RangeNode}
-use Rattle.fd_language.specs.declared.range_node.RangeNode.TheVariants as node
 use Rattle.fd_language.specs.declared.range_node.Offence.{Offence}
 use Rattle.fd_language.specs.Family.{has}
-use Rattle.fd_language.specs.Range.{Range, Span, One, Dom, Union, Inter, Outside, Plus, Minus, Times, Over, Expr, Number, Infinity, Param, Min, Max, Val, Add, Sub, Mul, DivDown, DivUp, expr_reads, reads}
-use Rattle.fd_language.specs.Flat.{expr_nodes, range_nodes, nodes_of}
-use Rattle.fd_language.specs.Range.{expr_params, params}
-use Rattle.fd_language.specs.RangeVerdict.{where_first_clash, clashes, has_one_use}
-use Rattle.fd_language.proofs.Monotone.{in_left, in_right}
+use Rattle.fd_language.specs.Range.{Range, Leaf, leaf_of, from_leaf, from_node, is_parameter_role, reads, read_at, params, param_at}
+use Rattle.fd_language.specs.Flat.{nodes_of}
+use Rattle.fd_language.specs.RangeVerdict.{where_first_clash, leaf_clashes, clashes, has_one_use}
+use Rattle.std.specs.Prelude.{flat_map, Option, Some, None}
+use Rattle.std.proofs.lemmas.List.{append-nil}
+use Rattle.fd_language.proofs.Sets.{has_either, in_left, in_right}
+use Rattle.fd_language.proofs.Leaves.{whole_nodes}
 use Rattle.fd_language.proofs.Agrees.{nil}
 
 -- the parameters and the named variables of a list of nodes
-abbrev pub node_params : List RangeNode → List ℕ
-node_params [] = []
-node_params (node.Int z ∷ ns) = node_params ns
-node_params (node.Infinity ∷ ns) = node_params ns
-node_params (node.Param x ∷ ns) = x ∷ node_params ns
-node_params (node.Min y ∷ ns) = node_params ns
-node_params (node.Max y ∷ ns) = node_params ns
-node_params (node.Val y ∷ ns) = node_params ns
-node_params (node.Add ∷ ns) = node_params ns
-node_params (node.Sub ∷ ns) = node_params ns
-node_params (node.Mul ∷ ns) = node_params ns
-node_params (node.DivDown ∷ ns) = node_params ns
-node_params (node.DivUp ∷ ns) = node_params ns
-node_params (node.Span ∷ ns) = node_params ns
-node_params (node.One ∷ ns) = node_params ns
-node_params (node.Dom y ∷ ns) = node_params ns
-node_params (node.Union ∷ ns) = node_params ns
-node_params (node.Inter ∷ ns) = node_params ns
-node_params (node.Outside ∷ ns) = node_params ns
-node_params (node.Plus ∷ ns) = node_params ns
-node_params (node.Minus ∷ ns) = node_params ns
-node_params (node.Times ∷ ns) = node_params ns
-node_params (node.Over ∷ ns) = node_params ns
+abbrev node_params : List RangeNode → List ℕ
+node_params ns = flat_map (from_node param_at) ns
 
-abbrev pub node_reads : List RangeNode → List ℕ
-node_reads [] = []
-node_reads (node.Int z ∷ ns) = node_reads ns
-node_reads (node.Infinity ∷ ns) = node_reads ns
-node_reads (node.Param x ∷ ns) = node_reads ns
-node_reads (node.Min y ∷ ns) = y ∷ node_reads ns
-node_reads (node.Max y ∷ ns) = y ∷ node_reads ns
-node_reads (node.Val y ∷ ns) = y ∷ node_reads ns
-node_reads (node.Add ∷ ns) = node_reads ns
-node_reads (node.Sub ∷ ns) = node_reads ns
-node_reads (node.Mul ∷ ns) = node_reads ns
-node_reads (node.DivDown ∷ ns) = node_reads ns
-node_reads (node.DivUp ∷ ns) = node_reads ns
-node_reads (node.Span ∷ ns) = node_reads ns
-node_reads (node.One ∷ ns) = node_reads ns
-node_reads (node.Dom y ∷ ns) = y ∷ node_reads ns
-node_reads (node.Union ∷ ns) = node_reads ns
-node_reads (node.Inter ∷ ns) = node_reads ns
-node_reads (node.Outside ∷ ns) = node_reads ns
-node_reads (node.Plus ∷ ns) = node_reads ns
-node_reads (node.Minus ∷ ns) = node_reads ns
-node_reads (node.Times ∷ ns) = node_reads ns
-node_reads (node.Over ∷ ns) = node_reads ns
+abbrev node_reads : List RangeNode → List ℕ
+node_reads ns = flat_map (from_node read_at) ns
 
 Apart : List ℕ → List ℕ → Type 0
 Apart xs ys = (z : ℕ) → has xs z ≡ true → has ys z ≡ true → ⊥
 
-in_some : (xs ys : List ℕ) (z : ℕ) → has (xs ++ ys) z ≡ true → (has xs z ≡ true) ⊎ (has ys z ≡ true)
-in_some [] ys z h = inr h
-in_some (x ∷ xs) ys z h = elim (or_cases (x == z) (has (xs ++ ys) z) h) [
-  | inl e ↦ inl (or_left (x == z) (has xs z) e)
-  | inr e ↦ elim (in_some xs ys z e) [ inl f ↦ inl (or_right (x == z) (has xs z) f) | inr f ↦ inr f ]
-]
-
 later : (x z : ℕ) (xs ys : List ℕ) → has (x ∷ (xs ++ ys)) z ≡ true → has (xs ++ (x ∷ ys)) z ≡ true
 later x z xs ys h = elim (or_cases (x == z) (has (xs ++ ys) z) h) [
   | inl e ↦ in_right xs (x ∷ ys) z (or_left (x == z) (has ys z) e)
-  | inr e ↦ elim (in_some xs ys z e) [ inl f ↦ in_left xs (x ∷ ys) z f | inr f ↦ in_right xs (x ∷ ys) z (or_right (x == z) (has ys z) f) ]
+  | inr e ↦ elim (has_either xs ys z e) [ inl f ↦ in_left xs (x ∷ ys) z f | inr f ↦ in_right xs (x ∷ ys) z (or_right (x == z) (has ys z) f) ]
 ]
 
 sooner : (x z : ℕ) (xs ys : List ℕ) → has (xs ++ (x ∷ ys)) z ≡ true → has (x ∷ (xs ++ ys)) z ≡ true
-sooner x z xs ys h = elim (in_some xs (x ∷ ys) z h) [
+sooner x z xs ys h = elim (has_either xs (x ∷ ys) z h) [
   | inl e ↦ or_right (x == z) (has (xs ++ ys) z) (in_left xs ys z e)
   | inr e ↦ elim (or_cases (x == z) (has ys z) e) [ inl f ↦ or_left (x == z) (has (xs ++ ys) z) f | inr f ↦ or_right (x == z) (has (xs ++ ys) z) (in_right xs ys z f) ]
 ]
@@ -105,132 +57,43 @@ unfolding Apart
 turned ps ys a = λ z h g. a z g h
 
 module _ (at : ℕ → ℕ) where
+  -- the clashes behind the node with the number n
+  abbrev behind : ℕ → List RangeNode → List ℕ → List ℕ → List Offence
+  behind n ns ps ys = clashes at (suc n) ps ys ns
+
   forward : (ns : List RangeNode) (n : ℕ) (ps ys : List ℕ) → Apart ps ys → nil (clashes at n ps ys ns) ≡ true → Apart (node_params ns ++ ps) (node_reads ns ++ ys)
   unfolding Apart
   forward [] n ps ys a h = a
-  forward (node.Int z ∷ ns) n ps ys a h = forward ns (suc n) ps ys a h
-  forward (node.Infinity ∷ ns) n ps ys a h = forward ns (suc n) ps ys a h
-  forward (node.Param x ∷ ns) n ps ys a h =
-      let c = no_clash (has ys x) (has ps x) (at n) (clashes at (suc n) (x ∷ ps) ys ns) h in
-      λ z i j. forward ns (suc n) (x ∷ ps) ys (added x ps ys a c.0) c.1 z (later x z (node_params ns) ps i) j
-  forward (node.Min y ∷ ns) n ps ys a h =
-      let c = no_clash (has ps y) (has ys y) (at n) (clashes at (suc n) ps (y ∷ ys) ns) h in
-      λ z i j. forward ns (suc n) ps (y ∷ ys) (turned (y ∷ ys) ps (added y ys ps (turned ps ys a) c.0)) c.1 z i (later y z (node_reads ns) ys j)
-  forward (node.Max y ∷ ns) n ps ys a h =
-      let c = no_clash (has ps y) (has ys y) (at n) (clashes at (suc n) ps (y ∷ ys) ns) h in
-      λ z i j. forward ns (suc n) ps (y ∷ ys) (turned (y ∷ ys) ps (added y ys ps (turned ps ys a) c.0)) c.1 z i (later y z (node_reads ns) ys j)
-  forward (node.Val y ∷ ns) n ps ys a h =
-      let c = no_clash (has ps y) (has ys y) (at n) (clashes at (suc n) ps (y ∷ ys) ns) h in
-      λ z i j. forward ns (suc n) ps (y ∷ ys) (turned (y ∷ ys) ps (added y ys ps (turned ps ys a) c.0)) c.1 z i (later y z (node_reads ns) ys j)
-  forward (node.Add ∷ ns) n ps ys a h = forward ns (suc n) ps ys a h
-  forward (node.Sub ∷ ns) n ps ys a h = forward ns (suc n) ps ys a h
-  forward (node.Mul ∷ ns) n ps ys a h = forward ns (suc n) ps ys a h
-  forward (node.DivDown ∷ ns) n ps ys a h = forward ns (suc n) ps ys a h
-  forward (node.DivUp ∷ ns) n ps ys a h = forward ns (suc n) ps ys a h
-  forward (node.Span ∷ ns) n ps ys a h = forward ns (suc n) ps ys a h
-  forward (node.One ∷ ns) n ps ys a h = forward ns (suc n) ps ys a h
-  forward (node.Dom y ∷ ns) n ps ys a h =
-      let c = no_clash (has ps y) (has ys y) (at n) (clashes at (suc n) ps (y ∷ ys) ns) h in
-      λ z i j. forward ns (suc n) ps (y ∷ ys) (turned (y ∷ ys) ps (added y ys ps (turned ps ys a) c.0)) c.1 z i (later y z (node_reads ns) ys j)
-  forward (node.Union ∷ ns) n ps ys a h = forward ns (suc n) ps ys a h
-  forward (node.Inter ∷ ns) n ps ys a h = forward ns (suc n) ps ys a h
-  forward (node.Outside ∷ ns) n ps ys a h = forward ns (suc n) ps ys a h
-  forward (node.Plus ∷ ns) n ps ys a h = forward ns (suc n) ps ys a h
-  forward (node.Minus ∷ ns) n ps ys a h = forward ns (suc n) ps ys a h
-  forward (node.Times ∷ ns) n ps ys a h = forward ns (suc n) ps ys a h
-  forward (node.Over ∷ ns) n ps ys a h = forward ns (suc n) ps ys a h
+  forward (m ∷ ns) n ps ys a h = by_leaf (forward ns (suc n)) (leaf_of m) h where
+    by_kind : ((qs zs : List ℕ) → Apart qs zs → nil (behind n ns qs zs) ≡ true → Apart (node_params ns ++ qs) (node_reads ns ++ zs)) → (b : Bool) (x : ℕ) → nil (cond b (where_first_clash (has ys x) (has ps x) (at n) ++ behind n ns (x ∷ ps) ys) (where_first_clash (has ps x) (has ys x) (at n) ++ behind n ns ps (x ∷ ys))) ≡ true
+        → Apart ((cond b (x ∷ []) [] ++ node_params ns) ++ ps) ((cond b [] (x ∷ []) ++ node_reads ns) ++ ys)
+    by_kind more true x h =
+        let c = no_clash (has ys x) (has ps x) (at n) (behind n ns (x ∷ ps) ys) h in
+        λ z i j. more (x ∷ ps) ys (added x ps ys a c.0) c.1 z (later x z (node_params ns) ps i) j
+    by_kind more false x h =
+        let c = no_clash (has ps x) (has ys x) (at n) (behind n ns ps (x ∷ ys)) h in
+        λ z i j. more ps (x ∷ ys) (turned (x ∷ ys) ps (added x ys ps (turned ps ys a) c.0)) c.1 z i (later x z (node_reads ns) ys j)
+
+    by_leaf : ((qs zs : List ℕ) → Apart qs zs → nil (behind n ns qs zs) ≡ true → Apart (node_params ns ++ qs) (node_reads ns ++ zs)) → (o : Option Leaf) → nil (leaf_clashes (at n) ps ys o (behind n ns)) ≡ true → Apart ((from_leaf param_at o ++ node_params ns) ++ ps) ((from_leaf read_at o ++ node_reads ns) ++ ys)
+    by_leaf more None h = more ps ys a h
+    by_leaf more (Some l) h = by_kind more (is_parameter_role l.role) l.variable h
 
   backward : (ns : List RangeNode) (n : ℕ) (ps ys : List ℕ) → Apart (node_params ns ++ ps) (node_reads ns ++ ys) → nil (clashes at n ps ys ns) ≡ true
   unfolding Apart
   backward [] n ps ys a = refl
-  backward (node.Int z ∷ ns) n ps ys a = backward ns (suc n) ps ys a
-  backward (node.Infinity ∷ ns) n ps ys a = backward ns (suc n) ps ys a
-  backward (node.Param x ∷ ns) n ps ys a = clash_free (has ys x) (has ps x) (at n) (clashes at (suc n) (x ∷ ps) ys ns)
-      (λ e. a x (or_left (x == x) (has (node_params ns ++ ps) x) (eq-eqb x x refl)) (in_right (node_reads ns) ys x e))
-      (backward ns (suc n) (x ∷ ps) ys (λ z i j. a z (sooner x z (node_params ns) ps i) j))
-  backward (node.Min y ∷ ns) n ps ys a = clash_free (has ps y) (has ys y) (at n) (clashes at (suc n) ps (y ∷ ys) ns)
-      (λ e. a y (in_right (node_params ns) ps y e) (or_left (y == y) (has (node_reads ns ++ ys) y) (eq-eqb y y refl)))
-      (backward ns (suc n) ps (y ∷ ys) (λ z i j. a z i (sooner y z (node_reads ns) ys j)))
-  backward (node.Max y ∷ ns) n ps ys a = clash_free (has ps y) (has ys y) (at n) (clashes at (suc n) ps (y ∷ ys) ns)
-      (λ e. a y (in_right (node_params ns) ps y e) (or_left (y == y) (has (node_reads ns ++ ys) y) (eq-eqb y y refl)))
-      (backward ns (suc n) ps (y ∷ ys) (λ z i j. a z i (sooner y z (node_reads ns) ys j)))
-  backward (node.Val y ∷ ns) n ps ys a = clash_free (has ps y) (has ys y) (at n) (clashes at (suc n) ps (y ∷ ys) ns)
-      (λ e. a y (in_right (node_params ns) ps y e) (or_left (y == y) (has (node_reads ns ++ ys) y) (eq-eqb y y refl)))
-      (backward ns (suc n) ps (y ∷ ys) (λ z i j. a z i (sooner y z (node_reads ns) ys j)))
-  backward (node.Add ∷ ns) n ps ys a = backward ns (suc n) ps ys a
-  backward (node.Sub ∷ ns) n ps ys a = backward ns (suc n) ps ys a
-  backward (node.Mul ∷ ns) n ps ys a = backward ns (suc n) ps ys a
-  backward (node.DivDown ∷ ns) n ps ys a = backward ns (suc n) ps ys a
-  backward (node.DivUp ∷ ns) n ps ys a = backward ns (suc n) ps ys a
-  backward (node.Span ∷ ns) n ps ys a = backward ns (suc n) ps ys a
-  backward (node.One ∷ ns) n ps ys a = backward ns (suc n) ps ys a
-  backward (node.Dom y ∷ ns) n ps ys a = clash_free (has ps y) (has ys y) (at n) (clashes at (suc n) ps (y ∷ ys) ns)
-      (λ e. a y (in_right (node_params ns) ps y e) (or_left (y == y) (has (node_reads ns ++ ys) y) (eq-eqb y y refl)))
-      (backward ns (suc n) ps (y ∷ ys) (λ z i j. a z i (sooner y z (node_reads ns) ys j)))
-  backward (node.Union ∷ ns) n ps ys a = backward ns (suc n) ps ys a
-  backward (node.Inter ∷ ns) n ps ys a = backward ns (suc n) ps ys a
-  backward (node.Outside ∷ ns) n ps ys a = backward ns (suc n) ps ys a
-  backward (node.Plus ∷ ns) n ps ys a = backward ns (suc n) ps ys a
-  backward (node.Minus ∷ ns) n ps ys a = backward ns (suc n) ps ys a
-  backward (node.Times ∷ ns) n ps ys a = backward ns (suc n) ps ys a
-  backward (node.Over ∷ ns) n ps ys a = backward ns (suc n) ps ys a
+  backward (m ∷ ns) n ps ys a = by_leaf (backward ns (suc n)) (leaf_of m) a where
+    by_kind : ((qs zs : List ℕ) → Apart (node_params ns ++ qs) (node_reads ns ++ zs) → nil (behind n ns qs zs) ≡ true) → (b : Bool) (x : ℕ) → Apart ((cond b (x ∷ []) [] ++ node_params ns) ++ ps) ((cond b [] (x ∷ []) ++ node_reads ns) ++ ys)
+        → nil (cond b (where_first_clash (has ys x) (has ps x) (at n) ++ behind n ns (x ∷ ps) ys) (where_first_clash (has ps x) (has ys x) (at n) ++ behind n ns ps (x ∷ ys))) ≡ true
+    by_kind more true x a = clash_free (has ys x) (has ps x) (at n) (behind n ns (x ∷ ps) ys)
+        (λ e. a x (or_left (x == x) (has (node_params ns ++ ps) x) (eq-eqb x x refl)) (in_right (node_reads ns) ys x e))
+        (more (x ∷ ps) ys (λ z i j. a z (sooner x z (node_params ns) ps i) j))
+    by_kind more false x a = clash_free (has ps x) (has ys x) (at n) (behind n ns ps (x ∷ ys))
+        (λ e. a x (in_right (node_params ns) ps x e) (or_left (x == x) (has (node_reads ns ++ ys) x) (eq-eqb x x refl)))
+        (more ps (x ∷ ys) (λ z i j. a z i (sooner x z (node_reads ns) ys j)))
 
-regroup : (xs ys zs : List ℕ) → xs ++ (ys ++ zs) ≡ (xs ++ ys) ++ zs
-regroup [] ys zs = refl
-regroup (x ∷ xs) ys zs = ap (λ l. x ∷ l) (regroup xs ys zs)
-
-joined : (xs ys zs us vs : List ℕ) → us ≡ xs ++ vs → vs ≡ ys ++ zs → us ≡ (xs ++ ys) ++ zs
-joined xs ys zs us vs e f = e ∙ (ap (λ l. xs ++ l) f ∙ regroup xs ys zs)
-
-params_of_expr : (e : Expr) (rest : List RangeNode) → node_params (expr_nodes e rest) ≡ expr_params e ++ node_params rest
-params_of_expr (Number z) rest = refl
-params_of_expr Infinity rest = refl
-params_of_expr (Param x) rest = refl
-params_of_expr (Min y) rest = refl
-params_of_expr (Max y) rest = refl
-params_of_expr (Val y) rest = refl
-params_of_expr (Add a b) rest = joined (expr_params a) (expr_params b) (node_params rest) _ _ (params_of_expr a (expr_nodes b (node.Add ∷ rest))) (params_of_expr b (node.Add ∷ rest))
-params_of_expr (Sub a b) rest = joined (expr_params a) (expr_params b) (node_params rest) _ _ (params_of_expr a (expr_nodes b (node.Sub ∷ rest))) (params_of_expr b (node.Sub ∷ rest))
-params_of_expr (Mul a b) rest = joined (expr_params a) (expr_params b) (node_params rest) _ _ (params_of_expr a (expr_nodes b (node.Mul ∷ rest))) (params_of_expr b (node.Mul ∷ rest))
-params_of_expr (DivDown a b) rest = joined (expr_params a) (expr_params b) (node_params rest) _ _ (params_of_expr a (expr_nodes b (node.DivDown ∷ rest))) (params_of_expr b (node.DivDown ∷ rest))
-params_of_expr (DivUp a b) rest = joined (expr_params a) (expr_params b) (node_params rest) _ _ (params_of_expr a (expr_nodes b (node.DivUp ∷ rest))) (params_of_expr b (node.DivUp ∷ rest))
-
-params_of_range : (r : Range) (rest : List RangeNode) → node_params (range_nodes r rest) ≡ params r ++ node_params rest
-params_of_range (Span a b) rest = joined (expr_params a) (expr_params b) (node_params rest) _ _ (params_of_expr a (expr_nodes b (node.Span ∷ rest))) (params_of_expr b (node.Span ∷ rest))
-params_of_range (One t) rest = params_of_expr t (node.One ∷ rest)
-params_of_range (Dom y) rest = refl
-params_of_range (Union r q) rest = joined (params r) (params q) (node_params rest) _ _ (params_of_range r (range_nodes q (node.Union ∷ rest))) (params_of_range q (node.Union ∷ rest))
-params_of_range (Inter r q) rest = joined (params r) (params q) (node_params rest) _ _ (params_of_range r (range_nodes q (node.Inter ∷ rest))) (params_of_range q (node.Inter ∷ rest))
-params_of_range (Outside r) rest = params_of_range r (node.Outside ∷ rest)
-params_of_range (Plus r c) rest = joined (params r) (expr_params c) (node_params rest) _ _ (params_of_range r (expr_nodes c (node.Plus ∷ rest))) (params_of_expr c (node.Plus ∷ rest))
-params_of_range (Minus r c) rest = joined (params r) (expr_params c) (node_params rest) _ _ (params_of_range r (expr_nodes c (node.Minus ∷ rest))) (params_of_expr c (node.Minus ∷ rest))
-params_of_range (Times r c) rest = joined (params r) (expr_params c) (node_params rest) _ _ (params_of_range r (expr_nodes c (node.Times ∷ rest))) (params_of_expr c (node.Times ∷ rest))
-params_of_range (Over r c) rest = joined (params r) (expr_params c) (node_params rest) _ _ (params_of_range r (expr_nodes c (node.Over ∷ rest))) (params_of_expr c (node.Over ∷ rest))
-
-reads_of_expr : (e : Expr) (rest : List RangeNode) → node_reads (expr_nodes e rest) ≡ expr_reads e ++ node_reads rest
-reads_of_expr (Number z) rest = refl
-reads_of_expr Infinity rest = refl
-reads_of_expr (Param x) rest = refl
-reads_of_expr (Min y) rest = refl
-reads_of_expr (Max y) rest = refl
-reads_of_expr (Val y) rest = refl
-reads_of_expr (Add a b) rest = joined (expr_reads a) (expr_reads b) (node_reads rest) _ _ (reads_of_expr a (expr_nodes b (node.Add ∷ rest))) (reads_of_expr b (node.Add ∷ rest))
-reads_of_expr (Sub a b) rest = joined (expr_reads a) (expr_reads b) (node_reads rest) _ _ (reads_of_expr a (expr_nodes b (node.Sub ∷ rest))) (reads_of_expr b (node.Sub ∷ rest))
-reads_of_expr (Mul a b) rest = joined (expr_reads a) (expr_reads b) (node_reads rest) _ _ (reads_of_expr a (expr_nodes b (node.Mul ∷ rest))) (reads_of_expr b (node.Mul ∷ rest))
-reads_of_expr (DivDown a b) rest = joined (expr_reads a) (expr_reads b) (node_reads rest) _ _ (reads_of_expr a (expr_nodes b (node.DivDown ∷ rest))) (reads_of_expr b (node.DivDown ∷ rest))
-reads_of_expr (DivUp a b) rest = joined (expr_reads a) (expr_reads b) (node_reads rest) _ _ (reads_of_expr a (expr_nodes b (node.DivUp ∷ rest))) (reads_of_expr b (node.DivUp ∷ rest))
-
-reads_of_range : (r : Range) (rest : List RangeNode) → node_reads (range_nodes r rest) ≡ reads r ++ node_reads rest
-reads_of_range (Span a b) rest = joined (expr_reads a) (expr_reads b) (node_reads rest) _ _ (reads_of_expr a (expr_nodes b (node.Span ∷ rest))) (reads_of_expr b (node.Span ∷ rest))
-reads_of_range (One t) rest = reads_of_expr t (node.One ∷ rest)
-reads_of_range (Dom y) rest = refl
-reads_of_range (Union r q) rest = joined (reads r) (reads q) (node_reads rest) _ _ (reads_of_range r (range_nodes q (node.Union ∷ rest))) (reads_of_range q (node.Union ∷ rest))
-reads_of_range (Inter r q) rest = joined (reads r) (reads q) (node_reads rest) _ _ (reads_of_range r (range_nodes q (node.Inter ∷ rest))) (reads_of_range q (node.Inter ∷ rest))
-reads_of_range (Outside r) rest = reads_of_range r (node.Outside ∷ rest)
-reads_of_range (Plus r c) rest = joined (reads r) (expr_reads c) (node_reads rest) _ _ (reads_of_range r (expr_nodes c (node.Plus ∷ rest))) (reads_of_expr c (node.Plus ∷ rest))
-reads_of_range (Minus r c) rest = joined (reads r) (expr_reads c) (node_reads rest) _ _ (reads_of_range r (expr_nodes c (node.Minus ∷ rest))) (reads_of_expr c (node.Minus ∷ rest))
-reads_of_range (Times r c) rest = joined (reads r) (expr_reads c) (node_reads rest) _ _ (reads_of_range r (expr_nodes c (node.Times ∷ rest))) (reads_of_expr c (node.Times ∷ rest))
-reads_of_range (Over r c) rest = joined (reads r) (expr_reads c) (node_reads rest) _ _ (reads_of_range r (expr_nodes c (node.Over ∷ rest))) (reads_of_expr c (node.Over ∷ rest))
+    by_leaf : ((qs zs : List ℕ) → Apart (node_params ns ++ qs) (node_reads ns ++ zs) → nil (behind n ns qs zs) ≡ true) → (o : Option Leaf) → Apart ((from_leaf param_at o ++ node_params ns) ++ ps) ((from_leaf read_at o ++ node_reads ns) ++ ys) → nil (leaf_clashes (at n) ps ys o (behind n ns)) ≡ true
+    by_leaf more None a = more ps ys a
+    by_leaf more (Some l) a = by_kind more (is_parameter_role l.role) l.variable a
 
 all_apart : (xs ys : List ℕ) → list_all (λ x. not (has ys x)) xs ≡ true → Apart xs ys
 unfolding Apart
@@ -259,30 +122,20 @@ none : Apart [] []
 unfolding Apart
 none = λ z i j. true≢false (sym i)
 
-nothing_after : (xs : List ℕ) → xs ++ [] ≡ xs
-nothing_after [] = refl
-nothing_after (x ∷ xs) = ap (λ l. x ∷ l) (nothing_after xs)
+all_params : (r : Range) → node_params (nodes_of r) ++ [] ≡ params r
+all_params r = append-nil (node_params (nodes_of r)) ∙ whole_nodes param_at r
+
+all_reads : (r : Range) → node_reads (nodes_of r) ++ [] ≡ reads r
+all_reads r = append-nil (node_reads (nodes_of r)) ∙ whole_nodes read_at r
 
 pub one_use : (at : ℕ → ℕ) (r : Range) → nil (clashes at 0 [] [] (nodes_of r)) ≡ true → has_one_use r ≡ true
 one_use at r h =
     let a : Apart (node_params (nodes_of r) ++ []) (node_reads (nodes_of r) ++ []) = forward at (nodes_of r) 0 [] [] none h in
     let b : Apart (params r) (reads r) = subst (λ l. Apart l (reads r)) (all_params r) (subst (λ l. Apart (node_params (nodes_of r) ++ []) l) (all_reads r) a) in
     apart_all (params r) (reads r) b
-  where
-    all_params : (r : Range) → node_params (nodes_of r) ++ [] ≡ params r
-    all_params r = nothing_after (node_params (nodes_of r)) ∙ (params_of_range r [] ∙ nothing_after (params r))
-
-    all_reads : (r : Range) → node_reads (nodes_of r) ++ [] ≡ reads r
-    all_reads r = nothing_after (node_reads (nodes_of r)) ∙ (reads_of_range r [] ∙ nothing_after (reads r))
 
 pub one_use_back : (at : ℕ → ℕ) (r : Range) → has_one_use r ≡ true → nil (clashes at 0 [] [] (nodes_of r)) ≡ true
 one_use_back at r h =
     let b : Apart (params r) (reads r) = all_apart (params r) (reads r) h in
     let a : Apart (node_params (nodes_of r) ++ []) (node_reads (nodes_of r) ++ []) = subst (λ l. Apart l (node_reads (nodes_of r) ++ [])) (sym (all_params r)) (subst (λ l. Apart (params r) l) (sym (all_reads r)) b) in
     backward at (nodes_of r) 0 [] [] a
-  where
-    all_params : (r : Range) → node_params (nodes_of r) ++ [] ≡ params r
-    all_params r = nothing_after (node_params (nodes_of r)) ∙ (params_of_range r [] ∙ nothing_after (params r))
-
-    all_reads : (r : Range) → node_reads (nodes_of r) ++ [] ≡ reads r
-    all_reads r = nothing_after (node_reads (nodes_of r)) ∙ (reads_of_range r [] ∙ nothing_after (reads r))

@@ -1,6 +1,6 @@
 -- The places of variables in a range.
-use Rattle.std.specs.Prelude.{ℕ, Bool, true, false, List, [], ◌∷◌}
-use Rattle.fd_language.specs.Range.{Range, Expr, Leaf, Role, a_parameter, a_min, a_max, a_val, a_dom, from_expr, from_range}
+use Rattle.std.specs.Prelude.{ℕ, Bool, List, [], ◌∷◌}
+use Rattle.fd_language.specs.Range.{Range, Expr, Leaf, is_parameter_role, from_expr, from_range}
 
 -- a variable where it stands in a range, and whether it stands there as a parameter
 pub record Place : Type 0 where
@@ -9,13 +9,6 @@ pub record Place : Type 0 where
 
 abbrev pub place : ℕ → Bool → List Place
 place y p = record { variable = y; parameter = p } ∷ []
-
-abbrev pub is_parameter_role : Role → Bool
-is_parameter_role a_parameter = true
-is_parameter_role a_min = false
-is_parameter_role a_max = false
-is_parameter_role a_val = false
-is_parameter_role a_dom = false
 
 abbrev pub place_at : Leaf → List Place
 place_at l = place l.variable (is_parameter_role l.role)

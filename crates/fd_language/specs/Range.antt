@@ -1,5 +1,5 @@
 -- Value and Set. Ranges, the values of their terms and their sets.
-use Rattle.std.specs.Prelude.{ℕ, zero, suc, ◌/◌, Bool, true, false, ◌||◌, ◌&&◌, not, if◌then◌else◌, ℤ, pos, negsuc, ◌+ℤ◌, ◌-ℤ◌, ◌*ℤ◌, neg_ℤ, int_le, List, [], ◌∷◌, ◌++◌, filter, max}
+use Rattle.std.specs.Prelude.{ℕ, zero, suc, ◌/◌, Bool, true, false, ◌||◌, ◌&&◌, not, if◌then◌else◌, ℤ, pos, negsuc, ◌+ℤ◌, ◌-ℤ◌, ◌*ℤ◌, neg_ℤ, int_le, List, [], ◌∷◌, ◌++◌, filter, max, Option, Some, None}
 use Rattle.std.specs.List.{list_any}
 use Rattle.std.specs.Ordering.{int_eq}
 use Rattle.fd_language.specs.Family.{Family, has, universe}
@@ -138,14 +138,22 @@ walk_range w (Minus r c) = w.at_two node.Minus (walk_range w r) (walk_expr w c)
 walk_range w (Times r c) = w.at_two node.Times (walk_range w r) (walk_expr w c)
 walk_range w (Over r c) = w.at_two node.Over (walk_range w r) (walk_expr w c)
 
--- What f gives for a node that is a leaf with a variable. Of another node there is nothing.
+-- the leaf that a node is, where it names a variable
+abbrev pub leaf_of : RangeNode → Option Leaf
+leaf_of (node.Param x) = Some (leaf a_parameter x)
+leaf_of (node.Min y) = Some (leaf a_min y)
+leaf_of (node.Max y) = Some (leaf a_max y)
+leaf_of (node.Val y) = Some (leaf a_val y)
+leaf_of (node.Dom y) = Some (leaf a_dom y)
+leaf_of n = None
+
+-- what f gives for it
+abbrev pub from_leaf : {X : Type 0} → (Leaf → List X) → Option Leaf → List X
+from_leaf f None = []
+from_leaf f (Some l) = f l
+
 abbrev pub from_node : {X : Type 0} → (Leaf → List X) → RangeNode → List X
-from_node f (node.Param x) = f (leaf a_parameter x)
-from_node f (node.Min y) = f (leaf a_min y)
-from_node f (node.Max y) = f (leaf a_max y)
-from_node f (node.Val y) = f (leaf a_val y)
-from_node f (node.Dom y) = f (leaf a_dom y)
-from_node f n = []
+from_node f n = from_leaf f (leaf_of n)
 
 -- What f gives for each leaf of a term or a range that names a variable, in text order.
 abbrev pub collecting : {X : Type 0} → (Leaf → List X) → Walk (List X)
@@ -161,29 +169,20 @@ from_range f r = walk_range (collecting f) r
 abbrev pub leaves : Range → List Leaf
 leaves r = from_range (λ l. l ∷ []) r
 
--- the variable of a leaf by min, max, val or dom
+abbrev pub is_parameter_role : Role → Bool
+is_parameter_role a_parameter = true
+is_parameter_role k = false
+
+-- the variable of a leaf by min, max, val or dom, of one by val, and of a parameter
 abbrev pub read_by : Role → ℕ → List ℕ
-read_by a_parameter y = []
-read_by a_min y = y ∷ []
-read_by a_max y = y ∷ []
-read_by a_val y = y ∷ []
-read_by a_dom y = y ∷ []
+read_by k y = if is_parameter_role k then [] else y ∷ []
 
--- the variable of a leaf by val
 abbrev pub val_by : Role → ℕ → List ℕ
-val_by a_parameter y = []
-val_by a_min y = []
-val_by a_max y = []
 val_by a_val y = y ∷ []
-val_by a_dom y = []
+val_by k y = []
 
--- the variable of a leaf that is a parameter
 abbrev pub param_by : Role → ℕ → List ℕ
-param_by a_parameter y = y ∷ []
-param_by a_min y = []
-param_by a_max y = []
-param_by a_val y = []
-param_by a_dom y = []
+param_by k y = if is_parameter_role k then y ∷ [] else []
 
 abbrev pub read_at : Leaf → List ℕ
 read_at l = read_by l.role l.variable

@@ -1,6 +1,6 @@
 -- The leaves of a range tell all that is collected of it.
-use Rattle.std.specs.Prelude.{◌≡◌, List, [], ◌∷◌, length, flat_map}
-use Rattle.fd_language.specs.Range.{Range, Leaf, leaves, from_node, reads, read_at, vals, val_at, params, param_at}
+use Rattle.std.specs.Prelude.{◌≡◌, length, flat_map, filter_map}
+use Rattle.fd_language.specs.Range.{Range, Leaf, leaves, leaf_of, reads, read_at, vals, val_at, params, param_at}
 use Rattle.fd_language.specs.Places.{range_places, place_at}
 use Rattle.fd_language.specs.Features.{range_features, feature_at, node_features}
 use Rattle.fd_language.specs.Flat.{nodes_of}
@@ -16,7 +16,7 @@ pub record AreOfLeaves (r : Range) : Type 0 where
 
 -- The nodes have the same leaves in the same order, and there are as many nodes as the size says.
 pub record AreNodesOf (r : Range) : Type 0 where
-  pub node_leaves : flat_map (from_node (λ l. l ∷ [])) (nodes_of r) ≡ leaves r
+  pub node_leaves : filter_map leaf_of (nodes_of r) ≡ leaves r
   pub features_are : node_features (nodes_of r) ≡ range_features r
   pub size : length (nodes_of r) ≡ range_size r
 

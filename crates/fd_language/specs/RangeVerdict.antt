@@ -2,11 +2,10 @@
 use Rattle.std.specs.Prelude.{ℕ, suc, ◌+◌, ◌-◌, ◌*◌, ◌^◌, max, Bool, true, false, ◌||◌, ◌&&◌, not, ◌==◌, if◌then◌else◌, ℤ, pos, negsuc, int_le, nat_lt, nat_abs, List, [], ◌∷◌, ◌++◌, Option, Some, None, slice_index}
 use Rattle.std.specs.List.{list_all}
 use Rattle.fd_language.specs.declared.range_node.RangeNode.{RangeNode}
-use Rattle.fd_language.specs.declared.range_node.RangeNode.TheVariants as node
 use Rattle.fd_language.specs.declared.range_node.Offence.{Offence}
 use Rattle.fd_language.specs.declared.range_node.Offence.TheVariants.{NotMonotone, NotNatural, BadDivisor, TooWide}
 use Rattle.fd_language.specs.Family.{has}
-use Rattle.fd_language.specs.Range.{Range, Span, One, Dom, Union, Inter, Outside, Plus, Minus, Times, Over, Expr, Number, Infinity, Param, Min, Max, Val, Add, Sub, Mul, DivDown, DivUp, Walk, walk_expr, walk_range, reads, params}
+use Rattle.fd_language.specs.Range.{Range, Span, One, Dom, Union, Inter, Outside, Plus, Minus, Times, Over, Expr, Number, Infinity, Param, Min, Max, Val, Add, Sub, Mul, DivDown, DivUp, Leaf, Walk, walk_expr, walk_range, is_parameter_role, leaf_of, reads, params}
 use Rattle.fd_language.specs.Needs.{is_literal}
 use Rattle.fd_language.specs.Check.{Wish, Rising, Falling, Constant, turn, is_rising, is_falling, literal_value, is_parameter, range_fits}
 use Rattle.fd_language.specs.Flat.{nodes_of}
@@ -145,30 +144,17 @@ where_first_clash true false place = NotMonotone place ∷ []
 where_first_clash true true place = []
 where_first_clash false own place = []
 
--- The nodes from the number n on. Before them ps stand as parameters, and ys in min, max, val or dom.
+-- The leaf at the place p, behind which k are the clashes of the others. Before it ps stand as parameters, and ys in min, max, val or dom.
+abbrev pub leaf_clashes : ℕ → List ℕ → List ℕ → Option Leaf → (List ℕ → List ℕ → List Offence) → List Offence
+leaf_clashes p ps ys None k = k ps ys
+leaf_clashes p ps ys (Some l) k =
+    if is_parameter_role l.role then where_first_clash (has ys l.variable) (has ps l.variable) p ++ k (l.variable ∷ ps) ys
+    else where_first_clash (has ps l.variable) (has ys l.variable) p ++ k ps (l.variable ∷ ys)
+
+-- the nodes from the number n on
 abbrev pub clashes : (ℕ → ℕ) → ℕ → List ℕ → List ℕ → List RangeNode → List Offence
 clashes at n ps ys [] = []
-clashes at n ps ys (node.Param x ∷ ns) = where_first_clash (has ys x) (has ps x) (at n) ++ clashes at (suc n) (x ∷ ps) ys ns
-clashes at n ps ys (node.Min y ∷ ns) = where_first_clash (has ps y) (has ys y) (at n) ++ clashes at (suc n) ps (y ∷ ys) ns
-clashes at n ps ys (node.Max y ∷ ns) = where_first_clash (has ps y) (has ys y) (at n) ++ clashes at (suc n) ps (y ∷ ys) ns
-clashes at n ps ys (node.Val y ∷ ns) = where_first_clash (has ps y) (has ys y) (at n) ++ clashes at (suc n) ps (y ∷ ys) ns
-clashes at n ps ys (node.Dom y ∷ ns) = where_first_clash (has ps y) (has ys y) (at n) ++ clashes at (suc n) ps (y ∷ ys) ns
-clashes at n ps ys (node.Int z ∷ ns) = clashes at (suc n) ps ys ns
-clashes at n ps ys (node.Infinity ∷ ns) = clashes at (suc n) ps ys ns
-clashes at n ps ys (node.Add ∷ ns) = clashes at (suc n) ps ys ns
-clashes at n ps ys (node.Sub ∷ ns) = clashes at (suc n) ps ys ns
-clashes at n ps ys (node.Mul ∷ ns) = clashes at (suc n) ps ys ns
-clashes at n ps ys (node.DivDown ∷ ns) = clashes at (suc n) ps ys ns
-clashes at n ps ys (node.DivUp ∷ ns) = clashes at (suc n) ps ys ns
-clashes at n ps ys (node.Span ∷ ns) = clashes at (suc n) ps ys ns
-clashes at n ps ys (node.One ∷ ns) = clashes at (suc n) ps ys ns
-clashes at n ps ys (node.Union ∷ ns) = clashes at (suc n) ps ys ns
-clashes at n ps ys (node.Inter ∷ ns) = clashes at (suc n) ps ys ns
-clashes at n ps ys (node.Outside ∷ ns) = clashes at (suc n) ps ys ns
-clashes at n ps ys (node.Plus ∷ ns) = clashes at (suc n) ps ys ns
-clashes at n ps ys (node.Minus ∷ ns) = clashes at (suc n) ps ys ns
-clashes at n ps ys (node.Times ∷ ns) = clashes at (suc n) ps ys ns
-clashes at n ps ys (node.Over ∷ ns) = clashes at (suc n) ps ys ns
+clashes at n ps ys (m ∷ ms) = leaf_clashes (at n) ps ys (leaf_of m) (λ qs zs. clashes at (suc n) qs zs ms)
 
 -- The first of several offences: the smallest place decides, and at equal places the order of the kinds.
 abbrev pub place_of : Offence → ℕ
