@@ -1,13 +1,15 @@
 -- An accepted term moves the way that is wanted of it.
-use Rattle.std.proofs.Common.{◌≡◌, ℕ, ◌≤◌, Bool, true, false, cond, ◌||◌, ◌&&◌, ℤ, pos, negsuc, ◌+ℤ◌, ◌-ℤ◌, ◌*ℤ◌, ◌≤ℤ◌, int_le, refl, sym, ap, subst, inl, inr, arith}
+use Rattle.std.proofs.Common.{◌≡◌, ℕ, ◌≤◌, Bool, true, false, cond, ◌||◌, ◌&&◌, ℤ, pos, negsuc, ◌+ℤ◌, ◌-ℤ◌, ◌*ℤ◌, ◌≤ℤ◌, int_le, List, ◌++◌, refl, sym, ap, subst, inl, inr, arith}
 use Rattle.std.proofs.lemmas.Int.{ints}
 use Rattle.std.proofs.lemmas.Bool.{cases_Bool, true≢false, or_left, or_right}
 use Rattle.std.specs.Int.Signed.{≤ℤ_refl}
 use Rattle.std.proofs.Math.IntN.{*ℤ_comm}
-use Rattle.fd_language.specs.Family.{Family}
-use Rattle.fd_language.specs.Range.{Expr, Number, Infinity, Param, Min, Max, Val, Add, Sub, Mul, DivDown, DivUp, value, least, greatest, div_down, div_up}
+use Rattle.fd_language.specs.Family.{Family, IsSubset}
+use Rattle.fd_language.specs.Lists.{Each}
+use Rattle.fd_language.specs.Range.{Expr, Number, Infinity, Param, Min, Max, Val, Add, Sub, Mul, DivDown, DivUp, Leaf, Role, a_parameter, a_min, a_max, a_val, a_dom, expr_leaves, value, least, greatest, div_down, div_up}
 use Rattle.fd_language.specs.Needs.{is_literal}
 use Rattle.fd_language.specs.Check.{Wish, Rising, Falling, Constant, turn, is_rising, is_falling, literal_value, by_sign, is_natural, quotient_fits, expr_fits, fill}
+use Rattle.fd_language.proofs.Lists.{each_before, each_after}
 use Rattle.fd_language.proofs.Meeting.{divisor_meets, expr_meets}
 use Rattle.fd_language.proofs.Arithmetic.{add_keeps, sub_keeps, mul_keeps, mul_turns, natural_product, product_natural, down_keeps, up_keeps, down_natural, up_natural, down_positive, up_positive}
 
@@ -226,19 +228,26 @@ module _ (M : ℕ) (p : ℕ → ℤ) where
       let m = divided_meets b (expr_meets p a true) g in
       up_positive M (value M S (fill p a)) (value M S (fill p b)) (natural_is S a (first_of_two (is_natural M a) (is_natural M b) h) m.0) (natural_is S b (second_of_two (is_natural M a) (is_natural M b) h) m.1)
 
--- what the variables that a term reads keep, from a family to one inside it
+-- what the variable of a leaf keeps, from a family to one inside it
+abbrev pub LeafKeeps : Family → Family → Role → ℕ → Type 0
+LeafKeeps S' S a_parameter x = Unit {0}
+LeafKeeps S' S a_min y = least (S' y) ≤ least (S y)
+LeafKeeps S' S a_max y = greatest (S y) ≤ greatest (S' y)
+LeafKeeps S' S a_val y = least (S' y) ≡ least (S y)
+LeafKeeps S' S a_dom y = IsSubset (S y) (S' y)
+
+-- what those of leaves keep, of a term and of a range
+abbrev pub AllKeep : Family → Family → List Leaf → Type 0
+AllKeep S' S ls = Each (λ l. LeafKeeps S' S l.role l.variable) ls
+
 abbrev pub Keeps : Family → Family → Expr → Type 0
-Keeps S' S (Number z) = Unit {0}
-Keeps S' S Infinity = Unit {0}
-Keeps S' S (Param x) = Unit {0}
-Keeps S' S (Min y) = least (S' y) ≤ least (S y)
-Keeps S' S (Max y) = greatest (S y) ≤ greatest (S' y)
-Keeps S' S (Val y) = least (S' y) ≡ least (S y)
-Keeps S' S (Add a b) = Keeps S' S a × Keeps S' S b
-Keeps S' S (Sub a b) = Keeps S' S a × Keeps S' S b
-Keeps S' S (Mul a b) = Keeps S' S a × Keeps S' S b
-Keeps S' S (DivDown a b) = Keeps S' S a × Keeps S' S b
-Keeps S' S (DivUp a b) = Keeps S' S a × Keeps S' S b
+Keeps S' S e = AllKeep S' S (expr_leaves e)
+
+pub keeps_left : (S' S : Family) (xs ys : List Leaf) → AllKeep S' S (xs ++ ys) → AllKeep S' S xs
+keeps_left S' S xs ys k = each_before (λ l. LeafKeeps S' S l.role l.variable) xs ys k
+
+pub keeps_right : (S' S : Family) (xs ys : List Leaf) → AllKeep S' S (xs ++ ys) → AllKeep S' S ys
+keeps_right S' S xs ys k = each_after (λ l. LeafKeeps S' S l.role l.variable) xs ys k
 
 moves_same : (w : Wish) (x y : ℤ) → x ≡ y → Moves w x y
 moves_same Rising x y e = subst (λ z. x ≤ℤ z) e (≤ℤ_refl x)
@@ -265,19 +274,25 @@ literal_right : (w : Wish) (l x' y' x y : ℤ) (A B : Bool) → x' ≡ l → x �
 literal_right w l x' y' x y A B e g i j h = subst (λ t. Moves w t (y *ℤ x)) (*ℤ_comm x' y') (subst (λ t. Moves w (x' *ℤ y') t) (*ℤ_comm x y) (literal_left w l x' y' x y A B e g i j h))
 
 module _ (M : ℕ) (p : ℕ → ℤ) (S' S : Family) where
+  left_operand : (a b : Expr) → AllKeep S' S (expr_leaves a ++ expr_leaves b) → Keeps S' S a
+  left_operand a b k = keeps_left S' S (expr_leaves a) (expr_leaves b) k
+
+  right_operand : (a b : Expr) → AllKeep S' S (expr_leaves a ++ expr_leaves b) → Keeps S' S b
+  right_operand a b k = keeps_right S' S (expr_leaves a) (expr_leaves b) k
+
   pub expr_moves : (e : Expr) (w : Wish) (n : Bool) → Keeps S' S e → expr_fits M e w ≡ true → expr_meets p e n ≡ true → Moves w (value M S' (fill p e)) (value M S (fill p e))
   expr_moves (Number z) w n k f m = moves_same w z z refl
   expr_moves Infinity w n k f m = moves_same w (pos M) (pos M) refl
   expr_moves (Param x) w n k f m = moves_same w (p x) (p x) refl
-  expr_moves (Min y) w n k f m = moves_min w (least (S' y)) (least (S y)) f k
-  expr_moves (Max y) w n k f m = moves_max w (greatest (S' y)) (greatest (S y)) f k
-  expr_moves (Val y) w n k f m = moves_same w (pos (least (S' y))) (pos (least (S y))) (ap pos k)
+  expr_moves (Min y) w n k f m = moves_min w (least (S' y)) (least (S y)) f k.0
+  expr_moves (Max y) w n k f m = moves_max w (greatest (S' y)) (greatest (S y)) f k.0
+  expr_moves (Val y) w n k f m = moves_same w (pos (least (S' y))) (pos (least (S y))) (ap pos k.0)
   expr_moves (Add a b) w n k f m = add_moves w _ _ _ _
-      (expr_moves a w n k.0 (first_of_two (expr_fits M a w) (expr_fits M b w) f) (first_of_two (expr_meets p a n) (expr_meets p b n) m))
-      (expr_moves b w n k.1 (second_of_two (expr_fits M a w) (expr_fits M b w) f) (second_of_two (expr_meets p a n) (expr_meets p b n) m))
+      (expr_moves a w n (left_operand a b k) (first_of_two (expr_fits M a w) (expr_fits M b w) f) (first_of_two (expr_meets p a n) (expr_meets p b n) m))
+      (expr_moves b w n (right_operand a b k) (second_of_two (expr_fits M a w) (expr_fits M b w) f) (second_of_two (expr_meets p a n) (expr_meets p b n) m))
   expr_moves (Sub a b) w n k f m = sub_moves w _ _ _ _
-      (expr_moves a w n k.0 (first_of_two (expr_fits M a w) (expr_fits M b (turn w)) f) (first_of_two (expr_meets p a n) (expr_meets p b n) m))
-      (expr_moves b (turn w) n k.1 (second_of_two (expr_fits M a w) (expr_fits M b (turn w)) f) (second_of_two (expr_meets p a n) (expr_meets p b n) m))
+      (expr_moves a w n (left_operand a b k) (first_of_two (expr_fits M a w) (expr_fits M b (turn w)) f) (first_of_two (expr_meets p a n) (expr_meets p b n) m))
+      (expr_moves b (turn w) n (right_operand a b k) (second_of_two (expr_fits M a w) (expr_fits M b (turn w)) f) (second_of_two (expr_meets p a n) (expr_meets p b n) m))
   expr_moves (Mul a b) w n k f m =
       let right : Bool = cond (is_literal b) (by_sign (literal_value M b) (expr_fits M a w) (expr_fits M a (turn w))) ((is_natural M a && is_natural M b) && (expr_fits M a w && expr_fits M b w)) in
       elim (cases_Bool (is_literal a)) [
@@ -286,7 +301,7 @@ module _ (M : ℕ) (p : ℕ → ℤ) (S' S : Family) where
             let g = if_yes (is_literal a || is_literal b) (expr_meets p a n && expr_meets p b n) (expr_meets p a true && expr_meets p b true) m (or_left (is_literal a) (is_literal b) l) in
             let h : expr_meets p b n ≡ true = second_of_two (expr_meets p a n) (expr_meets p b n) g in
             literal_left w (literal_value M a) _ _ _ _ (expr_fits M b w) (expr_fits M b (turn w)) (literal_is M p S' a l) (literal_is M p S a l)
-            (λ t. expr_moves b w n k.1 t h) (λ t. expr_moves b (turn w) n k.1 t h) s
+            (λ t. expr_moves b w n (right_operand a b k) t h) (λ t. expr_moves b (turn w) n (right_operand a b k) t h) s
         | inr o ↦
             let q = if_no (is_literal a) (by_sign (literal_value M a) (expr_fits M b w) (expr_fits M b (turn w))) right f o in
             elim (cases_Bool (is_literal b)) [
@@ -295,7 +310,7 @@ module _ (M : ℕ) (p : ℕ → ℤ) (S' S : Family) where
                   let g = if_yes (is_literal a || is_literal b) (expr_meets p a n && expr_meets p b n) (expr_meets p a true && expr_meets p b true) m (or_right (is_literal a) (is_literal b) l) in
                   let h : expr_meets p a n ≡ true = first_of_two (expr_meets p a n) (expr_meets p b n) g in
                   literal_right w (literal_value M b) _ _ _ _ (expr_fits M a w) (expr_fits M a (turn w)) (literal_is M p S' b l) (literal_is M p S b l)
-                  (λ t. expr_moves a w n k.0 t h) (λ t. expr_moves a (turn w) n k.0 t h) s
+                  (λ t. expr_moves a w n (left_operand a b k) t h) (λ t. expr_moves a (turn w) n (left_operand a b k) t h) s
               | inr l ↦
                   let s = if_no (is_literal b) (by_sign (literal_value M b) (expr_fits M a w) (expr_fits M a (turn w))) ((is_natural M a && is_natural M b) && (expr_fits M a w && expr_fits M b w)) q l in
                   let g = if_no (is_literal a || is_literal b) (expr_meets p a n && expr_meets p b n) (expr_meets p a true && expr_meets p b true) m (neither (is_literal a) (is_literal b) o l) in
@@ -306,16 +321,16 @@ module _ (M : ℕ) (p : ℕ → ℤ) (S' S : Family) where
                   let na = first_of_two (is_natural M a) (is_natural M b) i in
                   let nb = second_of_two (is_natural M a) (is_natural M b) i in
                   product_moves w _ _ _ _ (natural_is M p S' a na ma) (natural_is M p S a na ma) (natural_is M p S' b nb mb) (natural_is M p S b nb mb)
-                  (expr_moves a w true k.0 (first_of_two (expr_fits M a w) (expr_fits M b w) j) ma) (expr_moves b w true k.1 (second_of_two (expr_fits M a w) (expr_fits M b w) j) mb)
+                  (expr_moves a w true (left_operand a b k) (first_of_two (expr_fits M a w) (expr_fits M b w) j) ma) (expr_moves b w true (right_operand a b k) (second_of_two (expr_fits M a w) (expr_fits M b w) j) mb)
             ]
       ]
   expr_moves (DivDown a b) w n k f m = elim (quotient M p a b w n f m) [
     | by_constant c d g h e o ↦ subst (λ t. Moves w (div_down M (value M S' (fill p a)) t) (div_down M (value M S (fill p a)) (value M S (fill p b)))) (sym (e S'))
-        (subst (λ t. Moves w (div_down M (value M S' (fill p a)) d) (div_down M (value M S (fill p a)) t)) (sym (e S)) (down_moves w M d _ _ o (expr_moves a w c k.0 g h)))
-    | by_term i j g h c d ↦ down_both w M _ _ _ _ (natural_is M p S' a i c) (natural_is M p S a i c) (natural_is M p S' b j d) (natural_is M p S b j d) (expr_moves a w true k.0 g c) (expr_moves b (turn w) true k.1 h d)
+        (subst (λ t. Moves w (div_down M (value M S' (fill p a)) d) (div_down M (value M S (fill p a)) t)) (sym (e S)) (down_moves w M d _ _ o (expr_moves a w c (left_operand a b k) g h)))
+    | by_term i j g h c d ↦ down_both w M _ _ _ _ (natural_is M p S' a i c) (natural_is M p S a i c) (natural_is M p S' b j d) (natural_is M p S b j d) (expr_moves a w true (left_operand a b k) g c) (expr_moves b (turn w) true (right_operand a b k) h d)
   ]
   expr_moves (DivUp a b) w n k f m = elim (quotient M p a b w n f m) [
     | by_constant c d g h e o ↦ subst (λ t. Moves w (div_up M (value M S' (fill p a)) t) (div_up M (value M S (fill p a)) (value M S (fill p b)))) (sym (e S'))
-        (subst (λ t. Moves w (div_up M (value M S' (fill p a)) d) (div_up M (value M S (fill p a)) t)) (sym (e S)) (up_moves w M d _ _ o (expr_moves a w c k.0 g h)))
-    | by_term i j g h c d ↦ up_both w M _ _ _ _ (natural_is M p S' a i c) (natural_is M p S a i c) (natural_is M p S' b j d) (natural_is M p S b j d) (expr_moves a w true k.0 g c) (expr_moves b (turn w) true k.1 h d)
+        (subst (λ t. Moves w (div_up M (value M S' (fill p a)) d) (div_up M (value M S (fill p a)) t)) (sym (e S)) (up_moves w M d _ _ o (expr_moves a w c (left_operand a b k) g h)))
+    | by_term i j g h c d ↦ up_both w M _ _ _ _ (natural_is M p S' a i c) (natural_is M p S a i c) (natural_is M p S' b j d) (natural_is M p S b j d) (expr_moves a w true (left_operand a b k) g c) (expr_moves b (turn w) true (right_operand a b k) h d)
   ]

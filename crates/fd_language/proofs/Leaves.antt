@@ -8,7 +8,7 @@ use Rattle.std.proofs.lemmas.List.Concat.{flat_map-append}
 use mathlib.Core.Path.{fun_ext}
 use Rattle.fd_language.specs.declared.range_node.RangeNode.{RangeNode}
 use Rattle.fd_language.specs.declared.range_node.RangeNode.TheVariants as node
-use Rattle.fd_language.specs.Range.{Range, Span, One, Dom, Union, Inter, Outside, Plus, Minus, Times, Over, Expr, Number, Infinity, Param, Min, Max, Val, Add, Sub, Mul, DivDown, DivUp, Leaf, Role, leaf, a_parameter, a_min, a_max, a_val, a_dom, Walk, walk_expr, walk_range, leaf_of, from_leaf, from_node, collecting, from_expr, from_range, leaves, reads, read_by, read_at, vals, val_by, val_at, params, param_by, param_at}
+use Rattle.fd_language.specs.Range.{Range, Span, One, Dom, Union, Inter, Outside, Plus, Minus, Times, Over, Expr, Number, Infinity, Param, Min, Max, Val, Add, Sub, Mul, DivDown, DivUp, Leaf, Role, leaf, a_parameter, a_min, a_max, a_val, a_dom, Walk, walk_expr, walk_range, leaf_of, from_leaf, from_node, collecting, from_expr, from_range, expr_leaves, leaves, reads, read_by, read_at, vals, val_by, val_at, params, param_by, param_at}
 use Rattle.fd_language.specs.Places.{place_at}
 use Rattle.fd_language.specs.Features.{feature_at}
 use Rattle.fd_language.specs.Lists.{Each}
@@ -217,9 +217,6 @@ Stays h a_dom y = h.domain y ≡ y
 module _ (h : NewLeaves) where
   abbrev AllStay : List Leaf → Type 0
   AllStay ls = Each (λ l. Stays h l.role l.variable) ls
-
-  abbrev expr_leaves : Expr → List Leaf
-  expr_leaves e = from_expr (λ l. l ∷ []) e
 
   both_stay : {A B C : Type 0} (op : A → B → C) {a a' : A} {b b' : B} (xs ys : List Leaf) → (AllStay xs → a ≡ a') → (AllStay ys → b ≡ b') → AllStay (xs ++ ys) → op a b ≡ op a' b'
   both_stay op xs ys f g s = two op (f (each_before (λ l. Stays h l.role l.variable) xs ys s)) (g (each_after (λ l. Stays h l.role l.variable) xs ys s))

@@ -5,15 +5,16 @@ use Rattle.std.proofs.lemmas.Bool.{true≢false, or_left, or_right, or_cases}
 use Rattle.std.specs.List.{list_any}
 use Rattle.std.specs.Ordering.{int_eq}
 use Rattle.fd_language.specs.Family.{Family, has, IsSubset, IsRising, IsFamily, IsInside, universe}
-use Rattle.fd_language.specs.Range.{Expr, Number, Infinity, Param, Min, Max, Val, Add, Sub, Mul, DivDown, DivUp, value, least, greatest, Range, Span, One, Dom, Union, Inter, Outside, Plus, Minus, Times, Over, in_range, in_set, some_number, expr_reads, expr_vals, reads, vals, is_none_left, is_several}
+use Rattle.fd_language.specs.Range.{Expr, Number, Infinity, Param, Min, Max, Val, Add, Sub, Mul, DivDown, DivUp, value, least, greatest, Range, Span, One, Dom, Union, Inter, Outside, Plus, Minus, Times, Over, in_range, in_set, some_number, Leaf, Role, a_parameter, a_min, a_max, a_val, a_dom, expr_leaves, leaves, read_by, read_at, val_by, val_at, reads, vals, is_none_left, is_several}
 use Rattle.fd_language.specs.Needs.{is_literal}
 use Rattle.fd_language.specs.Check.{Rising, Falling, Constant, literal_value, is_parameter, expr_fits, range_fits, fill, fill_range}
 use Rattle.fd_language.proofs.Meeting.{expr_meets, range_meets, over_meets, needs_met}
 use Rattle.fd_language.specs.Monotonicity.{AcceptedIsMonotone}
 use Rattle.fd_language.proofs.Sets.{has-filter, has-filter_back, has_low, alone_in}
 pub use Rattle.fd_language.proofs.Sets.{in_left, in_right}
-use Rattle.fd_language.proofs.Leaves.{vals_read}
-use Rattle.fd_language.proofs.Directions.{Keeps, expr_moves, first_of_two, second_of_two, literal_is}
+use Rattle.fd_language.proofs.Leaves.{range_leaves, filled_leaves, vals_read}
+use Rattle.std.specs.Prelude.{flat_map}
+use Rattle.fd_language.proofs.Directions.{LeafKeeps, AllKeep, Keeps, keeps_left, keeps_right, expr_moves, first_of_two, second_of_two, literal_is}
 
 -- from a test to a test that holds wherever the first does
 any_more : (f g : ℕ → Bool) → ((n : ℕ) → f n ≡ true → g n ≡ true) → (xs : List ℕ) → list_any f xs ≡ true → list_any g xs ≡ true
@@ -31,19 +32,6 @@ not_more a b f h = grind (arith, f)
 
 span_more : (a b c d n : ℤ) → c ≤ℤ a → b ≤ℤ d → (int_le a n && int_le n b) ≡ true → (int_le c n && int_le n d) ≡ true
 span_more a b c d n h g e = grind (arith, ints)
-
--- what the variables of a range keep
-abbrev RangeKeeps : Family → Family → Range → Type 0
-RangeKeeps S' S (Span a b) = Keeps S' S a × Keeps S' S b
-RangeKeeps S' S (One t) = Keeps S' S t
-RangeKeeps S' S (Dom y) = IsSubset (S y) (S' y)
-RangeKeeps S' S (Union r q) = RangeKeeps S' S r × RangeKeeps S' S q
-RangeKeeps S' S (Inter r q) = RangeKeeps S' S r × RangeKeeps S' S q
-RangeKeeps S' S (Outside r) = RangeKeeps S' S r
-RangeKeeps S' S (Plus r c) = RangeKeeps S' S r × Keeps S' S c
-RangeKeeps S' S (Minus r c) = RangeKeeps S' S r × Keeps S' S c
-RangeKeeps S' S (Times r c) = RangeKeeps S' S r × Keeps S' S c
-RangeKeeps S' S (Over r c) = RangeKeeps S' S r × Keeps S' S c
 
 -- at true from S to S', at false back
 abbrev Goes : Bool → Bool → Bool → Type 0
@@ -84,40 +72,40 @@ module _ (M : ℕ) (p : ℕ → ℤ) (S' S : Family) where
   moved_by true f x y a b e g = any_more (λ k. b k && f y k) (λ k. a k && f x k) (λ k. and_more (b k) (f y k) (a k) (f x k) (g k) (λ t. subst (λ z. f z k ≡ true) (sym e) t)) (universe M)
   moved_by false f x y a b e g = any_more (λ k. a k && f x k) (λ k. b k && f y k) (λ k. and_more (a k) (f x k) (b k) (f y k) (g k) (λ t. subst (λ z. f z k ≡ true) e t)) (universe M)
 
-  range_moves : (r : Range) (w : Bool) → RangeKeeps S' S r → range_fits M r w ≡ true → range_meets p r ≡ true → (n : ℕ) → Goes w (in_range M S (fill_range p r) n) (in_range M S' (fill_range p r) n)
+  range_moves : (r : Range) (w : Bool) → AllKeep S' S (leaves r) → range_fits M r w ≡ true → range_meets p r ≡ true → (n : ℕ) → Goes w (in_range M S (fill_range p r) n) (in_range M S' (fill_range p r) n)
   range_moves (Span a b) true k f m n = span_more (value M S (fill p a)) (value M S (fill p b)) (value M S' (fill p a)) (value M S' (fill p b)) (pos n)
-      (expr_moves M p S' S a Rising false k.0 (first_of_two (expr_fits M a Rising) (expr_fits M b Falling) f) (first_of_two (expr_meets p a false) (expr_meets p b false) m))
-      (expr_moves M p S' S b Falling false k.1 (second_of_two (expr_fits M a Rising) (expr_fits M b Falling) f) (second_of_two (expr_meets p a false) (expr_meets p b false) m))
+      (expr_moves M p S' S a Rising false (keeps_left S' S (expr_leaves a) (expr_leaves b) k) (first_of_two (expr_fits M a Rising) (expr_fits M b Falling) f) (first_of_two (expr_meets p a false) (expr_meets p b false) m))
+      (expr_moves M p S' S b Falling false (keeps_right S' S (expr_leaves a) (expr_leaves b) k) (second_of_two (expr_fits M a Rising) (expr_fits M b Falling) f) (second_of_two (expr_meets p a false) (expr_meets p b false) m))
   range_moves (Span a b) false k f m n = span_more (value M S' (fill p a)) (value M S' (fill p b)) (value M S (fill p a)) (value M S (fill p b)) (pos n)
-      (expr_moves M p S' S a Falling false k.0 (first_of_two (expr_fits M a Falling) (expr_fits M b Rising) f) (first_of_two (expr_meets p a false) (expr_meets p b false) m))
-      (expr_moves M p S' S b Rising false k.1 (second_of_two (expr_fits M a Falling) (expr_fits M b Rising) f) (second_of_two (expr_meets p a false) (expr_meets p b false) m))
+      (expr_moves M p S' S a Falling false (keeps_left S' S (expr_leaves a) (expr_leaves b) k) (first_of_two (expr_fits M a Falling) (expr_fits M b Rising) f) (first_of_two (expr_meets p a false) (expr_meets p b false) m))
+      (expr_moves M p S' S b Rising false (keeps_right S' S (expr_leaves a) (expr_leaves b) k) (second_of_two (expr_fits M a Falling) (expr_fits M b Rising) f) (second_of_two (expr_meets p a false) (expr_meets p b false) m))
   range_moves (One t) true k f m n = λ h. subst (λ z. int_eq z (pos n) ≡ true) (sym (constant t k f m)) h
   range_moves (One t) false k f m n = λ h. subst (λ z. int_eq z (pos n) ≡ true) (constant t k f m) h
-  range_moves (Dom y) true k f m n = λ h. k.each n h
+  range_moves (Dom y) true k f m n = λ h. k.0.each n h
   range_moves (Dom y) false k f m n = λ h. absurd (true≢false (sym f))
   range_moves (Union r q) w k f m n = or_goes w (in_range M S (fill_range p r) n) (in_range M S (fill_range p q) n) (in_range M S' (fill_range p r) n) (in_range M S' (fill_range p q) n)
-      (range_moves r w k.0 (first_of_two (range_fits M r w) (range_fits M q w) f) (first_of_two (range_meets p r) (range_meets p q) m) n)
-      (range_moves q w k.1 (second_of_two (range_fits M r w) (range_fits M q w) f) (second_of_two (range_meets p r) (range_meets p q) m) n)
+      (range_moves r w (keeps_left S' S (leaves r) (leaves q) k) (first_of_two (range_fits M r w) (range_fits M q w) f) (first_of_two (range_meets p r) (range_meets p q) m) n)
+      (range_moves q w (keeps_right S' S (leaves r) (leaves q) k) (second_of_two (range_fits M r w) (range_fits M q w) f) (second_of_two (range_meets p r) (range_meets p q) m) n)
   range_moves (Inter r q) w k f m n = and_goes w (in_range M S (fill_range p r) n) (in_range M S (fill_range p q) n) (in_range M S' (fill_range p r) n) (in_range M S' (fill_range p q) n)
-      (range_moves r w k.0 (first_of_two (range_fits M r w) (range_fits M q w) f) (first_of_two (range_meets p r) (range_meets p q) m) n)
-      (range_moves q w k.1 (second_of_two (range_fits M r w) (range_fits M q w) f) (second_of_two (range_meets p r) (range_meets p q) m) n)
+      (range_moves r w (keeps_left S' S (leaves r) (leaves q) k) (first_of_two (range_fits M r w) (range_fits M q w) f) (first_of_two (range_meets p r) (range_meets p q) m) n)
+      (range_moves q w (keeps_right S' S (leaves r) (leaves q) k) (second_of_two (range_fits M r w) (range_fits M q w) f) (second_of_two (range_meets p r) (range_meets p q) m) n)
   range_moves (Outside r) w k f m n = not_goes w (in_range M S (fill_range p r) n) (in_range M S' (fill_range p r) n) (range_moves r (not w) k f m n)
   range_moves (Plus r c) w k f m n =
       moved_by w (λ z e. int_eq (pos e +ℤ z) (pos n)) (value M S' (fill p c)) (value M S (fill p c)) (in_range M S' (fill_range p r)) (in_range M S (fill_range p r))
-      (constant c k.1 (second_of_two (range_fits M r w) (expr_fits M c Constant) f) (second_of_two (range_meets p r) (expr_meets p c false) m))
-      (range_moves r w k.0 (first_of_two (range_fits M r w) (expr_fits M c Constant) f) (first_of_two (range_meets p r) (expr_meets p c false) m))
+      (constant c (keeps_right S' S (leaves r) (expr_leaves c) k) (second_of_two (range_fits M r w) (expr_fits M c Constant) f) (second_of_two (range_meets p r) (expr_meets p c false) m))
+      (range_moves r w (keeps_left S' S (leaves r) (expr_leaves c) k) (first_of_two (range_fits M r w) (expr_fits M c Constant) f) (first_of_two (range_meets p r) (expr_meets p c false) m))
   range_moves (Minus r c) w k f m n =
       moved_by w (λ z e. int_eq (pos e -ℤ z) (pos n)) (value M S' (fill p c)) (value M S (fill p c)) (in_range M S' (fill_range p r)) (in_range M S (fill_range p r))
-      (constant c k.1 (second_of_two (range_fits M r w) (expr_fits M c Constant) f) (second_of_two (range_meets p r) (expr_meets p c false) m))
-      (range_moves r w k.0 (first_of_two (range_fits M r w) (expr_fits M c Constant) f) (first_of_two (range_meets p r) (expr_meets p c false) m))
+      (constant c (keeps_right S' S (leaves r) (expr_leaves c) k) (second_of_two (range_fits M r w) (expr_fits M c Constant) f) (second_of_two (range_meets p r) (expr_meets p c false) m))
+      (range_moves r w (keeps_left S' S (leaves r) (expr_leaves c) k) (first_of_two (range_fits M r w) (expr_fits M c Constant) f) (first_of_two (range_meets p r) (expr_meets p c false) m))
   range_moves (Times r c) w k f m n =
       moved_by w (λ z e. int_eq (pos e *ℤ z) (pos n)) (value M S' (fill p c)) (value M S (fill p c)) (in_range M S' (fill_range p r)) (in_range M S (fill_range p r))
-      (constant c k.1 (second_of_two (range_fits M r w) (expr_fits M c Constant) f) (second_of_two (range_meets p r) (expr_meets p c false) m))
-      (range_moves r w k.0 (first_of_two (range_fits M r w) (expr_fits M c Constant) f) (first_of_two (range_meets p r) (expr_meets p c false) m))
+      (constant c (keeps_right S' S (leaves r) (expr_leaves c) k) (second_of_two (range_fits M r w) (expr_fits M c Constant) f) (second_of_two (range_meets p r) (expr_meets p c false) m))
+      (range_moves r w (keeps_left S' S (leaves r) (expr_leaves c) k) (first_of_two (range_fits M r w) (expr_fits M c Constant) f) (first_of_two (range_meets p r) (expr_meets p c false) m))
   range_moves (Over r c) w k f m n =
       moved_by w (λ z e. int_eq (pos n *ℤ z) (pos e)) (value M S' (fill p c)) (value M S (fill p c)) (in_range M S' (fill_range p r)) (in_range M S (fill_range p r))
       (over_constant c (second_of_two (range_fits M r w) (is_parameter c || (is_literal c && int_le (pos 1) (literal_value M c))) f))
-      (range_moves r w k.0 (first_of_two (range_fits M r w) (is_parameter c || (is_literal c && int_le (pos 1) (literal_value M c))) f) (first_of_two (range_meets p r) (over_meets p c) m))
+      (range_moves r w (keeps_left S' S (leaves r) (expr_leaves c) k) (first_of_two (range_fits M r w) (is_parameter c || (is_literal c && int_le (pos 1) (literal_value M c))) f) (first_of_two (range_meets p r) (over_meets p c) m))
 
 -- the least and the greatest number of a rising list
 pub least_low : (low high n : ℕ) (xs : List ℕ) → IsRising low high xs → has xs n ≡ true → least xs ≤ n
@@ -179,31 +167,18 @@ record Bound (S' S : Family) (y : ℕ) : Type 0 where
   low : least (S' y) ≤ least (S y)
   high : greatest (S y) ≤ greatest (S' y)
 
-module _ (p : ℕ → ℤ) (S' S : Family) where
-  expr_keeps : (e : Expr) → ((y : ℕ) → has (expr_reads (fill p e)) y ≡ true → Bound S' S y) → ((y : ℕ) → has (expr_vals (fill p e)) y ≡ true → least (S' y) ≡ least (S y)) → Keeps S' S e
-  expr_keeps (Number z) h g = tt
-  expr_keeps Infinity h g = tt
-  expr_keeps (Param x) h g = tt
-  expr_keeps (Min y) h g = (h y (alone_in y)).low
-  expr_keeps (Max y) h g = (h y (alone_in y)).high
-  expr_keeps (Val y) h g = g y (alone_in y)
-  expr_keeps (Add a b) h g = (expr_keeps a (λ y i. h y (in_left _ _ y i)) (λ y i. g y (in_left _ _ y i)), expr_keeps b (λ y i. h y (in_right (expr_reads (fill p a)) _ y i)) (λ y i. g y (in_right (expr_vals (fill p a)) _ y i)))
-  expr_keeps (Sub a b) h g = (expr_keeps a (λ y i. h y (in_left _ _ y i)) (λ y i. g y (in_left _ _ y i)), expr_keeps b (λ y i. h y (in_right (expr_reads (fill p a)) _ y i)) (λ y i. g y (in_right (expr_vals (fill p a)) _ y i)))
-  expr_keeps (Mul a b) h g = (expr_keeps a (λ y i. h y (in_left _ _ y i)) (λ y i. g y (in_left _ _ y i)), expr_keeps b (λ y i. h y (in_right (expr_reads (fill p a)) _ y i)) (λ y i. g y (in_right (expr_vals (fill p a)) _ y i)))
-  expr_keeps (DivDown a b) h g = (expr_keeps a (λ y i. h y (in_left _ _ y i)) (λ y i. g y (in_left _ _ y i)), expr_keeps b (λ y i. h y (in_right (expr_reads (fill p a)) _ y i)) (λ y i. g y (in_right (expr_vals (fill p a)) _ y i)))
-  expr_keeps (DivUp a b) h g = (expr_keeps a (λ y i. h y (in_left _ _ y i)) (λ y i. g y (in_left _ _ y i)), expr_keeps b (λ y i. h y (in_right (expr_reads (fill p a)) _ y i)) (λ y i. g y (in_right (expr_vals (fill p a)) _ y i)))
-
-  range_keeps : IsInside S S' → (r : Range) → ((y : ℕ) → has (reads (fill_range p r)) y ≡ true → Bound S' S y) → ((y : ℕ) → has (vals (fill_range p r)) y ≡ true → least (S' y) ≡ least (S y)) → RangeKeeps S' S r
-  range_keeps i (Span a b) h g = (expr_keeps a (λ y k. h y (in_left _ _ y k)) (λ y k. g y (in_left _ _ y k)), expr_keeps b (λ y k. h y (in_right (expr_reads (fill p a)) _ y k)) (λ y k. g y (in_right (expr_vals (fill p a)) _ y k)))
-  range_keeps i (One t) h g = expr_keeps t h g
-  range_keeps i (Dom y) h g = i.at y
-  range_keeps i (Union r q) h g = (range_keeps i r (λ y k. h y (in_left _ _ y k)) (λ y k. g y (in_left _ _ y k)), range_keeps i q (λ y k. h y (in_right (reads (fill_range p r)) _ y k)) (λ y k. g y (in_right (vals (fill_range p r)) _ y k)))
-  range_keeps i (Inter r q) h g = (range_keeps i r (λ y k. h y (in_left _ _ y k)) (λ y k. g y (in_left _ _ y k)), range_keeps i q (λ y k. h y (in_right (reads (fill_range p r)) _ y k)) (λ y k. g y (in_right (vals (fill_range p r)) _ y k)))
-  range_keeps i (Outside r) h g = range_keeps i r h g
-  range_keeps i (Plus r c) h g = (range_keeps i r (λ y k. h y (in_left _ _ y k)) (λ y k. g y (in_left _ _ y k)), expr_keeps c (λ y k. h y (in_right (reads (fill_range p r)) _ y k)) (λ y k. g y (in_right (vals (fill_range p r)) _ y k)))
-  range_keeps i (Minus r c) h g = (range_keeps i r (λ y k. h y (in_left _ _ y k)) (λ y k. g y (in_left _ _ y k)), expr_keeps c (λ y k. h y (in_right (reads (fill_range p r)) _ y k)) (λ y k. g y (in_right (vals (fill_range p r)) _ y k)))
-  range_keeps i (Times r c) h g = (range_keeps i r (λ y k. h y (in_left _ _ y k)) (λ y k. g y (in_left _ _ y k)), expr_keeps c (λ y k. h y (in_right (reads (fill_range p r)) _ y k)) (λ y k. g y (in_right (vals (fill_range p r)) _ y k)))
-  range_keeps i (Over r c) h g = (range_keeps i r (λ y k. h y (in_left _ _ y k)) (λ y k. g y (in_left _ _ y k)), expr_keeps c (λ y k. h y (in_right (reads (fill_range p r)) _ y k)) (λ y k. g y (in_right (vals (fill_range p r)) _ y k)))
+all_keep : (S' S : Family) → IsInside S S' → (ls : List Leaf) → ((y : ℕ) → has (flat_map read_at ls) y ≡ true → Bound S' S y) → ((y : ℕ) → has (flat_map val_at ls) y ≡ true → least (S' y) ≡ least (S y)) → AllKeep S' S ls
+all_keep S' S inside [] h g = tt
+all_keep S' S inside (l ∷ ls) h g = (
+  by_role l.role l.variable (λ y i. h y (in_left (read_at l) (flat_map read_at ls) y i)) (λ y i. g y (in_left (val_at l) (flat_map val_at ls) y i)),
+  all_keep S' S inside ls (λ y i. h y (in_right (read_at l) (flat_map read_at ls) y i)) (λ y i. g y (in_right (val_at l) (flat_map val_at ls) y i)),
+) where
+  by_role : (k : Role) (y : ℕ) → ((z : ℕ) → has (read_by k y) z ≡ true → Bound S' S z) → ((z : ℕ) → has (val_by k y) z ≡ true → least (S' z) ≡ least (S z)) → LeafKeeps S' S k y
+  by_role a_parameter y h g = tt
+  by_role a_min y h g = (h y (alone_in y)).low
+  by_role a_max y h g = (h y (alone_in y)).high
+  by_role a_val y h g = g y (alone_in y)
+  by_role a_dom y h g = inside.at y
 
 -- Set's order of cases
 set_parts : (a b c : Bool) → cond a false (cond b true c) ≡ true → (a ≡ false) × (b ≡ false → c ≡ true)
@@ -239,7 +214,11 @@ module _ (M : ℕ) (p : ℕ → ℤ) (r : Range) (f : range_fits M r true ≡ tr
       (λ e.
       let one : (y : ℕ) → has (vals q) y ≡ true → is_several (S' y) ≡ false = λ y i. none_at (λ k. is_several (S' k)) (vals q) y e i in
       let inner : in_range M S q n ≡ true = parts.1 (none_all (λ y. is_several (S y)) (vals q) (λ y i. several_subset 0 M (S y) (S' y) (s.rising y) (inside.at y) (one y i))) in
-      let keeps = range_keeps p S' S inside r (λ y i. bound_of y (some y i)) (λ y i. one_of y (some y (vals_read q y i)) (one y i)) in
+      let reads_are : reads q ≡ flat_map read_at (leaves r) = filled_leaves read_at (λ x. refl) p r ∙ range_leaves read_at r in
+      let vals_are : vals q ≡ flat_map val_at (leaves r) = filled_leaves val_at (λ x. refl) p r ∙ range_leaves val_at r in
+      let in_reads : (y : ℕ) → has (flat_map read_at (leaves r)) y ≡ true → has (reads q) y ≡ true = λ y i. subst (λ l. has l y ≡ true) (sym reads_are) i in
+      let in_vals : (y : ℕ) → has (flat_map val_at (leaves r)) y ≡ true → has (vals q) y ≡ true = λ y i. subst (λ l. has l y ≡ true) (sym vals_are) i in
+      let keeps = all_keep S' S inside (leaves r) (λ y i. bound_of y (some y (in_reads y i))) (λ y i. one_of y (some y (vals_read q y (in_vals y i))) (one y (in_vals y i))) in
       range_moves M p S' S r true keeps f m n inner)
 
 pub accepted_is_monotone : AcceptedIsMonotone

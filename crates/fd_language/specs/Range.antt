@@ -166,6 +166,9 @@ abbrev pub from_range : {X : Type 0} → (Leaf → List X) → Range → List X
 from_range f r = walk_range (collecting f) r
 
 -- the leaves themselves
+abbrev pub expr_leaves : Expr → List Leaf
+expr_leaves e = from_expr (λ l. l ∷ []) e
+
 abbrev pub leaves : Range → List Leaf
 leaves r = from_range (λ l. l ∷ []) r
 
