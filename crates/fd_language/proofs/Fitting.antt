@@ -1,10 +1,10 @@
 -- The direction table asks the same of a range under other variables.
-use Rattle.std.proofs.Common.{◌≡◌, ℕ, Bool, true, false, cond, ◌||◌, ◌&&◌, not, ℤ, pos, int_le, ◌+ℤ◌, ◌-ℤ◌, ◌*ℤ◌, refl, ap, ◌∙◌}
-use Rattle.fd_language.specs.Range.{Range, Span, One, Dom, Union, Inter, Outside, Plus, Minus, Times, Over, Expr, Number, Infinity, Param, Min, Max, Val, Add, Sub, Mul, DivDown, DivUp, div_down, div_up}
+use Rattle.std.proofs.Common.{◌≡◌, ℕ, Bool, true, false, cond, ◌||◌, ◌&&◌, not, ℤ, pos, int_le, [], refl, ap, ◌∙◌}
+use Rattle.fd_language.specs.Range.{Range, Span, One, Dom, Union, Inter, Outside, Plus, Minus, Times, Over, Expr, Number, Infinity, Param, Min, Max, Val, Add, Sub, Mul, DivDown, DivUp}
 use Rattle.fd_language.specs.Needs.{is_literal}
 use Rattle.fd_language.specs.Check.{Wish, Rising, Falling, Constant, turn, literal_value, by_sign, is_parameter, is_natural, quotient_fits, expr_fits, range_fits}
 use Rattle.fd_language.specs.RangeRenaming.{rename_expr, rename_range}
-use Rattle.fd_language.proofs.RangeRenaming.{two}
+use Rattle.fd_language.proofs.RangeRenaming.{two, value_same}
 
 module _ (M : ℕ) (f : ℕ → ℕ) where
   literal_same : (e : Expr) → is_literal (rename_expr f e) ≡ is_literal e
@@ -21,30 +21,11 @@ module _ (M : ℕ) (f : ℕ → ℕ) where
   literal_same (DivUp a b) = refl
 
   literal_value_same : (e : Expr) → literal_value M (rename_expr f e) ≡ literal_value M e
-  literal_value_same (Number z) = refl
-  literal_value_same Infinity = refl
-  literal_value_same (Param x) = refl
-  literal_value_same (Min y) = refl
-  literal_value_same (Max y) = refl
-  literal_value_same (Val y) = refl
-  literal_value_same (Add a b) = two (λ x y. x +ℤ y) (literal_value_same a) (literal_value_same b)
-  literal_value_same (Sub a b) = two (λ x y. x -ℤ y) (literal_value_same a) (literal_value_same b)
-  literal_value_same (Mul a b) = two (λ x y. x *ℤ y) (literal_value_same a) (literal_value_same b)
-  literal_value_same (DivDown a b) = two (div_down M) (literal_value_same a) (literal_value_same b)
-  literal_value_same (DivUp a b) = two (div_up M) (literal_value_same a) (literal_value_same b)
+  literal_value_same e = value_same M f (λ y. []) (λ y. []) e (λ v h. refl)
 
   parameter_same : (e : Expr) → is_parameter (rename_expr f e) ≡ is_parameter e
-  parameter_same (Number z) = refl
-  parameter_same Infinity = refl
   parameter_same (Param x) = refl
-  parameter_same (Min y) = refl
-  parameter_same (Max y) = refl
-  parameter_same (Val y) = refl
-  parameter_same (Add a b) = refl
-  parameter_same (Sub a b) = refl
-  parameter_same (Mul a b) = refl
-  parameter_same (DivDown a b) = refl
-  parameter_same (DivUp a b) = refl
+  parameter_same e = refl
 
   by_literal : (p p' q q' : Bool) (z z' : ℤ) (n n' : Bool) → p ≡ p' → q ≡ q' → z ≡ z' → n ≡ n' → cond (p && q) (int_le (pos 0) z) n ≡ cond (p' && q') (int_le (pos 0) z') n'
   by_literal p p' q q' z z' n n' a b c d = ap (λ x. cond (x && q) (int_le (pos 0) z) n) a ∙ ap (λ x. cond (p' && x) (int_le (pos 0) z) n) b ∙ ap (λ x. cond (p' && q') (int_le (pos 0) x) n) c ∙ ap (λ x. cond (p' && q') (int_le (pos 0) z') x) d

@@ -28,7 +28,7 @@ module _ (M : ℕ) (f : ℕ → ℕ) (T S : Family) where
   at_one : (y : ℕ) → Same (y ∷ []) → T (f y) ≡ S y
   at_one y h = h y (alone_in y)
 
-  value_same : (e : Expr) → Same (expr_reads e) → value M T (rename_expr f e) ≡ value M S e
+  pub value_same : (e : Expr) → Same (expr_reads e) → value M T (rename_expr f e) ≡ value M S e
   value_same (Number z) h = refl
   value_same Infinity h = refl
   value_same (Param x) h = refl
