@@ -1,6 +1,8 @@
 pub mod Sets
 pub mod Lists
 pub mod Leaves
+pub mod RangePlaces
+pub mod AskedParameters
 pub mod Greatest
 pub mod Arithmetic
 pub mod Meeting
