@@ -5,7 +5,6 @@ use Rattle.fd_model.specs.declared.kinds.Order.{Order}
 use Rattle.fd_language.specs.Term.{Term, Var, Int, Atom, Comp, Substitution}
 use Rattle.fd_language.specs.Family.{Family, has, universe}
 use Rattle.fd_language.specs.Range.{Range, reads, set_of, in_set}
-use Rattle.fd_language.specs.Places.{range_places}
 use Rattle.fd_model.specs.Goal.{Goal, Post, Constrain, Label, Program, Query, Branch, Event, End, start_of}
 use Rattle.fd_model.specs.Sound.{GoalBelow, EachBelow}
 use Rattle.fd_model.specs.Lines.{says}
@@ -24,12 +23,11 @@ use Rattle.fd_model.specs.FlatConstraints.{is_place}
 use Rattle.fd_model.specs.FlatQueries.{IsSatisfied, IsFlatGoal, IsFlat}
 use Rattle.fd_model.specs.FlatLines.{IsAssigned, FlatAnswers}
 use Rattle.fd_model.proofs.Searching.{searched}
-use Rattle.fd_model.proofs.Slots.{range_variables}
-use Rattle.fd_model.proofs.FlatPosting.{range_free}
+use Rattle.fd_language.proofs.RangePlaces.{none_placed, reads_placed}
 use Rattle.fd_model.proofs.Wayfaring.{list_below}
 use Rattle.fd_model.proofs.Seeing.{arguments_below}
 use Rattle.fd_model.proofs.ConstrainRows.{constrain_row, satisfies_same}
-use Rattle.fd_model.proofs.PostRows.{LiesIn, places_below, post_variable, post_integer}
+use Rattle.fd_model.proofs.PostRows.{LiesIn, post_variable, post_integer}
 use Rattle.fd_model.proofs.Staging.{IsGoalRow, IsStage, Assigned}
 use Rattle.fd_model.proofs.Completing.{answers_map}
 use Rattle.fd_model.proofs.Flattening.{flat_search, IsFlatBranch, start_flat, flat_children, flat_silent, flat_sound}
@@ -94,8 +92,8 @@ module _ (M : ℕ) (positive : 0 < M) (prog : Program) (vs : List ℕ) (nv : ℕ
 
   range_same : (t : Term) (r : Range) (a e : Assignment) → IsGood (Post t r) → ((y : ℕ) → has vs y ≡ true → a y ≡ e y) → InRange M M a t r → InRange M M e t r
   range_same t r a e good same h =
-      let free = range_free r good.0.1 in
-      let here : (y : ℕ) → has (reads r) y ≡ true → a y ≡ e y = λ y i. same y (every y (places_below nv (range_places r) y good.1.1 (subst (λ l. has l y ≡ true) (sym (range_variables r free)) i))) in
+      let free = none_placed r good.0.1 in
+      let here : (y : ℕ) → has (reads r) y ≡ true → a y ≡ e y = λ y i. same y (every y (reads_placed (λ z. z < nv) r good.1.1 y i)) in
       record {
         number = h.number;
         within = h.within;

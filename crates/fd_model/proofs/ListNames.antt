@@ -1,6 +1,7 @@
 -- The variables that the rows of the constraints on lists name.
 use Rattle.std.proofs.Common.{◌≡◌, ℕ, suc, true, false, ◌==◌, ℤ, List, [], ◌∷◌, ◌++◌, refl, sym, subst, inl, inr, eqb-true, eq-eqb}
 use Rattle.std.proofs.lemmas.Bool.{or_cases, or_left, or_right, true≢false}
+use Rattle.fd_language.specs.Lists.{Each}
 use Rattle.fd_language.specs.Family.{has}
 use Rattle.fd_language.specs.Range.{Range, Indexical, Union, reads}
 use Rattle.fd_model.specs.Closed.{constrained, AllPosted}
@@ -32,10 +33,6 @@ names_append P (p ∷ ps) qs h g =
     names_one P p (ps ++ qs) (h p.target (or_left _ _ (eq-eqb p.target p.target refl))) (λ v e. h v (or_right (p.target == v) _ (in_left (reads p.range) (constrained ps) v e)))
     (names_append P ps qs (λ v e. h v (or_right (p.target == v) _ (in_right (reads p.range) (constrained ps) v e))) g)
 
-abbrev pub AllOf : (ℕ → Type 0) → List ℕ → Type 0
-AllOf P [] = Unit {0}
-AllOf P (x ∷ xs) = P x × AllOf P xs
-
 pub none_named : (P : ℕ → Type 0) → NamesIn P []
 none_named P v h = absurd (true≢false (sym h))
 
@@ -44,16 +41,16 @@ pub one_named : (P : ℕ → Type 0) (x : ℕ) → P x → (v : ℕ) → has (x 
 one_named P x h v e = elim (or_cases (x == v) false e) [ inl k ↦ subst P (eqb-true x v k) h | inr k ↦ absurd (true≢false (sym k)) ]
 
 -- fd_all_different
-pub against_names : (P : ℕ → Type 0) (x : ℕ) (ys : List ℕ) → P x → AllOf P ys → NamesIn P (against x ys)
+pub against_names : (P : ℕ → Type 0) (x : ℕ) (ys : List ℕ) → P x → Each P ys → NamesIn P (against x ys)
 against_names P x [] h g = none_named P
 against_names P x (y ∷ ys) h g =
     names_one P (differs x y) (differs y x ∷ against x ys) h (one_named P y g.0) (names_one P (differs y x) (against x ys) g.0 (one_named P x h) (against_names P x ys h g.1))
 
-pub pairs_names : (P : ℕ → Type 0) (xs : List ℕ) → AllOf P xs → NamesIn P (pairwise xs)
+pub pairs_names : (P : ℕ → Type 0) (xs : List ℕ) → Each P xs → NamesIn P (pairwise xs)
 pairs_names P [] h = none_named P
 pairs_names P (x ∷ xs) h = names_append P (against x xs) (pairwise xs) (against_names P x xs h.0 h.1) (pairs_names P xs h.1)
 
-pub different_names : (P : ℕ → Type 0) (xs : List ℕ) → AllOf P xs → NamesIn P (different_ranges xs)
+pub different_names : (P : ℕ → Type 0) (xs : List ℕ) → Each P xs → NamesIn P (different_ranges xs)
 different_names P [] h = none_named P
 different_names P (x ∷ []) h = one_named P x h.0
 different_names P (x ∷ y ∷ ys) h = pairs_names P (x ∷ y ∷ ys) h
@@ -124,7 +121,7 @@ abbrev pub AllAdded : (ℕ → Type 0) → List ℕ → ℕ → Type 0
 AllAdded P [] m = Unit {0}
 AllAdded P (x ∷ xs) m = P m × AllAdded P xs (suc m)
 
-pub counts_names : (P : ℕ → Type 0) (v : ℤ) (xs : List ℕ) (m : ℕ) → AllOf P xs → AllAdded P xs m → NamesIn P (counts v xs m)
+pub counts_names : (P : ℕ → Type 0) (v : ℤ) (xs : List ℕ) (m : ℕ) → Each P xs → AllAdded P xs m → NamesIn P (counts v xs m)
 counts_names P v [] m h g = none_named P
 counts_names P v (x ∷ xs) m h g =
     let p = counter v x m in

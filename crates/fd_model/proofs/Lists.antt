@@ -1,17 +1,10 @@
 -- Lemmas on what holds of each, of some and of each pair of a list.
 use Rattle.std.proofs.Common.{List, [], ◌∷◌, ◌++◌, inl, inr, ◌⊎◌}
 use Rattle.fd_language.specs.Lists.{Each}
+pub use Rattle.fd_language.proofs.Lists.{each_map, each_both, each_before, each_after}
 use Rattle.fd_model.specs.Answers.{Somewhere, InOrder}
 
 module _ {X : Type 0} where
-  pub each_map : (H G : X → Type 0) → ((x : X) → H x → G x) → (xs : List X) → Each H xs → Each G xs
-  each_map H G f [] h = tt
-  each_map H G f (x ∷ xs) h = (f x h.0, each_map H G f xs h.1)
-
-  pub each_both : (H : X → Type 0) (xs ys : List X) → Each H xs → Each H ys → Each H (xs ++ ys)
-  each_both H [] ys h g = g
-  each_both H (x ∷ xs) ys h g = (h.0, each_both H xs ys h.1 g)
-
   pub each_at : (H : X → Type 0) (xs : List X) (G : X → Type 0) (A : Type 0) → Each H xs → Somewhere G xs → ((x : X) → H x → G x → A) → A
   each_at H [] G A h g f = absurd g
   each_at H (x ∷ xs) G A h (inl g) f = f x h.0 g
@@ -43,11 +36,3 @@ module _ {X : Type 0} where
 pub each_itself : {X Y : Type 0} (H : X → Y → Type 0) (xs : List X) → Each (λ x. (y : Y) → H x y → Somewhere (λ z. H z y) xs) xs
 each_itself H [] = tt
 each_itself H (x ∷ xs) = (λ y h. inl h, each_map (λ z. (y : _) → H z y → Somewhere (λ w. H w y) xs) (λ z. (y : _) → H z y → Somewhere (λ w. H w y) (x ∷ xs)) (λ z f y h. inr (f y h)) xs (each_itself H xs))
-
-pub each_before : {X : Type 0} (H : X → Type 0) (xs ys : List X) → Each H (xs ++ ys) → Each H xs
-each_before H [] ys h = tt
-each_before H (x ∷ xs) ys h = (h.0, each_before H xs ys h.1)
-
-pub each_after : {X : Type 0} (H : X → Type 0) (xs ys : List X) → Each H (xs ++ ys) → Each H ys
-each_after H [] ys h = h
-each_after H (x ∷ xs) ys h = each_after H xs ys h.1

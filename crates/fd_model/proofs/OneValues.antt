@@ -7,6 +7,7 @@ use Rattle.fd_model.specs.declared.kinds.ConstraintKind.{ConstraintKind}
 use Rattle.fd_model.specs.declared.kinds.ConstraintKind.TheVariants.{Compare, AllDifferent, Element, Atmost}
 use Rattle.fd_language.specs.Term.{Term, Terms, no_terms, term}
 use Rattle.fd_language.specs.Variables.{TermBelow, TermsBelow}
+use Rattle.fd_language.specs.Lists.{Each}
 use Rattle.fd_language.specs.Family.{Family, has, universe, IsFamily, IsSubset}
 use Rattle.fd_language.specs.Range.{Indexical, set_of, in_set}
 use Rattle.fd_model.specs.Closed.{constrained, AllPosted}
@@ -28,8 +29,9 @@ use Rattle.fd_model.proofs.Choosing.{element_ok, where_is_test, other_is}
 use Rattle.fd_model.proofs.Counters.{atmost_ok, unit, test_count}
 use Rattle.fd_model.proofs.Determining.{NamesIn, single_from, IsOne, AllNamed, determined_by}
 use Rattle.fd_model.proofs.RowNames.{AllVars, rows_names, each_below, collect_vars, normal_vars}
-use Rattle.fd_model.proofs.ListNames.{posted_left, posted_right, named_left, named_right, names_append, AllOf, none_named, one_named, different_names, named_either, element_names, AllAdded, counts_names, named_counts, units_vars}
-use Rattle.fd_model.proofs.RowScopes.{scoped_rows, all_of}
+use Rattle.fd_model.proofs.ListNames.{posted_left, posted_right, named_left, named_right, names_append, none_named, one_named, different_names, named_either, element_names, AllAdded, counts_names, named_counts, units_vars}
+use Rattle.fd_model.proofs.RowScopes.{scoped_rows}
+use Rattle.fd_language.proofs.Lists.{each_map}
 
 none_empty : (M n : ℕ) (S : Family) (ps : List Indexical) → IsSettled M (record { equated = []; ranges = record { target = n; range = no_number } ∷ ps; fresh = suc n }) S → ⊥
 none_empty M n S ps s =
@@ -63,7 +65,7 @@ module _ (M : ℕ) (S : Family) (family : IsFamily M S) where
         two : {p q r s : Bool} → p ≡ q → r ≡ s → (p || r) ≡ (q || s)
         two e f = cc
 
-  added_single : (z : ℤ) (xs : List ℕ) (m : ℕ) → AllOf (IsOne S) xs → AllPosted (λ p. IsSubset (S p.target) (set_of M S p.range)) (counts z xs m)
+  added_single : (z : ℤ) (xs : List ℕ) (m : ℕ) → Each (IsOne S) xs → AllPosted (λ p. IsSubset (S p.target) (set_of M S p.range)) (counts z xs m)
       → ((v : ℕ) → has (constrained (counts z xs m)) v ≡ true → (j : ℕ) × (has (S v) j ≡ true)) → AllAdded (IsOne S) xs m
   added_single z [] m o p f = tt
   added_single z (x ∷ xs) m o p f =
@@ -89,11 +91,11 @@ module _ (M : ℕ) (S : Family) (family : IsFamily M S) where
 abbrev pub IsOld : ℕ → List (ℕ × ℤ) → ℕ → Type 0
 IsOld n es v = (v < n) ⊎ (is_equated es v ≡ true)
 
-placed_old : (n : ℕ) (ms : List Member) (k : ℕ) → MembersBelow n ms → AllOf (IsOld n (equated_from k ms)) (placed k ms)
+placed_old : (n : ℕ) (ms : List Member) (k : ℕ) → MembersBelow n ms → Each (IsOld n (equated_from k ms)) (placed k ms)
 placed_old n [] k b = tt
 placed_old n (Open x ∷ ms) k b = (inl b.0, placed_old n ms k b.1)
 placed_old n (Known z ∷ ms) k b =
-    (inr (or_left (k == k) _ (eq-eqb k k refl)), all_of (IsOld n (equated_from (suc k) ms)) (IsOld n ((k, z) ∷ equated_from (suc k) ms)) (λ v h. elim h [ inl l ↦ inl l | inr e ↦ inr (or_right (k == v) _ e) ]) (placed (suc k) ms) (placed_old n ms (suc k) b.1))
+    (inr (or_left (k == k) _ (eq-eqb k k refl)), each_map (IsOld n (equated_from (suc k) ms)) (IsOld n ((k, z) ∷ equated_from (suc k) ms)) (λ v h. elim h [ inl l ↦ inl l | inr e ↦ inr (or_right (k == v) _ e) ]) (placed (suc k) ms) (placed_old n ms (suc k) b.1))
 
 -- where what is not added has one value, all named variables have
 module _ (M n : ℕ) (S : Family) (family : IsFamily M S) where
@@ -121,8 +123,8 @@ module _ (M n : ℕ) (S : Family) (family : IsFamily M S) where
       let m = normal r g.linear in
       subst HasOne g.rows (form_one (comparison r) m.products m.constant n (normal_vars (λ v. v < n) r g.linear (collect_vars (λ v. v < n) s t g.linear (each_below n s ks) (each_below n t kt) g.collected)))
 
-  placed_one : (ms : List Member) (x : Expansion) → x.equated ≡ equated_from n ms → MembersBelow n ms → ((v : ℕ) → has (constrained x.ranges) v ≡ true → IsOld n x.equated v → IsOne S v) → AllOf (IfNamed x) (placed n ms)
-  placed_one ms x e b old = all_of (IsOld n (equated_from n ms)) (IfNamed x) (λ v h i. old v i (subst (λ es. IsOld n es v) (sym e) h)) (placed n ms) (placed_old n ms n b)
+  placed_one : (ms : List Member) (x : Expansion) → x.equated ≡ equated_from n ms → MembersBelow n ms → ((v : ℕ) → has (constrained x.ranges) v ≡ true → IsOld n x.equated v → IsOne S v) → Each (IfNamed x) (placed n ms)
+  placed_one ms x e b old = each_map (IsOld n (equated_from n ms)) (IfNamed x) (λ v h i. old v i (subst (λ es. IsOld n es v) (sym e) h)) (placed n ms) (placed_old n ms n b)
 
   different_one : (l : Term) (x : Expansion) → TermBelow n l → all_different l n ≡ Ok x → HasOne x
   different_one l x b h =
@@ -140,7 +142,7 @@ module _ (M n : ℕ) (S : Family) (family : IsFamily M S) where
       let g = placed_one ms y refl ((member_read n (λ v. 0) i k.index k.from_index).below bi, ((member_read n (λ v. 0) t k.value k.from_value).below bt, tt)) old in
       names_all y (element_names (IfNamed y) (place_of n k.index) (place_of (after n k.index) k.value) k.elements g.0 g.1.0))
 
-  named_ones : (xs : List ℕ) (x : Expansion) → ((v : ℕ) → has xs v ≡ true → has (constrained x.ranges) v ≡ true) → AllOf (IfNamed x) xs → AllOf (IsOne S) xs
+  named_ones : (xs : List ℕ) (x : Expansion) → ((v : ℕ) → has xs v ≡ true → has (constrained x.ranges) v ≡ true) → Each (IfNamed x) xs → Each (IsOne S) xs
   named_ones [] x there h = tt
   named_ones (v ∷ xs) x there h = (h.0 (there v (or_left (v == v) _ (eq-eqb v v refl))), named_ones xs x (λ w e. there w (or_right (v == w) _ e)) h.1)
 

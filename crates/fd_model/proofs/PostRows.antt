@@ -22,10 +22,11 @@ use Rattle.fd_model.specs.Satisfies.{Assignment, singles}
 use Rattle.fd_model.specs.Answers.{Somewhere}
 use Rattle.fd_model.proofs.Lists.{each_map}
 use Rattle.fd_model.proofs.Heeding.{first_member}
-use Rattle.fd_model.proofs.Slots.{range_variables, Apart, integers, integers_are, integers_apart, integers_from, slot_out, slot_low, slot_high, extend, extend_bounded, extend_low, extend_slot, IsInteger, slots_given, slots_each, slots_unify, slots_back}
+use Rattle.fd_model.proofs.Slots.{Apart, integers, integers_are, integers_apart, integers_from, slot_out, slot_low, slot_high, extend, extend_bounded, extend_low, extend_slot, IsInteger, slots_given, slots_each, slots_unify, slots_back}
 use Rattle.fd_model.proofs.Staging.{IsGoalRow}
-use Rattle.fd_model.proofs.FlatPosting.{Free, range_free, variables, IsPlainTerm, no_offence}
-use Rattle.fd_model.proofs.RowsMonotone.{filled_same}
+use Rattle.fd_model.proofs.FlatPosting.{Free, variables, IsPlainTerm, no_offence}
+use Rattle.fd_language.proofs.Leaves.{filled_as_is}
+use Rattle.fd_language.proofs.RangePlaces.{none_placed, free_places_read}
 use Rattle.fd_language.specs.Range.{params}
 
 -- a variable lies in a range, or an integer does
@@ -244,7 +245,7 @@ module _ (M nv : ℕ) (vs : List ℕ) (every : (x : ℕ) → x < nv → has vs x
 module _ (M : ℕ) (prog : Program) (nv : ℕ) (vs : List ℕ) (every : (x : ℕ) → x < nv → has vs x ≡ true) (b : Branch) (rest : List Goal) (look : Substitution) (sets : ℕ → Option (List ℕ)) (plain : IsPlain M vs look) (low : nv ≤ b.fresh)
     (r : Range) (none : params r ≡ []) (below : PlacesBelow nv (range_places r)) where
   free : Free (range_places r)
-  free = range_free r none
+  free = none_placed r none
 
   plain_term : (x : ℕ) → x < nv → IsPlainTerm (look x)
   plain_term x h = elim (plain x (every x h)) [ inl e ↦ inl (x, e) | inr e ↦ inr (e.0, e.2) ]
@@ -253,7 +254,7 @@ module _ (M : ℕ) (prog : Program) (nv : ℕ) (vs : List ℕ) (every : (x : ℕ
   small_places x h = places_below nv (range_places r) x below h
 
   small_reads : (x : ℕ) → has (reads r) x ≡ true → x < nv
-  small_reads x h = small_places x (subst (λ l. has l x ≡ true) (sym (range_variables r free)) h)
+  small_reads x h = small_places x (subst (λ l. has l x ≡ true) (sym (free_places_read r free)) h)
 
   -- the row as posting spells it
   abbrev spelled : ℕ → ℕ → List Equation → List Place → Rewritten
@@ -261,7 +262,7 @@ module _ (M : ℕ) (prog : Program) (nv : ℕ) (vs : List ℕ) (every : (x : ℕ
 
   same_row : (m tv : ℕ) (es : List Equation) (ps : List Place) (qs : List ℕ) → Free ps → variables ps ≡ qs → spelled m tv es ps ≡ row_of M nv vs every look plain b.fresh low r free m tv es (integers look qs []) r
   same_row m tv es ps qs h e =
-      ap (λ q. row_of M nv vs every look plain b.fresh low r free m tv es (integers_at look ps []) q) (filled_same (λ y. integer_of (look y)) r none)
+      ap (λ q. row_of M nv vs every look plain b.fresh low r free m tv es (integers_at look ps []) q) (filled_as_is (λ y. integer_of (look y)) r none)
       ∙ ap (λ l. row_of M nv vs every look plain b.fresh low r free m tv es l r) (integers_are look ps [] h ∙ ap (λ l. integers look l []) e)
 
   pub post_variable : (v : ℕ) → v < nv → (w : Rewritten) × (offer M prog look sets b (Post (Var v) r) rest ≡ GivesBranches (with_ranges b rest w ∷ [])) × IsGoalRow M b.fresh vs look (λ a. LiesIn M r a (Var v)) w
@@ -271,7 +272,7 @@ module _ (M : ℕ) (prog : Program) (nv : ℕ) (vs : List ℕ) (every : (x : ℕ
         _,
         ap (λ f. by_post b rest (unless_offence f (record { target = slot b.fresh (integers_at look ps []) v; range = rename_range (slot b.fresh (integers_at look ps [])) (fill_range (λ y. integer_of (look y)) r) }) (b.fresh + length (integers_at look ps [])) ([] ++ slot_equations look b.fresh (integers_at look ps []))))
             (no_offence (need_of r) look ps (refl, free) (λ x i. plain_term x (small x i)))
-            ∙ ap (λ w. GivesBranches (with_ranges b rest w ∷ [])) (same_row b.fresh v [] ps (v ∷ reads r) (refl, free) (ap (λ l. v ∷ l) (range_variables r free))),
+            ∙ ap (λ w. GivesBranches (with_ranges b rest w ∷ [])) (same_row b.fresh v [] ps (v ∷ reads r) (refl, free) (ap (λ l. v ∷ l) (free_places_read r free))),
         variable_row M nv vs every look plain b.fresh low r free v h small_reads,
       )
 
@@ -282,6 +283,6 @@ module _ (M : ℕ) (prog : Program) (nv : ℕ) (vs : List ℕ) (every : (x : ℕ
         _,
         ap (λ f. by_post b rest (unless_offence f (record { target = slot (suc b.fresh) (integers_at look ps []) b.fresh; range = rename_range (slot (suc b.fresh) (integers_at look ps [])) (fill_range (λ y. integer_of (look y)) r) }) (suc b.fresh + length (integers_at look ps [])) (es ++ slot_equations look (suc b.fresh) (integers_at look ps []))))
             (no_offence (need_of r) look ps free (λ x i. plain_term x (small_places x i)))
-            ∙ ap (λ w. GivesBranches (with_ranges b rest w ∷ [])) (same_row (suc b.fresh) b.fresh es ps (reads r) free (range_variables r free)),
+            ∙ ap (λ w. GivesBranches (with_ranges b rest w ∷ [])) (same_row (suc b.fresh) b.fresh es ps (reads r) free (free_places_read r free)),
         integer_row M nv vs every look plain b.fresh low r free z small_reads,
       )

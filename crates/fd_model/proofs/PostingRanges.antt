@@ -1,77 +1,27 @@
 -- Posting a range without parameters: exactly one extension fits where its target lies in it.
 use Rattle.std.proofs.Common.{◌≡◌, ℕ, suc, ◌+◌, ◌≤◌, ◌<◌, Bool, true, false, cond, not, ◌||◌, ◌==◌, ℤ, pos, List, [], ◌∷◌, ◌++◌, length, refl, ap, sym, ◌∙◌, subst, inl, inr, arith, eqb-true, eq-eqb, Option, Some, None}
 use Rattle.std.proofs.lemmas.Int.{ints}
-use Rattle.std.proofs.lemmas.Bool.{cases_Bool, or_cases, true≢false}
+use Rattle.std.proofs.lemmas.Bool.{cases_Bool, true≢false}
 use Rattle.fd_model.specs.declared.kinds.QueryFault.{QueryFault}
 use Rattle.fd_language.specs.Term.{Term, Var, Int, Atom, Comp}
 use Rattle.fd_language.specs.Unifier.{Equation}
 use Rattle.fd_language.specs.Family.{has}
-use Rattle.fd_language.specs.Range.{Range, Span, One, Dom, Union, Inter, Outside, Plus, Minus, Times, Over, Expr, Number, Infinity, Param, Min, Max, Val, Add, Sub, Mul, DivDown, DivUp, Indexical, set_of, reads, expr_reads}
+use Rattle.fd_language.specs.Range.{Range, Indexical, set_of}
 use Rattle.fd_language.specs.Check.{fill_range}
 use Rattle.fd_language.specs.Range.{params}
 use Rattle.fd_language.specs.RangeRenaming.{rename_range}
-use Rattle.fd_language.specs.Places.{Place, place, expr_places, range_places}
+use Rattle.fd_language.specs.Places.{Place, place, range_places}
 use Rattle.fd_model.specs.Posting.{is_integer, integers_at, integer_of, slot, slot_equations, posts, unless_offence}
 use Rattle.fd_model.specs.Sound.{PlacesBelow, RangeBelow}
-use Rattle.fd_language.proofs.Sets.{has_either}
 use Rattle.fd_language.proofs.RangeRenaming.{set_same}
 use Rattle.fd_model.specs.Satisfies.{Assignment, singles, worth}
 use Rattle.fd_model.specs.FlatConstraints.{SeesNumbers}
 use Rattle.fd_model.specs.PostingLaws.{Solves, IsPosted, PostedRange}
 use Rattle.fd_model.proofs.Placing.{changed, changed_here, changed_other, changed_small}
-use Rattle.fd_model.proofs.ListNames.{AllOf}
-use Rattle.fd_model.proofs.RowsMonotone.{filled_same}
-
--- the variables that a range names are at its places
-pub below_left : (n : ℕ) (ps qs : List Place) → PlacesBelow n (ps ++ qs) → PlacesBelow n ps
-below_left n [] qs h = tt
-below_left n (p ∷ ps) qs h = (h.0, below_left n ps qs h.1)
-
-pub below_right : (n : ℕ) (ps qs : List Place) → PlacesBelow n (ps ++ qs) → PlacesBelow n qs
-below_right n [] qs h = h
-below_right n (p ∷ ps) qs h = below_right n ps qs h.1
-
-module _ (n v : ℕ) where
-  abbrev Below : List ℕ → Type 0
-  Below xs = has xs v ≡ true → v < n
-
-  below_none : Below []
-  below_none h = absurd (true≢false (sym h))
-
-  below_one : (y : ℕ) → y < n → Below (y ∷ [])
-  below_one y l h = elim (or_cases (y == v) false h) [ inl e ↦ subst (λ w. w < n) (eqb-true y v e) l | inr e ↦ absurd (true≢false (sym e)) ]
-
-  below_both : (xs ys : List ℕ) → Below xs → Below ys → Below (xs ++ ys)
-  below_both xs ys f g h = elim (has_either xs ys v h) [ inl e ↦ f e | inr e ↦ g e ]
-
-  expr_below : (e : Expr) → PlacesBelow n (expr_places e) → Below (expr_reads e)
-  expr_below (Number z) h = below_none
-  expr_below Infinity h = below_none
-  expr_below (Param x) h = below_none
-  expr_below (Min y) h = below_one y h.0
-  expr_below (Max y) h = below_one y h.0
-  expr_below (Val y) h = below_one y h.0
-  expr_below (Add a b) h = below_both (expr_reads a) (expr_reads b) (expr_below a (below_left n (expr_places a) (expr_places b) h)) (expr_below b (below_right n (expr_places a) (expr_places b) h))
-  expr_below (Sub a b) h = below_both (expr_reads a) (expr_reads b) (expr_below a (below_left n (expr_places a) (expr_places b) h)) (expr_below b (below_right n (expr_places a) (expr_places b) h))
-  expr_below (Mul a b) h = below_both (expr_reads a) (expr_reads b) (expr_below a (below_left n (expr_places a) (expr_places b) h)) (expr_below b (below_right n (expr_places a) (expr_places b) h))
-  expr_below (DivDown a b) h = below_both (expr_reads a) (expr_reads b) (expr_below a (below_left n (expr_places a) (expr_places b) h)) (expr_below b (below_right n (expr_places a) (expr_places b) h))
-  expr_below (DivUp a b) h = below_both (expr_reads a) (expr_reads b) (expr_below a (below_left n (expr_places a) (expr_places b) h)) (expr_below b (below_right n (expr_places a) (expr_places b) h))
-
-  pub reads_below : (r : Range) → PlacesBelow n (range_places r) → Below (reads r)
-  reads_below (Span a b) h = below_both (expr_reads a) (expr_reads b) (expr_below a (below_left n (expr_places a) (expr_places b) h)) (expr_below b (below_right n (expr_places a) (expr_places b) h))
-  reads_below (One t) h = expr_below t h
-  reads_below (Dom y) h = below_one y h.0
-  reads_below (Union r q) h = below_both (reads r) (reads q) (reads_below r (below_left n (range_places r) (range_places q) h)) (reads_below q (below_right n (range_places r) (range_places q) h))
-  reads_below (Inter r q) h = below_both (reads r) (reads q) (reads_below r (below_left n (range_places r) (range_places q) h)) (reads_below q (below_right n (range_places r) (range_places q) h))
-  reads_below (Outside r) h = reads_below r h
-  reads_below (Plus r c) h = below_both (reads r) (expr_reads c) (reads_below r (below_left n (range_places r) (expr_places c) h)) (expr_below c (below_right n (range_places r) (expr_places c) h))
-  reads_below (Minus r c) h = below_both (reads r) (expr_reads c) (reads_below r (below_left n (range_places r) (expr_places c) h)) (expr_below c (below_right n (range_places r) (expr_places c) h))
-  reads_below (Times r c) h = below_both (reads r) (expr_reads c) (reads_below r (below_left n (range_places r) (expr_places c) h)) (expr_below c (below_right n (range_places r) (expr_places c) h))
-  reads_below (Over r c) h = below_both (reads r) (expr_reads c) (reads_below r (below_left n (range_places r) (expr_places c) h)) (expr_below c (below_right n (range_places r) (expr_places c) h))
-
-all_append : (Q : ℕ → Type 0) (xs ys : List ℕ) → AllOf Q xs → AllOf Q ys → AllOf Q (xs ++ ys)
-all_append Q [] ys h g = g
-all_append Q (x ∷ xs) ys h g = (h.0, all_append Q xs ys h.1 g)
+use Rattle.fd_language.specs.Lists.{Each}
+use Rattle.fd_language.proofs.Lists.{each_both}
+use Rattle.fd_language.proofs.Leaves.{filled_as_is}
+use Rattle.fd_language.proofs.RangePlaces.{reads_placed}
 
 module _ (M N n : ℕ) (look : ℕ → Term) (a : Assignment) (sees : SeesNumbers M look) (agree : (x : ℕ) → worth a (look x) ≡ pos (a x)) (small : (v : ℕ) → a v ≤ N) where
   -- a variable that is seen as its integer
@@ -84,20 +34,20 @@ module _ (M N n : ℕ) (look : ℕ → Term) (a : Assignment) (sees : SeesNumber
     | inr e ↦ e.2 ∙ ap Int (sym (ap (worth a) e.2) ∙ agree x)
   ]
 
-  slotted_at : (ps : List Place) (ys : List ℕ) → PlacesBelow n ps → AllOf Slotted ys → AllOf Slotted (integers_at look ps ys)
+  slotted_at : (ps : List Place) (ys : List ℕ) → PlacesBelow n ps → Each Slotted ys → Each Slotted (integers_at look ps ys)
   slotted_at [] ys l h = h
   slotted_at (p ∷ ps) ys l h =
       by_test (p.parameter || (not (is_integer (look p.variable)) || has ys p.variable))
-      (slotted_at ps ys l.1 h) (λ e. slotted_at ps (ys ++ p.variable ∷ []) l.1 (all_append Slotted ys (p.variable ∷ []) h ((as_integer p.variable (whole p.parameter (is_integer (look p.variable)) (has ys p.variable) e), l.0), tt))) where
+      (slotted_at ps ys l.1 h) (λ e. slotted_at ps (ys ++ p.variable ∷ []) l.1 (each_both Slotted ys (p.variable ∷ []) h ((as_integer p.variable (whole p.parameter (is_integer (look p.variable)) (has ys p.variable) e), l.0), tt))) where
         whole : (p q r : Bool) → (p || (not q || r)) ≡ false → q ≡ true
         whole p q r h = grind arith
 
-        by_test : (c : Bool) → AllOf Slotted (integers_at look ps ys) → (c ≡ false → AllOf Slotted (integers_at look ps (ys ++ p.variable ∷ []))) → AllOf Slotted (cond c (integers_at look ps ys) (integers_at look ps (ys ++ p.variable ∷ [])))
+        by_test : (c : Bool) → Each Slotted (integers_at look ps ys) → (c ≡ false → Each Slotted (integers_at look ps (ys ++ p.variable ∷ []))) → Each Slotted (cond c (integers_at look ps ys) (integers_at look ps (ys ++ p.variable ∷ [])))
         by_test true f g = f
         by_test false f g = g refl
 
   -- the fresh ones have the values of those that they stand for
-  slot_value : (b : Assignment) (ys : List ℕ) (k y : ℕ) → AllOf Slotted ys → Solves b (slot_equations look k ys) → b y ≡ a y → b (slot k ys y) ≡ a y
+  slot_value : (b : Assignment) (ys : List ℕ) (k y : ℕ) → Each Slotted ys → Solves b (slot_equations look k ys) → b y ≡ a y → b (slot k ys y) ≡ a y
   slot_value b [] k y q s e = e
   slot_value b (x ∷ xs) k y q s e = by_test (x == y) (eqb-true x y) (slot_value b xs (suc k) y q.1 s.1 e) where
     fresh : b k ≡ a x
@@ -121,14 +71,14 @@ module _ (M N n : ℕ) (look : ℕ → Term) (a : Assignment) (sees : SeesNumber
   slotted_small [] b k s v = s v
   slotted_small (x ∷ xs) b k s v = slotted_small xs (changed b k (a x)) (suc k) (changed_small N b k (a x) (small x) s) v
 
-  slotted_solves : (ys : List ℕ) (b : Assignment) (k : ℕ) → AllOf Slotted ys → Solves (slotted b k ys) (slot_equations look k ys)
+  slotted_solves : (ys : List ℕ) (b : Assignment) (k : ℕ) → Each Slotted ys → Solves (slotted b k ys) (slot_equations look k ys)
   unfolding slotted
   slotted_solves [] b k q = tt
   slotted_solves (x ∷ xs) b k q =
       let c = slotted (changed b k (a x)) (suc k) xs in
       (ap pos (slotted_below xs (changed b k (a x)) (suc k) k (omega arith) ∙ changed_here b k (a x)) ∙ sym (ap (worth c) q.0.0), slotted_solves xs (changed b k (a x)) (suc k) q.1)
 
-  solves_agree : (ys : List ℕ) (k : ℕ) (b c : Assignment) → AllOf Slotted ys → ((v : ℕ) → v < k → b v ≡ c v) → Solves b (slot_equations look k ys) → Solves c (slot_equations look k ys) → (v : ℕ) → v < k + length ys → b v ≡ c v
+  solves_agree : (ys : List ℕ) (k : ℕ) (b c : Assignment) → Each Slotted ys → ((v : ℕ) → v < k → b v ≡ c v) → Solves b (slot_equations look k ys) → Solves c (slot_equations look k ys) → (v : ℕ) → v < k + length ys → b v ≡ c v
   solves_agree [] k b c q s h g v l = s v (omega arith)
   solves_agree (x ∷ xs) k b c q s h g v l =
       solves_agree xs (suc k) b c q.1
@@ -141,13 +91,13 @@ module _ (M N n : ℕ) (look : ℕ → Term) (a : Assignment) (sees : SeesNumber
         less w n k l = grind (arith, eq-eqb)
 
   -- the set of what is posted
-  posted_set : (b : Assignment) (ys : List ℕ) (k : ℕ) (r : Range) (q : ℕ → ℤ) → RangeBelow n r → params r ≡ [] → AllOf Slotted ys → Solves b (slot_equations look k ys) → ((v : ℕ) → v < n → b v ≡ a v)
+  posted_set : (b : Assignment) (ys : List ℕ) (k : ℕ) (r : Range) (q : ℕ → ℤ) → RangeBelow n r → params r ≡ [] → Each Slotted ys → Solves b (slot_equations look k ys) → ((v : ℕ) → v < n → b v ≡ a v)
       → set_of M (singles b) (rename_range (slot k ys) (fill_range q r)) ≡ set_of M (singles a) r
   posted_set b ys k r q l e s h same =
-      ap (λ w. set_of M (singles b) (rename_range (slot k ys) w)) (filled_same q r e)
-      ∙ set_same M (slot k ys) (singles b) (singles a) r (λ v i. ap (λ w. w ∷ []) (slot_value b ys k v s h (same v (reads_below n v r l i))))
+      ap (λ w. set_of M (singles b) (rename_range (slot k ys) w)) (filled_as_is q r e)
+      ∙ set_same M (slot k ys) (singles b) (singles a) r (λ v i. ap (λ w. w ∷ []) (slot_value b ys k v s h (same v (reads_placed (λ x. x < n) r l v i))))
 
-  slot_other : (ys : List ℕ) (k : ℕ) → AllOf Slotted ys → slot k ys n ≡ n
+  slot_other : (ys : List ℕ) (k : ℕ) → Each Slotted ys → slot k ys n ≡ n
   slot_other [] k q = refl
   slot_other (x ∷ xs) k q = by_test (x == n) (eqb-true x n) (slot_other xs (suc k) q.1) where
     by_test : (c : Bool) → (c ≡ true → x ≡ n) → slot (suc k) xs n ≡ n → cond c k (slot (suc k) xs n) ≡ n

@@ -22,7 +22,6 @@ use Rattle.fd_model.specs.ProgramLaws.{ScopedProgram}
 use Rattle.fd_language.specs.Lists.{Each}
 use Rattle.fd_language.proofs.Monotone.{in_left, in_right}
 use Rattle.fd_model.proofs.Lists.{each_both}
-use Rattle.fd_model.proofs.Scoping.{places_both}
 use Rattle.fd_language.proofs.SentenceVariables.{each_below}
 
 either : {A : Type 0} (P : A → Type 0) (b : Bool) (x y : A) → P x → P y → P (cond b x y)
@@ -61,7 +60,7 @@ module _ (n : ℕ) where
   Operator (Some make) = (a b : Expr) → Scoped a → Scoped b → Scoped (make a b)
 
   both_scoped : (a b : Expr) → Scoped a → Scoped b → PlacesBelow n (expr_places a ++ expr_places b)
-  both_scoped a b h g = places_both n (expr_places a) (expr_places b) h g
+  both_scoped a b h g = each_both (λ p. p.variable < n) (expr_places a) (expr_places b) h g
 
   feature_is : (f : Name) → Feature (expr_feature f)
   feature_is f =
@@ -103,10 +102,10 @@ module _ (n : ℕ) where
   IsForm no_form = Unit {0}
 
   ranges_scoped : (r q : Range) → RangeBelow n r → RangeBelow n q → PlacesBelow n (range_places r ++ range_places q)
-  ranges_scoped r q h g = places_both n (range_places r) (range_places q) h g
+  ranges_scoped r q h g = each_both (λ p. p.variable < n) (range_places r) (range_places q) h g
 
   point_scoped : (r : Range) (c : Expr) → RangeBelow n r → Scoped c → PlacesBelow n (range_places r ++ expr_places c)
-  point_scoped r c h g = places_both n (range_places r) (expr_places c) h g
+  point_scoped r c h g = each_both (λ p. p.variable < n) (range_places r) (expr_places c) h g
 
   form_is : (f : Name) → IsForm (range_form f)
   form_is f =

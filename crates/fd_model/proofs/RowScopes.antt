@@ -6,6 +6,8 @@ use Rattle.std.proofs.lemmas.Bool.{or_cases, or_left, true≢false}
 use Rattle.fd_model.specs.declared.kinds.Relation.{Relation}
 use Rattle.fd_model.specs.declared.kinds.ConstraintKind.{ConstraintKind}
 use Rattle.fd_model.specs.declared.kinds.ConstraintKind.TheVariants.{Compare, AllDifferent, Element, Atmost}
+use Rattle.fd_language.specs.Lists.{Each}
+use Rattle.fd_language.proofs.Lists.{each_map}
 use Rattle.fd_language.specs.Family.{has}
 use Rattle.fd_language.specs.Variables.{variables_of}
 use Rattle.fd_language.specs.Term.{Term, Terms, Var, Int, Atom, Comp, no_terms, term}
@@ -24,15 +26,11 @@ use Rattle.fd_model.proofs.Counters.{atmost_ok}
 use Rattle.fd_model.proofs.Placing.{fresh_grows}
 use Rattle.fd_model.proofs.Determining.{NamesIn, AllNamed}
 use Rattle.fd_model.proofs.RowNames.{EachVariable, AllVars, rows_names, collect_vars, normal_vars}
-use Rattle.fd_model.proofs.ListNames.{AllOf, names_append, named_left, different_names, named_different, element_names, named_element, AllAdded, counts_names, named_counts, units_vars, equated_named}
+use Rattle.fd_model.proofs.ListNames.{names_append, named_left, different_names, named_different, element_names, named_element, AllAdded, counts_names, named_counts, units_vars, equated_named}
 
 all_vars : (Q P : ℕ → Type 0) → ((v : ℕ) → Q v → P v) → (ts : List (ℕ × ℤ)) → AllVars Q ts → AllVars P ts
 all_vars Q P f [] h = tt
 all_vars Q P f (t ∷ ts) h = (f t.0 h.0, all_vars Q P f ts h.1)
-
-pub all_of : (Q P : ℕ → Type 0) → ((v : ℕ) → Q v → P v) → (xs : List ℕ) → AllOf Q xs → AllOf P xs
-all_of Q P f [] h = tt
-all_of Q P f (x ∷ xs) h = (f x h.0, all_of Q P f xs h.1)
 
 module _ (Q : ℕ → Type 0) where
   none_scoped : (c : Bool) (n : ℕ) → let x : Expansion = cond c (record { equated = []; ranges = []; fresh = n }) (record { equated = []; ranges = record { target = n; range = no_number } ∷ []; fresh = suc n }) in
@@ -71,7 +69,7 @@ module _ (Q : ℕ → Type 0) where
       (λ c e. absurd (cc))
   members_in (Comp f (term x (term t (term u us)))) ms q h = absurd (cc)
 
-  placed_scoped : (n : ℕ) (ms : List Member) (k : ℕ) → n ≤ k → MembersIn ms → AllOf (λ v. Q v ⊎ ((n ≤ v) × (v < fresh_after k ms))) (placed k ms)
+  placed_scoped : (n : ℕ) (ms : List Member) (k : ℕ) → n ≤ k → MembersIn ms → Each (λ v. Q v ⊎ ((n ≤ v) × (v < fresh_after k ms))) (placed k ms)
   placed_scoped n [] k l h = tt
   placed_scoped n (Open x ∷ ms) k l h = (inl h.0, placed_scoped n ms k l h.1)
   placed_scoped n (Known z ∷ ms) k l h = (inr (l, let g = fresh_grows ms (suc k) in omega arith), placed_scoped n ms (suc k) (omega arith) h)
@@ -157,7 +155,7 @@ atmost_scoped m l v n x h =
     let R : ℕ → Type 0 = λ w. Q w ⊎ ((n ≤ w) × (w < j)) in
     let low = fresh_grows ms n in
     let p = placed_scoped Q n ms n (omega arith) (members_in Q l ms (λ w i. in_right (variables_of m) (variables_of l ++ (variables_of v ++ [])) w (in_left (variables_of l) (variables_of v ++ []) w i)) g.from_list) in
-    let wide : AllOf R xs = all_of (λ w. Q w ⊎ ((n ≤ w) × (w < k))) R (wider Q n k j (omega arith)) xs p in
+    let wide : Each R xs = each_map (λ w. Q w ⊎ ((n ≤ w) × (w < k))) R (wider Q n k j (omega arith)) xs p in
     let added = added_scoped Q n j xs k low (omega arith) in
     let s = form_scoped R IsAtMost (units xs k) g.limit j (units_vars R xs k added) in
     let P : ℕ → Type 0 = λ w. Q w ⊎ ((n ≤ w) × (w < top)) in

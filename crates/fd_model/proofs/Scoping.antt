@@ -4,11 +4,9 @@ use Rattle.std.proofs.lemmas.Bool.{cases_Bool}
 use Rattle.fd_language.specs.Term.{Term, Terms, Var, Int, Atom, Comp, Substitution, apply, apply_all, no_terms, term}
 use Rattle.fd_language.specs.Unifier.{Equation, IsMostGeneral, Unifies}
 use Rattle.fd_language.specs.Family.{Family}
-use Rattle.fd_language.specs.Range.{Range, Span, One, Dom, Union, Inter, Outside, Plus, Minus, Times, Over, Expr, Number, Infinity, Param, Min, Max, Val, Add, Sub, Mul, DivDown, DivUp}
 use Rattle.fd_model.specs.Closed.{constrained}
-use Rattle.fd_language.specs.RangeRenaming.{rename_expr, rename_range}
 use Rattle.fd_model.specs.Renaming.{rename_term, rename_goal, rename_goals}
-use Rattle.fd_language.specs.Places.{Place, expr_places, range_places}
+use Rattle.fd_language.specs.Places.{Place, range_places}
 use Rattle.fd_model.specs.Goal.{Goal, Goals, no_goals, goal, listed, True, Fail, Unify, Post, Constrain, Label, Call, Either, Builtin, Branch}
 use Rattle.fd_language.specs.Variables.{TermBelow, TermsBelow}
 use Rattle.fd_model.specs.Sound.{PlacesBelow, GoalBelow, GoalsBelow, EachBelow}
@@ -18,7 +16,7 @@ use Rattle.fd_model.proofs.GoalRows.{EquationsBelow}
 use Rattle.fd_model.proofs.Lists.{each_map}
 use Rattle.fd_language.proofs.Substituting.{after, after_is}
 use Rattle.fd_model.proofs.Seeing.{wider}
-use Rattle.fd_model.proofs.PostingRanges.{below_left, below_right}
+use Rattle.fd_language.proofs.RangePlaces.{renamed_places}
 
 -- terms under substitutions
 module _ (k m : ℕ) (f : Substitution) (h : (x : ℕ) → x < k → TermBelow m (f x)) where
@@ -104,13 +102,8 @@ look_below n b s D g e x h = below_under n n (λ y. by_set (set_at s D (constrai
 pub equations_wider : (n m : ℕ) → n ≤ m → (es : List Equation) → EquationsBelow n es → EquationsBelow m es
 equations_wider n m l es h = each_map (λ e. TermBelow n e.left × TermBelow n e.right) (λ e. TermBelow m e.left × TermBelow m e.right) (λ e k. (wider n m l e.left k.0, wider n m l e.right k.1)) es h
 
-pub places_both : (n : ℕ) (ps qs : List Place) → PlacesBelow n ps → PlacesBelow n qs → PlacesBelow n (ps ++ qs)
-places_both n [] qs h g = g
-places_both n (p ∷ ps) qs h g = (h.0, places_both n ps qs h.1 g)
-
 pub places_wider : (n m : ℕ) → n ≤ m → (ps : List Place) → PlacesBelow n ps → PlacesBelow m ps
-places_wider n m l [] h = tt
-places_wider n m l (p ∷ ps) h = ((let i = h.0 in omega arith), places_wider n m l ps h.1)
+places_wider n m l ps h = each_map (λ p. p.variable < n) (λ p. p.variable < m) (λ p i. omega arith) ps h
 
 mutual
   goal_wider : (n m : ℕ) → n ≤ m → (g : Goal) → GoalBelow n g → GoalBelow m g
@@ -145,40 +138,12 @@ module _ (k m : ℕ) (f : ℕ → ℕ) (h : (x : ℕ) → x < k → f x < m) whe
   pub term_renamed : (t : Term) → TermBelow k t → TermBelow m (rename_term f t)
   term_renamed t b = below_under k m (λ x. Var (f x)) h t b
 
-  two_renamed : (ps qs rs ts : List Place) → (PlacesBelow k ps → PlacesBelow m rs) → (PlacesBelow k qs → PlacesBelow m ts) → PlacesBelow k (ps ++ qs) → PlacesBelow m (rs ++ ts)
-  two_renamed ps qs rs ts i j b = places_both m rs ts (i (below_left k ps qs b)) (j (below_right k ps qs b))
-
-  expr_renamed : (e : Expr) → PlacesBelow k (expr_places e) → PlacesBelow m (expr_places (rename_expr f e))
-  expr_renamed (Number z) b = tt
-  expr_renamed Infinity b = tt
-  expr_renamed (Param x) b = (h x b.0, tt)
-  expr_renamed (Min y) b = (h y b.0, tt)
-  expr_renamed (Max y) b = (h y b.0, tt)
-  expr_renamed (Val y) b = (h y b.0, tt)
-  expr_renamed (Add a c) b = two_renamed (expr_places a) (expr_places c) _ _ (expr_renamed a) (expr_renamed c) b
-  expr_renamed (Sub a c) b = two_renamed (expr_places a) (expr_places c) _ _ (expr_renamed a) (expr_renamed c) b
-  expr_renamed (Mul a c) b = two_renamed (expr_places a) (expr_places c) _ _ (expr_renamed a) (expr_renamed c) b
-  expr_renamed (DivDown a c) b = two_renamed (expr_places a) (expr_places c) _ _ (expr_renamed a) (expr_renamed c) b
-  expr_renamed (DivUp a c) b = two_renamed (expr_places a) (expr_places c) _ _ (expr_renamed a) (expr_renamed c) b
-
-  range_renamed : (r : Range) → PlacesBelow k (range_places r) → PlacesBelow m (range_places (rename_range f r))
-  range_renamed (Span a c) b = two_renamed (expr_places a) (expr_places c) _ _ (expr_renamed a) (expr_renamed c) b
-  range_renamed (One t) b = expr_renamed t b
-  range_renamed (Dom y) b = (h y b.0, tt)
-  range_renamed (Union r q) b = two_renamed (range_places r) (range_places q) _ _ (range_renamed r) (range_renamed q) b
-  range_renamed (Inter r q) b = two_renamed (range_places r) (range_places q) _ _ (range_renamed r) (range_renamed q) b
-  range_renamed (Outside r) b = range_renamed r b
-  range_renamed (Plus r c) b = two_renamed (range_places r) (expr_places c) _ _ (range_renamed r) (expr_renamed c) b
-  range_renamed (Minus r c) b = two_renamed (range_places r) (expr_places c) _ _ (range_renamed r) (expr_renamed c) b
-  range_renamed (Times r c) b = two_renamed (range_places r) (expr_places c) _ _ (range_renamed r) (expr_renamed c) b
-  range_renamed (Over r c) b = two_renamed (range_places r) (expr_places c) _ _ (range_renamed r) (expr_renamed c) b
-
   mutual
     goal_renamed : (g : Goal) → GoalBelow k g → GoalBelow m (rename_goal f g)
     goal_renamed True b = tt
     goal_renamed Fail b = tt
     goal_renamed (Unify s t) b = (term_renamed s b.0, term_renamed t b.1)
-    goal_renamed (Post t r) b = (term_renamed t b.0, range_renamed r b.1)
+    goal_renamed (Post t r) b = (term_renamed t b.0, renamed_places (λ x. x < k) (λ x. x < m) f h r b.1)
     goal_renamed (Constrain c t) b = term_renamed t b
     goal_renamed (Label o t) b = term_renamed t b
     goal_renamed (Call t) b = term_renamed t b

@@ -4,8 +4,7 @@ use Rattle.std.proofs.lemmas.Bool.{or_cases, or_left, or_right, cases_Bool, true
 use Rattle.fd_language.specs.Term.{Int, Substitution, apply}
 use Rattle.fd_language.specs.Unifier.{Unifies}
 use Rattle.fd_language.specs.Family.{has}
-use Rattle.fd_language.specs.Range.{Range, Span, One, Dom, Union, Inter, Outside, Plus, Minus, Times, Over, Expr, Number, Infinity, Param, Min, Max, Val, Add, Sub, Mul, DivDown, DivUp, reads, expr_reads}
-use Rattle.fd_language.specs.Places.{Place, expr_places, range_places}
+use Rattle.fd_language.specs.Places.{Place}
 use Rattle.fd_model.specs.Posting.{is_integer, integers_at, slot, slot_equations}
 use Rattle.fd_language.proofs.Sets.{has_either}
 use Rattle.fd_language.proofs.Monotone.{in_left, in_right}
@@ -13,38 +12,9 @@ use Rattle.fd_model.specs.Satisfies.{Assignment}
 use Rattle.fd_language.specs.Lists.{Each}
 use Rattle.fd_model.specs.Answers.{Somewhere}
 use Rattle.fd_model.proofs.GoalRows.{numbers, Gives}
-use Rattle.fd_model.proofs.Lists.{each_map, each_before, each_after}
+use Rattle.fd_model.proofs.Lists.{each_map}
 use Rattle.fd_model.proofs.Heeding.{first_member, only_member}
 use Rattle.fd_model.proofs.FlatPosting.{Free, variables}
-
-variables_both : (ps qs : List Place) (xs ys : List ℕ) → variables ps ≡ xs → variables qs ≡ ys → variables (ps ++ qs) ≡ xs ++ ys
-variables_both [] qs xs ys e f = f ∙ ap (λ l. l ++ ys) e
-variables_both (p ∷ ps) qs xs ys e f = ap (λ l. p.variable ∷ l) (variables_both ps qs (variables ps) ys refl f) ∙ ap (λ l. l ++ ys) e
-
-expr_variables : (e : Expr) → Free (expr_places e) → variables (expr_places e) ≡ expr_reads e
-expr_variables (Number z) h = refl
-expr_variables Infinity h = refl
-expr_variables (Param x) h = absurd (true≢false h.0)
-expr_variables (Min y) h = refl
-expr_variables (Max y) h = refl
-expr_variables (Val y) h = refl
-expr_variables (Add a b) h = variables_both (expr_places a) (expr_places b) _ _ (expr_variables a (each_before _ (expr_places a) (expr_places b) h)) (expr_variables b (each_after _ (expr_places a) (expr_places b) h))
-expr_variables (Sub a b) h = variables_both (expr_places a) (expr_places b) _ _ (expr_variables a (each_before _ (expr_places a) (expr_places b) h)) (expr_variables b (each_after _ (expr_places a) (expr_places b) h))
-expr_variables (Mul a b) h = variables_both (expr_places a) (expr_places b) _ _ (expr_variables a (each_before _ (expr_places a) (expr_places b) h)) (expr_variables b (each_after _ (expr_places a) (expr_places b) h))
-expr_variables (DivDown a b) h = variables_both (expr_places a) (expr_places b) _ _ (expr_variables a (each_before _ (expr_places a) (expr_places b) h)) (expr_variables b (each_after _ (expr_places a) (expr_places b) h))
-expr_variables (DivUp a b) h = variables_both (expr_places a) (expr_places b) _ _ (expr_variables a (each_before _ (expr_places a) (expr_places b) h)) (expr_variables b (each_after _ (expr_places a) (expr_places b) h))
-
-pub range_variables : (r : Range) → Free (range_places r) → variables (range_places r) ≡ reads r
-range_variables (Span a b) h = variables_both (expr_places a) (expr_places b) _ _ (expr_variables a (each_before _ (expr_places a) (expr_places b) h)) (expr_variables b (each_after _ (expr_places a) (expr_places b) h))
-range_variables (One t) h = expr_variables t h
-range_variables (Dom y) h = refl
-range_variables (Union r q) h = variables_both (range_places r) (range_places q) _ _ (range_variables r (each_before _ (range_places r) (range_places q) h)) (range_variables q (each_after _ (range_places r) (range_places q) h))
-range_variables (Inter r q) h = variables_both (range_places r) (range_places q) _ _ (range_variables r (each_before _ (range_places r) (range_places q) h)) (range_variables q (each_after _ (range_places r) (range_places q) h))
-range_variables (Outside r) h = range_variables r h
-range_variables (Plus r c) h = variables_both (range_places r) (expr_places c) _ _ (range_variables r (each_before _ (range_places r) (expr_places c) h)) (expr_variables c (each_after _ (range_places r) (expr_places c) h))
-range_variables (Minus r c) h = variables_both (range_places r) (expr_places c) _ _ (range_variables r (each_before _ (range_places r) (expr_places c) h)) (expr_variables c (each_after _ (range_places r) (expr_places c) h))
-range_variables (Times r c) h = variables_both (range_places r) (expr_places c) _ _ (range_variables r (each_before _ (range_places r) (expr_places c) h)) (expr_variables c (each_after _ (range_places r) (expr_places c) h))
-range_variables (Over r c) h = variables_both (range_places r) (expr_places c) _ _ (range_variables r (each_before _ (range_places r) (expr_places c) h)) (expr_variables c (each_after _ (range_places r) (expr_places c) h))
 
 -- each once
 abbrev pub Apart : List ℕ → Type 0

@@ -1,5 +1,5 @@
 -- What a way keeps: variables below the next fresh number, and added variables that follow the others.
-use Rattle.std.proofs.Common.{◌≡◌, ℕ, suc, ◌+◌, ◌<◌, ◌≤◌, Bool, true, false, not, cond, ◌||◌, ◌==◌, ℤ, List, [], ◌∷◌, ◌++◌, map, length, Option, Some, None, refl, sym, subst, inl, inr, arith, eqb-true, eq-eqb, Result, Ok, Err}
+use Rattle.std.proofs.Common.{◌≡◌, ℕ, suc, ◌+◌, ◌<◌, ◌≤◌, Bool, true, false, not, cond, ◌||◌, ◌==◌, List, [], ◌∷◌, ◌++◌, map, length, Option, Some, None, refl, sym, subst, inl, inr, arith, eqb-true, eq-eqb, Result, Ok, Err}
 use Rattle.std.proofs.lemmas.Bool.{or_cases, or_left, or_right, cases_Bool, true≢false}
 use Rattle.std.specs.Str.{bytes_eq}
 use Rattle.std.specs.Prelude.{codes}
@@ -11,9 +11,9 @@ use Rattle.fd_model.specs.declared.kinds.BuiltinKind.TheVariants.{Write, Nl}
 use Rattle.fd_language.specs.Term.{Term, Terms, Var, Int, Atom, Comp, Substitution, apply, no_terms, term}
 use Rattle.fd_language.specs.Unifier.{Equation}
 use Rattle.fd_language.specs.Family.{has}
-use Rattle.fd_language.specs.Range.{Range, Span, One, Dom, Union, Inter, Outside, Plus, Minus, Times, Over, Expr, Number, Infinity, Param, Min, Max, Val, Add, Sub, Mul, DivDown, DivUp, Indexical, reads, expr_reads}
+use Rattle.fd_language.specs.Range.{Range, Indexical, read_at, reads}
 use Rattle.fd_model.specs.Closed.{constrained}
-use Rattle.fd_language.specs.Check.{fill, fill_range}
+use Rattle.fd_language.specs.Check.{fill_range}
 use Rattle.fd_language.specs.Needs.{need_of}
 use Rattle.fd_language.specs.RangeRenaming.{rename_range}
 use Rattle.fd_model.specs.Renaming.{rename_term, rename_goal}
@@ -25,7 +25,6 @@ use Rattle.fd_model.specs.Sound.{PlacesBelow, GoalBelow, EachBelow, ClausesScope
 use Rattle.fd_model.specs.Seen.{IsConsistent}
 use Rattle.fd_model.specs.Children.{Offer, Faults, Gives, Awaited, with_goals, with_equations, fits_head, paired, argument_equations, by_clause, by_clauses, by_post, by_constraint, by_builtin, Kept, KeptOffer, look_in, offer, is_number, by_value, by_pick, by_listing, sets_in}
 use Rattle.fd_language.proofs.Sets.{has_either}
-use Rattle.fd_language.proofs.RangeRenaming.{two}
 use Rattle.fd_model.specs.Labelling.{read_list, values_by, first_open, pick, open_ones}
 use Rattle.fd_model.specs.Members.{Member, Open, Known}
 use Rattle.fd_model.proofs.GoalRows.{Rewritten, with_ranges, rewritten, EquationsBelow, IsFollowing}
@@ -46,34 +45,8 @@ use Rattle.fd_model.proofs.ExactRows.{following}
 use Rattle.fd_model.specs.LinearRows.{Expansion}
 use Rattle.fd_model.specs.Constraining.{constrain, arguments}
 use Rattle.fd_model.proofs.Scoping.{below_under, look_below, equations_wider, each_wider, each_both_below, listed_below, places_wider, term_renamed, body_renamed}
-use Rattle.fd_model.proofs.PostingRanges.{reads_below}
-
--- a filled range reads the same variables
-module _ (f : ℕ → ℤ) where
-  expr_filled : (e : Expr) → expr_reads (fill f e) ≡ expr_reads e
-  expr_filled (Number z) = refl
-  expr_filled Infinity = refl
-  expr_filled (Param x) = refl
-  expr_filled (Min y) = refl
-  expr_filled (Max y) = refl
-  expr_filled (Val y) = refl
-  expr_filled (Add a b) = two (λ x y. x ++ y) (expr_filled a) (expr_filled b)
-  expr_filled (Sub a b) = two (λ x y. x ++ y) (expr_filled a) (expr_filled b)
-  expr_filled (Mul a b) = two (λ x y. x ++ y) (expr_filled a) (expr_filled b)
-  expr_filled (DivDown a b) = two (λ x y. x ++ y) (expr_filled a) (expr_filled b)
-  expr_filled (DivUp a b) = two (λ x y. x ++ y) (expr_filled a) (expr_filled b)
-
-  reads_filled : (r : Range) → reads (fill_range f r) ≡ reads r
-  reads_filled (Span a b) = two (λ x y. x ++ y) (expr_filled a) (expr_filled b)
-  reads_filled (One t) = expr_filled t
-  reads_filled (Dom y) = refl
-  reads_filled (Union r q) = two (λ x y. x ++ y) (reads_filled r) (reads_filled q)
-  reads_filled (Inter r q) = two (λ x y. x ++ y) (reads_filled r) (reads_filled q)
-  reads_filled (Outside r) = reads_filled r
-  reads_filled (Plus r c) = two (λ x y. x ++ y) (reads_filled r) (expr_filled c)
-  reads_filled (Minus r c) = two (λ x y. x ++ y) (reads_filled r) (expr_filled c)
-  reads_filled (Times r c) = two (λ x y. x ++ y) (reads_filled r) (expr_filled c)
-  reads_filled (Over r c) = two (λ x y. x ++ y) (reads_filled r) (expr_filled c)
+use Rattle.fd_language.proofs.Leaves.{filled_leaves}
+use Rattle.fd_language.proofs.RangePlaces.{reads_placed}
 
 abbrev Low : ℕ → List ℕ → Type 0
 Low n xs = (x : ℕ) → has xs x ≡ true → x < n
@@ -126,7 +99,7 @@ module _ (look : Substitution) where
       let same_p : renamed q n x ys ≡ p = cc in
       let same_m : n + length ys ≡ m = cc in
       let same_e : es ++ slot_equations look n ys ≡ ds = cc in
-      let small : Low n (x ∷ reads q) = λ y h. elim (or_cases (x == y) (has (reads q) y) h) [ inl k ↦ subst (λ z. z < n) (eqb-true x y k) lx | inr k ↦ reads_below n y r br (subst (λ s. has s y ≡ true) (reads_filled (λ z. integer_of (look z)) r) k) ] in
+      let small : Low n (x ∷ reads q) = λ y h. elim (or_cases (x == y) (has (reads q) y) h) [ inl k ↦ subst (λ z. z < n) (eqb-true x y k) lx | inr k ↦ reads_placed (λ z. z < n) r br y (subst (λ s. has s y ≡ true) (filled_leaves read_at (λ z. refl) (λ z. integer_of (look z)) r) k) ] in
       let high : (y : ℕ) → y < n → slot n ys y < n + length ys = λ y h. elim (cases_Bool (has ys y)) [ inl k ↦ slot_high n ys y k | inr k ↦ subst (λ z. z < n + length ys) (sym (slot_out n ys y k)) (omega arith) ] in
       subst (λ k. IsBelow l k p ds) same_m (subst (λ d. IsBelow l (n + length ys) p d) same_e (subst (λ k. IsBelow l (n + length ys) k (es ++ slot_equations look n ys)) same_p (record {
         fresh = omega arith;

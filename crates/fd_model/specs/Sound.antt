@@ -2,6 +2,7 @@
 use Rattle.std.specs.Prelude.{ℕ, ◌<◌, true, IsTrue, List, [], ◌∷◌}
 use Rattle.fd_model.specs.declared.kinds.BuiltinKind.{BuiltinKind}
 use Rattle.fd_model.specs.declared.kinds.BuiltinKind.TheVariants.{Write, Nl}
+use Rattle.fd_language.specs.Lists.{Each}
 use Rattle.fd_language.specs.Range.{Range}
 use Rattle.fd_language.specs.Check.{range_fits}
 use Rattle.fd_language.specs.Places.{Place, range_places}
@@ -49,8 +50,7 @@ pub record IsRunnableProgram (M : ℕ) (prog : Program) : Type 0 where
 
 -- the variables of a range or a goal are below n
 abbrev pub PlacesBelow : ℕ → List Place → Type 0
-PlacesBelow n [] = Unit {0}
-PlacesBelow n (p ∷ ps) = (p.variable < n) × PlacesBelow n ps
+PlacesBelow n ps = Each (λ p. p.variable < n) ps
 
 abbrev pub RangeBelow : ℕ → Range → Type 0
 RangeBelow n r = PlacesBelow n (range_places r)
