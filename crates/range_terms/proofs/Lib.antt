@@ -4,4 +4,3 @@ mod Positions
 mod Walks
 mod Steps
 mod Whole
-mod Reading

@@ -5,34 +5,8 @@ use Rattle.fd_language.specs.declared.range_node.RangeNode.{RangeNode}
 use Rattle.fd_language.specs.declared.range_node.RangeNode.TheVariants as node
 use Rattle.fd_language.specs.Range.{Range, Span, One, Dom, Union, Inter, Outside, Plus, Minus, Times, Over, Expr, Number, Infinity, Param, Min, Max, Val, Add, Sub, Mul, DivDown, DivUp}
 use Rattle.fd_language.specs.Flat.{expr_nodes, range_nodes, nodes_of}
+use Rattle.fd_language.proofs.Leaves.{expr_append, range_append}
 use Rattle.range_terms.specs.Wanted.{Wanted, nothing, one_node, joined}
-
--- what follows the nodes of a term may follow later
-pub expr_append : (e : Expr) (xs ys : List RangeNode) → expr_nodes e (xs ++ ys) ≡ expr_nodes e xs ++ ys
-expr_append (Number z) xs ys = refl
-expr_append Infinity xs ys = refl
-expr_append (Param x) xs ys = refl
-expr_append (Min y) xs ys = refl
-expr_append (Max y) xs ys = refl
-expr_append (Val y) xs ys = refl
-expr_append (Add a b) xs ys = ap (expr_nodes a) (expr_append b (node.Add ∷ xs) ys) ∙ expr_append a (expr_nodes b (node.Add ∷ xs)) ys
-expr_append (Sub a b) xs ys = ap (expr_nodes a) (expr_append b (node.Sub ∷ xs) ys) ∙ expr_append a (expr_nodes b (node.Sub ∷ xs)) ys
-expr_append (Mul a b) xs ys = ap (expr_nodes a) (expr_append b (node.Mul ∷ xs) ys) ∙ expr_append a (expr_nodes b (node.Mul ∷ xs)) ys
-expr_append (DivDown a b) xs ys = ap (expr_nodes a) (expr_append b (node.DivDown ∷ xs) ys) ∙ expr_append a (expr_nodes b (node.DivDown ∷ xs)) ys
-expr_append (DivUp a b) xs ys = ap (expr_nodes a) (expr_append b (node.DivUp ∷ xs) ys) ∙ expr_append a (expr_nodes b (node.DivUp ∷ xs)) ys
-
--- and of a range
-pub range_append : (r : Range) (xs ys : List RangeNode) → range_nodes r (xs ++ ys) ≡ range_nodes r xs ++ ys
-range_append (Span a b) xs ys = ap (expr_nodes a) (expr_append b (node.Span ∷ xs) ys) ∙ expr_append a (expr_nodes b (node.Span ∷ xs)) ys
-range_append (One t) xs ys = expr_append t (node.One ∷ xs) ys
-range_append (Dom y) xs ys = refl
-range_append (Union r q) xs ys = ap (range_nodes r) (range_append q (node.Union ∷ xs) ys) ∙ range_append r (range_nodes q (node.Union ∷ xs)) ys
-range_append (Inter r q) xs ys = ap (range_nodes r) (range_append q (node.Inter ∷ xs) ys) ∙ range_append r (range_nodes q (node.Inter ∷ xs)) ys
-range_append (Outside r) xs ys = range_append r (node.Outside ∷ xs) ys
-range_append (Plus r c) xs ys = ap (range_nodes r) (expr_append c (node.Plus ∷ xs) ys) ∙ range_append r (expr_nodes c (node.Plus ∷ xs)) ys
-range_append (Minus r c) xs ys = ap (range_nodes r) (expr_append c (node.Minus ∷ xs) ys) ∙ range_append r (expr_nodes c (node.Minus ∷ xs)) ys
-range_append (Times r c) xs ys = ap (range_nodes r) (expr_append c (node.Times ∷ xs) ys) ∙ range_append r (expr_nodes c (node.Times ∷ xs)) ys
-range_append (Over r c) xs ys = ap (range_nodes r) (expr_append c (node.Over ∷ xs) ys) ∙ range_append r (expr_nodes c (node.Over ∷ xs)) ys
 
 -- a node behind those of two terms, of two ranges, of a range and a term
 pub two_exprs : (a b : Expr) (n : RangeNode) → expr_nodes a (expr_nodes b (n ∷ [])) ≡ (expr_nodes a [] ++ expr_nodes b []) ++ n ∷ []

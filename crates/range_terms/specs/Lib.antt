@@ -3,4 +3,3 @@ pub mod Forms
 pub mod Names
 pub mod Walk
 pub mod Faults
-pub mod Reads

@@ -2,7 +2,6 @@
 #![tactic(auto)]
 
 ghost use Rattle.std.specs.Prelude.{◌≡◌, ◌<◌, length, None, MatchResult, IfOk};
-ghost use Rattle.fd_language.specs.Features.{features_of};
 ghost use Rattle.fd_language.specs.Flat.{nodes_of};
 ghost use Rattle.fd_language.specs.Spelling.{read_range as reading_of, not_a_range};
 ghost use Rattle.term_pool.specs.PlacedTerms.{placed_of};
@@ -10,12 +9,11 @@ ghost use Rattle.range_terms.specs.Faults.{IsFaultOf};
 
 mod forms;
 mod names;
-mod reads;
 mod walk;
 
-use crate::reads::read_features;
 use crate::walk::{Found, read_term};
-use fd_language::{Feature, FlatRange, NoMemory};
+use fd_language::{FlatRange, NoMemory};
+pub use range_features::features;
 use std::alloc::Global;
 use term_pool::{Pool, TermId};
 use thiserror::Error;
@@ -59,14 +57,6 @@ pub fn read_range(alloc: Global, pool: &Pool, t: TermId) -> Result<SourceRange, 
     }
     let range = FlatRange::from_nodes(nodes).unwrap();
     Ok(SourceRange { range, places })
-}
-
-/// The variables that the range reads by `min`, `max`, `val` and `dom`, each with what is read of it. Each pair comes once, in the
-/// order of first occurrence. The error is want of memory.
-pub fn features(alloc: Global, range: &FlatRange) -> Result<Vec<(u64, Feature)>, NoMemory>
-    ensures { IfOk result (λ v. v.items ≡ features_of range.now) }
-{
-    read_features(alloc, range.nodes())
 }
 
 #[cfg(test)]

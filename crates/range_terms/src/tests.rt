@@ -3,7 +3,7 @@
 ghost use Rattle.std.specs.Prelude.{◌<◌, length};
 
 use super::*;
-use fd_language::RangeNode;
+use fd_language::{Feature, RangeNode};
 use monotone_check::{CheckFault, check};
 use std::alloc::AllocError;
 use std::process::Abort;

@@ -1,22 +1,25 @@
-// What the nodes of a range read of its variables.
+//! What a range reads of its variables.
+#![tactic(auto)]
 
-ghost use Rattle.std.specs.Prelude.{◌≡◌, ℕ, [], ◌∷◌, ◌||◌, not, nat_eq, IfOk, OnOk};
+ghost use Rattle.std.specs.Prelude.{◌≡◌, ℕ, ◌||◌, not, nat_eq, IfOk, OnOk};
 ghost use Rattle.std.specs.List.{list_any};
+ghost use Rattle.std.specs.Option.{option_to_list};
 ghost use Rattle.fd_language.specs.declared.range_node.Feature.{Feature as Read};
-ghost use Rattle.fd_language.specs.Features.{is_same_pair, each_once};
-ghost use Rattle.range_terms.specs.Reads.{node_feature, node_features, sees, Meets};
+ghost use Rattle.fd_language.specs.Range.{from_node};
+ghost use Rattle.fd_language.specs.Features.{feature_at, is_same_pair, each_once, node_features as read_by, features_of};
+ghost use Rattle.range_features.specs.Seen.{sees, Meets};
 
-use fd_language::{Feature, NoMemory, RangeNode};
+use fd_language::{Feature, FlatRange, NoMemory, RangeNode};
 use std::alloc::Global;
 use std::collections::HashSet;
 
 /// The variables that were met, by what is read of them.
 #[derive(Drop)]
-pub(crate) struct Seen {
-    pub min: HashSet<u64>,
-    pub max: HashSet<u64>,
-    pub val: HashSet<u64>,
-    pub dom: HashSet<u64>,
+struct Seen {
+    min: HashSet<u64>,
+    max: HashSet<u64>,
+    val: HashSet<u64>,
+    dom: HashSet<u64>,
 }
 
 /// A variable, and whether it is new. Then it is met.
@@ -42,31 +45,16 @@ impl Seen {
     }
 }
 
+/// What a node reads of a variable.
 fn read_of(node: RangeNode) -> Option<(u64, Feature)>
-    ensures { result ≡ node_feature node }
+    ensures { option_to_list result ≡ from_node feature_at node }
 {
     match node {
         RangeNode::Min(variable) => Some((variable, Feature::Min)),
         RangeNode::Max(variable) => Some((variable, Feature::Max)),
         RangeNode::Val(variable) => Some((variable, Feature::Val)),
         RangeNode::Dom(variable) => Some((variable, Feature::Dom)),
-        RangeNode::Int(_)
-        | RangeNode::Infinity
-        | RangeNode::Param(_)
-        | RangeNode::Add
-        | RangeNode::Sub
-        | RangeNode::Mul
-        | RangeNode::DivDown
-        | RangeNode::DivUp
-        | RangeNode::Span
-        | RangeNode::One
-        | RangeNode::Union
-        | RangeNode::Inter
-        | RangeNode::Outside
-        | RangeNode::Plus
-        | RangeNode::Minus
-        | RangeNode::Times
-        | RangeNode::Over => None,
+        _ => None,
     }
 }
 
@@ -82,12 +70,10 @@ fn take(seen: &mut Seen, found: &mut Vec<(u64, Feature)>, node: RangeNode) -> Re
     Ok(())
 }
 
-/// What the nodes read, each pair once in the order of first occurrence.
-pub(crate) fn read_features(
-    alloc: Global,
-    nodes: &[RangeNode],
-) -> Result<Vec<(u64, Feature)>, NoMemory>
-    ensures { IfOk result (λ v. v.items ≡ each_once (node_features nodes.now)) }
+/// The variables that the nodes of a range read by `min`, `max`, `val` and `dom`, each with what is read of it. Each pair comes once, in
+/// the order of first occurrence. The error is want of memory.
+pub fn node_features(alloc: Global, nodes: &[RangeNode]) -> Result<Vec<(u64, Feature)>, NoMemory>
+    ensures { IfOk result (λ v. v.items ≡ each_once (read_by nodes.now)) }
 {
     let mut seen = Seen {
         min: HashSet::new(alloc),
@@ -100,4 +86,11 @@ pub(crate) fn read_features(
         take(&mut seen, &mut found, *node)?;
     }
     Ok(found)
+}
+
+/// The same of a range.
+pub fn features(alloc: Global, range: &FlatRange) -> Result<Vec<(u64, Feature)>, NoMemory>
+    ensures { IfOk result (λ v. v.items ≡ features_of range.now) }
+{
+    node_features(alloc, range.nodes())
 }

@@ -1,24 +1,11 @@
--- What is read of variables, node by node.
-use Rattle.std.specs.Prelude.{◌≡◌, ℕ, Bool, not, nat_eq, List, [], ◌∷◌, ◌++◌, filter, Option, Some, None}
+-- The pairs of a variable and a feature that were met.
+use Rattle.std.specs.Prelude.{◌≡◌, ℕ, Bool, not, nat_eq, List, ◌∷◌, ◌++◌, filter}
 use Rattle.std.specs.List.{list_any}
-use Rattle.std.specs.Option.{option_to_list}
 use Rattle.fd_language.specs.declared.range_node.RangeNode.{RangeNode}
-use Rattle.fd_language.specs.declared.range_node.RangeNode.TheVariants as node
 use Rattle.fd_language.specs.declared.range_node.Feature.{Feature}
 use Rattle.fd_language.specs.declared.range_node.Feature.TheVariants as feature
-use Rattle.fd_language.specs.Features.{each_once}
-use Rattle.range_terms.specs.declared.reads.Seen.{Seen}
-
-abbrev pub node_feature : RangeNode → Option (ℕ × Feature)
-node_feature (node.Min y) = Some (y, feature.Min)
-node_feature (node.Max y) = Some (y, feature.Max)
-node_feature (node.Val y) = Some (y, feature.Val)
-node_feature (node.Dom y) = Some (y, feature.Dom)
-node_feature n = None
-
-abbrev pub node_features : List RangeNode → List (ℕ × Feature)
-node_features [] = []
-node_features (n ∷ ns) = option_to_list (node_feature n) ++ node_features ns
+use Rattle.fd_language.specs.Features.{each_once, node_features}
+use Rattle.range_features.specs.declared.Seen.{Seen}
 
 -- whether the pair was met
 abbrev pub sees : Seen → ℕ × Feature → Bool
