@@ -4,234 +4,70 @@ use Rattle.std.proofs.lemmas.Bool.{true≢false}
 use Rattle.fd_language.specs.declared.range_node.RangeNode.{RangeNode}
 use Rattle.fd_language.specs.declared.range_node.RangeNode.TheVariants as node
 use Rattle.fd_language.specs.Range.{Range, Span, One, Dom, Union, Inter, Outside, Plus, Minus, Times, Over, Expr, Number, Infinity, Param, Min, Max, Val, Add, Sub, Mul, DivDown, DivUp}
-use Rattle.fd_language.specs.Flat.{expr_nodes, range_nodes, nodes_of, built, builds_range, IsSpelled, spelled, spelled-nodes}
+use Rattle.fd_language.specs.Flat.{Shape, term_alone, term_of_terms, range_alone, range_of_term, range_of_terms, range_of_range, range_of_ranges, range_of_both, shape_of, put, going_on, expr_nodes, range_nodes, nodes_of, built, builds_range, IsSpelled, spelled, spelled-nodes}
 use Rattle.std.proofs.lemmas.List.{at_drop_more, drop_all}
-use Rattle.fd_language.specs.Counts.{takes, IsReached}
+use Rattle.fd_language.specs.Counts.{taken, takes, IsReached}
 use Rattle.fd_language.specs.declared.counting.Operands.{Operands}
 
 -- a term is built where there are enough terms
-pub expr_step : (n : RangeNode) (ns : List RangeNode) (rs : List Range) (ts : List Expr) → (takes n).gives_range ≡ false → (takes n).terms ≤ length ts → IsReached (built (n ∷ ns) rs ts) ns (length rs) (length ts - (takes n).terms + 1)
-expr_step (node.Int z) ns rs ts g h = (rs, Number z ∷ ts, refl, omega arith, refl)
-expr_step node.Infinity ns rs ts g h = (rs, Infinity ∷ ts, refl, omega arith, refl)
-expr_step (node.Param x) ns rs ts g h = (rs, Param x ∷ ts, refl, omega arith, refl)
-expr_step (node.Min y) ns rs ts g h = (rs, Min y ∷ ts, refl, omega arith, refl)
-expr_step (node.Max y) ns rs ts g h = (rs, Max y ∷ ts, refl, omega arith, refl)
-expr_step (node.Val y) ns rs ts g h = (rs, Val y ∷ ts, refl, omega arith, refl)
-expr_step node.Add ns rs [] g h = absurd (omega arith)
-expr_step node.Add ns rs (b ∷ []) g h = absurd (omega arith)
-expr_step node.Add ns rs (b ∷ a ∷ ts) g h = (rs, Add a b ∷ ts, refl, omega arith, refl)
-expr_step node.Sub ns rs [] g h = absurd (omega arith)
-expr_step node.Sub ns rs (b ∷ []) g h = absurd (omega arith)
-expr_step node.Sub ns rs (b ∷ a ∷ ts) g h = (rs, Sub a b ∷ ts, refl, omega arith, refl)
-expr_step node.Mul ns rs [] g h = absurd (omega arith)
-expr_step node.Mul ns rs (b ∷ []) g h = absurd (omega arith)
-expr_step node.Mul ns rs (b ∷ a ∷ ts) g h = (rs, Mul a b ∷ ts, refl, omega arith, refl)
-expr_step node.DivDown ns rs [] g h = absurd (omega arith)
-expr_step node.DivDown ns rs (b ∷ []) g h = absurd (omega arith)
-expr_step node.DivDown ns rs (b ∷ a ∷ ts) g h = (rs, DivDown a b ∷ ts, refl, omega arith, refl)
-expr_step node.DivUp ns rs [] g h = absurd (omega arith)
-expr_step node.DivUp ns rs (b ∷ []) g h = absurd (omega arith)
-expr_step node.DivUp ns rs (b ∷ a ∷ ts) g h = (rs, DivUp a b ∷ ts, refl, omega arith, refl)
-expr_step node.Span ns rs ts g h = absurd (true≢false g)
-expr_step node.One ns rs ts g h = absurd (true≢false g)
-expr_step (node.Dom y) ns rs ts g h = absurd (true≢false g)
-expr_step node.Union ns rs ts g h = absurd (true≢false g)
-expr_step node.Inter ns rs ts g h = absurd (true≢false g)
-expr_step node.Outside ns rs ts g h = absurd (true≢false g)
-expr_step node.Plus ns rs ts g h = absurd (true≢false g)
-expr_step node.Minus ns rs ts g h = absurd (true≢false g)
-expr_step node.Times ns rs ts g h = absurd (true≢false g)
-expr_step node.Over ns rs ts g h = absurd (true≢false g)
+term_put : (s : Shape) (ns : List RangeNode) (rs : List Range) (ts : List Expr) → (taken s).gives_range ≡ false → (taken s).terms ≤ length ts → IsReached (going_on (λ us vs. built ns us vs) (put s rs ts)) ns (length rs) (length ts - (taken s).terms + 1)
+term_put (term_alone e) ns rs ts g h = (rs, e ∷ ts, refl, omega arith, refl)
+term_put (term_of_terms make) ns rs [] g h = absurd (omega arith)
+term_put (term_of_terms make) ns rs (b ∷ []) g h = absurd (omega arith)
+term_put (term_of_terms make) ns rs (b ∷ a ∷ ts) g h = (rs, make a b ∷ ts, refl, omega arith, refl)
+term_put s ns rs ts g h = absurd (true≢false g)
 
 -- a range is built where there are just as many terms, and enough ranges
-pub range_step : (n : RangeNode) (ns : List RangeNode) (rs : List Range) (ts : List Expr) → (takes n).gives_range ≡ true → length ts ≡ (takes n).terms → (takes n).ranges ≤ length rs → IsReached (built (n ∷ ns) rs ts) ns (length rs - (takes n).ranges + 1) 0
-range_step (node.Int z) ns rs ts g t h = absurd (true≢false (sym g))
-range_step node.Infinity ns rs ts g t h = absurd (true≢false (sym g))
-range_step (node.Param x) ns rs ts g t h = absurd (true≢false (sym g))
-range_step (node.Min y) ns rs ts g t h = absurd (true≢false (sym g))
-range_step (node.Max y) ns rs ts g t h = absurd (true≢false (sym g))
-range_step (node.Val y) ns rs ts g t h = absurd (true≢false (sym g))
-range_step node.Add ns rs ts g t h = absurd (true≢false (sym g))
-range_step node.Sub ns rs ts g t h = absurd (true≢false (sym g))
-range_step node.Mul ns rs ts g t h = absurd (true≢false (sym g))
-range_step node.DivDown ns rs ts g t h = absurd (true≢false (sym g))
-range_step node.DivUp ns rs ts g t h = absurd (true≢false (sym g))
-range_step node.Span ns rs [] g t h = absurd (omega arith)
-range_step node.Span ns rs (b ∷ []) g t h = absurd (omega arith)
-range_step node.Span ns rs (b ∷ a ∷ []) g t h = (Span a b ∷ rs, [], omega arith, refl, refl)
-range_step node.Span ns rs (b ∷ a ∷ c ∷ ts) g t h = absurd (omega arith)
-range_step node.One ns rs [] g t h = absurd (omega arith)
-range_step node.One ns rs (b ∷ []) g t h = (One b ∷ rs, [], omega arith, refl, refl)
-range_step node.One ns rs (b ∷ c ∷ ts) g t h = absurd (omega arith)
-range_step (node.Dom y) ns rs [] g t h = (Dom y ∷ rs, [], omega arith, refl, refl)
-range_step (node.Dom y) ns rs (c ∷ ts) g t h = absurd (omega arith)
-range_step node.Union ns [] [] g t h = absurd (omega arith)
-range_step node.Union ns (q ∷ []) [] g t h = absurd (omega arith)
-range_step node.Union ns (q ∷ r ∷ rs) [] g t h = (Union r q ∷ rs, [], omega arith, refl, refl)
-range_step node.Union ns rs (c ∷ ts) g t h = absurd (omega arith)
-range_step node.Inter ns [] [] g t h = absurd (omega arith)
-range_step node.Inter ns (q ∷ []) [] g t h = absurd (omega arith)
-range_step node.Inter ns (q ∷ r ∷ rs) [] g t h = (Inter r q ∷ rs, [], omega arith, refl, refl)
-range_step node.Inter ns rs (c ∷ ts) g t h = absurd (omega arith)
-range_step node.Outside ns [] [] g t h = absurd (omega arith)
-range_step node.Outside ns (r ∷ rs) [] g t h = (Outside r ∷ rs, [], omega arith, refl, refl)
-range_step node.Outside ns rs (c ∷ ts) g t h = absurd (omega arith)
-range_step node.Plus ns rs [] g t h = absurd (omega arith)
-range_step node.Plus ns [] (c ∷ []) g t h = absurd (omega arith)
-range_step node.Plus ns (r ∷ rs) (c ∷ []) g t h = (Plus r c ∷ rs, [], omega arith, refl, refl)
-range_step node.Plus ns rs (c ∷ d ∷ ts) g t h = absurd (omega arith)
-range_step node.Minus ns rs [] g t h = absurd (omega arith)
-range_step node.Minus ns [] (c ∷ []) g t h = absurd (omega arith)
-range_step node.Minus ns (r ∷ rs) (c ∷ []) g t h = (Minus r c ∷ rs, [], omega arith, refl, refl)
-range_step node.Minus ns rs (c ∷ d ∷ ts) g t h = absurd (omega arith)
-range_step node.Times ns rs [] g t h = absurd (omega arith)
-range_step node.Times ns [] (c ∷ []) g t h = absurd (omega arith)
-range_step node.Times ns (r ∷ rs) (c ∷ []) g t h = (Times r c ∷ rs, [], omega arith, refl, refl)
-range_step node.Times ns rs (c ∷ d ∷ ts) g t h = absurd (omega arith)
-range_step node.Over ns rs [] g t h = absurd (omega arith)
-range_step node.Over ns [] (c ∷ []) g t h = absurd (omega arith)
-range_step node.Over ns (r ∷ rs) (c ∷ []) g t h = (Over r c ∷ rs, [], omega arith, refl, refl)
-range_step node.Over ns rs (c ∷ d ∷ ts) g t h = absurd (omega arith)
+range_put : (s : Shape) (ns : List RangeNode) (rs : List Range) (ts : List Expr) → (taken s).gives_range ≡ true → length ts ≡ (taken s).terms → (taken s).ranges ≤ length rs
+    → IsReached (going_on (λ us vs. built ns us vs) (put s rs ts)) ns (length rs - (taken s).ranges + 1) 0
+range_put (term_alone e) ns rs ts g t h = absurd (true≢false (sym g))
+range_put (term_of_terms make) ns rs ts g t h = absurd (true≢false (sym g))
+range_put (range_alone r) ns rs [] g t h = (r ∷ rs, [], omega arith, refl, refl)
+range_put (range_of_term make) ns rs (e ∷ []) g t h = (make e ∷ rs, [], omega arith, refl, refl)
+range_put (range_of_terms make) ns rs (b ∷ a ∷ []) g t h = (make a b ∷ rs, [], omega arith, refl, refl)
+range_put (range_of_range make) ns (r ∷ rs) [] g t h = (make r ∷ rs, [], omega arith, refl, refl)
+range_put (range_of_ranges make) ns (q ∷ r ∷ rs) [] g t h = (make r q ∷ rs, [], omega arith, refl, refl)
+range_put (range_of_both make) ns (r ∷ rs) (c ∷ []) g t h = (make r c ∷ rs, [], omega arith, refl, refl)
+range_put s ns rs ts g t h = absurd (omega arith)
 
 -- nothing is built where there are too few terms or ranges,
-pub few_terms : (n : RangeNode) (ns : List RangeNode) (rs : List Range) (ts : List Expr) → length ts < (takes n).terms → built (n ∷ ns) rs ts ≡ None
-few_terms (node.Int z) ns rs ts h = absurd (omega arith)
-few_terms node.Infinity ns rs ts h = absurd (omega arith)
-few_terms (node.Param x) ns rs ts h = absurd (omega arith)
-few_terms (node.Min y) ns rs ts h = absurd (omega arith)
-few_terms (node.Max y) ns rs ts h = absurd (omega arith)
-few_terms (node.Val y) ns rs ts h = absurd (omega arith)
-few_terms node.Add ns rs [] h = refl
-few_terms node.Add ns rs (b ∷ []) h = refl
-few_terms node.Add ns rs (b ∷ a ∷ ts) h = absurd (omega arith)
-few_terms node.Sub ns rs [] h = refl
-few_terms node.Sub ns rs (b ∷ []) h = refl
-few_terms node.Sub ns rs (b ∷ a ∷ ts) h = absurd (omega arith)
-few_terms node.Mul ns rs [] h = refl
-few_terms node.Mul ns rs (b ∷ []) h = refl
-few_terms node.Mul ns rs (b ∷ a ∷ ts) h = absurd (omega arith)
-few_terms node.DivDown ns rs [] h = refl
-few_terms node.DivDown ns rs (b ∷ []) h = refl
-few_terms node.DivDown ns rs (b ∷ a ∷ ts) h = absurd (omega arith)
-few_terms node.DivUp ns rs [] h = refl
-few_terms node.DivUp ns rs (b ∷ []) h = refl
-few_terms node.DivUp ns rs (b ∷ a ∷ ts) h = absurd (omega arith)
-few_terms node.Span ns rs [] h = refl
-few_terms node.Span ns rs (b ∷ []) h = refl
-few_terms node.Span ns rs (b ∷ a ∷ ts) h = absurd (omega arith)
-few_terms node.One ns rs [] h = refl
-few_terms node.One ns rs (b ∷ ts) h = absurd (omega arith)
-few_terms (node.Dom y) ns rs ts h = absurd (omega arith)
-few_terms node.Union ns rs ts h = absurd (omega arith)
-few_terms node.Inter ns rs ts h = absurd (omega arith)
-few_terms node.Outside ns rs ts h = absurd (omega arith)
-few_terms node.Plus ns [] [] h = refl
-few_terms node.Plus ns (r ∷ rs) [] h = refl
-few_terms node.Plus ns rs (b ∷ ts) h = absurd (omega arith)
-few_terms node.Minus ns [] [] h = refl
-few_terms node.Minus ns (r ∷ rs) [] h = refl
-few_terms node.Minus ns rs (b ∷ ts) h = absurd (omega arith)
-few_terms node.Times ns [] [] h = refl
-few_terms node.Times ns (r ∷ rs) [] h = refl
-few_terms node.Times ns rs (b ∷ ts) h = absurd (omega arith)
-few_terms node.Over ns [] [] h = refl
-few_terms node.Over ns (r ∷ rs) [] h = refl
-few_terms node.Over ns rs (b ∷ ts) h = absurd (omega arith)
+few_terms : (s : Shape) (rs : List Range) (ts : List Expr) → length ts < (taken s).terms → put s rs ts ≡ None
+few_terms (term_of_terms make) rs (b ∷ a ∷ ts) h = absurd (omega arith)
+few_terms (range_of_term make) rs (b ∷ ts) h = absurd (omega arith)
+few_terms (range_of_terms make) rs (b ∷ a ∷ ts) h = absurd (omega arith)
+few_terms (range_of_both make) rs (b ∷ ts) h = absurd (omega arith)
+few_terms (term_alone e) rs ts h = absurd (omega arith)
+few_terms (range_alone r) rs ts h = absurd (omega arith)
+few_terms (range_of_range make) rs ts h = absurd (omega arith)
+few_terms (range_of_ranges make) rs ts h = absurd (omega arith)
+few_terms (range_of_both make) [] [] h = refl
+few_terms (range_of_both make) (r ∷ rs) [] h = refl
+few_terms s rs ts h = refl
 
-pub few_ranges : (n : RangeNode) (ns : List RangeNode) (rs : List Range) (ts : List Expr) → length rs < (takes n).ranges → built (n ∷ ns) rs ts ≡ None
-few_ranges (node.Int z) ns rs ts h = absurd (omega arith)
-few_ranges node.Infinity ns rs ts h = absurd (omega arith)
-few_ranges (node.Param x) ns rs ts h = absurd (omega arith)
-few_ranges (node.Min y) ns rs ts h = absurd (omega arith)
-few_ranges (node.Max y) ns rs ts h = absurd (omega arith)
-few_ranges (node.Val y) ns rs ts h = absurd (omega arith)
-few_ranges node.Add ns rs ts h = absurd (omega arith)
-few_ranges node.Sub ns rs ts h = absurd (omega arith)
-few_ranges node.Mul ns rs ts h = absurd (omega arith)
-few_ranges node.DivDown ns rs ts h = absurd (omega arith)
-few_ranges node.DivUp ns rs ts h = absurd (omega arith)
-few_ranges node.Span ns rs ts h = absurd (omega arith)
-few_ranges node.One ns rs ts h = absurd (omega arith)
-few_ranges (node.Dom y) ns rs ts h = absurd (omega arith)
-few_ranges node.Union ns [] [] h = refl
-few_ranges node.Union ns [] (c ∷ ts) h = refl
-few_ranges node.Union ns (q ∷ []) [] h = refl
-few_ranges node.Union ns (q ∷ []) (c ∷ ts) h = refl
-few_ranges node.Union ns (q ∷ r ∷ rs) ts h = absurd (omega arith)
-few_ranges node.Inter ns [] [] h = refl
-few_ranges node.Inter ns [] (c ∷ ts) h = refl
-few_ranges node.Inter ns (q ∷ []) [] h = refl
-few_ranges node.Inter ns (q ∷ []) (c ∷ ts) h = refl
-few_ranges node.Inter ns (q ∷ r ∷ rs) ts h = absurd (omega arith)
-few_ranges node.Outside ns [] [] h = refl
-few_ranges node.Outside ns [] (c ∷ ts) h = refl
-few_ranges node.Outside ns (q ∷ rs) ts h = absurd (omega arith)
-few_ranges node.Plus ns [] [] h = refl
-few_ranges node.Plus ns [] (c ∷ []) h = refl
-few_ranges node.Plus ns [] (c ∷ d ∷ ts) h = refl
-few_ranges node.Plus ns (q ∷ rs) ts h = absurd (omega arith)
-few_ranges node.Minus ns [] [] h = refl
-few_ranges node.Minus ns [] (c ∷ []) h = refl
-few_ranges node.Minus ns [] (c ∷ d ∷ ts) h = refl
-few_ranges node.Minus ns (q ∷ rs) ts h = absurd (omega arith)
-few_ranges node.Times ns [] [] h = refl
-few_ranges node.Times ns [] (c ∷ []) h = refl
-few_ranges node.Times ns [] (c ∷ d ∷ ts) h = refl
-few_ranges node.Times ns (q ∷ rs) ts h = absurd (omega arith)
-few_ranges node.Over ns [] [] h = refl
-few_ranges node.Over ns [] (c ∷ []) h = refl
-few_ranges node.Over ns [] (c ∷ d ∷ ts) h = refl
-few_ranges node.Over ns (q ∷ rs) ts h = absurd (omega arith)
+few_ranges : (s : Shape) (rs : List Range) (ts : List Expr) → length rs < (taken s).ranges → put s rs ts ≡ None
+few_ranges (range_of_range make) (r ∷ rs) ts h = absurd (omega arith)
+few_ranges (range_of_range make) [] ts h = refl
+few_ranges (range_of_ranges make) (q ∷ r ∷ rs) ts h = absurd (omega arith)
+few_ranges (range_of_ranges make) rs ts h = refl
+few_ranges (range_of_both make) (r ∷ rs) ts h = absurd (omega arith)
+few_ranges (range_of_both make) [] ts h = refl
+few_ranges s rs ts h = absurd (omega arith)
 
 -- or terms over, under a range
-pub more_terms : (n : RangeNode) (ns : List RangeNode) (rs : List Range) (ts : List Expr) → (takes n).gives_range ≡ true → (takes n).terms < length ts → built (n ∷ ns) rs ts ≡ None
-more_terms (node.Int z) ns rs ts g h = absurd (true≢false (sym g))
-more_terms node.Infinity ns rs ts g h = absurd (true≢false (sym g))
-more_terms (node.Param x) ns rs ts g h = absurd (true≢false (sym g))
-more_terms (node.Min y) ns rs ts g h = absurd (true≢false (sym g))
-more_terms (node.Max y) ns rs ts g h = absurd (true≢false (sym g))
-more_terms (node.Val y) ns rs ts g h = absurd (true≢false (sym g))
-more_terms node.Add ns rs ts g h = absurd (true≢false (sym g))
-more_terms node.Sub ns rs ts g h = absurd (true≢false (sym g))
-more_terms node.Mul ns rs ts g h = absurd (true≢false (sym g))
-more_terms node.DivDown ns rs ts g h = absurd (true≢false (sym g))
-more_terms node.DivUp ns rs ts g h = absurd (true≢false (sym g))
-more_terms node.Span ns rs [] g h = absurd (omega arith)
-more_terms node.Span ns rs (b ∷ []) g h = absurd (omega arith)
-more_terms node.Span ns rs (b ∷ a ∷ []) g h = absurd (omega arith)
-more_terms node.Span ns rs (b ∷ a ∷ c ∷ ts) g h = refl
-more_terms node.One ns rs [] g h = absurd (omega arith)
-more_terms node.One ns rs (b ∷ []) g h = absurd (omega arith)
-more_terms node.One ns rs (b ∷ c ∷ ts) g h = refl
-more_terms (node.Dom y) ns rs [] g h = absurd (omega arith)
-more_terms (node.Dom y) ns rs (c ∷ ts) g h = refl
-more_terms node.Union ns rs [] g h = absurd (omega arith)
-more_terms node.Union ns [] (c ∷ ts) g h = refl
-more_terms node.Union ns (q ∷ []) (c ∷ ts) g h = refl
-more_terms node.Union ns (q ∷ r ∷ rs) (c ∷ ts) g h = refl
-more_terms node.Inter ns rs [] g h = absurd (omega arith)
-more_terms node.Inter ns [] (c ∷ ts) g h = refl
-more_terms node.Inter ns (q ∷ []) (c ∷ ts) g h = refl
-more_terms node.Inter ns (q ∷ r ∷ rs) (c ∷ ts) g h = refl
-more_terms node.Outside ns rs [] g h = absurd (omega arith)
-more_terms node.Outside ns [] (c ∷ ts) g h = refl
-more_terms node.Outside ns (q ∷ rs) (c ∷ ts) g h = refl
-more_terms node.Plus ns rs [] g h = absurd (omega arith)
-more_terms node.Plus ns rs (c ∷ []) g h = absurd (omega arith)
-more_terms node.Plus ns [] (c ∷ d ∷ ts) g h = refl
-more_terms node.Plus ns (q ∷ rs) (c ∷ d ∷ ts) g h = refl
-more_terms node.Minus ns rs [] g h = absurd (omega arith)
-more_terms node.Minus ns rs (c ∷ []) g h = absurd (omega arith)
-more_terms node.Minus ns [] (c ∷ d ∷ ts) g h = refl
-more_terms node.Minus ns (q ∷ rs) (c ∷ d ∷ ts) g h = refl
-more_terms node.Times ns rs [] g h = absurd (omega arith)
-more_terms node.Times ns rs (c ∷ []) g h = absurd (omega arith)
-more_terms node.Times ns [] (c ∷ d ∷ ts) g h = refl
-more_terms node.Times ns (q ∷ rs) (c ∷ d ∷ ts) g h = refl
-more_terms node.Over ns rs [] g h = absurd (omega arith)
-more_terms node.Over ns rs (c ∷ []) g h = absurd (omega arith)
-more_terms node.Over ns [] (c ∷ d ∷ ts) g h = refl
-more_terms node.Over ns (q ∷ rs) (c ∷ d ∷ ts) g h = refl
+more_terms : (s : Shape) (rs : List Range) (ts : List Expr) → (taken s).gives_range ≡ true → (taken s).terms < length ts → put s rs ts ≡ None
+more_terms (term_alone e) rs ts g h = absurd (true≢false (sym g))
+more_terms (term_of_terms make) rs ts g h = absurd (true≢false (sym g))
+more_terms (range_alone r) rs (c ∷ ts) g h = refl
+more_terms (range_of_term make) rs (b ∷ c ∷ ts) g h = refl
+more_terms (range_of_terms make) rs (b ∷ a ∷ c ∷ ts) g h = refl
+more_terms (range_of_range make) [] (c ∷ ts) g h = refl
+more_terms (range_of_range make) (r ∷ rs) (c ∷ ts) g h = refl
+more_terms (range_of_ranges make) [] (c ∷ ts) g h = refl
+more_terms (range_of_ranges make) (q ∷ []) (c ∷ ts) g h = refl
+more_terms (range_of_ranges make) (q ∷ r ∷ rs) (c ∷ ts) g h = refl
+more_terms (range_of_both make) [] (c ∷ d ∷ ts) g h = refl
+more_terms (range_of_both make) (r ∷ rs) (c ∷ d ∷ ts) g h = refl
+more_terms s rs ts g h = absurd (omega arith)
 
 -- the nodes of what waits, from the bottom, and then the nodes that follow
 abbrev terms_then : List Expr → List RangeNode → List RangeNode
@@ -247,83 +83,54 @@ abbrev Spells : Option Range → List RangeNode → Type 0
 Spells None ns = Unit {0}
 Spells (Some r) ns = nodes_of r ≡ ns
 
-built_spells : (ns : List RangeNode) (rs : List Range) (ts : List Expr) → Spells (built ns rs ts) (ranges_then rs (terms_then ts ns))
-built_spells [] [] [] = tt
+-- a node stands behind the nodes of the operands of what it makes
+abbrev StandsBehind : RangeNode → Shape → Type 0
+StandsBehind n (term_alone e) = (rest : List RangeNode) → expr_nodes e rest ≡ n ∷ rest
+StandsBehind n (term_of_terms make) = (a b : Expr) (rest : List RangeNode) → expr_nodes (make a b) rest ≡ expr_nodes a (expr_nodes b (n ∷ rest))
+StandsBehind n (range_alone r) = (rest : List RangeNode) → range_nodes r rest ≡ n ∷ rest
+StandsBehind n (range_of_term make) = (t : Expr) (rest : List RangeNode) → range_nodes (make t) rest ≡ expr_nodes t (n ∷ rest)
+StandsBehind n (range_of_terms make) = (a b : Expr) (rest : List RangeNode) → range_nodes (make a b) rest ≡ expr_nodes a (expr_nodes b (n ∷ rest))
+StandsBehind n (range_of_range make) = (r : Range) (rest : List RangeNode) → range_nodes (make r) rest ≡ range_nodes r (n ∷ rest)
+StandsBehind n (range_of_ranges make) = (r q : Range) (rest : List RangeNode) → range_nodes (make r q) rest ≡ range_nodes r (range_nodes q (n ∷ rest))
+StandsBehind n (range_of_both make) = (r : Range) (c : Expr) (rest : List RangeNode) → range_nodes (make r c) rest ≡ range_nodes r (expr_nodes c (n ∷ rest))
+
+stands_behind : (n : RangeNode) → StandsBehind n (shape_of n)
+stands_behind node.Add = λ a b rest. refl
+stands_behind node.Sub = λ a b rest. refl
+stands_behind node.Mul = λ a b rest. refl
+stands_behind node.DivDown = λ a b rest. refl
+stands_behind node.DivUp = λ a b rest. refl
+stands_behind node.Span = λ a b rest. refl
+stands_behind node.One = λ t rest. refl
+stands_behind node.Union = λ r q rest. refl
+stands_behind node.Inter = λ r q rest. refl
+stands_behind node.Outside = λ r rest. refl
+stands_behind node.Plus = λ r c rest. refl
+stands_behind node.Minus = λ r c rest. refl
+stands_behind node.Times = λ r c rest. refl
+stands_behind node.Over = λ r c rest. refl
+stands_behind n = λ rest. refl
+
+-- all that waits, and then the nodes that follow
+abbrev nodes_then : List Range → List Expr → List RangeNode → List RangeNode
+nodes_then rs ts ns = ranges_then rs (terms_then ts ns)
+
+put_spells : (n : RangeNode) (s : Shape) → StandsBehind n s → (ns : List RangeNode) → ((us : List Range) (vs : List Expr) → Spells (built ns us vs) (nodes_then us vs ns)) → (rs : List Range) (ts : List Expr)
+    → Spells (going_on (λ us vs. built ns us vs) (put s rs ts)) (nodes_then rs ts (n ∷ ns))
+put_spells n (term_alone e) f ns h rs ts = subst (λ l. Spells (built ns rs (e ∷ ts)) (nodes_then rs ts l)) (f ns) (h rs (e ∷ ts))
+put_spells n (term_of_terms make) f ns h rs (b ∷ a ∷ ts) = subst (λ l. Spells (built ns rs (make a b ∷ ts)) (nodes_then rs ts l)) (f a b ns) (h rs (make a b ∷ ts))
+put_spells n (range_alone r) f ns h rs [] = subst (λ l. Spells (built ns (r ∷ rs) []) (ranges_then rs l)) (f ns) (h (r ∷ rs) [])
+put_spells n (range_of_term make) f ns h rs (t ∷ []) = subst (λ l. Spells (built ns (make t ∷ rs) []) (ranges_then rs l)) (f t ns) (h (make t ∷ rs) [])
+put_spells n (range_of_terms make) f ns h rs (b ∷ a ∷ []) = subst (λ l. Spells (built ns (make a b ∷ rs) []) (ranges_then rs l)) (f a b ns) (h (make a b ∷ rs) [])
+put_spells n (range_of_range make) f ns h (r ∷ rs) [] = subst (λ l. Spells (built ns (make r ∷ rs) []) (ranges_then rs l)) (f r ns) (h (make r ∷ rs) [])
+put_spells n (range_of_ranges make) f ns h (q ∷ r ∷ rs) [] = subst (λ l. Spells (built ns (make r q ∷ rs) []) (ranges_then rs l)) (f r q ns) (h (make r q ∷ rs) [])
+put_spells n (range_of_both make) f ns h (r ∷ rs) (c ∷ []) = subst (λ l. Spells (built ns (make r c ∷ rs) []) (ranges_then rs l)) (f r c ns) (h (make r c ∷ rs) [])
+put_spells n s f ns h rs ts = tt
+
+built_spells : (ns : List RangeNode) (rs : List Range) (ts : List Expr) → Spells (built ns rs ts) (nodes_then rs ts ns)
 built_spells [] (r ∷ []) [] = refl
-built_spells [] (r ∷ q ∷ rs) [] = tt
-built_spells [] [] (t ∷ ts) = tt
-built_spells [] (r ∷ []) (t ∷ ts) = tt
-built_spells [] (r ∷ q ∷ rs) (t ∷ ts) = tt
-built_spells (node.Int z ∷ ns) rs ts = built_spells ns rs (Number z ∷ ts)
-built_spells (node.Infinity ∷ ns) rs ts = built_spells ns rs (Infinity ∷ ts)
-built_spells (node.Param x ∷ ns) rs ts = built_spells ns rs (Param x ∷ ts)
-built_spells (node.Min y ∷ ns) rs ts = built_spells ns rs (Min y ∷ ts)
-built_spells (node.Max y ∷ ns) rs ts = built_spells ns rs (Max y ∷ ts)
-built_spells (node.Val y ∷ ns) rs ts = built_spells ns rs (Val y ∷ ts)
-built_spells (node.Add ∷ ns) rs [] = tt
-built_spells (node.Add ∷ ns) rs (b ∷ []) = tt
-built_spells (node.Add ∷ ns) rs (b ∷ a ∷ ts) = built_spells ns rs (Add a b ∷ ts)
-built_spells (node.Sub ∷ ns) rs [] = tt
-built_spells (node.Sub ∷ ns) rs (b ∷ []) = tt
-built_spells (node.Sub ∷ ns) rs (b ∷ a ∷ ts) = built_spells ns rs (Sub a b ∷ ts)
-built_spells (node.Mul ∷ ns) rs [] = tt
-built_spells (node.Mul ∷ ns) rs (b ∷ []) = tt
-built_spells (node.Mul ∷ ns) rs (b ∷ a ∷ ts) = built_spells ns rs (Mul a b ∷ ts)
-built_spells (node.DivDown ∷ ns) rs [] = tt
-built_spells (node.DivDown ∷ ns) rs (b ∷ []) = tt
-built_spells (node.DivDown ∷ ns) rs (b ∷ a ∷ ts) = built_spells ns rs (DivDown a b ∷ ts)
-built_spells (node.DivUp ∷ ns) rs [] = tt
-built_spells (node.DivUp ∷ ns) rs (b ∷ []) = tt
-built_spells (node.DivUp ∷ ns) rs (b ∷ a ∷ ts) = built_spells ns rs (DivUp a b ∷ ts)
-built_spells (node.Span ∷ ns) rs [] = tt
-built_spells (node.Span ∷ ns) rs (b ∷ []) = tt
-built_spells (node.Span ∷ ns) rs (b ∷ a ∷ []) = built_spells ns (Span a b ∷ rs) []
-built_spells (node.Span ∷ ns) rs (b ∷ a ∷ c ∷ ts) = tt
-built_spells (node.One ∷ ns) rs [] = tt
-built_spells (node.One ∷ ns) rs (b ∷ []) = built_spells ns (One b ∷ rs) []
-built_spells (node.One ∷ ns) rs (b ∷ a ∷ ts) = tt
-built_spells (node.Dom y ∷ ns) rs [] = built_spells ns (Dom y ∷ rs) []
-built_spells (node.Dom y ∷ ns) rs (b ∷ ts) = tt
-built_spells (node.Union ∷ ns) [] [] = tt
-built_spells (node.Union ∷ ns) (q ∷ []) [] = tt
-built_spells (node.Union ∷ ns) (q ∷ r ∷ rs) [] = built_spells ns (Union r q ∷ rs) []
-built_spells (node.Union ∷ ns) [] (t ∷ ts) = tt
-built_spells (node.Union ∷ ns) (q ∷ []) (t ∷ ts) = tt
-built_spells (node.Union ∷ ns) (q ∷ r ∷ rs) (t ∷ ts) = tt
-built_spells (node.Inter ∷ ns) [] [] = tt
-built_spells (node.Inter ∷ ns) (q ∷ []) [] = tt
-built_spells (node.Inter ∷ ns) (q ∷ r ∷ rs) [] = built_spells ns (Inter r q ∷ rs) []
-built_spells (node.Inter ∷ ns) [] (t ∷ ts) = tt
-built_spells (node.Inter ∷ ns) (q ∷ []) (t ∷ ts) = tt
-built_spells (node.Inter ∷ ns) (q ∷ r ∷ rs) (t ∷ ts) = tt
-built_spells (node.Outside ∷ ns) [] [] = tt
-built_spells (node.Outside ∷ ns) (r ∷ rs) [] = built_spells ns (Outside r ∷ rs) []
-built_spells (node.Outside ∷ ns) [] (t ∷ ts) = tt
-built_spells (node.Outside ∷ ns) (r ∷ rs) (t ∷ ts) = tt
-built_spells (node.Plus ∷ ns) [] [] = tt
-built_spells (node.Plus ∷ ns) [] (c ∷ []) = tt
-built_spells (node.Plus ∷ ns) [] (c ∷ d ∷ ts) = tt
-built_spells (node.Plus ∷ ns) (r ∷ rs) [] = tt
-built_spells (node.Plus ∷ ns) (r ∷ rs) (c ∷ []) = built_spells ns (Plus r c ∷ rs) []
-built_spells (node.Plus ∷ ns) (r ∷ rs) (c ∷ d ∷ ts) = tt
-built_spells (node.Minus ∷ ns) [] [] = tt
-built_spells (node.Minus ∷ ns) [] (c ∷ []) = tt
-built_spells (node.Minus ∷ ns) [] (c ∷ d ∷ ts) = tt
-built_spells (node.Minus ∷ ns) (r ∷ rs) [] = tt
-built_spells (node.Minus ∷ ns) (r ∷ rs) (c ∷ []) = built_spells ns (Minus r c ∷ rs) []
-built_spells (node.Minus ∷ ns) (r ∷ rs) (c ∷ d ∷ ts) = tt
-built_spells (node.Times ∷ ns) [] [] = tt
-built_spells (node.Times ∷ ns) [] (c ∷ []) = tt
-built_spells (node.Times ∷ ns) [] (c ∷ d ∷ ts) = tt
-built_spells (node.Times ∷ ns) (r ∷ rs) [] = tt
-built_spells (node.Times ∷ ns) (r ∷ rs) (c ∷ []) = built_spells ns (Times r c ∷ rs) []
-built_spells (node.Times ∷ ns) (r ∷ rs) (c ∷ d ∷ ts) = tt
-built_spells (node.Over ∷ ns) [] [] = tt
-built_spells (node.Over ∷ ns) [] (c ∷ []) = tt
-built_spells (node.Over ∷ ns) [] (c ∷ d ∷ ts) = tt
-built_spells (node.Over ∷ ns) (r ∷ rs) [] = tt
-built_spells (node.Over ∷ ns) (r ∷ rs) (c ∷ []) = built_spells ns (Over r c ∷ rs) []
-built_spells (node.Over ∷ ns) (r ∷ rs) (c ∷ d ∷ ts) = tt
+built_spells [] rs ts = tt
+built_spells (n ∷ ns) rs ts = put_spells n (shape_of n) (stands_behind n) ns (λ us vs. built_spells ns us vs) rs ts
 
 from_some : (ns : List RangeNode) (o : Option Range) → Spells o ns → (r : Range) → o ≡ Some r → IsSpelled ns
 from_some ns None s r e = absurd cc
@@ -362,7 +169,7 @@ after_expr n o ranges terms e f l ns rs ts h g =
     subst (λ k. IsReached (built (n ∷ ns) rs ts) ns k (terms - o.terms + 1)) h
     (subst (λ k. IsReached (built (n ∷ ns) rs ts) ns (length rs) (k - o.terms + 1)) g
     (subst (λ q. IsReached (built (n ∷ ns) rs ts) ns (length rs) (length ts - q.terms + 1)) (sym e)
-    (expr_step n ns rs ts (ap (λ q. q.gives_range) (sym e) ∙ not_true o.gives_range f)
+    (term_put (shape_of n) ns rs ts (ap (λ q. q.gives_range) (sym e) ∙ not_true o.gives_range f)
     (subst (λ q. q.terms ≤ length ts) e (subst (λ k. o.terms ≤ k) (sym g) l)))))
 
 pub after_range : (n : RangeNode) (o : Operands) (ranges terms : ℕ) → o ≡ takes n → not o.gives_range ≡ false → o.ranges ≤ ranges → terms ≡ o.terms →
@@ -370,20 +177,20 @@ pub after_range : (n : RangeNode) (o : Operands) (ranges terms : ℕ) → o ≡ 
 after_range n o ranges terms e f l i ns rs ts h g =
     subst (λ k. IsReached (built (n ∷ ns) rs ts) ns (k - o.ranges + 1) 0) h
     (subst (λ q. IsReached (built (n ∷ ns) rs ts) ns (length rs - q.ranges + 1) 0) (sym e)
-    (range_step n ns rs ts (ap (λ q. q.gives_range) (sym e) ∙ not_false o.gives_range f) (g ∙ (i ∙ ap (λ q. q.terms) e))
+    (range_put (shape_of n) ns rs ts (ap (λ q. q.gives_range) (sym e) ∙ not_false o.gives_range f) (g ∙ (i ∙ ap (λ q. q.terms) e))
     (subst (λ q. q.ranges ≤ length rs) e (subst (λ k. o.ranges ≤ k) (sym h) l))))
 
 pub after_few : (n : RangeNode) (o : Operands) (ranges terms : ℕ) → o ≡ takes n → ranges < o.ranges ⊎ terms < o.terms →
     (ns : List RangeNode) (rs : List Range) (ts : List Expr) → length rs ≡ ranges → length ts ≡ terms → built (n ∷ ns) rs ts ≡ None
 after_few n o ranges terms e l ns rs ts h g = elim l [
-  | inl k ↦ few_ranges n ns rs ts (subst (λ q. length rs < q.ranges) e (subst (λ m. m < o.ranges) (sym h) k))
-  | inr k ↦ few_terms n ns rs ts (subst (λ q. length ts < q.terms) e (subst (λ m. m < o.terms) (sym g) k))
+  | inl k ↦ ap (going_on (λ us vs. built ns us vs)) (few_ranges (shape_of n) rs ts (subst (λ q. length rs < q.ranges) e (subst (λ m. m < o.ranges) (sym h) k)))
+  | inr k ↦ ap (going_on (λ us vs. built ns us vs)) (few_terms (shape_of n) rs ts (subst (λ q. length ts < q.terms) e (subst (λ m. m < o.terms) (sym g) k)))
 ]
 
 pub after_more : (n : RangeNode) (o : Operands) (ranges terms : ℕ) → o ≡ takes n → not o.gives_range ≡ false → o.terms < terms →
     (ns : List RangeNode) (rs : List Range) (ts : List Expr) → length rs ≡ ranges → length ts ≡ terms → built (n ∷ ns) rs ts ≡ None
 after_more n o ranges terms e f l ns rs ts h g =
-    more_terms n ns rs ts (ap (λ q. q.gives_range) (sym e) ∙ not_false o.gives_range f) (subst (λ q. q.terms < length ts) e (subst (λ m. o.terms < m) (sym g) l))
+    ap (going_on (λ us vs. built ns us vs)) (more_terms (shape_of n) rs ts (ap (λ q. q.gives_range) (sym e) ∙ not_false o.gives_range f) (subst (λ q. q.terms < length ts) e (subst (λ m. o.terms < m) (sym g) l)))
 
 pub ends_none : (ns : List RangeNode) (i : ℕ) (d : RangeNode) (ranges terms : ℕ) → i < length ns → IsReached (built ns [] []) (drop i ns) ranges terms →
     ((ms : List RangeNode) (rs : List Range) (ts : List Expr) → length rs ≡ ranges → length ts ≡ terms → built (get_or ns i d ∷ ms) rs ts ≡ None) →

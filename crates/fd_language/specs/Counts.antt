@@ -1,34 +1,23 @@
 -- How many ranges and terms wait for their operators in a list of nodes.
 use Rattle.std.specs.Prelude.{◌≡◌, ℕ, true, false, List, length, Option}
 use Rattle.fd_language.specs.declared.range_node.RangeNode.{RangeNode}
-use Rattle.fd_language.specs.declared.range_node.RangeNode.TheVariants as node
 use Rattle.fd_language.specs.declared.counting.Operands.{Operands}
 use Rattle.fd_language.specs.Range.{Range, Expr}
-use Rattle.fd_language.specs.Flat.{built}
+use Rattle.fd_language.specs.Flat.{Shape, term_alone, term_of_terms, range_alone, range_of_term, range_of_terms, range_of_range, range_of_ranges, range_of_both, shape_of, built}
 
--- how many ranges and terms a node takes, and whether it gives a range
+-- how many ranges and terms a node of the shape takes, and whether it gives a range
+abbrev pub taken : Shape → Operands
+taken (term_alone e) = record { ranges = 0; terms = 0; gives_range = false }
+taken (term_of_terms make) = record { ranges = 0; terms = 2; gives_range = false }
+taken (range_alone r) = record { ranges = 0; terms = 0; gives_range = true }
+taken (range_of_term make) = record { ranges = 0; terms = 1; gives_range = true }
+taken (range_of_terms make) = record { ranges = 0; terms = 2; gives_range = true }
+taken (range_of_range make) = record { ranges = 1; terms = 0; gives_range = true }
+taken (range_of_ranges make) = record { ranges = 2; terms = 0; gives_range = true }
+taken (range_of_both make) = record { ranges = 1; terms = 1; gives_range = true }
+
 abbrev pub takes : RangeNode → Operands
-takes (node.Int z) = record { ranges = 0; terms = 0; gives_range = false }
-takes node.Infinity = record { ranges = 0; terms = 0; gives_range = false }
-takes (node.Param x) = record { ranges = 0; terms = 0; gives_range = false }
-takes (node.Min y) = record { ranges = 0; terms = 0; gives_range = false }
-takes (node.Max y) = record { ranges = 0; terms = 0; gives_range = false }
-takes (node.Val y) = record { ranges = 0; terms = 0; gives_range = false }
-takes node.Add = record { ranges = 0; terms = 2; gives_range = false }
-takes node.Sub = record { ranges = 0; terms = 2; gives_range = false }
-takes node.Mul = record { ranges = 0; terms = 2; gives_range = false }
-takes node.DivDown = record { ranges = 0; terms = 2; gives_range = false }
-takes node.DivUp = record { ranges = 0; terms = 2; gives_range = false }
-takes node.Span = record { ranges = 0; terms = 2; gives_range = true }
-takes node.One = record { ranges = 0; terms = 1; gives_range = true }
-takes (node.Dom y) = record { ranges = 0; terms = 0; gives_range = true }
-takes node.Union = record { ranges = 2; terms = 0; gives_range = true }
-takes node.Inter = record { ranges = 2; terms = 0; gives_range = true }
-takes node.Outside = record { ranges = 1; terms = 0; gives_range = true }
-takes node.Plus = record { ranges = 1; terms = 1; gives_range = true }
-takes node.Minus = record { ranges = 1; terms = 1; gives_range = true }
-takes node.Times = record { ranges = 1; terms = 1; gives_range = true }
-takes node.Over = record { ranges = 1; terms = 1; gives_range = true }
+takes n = taken (shape_of n)
 
 -- what is built is what the nodes build on top of so many ranges and terms
 abbrev pub IsReached : Option Range → List RangeNode → ℕ → ℕ → Type 0

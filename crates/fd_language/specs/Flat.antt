@@ -24,46 +24,69 @@ range_nodes r = walk_range postfix r
 abbrev pub nodes_of : Range → List RangeNode
 nodes_of r = range_nodes r []
 
--- The one range that the nodes build, on top of ranges and terms that wait for their operators, the last one first.
+-- What a node makes, and of what: a term of nothing or of two terms; a range of nothing, of one or two terms, of one or two ranges, or of a range and a term.
+pub data Shape : Type 0 where
+  term_alone : Expr → Shape
+  term_of_terms : (Expr → Expr → Expr) → Shape
+  range_alone : Range → Shape
+  range_of_term : (Expr → Range) → Shape
+  range_of_terms : (Expr → Expr → Range) → Shape
+  range_of_range : (Range → Range) → Shape
+  range_of_ranges : (Range → Range → Range) → Shape
+  range_of_both : (Range → Expr → Range) → Shape
+
+abbrev pub shape_of : RangeNode → Shape
+shape_of (node.Int z) = term_alone (Number z)
+shape_of node.Infinity = term_alone Infinity
+shape_of (node.Param x) = term_alone (Param x)
+shape_of (node.Min y) = term_alone (Min y)
+shape_of (node.Max y) = term_alone (Max y)
+shape_of (node.Val y) = term_alone (Val y)
+shape_of node.Add = term_of_terms Add
+shape_of node.Sub = term_of_terms Sub
+shape_of node.Mul = term_of_terms Mul
+shape_of node.DivDown = term_of_terms DivDown
+shape_of node.DivUp = term_of_terms DivUp
+shape_of node.Span = range_of_terms Span
+shape_of node.One = range_of_term One
+shape_of (node.Dom y) = range_alone (Dom y)
+shape_of node.Union = range_of_ranges Union
+shape_of node.Inter = range_of_ranges Inter
+shape_of node.Outside = range_of_range Outside
+shape_of node.Plus = range_of_both Plus
+shape_of node.Minus = range_of_both Minus
+shape_of node.Times = range_of_both Times
+shape_of node.Over = range_of_both Over
+
+-- The ranges and the terms that wait for their operators, the last one first. Behind a range no term waits.
+pub record Stack : Type 0 where
+  pub ranges : List Range
+  pub terms : List Expr
+
+abbrev pub stack : List Range → List Expr → Option Stack
+stack rs ts = Some (record { ranges = rs; terms = ts })
+
+-- what waits when a node of the shape has taken its operands, where they are there
+abbrev pub put : Shape → List Range → List Expr → Option Stack
+put (term_alone e) rs ts = stack rs (e ∷ ts)
+put (term_of_terms make) rs (b ∷ a ∷ ts) = stack rs (make a b ∷ ts)
+put (range_alone r) rs [] = stack (r ∷ rs) []
+put (range_of_term make) rs (t ∷ []) = stack (make t ∷ rs) []
+put (range_of_terms make) rs (b ∷ a ∷ []) = stack (make a b ∷ rs) []
+put (range_of_range make) (r ∷ rs) [] = stack (make r ∷ rs) []
+put (range_of_ranges make) (q ∷ r ∷ rs) [] = stack (make r q ∷ rs) []
+put (range_of_both make) (r ∷ rs) (c ∷ []) = stack (make r c ∷ rs) []
+put s rs ts = None
+
+abbrev pub going_on : (List Range → List Expr → Option Range) → Option Stack → Option Range
+going_on build None = None
+going_on build (Some w) = build w.ranges w.terms
+
+-- the one range that the nodes build on top of what waits
 abbrev pub built : List RangeNode → List Range → List Expr → Option Range
 built [] (r ∷ []) [] = Some r
 built [] rs ts = None
-built (node.Int z ∷ ns) rs ts = built ns rs (Number z ∷ ts)
-built (node.Infinity ∷ ns) rs ts = built ns rs (Infinity ∷ ts)
-built (node.Param x ∷ ns) rs ts = built ns rs (Param x ∷ ts)
-built (node.Min y ∷ ns) rs ts = built ns rs (Min y ∷ ts)
-built (node.Max y ∷ ns) rs ts = built ns rs (Max y ∷ ts)
-built (node.Val y ∷ ns) rs ts = built ns rs (Val y ∷ ts)
-built (node.Add ∷ ns) rs (b ∷ a ∷ ts) = built ns rs (Add a b ∷ ts)
-built (node.Add ∷ ns) rs ts = None
-built (node.Sub ∷ ns) rs (b ∷ a ∷ ts) = built ns rs (Sub a b ∷ ts)
-built (node.Sub ∷ ns) rs ts = None
-built (node.Mul ∷ ns) rs (b ∷ a ∷ ts) = built ns rs (Mul a b ∷ ts)
-built (node.Mul ∷ ns) rs ts = None
-built (node.DivDown ∷ ns) rs (b ∷ a ∷ ts) = built ns rs (DivDown a b ∷ ts)
-built (node.DivDown ∷ ns) rs ts = None
-built (node.DivUp ∷ ns) rs (b ∷ a ∷ ts) = built ns rs (DivUp a b ∷ ts)
-built (node.DivUp ∷ ns) rs ts = None
-built (node.Span ∷ ns) rs (b ∷ a ∷ []) = built ns (Span a b ∷ rs) []
-built (node.Span ∷ ns) rs ts = None
-built (node.One ∷ ns) rs (t ∷ []) = built ns (One t ∷ rs) []
-built (node.One ∷ ns) rs ts = None
-built (node.Dom y ∷ ns) rs [] = built ns (Dom y ∷ rs) []
-built (node.Dom y ∷ ns) rs ts = None
-built (node.Union ∷ ns) (q ∷ r ∷ rs) [] = built ns (Union r q ∷ rs) []
-built (node.Union ∷ ns) rs ts = None
-built (node.Inter ∷ ns) (q ∷ r ∷ rs) [] = built ns (Inter r q ∷ rs) []
-built (node.Inter ∷ ns) rs ts = None
-built (node.Outside ∷ ns) (r ∷ rs) [] = built ns (Outside r ∷ rs) []
-built (node.Outside ∷ ns) rs ts = None
-built (node.Plus ∷ ns) (r ∷ rs) (c ∷ []) = built ns (Plus r c ∷ rs) []
-built (node.Plus ∷ ns) rs ts = None
-built (node.Minus ∷ ns) (r ∷ rs) (c ∷ []) = built ns (Minus r c ∷ rs) []
-built (node.Minus ∷ ns) rs ts = None
-built (node.Times ∷ ns) (r ∷ rs) (c ∷ []) = built ns (Times r c ∷ rs) []
-built (node.Times ∷ ns) rs ts = None
-built (node.Over ∷ ns) (r ∷ rs) (c ∷ []) = built ns (Over r c ∷ rs) []
-built (node.Over ∷ ns) rs ts = None
+built (n ∷ ns) rs ts = going_on (λ us vs. built ns us vs) (put (shape_of n) rs ts)
 
 abbrev pub or_infinity : Option Range → Range
 or_infinity (Some r) = r
