@@ -1,13 +1,13 @@
 -- The verdict says yes exactly where the table accepts.
 use Rattle.std.proofs.Common.{◌≡◌, ℕ, ◌+◌, ◌-◌, Bool, true, false, cond, not, ◌||◌, ◌&&◌, ℤ, pos, negsuc, int_le, List, [], ◌∷◌, ◌++◌, Option, Some, None, refl, sym, ◌∙◌, ap, arith}
+use Rattle.std.proofs.Math.Bool.{and-true}
 use Rattle.std.proofs.lemmas.Int.{ints}
-use Rattle.std.proofs.lemmas.Bool.{true≢false}
+use Rattle.std.proofs.lemmas.Bool.{true≢false, and_from, and_parts}
 use Rattle.fd_language.specs.declared.range_node.Offence.{Offence}
 use Rattle.fd_language.specs.Range.{Range, Span, One, Dom, Union, Inter, Outside, Plus, Minus, Times, Over, Expr, Number, Infinity, Param, Min, Max, Val, Add, Sub, Mul, DivDown, DivUp}
 use Rattle.fd_language.specs.Needs.{is_literal}
 use Rattle.fd_language.specs.Check.{Wish, Rising, Falling, Constant, turn, is_rising, is_falling, literal_value, by_sign, is_parameter, is_natural, expr_fits, range_fits}
 use Rattle.fd_language.specs.RangeVerdict.{expr_size, range_size, bound, over_limit, factor_over_limit, where_too_wide, wide_in_expr, wide_in_range, where_below_zero, unless_fits, where_natural, unless_divides, scaled, expr_offences, range_offences, is_before, earlier, first, expr_within, range_within}
-use Rattle.fd_language.proofs.Directions.{first_of_two, second_of_two}
 
 abbrev pub nil : List Offence → Bool
 nil [] = true
@@ -80,15 +80,11 @@ module _ (M : ℕ) (at : ℕ → ℕ) where
   literal_fits (Min y) w h = absurd (true≢false (sym h))
   literal_fits (Max y) w h = absurd (true≢false (sym h))
   literal_fits (Val y) w h = absurd (true≢false (sym h))
-  literal_fits (Add a b) w h = both_fit (expr_fits M a w) (expr_fits M b w) (literal_fits a w (first_of_two (is_literal a) (is_literal b) h)) (literal_fits b w (second_of_two (is_literal a) (is_literal b) h)) where
-    both_fit : (x y : Bool) → x ≡ true → y ≡ true → (x && y) ≡ true
-    both_fit x y e f = grind arith
-  literal_fits (Sub a b) w h = both_fit (expr_fits M a w) (expr_fits M b (turn w)) (literal_fits a w (first_of_two (is_literal a) (is_literal b) h)) (literal_fits b (turn w) (second_of_two (is_literal a) (is_literal b) h)) where
-    both_fit : (x y : Bool) → x ≡ true → y ≡ true → (x && y) ≡ true
-    both_fit x y e f = grind arith
+  literal_fits (Add a b) w h = and_from (expr_fits M a w) (expr_fits M b w) (literal_fits a w ((and_parts (is_literal a) (is_literal b) h).0)) (literal_fits b w ((and_parts (is_literal a) (is_literal b) h).1))
+  literal_fits (Sub a b) w h = and_from (expr_fits M a w) (expr_fits M b (turn w)) (literal_fits a w ((and_parts (is_literal a) (is_literal b) h).0)) (literal_fits b (turn w) ((and_parts (is_literal a) (is_literal b) h).1))
   literal_fits (Mul a b) w h =
-      let l = first_of_two (is_literal a) (is_literal b) h in
-      let k = second_of_two (is_literal a) (is_literal b) h in
+      let l = (and_parts (is_literal a) (is_literal b) h).0 in
+      let k = (and_parts (is_literal a) (is_literal b) h).1 in
       factor (is_literal a) l (literal_value M a) (expr_fits M b w) (expr_fits M b (turn w)) _ (literal_fits b w k) (literal_fits b (turn w) k) where
         factor : (c : Bool) → c ≡ true → (v : ℤ) (x y rest : Bool) → x ≡ true → y ≡ true → cond c (by_sign v x y) rest ≡ true
         factor true e (pos n) x y rest f g = f
@@ -186,9 +182,6 @@ module _ (M : ℕ) (at : ℕ → ℕ) where
     mixed : (k fa ft na nb : Bool) → ((fa && na) && (ft && nb)) ≡ (((na && nb) && (fa && ft)) && (not k || (na && nb)))
     mixed k fa ft na nb = grind arith
 
-  both_true : (x y : Bool) → x ≡ true → y ≡ true → (x && y) ≡ true
-  both_true x y e f = grind arith
-
   above_zero : (z : ℤ) → int_le (pos 1) z ≡ true → int_le (pos 0) z ≡ true
   above_zero z h = grind (arith, ints)
 
@@ -218,11 +211,11 @@ module _ (M : ℕ) (at : ℕ → ℕ) where
   nil-offences n (Add a b) w k = sum_part (is_literal a && is_literal b) k (expr_fits M a w) (expr_fits M b w) (is_natural M a) (is_natural M b) (int_le (pos 0) (literal_value M (Add a b))) _ _
       (nil-below k (literal_value M (Add a b)) (at n))
       (nil_two (expr_offences M at (n - 1 - expr_size b) a w k) (expr_offences M at (n - 1) b w k) _ _ (nil-offences (n - 1 - expr_size b) a w k) (nil-offences (n - 1) b w k))
-      (λ c. both_true (expr_fits M a w) (expr_fits M b w) (literal_fits a w (first_of_two (is_literal a) (is_literal b) c)) (literal_fits b w (second_of_two (is_literal a) (is_literal b) c)))
+      (λ c. and_from (expr_fits M a w) (expr_fits M b w) (literal_fits a w ((and_parts (is_literal a) (is_literal b) c).0)) (literal_fits b w ((and_parts (is_literal a) (is_literal b) c).1)))
   nil-offences n (Sub a b) w k = difference_part (is_literal a && is_literal b) k (expr_fits M a w) (expr_fits M b (turn w)) (is_natural M a) (is_natural M b) (int_le (pos 0) (literal_value M (Sub a b))) _ _
       (nil-below k (literal_value M (Sub a b)) (at n))
       (nil_three (expr_offences M at (n - 1 - expr_size b) a w k) (expr_offences M at (n - 1) b (turn w) k) (where_natural k (at n)) _ _ _ (nil-offences (n - 1 - expr_size b) a w k) (nil-offences (n - 1) b (turn w) k) (nil-natural k (at n)))
-      (λ c. both_true (expr_fits M a w) (expr_fits M b (turn w)) (literal_fits a w (first_of_two (is_literal a) (is_literal b) c)) (literal_fits b (turn w) (second_of_two (is_literal a) (is_literal b) c)))
+      (λ c. and_from (expr_fits M a w) (expr_fits M b (turn w)) (literal_fits a w ((and_parts (is_literal a) (is_literal b) c).0)) (literal_fits b (turn w) ((and_parts (is_literal a) (is_literal b) c).1)))
   nil-offences n (Mul a b) w k =
       product_part (is_literal a) (is_literal b) k (expr_fits M a w) (by_sign (literal_value M b) (expr_fits M a w) (expr_fits M a (turn w))) (expr_fits M b w) (by_sign (literal_value M a) (expr_fits M b w) (expr_fits M b (turn w))) (is_natural M a) (is_natural M b) (int_le (pos 0) (literal_value M (Mul a b))) _ _ _ _
       (nil-below k (literal_value M (Mul a b)) (at n))
@@ -244,12 +237,8 @@ module _ (M : ℕ) (at : ℕ → ℕ) where
       (nil_two (expr_offences M at (n - 1 - expr_size b) a w true) (expr_offences M at (n - 1) b (turn w) true) _ _ (nil-offences (n - 1 - expr_size b) a w true) (nil-offences (n - 1) b (turn w) true))
       (divisor_natural b) (parameter_natural b)
 
-  and_true : (b : Bool) → (b && true) ≡ b
-  and_true true = refl
-  and_true false = refl
-
   plainly : (n : ℕ) (e : Expr) (w : Wish) → nil (expr_offences M at n e w false) ≡ expr_fits M e w
-  plainly n e w = nil-offences n e w false ∙ and_true (expr_fits M e w)
+  plainly n e w = nil-offences n e w false ∙ and-true (expr_fits M e w)
 
   pub nil-fitting : (n : ℕ) (r : Range) (w : Bool) → nil (range_offences M at n r w) ≡ range_fits M r w
   nil-fitting n (Span a b) true = nil_two (expr_offences M at (n - 1 - expr_size b) a Rising false) (expr_offences M at (n - 1) b Falling false) _ _ (plainly (n - 1 - expr_size b) a Rising) (plainly (n - 1) b Falling)

@@ -1,7 +1,7 @@
 -- An accepted term moves the way that is wanted of it.
 use Rattle.std.proofs.Common.{◌≡◌, ℕ, ◌≤◌, Bool, true, false, cond, ◌||◌, ◌&&◌, ℤ, pos, negsuc, ◌+ℤ◌, ◌-ℤ◌, ◌*ℤ◌, ◌≤ℤ◌, int_le, List, ◌++◌, refl, sym, ap, subst, inl, inr, arith}
 use Rattle.std.proofs.lemmas.Int.{ints}
-use Rattle.std.proofs.lemmas.Bool.{cases_Bool, true≢false, or_left, or_right}
+use Rattle.std.proofs.lemmas.Bool.{cases_Bool, true≢false, or_left, or_right, and_from, and_parts, or_from}
 use Rattle.std.specs.Int.Signed.{≤ℤ_refl}
 use Rattle.std.proofs.Math.IntN.{*ℤ_comm}
 use Rattle.fd_language.specs.Family.{Family, IsSubset}
@@ -75,12 +75,6 @@ if_yes c x y h e = grind arith
 if_no : (c x y : Bool) → cond c x y ≡ true → c ≡ false → y ≡ true
 if_no c x y h e = grind arith
 
-pub first_of_two : (x y : Bool) → (x && y) ≡ true → x ≡ true
-first_of_two x y h = grind arith
-
-pub second_of_two : (x y : Bool) → (x && y) ≡ true → y ≡ true
-second_of_two x y h = grind arith
-
 int_le_true : (a b : ℤ) → int_le a b ≡ true → a ≤ℤ b
 int_le_true a b h = grind (arith, ints)
 
@@ -101,14 +95,11 @@ module _ (M : ℕ) (p : ℕ → ℤ) where
   literal_is S (Min y) h = absurd (true≢false (sym h))
   literal_is S (Max y) h = absurd (true≢false (sym h))
   literal_is S (Val y) h = absurd (true≢false (sym h))
-  literal_is S (Add a b) h = let f = literal_is S a (first_of_two (is_literal a) (is_literal b) h) in let g = literal_is S b (second_of_two (is_literal a) (is_literal b) h) in cc
-  literal_is S (Sub a b) h = let f = literal_is S a (first_of_two (is_literal a) (is_literal b) h) in let g = literal_is S b (second_of_two (is_literal a) (is_literal b) h) in cc
-  literal_is S (Mul a b) h = let f = literal_is S a (first_of_two (is_literal a) (is_literal b) h) in let g = literal_is S b (second_of_two (is_literal a) (is_literal b) h) in cc
+  literal_is S (Add a b) h = let f = literal_is S a ((and_parts (is_literal a) (is_literal b) h).0) in let g = literal_is S b ((and_parts (is_literal a) (is_literal b) h).1) in cc
+  literal_is S (Sub a b) h = let f = literal_is S a ((and_parts (is_literal a) (is_literal b) h).0) in let g = literal_is S b ((and_parts (is_literal a) (is_literal b) h).1) in cc
+  literal_is S (Mul a b) h = let f = literal_is S a ((and_parts (is_literal a) (is_literal b) h).0) in let g = literal_is S b ((and_parts (is_literal a) (is_literal b) h).1) in cc
   literal_is S (DivDown a b) h = absurd (true≢false (sym h))
   literal_is S (DivUp a b) h = absurd (true≢false (sym h))
-
-  both_meet : (x y : Bool) → x ≡ true → y ≡ true → (x && y) ≡ true
-  both_meet x y h g = grind arith
 
   either_meet : (c x y u v : Bool) → (x && y) ≡ true → (u && v) ≡ true → cond c (x && y) (u && v) ≡ true
   either_meet c x y u v h g = grind arith
@@ -120,12 +111,12 @@ module _ (M : ℕ) (p : ℕ → ℤ) where
   literal_meets (Min y) n h = refl
   literal_meets (Max y) n h = refl
   literal_meets (Val y) n h = refl
-  literal_meets (Add a b) n h = both_meet (expr_meets p a n) (expr_meets p b n) (literal_meets a n (first_of_two (is_literal a) (is_literal b) h)) (literal_meets b n (second_of_two (is_literal a) (is_literal b) h))
-  literal_meets (Sub a b) n h = both_meet (expr_meets p a n) (expr_meets p b n) (literal_meets a n (first_of_two (is_literal a) (is_literal b) h)) (literal_meets b n (second_of_two (is_literal a) (is_literal b) h))
+  literal_meets (Add a b) n h = and_from (expr_meets p a n) (expr_meets p b n) (literal_meets a n ((and_parts (is_literal a) (is_literal b) h).0)) (literal_meets b n ((and_parts (is_literal a) (is_literal b) h).1))
+  literal_meets (Sub a b) n h = and_from (expr_meets p a n) (expr_meets p b n) (literal_meets a n ((and_parts (is_literal a) (is_literal b) h).0)) (literal_meets b n ((and_parts (is_literal a) (is_literal b) h).1))
   literal_meets (Mul a b) n h =
       either_meet (is_literal a || is_literal b) (expr_meets p a n) (expr_meets p b n) (expr_meets p a true) (expr_meets p b true)
-      (both_meet (expr_meets p a n) (expr_meets p b n) (literal_meets a n (first_of_two (is_literal a) (is_literal b) h)) (literal_meets b n (second_of_two (is_literal a) (is_literal b) h)))
-      (both_meet (expr_meets p a true) (expr_meets p b true) (literal_meets a true (first_of_two (is_literal a) (is_literal b) h)) (literal_meets b true (second_of_two (is_literal a) (is_literal b) h)))
+      (and_from (expr_meets p a n) (expr_meets p b n) (literal_meets a n ((and_parts (is_literal a) (is_literal b) h).0)) (literal_meets b n ((and_parts (is_literal a) (is_literal b) h).1)))
+      (and_from (expr_meets p a true) (expr_meets p b true) (literal_meets a true ((and_parts (is_literal a) (is_literal b) h).0)) (literal_meets b true ((and_parts (is_literal a) (is_literal b) h).1)))
   literal_meets (DivDown a b) n h = absurd (true≢false (sym h))
   literal_meets (DivUp a b) n h = absurd (true≢false (sym h))
 
@@ -140,21 +131,21 @@ module _ (M : ℕ) (p : ℕ → ℤ) where
   plain_quotient a b w n h g = elim (cases_Bool (is_literal b)) [
     | inl l ↦
         let f : (int_le (pos 1) (literal_value M b) && expr_fits M a w) ≡ true = if_yes (is_literal b) (int_le (pos 1) (literal_value M b) && expr_fits M a w) ((is_natural M a && is_natural M b) && (expr_fits M a w && expr_fits M b (turn w))) h l in
-        by_constant n (literal_value M b) (second_of_two (int_le (pos 1) (literal_value M b)) (expr_fits M a w) f) (if_yes (is_literal b) (expr_meets p a n) (expr_meets p a true && expr_meets p b true) g l)
-        (λ S. literal_is S b l) (int_le_true (pos 1) (literal_value M b) (first_of_two (int_le (pos 1) (literal_value M b)) (expr_fits M a w) f))
+        by_constant n (literal_value M b) ((and_parts (int_le (pos 1) (literal_value M b)) (expr_fits M a w) f).1) (if_yes (is_literal b) (expr_meets p a n) (expr_meets p a true && expr_meets p b true) g l)
+        (λ S. literal_is S b l) (int_le_true (pos 1) (literal_value M b) ((and_parts (int_le (pos 1) (literal_value M b)) (expr_fits M a w) f).0))
     | inr l ↦
         let f : ((is_natural M a && is_natural M b) && (expr_fits M a w && expr_fits M b (turn w))) ≡ true = if_no (is_literal b) (int_le (pos 1) (literal_value M b) && expr_fits M a w) ((is_natural M a && is_natural M b) && (expr_fits M a w && expr_fits M b (turn w))) h l in
         let k : (expr_meets p a true && expr_meets p b true) ≡ true = if_no (is_literal b) (expr_meets p a n) (expr_meets p a true && expr_meets p b true) g l in
-        let nat : (is_natural M a && is_natural M b) ≡ true = first_of_two (is_natural M a && is_natural M b) (expr_fits M a w && expr_fits M b (turn w)) f in
-        let fit : (expr_fits M a w && expr_fits M b (turn w)) ≡ true = second_of_two (is_natural M a && is_natural M b) (expr_fits M a w && expr_fits M b (turn w)) f in
-        by_term (first_of_two (is_natural M a) (is_natural M b) nat) (second_of_two (is_natural M a) (is_natural M b) nat)
-        (first_of_two (expr_fits M a w) (expr_fits M b (turn w)) fit) (second_of_two (expr_fits M a w) (expr_fits M b (turn w)) fit)
-        (first_of_two (expr_meets p a true) (expr_meets p b true) k) (second_of_two (expr_meets p a true) (expr_meets p b true) k)
+        let nat : (is_natural M a && is_natural M b) ≡ true = (and_parts (is_natural M a && is_natural M b) (expr_fits M a w && expr_fits M b (turn w)) f).0 in
+        let fit : (expr_fits M a w && expr_fits M b (turn w)) ≡ true = (and_parts (is_natural M a && is_natural M b) (expr_fits M a w && expr_fits M b (turn w)) f).1 in
+        by_term ((and_parts (is_natural M a) (is_natural M b) nat).0) ((and_parts (is_natural M a) (is_natural M b) nat).1)
+        ((and_parts (expr_fits M a w) (expr_fits M b (turn w)) fit).0) ((and_parts (expr_fits M a w) (expr_fits M b (turn w)) fit).1)
+        ((and_parts (expr_meets p a true) (expr_meets p b true) k).0) ((and_parts (expr_meets p a true) (expr_meets p b true) k).1)
   ]
 
   pub quotient : (a b : Expr) (w : Wish) (n : Bool) → quotient_fits M b (expr_fits M a w) (expr_fits M b (turn w)) (is_natural M a && is_natural M b) ≡ true →
       divisor_meets p b (expr_meets p a n) (expr_meets p a true && expr_meets p b true) ≡ true → Quotient a b w
-  quotient a (Param x) w n h g = by_constant n (p x) h (second_of_two (int_le (pos 1) (p x)) (expr_meets p a n) g) (λ S. refl) (int_le_true (pos 1) (p x) (first_of_two (int_le (pos 1) (p x)) (expr_meets p a n) g))
+  quotient a (Param x) w n h g = by_constant n (p x) h ((and_parts (int_le (pos 1) (p x)) (expr_meets p a n) g).1) (λ S. refl) (int_le_true (pos 1) (p x) ((and_parts (int_le (pos 1) (p x)) (expr_meets p a n) g).0))
   quotient a (Number z) w n h g = plain_quotient a (Number z) w n h g
   quotient a Infinity w n h g = plain_quotient a Infinity w n h g
   quotient a (Min y) w n h g = plain_quotient a (Min y) w n h g
@@ -168,17 +159,17 @@ module _ (M : ℕ) (p : ℕ → ℤ) where
 
   -- the values of natural terms
   two_meet : (c u v : Bool) → cond c (u && v) (u && v) ≡ true → (u ≡ true) × (v ≡ true)
-  two_meet true u v h = (first_of_two u v h, second_of_two u v h)
-  two_meet false u v h = (first_of_two u v h, second_of_two u v h)
+  two_meet true u v h = ((and_parts u v h).0, (and_parts u v h).1)
+  two_meet false u v h = ((and_parts u v h).0, (and_parts u v h).1)
 
   plain_divided : (b : Expr) (A : Bool) → cond (is_literal b) A (A && expr_meets p b true) ≡ true → (A ≡ true) × (expr_meets p b true ≡ true)
   plain_divided b A h = elim (cases_Bool (is_literal b)) [
     | inl l ↦ (if_yes (is_literal b) A (A && expr_meets p b true) h l, literal_meets b true l)
-    | inr l ↦ let k = if_no (is_literal b) A (A && expr_meets p b true) h l in (first_of_two A (expr_meets p b true) k, second_of_two A (expr_meets p b true) k)
+    | inr l ↦ let k = if_no (is_literal b) A (A && expr_meets p b true) h l in ((and_parts A (expr_meets p b true) k).0, (and_parts A (expr_meets p b true) k).1)
   ]
 
   divided_meets : (b : Expr) (A : Bool) → divisor_meets p b A (A && expr_meets p b true) ≡ true → (A ≡ true) × (expr_meets p b true ≡ true)
-  divided_meets (Param x) A h = (second_of_two (int_le (pos 1) (p x)) A h, positive_natural (p x) (first_of_two (int_le (pos 1) (p x)) A h))
+  divided_meets (Param x) A h = ((and_parts (int_le (pos 1) (p x)) A h).1, positive_natural (p x) ((and_parts (int_le (pos 1) (p x)) A h).0))
   divided_meets (Number z) A h = plain_divided (Number z) A h
   divided_meets Infinity A h = plain_divided Infinity A h
   divided_meets (Min y) A h = plain_divided (Min y) A h
@@ -205,8 +196,8 @@ module _ (M : ℕ) (p : ℕ → ℤ) where
     | inr l ↦
         let k = if_no (is_literal a && is_literal b) (int_le (pos 0) (literal_value M (Add a b))) (is_natural M a && is_natural M b) h l in
         natural_sum (value M S (fill p a)) (value M S (fill p b))
-        (natural_is S a (first_of_two (is_natural M a) (is_natural M b) k) (first_of_two (expr_meets p a true) (expr_meets p b true) g))
-        (natural_is S b (second_of_two (is_natural M a) (is_natural M b) k) (second_of_two (expr_meets p a true) (expr_meets p b true) g))
+        (natural_is S a ((and_parts (is_natural M a) (is_natural M b) k).0) ((and_parts (expr_meets p a true) (expr_meets p b true) g).0))
+        (natural_is S b ((and_parts (is_natural M a) (is_natural M b) k).1) ((and_parts (expr_meets p a true) (expr_meets p b true) g).1))
   ]
   natural_is S (Sub a b) h g = elim (cases_Bool (is_literal a && is_literal b)) [
     | inl l ↦ as_literal S (Sub a b) l (if_yes (is_literal a && is_literal b) (int_le (pos 0) (literal_value M (Sub a b))) false h l)
@@ -218,15 +209,15 @@ module _ (M : ℕ) (p : ℕ → ℤ) where
         let k = if_no (is_literal a && is_literal b) (int_le (pos 0) (literal_value M (Mul a b))) (is_natural M a && is_natural M b) h l in
         let m = two_meet (is_literal a || is_literal b) (expr_meets p a true) (expr_meets p b true) g in
         product_natural (value M S (fill p a)) (value M S (fill p b))
-        (natural_is S a (first_of_two (is_natural M a) (is_natural M b) k) m.0)
-        (natural_is S b (second_of_two (is_natural M a) (is_natural M b) k) m.1)
+        (natural_is S a ((and_parts (is_natural M a) (is_natural M b) k).0) m.0)
+        (natural_is S b ((and_parts (is_natural M a) (is_natural M b) k).1) m.1)
   ]
   natural_is S (DivDown a b) h g =
       let m = divided_meets b (expr_meets p a true) g in
-      down_positive M (value M S (fill p a)) (value M S (fill p b)) (natural_is S a (first_of_two (is_natural M a) (is_natural M b) h) m.0) (natural_is S b (second_of_two (is_natural M a) (is_natural M b) h) m.1)
+      down_positive M (value M S (fill p a)) (value M S (fill p b)) (natural_is S a ((and_parts (is_natural M a) (is_natural M b) h).0) m.0) (natural_is S b ((and_parts (is_natural M a) (is_natural M b) h).1) m.1)
   natural_is S (DivUp a b) h g =
       let m = divided_meets b (expr_meets p a true) g in
-      up_positive M (value M S (fill p a)) (value M S (fill p b)) (natural_is S a (first_of_two (is_natural M a) (is_natural M b) h) m.0) (natural_is S b (second_of_two (is_natural M a) (is_natural M b) h) m.1)
+      up_positive M (value M S (fill p a)) (value M S (fill p b)) (natural_is S a ((and_parts (is_natural M a) (is_natural M b) h).0) m.0) (natural_is S b ((and_parts (is_natural M a) (is_natural M b) h).1) m.1)
 
 -- what the variable of a leaf keeps, from a family to one inside it
 abbrev pub LeafKeeps : Family → Family → Role → ℕ → Type 0
@@ -264,9 +255,6 @@ moves_max Rising m n h g = absurd (true≢false (sym h))
 moves_max Falling m n h g = omega (arith, ints)
 moves_max Constant m n h g = absurd (true≢false (sym h))
 
-neither : (x y : Bool) → x ≡ false → y ≡ false → (x || y) ≡ false
-neither x y h g = grind arith
-
 literal_left : (w : Wish) (l x' y' x y : ℤ) (A B : Bool) → x' ≡ l → x ≡ l → (A ≡ true → Moves w y' y) → (B ≡ true → Moves (turn w) y' y) → by_sign l A B ≡ true → Moves w (x' *ℤ y') (x *ℤ y)
 literal_left w l x' y' x y A B e g i j h = subst (λ t. Moves w (t *ℤ y') (x *ℤ y)) (sym e) (subst (λ t. Moves w (l *ℤ y') (t *ℤ y)) (sym g) (sign_moves w l y' y A B i j h))
 
@@ -288,18 +276,18 @@ module _ (M : ℕ) (p : ℕ → ℤ) (S' S : Family) where
   expr_moves (Max y) w n k f m = moves_max w (greatest (S' y)) (greatest (S y)) f k.0
   expr_moves (Val y) w n k f m = moves_same w (pos (least (S' y))) (pos (least (S y))) (ap pos k.0)
   expr_moves (Add a b) w n k f m = add_moves w _ _ _ _
-      (expr_moves a w n (left_operand a b k) (first_of_two (expr_fits M a w) (expr_fits M b w) f) (first_of_two (expr_meets p a n) (expr_meets p b n) m))
-      (expr_moves b w n (right_operand a b k) (second_of_two (expr_fits M a w) (expr_fits M b w) f) (second_of_two (expr_meets p a n) (expr_meets p b n) m))
+      (expr_moves a w n (left_operand a b k) ((and_parts (expr_fits M a w) (expr_fits M b w) f).0) ((and_parts (expr_meets p a n) (expr_meets p b n) m).0))
+      (expr_moves b w n (right_operand a b k) ((and_parts (expr_fits M a w) (expr_fits M b w) f).1) ((and_parts (expr_meets p a n) (expr_meets p b n) m).1))
   expr_moves (Sub a b) w n k f m = sub_moves w _ _ _ _
-      (expr_moves a w n (left_operand a b k) (first_of_two (expr_fits M a w) (expr_fits M b (turn w)) f) (first_of_two (expr_meets p a n) (expr_meets p b n) m))
-      (expr_moves b (turn w) n (right_operand a b k) (second_of_two (expr_fits M a w) (expr_fits M b (turn w)) f) (second_of_two (expr_meets p a n) (expr_meets p b n) m))
+      (expr_moves a w n (left_operand a b k) ((and_parts (expr_fits M a w) (expr_fits M b (turn w)) f).0) ((and_parts (expr_meets p a n) (expr_meets p b n) m).0))
+      (expr_moves b (turn w) n (right_operand a b k) ((and_parts (expr_fits M a w) (expr_fits M b (turn w)) f).1) ((and_parts (expr_meets p a n) (expr_meets p b n) m).1))
   expr_moves (Mul a b) w n k f m =
       let right : Bool = cond (is_literal b) (by_sign (literal_value M b) (expr_fits M a w) (expr_fits M a (turn w))) ((is_natural M a && is_natural M b) && (expr_fits M a w && expr_fits M b w)) in
       elim (cases_Bool (is_literal a)) [
         | inl l ↦
             let s = if_yes (is_literal a) (by_sign (literal_value M a) (expr_fits M b w) (expr_fits M b (turn w))) right f l in
             let g = if_yes (is_literal a || is_literal b) (expr_meets p a n && expr_meets p b n) (expr_meets p a true && expr_meets p b true) m (or_left (is_literal a) (is_literal b) l) in
-            let h : expr_meets p b n ≡ true = second_of_two (expr_meets p a n) (expr_meets p b n) g in
+            let h : expr_meets p b n ≡ true = (and_parts (expr_meets p a n) (expr_meets p b n) g).1 in
             literal_left w (literal_value M a) _ _ _ _ (expr_fits M b w) (expr_fits M b (turn w)) (literal_is M p S' a l) (literal_is M p S a l)
             (λ t. expr_moves b w n (right_operand a b k) t h) (λ t. expr_moves b (turn w) n (right_operand a b k) t h) s
         | inr o ↦
@@ -308,20 +296,20 @@ module _ (M : ℕ) (p : ℕ → ℤ) (S' S : Family) where
               | inl l ↦
                   let s = if_yes (is_literal b) (by_sign (literal_value M b) (expr_fits M a w) (expr_fits M a (turn w))) ((is_natural M a && is_natural M b) && (expr_fits M a w && expr_fits M b w)) q l in
                   let g = if_yes (is_literal a || is_literal b) (expr_meets p a n && expr_meets p b n) (expr_meets p a true && expr_meets p b true) m (or_right (is_literal a) (is_literal b) l) in
-                  let h : expr_meets p a n ≡ true = first_of_two (expr_meets p a n) (expr_meets p b n) g in
+                  let h : expr_meets p a n ≡ true = (and_parts (expr_meets p a n) (expr_meets p b n) g).0 in
                   literal_right w (literal_value M b) _ _ _ _ (expr_fits M a w) (expr_fits M a (turn w)) (literal_is M p S' b l) (literal_is M p S b l)
                   (λ t. expr_moves a w n (left_operand a b k) t h) (λ t. expr_moves a (turn w) n (left_operand a b k) t h) s
               | inr l ↦
                   let s = if_no (is_literal b) (by_sign (literal_value M b) (expr_fits M a w) (expr_fits M a (turn w))) ((is_natural M a && is_natural M b) && (expr_fits M a w && expr_fits M b w)) q l in
-                  let g = if_no (is_literal a || is_literal b) (expr_meets p a n && expr_meets p b n) (expr_meets p a true && expr_meets p b true) m (neither (is_literal a) (is_literal b) o l) in
-                  let i = first_of_two (is_natural M a && is_natural M b) (expr_fits M a w && expr_fits M b w) s in
-                  let j = second_of_two (is_natural M a && is_natural M b) (expr_fits M a w && expr_fits M b w) s in
-                  let ma = first_of_two (expr_meets p a true) (expr_meets p b true) g in
-                  let mb = second_of_two (expr_meets p a true) (expr_meets p b true) g in
-                  let na = first_of_two (is_natural M a) (is_natural M b) i in
-                  let nb = second_of_two (is_natural M a) (is_natural M b) i in
+                  let g = if_no (is_literal a || is_literal b) (expr_meets p a n && expr_meets p b n) (expr_meets p a true && expr_meets p b true) m (or_from (is_literal a) (is_literal b) o l) in
+                  let i = (and_parts (is_natural M a && is_natural M b) (expr_fits M a w && expr_fits M b w) s).0 in
+                  let j = (and_parts (is_natural M a && is_natural M b) (expr_fits M a w && expr_fits M b w) s).1 in
+                  let ma = (and_parts (expr_meets p a true) (expr_meets p b true) g).0 in
+                  let mb = (and_parts (expr_meets p a true) (expr_meets p b true) g).1 in
+                  let na = (and_parts (is_natural M a) (is_natural M b) i).0 in
+                  let nb = (and_parts (is_natural M a) (is_natural M b) i).1 in
                   product_moves w _ _ _ _ (natural_is M p S' a na ma) (natural_is M p S a na ma) (natural_is M p S' b nb mb) (natural_is M p S b nb mb)
-                  (expr_moves a w true (left_operand a b k) (first_of_two (expr_fits M a w) (expr_fits M b w) j) ma) (expr_moves b w true (right_operand a b k) (second_of_two (expr_fits M a w) (expr_fits M b w) j) mb)
+                  (expr_moves a w true (left_operand a b k) ((and_parts (expr_fits M a w) (expr_fits M b w) j).0) ma) (expr_moves b w true (right_operand a b k) ((and_parts (expr_fits M a w) (expr_fits M b w) j).1) mb)
             ]
       ]
   expr_moves (DivDown a b) w n k f m = elim (quotient M p a b w n f m) [

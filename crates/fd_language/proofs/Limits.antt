@@ -3,7 +3,7 @@ use Rattle.std.proofs.Common.{◌≡◌, ℕ, zero, suc, ◌+◌, ◌-◌, ◌*�
 use Rattle.std.specs.List.{All}
 use Rattle.std.proofs.lemmas.List.Elements.{All-append, All-cons, All-map}
 use Rattle.std.proofs.lemmas.Int.{ints}
-use Rattle.std.proofs.lemmas.Bool.{cases_Bool, true≢false}
+use Rattle.std.proofs.lemmas.Bool.{cases_Bool, true≢false, and_parts}
 use Rattle.fd_language.specs.declared.range_node.Need.{Need}
 use Rattle.fd_language.specs.declared.range_node.Need.TheVariants.{Divisor}
 use Rattle.fd_language.specs.Family.{Family, IsFamily, IsRising, count_up, universe}
@@ -14,7 +14,7 @@ use Rattle.fd_language.specs.RangeVerdict.{bound, over_limit, factor_over_limit,
 use Rattle.fd_language.specs.Met.{expr_values, range_values, expr_divisors, range_divisors}
 use Rattle.fd_language.specs.CheckLaws.{BoundedValues}
 use Rattle.fd_language.proofs.Meeting.{asks_met, split_asks, asks_from_needs, meets_size, needs_met, divisor_meets, expr_meets, over_meets, range_meets}
-use Rattle.fd_language.proofs.Directions.{first_of_two, second_of_two, literal_is, Quotient, by_constant, by_term, quotient, natural_is}
+use Rattle.fd_language.proofs.Directions.{literal_is, Quotient, by_constant, by_term, quotient, natural_is}
 
 -- magnitudes
 pub abs_add : (x y : ℤ) → nat_abs (x +ℤ y) ≤ nat_abs x + nat_abs y
@@ -107,15 +107,9 @@ AllSmall p (Over r c) = AllSmall p r × SmallParams p c
 size_small : (n : ℕ) → nat_lt n (2 ^ 63) ≡ true → n ≤ 2 ^ 63 - 1
 size_small n h = grind arith
 
-both_true : (x y : Bool) → x ≡ true → y ≡ true → (x && y) ≡ true
-both_true x y h g = grind arith
-
-left_true : (x y : Bool) → (x && y) ≡ true → x ≡ true
-left_true x y h = grind arith
-
 module _ (p : ℕ → ℤ) where
   one_small : (x : ℕ) (n : Need) → asks_met p ((x, n) ∷ []) ≡ true → nat_abs (p x) ≤ 2 ^ 63 - 1
-  one_small x n h = size_small (nat_abs (p x)) (meets_size n (p x) (left_true (meets n (p x)) true h))
+  one_small x n h = size_small (nat_abs (p x)) (meets_size n (p x) ((and_parts (meets n (p x)) true h).0))
 
   branches : (c : Bool) (xs ys : List (ℕ × Need)) (Q : Type 0) → (c ≡ true → asks_met p xs ≡ true → Q) → (asks_met p ys ≡ true → Q) → asks_met p (cond c xs ys) ≡ true → Q
   branches true xs ys Q f g h = f refl h
@@ -128,9 +122,9 @@ module _ (p : ℕ → ℤ) where
   literal_small (Min y) h = tt
   literal_small (Max y) h = tt
   literal_small (Val y) h = tt
-  literal_small (Add a b) h = (literal_small a (first_of_two (is_literal a) (is_literal b) h), literal_small b (second_of_two (is_literal a) (is_literal b) h))
-  literal_small (Sub a b) h = (literal_small a (first_of_two (is_literal a) (is_literal b) h), literal_small b (second_of_two (is_literal a) (is_literal b) h))
-  literal_small (Mul a b) h = (literal_small a (first_of_two (is_literal a) (is_literal b) h), literal_small b (second_of_two (is_literal a) (is_literal b) h))
+  literal_small (Add a b) h = (literal_small a ((and_parts (is_literal a) (is_literal b) h).0), literal_small b ((and_parts (is_literal a) (is_literal b) h).1))
+  literal_small (Sub a b) h = (literal_small a ((and_parts (is_literal a) (is_literal b) h).0), literal_small b ((and_parts (is_literal a) (is_literal b) h).1))
+  literal_small (Mul a b) h = (literal_small a ((and_parts (is_literal a) (is_literal b) h).0), literal_small b ((and_parts (is_literal a) (is_literal b) h).1))
   literal_small (DivDown a b) h = absurd (true≢false (sym h))
   literal_small (DivUp a b) h = absurd (true≢false (sym h))
 
@@ -272,11 +266,11 @@ module _ (M : ℕ) (p : ℕ → ℤ) (S : Family) (family : IsFamily M S) where
   each_kept f g = All-map Kept f (universe M) (λ k d l. g _ (universe_all M k d l))
 
   ranges_kept : (r : Range) → AllSmall p r → range_within M r ≡ true → All Kept (range_values M S (fill_range p r))
-  ranges_kept (Span a b) s h = All-append Kept (expr_values M S (fill p a)) (expr_values M S (fill p b)) (values_kept a s.0 (first_of_two (expr_within M a) (expr_within M b) h)) (values_kept b s.1 (second_of_two (expr_within M a) (expr_within M b) h))
+  ranges_kept (Span a b) s h = All-append Kept (expr_values M S (fill p a)) (expr_values M S (fill p b)) (values_kept a s.0 ((and_parts (expr_within M a) (expr_within M b) h).0)) (values_kept b s.1 ((and_parts (expr_within M a) (expr_within M b) h).1))
   ranges_kept (One t) s h = values_kept t s h
   ranges_kept (Dom y) s h = nothing
-  ranges_kept (Union r q) s h = All-append Kept (range_values M S (fill_range p r)) (range_values M S (fill_range p q)) (ranges_kept r s.0 (first_of_two (range_within M r) (range_within M q) h)) (ranges_kept q s.1 (second_of_two (range_within M r) (range_within M q) h))
-  ranges_kept (Inter r q) s h = All-append Kept (range_values M S (fill_range p r)) (range_values M S (fill_range p q)) (ranges_kept r s.0 (first_of_two (range_within M r) (range_within M q) h)) (ranges_kept q s.1 (second_of_two (range_within M r) (range_within M q) h))
+  ranges_kept (Union r q) s h = All-append Kept (range_values M S (fill_range p r)) (range_values M S (fill_range p q)) (ranges_kept r s.0 ((and_parts (range_within M r) (range_within M q) h).0)) (ranges_kept q s.1 ((and_parts (range_within M r) (range_within M q) h).1))
+  ranges_kept (Inter r q) s h = All-append Kept (range_values M S (fill_range p r)) (range_values M S (fill_range p q)) (ranges_kept r s.0 ((and_parts (range_within M r) (range_within M q) h).0)) (ranges_kept q s.1 ((and_parts (range_within M r) (range_within M q) h).1))
   ranges_kept (Outside r) s h = ranges_kept r s h
   ranges_kept (Plus r c) s h =
       let f : ℕ → ℤ = λ e. pos e +ℤ value M S (fill p c) in
@@ -313,9 +307,9 @@ module _ (M : ℕ) (p : ℕ → ℤ) (S : Family) (family : IsFamily M S) where
   literal_divides (Min y) h = no_divisor
   literal_divides (Max y) h = no_divisor
   literal_divides (Val y) h = no_divisor
-  literal_divides (Add a b) h = two_divide a b (literal_divides a (first_of_two (is_literal a) (is_literal b) h)) (literal_divides b (second_of_two (is_literal a) (is_literal b) h))
-  literal_divides (Sub a b) h = two_divide a b (literal_divides a (first_of_two (is_literal a) (is_literal b) h)) (literal_divides b (second_of_two (is_literal a) (is_literal b) h))
-  literal_divides (Mul a b) h = two_divide a b (literal_divides a (first_of_two (is_literal a) (is_literal b) h)) (literal_divides b (second_of_two (is_literal a) (is_literal b) h))
+  literal_divides (Add a b) h = two_divide a b (literal_divides a ((and_parts (is_literal a) (is_literal b) h).0)) (literal_divides b ((and_parts (is_literal a) (is_literal b) h).1))
+  literal_divides (Sub a b) h = two_divide a b (literal_divides a ((and_parts (is_literal a) (is_literal b) h).0)) (literal_divides b ((and_parts (is_literal a) (is_literal b) h).1))
+  literal_divides (Mul a b) h = two_divide a b (literal_divides a ((and_parts (is_literal a) (is_literal b) h).0)) (literal_divides b ((and_parts (is_literal a) (is_literal b) h).1))
   literal_divides (DivDown a b) h = absurd (true≢false (sym h))
   literal_divides (DivUp a b) h = absurd (true≢false (sym h))
 
@@ -338,12 +332,12 @@ module _ (M : ℕ) (p : ℕ → ℤ) (S : Family) (family : IsFamily M S) where
   signed (negsuc n) x y h = inr h
 
   met_left : (c x y u v : Bool) → cond c (x && y) (u && v) ≡ true → (x ≡ true) ⊎ (u ≡ true)
-  met_left true x y u v h = inl (left_true x y h)
-  met_left false x y u v h = inr (left_true u v h)
+  met_left true x y u v h = inl ((and_parts x y h).0)
+  met_left false x y u v h = inr ((and_parts u v h).0)
 
   met_right : (c x y u v : Bool) → cond c (x && y) (u && v) ≡ true → (y ≡ true) ⊎ (v ≡ true)
-  met_right true x y u v h = inl (second_of_two x y h)
-  met_right false x y u v h = inr (second_of_two u v h)
+  met_right true x y u v h = inl ((and_parts x y h).1)
+  met_right false x y u v h = inr ((and_parts u v h).1)
 
   at_least_one : (d : ℤ) → pos 1 ≤ℤ d → pos 0 ≤ℤ d
   at_least_one d h = omega (arith, ints)
@@ -357,7 +351,7 @@ module _ (M : ℕ) (p : ℕ → ℤ) (S : Family) (family : IsFamily M S) where
   if_false false x y e h = h
 
   turned_fits : (b : Expr) (plain turned natural : Bool) → is_literal b ≡ false → is_parameter b ≡ false → quotient_fits M b plain turned natural ≡ true → turned ≡ true
-  turned_fits b plain turned natural l k h = second_of_two plain turned (second_of_two natural (plain && turned) (if_false (is_parameter b) plain _ k (if_false (is_literal b) _ _ l h)))
+  turned_fits b plain turned natural l k h = (and_parts plain turned ((and_parts natural (plain && turned) (if_false (is_parameter b) plain _ k (if_false (is_literal b) _ _ l h))).1)).1
 
   others_meet : (b : Expr) (plain others : Bool) → is_literal b ≡ false → is_parameter b ≡ false → divisor_meets p b plain others ≡ true → others ≡ true
   others_meet (Param x) plain others l k h = absurd (true≢false k)
@@ -388,11 +382,11 @@ module _ (M : ℕ) (p : ℕ → ℤ) (S : Family) (family : IsFamily M S) where
   divisors_kept (Max y) w n f m = no_divisor
   divisors_kept (Val y) w n f m = no_divisor
   divisors_kept (Add a b) w n f m = two_divide a b
-      (divisors_kept a w n (first_of_two (expr_fits M a w) (expr_fits M b w) f) (first_of_two (expr_meets p a n) (expr_meets p b n) m))
-      (divisors_kept b w n (second_of_two (expr_fits M a w) (expr_fits M b w) f) (second_of_two (expr_meets p a n) (expr_meets p b n) m))
+      (divisors_kept a w n ((and_parts (expr_fits M a w) (expr_fits M b w) f).0) ((and_parts (expr_meets p a n) (expr_meets p b n) m).0))
+      (divisors_kept b w n ((and_parts (expr_fits M a w) (expr_fits M b w) f).1) ((and_parts (expr_meets p a n) (expr_meets p b n) m).1))
   divisors_kept (Sub a b) w n f m = two_divide a b
-      (divisors_kept a w n (first_of_two (expr_fits M a w) (expr_fits M b (turn w)) f) (first_of_two (expr_meets p a n) (expr_meets p b n) m))
-      (divisors_kept b (turn w) n (second_of_two (expr_fits M a w) (expr_fits M b (turn w)) f) (second_of_two (expr_meets p a n) (expr_meets p b n) m))
+      (divisors_kept a w n ((and_parts (expr_fits M a w) (expr_fits M b (turn w)) f).0) ((and_parts (expr_meets p a n) (expr_meets p b n) m).0))
+      (divisors_kept b (turn w) n ((and_parts (expr_fits M a w) (expr_fits M b (turn w)) f).1) ((and_parts (expr_meets p a n) (expr_meets p b n) m).1))
   divisors_kept (Mul a b) w n f m =
       let ma = met_left (is_literal a || is_literal b) (expr_meets p a n) (expr_meets p b n) (expr_meets p a true) (expr_meets p b true) m in
       let mb = met_right (is_literal a || is_literal b) (expr_meets p a n) (expr_meets p b n) (expr_meets p a true) (expr_meets p b true) m in
@@ -403,8 +397,8 @@ module _ (M : ℕ) (p : ℕ → ℤ) (S : Family) (family : IsFamily M S) where
         | inr l ↦ elim (cases_Bool (is_literal b)) [
           | inl k ↦ two_divide a b (elim (signed (literal_value M b) _ _ (if_true (is_literal b) _ _ k (if_false (is_literal a) _ _ l f))) [ inl g ↦ da w g | inr g ↦ da (turn w) g ]) (literal_divides b k)
           | inr k ↦
-              let g = second_of_two (is_natural M a && is_natural M b) (expr_fits M a w && expr_fits M b w) (if_false (is_literal b) _ _ k (if_false (is_literal a) _ _ l f)) in
-              two_divide a b (da w (first_of_two (expr_fits M a w) (expr_fits M b w) g)) (db w (second_of_two (expr_fits M a w) (expr_fits M b w) g))
+              let g = (and_parts (is_natural M a && is_natural M b) (expr_fits M a w && expr_fits M b w) (if_false (is_literal b) _ _ k (if_false (is_literal a) _ _ l f))).1 in
+              two_divide a b (da w ((and_parts (expr_fits M a w) (expr_fits M b w) g).0)) (db w ((and_parts (expr_fits M a w) (expr_fits M b w) g).1))
         ]
       ]
   divisors_kept (DivDown a b) w n f m =
@@ -415,7 +409,7 @@ module _ (M : ℕ) (p : ℕ → ℤ) (S : Family) (family : IsFamily M S) where
         | inr l ↦ elim (cases_Bool (is_parameter b)) [
           | inl k ↦ parameter_divides b k
           | inr k ↦ divisors_kept b (turn w) true (turned_fits b (expr_fits M a w) (expr_fits M b (turn w)) (is_natural M a && is_natural M b) l k f)
-              (second_of_two (expr_meets p a true) (expr_meets p b true) (others_meet b (expr_meets p a n) (expr_meets p a true && expr_meets p b true) l k m))
+              ((and_parts (expr_meets p a true) (expr_meets p b true) (others_meet b (expr_meets p a n) (expr_meets p a true && expr_meets p b true) l k m)).1)
         ]
       ] in
       All-cons NotNegative (value M S (fill p b)) (expr_divisors M S (fill p a) ++ expr_divisors M S (fill p b)) (value_divides a b w q)
@@ -428,7 +422,7 @@ module _ (M : ℕ) (p : ℕ → ℤ) (S : Family) (family : IsFamily M S) where
         | inr l ↦ elim (cases_Bool (is_parameter b)) [
           | inl k ↦ parameter_divides b k
           | inr k ↦ divisors_kept b (turn w) true (turned_fits b (expr_fits M a w) (expr_fits M b (turn w)) (is_natural M a && is_natural M b) l k f)
-              (second_of_two (expr_meets p a true) (expr_meets p b true) (others_meet b (expr_meets p a n) (expr_meets p a true && expr_meets p b true) l k m))
+              ((and_parts (expr_meets p a true) (expr_meets p b true) (others_meet b (expr_meets p a n) (expr_meets p a true && expr_meets p b true) l k m)).1)
         ]
       ] in
       All-cons NotNegative (value M S (fill p b)) (expr_divisors M S (fill p a) ++ expr_divisors M S (fill p b)) (value_divides a b w q)
@@ -438,7 +432,7 @@ module _ (M : ℕ) (p : ℕ → ℤ) (S : Family) (family : IsFamily M S) where
   above_one z h = grind (arith, ints)
 
   by_literal : (c : Expr) → (is_literal c && int_le (pos 1) (literal_value M c)) ≡ true → NotNegative (value M S (fill p c))
-  by_literal c h = subst NotNegative (sym (literal_is M p S c (first_of_two (is_literal c) (int_le (pos 1) (literal_value M c)) h))) (above_one (literal_value M c) (second_of_two (is_literal c) (int_le (pos 1) (literal_value M c)) h))
+  by_literal c h = subst NotNegative (sym (literal_is M p S c ((and_parts (is_literal c) (int_le (pos 1) (literal_value M c)) h).0))) (above_one (literal_value M c) ((and_parts (is_literal c) (int_le (pos 1) (literal_value M c)) h).1))
 
   over_divides : (c : Expr) → (is_parameter c || (is_literal c && int_le (pos 1) (literal_value M c))) ≡ true → over_meets p c ≡ true → NotNegative (value M S (fill p c))
   over_divides (Param x) h g = above_one (p x) g
@@ -454,23 +448,23 @@ module _ (M : ℕ) (p : ℕ → ℤ) (S : Family) (family : IsFamily M S) where
   over_divides (DivUp c d) h g = by_literal (DivUp c d) h
 
   ranges_divide : (r : Range) (w : Bool) → range_fits M r w ≡ true → range_meets p r ≡ true → All NotNegative (range_divisors M S (fill_range p r))
-  ranges_divide (Span a b) true f m = two_divide a b (divisors_kept a Rising false (first_of_two (expr_fits M a Rising) (expr_fits M b Falling) f) (first_of_two (expr_meets p a false) (expr_meets p b false) m)) (divisors_kept b Falling false (second_of_two (expr_fits M a Rising) (expr_fits M b Falling) f) (second_of_two (expr_meets p a false) (expr_meets p b false) m))
-  ranges_divide (Span a b) false f m = two_divide a b (divisors_kept a Falling false (first_of_two (expr_fits M a Falling) (expr_fits M b Rising) f) (first_of_two (expr_meets p a false) (expr_meets p b false) m)) (divisors_kept b Rising false (second_of_two (expr_fits M a Falling) (expr_fits M b Rising) f) (second_of_two (expr_meets p a false) (expr_meets p b false) m))
+  ranges_divide (Span a b) true f m = two_divide a b (divisors_kept a Rising false ((and_parts (expr_fits M a Rising) (expr_fits M b Falling) f).0) ((and_parts (expr_meets p a false) (expr_meets p b false) m).0)) (divisors_kept b Falling false ((and_parts (expr_fits M a Rising) (expr_fits M b Falling) f).1) ((and_parts (expr_meets p a false) (expr_meets p b false) m).1))
+  ranges_divide (Span a b) false f m = two_divide a b (divisors_kept a Falling false ((and_parts (expr_fits M a Falling) (expr_fits M b Rising) f).0) ((and_parts (expr_meets p a false) (expr_meets p b false) m).0)) (divisors_kept b Rising false ((and_parts (expr_fits M a Falling) (expr_fits M b Rising) f).1) ((and_parts (expr_meets p a false) (expr_meets p b false) m).1))
   ranges_divide (One t) w f m = divisors_kept t Constant false f m
   ranges_divide (Dom y) w f m = no_divisor
-  ranges_divide (Union r q) w f m = All-append NotNegative (range_divisors M S (fill_range p r)) (range_divisors M S (fill_range p q)) (ranges_divide r w (first_of_two (range_fits M r w) (range_fits M q w) f) (first_of_two (range_meets p r) (range_meets p q) m)) (ranges_divide q w (second_of_two (range_fits M r w) (range_fits M q w) f) (second_of_two (range_meets p r) (range_meets p q) m))
-  ranges_divide (Inter r q) w f m = All-append NotNegative (range_divisors M S (fill_range p r)) (range_divisors M S (fill_range p q)) (ranges_divide r w (first_of_two (range_fits M r w) (range_fits M q w) f) (first_of_two (range_meets p r) (range_meets p q) m)) (ranges_divide q w (second_of_two (range_fits M r w) (range_fits M q w) f) (second_of_two (range_meets p r) (range_meets p q) m))
+  ranges_divide (Union r q) w f m = All-append NotNegative (range_divisors M S (fill_range p r)) (range_divisors M S (fill_range p q)) (ranges_divide r w ((and_parts (range_fits M r w) (range_fits M q w) f).0) ((and_parts (range_meets p r) (range_meets p q) m).0)) (ranges_divide q w ((and_parts (range_fits M r w) (range_fits M q w) f).1) ((and_parts (range_meets p r) (range_meets p q) m).1))
+  ranges_divide (Inter r q) w f m = All-append NotNegative (range_divisors M S (fill_range p r)) (range_divisors M S (fill_range p q)) (ranges_divide r w ((and_parts (range_fits M r w) (range_fits M q w) f).0) ((and_parts (range_meets p r) (range_meets p q) m).0)) (ranges_divide q w ((and_parts (range_fits M r w) (range_fits M q w) f).1) ((and_parts (range_meets p r) (range_meets p q) m).1))
   ranges_divide (Outside r) w f m = ranges_divide r (not w) f m
-  ranges_divide (Plus r c) w f m = All-append NotNegative (range_divisors M S (fill_range p r)) (expr_divisors M S (fill p c)) (ranges_divide r w (first_of_two (range_fits M r w) (expr_fits M c Constant) f) (first_of_two (range_meets p r) (expr_meets p c false) m)) (divisors_kept c Constant false (second_of_two (range_fits M r w) (expr_fits M c Constant) f) (second_of_two (range_meets p r) (expr_meets p c false) m))
-  ranges_divide (Minus r c) w f m = All-append NotNegative (range_divisors M S (fill_range p r)) (expr_divisors M S (fill p c)) (ranges_divide r w (first_of_two (range_fits M r w) (expr_fits M c Constant) f) (first_of_two (range_meets p r) (expr_meets p c false) m)) (divisors_kept c Constant false (second_of_two (range_fits M r w) (expr_fits M c Constant) f) (second_of_two (range_meets p r) (expr_meets p c false) m))
-  ranges_divide (Times r c) w f m = All-append NotNegative (range_divisors M S (fill_range p r)) (expr_divisors M S (fill p c)) (ranges_divide r w (first_of_two (range_fits M r w) (expr_fits M c Constant) f) (first_of_two (range_meets p r) (expr_meets p c false) m)) (divisors_kept c Constant false (second_of_two (range_fits M r w) (expr_fits M c Constant) f) (second_of_two (range_meets p r) (expr_meets p c false) m))
+  ranges_divide (Plus r c) w f m = All-append NotNegative (range_divisors M S (fill_range p r)) (expr_divisors M S (fill p c)) (ranges_divide r w ((and_parts (range_fits M r w) (expr_fits M c Constant) f).0) ((and_parts (range_meets p r) (expr_meets p c false) m).0)) (divisors_kept c Constant false ((and_parts (range_fits M r w) (expr_fits M c Constant) f).1) ((and_parts (range_meets p r) (expr_meets p c false) m).1))
+  ranges_divide (Minus r c) w f m = All-append NotNegative (range_divisors M S (fill_range p r)) (expr_divisors M S (fill p c)) (ranges_divide r w ((and_parts (range_fits M r w) (expr_fits M c Constant) f).0) ((and_parts (range_meets p r) (expr_meets p c false) m).0)) (divisors_kept c Constant false ((and_parts (range_fits M r w) (expr_fits M c Constant) f).1) ((and_parts (range_meets p r) (expr_meets p c false) m).1))
+  ranges_divide (Times r c) w f m = All-append NotNegative (range_divisors M S (fill_range p r)) (expr_divisors M S (fill p c)) (ranges_divide r w ((and_parts (range_fits M r w) (expr_fits M c Constant) f).0) ((and_parts (range_meets p r) (expr_meets p c false) m).0)) (divisors_kept c Constant false ((and_parts (range_fits M r w) (expr_fits M c Constant) f).1) ((and_parts (range_meets p r) (expr_meets p c false) m).1))
   ranges_divide (Over r c) w f m =
       let d : Bool = is_parameter c || (is_literal c && int_le (pos 1) (literal_value M c)) in
-      All-append NotNegative (range_divisors M S (fill_range p r)) (value M S (fill p c) ∷ []) (ranges_divide r w (first_of_two (range_fits M r w) d f) (first_of_two (range_meets p r) (over_meets p c) m))
-      (All-cons NotNegative (value M S (fill p c)) [] (over_divides c (second_of_two (range_fits M r w) d f) (second_of_two (range_meets p r) (over_meets p c) m)) no_divisor)
+      All-append NotNegative (range_divisors M S (fill_range p r)) (value M S (fill p c) ∷ []) (ranges_divide r w ((and_parts (range_fits M r w) d f).0) ((and_parts (range_meets p r) (over_meets p c) m).0))
+      (All-cons NotNegative (value M S (fill p c)) [] (over_divides c ((and_parts (range_fits M r w) d f).1) ((and_parts (range_meets p r) (over_meets p c) m).1)) no_divisor)
 
 pub bounded_values : BoundedValues
 bounded_values M r p S h g family = record {
-  values = ranges_kept M p S family r (all_small p r (asks_from_needs p r g)) (first_of_two (range_within M r) (range_fits M r true && has_one_use r) h);
-  divisors = ranges_divide M p S family r true (first_of_two (range_fits M r true) (has_one_use r) (second_of_two (range_within M r) (range_fits M r true && has_one_use r) h)) (needs_met p r g);
+  values = ranges_kept M p S family r (all_small p r (asks_from_needs p r g)) ((and_parts (range_within M r) (range_fits M r true && has_one_use r) h).0);
+  divisors = ranges_divide M p S family r true ((and_parts (range_fits M r true) (has_one_use r) ((and_parts (range_within M r) (range_fits M r true && has_one_use r) h).1)).0) (needs_met p r g);
 }

@@ -2,22 +2,13 @@
 use Rattle.std.proofs.Common.{◌≡◌, ℕ, ◌^◌, Bool, true, false, cond, ◌||◌, ◌&&◌, not, ◌==◌, ℤ, pos, int_le, nat_lt, nat_abs, List, [], ◌∷◌, ◌++◌, map, filter, refl, sym, ◌∙◌, subst, inl, inr, arith, eqb-true, eq-eqb}
 use Rattle.std.specs.Prelude.{if◌then◌else◌}
 use Rattle.std.proofs.lemmas.Int.{ints}
-use Rattle.std.proofs.lemmas.Bool.{cases_Bool, true≢false}
+use Rattle.std.proofs.lemmas.Bool.{cases_Bool, true≢false, and_parts, and_from}
 use Rattle.std.proofs.lemmas.List.Folds.{list_all-append, list_all-map}
 use Rattle.std.specs.List.{list_all}
 use Rattle.fd_language.specs.declared.range_node.Need.{Need}
 use Rattle.fd_language.specs.declared.range_node.Need.TheVariants.{Whole, Natural, Divisor}
 use Rattle.fd_language.specs.Range.{Range, Span, One, Dom, Union, Inter, Outside, Plus, Minus, Times, Over, Expr, Number, Infinity, Param, Min, Max, Val, Add, Sub, Mul, DivDown, DivUp}
 use Rattle.fd_language.specs.Needs.{meets, is_literal, by_place, quotient_asks, expr_asks, over_asks, asks, stronger, strongest, once, parameters, need_of, meets_needs}
-
-and_left : (x y : Bool) → (x && y) ≡ true → x ≡ true
-and_left x y h = grind arith
-
-and_right : (x y : Bool) → (x && y) ≡ true → y ≡ true
-and_right x y h = grind arith
-
-both_true : (x y : Bool) → x ≡ true → y ≡ true → (x && y) ≡ true
-both_true x y h g = grind arith
 
 above_zero : (z : ℤ) → int_le (pos 1) z ≡ true → int_le (pos 0) z ≡ true
 above_zero z h = grind (arith, ints)
@@ -63,11 +54,11 @@ range_meets p (Over r c) = range_meets p r && over_meets p c
 -- a stronger need asks for all that a weaker one asks for
 pub meets_size : (n : Need) (z : ℤ) → meets n z ≡ true → nat_lt (nat_abs z) (2 ^ 63) ≡ true
 meets_size Whole z h = h
-meets_size Natural z h = and_left (nat_lt (nat_abs z) (2 ^ 63)) (int_le (pos 0) z) h
-meets_size Divisor z h = and_left (nat_lt (nat_abs z) (2 ^ 63)) (int_le (pos 1) z) h
+meets_size Natural z h = (and_parts (nat_lt (nat_abs z) (2 ^ 63)) (int_le (pos 0) z) h).0
+meets_size Divisor z h = (and_parts (nat_lt (nat_abs z) (2 ^ 63)) (int_le (pos 1) z) h).0
 
 meets_natural : (z : ℤ) → meets Divisor z ≡ true → meets Natural z ≡ true
-meets_natural z h = both_true (nat_lt (nat_abs z) (2 ^ 63)) (int_le (pos 0) z) (meets_size Divisor z h) (above_zero z (and_right (nat_lt (nat_abs z) (2 ^ 63)) (int_le (pos 1) z) h))
+meets_natural z h = and_from (nat_lt (nat_abs z) (2 ^ 63)) (int_le (pos 0) z) (meets_size Divisor z h) (above_zero z ((and_parts (nat_lt (nat_abs z) (2 ^ 63)) (int_le (pos 1) z) h).1))
 
 meets_left : (a b : Need) (z : ℤ) → meets (stronger a b) z ≡ true → meets a z ≡ true
 meets_left Whole b z h = meets_size b z h
@@ -100,24 +91,22 @@ either_right false a b z h = h
 from_strongest : (p : ℕ → ℤ) (all ds : List (ℕ × Need)) → ((x : ℕ) (z : ℤ) → meets (strongest all x) z ≡ true → meets (strongest ds x) z ≡ true) →
     list_all (λ d. meets (strongest all d.0) (p d.0)) ds ≡ true → asks_met p ds ≡ true
 from_strongest p all [] f h = refl
-from_strongest p all (d ∷ ds) f h = both_true (meets d.1 (p d.0)) (asks_met p ds)
-    (either_left (d.0 == d.0) d.1 (strongest ds d.0) (p d.0) (eq-eqb d.0 d.0 refl) (f d.0 (p d.0) (and_left (meets (strongest all d.0) (p d.0)) (list_all (λ c. meets (strongest all c.0) (p c.0)) ds) h)))
-    (from_strongest p all ds (λ x z k. either_right (d.0 == x) d.1 (strongest ds x) z (f x z k)) (and_right (meets (strongest all d.0) (p d.0)) (list_all (λ c. meets (strongest all c.0) (p c.0)) ds) h))
+from_strongest p all (d ∷ ds) f h = and_from (meets d.1 (p d.0)) (asks_met p ds) (either_left (d.0 == d.0) d.1 (strongest ds d.0) (p d.0) (eq-eqb d.0 d.0 refl) (f d.0 (p d.0) ((and_parts (meets (strongest all d.0) (p d.0)) (list_all (λ c. meets (strongest all c.0) (p c.0)) ds) h).0))) (from_strongest p all ds (λ x z k. either_right (d.0 == x) d.1 (strongest ds x) z (f x z k)) ((and_parts (meets (strongest all d.0) (p d.0)) (list_all (λ c. meets (strongest all c.0) (p c.0)) ds) h).1))
 
 unfilter : (f : ℕ → Bool) (x : ℕ) (ys : List ℕ) → f x ≡ true → list_all f (filter (λ y. not (y == x)) ys) ≡ true → list_all f ys ≡ true
 unfilter f x [] e h = refl
 unfilter f x (y ∷ ys) e h = elim (cases_Bool (y == x)) [
-  | inl i ↦ both_true (f y) (list_all f ys) (subst (λ n. f n ≡ true) (sym (eqb-true y x i)) e) (unfilter f x ys e (subst (λ b. list_all f (cond (not b) (y ∷ filter (λ n. not (n == x)) ys) (filter (λ n. not (n == x)) ys)) ≡ true) i h))
+  | inl i ↦ and_from (f y) (list_all f ys) (subst (λ n. f n ≡ true) (sym (eqb-true y x i)) e) (unfilter f x ys e (subst (λ b. list_all f (cond (not b) (y ∷ filter (λ n. not (n == x)) ys) (filter (λ n. not (n == x)) ys)) ≡ true) i h))
   | inr i ↦
       let g : (f y && list_all f (filter (λ n. not (n == x)) ys)) ≡ true = subst (λ b. list_all f (cond (not b) (y ∷ filter (λ n. not (n == x)) ys) (filter (λ n. not (n == x)) ys)) ≡ true) i h in
-      both_true (f y) (list_all f ys) (and_left (f y) (list_all f (filter (λ n. not (n == x)) ys)) g) (unfilter f x ys e (and_right (f y) (list_all f (filter (λ n. not (n == x)) ys)) g))
+      and_from (f y) (list_all f ys) ((and_parts (f y) (list_all f (filter (λ n. not (n == x)) ys)) g).0) (unfilter f x ys e ((and_parts (f y) (list_all f (filter (λ n. not (n == x)) ys)) g).1))
 ]
 
 from_once : (f : ℕ → Bool) (xs : List ℕ) → list_all f (once xs) ≡ true → list_all f xs ≡ true
 from_once f [] h = refl
 from_once f (x ∷ xs) h =
-    let e : f x ≡ true = and_left (f x) (list_all f (filter (λ y. not (y == x)) (once xs))) h in
-    both_true (f x) (list_all f xs) e (from_once f xs (unfilter f x (once xs) e (and_right (f x) (list_all f (filter (λ y. not (y == x)) (once xs))) h)))
+    let e : f x ≡ true = (and_parts (f x) (list_all f (filter (λ y. not (y == x)) (once xs))) h).0 in
+    and_from (f x) (list_all f xs) e (from_once f xs (unfilter f x (once xs) e ((and_parts (f x) (list_all f (filter (λ y. not (y == x)) (once xs))) h).1)))
 
 pub asks_from_needs : (p : ℕ → ℤ) (r : Range) → meets_needs p r ≡ true → asks_met p (asks r) ≡ true
 asks_from_needs p r h =
@@ -129,21 +118,21 @@ asks_from_needs p r h =
 
 module _ (p : ℕ → ℤ) where
   pub split_asks : (xs ys : List (ℕ × Need)) → asks_met p (xs ++ ys) ≡ true → (asks_met p xs ≡ true) × (asks_met p ys ≡ true)
-  split_asks xs ys h = let g : (asks_met p xs && asks_met p ys) ≡ true = sym (list_all-append (λ d. meets d.1 (p d.0)) xs ys) ∙ h in (and_left (asks_met p xs) (asks_met p ys) g, and_right (asks_met p xs) (asks_met p ys) g)
+  split_asks xs ys h = let g : (asks_met p xs && asks_met p ys) ≡ true = sym (list_all-append (λ d. meets d.1 (p d.0)) xs ys) ∙ h in ((and_parts (asks_met p xs) (asks_met p ys) g).0, (and_parts (asks_met p xs) (asks_met p ys) g).1)
 
   both_asked : (xs ys : List (ℕ × Need)) (x y : Bool) → (asks_met p xs ≡ true → x ≡ true) → (asks_met p ys ≡ true → y ≡ true) → asks_met p (xs ++ ys) ≡ true → (x && y) ≡ true
-  both_asked xs ys x y f g h = let s = split_asks xs ys h in both_true x y (f s.0) (g s.1)
+  both_asked xs ys x y f g h = let s = split_asks xs ys h in and_from x y (f s.0) (g s.1)
 
   if_asked : (c : Bool) (xs ys : List (ℕ × Need)) (x y : Bool) → (asks_met p xs ≡ true → x ≡ true) → (asks_met p ys ≡ true → y ≡ true) → asks_met p (cond c xs ys) ≡ true → cond c x y ≡ true
   if_asked true xs ys x y f g h = f h
   if_asked false xs ys x y f g h = g h
 
   divisor_asked : (x : ℕ) → asks_met p ((x, Divisor) ∷ []) ≡ true → int_le (pos 1) (p x) ≡ true
-  divisor_asked x h = and_right (nat_lt (nat_abs (p x)) (2 ^ 63)) (int_le (pos 1) (p x)) (and_left (meets Divisor (p x)) true h)
+  divisor_asked x h = (and_parts (nat_lt (nat_abs (p x)) (2 ^ 63)) (int_le (pos 1) (p x)) ((and_parts (meets Divisor (p x)) true h).0)).1
 
   quotient_asked : (b : Expr) (plain left right : List (ℕ × Need)) (x y z : Bool) → (asks_met p plain ≡ true → x ≡ true) → (asks_met p left ≡ true → y ≡ true) → (asks_met p right ≡ true → z ≡ true) →
       asks_met p (quotient_asks b plain left right) ≡ true → divisor_meets p b x (y && z) ≡ true
-  quotient_asked (Param v) plain left right x y z f g k h = let s = split_asks plain ((v, Divisor) ∷ []) h in both_true (int_le (pos 1) (p v)) x (divisor_asked v s.1) (f s.0)
+  quotient_asked (Param v) plain left right x y z f g k h = let s = split_asks plain ((v, Divisor) ∷ []) h in and_from (int_le (pos 1) (p v)) x (divisor_asked v s.1) (f s.0)
   quotient_asked (Number n) plain left right x y z f g k h = if_asked true plain (left ++ right) x (y && z) f (both_asked left right y z g k) h
   quotient_asked Infinity plain left right x y z f g k h = if_asked true plain (left ++ right) x (y && z) f (both_asked left right y z g k) h
   quotient_asked (Min n) plain left right x y z f g k h = if_asked false plain (left ++ right) x (y && z) f (both_asked left right y z g k) h
@@ -156,7 +145,7 @@ module _ (p : ℕ → ℤ) where
   quotient_asked (DivUp c d) plain left right x y z f g k h = if_asked false plain (left ++ right) x (y && z) f (both_asked left right y z g k) h
 
   param_asked : (x : ℕ) (n : Bool) → asks_met p ((x, by_place n) ∷ []) ≡ true → by_natural n (p x) ≡ true
-  param_asked x true h = and_right (nat_lt (nat_abs (p x)) (2 ^ 63)) (int_le (pos 0) (p x)) (and_left (meets Natural (p x)) true h)
+  param_asked x true h = (and_parts (nat_lt (nat_abs (p x)) (2 ^ 63)) (int_le (pos 0) (p x)) ((and_parts (meets Natural (p x)) true h).0)).1
   param_asked x false h = refl
 
   expr_asked : (e : Expr) (n : Bool) → asks_met p (expr_asks e n) ≡ true → expr_meets p e n ≡ true

@@ -1,7 +1,7 @@
 -- An accepted range is monotone.
 use Rattle.std.proofs.Common.{◌≡◌, ℕ, suc, ◌≤◌, Bool, true, false, cond, not, ◌||◌, ◌&&◌, ◌==◌, ℤ, pos, ◌+ℤ◌, ◌-ℤ◌, ◌*ℤ◌, ◌≤ℤ◌, int_le, List, [], ◌∷◌, ◌++◌, refl, sym, ◌∙◌, subst, inl, inr, arith, eqb-true, eq-eqb}
 use Rattle.std.proofs.lemmas.Int.{ints}
-use Rattle.std.proofs.lemmas.Bool.{true≢false, or_left, or_right, or_cases}
+use Rattle.std.proofs.lemmas.Bool.{true≢false, or_left, or_right, or_cases, or_from, and_parts}
 use Rattle.std.specs.List.{list_any}
 use Rattle.std.specs.Ordering.{int_eq}
 use Rattle.fd_language.specs.Family.{Family, has, IsSubset, IsRising, IsFamily, IsInside, universe}
@@ -14,7 +14,7 @@ use Rattle.fd_language.proofs.Sets.{has-filter, has-filter_back, has_low, alone_
 pub use Rattle.fd_language.proofs.Sets.{in_left, in_right}
 use Rattle.fd_language.proofs.Leaves.{range_leaves, filled_leaves, vals_read}
 use Rattle.std.specs.Prelude.{flat_map}
-use Rattle.fd_language.proofs.Directions.{LeafKeeps, AllKeep, Keeps, keeps_left, keeps_right, expr_moves, first_of_two, second_of_two, literal_is}
+use Rattle.fd_language.proofs.Directions.{LeafKeeps, AllKeep, Keeps, keeps_left, keeps_right, expr_moves, literal_is}
 
 -- from a test to a test that holds wherever the first does
 any_more : (f g : ℕ → Bool) → ((n : ℕ) → f n ≡ true → g n ≡ true) → (xs : List ℕ) → list_any f xs ≡ true → list_any g xs ≡ true
@@ -61,9 +61,9 @@ module _ (M : ℕ) (p : ℕ → ℤ) (S' S : Family) where
   over_constant (Min y) h = absurd (true≢false (sym h))
   over_constant (Max y) h = absurd (true≢false (sym h))
   over_constant (Val y) h = absurd (true≢false (sym h))
-  over_constant (Add a b) h = let l = first_of_two (is_literal (Add a b)) (int_le (pos 1) (literal_value M (Add a b))) h in literal_is M p S' (Add a b) l ∙ sym (literal_is M p S (Add a b) l)
-  over_constant (Sub a b) h = let l = first_of_two (is_literal (Sub a b)) (int_le (pos 1) (literal_value M (Sub a b))) h in literal_is M p S' (Sub a b) l ∙ sym (literal_is M p S (Sub a b) l)
-  over_constant (Mul a b) h = let l = first_of_two (is_literal (Mul a b)) (int_le (pos 1) (literal_value M (Mul a b))) h in literal_is M p S' (Mul a b) l ∙ sym (literal_is M p S (Mul a b) l)
+  over_constant (Add a b) h = let l = (and_parts (is_literal (Add a b)) (int_le (pos 1) (literal_value M (Add a b))) h).0 in literal_is M p S' (Add a b) l ∙ sym (literal_is M p S (Add a b) l)
+  over_constant (Sub a b) h = let l = (and_parts (is_literal (Sub a b)) (int_le (pos 1) (literal_value M (Sub a b))) h).0 in literal_is M p S' (Sub a b) l ∙ sym (literal_is M p S (Sub a b) l)
+  over_constant (Mul a b) h = let l = (and_parts (is_literal (Mul a b)) (int_le (pos 1) (literal_value M (Mul a b))) h).0 in literal_is M p S' (Mul a b) l ∙ sym (literal_is M p S (Mul a b) l)
   over_constant (DivDown a b) h = absurd (true≢false (sym h))
   over_constant (DivUp a b) h = absurd (true≢false (sym h))
 
@@ -74,38 +74,38 @@ module _ (M : ℕ) (p : ℕ → ℤ) (S' S : Family) where
 
   range_moves : (r : Range) (w : Bool) → AllKeep S' S (leaves r) → range_fits M r w ≡ true → range_meets p r ≡ true → (n : ℕ) → Goes w (in_range M S (fill_range p r) n) (in_range M S' (fill_range p r) n)
   range_moves (Span a b) true k f m n = span_more (value M S (fill p a)) (value M S (fill p b)) (value M S' (fill p a)) (value M S' (fill p b)) (pos n)
-      (expr_moves M p S' S a Rising false (keeps_left S' S (expr_leaves a) (expr_leaves b) k) (first_of_two (expr_fits M a Rising) (expr_fits M b Falling) f) (first_of_two (expr_meets p a false) (expr_meets p b false) m))
-      (expr_moves M p S' S b Falling false (keeps_right S' S (expr_leaves a) (expr_leaves b) k) (second_of_two (expr_fits M a Rising) (expr_fits M b Falling) f) (second_of_two (expr_meets p a false) (expr_meets p b false) m))
+      (expr_moves M p S' S a Rising false (keeps_left S' S (expr_leaves a) (expr_leaves b) k) ((and_parts (expr_fits M a Rising) (expr_fits M b Falling) f).0) ((and_parts (expr_meets p a false) (expr_meets p b false) m).0))
+      (expr_moves M p S' S b Falling false (keeps_right S' S (expr_leaves a) (expr_leaves b) k) ((and_parts (expr_fits M a Rising) (expr_fits M b Falling) f).1) ((and_parts (expr_meets p a false) (expr_meets p b false) m).1))
   range_moves (Span a b) false k f m n = span_more (value M S' (fill p a)) (value M S' (fill p b)) (value M S (fill p a)) (value M S (fill p b)) (pos n)
-      (expr_moves M p S' S a Falling false (keeps_left S' S (expr_leaves a) (expr_leaves b) k) (first_of_two (expr_fits M a Falling) (expr_fits M b Rising) f) (first_of_two (expr_meets p a false) (expr_meets p b false) m))
-      (expr_moves M p S' S b Rising false (keeps_right S' S (expr_leaves a) (expr_leaves b) k) (second_of_two (expr_fits M a Falling) (expr_fits M b Rising) f) (second_of_two (expr_meets p a false) (expr_meets p b false) m))
+      (expr_moves M p S' S a Falling false (keeps_left S' S (expr_leaves a) (expr_leaves b) k) ((and_parts (expr_fits M a Falling) (expr_fits M b Rising) f).0) ((and_parts (expr_meets p a false) (expr_meets p b false) m).0))
+      (expr_moves M p S' S b Rising false (keeps_right S' S (expr_leaves a) (expr_leaves b) k) ((and_parts (expr_fits M a Falling) (expr_fits M b Rising) f).1) ((and_parts (expr_meets p a false) (expr_meets p b false) m).1))
   range_moves (One t) true k f m n = λ h. subst (λ z. int_eq z (pos n) ≡ true) (sym (constant t k f m)) h
   range_moves (One t) false k f m n = λ h. subst (λ z. int_eq z (pos n) ≡ true) (constant t k f m) h
   range_moves (Dom y) true k f m n = λ h. k.0.each n h
   range_moves (Dom y) false k f m n = λ h. absurd (true≢false (sym f))
   range_moves (Union r q) w k f m n = or_goes w (in_range M S (fill_range p r) n) (in_range M S (fill_range p q) n) (in_range M S' (fill_range p r) n) (in_range M S' (fill_range p q) n)
-      (range_moves r w (keeps_left S' S (leaves r) (leaves q) k) (first_of_two (range_fits M r w) (range_fits M q w) f) (first_of_two (range_meets p r) (range_meets p q) m) n)
-      (range_moves q w (keeps_right S' S (leaves r) (leaves q) k) (second_of_two (range_fits M r w) (range_fits M q w) f) (second_of_two (range_meets p r) (range_meets p q) m) n)
+      (range_moves r w (keeps_left S' S (leaves r) (leaves q) k) ((and_parts (range_fits M r w) (range_fits M q w) f).0) ((and_parts (range_meets p r) (range_meets p q) m).0) n)
+      (range_moves q w (keeps_right S' S (leaves r) (leaves q) k) ((and_parts (range_fits M r w) (range_fits M q w) f).1) ((and_parts (range_meets p r) (range_meets p q) m).1) n)
   range_moves (Inter r q) w k f m n = and_goes w (in_range M S (fill_range p r) n) (in_range M S (fill_range p q) n) (in_range M S' (fill_range p r) n) (in_range M S' (fill_range p q) n)
-      (range_moves r w (keeps_left S' S (leaves r) (leaves q) k) (first_of_two (range_fits M r w) (range_fits M q w) f) (first_of_two (range_meets p r) (range_meets p q) m) n)
-      (range_moves q w (keeps_right S' S (leaves r) (leaves q) k) (second_of_two (range_fits M r w) (range_fits M q w) f) (second_of_two (range_meets p r) (range_meets p q) m) n)
+      (range_moves r w (keeps_left S' S (leaves r) (leaves q) k) ((and_parts (range_fits M r w) (range_fits M q w) f).0) ((and_parts (range_meets p r) (range_meets p q) m).0) n)
+      (range_moves q w (keeps_right S' S (leaves r) (leaves q) k) ((and_parts (range_fits M r w) (range_fits M q w) f).1) ((and_parts (range_meets p r) (range_meets p q) m).1) n)
   range_moves (Outside r) w k f m n = not_goes w (in_range M S (fill_range p r) n) (in_range M S' (fill_range p r) n) (range_moves r (not w) k f m n)
   range_moves (Plus r c) w k f m n =
       moved_by w (λ z e. int_eq (pos e +ℤ z) (pos n)) (value M S' (fill p c)) (value M S (fill p c)) (in_range M S' (fill_range p r)) (in_range M S (fill_range p r))
-      (constant c (keeps_right S' S (leaves r) (expr_leaves c) k) (second_of_two (range_fits M r w) (expr_fits M c Constant) f) (second_of_two (range_meets p r) (expr_meets p c false) m))
-      (range_moves r w (keeps_left S' S (leaves r) (expr_leaves c) k) (first_of_two (range_fits M r w) (expr_fits M c Constant) f) (first_of_two (range_meets p r) (expr_meets p c false) m))
+      (constant c (keeps_right S' S (leaves r) (expr_leaves c) k) ((and_parts (range_fits M r w) (expr_fits M c Constant) f).1) ((and_parts (range_meets p r) (expr_meets p c false) m).1))
+      (range_moves r w (keeps_left S' S (leaves r) (expr_leaves c) k) ((and_parts (range_fits M r w) (expr_fits M c Constant) f).0) ((and_parts (range_meets p r) (expr_meets p c false) m).0))
   range_moves (Minus r c) w k f m n =
       moved_by w (λ z e. int_eq (pos e -ℤ z) (pos n)) (value M S' (fill p c)) (value M S (fill p c)) (in_range M S' (fill_range p r)) (in_range M S (fill_range p r))
-      (constant c (keeps_right S' S (leaves r) (expr_leaves c) k) (second_of_two (range_fits M r w) (expr_fits M c Constant) f) (second_of_two (range_meets p r) (expr_meets p c false) m))
-      (range_moves r w (keeps_left S' S (leaves r) (expr_leaves c) k) (first_of_two (range_fits M r w) (expr_fits M c Constant) f) (first_of_two (range_meets p r) (expr_meets p c false) m))
+      (constant c (keeps_right S' S (leaves r) (expr_leaves c) k) ((and_parts (range_fits M r w) (expr_fits M c Constant) f).1) ((and_parts (range_meets p r) (expr_meets p c false) m).1))
+      (range_moves r w (keeps_left S' S (leaves r) (expr_leaves c) k) ((and_parts (range_fits M r w) (expr_fits M c Constant) f).0) ((and_parts (range_meets p r) (expr_meets p c false) m).0))
   range_moves (Times r c) w k f m n =
       moved_by w (λ z e. int_eq (pos e *ℤ z) (pos n)) (value M S' (fill p c)) (value M S (fill p c)) (in_range M S' (fill_range p r)) (in_range M S (fill_range p r))
-      (constant c (keeps_right S' S (leaves r) (expr_leaves c) k) (second_of_two (range_fits M r w) (expr_fits M c Constant) f) (second_of_two (range_meets p r) (expr_meets p c false) m))
-      (range_moves r w (keeps_left S' S (leaves r) (expr_leaves c) k) (first_of_two (range_fits M r w) (expr_fits M c Constant) f) (first_of_two (range_meets p r) (expr_meets p c false) m))
+      (constant c (keeps_right S' S (leaves r) (expr_leaves c) k) ((and_parts (range_fits M r w) (expr_fits M c Constant) f).1) ((and_parts (range_meets p r) (expr_meets p c false) m).1))
+      (range_moves r w (keeps_left S' S (leaves r) (expr_leaves c) k) ((and_parts (range_fits M r w) (expr_fits M c Constant) f).0) ((and_parts (range_meets p r) (expr_meets p c false) m).0))
   range_moves (Over r c) w k f m n =
       moved_by w (λ z e. int_eq (pos n *ℤ z) (pos e)) (value M S' (fill p c)) (value M S (fill p c)) (in_range M S' (fill_range p r)) (in_range M S (fill_range p r))
-      (over_constant c (second_of_two (range_fits M r w) (is_parameter c || (is_literal c && int_le (pos 1) (literal_value M c))) f))
-      (range_moves r w (keeps_left S' S (leaves r) (expr_leaves c) k) (first_of_two (range_fits M r w) (is_parameter c || (is_literal c && int_le (pos 1) (literal_value M c))) f) (first_of_two (range_meets p r) (over_meets p c) m))
+      (over_constant c ((and_parts (range_fits M r w) (is_parameter c || (is_literal c && int_le (pos 1) (literal_value M c))) f).1))
+      (range_moves r w (keeps_left S' S (leaves r) (expr_leaves c) k) ((and_parts (range_fits M r w) (is_parameter c || (is_literal c && int_le (pos 1) (literal_value M c))) f).0) ((and_parts (range_meets p r) (over_meets p c) m).0))
 
 -- the least and the greatest number of a rising list
 pub least_low : (low high n : ℕ) (xs : List ℕ) → IsRising low high xs → has xs n ≡ true → least xs ≤ n
@@ -155,12 +155,9 @@ none_at : (f : ℕ → Bool) (xs : List ℕ) (n : ℕ) → list_any f xs ≡ fal
 none_at f [] n h g = absurd (true≢false (sym g))
 none_at f (x ∷ xs) n h g = none_step f x n xs (none_at f xs n) h g
 
-none_both : (a b : Bool) → a ≡ false → b ≡ false → (a || b) ≡ false
-none_both a b h g = grind arith
-
 none_all : (f : ℕ → Bool) (xs : List ℕ) → ((n : ℕ) → has xs n ≡ true → f n ≡ false) → list_any f xs ≡ false
 none_all f [] h = refl
-none_all f (x ∷ xs) h = none_both (f x) (list_any f xs) (h x (or_left (x == x) (has xs x) (eq-eqb x x refl))) (none_all f xs (λ n g. h n (or_right (x == n) (has xs n) g)))
+none_all f (x ∷ xs) h = or_from (f x) (list_any f xs) (h x (or_left (x == x) (has xs x) (eq-eqb x x refl))) (none_all f xs (λ n g. h n (or_right (x == n) (has xs n) g)))
 
 -- what a variable keeps, and what one that is read by val keeps
 record Bound (S' S : Family) (y : ℕ) : Type 0 where

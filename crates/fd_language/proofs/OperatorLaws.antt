@@ -2,7 +2,7 @@
 use Rattle.std.proofs.Common.{◌≡◌, ◌<◌, ◌≤◌, List, [], ◌∷◌, Some, Bool, true, false, cond, refl, subst}
 use Rattle.std.specs.Prelude.{nat_lt, nat_le, find, ◌&&◌, ◌||◌}
 use Rattle.std.specs.Str.{bytes_eq}
-use Rattle.std.proofs.lemmas.Bool.{leb-true, le-ltb, ltb-true}
+use Rattle.std.proofs.lemmas.Bool.{leb-true, le-ltb, ltb-true, and_parts}
 use Rattle.fd_language.specs.Term.{Name}
 use Rattle.fd_language.specs.Operators.{Operator, left_limit, right_limit, infix_operators, prefix_operators, infix_of, prefix_of}
 use Rattle.fd_language.specs.Terminals.{Terminal, operator_word, comma, comma_operator, infix_operator}
@@ -11,15 +11,10 @@ abbrev all_rows : (Operator → Bool) → List Operator → Bool
 all_rows p [] = true
 all_rows p (f ∷ fs) = p f && all_rows p fs
 
-pub and_true : (a b : Bool) → (a && b) ≡ true → (a ≡ true) × (b ≡ true)
-and_true true true e = (refl, refl)
-and_true true false e = absurd cc
-and_true false b e = absurd cc
-
 found : (p : Operator → Bool) (fs : List Operator) (q : Operator → Bool) (f : Operator) → all_rows p fs ≡ true → find q fs ≡ Some f → p f ≡ true
 found p [] q f all e = absurd cc
 found p (g ∷ gs) q f all e =
-    let parts = and_true (p g) (all_rows p gs) all in
+    let parts = and_parts (p g) (all_rows p gs) all in
     go (q g) e parts.0 (λ e2. found p gs q f parts.1 e2)
   where
     go : (b : Bool) → cond b (Some g) (find q gs) ≡ Some f → p g ≡ true → (find q gs ≡ Some f → p f ≡ true) → p f ≡ true
@@ -32,8 +27,8 @@ rows = comma_operator ∷ infix_operators
 -- an infix at_operator's test
 by_rows : (p : Operator → Bool) → all_rows p rows ≡ true → (x : Terminal) (f : Operator) → infix_operator x ≡ Some f → p f ≡ true
 unfolding infix_of
-by_rows p all (operator_word q o) f e = found p infix_operators (λ g. bytes_eq g.name o) f (and_true (p comma_operator) (all_rows p infix_operators) all).1 e
-by_rows p all (comma q) f e = let same : comma_operator ≡ f = cc in subst (λ (g : Operator). p g ≡ true) same (and_true (p comma_operator) (all_rows p infix_operators) all).0
+by_rows p all (operator_word q o) f e = found p infix_operators (λ g. bytes_eq g.name o) f (and_parts (p comma_operator) (all_rows p infix_operators) all).1 e
+by_rows p all (comma q) f e = let same : comma_operator ≡ f = cc in subst (λ (g : Operator). p g ≡ true) same (and_parts (p comma_operator) (all_rows p infix_operators) all).0
 by_rows p all _ f e = absurd cc
 
 by_prefix_rows : (p : Operator → Bool) → all_rows p prefix_operators ≡ true → (o : Name) (f : Operator) → prefix_of o ≡ Some f → p f ≡ true
@@ -44,7 +39,7 @@ abbrev row_bounds : Operator → Bool
 row_bounds f = nat_le (left_limit f) f.priority && nat_le (right_limit f) f.priority
 
 bounds : (f : Operator) → row_bounds f ≡ true → ((left_limit f) ≤ f.priority) × ((right_limit f) ≤ f.priority)
-bounds f e = let t = and_true (nat_le (left_limit f) f.priority) (nat_le (right_limit f) f.priority) e in (leb-true (left_limit f) f.priority t.0, leb-true (right_limit f) f.priority t.1)
+bounds f e = let t = and_parts (nat_le (left_limit f) f.priority) (nat_le (right_limit f) f.priority) e in (leb-true (left_limit f) f.priority t.0, leb-true (right_limit f) f.priority t.1)
 
 pub bounds_infix : (x : Terminal) (f : Operator) → infix_operator x ≡ Some f → ((left_limit f) ≤ f.priority) × ((right_limit f) ≤ f.priority)
 bounds_infix x f e = bounds f (by_rows row_bounds refl x f e)

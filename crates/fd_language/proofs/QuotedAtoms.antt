@@ -5,7 +5,7 @@ use Rattle.std.specs.Char.{len_utf8, digit_value}
 use Rattle.std.specs.Str.{chars, IsUtf8, encode_utf8_all, all_scalars}
 use Rattle.std.proofs.lemmas.List.{take_at}
 use Rattle.std.proofs.lemmas.Str.{chars-encodes, encodes-append, encodes-chars, scalars-chars, length-encode}
-use Rattle.std.proofs.lemmas.Bool.{and_parts, lt-ltb, ltb-true, ne_eqb}
+use Rattle.std.proofs.lemmas.Bool.{and_parts, lt-ltb, ltb-true, ne_eqb, and_from}
 use lib.Utf8.{scalar}
 use Rattle.fd_language.specs.Characters.{is_layout, is_symbol, is_solo, is_punct, begins_variable, not_newline, is_digit_of, starts_with, tail, run_size, past_run, value}
 use Rattle.unicode_ident.specs.Ident.{is_xid_start, is_xid_continue}
@@ -68,16 +68,12 @@ spells_escape : (c : ℕ) (cs : List ℕ) → is_escape c ≡ true → quoted_sp
 spells_escape c cs h = rw h refl
 
 -- the digits of \x
-both_true : (a b : Bool) → a ≡ true → b ≡ true → (a && b) ≡ true
-both_true true b h k = k
-both_true false b h k = absurd (cc)
-
 no_backslash : (d : ℕ) → is_digit_of 16 d ≡ true → (d == 92) ≡ false
 no_backslash d h = ne_eqb d 92 (λ e. cc (ap (λ (x : ℕ). is_digit_of 16 x) (sym e) ∙ h))
 
 digit_next : (from k v n d : ℕ) → is_digit_of 16 d ≡ true → k < 6 → inside (AfterDigits from k v) n d ≡ AfterDigits from (k + 1) (v * 16 + digit_value d)
 digit_next from k v n d h l =
-    ap (λ (b : Bool). cond b (AfterDigits from (k + 1) (v * 16 + digit_value d)) (cond (names_character k v d) Between (Broken BadEscape from))) (both_true (is_digit_of 16 d) (nat_lt k 6) h (lt-ltb k 6 l))
+    ap (λ (b : Bool). cond b (AfterDigits from (k + 1) (v * 16 + digit_value d)) (cond (names_character k v d) Between (Broken BadEscape from))) (and_from (is_digit_of 16 d) (nat_lt k 6) h (lt-ltb k 6 l))
 
 digit_silent : (from k v d : ℕ) → is_digit_of 16 d ≡ true → spells (AfterDigits from k v) d ≡ []
 digit_silent from k v d h = ap (λ (b : Bool). cond (b && (nat_lt 0 k && scalar v)) (v ∷ []) []) (no_backslash d h)
@@ -103,7 +99,7 @@ digits_spell (d ∷ ds) cs from k v K h e l =
     ∙ digits_spell ds cs from (k + 1) (v * 16 + digit_value d) K p.1 (omega arith) l
 
 named : (k v : ℕ) → 1 ≤ k → scalar v ≡ true → names_character k v 92 ≡ true
-named k v l h = both_true (nat_lt 0 k) (scalar v) (lt-ltb 0 k l) h
+named k v l h = and_from (nat_lt 0 k) (scalar v) (lt-ltb 0 k l) h
 
 number_front_end : (from k v n : ℕ) (cs : List ℕ) → 1 ≤ k → scalar v ≡ true → quoted_front (AfterDigits from k v) n (92 ∷ cs) ≡ quoted_front Between (n + 1) cs
 number_front_end from k v n cs l h = ap (λ (b : Bool). quoted_front (cond b Between (Broken BadEscape from)) (n + 1) cs) (named k v l h)
@@ -253,7 +249,7 @@ step_digits c from k v ds true y a b g =
       digits = c ∷ g.digits;
       after = g.after;
       split = ap (λ (xs : List ℕ). c ∷ xs) g.split;
-      hexadecimal_digits = both_true (is_digit_of 16 c) (are_hexadecimal g.digits) p.0 g.hexadecimal_digits;
+      hexadecimal_digits = and_from (is_digit_of 16 c) (are_hexadecimal g.digits) p.0 g.hexadecimal_digits;
       least = omega (arith, g.least);
       most = λ l. omega (arith, g.most (omega (arith, ltb-true k 6 p.1)));
       named = g.named;
@@ -387,7 +383,7 @@ size-length (c ∷ cs) = omega (arith, size-length cs, length-append (encode_utf
 
 scalars_before : (xs ys : List ℕ) → all_scalars (xs ++ ys) ≡ true → all_scalars xs ≡ true
 scalars_before [] ys h = refl
-scalars_before (x ∷ xs) ys h = let p = and_parts (scalar x) (all_scalars (xs ++ ys)) h in both_true (scalar x) (all_scalars xs) p.0 (scalars_before xs ys p.1)
+scalars_before (x ∷ xs) ys h = let p = and_parts (scalar x) (all_scalars (xs ++ ys)) h in and_from (scalar x) (all_scalars xs) p.0 (scalars_before xs ys p.1)
 
 -- the atom alone
 alone_is : (inner rest : List ℕ) → 39 ∷ (inner ++ 39 ∷ rest) ≡ (39 ∷ (inner ++ 39 ∷ [])) ++ rest

@@ -1,14 +1,14 @@
 -- What the grammar derives, the machine accepts.
 use Rattle.std.proofs.Common.{◌≡◌, ℕ, ◌<◌, ◌≤◌, ◌⊎◌, inl, inr, List, [], ◌∷◌, Option, Some, None, Bool, true, false, cond, refl, sym, ap, ◌∙◌, arith}
 use Rattle.std.specs.Prelude.{neg_ℤ, nat_le, option_and_then, ◌&&◌, not}
-use Rattle.std.proofs.lemmas.Bool.{le-leb, lt-leb, le-ltb, lt-ltb}
+use Rattle.std.proofs.lemmas.Bool.{le-leb, lt-leb, le-ltb, lt-ltb, not-true, and_parts}
 use Rattle.fd_language.specs.Term.{Name}
 use Rattle.fd_language.specs.PlacedTerm.{PlacedTerm, PlacedTerms, var, int, atom, comp, no_parts, part, one, two, with_last, append}
 use Rattle.fd_language.specs.Operators.{Operator, left_limit, right_limit, prefix_of}
 use Rattle.fd_language.specs.Terminals.{Terminal, name, operator_word, variable, integer, opens, closes, open_list, close_list, open_curly, close_curly, comma, bar, stop, comma_operator, infix_operator, place_of, is_tight_open, is_negated, may_follow}
 use Rattle.fd_language.specs.Grammar.{nil_name, curly_name, list_of, Reads, an_integer, a_negative, a_variable, an_atom, empty_list, empty_curly, named_call, operator_call, in_parens, operator_in_parens, a_list, a_list_tail, in_curly, a_prefix, an_infix, Arg, a_term, an_operator, Args, last, more, Sentences, none, next, IsText}
 use Rattle.fd_language.proofs.ReadingSteps.{Stack, top, paren, args, items, tail, curly, before, between, State, want, at_list, at_curly_bracket, at_operator, after, limit, reduce, Reduced, closed, lone, placed, attach, or_else, ended, behind_operand, called, wanted, begun, step, run, is_close_list, is_close_curly}
-use Rattle.fd_language.proofs.OperatorLaws.{and_true, bounds_infix, bounds_prefix, apart_infix, apart_prefix}
+use Rattle.fd_language.proofs.OperatorLaws.{bounds_infix, bounds_prefix, apart_infix, apart_prefix}
 
 -- Spine s s2 x t q: the stack s2 over s, with the operand x, stands over s for the term t of priority q.
 pub data Spine : Stack → Stack → PlacedTerm → PlacedTerm → ℕ → Type 0 where
@@ -127,19 +127,15 @@ behind_curly p s ts h =
     ap (λ (b : Bool). option_and_then (λ st. run h.others st) (cond b (Some (after None s (atom curly_name p))) (wanted (curly p s) h.first))) (starter_close_curly h.first h.starts) in
     ap (λ (l : List Terminal). run l (at_curly_bracket p s)) h.split ∙ one ∙ ap (λ (l : List Terminal). run l (want (curly p s))) (sym h.split)
 
-not_false : (b : Bool) → not b ≡ true → b ≡ false
-not_false true e = absurd cc
-not_false false e = refl
-
 -- and behind a prefix at_operator
 behind_prefix : (p : ℕ) (o : Name) (f : Operator) (s : Stack) (ts : List Terminal) → prefix_of o ≡ Some f → f.priority ≤ limit s → may_follow o ts ≡ true → Head ts → run ts (at_operator p o s) ≡ run ts (want (before p o f s))
 behind_prefix p o f s ts e le m h =
     let x = h.first in
     let us = h.others in
     let m2 : (not (is_tight_open x) && not (is_negated o x)) ≡ true = ap (λ (l : List Terminal). may_follow o l) (sym h.split) ∙ m in
-    let parts = and_true (not (is_tight_open x)) (not (is_negated o x)) m2 in
+    let parts = and_parts (not (is_tight_open x)) (not (is_negated o x)) m2 in
     let one : step (at_operator p o s) x ≡ wanted (before p o f s) x =
-    rw (not_false (is_tight_open x) parts.0, not_false (is_negated o x) parts.1, starter_lone s x h.starts, e, le-leb f.priority (limit s) le) refl in
+    rw (not-true (is_tight_open x) parts.0, not-true (is_negated o x) parts.1, starter_lone s x h.starts, e, le-leb f.priority (limit s) le) refl in
     ap (λ (l : List Terminal). run l (at_operator p o s)) h.split ∙ ap (option_and_then (λ st. run us st)) one ∙ ap (λ (l : List Terminal). run l (want (before p o f s))) (sym h.split)
 
 -- ---- a term is read onto any stack that has room for it

@@ -1,6 +1,6 @@
 -- Each list of equations has a most general unifier, or none unifies it.
 use Rattle.std.proofs.Common.{◌≡◌, ℕ, zero, suc, ◌+◌, ◌<◌, ◌≤◌, Bool, true, false, cond, ◌||◌, ◌==◌, not, filter, ℤ, pos, negsuc, List, [], ◌∷◌, ◌++◌, length, refl, ap, sym, ◌∙◌, subst, inl, inr, ◌⊎◌, arith, eqb-true, eq-eqb, ne_eqb}
-use Rattle.std.proofs.lemmas.Bool.{cases_Bool, or_cases, true≢false, cases_eq, eqb-false, not_from_true, not_from_false}
+use Rattle.std.proofs.lemmas.Bool.{cases_Bool, or_cases, true≢false, cases_eq, eqb-false, not_from_true, not_from_false, or_parts, or_left, or_right}
 use Rattle.fd_language.specs.Term.{Term, Terms, Var, Int, Atom, Comp, Name, Substitution, apply, apply_all, no_terms, term}
 use Rattle.fd_language.specs.Unifier.{Equation, IsMostGeneral, Unifies}
 use Rattle.fd_language.specs.Family.{has}
@@ -37,12 +37,6 @@ mutual
 bind : ℕ → Term → Substitution
 bind x t y = cond (y == x) t (Var y)
 
-left_false : (a b : Bool) → (a || b) ≡ false → a ≡ false
-left_false a b h = grind arith
-
-right_false : (a b : Bool) → (a || b) ≡ false → b ≡ false
-right_false a b h = grind arith
-
 -- a term without x is left as it is
 mutual
   unfolding bind occurs
@@ -55,7 +49,7 @@ mutual
 
   bind_others : (x : ℕ) (t : Term) (us : Terms) → occurs_any x us ≡ false → apply_all (bind x t) us ≡ us
   bind_others x t no_terms h = refl
-  bind_others x t (term u us) h = let a = bind_other x t u (left_false (occurs x u) (occurs_any x us) h) in let b = bind_others x t us (right_false (occurs x u) (occurs_any x us) h) in cc
+  bind_others x t (term u us) h = let a = bind_other x t u ((or_parts (occurs x u) (occurs_any x us) h).0) in let b = bind_others x t us ((or_parts (occurs x u) (occurs_any x us) h).1) in cc
 
 bound_at : (b : Bool) (u : Substitution) (x y : ℕ) (t : Term) → u x ≡ apply u t → (b ≡ true → y ≡ x) → apply u (cond b t (Var y)) ≡ u y
 bound_at true u x y t e f = sym e ∙ ap u (sym (f refl))
@@ -193,12 +187,6 @@ data Turn (l r : Term) : Type 0 where
   simpler : (ds : List Equation) → Simpler l r ds → Turn l r
   binds : (x : ℕ) (t : Term) → occurs x t ≡ false → (occurs x l || occurs x r) ≡ true → ((y : ℕ) → occurs y t ≡ true → (occurs y l || occurs y r) ≡ true) → ((u : Substitution) → apply u l ≡ apply u r → u x ≡ apply u t) → ((u : Substitution) → u x ≡ apply u t → apply u l ≡ apply u r) → Turn l r
 
-or_one : (a b : Bool) → a ≡ true → (a || b) ≡ true
-or_one a b h = grind arith
-
-or_two : (a b : Bool) → b ≡ true → (a || b) ≡ true
-or_two a b h = grind arith
-
 -- the pairs of two lists of terms
 record Pairs (ts us : Terms) (ds : List Equation) : Type 0 where
   there : (u : Substitution) → apply_all u ts ≡ apply_all u us → Unifies u ds
@@ -248,7 +236,7 @@ swapped l r (binds x t o i j f g) = binds x t o (swap_or (occurs x l) (occurs x 
 
 bind_to : (x : ℕ) (r : Term) → occurs x r ≡ false → Turn (Var x) r
 unfolding occurs
-bind_to x r o = binds x r o (or_one (x == x) (occurs x r) (eq-eqb x x refl)) (λ y h. or_two (x == y) (occurs y r) h) (λ u e. e) (λ u e. e)
+bind_to x r o = binds x r o (or_left (x == x) (occurs x r) (eq-eqb x x refl)) (λ y h. or_right (x == y) (occurs y r) h) (λ u e. e) (λ u e. e)
 
 turn : (l r : Term) → Turn l r
 unfolding occurs size
@@ -314,8 +302,8 @@ Left x t y old = (y ≡ x → ⊥) × ((occurs y t || old) ≡ true)
 
 left_var : (b : Bool) (x : ℕ) (t : Term) (z y : ℕ) → occurs x t ≡ false → (b ≡ false → z ≡ x → ⊥) → occurs y (cond b t (Var z)) ≡ true → Left x t y (z == y)
 unfolding Left occurs
-left_var true x t z y o f h = ((λ e. true≢false (sym h ∙ ap (λ k. occurs k t) e ∙ o)), or_one (occurs y t) (z == y) h)
-left_var false x t z y o f h = ((λ e. f refl (eqb-true z y h ∙ e)), or_two (occurs y t) (z == y) h)
+left_var true x t z y o f h = ((λ e. true≢false (sym h ∙ ap (λ k. occurs k t) e ∙ o)), or_left (occurs y t) (z == y) h)
+left_var false x t z y o f h = ((λ e. f refl (eqb-true z y h ∙ e)), or_right (occurs y t) (z == y) h)
 
 widen : (o a b : Bool) → (o || a) ≡ true → (o || (a || b)) ≡ true
 widen o a b h = grind arith
@@ -366,7 +354,7 @@ unfolding Covers without Left occurs_in
 covers_without x t l r vs es o j c y h =
     let k = left_all x t y es o h in
     has-filter (λ v. not (v == x)) vs y
-    (c y (elim (or_cases (occurs y t) (occurs_in y es) k.1) [ inl e ↦ or_one (occurs y l || occurs y r) (occurs_in y es) (j y e) | inr e ↦ or_two (occurs y l || occurs y r) (occurs_in y es) e ]))
+    (c y (elim (or_cases (occurs y t) (occurs_in y es) k.1) [ inl e ↦ or_left (occurs y l || occurs y r) (occurs_in y es) (j y e) | inr e ↦ or_right (occurs y l || occurs y r) (occurs_in y es) e ]))
     (not_from_false (y == x) (ne_eqb y x k.0))
 
 -- simpler equations in place of the first one
@@ -390,17 +378,17 @@ by_binding l r x t es o f g (inr n) = inr (λ u h. eliminate_none x t es n u (f 
 covers_simpler : (vs : List ℕ) (l r : Term) (ds es : List Equation) → Simpler l r ds → Covers vs (record { left = l; right = r } ∷ es) → Covers vs (ds ++ es)
 unfolding Covers occurs_in
 covers_simpler vs l r ds es s c y h = c y (elim (or_cases (occurs_in y ds) (occurs_in y es) (occurs_append y ds es h)) [
-  | inl e ↦ or_one (occurs y l || occurs y r) (occurs_in y es) (s.fewer y e)
-  | inr e ↦ or_two (occurs y l || occurs y r) (occurs_in y es) e
+  | inl e ↦ or_left (occurs y l || occurs y r) (occurs_in y es) (s.fewer y e)
+  | inr e ↦ or_right (occurs y l || occurs y r) (occurs_in y es) e
 ])
 
 covers_rest : (vs : List ℕ) (e : Equation) (es : List Equation) → Covers vs (e ∷ es) → Covers vs es
 unfolding Covers occurs_in
-covers_rest vs e es c y h = c y (or_two (occurs y e.left || occurs y e.right) (occurs_in y es) h)
+covers_rest vs e es c y h = c y (or_right (occurs y e.left || occurs y e.right) (occurs_in y es) h)
 
 covers_one : (vs : List ℕ) (l r : Term) (es : List Equation) (x : ℕ) → Covers vs (record { left = l; right = r } ∷ es) → (occurs x l || occurs x r) ≡ true → has vs x ≡ true
 unfolding Covers occurs_in
-covers_one vs l r es x c h = c x (or_one (occurs x l || occurs x r) (occurs_in x es) h)
+covers_one vs l r es x c h = c x (or_left (occurs x l || occurs x r) (occurs_in x es) h)
 
 smaller_rest : (l r : Term) (ds es : List Equation) (m : ℕ) → Simpler l r ds → size_of (record { left = l; right = r } ∷ es) < suc m → size_of (ds ++ es) < m
 unfolding size_of
@@ -445,7 +433,7 @@ mutual
   unfolding occurs term_vars
 
   var_there : (t : Term) (x : ℕ) → occurs x t ≡ true → has (term_vars t) x ≡ true
-  var_there (Var y) x h = or_one (y == x) false h
+  var_there (Var y) x h = or_left (y == x) false h
   var_there (Int z) x h = h
   var_there (Atom a) x h = h
   var_there (Comp f ts) x h = vars_there ts x h

@@ -1,6 +1,6 @@
 -- A list of nodes spells a range where its counts come out even.
 use Rattle.std.proofs.Common.{◌≡◌, ◌↔◌, IsTrue, nat_eq, get_or, drop, ℕ, ◌+◌, ◌-◌, ◌<◌, ◌≤◌, Bool, true, false, not, List, [], ◌∷◌, length, Option, Some, None, refl, sym, ◌∙◌, ap, subst, inl, inr, arith, ◌⊎◌}
-use Rattle.std.proofs.lemmas.Bool.{true≢false}
+use Rattle.std.proofs.lemmas.Bool.{true≢false, not-true, not-false}
 use Rattle.fd_language.specs.declared.range_node.RangeNode.{RangeNode}
 use Rattle.fd_language.specs.declared.range_node.RangeNode.TheVariants as node
 use Rattle.fd_language.specs.Range.{Range, Span, One, Dom, Union, Inter, Outside, Plus, Minus, Times, Over, Expr, Number, Infinity, Param, Min, Max, Val, Add, Sub, Mul, DivDown, DivUp}
@@ -157,19 +157,13 @@ ends_odd (r ∷ []) (t ∷ ts) h = refl
 ends_odd (r ∷ q ∷ rs) [] h = refl
 ends_odd (r ∷ q ∷ rs) (t ∷ ts) h = refl
 
-not_true : (b : Bool) → not b ≡ true → b ≡ false
-not_true b h = grind arith
-
-not_false : (b : Bool) → not b ≡ false → b ≡ true
-not_false b h = grind arith
-
 pub after_expr : (n : RangeNode) (o : Operands) (ranges terms : ℕ) → o ≡ takes n → not o.gives_range ≡ true → o.terms ≤ terms →
     (ns : List RangeNode) (rs : List Range) (ts : List Expr) → length rs ≡ ranges → length ts ≡ terms → IsReached (built (n ∷ ns) rs ts) ns ranges (terms - o.terms + 1)
 after_expr n o ranges terms e f l ns rs ts h g =
     subst (λ k. IsReached (built (n ∷ ns) rs ts) ns k (terms - o.terms + 1)) h
     (subst (λ k. IsReached (built (n ∷ ns) rs ts) ns (length rs) (k - o.terms + 1)) g
     (subst (λ q. IsReached (built (n ∷ ns) rs ts) ns (length rs) (length ts - q.terms + 1)) (sym e)
-    (term_put (shape_of n) ns rs ts (ap (λ q. q.gives_range) (sym e) ∙ not_true o.gives_range f)
+    (term_put (shape_of n) ns rs ts (ap (λ q. q.gives_range) (sym e) ∙ not-true o.gives_range f)
     (subst (λ q. q.terms ≤ length ts) e (subst (λ k. o.terms ≤ k) (sym g) l)))))
 
 pub after_range : (n : RangeNode) (o : Operands) (ranges terms : ℕ) → o ≡ takes n → not o.gives_range ≡ false → o.ranges ≤ ranges → terms ≡ o.terms →
@@ -177,7 +171,7 @@ pub after_range : (n : RangeNode) (o : Operands) (ranges terms : ℕ) → o ≡ 
 after_range n o ranges terms e f l i ns rs ts h g =
     subst (λ k. IsReached (built (n ∷ ns) rs ts) ns (k - o.ranges + 1) 0) h
     (subst (λ q. IsReached (built (n ∷ ns) rs ts) ns (length rs - q.ranges + 1) 0) (sym e)
-    (range_put (shape_of n) ns rs ts (ap (λ q. q.gives_range) (sym e) ∙ not_false o.gives_range f) (g ∙ (i ∙ ap (λ q. q.terms) e))
+    (range_put (shape_of n) ns rs ts (ap (λ q. q.gives_range) (sym e) ∙ not-false o.gives_range f) (g ∙ (i ∙ ap (λ q. q.terms) e))
     (subst (λ q. q.ranges ≤ length rs) e (subst (λ k. o.ranges ≤ k) (sym h) l))))
 
 pub after_few : (n : RangeNode) (o : Operands) (ranges terms : ℕ) → o ≡ takes n → ranges < o.ranges ⊎ terms < o.terms →
@@ -190,7 +184,7 @@ after_few n o ranges terms e l ns rs ts h g = elim l [
 pub after_more : (n : RangeNode) (o : Operands) (ranges terms : ℕ) → o ≡ takes n → not o.gives_range ≡ false → o.terms < terms →
     (ns : List RangeNode) (rs : List Range) (ts : List Expr) → length rs ≡ ranges → length ts ≡ terms → built (n ∷ ns) rs ts ≡ None
 after_more n o ranges terms e f l ns rs ts h g =
-    ap (going_on (λ us vs. built ns us vs)) (more_terms (shape_of n) rs ts (ap (λ q. q.gives_range) (sym e) ∙ not_false o.gives_range f) (subst (λ q. q.terms < length ts) e (subst (λ m. o.terms < m) (sym g) l)))
+    ap (going_on (λ us vs. built ns us vs)) (more_terms (shape_of n) rs ts (ap (λ q. q.gives_range) (sym e) ∙ not-false o.gives_range f) (subst (λ q. q.terms < length ts) e (subst (λ m. o.terms < m) (sym g) l)))
 
 pub ends_none : (ns : List RangeNode) (i : ℕ) (d : RangeNode) (ranges terms : ℕ) → i < length ns → IsReached (built ns [] []) (drop i ns) ranges terms →
     ((ms : List RangeNode) (rs : List Range) (ts : List Expr) → length rs ≡ ranges → length ts ≡ terms → built (get_or ns i d ∷ ms) rs ts ≡ None) →

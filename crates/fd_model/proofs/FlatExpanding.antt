@@ -1,5 +1,6 @@
 -- Flat constraints meet no fault, and are seen as what they say.
 use Rattle.std.proofs.Common.{◌≡◌, ℕ, ◌+◌, ◌^◌, ◌≤◌, ◌<◌, Bool, true, false, cond, ◌&&◌, ℤ, pos, neg_ℤ, List, [], ◌∷◌, ◌++◌, length, refl, ap, inl, inr, arith, length-append, Result, Ok, Err}
+use Rattle.std.proofs.lemmas.Bool.{and_parts, and_from}
 use Rattle.std.specs.Str.{bytes_eq}
 use Rattle.std.specs.Prelude.{codes}
 use Rattle.fd_model.specs.declared.kinds.QueryFault.{QueryFault}
@@ -17,15 +18,6 @@ use Rattle.fd_model.specs.Satisfies.{Assignment, worth, worths}
 use Rattle.fd_model.specs.FlatConstraints.{width, is_narrow, is_flat, is_flat_comparison, is_place, is_whole, is_list_of, SeesNumbers, FlatExpands, SeenSatisfies}
 use Rattle.fd_model.proofs.FlatSums.{flat_compares}
 use Rattle.fd_model.proofs.FlatSeen.{flat_seen}
-
-left : (p q : Bool) → (p && q) ≡ true → p ≡ true
-left p q h = grind arith
-
-right : (p q : Bool) → (p && q) ≡ true → q ≡ true
-right p q h = grind arith
-
-both : (p q : Bool) → p ≡ true → q ≡ true → (p && q) ≡ true
-both p q h g = grind arith
 
 narrower_too : (m n : ℕ) → m ≤ n → is_narrow n ≡ true → is_narrow m ≡ true
 narrower_too m n h e = grind arith
@@ -55,26 +47,26 @@ module _ (M : ℕ) (look : ℕ → Term) (sees : SeesNumbers M look) where
   list_seen test read f (Comp g no_terms) h = absurd (cc)
   list_seen test read f (Comp g (term x no_terms)) h = absurd (cc)
   list_seen test read f (Comp g (term x (term t no_terms))) h =
-      let rest = right (bytes_eq g (codes ".")) (test x && is_list_of test t) h in
-      let i = f x (left (test x) (is_list_of test t) rest) in
-      let j = list_seen test read f t (right (test x) (is_list_of test t) rest) in
-      (i.0 ∷ j.0, if_true (bytes_eq g (codes ".")) (of_both prepend (read (apply look x)) (walk read (apply look t))) (Err BadType) (Ok (i.0 ∷ j.0)) (left (bytes_eq g (codes ".")) (test x && is_list_of test t) h) (rw (i.1, j.1) refl))
+      let rest = (and_parts (bytes_eq g (codes ".")) (test x && is_list_of test t) h).1 in
+      let i = f x ((and_parts (test x) (is_list_of test t) rest).0) in
+      let j = list_seen test read f t ((and_parts (test x) (is_list_of test t) rest).1) in
+      (i.0 ∷ j.0, if_true (bytes_eq g (codes ".")) (of_both prepend (read (apply look x)) (walk read (apply look t))) (Err BadType) (Ok (i.0 ∷ j.0)) ((and_parts (bytes_eq g (codes ".")) (test x && is_list_of test t) h).0) (rw (i.1, j.1) refl))
   list_seen test read f (Comp g (term x (term t (term u us)))) h = absurd (cc)
 
   comparison_seen : (s t : Term) → is_flat_comparison M s t ≡ true → is_flat_comparison M (apply look s) (apply look t) ≡ true
   comparison_seen s t h =
-      let parts = left (is_flat M s && is_flat M t) (is_narrow (width M s + width M t)) h in
-      let i = flat_seen M look s sees (left (is_flat M s) (is_flat M t) parts) in
-      let j = flat_seen M look t sees (right (is_flat M s) (is_flat M t) parts) in
+      let parts = (and_parts (is_flat M s && is_flat M t) (is_narrow (width M s + width M t)) h).0 in
+      let i = flat_seen M look s sees ((and_parts (is_flat M s) (is_flat M t) parts).0) in
+      let j = flat_seen M look t sees ((and_parts (is_flat M s) (is_flat M t) parts).1) in
       let a = i.narrower in
       let b = j.narrower in
-      both _ _ (both _ _ i.flat j.flat) (narrower_too (width M (apply look s) + width M (apply look t)) (width M s + width M t) (omega arith) (right (is_flat M s && is_flat M t) (is_narrow (width M s + width M t)) h))
+      and_from _ _ (and_from _ _ i.flat j.flat) (narrower_too (width M (apply look s) + width M (apply look t)) (width M s + width M t) (omega arith) ((and_parts (is_flat M s && is_flat M t) (is_narrow (width M s + width M t)) h).1))
 
   compare_expands : (r : Relation) (s t : Term) (n : ℕ) → 0 < M → is_flat_comparison M s t ≡ true → length (variables_of s ++ (variables_of t ++ [])) ≤ 2 ^ 31 → (x : Expansion) × (compare r (apply look s) (apply look t) n ≡ Ok x)
   compare_expands r s t n some h few =
-      let parts = left (is_flat M s && is_flat M t) (is_narrow (width M s + width M t)) h in
-      let a = (flat_seen M look s sees (left (is_flat M s) (is_flat M t) parts)).fewer in
-      let b = (flat_seen M look t sees (right (is_flat M s) (is_flat M t) parts)).fewer in
+      let parts = (and_parts (is_flat M s && is_flat M t) (is_narrow (width M s + width M t)) h).0 in
+      let a = (flat_seen M look s sees ((and_parts (is_flat M s) (is_flat M t) parts).0)).fewer in
+      let b = (flat_seen M look t sees ((and_parts (is_flat M s) (is_flat M t) parts).1)).fewer in
       let e = length-append (variables_of s) (variables_of t ++ []) in
       let f = length-append (variables_of t) [] in
       flat_compares M r (apply look s) (apply look t) n some (comparison_seen s t h) (omega arith)
@@ -91,20 +83,20 @@ flat_expands M look Element no_terms n some sees h few = absurd (cc)
 flat_expands M look Element (term i no_terms) n some sees h few = absurd (cc)
 flat_expands M look Element (term i (term l no_terms)) n some sees h few = absurd (cc)
 flat_expands M look Element (term i (term l (term x no_terms))) n some sees h few =
-    let rest = right (is_place i) (is_list_of is_whole l && is_place x) h in
-    let p = place_seen M look sees i (left (is_place i) (is_list_of is_whole l && is_place x) h) in
-    let q = list_seen M look sees is_whole as_integer (whole_seen M look sees) l (left (is_list_of is_whole l) (is_place x) rest) in
-    let r = place_seen M look sees x (right (is_list_of is_whole l) (is_place x) rest) in
+    let rest = (and_parts (is_place i) (is_list_of is_whole l && is_place x) h).1 in
+    let p = place_seen M look sees i ((and_parts (is_place i) (is_list_of is_whole l && is_place x) h).0) in
+    let q = list_seen M look sees is_whole as_integer (whole_seen M look sees) l ((and_parts (is_list_of is_whole l) (is_place x) rest).0) in
+    let r = place_seen M look sees x ((and_parts (is_list_of is_whole l) (is_place x) rest).1) in
     (element_rows p.0 q.0 r.0 n, rw (p.1, q.1, r.1) refl)
 flat_expands M look Element (term i (term l (term x (term u us)))) n some sees h few = absurd (cc)
 flat_expands M look Atmost no_terms n some sees h few = absurd (cc)
 flat_expands M look Atmost (term m no_terms) n some sees h few = absurd (cc)
 flat_expands M look Atmost (term m (term l no_terms)) n some sees h few = absurd (cc)
 flat_expands M look Atmost (term m (term l (term v no_terms))) n some sees h few =
-    let rest = right (is_whole m) (is_list_of is_place l && is_whole v) h in
-    let p = whole_seen M look sees m (left (is_whole m) (is_list_of is_place l && is_whole v) h) in
-    let q = list_seen M look sees is_place as_member (place_seen M look sees) l (left (is_list_of is_place l) (is_whole v) rest) in
-    let r = whole_seen M look sees v (right (is_list_of is_place l) (is_whole v) rest) in
+    let rest = (and_parts (is_whole m) (is_list_of is_place l && is_whole v) h).1 in
+    let p = whole_seen M look sees m ((and_parts (is_whole m) (is_list_of is_place l && is_whole v) h).0) in
+    let q = list_seen M look sees is_place as_member (place_seen M look sees) l ((and_parts (is_list_of is_place l) (is_whole v) rest).0) in
+    let r = whole_seen M look sees v ((and_parts (is_list_of is_place l) (is_whole v) rest).1) in
     (atmost_rows p.0 q.0 r.0 n, rw (p.1, q.1, r.1) refl)
 flat_expands M look Atmost (term m (term l (term v (term u us)))) n some sees h few = absurd (cc)
 

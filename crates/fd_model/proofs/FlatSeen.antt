@@ -1,5 +1,6 @@
 -- Flat terms as they are seen.
 use Rattle.std.proofs.Common.{◌≡◌, ℕ, ◌+◌, ◌*◌, ◌≤◌, Bool, true, false, cond, ◌&&◌, ◌||◌, List, [], ◌∷◌, ◌++◌, length, refl, sym, subst, inl, inr, arith, mul-le-mul, length-append}
+use Rattle.std.proofs.lemmas.Bool.{and_parts, and_from}
 use Rattle.std.specs.Str.{bytes_eq}
 use Rattle.std.specs.Prelude.{codes}
 use Rattle.fd_language.specs.Variables.{variables_of}
@@ -9,15 +10,6 @@ use Rattle.fd_model.specs.FlatConstraints.{width, is_narrow, is_ground, is_opera
 
 narrower_too : (m n : ℕ) → m ≤ n → is_narrow n ≡ true → is_narrow m ≡ true
 narrower_too m n h e = grind arith
-
-left : (p q : Bool) → (p && q) ≡ true → p ≡ true
-left p q h = grind arith
-
-right : (p q : Bool) → (p && q) ≡ true → q ≡ true
-right p q h = grind arith
-
-both : (p q : Bool) → p ≡ true → q ≡ true → (p && q) ≡ true
-both p q h g = grind arith
 
 ground_too : (t u : Term) → length (variables_of u) ≤ length (variables_of t) → is_ground t ≡ true → is_ground u ≡ true
 ground_too t u h g = by_lists (variables_of t) (variables_of u) h g where
@@ -43,28 +35,28 @@ module _ (M : ℕ) (look : ℕ → Term) (sees : SeesNumbers M look) where
   seen_as (Atom a) h = absurd (cc)
   seen_as (Comp f no_terms) h = absurd (cc)
   seen_as (Comp f (term a no_terms)) h =
-      let k = seen_as a (right (bytes_eq f (codes "-")) (is_flat M a) h) in
+      let k = seen_as a ((and_parts (bytes_eq f (codes "-")) (is_flat M a) h).1) in
       let e = length-append (variables_of a) [] in
       let g = length-append (variables_of (apply look a)) [] in
       let fewer = k.fewer in
-      record { flat = both _ _ (left (bytes_eq f (codes "-")) (is_flat M a) h) k.flat; narrower = k.narrower; fewer = omega arith }
+      record { flat = and_from _ _ ((and_parts (bytes_eq f (codes "-")) (is_flat M a) h).0) k.flat; narrower = k.narrower; fewer = omega arith }
   seen_as (Comp f (term a (term b no_terms))) h =
       let whole : Term = Comp f (term a (term b no_terms)) in
-      let parts = left (is_flat M a && is_flat M b) (is_operator f a b && is_narrow (width M whole)) h in
-      let rest = right (is_flat M a && is_flat M b) (is_operator f a b && is_narrow (width M whole)) h in
-      let i = seen_as a (left (is_flat M a) (is_flat M b) parts) in
-      let j = seen_as b (right (is_flat M a) (is_flat M b) parts) in
+      let parts = (and_parts (is_flat M a && is_flat M b) (is_operator f a b && is_narrow (width M whole)) h).0 in
+      let rest = (and_parts (is_flat M a && is_flat M b) (is_operator f a b && is_narrow (width M whole)) h).1 in
+      let i = seen_as a ((and_parts (is_flat M a) (is_flat M b) parts).0) in
+      let j = seen_as b ((and_parts (is_flat M a) (is_flat M b) parts).1) in
       let w = width_by (bytes_eq f (codes "+") || bytes_eq f (codes "-")) (width M a) (width M b) (width M (apply look a)) (width M (apply look b)) i.narrower j.narrower in
       let o = operator_too (bytes_eq f (codes "+")) (bytes_eq f (codes "-")) (bytes_eq f (codes "*")) (is_ground a) (is_ground b) (is_ground (apply look a)) (is_ground (apply look b))
-      (ground_too a (apply look a) i.fewer) (ground_too b (apply look b) j.fewer) (left (is_operator f a b) (is_narrow (width M whole)) rest) in
-      let n = narrower_too _ _ w (right (is_operator f a b) (is_narrow (width M whole)) rest) in
+      (ground_too a (apply look a) i.fewer) (ground_too b (apply look b) j.fewer) ((and_parts (is_operator f a b) (is_narrow (width M whole)) rest).0) in
+      let n = narrower_too _ _ w ((and_parts (is_operator f a b) (is_narrow (width M whole)) rest).1) in
       let e = length-append (variables_of a) (variables_of b ++ []) in
       let e2 = length-append (variables_of b) [] in
       let g = length-append (variables_of (apply look a)) (variables_of (apply look b) ++ []) in
       let g2 = length-append (variables_of (apply look b)) [] in
       let p = i.fewer in
       let q = j.fewer in
-      record { flat = both _ _ (both _ _ i.flat j.flat) (both _ _ o n); narrower = w; fewer = omega arith }
+      record { flat = and_from _ _ (and_from _ _ i.flat j.flat) (and_from _ _ o n); narrower = w; fewer = omega arith }
   seen_as (Comp f (term a (term b (term c ts)))) h = absurd (cc)
 
 pub flat_seen : FlatSeen

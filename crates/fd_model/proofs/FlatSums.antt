@@ -6,7 +6,7 @@ use Rattle.std.specs.Ordering.{int_eq}
 use Rattle.std.specs.Str.{bytes_eq}
 use Rattle.std.specs.Prelude.{codes}
 use Rattle.std.proofs.lemmas.Int.{ints}
-use Rattle.std.proofs.lemmas.Bool.{or_cases}
+use Rattle.std.proofs.lemmas.Bool.{or_cases, and_parts}
 use Rattle.fd_model.specs.declared.kinds.QueryFault.{QueryFault}
 use Rattle.fd_model.specs.declared.kinds.QueryFault.TheVariants.{BadType, Evaluation, Nonlinear}
 use Rattle.fd_model.specs.declared.kinds.Relation.{Relation}
@@ -109,12 +109,6 @@ module _ (M : ℕ) (some : 0 < M) where
   narrow_size : (n : ℕ) → is_narrow n ≡ true → n < 2 ^ 63
   narrow_size n h = grind arith
 
-  left : (p q : Bool) → (p && q) ≡ true → p ≡ true
-  left p q h = grind arith
-
-  right : (p q : Bool) → (p && q) ≡ true → q ≡ true
-  right p q h = grind arith
-
   both_done : {A B C : Type 0} (op : A → B → Result C QueryFault) (r : Result A QueryFault) (q : Result B QueryFault) (a : A) (b : B) (c : C) → r ≡ Ok a → q ≡ Ok b → op a b ≡ Ok c → of_both op r q ≡ Ok c
   both_done op r q a b c h g k = rw (h, g) k
 
@@ -214,8 +208,8 @@ module _ (M : ℕ) (some : 0 < M) where
   width_small (Int z) h = narrow_size (nat_abs z) h
   width_small (Atom a) h = absurd (cc)
   width_small (Comp f no_terms) h = absurd (cc)
-  width_small (Comp f (term a no_terms)) h = width_small a (right (bytes_eq f (codes "-")) (is_flat M a) h)
-  width_small (Comp f (term a (term b no_terms))) h = narrow_size (width M (Comp f (term a (term b no_terms)))) (right (is_operator f a b) _ (right (is_flat M a && is_flat M b) _ h))
+  width_small (Comp f (term a no_terms)) h = width_small a ((and_parts (bytes_eq f (codes "-")) (is_flat M a) h).1)
+  width_small (Comp f (term a (term b no_terms))) h = narrow_size (width M (Comp f (term a (term b no_terms)))) ((and_parts (is_operator f a b) _ ((and_parts (is_flat M a && is_flat M b) _ h).1)).1)
   width_small (Comp f (term a (term b (term c ts)))) h = absurd (cc)
 
   flat_collected : (t : Term) → is_flat M t ≡ true → length (variables_of t) ≤ 2 ^ 31 → IsCollected t
@@ -231,20 +225,20 @@ module _ (M : ℕ) (some : 0 < M) where
   flat_collected (Comp f no_terms) h l = absurd (cc)
   flat_collected (Comp f (term a no_terms)) h l =
       let v = length-append (variables_of a) [] in
-      let k = flat_collected a (right (bytes_eq f (codes "-")) (is_flat M a) h) (omega arith) in
+      let k = flat_collected a ((and_parts (bytes_eq f (codes "-")) (is_flat M a) h).1) (omega arith) in
       let o = times_light (negsuc 0) k.0 (width M a) (length (variables_of a)) k.2.light k.2.few in
-      let w = width_small a (right (bytes_eq f (codes "-")) (is_flat M a) h) in
+      let w = width_small a ((and_parts (bytes_eq f (codes "-")) (is_flat M a) h).1) in
       let g = light_checked (times (negsuc 0) k.0) (omega (arith, o.0)) (omega (arith, o.1)) in
-      (times (negsuc 0) k.0, if_true (bytes_eq f (codes "-")) (of_one (λ s. checked (times (negsuc 0) s)) (collect_term a)) (Err BadType) (Ok (times (negsuc 0) k.0)) (left (bytes_eq f (codes "-")) (is_flat M a) h) (rw k.1 g), record { light = omega (arith, o.0); few = omega (arith, o.1) })
+      (times (negsuc 0) k.0, if_true (bytes_eq f (codes "-")) (of_one (λ s. checked (times (negsuc 0) s)) (collect_term a)) (Err BadType) (Ok (times (negsuc 0) k.0)) ((and_parts (bytes_eq f (codes "-")) (is_flat M a) h).0) (rw k.1 g), record { light = omega (arith, o.0); few = omega (arith, o.1) })
   flat_collected (Comp f (term a (term b no_terms))) h l =
       let v = length-append (variables_of a) (variables_of b ++ []) in
       let v2 = length-append (variables_of b) [] in
-      let parts = left (is_flat M a && is_flat M b) (is_operator f a b && is_narrow (width M (Comp f (term a (term b no_terms))))) h in
-      let k = flat_collected a (left (is_flat M a) (is_flat M b) parts) (omega arith) in
-      let j = flat_collected b (right (is_flat M a) (is_flat M b) parts) (omega arith) in
-      let o = right (is_flat M a && is_flat M b) (is_operator f a b && is_narrow (width M (Comp f (term a (term b no_terms))))) h in
+      let parts = (and_parts (is_flat M a && is_flat M b) (is_operator f a b && is_narrow (width M (Comp f (term a (term b no_terms))))) h).0 in
+      let k = flat_collected a ((and_parts (is_flat M a) (is_flat M b) parts).0) (omega arith) in
+      let j = flat_collected b ((and_parts (is_flat M a) (is_flat M b) parts).1) (omega arith) in
+      let o = (and_parts (is_flat M a && is_flat M b) (is_operator f a b && is_narrow (width M (Comp f (term a (term b no_terms))))) h).1 in
       let g = operator_gives a b k.0 j.0 k.2 j.2 (omega arith) (bytes_eq f (codes "+")) (bytes_eq f (codes "-")) (bytes_eq f (codes "*"))
-      (left (is_operator f a b) (is_narrow (width M (Comp f (term a (term b no_terms))))) o) (width_small (Comp f (term a (term b no_terms))) h) in
+      ((and_parts (is_operator f a b) (is_narrow (width M (Comp f (term a (term b no_terms))))) o).0) (width_small (Comp f (term a (term b no_terms))) h) in
       (g.0, rw (k.1, j.1) g.1, record { light = g.2; few = let e = g.3 in omega arith })
   flat_collected (Comp f (term a (term b (term c ts)))) h l = absurd (cc)
 
@@ -269,10 +263,10 @@ module _ (M : ℕ) (some : 0 < M) where
 
   flat_compared : (r : Relation) (s t : Term) (n : ℕ) → is_flat_comparison M s t ≡ true → length (variables_of s) + length (variables_of t) ≤ 2 ^ 31 → (x : Expansion) × (compare r s t n ≡ Ok x)
   flat_compared r s t n h few =
-      let both = left (is_flat M s && is_flat M t) (is_narrow (width M s + width M t)) h in
-      let size = narrow_strict (width M s + width M t) (right (is_flat M s && is_flat M t) (is_narrow (width M s + width M t)) h) in
-      let k = flat_collected s (left (is_flat M s) (is_flat M t) both) (omega arith) in
-      let j = flat_collected t (right (is_flat M s) (is_flat M t) both) (omega arith) in
+      let both = (and_parts (is_flat M s && is_flat M t) (is_narrow (width M s + width M t)) h).0 in
+      let size = narrow_strict (width M s + width M t) ((and_parts (is_flat M s && is_flat M t) (is_narrow (width M s + width M t)) h).1) in
+      let k = flat_collected s ((and_parts (is_flat M s) (is_flat M t) both).0) (omega arith) in
+      let j = flat_collected t ((and_parts (is_flat M s) (is_flat M t) both).1) (omega arith) in
       let minus = times_light (negsuc 0) j.0 (width M t) (length (variables_of t)) j.2.light j.2.few in
       let sum = sum_light k.0 (times (negsuc 0) j.0) (width M s) (width M t) (length (variables_of s)) (length (variables_of t)) k.2.light (omega (arith, minus.0)) k.2.few minus.1 in
       let u = plus k.0 (times (negsuc 0) j.0) in

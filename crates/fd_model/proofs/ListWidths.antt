@@ -1,5 +1,6 @@
 -- The rows of the constraints on lists keep the limit of width, and all rows are accepted.
 use Rattle.std.proofs.Common.{◌≡◌, ℕ, suc, ◌+◌, ◌*◌, ◌^◌, ◌≤◌, ◌<◌, true, not, ◌||◌, ℤ, pos, nat_abs, nat_lt, List, [], ◌∷◌, ◌++◌, length, refl, ap, sym, ◌∙◌, subst, arith, Ok, Err, mul-le-mul}
+use Rattle.std.proofs.lemmas.Bool.{and_from}
 use Rattle.std.specs.Str.{bytes_eq}
 use Rattle.std.specs.Prelude.{codes}
 use Rattle.fd_model.specs.declared.kinds.ConstraintKind.{ConstraintKind}
@@ -17,7 +18,7 @@ use Rattle.fd_model.specs.ConstraintLaws.{HasIntegers, HaveIntegers, HasShortLis
 use Rattle.fd_model.proofs.Collecting.{one_ok, both_ok, test_ok}
 use Rattle.fd_model.proofs.Choosing.{element_ok}
 use Rattle.fd_model.proofs.Counters.{atmost_ok, units_nonzero}
-use Rattle.fd_model.proofs.RowWidths.{both, under, weight, AreNarrow}
+use Rattle.fd_model.proofs.RowWidths.{under, weight, AreNarrow}
 use Rattle.fd_model.proofs.CompareWidths.{Within, form_within, compare_within}
 use Rattle.fd_model.proofs.RowDirections.{Fitting, expand_fitting}
 
@@ -39,7 +40,7 @@ module _ (M : ℕ) (small : M < 2 ^ 24) where
 
   different_within : (xs : List ℕ) → Within M small (different_ranges xs)
   different_within [] = tt
-  different_within (x ∷ []) = (both _ _ refl limit, tt)
+  different_within (x ∷ []) = (and_from _ _ refl limit, tt)
   different_within (x ∷ y ∷ ys) = pairs_within (x ∷ y ∷ ys)
 
   zero_factor : not (factor_over_limit M 0) ≡ true
@@ -49,7 +50,7 @@ module _ (M : ℕ) (small : M < 2 ^ 24) where
 
   where_within : (a : ℤ) (y : ℕ) (b : ℤ) → nat_abs a < 2 ^ 66 → nat_abs b < 2 ^ 66 → range_within M (where_is a y b) ≡ true
   where_within a y b h g =
-      both _ _ (both _ _ (both _ _ (both _ _ (both _ _ (under (nat_abs a) (omega arith)) refl) refl) zero_factor) (under (nat_abs b) (omega arith))) (under (M + nat_abs b) (omega arith))
+      and_from _ _ (and_from _ _ (and_from _ _ (and_from _ _ (and_from _ _ (under (nat_abs a) (omega arith)) refl) refl) zero_factor) (under (nat_abs b) (omega arith))) (under (M + nat_abs b) (omega arith))
 
   abbrev EachWithin : List Range → Type 0
   EachWithin [] = Unit {0}
@@ -57,7 +58,7 @@ module _ (M : ℕ) (small : M < 2 ^ 24) where
 
   joined_within : (r : Range) (qs : List Range) → range_within M r ≡ true → EachWithin qs → range_within M (joined r qs) ≡ true
   joined_within r [] h g = h
-  joined_within r (q ∷ qs) h g = joined_within (Union r q) qs (both _ _ h g.0) g.1
+  joined_within r (q ∷ qs) h g = joined_within (Union r q) qs (and_from _ _ h g.0) g.1
 
   union_within : (rs : List Range) → EachWithin rs → range_within M (union_of rs) ≡ true
   union_within [] h = refl
@@ -108,7 +109,7 @@ module _ (M : ℕ) (small : M < 2 ^ 24) where
   counts_within : (v : ℤ) (xs : List ℕ) (m : ℕ) → nat_abs v < 2 ^ 66 → Within M small (counts v xs m)
   counts_within v [] m h = tt
   counts_within v (x ∷ xs) m h = (
-    both _ _ (where_within v x (pos 1) h (omega arith)) (both _ _ (both _ _ (both _ _ (under (nat_abs v) (omega arith)) refl) refl) zero_factor),
+    and_from _ _ (where_within v x (pos 1) h (omega arith)) (and_from _ _ (and_from _ _ (and_from _ _ (under (nat_abs v) (omega arith)) refl) refl) zero_factor),
     (counted_within v x m h, counts_within v xs (suc m) h),
   )
 

@@ -1,5 +1,6 @@
 -- The rows fit the direction table, whatever the numbers in them.
 use Rattle.std.proofs.Common.{◌≡◌, ℕ, zero, suc, Bool, true, false, cond, ◌&&◌, ℤ, pos, negsuc, neg_ℤ, int_le, List, [], ◌∷◌, ◌++◌, refl, sym, subst, arith, Ok}
+use Rattle.std.proofs.lemmas.Bool.{and_from}
 use Rattle.std.proofs.lemmas.Int.{ints}
 use Rattle.fd_model.specs.declared.kinds.ConstraintKind.{ConstraintKind}
 use Rattle.fd_model.specs.declared.kinds.ConstraintKind.TheVariants.{Compare, AllDifferent, Element, Atmost}
@@ -19,9 +20,6 @@ use Rattle.fd_model.proofs.LinearForms.{NoneZero}
 use Rattle.fd_model.proofs.Comparing.{form_of, collect_nonzero, normal_nonzero}
 use Rattle.fd_model.proofs.Choosing.{element_ok}
 use Rattle.fd_model.proofs.Counters.{atmost_ok, units_nonzero}
-
-both : (x y : Bool) → x ≡ true → y ≡ true → (x && y) ≡ true
-both x y h g = grind arith
 
 module _ (M : ℕ) where
   -- a term that fits the wish and has no parameters
@@ -45,7 +43,7 @@ module _ (M : ℕ) where
   less_directed w f g h k e [] i = i
   less_directed w f g h k e (t ∷ ts) i =
       let p = product_directed (turn w) f g h (λ x. subst (λ v. IsDirected v (g x)) (sym (turn_turn w)) (k x)) t.0 t.1 in
-      less_directed w f g h k (Sub e (Mul (Number t.1) (by_sign f g t.0 t.1))) ts (record { fits = both _ _ i.fits p.fits; params = rw (i.params, p.params) refl })
+      less_directed w f g h k (Sub e (Mul (Number t.1) (by_sign f g t.0 t.1))) ts (record { fits = and_from _ _ i.fits p.fits; params = rw (i.params, p.params) refl })
 
   low_directed : (c : ℤ) (ts : List (ℕ × ℤ)) → IsDirected Rising (low c ts)
   low_directed c ts = less_directed Rising Max Min (λ x. record { fits = refl; params = refl }) (λ x. record { fits = refl; params = refl }) (Number c) ts (record { fits = refl; params = refl })
@@ -71,10 +69,10 @@ module _ (M : ℕ) where
     pub params : params r ≡ []
 
   span_fitting : (a b : Expr) → IsDirected Rising a → IsDirected Falling b → IsFitting (Span a b)
-  span_fitting a b i j = record { fits = both _ _ i.fits j.fits; params = rw (i.params, j.params) refl }
+  span_fitting a b i j = record { fits = and_from _ _ i.fits j.fits; params = rw (i.params, j.params) refl }
 
   outside_fitting : (a b : Expr) → IsDirected Falling a → IsDirected Rising b → IsFitting (Outside (Span a b))
-  outside_fitting a b i j = record { fits = both _ _ i.fits j.fits; params = rw (i.params, j.params) refl }
+  outside_fitting a b i j = record { fits = and_from _ _ i.fits j.fits; params = rw (i.params, j.params) refl }
 
   row_fitting : (k : Comparison) (turn : Bool) (c : ℤ) (ts : List (ℕ × ℤ)) (a : ℕ) → IsFitting (row k turn c ts (suc a))
   row_fitting IsEqual turn c ts a = span_fitting _ _ (up_directed Rising (low c ts) a (low_directed c ts)) (down_directed Falling (high c ts) a (high_directed c ts))
@@ -125,7 +123,7 @@ module _ (M : ℕ) where
 
   joined_fitting : (r : Range) (qs : List Range) → IsFitting r → EachFitting qs → IsFitting (joined r qs)
   joined_fitting r [] h g = h
-  joined_fitting r (q ∷ qs) h g = joined_fitting (Union r q) qs (record { fits = both _ _ h.fits g.0.fits; params = let e = h.params in let f = g.0.params in rw (e, f) refl }) g.1
+  joined_fitting r (q ∷ qs) h g = joined_fitting (Union r q) qs (record { fits = and_from _ _ h.fits g.0.fits; params = let e = h.params in let f = g.0.params in rw (e, f) refl }) g.1
 
   union_fitting : (rs : List Range) → EachFitting rs → IsFitting (union_of rs)
   union_fitting [] h = record { fits = refl; params = refl }

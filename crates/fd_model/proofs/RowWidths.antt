@@ -1,5 +1,6 @@
 -- The linear rows keep the limit of width.
 use Rattle.std.proofs.Common.{◌≡◌, ℕ, zero, suc, ◌+◌, ◌*◌, ◌^◌, ◌<◌, max, Bool, true, false, not, ◌&&◌, ℤ, pos, negsuc, ◌*ℤ◌, neg_ℤ, nat_abs, List, [], ◌∷◌, ◌++◌, refl, ap, arith}
+use Rattle.std.proofs.lemmas.Bool.{and_from}
 use Rattle.std.proofs.lemmas.Int.{ints}
 use Rattle.fd_language.specs.Range.{Expr, Number, Min, Max, Val, Sub, Mul, DivDown, DivUp}
 use Rattle.fd_model.specs.Closed.{AllPosted}
@@ -8,9 +9,6 @@ use Rattle.fd_model.specs.Linear.{scaled, Comparison, IsEqual, IsOther, IsAtMost
 use Rattle.fd_model.specs.LinearRows.{by_sign, minus_products, low, high, exact, row, row_by_sign, rows_behind}
 use Rattle.fd_model.proofs.Integers.{turned_once}
 use Rattle.fd_model.proofs.LinearForms.{NoneZero}
-
-pub both : (x y : Bool) → x ≡ true → y ≡ true → (x && y) ≡ true
-both x y h g = grind arith
 
 pub under : (n : ℕ) → n < 2 ^ 126 → not (over_limit n) ≡ true
 under n h = grind arith
@@ -51,10 +49,10 @@ module _ (M : ℕ) (m : M < 2 ^ 126) where
       → (expr_within M (Mul (Number z) (by_sign f g x z)) ≡ true) × (bound M (Mul (Number z) (by_sign f g x z)) ≡ nat_abs z * M)
   product_within f g h k x (pos n) s t =
       let e = h x in let size : n * bound M (f x) ≡ n * M = ap (λ y. n * y) e.1 in
-      (both _ _ (both _ _ (under n s) e.0) (under (n * bound M (f x)) (omega arith)), size)
+      (and_from _ _ (and_from _ _ (under n s) e.0) (under (n * bound M (f x)) (omega arith)), size)
   product_within f g h k x (negsuc n) s t =
       let e = k x in let size : suc n * bound M (g x) ≡ suc n * M = ap (λ y. suc n * y) e.1 in
-      (both _ _ (both _ _ (under (suc n) s) e.0) (under (suc n * bound M (g x)) (omega arith)), size)
+      (and_from _ _ (and_from _ _ (under (suc n) s) e.0) (under (suc n * bound M (g x)) (omega arith)), size)
 
   less_within : (f g : ℕ → Expr) → AreWithin f → AreWithin g → (e : Expr) (ts : List (ℕ × ℤ)) → AreNarrow ts → expr_within M e ≡ true → bound M e + weight M ts < 2 ^ 126
       → (expr_within M (minus_products f g e ts) ≡ true) × (bound M (minus_products f g e ts) < 2 ^ 126)
@@ -62,13 +60,13 @@ module _ (M : ℕ) (m : M < 2 ^ 126) where
   less_within f g h k e (t ∷ ts) n i s =
       let q : Expr = Mul (Number t.1) (by_sign f g t.0 t.1) in
       let p = product_within f g h k t.0 t.1 n.0 (omega arith) in
-      less_within f g h k (Sub e q) ts n.1 (both _ _ (both _ _ i p.0) (under (bound M e + bound M q) (let o = p.1 in omega arith))) (let o = p.1 in omega arith)
+      less_within f g h k (Sub e q) ts n.1 (and_from _ _ (and_from _ _ i p.0) (under (bound M e + bound M q) (let o = p.1 in omega arith))) (let o = p.1 in omega arith)
 
   down_within : (e : Expr) (a : ℕ) → expr_within M e ≡ true → bound M e < 2 ^ 126 → suc a < 2 ^ 126 → expr_within M (DivDown e (Number (pos (suc a)))) ≡ true
-  down_within e a i s l = both _ _ (both _ _ i (under (suc a) l)) (under (max (bound M e) M) (omega arith))
+  down_within e a i s l = and_from _ _ (and_from _ _ i (under (suc a) l)) (under (max (bound M e) M) (omega arith))
 
   up_within : (e : Expr) (a : ℕ) → expr_within M e ≡ true → bound M e < 2 ^ 126 → suc a < 2 ^ 126 → expr_within M (DivUp e (Number (pos (suc a)))) ≡ true
-  up_within e a i s l = both _ _ (both _ _ i (under (suc a) l)) (under (max (bound M e) M) (omega arith))
+  up_within e a i s l = and_from _ _ (and_from _ _ i (under (suc a) l)) (under (max (bound M e) M) (omega arith))
 
   row_within : (k : Comparison) (turn : Bool) (c : ℤ) (ts : List (ℕ × ℤ)) (a : ℕ) → nat_abs c + weight M ts < 2 ^ 126 → AreNarrow ts → suc a < 2 ^ 126 → range_within M (row k turn c ts (suc a)) ≡ true
   row_within k turn c ts a s n l = by_kind k turn where
@@ -85,10 +83,10 @@ module _ (M : ℕ) (m : M < 2 ^ 126) where
     e = less_within Val Val each each (Number c) ts n (under (nat_abs c) (omega arith)) s
 
     by_kind : (k : Comparison) (turn : Bool) → range_within M (row k turn c ts (suc a)) ≡ true
-    by_kind IsEqual turn = both _ _ (up_within (low c ts) a i.0 i.1 l) (down_within (high c ts) a j.0 j.1 l)
-    by_kind IsOther turn = both _ _ (up_within (exact c ts) a e.0 e.1 l) (down_within (exact c ts) a e.0 e.1 l)
-    by_kind IsAtMost false = both _ _ refl (down_within (high c ts) a j.0 j.1 l)
-    by_kind IsAtMost true = both _ _ (up_within (low c ts) a i.0 i.1 l) (under M m)
+    by_kind IsEqual turn = and_from _ _ (up_within (low c ts) a i.0 i.1 l) (down_within (high c ts) a j.0 j.1 l)
+    by_kind IsOther turn = and_from _ _ (up_within (exact c ts) a e.0 e.1 l) (down_within (exact c ts) a e.0 e.1 l)
+    by_kind IsAtMost false = and_from _ _ refl (down_within (high c ts) a j.0 j.1 l)
+    by_kind IsAtMost true = and_from _ _ (up_within (low c ts) a i.0 i.1 l) (under M m)
 
   signed_within : (k : Comparison) (c : ℤ) (ts : List (ℕ × ℤ)) (z : ℤ) → (z ≡ pos 0 → ⊥) → nat_abs c + weight M ts < 2 ^ 126 → AreNarrow ts → nat_abs z < 2 ^ 126 → range_within M (row_by_sign k c ts z) ≡ true
   signed_within k c ts (pos zero) f s n l = absurd (f refl)

@@ -1,7 +1,7 @@
 -- What is asked stays told as nodes are read.
 use Rattle.std.proofs.Common.{◌≡◌, ℕ, ℤ, suc, ◌+◌, ◌<◌, ◌≤◌, Bool, true, false, cond, ◌||◌, ◌&&◌, nat_lt, List, [], ◌∷◌, ◌++◌, length, Option, Some, None, refl, sym, ◌∙◌, ap, subst, arith, ◌⊎◌, inl, inr}
 use Rattle.std.specs.Prelude.{Result, OnOk}
-use Rattle.std.proofs.lemmas.Bool.{true≢false}
+use Rattle.std.proofs.lemmas.Bool.{true≢false, and_parts}
 use Rattle.fd_language.specs.declared.range_node.Need.{Need}
 use Rattle.fd_language.specs.declared.range_node.Need.TheVariants.{Whole, Natural, Divisor}
 use Rattle.fd_language.specs.declared.range_node.RangeNode.{RangeNode}
@@ -13,7 +13,6 @@ use Rattle.fd_language.specs.Flat.{built, spelled, IsSpelled, builds_range, spel
 use Rattle.std.proofs.Common.{get_or, drop}
 use Rattle.std.proofs.lemmas.List.{at_drop_more, drop_all}
 use Rattle.std.specs.Prelude.{Ok, Err}
-use Rattle.fd_language.proofs.Directions.{first_of_two, second_of_two}
 use Rattle.monotone_check.specs.declared.asking.Asked.{Asked}
 use Rattle.monotone_check.specs.declared.asks.Reading.{Reading}
 use Rattle.monotone_check.specs.Asked.{raise, raise_all, told, raised, asks_now, Opens, OpensParameter, Operates, Closes, ClosesQuotient}
@@ -96,11 +95,11 @@ literal_asks (Param x) h = absurd (true≢false (sym h))
 literal_asks (Min y) h = absurd (true≢false (sym h))
 literal_asks (Max y) h = absurd (true≢false (sym h))
 literal_asks (Val y) h = absurd (true≢false (sym h))
-literal_asks (Add a b) h = ap (λ l. l ++ expr_asks b false) (literal_asks a (first_of_two (is_literal a) (is_literal b) h)) ∙ literal_asks b (second_of_two (is_literal a) (is_literal b) h)
-literal_asks (Sub a b) h = ap (λ l. l ++ expr_asks b false) (literal_asks a (first_of_two (is_literal a) (is_literal b) h)) ∙ literal_asks b (second_of_two (is_literal a) (is_literal b) h)
+literal_asks (Add a b) h = ap (λ l. l ++ expr_asks b false) (literal_asks a ((and_parts (is_literal a) (is_literal b) h).0)) ∙ literal_asks b ((and_parts (is_literal a) (is_literal b) h).1)
+literal_asks (Sub a b) h = ap (λ l. l ++ expr_asks b false) (literal_asks a ((and_parts (is_literal a) (is_literal b) h).0)) ∙ literal_asks b ((and_parts (is_literal a) (is_literal b) h).1)
 literal_asks (Mul a b) h =
-    let l = first_of_two (is_literal a) (is_literal b) h in
-    ap (λ c. cond (c || is_literal b) (expr_asks a false ++ expr_asks b false) (expr_asks a true ++ expr_asks b true)) l ∙ (ap (λ k. k ++ expr_asks b false) (literal_asks a l) ∙ literal_asks b (second_of_two (is_literal a) (is_literal b) h))
+    let l = (and_parts (is_literal a) (is_literal b) h).0 in
+    ap (λ c. cond (c || is_literal b) (expr_asks a false ++ expr_asks b false) (expr_asks a true ++ expr_asks b true)) l ∙ (ap (λ k. k ++ expr_asks b false) (literal_asks a l) ∙ literal_asks b ((and_parts (is_literal a) (is_literal b) h).1))
 literal_asks (DivDown a b) h = absurd (true≢false (sym h))
 literal_asks (DivUp a b) h = absurd (true≢false (sym h))
 

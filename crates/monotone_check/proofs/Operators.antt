@@ -2,7 +2,7 @@
 use Rattle.std.proofs.Common.{◌≡◌, ℕ, suc, ◌+◌, ◌-◌, ◌*◌, ◌^◌, ◌≤◌, ◌<◌, Bool, true, false, cond, not, ◌&&◌, ℤ, pos, negsuc, ◌+ℤ◌, ◌-ℤ◌, ◌*ℤ◌, neg_ℤ, int_le, nat_abs, List, ◌++◌, Option, Some, None, IfSome, FitsSigned, refl, sym, ◌∙◌, ap, subst, arith, mul-le-mul}
 use Rattle.std.specs.Int.{w128}
 use Rattle.std.proofs.lemmas.Int.{ints, fits_signed_from_abs}
-use Rattle.std.proofs.lemmas.Bool.{true≢false}
+use Rattle.std.proofs.lemmas.Bool.{true≢false, and_parts}
 use Rattle.fd_language.specs.declared.range_node.RangeNode.{RangeNode}
 use Rattle.fd_language.specs.declared.range_node.RangeNode.TheVariants as node
 use Rattle.fd_language.specs.declared.range_node.Offence.{Offence}
@@ -10,7 +10,6 @@ use Rattle.fd_language.specs.Range.{Expr, Number, Infinity, Param, Min, Max, Val
 use Rattle.fd_language.specs.Needs.{is_literal}
 use Rattle.fd_language.specs.Check.{Wish, turn, literal_value, is_parameter}
 use Rattle.fd_language.specs.RangeVerdict.{expr_size, bound, wide_in_expr, where_too_wide, over_limit, where_below_zero, where_natural, unless_divides, scaled, expr_offences, quotient_offences, expr_within, earlier, first}
-use Rattle.fd_language.proofs.Directions.{first_of_two, second_of_two}
 use Rattle.monotone_check.specs.declared.summary.TermCheck.{TermCheck}
 use Rattle.monotone_check.specs.Summary.{literal_of, IsTerm, both_literal, operator_literal, kept, product_first, quotient_first, operands_first, operator_first, IsOperated}
 use Rattle.monotone_check.proofs.Firsts.{first_two, first_three}
@@ -23,9 +22,9 @@ literal_bound M (Param x) h = absurd (true≢false (sym h))
 literal_bound M (Min y) h = absurd (true≢false (sym h))
 literal_bound M (Max y) h = absurd (true≢false (sym h))
 literal_bound M (Val y) h = absurd (true≢false (sym h))
-literal_bound M (Add a b) h = sums _ _ _ _ _ (abs_add (literal_value M a) (literal_value M b)) (literal_bound M a (first_of_two (is_literal a) (is_literal b) h)) (literal_bound M b (second_of_two (is_literal a) (is_literal b) h))
-literal_bound M (Sub a b) h = sums _ _ _ _ _ (abs_sub (literal_value M a) (literal_value M b)) (literal_bound M a (first_of_two (is_literal a) (is_literal b) h)) (literal_bound M b (second_of_two (is_literal a) (is_literal b) h))
-literal_bound M (Mul a b) h = products _ _ _ _ _ (abs_mul (literal_value M a) (literal_value M b)) (literal_bound M a (first_of_two (is_literal a) (is_literal b) h)) (literal_bound M b (second_of_two (is_literal a) (is_literal b) h))
+literal_bound M (Add a b) h = sums _ _ _ _ _ (abs_add (literal_value M a) (literal_value M b)) (literal_bound M a ((and_parts (is_literal a) (is_literal b) h).0)) (literal_bound M b ((and_parts (is_literal a) (is_literal b) h).1))
+literal_bound M (Sub a b) h = sums _ _ _ _ _ (abs_sub (literal_value M a) (literal_value M b)) (literal_bound M a ((and_parts (is_literal a) (is_literal b) h).0)) (literal_bound M b ((and_parts (is_literal a) (is_literal b) h).1))
+literal_bound M (Mul a b) h = products _ _ _ _ _ (abs_mul (literal_value M a) (literal_value M b)) (literal_bound M a ((and_parts (is_literal a) (is_literal b) h).0)) (literal_bound M b ((and_parts (is_literal a) (is_literal b) h).1))
 literal_bound M (DivDown a b) h = absurd (true≢false (sym h))
 literal_bound M (DivUp a b) h = absurd (true≢false (sym h))
 

@@ -1,13 +1,12 @@
 -- What is kept of a range follows from what is kept of its operands.
 use Rattle.std.proofs.Common.{◌≡◌, ℕ, ◌+◌, ◌-◌, Bool, true, false, cond, not, ◌||◌, ◌&&◌, ℤ, pos, int_le, List, Option, Some, None, refl, sym, ◌∙◌, ap, arith}
-use Rattle.std.proofs.lemmas.Bool.{true≢false}
+use Rattle.std.proofs.lemmas.Bool.{true≢false, and_parts}
 use Rattle.fd_language.specs.declared.range_node.RangeNode.TheVariants as node
 use Rattle.fd_language.specs.declared.range_node.Offence.{Offence}
 use Rattle.fd_language.specs.Range.{Range, Span, One, Dom, Union, Inter, Outside, Plus, Minus, Times, Over, Expr, Number, Infinity, Param, Min, Max, Val, Add, Sub, Mul, DivDown, DivUp}
 use Rattle.fd_language.specs.Needs.{is_literal}
 use Rattle.fd_language.specs.Check.{Rising, Falling, Constant, literal_value, is_parameter}
 use Rattle.fd_language.specs.RangeVerdict.{expr_size, range_size, bound, wide_in_expr, wide_in_range, where_too_wide, over_limit, factor_over_limit, unless_divides, expr_offences, range_offences, expr_within, range_within, first}
-use Rattle.fd_language.proofs.Directions.{first_of_two, second_of_two}
 use Rattle.monotone_check.specs.declared.summary.TermCheck.{TermCheck}
 use Rattle.monotone_check.specs.declared.summary.RangeCheck.{RangeCheck}
 use Rattle.monotone_check.specs.Summary.{IsTerm, IsRange, by_growth, divisor_first, IsSpan, IsSingle, IsDomain, IsCombined, IsComplement, IsPointwise}
@@ -43,8 +42,8 @@ module _ (M : ℕ) (at : ℕ → ℕ) (n : ℕ) where
   span_is a b s t u i j o = record {
     wide = o.wide ∙ first_two (wide_in_expr M at (n - 1 - expr_size b) a) (wide_in_expr M at (n - 1) b) _ _ i.wide j.wide;
     offences = λ h.
-        let wa : expr_within M a ≡ true = first_of_two (expr_within M a) (expr_within M b) h in
-        let wb : expr_within M b ≡ true = second_of_two (expr_within M a) (expr_within M b) h in
+        let wa : expr_within M a ≡ true = (and_parts (expr_within M a) (expr_within M b) h).0 in
+        let wb : expr_within M b ≡ true = (and_parts (expr_within M a) (expr_within M b) h).1 in
         growth u _ _ (λ w. range_offences M at n (Span a b) w) o.shrinking o.growing
         (first_two (expr_offences M at (n - 1 - expr_size b) a Rising false) (expr_offences M at (n - 1) b Falling false) _ _ (i.offences wa Rising false) (j.offences wb Falling false))
         (first_two (expr_offences M at (n - 1 - expr_size b) a Falling false) (expr_offences M at (n - 1) b Rising false) _ _ (i.offences wa Falling false) (j.offences wb Rising false));
@@ -63,8 +62,8 @@ module _ (M : ℕ) (at : ℕ → ℕ) (n : ℕ) where
   union_is r q s t u i j o = record {
     wide = o.wide ∙ first_two (wide_in_range M at (n - 1 - range_size q) r) (wide_in_range M at (n - 1) q) _ _ i.wide j.wide;
     offences = λ h.
-        let wa : range_within M r ≡ true = first_of_two (range_within M r) (range_within M q) h in
-        let wb : range_within M q ≡ true = second_of_two (range_within M r) (range_within M q) h in
+        let wa : range_within M r ≡ true = (and_parts (range_within M r) (range_within M q) h).0 in
+        let wb : range_within M q ≡ true = (and_parts (range_within M r) (range_within M q) h).1 in
         growth u _ _ (λ w. range_offences M at n (Union r q) w) o.shrinking o.growing
         (first_two (range_offences M at (n - 1 - range_size q) r true) (range_offences M at (n - 1) q true) _ _ (i.offences wa true) (j.offences wb true))
         (first_two (range_offences M at (n - 1 - range_size q) r false) (range_offences M at (n - 1) q false) _ _ (i.offences wa false) (j.offences wb false));
@@ -74,8 +73,8 @@ module _ (M : ℕ) (at : ℕ → ℕ) (n : ℕ) where
   inter_is r q s t u i j o = record {
     wide = o.wide ∙ first_two (wide_in_range M at (n - 1 - range_size q) r) (wide_in_range M at (n - 1) q) _ _ i.wide j.wide;
     offences = λ h.
-        let wa : range_within M r ≡ true = first_of_two (range_within M r) (range_within M q) h in
-        let wb : range_within M q ≡ true = second_of_two (range_within M r) (range_within M q) h in
+        let wa : range_within M r ≡ true = (and_parts (range_within M r) (range_within M q) h).0 in
+        let wb : range_within M q ≡ true = (and_parts (range_within M r) (range_within M q) h).1 in
         growth u _ _ (λ w. range_offences M at n (Inter r q) w) o.shrinking o.growing
         (first_two (range_offences M at (n - 1 - range_size q) r true) (range_offences M at (n - 1) q true) _ _ (i.offences wa true) (j.offences wb true))
         (first_two (range_offences M at (n - 1 - range_size q) r false) (range_offences M at (n - 1) q false) _ _ (i.offences wa false) (j.offences wb false));
