@@ -48,17 +48,12 @@ nil_two xs ys a b e f = nil-append xs ys ∙ two (nil xs) (nil ys) a b e f where
 
 module _ (M : ℕ) (at : ℕ → ℕ) where
   nil-expr : (n : ℕ) (e : Expr) → nil (wide_in_expr M at n e) ≡ expr_within M e
-  nil-expr n (Number z) = nil-wide (over_limit (bound M (Number z))) (at n)
-  nil-expr n Infinity = nil-wide (over_limit (bound M Infinity)) (at n)
-  nil-expr n (Param x) = nil-wide (over_limit (bound M (Param x))) (at n)
-  nil-expr n (Min y) = nil-wide (over_limit (bound M (Min y))) (at n)
-  nil-expr n (Max y) = nil-wide (over_limit (bound M (Max y))) (at n)
-  nil-expr n (Val y) = nil-wide (over_limit (bound M (Val y))) (at n)
   nil-expr n (Add a b) = nil_three (wide_in_expr M at (n - 1 - expr_size b) a) (wide_in_expr M at (n - 1) b) (where_too_wide (over_limit (bound M (Add a b))) (at n)) _ _ _ (nil-expr (n - 1 - expr_size b) a) (nil-expr (n - 1) b) (nil-wide (over_limit (bound M (Add a b))) (at n))
   nil-expr n (Sub a b) = nil_three (wide_in_expr M at (n - 1 - expr_size b) a) (wide_in_expr M at (n - 1) b) (where_too_wide (over_limit (bound M (Sub a b))) (at n)) _ _ _ (nil-expr (n - 1 - expr_size b) a) (nil-expr (n - 1) b) (nil-wide (over_limit (bound M (Sub a b))) (at n))
   nil-expr n (Mul a b) = nil_three (wide_in_expr M at (n - 1 - expr_size b) a) (wide_in_expr M at (n - 1) b) (where_too_wide (over_limit (bound M (Mul a b))) (at n)) _ _ _ (nil-expr (n - 1 - expr_size b) a) (nil-expr (n - 1) b) (nil-wide (over_limit (bound M (Mul a b))) (at n))
   nil-expr n (DivDown a b) = nil_three (wide_in_expr M at (n - 1 - expr_size b) a) (wide_in_expr M at (n - 1) b) (where_too_wide (over_limit (bound M (DivDown a b))) (at n)) _ _ _ (nil-expr (n - 1 - expr_size b) a) (nil-expr (n - 1) b) (nil-wide (over_limit (bound M (DivDown a b))) (at n))
   nil-expr n (DivUp a b) = nil_three (wide_in_expr M at (n - 1 - expr_size b) a) (wide_in_expr M at (n - 1) b) (where_too_wide (over_limit (bound M (DivUp a b))) (at n)) _ _ _ (nil-expr (n - 1 - expr_size b) a) (nil-expr (n - 1) b) (nil-wide (over_limit (bound M (DivUp a b))) (at n))
+  nil-expr n e = nil-wide (over_limit (bound M e)) (at n)
 
   pub nil-range : (n : ℕ) (r : Range) → nil (wide_in_range M at n r) ≡ range_within M r
   nil-range n (Span a b) = nil_two (wide_in_expr M at (n - 1 - expr_size b) a) (wide_in_expr M at (n - 1) b) _ _ (nil-expr (n - 1 - expr_size b) a) (nil-expr (n - 1) b)
@@ -76,10 +71,6 @@ module _ (M : ℕ) (at : ℕ → ℕ) where
   literal_fits : (e : Expr) (w : Wish) → is_literal e ≡ true → expr_fits M e w ≡ true
   literal_fits (Number z) w h = refl
   literal_fits Infinity w h = refl
-  literal_fits (Param x) w h = absurd (true≢false (sym h))
-  literal_fits (Min y) w h = absurd (true≢false (sym h))
-  literal_fits (Max y) w h = absurd (true≢false (sym h))
-  literal_fits (Val y) w h = absurd (true≢false (sym h))
   literal_fits (Add a b) w h = and_from (expr_fits M a w) (expr_fits M b w) (literal_fits a w ((and_parts (is_literal a) (is_literal b) h).0)) (literal_fits b w ((and_parts (is_literal a) (is_literal b) h).1))
   literal_fits (Sub a b) w h = and_from (expr_fits M a w) (expr_fits M b (turn w)) (literal_fits a w ((and_parts (is_literal a) (is_literal b) h).0)) (literal_fits b (turn w) ((and_parts (is_literal a) (is_literal b) h).1))
   literal_fits (Mul a b) w h =
@@ -90,23 +81,17 @@ module _ (M : ℕ) (at : ℕ → ℕ) where
         factor true e (pos n) x y rest f g = f
         factor true e (negsuc n) x y rest f g = g
         factor false e v x y rest f g = absurd (true≢false (sym e))
-  literal_fits (DivDown a b) w h = absurd (true≢false (sym h))
-  literal_fits (DivUp a b) w h = absurd (true≢false (sym h))
+  literal_fits e w h = absurd (true≢false (sym h))
 
   literal_natural : (e : Expr) → is_literal e ≡ true → is_natural M e ≡ int_le (pos 0) (literal_value M e)
   literal_natural (Number z) h = refl
   literal_natural Infinity h = sym (at_least M) where
     at_least : (m : ℕ) → int_le (pos 0) (pos m) ≡ true
     at_least m = grind (arith, ints)
-  literal_natural (Param x) h = absurd (true≢false (sym h))
-  literal_natural (Min y) h = absurd (true≢false (sym h))
-  literal_natural (Max y) h = absurd (true≢false (sym h))
-  literal_natural (Val y) h = absurd (true≢false (sym h))
   literal_natural (Add a b) h = ap (λ c. cond c (int_le (pos 0) (literal_value M (Add a b))) (is_natural M a && is_natural M b)) h
   literal_natural (Sub a b) h = ap (λ c. cond c (int_le (pos 0) (literal_value M (Sub a b))) false) h
   literal_natural (Mul a b) h = ap (λ c. cond c (int_le (pos 0) (literal_value M (Mul a b))) (is_natural M a && is_natural M b)) h
-  literal_natural (DivDown a b) h = absurd (true≢false (sym h))
-  literal_natural (DivUp a b) h = absurd (true≢false (sym h))
+  literal_natural e h = absurd (true≢false (sym h))
 
   nil-below : (k : Bool) (z : ℤ) (p : ℕ) → nil (where_below_zero k z p) ≡ (not k || int_le (pos 0) z)
   nil-below true (pos n) p = sym (at_least n) where
@@ -190,24 +175,16 @@ module _ (M : ℕ) (at : ℕ → ℕ) where
 
   parameter_natural : (b : Expr) → is_parameter b ≡ true → is_natural M b ≡ true
   parameter_natural (Param x) h = refl
-  parameter_natural (Number z) h = absurd (true≢false (sym h))
   parameter_natural Infinity h = refl
   parameter_natural (Min y) h = refl
   parameter_natural (Max y) h = refl
   parameter_natural (Val y) h = refl
-  parameter_natural (Add a b) h = absurd (true≢false (sym h))
-  parameter_natural (Sub a b) h = absurd (true≢false (sym h))
-  parameter_natural (Mul a b) h = absurd (true≢false (sym h))
-  parameter_natural (DivDown a b) h = absurd (true≢false (sym h))
-  parameter_natural (DivUp a b) h = absurd (true≢false (sym h))
+  parameter_natural e h = absurd (true≢false (sym h))
 
   nil-offences : (n : ℕ) (e : Expr) (w : Wish) (k : Bool) → nil (expr_offences M at n e w k) ≡ (expr_fits M e w && (not k || is_natural M e))
   nil-offences n (Number z) w k = nil-below k z (at n)
-  nil-offences n Infinity w k = anyhow true k
-  nil-offences n (Param x) w k = anyhow true k
   nil-offences n (Min y) w k = nil-fits (is_rising w) (at n) ∙ anyhow (is_rising w) k
   nil-offences n (Max y) w k = nil-fits (is_falling w) (at n) ∙ anyhow (is_falling w) k
-  nil-offences n (Val y) w k = anyhow true k
   nil-offences n (Add a b) w k = sum_part (is_literal a && is_literal b) k (expr_fits M a w) (expr_fits M b w) (is_natural M a) (is_natural M b) (int_le (pos 0) (literal_value M (Add a b))) _ _
       (nil-below k (literal_value M (Add a b)) (at n))
       (nil_two (expr_offences M at (n - 1 - expr_size b) a w k) (expr_offences M at (n - 1) b w k) _ _ (nil-offences (n - 1 - expr_size b) a w k) (nil-offences (n - 1) b w k))
@@ -236,6 +213,7 @@ module _ (M : ℕ) (at : ℕ → ℕ) where
       (nil-offences (n - 1 - expr_size b) a w k)
       (nil_two (expr_offences M at (n - 1 - expr_size b) a w true) (expr_offences M at (n - 1) b (turn w) true) _ _ (nil-offences (n - 1 - expr_size b) a w true) (nil-offences (n - 1) b (turn w) true))
       (divisor_natural b) (parameter_natural b)
+  nil-offences n e w k = anyhow true k
 
   plainly : (n : ℕ) (e : Expr) (w : Wish) → nil (expr_offences M at n e w false) ≡ expr_fits M e w
   plainly n e w = nil-offences n e w false ∙ and-true (expr_fits M e w)

@@ -91,26 +91,16 @@ module _ (M : ℕ) (p : ℕ → ℤ) where
   pub literal_is : (S : Family) (e : Expr) → is_literal e ≡ true → value M S (fill p e) ≡ literal_value M e
   literal_is S (Number z) h = refl
   literal_is S Infinity h = refl
-  literal_is S (Param x) h = absurd (true≢false (sym h))
-  literal_is S (Min y) h = absurd (true≢false (sym h))
-  literal_is S (Max y) h = absurd (true≢false (sym h))
-  literal_is S (Val y) h = absurd (true≢false (sym h))
   literal_is S (Add a b) h = let f = literal_is S a ((and_parts (is_literal a) (is_literal b) h).0) in let g = literal_is S b ((and_parts (is_literal a) (is_literal b) h).1) in cc
   literal_is S (Sub a b) h = let f = literal_is S a ((and_parts (is_literal a) (is_literal b) h).0) in let g = literal_is S b ((and_parts (is_literal a) (is_literal b) h).1) in cc
   literal_is S (Mul a b) h = let f = literal_is S a ((and_parts (is_literal a) (is_literal b) h).0) in let g = literal_is S b ((and_parts (is_literal a) (is_literal b) h).1) in cc
-  literal_is S (DivDown a b) h = absurd (true≢false (sym h))
-  literal_is S (DivUp a b) h = absurd (true≢false (sym h))
+  literal_is S e h = absurd (true≢false (sym h))
 
   either_meet : (c x y u v : Bool) → (x && y) ≡ true → (u && v) ≡ true → cond c (x && y) (u && v) ≡ true
   either_meet c x y u v h g = grind arith
 
   literal_meets : (e : Expr) (n : Bool) → is_literal e ≡ true → expr_meets p e n ≡ true
-  literal_meets (Number z) n h = refl
-  literal_meets Infinity n h = refl
   literal_meets (Param x) n h = absurd (true≢false (sym h))
-  literal_meets (Min y) n h = refl
-  literal_meets (Max y) n h = refl
-  literal_meets (Val y) n h = refl
   literal_meets (Add a b) n h = and_from (expr_meets p a n) (expr_meets p b n) (literal_meets a n ((and_parts (is_literal a) (is_literal b) h).0)) (literal_meets b n ((and_parts (is_literal a) (is_literal b) h).1))
   literal_meets (Sub a b) n h = and_from (expr_meets p a n) (expr_meets p b n) (literal_meets a n ((and_parts (is_literal a) (is_literal b) h).0)) (literal_meets b n ((and_parts (is_literal a) (is_literal b) h).1))
   literal_meets (Mul a b) n h =
@@ -119,6 +109,7 @@ module _ (M : ℕ) (p : ℕ → ℤ) where
       (and_from (expr_meets p a true) (expr_meets p b true) (literal_meets a true ((and_parts (is_literal a) (is_literal b) h).0)) (literal_meets b true ((and_parts (is_literal a) (is_literal b) h).1)))
   literal_meets (DivDown a b) n h = absurd (true≢false (sym h))
   literal_meets (DivUp a b) n h = absurd (true≢false (sym h))
+  literal_meets e n h = refl
 
   -- a quotient that fits and meets the needs: by a constant of at least 1, or of two natural terms
   pub data Quotient (a b : Expr) (w : Wish) : Type 0 where
@@ -146,16 +137,7 @@ module _ (M : ℕ) (p : ℕ → ℤ) where
   pub quotient : (a b : Expr) (w : Wish) (n : Bool) → quotient_fits M b (expr_fits M a w) (expr_fits M b (turn w)) (is_natural M a && is_natural M b) ≡ true →
       divisor_meets p b (expr_meets p a n) (expr_meets p a true && expr_meets p b true) ≡ true → Quotient a b w
   quotient a (Param x) w n h g = by_constant n (p x) h ((and_parts (int_le (pos 1) (p x)) (expr_meets p a n) g).1) (λ S. refl) (int_le_true (pos 1) (p x) ((and_parts (int_le (pos 1) (p x)) (expr_meets p a n) g).0))
-  quotient a (Number z) w n h g = plain_quotient a (Number z) w n h g
-  quotient a Infinity w n h g = plain_quotient a Infinity w n h g
-  quotient a (Min y) w n h g = plain_quotient a (Min y) w n h g
-  quotient a (Max y) w n h g = plain_quotient a (Max y) w n h g
-  quotient a (Val y) w n h g = plain_quotient a (Val y) w n h g
-  quotient a (Add b c) w n h g = plain_quotient a (Add b c) w n h g
-  quotient a (Sub b c) w n h g = plain_quotient a (Sub b c) w n h g
-  quotient a (Mul b c) w n h g = plain_quotient a (Mul b c) w n h g
-  quotient a (DivDown b c) w n h g = plain_quotient a (DivDown b c) w n h g
-  quotient a (DivUp b c) w n h g = plain_quotient a (DivUp b c) w n h g
+  quotient a e w n h g = plain_quotient a e w n h g
 
   -- the values of natural terms
   two_meet : (c u v : Bool) → cond c (u && v) (u && v) ≡ true → (u ≡ true) × (v ≡ true)
@@ -170,16 +152,7 @@ module _ (M : ℕ) (p : ℕ → ℤ) where
 
   divided_meets : (b : Expr) (A : Bool) → divisor_meets p b A (A && expr_meets p b true) ≡ true → (A ≡ true) × (expr_meets p b true ≡ true)
   divided_meets (Param x) A h = ((and_parts (int_le (pos 1) (p x)) A h).1, positive_natural (p x) ((and_parts (int_le (pos 1) (p x)) A h).0))
-  divided_meets (Number z) A h = plain_divided (Number z) A h
-  divided_meets Infinity A h = plain_divided Infinity A h
-  divided_meets (Min y) A h = plain_divided (Min y) A h
-  divided_meets (Max y) A h = plain_divided (Max y) A h
-  divided_meets (Val y) A h = plain_divided (Val y) A h
-  divided_meets (Add b c) A h = plain_divided (Add b c) A h
-  divided_meets (Sub b c) A h = plain_divided (Sub b c) A h
-  divided_meets (Mul b c) A h = plain_divided (Mul b c) A h
-  divided_meets (DivDown b c) A h = plain_divided (DivDown b c) A h
-  divided_meets (DivUp b c) A h = plain_divided (DivUp b c) A h
+  divided_meets e A h = plain_divided e A h
 
   as_literal : (S : Family) (e : Expr) → is_literal e ≡ true → int_le (pos 0) (literal_value M e) ≡ true → pos 0 ≤ℤ value M S (fill p e)
   as_literal S e l h = subst (λ z. pos 0 ≤ℤ z) (sym (literal_is S e l)) (int_le_true (pos 0) (literal_value M e) h)

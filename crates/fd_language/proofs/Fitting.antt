@@ -8,17 +8,10 @@ use Rattle.fd_language.proofs.RangeRenaming.{two, value_same}
 
 module _ (M : ℕ) (f : ℕ → ℕ) where
   literal_same : (e : Expr) → is_literal (rename_expr f e) ≡ is_literal e
-  literal_same (Number z) = refl
-  literal_same Infinity = refl
-  literal_same (Param x) = refl
-  literal_same (Min y) = refl
-  literal_same (Max y) = refl
-  literal_same (Val y) = refl
   literal_same (Add a b) = two (λ x y. x && y) (literal_same a) (literal_same b)
   literal_same (Sub a b) = two (λ x y. x && y) (literal_same a) (literal_same b)
   literal_same (Mul a b) = two (λ x y. x && y) (literal_same a) (literal_same b)
-  literal_same (DivDown a b) = refl
-  literal_same (DivUp a b) = refl
+  literal_same e = refl
 
   literal_value_same : (e : Expr) → literal_value M (rename_expr f e) ≡ literal_value M e
   literal_value_same e = value_same M f (λ y. []) (λ y. []) e (λ v h. refl)
@@ -31,17 +24,12 @@ module _ (M : ℕ) (f : ℕ → ℕ) where
   by_literal p p' q q' z z' n n' a b c d = ap (λ x. cond (x && q) (int_le (pos 0) z) n) a ∙ ap (λ x. cond (p' && x) (int_le (pos 0) z) n) b ∙ ap (λ x. cond (p' && q') (int_le (pos 0) x) n) c ∙ ap (λ x. cond (p' && q') (int_le (pos 0) z') x) d
 
   natural_same : (e : Expr) → is_natural M (rename_expr f e) ≡ is_natural M e
-  natural_same (Number z) = refl
-  natural_same Infinity = refl
-  natural_same (Param x) = refl
-  natural_same (Min y) = refl
-  natural_same (Max y) = refl
-  natural_same (Val y) = refl
   natural_same (Add a b) = by_literal _ _ _ _ _ _ _ _ (literal_same a) (literal_same b) (literal_value_same (Add a b)) (two (λ x y. x && y) (natural_same a) (natural_same b))
   natural_same (Sub a b) = by_literal _ _ _ _ _ _ _ _ (literal_same a) (literal_same b) (literal_value_same (Sub a b)) refl
   natural_same (Mul a b) = by_literal _ _ _ _ _ _ _ _ (literal_same a) (literal_same b) (literal_value_same (Mul a b)) (two (λ x y. x && y) (natural_same a) (natural_same b))
   natural_same (DivDown a b) = two (λ x y. x && y) (natural_same a) (natural_same b)
   natural_same (DivUp a b) = two (λ x y. x && y) (natural_same a) (natural_same b)
+  natural_same e = refl
 
   by_divisor : (l l' : Bool) (z z' : ℤ) (p p' u u' v v' n n' : Bool) → l ≡ l' → z ≡ z' → p ≡ p' → u ≡ u' → v ≡ v' → n ≡ n'
       → cond l (int_le (pos 1) z && u) (cond p u (n && (u && v))) ≡ cond l' (int_le (pos 1) z' && u') (cond p' u' (n' && (u' && v')))
@@ -61,12 +49,6 @@ module _ (M : ℕ) (f : ℕ → ℕ) where
       ap (λ t. cond t (by_sign z x y) w) a ∙ ap (λ t. cond l' (by_sign t x y) w) b ∙ ap (λ t. cond l' (by_sign z' t y) w) c ∙ ap (λ t. cond l' (by_sign z' x' t) w) d ∙ ap (λ t. cond l' (by_sign z' x' y') t) e
 
   expr_fits_same : (e : Expr) (w : Wish) → expr_fits M (rename_expr f e) w ≡ expr_fits M e w
-  expr_fits_same (Number z) w = refl
-  expr_fits_same Infinity w = refl
-  expr_fits_same (Param x) w = refl
-  expr_fits_same (Min y) w = refl
-  expr_fits_same (Max y) w = refl
-  expr_fits_same (Val y) w = refl
   expr_fits_same (Add a b) w = two (λ x y. x && y) (expr_fits_same a w) (expr_fits_same b w)
   expr_fits_same (Sub a b) w = two (λ x y. x && y) (expr_fits_same a w) (expr_fits_same b (turn w))
   expr_fits_same (Mul a b) w =
@@ -75,6 +57,7 @@ module _ (M : ℕ) (f : ℕ → ℕ) where
       (two (λ x y. x && y) (two (λ x y. x && y) (natural_same a) (natural_same b)) (two (λ x y. x && y) (expr_fits_same a w) (expr_fits_same b w))))
   expr_fits_same (DivDown a b) w = quotient_same b _ _ _ _ _ _ (expr_fits_same a w) (expr_fits_same b (turn w)) (two (λ x y. x && y) (natural_same a) (natural_same b))
   expr_fits_same (DivUp a b) w = quotient_same b _ _ _ _ _ _ (expr_fits_same a w) (expr_fits_same b (turn w)) (two (λ x y. x && y) (natural_same a) (natural_same b))
+  expr_fits_same e w = refl
 
   divisor_same : (c : Expr) → (is_parameter (rename_expr f c) || (is_literal (rename_expr f c) && int_le (pos 1) (literal_value M (rename_expr f c)))) ≡ (is_parameter c || (is_literal c && int_le (pos 1) (literal_value M c)))
   divisor_same c = two (λ x y. x || y) (parameter_same c) (two (λ x y. x && y) (literal_same c) (ap (int_le (pos 1)) (literal_value_same c)))

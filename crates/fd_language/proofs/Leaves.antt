@@ -157,17 +157,12 @@ from_new f h a_dom y = f (leaf a_dom (h.domain y))
 
 module _ {X : Type 0} (f : Leaf → List X) (h : NewLeaves) where
   expr_new : (e : Expr) → from_expr f (new_expr h e) ≡ from_expr (λ l. from_new f h l.role l.variable) e
-  expr_new (Number z) = refl
-  expr_new Infinity = refl
-  expr_new (Param x) = refl
-  expr_new (Min y) = refl
-  expr_new (Max y) = refl
-  expr_new (Val y) = refl
   expr_new (Add a b) = two (λ x y. x ++ y) (expr_new a) (expr_new b)
   expr_new (Sub a b) = two (λ x y. x ++ y) (expr_new a) (expr_new b)
   expr_new (Mul a b) = two (λ x y. x ++ y) (expr_new a) (expr_new b)
   expr_new (DivDown a b) = two (λ x y. x ++ y) (expr_new a) (expr_new b)
   expr_new (DivUp a b) = two (λ x y. x ++ y) (expr_new a) (expr_new b)
+  expr_new e = refl
 
   pub new_leaves : (r : Range) → from_range f (new_range h r) ≡ from_range (λ l. from_new f h l.role l.variable) r
   new_leaves (Span a b) = two (λ x y. x ++ y) (expr_new a) (expr_new b)
@@ -224,15 +219,12 @@ module _ (h : NewLeaves) where
   expr_stays : (e : Expr) → AllStay (expr_leaves e) → new_expr h e ≡ e
   expr_stays (Number z) s = refl
   expr_stays Infinity s = refl
-  expr_stays (Param x) s = s.0
-  expr_stays (Min y) s = s.0
-  expr_stays (Max y) s = s.0
-  expr_stays (Val y) s = s.0
   expr_stays (Add a b) s = both_stay Add (expr_leaves a) (expr_leaves b) (expr_stays a) (expr_stays b) s
   expr_stays (Sub a b) s = both_stay Sub (expr_leaves a) (expr_leaves b) (expr_stays a) (expr_stays b) s
   expr_stays (Mul a b) s = both_stay Mul (expr_leaves a) (expr_leaves b) (expr_stays a) (expr_stays b) s
   expr_stays (DivDown a b) s = both_stay DivDown (expr_leaves a) (expr_leaves b) (expr_stays a) (expr_stays b) s
   expr_stays (DivUp a b) s = both_stay DivUp (expr_leaves a) (expr_leaves b) (expr_stays a) (expr_stays b) s
+  expr_stays e s = s.0
 
   pub range_stays : (r : Range) → AllStay (leaves r) → new_range h r ≡ r
   range_stays (Span a b) s = both_stay Span (expr_leaves a) (expr_leaves b) (expr_stays a) (expr_stays b) s

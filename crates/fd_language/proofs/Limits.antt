@@ -116,17 +116,13 @@ module _ (p : ℕ → ℤ) where
   branches false xs ys Q f g h = g h
 
   literal_small : (e : Expr) → is_literal e ≡ true → SmallParams p e
-  literal_small (Number z) h = tt
-  literal_small Infinity h = tt
   literal_small (Param x) h = absurd (true≢false (sym h))
-  literal_small (Min y) h = tt
-  literal_small (Max y) h = tt
-  literal_small (Val y) h = tt
   literal_small (Add a b) h = (literal_small a ((and_parts (is_literal a) (is_literal b) h).0), literal_small b ((and_parts (is_literal a) (is_literal b) h).1))
   literal_small (Sub a b) h = (literal_small a ((and_parts (is_literal a) (is_literal b) h).0), literal_small b ((and_parts (is_literal a) (is_literal b) h).1))
   literal_small (Mul a b) h = (literal_small a ((and_parts (is_literal a) (is_literal b) h).0), literal_small b ((and_parts (is_literal a) (is_literal b) h).1))
   literal_small (DivDown a b) h = absurd (true≢false (sym h))
   literal_small (DivUp a b) h = absurd (true≢false (sym h))
+  literal_small e h = tt
 
   both_small : (xs ys : List (ℕ × Need)) (P Q : Type 0) → (asks_met p xs ≡ true → P) → (asks_met p ys ≡ true → Q) → asks_met p (xs ++ ys) ≡ true → P × Q
   both_small xs ys P Q f g h = let s = split_asks p xs ys h in (f s.0, g s.1)
@@ -138,24 +134,10 @@ module _ (p : ℕ → ℤ) where
   quotient_small : (b : Expr) (plain left right : List (ℕ × Need)) (P : Type 0) → (asks_met p plain ≡ true → P) → (asks_met p left ≡ true → P) → (asks_met p right ≡ true → SmallParams p b) →
       asks_met p (quotient_asks b plain left right) ≡ true → P × SmallParams p b
   quotient_small (Param x) plain left right P f g k h = both_small plain ((x, Divisor) ∷ []) P (nat_abs (p x) ≤ 2 ^ 63 - 1) f (one_small x Divisor) h
-  quotient_small (Number n) plain left right P f g k h = plain_small (Number n) plain left right P f g k h
-  quotient_small Infinity plain left right P f g k h = plain_small Infinity plain left right P f g k h
-  quotient_small (Min n) plain left right P f g k h = plain_small (Min n) plain left right P f g k h
-  quotient_small (Max n) plain left right P f g k h = plain_small (Max n) plain left right P f g k h
-  quotient_small (Val n) plain left right P f g k h = plain_small (Val n) plain left right P f g k h
-  quotient_small (Add c d) plain left right P f g k h = plain_small (Add c d) plain left right P f g k h
-  quotient_small (Sub c d) plain left right P f g k h = plain_small (Sub c d) plain left right P f g k h
-  quotient_small (Mul c d) plain left right P f g k h = plain_small (Mul c d) plain left right P f g k h
-  quotient_small (DivDown c d) plain left right P f g k h = plain_small (DivDown c d) plain left right P f g k h
-  quotient_small (DivUp c d) plain left right P f g k h = plain_small (DivUp c d) plain left right P f g k h
+  quotient_small e plain left right P f g k h = plain_small e plain left right P f g k h
 
   small_from : (e : Expr) (n : Bool) → asks_met p (expr_asks e n) ≡ true → SmallParams p e
-  small_from (Number z) n h = tt
-  small_from Infinity n h = tt
   small_from (Param x) n h = one_small x (by_place n) h
-  small_from (Min y) n h = tt
-  small_from (Max y) n h = tt
-  small_from (Val y) n h = tt
   small_from (Add a b) n h = both_small (expr_asks a n) (expr_asks b n) (SmallParams p a) (SmallParams p b) (small_from a n) (small_from b n) h
   small_from (Sub a b) n h = both_small (expr_asks a n) (expr_asks b n) (SmallParams p a) (SmallParams p b) (small_from a n) (small_from b n) h
   small_from (Mul a b) n h = branches (is_literal a || is_literal b) (expr_asks a n ++ expr_asks b n) (expr_asks a true ++ expr_asks b true) (SmallParams p a × SmallParams p b)
@@ -163,19 +145,11 @@ module _ (p : ℕ → ℤ) where
       (both_small (expr_asks a true) (expr_asks b true) (SmallParams p a) (SmallParams p b) (small_from a true) (small_from b true)) h
   small_from (DivDown a b) n h = quotient_small b (expr_asks a n) (expr_asks a true) (expr_asks b true) (SmallParams p a) (small_from a n) (small_from a true) (small_from b true) h
   small_from (DivUp a b) n h = quotient_small b (expr_asks a n) (expr_asks a true) (expr_asks b true) (SmallParams p a) (small_from a n) (small_from a true) (small_from b true) h
+  small_from e n h = tt
 
   over_small : (c : Expr) → asks_met p (over_asks c) ≡ true → SmallParams p c
   over_small (Param x) h = one_small x Divisor h
-  over_small (Number n) h = small_from (Number n) false h
-  over_small Infinity h = small_from Infinity false h
-  over_small (Min n) h = small_from (Min n) false h
-  over_small (Max n) h = small_from (Max n) false h
-  over_small (Val n) h = small_from (Val n) false h
-  over_small (Add c d) h = small_from (Add c d) false h
-  over_small (Sub c d) h = small_from (Sub c d) false h
-  over_small (Mul c d) h = small_from (Mul c d) false h
-  over_small (DivDown c d) h = small_from (DivDown c d) false h
-  over_small (DivUp c d) h = small_from (DivUp c d) false h
+  over_small e h = small_from e false h
 
   all_small : (r : Range) → asks_met p (asks r) ≡ true → AllSmall p r
   all_small (Span a b) h = both_small (expr_asks a false) (expr_asks b false) (SmallParams p a) (SmallParams p b) (small_from a false) (small_from b false) h
@@ -245,12 +219,6 @@ module _ (M : ℕ) (p : ℕ → ℤ) (S : Family) (family : IsFamily M S) where
   node_kept e s h = through _ _ _ (value_bound e s) (not_over (bound M e) h)
 
   values_kept : (e : Expr) → SmallParams p e → expr_within M e ≡ true → All Kept (expr_values M S (fill p e))
-  values_kept (Number z) s h = All-cons Kept (value M S (fill p (Number z))) [] (node_kept (Number z) s h) nothing
-  values_kept Infinity s h = All-cons Kept (value M S (fill p Infinity)) [] (node_kept Infinity s h) nothing
-  values_kept (Param x) s h = All-cons Kept (value M S (fill p (Param x))) [] (node_kept (Param x) s h) nothing
-  values_kept (Min y) s h = All-cons Kept (value M S (fill p (Min y))) [] (node_kept (Min y) s h) nothing
-  values_kept (Max y) s h = All-cons Kept (value M S (fill p (Max y))) [] (node_kept (Max y) s h) nothing
-  values_kept (Val y) s h = All-cons Kept (value M S (fill p (Val y))) [] (node_kept (Val y) s h) nothing
   values_kept (Add a b) s h = All-cons Kept (value M S (fill p (Add a b))) (expr_values M S (fill p a) ++ expr_values M S (fill p b)) (node_kept (Add a b) s (within_here (expr_within M a) (expr_within M b) (not (over_limit (bound M (Add a b)))) h))
       (All-append Kept (expr_values M S (fill p a)) (expr_values M S (fill p b)) (values_kept a s.0 (within_left (expr_within M a) (expr_within M b) (not (over_limit (bound M (Add a b)))) h)) (values_kept b s.1 (within_right (expr_within M a) (expr_within M b) (not (over_limit (bound M (Add a b)))) h)))
   values_kept (Sub a b) s h = All-cons Kept (value M S (fill p (Sub a b))) (expr_values M S (fill p a) ++ expr_values M S (fill p b)) (node_kept (Sub a b) s (within_here (expr_within M a) (expr_within M b) (not (over_limit (bound M (Sub a b)))) h))
@@ -261,6 +229,7 @@ module _ (M : ℕ) (p : ℕ → ℤ) (S : Family) (family : IsFamily M S) where
       (All-append Kept (expr_values M S (fill p a)) (expr_values M S (fill p b)) (values_kept a s.0 (within_left (expr_within M a) (expr_within M b) (not (over_limit (bound M (DivDown a b)))) h)) (values_kept b s.1 (within_right (expr_within M a) (expr_within M b) (not (over_limit (bound M (DivDown a b)))) h)))
   values_kept (DivUp a b) s h = All-cons Kept (value M S (fill p (DivUp a b))) (expr_values M S (fill p a) ++ expr_values M S (fill p b)) (node_kept (DivUp a b) s (within_here (expr_within M a) (expr_within M b) (not (over_limit (bound M (DivUp a b)))) h))
       (All-append Kept (expr_values M S (fill p a)) (expr_values M S (fill p b)) (values_kept a s.0 (within_left (expr_within M a) (expr_within M b) (not (over_limit (bound M (DivUp a b)))) h)) (values_kept b s.1 (within_right (expr_within M a) (expr_within M b) (not (over_limit (bound M (DivUp a b)))) h)))
+  values_kept e s h = All-cons Kept (value M S (fill p e)) [] (node_kept e s h) nothing
 
   each_kept : (f : ℕ → ℤ) → ((e : ℕ) → e ≤ M → Kept (f e)) → All Kept (map f (universe M))
   each_kept f g = All-map Kept f (universe M) (λ k d l. g _ (universe_all M k d l))
@@ -301,30 +270,20 @@ module _ (M : ℕ) (p : ℕ → ℤ) (S : Family) (family : IsFamily M S) where
   two_divide a b f g = All-append NotNegative (expr_divisors M S (fill p a)) (expr_divisors M S (fill p b)) f g
 
   literal_divides : (e : Expr) → is_literal e ≡ true → Divides e
-  literal_divides (Number z) h = no_divisor
-  literal_divides Infinity h = no_divisor
-  literal_divides (Param x) h = no_divisor
-  literal_divides (Min y) h = no_divisor
-  literal_divides (Max y) h = no_divisor
-  literal_divides (Val y) h = no_divisor
   literal_divides (Add a b) h = two_divide a b (literal_divides a ((and_parts (is_literal a) (is_literal b) h).0)) (literal_divides b ((and_parts (is_literal a) (is_literal b) h).1))
   literal_divides (Sub a b) h = two_divide a b (literal_divides a ((and_parts (is_literal a) (is_literal b) h).0)) (literal_divides b ((and_parts (is_literal a) (is_literal b) h).1))
   literal_divides (Mul a b) h = two_divide a b (literal_divides a ((and_parts (is_literal a) (is_literal b) h).0)) (literal_divides b ((and_parts (is_literal a) (is_literal b) h).1))
   literal_divides (DivDown a b) h = absurd (true≢false (sym h))
   literal_divides (DivUp a b) h = absurd (true≢false (sym h))
+  literal_divides e h = no_divisor
 
   parameter_divides : (e : Expr) → is_parameter e ≡ true → Divides e
-  parameter_divides (Param x) h = no_divisor
-  parameter_divides (Number z) h = no_divisor
-  parameter_divides Infinity h = no_divisor
-  parameter_divides (Min y) h = no_divisor
-  parameter_divides (Max y) h = no_divisor
-  parameter_divides (Val y) h = no_divisor
   parameter_divides (Add a b) h = absurd (true≢false (sym h))
   parameter_divides (Sub a b) h = absurd (true≢false (sym h))
   parameter_divides (Mul a b) h = absurd (true≢false (sym h))
   parameter_divides (DivDown a b) h = absurd (true≢false (sym h))
   parameter_divides (DivUp a b) h = absurd (true≢false (sym h))
+  parameter_divides e h = no_divisor
 
   -- the parts of what fits and meets its needs
   signed : (v : ℤ) (x y : Bool) → by_sign v x y ≡ true → (x ≡ true) ⊎ (y ≡ true)
@@ -355,16 +314,7 @@ module _ (M : ℕ) (p : ℕ → ℤ) (S : Family) (family : IsFamily M S) where
 
   others_meet : (b : Expr) (plain others : Bool) → is_literal b ≡ false → is_parameter b ≡ false → divisor_meets p b plain others ≡ true → others ≡ true
   others_meet (Param x) plain others l k h = absurd (true≢false k)
-  others_meet (Number n) plain others l k h = if_false (is_literal (Number n)) plain others l h
-  others_meet Infinity plain others l k h = if_false (is_literal Infinity) plain others l h
-  others_meet (Min n) plain others l k h = if_false (is_literal (Min n)) plain others l h
-  others_meet (Max n) plain others l k h = if_false (is_literal (Max n)) plain others l h
-  others_meet (Val n) plain others l k h = if_false (is_literal (Val n)) plain others l h
-  others_meet (Add c d) plain others l k h = if_false (is_literal (Add c d)) plain others l h
-  others_meet (Sub c d) plain others l k h = if_false (is_literal (Sub c d)) plain others l h
-  others_meet (Mul c d) plain others l k h = if_false (is_literal (Mul c d)) plain others l h
-  others_meet (DivDown c d) plain others l k h = if_false (is_literal (DivDown c d)) plain others l h
-  others_meet (DivUp c d) plain others l k h = if_false (is_literal (DivUp c d)) plain others l h
+  others_meet e plain others l k h = if_false (is_literal e) plain others l h
 
   value_divides : (a b : Expr) (w : Wish) → Quotient M p a b w → NotNegative (value M S (fill p b))
   value_divides a b w (by_constant m d g h e o) = subst NotNegative (sym (e S)) (at_least_one d o)
@@ -375,12 +325,6 @@ module _ (M : ℕ) (p : ℕ → ℤ) (S : Family) (family : IsFamily M S) where
   dividend a b w (by_term i j g h c d) = (true, (g, c))
 
   divisors_kept : (e : Expr) (w : Wish) (n : Bool) → expr_fits M e w ≡ true → expr_meets p e n ≡ true → Divides e
-  divisors_kept (Number z) w n f m = no_divisor
-  divisors_kept Infinity w n f m = no_divisor
-  divisors_kept (Param x) w n f m = no_divisor
-  divisors_kept (Min y) w n f m = no_divisor
-  divisors_kept (Max y) w n f m = no_divisor
-  divisors_kept (Val y) w n f m = no_divisor
   divisors_kept (Add a b) w n f m = two_divide a b
       (divisors_kept a w n ((and_parts (expr_fits M a w) (expr_fits M b w) f).0) ((and_parts (expr_meets p a n) (expr_meets p b n) m).0))
       (divisors_kept b w n ((and_parts (expr_fits M a w) (expr_fits M b w) f).1) ((and_parts (expr_meets p a n) (expr_meets p b n) m).1))
@@ -427,6 +371,7 @@ module _ (M : ℕ) (p : ℕ → ℤ) (S : Family) (family : IsFamily M S) where
       ] in
       All-cons NotNegative (value M S (fill p b)) (expr_divisors M S (fill p a) ++ expr_divisors M S (fill p b)) (value_divides a b w q)
       (two_divide a b (divisors_kept a w d.0 d.1.0 d.1.1) right)
+  divisors_kept e w n f m = no_divisor
 
   above_one : (z : ℤ) → int_le (pos 1) z ≡ true → pos 0 ≤ℤ z
   above_one z h = grind (arith, ints)
@@ -436,16 +381,7 @@ module _ (M : ℕ) (p : ℕ → ℤ) (S : Family) (family : IsFamily M S) where
 
   over_divides : (c : Expr) → (is_parameter c || (is_literal c && int_le (pos 1) (literal_value M c))) ≡ true → over_meets p c ≡ true → NotNegative (value M S (fill p c))
   over_divides (Param x) h g = above_one (p x) g
-  over_divides (Number n) h g = by_literal (Number n) h
-  over_divides Infinity h g = by_literal Infinity h
-  over_divides (Min n) h g = by_literal (Min n) h
-  over_divides (Max n) h g = by_literal (Max n) h
-  over_divides (Val n) h g = by_literal (Val n) h
-  over_divides (Add c d) h g = by_literal (Add c d) h
-  over_divides (Sub c d) h g = by_literal (Sub c d) h
-  over_divides (Mul c d) h g = by_literal (Mul c d) h
-  over_divides (DivDown c d) h g = by_literal (DivDown c d) h
-  over_divides (DivUp c d) h g = by_literal (DivUp c d) h
+  over_divides e h g = by_literal e h
 
   ranges_divide : (r : Range) (w : Bool) → range_fits M r w ≡ true → range_meets p r ≡ true → All NotNegative (range_divisors M S (fill_range p r))
   ranges_divide (Span a b) true f m = two_divide a b (divisors_kept a Rising false ((and_parts (expr_fits M a Rising) (expr_fits M b Falling) f).0) ((and_parts (expr_meets p a false) (expr_meets p b false) m).0)) (divisors_kept b Falling false ((and_parts (expr_fits M a Rising) (expr_fits M b Falling) f).1) ((and_parts (expr_meets p a false) (expr_meets p b false) m).1))

@@ -135,26 +135,17 @@ module _ (p : ℕ → ℤ) where
   quotient_asked (Param v) plain left right x y z f g k h = let s = split_asks plain ((v, Divisor) ∷ []) h in and_from (int_le (pos 1) (p v)) x (divisor_asked v s.1) (f s.0)
   quotient_asked (Number n) plain left right x y z f g k h = if_asked true plain (left ++ right) x (y && z) f (both_asked left right y z g k) h
   quotient_asked Infinity plain left right x y z f g k h = if_asked true plain (left ++ right) x (y && z) f (both_asked left right y z g k) h
-  quotient_asked (Min n) plain left right x y z f g k h = if_asked false plain (left ++ right) x (y && z) f (both_asked left right y z g k) h
-  quotient_asked (Max n) plain left right x y z f g k h = if_asked false plain (left ++ right) x (y && z) f (both_asked left right y z g k) h
-  quotient_asked (Val n) plain left right x y z f g k h = if_asked false plain (left ++ right) x (y && z) f (both_asked left right y z g k) h
   quotient_asked (Add c d) plain left right x y z f g k h = if_asked (is_literal (Add c d)) plain (left ++ right) x (y && z) f (both_asked left right y z g k) h
   quotient_asked (Sub c d) plain left right x y z f g k h = if_asked (is_literal (Sub c d)) plain (left ++ right) x (y && z) f (both_asked left right y z g k) h
   quotient_asked (Mul c d) plain left right x y z f g k h = if_asked (is_literal (Mul c d)) plain (left ++ right) x (y && z) f (both_asked left right y z g k) h
-  quotient_asked (DivDown c d) plain left right x y z f g k h = if_asked false plain (left ++ right) x (y && z) f (both_asked left right y z g k) h
-  quotient_asked (DivUp c d) plain left right x y z f g k h = if_asked false plain (left ++ right) x (y && z) f (both_asked left right y z g k) h
+  quotient_asked e plain left right x y z f g k h = if_asked false plain (left ++ right) x (y && z) f (both_asked left right y z g k) h
 
   param_asked : (x : ℕ) (n : Bool) → asks_met p ((x, by_place n) ∷ []) ≡ true → by_natural n (p x) ≡ true
   param_asked x true h = (and_parts (nat_lt (nat_abs (p x)) (2 ^ 63)) (int_le (pos 0) (p x)) ((and_parts (meets Natural (p x)) true h).0)).1
   param_asked x false h = refl
 
   expr_asked : (e : Expr) (n : Bool) → asks_met p (expr_asks e n) ≡ true → expr_meets p e n ≡ true
-  expr_asked (Number z) n h = refl
-  expr_asked Infinity n h = refl
   expr_asked (Param x) n h = param_asked x n h
-  expr_asked (Min y) n h = refl
-  expr_asked (Max y) n h = refl
-  expr_asked (Val y) n h = refl
   expr_asked (Add a b) n h = both_asked (expr_asks a n) (expr_asks b n) (expr_meets p a n) (expr_meets p b n) (expr_asked a n) (expr_asked b n) h
   expr_asked (Sub a b) n h = both_asked (expr_asks a n) (expr_asks b n) (expr_meets p a n) (expr_meets p b n) (expr_asked a n) (expr_asked b n) h
   expr_asked (Mul a b) n h =
@@ -163,19 +154,11 @@ module _ (p : ℕ → ℤ) where
       (both_asked (expr_asks a true) (expr_asks b true) (expr_meets p a true) (expr_meets p b true) (expr_asked a true) (expr_asked b true)) h
   expr_asked (DivDown a b) n h = quotient_asked b (expr_asks a n) (expr_asks a true) (expr_asks b true) (expr_meets p a n) (expr_meets p a true) (expr_meets p b true) (expr_asked a n) (expr_asked a true) (expr_asked b true) h
   expr_asked (DivUp a b) n h = quotient_asked b (expr_asks a n) (expr_asks a true) (expr_asks b true) (expr_meets p a n) (expr_meets p a true) (expr_meets p b true) (expr_asked a n) (expr_asked a true) (expr_asked b true) h
+  expr_asked e n h = refl
 
   over_asked : (c : Expr) → asks_met p (over_asks c) ≡ true → over_meets p c ≡ true
   over_asked (Param x) h = divisor_asked x h
-  over_asked (Number z) h = refl
-  over_asked Infinity h = refl
-  over_asked (Min y) h = refl
-  over_asked (Max y) h = refl
-  over_asked (Val y) h = refl
-  over_asked (Add a b) h = refl
-  over_asked (Sub a b) h = refl
-  over_asked (Mul a b) h = refl
-  over_asked (DivDown a b) h = refl
-  over_asked (DivUp a b) h = refl
+  over_asked e h = refl
 
   range_asked : (r : Range) → asks_met p (asks r) ≡ true → range_meets p r ≡ true
   range_asked (Span a b) h = both_asked (expr_asks a false) (expr_asks b false) (expr_meets p a false) (expr_meets p b false) (expr_asked a false) (expr_asked b false) h

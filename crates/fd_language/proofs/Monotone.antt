@@ -58,14 +58,10 @@ module _ (M : ℕ) (p : ℕ → ℤ) (S' S : Family) where
   over_constant (Param x) h = refl
   over_constant (Number z) h = refl
   over_constant Infinity h = refl
-  over_constant (Min y) h = absurd (true≢false (sym h))
-  over_constant (Max y) h = absurd (true≢false (sym h))
-  over_constant (Val y) h = absurd (true≢false (sym h))
   over_constant (Add a b) h = let l = (and_parts (is_literal (Add a b)) (int_le (pos 1) (literal_value M (Add a b))) h).0 in literal_is M p S' (Add a b) l ∙ sym (literal_is M p S (Add a b) l)
   over_constant (Sub a b) h = let l = (and_parts (is_literal (Sub a b)) (int_le (pos 1) (literal_value M (Sub a b))) h).0 in literal_is M p S' (Sub a b) l ∙ sym (literal_is M p S (Sub a b) l)
   over_constant (Mul a b) h = let l = (and_parts (is_literal (Mul a b)) (int_le (pos 1) (literal_value M (Mul a b))) h).0 in literal_is M p S' (Mul a b) l ∙ sym (literal_is M p S (Mul a b) l)
-  over_constant (DivDown a b) h = absurd (true≢false (sym h))
-  over_constant (DivUp a b) h = absurd (true≢false (sym h))
+  over_constant e h = absurd (true≢false (sym h))
 
   -- a pointwise form: f is the operator with the number that is looked for
   moved_by : (w : Bool) (f : ℤ → ℕ → Bool) (x y : ℤ) (a b : ℕ → Bool) → x ≡ y → ((e : ℕ) → Goes w (b e) (a e)) → Goes w (some_number M (λ e. b e && f y e)) (some_number M (λ e. a e && f x e))

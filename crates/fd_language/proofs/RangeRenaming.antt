@@ -29,9 +29,6 @@ module _ (M : ℕ) (f : ℕ → ℕ) (T S : Family) where
   at_one y h = h y (alone_in y)
 
   pub value_same : (e : Expr) → Same (expr_reads e) → value M T (rename_expr f e) ≡ value M S e
-  value_same (Number z) h = refl
-  value_same Infinity h = refl
-  value_same (Param x) h = refl
   value_same (Min y) h = ap (λ l. pos (least l)) (at_one y h)
   value_same (Max y) h = ap (λ l. pos (greatest l)) (at_one y h)
   value_same (Val y) h = ap (λ l. pos (least l)) (at_one y h)
@@ -40,6 +37,7 @@ module _ (M : ℕ) (f : ℕ → ℕ) (T S : Family) where
   value_same (Mul a b) h = two (λ x y. x *ℤ y) (value_same a (in_front (expr_reads a) (expr_reads b) h)) (value_same b (in_back (expr_reads a) (expr_reads b) h))
   value_same (DivDown a b) h = two (div_down M) (value_same a (in_front (expr_reads a) (expr_reads b) h)) (value_same b (in_back (expr_reads a) (expr_reads b) h))
   value_same (DivUp a b) h = two (div_up M) (value_same a (in_front (expr_reads a) (expr_reads b) h)) (value_same b (in_back (expr_reads a) (expr_reads b) h))
+  value_same e h = refl
 
   some_same : (p q : ℕ → Bool) → ((e : ℕ) → p e ≡ q e) → some_number M p ≡ some_number M q
   some_same p q h = ap (some_number M) (fun_ext h)
