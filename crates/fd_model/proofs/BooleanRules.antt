@@ -103,13 +103,10 @@ module _ (M : ℕ) (b : Assignment) (small : (v : ℕ) → b v ≤ M) where
   Either p q r = (p ≤ 1) × (q ≤ 1) × (max p q ≡ r)
 
   or_low : (p q : ℕ) → p ≤ 1 → q ≤ 1 → div_up M (pos p +ℤ pos q) (pos 2) ≡ pos (max p q)
-  or_low zero zero h g = refl
-  or_low zero (suc zero) h g = refl
-  or_low (suc zero) zero h g = refl
-  or_low (suc zero) (suc zero) h g = refl
   or_low zero (suc (suc q)) h g = absurd (omega arith)
   or_low (suc zero) (suc (suc q)) h g = absurd (omega arith)
   or_low (suc (suc p)) q h g = absurd (omega arith)
+  or_low _ _ h g = refl
 
   or_facts : (m k r : ℕ) → ((int_le (pos m) (pos r) && int_le (pos r) (pos k)) && (int_le (pos 0) (pos r) && int_le (pos r) (pos 1))) ≡ true → (m ≤ r) × (r ≤ k) × (r ≤ 1)
   or_facts m k r h = (first m k r h, second m k r h, third m k r h) where

@@ -83,8 +83,6 @@ module _ (b : Assignment) where
   pub collected_is : (t : Term) (s : Sum) → collect_term t ≡ Ok s → worth b t ≡ total b s.products +ℤ s.constant
   collected_is (Var x) s h = subst (λ w. Is w (pos (b x))) (checked_ok (record { products = (x, pos 1) ∷ []; constant = pos 0 }) s h).0 (let e : pos 1 *ℤ pos (b x) ≡ pos (b x) = ap pos (omega arith) in omega (arith, ints))
   collected_is (Int z) s h = subst (λ w. Is w z) (checked_ok (record { products = []; constant = z }) s h).0 (omega (arith, ints))
-  collected_is (Atom a) s h = absurd (cc)
-  collected_is (Comp f no_terms) s h = absurd (cc)
   collected_is (Comp f (term a no_terms)) s h =
       test_ok (bytes_eq f (codes "-")) (of_one (λ s. checked (times (negsuc 0) s)) (collect_term a)) (Err BadType) s (Is s (neg_ℤ (worth b a))) h
       (λ c e. let k = one_ok (λ s. checked (times (negsuc 0) s)) (collect_term a) s e in
@@ -92,7 +90,7 @@ module _ (b : Assignment) where
       (λ c e. absurd (cc))
   collected_is (Comp f (term a (term c no_terms))) s h =
       operator_is (bytes_eq f (codes "+")) (bytes_eq f (codes "-")) (bytes_eq f (codes "*")) (collect_term a) (collect_term c) s (worth b a) (worth b c) (λ v e. collected_is a v e) (λ v e. collected_is c v e) h
-  collected_is (Comp f (term a (term c (term d ts)))) s h = absurd (cc)
+  collected_is _ s h = absurd (cc)
 
   pub collect_is : (left right : Term) (l : Linear) → collect left right ≡ Ok l → (worth b left -ℤ worth b right) ≡ (total b l.products -ℤ l.constant)
   collect_is left right l h =

@@ -98,12 +98,9 @@ turned_rows : (ts : List (ℕ × ℤ)) → AreRows ts → AreRows (scaled (negsu
 turned_rows ts h = record { integers = integers_scaled ts h.integers; few = let e = length-scaled (negsuc 0) ts in let f = h.few in omega arith }
 
 normal_sizes : (r : Relation) (l : Linear) → AreRows l.products → AreRows (normal r l).products
-normal_sizes Equal l h = h
-normal_sizes Differ l h = h
-normal_sizes Less l h = h
-normal_sizes AtMost l h = h
 normal_sizes Greater l h = turned_rows l.products h
 normal_sizes AtLeast l h = turned_rows l.products h
+normal_sizes _ l h = h
 
 module _ (M : ℕ) (small : M < 2 ^ 24) where
   within : M < 2 ^ 126

@@ -19,12 +19,9 @@ use Rattle.fd_model.proofs.LinearForms.{NoneZero, nonzero_left, nonzero_scaled, 
 -- a term is worth the same where its variables have the same values
 pub worth_same : (n : ℕ) (a b : Assignment) → ((v : ℕ) → v < n → b v ≡ a v) → (t : Term) → TermBelow n t → worth b t ≡ worth a t
 worth_same n a b h (Var x) k = ap pos (h x k)
-worth_same n a b h (Int z) k = refl
-worth_same n a b h (Atom f) k = refl
-worth_same n a b h (Comp f no_terms) k = refl
 worth_same n a b h (Comp f (term s no_terms)) k = ap neg_ℤ (worth_same n a b h s k.0)
 worth_same n a b h (Comp f (term s (term t no_terms))) k = let e = worth_same n a b h s k.0 in let g = worth_same n a b h t k.1.0 in cc
-worth_same n a b h (Comp f (term s (term t (term u us)))) k = refl
+worth_same n a b h _ k = refl
 
 module _ (M n : ℕ) where
   -- an expansion that adds no variables
@@ -68,12 +65,9 @@ collect_nonzero s t l h =
     subst (λ w. NoneZero w.products) g (nonzero_left j.0.products)
 
 pub normal_nonzero : (r : Relation) (l : Linear) → NoneZero l.products → NoneZero (normal r l).products
-normal_nonzero Equal l h = h
-normal_nonzero Differ l h = h
-normal_nonzero Less l h = h
-normal_nonzero AtMost l h = h
 normal_nonzero Greater l h = nonzero_scaled l.products h
 normal_nonzero AtLeast l h = nonzero_scaled l.products h
+normal_nonzero _ l h = h
 
 -- the normal form that a comparison's ranges are made of
 pub record Form (r : Relation) (s t : Term) (n : ℕ) (x : Expansion) : Type 0 where

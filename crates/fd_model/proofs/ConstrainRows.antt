@@ -65,32 +65,15 @@ module _ (xs : List ℕ) (look : Substitution) where
 -- a constraint says the same of assignments that have the same values for its variables
 module _ (n : ℕ) (a e : Assignment) (same : (v : ℕ) → v < n → e v ≡ a v) where
   worths_same : (t : Term) → TermBelow n t → worths e t ≡ worths a t
-  worths_same (Var x) h = refl
-  worths_same (Int z) h = refl
-  worths_same (Atom b) h = refl
-  worths_same (Comp f no_terms) h = refl
-  worths_same (Comp f (term s no_terms)) h = refl
   worths_same (Comp f (term s (term t no_terms))) h = let i = worth_same n a e same s h.0 in let j = worths_same t h.1.0 in cc
-  worths_same (Comp f (term s (term t (term u us)))) h = refl
+  worths_same _ h = refl
 
   pub satisfies_same : (M : ℕ) (kind : ConstraintKind) (ts : Terms) → TermsBelow n ts → Satisfies M kind ts a → Satisfies M kind ts e
-  satisfies_same M (Compare r) no_terms h s = s
-  satisfies_same M (Compare r) (term t no_terms) h s = s
   satisfies_same M (Compare r) (term t (term u no_terms)) h s = rw (worth_same n a e same t h.0, worth_same n a e same u h.1.0) s
-  satisfies_same M (Compare r) (term t (term u (term v vs))) h s = s
-  satisfies_same M AllDifferent no_terms h s = s
   satisfies_same M AllDifferent (term l no_terms) h s = rw (worths_same l h.0) s
-  satisfies_same M AllDifferent (term l (term u us)) h s = s
-  satisfies_same M Element no_terms h s = s
-  satisfies_same M Element (term i no_terms) h s = s
-  satisfies_same M Element (term i (term l no_terms)) h s = s
   satisfies_same M Element (term i (term l (term v no_terms))) h s = rw (worth_same n a e same i h.0, worths_same l h.1.0, worth_same n a e same v h.1.1.0) s
-  satisfies_same M Element (term i (term l (term v (term u us)))) h s = s
-  satisfies_same M Atmost no_terms h s = s
-  satisfies_same M Atmost (term m no_terms) h s = s
-  satisfies_same M Atmost (term m (term l no_terms)) h s = s
   satisfies_same M Atmost (term m (term l (term v no_terms))) h s = rw (worth_same n a e same m h.0, worths_same l h.1.0, worth_same n a e same v h.1.1.0) s
-  satisfies_same M Atmost (term m (term l (term v (term u us)))) h s = s
+  satisfies_same _ _ _ h s = s
 
 -- without arguments no constraint is flat
 none_flat : (M : ℕ) (kind : ConstraintKind) → is_flat_constraint M kind no_terms ≡ true → ⊥
@@ -130,7 +113,5 @@ module _ (M : ℕ) (positive : 0 < M) (prog : Program) (vs : List ℕ) (nv : ℕ
       )
 
   pub constrain_row : (t : Term) → IsFlatGoal M (Constrain kind t) → TermBelow nv t → IsRowOf t
-  constrain_row (Var x) flat below = absurd (none_flat M kind flat.0)
-  constrain_row (Int z) flat below = absurd (none_flat M kind flat.0)
-  constrain_row (Atom a) flat below = absurd (none_flat M kind flat.0)
   constrain_row (Comp f ts) flat below = comp_row f ts flat below
+  constrain_row _ flat below = absurd (none_flat M kind flat.0)

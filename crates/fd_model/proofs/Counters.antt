@@ -236,10 +236,8 @@ equated_same (Open x ∷ ms) k b c s e = equated_same ms k b c s e
 equated_same (Known z ∷ ms) k b c s e = (let f = s k (let g = fresh_grows ms (suc k) in omega arith) in let h = e.0 in omega (arith, ints), equated_same ms (suc k) b c s e.1)
 
 integer_worth : (a : Assignment) (t : Term) (z : ℤ) → as_integer t ≡ Ok z → worth a t ≡ z
-integer_worth a (Var x) z h = absurd (cc)
 integer_worth a (Int y) z h = cc
-integer_worth a (Atom f) z h = absurd (cc)
-integer_worth a (Comp f ts) z h = absurd (cc)
+integer_worth a _ z h = absurd (cc)
 
 to_le : (a b : ℤ) → a ≤ℤ b → int_le a b ≡ true
 to_le a b h = grind (arith, ints)

@@ -87,15 +87,12 @@ runnable_listed M (goal g gs) h = (h.0, runnable_listed M gs h.1)
 
 mutual
   runnable_renamed : (M : ℕ) (f : ℕ → ℕ) (g : Goal) → IsRunnable M g → IsRunnable M (rename_goal f g)
-  runnable_renamed M f True h = tt
-  runnable_renamed M f Fail h = tt
-  runnable_renamed M f (Unify s t) h = tt
   runnable_renamed M f (Post t r) h = range_fits_same M f r true ∙ h
   runnable_renamed M f (Constrain c t) h = h
   runnable_renamed M f (Label o t) h = h
-  runnable_renamed M f (Call t) h = tt
   runnable_renamed M f (Either a b) h = (goals_renamed M f a h.0, goals_renamed M f b h.1)
   runnable_renamed M f (Builtin k t) h = h
+  runnable_renamed _ f _ h = tt
 
   goals_renamed : (M : ℕ) (f : ℕ → ℕ) (gs : Goals) → AllRunnable M gs → AllRunnable M (rename_goals f gs)
   goals_renamed M f no_goals h = tt
@@ -184,15 +181,11 @@ module _ (M : ℕ) (b : Branch) (rest : List Goal) (posted : AllPosted (λ p. Is
 
   -- its row is given
   offer_given : (prog : Program) (look : ℕ → Term) (sets : ℕ → Option (List ℕ)) (g : Goal) → IsRunnable M g → offer M prog look sets b g rest ≡ Awaited → ⊥
-  offer_given prog look sets True h e = cc
-  offer_given prog look sets Fail h e = cc
-  offer_given prog look sets (Unify s t) h e = cc
   offer_given prog look sets (Post t r) h e = post_given (post look t r b.fresh) e
   offer_given prog look sets (Constrain c t) h e = constraint_given (constrain look c t b.fresh) e
   offer_given prog look sets (Label o t) h e = listing_given (λ x. values_by M (sets x)) o (Label o t) (read_list (apply look t)) e
-  offer_given prog look sets (Call t) h e = cc
-  offer_given prog look sets (Either x y) h e = cc
   offer_given prog look sets (Builtin k t) h e = builtin_given k h e
+  offer_given prog look sets _ h e = cc
 
 module _ (M : ℕ) (prog : Program) (q : Query) (runnable : IsRunnableProgram M prog) where
   abbrev IsLive : Branch → Type 0

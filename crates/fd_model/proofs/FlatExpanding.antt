@@ -35,23 +35,17 @@ module _ (M : ℕ) (look : ℕ → Term) (sees : SeesNumbers M look) where
   place_seen (Comp f ts) h = absurd (cc)
 
   whole_seen : (t : Term) → is_whole t ≡ true → (z : ℤ) × (as_integer (apply look t) ≡ Ok z)
-  whole_seen (Var x) h = absurd (cc)
   whole_seen (Int z) h = (z, refl)
-  whole_seen (Atom a) h = absurd (cc)
-  whole_seen (Comp f ts) h = absurd (cc)
+  whole_seen _ h = absurd (cc)
 
   list_seen : {A : Type 0} (test : Term → Bool) (read : Term → Result A QueryFault) → ((t : Term) → test t ≡ true → (x : A) × (read (apply look t) ≡ Ok x)) → (l : Term) → is_list_of test l ≡ true → (xs : List A) × (walk read (apply look l) ≡ Ok xs)
-  list_seen test read f (Var x) h = absurd (cc)
-  list_seen test read f (Int z) h = absurd (cc)
   list_seen test read f (Atom a) h = ([], if_true (bytes_eq a (codes "[]")) (Ok []) (Err BadType) (Ok []) h refl)
-  list_seen test read f (Comp g no_terms) h = absurd (cc)
-  list_seen test read f (Comp g (term x no_terms)) h = absurd (cc)
   list_seen test read f (Comp g (term x (term t no_terms))) h =
       let rest = (and_parts (bytes_eq g (codes ".")) (test x && is_list_of test t) h).1 in
       let i = f x ((and_parts (test x) (is_list_of test t) rest).0) in
       let j = list_seen test read f t ((and_parts (test x) (is_list_of test t) rest).1) in
       (i.0 ∷ j.0, if_true (bytes_eq g (codes ".")) (of_both prepend (read (apply look x)) (walk read (apply look t))) (Err BadType) (Ok (i.0 ∷ j.0)) ((and_parts (bytes_eq g (codes ".")) (test x && is_list_of test t) h).0) (rw (i.1, j.1) refl))
-  list_seen test read f (Comp g (term x (term t (term u us)))) h = absurd (cc)
+  list_seen test read f _ h = absurd (cc)
 
   comparison_seen : (s t : Term) → is_flat_comparison M s t ≡ true → is_flat_comparison M (apply look s) (apply look t) ≡ true
   comparison_seen s t h =
@@ -72,70 +66,39 @@ module _ (M : ℕ) (look : ℕ → Term) (sees : SeesNumbers M look) where
       flat_compares M r (apply look s) (apply look t) n some (comparison_seen s t h) (omega arith)
 
 pub flat_expands : FlatExpands
-flat_expands M look (Compare r) no_terms n some sees h few = absurd (cc)
-flat_expands M look (Compare r) (term s no_terms) n some sees h few = absurd (cc)
 flat_expands M look (Compare r) (term s (term t no_terms)) n some sees h few = compare_expands M look sees r s t n some h few
-flat_expands M look (Compare r) (term s (term t (term u us))) n some sees h few = absurd (cc)
-flat_expands M look AllDifferent no_terms n some sees h few = absurd (cc)
 flat_expands M look AllDifferent (term l no_terms) n some sees h few = let k = list_seen M look sees is_place as_member (place_seen M look sees) l h in (different_rows k.0 n, rw k.1 refl)
-flat_expands M look AllDifferent (term l (term u us)) n some sees h few = absurd (cc)
-flat_expands M look Element no_terms n some sees h few = absurd (cc)
-flat_expands M look Element (term i no_terms) n some sees h few = absurd (cc)
-flat_expands M look Element (term i (term l no_terms)) n some sees h few = absurd (cc)
 flat_expands M look Element (term i (term l (term x no_terms))) n some sees h few =
     let rest = (and_parts (is_place i) (is_list_of is_whole l && is_place x) h).1 in
     let p = place_seen M look sees i ((and_parts (is_place i) (is_list_of is_whole l && is_place x) h).0) in
     let q = list_seen M look sees is_whole as_integer (whole_seen M look sees) l ((and_parts (is_list_of is_whole l) (is_place x) rest).0) in
     let r = place_seen M look sees x ((and_parts (is_list_of is_whole l) (is_place x) rest).1) in
     (element_rows p.0 q.0 r.0 n, rw (p.1, q.1, r.1) refl)
-flat_expands M look Element (term i (term l (term x (term u us)))) n some sees h few = absurd (cc)
-flat_expands M look Atmost no_terms n some sees h few = absurd (cc)
-flat_expands M look Atmost (term m no_terms) n some sees h few = absurd (cc)
-flat_expands M look Atmost (term m (term l no_terms)) n some sees h few = absurd (cc)
 flat_expands M look Atmost (term m (term l (term v no_terms))) n some sees h few =
     let rest = (and_parts (is_whole m) (is_list_of is_place l && is_whole v) h).1 in
     let p = whole_seen M look sees m ((and_parts (is_whole m) (is_list_of is_place l && is_whole v) h).0) in
     let q = list_seen M look sees is_place as_member (place_seen M look sees) l ((and_parts (is_list_of is_place l) (is_whole v) rest).0) in
     let r = whole_seen M look sees v ((and_parts (is_list_of is_place l) (is_whole v) rest).1) in
     (atmost_rows p.0 q.0 r.0 n, rw (p.1, q.1, r.1) refl)
-flat_expands M look Atmost (term m (term l (term v (term u us)))) n some sees h few = absurd (cc)
+flat_expands _ look _ _ n some sees h few = absurd (cc)
 
 -- terms are worth the same as they are seen
 module _ (look : ℕ → Term) (a : Assignment) (agree : (x : ℕ) → worth a (look x) ≡ pos (a x)) where
   worth_seen : (t : Term) → worth a (apply look t) ≡ worth a t
   worth_seen (Var x) = agree x
-  worth_seen (Int z) = refl
-  worth_seen (Atom b) = refl
-  worth_seen (Comp f no_terms) = refl
   worth_seen (Comp f (term s no_terms)) = ap neg_ℤ (worth_seen s)
   worth_seen (Comp f (term s (term t no_terms))) = let e = worth_seen s in let g = worth_seen t in cc
-  worth_seen (Comp f (term s (term t (term u us)))) = refl
+  worth_seen _ = refl
 
   module _ (M : ℕ) (sees : SeesNumbers M look) where
     worths_seen : (t : Term) → worths a (apply look t) ≡ worths a t
     worths_seen (Var x) = elim (sees x) [ inl e ↦ ap (worths a) e.1 | inr e ↦ ap (worths a) e.2 ]
-    worths_seen (Int z) = refl
-    worths_seen (Atom b) = refl
-    worths_seen (Comp f no_terms) = refl
-    worths_seen (Comp f (term s no_terms)) = refl
     worths_seen (Comp f (term s (term t no_terms))) = let e = worth_seen s in let g = worths_seen t in cc
-    worths_seen (Comp f (term s (term t (term u us)))) = refl
+    worths_seen _ = refl
 
 pub seen_satisfies : SeenSatisfies
-seen_satisfies M look (Compare r) no_terms a sees agree = ((λ x. x), (λ x. x))
-seen_satisfies M look (Compare r) (term s no_terms) a sees agree = ((λ x. x), (λ x. x))
 seen_satisfies M look (Compare r) (term s (term t no_terms)) a sees agree = rw (worth_seen look a agree s, worth_seen look a agree t) ((λ x. x), (λ x. x))
-seen_satisfies M look (Compare r) (term s (term t (term u us))) a sees agree = ((λ x. x), (λ x. x))
-seen_satisfies M look AllDifferent no_terms a sees agree = ((λ x. x), (λ x. x))
 seen_satisfies M look AllDifferent (term l no_terms) a sees agree = rw (worths_seen look a agree M sees l) ((λ x. x), (λ x. x))
-seen_satisfies M look AllDifferent (term l (term u us)) a sees agree = ((λ x. x), (λ x. x))
-seen_satisfies M look Element no_terms a sees agree = ((λ x. x), (λ x. x))
-seen_satisfies M look Element (term i no_terms) a sees agree = ((λ x. x), (λ x. x))
-seen_satisfies M look Element (term i (term l no_terms)) a sees agree = ((λ x. x), (λ x. x))
 seen_satisfies M look Element (term i (term l (term v no_terms))) a sees agree = rw (worth_seen look a agree i, worth_seen look a agree v, worths_seen look a agree M sees l) ((λ x. x), (λ x. x))
-seen_satisfies M look Element (term i (term l (term v (term u us)))) a sees agree = ((λ x. x), (λ x. x))
-seen_satisfies M look Atmost no_terms a sees agree = ((λ x. x), (λ x. x))
-seen_satisfies M look Atmost (term m no_terms) a sees agree = ((λ x. x), (λ x. x))
-seen_satisfies M look Atmost (term m (term l no_terms)) a sees agree = ((λ x. x), (λ x. x))
 seen_satisfies M look Atmost (term m (term l (term v no_terms))) a sees agree = rw (worth_seen look a agree m, worth_seen look a agree v, worths_seen look a agree M sees l) ((λ x. x), (λ x. x))
-seen_satisfies M look Atmost (term m (term l (term v (term u us)))) a sees agree = ((λ x. x), (λ x. x))
+seen_satisfies _ look _ _ a sees agree = ((λ x. x), (λ x. x))

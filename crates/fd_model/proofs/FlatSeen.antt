@@ -32,8 +32,6 @@ module _ (M : ℕ) (look : ℕ → Term) (sees : SeesNumbers M look) where
     | inr e ↦ subst (IsSeenFlat M (Var x)) (sym e.2) (record { flat = narrower_too e.0 M e.1 h; narrower = e.1; fewer = omega arith })
   ]
   seen_as (Int z) h = record { flat = h; narrower = omega arith; fewer = omega arith }
-  seen_as (Atom a) h = absurd (cc)
-  seen_as (Comp f no_terms) h = absurd (cc)
   seen_as (Comp f (term a no_terms)) h =
       let k = seen_as a ((and_parts (bytes_eq f (codes "-")) (is_flat M a) h).1) in
       let e = length-append (variables_of a) [] in
@@ -57,7 +55,7 @@ module _ (M : ℕ) (look : ℕ → Term) (sees : SeesNumbers M look) where
       let p = i.fewer in
       let q = j.fewer in
       record { flat = and_from _ _ (and_from _ _ i.flat j.flat) (and_from _ _ o n); narrower = w; fewer = omega arith }
-  seen_as (Comp f (term a (term b (term c ts)))) h = absurd (cc)
+  seen_as _ h = absurd (cc)
 
 pub flat_seen : FlatSeen
 flat_seen M look t sees h = seen_as M look sees t h

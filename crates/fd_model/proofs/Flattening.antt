@@ -65,10 +65,8 @@ module _ (M : ℕ) (prog : Program) where
 -- the identity
 mutual
   unchanged : (t : Term) → apply (λ x. Var x) t ≡ t
-  unchanged (Var x) = refl
-  unchanged (Int z) = refl
-  unchanged (Atom a) = refl
   unchanged (Comp f ts) = ap (Comp f) (all_unchanged ts)
+  unchanged _ = refl
 
   all_unchanged : (ts : Terms) → apply_all (λ x. Var x) ts ≡ ts
   all_unchanged no_terms = refl

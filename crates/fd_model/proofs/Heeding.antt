@@ -29,9 +29,7 @@ first_member n xs = or_left (n == n) (has xs n) (eq-eqb n n refl)
 
 pub is_variable_true : (t : Term) (y : ℕ) → is_variable t y ≡ true → t ≡ Var y
 is_variable_true (Var x) y h = ap Var (eqb-true x y h)
-is_variable_true (Int z) y h = absurd (true≢false (sym h))
-is_variable_true (Atom a) y h = absurd (true≢false (sym h))
-is_variable_true (Comp f ts) y h = absurd (true≢false (sym h))
+is_variable_true _ y h = absurd (true≢false (sym h))
 
 -- the set of a seen variable
 pub record SetFrom (s : Substitution) (D : Family) (ws : List ℕ) (y : ℕ) (xs : List ℕ) : Type 0 where
@@ -65,17 +63,13 @@ module _ (s : Substitution) (D : Family) (y : ℕ) where
 
 -- a seen variable that is an integer
 pub by_set_int : (o : Option (List ℕ)) (y : ℕ) (z : ℤ) → by_set o y ≡ Int z → (n : ℕ) × (o ≡ Some (n ∷ [])) × (z ≡ pos n)
-by_set_int None y z e = absurd (cc)
-by_set_int (Some []) y z e = absurd (cc)
 by_set_int (Some (n ∷ [])) y z e = (n, refl, let h : z ≡ pos n = cc in h)
-by_set_int (Some (n ∷ m ∷ ms)) y z e = absurd (cc)
+by_set_int _ y z e = absurd (cc)
 
 -- or not
 pub by_set_var : (o : Option (List ℕ)) (y x : ℕ) → by_set o y ≡ Var x → y ≡ x
-by_set_var None y x e = cc
-by_set_var (Some []) y x e = cc
 by_set_var (Some (n ∷ [])) y x e = absurd (cc)
-by_set_var (Some (n ∷ m ∷ ms)) y x e = cc
+by_set_var _ y x e = cc
 
 -- u unifies, and gives n to each constrained variable that is n in each model
 pub record Heeds (M : ℕ) (es : List Equation) (ps : List Indexical) (u : Substitution) : Type 0 where
@@ -189,13 +183,11 @@ module _ (M : ℕ) (b : Branch) (s : Substitution) (D : Family) (v : IsView M b.
 
   module _ (u : Substitution) (h : Heeds M b.equations b.posted u) where
     by_option : (x : ℕ) (o : Option (List ℕ)) → set_at s D ws x ≡ o → apply u (by_set o x) ≡ u x
-    by_option x None e = refl
-    by_option x (Some []) e = refl
     by_option x (Some (n ∷ [])) e =
         let f = set_found s D x ws (n ∷ []) e in
         let k : u f.variable ≡ Int (pos n) = h.sure f.variable n f.listed (λ S m j i. sym (only_member n j (subst (λ l. has l j ≡ true) f.set (in_view M b.equations b.posted s D S v m f.variable j i)))) in
         sym k ∙ sym (v.general.general u f.variable h.unifies) ∙ ap (apply u) f.term
-    by_option x (Some (n ∷ m ∷ ms)) e = refl
+    by_option x _ e = refl
 
     -- such a substitution goes through what is seen
     pub through_look : (y : ℕ) → apply u (look_in b s D y) ≡ u y
@@ -204,9 +196,7 @@ module _ (M : ℕ) (b : Branch) (s : Substitution) (D : Family) (v : IsView M b.
   -- an open variable is left as it is by the unifier
   open_by : (y x : ℕ) (t : Term) → s y ≡ t → apply single t ≡ Var x → s y ≡ Var x
   open_by y x (Var w) e h = e ∙ ap Var (by_set_var (set_at s D ws w) w x h)
-  open_by y x (Int z) e h = absurd (cc)
-  open_by y x (Atom a) e h = absurd (cc)
-  open_by y x (Comp f ts) e h = absurd (cc)
+  open_by y x _ e h = absurd (cc)
 
   pub look_open : (y x : ℕ) → look_in b s D y ≡ Var x → s y ≡ Var x
   look_open y x h = open_by y x (s y) refl h

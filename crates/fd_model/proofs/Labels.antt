@@ -34,10 +34,7 @@ Follows base u = (y : ℕ) → apply u (base y) ≡ u y
 
 pub natural : Term → ℕ
 natural (Int (pos n)) = n
-natural (Int (negsuc n)) = 0
-natural (Var x) = 0
-natural (Atom a) = 0
-natural (Comp f ts) = 0
+natural _ = 0
 
 natural_of : (n : ℕ) (t : Term) → t ≡ Int (pos n) → natural t ≡ n
 unfolding natural
@@ -383,10 +380,8 @@ module _ (M : ℕ) (prog : Program) (o : Order) (t : Term) (ms : List Member) (b
   plain_term u (Comp f ts) h = absurd (let e = h.1 in cc)
 
   plain_option : (w : ℕ) (r : Option (List ℕ)) → ((y : ℕ) × (by_set r w ≡ Var y)) ⊎ IsInt (by_set r w)
-  plain_option w None = inl (w, refl)
-  plain_option w (Some []) = inl (w, refl)
   plain_option w (Some (n ∷ [])) = inr (pos n, refl)
-  plain_option w (Some (n ∷ m ∷ ks)) = inl (w, refl)
+  plain_option w _ = inl (w, refl)
 
   module _ (b : Branch) (s : Substitution) (D : Family) (ready : IsReady b) (v : IsView M b.equations b.posted s D) where
     seen_plain : (y : ℕ) → has vs y ≡ true → ((w : ℕ) × (look_in b s D y ≡ Var w)) ⊎ IsInt (look_in b s D y)

@@ -138,10 +138,8 @@ module _ (M : ℕ) (small : M < 2 ^ 24) where
 
 -- the integers that are read
 integer_small : (t : Term) (z : ℤ) → HasIntegers t → as_integer t ≡ Ok z → nat_abs z < 2 ^ 63
-integer_small (Var x) z i h = absurd (cc)
 integer_small (Int y) z i h = let e : y ≡ z = cc in subst (λ w. nat_abs w < 2 ^ 63) e i
-integer_small (Atom f) z i h = absurd (cc)
-integer_small (Comp f ts) z i h = absurd (cc)
+integer_small _ z i h = absurd (cc)
 
 -- the elements of a list of integers, and how many there are
 record AreElements (M : ℕ) (small : M < 2 ^ 24) (t : Term) (zs : List ℤ) : Type 0 where
@@ -149,12 +147,8 @@ record AreElements (M : ℕ) (small : M < 2 ^ 24) (t : Term) (zs : List ℤ) : T
   pub count : length zs ≡ cells t
 
 elements_small : (M : ℕ) (small : M < 2 ^ 24) (t : Term) (zs : List ℤ) → HasIntegers t → walk as_integer t ≡ Ok zs → AreElements M small t zs
-elements_small M small (Var x) zs i h = absurd (cc)
-elements_small M small (Int z) zs i h = absurd (cc)
 elements_small M small (Atom f) zs i h =
     test_ok (bytes_eq f (codes "[]")) (Ok []) (Err _) zs (AreElements M small (Atom f) zs) h (λ c e. let k : [] ≡ zs = cc in subst (AreElements M small (Atom f)) k (record { all_small = tt; count = refl })) (λ c e. absurd (cc))
-elements_small M small (Comp f no_terms) zs i h = absurd (cc)
-elements_small M small (Comp f (term x no_terms)) zs i h = absurd (cc)
 elements_small M small (Comp f (term x (term t no_terms))) zs i h =
     test_ok (bytes_eq f (codes ".")) _ (Err _) zs (AreElements M small (Comp f (term x (term t no_terms))) zs) h
     (λ c e.
@@ -164,14 +158,10 @@ elements_small M small (Comp f (term x (term t no_terms))) zs i h =
     let s = integer_small x k.left i.0 k.from_left in
     subst (AreElements M small (Comp f (term x (term t no_terms)))) g (record { all_small = (omega arith, j.all_small); count = ap suc j.count }))
     (λ c e. absurd (cc))
-elements_small M small (Comp f (term x (term t (term u us)))) zs i h = absurd (cc)
+elements_small _ small _ zs i h = absurd (cc)
 
 members_count : (t : Term) (ms : List Member) → walk as_member t ≡ Ok ms → length ms ≡ cells t
-members_count (Var x) ms h = absurd (cc)
-members_count (Int z) ms h = absurd (cc)
 members_count (Atom f) ms h = test_ok (bytes_eq f (codes "[]")) (Ok []) (Err _) ms (length ms ≡ 0) h (λ c e. let k : [] ≡ ms = cc in ap length (sym k)) (λ c e. absurd (cc))
-members_count (Comp f no_terms) ms h = absurd (cc)
-members_count (Comp f (term x no_terms)) ms h = absurd (cc)
 members_count (Comp f (term x (term t no_terms))) ms h =
     test_ok (bytes_eq f (codes ".")) _ (Err _) ms (length ms ≡ suc (cells t)) h
     (λ c e.
@@ -179,7 +169,7 @@ members_count (Comp f (term x (term t no_terms))) ms h =
     let g : k.left ∷ k.right ≡ ms = cc (k.both) in
     ap length (sym g) ∙ ap suc (members_count t k.right k.from_right))
     (λ c e. absurd (cc))
-members_count (Comp f (term x (term t (term u us)))) ms h = absurd (cc)
+members_count _ ms h = absurd (cc)
 
 length-placed : (ms : List Member) (n : ℕ) → length (placed n ms) ≡ length ms
 length-placed [] n = refl
@@ -193,24 +183,12 @@ module _ (M : ℕ) (small : M < 2 ^ 24) where
       subst (λ y. Within M small y.ranges) e (different_within M small (placed n k.0))
 
   pub expand_within : (kind : ConstraintKind) (ts : Terms) (n : ℕ) (x : Expansion) → HaveIntegers ts → HasShortLists kind ts → expand kind ts n ≡ Ok x → Within M small x.ranges
-  expand_within (Compare r) no_terms n x i s h = absurd (cc)
-  expand_within (Compare r) (term a no_terms) n x i s h = absurd (cc)
   expand_within (Compare r) (term a (term b no_terms)) n x i s h = compare_within M small r a b n x h
-  expand_within (Compare r) (term a (term b (term u us))) n x i s h = absurd (cc)
-  expand_within AllDifferent no_terms n x i s h = absurd (cc)
   expand_within AllDifferent (term l no_terms) n x i s h = all_different_within l n x h
-  expand_within AllDifferent (term l (term u us)) n x i s h = absurd (cc)
-  expand_within Element no_terms n x i s h = absurd (cc)
-  expand_within Element (term a no_terms) n x i s h = absurd (cc)
-  expand_within Element (term a (term l no_terms)) n x i s h = absurd (cc)
   expand_within Element (term a (term l (term v no_terms))) n x i s h =
       let k = element_ok a l v n x h in
       let e = elements_small M small l k.elements i.1.0 k.from_list in
       subst (λ y. Within M small y.ranges) k.rows (element_within M small _ _ k.elements e.all_small (let f = e.count in omega arith))
-  expand_within Element (term a (term l (term v (term u us)))) n x i s h = absurd (cc)
-  expand_within Atmost no_terms n x i s h = absurd (cc)
-  expand_within Atmost (term m no_terms) n x i s h = absurd (cc)
-  expand_within Atmost (term m (term l no_terms)) n x i s h = absurd (cc)
   expand_within Atmost (term m (term l (term v no_terms))) n x i s h =
       let k = atmost_ok m l v n x h in
       let xs = placed n k.members in
@@ -219,7 +197,7 @@ module _ (M : ℕ) (small : M < 2 ^ 24) where
       let w = integer_small v k.value i.1.1.0 k.from_value in
       subst (λ y. Within M small y.ranges) k.rows
       (append_within M small (counts k.value xs _) _ (counts_within M small k.value xs _ (omega arith)) (sum_within M small xs k.limit _ _ (omega arith) (integer_small m k.limit i.0 k.from_limit)))
-  expand_within Atmost (term m (term l (term v (term u us)))) n x i s h = absurd (cc)
+  expand_within _ _ n x i s h = absurd (cc)
 
   all_accepted : (ps : List Indexical) → Fitting M ps → Within M small ps → AllPosted (λ p. is_accepted M p.range ≡ true) ps
   all_accepted [] f w = tt

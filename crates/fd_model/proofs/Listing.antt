@@ -64,12 +64,8 @@ module _ (u : Substitution) where
 
   -- where a list reads, so does it under u, as far as its members do
   pub list_under : (t : Term) (ms : List Member) → read_list t ≡ Ok ms → read_list (apply u t) ≡ read_members u ms
-  list_under (Var x) ms e = absurd (cc)
-  list_under (Int z) ms e = absurd (cc)
   list_under (Atom a) ms e = let h = if_members (bytes_eq a (codes "[]")) (Ok []) _ ms e in rw h.0 (let k : [] ≡ ms = (let g = h.1 in cc) in ap (read_members u) k)
-  list_under (Comp f no_terms) ms e = absurd (cc)
-  list_under (Comp f (term h no_terms)) ms e = absurd (cc)
   list_under (Comp f (term h (term t no_terms))) ms e =
       let g = if_members (bytes_eq f (codes ".")) (with_element h (read_list t)) _ ms e in
       rw g.0 (cell_under ms (read_list t) (read_list (apply u t)) h (cell_of h (read_list t) ms g.1) (λ rest k. list_under t rest k))
-  list_under (Comp f (term h (term t (term v vs)))) ms e = absurd (cc)
+  list_under _ ms e = absurd (cc)

@@ -163,23 +163,11 @@ module _ (M n : ℕ) (S : Family) (family : IsFamily M S) where
       (sum_names M S family (IsOne S) xs k g.limit (k + length xs) counters (posted_right H ps qs posted) (λ u e. some u (named_right ps qs u e))))
 
   pub expand_one : (kind : ConstraintKind) (ts : Terms) (x : Expansion) → TermsBelow n ts → expand kind ts n ≡ Ok x → HasOne x
-  expand_one (Compare r) no_terms x b h = absurd (cc)
-  expand_one (Compare r) (term s no_terms) x b h = absurd (cc)
   expand_one (Compare r) (term s (term t no_terms)) x b h = compare_one r s t x b.0 b.1.0 h
-  expand_one (Compare r) (term s (term t (term u us))) x b h = absurd (cc)
-  expand_one AllDifferent no_terms x b h = absurd (cc)
   expand_one AllDifferent (term l no_terms) x b h = different_one l x b.0 h
-  expand_one AllDifferent (term l (term u us)) x b h = absurd (cc)
-  expand_one Element no_terms x b h = absurd (cc)
-  expand_one Element (term i no_terms) x b h = absurd (cc)
-  expand_one Element (term i (term l no_terms)) x b h = absurd (cc)
   expand_one Element (term i (term l (term v no_terms))) x b h = element_one i l v x b.0 b.1.1.0 h
-  expand_one Element (term i (term l (term v (term u us)))) x b h = absurd (cc)
-  expand_one Atmost no_terms x b h = absurd (cc)
-  expand_one Atmost (term m no_terms) x b h = absurd (cc)
-  expand_one Atmost (term m (term l no_terms)) x b h = absurd (cc)
   expand_one Atmost (term m (term l (term v no_terms))) x b h = atmost_one m l v x b.1.0 h
-  expand_one Atmost (term m (term l (term v (term u us)))) x b h = absurd (cc)
+  expand_one _ _ x b h = absurd (cc)
 
 -- ---- the law
 

@@ -44,12 +44,8 @@ pub record AreRead (n : ℕ) (a : Assignment) (t : Term) (ms : List Member) : Ty
   pub below : TermBelow n t → MembersBelow n ms
 
 pub members_read : (n : ℕ) (a : Assignment) (t : Term) (ms : List Member) → walk as_member t ≡ Ok ms → AreRead n a t ms
-members_read n a (Var x) ms h = absurd (cc)
-members_read n a (Int z) ms h = absurd (cc)
 members_read n a (Atom f) ms h =
     test_ok (bytes_eq f (codes "[]")) (Ok []) (Err _) ms (AreRead n a (Atom f) ms) h (λ c e. let k : [] ≡ ms = cc in subst (AreRead n a (Atom f)) k (record { worths = refl; below = λ b. tt })) (λ c e. absurd (cc))
-members_read n a (Comp f no_terms) ms h = absurd (cc)
-members_read n a (Comp f (term x no_terms)) ms h = absurd (cc)
 members_read n a (Comp f (term x (term t no_terms))) ms h =
     test_ok (bytes_eq f (codes ".")) _ (Err _) ms (AreRead n a (Comp f (term x (term t no_terms))) ms) h
     (λ c e.
@@ -59,7 +55,7 @@ members_read n a (Comp f (term x (term t no_terms))) ms h =
     let g : k.left ∷ k.right ≡ ms = cc (k.both) in
     subst (AreRead n a (Comp f (term x (term t no_terms)))) g (record { worths = let u = i.worth in let v = j.worths in cc; below = λ b. (i.below b.0, j.below b.1.0) }))
     (λ c e. absurd (cc))
-members_read n a (Comp f (term x (term t (term u us)))) ms h = absurd (cc)
+members_read n a _ ms h = absurd (cc)
 
 pub integers_read : (a : Assignment) (t : Term) (zs : List ℤ) → walk as_integer t ≡ Ok zs → worths a t ≡ zs
 integers_read a (Var x) ms h = absurd (cc)

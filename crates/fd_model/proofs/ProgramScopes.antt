@@ -85,15 +85,10 @@ module _ (n : ℕ) where
 
   expr_scoped : (features : Bool) (t : PlacedTerm) → TermBelow n (plain t) → ScopedRead (read_expr features t)
   expr_scoped features (var x p) h = (h, tt)
-  expr_scoped features (int z p) h = tt
   expr_scoped features (atom a p) h = either ScopedRead (bytes_eq a (codes "infinity")) (read Infinity p) (offends Infinity p) tt tt
-  expr_scoped features (comp f p no_parts) h = tt
   expr_scoped features (comp f p (part (var y q) no_parts)) h = read_feature_scoped (expr_feature f) features p y (feature_is f) h.0
-  expr_scoped features (comp f p (part (int z q) no_parts)) h = tt
-  expr_scoped features (comp f p (part (atom a q) no_parts)) h = tt
-  expr_scoped features (comp f p (part (comp g q ts) no_parts)) h = tt
   expr_scoped features (comp f p (part a (part b no_parts))) h = read_operator_scoped (expr_operator f) p (read_expr features a) (read_expr features b) (operator_is f) (expr_scoped features a h.0) (expr_scoped features b h.1.0)
-  expr_scoped features (comp f p (part a (part b (part c ts)))) h = tt
+  expr_scoped features _ h = tt
 
   abbrev IsForm : RangeForm → Type 0
   IsForm (of_terms make) = (a b : Expr) → Scoped a → Scoped b → RangeBelow n (make a b)
@@ -124,15 +119,9 @@ module _ (n : ℕ) where
 
   dom_scoped : (t : PlacedTerm) (p : ℕ) → TermBelow n (plain t) → RangeRead (read_dom t p)
   dom_scoped (var y q) p h = (h, tt)
-  dom_scoped (int z q) p h = tt
-  dom_scoped (atom a q) p h = tt
-  dom_scoped (comp f q ts) p h = tt
+  dom_scoped _ p h = tt
 
   range_scoped : (t : PlacedTerm) → TermBelow n (plain t) → RangeRead (read_range t)
-  range_scoped (var x p) h = tt
-  range_scoped (int z p) h = tt
-  range_scoped (atom a p) h = tt
-  range_scoped (comp f p no_parts) h = tt
   range_scoped (comp f p (part t no_parts)) h =
       either RangeRead (bytes_eq f (codes "{}")) (read_one One p (read_expr true t)) _ (expr_scoped true t h.0)
       (either RangeRead (bytes_eq f (codes "-")) (read_one Outside p (read_range t)) _ (range_scoped t h.0)
@@ -140,7 +129,7 @@ module _ (n : ℕ) where
   range_scoped (comp f p (part a (part b no_parts))) h =
       read_form_scoped (range_form f) p (read_range a) (read_range b) (read_expr true a) (read_expr true b) (read_expr false b) (form_is f)
       (range_scoped a h.0) (range_scoped b h.1.0) (expr_scoped true a h.0) (expr_scoped true b h.1.0) (expr_scoped false b h.1.0)
-  range_scoped (comp f p (part a (part b (part c ts)))) h = tt
+  range_scoped _ h = tt
 
   -- ---- goals
 
@@ -148,33 +137,14 @@ module _ (n : ℕ) where
   IsBelow t = TermBelow n (plain t)
 
   goal_scoped : (t : PlacedTerm) → IsBelow t → GoalBelow n (goal_of t)
-  goal_scoped (var x p) h = h
-  goal_scoped (int z p) h = h
-  goal_scoped (atom a p) h = h
-  goal_scoped (comp f p no_parts) h = h
-  goal_scoped (comp f p (part (var x q) no_parts)) h = h
-  goal_scoped (comp f p (part (int z q) no_parts)) h = h
-  goal_scoped (comp f p (part (atom a q) no_parts)) h = h
-  goal_scoped (comp f p (part (comp g q us) no_parts)) h = h
   goal_scoped (comp f p (part (var x q) (part r no_parts))) h =
       either (GoalBelow n) (bytes_eq f (codes "in")) (Post (Var x) (read_range r).value) (Call (plain (comp f p (part (var x q) (part r no_parts))))) (h.0, range_scoped r h.1.0) h
-  goal_scoped (comp f p (part (int z q) (part r no_parts))) h = h
-  goal_scoped (comp f p (part (atom a q) (part r no_parts))) h = h
-  goal_scoped (comp f p (part (comp g q ts) (part r no_parts))) h = h
-  goal_scoped (comp f p (part (var x q) (part b (part c ts)))) h = h
-  goal_scoped (comp f p (part (int z q) (part b (part c ts)))) h = h
-  goal_scoped (comp f p (part (atom a q) (part b (part c ts)))) h = h
-  goal_scoped (comp f p (part (comp g q us) (part b (part c ts)))) h = h
+  goal_scoped _ h = h
 
   goals_below : (t : PlacedTerm) → IsBelow t → Each IsBelow (goals_of t)
-  goals_below (var x p) h = (h, tt)
-  goals_below (int z p) h = (h, tt)
-  goals_below (atom a p) h = (h, tt)
-  goals_below (comp f p no_parts) h = (h, tt)
-  goals_below (comp f p (part a no_parts)) h = (h, tt)
   goals_below (comp f p (part a (part b no_parts))) h =
       either (Each IsBelow) (bytes_eq f (codes ",")) (goals_of a ++ goals_of b) (comp f p (part a (part b no_parts)) ∷ []) (each_both IsBelow (goals_of a) (goals_of b) (goals_below a h.0) (goals_below b h.1.0)) (h, tt)
-  goals_below (comp f p (part a (part b (part c ts)))) h = (h, tt)
+  goals_below _ h = (h, tt)
 
   goals_scoped : (ts : List PlacedTerm) → Each IsBelow ts → EachBelow n (map goal_of ts)
   goals_scoped [] h = tt
@@ -189,14 +159,10 @@ module _ (n : ℕ) where
   IsFormBelow (fact t) = Unit {0}
 
   form_below : (t : PlacedTerm) → IsBelow t → IsFormBelow (form_of t)
-  form_below (var x p) h = tt
-  form_below (int z p) h = tt
-  form_below (atom a p) h = tt
-  form_below (comp f p no_parts) h = tt
   form_below (comp f p (part b no_parts)) h =
       either IsFormBelow (bytes_eq f (codes "?-")) (query b) _ h.0 (either IsFormBelow (bytes_eq f (codes ":-")) directive (fact (comp f p (part b no_parts))) tt tt)
   form_below (comp f p (part a (part b no_parts))) h = either IsFormBelow (bytes_eq f (codes ":-")) (clause a b) (fact (comp f p (part a (part b no_parts)))) tt tt
-  form_below (comp f p (part a (part b (part c ts)))) h = tt
+  form_below _ h = tt
 
   shown_below : (k : ℕ) (names : List Name) → k + length names ≤ n → NumbersBelow n (shown_from k names)
   shown_below k [] l = tt
@@ -206,9 +172,7 @@ module _ (n : ℕ) where
 
 query_scoped : (names : List Name) (form : Form) (later : List Query) → IsFormBelow (length names) form → QueriesScoped later → QueriesScoped (queries_by names form later)
 query_scoped names (query b) later h g = ((shown_below (length names) 0 names (omega arith), goals_scoped (length names) (goals_of b) (goals_below (length names) b h)), g)
-query_scoped names (clause a b) later h g = g
-query_scoped names directive later h g = g
-query_scoped names (fact t) later h g = g
+query_scoped names _ later h g = g
 
 queries_scoped : (ss : List Sentence) → Each (λ s. (x : ℕ) → has (variables_of (plain s.term)) x ≡ true → x < length s.names) ss → QueriesScoped (queries_of ss)
 queries_scoped [] h = tt
@@ -221,9 +185,7 @@ accepted_scoped ss (Some r) prog e h = absurd (cc)
 read_scoped : (M : ℕ) (text : List ℕ) (prog : Program) (r : reading.Reading) → reading.IsReading text r → accepted prog ≡ reading_verdict M r → IsScoped prog
 read_scoped M text prog (sentences ss) h e =
     accepted_scoped ss (first_refusal M (map (λ s. s.term) ss) (map (λ s. s.term) ss)) prog e (record { clauses = tt; queries = queries_scoped ss (each_below text ss h) })
-read_scoped M text prog (token_fault cause place) h e = absurd (cc)
-read_scoped M text prog (syntax_fault place) h e = absurd (cc)
-read_scoped M text prog (too_deep place) h e = absurd (cc)
+read_scoped _ text prog _ h e = absurd (cc)
 
 not_accepted : (p : ℕ) (reason : List ℕ) (prog : Program) → accepted prog ≡ refused p reason → ⊥
 not_accepted p reason prog e = cc

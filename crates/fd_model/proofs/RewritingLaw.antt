@@ -8,20 +8,8 @@ use Rattle.fd_model.proofs.Choosing.{choosing}
 use Rattle.fd_model.proofs.Counters.{at_most}
 
 pub rewriting : Rewriting
-rewriting M N (Compare r) no_terms n x a p up below small h = absurd (cc)
-rewriting M N (Compare r) (term s no_terms) n x a p up below small h = absurd (cc)
 rewriting M N (Compare r) (term s (term t no_terms)) n x a p up below small h = compared M N up r s t n x a below.0 below.1.0 small h
-rewriting M N (Compare r) (term s (term t (term u us))) n x a p up below small h = absurd (cc)
-rewriting M N AllDifferent no_terms n x a p up below small h = absurd (cc)
 rewriting M N AllDifferent (term l no_terms) n x a p up below small h = differing M N up l n x a below.0 small h
-rewriting M N AllDifferent (term l (term u us)) n x a p up below small h = absurd (cc)
-rewriting M N Element no_terms n x a p up below small h = absurd (cc)
-rewriting M N Element (term i no_terms) n x a p up below small h = absurd (cc)
-rewriting M N Element (term i (term l no_terms)) n x a p up below small h = absurd (cc)
 rewriting M N Element (term i (term l (term v no_terms))) n x a p up below small h = choosing M N up i l v n x a below.0 below.1.1.0 small h
-rewriting M N Element (term i (term l (term v (term u us)))) n x a p up below small h = absurd (cc)
-rewriting M N Atmost no_terms n x a p up below small h = absurd (cc)
-rewriting M N Atmost (term m no_terms) n x a p up below small h = absurd (cc)
-rewriting M N Atmost (term m (term l no_terms)) n x a p up below small h = absurd (cc)
 rewriting M N Atmost (term m (term l (term v no_terms))) n x a p up below small h = at_most M N up m l v n x a p below.1.0 small h
-rewriting M N Atmost (term m (term l (term v (term u us)))) n x a p up below small h = absurd (cc)
+rewriting _ _ _ _ n x a p up below small h = absurd (cc)

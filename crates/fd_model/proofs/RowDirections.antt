@@ -156,25 +156,13 @@ module _ (M : ℕ) where
       subst (λ y. Fitting y.ranges) e (different_fitting (placed n k.0))
 
   pub expand_fitting : (kind : ConstraintKind) (ts : Terms) (n : ℕ) (x : Expansion) → expand kind ts n ≡ Ok x → Fitting x.ranges
-  expand_fitting (Compare r) no_terms n x h = absurd (cc)
-  expand_fitting (Compare r) (term s no_terms) n x h = absurd (cc)
   expand_fitting (Compare r) (term s (term t no_terms)) n x h = compare_fitting r s t n x h
-  expand_fitting (Compare r) (term s (term t (term u us))) n x h = absurd (cc)
-  expand_fitting AllDifferent no_terms n x h = absurd (cc)
   expand_fitting AllDifferent (term l no_terms) n x h = all_different_fitting l n x h
-  expand_fitting AllDifferent (term l (term u us)) n x h = absurd (cc)
-  expand_fitting Element no_terms n x h = absurd (cc)
-  expand_fitting Element (term i no_terms) n x h = absurd (cc)
-  expand_fitting Element (term i (term l no_terms)) n x h = absurd (cc)
   expand_fitting Element (term i (term l (term v no_terms))) n x h = let k = element_ok i l v n x h in subst (λ y. Fitting y.ranges) k.rows (element_fitting _ _ k.elements)
-  expand_fitting Element (term i (term l (term v (term u us)))) n x h = absurd (cc)
-  expand_fitting Atmost no_terms n x h = absurd (cc)
-  expand_fitting Atmost (term m no_terms) n x h = absurd (cc)
-  expand_fitting Atmost (term m (term l no_terms)) n x h = absurd (cc)
   expand_fitting Atmost (term m (term l (term v no_terms))) n x h =
       let k = atmost_ok m l v n x h in
       subst (λ y. Fitting y.ranges) k.rows (append_fitting (counts k.value (placed n k.members) _) _ (counts_fitting k.value (placed n k.members) _) (form_fitting IsAtMost (units (placed n k.members) _) k.limit _ (units_nonzero (placed n k.members) _)))
-  expand_fitting Atmost (term m (term l (term v (term u us)))) n x h = absurd (cc)
+  expand_fitting _ _ n x h = absurd (cc)
 
 fitting_tests : (M : ℕ) (ps : List Indexical) → Fitting M ps → AllPosted (λ p. range_fits M p.range true ≡ true) ps
 fitting_tests M [] h = tt

@@ -90,15 +90,13 @@ module _ (P : ℕ → Type 0) where
   pub collected_vars : (t : Term) (s : Sum) → EachVariable P t → collect_term t ≡ Ok s → Vars s
   collected_vars (Var x) s l h = vars_checked (record { products = (x, pos 1) ∷ []; constant = pos 0 }) s (l x (or_left _ _ (eq-eqb x x refl)), tt) h
   collected_vars (Int z) s l h = vars_checked (record { products = []; constant = z }) s tt h
-  collected_vars (Atom a) s l h = absurd (cc)
-  collected_vars (Comp f no_terms) s l h = absurd (cc)
   collected_vars (Comp f (term a no_terms)) s l h =
       test_ok (bytes_eq f (codes "-")) (of_one (λ s. checked (times (negsuc 0) s)) (collect_term a)) (Err BadType) s (Vars s) h
       (λ c e. let k = one_ok (λ s. checked (times (negsuc 0) s)) (collect_term a) s e in vars_checked (times (negsuc 0) k.0) s (vars_scaled (negsuc 0) k.0.products (collected_vars a k.0 (λ v g. l v (in_left (variables_of a) [] v g)) k.1)) k.2)
       (λ c e. absurd (cc))
   collected_vars (Comp f (term a (term c no_terms))) s l h =
       vars_operator (bytes_eq f (codes "+")) (bytes_eq f (codes "-")) (bytes_eq f (codes "*")) (collect_term a) (collect_term c) s (λ v e. collected_vars a v (λ w g. l w (in_left (variables_of a) (variables_of c ++ []) w g)) e) (λ v e. collected_vars c v (λ w g. l w (in_right (variables_of a) (variables_of c ++ []) w (in_left (variables_of c) [] w g))) e) h
-  collected_vars (Comp f (term a (term c (term d ts)))) s l h = absurd (cc)
+  collected_vars _ s l h = absurd (cc)
 
   pub collect_vars : (s t : Term) (l : Linear) → EachVariable P s → EachVariable P t → collect s t ≡ Ok l → AllVars l.products
   collect_vars s t l h k e =
@@ -109,12 +107,9 @@ module _ (P : ℕ → Type 0) where
       (vars_checked (plus b.left (times (negsuc 0) b.right)) j.0 (vars_products b.left.products (scaled (negsuc 0) b.right.products) (collected_vars s b.left h b.from_left) (vars_scaled (negsuc 0) b.right.products (collected_vars t b.right k b.from_right))) b.both))
 
   pub normal_vars : (r : Relation) (l : Linear) → AllVars l.products → AllVars (normal r l).products
-  normal_vars Equal l h = h
-  normal_vars Differ l h = h
-  normal_vars Less l h = h
-  normal_vars AtMost l h = h
   normal_vars Greater l h = vars_scaled (negsuc 0) l.products h
   normal_vars AtLeast l h = vars_scaled (negsuc 0) l.products h
+  normal_vars _ l h = h
 
   -- and what holds of the variables of the products holds of all that the rows name
   vars_append : (ts us : List (ℕ × ℤ)) → AllVars ts → AllVars us → AllVars (ts ++ us)

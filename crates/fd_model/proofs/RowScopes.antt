@@ -54,11 +54,7 @@ module _ (Q : ℕ → Type 0) where
   member_in (Comp f ts) m ms q h l = absurd (cc)
 
   members_in : (t : Term) (ms : List Member) → EachVariable Q t → walk as_member t ≡ Ok ms → MembersIn ms
-  members_in (Var x) ms q h = absurd (cc)
-  members_in (Int z) ms q h = absurd (cc)
   members_in (Atom f) ms q h = test_ok (bytes_eq f (codes "[]")) (Ok []) (Err _) ms (MembersIn ms) h (λ c e. let k : [] ≡ ms = cc in subst MembersIn k tt) (λ c e. absurd (cc))
-  members_in (Comp f no_terms) ms q h = absurd (cc)
-  members_in (Comp f (term x no_terms)) ms q h = absurd (cc)
   members_in (Comp f (term x (term t no_terms))) ms q h =
       test_ok (bytes_eq f (codes ".")) _ (Err _) ms (MembersIn ms) h
       (λ c e.
@@ -67,7 +63,7 @@ module _ (Q : ℕ → Type 0) where
       subst MembersIn g (member_in x k.left k.right (λ v i. q v (in_left (variables_of x) (variables_of t ++ []) v i)) k.from_left
       (members_in t k.right (λ v i. q v (in_right (variables_of x) (variables_of t ++ []) v (in_left (variables_of t) [] v i))) k.from_right)))
       (λ c e. absurd (cc))
-  members_in (Comp f (term x (term t (term u us)))) ms q h = absurd (cc)
+  members_in _ ms q h = absurd (cc)
 
   placed_scoped : (n : ℕ) (ms : List Member) (k : ℕ) → n ≤ k → MembersIn ms → Each (λ v. Q v ⊎ ((n ≤ v) × (v < fresh_after k ms))) (placed k ms)
   placed_scoped n [] k l h = tt
@@ -167,23 +163,11 @@ atmost_scoped m l v n x h =
     })
 
 expand_scoped : (kind : ConstraintKind) (ts : Terms) (n : ℕ) (x : Expansion) → expand kind ts n ≡ Ok x → IsScoped ts n x
-expand_scoped (Compare r) no_terms n x h = absurd (cc)
-expand_scoped (Compare r) (term s no_terms) n x h = absurd (cc)
 expand_scoped (Compare r) (term s (term t no_terms)) n x h = compare_scoped r s t n x h
-expand_scoped (Compare r) (term s (term t (term u us))) n x h = absurd (cc)
-expand_scoped AllDifferent no_terms n x h = absurd (cc)
 expand_scoped AllDifferent (term l no_terms) n x h = different_scoped l n x h
-expand_scoped AllDifferent (term l (term u us)) n x h = absurd (cc)
-expand_scoped Element no_terms n x h = absurd (cc)
-expand_scoped Element (term i no_terms) n x h = absurd (cc)
-expand_scoped Element (term i (term l no_terms)) n x h = absurd (cc)
 expand_scoped Element (term i (term l (term v no_terms))) n x h = element_scoped i l v n x h
-expand_scoped Element (term i (term l (term v (term u us)))) n x h = absurd (cc)
-expand_scoped Atmost no_terms n x h = absurd (cc)
-expand_scoped Atmost (term m no_terms) n x h = absurd (cc)
-expand_scoped Atmost (term m (term l no_terms)) n x h = absurd (cc)
 expand_scoped Atmost (term m (term l (term v no_terms))) n x h = atmost_scoped m l v n x h
-expand_scoped Atmost (term m (term l (term v (term u us)))) n x h = absurd (cc)
+expand_scoped _ _ n x h = absurd (cc)
 
 pub scoped_rows : ScopedRows
 scoped_rows kind ts n x h = expand_scoped kind ts n x h

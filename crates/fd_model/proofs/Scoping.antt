@@ -89,10 +89,8 @@ module _ (n : ℕ) (es : List Equation) (s : Substitution) (g : IsMostGeneral es
   unifier_below x h = below_from (s x) (g.general grounded x (grounded_unifies es below g.unifies) ∙ grounded_low x h)
 
 option_below : (n : ℕ) (o : Option (List ℕ)) (x : ℕ) → x < n → TermBelow n (by_set o x)
-option_below n None x h = h
-option_below n (Some []) x h = h
 option_below n (Some (k ∷ [])) x h = tt
-option_below n (Some (k ∷ l ∷ ls)) x h = h
+option_below n _ x h = h
 
 -- what is seen in a branch
 pub look_below : (n : ℕ) (b : Branch) (s : Substitution) (D : Family) → IsMostGeneral b.equations s → EquationsBelow n b.equations → (x : ℕ) → x < n → TermBelow n (look_in b s D x)

@@ -73,7 +73,5 @@ module _ (M n : ℕ) (look : Substitution) where
 
 -- the arguments of a term
 pub arguments_below : (n : ℕ) (t : Term) → TermBelow n t → TermsBelow n (arguments t)
-arguments_below n (Var y) h = tt
-arguments_below n (Int z) h = tt
-arguments_below n (Atom a) h = tt
 arguments_below n (Comp f ts) h = h
+arguments_below n _ h = tt

@@ -93,21 +93,17 @@ module _ (M : ℕ) (prog : Program) (o : Order) (t : Term) (vs : List ℕ) (nv :
             let two : s x ≡ Var x = sym (ap (apply s) f) ∙ v.general.general s y v.general.unifies ∙ f in
             absurd (let same : Var y ≡ Var x = sym one ∙ two in let eq : y ≡ x = cc in omega arith)
       ]
-      plain_term y (Int z) h e f = absurd (cc)
-      plain_term y (Atom a) h e f = absurd (cc)
-      plain_term y (Comp g ts) h e f = absurd (cc)
+      plain_term y _ h e f = absurd (cc)
 
       -- the query's variables are left as they are
       pub plain_unifier : (y : ℕ) → y < nv → s y ≡ Var y
       plain_unifier y h = plain_term y (s y) h (v.general.general (leave s) y (unifies_leave s v.general.unifies) ∙ leave_low s y h) refl
 
       plain_by : (y : ℕ) (r : Option (List ℕ)) → set_at s D (constrained b.posted) y ≡ r → (by_set r y ≡ Var y) ⊎ ((n : ℕ) × (n ≤ M) × (by_set r y ≡ Int (pos n)))
-      plain_by y None e = inl refl
-      plain_by y (Some []) e = inl refl
       plain_by y (Some (n ∷ [])) e =
           let f = set_found s D y (constrained b.posted) (n ∷ []) e in
           inr (n, has_high 0 M (D f.variable) n (v.closed.family.rising f.variable) (subst (λ l. has l n ≡ true) (sym f.set) (first_member n [])), refl)
-      plain_by y (Some (n ∷ m ∷ ms)) e = inl refl
+      plain_by y _ e = inl refl
 
       pub plain : IsPlain M vs (look_in b s D)
       plain y h =

@@ -64,14 +64,10 @@ offer_once : (M : ℕ) (o p q : Offer) → KeptOffer M o p → KeptOffer M o q �
 offer_once M (Faults f) (Faults g) (Faults h) a b = ap Faults (sym a ∙ b)
 offer_once M (Faults f) (Faults g) (Gives cs) a b = absurd b
 offer_once M (Faults f) (Faults g) Awaited a b = absurd b
-offer_once M (Faults f) (Gives cs) q a b = absurd a
-offer_once M (Faults f) Awaited q a b = absurd a
-offer_once M (Gives bs) (Faults g) q a b = absurd a
 offer_once M (Gives bs) (Gives cs) (Faults g) a b = absurd b
 offer_once M (Gives bs) (Gives cs) (Gives ds) a b = ap Gives (kept_once M bs cs ds a b)
 offer_once M (Gives bs) (Gives cs) Awaited a b = absurd b
-offer_once M (Gives bs) Awaited q a b = absurd a
-offer_once M Awaited p q a b = absurd a
+offer_once _ _ _ q a b = absurd a
 
 module _ (M : ℕ) (prog : Program) (b : Branch) (s u : Substitution) (D E : Family) where
   -- a thing that is made from the view is one

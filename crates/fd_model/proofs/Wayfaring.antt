@@ -125,14 +125,10 @@ module _ (n : ℕ) where
   if_members false l f ms e = absurd (cc)
 
   pub list_below : (t : Term) (ms : List Member) → TermBelow n t → read_list t ≡ Ok ms → Low n (open_ones ms)
-  list_below (Var x) ms b e = absurd (cc)
-  list_below (Int z) ms b e = absurd (cc)
   list_below (Atom a) ms b e = let h = if_members (bytes_eq a (codes "[]")) (Ok []) _ ms e in let k : [] ≡ ms = cc in subst (λ l. Low n (open_ones l)) k (low_none n)
-  list_below (Comp f no_terms) ms b e = absurd (cc)
-  list_below (Comp f (term h no_terms)) ms b e = absurd (cc)
   list_below (Comp f (term h (term t no_terms))) ms b e =
       cell_below h (read_list t) ms b.0 (cell_of h (read_list t) ms (if_members (bytes_eq f (codes ".")) (with_element h (read_list t)) _ ms e)) (λ rest g. list_below t rest b.1.0 g)
-  list_below (Comp f (term h (term t (term v vs)))) ms b e = absurd (cc)
+  list_below _ ms b e = absurd (cc)
 
 first_there : (ms : List Member) (x : ℕ) → first_open ms ≡ Some x → has (open_ones ms) x ≡ true
 first_there [] x e = absurd (cc)
@@ -224,12 +220,7 @@ module _ (M : ℕ) (prog : Program) (scoped : ClausesScoped prog.clauses) where
 
     arguments_below : (n : ℕ) (t u : Term) → TermBelow n t → TermBelow n u → EquationsBelow n (argument_equations t u)
     arguments_below n (Comp f ts) (Comp h us) i k = paired_below n ts us i k
-    arguments_below n (Comp f ts) (Var x) i k = tt
-    arguments_below n (Comp f ts) (Int z) i k = tt
-    arguments_below n (Comp f ts) (Atom a) i k = tt
-    arguments_below n (Var x) u i k = tt
-    arguments_below n (Int z) u i k = tt
-    arguments_below n (Atom a) u i k = tt
+    arguments_below n _ _ i k = tt
 
     clause_tracked : (t : Term) (c : Clause) → TermBelow b.fresh t → TermBelow c.variables c.head → EachBelow c.variables c.body → IsTracked (by_clause b t rest c) ws
     clause_tracked t c h i k =
