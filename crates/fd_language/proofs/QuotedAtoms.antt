@@ -271,10 +271,7 @@ step_digits c from k v ds false true a b i =
 step_digits c from k v ds false false a b w = absurd w
 
 wanted : (ds : List ℕ) (place : Inside) (n m : ℕ) → quoted_front place n ds ≡ Token Quoted m → Wanted place ds
-wanted [] Between n m e = absurd (cc)
 wanted [] AfterQuote n m e = inl refl
-wanted [] (AfterBackslash from) n m e = absurd (cc)
-wanted [] (AfterDigits from k v) n m e = absurd (cc)
 wanted [] (Past p) n m e = tt
 wanted [] (Broken cause p) n m e = cc
 wanted (c ∷ ds) Between n m e = step_between c n ds (c == 39) (c == 92) (c == 10) refl refl refl (wanted ds (inside Between n c) (n + len_utf8 c) m e)
@@ -284,6 +281,7 @@ wanted (c ∷ ds) (AfterDigits from k v) n m e =
     step_digits c from k v ds (is_digit_of 16 c && nat_lt k 6) (names_character k v c) refl refl (wanted ds (inside (AfterDigits from k v) n c) (n + len_utf8 c) m e)
 wanted (c ∷ ds) (Past p) n m e = tt
 wanted (c ∷ ds) (Broken cause p) n m e = let f = front_broken cause p n (c ∷ ds) in cc
+wanted _ _ n m e = absurd (cc)
 
 -- ---- a text
 

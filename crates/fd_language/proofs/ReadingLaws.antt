@@ -83,7 +83,6 @@ syntax_or_deep text p q a b =
 
 pub one_verdict_of_reading : OneVerdictOfReading
 one_verdict_of_reading text (sentences ss) (sentences us) a b = ap sentences (sentences_once text ss us a b)
-one_verdict_of_reading text (sentences ss) (token_fault c q) a b = absurd (not_both a.tokens b)
 one_verdict_of_reading text (sentences ss) (syntax_fault q) a b = absurd (read_or_syntax text ss q a b)
 one_verdict_of_reading text (sentences ss) (too_deep q) a b = absurd (read_or_deep text ss q a b)
 one_verdict_of_reading text (token_fault c p) (sentences us) a b = absurd (not_both b.tokens a)
@@ -91,10 +90,9 @@ one_verdict_of_reading text (token_fault c p) (token_fault d q) a b = let same =
 one_verdict_of_reading text (token_fault c p) (syntax_fault q) a b = absurd (not_both b.tokens a)
 one_verdict_of_reading text (token_fault c p) (too_deep q) a b = absurd (not_both b.tokens a)
 one_verdict_of_reading text (syntax_fault p) (sentences us) a b = absurd (read_or_syntax text us p b a)
-one_verdict_of_reading text (syntax_fault p) (token_fault d q) a b = absurd (not_both a.tokens b)
 one_verdict_of_reading text (syntax_fault p) (syntax_fault q) a b = ap syntax_fault (syntax_once text p q a b)
 one_verdict_of_reading text (syntax_fault p) (too_deep q) a b = absurd (syntax_or_deep text p q a b)
 one_verdict_of_reading text (too_deep p) (sentences us) a b = absurd (read_or_deep text us p b a)
-one_verdict_of_reading text (too_deep p) (token_fault d q) a b = absurd (not_both a.tokens b)
 one_verdict_of_reading text (too_deep p) (syntax_fault q) a b = absurd (syntax_or_deep text q p b a)
 one_verdict_of_reading text (too_deep p) (too_deep q) a b = ap too_deep (deep_once text p q a b)
+one_verdict_of_reading text _ _ a b = absurd (not_both a.tokens b)

@@ -24,10 +24,8 @@ mutual
 -- the size of a term, at least 1
 mutual
   size : Term → ℕ
-  size (Var y) = 1
-  size (Int z) = 1
-  size (Atom a) = 1
   size (Comp f ts) = suc (sizes ts)
+  size _ = 1
 
   sizes : Terms → ℕ
   sizes no_terms = 0
@@ -87,10 +85,8 @@ mutual
   unfolding after
 
   after_is : (s : Substitution) (x : ℕ) (t r : Term) → apply (after s x t) r ≡ apply s (apply (bind x t) r)
-  after_is s x t (Var y) = refl
-  after_is s x t (Int z) = refl
-  after_is s x t (Atom a) = refl
   after_is s x t (Comp f rs) = ap (Comp f) (after_are s x t rs)
+  after_is s x t _ = refl
 
   after_are : (s : Substitution) (x : ℕ) (t : Term) (rs : Terms) → apply_all (after s x t) rs ≡ apply_all s (apply_all (bind x t) rs)
   after_are s x t no_terms = refl
@@ -249,15 +245,9 @@ turn (Var x) (Atom a) = bind_to x (Atom a) refl
 turn (Var x) (Comp f ts) = elim (cases_Bool (occurs_any x ts)) [ inl o ↦ fails (λ u e. occurs_check u x f ts o e) | inr o ↦ bind_to x (Comp f ts) o ]
 turn (Int z) (Var x) = swapped (Var x) (Int z) (bind_to x (Int z) refl)
 turn (Int z) (Int y) = elim (decide_int z y) [ inl e ↦ nothing (Int z) (Int y) (λ u. ap Int e) (omega arith) | inr n ↦ fails (λ u e. n (cc)) ]
-turn (Int z) (Atom a) = fails (λ u e. cc)
-turn (Int z) (Comp f ts) = fails (λ u e. cc)
 turn (Atom a) (Var x) = swapped (Var x) (Atom a) (bind_to x (Atom a) refl)
-turn (Atom a) (Int z) = fails (λ u e. cc)
 turn (Atom a) (Atom b) = elim (decide_name a b) [ inl e ↦ nothing (Atom a) (Atom b) (λ u. ap Atom e) (omega arith) | inr n ↦ fails (λ u e. n (cc)) ]
-turn (Atom a) (Comp f ts) = fails (λ u e. cc)
 turn (Comp f ts) (Var x) = swapped (Var x) (Comp f ts) (elim (cases_Bool (occurs_any x ts)) [ inl o ↦ fails (λ u e. occurs_check u x f ts o e) | inr o ↦ bind_to x (Comp f ts) o ])
-turn (Comp f ts) (Int z) = fails (λ u e. cc)
-turn (Comp f ts) (Atom a) = fails (λ u e. cc)
 turn (Comp f ts) (Comp g us) = elim (decide_name f g) [
   | inl e ↦ elim (pairs ts us) [
     | inl p ↦ simpler p.0 (record {
@@ -270,6 +260,7 @@ turn (Comp f ts) (Comp g us) = elim (decide_name f g) [
   ]
   | inr n ↦ fails (λ u h. n (cc))
 ]
+turn _ _ = fails (λ u e. cc)
 
 -- solved, one way or the other
 abbrev pub Solved : List Equation → Type 0

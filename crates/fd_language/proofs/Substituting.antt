@@ -11,10 +11,8 @@ mutual
   unfolding after
 
   pub after_is : (r s : Substitution) (t : Term) → apply (after r s) t ≡ apply r (apply s t)
-  after_is r s (Var x) = refl
-  after_is r s (Int z) = refl
-  after_is r s (Atom a) = refl
   after_is r s (Comp f ts) = ap (Comp f) (after_are r s ts)
+  after_is r s _ = refl
 
   pub after_are : (r s : Substitution) (ts : Terms) → apply_all (after r s) ts ≡ apply_all r (apply_all s ts)
   after_are r s no_terms = refl
@@ -59,10 +57,8 @@ number_back y z k (Comp f ts) e = absurd (cc)
 -- no equations: the identity is a most general unifier
 mutual
   apply_vars : (t : Term) → apply Var t ≡ t
-  apply_vars (Var x) = refl
-  apply_vars (Int n) = refl
-  apply_vars (Atom a) = refl
   apply_vars (Comp f ts) = ap (Comp f) (apply_all_vars ts)
+  apply_vars _ = refl
 
   apply_all_vars : (ts : Terms) → apply_all Var ts ≡ ts
   apply_all_vars no_terms = refl

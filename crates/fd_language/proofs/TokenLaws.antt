@@ -72,12 +72,9 @@ inside_grows (Past m) n c h w = w
 inside_grows (Broken cause m) n c h w = w
 
 quoted_end_grows : (place : Inside) (n : ℕ) → 0 < n → IsPast place → Grows (quoted_end place n)
-quoted_end_grows Between n h w = a_fault _ _
 quoted_end_grows AfterQuote n h w = a_token _ n h
-quoted_end_grows (AfterBackslash from) n h w = a_fault _ _
-quoted_end_grows (AfterDigits from k v) n h w = a_fault _ _
 quoted_end_grows (Past m) n h w = a_token _ m w.by
-quoted_end_grows (Broken cause m) n h w = a_fault _ _
+quoted_end_grows _ n h w = a_fault _ _
 
 quoted_grows : (place : Inside) (n : ℕ) (cs : List ℕ) → 0 < n → IsPast place → Grows (quoted_front place n cs)
 quoted_grows place n [] h w = quoted_end_grows place n h w
