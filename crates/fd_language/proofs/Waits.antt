@@ -4,13 +4,13 @@ use Rattle.std.proofs.lemmas.Bool.{true≢false, not-true, not-false}
 use Rattle.fd_language.specs.declared.range_node.RangeNode.{RangeNode}
 use Rattle.fd_language.specs.declared.range_node.RangeNode.TheVariants as node
 use Rattle.fd_language.specs.Range.{Range, Span, One, Dom, Union, Inter, Outside, Plus, Minus, Times, Over, Expr, Number, Infinity, Param, Min, Max, Val, Add, Sub, Mul, DivDown, DivUp}
-use Rattle.fd_language.specs.Flat.{Shape, term_alone, term_of_terms, range_alone, range_of_term, range_of_terms, range_of_range, range_of_ranges, range_of_both, shape_of, put, going_on, expr_nodes, range_nodes, nodes_of, built, builds_range, IsSpelled, spelled, spelled-nodes}
+use Rattle.fd_language.specs.Flat.{Shape, term_alone, term_of_terms, range_alone, range_of_term, range_of_terms, range_of_range, range_of_ranges, range_of_both, shape_of, put, built_behind, expr_nodes, range_nodes, nodes_of, built, builds_range, IsSpelled, spelled, spelled-nodes}
 use Rattle.std.proofs.lemmas.List.{at_drop_more, drop_all}
 use Rattle.fd_language.specs.Counts.{taken, takes, IsReached}
 use Rattle.fd_language.specs.declared.counting.Operands.{Operands}
 
 -- a term is built where there are enough terms
-term_put : (s : Shape) (ns : List RangeNode) (rs : List Range) (ts : List Expr) → (taken s).gives_range ≡ false → (taken s).terms ≤ length ts → IsReached (going_on (λ us vs. built ns us vs) (put s rs ts)) ns (length rs) (length ts - (taken s).terms + 1)
+term_put : (s : Shape) (ns : List RangeNode) (rs : List Range) (ts : List Expr) → (taken s).gives_range ≡ false → (taken s).terms ≤ length ts → IsReached (built_behind ns (put s rs ts)) ns (length rs) (length ts - (taken s).terms + 1)
 term_put (term_alone e) ns rs ts g h = (rs, e ∷ ts, refl, omega arith, refl)
 term_put (term_of_terms make) ns rs [] g h = absurd (omega arith)
 term_put (term_of_terms make) ns rs (b ∷ []) g h = absurd (omega arith)
@@ -19,7 +19,7 @@ term_put s ns rs ts g h = absurd (true≢false g)
 
 -- a range is built where there are just as many terms, and enough ranges
 range_put : (s : Shape) (ns : List RangeNode) (rs : List Range) (ts : List Expr) → (taken s).gives_range ≡ true → length ts ≡ (taken s).terms → (taken s).ranges ≤ length rs
-    → IsReached (going_on (λ us vs. built ns us vs) (put s rs ts)) ns (length rs - (taken s).ranges + 1) 0
+    → IsReached (built_behind ns (put s rs ts)) ns (length rs - (taken s).ranges + 1) 0
 range_put (term_alone e) ns rs ts g t h = absurd (true≢false (sym g))
 range_put (term_of_terms make) ns rs ts g t h = absurd (true≢false (sym g))
 range_put (range_alone r) ns rs [] g t h = (r ∷ rs, [], omega arith, refl, refl)
@@ -116,7 +116,7 @@ abbrev nodes_then : List Range → List Expr → List RangeNode → List RangeNo
 nodes_then rs ts ns = ranges_then rs (terms_then ts ns)
 
 put_spells : (n : RangeNode) (s : Shape) → StandsBehind n s → (ns : List RangeNode) → ((us : List Range) (vs : List Expr) → Spells (built ns us vs) (nodes_then us vs ns)) → (rs : List Range) (ts : List Expr)
-    → Spells (going_on (λ us vs. built ns us vs) (put s rs ts)) (nodes_then rs ts (n ∷ ns))
+    → Spells (built_behind ns (put s rs ts)) (nodes_then rs ts (n ∷ ns))
 put_spells n (term_alone e) f ns h rs ts = subst (λ l. Spells (built ns rs (e ∷ ts)) (nodes_then rs ts l)) (f ns) (h rs (e ∷ ts))
 put_spells n (term_of_terms make) f ns h rs (b ∷ a ∷ ts) = subst (λ l. Spells (built ns rs (make a b ∷ ts)) (nodes_then rs ts l)) (f a b ns) (h rs (make a b ∷ ts))
 put_spells n (range_alone r) f ns h rs [] = subst (λ l. Spells (built ns (r ∷ rs) []) (ranges_then rs l)) (f ns) (h (r ∷ rs) [])
@@ -177,14 +177,14 @@ after_range n o ranges terms e f l i ns rs ts h g =
 pub after_few : (n : RangeNode) (o : Operands) (ranges terms : ℕ) → o ≡ takes n → ranges < o.ranges ⊎ terms < o.terms →
     (ns : List RangeNode) (rs : List Range) (ts : List Expr) → length rs ≡ ranges → length ts ≡ terms → built (n ∷ ns) rs ts ≡ None
 after_few n o ranges terms e l ns rs ts h g = elim l [
-  | inl k ↦ ap (going_on (λ us vs. built ns us vs)) (few_ranges (shape_of n) rs ts (subst (λ q. length rs < q.ranges) e (subst (λ m. m < o.ranges) (sym h) k)))
-  | inr k ↦ ap (going_on (λ us vs. built ns us vs)) (few_terms (shape_of n) rs ts (subst (λ q. length ts < q.terms) e (subst (λ m. m < o.terms) (sym g) k)))
+  | inl k ↦ ap (built_behind ns) (few_ranges (shape_of n) rs ts (subst (λ q. length rs < q.ranges) e (subst (λ m. m < o.ranges) (sym h) k)))
+  | inr k ↦ ap (built_behind ns) (few_terms (shape_of n) rs ts (subst (λ q. length ts < q.terms) e (subst (λ m. m < o.terms) (sym g) k)))
 ]
 
 pub after_more : (n : RangeNode) (o : Operands) (ranges terms : ℕ) → o ≡ takes n → not o.gives_range ≡ false → o.terms < terms →
     (ns : List RangeNode) (rs : List Range) (ts : List Expr) → length rs ≡ ranges → length ts ≡ terms → built (n ∷ ns) rs ts ≡ None
 after_more n o ranges terms e f l ns rs ts h g =
-    ap (going_on (λ us vs. built ns us vs)) (more_terms (shape_of n) rs ts (ap (λ q. q.gives_range) (sym e) ∙ not-false o.gives_range f) (subst (λ q. q.terms < length ts) e (subst (λ m. o.terms < m) (sym g) l)))
+    ap (built_behind ns) (more_terms (shape_of n) rs ts (ap (λ q. q.gives_range) (sym e) ∙ not-false o.gives_range f) (subst (λ q. q.terms < length ts) e (subst (λ m. o.terms < m) (sym g) l)))
 
 pub ends_none : (ns : List RangeNode) (i : ℕ) (d : RangeNode) (ranges terms : ℕ) → i < length ns → IsReached (built ns [] []) (drop i ns) ranges terms →
     ((ms : List RangeNode) (rs : List Range) (ts : List Expr) → length rs ≡ ranges → length ts ≡ terms → built (get_or ns i d ∷ ms) rs ts ≡ None) →

@@ -88,6 +88,10 @@ built [] (r ∷ []) [] = Some r
 built [] rs ts = None
 built (n ∷ ns) rs ts = going_on (λ us vs. built ns us vs) (put (shape_of n) rs ts)
 
+-- behind a node
+abbrev pub built_behind : List RangeNode → Option Stack → Option Range
+built_behind ns w = going_on (λ us vs. built ns us vs) w
+
 abbrev pub or_infinity : Option Range → Range
 or_infinity (Some r) = r
 or_infinity None = One Infinity

@@ -4,7 +4,6 @@ pub mod Leaves
 pub mod Operators
 pub mod Ranges
 pub mod Reading
-pub mod Sizes
 pub mod Walks
 pub mod Clashes
 pub mod Whole

@@ -6,12 +6,12 @@ use Rattle.fd_language.specs.declared.TheConstants.{INFINITY}
 use Rattle.fd_language.specs.declared.range_node.RangeNode.{RangeNode}
 use Rattle.fd_language.specs.declared.range_node.RangeNode.TheVariants as node
 use Rattle.fd_language.specs.Range.{Range, Span, One, Dom, Union, Inter, Outside, Plus, Minus, Times, Over, Expr, Number, Infinity, Param, Min, Max, Val, Add, Sub, Mul, DivDown, DivUp}
-use Rattle.fd_language.specs.Flat.{built}
+use Rattle.fd_language.specs.Flat.{term_alone, term_of_terms, range_of_ranges, range_of_both, put, built, built_behind}
 use Rattle.fd_language.specs.RangeVerdict.{expr_size, range_size}
 use Rattle.monotone_check.specs.declared.summary.TermCheck.{TermCheck}
 use Rattle.monotone_check.specs.declared.summary.RangeCheck.{RangeCheck}
 use Rattle.monotone_check.specs.declared.pending.Pending.{Pending}
-use Rattle.monotone_check.specs.Summary.{IsTerm, IsRange}
+use Rattle.monotone_check.specs.Summary.{IsTerm, IsRange, IsLeaf, IsOperated, IsCombined, IsPointwise}
 use Rattle.monotone_check.specs.Waiting.{AreTerms, AreRanges, before_terms, IsPending, Follows}
 use Rattle.monotone_check.specs.Steps.{PushesLeaf, PushesOperated, PushesSpan, PushesSingle, PushesDomain, PushesCombined, PushesComplement, PushesPointwise}
 use Rattle.monotone_check.proofs.Operators.{add_is, sub_is, mul_is, div_down_is, div_up_is}
@@ -53,88 +53,25 @@ module _ (at : ℕ → ℕ) (n : ℕ) (ns : List RangeNode) (old new : Pending) 
     here : (m : ℕ) → m ≡ 1 → n ≡ suc n - m
     here m h = omega arith
 
-  pub read_int : (z : ℤ) (rs : List Range) (ts : List Expr) → IsPending INFINITY at n rs ts old → PushesLeaf (node.Int z) (at n) old new → Follows INFINITY at n ns (built (node.Int z ∷ ns) rs ts) new
-  read_int z rs ts p (s, i, j, t) = follows INFINITY at n ns rs (Number z ∷ ts) (built ns rs (Number z ∷ ts)) new refl (leaf_at rs ts (Number z) s refl p i j (t.leaf at n refl))
+  read_leaf : (m : RangeNode) (e : Expr) → expr_size e ≡ 1 → ((s : TermCheck) → IsLeaf INFINITY m (at n) s → IsTerm INFINITY at n e s) → (rs : List Range) (ts : List Expr) → IsPending INFINITY at n rs ts old → PushesLeaf m (at n) old new
+      → Follows INFINITY at n ns (built_behind ns (put (term_alone e) rs ts)) new
+  read_leaf m e one is rs ts p (s, i, j, t) = follows INFINITY at n ns rs (e ∷ ts) (built ns rs (e ∷ ts)) new refl (leaf_at rs ts e s one p i j (is s t))
 
-  pub read_infinity : (rs : List Range) (ts : List Expr) → IsPending INFINITY at n rs ts old → PushesLeaf node.Infinity (at n) old new → Follows INFINITY at n ns (built (node.Infinity ∷ ns) rs ts) new
-  read_infinity rs ts p (s, i, j, t) = follows INFINITY at n ns rs (Infinity ∷ ts) (built ns rs (Infinity ∷ ts)) new refl (leaf_at rs ts Infinity s refl p i j (t.leaf at n refl))
-
-  pub read_param : (x : ℕ) (rs : List Range) (ts : List Expr) → IsPending INFINITY at n rs ts old → PushesLeaf (node.Param x) (at n) old new → Follows INFINITY at n ns (built (node.Param x ∷ ns) rs ts) new
-  read_param x rs ts p (s, i, j, t) = follows INFINITY at n ns rs (Param x ∷ ts) (built ns rs (Param x ∷ ts)) new refl (leaf_at rs ts (Param x) s refl p i j (t.leaf at n refl))
-
-  pub read_min : (y : ℕ) (rs : List Range) (ts : List Expr) → IsPending INFINITY at n rs ts old → PushesLeaf (node.Min y) (at n) old new → Follows INFINITY at n ns (built (node.Min y ∷ ns) rs ts) new
-  read_min y rs ts p (s, i, j, t) = follows INFINITY at n ns rs (Min y ∷ ts) (built ns rs (Min y ∷ ts)) new refl (leaf_at rs ts (Min y) s refl p i j (t.leaf at n refl))
-
-  pub read_max : (y : ℕ) (rs : List Range) (ts : List Expr) → IsPending INFINITY at n rs ts old → PushesLeaf (node.Max y) (at n) old new → Follows INFINITY at n ns (built (node.Max y ∷ ns) rs ts) new
-  read_max y rs ts p (s, i, j, t) = follows INFINITY at n ns rs (Max y ∷ ts) (built ns rs (Max y ∷ ts)) new refl (leaf_at rs ts (Max y) s refl p i j (t.leaf at n refl))
-
-  pub read_val : (y : ℕ) (rs : List Range) (ts : List Expr) → IsPending INFINITY at n rs ts old → PushesLeaf (node.Val y) (at n) old new → Follows INFINITY at n ns (built (node.Val y ∷ ns) rs ts) new
-  read_val y rs ts p (s, i, j, t) = follows INFINITY at n ns rs (Val y ∷ ts) (built ns rs (Val y ∷ ts)) new refl (leaf_at rs ts (Val y) s refl p i j (t.leaf at n refl))
-
-  pub read_add : (rs : List Range) (ts : List Expr) → IsPending INFINITY at n rs ts old → PushesOperated node.Add (at n) old new → Follows INFINITY at n ns (built (node.Add ∷ ns) rs ts) new
-  read_add rs [] p f = tt
-  read_add rs (b ∷ []) p f = tt
-  read_add rs (b ∷ a ∷ ts) p f =
+  -- an operator of two terms, that makes as many nodes as its operands have and one
+  read_operator : (m : RangeNode) (make : Expr → Expr → Expr) → ((a b : Expr) → expr_size (make a b) ≡ suc (expr_size a + expr_size b))
+      → ((a b : Expr) (s t u : TermCheck) → IsTerm INFINITY at (n - 1 - expr_size b) a s → IsTerm INFINITY at (n - 1) b t → IsOperated INFINITY m s t (at n) u → IsTerm INFINITY at n (make a b) u)
+      → (rs : List Range) (ts : List Expr) → IsPending INFINITY at n rs ts old → PushesOperated m (at n) old new → Follows INFINITY at n ns (built_behind ns (put (term_of_terms make) rs ts)) new
+  read_operator m make size is rs [] p f = tt
+  read_operator m make size is rs (b ∷ []) p f = tt
+  read_operator m make size is rs (b ∷ a ∷ ts) p f =
       let (front, t, e, j, more) = p.terms in
       let (front2, s, g, i, rest) = more in
       let r = p.ranges in
       let made = f front2 s t (e ∙ ap (λ l. l ++ t ∷ []) g) in
-      follows INFINITY at n ns rs (Add a b ∷ ts) (built ns rs (Add a b ∷ ts)) new refl
-      (put_term rs ts front2 (Add a b) made.0 ((n - expr_size b) - expr_size a) made.1
-      (add_is INFINITY at n a b s t made.0 (subst (λ k. IsTerm INFINITY at k a s) (swapped n (expr_size b)) i) j made.3)
-      (two_less n (expr_size a) (expr_size b)) rest (subst (λ l. AreRanges INFINITY at (before_terms n (b ∷ a ∷ ts)) rs l) (sym made.2) r))
-
-  pub read_sub : (rs : List Range) (ts : List Expr) → IsPending INFINITY at n rs ts old → PushesOperated node.Sub (at n) old new → Follows INFINITY at n ns (built (node.Sub ∷ ns) rs ts) new
-  read_sub rs [] p f = tt
-  read_sub rs (b ∷ []) p f = tt
-  read_sub rs (b ∷ a ∷ ts) p f =
-      let (front, t, e, j, more) = p.terms in
-      let (front2, s, g, i, rest) = more in
-      let r = p.ranges in
-      let made = f front2 s t (e ∙ ap (λ l. l ++ t ∷ []) g) in
-      follows INFINITY at n ns rs (Sub a b ∷ ts) (built ns rs (Sub a b ∷ ts)) new refl
-      (put_term rs ts front2 (Sub a b) made.0 ((n - expr_size b) - expr_size a) made.1
-      (sub_is INFINITY at n a b s t made.0 (subst (λ k. IsTerm INFINITY at k a s) (swapped n (expr_size b)) i) j made.3)
-      (two_less n (expr_size a) (expr_size b)) rest (subst (λ l. AreRanges INFINITY at (before_terms n (b ∷ a ∷ ts)) rs l) (sym made.2) r))
-
-  pub read_mul : (rs : List Range) (ts : List Expr) → IsPending INFINITY at n rs ts old → PushesOperated node.Mul (at n) old new → Follows INFINITY at n ns (built (node.Mul ∷ ns) rs ts) new
-  read_mul rs [] p f = tt
-  read_mul rs (b ∷ []) p f = tt
-  read_mul rs (b ∷ a ∷ ts) p f =
-      let (front, t, e, j, more) = p.terms in
-      let (front2, s, g, i, rest) = more in
-      let r = p.ranges in
-      let made = f front2 s t (e ∙ ap (λ l. l ++ t ∷ []) g) in
-      follows INFINITY at n ns rs (Mul a b ∷ ts) (built ns rs (Mul a b ∷ ts)) new refl
-      (put_term rs ts front2 (Mul a b) made.0 ((n - expr_size b) - expr_size a) made.1
-      (mul_is INFINITY at n a b s t made.0 (subst (λ k. IsTerm INFINITY at k a s) (swapped n (expr_size b)) i) j made.3)
-      (two_less n (expr_size a) (expr_size b)) rest (subst (λ l. AreRanges INFINITY at (before_terms n (b ∷ a ∷ ts)) rs l) (sym made.2) r))
-
-  pub read_div_down : (rs : List Range) (ts : List Expr) → IsPending INFINITY at n rs ts old → PushesOperated node.DivDown (at n) old new → Follows INFINITY at n ns (built (node.DivDown ∷ ns) rs ts) new
-  read_div_down rs [] p f = tt
-  read_div_down rs (b ∷ []) p f = tt
-  read_div_down rs (b ∷ a ∷ ts) p f =
-      let (front, t, e, j, more) = p.terms in
-      let (front2, s, g, i, rest) = more in
-      let r = p.ranges in
-      let made = f front2 s t (e ∙ ap (λ l. l ++ t ∷ []) g) in
-      follows INFINITY at n ns rs (DivDown a b ∷ ts) (built ns rs (DivDown a b ∷ ts)) new refl
-      (put_term rs ts front2 (DivDown a b) made.0 ((n - expr_size b) - expr_size a) made.1
-      (div_down_is INFINITY at n a b s t made.0 (subst (λ k. IsTerm INFINITY at k a s) (swapped n (expr_size b)) i) j made.3)
-      (two_less n (expr_size a) (expr_size b)) rest (subst (λ l. AreRanges INFINITY at (before_terms n (b ∷ a ∷ ts)) rs l) (sym made.2) r))
-
-  pub read_div_up : (rs : List Range) (ts : List Expr) → IsPending INFINITY at n rs ts old → PushesOperated node.DivUp (at n) old new → Follows INFINITY at n ns (built (node.DivUp ∷ ns) rs ts) new
-  read_div_up rs [] p f = tt
-  read_div_up rs (b ∷ []) p f = tt
-  read_div_up rs (b ∷ a ∷ ts) p f =
-      let (front, t, e, j, more) = p.terms in
-      let (front2, s, g, i, rest) = more in
-      let r = p.ranges in
-      let made = f front2 s t (e ∙ ap (λ l. l ++ t ∷ []) g) in
-      follows INFINITY at n ns rs (DivUp a b ∷ ts) (built ns rs (DivUp a b ∷ ts)) new refl
-      (put_term rs ts front2 (DivUp a b) made.0 ((n - expr_size b) - expr_size a) made.1
-      (div_up_is INFINITY at n a b s t made.0 (subst (λ k. IsTerm INFINITY at k a s) (swapped n (expr_size b)) i) j made.3)
-      (two_less n (expr_size a) (expr_size b)) rest (subst (λ l. AreRanges INFINITY at (before_terms n (b ∷ a ∷ ts)) rs l) (sym made.2) r))
+      follows INFINITY at n ns rs (make a b ∷ ts) (built ns rs (make a b ∷ ts)) new refl
+      (put_term rs ts front2 (make a b) made.0 ((n - expr_size b) - expr_size a) made.1
+      (is a b s t made.0 (subst (λ k. IsTerm INFINITY at k a s) (swapped n (expr_size b)) i) j made.3)
+      (two_less n (expr_size a) (expr_size b) ∙ ap (λ k. suc n - k) (sym (size a b))) rest (subst (λ l. AreRanges INFINITY at (before_terms n (b ∷ a ∷ ts)) rs l) (sym made.2) r))
 
   pub read_span : (rs : List Range) (ts : List Expr) → IsPending INFINITY at n rs ts old → PushesSpan old new → Follows INFINITY at n ns (built (node.Span ∷ ns) rs ts) new
   read_span rs [] p f = tt
@@ -169,37 +106,24 @@ module _ (at : ℕ → ℕ) (n : ℕ) (ns : List RangeNode) (old new : Pending) 
       same : (m : ℕ) → m ≡ suc m - 1
       same m = omega arith
 
-  pub read_union : (rs : List Range) (ts : List Expr) → IsPending INFINITY at n rs ts old → PushesCombined old new → Follows INFINITY at n ns (built (node.Union ∷ ns) rs ts) new
-  read_union [] [] p f = tt
-  read_union (q ∷ []) [] p f = tt
-  read_union [] (a ∷ ts) p f = tt
-  read_union (q ∷ []) (a ∷ ts) p f = tt
-  read_union (q ∷ r ∷ rs) (a ∷ ts) p f = tt
-  read_union (q ∷ r ∷ rs) [] p f =
+  -- an operator of two ranges
+  read_combined : (make : Range → Range → Range) → ((r q : Range) → range_size (make r q) ≡ suc (range_size r + range_size q))
+      → ((r q : Range) (s t u : RangeCheck) → IsRange INFINITY at (n - 1 - range_size q) r s → IsRange INFINITY at (n - 1) q t → IsCombined s t u → IsRange INFINITY at n (make r q) u)
+      → (rs : List Range) (ts : List Expr) → IsPending INFINITY at n rs ts old → PushesCombined old new → Follows INFINITY at n ns (built_behind ns (put (range_of_ranges make) rs ts)) new
+  read_combined make size is [] [] p f = tt
+  read_combined make size is (q ∷ []) [] p f = tt
+  read_combined make size is [] (a ∷ ts) p f = tt
+  read_combined make size is (q ∷ []) (a ∷ ts) p f = tt
+  read_combined make size is (q ∷ r ∷ rs) (a ∷ ts) p f = tt
+  read_combined make size is (q ∷ r ∷ rs) [] p f =
       let none = p.terms in
       let (front, t, e, j, more) = p.ranges in
       let (front2, s, g, i, rest) = more in
       let made = f front2 s t (e ∙ ap (λ l. l ++ t ∷ []) g) in
-      follows INFINITY at n ns (Union r q ∷ rs) [] (built ns (Union r q ∷ rs) []) new refl
-      (put_range rs front2 (Union r q) made.0 ((n - range_size q) - range_size r) (made.1 ∙ none) made.2
-      (union_is INFINITY at n r q s t made.0 (subst (λ k. IsRange INFINITY at k r s) (swapped n (range_size q)) i) j made.3)
-      (two_less n (range_size r) (range_size q)) rest)
-
-  pub read_inter : (rs : List Range) (ts : List Expr) → IsPending INFINITY at n rs ts old → PushesCombined old new → Follows INFINITY at n ns (built (node.Inter ∷ ns) rs ts) new
-  read_inter [] [] p f = tt
-  read_inter (q ∷ []) [] p f = tt
-  read_inter [] (a ∷ ts) p f = tt
-  read_inter (q ∷ []) (a ∷ ts) p f = tt
-  read_inter (q ∷ r ∷ rs) (a ∷ ts) p f = tt
-  read_inter (q ∷ r ∷ rs) [] p f =
-      let none = p.terms in
-      let (front, t, e, j, more) = p.ranges in
-      let (front2, s, g, i, rest) = more in
-      let made = f front2 s t (e ∙ ap (λ l. l ++ t ∷ []) g) in
-      follows INFINITY at n ns (Inter r q ∷ rs) [] (built ns (Inter r q ∷ rs) []) new refl
-      (put_range rs front2 (Inter r q) made.0 ((n - range_size q) - range_size r) (made.1 ∙ none) made.2
-      (inter_is INFINITY at n r q s t made.0 (subst (λ k. IsRange INFINITY at k r s) (swapped n (range_size q)) i) j made.3)
-      (two_less n (range_size r) (range_size q)) rest)
+      follows INFINITY at n ns (make r q ∷ rs) [] (built ns (make r q ∷ rs) []) new refl
+      (put_range rs front2 (make r q) made.0 ((n - range_size q) - range_size r) (made.1 ∙ none) made.2
+      (is r q s t made.0 (subst (λ k. IsRange INFINITY at k r s) (swapped n (range_size q)) i) j made.3)
+      (two_less n (range_size r) (range_size q) ∙ ap (λ k. suc n - k) (sym (size r q))) rest)
 
   pub read_outside : (rs : List Range) (ts : List Expr) → IsPending INFINITY at n rs ts old → PushesComplement old new → Follows INFINITY at n ns (built (node.Outside ∷ ns) rs ts) new
   read_outside [] [] p f = tt
@@ -212,65 +136,23 @@ module _ (at : ℕ → ℕ) (n : ℕ) (ns : List RangeNode) (old new : Pending) 
       follows INFINITY at n ns (Outside r ∷ rs) [] (built ns (Outside r ∷ rs) []) new refl
       (put_range rs front (Outside r) made.0 (n - range_size r) (made.1 ∙ none) made.2 (outside_is INFINITY at n r s made.0 i made.3) (less n (range_size r)) rest)
 
-  pub read_plus : (rs : List Range) (ts : List Expr) → IsPending INFINITY at n rs ts old → PushesPointwise node.Plus (at n) old new → Follows INFINITY at n ns (built (node.Plus ∷ ns) rs ts) new
-  read_plus [] [] p f = tt
-  read_plus [] (a ∷ []) p f = tt
-  read_plus [] (b ∷ a ∷ ts) p f = tt
-  read_plus (r ∷ rs) [] p f = tt
-  read_plus (r ∷ rs) (b ∷ a ∷ ts) p f = tt
-  read_plus (r ∷ rs) (c ∷ []) p f =
+  -- an operator of a range and a term
+  read_pointwise : (m : RangeNode) (make : Range → Expr → Range) → ((r : Range) (c : Expr) → range_size (make r c) ≡ suc (range_size r + expr_size c))
+      → ((r : Range) (c : Expr) (s : RangeCheck) (t : TermCheck) (u : RangeCheck) → IsRange INFINITY at (n - 1 - expr_size c) r s → IsTerm INFINITY at (n - 1) c t → IsPointwise INFINITY m s t (at n) u → IsRange INFINITY at n (make r c) u)
+      → (rs : List Range) (ts : List Expr) → IsPending INFINITY at n rs ts old → PushesPointwise m (at n) old new → Follows INFINITY at n ns (built_behind ns (put (range_of_both make) rs ts)) new
+  read_pointwise m make size is [] [] p f = tt
+  read_pointwise m make size is [] (a ∷ []) p f = tt
+  read_pointwise m make size is [] (b ∷ a ∷ ts) p f = tt
+  read_pointwise m make size is (r ∷ rs) [] p f = tt
+  read_pointwise m make size is (r ∷ rs) (b ∷ a ∷ ts) p f = tt
+  read_pointwise m make size is (r ∷ rs) (c ∷ []) p f =
       let (before, t, e, j, none) = p.terms in
       let (front, s, g, i, rest) = p.ranges in
       let made = f before front s t e g in
-      follows INFINITY at n ns (Plus r c ∷ rs) [] (built ns (Plus r c ∷ rs) []) new refl
-      (put_range rs front (Plus r c) made.0 ((n - expr_size c) - range_size r) (made.1 ∙ none) made.2
-      (plus_is INFINITY at n r c s t made.0 (subst (λ k. IsRange INFINITY at k r s) (swapped n (expr_size c)) i) j made.3)
-      (two_less n (range_size r) (expr_size c)) rest)
-
-  pub read_minus : (rs : List Range) (ts : List Expr) → IsPending INFINITY at n rs ts old → PushesPointwise node.Minus (at n) old new → Follows INFINITY at n ns (built (node.Minus ∷ ns) rs ts) new
-  read_minus [] [] p f = tt
-  read_minus [] (a ∷ []) p f = tt
-  read_minus [] (b ∷ a ∷ ts) p f = tt
-  read_minus (r ∷ rs) [] p f = tt
-  read_minus (r ∷ rs) (b ∷ a ∷ ts) p f = tt
-  read_minus (r ∷ rs) (c ∷ []) p f =
-      let (before, t, e, j, none) = p.terms in
-      let (front, s, g, i, rest) = p.ranges in
-      let made = f before front s t e g in
-      follows INFINITY at n ns (Minus r c ∷ rs) [] (built ns (Minus r c ∷ rs) []) new refl
-      (put_range rs front (Minus r c) made.0 ((n - expr_size c) - range_size r) (made.1 ∙ none) made.2
-      (minus_is INFINITY at n r c s t made.0 (subst (λ k. IsRange INFINITY at k r s) (swapped n (expr_size c)) i) j made.3)
-      (two_less n (range_size r) (expr_size c)) rest)
-
-  pub read_times : (rs : List Range) (ts : List Expr) → IsPending INFINITY at n rs ts old → PushesPointwise node.Times (at n) old new → Follows INFINITY at n ns (built (node.Times ∷ ns) rs ts) new
-  read_times [] [] p f = tt
-  read_times [] (a ∷ []) p f = tt
-  read_times [] (b ∷ a ∷ ts) p f = tt
-  read_times (r ∷ rs) [] p f = tt
-  read_times (r ∷ rs) (b ∷ a ∷ ts) p f = tt
-  read_times (r ∷ rs) (c ∷ []) p f =
-      let (before, t, e, j, none) = p.terms in
-      let (front, s, g, i, rest) = p.ranges in
-      let made = f before front s t e g in
-      follows INFINITY at n ns (Times r c ∷ rs) [] (built ns (Times r c ∷ rs) []) new refl
-      (put_range rs front (Times r c) made.0 ((n - expr_size c) - range_size r) (made.1 ∙ none) made.2
-      (times_is INFINITY at n r c s t made.0 (subst (λ k. IsRange INFINITY at k r s) (swapped n (expr_size c)) i) j made.3)
-      (two_less n (range_size r) (expr_size c)) rest)
-
-  pub read_over : (rs : List Range) (ts : List Expr) → IsPending INFINITY at n rs ts old → PushesPointwise node.Over (at n) old new → Follows INFINITY at n ns (built (node.Over ∷ ns) rs ts) new
-  read_over [] [] p f = tt
-  read_over [] (a ∷ []) p f = tt
-  read_over [] (b ∷ a ∷ ts) p f = tt
-  read_over (r ∷ rs) [] p f = tt
-  read_over (r ∷ rs) (b ∷ a ∷ ts) p f = tt
-  read_over (r ∷ rs) (c ∷ []) p f =
-      let (before, t, e, j, none) = p.terms in
-      let (front, s, g, i, rest) = p.ranges in
-      let made = f before front s t e g in
-      follows INFINITY at n ns (Over r c ∷ rs) [] (built ns (Over r c ∷ rs) []) new refl
-      (put_range rs front (Over r c) made.0 ((n - expr_size c) - range_size r) (made.1 ∙ none) made.2
-      (over_is INFINITY at n r c s t made.0 (subst (λ k. IsRange INFINITY at k r s) (swapped n (expr_size c)) i) j made.3)
-      (two_less n (range_size r) (expr_size c)) rest)
+      follows INFINITY at n ns (make r c ∷ rs) [] (built ns (make r c ∷ rs) []) new refl
+      (put_range rs front (make r c) made.0 ((n - expr_size c) - range_size r) (made.1 ∙ none) made.2
+      (is r c s t made.0 (subst (λ k. IsRange INFINITY at k r s) (swapped n (expr_size c)) i) j made.3)
+      (two_less n (range_size r) (expr_size c) ∙ ap (λ k. suc n - k) (sym (size r c))) rest)
 
 -- the same for each kind of node that the code tells apart
 abbrev pub Taken : RangeNode → ℕ → Pending → Pending → Type 0
@@ -283,10 +165,10 @@ placed m place old new P f k e h = λ at n ns rs ts i p.
     subst (λ j. Follows INFINITY at n ns (built (j ∷ ns) rs ts) new) (sym e) (f at n ns rs ts p (subst (λ q. P m q old new) (sym i) (subst (λ j. P j place old new) e h)))
 
 pub leaf_taken : (m : RangeNode) (place : ℕ) (old new : Pending) → (((z : ℤ) × (m ≡ node.Int z)) ⊎ ((m ≡ node.Infinity) ⊎ (((x : ℕ) × (m ≡ node.Param x)) ⊎ (((y : ℕ) × (m ≡ node.Min y)) ⊎ (((y : ℕ) × (m ≡ node.Max y)) ⊎ ((y : ℕ) × (m ≡ node.Val y))))))) → PushesLeaf m place old new → Taken m place old new
-leaf_taken m place old new is f = elim is [ inl e0 ↦ placed (node.Int e0.0) place old new PushesLeaf (λ at n ns rs ts. read_int at n ns old new e0.0 rs ts) m e0.1 f | inr h0 ↦ elim h0 [ inl e1 ↦ placed node.Infinity place old new PushesLeaf (λ at n ns rs ts. read_infinity at n ns old new rs ts) m e1 f | inr h1 ↦ elim h1 [ inl e2 ↦ placed (node.Param e2.0) place old new PushesLeaf (λ at n ns rs ts. read_param at n ns old new e2.0 rs ts) m e2.1 f | inr h2 ↦ elim h2 [ inl e3 ↦ placed (node.Min e3.0) place old new PushesLeaf (λ at n ns rs ts. read_min at n ns old new e3.0 rs ts) m e3.1 f | inr h3 ↦ elim h3 [ inl e4 ↦ placed (node.Max e4.0) place old new PushesLeaf (λ at n ns rs ts. read_max at n ns old new e4.0 rs ts) m e4.1 f | inr h4 ↦ placed (node.Val h4.0) place old new PushesLeaf (λ at n ns rs ts. read_val at n ns old new h4.0 rs ts) m h4.1 f ] ] ] ] ]
+leaf_taken m place old new is f = elim is [ inl e0 ↦ placed (node.Int e0.0) place old new PushesLeaf (λ at n ns rs ts. read_leaf at n ns old new (node.Int e0.0) (Number e0.0) refl (λ s t. t.leaf at n refl) rs ts) m e0.1 f | inr h0 ↦ elim h0 [ inl e1 ↦ placed node.Infinity place old new PushesLeaf (λ at n ns rs ts. read_leaf at n ns old new node.Infinity Infinity refl (λ s t. t.leaf at n refl) rs ts) m e1 f | inr h1 ↦ elim h1 [ inl e2 ↦ placed (node.Param e2.0) place old new PushesLeaf (λ at n ns rs ts. read_leaf at n ns old new (node.Param e2.0) (Param e2.0) refl (λ s t. t.leaf at n refl) rs ts) m e2.1 f | inr h2 ↦ elim h2 [ inl e3 ↦ placed (node.Min e3.0) place old new PushesLeaf (λ at n ns rs ts. read_leaf at n ns old new (node.Min e3.0) (Min e3.0) refl (λ s t. t.leaf at n refl) rs ts) m e3.1 f | inr h3 ↦ elim h3 [ inl e4 ↦ placed (node.Max e4.0) place old new PushesLeaf (λ at n ns rs ts. read_leaf at n ns old new (node.Max e4.0) (Max e4.0) refl (λ s t. t.leaf at n refl) rs ts) m e4.1 f | inr h4 ↦ placed (node.Val h4.0) place old new PushesLeaf (λ at n ns rs ts. read_leaf at n ns old new (node.Val h4.0) (Val h4.0) refl (λ s t. t.leaf at n refl) rs ts) m h4.1 f ] ] ] ] ]
 
 pub operator_taken : (m : RangeNode) (place : ℕ) (old new : Pending) → ((m ≡ node.Add) ⊎ ((m ≡ node.Sub) ⊎ ((m ≡ node.Mul) ⊎ ((m ≡ node.DivDown) ⊎ (m ≡ node.DivUp))))) → PushesOperated m place old new → Taken m place old new
-operator_taken m place old new is f = elim is [ inl e0 ↦ placed node.Add place old new PushesOperated (λ at n ns rs ts. read_add at n ns old new rs ts) m e0 f | inr h0 ↦ elim h0 [ inl e1 ↦ placed node.Sub place old new PushesOperated (λ at n ns rs ts. read_sub at n ns old new rs ts) m e1 f | inr h1 ↦ elim h1 [ inl e2 ↦ placed node.Mul place old new PushesOperated (λ at n ns rs ts. read_mul at n ns old new rs ts) m e2 f | inr h2 ↦ elim h2 [ inl e3 ↦ placed node.DivDown place old new PushesOperated (λ at n ns rs ts. read_div_down at n ns old new rs ts) m e3 f | inr h3 ↦ placed node.DivUp place old new PushesOperated (λ at n ns rs ts. read_div_up at n ns old new rs ts) m h3 f ] ] ] ]
+operator_taken m place old new is f = elim is [ inl e0 ↦ placed node.Add place old new PushesOperated (λ at n ns rs ts. read_operator at n ns old new node.Add Add (λ a b. refl) (λ a b s t u. add_is INFINITY at n a b s t u) rs ts) m e0 f | inr h0 ↦ elim h0 [ inl e1 ↦ placed node.Sub place old new PushesOperated (λ at n ns rs ts. read_operator at n ns old new node.Sub Sub (λ a b. refl) (λ a b s t u. sub_is INFINITY at n a b s t u) rs ts) m e1 f | inr h1 ↦ elim h1 [ inl e2 ↦ placed node.Mul place old new PushesOperated (λ at n ns rs ts. read_operator at n ns old new node.Mul Mul (λ a b. refl) (λ a b s t u. mul_is INFINITY at n a b s t u) rs ts) m e2 f | inr h2 ↦ elim h2 [ inl e3 ↦ placed node.DivDown place old new PushesOperated (λ at n ns rs ts. read_operator at n ns old new node.DivDown DivDown (λ a b. refl) (λ a b s t u. div_down_is INFINITY at n a b s t u) rs ts) m e3 f | inr h3 ↦ placed node.DivUp place old new PushesOperated (λ at n ns rs ts. read_operator at n ns old new node.DivUp DivUp (λ a b. refl) (λ a b s t u. div_up_is INFINITY at n a b s t u) rs ts) m h3 f ] ] ] ]
 
 pub span_taken : (m : RangeNode) (place : ℕ) (old new : Pending) → m ≡ node.Span → PushesSpan old new → Taken m place old new
 span_taken m place old new is f = placed node.Span place old new (λ _ _ o k. PushesSpan o k) (λ at n ns rs ts. read_span at n ns old new rs ts) m is f
@@ -301,10 +183,10 @@ pub outside_taken : (m : RangeNode) (place : ℕ) (old new : Pending) → m ≡ 
 outside_taken m place old new is f = placed node.Outside place old new (λ _ _ o k. PushesComplement o k) (λ at n ns rs ts. read_outside at n ns old new rs ts) m is f
 
 pub combined_taken : (m : RangeNode) (place : ℕ) (old new : Pending) → ((m ≡ node.Union) ⊎ (m ≡ node.Inter)) → PushesCombined old new → Taken m place old new
-combined_taken m place old new is f = elim is [ inl e0 ↦ placed node.Union place old new (λ _ _ o k. PushesCombined o k) (λ at n ns rs ts. read_union at n ns old new rs ts) m e0 f | inr h0 ↦ placed node.Inter place old new (λ _ _ o k. PushesCombined o k) (λ at n ns rs ts. read_inter at n ns old new rs ts) m h0 f ]
+combined_taken m place old new is f = elim is [ inl e0 ↦ placed node.Union place old new (λ _ _ o k. PushesCombined o k) (λ at n ns rs ts. read_combined at n ns old new Union (λ r q. refl) (union_is INFINITY at n) rs ts) m e0 f | inr h0 ↦ placed node.Inter place old new (λ _ _ o k. PushesCombined o k) (λ at n ns rs ts. read_combined at n ns old new Inter (λ r q. refl) (inter_is INFINITY at n) rs ts) m h0 f ]
 
 pub pointwise_taken : (m : RangeNode) (place : ℕ) (old new : Pending) → ((m ≡ node.Plus) ⊎ ((m ≡ node.Minus) ⊎ ((m ≡ node.Times) ⊎ (m ≡ node.Over)))) → PushesPointwise m place old new → Taken m place old new
-pointwise_taken m place old new is f = elim is [ inl e0 ↦ placed node.Plus place old new PushesPointwise (λ at n ns rs ts. read_plus at n ns old new rs ts) m e0 f | inr h0 ↦ elim h0 [ inl e1 ↦ placed node.Minus place old new PushesPointwise (λ at n ns rs ts. read_minus at n ns old new rs ts) m e1 f | inr h1 ↦ elim h1 [ inl e2 ↦ placed node.Times place old new PushesPointwise (λ at n ns rs ts. read_times at n ns old new rs ts) m e2 f | inr h2 ↦ placed node.Over place old new PushesPointwise (λ at n ns rs ts. read_over at n ns old new rs ts) m h2 f ] ] ]
+pointwise_taken m place old new is f = elim is [ inl e0 ↦ placed node.Plus place old new PushesPointwise (λ at n ns rs ts. read_pointwise at n ns old new node.Plus Plus (λ r c. refl) (plus_is INFINITY at n) rs ts) m e0 f | inr h0 ↦ elim h0 [ inl e1 ↦ placed node.Minus place old new PushesPointwise (λ at n ns rs ts. read_pointwise at n ns old new node.Minus Minus (λ r c. refl) (minus_is INFINITY at n) rs ts) m e1 f | inr h1 ↦ elim h1 [ inl e2 ↦ placed node.Times place old new PushesPointwise (λ at n ns rs ts. read_pointwise at n ns old new node.Times Times (λ r c. refl) (times_is INFINITY at n) rs ts) m e2 f | inr h2 ↦ placed node.Over place old new PushesPointwise (λ at n ns rs ts. read_pointwise at n ns old new node.Over Over (λ r c. refl) (over_is INFINITY at n) rs ts) m h2 f ] ] ]
 
 pub ok_taken : {X Y : Type 0} (r : Result X Y) (m : RangeNode) (place : ℕ) (old new : Pending) (P : Type 0) → (P → Taken m place old new) → IfOk r (λ _. P) → IfOk r (λ _. Taken m place old new)
 ok_taken r m place old new P f h = IfOk-weaker r (λ _. P) (λ _. Taken m place old new) (λ _ p. f p) h

@@ -13,7 +13,7 @@ use Rattle.monotone_check.specs.declared.summary.RangeCheck.{RangeCheck}
 use Rattle.monotone_check.specs.Summary.{IsRange}
 use Rattle.monotone_check.specs.Waiting.{IsPending, Follows}
 use Rattle.monotone_check.specs.Walked.{IsWalked}
-use Rattle.monotone_check.proofs.Sizes.{count_nodes}
+use Rattle.fd_language.proofs.Leaves.{count_nodes}
 
 pub builds_all : (nodes : List RangeNode) → IsSpelled nodes → Some (spelled nodes) ≡ built nodes [] []
 builds_all nodes (r, e) = subst (λ ns. Some (spelled ns) ≡ built ns [] []) e (ap Some (spelled-nodes r) ∙ sym (builds_range r [] []))
