@@ -9,13 +9,14 @@ use Rattle.fd_language.specs.declared.range_node.RangeNode.TheVariants as node
 use Rattle.fd_language.specs.Range.{Range, Span, One, Dom, Union, Inter, Outside, Plus, Minus, Times, Over, Expr, Number, Infinity, Param, Min, Max, Val, Add, Sub, Mul, DivDown, DivUp}
 use Rattle.fd_language.specs.Needs.{is_literal, quotient_asks, expr_asks, over_asks, asks}
 use Rattle.fd_language.specs.Check.{is_parameter}
-use Rattle.fd_language.specs.Flat.{built, spelled, IsSpelled, builds_range, spelled-nodes}
+use Rattle.fd_language.specs.Flat.{term_alone, term_of_terms, range_of_ranges, range_of_both, put, built, built_behind, spelled, IsSpelled, builds_range, spelled-nodes}
 use Rattle.std.proofs.Common.{get_or, drop}
-use Rattle.std.proofs.lemmas.List.{at_drop_more, drop_all}
+use Rattle.std.proofs.lemmas.List.{at_drop_more, drop_all, append-nil, append_assoc}
 use Rattle.std.specs.Prelude.{Ok, Err}
 use Rattle.monotone_check.specs.declared.asking.Asked.{Asked}
+use Rattle.monotone_check.specs.declared.asks.OpenTerm.{OpenTerm}
 use Rattle.monotone_check.specs.declared.asks.Reading.{Reading}
-use Rattle.monotone_check.specs.Asked.{raise, raise_all, told, raised, asks_now, Opens, OpensParameter, Operates, Closes, ClosesQuotient}
+use Rattle.monotone_check.specs.Asked.{joins, AsksOf, raise, raise_all, told, raised, asks_now, Opens, OpensParameter, Operates, Closes, ClosesQuotient}
 use Rattle.monotone_check.specs.Opened.{all_asks, IsAsking, FollowsAsking, TakesAsks, IsAskedSoFar}
 use Rattle.monotone_check.proofs.Walks.{builds_all, some_same}
 
@@ -25,14 +26,6 @@ Asks = List (ℕ × Need)
 length-told : (i : ℕ) (es : List Asked) → length (told i es) ≡ length es
 length-told i [] = refl
 length-told i (e ∷ es) = ap suc (length-told (suc i) es)
-
-nothing_after : (xs : List (ℕ × Need)) → xs ++ [] ≡ xs
-nothing_after [] = refl
-nothing_after (x ∷ xs) = ap (λ l. x ∷ l) (nothing_after xs)
-
-regroup : (xs ys zs : List (ℕ × Need)) → (xs ++ ys) ++ zs ≡ xs ++ (ys ++ zs)
-regroup [] ys zs = refl
-regroup (x ∷ xs) ys zs = ap (λ l. x ∷ l) (regroup xs ys zs)
 
 -- a natural term asks for at least natural everywhere
 raise_two : (xs ys us vs : List (ℕ × Need)) → xs ≡ raise_all us → ys ≡ raise_all vs → xs ++ ys ≡ raise_all (us ++ vs)
@@ -58,24 +51,9 @@ stays_raised xs us e = e ∙ (sym (raise_again us) ∙ ap raise_all (sym e))
 
 raised_quotient : (b : Expr) (plain left right us : List (ℕ × Need)) → plain ≡ raise_all us → left ++ right ≡ raise_all (left ++ right) → quotient_asks b plain left right ≡ raise_all (quotient_asks b us left right)
 raised_quotient (Param x) plain left right us e f = raise_two plain ((x, Divisor) ∷ []) us ((x, Divisor) ∷ []) e refl
-raised_quotient (Number n) plain left right us e f = either_raised (is_literal (Number n)) plain (left ++ right) us e f
-raised_quotient Infinity plain left right us e f = either_raised (is_literal Infinity) plain (left ++ right) us e f
-raised_quotient (Min n) plain left right us e f = either_raised (is_literal (Min n)) plain (left ++ right) us e f
-raised_quotient (Max n) plain left right us e f = either_raised (is_literal (Max n)) plain (left ++ right) us e f
-raised_quotient (Val n) plain left right us e f = either_raised (is_literal (Val n)) plain (left ++ right) us e f
-raised_quotient (Add c d) plain left right us e f = either_raised (is_literal (Add c d)) plain (left ++ right) us e f
-raised_quotient (Sub c d) plain left right us e f = either_raised (is_literal (Sub c d)) plain (left ++ right) us e f
-raised_quotient (Mul c d) plain left right us e f = either_raised (is_literal (Mul c d)) plain (left ++ right) us e f
-raised_quotient (DivDown c d) plain left right us e f = either_raised (is_literal (DivDown c d)) plain (left ++ right) us e f
-raised_quotient (DivUp c d) plain left right us e f = either_raised (is_literal (DivUp c d)) plain (left ++ right) us e f
+raised_quotient b plain left right us e f = either_raised (is_literal b) plain (left ++ right) us e f
 
 natural_asks : (e : Expr) → expr_asks e true ≡ raise_all (expr_asks e false)
-natural_asks (Number z) = refl
-natural_asks Infinity = refl
-natural_asks (Param x) = refl
-natural_asks (Min y) = refl
-natural_asks (Max y) = refl
-natural_asks (Val y) = refl
 natural_asks (Add a b) = raise_two (expr_asks a true) (expr_asks b true) (expr_asks a false) (expr_asks b false) (natural_asks a) (natural_asks b)
 natural_asks (Sub a b) = raise_two (expr_asks a true) (expr_asks b true) (expr_asks a false) (expr_asks b false) (natural_asks a) (natural_asks b)
 natural_asks (Mul a b) =
@@ -87,21 +65,17 @@ natural_asks (DivDown a b) =
 natural_asks (DivUp a b) =
     let both = raise_two (expr_asks a true) (expr_asks b true) (expr_asks a false) (expr_asks b false) (natural_asks a) (natural_asks b) in
     raised_quotient b (expr_asks a true) (expr_asks a true) (expr_asks b true) (expr_asks a false) (natural_asks a) (stays_raised (expr_asks a true ++ expr_asks b true) (expr_asks a false ++ expr_asks b false) both)
+natural_asks e = refl
 
 literal_asks : (e : Expr) → is_literal e ≡ true → expr_asks e false ≡ []
 literal_asks (Number z) h = refl
 literal_asks Infinity h = refl
-literal_asks (Param x) h = absurd (true≢false (sym h))
-literal_asks (Min y) h = absurd (true≢false (sym h))
-literal_asks (Max y) h = absurd (true≢false (sym h))
-literal_asks (Val y) h = absurd (true≢false (sym h))
 literal_asks (Add a b) h = ap (λ l. l ++ expr_asks b false) (literal_asks a ((and_parts (is_literal a) (is_literal b) h).0)) ∙ literal_asks b ((and_parts (is_literal a) (is_literal b) h).1)
 literal_asks (Sub a b) h = ap (λ l. l ++ expr_asks b false) (literal_asks a ((and_parts (is_literal a) (is_literal b) h).0)) ∙ literal_asks b ((and_parts (is_literal a) (is_literal b) h).1)
 literal_asks (Mul a b) h =
     let l = (and_parts (is_literal a) (is_literal b) h).0 in
     ap (λ c. cond (c || is_literal b) (expr_asks a false ++ expr_asks b false) (expr_asks a true ++ expr_asks b true)) l ∙ (ap (λ k. k ++ expr_asks b false) (literal_asks a l) ∙ literal_asks b ((and_parts (is_literal a) (is_literal b) h).1))
-literal_asks (DivDown a b) h = absurd (true≢false (sym h))
-literal_asks (DivUp a b) h = absurd (true≢false (sym h))
+literal_asks e h = absurd (true≢false (sym h))
 
 -- what is raised from a number on
 raised_front : (i f : ℕ) (xs ys : List (ℕ × Need)) → i + length xs ≡ f → raised f i (xs ++ ys) ≡ xs ++ raise_all ys
@@ -140,23 +114,19 @@ product_now false mid now new f a b h e g = g ∙ raised_both mid f a b now h e
 
 plain_now : (c : Bool) (mid now new : List (ℕ × Need)) (f : ℕ) (a b : Expr) → f ≡ length mid → now ≡ mid ++ (expr_asks a false ++ expr_asks b false) → (c ≡ true → expr_asks b false ≡ []) → new ≡ cond c now (raised f 0 now) →
     new ≡ mid ++ cond c (expr_asks a false) (expr_asks a true ++ expr_asks b true)
-plain_now true mid now new f a b h e k g = g ∙ (e ∙ ap (λ l. mid ++ l) (ap (λ l. expr_asks a false ++ l) (k refl) ∙ nothing_after (expr_asks a false)))
+plain_now true mid now new f a b h e k g = g ∙ (e ∙ ap (λ l. mid ++ l) (ap (λ l. expr_asks a false ++ l) (k refl) ∙ append-nil (expr_asks a false)))
 plain_now false mid now new f a b h e k g = g ∙ raised_both mid f a b now h e
 
 quotient_now : (b : Expr) (lit par : Bool) (mid now new : List (ℕ × Need)) (f : ℕ) (a : Expr) → f ≡ length mid → now ≡ mid ++ (expr_asks a false ++ expr_asks b false) → lit ≡ is_literal b → par ≡ is_parameter b →
     (par ≡ true → (front : List (ℕ × Need)) (x : ℕ) (n : Need) → now ≡ front ++ (x, n) ∷ [] → new ≡ front ++ (x, Divisor) ∷ []) → (par ≡ false → new ≡ cond lit now (raised f 0 now)) →
     new ≡ mid ++ quotient_asks b (expr_asks a false) (expr_asks a true) (expr_asks b true)
-quotient_now (Param x) lit par mid now new f a h e l q g k = g q (mid ++ expr_asks a false) x Whole (e ∙ sym (regroup mid (expr_asks a false) ((x, Whole) ∷ []))) ∙ regroup mid (expr_asks a false) ((x, Divisor) ∷ [])
-quotient_now (Number n) lit par mid now new f a h e l q g k = plain_now (is_literal (Number n)) mid now new f a (Number n) h e (literal_asks (Number n)) (k q ∙ ap (λ c. cond c now (raised f 0 now)) l)
-quotient_now Infinity lit par mid now new f a h e l q g k = plain_now (is_literal Infinity) mid now new f a Infinity h e (literal_asks Infinity) (k q ∙ ap (λ c. cond c now (raised f 0 now)) l)
-quotient_now (Min n) lit par mid now new f a h e l q g k = plain_now (is_literal (Min n)) mid now new f a (Min n) h e (literal_asks (Min n)) (k q ∙ ap (λ c. cond c now (raised f 0 now)) l)
-quotient_now (Max n) lit par mid now new f a h e l q g k = plain_now (is_literal (Max n)) mid now new f a (Max n) h e (literal_asks (Max n)) (k q ∙ ap (λ c. cond c now (raised f 0 now)) l)
-quotient_now (Val n) lit par mid now new f a h e l q g k = plain_now (is_literal (Val n)) mid now new f a (Val n) h e (literal_asks (Val n)) (k q ∙ ap (λ c. cond c now (raised f 0 now)) l)
+quotient_now (Param x) lit par mid now new f a h e l q g k = g q (mid ++ expr_asks a false) x Whole (e ∙ sym (append_assoc mid (expr_asks a false) ((x, Whole) ∷ []))) ∙ append_assoc mid (expr_asks a false) ((x, Divisor) ∷ [])
 quotient_now (Add c d) lit par mid now new f a h e l q g k = plain_now (is_literal (Add c d)) mid now new f a (Add c d) h e (literal_asks (Add c d)) (k q ∙ ap (λ c. cond c now (raised f 0 now)) l)
 quotient_now (Sub c d) lit par mid now new f a h e l q g k = plain_now (is_literal (Sub c d)) mid now new f a (Sub c d) h e (literal_asks (Sub c d)) (k q ∙ ap (λ c. cond c now (raised f 0 now)) l)
 quotient_now (Mul c d) lit par mid now new f a h e l q g k = plain_now (is_literal (Mul c d)) mid now new f a (Mul c d) h e (literal_asks (Mul c d)) (k q ∙ ap (λ c. cond c now (raised f 0 now)) l)
 quotient_now (DivDown c d) lit par mid now new f a h e l q g k = plain_now (is_literal (DivDown c d)) mid now new f a (DivDown c d) h e (literal_asks (DivDown c d)) (k q ∙ ap (λ c. cond c now (raised f 0 now)) l)
 quotient_now (DivUp c d) lit par mid now new f a h e l q g k = plain_now (is_literal (DivUp c d)) mid now new f a (DivUp c d) h e (literal_asks (DivUp c d)) (k q ∙ ap (λ c. cond c now (raised f 0 now)) l)
+quotient_now b lit par mid now new f a h e l q g k = plain_now (is_literal b) mid now new f a b h e (literal_asks b) (k q ∙ ap (λ c. cond c now (raised f 0 now)) l)
 
 follows : (ns : List RangeNode) (rs : List Range) (ts : List Expr) (o : Option Range) (q : Reading) → o ≡ built ns rs ts → IsAsking rs ts q → FollowsAsking ns o q
 follows ns rs ts None q e i = tt
@@ -164,17 +134,8 @@ follows ns rs ts (Some r) q e i = (rs, ts, e, i)
 
 over_now : (c : Expr) (par : Bool) (before mid now new : List (ℕ × Need)) → now ≡ (before ++ mid) ++ expr_asks c false → par ≡ is_parameter c →
     (par ≡ true → (ds : List (ℕ × Need)) (x : ℕ) (n : Need) → now ≡ ds ++ (x, n) ∷ [] → new ≡ ds ++ (x, Divisor) ∷ []) → (par ≡ false → new ≡ now) → new ≡ before ++ (mid ++ over_asks c)
-over_now (Param x) par before mid now new e q g k = g q (before ++ mid) x Whole e ∙ regroup before mid ((x, Divisor) ∷ [])
-over_now (Number n) par before mid now new e q g k = k q ∙ (e ∙ regroup before mid (expr_asks (Number n) false))
-over_now Infinity par before mid now new e q g k = k q ∙ (e ∙ regroup before mid (expr_asks Infinity false))
-over_now (Min n) par before mid now new e q g k = k q ∙ (e ∙ regroup before mid (expr_asks (Min n) false))
-over_now (Max n) par before mid now new e q g k = k q ∙ (e ∙ regroup before mid (expr_asks (Max n) false))
-over_now (Val n) par before mid now new e q g k = k q ∙ (e ∙ regroup before mid (expr_asks (Val n) false))
-over_now (Add c d) par before mid now new e q g k = k q ∙ (e ∙ regroup before mid (expr_asks (Add c d) false))
-over_now (Sub c d) par before mid now new e q g k = k q ∙ (e ∙ regroup before mid (expr_asks (Sub c d) false))
-over_now (Mul c d) par before mid now new e q g k = k q ∙ (e ∙ regroup before mid (expr_asks (Mul c d) false))
-over_now (DivDown c d) par before mid now new e q g k = k q ∙ (e ∙ regroup before mid (expr_asks (DivDown c d) false))
-over_now (DivUp c d) par before mid now new e q g k = k q ∙ (e ∙ regroup before mid (expr_asks (DivUp c d) false))
+over_now (Param x) par before mid now new e q g k = g q (before ++ mid) x Whole e ∙ append_assoc before mid ((x, Divisor) ∷ [])
+over_now b par before mid now new e q g k = k q ∙ (e ∙ append_assoc before mid (expr_asks b false))
 
 both_same : (s t a b : Bool) → s ≡ a → t ≡ b → (true && (s && t)) ≡ (a && b)
 both_same s t a b e f = cc
@@ -185,81 +146,48 @@ either_same s t a b xs ys e f = cc
 module _ (ns : List RangeNode) (old new : Reading) where
   opened : (rs : List Range) (ts : List Expr) (e : Expr) (literal : Bool) → expr_asks e false ≡ [] → literal ≡ is_literal e → false ≡ is_parameter e → IsAsking rs ts old → Opens literal old new → IsAsking rs (e ∷ ts) new
   opened rs ts e literal none l q i (s, terms, lit, par, from, now) =
-      (old.terms.items, s, asks_now old, terms, now ∙ (sym (nothing_after (asks_now old)) ∙ ap (λ k. asks_now old ++ k) (sym none)), from ∙ sym (length-told 0 old.asking.places.items), lit ∙ l, par ∙ q, i)
+      (old.terms.items, s, asks_now old, terms, now ∙ (sym (append-nil (asks_now old)) ∙ ap (λ k. asks_now old ++ k) (sym none)), from ∙ sym (length-told 0 old.asking.places.items), lit ∙ l, par ∙ q, i)
 
-  ask_int : (z : ℤ) (rs : List Range) (ts : List Expr) → IsAsking rs ts old → Opens true old new → FollowsAsking ns (built (node.Int z ∷ ns) rs ts) new
-  ask_int z rs ts i f = follows ns rs (Number z ∷ ts) (built ns rs (Number z ∷ ts)) new refl (opened rs ts (Number z) true refl refl refl i f)
-
-  ask_infinity : (rs : List Range) (ts : List Expr) → IsAsking rs ts old → Opens true old new → FollowsAsking ns (built (node.Infinity ∷ ns) rs ts) new
-  ask_infinity rs ts i f = follows ns rs (Infinity ∷ ts) (built ns rs (Infinity ∷ ts)) new refl (opened rs ts Infinity true refl refl refl i f)
-
-  ask_min : (y : ℕ) (rs : List Range) (ts : List Expr) → IsAsking rs ts old → Opens false old new → FollowsAsking ns (built (node.Min y ∷ ns) rs ts) new
-  ask_min y rs ts i f = follows ns rs (Min y ∷ ts) (built ns rs (Min y ∷ ts)) new refl (opened rs ts (Min y) false refl refl refl i f)
-
-  ask_max : (y : ℕ) (rs : List Range) (ts : List Expr) → IsAsking rs ts old → Opens false old new → FollowsAsking ns (built (node.Max y ∷ ns) rs ts) new
-  ask_max y rs ts i f = follows ns rs (Max y ∷ ts) (built ns rs (Max y ∷ ts)) new refl (opened rs ts (Max y) false refl refl refl i f)
-
-  ask_val : (y : ℕ) (rs : List Range) (ts : List Expr) → IsAsking rs ts old → Opens false old new → FollowsAsking ns (built (node.Val y ∷ ns) rs ts) new
-  ask_val y rs ts i f = follows ns rs (Val y ∷ ts) (built ns rs (Val y ∷ ts)) new refl (opened rs ts (Val y) false refl refl refl i f)
+  ask_leaf : (e : Expr) (literal : Bool) → expr_asks e false ≡ [] → literal ≡ is_literal e → false ≡ is_parameter e → (rs : List Range) (ts : List Expr) → IsAsking rs ts old → Opens literal old new
+      → FollowsAsking ns (built_behind ns (put (term_alone e) rs ts)) new
+  ask_leaf e literal none l q rs ts i f = follows ns rs (e ∷ ts) (built ns rs (e ∷ ts)) new refl (opened rs ts e literal none l q i f)
 
   ask_param : (x : ℕ) (rs : List Range) (ts : List Expr) → IsAsking rs ts old → OpensParameter x old new → FollowsAsking ns (built (node.Param x ∷ ns) rs ts) new
   ask_param x rs ts i (s, terms, lit, par, from, now) = follows ns rs (Param x ∷ ts) (built ns rs (Param x ∷ ts)) new refl
       (old.terms.items, s, asks_now old, terms, now, from ∙ sym (length-told 0 old.asking.places.items), lit, par, i)
 
-  ask_add : (rs : List Range) (ts : List Expr) → IsAsking rs ts old → Operates node.Add old new → FollowsAsking ns (built (node.Add ∷ ns) rs ts) new
-  ask_add rs [] i f = tt
-  ask_add rs (b ∷ []) i f = tt
-  ask_add rs (b ∷ a ∷ ts) i f =
+  -- An operator of two terms: what it asks comes from what its operands ask, and it is a literal where its node joins literals.
+  ask_operator : (m : RangeNode) (make : Expr → Expr → Expr)
+      → ((a b : Expr) (s t : OpenTerm) (mid now later : List (ℕ × Need)) → s.from ≡ length mid → now ≡ mid ++ (expr_asks a false ++ expr_asks b false) → s.literal ≡ is_literal a → t.literal ≡ is_literal b → t.parameter ≡ is_parameter b
+          → AsksOf m s t now later → later ≡ mid ++ expr_asks (make a b) false)
+      → ((a b : Expr) (k l : Bool) → k ≡ is_literal a → l ≡ is_literal b → (joins m && (k && l)) ≡ is_literal (make a b)) → ((a b : Expr) → false ≡ is_parameter (make a b))
+      → (rs : List Range) (ts : List Expr) → IsAsking rs ts old → Operates m old new → FollowsAsking ns (built_behind ns (put (term_of_terms make) rs ts)) new
+  ask_operator m make asked literal other rs [] i f = tt
+  ask_operator m make asked literal other rs (b ∷ []) i f = tt
+  ask_operator m make asked literal other rs (b ∷ a ∷ ts) i f =
       let (front, t, mid, terms, now, tf, tl, tp, more) = i in
       let (front2, s, mid2, terms2, now2, sf, sl, sp, rest) = more in
       let made = f front2 s t (terms ∙ ap (λ l. l ++ t ∷ []) terms2) in
-      let whole : asks_now old ≡ mid2 ++ (expr_asks a false ++ expr_asks b false) = now ∙ (ap (λ l. l ++ expr_asks b false) now2 ∙ regroup mid2 (expr_asks a false) (expr_asks b false)) in
-      follows ns rs (Add a b ∷ ts) (built ns rs (Add a b ∷ ts)) new refl
-      (front2, made.0, mid2, made.1, made.5 ∙ whole, made.4 ∙ sf, made.2 ∙ both_same s.literal t.literal (is_literal a) (is_literal b) sl tl, made.3, rest)
+      let whole : asks_now old ≡ mid2 ++ (expr_asks a false ++ expr_asks b false) = now ∙ (ap (λ l. l ++ expr_asks b false) now2 ∙ append_assoc mid2 (expr_asks a false) (expr_asks b false)) in
+      follows ns rs (make a b ∷ ts) (built ns rs (make a b ∷ ts)) new refl
+      (front2, made.0, mid2, made.1, asked a b s t mid2 (asks_now old) (asks_now new) sf whole sl tl tp made.5, made.4 ∙ sf, made.2 ∙ literal a b s.literal t.literal sl tl, made.3 ∙ other a b, rest)
+
+  ask_add : (rs : List Range) (ts : List Expr) → IsAsking rs ts old → Operates node.Add old new → FollowsAsking ns (built (node.Add ∷ ns) rs ts) new
+  ask_add rs ts i f = ask_operator node.Add Add (λ a b s t mid now later h e k l q g. g ∙ e) (λ a b k l e g. both_same k l (is_literal a) (is_literal b) e g) (λ a b. refl) rs ts i f
 
   ask_sub : (rs : List Range) (ts : List Expr) → IsAsking rs ts old → Operates node.Sub old new → FollowsAsking ns (built (node.Sub ∷ ns) rs ts) new
-  ask_sub rs [] i f = tt
-  ask_sub rs (b ∷ []) i f = tt
-  ask_sub rs (b ∷ a ∷ ts) i f =
-      let (front, t, mid, terms, now, tf, tl, tp, more) = i in
-      let (front2, s, mid2, terms2, now2, sf, sl, sp, rest) = more in
-      let made = f front2 s t (terms ∙ ap (λ l. l ++ t ∷ []) terms2) in
-      let whole : asks_now old ≡ mid2 ++ (expr_asks a false ++ expr_asks b false) = now ∙ (ap (λ l. l ++ expr_asks b false) now2 ∙ regroup mid2 (expr_asks a false) (expr_asks b false)) in
-      follows ns rs (Sub a b ∷ ts) (built ns rs (Sub a b ∷ ts)) new refl
-      (front2, made.0, mid2, made.1, made.5 ∙ whole, made.4 ∙ sf, made.2 ∙ both_same s.literal t.literal (is_literal a) (is_literal b) sl tl, made.3, rest)
+  ask_sub rs ts i f = ask_operator node.Sub Sub (λ a b s t mid now later h e k l q g. g ∙ e) (λ a b k l e g. both_same k l (is_literal a) (is_literal b) e g) (λ a b. refl) rs ts i f
 
   ask_mul : (rs : List Range) (ts : List Expr) → IsAsking rs ts old → Operates node.Mul old new → FollowsAsking ns (built (node.Mul ∷ ns) rs ts) new
-  ask_mul rs [] i f = tt
-  ask_mul rs (b ∷ []) i f = tt
-  ask_mul rs (b ∷ a ∷ ts) i f =
-      let (front, t, mid, terms, now, tf, tl, tp, more) = i in
-      let (front2, s, mid2, terms2, now2, sf, sl, sp, rest) = more in
-      let made = f front2 s t (terms ∙ ap (λ l. l ++ t ∷ []) terms2) in
-      let whole : asks_now old ≡ mid2 ++ (expr_asks a false ++ expr_asks b false) = now ∙ (ap (λ l. l ++ expr_asks b false) now2 ∙ regroup mid2 (expr_asks a false) (expr_asks b false)) in
-      follows ns rs (Mul a b ∷ ts) (built ns rs (Mul a b ∷ ts)) new refl
-      (front2, made.0, mid2, made.1, product_now (is_literal a || is_literal b) mid2 (asks_now old) (asks_now new) s.from a b sf whole (made.5 ∙ either_same s.literal t.literal (is_literal a) (is_literal b) (asks_now old) (raised s.from 0 (asks_now old)) sl tl), made.4 ∙ sf, made.2 ∙ both_same s.literal t.literal (is_literal a) (is_literal b) sl tl, made.3, rest)
+  ask_mul rs ts i f = ask_operator node.Mul Mul
+      (λ a b s t mid now later h e k l q g. product_now (is_literal a || is_literal b) mid now later s.from a b h e (g ∙ either_same s.literal t.literal (is_literal a) (is_literal b) now (raised s.from 0 now) k l))
+      (λ a b k l e g. both_same k l (is_literal a) (is_literal b) e g) (λ a b. refl) rs ts i f
 
   ask_div_down : (rs : List Range) (ts : List Expr) → IsAsking rs ts old → Operates node.DivDown old new → FollowsAsking ns (built (node.DivDown ∷ ns) rs ts) new
-  ask_div_down rs [] i f = tt
-  ask_div_down rs (b ∷ []) i f = tt
-  ask_div_down rs (b ∷ a ∷ ts) i f =
-      let (front, t, mid, terms, now, tf, tl, tp, more) = i in
-      let (front2, s, mid2, terms2, now2, sf, sl, sp, rest) = more in
-      let made = f front2 s t (terms ∙ ap (λ l. l ++ t ∷ []) terms2) in
-      let whole : asks_now old ≡ mid2 ++ (expr_asks a false ++ expr_asks b false) = now ∙ (ap (λ l. l ++ expr_asks b false) now2 ∙ regroup mid2 (expr_asks a false) (expr_asks b false)) in
-      follows ns rs (DivDown a b ∷ ts) (built ns rs (DivDown a b ∷ ts)) new refl
-      (front2, made.0, mid2, made.1, quotient_now b t.literal t.parameter mid2 (asks_now old) (asks_now new) s.from a sf whole tl tp made.5.0 made.5.1, made.4 ∙ sf, made.2, made.3, rest)
+  ask_div_down rs ts i f = ask_operator node.DivDown DivDown (λ a b s t mid now later h e k l q g. quotient_now b t.literal t.parameter mid now later s.from a h e l q g.0 g.1) (λ a b k l e g. refl) (λ a b. refl) rs ts i f
 
   ask_div_up : (rs : List Range) (ts : List Expr) → IsAsking rs ts old → Operates node.DivUp old new → FollowsAsking ns (built (node.DivUp ∷ ns) rs ts) new
-  ask_div_up rs [] i f = tt
-  ask_div_up rs (b ∷ []) i f = tt
-  ask_div_up rs (b ∷ a ∷ ts) i f =
-      let (front, t, mid, terms, now, tf, tl, tp, more) = i in
-      let (front2, s, mid2, terms2, now2, sf, sl, sp, rest) = more in
-      let made = f front2 s t (terms ∙ ap (λ l. l ++ t ∷ []) terms2) in
-      let whole : asks_now old ≡ mid2 ++ (expr_asks a false ++ expr_asks b false) = now ∙ (ap (λ l. l ++ expr_asks b false) now2 ∙ regroup mid2 (expr_asks a false) (expr_asks b false)) in
-      follows ns rs (DivUp a b ∷ ts) (built ns rs (DivUp a b ∷ ts)) new refl
-      (front2, made.0, mid2, made.1, quotient_now b t.literal t.parameter mid2 (asks_now old) (asks_now new) s.from a sf whole tl tp made.5.0 made.5.1, made.4 ∙ sf, made.2, made.3, rest)
+  ask_div_up rs ts i f = ask_operator node.DivUp DivUp (λ a b s t mid now later h e k l q g. quotient_now b t.literal t.parameter mid now later s.from a h e l q g.0 g.1) (λ a b k l e g. refl) (λ a b. refl) rs ts i f
 
   ask_span : (rs : List Range) (ts : List Expr) → IsAsking rs ts old → Closes old new → FollowsAsking ns (built (node.Span ∷ ns) rs ts) new
   ask_span rs [] i f = tt
@@ -269,7 +197,7 @@ module _ (ns : List RangeNode) (old new : Reading) where
       let (front, t, mid, terms, now, tf, tl, tp, more) = i in
       let (front2, s, mid2, terms2, now2, sf, sl, sp, rest) = more in
       follows ns (Span a b ∷ rs) [] (built ns (Span a b ∷ rs) []) new refl
-      (f.0, f.1 ∙ (now ∙ (ap (λ l. l ++ expr_asks b false) (now2 ∙ ap (λ l. l ++ expr_asks a false) rest.1) ∙ regroup (all_asks rs) (expr_asks a false) (expr_asks b false))))
+      (f.0, f.1 ∙ (now ∙ (ap (λ l. l ++ expr_asks b false) (now2 ∙ ap (λ l. l ++ expr_asks a false) rest.1) ∙ append_assoc (all_asks rs) (expr_asks a false) (expr_asks b false))))
 
   ask_one : (rs : List Range) (ts : List Expr) → IsAsking rs ts old → Closes old new → FollowsAsking ns (built (node.One ∷ ns) rs ts) new
   ask_one rs [] i f = tt
@@ -280,23 +208,15 @@ module _ (ns : List RangeNode) (old new : Reading) where
 
   ask_dom : (y : ℕ) (rs : List Range) (ts : List Expr) → IsAsking rs ts old → Closes old new → FollowsAsking ns (built (node.Dom y ∷ ns) rs ts) new
   ask_dom y rs (a ∷ ts) i f = tt
-  ask_dom y rs [] i f = follows ns (Dom y ∷ rs) [] (built ns (Dom y ∷ rs) []) new refl (f.0, f.1 ∙ (i.1 ∙ sym (nothing_after (all_asks rs))))
+  ask_dom y rs [] i f = follows ns (Dom y ∷ rs) [] (built ns (Dom y ∷ rs) []) new refl (f.0, f.1 ∙ (i.1 ∙ sym (append-nil (all_asks rs))))
 
-  ask_union : (rs : List Range) (ts : List Expr) → IsAsking rs ts old → Closes old new → FollowsAsking ns (built (node.Union ∷ ns) rs ts) new
-  ask_union [] [] i f = tt
-  ask_union (q ∷ []) [] i f = tt
-  ask_union [] (a ∷ ts) i f = tt
-  ask_union (q ∷ []) (a ∷ ts) i f = tt
-  ask_union (q ∷ r ∷ rs) (a ∷ ts) i f = tt
-  ask_union (q ∷ r ∷ rs) [] i f = follows ns (Union r q ∷ rs) [] (built ns (Union r q ∷ rs) []) new refl (f.0, f.1 ∙ (i.1 ∙ regroup (all_asks rs) (asks r) (asks q)))
-
-  ask_inter : (rs : List Range) (ts : List Expr) → IsAsking rs ts old → Closes old new → FollowsAsking ns (built (node.Inter ∷ ns) rs ts) new
-  ask_inter [] [] i f = tt
-  ask_inter (q ∷ []) [] i f = tt
-  ask_inter [] (a ∷ ts) i f = tt
-  ask_inter (q ∷ []) (a ∷ ts) i f = tt
-  ask_inter (q ∷ r ∷ rs) (a ∷ ts) i f = tt
-  ask_inter (q ∷ r ∷ rs) [] i f = follows ns (Inter r q ∷ rs) [] (built ns (Inter r q ∷ rs) []) new refl (f.0, f.1 ∙ (i.1 ∙ regroup (all_asks rs) (asks r) (asks q)))
+  ask_ranges : (make : Range → Range → Range) → ((r q : Range) → asks r ++ asks q ≡ asks (make r q)) → (rs : List Range) (ts : List Expr) → IsAsking rs ts old → Closes old new → FollowsAsking ns (built_behind ns (put (range_of_ranges make) rs ts)) new
+  ask_ranges make all [] [] i f = tt
+  ask_ranges make all (q ∷ []) [] i f = tt
+  ask_ranges make all [] (a ∷ ts) i f = tt
+  ask_ranges make all (q ∷ []) (a ∷ ts) i f = tt
+  ask_ranges make all (q ∷ r ∷ rs) (a ∷ ts) i f = tt
+  ask_ranges make all (q ∷ r ∷ rs) [] i f = follows ns (make r q ∷ rs) [] (built ns (make r q ∷ rs) []) new refl (f.0, f.1 ∙ (i.1 ∙ (append_assoc (all_asks rs) (asks r) (asks q) ∙ ap (λ l. all_asks rs ++ l) (all r q))))
 
   ask_outside : (rs : List Range) (ts : List Expr) → IsAsking rs ts old → Closes old new → FollowsAsking ns (built (node.Outside ∷ ns) rs ts) new
   ask_outside [] [] i f = tt
@@ -304,35 +224,17 @@ module _ (ns : List RangeNode) (old new : Reading) where
   ask_outside (r ∷ rs) (a ∷ ts) i f = tt
   ask_outside (r ∷ rs) [] i f = follows ns (Outside r ∷ rs) [] (built ns (Outside r ∷ rs) []) new refl (f.0, f.1 ∙ i.1)
 
-  ask_plus : (rs : List Range) (ts : List Expr) → IsAsking rs ts old → Closes old new → FollowsAsking ns (built (node.Plus ∷ ns) rs ts) new
-  ask_plus [] [] i f = tt
-  ask_plus [] (a ∷ []) i f = tt
-  ask_plus [] (b ∷ a ∷ ts) i f = tt
-  ask_plus (r ∷ rs) [] i f = tt
-  ask_plus (r ∷ rs) (b ∷ a ∷ ts) i f = tt
-  ask_plus (r ∷ rs) (c ∷ []) i f =
+  ask_pointwise : (make : Range → Expr → Range) → ((r : Range) (c : Expr) → asks r ++ expr_asks c false ≡ asks (make r c)) → (rs : List Range) (ts : List Expr) → IsAsking rs ts old → Closes old new
+      → FollowsAsking ns (built_behind ns (put (range_of_both make) rs ts)) new
+  ask_pointwise make all [] [] i f = tt
+  ask_pointwise make all [] (a ∷ []) i f = tt
+  ask_pointwise make all [] (b ∷ a ∷ ts) i f = tt
+  ask_pointwise make all (r ∷ rs) [] i f = tt
+  ask_pointwise make all (r ∷ rs) (b ∷ a ∷ ts) i f = tt
+  ask_pointwise make all (r ∷ rs) (c ∷ []) i f =
       let (front, t, mid, terms, now, tf, tl, tp, rest) = i in
-      follows ns (Plus r c ∷ rs) [] (built ns (Plus r c ∷ rs) []) new refl (f.0, f.1 ∙ (now ∙ (ap (λ l. l ++ expr_asks c false) rest.1 ∙ regroup (all_asks rs) (asks r) (expr_asks c false))))
-
-  ask_minus : (rs : List Range) (ts : List Expr) → IsAsking rs ts old → Closes old new → FollowsAsking ns (built (node.Minus ∷ ns) rs ts) new
-  ask_minus [] [] i f = tt
-  ask_minus [] (a ∷ []) i f = tt
-  ask_minus [] (b ∷ a ∷ ts) i f = tt
-  ask_minus (r ∷ rs) [] i f = tt
-  ask_minus (r ∷ rs) (b ∷ a ∷ ts) i f = tt
-  ask_minus (r ∷ rs) (c ∷ []) i f =
-      let (front, t, mid, terms, now, tf, tl, tp, rest) = i in
-      follows ns (Minus r c ∷ rs) [] (built ns (Minus r c ∷ rs) []) new refl (f.0, f.1 ∙ (now ∙ (ap (λ l. l ++ expr_asks c false) rest.1 ∙ regroup (all_asks rs) (asks r) (expr_asks c false))))
-
-  ask_times : (rs : List Range) (ts : List Expr) → IsAsking rs ts old → Closes old new → FollowsAsking ns (built (node.Times ∷ ns) rs ts) new
-  ask_times [] [] i f = tt
-  ask_times [] (a ∷ []) i f = tt
-  ask_times [] (b ∷ a ∷ ts) i f = tt
-  ask_times (r ∷ rs) [] i f = tt
-  ask_times (r ∷ rs) (b ∷ a ∷ ts) i f = tt
-  ask_times (r ∷ rs) (c ∷ []) i f =
-      let (front, t, mid, terms, now, tf, tl, tp, rest) = i in
-      follows ns (Times r c ∷ rs) [] (built ns (Times r c ∷ rs) []) new refl (f.0, f.1 ∙ (now ∙ (ap (λ l. l ++ expr_asks c false) rest.1 ∙ regroup (all_asks rs) (asks r) (expr_asks c false))))
+      follows ns (make r c ∷ rs) [] (built ns (make r c ∷ rs) []) new refl
+      (f.0, f.1 ∙ (now ∙ (ap (λ l. l ++ expr_asks c false) rest.1 ∙ (append_assoc (all_asks rs) (asks r) (expr_asks c false) ∙ ap (λ l. all_asks rs ++ l) (all r c)))))
 
   ask_over : (rs : List Range) (ts : List Expr) → IsAsking rs ts old → ClosesQuotient old new → FollowsAsking ns (built (node.Over ∷ ns) rs ts) new
   ask_over [] [] i f = tt
@@ -354,16 +256,16 @@ ok_asks (Ok x) P Q f h = f h
 ok_asks (Err e) P Q f h = tt
 
 pub open_true_takes : (m : RangeNode) (old new : Reading) → (((z : ℤ) × (m ≡ node.Int z)) ⊎ (m ≡ node.Infinity)) → Opens true old new → TakesAsks m old new
-open_true_takes m old new is f = elim is [ inl e0 ↦ via (node.Int e0.0) m old new e0.1 (λ ns rs ts i. ask_int ns old new e0.0 rs ts i f) | inr h0 ↦ via node.Infinity m old new h0 (λ ns rs ts i. ask_infinity ns old new rs ts i f) ]
+open_true_takes m old new is f = elim is [ inl e0 ↦ via (node.Int e0.0) m old new e0.1 (λ ns rs ts i. ask_leaf ns old new (Number e0.0) true refl refl refl rs ts i f) | inr h0 ↦ via node.Infinity m old new h0 (λ ns rs ts i. ask_leaf ns old new Infinity true refl refl refl rs ts i f) ]
 
 pub open_false_takes : (m : RangeNode) (old new : Reading) → (((y : ℕ) × (m ≡ node.Min y)) ⊎ (((y : ℕ) × (m ≡ node.Max y)) ⊎ ((y : ℕ) × (m ≡ node.Val y)))) → Opens false old new → TakesAsks m old new
-open_false_takes m old new is f = elim is [ inl e0 ↦ via (node.Min e0.0) m old new e0.1 (λ ns rs ts i. ask_min ns old new e0.0 rs ts i f) | inr h0 ↦ elim h0 [ inl e1 ↦ via (node.Max e1.0) m old new e1.1 (λ ns rs ts i. ask_max ns old new e1.0 rs ts i f) | inr h1 ↦ via (node.Val h1.0) m old new h1.1 (λ ns rs ts i. ask_val ns old new h1.0 rs ts i f) ] ]
+open_false_takes m old new is f = elim is [ inl e0 ↦ via (node.Min e0.0) m old new e0.1 (λ ns rs ts i. ask_leaf ns old new (Min e0.0) false refl refl refl rs ts i f) | inr h0 ↦ elim h0 [ inl e1 ↦ via (node.Max e1.0) m old new e1.1 (λ ns rs ts i. ask_leaf ns old new (Max e1.0) false refl refl refl rs ts i f) | inr h1 ↦ via (node.Val h1.0) m old new h1.1 (λ ns rs ts i. ask_leaf ns old new (Val h1.0) false refl refl refl rs ts i f) ] ]
 
 pub operate_takes : (m : RangeNode) (old new : Reading) → ((m ≡ node.Add) ⊎ ((m ≡ node.Sub) ⊎ ((m ≡ node.Mul) ⊎ ((m ≡ node.DivDown) ⊎ (m ≡ node.DivUp))))) → Operates m old new → TakesAsks m old new
 operate_takes m old new is f = elim is [ inl e0 ↦ via node.Add m old new e0 (λ ns rs ts i. ask_add ns old new rs ts i (subst (λ j. Operates j old new) e0 f)) | inr h0 ↦ elim h0 [ inl e1 ↦ via node.Sub m old new e1 (λ ns rs ts i. ask_sub ns old new rs ts i (subst (λ j. Operates j old new) e1 f)) | inr h1 ↦ elim h1 [ inl e2 ↦ via node.Mul m old new e2 (λ ns rs ts i. ask_mul ns old new rs ts i (subst (λ j. Operates j old new) e2 f)) | inr h2 ↦ elim h2 [ inl e3 ↦ via node.DivDown m old new e3 (λ ns rs ts i. ask_div_down ns old new rs ts i (subst (λ j. Operates j old new) e3 f)) | inr h3 ↦ via node.DivUp m old new h3 (λ ns rs ts i. ask_div_up ns old new rs ts i (subst (λ j. Operates j old new) h3 f)) ] ] ] ]
 
 pub close_takes : (m : RangeNode) (old new : Reading) → ((m ≡ node.Span) ⊎ ((m ≡ node.One) ⊎ (((y : ℕ) × (m ≡ node.Dom y)) ⊎ ((m ≡ node.Union) ⊎ ((m ≡ node.Inter) ⊎ ((m ≡ node.Outside) ⊎ ((m ≡ node.Plus) ⊎ ((m ≡ node.Minus) ⊎ (m ≡ node.Times))))))))) → Closes old new → TakesAsks m old new
-close_takes m old new is f = elim is [ inl e0 ↦ via node.Span m old new e0 (λ ns rs ts i. ask_span ns old new rs ts i f) | inr h0 ↦ elim h0 [ inl e1 ↦ via node.One m old new e1 (λ ns rs ts i. ask_one ns old new rs ts i f) | inr h1 ↦ elim h1 [ inl e2 ↦ via (node.Dom e2.0) m old new e2.1 (λ ns rs ts i. ask_dom ns old new e2.0 rs ts i f) | inr h2 ↦ elim h2 [ inl e3 ↦ via node.Union m old new e3 (λ ns rs ts i. ask_union ns old new rs ts i f) | inr h3 ↦ elim h3 [ inl e4 ↦ via node.Inter m old new e4 (λ ns rs ts i. ask_inter ns old new rs ts i f) | inr h4 ↦ elim h4 [ inl e5 ↦ via node.Outside m old new e5 (λ ns rs ts i. ask_outside ns old new rs ts i f) | inr h5 ↦ elim h5 [ inl e6 ↦ via node.Plus m old new e6 (λ ns rs ts i. ask_plus ns old new rs ts i f) | inr h6 ↦ elim h6 [ inl e7 ↦ via node.Minus m old new e7 (λ ns rs ts i. ask_minus ns old new rs ts i f) | inr h7 ↦ via node.Times m old new h7 (λ ns rs ts i. ask_times ns old new rs ts i f) ] ] ] ] ] ] ] ]
+close_takes m old new is f = elim is [ inl e0 ↦ via node.Span m old new e0 (λ ns rs ts i. ask_span ns old new rs ts i f) | inr h0 ↦ elim h0 [ inl e1 ↦ via node.One m old new e1 (λ ns rs ts i. ask_one ns old new rs ts i f) | inr h1 ↦ elim h1 [ inl e2 ↦ via (node.Dom e2.0) m old new e2.1 (λ ns rs ts i. ask_dom ns old new e2.0 rs ts i f) | inr h2 ↦ elim h2 [ inl e3 ↦ via node.Union m old new e3 (λ ns rs ts i. ask_ranges ns old new Union (λ r q. refl) rs ts i f) | inr h3 ↦ elim h3 [ inl e4 ↦ via node.Inter m old new e4 (λ ns rs ts i. ask_ranges ns old new Inter (λ r q. refl) rs ts i f) | inr h4 ↦ elim h4 [ inl e5 ↦ via node.Outside m old new e5 (λ ns rs ts i. ask_outside ns old new rs ts i f) | inr h5 ↦ elim h5 [ inl e6 ↦ via node.Plus m old new e6 (λ ns rs ts i. ask_pointwise ns old new Plus (λ r c. refl) rs ts i f) | inr h6 ↦ elim h6 [ inl e7 ↦ via node.Minus m old new e7 (λ ns rs ts i. ask_pointwise ns old new Minus (λ r c. refl) rs ts i f) | inr h7 ↦ via node.Times m old new h7 (λ ns rs ts i. ask_pointwise ns old new Times (λ r c. refl) rs ts i f) ] ] ] ] ] ] ] ]
 
 pub param_takes : (m : RangeNode) (x : ℕ) (old new : Reading) → m ≡ node.Param x → OpensParameter x old new → TakesAsks m old new
 param_takes m x old new e f = via (node.Param x) m old new e (λ ns rs ts i. ask_param ns old new x rs ts i f)

@@ -18,15 +18,10 @@ use Rattle.fd_language.proofs.Limits.{abs_add, abs_mul, abs_sub, not_over, produ
 pub literal_bound : (M : ℕ) (e : Expr) → is_literal e ≡ true → nat_abs (literal_value M e) ≤ bound M e
 literal_bound M (Number z) h = omega arith
 literal_bound M Infinity h = omega arith
-literal_bound M (Param x) h = absurd (true≢false (sym h))
-literal_bound M (Min y) h = absurd (true≢false (sym h))
-literal_bound M (Max y) h = absurd (true≢false (sym h))
-literal_bound M (Val y) h = absurd (true≢false (sym h))
 literal_bound M (Add a b) h = sums _ _ _ _ _ (abs_add (literal_value M a) (literal_value M b)) (literal_bound M a ((and_parts (is_literal a) (is_literal b) h).0)) (literal_bound M b ((and_parts (is_literal a) (is_literal b) h).1))
 literal_bound M (Sub a b) h = sums _ _ _ _ _ (abs_sub (literal_value M a) (literal_value M b)) (literal_bound M a ((and_parts (is_literal a) (is_literal b) h).0)) (literal_bound M b ((and_parts (is_literal a) (is_literal b) h).1))
 literal_bound M (Mul a b) h = products _ _ _ _ _ (abs_mul (literal_value M a) (literal_value M b)) (literal_bound M a ((and_parts (is_literal a) (is_literal b) h).0)) (literal_bound M b ((and_parts (is_literal a) (is_literal b) h).1))
-literal_bound M (DivDown a b) h = absurd (true≢false (sym h))
-literal_bound M (DivUp a b) h = absurd (true≢false (sym h))
+literal_bound M e h = absurd (true≢false (sym h))
 
 small : (m n : ℕ) → m ≤ n → n ≤ 2 ^ 126 - 1 → m < 2 ^ 127
 small m n h g = omega arith

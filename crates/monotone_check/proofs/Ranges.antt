@@ -14,17 +14,8 @@ use Rattle.monotone_check.proofs.Firsts.{first_two, first_three}
 use Rattle.monotone_check.proofs.Operators.{within_left, within_right}
 
 no_parameter : (c : Expr) → is_literal c ≡ true → is_parameter c ≡ false
-no_parameter (Number z) h = refl
-no_parameter Infinity h = refl
 no_parameter (Param x) h = absurd (true≢false (sym h))
-no_parameter (Min y) h = refl
-no_parameter (Max y) h = refl
-no_parameter (Val y) h = refl
-no_parameter (Add a b) h = refl
-no_parameter (Sub a b) h = refl
-no_parameter (Mul a b) h = refl
-no_parameter (DivDown a b) h = refl
-no_parameter (DivUp a b) h = refl
+no_parameter e h = refl
 
 divisor : (lc par : Bool) (v : ℤ) (place : ℕ) (o : Option ℤ) (t : TermCheck) → o ≡ cond lc (Some v) None → t.parameter ≡ par → t.place ≡ place → (lc ≡ true → par ≡ false) →
     divisor_first o t ≡ first (unless_divides (par || (lc && int_le (pos 1) v)) place)
