@@ -6,42 +6,36 @@ use Rattle.fd_language.specs.declared.range_node.RangeNode.{RangeNode}
 use Rattle.fd_language.specs.declared.range_node.RangeNode.TheVariants as node
 use Rattle.fd_language.specs.declared.range_node.Offence.{Offence}
 use Rattle.fd_language.specs.Family.{has}
-use Rattle.fd_language.specs.RangeVerdict.{clashes, where_first_clash, earlier, first}
+use Rattle.fd_language.specs.Range.{leaf_of}
+use Rattle.fd_language.specs.RangeVerdict.{leaf_clashes, clashes, where_first_clash, earlier, first}
 use Rattle.monotone_check.specs.Seen.{AreSeen, FindsAt}
 use Rattle.monotone_check.proofs.Firsts.{first-append, earlier_assoc, earlier_none}
 
 both_found : (xs ys : List Offence) (o : Option Offence) → o ≡ first xs → earlier o (first ys) ≡ first (xs ++ ys)
 both_found xs ys o e = ap (λ p. earlier p (first ys)) e ∙ sym (first-append xs ys)
 
-pub found_param : (x place : ℕ) (ps ys qs : List ℕ) (o : Option Offence) →
+-- a parameter, and a variable by min, max, val or dom
+found_param : (x place : ℕ) (ps ys qs : List ℕ) (o : Option Offence) →
     ((xs zs : List ℕ) → AreSeen xs ys → AreSeen zs ps → o ≡ first (where_first_clash (has xs x) (has zs x) place)) → ((zs : List ℕ) → AreSeen zs ps → AreSeen (x ∷ zs) qs) →
     FindsAt place (node.Param x) ps ys qs ys o
 found_param x place ps ys qs o f g = λ at n ns ks bs e a b.
     (x ∷ ks, bs, g ks a, b, both_found (where_first_clash (has bs x) (has ks x) (at n)) (clashes at (suc n) (x ∷ ks) bs ns) o (f bs ks b a ∙ ap (λ p. first (where_first_clash (has bs x) (has ks x) p)) (sym e)))
 
-pub found_min : (y place : ℕ) (ps ys zs : List ℕ) (o : Option Offence) →
-    ((xs us : List ℕ) → AreSeen xs ps → AreSeen us ys → o ≡ first (where_first_clash (has xs y) (has us y) place)) → ((us : List ℕ) → AreSeen us ys → AreSeen (y ∷ us) zs) →
-    FindsAt place (node.Min y) ps ys ps zs o
-found_min y place ps ys zs o f g = λ at n ns ks bs e a b.
-    (ks, y ∷ bs, a, g bs b, both_found (where_first_clash (has ks y) (has bs y) (at n)) (clashes at (suc n) ks (y ∷ bs) ns) o (f ks bs a b ∙ ap (λ p. first (where_first_clash (has ks y) (has bs y) p)) (sym e)))
+-- the node is a leaf that names y so
+abbrev pub Names : RangeNode → ℕ → Type 0
+Names m y = (p : ℕ) (ks bs : List ℕ) (k : List ℕ → List ℕ → List Offence) → where_first_clash (has ks y) (has bs y) p ++ k ks (y ∷ bs) ≡ leaf_clashes p ks bs (leaf_of m) k
 
-pub found_max : (y place : ℕ) (ps ys zs : List ℕ) (o : Option Offence) →
+found_named : (m : RangeNode) (y place : ℕ) (ps ys zs : List ℕ) (o : Option Offence) → Names m y →
     ((xs us : List ℕ) → AreSeen xs ps → AreSeen us ys → o ≡ first (where_first_clash (has xs y) (has us y) place)) → ((us : List ℕ) → AreSeen us ys → AreSeen (y ∷ us) zs) →
-    FindsAt place (node.Max y) ps ys ps zs o
-found_max y place ps ys zs o f g = λ at n ns ks bs e a b.
-    (ks, y ∷ bs, a, g bs b, both_found (where_first_clash (has ks y) (has bs y) (at n)) (clashes at (suc n) ks (y ∷ bs) ns) o (f ks bs a b ∙ ap (λ p. first (where_first_clash (has ks y) (has bs y) p)) (sym e)))
-
-pub found_val : (y place : ℕ) (ps ys zs : List ℕ) (o : Option Offence) →
-    ((xs us : List ℕ) → AreSeen xs ps → AreSeen us ys → o ≡ first (where_first_clash (has xs y) (has us y) place)) → ((us : List ℕ) → AreSeen us ys → AreSeen (y ∷ us) zs) →
-    FindsAt place (node.Val y) ps ys ps zs o
-found_val y place ps ys zs o f g = λ at n ns ks bs e a b.
-    (ks, y ∷ bs, a, g bs b, both_found (where_first_clash (has ks y) (has bs y) (at n)) (clashes at (suc n) ks (y ∷ bs) ns) o (f ks bs a b ∙ ap (λ p. first (where_first_clash (has ks y) (has bs y) p)) (sym e)))
-
-pub found_dom : (y place : ℕ) (ps ys zs : List ℕ) (o : Option Offence) →
-    ((xs us : List ℕ) → AreSeen xs ps → AreSeen us ys → o ≡ first (where_first_clash (has xs y) (has us y) place)) → ((us : List ℕ) → AreSeen us ys → AreSeen (y ∷ us) zs) →
-    FindsAt place (node.Dom y) ps ys ps zs o
-found_dom y place ps ys zs o f g = λ at n ns ks bs e a b.
-    (ks, y ∷ bs, a, g bs b, both_found (where_first_clash (has ks y) (has bs y) (at n)) (clashes at (suc n) ks (y ∷ bs) ns) o (f ks bs a b ∙ ap (λ p. first (where_first_clash (has ks y) (has bs y) p)) (sym e)))
+    FindsAt place m ps ys ps zs o
+found_named m y place ps ys zs o names f g = λ at n ns ks bs e a b. (
+  ks,
+  y ∷ bs,
+  a,
+  g bs b,
+  both_found (where_first_clash (has ks y) (has bs y) (at n)) (clashes at (suc n) ks (y ∷ bs) ns) o (f ks bs a b ∙ ap (λ p. first (where_first_clash (has ks y) (has bs y) p)) (sym e))
+      ∙ ap first (names (at n) ks bs (λ qs us. clashes at (suc n) qs us ns)),
+)
 
 pub loop_step : (at : ℕ → ℕ) (i : ℕ) (nodes : List RangeNode) (d : RangeNode) (place : ℕ) (clash found next whole : Option Offence) (old_ps old_ys new_ps new_ys : List ℕ) → i < length nodes → at i ≡ place →
     ((ps : List ℕ) × (ys : List ℕ) × AreSeen ps old_ps × AreSeen ys old_ys × (earlier clash (first (clashes at i ps ys (drop i nodes))) ≡ whole)) →
@@ -78,17 +72,8 @@ Seeing x old new = (ys : List ℕ) → AreSeen ys old → AreSeen (x ∷ ys) new
 pub param_ok : {E : Type 0} (r : Result (Option Offence) E) (m : RangeNode) (x place : ℕ) (ps ys qs : List ℕ) → m ≡ node.Param x → IfOk r (Clashing x place ys ps) → OnOk r (Seeing x ps qs) → IfOk r (FindsAt place m ps ys qs ys)
 param_ok r m x place ps ys qs e h g = ok_both r (Clashing x place ys ps) (Seeing x ps qs) (FindsAt place m ps ys qs ys) h g (λ o f s. subst (λ k. FindsAt place k ps ys qs ys o) (sym e) (found_param x place ps ys qs o f s))
 
-pub min_ok : {E : Type 0} (r : Result (Option Offence) E) (m : RangeNode) (y place : ℕ) (ps ys zs : List ℕ) → m ≡ node.Min y → IfOk r (Clashing y place ps ys) → OnOk r (Seeing y ys zs) → IfOk r (FindsAt place m ps ys ps zs)
-min_ok r m y place ps ys zs e h g = ok_both r (Clashing y place ps ys) (Seeing y ys zs) (FindsAt place m ps ys ps zs) h g (λ o f s. subst (λ k. FindsAt place k ps ys ps zs o) (sym e) (found_min y place ps ys zs o f s))
-
-pub max_ok : {E : Type 0} (r : Result (Option Offence) E) (m : RangeNode) (y place : ℕ) (ps ys zs : List ℕ) → m ≡ node.Max y → IfOk r (Clashing y place ps ys) → OnOk r (Seeing y ys zs) → IfOk r (FindsAt place m ps ys ps zs)
-max_ok r m y place ps ys zs e h g = ok_both r (Clashing y place ps ys) (Seeing y ys zs) (FindsAt place m ps ys ps zs) h g (λ o f s. subst (λ k. FindsAt place k ps ys ps zs o) (sym e) (found_max y place ps ys zs o f s))
-
-pub val_ok : {E : Type 0} (r : Result (Option Offence) E) (m : RangeNode) (y place : ℕ) (ps ys zs : List ℕ) → m ≡ node.Val y → IfOk r (Clashing y place ps ys) → OnOk r (Seeing y ys zs) → IfOk r (FindsAt place m ps ys ps zs)
-val_ok r m y place ps ys zs e h g = ok_both r (Clashing y place ps ys) (Seeing y ys zs) (FindsAt place m ps ys ps zs) h g (λ o f s. subst (λ k. FindsAt place k ps ys ps zs o) (sym e) (found_val y place ps ys zs o f s))
-
-pub dom_ok : {E : Type 0} (r : Result (Option Offence) E) (m : RangeNode) (y place : ℕ) (ps ys zs : List ℕ) → m ≡ node.Dom y → IfOk r (Clashing y place ps ys) → OnOk r (Seeing y ys zs) → IfOk r (FindsAt place m ps ys ps zs)
-dom_ok r m y place ps ys zs e h g = ok_both r (Clashing y place ps ys) (Seeing y ys zs) (FindsAt place m ps ys ps zs) h g (λ o f s. subst (λ k. FindsAt place k ps ys ps zs o) (sym e) (found_dom y place ps ys zs o f s))
+pub named_ok : {E : Type 0} (r : Result (Option Offence) E) (m k : RangeNode) (y place : ℕ) (ps ys zs : List ℕ) → Names k y → m ≡ k → IfOk r (Clashing y place ps ys) → OnOk r (Seeing y ys zs) → IfOk r (FindsAt place m ps ys ps zs)
+named_ok r m k y place ps ys zs names e h g = ok_both r (Clashing y place ps ys) (Seeing y ys zs) (FindsAt place m ps ys ps zs) h g (λ o f s. subst (λ j. FindsAt place j ps ys ps zs o) (sym e) (found_named k y place ps ys zs o names f s))
 
 pub found_none : (m : RangeNode) (place : ℕ) (ps ys : List ℕ) → ((x : ℕ) → m ≡ node.Param x → ⊥) → ((x : ℕ) → m ≡ node.Min x → ⊥) → ((x : ℕ) → m ≡ node.Max x → ⊥) → ((x : ℕ) → m ≡ node.Val x → ⊥) → ((x : ℕ) → m ≡ node.Dom x → ⊥) → FindsAt place m ps ys ps ys None
 found_none (node.Param x) place ps ys a b c d e = absurd (a x refl)
