@@ -125,7 +125,13 @@ const ROWS: [Row; 35] = [
     row!("&", infix 520 LeftAssociative),
     row!("*", infix 400 LeftAssociative),
     row!("+", infix 500 LeftAssociative),
-    row!(",", infix 1000 RightAssociative),
+    Row {
+        name: ",",
+        roles: Roles {
+            infix: Some(COMMA),
+            prefix: None,
+        },
+    },
     row!("-", infix 500 LeftAssociative, prefix 200 PrefixAssociative),
     row!("->", infix 1050 RightAssociative),
     row!("..", infix 510 NotAssociative),
