@@ -12,3 +12,4 @@ pub mod Shifting
 pub mod Scaling
 pub mod Images
 pub mod Union
+pub mod Inside

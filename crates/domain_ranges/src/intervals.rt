@@ -58,6 +58,46 @@ pub fn contains(spans: &[(u32, u32)], n: u32) -> bool
     place < spans.len() && spans[place].0 <= n
 }
 
+/// Whether each number of the first intervals is in the second ones.
+pub fn is_inside(a: &[(u32, u32)], b: &[(u32, u32)]) -> bool
+    requires first { IsSpans 0 INFINITY a.now }
+    requires second { IsSpans 0 INFINITY b.now }
+    ensures inside { IsTrue result
+        → (n : ℕ) → IsTrue (within a.now n) → IsTrue (within b.now n) }
+    ensures outside { result ≡ false
+        → (n : ℕ) × IsTrue (within a.now n) × (within b.now n ≡ false) }
+{
+    let mut i = 0;
+    let mut j = 0;
+    'comparing: while i < a.len() {
+        if j >= b.len() {
+            return false;
+        }
+        if b[j].1 < a[i].0 {
+            j += 1;
+        } else if b[j].0 <= a[i].0 && a[i].1 <= b[j].1 {
+            i += 1;
+        } else {
+            return false;
+        }
+    }
+    true
+}
+
+/// Whether some number of the intervals is below or above the bounds.
+pub fn is_cut(spans: &[(u32, u32)], bounds: (u32, u32)) -> bool
+    requires { IsSpans 0 INFINITY spans.now }
+    ensures no { result ≡ false → (n : ℕ) → IsTrue (within spans.now n)
+        → IsTrue (within (bounds ∷ []) n) }
+    ensures yes { IsTrue result
+        → (n : ℕ) × IsTrue (within spans.now n) × (within (bounds ∷ []) n ≡ false) }
+{
+    match spans {
+        [] => false,
+        [first, ..] => first.0 < bounds.0 || bounds.1 < spans[spans.len() - 1].1,
+    }
+}
+
 /// Puts the interval behind the list.
 fn push(list: &mut SmallVec<(u32, u32), 2>, span: (u32, u32)) -> Result<(), NoMemory>
     requires { 2 ≤ list.old.capacity }

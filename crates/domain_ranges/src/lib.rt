@@ -4,10 +4,14 @@
 ghost use Rattle.std.specs.Prelude.{◌≡◌, ◌<◌, ◌≤◌, ◌&&◌, ◌||◌, not, nat_le, ◌^◌, neg_ℤ, ◌≤ℤ◌, ◌<ℤ◌, ◌⊎◌, if◌then◌else◌, ℕ, List, [], ◌∷◌, length, slice_index_or, filter, pos, int_le, IfOk, OnErr, MatchOption, IsTrue, IfSome, OnSome, false};
 ghost use Rattle.domain_ranges.specs.Spans.{IsSpans, members, interval_count, has_int};
 ghost use Rattle.domain_ranges.specs.Sets.{is_shifted, is_scaled, is_quotient};
-ghost use Rattle.fd_language.specs.Family.{has, universe, IsRising};
+ghost use Rattle.domain_ranges.specs.Narrowing.{between, IsNarrowed};
+ghost use Rattle.fd_language.specs.Family.{has, universe, IsRising, IsSubset};
 ghost use Rattle.fd_language.specs.Range.{least, greatest, is_none_left};
 
 mod intervals;
+mod set_stack;
+
+pub use set_stack::SetStack;
 
 use fd_language::{INFINITY, NoMemory};
 use smallvec::SmallVec;
@@ -33,6 +37,17 @@ impl Model for Domain {
     ghost view = { λ d. members d.list.items };
 
     ghost invariant = { λ d. IsSpans 0 INFINITY d.list.items };
+}
+
+/// What is left of a set of values.
+#[derive(Drop)]
+pub enum Narrowed {
+    /// All of it.
+    Same,
+    /// Nothing.
+    Empty,
+    /// Some members, fewer than before.
+    Changed(Domain),
 }
 
 /// What has a domain for each variable number below some bound.
@@ -165,6 +180,48 @@ impl Domain {
         Ok(Domain { list })
     }
 
+    /// Whether each member is a member of the other set.
+    pub fn is_inside(&self, other: &Domain) -> bool
+        ensures inside { IsTrue result → IsSubset self.now other.now }
+        ensures outside { result ≡ false
+            → (n : ℕ) × IsTrue (has self.now n) × (has other.now n ≡ false) }
+    {
+        intervals::is_inside(self.spans(), other.spans())
+    }
+
+    /// What is left of the set among the members of the other one. Where that is all, nothing is made.
+    pub fn narrowed_by(&self, other: &Domain) -> Result<Narrowed, NoMemory>
+        ensures { IfOk result (IsNarrowed self.now other.now) }
+    {
+        if self.is_inside(other) {
+            return Ok(Narrowed::Same);
+        }
+        let left = self.intersect(other)?;
+        match left.min() {
+            None => Ok(Narrowed::Empty),
+            Some(_) => Ok(Narrowed::Changed(left)),
+        }
+    }
+
+    /// What is left of the set among the numbers from `lo` to `hi`. Where that is all, nothing is made.
+    pub fn narrowed_to(&self, lo: i128, hi: i128) -> Result<Narrowed, NoMemory>
+        ensures { IfOk result (IsNarrowed self.now (between lo hi)) }
+    {
+        let Some(bounds) = intervals::cut(lo, hi) else {
+            return Ok(Narrowed::Empty);
+        };
+        let spans = self.spans();
+        if !intervals::is_cut(spans, bounds) {
+            return Ok(Narrowed::Same);
+        }
+        let list = intervals::meet_all(*self.list.allocator(), spans, &[bounds])?;
+        let left = Domain { list };
+        match left.min() {
+            None => Ok(Narrowed::Empty),
+            Some(_) => Ok(Narrowed::Changed(left)),
+        }
+    }
+
     /// The least member that is at least `n`, and `None` where there is none.
     pub fn next_from(&self, n: u32) -> Option<u32>
         ensures least { MatchOption result (filter (λ k. nat_le n k) self.now ≡ [])
@@ -226,6 +283,13 @@ impl Domain {
         ensures rising { IsRising 0 INFINITY self.now }
     {
         self.list.as_slice()
+    }
+
+    /// Does nothing. A contract learns that the members rise.
+    pub fn rises(&self)
+        ensures { IsRising 0 INFINITY self.now }
+    {
+        self.spans();
     }
 
     /// The set of 0 alone, or the empty set.

@@ -1,0 +1,118 @@
+-- Whether the numbers of a list of intervals are all in another one.
+use Rattle.std.proofs.Common.{◌≡◌, ℕ, suc, ◌+◌, ◌-◌, ◌<◌, ◌≤◌, Bool, true, false, List, [], ◌∷◌, filter, ℤ, pos, int_le, ◌&&◌, refl, sym, ◌∙◌, ap, subst, inl, inr, ◌⊎◌, arith, length, get_or, drop, drop_of_length-le, IsTrue}
+use Rattle.std.proofs.lemmas.Bool.{true≢false}
+use Rattle.fd_language.specs.Family.{has, universe, IsRising, IsSubset}
+use Rattle.fd_language.specs.Range.{is_none_left}
+use Rattle.fd_language.proofs.Sets.{has-filter, has-filter_back}
+use Rattle.fd_language.proofs.Greatest.{shorter_or_same}
+use Rattle.domain_ranges.specs.Spans.{Span, within, IsSpans, members}
+use Rattle.domain_ranges.specs.Narrowing.{between}
+use Rattle.domain_ranges.proofs.Members.{has_within, interval_none, members_none}
+use Rattle.fd_language.specs.declared.TheConstants.{INFINITY}
+use Rattle.domain_ranges.proofs.Spans.{head_or_later, in_head, in_later, within_low, past_first, behind_first, IsLeast, IsGreatest, least_first, greatest_end, not_within}
+use Rattle.domain_ranges.proofs.Meeting.{drop_next}
+use Rattle.domain_ranges.proofs.Places.{drop_spans}
+use Rattle.domain_ranges.proofs.Made.{out_low, out_high}
+
+abbrev pub AllIn : List Span → List Span → Type 0
+AllIn a b = (n : ℕ) → within a n ≡ true → within b n ≡ true
+
+abbrev pub SomeOut : List Span → List Span → Type 0
+SomeOut a b = (n : ℕ) × (within a n ≡ true) × (within b n ≡ false)
+
+-- what is left of the lists answers for all of them
+pub record Comparing (a b ra rb : List Span) : Type 0 where
+  pub inside : AllIn ra rb → AllIn a b
+  pub outside : SomeOut ra rb → SomeOut a b
+
+pub comparing_start : (a b : List Span) → Comparing a b a b
+comparing_start a b = record { inside = λ f. f; outside = λ f. f }
+
+-- an interval that ends below the first number to look for
+pass_other : (low M : ℕ) (a b xs ys : List Span) (x y : Span) → IsSpans low M (x ∷ xs) → y.1 < x.0 → Comparing a b (x ∷ xs) (y ∷ ys) → Comparing a b (x ∷ xs) ys
+pass_other low M a b xs ys x y r h c = record {
+  inside = λ f. c.inside (λ n g. in_later y ys n (f n g));
+  outside = λ (n, g, k). c.outside (n, g, past_first y ys n (let l : x.0 ≤ n = within_low x.0 M (x ∷ xs) n (omega arith, r.1, r.2, r.3) g in omega arith) ∙ k);
+}
+
+-- an interval that is all in the other one
+pass_one : (a b xs ys : List Span) (x y : Span) → y.0 ≤ x.0 → x.1 ≤ y.1 → Comparing a b (x ∷ xs) (y ∷ ys) → Comparing a b xs (y ∷ ys)
+pass_one a b xs ys x y h g c = record {
+  inside = λ f. c.inside (λ n k. elim (head_or_later x xs n k) [ inl e ↦ in_head y ys n (omega (arith, e.0)) (omega (arith, e.1)) | inr e ↦ f n e ]);
+  outside = λ (n, k, l). c.outside (n, in_later x xs n k, l);
+}
+
+-- a number that is missing
+missing : (low low' M : ℕ) (xs ys : List Span) (x y : Span) → IsSpans low M (x ∷ xs) → IsSpans low' M (y ∷ ys) → x.0 ≤ y.1 → (x.0 < y.0) ⊎ (y.1 < x.1) → SomeOut (x ∷ xs) (y ∷ ys)
+missing low low' M xs ys x y r q h (inl e) = (x.0, in_head x xs x.0 (omega arith) r.1, not_within y.0 M x.0 (y ∷ ys) (within (y ∷ ys) x.0) (omega arith, q.1, q.2, q.3) e refl)
+missing low low' M xs ys x y r q h (inr e) = (suc y.1, in_head x xs (suc y.1) (omega arith) (omega arith), behind_first low' M y ys q)
+
+-- the same at places
+module _ (M : ℕ) (a b : List Span) (i j : ℕ) (r : IsSpans 0 M a) (q : IsSpans 0 M b) (h : i < length a) (c : Comparing a b (drop i a) (drop j b)) where
+  abbrev x : Span
+  x = get_or a i (0, 0)
+
+  abbrev y : Span
+  y = get_or b j (0, 0)
+
+  left : (low : ℕ) × IsSpans low M (x ∷ drop (i + 1) a)
+  left = let d = drop_spans 0 M i a r in (d.0, subst (IsSpans d.0 M) (drop_next i a (0, 0) h) d.1)
+
+  right : j < length b → (low : ℕ) × IsSpans low M (y ∷ drop (j + 1) b)
+  right g = let d = drop_spans 0 M j b q in (d.0, subst (IsSpans d.0 M) (drop_next j b (0, 0) g) d.1)
+
+  both : j < length b → Comparing a b (x ∷ drop (i + 1) a) (y ∷ drop (j + 1) b)
+  both g = subst (λ l. Comparing a b l (y ∷ drop (j + 1) b)) (drop_next i a (0, 0) h) (subst (λ l. Comparing a b (drop i a) l) (drop_next j b (0, 0) g) c)
+
+  pub other_passed : j < length b → y.1 < x.0 → Comparing a b (drop i a) (drop (j + 1) b)
+  other_passed g e = subst (λ l. Comparing a b l (drop (j + 1) b)) (sym (drop_next i a (0, 0) h)) (pass_other left.0 M a b (drop (i + 1) a) (drop (j + 1) b) x y left.1 e (both g))
+
+  pub one_passed : j < length b → y.0 ≤ x.0 → x.1 ≤ y.1 → Comparing a b (drop (i + 1) a) (drop j b)
+  one_passed g e f = subst (λ l. Comparing a b (drop (i + 1) a) l) (sym (drop_next j b (0, 0) g)) (pass_one a b (drop (i + 1) a) (drop (j + 1) b) x y e f (both g))
+
+  pub none_there : length b ≤ j → SomeOut a b
+  none_there g = c.outside (x.0, subst (λ l. within l x.0 ≡ true) (sym (drop_next i a (0, 0) h)) (in_head x (drop (i + 1) a) x.0 (omega arith) left.1.1), ap (λ l. within l x.0) (drop_of_length-le b g))
+
+  pub one_missing : j < length b → x.0 ≤ y.1 → (x.0 < y.0) ⊎ (y.1 < x.1) → SomeOut a b
+  one_missing g e f = (both g).outside (missing left.0 (right g).0 M (drop (i + 1) a) (drop (j + 1) b) x y left.1 (right g).1 e f)
+
+pub all_compared : (a b : List Span) (i j : ℕ) → length a ≤ i → Comparing a b (drop i a) (drop j b) → AllIn a b
+all_compared a b i j h c = c.inside (λ n g. absurd (true≢false (sym g ∙ ap (λ l. within l n) (drop_of_length-le a h))))
+
+-- the ends against bounds
+pub ends_within : (M : ℕ) (ss : List Span) (s : Span) → IsSpans 0 M ss → 1 ≤ length ss → s.0 ≤ (get_or ss 0 (0, 0)).0 → (get_or ss (length ss - 1) (0, 0)).1 ≤ s.1 → AllIn ss (s ∷ [])
+ends_within M ss s r h e f n g =
+    let l = least_first M ss ss r refl h in let k = greatest_end M ss ss r refl h in
+    in_head s [] n (omega (arith, l.least n g)) (omega (arith, k.greatest n g))
+
+pub below_bounds : (M : ℕ) (ss : List Span) (s : Span) → IsSpans 0 M ss → 1 ≤ length ss → (get_or ss 0 (0, 0)).0 < s.0 → SomeOut ss (s ∷ [])
+below_bounds M ss s r h e = ((get_or ss 0 (0, 0)).0, (least_first M ss ss r refl h).there, out_low s _ e)
+
+pub above_bounds : (M : ℕ) (ss : List Span) (s : Span) → IsSpans 0 M ss → 1 ≤ length ss → s.1 < (get_or ss (length ss - 1) (0, 0)).1 → SomeOut ss (s ∷ [])
+above_bounds M ss s r h e = ((get_or ss (length ss - 1) (0, 0)).1, (greatest_end M ss ss r refl h).there, out_high s _ e)
+
+-- a set that loses a member is shorter
+pub loses : (xs ys : List ℕ) (n : ℕ) → has xs n ≡ true → has ys n ≡ false → length (filter (has ys) xs) < length xs
+loses xs ys n h g = elim (shorter_or_same (has ys) xs) [
+  | inl l ↦ l
+  | inr e ↦ absurd (true≢false (sym (has-filter_back (has ys) xs n (ap (λ l. has l n) e ∙ h)).1 ∙ g))
+]
+
+pub none_in : (xs ys : List ℕ) → ((n : ℕ) → has ys n ≡ false) → filter (has ys) xs ≡ []
+none_in [] ys h = refl
+none_in (x ∷ xs) ys h = rw (h x) (none_in xs ys h)
+
+-- the same of the sets that the intervals are
+pub subset_of : (M : ℕ) (a b : List Span) (xs ys : List ℕ) → IsSpans 0 M a → IsSpans 0 M b → members a ≡ xs → members b ≡ ys → AllIn a b → IsSubset xs ys
+subset_of M a b xs ys r q e f h = record { each = λ n g. sym (has_within M b ys n q f) ∙ h n (has_within M a xs n r e ∙ g) }
+
+pub member_out : (M : ℕ) (a b : List Span) (xs ys : List ℕ) → IsSpans 0 M a → IsSpans 0 M b → members a ≡ xs → members b ≡ ys → SomeOut a b → (n : ℕ) × (has xs n ≡ true) × (has ys n ≡ false)
+member_out M a b xs ys r q e f (n, g, h) = (n, sym (has_within M a xs n r e) ∙ g, sym (has_within M b ys n q f) ∙ h)
+
+-- what is left of a set that loses a member
+pub left_of : (old set new : List ℕ) → new ≡ filter (has set) old → (n : ℕ) × (has old n ≡ true) × (has set n ≡ false) → length new < length old
+left_of old set new e (n, h, g) = subst (λ l. length l < length old) (sym e) (loses old set n h g)
+
+-- no number of U is between the bounds
+pub none_between : (xs : List ℕ) (lo hi : ℤ) → ((n : ℕ) → n ≤ INFINITY → (int_le lo (pos n) && int_le (pos n) hi) ≡ false) → filter (has (between lo hi)) xs ≡ []
+none_between xs lo hi f = none_in xs (between lo hi) (λ n. ap (λ l. has l n) (sym (interval_none INFINITY lo hi f) ∙ members_none))
