@@ -1,6 +1,6 @@
 // Sets that wait for their operators.
 
-ghost use Rattle.std.specs.Prelude.{◌≡◌, ◌<◌, ◌≤◌, ◌+◌, ◌-◌, ◌||◌, ℕ, List, [], ◌∷◌, length, filter, IfOk, OnOk, MatchOption};
+ghost use Rattle.std.specs.Prelude.{◌≡◌, ◌<◌, ◌≤◌, ◌+◌, ◌-◌, ◌||◌, ℕ, List, [], ◌∷◌, length, filter, IfOk, IfSome, OnOk, MatchOption};
 ghost use Rattle.fd_language.specs.Family.{has, universe, IsRising};
 ghost use Rattle.domain_ranges.specs.Narrowing.{between};
 
@@ -80,6 +80,7 @@ impl SetStack {
     /// Takes the set on top away, if there is one.
     pub fn pop(&mut self) -> Result<Option<Domain>, NoMemory>
         ensures popped { IfOk result (λ o. MatchOption o (self.old.sets ≡ []) (λ d. self.old.sets ≡ d ∷ self.new.sets)) }
+        ensures left { IfOk result (λ o. IfSome o (λ _. length self.new.sets < self.new.room)) }
         ensures fewer { length self.new.sets ≤ length self.old.sets - 1 }
         ensures room { self.new.room ≡ self.old.room }
     {

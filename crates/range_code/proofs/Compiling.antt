@@ -1,20 +1,31 @@
 -- What is compiled is the range.
-use Rattle.std.proofs.Common.{◌≡◌, ℕ, suc, ◌+◌, ◌<◌, ◌≤◌, Bool, true, false, cond, not, ◌==◌, nat_lt, nat_eq, List, [], ◌∷◌, ◌++◌, length, map, take, get_or, Option, Some, None, IsTrue, refl, sym, ◌∙◌, ap, subst, arith}
+use Rattle.std.proofs.Common.{◌≡◌, ℕ, suc, ◌+◌, ◌<◌, ◌≤◌, Bool, true, false, cond, not, ◌==◌, nat_lt, nat_eq, List, [], ◌∷◌, ◌++◌, length, map, filter, max, take, get_or, Option, Some, None, IsTrue, refl, sym, ◌∙◌, ap, subst, arith}
 use Rattle.std.specs.Prelude.{MatchOption}
-use Rattle.std.specs.List.{position, position_or_len}
+use Rattle.std.specs.Option.{option_to_list}
+use Rattle.std.specs.List.{position, position_or_len, list_any}
 use Rattle.std.proofs.lemmas.List.{take_more}
 use Rattle.fd_language.specs.declared.TheConstants.{INFINITY}
 use Rattle.fd_language.specs.declared.range_node.Need.{Need}
 use Rattle.fd_language.specs.declared.range_node.Feature.{Feature}
 use Rattle.fd_language.specs.declared.range_node.RangeNode.{RangeNode}
 use Rattle.fd_language.specs.Range.{Range}
-use Rattle.fd_language.specs.Flat.{nodes_of, spelled, spelled-nodes}
+use Rattle.fd_language.specs.Flat.{nodes_of, spelled, spelled-nodes, built, builds_range}
+use Rattle.range_code.proofs.Opened.{length_map}
 use Rattle.fd_language.specs.RangeVerdict.{is_accepted}
 use Rattle.fd_language.specs.Needs.{needs, once}
-use Rattle.fd_language.specs.Features.{each_once}
+use Rattle.fd_language.specs.declared.range_node.Feature.TheVariants as feature
+use Rattle.fd_language.specs.Family.{count_up}
+use Rattle.fd_language.specs.Features.{each_once, is_same_pair}
 use Rattle.range_code.specs.Asked.{need_in}
 use Rattle.range_code.specs.Nodes.{node_variables, node_features, node_variable, node_feature, listed, rename_node}
-use Rattle.range_code.specs.Slots.{slots_of, slot_of, in_slots, IsCompiled}
+use Rattle.range_code.specs.Slots.{slots_of, slot_of, in_slots, slot_features}
+use Rattle.range_code.specs.Kinds.{has_pair, all_told}
+use Rattle.range_code.specs.Heights.{values_after, sets_after, peak}
+use Rattle.range_code.specs.Walked.{all_steps}
+use Rattle.range_code.specs.Compiled.{IsCompiled}
+use Rattle.range_code.specs.declared.compile.ReadKind.{ReadKind}
+use Rattle.range_code.specs.declared.evaluate.Steps.{Steps}
+use Rattle.range_code.proofs.Standings.{any_once}
 use Rattle.range_code.specs.Gathered.{IsNumbered, IsRead}
 use Rattle.range_code.specs.declared.compile.Numbered.{Numbered}
 use Rattle.range_code.specs.declared.compile.Read.{Read}
@@ -52,17 +63,48 @@ read_more nodes i d old new l h f = subst (λ ds. IsRead ds new) (sym (ap node_f
 pub needs_more : (ds : List (ℕ × Need)) (i : ℕ) (d : ℕ × Need) (old new : Option Need) (y : ℕ) → i < length ds → new ≡ cond ((get_or ds i d).0 == y) (Some (get_or ds i d).1) old → old ≡ need_in (take i ds) y → new ≡ need_in (take (i + 1) ds) y
 needs_more ds i d old new y l e h = e ∙ (ap (λ o. cond ((get_or ds i d).0 == y) (Some (get_or ds i d).1) o) h ∙ (sym (need_more (take i ds) (get_or ds i d) y) ∙ ap (λ k. need_in k y) (sym (take_more ds i d l))))
 
+-- which slots were met, as pairs that were read
+same_told : (min min' max max' : ℕ → Bool) (fs fs' : List (ℕ × Feature)) → ((s : ℕ) → min s ≡ min' s) → ((s : ℕ) → max s ≡ max' s) → fs ≡ fs' → all_told min max fs ≡ all_told min' max' fs'
+same_told min min' max max' fs fs' h g e = ap (λ f. all_told f max fs) (λ i s. h s i) ∙ (ap (λ f. all_told min' f fs) (λ i s. g s i) ∙ ap (all_told min' max') e)
+
+kept_same : (p q : ℕ → Bool) (xs : List ℕ) → ((n : ℕ) → p n ≡ q n) → filter p xs ≡ filter q xs
+kept_same p q xs h = ap (λ f. filter f xs) (λ i n. h n i)
+
+pair_once : (ds fs : List (ℕ × Feature)) (d : ℕ × Feature) → fs ≡ each_once ds → has_pair ds d ≡ has_pair fs d
+pair_once ds fs d e = sym (ap (λ l. has_pair l d) e ∙ any_once (is_same_pair d) ds)
+
 -- the whole
-pub compiled : (r q : Range) (ns : List RangeNode) (slots keys : List ℕ) (asked : List (ℕ × Need)) (ms : List RangeNode) (fs : List (ℕ × Feature)) (by_slot : List (Option Need)) →
-    IsTrue (is_accepted INFINITY r) → q ≡ r → ns ≡ nodes_of q → slots ≡ once (node_variables ns) → keys ≡ once (node_variables ns) → ms ≡ map (rename_node (λ y. position_or_len (nat_eq y) keys)) ns → fs ≡ each_once (node_features ms) → asked ≡ needs r → by_slot ≡ map (need_in asked) slots →
-    IsCompiled q slots by_slot fs ms
-compiled r q ns slots keys asked ms fs by_slot a e n s k m f d b =
+pub compiled : (r q : Range) (ns : List RangeNode) (slots keys : List ℕ) (asked : List (ℕ × Need)) (ms : List RangeNode) (read : Read) (kinds : List (ℕ × ReadKind)) (ys : List ℕ) (by_slot : List (Option Need)) (steps : Steps) (high : ℕ) →
+    IsTrue (is_accepted INFINITY r) → q ≡ r → ns ≡ nodes_of q → slots ≡ once (node_variables ns) → keys ≡ once (node_variables ns) → ms ≡ map (rename_node (λ y. position_or_len (nat_eq y) keys)) ns →
+    IsRead (node_features ms) read → kinds ≡ all_told (λ s. list_any (nat_eq s) read.met.min.keys) (λ s. list_any (nat_eq s) read.met.max.keys) read.features.items → ys ≡ filter (λ s. list_any (nat_eq s) read.met.val.keys) (count_up 0 (length slots)) →
+    asked ≡ needs r → by_slot ≡ map (need_in asked) slots → ms ≡ all_steps steps → high ≡ max (peak values_after ms 0) (peak sets_after ms 0) →
+    IsCompiled q slots by_slot read.features.items kinds ys steps high
+compiled r q ns slots keys asked ms read kinds ys by_slot steps high a e n s k m rd kd vl d b st hi =
     let all : once (node_variables ns) ≡ slots_of q = ap once (ap node_variables n ∙ node_variables_of q) in
     let named : ms ≡ nodes_of (in_slots q) = m ∙ (ap (λ l. map (rename_node (λ y. position_or_len (nat_eq y) l)) ns) (k ∙ all) ∙ (ap (map (rename_node (slot_of q))) n ∙ names_of (slot_of q) q)) in
+    let told : read.features.items ≡ slot_features q = rd.features ∙ (ap (λ l. each_once (node_features l)) named ∙ ap each_once (node_features_of (in_slots q))) in
+    let pair : (x : ℕ × Feature) → has_pair (node_features ms) x ≡ has_pair (slot_features q) x = λ x. pair_once (node_features ms) (slot_features q) x (sym told ∙ rd.features) in
     record {
       accepted = subst (λ p. IsTrue (is_accepted INFINITY p)) (sym e) a;
       slots = s ∙ all;
       needs = b ∙ (ap (λ l. map (need_in l) slots) (d ∙ ap needs (sym e)) ∙ (ap (map (need_in (needs q))) (s ∙ all) ∙ needs_found q));
-      features = f ∙ (ap (λ l. each_once (node_features l)) named ∙ ap each_once (node_features_of (in_slots q)));
-      nodes = named;
+      features = told;
+      kinds = kd ∙ same_told (λ x. list_any (nat_eq x) read.met.min.keys) (λ x. has_pair (slot_features q) (x, feature.Min)) (λ x. list_any (nat_eq x) read.met.max.keys) (λ x. has_pair (slot_features q) (x, feature.Max)) read.features.items (slot_features q)
+          (λ x. rd.met.min x ∙ pair (x, feature.Min)) (λ x. rd.met.max x ∙ pair (x, feature.Max)) told;
+      vals = vl ∙ (kept_same (λ x. list_any (nat_eq x) read.met.val.keys) (λ x. has_pair (slot_features q) (x, feature.Val)) (count_up 0 (length slots)) (λ x. rd.met.val x ∙ pair (x, feature.Val))
+          ∙ ap (λ l. filter (λ x. has_pair (slot_features q) (x, feature.Val)) (count_up 0 (length l))) (s ∙ all));
+      nodes = sym st ∙ named;
+      height = hi ∙ ap (λ l. max (peak values_after l 0) (peak sets_after l 0)) named;
     }
+
+-- a range has a last node
+pub put_last : (ms front : List RangeNode) (o : Option RangeNode) (m : RangeNode) → ms ≡ front ++ option_to_list o → o ≡ Some m → ms ≡ front ++ m ∷ []
+put_last ms front o m e f = e ∙ ap (λ q. front ++ option_to_list q) f
+
+nodes_there : (r : Range) (ns : List RangeNode) → ns ≡ nodes_of r → 0 < length ns
+nodes_there r [] e = absurd (let k : None ≡ Some r = ap (λ l. built l [] []) e ∙ builds_range r [] [] in cc)
+nodes_there r (n ∷ ns) e = omega arith
+
+pub some_node : (q : Range) (ns : List RangeNode) (keys : List ℕ) (ms l : List RangeNode) (n : ℕ) → ns ≡ nodes_of q → ms ≡ map (rename_node (λ y. position_or_len (nat_eq y) keys)) ns → l ≡ ms → length l ≡ n → 0 < n
+some_node q ns keys ms l n e m d h =
+    subst (λ k. 0 < k) (sym (length_map (rename_node (λ y. position_or_len (nat_eq y) keys)) ns) ∙ (ap length (sym (d ∙ m)) ∙ h)) (nodes_there q ns e)

@@ -7,7 +7,10 @@ pub mod Framing
 pub mod Standings
 pub mod Walks
 pub mod Asking
+pub mod Opened
 pub mod Compiling
 pub mod Opening
+pub mod Counting
+pub mod Telling
 pub mod Posted
 pub mod Running

@@ -8,7 +8,7 @@ use Rattle.fd_language.specs.declared.range_node.Feature.{Feature}
 use Rattle.fd_language.specs.Family.{has}
 use Rattle.fd_language.specs.Needs.{once}
 use Rattle.fd_language.specs.Features.{is_same_pair, is_same_feature, each_once}
-use Rattle.range_code.specs.Gathered.{has_pair}
+use Rattle.range_code.specs.Kinds.{has_pair}
 use Rattle.range_code.proofs.Variables.{nothing_behind}
 
 eq_sym : (x y : ℕ) → (x == y) ≡ (y == x)

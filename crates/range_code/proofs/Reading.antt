@@ -1,15 +1,16 @@
 -- Each node that is read leaves the values and sets that wait those of the terms and ranges that wait.
-use Rattle.std.proofs.Common.{◌≡◌, ℕ, ℤ, List, [], ◌∷◌, ◌++◌, Option, Some, None, refl, sym, ◌∙◌, ap, subst, ◌⊎◌, inl, inr}
+use Rattle.std.proofs.Common.{◌≡◌, ℕ, ℤ, List, [], ◌∷◌, ◌++◌, filter, Option, Some, None, refl, sym, ◌∙◌, ap, subst, ◌⊎◌, inl, inr}
 use Rattle.fd_language.specs.declared.TheConstants.{INFINITY}
 use Rattle.fd_language.specs.declared.range_node.RangeNode.{RangeNode}
 use Rattle.fd_language.specs.declared.range_node.RangeNode.TheVariants as node
-use Rattle.fd_language.specs.Family.{Family, IsRising}
+use Rattle.fd_language.specs.Family.{Family, has, IsRising}
 use Rattle.fd_language.specs.Range.{Range, Span, One, Dom, Union, Inter, Outside, Plus, Minus, Times, Over, Expr, Number, Infinity, Param, Min, Max, Val, Add, Sub, Mul, DivDown, DivUp, in_range}
 use Rattle.fd_language.specs.Check.{fill_range}
 use Rattle.fd_language.specs.Flat.{built}
 use Rattle.range_code.specs.declared.work.Work.{Work}
 use Rattle.range_code.specs.Work.{leaf_value, filled_value, filled_set, stacked_values, stacked_sets, IsPending, Follows}
-use Rattle.range_code.specs.Steps.{PushesValue, PushesSet, Operates, between, Spans, Singles, combined, Combines, outside, Complements, moved, Moves}
+use Rattle.domain_ranges.specs.Narrowing.{between}
+use Rattle.range_code.specs.Steps.{PushesValue, PushesSet, Operates, Spans, Singles, either, Joins, Meets, outside, Complements, moved, Moves}
 use Rattle.range_code.proofs.Tables.{one_is, dom_is, union_is, inter_is, outside_is, plus_is, minus_is, times_is, over_is}
 
 follows : (S : Family) (p : ℕ → ℤ) (ns : List RangeNode) (rs : List Range) (ts : List Expr) (o : Option Range) (w : Work) → o ≡ built ns rs ts → IsPending S p rs ts w → Follows S p ns o w
@@ -17,12 +18,12 @@ follows S p ns rs ts None w e i = tt
 follows S p ns rs ts (Some r) w e i = (rs, ts, e, i)
 
 module _ (S : Family) (p : ℕ → ℤ) (ns : List RangeNode) (old new : Work) where
-  put_term : (rs : List Range) (ts : List Expr) (front : List ℤ) (e : Expr) → front ≡ stacked_values S p ts → new.values.items ≡ front ++ filled_value S p e ∷ [] → new.sets.items ≡ old.sets.items → old.sets.items ≡ stacked_sets S p rs →
+  put_term : (rs : List Range) (ts : List Expr) (front : List ℤ) (e : Expr) → front ≡ stacked_values S p ts → new.values.items ≡ front ++ filled_value S p e ∷ [] → new.sets ≡ old.sets → old.sets.sets ≡ stacked_sets S p rs →
       IsPending S p rs (e ∷ ts) new
-  put_term rs ts front e f v s o = record { values = v ∙ ap (λ l. l ++ filled_value S p e ∷ []) f; sets = s ∙ o }
+  put_term rs ts front e f v s o = record { values = v ∙ ap (λ l. l ++ filled_value S p e ∷ []) f; sets = ap (λ w. w.sets) s ∙ o }
 
-  put_range : (rs : List Range) (front : List (List ℕ)) (r : Range) (s : List ℕ) → front ≡ stacked_sets S p rs → s ≡ filled_set S p r → new.values.items ≡ [] → new.sets.items ≡ front ++ s ∷ [] → IsPending S p (r ∷ rs) [] new
-  put_range rs front r s f e v i = record { values = v; sets = i ∙ (ap (λ l. l ++ s ∷ []) f ∙ ap (λ x. stacked_sets S p rs ++ x ∷ []) e) }
+  put_range : (rs : List Range) (front : List (List ℕ)) (r : Range) (s : List ℕ) → front ≡ stacked_sets S p rs → s ≡ filled_set S p r → new.values.items ≡ [] → new.sets.sets ≡ s ∷ front → IsPending S p (r ∷ rs) [] new
+  put_range rs front r s f e v i = record { values = v; sets = i ∙ (ap (λ l. s ∷ l) f ∙ ap (λ x. x ∷ stacked_sets S p rs) e) }
 
   pub read_int : (z : ℤ) (rs : List Range) (ts : List Expr) → IsPending S p rs ts old → PushesValue (leaf_value S p (node.Int z)) old new → Follows S p ns (built (node.Int z ∷ ns) rs ts) new
   read_int z rs ts w f = follows S p ns rs (Number z ∷ ts) (built ns rs (Number z ∷ ts)) new refl (put_term rs ts old.values.items (Number z) w.values f.0 f.1 w.sets)
@@ -83,20 +84,20 @@ module _ (S : Family) (p : ℕ → ℤ) (ns : List RangeNode) (old new : Work) w
   read_span rs (b ∷ a ∷ c ∷ ts) w f = tt
   read_span rs (b ∷ a ∷ []) w f =
       let made = f [] (filled_value S p a) (filled_value S p b) w.values in
-      follows S p ns (Span a b ∷ rs) [] (built ns (Span a b ∷ rs) []) new refl (put_range rs old.sets.items (Span a b) (between (filled_value S p a) (filled_value S p b)) w.sets refl made.0 made.1)
+      follows S p ns (Span a b ∷ rs) [] (built ns (Span a b ∷ rs) []) new refl (put_range rs old.sets.sets (Span a b) (between (filled_value S p a) (filled_value S p b)) w.sets refl made.0 made.1)
 
   pub read_one : (rs : List Range) (ts : List Expr) → IsPending S p rs ts old → Singles old new → Follows S p ns (built (node.One ∷ ns) rs ts) new
   read_one rs [] w f = tt
   read_one rs (b ∷ a ∷ ts) w f = tt
   read_one rs (a ∷ []) w f =
       let made = f [] (filled_value S p a) w.values in
-      follows S p ns (One a ∷ rs) [] (built ns (One a ∷ rs) []) new refl (put_range rs old.sets.items (One a) (between (filled_value S p a) (filled_value S p a)) w.sets (one_is INFINITY (filled_value S p a)) made.0 made.1)
+      follows S p ns (One a ∷ rs) [] (built ns (One a ∷ rs) []) new refl (put_range rs old.sets.sets (One a) (between (filled_value S p a) (filled_value S p a)) w.sets (one_is INFINITY (filled_value S p a)) made.0 made.1)
 
   pub read_dom : (y : ℕ) (rs : List Range) (ts : List Expr) → IsRising 0 INFINITY (S y) → IsPending S p rs ts old → PushesSet (S y) old new → Follows S p ns (built (node.Dom y ∷ ns) rs ts) new
   read_dom y rs (a ∷ ts) r w f = tt
-  read_dom y rs [] r w f = follows S p ns (Dom y ∷ rs) [] (built ns (Dom y ∷ rs) []) new refl (put_range rs old.sets.items (Dom y) (S y) w.sets (dom_is INFINITY (S y) r) (f.0 ∙ w.values) f.1)
+  read_dom y rs [] r w f = follows S p ns (Dom y ∷ rs) [] (built ns (Dom y ∷ rs) []) new refl (put_range rs old.sets.sets (Dom y) (S y) w.sets (dom_is INFINITY (S y) r) (f.0 ∙ w.values) f.1)
 
-  pub read_union : (rs : List Range) (ts : List Expr) → IsPending S p rs ts old → Combines node.Union old new → Follows S p ns (built (node.Union ∷ ns) rs ts) new
+  pub read_union : (rs : List Range) (ts : List Expr) → IsPending S p rs ts old → Joins old new → Follows S p ns (built (node.Union ∷ ns) rs ts) new
   read_union [] [] w f = tt
   read_union (q ∷ []) [] w f = tt
   read_union [] (a ∷ ts) w f = tt
@@ -105,9 +106,9 @@ module _ (S : Family) (p : ℕ → ℤ) (ns : List RangeNode) (old new : Work) w
   read_union (q ∷ r ∷ rs) [] w f =
       let made = f (stacked_sets S p rs) (filled_set S p r) (filled_set S p q) w.sets in
       follows S p ns (Union r q ∷ rs) [] (built ns (Union r q ∷ rs) []) new refl
-      (put_range rs (stacked_sets S p rs) (Union r q) (combined node.Union (filled_set S p r) (filled_set S p q)) refl (union_is INFINITY (in_range INFINITY S (fill_range p r)) (in_range INFINITY S (fill_range p q))) (made.0 ∙ w.values) made.1)
+      (put_range rs (stacked_sets S p rs) (Union r q) (either (filled_set S p r) (filled_set S p q)) refl (union_is INFINITY (in_range INFINITY S (fill_range p r)) (in_range INFINITY S (fill_range p q))) (made.0 ∙ w.values) made.1)
 
-  pub read_inter : (rs : List Range) (ts : List Expr) → IsPending S p rs ts old → Combines node.Inter old new → Follows S p ns (built (node.Inter ∷ ns) rs ts) new
+  pub read_inter : (rs : List Range) (ts : List Expr) → IsPending S p rs ts old → Meets old new → Follows S p ns (built (node.Inter ∷ ns) rs ts) new
   read_inter [] [] w f = tt
   read_inter (q ∷ []) [] w f = tt
   read_inter [] (a ∷ ts) w f = tt
@@ -116,7 +117,7 @@ module _ (S : Family) (p : ℕ → ℤ) (ns : List RangeNode) (old new : Work) w
   read_inter (q ∷ r ∷ rs) [] w f =
       let made = f (stacked_sets S p rs) (filled_set S p r) (filled_set S p q) w.sets in
       follows S p ns (Inter r q ∷ rs) [] (built ns (Inter r q ∷ rs) []) new refl
-      (put_range rs (stacked_sets S p rs) (Inter r q) (combined node.Inter (filled_set S p r) (filled_set S p q)) refl (inter_is INFINITY (in_range INFINITY S (fill_range p r)) (in_range INFINITY S (fill_range p q))) (made.0 ∙ w.values) made.1)
+      (put_range rs (stacked_sets S p rs) (Inter r q) (filter (has (filled_set S p q)) (filled_set S p r)) refl (inter_is INFINITY (in_range INFINITY S (fill_range p r)) (in_range INFINITY S (fill_range p q))) (made.0 ∙ w.values) made.1)
 
   pub read_outside : (rs : List Range) (ts : List Expr) → IsPending S p rs ts old → Complements old new → Follows S p ns (built (node.Outside ∷ ns) rs ts) new
   read_outside [] [] w f = tt
@@ -191,8 +192,11 @@ module _ (S : Family) (p : ℕ → ℤ) (old new : Work) where
   pub one_taken : (m : RangeNode) → m ≡ node.One → Singles old new → Taken S p m old new
   one_taken m is f = at_node S p node.One old new (λ k. Singles old new) (λ f ns rs ts w. read_one S p ns old new rs ts w f) m is f
 
-  pub combined_taken : (m : RangeNode) → ((m ≡ node.Union) ⊎ (m ≡ node.Inter)) → Combines m old new → Taken S p m old new
-  combined_taken m is f = elim is [ inl e0 ↦ at_node S p node.Union old new (λ k. Combines k old new) (λ f ns rs ts w. read_union S p ns old new rs ts w f) m e0 f | inr h0 ↦ at_node S p node.Inter old new (λ k. Combines k old new) (λ f ns rs ts w. read_inter S p ns old new rs ts w f) m h0 f ]
+  pub union_taken : (m : RangeNode) → m ≡ node.Union → Joins old new → Taken S p m old new
+  union_taken m is f = at_node S p node.Union old new (λ k. Joins old new) (λ f ns rs ts w. read_union S p ns old new rs ts w f) m is f
+
+  pub inter_taken : (m : RangeNode) → m ≡ node.Inter → Meets old new → Taken S p m old new
+  inter_taken m is f = at_node S p node.Inter old new (λ k. Meets old new) (λ f ns rs ts w. read_inter S p ns old new rs ts w f) m is f
 
   pub outside_taken : (m : RangeNode) → m ≡ node.Outside → Complements old new → Taken S p m old new
   outside_taken m is f = at_node S p node.Outside old new (λ k. Complements old new) (λ f ns rs ts w. read_outside S p ns old new rs ts w f) m is f

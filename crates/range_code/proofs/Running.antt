@@ -9,7 +9,9 @@ use Rattle.fd_language.specs.declared.TheConstants.{INFINITY}
 use Rattle.fd_language.specs.declared.range_node.Need.{Need}
 use Rattle.fd_language.specs.declared.range_node.Feature.{Feature}
 use Rattle.fd_language.specs.declared.range_node.RangeNode.{RangeNode}
-use Rattle.fd_language.specs.Family.{Family, has, universe, IsRising, IsFamily}
+use Rattle.fd_language.specs.declared.range_node.Feature.TheVariants as feature
+use Rattle.fd_language.specs.Family.{Family, has, universe, IsRising, IsFamily, IsSubset, count_up}
+use Rattle.fd_language.proofs.Sets.{rising_inside}
 use Rattle.fd_language.specs.Range.{Range, Span, One, Dom, Union, Inter, Outside, Plus, Minus, Times, Over, Expr, Number, Infinity, Param, Min, Max, Val, Add, Sub, Mul, DivDown, DivUp, reads, vals, in_range, set_of, is_none_left, is_several}
 use Rattle.fd_language.specs.Needs.{meets_needs}
 use Rattle.fd_language.specs.Check.{fill, fill_range}
@@ -23,7 +25,10 @@ use Rattle.fd_language.proofs.Meeting.{needs_met}
 use Rattle.fd_language.proofs.RangeRenaming.{two, reads_map, set_same}
 use Rattle.range_code.specs.declared.frame.Arg.{Arg}
 use Rattle.range_code.specs.declared.frame.Standing.TheVariants.{Empty, Open, Settled}
-use Rattle.range_code.specs.Slots.{slot_of, in_slots, IsCompiled}
+use Rattle.domain_ranges.specs.declared.Narrowed.{Narrowed}
+use Rattle.domain_ranges.specs.Narrowing.{IsNarrowed}
+use Rattle.range_code.specs.Slots.{slot_of, in_slots, slots_of, slot_needs, need_at}
+use Rattle.range_code.specs.Kinds.{has_pair, val_slots}
 use Rattle.range_code.specs.Frames.{IsFrame, slot_variable, slot_integer, family_of, slot_set, posted}
 use Rattle.range_code.specs.Nodes.{IsSeen, IsReadable}
 use Rattle.range_code.specs.Standing.{opens, standing_of}
@@ -32,6 +37,7 @@ use Rattle.range_code.proofs.Variables.{node_features_of}
 use Rattle.range_code.proofs.Fits.{divides, fits}
 use Rattle.range_code.proofs.Framing.{all_readable}
 use Rattle.range_code.proofs.Posted.{fits_table, one_use, frame_meets}
+use Rattle.range_code.proofs.Opened.{all_kept, one_pair, vals_open, all_below, length_map}
 use Rattle.range_code.proofs.Standings.{features_seen, all_once, any_read, any_val, reads_filled, vals_filled}
 
 -- integers filled in before or after the variables are named anew
@@ -139,35 +145,23 @@ module _ (sets : List (List ℕ)) (r : Range) (args : List Arg) where
   settled_by false true h g e = absurd cc
   settled_by false false h g e = sym (by_standing false false h g)
 
--- the same for what is kept of the range
-module _ (sets : List (List ℕ)) (r q : Range) (args : List Arg) (vs : List ℕ) (ns : List (Option Need)) (fs ds : List (ℕ × Feature)) (ms nodes : List RangeNode)
-    (k : IsCompiled q vs ns fs ms) (same : q ≡ r) (fit : IsFrame (length sets) r args) (e : ds ≡ fs) (m : nodes ≡ ms) where
-  features_are : ds ≡ features_of (in_slots r)
-  features_are = e ∙ (k.features ∙ ap (λ x. features_of (in_slots x)) same)
-
-  nodes_are : nodes ≡ nodes_of (in_slots r)
-  nodes_are = m ∙ (k.nodes ∙ ap (λ x. nodes_of (in_slots x)) same)
-
-  accepted : is_accepted INFINITY r ≡ true
-  accepted = subst (λ x. is_accepted INFINITY x ≡ true) same k.accepted
-
+-- what is kept of an accepted range, whose arguments fit
+module _ (sets : List (List ℕ)) (r : Range) (args : List Arg) (accepted : is_accepted INFINITY r ≡ true) (fit : IsFrame (length sets) r args) where
   read_nodes : All (IsReadable (length sets) args) (nodes_of (in_slots r))
   read_nodes = all_readable (length sets) r args fit (one_use r accepted)
-
-  pub nodes_readable : All (IsReadable (length sets) args) nodes
-  nodes_readable = subst (All (IsReadable (length sets) args)) (sym nodes_are) read_nodes
 
   abbrev Seen : ℕ × Feature → Type 0
   Seen d = IsSeen (length sets) args d.0
 
-  pub features_there : All Seen ds
-  features_there = subst (All Seen) (sym features_are) (all_once Seen (range_features (in_slots r)) (subst (All Seen) (node_features_of (in_slots r)) (features_seen (length sets) args (nodes_of (in_slots r)) read_nodes)))
+  features_seen_all : All Seen (features_of (in_slots r))
+  features_seen_all = all_once Seen (range_features (in_slots r)) (subst (All Seen) (node_features_of (in_slots r)) (features_seen (length sets) args (nodes_of (in_slots r)) read_nodes))
 
-  pub nodes_spelled : IsSpelled nodes
-  nodes_spelled = (in_slots r, sym nodes_are)
+  pub features_there : (ds : List (ℕ × Feature)) → ds ≡ features_of (in_slots r) → All Seen ds
+  features_there ds e = subst (All Seen) (sym e) features_seen_all
 
-  spells : spelled nodes ≡ in_slots r
-  spells = ap spelled nodes_are ∙ spelled-nodes (in_slots r)
+  pub vals_there : (ys : List ℕ) → ys ≡ val_slots r → All (IsSeen (length sets) args) ys
+  vals_there ys e = subst (All (IsSeen (length sets) args)) (sym e)
+      (all_kept (λ s. has_pair (features_of (in_slots r)) (s, feature.Val)) (IsSeen (length sets) args) (count_up 0 (length (slots_of r))) (λ s h. one_pair (IsSeen (length sets) args) (features_of (in_slots r)) s feature.Val features_seen_all h))
 
   met : meets_needs (by_variable sets r args) r ≡ true
   met = frame_meets (length sets) r args accepted fit
@@ -176,22 +170,11 @@ module _ (sets : List (List ℕ)) (r q : Range) (args : List Arg) (vs : List ℕ
   abbrev Rising : Family
   Rising y = cond (has (reads r) y) (Sets sets r args (slot_of r y)) []
 
-  module _ (rises : All (λ d. IsRising 0 INFINITY (Sets sets r args d.0)) ds) where
-    read_rises : (y : ℕ) → has (reads r) y ≡ true → IsRising 0 INFINITY (Sets sets r args (slot_of r y))
-    read_rises y h =
-        let there : has (reads (in_slots r)) (slot_of r y) ≡ true = subst (λ l. has l (slot_of r y) ≡ true) (sym (reads_map (slot_of r) r)) (has_map (slot_of r) (reads r) y h) in
-        one_of (λ x. IsRising 0 INFINITY (Sets sets r args x)) (features_of (in_slots r)) (slot_of r y) (subst (All (λ d. IsRising 0 INFINITY (Sets sets r args d.0))) features_are rises)
-        (any_read (λ z. z == slot_of r y) (in_slots r) ∙ (has_any (reads (in_slots r)) (slot_of r y) ∙ there))
-
-    family : IsFamily INFINITY Rising
-    family = record { rising = λ y. empty_rises (has (reads r) y) (Sets sets r args (slot_of r y)) (read_rises y) }
-
-    pub nodes_fit : RangeFits (Sets sets r args) (integers sets r args) (spelled nodes)
-    nodes_fit =
-        let b : AreBounded INFINITY Rising (fill_range (by_variable sets r args) r) = bounded_values INFINITY r (by_variable sets r args) Rising accepted met family in
-        subst (RangeFits (Sets sets r args) (integers sets r args)) (sym spells)
-        (fits (slot_of r) Rising (Sets sets r args) (integers sets r args) r (λ y h. ap (λ c. cond c (Sets sets r args (slot_of r y)) []) h) b.values b.divisors
-        (divides Rising (by_variable sets r args) r true (fits_table r accepted) (needs_met (by_variable sets r args) r met)))
+  read_rises : All (λ d. IsRising 0 INFINITY (Sets sets r args d.0)) (features_of (in_slots r)) → (y : ℕ) → has (reads r) y ≡ true → IsRising 0 INFINITY (Sets sets r args (slot_of r y))
+  read_rises rises y h =
+      let there : has (reads (in_slots r)) (slot_of r y) ≡ true = subst (λ l. has l (slot_of r y) ≡ true) (sym (reads_map (slot_of r) r)) (has_map (slot_of r) (reads r) y h) in
+      one_of (λ x. IsRising 0 INFINITY (Sets sets r args x)) (features_of (in_slots r)) (slot_of r y) rises
+      (any_read (λ z. z == slot_of r y) (in_slots r) ∙ (has_any (reads (in_slots r)) (slot_of r y) ∙ there))
 
   abbrev none : Bool
   none = list_any (λ d. is_none_left (Sets sets r args d.0)) (features_of (in_slots r))
@@ -199,12 +182,64 @@ module _ (sets : List (List ℕ)) (r q : Range) (args : List Arg) (vs : List ℕ
   abbrev several : Bool
   several = list_any (opens (Sets sets r args)) (features_of (in_slots r))
 
-  pub gives_empty : (d : List ℕ) → d ≡ [] → Empty ≡ standing_of (Sets sets r args) ds → d ≡ set_of INFINITY (family_of sets) (posted r args)
-  gives_empty d h s = h ∙ empty_by sets r args none several refl refl (s ∙ ap (standing_of (Sets sets r args)) features_are)
+  -- the slots that are read by val have several members where some pair says so
+  opens_same : (ys : List ℕ) → ys ≡ val_slots r → list_any (λ s. is_several (Sets sets r args s)) ys ≡ list_any (opens (Sets sets r args)) (features_of (in_slots r))
+  opens_same ys e =
+      ap (list_any (λ s. is_several (Sets sets r args s))) e
+      ∙ vals_open (Sets sets r args) (features_of (in_slots r)) (length (slots_of r)) (all_below (length sets) (slot_needs r) args (length (slots_of r)) (features_of (in_slots r)) fit (length_map (need_at r) (slots_of r)) features_seen_all)
 
-  pub gives_all : (d : List ℕ) → d ≡ universe INFINITY → Open ≡ standing_of (Sets sets r args) ds → d ≡ set_of INFINITY (family_of sets) (posted r args)
-  gives_all d h s = h ∙ open_by sets r args none several refl refl (s ∙ ap (standing_of (Sets sets r args)) features_are)
+  none_empty : ((d : ℕ × Feature) → is_none_left (Sets sets r args d.0) ≡ false) → (ds : List (ℕ × Feature)) → list_any (λ d. is_none_left (Sets sets r args d.0)) ds ≡ false
+  none_empty h [] = refl
+  none_empty h (d ∷ ds) = two (λ a b. a || b) (h d) (none_empty h ds)
 
-  pub gives_table : {E : Type 0} (res : Result (List ℕ) E) → Settled ≡ standing_of (Sets sets r args) ds → IfOk res (λ d. d ≡ filled_set (Sets sets r args) (integers sets r args) (spelled nodes)) → IfOk res (λ d. d ≡ set_of INFINITY (family_of sets) (posted r args))
-  gives_table res s h = IfOk-weaker res (λ d. d ≡ filled_set (Sets sets r args) (integers sets r args) (spelled nodes)) (λ d. d ≡ set_of INFINITY (family_of sets) (posted r args))
-      (λ d g. g ∙ (ap (filled_set (Sets sets r args) (integers sets r args)) spells ∙ settled_by sets r args none several refl refl (s ∙ ap (standing_of (Sets sets r args)) features_are))) h
+  -- the set by the table, and whether nodes that spell the range may be evaluated
+  module _ (nodes : List RangeNode) (nodes_are : nodes ≡ nodes_of (in_slots r)) where
+    pub nodes_readable : All (IsReadable (length sets) args) nodes
+    nodes_readable = subst (All (IsReadable (length sets) args)) (sym nodes_are) read_nodes
+
+    pub nodes_spelled : IsSpelled nodes
+    nodes_spelled = (in_slots r, sym nodes_are)
+
+    spells : spelled nodes ≡ in_slots r
+    spells = ap spelled nodes_are ∙ spelled-nodes (in_slots r)
+
+    fits_where : ((y : ℕ) → has (reads r) y ≡ true → IsRising 0 INFINITY (Sets sets r args (slot_of r y))) → RangeFits (Sets sets r args) (integers sets r args) (spelled nodes)
+    fits_where rise =
+        let family : IsFamily INFINITY Rising = record { rising = λ y. empty_rises (has (reads r) y) (Sets sets r args (slot_of r y)) (rise y) } in
+        let b : AreBounded INFINITY Rising (fill_range (by_variable sets r args) r) = bounded_values INFINITY r (by_variable sets r args) Rising accepted met family in
+        subst (RangeFits (Sets sets r args) (integers sets r args)) (sym spells)
+        (fits (slot_of r) Rising (Sets sets r args) (integers sets r args) r (λ y h. ap (λ c. cond c (Sets sets r args (slot_of r y)) []) h) b.values b.divisors
+        (divides Rising (by_variable sets r args) r true (fits_table r accepted) (needs_met (by_variable sets r args) r met)))
+
+    pub nodes_fit : (ds : List (ℕ × Feature)) → ds ≡ features_of (in_slots r) → All (λ d. IsRising 0 INFINITY (Sets sets r args d.0)) ds → RangeFits (Sets sets r args) (integers sets r args) (spelled nodes)
+    nodes_fit ds e rises = fits_where (read_rises (subst (All (λ d. IsRising 0 INFINITY (Sets sets r args d.0))) e rises))
+
+    pub nodes_fit_family : IsFamily INFINITY (family_of sets) → RangeFits (Sets sets r args) (integers sets r args) (spelled nodes)
+    nodes_fit_family f = fits_where (λ y h. f.rising (slot_variable args (slot_of r y)))
+
+    abbrev table : List ℕ
+    table = filled_set (Sets sets r args) (integers sets r args) (spelled nodes)
+
+    table_is : list_any (λ d. is_none_left (Sets sets r args d.0)) (features_of (in_slots r)) ≡ false → list_any (opens (Sets sets r args)) (features_of (in_slots r)) ≡ false → table ≡ set_of INFINITY (family_of sets) (posted r args)
+    table_is h g = ap (filled_set (Sets sets r args) (integers sets r args)) spells ∙ settled_by sets r args false false h g refl
+
+    pub gives_table : {E : Type 0} (res : Result (List ℕ) E) (ds : List (ℕ × Feature)) → ds ≡ features_of (in_slots r) → Settled ≡ standing_of (Sets sets r args) ds → IfOk res (λ d. d ≡ table) → IfOk res (λ d. d ≡ set_of INFINITY (family_of sets) (posted r args))
+    gives_table res ds e s h = IfOk-weaker res (λ d. d ≡ table) (λ d. d ≡ set_of INFINITY (family_of sets) (posted r args))
+        (λ d g. g ∙ (ap (filled_set (Sets sets r args) (integers sets r args)) spells ∙ settled_by sets r args none several refl refl (s ∙ ap (standing_of (Sets sets r args)) e))) h
+
+    -- where no set is empty and no val is open
+    pub table_narrows : {E : Type 0} (res : Result Narrowed E) (old : List ℕ) (ys : List ℕ) → ((k : ℕ) → is_none_left (family_of sets k) ≡ false) → ys ≡ val_slots r → false ≡ list_any (λ s. is_several (Sets sets r args s)) ys →
+        IfOk res (IsNarrowed old table) → IfOk res (IsNarrowed old (set_of INFINITY (family_of sets) (posted r args)))
+    table_narrows res old ys some e f h = IfOk-weaker res (IsNarrowed old table) (IsNarrowed old (set_of INFINITY (family_of sets) (posted r args)))
+        (λ o. subst (λ l. IsNarrowed old l o) (table_is (none_empty (λ d. some (slot_variable args d.0)) (features_of (in_slots r))) (sym (opens_same ys e) ∙ sym f))) h
+
+  pub gives_empty : (d : List ℕ) (ds : List (ℕ × Feature)) → ds ≡ features_of (in_slots r) → d ≡ [] → Empty ≡ standing_of (Sets sets r args) ds → d ≡ set_of INFINITY (family_of sets) (posted r args)
+  gives_empty d ds e h s = h ∙ empty_by sets r args none several refl refl (s ∙ ap (standing_of (Sets sets r args)) e)
+
+  pub gives_all : (d : List ℕ) (ds : List (ℕ × Feature)) → ds ≡ features_of (in_slots r) → d ≡ universe INFINITY → Open ≡ standing_of (Sets sets r args) ds → d ≡ set_of INFINITY (family_of sets) (posted r args)
+  gives_all d ds e h s = h ∙ open_by sets r args none several refl refl (s ∙ ap (standing_of (Sets sets r args)) e)
+
+  -- where some val is open
+  pub open_narrows : (old : List ℕ) (ys : List ℕ) → ((k : ℕ) → is_none_left (family_of sets k) ≡ false) → ys ≡ val_slots r → true ≡ list_any (λ s. is_several (Sets sets r args s)) ys → IsRising 0 INFINITY old → IsSubset old (set_of INFINITY (family_of sets) (posted r args))
+  open_narrows old ys some e f rise =
+      subst (IsSubset old) (open_by sets r args false true (none_empty (λ d. some (slot_variable args d.0)) (features_of (in_slots r))) (sym (opens_same ys e) ∙ sym f) refl) (rising_inside INFINITY old rise)

@@ -83,7 +83,7 @@ same_name feature.Dom feature.Max h = absurd (true≢false (sym h))
 same_name feature.Dom feature.Val h = absurd (true≢false (sym h))
 same_name feature.Dom feature.Dom h = refl
 
-same_is : (d e : ℕ × Feature) → is_same_pair d e ≡ true → d ≡ e
+pub same_is : (d e : ℕ × Feature) → is_same_pair d e ≡ true → d ≡ e
 same_is d e h = two (λ x f. (x, f)) (eqb-true d.0 e.0 (left (d.0 == e.0) (is_same_feature d.1 e.1) h)) (same_name d.1 e.1 (right (d.0 == e.0) (is_same_feature d.1 e.1) h))
 
 without : (t : ℕ × Feature → Bool) (d : ℕ × Feature) (l : List (ℕ × Feature)) → (t d || list_any t (filter (λ e. not (is_same_pair e d)) l)) ≡ (t d || list_any t l)
@@ -100,7 +100,7 @@ without t d (e ∷ l) = elim (cases_Bool (is_same_pair e d)) [
   past true b c k h = refl
   past false b c k h = ap (λ x. b || x) h
 
-any_once : (t : ℕ × Feature → Bool) (ds : List (ℕ × Feature)) → list_any t (each_once ds) ≡ list_any t ds
+pub any_once : (t : ℕ × Feature → Bool) (ds : List (ℕ × Feature)) → list_any t (each_once ds) ≡ list_any t ds
 any_once t [] = refl
 any_once t (d ∷ ds) = without t d (each_once ds) ∙ ap (λ b. t d || b) (any_once t ds)
 

@@ -8,6 +8,9 @@ use Rattle.fd_language.specs.Family.{Family}
 use Rattle.fd_language.specs.Range.{Range, Span, One, Dom, Union, Inter, Outside, Plus, Minus, Times, Over, Expr, Number, Infinity, Param, Min, Max, Val, Add, Sub, Mul, DivDown, DivUp}
 use Rattle.fd_language.specs.Flat.{built, spelled, IsSpelled, builds_range, spelled-nodes}
 use Rattle.range_code.specs.declared.work.Work.{Work}
+use Rattle.range_code.specs.declared.evaluate.Steps.{Steps}
+use Rattle.range_code.specs.Walked.{all_steps, IsAtLast}
+use Rattle.domain_ranges.specs.Narrowing.{between}
 use Rattle.range_code.specs.Work.{filled_value, filled_set, Fits, RangeFits, CanOperate, CanMove, CanTake, stacked_values, IsPending, Follows}
 
 some_same : (r q : Range) → Some r ≡ Some q → r ≡ q
@@ -190,30 +193,47 @@ module _ (S : Family) (p : ℕ → ℤ) where
   can_take node.Over ns (q ∷ rs) (c ∷ []) r w e h k =
       let f = all_fit ns (Over q c ∷ rs) [] r e h in (λ front a b i. tt, λ front x i. one_on_top [] c w.values.items front x node.Over k.values f.ranges.0.2 i)
 
--- the nodes from the number i on build the range on top of what waits
-abbrev pub IsWalked : Family → (ℕ → ℤ) → ℕ → List RangeNode → Work → Type 0
-IsWalked S p i nodes w = (rs : List Range) × (ts : List Expr) × (Some (spelled nodes) ≡ built (drop i nodes) rs ts) × IsPending S p rs ts w
+-- the nodes of the front from the number i on, and the last one, build the range on top of what waits
+abbrev pub IsWalked : Family → (ℕ → ℤ) → ℕ → Steps → Work → Type 0
+IsWalked S p i s w = (rs : List Range) × (ts : List Expr) × (Some (spelled (all_steps s)) ≡ built (drop i s.front.items ++ s.last ∷ []) rs ts) × IsPending S p rs ts w
 
 builds_all : (nodes : List RangeNode) → IsSpelled nodes → Some (spelled nodes) ≡ built nodes [] []
 builds_all nodes (r, e) = subst (λ ns. Some (spelled ns) ≡ built ns [] []) e (ap Some (spelled-nodes r) ∙ sym (builds_range r [] []))
 
-pub walk_start : (S : Family) (p : ℕ → ℤ) (nodes : List RangeNode) (w : Work) → IsSpelled nodes → w.values.items ≡ [] → w.sets.items ≡ [] → IsWalked S p 0 nodes w
-walk_start S p nodes w s v i = ([], [], builds_all nodes s, record { values = v; sets = i })
+pub walk_start : (S : Family) (p : ℕ → ℤ) (s : Steps) (w : Work) → IsSpelled (all_steps s) → w.values.items ≡ [] → w.sets.sets ≡ [] → IsWalked S p 0 s w
+walk_start S p s w h v i = ([], [], builds_all (all_steps s) h, record { values = v; sets = i })
 
-next_is : (nodes : List RangeNode) (i : ℕ) (d : RangeNode) (rs : List Range) (ts : List Expr) → i < length nodes → Some (spelled nodes) ≡ built (drop i nodes) rs ts → Some (spelled nodes) ≡ built (get_or nodes i d ∷ drop (i + 1) nodes) rs ts
-next_is nodes i d rs ts l e = e ∙ at_drop_more (λ ns. built ns rs ts) nodes i d l
+next_is : (front rest : List RangeNode) (i : ℕ) (d : RangeNode) (rs : List Range) (ts : List Expr) (o : Option Range) → i < length front → o ≡ built (drop i front ++ rest) rs ts → o ≡ built (get_or front i d ∷ (drop (i + 1) front ++ rest)) rs ts
+next_is front rest i d rs ts o l e = e ∙ at_drop_more (λ ns. built (ns ++ rest) rs ts) front i d l
 
-pub walk_takes : (S : Family) (p : ℕ → ℤ) (i : ℕ) (nodes : List RangeNode) (d : RangeNode) (w : Work) → i < length nodes → RangeFits S p (spelled nodes) → IsWalked S p i nodes w → CanTake (get_or nodes i d) w
-walk_takes S p i nodes d w l h (rs, ts, e, k) = can_take S p (get_or nodes i d) (drop (i + 1) nodes) rs ts (spelled nodes) w (next_is nodes i d rs ts l e) h k
+pub walk_takes : (S : Family) (p : ℕ → ℤ) (i : ℕ) (s : Steps) (d : RangeNode) (w : Work) → i < length s.front.items → RangeFits S p (spelled (all_steps s)) → IsWalked S p i s w → CanTake (get_or s.front.items i d) w
+walk_takes S p i s d w l h (rs, ts, e, k) = can_take S p (get_or s.front.items i d) (drop (i + 1) s.front.items ++ s.last ∷ []) rs ts (spelled (all_steps s)) w (next_is s.front.items (s.last ∷ []) i d rs ts (Some (spelled (all_steps s))) l e) h k
 
 from_follows : (S : Family) (p : ℕ → ℤ) (ns : List RangeNode) (r : Range) (o : Option Range) (w : Work) → Some r ≡ o → Follows S p ns o w → (rs : List Range) × (ts : List Expr) × (Some r ≡ built ns rs ts) × IsPending S p rs ts w
 from_follows S p ns r o w e f = subst (λ q. Follows S p ns q w) (sym e) f
 
-pub walk_step : (S : Family) (p : ℕ → ℤ) (i : ℕ) (nodes : List RangeNode) (d : RangeNode) (old new : Work) → i < length nodes → IsWalked S p i nodes old →
-    ((ns : List RangeNode) (rs : List Range) (ts : List Expr) → IsPending S p rs ts old → Follows S p ns (built (get_or nodes i d ∷ ns) rs ts) new) → IsWalked S p (i + 1) nodes new
-walk_step S p i nodes d old new l (rs, ts, e, k) f = from_follows S p (drop (i + 1) nodes) (spelled nodes) _ new (next_is nodes i d rs ts l e) (f (drop (i + 1) nodes) rs ts k)
+pub walk_step : (S : Family) (p : ℕ → ℤ) (i : ℕ) (s : Steps) (d : RangeNode) (old new : Work) → i < length s.front.items → IsWalked S p i s old →
+    ((ns : List RangeNode) (rs : List Range) (ts : List Expr) → IsPending S p rs ts old → Follows S p ns (built (get_or s.front.items i d ∷ ns) rs ts) new) → IsWalked S p (i + 1) s new
+walk_step S p i s d old new l (rs, ts, e, k) f =
+    from_follows S p (drop (i + 1) s.front.items ++ s.last ∷ []) (spelled (all_steps s)) _ new (next_is s.front.items (s.last ∷ []) i d rs ts (Some (spelled (all_steps s))) l e) (f (drop (i + 1) s.front.items ++ s.last ∷ []) rs ts k)
 
-alone : (S : Family) (p : ℕ → ℤ) (r : Range) (rs : List Range) (ts : List Expr) (w : Work) → Some r ≡ built [] rs ts → IsPending S p rs ts w → w.sets.items ≡ filled_set S p r ∷ []
+-- the same for items that are those of the front
+pub taken_at : (S : Family) (p : ℕ → ℤ) (i : ℕ) (s : Steps) (d : RangeNode) (w : Work) (items : List RangeNode) → items ≡ s.front.items → i < length items → RangeFits S p (spelled (all_steps s)) → IsWalked S p i s w → CanTake (get_or items i d) w
+taken_at S p i s d w items e = subst (λ l. i < length l → RangeFits S p (spelled (all_steps s)) → IsWalked S p i s w → CanTake (get_or l i d) w) (sym e) (walk_takes S p i s d w)
+
+pub step_at : (S : Family) (p : ℕ → ℤ) (i : ℕ) (s : Steps) (d : RangeNode) (old new : Work) (items : List RangeNode) → items ≡ s.front.items → i < length items → IsWalked S p i s old →
+    ((ns : List RangeNode) (rs : List Range) (ts : List Expr) → IsPending S p rs ts old → Follows S p ns (built (get_or items i d ∷ ns) rs ts) new) → IsWalked S p (i + 1) s new
+step_at S p i s d old new items e =
+    subst (λ l. i < length l → IsWalked S p i s old → ((ns : List RangeNode) (rs : List Range) (ts : List Expr) → IsPending S p rs ts old → Follows S p ns (built (get_or l i d ∷ ns) rs ts) new) → IsWalked S p (i + 1) s new) (sym e) (walk_step S p i s d old new)
+
+pub walk_end : (S : Family) (p : ℕ → ℤ) (i : ℕ) (s : Steps) (w : Work) → length s.front.items ≤ i → IsWalked S p i s w → IsAtLast S p s w
+walk_end S p i s w h (rs, ts, e, k) = (rs, ts, e ∙ ap (λ ns. built (ns ++ s.last ∷ []) rs ts) (drop_all i s.front.items h), k)
+
+-- the last node
+pub last_takes : (S : Family) (p : ℕ → ℤ) (s : Steps) (w : Work) → RangeFits S p (spelled (all_steps s)) → IsAtLast S p s w → CanTake s.last w
+last_takes S p s w h (rs, ts, e, k) = can_take S p s.last [] rs ts (spelled (all_steps s)) w e h k
+
+alone : (S : Family) (p : ℕ → ℤ) (r : Range) (rs : List Range) (ts : List Expr) (w : Work) → Some r ≡ built [] rs ts → IsPending S p rs ts w → w.sets.sets ≡ filled_set S p r ∷ []
 alone S p r [] [] w e h = absurd cc
 alone S p r [] (t ∷ ts) w e h = absurd cc
 alone S p r (q ∷ []) (t ∷ ts) w e h = absurd cc
@@ -221,12 +241,27 @@ alone S p r (q ∷ x ∷ rs) [] w e h = absurd cc
 alone S p r (q ∷ x ∷ rs) (t ∷ ts) w e h = absurd cc
 alone S p r (q ∷ []) [] w e h = h.sets ∙ ap (λ k. filled_set S p k ∷ []) (sym (some_same r q e))
 
--- at the end there is the set of the range alone
-pub walk_gives : (S : Family) (p : ℕ → ℤ) (i : ℕ) (nodes : List RangeNode) (w : Work) (front : List (List ℕ)) (o : Option (List ℕ)) (x : List ℕ) → length nodes ≤ i → IsWalked S p i nodes w →
-    w.sets.items ≡ front ++ option_to_list o → o ≡ Some x → x ≡ filled_set S p (spelled nodes)
-walk_gives S p i nodes w front o x h (rs, ts, e, k) g f =
-    let a = alone S p (spelled nodes) rs ts w (e ∙ ap (λ ns. built ns rs ts) (drop_all i nodes h)) k in
-    sym (ends_same [] front (filled_set S p (spelled nodes)) x (sym a ∙ (g ∙ ap (λ q. front ++ option_to_list q) f))).lasts
+-- behind it there is the set of the range alone
+pub last_gives : (S : Family) (p : ℕ → ℤ) (s : Steps) (old new : Work) → IsAtLast S p s old → ((ns : List RangeNode) (rs : List Range) (ts : List Expr) → IsPending S p rs ts old → Follows S p ns (built (s.last ∷ ns) rs ts) new) → new.sets.sets ≡ filled_set S p (spelled (all_steps s)) ∷ []
+last_gives S p s old new (rs, ts, e, k) f =
+    let g = from_follows S p [] (spelled (all_steps s)) (built (s.last ∷ []) rs ts) new e (f [] rs ts k) in
+    alone S p (spelled (all_steps s)) g.0 g.1 new g.2 g.3
 
-pub walk_some : (S : Family) (p : ℕ → ℤ) (i : ℕ) (nodes : List RangeNode) (w : Work) → length nodes ≤ i → IsWalked S p i nodes w → w.sets.items ≡ filled_set S p (spelled nodes) ∷ []
-walk_some S p i nodes w h (rs, ts, e, k) = alone S p (spelled nodes) rs ts w (e ∙ ap (λ ns. built ns rs ts) (drop_all i nodes h)) k
+-- the two ends of an interval wait
+pub record Ends (S : Family) (p : ℕ → ℤ) (s : Steps) (w : Work) : Type 0 where
+  pub low : ℤ
+  pub high : ℤ
+  pub values : w.values.items ≡ ([] ++ low ∷ []) ++ high ∷ []
+  pub set : filled_set S p (spelled (all_steps s)) ≡ between low high
+
+ends_of : (S : Family) (p : ℕ → ℤ) (r : Range) (rs : List Range) (ts : List Expr) (items : List ℤ) → Some r ≡ built (node.Span ∷ []) rs ts → items ≡ stacked_values S p ts → (low : ℤ) × (high : ℤ) × (items ≡ ([] ++ low ∷ []) ++ high ∷ []) × (filled_set S p r ≡ between low high)
+ends_of S p r rs [] items e h = absurd cc
+ends_of S p r rs (b ∷ []) items e h = absurd cc
+ends_of S p r rs (b ∷ a ∷ c ∷ ts) items e h = absurd cc
+ends_of S p r (q ∷ rs) (b ∷ a ∷ []) items e h = absurd cc
+ends_of S p r [] (b ∷ a ∷ []) items e h = (filled_value S p a, filled_value S p b, h, ap (filled_set S p) (some_same r (Span a b) e))
+
+pub last_ends : (S : Family) (p : ℕ → ℤ) (s : Steps) (w : Work) → s.last ≡ node.Span → IsAtLast S p s w → Ends S p s w
+last_ends S p s w l (rs, ts, e, k) =
+    let g = ends_of S p (spelled (all_steps s)) rs ts w.values.items (e ∙ ap (λ m. built (m ∷ []) rs ts) l) k.values in
+    record { low = g.0; high = g.1; values = g.2; set = g.3 }

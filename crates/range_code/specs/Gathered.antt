@@ -4,7 +4,8 @@ use Rattle.std.specs.List.{list_any}
 use Rattle.fd_language.specs.declared.range_node.Feature.{Feature}
 use Rattle.fd_language.specs.declared.range_node.Feature.TheVariants as feature
 use Rattle.fd_language.specs.Needs.{once}
-use Rattle.fd_language.specs.Features.{is_same_pair, each_once}
+use Rattle.fd_language.specs.Features.{each_once}
+use Rattle.range_code.specs.Kinds.{has_pair}
 use Rattle.range_code.specs.declared.compile.Numbered.{Numbered}
 use Rattle.range_code.specs.declared.compile.Met.{Met}
 use Rattle.range_code.specs.declared.compile.Read.{Read}
@@ -13,9 +14,6 @@ use Rattle.range_code.specs.declared.compile.Read.{Read}
 pub record IsNumbered (xs : List ℕ) (n : Numbered) : Type 0 where
   pub slots : n.slots.items ≡ once xs
   pub numbers : n.numbers.keys ≡ once xs
-
-abbrev pub has_pair : List (ℕ × Feature) → ℕ × Feature → Bool
-has_pair ds d = list_any (is_same_pair d) ds
 
 -- the slots of each feature are those of the pairs
 pub record AreMet (ds : List (ℕ × Feature)) (m : Met) : Type 0 where

@@ -1,8 +1,12 @@
 pub mod Slots
 pub mod Frames
 pub mod Nodes
+pub mod Kinds
 pub mod Standing
 pub mod Work
 pub mod Steps
+pub mod Heights
+pub mod Walked
 pub mod Asked
 pub mod Gathered
+pub mod Compiled

@@ -36,11 +36,3 @@ in_slots r = rename_range (slot_of r) r
 
 abbrev pub slot_features : Range → List (ℕ × Feature)
 slot_features r = features_of (in_slots r)
-
--- what is kept of an accepted range
-pub record IsCompiled (r : Range) (vs : List ℕ) (ns : List (Option Need)) (fs : List (ℕ × Feature)) (ms : List RangeNode) : Type 0 where
-  pub accepted : IsTrue (is_accepted INFINITY r)
-  pub slots : vs ≡ slots_of r
-  pub needs : ns ≡ slot_needs r
-  pub features : fs ≡ slot_features r
-  pub nodes : ms ≡ nodes_of (in_slots r)

@@ -74,18 +74,18 @@ leaf_value S p (node.Max y) = pos (greatest (S y))
 leaf_value S p (node.Val y) = pos (least (S y))
 leaf_value S p n = pos 0
 
--- those of the terms and ranges that wait, the last one last
+-- Those of the terms and ranges that wait. The last value stands last, the last set first.
 abbrev pub stacked_values : Family → (ℕ → ℤ) → List Expr → List ℤ
 stacked_values S p [] = []
 stacked_values S p (t ∷ ts) = stacked_values S p ts ++ filled_value S p t ∷ []
 
 abbrev pub stacked_sets : Family → (ℕ → ℤ) → List Range → List (List ℕ)
 stacked_sets S p [] = []
-stacked_sets S p (r ∷ rs) = stacked_sets S p rs ++ filled_set S p r ∷ []
+stacked_sets S p (r ∷ rs) = filled_set S p r ∷ stacked_sets S p rs
 
 pub record IsPending (S : Family) (p : ℕ → ℤ) (rs : List Range) (ts : List Expr) (w : Work) : Type 0 where
   pub values : w.values.items ≡ stacked_values S p ts
-  pub sets : w.sets.items ≡ stacked_sets S p rs
+  pub sets : w.sets.sets ≡ stacked_sets S p rs
 
 -- what waits once a node is read, where its operands were there
 abbrev pub Follows : Family → (ℕ → ℤ) → List RangeNode → Option Range → Work → Type 0

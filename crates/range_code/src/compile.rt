@@ -1,13 +1,16 @@
 // Ranges made ready: slots in place of variables, what is read of them, and what they need.
 
-ghost use Rattle.std.specs.Prelude.{◌≡◌, ◌||◌, not, ℕ, nat_eq, List, [], ◌∷◌, ◌++◌, map, IfOk, OnOk};
+ghost use Rattle.std.specs.Prelude.{◌≡◌, ◌<◌, ◌-◌, ◌^◌, ◌||◌, not, max, ℕ, nat_eq, List, [], ◌∷◌, ◌++◌, map, filter, IfOk, OnOk};
 ghost use Rattle.std.specs.List.{list_any, position_or_len};
 ghost use Rattle.indexmap.specs.IndexMap.{get};
 ghost use Rattle.fd_language.specs.declared.range_node.Feature.{Feature as Told};
 ghost use Rattle.fd_language.specs.Features.{each_once};
 ghost use Rattle.range_code.specs.Nodes.{node_variable, listed, node_variables, rename_node, node_feature, node_features};
 ghost use Rattle.range_code.specs.Asked.{need_in};
-ghost use Rattle.range_code.specs.Gathered.{IsNumbered, has_pair, AreMet, IsRead};
+ghost use Rattle.fd_language.specs.Family.{count_up};
+ghost use Rattle.range_code.specs.Kinds.{has_pair, told_as as told_by, all_told};
+ghost use Rattle.range_code.specs.Heights.{values_after, sets_after, peak};
+ghost use Rattle.range_code.specs.Gathered.{IsNumbered, AreMet, IsRead};
 
 use fd_language::{Feature, FlatRange, Need, NoMemory, RangeNode};
 use indexmap::{IndexMap, IndexSet};
@@ -168,8 +171,8 @@ impl Met {
 /// What was read so far, each pair once.
 #[derive(Drop)]
 pub(crate) struct Read {
-    met: Met,
-    features: Vec<(usize, Feature)>,
+    pub met: Met,
+    pub features: Vec<(usize, Feature)>,
 }
 
 impl Read {
@@ -209,18 +212,150 @@ impl Read {
 }
 
 /// What the nodes read, each pair of a slot and a feature once, in the order of first occurrence.
-pub(crate) fn read_features(
-    alloc: Global,
-    nodes: &[RangeNode],
-) -> Result<Vec<(usize, Feature)>, NoMemory>
-    ensures { IfOk result (λ v. v.items ≡ each_once (node_features nodes.now)) }
+pub(crate) fn read_nodes(alloc: Global, nodes: &[RangeNode]) -> Result<Read, NoMemory>
+    ensures { IfOk result (IsRead (node_features nodes.now)) }
 {
     let mut read = Read::new(alloc);
     for node in nodes {
         read.add_node(*node)?;
     }
-    let Read { features, .. } = read;
-    Ok(features)
+    Ok(read)
+}
+
+/// What a range reads of a slot, the least and the greatest member of one slot together.
+#[derive(Clone, Copy, Debug, PartialEq, Eq)]
+pub enum ReadKind {
+    /// The least member alone of the two.
+    Min,
+    /// The greatest member alone of the two.
+    Max,
+    /// The least and the greatest member.
+    Both,
+    /// The only member.
+    Val,
+    /// All members.
+    Dom,
+}
+
+/// What the pair is told as, where the slots are known that are read by min and by max.
+fn told_as(
+    min: &HashSet<usize>,
+    max: &HashSet<usize>,
+    slot: usize,
+    feature: Feature,
+) -> Option<(usize, ReadKind)>
+    ensures { result ≡ told_by (λ s. list_any (nat_eq s) min.now.keys) (λ s. list_any (nat_eq s) max.now.keys) (slot, feature) }
+{
+    match feature {
+        Feature::Min => {
+            if max.contains(&slot) {
+                Some((slot, ReadKind::Both))
+            } else {
+                Some((slot, ReadKind::Min))
+            }
+        }
+        Feature::Max => {
+            if min.contains(&slot) {
+                None
+            } else {
+                Some((slot, ReadKind::Max))
+            }
+        }
+        Feature::Val => Some((slot, ReadKind::Val)),
+        Feature::Dom => Some((slot, ReadKind::Dom)),
+    }
+}
+
+/// The kinds of the pairs.
+fn kinds_of(
+    alloc: Global,
+    min: &HashSet<usize>,
+    max: &HashSet<usize>,
+    features: &[(usize, Feature)],
+) -> Result<Vec<(usize, ReadKind)>, NoMemory>
+    ensures { IfOk result (λ v. v.items ≡ all_told (λ s. list_any (nat_eq s) min.now.keys) (λ s. list_any (nat_eq s) max.now.keys) features.now) }
+{
+    let mut kinds = Vec::new(alloc);
+    for (slot, feature) in features {
+        if let Some(kind) = told_as(min, max, *slot, *feature) {
+            kinds.push(kind)?;
+        }
+    }
+    Ok(kinds)
+}
+
+/// The slots below the number that are read by val.
+fn vals_of(alloc: Global, val: &HashSet<usize>, count: usize) -> Result<Vec<usize>, NoMemory>
+    ensures { IfOk result (λ v. v.items ≡ filter (λ s. list_any (nat_eq s) val.now.keys) (count_up 0 count)) }
+{
+    let mut vals = Vec::new(alloc);
+    for slot in 0..count {
+        if val.contains(&slot) {
+            vals.push(slot)?;
+        }
+    }
+    Ok(vals)
+}
+
+impl Read {
+    /// The kinds of what was read.
+    pub fn kinds(&self, alloc: Global) -> Result<Vec<(usize, ReadKind)>, NoMemory>
+        ensures { IfOk result (λ v. v.items ≡ all_told (λ s. list_any (nat_eq s) self.now.met.min.keys) (λ s. list_any (nat_eq s) self.now.met.max.keys) self.now.features.items) }
+    {
+        kinds_of(alloc, &self.met.min, &self.met.max, &self.features)
+    }
+
+    /// The slots below the number that were read by val.
+    pub fn vals(&self, alloc: Global, count: usize) -> Result<Vec<usize>, NoMemory>
+        ensures { IfOk result (λ v. v.items ≡ filter (λ s. list_any (nat_eq s) self.now.met.val.keys) (count_up 0 count)) }
+    {
+        vals_of(alloc, &self.met.val, count)
+    }
+}
+
+/// How many values wait behind the node, where so many wait before it.
+fn values_behind(node: RangeNode, n: usize) -> usize
+    requires { n < 2 ^ 64 - 1 }
+    ensures { result ≡ values_after node n }
+{
+    match node {
+        RangeNode::Int(_)
+        | RangeNode::Infinity
+        | RangeNode::Param(_)
+        | RangeNode::Min(_)
+        | RangeNode::Max(_)
+        | RangeNode::Val(_) => n + 1,
+        RangeNode::Span => n.saturating_sub(2),
+        RangeNode::Dom(_) | RangeNode::Union | RangeNode::Inter | RangeNode::Outside => n,
+        _ => n.saturating_sub(1),
+    }
+}
+
+/// How many sets wait behind the node, where so many wait before it.
+fn sets_behind(node: RangeNode, n: usize) -> usize
+    requires { n < 2 ^ 64 - 1 }
+    ensures { result ≡ sets_after node n }
+{
+    match node {
+        RangeNode::Span | RangeNode::One | RangeNode::Dom(_) => n + 1,
+        RangeNode::Union | RangeNode::Inter => n.saturating_sub(1),
+        _ => n,
+    }
+}
+
+/// The greatest number of values, or of sets, that wait while the nodes are evaluated.
+pub(crate) fn height_of(nodes: &[RangeNode]) -> usize
+    ensures { result ≡ max (peak values_after nodes.now 0) (peak sets_after nodes.now 0) }
+{
+    let mut values: usize = 0;
+    let mut sets: usize = 0;
+    let mut height: usize = 0;
+    for node in nodes {
+        values = values_behind(*node, values);
+        sets = sets_behind(*node, sets);
+        height = height.max(values).max(sets);
+    }
+    height
 }
 
 /// The needs by their parameters.

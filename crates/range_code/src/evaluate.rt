@@ -1,6 +1,6 @@
 // A range evaluated, node by node.
 
-ghost use Rattle.std.specs.Prelude.{◌≡◌, ℕ, ℤ, pos, List, ◌∷◌, length, IfOk, OnOk};
+ghost use Rattle.std.specs.Prelude.{◌≡◌, ◌≤◌, ℕ, ℤ, pos, List, [], ◌∷◌, length, vec_capacity, IfOk, OnOk};
 ghost use Rattle.std.specs.List.{All};
 ghost use Rattle.fd_language.specs.declared.range_node.RangeNode.{RangeNode as Spelled};
 ghost use Rattle.fd_language.specs.Range.{Range, Expr, least as least_of, greatest as greatest_of};
@@ -8,12 +8,21 @@ ghost use Rattle.fd_language.specs.Flat.{built, spelled, IsSpelled};
 ghost use Rattle.range_code.specs.Frames.{slot_set, slot_integer};
 ghost use Rattle.range_code.specs.Nodes.{IsReadable};
 ghost use Rattle.range_code.specs.Work.{leaf_value, filled_set, RangeFits, CanTake, IsPending, Follows};
+ghost use Rattle.range_code.specs.Heights.{HasRoom, IsCounted, KeepsRoom};
+ghost use Rattle.range_code.specs.Walked.{all_steps, IsAtLast};
+ghost use Rattle.domain_ranges.specs.Narrowing.{IsNarrowed};
 
 use crate::frame::{Arg, slot_domain, slot_value};
 use crate::work::Work;
-use domain_ranges::{Domain, View};
+use domain_ranges::{Domain, Narrowed, View};
 use fd_language::{INFINITY, NoMemory, RangeNode};
-use std::alloc::Global;
+
+/// The nodes of a range, in postfix order.
+#[derive(Drop)]
+pub(crate) struct Steps {
+    pub front: Vec<RangeNode>,
+    pub last: RangeNode,
+}
 
 /// The least member, and 0 where there is none.
 fn least(domain: &Domain) -> i128
@@ -47,7 +56,6 @@ fn leaf<V: View>(node: RangeNode, args: &[Arg], view: &V) -> i128
 
 /// Takes the operands of the node and puts its value or set in their place.
 fn take<V: View>(
-    alloc: Global,
     work: &mut Work,
     node: RangeNode,
     args: &[Arg],
@@ -55,7 +63,10 @@ fn take<V: View>(
 ) -> Result<(), NoMemory>
     requires readable { IsReadable (length (V.sets view.now)) args.now node }
     requires fits { CanTake node work.old }
-    ensures { OnOk result ((ns : List Spelled) (rs : List Range) (ts : List Expr) → IsPending (slot_set (V.sets view.now) args.now) (slot_integer args.now) rs ts work.old → Follows (slot_set (V.sets view.now) args.now) (slot_integer args.now) ns (built (node ∷ ns) rs ts) work.new) }
+    requires room { HasRoom (node ∷ []) work.old }
+    ensures taken { OnOk result ((ns : List Spelled) (rs : List Range) (ts : List Expr) → IsPending (slot_set (V.sets view.now) args.now) (slot_integer args.now) rs ts work.old → Follows (slot_set (V.sets view.now) args.now) (slot_integer args.now) ns (built (node ∷ ns) rs ts) work.new) }
+    ensures counted { OnOk result (IsCounted node work.old work.new) }
+    ensures kept { KeepsRoom work.old work.new }
 {
     match node {
         RangeNode::Int(_)
@@ -63,35 +74,102 @@ fn take<V: View>(
         | RangeNode::Param(_)
         | RangeNode::Min(_)
         | RangeNode::Max(_)
-        | RangeNode::Val(_) => work.push_value(leaf(node, args, view)),
-        RangeNode::Add | RangeNode::Sub | RangeNode::Mul | RangeNode::DivDown | RangeNode::DivUp =>
-            work.take_terms(node),
-        RangeNode::Span => work.take_span(alloc),
-        RangeNode::One => work.take_single(alloc),
+        | RangeNode::Val(_) => {
+            work.push_value(leaf(node, args, view));
+            Ok(())
+        }
+        RangeNode::Add
+        | RangeNode::Sub
+        | RangeNode::Mul
+        | RangeNode::DivDown
+        | RangeNode::DivUp => {
+            work.take_terms(node);
+            Ok(())
+        }
+        RangeNode::Span => work.take_span(),
+        RangeNode::One => work.take_single(),
         RangeNode::Dom(slot) => work.push_domain(slot_domain(args, slot as usize, view)),
-        RangeNode::Union | RangeNode::Inter => work.take_sets(alloc, node),
+        RangeNode::Union => work.take_union(),
+        RangeNode::Inter => work.take_both(),
         RangeNode::Outside => work.take_outside(),
         RangeNode::Plus | RangeNode::Minus | RangeNode::Times | RangeNode::Over => {
-            work.take_range(alloc, node)
+            work.take_range(node)
         }
     }
 }
 
+/// Takes all nodes but the last one.
+fn run<V: View>(
+    work: &mut Work,
+    steps: &Steps,
+    args: &[Arg],
+    view: &V,
+) -> Result<(), NoMemory>
+    requires spelled { IsSpelled (all_steps steps.now) }
+    requires readable { All (IsReadable (length (V.sets view.now)) args.now) (all_steps steps.now) }
+    requires fits { RangeFits (slot_set (V.sets view.now) args.now) (slot_integer args.now) (spelled (all_steps steps.now)) }
+    requires values { work.old.values.items ≡ [] }
+    requires sets { work.old.sets.sets ≡ [] }
+    requires room { HasRoom (all_steps steps.now) work.old }
+    ensures walked { OnOk result (IsAtLast (slot_set (V.sets view.now) args.now) (slot_integer args.now) steps.now work.new) }
+    ensures room { OnOk result (HasRoom (steps.now.last ∷ []) work.new) }
+    ensures kept { KeepsRoom work.old work.new }
+{
+    for node in &steps.front {
+        take(work, *node, args, view)?;
+    }
+    Ok(())
+}
+
 /// The set of the range that the nodes spell, by the table of ranges alone.
 pub(crate) fn evaluate<V: View>(
-    alloc: Global,
-    nodes: &[RangeNode],
+    work: &mut Work,
+    steps: &Steps,
     args: &[Arg],
     view: &V,
 ) -> Result<Domain, NoMemory>
-    requires spelled { IsSpelled nodes.now }
-    requires readable { All (IsReadable (length (V.sets view.now)) args.now) nodes.now }
-    requires fits { RangeFits (slot_set (V.sets view.now) args.now) (slot_integer args.now) (spelled nodes.now) }
-    ensures { IfOk result (λ d. d ≡ filled_set (slot_set (V.sets view.now) args.now) (slot_integer args.now) (spelled nodes.now)) }
+    requires spelled { IsSpelled (all_steps steps.now) }
+    requires readable { All (IsReadable (length (V.sets view.now)) args.now) (all_steps steps.now) }
+    requires fits { RangeFits (slot_set (V.sets view.now) args.now) (slot_integer args.now) (spelled (all_steps steps.now)) }
+    requires values { work.old.values.items ≡ [] }
+    requires sets { work.old.sets.sets ≡ [] }
+    requires room { HasRoom (all_steps steps.now) work.old }
+    ensures set { IfOk result (λ d. d ≡ filled_set (slot_set (V.sets view.now) args.now) (slot_integer args.now) (spelled (all_steps steps.now))) }
+    ensures kept { KeepsRoom work.old work.new }
 {
-    let mut work = Work::with_room(alloc, nodes.len())?;
-    for node in nodes {
-        take(alloc, &mut work, *node, args, view)?;
+    run(work, steps, args, view)?;
+    take(work, steps.last, args, view)?;
+    work.pop_set()
+}
+
+/// What the range that the nodes spell leaves of the domain, by the table of ranges alone. Where it is an interval, no set is made.
+pub(crate) fn evaluate_narrowing<V: View>(
+    work: &mut Work,
+    steps: &Steps,
+    args: &[Arg],
+    view: &V,
+    target: &Domain,
+) -> Result<Narrowed, NoMemory>
+    requires spelled { IsSpelled (all_steps steps.now) }
+    requires readable { All (IsReadable (length (V.sets view.now)) args.now) (all_steps steps.now) }
+    requires fits { RangeFits (slot_set (V.sets view.now) args.now) (slot_integer args.now) (spelled (all_steps steps.now)) }
+    requires values { work.old.values.items ≡ [] }
+    requires sets { work.old.sets.sets ≡ [] }
+    requires room { HasRoom (all_steps steps.now) work.old }
+    ensures narrowed { IfOk result (IsNarrowed target.now (filled_set (slot_set (V.sets view.now) args.now) (slot_integer args.now) (spelled (all_steps steps.now)))) }
+    ensures kept { KeepsRoom work.old work.new }
+{
+    run(work, steps, args, view)?;
+    match steps.last {
+        RangeNode::Span => {
+            let high = work.pop_value();
+            let low = work.pop_value();
+            target.narrowed_to(low, high)
+        }
+        last => {
+            take(work, last, args, view)?;
+            let set = work.pop_set()?;
+            target.narrowed_by(&set)
+        }
     }
-    Ok(work.sets.pop().unwrap())
 }

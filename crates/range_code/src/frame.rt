@@ -1,7 +1,7 @@
 // The arguments of a range, and what they give.
 
 ghost use Rattle.std.specs.Prelude.{◌≡◌, ◌<◌, ◌&&◌, ℕ, length, slice_index_or};
-ghost use Rattle.std.specs.List.{All};
+ghost use Rattle.std.specs.List.{All, list_any};
 ghost use Rattle.fd_language.specs.Family.{IsRising};
 ghost use Rattle.range_code.specs.Frames.{variable_of, integer_of, slot_integer, slot_set};
 ghost use Rattle.range_code.specs.Nodes.{IsSeen, IsReadable};
@@ -97,4 +97,17 @@ pub(crate) fn find_standing<V: View>(
     } else {
         Standing::Settled
     }
+}
+
+/// Whether the domain of some slot has several members.
+pub(crate) fn is_some_open<V: View>(slots: &[usize], args: &[Arg], view: &V) -> bool
+    requires { All (IsSeen (length (V.sets view.now)) args.now) slots.now }
+    ensures { result ≡ list_any (λ s. is_several (slot_set (V.sets view.now) args.now s)) slots.now }
+{
+    for slot in slots {
+        if is_open(slot_domain(args, *slot, view), Feature::Val) {
+            return true;
+        }
+    }
+    false
 }

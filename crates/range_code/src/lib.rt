@@ -1,10 +1,16 @@
 //! Ranges that are prepared once and evaluated often: the set of a range over the current domains (Codognet and Diaz 1996).
 #![tactic(auto)]
 
-ghost use Rattle.std.specs.Prelude.{◌≡◌, ◌+◌, ◌-◌, ◌^◌, min, length, IfOk, IsTrue};
+ghost use Rattle.std.specs.Prelude.{◌≡◌, ◌≤◌, ◌+◌, ◌-◌, ◌^◌, min, ℕ, false, length, IfOk, OnOk, IsTrue};
 ghost use Rattle.fd_language.specs.RangeVerdict.{is_accepted};
-ghost use Rattle.fd_language.specs.Range.{set_of};
-ghost use Rattle.range_code.specs.Slots.{slots_of, slot_needs, slot_features};
+ghost use Rattle.fd_language.specs.Family.{IsFamily};
+ghost use Rattle.fd_language.specs.Flat.{nodes_of};
+ghost use Rattle.fd_language.specs.Range.{set_of, is_none_left};
+ghost use Rattle.domain_ranges.specs.Narrowing.{IsNarrowed};
+ghost use Rattle.range_code.specs.Slots.{slots_of, slot_needs, slot_features, in_slots};
+ghost use Rattle.range_code.specs.Kinds.{slot_kinds, val_slots};
+ghost use Rattle.range_code.specs.Heights.{height};
+ghost use Rattle.range_code.specs.Walked.{all_steps};
 ghost use Rattle.range_code.specs.Frames.{IsFrame, posted, family_of};
 
 mod compile;
@@ -12,12 +18,17 @@ mod evaluate;
 mod frame;
 mod work;
 
-use crate::compile::{copy_range, name_slots, number_variables, read_features, slot_needs_of};
-use crate::evaluate::evaluate;
+pub use crate::compile::ReadKind;
+use crate::compile::{
+    Read, copy_range, height_of, name_slots, number_variables, read_nodes, slot_needs_of,
+};
+use crate::evaluate::{Steps, evaluate, evaluate_narrowing};
 pub use crate::frame::Arg;
-use crate::frame::{Standing, find_standing};
+use crate::frame::{Standing, find_standing, is_some_open};
+use crate::work::Work;
+pub use domain_ranges::Narrowed;
 use domain_ranges::{Domain, View};
-use fd_language::{Feature, FlatRange, INFINITY, Need, NoMemory, RangeNode};
+use fd_language::{Feature, FlatRange, INFINITY, Need, NoMemory};
 use monotone_check::{Checked, needs};
 use std::alloc::Global;
 use std::marker::Model;
@@ -31,7 +42,10 @@ pub struct RangeCode {
     slots: Vec<u64>,
     needs: Vec<Option<Need>>,
     features: Vec<(usize, Feature)>,
-    nodes: Vec<RangeNode>,
+    kinds: Vec<(usize, ReadKind)>,
+    vals: Vec<usize>,
+    steps: Steps,
+    height: usize,
 }
 
 impl Model for RangeCode {
@@ -44,11 +58,11 @@ impl Model for RangeCode {
 
     ghost coded = { code_by _ (coded_list node.the_row.coded) nodes_of spelled spelled-nodes };
 
-    ghost use Rattle.range_code.specs.Slots.{IsCompiled};
+    ghost use Rattle.range_code.specs.Compiled.{IsCompiled};
 
     ghost view = { λ c. c.range };
 
-    ghost invariant = { λ c. IsCompiled c.range c.slots.items c.needs.items c.features.items c.nodes.items };
+    ghost invariant = { λ c. IsCompiled c.range c.slots.items c.needs.items c.features.items c.kinds.items c.vals.items c.steps c.height };
 }
 
 /// How many ranges were evaluated.
@@ -97,31 +111,69 @@ impl RangeCode {
         &self.features
     }
 
+    /// The same, the least and the greatest member of one slot together.
+    pub fn kinds(&self) -> &[(usize, ReadKind)]
+        ensures { result.now ≡ slot_kinds self.now }
+    {
+        &self.kinds
+    }
+
     /// The range itself.
     pub fn range(&self) -> &FlatRange
         ensures { result.now ≡ self.now }
     {
         &self.range
     }
+
+    /// The slots that are read by val.
+    fn vals(&self) -> &[usize]
+        ensures vals { result.now ≡ val_slots self.now }
+        ensures accepted { IsTrue (is_accepted INFINITY self.now) }
+    {
+        &self.vals
+    }
+
+    /// The nodes with slots in place of variables.
+    fn steps(&self) -> &Steps
+        ensures nodes { all_steps result.now ≡ nodes_of (in_slots self.now) }
+        ensures accepted { IsTrue (is_accepted INFINITY self.now) }
+    {
+        &self.steps
+    }
+
+    /// How many values or sets wait at most.
+    fn height(&self) -> usize
+        ensures { result ≡ height self.now }
+    {
+        self.height
+    }
 }
 
-/// Prepares an accepted range for `run_range`.
+/// Prepares an accepted range for `run_range` and `narrow`.
 pub fn compile_range(alloc: Global, c: &Checked) -> Result<RangeCode, NoMemory>
     ensures { IfOk result (λ code. code ≡ c.now) }
 {
     let range = copy_range(alloc, c.range())?;
     let source = range.nodes();
     let numbered = number_variables(alloc, source)?;
-    let nodes = name_slots(alloc, source, &numbered.numbers)?;
-    let features = read_features(alloc, &nodes)?;
+    let mut nodes = name_slots(alloc, source, &numbered.numbers)?;
+    let read = read_nodes(alloc, &nodes)?;
+    let kinds = read.kinds(alloc)?;
+    let vals = read.vals(alloc, numbered.slots.len())?;
+    let height = height_of(&nodes);
     let asked = needs(alloc, c)?;
     let needs = slot_needs_of(alloc, &numbered.slots, &asked)?;
+    let last = nodes.pop().unwrap();
+    let Read { features, .. } = read;
     Ok(RangeCode {
         range,
         slots: numbered.slots,
         needs,
         features,
-        nodes,
+        kinds,
+        vals,
+        steps: Steps { front: nodes, last },
+        height,
     })
 }
 
@@ -140,11 +192,77 @@ pub fn run_range<V: View>(
     ensures count { n.new.count ≡ min (n.old.count + 1) (2 ^ 64 - 1) }
 {
     n.add();
-    match find_standing(&code.features, args, view) {
+    match find_standing(code.features(), args, view) {
         Standing::Empty => Ok(Domain::empty(alloc)),
         Standing::Open => Ok(Domain::full(alloc)),
-        Standing::Settled => evaluate(alloc, &code.nodes, args, view),
+        Standing::Settled => {
+            let mut work = Work::new(alloc);
+            work.reserve(code.height())?;
+            evaluate(&mut work, code.steps(), args, view)
+        }
     }
+}
+
+/// The work stacks of runs, which a caller lends. They grow only in `reserve`, but for a set of more than two intervals.
+///
+/// A contract sees how high they may grow without memory.
+#[derive(Drop)]
+pub struct Stacks {
+    work: Work,
+}
+
+impl Model for Stacks {
+    ghost use Rattle.std.specs.Prelude.{ℕ, min, vec_capacity};
+
+    ghost Value = { ℕ };
+
+    ghost view = { λ s. min (vec_capacity s.work.values) s.work.sets.room };
+}
+
+impl Stacks {
+    /// Stacks without room.
+    pub fn new(alloc: Global) -> Stacks {
+        Stacks {
+            work: Work::new(alloc),
+        }
+    }
+
+    /// Makes room for the runs of the range.
+    pub fn reserve(&mut self, code: &RangeCode) -> Result<(), NoMemory>
+        ensures kept { self.old ≤ self.new }
+        ensures room { OnOk result (height code.now ≤ self.new) }
+    {
+        self.work.reserve(code.height())
+    }
+}
+
+/// What the set of the range leaves of `target`, and one more activation in `n`. Where that is all, nothing is made, and where the range
+/// is an interval, no set is.
+///
+/// The arguments are those of `run_range`. No set of the view is empty, and there is room for the range in the stacks.
+pub fn narrow<V: View>(
+    code: &RangeCode,
+    args: &[Arg],
+    view: &V,
+    target: &Domain,
+    stacks: &mut Stacks,
+    n: &mut Activations,
+) -> Result<Narrowed, NoMemory>
+    requires frame { IsFrame (length (V.sets view.now)) code.now args.now }
+    requires some { (k : ℕ) → is_none_left (family_of (V.sets view.now) k) ≡ false }
+    requires family { IsFamily INFINITY (family_of (V.sets view.now)) }
+    requires room { height code.now ≤ stacks.old }
+    ensures narrowed { IfOk result (IsNarrowed target.now (set_of INFINITY (family_of (V.sets view.now)) (posted code.now args.now))) }
+    ensures room { stacks.old ≤ stacks.new }
+    ensures count { n.new.count ≡ min (n.old.count + 1) (2 ^ 64 - 1) }
+{
+    n.add();
+    if is_some_open(code.vals(), args, view) {
+        target.rises();
+        return Ok(Narrowed::Same);
+    }
+    stacks.work.clear();
+    evaluate_narrowing(&mut stacks.work, code.steps(), args, view, target)
 }
 
 #[cfg(test)]

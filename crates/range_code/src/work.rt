@@ -1,21 +1,23 @@
 // The values and sets that wait for their operators.
 
-ghost use Rattle.std.specs.Prelude.{◌≡◌, ℕ, ℤ, List, [], ◌∷◌, ◌++◌, pos, ◌≤ℤ◌, IfOk, OnOk, vec_capacity};
+ghost use Rattle.std.specs.Prelude.{◌≡◌, ◌<◌, ◌≤◌, ◌-◌, ℕ, ℤ, suc, List, [], ◌∷◌, ◌++◌, pos, ◌≤ℤ◌, length, IfOk, OnOk, vec_len, vec_capacity};
 ghost use Rattle.fd_language.specs.Family.{IsRising};
 ghost use Rattle.fd_language.specs.Range.{div_down, div_up};
 ghost use Rattle.range_code.specs.Work.{IsLimited, operated, CanOperate, CanTakeTerms, CanMove, CanTakeRange, CanTake};
-ghost use Rattle.range_code.specs.Steps.{PushesValue, PushesSet, Operates, Spans, Singles, combined, Combines, Complements, moved, Moves};
+ghost use Rattle.range_code.specs.Steps.{PushesValue, PushesSet, Operates, Spans, Singles, Joins, Meets, Complements, moved, Moves};
+ghost use Rattle.range_code.specs.Heights.{Counts, KeepsRoom};
 
-use domain_ranges::Domain;
+use domain_ranges::{Domain, SetStack};
 use fd_language::{INFINITY, NoMemory, RangeNode};
 use std::alloc::Global;
 
-/// The values of the terms and the sets of the ranges that wait for their operators, the last one last. The nodes spell a range, so an
-/// operator's operands are always there.
+/// The values of the terms and the sets of the ranges that wait for their operators, the last one on top. The nodes spell a range, so
+/// an operator's operands are always there.
 #[derive(Drop)]
 pub(crate) struct Work {
+    pub alloc: Global,
     pub values: Vec<i128>,
-    pub sets: Vec<Domain>,
+    pub sets: SetStack,
 }
 
 /// The quotient rounded down. Nothing is divided by 0: the quotient is then the greater of the dividend and `INFINITY`.
@@ -60,17 +62,6 @@ fn operate(node: RangeNode, a: i128, b: i128) -> i128
     }
 }
 
-/// The set of a set operator of two sets.
-fn combine(alloc: Global, node: RangeNode, r: &Domain, q: &Domain) -> Result<Domain, NoMemory>
-    ensures { IfOk result (λ d. d ≡ combined node r.now q.now) }
-{
-    match node {
-        RangeNode::Union => r.union(q),
-        RangeNode::Inter => r.intersect(q),
-        _ => Ok(Domain::empty(alloc)),
-    }
-}
-
 /// The set of a pointwise operator of a set and an integer.
 fn move_set(alloc: Global, node: RangeNode, r: &Domain, c: i128) -> Result<Domain, NoMemory>
     requires { CanMove node c }
@@ -86,76 +77,145 @@ fn move_set(alloc: Global, node: RangeNode, r: &Domain, c: i128) -> Result<Domai
 }
 
 impl Work {
-    /// Nothing that waits, and room for so much of each kind.
-    pub fn with_room(alloc: Global, room: usize) -> Result<Work, NoMemory>
-        ensures values { IfOk result (λ w. w.values.items ≡ []) }
-        ensures sets { IfOk result (λ w. w.sets.items ≡ []) }
-        ensures room { IfOk result (λ w. (vec_capacity w.values ≡ room) × (vec_capacity w.sets ≡ room)) }
+    /// Nothing that waits.
+    pub fn new(alloc: Global) -> Work
+        ensures values { result.values.items ≡ [] }
+        ensures sets { result.sets.sets ≡ [] }
     {
-        let values = Vec::with_capacity(alloc, room)?;
-        let sets = Vec::with_capacity(alloc, room)?;
-        Ok(Work { values, sets })
+        Work {
+            alloc,
+            values: Vec::new(alloc),
+            sets: SetStack::new(alloc),
+        }
     }
 
-    /// A term waits.
-    pub fn push_value(&mut self, value: i128) -> Result<(), NoMemory>
-        ensures { OnOk result (PushesValue value self.old self.new) }
+    /// Takes away all that waits.
+    pub fn clear(&mut self)
+        ensures values { self.new.values.items ≡ [] }
+        ensures len { vec_len self.new.values ≡ 0 }
+        ensures sets { self.new.sets.sets ≡ [] }
+        ensures room { KeepsRoom self.old self.new }
     {
-        self.values.push(value)?;
+        self.values.clear();
+        self.sets.clear();
+    }
+
+    /// Takes away all that waits, and makes room for so many values and sets.
+    pub fn reserve(&mut self, height: usize) -> Result<(), NoMemory>
+        ensures values { self.new.values.items ≡ [] }
+        ensures len { vec_len self.new.values ≡ 0 }
+        ensures sets { self.new.sets.sets ≡ [] }
+        ensures value_kept { vec_capacity self.old.values ≤ vec_capacity self.new.values }
+        ensures set_kept { self.old.sets.room ≤ self.new.sets.room }
+        ensures value_room { OnOk result (height ≤ vec_capacity self.new.values) }
+        ensures set_room { OnOk result (height ≤ self.new.sets.room) }
+    {
+        self.clear();
+        self.values.reserve(height)?;
+        self.sets.reserve(height)?;
         Ok(())
     }
 
-    /// The domain of a variable waits.
+    /// A term waits. There is room.
+    pub fn push_value(&mut self, value: i128)
+        requires { vec_len self.old.values < vec_capacity self.old.values }
+        ensures pushed { PushesValue value self.old self.new }
+        ensures counted { Counts suc (λ n. n) self.old self.new }
+        ensures room { KeepsRoom self.old self.new }
+    {
+        self.values.push_reserved(value);
+    }
+
+    /// The domain of a variable waits. There is room.
     pub fn push_domain(&mut self, domain: &Domain) -> Result<(), NoMemory>
+        requires { length self.old.sets.sets < self.old.sets.room }
         ensures pushed { OnOk result (PushesSet domain.now self.old self.new) }
         ensures rising { IsRising 0 INFINITY domain.now }
+        ensures counted { OnOk result (Counts (λ n. n) suc self.old self.new) }
+        ensures room { KeepsRoom self.old self.new }
     {
-        self.sets.push(domain.copy()?)?;
-        Ok(())
+        self.sets.push(domain)
+    }
+
+    /// Takes the last term away, if there is one.
+    pub fn pop_value(&mut self) -> i128
+        ensures taken { (front : List ℤ) (a : ℤ) → self.old.values.items ≡ front ++ a ∷ [] → (result ≡ a) × (self.new.values.items ≡ front) }
+        ensures room { KeepsRoom self.old self.new }
+    {
+        self.values.pop().unwrap_or(0)
+    }
+
+    /// Takes the last set away, if there is one.
+    pub fn pop_set(&mut self) -> Result<Domain, NoMemory>
+        ensures taken { IfOk result (λ d. (r : List ℕ) (rest : List (List ℕ)) → self.old.sets.sets ≡ r ∷ rest → d ≡ r) }
+        ensures room { KeepsRoom self.old self.new }
+    {
+        match self.sets.pop()? {
+            Some(set) => Ok(set),
+            None => Ok(Domain::empty(self.alloc)),
+        }
     }
 
     /// An operator of terms takes the last two.
-    pub fn take_terms(&mut self, node: RangeNode) -> Result<(), NoMemory>
+    pub fn take_terms(&mut self, node: RangeNode)
         requires { CanTakeTerms node self.old }
-        ensures { OnOk result (Operates node self.old self.new) }
+        ensures taken { Operates node self.old self.new }
+        ensures counted { Counts (λ n. n - 1) (λ n. n) self.old self.new }
+        ensures room { KeepsRoom self.old self.new }
     {
         if let Some(b) = self.values.pop() {
             if let Some(a) = self.values.pop() {
-                self.values.push(operate(node, a, b))?;
+                self.values.push_reserved(operate(node, a, b));
+            }
+        }
+    }
+
+    /// An interval takes the last two terms. There is room.
+    pub fn take_span(&mut self) -> Result<(), NoMemory>
+        requires { length self.old.sets.sets < self.old.sets.room }
+        ensures taken { OnOk result (Spans self.old self.new) }
+        ensures counted { OnOk result (Counts (λ n. n - 2) suc self.old self.new) }
+        ensures room { KeepsRoom self.old self.new }
+    {
+        if let Some(b) = self.values.pop() {
+            if let Some(a) = self.values.pop() {
+                self.sets.push_interval(a, b)?;
             }
         }
         Ok(())
     }
 
-    /// An interval takes the last two terms.
-    pub fn take_span(&mut self, alloc: Global) -> Result<(), NoMemory>
-        ensures { OnOk result (Spans self.old self.new) }
-    {
-        if let Some(b) = self.values.pop() {
-            if let Some(a) = self.values.pop() {
-                self.sets.push(Domain::interval(alloc, a, b))?;
-            }
-        }
-        Ok(())
-    }
-
-    /// A single number takes the last term.
-    pub fn take_single(&mut self, alloc: Global) -> Result<(), NoMemory>
-        ensures { OnOk result (Singles self.old self.new) }
+    /// A single number takes the last term. There is room.
+    pub fn take_single(&mut self) -> Result<(), NoMemory>
+        requires { length self.old.sets.sets < self.old.sets.room }
+        ensures taken { OnOk result (Singles self.old self.new) }
+        ensures counted { OnOk result (Counts (λ n. n - 1) suc self.old self.new) }
+        ensures room { KeepsRoom self.old self.new }
     {
         if let Some(a) = self.values.pop() {
-            self.sets.push(Domain::interval(alloc, a, a))?;
+            self.sets.push_interval(a, a)?;
         }
         Ok(())
     }
 
-    /// A set operator takes the last two sets.
-    pub fn take_sets(&mut self, alloc: Global, node: RangeNode) -> Result<(), NoMemory>
-        ensures { OnOk result (Combines node self.old self.new) }
+    /// The union takes the last two sets.
+    pub fn take_union(&mut self) -> Result<(), NoMemory>
+        ensures taken { OnOk result (Joins self.old self.new) }
+        ensures counted { OnOk result (Counts (λ n. n) (λ n. n - 1) self.old self.new) }
+        ensures room { KeepsRoom self.old self.new }
     {
-        if let Some(q) = self.sets.pop() {
-            if let Some(r) = self.sets.pop() {
-                self.sets.push(combine(alloc, node, &r, &q)?)?;
+        self.sets.unite()
+    }
+
+    /// The intersection takes the last two sets.
+    pub fn take_both(&mut self) -> Result<(), NoMemory>
+        ensures taken { OnOk result (Meets self.old self.new) }
+        ensures counted { OnOk result (Counts (λ n. n) (λ n. n - 1) self.old self.new) }
+        ensures room { KeepsRoom self.old self.new }
+    {
+        if let Some(q) = self.sets.pop()? {
+            if let Some(r) = self.sets.pop()? {
+                self.sets.push(&r.intersect(&q)?)?;
             }
         }
         Ok(())
@@ -163,22 +223,26 @@ impl Work {
 
     /// The complement takes the last set.
     pub fn take_outside(&mut self) -> Result<(), NoMemory>
-        ensures { OnOk result (Complements self.old self.new) }
+        ensures taken { OnOk result (Complements self.old self.new) }
+        ensures counted { OnOk result (Counts (λ n. n) (λ n. n) self.old self.new) }
+        ensures room { KeepsRoom self.old self.new }
     {
-        if let Some(r) = self.sets.pop() {
-            self.sets.push(r.complement()?)?;
+        if let Some(r) = self.sets.pop()? {
+            self.sets.push(&r.complement()?)?;
         }
         Ok(())
     }
 
     /// A pointwise operator takes the last term and the last set.
-    pub fn take_range(&mut self, alloc: Global, node: RangeNode) -> Result<(), NoMemory>
+    pub fn take_range(&mut self, node: RangeNode) -> Result<(), NoMemory>
         requires { CanTakeRange node self.old }
-        ensures { OnOk result (Moves node self.old self.new) }
+        ensures taken { OnOk result (Moves node self.old self.new) }
+        ensures counted { OnOk result (Counts (λ n. n - 1) (λ n. n) self.old self.new) }
+        ensures room { KeepsRoom self.old self.new }
     {
         if let Some(c) = self.values.pop() {
-            if let Some(r) = self.sets.pop() {
-                self.sets.push(move_set(alloc, node, &r, c)?)?;
+            if let Some(r) = self.sets.pop()? {
+                self.sets.push(&move_set(self.alloc, node, &r, c)?)?;
             }
         }
         Ok(())

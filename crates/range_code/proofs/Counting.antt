@@ -1,0 +1,116 @@
+-- There is room for what waits, node by node.
+use Rattle.std.proofs.Common.{◌≡◌, ℕ, ℤ, zero, suc, ◌+◌, ◌-◌, ◌<◌, ◌≤◌, ◌⊎◌, inl, inr, List, [], ◌∷◌, ◌++◌, length, max, drop, get_or, refl, sym, ◌∙◌, ap, subst, arith, vec_len, vec_capacity}
+use Rattle.std.proofs.lemmas.List.{at_drop_more, drop_all}
+use Rattle.fd_language.specs.declared.range_node.RangeNode.{RangeNode}
+use Rattle.fd_language.specs.declared.range_node.RangeNode.TheVariants as node
+use Rattle.range_code.specs.declared.work.Work.{Work}
+use Rattle.range_code.specs.declared.evaluate.Steps.{Steps}
+use Rattle.range_code.specs.Heights.{values_after, sets_after, peak, HasRoom, Counts, IsCounted, KeepsRoom}
+use Rattle.range_code.specs.Walked.{all_steps}
+
+-- what is counted doesn't fall where more waits before
+abbrev Grows : (RangeNode → ℕ → ℕ) → Type 0
+Grows f = (m : RangeNode) (a b : ℕ) → a ≤ b → f m a ≤ f m b
+
+values_grow : Grows values_after
+values_grow (node.Int z) a b h = omega arith
+values_grow node.Infinity a b h = omega arith
+values_grow (node.Param x) a b h = omega arith
+values_grow (node.Min y) a b h = omega arith
+values_grow (node.Max y) a b h = omega arith
+values_grow (node.Val y) a b h = omega arith
+values_grow node.Add a b h = omega arith
+values_grow node.Sub a b h = omega arith
+values_grow node.Mul a b h = omega arith
+values_grow node.DivDown a b h = omega arith
+values_grow node.DivUp a b h = omega arith
+values_grow node.Span a b h = omega arith
+values_grow node.One a b h = omega arith
+values_grow (node.Dom y) a b h = h
+values_grow node.Union a b h = h
+values_grow node.Inter a b h = h
+values_grow node.Outside a b h = h
+values_grow node.Plus a b h = omega arith
+values_grow node.Minus a b h = omega arith
+values_grow node.Times a b h = omega arith
+values_grow node.Over a b h = omega arith
+
+sets_grow : Grows sets_after
+sets_grow (node.Int z) a b h = h
+sets_grow node.Infinity a b h = h
+sets_grow (node.Param x) a b h = h
+sets_grow (node.Min y) a b h = h
+sets_grow (node.Max y) a b h = h
+sets_grow (node.Val y) a b h = h
+sets_grow node.Add a b h = h
+sets_grow node.Sub a b h = h
+sets_grow node.Mul a b h = h
+sets_grow node.DivDown a b h = h
+sets_grow node.DivUp a b h = h
+sets_grow node.Span a b h = omega arith
+sets_grow node.One a b h = omega arith
+sets_grow (node.Dom y) a b h = omega arith
+sets_grow node.Union a b h = omega arith
+sets_grow node.Inter a b h = omega arith
+sets_grow node.Outside a b h = h
+sets_grow node.Plus a b h = h
+sets_grow node.Minus a b h = h
+sets_grow node.Times a b h = h
+sets_grow node.Over a b h = h
+
+module _ (f : RangeNode → ℕ → ℕ) (grows : Grows f) where
+  pub peak_low : (ms : List RangeNode) (n : ℕ) → n ≤ peak f ms n
+  peak_low [] n = omega arith
+  peak_low (m ∷ ms) n = omega arith
+
+  peak_grows : (ms : List RangeNode) (a b : ℕ) → a ≤ b → peak f ms a ≤ peak f ms b
+  peak_grows [] a b h = h
+  peak_grows (m ∷ ms) a b h = let k = peak_grows ms (f m a) (f m b) (grows m a b h) in omega arith
+
+  peak_more : (m : RangeNode) (ms : List RangeNode) (a b c : ℕ) → peak f (m ∷ ms) a ≤ c → b ≤ f m a → peak f ms b ≤ c
+  peak_more m ms a b c h g = let k = peak_grows ms b (f m a) g in omega arith
+
+  peak_first : (m : RangeNode) (ms : List RangeNode) (a c : ℕ) → peak f (m ∷ ms) a ≤ c → peak f (m ∷ []) a ≤ c
+  peak_first m ms a c h = let k = peak_low ms (f m a) in omega arith
+
+-- the first node may be taken, and then there is room for the others
+pub room_first : (m : RangeNode) (ms : List RangeNode) (w : Work) → HasRoom (m ∷ ms) w → HasRoom (m ∷ []) w
+room_first m ms w h = record {
+  values = peak_first values_after values_grow m ms (vec_len w.values) (vec_capacity w.values) h.values;
+  sets = peak_first sets_after sets_grow m ms (length w.sets.sets) w.sets.room h.sets;
+}
+
+pub room_more : (m : RangeNode) (ms : List RangeNode) (old new : Work) → HasRoom (m ∷ ms) old → IsCounted m old new → KeepsRoom old new → HasRoom ms new
+room_more m ms old new h c k = record {
+  values = subst (λ n. peak values_after ms (vec_len new.values) ≤ n) (sym k.values) (peak_more values_after values_grow m ms (vec_len old.values) (vec_len new.values) (vec_capacity old.values) h.values c.values);
+  sets = subst (λ n. peak sets_after ms (length new.sets.sets) ≤ n) (sym k.sets) (peak_more sets_after sets_grow m ms (length old.sets.sets) (length new.sets.sets) old.sets.room h.sets c.sets);
+}
+
+-- the same at a place of the front
+at_place : (s : Steps) (i : ℕ) (d : RangeNode) (w : Work) → i < length s.front.items → HasRoom (drop i s.front.items ++ s.last ∷ []) w → HasRoom (get_or s.front.items i d ∷ (drop (i + 1) s.front.items ++ s.last ∷ [])) w
+at_place s i d w l h = subst (λ ms. HasRoom ms w) (at_drop_more (λ ns. ns ++ s.last ∷ []) s.front.items i d l) h
+
+pub room_at : (s : Steps) (i : ℕ) (d : RangeNode) (w : Work) → i < length s.front.items → HasRoom (drop i s.front.items ++ s.last ∷ []) w → HasRoom (get_or s.front.items i d ∷ []) w
+room_at s i d w l h = room_first (get_or s.front.items i d) (drop (i + 1) s.front.items ++ s.last ∷ []) w (at_place s i d w l h)
+
+pub room_behind : (s : Steps) (i : ℕ) (d : RangeNode) (old new : Work) → i < length s.front.items → HasRoom (drop i s.front.items ++ s.last ∷ []) old → IsCounted (get_or s.front.items i d) old new → KeepsRoom old new → HasRoom (drop (i + 1) s.front.items ++ s.last ∷ []) new
+room_behind s i d old new l h c k = room_more (get_or s.front.items i d) (drop (i + 1) s.front.items ++ s.last ∷ []) old new (at_place s i d old l h) c k
+
+pub room_there : (s : Steps) (i : ℕ) (d : RangeNode) (w : Work) (items : List RangeNode) → items ≡ s.front.items → i < length items → HasRoom (drop i s.front.items ++ s.last ∷ []) w → HasRoom (get_or items i d ∷ []) w
+room_there s i d w items e = subst (λ l. i < length l → HasRoom (drop i s.front.items ++ s.last ∷ []) w → HasRoom (get_or l i d ∷ []) w) (sym e) (room_at s i d w)
+
+pub room_next : (s : Steps) (i : ℕ) (d : RangeNode) (old new : Work) (items : List RangeNode) → items ≡ s.front.items → i < length items → HasRoom (drop i s.front.items ++ s.last ∷ []) old → IsCounted (get_or items i d) old new → KeepsRoom old new → HasRoom (drop (i + 1) s.front.items ++ s.last ∷ []) new
+room_next s i d old new items e = subst (λ l. i < length l → HasRoom (drop i s.front.items ++ s.last ∷ []) old → IsCounted (get_or l i d) old new → KeepsRoom old new → HasRoom (drop (i + 1) s.front.items ++ s.last ∷ []) new) (sym e) (room_behind s i d old new)
+
+pub room_last : (s : Steps) (i : ℕ) (w : Work) → length s.front.items ≤ i → HasRoom (drop i s.front.items ++ s.last ∷ []) w → HasRoom (s.last ∷ []) w
+room_last s i w l h = subst (λ ms. HasRoom (ms ++ s.last ∷ []) w) (drop_all i s.front.items l) h
+
+pub keeps_on : (a b c : Work) → KeepsRoom a b → KeepsRoom b c → KeepsRoom a c
+keeps_on a b c h g = record { values = g.values ∙ h.values; sets = g.sets ∙ h.sets }
+
+-- empty stacks with room for the height
+pub room_start : (ms : List RangeNode) (w : Work) (high : ℕ) → vec_len w.values ≡ 0 → w.sets.sets ≡ [] → high ≡ max (peak values_after ms 0) (peak sets_after ms 0) → high ≤ vec_capacity w.values → high ≤ w.sets.room → HasRoom ms w
+room_start ms w high v s e a b = record {
+  values = subst (λ n. peak values_after ms n ≤ vec_capacity w.values) (sym v) (omega arith);
+  sets = subst (λ l. peak sets_after ms (length l) ≤ w.sets.room) (sym s) (omega arith);
+}

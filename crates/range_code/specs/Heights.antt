@@ -1,0 +1,68 @@
+-- How many values and sets wait at most while a range is evaluated.
+use Rattle.std.specs.Prelude.{◌≡◌, ℕ, suc, ◌-◌, ◌≤◌, max, List, [], ◌∷◌, ◌++◌, length, vec_len, vec_capacity}
+use Rattle.fd_language.specs.declared.range_node.RangeNode.{RangeNode}
+use Rattle.fd_language.specs.declared.range_node.RangeNode.TheVariants as node
+use Rattle.fd_language.specs.Range.{Range}
+use Rattle.fd_language.specs.Flat.{nodes_of}
+use Rattle.range_code.specs.declared.work.Work.{Work}
+use Rattle.range_code.specs.Slots.{in_slots}
+
+-- how many values wait behind a node, where so many wait before it
+abbrev pub values_after : RangeNode → ℕ → ℕ
+values_after (node.Int z) n = suc n
+values_after node.Infinity n = suc n
+values_after (node.Param x) n = suc n
+values_after (node.Min y) n = suc n
+values_after (node.Max y) n = suc n
+values_after (node.Val y) n = suc n
+values_after node.Add n = n - 1
+values_after node.Sub n = n - 1
+values_after node.Mul n = n - 1
+values_after node.DivDown n = n - 1
+values_after node.DivUp n = n - 1
+values_after node.Span n = n - 2
+values_after node.One n = n - 1
+values_after (node.Dom y) n = n
+values_after node.Union n = n
+values_after node.Inter n = n
+values_after node.Outside n = n
+values_after node.Plus n = n - 1
+values_after node.Minus n = n - 1
+values_after node.Times n = n - 1
+values_after node.Over n = n - 1
+
+-- and how many sets
+abbrev pub sets_after : RangeNode → ℕ → ℕ
+sets_after node.Span n = suc n
+sets_after node.One n = suc n
+sets_after (node.Dom y) n = suc n
+sets_after node.Union n = n - 1
+sets_after node.Inter n = n - 1
+sets_after m n = n
+
+-- the greatest number that waits before a node or at the end
+abbrev pub peak : (RangeNode → ℕ → ℕ) → List RangeNode → ℕ → ℕ
+peak f [] n = n
+peak f (m ∷ ms) n = max n (peak f ms (f m n))
+
+-- the greatest number of values, or of sets, that wait while the range is evaluated
+abbrev pub height : Range → ℕ
+height r = max (peak values_after (nodes_of (in_slots r)) 0) (peak sets_after (nodes_of (in_slots r)) 0)
+
+-- there is room for all that will wait
+pub record HasRoom (ms : List RangeNode) (w : Work) : Type 0 where
+  pub values : peak values_after ms (vec_len w.values) ≤ vec_capacity w.values
+  pub sets : peak sets_after ms (length w.sets.sets) ≤ w.sets.room
+
+-- how many values and sets wait afterwards: at most f and g of how many waited before
+pub record Counts (f g : ℕ → ℕ) (old new : Work) : Type 0 where
+  pub values : vec_len new.values ≤ f (vec_len old.values)
+  pub sets : length new.sets.sets ≤ g (length old.sets.sets)
+
+abbrev pub IsCounted : RangeNode → Work → Work → Type 0
+IsCounted m old new = Counts (values_after m) (sets_after m) old new
+
+-- the room is as it was
+pub record KeepsRoom (old new : Work) : Type 0 where
+  pub values : vec_capacity new.values ≡ vec_capacity old.values
+  pub sets : new.sets.room ≡ old.sets.room
