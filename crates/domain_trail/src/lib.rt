@@ -1,0 +1,184 @@
+//! Domains that are changed in place, with marks to which they go back.
+#![tactic(auto)]
+
+ghost use Rattle.std.specs.Prelude.{◌≡◌, ◌<◌, ◌≤◌, [], ◌∷◌, ◌++◌, length, take, drop, slice_set, slice_index_or, IfOk, OnOk, OnErr};
+ghost use Rattle.fd_language.specs.Family.{universe};
+
+use domain_ranges::{Domain, View};
+use fd_language::{INFINITY, NoMemory};
+use std::alloc::Global;
+use std::marker::Model;
+use std::mem;
+
+/// A variable's domain, and the stamp of the stretch between two marks in which it last changed.
+#[derive(Drop)]
+struct Cell {
+    domain: Domain,
+    stamp: u64,
+}
+
+/// What the cell of a variable was.
+#[derive(Drop)]
+struct Saved {
+    var: usize,
+    cell: Cell,
+}
+
+/// How many cells were saved and how many variables there were, and the stamp before the mark.
+#[derive(Clone, Copy, Drop)]
+struct Mark {
+    saved: usize,
+    vars: usize,
+    stamp: u64,
+}
+
+/// The domains of variables, as a list of stores of which the first is the current one.
+///
+/// A domain changes in place. Between two marks the old one is saved at most once, unless marks were dropped there:
+/// a variable's stamp tells whether it was. A stamp is never handed out twice, and at the last one every change is saved.
+#[derive(Drop)]
+pub struct Trail {
+    alloc: Global,
+    cells: Vec<Cell>,
+    saved: Vec<Saved>,
+    marks: Vec<Mark>,
+    stamp: u64,
+    last: u64,
+}
+
+impl Model for Trail {
+    ghost use Rattle.domain_trail.specs.Stores.{Stores};
+
+    ghost Value = { Stores };
+
+    ghost use Rattle.std.specs.Prelude.{reverse};
+    ghost use Rattle.domain_trail.specs.Trails.{sets_of, stores_below, IsTrail, AreOld};
+
+    ghost view = { λ t. record { current = sets_of t.cells.items; below = stores_below (reverse t.marks.items) t.saved.items t.cells.items } };
+
+    ghost invariant = { λ t. IsTrail (reverse t.marks.items) t.saved.items t.cells.items t.stamp × AreOld t.last t.marks.items t.saved.items t.cells.items t.stamp };
+}
+
+impl Trail {
+    /// One store without variables.
+    pub fn new(alloc: Global) -> Trail
+        ensures { result ≡ record { current = []; below = [] } }
+    {
+        Trail {
+            alloc,
+            cells: Vec::new(alloc),
+            saved: Vec::new(alloc),
+            marks: Vec::new(alloc),
+            stamp: 0,
+            last: 0,
+        }
+    }
+
+    /// How many variables the current store has.
+    pub fn vars(&self) -> usize
+        ensures { result ≡ length self.now.current }
+    {
+        self.cells.len()
+    }
+
+    /// How many stores are below the current one.
+    pub fn marks(&self) -> usize
+        ensures { result ≡ length self.now.below }
+    {
+        self.marks.len()
+    }
+
+    /// One more variable, which may have any value.
+    pub fn new_var(&mut self) -> Result<usize, NoMemory>
+        ensures number { IfOk result (λ k. k ≡ length self.old.current) }
+        ensures added { OnOk result (self.new ≡ record self.old { current = self.old.current ++ universe INFINITY ∷ [] }) }
+        ensures unchanged { OnErr result (self.new ≡ self.old) }
+    {
+        let k = self.cells.len();
+        self.cells.push(Cell {
+            domain: Domain::full(self.alloc),
+            stamp: self.stamp,
+        })?;
+        Ok(k)
+    }
+
+    /// Gives the variable `k` another domain.
+    pub fn narrow(&mut self, k: usize, domain: Domain) -> Result<(), NoMemory>
+        requires { k < length self.old.current }
+        ensures changed { OnOk result (self.new ≡ record self.old { current = slice_set self.old.current k domain }) }
+        ensures unchanged { OnErr result (self.new ≡ self.old) }
+    {
+        let stamp = self.stamp;
+        let old = self.cells[k].stamp;
+        if old == stamp && stamp < u64::MAX {
+            self.cells[k] = Cell { domain, stamp };
+            return Ok(());
+        }
+        self.saved.reserve(1)?;
+        let cell = mem::replace(&mut self.cells[k], Cell { domain, stamp });
+        self.saved.push_reserved(Saved { var: k, cell });
+        Ok(())
+    }
+
+    /// Puts a copy of the current store below it.
+    pub fn push_mark(&mut self) -> Result<(), NoMemory>
+        ensures marked { OnOk result (self.new ≡ record self.old { below = self.old.current ∷ self.old.below }) }
+        ensures unchanged { OnErr result (self.new ≡ self.old) }
+    {
+        self.marks.push(Mark {
+            saved: self.saved.len(),
+            vars: self.cells.len(),
+            stamp: self.stamp,
+        })?;
+        self.last = self.last.saturating_add(1);
+        self.stamp = self.last;
+        Ok(())
+    }
+
+    /// Gives back the store below the current one.
+    pub fn pop_mark(&mut self)
+        requires { 0 < length self.old.below }
+        ensures { self.old.below ≡ self.new.current ∷ self.new.below }
+    {
+        let mark = self.marks.pop().unwrap();
+        restore(&mut self.cells, &mut self.saved, mark.saved);
+        self.cells.truncate(mark.vars);
+        self.stamp = mark.stamp;
+    }
+
+    /// Takes away the `n` stores directly below the current one.
+    pub fn drop_marks(&mut self, n: usize)
+        requires { n ≤ length self.old.below }
+        ensures { self.new ≡ record self.old { below = drop n self.old.below } }
+    {
+        let left = self.marks.len() - n;
+        self.marks.truncate(left);
+    }
+}
+
+impl View for Trail {
+    ghost sets = { λ t. t.current };
+
+    fn domain(&self, k: usize) -> &Domain {
+        &self.cells[k].domain
+    }
+}
+
+ghost use Rattle.std.specs.Prelude.{All};
+ghost use Rattle.domain_trail.specs.Trails.{undo};
+
+/// Puts back what was saved since there were `from` saved cells, the newest first.
+fn restore(cells: &mut Vec<Cell>, saved: &mut Vec<Saved>, from: usize)
+    requires from { from ≤ length saved.old.items }
+    requires vars { All (λ e. e.var < length cells.old.items) saved.old.items }
+    ensures cells { cells.new.items ≡ undo (drop from saved.old.items) cells.old.items }
+    ensures saved { saved.new.items ≡ take from saved.old.items }
+{
+    'restoring: while saved.len() > from {
+        let entry = saved.pop().unwrap();
+        cells[entry.var] = entry.cell;
+    }
+}
+
+#[cfg(test)]
+mod tests;
