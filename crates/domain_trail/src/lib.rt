@@ -1,7 +1,7 @@
 //! Domains that are changed in place, with marks to which they go back.
 #![tactic(auto)]
 
-ghost use Rattle.std.specs.Prelude.{◌≡◌, ◌<◌, ◌≤◌, [], ◌∷◌, ◌++◌, length, take, drop, slice_set, slice_index_or, IfOk, OnOk, OnErr};
+ghost use Rattle.std.specs.Prelude.{◌≡◌, ◌<◌, ◌≤◌, [], ◌∷◌, ◌++◌, length, take, drop, slice_set, slice_index_or, IfOk, OnOk, OnErr, IsTrue};
 ghost use Rattle.fd_language.specs.Family.{universe};
 
 use domain_ranges::{Domain, View};
@@ -44,6 +44,7 @@ pub struct Trail {
     marks: Vec<Mark>,
     stamp: u64,
     last: u64,
+    sifted: usize,
 }
 
 impl Model for Trail {
@@ -71,6 +72,7 @@ impl Trail {
             marks: Vec::new(alloc),
             stamp: 0,
             last: 0,
+            sifted: 0,
         }
     }
 
@@ -110,7 +112,7 @@ impl Trail {
     {
         let stamp = self.stamp;
         let old = self.cells[k].stamp;
-        if old == stamp && stamp < u64::MAX {
+        if needs_no_saving(&self.marks, old, stamp) {
             self.cells[k] = Cell { domain, stamp };
             return Ok(());
         }
@@ -144,6 +146,7 @@ impl Trail {
         restore(&mut self.cells, &mut self.saved, mark.saved);
         self.cells.truncate(mark.vars);
         self.stamp = mark.stamp;
+        self.sifted = self.sifted.min(mark.saved);
     }
 
     /// Takes away the `n` stores directly below the current one.
@@ -151,8 +154,18 @@ impl Trail {
         requires { n ≤ length self.old.below }
         ensures { self.new ≡ record self.old { below = drop n self.old.below } }
     {
+        if n == 0 {
+            return;
+        }
         let left = self.marks.len() - n;
+        let mark = self.marks[left];
         self.marks.truncate(left);
+        if left == 0 {
+            self.saved.clear();
+        } else if mark.stamp < u64::MAX {
+            forget(&mut self.saved, self.sifted.max(mark.saved), mark.stamp);
+        }
+        self.sifted = self.saved.len();
     }
 }
 
@@ -164,8 +177,31 @@ impl View for Trail {
     }
 }
 
+/// Whether a cell that was written at the stamp `old` may change unsaved: there is no mark, or it was saved since the newest one.
+fn needs_no_saving(marks: &[Mark], old: u64, stamp: u64) -> bool
+    ensures { IsTrue result → MayChange marks.now old stamp }
+{
+    marks.is_empty() || old == stamp && stamp < u64::MAX
+}
+
 ghost use Rattle.std.specs.Prelude.{All};
-ghost use Rattle.domain_trail.specs.Trails.{undo};
+ghost use Rattle.domain_trail.specs.Trails.{undo, sift, MayChange};
+
+/// Forgets the saved cells from `from` on that were written at the stamp or later.
+fn forget(saved: &mut Vec<Saved>, from: usize, stamp: u64)
+    ensures { saved.new.items ≡ sift from stamp saved.old.items }
+{
+    let mut kept = from;
+    let mut place = from;
+    'sifting: while place < saved.len() {
+        if saved[place].cell.stamp < stamp {
+            saved.swap(kept, place);
+            kept += 1;
+        }
+        place += 1;
+    }
+    saved.truncate(kept);
+}
 
 /// Puts back what was saved since there were `from` saved cells, the newest first.
 fn restore(cells: &mut Vec<Cell>, saved: &mut Vec<Saved>, from: usize)
