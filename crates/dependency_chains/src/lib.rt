@@ -1,7 +1,7 @@
 //! Which agents read what of which variables, in chains that are cut when agents go.
 #![tactic(auto)]
 
-ghost use Rattle.std.specs.Prelude.{◌≡◌, ◌<◌, ◌≤◌, ◌+◌, ◌-◌, ◌&&◌, ◌==◌, not, nat_lt, ℕ, zero, suc, List, [], ◌∷◌, ◌++◌, true, false, if◌then◌else◌, length, take, drop, filter, slice_index_or, vec_len, vec_capacity, IfOk, OnOk, OnErr, IsTrue, MatchOption, All};
+ghost use Rattle.std.specs.Prelude.{◌≡◌, ◌<◌, ◌≤◌, ◌+◌, ◌-◌, ◌^◌, ◌&&◌, ◌==◌, not, nat_lt, ℕ, zero, suc, List, [], ◌∷◌, ◌++◌, true, false, if◌then◌else◌, length, take, drop, filter, slice_index_or, vec_len, vec_capacity, IfOk, OnOk, OnErr, IsTrue, MatchOption, All};
 ghost use Rattle.std.specs.List.{list_any};
 ghost use Rattle.fd_language.specs.Family.{has};
 ghost use Rattle.fd_language.specs.Range.{is_none_left, is_several};
@@ -27,19 +27,19 @@ pub struct Change {
 /// An agent that reads a feature of a variable, and one more than the place of the next older link of its chain, or 0.
 #[derive(Clone, Copy, Drop)]
 struct Link {
-    agent: usize,
-    var: usize,
+    agent: u32,
+    var: u32,
     feature: Feature,
-    next: usize,
+    next: u32,
 }
 
 /// One more than the place of the newest link of each chain of a variable, or 0.
 #[derive(Clone, Copy, Drop)]
 struct Heads {
-    min: usize,
-    max: usize,
-    val: usize,
-    dom: usize,
+    min: u32,
+    max: u32,
+    val: u32,
+    dom: u32,
 }
 
 /// The readers of variables. Each variable has a chain for each feature, and all links stand in one list, in the order of the agents.
@@ -66,10 +66,10 @@ impl Model for Chains {
 #[derive(Drop)]
 pub struct Woken<'c> {
     links: &'c [Link],
-    dom: usize,
-    min: usize,
-    max: usize,
-    val: usize,
+    dom: u32,
+    min: u32,
+    max: u32,
+    val: u32,
 }
 
 impl<'c> Model for Woken<'c> {
@@ -112,7 +112,7 @@ impl Change {
 }
 
 /// The head of a chain.
-fn head(heads: &Heads, feature: Feature) -> usize
+fn head(heads: &Heads, feature: Feature) -> u32
     ensures { result ≡ head_of heads.now feature }
 {
     match feature {
@@ -124,7 +124,7 @@ fn head(heads: &Heads, feature: Feature) -> usize
 }
 
 /// Gives a chain another head.
-fn set_head(heads: &mut Heads, feature: Feature, place: usize)
+fn set_head(heads: &mut Heads, feature: Feature, place: u32)
     ensures { (f : Told) → head_of heads.new f ≡ (if is_same_feature feature f then place else head_of heads.old f) }
 {
     match feature {
@@ -139,13 +139,15 @@ fn set_head(heads: &mut Heads, feature: Feature, place: usize)
 fn add_links(
     links: &mut Vec<Link>,
     heads: &mut Vec<Heads>,
-    agent: usize,
+    agent: u32,
     features: &[(usize, Feature)],
 )
     requires chains { AreChains links.old.items heads.old.items }
     requires agent { All (λ l. l.agent ≤ agent) links.old.items }
     requires vars { All (λ d. d.0 < length heads.old.items) features.now }
     requires room { vec_len links.old + length features.now ≤ vec_capacity links.old }
+    requires few_links { length links.old.items + length features.now < 2 ^ 32 }
+    requires few_vars { length heads.old.items < 2 ^ 32 }
     ensures chains { AreChains links.new.items heads.new.items }
     ensures vars { length heads.new.items ≡ length heads.old.items }
     ensures reads { reads_of links.new.items ≡ reads_of links.old.items ++ read_by agent features.now }
@@ -155,11 +157,11 @@ fn add_links(
         let next = head(&heads[var], feature);
         links.push_reserved(Link {
             agent,
-            var,
+            var: var as u32,
             feature,
             next,
         });
-        set_head(&mut heads[var], feature, links.len());
+        set_head(&mut heads[var], feature, links.len() as u32);
     }
 }
 
@@ -173,16 +175,16 @@ fn cut_links(links: &mut Vec<Link>, heads: &mut Vec<Heads>, agents: usize)
     'cutting: while !links.is_empty() {
         let last = links.len() - 1;
         let link = links[last];
-        if link.agent < agents {
+        if (link.agent as usize) < agents {
             break;
         }
-        set_head(&mut heads[link.var], link.feature, link.next);
+        set_head(&mut heads[link.var as usize], link.feature, link.next);
         links.truncate(last);
     }
 }
 
 /// The place where it is wanted, and else none.
-fn place_if(wanted: bool, place: usize) -> usize
+fn place_if(wanted: bool, place: u32) -> u32
     ensures { result ≡ (if wanted then place else 0) }
 {
     if wanted { place } else { 0 }
@@ -220,8 +222,12 @@ impl Chains {
         ensures added { OnOk result (self.new ≡ record self.old { reads = self.old.reads ++ read_by agent features.now }) }
         ensures unchanged { OnErr result (self.new ≡ self.old) }
     {
+        let links = self.links.len().saturating_add(features.len());
+        if agent.max(self.heads.len()).max(links) > u32::MAX as usize {
+            return Err(NoMemory);
+        }
         self.links.reserve(features.len())?;
-        add_links(&mut self.links, &mut self.heads, agent, features);
+        add_links(&mut self.links, &mut self.heads, agent as u32, features);
         Ok(())
     }
 
@@ -252,7 +258,7 @@ impl Chains {
 }
 
 /// Takes one step along a chain.
-fn step(links: &[Link], place: &mut usize) -> Option<usize>
+fn step(links: &[Link], place: &mut u32) -> Option<usize>
     requires linked { AreLinked links.now }
     requires within { place.old ≤ length links.now }
     ensures within { place.new ≤ length links.now }
@@ -261,9 +267,9 @@ fn step(links: &[Link], place: &mut usize) -> Option<usize>
     if *place == 0 {
         return None;
     }
-    let link = links[*place - 1];
+    let link = links[*place as usize - 1];
     *place = link.next;
-    Some(link.agent)
+    Some(link.agent as usize)
 }
 
 impl Woken<'_> {
