@@ -66,3 +66,4 @@ pub mod Free
 pub mod Preceding
 pub mod Fewest
 mod Examples
+pub mod Unread

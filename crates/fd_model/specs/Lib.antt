@@ -35,6 +35,9 @@ pub mod FlatLines
 pub mod FlatOutput
 pub mod ProgramLaws
 pub mod BooleanRows
+pub mod Changes
+pub mod Weights
+pub mod Levels
 pub use Rattle.fd_language.specs.Term
 pub use Rattle.fd_language.specs.Operators
 pub use Rattle.fd_language.specs.PlacedTerm

@@ -15,16 +15,17 @@ use Rattle.fd_model.specs.Activation.{activate, activate_all}
 use Rattle.fd_model.specs.Laws.{ContainsDomains}
 use Rattle.fd_language.specs.Monotonicity.{IsMonotone}
 use Rattle.fd_language.proofs.Sets.{has-filter_back}
-use Rattle.fd_model.proofs.Orders.{all_keep, identity, closed_without}
+use Rattle.fd_language.proofs.Substituting.{identity}
+use Rattle.fd_model.proofs.Orders.{all_keep, closed_without}
 use Rattle.range_code.specs.Frames.{family_of}
 use Rattle.dependency_chains.specs.declared.Change.{Change}
 use Rattle.dependency_chains.specs.Reading.{Reading}
 use Rattle.dependency_chains.specs.Waking.{change_of, wakes, is_woken}
-use Rattle.propagate_queue.specs.declared.Instance.{Instance}
-use Rattle.propagate_queue.specs.Instances.{indexical, posted_by, AreReaders}
+use Rattle.propagate_queue.specs.Postings.{Posting, ranged, ranges_of, AreReaders}
 use Rattle.propagate_queue.specs.Queues.{flag_at}
 use Rattle.propagate_queue.specs.Running.{IsAtRest, narrowed, IsRunning, AreDomains, HasNone}
-use Rattle.propagate_queue.proofs.Unread.{unread}
+use Rattle.fd_model.proofs.Unread.{unread}
+use Rattle.propagate_queue.proofs.Changes.{seen_is_woken}
 
 -- the family after a set is written
 pub written : (sets : List (List ℕ)) (k x : ℕ) (d : List ℕ) → k < length sets → family_of (set sets k d) x ≡ cond (k == x) d (family_of sets x)
@@ -91,7 +92,7 @@ moves ps sets flags flags' woken a p m here h at some less f w r =
     let none_new : is_none_left (family_of new x) ≡ false = ap is_none_left there ∙ some in
     let same_sets : (q : Indexical) → is_woken (change_of (family_of sets x) (narrowed p sets)) x (range_features q.range) ≡ false → set_of INFINITY (family_of sets) q.range ≡ set_of INFINITY (family_of new) q.range = (λ q e.
     unread INFINITY (family_of sets) (family_of new) q.range x (λ y n. unwritten sets x (narrowed p sets) y n) (r.some x) none_new (omega (arith, ap length there, less)) (λ n. inside p sets h x n)
-    (subst (λ l. is_woken (change_of (family_of sets x) l) x (range_features q.range) ≡ false) (sym there) e)) in
+    (seen_is_woken (family_of sets x) (family_of new x) x (range_features q.range) ∙ subst (λ l. is_woken (change_of (family_of sets x) l) x (range_features q.range) ≡ false) (sym there) e)) in
     record {
       family = k1.0;
       contains = k1.1;
@@ -145,11 +146,11 @@ none_left_at ps p sets flags m here h e r = (
 )
 
 -- the posted range of an instance
-pub posted_at : (is : List Instance) (a : ℕ) (i : Instance) → a < length is → i ≡ get_or is a i → (d : Indexical) → get_or (posted_by is) a d ≡ indexical i
-posted_at is a i l e d = get_or-map indexical is a i d l ∙ ap indexical (sym e)
+pub posted_at : (is : List Posting) (a : ℕ) (i : Posting) → a < length is → i ≡ get_or is a i → (d : Indexical) → get_or (ranges_of is) a d ≡ ranged i
+posted_at is a i l e d = get_or-map ranged is a i d l ∙ ap ranged (sym e)
 
-pub posted_there : (is : List Instance) (a : ℕ) (i : Instance) → a < length is → i ≡ get_or is a i → Contains (posted_by is) (indexical i)
-posted_there is a i l e = (a, omega (arith, l, length-map is indexical), posted_at is a i l e (indexical i))
+pub posted_there : (is : List Posting) (a : ℕ) (i : Posting) → a < length is → i ≡ get_or is a i → Contains (ranges_of is) (ranged i)
+posted_there is a i l e = (a, omega (arith, l, length-map is ranged), posted_at is a i l e (ranged i))
 
 -- only agents that are there wake
 pub wakes_known : (n a : ℕ) (p : Reading → Bool) (reads : List Reading) → All (λ r. r.agent < n) reads → list_any (λ r. (r.agent == a) && p r) reads ≡ true → a < n

@@ -14,24 +14,24 @@ use Rattle.range_code.specs.declared.frame.Arg.TheVariants as arg
 use Rattle.range_code.specs.Slots.{slot_needs}
 use Rattle.range_code.specs.Frames.{AreArgs}
 use mathlib.Core.Path.{fun_ext}
-use Rattle.propagate_queue.specs.Weights.{reads_more, weight, sum_over, weights, whole_weight, whole_weights}
+use Rattle.fd_model.specs.Weights.{reads_more, weight, sum_over, weights, whole_weight, whole_weights}
 use Rattle.fd_language.specs.Range.{Indexical, is_none_left, is_several, set_of, reads}
 use Rattle.fd_language.specs.Features.{range_features}
 use Rattle.fd_model.specs.Closed.{AllPosted}
 use Rattle.fd_model.specs.Domains.{Domains}
 use Rattle.fd_language.specs.Monotonicity.{IsMonotone}
 use Rattle.fd_language.proofs.Sets.{universe_rising, rising_inside}
-use Rattle.fd_model.proofs.Orders.{identity, closed_without}
+use Rattle.fd_language.proofs.Substituting.{identity}
+use Rattle.fd_model.proofs.Orders.{closed_without}
 use Rattle.range_code.specs.Frames.{family_of}
 use Rattle.dependency_chains.specs.declared.Change.{Change}
 use Rattle.dependency_chains.specs.Reading.{Reading, Readings}
 use Rattle.dependency_chains.specs.Waking.{wakes, is_woken}
 use Rattle.domain_trail.specs.Stores.{Stores}
-use Rattle.propagate_queue.specs.declared.Instance.{Instance}
-use Rattle.propagate_queue.specs.Instances.{indexical, posted_by, IsInstance, AreReaders}
+use Rattle.propagate_queue.specs.Postings.{Posting, ranged, ranges_of, IsPosting, AreReaders}
 use Rattle.propagate_queue.specs.Queues.{times, flag_at, flagged, AreQueued}
 use Rattle.propagate_queue.specs.Running.{IsAtRest, IsRunning, AreDomains, HasNone}
-use Rattle.propagate_queue.specs.Levels.{Level, Levels}
+use Rattle.fd_model.specs.Levels.{Level, Levels}
 use Rattle.propagate_queue.specs.Stored.{levels_below, AreBelow, IsStore}
 use Rattle.propagate_queue.proofs.Queueing.{no_flags}
 
@@ -60,7 +60,7 @@ no_flag_there a = refl
 pub empty_queue : (spare : ℕ) → AreQueued [] [] spare
 empty_queue spare = record { once = λ k. refl; all = refl; room = omega arith }
 
-pub new_store : (is : List Instance) (flags : List Bool) (agenda : List ℕ) (spare : ℕ) (readings : Readings) (trail : Stores) (ms : List ℕ) → is ≡ [] → flags ≡ [] → agenda ≡ [] → readings ≡ record { vars = 0; reads = [] } → trail ≡ record { current = []; below = [] } → ms ≡ []
+pub new_store : (is : List Posting) (flags : List Bool) (agenda : List ℕ) (spare : ℕ) (readings : Readings) (trail : Stores) (ms : List ℕ) → is ≡ [] → flags ≡ [] → agenda ≡ [] → readings ≡ record { vars = 0; reads = [] } → trail ≡ record { current = []; below = [] } → ms ≡ []
     → IsStore is flags agenda spare readings trail (reverse ms) false false
 new_store is flags agenda spare readings trail ms e f g h i j =
     subst (λ x. IsStore x flags agenda spare readings trail (reverse ms) false false) (sym e)
@@ -69,7 +69,7 @@ new_store is flags agenda spare readings trail ms e f g h i j =
     (subst (λ x. IsStore [] [] [] spare x trail (reverse ms) false false) (sym h)
     (subst (λ x. IsStore [] [] [] spare (record { vars = 0; reads = [] }) x (reverse ms) false false) (sym i)
     (subst (λ x. IsStore [] [] [] spare (record { vars = 0; reads = [] }) (record { current = []; below = [] }) (reverse x) false false) (sym j) (record {
-      instances = All-nil (IsInstance 0);
+      instances = All-nil (IsPosting 0);
       monotone = tt;
       readers = record { known = All-nil (λ r. r.agent < 0); same = λ a d x c l. absurd (omega (arith, l)) };
       vars = omega arith;
@@ -83,33 +83,33 @@ new_store is flags agenda spare readings trail ms e f g h i j =
     }))))))
 
 -- as many levels as marks
-pub same_marks : (is : List Instance) (reads : List Reading) (posted vars : ℕ) (ms : List ℕ) (ss : List (List (List ℕ))) → AreBelow is reads posted vars ms ss → length ms ≡ length ss
+pub same_marks : (is : List Posting) (reads : List Reading) (posted vars : ℕ) (ms : List ℕ) (ss : List (List (List ℕ))) → AreBelow is reads posted vars ms ss → length ms ≡ length ss
 same_marks is reads posted vars [] [] b = refl
 same_marks is reads posted vars [] (s ∷ ss) b = absurd b
 same_marks is reads posted vars (m ∷ ms) [] b = absurd b
 same_marks is reads posted vars (m ∷ ms) (s ∷ ss) b = ap suc (same_marks is reads m (length s) ms ss b.5)
 
-pub length-levels : (is : List Instance) (reads : List Reading) (posted vars : ℕ) (ms : List ℕ) (ss : List (List (List ℕ))) (ps : List Indexical) → AreBelow is reads posted vars ms ss → length (levels_below ms ss ps) ≡ length ms
+pub length-levels : (is : List Posting) (reads : List Reading) (posted vars : ℕ) (ms : List ℕ) (ss : List (List (List ℕ))) (ps : List Indexical) → AreBelow is reads posted vars ms ss → length (levels_below ms ss ps) ≡ length ms
 length-levels is reads posted vars [] [] ps b = refl
 length-levels is reads posted vars [] (s ∷ ss) ps b = absurd b
 length-levels is reads posted vars (m ∷ ms) [] ps b = absurd b
 length-levels is reads posted vars (m ∷ ms) (s ∷ ss) ps b = ap suc (length-levels is reads m (length s) ms ss ps b.5)
 
 -- more may be posted, and there may be more variables
-pub below_more : (is : List Instance) (reads : List Reading) (k n k' n' : ℕ) (ms : List ℕ) (ss : List (List (List ℕ))) → k ≤ k' → n ≤ n' → AreBelow is reads k n ms ss → AreBelow is reads k' n' ms ss
+pub below_more : (is : List Posting) (reads : List Reading) (k n k' n' : ℕ) (ms : List ℕ) (ss : List (List (List ℕ))) → k ≤ k' → n ≤ n' → AreBelow is reads k n ms ss → AreBelow is reads k' n' ms ss
 below_more is reads k n k' n' [] [] h l b = tt
 below_more is reads k n k' n' [] (s ∷ ss) h l b = absurd b
 below_more is reads k n k' n' (m ∷ ms) [] h l b = absurd b
 below_more is reads k n k' n' (m ∷ ms) (s ∷ ss) h l b = (omega (arith, b.0, h), omega (arith, b.1, l), b.2, b.3, b.4, b.5)
 
-pub below_dropped : (n : ℕ) (is : List Instance) (reads : List Reading) (k v : ℕ) (ms : List ℕ) (ss : List (List (List ℕ))) → AreBelow is reads k v ms ss → AreBelow is reads k v (drop n ms) (drop n ss)
+pub below_dropped : (n : ℕ) (is : List Posting) (reads : List Reading) (k v : ℕ) (ms : List ℕ) (ss : List (List (List ℕ))) → AreBelow is reads k v ms ss → AreBelow is reads k v (drop n ms) (drop n ss)
 below_dropped zero is reads k v ms ss b = b
 below_dropped (suc n) is reads k v [] [] b = tt
 below_dropped (suc n) is reads k v [] (s ∷ ss) b = absurd b
 below_dropped (suc n) is reads k v (m ∷ ms) [] b = absurd b
 below_dropped (suc n) is reads k v (m ∷ ms) (s ∷ ss) b = below_more is reads m (length s) k v (drop n ms) (drop n ss) b.0 b.1 (below_dropped n is reads m (length s) ms ss b.5)
 
-pub levels_dropped : (n : ℕ) (is : List Instance) (reads : List Reading) (k v : ℕ) (ms : List ℕ) (ss : List (List (List ℕ))) (ps : List Indexical) → AreBelow is reads k v ms ss → levels_below (drop n ms) (drop n ss) ps ≡ drop n (levels_below ms ss ps)
+pub levels_dropped : (n : ℕ) (is : List Posting) (reads : List Reading) (k v : ℕ) (ms : List ℕ) (ss : List (List (List ℕ))) (ps : List Indexical) → AreBelow is reads k v ms ss → levels_below (drop n ms) (drop n ss) ps ≡ drop n (levels_below ms ss ps)
 levels_dropped zero is reads k v ms ss ps b = refl
 levels_dropped (suc n) is reads k v [] [] ps b = refl
 levels_dropped (suc n) is reads k v [] (s ∷ ss) ps b = absurd b
@@ -128,7 +128,7 @@ filter_filter m k (r ∷ rs) h = elim (cases_Bool (nat_lt r.agent k)) [
   out (inl q) e = absurd (true≢false (sym (lt-ltb r.agent k (omega (arith, ltb-true r.agent m q, h))) ∙ e))
   out (inr q) e = q
 
-pub below_cut : (is : List Instance) (reads : List Reading) (j k v : ℕ) (ms : List ℕ) (ss : List (List (List ℕ))) → k ≤ j → AreBelow is reads k v ms ss → AreBelow (take j is) (filter (λ r. nat_lt r.agent j) reads) k v ms ss
+pub below_cut : (is : List Posting) (reads : List Reading) (j k v : ℕ) (ms : List ℕ) (ss : List (List (List ℕ))) → k ≤ j → AreBelow is reads k v ms ss → AreBelow (take j is) (filter (λ r. nat_lt r.agent j) reads) k v ms ss
 below_cut is reads j k v [] [] h b = tt
 below_cut is reads j k v [] (s ∷ ss) h b = absurd b
 below_cut is reads j k v (m ∷ ms) [] h b = absurd b
@@ -136,13 +136,13 @@ below_cut is reads j k v (m ∷ ms) (s ∷ ss) h b =
     let same : take m (take j is) ≡ take m is = take-take m j is (omega (arith, b.0, h)) in (
       b.0,
       b.1,
-      subst (λ (l : List Instance). All (IsInstance (length s)) l) (sym same) b.2,
+      subst (λ (l : List Posting). All (IsPosting (length s)) l) (sym same) b.2,
       subst (λ (l : List Reading). All (λ r. r.var < length s) l) (sym (filter_filter m j reads (omega (arith, b.0, h)))) b.3,
-      subst (λ (l : List Instance). AreDomains (posted_by l) s) (sym same) b.4,
+      subst (λ (l : List Posting). AreDomains (ranges_of l) s) (sym same) b.4,
       below_cut is reads j m (length s) ms ss (omega (arith, b.0, h)) b.5,
     )
 
-pub levels_cut : (is : List Instance) (reads : List Reading) (j k v : ℕ) (ms : List ℕ) (ss : List (List (List ℕ))) (ps : List Indexical) → k ≤ j → AreBelow is reads k v ms ss → levels_below ms ss (take j ps) ≡ levels_below ms ss ps
+pub levels_cut : (is : List Posting) (reads : List Reading) (j k v : ℕ) (ms : List ℕ) (ss : List (List (List ℕ))) (ps : List Indexical) → k ≤ j → AreBelow is reads k v ms ss → levels_below ms ss (take j ps) ≡ levels_below ms ss ps
 levels_cut is reads j k v [] [] ps h b = refl
 levels_cut is reads j k v [] (s ∷ ss) ps h b = absurd b
 levels_cut is reads j k v (m ∷ ms) [] ps h b = absurd b
@@ -181,17 +181,17 @@ any_filtered m a p (r ∷ rs) h = elim (cases_Bool (nat_lt r.agent m)) [
   off true c d h = absurd (h refl)
   off false c d h = refl
 
-pub readers_cut : (m : ℕ) (is : List Instance) (reads : List Reading) → m ≤ length is → AreReaders (posted_by is) reads → AreReaders (posted_by (take m is)) (filter (λ r. nat_lt r.agent m) reads)
+pub readers_cut : (m : ℕ) (is : List Posting) (reads : List Reading) → m ≤ length is → AreReaders (ranges_of is) reads → AreReaders (ranges_of (take m is)) (filter (λ r. nat_lt r.agent m) reads)
 readers_cut m is reads h r =
-    let size : length (posted_by (take m is)) ≡ m = length-map (take m is) indexical ∙ length-take-le m is h in
-    let same : posted_by (take m is) ≡ take m (posted_by is) = sym (take-map indexical m is) in
+    let size : length (ranges_of (take m is)) ≡ m = length-map (take m is) ranged ∙ length-take-le m is h in
+    let same : ranges_of (take m is) ≡ take m (ranges_of is) = sym (take-map ranged m is) in
     record {
       known = λ k d l. omega (arith, filter_below m reads k d l, size);
-      same = λ a d x c l. let low : a < m = omega (arith, l, size) in any_filtered m a (λ q. (q.var == x) && wakes c q.feature) reads low ∙ r.same a d x c (omega (arith, low, h, length-map is indexical))
-          ∙ ap (λ q. is_woken c x (range_features q.range)) (sym (ap (λ ps. get_or ps a d) same ∙ get_or-take m (posted_by is) a d low));
+      same = λ a d x c l. let low : a < m = omega (arith, l, size) in any_filtered m a (λ q. (q.var == x) && wakes c q.feature) reads low ∙ r.same a d x c (omega (arith, low, h, length-map is ranged))
+          ∙ ap (λ q. is_woken c x (range_features q.range)) (sym (ap (λ ps. get_or ps a d) same ∙ get_or-take m (ranges_of is) a d low));
     }
 
-pub posted_cut : (H : Indexical → Type 0) (m : ℕ) (is : List Instance) → AllPosted H (posted_by is) → AllPosted H (posted_by (take m is))
+pub posted_cut : (H : Indexical → Type 0) (m : ℕ) (is : List Posting) → AllPosted H (ranges_of is) → AllPosted H (ranges_of (take m is))
 posted_cut H zero is h = tt
 posted_cut H (suc m) [] h = h
 posted_cut H (suc m) (i ∷ is) h = (h.0, posted_cut H m is h.1)
@@ -217,7 +217,7 @@ queue_cut m flags agenda spare l q e =
     }
 
 -- the store at the newest mark
-pub popped : (is : List Instance) (flags : List Bool) (agenda : List ℕ) (spare : ℕ) (readings : Readings) (trail trail' : Stores) (m : ℕ) (ms : List ℕ) (lost spent : Bool) → IsStore is flags agenda spare readings trail (m ∷ ms) lost spent → trail.below ≡ trail'.current ∷ trail'.below
+pub popped : (is : List Posting) (flags : List Bool) (agenda : List ℕ) (spare : ℕ) (readings : Readings) (trail trail' : Stores) (m : ℕ) (ms : List ℕ) (lost spent : Bool) → IsStore is flags agenda spare readings trail (m ∷ ms) lost spent → trail.below ≡ trail'.current ∷ trail'.below
     → IsStore (take m is) (take m flags) agenda spare (record { vars = length trail'.current; reads = filter (λ r. nat_lt r.agent m) readings.reads }) trail' ms false spent
 popped is flags agenda spare readings trail trail' m ms lost spent s e =
     let b : AreBelow is readings.reads (length is) (length trail.current) (m ∷ ms) (trail'.current ∷ trail'.below) = subst (AreBelow is readings.reads (length is) (length trail.current) (m ∷ ms)) e s.below in
@@ -236,20 +236,20 @@ popped is flags agenda spare readings trail trail' m ms lost spent s e =
           (below_cut is readings.reads m m (length trail'.current) ms trail'.below (omega arith) b.5);
     }
 
-pub popped_levels : (is : List Instance) (flags : List Bool) (agenda : List ℕ) (spare : ℕ) (readings : Readings) (trail trail' : Stores) (m : ℕ) (ms : List ℕ) (lost spent : Bool) → IsStore is flags agenda spare readings trail (m ∷ ms) lost spent → trail.below ≡ trail'.current ∷ trail'.below
-    → levels_below (m ∷ ms) trail.below (posted_by is) ≡ record { posted = posted_by (take m is); sets = trail'.current; failed = false } ∷ levels_below ms trail'.below (posted_by (take m is))
+pub popped_levels : (is : List Posting) (flags : List Bool) (agenda : List ℕ) (spare : ℕ) (readings : Readings) (trail trail' : Stores) (m : ℕ) (ms : List ℕ) (lost spent : Bool) → IsStore is flags agenda spare readings trail (m ∷ ms) lost spent → trail.below ≡ trail'.current ∷ trail'.below
+    → levels_below (m ∷ ms) trail.below (ranges_of is) ≡ record { posted = ranges_of (take m is); sets = trail'.current; failed = false } ∷ levels_below ms trail'.below (ranges_of (take m is))
 popped_levels is flags agenda spare readings trail trail' m ms lost spent s e =
     let b : AreBelow is readings.reads (length is) (length trail.current) (m ∷ ms) (trail'.current ∷ trail'.below) = subst (AreBelow is readings.reads (length is) (length trail.current) (m ∷ ms)) e s.below in
-    ap (λ l. levels_below (m ∷ ms) l (posted_by is)) e
-    ∙ ap (λ l. record { posted = take m (posted_by is); sets = trail'.current; failed = false } ∷ l) (sym (levels_cut is readings.reads m m (length trail'.current) ms trail'.below (posted_by is) (omega arith) b.5))
-    ∙ ap (λ (ps : List Indexical). record { posted = ps; sets = trail'.current; failed = false } ∷ levels_below ms trail'.below ps) (take-map indexical m is)
+    ap (λ l. levels_below (m ∷ ms) l (ranges_of is)) e
+    ∙ ap (λ l. record { posted = take m (ranges_of is); sets = trail'.current; failed = false } ∷ l) (sym (levels_cut is readings.reads m m (length trail'.current) ms trail'.below (ranges_of is) (omega arith) b.5))
+    ∙ ap (λ (ps : List Indexical). record { posted = ps; sets = trail'.current; failed = false } ∷ levels_below ms trail'.below ps) (take-map ranged m is)
 
 -- one more mark
 filter_all : (m : ℕ) (rs : List Reading) → All (λ r. r.agent < m) rs → filter (λ r. nat_lt r.agent m) rs ≡ rs
 filter_all m [] h = refl
 filter_all m (r ∷ rs) h = ap (λ b. cond b (r ∷ filter (λ q. nat_lt q.agent m) rs) (filter (λ q. nat_lt q.agent m) rs)) (lt-ltb r.agent m (All-head (λ q. q.agent < m) r rs h)) ∙ ap (λ l. r ∷ l) (filter_all m rs (All-tail (λ q. q.agent < m) r rs h))
 
-pub pushed : (is : List Instance) (flags : List Bool) (agenda : List ℕ) (spare : ℕ) (readings : Readings) (trail trail' : Stores) (m : ℕ) (ms : List ℕ) → IsStore is flags agenda spare readings trail ms false false → m ≡ length is → trail' ≡ record trail { below = trail.current ∷ trail.below }
+pub pushed : (is : List Posting) (flags : List Bool) (agenda : List ℕ) (spare : ℕ) (readings : Readings) (trail trail' : Stores) (m : ℕ) (ms : List ℕ) → IsStore is flags agenda spare readings trail ms false false → m ≡ length is → trail' ≡ record trail { below = trail.current ∷ trail.below }
     → IsStore is flags agenda spare readings trail' (m ∷ ms) false false
 pushed is flags agenda spare readings trail trail' m ms s e f = subst (λ t. IsStore is flags agenda spare readings t (m ∷ ms) false false) (sym f) (subst (λ k. IsStore is flags agenda spare readings (record trail { below = trail.current ∷ trail.below }) (k ∷ ms) false false) (sym e) (record {
   instances = s.instances;
@@ -265,9 +265,9 @@ pushed is flags agenda spare readings trail trail' m ms s e f = subst (λ t. IsS
   below = (
     omega arith,
     omega arith,
-    subst (λ (l : List Instance). All (IsInstance (length trail.current)) l) (sym (take_all (length is) is (omega arith))) s.instances,
-    subst (λ (l : List Reading). All (λ r. r.var < length trail.current) l) (sym (filter_all (length is) readings.reads (λ k d l. omega (arith, s.readers.known k d l, length-map is indexical)))) s.within,
-    subst (λ (l : List Instance). AreDomains (posted_by l) trail.current) (sym (take_all (length is) is (omega arith))) (s.settled refl refl),
+    subst (λ (l : List Posting). All (IsPosting (length trail.current)) l) (sym (take_all (length is) is (omega arith))) s.instances,
+    subst (λ (l : List Reading). All (λ r. r.var < length trail.current) l) (sym (filter_all (length is) readings.reads (λ k d l. omega (arith, s.readers.known k d l, length-map is ranged)))) s.within,
+    subst (λ (l : List Posting). AreDomains (ranges_of l) trail.current) (sym (take_all (length is) is (omega arith))) (s.settled refl refl),
     s.below,
   );
 }))
@@ -284,11 +284,11 @@ reverse-take n ms l =
 pub fewer_marks : (n left : ℕ) (ms ms' : List ℕ) → n ≤ length ms → left ≡ length ms - n → ms' ≡ take left ms → reverse ms' ≡ drop n (reverse ms)
 fewer_marks n left ms ms' l e f = ap reverse (f ∙ ap (λ k. take k ms) e) ∙ reverse-take n ms l
 
-pub without_marks : (n : ℕ) (is : List Instance) (flags : List Bool) (agenda : List ℕ) (spare : ℕ) (readings : Readings) (trail trail' : Stores) (ms ms' : List ℕ) (lost spent : Bool) → IsStore is flags agenda spare readings trail ms lost spent → ms' ≡ drop n ms → trail' ≡ record trail { below = drop n trail.below }
-    → IsStore is flags agenda spare readings trail' ms' lost spent × (levels_below ms' trail'.below (posted_by is) ≡ drop n (levels_below ms trail.below (posted_by is)))
+pub without_marks : (n : ℕ) (is : List Posting) (flags : List Bool) (agenda : List ℕ) (spare : ℕ) (readings : Readings) (trail trail' : Stores) (ms ms' : List ℕ) (lost spent : Bool) → IsStore is flags agenda spare readings trail ms lost spent → ms' ≡ drop n ms → trail' ≡ record trail { below = drop n trail.below }
+    → IsStore is flags agenda spare readings trail' ms' lost spent × (levels_below ms' trail'.below (ranges_of is) ≡ drop n (levels_below ms trail.below (ranges_of is)))
 without_marks n is flags agenda spare readings trail trail' ms ms' lost spent s e f =
-    subst (λ t. IsStore is flags agenda spare readings t ms' lost spent × (levels_below ms' t.below (posted_by is) ≡ drop n (levels_below ms trail.below (posted_by is)))) (sym f)
-    (subst (λ k. IsStore is flags agenda spare readings (record trail { below = drop n trail.below }) k lost spent × (levels_below k (drop n trail.below) (posted_by is) ≡ drop n (levels_below ms trail.below (posted_by is)))) (sym e) (
+    subst (λ t. IsStore is flags agenda spare readings t ms' lost spent × (levels_below ms' t.below (ranges_of is) ≡ drop n (levels_below ms trail.below (ranges_of is)))) (sym f)
+    (subst (λ k. IsStore is flags agenda spare readings (record trail { below = drop n trail.below }) k lost spent × (levels_below k (drop n trail.below) (ranges_of is) ≡ drop n (levels_below ms trail.below (ranges_of is)))) (sym e) (
       record {
         instances = s.instances;
         monotone = s.monotone;
@@ -302,31 +302,31 @@ without_marks n is flags agenda spare readings trail trail' ms ms' lost spent s 
         failed = s.failed;
         below = below_dropped n is readings.reads (length is) (length trail.current) ms trail.below s.below;
       },
-      levels_dropped n is readings.reads (length is) (length trail.current) ms trail.below (posted_by is) s.below,
+      levels_dropped n is readings.reads (length is) (length trail.current) ms trail.below (ranges_of is) s.below,
     ))
 
-pub popped_stay : (is : List Instance) (flags : List Bool) (agenda : List ℕ) (spare : ℕ) (readings : Readings) (trail trail' : Stores) (m : ℕ) (ms : List ℕ) (lost spent : Bool) (vars : ℕ) → IsStore is flags agenda spare readings trail (m ∷ ms) lost spent → trail.below ≡ trail'.current ∷ trail'.below → vars ≡ length trail'.current
+pub popped_stay : (is : List Posting) (flags : List Bool) (agenda : List ℕ) (spare : ℕ) (readings : Readings) (trail trail' : Stores) (m : ℕ) (ms : List ℕ) (lost spent : Bool) (vars : ℕ) → IsStore is flags agenda spare readings trail (m ∷ ms) lost spent → trail.below ≡ trail'.current ∷ trail'.below → vars ≡ length trail'.current
     → All (λ r. r.agent < m → r.var < vars) readings.reads × (vars ≤ readings.vars)
 popped_stay is flags agenda spare readings trail trail' m ms lost spent vars s e v =
     let b : AreBelow is readings.reads (length is) (length trail.current) (m ∷ ms) (trail'.current ∷ trail'.below) = subst (AreBelow is readings.reads (length is) (length trail.current) (m ∷ ms)) e s.below in
     (subst (λ n. All (λ r. r.agent < m → r.var < n) readings.reads) (sym v) (stays m (length trail'.current) readings.reads b.3), omega (arith, v, b.1, s.vars))
 
-pub popped_store : (is is' : List Instance) (flags flags' : List Bool) (agenda : List ℕ) (spare : ℕ) (readings readings' : Readings) (trail trail' : Stores) (m vars : ℕ) (ms : List ℕ) (lost spent : Bool) → IsStore is flags agenda spare readings trail (m ∷ ms) lost spent → trail.below ≡ trail'.current ∷ trail'.below
+pub popped_store : (is is' : List Posting) (flags flags' : List Bool) (agenda : List ℕ) (spare : ℕ) (readings readings' : Readings) (trail trail' : Stores) (m vars : ℕ) (ms : List ℕ) (lost spent : Bool) → IsStore is flags agenda spare readings trail (m ∷ ms) lost spent → trail.below ≡ trail'.current ∷ trail'.below
     → is' ≡ take m is → flags' ≡ take m flags → readings' ≡ record { vars = vars; reads = filter (λ r. nat_lt r.agent m) readings.reads } → vars ≡ length trail'.current
-    → IsStore is' flags' agenda spare readings' trail' ms false spent × (levels_below (m ∷ ms) trail.below (posted_by is) ≡ record { posted = posted_by is'; sets = trail'.current; failed = false } ∷ levels_below ms trail'.below (posted_by is'))
+    → IsStore is' flags' agenda spare readings' trail' ms false spent × (levels_below (m ∷ ms) trail.below (ranges_of is) ≡ record { posted = ranges_of is'; sets = trail'.current; failed = false } ∷ levels_below ms trail'.below (ranges_of is'))
 popped_store is is' flags flags' agenda spare readings readings' trail trail' m vars ms lost spent s e f g h v =
     let cut : readings' ≡ record { vars = length trail'.current; reads = filter (λ r. nat_lt r.agent m) readings.reads } = h ∙ ap (λ n. record { vars = n; reads = filter (λ r. nat_lt r.agent m) readings.reads }) v in (
       subst (λ x. IsStore x flags' agenda spare readings' trail' ms false spent) (sym f)
           (subst (λ x. IsStore (take m is) x agenda spare readings' trail' ms false spent) (sym g)
           (subst (λ x. IsStore (take m is) (take m flags) agenda spare x trail' ms false spent) (sym cut) (popped is flags agenda spare readings trail trail' m ms lost spent s e))),
-      popped_levels is flags agenda spare readings trail trail' m ms lost spent s e ∙ ap (λ (l : List Instance). record { posted = posted_by l; sets = trail'.current; failed = false } ∷ levels_below ms trail'.below (posted_by l)) (sym f),
+      popped_levels is flags agenda spare readings trail trail' m ms lost spent s e ∙ ap (λ (l : List Posting). record { posted = ranges_of l; sets = trail'.current; failed = false } ∷ levels_below ms trail'.below (ranges_of l)) (sym f),
     )
 
 pub same_levels : {ps : List Indexical} {a b : List (List ℕ)} {c d : List Level} {f s : Bool} → a ≡ b → c ≡ d → ◌≡◌ {A = Levels} (record { current = record { posted = ps; sets = a; failed = f }; below = c; spent = s }) (record { current = record { posted = ps; sets = b; failed = f }; below = d; spent = s })
 same_levels e f = cc
 
 -- memory was wanting
-pub spent_now : (is : List Instance) (flags : List Bool) (agenda : List ℕ) (spare : ℕ) (readings : Readings) (trail : Stores) (ms : List ℕ) (lost spent : Bool) → IsStore is flags agenda spare readings trail ms lost spent → (flags' : List Bool) (agenda' : List ℕ) (spare' : ℕ) → length flags' ≡ length flags → IsStore is flags' agenda' spare' readings trail ms lost true
+pub spent_now : (is : List Posting) (flags : List Bool) (agenda : List ℕ) (spare : ℕ) (readings : Readings) (trail : Stores) (ms : List ℕ) (lost spent : Bool) → IsStore is flags agenda spare readings trail ms lost spent → (flags' : List Bool) (agenda' : List ℕ) (spare' : ℕ) → length flags' ≡ length flags → IsStore is flags' agenda' spare' readings trail ms lost true
 spent_now is flags agenda spare readings trail ms lost spent s flags' agenda' spare' e = record {
   instances = s.instances;
   monotone = s.monotone;
@@ -351,8 +351,8 @@ args_more n m h (Some k ∷ ks) (arg.Var x ∷ xs) a = absurd a.0
 args_more n m h (None ∷ ks) (arg.Int z ∷ xs) a = absurd a.0
 args_more n m h (None ∷ ks) (arg.Var x ∷ xs) a = (omega (arith, a.0, h), args_more n m h ks xs a.1)
 
-pub instance_more : (n m : ℕ) → n ≤ m → (i : Instance) → IsInstance n i → IsInstance m i
-instance_more n m h i a = (omega (arith, a.0, h), args_more n m h (slot_needs i.code.value) i.args.items a.1)
+pub instance_more : (n m : ℕ) → n ≤ m → (i : Posting) → IsPosting n i → IsPosting m i
+instance_more n m h i a = (omega (arith, a.0, h), args_more n m h (slot_needs i.range) i.args a.1)
 
 one_more : (ds : List (List ℕ)) (u : List ℕ) (x : ℕ) → get_or (ds ++ u ∷ []) x u ≡ get_or ds x u
 one_more [] u zero = refl
@@ -370,7 +370,7 @@ domains_more ps sets d =
       some = subst (λ (S : Family). (x : ℕ) → is_none_left (S x) ≡ false) same d.some;
     }
 
-pub with_var : (is : List Instance) (flags : List Bool) (agenda : List ℕ) (spare : ℕ) (readings readings' : Readings) (trail trail' : Stores) (ms : List ℕ) (lost : Bool) → IsStore is flags agenda spare readings trail ms lost false → readings' ≡ record readings { vars = readings.vars + 1 } → trail' ≡ record trail { current = trail.current ++ universe INFINITY ∷ [] }
+pub with_var : (is : List Posting) (flags : List Bool) (agenda : List ℕ) (spare : ℕ) (readings readings' : Readings) (trail trail' : Stores) (ms : List ℕ) (lost : Bool) → IsStore is flags agenda spare readings trail ms lost false → readings' ≡ record readings { vars = readings.vars + 1 } → trail' ≡ record trail { current = trail.current ++ universe INFINITY ∷ [] }
     → IsStore is flags agenda spare readings' trail' ms lost false
 with_var is flags agenda spare readings readings' trail trail' ms lost s e f =
     let n : ℕ = length trail.current in
@@ -385,7 +385,7 @@ with_var is flags agenda spare readings readings' trail trail' ms lost s e f =
       within = λ k d l. omega (arith, s.within k d l, more);
       flagged = s.flagged;
       quiet = s.quiet;
-      settled = λ h l. domains_more (posted_by is) trail.current (s.settled h l);
+      settled = λ h l. domains_more (ranges_of is) trail.current (s.settled h l);
       failed = λ h l. (let none = s.failed h l in (none.0, omega (arith, none.1, more), none.2));
       below = below_more is readings.reads (length is) n (length is) (length (trail.current ++ universe INFINITY ∷ [])) ms trail.below (omega arith) more s.below;
     }))
@@ -397,10 +397,10 @@ domains_fewer ps qs x n d = record { unifier = Var; general = identity; family =
   front [] h = tt
   front (p ∷ rs) h = (h.0, front rs h.1)
 
-pub none_more : (is list is' : List Instance) (n : ℕ) → is' ≡ is ++ list → HasNone (posted_by is) n → HasNone (posted_by is') n
-none_more is list is' n e h = subst (λ ps. HasNone ps n) (sym (ap posted_by e ∙ map-append indexical is list)) (h.0, h.1, λ k d. h.2 k (domains_fewer (posted_by is) (posted_by list) h.0 k d))
+pub none_more : (is list is' : List Posting) (n : ℕ) → is' ≡ is ++ list → HasNone (ranges_of is) n → HasNone (ranges_of is') n
+none_more is list is' n e h = subst (λ ps. HasNone ps n) (sym (ap ranges_of e ∙ map-append ranged is list)) (h.0, h.1, λ k d. h.2 k (domains_fewer (ranges_of is) (ranges_of list) h.0 k d))
 
-flag_at_old : (flags : List Bool) (n : ℕ) (list : List Instance) (a : ℕ) → a < n → n ≡ length flags + length list → flag_at (flags ++ map (λ _. true) list) a ≡ false → a < length flags
+flag_at_old : (flags : List Bool) (n : ℕ) (list : List Posting) (a : ℕ) → a < n → n ≡ length flags + length list → flag_at (flags ++ map (λ _. true) list) a ≡ false → a < length flags
 flag_at_old [] n [] a l e f = absurd (omega (arith, l, e))
 flag_at_old [] n (i ∷ is) zero l e f = absurd (true≢false f)
 flag_at_old [] n (i ∷ is) (suc a) l e f = absurd (omega (arith, flag_at_old [] (length is) is a (omega (arith, l, e)) (omega arith) f))
@@ -412,31 +412,31 @@ at_posted H [] a d h l = absurd (omega (arith, l))
 at_posted H (p ∷ ps) zero d h l = h.0
 at_posted H (p ∷ ps) (suc a) d h l = at_posted H ps a d h.1 (omega (arith, l))
 
-pub starts : (is list is' : List Instance) (sets : List (List ℕ)) (flags flags' : List Bool) → AreDomains (posted_by is) sets → is' ≡ is ++ list → flags' ≡ flags ++ map (λ _. true) list → length flags ≡ length is → IsRunning (posted_by is') sets flags'
+pub starts : (is list is' : List Posting) (sets : List (List ℕ)) (flags flags' : List Bool) → AreDomains (ranges_of is) sets → is' ≡ is ++ list → flags' ≡ flags ++ map (λ _. true) list → length flags ≡ length is → IsRunning (ranges_of is') sets flags'
 starts is list is' sets flags flags' d e f size =
-    let ps : List Indexical = posted_by is in
-    let qs : List Indexical = posted_by list in
-    let all : posted_by is' ≡ ps ++ qs = ap posted_by e ∙ map-append indexical is list in
+    let ps : List Indexical = ranges_of is in
+    let qs : List Indexical = ranges_of list in
+    let all : ranges_of is' ≡ ps ++ qs = ap ranges_of e ∙ map-append ranged is list in
     subst (λ l. IsRunning l sets flags') (sym all) (subst (IsRunning (ps ++ qs) sets) (sym f) (record {
       family = d.family;
       contains = λ x n m. (d.domains x n).1 (domains_fewer ps qs x n m);
       some = d.some;
       rest = λ a q l g.
-          let low : a < length flags = flag_at_old flags (length (ps ++ qs)) list a l (omega (arith, length-append ps qs, length-map is indexical, length-map list indexical, size)) g in
-          let within : a < length ps = omega (arith, low, size, length-map is indexical) in
+          let low : a < length flags = flag_at_old flags (length (ps ++ qs)) list a l (omega (arith, length-append ps qs, length-map is ranged, length-map list ranged, size)) g in
+          let within : a < length ps = omega (arith, low, size, length-map is ranged) in
           subst (IsAtRest sets) (sym (get_or_append_left ps qs q a within)) (at_posted (IsAtRest sets) ps a q d.closed within);
     }))
 
-flagged_all : (flags : List Bool) (list : List Instance) → flagged (flags ++ map (λ _. true) list) ≡ flagged flags + length list
+flagged_all : (flags : List Bool) (list : List Posting) → flagged (flags ++ map (λ _. true) list) ≡ flagged flags + length list
 flagged_all [] [] = refl
 flagged_all [] (i ∷ is) = omega (arith, flagged_all [] is)
 flagged_all (true ∷ bs) list = omega (arith, flagged_all bs list)
 flagged_all (false ∷ bs) list = omega (arith, flagged_all bs list)
 
-pub flagged_new : (flags flags' : List Bool) (list : List Instance) (agenda : List ℕ) (spare : ℕ) → AreQueued flags agenda spare → agenda ≡ [] → flags' ≡ flags ++ map (λ _. true) list → flagged flags' ≡ length list
+pub flagged_new : (flags flags' : List Bool) (list : List Posting) (agenda : List ℕ) (spare : ℕ) → AreQueued flags agenda spare → agenda ≡ [] → flags' ≡ flags ++ map (λ _. true) list → flagged flags' ≡ length list
 flagged_new flags flags' list agenda spare q e f = ap flagged f ∙ flagged_all flags list ∙ omega (arith, q.all, ap length e)
 
-pub below_added : (is is' : List Instance) (reads reads' : List Reading) (k v : ℕ) (ms : List ℕ) (ss : List (List (List ℕ))) → k ≤ length is → take (length is) is' ≡ is → ((m : ℕ) → m ≤ length is → filter (λ r. nat_lt r.agent m) reads' ≡ filter (λ r. nat_lt r.agent m) reads) → AreBelow is reads k v ms ss → AreBelow is' reads' k v ms ss
+pub below_added : (is is' : List Posting) (reads reads' : List Reading) (k v : ℕ) (ms : List ℕ) (ss : List (List (List ℕ))) → k ≤ length is → take (length is) is' ≡ is → ((m : ℕ) → m ≤ length is → filter (λ r. nat_lt r.agent m) reads' ≡ filter (λ r. nat_lt r.agent m) reads) → AreBelow is reads k v ms ss → AreBelow is' reads' k v ms ss
 below_added is is' reads reads' k v [] [] h e f b = tt
 below_added is is' reads reads' k v [] (s ∷ ss) h e f b = absurd b
 below_added is is' reads reads' k v (m ∷ ms) [] h e f b = absurd b
@@ -445,14 +445,14 @@ below_added is is' reads reads' k v (m ∷ ms) (s ∷ ss) h e f b =
     let same : take m is' ≡ take m is = sym (take-take m (length is) is' low) ∙ ap (take m) e in (
       b.0,
       b.1,
-      subst (λ (l : List Instance). All (IsInstance (length s)) l) (sym same) b.2,
+      subst (λ (l : List Posting). All (IsPosting (length s)) l) (sym same) b.2,
       subst (λ (l : List Reading). All (λ r. r.var < length s) l) (sym (f m low)) b.3,
-      subst (λ (l : List Instance). AreDomains (posted_by l) s) (sym same) b.4,
+      subst (λ (l : List Posting). AreDomains (ranges_of l) s) (sym same) b.4,
       below_added is is' reads reads' m (length s) ms ss low e f b.5,
     )
 
-pub levels_added : (is is' : List Instance) (reads : List Reading) (v : ℕ) (ms : List ℕ) (ss : List (List (List ℕ))) → take (length is) is' ≡ is → AreBelow is reads (length is) v ms ss → levels_below ms ss (posted_by is') ≡ levels_below ms ss (posted_by is)
-levels_added is is' reads v ms ss e b = sym (levels_cut is reads (length is) (length is) v ms ss (posted_by is') (omega arith) b) ∙ ap (levels_below ms ss) (take-map indexical (length is) is' ∙ ap posted_by e)
+pub levels_added : (is is' : List Posting) (reads : List Reading) (v : ℕ) (ms : List ℕ) (ss : List (List (List ℕ))) → take (length is) is' ≡ is → AreBelow is reads (length is) v ms ss → levels_below ms ss (ranges_of is') ≡ levels_below ms ss (ranges_of is)
+levels_added is is' reads v ms ss e b = sym (levels_cut is reads (length is) (length is) v ms ss (ranges_of is') (omega arith) b) ∙ ap (levels_below ms ss) (take-map ranged (length is) is' ∙ ap ranges_of e)
 
 -- the weights are never more than the whole
 weight_whole : (b s0 s : Bool) (n0 n : ℕ) → cond b (n0 - n) (cond (s0 && not s) 1 0) ≤ cond b n0 1
@@ -470,13 +470,13 @@ whole [] old new = omega arith
 whole (p ∷ ps) old new = omega (arith, sum_whole (once (reads p.range)) (weight p.range old new) (whole_weight p.range old) (λ y. weight_whole (reads_more p.range y) (is_several (old y)) (is_several (new y)) (length (old y)) (length (new y))), whole ps old new)
 
 -- the store once more is posted
-pub posted_store : (is is' : List Instance) (flags flags' : List Bool) (agenda agenda' : List ℕ) (spare spare' : ℕ) (readings readings' : Readings) (trail trail' : Stores) (ms : List ℕ) (lost lost' spent spent' : Bool) → IsStore is flags agenda spare readings trail ms lost spent
-    → All (IsInstance (length trail.current)) is' → AllPosted (λ p. IsMonotone INFINITY p.range) (posted_by is') → AreReaders (posted_by is') readings'.reads → readings'.vars ≡ length trail.current → All (λ r. r.var < length trail.current) readings'.reads → length flags' ≡ length is'
+pub posted_store : (is is' : List Posting) (flags flags' : List Bool) (agenda agenda' : List ℕ) (spare spare' : ℕ) (readings readings' : Readings) (trail trail' : Stores) (ms : List ℕ) (lost lost' spent spent' : Bool) → IsStore is flags agenda spare readings trail ms lost spent
+    → All (IsPosting (length trail.current)) is' → AllPosted (λ p. IsMonotone INFINITY p.range) (ranges_of is') → AreReaders (ranges_of is') readings'.reads → readings'.vars ≡ length trail.current → All (λ r. r.var < length trail.current) readings'.reads → length flags' ≡ length is'
     → length is ≤ length is' → take (length is) is' ≡ is → ((m : ℕ) → m ≤ length is → filter (λ r. nat_lt r.agent m) readings'.reads ≡ filter (λ r. nat_lt r.agent m) readings.reads) → trail'.below ≡ trail.below → length trail'.current ≡ length trail.current
-    → (spent' ≡ false → AreQueued flags' agenda' spare' × (agenda' ≡ [])) → (spent' ≡ false → lost' ≡ false → AreDomains (posted_by is') trail'.current) → (spent' ≡ false → lost' ≡ true → HasNone (posted_by is') (length trail'.current))
+    → (spent' ≡ false → AreQueued flags' agenda' spare' × (agenda' ≡ [])) → (spent' ≡ false → lost' ≡ false → AreDomains (ranges_of is') trail'.current) → (spent' ≡ false → lost' ≡ true → HasNone (ranges_of is') (length trail'.current))
     → IsStore is' flags' agenda' spare' readings' trail' ms lost' spent'
 posted_store is is' flags flags' agenda agenda' spare spare' readings readings' trail trail' ms lost lost' spent spent' s instances monotone readers vars within flag_size more front kept below size quiet settled failed = record {
-  instances = subst (λ n. All (IsInstance n) is') (sym size) instances;
+  instances = subst (λ n. All (IsPosting n) is') (sym size) instances;
   monotone = monotone;
   readers = readers;
   vars = omega (arith, vars, size);

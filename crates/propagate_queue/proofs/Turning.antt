@@ -13,11 +13,10 @@ use Rattle.dependency_chains.specs.declared.Change.{Change}
 use Rattle.dependency_chains.specs.Reading.{Reading}
 use Rattle.dependency_chains.specs.Waking.{change_of, wakes, is_woken}
 use Rattle.domain_trail.specs.Stores.{Stores}
-use Rattle.propagate_queue.specs.declared.Instance.{Instance}
-use Rattle.propagate_queue.specs.declared.Outcome.{Outcome}
-use Rattle.propagate_queue.specs.declared.Outcome.TheVariants.{Same, Empty, Changed}
-use Rattle.propagate_queue.specs.Instances.{indexical, posted_by, AreReaders, IsInstance}
-use Rattle.propagate_queue.specs.Weights.{weights}
+use Rattle.propagate_queue.specs.declared.activation.Outcome.{Outcome}
+use Rattle.propagate_queue.specs.declared.activation.Outcome.TheVariants.{Same, Empty, Changed}
+use Rattle.propagate_queue.specs.Postings.{Posting, ranged, ranges_of, AreReaders, IsPosting}
+use Rattle.fd_model.specs.Weights.{weights}
 use Rattle.propagate_queue.specs.Queues.{times, flag_at, flagged, AreQueued}
 use Rattle.propagate_queue.specs.Running.{IsAtRest, narrowed, IsRunning, Activated, HasNone}
 use Rattle.propagate_queue.proofs.Queueing.{was_there, flag_within, flagged_off, flag_set}
@@ -25,62 +24,62 @@ use Rattle.propagate_queue.proofs.Weighing.{paid}
 use Rattle.propagate_queue.proofs.Settling.{rests, moves, posted_at, posted_there, written_there, unwritten, no_longer, total, total_less, measure_less, none_left_at, wakes_known}
 
 -- what holds at the head of the loop, but for the agenda
-pub record IsTurn (is : List Instance) (start now : Stores) (flags flags' : List Bool) (n n' : ℕ) : Type 0 where
+pub record IsTurn (is : List Posting) (start now : Stores) (flags flags' : List Bool) (n n' : ℕ) : Type 0 where
   pub below : now.below ≡ start.below
   pub vars : length now.current ≡ length start.current
-  pub running : IsRunning (posted_by is) now.current flags'
+  pub running : IsRunning (ranges_of is) now.current flags'
   pub sizes : (x : ℕ) → length (family_of now.current x) ≤ length (family_of start.current x)
-  pub count : n' + flagged flags' ≤ n + (flagged flags + weights (posted_by is) (family_of start.current) (family_of now.current))
+  pub count : n' + flagged flags' ≤ n + (flagged flags + weights (ranges_of is) (family_of start.current) (family_of now.current))
 
-pub same_turn : (is : List Instance) (start old new : Stores) (flags0 flags : List Bool) (n0 n n' a : ℕ) (i : Instance) (o : Outcome) → a < length is → i ≡ get_or is a i → flag_at flags a ≡ true → o ≡ Same → Activated (indexical i) old new o
+pub same_turn : (is : List Posting) (start old new : Stores) (flags0 flags : List Bool) (n0 n n' a : ℕ) (i : Posting) (o : Outcome) → a < length is → i ≡ get_or is a i → flag_at flags a ≡ true → o ≡ Same → Activated (ranged i) old new o
     → n' ≡ min (n + 1) (2 ^ 64 - 1) → IsTurn is start old flags0 flags n0 n → IsTurn is start new flags0 (set flags a false) n0 n'
 same_turn is start old new flags0 flags n0 n n' a i o l e there f done c t =
-    let d : Activated (indexical i) old new Same = subst (Activated (indexical i) old new) f done in
+    let d : Activated (ranged i) old new Same = subst (Activated (ranged i) old new) f done in
     subst (λ s. IsTurn is start s flags0 (set flags a false) n0 n') (sym d.0) (record {
       below = t.below;
       vars = t.vars;
-      running = rests (posted_by is) old.current flags (set flags a false) a (indexical i) (posted_at is a i l e) (λ k. flag_set flags a k false (flag_within flags a there)) d.1 t.running;
+      running = rests (ranges_of is) old.current flags (set flags a false) a (ranged i) (posted_at is a i l e) (λ k. flag_set flags a k false (flag_within flags a there)) d.1 t.running;
       sizes = t.sizes;
       count = omega (arith, t.count, c, flagged_off flags a there);
     })
 
-pub moved_turn : (is : List Instance) (reads : List Reading) (start old new : Stores) (flags0 flags flags' : List Bool) (woken : List ℕ) (n0 n n' a : ℕ) (i : Instance) (o : Outcome) (c : Change) → AllPosted (λ q. IsMonotone INFINITY q.range) (posted_by is) → AreReaders (posted_by is) reads → length is ≡ length flags → length flags' ≡ length flags
-    → a < length is → i ≡ get_or is a i → i.target < length old.current → flag_at flags a ≡ true → o ≡ Changed c → Activated (indexical i) old new o
+pub moved_turn : (is : List Posting) (reads : List Reading) (start old new : Stores) (flags0 flags flags' : List Bool) (woken : List ℕ) (n0 n n' a : ℕ) (i : Posting) (o : Outcome) (c : Change) → AllPosted (λ q. IsMonotone INFINITY q.range) (ranges_of is) → AreReaders (ranges_of is) reads → length is ≡ length flags → length flags' ≡ length flags
+    → a < length is → i ≡ get_or is a i → i.target < length old.current → flag_at flags a ≡ true → o ≡ Changed c → Activated (ranged i) old new o
     → ((k : ℕ) → flag_at flags' k ≡ (flag_at (set flags a false) k || has woken k)) → ((k : ℕ) → has woken k ≡ list_any (λ r. (r.agent == k) && ((r.var == i.target) && wakes c r.feature)) reads)
     → n' ≡ min (n + 1) (2 ^ 64 - 1) → IsTurn is start old flags0 flags n0 n → IsTurn is start new flags0 flags' n0 n'
 moved_turn is reads start old new flags0 flags flags' woken n0 n n' a i o c m readers size size' l e h there f done g w cnt t =
-    let p : Indexical = indexical i in
+    let p : Indexical = ranged i in
     let d : Activated p old new (Changed c) = subst (Activated p old new) f done in
     let within : a < length flags = flag_within flags a there in
-    let known : (k : ℕ) (q : Indexical) → k < length (posted_by is) → has woken k ≡ is_woken (change_of (family_of old.current p.target) (narrowed p old.current)) p.target (range_features (get_or (posted_by is) k q).range) = (λ k q low.
-    w k ∙ readers.same k q p.target c low ∙ ap (λ z. is_woken z p.target (range_features (get_or (posted_by is) k q).range)) d.3) in
+    let known : (k : ℕ) (q : Indexical) → k < length (ranges_of is) → has woken k ≡ is_woken (change_of (family_of old.current p.target) (narrowed p old.current)) p.target (range_features (get_or (ranges_of is) k q).range) = (λ k q low.
+    w k ∙ readers.same k q p.target c low ∙ ap (λ z. is_woken z p.target (range_features (get_or (ranges_of is) k q).range)) d.3) in
     let sets : List (List ℕ) = set old.current p.target (narrowed p old.current) in
     let no_more : (y : ℕ) → length (family_of sets y) ≤ length (family_of old.current y) = no_longer p old.current h d.2 in
     let at : family_of sets p.target ≡ narrowed p old.current = written_there old.current p.target (narrowed p old.current) h in
-    let pays : flagged flags' + weights (posted_by is) (family_of start.current) (family_of old.current) ≤ flagged (set flags a false) + weights (posted_by is) (family_of start.current) (family_of sets) =
-    paid (family_of start.current) (family_of old.current) (family_of sets) p.target t.sizes no_more (omega (arith, ap length at, d.2)) (posted_by is) (set flags a false) flags' (λ k. has woken k)
-    (omega (arith, length-set flags a false, size, length-map is indexical)) (omega (arith, size', size, length-map is indexical)) g
-    (λ k q low y. sym (known k q low ∙ ap (λ z. is_woken (change_of (family_of old.current p.target) z) p.target (range_features (get_or (posted_by is) k q).range)) (sym at)) ∙ y) in
+    let pays : flagged flags' + weights (ranges_of is) (family_of start.current) (family_of old.current) ≤ flagged (set flags a false) + weights (ranges_of is) (family_of start.current) (family_of sets) =
+    paid (family_of start.current) (family_of old.current) (family_of sets) p.target t.sizes no_more (omega (arith, ap length at, d.2)) (ranges_of is) (set flags a false) flags' (λ k. has woken k)
+    (omega (arith, length-set flags a false, size, length-map is ranged)) (omega (arith, size', size, length-map is ranged)) g
+    (λ k q low y. sym (known k q low ∙ ap (λ z. is_woken (change_of (family_of old.current p.target) z) p.target (range_features (get_or (ranges_of is) k q).range)) (sym at)) ∙ y) in
     subst (λ s. IsTurn is start s flags0 flags' n0 n') (sym d.0) (record {
       below = t.below;
       vars = length-set old.current p.target (narrowed p old.current) ∙ t.vars;
-      running = moves (posted_by is) old.current flags flags' (λ k. has woken k) a p m (posted_there is a i l e) h (posted_at is a i l e) d.1 d.2 (λ k. g k ∙ ap (λ b. b || has woken k) (flag_set flags a k false within)) known t.running;
+      running = moves (ranges_of is) old.current flags flags' (λ k. has woken k) a p m (posted_there is a i l e) h (posted_at is a i l e) d.1 d.2 (λ k. g k ∙ ap (λ b. b || has woken k) (flag_set flags a k false within)) known t.running;
       sizes = λ x. omega (arith, no_more x, t.sizes x);
       count = omega (arith, t.count, cnt, flagged_off flags a there, pays);
     })
 
-pub moved_total : (i : Instance) (old new : Stores) (o : Outcome) (c : Change) → i.target < length old.current → o ≡ Changed c → Activated (indexical i) old new o → total new.current < total old.current
+pub moved_total : (i : Posting) (old new : Stores) (o : Outcome) (c : Change) → i.target < length old.current → o ≡ Changed c → Activated (ranged i) old new o → total new.current < total old.current
 moved_total i old new o c h f done =
-    let p : Indexical = indexical i in
+    let p : Indexical = ranged i in
     let d : Activated p old new (Changed c) = subst (Activated p old new) f done in
     omega (arith, ap (λ s. total s.current) d.0, total_less old.current p.target (narrowed p old.current) h d.2)
 
-pub moved_below : (i : Instance) (old new : Stores) (o : Outcome) (c : Change) → o ≡ Changed c → Activated (indexical i) old new o → new.below ≡ old.below
-moved_below i old new o c f done = let d : Activated (indexical i) old new (Changed c) = subst (Activated (indexical i) old new) f done in ap (λ s. s.below) d.0
+pub moved_below : (i : Posting) (old new : Stores) (o : Outcome) (c : Change) → o ≡ Changed c → Activated (ranged i) old new o → new.below ≡ old.below
+moved_below i old new o c f done = let d : Activated (ranged i) old new (Changed c) = subst (Activated (ranged i) old new) f done in ap (λ s. s.below) d.0
 
-pub empty_turn : (is : List Instance) (old new : Stores) (flags : List Bool) (a : ℕ) (i : Instance) (o : Outcome) → AllPosted (λ q. IsMonotone INFINITY q.range) (posted_by is) → a < length is → i ≡ get_or is a i → i.target < length old.current → o ≡ Empty → Activated (indexical i) old new o
-    → IsRunning (posted_by is) old.current flags → HasNone (posted_by is) (length old.current)
-empty_turn is old new flags a i o m l e h f done r = let d : Activated (indexical i) old new Empty = subst (Activated (indexical i) old new) f done in none_left_at (posted_by is) (indexical i) old.current flags m (posted_there is a i l e) h d.1 r
+pub empty_turn : (is : List Posting) (old new : Stores) (flags : List Bool) (a : ℕ) (i : Posting) (o : Outcome) → AllPosted (λ q. IsMonotone INFINITY q.range) (ranges_of is) → a < length is → i ≡ get_or is a i → i.target < length old.current → o ≡ Empty → Activated (ranged i) old new o
+    → IsRunning (ranges_of is) old.current flags → HasNone (ranges_of is) (length old.current)
+empty_turn is old new flags a i o m l e h f done r = let d : Activated (ranged i) old new Empty = subst (Activated (ranged i) old new) f done in none_left_at (ranges_of is) (ranged i) old.current flags m (posted_there is a i l e) h d.1 r
 
-pub instance_at : (count : ℕ) (is : List Instance) (a : ℕ) (i : Instance) → All (IsInstance count) is → a < length is → i ≡ get_or is a i → IsInstance count i
-instance_at count is a i h l e = subst (IsInstance count) (sym e) (h a i l)
+pub instance_at : (count : ℕ) (is : List Posting) (a : ℕ) (i : Posting) → All (IsPosting count) is → a < length is → i ≡ get_or is a i → IsPosting count i
+instance_at count is a i h l e = subst (IsPosting count) (sym e) (h a i l)

@@ -12,7 +12,7 @@ use Rattle.fd_language.specs.Range.{Indexical, Range, Span, One, Dom, Union, Int
 use Rattle.fd_language.proofs.Sets.{has-filter}
 use Rattle.dependency_chains.specs.declared.Change.{Change}
 use Rattle.dependency_chains.specs.Waking.{change_of, wakes, is_woken}
-use Rattle.propagate_queue.specs.Weights.{is_val, reads_more, weight, sum_over, weights}
+use Rattle.fd_model.specs.Weights.{is_val, reads_more, weight, sum_over, weights}
 use Rattle.propagate_queue.specs.Queues.{flag_at, flagged}
 
 -- the variables that are read are those of the features

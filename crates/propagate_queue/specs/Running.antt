@@ -10,8 +10,8 @@ use Rattle.fd_language.specs.Monotonicity.{IsMonotone}
 use Rattle.range_code.specs.Frames.{family_of}
 use Rattle.dependency_chains.specs.Waking.{change_of}
 use Rattle.domain_trail.specs.Stores.{Stores}
-use Rattle.propagate_queue.specs.declared.Outcome.{Outcome}
-use Rattle.propagate_queue.specs.declared.Outcome.TheVariants.{Same, Empty, Changed}
+use Rattle.propagate_queue.specs.declared.activation.Outcome.{Outcome}
+use Rattle.propagate_queue.specs.declared.activation.Outcome.TheVariants.{Same, Empty, Changed}
 use Rattle.propagate_queue.specs.Queues.{flag_at}
 
 -- one more activation doesn't narrow the target

@@ -6,13 +6,12 @@ use Rattle.fd_model.specs.Closed.{AllPosted}
 use Rattle.fd_language.specs.Monotonicity.{IsMonotone}
 use Rattle.dependency_chains.specs.Reading.{Reading, Readings}
 use Rattle.domain_trail.specs.Stores.{Stores}
-use Rattle.propagate_queue.specs.declared.Instance.{Instance}
-use Rattle.propagate_queue.specs.declared.Posted.{Posted}
-use Rattle.propagate_queue.specs.declared.Posted.TheVariants.{Kept, Failed}
-use Rattle.propagate_queue.specs.Instances.{posted_by, IsInstance, AreReaders}
+use Rattle.propagate_queue.specs.declared.store.Posted.{Posted}
+use Rattle.propagate_queue.specs.declared.store.Posted.TheVariants.{Kept, Failed}
+use Rattle.propagate_queue.specs.Postings.{Posting, ranges_of, IsPosting, AreReaders}
 use Rattle.propagate_queue.specs.Queues.{AreQueued}
 use Rattle.propagate_queue.specs.Running.{AreDomains, HasNone}
-use Rattle.propagate_queue.specs.Levels.{Level, Levels}
+use Rattle.fd_model.specs.Levels.{Level, Levels}
 
 -- how many ranges were posted at each mark, the newest first, with the sets there
 abbrev pub levels_below : List ℕ → List (List (List ℕ)) → List Indexical → List Level
@@ -20,29 +19,29 @@ levels_below (m ∷ ms) (s ∷ ss) ps = record { posted = take m ps; sets = s; f
 levels_below _ _ ps = []
 
 -- each level below is settled, and its ranges speak of its own variables
-abbrev pub AreBelow : List Instance → List Reading → ℕ → ℕ → List ℕ → List (List (List ℕ)) → Type 0
+abbrev pub AreBelow : List Posting → List Reading → ℕ → ℕ → List ℕ → List (List (List ℕ)) → Type 0
 AreBelow is reads posted vars [] [] = Unit {0}
 AreBelow is reads posted vars (m ∷ ms) (s ∷ ss) =
     (m ≤ posted)
     × (length s ≤ vars)
-    × All (IsInstance (length s)) (take m is)
+    × All (IsPosting (length s)) (take m is)
     × All (λ r. r.var < length s) (filter (λ r. nat_lt r.agent m) reads)
-    × AreDomains (posted_by (take m is)) s
+    × AreDomains (ranges_of (take m is)) s
     × AreBelow is reads m (length s) ms ss
 AreBelow is reads posted vars [] (s ∷ ss) = ⊥
 AreBelow is reads posted vars (m ∷ ms) [] = ⊥
 
-pub record IsStore (is : List Instance) (flags : List Bool) (agenda : List ℕ) (spare : ℕ) (readings : Readings) (trail : Stores) (ms : List ℕ) (lost spent : Bool) : Type 0 where
-  pub instances : All (IsInstance (length trail.current)) is
-  pub monotone : AllPosted (λ p. IsMonotone INFINITY p.range) (posted_by is)
-  pub readers : AreReaders (posted_by is) readings.reads
+pub record IsStore (is : List Posting) (flags : List Bool) (agenda : List ℕ) (spare : ℕ) (readings : Readings) (trail : Stores) (ms : List ℕ) (lost spent : Bool) : Type 0 where
+  pub instances : All (IsPosting (length trail.current)) is
+  pub monotone : AllPosted (λ p. IsMonotone INFINITY p.range) (ranges_of is)
+  pub readers : AreReaders (ranges_of is) readings.reads
   pub vars : length trail.current ≤ readings.vars
   pub same_vars : spent ≡ false → readings.vars ≡ length trail.current
   pub within : All (λ r. r.var < length trail.current) readings.reads
   pub flagged : length flags ≡ length is
   pub quiet : spent ≡ false → AreQueued flags agenda spare × (agenda ≡ [])
-  pub settled : spent ≡ false → lost ≡ false → AreDomains (posted_by is) trail.current
-  pub failed : spent ≡ false → lost ≡ true → HasNone (posted_by is) (length trail.current)
+  pub settled : spent ≡ false → lost ≡ false → AreDomains (ranges_of is) trail.current
+  pub failed : spent ≡ false → lost ≡ true → HasNone (ranges_of is) (length trail.current)
   pub below : AreBelow is readings.reads (length is) (length trail.current) ms trail.below
 
 -- how a post leaves the current level

@@ -1,0 +1,23 @@
+use Rattle.std.proofs.Common.{◌≡◌, ◌≤◌, ◌++◌, ◌∙◌, List, ℕ, Bool, map, length, ap, sym, subst, arith}
+use Rattle.std.proofs.lemmas.List.{length-map}
+use Rattle.propagate_queue.specs.Instances.{posting}
+use Rattle.propagate_queue.proofs.NewAgents.{same_flags}
+use Rattle.propagate_queue.proofs.Storing.{none_more, starts, flagged_new}
+use Rattle.propagate_queue.proofs.store.post_all.Goals as goal
+
+pub returns-then-lost-clause-done : goal.returns-then-lost-clause-done
+returns-then-lost-clause-done g c = none_more c.args.agents.now (map posting c.args.list.items) c.add_agents.new.agents (length c.args.trail.now.current) c.in_ok-add_agents.ensures.agents (c.requires.failed c.if-lost.true)
+
+pub propagate-requires-clause-running : goal.propagate-requires-clause-running
+propagate-requires-clause-running g c =
+    starts c.args.agents.now (map posting c.args.list.items) c.add_agents.new.agents c.args.trail.now.current c.args.queued.now.items c.deref_mut-2.result.now (c.requires.settled c.if-lost.false) c.in_ok-add_agents.ensures.agents
+    (c.deref_mut-2.ensures.value ∙ c.in_ok-add_agents.ensures.flags ∙ ap (λ l. c.args.queued.now.items ++ l) (same_flags c.args.list.items)) c.requires.flagged
+
+pub returns-clause-count : goal.returns-clause-count
+returns-clause-count g c =
+    omega (
+      arith,
+      c.propagate.ensures.count,
+      flagged_new c.args.queued.now.items c.deref_mut-2.result.now (map posting c.args.list.items) (g.A.Agenda.agents c.args.agenda.now) (g.A.Agenda.spare c.args.agenda.now) c.requires.queued c.requires.empty (c.deref_mut-2.ensures.value ∙ c.in_ok-add_agents.ensures.flags ∙ ap (λ l. c.args.queued.now.items ++ l) (same_flags c.args.list.items)),
+      length-map c.args.list.items posting,
+    )

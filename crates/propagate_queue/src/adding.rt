@@ -1,0 +1,131 @@
+//! New agents: their numbers, their places in the chains and on the agenda.
+
+ghost use Rattle.std.specs.Prelude.{◌≡◌, ◌<◌, ◌≤◌, ◌+◌, ◌++◌, ◌∷◌, [], ℕ, true, map, take, filter, nat_lt, length, All, OnOk, OnErr};
+ghost use Rattle.fd_language.specs.declared.TheConstants.{INFINITY as TOP};
+ghost use Rattle.fd_language.specs.Features.{range_features};
+ghost use Rattle.fd_language.specs.Monotonicity.{IsMonotone};
+ghost use Rattle.fd_model.specs.Closed.{AllPosted};
+ghost use Rattle.range_code.specs.Frames.{variable_of};
+ghost use Rattle.dependency_chains.specs.declared.Change.{Change as Told};
+ghost use Rattle.dependency_chains.specs.Waking.{is_woken};
+ghost use Rattle.propagate_queue.specs.Instances.{posting, indexical, IsInstance};
+ghost use Rattle.propagate_queue.specs.Postings.{ranges_of, IsPosting, AreReaders};
+ghost use Rattle.propagate_queue.specs.Queues.{AreQueued};
+
+use crate::agenda::Agenda;
+use crate::agents::Agents;
+use crate::instance::Instance;
+use dependency_chains::Chains;
+use fd_language::{Feature, NoMemory};
+use range_code::Arg;
+
+/// The variable of an argument, and 0 for an integer.
+fn variable(arg: Arg) -> usize
+    ensures { result ≡ variable_of arg }
+{
+    match arg {
+        Arg::Var(number) => number,
+        Arg::Int(_) => 0,
+    }
+}
+
+/// What the instance reads of the variables, of which there are `vars`.
+fn read_features(
+    instance: &Instance,
+    vars: usize,
+    into: &mut Vec<(usize, Feature)>,
+) -> Result<(), NoMemory>
+    requires { IsInstance vars instance.now }
+    ensures same { OnOk result ((x : ℕ) (c : Told) → is_woken c x into.new.items ≡ is_woken c x (range_features (indexical instance.now).range)) }
+    ensures vars { OnOk result (All (λ d. d.0 < vars) into.new.items) }
+    ensures monotone { OnOk result (IsMonotone TOP (indexical instance.now).range) }
+{
+    into.clear();
+    let features = instance.code.features();
+    for read in features {
+        let (slot, feature) = *read;
+        into.push((variable(instance.args[slot]), feature))?;
+    }
+    Ok(())
+}
+
+/// Adds an agent and puts it on the agenda.
+fn add_agent<A: Agenda>(
+    agents: &mut Agents,
+    queued: &mut Vec<bool>,
+    chains: &mut Chains,
+    agenda: &mut A,
+    scratch: &mut Vec<(usize, Feature)>,
+    vars: usize,
+    instance: Instance,
+) -> Result<(), NoMemory>
+    requires instance { IsInstance vars instance }
+    requires readers { AreReaders (ranges_of agents.old) chains.old.reads }
+    requires vars { chains.old.vars ≡ vars }
+    requires within { All (λ r. r.var < vars) chains.old.reads }
+    requires flags { length queued.old.items ≡ length agents.old }
+    requires queued { AreQueued queued.old.items (A.agents agenda.old) (A.spare agenda.old) }
+    requires room { length queued.old.items + 1 ≤ A.spare agenda.old + length (A.agents agenda.old) }
+    ensures agents { OnOk result (agents.new ≡ agents.old ++ posting instance ∷ []) }
+    ensures flags { OnOk result (queued.new.items ≡ queued.old.items ++ true ∷ []) }
+    ensures room { OnOk result (A.spare agenda.old + length (A.agents agenda.old) ≤ A.spare agenda.new + length (A.agents agenda.new)) }
+    ensures queued { OnOk result (AreQueued queued.new.items (A.agents agenda.new) (A.spare agenda.new)) }
+    ensures monotone { OnOk result (IsMonotone TOP (indexical instance).range) }
+    ensures readers { AreReaders (ranges_of agents.new) chains.new.reads }
+    ensures vars { chains.new.vars ≡ vars }
+    ensures within { All (λ r. r.var < vars) chains.new.reads }
+    ensures kept { (m : ℕ) → m ≤ length agents.old → filter (λ r. nat_lt r.agent m) chains.new.reads ≡ filter (λ r. nat_lt r.agent m) chains.old.reads }
+    ensures unchanged { OnErr result (agents.new ≡ agents.old) }
+    ensures no_flag { OnErr result (queued.new.items ≡ queued.old.items) }
+{
+    read_features(&instance, vars, scratch)?;
+    let cost = instance.code.range().nodes().len();
+    let agent = agents.len();
+    queued.reserve(1)?;
+    agents.push(instance)?;
+    if let Err(refused) = chains.register(agent, scratch) {
+        agents.truncate(agent);
+        return Err(refused);
+    }
+    agenda.put(agent, cost);
+    queued.push_reserved(true);
+    Ok(())
+}
+
+/// Adds the agents in order.
+pub fn add_agents<A: Agenda>(
+    agents: &mut Agents,
+    queued: &mut Vec<bool>,
+    chains: &mut Chains,
+    agenda: &mut A,
+    scratch: &mut Vec<(usize, Feature)>,
+    vars: usize,
+    list: Vec<Instance>,
+) -> Result<(), NoMemory>
+    requires instances { All (IsInstance vars) list.items }
+    requires readers { AreReaders (ranges_of agents.old) chains.old.reads }
+    requires vars { chains.old.vars ≡ vars }
+    requires within { All (λ r. r.var < vars) chains.old.reads }
+    requires flags { length queued.old.items ≡ length agents.old }
+    requires queued { AreQueued queued.old.items (A.agents agenda.old) (A.spare agenda.old) }
+    requires room { length queued.old.items + length list.items ≤ A.spare agenda.old + length (A.agents agenda.old) }
+    requires old { All (IsPosting vars) agents.old }
+    requires monotone { AllPosted (λ p. IsMonotone TOP p.range) (ranges_of agents.old) }
+    ensures agents { OnOk result (agents.new ≡ agents.old ++ map posting list.items) }
+    ensures flags { OnOk result (queued.new.items ≡ queued.old.items ++ map (λ _. true) list.items) }
+    ensures queued { OnOk result (AreQueued queued.new.items (A.agents agenda.new) (A.spare agenda.new)) }
+    ensures instances { All (IsPosting vars) agents.new }
+    ensures monotone { AllPosted (λ p. IsMonotone TOP p.range) (ranges_of agents.new) }
+    ensures readers { AreReaders (ranges_of agents.new) chains.new.reads }
+    ensures vars { chains.new.vars ≡ vars }
+    ensures within { All (λ r. r.var < vars) chains.new.reads }
+    ensures more { length agents.old ≤ length agents.new }
+    ensures front { take (length agents.old) agents.new ≡ agents.old }
+    ensures flagged { length queued.new.items ≡ length agents.new }
+    ensures kept { (m : ℕ) → m ≤ length agents.old → filter (λ r. nat_lt r.agent m) chains.new.reads ≡ filter (λ r. nat_lt r.agent m) chains.old.reads }
+{
+    for instance in list {
+        add_agent(agents, queued, chains, agenda, scratch, vars, instance)?;
+    }
+    Ok(())
+}

@@ -1,0 +1,99 @@
+//! The loop over the agenda.
+
+ghost use Rattle.std.specs.Prelude.{◌≡◌, ◌<◌, ◌≤◌, ◌+◌, ◌||◌, ℕ, [], true, length, All, IfOk, OnOk, MatchBool};
+ghost use Rattle.fd_language.specs.declared.TheConstants.{INFINITY as TOP};
+ghost use Rattle.fd_language.specs.Family.{has, IsFamily};
+ghost use Rattle.fd_language.specs.Monotonicity.{IsMonotone};
+ghost use Rattle.fd_model.specs.Closed.{AllPosted};
+ghost use Rattle.fd_model.specs.Weights.{weights};
+ghost use Rattle.range_code.specs.Frames.{family_of};
+ghost use Rattle.propagate_queue.specs.Postings.{ranges_of, IsPosting, AreReaders};
+ghost use Rattle.propagate_queue.specs.Queues.{flag_at, flagged, AreQueued};
+ghost use Rattle.propagate_queue.specs.Running.{IsRunning, AreDomains, HasNone};
+
+use crate::activation::{Outcome, activate};
+use crate::agenda::Agenda;
+use crate::agents::Agents;
+use dependency_chains::{Chains, Woken};
+use domain_trail::Trail;
+use fd_language::NoMemory;
+use range_code::Activations;
+use std::alloc::Global;
+
+/// Puts the woken agents on the agenda, except those that stand there already.
+pub fn wake<A: Agenda>(agenda: &mut A, queued: &mut [bool], agents: &Agents, mut woken: Woken<'_>)
+    requires agents { length agents.now ≡ length queued.old }
+    requires known { (a : ℕ) → has woken a ≡ true → a < length queued.old }
+    requires queued { AreQueued queued.old (A.agents agenda.old) (A.spare agenda.old) }
+    ensures queued { AreQueued queued.new (A.agents agenda.new) (A.spare agenda.new) }
+    ensures flags { (a : ℕ) → flag_at queued.new a ≡ (flag_at queued.old a || has woken.entry a) }
+{
+    'waking: while let Some(agent) = woken.next() {
+        if !queued[agent] {
+            queued[agent] = true;
+            let cost = agents.get(agent).code.range().nodes().len();
+            agenda.put(agent, cost);
+        }
+    }
+}
+
+/// Activates the agents on the agenda until none waits, or some domain would be empty. Whether none would be.
+pub fn propagate<A: Agenda>(
+    alloc: Global,
+    trail: &mut Trail,
+    chains: &Chains,
+    agents: &Agents,
+    agenda: &mut A,
+    queued: &mut [bool],
+    n: &mut Activations,
+) -> Result<bool, NoMemory>
+    requires postings { All (IsPosting (length trail.old.current)) agents.now }
+    requires monotone { AllPosted (λ p. IsMonotone TOP p.range) (ranges_of agents.now) }
+    requires readers { AreReaders (ranges_of agents.now) chains.now.reads }
+    requires vars { chains.now.vars ≡ length trail.old.current }
+    requires agents { length agents.now ≡ length queued.old }
+    requires queued { AreQueued queued.old (A.agents agenda.old) (A.spare agenda.old) }
+    requires running { IsRunning (ranges_of agents.now) trail.old.current queued.old }
+    ensures below { trail.new.below ≡ trail.old.below }
+    ensures vars { length trail.new.current ≡ length trail.old.current }
+    ensures family { IsFamily TOP (family_of trail.new.current) }
+    ensures queued { AreQueued queued.new (A.agents agenda.new) (A.spare agenda.new) }
+    ensures all { OnOk result (A.agents agenda.new ≡ []) }
+    ensures done { IfOk result (λ b. MatchBool b (AreDomains (ranges_of agents.now) trail.new.current) (HasNone (ranges_of agents.now) (length trail.old.current))) }
+    ensures count { n.new.count ≤ n.old.count + (flagged queued.old + weights (ranges_of agents.now) (family_of trail.old.current) (family_of trail.new.current)) }
+{
+    'activating: while let Some(agent) = agenda.take() {
+        queued[agent] = false;
+        let seat = agents.get(agent);
+        match activate(alloc, trail, seat, n)? {
+            Outcome::Same => {}
+            Outcome::Empty => {
+                clear(agenda, queued);
+                return Ok(false);
+            }
+            Outcome::Changed(change) => {
+                let woken = chains.woken(seat.target, change);
+                wake(agenda, queued, agents, woken);
+            }
+        }
+    }
+    Ok(true)
+}
+
+/// Takes all agents off the agenda.
+pub fn clear<A: Agenda>(agenda: &mut A, queued: &mut [bool])
+    requires { AreQueued queued.old (A.agents agenda.old) (A.spare agenda.old) }
+    ensures queued { AreQueued queued.new (A.agents agenda.new) (A.spare agenda.new) }
+    ensures empty { A.agents agenda.new ≡ [] }
+{
+    'clearing: while let Some(agent) = agenda.take() {
+        queued[agent] = false;
+    }
+}
+
+/// Takes all agents off an agenda that is handed in.
+pub fn empty<A: Agenda>(agenda: &mut A)
+    ensures { A.agents agenda.new ≡ [] }
+{
+    'emptying: while let Some(_) = agenda.take() {}
+}

@@ -1,0 +1,276 @@
+//! The store: domains under posted ranges, in levels.
+
+ghost use Rattle.std.specs.Prelude.{◌≡◌, ◌<◌, ◌≤◌, ◌+◌, ◌++◌, ◌∷◌, [], ℕ, true, false, map, take, drop, filter, nat_lt, length, All, IfOk, OnOk, OnErr, MatchBool};
+ghost use Rattle.fd_language.specs.declared.TheConstants.{INFINITY as TOP};
+ghost use Rattle.fd_language.specs.Family.{universe};
+ghost use Rattle.fd_language.specs.Monotonicity.{IsMonotone};
+ghost use Rattle.fd_model.specs.Closed.{AllPosted};
+ghost use Rattle.fd_model.specs.Weights.{weights, whole_weights};
+ghost use Rattle.range_code.specs.Frames.{family_of};
+ghost use Rattle.propagate_queue.specs.Instances.{posting, posted_by, IsInstance};
+ghost use Rattle.propagate_queue.specs.Postings.{ranges_of, IsPosting, AreReaders};
+ghost use Rattle.propagate_queue.specs.Queues.{AreQueued};
+ghost use Rattle.propagate_queue.specs.Running.{AreDomains, HasNone};
+
+use crate::adding::add_agents;
+use crate::agenda::Agenda;
+use crate::agents::Agents;
+use crate::instance::Instance;
+use crate::propagation::{clear, empty, propagate};
+use dependency_chains::Chains;
+use domain_ranges::{Domain, View};
+use domain_trail::Trail;
+use fd_language::{Feature, NoMemory};
+use range_code::Activations;
+use std::alloc::Global;
+use std::marker::Model;
+
+/// How a post ended.
+#[derive(Clone, Copy, Debug, PartialEq, Eq)]
+pub enum Posted {
+    /// The domains are the greatest family that is closed under all that is posted, and none is empty.
+    Kept,
+    /// That family has an empty set.
+    Failed,
+}
+
+/// The domains of variables under posted ranges, as a list of levels of which the first is the current one.
+#[derive(Drop)]
+pub struct Store<A: Agenda + Drop> {
+    alloc: Global,
+    trail: Trail,
+    chains: Chains,
+    agents: Agents,
+    queued: Vec<bool>,
+    agenda: A,
+    marks: Vec<usize>,
+    scratch: Vec<(usize, Feature)>,
+    failed: bool,
+    spent: bool,
+}
+
+impl<A: Agenda + Drop> Model for Store<A> {
+    ghost use Rattle.fd_model.specs.Levels.{Levels, levels_coded};
+
+    ghost Value = { Levels };
+
+    ghost coded = { levels_coded };
+
+    ghost use Rattle.std.specs.Prelude.{reverse};
+    ghost use Rattle.propagate_queue.specs.Postings.{ranges_of};
+    ghost use Rattle.propagate_queue.specs.Stored.{levels_below, IsStore};
+
+    ghost view = { λ s. record { current = record { posted = ranges_of s.agents; sets = s.trail.current; failed = s.failed }; below = levels_below (reverse s.marks.items) s.trail.below (ranges_of s.agents); spent = s.spent } };
+
+    ghost invariant = { λ s. IsStore s.agents s.queued.items (A.agents s.agenda) (A.spare s.agenda) s.chains s.trail (reverse s.marks.items) s.failed s.spent };
+}
+
+ghost use Rattle.propagate_queue.specs.Stored.{IsPosted};
+ghost use Rattle.propagate_queue.specs.declared.store.Posted.TheVariants as Ended;
+
+impl<A: Agenda + Drop> Store<A> {
+    /// One level without variables, where nothing is posted.
+    pub fn new(alloc: Global, mut agenda: A) -> Store<A>
+        ensures { result ≡ record { current = record { posted = []; sets = []; failed = false }; below = []; spent = false } }
+    {
+        empty(&mut agenda);
+        Store {
+            alloc,
+            trail: Trail::new(alloc),
+            chains: Chains::new(alloc),
+            agents: Agents::new(alloc),
+            queued: Vec::new(alloc),
+            agenda,
+            marks: Vec::new(alloc),
+            scratch: Vec::new(alloc),
+            failed: false,
+            spent: false,
+        }
+    }
+
+    /// One more variable, which may have any value.
+    pub fn new_var(&mut self) -> Result<usize, NoMemory>
+        ensures number { IfOk result (λ k. k ≡ length self.old.current.sets) }
+        ensures added { OnOk result (self.new ≡ record self.old { current = record self.old.current { sets = self.old.current.sets ++ universe TOP ∷ [] } }) }
+        ensures unspent { OnOk result (self.old.spent ≡ false) }
+        ensures below { self.new.below ≡ self.old.below }
+        ensures spent { OnErr result (self.new.spent ≡ true) }
+    {
+        if self.spent {
+            return Err(NoMemory);
+        }
+        self.spent = true;
+        self.chains.new_var()?;
+        let k = self.trail.new_var()?;
+        self.spent = false;
+        Ok(k)
+    }
+
+    /// Posts the ranges behind those that are posted, and narrows the domains until no posted range narrows one further.
+    pub fn post(&mut self, list: Vec<Instance>, n: &mut Activations) -> Result<Posted, NoMemory>
+        requires { All (IsInstance (length self.old.current.sets)) list.items }
+        ensures posted { OnOk result (self.new.current.posted ≡ self.old.current.posted ++ posted_by list.items) }
+        ensures vars { OnOk result (length self.new.current.sets ≡ length self.old.current.sets) }
+        ensures below { self.new.below ≡ self.old.below }
+        ensures unspent { OnOk result ((self.old.spent ≡ false) × (self.new.spent ≡ false)) }
+        ensures spent { OnErr result (self.new.spent ≡ true) }
+        ensures done { IfOk result (λ p. IsPosted p self.new.current) }
+        ensures still_failed { self.old.current.failed ≡ true → (IfOk result (λ p. p ≡ Ended.Failed)) × (n.new.count ≡ n.old.count) }
+        ensures uncounted { self.old.spent ≡ true → n.new.count ≡ n.old.count }
+        ensures count { n.new.count ≤ n.old.count + (length list.items + weights self.new.current.posted (family_of self.old.current.sets) (family_of self.new.current.sets)) }
+        ensures whole { n.new.count ≤ n.old.count + (length list.items + whole_weights self.new.current.posted (family_of self.old.current.sets)) }
+    {
+        if self.spent {
+            return Err(NoMemory);
+        }
+        self.spent = true;
+        let kept = post_all(
+            self.alloc,
+            &mut self.trail,
+            &mut self.chains,
+            &mut self.agents,
+            &mut self.queued,
+            &mut self.agenda,
+            &mut self.scratch,
+            self.failed,
+            list,
+            n,
+        )?;
+        self.failed = !kept;
+        self.spent = false;
+        Ok(if kept { Posted::Kept } else { Posted::Failed })
+    }
+
+    /// How many variables the current level has.
+    pub fn vars(&self) -> usize
+        ensures { result ≡ length self.now.current.sets }
+    {
+        self.trail.vars()
+    }
+
+    /// Whether the current level has failed.
+    pub fn failed(&self) -> bool
+        ensures { result ≡ self.now.current.failed }
+    {
+        self.failed
+    }
+
+    /// The domain of the variable `k`.
+    pub fn domain(&self, k: usize) -> &Domain
+        requires { k < length self.now.current.sets }
+        ensures { result.now ≡ family_of self.now.current.sets k }
+    {
+        self.trail.domain(k)
+    }
+
+    /// What holds of the current level.
+    pub fn known(&self)
+        ensures kept { self.now.spent ≡ false → self.now.current.failed ≡ false → AreDomains self.now.current.posted self.now.current.sets }
+        ensures failed { self.now.spent ≡ false → self.now.current.failed ≡ true → HasNone self.now.current.posted (length self.now.current.sets) }
+    {
+        let _ = &self.agents;
+    }
+
+    /// Puts an equal level below the current one, which hasn't failed.
+    pub fn push_mark(&mut self) -> Result<(), NoMemory>
+        requires { self.old.current.failed ≡ false }
+        ensures marked { OnOk result (self.new ≡ record self.old { below = self.old.current ∷ self.old.below }) }
+        ensures unspent { OnOk result (self.old.spent ≡ false) }
+        ensures spent { OnErr result (self.new ≡ record self.old { spent = true }) }
+    {
+        if self.spent {
+            return Err(NoMemory);
+        }
+        self.spent = true;
+        self.marks.reserve(1)?;
+        self.trail.push_mark()?;
+        self.marks.push_reserved(self.agents.len());
+        self.spent = false;
+        Ok(())
+    }
+
+    /// Gives back the level below the current one.
+    pub fn pop_mark(&mut self)
+        requires { 0 < length self.old.below }
+        ensures levels { self.old.below ≡ self.new.current ∷ self.new.below }
+        ensures spent { self.new.spent ≡ self.old.spent }
+    {
+        let agents = self.marks.pop().unwrap();
+        self.trail.pop_mark();
+        self.chains.cut_to(agents, self.trail.vars());
+        self.agents.truncate(agents);
+        self.queued.truncate(agents);
+        self.failed = false;
+    }
+
+    /// Takes away the `n` levels directly below the current one.
+    pub fn drop_marks(&mut self, n: usize)
+        requires { n ≤ length self.old.below }
+        ensures { self.new ≡ record self.old { below = drop n self.old.below } }
+    {
+        let left = self.marks.len() - n;
+        self.marks.truncate(left);
+        self.trail.drop_marks(n);
+    }
+}
+
+impl<A: Agenda + Drop> View for Store<A> {
+    ghost sets = { λ s. s.current.sets };
+
+    fn domain(&self, k: usize) -> &Domain {
+        self.trail.domain(k)
+    }
+}
+
+/// Adds the agents of the list, and propagates unless the level has failed. Whether no domain would be empty.
+fn post_all<A: Agenda>(
+    alloc: Global,
+    trail: &mut Trail,
+    chains: &mut Chains,
+    agents: &mut Agents,
+    queued: &mut Vec<bool>,
+    agenda: &mut A,
+    scratch: &mut Vec<(usize, Feature)>,
+    lost: bool,
+    list: Vec<Instance>,
+    n: &mut Activations,
+) -> Result<bool, NoMemory>
+    requires list { All (IsInstance (length trail.old.current)) list.items }
+    requires instances { All (IsPosting (length trail.old.current)) agents.old }
+    requires monotone { AllPosted (λ p. IsMonotone TOP p.range) (ranges_of agents.old) }
+    requires readers { AreReaders (ranges_of agents.old) chains.old.reads }
+    requires vars { chains.old.vars ≡ length trail.old.current }
+    requires within { All (λ r. r.var < length trail.old.current) chains.old.reads }
+    requires flagged { length queued.old.items ≡ length agents.old }
+    requires queued { AreQueued queued.old.items (A.agents agenda.old) (A.spare agenda.old) }
+    requires empty { A.agents agenda.old ≡ [] }
+    requires settled { lost ≡ false → AreDomains (ranges_of agents.old) trail.old.current }
+    requires failed { lost ≡ true → HasNone (ranges_of agents.old) (length trail.old.current) }
+    ensures agents { OnOk result (agents.new ≡ agents.old ++ map posting list.items) }
+    ensures instances { All (IsPosting (length trail.old.current)) agents.new }
+    ensures monotone { AllPosted (λ p. IsMonotone TOP p.range) (ranges_of agents.new) }
+    ensures readers { AreReaders (ranges_of agents.new) chains.new.reads }
+    ensures vars { chains.new.vars ≡ length trail.old.current }
+    ensures within { All (λ r. r.var < length trail.old.current) chains.new.reads }
+    ensures flagged { length queued.new.items ≡ length agents.new }
+    ensures more { length agents.old ≤ length agents.new }
+    ensures front { take (length agents.old) agents.new ≡ agents.old }
+    ensures kept { (m : ℕ) → m ≤ length agents.old → filter (λ r. nat_lt r.agent m) chains.new.reads ≡ filter (λ r. nat_lt r.agent m) chains.old.reads }
+    ensures below { trail.new.below ≡ trail.old.below }
+    ensures sets { length trail.new.current ≡ length trail.old.current }
+    ensures queued { OnOk result (AreQueued queued.new.items (A.agents agenda.new) (A.spare agenda.new)) }
+    ensures empty { OnOk result (A.agents agenda.new ≡ []) }
+    ensures done { IfOk result (λ b. MatchBool b (AreDomains (ranges_of agents.new) trail.new.current) (HasNone (ranges_of agents.new) (length trail.old.current))) }
+    ensures lost { lost ≡ true → IfOk result (λ b. b ≡ false) }
+    ensures uncounted { lost ≡ true → n.new.count ≡ n.old.count }
+    ensures count { n.new.count ≤ n.old.count + (length list.items + weights (ranges_of agents.new) (family_of trail.old.current) (family_of trail.new.current)) }
+{
+    let vars = trail.vars();
+    agenda.reserve(queued.len() + list.len())?;
+    add_agents(agents, queued, chains, agenda, scratch, vars, list)?;
+    if lost {
+        clear(agenda, queued);
+        return Ok(false);
+    }
+    propagate(alloc, trail, chains, agents, agenda, queued, n)
+}
