@@ -1,6 +1,6 @@
 -- Links come and go at the newest end.
-use Rattle.std.proofs.Common.{◌≡◌, ℕ, zero, suc, ◌+◌, ◌<◌, ◌≤◌, ◌-◌, Bool, true, false, cond, ◌||◌, ◌&&◌, ◌==◌, List, [], ◌∷◌, ◌++◌, length, get_or, set, take, map, filter, refl, ap, sym, ◌∙◌, subst, inl, inr, ◌⊎◌, arith, eqb-true, eq-eqb, All, nat_lt, ltb-true, ltb-false, lt-ltb, le-ltb}
-use Rattle.std.proofs.lemmas.Bool.{cases_Bool, true≢false, eqb-false}
+use Rattle.std.proofs.Common.{◌≡◌, ℕ, zero, suc, ◌+◌, ◌<◌, ◌≤◌, ◌-◌, Bool, true, false, cond, ◌&&◌, ◌==◌, List, [], ◌∷◌, ◌++◌, length, get_or, set, take, filter, refl, ap, sym, ◌∙◌, subst, inl, inr, ◌⊎◌, arith, eqb-true, eq-eqb, All, nat_lt, lt-ltb, le-ltb}
+use Rattle.std.proofs.lemmas.Bool.{cases_Bool, eqb-false}
 use Rattle.std.proofs.lemmas.List.{length-append, length-set, length-map, length-take-le, get_or_append_left, get_or_at, get_or-set_same, get_or-set_other, get_or-take, get_or-map, get_or_default, map-append, take_all, take_more}
 use Rattle.std.proofs.lemmas.List.Elements.{All-push, All-head, All-tail, All-cons, All-nil}
 use Rattle.fd_language.specs.declared.range_node.Feature.{Feature}
@@ -8,9 +8,9 @@ use Rattle.fd_language.specs.declared.range_node.Feature.TheVariants as feature
 use Rattle.fd_language.specs.Features.{is_same_feature}
 use Rattle.dependency_chains.specs.declared.Link.{Link}
 use Rattle.dependency_chains.specs.declared.Heads.{Heads}
-use Rattle.dependency_chains.specs.Reading.{Reading, read_by}
-use Rattle.dependency_chains.specs.Links.{reading, reads_of, link_at, is_in, latest, head_of, AreLinked, AreChains}
-use Rattle.dependency_chains.proofs.Chaining.{latest_below, latest_in, latest_out, same_latest, in_var, in_feature, in_own}
+use Rattle.dependency_chains.specs.Reading.{Reading}
+use Rattle.dependency_chains.specs.Links.{reading, reads_of, link_at, is_in, latest, head_of, AreChains}
+use Rattle.dependency_chains.proofs.Chaining.{latest_out, same_latest, in_var, in_feature}
 
 abbrev none : Link
 none = record { agent = 0; var = 0; feature = feature.Min; next = 0 }

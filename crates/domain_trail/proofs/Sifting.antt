@@ -1,8 +1,8 @@
 -- Saved cells that are forgotten when marks are dropped, since an older one of the same variable stays.
-use Rattle.std.proofs.Common.{◌≡◌, ℕ, zero, suc, ◌+◌, ◌<◌, ◌≤◌, ◌-◌, ◌^◌, Bool, true, false, ◌||◌, ◌==◌, cond, List, [], ◌∷◌, ◌++◌, length, get_or, set, take, drop, refl, ap, sym, ◌∙◌, subst, inl, inr, ◌⊎◌, arith, eqb-true, All, append_assoc, append-nil}
+use Rattle.std.proofs.Common.{◌≡◌, ℕ, ◌+◌, ◌<◌, ◌≤◌, ◌-◌, ◌^◌, true, false, ◌||◌, ◌==◌, cond, List, [], ◌∷◌, ◌++◌, length, get_or, set, take, drop, refl, ap, sym, ◌∙◌, subst, inl, inr, ◌⊎◌, arith, eqb-true, All, append_assoc, append-nil}
 use Rattle.std.specs.Prelude.{filter, nat_lt}
 use Rattle.std.proofs.lemmas.Bool.{or_cases, or_left, or_right, cases_Bool, eqb-false, ltb-false, true≢false, lt-ltb, le-ltb}
-use Rattle.std.proofs.lemmas.List.{length-set, length-append, length-take-le, take-set-le, take-append-le, drop-append-le, take-take, take-append-drop, drop-drop, get_or-set_other, get_or-set_same, get_or-take, get_or-drop, get_or_default, set-set, take_more_set, take_all, drop_more, drop-set-lt, length-drop}
+use Rattle.std.proofs.lemmas.List.{length-set, length-append, length-take-le, take-set-le, take-append-le, drop-append-le, take-append-drop, drop-drop, get_or-set_other, get_or-set_same, get_or-take, get_or-drop, set-set, take_more_set, take_all, drop-set-lt, length-drop}
 use Rattle.std.specs.List.{SwappedAt}
 use Rattle.std.proofs.Math.Seq.{take-add}
 use Rattle.std.proofs.lemmas.List.Elements.{All-take, All-drop, All-filter, All-append, filter_more}

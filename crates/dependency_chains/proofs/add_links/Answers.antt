@@ -1,10 +1,10 @@
-use Rattle.std.proofs.Common.{◌≡◌, ◌<◌, ◌≤◌, ◌+◌, ◌++◌, ◌∷◌, [], All, List, ℕ, length, get_or, set, take, map, cond, ap, sym, refl, subst, ◌∙◌, arith}
+use Rattle.std.proofs.Common.{◌<◌, ◌≤◌, ◌++◌, ◌∷◌, [], All, List, ℕ, length, get_or, take, cond, ap, sym, subst, ◌∙◌, arith}
 use Rattle.std.proofs.lemmas.List.{take_more, length-append, map-append, length-set, append_assoc, get_or_default}
-use Rattle.std.proofs.lemmas.List.Elements.{All-push, All-same}
+use Rattle.std.proofs.lemmas.List.Elements.{All-push}
 use Rattle.fd_language.specs.declared.range_node.Feature.{Feature}
 use Rattle.fd_language.specs.declared.range_node.Feature.TheVariants as feature
 use Rattle.dependency_chains.specs.declared.Link.{Link}
-use Rattle.dependency_chains.specs.Reading.{Reading, read_by}
+use Rattle.dependency_chains.specs.Reading.{read_by}
 use Rattle.dependency_chains.specs.Links.{reading, reads_of, head_of}
 use Rattle.fd_language.specs.Features.{is_same_feature}
 use Rattle.dependency_chains.proofs.Changing.{chains_more}

@@ -1,10 +1,6 @@
-use Rattle.std.proofs.Common.{◌≡◌, ◌<◌, ◌≤◌, ◌+◌, ◌-◌, ◌++◌, ◌∷◌, [], ℕ, List, cond, length, get_or, take, ap, sym, refl, ◌∙◌, subst, arith}
+use Rattle.std.proofs.Common.{◌≡◌, ◌+◌, ◌-◌, ◌++◌, ◌∷◌, [], length, get_or, ap, sym, ◌∙◌, arith}
 use Rattle.std.proofs.lemmas.Bool.{eqb-false}
-use Rattle.std.proofs.lemmas.List.{length-set, get_or_default}
-use Rattle.fd_language.specs.Features.{is_same_feature}
-use Rattle.dependency_chains.specs.declared.Link.{Link}
-use Rattle.dependency_chains.specs.declared.Heads.{Heads}
-use Rattle.dependency_chains.specs.Links.{AreChains, head_of}
+use Rattle.std.proofs.lemmas.List.{length-set}
 use Rattle.dependency_chains.proofs.Changing.{chains_less, filter_less, all_stay, last_apart}
 use Rattle.dependency_chains.proofs.cut_links.Goals as goal
 

@@ -1,5 +1,5 @@
 use Rattle.std.proofs.Common.{arith}
-use Rattle.domain_trail.proofs.Sifting.{sifting_out, sifting_in, sifting_done}
+use Rattle.domain_trail.proofs.Sifting.{sifting_out, sifting_in}
 use Rattle.domain_trail.proofs.forget.Goals.{then-index-stamp, else-index-stamp}
 use Rattle.domain_trail.proofs.forget.Goals as goal
 

@@ -1,11 +1,11 @@
-use Rattle.std.proofs.Common.{◌≡◌, ◌<◌, ◌≤◌, ℕ, Bool, true, false, cond, ◌++◌, ◌&&◌, ◌==◌, List, ap, sym, subst, ◌∙◌, length, arith, refl, get_or}
+use Rattle.std.proofs.Common.{◌≡◌, ◌<◌, cond, ◌++◌, ◌&&◌, ◌==◌, List, ap, sym, subst, ◌∙◌, length, arith}
 use Rattle.std.specs.List.{list_any}
 use Rattle.fd_language.specs.Family.{has}
 use Rattle.fd_language.specs.declared.range_node.Feature.TheVariants as feature
 use Rattle.dependency_chains.specs.declared.Link.{Link}
 use Rattle.dependency_chains.specs.Reading.{Reading}
 use Rattle.dependency_chains.specs.Waking.{wakes}
-use Rattle.dependency_chains.specs.Links.{AreLinked, latest, agents_from, head_of}
+use Rattle.dependency_chains.specs.Links.{AreLinked, agents_from, head_of}
 use Rattle.dependency_chains.proofs.Chaining.{latest_below}
 use Rattle.dependency_chains.proofs.Telling.{woken_are, gate_within}
 use Rattle.dependency_chains.proofs.Chains.woken.Goals as goal
