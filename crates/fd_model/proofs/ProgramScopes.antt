@@ -174,9 +174,14 @@ query_scoped : (names : List Name) (form : Form) (later : List Query) → IsForm
 query_scoped names (query b) later h g = ((shown_below (length names) 0 names (omega arith), goals_scoped (length names) (goals_of b) (goals_below (length names) b h)), g)
 query_scoped names _ later h g = g
 
-queries_scoped : (ss : List Sentence) → Each (λ s. (x : ℕ) → has (variables_of (plain s.term)) x ≡ true → x < length s.names) ss → QueriesScoped (queries_of ss)
+-- each query names no variable beyond those of its sentence
+pub queries_scoped : (ss : List Sentence) → Each (λ s. TermBelow (length s.names) (plain s.term)) ss → QueriesScoped (queries_of ss)
 queries_scoped [] h = tt
-queries_scoped (s ∷ ss) h = query_scoped s.names (form_of s.term) (queries_of ss) (form_below (length s.names) s.term (term_below (length s.names) (plain s.term) h.0)) (queries_scoped ss h.1)
+queries_scoped (s ∷ ss) h = query_scoped s.names (form_of s.term) (queries_of ss) (form_below (length s.names) s.term h.0) (queries_scoped ss h.1)
+
+terms_below_names : (ss : List Sentence) → Each (λ s. (x : ℕ) → has (variables_of (plain s.term)) x ≡ true → x < length s.names) ss → Each (λ s. TermBelow (length s.names) (plain s.term)) ss
+terms_below_names [] h = tt
+terms_below_names (s ∷ ss) h = (term_below (length s.names) (plain s.term) h.0, terms_below_names ss h.1)
 
 accepted_scoped : (ss : List Sentence) (o : Option Refusal) (prog : Program) → accepted prog ≡ sentences_verdict ss o → IsScoped (program_of ss) → IsScoped prog
 accepted_scoped ss None prog e h = let k : program_of ss ≡ prog = cc in subst IsScoped k h
@@ -184,7 +189,7 @@ accepted_scoped ss (Some r) prog e h = absurd (cc)
 
 read_scoped : (M : ℕ) (text : List ℕ) (prog : Program) (r : reading.Reading) → reading.IsReading text r → accepted prog ≡ reading_verdict M r → IsScoped prog
 read_scoped M text prog (sentences ss) h e =
-    accepted_scoped ss (first_refusal M (map (λ s. s.term) ss) (map (λ s. s.term) ss)) prog e (record { clauses = tt; queries = queries_scoped ss (each_below text ss h) })
+    accepted_scoped ss (first_refusal M (map (λ s. s.term) ss) (map (λ s. s.term) ss)) prog e (record { clauses = tt; queries = queries_scoped ss (terms_below_names ss (each_below text ss h)) })
 read_scoped _ text prog _ h e = absurd (cc)
 
 not_accepted : (p : ℕ) (reason : List ℕ) (prog : Program) → accepted prog ≡ refused p reason → ⊥
