@@ -1,6 +1,6 @@
 -- The direction table asks the same of a range under other variables.
 use Rattle.std.proofs.Common.{◌≡◌, ℕ, Bool, true, false, cond, ◌||◌, ◌&&◌, not, ℤ, pos, int_le, [], refl, ap, ◌∙◌}
-use Rattle.fd_language.specs.Range.{Range, Span, One, Dom, Union, Inter, Outside, Plus, Minus, Times, Over, Expr, Number, Infinity, Param, Min, Max, Val, Add, Sub, Mul, DivDown, DivUp}
+use Rattle.fd_language.specs.Range.{Range, Span, One, Dom, Union, Inter, Outside, Plus, Minus, Times, Over, Expr, Param, Add, Sub, Mul, DivDown, DivUp}
 use Rattle.fd_language.specs.Needs.{is_literal}
 use Rattle.fd_language.specs.Check.{Wish, Rising, Falling, Constant, turn, literal_value, by_sign, is_parameter, is_natural, quotient_fits, expr_fits, range_fits}
 use Rattle.fd_language.specs.RangeRenaming.{rename_expr, rename_range}

@@ -1,11 +1,11 @@
 -- An accepted range is monotone.
-use Rattle.std.proofs.Common.{◌≡◌, ℕ, suc, ◌≤◌, Bool, true, false, cond, not, ◌||◌, ◌&&◌, ◌==◌, ℤ, pos, ◌+ℤ◌, ◌-ℤ◌, ◌*ℤ◌, ◌≤ℤ◌, int_le, List, [], ◌∷◌, ◌++◌, refl, sym, ◌∙◌, subst, inl, inr, arith, eqb-true, eq-eqb}
+use Rattle.std.proofs.Common.{◌≡◌, ℕ, suc, ◌≤◌, Bool, true, false, cond, not, ◌||◌, ◌&&◌, ◌==◌, ℤ, pos, ◌+ℤ◌, ◌-ℤ◌, ◌*ℤ◌, ◌≤ℤ◌, int_le, List, [], ◌∷◌, refl, sym, ◌∙◌, subst, inl, inr, arith, eqb-true, eq-eqb}
 use Rattle.std.proofs.lemmas.Int.{ints}
 use Rattle.std.proofs.lemmas.Bool.{true≢false, or_left, or_right, or_cases, or_from, and_parts}
 use Rattle.std.specs.List.{list_any}
 use Rattle.std.specs.Ordering.{int_eq}
 use Rattle.fd_language.specs.Family.{Family, has, IsSubset, IsRising, IsFamily, IsInside, universe}
-use Rattle.fd_language.specs.Range.{Expr, Number, Infinity, Param, Min, Max, Val, Add, Sub, Mul, DivDown, DivUp, value, least, greatest, Range, Span, One, Dom, Union, Inter, Outside, Plus, Minus, Times, Over, in_range, in_set, some_number, Leaf, Role, a_parameter, a_min, a_max, a_val, a_dom, expr_leaves, leaves, read_by, read_at, val_by, val_at, reads, vals, is_none_left, is_several}
+use Rattle.fd_language.specs.Range.{Expr, Number, Infinity, Param, Add, Sub, Mul, value, least, greatest, Range, Span, One, Dom, Union, Inter, Outside, Plus, Minus, Times, Over, in_range, in_set, some_number, Leaf, Role, a_parameter, a_min, a_max, a_val, a_dom, expr_leaves, leaves, read_by, read_at, val_by, val_at, reads, vals, is_none_left, is_several}
 use Rattle.fd_language.specs.Needs.{is_literal}
 use Rattle.fd_language.specs.Check.{Rising, Falling, Constant, literal_value, is_parameter, expr_fits, range_fits, fill, fill_range}
 use Rattle.fd_language.proofs.Meeting.{expr_meets, range_meets, over_meets, needs_met}

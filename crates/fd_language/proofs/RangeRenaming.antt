@@ -1,15 +1,15 @@
 -- The set of a range under other variables: it depends only on the sets of the variables that the range reads.
-use Rattle.std.proofs.Common.{◌≡◌, ℕ, Bool, true, false, cond, ◌==◌, ◌||◌, ◌&&◌, not, pos, ◌+ℤ◌, ◌-ℤ◌, ◌*ℤ◌, int_le, List, [], ◌∷◌, ◌++◌, map, refl, ap, sym, ◌∙◌, subst, inl, inr, eq-eqb}
+use Rattle.std.proofs.Common.{◌≡◌, ℕ, Bool, true, false, cond, ◌==◌, ◌||◌, ◌&&◌, not, pos, ◌+ℤ◌, ◌-ℤ◌, ◌*ℤ◌, int_le, List, [], ◌∷◌, ◌++◌, map, refl, ap, sym, ◌∙◌, subst, eq-eqb}
 use Rattle.std.specs.List.{list_any}
 use Rattle.std.specs.Ordering.{int_eq}
-use Rattle.std.proofs.lemmas.Bool.{or_left, or_right, true≢false}
+use Rattle.std.proofs.lemmas.Bool.{or_left, or_right}
 use Rattle.std.proofs.lemmas.List.Elements.{filter_agree}
 use Rattle.std.specs.Prelude.{flat_map}
 use Rattle.std.proofs.lemmas.List.{map-append}
 use mathlib.Core.Path.{fun_ext}
 use Rattle.fd_language.specs.Family.{Family, has, universe, IsSubset}
 use Rattle.fd_language.specs.Monotonicity.{IsMonotone}
-use Rattle.fd_language.specs.Range.{Range, Span, One, Dom, Union, Inter, Outside, Plus, Minus, Times, Over, Expr, Number, Infinity, Param, Min, Max, Val, Add, Sub, Mul, DivDown, DivUp, Leaf, Role, leaf, a_parameter, a_val, from_range, leaves, read_by, read_at, val_by, val_at, value, in_range, in_set, set_of, reads, expr_reads, vals, expr_vals, some_number, is_none_left, is_several, least, greatest, div_down, div_up}
+use Rattle.fd_language.specs.Range.{Range, Span, One, Dom, Union, Inter, Outside, Plus, Minus, Times, Over, Expr, Min, Max, Val, Add, Sub, Mul, DivDown, DivUp, Leaf, Role, leaf, a_parameter, a_val, from_range, leaves, read_by, read_at, val_by, val_at, value, in_range, in_set, set_of, reads, expr_reads, vals, some_number, is_none_left, is_several, least, greatest, div_down, div_up}
 use Rattle.fd_language.proofs.Sets.{in_left, in_right, alone_in}
 use Rattle.fd_language.proofs.Leaves.{range_leaves, renamed_leaves, renamed_as_is, vals_read}
 pub use Rattle.fd_language.proofs.Leaves.{two}

@@ -1,5 +1,5 @@
 -- No variable has two uses exactly where the nodes show no clash.
-use Rattle.std.proofs.Common.{◌≡◌, ℕ, suc, Bool, true, false, cond, not, ◌&&◌, ◌==◌, List, [], ◌∷◌, ◌++◌, refl, sym, ◌∙◌, ap, subst, inl, inr, ◌⊎◌, eqb-true, eq-eqb}
+use Rattle.std.proofs.Common.{◌≡◌, ℕ, suc, Bool, true, false, cond, not, ◌&&◌, ◌==◌, List, [], ◌∷◌, ◌++◌, refl, sym, ◌∙◌, subst, inl, inr, eqb-true, eq-eqb}
 use Rattle.std.proofs.lemmas.Bool.{true≢false, or_left, or_right, or_cases}
 use Rattle.std.specs.List.{list_all}
 use Rattle.fd_language.specs.declared.range_node.RangeNode.{RangeNode}

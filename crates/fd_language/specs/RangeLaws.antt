@@ -1,6 +1,6 @@
 -- The leaves of a range tell all that is collected of it.
 use Rattle.std.specs.Prelude.{◌≡◌, length, flat_map, filter_map}
-use Rattle.fd_language.specs.Range.{Range, Leaf, leaves, leaf_of, reads, read_at, vals, val_at, params, param_at}
+use Rattle.fd_language.specs.Range.{Range, leaves, leaf_of, reads, read_at, vals, val_at, params, param_at}
 use Rattle.fd_language.specs.Places.{range_places, place_at}
 use Rattle.fd_language.specs.Features.{range_features, feature_at, node_features}
 use Rattle.fd_language.specs.Flat.{nodes_of}

@@ -7,7 +7,7 @@ use Rattle.std.proofs.lemmas.Int.{ints}
 use Rattle.std.proofs.Math.IntN.{*ℤ_comm}
 use Rattle.fd_model.specs.declared.kinds.QueryFault.{QueryFault}
 use Rattle.fd_model.specs.declared.kinds.QueryFault.TheVariants.{BadType}
-use Rattle.fd_language.specs.Term.{Term, Var, Int, Atom, Comp, no_terms, term}
+use Rattle.fd_language.specs.Term.{Term, Var, Int, Comp, no_terms, term}
 use Rattle.fd_model.specs.Linear.{Sum, scaled, nonzero, plus, times, is_constant, is_within, checked, of_both, of_one, sum_of, difference_of, product_of, collect_term, Linear, linear_of, collect}
 use Rattle.fd_model.specs.Satisfies.{Assignment, worth}
 use Rattle.fd_model.specs.ConstraintLaws.{total, CollectedSum}

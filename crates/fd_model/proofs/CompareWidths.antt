@@ -3,7 +3,7 @@ use Rattle.std.proofs.Common.{◌≡◌, ℕ, suc, ◌+◌, ◌*◌, ◌^◌, �
 use Rattle.std.specs.List.{list_all}
 use Rattle.std.specs.Ordering.{int_eq}
 use Rattle.fd_model.specs.declared.kinds.Relation.{Relation}
-use Rattle.fd_model.specs.declared.kinds.Relation.TheVariants.{Equal, Differ, Less, AtMost, Greater, AtLeast}
+use Rattle.fd_model.specs.declared.kinds.Relation.TheVariants.{Greater, AtLeast}
 use Rattle.fd_language.specs.Term.{Term}
 use Rattle.fd_model.specs.Closed.{AllPosted}
 use Rattle.fd_language.specs.Range.{Indexical}

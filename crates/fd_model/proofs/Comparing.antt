@@ -1,9 +1,9 @@
 -- The comparisons and their rows.
 use Rattle.std.proofs.Common.{◌≡◌, ℕ, suc, ◌≤◌, ◌<◌, Bool, true, false, cond, ℤ, pos, neg_ℤ, List, [], ◌∷◌, refl, ap, sym, subst, Ok}
 use Rattle.fd_model.specs.declared.kinds.Relation.{Relation}
-use Rattle.fd_model.specs.declared.kinds.Relation.TheVariants.{Equal, Differ, Less, AtMost, Greater, AtLeast}
+use Rattle.fd_model.specs.declared.kinds.Relation.TheVariants.{Greater, AtLeast}
 use Rattle.fd_model.specs.declared.kinds.ConstraintKind.TheVariants.{Compare}
-use Rattle.fd_language.specs.Term.{Term, Var, Int, Atom, Comp, no_terms, term}
+use Rattle.fd_language.specs.Term.{Term, Var, Comp, no_terms, term}
 use Rattle.fd_language.specs.Variables.{TermBelow}
 use Rattle.fd_language.specs.Range.{Indexical}
 use Rattle.fd_model.specs.Linear.{nonzero, Comparison, comparison, Linear, linear_of, of_one, of_both, difference_of, collect_term, collect, normal, normal_form}

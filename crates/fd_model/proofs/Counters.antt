@@ -5,7 +5,7 @@ use Rattle.std.proofs.Math.IntN.{zero-*ℤ}
 use Rattle.std.proofs.lemmas.Int.{ints}
 use Rattle.std.proofs.lemmas.Bool.{cases_Bool}
 use Rattle.fd_language.specs.Family.{has}
-use Rattle.fd_language.specs.Term.{Term, Var, Int, Atom, Comp, no_terms, term}
+use Rattle.fd_language.specs.Term.{Term, Int, no_terms, term}
 use Rattle.fd_language.specs.Variables.{TermBelow}
 use Rattle.fd_model.specs.declared.kinds.ConstraintKind.TheVariants.{Atmost}
 use Rattle.fd_language.specs.Range.{Union, set_of}

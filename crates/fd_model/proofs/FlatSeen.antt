@@ -5,7 +5,7 @@ use Rattle.std.specs.Str.{bytes_eq}
 use Rattle.std.specs.Prelude.{codes}
 use Rattle.fd_language.specs.Variables.{variables_of}
 use Rattle.fd_language.specs.Range.{is_none_left}
-use Rattle.fd_language.specs.Term.{Term, Var, Int, Atom, Comp, no_terms, term, apply}
+use Rattle.fd_language.specs.Term.{Term, Var, Int, Comp, no_terms, term, apply}
 use Rattle.fd_model.specs.FlatConstraints.{width, is_narrow, is_ground, is_operator, is_flat, SeesNumbers, IsSeenFlat, FlatSeen}
 
 narrower_too : (m n : ℕ) → m ≤ n → is_narrow n ≡ true → is_narrow m ≡ true

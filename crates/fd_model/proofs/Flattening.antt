@@ -2,7 +2,7 @@
 use Rattle.std.proofs.Common.{◌≡◌, ℕ, ◌<◌, ◌≤◌, true, cond, ◌==◌, ℤ, pos, List, [], ◌∷◌, ◌++◌, Option, ◌⊎◌, refl, ap, sym, ◌∙◌, subst, inl, inr, arith, ltb, lt-ltb, le-ltb, eqb-true, eq-eqb, Ok}
 use Rattle.std.proofs.lemmas.Bool.{cases_Bool}
 use Rattle.fd_model.specs.declared.kinds.Order.{Order}
-use Rattle.fd_language.specs.Term.{Term, Terms, Var, Int, Atom, Comp, Substitution, apply, apply_all, no_terms, term}
+use Rattle.fd_language.specs.Term.{Term, Terms, Var, Int, Comp, Substitution, apply, apply_all, no_terms, term}
 use Rattle.fd_language.specs.Unifier.{Equation, Unifies}
 use Rattle.fd_language.specs.Family.{Family, has}
 use Rattle.fd_model.specs.Closed.{constrained}

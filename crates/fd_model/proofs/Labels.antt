@@ -1,5 +1,5 @@
 -- The branches of a labelling: each leaf shows its only solution, and the children of a branch part its solutions.
-use Rattle.std.proofs.Common.{◌≡◌, ℕ, ◌<◌, ◌≤◌, true, false, cond, ◌==◌, ℤ, pos, negsuc, IsTrue, List, [], ◌∷◌, ◌++◌, map, Option, Some, None, ◌⊎◌, refl, ap, sym, ◌∙◌, subst, inl, inr, arith, eqb-true, eq-eqb, Result, Err, Ok}
+use Rattle.std.proofs.Common.{◌≡◌, ℕ, ◌<◌, ◌≤◌, true, false, cond, ◌==◌, ℤ, pos, IsTrue, List, [], ◌∷◌, ◌++◌, map, Option, Some, None, ◌⊎◌, refl, ap, sym, ◌∙◌, subst, inl, inr, arith, eqb-true, eq-eqb, Result, Err, Ok}
 use Rattle.std.proofs.lemmas.Bool.{or_cases, or_right, cases_Bool, true≢false}
 use Rattle.fd_model.specs.declared.kinds.QueryFault.{QueryFault}
 use Rattle.fd_model.specs.declared.kinds.Order.{Order}

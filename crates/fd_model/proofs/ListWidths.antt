@@ -5,7 +5,7 @@ use Rattle.std.specs.Str.{bytes_eq}
 use Rattle.std.specs.Prelude.{codes}
 use Rattle.fd_model.specs.declared.kinds.ConstraintKind.{ConstraintKind}
 use Rattle.fd_model.specs.declared.kinds.ConstraintKind.TheVariants.{Compare, AllDifferent, Element, Atmost}
-use Rattle.fd_language.specs.Term.{Term, Terms, Var, Int, Atom, Comp, no_terms, term}
+use Rattle.fd_language.specs.Term.{Term, Terms, Int, Atom, Comp, no_terms, term}
 use Rattle.fd_language.specs.Range.{Range, Union, Indexical}
 use Rattle.fd_model.specs.Closed.{AllPosted}
 use Rattle.fd_language.specs.RangeVerdict.{over_limit, factor_over_limit, range_within, is_accepted}

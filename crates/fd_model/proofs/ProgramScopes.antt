@@ -4,7 +4,7 @@ use Rattle.std.proofs.lemmas.Bool.{or_left}
 use Rattle.std.specs.Str.{bytes_eq}
 use Rattle.std.specs.Prelude.{codes}
 use Rattle.fd_language.specs.Term.{Name, Term, Terms, Var, Int, Atom, Comp, no_terms, term}
-use Rattle.fd_language.specs.PlacedTerm.{PlacedTerm, var, int, atom, comp, no_parts, part, plain}
+use Rattle.fd_language.specs.PlacedTerm.{PlacedTerm, var, atom, comp, no_parts, part, plain}
 use Rattle.fd_language.specs.Family.{has}
 use Rattle.fd_language.specs.Range.{Range, One, Outside, Over, Expr, Infinity, Val, DivUp}
 use Rattle.fd_language.specs.Places.{expr_places, range_places}

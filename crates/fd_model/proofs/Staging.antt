@@ -1,8 +1,8 @@
 -- The branches of a flat query before its labelling: each constraint in turn is written as ranges.
-use Rattle.std.proofs.Common.{◌≡◌, ℕ, ◌<◌, ◌≤◌, true, false, cond, ltb, pos, IsTrue, List, [], ◌∷◌, ◌++◌, map, Option, Some, None, ◌⊎◌, refl, ap, sym, ◌∙◌, subst, inl, inr, arith, ltb-true, ltb-false, lt-ltb, le-ltb}
+use Rattle.std.proofs.Common.{◌≡◌, ℕ, ◌<◌, ◌≤◌, true, false, cond, ltb, pos, IsTrue, List, [], ◌∷◌, ◌++◌, map, Option, Some, ◌⊎◌, refl, ap, sym, ◌∙◌, subst, inl, inr, arith, ltb-true, ltb-false, lt-ltb, le-ltb}
 use Rattle.std.proofs.lemmas.Bool.{cases_Bool}
 use Rattle.fd_model.specs.declared.kinds.Order.{Order}
-use Rattle.fd_language.specs.Term.{Term, Var, Int, Atom, Comp, Substitution, apply}
+use Rattle.fd_language.specs.Term.{Term, Var, Int, Substitution, apply}
 use Rattle.fd_language.specs.Unifier.{Equation, Unifies}
 use Rattle.fd_language.specs.Family.{Family, has}
 use Rattle.fd_language.specs.Range.{Indexical, set_of}

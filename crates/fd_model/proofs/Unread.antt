@@ -1,14 +1,14 @@
 -- A change of a set that a range doesn't read leaves the range's set.
-use Rattle.std.proofs.Common.{◌≡◌, ℕ, zero, suc, ◌+◌, ◌<◌, ◌≤◌, Bool, true, false, cond, ◌||◌, ◌&&◌, not, ◌==◌, List, [], ◌∷◌, ◌++◌, map, filter, length, refl, ap, sym, ◌∙◌, subst, inl, inr, ◌⊎◌, arith, eqb-true, eq-eqb, pos, ℤ, ◌+ℤ◌, ◌-ℤ◌, ◌*ℤ◌}
+use Rattle.std.proofs.Common.{◌≡◌, ℕ, ◌≤◌, Bool, true, false, cond, ◌||◌, ◌&&◌, not, ◌==◌, List, [], ◌∷◌, ◌++◌, filter, length, refl, ap, sym, ◌∙◌, subst, inl, inr, arith, eqb-true, eq-eqb, pos, ℤ, ◌+ℤ◌, ◌-ℤ◌, ◌*ℤ◌}
 use Rattle.std.proofs.lemmas.Bool.{or_cases, or_left, or_right, cases_Bool, eqb-false, true≢false}
 use mathlib.Core.Path.{fun_ext}
 use Rattle.std.specs.List.{list_any}
 use Rattle.std.specs.Ordering.{int_eq}
 use Rattle.fd_language.specs.declared.range_node.Feature.{Feature}
 use Rattle.fd_language.specs.declared.range_node.Feature.TheVariants as feature
-use Rattle.fd_language.specs.Family.{Family, has, IsSubset, universe}
+use Rattle.fd_language.specs.Family.{Family, has, universe}
 use Rattle.fd_language.specs.Features.{expr_features, range_features}
-use Rattle.fd_language.specs.Range.{Range, Span, One, Dom, Union, Inter, Outside, Plus, Minus, Times, Over, Expr, Number, Infinity, Param, Min, Max, Val, Add, Sub, Mul, DivDown, DivUp, least, greatest, some_number, value, in_range, in_set, set_of, reads, expr_reads, vals, expr_vals, is_none_left, is_several}
+use Rattle.fd_language.specs.Range.{Range, Span, One, Dom, Union, Inter, Outside, Plus, Minus, Times, Over, Expr, Number, Infinity, Param, Min, Max, Val, Add, Sub, Mul, DivDown, DivUp, least, greatest, some_number, value, in_range, set_of, reads, vals, expr_vals, is_none_left, is_several}
 use Rattle.fd_model.specs.Changes.{is_changed, sees_change}
 
 abbrev pub Each : (ℕ × Feature → Type 0) → List (ℕ × Feature) → Type 0
