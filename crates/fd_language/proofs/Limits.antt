@@ -80,17 +80,13 @@ greatest_small low M (x ∷ y ∷ ys) r = greatest_small (suc x) M (y ∷ ys) r.
 
 -- the parameters are small
 abbrev SmallParams : (ℕ → ℤ) → Expr → Type 0
-SmallParams p (Number z) = Unit {0}
-SmallParams p Infinity = Unit {0}
 SmallParams p (Param x) = nat_abs (p x) ≤ 2 ^ 63 - 1
-SmallParams p (Min y) = Unit {0}
-SmallParams p (Max y) = Unit {0}
-SmallParams p (Val y) = Unit {0}
 SmallParams p (Add a b) = SmallParams p a × SmallParams p b
 SmallParams p (Sub a b) = SmallParams p a × SmallParams p b
 SmallParams p (Mul a b) = SmallParams p a × SmallParams p b
 SmallParams p (DivDown a b) = SmallParams p a × SmallParams p b
 SmallParams p (DivUp a b) = SmallParams p a × SmallParams p b
+SmallParams p e = Unit {0}
 
 abbrev AllSmall : (ℕ → ℤ) → Range → Type 0
 AllSmall p (Span a b) = SmallParams p a × SmallParams p b

@@ -23,17 +23,13 @@ divisor_meets p (Param x) plain others = int_le (pos 1) (p x) && plain
 divisor_meets p b plain others = if is_literal b then plain else others
 
 abbrev pub expr_meets : (ℕ → ℤ) → Expr → Bool → Bool
-expr_meets p (Number z) n = true
-expr_meets p Infinity n = true
 expr_meets p (Param x) n = by_natural n (p x)
-expr_meets p (Min y) n = true
-expr_meets p (Max y) n = true
-expr_meets p (Val y) n = true
 expr_meets p (Add a b) n = expr_meets p a n && expr_meets p b n
 expr_meets p (Sub a b) n = expr_meets p a n && expr_meets p b n
 expr_meets p (Mul a b) n = if is_literal a || is_literal b then expr_meets p a n && expr_meets p b n else expr_meets p a true && expr_meets p b true
 expr_meets p (DivDown a b) n = divisor_meets p b (expr_meets p a n) (expr_meets p a true && expr_meets p b true)
 expr_meets p (DivUp a b) n = divisor_meets p b (expr_meets p a n) (expr_meets p a true && expr_meets p b true)
+expr_meets p e n = true
 
 abbrev pub over_meets : (ℕ → ℤ) → Expr → Bool
 over_meets p (Param x) = int_le (pos 1) (p x)

@@ -35,16 +35,12 @@ is_parameter _ = false
 -- no difference outside literals, and no literal below 0
 abbrev pub is_natural : ℕ → Expr → Bool
 is_natural M (Number z) = int_le (pos 0) z
-is_natural M Infinity = true
-is_natural M (Param x) = true
-is_natural M (Min y) = true
-is_natural M (Max y) = true
-is_natural M (Val y) = true
 is_natural M (Add a b) = if is_literal a && is_literal b then int_le (pos 0) (literal_value M (Add a b)) else is_natural M a && is_natural M b
 is_natural M (Sub a b) = if is_literal a && is_literal b then int_le (pos 0) (literal_value M (Sub a b)) else false
 is_natural M (Mul a b) = if is_literal a && is_literal b then int_le (pos 0) (literal_value M (Mul a b)) else is_natural M a && is_natural M b
 is_natural M (DivDown a b) = is_natural M a && is_natural M b
 is_natural M (DivUp a b) = is_natural M a && is_natural M b
+is_natural M e = true
 
 -- a quotient: by a literal, by a parameter alone, and by another term
 abbrev pub quotient_fits : ℕ → Expr → Bool → Bool → Bool → Bool
@@ -53,12 +49,8 @@ quotient_fits M b plain turned natural =
     if is_parameter b then plain else natural && (plain && turned)
 
 abbrev pub expr_fits : ℕ → Expr → Wish → Bool
-expr_fits M (Number z) w = true
-expr_fits M Infinity w = true
-expr_fits M (Param x) w = true
 expr_fits M (Min y) w = is_rising w
 expr_fits M (Max y) w = is_falling w
-expr_fits M (Val y) w = true
 expr_fits M (Add a b) w = expr_fits M a w && expr_fits M b w
 expr_fits M (Sub a b) w = expr_fits M a w && expr_fits M b (turn w)
 expr_fits M (Mul a b) w =
@@ -67,6 +59,7 @@ expr_fits M (Mul a b) w =
     (is_natural M a && is_natural M b) && (expr_fits M a w && expr_fits M b w)
 expr_fits M (DivDown a b) w = quotient_fits M b (expr_fits M a w) (expr_fits M b (turn w)) (is_natural M a && is_natural M b)
 expr_fits M (DivUp a b) w = quotient_fits M b (expr_fits M a w) (expr_fits M b (turn w)) (is_natural M a && is_natural M b)
+expr_fits M e w = true
 
 -- shrinking at true, growing at false
 abbrev pub range_fits : ℕ → Range → Bool → Bool

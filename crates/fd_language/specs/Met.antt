@@ -5,17 +5,12 @@ use Rattle.fd_language.specs.Range.{Range, Span, One, Dom, Union, Inter, Outside
 
 -- the values of all subterms
 abbrev pub expr_values : ℕ → Family → Expr → List ℤ
-expr_values M S (Number z) = value M S (Number z) ∷ []
-expr_values M S Infinity = value M S Infinity ∷ []
-expr_values M S (Param x) = value M S (Param x) ∷ []
-expr_values M S (Min y) = value M S (Min y) ∷ []
-expr_values M S (Max y) = value M S (Max y) ∷ []
-expr_values M S (Val y) = value M S (Val y) ∷ []
 expr_values M S (Add a b) = value M S (Add a b) ∷ (expr_values M S a ++ expr_values M S b)
 expr_values M S (Sub a b) = value M S (Sub a b) ∷ (expr_values M S a ++ expr_values M S b)
 expr_values M S (Mul a b) = value M S (Mul a b) ∷ (expr_values M S a ++ expr_values M S b)
 expr_values M S (DivDown a b) = value M S (DivDown a b) ∷ (expr_values M S a ++ expr_values M S b)
 expr_values M S (DivUp a b) = value M S (DivUp a b) ∷ (expr_values M S a ++ expr_values M S b)
+expr_values M S e = value M S e ∷ []
 
 -- Those of all terms, and in the pointwise forms what each number of U gives with c.
 abbrev pub range_values : ℕ → Family → Range → List ℤ
@@ -32,17 +27,12 @@ range_values M S (Over r c) = range_values M S r ++ (expr_values M S c ++ map (�
 
 -- the values of the divisors
 abbrev pub expr_divisors : ℕ → Family → Expr → List ℤ
-expr_divisors M S (Number z) = []
-expr_divisors M S Infinity = []
-expr_divisors M S (Param x) = []
-expr_divisors M S (Min y) = []
-expr_divisors M S (Max y) = []
-expr_divisors M S (Val y) = []
 expr_divisors M S (Add a b) = expr_divisors M S a ++ expr_divisors M S b
 expr_divisors M S (Sub a b) = expr_divisors M S a ++ expr_divisors M S b
 expr_divisors M S (Mul a b) = expr_divisors M S a ++ expr_divisors M S b
 expr_divisors M S (DivDown a b) = value M S b ∷ (expr_divisors M S a ++ expr_divisors M S b)
 expr_divisors M S (DivUp a b) = value M S b ∷ (expr_divisors M S a ++ expr_divisors M S b)
+expr_divisors M S e = []
 
 abbrev pub range_divisors : ℕ → Family → Range → List ℤ
 range_divisors M S (Span a b) = expr_divisors M S a ++ expr_divisors M S b

@@ -15,15 +15,10 @@ meets Divisor z = nat_lt (nat_abs z) (2 ^ 63) && int_le (pos 1) z
 abbrev pub is_literal : Expr → Bool
 is_literal (Number z) = true
 is_literal Infinity = true
-is_literal (Param x) = false
-is_literal (Min y) = false
-is_literal (Max y) = false
-is_literal (Val y) = false
 is_literal (Add a b) = is_literal a && is_literal b
 is_literal (Sub a b) = is_literal a && is_literal b
 is_literal (Mul a b) = is_literal a && is_literal b
-is_literal (DivDown a b) = false
-is_literal (DivUp a b) = false
+is_literal e = false
 
 -- the need of a parameter inside a natural term, and outside
 abbrev pub by_place : Bool → Need
@@ -36,18 +31,14 @@ quotient_asks (Param x) plain left right = plain ++ (x, Divisor) ∷ []
 quotient_asks b plain left right = if is_literal b then plain else left ++ right
 
 abbrev pub expr_asks : Expr → Bool → List (ℕ × Need)
-expr_asks (Number z) natural = []
-expr_asks Infinity natural = []
 expr_asks (Param x) natural = (x, by_place natural) ∷ []
-expr_asks (Min y) natural = []
-expr_asks (Max y) natural = []
-expr_asks (Val y) natural = []
 expr_asks (Add a b) natural = expr_asks a natural ++ expr_asks b natural
 expr_asks (Sub a b) natural = expr_asks a natural ++ expr_asks b natural
 expr_asks (Mul a b) natural =
     if is_literal a || is_literal b then expr_asks a natural ++ expr_asks b natural else expr_asks a true ++ expr_asks b true
 expr_asks (DivDown a b) natural = quotient_asks b (expr_asks a natural) (expr_asks a true) (expr_asks b true)
 expr_asks (DivUp a b) natural = quotient_asks b (expr_asks a natural) (expr_asks a true) (expr_asks b true)
+expr_asks e natural = []
 
 abbrev pub over_asks : Expr → List (ℕ × Need)
 over_asks (Param x) = (x, Divisor) ∷ []

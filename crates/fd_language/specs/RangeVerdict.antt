@@ -47,17 +47,12 @@ where_too_wide false place = []
 
 -- The nodes over the limit, in the term whose node has the number n. The place of a node is at its number.
 abbrev pub wide_in_expr : ℕ → (ℕ → ℕ) → ℕ → Expr → List Offence
-wide_in_expr M at n (Number z) = where_too_wide (over_limit (bound M (Number z))) (at n)
-wide_in_expr M at n Infinity = where_too_wide (over_limit (bound M Infinity)) (at n)
-wide_in_expr M at n (Param x) = where_too_wide (over_limit (bound M (Param x))) (at n)
-wide_in_expr M at n (Min y) = where_too_wide (over_limit (bound M (Min y))) (at n)
-wide_in_expr M at n (Max y) = where_too_wide (over_limit (bound M (Max y))) (at n)
-wide_in_expr M at n (Val y) = where_too_wide (over_limit (bound M (Val y))) (at n)
 wide_in_expr M at n (Add a b) = wide_in_expr M at (n - 1 - expr_size b) a ++ wide_in_expr M at (n - 1) b ++ where_too_wide (over_limit (bound M (Add a b))) (at n)
 wide_in_expr M at n (Sub a b) = wide_in_expr M at (n - 1 - expr_size b) a ++ wide_in_expr M at (n - 1) b ++ where_too_wide (over_limit (bound M (Sub a b))) (at n)
 wide_in_expr M at n (Mul a b) = wide_in_expr M at (n - 1 - expr_size b) a ++ wide_in_expr M at (n - 1) b ++ where_too_wide (over_limit (bound M (Mul a b))) (at n)
 wide_in_expr M at n (DivDown a b) = wide_in_expr M at (n - 1 - expr_size b) a ++ wide_in_expr M at (n - 1) b ++ where_too_wide (over_limit (bound M (DivDown a b))) (at n)
 wide_in_expr M at n (DivUp a b) = wide_in_expr M at (n - 1 - expr_size b) a ++ wide_in_expr M at (n - 1) b ++ where_too_wide (over_limit (bound M (DivUp a b))) (at n)
+wide_in_expr M at n e = where_too_wide (over_limit (bound M e)) (at n)
 
 abbrev pub wide_in_range : ℕ → (ℕ → ℕ) → ℕ → Range → List Offence
 wide_in_range M at n (Span a b) = wide_in_expr M at (n - 1 - expr_size b) a ++ wide_in_expr M at (n - 1) b
@@ -103,11 +98,8 @@ quotient_offences M place b plain left right =
 -- the offences in the term whose node has the number n, where it is wanted with the wish w, and natural or not
 abbrev pub expr_offences : ℕ → (ℕ → ℕ) → ℕ → Expr → Wish → Bool → List Offence
 expr_offences M at n (Number z) w natural = where_below_zero natural z (at n)
-expr_offences M at n Infinity w natural = []
-expr_offences M at n (Param x) w natural = []
 expr_offences M at n (Min y) w natural = unless_fits (is_rising w) (at n)
 expr_offences M at n (Max y) w natural = unless_fits (is_falling w) (at n)
-expr_offences M at n (Val y) w natural = []
 expr_offences M at n (Add a b) w natural =
     if is_literal a && is_literal b then where_below_zero natural (literal_value M (Add a b)) (at n) else
     expr_offences M at (n - 1 - expr_size b) a w natural ++ expr_offences M at (n - 1) b w natural
@@ -123,6 +115,7 @@ expr_offences M at n (DivDown a b) w natural =
     quotient_offences M (at (n - 1)) b (expr_offences M at (n - 1 - expr_size b) a w natural) (expr_offences M at (n - 1 - expr_size b) a w true) (expr_offences M at (n - 1) b (turn w) true)
 expr_offences M at n (DivUp a b) w natural =
     quotient_offences M (at (n - 1)) b (expr_offences M at (n - 1 - expr_size b) a w natural) (expr_offences M at (n - 1 - expr_size b) a w true) (expr_offences M at (n - 1) b (turn w) true)
+expr_offences M at n e w natural = []
 
 -- those in the range whose node has the number n, wanted shrinking at true, growing at false
 abbrev pub range_offences : ℕ → (ℕ → ℕ) → ℕ → Range → Bool → List Offence
@@ -195,17 +188,12 @@ verdict M places r =
 
 -- The same without places: the range is accepted. Each node keeps the limit,
 abbrev pub expr_within : ℕ → Expr → Bool
-expr_within M (Number z) = not (over_limit (bound M (Number z)))
-expr_within M Infinity = not (over_limit (bound M Infinity))
-expr_within M (Param x) = not (over_limit (bound M (Param x)))
-expr_within M (Min y) = not (over_limit (bound M (Min y)))
-expr_within M (Max y) = not (over_limit (bound M (Max y)))
-expr_within M (Val y) = not (over_limit (bound M (Val y)))
 expr_within M (Add a b) = (expr_within M a && expr_within M b) && not (over_limit (bound M (Add a b)))
 expr_within M (Sub a b) = (expr_within M a && expr_within M b) && not (over_limit (bound M (Sub a b)))
 expr_within M (Mul a b) = (expr_within M a && expr_within M b) && not (over_limit (bound M (Mul a b)))
 expr_within M (DivDown a b) = (expr_within M a && expr_within M b) && not (over_limit (bound M (DivDown a b)))
 expr_within M (DivUp a b) = (expr_within M a && expr_within M b) && not (over_limit (bound M (DivUp a b)))
+expr_within M e = not (over_limit (bound M e))
 
 abbrev pub range_within : ℕ → Range → Bool
 range_within M (Span a b) = expr_within M a && expr_within M b
