@@ -16,9 +16,6 @@ begins_take ts j k le h =
     let split : take j (take k ts) ++ drop j (take k ts) ≡ take k ts = take-append-drop j (take k ts) in
     subst Begins (take-take j k ts le) (begins_front (take j (take k ts)) (drop j (take k ts)) (subst Begins (sym split) h))
 
-text_begins : (ts : List Terminal) (terms : List PlacedTerm) → IsText ts terms → (j : ℕ) → Begins (take j ts)
-text_begins ts terms d j = begins_front (take j ts) (drop j ts) ([], terms, subst (λ (l : List Terminal). IsText l terms) (sym (ap (λ (l : List Terminal). l ++ []) (take-append-drop j ts) ∙ append-nil ts)) d)
-
 -- the texts that are read are no faults
 pub read_no_fault : (ts : List Terminal) (terms : List PlacedTerm) (k : ℕ) → IsRead ts terms → IsSyntaxFault ts k → ⊥
 read_no_fault ts terms k r f = f.whole terms r.text

@@ -66,9 +66,6 @@ module _ (M : ℕ) (vs : List ℕ) (fits : Family → ℕ → ℕ → Bool)
     | inr e ↦ outside S x n e
   ]
 
-  inside_narrowed : (S : Family) → IsInside (narrowed fits S) S
-  inside_narrowed S = record { at = λ x. record { each = λ n h. (has-filter_back (fits S x) (S x) n h).0 } }
-
   find : (k : ℕ) (S : Family) → IsFamily M S → size vs S < k → (D : Family) × IsGreatest M fits S D
   find zero S f h = absurd (omega arith)
   find (suc k) S f h = elim (smaller_or_same fits S vs) [

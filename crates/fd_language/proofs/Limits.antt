@@ -320,6 +320,23 @@ module _ (M : ℕ) (p : ℕ → ℤ) (S : Family) (family : IsFamily M S) where
   dividend a b w (by_constant m d g h e o) = (m, (g, h))
   dividend a b w (by_term i j g h c d) = (true, (g, c))
 
+  quotient_kept : (a b : Expr) (w : Wish) (n : Bool) → quotient_fits M b (expr_fits M a w) (expr_fits M b (turn w)) (is_natural M a && is_natural M b) ≡ true → divisor_meets p b (expr_meets p a n) (expr_meets p a true && expr_meets p b true) ≡ true
+      → ((k : Bool) → expr_fits M a w ≡ true → expr_meets p a k ≡ true → Divides a) → (expr_fits M b (turn w) ≡ true → expr_meets p b true ≡ true → Divides b)
+      → All NotNegative (value M S (fill p b) ∷ (expr_divisors M S (fill p a) ++ expr_divisors M S (fill p b)))
+  quotient_kept a b w n f m left right =
+      let q : Quotient M p a b w = quotient M p a b w n f m in
+      let d = dividend a b w q in
+      let divisor : Divides b = elim (cases_Bool (is_literal b)) [
+        | inl l ↦ literal_divides b l
+        | inr l ↦ elim (cases_Bool (is_parameter b)) [
+          | inl k ↦ parameter_divides b k
+          | inr k ↦ right (turned_fits b (expr_fits M a w) (expr_fits M b (turn w)) (is_natural M a && is_natural M b) l k f)
+              ((and_parts (expr_meets p a true) (expr_meets p b true) (others_meet b (expr_meets p a n) (expr_meets p a true && expr_meets p b true) l k m)).1)
+        ]
+      ] in
+      All-cons NotNegative (value M S (fill p b)) (expr_divisors M S (fill p a) ++ expr_divisors M S (fill p b)) (value_divides a b w q)
+      (two_divide a b (left d.0 d.1.0 d.1.1) divisor)
+
   divisors_kept : (e : Expr) (w : Wish) (n : Bool) → expr_fits M e w ≡ true → expr_meets p e n ≡ true → Divides e
   divisors_kept (Add a b) w n f m = two_divide a b
       (divisors_kept a w n ((and_parts (expr_fits M a w) (expr_fits M b w) f).0) ((and_parts (expr_meets p a n) (expr_meets p b n) m).0))
@@ -341,32 +358,8 @@ module _ (M : ℕ) (p : ℕ → ℤ) (S : Family) (family : IsFamily M S) where
               two_divide a b (da w ((and_parts (expr_fits M a w) (expr_fits M b w) g).0)) (db w ((and_parts (expr_fits M a w) (expr_fits M b w) g).1))
         ]
       ]
-  divisors_kept (DivDown a b) w n f m =
-      let q : Quotient M p a b w = quotient M p a b w n f m in
-      let d = dividend a b w q in
-      let right : Divides b = elim (cases_Bool (is_literal b)) [
-        | inl l ↦ literal_divides b l
-        | inr l ↦ elim (cases_Bool (is_parameter b)) [
-          | inl k ↦ parameter_divides b k
-          | inr k ↦ divisors_kept b (turn w) true (turned_fits b (expr_fits M a w) (expr_fits M b (turn w)) (is_natural M a && is_natural M b) l k f)
-              ((and_parts (expr_meets p a true) (expr_meets p b true) (others_meet b (expr_meets p a n) (expr_meets p a true && expr_meets p b true) l k m)).1)
-        ]
-      ] in
-      All-cons NotNegative (value M S (fill p b)) (expr_divisors M S (fill p a) ++ expr_divisors M S (fill p b)) (value_divides a b w q)
-      (two_divide a b (divisors_kept a w d.0 d.1.0 d.1.1) right)
-  divisors_kept (DivUp a b) w n f m =
-      let q : Quotient M p a b w = quotient M p a b w n f m in
-      let d = dividend a b w q in
-      let right : Divides b = elim (cases_Bool (is_literal b)) [
-        | inl l ↦ literal_divides b l
-        | inr l ↦ elim (cases_Bool (is_parameter b)) [
-          | inl k ↦ parameter_divides b k
-          | inr k ↦ divisors_kept b (turn w) true (turned_fits b (expr_fits M a w) (expr_fits M b (turn w)) (is_natural M a && is_natural M b) l k f)
-              ((and_parts (expr_meets p a true) (expr_meets p b true) (others_meet b (expr_meets p a n) (expr_meets p a true && expr_meets p b true) l k m)).1)
-        ]
-      ] in
-      All-cons NotNegative (value M S (fill p b)) (expr_divisors M S (fill p a) ++ expr_divisors M S (fill p b)) (value_divides a b w q)
-      (two_divide a b (divisors_kept a w d.0 d.1.0 d.1.1) right)
+  divisors_kept (DivDown a b) w n f m = quotient_kept a b w n f m (λ k g h. divisors_kept a w k g h) (λ g h. divisors_kept b (turn w) true g h)
+  divisors_kept (DivUp a b) w n f m = quotient_kept a b w n f m (λ k g h. divisors_kept a w k g h) (λ g h. divisors_kept b (turn w) true g h)
   divisors_kept e w n f m = no_divisor
 
   above_one : (z : ℤ) → int_le (pos 1) z ≡ true → pos 0 ≤ℤ z

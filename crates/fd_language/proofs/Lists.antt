@@ -33,6 +33,3 @@ module _ {X : Type 0} where
   each_either H false xs ys h g = g
 
 -- what each element gives, put together
-pub each_flat : {X Y : Type 0} (H : X → Type 0) (G : Y → Type 0) (f : X → List Y) → ((x : X) → H x → Each G (f x)) → (xs : List X) → Each H xs → Each G (flat_map f xs)
-each_flat H G f g [] h = tt
-each_flat H G f g (x ∷ xs) h = each_both G (f x) (flat_map f xs) (g x h.0) (each_flat H G f g xs h.1)

@@ -373,10 +373,6 @@ covers_simpler vs l r ds es s c y h = c y (elim (or_cases (occurs_in y ds) (occu
   | inr e ↦ or_right (occurs y l || occurs y r) (occurs_in y es) e
 ])
 
-covers_rest : (vs : List ℕ) (e : Equation) (es : List Equation) → Covers vs (e ∷ es) → Covers vs es
-unfolding Covers occurs_in
-covers_rest vs e es c y h = c y (or_right (occurs y e.left || occurs y e.right) (occurs_in y es) h)
-
 covers_one : (vs : List ℕ) (l r : Term) (es : List Equation) (x : ℕ) → Covers vs (record { left = l; right = r } ∷ es) → (occurs x l || occurs x r) ≡ true → has vs x ≡ true
 unfolding Covers occurs_in
 covers_one vs l r es x c h = c x (or_left (occurs x l || occurs x r) (occurs_in x es) h)

@@ -26,10 +26,6 @@ two a b = part a (part b no_parts)
 abbrev pub with_last : PlacedTerms → PlacedTerm → PlacedTerms
 with_last xs t = append xs (one t)
 
-abbrev pub placed_terms : List PlacedTerm → PlacedTerms
-placed_terms [] = no_parts
-placed_terms (t ∷ ts) = part t (placed_terms ts)
-
 -- the place of the principal token: the operator of an operator term, the name of a functional term, the bracket of a list or curly term, the - of a negative number, the token itself otherwise
 abbrev pub place : PlacedTerm → ℕ
 place (var n p) = p

@@ -122,9 +122,6 @@ module _ (M : ℕ) (b : Assignment) (small : (v : ℕ) → b v ≤ M) where
     second : (m n : ℤ) (y z : ℤ) → (int_eq n m && int_eq y z) ≡ true → z ≡ y
     second m n y z h = grind (arith, ints)
 
-  turn_and : (p q : Bool) → (p && q) ≡ (q && p)
-  turn_and p q = grind arith
-
   elements_from : (i x k : ℕ) (zs : List ℤ) → IsElement k zs (pos (b i)) (pos (b x)) → Elements i x k zs ≡ true
   elements_from i x k [] h = absurd h
   elements_from i x k (z ∷ zs) h = elim h [

@@ -51,9 +51,6 @@ names_one P p ps t r l v e =
 
 -- only the named variables count
 module _ (M : ℕ) (S : Family) (b : Assignment) where
-  Alone : ℕ → Type 0
-  Alone v = S v ≡ b v ∷ []
-
   fits_posted : (ps : List Indexical) → NamesIn (λ v. S v ≡ b v ∷ []) ps → AllPosted (λ p. IsSubset (S p.target) (set_of M S p.range)) ps → AllPosted (λ p. has (set_of M (singles b) p.range) (b p.target) ≡ true) ps
   fits_posted [] n h = tt
   fits_posted (p ∷ ps) n h =
@@ -62,10 +59,6 @@ module _ (M : ℕ) (S : Family) (b : Assignment) where
         subst (λ xs. has xs (b p.target) ≡ true) r (h.0.each (b p.target) (subst (λ xs. has xs (b p.target) ≡ true) (sym t) (in_single (b p.target)))),
         fits_posted ps (names_later (λ v. S v ≡ b v ∷ []) p ps n) h.1,
       )
-
-  fits_equated : (es : List (ℕ × ℤ)) → AllEquatedIn (λ v. b v ∷ []) es → AllEquated b es
-  fits_equated [] h = tt
-  fits_equated (e ∷ es) h = (h.0 (b e.0) (in_single (b e.0)), fits_equated es h.1)
 
 -- the value of each variable: that of a below n, and else the least one
 abbrev pub valued : ℕ → Assignment → Family → Assignment

@@ -109,9 +109,6 @@ module _ (M : ℕ) (some : 0 < M) where
   narrow_size : (n : ℕ) → is_narrow n ≡ true → n < 2 ^ 63
   narrow_size n h = grind arith
 
-  both_done : {A B C : Type 0} (op : A → B → Result C QueryFault) (r : Result A QueryFault) (q : Result B QueryFault) (a : A) (b : B) (c : C) → r ≡ Ok a → q ≡ Ok b → op a b ≡ Ok c → of_both op r q ≡ Ok c
-  both_done op r q a b c h g k = rw (h, g) k
-
   sum_light : (s t : Sum) (w v m n : ℕ) → weight M s.products + nat_abs s.constant ≤ w → weight M t.products + nat_abs t.constant ≤ v → length s.products ≤ m → length t.products ≤ n
       → (weight M (plus s t).products + nat_abs (plus s t).constant ≤ w + v) × (length (plus s t).products ≤ m + n)
   sum_light s t w v m n h g k l =

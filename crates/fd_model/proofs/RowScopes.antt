@@ -83,9 +83,6 @@ wider : (Q : ℕ → Type 0) (n m k : ℕ) → m ≤ k → (v : ℕ) → Q v ⊎
 wider Q n m k h v (inl q) = inl q
 wider Q n m k h v (inr l) = inr (l.0, omega (arith, l.1))
 
-names_wider : (Q : ℕ → Type 0) (n j m k : ℕ) → n ≤ j → m ≤ k → (ps : List Indexical) → NamesIn (λ v. Q v ⊎ ((j ≤ v) × (v < m))) ps → NamesIn (λ v. Q v ⊎ ((n ≤ v) × (v < k))) ps
-names_wider Q n j m k l h ps f v e = elim (f v e) [ inl q ↦ inl q | inr r ↦ inr (omega (arith, r.0), omega (arith, r.1)) ]
-
 no_equated : (k : Comparison) (ts : List (ℕ × ℤ)) (c : ℤ) (n m : ℕ) (ps : List Indexical) → AllFresh n m ps (linear_rows k ts c n).equated
 no_equated k [] c n m ps = by_test (compares k (pos 0) c) where
   by_test : (d : Bool) → let x : Expansion = cond d (record { equated = []; ranges = []; fresh = n }) (record { equated = []; ranges = record { target = n; range = no_number } ∷ []; fresh = suc n }) in AllFresh n m ps x.equated

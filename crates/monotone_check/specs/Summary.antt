@@ -43,7 +43,7 @@ pub record IsRange (M : ℕ) (at : ℕ → ℕ) (n : ℕ) (r : Range) (s : Range
   pub wide : s.wide ≡ first (wide_in_range M at n r)
   pub offences : range_within M r ≡ true → (w : Bool) → by_growth s w ≡ first (range_offences M at n r w)
 
--- the term of a node without operands, and of one with two
+-- the term of a node without operands
 abbrev pub leaf_expr : RangeNode → Option Expr
 leaf_expr (node.Int z) = Some (Number z)
 leaf_expr node.Infinity = Some Infinity
@@ -52,14 +52,6 @@ leaf_expr (node.Min y) = Some (Min y)
 leaf_expr (node.Max y) = Some (Max y)
 leaf_expr (node.Val y) = Some (Val y)
 leaf_expr _ = None
-
-abbrev pub operator_expr : RangeNode → Option (Expr → Expr → Expr)
-operator_expr node.Add = Some Add
-operator_expr node.Sub = Some Sub
-operator_expr node.Mul = Some Mul
-operator_expr node.DivDown = Some DivDown
-operator_expr node.DivUp = Some DivUp
-operator_expr _ = None
 
 -- the bound, the value and the first offences of an operator's term, from those of its operands
 abbrev pub operator_bound : ℕ → RangeNode → ℕ → ℕ → ℕ
