@@ -11,7 +11,7 @@ use Rattle.fd_language.specs.Needs.{is_literal}
 use Rattle.fd_language.specs.Check.{Wish, turn, literal_value, is_parameter}
 use Rattle.fd_language.specs.RangeVerdict.{expr_size, bound, wide_in_expr, where_too_wide, over_limit, where_below_zero, where_natural, unless_divides, scaled, expr_offences, quotient_offences, expr_within, earlier, first}
 use Rattle.monotone_check.specs.declared.summary.TermCheck.{TermCheck}
-use Rattle.monotone_check.specs.Summary.{literal_of, IsTerm, both_literal, operator_literal, kept, product_first, quotient_first, operands_first, operator_first, IsOperated}
+use Rattle.monotone_check.specs.Summary.{capped, literal_of, IsTerm, operator_bound, both_literal, operator_literal, kept, product_first, quotient_first, operands_first, operator_first, IsOperated}
 use Rattle.monotone_check.proofs.Firsts.{first_two, first_three}
 use Rattle.fd_language.proofs.Limits.{abs_add, abs_mul, abs_sub, not_over, products, sums}
 
@@ -75,115 +75,58 @@ within_here : (a b c : Bool) → ((a && b) && c) ≡ true → c ≡ true
 within_here a b c h = grind arith
 
 module _ (M : ℕ) (at : ℕ → ℕ) (n : ℕ) (a b : Expr) (s t r : TermCheck) (i : IsTerm M at (n - 1 - expr_size b) a s) (j : IsTerm M at (n - 1) b t) where
-  pub add_is : IsOperated M node.Add s t (at n) r → IsTerm M at n (Add a b) r
-  add_is o =
-      let A : Wish → Bool → List Offence = λ w k. expr_offences M at (n - 1 - expr_size b) a w k in
-      let B : Wish → Bool → List Offence = λ w k. expr_offences M at (n - 1) b w k in
-      let lit : expr_within M (Add a b) ≡ true → r.literal ≡ literal_of M (Add a b) = λ h.
-      let wa : expr_within M a ≡ true = within_left (expr_within M a) (expr_within M b) (not (over_limit (bound M (Add a b)))) h in
-      let wb : expr_within M b ≡ true = within_right (expr_within M a) (expr_within M b) (not (over_limit (bound M (Add a b)))) h in
-      literal_is (is_literal a && is_literal b) (literal_value M a +ℤ literal_value M b) (operator_literal node.Add s.literal t.literal) r.literal
-      (both_literals (λ x y. x +ℤ y) (is_literal a) (is_literal b) (literal_value M a) (literal_value M b) s.literal t.literal (i.literal wa) (j.literal wb)) o.some o.none
-      (λ l. fits (literal_value M (Add a b)) (bound M (Add a b)) (literal_bound M (Add a b) l) (within_here (expr_within M a) (expr_within M b) (not (over_limit (bound M (Add a b)))) h)) in
+  -- The term e of the operator m: it is a literal of the value v where c says so, and else it offends as xs, which its operands give.
+  operated_is : (m : RangeNode) (e : Expr) (c : Bool) (v : ℤ) (xs : Wish → Bool → List Offence) → operator_bound M m (bound M a) (bound M b) ≡ bound M e
+      → wide_in_expr M at (n - 1 - expr_size b) a ++ wide_in_expr M at (n - 1) b ++ where_too_wide (over_limit (bound M e)) (at n) ≡ wide_in_expr M at n e
+      → expr_within M e ≡ ((expr_within M a && expr_within M b) && not (over_limit (bound M e))) → false ≡ is_parameter e → cond c (Some v) None ≡ literal_of M e
+      → ((w : Wish) (k : Bool) → cond c (where_below_zero k v (at n)) (xs w k) ≡ expr_offences M at n e w k)
+      → (expr_within M a ≡ true → expr_within M b ≡ true → operator_literal m s.literal t.literal ≡ cond c (Some v) None) → (c ≡ true → nat_abs v ≤ bound M e)
+      → (expr_within M a ≡ true → expr_within M b ≡ true → (w : Wish) (k : Bool) → operands_first m s t (at n) w k ≡ first (xs w k))
+      → IsOperated M m s t (at n) r → IsTerm M at n e r
+  operated_is m e c v xs bounds wide within other literal offends known small operands o =
+      let all : expr_within M e ≡ true → ((expr_within M a && expr_within M b) && not (over_limit (bound M e))) ≡ true = λ h. sym within ∙ h in
+      let wa : expr_within M e ≡ true → expr_within M a ≡ true = λ h. within_left (expr_within M a) (expr_within M b) (not (over_limit (bound M e))) (all h) in
+      let wb : expr_within M e ≡ true → expr_within M b ≡ true = λ h. within_right (expr_within M a) (expr_within M b) (not (over_limit (bound M e))) (all h) in
+      let lit : expr_within M e ≡ true → r.literal ≡ cond c (Some v) None = λ h.
+      literal_is c v (operator_literal m s.literal t.literal) r.literal (known (wa h) (wb h)) o.some o.none
+      (λ l. fits v (bound M e) (small l) (within_here (expr_within M a) (expr_within M b) (not (over_limit (bound M e))) (all h))) in
       record {
         place = o.place;
-        size = o.size (bound M a) (bound M b) i.size j.size;
-        wide = o.wide (bound M a) (bound M b) i.size j.size ∙ first_three (wide_in_expr M at (n - 1 - expr_size b) a) (wide_in_expr M at (n - 1) b) (where_too_wide (over_limit (bound M (Add a b))) (at n)) _ _ _ i.wide j.wide refl;
-        parameter = o.parameter;
-        literal = lit;
-        offences = λ h w k.
-            let wa : expr_within M a ≡ true = within_left (expr_within M a) (expr_within M b) (not (over_limit (bound M (Add a b)))) h in
-            let wb : expr_within M b ≡ true = within_right (expr_within M a) (expr_within M b) (not (over_limit (bound M (Add a b)))) h in
-            let f : (v : Wish) (m : Bool) → kept m s v ≡ first (A v m) = λ v m. i.offences wa v m in
-            let g : (v : Wish) (m : Bool) → kept m t v ≡ first (B v m) = λ v m. j.offences wb v m in
-            either M node.Add s t (at n) r o w k ∙ by_literal (is_literal a && is_literal b) (literal_value M (Add a b)) r.literal node.Add s t (at n) w k (A w k ++ B w k) (lit h)
-            (first_two (A w k) (B w k) _ _ (f w k) (g w k));
+        size = o.size (bound M a) (bound M b) i.size j.size ∙ ap capped bounds;
+        wide = o.wide (bound M a) (bound M b) i.size j.size ∙ (ap (λ k. earlier (earlier s.wide t.wide) (first (where_too_wide (over_limit k) (at n)))) bounds
+            ∙ (first_three (wide_in_expr M at (n - 1 - expr_size b) a) (wide_in_expr M at (n - 1) b) (where_too_wide (over_limit (bound M e)) (at n)) _ _ _ i.wide j.wide refl ∙ ap first wide));
+        parameter = o.parameter ∙ other;
+        literal = λ h. lit h ∙ literal;
+        offences = λ h w k. either M m s t (at n) r o w k ∙ (by_literal c v r.literal m s t (at n) w k (xs w k) (lit h) (operands (wa h) (wb h) w k) ∙ ap first (offends w k));
       }
+
+  abbrev A : Wish → Bool → List Offence
+  A w k = expr_offences M at (n - 1 - expr_size b) a w k
+
+  abbrev B : Wish → Bool → List Offence
+  B w k = expr_offences M at (n - 1) b w k
+
+  pub add_is : IsOperated M node.Add s t (at n) r → IsTerm M at n (Add a b) r
+  add_is o = operated_is node.Add (Add a b) (is_literal a && is_literal b) (literal_value M (Add a b)) (λ w k. A w k ++ B w k) refl refl refl refl refl (λ w k. refl)
+      (λ wa wb. both_literals (λ x y. x +ℤ y) (is_literal a) (is_literal b) (literal_value M a) (literal_value M b) s.literal t.literal (i.literal wa) (j.literal wb)) (literal_bound M (Add a b))
+      (λ wa wb w k. first_two (A w k) (B w k) _ _ (i.offences wa w k) (j.offences wb w k)) o
 
   pub sub_is : IsOperated M node.Sub s t (at n) r → IsTerm M at n (Sub a b) r
-  sub_is o =
-      let A : Wish → Bool → List Offence = λ w k. expr_offences M at (n - 1 - expr_size b) a w k in
-      let B : Wish → Bool → List Offence = λ w k. expr_offences M at (n - 1) b w k in
-      let lit : expr_within M (Sub a b) ≡ true → r.literal ≡ literal_of M (Sub a b) = λ h.
-      let wa : expr_within M a ≡ true = within_left (expr_within M a) (expr_within M b) (not (over_limit (bound M (Sub a b)))) h in
-      let wb : expr_within M b ≡ true = within_right (expr_within M a) (expr_within M b) (not (over_limit (bound M (Sub a b)))) h in
-      literal_is (is_literal a && is_literal b) (literal_value M a -ℤ literal_value M b) (operator_literal node.Sub s.literal t.literal) r.literal
-      (both_literals (λ x y. x -ℤ y) (is_literal a) (is_literal b) (literal_value M a) (literal_value M b) s.literal t.literal (i.literal wa) (j.literal wb)) o.some o.none
-      (λ l. fits (literal_value M (Sub a b)) (bound M (Sub a b)) (literal_bound M (Sub a b) l) (within_here (expr_within M a) (expr_within M b) (not (over_limit (bound M (Sub a b)))) h)) in
-      record {
-        place = o.place;
-        size = o.size (bound M a) (bound M b) i.size j.size;
-        wide = o.wide (bound M a) (bound M b) i.size j.size ∙ first_three (wide_in_expr M at (n - 1 - expr_size b) a) (wide_in_expr M at (n - 1) b) (where_too_wide (over_limit (bound M (Sub a b))) (at n)) _ _ _ i.wide j.wide refl;
-        parameter = o.parameter;
-        literal = lit;
-        offences = λ h w k.
-            let wa : expr_within M a ≡ true = within_left (expr_within M a) (expr_within M b) (not (over_limit (bound M (Sub a b)))) h in
-            let wb : expr_within M b ≡ true = within_right (expr_within M a) (expr_within M b) (not (over_limit (bound M (Sub a b)))) h in
-            let f : (v : Wish) (m : Bool) → kept m s v ≡ first (A v m) = λ v m. i.offences wa v m in
-            let g : (v : Wish) (m : Bool) → kept m t v ≡ first (B v m) = λ v m. j.offences wb v m in
-            either M node.Sub s t (at n) r o w k ∙ by_literal (is_literal a && is_literal b) (literal_value M (Sub a b)) r.literal node.Sub s t (at n) w k (A w k ++ B (turn w) k ++ where_natural k (at n)) (lit h)
-            (first_three (A w k) (B (turn w) k) (where_natural k (at n)) _ _ _ (f w k) (g (turn w) k) refl);
-      }
+  sub_is o = operated_is node.Sub (Sub a b) (is_literal a && is_literal b) (literal_value M (Sub a b)) (λ w k. A w k ++ B (turn w) k ++ where_natural k (at n)) refl refl refl refl refl (λ w k. refl)
+      (λ wa wb. both_literals (λ x y. x -ℤ y) (is_literal a) (is_literal b) (literal_value M a) (literal_value M b) s.literal t.literal (i.literal wa) (j.literal wb)) (literal_bound M (Sub a b))
+      (λ wa wb w k. first_three (A w k) (B (turn w) k) (where_natural k (at n)) _ _ _ (i.offences wa w k) (j.offences wb (turn w) k) refl) o
 
   pub mul_is : IsOperated M node.Mul s t (at n) r → IsTerm M at n (Mul a b) r
-  mul_is o =
-      let A : Wish → Bool → List Offence = λ w k. expr_offences M at (n - 1 - expr_size b) a w k in
-      let B : Wish → Bool → List Offence = λ w k. expr_offences M at (n - 1) b w k in
-      let lit : expr_within M (Mul a b) ≡ true → r.literal ≡ literal_of M (Mul a b) = λ h.
-      let wa : expr_within M a ≡ true = within_left (expr_within M a) (expr_within M b) (not (over_limit (bound M (Mul a b)))) h in
-      let wb : expr_within M b ≡ true = within_right (expr_within M a) (expr_within M b) (not (over_limit (bound M (Mul a b)))) h in
-      literal_is (is_literal a && is_literal b) (literal_value M a *ℤ literal_value M b) (operator_literal node.Mul s.literal t.literal) r.literal
-      (both_literals (λ x y. x *ℤ y) (is_literal a) (is_literal b) (literal_value M a) (literal_value M b) s.literal t.literal (i.literal wa) (j.literal wb)) o.some o.none
-      (λ l. fits (literal_value M (Mul a b)) (bound M (Mul a b)) (literal_bound M (Mul a b) l) (within_here (expr_within M a) (expr_within M b) (not (over_limit (bound M (Mul a b)))) h)) in
-      record {
-        place = o.place;
-        size = o.size (bound M a) (bound M b) i.size j.size;
-        wide = o.wide (bound M a) (bound M b) i.size j.size ∙ first_three (wide_in_expr M at (n - 1 - expr_size b) a) (wide_in_expr M at (n - 1) b) (where_too_wide (over_limit (bound M (Mul a b))) (at n)) _ _ _ i.wide j.wide refl;
-        parameter = o.parameter;
-        literal = lit;
-        offences = λ h w k.
-            let wa : expr_within M a ≡ true = within_left (expr_within M a) (expr_within M b) (not (over_limit (bound M (Mul a b)))) h in
-            let wb : expr_within M b ≡ true = within_right (expr_within M a) (expr_within M b) (not (over_limit (bound M (Mul a b)))) h in
-            let f : (v : Wish) (m : Bool) → kept m s v ≡ first (A v m) = λ v m. i.offences wa v m in
-            let g : (v : Wish) (m : Bool) → kept m t v ≡ first (B v m) = λ v m. j.offences wb v m in
-            either M node.Mul s t (at n) r o w k ∙ by_literal (is_literal a && is_literal b) (literal_value M (Mul a b)) r.literal node.Mul s t (at n) w k (cond (is_literal a) (A w k ++ B (scaled (literal_value M a) w) k) (cond (is_literal b) (A (scaled (literal_value M b) w) k ++ B w k) (A w true ++ B w true))) (lit h)
-            (by_factor (is_literal a) (is_literal b) (literal_value M a) (literal_value M b) s.literal t.literal s t w k A B (i.literal wa) (j.literal wb) f g);
-      }
+  mul_is o = operated_is node.Mul (Mul a b) (is_literal a && is_literal b) (literal_value M (Mul a b))
+      (λ w k. cond (is_literal a) (A w k ++ B (scaled (literal_value M a) w) k) (cond (is_literal b) (A (scaled (literal_value M b) w) k ++ B w k) (A w true ++ B w true))) refl refl refl refl refl (λ w k. refl)
+      (λ wa wb. both_literals (λ x y. x *ℤ y) (is_literal a) (is_literal b) (literal_value M a) (literal_value M b) s.literal t.literal (i.literal wa) (j.literal wb)) (literal_bound M (Mul a b))
+      (λ wa wb w k. by_factor (is_literal a) (is_literal b) (literal_value M a) (literal_value M b) s.literal t.literal s t w k A B (i.literal wa) (j.literal wb) (λ v m. i.offences wa v m) (λ v m. j.offences wb v m)) o
+
+  quotient_operands : expr_within M a ≡ true → expr_within M b ≡ true → (w : Wish) (k : Bool) → quotient_first t.literal s t w k ≡ first (quotient_offences M (at (n - 1)) b (A w k) (A w true) (B (turn w) true))
+  quotient_operands wa wb w k = by_divisor (is_literal b) (is_parameter b) (literal_value M b) t.literal s t (at (n - 1)) w k A B (j.literal wb) j.parameter j.place (λ v m. i.offences wa v m) (λ v m. j.offences wb v m)
 
   pub div_down_is : IsOperated M node.DivDown s t (at n) r → IsTerm M at n (DivDown a b) r
-  div_down_is o =
-      let A : Wish → Bool → List Offence = λ w k. expr_offences M at (n - 1 - expr_size b) a w k in
-      let B : Wish → Bool → List Offence = λ w k. expr_offences M at (n - 1) b w k in
-      record {
-        place = o.place;
-        size = o.size (bound M a) (bound M b) i.size j.size;
-        wide = o.wide (bound M a) (bound M b) i.size j.size ∙ first_three (wide_in_expr M at (n - 1 - expr_size b) a) (wide_in_expr M at (n - 1) b) (where_too_wide (over_limit (bound M (DivDown a b))) (at n)) _ _ _ i.wide j.wide refl;
-        parameter = o.parameter;
-        literal = λ h. o.none refl;
-        offences = λ h w k.
-            let wa : expr_within M a ≡ true = within_left (expr_within M a) (expr_within M b) (not (over_limit (bound M (DivDown a b)))) h in
-            let wb : expr_within M b ≡ true = within_right (expr_within M a) (expr_within M b) (not (over_limit (bound M (DivDown a b)))) h in
-            let f : (v : Wish) (m : Bool) → kept m s v ≡ first (A v m) = λ v m. i.offences wa v m in
-            let g : (v : Wish) (m : Bool) → kept m t v ≡ first (B v m) = λ v m. j.offences wb v m in
-            either M node.DivDown s t (at n) r o w k ∙ by_literal false (pos 0) r.literal node.DivDown s t (at n) w k (quotient_offences M (at (n - 1)) b (A w k) (A w true) (B (turn w) true)) (o.none refl)
-            (by_divisor (is_literal b) (is_parameter b) (literal_value M b) t.literal s t (at (n - 1)) w k A B (j.literal wb) j.parameter j.place f g);
-      }
+  div_down_is o = operated_is node.DivDown (DivDown a b) false (pos 0) (λ w k. quotient_offences M (at (n - 1)) b (A w k) (A w true) (B (turn w) true)) refl refl refl refl refl (λ w k. refl) (λ wa wb. refl) (λ l. absurd (true≢false (sym l))) quotient_operands o
 
   pub div_up_is : IsOperated M node.DivUp s t (at n) r → IsTerm M at n (DivUp a b) r
-  div_up_is o =
-      let A : Wish → Bool → List Offence = λ w k. expr_offences M at (n - 1 - expr_size b) a w k in
-      let B : Wish → Bool → List Offence = λ w k. expr_offences M at (n - 1) b w k in
-      record {
-        place = o.place;
-        size = o.size (bound M a) (bound M b) i.size j.size;
-        wide = o.wide (bound M a) (bound M b) i.size j.size ∙ first_three (wide_in_expr M at (n - 1 - expr_size b) a) (wide_in_expr M at (n - 1) b) (where_too_wide (over_limit (bound M (DivUp a b))) (at n)) _ _ _ i.wide j.wide refl;
-        parameter = o.parameter;
-        literal = λ h. o.none refl;
-        offences = λ h w k.
-            let wa : expr_within M a ≡ true = within_left (expr_within M a) (expr_within M b) (not (over_limit (bound M (DivUp a b)))) h in
-            let wb : expr_within M b ≡ true = within_right (expr_within M a) (expr_within M b) (not (over_limit (bound M (DivUp a b)))) h in
-            let f : (v : Wish) (m : Bool) → kept m s v ≡ first (A v m) = λ v m. i.offences wa v m in
-            let g : (v : Wish) (m : Bool) → kept m t v ≡ first (B v m) = λ v m. j.offences wb v m in
-            either M node.DivUp s t (at n) r o w k ∙ by_literal false (pos 0) r.literal node.DivUp s t (at n) w k (quotient_offences M (at (n - 1)) b (A w k) (A w true) (B (turn w) true)) (o.none refl)
-            (by_divisor (is_literal b) (is_parameter b) (literal_value M b) t.literal s t (at (n - 1)) w k A B (j.literal wb) j.parameter j.place f g);
-      }
+  div_up_is o = operated_is node.DivUp (DivUp a b) false (pos 0) (λ w k. quotient_offences M (at (n - 1)) b (A w k) (A w true) (B (turn w) true)) refl refl refl refl refl (λ w k. refl) (λ wa wb. refl) (λ l. absurd (true≢false (sym l))) quotient_operands o

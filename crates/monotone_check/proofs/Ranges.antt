@@ -1,15 +1,16 @@
 -- What is kept of a range follows from what is kept of its operands.
-use Rattle.std.proofs.Common.{◌≡◌, ℕ, ◌+◌, ◌-◌, Bool, true, false, cond, not, ◌||◌, ◌&&◌, ℤ, pos, int_le, List, Option, Some, None, refl, sym, ◌∙◌, ap, arith}
+use Rattle.std.proofs.Common.{◌≡◌, ℕ, ◌+◌, ◌-◌, Bool, true, false, cond, not, ◌||◌, ◌&&◌, ℤ, pos, int_le, List, ◌++◌, Option, Some, None, refl, sym, ◌∙◌, ap, arith}
 use Rattle.std.proofs.lemmas.Bool.{true≢false, and_parts}
+use Rattle.fd_language.specs.declared.range_node.RangeNode.{RangeNode}
 use Rattle.fd_language.specs.declared.range_node.RangeNode.TheVariants as node
 use Rattle.fd_language.specs.declared.range_node.Offence.{Offence}
 use Rattle.fd_language.specs.Range.{Range, Span, One, Dom, Union, Inter, Outside, Plus, Minus, Times, Over, Expr, Number, Infinity, Param, Min, Max, Val, Add, Sub, Mul, DivDown, DivUp}
 use Rattle.fd_language.specs.Needs.{is_literal}
 use Rattle.fd_language.specs.Check.{Rising, Falling, Constant, literal_value, is_parameter}
-use Rattle.fd_language.specs.RangeVerdict.{expr_size, range_size, bound, wide_in_expr, wide_in_range, where_too_wide, over_limit, factor_over_limit, unless_divides, expr_offences, range_offences, expr_within, range_within, first}
+use Rattle.fd_language.specs.RangeVerdict.{expr_size, range_size, bound, earlier, wide_in_expr, wide_in_range, where_too_wide, unless_divides, expr_offences, range_offences, expr_within, range_within, first}
 use Rattle.monotone_check.specs.declared.summary.TermCheck.{TermCheck}
 use Rattle.monotone_check.specs.declared.summary.RangeCheck.{RangeCheck}
-use Rattle.monotone_check.specs.Summary.{IsTerm, IsRange, by_growth, divisor_first, IsSpan, IsSingle, IsDomain, IsCombined, IsComplement, IsPointwise}
+use Rattle.monotone_check.specs.Summary.{IsTerm, IsRange, by_growth, pointwise_over, pointwise_first, divisor_first, IsSpan, IsSingle, IsDomain, IsCombined, IsComplement, IsPointwise}
 use Rattle.monotone_check.proofs.Firsts.{first_two, first_three}
 use Rattle.monotone_check.proofs.Operators.{within_left, within_right}
 
@@ -49,27 +50,24 @@ module _ (M : ℕ) (at : ℕ → ℕ) (n : ℕ) where
   pub dom_is : (y : ℕ) (u : RangeCheck) → IsDomain (at n) u → IsRange M at n (Dom y) u
   dom_is y u o = record { wide = o.wide; offences = λ h. growth u _ _ (λ w. range_offences M at n (Dom y) w) o.shrinking o.growing refl refl }
 
-  pub union_is : (r q : Range) (s t u : RangeCheck) → IsRange M at (n - 1 - range_size q) r s → IsRange M at (n - 1) q t → IsCombined s t u → IsRange M at n (Union r q) u
-  union_is r q s t u i j o = record {
-    wide = o.wide ∙ first_two (wide_in_range M at (n - 1 - range_size q) r) (wide_in_range M at (n - 1) q) _ _ i.wide j.wide;
+  -- the range g of an operator of two ranges
+  combined_is : (g r q : Range) (s t u : RangeCheck) → wide_in_range M at (n - 1 - range_size q) r ++ wide_in_range M at (n - 1) q ≡ wide_in_range M at n g → range_within M g ≡ (range_within M r && range_within M q)
+      → ((w : Bool) → range_offences M at (n - 1 - range_size q) r w ++ range_offences M at (n - 1) q w ≡ range_offences M at n g w)
+      → IsRange M at (n - 1 - range_size q) r s → IsRange M at (n - 1) q t → IsCombined s t u → IsRange M at n g u
+  combined_is g r q s t u wide within offends i j o = record {
+    wide = o.wide ∙ (first_two (wide_in_range M at (n - 1 - range_size q) r) (wide_in_range M at (n - 1) q) _ _ i.wide j.wide ∙ ap first wide);
     offences = λ h.
-        let wa : range_within M r ≡ true = (and_parts (range_within M r) (range_within M q) h).0 in
-        let wb : range_within M q ≡ true = (and_parts (range_within M r) (range_within M q) h).1 in
-        growth u _ _ (λ w. range_offences M at n (Union r q) w) o.shrinking o.growing
-        (first_two (range_offences M at (n - 1 - range_size q) r true) (range_offences M at (n - 1) q true) _ _ (i.offences wa true) (j.offences wb true))
-        (first_two (range_offences M at (n - 1 - range_size q) r false) (range_offences M at (n - 1) q false) _ _ (i.offences wa false) (j.offences wb false));
+        let both = and_parts (range_within M r) (range_within M q) (sym within ∙ h) in
+        let at_growth : (w : Bool) → earlier (by_growth s w) (by_growth t w) ≡ first (range_offences M at n g w) = λ w.
+        first_two (range_offences M at (n - 1 - range_size q) r w) (range_offences M at (n - 1) q w) _ _ (i.offences both.0 w) (j.offences both.1 w) ∙ ap first (offends w) in
+        growth u _ _ (λ w. range_offences M at n g w) o.shrinking o.growing (at_growth true) (at_growth false);
   }
 
+  pub union_is : (r q : Range) (s t u : RangeCheck) → IsRange M at (n - 1 - range_size q) r s → IsRange M at (n - 1) q t → IsCombined s t u → IsRange M at n (Union r q) u
+  union_is r q s t u i j o = combined_is (Union r q) r q s t u refl refl (λ w. refl) i j o
+
   pub inter_is : (r q : Range) (s t u : RangeCheck) → IsRange M at (n - 1 - range_size q) r s → IsRange M at (n - 1) q t → IsCombined s t u → IsRange M at n (Inter r q) u
-  inter_is r q s t u i j o = record {
-    wide = o.wide ∙ first_two (wide_in_range M at (n - 1 - range_size q) r) (wide_in_range M at (n - 1) q) _ _ i.wide j.wide;
-    offences = λ h.
-        let wa : range_within M r ≡ true = (and_parts (range_within M r) (range_within M q) h).0 in
-        let wb : range_within M q ≡ true = (and_parts (range_within M r) (range_within M q) h).1 in
-        growth u _ _ (λ w. range_offences M at n (Inter r q) w) o.shrinking o.growing
-        (first_two (range_offences M at (n - 1 - range_size q) r true) (range_offences M at (n - 1) q true) _ _ (i.offences wa true) (j.offences wb true))
-        (first_two (range_offences M at (n - 1 - range_size q) r false) (range_offences M at (n - 1) q false) _ _ (i.offences wa false) (j.offences wb false));
-  }
+  inter_is r q s t u i j o = combined_is (Inter r q) r q s t u refl refl (λ w. refl) i j o
 
   pub outside_is : (r : Range) (s u : RangeCheck) → IsRange M at (n - 1) r s → IsComplement s u → IsRange M at n (Outside r) u
   outside_is r s u i o = record {
@@ -77,46 +75,32 @@ module _ (M : ℕ) (at : ℕ → ℕ) (n : ℕ) where
     offences = λ h. growth u _ _ (λ w. range_offences M at n (Outside r) w) o.shrinking o.growing (i.offences h false) (i.offences h true);
   }
 
-  pub plus_is : (r : Range) (c : Expr) (s : RangeCheck) (t : TermCheck) (u : RangeCheck) → IsRange M at (n - 1 - expr_size c) r s → IsTerm M at (n - 1) c t → IsPointwise M node.Plus s t (at n) u → IsRange M at n (Plus r c) u
-  plus_is r c s t u i j o = record {
-    wide = o.wide (bound M c) j.size ∙ first_three (wide_in_range M at (n - 1 - expr_size c) r) (wide_in_expr M at (n - 1) c) (where_too_wide (over_limit (M + bound M c)) (at n)) _ _ _ i.wide j.wide refl;
+  -- the range g of the pointwise operator m, of which c gives the offences xs
+  spread_is : (m : RangeNode) (g r : Range) (c : Expr) (xs : List Offence) (s : RangeCheck) (t : TermCheck) (u : RangeCheck)
+      → wide_in_range M at (n - 1 - expr_size c) r ++ wide_in_expr M at (n - 1) c ++ where_too_wide (pointwise_over M m (bound M c)) (at n) ≡ wide_in_range M at n g
+      → range_within M g ≡ ((range_within M r && expr_within M c) && not (pointwise_over M m (bound M c)))
+      → ((w : Bool) → range_offences M at (n - 1 - expr_size c) r w ++ xs ≡ range_offences M at n g w) → (expr_within M c ≡ true → pointwise_first m t ≡ first xs)
+      → IsRange M at (n - 1 - expr_size c) r s → IsTerm M at (n - 1) c t → IsPointwise M m s t (at n) u → IsRange M at n g u
+  spread_is m g r c xs s t u wide within offends own i j o = record {
+    wide = o.wide (bound M c) j.size ∙ (first_three (wide_in_range M at (n - 1 - expr_size c) r) (wide_in_expr M at (n - 1) c) (where_too_wide (pointwise_over M m (bound M c)) (at n)) _ _ _ i.wide j.wide refl ∙ ap first wide);
     offences = λ h.
-        let wr : range_within M r ≡ true = within_left (range_within M r) (expr_within M c) (not (over_limit (M + bound M c))) h in
-        let wc : expr_within M c ≡ true = within_right (range_within M r) (expr_within M c) (not (over_limit (M + bound M c))) h in
-        growth u _ _ (λ w. range_offences M at n (Plus r c) w) o.shrinking o.growing
-        (first_two (range_offences M at (n - 1 - expr_size c) r true) (expr_offences M at (n - 1) c Constant false) _ _ (i.offences wr true) (j.offences wc Constant false))
-        (first_two (range_offences M at (n - 1 - expr_size c) r false) (expr_offences M at (n - 1) c Constant false) _ _ (i.offences wr false) (j.offences wc Constant false));
+        let all : ((range_within M r && expr_within M c) && not (pointwise_over M m (bound M c))) ≡ true = sym within ∙ h in
+        let wr : range_within M r ≡ true = within_left (range_within M r) (expr_within M c) (not (pointwise_over M m (bound M c))) all in
+        let wc : expr_within M c ≡ true = within_right (range_within M r) (expr_within M c) (not (pointwise_over M m (bound M c))) all in
+        let at_growth : (w : Bool) → earlier (by_growth s w) (pointwise_first m t) ≡ first (range_offences M at n g w) = λ w.
+        first_two (range_offences M at (n - 1 - expr_size c) r w) xs _ _ (i.offences wr w) (own wc) ∙ ap first (offends w) in
+        growth u _ _ (λ w. range_offences M at n g w) o.shrinking o.growing (at_growth true) (at_growth false);
   }
+
+  pub plus_is : (r : Range) (c : Expr) (s : RangeCheck) (t : TermCheck) (u : RangeCheck) → IsRange M at (n - 1 - expr_size c) r s → IsTerm M at (n - 1) c t → IsPointwise M node.Plus s t (at n) u → IsRange M at n (Plus r c) u
+  plus_is r c s t u i j o = spread_is node.Plus (Plus r c) r c (expr_offences M at (n - 1) c Constant false) s t u refl refl (λ w. refl) (λ h. j.offences h Constant false) i j o
 
   pub minus_is : (r : Range) (c : Expr) (s : RangeCheck) (t : TermCheck) (u : RangeCheck) → IsRange M at (n - 1 - expr_size c) r s → IsTerm M at (n - 1) c t → IsPointwise M node.Minus s t (at n) u → IsRange M at n (Minus r c) u
-  minus_is r c s t u i j o = record {
-    wide = o.wide (bound M c) j.size ∙ first_three (wide_in_range M at (n - 1 - expr_size c) r) (wide_in_expr M at (n - 1) c) (where_too_wide (over_limit (M + bound M c)) (at n)) _ _ _ i.wide j.wide refl;
-    offences = λ h.
-        let wr : range_within M r ≡ true = within_left (range_within M r) (expr_within M c) (not (over_limit (M + bound M c))) h in
-        let wc : expr_within M c ≡ true = within_right (range_within M r) (expr_within M c) (not (over_limit (M + bound M c))) h in
-        growth u _ _ (λ w. range_offences M at n (Minus r c) w) o.shrinking o.growing
-        (first_two (range_offences M at (n - 1 - expr_size c) r true) (expr_offences M at (n - 1) c Constant false) _ _ (i.offences wr true) (j.offences wc Constant false))
-        (first_two (range_offences M at (n - 1 - expr_size c) r false) (expr_offences M at (n - 1) c Constant false) _ _ (i.offences wr false) (j.offences wc Constant false));
-  }
+  minus_is r c s t u i j o = spread_is node.Minus (Minus r c) r c (expr_offences M at (n - 1) c Constant false) s t u refl refl (λ w. refl) (λ h. j.offences h Constant false) i j o
 
   pub times_is : (r : Range) (c : Expr) (s : RangeCheck) (t : TermCheck) (u : RangeCheck) → IsRange M at (n - 1 - expr_size c) r s → IsTerm M at (n - 1) c t → IsPointwise M node.Times s t (at n) u → IsRange M at n (Times r c) u
-  times_is r c s t u i j o = record {
-    wide = o.wide (bound M c) j.size ∙ first_three (wide_in_range M at (n - 1 - expr_size c) r) (wide_in_expr M at (n - 1) c) (where_too_wide (factor_over_limit M (bound M c)) (at n)) _ _ _ i.wide j.wide refl;
-    offences = λ h.
-        let wr : range_within M r ≡ true = within_left (range_within M r) (expr_within M c) (not (factor_over_limit M (bound M c))) h in
-        let wc : expr_within M c ≡ true = within_right (range_within M r) (expr_within M c) (not (factor_over_limit M (bound M c))) h in
-        growth u _ _ (λ w. range_offences M at n (Times r c) w) o.shrinking o.growing
-        (first_two (range_offences M at (n - 1 - expr_size c) r true) (expr_offences M at (n - 1) c Constant false) _ _ (i.offences wr true) (j.offences wc Constant false))
-        (first_two (range_offences M at (n - 1 - expr_size c) r false) (expr_offences M at (n - 1) c Constant false) _ _ (i.offences wr false) (j.offences wc Constant false));
-  }
+  times_is r c s t u i j o = spread_is node.Times (Times r c) r c (expr_offences M at (n - 1) c Constant false) s t u refl refl (λ w. refl) (λ h. j.offences h Constant false) i j o
 
   pub over_is : (r : Range) (c : Expr) (s : RangeCheck) (t : TermCheck) (u : RangeCheck) → IsRange M at (n - 1 - expr_size c) r s → IsTerm M at (n - 1) c t → IsPointwise M node.Over s t (at n) u → IsRange M at n (Over r c) u
-  over_is r c s t u i j o = record {
-    wide = o.wide (bound M c) j.size ∙ first_three (wide_in_range M at (n - 1 - expr_size c) r) (wide_in_expr M at (n - 1) c) (where_too_wide (factor_over_limit M (bound M c)) (at n)) _ _ _ i.wide j.wide refl;
-    offences = λ h.
-        let wr : range_within M r ≡ true = within_left (range_within M r) (expr_within M c) (not (factor_over_limit M (bound M c))) h in
-        let wc : expr_within M c ≡ true = within_right (range_within M r) (expr_within M c) (not (factor_over_limit M (bound M c))) h in
-        growth u _ _ (λ w. range_offences M at n (Over r c) w) o.shrinking o.growing
-        (first_two (range_offences M at (n - 1 - expr_size c) r true) (unless_divides (is_parameter c || (is_literal c && int_le (pos 1) (literal_value M c))) (at (n - 1))) _ _ (i.offences wr true) (divisor (is_literal c) (is_parameter c) (literal_value M c) (at (n - 1)) t.literal t (j.literal wc) j.parameter j.place (no_parameter c)))
-        (first_two (range_offences M at (n - 1 - expr_size c) r false) (unless_divides (is_parameter c || (is_literal c && int_le (pos 1) (literal_value M c))) (at (n - 1))) _ _ (i.offences wr false) (divisor (is_literal c) (is_parameter c) (literal_value M c) (at (n - 1)) t.literal t (j.literal wc) j.parameter j.place (no_parameter c)));
-  }
+  over_is r c s t u i j o = spread_is node.Over (Over r c) r c (unless_divides (is_parameter c || (is_literal c && int_le (pos 1) (literal_value M c))) (at (n - 1))) s t u refl refl (λ w. refl)
+      (λ h. divisor (is_literal c) (is_parameter c) (literal_value M c) (at (n - 1)) t.literal t (j.literal h) j.parameter j.place (no_parameter c)) i j o
