@@ -75,6 +75,13 @@ if_yes c x y h e = grind arith
 if_no : (c x y : Bool) → cond c x y ≡ true → c ≡ false → y ≡ true
 if_no c x y h e = grind arith
 
+-- the parts of a conjunction, as and_parts of std gives them
+pub first_of_two : (x y : Bool) → (x && y) ≡ true → x ≡ true
+first_of_two x y h = (and_parts x y h).0
+
+pub second_of_two : (x y : Bool) → (x && y) ≡ true → y ≡ true
+second_of_two x y h = (and_parts x y h).1
+
 int_le_true : (a b : ℤ) → int_le a b ≡ true → a ≤ℤ b
 int_le_true a b h = grind (arith, ints)
 
