@@ -13,3 +13,4 @@ pub mod Scaling
 pub mod Images
 pub mod Union
 pub mod Inside
+pub mod Stacking

@@ -3,6 +3,7 @@
 ghost use Rattle.std.specs.Prelude.{◌≡◌, ◌<◌, ◌≤◌, ◌+◌, ◌&&◌, ◌||◌, not, ◌*◌, ◌^◌, ◌<ℤ◌, neg_ℤ, IsTrue, IsSome, ℕ, Bool, false, [], ◌∷◌, ◌++◌, length, pos, int_le, nat_le, slice_index_or, max, min, filter, IfSome, IfNone, IfOk, OnOk, OnErr};
 ghost use Rattle.domain_ranges.specs.Spans.{Span, within, IsSpans, members, interval_count, meet, listed, written, joined, gap, shifted, scaled};
 ghost use Rattle.fd_language.specs.Family.{universe};
+ghost use Rattle.domain_ranges.specs.Waiting.{numbers, AreIntervals, AreRising};
 
 use fd_language::{INFINITY, NoMemory};
 use smallvec::SmallVec;
@@ -237,6 +238,73 @@ pub fn join_all(
         }
     }
     close(list, last)
+}
+
+/// Whether the intervals rise, with a gap between each and the next.
+fn is_apart(spans: &[(u32, u32)]) -> bool
+    requires { AreIntervals spans.now }
+    ensures { IsTrue result → IsSpans 0 INFINITY spans.now }
+{
+    let mut from = 0;
+    for span in spans {
+        if span.0 < from {
+            return false;
+        }
+        from = span.1 + 2;
+    }
+    true
+}
+
+/// Whether the intervals begin in rising order.
+fn is_rising(spans: &[(u32, u32)]) -> bool
+    ensures { IsTrue result → AreRising 0 spans.now }
+{
+    let mut from = 0;
+    for span in spans {
+        if span.0 < from {
+            return false;
+        }
+        from = span.0;
+    }
+    true
+}
+
+/// The numbers of intervals that begin in rising order.
+fn join_rising(
+    alloc: Global,
+    spans: &[(u32, u32)],
+) -> Result<SmallVec<(u32, u32), 2>, NoMemory>
+    requires intervals { AreIntervals spans.now }
+    requires rising { AreRising 0 spans.now }
+    ensures spans { IfOk result (λ list. IsSpans 0 INFINITY list.items) }
+    ensures set { IfOk result (λ list. members list.items ≡ numbers spans.now) }
+{
+    let mut list = SmallVec::new(alloc);
+    let mut last = None;
+    for span in spans {
+        last = Some(join(&mut list, last, *span)?);
+    }
+    close(list, last)
+}
+
+/// The numbers of intervals that stand in any order. One pass is made where they begin in rising order.
+pub fn settled(
+    alloc: Global,
+    spans: &[(u32, u32)],
+) -> Result<SmallVec<(u32, u32), 2>, NoMemory>
+    requires { AreIntervals spans.now }
+    ensures spans { IfOk result (λ list. IsSpans 0 INFINITY list.items) }
+    ensures set { IfOk result (λ list. members list.items ≡ numbers spans.now) }
+{
+    if is_apart(spans) {
+        return Ok(SmallVec::from_slice(alloc, spans)?);
+    }
+    if is_rising(spans) {
+        return join_rising(alloc, spans);
+    }
+    let mut sorted = Vec::from_slice(alloc, spans)?;
+    sorted.sort_unstable_by_key(|span| span.0);
+    join_rising(alloc, &sorted)
 }
 
 /// Puts the numbers from `from` on and below `to` behind the list, if there are any.

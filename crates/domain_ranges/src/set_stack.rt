@@ -2,9 +2,11 @@
 
 ghost use Rattle.std.specs.Prelude.{◌≡◌, ◌<◌, ◌≤◌, ◌+◌, ◌-◌, ◌||◌, ℕ, List, [], ◌∷◌, length, filter, IfOk, IfSome, OnOk, MatchOption};
 ghost use Rattle.fd_language.specs.Family.{has, universe, IsRising};
+ghost use Rattle.domain_ranges.specs.Spans.{IsSpans};
 ghost use Rattle.domain_ranges.specs.Narrowing.{between};
+ghost use Rattle.domain_ranges.specs.Waiting.{numbers};
 
-use crate::Domain;
+use crate::{Domain, intervals};
 use fd_language::{INFINITY, NoMemory};
 use std::alloc::Global;
 use std::marker::Model;
@@ -15,16 +17,19 @@ use std::marker::Model;
 #[derive(Drop)]
 pub struct SetStack {
     alloc: Global,
-    list: Vec<Domain>,
+    spans: Vec<(u32, u32)>,
+    starts: Vec<usize>,
 }
 
 impl Model for SetStack {
-    ghost use Rattle.std.specs.Prelude.{reverse, vec_capacity};
-    ghost use Rattle.domain_ranges.specs.Waiting.{Waiting};
+    ghost use Rattle.std.specs.Prelude.{reverse, length, vec_capacity};
+    ghost use Rattle.domain_ranges.specs.Waiting.{Waiting, stacked, AreStarts, AreIntervals};
 
     ghost Value = { Waiting };
 
-    ghost view = { λ s. record { sets = reverse s.list.items; room = vec_capacity s.list } };
+    ghost view = { λ s. record { sets = stacked (reverse s.starts.items) s.spans.items; room = vec_capacity s.starts } };
+
+    ghost invariant = { λ s. AreStarts (reverse s.starts.items) (length s.spans.items) × AreIntervals s.spans.items };
 }
 
 impl SetStack {
@@ -34,17 +39,19 @@ impl SetStack {
     {
         SetStack {
             alloc,
-            list: Vec::new(alloc),
+            spans: Vec::new(alloc),
+            starts: Vec::new(alloc),
         }
     }
 
-    /// Makes room for so many more sets.
+    /// Makes room for so many more sets of at most two intervals.
     pub fn reserve(&mut self, more: usize) -> Result<(), NoMemory>
         ensures sets { self.new.sets ≡ self.old.sets }
         ensures kept { self.old.room ≤ self.new.room }
         ensures room { OnOk result (length self.old.sets + more ≤ self.new.room) }
     {
-        self.list.reserve(more)?;
+        self.spans.reserve(more.saturating_mul(2))?;
+        self.starts.reserve(more)?;
         Ok(())
     }
 
@@ -53,7 +60,8 @@ impl SetStack {
         ensures sets { self.new.sets ≡ [] }
         ensures room { self.new.room ≡ self.old.room }
     {
-        self.list.clear();
+        self.spans.clear();
+        self.starts.clear();
     }
 
     /// The numbers from `lo` to `hi` that are in 0 to `INFINITY` wait. There is room.
@@ -62,7 +70,22 @@ impl SetStack {
         ensures pushed { OnOk result (self.new.sets ≡ between lo hi ∷ self.old.sets) }
         ensures room { self.new.room ≡ self.old.room }
     {
-        self.list.push_reserved(Domain::interval(self.alloc, lo, hi));
+        match intervals::cut(lo, hi) {
+            Some(span) => self.put(&[span]),
+            None => self.put(&[]),
+        }
+    }
+
+    /// The numbers of the intervals wait. There is room.
+    fn put(&mut self, spans: &[(u32, u32)]) -> Result<(), NoMemory>
+        requires spans { IsSpans 0 INFINITY spans.now }
+        requires room { length self.old.sets < self.old.room }
+        ensures pushed { OnOk result (self.new.sets ≡ numbers spans.now ∷ self.old.sets) }
+        ensures room { self.new.room ≡ self.old.room }
+    {
+        let from = self.spans.len();
+        self.spans.extend_from_slice(spans)?;
+        self.starts.push_reserved(from);
         Ok(())
     }
 
@@ -73,8 +96,7 @@ impl SetStack {
         ensures room { self.new.room ≡ self.old.room }
         ensures rising { IsRising 0 INFINITY domain.now }
     {
-        self.list.push_reserved(domain.copy()?);
-        Ok(())
+        self.put(domain.spans())
     }
 
     /// Takes the set on top away, if there is one.
@@ -84,21 +106,21 @@ impl SetStack {
         ensures fewer { length self.new.sets ≤ length self.old.sets - 1 }
         ensures room { self.new.room ≡ self.old.room }
     {
-        Ok(self.list.pop())
+        let Some(from) = self.starts.pop() else {
+            return Ok(None);
+        };
+        let list = intervals::settled(self.alloc, &self.spans[from..])?;
+        self.spans.truncate(from);
+        Ok(Some(Domain { list }))
     }
 
-    /// The union of the two sets on top waits in their place, if there are two.
-    pub fn unite(&mut self) -> Result<(), NoMemory>
-        ensures united { OnOk result ((r q : List ℕ) (rest : List (List ℕ)) → self.old.sets ≡ q ∷ r ∷ rest
-            → self.new.sets ≡ filter (λ n. has r n || has q n) (universe INFINITY) ∷ rest) }
+    /// The union of the two sets on top waits in their place, if there are two. Their intervals stay where they are.
+    pub fn unite(&mut self)
+        ensures united { (r q : List ℕ) (rest : List (List ℕ)) → self.old.sets ≡ q ∷ r ∷ rest
+            → self.new.sets ≡ filter (λ n. has r n || has q n) (universe INFINITY) ∷ rest }
         ensures fewer { length self.new.sets ≤ length self.old.sets - 1 }
         ensures room { self.new.room ≡ self.old.room }
     {
-        if let Some(q) = self.list.pop() {
-            if let Some(r) = self.list.pop() {
-                self.list.push_reserved(r.union(&q)?);
-            }
-        }
-        Ok(())
+        let _top = self.starts.pop();
     }
 }

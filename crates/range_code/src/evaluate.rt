@@ -89,7 +89,10 @@ fn take<V: View>(
         RangeNode::Span => work.take_span(),
         RangeNode::One => work.take_single(),
         RangeNode::Dom(slot) => work.push_domain(slot_domain(args, slot as usize, view)),
-        RangeNode::Union => work.take_union(),
+        RangeNode::Union => {
+            work.take_union();
+            Ok(())
+        }
         RangeNode::Inter => work.take_both(),
         RangeNode::Outside => work.take_outside(),
         RangeNode::Plus | RangeNode::Minus | RangeNode::Times | RangeNode::Over => {

@@ -4,8 +4,12 @@ ghost use Rattle.std.specs.Prelude.{◌≡◌, ◌<◌, length, slice_index_or, 
 ghost use Rattle.fd_language.specs.Flat.{nodes_of};
 ghost use Rattle.range_code.specs.Frames.{IsArg, AreArgs, IsFrame};
 
-use super::*;
+use crate::{Activations, Arg, RangeCode, ReadKind, compile_range, run_range};
+use domain_ranges::{Domain, View};
+use fd_language::{Feature, FlatRange, INFINITY, Need, RangeNode};
 use monotone_check::check;
+use std::alloc::Global;
+use std::marker::Model;
 use std::process::Abort;
 use std::test::Fail;
 
@@ -230,6 +234,66 @@ fn told_of_slots(rt: HostRuntime) -> Result<(), Fail> {
         code.features(),
         [(1, Feature::Min), (1, Feature::Max)].as_slice()
     );
+    assert_eq!(rt; code.kinds(), [(1, ReadKind::Both)].as_slice());
     assert_eq!(rt; code.range().nodes(), nodes.as_slice());
+    Ok(())
+}
+
+/// Unions of spans in any order, nested to the left and to the right.
+#[test]
+fn unions(rt: HostRuntime) -> Result<(), Fail> {
+    use RangeNode::*;
+    let alloc = rt.alloc();
+    let left = [
+        Int(6),
+        Int(8),
+        Span,
+        Int(2),
+        Int(3),
+        Span,
+        Union,
+        Int(4),
+        Int(4),
+        Span,
+        Union,
+        Int(0),
+        One,
+        Union,
+    ];
+    gives(&rt, alloc, &left, &[], &[], &[(0, 0), (2, 4), (6, 8)])?;
+    let right = [
+        Int(0),
+        One,
+        Int(3),
+        Int(7),
+        Span,
+        Int(2),
+        Int(4),
+        Span,
+        Int(9),
+        Int(8),
+        Span,
+        Union,
+        Union,
+        Union,
+    ];
+    gives(&rt, alloc, &right, &[], &[], &[(0, 0), (2, 7)])?;
+    let both = [
+        Int(5),
+        Int(9),
+        Span,
+        Int(0),
+        Int(6),
+        Span,
+        Union,
+        Int(8),
+        Int(20),
+        Span,
+        Int(3),
+        One,
+        Union,
+        Inter,
+    ];
+    gives(&rt, alloc, &both, &[], &[], &[(3, 3), (8, 9)])?;
     Ok(())
 }

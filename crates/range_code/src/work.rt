@@ -199,12 +199,12 @@ impl Work {
     }
 
     /// The union takes the last two sets.
-    pub fn take_union(&mut self) -> Result<(), NoMemory>
-        ensures taken { OnOk result (Joins self.old self.new) }
-        ensures counted { OnOk result (Counts (λ n. n) (λ n. n - 1) self.old self.new) }
+    pub fn take_union(&mut self)
+        ensures taken { Joins self.old self.new }
+        ensures counted { Counts (λ n. n) (λ n. n - 1) self.old self.new }
         ensures room { KeepsRoom self.old self.new }
     {
-        self.sets.unite()
+        self.sets.unite();
     }
 
     /// The intersection takes the last two sets.

@@ -15,9 +15,6 @@ returns-in-Dom-clause-taken g c = on_ok_weaker c.push_domain.result
     (λ f. dom_taken (slot_set (g.V.View.sets c.args.view.now) c.args.args.now) (slot_integer c.args.args.now) c.args.work.now c.push_domain.new.self c.args.node c.in-Dom.slot c.in-Dom.is
     (subst (IsRising 0 INFINITY) c.slot_domain.ensures c.push_domain.ensures.rising) (subst (λ s. PushesSet s c.args.work.now c.push_domain.new.self) c.slot_domain.ensures f)) c.push_domain.ensures.pushed
 
-pub returns-in-Union-clause-taken : goal.returns-in-Union-clause-taken
-returns-in-Union-clause-taken g c = on_ok_weaker c.take_union.result (union_taken (slot_set (g.V.View.sets c.args.view.now) c.args.args.now) (slot_integer c.args.args.now) c.args.work.now c.take_union.new.self c.args.node c.in-Union.is) c.take_union.ensures.taken
-
 pub returns-in-Inter-clause-taken : goal.returns-in-Inter-clause-taken
 returns-in-Inter-clause-taken g c = on_ok_weaker c.take_both.result (inter_taken (slot_set (g.V.View.sets c.args.view.now) c.args.args.now) (slot_integer c.args.args.now) c.args.work.now c.take_both.new.self c.args.node c.in-Inter.is) c.take_both.ensures.taken
 
@@ -26,3 +23,6 @@ returns-in-Outside-clause-taken g c = on_ok_weaker c.take_outside.result (outsid
 
 pub returns-in-Plus-clause-taken : goal.returns-in-Plus-clause-taken
 returns-in-Plus-clause-taken g c = on_ok_weaker c.take_range.result (moved_taken (slot_set (g.V.View.sets c.args.view.now) c.args.args.now) (slot_integer c.args.args.now) c.args.work.now c.take_range.new.self c.args.node c.in-Plus.is) c.take_range.ensures.taken
+
+pub returns-in-Union-clause-taken : goal.returns-in-Union-clause-taken
+returns-in-Union-clause-taken g c = union_taken (slot_set (g.V.View.sets c.args.view.now) c.args.args.now) (slot_integer c.args.args.now) c.args.work.now c.take_union.new.self c.args.node c.in-Union.is c.take_union.ensures.taken
