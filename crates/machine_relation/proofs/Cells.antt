@@ -30,7 +30,7 @@ unfolding place_from
 place_above n h place v l = grind (arith, nat_tests)
 
 -- old variables keep their cells, and the new ones' are new
-apart_from : (n h : ℕ) (place : ℕ → ℕ) → ((v : ℕ) → v < n → place v < h) → ((v w : ℕ) → v < n → w < n → place v ≡ place w → v ≡ w) → (v w : ℕ) → place_from n h place v ≡ place_from n h place w → v ≡ w
+pub apart_from : (n h : ℕ) (place : ℕ → ℕ) → ((v : ℕ) → v < n → place v < h) → ((v w : ℕ) → v < n → w < n → place v ≡ place w → v ≡ w) → (v w : ℕ) → place_from n h place v ≡ place_from n h place w → v ≡ w
 apart_from n h place low apart v w e = elim (cases_Bool (nat_lt v n)) [
   | inl a ↦
       let k : v < n = grind (arith, nat_tests) in

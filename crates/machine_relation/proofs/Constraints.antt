@@ -52,17 +52,25 @@ is_constrain f (Call t) c l e = absurd (cc)
 is_constrain f (Either a b) c l e = absurd (cc)
 is_constrain f (Builtin j t) c l e = absurd (cc)
 
--- the equations of fresh variables
-equated_below : (n m : ℕ) (ps : List Indexical) (ds : List (ℕ × ℤ)) → AllFresh n m ps ds → EquationsOf (λ v. v < m) (equations ds)
-equated_below n m ps [] h = tt
-equated_below n m ps (d ∷ ds) h = ((h.0.1, tt), equated_below n m ps ds h.1)
+-- the equated variables are fresh
+abbrev pub AreBetween : ℕ → ℕ → List (ℕ × ℤ) → Type 0
+AreBetween n m [] = Unit {0}
+AreBetween n m (d ∷ ds) = ((n ≤ d.0) × (d.0 < m)) × AreBetween n m ds
 
-equated_placed : (n m : ℕ) (ps : List Indexical) (p f : ℕ → ℕ) → ((v : ℕ) → n ≤ v → p v ≡ f v) → (ds : List (ℕ × ℤ)) → AllFresh n m ps ds → renamed_each p (equations ds) ≡ equations (rename_products f ds)
-equated_placed n m ps p f i [] h = refl
-equated_placed n m ps p f i (d ∷ ds) h = two (λ x l. record { left = Var x; right = Int d.1 } ∷ l) (i d.0 h.0.0) (equated_placed n m ps p f i ds h.1)
+all_between : (n m : ℕ) (ps : List Indexical) (ds : List (ℕ × ℤ)) → AllFresh n m ps ds → AreBetween n m ds
+all_between n m ps [] h = tt
+all_between n m ps (d ∷ ds) h = ((h.0.0, h.0.1), all_between n m ps ds h.1)
+
+equated_below : (n m : ℕ) (ds : List (ℕ × ℤ)) → AreBetween n m ds → EquationsOf (λ v. v < m) (equations ds)
+equated_below n m [] h = tt
+equated_below n m (d ∷ ds) h = ((h.0.1, tt), equated_below n m ds h.1)
+
+equated_placed : (n m : ℕ) (p f : ℕ → ℕ) → ((v : ℕ) → n ≤ v → p v ≡ f v) → (ds : List (ℕ × ℤ)) → AreBetween n m ds → renamed_each p (equations ds) ≡ equations (rename_products f ds)
+equated_placed n m p f i [] h = refl
+equated_placed n m p f i (d ∷ ds) h = two (λ x l. record { left = Var x; right = Int d.1 } ∷ l) (i d.0 h.0.0) (equated_placed n m p f i ds h.1)
 
 -- Where each variable that a row names is an open cell or fresh, the row's ranges are posted as those on cells, and its equations are those on cells.
-module _ (M : ℕ) (q : Query) (work : List Goal) (f : Frame) (b : Branch) (s : IsAt M q work f b) (cell : ℕ → ℕ) (x : Expansion) (grows : b.fresh ≤ x.fresh) (fresh : AllFresh b.fresh x.fresh x.ranges x.equated)
+module _ (M : ℕ) (q : Query) (work : List Goal) (f : Frame) (b : Branch) (s : IsAt M q work f b) (cell : ℕ → ℕ) (x : Expansion) (grows : b.fresh ≤ x.fresh) (fresh : AreBetween b.fresh x.fresh x.equated)
     (named : (v : ℕ) → has (constrained x.ranges) v ≡ true → ((v < b.fresh) × (f.heap (s.place v) ≡ Var (place_from b.fresh f.cells cell v))) ⊎ ((b.fresh ≤ v) × (v < x.fresh))) where
   abbrev more : ℕ
   more = x.fresh - b.fresh
@@ -91,15 +99,15 @@ module _ (M : ℕ) (q : Query) (work : List Goal) (f : Frame) (b : Branch) (s : 
     | inr a ↦ ((let l = a.1 in omega (arith, l, grows)), ap f.heap (new_place v a.0) ∙ s.held.unused (on_cells v) (let p = place_above b.fresh f.cells cell v a.0 in omega (arith, p)))
   ]
 
-  at_joined : (link' : ℕ → Option ℕ) (qs' : List Indexical) → AreJoined f.link f.store (map (rename_indexical on_cells) x.ranges) link' qs' → (new : Substitution) (link'' : ℕ → Option ℕ) (ts : List Touch)
+  pub at_joined : (link' : ℕ → Option ℕ) (qs' : List Indexical) → AreJoined f.link f.store (map (rename_indexical on_cells) x.ranges) link' qs' → (new : Substitution) (link'' : ℕ → Option ℕ) (ts : List Touch)
       → IsUnified (on_cells x.fresh) link' (applied_each f.heap (equations (rename_products on_cells x.equated))) new link'' ts → ((c : ℕ) → on_cells x.fresh ≤ c → new c ≡ Var c) → (gs : List Goal) → EachBelow b.fresh gs
       → IsAt M q (map (rename_goal s.place) gs) (unified_frame (joined_frame f (rename_expansion on_cells x) link' qs') new link'' ts) (with_expansion b gs x)
   at_joined link' qs' a new link'' ts u outside gs scoped =
       let p = posted_each M (numbers next.0.held.fixed ++ b.equations) (λ v. v < b.fresh + more) (f.cells + more) (λ v. f.heap (next.0.place v)) on_cells x.ranges placed b.posted f.link next.0.held.slot f.store next.0.held.stored link' qs' a in
       let u' : IsUnified (f.cells + more) link' (applied_each f.heap (renamed_each next.0.place (equations x.equated))) new link'' ts =
-      subst (λ ds. IsUnified (f.cells + more) link' (applied_each f.heap ds) new link'' ts) (sym (equated_placed b.fresh x.fresh x.ranges next.0.place on_cells new_place x.equated fresh))
+      subst (λ ds. IsUnified (f.cells + more) link' (applied_each f.heap ds) new link'' ts) (sym (equated_placed b.fresh x.fresh next.0.place on_cells new_place x.equated fresh))
       (subst (λ h. IsUnified h link' (applied_each f.heap (equations (rename_products on_cells x.equated))) new link'' ts) (sym end) u) in
-      let below : EquationsOf (λ v. v < b.fresh + more) (equations x.equated) = subst (λ m. EquationsOf (λ v. v < m) (equations x.equated)) (sym top) (equated_below b.fresh x.fresh x.ranges x.equated fresh) in
+      let below : EquationsOf (λ v. v < b.fresh + more) (equations x.equated) = subst (λ m. EquationsOf (λ v. v < m) (equations x.equated)) (sym top) (equated_below b.fresh x.fresh x.equated fresh) in
       let there = at_row M q work f b s more x.ranges link' p.0 qs' p.1 gs (each_wider b.fresh (b.fresh + more) (omega arith) gs scoped) (equations x.equated) below new link'' ts u' (λ c l. outside c (subst (λ h. h ≤ c) end l)) in
       let one = subst (λ w. IsAt M q w (unified_frame (record { heap = f.heap; cells = f.cells + more; link = link'; store = qs' }) new link'' ts) (record { goals = gs; equations = equations x.equated ++ b.equations; posted = x.ranges ++ b.posted; fresh = b.fresh + more })) (list_agree b.fresh next.0.place s.place old_place gs scoped) there in
       let two = subst (λ h. IsAt M q (map (rename_goal s.place) gs) (unified_frame (record { heap = f.heap; cells = h; link = link'; store = qs' }) new link'' ts) (record { goals = gs; equations = equations x.equated ++ b.equations; posted = x.ranges ++ b.posted; fresh = b.fresh + more })) end one in
@@ -185,7 +193,7 @@ module _ (M : ℕ) (prog : Program) (q : Query) (f : Frame) (cs : List Choice) (
           (subst (λ Y. offered M prog m.branch t.head t.rest s Y ≡ by_constraint m.branch t.rest (Ok x.0)) (sym alike.1) here)),
         subst (λ z. Joins z kid) x.2 (λ link' qs' a new link'' ts u outside.
           subst (λ w. IsAt M q w (unified_frame (joined_frame f (rename_expansion (on_frame s D v) x.0) link' qs') new link'' ts) kid) (sym t.others)
-          (at_joined M q (Constrain kind l ∷ work) f m.branch m.here _ x.0 scoped.grows scoped.equated (cells_of s D v x.0 x.1) link' qs' a new link'' ts u outside t.rest t.below.1)),
+          (at_joined M q (Constrain kind l ∷ work) f m.branch m.here _ x.0 scoped.grows (all_between m.branch.fresh x.0.fresh x.0.ranges x.0.equated scoped.equated) (cells_of s D v x.0 x.1) link' qs' a new link'' ts u outside t.rest t.below.1)),
       )
 
   module _ (y : Expansion) (is : frame_row f kind l ≡ Ok y) (link' : ℕ → Option ℕ) (qs' : List Indexical) (joined : AreJoined f.link f.store y.ranges link' qs') (new : Substitution) (link'' : ℕ → Option ℕ) (ts : List Touch)

@@ -192,7 +192,7 @@ module _ (M : ℕ) (prog : Program) (q : Query) (f : Frame) (cs : List Choice) (
 
   -- `T in R`, where the store is at rest
   module _ (runnable : IsRunnableProgram M prog) (n : ℕ) (k : Option ℕ) (l : Term) (x : Range) (work : List Goal) (m : Walks M prog q (Post l x ∷ work) f cs (suc n) k es r) (T : Family) (rest : IsAtRest M f T) where
-    abbrev ahead : IsFront (Post l x) work m.here.place m.branch
+    abbrev pub ahead : IsFront (Post l x) work m.here.place m.branch
     ahead = front runnable n k (Post l x) work m
 
     pub asked : (t : Term) × (y : Range) × (ahead.head ≡ Post t y) × (l ≡ rename_term m.here.place t) × (x ≡ rename_range m.here.place y)
@@ -202,15 +202,15 @@ module _ (M : ℕ) (prog : Program) (q : Query) (f : Frame) (cs : List Choice) (
     abbrev pub found : Found
     found = post (λ v. f.heap (m.here.place v)) asked.0 asked.1 m.branch.fresh
 
-    below : TermBelow m.branch.fresh asked.0 × RangeBelow m.branch.fresh asked.1
+    pub below : TermBelow m.branch.fresh asked.0 × RangeBelow m.branch.fresh asked.1
     below = let h = subst (λ g. EachBelow m.branch.fresh (g ∷ ahead.rest)) asked.2 ahead.below in (h.0.0, h.0.1)
 
-    gives_found : (s : Substitution) (D : Family) → IsView M m.branch.equations m.branch.posted s D → offered M prog m.branch ahead.head ahead.rest s D ≡ by_post m.branch ahead.rest found
+    pub gives_found : (s : Substitution) (D : Family) → IsView M m.branch.equations m.branch.posted s D → offered M prog m.branch ahead.head ahead.rest s D ≡ by_post m.branch ahead.rest found
     gives_found s D v =
         ap (λ g. offered M prog m.branch g ahead.rest s D) asked.2
         ∙ ap (by_post m.branch ahead.rest) (post_same m.branch.fresh (look_in m.branch s D) (λ w. f.heap (m.here.place w)) (λ w low. view_kind M f m.branch.equations m.branch.posted (λ u. u < m.branch.fresh) (λ u. f.heap (m.here.place u)) m.here.held T rest s D v m.consistent w low) asked.0 asked.1 m.branch.fresh below.0 below.1)
 
-    quiet : (s : Substitution) (D : Family) → IsView M m.branch.equations m.branch.posted s D → says s D m.branch ahead.head ≡ []
+    pub quiet : (s : Substitution) (D : Family) → IsView M m.branch.equations m.branch.posted s D → says s D m.branch ahead.head ≡ []
     quiet s D v = ap (says s D m.branch) asked.2
 
     pub walk_post_fault : (e : QueryFault) → found ≡ offends e → (es ≡ Fault e ∷ []) × (r ≡ 1)

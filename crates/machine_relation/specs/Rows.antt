@@ -1,12 +1,17 @@
--- Constraints over cells: their rows, and how the ranges of a row are linked.
-use Rattle.std.specs.Prelude.{◌≡◌, ℕ, true, false, ℤ, List, [], ◌∷◌, ◌++◌, map, Option, Some, ◌⊎◌, Result, Ok, Err}
+-- Goals that post ranges, over cells: their rows, and how the ranges of a row are linked.
+use Rattle.std.specs.Prelude.{◌≡◌, ℕ, suc, ◌+◌, true, false, ℤ, List, [], ◌∷◌, ◌++◌, length, map, Option, Some, None, ◌⊎◌, Result, Ok, Err}
 use Rattle.fd_model.specs.declared.kinds.QueryFault.{QueryFault}
+use Rattle.fd_model.specs.declared.kinds.QueryFault.TheVariants.{BadType}
 use Rattle.fd_model.specs.declared.kinds.ConstraintKind.{ConstraintKind}
-use Rattle.fd_language.specs.Term.{Term}
+use Rattle.fd_language.specs.Term.{Term, Var, Int, Atom, Comp, Substitution}
 use Rattle.fd_language.specs.Family.{has}
-use Rattle.fd_language.specs.Range.{Indexical}
+use Rattle.fd_language.specs.Range.{Range, Indexical}
+use Rattle.fd_language.specs.Check.{fill_range}
+use Rattle.fd_language.specs.Needs.{need_of}
+use Rattle.fd_language.specs.Places.{Place, place, range_places}
+use Rattle.fd_model.specs.Posting.{first_offence, integers_at, slot, integer_of}
 use Rattle.fd_model.specs.Closed.{constrained}
-use Rattle.fd_language.specs.RangeRenaming.{rename_indexical}
+use Rattle.fd_language.specs.RangeRenaming.{rename_range, rename_indexical}
 use Rattle.fd_model.specs.LinearRows.{Expansion}
 use Rattle.fd_model.specs.Constraining.{constrain}
 use Rattle.machine_relation.specs.Held.{Frame}
@@ -27,6 +32,48 @@ rename_row f (Ok x) = Ok (rename_expansion f x)
 -- the row of a constraint on the term t over cells, by a heap: the fresh variables are the next cells
 abbrev pub frame_row : Frame → ConstraintKind → Term → Result Expansion QueryFault
 frame_row f c t = constrain f.heap c t f.cells
+
+-- the fresh variables of a posted range, from n on, with their integers
+abbrev pub slot_numbers : Substitution → ℕ → List ℕ → List (ℕ × ℤ)
+slot_numbers look n [] = []
+slot_numbers look n (x ∷ xs) = (n, integer_of (look x)) ∷ slot_numbers look (suc n) xs
+
+abbrev pub unless_fault : Option QueryFault → Expansion → Result Expansion QueryFault
+unless_fault (Some f) x = Err f
+unless_fault None x = Ok x
+
+-- x in r as a row, where n is the next fresh number, es are variables already equated, and ps are the places looked at
+abbrev pub post_row_at : Substitution → List Place → ℕ → List (ℕ × ℤ) → ℕ → Range → Result Expansion QueryFault
+post_row_at look ps x es n r =
+    let ys = integers_at look ps [] in
+    unless_fault (first_offence (need_of r) look ps)
+    (record { equated = es ++ slot_numbers look n ys; ranges = record { target = slot n ys x; range = rename_range (slot n ys) (fill_range (λ y. integer_of (look y)) r) } ∷ []; fresh = n + length ys })
+
+-- what `T in r` posts, as a row
+abbrev pub post_row : Substitution → Term → Range → ℕ → Result Expansion QueryFault
+post_row look (Var v) r n = post_row_at look (place v false ++ range_places r) v [] n r
+post_row look (Int z) r n = post_row_at look (range_places r) n ((n, z) ∷ []) (suc n) r
+post_row look (Atom a) r n = Err BadType
+post_row look (Comp f ts) r n = Err BadType
+
+-- the cell that a cell was bound to
+abbrev pub root_in : Term → ℕ → ℕ
+root_in (Var d) c = d
+root_in _ c = c
+
+abbrev pub root : Substitution → ℕ → ℕ
+root heap c = root_in (heap c) c
+
+abbrev pub on_roots : Substitution → Expansion → Expansion
+on_roots heap x = record { equated = x.equated; ranges = map (rename_indexical (root heap)) x.ranges; fresh = x.fresh }
+
+abbrev pub roots_of : Substitution → Result Expansion QueryFault → Result Expansion QueryFault
+roots_of heap (Err e) = Err e
+roots_of heap (Ok x) = Ok (on_roots heap x)
+
+-- the row of a goal `T in r` over cells, by a heap
+abbrev pub frame_post : Frame → Term → Range → Result Expansion QueryFault
+frame_post f t r = roots_of f.heap (post_row f.heap t r f.cells)
 
 -- What a store supplies for a range on cells: each cell that it names is linked now, g gives its variable of the store; older links stay, and new ones go to variables that no posted range names.
 pub record IsJoined (link : ℕ → Option ℕ) (qs : List Indexical) (p : Indexical) (g : ℕ → ℕ) (link' : ℕ → Option ℕ) : Type 0 where
