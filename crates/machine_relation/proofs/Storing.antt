@@ -69,7 +69,7 @@ sole_value M qs G most k w c e T m =
     single_from 0 M w (T k) (m.closed.family.rising k) (subst (λ i. has (T k) i ≡ true) (only some.0 some.1) some.1) only
 
 -- without one cell
-pub without_cell : ℕ → (ℕ → Option ℕ) → ℕ → Option ℕ
+unfoldable pub without_cell : ℕ → (ℕ → Option ℕ) → ℕ → Option ℕ
 without_cell c link d = cond (d == c) None (link d)
 
 without_case : (b : Bool) (o : Option ℕ) (j : ℕ) → cond b None o ≡ Some j → (b ≡ false) × (o ≡ Some j)
