@@ -1,0 +1,13 @@
+pub mod Elements
+pub mod Substitutions
+pub mod Ranks
+pub mod Binding
+pub mod Chains
+pub mod Fields
+pub mod Marks
+pub mod Changing
+pub mod Growing
+pub mod Levels
+pub mod Adding
+pub mod Undoing
+pub mod Atoms

@@ -1,0 +1,6 @@
+pub mod Touching
+pub mod Reducing
+pub mod Efforts
+pub mod Occurring
+pub mod Stepping
+pub mod Whole

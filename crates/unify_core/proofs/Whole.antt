@@ -1,0 +1,68 @@
+-- A whole unification, from its steps.
+use Rattle.std.proofs.Common.{◌≡◌, ℕ, suc, Bool, true, false, refl, sym, ◌∙◌, subst, arith, List, [], ◌∷◌, ◌++◌}
+use Rattle.std.specs.Prelude.{All, Ok}
+use Rattle.std.proofs.lemmas.Bool.{false≢true}
+use Rattle.fd_language.specs.declared.NoMemory.{NoMemory}
+use Rattle.heap_cells.specs.declared.Cell.{Cell}
+use Rattle.heap_cells.specs.Cells.{Cells, IsOf}
+use Rattle.heap_cells.specs.Terms.{Naming, IsOneToOne}
+use Rattle.heap_cells.specs.Atoms.{IsAtomBelow, HasAtomsBelow}
+use Rattle.unify_core.specs.declared.Pair.{Pair}
+use Rattle.unify_core.specs.declared.Touch.{Touch}
+use Rattle.unify_core.specs.Touches.{IsRefuted}
+use Rattle.unify_core.specs.Reduces.{Reduces, IsOwn, HasAtoms, IsSameSize}
+use Rattle.unify_core.specs.Unified.{IsUnified, AreUnified, KeepsAtoms, cells_equal}
+use Rattle.unify_core.specs.Outcome.{IsDone, IsHopeless, IfTrue, IfFalse}
+use Rattle.unify_core.proofs.Reducing.{reduces_none, reduces_both, refuted_both, unified}
+use Rattle.heap_cells.proofs.Elements.{none_at_all, both_of}
+
+abbrev pub start : Cell → Cell → List Pair
+start a b = record { left = a; right = b } ∷ []
+
+-- so far
+pub record IsUnderWay (old : Cells) (a b : Cell) (now : Cells) (left : List Pair) (ts : List Touch) : Type 0 where
+  pub reduces : (name : Naming) → Reduces name old (start a b) now left ts
+  pub size : IsSameSize old now
+  pub own : All (IsOwn now) left
+  pub atoms : (n : ℕ) → HasAtomsBelow n old → IsAtomBelow n a → IsAtomBelow n b → HasAtomsBelow n now × All (HasAtoms n) left
+
+pub under_way_first : (h : Cells) (a b : Cell) → IsOf h a → IsOf h b → IsUnderWay h a b h (start a b) []
+under_way_first h a b x y = record {
+  reduces = λ name. reduces_none name h (start a b);
+  size = record { slots = refl; compounds = refl };
+  own = both_of (IsOwn h) (record { left = a; right = b }) [] (x, y) (none_at_all (IsOwn h));
+  atoms = λ n o p q. (o, both_of (HasAtoms n) (record { left = a; right = b }) [] (p, q) (none_at_all (HasAtoms n)));
+}
+
+pub under_way_further : (old mid now : Cells) (a b : Cell) (work left : List Pair) (before ts : List Touch) → IsUnderWay old a b mid work before → IsDone mid work before now left ts → IsUnderWay old a b now left ts
+under_way_further old mid now a b work left before ts w d = record {
+  reduces = λ name. subst (λ us. Reduces name old (start a b) now left us) (sym d.touches) (reduces_both name old mid now (start a b) work left before d.more w.size (w.reduces name) (d.reduces name));
+  size = record { slots = d.size.slots ∙ w.size.slots; compounds = d.size.compounds ∙ w.size.compounds };
+  own = d.own w.own;
+  atoms = λ n o p q. (let so = w.atoms n o p q in d.atoms n so.0 so.1);
+}
+
+pub atoms_unified : (old now : Cells) (a b : Cell) (left : List Pair) (ts : List Touch) → IsUnderWay old a b now left ts → KeepsAtoms old a b now
+atoms_unified old now a b left ts w n o p q = (w.atoms n o p q).0
+
+pub last_own : (h : Cells) (ps : List Pair) (p : Pair) → All (IsOwn h) (ps ++ p ∷ []) → IsOwn h p
+last_own h [] p a = a 0 p (omega arith)
+last_own h (q ∷ ps) p a = last_own h ps p (λ k d l. a (suc k) d (omega arith))
+
+pub all_unified : (old now : Cells) (a b : Cell) (left : List Pair) (ts : List Touch) → left ≡ [] → IsUnderWay old a b now left ts → (name : Naming) → IsUnified name old a b now ts
+all_unified old now a b left ts e w name = unified name old now a b ts (subst (λ ps. Reduces name old (start a b) now ps ts) e (w.reduces name))
+
+-- one step was enough
+pub once_unified : (old now : Cells) (a b : Cell) (ts : List Touch) → ts ≡ [] → IsOf old a → IsOf old b → IsDone old (start a b) [] now [] [] → AreUnified old a b now ts
+once_unified old now a b ts e x y d name = subst (λ us. IsUnified name old a b now us) (sym e) (all_unified old now a b [] [] refl (under_way_further old old now a b (start a b) [] [] [] (under_way_first old a b x y) d) name)
+
+pub none_unified : (old mid : Cells) (a b : Cell) (work : List Pair) (ts : List Touch) → IsUnderWay old a b mid work ts → IsHopeless mid work → (name : Naming) → IsOneToOne name → IsRefuted old (cells_equal name old a b)
+none_unified old mid a b work ts w h name o = refuted_both name old mid (start a b) work ts (w.reduces name) (h name o)
+
+pub at_true : (b : Bool) (P : Type 0) → b ≡ true → IfTrue {E = NoMemory} (Ok b) P → P
+at_true true P e h = h
+at_true false P e h = absurd (false≢true e)
+
+pub at_false : (b : Bool) (P : Type 0) → b ≡ false → IfFalse {E = NoMemory} (Ok b) P → P
+at_false true P e h = absurd (false≢true (sym e))
+at_false false P e h = h
