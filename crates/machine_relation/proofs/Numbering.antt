@@ -1,7 +1,7 @@
 -- Linked cells that take integers, as one unification.
 use Rattle.std.proofs.Common.{◌≡◌, ℕ, suc, ◌<◌, ◌≤◌, Bool, true, false, cond, ◌==◌, ℤ, List, [], ◌∷◌, Option, Some, None, refl, ap, sym, ◌∙◌, subst, inl, inr, ◌⊎◌, ◌+◌, length, arith, eqb-true, eq-eqb, ne_eqb}
-use Rattle.std.proofs.lemmas.Bool.{cases_Bool, or_cases, true≢false}
-use Rattle.fd_language.specs.Term.{Term, Var, Int, Substitution, apply}
+use Rattle.std.proofs.lemmas.Bool.{or_cases, true≢false}
+use Rattle.fd_language.specs.Term.{Var, Int, Substitution, apply}
 use Rattle.fd_language.specs.Unifier.{Unifies}
 use Rattle.fd_language.specs.Family.{has}
 use Rattle.fd_language.specs.Lists.{Each}

@@ -1,5 +1,5 @@
 -- Rows of goals `T in r` under other names of their variables.
-use Rattle.std.proofs.Common.{◌≡◌, ℕ, suc, ◌+◌, ◌≤◌, Bool, true, false, cond, not, ◌||◌, ◌&&◌, ◌==◌, ℤ, List, [], ◌∷◌, ◌++◌, length, map, Option, Some, None, refl, ap, sym, ◌∙◌, inl, inr, arith, eqb-true, eq-eqb, Result, Ok, Err}
+use Rattle.std.proofs.Common.{◌≡◌, ℕ, suc, ◌+◌, ◌≤◌, Bool, true, false, cond, not, ◌||◌, ◌&&◌, ◌==◌, ℤ, List, [], ◌∷◌, ◌++◌, length, map, Option, Some, None, refl, ap, sym, ◌∙◌, inl, inr, arith, eqb-true, eq-eqb, Ok}
 use Rattle.std.proofs.lemmas.Bool.{cases_Bool, true≢false}
 use Rattle.std.proofs.lemmas.List.{map-append}
 use Rattle.fd_model.specs.declared.kinds.QueryFault.{QueryFault}
@@ -11,7 +11,7 @@ use Rattle.fd_language.specs.Family.{has}
 use Rattle.fd_language.specs.Range.{Range, Span, One, Dom, Union, Inter, Outside, Plus, Minus, Times, Over, Expr, Number, Infinity, Param, Min, Max, Val, Add, Sub, Mul, DivDown, DivUp}
 use Rattle.fd_language.specs.RangeRenaming.{rename_expr, rename_range, rename_indexical}
 use Rattle.fd_language.specs.Check.{fill, fill_range}
-use Rattle.fd_language.specs.Needs.{is_literal, by_place, quotient_asks, expr_asks, over_asks, asks, stronger, strongest, need_of, meets}
+use Rattle.fd_language.specs.Needs.{is_literal, quotient_asks, expr_asks, over_asks, asks, stronger, strongest, need_of, meets}
 use Rattle.fd_language.specs.Places.{Place, place, expr_places, range_places}
 use Rattle.fd_model.specs.Posting.{offence_at, or_later, first_offence, is_integer, integers_at, slot, integer_of}
 use Rattle.fd_model.specs.Renaming.{rename_term}

@@ -1,9 +1,9 @@
 -- The steps of goals `T in r` over cells: the machine reads its own terms, links the range's cells, and binds the fresh cells to their integers.
-use Rattle.std.proofs.Common.{◌≡◌, ℕ, suc, ◌+◌, ◌-◌, ◌<◌, ◌≤◌, true, ℤ, List, [], ◌∷◌, ◌++◌, length, Option, map, refl, ap, sym, ◌∙◌, subst, inl, inr, ◌⊎◌, arith, nat_lt, Result, Ok, Err}
+use Rattle.std.proofs.Common.{◌≡◌, ℕ, suc, ◌+◌, ◌<◌, ◌≤◌, true, ℤ, List, [], ◌∷◌, ◌++◌, length, Option, map, refl, ap, sym, ◌∙◌, subst, inl, inr, ◌⊎◌, arith, nat_lt, Result, Ok, Err}
 use Rattle.std.proofs.lemmas.Bool.{cases_Bool}
 use Rattle.std.proofs.lemmas.Bool.Decides.{nat_tests}
 use Rattle.fd_model.specs.declared.kinds.QueryFault.{QueryFault}
-use Rattle.fd_language.specs.Term.{Term, Var, Int, Atom, Comp, Substitution}
+use Rattle.fd_language.specs.Term.{Term, Var, Substitution}
 use Rattle.fd_language.specs.Family.{Family, has}
 use Rattle.fd_language.specs.Range.{Range, Indexical}
 use Rattle.fd_model.specs.Closed.{constrained}
@@ -12,7 +12,8 @@ use Rattle.fd_language.specs.RangeRenaming.{rename_range, rename_indexical}
 use Rattle.fd_model.specs.Renaming.{rename_term}
 use Rattle.fd_model.specs.Seen.{IsView}
 use Rattle.fd_model.specs.Children.{with_expansion, by_constraint}
-use Rattle.fd_model.specs.Sound.{IsRunnableProgram, TermBelow, RangeBelow}
+use Rattle.fd_language.specs.Variables.{TermBelow}
+use Rattle.fd_model.specs.Sound.{IsRunnableProgram, RangeBelow}
 use Rattle.fd_model.specs.LinearRows.{Expansion}
 use Rattle.fd_model.specs.Constraining.{equations}
 use Rattle.fd_model.specs.Models.{IsModel}
@@ -22,7 +23,7 @@ use Rattle.machine_relation.specs.Models.{HasModel}
 use Rattle.machine_relation.specs.Store.{Touch, posts, IsUnified}
 use Rattle.machine_relation.specs.Ahead.{offered, Spends}
 use Rattle.machine_relation.specs.Held.{Frame, IsAtRest, unified_frame}
-use Rattle.machine_relation.specs.Machine.{IsAt, Choice, Waits, Walks, Returns}
+use Rattle.machine_relation.specs.Machine.{IsAt, Choice, Walks, Returns}
 use Rattle.machine_relation.specs.Rows.{rename_products, rename_expansion, rename_row, post_row, root_in, root, on_roots, roots_of, frame_post, AreJoined, joined_frame}
 use Rattle.machine_relation.proofs.Renaming.{term_agree, range_agree, range_twice}
 use Rattle.machine_relation.proofs.Cells.{place_from, place_old, place_above, apart_from}
@@ -32,7 +33,7 @@ use Rattle.machine_relation.proofs.PostRenaming.{functions, post_renamed}
 use Rattle.machine_relation.proofs.Numbering.{AreConsecutive}
 use Rattle.machine_relation.proofs.RangeGoals.{IsRangeRow, post_as_row, range_row}
 use Rattle.machine_relation.proofs.Walking.{at_no_model}
-use Rattle.machine_relation.proofs.Taking.{walk_fault, walk_kid, walk_gone, ahead, asked, found, below, gives_found, quiet}
+use Rattle.machine_relation.proofs.Taking.{walk_fault, walk_kid, walk_gone, ahead, asked, below, gives_found, quiet}
 use Rattle.machine_relation.proofs.Constraints.{AreBetween, at_joined}
 
 pub consecutive_between : (n m : ℕ) (ds : List (ℕ × ℤ)) → n + length ds ≤ m → AreConsecutive n ds → AreBetween n m ds
