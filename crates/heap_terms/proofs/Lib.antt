@@ -1,0 +1,8 @@
+pub mod Tasks
+pub mod Stacks
+pub mod Pools
+pub mod CellReads
+pub mod CellWalk
+pub mod VarWalk
+pub mod TermWalk
+pub mod Whole

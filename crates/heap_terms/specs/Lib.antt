@@ -1,0 +1,5 @@
+pub mod Built
+pub mod Given
+pub mod Tasks
+pub mod Building
+pub mod Reading
