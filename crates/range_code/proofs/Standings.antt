@@ -1,5 +1,5 @@
 -- How the variables of a range stand, told from what it reads.
-use Rattle.std.proofs.Common.{◌≡◌, ℕ, ℤ, ◌+◌, ◌<◌, length, take, get_or, Option, Some, None, subst, Bool, true, false, cond, not, ◌||◌, ◌&&◌, ◌==◌, List, [], ◌∷◌, ◌++◌, filter, refl, sym, ◌∙◌, ap, inl, inr, eqb-true}
+use Rattle.std.proofs.Common.{◌≡◌, ℕ, zero, suc, ◌≤◌, ◌⊎◌, arith, ℤ, ◌+◌, ◌<◌, length, take, get_or, Option, Some, None, subst, Bool, true, false, cond, not, ◌||◌, ◌&&◌, ◌==◌, List, [], ◌∷◌, ◌++◌, filter, refl, sym, ◌∙◌, ap, inl, inr, eqb-true}
 use Rattle.std.specs.Prelude.{OnSome}
 use Rattle.std.specs.Option.{is_some}
 use Rattle.std.specs.List.{All, list_any}
@@ -13,7 +13,8 @@ use Rattle.fd_language.specs.declared.range_node.RangeNode.TheVariants as node
 use Rattle.fd_language.specs.Range.{Range, Span, One, Dom, Union, Inter, Outside, Plus, Minus, Times, Over, Expr, Number, Infinity, Param, Min, Max, Val, Add, Sub, Mul, DivDown, DivUp, reads, expr_reads, vals, expr_vals, is_none_left, is_several}
 use Rattle.fd_language.specs.Check.{fill, fill_range}
 use Rattle.fd_language.specs.declared.TheConstants.{INFINITY}
-use Rattle.fd_language.specs.Family.{Family, IsRising}
+use Rattle.fd_language.specs.Family.{Family, IsRising, universe}
+use Rattle.fd_language.proofs.Sets.{universe_rising}
 use Rattle.fd_language.specs.Features.{expr_features, range_features, is_same_feature, is_same_pair, each_once, features_of}
 use Rattle.fd_language.proofs.RangeRenaming.{two}
 use Rattle.range_code.specs.declared.frame.Arg.{Arg}
@@ -231,3 +232,19 @@ stands_more S ds i e xs o opened next l h r g k n s = record {
   several = n ∙ (ap (λ b. b || (is_val (get_or ds i e).1 && is_several xs)) s.several ∙ (ap (λ l. list_any (opens S) (take i ds) || (is_val (get_or ds i e).1 && is_several l)) h ∙ sym (list_any_more (opens S) ds i e l)));
   rising = All-more (λ d. IsRising 0 INFINITY (S d.0)) ds i e l s.rising (subst (IsRising 0 INFINITY) h r);
 }
+
+-- no set of a family is empty, where no listed one is
+at_or_past : (domains : List (List ℕ)) (k : ℕ) → (k < length domains) ⊎ (get_or domains k (universe INFINITY) ≡ universe INFINITY)
+at_or_past [] k = inr refl
+at_or_past (d ∷ ds) zero = inl (omega arith)
+at_or_past (d ∷ ds) (suc k) = elim (at_or_past ds k) [ inl h ↦ inl (omega arith) | inr h ↦ inr h ]
+
+universe_some : (M : ℕ) → is_none_left (universe M) ≡ false
+unfolding universe
+universe_some M = refl
+
+pub all_some : (domains : List (List ℕ)) (i : ℕ) → length domains ≤ i → ((k : ℕ) → k < i → (is_none_left (get_or domains k (universe INFINITY)) ≡ false) × IsRising 0 INFINITY (get_or domains k (universe INFINITY))) → (k : ℕ) → (is_none_left (get_or domains k (universe INFINITY)) ≡ false) × IsRising 0 INFINITY (get_or domains k (universe INFINITY))
+all_some domains i l h k = elim (at_or_past domains k) [
+  | inl g ↦ h k (omega arith)
+  | inr g ↦ (ap is_none_left g ∙ universe_some INFINITY, subst (IsRising 0 INFINITY) (sym g) (universe_rising INFINITY))
+]

@@ -1,12 +1,12 @@
 // The arguments of a range, and what they give.
 
-ghost use Rattle.std.specs.Prelude.{◌≡◌, ◌<◌, ◌&&◌, ℕ, length, slice_index_or};
+ghost use Rattle.std.specs.Prelude.{◌≡◌, ◌<◌, ◌&&◌, ℕ, IsTrue, false, length, slice_index_or};
 ghost use Rattle.std.specs.List.{All, list_any};
-ghost use Rattle.fd_language.specs.Family.{IsRising};
-ghost use Rattle.range_code.specs.Frames.{variable_of, integer_of, slot_integer, slot_set};
+ghost use Rattle.fd_language.specs.Family.{IsRising, IsFamily};
+ghost use Rattle.range_code.specs.Frames.{variable_of, integer_of, slot_integer, slot_set, family_of};
 ghost use Rattle.range_code.specs.Nodes.{IsSeen, IsReadable};
 ghost use Rattle.range_code.specs.Standing.{is_val, standing_of};
-ghost use Rattle.fd_language.specs.Range.{is_several};
+ghost use Rattle.fd_language.specs.Range.{is_several, is_none_left};
 
 use domain_ranges::{Domain, View};
 use fd_language::{Feature, INFINITY};
@@ -110,4 +110,17 @@ pub(crate) fn is_some_open<V: View>(slots: &[usize], args: &[Arg], view: &V) -> 
         }
     }
     false
+}
+
+/// Whether each domain has a member. This is what `narrow` asks of the sets of its view.
+pub fn are_some(domains: &[Domain]) -> bool
+    ensures some { IsTrue result → (k : ℕ) → is_none_left (family_of domains.now k) ≡ false }
+    ensures family { IsTrue result → IsFamily INFINITY (family_of domains.now) }
+{
+    for domain in domains {
+        if domain.min().is_none() {
+            return false;
+        }
+    }
+    true
 }

@@ -23,7 +23,7 @@ use crate::compile::{
     Read, copy_range, height_of, name_slots, number_variables, read_nodes, slot_needs_of,
 };
 use crate::evaluate::{Steps, evaluate, evaluate_narrowing};
-pub use crate::frame::Arg;
+pub use crate::frame::{Arg, are_some};
 use crate::frame::{Standing, find_standing, is_some_open};
 use crate::work::Work;
 pub use domain_ranges::Narrowed;

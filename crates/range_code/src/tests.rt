@@ -4,7 +4,9 @@ ghost use Rattle.std.specs.Prelude.{◌≡◌, ◌<◌, length, slice_index_or, 
 ghost use Rattle.fd_language.specs.Flat.{nodes_of};
 ghost use Rattle.range_code.specs.Frames.{IsArg, AreArgs, IsFrame};
 
-use crate::{Activations, Arg, RangeCode, ReadKind, compile_range, run_range};
+use crate::{
+    Activations, Arg, Narrowed, RangeCode, ReadKind, Stacks, are_some, compile_range, narrow, run_range,
+};
 use domain_ranges::{Domain, View};
 use fd_language::{Feature, FlatRange, INFINITY, Need, RangeNode};
 use monotone_check::check;
@@ -103,6 +105,52 @@ fn gives(
     let set = run_range(alloc, &code, args, &view, &mut n)?;
     assert_eq!(rt; set.spans(), want);
     assert_eq!(rt; n.count, 1);
+    Ok(())
+}
+
+/// What the range leaves of the target, over the variables' domains.
+fn leaves(
+    rt: &impl Abort,
+    alloc: Global,
+    nodes: &[RangeNode],
+    args: &[Arg],
+    spans: &[(i128, i128)],
+    target: (i128, i128),
+    want: &[(u32, u32)],
+) -> Result<(), Fail> {
+    let code = code_of(rt, alloc, nodes)?;
+    let view = domains_of(alloc, spans)?;
+    let fits = are_args(view.list.len(), code.needs(), args);
+    assert!(rt; fits);
+    let some = are_some(&view.list);
+    assert!(rt; some);
+    let target = Domain::interval(alloc, target.0, target.1);
+    let mut stacks = Stacks::new(alloc);
+    stacks.reserve(&code)?;
+    let mut n = Activations::new();
+    match narrow(&code, args, &view, &target, &mut stacks, &mut n)? {
+        Narrowed::Same => assert_eq!(rt; target.spans(), want),
+        Narrowed::Empty => assert_eq!(rt; Domain::empty(alloc).spans(), want),
+        Narrowed::Changed(domain) => assert_eq!(rt; domain.spans(), want),
+    }
+    assert_eq!(rt; n.count, 1);
+    Ok(())
+}
+
+/// What `min(Y)+1..infinity` and `-{val(Y)}` leave of a domain.
+#[test]
+fn narrowed(rt: HostRuntime) -> Result<(), Fail> {
+    use RangeNode::*;
+    let alloc = rt.alloc();
+    let above = [Min(7), Int(1), Add, Infinity, Span];
+    let y = [Arg::Var(0)];
+    leaves(&rt, alloc, &above, &y, &[(3, 5)], (0, 9), &[(4, 9)])?;
+    leaves(&rt, alloc, &above, &y, &[(3, 5)], (4, 9), &[(4, 9)])?;
+    leaves(&rt, alloc, &above, &y, &[(9, 9)], (4, 9), &[])?;
+    let differs = [Val(7), One, Outside];
+    leaves(&rt, alloc, &differs, &y, &[(4, 4)], (3, 6), &[(3, 3), (5, 6)])?;
+    leaves(&rt, alloc, &differs, &y, &[(4, 5)], (3, 6), &[(3, 6)])?;
+    leaves(&rt, alloc, &differs, &y, &[(4, 4)], (4, 4), &[])?;
     Ok(())
 }
 
