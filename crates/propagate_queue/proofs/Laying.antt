@@ -5,7 +5,9 @@ use Rattle.std.proofs.lemmas.List.{length-append, length-map, length-take-le, ge
 use Rattle.std.proofs.lemmas.List.Elements.{All-push, All-take, All-head, All-tail}
 use Rattle.range_code.specs.declared.frame.Arg.{Arg}
 use Rattle.propagate_queue.specs.declared.agents.Agent.{Agent}
-use Rattle.propagate_queue.specs.Postings.{Posting}
+use Rattle.fd_language.specs.Range.{Range, Dom}
+use Rattle.range_code.specs.Frames.{posted}
+use Rattle.propagate_queue.specs.Postings.{Posting, posting_at}
 use Rattle.propagate_queue.specs.Laid.{laid, laid_out, AreLaid}
 
 -- arguments behind an agent's own
@@ -72,3 +74,18 @@ laid_less as' some args args' n a l less e f g = subst (λ x. AreLaid some x × 
   early : All (λ x. x.first + x.count ≤ a.first) (take n as')
   early k d low = let there : k < n = omega (arith, low, length-take-le n as' (omega (arith, less))) in
       omega (arith, l.rising k n d there less, ap (λ x. x.first) (get_or-take n as' k d there), ap (λ x. x.count) (get_or-take n as' k d there), ap (λ x. x.first) (e ∙ sym (get_or_default as' n d a less)))
+
+-- the range of an agent, by its own code and its place in the list of arguments
+pub code_of : (as' : List Agent) (args flat : List Arg) (number : ℕ) (a : Agent) (r : Range) → number < length as' → a ≡ get_or as' number a → r ≡ a.code.value → flat ≡ args
+    → posted r (take (a.first + a.count - a.first) (drop a.first flat)) ≡ posted (posting_at (laid_out as' args) number).range (posting_at (laid_out as' args) number).args
+code_of as' args flat number a r low e f g =
+    ap (λ q. posted q (take (a.first + a.count - a.first) (drop a.first flat))) f
+    ∙ ap (λ n. posted a.code.value (take n (drop a.first flat))) count
+    ∙ ap (λ l. posted a.code.value (take a.count (drop a.first l))) g
+    ∙ sym (ap (λ (p : Posting). posted p.range p.args) at)
+  where
+    count : a.first + a.count - a.first ≡ a.count
+    count = omega arith
+
+    at : posting_at (laid_out as' args) number ≡ laid args a
+    at = get_or-map (laid args) as' number a (record { range = Dom 0; target = 0; args = [] }) low ∙ ap (laid args) (sym e)

@@ -4,7 +4,7 @@ use Rattle.std.proofs.lemmas.List.{length-set, length-map, get_or_default}
 use Rattle.std.specs.List.{list_any}
 use Rattle.fd_language.specs.declared.TheConstants.{INFINITY}
 use Rattle.fd_language.specs.Family.{Family, has}
-use Rattle.fd_language.specs.Range.{Indexical, is_none_left}
+use Rattle.fd_language.specs.Range.{Indexical, Dom, is_none_left}
 use Rattle.fd_language.specs.Features.{range_features}
 use Rattle.fd_model.specs.Closed.{AllPosted}
 use Rattle.fd_language.specs.Monotonicity.{IsMonotone}
@@ -15,7 +15,7 @@ use Rattle.dependency_chains.specs.Waking.{change_of, wakes, is_woken}
 use Rattle.domain_trail.specs.Stores.{Stores}
 use Rattle.propagate_queue.specs.declared.activation.Outcome.{Outcome}
 use Rattle.propagate_queue.specs.declared.activation.Outcome.TheVariants.{Same, Empty, Changed}
-use Rattle.propagate_queue.specs.Postings.{Posting, ranged, ranges_of, AreReaders, IsPosting}
+use Rattle.propagate_queue.specs.Postings.{Posting, posting_at, ranged, ranges_of, AreReaders, IsPosting}
 use Rattle.fd_model.specs.Weights.{weights}
 use Rattle.propagate_queue.specs.Queues.{times, flag_at, flagged, AreQueued}
 use Rattle.propagate_queue.specs.Running.{IsAtRest, narrowed, IsRunning, Activated, HasNone}
@@ -83,3 +83,6 @@ empty_turn is old new flags a i o m l e h f done r = let d : Activated (ranged i
 
 pub instance_at : (count : ℕ) (is : List Posting) (a : ℕ) (i : Posting) → All (IsPosting count) is → a < length is → i ≡ get_or is a i → IsPosting count i
 instance_at count is a i h l e = subst (IsPosting count) (sym e) (h a i l)
+
+pub posting_is : (is : List Posting) (a : ℕ) → a < length is → posting_at is a ≡ get_or is a (posting_at is a)
+posting_is is a l = get_or_default is a (record { range = Dom 0; target = 0; args = [] }) (posting_at is a) l

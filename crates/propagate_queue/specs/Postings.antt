@@ -1,8 +1,8 @@
 -- What an agent stands for: a range with the arguments of its slots, posted on a target.
-use Rattle.std.specs.Prelude.{◌≡◌, ℕ, ◌<◌, ◌&&◌, ◌==◌, List, map, length, slice_index_or, refl, All}
+use Rattle.std.specs.Prelude.{◌≡◌, ℕ, ◌<◌, ◌&&◌, ◌==◌, List, [], map, length, slice_index_or, refl, All}
 use Rattle.std.specs.List.{list_any}
 use Rattle.std.specs.Coded.{Coded, code_by, coded×, coded_ℕ, coded_list}
-use Rattle.fd_language.specs.Range.{Range, Indexical}
+use Rattle.fd_language.specs.Range.{Range, Indexical, Dom}
 use Rattle.fd_language.specs.Features.{range_features}
 use Rattle.fd_model.specs.Levels.{range_coded}
 use Rattle.range_code.specs.declared.frame.Arg.{Arg}
@@ -22,6 +22,10 @@ posting_coded = code_by (Range × (ℕ × List Arg)) (coded× range_coded (coded
 
 abbrev pub postings_coded : Coded (List Posting)
 postings_coded = coded_list posting_coded
+
+-- the agent of a number
+abbrev pub posting_at : List Posting → ℕ → Posting
+posting_at ps number = slice_index_or ps number (record { range = Dom 0; target = 0; args = [] })
 
 -- the range that is posted
 abbrev pub ranged : Posting → Indexical

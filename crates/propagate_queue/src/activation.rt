@@ -1,19 +1,19 @@
 //! One activation of an agent.
 
-ghost use Rattle.std.specs.Prelude.{◌≡◌, ◌+◌, ◌-◌, ◌^◌, min, false, length, IfOk, IfErr};
+ghost use Rattle.std.specs.Prelude.{◌≡◌, ◌<◌, ◌+◌, ◌-◌, ◌^◌, ℕ, min, false, length, IfOk, IfErr};
+ghost use Rattle.fd_language.specs.declared.TheConstants.{INFINITY as TOP};
+ghost use Rattle.fd_language.specs.Family.{IsFamily};
 ghost use Rattle.fd_language.specs.Range.{is_none_left};
 ghost use Rattle.range_code.specs.Frames.{family_of};
-ghost use Rattle.propagate_queue.specs.Postings.{ranged, IsPosting};
-ghost use Rattle.propagate_queue.specs.Seats.{seated};
+ghost use Rattle.propagate_queue.specs.Postings.{ranged, posting_at, IsPosting};
 ghost use Rattle.propagate_queue.specs.Running.{Activated};
 
-use crate::agents::Seat;
+use crate::agents::Agents;
 use dependency_chains::Change;
-use domain_ranges::View;
+use domain_ranges::{Narrowed, View};
 use domain_trail::Trail;
 use fd_language::NoMemory;
-use range_code::{Activations, run_range};
-use std::alloc::Global;
+use range_code::Activations;
 
 /// What an activation did to the target's domain.
 pub enum Outcome {
@@ -25,30 +25,31 @@ pub enum Outcome {
     Changed(Change),
 }
 
-/// Intersects the domain of the target with the set of the range.
+/// Intersects the domain of the agent's target with the set of its range.
 pub fn activate(
-    alloc: Global,
     trail: &mut Trail,
-    agent: Seat<'_>,
+    agents: &mut Agents,
+    agent: usize,
+    target: usize,
     n: &mut Activations,
 ) -> Result<Outcome, NoMemory>
-    requires posting { IsPosting (length trail.old.current) (seated agent) }
-    requires some { is_none_left (family_of trail.old.current agent.target) ≡ false }
-    ensures done { IfOk result (Activated (ranged (seated agent.entry)) trail.old trail.new) }
+    requires agent { agent < length agents.old }
+    requires target { target ≡ (posting_at agents.old agent).target }
+    requires posting { IsPosting (length trail.old.current) (posting_at agents.old agent) }
+    requires some { (x : ℕ) → is_none_left (family_of trail.old.current x) ≡ false }
+    requires family { IsFamily TOP (family_of trail.old.current) }
+    ensures done { IfOk result (Activated (ranged (posting_at agents.old agent)) trail.old trail.new) }
     ensures unchanged { IfErr result (λ _. trail.new ≡ trail.old) }
+    ensures agents { agents.new ≡ agents.old }
     ensures count { n.new.count ≡ min (n.old.count + 1) (2 ^ 64 - 1) }
 {
-    let set = run_range(alloc, agent.code, agent.args, trail, n)?;
-    let old = trail.domain(agent.target);
-    let next = old.intersect(&set)?;
-    let size = next.size();
-    if size == old.size() {
-        return Ok(Outcome::Same);
+    match agents.narrow(agent, trail, trail.domain(target), n)? {
+        Narrowed::Same => Ok(Outcome::Same),
+        Narrowed::Empty => Ok(Outcome::Empty),
+        Narrowed::Changed(domain) => {
+            let change = Change::between(trail.domain(target), &domain);
+            trail.narrow(target, domain)?;
+            Ok(Outcome::Changed(change))
+        }
     }
-    if size == 0 {
-        return Ok(Outcome::Empty);
-    }
-    let change = Change::between(old, &next);
-    trail.narrow(agent.target, next)?;
-    Ok(Outcome::Changed(change))
 }

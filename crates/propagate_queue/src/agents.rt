@@ -1,13 +1,18 @@
 //! The agents of a store: what was posted, with the arguments of all in one list.
 
-ghost use Rattle.std.specs.Prelude.{◌≡◌, ◌<◌, ◌++◌, ◌∷◌, [], ℕ, length, take, slice_index_or, OnOk, OnErr};
-ghost use Rattle.propagate_queue.specs.Postings.{Posting};
+ghost use Rattle.std.specs.Prelude.{◌≡◌, ◌<◌, ◌+◌, ◌-◌, ◌^◌, ◌++◌, ◌∷◌, [], ℕ, min, false, length, take, OnOk, OnErr, IfOk};
+ghost use Rattle.fd_language.specs.declared.TheConstants.{INFINITY as TOP};
+ghost use Rattle.fd_language.specs.Family.{IsFamily};
+ghost use Rattle.fd_language.specs.Range.{set_of, is_none_left};
+ghost use Rattle.domain_ranges.specs.Narrowing.{IsNarrowed};
+ghost use Rattle.range_code.specs.Frames.{family_of, IsFrame};
 ghost use Rattle.propagate_queue.specs.Instances.{posting};
-ghost use Rattle.propagate_queue.specs.Seats.{seated};
+ghost use Rattle.propagate_queue.specs.Postings.{Posting, ranged, posting_at};
 
 use crate::instance::Instance;
+use domain_ranges::{Domain, Narrowed, View};
 use fd_language::NoMemory;
-use range_code::{Arg, RangeCode};
+use range_code::{Activations, Arg, RangeCode, Stacks, narrow};
 use std::alloc::Global;
 use std::marker::Model;
 use std::rc::Rc;
@@ -21,11 +26,13 @@ struct Agent {
     count: usize,
 }
 
-/// The agents in the order in which they were posted. An agent's number is its place.
+/// The agents in the order in which they were posted, with the stacks on which their ranges are evaluated.
+/// An agent's number is its place.
 #[derive(Drop)]
 pub struct Agents {
     list: Vec<Agent>,
     args: Vec<Arg>,
+    stacks: Stacks,
 }
 
 impl Model for Agents {
@@ -36,19 +43,11 @@ impl Model for Agents {
 
     ghost coded = { postings_coded };
 
-    ghost use Rattle.propagate_queue.specs.Laid.{laid_out, AreLaid};
+    ghost use Rattle.propagate_queue.specs.Laid.{laid_out, AreLaid, HaveRoom};
 
     ghost view = { λ a. laid_out a.list.items a.args.items };
 
-    ghost invariant = { λ a. AreLaid a.list.items a.args.items };
-}
-
-/// One agent.
-#[derive(Clone, Copy)]
-pub struct Seat<'a> {
-    pub code: &'a RangeCode,
-    pub target: usize,
-    pub args: &'a [Arg],
+    ghost invariant = { λ a. AreLaid a.list.items a.args.items × HaveRoom a.stacks a.list.items };
 }
 
 impl Agents {
@@ -59,6 +58,7 @@ impl Agents {
         Agents {
             list: Vec::new(alloc),
             args: Vec::new(alloc),
+            stacks: Stacks::new(alloc),
         }
     }
 
@@ -69,18 +69,43 @@ impl Agents {
         self.list.len()
     }
 
-    /// The agent of a number.
-    pub fn get(&self, number: usize) -> Seat<'_>
+    /// The variable that an agent narrows.
+    pub fn target(&self, number: usize) -> usize
         requires { number < length self.now }
-        ensures { (p : Posting) → seated result ≡ slice_index_or self.now number p }
+        ensures { result ≡ (posting_at self.now number).target }
+    {
+        self.list[number].target
+    }
+
+    /// The cost of an agent: the number of nodes of its range.
+    pub fn cost(&self, number: usize) -> usize
+        requires { number < length self.now }
+    {
+        self.list[number].code.range().nodes().len()
+    }
+
+    /// What the range of an agent leaves of `target`, and one more activation in `n`. No set of the view is empty.
+    pub fn narrow<V: View>(
+        &mut self,
+        number: usize,
+        view: &V,
+        target: &Domain,
+        n: &mut Activations,
+    ) -> Result<Narrowed, NoMemory>
+        requires number { number < length self.old }
+        requires frame { IsFrame (length (V.sets view.now))
+            (posting_at self.old number).range (posting_at self.old number).args }
+        requires some { (k : ℕ) → is_none_left (family_of (V.sets view.now) k) ≡ false }
+        requires family { IsFamily TOP (family_of (V.sets view.now)) }
+        ensures narrowed { IfOk result (IsNarrowed target.now
+            (set_of TOP (family_of (V.sets view.now)) (ranged (posting_at self.old number)).range)) }
+        ensures unchanged { self.new ≡ self.old }
+        ensures count { n.new.count ≡ min (n.old.count + 1) (2 ^ 64 - 1) }
     {
         let agent = &self.list[number];
         let end = agent.first + agent.count;
-        Seat {
-            code: &agent.code,
-            target: agent.target,
-            args: &self.args[agent.first..end],
-        }
+        let args = &self.args[agent.first..end];
+        narrow(&agent.code, args, view, target, &mut self.stacks, n)
     }
 
     /// One more agent.
@@ -89,6 +114,7 @@ impl Agents {
         ensures unchanged { OnErr result (self.new ≡ self.old) }
     {
         self.list.reserve(1)?;
+        self.stacks.reserve(&instance.code)?;
         let first = self.args.len();
         let count = instance.args.len();
         self.args.extend_from_slice(&instance.args)?;

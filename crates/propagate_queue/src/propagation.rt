@@ -18,7 +18,6 @@ use dependency_chains::{Chains, Woken};
 use domain_trail::Trail;
 use fd_language::NoMemory;
 use range_code::Activations;
-use std::alloc::Global;
 
 /// Puts the woken agents on the agenda, except those that stand there already.
 pub fn wake<A: Agenda>(agenda: &mut A, queued: &mut [bool], agents: &Agents, mut woken: Woken<'_>)
@@ -31,7 +30,7 @@ pub fn wake<A: Agenda>(agenda: &mut A, queued: &mut [bool], agents: &Agents, mut
     'waking: while let Some(agent) = woken.next() {
         if !queued[agent] {
             queued[agent] = true;
-            let cost = agents.get(agent).code.range().nodes().len();
+            let cost = agents.cost(agent);
             agenda.put(agent, cost);
         }
     }
@@ -39,40 +38,40 @@ pub fn wake<A: Agenda>(agenda: &mut A, queued: &mut [bool], agents: &Agents, mut
 
 /// Activates the agents on the agenda until none waits, or some domain would be empty. Whether none would be.
 pub fn propagate<A: Agenda>(
-    alloc: Global,
     trail: &mut Trail,
     chains: &Chains,
-    agents: &Agents,
+    agents: &mut Agents,
     agenda: &mut A,
     queued: &mut [bool],
     n: &mut Activations,
 ) -> Result<bool, NoMemory>
-    requires postings { All (IsPosting (length trail.old.current)) agents.now }
-    requires monotone { AllPosted (λ p. IsMonotone TOP p.range) (ranges_of agents.now) }
-    requires readers { AreReaders (ranges_of agents.now) chains.now.reads }
+    requires postings { All (IsPosting (length trail.old.current)) agents.old }
+    requires monotone { AllPosted (λ p. IsMonotone TOP p.range) (ranges_of agents.old) }
+    requires readers { AreReaders (ranges_of agents.old) chains.now.reads }
     requires vars { chains.now.vars ≡ length trail.old.current }
-    requires agents { length agents.now ≡ length queued.old }
+    requires agents { length agents.old ≡ length queued.old }
     requires queued { AreQueued queued.old (A.agents agenda.old) (A.spare agenda.old) }
-    requires running { IsRunning (ranges_of agents.now) trail.old.current queued.old }
+    requires running { IsRunning (ranges_of agents.old) trail.old.current queued.old }
+    ensures agents { agents.new ≡ agents.old }
     ensures below { trail.new.below ≡ trail.old.below }
     ensures vars { length trail.new.current ≡ length trail.old.current }
     ensures family { IsFamily TOP (family_of trail.new.current) }
     ensures queued { AreQueued queued.new (A.agents agenda.new) (A.spare agenda.new) }
     ensures all { OnOk result (A.agents agenda.new ≡ []) }
-    ensures done { IfOk result (λ b. MatchBool b (AreDomains (ranges_of agents.now) trail.new.current) (HasNone (ranges_of agents.now) (length trail.old.current))) }
-    ensures count { n.new.count ≤ n.old.count + (flagged queued.old + weights (ranges_of agents.now) (family_of trail.old.current) (family_of trail.new.current)) }
+    ensures done { IfOk result (λ b. MatchBool b (AreDomains (ranges_of agents.old) trail.new.current) (HasNone (ranges_of agents.old) (length trail.old.current))) }
+    ensures count { n.new.count ≤ n.old.count + (flagged queued.old + weights (ranges_of agents.old) (family_of trail.old.current) (family_of trail.new.current)) }
 {
     'activating: while let Some(agent) = agenda.take() {
         queued[agent] = false;
-        let seat = agents.get(agent);
-        match activate(alloc, trail, seat, n)? {
+        let target = agents.target(agent);
+        match activate(trail, agents, agent, target, n)? {
             Outcome::Same => {}
             Outcome::Empty => {
                 clear(agenda, queued);
                 return Ok(false);
             }
             Outcome::Changed(change) => {
-                let woken = chains.woken(seat.target, change);
+                let woken = chains.woken(target, change);
                 wake(agenda, queued, agents, woken);
             }
         }

@@ -37,7 +37,6 @@ pub enum Posted {
 /// The domains of variables under posted ranges, as a list of levels of which the first is the current one.
 #[derive(Drop)]
 pub struct Store<A: Agenda + Drop> {
-    alloc: Global,
     trail: Trail,
     chains: Chains,
     agents: Agents,
@@ -75,7 +74,6 @@ impl<A: Agenda + Drop> Store<A> {
     {
         empty(&mut agenda);
         Store {
-            alloc,
             trail: Trail::new(alloc),
             chains: Chains::new(alloc),
             agents: Agents::new(alloc),
@@ -125,7 +123,6 @@ impl<A: Agenda + Drop> Store<A> {
         }
         self.spent = true;
         let kept = post_all(
-            self.alloc,
             &mut self.trail,
             &mut self.chains,
             &mut self.agents,
@@ -224,7 +221,6 @@ impl<A: Agenda + Drop> View for Store<A> {
 
 /// Adds the agents of the list, and propagates unless the level has failed. Whether no domain would be empty.
 fn post_all<A: Agenda>(
-    alloc: Global,
     trail: &mut Trail,
     chains: &mut Chains,
     agents: &mut Agents,
@@ -272,5 +268,5 @@ fn post_all<A: Agenda>(
         clear(agenda, queued);
         return Ok(false);
     }
-    propagate(alloc, trail, chains, agents, agenda, queued, n)
+    propagate(trail, chains, agents, agenda, queued, n)
 }

@@ -9,12 +9,13 @@ use Rattle.propagate_queue.proofs.propagation.propagate.Given as goal
 
 abbrev pub invariant-activating : goal.invariant-activating
 invariant-activating g l = record {
+  agents : l.agents ≡ l.fn.agents;
   below : l.trail.below ≡ l.fn.trail.below;
   vars : length l.trail.current ≡ length l.fn.trail.current;
   queued : AreQueued l.queued (g.A.Agenda.agents l.agenda) (g.A.Agenda.spare l.agenda);
-  running : IsRunning (ranges_of l.agents) l.trail.current l.queued;
+  running : IsRunning (ranges_of l.fn.agents) l.trail.current l.queued;
   sizes : (x : ℕ) → length (family_of l.trail.current x) ≤ length (family_of l.fn.trail.current x);
-  count : l.n.count + flagged l.queued ≤ l.fn.n.count + (flagged l.fn.queued + weights (ranges_of l.agents) (family_of l.fn.trail.current) (family_of l.trail.current));
+  count : l.n.count + flagged l.queued ≤ l.fn.n.count + (flagged l.fn.queued + weights (ranges_of l.fn.agents) (family_of l.fn.trail.current) (family_of l.trail.current));
 }
 
 abbrev pub decreases-activating : goal.decreases-activating
