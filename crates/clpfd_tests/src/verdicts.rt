@@ -3,8 +3,9 @@
 ghost use Rattle.std.specs.Prelude.{◌≡◌, length};
 ghost use Rattle.fd_language.specs.Flat.{nodes_of};
 
-use super::*;
-use fd_language::RangeNode;
+use fd_language::{FlatRange, Need, RangeNode};
+use monotone_check::{CheckFault, check, needs};
+use std::alloc::Global;
 use std::process::Abort;
 use std::test::Fail;
 

@@ -1,6 +1,6 @@
 use Rattle.std.proofs.Common.{◌<◌, length}
 use Rattle.std.specs.Prelude.{All}
-use Rattle.term_writer.proofs.tests.term.Given as goal
+use Rattle.clpfd_tests.proofs.term_texts.term.Given as goal
 
 abbrev pub invariant-loop-step : goal.invariant-loop-step
 invariant-loop-step l = All (λ t. t.number < length l.pool.entries) l.stack.items

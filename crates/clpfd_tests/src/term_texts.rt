@@ -3,9 +3,9 @@
 ghost use Rattle.std.specs.Prelude.{◌<◌, length, All, OnOk, IfOk};
 ghost use Rattle.term_pool.specs.Valid.{IsWithin, shape_of};
 
-use crate::{Mode, VarText, write_atom, write_term};
 use std::test::Fail;
 use term_pool::{Node, Pool, TermId};
+use term_writer::{Mode, VarText, write_atom, write_term};
 
 /// A part of a term that is put behind its own parts.
 #[derive(Clone, Copy)]

@@ -1,5 +1,5 @@
 //! Texts with their tokens or their fault, as the format states them.
-use super::*;
+use char_tokens::{Kind, Scanner, TokenFault, tokens, unquote};
 use std::alloc::{AllocError, Global};
 use std::test::Fail;
 

@@ -1,7 +1,10 @@
 //! What no clause says: that the calls succeed with ample memory, and how std's readers and writers are used.
 ghost use Rattle.std.specs.Prelude.{◌≡◌, ◌≤◌, ◌<◌, None, length, IfOk, OnErr};
 
-use super::*;
+use byte_ports::{
+    Failed, MemorySink, MemorySource, ReadTextFault, ReaderSource, Sink, Source, SureSink,
+    SureSource, WriteFault, WriterSink, read_text, write_all,
+};
 use std::io;
 use std::io::{ErrorKind, Read, Write};
 use std::test::Fail;

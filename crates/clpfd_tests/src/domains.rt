@@ -1,8 +1,13 @@
+//! Sets that calls make of intervals, by hand.
+
 ghost use Rattle.std.specs.Prelude.{◌≡◌, ◌<◌, [], length, slice_index_or, MatchOption};
 ghost use Rattle.fd_language.specs.Family.{universe};
 ghost use Rattle.fd_language.specs.Range.{least};
 
-use super::*;
+use domain_ranges::{Domain, View};
+use fd_language::{INFINITY, NoMemory};
+use std::alloc::Global;
+use std::marker::Model;
 use std::process::Abort;
 
 /// A call with a result of its own, at an interval where it takes a second set.

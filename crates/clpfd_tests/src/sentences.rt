@@ -2,11 +2,11 @@
 ghost use Rattle.std.specs.Prelude.{◌<◌, length, All, OnOk};
 ghost use Rattle.term_reader.specs.Sentences.{AreOwn};
 
-use super::*;
 use char_tokens::TokenFault;
-use std::alloc::AllocError;
+use std::alloc::{AllocError, Global};
 use std::test::Fail;
 use term_pool::{AtomId, Node, Pool, TermId};
+use term_reader::{ReaderFault, read_sentences};
 
 /// A text, and what it is: each term with its parts before it, as a variable, an integer, an atom or a name with its arity, each with its place behind `@`; then the names of the sentence's variables; or the fault and its place.
 const TEXTS: &[(&str, &str)] = &[

@@ -2,13 +2,13 @@
 
 ghost use Rattle.std.specs.Prelude.{◌<◌, length};
 
-use super::*;
 use fd_language::{Feature, RangeNode};
 use monotone_check::{CheckFault, check};
-use std::alloc::AllocError;
+use range_terms::{RangeFault, SourceRange, features, read_range};
+use std::alloc::{AllocError, Global};
 use std::process::Abort;
 use std::test::Fail;
-use term_pool::Node;
+use term_pool::{Node, Pool, TermId};
 use term_reader::read_sentences;
 
 /// A range, and what is said of it: it is accepted, it is no range, or the check refuses it, each with the place. Of a query the range is that of its last goal.
