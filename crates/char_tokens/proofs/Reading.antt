@@ -2,7 +2,7 @@
 use Rattle.std.proofs.Common.{◌≡◌, ◌∙◌, ◌+◌, ◌<◌, ◌≤◌, ◌++◌, ◌∷◌, [], ℕ, List, Bool, true, false, sym, ap, subst, refl, arith, length, drop, length-drop, append_assoc}
 use Rattle.std.specs.Prelude.{Option, Some, None, is_some}
 use Rattle.fd_language.specs.Tokens.{Cause, Lexeme, Gap, Token, HasTokens, HasFault, TokensOf, FaultOf, after_gap, after_token, past_gap, past_token, here, front_of}
-use Rattle.fd_language.proofs.TokenLaws.{token_grows, front_empty, not_both, one_fault}
+use Rattle.fd_language.proofs.Lemmas.{token_grows, front_empty, not_both, one_fault}
 use Rattle.char_tokens.specs.declared.token.Token as declared
 use Rattle.char_tokens.specs.declared.token.TokenFault.{TokenFault}
 use Rattle.char_tokens.specs.declared.token.TokenFault.TheVariants as faults

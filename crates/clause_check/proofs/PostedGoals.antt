@@ -12,7 +12,7 @@ use Rattle.fd_language.specs.declared.range_node.Offence.{Offence}
 use Rattle.fd_language.specs.declared.range_node.Offence.TheVariants.{NotMonotone, NotNatural, BadDivisor, TooWide}
 use Rattle.fd_language.specs.RangeVerdict.{verdict, is_accepted}
 use Rattle.fd_language.specs.Spelling.{not_a_range}
-use Rattle.fd_language.proofs.Yes.{verdict_agrees}
+use Rattle.fd_language.proofs.Lemmas.{verdict_agrees}
 use Rattle.fd_model.specs.Refusals.{Refusal, or_later, unspelled, offence_refusal, goal_refusal, range_refusal, posted_range}
 use Rattle.term_pool.specs.declared.TermId.{TermId}
 use Rattle.term_pool.specs.Contents.{Contents}
@@ -30,7 +30,7 @@ post_term f p v q r = comp f p (part (var v q) (part r no_parts))
 record Posts (M : ℕ) (all : List PlacedTerm) (x r : PlacedTerm) : Type 0 where
   refusal : goal_refusal M all x ≡ range_refusal M r
   variable : IsVariable (plain (target_of x))
-  goal : goal_of x ≡ Post (plain (target_of x)) (read_range r).value
+  goal : goal_of x ≡ Post (plain (target_of x)) (read_range r).tree
 
 posts_by : (M : ℕ) (all : List PlacedTerm) (f : Name) (p v q : ℕ) (r : PlacedTerm) → f ≡ codes "in" → Posts M all (post_term f p v q r) r
 posts_by M all f p v q r e = subst (λ (g : Name). Posts M all (post_term g p v q r) r) (sym e) (record { refusal = refl; variable = tt; goal = refl })
@@ -69,9 +69,9 @@ pub posted_variable : (c : Contents) (x r : PlacedTerm) (t : TermId) → posted_
 posted_variable c x r t h e = subst IsVariable (target_term c x t e) (posts 0 [] x r h).variable
 
 -- and it posts the range
-pub posted_goal : (c : Contents) (x r : PlacedTerm) (t : TermId) (range : Range) → posted_range x ≡ Some r → target_of x ≡ placed_of c t → range ≡ (read_range r).value → goal_of x ≡ Post (term_of c t) range
+pub posted_goal : (c : Contents) (x r : PlacedTerm) (t : TermId) (range : Range) → posted_range x ≡ Some r → target_of x ≡ placed_of c t → range ≡ (read_range r).tree → goal_of x ≡ Post (term_of c t) range
 posted_goal c x r t range h e is =
-    (posts 0 [] x r h).goal ∙ ap (λ (u : Term). Post u (read_range r).value) (target_term c x t e) ∙ ap (Post (term_of c t)) (sym is)
+    (posts 0 [] x r h).goal ∙ ap (λ (u : Term). Post u (read_range r).tree) (target_term c x t e) ∙ ap (Post (term_of c t)) (sym is)
 
 later_none : (a b : Option Refusal) → or_later a b ≡ None → b ≡ None
 later_none None b e = e
@@ -85,8 +85,8 @@ unoffended (Some (BadDivisor p)) e = absurd cc
 unoffended (Some (TooWide p)) e = absurd cc
 
 -- a range that isn't refused is accepted
-pub range_accepted : (M : ℕ) (r : PlacedTerm) (range : Range) → range_refusal M r ≡ None → range ≡ (read_range r).value → IsTrue (is_accepted M range)
+pub range_accepted : (M : ℕ) (r : PlacedTerm) (range : Range) → range_refusal M r ≡ None → range ≡ (read_range r).tree → IsTrue (is_accepted M range)
 range_accepted M r range h e =
     let places = (read_range r).places in
-    let none = unoffended (verdict M places (read_range r).value) (later_none (unspelled (not_a_range r)) (offence_refusal (verdict M places (read_range r).value)) h) in
-    subst (λ (q : Range). IsTrue (is_accepted M q)) (sym e) ((verdict_agrees M places (read_range r).value).0 none)
+    let none = unoffended (verdict M places (read_range r).tree) (later_none (unspelled (not_a_range r)) (offence_refusal (verdict M places (read_range r).tree)) h) in
+    subst (λ (q : Range). IsTrue (is_accepted M q)) (sym e) ((verdict_agrees M places (read_range r).tree).0 none)

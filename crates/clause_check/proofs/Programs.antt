@@ -14,7 +14,7 @@ use Rattle.fd_model.specs.Goal as model
 use Rattle.fd_model.specs.Queries.{is_shown, shown_from, queries_by, queries_of, program_of}
 use Rattle.fd_model.specs.Refusals.{Form, query, clause, directive, fact, form_of}
 use Rattle.fd_model.specs.Sound.{GoalBelow, EachBelow, NumbersBelow, QueriesScoped}
-use Rattle.fd_model.proofs.ProgramScopes.{queries_scoped}
+use Rattle.fd_model.proofs.Lemmas.{queries_scoped}
 use Rattle.term_pool.specs.Contents.{Contents, atom_name}
 use Rattle.term_pool.specs.Terms.{term_of}
 use Rattle.term_pool.specs.Valid.{IsPool}

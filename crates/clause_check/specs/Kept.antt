@@ -29,7 +29,7 @@ use Rattle.clause_check.specs.Terms.{terms_of}
 
 -- the range that a term spells, where it is accepted, or why it is refused
 abbrev pub IsRangeOf : Contents → PlacedTerm → Result Range Fault → Type 0
-IsRangeOf c r result = MatchResult result (λ range. (range_refusal INFINITY r ≡ None) × (range ≡ (read_range r).value)) (RefusedBy c (range_refusal INFINITY r))
+IsRangeOf c r result = MatchResult result (λ range. (range_refusal INFINITY r ≡ None) × (range ≡ (read_range r).tree)) (RefusedBy c (range_refusal INFINITY r))
 
 -- the cause of a goal that posts no range
 abbrev pub IsGoalCause : Sentences → PlacedTerm → Cause → Type 0

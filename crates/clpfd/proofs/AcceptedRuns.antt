@@ -15,8 +15,8 @@ use Rattle.fd_model.specs.Queries.{is_shown, shown_from, query_of, queries_by, q
 use Rattle.fd_language.specs.Reading.{Sentence, IsSentences}
 use Rattle.fd_model.specs.Refusals.{Form, query, form_of, goals_of, first_refusal}
 use Rattle.fd_model.specs.Run.{Run}
-use Rattle.fd_language.proofs.SentenceVariables.{stands, below}
-use Rattle.fd_model.proofs.Unique.{run_once}
+use Rattle.fd_language.proofs.Lemmas.{stands, below}
+use Rattle.fd_model.proofs.Lemmas.{run_once}
 use Rattle.clpfd.specs.Checked.{constant_goal, goals_in, query_goals}
 use Rattle.clpfd.specs.ConstantLines.{is_target, IsConstantQuery}
 use Rattle.clpfd.specs.QueryOutputs.{sentence_events, sentences_output, sentences_stop}

@@ -53,18 +53,18 @@ pub record IsAccepted (M : ℕ) (g : PlacedTerm) : Type 0 where
   pub range : PlacedTerm
   pub posted : posted_range g ≡ Some range
   pub spelling : not_a_range range ≡ None
-  pub checked : verdict M (read_range range).places (read_range range).value ≡ None
-  pub constant : range_places (read_range range).value ≡ []
+  pub checked : verdict M (read_range range).places (read_range range).tree ≡ None
+  pub constant : range_places (read_range range).tree ≡ []
 
 range_accepted : (M p : ℕ) (g r : PlacedTerm) → posted_range g ≡ Some r → range_refusal M p r ≡ None → IsAccepted M g
 range_accepted M p g r e h =
-    let later = or_later (offence_refusal (verdict M (read_range r).places (read_range r).value)) (unless_constant p (range_places (read_range r).value)) in
+    let later = or_later (offence_refusal (verdict M (read_range r).places (read_range r).tree)) (unless_constant p (range_places (read_range r).tree)) in
     let rest = later_none (unspelled (not_a_range r)) later h in record {
       range = r;
       posted = e;
       spelling = spelt (not_a_range r) (first_none (unspelled (not_a_range r)) later h);
-      checked = unoffended (verdict M (read_range r).places (read_range r).value) (first_none (offence_refusal (verdict M (read_range r).places (read_range r).value)) (unless_constant p (range_places (read_range r).value)) rest);
-      constant = no_places p (range_places (read_range r).value) (later_none (offence_refusal (verdict M (read_range r).places (read_range r).value)) (unless_constant p (range_places (read_range r).value)) rest);
+      checked = unoffended (verdict M (read_range r).places (read_range r).tree) (first_none (offence_refusal (verdict M (read_range r).places (read_range r).tree)) (unless_constant p (range_places (read_range r).tree)) rest);
+      constant = no_places p (range_places (read_range r).tree) (later_none (offence_refusal (verdict M (read_range r).places (read_range r).tree)) (unless_constant p (range_places (read_range r).tree)) rest);
     }
 
 posting_accepted : (M : ℕ) (all : List PlacedTerm) (g : PlacedTerm) (f : Functor) (o : Option PlacedTerm) → posted_range g ≡ o → by_range M all g f o ≡ None → IsAccepted M g
@@ -115,17 +115,17 @@ accepted_sentences M all (t ∷ ts) h =
 -- what is known of a term that posts the range
 record Posts (g r : PlacedTerm) : Type 0 where
   goal : goal_of g ≡ post_of (constant_goal g)
-  range : (constant_goal g).range ≡ (read_range r).value
+  range : (constant_goal g).range ≡ (read_range r).tree
   variables : variables_of (plain g) ≡ (constant_goal g).variable ∷ (variables_of (plain r) ++ [])
 
-posts_by : (named : Bool) (x : ℕ) (r s : PlacedTerm) (other : Goal) → cond named (Some r) None ≡ Some s → (r ≡ s) × (cond named (Post (Var x) (read_range r).value) other ≡ Post (Var x) (read_range r).value)
+posts_by : (named : Bool) (x : ℕ) (r s : PlacedTerm) (other : Goal) → cond named (Some r) None ≡ Some s → (r ≡ s) × (cond named (Post (Var x) (read_range r).tree) other ≡ Post (Var x) (read_range r).tree)
 posts_by true x r s other e = (cc, refl)
 posts_by false x r s other e = absurd cc
 
 posts : (g r : PlacedTerm) → posted_range g ≡ Some r → Posts g r
 posts (comp f p (part (var x q) (part r no_parts))) s e =
     let by = posts_by (bytes_eq f (codes "in")) x r s _ e in
-    record { goal = by.1; range = ap (λ (t : PlacedTerm). (read_range t).value) by.0; variables = ap (λ (t : PlacedTerm). x ∷ (variables_of (plain t) ++ [])) by.0 }
+    record { goal = by.1; range = ap (λ (t : PlacedTerm). (read_range t).tree) by.0; variables = ap (λ (t : PlacedTerm). x ∷ (variables_of (plain t) ++ [])) by.0 }
 posts _ s e = absurd cc
 
 -- an accepted goal posts its constant range

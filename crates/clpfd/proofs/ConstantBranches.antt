@@ -1,6 +1,6 @@
 -- Branches whose equations give integers to variables and whose ranges name no variable, and their views.
 use Rattle.std.proofs.Common.{◌≡◌, ℕ, ◌≤◌, Bool, true, false, cond, not, ◌||◌, ◌&&◌, ◌==◌, ℤ, pos, List, [], ◌∷◌, ◌++◌, Option, Some, None, filter, refl, ap, sym, ◌∙◌, subst, inl, inr, ◌⊎◌, arith, eqb-true, eq-eqb}
-use Rattle.std.proofs.lemmas.Bool.{cases_Bool, true≢false, or_left, or_right}
+use Rattle.std.proofs.lemmas.Bool.{cases_Bool, true≢false, or_left, or_right, and_parts}
 use Rattle.std.proofs.lemmas.List.Elements.{filter_agree}
 use Rattle.fd_language.specs.Term.{Term, Var, Int, Atom, Comp, Name, Terms, Substitution, apply}
 use Rattle.fd_language.specs.Unifier.{Equation, IsMostGeneral, Unifies}
@@ -9,11 +9,8 @@ use Rattle.fd_language.specs.Range.{Range, Indexical, set_of, reads}
 use Rattle.fd_model.specs.Closed.{IsClosed, AllPosted, constrained}
 use Rattle.fd_model.specs.Domains.{Domains}
 use Rattle.fd_model.specs.Seen.{IsView, IsConsistent}
-use Rattle.fd_language.proofs.Sets.{has-filter, has-filter_back, has_high, universe_rising, in_universe}
-use Rattle.fd_language.proofs.Greatest.{rising-filter}
-use Rattle.fd_model.proofs.Closing.{closed_either, outside_one, first_passes, later_passes, build_one}
-use Rattle.fd_language.proofs.Monotone.{in_right}
-use Rattle.fd_language.proofs.Directions.{first_of_two, second_of_two}
+use Rattle.fd_language.proofs.Lemmas.{has-filter, has-filter_back, has_high, universe_rising, in_universe, rising-filter, in_right}
+use Rattle.fd_model.proofs.Lemmas.{closed_either, outside_one, first_passes, later_passes, build_one}
 use Rattle.clpfd.specs.ConstantLines.{IsConstant, in_constant}
 use Rattle.clpfd.proofs.ConstantRanges.{reads_none, in_constant_set, from_constant_set}
 
@@ -85,7 +82,7 @@ from_D : (M : ℕ) (val : Known) (ps : List Indexical) (x k : ℕ) → has (D M 
 unfolding D
 from_D M val ps x k h =
     let both = has-filter_back (λ j. in_all M ps x j && agrees (val x) j) (universe M) k h in
-    (has_high 0 M (universe M) k (universe_rising M) both.0, first_of_two (in_all M ps x k) (agrees (val x) k) both.1, second_of_two (in_all M ps x k) (agrees (val x) k) both.1)
+    (has_high 0 M (universe M) k (universe_rising M) both.0, (and_parts (in_all M ps x k) (agrees (val x) k) both.1).0, (and_parts (in_all M ps x k) (agrees (val x) k) both.1).1)
 
 pub D_high : (M : ℕ) (val : Known) (ps : List Indexical) (x k : ℕ) → has (D M val ps x) k ≡ true → k ≤ M
 D_high M val ps x k h = (from_D M val ps x k h).0

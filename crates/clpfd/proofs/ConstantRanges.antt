@@ -6,8 +6,7 @@ use Rattle.fd_language.specs.Range.{Range, Span, One, Dom, Union, Inter, Outside
 use Rattle.fd_language.specs.RangeRenaming.{rename_range, rename_expr}
 use Rattle.fd_language.specs.Check.{fill, fill_range}
 use Rattle.fd_language.specs.Places.{expr_places, range_places}
-use Rattle.fd_language.proofs.Sets.{has-filter, has-filter_back, in_universe}
-use Rattle.fd_language.proofs.RangeRenaming.{two, set_agree}
+use Rattle.fd_language.proofs.Lemmas.{has-filter, has-filter_back, in_universe, two, set_agree}
 use Rattle.clpfd.specs.ConstantLines.{IsConstant, nowhere, constant_set, in_constant}
 
 -- of two parts

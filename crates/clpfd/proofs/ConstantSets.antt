@@ -5,7 +5,7 @@ use Rattle.std.proofs.lemmas.Bool.{or_left, or_right}
 use Rattle.fd_language.specs.Term.{Name}
 use Rattle.fd_language.specs.Family.{has, IsRising, count_up, universe}
 use Rattle.fd_model.specs.Lines.{Interval, intervals, with_first, joined}
-use Rattle.fd_language.proofs.Sets.{has-filter, has-filter_back, has_high, in_universe}
+use Rattle.fd_language.proofs.Lemmas.{has-filter, has-filter_back, has_high, in_universe}
 use Rattle.fd_language.specs.Range.{Range}
 use Rattle.clpfd.specs.ConstantLines.{constant_set, in_constant, value_text, value_texts, number_after}
 

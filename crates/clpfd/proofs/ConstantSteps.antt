@@ -8,7 +8,7 @@ use Rattle.fd_model.specs.Closed.{constrained}
 use Rattle.fd_model.specs.Seen.{IsConsistent, set_at, by_set}
 use Rattle.fd_model.specs.Goal.{Goal, Post, Branch, Program}
 use Rattle.fd_model.specs.Children.{offer, Offer, Gives, by_post, Children, KeptOffer, look_in, sets_in}
-use Rattle.fd_language.specs.Places.{Place, place}
+use Rattle.fd_language.specs.Places.{Place, one_place}
 use Rattle.fd_model.specs.Posting.{post, post_at, posts, integer_of, slot}
 use Rattle.fd_language.specs.RangeRenaming.{rename_range}
 use Rattle.fd_language.specs.Check.{fill_range}
@@ -53,23 +53,23 @@ fixed_child : Branch → List Goal → ℕ → Range → Branch
 fixed_child b rest m r = record { goals = rest; equations = record { left = Var b.fresh; right = Int (pos m) } ∷ b.equations; posted = range_on b.fresh r ∷ b.posted; fresh = b.fresh + 1 }
 
 -- a range in which no variable stands is posted as it is
-open_shape : (look : ℕ → Term) (v f : ℕ) (r : Range) → look v ≡ Var v → post_at look (place v false) v [] f r ≡ posts (range_on v (rename_range (slot f []) (fill_range (λ y. integer_of (look y)) r))) (f + 0) []
+open_shape : (look : ℕ → Term) (v f : ℕ) (r : Range) → look v ≡ Var v → post_at look (one_place v false) v [] f r ≡ posts (range_on v (rename_range (slot f []) (fill_range (λ y. integer_of (look y)) r))) (f + 0) []
 open_shape look v f r e = rw e refl
 
 post_open : (look : ℕ → Term) (v f : ℕ) (r : Range) → IsConstant r → look v ≡ Var v → post look (Var v) r f ≡ posts (range_on v r) (f + 0) []
 post_open look v f r c e =
-    ap (λ (l : List Place). post_at look (place v false ++ l) v [] f r) c
+    ap (λ (l : List Place). post_at look (one_place v false ++ l) v [] f r) c
     ∙ open_shape look v f r e
     ∙ ap (λ q. posts (range_on v q) (f + 0) []) (range_same (λ y. integer_of (look y)) (slot f []) r c)
 
 fixed_shape : (look : ℕ → Term) (v f m : ℕ) (r : Range) → look v ≡ Int (pos m)
-    → post_at look (place v false) v [] f r ≡ posts (range_on f (rename_range (slot f (v ∷ [])) (fill_range (λ y. integer_of (look y)) r))) (f + 1) (record { left = Var f; right = Int (pos m) } ∷ [])
+    → post_at look (one_place v false) v [] f r ≡ posts (range_on f (rename_range (slot f (v ∷ [])) (fill_range (λ y. integer_of (look y)) r))) (f + 1) (record { left = Var f; right = Int (pos m) } ∷ [])
 fixed_shape look v f m r e =
     rw (e, eq-eqb v v refl) (ap (λ (t : Term). posts (range_on f (rename_range (slot f (v ∷ [])) (fill_range (λ y. integer_of (look y)) r))) (f + 1) (record { left = Var f; right = t } ∷ [])) e)
 
 post_fixed : (look : ℕ → Term) (v f m : ℕ) (r : Range) → IsConstant r → look v ≡ Int (pos m) → post look (Var v) r f ≡ posts (range_on f r) (f + 1) (record { left = Var f; right = Int (pos m) } ∷ [])
 post_fixed look v f m r c e =
-    ap (λ (l : List Place). post_at look (place v false ++ l) v [] f r) c
+    ap (λ (l : List Place). post_at look (one_place v false ++ l) v [] f r) c
     ∙ fixed_shape look v f m r e
     ∙ ap (λ q. posts (range_on f q) (f + 1) (record { left = Var f; right = Int (pos m) } ∷ [])) (range_same (λ y. integer_of (look y)) (slot f (v ∷ [])) r c)
 

@@ -11,8 +11,8 @@ use Rattle.fd_model.specs.Refusals.{Refusal, first_refusal}
 use Rattle.fd_model.specs.Queries.{program_of}
 use Rattle.fd_model.specs.Verdict.{Verdict, accepted, refused, max_text, cause_name, sentences_verdict, reading_verdict, IsVerdict}
 use Rattle.fd_model.specs.Output.{Output, VerdictOutput, refusal, usage, stop_status}
-use Rattle.fd_model.proofs.Unique.{queries_once}
-use Rattle.fd_language.proofs.ReadingLaws.{one_verdict_of_reading}
+use Rattle.fd_model.proofs.Lemmas.{queries_once}
+use Rattle.fd_language.proofs.Lemmas.{one_verdict_of_reading}
 use Rattle.term_reader.proofs.Readable.{each_is_read}
 use Rattle.clpfd.specs.OneOutput.{OneOutput}
 use Rattle.clpfd.specs.QueryOutputs.{sentences_output, sentences_stop}

@@ -11,7 +11,7 @@ use Rattle.fd_language.specs.RangeVerdict.{is_accepted}
 use Rattle.fd_language.specs.Places.{Place, range_places}
 use Rattle.fd_language.specs.Needs.{once}
 use Rattle.fd_model.specs.Refusals.{refused_at, unless_constant, offence_refusal, or_later}
-use Rattle.fd_language.proofs.Yes.{verdict_agrees}
+use Rattle.fd_language.proofs.Lemmas.{verdict_agrees}
 use Rattle.range_code.specs.Slots.{slots_of}
 use Rattle.clpfd.specs.Checked.{IsSpan}
 use Rattle.clpfd.specs.Headline.{M}

@@ -8,7 +8,7 @@ use Rattle.fd_language.specs.Range.{Range, Span, One, Union, Inter, Outside, Plu
 use Rattle.fd_language.specs.Places.{Place, expr_places, range_places}
 use Rattle.fd_language.specs.Variables.{variables_of}
 use Rattle.fd_language.specs.PlacedTerm.{PlacedTerm, var, int, atom, comp, no_parts, part, plain}
-use Rattle.fd_language.specs.Spelling.{Reading, read, offends, read_one, expr_operator, expr_feature, read_feature, read_operator, read_expr, RangeForm, of_terms, of_ranges, pointwise, no_form, range_form, empty_range, read_form, read_dom, read_single, read_range, least_place, not_a_range}
+use Rattle.fd_language.specs.Spelling.{Parsed, read, offends, read_one, expr_operator, expr_feature, read_feature, read_operator, read_expr, RangeForm, of_terms, of_ranges, pointwise, no_form, range_form, empty_range, read_form, read_dom, read_single, read_range, least_place, not_a_range}
 
 -- the variables that stand at these places
 abbrev pub variables_at : List Place → List ℕ
@@ -35,11 +35,11 @@ least_none (p ∷ ps) e = let some = some_least ps p in let both : Some some.0 �
 -- ---- terms
 
 -- the variables of what is read, where nothing in it offends
-abbrev ExprShows : List ℕ → Reading Expr → Type 0
-ExprShows vs r = r.offenders ≡ [] → vs ≡ variables_at (expr_places r.value)
+abbrev ExprShows : List ℕ → Parsed Expr → Type 0
+ExprShows vs r = r.offenders ≡ [] → vs ≡ variables_at (expr_places r.tree)
 
-abbrev RangeShows : List ℕ → Reading Range → Type 0
-RangeShows vs r = r.offenders ≡ [] → vs ≡ variables_at (range_places r.value)
+abbrev RangeShows : List ℕ → Parsed Range → Type 0
+RangeShows vs r = r.offenders ≡ [] → vs ≡ variables_at (range_places r.tree)
 
 -- of two parts, one behind the other
 two_shown : (vs us : List ℕ) (ps qs : List Place) → vs ≡ variables_at ps → us ≡ variables_at qs → vs ++ (us ++ []) ≡ variables_at (ps ++ qs)
@@ -61,11 +61,11 @@ operator_join f =
     (either_join (bytes_eq f (codes "*")) (Some Mul) _ (λ a b. refl) (either_join (bytes_eq f (codes "/<")) (Some DivDown) _ (λ a b. refl)
     (either_join (bytes_eq f (codes "/>")) (Some DivUp) None (λ a b. refl) tt))))
 
-operator_shows : (o : Option (Expr → Expr → Expr)) (p : ℕ) (vs us : List ℕ) (a b : Reading Expr) → IsJoin o → ExprShows vs a → ExprShows us b → ExprShows (vs ++ (us ++ [])) (read_operator o p a b)
+operator_shows : (o : Option (Expr → Expr → Expr)) (p : ℕ) (vs us : List ℕ) (a b : Parsed Expr) → IsJoin o → ExprShows vs a → ExprShows us b → ExprShows (vs ++ (us ++ [])) (read_operator o p a b)
 operator_shows None p vs us a b j h g e = absurd cc
 operator_shows (Some make) p vs us a b j h g e =
-    two_shown vs us (expr_places a.value) (expr_places b.value) (h (no_first a.offenders b.offenders e)) (g (no_second a.offenders b.offenders e))
-    ∙ ap variables_at (sym (j a.value b.value))
+    two_shown vs us (expr_places a.tree) (expr_places b.tree) (h (no_first a.offenders b.offenders e)) (g (no_second a.offenders b.offenders e))
+    ∙ ap variables_at (sym (j a.tree b.tree))
 
 -- what reads a variable has its place
 abbrev IsFeature : Option (ℕ → Expr) → Type 0
@@ -120,21 +120,21 @@ form_joins f =
     (either_form (bytes_eq f (codes "-")) (pointwise Minus) _ (λ r c. refl) (either_form (bytes_eq f (codes "*")) (pointwise Times) _ (λ r c. refl)
     (either_form (bytes_eq f (codes "/")) (pointwise Over) no_form (λ r c. refl) tt))))))
 
-form_shows : (form : RangeForm) (p : ℕ) (vs us : List ℕ) (r q : Reading Range) (a b c : Reading Expr) → JoinsForm form → RangeShows vs r → RangeShows us q → ExprShows vs a → ExprShows us b → ExprShows us c
+form_shows : (form : RangeForm) (p : ℕ) (vs us : List ℕ) (r q : Parsed Range) (a b c : Parsed Expr) → JoinsForm form → RangeShows vs r → RangeShows us q → ExprShows vs a → ExprShows us b → ExprShows us c
     → RangeShows (vs ++ (us ++ [])) (read_form form p r q a b c)
 form_shows (of_terms make) p vs us r q a b c j h g k l m e =
-    two_shown vs us (expr_places a.value) (expr_places b.value) (k (no_first a.offenders b.offenders e)) (l (no_second a.offenders b.offenders e)) ∙ ap variables_at (sym (j a.value b.value))
+    two_shown vs us (expr_places a.tree) (expr_places b.tree) (k (no_first a.offenders b.offenders e)) (l (no_second a.offenders b.offenders e)) ∙ ap variables_at (sym (j a.tree b.tree))
 form_shows (of_ranges make) p vs us r q a b c j h g k l m e =
-    two_shown vs us (range_places r.value) (range_places q.value) (h (no_first r.offenders q.offenders e)) (g (no_second r.offenders q.offenders e)) ∙ ap variables_at (sym (j r.value q.value))
+    two_shown vs us (range_places r.tree) (range_places q.tree) (h (no_first r.offenders q.offenders e)) (g (no_second r.offenders q.offenders e)) ∙ ap variables_at (sym (j r.tree q.tree))
 form_shows (pointwise make) p vs us r q a b c j h g k l m e =
-    two_shown vs us (range_places r.value) (expr_places c.value) (h (no_first r.offenders c.offenders e)) (m (no_second r.offenders c.offenders e)) ∙ ap variables_at (sym (j r.value c.value))
+    two_shown vs us (range_places r.tree) (expr_places c.tree) (h (no_first r.offenders c.offenders e)) (m (no_second r.offenders c.offenders e)) ∙ ap variables_at (sym (j r.tree c.tree))
 form_shows no_form p vs us r q a b c j h g k l m e = absurd cc
 
 dom_shows : (t : PlacedTerm) (p : ℕ) → RangeShows (variables_of (plain t)) (read_dom t p)
 dom_shows (var y q) p e = refl
 dom_shows _ p e = absurd cc
 
-single_by : (curly minus dom : Bool) (t : PlacedTerm) (p : ℕ) (vs : List ℕ) (r : Reading Range) (a : Reading Expr) → RangeShows vs r → ExprShows vs a → RangeShows vs (read_dom t p)
+single_by : (curly minus dom : Bool) (t : PlacedTerm) (p : ℕ) (vs : List ℕ) (r : Parsed Range) (a : Parsed Expr) → RangeShows vs r → ExprShows vs a → RangeShows vs (read_dom t p)
     → RangeShows vs (cond curly (read_one One p a) (cond minus (read_one Outside p r) (cond dom (read_dom t p) (offends empty_range p))))
 single_by true minus dom t p vs r a h g k e = g e
 single_by false true dom t p vs r a h g k e = h e
@@ -153,5 +153,5 @@ range_shows (comp f p (part a (part b no_parts))) e =
     (form_joins f) (range_shows a) (range_shows b) (expr_shows true a) (expr_shows true b) (expr_shows false b) e
 range_shows _ e = absurd cc
 
-pub spelt_variables : (r : PlacedTerm) → not_a_range r ≡ None → variables_of (plain r) ≡ variables_at (range_places (read_range r).value)
+pub spelt_variables : (r : PlacedTerm) → not_a_range r ≡ None → variables_of (plain r) ≡ variables_at (range_places (read_range r).tree)
 spelt_variables r e = range_shows r (least_none (read_range r).offenders e)

@@ -6,8 +6,7 @@ use Rattle.std.proofs.lemmas.List.Folds.{list_any-append}
 use mathlib.Core.Path.{fun_ext}
 use Rattle.fd_language.specs.Family.{Family, has, universe, IsRising}
 use Rattle.fd_language.specs.Range.{is_none_left}
-use Rattle.fd_language.proofs.Sets.{universe_rising}
-use Rattle.fd_language.proofs.Greatest.{rising-filter}
+use Rattle.fd_language.proofs.Lemmas.{universe_rising, rising-filter}
 use Rattle.clpfd.specs.Headline.{M}
 use Rattle.clpfd.specs.Checked.{SetGoal, goal_set}
 use Rattle.clpfd.specs.ConstantLines.{ConstantGoal, in_constant, narrow_one, narrow_each, some_empty}

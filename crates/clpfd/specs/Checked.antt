@@ -75,7 +75,7 @@ set_goal g = record { variable = g.variable; set = g.set }
 
 -- the goal `V in R` that a term is
 abbrev pub constant_goal : PlacedTerm → ConstantGoal
-constant_goal (comp f p (part (var x q) (part r no_parts))) = record { variable = x; range = (read_range r).value }
+constant_goal (comp f p (part (var x q) (part r no_parts))) = record { variable = x; range = (read_range r).tree }
 constant_goal t = record { variable = 0; range = empty_range }
 
 abbrev pub goal_set : ConstantGoal → SetGoal
@@ -86,12 +86,12 @@ abbrev pub IsPostOf : Contents → PlacedTerm → Option Post → Type 0
 IsPostOf c x None = posted_range x ≡ None
 IsPostOf c x (Some p) =
     (p.range.number < length c.entries) × (posted_range x ≡ Some (placed_of c p.range))
-    × (constant_goal x ≡ record { variable = p.variable; range = (read_range (placed_of c p.range)).value })
+    × (constant_goal x ≡ record { variable = p.variable; range = (read_range (placed_of c p.range)).tree })
 
 -- the range of a goal is accepted, and these are its numbers
 abbrev pub IsSpan : PlacedTerm → Option (List ℕ) → Type 0
 IsSpan x None = Unit {0}
-IsSpan x (Some set) = ((p : ℕ) → range_refusal M p x ≡ None) × (set ≡ constant_set M (read_range x).value)
+IsSpan x (Some set) = ((p : ℕ) → range_refusal M p x ≡ None) × (set ≡ constant_set M (read_range x).tree)
 
 abbrev pub goals_in : Form → List PlacedTerm
 goals_in (query b) = goals_of b
@@ -150,7 +150,7 @@ IsGoalReason s x r = IsReasonIn s.pool r × (goal_refusal M (terms_of s) x ≡ S
 
 -- the numbers of the range that the goal at the place p posts, or why it is refused
 abbrev pub IsSetOf : Contents → ℕ → PlacedTerm → Result (List ℕ) CheckFault → Type 0
-IsSetOf c p r result = MatchResult result (λ set. (range_refusal M p r ≡ None) × (set ≡ constant_set M (read_range r).value)) (Refuses c (range_refusal M p r))
+IsSetOf c p r result = MatchResult result (λ set. (range_refusal M p r ≡ None) × (set ≡ constant_set M (read_range r).tree)) (Refuses c (range_refusal M p r))
 
 -- what is kept of a goal, or why it is refused
 abbrev pub IsReadGoal : Sentences → PlacedTerm → Result Goal CheckFault → Type 0

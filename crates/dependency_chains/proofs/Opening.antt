@@ -5,7 +5,7 @@ use Rattle.std.specs.Option.{option_eq}
 use Rattle.std.proofs.lemmas.Bool.{true≢false, or_left}
 use Rattle.fd_language.specs.Family.{IsRising, has}
 use Rattle.fd_language.specs.Range.{least, greatest, is_none_left, is_several}
-use Rattle.fd_language.proofs.Monotone.{greatest_high}
+use Rattle.fd_language.proofs.Lemmas.{greatest_high}
 
 apart : (x y g : ℕ) → suc x ≤ y → y ≤ g → (x == g) ≡ false
 apart x y g h k = grind arith

@@ -7,9 +7,7 @@ use Rattle.std.proofs.lemmas.Bool.Decides.{Decides-int_eq, nat_tests}
 use Rattle.std.proofs.lemmas.Int.{ints}
 use Rattle.fd_language.specs.Family.{has, universe, IsRising}
 use Rattle.fd_language.specs.Range.{some_number, is_none_left, least}
-use Rattle.fd_language.proofs.Sets.{rising_same, has-filter, has-filter_back, universe_rising, in_universe, has_high}
-use Rattle.fd_language.proofs.Greatest.{rising-filter}
-use Rattle.fd_language.proofs.Monotone.{not_empty}
+use Rattle.fd_language.proofs.Lemmas.{rising_same, has-filter, has-filter_back, universe_rising, in_universe, has_high, rising-filter, not_empty}
 use Rattle.domain_ranges.specs.Spans.{Span, within, IsSpans, members, shifted, scaled}
 use Rattle.domain_ranges.specs.Sets.{is_shifted, is_scaled, is_quotient}
 use Rattle.domain_ranges.proofs.Spans.{within_high, in_head, in_later, head_or_later}

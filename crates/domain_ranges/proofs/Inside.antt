@@ -3,8 +3,7 @@ use Rattle.std.proofs.Common.{◌≡◌, ℕ, suc, ◌+◌, ◌-◌, ◌<◌, �
 use Rattle.std.proofs.lemmas.Bool.{true≢false}
 use Rattle.fd_language.specs.Family.{has, universe, IsRising, IsSubset}
 use Rattle.fd_language.specs.Range.{is_none_left}
-use Rattle.fd_language.proofs.Sets.{has-filter, has-filter_back}
-use Rattle.fd_language.proofs.Greatest.{shorter_or_same}
+use Rattle.fd_language.proofs.Lemmas.{has-filter, has-filter_back, shorter_or_same}
 use Rattle.domain_ranges.specs.Spans.{Span, within, IsSpans, members}
 use Rattle.domain_ranges.specs.Narrowing.{between}
 use Rattle.domain_ranges.proofs.Members.{has_within, interval_none, members_none}

@@ -3,8 +3,7 @@ use Rattle.std.proofs.Common.{◌≡◌, ℕ, suc, ◌+◌, ◌<◌, ◌≤◌, 
 use Rattle.std.proofs.lemmas.Bool.{true≢false}
 use Rattle.std.proofs.lemmas.Bool.Decides.{nat_tests}
 use Rattle.fd_language.specs.Family.{has, universe}
-use Rattle.fd_language.proofs.Sets.{has-filter, has-filter_back, universe_rising, in_universe}
-use Rattle.fd_language.proofs.Greatest.{rising-filter}
+use Rattle.fd_language.proofs.Lemmas.{has-filter, has-filter_back, universe_rising, in_universe, rising-filter}
 use Rattle.domain_ranges.specs.Spans.{Span, within, IsSpans, members, interval_count}
 use Rattle.domain_ranges.proofs.Spans.{EndBefore, within_append, spans_push, ends_push, ends_more, ends_none, in_head, past_first, behind_first}
 use Rattle.domain_ranges.proofs.Members.{members_is, three_intervals}

@@ -5,9 +5,7 @@ use Rattle.std.proofs.lemmas.Bool.Decides.{nat_tests}
 use Rattle.std.proofs.lemmas.Int.{ints}
 use Rattle.fd_language.specs.Family.{has, universe, IsRising, count_up}
 use Rattle.fd_language.specs.Range.{least, greatest, is_none_left}
-use Rattle.fd_language.proofs.Sets.{rising_same, has-filter, has-filter_back, universe_rising, in_universe, has_high, has_low}
-use Rattle.fd_language.proofs.Greatest.{rising-filter}
-use Rattle.fd_language.proofs.Monotone.{least_low, least_in, greatest_in, greatest_high, not_empty}
+use Rattle.fd_language.proofs.Lemmas.{rising_same, has-filter, has-filter_back, universe_rising, in_universe, has_high, has_low, rising-filter, least_low, least_in, greatest_in, greatest_high, not_empty}
 use Rattle.domain_ranges.proofs.Spans.{within_low, least_first, greatest_end, count, in_head, past_first, behind_first}
 use Rattle.domain_ranges.specs.Spans.{Span, within, IsSpans, members, interval_count, has_int}
 

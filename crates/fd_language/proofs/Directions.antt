@@ -10,7 +10,7 @@ use Rattle.fd_language.specs.Range.{Expr, Number, Infinity, Param, Min, Max, Val
 use Rattle.fd_language.specs.Needs.{is_literal}
 use Rattle.fd_language.specs.Check.{Wish, Rising, Falling, Constant, turn, is_rising, is_falling, literal_value, by_sign, is_natural, quotient_fits, expr_fits, fill}
 use Rattle.fd_language.proofs.Lists.{each_before, each_after}
-use Rattle.fd_language.proofs.Meeting.{divisor_meets, expr_meets}
+use Rattle.fd_language.proofs.PartNeeds.{divisor_meets, expr_meets}
 use Rattle.fd_language.proofs.Arithmetic.{add_keeps, sub_keeps, mul_keeps, mul_turns, natural_product, product_natural, down_keeps, up_keeps, down_natural, up_natural, down_positive, up_positive}
 
 -- from the value in a family to that in a family inside it
@@ -74,13 +74,6 @@ if_yes c x y h e = grind arith
 
 if_no : (c x y : Bool) → cond c x y ≡ true → c ≡ false → y ≡ true
 if_no c x y h e = grind arith
-
--- the parts of a conjunction, as and_parts of std gives them
-pub first_of_two : (x y : Bool) → (x && y) ≡ true → x ≡ true
-first_of_two x y h = (and_parts x y h).0
-
-pub second_of_two : (x y : Bool) → (x && y) ≡ true → y ≡ true
-second_of_two x y h = (and_parts x y h).1
 
 int_le_true : (a b : ℤ) → int_le a b ≡ true → a ≤ℤ b
 int_le_true a b h = grind (arith, ints)

@@ -1,11 +1,12 @@
+pub mod Lemmas
 pub mod Sets
 pub mod Lists
 pub mod Leaves
 pub mod RangePlaces
 pub mod AskedParameters
-pub mod Greatest
+pub mod GreatestFamily
 pub mod Arithmetic
-pub mod Meeting
+pub mod PartNeeds
 pub mod Directions
 pub mod Monotone
 pub mod Solving
@@ -21,9 +22,9 @@ pub mod QuotedAtoms
 pub mod TokenSlices
 pub mod ReadingLaws
 pub mod SentenceVariables
-pub mod Waits
-pub mod Agrees
+pub mod SpelledNodes
+pub mod NoOffences
 pub mod Uses
-pub mod Yes
+pub mod VerdictLaw
 pub mod Limits
 pub mod Substituting

@@ -11,9 +11,9 @@ use Rattle.fd_language.specs.Range.{Range, Span, One, Dom, Union, Inter, Outside
 use Rattle.fd_language.specs.Needs.{meets, is_literal, by_place, quotient_asks, expr_asks, over_asks, asks}
 use Rattle.fd_language.specs.Check.{Wish, Rising, Falling, Constant, turn, literal_value, by_sign, is_parameter, is_natural, quotient_fits, expr_fits, range_fits, fill, fill_range}
 use Rattle.fd_language.specs.RangeVerdict.{bound, over_limit, factor_over_limit, expr_within, range_within, has_one_use}
-use Rattle.fd_language.specs.Met.{expr_values, range_values, expr_divisors, range_divisors}
+use Rattle.fd_language.specs.EvaluatedValues.{expr_values, range_values, expr_divisors, range_divisors}
 use Rattle.fd_language.specs.CheckLaws.{BoundedValues}
-use Rattle.fd_language.proofs.Meeting.{asks_met, split_asks, asks_from_needs, meets_size, needs_met, divisor_meets, expr_meets, over_meets, range_meets}
+use Rattle.fd_language.proofs.PartNeeds.{asks_met, split_asks, asks_from_needs, meets_size, needs_met, divisor_meets, expr_meets, over_meets, range_meets}
 use Rattle.fd_language.proofs.Directions.{literal_is, Quotient, by_constant, by_term, quotient, natural_is}
 
 -- magnitudes

@@ -8,7 +8,7 @@ use Rattle.fd_language.specs.Family.{Family, has, IsSubset, IsRising, IsFamily, 
 use Rattle.fd_language.specs.Range.{Expr, Number, Infinity, Param, Add, Sub, Mul, value, least, greatest, Range, Span, One, Dom, Union, Inter, Outside, Plus, Minus, Times, Over, in_range, in_set, some_number, Leaf, Role, a_parameter, a_min, a_max, a_val, a_dom, expr_leaves, leaves, read_by, read_at, val_by, val_at, reads, vals, is_none_left, is_several}
 use Rattle.fd_language.specs.Needs.{is_literal}
 use Rattle.fd_language.specs.Check.{Rising, Falling, Constant, literal_value, is_parameter, expr_fits, range_fits, fill, fill_range}
-use Rattle.fd_language.proofs.Meeting.{expr_meets, range_meets, over_meets, needs_met}
+use Rattle.fd_language.proofs.PartNeeds.{expr_meets, range_meets, over_meets, needs_met}
 use Rattle.fd_language.specs.Monotonicity.{AcceptedIsMonotone}
 use Rattle.fd_language.proofs.Sets.{has-filter, has-filter_back, has_low, alone_in}
 pub use Rattle.fd_language.proofs.Sets.{in_left, in_right}

@@ -11,10 +11,6 @@ abbrev all_rows : (Operator → Bool) → List Operator → Bool
 all_rows p [] = true
 all_rows p (f ∷ fs) = p f && all_rows p fs
 
--- the parts of a conjunction, as and_parts of std gives them
-pub and_true : (a b : Bool) → (a && b) ≡ true → (a ≡ true) × (b ≡ true)
-and_true a b h = and_parts a b h
-
 found : (p : Operator → Bool) (fs : List Operator) (q : Operator → Bool) (f : Operator) → all_rows p fs ≡ true → find q fs ≡ Some f → p f ≡ true
 found p [] q f all e = absurd cc
 found p (g ∷ gs) q f all e =

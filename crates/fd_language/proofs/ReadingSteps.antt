@@ -4,7 +4,7 @@ use Rattle.fd_language.specs.Grammar.{nil_name, curly_name, list_of}
 use Rattle.fd_language.specs.Term.{Name}
 use Rattle.fd_language.specs.PlacedTerm.{PlacedTerm, PlacedTerms, var, int, atom, comp, no_parts, one, two, with_last}
 use Rattle.fd_language.specs.Operators.{Operator, left_limit, right_limit, prefix_of}
-use Rattle.fd_language.specs.Terminals.{Terminal, name, operator_word, variable, integer, opens, closes, open_list, close_list, open_curly, close_curly, comma, bar, stop, infix_operator, place_of, is_tight_open, is_negated}
+use Rattle.fd_language.specs.Terminals.{Terminal, name, operator_word, variable, integer, opens, closes, open_list, close_list, open_curly, close_curly, comma, bar, stop, infix_operator, token_place, is_tight_open, is_negated}
 
 pub data Stack : Type 0 where
   top : List PlacedTerm → Stack
@@ -120,7 +120,7 @@ abbrev pub ended : Reduced → Terminal → Option State
 ended r x = closed r.stack r.term x
 
 abbrev pub behind_operand : Stack → PlacedTerm → Terminal → Option State
-behind_operand s t x = or_else (attach (place_of x) (infix_operator x) s t) (ended (reduce None s 0 t) x)
+behind_operand s t x = or_else (attach (token_place x) (infix_operator x) s t) (ended (reduce None s 0 t) x)
 
 abbrev pub called : Option (ℕ × Name) → Stack → Option State
 called None s = None

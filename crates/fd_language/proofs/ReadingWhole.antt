@@ -5,7 +5,7 @@ use Rattle.std.proofs.lemmas.Bool.{le-leb, lt-leb, le-ltb, lt-ltb, not-true, and
 use Rattle.fd_language.specs.Term.{Name}
 use Rattle.fd_language.specs.PlacedTerm.{PlacedTerm, PlacedTerms, var, int, atom, comp, no_parts, part, one, two, with_last, append}
 use Rattle.fd_language.specs.Operators.{Operator, left_limit, right_limit, prefix_of}
-use Rattle.fd_language.specs.Terminals.{Terminal, name, operator_word, variable, integer, opens, closes, open_list, close_list, open_curly, close_curly, comma, bar, stop, comma_operator, infix_operator, place_of, is_tight_open, is_negated, may_follow}
+use Rattle.fd_language.specs.Terminals.{Terminal, name, operator_word, variable, integer, opens, closes, open_list, close_list, open_curly, close_curly, comma, bar, stop, comma_operator, infix_operator, token_place, is_tight_open, is_negated, may_follow}
 use Rattle.fd_language.specs.Grammar.{nil_name, curly_name, list_of, Reads, an_integer, a_negative, a_variable, an_atom, empty_list, empty_curly, named_call, operator_call, in_parens, operator_in_parens, a_list, a_list_tail, in_curly, a_prefix, an_infix, Arg, a_term, an_operator, Args, last, more, Sentences, none, next, IsText}
 use Rattle.fd_language.proofs.ReadingSteps.{Stack, top, paren, args, items, tail, curly, before, between, State, want, at_list, at_curly_bracket, at_operator, after, limit, reduce, Reduced, closed, lone, placed, attach, or_else, ended, behind_operand, called, wanted, begun, step, run, is_close_list, is_close_curly}
 use Rattle.fd_language.proofs.OperatorLaws.{bounds_infix, bounds_prefix, apart_infix, apart_prefix}
@@ -14,7 +14,7 @@ use Rattle.fd_language.proofs.OperatorLaws.{bounds_infix, bounds_prefix, apart_i
 pub data Spine : Stack → Stack → PlacedTerm → PlacedTerm → ℕ → Type 0 where
   bare : {s : Stack} {t : PlacedTerm} → Spine s s t t 0
   under_prefix : {p : ℕ} {o : Name} {s s2 : Stack} {x t : PlacedTerm} {q : ℕ} (f : Operator) → prefix_of o ≡ Some f → q ≤ (right_limit f) → Spine (before p o f s) s2 x t q → Spine s s2 x (comp o p (one t)) f.priority
-  under_infix : {s s2 : Stack} {a x t : PlacedTerm} {q : ℕ} (y : Terminal) (f : Operator) → infix_operator y ≡ Some f → q ≤ (right_limit f) → Spine (between (place_of y) f a s) s2 x t q → Spine s s2 x (comp f.name (place_of y) (two a t)) f.priority
+  under_infix : {s s2 : Stack} {a x t : PlacedTerm} {q : ℕ} (y : Terminal) (f : Operator) → infix_operator y ≡ Some f → q ≤ (right_limit f) → Spine (between (token_place y) f a s) s2 x t q → Spine s s2 x (comp f.name (token_place y) (two a t)) f.priority
 
 abbrev pub reduced : Stack → ℕ → PlacedTerm → Reduced
 reduced s q t = record { stack = s; priority = q; term = t }
@@ -40,7 +40,7 @@ reduce_stays n (before p o f s) q t h = rw (le-ltb (right_limit f) n h) refl
 reduce_stays n (between p f a s) q t h = rw (le-ltb (right_limit f) n h) refl
 reduce_stays n _ q t h = refl
 
-attach_fits : (y : Terminal) (f : Operator) → infix_operator y ≡ Some f → {s s2 : Stack} {x t : PlacedTerm} {q : ℕ} → Spine s s2 x t q → q ≤ (left_limit f) → f.priority ≤ limit s → attach (place_of y) (infix_operator y) s2 x ≡ Some (want (between (place_of y) f t s))
+attach_fits : (y : Terminal) (f : Operator) → infix_operator y ≡ Some f → {s s2 : Stack} {x t : PlacedTerm} {q : ℕ} → Spine s s2 x t q → q ≤ (left_limit f) → f.priority ≤ limit s → attach (token_place y) (infix_operator y) s2 x ≡ Some (want (between (token_place y) f t s))
 attach_fits y f e {s = s} {t = t} {q = q} d k h =
     rw (e, reduce-Spine y f e d k, reduce_stays f.priority s q t h, le-leb f.priority (limit s) h, le-leb q (left_limit f) k) refl
 
@@ -191,16 +191,16 @@ infix_not_open (opens p b) f e = absurd cc
 infix_not_open _ f e = refl
 
 -- no at_operator takes what stands in an argument's place as its left operand behind the bracket
-no_attach : (s s2 : Stack) (x : Terminal) (y t : PlacedTerm) (q : ℕ) → EndsArg s x → Spine s s2 y t q → q ≤ 999 → attach (place_of x) (infix_operator x) s2 y ≡ None
+no_attach : (s s2 : Stack) (x : Terminal) (y t : PlacedTerm) (q : ℕ) → EndsArg s x → Spine s s2 y t q → q ≤ 999 → attach (token_place x) (infix_operator x) s2 y ≡ None
 no_attach s s2 x y t q e d le = go e.is_end
   where
-    go : (infix_operator x ≡ None) ⊎ (infix_operator x ≡ Some comma_operator) → attach (place_of x) (infix_operator x) s2 y ≡ None
-    go (inl h) = ap (λ (o : Option Operator). attach (place_of x) o s2 y) h
+    go : (infix_operator x ≡ None) ⊎ (infix_operator x ≡ Some comma_operator) → attach (token_place x) (infix_operator x) s2 y ≡ None
+    go (inl h) = ap (λ (o : Option Operator). attach (token_place x) o s2 y) h
     go (inr h) =
         let wide : nat_le 1000 (limit s) ≡ false = lt-leb 1000 (limit s) (omega (arith, e.narrow)) in
-        ap (λ (o : Option Operator). attach (place_of x) o s2 y) h
-        ∙ ap (placed (place_of x) comma_operator) (reduce-Spine (comma 0) comma_operator refl d le ∙ e.bracket (Some 1000) q t)
-        ∙ ap (λ (b : Bool). cond b (cond (nat_le q 999) (Some (want (between (place_of x) comma_operator t s))) None) None) wide
+        ap (λ (o : Option Operator). attach (token_place x) o s2 y) h
+        ∙ ap (placed (token_place x) comma_operator) (reduce-Spine (comma 0) comma_operator refl d le ∙ e.bracket (Some 1000) q t)
+        ∙ ap (λ (b : Bool). cond b (cond (nat_le q 999) (Some (want (between (token_place x) comma_operator t s))) None) None) wide
 
 behind_argument : (s s2 : Stack) (x : Terminal) (y t : PlacedTerm) (q : ℕ) (c : Option (ℕ × Name)) → EndsArg s x → Spine s s2 y t q → q ≤ 999 → step (after c s2 y) x ≡ closed s t x
 behind_argument s s2 x y t q c e d le =
@@ -268,10 +268,10 @@ mutual
   Reads-takes (an_infix {x = x} {us = us} {a = a} f e d1 le1 d2 le2) s h =
       let room = (bounds_infix x f e).0 in
       let first = Reads-takes d1 s (omega arith) in
-      let turn : step (after first.flag first.stack first.operand) x ≡ Some (want (between (place_of x) f a s)) =
+      let turn : step (after first.flag first.stack first.operand) x ≡ Some (want (between (token_place x) f a s)) =
       ap (λ (b : Bool). cond b (called first.flag first.stack) (behind_operand first.stack first.operand x)) (infix_not_open x f e)
       ∙ ap (λ (o : Option State). or_else o (ended (reduce None first.stack 0 first.operand) x)) (attach_fits x f e first.spine le1 h) in
-      let second = Reads-takes d2 (between (place_of x) f a s) le2 in
+      let second = Reads-takes d2 (between (token_place x) f a s) le2 in
       record { flag = second.flag; stack = second.stack; operand = second.operand; runs = first.runs ∙ ap (option_and_then (λ st. run us st)) turn ∙ second.runs; spine = under_infix x f e le2 second.spine }
 
   pub Arg-takes : {ts rest : List Terminal} {t : PlacedTerm} → Arg ts rest t → (s : Stack) (x : Terminal) → EndsArg s x → (us : List Terminal) → rest ≡ x ∷ us → run ts (want s) ≡ option_and_then (λ st. run us st) (closed s t x)

@@ -6,7 +6,7 @@ use Rattle.fd_language.specs.Unifier.{Equation, IsMostGeneral, Unifies}
 use Rattle.fd_language.specs.Family.{has}
 use Rattle.fd_language.proofs.Substituting.{identity}
 use Rattle.fd_language.proofs.Sets.{has-filter, has-filter_back}
-use Rattle.fd_language.proofs.Greatest.{shorter_or_same}
+use Rattle.fd_language.proofs.GreatestFamily.{shorter_or_same}
 use Rattle.fd_language.proofs.Monotone.{in_left, in_right}
 
 -- whether a variable occurs in a term

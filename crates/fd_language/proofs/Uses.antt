@@ -12,7 +12,7 @@ use Rattle.std.specs.Prelude.{flat_map, Option, Some, None}
 use Rattle.std.proofs.lemmas.List.{append-nil}
 use Rattle.fd_language.proofs.Sets.{has_either, in_left, in_right}
 use Rattle.fd_language.proofs.Leaves.{whole_nodes}
-use Rattle.fd_language.proofs.Agrees.{nil}
+use Rattle.fd_language.proofs.NoOffences.{nil}
 
 -- the parameters and the named variables of a list of nodes
 abbrev node_params : List RangeNode → List ℕ

@@ -5,7 +5,7 @@ use Rattle.fd_language.specs.Range.{Range}
 use Rattle.fd_language.specs.Family.{Family, IsFamily}
 use Rattle.fd_language.specs.Needs.{meets_needs}
 use Rattle.fd_language.specs.Check.{fill_range}
-use Rattle.fd_language.specs.Met.{range_values, range_divisors}
+use Rattle.fd_language.specs.EvaluatedValues.{range_values, range_divisors}
 use Rattle.fd_language.specs.RangeVerdict.{verdict, is_accepted}
 
 -- The verdict finds no offence exactly where all nodes keep the limit, the direction table fits and no variable has two uses.

@@ -14,7 +14,7 @@ pub mod Check
 pub mod RangeVerdict
 pub mod Flat
 pub mod Counts
-pub mod Met
+pub mod EvaluatedValues
 pub mod CheckLaws
 pub mod Spelling
 pub mod Features

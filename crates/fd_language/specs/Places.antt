@@ -7,11 +7,11 @@ pub record Place : Type 0 where
   pub variable : ℕ
   pub parameter : Bool
 
-abbrev pub place : ℕ → Bool → List Place
-place y p = record { variable = y; parameter = p } ∷ []
+abbrev pub one_place : ℕ → Bool → List Place
+one_place y p = record { variable = y; parameter = p } ∷ []
 
 abbrev pub place_at : Leaf → List Place
-place_at l = place l.variable (is_parameter_role l.role)
+place_at l = one_place l.variable (is_parameter_role l.role)
 
 -- the places of the variables in text order: one for each leaf that names a variable
 abbrev pub expr_places : Expr → List Place

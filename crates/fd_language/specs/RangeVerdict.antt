@@ -150,20 +150,20 @@ clashes at n ps ys [] = []
 clashes at n ps ys (m ∷ ms) = leaf_clashes (at n) ps ys (leaf_of m) (λ qs zs. clashes at (suc n) qs zs ms)
 
 -- The first of several offences: the smallest place decides, and at equal places the order of the kinds.
-abbrev pub place_of : Offence → ℕ
-place_of (NotMonotone p) = p
-place_of (NotNatural p) = p
-place_of (BadDivisor p) = p
-place_of (TooWide p) = p
+abbrev pub offence_place : Offence → ℕ
+offence_place (NotMonotone p) = p
+offence_place (NotNatural p) = p
+offence_place (BadDivisor p) = p
+offence_place (TooWide p) = p
 
-abbrev pub kind_of : Offence → ℕ
-kind_of (NotMonotone p) = 0
-kind_of (NotNatural p) = 1
-kind_of (BadDivisor p) = 2
-kind_of (TooWide p) = 3
+abbrev pub offence_kind : Offence → ℕ
+offence_kind (NotMonotone p) = 0
+offence_kind (NotNatural p) = 1
+offence_kind (BadDivisor p) = 2
+offence_kind (TooWide p) = 3
 
 abbrev pub is_before : Offence → Offence → Bool
-is_before a b = nat_lt (place_of a) (place_of b) || ((place_of a == place_of b) && nat_lt (kind_of a) (kind_of b))
+is_before a b = nat_lt (offence_place a) (offence_place b) || ((offence_place a == offence_place b) && nat_lt (offence_kind a) (offence_kind b))
 
 abbrev pub earlier : Option Offence → Option Offence → Option Offence
 earlier None b = b

@@ -6,23 +6,23 @@ use Rattle.fd_language.specs.PlacedTerm.{PlacedTerm, var, int, atom, comp, no_pa
 use Rattle.fd_language.specs.Range.{Range, Span, One, Dom, Union, Inter, Outside, Plus, Minus, Times, Over, Expr, Number, Infinity, Param, Min, Max, Val, Add, Sub, Mul, DivDown, DivUp}
 
 -- What is read: the value with the places of its nodes in postfix order, which hold where no subterm offends, and the places of the subterms that fit nowhere.
-pub record Reading (A : Type 0) : Type 0 where
-  pub value : A
+pub record Parsed (A : Type 0) : Type 0 where
+  pub tree : A
   pub places : List ℕ
   pub offenders : List ℕ
 
-abbrev pub read : {A : Type 0} → A → ℕ → Reading A
-read value p = record { value = value; places = p ∷ []; offenders = [] }
+abbrev pub read : {A : Type 0} → A → ℕ → Parsed A
+read value p = record { tree = value; places = p ∷ []; offenders = [] }
 
 -- a subterm that fits nowhere, whatever stands in it
-abbrev pub offends : {A : Type 0} → A → ℕ → Reading A
-offends value p = record { value = value; places = []; offenders = p ∷ [] }
+abbrev pub offends : {A : Type 0} → A → ℕ → Parsed A
+offends value p = record { tree = value; places = []; offenders = p ∷ [] }
 
-abbrev pub read_one : {A B : Type 0} → (A → B) → ℕ → Reading A → Reading B
-read_one make p a = record { value = make a.value; places = a.places ++ p ∷ []; offenders = a.offenders }
+abbrev pub read_one : {A B : Type 0} → (A → B) → ℕ → Parsed A → Parsed B
+read_one make p a = record { tree = make a.tree; places = a.places ++ p ∷ []; offenders = a.offenders }
 
-abbrev pub read_both : {A B C : Type 0} → (A → B → C) → ℕ → Reading A → Reading B → Reading C
-read_both make p a b = record { value = make a.value b.value; places = a.places ++ (b.places ++ p ∷ []); offenders = a.offenders ++ b.offenders }
+abbrev pub read_both : {A B C : Type 0} → (A → B → C) → ℕ → Parsed A → Parsed B → Parsed C
+read_both make p a b = record { tree = make a.tree b.tree; places = a.places ++ (b.places ++ p ∷ []); offenders = a.offenders ++ b.offenders }
 
 -- the operators of terms
 abbrev pub expr_operator : Name → Option (Expr → Expr → Expr)
@@ -40,17 +40,17 @@ expr_feature f =
     if bytes_eq f (codes "max") then Some Max else
     if bytes_eq f (codes "val") then Some Val else None
 
-abbrev pub read_feature : Option (ℕ → Expr) → Bool → ℕ → ℕ → Reading Expr
+abbrev pub read_feature : Option (ℕ → Expr) → Bool → ℕ → ℕ → Parsed Expr
 read_feature (Some make) true p y = read (make y) p
 read_feature (Some make) false p y = offends Infinity p
 read_feature None features p y = offends Infinity p
 
-abbrev pub read_operator : Option (Expr → Expr → Expr) → ℕ → Reading Expr → Reading Expr → Reading Expr
+abbrev pub read_operator : Option (Expr → Expr → Expr) → ℕ → Parsed Expr → Parsed Expr → Parsed Expr
 read_operator (Some make) p a b = read_both make p a b
 read_operator None p a b = offends Infinity p
 
 -- in term position: at true, min, max and val may stand in it, at false they fit nowhere
-abbrev pub read_expr : Bool → PlacedTerm → Reading Expr
+abbrev pub read_expr : Bool → PlacedTerm → Parsed Expr
 read_expr features (var x p) = read (Param x) p
 read_expr features (int z p) = read (Number z) p
 read_expr features (atom a p) = if bytes_eq a (codes "infinity") then read Infinity p else offends Infinity p
@@ -80,24 +80,24 @@ range_form f =
 abbrev pub empty_range : Range
 empty_range = One Infinity
 
-abbrev pub read_form : RangeForm → ℕ → Reading Range → Reading Range → Reading Expr → Reading Expr → Reading Expr → Reading Range
+abbrev pub read_form : RangeForm → ℕ → Parsed Range → Parsed Range → Parsed Expr → Parsed Expr → Parsed Expr → Parsed Range
 read_form (of_terms make) p r q a b c = read_both make p a b
 read_form (of_ranges make) p r q a b c = read_both make p r q
 read_form (pointwise make) p r q a b c = read_both make p r c
 read_form no_form p r q a b c = offends empty_range p
 
-abbrev pub read_dom : PlacedTerm → ℕ → Reading Range
+abbrev pub read_dom : PlacedTerm → ℕ → Parsed Range
 read_dom (var y q) p = read (Dom y) p
 read_dom t p = offends empty_range p
 
-abbrev pub read_single : Name → PlacedTerm → ℕ → Reading Range → Reading Expr → Reading Range
+abbrev pub read_single : Name → PlacedTerm → ℕ → Parsed Range → Parsed Expr → Parsed Range
 read_single f t p r e =
     if bytes_eq f (codes "{}") then read_one One p e else
     if bytes_eq f (codes "-") then read_one Outside p r else
     if bytes_eq f (codes "dom") then read_dom t p else offends empty_range p
 
 -- in range position
-abbrev pub read_range : PlacedTerm → Reading Range
+abbrev pub read_range : PlacedTerm → Parsed Range
 read_range (var x p) = offends empty_range p
 read_range (int z p) = offends empty_range p
 read_range (atom a p) = offends empty_range p

@@ -40,20 +40,20 @@ infix_operator bar = None
 infix_operator stop = None
 
 -- 0 of the tokens that no reading shows
-abbrev pub place_of : Terminal → ℕ
-place_of (name p a) = p
-place_of (operator_word p o) = p
-place_of (variable p n) = p
-place_of (integer p b n) = p
-place_of (opens p b) = p
-place_of closes = 0
-place_of (open_list p) = p
-place_of close_list = 0
-place_of (open_curly p) = p
-place_of close_curly = 0
-place_of (comma p) = p
-place_of bar = 0
-place_of stop = 0
+abbrev pub token_place : Terminal → ℕ
+token_place (name p a) = p
+token_place (operator_word p o) = p
+token_place (variable p n) = p
+token_place (integer p b n) = p
+token_place (opens p b) = p
+token_place closes = 0
+token_place (open_list p) = p
+token_place close_list = 0
+token_place (open_curly p) = p
+token_place close_curly = 0
+token_place (comma p) = p
+token_place bar = 0
+token_place stop = 0
 
 unfoldable pub is_minus : Name → Bool
 is_minus o = bytes_eq o (codes "-")

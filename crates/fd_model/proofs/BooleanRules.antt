@@ -6,7 +6,7 @@ use Rattle.std.proofs.lemmas.Int.{ints}
 use Rattle.fd_language.specs.Family.{has}
 use Rattle.fd_model.specs.Closed.{AllPosted}
 use Rattle.fd_language.specs.Check.{range_fits}
-use Rattle.fd_language.proofs.Limits.{abs_add, abs_mul}
+use Rattle.fd_language.proofs.Lemmas.{abs_add, abs_mul}
 use Rattle.fd_model.specs.ConstraintLaws.{total}
 use Rattle.fd_model.proofs.RowWidths.{weight}
 use Rattle.fd_language.specs.Range.{Range, Span, Inter, Number, Min, Max, Add, Sub, Mul, DivDown, DivUp, Indexical, set_of, in_range, div_up, div_down}

@@ -14,7 +14,7 @@ use Rattle.fd_model.specs.Answers.{answers, EndsWith, Somewhere, Comes, Settles,
 use Rattle.fd_model.specs.LabellingLaws.{IsListed, IsLabelled, LabellingAnswers}
 use Rattle.fd_model.proofs.Lists.{each_map, each_at}
 use Rattle.fd_model.proofs.Searching.{searched, IsFound, found_by}
-use Rattle.fd_language.proofs.Substituting.{after, still_unifies, through_term}
+use Rattle.fd_language.proofs.Lemmas.{after, still_unifies, through_term}
 use Rattle.fd_model.proofs.Heeding.{Heeds, look_heeds, look_open, through_look}
 use Rattle.fd_model.proofs.Listing.{read_members, with_member_back, list_under}
 use Rattle.fd_model.proofs.Picking.{IsInt, AllInts, Element, element_of}

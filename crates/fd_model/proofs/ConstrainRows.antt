@@ -13,7 +13,7 @@ use Rattle.fd_model.specs.Constraining.{arguments, expand}
 use Rattle.fd_model.specs.Satisfies.{Assignment, worth, worths, Satisfies}
 use Rattle.fd_model.specs.FlatConstraints.{is_flat_constraint, SeesNumbers}
 use Rattle.fd_model.specs.FlatQueries.{IsFlatGoal}
-use Rattle.fd_language.proofs.Monotone.{in_left, in_right}
+use Rattle.fd_language.proofs.Lemmas.{in_left, in_right}
 use Rattle.fd_model.proofs.FlatExpanding.{flat_expands, seen_satisfies}
 use Rattle.fd_model.proofs.GoalRows.{Rewritten, with_ranges, rewritten, numbers, IsPlain}
 use Rattle.fd_model.proofs.Heeding.{first_member}

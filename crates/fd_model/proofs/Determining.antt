@@ -4,9 +4,7 @@ use Rattle.std.proofs.lemmas.Bool.{or_cases, or_left, or_right, true≢false}
 use Rattle.fd_language.specs.Family.{Family, has, IsFamily, IsSubset, IsRising}
 use Rattle.fd_language.specs.Range.{Indexical, set_of, reads, least}
 use Rattle.fd_model.specs.Closed.{constrained, AllPosted}
-use Rattle.fd_language.proofs.Sets.{has_either}
-use Rattle.fd_language.proofs.Monotone.{in_left, in_right}
-use Rattle.fd_language.proofs.RangeRenaming.{set_agree}
+use Rattle.fd_language.proofs.Lemmas.{has_either, in_left, in_right, set_agree}
 use Rattle.fd_model.specs.LinearRows.{Expansion}
 use Rattle.fd_model.specs.Satisfies.{Assignment, singles}
 use Rattle.fd_model.specs.ConstraintLaws.{AllEquated, AllEquatedIn, Fits, Extends, IsSettled}

@@ -15,7 +15,7 @@ use Rattle.fd_model.specs.ConstraintLaws.{AllEquated, AllFresh, IsScoped}
 use Rattle.fd_language.specs.Lists.{Each}
 use Rattle.fd_model.specs.Answers.{Somewhere}
 use Rattle.fd_model.specs.Ways.{is_equated, added}
-use Rattle.fd_language.proofs.Sets.{has-filter, has-filter_back}
+use Rattle.fd_language.proofs.Lemmas.{has-filter, has-filter_back}
 use Rattle.fd_model.proofs.OneValues.{IsOld, expand_one}
 use Rattle.fd_model.proofs.RowScopes.{scoped_rows}
 use Rattle.fd_model.proofs.RewritingLaw.{rewriting}

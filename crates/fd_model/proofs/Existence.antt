@@ -28,11 +28,10 @@ use Rattle.fd_model.specs.Sound.{IsRunnable, AllRunnable, AreRunnable, ClausesRu
 use Rattle.fd_language.specs.Check.{range_fits}
 use Rattle.fd_model.specs.Run.{IsLimit, Run, over, last, fewer, any, spent, faulty, taken}
 use Rattle.fd_model.proofs.Closing.{greatest_for, closed_either}
-use Rattle.fd_language.proofs.Solving.{solved, Solved}
+use Rattle.fd_language.proofs.Lemmas.{solved, Solved, range_fits_same}
 use Rattle.fd_model.proofs.Canonical.{canonical}
 use Rattle.fd_model.proofs.Accepting.{posted_monotone}
 use Rattle.fd_model.proofs.Unique.{run_once}
-use Rattle.fd_language.proofs.Fitting.{range_fits_same}
 use Rattle.fd_model.proofs.Growing.{posted_both}
 
 -- some variable of the list has no value, or each has one

@@ -6,11 +6,11 @@ use Rattle.fd_language.specs.Term.{Term, Var, Int, Atom, Comp}
 use Rattle.fd_language.specs.Unifier.{Equation}
 use Rattle.fd_language.specs.Range.{Range, Indexical}
 use Rattle.fd_language.specs.Needs.{need_of}
-use Rattle.fd_language.specs.Places.{Place, place, range_places}
+use Rattle.fd_language.specs.Places.{Place, one_place, range_places}
 use Rattle.fd_model.specs.Posting.{offence_at, first_offence, unless_offence, post}
 use Rattle.fd_model.specs.FlatConstraints.{SeesNumbers}
 use Rattle.fd_model.specs.PostingLaws.{IsPostable, FlatPosts}
-use Rattle.fd_language.proofs.RangePlaces.{none_placed}
+use Rattle.fd_language.proofs.Lemmas.{none_placed}
 use Rattle.fd_language.specs.Lists.{Each}
 use Rattle.fd_model.proofs.Heeding.{first_member}
 use Rattle.fd_language.specs.Family.{has}
@@ -45,7 +45,7 @@ module _ (M : ℕ) (look : ℕ → Term) (sees : SeesNumbers M look) where
   given None p n es h t r k e = record { posted = p; fresh = n; made = es; gives = e }
 
 pub flat_posts : FlatPosts
-flat_posts M look (Var v) r n h none sees = given M look sees (first_offence (need_of r) look (place v false ++ range_places r)) _ _ _ (none_offends M look sees (need_of r) (place v false ++ range_places r) (refl, none_placed r none)) (Var v) r n refl
+flat_posts M look (Var v) r n h none sees = given M look sees (first_offence (need_of r) look (one_place v false ++ range_places r)) _ _ _ (none_offends M look sees (need_of r) (one_place v false ++ range_places r) (refl, none_placed r none)) (Var v) r n refl
 flat_posts M look (Int z) r n h none sees = given M look sees (first_offence (need_of r) look (range_places r)) _ _ _ (none_offends M look sees (need_of r) (range_places r) (none_placed r none)) (Int z) r n refl
 flat_posts M look (Atom f) r n h none sees = absurd (cc)
 flat_posts M look (Comp f ts) r n h none sees = absurd (cc)

@@ -9,8 +9,7 @@ use Rattle.fd_model.specs.Goal.{Goal, Post, Constrain, Label, Program, Query, Br
 use Rattle.fd_model.specs.Sound.{GoalBelow, EachBelow}
 use Rattle.fd_model.specs.Lines.{says}
 use Rattle.fd_model.specs.Children.{Gives as GivesBranches, offer}
-use Rattle.fd_language.proofs.RangeRenaming.{set_agree}
-use Rattle.fd_language.proofs.Sets.{has_high, has-filter_back, universe_rising}
+use Rattle.fd_language.proofs.Lemmas.{set_agree, has_high, has-filter_back, universe_rising, none_placed, reads_placed}
 use Rattle.fd_model.specs.Labelling.{open_ones}
 use Rattle.fd_model.specs.Members.{Member}
 use Rattle.fd_model.proofs.GoalRows.{Rewritten, with_ranges, numbers, IsPlain}
@@ -23,7 +22,6 @@ use Rattle.fd_model.specs.FlatConstraints.{is_place}
 use Rattle.fd_model.specs.FlatQueries.{IsSatisfied, IsFlatGoal, IsFlat}
 use Rattle.fd_model.specs.FlatLines.{IsAssigned, FlatAnswers}
 use Rattle.fd_model.proofs.Searching.{searched}
-use Rattle.fd_language.proofs.RangePlaces.{none_placed, reads_placed}
 use Rattle.fd_model.proofs.Wayfaring.{list_below}
 use Rattle.fd_model.proofs.Seeing.{arguments_below}
 use Rattle.fd_model.proofs.ConstrainRows.{constrain_row, satisfies_same}

@@ -14,7 +14,7 @@ use Rattle.fd_model.specs.declared.kinds.Relation.TheVariants.{Equal, Differ, Le
 use Rattle.fd_language.specs.Variables.{variables_of}
 use Rattle.fd_language.specs.Range.{is_none_left}
 use Rattle.fd_language.specs.Term.{Term, Var, Int, Atom, Comp, no_terms, term}
-use Rattle.fd_language.proofs.Limits.{abs_add, abs_mul}
+use Rattle.fd_language.proofs.Lemmas.{abs_add, abs_mul}
 use Rattle.fd_model.specs.Linear.{Sum, with_product, with_products, scaled, nonzero, plus, times, is_constant, in_integers, are_few, is_within, checked, of_both, of_one, sum_of, difference_of, product_of, collect_term, Linear, collect, normal, normal_form, comparison}
 use Rattle.fd_model.specs.LinearRows.{Expansion, linear_rows}
 use Rattle.fd_model.specs.Constraining.{compare}

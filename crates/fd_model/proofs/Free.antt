@@ -6,13 +6,12 @@ use Rattle.fd_language.specs.Term.{Term, Var, Int, Atom, Comp, Substitution, app
 use Rattle.fd_language.specs.Family.{has}
 use Rattle.fd_model.specs.Closed.{constrained}
 use Rattle.fd_model.specs.Goal.{Branch}
-use Rattle.fd_language.proofs.Sets.{has_either}
+use Rattle.fd_language.proofs.Lemmas.{has_either, after, still_unifies}
 use Rattle.fd_model.specs.Labelling.{open_ones}
 use Rattle.fd_model.specs.Members.{Member}
 use Rattle.fd_model.specs.Satisfies.{Assignment}
 use Rattle.fd_model.specs.Answers.{IsSolution}
 use Rattle.fd_model.specs.LabellingLaws.{IsLabelled, FreeMembers}
-use Rattle.fd_language.proofs.Substituting.{after, still_unifies}
 use Rattle.fd_model.proofs.Heeding.{solution_consistent, given_listed, given_constrained}
 use Rattle.fd_model.proofs.Growing.{posted_moved}
 use Rattle.fd_model.proofs.Completing.{open_var}

@@ -6,9 +6,7 @@ use Rattle.fd_language.specs.Unifier.{Equation, Unifies}
 use Rattle.fd_language.specs.Family.{has, IsSubset}
 use Rattle.fd_language.specs.Range.{Indexical, reads, set_of}
 use Rattle.fd_model.specs.Closed.{AllPosted, constrained}
-use Rattle.fd_language.proofs.Sets.{has_either}
-use Rattle.fd_language.proofs.Monotone.{in_left, in_right}
-use Rattle.fd_language.proofs.RangeRenaming.{set_agree}
+use Rattle.fd_language.proofs.Lemmas.{has_either, in_left, in_right, set_agree}
 use Rattle.fd_model.proofs.ListNames.{named_left, named_right, posted_left, posted_right}
 use Rattle.fd_model.specs.Satisfies.{Assignment, singles}
 use Rattle.fd_model.specs.Answers.{OneValue, Settles}

@@ -9,13 +9,10 @@ use Rattle.fd_model.specs.Closed.{IsClosed, AllPosted, constrained}
 use Rattle.fd_model.specs.Goal.{Branch}
 use Rattle.fd_model.specs.Seen.{IsConsistent, IsView, is_variable, set_at, by_set}
 use Rattle.fd_model.specs.Children.{look_in}
-use Rattle.fd_language.proofs.Monotone.{in_left, in_right}
-use Rattle.fd_language.proofs.Sets.{has_high, rising_same}
-use Rattle.fd_language.proofs.Solving.{solved}
+use Rattle.fd_language.proofs.Lemmas.{in_left, in_right, has_high, rising_same, solved, after, still_unifies, through_term}
 use Rattle.fd_model.specs.Satisfies.{Assignment, singles}
 use Rattle.fd_model.specs.Answers.{IsSolution}
 use Rattle.fd_model.specs.Models.{IsModel}
-use Rattle.fd_language.proofs.Substituting.{after, still_unifies, through_term}
 use Rattle.fd_model.proofs.Models.{consistent_from, view_model, in_view, not_empty, has_general, weaker}
 
 pub pos_same : (n k : ℕ) → pos n ≡ pos k → n ≡ k

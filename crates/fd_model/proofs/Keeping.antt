@@ -5,7 +5,7 @@ use Rattle.fd_language.specs.Family.{has, IsRising}
 use Rattle.fd_model.specs.Goal.{Branch}
 use Rattle.fd_model.specs.Seen.{IsConsistent}
 use Rattle.fd_model.specs.Children.{Kept}
-use Rattle.fd_language.proofs.Sets.{has_low}
+use Rattle.fd_language.proofs.Lemmas.{has_low}
 use Rattle.fd_language.specs.Lists.{Each}
 use Rattle.fd_model.specs.Answers.{Somewhere, InOrder}
 use Rattle.fd_model.proofs.Heeding.{first_member}

@@ -12,15 +12,12 @@ use Rattle.fd_model.specs.Closed.{AllPosted, constrained}
 use Rattle.fd_model.specs.Goal.{Goal, Label, Program, Branch}
 use Rattle.fd_model.specs.Seen.{IsConsistent, IsView, set_at, by_set}
 use Rattle.fd_model.specs.Children.{Gives, Faults, with_goals, Kept, KeptOffer, look_in, Children, offer, by_value, by_pick, by_listing, sets_in}
-use Rattle.fd_language.proofs.Sets.{has_high, has_either, in_universe, universe_rising}
-use Rattle.fd_language.proofs.Monotone.{in_left, in_right}
-use Rattle.fd_language.proofs.RangeRenaming.{set_agree}
+use Rattle.fd_language.proofs.Lemmas.{has_high, has_either, in_universe, universe_rising, in_left, in_right, set_agree, after, still_unifies, through_term, number_for, number_at, number_back}
 use Rattle.fd_model.proofs.Unique.{one_view}
 use Rattle.fd_model.specs.Labelling.{read_list, values_by, pick, open_ones}
 use Rattle.fd_model.specs.Members.{Member}
 use Rattle.fd_model.specs.Satisfies.{Assignment, singles}
 use Rattle.fd_model.specs.Answers.{IsSolution, Somewhere, Precedes, Comes, OneValue, Settles}
-use Rattle.fd_language.proofs.Substituting.{after, still_unifies, through_term, number_for, number_at, number_back}
 use Rattle.fd_model.proofs.Models.{view_model}
 use Rattle.fd_model.proofs.Heeding.{Heeds, heeds_weaker, solution_heeds, solution_consistent, solution_inside, given_constrained, given_listed, set_found, look_heeds, look_only, look_single, single_set, by_set_int, look_open, open_fixed, through_look, first_member, pos_same}
 use Rattle.fd_model.proofs.Listing.{read_members, list_under, plain_members}

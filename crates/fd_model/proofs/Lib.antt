@@ -1,3 +1,4 @@
+pub mod Lemmas
 pub mod Closing
 pub mod Orders
 pub mod Constants

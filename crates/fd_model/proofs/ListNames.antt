@@ -5,8 +5,7 @@ use Rattle.fd_language.specs.Lists.{Each}
 use Rattle.fd_language.specs.Family.{has}
 use Rattle.fd_language.specs.Range.{Range, Indexical, Union, reads}
 use Rattle.fd_model.specs.Closed.{constrained, AllPosted}
-use Rattle.fd_language.proofs.Sets.{has_either}
-use Rattle.fd_language.proofs.Monotone.{in_left, in_right}
+use Rattle.fd_language.proofs.Lemmas.{has_either, in_left, in_right}
 use Rattle.fd_model.specs.Members.{Member, Open, Known, placed, equated_from}
 use Rattle.fd_model.specs.ListRows.{differs, against, pairwise, different_ranges, joined, union_of, elements_at, numbers_of, element_ranges, counter, counted, counts, units}
 use Rattle.fd_model.proofs.Determining.{NamesIn, names_one, AllNamed}

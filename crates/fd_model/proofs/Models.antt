@@ -8,9 +8,8 @@ use Rattle.fd_language.specs.Range.{Indexical}
 use Rattle.fd_model.specs.Closed.{constrained}
 use Rattle.fd_model.specs.Seen.{IsConsistent, IsView}
 use Rattle.fd_model.specs.Models.{IsModel}
-use Rattle.fd_language.proofs.Sets.{rising_same}
+use Rattle.fd_language.proofs.Lemmas.{rising_same, solved, Solved}
 use Rattle.fd_model.proofs.Closing.{closed_either}
-use Rattle.fd_language.proofs.Solving.{solved, Solved}
 
 pub consistent_from : (M : ℕ) (es : List Equation) (ps : List Indexical) (S : Family) → IsModel M es ps S → IsConsistent M es ps
 consistent_from M es ps S m = record {

@@ -19,8 +19,7 @@ use Rattle.fd_model.specs.Constraining.{compare, all_different, element, atmost,
 use Rattle.fd_model.specs.Satisfies.{Assignment, singles}
 use Rattle.fd_model.specs.ConstraintLaws.{AllEquatedIn, AllFresh, IsSettled, Determined}
 use Rattle.fd_model.specs.Ways.{is_equated}
-use Rattle.fd_language.proofs.Sets.{has_high, has-filter_back}
-use Rattle.fd_language.proofs.RangeRenaming.{set_agree}
+use Rattle.fd_language.proofs.Lemmas.{has_high, has-filter_back, set_agree, each_map}
 use Rattle.fd_model.proofs.Collecting.{one_ok}
 use Rattle.fd_model.proofs.Comparing.{form_of}
 use Rattle.fd_model.proofs.Singles.{set_singles}
@@ -31,7 +30,6 @@ use Rattle.fd_model.proofs.Determining.{NamesIn, single_from, IsOne, AllNamed, d
 use Rattle.fd_model.proofs.RowNames.{AllVars, rows_names, each_below, collect_vars, normal_vars}
 use Rattle.fd_model.proofs.ListNames.{posted_left, posted_right, named_left, named_right, names_append, none_named, one_named, different_names, named_either, element_names, AllAdded, counts_names, named_counts, units_vars}
 use Rattle.fd_model.proofs.RowScopes.{scoped_rows}
-use Rattle.fd_language.proofs.Lists.{each_map}
 
 none_empty : (M n : ℕ) (S : Family) (ps : List Indexical) → IsSettled M (record { equated = []; ranges = record { target = n; range = no_number } ∷ ps; fresh = suc n }) S → ⊥
 none_empty M n S ps s =

@@ -9,14 +9,12 @@ use Rattle.fd_model.specs.Closed.{constrained}
 use Rattle.fd_language.specs.Check.{fill_range}
 use Rattle.fd_language.specs.Needs.{need_of}
 use Rattle.fd_language.specs.RangeRenaming.{rename_range}
-use Rattle.fd_language.specs.Places.{Place, place, range_places}
+use Rattle.fd_language.specs.Places.{Place, one_place, range_places}
 use Rattle.fd_model.specs.Posting.{is_integer, integer_of, integers_at, slot, slot_equations, unless_offence}
 use Rattle.fd_model.specs.Goal.{Goal, Post, Program, Branch}
 use Rattle.fd_model.specs.Sound.{PlacesBelow}
 use Rattle.fd_model.specs.Children.{Gives as GivesBranches, by_post, offer}
-use Rattle.fd_language.proofs.Sets.{has_high, has_either, universe_rising, has-filter_back}
-use Rattle.fd_language.proofs.Monotone.{in_left}
-use Rattle.fd_language.proofs.RangeRenaming.{reads_map, set_same}
+use Rattle.fd_language.proofs.Lemmas.{has_high, has_either, universe_rising, has-filter_back, in_left, reads_map, set_same, filled_as_is, none_placed, free_places_read}
 use Rattle.fd_model.proofs.GoalRows.{Rewritten, with_ranges, numbers, Gives, FitsRow, IsPlain}
 use Rattle.fd_model.specs.Satisfies.{Assignment, singles}
 use Rattle.fd_model.specs.Answers.{Somewhere}
@@ -25,8 +23,6 @@ use Rattle.fd_model.proofs.Heeding.{first_member}
 use Rattle.fd_model.proofs.Slots.{Apart, integers, integers_are, integers_apart, integers_from, slot_out, slot_low, slot_high, extend, extend_bounded, extend_low, extend_slot, IsInteger, slots_given, slots_each, slots_unify, slots_back}
 use Rattle.fd_model.proofs.Staging.{IsGoalRow}
 use Rattle.fd_model.proofs.FlatPosting.{Free, variables, IsPlainTerm, no_offence}
-use Rattle.fd_language.proofs.Leaves.{filled_as_is}
-use Rattle.fd_language.proofs.RangePlaces.{none_placed, free_places_read}
 use Rattle.fd_language.specs.Range.{params}
 
 -- a variable lies in a range, or an integer does
@@ -267,7 +263,7 @@ module _ (M : ℕ) (prog : Program) (nv : ℕ) (vs : List ℕ) (every : (x : ℕ
 
   pub post_variable : (v : ℕ) → v < nv → (w : Rewritten) × (offer M prog look sets b (Post (Var v) r) rest ≡ GivesBranches (with_ranges b rest w ∷ [])) × IsGoalRow M b.fresh vs look (λ a. LiesIn M r a (Var v)) w
   post_variable v h =
-      let ps = place v false ++ range_places r in
+      let ps = one_place v false ++ range_places r in
       let small : (x : ℕ) → has (v ∷ variables (range_places r)) x ≡ true → x < nv = λ x i. elim (or_cases (v == x) (has (variables (range_places r)) x) i) [ inl e ↦ subst (λ y. y < nv) (eqb-true v x e) h | inr e ↦ small_places x e ] in (
         _,
         ap (λ f. by_post b rest (unless_offence f (record { target = slot b.fresh (integers_at look ps []) v; range = rename_range (slot b.fresh (integers_at look ps [])) (fill_range (λ y. integer_of (look y)) r) }) (b.fresh + length (integers_at look ps [])) ([] ++ slot_equations look b.fresh (integers_at look ps []))))

@@ -10,18 +10,15 @@ use Rattle.fd_language.specs.Range.{Range, Indexical, set_of}
 use Rattle.fd_language.specs.Check.{fill_range}
 use Rattle.fd_language.specs.Range.{params}
 use Rattle.fd_language.specs.RangeRenaming.{rename_range}
-use Rattle.fd_language.specs.Places.{Place, place, range_places}
+use Rattle.fd_language.specs.Places.{Place, one_place, range_places}
 use Rattle.fd_model.specs.Posting.{is_integer, integers_at, integer_of, slot, slot_equations, posts, unless_offence}
 use Rattle.fd_model.specs.Sound.{PlacesBelow, RangeBelow}
-use Rattle.fd_language.proofs.RangeRenaming.{set_same}
+use Rattle.fd_language.proofs.Lemmas.{set_same, each_both, filled_as_is, reads_placed}
 use Rattle.fd_model.specs.Satisfies.{Assignment, singles, worth}
 use Rattle.fd_model.specs.FlatConstraints.{SeesNumbers}
 use Rattle.fd_model.specs.PostingLaws.{Solves, IsPosted, PostedRange}
 use Rattle.fd_model.proofs.Placing.{changed, changed_here, changed_other, changed_small}
 use Rattle.fd_language.specs.Lists.{Each}
-use Rattle.fd_language.proofs.Lists.{each_both}
-use Rattle.fd_language.proofs.Leaves.{filled_as_is}
-use Rattle.fd_language.proofs.RangePlaces.{reads_placed}
 
 module _ (M N n : ℕ) (look : ℕ → Term) (a : Assignment) (sees : SeesNumbers M look) (agree : (x : ℕ) → worth a (look x) ≡ pos (a x)) (small : (v : ℕ) → a v ≤ N) where
   -- a variable that is seen as its integer
@@ -106,12 +103,12 @@ module _ (M N n : ℕ) (look : ℕ → Term) (a : Assignment) (sees : SeesNumber
 
   -- T is a variable
   variable_posted : (v : ℕ) (r : Range) → v < n → RangeBelow n r → params r ≡ [] →
-      let ys = integers_at look (place v false ++ range_places r) [] in
+      let ys = integers_at look (one_place v false ++ range_places r) [] in
       IsPosted M N (Var v) r n (n + length ys) (record { target = slot n ys v; range = rename_range (slot n ys) (fill_range (λ y. integer_of (look y)) r) }) (slot_equations look n ys) a
   variable_posted v r l below none =
-      let ys = integers_at look (place v false ++ range_places r) [] in
+      let ys = integers_at look (one_place v false ++ range_places r) [] in
       let q : ℕ → ℤ = λ y. integer_of (look y) in
-      let s = slotted_at (place v false ++ range_places r) [] (l, below) tt in
+      let s = slotted_at (one_place v false ++ range_places r) [] (l, below) tt in
       record {
         one = λ h.
             let b = slotted a n ys in

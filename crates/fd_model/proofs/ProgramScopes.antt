@@ -8,7 +8,7 @@ use Rattle.fd_language.specs.PlacedTerm.{PlacedTerm, var, atom, comp, no_parts, 
 use Rattle.fd_language.specs.Family.{has}
 use Rattle.fd_language.specs.Range.{Range, One, Outside, Over, Expr, Infinity, Val, DivUp}
 use Rattle.fd_language.specs.Places.{expr_places, range_places}
-use Rattle.fd_language.specs.Spelling.{Reading, read, offends, expr_operator, expr_feature, read_feature, read_operator, read_expr, RangeForm, of_terms, of_ranges, pointwise, no_form, range_form, empty_range, read_form, read_dom, read_one, read_range}
+use Rattle.fd_language.specs.Spelling.{Parsed, read, offends, expr_operator, expr_feature, read_feature, read_operator, read_expr, RangeForm, of_terms, of_ranges, pointwise, no_form, range_form, empty_range, read_form, read_dom, read_one, read_range}
 use Rattle.fd_language.specs.Variables.{variables_of, variables_of_all}
 use Rattle.fd_language.specs.Reading.{Sentence, sentences, token_fault, syntax_fault, too_deep}
 use Rattle.fd_language.specs.Reading as reading
@@ -20,9 +20,8 @@ use Rattle.fd_model.specs.Sound.{PlacesBelow, RangeBelow, GoalBelow, EachBelow, 
 use Rattle.fd_model.specs.Verdict.{accepted, refused, sentences_verdict, reading_verdict}
 use Rattle.fd_model.specs.ProgramLaws.{ScopedProgram}
 use Rattle.fd_language.specs.Lists.{Each}
-use Rattle.fd_language.proofs.Monotone.{in_left, in_right}
+use Rattle.fd_language.proofs.Lemmas.{in_left, in_right, each_below}
 use Rattle.fd_model.proofs.Lists.{each_both}
-use Rattle.fd_language.proofs.SentenceVariables.{each_below}
 
 either : {A : Type 0} (P : A → Type 0) (b : Bool) (x y : A) → P x → P y → P (cond b x y)
 either P true x y h g = h
@@ -45,11 +44,11 @@ module _ (n : ℕ) where
   abbrev Scoped : Expr → Type 0
   Scoped e = PlacesBelow n (expr_places e)
 
-  abbrev ScopedRead : Reading Expr → Type 0
-  ScopedRead e = PlacesBelow n (expr_places e.value)
+  abbrev ScopedRead : Parsed Expr → Type 0
+  ScopedRead e = PlacesBelow n (expr_places e.tree)
 
-  abbrev RangeRead : Reading Range → Type 0
-  RangeRead r = RangeBelow n r.value
+  abbrev RangeRead : Parsed Range → Type 0
+  RangeRead r = RangeBelow n r.tree
 
   abbrev Feature : Option (ℕ → Expr) → Type 0
   Feature None = Unit {0}
@@ -79,9 +78,9 @@ module _ (n : ℕ) where
   read_feature_scoped (Some make) true p y h l = h y l
   read_feature_scoped (Some make) false p y h l = tt
 
-  read_operator_scoped : (o : Option (Expr → Expr → Expr)) (p : ℕ) (a b : Reading Expr) → Operator o → ScopedRead a → ScopedRead b → ScopedRead (read_operator o p a b)
+  read_operator_scoped : (o : Option (Expr → Expr → Expr)) (p : ℕ) (a b : Parsed Expr) → Operator o → ScopedRead a → ScopedRead b → ScopedRead (read_operator o p a b)
   read_operator_scoped None p a b h i j = tt
-  read_operator_scoped (Some make) p a b h i j = h a.value b.value i j
+  read_operator_scoped (Some make) p a b h i j = h a.tree b.tree i j
 
   expr_scoped : (features : Bool) (t : PlacedTerm) → TermBelow n (plain t) → ScopedRead (read_expr features t)
   expr_scoped features (var x p) h = (h, tt)
@@ -111,10 +110,10 @@ module _ (n : ℕ) where
       (either IsForm (bytes_eq f (codes "-")) _ _ point_scoped
       (either IsForm (bytes_eq f (codes "*")) _ _ point_scoped (either IsForm (bytes_eq f (codes "/")) (pointwise Over) no_form point_scoped tt))))))
 
-  read_form_scoped : (o : RangeForm) (p : ℕ) (r q : Reading Range) (a b c : Reading Expr) → IsForm o → RangeRead r → RangeRead q → ScopedRead a → ScopedRead b → ScopedRead c → RangeRead (read_form o p r q a b c)
-  read_form_scoped (of_terms make) p r q a b c h i j k l m = h a.value b.value k l
-  read_form_scoped (of_ranges make) p r q a b c h i j k l m = h r.value q.value i j
-  read_form_scoped (pointwise make) p r q a b c h i j k l m = h r.value c.value i m
+  read_form_scoped : (o : RangeForm) (p : ℕ) (r q : Parsed Range) (a b c : Parsed Expr) → IsForm o → RangeRead r → RangeRead q → ScopedRead a → ScopedRead b → ScopedRead c → RangeRead (read_form o p r q a b c)
+  read_form_scoped (of_terms make) p r q a b c h i j k l m = h a.tree b.tree k l
+  read_form_scoped (of_ranges make) p r q a b c h i j k l m = h r.tree q.tree i j
+  read_form_scoped (pointwise make) p r q a b c h i j k l m = h r.tree c.tree i m
   read_form_scoped no_form p r q a b c h i j k l m = tt
 
   dom_scoped : (t : PlacedTerm) (p : ℕ) → TermBelow n (plain t) → RangeRead (read_dom t p)
@@ -138,7 +137,7 @@ module _ (n : ℕ) where
 
   goal_scoped : (t : PlacedTerm) → IsBelow t → GoalBelow n (goal_of t)
   goal_scoped (comp f p (part (var x q) (part r no_parts))) h =
-      either (GoalBelow n) (bytes_eq f (codes "in")) (Post (Var x) (read_range r).value) (Call (plain (comp f p (part (var x q) (part r no_parts))))) (h.0, range_scoped r h.1.0) h
+      either (GoalBelow n) (bytes_eq f (codes "in")) (Post (Var x) (read_range r).tree) (Call (plain (comp f p (part (var x q) (part r no_parts))))) (h.0, range_scoped r h.1.0) h
   goal_scoped _ h = h
 
   goals_below : (t : PlacedTerm) → IsBelow t → Each IsBelow (goals_of t)

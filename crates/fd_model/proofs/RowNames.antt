@@ -9,12 +9,11 @@ use Rattle.fd_model.specs.declared.kinds.QueryFault.TheVariants.{BadType}
 use Rattle.fd_model.specs.declared.kinds.Relation.{Relation}
 use Rattle.fd_model.specs.declared.kinds.Relation.TheVariants.{Greater, AtLeast}
 use Rattle.fd_language.specs.Variables.{variables_of, variables_of_all}
-use Rattle.fd_language.proofs.Monotone.{in_left, in_right}
+use Rattle.fd_language.proofs.Lemmas.{in_left, in_right, has_either}
 use Rattle.fd_language.specs.Term.{Term, Terms, Var, Int, Atom, Comp, no_terms, term}
 use Rattle.fd_language.specs.Variables.{TermBelow, TermsBelow}
 use Rattle.fd_language.specs.Family.{has}
 use Rattle.fd_language.specs.Range.{reads, Expr, expr_reads, Number, Min, Max, Val, Sub, Mul}
-use Rattle.fd_language.proofs.Sets.{has_either}
 use Rattle.fd_model.specs.Linear.{Sum, with_product, with_products, scaled, nonzero, plus, times, is_constant, checked, of_both, of_one, sum_of, difference_of, product_of, collect_term, Linear, linear_of, collect, normal, Comparison, IsEqual, IsOther, IsAtMost}
 use Rattle.fd_model.specs.LinearRows.{by_sign, minus_products, low, high, exact, row, row_by_sign, rows_behind}
 use Rattle.fd_model.proofs.Collecting.{both_ok, one_ok, test_ok, checked_ok}

@@ -7,12 +7,11 @@ use Rattle.fd_model.specs.declared.kinds.Relation.{Relation}
 use Rattle.fd_model.specs.declared.kinds.ConstraintKind.{ConstraintKind}
 use Rattle.fd_model.specs.declared.kinds.ConstraintKind.TheVariants.{Compare, AllDifferent, Element, Atmost}
 use Rattle.fd_language.specs.Lists.{Each}
-use Rattle.fd_language.proofs.Lists.{each_map}
+use Rattle.fd_language.proofs.Lemmas.{each_map, in_left, in_right}
 use Rattle.fd_language.specs.Family.{has}
 use Rattle.fd_language.specs.Variables.{variables_of}
 use Rattle.fd_language.specs.Term.{Term, Terms, Var, Int, Atom, Comp, no_terms, term}
 use Rattle.fd_language.specs.Range.{Indexical}
-use Rattle.fd_language.proofs.Monotone.{in_left, in_right}
 use Rattle.fd_model.specs.Linear.{Comparison, IsAtMost, comparison, normal}
 use Rattle.fd_model.specs.LinearRows.{Expansion, linear_rows, compares, no_number}
 use Rattle.fd_model.specs.Members.{Member, Open, Known, as_member, prepend, walk, place_of, after, placed, fresh_after, equated_from}

@@ -6,9 +6,7 @@ use Rattle.fd_language.specs.Range.{Range, Indexical}
 use Rattle.fd_language.specs.Needs.{asks, meets, once, strongest}
 use Rattle.fd_model.specs.Closed.{AllPosted}
 use Rattle.fd_language.specs.Monotonicity.{IsMonotone}
-use Rattle.fd_language.proofs.Monotone.{accepted_is_monotone}
-use Rattle.fd_language.proofs.Leaves.{filled_as_is}
-use Rattle.fd_language.proofs.AskedParameters.{nothing_asked}
+use Rattle.fd_language.proofs.Lemmas.{accepted_is_monotone, filled_as_is, nothing_asked}
 use Rattle.fd_model.specs.ConstraintLaws.{MonotoneRows}
 use Rattle.fd_model.proofs.RowDirections.{IsFitting, Fitting, expand_fitting}
 

@@ -14,9 +14,8 @@ use Rattle.fd_model.specs.Seen.{by_set, set_at}
 use Rattle.fd_model.specs.Children.{look_in}
 use Rattle.fd_model.proofs.GoalRows.{EquationsBelow}
 use Rattle.fd_model.proofs.Lists.{each_map}
-use Rattle.fd_language.proofs.Substituting.{after, after_is}
+use Rattle.fd_language.proofs.Lemmas.{after, after_is, renamed_places}
 use Rattle.fd_model.proofs.Seeing.{wider}
-use Rattle.fd_language.proofs.RangePlaces.{renamed_places}
 
 -- terms under substitutions
 module _ (k m : ℕ) (f : Substitution) (h : (x : ℕ) → x < k → TermBelow m (f x)) where

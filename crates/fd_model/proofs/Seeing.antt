@@ -5,8 +5,7 @@ use Rattle.fd_language.specs.Term.{Term, Terms, Var, Int, Atom, Comp, Substituti
 use Rattle.fd_language.specs.Family.{has}
 use Rattle.fd_language.specs.Variables.{variables_of, variables_of_all}
 use Rattle.fd_language.specs.Variables.{TermBelow, TermsBelow}
-use Rattle.fd_language.proofs.Sets.{has_either}
-use Rattle.fd_language.proofs.Monotone.{in_left, in_right}
+use Rattle.fd_language.proofs.Lemmas.{has_either, in_left, in_right}
 use Rattle.fd_model.specs.Constraining.{arguments}
 use Rattle.fd_model.proofs.GoalRows.{IsPlain}
 use Rattle.fd_model.proofs.Heeding.{first_member, only_member}

@@ -4,7 +4,7 @@ use Rattle.std.specs.List.{list_any}
 use Rattle.fd_language.specs.Family.{has, universe}
 use Rattle.fd_language.specs.Range.{Range, Indexical, in_range, in_set, set_of, reads, vals, is_none_left, is_several}
 use Rattle.fd_model.specs.Closed.{AllPosted}
-use Rattle.fd_language.proofs.Sets.{has-filter, has-filter_back, in_universe}
+use Rattle.fd_language.proofs.Lemmas.{has-filter, has-filter_back, in_universe}
 use Rattle.fd_model.specs.Satisfies.{Assignment, singles}
 use Rattle.fd_model.proofs.Rows.{same_test}
 

@@ -6,8 +6,7 @@ use Rattle.fd_language.specs.Unifier.{Unifies}
 use Rattle.fd_language.specs.Family.{has}
 use Rattle.fd_language.specs.Places.{Place}
 use Rattle.fd_model.specs.Posting.{is_integer, integers_at, slot, slot_equations}
-use Rattle.fd_language.proofs.Sets.{has_either}
-use Rattle.fd_language.proofs.Monotone.{in_left, in_right}
+use Rattle.fd_language.proofs.Lemmas.{has_either, in_left, in_right}
 use Rattle.fd_model.specs.Satisfies.{Assignment}
 use Rattle.fd_language.specs.Lists.{Each}
 use Rattle.fd_model.specs.Answers.{Somewhere}

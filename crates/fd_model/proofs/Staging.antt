@@ -10,8 +10,7 @@ use Rattle.fd_model.specs.Closed.{constrained}
 use Rattle.fd_model.specs.Goal.{Goal, Label, Program, Branch}
 use Rattle.fd_model.specs.Seen.{IsConsistent, IsView, set_at, by_set}
 use Rattle.fd_model.specs.Children.{look_in}
-use Rattle.fd_language.proofs.Sets.{has_high, has_either}
-use Rattle.fd_language.proofs.Monotone.{in_left, in_right}
+use Rattle.fd_language.proofs.Lemmas.{has_high, has_either, in_left, in_right}
 use Rattle.fd_model.proofs.GoalRows.{Rewritten, with_ranges, numbers, Gives, FitsRow, IsPlain}
 use Rattle.fd_model.specs.Satisfies.{Assignment, singles}
 use Rattle.fd_language.specs.Lists.{Each}

@@ -13,7 +13,7 @@ use Rattle.fd_model.specs.Children.{Children, Offer, Faults, Gives, Awaited, Kep
 use Rattle.fd_model.specs.Lines.{answer_line, says, line, events_bytes}
 use Rattle.fd_model.specs.Output.{Queries, is_stop, or_stop}
 use Rattle.fd_model.specs.Run.{Run, over, last, fewer, any, spent, faulty, taken}
-use Rattle.fd_language.proofs.Sets.{rising_same}
+use Rattle.fd_language.proofs.Lemmas.{rising_same}
 use Rattle.fd_model.proofs.Closing.{var_from}
 
 -- what s leaves as it is, u leaves as it is

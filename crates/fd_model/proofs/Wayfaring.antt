@@ -17,14 +17,14 @@ use Rattle.fd_language.specs.Check.{fill_range}
 use Rattle.fd_language.specs.Needs.{need_of}
 use Rattle.fd_language.specs.RangeRenaming.{rename_range}
 use Rattle.fd_model.specs.Renaming.{rename_term, rename_goal}
-use Rattle.fd_language.specs.Places.{Place, place, range_places}
+use Rattle.fd_language.specs.Places.{Place, one_place, range_places}
 use Rattle.fd_model.specs.Posting.{is_integer, integer_of, integers_at, slot, slot_equations, Found, offends, posts, first_offence, unless_offence, post}
 use Rattle.fd_model.specs.Goal.{Goal, Clause, listed, True, Fail, Unify, Post, Constrain, Label, Call, Either, Builtin, Program, Query, Branch}
 use Rattle.fd_language.specs.Variables.{TermBelow, TermsBelow}
 use Rattle.fd_model.specs.Sound.{PlacesBelow, GoalBelow, EachBelow, ClausesScoped}
 use Rattle.fd_model.specs.Seen.{IsConsistent}
 use Rattle.fd_model.specs.Children.{Offer, Faults, Gives, Awaited, with_goals, with_equations, fits_head, paired, argument_equations, by_clause, by_clauses, by_post, by_constraint, by_builtin, Kept, KeptOffer, look_in, offer, is_number, by_value, by_pick, by_listing, sets_in}
-use Rattle.fd_language.proofs.Sets.{has_either}
+use Rattle.fd_language.proofs.Lemmas.{has_either, filled_leaves, reads_placed}
 use Rattle.fd_model.specs.Labelling.{read_list, values_by, first_open, pick, open_ones}
 use Rattle.fd_model.specs.Members.{Member, Open, Known}
 use Rattle.fd_model.proofs.GoalRows.{Rewritten, with_ranges, rewritten, EquationsBelow, IsFollowing}
@@ -45,8 +45,6 @@ use Rattle.fd_model.proofs.ExactRows.{following}
 use Rattle.fd_model.specs.LinearRows.{Expansion}
 use Rattle.fd_model.specs.Constraining.{constrain, arguments}
 use Rattle.fd_model.proofs.Scoping.{below_under, look_below, equations_wider, each_wider, each_both_below, listed_below, places_wider, term_renamed, body_renamed}
-use Rattle.fd_language.proofs.Leaves.{filled_leaves}
-use Rattle.fd_language.proofs.RangePlaces.{reads_placed}
 
 abbrev Low : ℕ → List ℕ → Type 0
 Low n xs = (x : ℕ) → has xs x ≡ true → x < n
@@ -109,7 +107,7 @@ module _ (look : Substitution) where
       })))
 
   pub post_below : (t : Term) (r : Range) (n m : ℕ) (p : Indexical) (es : List Equation) → TermBelow n t → PlacesBelow n (range_places r) → post look t r n ≡ posts p m es → IsBelow n m p es
-  post_below (Var v) r n m p es h b e = at_below (place v false ++ range_places r) v [] es n n m r p (omega arith) h tt b (first_offence (need_of r) look (place v false ++ range_places r)) e
+  post_below (Var v) r n m p es h b e = at_below (one_place v false ++ range_places r) v [] es n n m r p (omega arith) h tt b (first_offence (need_of r) look (one_place v false ++ range_places r)) e
   post_below (Int z) r n m p es h b e = at_below (range_places r) n (record { left = Var n; right = Int z } ∷ []) es n (suc n) m r p (omega arith) (omega arith) ((omega arith, tt), tt) (places_wider n (suc n) (omega arith) (range_places r) b) (first_offence (need_of r) look (range_places r)) e
   post_below (Atom a) r n m p es h b e = absurd (no_posts _ p m es e)
   post_below (Comp f ts) r n m p es h b e = absurd (no_posts _ p m es e)

@@ -54,7 +54,7 @@ pub use Rattle.fd_language.specs.Check
 pub use Rattle.fd_language.specs.RangeVerdict
 pub use Rattle.fd_language.specs.Flat
 pub use Rattle.fd_language.specs.Counts
-pub use Rattle.fd_language.specs.Met
+pub use Rattle.fd_language.specs.EvaluatedValues
 pub use Rattle.fd_language.specs.CheckLaws
 pub use Rattle.fd_language.specs.Spelling
 pub use Rattle.fd_language.specs.Features

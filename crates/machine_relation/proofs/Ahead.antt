@@ -9,7 +9,7 @@ use Rattle.fd_model.specs.Children.{Children, Offer, Faults, Gives, Awaited, Kep
 use Rattle.fd_model.specs.Lines.{answer_line, says}
 use Rattle.fd_model.specs.Sound.{AreRunnable, IsRunnableProgram}
 use Rattle.fd_model.specs.Run.{Run, over, last, fewer, any, spent, faulty, taken}
-use Rattle.fd_model.proofs.Existence.{AllSound, offer_sound}
+use Rattle.fd_model.proofs.Lemmas.{AllSound, offer_sound}
 use Rattle.machine_relation.specs.Ahead.{offered, AreFit, Ahead}
 
 -- the kept ones of two lists in a row

@@ -18,11 +18,8 @@ use Rattle.fd_model.specs.LinearRows.{Expansion}
 use Rattle.fd_model.specs.Constraining.{arguments, expand, equations}
 use Rattle.fd_model.specs.ConstraintLaws.{AllFresh}
 use Rattle.fd_model.specs.Models.{IsModel}
-use Rattle.fd_model.proofs.Existence.{has_view}
-use Rattle.fd_model.proofs.Unique.{one_view}
-use Rattle.fd_language.proofs.RangeRenaming.{two}
-use Rattle.fd_model.proofs.RowScopes.{scoped_rows}
-use Rattle.fd_model.proofs.Scoping.{each_wider}
+use Rattle.fd_model.proofs.Lemmas.{has_view, one_view, scoped_rows, each_wider}
+use Rattle.fd_language.proofs.Lemmas.{two}
 use Rattle.machine_relation.specs.Heap.{applied_each, Of, EquationsOf}
 use Rattle.machine_relation.specs.Models.{HasModel, numbers}
 use Rattle.machine_relation.specs.Store.{Touch, posts, IsUnified}

@@ -12,10 +12,8 @@ use Rattle.fd_model.specs.LinearRows.{Expansion}
 use Rattle.fd_model.specs.Run.{Run}
 use Rattle.fd_model.specs.Sound.{IsRunnableProgram}
 use Rattle.fd_model.specs.Models.{IsModel}
-use Rattle.fd_model.proofs.Heeding.{only_member}
-use Rattle.fd_language.proofs.Substituting.{identity}
-use Rattle.fd_model.proofs.Orders.{closed_without}
-use Rattle.fd_language.proofs.Sets.{universe_rising, rising_inside}
+use Rattle.fd_model.proofs.Lemmas.{only_member, closed_without}
+use Rattle.fd_language.proofs.Lemmas.{identity, universe_rising, rising_inside}
 use Rattle.machine_relation.specs.Store.{IsUnified}
 use Rattle.machine_relation.specs.Ahead.{Spends}
 use Rattle.machine_relation.specs.Held.{Frame, IsAtRest, unified_frame}

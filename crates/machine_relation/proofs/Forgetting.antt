@@ -6,9 +6,8 @@ use Rattle.fd_language.specs.Family.{Family, has}
 use Rattle.fd_language.specs.Range.{Indexical}
 use Rattle.fd_model.specs.Closed.{constrained}
 use Rattle.fd_model.specs.Models.{IsModel}
-use Rattle.fd_language.proofs.Solving.{solved}
-use Rattle.fd_model.proofs.Growing.{join_both, split_both}
-use Rattle.fd_model.proofs.Models.{one_term, has_general, weaker}
+use Rattle.fd_language.proofs.Lemmas.{solved}
+use Rattle.fd_model.proofs.Lemmas.{join_both, split_both, one_term, has_general, weaker}
 use Rattle.machine_relation.specs.Heap.{EquationsOf, StandsFor}
 use Rattle.machine_relation.specs.Models.{Fix, numbers, Sure}
 use Rattle.machine_relation.specs.Store.{IsStored, shown_set}

@@ -14,10 +14,8 @@ use Rattle.fd_language.specs.Writing.{Mode, Quoted, Plain, Spelling, term_text}
 use Rattle.fd_language.specs.Variables.{variables_of, variables_of_all, distinct}
 use Rattle.fd_model.specs.Lines.{place_in, open_part, open_text, as_terms, joined, equals_text, line_of, written_text}
 use Rattle.fd_model.specs.Constraining.{arguments, expand}
-use Rattle.fd_language.proofs.RangeRenaming.{two}
-use Rattle.fd_model.proofs.Heeding.{first_member}
-use Rattle.fd_language.proofs.Monotone.{in_left, in_right}
-use Rattle.fd_model.proofs.Texts.{spelled_same, place_same, variables_apply_all}
+use Rattle.fd_language.proofs.Lemmas.{two, in_left, in_right}
+use Rattle.fd_model.proofs.Lemmas.{first_member, spelled_same, place_same, variables_apply_all}
 use Rattle.fd_model.specs.Labelling.{values_by}
 use Rattle.machine_relation.specs.Heap.{Of, AllOf}
 use Rattle.machine_relation.specs.Held.{Frame, IsHeld, IsAtRest}

@@ -2,7 +2,7 @@
 use Rattle.std.proofs.Common.{◌≡◌, ℕ, ◌<◌, List, [], ◌∷◌, ◌++◌, refl, ap, sym, ◌∙◌}
 use Rattle.fd_language.specs.Term.{Term, Terms, Var, Int, Atom, Comp, Substitution, apply, apply_all, no_terms, term}
 use Rattle.fd_language.specs.Unifier.{Equation, IsMostGeneral, Unifies}
-use Rattle.fd_model.proofs.Growing.{join_both, split_both}
+use Rattle.fd_model.proofs.Lemmas.{join_both, split_both}
 use Rattle.machine_relation.specs.Heap.{after, applied_each, Of, AllOf, EquationsOf, Below, StandsFor}
 
 mutual

@@ -10,9 +10,7 @@ use Rattle.fd_language.specs.Monotonicity.{IsMonotone}
 use Rattle.fd_language.specs.RangeRenaming.{rename_indexical}
 use Rattle.fd_model.specs.Seen.{IsConsistent}
 use Rattle.fd_model.specs.Models.{IsModel}
-use Rattle.fd_model.proofs.ListNames.{posted_left, posted_right, named_left, named_right}
-use Rattle.fd_model.proofs.Growing.{posted_both, constrained_either, join_both, split_both}
-use Rattle.fd_model.proofs.Models.{consistent_from, weaker as other_model}
+use Rattle.fd_model.proofs.Lemmas.{posted_left, posted_right, named_left, named_right, posted_both, constrained_either, join_both, split_both, consistent_from, weaker as other_model}
 use Rattle.machine_relation.specs.Heap.{after, applied_each, Of, EquationsOf, Below}
 use Rattle.machine_relation.specs.Models.{HasModel, numbers}
 use Rattle.machine_relation.specs.Store.{Touch, posts, IsUnified, IsStored, IsPosted, ArePosted}

@@ -11,8 +11,7 @@ use Rattle.fd_model.specs.Seen.{IsView, seen, set_at}
 use Rattle.fd_model.specs.Children.{by_listing as by_list, by_pick, look_in}
 use Rattle.fd_model.specs.Lines.{says}
 use Rattle.fd_model.specs.Sound.{IsRunnableProgram, EachBelow}
-use Rattle.fd_model.proofs.Existence.{has_view}
-use Rattle.fd_model.proofs.Unique.{one_view}
+use Rattle.fd_model.proofs.Lemmas.{has_view, one_view}
 use Rattle.fd_model.specs.Members.{Member}
 use Rattle.fd_model.specs.Labelling.{read_list, pick, values_by}
 use Rattle.machine_relation.specs.Heap.{Of}

@@ -10,8 +10,7 @@ use Rattle.fd_model.specs.declared.kinds.QueryFault.TheVariants.{BadType}
 use Rattle.fd_model.specs.Linear.{of_both}
 use Rattle.fd_language.specs.Family.{has}
 use Rattle.fd_language.specs.Variables.{variables_of, variables_of_all}
-use Rattle.fd_language.proofs.RangeRenaming.{two}
-use Rattle.fd_language.proofs.Monotone.{in_left, in_right}
+use Rattle.fd_language.proofs.Lemmas.{two, in_left, in_right}
 use Rattle.fd_model.specs.Members.{Member, Open, Known, as_member, prepend}
 use Rattle.fd_model.specs.Labelling.{read_list, first_open, unless_fewer, fewest, pick}
 use Rattle.machine_relation.specs.Labelling.{by_picked, by_listing, labels, labelled, rename_labelled}

@@ -7,13 +7,10 @@ use Rattle.fd_language.specs.Range.{Indexical, set_of}
 use Rattle.fd_model.specs.Closed.{AllPosted, constrained}
 use Rattle.fd_model.specs.Seen.{IsConsistent}
 use Rattle.fd_language.specs.Monotonicity.{IsMonotone}
-use Rattle.fd_model.proofs.Closing.{greatest_for, closed_either}
-use Rattle.fd_language.proofs.Solving.{solved}
-use Rattle.fd_model.proofs.ListNames.{posted_left, posted_right, named_left, named_right}
-use Rattle.fd_model.proofs.Growing.{join_both, split_both}
+use Rattle.fd_model.proofs.Lemmas.{greatest_for, closed_either, posted_left, posted_right, named_left, named_right, join_both, split_both, one_term, not_empty, has_general}
+use Rattle.fd_language.proofs.Lemmas.{solved}
 use Rattle.fd_model.specs.Children.{is_number}
 use Rattle.fd_model.specs.Models.{IsModel}
-use Rattle.fd_model.proofs.Models.{one_term, not_empty, has_general}
 use Rattle.machine_relation.specs.Heap.{after, applied_each}
 use Rattle.machine_relation.specs.Models.{Fix, numbers, Sure}
 use Rattle.machine_relation.proofs.Growing.{still_unifies, applied_back, on_terms}

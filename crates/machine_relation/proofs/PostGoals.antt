@@ -9,11 +9,11 @@ use Rattle.fd_language.specs.Range.{Range, Span, One, Dom, Union, Inter, Outside
 use Rattle.fd_language.specs.RangeRenaming.{rename_range}
 use Rattle.fd_language.specs.Check.{fill, fill_range}
 use Rattle.fd_language.specs.Needs.{need_of}
-use Rattle.fd_language.specs.Places.{Place, place, expr_places, range_places}
+use Rattle.fd_language.specs.Places.{Place, one_place, expr_places, range_places}
 use Rattle.fd_model.specs.Posting.{offence_at, or_later, first_offence, is_integer, integers_at, slot, slot_equations, integer_of, unless_offence, post_at, post}
 use Rattle.fd_language.specs.Variables.{TermBelow}
 use Rattle.fd_model.specs.Sound.{PlacesBelow, RangeBelow}
-use Rattle.fd_language.proofs.RangeRenaming.{two}
+use Rattle.fd_language.proofs.Lemmas.{two}
 use Rattle.machine_relation.specs.Rows.{slot_numbers, unless_fault, post_row_at, post_row}
 use Rattle.machine_relation.proofs.Renaming.{places_split}
 use Rattle.machine_relation.proofs.Views.{SameKind}
@@ -146,14 +146,14 @@ module _ (n : ℕ) (look other : ℕ → Term) (kinds : (v : ℕ) → v < n → 
 
   -- the same as rows
   pub row_same : (t : Term) (r : Range) (m : ℕ) → TermBelow n t → RangeBelow n r → post_row look t r m ≡ post_row other t r m
-  row_same (Var v) r m b c = same_row (place v false ++ range_places r) v [] m r (b, c) c
+  row_same (Var v) r m b c = same_row (one_place v false ++ range_places r) v [] m r (b, c) c
   row_same (Int z) r m b c = same_row (range_places r) m ((m, z) ∷ []) (suc m) r c c
   row_same (Atom a) r m b c = refl
   row_same (Comp f ts) r m b c = refl
 
   -- what `T in r` posts by the heap's terms is what it posts by the seen terms, and its fault is the same
   pub post_same : (t : Term) (r : Range) (m : ℕ) → TermBelow n t → RangeBelow n r → post look t r m ≡ post other t r m
-  post_same (Var v) r m b c = same_at (place v false ++ range_places r) v [] m r (b, c) c
+  post_same (Var v) r m b c = same_at (one_place v false ++ range_places r) v [] m r (b, c) c
   post_same (Int z) r m b c = same_at (range_places r) m (record { left = Var m; right = Int z } ∷ []) (suc m) r c c
   post_same (Atom a) r m b c = refl
   post_same (Comp f ts) r m b c = refl

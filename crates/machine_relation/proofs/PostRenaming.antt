@@ -12,11 +12,11 @@ use Rattle.fd_language.specs.Range.{Range, Span, One, Dom, Union, Inter, Outside
 use Rattle.fd_language.specs.RangeRenaming.{rename_expr, rename_range, rename_indexical}
 use Rattle.fd_language.specs.Check.{fill, fill_range}
 use Rattle.fd_language.specs.Needs.{is_literal, quotient_asks, expr_asks, over_asks, asks, stronger, strongest, need_of, meets}
-use Rattle.fd_language.specs.Places.{Place, place, expr_places, range_places}
+use Rattle.fd_language.specs.Places.{Place, one_place, expr_places, range_places}
 use Rattle.fd_model.specs.Posting.{offence_at, or_later, first_offence, is_integer, integers_at, slot, integer_of}
 use Rattle.fd_model.specs.Renaming.{rename_term}
 use Rattle.fd_model.specs.LinearRows.{Expansion}
-use Rattle.fd_language.proofs.RangeRenaming.{two}
+use Rattle.fd_language.proofs.Lemmas.{two}
 use Rattle.machine_relation.specs.Rows.{rename_products, rename_expansion, rename_row, slot_numbers, unless_fault, post_row_at, post_row}
 use Rattle.machine_relation.proofs.Renaming.{range_twice}
 
@@ -258,7 +258,7 @@ module _ (g : ℕ → ℕ) (apart : (v w : ℕ) → g v ≡ g w → v ≡ w) whe
 
       -- a renamed goal's row is the row, renamed
       pub post_renamed : (t : Term) (r : Range) → post_row heap (rename_term g t) (rename_range g r) (g n) ≡ rename_row g (post_row look t r n)
-      post_renamed (Var v) r = ap (λ ps. post_row_at heap (place (g v) false ++ ps) (g v) [] (g n) (rename_range g r)) (places_renamed r) ∙ at_renamed n (omega arith) (place v false ++ range_places r) v [] r
+      post_renamed (Var v) r = ap (λ ps. post_row_at heap (place (g v) false ++ ps) (g v) [] (g n) (rename_range g r)) (places_renamed r) ∙ at_renamed n (omega arith) (one_place v false ++ range_places r) v [] r
       post_renamed (Int z) r =
           two (λ ps m. post_row_at heap ps (g n) ((g n, z) ∷ []) m (rename_range g r)) (places_renamed r) (sym (follows n (omega arith)))
           ∙ at_renamed (suc n) (omega arith) (range_places r) n ((n, z) ∷ []) r

@@ -6,19 +6,10 @@ use Rattle.fd_language.specs.Unifier.{Equation}
 use Rattle.fd_language.specs.Family.{Family, has, IsFamily, IsSubset, IsRising}
 use Rattle.fd_language.specs.Range.{Indexical, set_of, reads}
 use Rattle.fd_model.specs.Closed.{constrained}
-use Rattle.fd_language.proofs.Sets.{has_either}
-use Rattle.fd_language.proofs.Solving.{solved}
-use Rattle.fd_language.proofs.Substituting.{identity}
-use Rattle.fd_model.proofs.Orders.{closed_without}
-use Rattle.fd_language.proofs.Monotone.{in_left, in_right}
-use Rattle.fd_model.proofs.ListNames.{posted_right, named_left, named_right}
-use Rattle.fd_model.proofs.Growing.{constrained_either}
-use Rattle.fd_model.proofs.PostRows.{has_map, map_has}
-use Rattle.fd_model.proofs.Heeding.{only_member}
+use Rattle.fd_language.proofs.Lemmas.{has_either, solved, identity, in_left, in_right, set_same, set_agree, reads_map}
+use Rattle.fd_model.proofs.Lemmas.{closed_without, posted_right, named_left, named_right, constrained_either, has_map, map_has, only_member, one_term, has_general}
 use Rattle.fd_language.specs.RangeRenaming.{rename_range, rename_indexical}
 use Rattle.fd_model.specs.Models.{IsModel}
-use Rattle.fd_language.proofs.RangeRenaming.{set_same, set_agree, reads_map}
-use Rattle.fd_model.proofs.Models.{one_term, has_general}
 use Rattle.machine_relation.specs.Heap.{StandsFor}
 use Rattle.machine_relation.specs.Store.{IsLinked, next_slot, IsStored, IsPosted, names, shown_set, linked_set}
 use Rattle.machine_relation.proofs.Models.{ungrown, front}

@@ -10,7 +10,7 @@ use Rattle.fd_language.specs.Range.{Range, Span, One, Dom, Union, Inter, Outside
 use Rattle.fd_language.specs.RangeRenaming.{rename_range}
 use Rattle.fd_language.specs.Check.{fill, fill_range}
 use Rattle.fd_language.specs.Needs.{need_of}
-use Rattle.fd_language.specs.Places.{Place, place, expr_places, range_places}
+use Rattle.fd_language.specs.Places.{Place, one_place, expr_places, range_places}
 use Rattle.fd_model.specs.Posting.{offence_at, or_later, first_offence, is_integer, integers_at, slot, slot_equations, integer_of, unless_offence, post_at, post, posts}
 use Rattle.fd_model.specs.LinearRows.{Expansion}
 use Rattle.fd_model.specs.Constraining.{equations}
@@ -19,12 +19,8 @@ use Rattle.fd_model.specs.Children.{by_post, by_constraint}
 use Rattle.fd_model.specs.Closed.{constrained}
 use Rattle.fd_language.specs.Variables.{TermBelow}
 use Rattle.fd_model.specs.Sound.{PlacesBelow, RangeBelow}
-use Rattle.fd_language.proofs.RangeRenaming.{two}
-use Rattle.fd_language.proofs.Sets.{has_either}
-use Rattle.fd_language.proofs.Monotone.{in_left, in_right}
-use Rattle.fd_model.proofs.Slots.{slot_out, slot_low, slot_high}
-use Rattle.fd_model.proofs.PostRows.{map_has}
-use Rattle.fd_language.proofs.RangeRenaming.{reads_map}
+use Rattle.fd_language.proofs.Lemmas.{two, has_either, in_left, in_right, reads_map}
+use Rattle.fd_model.proofs.Lemmas.{slot_out, slot_low, slot_high, map_has}
 use Rattle.machine_relation.proofs.Numbering.{AreConsecutive}
 use Rattle.machine_relation.specs.Rows.{slot_numbers, unless_fault, post_row_at, post_row}
 
@@ -155,7 +151,7 @@ module _ (look : Substitution) where
       (ap (λ l. equations es ++ l) (slots_numbered n ys (only_integers ps [] no_integers)) ∙ equations_both es (slot_numbers look n ys))
 
   pub post_as_row : (b : Branch) (rest : List Goal) (t : Term) (r : Range) (n : ℕ) → by_post b rest (post look t r n) ≡ by_constraint b rest (post_row look t r n)
-  post_as_row b rest (Var v) r n = at_row_same b rest (place v false ++ range_places r) v [] n r
+  post_as_row b rest (Var v) r n = at_row_same b rest (one_place v false ++ range_places r) v [] n r
   post_as_row b rest (Int z) r n = at_row_same b rest (range_places r) n ((n, z) ∷ []) (suc n) r
   post_as_row b rest (Atom a) r n = refl
   post_as_row b rest (Comp f ts) r n = refl
@@ -232,11 +228,11 @@ module _ (look : Substitution) where
     | inr e ↦ inr (elim (has_either (reads p.range) [] v e) [ inl g ↦ g | inr g ↦ absurd (true≢false (sym g)) ])
   ]
 
-  var_row : (n : ℕ) (v : ℕ) (r : Range) → v < n → RangeBelow n r → (o : Option QueryFault) → first_offence (need_of r) look (place v false ++ range_places r) ≡ o → (x : Expansion)
-      → unless_fault o (record { equated = [] ++ slot_numbers look n (integers_at look (place v false ++ range_places r) []); ranges = record { target = slot n (integers_at look (place v false ++ range_places r) []) v; range = rename_range (slot n (integers_at look (place v false ++ range_places r) [])) (fill_range (λ y. integer_of (look y)) r) } ∷ []; fresh = n + length (integers_at look (place v false ++ range_places r) []) }) ≡ Ok x → IsRangeRow n x
+  var_row : (n : ℕ) (v : ℕ) (r : Range) → v < n → RangeBelow n r → (o : Option QueryFault) → first_offence (need_of r) look (one_place v false ++ range_places r) ≡ o → (x : Expansion)
+      → unless_fault o (record { equated = [] ++ slot_numbers look n (integers_at look (one_place v false ++ range_places r) []); ranges = record { target = slot n (integers_at look (one_place v false ++ range_places r) []) v; range = rename_range (slot n (integers_at look (one_place v false ++ range_places r) [])) (fill_range (λ y. integer_of (look y)) r) } ∷ []; fresh = n + length (integers_at look (one_place v false ++ range_places r) []) }) ≡ Ok x → IsRangeRow n x
   var_row n v r l b (Some e) is x h = absurd (no_row e x h)
   var_row n v r l b None is x h =
-      let ps = place v false ++ range_places r in
+      let ps = one_place v false ++ range_places r in
       let ys = integers_at look ps [] in
       subst (IsRangeRow n) (is_row _ x h) (record {
         grows = omega arith;
@@ -269,7 +265,7 @@ module _ (look : Substitution) where
 
   -- what a goal's row is like
   pub range_row : (t : Term) (r : Range) (n : ℕ) → TermBelow n t → RangeBelow n r → (x : Expansion) → post_row look t r n ≡ Ok x → IsRangeRow n x
-  range_row (Var v) r n b c x h = var_row n v r b c (first_offence (need_of r) look (place v false ++ range_places r)) refl x h
+  range_row (Var v) r n b c x h = var_row n v r b c (first_offence (need_of r) look (one_place v false ++ range_places r)) refl x h
   range_row (Int z) r n b c x h = int_row n z r c (first_offence (need_of r) look (range_places r)) refl x h
   range_row (Atom a) r n b c x h = absurd (no_row _ x h)
   range_row (Comp f ts) r n b c x h = absurd (no_row _ x h)

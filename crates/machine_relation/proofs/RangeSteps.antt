@@ -17,7 +17,7 @@ use Rattle.fd_model.specs.Sound.{IsRunnableProgram, RangeBelow}
 use Rattle.fd_model.specs.LinearRows.{Expansion}
 use Rattle.fd_model.specs.Constraining.{equations}
 use Rattle.fd_model.specs.Models.{IsModel}
-use Rattle.fd_language.proofs.RangeRenaming.{two}
+use Rattle.fd_language.proofs.Lemmas.{two}
 use Rattle.machine_relation.specs.Heap.{applied_each}
 use Rattle.machine_relation.specs.Models.{HasModel}
 use Rattle.machine_relation.specs.Store.{Touch, posts, IsUnified}

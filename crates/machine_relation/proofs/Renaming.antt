@@ -8,7 +8,7 @@ use Rattle.fd_language.specs.Places.{Place, expr_places, range_places}
 use Rattle.fd_model.specs.Goal.{Goal, Goals, no_goals, goal, listed, True, Fail, Unify, Post, Constrain, Label, Call, Either, Builtin}
 use Rattle.fd_language.specs.Variables.{TermBelow, TermsBelow}
 use Rattle.fd_model.specs.Sound.{PlacesBelow, GoalBelow, GoalsBelow, EachBelow}
-use Rattle.fd_language.proofs.RangeRenaming.{two}
+use Rattle.fd_language.proofs.Lemmas.{two}
 use Rattle.machine_relation.specs.Heap.{Of, AllOf}
 use Rattle.machine_relation.proofs.Growing.{after_is, agree}
 

@@ -12,9 +12,8 @@ use Rattle.fd_model.specs.Children.{by_clause, by_clauses, fits_head, same_count
 use Rattle.fd_language.specs.Variables.{TermBelow}
 use Rattle.fd_model.specs.Sound.{EachBelow, ClausesScoped}
 use Rattle.fd_model.specs.Models.{IsModel}
-use Rattle.fd_language.proofs.RangeRenaming.{two}
-use Rattle.fd_model.proofs.Scoping.{each_wider, each_both_below, term_renamed, body_renamed}
-use Rattle.fd_model.proofs.Seeing.{wider}
+use Rattle.fd_language.proofs.Lemmas.{two}
+use Rattle.fd_model.proofs.Lemmas.{each_wider, each_both_below, term_renamed, body_renamed, wider}
 use Rattle.machine_relation.specs.Heap.{applied_each, Of, AllOf, EquationsOf, Below}
 use Rattle.machine_relation.specs.Models.{HasModel}
 use Rattle.machine_relation.specs.Store.{Touch, posts, IsUnified}

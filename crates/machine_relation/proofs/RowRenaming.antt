@@ -17,9 +17,8 @@ use Rattle.fd_model.specs.LinearRows.{Expansion, by_sign, minus_products, low, h
 use Rattle.fd_model.specs.Members.{Member, Open, Known, as_member, as_integer, walk, place_of, after, placed, fresh_after, equated_from}
 use Rattle.fd_model.specs.ListRows.{differs, against, pairwise, different_ranges, different_rows, elements_at, numbers_of, joined, union_of, element_ranges, element_rows, counts, units, atmost_rows}
 use Rattle.fd_model.specs.Constraining.{compare, pair, expand}
-use Rattle.fd_language.proofs.RangeRenaming.{two}
-use Rattle.fd_language.proofs.Monotone.{in_left, in_right}
-use Rattle.fd_model.proofs.Heeding.{first_member}
+use Rattle.fd_language.proofs.Lemmas.{two, in_left, in_right}
+use Rattle.fd_model.proofs.Lemmas.{first_member}
 use Rattle.machine_relation.specs.Rows.{rename_products, rename_expansion, rename_row}
 use Rattle.machine_relation.proofs.Listing.{rename_member, rename_members, rename_one, rename_listing, one_renamed, list_renamed}
 use Rattle.machine_relation.proofs.SumRenaming.{rename_linear, scaled_renamed, form_renamed, collect_renamed}

@@ -6,7 +6,7 @@ use Rattle.fd_language.specs.Unifier.{Equation, IsMostGeneral, Unifies}
 use Rattle.fd_language.specs.Family.{Family, has}
 use Rattle.fd_model.specs.Seen.{seen, by_set, set_at}
 use Rattle.fd_language.specs.Variables.{variables_of, variables_of_all}
-use Rattle.fd_language.proofs.Sets.{has_either}
+use Rattle.fd_language.proofs.Lemmas.{has_either}
 use Rattle.machine_relation.specs.Heap.{after, Of, AllOf, EquationsOf}
 use Rattle.machine_relation.proofs.Growing.{after_is, agree, still_of}
 

@@ -8,9 +8,7 @@ use Rattle.fd_language.specs.Range.{Indexical}
 use Rattle.fd_model.specs.Closed.{constrained}
 use Rattle.fd_model.specs.Seen.{IsView, seen, set_at, by_set, is_variable}
 use Rattle.fd_model.specs.Models.{IsModel}
-use Rattle.fd_model.proofs.Closing.{var_from}
-use Rattle.fd_model.proofs.Growing.{join_both, split_both}
-use Rattle.fd_model.proofs.Determining.{single_from}
+use Rattle.fd_model.proofs.Lemmas.{var_from, join_both, split_both, single_from}
 use Rattle.machine_relation.specs.Heap.{after, StandsFor}
 use Rattle.machine_relation.specs.Models.{Fix, numbers, Sure}
 use Rattle.machine_relation.specs.Store.{IsStored, shown_set, linked_set}

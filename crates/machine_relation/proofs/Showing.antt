@@ -9,8 +9,8 @@ use Rattle.fd_model.specs.Closed.{constrained}
 use Rattle.fd_model.specs.Seen.{IsView, seen, set_at, by_set}
 use Rattle.fd_language.specs.Variables.{variables_of, variables_of_all}
 use Rattle.fd_model.specs.Models.{IsModel}
-use Rattle.fd_language.proofs.Sets.{has_either}
-use Rattle.fd_model.proofs.Closing.{var_from}
+use Rattle.fd_language.proofs.Lemmas.{has_either}
+use Rattle.fd_model.proofs.Lemmas.{var_from}
 use Rattle.machine_relation.specs.Store.{IsStored, shown_set, linked_set}
 use Rattle.machine_relation.proofs.Seeing.{some_found, found}
 

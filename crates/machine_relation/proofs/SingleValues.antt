@@ -7,7 +7,7 @@ use Rattle.fd_language.specs.Family.{Family, has, IsInside}
 use Rattle.fd_model.specs.Closed.{constrained}
 use Rattle.fd_model.specs.Models.{IsModel}
 use Rattle.fd_model.specs.Goal.{Goal, Program, Query, Branch, Event}
-use Rattle.fd_language.proofs.RangeRenaming.{two}
+use Rattle.fd_language.proofs.Lemmas.{two}
 use Rattle.machine_relation.specs.Heap.{after, Below}
 use Rattle.machine_relation.specs.Held.{Frame, IsAtRest, value_in, value_at, link_in, link_at, fixed_frame}
 use Rattle.machine_relation.specs.Machine.{IsAt, Choice, Walks}

@@ -7,10 +7,8 @@ use Rattle.fd_model.specs.Goal.{Program, Query, Event, start_of}
 use Rattle.fd_model.specs.Run.{Run}
 use Rattle.fd_model.specs.Sound.{AreRunnable, EachBelow}
 use Rattle.fd_model.specs.Models.{IsModel}
-use Rattle.fd_language.proofs.Substituting.{identity}
-use Rattle.fd_model.proofs.Orders.{closed_without}
-use Rattle.fd_language.proofs.Sets.{universe_rising}
-use Rattle.fd_model.proofs.Models.{consistent_from}
+use Rattle.fd_language.proofs.Lemmas.{identity, universe_rising}
+use Rattle.fd_model.proofs.Lemmas.{closed_without, consistent_from}
 use Rattle.machine_relation.specs.Models.{HasModel}
 use Rattle.machine_relation.specs.Store.{IsStored}
 use Rattle.machine_relation.specs.Machine.{IsAt, first_frame, first_work, Walks, Stands, new_machine}

@@ -8,15 +8,10 @@ use Rattle.fd_language.specs.Range.{Indexical, set_of}
 use Rattle.fd_model.specs.Closed.{AllPosted, constrained}
 use Rattle.fd_model.specs.Seen.{IsConsistent}
 use Rattle.fd_language.specs.Monotonicity.{IsMonotone}
-use Rattle.fd_language.proofs.Sets.{rising_same}
-use Rattle.fd_language.proofs.Substituting.{identity}
-use Rattle.fd_model.proofs.Orders.{closed_without}
-use Rattle.fd_model.proofs.Growing.{posted_both, constrained_either}
-use Rattle.fd_model.proofs.Determining.{single_from}
-use Rattle.fd_model.proofs.Heeding.{only_member}
+use Rattle.fd_language.proofs.Lemmas.{rising_same, identity}
+use Rattle.fd_model.proofs.Lemmas.{closed_without, posted_both, constrained_either, single_from, only_member, consistent_from}
 use Rattle.fd_model.specs.Children.{is_number}
 use Rattle.fd_model.specs.Models.{IsModel}
-use Rattle.fd_model.proofs.Models.{consistent_from}
 use Rattle.machine_relation.specs.Heap.{after, applied_each, Below, EquationsOf}
 use Rattle.machine_relation.specs.Models.{Sure}
 use Rattle.machine_relation.specs.Store.{Value, posts, IsUnified, IsStored}

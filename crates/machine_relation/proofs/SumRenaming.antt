@@ -12,10 +12,8 @@ use Rattle.fd_language.specs.Term.{Term, Var, Int, Atom, Comp, no_terms, term, S
 use Rattle.fd_language.specs.Family.{has}
 use Rattle.fd_language.specs.Variables.{variables_of, variables_of_all}
 use Rattle.fd_model.specs.Linear.{Sum, with_product, with_products, scaled, nonzero, plus, times, is_constant, in_integers, are_few, is_within, checked, of_both, of_one, sum_of, difference_of, product_of, collect_term, Linear, linear_of, collect, normal, normal_form}
-use Rattle.fd_language.proofs.RangeRenaming.{two}
-use Rattle.fd_language.proofs.Monotone.{in_left, in_right}
-use Rattle.fd_model.proofs.Texts.{same_test}
-use Rattle.fd_model.proofs.RowNames.{AllVars, vars_product, vars_scaled, collected_vars}
+use Rattle.fd_language.proofs.Lemmas.{two, in_left, in_right}
+use Rattle.fd_model.proofs.Lemmas.{same_test, AllVars, vars_product, vars_scaled, collected_vars}
 use Rattle.machine_relation.specs.Rows.{rename_products}
 
 abbrev pub rename_sum : (ℕ → ℕ) → Result Sum QueryFault → Result Sum QueryFault

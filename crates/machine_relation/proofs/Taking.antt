@@ -15,7 +15,7 @@ use Rattle.fd_model.specs.Lines.{says}
 use Rattle.fd_language.specs.Variables.{TermBelow}
 use Rattle.fd_model.specs.Sound.{IsRunnableProgram, EachBelow, RangeBelow}
 use Rattle.fd_model.specs.Models.{IsModel}
-use Rattle.fd_language.proofs.RangeRenaming.{two}
+use Rattle.fd_language.proofs.Lemmas.{two}
 use Rattle.machine_relation.specs.Heap.{after, applied_each, EquationsOf, Below}
 use Rattle.machine_relation.specs.Models.{HasModel}
 use Rattle.machine_relation.specs.Store.{Touch, posts as touch_posts, IsUnified, ArePosted}

@@ -7,14 +7,8 @@ use Rattle.fd_language.specs.Family.{Family, has, IsSubset}
 use Rattle.fd_language.specs.Range.{Indexical, set_of}
 use Rattle.fd_model.specs.Closed.{constrained}
 use Rattle.fd_model.specs.Models.{IsModel}
-use Rattle.fd_language.proofs.Substituting.{identity}
-use Rattle.fd_model.proofs.Orders.{closed_without}
-use Rattle.fd_language.proofs.Solving.{solved}
-use Rattle.fd_model.proofs.ListNames.{posted_right}
-use Rattle.fd_model.proofs.Growing.{posted_both, constrained_either}
-use Rattle.fd_model.proofs.Determining.{single_from}
-use Rattle.fd_model.proofs.Heeding.{only_member}
-use Rattle.fd_model.proofs.Models.{one_term, has_general}
+use Rattle.fd_language.proofs.Lemmas.{identity, solved}
+use Rattle.fd_model.proofs.Lemmas.{closed_without, posted_right, posted_both, constrained_either, single_from, only_member, one_term, has_general}
 use Rattle.machine_relation.specs.Store.{Touch, Value, Same, touched, posts}
 use Rattle.machine_relation.specs.Laws.{PostsAreEquations}
 use Rattle.machine_relation.proofs.Models.{front}

@@ -8,17 +8,8 @@ use Rattle.fd_language.specs.Family.{Family, has, IsFamily, IsSubset, universe}
 use Rattle.fd_language.specs.Range.{Indexical, set_of, Span, Dom, Number, in_set, is_none_left}
 use Rattle.fd_model.specs.Closed.{AllPosted, constrained}
 use Rattle.fd_model.specs.Models.{IsModel}
-use Rattle.fd_language.proofs.Sets.{rising_same, has_high, has-filter, has-filter_back, in_universe}
-use Rattle.fd_language.proofs.Substituting.{identity}
-use Rattle.fd_model.proofs.Orders.{closed_without}
-use Rattle.fd_model.proofs.Constants.{in_span, from_span}
-use Rattle.fd_model.proofs.Closing.{var_from}
-use Rattle.fd_language.proofs.Solving.{solved}
-use Rattle.fd_model.proofs.ListNames.{posted_right, named_left}
-use Rattle.fd_model.proofs.Growing.{posted_both, constrained_either}
-use Rattle.fd_model.proofs.Determining.{single_from}
-use Rattle.fd_model.proofs.Heeding.{only_member}
-use Rattle.fd_model.proofs.Models.{one_term, has_general}
+use Rattle.fd_language.proofs.Lemmas.{rising_same, has_high, has-filter, has-filter_back, in_universe, identity, solved}
+use Rattle.fd_model.proofs.Lemmas.{closed_without, in_span, from_span, var_from, posted_right, named_left, posted_both, constrained_either, single_from, only_member, one_term, has_general}
 use Rattle.machine_relation.specs.Heap.{after, applied_each, EquationsOf, StandsFor}
 use Rattle.machine_relation.specs.Store.{Touch, Value, Same, touched, posts, IsUnified, IsStored, shown_set, linked_set}
 use Rattle.machine_relation.proofs.Growing.{more}

@@ -7,8 +7,7 @@ use Rattle.fd_language.specs.Range.{Indexical}
 use Rattle.fd_model.specs.Closed.{constrained}
 use Rattle.fd_model.specs.Seen.{IsConsistent, IsView, seen, set_at}
 use Rattle.fd_model.specs.Models.{IsModel}
-use Rattle.fd_model.proofs.Closing.{closed_either}
-use Rattle.fd_model.proofs.Growing.{split_both}
+use Rattle.fd_model.proofs.Lemmas.{closed_either, split_both}
 use Rattle.machine_relation.specs.Models.{numbers}
 use Rattle.machine_relation.specs.Held.{Frame, IsHeld, IsAtRest}
 use Rattle.machine_relation.proofs.Models.{with_numbers, without_numbers}

@@ -12,8 +12,8 @@ use Rattle.fd_model.specs.Children.{with_goals, with_equations, by_clauses}
 use Rattle.fd_model.specs.Lines.{says}
 use Rattle.fd_model.specs.Sound.{IsRunnableProgram, EachBelow, ClausesScoped}
 use Rattle.fd_model.specs.Models.{IsModel}
-use Rattle.fd_language.proofs.RangeRenaming.{two}
-use Rattle.fd_model.proofs.Scoping.{each_both_below, listed_below}
+use Rattle.fd_language.proofs.Lemmas.{two}
+use Rattle.fd_model.proofs.Lemmas.{each_both_below, listed_below}
 use Rattle.machine_relation.specs.Heap.{after, applied_each, EquationsOf, Below}
 use Rattle.machine_relation.specs.Models.{HasModel}
 use Rattle.machine_relation.specs.Store.{Touch, IsUnified, IsPosted}

@@ -8,7 +8,7 @@ use Rattle.fd_language.specs.Family.{has}
 use Rattle.fd_language.specs.Range.{Range, Indexical}
 use Rattle.fd_language.specs.Check.{fill_range}
 use Rattle.fd_language.specs.Needs.{need_of}
-use Rattle.fd_language.specs.Places.{Place, place, range_places}
+use Rattle.fd_language.specs.Places.{Place, one_place, range_places}
 use Rattle.fd_model.specs.Posting.{first_offence, integers_at, slot, integer_of}
 use Rattle.fd_model.specs.Closed.{constrained}
 use Rattle.fd_language.specs.RangeRenaming.{rename_range, rename_indexical}
@@ -51,7 +51,7 @@ post_row_at look ps x es n r =
 
 -- what `T in r` posts, as a row
 abbrev pub post_row : Substitution → Term → Range → ℕ → Result Expansion QueryFault
-post_row look (Var v) r n = post_row_at look (place v false ++ range_places r) v [] n r
+post_row look (Var v) r n = post_row_at look (one_place v false ++ range_places r) v [] n r
 post_row look (Int z) r n = post_row_at look (range_places r) n ((n, z) ∷ []) (suc n) r
 post_row look (Atom a) r n = Err BadType
 post_row look (Comp f ts) r n = Err BadType

@@ -8,7 +8,7 @@ use Rattle.fd_language.specs.declared.range_node.Offence.{Offence}
 use Rattle.fd_language.specs.Family.{has}
 use Rattle.fd_language.specs.Range.{leaf_of}
 use Rattle.fd_language.specs.RangeVerdict.{leaf_clashes, clashes, where_first_clash, earlier, first}
-use Rattle.monotone_check.specs.Seen.{AreSeen, FindsAt}
+use Rattle.monotone_check.specs.MetVariables.{AreSeen, FindsAt}
 use Rattle.monotone_check.proofs.Firsts.{first-append, earlier_assoc, earlier_none}
 
 both_found : (xs ys : List Offence) (o : Option Offence) → o ≡ first xs → earlier o (first ys) ≡ first (xs ++ ys)

@@ -1,7 +1,7 @@
 -- The first of two lists of offences.
 use Rattle.std.proofs.Common.{◌≡◌, ℕ, Bool, true, false, cond, ◌||◌, ◌&&◌, ◌==◌, nat_lt, List, [], ◌∷◌, ◌++◌, Option, Some, None, refl, sym, ◌∙◌, ap, arith, eqb-true}
 use Rattle.fd_language.specs.declared.range_node.Offence.{Offence}
-use Rattle.fd_language.specs.RangeVerdict.{place_of, kind_of, is_before, earlier, first}
+use Rattle.fd_language.specs.RangeVerdict.{offence_place, offence_kind, is_before, earlier, first}
 
 before : ℕ → ℕ → ℕ → ℕ → Bool
 before p k q l = nat_lt p q || ((p == q) && nat_lt k l)
@@ -37,8 +37,8 @@ earlier_assoc (Some a) (Some b) None = no_third (is_before b a) a b where
   no_third true a b = refl
   no_third false a b = refl
 earlier_assoc (Some a) (Some b) (Some c) = regroup (is_before b a) (is_before c b) (is_before c a) a b c
-    (λ h g. both_before (place_of c) (kind_of c) (place_of b) (kind_of b) (place_of a) (kind_of a) g h)
-    (λ h g. neither_before (place_of c) (kind_of c) (place_of b) (kind_of b) (place_of a) (kind_of a) g h)
+    (λ h g. both_before (offence_place c) (offence_kind c) (offence_place b) (offence_kind b) (offence_place a) (offence_kind a) g h)
+    (λ h g. neither_before (offence_place c) (offence_kind c) (offence_place b) (offence_kind b) (offence_place a) (offence_kind a) g h)
     (split_left (is_before b a) a b c) (split_right (is_before c b) a b c)
 
 pub earlier_none : (a : Option Offence) → earlier a None ≡ a

@@ -3,11 +3,11 @@ pub mod Firsts
 pub mod Leaves
 pub mod Operators
 pub mod Ranges
-pub mod Reading
-pub mod Walks
+pub mod NodeChecks
+pub mod NodeWalk
 pub mod Clashes
 pub mod Whole
-pub mod Told
-pub mod AskReading
-pub mod Gathering
-pub mod Settling
+pub mod PlaceNeeds
+pub mod NodeNeeds
+pub mod JoinedNeeds
+pub mod NeedLoops

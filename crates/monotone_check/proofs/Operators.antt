@@ -13,7 +13,7 @@ use Rattle.fd_language.specs.RangeVerdict.{expr_size, bound, wide_in_expr, where
 use Rattle.monotone_check.specs.declared.summary.TermCheck.{TermCheck}
 use Rattle.monotone_check.specs.Summary.{capped, literal_of, IsTerm, operator_bound, both_literal, operator_literal, kept, product_first, quotient_first, operands_first, operator_first, IsOperated}
 use Rattle.monotone_check.proofs.Firsts.{first_two, first_three}
-use Rattle.fd_language.proofs.Limits.{abs_add, abs_mul, abs_sub, not_over, products, sums}
+use Rattle.fd_language.proofs.Lemmas.{abs_add, abs_mul, abs_sub, not_over, products, sums}
 
 pub literal_bound : (M : ℕ) (e : Expr) → is_literal e ≡ true → nat_abs (literal_value M e) ≤ bound M e
 literal_bound M (Number z) h = omega arith

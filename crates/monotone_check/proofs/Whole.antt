@@ -8,7 +8,7 @@ use Rattle.fd_language.specs.declared.TheConstants.{INFINITY}
 use Rattle.fd_language.specs.Range.{Range}
 use Rattle.fd_language.specs.Flat.{nodes_of, spelled, spelled-nodes}
 use Rattle.fd_language.specs.RangeVerdict.{range_size, wide_in_range, range_offences, clashes, earlier, first, width_first, verdict, range_within}
-use Rattle.fd_language.proofs.Agrees.{nil-first, nil-range}
+use Rattle.fd_language.proofs.Lemmas.{nil-first, nil-range}
 use Rattle.monotone_check.specs.declared.summary.RangeCheck.{RangeCheck}
 use Rattle.monotone_check.specs.Summary.{IsRange}
 use Rattle.monotone_check.proofs.Firsts.{first-append}

@@ -1,10 +1,10 @@
 pub mod Wishes
 pub mod Summary
-pub mod Waiting
+pub mod PendingChecks
 pub mod Steps
-pub mod Seen
-pub mod Walked
+pub mod MetVariables
+pub mod NodeWalk
 pub mod Faults
-pub mod Asked
-pub mod Opened
-pub mod Gathered
+pub mod PlaceNeeds
+pub mod OpenTerms
+pub mod JoinedNeeds

@@ -4,7 +4,7 @@ ghost use Rattle.std.specs.Prelude.{◌≡◌, ℕ, suc, ◌+◌, List, [], ◌�
 ghost use Rattle.fd_language.specs.Needs.{expr_asks};
 ghost use Rattle.fd_language.specs.declared.range_node.Need.{Need as Asks};
 ghost use Rattle.fd_language.specs.declared.range_node.Need.TheVariants.{Whole, Divisor};
-ghost use Rattle.monotone_check.specs.Asked.{told, raised};
+ghost use Rattle.monotone_check.specs.PlaceNeeds.{told, raised};
 
 use fd_language::{Need, NoMemory};
 use std::alloc::Global;

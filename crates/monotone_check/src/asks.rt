@@ -3,8 +3,8 @@
 ghost use Rattle.std.specs.Prelude.{◌≡◌, ℕ, suc, List, [], ◌∷◌, ◌++◌, IsTrue, IfOk, OnOk};
 ghost use Rattle.fd_language.specs.Needs.{asks};
 ghost use Rattle.fd_language.specs.Flat.{spelled, IsSpelled};
-ghost use Rattle.monotone_check.specs.Opened.{TakesAsks};
-ghost use Rattle.monotone_check.specs.Asked.{told, AsksOf, joins, Opens, OpensParameter, Operates, Closes, ClosesQuotient};
+ghost use Rattle.monotone_check.specs.OpenTerms.{TakesAsks};
+ghost use Rattle.monotone_check.specs.PlaceNeeds.{told, AsksOf, joins, Opens, OpensParameter, Operates, Closes, ClosesQuotient};
 
 use crate::asking::Asking;
 use fd_language::{NoMemory, RangeNode};

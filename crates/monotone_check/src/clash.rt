@@ -4,7 +4,7 @@ ghost use Rattle.std.specs.Prelude.{◌≡◌, ℕ, suc, List, [], ◌∷◌, le
 ghost use Rattle.fd_language.specs.declared.range_node.RangeNode.{RangeNode as Spelled};
 ghost use Rattle.fd_language.specs.RangeVerdict.{clashes, first, where_first_clash, earlier as earlier_of};
 ghost use Rattle.fd_language.specs.Family.{has};
-ghost use Rattle.monotone_check.specs.Seen.{AreSeen, FindsAt};
+ghost use Rattle.monotone_check.specs.MetVariables.{AreSeen, FindsAt};
 
 use crate::offences::earlier;
 use fd_language::{NoMemory, Offence, RangeNode};

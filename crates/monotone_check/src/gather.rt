@@ -4,8 +4,8 @@ ghost use Rattle.std.specs.Prelude.{◌≡◌, ℕ, List, [], ◌∷◌, ◌++�
 ghost use Rattle.std.specs.List.{position_or_len};
 ghost use Rattle.fd_language.specs.Needs.{stronger as stronger_of};
 ghost use Rattle.fd_language.specs.declared.range_node.Need.{Need as Asks};
-ghost use Rattle.monotone_check.specs.Asked.{told, raise};
-ghost use Rattle.monotone_check.specs.Gathered.{put, put_all};
+ghost use Rattle.monotone_check.specs.PlaceNeeds.{told, raise};
+ghost use Rattle.monotone_check.specs.JoinedNeeds.{put, put_all};
 
 use crate::asking::Asked;
 use fd_language::{Need, NoMemory};

@@ -1,7 +1,7 @@
 // Offences, and which of them comes first.
 
 ghost use Rattle.std.specs.Prelude.{◌≡◌, ℕ, ◌<◌, IsTrue, Option};
-ghost use Rattle.fd_language.specs.RangeVerdict.{is_before, earlier as earlier_of, place_of, kind_of};
+ghost use Rattle.fd_language.specs.RangeVerdict.{is_before, earlier as earlier_of, offence_place, offence_kind};
 ghost use Rattle.fd_language.specs.Check.{Wish, turn};
 ghost use Rattle.monotone_check.specs.Wishes.{by_wish};
 
@@ -9,8 +9,8 @@ use fd_language::Offence;
 
 /// The place of the node, and the rank of its kind at equal places.
 fn rank(offence: Offence) -> (usize, u8)
-    ensures place { result.0 ≡ place_of offence }
-    ensures kind { result.1 ≡ kind_of offence }
+    ensures place { result.0 ≡ offence_place offence }
+    ensures kind { result.1 ≡ offence_kind offence }
 {
     match offence {
         Offence::NotMonotone(place) => (place, 0),

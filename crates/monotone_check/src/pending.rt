@@ -4,7 +4,7 @@ ghost use Rattle.std.specs.Prelude.{◌≡◌, ℕ, suc, List, [], ◌∷◌, �
 ghost use Rattle.fd_language.specs.declared.range_node.RangeNode.{RangeNode as Spelled};
 ghost use Rattle.fd_language.specs.Range.{Range, Expr};
 ghost use Rattle.fd_language.specs.Flat.{built};
-ghost use Rattle.monotone_check.specs.Waiting.{IsPending, Follows};
+ghost use Rattle.monotone_check.specs.PendingChecks.{IsPending, Follows};
 ghost use Rattle.monotone_check.specs.Steps.{PushesLeaf, PushesOperated, PushesSpan, PushesSingle, PushesDomain, PushesCombined, PushesComplement, PushesPointwise};
 
 use crate::summary::{

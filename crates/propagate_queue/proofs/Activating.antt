@@ -5,8 +5,7 @@ use Rattle.std.proofs.lemmas.List.{get_or_default}
 use Rattle.fd_language.specs.declared.TheConstants.{INFINITY}
 use Rattle.fd_language.specs.Family.{Family, has, IsSubset, universe}
 use Rattle.fd_language.specs.Range.{Range, Indexical, set_of, is_none_left}
-use Rattle.fd_language.proofs.Greatest.{shorter_or_same}
-use Rattle.fd_language.proofs.Sets.{has-filter_back}
+use Rattle.fd_language.proofs.Lemmas.{shorter_or_same, has-filter_back}
 use Rattle.range_code.specs.Frames.{family_of, posted}
 use Rattle.range_code.specs.declared.frame.Arg.{Arg}
 use Rattle.dependency_chains.specs.declared.Change.{Change}

@@ -14,9 +14,8 @@ use Rattle.fd_model.specs.Domains.{Domains}
 use Rattle.fd_model.specs.Activation.{activate, activate_all}
 use Rattle.fd_model.specs.Laws.{ContainsDomains}
 use Rattle.fd_language.specs.Monotonicity.{IsMonotone}
-use Rattle.fd_language.proofs.Sets.{has-filter_back}
-use Rattle.fd_language.proofs.Substituting.{identity}
-use Rattle.fd_model.proofs.Orders.{all_keep, closed_without}
+use Rattle.fd_language.proofs.Lemmas.{has-filter_back, identity}
+use Rattle.fd_model.proofs.Lemmas.{all_keep, closed_without, unread}
 use Rattle.range_code.specs.Frames.{family_of}
 use Rattle.dependency_chains.specs.declared.Change.{Change}
 use Rattle.dependency_chains.specs.Reading.{Reading}
@@ -24,7 +23,6 @@ use Rattle.dependency_chains.specs.Waking.{change_of, wakes, is_woken}
 use Rattle.propagate_queue.specs.Postings.{Posting, ranged, ranges_of, AreReaders}
 use Rattle.propagate_queue.specs.Queues.{flag_at}
 use Rattle.propagate_queue.specs.Running.{IsAtRest, narrowed, IsRunning, AreDomains, HasNone}
-use Rattle.fd_model.proofs.Unread.{unread}
 use Rattle.propagate_queue.proofs.Changes.{seen_is_woken}
 
 -- the family after a set is written

@@ -20,9 +20,8 @@ use Rattle.fd_language.specs.Features.{range_features}
 use Rattle.fd_model.specs.Closed.{AllPosted}
 use Rattle.fd_model.specs.Domains.{Domains}
 use Rattle.fd_language.specs.Monotonicity.{IsMonotone}
-use Rattle.fd_language.proofs.Sets.{universe_rising, rising_inside}
-use Rattle.fd_language.proofs.Substituting.{identity}
-use Rattle.fd_model.proofs.Orders.{closed_without}
+use Rattle.fd_language.proofs.Lemmas.{universe_rising, rising_inside, identity}
+use Rattle.fd_model.proofs.Lemmas.{closed_without}
 use Rattle.range_code.specs.Frames.{family_of}
 use Rattle.dependency_chains.specs.declared.Change.{Change}
 use Rattle.dependency_chains.specs.Reading.{Reading, Readings}

@@ -9,7 +9,7 @@ use Rattle.fd_language.specs.Family.{Family, has}
 use Rattle.fd_language.specs.Features.{expr_features, range_features}
 use Rattle.fd_language.specs.Needs.{once}
 use Rattle.fd_language.specs.Range.{Indexical, Range, Span, One, Dom, Union, Inter, Outside, Plus, Minus, Times, Over, Expr, Number, Infinity, Param, Min, Max, Val, Add, Sub, Mul, DivDown, DivUp, reads, expr_reads, is_several}
-use Rattle.fd_language.proofs.Sets.{has-filter}
+use Rattle.fd_language.proofs.Lemmas.{has-filter}
 use Rattle.dependency_chains.specs.declared.Change.{Change}
 use Rattle.dependency_chains.specs.Waking.{change_of, wakes, is_woken}
 use Rattle.fd_model.specs.Weights.{is_val, reads_more, weight, sum_over, weights}

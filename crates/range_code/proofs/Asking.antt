@@ -1,6 +1,6 @@
 -- The needs of a range's slots.
 use Rattle.std.proofs.Common.{◌≡◌, ℕ, Bool, true, false, cond, ◌||◌, ◌==◌, List, [], ◌∷◌, ◌++◌, map, Option, Some, None, refl, sym, ◌∙◌, ap, eqb-true, inl, inr}
-use Rattle.std.proofs.lemmas.Bool.{cases_Bool, true≢false}
+use Rattle.std.proofs.lemmas.Bool.{cases_Bool, true≢false, and_parts}
 use Rattle.std.proofs.lemmas.List.{map-append}
 use Rattle.fd_language.specs.declared.range_node.Need.{Need}
 use Rattle.fd_language.specs.declared.range_node.Need.TheVariants.{Divisor}
@@ -8,8 +8,7 @@ use Rattle.fd_language.specs.Family.{has}
 use Rattle.fd_language.specs.Range.{Range, Span, One, Dom, Union, Inter, Outside, Plus, Minus, Times, Over, Expr, Number, Infinity, Param, Min, Max, Val, Add, Sub, Mul, DivDown, DivUp}
 use Rattle.fd_language.specs.Needs.{is_literal, quotient_asks, expr_asks, over_asks, asks, parameters, need_of, needs}
 use Rattle.fd_language.specs.Range.{params, expr_params}
-use Rattle.fd_language.proofs.Directions.{first_of_two, second_of_two}
-use Rattle.fd_language.proofs.RangeRenaming.{two}
+use Rattle.fd_language.proofs.Lemmas.{two}
 use Rattle.range_code.specs.Asked.{unless_found, need_in}
 use Rattle.range_code.specs.Slots.{slots_of, need_at, slot_needs}
 use Rattle.range_code.proofs.Once.{has_once}
@@ -28,9 +27,9 @@ no_params (Param x) h = absurd (true≢false (sym h))
 no_params (Min y) h = absurd (true≢false (sym h))
 no_params (Max y) h = absurd (true≢false (sym h))
 no_params (Val y) h = absurd (true≢false (sym h))
-no_params (Add a b) h = two (λ x y. x ++ y) (no_params a (first_of_two (is_literal a) (is_literal b) h)) (no_params b (second_of_two (is_literal a) (is_literal b) h))
-no_params (Sub a b) h = two (λ x y. x ++ y) (no_params a (first_of_two (is_literal a) (is_literal b) h)) (no_params b (second_of_two (is_literal a) (is_literal b) h))
-no_params (Mul a b) h = two (λ x y. x ++ y) (no_params a (first_of_two (is_literal a) (is_literal b) h)) (no_params b (second_of_two (is_literal a) (is_literal b) h))
+no_params (Add a b) h = two (λ x y. x ++ y) (no_params a ((and_parts (is_literal a) (is_literal b) h).0)) (no_params b ((and_parts (is_literal a) (is_literal b) h).1))
+no_params (Sub a b) h = two (λ x y. x ++ y) (no_params a ((and_parts (is_literal a) (is_literal b) h).0)) (no_params b ((and_parts (is_literal a) (is_literal b) h).1))
+no_params (Mul a b) h = two (λ x y. x ++ y) (no_params a ((and_parts (is_literal a) (is_literal b) h).0)) (no_params b ((and_parts (is_literal a) (is_literal b) h).1))
 no_params (DivDown a b) h = absurd (true≢false (sym h))
 no_params (DivUp a b) h = absurd (true≢false (sym h))
 

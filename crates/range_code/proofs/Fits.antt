@@ -2,7 +2,7 @@
 use Rattle.std.proofs.Common.{◌≡◌, ℕ, Bool, true, false, ◌||◌, ◌&&◌, ◌==◌, eq-eqb, ℤ, pos, ◌+ℤ◌, ◌-ℤ◌, ◌*ℤ◌, ◌≤ℤ◌, int_le, List, [], ◌∷◌, ◌++◌, map, refl, sym, ap, subst}
 use Rattle.std.specs.List.{All}
 use Rattle.std.proofs.lemmas.Int.{ints}
-use Rattle.std.proofs.lemmas.Bool.{true≢false, or_left}
+use Rattle.std.proofs.lemmas.Bool.{true≢false, or_left, and_parts}
 use Rattle.std.proofs.Common.{arith}
 use Rattle.std.proofs.lemmas.List.Elements.{All-nil, All-cons, All-head, All-tail, All-append}
 use Rattle.fd_language.specs.declared.TheConstants.{INFINITY}
@@ -10,12 +10,9 @@ use Rattle.fd_language.specs.Family.{Family, has, universe}
 use Rattle.fd_language.specs.Range.{Range, Span, One, Dom, Union, Inter, Outside, Plus, Minus, Times, Over, Expr, Number, Infinity, Param, Min, Max, Val, Add, Sub, Mul, DivDown, DivUp, value, div_down, div_up, least, greatest, reads, expr_reads}
 use Rattle.fd_language.specs.Needs.{is_literal}
 use Rattle.fd_language.specs.Check.{Constant, fill, fill_range, literal_value, is_parameter, expr_fits, range_fits}
-use Rattle.fd_language.specs.Met.{expr_values, expr_divisors, range_values, range_divisors}
+use Rattle.fd_language.specs.EvaluatedValues.{expr_values, expr_divisors, range_values, range_divisors}
 use Rattle.fd_language.specs.RangeRenaming.{rename_expr, rename_range}
-use Rattle.fd_language.proofs.Directions.{first_of_two, second_of_two, literal_is}
-use Rattle.fd_language.proofs.Meeting.{expr_meets, over_meets, range_meets}
-use Rattle.fd_language.proofs.RangeRenaming.{two}
-use Rattle.fd_language.proofs.Monotone.{in_left, in_right}
+use Rattle.fd_language.proofs.Lemmas.{literal_is, expr_meets, over_meets, range_meets, two, in_left, in_right}
 use Rattle.range_code.specs.Work.{IsLimited, filled_value, Fits, RangeFits}
 
 front_all : {A : Type 0} (P : A → Type 0) (xs ys : List A) → All P (xs ++ ys) → All P xs
@@ -62,8 +59,8 @@ at_least_one z h = grind (arith, ints)
 module _ (S : Family) (p : ℕ → ℤ) where
   by_literal : (c : Expr) → (is_literal c && int_le (pos 1) (literal_value INFINITY c)) ≡ true → pos 1 ≤ℤ filled_value S p c
   by_literal c h =
-      subst (λ z. pos 1 ≤ℤ z) (sym (literal_is INFINITY p S c (first_of_two (is_literal c) (int_le (pos 1) (literal_value INFINITY c)) h)))
-      (at_least_one (literal_value INFINITY c) (second_of_two (is_literal c) (int_le (pos 1) (literal_value INFINITY c)) h))
+      subst (λ z. pos 1 ≤ℤ z) (sym (literal_is INFINITY p S c ((and_parts (is_literal c) (int_le (pos 1) (literal_value INFINITY c)) h).0)))
+      (at_least_one (literal_value INFINITY c) ((and_parts (is_literal c) (int_le (pos 1) (literal_value INFINITY c)) h).1))
 
   by_divisor : (c : Expr) → (is_parameter c || (is_literal c && int_le (pos 1) (literal_value INFINITY c))) ≡ true → over_meets p c ≡ true → pos 1 ≤ℤ filled_value S p c
   by_divisor (Param x) h g = at_least_one (p x) g
@@ -85,24 +82,24 @@ module _ (S : Family) (p : ℕ → ℤ) where
   no_divisors (Min y) h = absurd (true≢false (sym h))
   no_divisors (Max y) h = absurd (true≢false (sym h))
   no_divisors (Val y) h = absurd (true≢false (sym h))
-  no_divisors (Add a b) h = All-append NotNegative (expr_divisors INFINITY S (fill p a)) (expr_divisors INFINITY S (fill p b)) (no_divisors a (first_of_two (is_literal a) (is_literal b) h)) (no_divisors b (second_of_two (is_literal a) (is_literal b) h))
-  no_divisors (Sub a b) h = All-append NotNegative (expr_divisors INFINITY S (fill p a)) (expr_divisors INFINITY S (fill p b)) (no_divisors a (first_of_two (is_literal a) (is_literal b) h)) (no_divisors b (second_of_two (is_literal a) (is_literal b) h))
-  no_divisors (Mul a b) h = All-append NotNegative (expr_divisors INFINITY S (fill p a)) (expr_divisors INFINITY S (fill p b)) (no_divisors a (first_of_two (is_literal a) (is_literal b) h)) (no_divisors b (second_of_two (is_literal a) (is_literal b) h))
+  no_divisors (Add a b) h = All-append NotNegative (expr_divisors INFINITY S (fill p a)) (expr_divisors INFINITY S (fill p b)) (no_divisors a ((and_parts (is_literal a) (is_literal b) h).0)) (no_divisors b ((and_parts (is_literal a) (is_literal b) h).1))
+  no_divisors (Sub a b) h = All-append NotNegative (expr_divisors INFINITY S (fill p a)) (expr_divisors INFINITY S (fill p b)) (no_divisors a ((and_parts (is_literal a) (is_literal b) h).0)) (no_divisors b ((and_parts (is_literal a) (is_literal b) h).1))
+  no_divisors (Mul a b) h = All-append NotNegative (expr_divisors INFINITY S (fill p a)) (expr_divisors INFINITY S (fill p b)) (no_divisors a ((and_parts (is_literal a) (is_literal b) h).0)) (no_divisors b ((and_parts (is_literal a) (is_literal b) h).1))
   no_divisors (DivDown a b) h = absurd (true≢false (sym h))
   no_divisors (DivUp a b) h = absurd (true≢false (sym h))
 
   plain_divisor : (c : Expr) → (is_parameter c || (is_literal c && int_le (pos 1) (literal_value INFINITY c))) ≡ true → All NotNegative (expr_divisors INFINITY S (fill p c))
   plain_divisor (Param x) h = All-nil NotNegative
-  plain_divisor (Number n) h = no_divisors (Number n) (first_of_two (is_literal (Number n)) (int_le (pos 1) (literal_value INFINITY (Number n))) h)
-  plain_divisor Infinity h = no_divisors Infinity (first_of_two (is_literal Infinity) (int_le (pos 1) (literal_value INFINITY Infinity)) h)
-  plain_divisor (Min n) h = no_divisors (Min n) (first_of_two (is_literal (Min n)) (int_le (pos 1) (literal_value INFINITY (Min n))) h)
-  plain_divisor (Max n) h = no_divisors (Max n) (first_of_two (is_literal (Max n)) (int_le (pos 1) (literal_value INFINITY (Max n))) h)
-  plain_divisor (Val n) h = no_divisors (Val n) (first_of_two (is_literal (Val n)) (int_le (pos 1) (literal_value INFINITY (Val n))) h)
-  plain_divisor (Add c d) h = no_divisors (Add c d) (first_of_two (is_literal (Add c d)) (int_le (pos 1) (literal_value INFINITY (Add c d))) h)
-  plain_divisor (Sub c d) h = no_divisors (Sub c d) (first_of_two (is_literal (Sub c d)) (int_le (pos 1) (literal_value INFINITY (Sub c d))) h)
-  plain_divisor (Mul c d) h = no_divisors (Mul c d) (first_of_two (is_literal (Mul c d)) (int_le (pos 1) (literal_value INFINITY (Mul c d))) h)
-  plain_divisor (DivDown c d) h = no_divisors (DivDown c d) (first_of_two (is_literal (DivDown c d)) (int_le (pos 1) (literal_value INFINITY (DivDown c d))) h)
-  plain_divisor (DivUp c d) h = no_divisors (DivUp c d) (first_of_two (is_literal (DivUp c d)) (int_le (pos 1) (literal_value INFINITY (DivUp c d))) h)
+  plain_divisor (Number n) h = no_divisors (Number n) ((and_parts (is_literal (Number n)) (int_le (pos 1) (literal_value INFINITY (Number n))) h).0)
+  plain_divisor Infinity h = no_divisors Infinity ((and_parts (is_literal Infinity) (int_le (pos 1) (literal_value INFINITY Infinity)) h).0)
+  plain_divisor (Min n) h = no_divisors (Min n) ((and_parts (is_literal (Min n)) (int_le (pos 1) (literal_value INFINITY (Min n))) h).0)
+  plain_divisor (Max n) h = no_divisors (Max n) ((and_parts (is_literal (Max n)) (int_le (pos 1) (literal_value INFINITY (Max n))) h).0)
+  plain_divisor (Val n) h = no_divisors (Val n) ((and_parts (is_literal (Val n)) (int_le (pos 1) (literal_value INFINITY (Val n))) h).0)
+  plain_divisor (Add c d) h = no_divisors (Add c d) ((and_parts (is_literal (Add c d)) (int_le (pos 1) (literal_value INFINITY (Add c d))) h).0)
+  plain_divisor (Sub c d) h = no_divisors (Sub c d) ((and_parts (is_literal (Sub c d)) (int_le (pos 1) (literal_value INFINITY (Sub c d))) h).0)
+  plain_divisor (Mul c d) h = no_divisors (Mul c d) ((and_parts (is_literal (Mul c d)) (int_le (pos 1) (literal_value INFINITY (Mul c d))) h).0)
+  plain_divisor (DivDown c d) h = no_divisors (DivDown c d) ((and_parts (is_literal (DivDown c d)) (int_le (pos 1) (literal_value INFINITY (DivDown c d))) h).0)
+  plain_divisor (DivUp c d) h = no_divisors (DivUp c d) ((and_parts (is_literal (DivUp c d)) (int_le (pos 1) (literal_value INFINITY (DivUp c d))) h).0)
 
   abbrev pub Wanted : Range → Type 0
   Wanted r = (w : Bool) → range_fits INFINITY r w ≡ true → range_meets p r ≡ true → Divides S p r
@@ -112,23 +109,23 @@ module _ (S : Family) (p : ℕ → ℤ) where
   divides (One t) w f m = tt
   divides (Dom y) w f m = tt
   divides (Union r q) w f m = (
-    divides r w (first_of_two (range_fits INFINITY r w) (range_fits INFINITY q w) f) (first_of_two (range_meets p r) (range_meets p q) m),
-    divides q w (second_of_two (range_fits INFINITY r w) (range_fits INFINITY q w) f) (second_of_two (range_meets p r) (range_meets p q) m),
+    divides r w ((and_parts (range_fits INFINITY r w) (range_fits INFINITY q w) f).0) ((and_parts (range_meets p r) (range_meets p q) m).0),
+    divides q w ((and_parts (range_fits INFINITY r w) (range_fits INFINITY q w) f).1) ((and_parts (range_meets p r) (range_meets p q) m).1),
   )
   divides (Inter r q) w f m = (
-    divides r w (first_of_two (range_fits INFINITY r w) (range_fits INFINITY q w) f) (first_of_two (range_meets p r) (range_meets p q) m),
-    divides q w (second_of_two (range_fits INFINITY r w) (range_fits INFINITY q w) f) (second_of_two (range_meets p r) (range_meets p q) m),
+    divides r w ((and_parts (range_fits INFINITY r w) (range_fits INFINITY q w) f).0) ((and_parts (range_meets p r) (range_meets p q) m).0),
+    divides q w ((and_parts (range_fits INFINITY r w) (range_fits INFINITY q w) f).1) ((and_parts (range_meets p r) (range_meets p q) m).1),
   )
   divides (Outside r) true f m = divides r false f m
   divides (Outside r) false f m = divides r true f m
-  divides (Plus r c) w f m = divides r w (first_of_two (range_fits INFINITY r w) (expr_fits INFINITY c Constant) f) (first_of_two (range_meets p r) (expr_meets p c false) m)
-  divides (Minus r c) w f m = divides r w (first_of_two (range_fits INFINITY r w) (expr_fits INFINITY c Constant) f) (first_of_two (range_meets p r) (expr_meets p c false) m)
-  divides (Times r c) w f m = divides r w (first_of_two (range_fits INFINITY r w) (expr_fits INFINITY c Constant) f) (first_of_two (range_meets p r) (expr_meets p c false) m)
+  divides (Plus r c) w f m = divides r w ((and_parts (range_fits INFINITY r w) (expr_fits INFINITY c Constant) f).0) ((and_parts (range_meets p r) (expr_meets p c false) m).0)
+  divides (Minus r c) w f m = divides r w ((and_parts (range_fits INFINITY r w) (expr_fits INFINITY c Constant) f).0) ((and_parts (range_meets p r) (expr_meets p c false) m).0)
+  divides (Times r c) w f m = divides r w ((and_parts (range_fits INFINITY r w) (expr_fits INFINITY c Constant) f).0) ((and_parts (range_meets p r) (expr_meets p c false) m).0)
   divides (Over r c) w f m =
       let d : Bool = is_parameter c || (is_literal c && int_le (pos 1) (literal_value INFINITY c)) in (
-        divides r w (first_of_two (range_fits INFINITY r w) d f) (first_of_two (range_meets p r) (over_meets p c) m),
-        by_divisor c (second_of_two (range_fits INFINITY r w) d f) (second_of_two (range_meets p r) (over_meets p c) m),
-        plain_divisor c (second_of_two (range_fits INFINITY r w) d f),
+        divides r w ((and_parts (range_fits INFINITY r w) d f).0) ((and_parts (range_meets p r) (over_meets p c) m).0),
+        by_divisor c ((and_parts (range_fits INFINITY r w) d f).1) ((and_parts (range_meets p r) (over_meets p c) m).1),
+        plain_divisor c ((and_parts (range_fits INFINITY r w) d f).1),
       )
 
 -- The same under other variables: f gives the new ones, and the sets of those that are read are the same.

@@ -14,8 +14,7 @@ use Rattle.fd_language.specs.Needs.{need_of}
 use Rattle.fd_language.specs.Places.{Place, expr_places, range_places}
 use Rattle.fd_language.specs.Flat.{expr_nodes, range_nodes, nodes_of}
 use Rattle.fd_language.specs.RangeRenaming.{rename_expr, rename_range}
-use Rattle.fd_language.proofs.Sets.{has_either}
-use Rattle.fd_language.proofs.Monotone.{in_left, in_right}
+use Rattle.fd_language.proofs.Lemmas.{has_either, in_left, in_right}
 use Rattle.range_code.specs.declared.frame.Arg.{Arg}
 use Rattle.range_code.specs.declared.frame.Arg.TheVariants.{Var, Int}
 use Rattle.range_code.specs.Slots.{slots_of, slot_of, need_at, in_slots}

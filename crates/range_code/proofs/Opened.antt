@@ -9,7 +9,7 @@ use Rattle.fd_language.specs.declared.range_node.Need.{Need}
 use Rattle.fd_language.specs.Family.{Family, has, count_up}
 use Rattle.fd_language.specs.Range.{is_several}
 use Rattle.fd_language.specs.Features.{is_same_pair}
-use Rattle.fd_language.proofs.Sets.{in_count_up, has-filter}
+use Rattle.fd_language.proofs.Lemmas.{in_count_up, has-filter}
 use Rattle.range_code.specs.declared.frame.Arg.{Arg}
 use Rattle.range_code.specs.Frames.{AreArgs}
 use Rattle.range_code.specs.Kinds.{has_pair}

@@ -7,7 +7,7 @@ use Rattle.fd_language.specs.declared.range_node.Feature.{Feature}
 use Rattle.fd_language.specs.declared.range_node.Feature.TheVariants as feature
 use Rattle.fd_language.specs.Family.{IsRising, has}
 use Rattle.fd_language.specs.Range.{least, greatest, is_none_left, is_several}
-use Rattle.fd_language.proofs.Monotone.{greatest_high}
+use Rattle.fd_language.proofs.Lemmas.{greatest_high}
 use Rattle.range_code.specs.Standing.{is_val}
 
 apart : (x y g : ℕ) → suc x ≤ y → y ≤ g → (x == g) ≡ false

@@ -1,7 +1,7 @@
 -- The range that is posted, where its arguments fit.
 use Rattle.std.proofs.Common.{◌≡◌, ℕ, ℤ, ◌<◌, Bool, true, cond, ◌&&◌, ◌==◌, List, [], ◌∷◌, map, Some, None, refl, sym, ◌∙◌, ap, subst, inl, inr, eqb-true, eq-eqb}
 use Rattle.std.specs.List.{list_all}
-use Rattle.std.proofs.lemmas.Bool.{true≢false, or_left, or_right, or_cases}
+use Rattle.std.proofs.lemmas.Bool.{true≢false, or_left, or_right, or_cases, and_parts}
 use Rattle.std.proofs.lemmas.List.Folds.{list_all-map}
 use Rattle.fd_language.specs.declared.TheConstants.{INFINITY}
 use Rattle.fd_language.specs.declared.range_node.Need.{Need}
@@ -12,9 +12,7 @@ use Rattle.fd_language.specs.Check.{fill_range, range_fits}
 use Rattle.fd_language.specs.Range.{params}
 use Rattle.fd_language.specs.RangeVerdict.{range_within, is_accepted, has_one_use}
 use Rattle.fd_language.specs.Monotonicity.{IsMonotone}
-use Rattle.fd_language.proofs.Directions.{first_of_two, second_of_two}
-use Rattle.fd_language.proofs.Monotone.{accepted_is_monotone}
-use Rattle.fd_language.proofs.RangeRenaming.{two, reads_map, monotone_renamed}
+use Rattle.fd_language.proofs.Lemmas.{accepted_is_monotone, two, reads_map, monotone_renamed}
 use Rattle.range_code.specs.declared.frame.Arg.{Arg}
 use Rattle.range_code.specs.declared.frame.Arg.TheVariants.{Var, Int}
 use Rattle.range_code.specs.Slots.{slot_of}
@@ -41,10 +39,10 @@ has_back f P (x ∷ xs) h y k = elim (or_cases (f x == y) (has (map f xs) y) k) 
 
 -- an accepted range keeps the direction table, and no variable has two uses
 pub fits_table : (r : Range) → is_accepted INFINITY r ≡ true → range_fits INFINITY r true ≡ true
-fits_table r h = first_of_two (range_fits INFINITY r true) (has_one_use r) (second_of_two (range_within INFINITY r) (range_fits INFINITY r true && has_one_use r) h)
+fits_table r h = (and_parts (range_fits INFINITY r true) (has_one_use r) ((and_parts (range_within INFINITY r) (range_fits INFINITY r true && has_one_use r) h).1)).0
 
 pub one_use : (r : Range) → is_accepted INFINITY r ≡ true → has_one_use r ≡ true
-one_use r h = second_of_two (range_fits INFINITY r true) (has_one_use r) (second_of_two (range_within INFINITY r) (range_fits INFINITY r true && has_one_use r) h)
+one_use r h = (and_parts (range_fits INFINITY r true) (has_one_use r) ((and_parts (range_within INFINITY r) (range_fits INFINITY r true && has_one_use r) h).1)).1
 
 module _ (count : ℕ) (r : Range) (args : List Arg) (accepted : is_accepted INFINITY r ≡ true) (frame : IsFrame count r args) where
   abbrev by_variable : ℕ → ℤ

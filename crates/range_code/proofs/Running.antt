@@ -11,7 +11,7 @@ use Rattle.fd_language.specs.declared.range_node.Feature.{Feature}
 use Rattle.fd_language.specs.declared.range_node.RangeNode.{RangeNode}
 use Rattle.fd_language.specs.declared.range_node.Feature.TheVariants as feature
 use Rattle.fd_language.specs.Family.{Family, has, universe, IsRising, IsFamily, IsSubset, count_up}
-use Rattle.fd_language.proofs.Sets.{rising_inside}
+use Rattle.fd_language.proofs.Lemmas.{rising_inside, bounded_values, needs_met, two, reads_map, set_same}
 use Rattle.fd_language.specs.Range.{Range, Span, One, Dom, Union, Inter, Outside, Plus, Minus, Times, Over, Expr, Number, Infinity, Param, Min, Max, Val, Add, Sub, Mul, DivDown, DivUp, reads, vals, in_range, set_of, is_none_left, is_several}
 use Rattle.fd_language.specs.Needs.{meets_needs}
 use Rattle.fd_language.specs.Check.{fill, fill_range}
@@ -20,9 +20,6 @@ use Rattle.fd_language.specs.RangeRenaming.{rename_expr, rename_range}
 use Rattle.fd_language.specs.Features.{range_features, features_of}
 use Rattle.fd_language.specs.Flat.{nodes_of, spelled, IsSpelled, spelled-nodes}
 use Rattle.fd_language.specs.CheckLaws.{AreBounded}
-use Rattle.fd_language.proofs.Limits.{bounded_values}
-use Rattle.fd_language.proofs.Meeting.{needs_met}
-use Rattle.fd_language.proofs.RangeRenaming.{two, reads_map, set_same}
 use Rattle.range_code.specs.declared.frame.Arg.{Arg}
 use Rattle.range_code.specs.declared.frame.Standing.TheVariants.{Empty, Open, Settled}
 use Rattle.domain_ranges.specs.declared.Narrowed.{Narrowed}

@@ -8,8 +8,7 @@ use Rattle.std.proofs.lemmas.Bool.{cases_Bool, true≢false}
 use Rattle.std.proofs.lemmas.List.Elements.{filter_agree}
 use Rattle.fd_language.specs.Family.{has, universe, count_up, IsRising}
 use Rattle.fd_language.specs.Range.{some_number}
-use Rattle.fd_language.proofs.Sets.{has-filter, has-filter_back, universe_rising, in_universe, rising_same, rising_inside}
-use Rattle.fd_language.proofs.Greatest.{rising-filter}
+use Rattle.fd_language.proofs.Lemmas.{has-filter, has-filter_back, universe_rising, in_universe, rising_same, rising_inside, rising-filter}
 use Rattle.domain_ranges.specs.Sets.{is_shifted, is_scaled, is_quotient}
 
 keeps_up : (p q : ℕ → Bool) (low k : ℕ) → ((n : ℕ) → n < low + k → p n ≡ q n) → filter p (count_up low k) ≡ filter q (count_up low k)

@@ -1,1 +1,1 @@
-mod Meeting
+mod MetPairs

@@ -9,7 +9,7 @@ use Rattle.fd_language.specs.declared.range_node.RangeNode.TheVariants as node
 use Rattle.fd_language.specs.Range as fd
 use Rattle.fd_language.specs.Range.{Range, Expr}
 use Rattle.fd_language.specs.Flat.{expr_nodes, nodes_of}
-use Rattle.fd_language.specs.Spelling.{Reading, read, offends, read_one, RangeForm, of_terms, of_ranges, pointwise, no_form, range_form, read_form, read_dom, read_expr, read_range, read_feature, read_operator, expr_operator, expr_feature, empty_range}
+use Rattle.fd_language.specs.Spelling.{Parsed, read, offends, read_one, RangeForm, of_terms, of_ranges, pointwise, no_form, range_form, read_form, read_dom, read_expr, read_range, read_feature, read_operator, expr_operator, expr_feature, empty_range}
 use Rattle.term_pool.specs.declared.TermId.{TermId}
 use Rattle.range_terms.specs.declared.names.RangeOperator.{RangeOperator}
 use Rattle.range_terms.specs.declared.forms.Position.{Position}
@@ -18,7 +18,7 @@ use Rattle.term_pool.specs.PlacedTerms.{parts_by}
 use Rattle.range_terms.specs.Wanted.{Wanted, wanted, one_node, joined, of_expr, of_range}
 use Rattle.range_terms.specs.Forms.{IsNoVariable, IsNumber, IsOfTerms}
 use Rattle.range_terms.specs.Names.{range_operator_of, term_operator_of, feature_of}
-use Rattle.fd_language.proofs.Leaves.{expr_append, range_append}
+use Rattle.fd_language.proofs.Lemmas.{expr_append, range_append}
 use Rattle.range_terms.proofs.Wanted.{two_exprs, two_ranges, range_and_expr, behind_one, behind_two}
 use Rattle.range_terms.proofs.Rows.{IsRangeRow, range_row, IsTermRow, term_row, IsFeatureRow, feature_row}
 
@@ -35,18 +35,18 @@ double : (f : RangeForm) (o : Option RangeOperator) → IsRangeRow f o → (a b 
     → IsDouble o a b p (of_range (read_form f p (read_range a) (read_range b) (read_expr true a) (read_expr true b) (read_expr false b)))
 unfolding wanted
 double (of_terms make) (Some o) row a b p =
-    behind_two (of_expr (read_expr true a)) (of_expr (read_expr true b)) (nodes_of (make (read_expr true a).value (read_expr true b).value)) o.node p
-    (row.2 (read_expr true a).value (read_expr true b).value ∙ two_exprs (read_expr true a).value (read_expr true b).value o.node)
+    behind_two (of_expr (read_expr true a)) (of_expr (read_expr true b)) (nodes_of (make (read_expr true a).tree (read_expr true b).tree)) o.node p
+    (row.2 (read_expr true a).tree (read_expr true b).tree ∙ two_exprs (read_expr true a).tree (read_expr true b).tree o.node)
     ∙ ap (λ (l : Position). joined (joined (wanted l a) (of_expr (read_expr true b))) (one_node o.node p)) (sym row.0)
     ∙ ap (λ (r : Position). joined (joined (wanted o.left a) (wanted r b)) (one_node o.node p)) (sym row.1)
 double (of_ranges make) (Some o) row a b p =
-    behind_two (of_range (read_range a)) (of_range (read_range b)) (nodes_of (make (read_range a).value (read_range b).value)) o.node p
-    (row.2 (read_range a).value (read_range b).value ∙ two_ranges (read_range a).value (read_range b).value o.node)
+    behind_two (of_range (read_range a)) (of_range (read_range b)) (nodes_of (make (read_range a).tree (read_range b).tree)) o.node p
+    (row.2 (read_range a).tree (read_range b).tree ∙ two_ranges (read_range a).tree (read_range b).tree o.node)
     ∙ ap (λ (l : Position). joined (joined (wanted l a) (of_range (read_range b))) (one_node o.node p)) (sym row.0)
     ∙ ap (λ (r : Position). joined (joined (wanted o.left a) (wanted r b)) (one_node o.node p)) (sym row.1)
 double (pointwise make) (Some o) row a b p =
-    behind_two (of_range (read_range a)) (of_expr (read_expr false b)) (nodes_of (make (read_range a).value (read_expr false b).value)) o.node p
-    (row.2 (read_range a).value (read_expr false b).value ∙ range_and_expr (read_range a).value (read_expr false b).value o.node)
+    behind_two (of_range (read_range a)) (of_expr (read_expr false b)) (nodes_of (make (read_range a).tree (read_expr false b).tree)) o.node p
+    (row.2 (read_range a).tree (read_expr false b).tree ∙ range_and_expr (read_range a).tree (read_expr false b).tree o.node)
     ∙ ap (λ (l : Position). joined (joined (wanted l a) (of_expr (read_expr false b))) (one_node o.node p)) (sym row.0)
     ∙ ap (λ (r : Position). joined (joined (wanted o.left a) (wanted r b)) (one_node o.node p)) (sym row.1)
 double no_form None row a b p = (refl, refl)
@@ -68,14 +68,14 @@ pub single_one : (f : Name) (x : PlacedTerm) (p : ℕ) → bytes_eq f (codes "{}
 unfolding wanted
 single_one f x p h =
     ap (λ (b : Bool). of_range (cond b (read_one fd.One p (read_expr true x)) (cond (bytes_eq f (codes "-")) (read_one fd.Outside p (read_range x)) (cond (bytes_eq f (codes "dom")) (read_dom x p) (offends empty_range p))))) h
-    ∙ behind_one (of_expr (read_expr true x)) (expr_nodes (read_expr true x).value (node.One ∷ [])) node.One p (expr_append (read_expr true x).value [] (node.One ∷ []))
+    ∙ behind_one (of_expr (read_expr true x)) (expr_nodes (read_expr true x).tree (node.One ∷ [])) node.One p (expr_append (read_expr true x).tree [] (node.One ∷ []))
 
 pub single_outside : (f : Name) (x : PlacedTerm) (p : ℕ) → bytes_eq f (codes "{}") ≡ false → bytes_eq f (codes "-") ≡ true → wanted position.Range (comp f p (one x)) ≡ joined (wanted position.Range x) (one_node node.Outside p)
 unfolding wanted
 single_outside f x p h k =
     ap (λ (b : Bool). of_range (cond b (read_one fd.One p (read_expr true x)) (cond (bytes_eq f (codes "-")) (read_one fd.Outside p (read_range x)) (cond (bytes_eq f (codes "dom")) (read_dom x p) (offends empty_range p))))) h
     ∙ ap (λ (b : Bool). of_range (cond b (read_one fd.Outside p (read_range x)) (cond (bytes_eq f (codes "dom")) (read_dom x p) (offends empty_range p)))) k
-    ∙ behind_one (of_range (read_range x)) (nodes_of (fd.Outside (read_range x).value)) node.Outside p (range_append (read_range x).value [] (node.Outside ∷ []))
+    ∙ behind_one (of_range (read_range x)) (nodes_of (fd.Outside (read_range x).tree)) node.Outside p (range_append (read_range x).tree [] (node.Outside ∷ []))
 
 pub single_other : (f : Name) (x : PlacedTerm) (p : ℕ) → bytes_eq f (codes "{}") ≡ false → bytes_eq f (codes "-") ≡ false → wanted position.Range (comp f p (one x)) ≡ of_range (cond (bytes_eq f (codes "dom")) (read_dom x p) (offends empty_range p))
 unfolding wanted
@@ -147,8 +147,8 @@ abbrev IsOperation : Option RangeNode → ℕ → Wanted → Wanted → Wanted �
 IsOperation (Some n) p u v w = w ≡ joined (joined u v) (one_node n p)
 IsOperation None p u v w = FitsNowhere w p
 
-operation : (m : Option (Expr → Expr → Expr)) (o : Option RangeNode) → IsTermRow m o → (p : ℕ) (a b : Reading Expr) → IsOperation o p (of_expr a) (of_expr b) (of_expr (read_operator m p a b))
-operation (Some make) (Some n) row p a b = behind_two (of_expr a) (of_expr b) (expr_nodes (make a.value b.value) []) n p (row a.value b.value ∙ two_exprs a.value b.value n)
+operation : (m : Option (Expr → Expr → Expr)) (o : Option RangeNode) → IsTermRow m o → (p : ℕ) (a b : Parsed Expr) → IsOperation o p (of_expr a) (of_expr b) (of_expr (read_operator m p a b))
+operation (Some make) (Some n) row p a b = behind_two (of_expr a) (of_expr b) (expr_nodes (make a.tree b.tree) []) n p (row a.tree b.tree ∙ two_exprs a.tree b.tree n)
 operation None None row p a b = (refl, refl)
 operation None (Some n) row p a b = absurd row
 operation (Some make) None row p a b = absurd row

@@ -5,7 +5,7 @@ use Rattle.fd_language.specs.declared.range_node.RangeNode.{RangeNode}
 use Rattle.fd_language.specs.declared.range_node.RangeNode.TheVariants as node
 use Rattle.fd_language.specs.Range.{Range, Span, One, Dom, Union, Inter, Outside, Plus, Minus, Times, Over, Expr, Number, Infinity, Param, Min, Max, Val, Add, Sub, Mul, DivDown, DivUp}
 use Rattle.fd_language.specs.Flat.{expr_nodes, range_nodes, nodes_of}
-use Rattle.fd_language.proofs.Leaves.{expr_append, range_append}
+use Rattle.fd_language.proofs.Lemmas.{expr_append, range_append}
 use Rattle.range_terms.specs.Wanted.{Wanted, nothing, one_node, joined}
 
 -- a node behind those of two terms, of two ranges, of a range and a term

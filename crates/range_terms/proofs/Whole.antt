@@ -25,7 +25,7 @@ refused c x f p i e = decided c x f i (Some p) e
 pub not_refused : (c : Contents) (x : PlacedTerm) (f : Found) → IsLeft c (wanted position.Range x) f [] → f.offender ≡ None → not_a_range x ≡ None
 not_refused c x f i e = decided c x f i None e
 
-pub whole_nodes : (c : Contents) (x : PlacedTerm) (f : Found) → IsLeft c (wanted position.Range x) f [] → f.offender ≡ None → f.nodes.items ≡ nodes_of (read_range x).value
+pub whole_nodes : (c : Contents) (x : PlacedTerm) (f : Found) → IsLeft c (wanted position.Range x) f [] → f.offender ≡ None → f.nodes.items ≡ nodes_of (read_range x).tree
 unfolding wanted
 whole_nodes c x f i e = sym (append-nil f.nodes.items) ∙ i.nodes (least_none (read_range x).offenders (not_refused c x f i e))
 
@@ -34,7 +34,7 @@ unfolding wanted
 whole_places c x f i = sym (append-nil f.places.items) ∙ i.places
 
 pub is_spelled : (c : Contents) (x : PlacedTerm) (f : Found) → IsLeft c (wanted position.Range x) f [] → f.offender ≡ None → IsSpelled f.nodes.items
-is_spelled c x f i e = ((read_range x).value, sym (whole_nodes c x f i e))
+is_spelled c x f i e = ((read_range x).tree, sym (whole_nodes c x f i e))
 
 -- nodes spell one range
 pub same_range : (r q : Range) (ns : List RangeNode) → nodes_of r ≡ ns → ns ≡ nodes_of q → r ≡ q

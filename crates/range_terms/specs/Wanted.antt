@@ -4,7 +4,7 @@ use Rattle.fd_language.specs.declared.range_node.RangeNode.{RangeNode}
 use Rattle.fd_language.specs.PlacedTerm.{PlacedTerm}
 use Rattle.fd_language.specs.Range as fd
 use Rattle.fd_language.specs.Flat.{expr_nodes, nodes_of}
-use Rattle.fd_language.specs.Spelling.{Reading, read_expr, read_range}
+use Rattle.fd_language.specs.Spelling.{Parsed, read_expr, read_range}
 use Rattle.range_terms.specs.declared.forms.Position.{Position}
 use Rattle.range_terms.specs.declared.forms.Position.TheVariants as position
 
@@ -23,11 +23,11 @@ one_node n p = record { nodes = n ∷ []; places = p ∷ []; offenders = [] }
 abbrev pub joined : Wanted → Wanted → Wanted
 joined u v = record { nodes = u.nodes ++ v.nodes; places = u.places ++ v.places; offenders = u.offenders ++ v.offenders }
 
-abbrev pub of_expr : Reading fd.Expr → Wanted
-of_expr r = record { nodes = expr_nodes r.value []; places = r.places; offenders = r.offenders }
+abbrev pub of_expr : Parsed fd.Expr → Wanted
+of_expr r = record { nodes = expr_nodes r.tree []; places = r.places; offenders = r.offenders }
 
-abbrev pub of_range : Reading fd.Range → Wanted
-of_range r = record { nodes = nodes_of r.value; places = r.places; offenders = r.offenders }
+abbrev pub of_range : Parsed fd.Range → Wanted
+of_range r = record { nodes = nodes_of r.tree; places = r.places; offenders = r.offenders }
 
 unfoldable pub wanted : Position → PlacedTerm → Wanted
 wanted position.Range t = of_range (read_range t)

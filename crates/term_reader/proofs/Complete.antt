@@ -6,7 +6,7 @@ use Rattle.fd_language.specs.PlacedTerm.{PlacedTerm, atom, comp, one, two, with_
 use Rattle.fd_language.specs.Terminals.{Terminal, closes, close_list, close_curly, stop}
 use Rattle.fd_language.specs.Grammar.{nil_name, curly_name, list_of, Begins}
 use Rattle.fd_language.proofs.ReadingSteps.{Stack, top, paren, args, items, tail, curly, before, between, State, want, at_list, at_curly_bracket, at_operator, after, reduce, ended, step, run, closing, completion, filler}
-use Rattle.fd_language.proofs.ReadingWhole.{accepts}
+use Rattle.fd_language.proofs.Lemmas.{accepts}
 use Rattle.term_reader.proofs.Sound.{sound}
 
 then_same : (f g h : State → Option State) → ((s : State) → f s ≡ option_and_then h (g s)) → (o : Option State) → option_and_then f o ≡ option_and_then h (option_and_then g o)

@@ -8,13 +8,13 @@ use Rattle.std.proofs.lemmas.List.Elements.{All-from_recursion}
 use Rattle.fd_language.specs.Term.{Name}
 use Rattle.fd_language.specs.PlacedTerm.{PlacedTerm, PlacedTerms, var, int, atom, comp, no_parts, part, one, two, with_last, plain, all_plain}
 use Rattle.fd_language.specs.Operators.{Operator, right_limit, left_limit, prefix_of, is_operator}
-use Rattle.fd_language.specs.Terminals.{Terminal, name, operator_word, variable, integer, opens, closes, open_list, close_list, open_curly, close_curly, comma, bar, stop, infix_operator, place_of, is_tight_open, is_negated}
+use Rattle.fd_language.specs.Terminals.{Terminal, name, operator_word, variable, integer, opens, closes, open_list, close_list, open_curly, close_curly, comma, bar, stop, infix_operator, token_place, is_tight_open, is_negated}
 use Rattle.fd_language.specs.Grammar.{list_of}
 use Rattle.fd_language.specs.Tokens.{Kind, Word, Quoted, Variable, Integer, Punct, Stop, Lexeme}
 use Rattle.fd_language.specs.Reading as model
 use Rattle.fd_language.specs.Reading.{is_anonymous, variable_number, with_variable, terminals, terminal_of, terminal_by, word_terminal, punct_terminal, names_behind, names_by, sentence_names, ended_by, IsSentences}
 use Rattle.fd_language.proofs.ReadingSteps.{Stack, top, paren, args, items, tail, curly, before, between, State, want, at_list, at_curly_bracket, at_operator, after, Reduced, reduce, gives_way, limit, is_close, is_close_list, is_close_curly, is_comma, is_bar, is_stop, closed, lone, placed, attach, or_else, ended, behind_operand, called, wanted, begun, step, run}
-use Rattle.fd_language.proofs.ReadingWhole.{accepts}
+use Rattle.fd_language.proofs.Lemmas.{accepts}
 use Rattle.term_pool.specs.Contents.{Contents, atom_name}
 use Rattle.term_reader.specs.declared.reader.Sentence.{Sentence}
 use Rattle.term_reader.specs.declared.reader.Sentences.{Sentences}
@@ -208,13 +208,13 @@ infix_no : (x : Terminal) (f : Operator) → infix_operator x ≡ Some f → is_
 infix_no stop f e = absurd cc
 infix_no _ f e = refl
 
-placed_by : (n : ℕ) (old : List PlacedTerm) (x : Terminal) (f : Operator) (r : Reduced) → is_stop x ≡ false → ReducedBelow n old r → IfBy (is_stop x) n old (placed (place_of x) f r)
+placed_by : (n : ℕ) (old : List PlacedTerm) (x : Terminal) (f : Operator) (r : Reduced) → is_stop x ≡ false → ReducedBelow n old r → IfBy (is_stop x) n old (placed (token_place x) f r)
 placed_by n old x f r e h =
     by_test n old (is_stop x) (nat_le f.priority (limit r.stack)) _ None
-    (λ _. by_test n old (is_stop x) (nat_le r.priority (left_limit f)) (Some (want (between (place_of x) f r.term r.stack))) None (λ _. goes_in n old x (want (between (place_of x) f r.term r.stack)) e (h.term, h.stack) h.kept) (λ _. tt))
+    (λ _. by_test n old (is_stop x) (nat_le r.priority (left_limit f)) (Some (want (between (token_place x) f r.term r.stack))) None (λ _. goes_in n old x (want (between (token_place x) f r.term r.stack)) e (h.term, h.stack) h.kept) (λ _. tt))
     (λ _. tt)
 
-attach_by : (n : ℕ) (s : Stack) (t : PlacedTerm) (x : Terminal) (o : Option Operator) → infix_operator x ≡ o → StackBelow n s → Below n t → IfBy (is_stop x) n (base s) (attach (place_of x) o s t)
+attach_by : (n : ℕ) (s : Stack) (t : PlacedTerm) (x : Terminal) (o : Option Operator) → infix_operator x ≡ o → StackBelow n s → Below n t → IfBy (is_stop x) n (base s) (attach (token_place x) o s t)
 attach_by n s t x None e h k = tt
 attach_by n s t x (Some f) e h k = placed_by n (base s) x f (reduce (Some f.priority) s 0 t) (infix_no x f e) (reduce_below n (Some f.priority) s 0 t h k)
 
@@ -226,7 +226,7 @@ ended_by_ : (n : ℕ) (old : List PlacedTerm) (r : Reduced) (x : Terminal) → R
 ended_by_ n old r x h = subst (λ (o : List PlacedTerm). IfBy (is_stop x) n o (ended r x)) h.kept (closed_by n r.stack r.term x h.stack h.term)
 
 behind_by : (n : ℕ) (s : Stack) (t : PlacedTerm) (x : Terminal) → StackBelow n s → Below n t → IfBy (is_stop x) n (base s) (behind_operand s t x)
-behind_by n s t x h k = or_by n (base s) (is_stop x) (attach (place_of x) (infix_operator x) s t) (ended (reduce None s 0 t) x) (attach_by n s t x (infix_operator x) refl h k) (ended_by_ n (base s) (reduce None s 0 t) x (reduce_below n None s 0 t h k))
+behind_by n s t x h k = or_by n (base s) (is_stop x) (attach (token_place x) (infix_operator x) s t) (ended (reduce None s 0 t) x) (attach_by n s t x (infix_operator x) refl h k) (ended_by_ n (base s) (reduce None s 0 t) x (reduce_below n None s 0 t h k))
 
 abbrev TokenBelow : ℕ → Terminal → Type 0
 TokenBelow n (variable p k) = k < n

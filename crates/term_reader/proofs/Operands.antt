@@ -9,7 +9,7 @@ use Rattle.fd_language.specs.PlacedTerm.{PlacedTerm, PlacedTerms, int, atom, com
 use Rattle.fd_language.specs.Operators.{right_limit, left_limit, infix_of, prefix_of}
 use Rattle.fd_language.specs.Operators as model
 use Rattle.fd_language.specs.Terminals as terminals
-use Rattle.fd_language.specs.Terminals.{infix_operator, is_minus, is_negated, is_tight_open, place_of}
+use Rattle.fd_language.specs.Terminals.{infix_operator, is_minus, is_negated, is_tight_open, token_place}
 use Rattle.fd_language.specs.Grammar.{nil_name, curly_name}
 use Rattle.fd_language.proofs.ReadingSteps as machine
 use Rattle.fd_language.proofs.ReadingSteps.{Stack, top, paren, args, items, tail, curly, before, between, State, want, at_list, at_curly_bracket, at_operator, after, Reduced, reduce, gives_way, limit, closed, lone, placed, attach, or_else, ended, behind_operand, called, wanted, begun, number_of, step}
@@ -186,7 +186,7 @@ limit_is r (Some y) e done =
     ap (λ (zs : List Item). limit (stack_of r.pool (top done) r.arguments.items zs)) (turned r.items.items y e)
     ∙ head_limit r.pool done r.arguments.items y (reverse (front r.items.items))
 
-infix_place : (c : Contents) (p : ℕ) (x : Terminal) (f : model.Operator) → infix_operator (terminal_at c p x) ≡ Some f → place_of (terminal_at c p x) ≡ p
+infix_place : (c : Contents) (p : ℕ) (x : Terminal) (f : model.Operator) → infix_operator (terminal_at c p x) ≡ Some f → token_place (terminal_at c p x) ≡ p
 infix_place c p (tokens.OperatorWord a r) f e = refl
 infix_place c p tokens.Comma f e = refl
 infix_place c p _ f e = absurd cc
@@ -225,8 +225,8 @@ moves_attach p place f a s t x r r1 r3 r2 w k n e e' is h l g g1 g2 g3 e0 e1 e2 
     (extends_trans r.pool r1.pool r3.pool k.grows g.grows)
     (λ done.
     let d : Reduced = record { stack = stack r1 done; priority = p; term = placed_of r1.pool t } in
-    ap (λ (u : Option model.Operator). or_else (attach (place_of tok) u (stack r done) (placed_of r.pool s)) (ended (reduce None (stack r done) 0 (placed_of r.pool s)) tok)) is
-    ∙ ap (λ (u : Reduced). or_else (placed (place_of tok) o u) (ended (reduce None (stack r done) 0 (placed_of r.pool s)) tok)) (reduced_is (Some f.priority) 0 p s t r r1 w k n e done)
+    ap (λ (u : Option model.Operator). or_else (attach (token_place tok) u (stack r done) (placed_of r.pool s)) (ended (reduce None (stack r done) 0 (placed_of r.pool s)) tok)) is
+    ∙ ap (λ (u : Reduced). or_else (placed (token_place tok) o u) (ended (reduce None (stack r done) 0 (placed_of r.pool s)) tok)) (reduced_is (Some f.priority) 0 p s t r r1 w k n e done)
     ∙ ap (λ (q : ℕ). or_else (placed q o d) (ended (reduce None (stack r done) 0 (placed_of r.pool s)) tok)) (infix_place r.pool place x o is)
     ∙ ap (λ (u : Option State). or_else u (ended (reduce None (stack r done) 0 (placed_of r.pool s)) tok)) (placed_yes place o d (item_limit (last_item r1.items.items)) (limit_is r1 (last_item r1.items.items) refl done) h l)
     ∙ ap (λ (m : Name). Some (want (between place (operator_of m f) (placed_of r1.pool t) (stack r1 done)))) (sym g.is)
@@ -247,9 +247,9 @@ moves_attach_not res p place f s t x r r1 r2 w h k n e is lacks m =
     (λ done.
     let d : Reduced = record { stack = stack r1 done; priority = p; term = placed_of r1.pool t } in
     let comes = reduced_is (Some f.priority) 0 p s t r r1 w k n e done in
-    ap (λ (u : Option model.Operator). or_else (attach (place_of tok) u (stack r done) (placed_of r.pool s)) (ended (reduce None (stack r done) 0 (placed_of r.pool s)) tok)) is
-    ∙ ap (λ (u : Reduced). or_else (placed (place_of tok) o u) (ended (reduce None (stack r done) 0 (placed_of r.pool s)) tok)) comes
-    ∙ ap (λ (u : Option State). or_else u (ended (reduce None (stack r done) 0 (placed_of r.pool s)) tok)) (placed_no (place_of tok) o d (item_limit (last_item r1.items.items)) (limit_is r1 (last_item r1.items.items) refl done) lacks)
+    ap (λ (u : Option model.Operator). or_else (attach (token_place tok) u (stack r done) (placed_of r.pool s)) (ended (reduce None (stack r done) 0 (placed_of r.pool s)) tok)) is
+    ∙ ap (λ (u : Reduced). or_else (placed (token_place tok) o u) (ended (reduce None (stack r done) 0 (placed_of r.pool s)) tok)) comes
+    ∙ ap (λ (u : Option State). or_else u (ended (reduce None (stack r done) 0 (placed_of r.pool s)) tok)) (placed_no (token_place tok) o d (item_limit (last_item r1.items.items)) (limit_is r1 (last_item r1.items.items) refl done) lacks)
     ∙ ap (λ (u : Reduced). ended u tok) (reduce_further (Some f.priority) (stack r done) 0 (placed_of r.pool s) ∙ ap (λ (u : Reduced). reduce None u.stack u.priority u.term) comes)
     ∙ ap (λ (y : terminals.Terminal). ended (reduce None (stack r1 done) p (placed_of r1.pool t)) y) (sym (terminal_kept r.pool r1.pool k.grows x h place)))
     (if_place res r1.pool (λ at done. ended (reduce None (stack r1 done) p (placed_of r1.pool t)) (terminal_at r1.pool at x)) r2 place m)
@@ -260,7 +260,7 @@ pub moves_no_infix : {E : Type 0} (res : Result Bool E) (place : ℕ) (s : TermI
 moves_no_infix res place s x r r2 is m =
     let tok = terminal_at r.pool place x in
     if_moves res r.pool (λ done. ended (reduce None (stack r done) 0 (placed_of r.pool s)) tok) (λ done. behind_operand (stack r done) (placed_of r.pool s) tok) r2
-    (λ done. ap (λ (o : Option model.Operator). or_else (attach (place_of tok) o (stack r done) (placed_of r.pool s)) (ended (reduce None (stack r done) 0 (placed_of r.pool s)) tok)) is)
+    (λ done. ap (λ (o : Option model.Operator). or_else (attach (token_place tok) o (stack r done) (placed_of r.pool s)) (ended (reduce None (stack r done) 0 (placed_of r.pool s)) tok)) is)
     (if_place res r.pool (λ at done. ended (reduce None (stack r done) 0 (placed_of r.pool s)) (terminal_at r.pool at x)) r2 place m)
 
 pub not_infix : (n : Name) (o : Option Operator) (u : Option model.Operator) → option_map (operator_of n) o ≡ u → o ≡ None → u ≡ None

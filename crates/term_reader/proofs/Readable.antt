@@ -11,9 +11,7 @@ use Rattle.fd_language.specs.Grammar.{IsText, Begins}
 use Rattle.fd_language.specs.GrammarFaults.{deepest, brackets, IsShallow, IsRead, IsSyntaxFault, IsTooDeep}
 use Rattle.fd_language.specs.Reading.{terminals, sentence_names, place_at, Sentence, Reading, sentences, token_fault, syntax_fault, too_deep, IsReading}
 use Rattle.fd_language.proofs.ReadingSteps.{top, paren, args, items, tail, curly, before, between, State, want, at_list, at_curly_bracket, at_operator, after, run}
-use Rattle.fd_language.proofs.ReadingWhole.{accepts}
-use Rattle.fd_language.proofs.SentenceVariables.{as_many}
-use Rattle.fd_language.proofs.TokenLaws.{one_verdict}
+use Rattle.fd_language.proofs.Lemmas.{accepts, as_many, one_verdict}
 use Rattle.term_reader.specs.Laws.{EachIsRead}
 use Rattle.term_reader.proofs.Sound.{sound}
 use Rattle.term_reader.proofs.Complete.{begins, begins_none}

@@ -1,14 +1,13 @@
 -- What the machine accepts, the grammar derives; what it has read can be completed, and what it refuses can't.
 use Rattle.std.proofs.Common.{◌≡◌, ℕ, ◌≤◌, List, [], ◌∷◌, Option, Some, None, Bool, true, false, cond, refl, sym, ap, subst, ◌∙◌, arith}
 use Rattle.std.specs.Prelude.{neg_ℤ, nat_le, option_and_then}
-use Rattle.std.proofs.lemmas.Bool.{leb-true}
+use Rattle.std.proofs.lemmas.Bool.{leb-true, and_parts}
 use Rattle.fd_language.specs.Term.{Name}
 use Rattle.fd_language.specs.PlacedTerm.{PlacedTerm, PlacedTerms, int, atom, comp, no_parts, part, one, two, with_last, append}
 use Rattle.fd_language.specs.Operators.{Operator, left_limit, right_limit, prefix_of}
-use Rattle.fd_language.specs.Terminals.{Terminal, name, operator_word, variable, integer, opens, closes, open_list, close_list, open_curly, close_curly, comma, bar, stop, infix_operator, place_of, is_minus, is_tight_open, is_negated, may_follow}
+use Rattle.fd_language.specs.Terminals.{Terminal, name, operator_word, variable, integer, opens, closes, open_list, close_list, open_curly, close_curly, comma, bar, stop, infix_operator, token_place, is_minus, is_tight_open, is_negated, may_follow}
 use Rattle.fd_language.specs.Grammar.{nil_name, curly_name, list_of, Reads, an_integer, a_negative, a_variable, an_atom, empty_list, empty_curly, named_call, operator_call, in_parens, operator_in_parens, a_list, a_list_tail, in_curly, a_prefix, an_infix, Arg, a_term, an_operator, Args, last, more, Sentences, none, next, IsText}
 use Rattle.fd_language.proofs.ReadingSteps.{Stack, top, paren, args, items, tail, curly, before, between, State, want, at_list, at_curly_bracket, at_operator, after, limit, reduce, Reduced, gives_way, closed, lone, placed, attach, or_else, ended, behind_operand, called, wanted, begun, number_of, step, run, is_close, is_close_list, is_close_curly, is_comma, is_bar, is_stop}
-use Rattle.fd_language.proofs.OperatorLaws.{and_true}
 
 -- arguments read so far, each with the comma behind it
 pub data SoFar (ts : List Terminal) : PlacedTerms → List Terminal → Type 0 where
@@ -41,7 +40,7 @@ pub data Begun (ts : List Terminal) : Stack → List Terminal → Type 0 where
   at_tail : {s : Stack} {vs rest : List Terminal} {p : ℕ} {xs : PlacedTerms} → Begun ts s (open_list p ∷ vs) → Args vs (bar ∷ rest) xs → Begun ts (tail p xs s) rest
   at_curly : {s : Stack} {rest : List Terminal} {p : ℕ} → Begun ts s (open_curly p ∷ rest) → Begun ts (curly p s) rest
   at_prefix : {s : Stack} {rest : List Terminal} {p : ℕ} {o : Name} (f : Operator) → prefix_of o ≡ Some f → may_follow o rest ≡ true → f.priority ≤ limit s → Begun ts s (operator_word p o ∷ rest) → Begun ts (before p o f s) rest
-  at_infix : {s : Stack} {us rest : List Terminal} {q : ℕ} {a : PlacedTerm} (x : Terminal) (f : Operator) → infix_operator x ≡ Some f → f.priority ≤ limit s → Begun ts s us → Reads us (x ∷ rest) q a → q ≤ (left_limit f) → Begun ts (between (place_of x) f a s) rest
+  at_infix : {s : Stack} {us rest : List Terminal} {q : ℕ} {a : PlacedTerm} (x : Terminal) (f : Operator) → infix_operator x ≡ Some f → f.priority ≤ limit s → Begun ts s us → Reads us (x ∷ rest) q a → q ≤ (left_limit f) → Begun ts (between (token_place x) f a s) rest
 
 -- the operand is the name that stands directly before
 abbrev pub CallFrom : Option (ℕ × Name) → List Terminal → List Terminal → Type 0
@@ -91,16 +90,16 @@ stop_is : (x : Terminal) → is_stop x ≡ true → x ≡ stop
 stop_is stop e = refl
 stop_is _ e = absurd cc
 
-comma_is : (x : Terminal) → is_comma x ≡ true → x ≡ comma (place_of x)
+comma_is : (x : Terminal) → is_comma x ≡ true → x ≡ comma (token_place x)
 comma_is (comma p) e = refl
 comma_is _ e = absurd cc
 
-open_is : (x : Terminal) → is_tight_open x ≡ true → x ≡ opens (place_of x) true
+open_is : (x : Terminal) → is_tight_open x ≡ true → x ≡ opens (token_place x) true
 open_is (opens p b) e = ap (opens p) e
 open_is _ e = absurd cc
 
-negated_is : (o : Name) (x : Terminal) → is_negated o x ≡ true → (x ≡ integer (place_of x) true (number_of x)) × (is_minus o ≡ true)
-negated_is o (integer p b n) e = let parts = and_true b (is_minus o) e in (ap (λ (c : Bool). integer p c n) parts.0, parts.1)
+negated_is : (o : Name) (x : Terminal) → is_negated o x ≡ true → (x ≡ integer (token_place x) true (number_of x)) × (is_minus o ≡ true)
+negated_is o (integer p b n) e = let parts = and_parts b (is_minus o) e in (ap (λ (c : Bool). integer p c n) parts.0, parts.1)
 negated_is o _ e = absurd cc
 
 -- ---- an argument's end
@@ -190,15 +189,15 @@ reduce_sound ts n {rest = rest} {q = q} {t = t} (at_prefix {s = s} {p = p} {o = 
     either ts rest (gives_way n (right_limit f)) (reduce n s f.priority (comp o p (one t))) (record { stack = before p o f s; priority = q; term = t })
     (reduce_sound ts n b (a_prefix f e m r h) le) (fits_as ts (at_prefix f e m le b) r h)
 reduce_sound ts n {rest = rest} {q = q} {t = t} (at_infix {s = s} {a = a} x f e le b r1 h1) r h =
-    either ts rest (gives_way n (right_limit f)) (reduce n s f.priority (comp f.name (place_of x) (two a t))) (record { stack = between (place_of x) f a s; priority = q; term = t })
+    either ts rest (gives_way n (right_limit f)) (reduce n s f.priority (comp f.name (token_place x) (two a t))) (record { stack = between (token_place x) f a s; priority = q; term = t })
     (reduce_sound ts n b (an_infix f e r1 h1 r h) le) (fits_as ts (at_infix x f e le b r1 h1) r h)
 
-placed_sound : (ts : List Terminal) (x : Terminal) (f : Operator) → infix_operator x ≡ Some f → (r : Reduced) (rest : List Terminal) → Fits ts (x ∷ rest) r → IfHolds ts rest (placed (place_of x) f r)
+placed_sound : (ts : List Terminal) (x : Terminal) (f : Operator) → infix_operator x ≡ Some f → (r : Reduced) (rest : List Terminal) → Fits ts (x ∷ rest) r → IfHolds ts rest (placed (token_place x) f r)
 placed_sound ts x f e r rest k =
-    by_test ts rest (nat_le f.priority (limit r.stack)) (cond (nat_le r.priority (left_limit f)) (Some (want (between (place_of x) f r.term r.stack))) None) None (λ h.
-    by_test ts rest (nat_le r.priority (left_limit f)) (Some (want (between (place_of x) f r.term r.stack))) None (λ l. at_infix x f e (leb-true f.priority (limit r.stack) h) k.stack k.reads (leb-true r.priority (left_limit f) l)) (λ n. tt)) (λ n. tt)
+    by_test ts rest (nat_le f.priority (limit r.stack)) (cond (nat_le r.priority (left_limit f)) (Some (want (between (token_place x) f r.term r.stack))) None) None (λ h.
+    by_test ts rest (nat_le r.priority (left_limit f)) (Some (want (between (token_place x) f r.term r.stack))) None (λ l. at_infix x f e (leb-true f.priority (limit r.stack) h) k.stack k.reads (leb-true r.priority (left_limit f) l)) (λ n. tt)) (λ n. tt)
 
-attach_sound : (ts : List Terminal) (x : Terminal) (found : Option Operator) → infix_operator x ≡ found → {s : Stack} {us rest : List Terminal} {t : PlacedTerm} → Begun ts s us → Reads us (x ∷ rest) 0 t → IfHolds ts rest (attach (place_of x) found s t)
+attach_sound : (ts : List Terminal) (x : Terminal) (found : Option Operator) → infix_operator x ≡ found → {s : Stack} {us rest : List Terminal} {t : PlacedTerm} → Begun ts s us → Reads us (x ∷ rest) 0 t → IfHolds ts rest (attach (token_place x) found s t)
 attach_sound ts x None e b r = tt
 attach_sound ts x (Some f) e {s = s} {rest = rest} {t = t} b r = placed_sound ts x f e (reduce (Some f.priority) s 0 t) rest (reduce_sound ts (Some f.priority) b r (omega arith))
 
@@ -209,7 +208,7 @@ or_sound ts rest (Some st) y h k = h
 behind_sound : (ts : List Terminal) (x : Terminal) (rest : List Terminal) {s : Stack} {us : List Terminal} {t : PlacedTerm} → Begun ts s us → Reads us (x ∷ rest) 0 t → IfHolds ts rest (behind_operand s t x)
 behind_sound ts x rest {s = s} {t = t} b r =
     let all = reduce_sound ts None b r (omega arith) in
-    or_sound ts rest (attach (place_of x) (infix_operator x) s t) (ended (reduce None s 0 t) x) (attach_sound ts x (infix_operator x) refl b r) (closed_sound ts x rest all.stack all.reads all.fits)
+    or_sound ts rest (attach (token_place x) (infix_operator x) s t) (ended (reduce None s 0 t) x) (attach_sound ts x (infix_operator x) refl b r) (closed_sound ts x rest all.stack all.reads all.fits)
 
 -- ---- where an operand is wanted
 
@@ -235,10 +234,10 @@ begun_sound ts p o (Some f) e s x rest n m b =
     (λ h. wanted_sound ts (before p o f s) x rest (at_prefix f e (rw (n, m) refl) (leb-true f.priority (limit s) h) b))
     (λ k. tt)
 
-called_sound : (ts : List Terminal) (c : Option (ℕ × Name)) (s : Stack) (t : PlacedTerm) (x : Terminal) (rest : List Terminal) → Operand ts c s t (x ∷ rest) → x ≡ opens (place_of x) true → IfHolds ts rest (called c s)
+called_sound : (ts : List Terminal) (c : Option (ℕ × Name)) (s : Stack) (t : PlacedTerm) (x : Terminal) (rest : List Terminal) → Operand ts c s t (x ∷ rest) → x ≡ opens (token_place x) true → IfHolds ts rest (called c s)
 called_sound ts None s t x rest h e = tt
 called_sound ts (Some c) s t x rest h e =
-    let whole : h.from ≡ name c.0 c.1 ∷ opens (place_of x) true ∷ rest = h.call ∙ ap (λ (y : Terminal). name c.0 c.1 ∷ y ∷ rest) e in
+    let whole : h.from ≡ name c.0 c.1 ∷ opens (token_place x) true ∷ rest = h.call ∙ ap (λ (y : Terminal). name c.0 c.1 ∷ y ∷ rest) e in
     at_args (subst (Begun ts s) whole h.stack) by_name nothing
 
 operator_sound : (ts : List Terminal) (p : ℕ) (o : Name) (s : Stack) (x : Terminal) (rest : List Terminal) → Begun ts s (operator_word p o ∷ x ∷ rest) → IfHolds ts rest (step (at_operator p o s) x)

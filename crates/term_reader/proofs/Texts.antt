@@ -12,7 +12,7 @@ use Rattle.fd_language.specs.Reading.{terminals, terminal_of, names_behind, plac
 use Rattle.fd_language.specs.Grammar.{IsText, Begins}
 use Rattle.fd_language.specs.GrammarFaults.{deepest, open_behind, brackets, IsShallow, IsRead, IsSyntaxFault, IsTooDeep}
 use Rattle.fd_language.proofs.ReadingSteps.{State, want, top, run}
-use Rattle.fd_language.proofs.ReadingWhole.{accepts}
+use Rattle.fd_language.proofs.Lemmas.{accepts}
 use Rattle.char_tokens.specs.declared.token.TokenFault.{TokenFault}
 use Rattle.char_tokens.specs.declared.token.TokenFault.TheVariants as faults
 use Rattle.char_tokens.specs.Views.{cause_of}

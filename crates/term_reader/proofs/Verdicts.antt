@@ -2,7 +2,7 @@
 use Rattle.std.proofs.Common.{◌≡◌, ℕ, List}
 use Rattle.std.specs.Prelude.{Result, Ok, Err, IfOk, IfErr, MatchResult}
 use Rattle.fd_language.specs.Reading.{Reading, sentences, token_fault, syntax_fault, too_deep, IsReading, IsSentences}
-use Rattle.fd_language.proofs.ReadingLaws.{one_verdict_of_reading}
+use Rattle.fd_language.proofs.Lemmas.{one_verdict_of_reading}
 use Rattle.char_tokens.specs.Views.{cause_of}
 use Rattle.char_tokens.specs.declared.token.TokenFault.TheVariants as faults
 use Rattle.term_reader.specs.declared.reader.Sentences.{Sentences}

@@ -7,10 +7,10 @@ use Rattle.std.proofs.lemmas.Slice.Eq.{bytes_eq-Decides}
 use Rattle.fd_language.specs.Term.{Name, Term, Terms, Var, Int, Atom, Comp, no_terms, term}
 use Rattle.fd_language.specs.PlacedTerm.{PlacedTerm, PlacedTerms, var, int, atom, comp, part, one, two}
 use Rattle.fd_language.specs.Operators.{Operator, infix_operators, infix_of, is_operator, left_limit, right_limit}
-use Rattle.fd_language.specs.Terminals.{Terminal, name, operator_word, variable, opens, closes, open_list, close_list, open_curly, close_curly, comma, bar, comma_operator, infix_operator, is_minus, place_of}
+use Rattle.fd_language.specs.Terminals.{Terminal, name, operator_word, variable, opens, closes, open_list, close_list, open_curly, close_curly, comma, bar, comma_operator, infix_operator, is_minus, token_place}
 use Rattle.fd_language.specs.Writing.{is_letter_word}
 use Rattle.fd_language.specs.Grammar.{Reads, an_integer, a_negative, a_variable, an_atom, empty_list, empty_curly, named_call, operator_call, in_parens, a_list, a_list_tail, in_curly, an_infix, Arg, a_term, Args, last, more, list_of}
-use Rattle.fd_language.proofs.OperatorLaws.{within_infix}
+use Rattle.fd_language.proofs.Lemmas.{within_infix}
 use Rattle.term_writer.specs.Spelled.{placed, all_placed, operator_terminal, call_terminal, InTokens, called, after_bar, atom_tokens, one_tokens, operands, infix_tokens, two_tokens, two_rest, atom_rest, integer_tokens, tokens_of, further, HasArguments, AllHaveArguments, Within, SpelledIsRead}
 
 pub text_is : (a b : Name) → bytes_eq a b ≡ true → a ≡ b
@@ -37,7 +37,7 @@ call_reads f ts r xs d = go (is_operator f && not (bytes_eq f (codes ",")))
 pub record Stands (f : Name) (op : Operator) : Type 0 where
   pub token : infix_operator (operator_terminal f) ≡ Some op
   pub named : op.name ≡ f
-  pub place : place_of (operator_terminal f) ≡ 0
+  pub place : token_place (operator_terminal f) ≡ 0
 
 pub row_named : (rows : List Operator) (f : Name) (op : Operator) → find (λ g. bytes_eq g.name f) rows ≡ Some op → op.name ≡ f
 row_named [] f op e = absurd cc
@@ -59,12 +59,12 @@ infix_stands f op e = go (bytes_eq f (codes ",")) refl
     go true t = record {
       token = ap (λ (b : Bool). infix_operator (cond b (comma 0) (operator_word 0 f))) t ∙ sym comma_is ∙ ap infix_of (sym (text_is f (codes ",") t)) ∙ e;
       named = row_named infix_operators f op e;
-      place = ap (λ (b : Bool). place_of (cond b (comma 0) (operator_word 0 f))) t;
+      place = ap (λ (b : Bool). token_place (cond b (comma 0) (operator_word 0 f))) t;
     }
     go false t = record {
       token = ap (λ (b : Bool). infix_operator (cond b (comma 0) (operator_word 0 f))) t ∙ e;
       named = row_named infix_operators f op e;
-      place = ap (λ (b : Bool). place_of (cond b (comma 0) (operator_word 0 f))) t;
+      place = ap (λ (b : Bool). token_place (cond b (comma 0) (operator_word 0 f))) t;
     }
 
 -- ---- the rest of a list
@@ -143,7 +143,7 @@ operands_read f op a b t u h k s tight r =
     let right = k.at behind (right_limit op) r in
     let read = an_infix op s.token left.reads left.fits right.reads right.fits in
     subst (λ (p : ℕ). Reads (operands f op a b tight r) r op.priority (comp f p (two t u))) s.place
-    (subst (λ (x : Name). Reads (operands f op a b tight r) r op.priority (comp x (place_of (operator_terminal f)) (two t u))) s.named read)
+    (subst (λ (x : Name). Reads (operands f op a b tight r) r op.priority (comp x (token_place (operator_terminal f)) (two t u))) s.named read)
 
 infix_reads : (f : Name) (found : Option Operator) → infix_of f ≡ found → (a b : InTokens) (t u : PlacedTerm) → Right a t → Right b u → (tight : Bool) (limit : ℕ) (r : List Terminal) → Within (infix_tokens f found a b tight limit r) r limit (comp f 0 (two t u))
 infix_reads f None e a b t u h k tight limit r =

@@ -16,7 +16,7 @@ use Rattle.fd_language.specs.Characters.{starts_with, is_symbol, is_punct, begin
 use Rattle.fd_language.specs.Tokens.{Token, Quoted, Between, AfterQuote, quoted_front, quoted_spells, front_of, front_by, front_at, unquoted}
 use Rattle.fd_language.specs.Writing.{quoted_byte, quoted_bytes, quoted_name}
 use Rattle.term_writer.proofs.Quoting.{size, size-append, stands, all_front, all_spells}
-use Rattle.fd_language.proofs.QuotedAtoms.{front_past}
+use Rattle.fd_language.proofs.Lemmas.{front_past}
 
 is_low : ℕ → Bool
 is_low b = nat_lt b 128

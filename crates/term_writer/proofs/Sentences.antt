@@ -15,9 +15,7 @@ use Rattle.fd_language.specs.Tokens.{Stop, Token, front_at, ended, after_token}
 use Rattle.fd_language.specs.Terminals.{Terminal, stop}
 use Rattle.fd_language.specs.Grammar.{Reads, an_integer, a_negative, a_variable, an_atom, empty_list, empty_curly, named_call, operator_call, in_parens, operator_in_parens, a_list, a_list_tail, in_curly, a_prefix, an_infix, none, next}
 use Rattle.fd_language.specs.Reading.{terminals}
-use Rattle.fd_language.proofs.OperatorLaws.{within_infix}
-use Rattle.fd_language.proofs.Sets.{has_either}
-use Rattle.fd_language.proofs.TokenLaws.{front_empty}
+use Rattle.fd_language.proofs.Lemmas.{within_infix, has_either, front_empty}
 use Rattle.term_writer.specs.Spelled.{placed, all_placed, tokens_of, HasArguments, AllHaveArguments, Within}
 use Rattle.term_writer.specs.Written.{IsReadable, AllReadable, number_among, Derives, IsSentenceOf, WrittenIsRead}
 use Rattle.term_writer.proofs.Derived.{spelled_is_read}

@@ -1,4 +1,4 @@
-use Rattle.fd_language.proofs.TokenLaws.{one_verdict}
+use Rattle.fd_language.proofs.Lemmas.{one_verdict}
 use Rattle.char_tokens.proofs.one_verdict.Goals as goal
 
 pub returns : goal.returns

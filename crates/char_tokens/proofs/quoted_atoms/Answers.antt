@@ -1,4 +1,4 @@
-use Rattle.fd_language.proofs.QuotedAtoms.{quoted_atoms}
+use Rattle.fd_language.proofs.Lemmas.{quoted_atoms}
 use Rattle.char_tokens.proofs.quoted_atoms.Goals as goal
 
 pub returns : goal.returns

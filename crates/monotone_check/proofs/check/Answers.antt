@@ -1,6 +1,6 @@
 use Rattle.std.proofs.Common.{sym, ◌∙◌}
 use Rattle.fd_language.specs.declared.TheConstants.{INFINITY}
-use Rattle.fd_language.proofs.Yes.{verdict_agrees}
+use Rattle.fd_language.proofs.Lemmas.{verdict_agrees}
 use Rattle.monotone_check.proofs.check.Goals as goal
 
 pub invariant_of-result : goal.invariant_of-result

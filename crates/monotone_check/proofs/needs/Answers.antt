@@ -1,4 +1,4 @@
-use Rattle.monotone_check.proofs.Gathering.{needs_ok}
+use Rattle.monotone_check.proofs.JoinedNeeds.{needs_ok}
 use Rattle.monotone_check.proofs.needs.Goals as goal
 
 pub returns : goal.returns

@@ -2,7 +2,7 @@ use Rattle.std.proofs.Common.{◌≡◌, List, ap, ◌∙◌}
 use Rattle.std.proofs.lemmas.Result.{IfOk-weaker}
 use Rattle.fd_language.specs.declared.range_node.RangeNode.{RangeNode}
 use Rattle.fd_language.specs.Features.{feature_at, each_once, node_features, features_of}
-use Rattle.fd_language.proofs.Leaves.{whole_nodes}
+use Rattle.fd_language.proofs.Lemmas.{whole_nodes}
 use Rattle.range_features.proofs.features.Goals as goal
 
 pub returns : goal.returns

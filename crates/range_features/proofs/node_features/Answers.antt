@@ -2,7 +2,7 @@ use Rattle.std.proofs.Common.{ℕ, List, ◌++◌, ap, ◌∙◌}
 use Rattle.fd_language.specs.declared.range_node.Feature.{Feature}
 use Rattle.range_features.specs.declared.Seen.{Seen}
 use Rattle.range_features.specs.Seen.{unseen}
-use Rattle.range_features.proofs.Meeting.{none_met}
+use Rattle.range_features.proofs.MetPairs.{none_met}
 use Rattle.range_features.proofs.node_features.Goals as goal
 
 pub loop-node-init : goal.loop-node-init

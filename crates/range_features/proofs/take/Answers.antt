@@ -1,6 +1,6 @@
 
 use Rattle.range_features.specs.Seen.{sees}
-use Rattle.range_features.proofs.Meeting.{met_new, met_again, is_new, is_known}
+use Rattle.range_features.proofs.MetPairs.{met_new, met_again, is_new, is_known}
 use Rattle.range_features.proofs.take.Goals as goal
 
 pub returns-in_ok-push : goal.returns-in_ok-push

@@ -19,6 +19,6 @@ returns-clause-spelled c =
     let found = c.in-Ok.found in
     let none : found.offender ≡ None = none_of found.offender c.in_default.not-Some in (
       not_refused now x found c.in-Ok.ensures none,
-      same_range c.unwrap-range.result (read_range x).value found.nodes.items (the_range c.from_nodes.result c.unwrap-range.result found.nodes.items c.from_nodes.ensures c.unwrap-range.ensures) (whole_nodes now x found c.in-Ok.ensures none),
+      same_range c.unwrap-range.result (read_range x).tree found.nodes.items (the_range c.from_nodes.result c.unwrap-range.result found.nodes.items c.from_nodes.ensures c.unwrap-range.ensures) (whole_nodes now x found c.in-Ok.ensures none),
       whole_places now x found c.in-Ok.ensures,
     )

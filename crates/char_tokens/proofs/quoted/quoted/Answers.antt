@@ -5,7 +5,7 @@ use Rattle.fd_language.specs.Tokens.{Past, Broken, quoted_front}
 use Rattle.char_tokens.specs.Views.{inside_of, cause_of}
 use Rattle.char_tokens.proofs.Runs.{IsAt, at_next}
 use Rattle.char_tokens.proofs.Quoting.{quoted_step, still_held}
-use Rattle.fd_language.proofs.QuotedAtoms.{front_past, front_broken}
+use Rattle.fd_language.proofs.Lemmas.{front_past, front_broken}
 use Rattle.char_tokens.proofs.quoted.quoted.Goals as goal
 
 pub returns-in-Ends-clause-front : goal.returns-in-Ends-clause-front

@@ -6,7 +6,7 @@ use Rattle.fd_language.specs.Tokens.{Between, Past, Broken, quoted_spells, unquo
 use Rattle.char_tokens.specs.Views.{inside_of, cause_of}
 use Rattle.char_tokens.proofs.Runs.{shorter}
 use Rattle.char_tokens.proofs.Quoting.{spells_end}
-use Rattle.fd_language.proofs.QuotedAtoms.{spells_past, spells_broken}
+use Rattle.fd_language.proofs.Lemmas.{spells_past, spells_broken}
 use Rattle.char_tokens.proofs.quoted.unquote.Goals as goal
 
 pub loop-c-init : goal.loop-c-init

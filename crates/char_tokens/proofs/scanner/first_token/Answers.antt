@@ -2,7 +2,7 @@ use Rattle.std.proofs.Common.{◌≡◌, ◌∙◌, ℕ, List, sym, ap, subst, a
 use Rattle.std.proofs.lemmas.Str.{IsCharBoundary-from_drop}
 use Rattle.std.specs.Str.{IsUtf8}
 use Rattle.fd_language.specs.Tokens.{Gap, ended, front_of}
-use Rattle.fd_language.proofs.TokenLaws.{gap_grows}
+use Rattle.fd_language.proofs.Lemmas.{gap_grows}
 use Rattle.char_tokens.specs.declared.front.Front.{Front}
 use Rattle.char_tokens.specs.declared.front.Front.TheVariants as fronts
 use Rattle.char_tokens.specs.Views.{front_is, IsBehind}

@@ -1,7 +1,7 @@
 use Rattle.std.proofs.Common.{subst, ◌∙◌, ◌<◌}
 use Rattle.fd_language.specs.Family.{has}
 use Rattle.fd_language.specs.declared.TheConstants.{INFINITY}
-use Rattle.fd_language.proofs.Greatest.{rising-filter}
+use Rattle.fd_language.proofs.Lemmas.{rising-filter}
 use Rattle.domain_ranges.specs.Spans.{interval_count}
 use Rattle.domain_ranges.proofs.Members.{meet_is}
 use Rattle.domain_ranges.proofs.Outcomes.{on_err}

@@ -1,4 +1,4 @@
-use Rattle.fd_language.proofs.Yes.{verdict_agrees}
+use Rattle.fd_language.proofs.VerdictLaw.{verdict_agrees}
 use Rattle.fd_language.proofs.check_laws.verdict_agrees.Goals as goal
 
 pub returns : goal.returns

@@ -1,4 +1,4 @@
-use Rattle.fd_language.proofs.Waits.{ends_none, ends_one, ends_other}
+use Rattle.fd_language.proofs.SpelledNodes.{ends_none, ends_one, ends_other}
 use Rattle.fd_language.proofs.counting.spells_range.Goals as goal
 
 pub returns-in-None : goal.returns-in-None

@@ -1,4 +1,4 @@
-use Rattle.monotone_check.proofs.AskReading.{asks_start, asks_step}
+use Rattle.monotone_check.proofs.NodeNeeds.{asks_start, asks_step}
 use Rattle.monotone_check.proofs.asks.read_asks.Goals as goal
 
 pub loop-node-init : goal.loop-node-init

@@ -1,4 +1,4 @@
-use Rattle.monotone_check.specs.Opened.{IsAskedSoFar}
+use Rattle.monotone_check.specs.OpenTerms.{IsAskedSoFar}
 use Rattle.monotone_check.proofs.asks.read_asks.Given as goal
 
 abbrev pub invariant-loop-node : goal.invariant-loop-node

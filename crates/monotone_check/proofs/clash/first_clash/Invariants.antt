@@ -1,6 +1,6 @@
 use Rattle.std.proofs.Common.{◌≡◌, ℕ, get_or, drop, List, []}
 use Rattle.fd_language.specs.RangeVerdict.{clashes, first, earlier}
-use Rattle.monotone_check.specs.Seen.{AreSeen}
+use Rattle.monotone_check.specs.MetVariables.{AreSeen}
 use Rattle.monotone_check.proofs.clash.first_clash.Given as goal
 
 abbrev pub invariant-loop-number : goal.invariant-loop-number

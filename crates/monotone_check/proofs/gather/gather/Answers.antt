@@ -1,7 +1,7 @@
 use Rattle.std.proofs.Common.{◌≡◌, ap, nat_eq, ◌∙◌}
 use Rattle.std.specs.List.{position_or_len}
-use Rattle.monotone_check.specs.Gathered.{put}
-use Rattle.monotone_check.proofs.Settling.{gather_step, gathered_keys, one_less}
+use Rattle.monotone_check.specs.JoinedNeeds.{put}
+use Rattle.monotone_check.proofs.NeedLoops.{gather_step, gathered_keys, one_less}
 use Rattle.monotone_check.proofs.gather.gather.Goals as goal
 
 pub loop-left-preserved : goal.loop-left-preserved

@@ -1,6 +1,6 @@
 use Rattle.std.proofs.Common.{◌≡◌, ◌≤◌, [], length, take, reverse, map}
-use Rattle.monotone_check.specs.Asked.{told}
-use Rattle.monotone_check.specs.Gathered.{put_all}
+use Rattle.monotone_check.specs.PlaceNeeds.{told}
+use Rattle.monotone_check.specs.JoinedNeeds.{put_all}
 use Rattle.monotone_check.proofs.gather.gather.Given as goal
 
 abbrev pub invariant-loop-left : goal.invariant-loop-left

@@ -1,5 +1,5 @@
 use Rattle.std.proofs.Common.{rules, ◌≤◌, ◌<◌, length, ◌∙◌}
-use Rattle.monotone_check.proofs.Settling.{join_at, join_new}
+use Rattle.monotone_check.proofs.NeedLoops.{join_at, join_new}
 use Rattle.monotone_check.proofs.gather.join.Goals as goal
 
 pub returns-then-number-len : goal.returns-then-number-len

@@ -1,5 +1,5 @@
 use Rattle.std.proofs.Common.{◌≡◌, ℕ, ◌<◌, ◌≤◌, nat_lt, not, length, drop, reverse}
-use Rattle.monotone_check.specs.Asked.{told, reaches}
+use Rattle.monotone_check.specs.PlaceNeeds.{told, reaches}
 use Rattle.monotone_check.proofs.gather.settled.Given as goal
 
 abbrev pub invariant-loop-number : goal.invariant-loop-number

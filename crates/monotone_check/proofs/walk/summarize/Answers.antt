@@ -1,5 +1,5 @@
 use Rattle.std.proofs.Common.{get_or, refl}
-use Rattle.monotone_check.proofs.Walks.{walk_start, walk_step, walk_gives}
+use Rattle.monotone_check.proofs.NodeWalk.{walk_start, walk_step, walk_gives}
 use Rattle.monotone_check.proofs.walk.summarize.Goals as goal
 
 pub loop-number-init : goal.loop-number-init

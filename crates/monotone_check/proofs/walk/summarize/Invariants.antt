@@ -1,5 +1,5 @@
 use Rattle.std.proofs.Common.{get_or}
-use Rattle.monotone_check.specs.Walked.{IsWalked}
+use Rattle.monotone_check.specs.NodeWalk.{IsWalked}
 use Rattle.monotone_check.proofs.walk.summarize.Given as goal
 
 abbrev pub invariant-loop-number : goal.invariant-loop-number

@@ -1,4 +1,4 @@
-use Rattle.fd_language.proofs.Waits.{after_expr, after_range}
+use Rattle.fd_language.proofs.SpelledNodes.{after_expr, after_range}
 use Rattle.fd_language.proofs.counting.Waiting.after.Goals as goal
 
 pub returns-then-not-taken-clause-reached : goal.returns-then-not-taken-clause-reached

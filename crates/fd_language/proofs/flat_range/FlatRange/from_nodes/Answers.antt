@@ -1,5 +1,5 @@
 use Rattle.std.proofs.Common.{refl}
-use Rattle.fd_language.proofs.Waits.{spells_same}
+use Rattle.fd_language.proofs.SpelledNodes.{spells_same}
 use Rattle.fd_language.proofs.flat_range.FlatRange.from_nodes.Goals as goal
 
 pub invariant_of-result : goal.invariant_of-result

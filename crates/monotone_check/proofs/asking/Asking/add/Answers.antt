@@ -1,5 +1,5 @@
 use Rattle.std.proofs.Common.{◌+◌, ap}
-use Rattle.monotone_check.proofs.Told.{add_tells}
+use Rattle.monotone_check.proofs.PlaceNeeds.{add_tells}
 use Rattle.monotone_check.proofs.asking.Asking.add.Goals as goal
 
 pub returns : goal.returns

@@ -1,4 +1,4 @@
-use Rattle.monotone_check.proofs.Told.{divide_at}
+use Rattle.monotone_check.proofs.PlaceNeeds.{divide_at}
 use Rattle.monotone_check.proofs.asking.Asking.divide.Goals as goal
 
 pub returns-then-count-gt0 : goal.returns-then-count-gt0

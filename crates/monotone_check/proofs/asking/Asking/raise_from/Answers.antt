@@ -1,5 +1,5 @@
 use Rattle.std.proofs.Common.{◌≤◌, subst}
-use Rattle.monotone_check.proofs.Told.{raise_at, raise_none}
+use Rattle.monotone_check.proofs.PlaceNeeds.{raise_at, raise_none}
 use Rattle.monotone_check.proofs.asking.Asking.raise_from.Goals as goal
 
 pub returns-then-from-count : goal.returns-then-from-count

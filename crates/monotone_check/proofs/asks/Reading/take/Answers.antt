@@ -1,7 +1,7 @@
 use Rattle.std.proofs.Common.{true, false}
-use Rattle.monotone_check.specs.Asked.{Opens, OpensParameter, Operates}
-use Rattle.monotone_check.specs.Opened.{TakesAsks}
-use Rattle.monotone_check.proofs.AskReading.{ok_asks, open_true_takes, open_false_takes, operate_takes, param_takes}
+use Rattle.monotone_check.specs.PlaceNeeds.{Opens, OpensParameter, Operates}
+use Rattle.monotone_check.specs.OpenTerms.{TakesAsks}
+use Rattle.monotone_check.proofs.NodeNeeds.{ok_asks, open_true_takes, open_false_takes, operate_takes, param_takes}
 use Rattle.monotone_check.proofs.asks.Reading.take.Goals as goal
 
 pub returns-in-Int : goal.returns-in-Int

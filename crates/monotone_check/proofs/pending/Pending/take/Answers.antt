@@ -1,5 +1,5 @@
 use Rattle.monotone_check.specs.Steps.{PushesLeaf, PushesOperated, PushesSpan, PushesSingle, PushesCombined, PushesComplement, PushesPointwise}
-use Rattle.monotone_check.proofs.Reading.{ok_taken, leaf_taken, operator_taken, span_taken, one_taken, combined_taken, outside_taken, pointwise_taken}
+use Rattle.monotone_check.proofs.NodeChecks.{ok_taken, leaf_taken, operator_taken, span_taken, one_taken, combined_taken, outside_taken, pointwise_taken}
 use Rattle.monotone_check.proofs.pending.Pending.take.Goals as goal
 
 pub returns-in-Int : goal.returns-in-Int

@@ -8,7 +8,7 @@ use Rattle.fd_language.specs.Check.{is_parameter}
 use Rattle.fd_language.specs.Flat.{built, spelled}
 use Rattle.monotone_check.specs.declared.asks.OpenTerm.{OpenTerm}
 use Rattle.monotone_check.specs.declared.asks.Reading.{Reading}
-use Rattle.monotone_check.specs.Asked.{asks_now}
+use Rattle.monotone_check.specs.PlaceNeeds.{asks_now}
 
 -- the terms, the last one first; before them so much is asked, and with them so much
 abbrev pub AreOpen : List Expr → List OpenTerm → List (ℕ × Need) → List (ℕ × Need) → Type 0

@@ -12,7 +12,7 @@ use Rattle.monotone_check.specs.declared.summary.TermCheck.{TermCheck}
 use Rattle.monotone_check.specs.declared.summary.RangeCheck.{RangeCheck}
 use Rattle.monotone_check.specs.declared.pending.Pending.{Pending}
 use Rattle.monotone_check.specs.Summary.{IsTerm, IsRange, IsLeaf, IsOperated, IsCombined, IsPointwise}
-use Rattle.monotone_check.specs.Waiting.{AreTerms, AreRanges, before_terms, IsPending, Follows}
+use Rattle.monotone_check.specs.PendingChecks.{AreTerms, AreRanges, before_terms, IsPending, Follows}
 use Rattle.monotone_check.specs.Steps.{PushesLeaf, PushesOperated, PushesSpan, PushesSingle, PushesDomain, PushesCombined, PushesComplement, PushesPointwise}
 use Rattle.monotone_check.proofs.Operators.{add_is, sub_is, mul_is, div_down_is, div_up_is}
 use Rattle.monotone_check.proofs.Ranges.{span_is, one_is, dom_is, union_is, inter_is, outside_is, plus_is, minus_is, times_is, over_is}

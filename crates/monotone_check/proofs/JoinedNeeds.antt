@@ -12,8 +12,8 @@ use Rattle.fd_language.specs.Family.{has}
 use Rattle.fd_language.specs.Range.{Range}
 use Rattle.fd_language.specs.Needs.{stronger, strongest, once, asks, needs}
 use Rattle.monotone_check.specs.declared.asking.Asked.{Asked}
-use Rattle.monotone_check.specs.Asked.{told}
-use Rattle.monotone_check.specs.Gathered.{put, put_all}
+use Rattle.monotone_check.specs.PlaceNeeds.{told}
+use Rattle.monotone_check.specs.JoinedNeeds.{put, put_all}
 
 abbrev keys : List (ℕ × Need) → List ℕ
 keys es = map (λ d. d.0) es

@@ -5,7 +5,7 @@ use Rattle.std.proofs.lemmas.Bool.{true≢false}
 use Rattle.fd_language.specs.declared.range_node.Need.{Need}
 use Rattle.fd_language.specs.declared.range_node.Need.TheVariants.{Whole, Natural, Divisor}
 use Rattle.monotone_check.specs.declared.asking.Asked.{Asked}
-use Rattle.monotone_check.specs.Asked.{raise, reaches, told, raised}
+use Rattle.monotone_check.specs.PlaceNeeds.{raise, reaches, told, raised}
 
 -- the last place with another floor, or made a divisor
 abbrev lowered : ℕ → List Asked → List Asked

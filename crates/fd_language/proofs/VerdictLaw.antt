@@ -8,7 +8,7 @@ use Rattle.fd_language.specs.Check.{range_fits}
 use Rattle.fd_language.specs.Flat.{nodes_of}
 use Rattle.fd_language.specs.RangeVerdict.{range_size, wide_in_range, range_offences, clashes, first, width_first, verdict, range_within, has_one_use, is_accepted}
 use Rattle.fd_language.specs.CheckLaws.{VerdictAgrees}
-use Rattle.fd_language.proofs.Agrees.{nil, nil-append, nil-first, first-nil, nil-range, nil-fitting}
+use Rattle.fd_language.proofs.NoOffences.{nil, nil-append, nil-first, first-nil, nil-range, nil-fitting}
 use Rattle.fd_language.proofs.Uses.{one_use, one_use_back}
 
 both_none : (a b : Option Offence) → width_first a b ≡ None → (a ≡ None) × (b ≡ None)

@@ -7,9 +7,9 @@ use Rattle.std.proofs.lemmas.List.{take_more, drop_more, drop_all, take_all, rev
 use Rattle.fd_language.specs.declared.range_node.Need.{Need}
 use Rattle.fd_language.specs.Needs.{stronger}
 use Rattle.monotone_check.specs.declared.asking.Asked.{Asked}
-use Rattle.monotone_check.specs.Asked.{raise, reaches, told}
-use Rattle.monotone_check.specs.Gathered.{put, put_all}
-use Rattle.monotone_check.proofs.Gathering.{eq_sym}
+use Rattle.monotone_check.specs.PlaceNeeds.{raise, reaches, told}
+use Rattle.monotone_check.specs.JoinedNeeds.{put, put_all}
+use Rattle.monotone_check.proofs.JoinedNeeds.{eq_sym}
 
 abbrev keys : List (ℕ × Need) → List ℕ
 keys es = map (λ d. d.0) es

@@ -5,7 +5,7 @@ use Rattle.fd_language.specs.declared.TheConstants.{INFINITY}
 use Rattle.fd_language.specs.Range.{Range, Expr}
 use Rattle.fd_language.specs.Flat.{built, spelled}
 use Rattle.monotone_check.specs.declared.pending.Pending.{Pending}
-use Rattle.monotone_check.specs.Waiting.{IsPending}
+use Rattle.monotone_check.specs.PendingChecks.{IsPending}
 
 -- the nodes from the number n on build the range on top of what waits
 abbrev pub IsWalked : (ℕ → ℕ) → ℕ → List RangeNode → Pending → Type 0

@@ -7,13 +7,12 @@ use Rattle.fd_language.specs.declared.TheConstants.{INFINITY}
 use Rattle.fd_language.specs.Range.{Range, Expr}
 use Rattle.fd_language.specs.Flat.{built, spelled, IsSpelled, builds_range, spelled-nodes}
 use Rattle.fd_language.specs.RangeVerdict.{range_size}
-use Rattle.fd_language.proofs.Waits.{spells_back}
+use Rattle.fd_language.proofs.Lemmas.{spells_back, count_nodes}
 use Rattle.monotone_check.specs.declared.pending.Pending.{Pending}
 use Rattle.monotone_check.specs.declared.summary.RangeCheck.{RangeCheck}
 use Rattle.monotone_check.specs.Summary.{IsRange}
-use Rattle.monotone_check.specs.Waiting.{IsPending, Follows}
-use Rattle.monotone_check.specs.Walked.{IsWalked}
-use Rattle.fd_language.proofs.Leaves.{count_nodes}
+use Rattle.monotone_check.specs.PendingChecks.{IsPending, Follows}
+use Rattle.monotone_check.specs.NodeWalk.{IsWalked}
 
 pub builds_all : (nodes : List RangeNode) → IsSpelled nodes → Some (spelled nodes) ≡ built nodes [] []
 builds_all nodes (r, e) = subst (λ ns. Some (spelled ns) ≡ built ns [] []) e (ap Some (spelled-nodes r) ∙ sym (builds_range r [] []))

@@ -16,9 +16,9 @@ use Rattle.std.specs.Prelude.{Ok, Err}
 use Rattle.monotone_check.specs.declared.asking.Asked.{Asked}
 use Rattle.monotone_check.specs.declared.asks.OpenTerm.{OpenTerm}
 use Rattle.monotone_check.specs.declared.asks.Reading.{Reading}
-use Rattle.monotone_check.specs.Asked.{joins, AsksOf, raise, raise_all, told, raised, asks_now, Opens, OpensParameter, Operates, Closes, ClosesQuotient}
-use Rattle.monotone_check.specs.Opened.{all_asks, IsAsking, FollowsAsking, TakesAsks, IsAskedSoFar}
-use Rattle.monotone_check.proofs.Walks.{builds_all, some_same}
+use Rattle.monotone_check.specs.PlaceNeeds.{joins, AsksOf, raise, raise_all, told, raised, asks_now, Opens, OpensParameter, Operates, Closes, ClosesQuotient}
+use Rattle.monotone_check.specs.OpenTerms.{all_asks, IsAsking, FollowsAsking, TakesAsks, IsAskedSoFar}
+use Rattle.monotone_check.proofs.NodeWalk.{builds_all, some_same}
 
 Asks : Type 0
 Asks = List (ℕ × Need)
