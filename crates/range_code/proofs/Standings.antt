@@ -14,9 +14,8 @@ use Rattle.fd_language.specs.Range.{Range, Span, One, Dom, Union, Inter, Outside
 use Rattle.fd_language.specs.Check.{fill, fill_range}
 use Rattle.fd_language.specs.declared.TheConstants.{INFINITY}
 use Rattle.fd_language.specs.Family.{Family, IsRising, universe}
-use Rattle.fd_language.proofs.Sets.{universe_rising}
 use Rattle.fd_language.specs.Features.{expr_features, range_features, is_same_feature, is_same_pair, each_once, features_of}
-use Rattle.fd_language.proofs.Lemmas.{two}
+use Rattle.fd_language.proofs.Lemmas.{two, universe_rising}
 use Rattle.range_code.specs.declared.frame.Arg.{Arg}
 use Rattle.range_code.specs.Nodes.{IsSeen, IsReadable, node_features, node_feature, listed}
 use Rattle.range_code.specs.Standing.{is_val, opens}
