@@ -258,7 +258,7 @@ module _ (g : ℕ → ℕ) (apart : (v w : ℕ) → g v ≡ g w → v ≡ w) whe
 
       -- a renamed goal's row is the row, renamed
       pub post_renamed : (t : Term) (r : Range) → post_row heap (rename_term g t) (rename_range g r) (g n) ≡ rename_row g (post_row look t r n)
-      post_renamed (Var v) r = ap (λ ps. post_row_at heap (place (g v) false ++ ps) (g v) [] (g n) (rename_range g r)) (places_renamed r) ∙ at_renamed n (omega arith) (one_place v false ++ range_places r) v [] r
+      post_renamed (Var v) r = ap (λ ps. post_row_at heap (one_place (g v) false ++ ps) (g v) [] (g n) (rename_range g r)) (places_renamed r) ∙ at_renamed n (omega arith) (one_place v false ++ range_places r) v [] r
       post_renamed (Int z) r =
           two (λ ps m. post_row_at heap ps (g n) ((g n, z) ∷ []) m (rename_range g r)) (places_renamed r) (sym (follows n (omega arith)))
           ∙ at_renamed (suc n) (omega arith) (range_places r) n ((n, z) ∷ []) r
