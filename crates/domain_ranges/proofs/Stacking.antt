@@ -49,9 +49,9 @@ module _ (starts : List ℕ) (ss ts : List Span) where
   push_starts new all e f h =
       subst (λ l. AreStarts l (length all)) (sym (ap reverse e ∙ reverse_push starts (length ss)))
       (subst (λ l. length ss ≤ length l) (sym f) (longer ss ts), h) where
-    longer : (xs ys : List Span) → length xs ≤ length (xs ++ ys)
-    longer [] ys = omega arith
-    longer (x ∷ xs) ys = let k = longer xs ys in omega arith
+        longer : (xs ys : List Span) → length xs ≤ length (xs ++ ys)
+        longer [] ys = omega arith
+        longer (x ∷ xs) ys = let k = longer xs ys in omega arith
 
 pub wait_more : (ks : List ℕ) (ss ts all : List Span) → AreStarts ks (length ss) → all ≡ ss ++ ts → AreStarts ks (length all)
 wait_more ks ss ts all h f = starts_more ks (length ss) (length all) h (subst (λ l. length ss ≤ length l) (sym f) (longer ss ts)) where

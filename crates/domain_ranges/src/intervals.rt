@@ -270,10 +270,7 @@ fn is_rising(spans: &[(u32, u32)]) -> bool
 }
 
 /// The numbers of intervals that begin in rising order.
-fn join_rising(
-    alloc: Global,
-    spans: &[(u32, u32)],
-) -> Result<SmallVec<(u32, u32), 2>, NoMemory>
+fn join_rising(alloc: Global, spans: &[(u32, u32)]) -> Result<SmallVec<(u32, u32), 2>, NoMemory>
     requires intervals { AreIntervals spans.now }
     requires rising { AreRising 0 spans.now }
     ensures spans { IfOk result (λ list. IsSpans 0 INFINITY list.items) }
@@ -288,10 +285,7 @@ fn join_rising(
 }
 
 /// The numbers of intervals that stand in any order. One pass is made where they begin in rising order.
-pub fn settled(
-    alloc: Global,
-    spans: &[(u32, u32)],
-) -> Result<SmallVec<(u32, u32), 2>, NoMemory>
+pub fn settled(alloc: Global, spans: &[(u32, u32)]) -> Result<SmallVec<(u32, u32), 2>, NoMemory>
     requires { AreIntervals spans.now }
     ensures spans { IfOk result (λ list. IsSpans 0 INFINITY list.items) }
     ensures set { IfOk result (λ list. members list.items ≡ numbers spans.now) }

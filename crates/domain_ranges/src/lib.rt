@@ -11,9 +11,8 @@ ghost use Rattle.fd_language.specs.Range.{least, greatest, is_none_left};
 mod intervals;
 mod set_stack;
 
-pub use set_stack::SetStack;
-
 use fd_language::{INFINITY, NoMemory};
+pub use set_stack::SetStack;
 use smallvec::SmallVec;
 use std::alloc::Global;
 use std::marker::Model;

@@ -4,28 +4,23 @@
 pub use Rattle.fd_language.proofs.Sets.{has-filter, has-filter_back, has_low, has_high, rising_same, universe_rising, in_count_up, in_universe, rising_inside, has_either, in_left, in_right, alone_in, in_flat}
 pub use Rattle.fd_language.proofs.Monotone.{least_low, least_in, greatest_in, greatest_high, not_empty}
 pub use Rattle.fd_language.proofs.GreatestFamily.{IsGreatest, greatest_there, rising-filter, shorter_or_same}
-
 -- What holds of each element of a list.
 pub use Rattle.fd_language.proofs.Lists.{each_map, each_all, each_both, each_before, each_after, each_either}
-
 -- Walks over ranges: what is collected of their leaves, their nodes, and what becomes of them with other leaves.
 pub use Rattle.fd_language.proofs.Leaves.{operands, exprs_related, ranges_related, range_leaves, nodes_leaves, whole_nodes, expr_append, range_append, count_nodes, new_leaves, same_leaves, renamed_leaves, filled_leaves, range_stays, renamed_as_is, filled_as_is, vals_read, two, first_nil, second_nil}
 pub use Rattle.fd_language.proofs.RangePlaces.{OfParameter, reads_placed, params_placed, none_placed, free_places_read, renamed_places}
 pub use Rattle.fd_language.proofs.SpelledNodes.{spells_back}
-
 -- The set of a range under other variables, and of one that the table accepts.
 pub use Rattle.fd_language.proofs.RangeRenaming.{reads_map, set_same, set_agree, monotone_renamed}
 pub use Rattle.fd_language.proofs.Fitting.{range_fits_same}
 pub use Rattle.fd_language.proofs.Monotone.{accepted_is_monotone}
 pub use Rattle.fd_language.proofs.Directions.{literal_is}
-
 -- Needs, the limits of values, and the verdict.
 pub use Rattle.fd_language.proofs.AskedParameters.{Asked, asked_params, nothing_asked}
 pub use Rattle.fd_language.proofs.PartNeeds.{expr_meets, over_meets, range_meets, needs_met}
 pub use Rattle.fd_language.proofs.Limits.{abs_add, abs_sub, abs_mul, sums, products, not_over, bounded_values}
 pub use Rattle.fd_language.proofs.NoOffences.{nil-first, nil-range}
 pub use Rattle.fd_language.proofs.VerdictLaw.{verdict_agrees}
-
 -- Tokens, the operators of the table, and readings.
 pub use Rattle.fd_language.proofs.TokenLaws.{front_empty, gap_grows, token_grows, one_list, one_fault, not_both, one_verdict}
 pub use Rattle.fd_language.proofs.TokenSlices.{tokens_are_slices}
@@ -34,7 +29,6 @@ pub use Rattle.fd_language.proofs.OperatorLaws.{within_infix}
 pub use Rattle.fd_language.proofs.ReadingWhole.{accepts}
 pub use Rattle.fd_language.proofs.ReadingLaws.{one_verdict_of_reading}
 pub use Rattle.fd_language.proofs.SentenceVariables.{stands, below, each_below, as_many}
-
 -- Substitutions and most general unifiers.
 unfoldable pub use Rattle.fd_language.proofs.Substituting.{after, number_for}
 pub use Rattle.fd_language.proofs.Substituting.{after_is, identity, through_term, still_unifies, number_at, number_back}

@@ -40,6 +40,6 @@ none_from M places r h =
     let a : first (wide_in_range M at root r) ≡ None = first-nil (wide_in_range M at root r) (nil-range M at root r ∙ w) in
     let b : first (range_offences M at root r true ++ clashes at 0 [] [] (nodes_of r)) ≡ None = first-nil (range_offences M at root r true ++ clashes at 0 [] [] (nodes_of r)) (nil-append (range_offences M at root r true) (clashes at 0 [] [] (nodes_of r)) ∙ and_from _ _ f u) in
     ap (λ o. width_first o (first (range_offences M at root r true ++ clashes at 0 [] [] (nodes_of r)))) a ∙ b
- 
+
 pub verdict_agrees : VerdictAgrees
 verdict_agrees M places r = ((λ h. accepted_from M places r h), (λ h. none_from M places r h))

@@ -6,7 +6,6 @@ pub use Rattle.fd_model.proofs.Constants.{from_span, in_span}
 pub use Rattle.fd_model.proofs.Orders.{all_keep, closed_without}
 pub use Rattle.fd_model.proofs.Determining.{single_from}
 pub use Rattle.fd_model.proofs.Unread.{unread}
-
 -- What is posted, named and renamed, and the variables below a number.
 pub use Rattle.fd_model.proofs.ListNames.{named_left, named_right, posted_left, posted_right}
 pub use Rattle.fd_model.proofs.RowNames.{AllVars, collected_vars, vars_product, vars_scaled}
@@ -16,13 +15,11 @@ pub use Rattle.fd_model.proofs.Slots.{Apart, slot_high, slot_low, slot_out}
 pub use Rattle.fd_model.proofs.Scoping.{term_renamed, body_renamed, each_wider, each_both_below, listed_below}
 pub use Rattle.fd_model.proofs.Seeing.{wider}
 pub use Rattle.fd_model.proofs.ProgramScopes.{queries_scoped}
-
 -- Branches: what is seen of them, their models, and one run of a program.
 pub use Rattle.fd_model.proofs.Existence.{AllSound, has_view, offer_sound}
 pub use Rattle.fd_model.proofs.Growing.{constrained_either, join_both, split_both, posted_both}
 pub use Rattle.fd_model.proofs.Heeding.{first_member, only_member}
 pub use Rattle.fd_model.proofs.Models.{consistent_from, has_general, not_empty, one_term, weaker}
 pub use Rattle.fd_model.proofs.Unique.{one_view, queries_once, run_once}
-
 -- Texts: the lines and values of a query.
 pub use Rattle.fd_model.proofs.Texts.{place_same, same_test, spelled_same, variables_apply_all}

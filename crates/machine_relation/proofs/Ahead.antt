@@ -159,8 +159,7 @@ module _ (M : ℕ) (prog : Program) (q : Query) where
             let o = gives_from M _ xs c.kept in
             let same : n ≡ m = same_number n m e in
             let one : o.0 ≡ kids = same_kids o.0 kids (sym o.1 ∙ gives s D c.view) in
-            let sound = offer_sound M b rest a.fit.0.1 runnable_goals.1 prog (Rattle.fd_model.specs.Children.look_in b s D) (Rattle.fd_model.specs.Children.sets_in b s D) g runnable runnable_goals.0 kids (gives s D c.view) in
-            (
+            let sound = offer_sound M b rest a.fit.0.1 runnable_goals.1 prog (Rattle.fd_model.specs.Children.look_in b s D) (Rattle.fd_model.specs.Children.sets_in b s D) g runnable runnable_goals.0 kids (gives s D c.view) in (
               later,
               j,
               i ∙ ap (λ l. l ++ later) (speaks s D c.view),

@@ -181,16 +181,15 @@ module _ (M : ℕ) (prog : Program) (q : Query) (f : Frame) (cs : List Choice) (
       let x = was_row (on_frame s D v) (seen_row s D v) y (sym (same s D v) ∙ h) in
       let scoped = scoped_rows kind (arguments (seen_term s D v)) m.branch.fresh x.0 x.1 in
       let kid = with_expansion m.branch t.rest x.0 in
-      let here : offered M prog m.branch t.head t.rest s D ≡ by_constraint m.branch t.rest (Ok x.0) = gives s D v ∙ ap (by_constraint m.branch t.rest) x.1 in
-      (
+      let here : offered M prog m.branch t.head t.rest s D ≡ by_constraint m.branch t.rest (Ok x.0) = gives s D v ∙ ap (by_constraint m.branch t.rest) x.1 in (
         kid,
         (λ u E w.
-          let alike = one_view M m.branch.equations m.branch.posted u s E D w v in
-          subst (λ y. offered M prog m.branch t.head t.rest y E ≡ by_constraint m.branch t.rest (Ok x.0)) (sym alike.0)
-          (subst (λ Y. offered M prog m.branch t.head t.rest s Y ≡ by_constraint m.branch t.rest (Ok x.0)) (sym alike.1) here)),
+            let alike = one_view M m.branch.equations m.branch.posted u s E D w v in
+            subst (λ y. offered M prog m.branch t.head t.rest y E ≡ by_constraint m.branch t.rest (Ok x.0)) (sym alike.0)
+            (subst (λ Y. offered M prog m.branch t.head t.rest s Y ≡ by_constraint m.branch t.rest (Ok x.0)) (sym alike.1) here)),
         subst (λ z. Joins z kid) x.2 (λ link' qs' a new link'' ts u outside.
-          subst (λ w. IsAt M q w (unified_frame (joined_frame f (rename_expansion (on_frame s D v) x.0) link' qs') new link'' ts) kid) (sym t.others)
-          (at_joined M q (Constrain kind l ∷ work) f m.branch m.here _ x.0 scoped.grows (all_between m.branch.fresh x.0.fresh x.0.ranges x.0.equated scoped.equated) (cells_of s D v x.0 x.1) link' qs' a new link'' ts u outside t.rest t.below.1)),
+            subst (λ w. IsAt M q w (unified_frame (joined_frame f (rename_expansion (on_frame s D v) x.0) link' qs') new link'' ts) kid) (sym t.others)
+            (at_joined M q (Constrain kind l ∷ work) f m.branch m.here _ x.0 scoped.grows (all_between m.branch.fresh x.0.fresh x.0.ranges x.0.equated scoped.equated) (cells_of s D v x.0 x.1) link' qs' a new link'' ts u outside t.rest t.below.1)),
       )
 
   module _ (y : Expansion) (is : frame_row f kind l ≡ Ok y) (link' : ℕ → Option ℕ) (qs' : List Indexical) (joined : AreJoined f.link f.store y.ranges link' qs') (new : Substitution) (link'' : ℕ → Option ℕ) (ts : List Touch)

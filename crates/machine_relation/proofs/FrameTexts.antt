@@ -54,6 +54,7 @@ module _ (M : ℕ) (f : Frame) (es : List Equation) (ps : List Indexical) (P : �
 
   mutual
     unfolding back
+
     back_look : (t : Term) → Of P t → apply back (apply look t) ≡ sees t
     back_look (Var x) o = (view_back M f es ps P look h T rest s D v c).1 x o
     back_look (Int z) o = refl

@@ -99,12 +99,12 @@ module _ (M : ℕ) (prog : Program) (q : Query) (f : Frame) (cs : List Choice) (
       let v = view.2 in
       let x = label_there M f m.branch.equations m.branch.posted (λ y. y < m.branch.fresh) look m.here.held T rest s D v m.consistent o one.0 known d ns (sym same_list ∙ h) in
       let low = variables_on (λ y. y < m.branch.fresh) (seen s D (constrained m.branch.posted) one.0)
-          (seen_of m.branch.fresh m.branch.equations s v.general (below_split (λ y. y < m.branch.fresh) (numbers m.here.held.fixed) m.branch.equations m.here.held.stored.heap.scoped).1 D (constrained m.branch.posted) one.0 known)
-          x.0 (label_in o (λ y. values_by M (set_at s D (constrained m.branch.posted) y)) (seen s D (constrained m.branch.posted) one.0) x.0 ns x.1) in
+      (seen_of m.branch.fresh m.branch.equations s v.general (below_split (λ y. y < m.branch.fresh) (numbers m.here.held.fixed) m.branch.equations m.here.held.stored.heap.scoped).1 D (constrained m.branch.posted) one.0 known)
+      x.0 (label_in o (λ y. values_by M (set_at s D (constrained m.branch.posted) y)) (seen s D (constrained m.branch.posted) one.0) x.0 ns x.1) in
       walk_values M prog q f cs es r runnable n k (Label o l) work m x.0 d ns [] low x.2
       (λ u E w.
-          let same = one_view M m.branch.equations m.branch.posted u s E D w v in
-          subst (λ y. offered M prog m.branch t.head t.rest y E ≡ by_labelled m.branch t.head t.rest (labels x.0 ns)) (sym same.0)
-          (subst (λ Y. offered M prog m.branch t.head t.rest s Y ≡ by_labelled m.branch t.head t.rest (labels x.0 ns)) (sym same.1)
-          (gives s D (labels x.0 ns) v x.1)))
+      let same = one_view M m.branch.equations m.branch.posted u s E D w v in
+      subst (λ y. offered M prog m.branch t.head t.rest y E ≡ by_labelled m.branch t.head t.rest (labels x.0 ns)) (sym same.0)
+      (subst (λ Y. offered M prog m.branch t.head t.rest s Y ≡ by_labelled m.branch t.head t.rest (labels x.0 ns)) (sym same.1)
+      (gives s D (labels x.0 ns) v x.1)))
       quiet

@@ -253,8 +253,8 @@ module _ (g : ℕ → ℕ) (apart : (v w : ℕ) → g v ≡ g w → v ≡ w) whe
           let row : (zs : List ℕ) → Expansion = λ zs. record { equated = rename_products g es ++ slot_numbers heap (g m) zs; ranges = record { target = slot (g m) zs (g x); range = rename_range (slot (g m) zs) (fill_range (λ y. integer_of (heap y)) (rename_range g r)) } ∷ []; fresh = g m + length zs } in
           two (λ o zs. unless_fault o (row zs)) (first_renamed (need_of (rename_range g r)) (need_of r) (need_renamed r) ps) (integers_renamed ps [])
           ∙ unless_renamed (first_offence (need_of r) look ps) (record { equated = es ++ slot_numbers look m ys; ranges = record { target = slot m ys x; range = rename_range (slot m ys) filled } ∷ []; fresh = m + length ys })
-              (two (λ e q. record { equated = e; ranges = q ∷ []; fresh = g m + length (map g ys) }) equated (two (λ t q. record { target = t; range = q }) target range)
-              ∙ ap (λ k. record { equated = rename_products g (es ++ slot_numbers look m ys); ranges = rename_indexical g (record { target = slot m ys x; range = rename_range (slot m ys) filled }) ∷ []; fresh = k }) (after_all m l ys))
+          (two (λ e q. record { equated = e; ranges = q ∷ []; fresh = g m + length (map g ys) }) equated (two (λ t q. record { target = t; range = q }) target range)
+          ∙ ap (λ k. record { equated = rename_products g (es ++ slot_numbers look m ys); ranges = rename_indexical g (record { target = slot m ys x; range = rename_range (slot m ys) filled }) ∷ []; fresh = k }) (after_all m l ys))
 
       -- a renamed goal's row is the row, renamed
       pub post_renamed : (t : Term) (r : Range) → post_row heap (rename_term g t) (rename_range g r) (g n) ≡ rename_row g (post_row look t r n)

@@ -138,8 +138,7 @@ module _ (M : ℕ) (es : List Equation) (ps : List Indexical) (P : ℕ → Type 
     down_posted =
         let base = st.down T before in
         let last = posted_right (λ q. IsSubset (T q.target) (set_of M T q.range)) qs (rename_indexical f p ∷ []) m.closed.posted in
-        by_shown M es (p ∷ ps) P h look link' T (λ v. T (slot' v)) st.heap (record { rising = λ v. m.closed.family.rising (slot' v) })
-        (
+        by_shown M es (p ∷ ps) P h look link' T (λ v. T (slot' v)) st.heap (record { rising = λ v. m.closed.family.rising (slot' v) }) (
           subst (λ l. IsSubset l (set_of M (λ v. T (slot' v)) p.range)) (sym (at_named p.target (or_left (p.target == p.target) (has (reads p.range) p.target) (eq-eqb p.target p.target refl))))
               (subst (IsSubset (T (f p.target))) (set_same M f T (λ v. T (slot' v)) p.range (λ v c. sym (at_named v (or_right (p.target == v) (has (reads p.range) v) c)))) last.0),
           holds_agree M (λ v. T (slot' v)) (λ v. T (slot v)) ps (λ v c. ap T (po.old v c)) base.closed.posted,

@@ -157,10 +157,13 @@ module _ (M : ℕ) (prog : Program) (q : Query) (f : Frame) (cs : List Choice) (
       let a = ahead M prog q f cs es r runnable n k l x work m T rest in
       let z = row_there f.heap g on_branch w (sym same ∙ h) in
       let one = row z.0 z.1 in
-      let kid = with_expansion m.branch a.rest z.0 in
-      (z.0, z.1, subst (λ u. Joins u kid) (sym (on_cells f fresh place m.here.held.unused z.0 one.grows (between z.0 z.1)) ∙ z.2) (λ link' qs' j new link'' ts u outside.
-        subst (λ gs. IsAt M q gs (unified_frame (joined_frame f (rename_expansion (cells z.0 z.1) z.0) link' qs') new link'' ts) kid) (sym a.others)
-        (at_joined M q (Post l x ∷ work) f m.branch m.here (λ v. root f.heap (place v)) z.0 one.grows (between z.0 z.1) (named z.0 z.1) link' qs' j new link'' ts u outside a.rest a.below.1)))
+      let kid = with_expansion m.branch a.rest z.0 in (
+        z.0,
+        z.1,
+        subst (λ u. Joins u kid) (sym (on_cells f fresh place m.here.held.unused z.0 one.grows (between z.0 z.1)) ∙ z.2) (λ link' qs' j new link'' ts u outside.
+            subst (λ gs. IsAt M q gs (unified_frame (joined_frame f (rename_expansion (cells z.0 z.1) z.0) link' qs') new link'' ts) kid) (sym a.others)
+            (at_joined M q (Post l x ∷ work) f m.branch m.here (λ v. root f.heap (place v)) z.0 one.grows (between z.0 z.1) (named z.0 z.1) link' qs' j new link'' ts u outside a.rest a.below.1)),
+      )
 
   module _ (w : Expansion) (is : frame_post f l x ≡ Ok w) (link' : ℕ → Option ℕ) (qs' : List Indexical) (joined : AreJoined f.link f.store w.ranges link' qs') (new : Substitution) (link'' : ℕ → Option ℕ) (ts : List Touch)
       (unified : IsUnified w.fresh link' (applied_each f.heap (equations w.equated)) new link'' ts) (outside : (c : ℕ) → w.fresh ≤ c → new c ≡ Var c) where

@@ -207,14 +207,14 @@ module _ (M : ℕ) (prog : Program) (q : Query) (n : ℕ) (k : Option ℕ) (f : 
           pub back_clause : HasModel M (f.store ++ posts ts) → Walks M prog q goals (unified_frame wide new link' ts) (by ds ∷ cs) n k es r
           back_clause model = back_first M prog q Choice (Waits M q) n k es r (by (c ∷ ds)) cs m (IsAt M q goals (unified_frame wide new link' ts)) (by ds)
               (by_kid (λ b. IsAt M q goals (unified_frame wide new link' ts) b × IsConsistent M b.equations b.posted) (λ b a rest s e w.
-                  let there = at_clause M q c w.0 t work f b a rest s e new link' ts u outside in
-                  (there, at_consistent M q goals (unified_frame wide new link' ts) (by_clause b a rest c) there model)))
+              let there = at_clause M q c w.0 t work f b a rest s e new link' ts u outside in
+              (there, at_consistent M q goals (unified_frame wide new link' ts) (by_clause b a rest c) there model)))
 
           -- it unifies, and the store fails
           pub back_failed_clause : ((T : Family) → IsModel M [] (f.store ++ posts ts) T → ⊥) → Back (by ds ∷ cs)
           back_failed_clause none = back_gone M prog q Choice (Waits M q) n k es r (by (c ∷ ds)) cs m (by ds)
               (by_kid (λ b. IsFit M b → IsConsistent M b.equations b.posted → ⊥) (λ b a rest s e w.
-                  gone_by M (by_clause b a rest c) (at_no_model M q goals (unified_frame wide new link' ts) (by_clause b a rest c) (at_clause M q c w.0 t work f b a rest s e new link' ts u outside) none)))
+              gone_by M (by_clause b a rest c) (at_no_model M q goals (unified_frame wide new link' ts) (by_clause b a rest c) (at_clause M q c w.0 t work f b a rest s e new link' ts u outside) none)))
 
   -- the other goals of `;`
   pub back_others : (work : List Goal) → HasModel M f.store → Back (record { left = others work; saved = f } ∷ cs) → Walks M prog q work f cs n k es r

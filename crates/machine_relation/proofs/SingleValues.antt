@@ -152,7 +152,7 @@ module _ (M : ℕ) (q : Query) (f : Frame) (G : Family) (most : (R : Family) →
   at_fixed work b s =
       let st = s.held.stored in
       let sole : (c k w : ℕ) → f.link c ≡ Some k → G k ≡ w ∷ [] → (T : Family) → IsModel M [] f.store T → T k ≡ w ∷ [] = λ c k w e g T m. (
-        let v = st.from c k e in sole_value M f.store G most k w (subst (λ j. has (constrained f.store) j ≡ true) v.3 (st.slots v.0 v.1)) g T m
+      let v = st.from c k e in sole_value M f.store G most k w (subst (λ j. has (constrained f.store) j ≡ true) v.3 (st.slots v.0 v.1)) g T m
       ) in
       let low : (c k : ℕ) → f.link c ≡ Some k → c < f.cells = λ c k e. (let v = st.from c k e in subst (Below f.cells) v.2 (st.heap.cells v.0 (st.used v.0 v.1))) in
       let none : (c : ℕ) → f.cells ≤ c → f.link c ≡ None = λ c l. no_link (f.link c) (λ k e. (let a = low c k e in omega (arith, a, l))) in

@@ -88,6 +88,6 @@ module _ (M : ℕ) (prog : Program) (q : Query) (f : Frame) (cs : List Choice) (
         let a = only_argument one.0 in
         let on_heap : apply (λ v. f.heap (m.here.place v)) a ≡ apply f.heap (only_argument l) = after_is f.heap (λ v. Var (m.here.place v)) a ∙ ap (apply f.heap) (sym (argument_renamed m.here.place one.0) ∙ ap only_argument (sym one.2)) in
         walk_same M prog q f cs es r runnable n k (Builtin Write l) work m (Wrote (frame_written f T (only_argument l)) ∷ []) (λ s D v. ap (λ g. offered M prog m.branch g t.rest s D) one.1) (λ s D v.
-            ap (says s D m.branch) one.1
-            ∙ ap (λ x. Wrote x ∷ []) (sym (written_same M f m.branch.equations m.branch.posted (λ x. x < m.branch.fresh) (λ x. f.heap (m.here.place x)) m.here.held T rest s D v m.consistent a (of_below m.branch.fresh a (argument_below m.branch.fresh one.0 below.0)))
-            ∙ ap (λ x. term_text Plain (cell_text f T (term x no_terms)) 1200 x) on_heap))
+        ap (says s D m.branch) one.1
+        ∙ ap (λ x. Wrote x ∷ []) (sym (written_same M f m.branch.equations m.branch.posted (λ x. x < m.branch.fresh) (λ x. f.heap (m.here.place x)) m.here.held T rest s D v m.consistent a (of_below m.branch.fresh a (argument_below m.branch.fresh one.0 below.0)))
+        ∙ ap (λ x. term_text Plain (cell_text f T (term x no_terms)) 1200 x) on_heap))

@@ -75,7 +75,9 @@ module _ (M : ℕ) (q : Query) (work : List Goal) (f : Frame) (b : Branch) (s : 
       goals = refl;
       scoped = scoped;
       placed = s.placed;
-      apart = s.apart; begun = s.begun; first = s.first;
+      apart = s.apart;
+      begun = s.begun;
+      first = s.first;
       held = held_unify M f b.equations b.posted (λ v. v < b.fresh) (λ v. f.heap (s.place v)) s.held ds below new link' ts (subst (λ es. IsUnified f.cells f.link es new link' ts) (sym (applied_renamed f.heap s.place ds)) u) outside;
     }
 

@@ -159,7 +159,7 @@ module _ (ns : List RangeNode) (old new : Reading) where
   -- An operator of two terms: what it asks comes from what its operands ask, and it is a literal where its node joins literals.
   ask_operator : (m : RangeNode) (make : Expr → Expr → Expr)
       → ((a b : Expr) (s t : OpenTerm) (mid now later : List (ℕ × Need)) → s.from ≡ length mid → now ≡ mid ++ (expr_asks a false ++ expr_asks b false) → s.literal ≡ is_literal a → t.literal ≡ is_literal b → t.parameter ≡ is_parameter b
-          → AsksOf m s t now later → later ≡ mid ++ expr_asks (make a b) false)
+      → AsksOf m s t now later → later ≡ mid ++ expr_asks (make a b) false)
       → ((a b : Expr) (k l : Bool) → k ≡ is_literal a → l ≡ is_literal b → (joins m && (k && l)) ≡ is_literal (make a b)) → ((a b : Expr) → false ≡ is_parameter (make a b))
       → (rs : List Range) (ts : List Expr) → IsAsking rs ts old → Operates m old new → FollowsAsking ns (built_behind ns (put (term_of_terms make) rs ts)) new
   ask_operator m make asked literal other rs [] i f = tt

@@ -37,7 +37,7 @@ laid_more as' all args args' more a l e f g h = subst (λ x. AreLaid all x × (l
         ];
       },
       map-append (laid (args ++ more)) as' (a ∷ []) ∙ ap (λ x. x ++ laid (args ++ more) a ∷ []) (laid_all_before args more as' l.within)
-      ∙ ap (λ x. laid_out as' args ++ record { range = a.code.value; target = a.target; args = x } ∷ []) own,
+          ∙ ap (λ x. laid_out as' args ++ record { range = a.code.value; target = a.target; args = x } ∷ []) own,
     ))
   where
     size : length (args ++ more) ≡ length args + length more

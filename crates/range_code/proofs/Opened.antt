@@ -36,9 +36,9 @@ any_kept : (p t : ℕ → Bool) (xs : List ℕ) → list_any t (filter p xs) ≡
 any_kept p t [] h = absurd (true≢false (sym h))
 any_kept p t (x ∷ xs) h = elim (cases_Bool (p x)) [
   | inl e ↦ elim (or_cases (t x) (list_any t (filter p xs)) (sym (ap (λ b. list_any t (cond b (x ∷ filter p xs) (filter p xs))) e) ∙ h)) [
-      | inl g ↦ (x, e, g)
-      | inr g ↦ any_kept p t xs g
-    ]
+    | inl g ↦ (x, e, g)
+    | inr g ↦ any_kept p t xs g
+  ]
   | inr e ↦ any_kept p t xs (sym (ap (λ b. list_any t (cond b (x ∷ filter p xs) (filter p xs))) e) ∙ h)
 ]
 

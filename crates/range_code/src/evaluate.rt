@@ -55,12 +55,7 @@ fn leaf<V: View>(node: RangeNode, args: &[Arg], view: &V) -> i128
 }
 
 /// Takes the operands of the node and puts its value or set in their place.
-fn take<V: View>(
-    work: &mut Work,
-    node: RangeNode,
-    args: &[Arg],
-    view: &V,
-) -> Result<(), NoMemory>
+fn take<V: View>(work: &mut Work, node: RangeNode, args: &[Arg], view: &V) -> Result<(), NoMemory>
     requires readable { IsReadable (length (V.sets view.now)) args.now node }
     requires fits { CanTake node work.old }
     requires room { HasRoom (node ∷ []) work.old }
@@ -78,14 +73,11 @@ fn take<V: View>(
             work.push_value(leaf(node, args, view));
             Ok(())
         }
-        RangeNode::Add
-        | RangeNode::Sub
-        | RangeNode::Mul
-        | RangeNode::DivDown
-        | RangeNode::DivUp => {
-            work.take_terms(node);
-            Ok(())
-        }
+        RangeNode::Add | RangeNode::Sub | RangeNode::Mul | RangeNode::DivDown | RangeNode::DivUp =>
+            {
+                work.take_terms(node);
+                Ok(())
+            }
         RangeNode::Span => work.take_span(),
         RangeNode::One => work.take_single(),
         RangeNode::Dom(slot) => work.push_domain(slot_domain(args, slot as usize, view)),
@@ -102,12 +94,7 @@ fn take<V: View>(
 }
 
 /// Takes all nodes but the last one.
-fn run<V: View>(
-    work: &mut Work,
-    steps: &Steps,
-    args: &[Arg],
-    view: &V,
-) -> Result<(), NoMemory>
+fn run<V: View>(work: &mut Work, steps: &Steps, args: &[Arg], view: &V) -> Result<(), NoMemory>
     requires spelled { IsSpelled (all_steps steps.now) }
     requires readable { All (IsReadable (length (V.sets view.now)) args.now) (all_steps steps.now) }
     requires fits { RangeFits (slot_set (V.sets view.now) args.now) (slot_integer args.now) (spelled (all_steps steps.now)) }

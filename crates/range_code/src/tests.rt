@@ -5,7 +5,8 @@ ghost use Rattle.fd_language.specs.Flat.{nodes_of};
 ghost use Rattle.range_code.specs.Frames.{IsArg, AreArgs, IsFrame};
 
 use crate::{
-    Activations, Arg, Narrowed, RangeCode, ReadKind, Stacks, are_some, compile_range, narrow, run_range,
+    Activations, Arg, Narrowed, RangeCode, ReadKind, Stacks, are_some, compile_range, narrow,
+    run_range,
 };
 use domain_ranges::{Domain, View};
 use fd_language::{Feature, FlatRange, INFINITY, Need, RangeNode};
@@ -148,7 +149,15 @@ fn narrowed(rt: HostRuntime) -> Result<(), Fail> {
     leaves(&rt, alloc, &above, &y, &[(3, 5)], (4, 9), &[(4, 9)])?;
     leaves(&rt, alloc, &above, &y, &[(9, 9)], (4, 9), &[])?;
     let differs = [Val(7), One, Outside];
-    leaves(&rt, alloc, &differs, &y, &[(4, 4)], (3, 6), &[(3, 3), (5, 6)])?;
+    leaves(
+        &rt,
+        alloc,
+        &differs,
+        &y,
+        &[(4, 4)],
+        (3, 6),
+        &[(3, 3), (5, 6)],
+    )?;
     leaves(&rt, alloc, &differs, &y, &[(4, 5)], (3, 6), &[(3, 6)])?;
     leaves(&rt, alloc, &differs, &y, &[(4, 4)], (4, 4), &[])?;
     Ok(())

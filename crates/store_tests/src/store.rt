@@ -79,12 +79,7 @@ fn post_one<A: Agenda + Drop>(
 }
 
 /// Compares the intervals of a variable's domain.
-fn check_spans<A: Agenda + Drop>(
-    rt: &impl Abort,
-    store: &Store<A>,
-    k: usize,
-    want: &[(u32, u32)],
-) {
+fn check_spans<A: Agenda + Drop>(rt: &impl Abort, store: &Store<A>, k: usize, want: &[(u32, u32)]) {
     let vars = store.vars();
     assert!(rt; k < vars);
     assert_eq!(rt; store.domain(k).spans(), want);

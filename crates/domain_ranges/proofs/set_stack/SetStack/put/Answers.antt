@@ -9,7 +9,7 @@ push_reserved-requires c = room_left c.self.inside.starts.items c.self.inside.sp
 pub invariant_of-self-2 : goal.invariant_of-self-2
 invariant_of-self-2 c = (
   push_starts c.self.inside.starts.items c.self.inside.spans.items c.args.spans.now c.push_reserved.new.self.items c.extend_from_slice.new.self.items
-  (c.push_reserved.ensures.items ∙ ap (λ k. c.self.inside.starts.items ++ k ∷ []) (c.len-from.ensures ∙ c.self.inside.spans.ok.0)) c.in_ok-extend_from_slice.ensures.items c.self.invariant.0,
+      (c.push_reserved.ensures.items ∙ ap (λ k. c.self.inside.starts.items ++ k ∷ []) (c.len-from.ensures ∙ c.self.inside.spans.ok.0)) c.in_ok-extend_from_slice.ensures.items c.self.invariant.0,
   intervals_all c.self.inside.spans.items c.args.spans.now c.extend_from_slice.new.self.items c.in_ok-extend_from_slice.ensures.items c.self.invariant.1 c.requires.spans,
 )
 
