@@ -13,5 +13,3 @@ pub use memory::{MemorySink, MemorySource};
 pub use ports::{Failed, MAX_TEXT, ReadTextFault, Sink, Source, WriteFault, read_text, write_all};
 pub use sure::{SureSink, SureSource};
 
-#[cfg(test)]
-mod tests;

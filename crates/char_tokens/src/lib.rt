@@ -10,8 +10,6 @@ mod front;
 mod number;
 mod quoted;
 mod scanner;
-#[cfg(test)]
-mod tests;
 mod token;
 
 pub use quoted::unquote;

@@ -5,64 +5,66 @@ use byte_ports::{
     Failed, MemorySink, MemorySource, ReadTextFault, ReaderSource, Sink, Source, SureSink,
     SureSource, WriteFault, WriterSink, read_text, write_all,
 };
+use std::alloc::Global;
 use std::io;
 use std::io::{ErrorKind, Read, Write};
 use std::test::Fail;
 
+/// The bytes that a source gives, or none where it fails.
+fn taken<S: Source>(alloc: Global, source: &mut S) -> Option<Vec<u8>> {
+    read_text(alloc, source).ok()
+}
+
+/// The fault of a source that is read.
+fn fault<S: Source>(alloc: Global, source: &mut S) -> Option<ReadTextFault> {
+    read_text(alloc, source).err()
+}
+
+/// Whether a piece is written whole.
+fn put<S: Sink>(sink: &mut S, piece: &str) -> bool {
+    write_all(sink, piece.as_bytes()).is_ok()
+}
+
 #[test]
 fn reads_a_text_from_each_source(rt: HostRuntime) -> Result<(), Fail> {
-    let bytes = b"?- X in 1..5.";
-    let text = vec![in rt.alloc(); b'a', b'b', b'c']?;
-
-    let mut reader = ReaderSource::new(&bytes[..]);
-    assert_eq!(rt; read_text(rt.alloc(), &mut reader)?.as_slice(), &bytes[..]);
-
+    let text = Vec::from_slice(rt.alloc(), b"?- X in 1..5.")?;
+    let mut reader = ReaderSource::new(text.as_slice());
+    let found = taken(rt.alloc(), &mut reader);
+    assert_eq!(rt; found.as_ref(), Some(&text));
     let mut sure = SureSource::new(text.clone()?);
-    assert_eq!(rt;
-        read_text(rt.alloc(), &mut sure)?.as_slice(),
-        text.as_slice()
-    );
-
+    let found = taken(rt.alloc(), &mut sure);
+    assert_eq!(rt; found.as_ref(), Some(&text));
     let mut memory = MemorySource::new(text.clone()?, vec![in rt.alloc(); 3]?);
-    assert_eq!(rt;
-        read_text(rt.alloc(), &mut memory)?.as_slice(),
-        text.as_slice()
-    );
-    assert_eq!(rt; memory.read(&mut [0; 1]), Err(Failed));
-    assert_eq!(rt; memory.read(&mut [0; 1]), Ok(0));
+    let found = taken(rt.alloc(), &mut memory);
+    assert_eq!(rt; found.as_ref(), Some(&text));
+    let next = (memory.read(&mut [0; 1]), memory.read(&mut [0; 1]));
+    assert_eq!(rt; next, (Err(Failed), Ok(0)));
     Ok(())
 }
 
 #[test]
 fn a_failed_first_read_is_a_read_fault(rt: HostRuntime) -> Result<(), Fail> {
     let mut memory = MemorySource::new(vec![in rt.alloc(); b'a']?, vec![in rt.alloc(); 1]?);
-    assert_eq!(rt;
-        read_text(rt.alloc(), &mut memory).err(),
-        Some(ReadTextFault::ReadFault)
-    );
-
+    let found = fault(rt.alloc(), &mut memory);
+    assert_eq!(rt; found, Some(ReadTextFault::ReadFault));
     let mut reader = ReaderSource::new(Broken);
-    assert_eq!(rt;
-        read_text(rt.alloc(), &mut reader).err(),
-        Some(ReadTextFault::ReadFault)
-    );
+    let found = fault(rt.alloc(), &mut reader);
+    assert_eq!(rt; found, Some(ReadTextFault::ReadFault));
     Ok(())
 }
 
 #[test]
 fn an_endless_source_is_too_large(rt: HostRuntime) {
-    assert_eq!(rt;
-        read_text(rt.alloc(), &mut Endless).err(),
-        Some(ReadTextFault::TooLarge)
-    );
+    let found = fault(rt.alloc(), &mut Endless);
+    assert_eq!(rt; found, Some(ReadTextFault::TooLarge));
 }
 
 #[test]
 fn writes_to_a_vector(rt: HostRuntime) -> Result<(), Fail> {
     let mut bytes = vec![in rt.alloc(); b'a']?;
     let mut writer = WriterSink::new(&mut bytes);
-    assert_eq!(rt; write_all(&mut writer, b"bcd"), Ok(()));
-    assert_eq!(rt; write_all(&mut writer, b"e"), Ok(()));
+    let written = (put(&mut writer, "bcd"), put(&mut writer, "e"));
+    assert_eq!(rt; written, (true, true));
     assert_eq!(rt; bytes.as_slice(), b"abcde".as_slice());
     Ok(())
 }
@@ -70,40 +72,37 @@ fn writes_to_a_vector(rt: HostRuntime) -> Result<(), Fail> {
 #[test]
 fn a_writer_that_takes_nothing_fails(rt: HostRuntime) {
     let mut full = WriterSink::new(Broken);
-    assert_eq!(rt; write_all(&mut full, b"a"), Err(WriteFault));
-    assert_eq!(rt; write_all(&mut full, b""), Ok(()));
+    let written = (put(&mut full, "a"), put(&mut full, ""));
+    assert_eq!(rt; written, (false, true));
 }
 
+/// Where the third call fails, and then the room is too small.
 #[test]
 fn a_failed_write_leaves_what_was_written(rt: HostRuntime) -> Result<(), Fail> {
     let mut sink = MemorySink::new(rt.alloc(), 6, vec![in rt.alloc(); 3]?)?;
-    assert_eq!(rt; write_all(&mut sink, b"abc"), Ok(()));
-    assert_eq!(rt; write_all(&mut sink, b"de"), Ok(()));
-    assert_eq!(rt;
-        write_all(&mut sink, b"f"),
-        Err(WriteFault),
-        "the third call"
-    );
-    assert_eq!(rt; sink.bytes(), b"abcde".as_slice());
-    assert_eq!(rt;
-        write_all(&mut sink, b"fg"),
-        Err(WriteFault),
-        "room for one"
-    );
-    assert_eq!(rt; write_all(&mut sink, b"f"), Ok(()));
-    assert_eq!(rt; sink.bytes(), b"abcdef".as_slice());
+    for (piece, whole, after) in [
+        ("abc", true, "abc"),
+        ("de", true, "abcde"),
+        ("f", false, "abcde"),
+        ("fg", false, "abcde"),
+        ("f", true, "abcdef"),
+    ] {
+        let written = put(&mut sink, piece);
+        assert_eq!(rt; written, whole, "{piece}");
+        assert_eq!(rt; sink.bytes(), after.as_bytes(), "{piece}");
+    }
     Ok(())
 }
 
 #[test]
 fn a_sure_sink_tells_nothing_past_its_room(rt: HostRuntime) -> Result<(), Fail> {
     let mut sink = SureSink::new(rt.alloc(), 3)?;
-    assert_eq!(rt; write_all(&mut sink, b"abc"), Ok(()));
-    assert_eq!(rt; sink.bytes(), Some(b"abc".as_slice()));
-    assert_eq!(rt; write_all(&mut sink, b"d"), Ok(()));
-    assert_eq!(rt; sink.bytes(), None);
-    assert_eq!(rt; write_all(&mut sink, b""), Ok(()));
-    assert_eq!(rt; sink.bytes(), None);
+    for (piece, after) in [("abc", Some("abc")), ("d", None), ("", None)] {
+        let written = put(&mut sink, piece);
+        assert!(rt; written, "{piece}");
+        let told = sink.bytes();
+        assert_eq!(rt; told, after.map(|text| text.as_bytes()), "{piece}");
+    }
     Ok(())
 }
 

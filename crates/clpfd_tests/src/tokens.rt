@@ -1,5 +1,5 @@
 //! Texts with their tokens or their fault, as the format states them.
-use char_tokens::{Kind, Scanner, TokenFault, tokens, unquote};
+use char_tokens::{Kind, Scanner, Token, TokenFault, tokens, unquote};
 use std::alloc::{AllocError, Global};
 use std::test::Fail;
 
@@ -139,6 +139,19 @@ const SPELLINGS: &[(&str, &str)] = &[
     ("'\\n\\t\\r\\\\\\'\\\"'", "\n\t\r\\'\""),
 ];
 
+/// A token as its kind's letter, its place, and an integer's value.
+fn head(alloc: Global, token: &Token<'_>) -> Result<String, AllocError> {
+    let place = token.place;
+    match token.kind {
+        Kind::Word => format!(in alloc; "W@{place}"),
+        Kind::Quoted => format!(in alloc; "Q@{place}"),
+        Kind::Variable => format!(in alloc; "V@{place}"),
+        Kind::Integer(value) => format!(in alloc; "I@{place}={value}"),
+        Kind::Punct => format!(in alloc; "P@{place}"),
+        Kind::Stop => format!(in alloc; "S@{place}"),
+    }
+}
+
 fn shown(alloc: Global, text: &str) -> Result<String, AllocError> {
     let list = match tokens(alloc, text) {
         Ok(list) => list,
@@ -150,18 +163,9 @@ fn shown(alloc: Global, text: &str) -> Result<String, AllocError> {
         if !out.is_empty() {
             out.push(' ')?;
         }
-        out.push_str(if token.tight { "" } else { "_" })?;
-        let head = match token.kind {
-            Kind::Word => format!(in alloc; "W@{}", token.place)?,
-            Kind::Quoted => format!(in alloc; "Q@{}", token.place)?,
-            Kind::Variable => format!(in alloc; "V@{}", token.place)?,
-            Kind::Integer(value) => format!(in alloc; "I@{}={value}", token.place)?,
-            Kind::Punct => format!(in alloc; "P@{}", token.place)?,
-            Kind::Stop => format!(in alloc; "S@{}", token.place)?,
-        };
-        out.push_str(&head)?;
-        out.push(':')?;
-        out.push_str(token.text)?;
+        let tight = if token.tight { "" } else { "_" };
+        let head = head(alloc, token)?;
+        out.push_str(&format!(in alloc; "{tight}{head}:{}", token.text)?)?;
     }
     Ok(out)
 }

@@ -1,12 +1,8 @@
 //! Ranges with their verdicts, as the rules of the check give them.
 
-ghost use Rattle.std.specs.Prelude.{◌≡◌, length};
-ghost use Rattle.fd_language.specs.Flat.{nodes_of};
-
 use fd_language::{FlatRange, Need, RangeNode};
 use monotone_check::{CheckFault, check, needs};
 use std::alloc::Global;
-use std::process::Abort;
 use std::test::Fail;
 
 fn node_of(kind: &str, number: i64) -> Option<RangeNode> {
@@ -45,10 +41,29 @@ fn node_at(token: &str) -> Option<(RangeNode, usize)> {
     Some((node, place.parse().ok()?))
 }
 
-fn verdict_of(alloc: Global, range: FlatRange, places: &[usize]) -> Result<String, Fail>
-    requires { length places.now ≡ length (nodes_of range) }
-{
-    Ok(match check(alloc, range, places) {
+/// The range that the tokens spell, and the places of its nodes.
+fn spelled(alloc: Global, spelling: &str) -> Result<(FlatRange, Vec<usize>), Fail> {
+    let mut nodes = Vec::new(alloc);
+    let mut places = Vec::new(alloc);
+    for token in spelling.split(' ') {
+        let Some((node, place)) = node_at(token) else {
+            return Err(Fail::new("no node"));
+        };
+        nodes.push(node)?;
+        places.push(place)?;
+    }
+    match FlatRange::from_nodes(nodes) {
+        Some(range) => Ok((range, places)),
+        None => Err(Fail::new("no range")),
+    }
+}
+
+fn verdict_of(alloc: Global, spelling: &str) -> Result<String, Fail> {
+    let (range, places) = spelled(alloc, spelling)?;
+    if places.len() != range.nodes().len() {
+        return Err(Fail::new("no place for each node"));
+    }
+    Ok(match check(alloc, range, &places) {
         Ok(_) => String::from_str(alloc, "accepted")?,
         Err(CheckFault::NotMonotone { place }) => format!(in alloc; "not monotone {place}")?,
         Err(CheckFault::NotNatural { place }) => format!(in alloc; "not natural {place}")?,
@@ -56,21 +71,6 @@ fn verdict_of(alloc: Global, range: FlatRange, places: &[usize]) -> Result<Strin
         Err(CheckFault::TooWide { place }) => format!(in alloc; "too wide {place}")?,
         Err(CheckFault::NoMemory) => String::from_str(alloc, "out of memory")?,
     })
-}
-
-fn holds(rt: &impl Abort, alloc: Global, spelling: &str, verdict: &str) -> Result<(), Fail> {
-    let mut nodes = Vec::new(alloc);
-    let mut places = Vec::new(alloc);
-    for token in spelling.split(' ') {
-        let (node, place) = node_at(token).expect(rt, token);
-        nodes.push(node)?;
-        places.push(place)?;
-    }
-    let range = FlatRange::from_nodes(nodes).expect(rt, spelling);
-    assert_eq!(rt; places.len(), range.nodes().len());
-    let found = verdict_of(alloc, range, &places)?;
-    assert_eq!(rt; found.as_str(), verdict, "{spelling}");
-    Ok(())
 }
 
 /// A range's text, its nodes in postfix order with their places, and what the check says of it.
@@ -160,7 +160,8 @@ fn verdicts(rt: HostRuntime) -> Result<(), Fail> {
     for line in ROWS.lines() {
         let (_, rest) = line.split_once(" | ").expect(&rt, line);
         let (spelling, verdict) = rest.split_once(" | ").expect(&rt, line);
-        holds(&rt, rt.alloc(), spelling, verdict)?;
+        let found = verdict_of(rt.alloc(), spelling)?;
+        assert_eq!(rt; found.as_str(), verdict, "{spelling}");
     }
     Ok(())
 }

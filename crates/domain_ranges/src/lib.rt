@@ -328,5 +328,3 @@ fn factor(c: i128) -> u32
     }
 }
 
-#[cfg(test)]
-mod tests;

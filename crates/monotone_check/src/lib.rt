@@ -141,5 +141,3 @@ pub fn needs(alloc: Global, checked: &Checked) -> Result<Vec<(u64, Need)>, NoMem
     gather(alloc, &asking.places)
 }
 
-#[cfg(test)]
-mod tests;

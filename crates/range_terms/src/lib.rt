@@ -58,6 +58,3 @@ pub fn read_range(alloc: Global, pool: &Pool, t: TermId) -> Result<SourceRange, 
     let range = FlatRange::from_nodes(nodes).unwrap();
     Ok(SourceRange { range, places })
 }
-
-#[cfg(test)]
-mod tests;

@@ -10,8 +10,6 @@ pub mod laws;
 mod parser;
 mod reader;
 mod terminals;
-#[cfg(test)]
-mod tests;
 mod variables;
 
 use crate::reader::read_text;

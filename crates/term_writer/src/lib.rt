@@ -11,8 +11,6 @@ pub mod laws;
 mod names;
 mod pieces;
 mod terms;
-#[cfg(test)]
-mod tests;
 
 use fd_language::NoMemory;
 use std::alloc::Global;
