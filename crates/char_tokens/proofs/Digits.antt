@@ -41,9 +41,6 @@ SoFarBy base (Some v) cs ds = (v ≤ greatest) × (value base v cs ≡ value bas
 pub record SoFar (base : ℕ) (o : Option ℕ) (cs ds : List ℕ) : Type 0 where
   pub by : SoFarBy base o cs ds
 
-pub so_far_start : (base : ℕ) (cs : List ℕ) → SoFar base (Some 0) cs cs
-so_far_start base cs = record { by = (omega arith, refl) }
-
 pub so_far_small : (base : ℕ) (o : Option ℕ) (cs ds : List ℕ) → SoFar base o cs ds → IfSome o (λ v. v ≤ greatest)
 so_far_small base None cs ds h = tt
 so_far_small base (Some v) cs ds h = h.by.0
@@ -64,12 +61,6 @@ so_far_end base (Some v) cs ds e s =
     let same : v ≡ value base 0 ds = sym (e v) ∙ s.by.1 in
     let fits : nat_le v greatest ≡ true = le-leb v greatest s.by.0 in
     sym (ap (λ (b : Bool). cond b (Some v) None) fits) ∙ ap integer_of same
-
-pub value_ends : (base : ℕ) (bs rest : List ℕ) (c : ℕ) → IsUtf8 bs → bs ≡ encode_utf8 c ++ rest → is_digit_of base c ≡ false → (n : ℕ) → value base n (chars bs) ≡ n
-value_ends base bs rest c u e h n = ap (λ (cs : List ℕ). value base n cs) (chars_past_char bs rest c u e) ∙ rw h refl
-
-pub value_none : (base : ℕ) (bs : List ℕ) → bs ≡ [] → (n : ℕ) → value base n (chars bs) ≡ n
-value_none base bs e n = ap (λ (l : List ℕ). value base n (chars l)) e ∙ ap (λ (cs : List ℕ). value base n cs) chars-nil
 
 pub decimal_float : (c : ℕ) (cs : List ℕ) → has_fraction (past_run (is_digit_of 10) cs) ≡ true → decimal_front c cs ≡ Offends FloatOut 0
 decimal_float c cs h = rw h refl

@@ -1,4 +1,5 @@
-pub mod Runs
-pub mod Digits
-pub mod Quoting
-pub mod Reading
+mod Runs
+mod Digits
+mod Quoting
+mod NextTokens
+pub mod Lemmas

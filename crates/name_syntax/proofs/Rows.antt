@@ -1,4 +1,4 @@
--- The rows of the table, found by bisection. Lemmas that others may cite: `named_infix`, `named_prefix`.
+-- The rows of the table, found by bisection.
 use Rattle.std.proofs.Common.{◌≡◌, ◌∙◌, sym, ap, subst, ℕ, zero, suc, ◌<◌, ◌≤◌, List, [], ◌∷◌, length, get_or, Option, Some, None, Bool, true, false, cond, refl, arith, add-one, Ordering, Less, Equal, Greater, Err}
 use Rattle.std.specs.Prelude.{find, map, option_map, is_some, ◌||◌}
 use Rattle.std.specs.Cmp.Lexicographic.{slice_cmp}
@@ -111,13 +111,3 @@ module _ (rs : List Row) (are : AreRows rs) (name : Name) where
     pub absent_prefix : None ≡ prefix_of name
     unfolding prefix_of
     absent_prefix = sym (absent prefix_operators are.all_before)
-
--- ---- whether a name is an operator's
-
-some_map : {X Y : Type 0} (f : X → Y) (o : Option X) → is_some (option_map f o) ≡ is_some o
-some_map f None = refl
-some_map f (Some x) = refl
-
-pub roles_tell : (name : Name) (f g : Option Operator) → option_map (operator_of name) f ≡ infix_of name → option_map (operator_of name) g ≡ prefix_of name → (is_some f || is_some g) ≡ is_operator name
-unfolding is_operator
-roles_tell name f g h k = rw (← h, ← k, some_map (operator_of name) f, some_map (operator_of name) g) refl

@@ -1,5 +1,6 @@
 pub mod Names
 pub mod Laws
 pub mod Walks
-pub mod Kept
+mod Growth
 pub mod PlacedShapes
+pub mod Lemmas

@@ -1,18 +1,19 @@
-pub mod Sound
-pub mod Complete
-pub mod PlacedLaws
-pub mod Stacks
-pub mod Moves
-pub mod Lists
-pub mod Enclosed
-pub mod Closings
-pub mod Operands
+mod Sound
+mod Complete
+mod PlacedLaws
+mod Stacks
+mod Moves
+mod Lists
+mod Brackets
+mod Closings
+mod Operands
 pub mod Naming
-pub mod Seen
-pub mod Readers
-pub mod Texts
-pub mod Naturals
-pub mod Verdicts
+mod GrammarTokens
+mod Readers
+mod Texts
+mod Naturals
+mod Verdicts
 pub mod Readable
 pub mod Plain
-pub mod Named
+mod Named
+pub mod Lemmas

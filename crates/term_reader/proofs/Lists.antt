@@ -9,7 +9,7 @@ use Rattle.term_pool.specs.declared.TheConstants.{CONS}
 use Rattle.term_pool.specs.Contents.{Contents, atom_name}
 use Rattle.term_pool.specs.Terms.{Extends}
 use Rattle.term_pool.specs.Valid.{IsPool}
-use Rattle.term_pool.proofs.Laws.{extends_refl, extends_trans}
+use Rattle.term_pool.proofs.Lemmas.{extends_refl, extends_trans}
 use Rattle.term_pool.specs.PlacedTerms.{placed_of}
 use Rattle.term_reader.specs.PlacedTerms.{parts_of, Adds}
 use Rattle.term_reader.specs.View.{AreTerms}
@@ -28,15 +28,6 @@ pub record ListSoFar (c d : Contents) (elements : List TermId) (place count : �
   pub grows : Extends c d
   pub valid : IsPool d
   pub stands : term.number < length d.entries
-
-pub list_begins : (c : Contents) (elements : List TermId) (place : ℕ) (last : TermId) → IsPool c → last.number < length c.entries → ListSoFar c c elements place (length elements) last last
-list_begins c elements place last v h = record {
-  within = omega arith;
-  same = ap (λ (ts : List TermId). list_of place (parts_of c ts) (placed_of c last)) (take_all (length elements) elements (omega arith));
-  grows = extends_refl c;
-  valid = v;
-  stands = h;
-}
 
 pub list_ends : (c d : Contents) (elements : List TermId) (place count : ℕ) (last term : TermId) → ListSoFar c d elements place count last term → count ≡ 0 → Adds c d (list_of place (parts_of c elements) (placed_of c last)) term
 list_ends c d elements place count last term k e = record {

@@ -3,7 +3,7 @@ use Rattle.std.proofs.Common.{◌≡◌, ◌≢◌, ℕ, ◌+◌, ◌<◌, ◌�
 use Rattle.std.specs.Prelude.{slice_get, Result, Ok, Err, IfOk, OnOk, ◌==◌, All, codes, not, ◌||◌}
 use Rattle.std.specs.List.{position_or_len, list_any}
 use Rattle.std.specs.Str.{bytes_eq}
-use Rattle.std.proofs.lemmas.Bool.{ne_eqb, eq-eqb}
+use Rattle.std.proofs.lemmas.Bool.{ne_eqb, eq-eqb, false_from_ne_true}
 use Rattle.std.proofs.lemmas.Bool.Decides.{eqb_tells}
 use Rattle.std.proofs.lemmas.List.{get_or-set_same, get_or-set_other, length-set, map-append, length-map}
 use Rattle.std.proofs.lemmas.List.Sums.{position_or_len_is}
@@ -16,7 +16,7 @@ use Rattle.fd_language.specs.Reading.{is_anonymous, variable_number, with_variab
 use Rattle.term_pool.specs.declared.AtomId.{AtomId}
 use Rattle.term_pool.specs.Contents.{Contents, atom_name}
 use Rattle.term_pool.specs.Valid.{IsPool}
-use Rattle.term_pool.proofs.Names.{same_text, slice_get-append, pushed_at}
+use Rattle.term_pool.proofs.Lemmas.{slice_get-append, pushed_at}
 use Rattle.term_reader.specs.Numbering.{IsIndexed, id_number, with_id}
 
 abbrev of_number : ℕ → AtomId
@@ -108,17 +108,13 @@ names_absent an names numbers name h n none =
 
 -- ---- by names
 
-either_test : (b : Bool) → (b ≡ true → ⊥) → b ≡ false
-either_test true h = absurd (h refl)
-either_test false h = refl
-
 -- two atoms of a pool have one name where they are one
 same_test : (c : Contents) → IsPool c → (a b : AtomId) → a.number < length c.names → b.number < length c.names → bytes_eq (atom_name c a) (atom_name c b) ≡ (a.number == b.number)
 same_test c p a b ha hb = go (eqb_tells a.number b.number)
   where
     go : ((a.number == b.number) ≡ true × (a.number ≡ b.number)) ⊎ ((a.number == b.number) ≡ false × (a.number ≢ b.number)) → bytes_eq (atom_name c a) (atom_name c b) ≡ (a.number == b.number)
     go (inl w) = ap (λ (x : AtomId). bytes_eq (atom_name c a) (atom_name c x)) (sym (same_id a b w.1)) ∙ (bytes_eq-Decides (atom_name c a) (atom_name c a)).1 refl ∙ sym w.0
-    go (inr w) = either_test (bytes_eq (atom_name c a) (atom_name c b)) (λ e. w.1 (ap (λ (x : AtomId). x.number) (p.distinct a b ha hb (same_text (atom_name c a) (atom_name c b) e)))) ∙ sym w.0
+    go (inr w) = false_from_ne_true (bytes_eq (atom_name c a) (atom_name c b)) (λ e. w.1 (ap (λ (x : AtomId). x.number) (p.distinct a b ha hb ((bytes_eq-Decides (atom_name c a) (atom_name c b)).0 e)))) ∙ sym w.0
 
 position_map : {X : Type 0} (f : X → Name) (p : Name → Bool) (q : X → Bool) (xs : List X) → All (λ x. p (f x) ≡ q x) xs → position_or_len p (map f xs) ≡ position_or_len q xs
 position_map f p q [] h = refl
@@ -167,7 +163,3 @@ names_named c p an a ids hn ha h is =
 pub if_number : {E : Type 0} (r : Result ℕ E) (n m : ℕ) → n ≡ m → IfOk r (λ k. k ≡ n) → IfOk r (λ k. k ≡ m)
 if_number (Ok k) n m e h = h ∙ e
 if_number (Err f) n m e h = tt
-
-pub on_names : {A E X : Type 0} (r : Result A E) (xs ys zs : List X) → ys ≡ zs → OnOk r (xs ≡ ys) → OnOk r (xs ≡ zs)
-on_names (Ok k) xs ys zs e h = h ∙ e
-on_names (Err f) xs ys zs e h = tt

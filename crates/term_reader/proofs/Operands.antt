@@ -19,7 +19,7 @@ use Rattle.term_pool.specs.declared.TheConstants.{NIL}
 use Rattle.term_pool.specs.Contents.{Contents, atom_name}
 use Rattle.term_pool.specs.Terms.{Extends}
 use Rattle.term_pool.specs.Valid.{IsPool}
-use Rattle.term_pool.proofs.Laws.{name_kept, extends_refl, extends_trans}
+use Rattle.term_pool.proofs.Lemmas.{name_kept, extends_refl, extends_trans}
 use Rattle.name_syntax.specs.declared.operators.Operator.{Operator}
 use Rattle.name_syntax.specs.declared.operators.Roles.{Roles}
 use Rattle.name_syntax.specs.Operators.{operator_of, nameless}
@@ -342,12 +342,6 @@ lone_is r p x (Some y) e done =
 operator_step : (at : ℕ) (n : Name) (s : Stack) (x : terminals.Terminal) (b1 b2 b3 : Bool) → is_tight_open x ≡ b1 → is_negated n x ≡ b2 → lone s x ≡ b3
     → step (at_operator at n s) x ≡ cond b1 (Some (want (args at n no_parts s))) (cond b2 (Some (after None s (int (neg_ℤ (number_of x)) at))) (cond b3 (closed s (atom n at) x) (begun at n (prefix_of n) s x)))
 operator_step at n s x b1 b2 b3 e1 e2 e3 = rw (e1, e2, e3) refl
-
-pub moves_operator_call : (r r2 : Parser) (at place : ℕ) (a : AtomId) (x : Terminal) → is_tight_open (terminal_at r.pool place x) ≡ true
-    → Moves r.pool (λ done. Some (want (args at (atom_name r.pool a) no_parts (stack r done)))) r2 true → Moves r.pool (λ done. step (at_operator at (atom_name r.pool a) (stack r done)) (terminal_at r.pool place x)) r2 true
-moves_operator_call r r2 at place a x e m =
-    moves_from r.pool r.pool (λ done. Some (want (args at (atom_name r.pool a) no_parts (stack r done)))) (λ done. step (at_operator at (atom_name r.pool a) (stack r done)) (terminal_at r.pool place x)) r2 true (extends_refl r.pool)
-    (λ done. operator_step at (atom_name r.pool a) (stack r done) (terminal_at r.pool place x) true _ _ e refl refl) m
 
 pub moves_negative : (r r2 : Parser) (at place : ℕ) (a : AtomId) (x : Terminal) (v : ℤ) (t : TermId) → IsWhole r → is_tight_open (terminal_at r.pool place x) ≡ false → IsNegative (is_negated (atom_name r.pool a) (terminal_at r.pool place x)) (number_of (terminal_at r.pool place x)) (Some v)
     → Adds r.pool r2.pool (int v at) t → r2.arguments ≡ r.arguments → r2.items ≡ r.items → r2.expecting ≡ expect.BehindOperand t

@@ -15,7 +15,7 @@ use Rattle.term_pool.specs.declared.TermId.{TermId}
 use Rattle.term_pool.specs.Contents.{Contents, atom_name}
 use Rattle.term_pool.specs.Terms.{Extends}
 use Rattle.term_pool.specs.Valid.{IsPool}
-use Rattle.term_pool.proofs.Laws.{extends_trans}
+use Rattle.term_pool.proofs.Lemmas.{extends_trans}
 use Rattle.term_reader.specs.declared.parser.Terminal.{Terminal}
 use Rattle.term_reader.specs.declared.parser.Parser.{Parser}
 use Rattle.term_reader.specs.declared.variables.Variables.{Variables}
@@ -24,13 +24,13 @@ use Rattle.term_reader.specs.declared.reader.Reader.{Reader}
 use Rattle.term_pool.specs.PlacedTerms.{placed_of}
 use Rattle.term_reader.specs.View.{IsWhole, Moves, moved, state, terminal_at, HasEnded}
 use Rattle.term_reader.specs.Numbering.{IsIndexed}
-use Rattle.term_reader.specs.Seeing.{AreVariables, names_of, names_on, Sees}
+use Rattle.term_reader.specs.GrammarTokens.{AreVariables, names_of, names_on, Sees}
 use Rattle.term_reader.specs.Sentences.{sentence_of, IsSentence, IsReader, names_after, read_of, done_of, HasRead, IsStop, Took}
 use Rattle.term_reader.proofs.PlacedLaws.{placed_kept, extends_length}
 use Rattle.term_reader.proofs.Complete.{run-append}
 use Rattle.term_reader.proofs.Closings.{no_stop}
 use Rattle.term_reader.proofs.Operands.{whole_grown, state_grown}
-use Rattle.term_reader.proofs.Seen.{ids_more, names_kept, variables_more}
+use Rattle.term_reader.proofs.GrammarTokens.{ids_more, names_kept, variables_more}
 
 abbrev pub start : State
 start = want (top [])

@@ -22,7 +22,7 @@ all_args : {ts us rest : List Terminal} {xs ys : PlacedTerms} → SoFar ts xs us
 all_args nothing d = d
 all_args {ts = ts} {rest = rest} {ys = ys} (another {xs = xs} {t = t} so a) d = subst (λ (zs : PlacedTerms). Args ts rest zs) (sym (append-with_last xs ys t)) (all_args so (more a d))
 
--- the name or at_operator word of a call stands here
+-- the name or operator word of a call stands here
 pub data Calls : List Terminal → ℕ → Name → List Terminal → Type 0 where
   by_name : {p p2 : ℕ} {a : Name} {rest : List Terminal} → Calls (name p a ∷ opens p2 true ∷ rest) p a rest
   by_operator : {p p2 : ℕ} {a : Name} {rest : List Terminal} → Calls (operator_word p a ∷ opens p2 true ∷ rest) p a rest
@@ -148,7 +148,7 @@ closed_sound ts x rest {us = us} {q = q} {t = t} (at_curly {s = s} {p = p} b) r 
 closed_sound ts x rest (at_prefix f e m le b) r h = tt
 closed_sound ts x rest (at_infix y f e le b r1 h1) r h = tt
 
--- an at_operator word alone
+-- an operator word alone
 lone_sound : (ts : List Terminal) (p : ℕ) (o : Name) (x : Terminal) (rest : List Terminal) {s : Stack} {us : List Terminal} → Begun ts s us → us ≡ operator_word p o ∷ x ∷ rest → lone s x ≡ true → IfHolds ts rest (closed s (atom o p) x)
 lone_sound ts p o x rest (at_top d) e h = absurd cc
 lone_sound ts p o x rest {us = us} (at_paren {s = s} {p = p2} {b = b2} b) e h =

@@ -11,7 +11,7 @@ use Rattle.term_pool.specs.declared.TermId.{TermId}
 use Rattle.term_pool.specs.Contents.{Contents, atom_name}
 use Rattle.term_pool.specs.Terms.{Extends}
 use Rattle.term_pool.specs.Valid.{IsPool}
-use Rattle.term_pool.proofs.Laws.{name_kept, extends_refl, extends_trans}
+use Rattle.term_pool.proofs.Lemmas.{name_kept, extends_refl, extends_trans}
 use Rattle.term_pool.specs.declared.AtomId.{AtomId}
 use Rattle.name_syntax.specs.declared.operators.Operator.{Operator}
 use Rattle.name_syntax.specs.Operators.{operator_of, nameless}
@@ -175,9 +175,6 @@ infix_ids c xs p n f l e ids = let inner : HaveIds c (Infix p n f l ∷ reverse 
 
 pub steps_as : {below : Option ℕ} {c d : Contents} {xs ys zs : List Item} {q p : ℕ} {s t : TermId} → Steps below c d xs ys q p s t → zs ≡ ys → Steps below c d xs zs q p s t
 steps_as {below = below} {c = c} {d = d} {xs = xs} {q = q} {p = p} {s = s} {t = t} h e = subst (λ (vs : List Item). Steps below c d xs vs q p s t) (sym e) h
-
-pub steps_none : (below : Option ℕ) (c : Contents) (xs : List Item) (q : ℕ) (s : TermId) → IsPool c → HaveIds c (reverse xs) → s.number < length c.entries → Steps below c c xs xs q q s s
-steps_none below c xs q s v ids h = record { same = λ ts terms done. refl; grows = extends_refl c; valid = v; ids = ids; room = λ ts room. room; operand = h }
 
 pub steps_then : {below : Option ℕ} {c d e : Contents} {x y z : List Item} {q p r : ℕ} {s t u : TermId} → Steps below c d x y q p s t → Steps below d e y z p r t u → Steps below c e x z q r s u
 steps_then {c = c} {d = d} {e = e} h k = record {

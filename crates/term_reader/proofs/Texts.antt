@@ -18,7 +18,7 @@ use Rattle.char_tokens.specs.declared.token.TokenFault.TheVariants as faults
 use Rattle.char_tokens.specs.Views.{cause_of}
 use Rattle.char_tokens.specs.Left.{Left}
 use Rattle.char_tokens.specs.Scanning.{IsNext, Refuses, IsFirstFault, AreTokens}
-use Rattle.char_tokens.proofs.Reading.{Completes, completes_all, completes_more, next_tokens, next_fault, fault_first}
+use Rattle.char_tokens.proofs.Lemmas.{Completes, completes_all, completes_more, next_tokens, next_fault, fault_first}
 use Rattle.term_pool.specs.Contents.{Contents}
 use Rattle.term_pool.specs.Valid.{IsPool}
 use Rattle.term_reader.specs.declared.reader.Reader.{Reader}
@@ -169,9 +169,6 @@ pub record ReadUpTo (text : List ℕ) (left : Left) (depth : ℕ) (r : Reader) :
   pub seen : List Lexeme
   pub completes : Completes text left seen
   pub all : ReadAll seen depth r
-
-pub up_to_none : (text : List ℕ) (left : Left) (r : Reader) → left ≡ record { bytes = text; place = 0 } → IsReader r → HasRead [] r → ReadUpTo text left 0 r
-up_to_none text left r e w h = record { seen = []; completes = completes_all text left [] e refl; all = read_none r w h }
 
 pub depth_within : (text : List ℕ) (left : Left) (depth : ℕ) (r : Reader) → ReadUpTo text left depth r → depth ≤ deepest
 depth_within text left depth r k = let h = k.all.shallow (length k.seen) (omega arith) in omega (arith, h, k.all.brackets_open, ap (brackets 0) (take_all (length k.seen) (terminals [] k.seen) (omega (arith, length-terminals [] k.seen))))

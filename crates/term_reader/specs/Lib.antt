@@ -1,7 +1,7 @@
 pub mod PlacedTerms
 pub mod View
 pub mod Numbering
-pub mod Seeing
+pub mod GrammarTokens
 pub mod Sentences
 pub mod Named
 pub mod Laws

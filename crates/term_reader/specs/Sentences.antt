@@ -13,7 +13,7 @@ use Rattle.term_pool.specs.Contents.{Contents, atom_name}
 use Rattle.term_pool.specs.Valid.{IsPool}
 use Rattle.term_pool.specs.PlacedTerms.{placed_of}
 use Rattle.term_reader.specs.View.{IsWhole, state}
-use Rattle.term_reader.specs.Seeing.{AreVariables, names_of}
+use Rattle.term_reader.specs.GrammarTokens.{AreVariables, names_of}
 use Rattle.term_reader.specs.declared.reader.Sentence.{Sentence}
 use Rattle.term_reader.specs.declared.reader.Sentences.{Sentences}
 use Rattle.term_reader.specs.declared.reader.ReaderFault.{ReaderFault}

@@ -24,7 +24,7 @@ use term_pool::{AtomId, CONS, NIL, Node, Pool, TermId};
 
 /// A token as the grammar sees it. Stop isn't among them.
 #[derive(Clone, Copy, Debug)]
-pub enum Terminal {
+pub(crate) enum Terminal {
     /// A word that is no operator, or what a quoted atom spells.
     Name(AtomId),
     /// A word that is an operator, with what it is as one.
@@ -45,7 +45,7 @@ pub enum Terminal {
 ///
 /// Places are in bytes. A bracket of arguments keeps how many arguments of the brackets around it stand before its own.
 #[derive(Clone, Copy, Debug)]
-pub enum Item {
+pub(crate) enum Item {
     Parenthesis,
     Curly {
         place: usize,
@@ -79,7 +79,7 @@ pub enum Item {
 
 /// What may come next.
 #[derive(Clone, Copy, Debug)]
-pub enum Expecting {
+pub(crate) enum Expecting {
     Operand,
     BehindOpenList {
         place: usize,
@@ -135,8 +135,8 @@ enum Closing {
 
 /// What is read of a sentence.
 #[derive(Drop)]
-pub struct Parser {
-    pub pool: Pool,
+pub(crate) struct Parser {
+    pub(crate) pool: Pool,
     items: Vec<Item>,
     arguments: Vec<TermId>,
     expecting: Expecting,
@@ -485,7 +485,7 @@ fn add_list(
 
 impl Parser {
     /// A parser that has read nothing.
-    pub fn new(alloc: Global) -> Result<Parser, NoMemory>
+    pub(crate) fn new(alloc: Global) -> Result<Parser, NoMemory>
         ensures whole { IfOk result IsWhole }
         ensures begins { IfOk result (λ r. (done : List PlacedTerm) → state r done ≡ Machine.want (Machine.top done)) }
     {
@@ -498,7 +498,7 @@ impl Parser {
     }
 
     /// The pool of the terms.
-    pub fn into_pool(self) -> Pool
+    pub(crate) fn into_pool(self) -> Pool
         ensures { result ≡ self.pool }
     {
         self.pool
@@ -883,7 +883,7 @@ impl Parser {
     }
 
     /// Reads the token at the place; false where it can't stand there.
-    pub fn step(&mut self, token: Terminal, place: usize) -> Result<bool, NoMemory>
+    pub(crate) fn step(&mut self, token: Terminal, place: usize) -> Result<bool, NoMemory>
         requires whole { IsWhole self.old }
         requires token { IsTerminal self.old.pool token }
         ensures { IfOk result (Moves self.old.pool (λ done. Machine.step (state self.old done) (terminal_at self.old.pool place token)) self.new) }
@@ -925,7 +925,7 @@ impl Parser {
     }
 
     /// Reads the stop behind a sentence, and gives the sentence's term; `None` where it can't stand there.
-    pub fn stop(&mut self) -> Result<Option<TermId>, NoMemory>
+    pub(crate) fn stop(&mut self) -> Result<Option<TermId>, NoMemory>
         requires { IsWhole self.old }
         ensures { IfOk result (EndsWith self.old self.new) }
     {
@@ -943,7 +943,7 @@ impl Parser {
     }
 
     /// Whether nothing is begun.
-    pub fn is_between(&self) -> bool
+    pub(crate) fn is_between(&self) -> bool
         ensures between { IsTrue result → (done : List PlacedTerm) → state self.now done ≡ Machine.want (Machine.top done) }
         ensures begun { IsFalse result → (done terms : List PlacedTerm) → state self.now done ≡ Machine.want (Machine.top terms) → ⊥ }
     {

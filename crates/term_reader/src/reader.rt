@@ -7,7 +7,7 @@ ghost use Rattle.fd_language.specs.GrammarFaults.{open_behind, deepest};
 ghost use Rattle.fd_language.specs.Term.{Name};
 ghost use Rattle.char_tokens.specs.Views.{lexeme_of};
 ghost use Rattle.term_reader.specs.declared.reader.ReaderFault.TheVariants.{NoMemory};
-ghost use Rattle.term_reader.specs.Seeing.{HasNatural};
+ghost use Rattle.term_reader.specs.GrammarTokens.{HasNatural};
 ghost use Rattle.term_reader.specs.Sentences.{HasRead, IsReader, IsStop, Took, AreOwn, IsFaultOf, fault_of, sentences_of};
 
 use crate::parser::Parser;
@@ -138,7 +138,7 @@ impl Reader {
 }
 
 /// The sentences of a text, or its first fault. A fault of the tokens comes before those of the grammar, so behind one of these the tokens are read to the end.
-pub fn read_text(alloc: Global, text: &str) -> Result<Sentences, ReaderFault>
+pub(crate) fn read_text(alloc: Global, text: &str) -> Result<Sentences, ReaderFault>
     ensures found { IfOk result (λ s. IsSentences text.now (sentences_of s)) }
     ensures own { IfOk result AreOwn }
     ensures fault { IfErr result (IsFaultOf text.now) }

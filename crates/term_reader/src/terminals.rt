@@ -9,7 +9,7 @@ ghost use Rattle.term_pool.specs.Valid.{IsPool};
 ghost use Rattle.term_pool.specs.Terms.{Extends};
 ghost use Rattle.char_tokens.specs.Views.{lexeme_of};
 ghost use Rattle.term_reader.specs.View.{terminal_at, IsTerminal};
-ghost use Rattle.term_reader.specs.Seeing.{AreVariables, HasNatural, Sees, Knows};
+ghost use Rattle.term_reader.specs.GrammarTokens.{AreVariables, HasNatural, Sees, Knows};
 
 use crate::parser::Terminal;
 use crate::variables::Variables;
@@ -61,7 +61,7 @@ fn quoted(alloc: Global, pool: &mut Pool, text: &str) -> Result<Terminal, NoMemo
 }
 
 /// The token as the grammar sees it; `None` of a stop.
-pub fn terminal(
+pub(crate) fn terminal(
     alloc: Global,
     pool: &mut Pool,
     variables: &mut Variables,

@@ -10,7 +10,7 @@ use term_pool::AtomId;
 
 /// The names of the variables so far, by their numbers.
 #[derive(Drop)]
-pub struct Variables {
+pub(crate) struct Variables {
     names: Vec<AtomId>,
     /// By the number of a name the number of the variable that had it last.
     numbers: Vec<usize>,
@@ -30,7 +30,7 @@ fn reach(numbers: &mut Vec<usize>, index: usize) -> Result<(), NoMemory>
 }
 
 impl Variables {
-    pub fn new(alloc: Global, anonymous: AtomId) -> Variables
+    pub(crate) fn new(alloc: Global, anonymous: AtomId) -> Variables
         ensures names { result.names.items ≡ [] }
         ensures anonymous { result.anonymous ≡ anonymous }
         ensures indexed { IsIndexed result.anonymous result.names.items result.numbers.items }
@@ -74,7 +74,7 @@ impl Variables {
     }
 
     /// The number of the variable with this name.
-    pub fn number(&mut self, name: AtomId) -> Result<usize, NoMemory>
+    pub(crate) fn number(&mut self, name: AtomId) -> Result<usize, NoMemory>
         requires { IsIndexed self.old.anonymous self.old.names.items self.old.numbers.items }
         ensures number { IfOk result (λ n. n ≡ id_number self.old.anonymous self.old.names.items name) }
         ensures names { OnOk result (self.new.names.items ≡ with_id self.old.anonymous self.old.names.items name) }
@@ -91,7 +91,7 @@ impl Variables {
     }
 
     /// The names; after it there is no variable.
-    pub fn take(&mut self, alloc: Global) -> Vec<AtomId>
+    pub(crate) fn take(&mut self, alloc: Global) -> Vec<AtomId>
         ensures names { result.items ≡ self.old.names.items }
         ensures none { self.new.names.items ≡ [] }
         ensures anonymous { self.new.anonymous ≡ self.old.anonymous }

@@ -15,10 +15,10 @@ use Rattle.fd_language.specs.Operators.{Operator, infix_operators, prefix_operat
 use Rattle.fd_language.specs.Tokens.{Word, Token, ends_stop, front_of}
 use Rattle.fd_language.specs.Writing as writing
 use Rattle.fd_language.specs.Writing.{is_letter_word_of, is_letter_word, is_comment_start, is_symbol_word, is_bare, quoted_name, starts_with_symbol, ends_with_symbol}
-use Rattle.term_writer.proofs.Derived.{infix_stands, row_named, text_is}
+use Rattle.term_writer.proofs.Derivations.{infix_stands, row_named, text_is}
 use Rattle.term_writer.proofs.Classes.{symbol_is, symbol_low}
 use Rattle.term_writer.proofs.Fronts.{stops, letters_front, symbols_front}
-use Rattle.term_writer.proofs.Lexing.{chars_ascii, ascii_utf8, token_front, ascii_front, at_exclamation, at_semicolon, Follows, follows_ascii, before_semicolon}
+use Rattle.term_writer.proofs.TextTokens.{chars_ascii, ascii_utf8, token_front, ascii_front, at_exclamation, at_semicolon, Follows, follows_ascii, before_semicolon}
 
 -- ---- words of letters
 

@@ -11,8 +11,8 @@ use Rattle.fd_language.specs.Operators.{infix_of, prefix_of, is_operator}
 use Rattle.fd_language.specs.Writing as writing
 use Rattle.fd_language.specs.Writing.{is_empty_name, is_bare, quoted_name, starts_with_symbol, ends_with_symbol, atom_text, functor_text}
 use Rattle.term_writer.proofs.Classes.{symbol_low}
-use Rattle.term_writer.proofs.Joined.{ends-append}
-use Rattle.term_writer.proofs.Lexing.{chars_ascii}
+use Rattle.term_writer.proofs.Joins.{ends-append}
+use Rattle.term_writer.proofs.TextTokens.{chars_ascii}
 
 -- The text is not empty, and its first character is a symbol where its first byte is one.
 pub record Begins (w : List ℕ) : Type 0 where

@@ -13,12 +13,12 @@ use Rattle.fd_language.specs.Terminals.{Terminal, variable, integer, opens, clos
 use Rattle.fd_language.specs.Writing.{Quoted, is_empty_name, in_parentheses, Spelling, spelled_alone, spelled_atom, spelled_one, spelled_two, spelled_infix, infix_text, call_text, arguments_text, functor_text, atom_text, spelled, spelled_each}
 use Rattle.term_writer.specs.Spelled.{InTokens, called, after_bar, atom_tokens, atom_rest, one_tokens, operands, infix_tokens, two_tokens, two_rest, integer_tokens, tokens_of, further}
 use Rattle.term_writer.specs.Written.{IsVariable, IsFunctor, IsReadable, AllReadable}
-use Rattle.term_writer.proofs.Lexing.{Lexes, open_bracket, close_bracket, list_opens, list_closes, curly_opens, curly_closes, comma_first, before_close, before_list_end, before_curly_end, before_comma, before_bar}
+use Rattle.term_writer.proofs.TextTokens.{Lexes, open_bracket, close_bracket, list_opens, list_closes, curly_opens, curly_closes, comma_first, before_close, before_list_end, before_curly_end, before_comma, before_bar}
 use Rattle.term_writer.proofs.Variables.{Parts, variable_parts}
 use Rattle.term_writer.proofs.Leaves.{atom_lexes, functor_lexes, decimal_lexes, decimal_first, negative_lexes, variable_lexes}
 use Rattle.term_writer.proofs.Beginnings.{Begins, begins_before, begins_ascii, begins_utf8, atom_begins, functor_begins}
-use Rattle.term_writer.proofs.Lexed.{Agrees, agrees_same, Apart, apart_from, no_symbol, close_symbol, open_symbol, list_symbol, curly_symbol, comma_symbol, bar_symbol, Behind, Lexed, LexedAt, barred, relabel, joint, joint_begins, joint_lexes}
-use Rattle.term_writer.proofs.Derived.{text_is}
+use Rattle.term_writer.proofs.TermTokens.{Agrees, agrees_same, Apart, apart_from, no_symbol, close_symbol, open_symbol, list_symbol, curly_symbol, comma_symbol, bar_symbol, Behind, Lexed, LexedAt, barred, relabel, joint, joint_begins, joint_lexes}
+use Rattle.term_writer.proofs.Derivations.{text_is}
 
 -- the arguments behind the first
 abbrev pub further_text : List Spelling → List ℕ

@@ -12,9 +12,6 @@ abbrev pub IsIndexed : List VarText → ℕ → ℕ → Option ℕ → Type 0
 IsIndexed vars n x None = text_of vars x ≡ text_of (drop n vars) x
 IsIndexed vars n x (Some place) = text_by vars (Some place) ≡ text_of vars x
 
-pub indexed_none : (vars : List VarText) (x : ℕ) → IsIndexed vars 0 x None
-indexed_none vars x = refl
-
 pub indexed_all : (vars : List VarText) (n x : ℕ) (o : Option ℕ) → length vars < n + 1 → IsIndexed vars n x o → text_by vars o ≡ text_of vars x
 indexed_all vars n x None l h = sym (h ∙ at_drop_all (λ (vs : List VarText). text_of vs x) vars n (omega arith))
 indexed_all vars n x (Some place) l h = h
@@ -25,10 +22,6 @@ indexed_other vars n x v None l e d h =
     h ∙ at_drop_more (λ (vs : List VarText). text_of vs x) vars n v l ∙ ap (λ (w : VarText). text_of (w ∷ drop (n + 1) vars) x) (sym e)
     ∙ ap (λ (b : Bool). cond b v.text.items (text_of (drop (n + 1) vars) x)) d
 indexed_other vars n x v (Some place) l e d h = h
-
--- one of a variable that has an entry
-pub indexed_again : (vars : List VarText) (n x place : ℕ) → IsIndexed vars n x (Some place) → IsIndexed vars (n + 1) x (Some place)
-indexed_again vars n x place h = h
 
 -- the first of a variable
 pub indexed_first : (vars : List VarText) (n x : ℕ) (v : VarText) → n < length vars → v ≡ get_or vars n v → slice_get vars n ≡ Some v → nat_eq v.var x ≡ true → IsIndexed vars n x None → IsIndexed vars (n + 1) x (Some n)

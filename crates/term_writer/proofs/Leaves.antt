@@ -20,9 +20,9 @@ use Rattle.term_writer.proofs.QuotedNames.{name_of, token_of}
 use Rattle.term_writer.proofs.Classes.{digit_is}
 use Rattle.term_writer.proofs.Variables.{variable_parts}
 use Rattle.term_writer.proofs.Fronts.{stops, variable_front, integer_front_is}
-use Rattle.term_writer.proofs.Lexing.{Lexes, other_first, variable_first, token_front, list_opens, list_closes, curly_opens, curly_closes, word_token, word_other, quoted_other, integer_other, Follows, before_open, chars_ascii}
+use Rattle.term_writer.proofs.TextTokens.{Lexes, other_first, variable_first, token_front, list_opens, list_closes, curly_opens, curly_closes, word_token, word_other, quoted_other, integer_other, Follows, before_open, chars_ascii}
 use Rattle.term_writer.proofs.Bare.{IsWord, letters, symbols, exclamation, word_read, operator_word_is, symbols_read}
-use Rattle.term_writer.proofs.Derived.{text_is}
+use Rattle.term_writer.proofs.Derivations.{text_is}
 
 -- ---- names that stand bare
 
@@ -56,10 +56,6 @@ minus_operator = refl
 minus_word : is_symbol_word (45 ∷ []) ≡ true
 unfolding is_symbol
 minus_word = refl
-
-minus_symbol : is_symbol 45 ≡ true
-unfolding is_symbol
-minus_symbol = refl
 
 module _ (vars : ℕ → List ℕ) (stopped : Bool) (tight : Bool) where
   pub word_lexes : (w r : List ℕ) (ts : List Terminal) → IsWord w → Follows r → (ends_with_symbol w && starts_with_symbol r) ≡ false → Lexes vars stopped true r ts → Lexes vars stopped tight (w ++ r) (word_token w ∷ ts)

@@ -1,21 +1,21 @@
-mod Joined
+mod Joins
 mod Steps
 mod Work
 mod Words
 pub mod Index
 mod Forms
 mod Rests
-mod Derived
+mod Derivations
 mod Quoting
 mod QuotedNames
-mod Moved
+mod OtherPlaces
 mod Classes
 mod Fronts
-mod Lexing
+mod TextTokens
 mod Bare
 mod Leaves
 mod Beginnings
-mod Lexed
+mod TermTokens
 mod Compounds
 mod Numbers
 mod Sentences

@@ -9,8 +9,8 @@ use Rattle.fd_language.specs.Term.{Name}
 use Rattle.fd_language.specs.Tokens.{Kind, Variable, Lexeme}
 use Rattle.fd_language.specs.Terminals.{Terminal, variable, stop}
 use Rattle.fd_language.specs.Reading.{is_anonymous, variable_number, with_variable, terminal_by, terminal_of, terminals, names_by, names_behind, ended_by, sentence_names}
-use Rattle.term_writer.proofs.Moved.{IsNumbered, Alike, like_variable, like_stop, AllAlike, no_token, and}
-use Rattle.term_writer.proofs.Lexing.{Spelt, at_end, at_stop, at_variable, at_other}
+use Rattle.term_writer.proofs.OtherPlaces.{IsNumbered, Alike, like_variable, like_stop, AllAlike, no_token, and}
+use Rattle.term_writer.proofs.TextTokens.{Spelt, at_end, at_stop, at_variable, at_other}
 
 -- v stands in xs ++ ms at its place in xs, or behind xs
 record Found (v : Name) (xs all : List Name) : Type 0 where

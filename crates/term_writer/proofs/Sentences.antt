@@ -18,12 +18,12 @@ use Rattle.fd_language.specs.Reading.{terminals}
 use Rattle.fd_language.proofs.Lemmas.{within_infix, has_either, front_empty}
 use Rattle.term_writer.specs.Spelled.{placed, all_placed, tokens_of, HasArguments, AllHaveArguments, Within}
 use Rattle.term_writer.specs.Written.{IsReadable, AllReadable, number_among, Derives, IsSentenceOf, WrittenIsRead}
-use Rattle.term_writer.proofs.Derived.{spelled_is_read}
-use Rattle.term_writer.proofs.Moved.{IsNumbered, and, no_token, like_stop, Stands, same_var, same_int, same_atom, same_comp, AllStand, same_none, same_part, Moved, moved, move}
-use Rattle.term_writer.proofs.Lexing.{at_end, at_stop, Lexes, LexesAt, ascii_front, space, Follows, before_space}
+use Rattle.term_writer.proofs.Derivations.{spelled_is_read}
+use Rattle.term_writer.proofs.OtherPlaces.{IsNumbered, and, no_token, like_stop, Stands, same_var, same_int, same_atom, same_comp, AllStand, same_none, same_part, Moved, moved, move}
+use Rattle.term_writer.proofs.TextTokens.{at_end, at_stop, Lexes, LexesAt, ascii_front, space, Follows, before_space}
 use Rattle.term_writer.proofs.Bare.{found_in}
-use Rattle.term_writer.proofs.Lexed.{no_symbol, apart_from}
-use Rattle.term_writer.proofs.Joined.{symbol_space}
+use Rattle.term_writer.proofs.TermTokens.{no_symbol, apart_from}
+use Rattle.term_writer.proofs.Joins.{symbol_space}
 use Rattle.std.proofs.lemmas.Str.{chars-nil}
 use Rattle.std.proofs.lemmas.List.{append-nil}
 use Rattle.term_writer.proofs.Fronts.{Ends}

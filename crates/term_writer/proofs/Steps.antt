@@ -5,7 +5,7 @@ use Rattle.std.specs.Str.{bytes_eq}
 use Rattle.std.specs.List.{list_all}
 use Rattle.std.proofs.lemmas.List.{append-nil}
 use Rattle.std.proofs.lemmas.List.Elements.{All-nil, All-cons, All-head, All-tail}
-use Rattle.std.proofs.lemmas.Bool.{and_parts}
+use Rattle.std.proofs.lemmas.Bool.{and_parts, not-true}
 use Rattle.fd_language.specs.Characters.{is_symbol}
 use Rattle.fd_language.specs.Term.{Name, Term, Var, Int, Atom, Comp}
 use Rattle.fd_language.specs.Operators.{Operator, infix_operators, infix_of, left_limit, right_limit}
@@ -18,7 +18,7 @@ use Rattle.term_writer.specs.declared.pieces.Piece.{Piece}
 use Rattle.term_writer.specs.declared.pieces.Piece.TheVariants as piece
 use Rattle.name_syntax.specs.Operators.{operator_of}
 use Rattle.term_writer.specs.Pieces.{joined, operator_text, piece_text, piece_weight, finished, load, weight, weights, IsOf, IsCell, Replaces}
-use Rattle.term_writer.proofs.Joined.{joined-nil, joined-assoc, join_right, between_joined, bracketed, marked}
+use Rattle.term_writer.proofs.Joins.{joined-nil, joined-assoc, join_right, between_joined, bracketed, marked}
 
 -- the piece is a text alone
 pub record IsText (c : Contents) (mode : Mode) (vars : ℕ → List ℕ) (p : Piece) (t : List ℕ) : Type 0 where
@@ -76,13 +76,9 @@ all_have_names : list_all has_name infix_operators ≡ true
 unfolding has_name
 all_have_names = refl
 
-named : (b : Bool) → not b ≡ true → b ≡ false
-named true h = absurd cc
-named false h = refl
-
 infix_name : (f : Name) (o : Operator) → infix_of f ≡ Some o → is_empty_name o.name ≡ false
 unfolding infix_of has_name
-infix_name f o h = named (is_empty_name o.name) (found_has_name (λ g. bytes_eq g.name f) infix_operators o h all_have_names)
+infix_name f o h = not-true (is_empty_name o.name) (found_has_name (λ g. bytes_eq g.name f) infix_operators o h all_have_names)
 
 -- what follows an element of a list starts with no symbol character
 compound_rest : (mode : Mode) (f : Name) (xs : List Spelling) → starts_with_symbol (spelled_compound mode f xs).rest ≡ false

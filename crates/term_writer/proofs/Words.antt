@@ -19,9 +19,3 @@ ends_last (x ∷ xs) y h = ends_at (x ∷ xs) (length (x ∷ xs) - 1) y (omega a
 
 pub all_here : (p : ℕ → Bool) (cs : List ℕ) (n c : ℕ) → (n < length cs) × (c ≡ get_or cs n c) → list_all p (drop n cs) ≡ (p c && list_all p (drop (n + 1) cs))
 all_here p cs n c h = at_drop_more (list_all p) cs n c h.0 ∙ ap (λ (x : ℕ). p x && list_all p (drop (n + 1) cs)) (sym h.1)
-
-pub quoted_more : (text cs : List ℕ) (n : ℕ) (c : ℕ) → n < length cs → c ≡ get_or cs n c → (text ++ quoted_byte c) ++ quoted_bytes (drop (n + 1) cs) ≡ text ++ quoted_bytes (drop n cs)
-quoted_more text cs n c l e =
-    append_assoc text (quoted_byte c) (quoted_bytes (drop (n + 1) cs))
-    ∙ ap (λ (x : ℕ). text ++ (quoted_byte x ++ quoted_bytes (drop (n + 1) cs))) e
-    ∙ ap (λ (w : List ℕ). text ++ w) (sym (at_drop_more quoted_bytes cs n c l))

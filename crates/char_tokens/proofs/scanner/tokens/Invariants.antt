@@ -1,6 +1,6 @@
 use Rattle.std.proofs.Common.{length}
 use Rattle.char_tokens.specs.Views.{lexemes}
-use Rattle.char_tokens.proofs.Reading.{Completes}
+use Rattle.char_tokens.proofs.NextTokens.{Completes}
 use Rattle.char_tokens.proofs.scanner.tokens.Given as goal
 
 abbrev pub invariant-loop-found : goal.invariant-loop-found

@@ -1,5 +1,5 @@
 use Rattle.std.proofs.Common.{◌∙◌}
-use Rattle.name_syntax.proofs.Rows.{roles_tell}
+use Rattle.name_syntax.proofs.Lemmas.{roles_tell}
 use Rattle.name_syntax.proofs.operators.is_operator.Goals as goal
 
 pub returns : goal.returns

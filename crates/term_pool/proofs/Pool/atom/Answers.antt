@@ -2,7 +2,8 @@ use Rattle.std.proofs.Common.{◌≡◌, sym, subst, ◌<◌, Some, slice_get, l
 use Rattle.std.proofs.lemmas.Option.{slice_get_within}
 use Rattle.term_pool.specs.Contents.{Contents, atom_name}
 use Rattle.term_pool.proofs.Laws.{terms_kept}
-use Rattle.term_pool.proofs.Kept.{after_intern, stored_interned, extends_interned, known_atom, if_ok}
+use Rattle.std.proofs.lemmas.Result.{IfOk-weaker}
+use Rattle.term_pool.proofs.Growth.{after_intern, stored_interned, extends_interned, known_atom}
 use Rattle.term_pool.proofs.Pool.atom.Goals as goal
 
 pub invariant_of-self : goal.invariant_of-self
@@ -15,7 +16,7 @@ invariant_of-self c =
 pub returns-clause-own : goal.returns-clause-own
 returns-clause-own c =
     let new = map string_bytes c.intern.new.atoms.keys in
-    if_ok c.intern.result (λ a. slice_get new a.number ≡ Some c.args.text.now) (λ a. a.number < length new) c.intern.ensures.stands (λ a h. slice_get_within new a.number c.args.text.now h)
+    IfOk-weaker c.intern.result (λ a. slice_get new a.number ≡ Some c.args.text.now) (λ a. a.number < length new) (λ a h. slice_get_within new a.number c.args.text.now h) c.intern.ensures.stands
 
 pub returns-clause-known : goal.returns-clause-known
 returns-clause-known c a l e =

@@ -2,7 +2,7 @@ use Rattle.std.proofs.Common.{refl}
 use Rattle.std.proofs.lemmas.Result.{err_from_is_err_and}
 use Rattle.char_tokens.specs.Views.{lexeme_of}
 use Rattle.char_tokens.specs.Scanning as scanning
-use Rattle.char_tokens.proofs.Reading.{next_shorter}
+use Rattle.char_tokens.proofs.Lemmas.{next_shorter}
 use Rattle.term_reader.proofs.Naturals.{next_natural}
 use Rattle.term_reader.proofs.Texts.{depth_within, up_to_next, fault_refused, fault_deep, fault_next, fault_behind, found, fault_unended, own}
 use Rattle.term_reader.proofs.reader.read_text.Goals as goal

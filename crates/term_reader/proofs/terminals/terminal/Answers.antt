@@ -1,6 +1,6 @@
 use Rattle.std.proofs.Common.{ap}
 use Rattle.char_tokens.specs.Views.{lexeme_of, kind_of}
-use Rattle.term_reader.proofs.Seen.{sees_word, sees_quoted, sees_punct, sees_variable}
+use Rattle.term_reader.proofs.GrammarTokens.{sees_word, sees_quoted, sees_punct, sees_variable}
 use Rattle.term_reader.proofs.terminals.terminal.Goals as goal
 
 pub returns-in_ok-seen-in-Word : goal.returns-in_ok-seen-in-Word

@@ -1,7 +1,7 @@
 use Rattle.std.proofs.Common.{◌≡◌, ◌∙◌, sym, true, false}
 use Rattle.fd_language.specs.Operators.{is_operator}
-use Rattle.name_syntax.proofs.Rows.{roles_tell}
-use Rattle.term_reader.proofs.Seen.{knows_operator, knows_name}
+use Rattle.name_syntax.proofs.Lemmas.{roles_tell}
+use Rattle.term_reader.proofs.GrammarTokens.{knows_operator, knows_name}
 use Rattle.term_reader.proofs.terminals.word.Goals as goal
 
 pub returns-then-is_operator : goal.returns-then-is_operator

@@ -2,7 +2,7 @@ use Rattle.std.proofs.Common.{◌≡◌, ◌∙◌, ◌++◌, ℕ, List, Bool, c
 use Rattle.fd_language.specs.Writing.{quoted_name}
 use Rattle.term_writer.specs.Pieces.{joined}
 use Rattle.term_writer.specs.Views.{mode_of, name_text}
-use Rattle.term_writer.proofs.Joined.{join_quoted}
+use Rattle.term_writer.proofs.Joins.{join_quoted}
 use Rattle.term_writer.proofs.atoms.append_name.Goals as goal
 
 pub returns : goal.returns

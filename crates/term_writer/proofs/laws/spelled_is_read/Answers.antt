@@ -1,4 +1,4 @@
-use Rattle.term_writer.proofs.Derived.{spelled_is_read}
+use Rattle.term_writer.proofs.Derivations.{spelled_is_read}
 use Rattle.term_writer.proofs.laws.spelled_is_read.Goals as goal
 
 pub returns : goal.returns

@@ -1,5 +1,5 @@
 use Rattle.std.proofs.Common.{ℕ, List, [], ◌∷◌, ◌++◌, ◌∙◌, ap, sym}
-use Rattle.term_writer.proofs.Joined.{spaced}
+use Rattle.term_writer.proofs.Joins.{spaced}
 use Rattle.term_writer.proofs.terms.append_operator.Goals as goal
 
 pub returns-then-is_letter_word : goal.returns-then-is_letter_word

@@ -6,7 +6,7 @@ use mir.Val.{to_z, of_z}
 use Rattle.std.proofs.lemmas.Int.{to_z-of_z}
 use Rattle.std.proofs.lemmas.Result.{on_ok_weaker}
 use Rattle.term_pool.specs.Valid.{IsStorable}
-use Rattle.term_pool.proofs.Laws.{term_is_storable}
+use Rattle.term_pool.proofs.Lemmas.{term_is_storable}
 use Rattle.fd_language.specs.Term.{Var, Int, Atom}
 use Rattle.fd_language.specs.Writing.{atom_text}
 use Rattle.term_pool.specs.Contents.{atom_name}

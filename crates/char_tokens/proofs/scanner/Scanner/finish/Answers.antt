@@ -1,7 +1,7 @@
 use Rattle.std.proofs.Common.{◌≡◌, ◌∙◌, sym, true}
 use Rattle.std.specs.Prelude.{is_some}
 use Rattle.std.proofs.lemmas.Result.{err_from_is_err_and}
-use Rattle.char_tokens.proofs.Reading.{next_shorter, read_some, decides_more, decided_fault}
+use Rattle.char_tokens.proofs.NextTokens.{next_shorter, read_some, decides_more, decided_fault}
 use Rattle.char_tokens.proofs.scanner.Scanner.finish.Goals as goal
 
 pub returns-in_err-next_token-clause-fault : goal.returns-in_err-next_token-clause-fault

@@ -1,5 +1,5 @@
 use Rattle.std.proofs.Common.{length}
-use Rattle.char_tokens.proofs.Reading.{Decides}
+use Rattle.char_tokens.proofs.NextTokens.{Decides}
 use Rattle.char_tokens.proofs.scanner.Scanner.finish.Given as goal
 
 abbrev pub invariant-loop : goal.invariant-loop

@@ -1,5 +1,6 @@
-use Rattle.std.proofs.Common.{◌++◌, ◌∷◌, [], length}
-use Rattle.term_reader.proofs.Naming.{number_found, names_found, number_absent, names_absent, if_number, on_names}
+use Rattle.std.proofs.Common.{◌∙◌, length}
+use Rattle.std.proofs.lemmas.Result.{on_ok_weaker}
+use Rattle.term_reader.proofs.Naming.{number_found, names_found, number_absent, names_absent, if_number}
 use Rattle.term_reader.proofs.variables.Variables.number.Goals as goal
 
 pub returns-in-Some-clause-number : goal.returns-in-Some-clause-number
@@ -20,4 +21,4 @@ returns-in-None-clause-number c =
 pub returns-in-None-clause-names : goal.returns-in-None-clause-names
 returns-in-None-clause-names c =
     let f = rw c.in-None.is at c.find.ensures in
-    on_names c.add-in-None.result _ (c.args.self.now.names.items ++ c.args.name ∷ []) _ (names_absent c.args.self.now.anonymous c.args.self.now.names.items c.args.self.now.numbers.items c.args.name c.requires c.if-name-self.false f) c.add-in-None.ensures.names
+    on_ok_weaker c.add-in-None.result (λ h. h ∙ names_absent c.args.self.now.anonymous c.args.self.now.names.items c.args.self.now.numbers.items c.args.name c.requires c.if-name-self.false f) c.add-in-None.ensures.names

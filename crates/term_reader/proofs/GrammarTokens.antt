@@ -14,13 +14,13 @@ use Rattle.term_pool.specs.declared.AtomId.{AtomId}
 use Rattle.term_pool.specs.Contents.{Contents, atom_name}
 use Rattle.term_pool.specs.Terms.{Extends}
 use Rattle.term_pool.specs.Valid.{IsPool}
-use Rattle.term_pool.proofs.Laws.{name_kept, extends_refl}
+use Rattle.term_pool.proofs.Lemmas.{name_kept, extends_refl}
 use Rattle.term_reader.specs.declared.parser.Terminal.{Terminal}
 use Rattle.term_reader.specs.declared.parser.Terminal.TheVariants as tokens
 use Rattle.term_reader.specs.declared.variables.Variables.{Variables}
 use Rattle.term_reader.specs.View.{terminal_at, IsTerminal}
 use Rattle.term_reader.specs.Numbering.{IsIndexed, id_number, with_id}
-use Rattle.term_reader.specs.Seeing.{AreVariables, names_of, names_on, Knows, Sees}
+use Rattle.term_reader.specs.GrammarTokens.{AreVariables, names_of, names_on, Knows, Sees}
 use Rattle.term_reader.proofs.PlacedLaws.{extends_names}
 use Rattle.term_reader.proofs.Naming.{number_named, names_named}
 

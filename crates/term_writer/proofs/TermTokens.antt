@@ -1,6 +1,7 @@
 -- A term's text has the tokens that spell the term.
 use Rattle.std.proofs.Common.{◌≡◌, ◌∙◌, ℕ, ◌⊎◌, inl, inr, List, [], ◌∷◌, ◌++◌, Bool, true, false, cond, Option, Some, refl, sym, ap, subst, arith, append_assoc}
 use Rattle.std.specs.Prelude.{is_some, ◌||◌, ◌&&◌, not, codes}
+use Rattle.std.specs.Cmp.{second_so}
 use Rattle.std.specs.Str.{bytes_eq, chars}
 use Rattle.std.proofs.lemmas.Bool.{true≢false, and_right, false_from_ne_true, cases_Bool}
 use Rattle.std.proofs.lemmas.Slice.Eq.{bytes_eq-Decides}
@@ -12,9 +13,9 @@ use Rattle.fd_language.specs.Tokens.{Word}
 use Rattle.fd_language.specs.Terminals.{Terminal, operator_word, close_list, comma}
 use Rattle.fd_language.specs.Writing.{is_letter_word, is_symbol_word, is_empty_name, starts_with_symbol, ends_with_symbol, gap_between, between, Spelling, spelled_by}
 use Rattle.term_writer.specs.Spelled.{InTokens, after_bar, operands, operator_terminal}
-use Rattle.term_writer.proofs.Derived.{infix_stands, text_is}
-use Rattle.term_writer.proofs.Joined.{symbol_space}
-use Rattle.term_writer.proofs.Lexing.{Lexes, other_first, space, list_closes, comma_first, bar_first, word_token, word_other, Follows, before_space, before_list_end, before_comma, before_bar}
+use Rattle.term_writer.proofs.Derivations.{infix_stands, text_is}
+use Rattle.term_writer.proofs.Joins.{symbol_space}
+use Rattle.term_writer.proofs.TextTokens.{Lexes, other_first, space, list_closes, comma_first, bar_first, word_token, word_other, Follows, before_space, before_list_end, before_comma, before_bar}
 use Rattle.term_writer.proofs.Bare.{IsWord, letters, symbols, exclamation, semicolon, sign_read, sign_follows, infix_kind}
 use Rattle.term_writer.proofs.Leaves.{word_lexes, operator_token}
 use Rattle.term_writer.proofs.Beginnings.{Begins, starts_before, some_behind, ends_behind, begins_before, some_name}
@@ -31,7 +32,7 @@ abbrev pub Apart : List ℕ → List ℕ → Type 0
 Apart w r = (ends_with_symbol w && starts_with_symbol r) ≡ false
 
 pub apart_from : (w r : List ℕ) → starts_with_symbol r ≡ false → Apart w r
-apart_from w r h = and_right (ends_with_symbol w) (starts_with_symbol r) h
+apart_from w r h = second_so (ends_with_symbol w) (starts_with_symbol r) h
 
 pub no_symbol : (c : ℕ) → is_symbol c ≡ false → (w r : List ℕ) → Apart w (c ∷ r)
 no_symbol c h w r = apart_from w (c ∷ r) h
@@ -59,10 +60,6 @@ comma_symbol = refl
 pub bar_symbol : is_symbol 124 ≡ false
 unfolding is_symbol
 bar_symbol = refl
-
-and_second : (x y : Bool) → (x && y) ≡ true → y ≡ true
-and_second true y h = h
-and_second false y h = absurd (true≢false (sym h))
 
 -- the text r may follow a term, and begins with no symbol
 pub record Behind (r : List ℕ) : Type 0 where
@@ -145,7 +142,7 @@ module _ (vars : ℕ → List ℕ) (stopped : Bool) where
       where
         go : (g : Bool) → (ends_with_symbol o.name && starts_with_symbol right) ≡ g → Lexes vars stopped tight (o.name ++ (cond g (codes " ") [] ++ (right ++ r))) (y ∷ tb.at true (right_limit o) ts)
         go true e =
-            let starts : starts_with_symbol right ≡ true = and_second (ends_with_symbol o.name) (starts_with_symbol right) e in
+            let starts : starts_with_symbol right ≡ true = and_right (ends_with_symbol o.name) (starts_with_symbol right) e in
             s.lexes tight (32 ∷ (right ++ r)) (tb.at true (right_limit o) ts) (before_space (right ++ r)).symbols (no_symbol 32 symbol_space o.name (right ++ r))
             (space vars stopped true (right ++ r) (tb.at true (right_limit o) ts) (lb.at false true (right_limit o) r ts (inr starts) f t h))
         go false e =

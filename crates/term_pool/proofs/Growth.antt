@@ -198,11 +198,6 @@ known_atom {E} r old new text d known stands names a l e = go r known stands nam
         let mine : slice_get old x.number ≡ Some text = ap (λ (ns : List Name). slice_get ns x.number) (sym same) ∙ s in
         ap (λ (y : AtomId). Ok y) (d x a (slice_get_within old x.number text mine) l (name_in-Some old x text mine ∙ sym e))
 
--- what a clause says of the value in an `Ok`
-pub if_ok : {A E : Type 0} (r : Result A E) (P Q : A → Type 0) → IfOk r P → ((x : A) → P x → Q x) → IfOk r Q
-if_ok (Ok x) P Q p f = f x p
-if_ok (Err e) P Q p f = tt
-
 -- a fact holds on an error too
 pub on_err : {A E : Type 0} (r : Result A E) (P : Type 0) → P → OnErr r P
 on_err (Ok x) P h = tt

@@ -5,11 +5,8 @@ use Rattle.std.proofs.lemmas.List.{append-nil}
 use Rattle.fd_language.specs.Characters.{is_symbol}
 use Rattle.fd_language.specs.Term.{Name}
 use Rattle.fd_language.specs.Writing.{ends_with_symbol, starts_with_symbol, gap_between, is_letter_word, is_empty_name, between, quoted_name}
+use Rattle.std.proofs.Math.Bool.{and-false}
 use Rattle.term_writer.specs.Pieces.{joined, operator_text}
-
-and_false : (b : Bool) → (b && false) ≡ false
-and_false true = refl
-and_false false = refl
 
 pub symbol_space : is_symbol 32 ≡ false
 unfolding is_symbol
@@ -22,7 +19,7 @@ ends-append (x ∷ w ∷ xs) y ys = ends-append (w ∷ xs) y ys
 
 no_gap_right : (l r : List ℕ) → starts_with_symbol r ≡ false → gap_between l r ≡ []
 no_gap_right l r h =
-    ap (λ (b : Bool). cond (ends_with_symbol l && b) (codes " ") []) h ∙ ap (λ (b : Bool). cond b (codes " ") []) (and_false (ends_with_symbol l))
+    ap (λ (b : Bool). cond (ends_with_symbol l && b) (codes " ") []) h ∙ ap (λ (b : Bool). cond b (codes " ") []) (and-false (ends_with_symbol l))
 
 no_gap_left : (l r : List ℕ) → ends_with_symbol l ≡ false → gap_between l r ≡ []
 no_gap_left l r h = ap (λ (b : Bool). cond (b && starts_with_symbol r) (codes " ") []) h

@@ -14,7 +14,7 @@ use Rattle.term_pool.specs.declared.TermId.{TermId}
 use Rattle.term_pool.specs.declared.TheConstants.{NIL}
 use Rattle.term_pool.specs.Contents.{Contents, atom_name}
 use Rattle.term_pool.specs.Valid.{IsPool}
-use Rattle.term_pool.proofs.Laws.{extends_trans}
+use Rattle.term_pool.proofs.Lemmas.{extends_trans}
 use Rattle.term_reader.specs.declared.parser.Item.{Item}
 use Rattle.term_reader.specs.declared.parser.Item.TheVariants.{Parenthesis, Curly, Call, List as Listed, Tail, Prefix, Infix}
 use Rattle.term_reader.specs.declared.parser.Expecting.TheVariants as expect
