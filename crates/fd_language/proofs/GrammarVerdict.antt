@@ -1,6 +1,6 @@
 -- A list of tokens has one verdict.
-use Rattle.std.proofs.Common.{◌≡◌, ℕ, ◌<◌, ◌≤◌, ◌+◌, ◌⊎◌, inl, inr, List, [], ◌++◌, sym, ap, subst, ◌∙◌, arith, take, drop, append_assoc}
-use Rattle.std.proofs.lemmas.List.{take-append-drop, take-take, append-nil}
+use Rattle.std.proofs.Common.{◌≡◌, ℕ, ◌<◌, ◌≤◌, ◌+◌, ◌⊎◌, inl, inr, List, ◌++◌, sym, subst, arith, take, drop, append_assoc}
+use Rattle.std.proofs.lemmas.List.{take-append-drop, take-take}
 use Rattle.std.proofs.lemmas.Bool.{cases_lt}
 use Rattle.fd_language.specs.PlacedTerm.{PlacedTerm}
 use Rattle.fd_language.specs.Terminals.{Terminal}

@@ -286,6 +286,13 @@ module _ (M : ℕ) (p : ℕ → ℤ) (S : Family) (family : IsFamily M S) where
   signed (pos n) x y h = inl h
   signed (negsuc n) x y h = inr h
 
+  -- a product fits by a literal on the left, by one on the right, or as both its operands do
+  product_parts : (la lb n : Bool) (va vb : ℤ) (fa ga fb gb : Bool) → cond la (by_sign va fb gb) (cond lb (by_sign vb fa ga) (n && (fa && fb))) ≡ true
+      → ((la ≡ true) × ((fb ≡ true) ⊎ (gb ≡ true))) ⊎ (((lb ≡ true) × ((fa ≡ true) ⊎ (ga ≡ true))) ⊎ ((fa ≡ true) × (fb ≡ true)))
+  product_parts true lb n va vb fa ga fb gb h = inl (refl, signed va fb gb h)
+  product_parts false true n va vb fa ga fb gb h = inr (inl (refl, signed vb fa ga h))
+  product_parts false false n va vb fa ga fb gb h = inr (inr (and_parts fa fb ((and_parts n (fa && fb) h).1)))
+
   met_left : (c x y u v : Bool) → cond c (x && y) (u && v) ≡ true → (x ≡ true) ⊎ (u ≡ true)
   met_left true x y u v h = inl ((and_parts x y h).0)
   met_left false x y u v h = inr ((and_parts u v h).0)
@@ -296,10 +303,6 @@ module _ (M : ℕ) (p : ℕ → ℤ) (S : Family) (family : IsFamily M S) where
 
   at_least_one : (d : ℤ) → pos 1 ≤ℤ d → pos 0 ≤ℤ d
   at_least_one d h = omega (arith, ints)
-
-  if_true : (c x y : Bool) → c ≡ true → cond c x y ≡ true → x ≡ true
-  if_true true x y e h = h
-  if_true false x y e h = absurd (true≢false (sym e))
 
   if_false : (c x y : Bool) → c ≡ false → cond c x y ≡ true → y ≡ true
   if_false true x y e h = absurd (true≢false e)
@@ -349,13 +352,11 @@ module _ (M : ℕ) (p : ℕ → ℤ) (S : Family) (family : IsFamily M S) where
       let mb = met_right (is_literal a || is_literal b) (expr_meets p a n) (expr_meets p b n) (expr_meets p a true) (expr_meets p b true) m in
       let da : (v : Wish) → expr_fits M a v ≡ true → Divides a = λ v g. elim ma [ inl i ↦ divisors_kept a v n g i | inr i ↦ divisors_kept a v true g i ] in
       let db : (v : Wish) → expr_fits M b v ≡ true → Divides b = λ v g. elim mb [ inl i ↦ divisors_kept b v n g i | inr i ↦ divisors_kept b v true g i ] in
-      elim (cases_Bool (is_literal a)) [
-        | inl l ↦ two_divide a b (literal_divides a l) (elim (signed (literal_value M a) _ _ (if_true (is_literal a) _ _ l f)) [ inl g ↦ db w g | inr g ↦ db (turn w) g ])
-        | inr l ↦ elim (cases_Bool (is_literal b)) [
-          | inl k ↦ two_divide a b (elim (signed (literal_value M b) _ _ (if_true (is_literal b) _ _ k (if_false (is_literal a) _ _ l f))) [ inl g ↦ da w g | inr g ↦ da (turn w) g ]) (literal_divides b k)
-          | inr k ↦
-              let g = (and_parts (is_natural M a && is_natural M b) (expr_fits M a w && expr_fits M b w) (if_false (is_literal b) _ _ k (if_false (is_literal a) _ _ l f))).1 in
-              two_divide a b (da w ((and_parts (expr_fits M a w) (expr_fits M b w) g).0)) (db w ((and_parts (expr_fits M a w) (expr_fits M b w) g).1))
+      elim (product_parts (is_literal a) (is_literal b) (is_natural M a && is_natural M b) (literal_value M a) (literal_value M b) (expr_fits M a w) (expr_fits M a (turn w)) (expr_fits M b w) (expr_fits M b (turn w)) f) [
+        | inl l ↦ two_divide a b (literal_divides a l.0) (elim l.1 [ inl g ↦ db w g | inr g ↦ db (turn w) g ])
+        | inr o ↦ elim o [
+          | inl k ↦ two_divide a b (elim k.1 [ inl g ↦ da w g | inr g ↦ da (turn w) g ]) (literal_divides b k.0)
+          | inr g ↦ two_divide a b (da w g.0) (db w g.1)
         ]
       ]
   divisors_kept (DivDown a b) w n f m = quotient_kept a b w n f m (λ k g h. divisors_kept a w k g h) (λ g h. divisors_kept b (turn w) true g h)

@@ -1,6 +1,5 @@
 -- Public lemmas: what holds of each element of a list.
 use Rattle.std.proofs.Common.{Bool, true, false, cond, List, [], ◌∷◌, ◌++◌}
-use Rattle.std.specs.Prelude.{flat_map}
 use Rattle.fd_language.specs.Lists.{Each}
 
 module _ {X : Type 0} where

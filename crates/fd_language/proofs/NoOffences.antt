@@ -67,6 +67,10 @@ module _ (M : ℕ) (at : ℕ → ℕ) where
   nil-range n (Times r c) = nil_three (wide_in_range M at (n - 1 - expr_size c) r) (wide_in_expr M at (n - 1) c) (where_too_wide (factor_over_limit M (bound M c)) (at n)) _ _ _ (nil-range (n - 1 - expr_size c) r) (nil-expr (n - 1) c) (nil-wide (factor_over_limit M (bound M c)) (at n))
   nil-range n (Over r c) = nil_three (wide_in_range M at (n - 1 - expr_size c) r) (wide_in_expr M at (n - 1) c) (where_too_wide (factor_over_limit M (bound M c)) (at n)) _ _ _ (nil-range (n - 1 - expr_size c) r) (nil-expr (n - 1) c) (nil-wide (factor_over_limit M (bound M c)) (at n))
 
+  either_sign : (v : ℤ) (x y : Bool) → x ≡ true → y ≡ true → by_sign v x y ≡ true
+  either_sign (pos n) x y f g = f
+  either_sign (negsuc n) x y f g = g
+
   -- literals fit every wish, and are natural by their values
   literal_fits : (e : Expr) (w : Wish) → is_literal e ≡ true → expr_fits M e w ≡ true
   literal_fits (Number z) w h = refl
@@ -74,13 +78,8 @@ module _ (M : ℕ) (at : ℕ → ℕ) where
   literal_fits (Add a b) w h = and_from (expr_fits M a w) (expr_fits M b w) (literal_fits a w ((and_parts (is_literal a) (is_literal b) h).0)) (literal_fits b w ((and_parts (is_literal a) (is_literal b) h).1))
   literal_fits (Sub a b) w h = and_from (expr_fits M a w) (expr_fits M b (turn w)) (literal_fits a w ((and_parts (is_literal a) (is_literal b) h).0)) (literal_fits b (turn w) ((and_parts (is_literal a) (is_literal b) h).1))
   literal_fits (Mul a b) w h =
-      let l = (and_parts (is_literal a) (is_literal b) h).0 in
       let k = (and_parts (is_literal a) (is_literal b) h).1 in
-      factor (is_literal a) l (literal_value M a) (expr_fits M b w) (expr_fits M b (turn w)) _ (literal_fits b w k) (literal_fits b (turn w) k) where
-        factor : (c : Bool) → c ≡ true → (v : ℤ) (x y rest : Bool) → x ≡ true → y ≡ true → cond c (by_sign v x y) rest ≡ true
-        factor true e (pos n) x y rest f g = f
-        factor true e (negsuc n) x y rest f g = g
-        factor false e v x y rest f g = absurd (true≢false (sym e))
+      rw (and_parts (is_literal a) (is_literal b) h).0 (either_sign (literal_value M a) (expr_fits M b w) (expr_fits M b (turn w)) (literal_fits b w k) (literal_fits b (turn w) k))
   literal_fits e w h = absurd (true≢false (sym h))
 
   literal_natural : (e : Expr) → is_literal e ≡ true → is_natural M e ≡ int_le (pos 0) (literal_value M e)

@@ -7,7 +7,7 @@ use Rattle.std.proofs.lemmas.List.Folds.{list_all-append, list_all-map}
 use Rattle.std.specs.List.{list_all}
 use Rattle.fd_language.specs.declared.range_node.Need.{Need}
 use Rattle.fd_language.specs.declared.range_node.Need.TheVariants.{Whole, Natural, Divisor}
-use Rattle.fd_language.specs.Range.{Range, Span, One, Dom, Union, Inter, Outside, Plus, Minus, Times, Over, Expr, Number, Infinity, Param, Min, Max, Val, Add, Sub, Mul, DivDown, DivUp}
+use Rattle.fd_language.specs.Range.{Range, Span, One, Dom, Union, Inter, Outside, Plus, Minus, Times, Over, Expr, Number, Infinity, Param, Add, Sub, Mul, DivDown, DivUp}
 use Rattle.fd_language.specs.Needs.{meets, is_literal, by_place, quotient_asks, expr_asks, over_asks, asks, stronger, strongest, once, parameters, need_of, meets_needs}
 
 above_zero : (z : ℤ) → int_le (pos 1) z ≡ true → int_le (pos 0) z ≡ true

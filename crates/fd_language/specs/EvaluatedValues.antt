@@ -1,7 +1,7 @@
 -- The values that are met while a range is evaluated.
 use Rattle.std.specs.Prelude.{ℕ, ℤ, pos, ◌+ℤ◌, ◌-ℤ◌, ◌*ℤ◌, List, [], ◌∷◌, ◌++◌, map}
 use Rattle.fd_language.specs.Family.{Family, universe}
-use Rattle.fd_language.specs.Range.{Range, Span, One, Dom, Union, Inter, Outside, Plus, Minus, Times, Over, Expr, Number, Infinity, Param, Min, Max, Val, Add, Sub, Mul, DivDown, DivUp, value}
+use Rattle.fd_language.specs.Range.{Range, Span, One, Dom, Union, Inter, Outside, Plus, Minus, Times, Over, Expr, Add, Sub, Mul, DivDown, DivUp, value}
 
 -- the values of all subterms
 abbrev pub expr_values : ℕ → Family → Expr → List ℤ

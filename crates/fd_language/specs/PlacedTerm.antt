@@ -1,5 +1,5 @@
 -- PlacedTerm. Terms as they are read, each with the place of its principal token, in bytes of the text.
-use Rattle.std.specs.Prelude.{ℕ, ℤ, List, [], ◌∷◌}
+use Rattle.std.specs.Prelude.{ℕ, ℤ}
 use Rattle.fd_language.specs.Term.{Name, Term, Terms, Var, Int, Atom, Comp, no_terms, term}
 
 mutual
