@@ -80,9 +80,12 @@ impl<'c> Model for Woken<'c> {
     ghost use Rattle.std.specs.Prelude.{◌++◌, ◌≤◌, length};
     ghost use Rattle.dependency_chains.specs.Links.{agents_from, AreLinked};
 
-    ghost view = { λ w. agents_from w.links.now w.dom ++ (agents_from w.links.now w.min ++ (agents_from w.links.now w.max ++ agents_from w.links.now w.val)) };
+    ghost view = { λ w. agents_from w.links.now w.dom ++ (agents_from w.links.now w.min
+        ++ (agents_from w.links.now w.max ++ agents_from w.links.now w.val)) };
 
-    ghost invariant = { λ w. AreLinked w.links.now × (w.dom ≤ length w.links.now) × (w.min ≤ length w.links.now) × (w.max ≤ length w.links.now) × (w.val ≤ length w.links.now) };
+    ghost invariant = { λ w. AreLinked w.links.now × (w.dom ≤ length w.links.now)
+        × (w.min ≤ length w.links.now) × (w.max ≤ length w.links.now)
+        × (w.val ≤ length w.links.now) };
 }
 
 ghost use Rattle.dependency_chains.specs.Waking.{change_of, wakes};
@@ -125,7 +128,8 @@ fn head(heads: &Heads, feature: Feature) -> u32
 
 /// Gives a chain another head.
 fn set_head(heads: &mut Heads, feature: Feature, place: u32)
-    ensures { (f : Told) → head_of heads.new f ≡ (if is_same_feature feature f then place else head_of heads.old f) }
+    ensures { (f : Told) → head_of heads.new f
+        ≡ (if is_same_feature feature f then place else head_of heads.old f) }
 {
     match feature {
         Feature::Min => heads.min = place,
@@ -150,7 +154,8 @@ fn add_links(
     requires few_vars { length heads.old.items < 2 ^ 32 }
     ensures chains { AreChains links.new.items heads.new.items }
     ensures vars { length heads.new.items ≡ length heads.old.items }
-    ensures reads { reads_of links.new.items ≡ reads_of links.old.items ++ read_by agent features.now }
+    ensures reads { reads_of links.new.items ≡ reads_of links.old.items
+        ++ read_by agent features.now }
 {
     for read in features {
         let (var, feature) = *read;
@@ -170,7 +175,8 @@ fn cut_links(links: &mut Vec<Link>, heads: &mut Vec<Heads>, agents: usize)
     requires { AreChains links.old.items heads.old.items }
     ensures chains { AreChains links.new.items heads.new.items }
     ensures vars { length heads.new.items ≡ length heads.old.items }
-    ensures reads { reads_of links.new.items ≡ filter (λ r. nat_lt r.agent agents) (reads_of links.old.items) }
+    ensures reads { reads_of links.new.items ≡ filter (λ r. nat_lt r.agent agents)
+        (reads_of links.old.items) }
 {
     'cutting: while !links.is_empty() {
         let last = links.len() - 1;
@@ -219,7 +225,8 @@ impl Chains {
     pub fn register(&mut self, agent: usize, features: &[(usize, Feature)]) -> Result<(), NoMemory>
         requires agent { All (λ r. r.agent ≤ agent) self.old.reads }
         requires vars { All (λ d. d.0 < self.old.vars) features.now }
-        ensures added { OnOk result (self.new ≡ record self.old { reads = self.old.reads ++ read_by agent features.now }) }
+        ensures added { OnOk result (self.new ≡ record self.old { reads = self.old.reads
+            ++ read_by agent features.now }) }
         ensures unchanged { OnErr result (self.new ≡ self.old) }
     {
         let links = self.links.len().saturating_add(features.len());
@@ -235,7 +242,8 @@ impl Chains {
     pub fn cut_to(&mut self, agents: usize, vars: usize)
         requires vars { vars ≤ self.old.vars }
         requires stay { All (λ r. r.agent < agents → r.var < vars) self.old.reads }
-        ensures { self.new ≡ record { vars = vars; reads = filter (λ r. nat_lt r.agent agents) self.old.reads } }
+        ensures { self.new ≡ record { vars = vars; reads = filter
+            (λ r. nat_lt r.agent agents) self.old.reads } }
     {
         cut_links(&mut self.links, &mut self.heads, agents);
         self.heads.truncate(vars);
@@ -244,7 +252,8 @@ impl Chains {
     /// The agents that read what a change of the variable `k` changed.
     pub fn woken(&self, k: usize, change: Change) -> Woken<'_>
         requires { k < self.now.vars }
-        ensures { (a : ℕ) → has result a ≡ list_any (λ r. (r.agent == a) && ((r.var == k) && wakes change r.feature)) self.now.reads }
+        ensures { (a : ℕ) → has result a ≡ list_any (λ r. (r.agent == a) &&
+            ((r.var == k) && wakes change r.feature)) self.now.reads }
     {
         let heads = self.heads[k];
         Woken {
@@ -262,7 +271,8 @@ fn step(links: &[Link], place: &mut u32) -> Option<usize>
     requires linked { AreLinked links.now }
     requires within { place.old ≤ length links.now }
     ensures within { place.new ≤ length links.now }
-    ensures next { MatchOption result ((place.old ≡ 0) × (place.new ≡ 0)) (λ a. agents_from links.now place.old ≡ a ∷ agents_from links.now place.new) }
+    ensures next { MatchOption result ((place.old ≡ 0) × (place.new ≡ 0))
+        (λ a. agents_from links.now place.old ≡ a ∷ agents_from links.now place.new) }
 {
     if *place == 0 {
         return None;

@@ -1,7 +1,10 @@
 -- The levels that a store's fields stand for.
 use Rattle.std.specs.Prelude.{◌≡◌, ℕ, ◌<◌, ◌≤◌, Bool, true, false, List, [], ◌∷◌, ◌++◌, length, take, filter, nat_lt, All}
 use Rattle.fd_language.specs.declared.TheConstants.{INFINITY}
+use Rattle.fd_language.specs.Family.{universe}
 use Rattle.fd_language.specs.Range.{Indexical}
+use Rattle.fd_model.specs.Weights.{weights, whole_weights}
+use Rattle.range_code.specs.Frames.{family_of}
 use Rattle.fd_model.specs.Closed.{AllPosted}
 use Rattle.fd_language.specs.Monotonicity.{IsMonotone}
 use Rattle.dependency_chains.specs.Reading.{Reading, Readings}
@@ -43,6 +46,22 @@ pub record IsStore (is : List Posting) (flags : List Bool) (agenda : List ℕ) (
   pub settled : spent ≡ false → lost ≡ false → AreDomains (ranges_of is) trail.current
   pub failed : spent ≡ false → lost ≡ true → HasNone (ranges_of is) (length trail.current)
   pub below : AreBelow is readings.reads (length is) (length trail.current) ms trail.below
+
+-- nothing is posted, and there are no variables
+abbrev pub no_levels : Levels
+no_levels = record { current = record { posted = []; sets = []; failed = false }; below = []; spent = false }
+
+-- one more variable, which may have any value
+abbrev pub with_variable : Level → Level
+with_variable l = record l { sets = l.sets ++ universe INFINITY ∷ [] }
+
+-- what the change of the sets from one level to a later one weighs, for all that is posted on the later one
+abbrev pub step_weight : Level → Level → ℕ
+step_weight old new = weights new.posted (family_of old.sets) (family_of new.sets)
+
+-- the most that it may weigh, whatever becomes of the sets
+abbrev pub whole_weight_of_step : Level → Level → ℕ
+whole_weight_of_step old new = whole_weights new.posted (family_of old.sets)
 
 -- how a post leaves the current level
 abbrev pub IsPosted : Posted → Level → Type 0

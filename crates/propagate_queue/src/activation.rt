@@ -38,7 +38,8 @@ pub fn activate(
     requires posting { IsPosting (length trail.old.current) (posting_at agents.old agent) }
     requires some { (x : ℕ) → is_none_left (family_of trail.old.current x) ≡ false }
     requires family { IsFamily TOP (family_of trail.old.current) }
-    ensures done { IfOk result (Activated (ranged (posting_at agents.old agent)) trail.old trail.new) }
+    ensures done { IfOk result
+        (Activated (ranged (posting_at agents.old agent)) trail.old trail.new) }
     ensures unchanged { IfErr result (λ _. trail.new ≡ trail.old) }
     ensures agents { agents.new ≡ agents.old }
     ensures count { n.new.count ≡ min (n.old.count + 1) (2 ^ 64 - 1) }

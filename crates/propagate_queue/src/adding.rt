@@ -36,7 +36,8 @@ fn read_features(
     into: &mut Vec<(usize, Feature)>,
 ) -> Result<(), NoMemory>
     requires { IsInstance vars instance.now }
-    ensures same { OnOk result ((x : ℕ) (c : Told) → is_woken c x into.new.items ≡ is_woken c x (range_features (indexical instance.now).range)) }
+    ensures same { OnOk result ((x : ℕ) (c : Told) → is_woken c x into.new.items ≡ is_woken c x
+        (range_features (indexical instance.now).range)) }
     ensures vars { OnOk result (All (λ d. d.0 < vars) into.new.items) }
     ensures monotone { OnOk result (IsMonotone TOP (indexical instance.now).range) }
 {
@@ -65,16 +66,21 @@ fn add_agent<A: Agenda>(
     requires within { All (λ r. r.var < vars) chains.old.reads }
     requires flags { length queued.old.items ≡ length agents.old }
     requires queued { AreQueued queued.old.items (A.agents agenda.old) (A.spare agenda.old) }
-    requires room { length queued.old.items + 1 ≤ A.spare agenda.old + length (A.agents agenda.old) }
+    requires room { length queued.old.items + 1 ≤ A.spare agenda.old + length
+        (A.agents agenda.old) }
     ensures agents { OnOk result (agents.new ≡ agents.old ++ posting instance ∷ []) }
     ensures flags { OnOk result (queued.new.items ≡ queued.old.items ++ true ∷ []) }
-    ensures room { OnOk result (A.spare agenda.old + length (A.agents agenda.old) ≤ A.spare agenda.new + length (A.agents agenda.new)) }
-    ensures queued { OnOk result (AreQueued queued.new.items (A.agents agenda.new) (A.spare agenda.new)) }
+    ensures room { OnOk result (A.spare agenda.old + length (A.agents agenda.old)
+        ≤ A.spare agenda.new + length (A.agents agenda.new)) }
+    ensures queued { OnOk result (AreQueued queued.new.items (A.agents agenda.new)
+        (A.spare agenda.new)) }
     ensures monotone { OnOk result (IsMonotone TOP (indexical instance).range) }
     ensures readers { AreReaders (ranges_of agents.new) chains.new.reads }
     ensures vars { chains.new.vars ≡ vars }
     ensures within { All (λ r. r.var < vars) chains.new.reads }
-    ensures kept { (m : ℕ) → m ≤ length agents.old → filter (λ r. nat_lt r.agent m) chains.new.reads ≡ filter (λ r. nat_lt r.agent m) chains.old.reads }
+    ensures kept { (m : ℕ) → m ≤ length agents.old
+        → filter (λ r. nat_lt r.agent m) chains.new.reads
+        ≡ filter (λ r. nat_lt r.agent m) chains.old.reads }
     ensures unchanged { OnErr result (agents.new ≡ agents.old) }
     ensures no_flag { OnErr result (queued.new.items ≡ queued.old.items) }
 {
@@ -108,12 +114,15 @@ pub fn add_agents<A: Agenda>(
     requires within { All (λ r. r.var < vars) chains.old.reads }
     requires flags { length queued.old.items ≡ length agents.old }
     requires queued { AreQueued queued.old.items (A.agents agenda.old) (A.spare agenda.old) }
-    requires room { length queued.old.items + length list.items ≤ A.spare agenda.old + length (A.agents agenda.old) }
+    requires room { length queued.old.items + length list.items ≤ A.spare agenda.old + length
+        (A.agents agenda.old) }
     requires old { All (IsPosting vars) agents.old }
     requires monotone { AllPosted (λ p. IsMonotone TOP p.range) (ranges_of agents.old) }
     ensures agents { OnOk result (agents.new ≡ agents.old ++ map posting list.items) }
-    ensures flags { OnOk result (queued.new.items ≡ queued.old.items ++ map (λ _. true) list.items) }
-    ensures queued { OnOk result (AreQueued queued.new.items (A.agents agenda.new) (A.spare agenda.new)) }
+    ensures flags { OnOk result (queued.new.items ≡ queued.old.items
+        ++ map (λ _. true) list.items) }
+    ensures queued { OnOk result (AreQueued queued.new.items (A.agents agenda.new)
+        (A.spare agenda.new)) }
     ensures instances { All (IsPosting vars) agents.new }
     ensures monotone { AllPosted (λ p. IsMonotone TOP p.range) (ranges_of agents.new) }
     ensures readers { AreReaders (ranges_of agents.new) chains.new.reads }
@@ -122,7 +131,9 @@ pub fn add_agents<A: Agenda>(
     ensures more { length agents.old ≤ length agents.new }
     ensures front { take (length agents.old) agents.new ≡ agents.old }
     ensures flagged { length queued.new.items ≡ length agents.new }
-    ensures kept { (m : ℕ) → m ≤ length agents.old → filter (λ r. nat_lt r.agent m) chains.new.reads ≡ filter (λ r. nat_lt r.agent m) chains.old.reads }
+    ensures kept { (m : ℕ) → m ≤ length agents.old
+        → filter (λ r. nat_lt r.agent m) chains.new.reads
+        ≡ filter (λ r. nat_lt r.agent m) chains.old.reads }
 {
     for instance in list {
         add_agent(agents, queued, chains, agenda, scratch, vars, instance)?;

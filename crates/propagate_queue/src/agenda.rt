@@ -71,7 +71,8 @@ impl Agenda for Fifo {
     fn put(&mut self, agent: usize, _cost: usize)
         requires { 0 < deque_capacity self.old.list - deque_len self.old.list }
         ensures last { self.new.list.items ≡ self.old.list.items ++ agent ∷ [] }
-        ensures added { (k : ℕ) → times k self.new.list.items ≡ times k (agent ∷ self.old.list.items) }
+        ensures added { (k : ℕ) → times k self.new.list.items ≡ times k
+            (agent ∷ self.old.list.items) }
         ensures len { length self.new.list.items ≡ length self.old.list.items + 1 }
         ensures room { deque_capacity self.old.list - deque_len self.old.list
             ≤ deque_capacity self.new.list - deque_len self.new.list + 1 }
@@ -88,7 +89,8 @@ impl Agenda for Fifo {
             → times k self.old.list.items ≡ times k (a ∷ self.new.list.items)) }
         ensures len { IfSome result (λ _.
             length self.old.list.items ≡ length self.new.list.items + 1) }
-        ensures room { IfSome result (λ _. deque_capacity self.old.list - deque_len self.old.list + 1
+        ensures room { IfSome result
+            (λ _. deque_capacity self.old.list - deque_len self.old.list + 1
             ≤ deque_capacity self.new.list - deque_len self.new.list) }
         ensures kept { IfNone result (deque_capacity self.old.list - deque_len self.old.list
             ≤ deque_capacity self.new.list - deque_len self.new.list) }

@@ -3,6 +3,7 @@
 ghost use Rattle.std.specs.Prelude.{◌≡◌, ◌<◌, ◌+◌, ◌-◌, ◌^◌, ◌++◌, ◌∷◌, [], ℕ, min, false, length, take, OnOk, OnErr, IfOk};
 ghost use Rattle.fd_language.specs.declared.TheConstants.{INFINITY as TOP};
 ghost use Rattle.fd_language.specs.Family.{IsFamily};
+ghost use Rattle.fd_language.specs.Flat.{nodes_of};
 ghost use Rattle.fd_language.specs.Range.{set_of, is_none_left};
 ghost use Rattle.domain_ranges.specs.Narrowing.{IsNarrowed};
 ghost use Rattle.range_code.specs.Frames.{family_of, IsFrame};
@@ -80,6 +81,7 @@ impl Agents {
     /// The cost of an agent: the number of nodes of its range.
     pub fn cost(&self, number: usize) -> usize
         requires { number < length self.now }
+        ensures { result ≡ length (nodes_of (posting_at self.now number).range) }
     {
         self.list[number].code.range().nodes().len()
     }

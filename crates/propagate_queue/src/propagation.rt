@@ -58,8 +58,11 @@ pub fn propagate<A: Agenda>(
     ensures family { IsFamily TOP (family_of trail.new.current) }
     ensures queued { AreQueued queued.new (A.agents agenda.new) (A.spare agenda.new) }
     ensures all { OnOk result (A.agents agenda.new ≡ []) }
-    ensures done { IfOk result (λ b. MatchBool b (AreDomains (ranges_of agents.old) trail.new.current) (HasNone (ranges_of agents.old) (length trail.old.current))) }
-    ensures count { n.new.count ≤ n.old.count + (flagged queued.old + weights (ranges_of agents.old) (family_of trail.old.current) (family_of trail.new.current)) }
+    ensures done { IfOk result
+        (λ b. MatchBool b (AreDomains (ranges_of agents.old) trail.new.current)
+        (HasNone (ranges_of agents.old) (length trail.old.current))) }
+    ensures count { n.new.count ≤ n.old.count + (flagged queued.old + weights
+        (ranges_of agents.old) (family_of trail.old.current) (family_of trail.new.current)) }
 {
     'activating: while let Some(agent) = agenda.take() {
         queued[agent] = false;
@@ -85,8 +88,8 @@ pub fn clear<A: Agenda>(agenda: &mut A, queued: &mut [bool])
     ensures queued { AreQueued queued.new (A.agents agenda.new) (A.spare agenda.new) }
     ensures empty { A.agents agenda.new ≡ [] }
 {
-    'clearing: while let Some(agent) = agenda.take() {
-        queued[agent] = false;
+    'clearing: while let Some(waiting) = agenda.take() {
+        queued[waiting] = false;
     }
 }
 

@@ -2,10 +2,9 @@
 
 ghost use Rattle.std.specs.Prelude.{◌≡◌, ◌<◌, ◌≤◌, ◌+◌, ◌++◌, ◌∷◌, [], ℕ, true, false, map, take, drop, filter, nat_lt, length, All, IfOk, OnOk, OnErr, MatchBool};
 ghost use Rattle.fd_language.specs.declared.TheConstants.{INFINITY as TOP};
-ghost use Rattle.fd_language.specs.Family.{universe};
 ghost use Rattle.fd_language.specs.Monotonicity.{IsMonotone};
 ghost use Rattle.fd_model.specs.Closed.{AllPosted};
-ghost use Rattle.fd_model.specs.Weights.{weights, whole_weights};
+ghost use Rattle.fd_model.specs.Weights.{weights};
 ghost use Rattle.range_code.specs.Frames.{family_of};
 ghost use Rattle.propagate_queue.specs.Instances.{posting, posted_by, IsInstance};
 ghost use Rattle.propagate_queue.specs.Postings.{ranges_of, IsPosting, AreReaders};
@@ -59,18 +58,22 @@ impl<A: Agenda + Drop> Model for Store<A> {
     ghost use Rattle.propagate_queue.specs.Postings.{ranges_of};
     ghost use Rattle.propagate_queue.specs.Stored.{levels_below, IsStore};
 
-    ghost view = { λ s. record { current = record { posted = ranges_of s.agents; sets = s.trail.current; failed = s.failed }; below = levels_below (reverse s.marks.items) s.trail.below (ranges_of s.agents); spent = s.spent } };
+    ghost view = { λ s. record {
+        current = record { posted = ranges_of s.agents; sets = s.trail.current; failed = s.failed };
+        below = levels_below (reverse s.marks.items) s.trail.below (ranges_of s.agents);
+        spent = s.spent } };
 
-    ghost invariant = { λ s. IsStore s.agents s.queued.items (A.agents s.agenda) (A.spare s.agenda) s.chains s.trail (reverse s.marks.items) s.failed s.spent };
+    ghost invariant = { λ s. IsStore s.agents s.queued.items (A.agents s.agenda)
+        (A.spare s.agenda) s.chains s.trail (reverse s.marks.items) s.failed s.spent };
 }
 
-ghost use Rattle.propagate_queue.specs.Stored.{IsPosted};
+ghost use Rattle.propagate_queue.specs.Stored.{no_levels, with_variable, step_weight, whole_weight_of_step, IsPosted};
 ghost use Rattle.propagate_queue.specs.declared.store.Posted.TheVariants as Ended;
 
 impl<A: Agenda + Drop> Store<A> {
     /// One level without variables, where nothing is posted.
     pub fn new(alloc: Global, mut agenda: A) -> Store<A>
-        ensures { result ≡ record { current = record { posted = []; sets = []; failed = false }; below = []; spent = false } }
+        ensures { result ≡ no_levels }
     {
         empty(&mut agenda);
         Store {
@@ -89,7 +92,8 @@ impl<A: Agenda + Drop> Store<A> {
     /// One more variable, which may have any value.
     pub fn new_var(&mut self) -> Result<usize, NoMemory>
         ensures number { IfOk result (λ k. k ≡ length self.old.current.sets) }
-        ensures added { OnOk result (self.new ≡ record self.old { current = record self.old.current { sets = self.old.current.sets ++ universe TOP ∷ [] } }) }
+        ensures added { OnOk result
+            (self.new ≡ record self.old { current = with_variable self.old.current }) }
         ensures unspent { OnOk result (self.old.spent ≡ false) }
         ensures below { self.new.below ≡ self.old.below }
         ensures spent { OnErr result (self.new.spent ≡ true) }
@@ -107,16 +111,20 @@ impl<A: Agenda + Drop> Store<A> {
     /// Posts the ranges behind those that are posted, and narrows the domains until no posted range narrows one further.
     pub fn post(&mut self, list: Vec<Instance>, n: &mut Activations) -> Result<Posted, NoMemory>
         requires { All (IsInstance (length self.old.current.sets)) list.items }
-        ensures posted { OnOk result (self.new.current.posted ≡ self.old.current.posted ++ posted_by list.items) }
+        ensures posted { OnOk result (self.new.current.posted ≡ self.old.current.posted
+            ++ posted_by list.items) }
         ensures vars { OnOk result (length self.new.current.sets ≡ length self.old.current.sets) }
         ensures below { self.new.below ≡ self.old.below }
         ensures unspent { OnOk result ((self.old.spent ≡ false) × (self.new.spent ≡ false)) }
         ensures spent { OnErr result (self.new.spent ≡ true) }
         ensures done { IfOk result (λ p. IsPosted p self.new.current) }
-        ensures still_failed { self.old.current.failed ≡ true → (IfOk result (λ p. p ≡ Ended.Failed)) × (n.new.count ≡ n.old.count) }
+        ensures still_failed { self.old.current.failed ≡ true
+            → IfOk result (λ p. p ≡ Ended.Failed) × (n.new.count ≡ n.old.count) }
         ensures uncounted { self.old.spent ≡ true → n.new.count ≡ n.old.count }
-        ensures count { n.new.count ≤ n.old.count + (length list.items + weights self.new.current.posted (family_of self.old.current.sets) (family_of self.new.current.sets)) }
-        ensures whole { n.new.count ≤ n.old.count + (length list.items + whole_weights self.new.current.posted (family_of self.old.current.sets)) }
+        ensures count { n.new.count
+            ≤ n.old.count + (length list.items + step_weight self.old.current self.new.current) }
+        ensures whole { n.new.count
+            ≤ n.old.count + (length list.items + whole_weight_of_step self.old.current self.new.current) }
     {
         if self.spent {
             return Err(NoMemory);
@@ -162,8 +170,10 @@ impl<A: Agenda + Drop> Store<A> {
 
     /// What holds of the current level.
     pub fn known(&self)
-        ensures kept { self.now.spent ≡ false → self.now.current.failed ≡ false → AreDomains self.now.current.posted self.now.current.sets }
-        ensures failed { self.now.spent ≡ false → self.now.current.failed ≡ true → HasNone self.now.current.posted (length self.now.current.sets) }
+        ensures kept { self.now.spent ≡ false → self.now.current.failed ≡ false
+            → AreDomains self.now.current.posted self.now.current.sets }
+        ensures failed { self.now.spent ≡ false → self.now.current.failed ≡ true
+            → HasNone self.now.current.posted (length self.now.current.sets) }
     {
         let _ = &self.agents;
     }
@@ -171,7 +181,8 @@ impl<A: Agenda + Drop> Store<A> {
     /// Puts an equal level below the current one, which hasn't failed.
     pub fn push_mark(&mut self) -> Result<(), NoMemory>
         requires { self.old.current.failed ≡ false }
-        ensures marked { OnOk result (self.new ≡ record self.old { below = self.old.current ∷ self.old.below }) }
+        ensures marked { OnOk result (self.new ≡ record self.old { below = self.old.current
+            ∷ self.old.below }) }
         ensures unspent { OnOk result (self.old.spent ≡ false) }
         ensures spent { OnErr result (self.new ≡ record self.old { spent = true }) }
     {
@@ -251,15 +262,21 @@ fn post_all<A: Agenda>(
     ensures flagged { length queued.new.items ≡ length agents.new }
     ensures more { length agents.old ≤ length agents.new }
     ensures front { take (length agents.old) agents.new ≡ agents.old }
-    ensures kept { (m : ℕ) → m ≤ length agents.old → filter (λ r. nat_lt r.agent m) chains.new.reads ≡ filter (λ r. nat_lt r.agent m) chains.old.reads }
+    ensures kept { (m : ℕ) → m ≤ length agents.old
+        → filter (λ r. nat_lt r.agent m) chains.new.reads
+        ≡ filter (λ r. nat_lt r.agent m) chains.old.reads }
     ensures below { trail.new.below ≡ trail.old.below }
     ensures sets { length trail.new.current ≡ length trail.old.current }
-    ensures queued { OnOk result (AreQueued queued.new.items (A.agents agenda.new) (A.spare agenda.new)) }
+    ensures queued { OnOk result (AreQueued queued.new.items (A.agents agenda.new)
+        (A.spare agenda.new)) }
     ensures empty { OnOk result (A.agents agenda.new ≡ []) }
-    ensures done { IfOk result (λ b. MatchBool b (AreDomains (ranges_of agents.new) trail.new.current) (HasNone (ranges_of agents.new) (length trail.old.current))) }
+    ensures done { IfOk result
+        (λ b. MatchBool b (AreDomains (ranges_of agents.new) trail.new.current)
+        (HasNone (ranges_of agents.new) (length trail.old.current))) }
     ensures lost { lost ≡ true → IfOk result (λ b. b ≡ false) }
     ensures uncounted { lost ≡ true → n.new.count ≡ n.old.count }
-    ensures count { n.new.count ≤ n.old.count + (length list.items + weights (ranges_of agents.new) (family_of trail.old.current) (family_of trail.new.current)) }
+    ensures count { n.new.count ≤ n.old.count + (length list.items + weights (ranges_of agents.new)
+        (family_of trail.old.current) (family_of trail.new.current)) }
 {
     let vars = trail.vars();
     agenda.reserve(queued.len() + list.len())?;
