@@ -156,3 +156,24 @@ more_at M p a b out i j s h g k l = meeting_more M p out (drop (i + 1) a) (drop 
 
 pub done_at : (M : ℕ) (p : ℕ → Bool) (a b out : List Span) (i j : ℕ) → Meeting M p out (drop i a) (drop j b) → (length a ≤ i) ⊎ (length b ≤ j) → members out ≡ filter p (universe M)
 done_at M p a b out i j s h = meeting_done M p out (drop i a) (drop j b) s (elim h [ inl l ↦ inl (drop_of_length-le a l) | inr l ↦ inr (drop_of_length-le b l) ])
+
+-- the meeting of two single intervals
+lists_one : (a : List Span) → 1 ≡ length a → a ≡ get_or a 0 (0, 0) ∷ []
+lists_one [] h = absurd (omega arith)
+lists_one (x ∷ []) h = refl
+lists_one (x ∷ y ∷ xs) h = absurd (omega arith)
+
+module _ (M : ℕ) (a : List Span) (y : Span) (r : IsSpans 0 M a) (q : IsSpans 0 M (y ∷ [])) (h : 1 ≡ length a) where
+  abbrev both : ℕ → Bool
+  both n = within a n && within (y ∷ []) n
+
+  met : (ra : List Span) × (rb : List Span) × Meeting M both (meet (get_or a 0 (0, 0)) y) ra rb × ((ra ≡ []) ⊎ (rb ≡ []))
+  met =
+      let start : Meeting M both [] (get_or a 0 (0, 0) ∷ []) (y ∷ []) = subst (λ l. Meeting M both [] l (y ∷ [])) (lists_one a h) (meeting_start M a (y ∷ []) r q) in
+      elim (le_or (get_or a 0 (0, 0)).1 y.1) [
+        | inl e ↦ ([], y ∷ [], pass_left M both [] [] [] (get_or a 0 (0, 0)) y start e, inl refl)
+        | inr e ↦ (get_or a 0 (0, 0) ∷ [], [], pass_right M both [] [] [] (get_or a 0 (0, 0)) y start e, inr refl)
+      ]
+
+  pub one_set : (out : List Span) → out ≡ meet (get_or a 0 (0, 0)) y → members out ≡ filter both (universe M)
+  one_set out e = ap members e ∙ meeting_done M both (meet (get_or a 0 (0, 0)) y) met.0 met.1 met.2 met.3

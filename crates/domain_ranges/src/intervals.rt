@@ -157,6 +157,26 @@ pub fn meet_all(
     Ok(list)
 }
 
+/// The numbers of the intervals that are in one more interval.
+pub fn meet_one(
+    alloc: Global,
+    spans: &[(u32, u32)],
+    bounds: (u32, u32),
+) -> Result<SmallVec<(u32, u32), 2>, NoMemory>
+    requires list { IsSpans 0 INFINITY spans.now }
+    requires bounds { IsSpans 0 INFINITY (bounds ∷ []) }
+    ensures spans { IfOk result (λ list. IsSpans 0 INFINITY list.items) }
+    ensures set { IfOk result (λ list. members list.items
+        ≡ filter (λ n. within spans.now n && within (bounds ∷ []) n) (universe INFINITY)) }
+{
+    if spans.len() == 1 {
+        let mut list = SmallVec::new(alloc);
+        push_meet(&mut list, spans[0], bounds)?;
+        return Ok(list);
+    }
+    meet_all(alloc, spans, &[bounds])
+}
+
 /// Puts `last` behind the list, unless `next`, which begins no earlier, touches it. What the list may then end with.
 fn join(
     list: &mut SmallVec<(u32, u32), 2>,

@@ -213,7 +213,7 @@ impl Domain {
         if !intervals::is_cut(spans, bounds) {
             return Ok(Narrowed::Same);
         }
-        let list = intervals::meet_all(*self.list.allocator(), spans, &[bounds])?;
+        let list = intervals::meet_one(*self.list.allocator(), spans, bounds)?;
         let left = Domain { list };
         match left.min() {
             None => Ok(Narrowed::Empty),

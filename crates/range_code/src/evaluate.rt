@@ -25,6 +25,7 @@ pub(crate) struct Steps {
 }
 
 /// The least member, and 0 where there is none.
+#[inline(always)]
 fn least(domain: &Domain) -> i128
     ensures { result ≡ pos (least_of domain.now) }
 {
@@ -32,6 +33,7 @@ fn least(domain: &Domain) -> i128
 }
 
 /// The greatest member, and 0 where there is none.
+#[inline(always)]
 fn greatest(domain: &Domain) -> i128
     ensures { result ≡ pos (greatest_of domain.now) }
 {
@@ -39,6 +41,7 @@ fn greatest(domain: &Domain) -> i128
 }
 
 /// The value of a leaf.
+#[inline(always)]
 fn leaf<V: View>(node: RangeNode, args: &[Arg], view: &V) -> i128
     requires { IsReadable (length (V.sets view.now)) args.now node }
     ensures { result ≡ leaf_value (slot_set (V.sets view.now) args.now) (slot_integer args.now) node }
@@ -55,7 +58,13 @@ fn leaf<V: View>(node: RangeNode, args: &[Arg], view: &V) -> i128
 }
 
 /// Takes the operands of the node and puts its value or set in their place.
-fn take<V: View>(work: &mut Work, node: RangeNode, args: &[Arg], view: &V) -> Result<(), NoMemory>
+#[inline(always)]
+fn take<V: View>(
+    work: &mut Work,
+    node: RangeNode,
+    args: &[Arg],
+    view: &V,
+) -> Result<(), NoMemory>
     requires readable { IsReadable (length (V.sets view.now)) args.now node }
     requires fits { CanTake node work.old }
     requires room { HasRoom (node ∷ []) work.old }

@@ -29,6 +29,7 @@ pub(crate) enum Standing {
 }
 
 /// The variable, and 0 for an integer.
+#[inline(always)]
 fn variable(arg: Arg) -> usize
     ensures { result ≡ variable_of arg }
 {
@@ -39,6 +40,7 @@ fn variable(arg: Arg) -> usize
 }
 
 /// The integer, and 0 for a variable.
+#[inline(always)]
 fn integer(arg: Arg) -> i64
     ensures { result ≡ integer_of arg }
 {
@@ -49,6 +51,7 @@ fn integer(arg: Arg) -> i64
 }
 
 /// The integer of the slot.
+#[inline(always)]
 pub(crate) fn slot_value(args: &[Arg], slot: usize) -> i64
     requires { slot < length args.now }
     ensures { result ≡ slot_integer args.now slot }
@@ -57,6 +60,7 @@ pub(crate) fn slot_value(args: &[Arg], slot: usize) -> i64
 }
 
 /// The domain of the slot's variable.
+#[inline(always)]
 pub(crate) fn slot_domain<'v, V: View>(args: &[Arg], slot: usize, view: &'v V) -> &'v Domain
     requires { IsSeen (length (V.sets view.now)) args.now slot }
     ensures { result.now ≡ slot_set (V.sets view.now) args.now slot }
@@ -100,6 +104,7 @@ pub(crate) fn find_standing<V: View>(
 }
 
 /// Whether the domain of some slot has several members.
+#[inline(always)]
 pub(crate) fn is_some_open<V: View>(slots: &[usize], args: &[Arg], view: &V) -> bool
     requires { All (IsSeen (length (V.sets view.now)) args.now) slots.now }
     ensures { result ≡ list_any (λ s. is_several (slot_set (V.sets view.now) args.now s)) slots.now }

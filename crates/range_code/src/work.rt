@@ -21,6 +21,7 @@ pub(crate) struct Work {
 }
 
 /// The quotient rounded down. Nothing is divided by 0: the quotient is then the greater of the dividend and `INFINITY`.
+#[inline(never)]
 fn divide_down(a: i128, b: i128) -> i128
     requires { pos 0 ≤ℤ b }
     ensures { result ≡ div_down INFINITY a b }
@@ -33,6 +34,7 @@ fn divide_down(a: i128, b: i128) -> i128
 }
 
 /// The quotient rounded up. By 0 it is 0 for 0, and else the greater of the dividend and `INFINITY`.
+#[inline(never)]
 fn divide_up(a: i128, b: i128) -> i128
     requires limited { IsLimited a }
     requires natural { pos 0 ≤ℤ b }
@@ -48,6 +50,7 @@ fn divide_up(a: i128, b: i128) -> i128
 }
 
 /// The value of an operator of two terms.
+#[inline(always)]
 fn operate(node: RangeNode, a: i128, b: i128) -> i128
     requires { CanOperate node a b }
     ensures { result ≡ operated node a b }
@@ -117,6 +120,7 @@ impl Work {
     }
 
     /// A term waits. There is room.
+    #[inline(always)]
     pub fn push_value(&mut self, value: i128)
         requires { vec_len self.old.values < vec_capacity self.old.values }
         ensures pushed { PushesValue value self.old self.new }
@@ -127,6 +131,7 @@ impl Work {
     }
 
     /// The domain of a variable waits. There is room.
+    #[inline(never)]
     pub fn push_domain(&mut self, domain: &Domain) -> Result<(), NoMemory>
         requires { length self.old.sets.sets < self.old.sets.room }
         ensures pushed { OnOk result (PushesSet domain.now self.old self.new) }
@@ -138,6 +143,7 @@ impl Work {
     }
 
     /// Takes the last term away, if there is one.
+    #[inline(always)]
     pub fn pop_value(&mut self) -> i128
         ensures taken { (front : List ℤ) (a : ℤ) → self.old.values.items ≡ front ++ a ∷ [] → (result ≡ a) × (self.new.values.items ≡ front) }
         ensures room { KeepsRoom self.old self.new }
@@ -157,6 +163,7 @@ impl Work {
     }
 
     /// An operator of terms takes the last two.
+    #[inline(always)]
     pub fn take_terms(&mut self, node: RangeNode)
         requires { CanTakeTerms node self.old }
         ensures taken { Operates node self.old self.new }
@@ -171,6 +178,7 @@ impl Work {
     }
 
     /// An interval takes the last two terms. There is room.
+    #[inline(never)]
     pub fn take_span(&mut self) -> Result<(), NoMemory>
         requires { length self.old.sets.sets < self.old.sets.room }
         ensures taken { OnOk result (Spans self.old self.new) }
@@ -186,6 +194,7 @@ impl Work {
     }
 
     /// A single number takes the last term. There is room.
+    #[inline(never)]
     pub fn take_single(&mut self) -> Result<(), NoMemory>
         requires { length self.old.sets.sets < self.old.sets.room }
         ensures taken { OnOk result (Singles self.old self.new) }
@@ -208,6 +217,7 @@ impl Work {
     }
 
     /// The intersection takes the last two sets.
+    #[inline(never)]
     pub fn take_both(&mut self) -> Result<(), NoMemory>
         ensures taken { OnOk result (Meets self.old self.new) }
         ensures counted { OnOk result (Counts (λ n. n) (λ n. n - 1) self.old self.new) }
@@ -222,6 +232,7 @@ impl Work {
     }
 
     /// The complement takes the last set.
+    #[inline(never)]
     pub fn take_outside(&mut self) -> Result<(), NoMemory>
         ensures taken { OnOk result (Complements self.old self.new) }
         ensures counted { OnOk result (Counts (λ n. n) (λ n. n) self.old self.new) }
@@ -234,6 +245,7 @@ impl Work {
     }
 
     /// A pointwise operator takes the last term and the last set.
+    #[inline(never)]
     pub fn take_range(&mut self, node: RangeNode) -> Result<(), NoMemory>
         requires { CanTakeRange node self.old }
         ensures taken { OnOk result (Moves node self.old self.new) }
