@@ -42,7 +42,7 @@ is_label f (Either a b) o l e = absurd (cc)
 is_label f (Builtin j t) o l e = absurd (cc)
 
 -- the branch's labelling goal gives what its list, as it is seen, gives
-row_by : (M : ℕ) (b : Branch) (o : Order) (g : Goal) (others : List Goal) (here : ℕ → List ℕ) (l : Result (List Member) QueryFault) → by_list here b o g others l ≡ by_labelled b g others (by_listing o here l)
+pub row_by : (M : ℕ) (b : Branch) (o : Order) (g : Goal) (others : List Goal) (here : ℕ → List ℕ) (l : Result (List Member) QueryFault) → by_list here b o g others l ≡ by_labelled b g others (by_listing o here l)
 row_by M b o g others here (Err e) = refl
 row_by M b o g others here (Ok ms) = picked (pick o here ms)
   where

@@ -16,7 +16,7 @@ use Rattle.machine_relation.specs.Machine.{IsAt, first_frame, first_work, Walks,
 no_ranges : (M : ℕ) (S : Family) → IsModel M [] [] S → (f : ℕ → ℕ) → IsModel M [] [] (λ v. S (f v))
 no_ranges M S m f = record { unifier = Var; general = identity; closed = closed_without M [] (λ v. S (f v)) (record { rising = λ v. m.closed.family.rising (f v) }) tt; full = λ x c. absurd (true≢false (sym c)) }
 
-nothing_stored : (M n : ℕ) → IsStored M [] [] (λ v. v < n) n Var (λ c. None) (λ v. v) []
+pub nothing_stored : (M n : ℕ) → IsStored M [] [] (λ v. v < n) n Var (λ c. None) (λ v. v) []
 nothing_stored M n = record {
   heap = record { scoped = tt; unifies = tt; through = λ u k. (u, λ x l. refl); cells = λ x l. l };
   used = λ v c. absurd (true≢false (sym c));

@@ -1,0 +1,122 @@
+-- Heaps that grow while terms are built, and heaps whose variables become variables of the store.
+use Rattle.std.proofs.Common.{◌≡◌, ◌≢◌, ℕ, ◌<◌, List, [], ◌∷◌, length, Option, Some, None, refl, ap, sym, ◌∙◌, inl, inr, ◌⊎◌, arith, length-append, length-set}
+use Rattle.std.specs.Prelude.{All}
+use Rattle.std.proofs.lemmas.Bool.{cases_eq}
+use Rattle.fd_language.specs.Term.{Terms, no_terms, term, apply}
+use Rattle.heap_cells.specs.declared.Cell.{Cell}
+use Rattle.heap_cells.specs.Cells.{free, linked, Compound, Cells, slot_at, IsOf, with_slot, with_new_slot, with_compound}
+use Rattle.heap_cells.specs.Terms.{Naming, term_of}
+use Rattle.heap_cells.specs.Valid.{IsHeap}
+use Rattle.heap_cells.proofs.Binding.{slot_there, slot_elsewhere, of_same}
+use Rattle.heap_cells.proofs.Growing.{new_slot_at, var_kept, struct_kept, link_valid, link_kept}
+use Rattle.machine_relation.proofs.PostRenaming.{functions}
+use Rattle.machine_frames.specs.Environments.{cell_at, cell_look, env_look, AreAt}
+use Rattle.machine_frames.specs.Frames.{link_of, link_in, IsGrown}
+use Rattle.machine_frames.proofs.Continuing.{of_grown}
+
+pub grown_same : (h : Cells) → IsGrown h h
+grown_same h = record { slots = λ i. refl; longer = omega arith; parts = omega arith; terms = λ name c o. refl }
+
+pub grown_both : (old mid now : Cells) → IsGrown old mid → IsGrown mid now → IsGrown old now
+grown_both old mid now f g = record {
+  slots = λ i. g.slots i ∙ f.slots i;
+  longer = (let a = f.longer in let b = g.longer in omega (arith, a, b));
+  parts = (let a = f.parts in let b = g.parts in omega (arith, a, b));
+  terms = λ name c o. g.terms name c (of_grown old mid f c o) ∙ f.terms name c o;
+}
+
+-- a new variable
+pub grown_var : (h : Cells) → IsHeap h → IsGrown h (with_new_slot h)
+grown_var h valid = record {
+  slots = λ i. new_slot_at h.slots i;
+  longer = omega (arith, length-append h.slots (free ∷ []));
+  parts = omega arith;
+  terms = var_kept h valid;
+}
+
+-- a new compound term of cells that are there
+pub grown_struct : (h : Cells) → IsHeap h → (k : Compound) → All (IsOf h) k.args → IsGrown h (with_compound h k)
+grown_struct h valid k own = record {
+  slots = λ i. refl;
+  longer = omega arith;
+  parts = omega (arith, length-append h.compounds (k ∷ []));
+  terms = struct_kept h valid k own;
+}
+
+-- the environment's cells are of the heap
+abbrev pub OwnEnv : Cells → List (Option Cell) → Type 0
+OwnEnv h env = (x : ℕ) (d : Cell) → cell_at env x ≡ Some d → IsOf h d
+
+-- the terms of an environment stay
+pub env_grown : (name : Naming) (h now : Cells) → IsGrown h now → (env : List (Option Cell)) → OwnEnv h env → (x : ℕ) → env_look name now env x ≡ env_look name h env x
+env_grown name h now g env own x = by_cell (cell_at env x) refl where
+  by_cell : (o : Option Cell) → cell_at env x ≡ o → cell_look name now x (cell_at env x) ≡ cell_look name h x (cell_at env x)
+  by_cell None e = ap (cell_look name now x) e ∙ sym (ap (cell_look name h x) e)
+  by_cell (Some d) e = ap (cell_look name now x) e ∙ g.terms name d (own x d e) ∙ sym (ap (cell_look name h x) e)
+
+-- and so do the arguments that were built before
+pub at_grown : (name : Naming) (h now : Cells) → IsGrown h now → (env : List (Option Cell)) → OwnEnv h env → (cs : List Cell) (ts : Terms) → AreAt name h (env_look name h env) cs ts → AreAt name now (env_look name now env) cs ts
+at_grown name h now g env own [] no_terms a = tt
+at_grown name h now g env own [] (term t ts) a = a
+at_grown name h now g env own (c ∷ cs) no_terms a = a
+at_grown name h now g env own (c ∷ cs) (term t ts) a = (
+  (of_grown h now g c a.0.0, ap (λ s. apply s t) (functions (env_grown name h now g env own)) ∙ a.0.1 ∙ sym (g.terms name c a.0.0)),
+  at_grown name h now g env own cs ts a.1,
+)
+
+-- the pair is one of the list
+abbrev pub Listed : ℕ → ℕ → List (ℕ × ℕ) → Type 0
+Listed c k [] = ⊥
+Listed c k (p ∷ ps) = ((c ≡ p.0) × (k ≡ p.1)) ⊎ Listed c k ps
+
+-- The heap now has the terms of the heap h; its variables of the store are those of h and these, each one's own.
+pub record IsLinkedMore (h now : Cells) (more : List (ℕ × ℕ)) : Type 0 where
+  pub valid : IsHeap now
+  pub size : length now.slots ≡ length h.slots
+  pub parts : now.compounds ≡ h.compounds
+  pub terms : (name : Naming) (c : Cell) → IsOf h c → term_of name now c ≡ term_of name h c
+  pub keep : (c k : ℕ) → link_in h c ≡ Some k → link_in now c ≡ Some k
+  pub new : (c k : ℕ) → link_in now c ≡ Some k → (link_in h c ≡ Some k) ⊎ Listed c k more
+  pub one : (c d k : ℕ) → link_in now c ≡ Some k → link_in now d ≡ Some k → c ≡ d
+
+some_same : (k j : ℕ) → Some k ≡ Some j → k ≡ j
+some_same k j e = cc
+
+none_some : (k : ℕ) → None ≡ Some k → ⊥
+none_some k e = cc
+
+pub linked_none : (h : Cells) → IsHeap h → ((c d k : ℕ) → link_in h c ≡ Some k → link_in h d ≡ Some k → c ≡ d) → IsLinkedMore h h []
+linked_none h valid one = record { valid = valid; size = refl; parts = refl; terms = λ name c o. refl; keep = λ c k e. e; new = λ c k e. inl e; one = one }
+
+-- one more open variable becomes a variable of the store that no other one is
+pub linked_next : (h now : Cells) (more : List (ℕ × ℕ)) → IsLinkedMore h now more → (i k : ℕ) → i < length now.slots → slot_at now i ≡ free → ((c : ℕ) → link_in now c ≡ Some k → ⊥) → IsLinkedMore h (with_slot now i (linked k)) ((i, k) ∷ more)
+linked_next h now more l i k there open_now unused =
+    let next = with_slot now i (linked k) in
+    let here : link_in next i ≡ Some k = ap link_of (slot_there now i (linked k) there) in
+    let else : (c : ℕ) → c ≢ i → link_in next c ≡ link_in now c = λ c d. ap link_of (slot_elsewhere now i c (linked k) d) in
+    let size : length next.slots ≡ length now.slots = length-set now.slots i (linked k) in
+    let own : (c : Cell) → IsOf h c → IsOf now c = λ c o. of_same h now c (sym l.size) (sym (ap length l.parts)) o in
+    record {
+      valid = link_valid now l.valid i k there open_now;
+      size = size ∙ l.size;
+      parts = l.parts;
+      terms = λ name c o. link_kept now l.valid i k there open_now name c (own c o) ∙ l.terms name c o;
+      keep = λ c j e. elim (cases_eq c i) [
+        | inl s ↦ absurd (none_some j (sym (ap link_of (ap (slot_at now) s ∙ open_now)) ∙ l.keep c j e))
+        | inr d ↦ else c d ∙ l.keep c j e
+      ];
+      new = λ c j e. elim (cases_eq c i) [
+        | inl s ↦ inr (inl (s, some_same j k (sym e ∙ ap (link_in next) s ∙ here)))
+        | inr d ↦ elim (l.new c j (sym (else c d) ∙ e)) [ inl a ↦ inl a | inr a ↦ inr (inr a) ]
+      ];
+      one = λ c d j e f. elim (cases_eq c i) [
+        | inl s ↦ elim (cases_eq d i) [
+          | inl t ↦ s ∙ sym t
+          | inr t ↦ absurd (unused d (sym (else d t) ∙ f ∙ ap Some (some_same j k (sym e ∙ ap (link_in next) s ∙ here))))
+        ]
+        | inr s ↦ elim (cases_eq d i) [
+          | inl t ↦ absurd (unused c (sym (else c s) ∙ e ∙ ap Some (some_same j k (sym f ∙ ap (link_in next) t ∙ here))))
+          | inr t ↦ l.one c d j (sym (else c s) ∙ e) (sym (else d t) ∙ f)
+        ]
+      ];
+    }
