@@ -4,7 +4,7 @@ mod PlacedLaws
 mod Stacks
 mod Moves
 mod Lists
-mod Brackets
+mod OpenBrackets
 mod Closings
 mod Operands
 pub mod Naming

@@ -32,7 +32,7 @@ abbrev pub Apart : List ℕ → List ℕ → Type 0
 Apart w r = (ends_with_symbol w && starts_with_symbol r) ≡ false
 
 pub apart_from : (w r : List ℕ) → starts_with_symbol r ≡ false → Apart w r
-apart_from w r h = second_so (ends_with_symbol w) (starts_with_symbol r) h
+apart_from w r h = and_right (ends_with_symbol w) (starts_with_symbol r) h
 
 pub no_symbol : (c : ℕ) → is_symbol c ≡ false → (w r : List ℕ) → Apart w (c ∷ r)
 no_symbol c h w r = apart_from w (c ∷ r) h
@@ -142,7 +142,7 @@ module _ (vars : ℕ → List ℕ) (stopped : Bool) where
       where
         go : (g : Bool) → (ends_with_symbol o.name && starts_with_symbol right) ≡ g → Lexes vars stopped tight (o.name ++ (cond g (codes " ") [] ++ (right ++ r))) (y ∷ tb.at true (right_limit o) ts)
         go true e =
-            let starts : starts_with_symbol right ≡ true = and_right (ends_with_symbol o.name) (starts_with_symbol right) e in
+            let starts : starts_with_symbol right ≡ true = second_so (ends_with_symbol o.name) (starts_with_symbol right) e in
             s.lexes tight (32 ∷ (right ++ r)) (tb.at true (right_limit o) ts) (before_space (right ++ r)).symbols (no_symbol 32 symbol_space o.name (right ++ r))
             (space vars stopped true (right ++ r) (tb.at true (right_limit o) ts) (lb.at false true (right_limit o) r ts (inr starts) f t h))
         go false e =

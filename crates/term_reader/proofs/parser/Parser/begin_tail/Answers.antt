@@ -1,7 +1,7 @@
 use Rattle.std.proofs.Common.{◌∙◌, ◌-◌, ◌++◌, ◌∷◌, [], refl, ap, take, ℕ, List}
 use Rattle.term_reader.specs.declared.parser.Item.{Item}
 use Rattle.term_reader.specs.declared.parser.Item.TheVariants as its
-use Rattle.term_reader.proofs.Brackets.{on_top, moves_bar}
+use Rattle.term_reader.proofs.OpenBrackets.{on_top, moves_bar}
 use Rattle.term_reader.proofs.parser.Parser.begin_tail.Goals as goal
 
 pub returns : goal.returns

@@ -3,7 +3,7 @@ use Rattle.term_reader.specs.View.{closing_of, last_item}
 use Rattle.term_reader.specs.declared.parser.Item.TheVariants as its
 use Rattle.term_reader.specs.declared.parser.Terminal.TheVariants as tokens
 use Rattle.term_reader.specs.declared.parser.Closing.TheVariants as closings
-use Rattle.term_reader.proofs.Brackets.{on_top, moves_parenthesis}
+use Rattle.term_reader.proofs.OpenBrackets.{on_top, moves_parenthesis}
 use Rattle.term_reader.proofs.Closings.{closing_parenthesis, closing_argument, moves_nothing, moves_token}
 use Rattle.term_reader.proofs.parser.Parser.close.Goals as goal
 

@@ -6,7 +6,7 @@ use Rattle.term_reader.specs.View.{AreTerms}
 use Rattle.fd_language.specs.PlacedTerm.{comp}
 use Rattle.term_pool.specs.Contents.{atom_name}
 use Rattle.term_reader.specs.declared.parser.Item.TheVariants.{Call}
-use Rattle.term_reader.proofs.Brackets.{on_top, moves_call, terms_push, more_room}
+use Rattle.term_reader.proofs.OpenBrackets.{on_top, moves_call, terms_push, more_room}
 use Rattle.term_reader.proofs.parser.Parser.end_call.Goals as goal
 
 pub ids_from-requires : goal.ids_from-requires

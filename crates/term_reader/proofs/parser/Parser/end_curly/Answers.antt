@@ -1,6 +1,6 @@
 use Rattle.std.proofs.Common.{◌∙◌, ◌-◌, refl, ap, take, ℕ}
 use Rattle.term_reader.specs.declared.parser.Item.TheVariants as its
-use Rattle.term_reader.proofs.Brackets.{on_top, moves_curly}
+use Rattle.term_reader.proofs.OpenBrackets.{on_top, moves_curly}
 use Rattle.term_reader.proofs.parser.Parser.end_curly.Goals as goal
 
 pub returns : goal.returns

@@ -7,7 +7,7 @@ use Rattle.term_reader.specs.PlacedTerms.{parts_of, Adds}
 use Rattle.term_reader.specs.View.{AreTerms}
 use Rattle.term_reader.specs.declared.parser.Item.TheVariants as its
 use Rattle.term_reader.proofs.Stacks.{terms_more}
-use Rattle.term_reader.proofs.Brackets.{on_top, moves_list, terms_push, more_room}
+use Rattle.term_reader.proofs.OpenBrackets.{on_top, moves_list, terms_push, more_room}
 use Rattle.term_reader.proofs.parser.Parser.end_list.Goals as goal
 
 pub ids_from-requires : goal.ids_from-requires

@@ -6,7 +6,7 @@ use Rattle.term_pool.specs.PlacedTerms.{placed_of}
 use Rattle.term_reader.specs.PlacedTerms.{parts_of, Adds}
 use Rattle.term_reader.specs.View.{AreTerms}
 use Rattle.term_reader.specs.declared.parser.Item.TheVariants as its
-use Rattle.term_reader.proofs.Brackets.{on_top, moves_tail}
+use Rattle.term_reader.proofs.OpenBrackets.{on_top, moves_tail}
 use Rattle.term_reader.proofs.parser.Parser.end_tail.Goals as goal
 
 pub ids_from-requires : goal.ids_from-requires

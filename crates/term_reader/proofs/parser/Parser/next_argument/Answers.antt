@@ -1,6 +1,6 @@
 use Rattle.std.proofs.Common.{refl}
 use Rattle.term_reader.specs.View.{last_item}
-use Rattle.term_reader.proofs.Brackets.{moves_next}
+use Rattle.term_reader.proofs.OpenBrackets.{moves_next}
 use Rattle.term_reader.proofs.parser.Parser.next_argument.Goals as goal
 
 pub returns : goal.returns
