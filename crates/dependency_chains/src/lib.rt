@@ -225,8 +225,9 @@ impl Chains {
     pub fn register(&mut self, agent: usize, features: &[(usize, Feature)]) -> Result<(), NoMemory>
         requires agent { All (λ r. r.agent ≤ agent) self.old.reads }
         requires vars { All (λ d. d.0 < self.old.vars) features.now }
-        ensures added { OnOk result (self.new ≡ record self.old { reads = self.old.reads
-            ++ read_by agent features.now }) }
+        ensures added { OnOk result (self.new ≡ record self.old {
+          reads = self.old.reads ++ read_by agent features.now;
+        }) }
         ensures unchanged { OnErr result (self.new ≡ self.old) }
     {
         let links = self.links.len().saturating_add(features.len());
@@ -242,8 +243,10 @@ impl Chains {
     pub fn cut_to(&mut self, agents: usize, vars: usize)
         requires vars { vars ≤ self.old.vars }
         requires stay { All (λ r. r.agent < agents → r.var < vars) self.old.reads }
-        ensures { self.new ≡ record { vars = vars; reads = filter
-            (λ r. nat_lt r.agent agents) self.old.reads } }
+        ensures { self.new ≡ record {
+          vars = vars;
+          reads = filter (λ r. nat_lt r.agent agents) self.old.reads;
+        } }
     {
         cut_links(&mut self.links, &mut self.heads, agents);
         self.heads.truncate(vars);

@@ -55,8 +55,10 @@ impl Model for Trail {
     ghost use Rattle.std.specs.Prelude.{reverse};
     ghost use Rattle.domain_trail.specs.Trails.{sets_of, stores_below, IsTrail, AreOld};
 
-    ghost view = { λ t. record { current = sets_of t.cells.items; below = stores_below
-        (reverse t.marks.items) t.saved.items t.cells.items } };
+    ghost view = { λ t. record {
+      current = sets_of t.cells.items;
+      below = stores_below (reverse t.marks.items) t.saved.items t.cells.items;
+    } };
 
     ghost invariant = { λ t. IsTrail (reverse t.marks.items) t.saved.items t.cells.items t.stamp
         × AreOld t.last t.marks.items t.saved.items t.cells.items t.stamp };
@@ -95,8 +97,9 @@ impl Trail {
     /// One more variable, which may have any value.
     pub fn new_var(&mut self) -> Result<usize, NoMemory>
         ensures number { IfOk result (λ k. k ≡ length self.old.current) }
-        ensures added { OnOk result (self.new ≡ record self.old { current = self.old.current
-            ++ universe INFINITY ∷ [] }) }
+        ensures added { OnOk result (self.new ≡ record self.old {
+          current = self.old.current ++ universe INFINITY ∷ [];
+        }) }
         ensures unchanged { OnErr result (self.new ≡ self.old) }
     {
         let k = self.cells.len();
@@ -128,8 +131,9 @@ impl Trail {
 
     /// Puts a copy of the current store below it.
     pub fn push_mark(&mut self) -> Result<(), NoMemory>
-        ensures marked { OnOk result (self.new ≡ record self.old { below = self.old.current
-            ∷ self.old.below }) }
+        ensures marked { OnOk result (self.new ≡ record self.old {
+          below = self.old.current ∷ self.old.below;
+        }) }
         ensures unchanged { OnErr result (self.new ≡ self.old) }
     {
         self.marks.push(Mark {

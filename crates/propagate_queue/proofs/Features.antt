@@ -1,14 +1,13 @@
 -- What a posted range reads, by its code's slots.
-use Rattle.std.proofs.Common.{◌≡◌, ℕ, ℤ, ◌<◌, ◌≤◌, ◌+◌, Bool, true, false, cond, ◌||◌, ◌&&◌, not, ◌==◌, List, [], ◌∷◌, ◌++◌, map, take, filter, length, get_or, refl, ap, sym, ◌∙◌, subst, inl, inr, arith, eqb-true, All}
-use mathlib.Core.Path.{fun_ext}
-use Rattle.std.proofs.lemmas.Bool.{cases_Bool, true≢false}
+use Rattle.std.proofs.Common.{◌≡◌, ℕ, ℤ, ◌<◌, ◌+◌, Bool, true, false, cond, ◌||◌, ◌&&◌, not, ◌==◌, List, [], ◌∷◌, ◌++◌, map, take, filter, length, get_or, refl, ap, sym, ◌∙◌, subst, inl, inr, arith, eqb-true, All}
+use Rattle.std.proofs.lemmas.Bool.{cases_Bool}
 use Rattle.std.proofs.lemmas.List.{map-append, take_more}
 use Rattle.std.proofs.lemmas.List.Elements.{All-map}
 use Rattle.std.specs.List.{list_any}
 use Rattle.fd_language.specs.declared.TheConstants.{INFINITY}
 use Rattle.fd_language.specs.declared.range_node.Feature.{Feature}
 use Rattle.fd_language.specs.declared.range_node.Feature.TheVariants as feature
-use Rattle.fd_language.specs.Features.{expr_features, range_features, is_same_feature, is_same_pair, each_once, features_of}
+use Rattle.fd_language.specs.Features.{expr_features, range_features, is_same_feature, is_same_pair, each_once}
 use Rattle.fd_language.specs.Check.{fill, fill_range}
 use Rattle.fd_language.specs.Flat.{nodes_of}
 use Rattle.fd_language.specs.Monotonicity.{IsMonotone}
@@ -18,7 +17,7 @@ use Rattle.fd_language.specs.Range.{Range, Span, One, Dom, Union, Inter, Outside
 use Rattle.range_code.specs.declared.frame.Arg.{Arg}
 use Rattle.range_code.specs.Slots.{slot_of, in_slots, slot_features}
 use Rattle.range_code.specs.Frames.{IsFrame, slot_variable, slot_integer, posted}
-use Rattle.range_code.specs.Nodes.{IsSeen, IsReadable}
+use Rattle.range_code.specs.Nodes.{IsSeen}
 use Rattle.range_code.proofs.Framing.{all_readable}
 use Rattle.range_code.proofs.Posted.{one_use, posted_monotone}
 use Rattle.range_code.proofs.Standings.{features_seen, all_once}

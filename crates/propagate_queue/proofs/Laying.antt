@@ -1,8 +1,8 @@
 -- Arguments in one list: what one more agent and fewer agents leave.
-use Rattle.std.proofs.Common.{◌≡◌, ℕ, zero, suc, ◌+◌, ◌<◌, ◌≤◌, ◌-◌, List, [], ◌∷◌, ◌++◌, map, take, drop, length, get_or, refl, ap, sym, ◌∙◌, subst, inl, inr, ◌⊎◌, arith, All, eqb-true, ◌==◌}
+use Rattle.std.proofs.Common.{◌≡◌, ℕ, ◌+◌, ◌<◌, ◌≤◌, ◌-◌, List, [], ◌∷◌, ◌++◌, take, drop, length, get_or, refl, ap, sym, ◌∙◌, subst, inl, inr, ◌⊎◌, arith, All, eqb-true, ◌==◌}
 use Rattle.std.proofs.lemmas.Bool.{cases_Bool, eqb-false}
-use Rattle.std.proofs.lemmas.List.{length-append, length-map, length-take-le, get_or_append_left, get_or_at, get_or_default, get_or-take, get_or-map, take-append-le, drop-append-le, drop_at, drop-take, take-take, take_all, take-map, map-append, length-drop}
-use Rattle.std.proofs.lemmas.List.Elements.{All-push, All-take, All-head, All-tail}
+use Rattle.std.proofs.lemmas.List.{length-append, length-take-le, get_or_append_left, get_or_at, get_or_default, get_or-take, get_or-map, take-append-le, drop-append-le, drop_at, drop-take, take-take, take_all, take-map, map-append, length-drop}
+use Rattle.std.proofs.lemmas.List.Elements.{All-push, All-head, All-tail}
 use Rattle.range_code.specs.declared.frame.Arg.{Arg}
 use Rattle.propagate_queue.specs.declared.agents.Agent.{Agent}
 use Rattle.fd_language.specs.Range.{Range, Dom}

@@ -1,8 +1,8 @@
 -- One more agent.
-use Rattle.std.proofs.Common.{◌≡◌, ℕ, zero, suc, ◌+◌, ◌<◌, ◌≤◌, Bool, true, false, cond, ◌||◌, ◌&&◌, ◌==◌, List, [], ◌∷◌, ◌++◌, map, filter, take, length, get_or, Option, refl, ap, sym, ◌∙◌, subst, inl, inr, ◌⊎◌, arith, eqb-true, eq-eqb, All, nat_lt, ltb-true, le-ltb}
+use Rattle.std.proofs.Common.{◌≡◌, ℕ, zero, suc, ◌+◌, ◌<◌, ◌≤◌, Bool, true, false, cond, ◌||◌, ◌&&◌, ◌==◌, List, [], ◌∷◌, ◌++◌, map, filter, take, length, get_or, Option, refl, ap, sym, ◌∙◌, subst, inl, inr, ◌⊎◌, arith, eqb-true, eq-eqb, All, nat_lt, le-ltb}
 use Rattle.std.proofs.lemmas.Bool.{cases_Bool, true≢false, eqb-false}
 use Rattle.std.proofs.lemmas.List.{length-append, length-map, get_or_append_left, get_or_at, get_or_past, map-append, take_more}
-use Rattle.std.proofs.lemmas.List.Elements.{All-append, All-map, All-head, All-tail}
+use Rattle.std.proofs.lemmas.List.Elements.{All-append, All-map, All-tail}
 use Rattle.std.proofs.lemmas.List.Folds.{list_any-append}
 use Rattle.std.specs.List.{list_any}
 use Rattle.fd_language.specs.declared.range_node.Feature.{Feature}

@@ -1,26 +1,24 @@
 -- What holds while agents are activated.
-use Rattle.std.proofs.Common.{◌≡◌, ℕ, zero, suc, ◌+◌, ◌-◌, ◌*◌, ◌<◌, ◌≤◌, Bool, true, false, cond, ◌||◌, ◌&&◌, not, ◌==◌, List, [], ◌∷◌, map, filter, length, get_or, set, refl, ap, sym, ◌∙◌, subst, inl, inr, ◌⊎◌, arith, eqb-true, eq-eqb, Contains, All, ltb-true, ◌↔◌, mul-le-mul}
+use Rattle.std.proofs.Common.{◌≡◌, ℕ, zero, suc, ◌+◌, ◌*◌, ◌<◌, ◌≤◌, Bool, true, false, cond, ◌||◌, ◌&&◌, ◌==◌, List, [], ◌∷◌, filter, length, get_or, set, refl, ap, sym, ◌∙◌, subst, inl, inr, arith, eqb-true, Contains, All, mul-le-mul}
 use mathlib.Core.Path.{fun_ext}
-use Rattle.std.proofs.lemmas.Bool.{cases_Bool, true≢false, eqb-false, or_cases, or_left, or_right}
-use Rattle.std.proofs.lemmas.List.{length-set, length-map, get_or-set_same, get_or-set_other, get_or-map, get_or_default, get_or_past}
+use Rattle.std.proofs.lemmas.Bool.{cases_Bool, true≢false, eqb-false, or_cases}
+use Rattle.std.proofs.lemmas.List.{length-map, get_or-set_same, get_or-set_other, get_or-map}
 use Rattle.std.specs.List.{list_any}
 use Rattle.fd_language.specs.declared.TheConstants.{INFINITY}
 use Rattle.fd_language.specs.Term.{Var}
-use Rattle.fd_language.specs.Family.{Family, has, IsFamily, IsSubset, universe}
+use Rattle.fd_language.specs.Family.{has, IsFamily, universe}
 use Rattle.fd_language.specs.Range.{Indexical, set_of, is_none_left}
 use Rattle.fd_language.specs.Features.{range_features}
 use Rattle.fd_model.specs.Closed.{AllPosted}
-use Rattle.fd_model.specs.Domains.{Domains}
-use Rattle.fd_model.specs.Activation.{activate, activate_all}
+use Rattle.fd_model.specs.Activation.{activate}
 use Rattle.fd_model.specs.Laws.{ContainsDomains}
 use Rattle.fd_language.specs.Monotonicity.{IsMonotone}
 use Rattle.fd_language.proofs.Lemmas.{has-filter_back, identity}
 use Rattle.fd_model.proofs.Lemmas.{all_keep, closed_without, unread}
 use Rattle.range_code.specs.Frames.{family_of}
-use Rattle.dependency_chains.specs.declared.Change.{Change}
 use Rattle.dependency_chains.specs.Reading.{Reading}
-use Rattle.dependency_chains.specs.Waking.{change_of, wakes, is_woken}
-use Rattle.propagate_queue.specs.Postings.{Posting, ranged, ranges_of, AreReaders}
+use Rattle.dependency_chains.specs.Waking.{change_of, is_woken}
+use Rattle.propagate_queue.specs.Postings.{Posting, ranged, ranges_of}
 use Rattle.propagate_queue.specs.Queues.{flag_at}
 use Rattle.propagate_queue.specs.Running.{IsAtRest, narrowed, IsRunning, AreDomains, HasNone}
 use Rattle.propagate_queue.proofs.Changes.{seen_is_woken}

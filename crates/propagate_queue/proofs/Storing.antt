@@ -1,8 +1,8 @@
 -- The levels of a store.
-use Rattle.std.proofs.Common.{◌≡◌, ℕ, zero, suc, ◌+◌, ◌-◌, ◌<◌, ◌≤◌, Bool, true, false, cond, ◌||◌, ◌&&◌, ◌==◌, List, [], ◌∷◌, ◌++◌, map, filter, take, drop, reverse, length, get_or, refl, ap, sym, ◌∙◌, subst, inl, inr, ◌⊎◌, arith, eqb-true, eq-eqb, not, IsTrue, ◌↔◌, Option, Some, None, All, nat_lt, ltb-true, lt-ltb, le-ltb}
-use Rattle.std.proofs.lemmas.Bool.{cases_Bool, true≢false, eqb-false}
-use Rattle.std.proofs.lemmas.List.{length-append, length-map, length-reverse, length-take-le, length-drop, get_or-take, take-take, take_all, take-map, take-append-drop, reverse-append, drop_at, get_or_past, get_or_append_left, map-append}
-use Rattle.std.proofs.lemmas.List.Elements.{All-take, All-head, All-tail, All-cons, All-nil, All-same}
+use Rattle.std.proofs.Common.{◌≡◌, ℕ, zero, suc, ◌+◌, ◌-◌, ◌<◌, ◌≤◌, Bool, true, false, cond, ◌||◌, ◌&&◌, ◌==◌, List, [], ◌∷◌, ◌++◌, map, filter, take, drop, reverse, length, get_or, refl, ap, sym, ◌∙◌, subst, inl, inr, ◌⊎◌, arith, eqb-true, not, IsTrue, ◌↔◌, Option, Some, None, All, nat_lt, ltb-true, lt-ltb}
+use Rattle.std.proofs.lemmas.Bool.{cases_Bool, true≢false}
+use Rattle.std.proofs.lemmas.List.{length-append, length-map, length-reverse, length-take-le, length-drop, get_or-take, take-take, take_all, take-map, take-append-drop, reverse-append, drop_at, get_or_append_left, map-append}
+use Rattle.std.proofs.lemmas.List.Elements.{All-head, All-tail, All-cons, All-nil}
 use Rattle.std.specs.List.{list_any}
 use Rattle.fd_language.specs.declared.TheConstants.{INFINITY}
 use Rattle.fd_language.specs.Term.{Var}
@@ -23,7 +23,6 @@ use Rattle.fd_language.specs.Monotonicity.{IsMonotone}
 use Rattle.fd_language.proofs.Lemmas.{universe_rising, rising_inside, identity}
 use Rattle.fd_model.proofs.Lemmas.{closed_without}
 use Rattle.range_code.specs.Frames.{family_of}
-use Rattle.dependency_chains.specs.declared.Change.{Change}
 use Rattle.dependency_chains.specs.Reading.{Reading, Readings}
 use Rattle.dependency_chains.specs.Waking.{wakes, is_woken}
 use Rattle.domain_trail.specs.Stores.{Stores}

@@ -1,10 +1,10 @@
 -- One turn of propagation: an agent is taken and activated.
-use Rattle.std.proofs.Common.{◌≡◌, ℕ, zero, suc, ◌+◌, ◌*◌, ◌<◌, ◌≤◌, ◌-◌, ◌^◌, min, Bool, true, false, cond, ◌||◌, ◌&&◌, ◌==◌, List, [], ◌∷◌, length, get_or, set, map, refl, ap, sym, ◌∙◌, subst, inl, inr, arith, All, Contains}
+use Rattle.std.proofs.Common.{◌≡◌, ℕ, ◌+◌, ◌<◌, ◌≤◌, ◌-◌, ◌^◌, min, Bool, true, false, ◌||◌, ◌&&◌, ◌==◌, List, [], length, get_or, set, ap, sym, ◌∙◌, subst, arith, All}
 use Rattle.std.proofs.lemmas.List.{length-set, length-map, get_or_default}
 use Rattle.std.specs.List.{list_any}
 use Rattle.fd_language.specs.declared.TheConstants.{INFINITY}
-use Rattle.fd_language.specs.Family.{Family, has}
-use Rattle.fd_language.specs.Range.{Indexical, Dom, is_none_left}
+use Rattle.fd_language.specs.Family.{has}
+use Rattle.fd_language.specs.Range.{Indexical, Dom}
 use Rattle.fd_language.specs.Features.{range_features}
 use Rattle.fd_model.specs.Closed.{AllPosted}
 use Rattle.fd_language.specs.Monotonicity.{IsMonotone}
@@ -17,11 +17,11 @@ use Rattle.propagate_queue.specs.declared.activation.Outcome.{Outcome}
 use Rattle.propagate_queue.specs.declared.activation.Outcome.TheVariants.{Same, Empty, Changed}
 use Rattle.propagate_queue.specs.Postings.{Posting, posting_at, ranged, ranges_of, AreReaders, IsPosting}
 use Rattle.fd_model.specs.Weights.{weights}
-use Rattle.propagate_queue.specs.Queues.{times, flag_at, flagged, AreQueued}
-use Rattle.propagate_queue.specs.Running.{IsAtRest, narrowed, IsRunning, Activated, HasNone}
-use Rattle.propagate_queue.proofs.Queueing.{was_there, flag_within, flagged_off, flag_set}
+use Rattle.propagate_queue.specs.Queues.{flag_at, flagged}
+use Rattle.propagate_queue.specs.Running.{narrowed, IsRunning, Activated, HasNone}
+use Rattle.propagate_queue.proofs.Queueing.{flag_within, flagged_off, flag_set}
 use Rattle.propagate_queue.proofs.Weighing.{paid}
-use Rattle.propagate_queue.proofs.Settling.{rests, moves, posted_at, posted_there, written_there, unwritten, no_longer, total, total_less, measure_less, none_left_at, wakes_known}
+use Rattle.propagate_queue.proofs.Settling.{rests, moves, posted_at, posted_there, written_there, no_longer, total, total_less, none_left_at}
 
 -- what holds at the head of the loop, but for the agenda
 pub record IsTurn (is : List Posting) (start now : Stores) (flags flags' : List Bool) (n n' : ℕ) : Type 0 where

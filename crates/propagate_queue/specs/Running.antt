@@ -1,12 +1,11 @@
 -- Propagation under way: each agent that isn't on the agenda is at rest.
-use Rattle.std.specs.Prelude.{◌≡◌, ℕ, ◌<◌, ◌≤◌, ◌+◌, Bool, false, List, [], ◌∷◌, length, filter, slice_index_or, slice_set, IsTrue, ◌↔◌}
+use Rattle.std.specs.Prelude.{◌≡◌, ℕ, ◌<◌, Bool, false, List, [], length, filter, slice_index_or, slice_set, IsTrue, ◌↔◌}
 use Rattle.fd_language.specs.declared.TheConstants.{INFINITY}
-use Rattle.fd_language.specs.Family.{Family, has, IsFamily, IsSubset}
+use Rattle.fd_language.specs.Family.{has, IsFamily, IsSubset}
 use Rattle.fd_language.specs.Range.{Indexical, set_of, is_none_left}
 use Rattle.fd_model.specs.Closed.{AllPosted}
 use Rattle.fd_model.specs.Domains.{Domains}
 use Rattle.fd_model.specs.Laws.{ContainsDomains}
-use Rattle.fd_language.specs.Monotonicity.{IsMonotone}
 use Rattle.range_code.specs.Frames.{family_of}
 use Rattle.dependency_chains.specs.Waking.{change_of}
 use Rattle.domain_trail.specs.Stores.{Stores}

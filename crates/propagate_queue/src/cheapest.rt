@@ -31,8 +31,11 @@ impl Model for Cheapest {
     ghost use Rattle.std.specs.BinaryHeap.{heap_items, heap_len, heap_capacity};
     ghost use Rattle.propagate_queue.specs.Heaped.{waiting, AreHeaped};
 
-    ghost view = { λ c. record { waiting = map waiting
-        (heap_items c.heap); puts = c.puts; spare = heap_capacity c.heap - heap_len c.heap } };
+    ghost view = { λ c. record {
+      waiting = map waiting (heap_items c.heap);
+      puts = c.puts;
+      spare = heap_capacity c.heap - heap_len c.heap;
+    } };
 
     ghost invariant = { λ c. AreHeaped (heap_items c.heap) c.puts };
 }

@@ -59,9 +59,10 @@ impl<A: Agenda + Drop> Model for Store<A> {
     ghost use Rattle.propagate_queue.specs.Stored.{levels_below, IsStore};
 
     ghost view = { λ s. record {
-        current = record { posted = ranges_of s.agents; sets = s.trail.current; failed = s.failed };
-        below = levels_below (reverse s.marks.items) s.trail.below (ranges_of s.agents);
-        spent = s.spent } };
+      current = record { posted = ranges_of s.agents; sets = s.trail.current; failed = s.failed };
+      below = levels_below (reverse s.marks.items) s.trail.below (ranges_of s.agents);
+      spent = s.spent;
+    } };
 
     ghost invariant = { λ s. IsStore s.agents s.queued.items (A.agents s.agenda)
         (A.spare s.agenda) s.chains s.trail (reverse s.marks.items) s.failed s.spent };
@@ -181,8 +182,9 @@ impl<A: Agenda + Drop> Store<A> {
     /// Puts an equal level below the current one, which hasn't failed.
     pub fn push_mark(&mut self) -> Result<(), NoMemory>
         requires { self.old.current.failed ≡ false }
-        ensures marked { OnOk result (self.new ≡ record self.old { below = self.old.current
-            ∷ self.old.below }) }
+        ensures marked { OnOk result (self.new ≡ record self.old {
+          below = self.old.current ∷ self.old.below;
+        }) }
         ensures unspent { OnOk result (self.old.spent ≡ false) }
         ensures spent { OnErr result (self.new ≡ record self.old { spent = true }) }
     {

@@ -1,4 +1,4 @@
-use Rattle.std.proofs.Common.{◌≡◌, ◌≤◌, ◌<◌, ◌++◌, ◌∷◌, [], ◌∙◌, ℕ, length, ap, sym, arith, true}
+use Rattle.std.proofs.Common.{◌++◌, ◌∷◌, [], ◌∙◌, length, ap, arith, true}
 use Rattle.dependency_chains.specs.Reading.{read_by}
 use Rattle.propagate_queue.specs.Instances.{posting}
 use Rattle.propagate_queue.proofs.Queueing.{flagged_below}

@@ -1,4 +1,4 @@
-use Rattle.std.proofs.Common.{rules, ◌≡◌, ◌≤◌, ◌<◌, ◌+◌, ◌++◌, ◌∷◌, [], ◌∙◌, ℕ, List, true, map, length, ap, sym, subst, arith, All}
+use Rattle.std.proofs.Common.{rules, ◌++◌, ◌∷◌, [], ◌∙◌, List, true, map, length, ap, sym, subst, arith, All}
 use Rattle.std.proofs.lemmas.Iterator.Adapters.{YieldsList-from_vec}
 use Rattle.std.proofs.lemmas.Iterator.Consumers.{YieldsList-turn}
 use Rattle.std.proofs.lemmas.List.{append_assoc, map-append, length-append}

@@ -1,8 +1,8 @@
-use Rattle.std.proofs.Common.{◌≡◌, ◌≤◌, ◌+◌, ◌-◌, ◌<◌, ◌++◌, ℕ, true, map, filter, nat_lt, take, length, All}
+use Rattle.std.proofs.Common.{◌≡◌, ◌≤◌, ◌+◌, ◌<◌, ◌++◌, ℕ, true, map, filter, nat_lt, length, All}
 use Rattle.fd_language.specs.declared.TheConstants.{INFINITY}
 use Rattle.fd_model.specs.Closed.{AllPosted}
 use Rattle.fd_language.specs.Monotonicity.{IsMonotone}
-use Rattle.propagate_queue.specs.Postings.{Posting, ranges_of, IsPosting, AreReaders}
+use Rattle.propagate_queue.specs.Postings.{ranges_of, IsPosting, AreReaders}
 use Rattle.propagate_queue.specs.Instances.{posting}
 use Rattle.propagate_queue.specs.Queues.{AreQueued}
 use Rattle.propagate_queue.proofs.adding.add_agents.Given as goal

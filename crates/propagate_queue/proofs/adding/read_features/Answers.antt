@@ -1,4 +1,4 @@
-use Rattle.std.proofs.Common.{◌≡◌, ◌<◌, ◌∙◌, ℕ, take, map, length, get_or, refl, ap, sym, arith, pos}
+use Rattle.std.proofs.Common.{◌∙◌, ℕ, map, get_or, refl, ap, arith, pos}
 use Rattle.std.proofs.lemmas.List.{take_all, get_or_default}
 use Rattle.fd_language.specs.declared.range_node.Feature.{Feature}
 use Rattle.fd_language.specs.declared.range_node.Feature.TheVariants as feature

@@ -1,4 +1,4 @@
-use Rattle.std.proofs.Common.{◌≡◌, ◌≤◌, ◌-◌, length, take}
+use Rattle.std.proofs.Common.{◌≤◌, ◌-◌, length, take}
 use Rattle.range_code.specs.Frames.{AreArgs}
 use Rattle.propagate_queue.proofs.instance.args_fit.Given as goal
 

@@ -1,12 +1,9 @@
-use Rattle.std.proofs.Common.{◌≡◌, ◌<◌, ◌≤◌, ◌+◌, ◌*◌, ℕ, List, true, false, length, set, get_or, refl, ap, sym, subst, ◌∙◌, arith, rules, ◌==◌, ◌&&◌}
+use Rattle.std.proofs.Common.{◌≡◌, ◌<◌, ◌≤◌, ◌+◌, ◌*◌, ℕ, List, false, length, ap, sym, subst, ◌∙◌, arith, ◌==◌, ◌&&◌}
 use Rattle.std.proofs.lemmas.List.{length-map, length-set}
 use Rattle.fd_language.specs.Family.{has}
-use Rattle.fd_language.specs.declared.TheConstants.{INFINITY}
-use Rattle.range_code.specs.Frames.{family_of}
 use Rattle.dependency_chains.specs.Waking.{wakes}
 use Rattle.propagate_queue.specs.Postings.{Posting, ranged, ranges_of, posting_at, IsPosting}
-use Rattle.propagate_queue.specs.Queues.{flag_at, AreQueued}
-use Rattle.propagate_queue.proofs.Queueing.{was_there, was_taken, none_left, no_flags, flag_within, flagged_below}
+use Rattle.propagate_queue.proofs.Queueing.{was_there, was_taken, no_flags, flag_within, flagged_below}
 use Rattle.propagate_queue.proofs.Settling.{ended, total, measure_less, wakes_known}
 use Rattle.std.specs.List.{list_any}
 use Rattle.dependency_chains.specs.Reading.{Reading}

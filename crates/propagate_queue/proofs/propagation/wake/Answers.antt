@@ -1,6 +1,5 @@
-use Rattle.std.proofs.Common.{◌≡◌, ◌<◌, ◌∙◌, ◌||◌, ℕ, true, false, set, refl, ap, sym, arith, length}
+use Rattle.std.proofs.Common.{◌<◌, ◌∙◌, true, arith, length}
 use Rattle.std.proofs.lemmas.List.{length-set}
-use Rattle.propagate_queue.specs.Queues.{flag_at}
 use Rattle.propagate_queue.proofs.Queueing.{has_room, was_put, woke, awake, in_rest, in_first}
 use Rattle.propagate_queue.proofs.propagation.wake.Goals as goal
 

@@ -1,4 +1,4 @@
-use Rattle.std.proofs.Common.{◌≡◌, ◌++◌, ◌∷◌, [], ap, ◌∙◌, length, arith}
+use Rattle.std.proofs.Common.{◌++◌, ◌∷◌, [], ap, ◌∙◌, arith}
 use Rattle.propagate_queue.specs.declared.agents.Agent.{Agent}
 use Rattle.propagate_queue.proofs.Laying.{laid_more}
 use Rattle.propagate_queue.proofs.agents.Agents.push.Goals as goal

@@ -1,4 +1,4 @@
-use Rattle.std.proofs.Common.{◌≡◌, ◌<◌, ◌≤◌, length, arith, sym, subst, All}
+use Rattle.std.proofs.Common.{◌≤◌, arith, sym, subst}
 use Rattle.std.proofs.lemmas.List.Elements.{All-take}
 use Rattle.range_code.specs.Heights.{height}
 use Rattle.propagate_queue.specs.Laid.{HaveRoom}

@@ -1,4 +1,3 @@
-use Rattle.std.proofs.Common.{◌≡◌, ap, sym}
 use Rattle.std.specs.BinaryHeap.{heap_items}
 use Rattle.propagate_queue.proofs.Costs.{heaped_less, cheapest, times_of}
 use Rattle.propagate_queue.proofs.cheapest.CheapestAgenda.take.Goals as goal

@@ -1,7 +1,6 @@
-use Rattle.std.proofs.Common.{◌≡◌, ◌≤◌, ◌-◌, ◌∙◌, List, ℕ, reverse, length, drop, ap, sym, arith}
+use Rattle.std.proofs.Common.{◌≡◌, ◌≤◌, ◌-◌, reverse, length, ap, arith}
 use Rattle.std.proofs.lemmas.List.{length-reverse}
 use Rattle.propagate_queue.specs.Postings.{ranges_of}
-use Rattle.fd_model.specs.Levels.{Level, Levels}
 use Rattle.propagate_queue.proofs.Storing.{same_marks, length-levels, fewer_marks, without_marks, same_levels}
 use Rattle.propagate_queue.proofs.store.Store.drop_marks.Goals as goal
 

@@ -1,4 +1,4 @@
-use Rattle.std.proofs.Common.{◌≡◌, ◌∙◌, ◌++◌, ◌∷◌, [], List, ℕ, reverse, length, ap, sym, subst}
+use Rattle.std.proofs.Common.{◌≡◌, ◌∙◌, ◌++◌, ◌∷◌, List, ℕ, reverse, ap, sym, subst}
 use Rattle.std.specs.Option.{option_to_list}
 use Rattle.propagate_queue.specs.Postings.{ranges_of}
 use Rattle.propagate_queue.specs.Stored.{IsStore, levels_below}

@@ -1,14 +1,14 @@
-use Rattle.std.proofs.Common.{◌≡◌, ◌≤◌, ◌++◌, ◌∙◌, map, List, ℕ, Bool, true, false, not, reverse, length, ap, sym, subst, arith, MatchBool}
+use Rattle.std.proofs.Common.{◌≡◌, ◌++◌, ◌∙◌, map, List, ℕ, Bool, true, false, not, reverse, length, ap, sym, subst, arith}
 use Rattle.std.proofs.lemmas.Bool.{MatchBool-at_true, MatchBool-at_false, true≢false}
 use Rattle.range_code.specs.Frames.{family_of}
 use Rattle.std.proofs.lemmas.List.{map-append}
 use Rattle.std.proofs.lemmas.Simd.{map-map}
-use Rattle.propagate_queue.specs.Postings.{Posting, ranged, ranges_of}
+use Rattle.propagate_queue.specs.Postings.{ranged, ranges_of}
 use Rattle.propagate_queue.specs.Instances.{posting, posted_by}
-use Rattle.fd_model.specs.Levels.{Level, Levels}
+use Rattle.fd_model.specs.Levels.{Levels}
 use Rattle.propagate_queue.specs.Running.{AreDomains, HasNone}
-use Rattle.propagate_queue.specs.Stored.{IsStore, levels_below}
-use Rattle.fd_model.specs.Weights.{weights, whole_weights}
+use Rattle.propagate_queue.specs.Stored.{levels_below}
+use Rattle.fd_model.specs.Weights.{whole_weights}
 use Rattle.propagate_queue.proofs.Storing.{posted_store, levels_added, whole}
 use Rattle.propagate_queue.proofs.store.Store.post.Goals as goal
 
