@@ -150,13 +150,6 @@ root_absent h valid v (cell.Int z) r d n = int_absent h valid v (cell.Int z) z (
 root_absent h valid v (cell.Atom x) r d n = atom_absent h valid v (cell.Atom x) x (λ name. refl)
 root_absent h valid v (cell.Struct j) r d n = absurd (n j refl)
 
--- a constant
-pub constant_absent : (h : Cells) → IsHeap h → (v : ℕ) (to : Cell) → ((i : ℕ) → to ≡ cell.Ref i → ⊥) → ((j : ℕ) → to ≡ cell.Struct j → ⊥) → (name : Naming) → occurs v (term_of name h to) ≡ false
-constant_absent h valid v (cell.Ref i) r s = absurd (r i refl)
-constant_absent h valid v (cell.Int z) r s = int_absent h valid v (cell.Int z) z (λ name. refl)
-constant_absent h valid v (cell.Atom x) r s = atom_absent h valid v (cell.Atom x) x (λ name. refl)
-constant_absent h valid v (cell.Struct j) r s = absurd (s j refl)
-
 -- a root that is a compound term
 pub compound_infinite : (h : Cells) → IsHeap h → (v j : ℕ) → TellsOccurs h v (cell.Struct j) true → IsInfinite h v (cell.Struct j)
 compound_infinite h valid v j t name =

@@ -1,5 +1,5 @@
 -- What one pair comes to, by what its cells are at their roots.
-use Rattle.std.proofs.Common.{◌≡◌, ◌⊎◌, ℕ, ℤ, ◌<◌, Bool, true, false, not, ◌==◌, refl, ap, sym, ◌∙◌, subst, arith, inl, inr, List, [], ◌∷◌, ◌++◌, length, eqb-true, eq-eqb, Bor}
+use Rattle.std.proofs.Common.{◌≡◌, ℕ, ℤ, ◌<◌, Bool, true, false, not, ◌==◌, refl, ap, sym, ◌∙◌, subst, arith, inl, inr, List, [], ◌∷◌, ◌++◌, length, eqb-true, eq-eqb, Bor}
 use Rattle.std.specs.Prelude.{Result, Ok, Err}
 use Rattle.std.proofs.lemmas.Bool.{false≢true}
 use Rattle.term_pool.specs.declared.AtomId.{AtomId}
@@ -18,7 +18,7 @@ use Rattle.unify_core.specs.declared.Pair.{Pair}
 use Rattle.unify_core.specs.declared.Touch.{Touch}
 use Rattle.unify_core.specs.declared.Touch.TheVariants as touch
 use Rattle.unify_core.specs.Touches.{IsLinked, IsSymbolic}
-use Rattle.unify_core.specs.Outcome.{IfTrue, IfFalse, IsDone, IsHopeless, IsBinding, BindsOpen, IsInfinite, IsSymbolicCell, TellsTouch}
+use Rattle.unify_core.specs.Outcome.{IfTrue, IfFalse, IsDone, IsHopeless, IsBinding, IsInfinite, IsSymbolicCell, TellsTouch}
 use Rattle.unify_core.proofs.Touching.{touched_open, touched_value, touched_same}
 use Rattle.unify_core.proofs.Reducing.{Says, IsCompound, compound_term_is, split_work, done_bind, append-nil-is}
 
@@ -71,14 +71,6 @@ module _ (h : Cells) (valid : IsHeap h) (ps : List Pair) (p : Pair) (before : Li
           (λ name. touched_value h v to (term_of name h to) there k i.0 l (ap (term_of name h) i.1 ∙ term-Int name h valid i.0))
       go (inr d) = done_bind h valid v to there own unbound b.absent p says ps before ts (touch.Same k d.1 ∷ []) d.4
           (λ name. touched_same h v to (term_of name h to) there k d.0 d.1 l d.3 (λ e. apart (d.2 ∙ ap cell.Ref e)) (ap (term_of name h) d.2 ∙ unbound_term name h valid d.0 (ap is_bound d.3)))
-
--- an open variable on one side, and a constant on the other
-pub constant_done : (h : Cells) → IsHeap h → (p : Pair) (c to : Cell) (g : Cells) → (Same h p.left c × Same h p.right to) ⊎ (Same h p.right c × Same h p.left to) → IsOf h to → BindsOpen h c to g → IsDone h (p ∷ []) [] g [] []
-constant_done h valid p c to g says own (i, e, there, open_now, b) = open_done h valid [] p [] i to there own (ap is_bound open_now) (go says) g open_now b
-  where
-    go : (Same h p.left c × Same h p.right to) ⊎ (Same h p.right c × Same h p.left to) → Says h p i to
-    go (inl s) = inl (λ name. s.0 name ∙ ap (term_of name h) e, s.1)
-    go (inr s) = inr (λ name. s.0 name ∙ ap (term_of name h) e, s.1)
 
 -- cells that stand for different terms
 module _ (h : Cells) (valid : IsHeap h) (ps : List Pair) (p : Pair) (left right : Cell) (sl : Same h p.left left) (sr : Same h p.right right) where

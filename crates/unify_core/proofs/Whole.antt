@@ -11,7 +11,7 @@ use Rattle.unify_core.specs.declared.Pair.{Pair}
 use Rattle.unify_core.specs.declared.Touch.{Touch}
 use Rattle.unify_core.specs.Touches.{IsRefuted}
 use Rattle.unify_core.specs.Reduces.{Reduces, IsOwn, HasAtoms, IsSameSize}
-use Rattle.unify_core.specs.Unified.{IsUnified, AreUnified, KeepsAtoms, cells_equal}
+use Rattle.unify_core.specs.Unified.{IsUnified, KeepsAtoms, cells_equal}
 use Rattle.unify_core.specs.Outcome.{IsDone, IsHopeless, IfTrue, IfFalse}
 use Rattle.unify_core.proofs.Reducing.{reduces_none, reduces_both, refuted_both, unified}
 use Rattle.heap_cells.proofs.Elements.{none_at_all, both_of}
@@ -51,10 +51,6 @@ last_own h (q ∷ ps) p a = last_own h ps p (λ k d l. a (suc k) d (omega arith)
 
 pub all_unified : (old now : Cells) (a b : Cell) (left : List Pair) (ts : List Touch) → left ≡ [] → IsUnderWay old a b now left ts → (name : Naming) → IsUnified name old a b now ts
 all_unified old now a b left ts e w name = unified name old now a b ts (subst (λ ps. Reduces name old (start a b) now ps ts) e (w.reduces name))
-
--- one step was enough
-pub once_unified : (old now : Cells) (a b : Cell) (ts : List Touch) → ts ≡ [] → IsOf old a → IsOf old b → IsDone old (start a b) [] now [] [] → AreUnified old a b now ts
-once_unified old now a b ts e x y d name = subst (λ us. IsUnified name old a b now us) (sym e) (all_unified old now a b [] [] refl (under_way_further old old now a b (start a b) [] [] [] (under_way_first old a b x y) d) name)
 
 pub none_unified : (old mid : Cells) (a b : Cell) (work : List Pair) (ts : List Touch) → IsUnderWay old a b mid work ts → IsHopeless mid work → (name : Naming) → IsOneToOne name → IsRefuted old (cells_equal name old a b)
 none_unified old mid a b work ts w h name o = refuted_both name old mid (start a b) work ts (w.reduces name) (h name o)

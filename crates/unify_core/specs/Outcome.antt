@@ -1,7 +1,7 @@
 -- What a call did, by what it answers.
-use Rattle.std.specs.Prelude.{◌≡◌, ℕ, ℤ, ◌⊎◌, Bool, true, false, Result, Ok, Err, ◌++◌, ◌<◌, List, [], ◌∷◌, length, All}
+use Rattle.std.specs.Prelude.{◌≡◌, ℕ, ℤ, ◌⊎◌, Bool, true, false, Result, Ok, Err, ◌++◌, ◌<◌, List, [], ◌∷◌, All}
 use Rattle.heap_cells.specs.declared.Cell.{Cell}
-use Rattle.heap_cells.specs.Cells.{Cells, free, linked, bound, slot_at, with_slot}
+use Rattle.heap_cells.specs.Cells.{Cells, linked, bound, slot_at, with_slot}
 use Rattle.heap_cells.specs.Terms.{Naming, IsOneToOne, term_of, occurs, occurs_any}
 use Rattle.heap_cells.specs.Atoms.{HasAtomsBelow}
 use Rattle.unify_core.specs.declared.Pair.{Pair}
@@ -59,10 +59,6 @@ paired (c ∷ cs) (d ∷ ds) = record { left = c; right = d } ∷ paired cs ds
 pub record IsBinding (old : Cells) (var : ℕ) (to : Cell) (now : Cells) : Type 0 where
   pub bound : now ≡ with_slot old var (bound to)
   pub absent : (name : Naming) → occurs var (term_of name old to) ≡ false
-
--- the cell is an open variable, which is bound
-abbrev pub BindsOpen : Cells → Cell → Cell → Cells → Type 0
-BindsOpen old c to now = (i : ℕ) × (c ≡ cell.Ref i) × (i < length old.slots) × (slot_at old i ≡ free) × IsBinding old i to now
 
 -- whether the variable occurs in the cell's term
 abbrev pub TellsOccurs : Cells → ℕ → Cell → Bool → Type 0

@@ -7,7 +7,7 @@ ghost use Rattle.heap_cells.specs.Cells.{free, linked, slot_at, IsOf};
 ghost use Rattle.heap_cells.specs.Seen.{IsRoot};
 ghost use Rattle.heap_cells.specs.Valid.{IsHeap};
 ghost use Rattle.unify_core.specs.Reduces.{IsOwn, IsSameSize};
-ghost use Rattle.unify_core.specs.Outcome.{IfTrue, IfFalse, IfYes, IfNo, IsDone, IsHopeless, IsBinding, BindsOpen, IsInfinite, IsSymbolicCell, TellsOccurs, TellsTouch, paired};
+ghost use Rattle.unify_core.specs.Outcome.{IfTrue, IfFalse, IfYes, IfNo, IsDone, IsHopeless, IsBinding, IsInfinite, IsSymbolicCell, TellsOccurs, TellsTouch, paired};
 ghost use Rattle.unify_core.specs.Unified.{AreUnified, CannotUnify, KeepsAtoms};
 
 use fd_language::NoMemory;
@@ -17,9 +17,9 @@ use std::alloc::{AllocError, Global};
 /// What the store is to be told.
 #[derive(Clone, Copy, Debug, PartialEq, Eq)]
 pub enum Touch {
-    /// A variable of the store became an integer.
+    /// A variable of the store, by its number there, became an integer.
     Value(usize, i64),
-    /// Two variables of the store became one.
+    /// Two variables of the store, by their numbers there, became one.
     Same(usize, usize),
 }
 
@@ -185,9 +185,12 @@ fn step(
     }
 }
 
-/// Makes two cells equal, as `unify` does, by a stack of pairs of cells that are still to be made equal.
-#[inline(never)]
-fn unify_pairs(heap: &mut Heap, alloc: Global, a: Cell, b: Cell) -> Result<Unified, NoMemory>
+/// Makes two cells of a heap equal, where that can be done: the unification of ISO/IEC 13211-1, 7.3, with its occurs check.
+///
+/// `No` comes exactly where their terms have no unifier, or each would make a variable of the store an atom or a compound term. The
+/// error is want of memory. After both the heaps below are as before, and the current one is to be given up by `undo_to_mark`.
+pub fn unify(heap: &mut Heap, alloc: Global, a: Cell, b: Cell) -> Result<Unified, NoMemory>
+    requires marked { 0 < length heap.old.below }
     requires own_a { IsOf heap.old.now a }
     requires own_b { IsOf heap.old.now b }
     ensures yes { IfYes result (AreUnified heap.old.now a b heap.new.now) }
@@ -208,66 +211,4 @@ fn unify_pairs(heap: &mut Heap, alloc: Global, a: Cell, b: Cell) -> Result<Unifi
             None => return Ok(Unified::Yes(touches)),
         }
     }
-}
-
-/// Binds a root, if it is an open variable, to another root, if that is a constant. The answer tells whether it did. The error is want
-/// of memory.
-#[inline]
-fn bind_constant(heap: &mut Heap, var: Cell, to: Cell) -> Result<bool, NoMemory>
-    requires own { IsOf heap.old.now var }
-    requires root { IsRoot heap.old.now var }
-    requires own_to { IsOf heap.old.now to }
-    ensures bound { IfTrue result (BindsOpen heap.old.now var to heap.new.now) }
-    ensures left { IfFalse result (heap.new ≡ heap.old) }
-    ensures below { heap.new.below ≡ heap.old.below }
-{
-    match to {
-        Cell::Ref(_) | Cell::Struct(_) => Ok(false),
-        _ => match heap.deref(var) {
-            Seen::Open(i) => {
-                heap.bind(i, to)?;
-                Ok(true)
-            }
-            _ => Ok(false),
-        },
-    }
-}
-
-/// Makes two cells equal where that takes no stack: they come to one cell, or to an open variable and a constant. The answer tells
-/// whether it is so. The error is want of memory.
-#[inline]
-fn unify_at_once(heap: &mut Heap, pair: Pair) -> Result<bool, NoMemory>
-    requires own { IsOwn heap.old.now pair }
-    ensures done { IfTrue result (IsDone heap.old.now (pair ∷ []) [] heap.new.now [] []) }
-    ensures left { IfFalse result (heap.new ≡ heap.old) }
-    ensures below { heap.new.below ≡ heap.old.below }
-{
-    let left = heap.root(pair.left);
-    let right = heap.root(pair.right);
-    if left == right {
-        return Ok(true);
-    }
-    match right {
-        Cell::Ref(_) | Cell::Struct(_) => bind_constant(heap, right, left),
-        _ => bind_constant(heap, left, right),
-    }
-}
-
-/// Makes two cells of a heap equal, where that can be done. The answer is `No` exactly where their terms have no unifier or each
-/// would make a variable of the store an atom or a compound term. The error is want of memory. After both the current heap is to be
-/// given up.
-pub fn unify(heap: &mut Heap, alloc: Global, a: Cell, b: Cell) -> Result<Unified, NoMemory>
-    requires marked { 0 < length heap.old.below }
-    requires own_a { IsOf heap.old.now a }
-    requires own_b { IsOf heap.old.now b }
-    ensures yes { IfYes result (AreUnified heap.old.now a b heap.new.now) }
-    ensures no { IfNo result (CannotUnify heap.old.now a b) }
-    ensures size { IfYes result (λ ts. IsSameSize heap.old.now heap.new.now) }
-    ensures atoms { IfYes result (λ ts. KeepsAtoms heap.old.now a b heap.new.now) }
-    ensures below { heap.new.below ≡ heap.old.below }
-{
-    if unify_at_once(heap, Pair { left: a, right: b })? {
-        return Ok(Unified::Yes(Vec::new(alloc)));
-    }
-    unify_pairs(heap, alloc, a, b)
 }
