@@ -1,7 +1,7 @@
 -- The lemmas that other crates may cite, by their subjects. All else in proofs/ is this crate's own, but for the steps of the reader (ReadingSteps).
 
 -- Sets of numbers as lists, and the greatest family that passes a test.
-pub use Rattle.fd_language.proofs.Sets.{has-filter, has-filter_back, has_low, has_high, rising_same, universe_rising, in_count_up, in_universe, rising_inside, has_either, in_left, in_right, alone_in, in_flat}
+pub use Rattle.fd_language.proofs.Sets.{has-filter, has-filter_back, has_low, has_high, rising_same, universe_rising, in_count_up, in_universe, rising_inside, has_either, in_left, in_right, alone_in, in_flat, first_member, only_member, map_has, has_map, any_from, any_to}
 pub use Rattle.fd_language.proofs.Monotone.{least_low, least_in, greatest_in, greatest_high, not_empty}
 pub use Rattle.fd_language.proofs.GreatestFamily.{IsGreatest, greatest_there, rising-filter, shorter_or_same}
 -- What holds of each element of a list.
@@ -18,8 +18,9 @@ pub use Rattle.fd_language.proofs.Directions.{literal_is}
 -- Needs, the limits of values, and the verdict.
 pub use Rattle.fd_language.proofs.AskedParameters.{Asked, asked_params, nothing_asked}
 pub use Rattle.fd_language.proofs.PartNeeds.{expr_meets, over_meets, range_meets, needs_met}
-pub use Rattle.fd_language.proofs.Limits.{abs_add, abs_sub, abs_mul, sums, products, not_over, bounded_values}
+pub use Rattle.fd_language.proofs.Limits.{least_small, abs_add, abs_sub, abs_mul, sums, products, not_over, bounded_values}
 pub use Rattle.fd_language.proofs.NoOffences.{nil-first, nil-range}
+pub use Rattle.fd_language.proofs.FirstOffence.{first-append, first_two, first_three, earlier_assoc, earlier_none}
 pub use Rattle.fd_language.proofs.VerdictLaw.{verdict_agrees}
 -- Tokens, the operators of the table, and readings.
 pub use Rattle.fd_language.proofs.TokenLaws.{front_empty, gap_grows, token_grows, one_list, one_fault, not_both, one_verdict}

@@ -23,6 +23,7 @@ pub mod TokenSlices
 pub mod ReadingLaws
 pub mod SentenceVariables
 pub mod SpelledNodes
+pub mod FirstOffence
 pub mod NoOffences
 pub mod Uses
 pub mod VerdictLaw

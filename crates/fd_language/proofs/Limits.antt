@@ -69,7 +69,7 @@ abs_div_up M (pos (suc a)) (pos zero) = omega arith
 abs_div_up M (negsuc a) (pos zero) = omega arith
 abs_div_up M a (negsuc n) = omega arith
 
-least_small : (M : ℕ) (xs : List ℕ) → IsRising 0 M xs → least xs ≤ M
+pub least_small : (M : ℕ) (xs : List ℕ) → IsRising 0 M xs → least xs ≤ M
 least_small M [] r = omega arith
 least_small M (x ∷ xs) r = r.1
 

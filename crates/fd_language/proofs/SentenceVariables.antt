@@ -16,7 +16,7 @@ use Rattle.fd_language.specs.Terminals.{Terminal, name, operator_word, variable,
 use Rattle.fd_language.specs.Grammar.{nil_name, list_of, Reads, an_integer, a_negative, a_variable, an_atom, empty_list, empty_curly, named_call, operator_call, in_parens, operator_in_parens, a_list, a_list_tail, in_curly, a_prefix, an_infix, Arg, a_term, an_operator, Args, last, more, Sentences, none, next, IsText}
 use Rattle.fd_language.specs.Reading.{is_anonymous, variable_number, with_variable, punct_terminal, terminal_by, terminals, names_by, ended_by, sentence_names, Sentence, IsSentences}
 use Rattle.fd_language.specs.Lists.{Each}
-use Rattle.fd_language.proofs.Sets.{has_either}
+use Rattle.fd_language.proofs.Sets.{has_either, only_member}
 use Rattle.fd_language.proofs.Monotone.{in_left, in_right}
 
 -- ---- the variables of the tokens, sentence by sentence
@@ -115,21 +115,18 @@ record AreBelow (n : ℕ) (vs : List ℕ) : Type 0 where
 none_below : AreBelow 0 []
 none_below = record { each = λ x lt. absurd (omega (arith, lt)); only = λ x h. absurd (true≢false (sym h)) }
 
-only_one : (n x : ℕ) → has (n ∷ []) x ≡ true → n ≡ x
-only_one n x h = elim (or_cases (n == x) false h) [ inl e ↦ eqb-true n x e | inr e ↦ absurd (true≢false (sym e)) ]
-
 -- a number that was there
 again_below : (n k : ℕ) (vs : List ℕ) → AreBelow n vs → k < n → AreBelow n (vs ++ k ∷ [])
 again_below n k vs b lt = record {
   each = λ x h. in_left vs (k ∷ []) x (b.each x h);
-  only = λ x h. elim (has_either vs (k ∷ []) x h) [ inl old ↦ b.only x old | inr new ↦ omega (arith, lt, only_one k x new) ];
+  only = λ x h. elim (has_either vs (k ∷ []) x h) [ inl old ↦ b.only x old | inr new ↦ omega (arith, lt, only_member k x new) ];
 }
 
 -- the next number
 next_below : (n m : ℕ) (vs : List ℕ) → AreBelow n vs → m ≡ n + 1 → AreBelow m (vs ++ n ∷ [])
 next_below n m vs b e = record {
   each = λ x h. elim (cases_lt x n) [ inl old ↦ in_left vs (n ∷ []) x (b.each x old) | inr new ↦ in_right vs (n ∷ []) x (or_left (n == x) false (eq-eqb n x (omega (arith, new, h, e)))) ];
-  only = λ x h. elim (has_either vs (n ∷ []) x h) [ inl old ↦ omega (arith, e, b.only x old) | inr new ↦ omega (arith, e, only_one n x new) ];
+  only = λ x h. elim (has_either vs (n ∷ []) x h) [ inl old ↦ omega (arith, e, b.only x old) | inr new ↦ omega (arith, e, only_member n x new) ];
 }
 
 position_within : (p : Name → Bool) (xs : List Name) → list_any p xs ≡ true → position_or_len p xs < length xs

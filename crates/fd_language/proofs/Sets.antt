@@ -1,6 +1,7 @@
 -- Public lemmas on lists of numbers as sets.
-use Rattle.std.proofs.Common.{◌≡◌, ℕ, zero, suc, ◌+◌, ◌<◌, ◌≤◌, Bool, true, false, ◌==◌, List, [], ◌∷◌, ◌++◌, ◌⊎◌, filter, refl, sym, subst, inl, inr, arith, eqb-true, eq-eqb}
+use Rattle.std.proofs.Common.{◌≡◌, ℕ, zero, suc, ◌+◌, ◌<◌, ◌≤◌, Bool, true, false, ◌==◌, List, [], ◌∷◌, ◌++◌, ◌⊎◌, filter, map, refl, sym, ap, subst, inl, inr, arith, eqb-true, eq-eqb}
 use Rattle.std.specs.Prelude.{flat_map}
+use Rattle.std.specs.List.{list_any}
 use Rattle.std.proofs.lemmas.Bool.{or_cases, or_left, or_right, cases_Bool, true≢false}
 use Rattle.fd_language.specs.Family.{has, IsSubset, IsRising, count_up, universe}
 
@@ -29,8 +30,9 @@ has_high low high [] n r h = grind arith
 has_high low high (x ∷ xs) n r h =
     elim (or_cases (x == n) (has xs n) h) [ inl e ↦ omega (arith, r.1, eqb-true x n e) | inr e ↦ has_high (suc x) high xs n r.2 e ]
 
-first_in : (x : ℕ) (xs : List ℕ) → has (x ∷ xs) x ≡ true
-first_in x xs = or_left _ _ (eq-eqb x x refl)
+-- the first of a list is in it
+pub first_member : (x : ℕ) (xs : List ℕ) → has (x ∷ xs) x ≡ true
+first_member x xs = or_left _ _ (eq-eqb x x refl)
 
 -- what is in a rising list after its first element is past it
 later_in : (low high x n : ℕ) (xs : List ℕ) → has (x ∷ xs) n ≡ true → x < n → has xs n ≡ true
@@ -38,11 +40,11 @@ later_in low high x n xs h l = elim (or_cases (x == n) (has xs n) h) [ inl e ↦
 
 pub rising_same : (low high : ℕ) (xs ys : List ℕ) → IsRising low high xs → IsRising low high ys → IsSubset xs ys → IsSubset ys xs → xs ≡ ys
 rising_same low high [] [] r q i j = refl
-rising_same low high [] (y ∷ ys) r q i j = let h : has [] y ≡ true = j.each y (first_in y ys) in absurd (true≢false (sym h))
-rising_same low high (x ∷ xs) [] r q i j = let h : has [] x ≡ true = i.each x (first_in x xs) in absurd (true≢false (sym h))
+rising_same low high [] (y ∷ ys) r q i j = let h : has [] y ≡ true = j.each y (first_member y ys) in absurd (true≢false (sym h))
+rising_same low high (x ∷ xs) [] r q i j = let h : has [] x ≡ true = i.each x (first_member x xs) in absurd (true≢false (sym h))
 rising_same low high (x ∷ xs) (y ∷ ys) r q i j =
-    let below : y ≤ x = has_low y high (y ∷ ys) x (omega arith, q.1, q.2) (i.each x (first_in x xs)) in
-    let above : x ≤ y = has_low x high (x ∷ xs) y (omega arith, r.1, r.2) (j.each y (first_in y ys)) in
+    let below : y ≤ x = has_low y high (y ∷ ys) x (omega arith, q.1, q.2) (i.each x (first_member x xs)) in
+    let above : x ≤ y = has_low x high (x ∷ xs) y (omega arith, r.1, r.2) (j.each y (first_member y ys)) in
     let heads : x ≡ y = omega arith in
     let tails : xs ≡ ys = rising_same (suc x) high xs ys r.2 (subst (λ z. IsRising (suc z) high ys) (sym heads) q.2)
     (record { each = λ n h. later_in low high y n ys (i.each n (or_right _ _ h)) (let l : suc x ≤ n = has_low (suc x) high xs n r.2 h in omega arith) })
@@ -93,3 +95,31 @@ alone_in y = or_left (y == y) false (eq-eqb y y refl)
 pub in_flat : {X : Type 0} (f g : X → List ℕ) (n : ℕ) → ((x : X) → has (f x) n ≡ true → has (g x) n ≡ true) → (xs : List X) → has (flat_map f xs) n ≡ true → has (flat_map g xs) n ≡ true
 in_flat f g n h [] e = e
 in_flat f g n h (x ∷ xs) e = elim (has_either (f x) (flat_map f xs) n e) [ inl i ↦ in_left (g x) (flat_map g xs) n (h x i) | inr i ↦ in_right (g x) (flat_map g xs) n (in_flat f g n h xs i) ]
+
+-- the one number of a list
+pub only_member : (n x : ℕ) → has (n ∷ []) x ≡ true → n ≡ x
+only_member n x h = elim (or_cases (n == x) false h) [ inl e ↦ eqb-true n x e | inr e ↦ absurd (true≢false (sym e)) ]
+
+-- what f gives of the numbers of a list
+pub map_has : (f : ℕ → ℕ) (xs : List ℕ) (x : ℕ) → has (map f xs) x ≡ true → (y : ℕ) × (has xs y ≡ true) × (f y ≡ x)
+map_has f [] x h = absurd (true≢false (sym h))
+map_has f (y ∷ ys) x h = elim (or_cases (f y == x) (has (map f ys) x) h) [
+  | inl e ↦ (y, first_member y ys, eqb-true (f y) x e)
+  | inr e ↦ let g = map_has f ys x e in (g.0, or_right (y == g.0) (has ys g.0) g.1, g.2)
+]
+
+pub has_map : (f : ℕ → ℕ) (xs : List ℕ) (y : ℕ) → has xs y ≡ true → has (map f xs) (f y) ≡ true
+has_map f [] y h = absurd (true≢false (sym h))
+has_map f (x ∷ xs) y h = elim (or_cases (x == y) (has xs y) h) [
+  | inl e ↦ or_left (f x == f y) (has (map f xs) (f y)) (eq-eqb (f x) (f y) (ap f (eqb-true x y e)))
+  | inr e ↦ or_right (f x == f y) (has (map f xs) (f y)) (has_map f xs y e)
+]
+
+-- a test that some number of a list passes
+pub any_from : (f : ℕ → Bool) (xs : List ℕ) → list_any f xs ≡ true → (e : ℕ) × (has xs e ≡ true) × (f e ≡ true)
+any_from f [] h = absurd (true≢false (sym h))
+any_from f (x ∷ xs) h = elim (or_cases (f x) (list_any f xs) h) [ inl k ↦ (x, or_left _ _ (eq-eqb x x refl), k) | inr k ↦ let r = any_from f xs k in (r.0, or_right _ _ r.1, r.2) ]
+
+pub any_to : (f : ℕ → Bool) (xs : List ℕ) (e : ℕ) → has xs e ≡ true → f e ≡ true → list_any f xs ≡ true
+any_to f [] e h k = absurd (true≢false (sym h))
+any_to f (x ∷ xs) e h k = elim (or_cases (x == e) (has xs e) h) [ inl l ↦ or_left (f x) _ (subst (λ y. f y ≡ true) (sym (eqb-true x e l)) k) | inr l ↦ or_right (f x) _ (any_to f xs e l k) ]

@@ -9,7 +9,7 @@ use Rattle.fd_language.specs.Term.{Term, no_terms, term}
 use Rattle.fd_language.specs.Variables.{TermBelow}
 use Rattle.fd_model.specs.declared.kinds.ConstraintKind.TheVariants.{Element}
 use Rattle.fd_language.specs.Range.{Range, One, Dom, Union, Inter, Outside, Times, Number, in_range, some_number}
-use Rattle.fd_language.proofs.Lemmas.{has_high, universe_rising, in_universe}
+use Rattle.fd_language.proofs.Lemmas.{has_high, universe_rising, in_universe, any_from, any_to}
 use Rattle.fd_model.specs.LinearRows.{Expansion}
 use Rattle.fd_model.specs.Members.{Member, as_member, as_integer, walk, place_of, after}
 use Rattle.fd_model.specs.Linear.{of_both}
@@ -24,14 +24,6 @@ use Rattle.fd_model.proofs.Placing.{member_read, integers_read, MembersBelow, kn
 use Rattle.fd_model.proofs.Differing.{placed_one}
 
 -- some number of a list passes
-any_from : (f : ℕ → Bool) (xs : List ℕ) → list_any f xs ≡ true → (e : ℕ) × (has xs e ≡ true) × (f e ≡ true)
-any_from f [] h = absurd (true≢false (sym h))
-any_from f (x ∷ xs) h = elim (or_cases (f x) (list_any f xs) h) [ inl k ↦ (x, or_left _ _ (eq-eqb x x refl), k) | inr k ↦ let r = any_from f xs k in (r.0, or_right _ _ r.1, r.2) ]
-
-any_to : (f : ℕ → Bool) (xs : List ℕ) (e : ℕ) → has xs e ≡ true → f e ≡ true → list_any f xs ≡ true
-any_to f [] e h k = absurd (true≢false (sym h))
-any_to f (x ∷ xs) e h k = elim (or_cases (x == e) (has xs e) h) [ inl l ↦ or_left (f x) _ (subst (λ y. f y ≡ true) (sym (eqb-true x e l)) k) | inr l ↦ or_right (f x) _ (any_to f xs e l k) ]
-
 pub some_from : (M : ℕ) (f : ℕ → Bool) → some_number M f ≡ true → (e : ℕ) × (e ≤ M) × (f e ≡ true)
 some_from M f h = let r = any_from f (universe M) h in (r.0, has_high 0 M (universe M) r.0 (universe_rising M) r.1, r.2)
 

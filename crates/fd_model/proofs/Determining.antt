@@ -4,7 +4,7 @@ use Rattle.std.proofs.lemmas.Bool.{or_cases, or_left, or_right, true≢false}
 use Rattle.fd_language.specs.Family.{Family, has, IsFamily, IsSubset, IsRising}
 use Rattle.fd_language.specs.Range.{Indexical, set_of, reads, least}
 use Rattle.fd_model.specs.Closed.{constrained, AllPosted}
-use Rattle.fd_language.proofs.Lemmas.{has_either, in_left, in_right, set_agree}
+use Rattle.fd_language.proofs.Lemmas.{has_either, in_left, in_right, set_agree, alone_in, least_small}
 use Rattle.fd_model.specs.LinearRows.{Expansion}
 use Rattle.fd_model.specs.Satisfies.{Assignment, singles}
 use Rattle.fd_model.specs.ConstraintLaws.{AllEquated, AllEquatedIn, Fits, Extends, IsSettled}
@@ -18,13 +18,6 @@ single_from low high k (x ∷ y ∷ ys) r h f =
     let g : y ≡ k = f y (or_right _ _ (or_left _ _ (eq-eqb y y refl))) in
     let l : suc x ≤ y = r.2.0 in
     absurd (omega arith)
-
-in_single : (k : ℕ) → has (k ∷ []) k ≡ true
-in_single k = or_left _ _ (eq-eqb k k refl)
-
-least_within : (M : ℕ) (xs : List ℕ) → IsRising 0 M xs → least xs ≤ M
-least_within M [] r = omega arith
-least_within M (x ∷ xs) r = r.1
 
 -- the variables that a list of ranges names are among vs
 abbrev pub NamesIn : (ℕ → Type 0) → List Indexical → Type 0
@@ -54,7 +47,7 @@ module _ (M : ℕ) (S : Family) (b : Assignment) where
   fits_posted (p ∷ ps) n h =
       let t : S p.target ≡ b p.target ∷ [] = names_target (λ v. S v ≡ b v ∷ []) p ps n in
       let r = set_agree M S (singles b) p.range (names_range (λ v. S v ≡ b v ∷ []) p ps n) in (
-        subst (λ xs. has xs (b p.target) ≡ true) r (h.0.each (b p.target) (subst (λ xs. has xs (b p.target) ≡ true) (sym t) (in_single (b p.target)))),
+        subst (λ xs. has xs (b p.target) ≡ true) r (h.0.each (b p.target) (subst (λ xs. has xs (b p.target) ≡ true) (sym t) (alone_in (b p.target)))),
         fits_posted ps (names_later (λ v. S v ≡ b v ∷ []) p ps n) h.1,
       )
 
@@ -82,7 +75,7 @@ AllNamed (e ∷ es) ps = (has (constrained ps) e.0 ≡ true) × AllNamed es ps
 module _ (M n : ℕ) (a : Assignment) (S : Family) (small : (v : ℕ) → a v ≤ M) (family : IsFamily M S) where
   valued_extends : Extends M n a (valued n a S)
   valued_extends = record {
-    within = λ v. elim (nat_lt v n) as (λ c. cond c (a v) (least (S v)) ≤ M) [ true ↦ small v | false ↦ least_within M (S v) (family.rising v) ];
+    within = λ v. elim (nat_lt v n) as (λ c. cond c (a v) (least (S v)) ≤ M) [ true ↦ small v | false ↦ least_small M (S v) (family.rising v) ];
     same = λ v h. ap (λ c. cond c (a v) (least (S v))) (test_below v n h);
   }
 
@@ -97,7 +90,7 @@ module _ (M n : ℕ) (a : Assignment) (S : Family) (small : (v : ℕ) → a v �
 
   equated_values : (b : Assignment) (es : List (ℕ × ℤ)) (ps : List Indexical) → AllNamed es ps → NamesIn (λ v. S v ≡ b v ∷ []) ps → AllEquatedIn S es → AllEquated b es
   equated_values b [] ps h n q = tt
-  equated_values b (e ∷ es) ps h n q = (q.0 (b e.0) (subst (λ xs. has xs (b e.0) ≡ true) (sym (n e.0 h.0)) (in_single (b e.0))), equated_values b es ps h.1 n q.1)
+  equated_values b (e ∷ es) ps h n q = (q.0 (b e.0) (subst (λ xs. has xs (b e.0) ≡ true) (sym (n e.0 h.0)) (alone_in (b e.0))), equated_values b es ps h.1 n q.1)
 
   pub determined_by : (x : Expansion) → IsSettled M x S → NamesIn (λ v. v < n → S v ≡ a v ∷ []) x.ranges → NamesIn (λ v. n ≤ v → IsOne S v) x.ranges → AllNamed x.equated x.ranges
       → (b : Assignment) × ((v : ℕ) → has (constrained x.ranges) v ≡ true → S v ≡ b v ∷ []) × Extends M n a b × Fits M x b

@@ -9,6 +9,7 @@ use Rattle.fd_model.specs.Closed.{IsClosed, AllPosted, constrained}
 use Rattle.fd_model.specs.Goal.{Branch}
 use Rattle.fd_model.specs.Seen.{IsConsistent, IsView, is_variable, set_at, by_set}
 use Rattle.fd_model.specs.Children.{look_in}
+pub use Rattle.fd_language.proofs.Sets.{first_member, only_member}
 use Rattle.fd_language.proofs.Lemmas.{in_left, in_right, has_high, rising_same, solved, after, still_unifies, through_term}
 use Rattle.fd_model.specs.Satisfies.{Assignment, singles}
 use Rattle.fd_model.specs.Answers.{IsSolution}
@@ -17,12 +18,6 @@ use Rattle.fd_model.proofs.Models.{consistent_from, view_model, in_view, not_emp
 
 pub pos_same : (n k : ℕ) → pos n ≡ pos k → n ≡ k
 pos_same n k e = cc
-
-pub only_member : (n k : ℕ) → has (n ∷ []) k ≡ true → n ≡ k
-only_member n k h = elim (or_cases (n == k) false h) [ inl e ↦ eqb-true n k e | inr e ↦ absurd (true≢false (sym e)) ]
-
-pub first_member : (n : ℕ) (xs : List ℕ) → has (n ∷ xs) n ≡ true
-first_member n xs = or_left (n == n) (has xs n) (eq-eqb n n refl)
 
 pub is_variable_true : (t : Term) (y : ℕ) → is_variable t y ≡ true → t ≡ Var y
 is_variable_true (Var x) y h = ap Var (eqb-true x y h)

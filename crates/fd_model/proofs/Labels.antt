@@ -1,5 +1,6 @@
 -- The branches of a labelling: each leaf shows its only solution, and the children of a branch part its solutions.
 use Rattle.std.proofs.Common.{◌≡◌, ℕ, ◌<◌, ◌≤◌, true, false, cond, ◌==◌, ℤ, pos, IsTrue, List, [], ◌∷◌, ◌++◌, map, Option, Some, None, ◌⊎◌, refl, ap, sym, ◌∙◌, subst, inl, inr, arith, eqb-true, eq-eqb, Result, Err, Ok}
+use Rattle.fd_model.proofs.Slots.{int_number}
 use Rattle.std.proofs.lemmas.Bool.{or_cases, or_right, cases_Bool, true≢false}
 use Rattle.fd_model.specs.declared.kinds.QueryFault.{QueryFault}
 use Rattle.fd_model.specs.declared.kinds.Order.{Order}
@@ -55,9 +56,6 @@ map_at a c (x ∷ ys) y e h = elim (or_cases (x == y) (has ys y) h) [
 
 int_same : (n : ℕ) (z : ℤ) → Int (pos n) ≡ Int z → z ≡ pos n
 int_same n z e = cc
-
-pub int_number : (n m : ℕ) → Int (pos n) ≡ Int (pos m) → n ≡ m
-int_number n m e = cc
 
 module _ (M : ℕ) (prog : Program) (o : Order) (t : Term) (ms : List Member) (base : Substitution) (ws : List ℕ) (listed : read_list (apply base t) ≡ Ok ms) where
   abbrev vs : List ℕ

@@ -14,6 +14,7 @@ use Rattle.fd_model.specs.Posting.{is_integer, integer_of, integers_at, slot, sl
 use Rattle.fd_model.specs.Goal.{Goal, Post, Program, Branch}
 use Rattle.fd_model.specs.Sound.{PlacesBelow}
 use Rattle.fd_model.specs.Children.{Gives as GivesBranches, by_post, offer}
+pub use Rattle.fd_language.proofs.Sets.{map_has, has_map}
 use Rattle.fd_language.proofs.Lemmas.{has_high, has_either, universe_rising, has-filter_back, in_left, reads_map, set_same, filled_as_is, none_placed, free_places_read}
 use Rattle.fd_model.proofs.GoalRows.{Rewritten, with_ranges, numbers, Gives, FitsRow, IsPlain}
 use Rattle.fd_model.specs.Satisfies.{Assignment, singles}
@@ -31,20 +32,6 @@ LiesIn M r a (Var v) = has (set_of M (singles a) r) (a v) ≡ true
 LiesIn M r a (Int z) = (n : ℕ) × (z ≡ pos n) × (has (set_of M (singles a) r) n ≡ true)
 LiesIn M r a (Atom b) = ⊥
 LiesIn M r a (Comp f ts) = ⊥
-
-pub map_has : (f : ℕ → ℕ) (xs : List ℕ) (x : ℕ) → has (map f xs) x ≡ true → (y : ℕ) × (has xs y ≡ true) × (f y ≡ x)
-map_has f [] x h = absurd (true≢false (sym h))
-map_has f (y ∷ ys) x h = elim (or_cases (f y == x) (has (map f ys) x) h) [
-  | inl e ↦ (y, first_member y ys, eqb-true (f y) x e)
-  | inr e ↦ let g = map_has f ys x e in (g.0, or_right (y == g.0) (has ys g.0) g.1, g.2)
-]
-
-pub has_map : (f : ℕ → ℕ) (xs : List ℕ) (y : ℕ) → has xs y ≡ true → has (map f xs) (f y) ≡ true
-has_map f [] y h = absurd (true≢false (sym h))
-has_map f (x ∷ xs) y h = elim (or_cases (x == y) (has xs y) h) [
-  | inl e ↦ or_left (f x == f y) (has (map f xs) (f y)) (eq-eqb (f x) (f y) (ap f (eqb-true x y e)))
-  | inr e ↦ or_right (f x == f y) (has (map f xs) (f y)) (has_map f xs y e)
-]
 
 integer_is : (look : Substitution) (y : ℕ) (t : Term) → look y ≡ t → is_integer t ≡ true → IsInteger look y
 integer_is look y (Int z) e h = (z, e)

@@ -189,12 +189,12 @@ slots_unify look n (x ∷ ys) a e h i k = (
       (λ y g. sym (ap e (slot_tail n x y ys (elim (cases_Bool (x == y)) [ inl j ↦ absurd (true≢false (sym g ∙ subst (λ z. has ys z ≡ false) (eqb-true x y j) h.0)) | inr j ↦ j ]))) ∙ k y (or_right (x == y) (has ys y) g)),
 )
 
-same_int : (n m : ℕ) → Int (pos n) ≡ Int (pos m) → n ≡ m
-same_int n m e = cc
+pub int_number : (n m : ℕ) → Int (pos n) ≡ Int (pos m) → n ≡ m
+int_number n m e = cc
 
 pub slots_back : (look : Substitution) (n : ℕ) (ys : List ℕ) (a e : Assignment) → ((y : ℕ) → has ys y ≡ true → look y ≡ Int (pos (a y))) → Unifies (numbers e) (slot_equations look n ys) → (y : ℕ) → has ys y ≡ true → e (slot n ys y) ≡ a y
 slots_back look n [] a e i u y h = absurd (true≢false (sym h))
 slots_back look n (x ∷ ys) a e i u y h = elim (cases_Bool (x == y)) [
-  | inl k ↦ rw k (same_int (e n) (a y) (u.0 ∙ ap (apply (numbers e)) (i x (first_member x ys)) ∙ ap (λ z. Int (pos (a z))) (eqb-true x y k)))
+  | inl k ↦ rw k (int_number (e n) (a y) (u.0 ∙ ap (apply (numbers e)) (i x (first_member x ys)) ∙ ap (λ z. Int (pos (a z))) (eqb-true x y k)))
   | inr k ↦ rw k (slots_back look (suc n) ys a e (λ w g. i w (or_right (x == w) (has ys w) g)) u.1 y (elim (or_cases (x == y) (has ys y) h) [ inl j ↦ absurd (true≢false (sym j ∙ k)) | inr j ↦ j ]))
 ]

@@ -1,5 +1,6 @@
 -- What the nodes' variables find.
 use Rattle.std.proofs.Common.{◌≡◌, ℕ, suc, ◌+◌, ◌≤◌, ◌<◌, List, ◌∷◌, ◌++◌, length, drop, get_or, Option, None, refl, sym, ◌∙◌, ap, subst, arith}
+use Rattle.fd_language.proofs.Lemmas.{first-append, earlier_assoc, earlier_none}
 use Rattle.std.specs.Prelude.{Result, Ok, Err, IfOk, OnOk}
 use Rattle.std.proofs.lemmas.List.{at_drop_more, drop_all}
 use Rattle.fd_language.specs.declared.range_node.RangeNode.{RangeNode}
@@ -9,7 +10,6 @@ use Rattle.fd_language.specs.Family.{has}
 use Rattle.fd_language.specs.Range.{leaf_of}
 use Rattle.fd_language.specs.RangeVerdict.{leaf_clashes, clashes, where_first_clash, earlier, first}
 use Rattle.monotone_check.specs.MetVariables.{AreSeen, FindsAt}
-use Rattle.monotone_check.proofs.Firsts.{first-append, earlier_assoc, earlier_none}
 
 both_found : (xs ys : List Offence) (o : Option Offence) → o ≡ first xs → earlier o (first ys) ≡ first (xs ++ ys)
 both_found xs ys o e = ap (λ p. earlier p (first ys)) e ∙ sym (first-append xs ys)

@@ -1,5 +1,4 @@
 pub mod Bounds
-pub mod Firsts
 pub mod Leaves
 pub mod Operators
 pub mod Ranges

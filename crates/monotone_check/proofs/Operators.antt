@@ -12,8 +12,7 @@ use Rattle.fd_language.specs.Check.{Wish, turn, literal_value, is_parameter}
 use Rattle.fd_language.specs.RangeVerdict.{expr_size, bound, wide_in_expr, where_too_wide, over_limit, where_below_zero, where_natural, unless_divides, scaled, expr_offences, quotient_offences, expr_within, earlier, first}
 use Rattle.monotone_check.specs.declared.summary.TermCheck.{TermCheck}
 use Rattle.monotone_check.specs.Summary.{capped, literal_of, IsTerm, operator_bound, both_literal, operator_literal, kept, product_first, quotient_first, operands_first, operator_first, IsOperated}
-use Rattle.monotone_check.proofs.Firsts.{first_two, first_three}
-use Rattle.fd_language.proofs.Lemmas.{abs_add, abs_mul, abs_sub, not_over, products, sums}
+use Rattle.fd_language.proofs.Lemmas.{abs_add, abs_mul, abs_sub, not_over, products, sums, first_two, first_three}
 
 pub literal_bound : (M : ℕ) (e : Expr) → is_literal e ≡ true → nat_abs (literal_value M e) ≤ bound M e
 literal_bound M (Number z) h = omega arith

@@ -8,10 +8,9 @@ use Rattle.fd_language.specs.declared.TheConstants.{INFINITY}
 use Rattle.fd_language.specs.Range.{Range}
 use Rattle.fd_language.specs.Flat.{nodes_of, spelled, spelled-nodes}
 use Rattle.fd_language.specs.RangeVerdict.{range_size, wide_in_range, range_offences, clashes, earlier, first, width_first, verdict, range_within}
-use Rattle.fd_language.proofs.Lemmas.{nil-first, nil-range}
+use Rattle.fd_language.proofs.Lemmas.{nil-first, nil-range, first-append}
 use Rattle.monotone_check.specs.declared.summary.RangeCheck.{RangeCheck}
 use Rattle.monotone_check.specs.Summary.{IsRange}
-use Rattle.monotone_check.proofs.Firsts.{first-append}
 
 the_range : (at : ℕ → ℕ) (ns : List RangeNode) (r : Range) (s : RangeCheck) → ns ≡ nodes_of r → IsRange INFINITY at (range_size (spelled ns) - 1) (spelled ns) s → IsRange INFINITY at (range_size r - 1) r s
 the_range at ns r s e i = subst (λ q. IsRange INFINITY at (range_size q - 1) q s) (ap spelled e ∙ spelled-nodes r) i
