@@ -1,4 +1,4 @@
-// What texts, terms and ranges are, the laws of these, and the constants and flat types that programs and definitions share.
+//! What texts, terms and ranges are, the laws of these, and the constants and flat types that programs and definitions share.
 #![tactic(auto)]
 
 pub mod check_laws;

@@ -1,4 +1,4 @@
-// What a text means when it runs: families closed under what is posted, branches, runs, lines and outputs, and their laws.
+//! What a text means when it runs: families closed under what is posted, branches, runs, lines and outputs, and their laws.
 #![tactic(auto)]
 
 ghost use Rattle.std.specs.Prelude.{◌≡◌};

@@ -1,5 +1,5 @@
 -- What the nodes' variables find.
-use Rattle.std.proofs.Common.{◌≡◌, ℕ, suc, ◌+◌, ◌≤◌, ◌<◌, List, ◌∷◌, ◌++◌, length, drop, get_or, Option, None, refl, sym, ◌∙◌, ap, subst, arith}
+use Rattle.std.proofs.Common.{◌≡◌, ℕ, suc, ◌+◌, ◌≤◌, ◌<◌, List, ◌∷◌, ◌++◌, length, drop, get_or, Option, None, refl, sym, ◌∙◌, ap, subst, inl, inr, ◌⊎◌, arith}
 use Rattle.fd_language.proofs.Lemmas.{first-append, earlier_assoc, earlier_none}
 use Rattle.std.specs.Prelude.{Result, Ok, Err, IfOk, OnOk}
 use Rattle.std.proofs.lemmas.List.{at_drop_more, drop_all}
@@ -72,8 +72,15 @@ Seeing x old new = (ys : List ℕ) → AreSeen ys old → AreSeen (x ∷ ys) new
 pub param_ok : {E : Type 0} (r : Result (Option Offence) E) (m : RangeNode) (x place : ℕ) (ps ys qs : List ℕ) → m ≡ node.Param x → IfOk r (Clashing x place ys ps) → OnOk r (Seeing x ps qs) → IfOk r (FindsAt place m ps ys qs ys)
 param_ok r m x place ps ys qs e h g = ok_both r (Clashing x place ys ps) (Seeing x ps qs) (FindsAt place m ps ys qs ys) h g (λ o f s. subst (λ k. FindsAt place k ps ys qs ys o) (sym e) (found_param x place ps ys qs o f s))
 
-pub named_ok : {E : Type 0} (r : Result (Option Offence) E) (m k : RangeNode) (y place : ℕ) (ps ys zs : List ℕ) → Names k y → m ≡ k → IfOk r (Clashing y place ps ys) → OnOk r (Seeing y ys zs) → IfOk r (FindsAt place m ps ys ps zs)
-named_ok r m k y place ps ys zs names e h g = ok_both r (Clashing y place ps ys) (Seeing y ys zs) (FindsAt place m ps ys ps zs) h g (λ o f s. subst (λ j. FindsAt place j ps ys ps zs o) (sym e) (found_named k y place ps ys zs o names f s))
+names : (m : RangeNode) (y : ℕ) → (m ≡ node.Min y) ⊎ ((m ≡ node.Max y) ⊎ ((m ≡ node.Val y) ⊎ (m ≡ node.Dom y))) → Names m y
+names m y (inl e) = subst (λ j. Names j y) (sym e) (λ p ks bs k. refl)
+names m y (inr (inl e)) = subst (λ j. Names j y) (sym e) (λ p ks bs k. refl)
+names m y (inr (inr (inl e))) = subst (λ j. Names j y) (sym e) (λ p ks bs k. refl)
+names m y (inr (inr (inr e))) = subst (λ j. Names j y) (sym e) (λ p ks bs k. refl)
+
+pub named_ok : {E : Type 0} (r : Result (Option Offence) E) (m : RangeNode) (y place : ℕ) (ps ys zs : List ℕ) → (m ≡ node.Min y) ⊎ ((m ≡ node.Max y) ⊎ ((m ≡ node.Val y) ⊎ (m ≡ node.Dom y)))
+    → IfOk r (Clashing y place ps ys) → OnOk r (Seeing y ys zs) → IfOk r (FindsAt place m ps ys ps zs)
+named_ok r m y place ps ys zs is h g = ok_both r (Clashing y place ps ys) (Seeing y ys zs) (FindsAt place m ps ys ps zs) h g (λ o f s. found_named m y place ps ys zs o (names m y is) f s)
 
 pub found_none : (m : RangeNode) (place : ℕ) (ps ys : List ℕ) → ((x : ℕ) → m ≡ node.Param x → ⊥) → ((x : ℕ) → m ≡ node.Min x → ⊥) → ((x : ℕ) → m ≡ node.Max x → ⊥) → ((x : ℕ) → m ≡ node.Val x → ⊥) → ((x : ℕ) → m ≡ node.Dom x → ⊥) → FindsAt place m ps ys ps ys None
 found_none (node.Param x) place ps ys a b c d e = absurd (a x refl)

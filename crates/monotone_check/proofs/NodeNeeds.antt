@@ -15,7 +15,7 @@ use Rattle.std.proofs.lemmas.List.{at_drop_more, drop_all, append-nil, append_as
 use Rattle.std.specs.Prelude.{Ok, Err}
 use Rattle.monotone_check.specs.declared.asking.Asked.{Asked}
 use Rattle.monotone_check.specs.declared.asks.OpenTerm.{OpenTerm}
-use Rattle.monotone_check.specs.declared.asks.Reading.{Reading}
+use Rattle.monotone_check.specs.declared.asks.AskReader.{AskReader}
 use Rattle.monotone_check.specs.PlaceNeeds.{joins, AsksOf, raise, raise_all, told, raised, asks_now, Opens, OpensParameter, Operates, Closes, ClosesQuotient}
 use Rattle.monotone_check.specs.OpenTerms.{all_asks, IsAsking, FollowsAsking, TakesAsks, IsAskedSoFar}
 use Rattle.monotone_check.proofs.NodeWalk.{builds_all, some_same}
@@ -128,7 +128,7 @@ quotient_now (DivDown c d) lit par mid now new f a h e l q g k = plain_now (is_l
 quotient_now (DivUp c d) lit par mid now new f a h e l q g k = plain_now (is_literal (DivUp c d)) mid now new f a (DivUp c d) h e (literal_asks (DivUp c d)) (k q ∙ ap (λ c. cond c now (raised f 0 now)) l)
 quotient_now b lit par mid now new f a h e l q g k = plain_now (is_literal b) mid now new f a b h e (literal_asks b) (k q ∙ ap (λ c. cond c now (raised f 0 now)) l)
 
-follows : (ns : List RangeNode) (rs : List Range) (ts : List Expr) (o : Option Range) (q : Reading) → o ≡ built ns rs ts → IsAsking rs ts q → FollowsAsking ns o q
+follows : (ns : List RangeNode) (rs : List Range) (ts : List Expr) (o : Option Range) (q : AskReader) → o ≡ built ns rs ts → IsAsking rs ts q → FollowsAsking ns o q
 follows ns rs ts None q e i = tt
 follows ns rs ts (Some r) q e i = (rs, ts, e, i)
 
@@ -143,7 +143,7 @@ both_same s t a b e f = cc
 either_same : (s t a b : Bool) (xs ys : List (ℕ × Need)) → s ≡ a → t ≡ b → cond (s || t) xs ys ≡ cond (a || b) xs ys
 either_same s t a b xs ys e f = cc
 
-module _ (ns : List RangeNode) (old new : Reading) where
+module _ (ns : List RangeNode) (old new : AskReader) where
   opened : (rs : List Range) (ts : List Expr) (e : Expr) (literal : Bool) → expr_asks e false ≡ [] → literal ≡ is_literal e → false ≡ is_parameter e → IsAsking rs ts old → Opens literal old new → IsAsking rs (e ∷ ts) new
   opened rs ts e literal none l q i (s, terms, lit, par, from, now) =
       (old.terms.items, s, asks_now old, terms, now ∙ (sym (append-nil (asks_now old)) ∙ ap (λ k. asks_now old ++ k) (sym none)), from ∙ sym (length-told 0 old.asking.places.items), lit ∙ l, par ∙ q, i)
@@ -248,43 +248,43 @@ module _ (ns : List RangeNode) (old new : Reading) where
       follows ns (Over r c ∷ rs) [] (built ns (Over r c ∷ rs) []) new refl
       (made.0, over_now c t.parameter (all_asks rs) (asks r) (asks_now old) (asks_now new) (now ∙ ap (λ l. l ++ expr_asks c false) rest.1) tp made.1 made.2)
 
-via : (m k : RangeNode) (old new : Reading) → k ≡ m → TakesAsks m old new → TakesAsks k old new
+via : (m k : RangeNode) (old new : AskReader) → k ≡ m → TakesAsks m old new → TakesAsks k old new
 via m k old new e f = subst (λ j. TakesAsks j old new) (sym e) f
 
 pub ok_asks : {A E : Type 0} (r : Result A E) (P Q : Type 0) → (P → Q) → OnOk r P → OnOk r Q
 ok_asks (Ok x) P Q f h = f h
 ok_asks (Err e) P Q f h = tt
 
-pub open_true_takes : (m : RangeNode) (old new : Reading) → (((z : ℤ) × (m ≡ node.Int z)) ⊎ (m ≡ node.Infinity)) → Opens true old new → TakesAsks m old new
+pub open_true_takes : (m : RangeNode) (old new : AskReader) → (((z : ℤ) × (m ≡ node.Int z)) ⊎ (m ≡ node.Infinity)) → Opens true old new → TakesAsks m old new
 open_true_takes m old new is f = elim is [ inl e0 ↦ via (node.Int e0.0) m old new e0.1 (λ ns rs ts i. ask_leaf ns old new (Number e0.0) true refl refl refl rs ts i f) | inr h0 ↦ via node.Infinity m old new h0 (λ ns rs ts i. ask_leaf ns old new Infinity true refl refl refl rs ts i f) ]
 
-pub open_false_takes : (m : RangeNode) (old new : Reading) → (((y : ℕ) × (m ≡ node.Min y)) ⊎ (((y : ℕ) × (m ≡ node.Max y)) ⊎ ((y : ℕ) × (m ≡ node.Val y)))) → Opens false old new → TakesAsks m old new
+pub open_false_takes : (m : RangeNode) (old new : AskReader) → (((y : ℕ) × (m ≡ node.Min y)) ⊎ (((y : ℕ) × (m ≡ node.Max y)) ⊎ ((y : ℕ) × (m ≡ node.Val y)))) → Opens false old new → TakesAsks m old new
 open_false_takes m old new is f = elim is [ inl e0 ↦ via (node.Min e0.0) m old new e0.1 (λ ns rs ts i. ask_leaf ns old new (Min e0.0) false refl refl refl rs ts i f) | inr h0 ↦ elim h0 [ inl e1 ↦ via (node.Max e1.0) m old new e1.1 (λ ns rs ts i. ask_leaf ns old new (Max e1.0) false refl refl refl rs ts i f) | inr h1 ↦ via (node.Val h1.0) m old new h1.1 (λ ns rs ts i. ask_leaf ns old new (Val h1.0) false refl refl refl rs ts i f) ] ]
 
-pub operate_takes : (m : RangeNode) (old new : Reading) → ((m ≡ node.Add) ⊎ ((m ≡ node.Sub) ⊎ ((m ≡ node.Mul) ⊎ ((m ≡ node.DivDown) ⊎ (m ≡ node.DivUp))))) → Operates m old new → TakesAsks m old new
+pub operate_takes : (m : RangeNode) (old new : AskReader) → ((m ≡ node.Add) ⊎ ((m ≡ node.Sub) ⊎ ((m ≡ node.Mul) ⊎ ((m ≡ node.DivDown) ⊎ (m ≡ node.DivUp))))) → Operates m old new → TakesAsks m old new
 operate_takes m old new is f = elim is [ inl e0 ↦ via node.Add m old new e0 (λ ns rs ts i. ask_add ns old new rs ts i (subst (λ j. Operates j old new) e0 f)) | inr h0 ↦ elim h0 [ inl e1 ↦ via node.Sub m old new e1 (λ ns rs ts i. ask_sub ns old new rs ts i (subst (λ j. Operates j old new) e1 f)) | inr h1 ↦ elim h1 [ inl e2 ↦ via node.Mul m old new e2 (λ ns rs ts i. ask_mul ns old new rs ts i (subst (λ j. Operates j old new) e2 f)) | inr h2 ↦ elim h2 [ inl e3 ↦ via node.DivDown m old new e3 (λ ns rs ts i. ask_div_down ns old new rs ts i (subst (λ j. Operates j old new) e3 f)) | inr h3 ↦ via node.DivUp m old new h3 (λ ns rs ts i. ask_div_up ns old new rs ts i (subst (λ j. Operates j old new) h3 f)) ] ] ] ]
 
-pub close_takes : (m : RangeNode) (old new : Reading) → ((m ≡ node.Span) ⊎ ((m ≡ node.One) ⊎ (((y : ℕ) × (m ≡ node.Dom y)) ⊎ ((m ≡ node.Union) ⊎ ((m ≡ node.Inter) ⊎ ((m ≡ node.Outside) ⊎ ((m ≡ node.Plus) ⊎ ((m ≡ node.Minus) ⊎ (m ≡ node.Times))))))))) → Closes old new → TakesAsks m old new
+pub close_takes : (m : RangeNode) (old new : AskReader) → ((m ≡ node.Span) ⊎ ((m ≡ node.One) ⊎ (((y : ℕ) × (m ≡ node.Dom y)) ⊎ ((m ≡ node.Union) ⊎ ((m ≡ node.Inter) ⊎ ((m ≡ node.Outside) ⊎ ((m ≡ node.Plus) ⊎ ((m ≡ node.Minus) ⊎ (m ≡ node.Times))))))))) → Closes old new → TakesAsks m old new
 close_takes m old new is f = elim is [ inl e0 ↦ via node.Span m old new e0 (λ ns rs ts i. ask_span ns old new rs ts i f) | inr h0 ↦ elim h0 [ inl e1 ↦ via node.One m old new e1 (λ ns rs ts i. ask_one ns old new rs ts i f) | inr h1 ↦ elim h1 [ inl e2 ↦ via (node.Dom e2.0) m old new e2.1 (λ ns rs ts i. ask_dom ns old new e2.0 rs ts i f) | inr h2 ↦ elim h2 [ inl e3 ↦ via node.Union m old new e3 (λ ns rs ts i. ask_ranges ns old new Union (λ r q. refl) rs ts i f) | inr h3 ↦ elim h3 [ inl e4 ↦ via node.Inter m old new e4 (λ ns rs ts i. ask_ranges ns old new Inter (λ r q. refl) rs ts i f) | inr h4 ↦ elim h4 [ inl e5 ↦ via node.Outside m old new e5 (λ ns rs ts i. ask_outside ns old new rs ts i f) | inr h5 ↦ elim h5 [ inl e6 ↦ via node.Plus m old new e6 (λ ns rs ts i. ask_pointwise ns old new Plus (λ r c. refl) rs ts i f) | inr h6 ↦ elim h6 [ inl e7 ↦ via node.Minus m old new e7 (λ ns rs ts i. ask_pointwise ns old new Minus (λ r c. refl) rs ts i f) | inr h7 ↦ via node.Times m old new h7 (λ ns rs ts i. ask_pointwise ns old new Times (λ r c. refl) rs ts i f) ] ] ] ] ] ] ] ]
 
-pub param_takes : (m : RangeNode) (x : ℕ) (old new : Reading) → m ≡ node.Param x → OpensParameter x old new → TakesAsks m old new
+pub param_takes : (m : RangeNode) (x : ℕ) (old new : AskReader) → m ≡ node.Param x → OpensParameter x old new → TakesAsks m old new
 param_takes m x old new e f = via (node.Param x) m old new e (λ ns rs ts i. ask_param ns old new x rs ts i f)
 
-pub over_takes : (m : RangeNode) (old new : Reading) → m ≡ node.Over → ClosesQuotient old new → TakesAsks m old new
+pub over_takes : (m : RangeNode) (old new : AskReader) → m ≡ node.Over → ClosesQuotient old new → TakesAsks m old new
 over_takes m old new e f = via node.Over m old new e (λ ns rs ts i. ask_over ns old new rs ts i f)
 
-pub asks_start : (nodes : List RangeNode) (q : Reading) → IsSpelled nodes → q.terms.items ≡ [] → q.asking.places.items ≡ [] → IsAskedSoFar 0 nodes q
+pub asks_start : (nodes : List RangeNode) (q : AskReader) → IsSpelled nodes → q.terms.items ≡ [] → q.asking.places.items ≡ [] → IsAskedSoFar 0 nodes q
 asks_start nodes q s t p = ([], [], builds_all nodes s, (t, ap (λ l. told 0 l) p))
 
-from_follows : (ns : List RangeNode) (r : Range) (o : Option Range) (q : Reading) → Some r ≡ o → FollowsAsking ns o q → (rs : List Range) × (ts : List Expr) × (Some r ≡ built ns rs ts) × IsAsking rs ts q
+from_follows : (ns : List RangeNode) (r : Range) (o : Option Range) (q : AskReader) → Some r ≡ o → FollowsAsking ns o q → (rs : List Range) × (ts : List Expr) × (Some r ≡ built ns rs ts) × IsAsking rs ts q
 from_follows ns r o q e f = subst (λ p. FollowsAsking ns p q) (sym e) f
 
-pub asks_step : (i : ℕ) (nodes : List RangeNode) (d : RangeNode) (old new : Reading) → i < length nodes → IsAskedSoFar i nodes old → TakesAsks (get_or nodes i d) old new → IsAskedSoFar (i + 1) nodes new
+pub asks_step : (i : ℕ) (nodes : List RangeNode) (d : RangeNode) (old new : AskReader) → i < length nodes → IsAskedSoFar i nodes old → TakesAsks (get_or nodes i d) old new → IsAskedSoFar (i + 1) nodes new
 asks_step i nodes d old new l (rs, ts, e, p) f =
     let g : Some (spelled nodes) ≡ built (get_or nodes i d ∷ drop (i + 1) nodes) rs ts = e ∙ at_drop_more (λ ns. built ns rs ts) nodes i d l in
     from_follows (drop (i + 1) nodes) (spelled nodes) _ new g (f (drop (i + 1) nodes) rs ts p)
 
-alone : (r : Range) (rs : List Range) (ts : List Expr) (q : Reading) → Some r ≡ built [] rs ts → IsAsking rs ts q → asks_now q ≡ asks r
+alone : (r : Range) (rs : List Range) (ts : List Expr) (q : AskReader) → Some r ≡ built [] rs ts → IsAsking rs ts q → asks_now q ≡ asks r
 alone r [] [] q e h = absurd cc
 alone r [] (t ∷ ts) q e h = absurd cc
 alone r (x ∷ []) (t ∷ ts) q e h = absurd cc
@@ -292,5 +292,5 @@ alone r (x ∷ y ∷ rs) [] q e h = absurd cc
 alone r (x ∷ y ∷ rs) (t ∷ ts) q e h = absurd cc
 alone r (x ∷ []) [] q e h = h.1 ∙ ap asks (sym (some_same r x e))
 
-pub asks_end : (i : ℕ) (nodes : List RangeNode) (q : Reading) → length nodes ≤ i → IsAskedSoFar i nodes q → told 0 q.asking.places.items ≡ asks (spelled nodes)
+pub asks_end : (i : ℕ) (nodes : List RangeNode) (q : AskReader) → length nodes ≤ i → IsAskedSoFar i nodes q → told 0 q.asking.places.items ≡ asks (spelled nodes)
 asks_end i nodes q h (rs, ts, e, p) = alone (spelled nodes) rs ts q (e ∙ ap (λ ns. built ns rs ts) (drop_all i nodes h)) p

@@ -7,7 +7,7 @@ use Rattle.fd_language.specs.Needs.{is_literal, expr_asks, asks}
 use Rattle.fd_language.specs.Check.{is_parameter}
 use Rattle.fd_language.specs.Flat.{built, spelled}
 use Rattle.monotone_check.specs.declared.asks.OpenTerm.{OpenTerm}
-use Rattle.monotone_check.specs.declared.asks.Reading.{Reading}
+use Rattle.monotone_check.specs.declared.asks.AskReader.{AskReader}
 use Rattle.monotone_check.specs.PlaceNeeds.{asks_now}
 
 -- the terms, the last one first; before them so much is asked, and with them so much
@@ -21,16 +21,16 @@ abbrev pub all_asks : List Range → List (ℕ × Need)
 all_asks [] = []
 all_asks (r ∷ rs) = all_asks rs ++ asks r
 
-abbrev pub IsAsking : List Range → List Expr → Reading → Type 0
+abbrev pub IsAsking : List Range → List Expr → AskReader → Type 0
 IsAsking rs ts q = AreOpen ts q.terms.items (all_asks rs) (asks_now q)
 
-abbrev pub FollowsAsking : List RangeNode → Option Range → Reading → Type 0
+abbrev pub FollowsAsking : List RangeNode → Option Range → AskReader → Type 0
 FollowsAsking ns None q = Unit {0}
 FollowsAsking ns (Some r) q = (rs : List Range) × (ts : List Expr) × (Some r ≡ built ns rs ts) × IsAsking rs ts q
 
-abbrev pub TakesAsks : RangeNode → Reading → Reading → Type 0
+abbrev pub TakesAsks : RangeNode → AskReader → AskReader → Type 0
 TakesAsks m old new = (ns : List RangeNode) (rs : List Range) (ts : List Expr) → IsAsking rs ts old → FollowsAsking ns (built (m ∷ ns) rs ts) new
 
 -- the nodes from the number n on build the range on top of what waits
-abbrev pub IsAskedSoFar : ℕ → List RangeNode → Reading → Type 0
+abbrev pub IsAskedSoFar : ℕ → List RangeNode → AskReader → Type 0
 IsAskedSoFar n nodes q = (rs : List Range) × (ts : List Expr) × (Some (spelled nodes) ≡ built (drop n nodes) rs ts) × IsAsking rs ts q

@@ -8,7 +8,7 @@ use Rattle.fd_language.specs.declared.range_node.RangeNode.{RangeNode}
 use Rattle.fd_language.specs.declared.range_node.RangeNode.TheVariants as node
 use Rattle.monotone_check.specs.declared.asking.Asked.{Asked}
 use Rattle.monotone_check.specs.declared.asks.OpenTerm.{OpenTerm}
-use Rattle.monotone_check.specs.declared.asks.Reading.{Reading}
+use Rattle.monotone_check.specs.declared.asks.AskReader.{AskReader}
 
 abbrev pub raise : Need → Need
 raise n = stronger n Natural
@@ -46,22 +46,22 @@ AsksOf node.Mul a b old new = new ≡ (if a.literal || b.literal then old else r
 AsksOf _ a b old new = (b.parameter ≡ true → (front : List (ℕ × Need)) (x : ℕ) (n : Need) → old ≡ front ++ (x, n) ∷ [] → new ≡ front ++ (x, Divisor) ∷ [])
     × (b.parameter ≡ false → new ≡ (if b.literal then old else raised a.from 0 old))
 
-abbrev pub asks_now : Reading → List (ℕ × Need)
+abbrev pub asks_now : AskReader → List (ℕ × Need)
 asks_now r = told 0 r.asking.places.items
 
-abbrev pub Opens : Bool → Reading → Reading → Type 0
+abbrev pub Opens : Bool → AskReader → AskReader → Type 0
 Opens literal old new = (s : OpenTerm) × (new.terms.items ≡ old.terms.items ++ s ∷ []) × (s.literal ≡ literal) × (s.parameter ≡ false) × (s.from ≡ length old.asking.places.items) × (asks_now new ≡ asks_now old)
 
-abbrev pub OpensParameter : ℕ → Reading → Reading → Type 0
+abbrev pub OpensParameter : ℕ → AskReader → AskReader → Type 0
 OpensParameter x old new = (s : OpenTerm) × (new.terms.items ≡ old.terms.items ++ s ∷ []) × (s.literal ≡ false) × (s.parameter ≡ true) × (s.from ≡ length old.asking.places.items) × (asks_now new ≡ asks_now old ++ (x, Whole) ∷ [])
 
-abbrev pub Operates : RangeNode → Reading → Reading → Type 0
+abbrev pub Operates : RangeNode → AskReader → AskReader → Type 0
 Operates n old new = (front : List OpenTerm) (a b : OpenTerm) → old.terms.items ≡ (front ++ a ∷ []) ++ b ∷ [] →
     (s : OpenTerm) × (new.terms.items ≡ front ++ s ∷ []) × (s.literal ≡ (joins n && (a.literal && b.literal))) × (s.parameter ≡ false) × (s.from ≡ a.from) × AsksOf n a b (asks_now old) (asks_now new)
 
-abbrev pub Closes : Reading → Reading → Type 0
+abbrev pub Closes : AskReader → AskReader → Type 0
 Closes old new = (new.terms.items ≡ []) × (asks_now new ≡ asks_now old)
 
-abbrev pub ClosesQuotient : Reading → Reading → Type 0
+abbrev pub ClosesQuotient : AskReader → AskReader → Type 0
 ClosesQuotient old new = (front : List OpenTerm) (c : OpenTerm) → old.terms.items ≡ front ++ c ∷ [] →
     (new.terms.items ≡ []) × (c.parameter ≡ true → (ds : List (ℕ × Need)) (x : ℕ) (n : Need) → asks_now old ≡ ds ++ (x, n) ∷ [] → asks_now new ≡ ds ++ (x, Divisor) ∷ []) × (c.parameter ≡ false → asks_now new ≡ asks_now old)

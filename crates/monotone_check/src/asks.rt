@@ -20,7 +20,7 @@ pub(crate) struct OpenTerm {
 
 /// What is asked so far, and the terms that wait for their operators.
 #[derive(Drop)]
-pub(crate) struct Reading {
+pub(crate) struct AskReader {
     pub asking: Asking,
     pub terms: Vec<OpenTerm>,
 }
@@ -55,12 +55,12 @@ fn ask(asking: &mut Asking, node: RangeNode, a: OpenTerm, b: OpenTerm)
     }
 }
 
-impl Reading {
-    pub fn new(alloc: Global) -> Reading
+impl AskReader {
+    pub fn new(alloc: Global) -> AskReader
         ensures terms { result.terms.items ≡ [] }
         ensures places { result.asking.places.items ≡ [] }
     {
-        Reading {
+        AskReader {
             asking: Asking::new(alloc),
             terms: Vec::new(alloc),
         }
@@ -162,10 +162,10 @@ pub(crate) fn read_asks(alloc: Global, nodes: &[RangeNode]) -> Result<Asking, No
     requires { IsSpelled nodes.now }
     ensures { IfOk result (λ q. told 0 q.places.items ≡ asks (spelled nodes.now)) }
 {
-    let mut reading = Reading::new(alloc);
+    let mut reading = AskReader::new(alloc);
     for node in nodes {
         reading.take(*node)?;
     }
-    let Reading { asking, .. } = reading;
+    let AskReader { asking, .. } = reading;
     Ok(asking)
 }

@@ -44,10 +44,10 @@ impl Uses {
     {
         match node {
             RangeNode::Param(variable) => meet(&self.named, &mut self.parameters, variable, place),
-            RangeNode::Min(variable) => meet(&self.parameters, &mut self.named, variable, place),
-            RangeNode::Max(variable) => meet(&self.parameters, &mut self.named, variable, place),
-            RangeNode::Val(variable) => meet(&self.parameters, &mut self.named, variable, place),
-            RangeNode::Dom(variable) => meet(&self.parameters, &mut self.named, variable, place),
+            RangeNode::Min(variable)
+            | RangeNode::Max(variable)
+            | RangeNode::Val(variable)
+            | RangeNode::Dom(variable) => meet(&self.parameters, &mut self.named, variable, place),
             _ => Ok(None),
         }
     }

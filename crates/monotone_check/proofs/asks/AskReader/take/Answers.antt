@@ -2,7 +2,7 @@ use Rattle.std.proofs.Common.{true, false}
 use Rattle.monotone_check.specs.PlaceNeeds.{Opens, OpensParameter, Operates}
 use Rattle.monotone_check.specs.OpenTerms.{TakesAsks}
 use Rattle.monotone_check.proofs.NodeNeeds.{ok_asks, open_true_takes, open_false_takes, operate_takes, param_takes}
-use Rattle.monotone_check.proofs.asks.Reading.take.Goals as goal
+use Rattle.monotone_check.proofs.asks.AskReader.take.Goals as goal
 
 pub returns-in-Int : goal.returns-in-Int
 returns-in-Int c = ok_asks c.open.result (Opens true c.args.self.now c.open.new.self) (TakesAsks c.args.node c.args.self.now c.open.new.self) (λ f. open_true_takes c.args.node c.args.self.now c.open.new.self c.in-Int.is f) c.open.ensures
