@@ -1,18 +1,19 @@
 -- Heaps that grow while terms are built, and heaps whose variables become variables of the store.
-use Rattle.std.proofs.Common.{◌≡◌, ◌≢◌, ℕ, ◌<◌, List, [], ◌∷◌, length, Option, Some, None, refl, ap, sym, ◌∙◌, inl, inr, ◌⊎◌, arith, length-append, length-set}
+use Rattle.std.proofs.Common.{◌≡◌, ◌≢◌, ℕ, ◌<◌, List, [], ◌∷◌, length, Option, Some, None, refl, ap, sym, ◌∙◌, inl, inr, arith, length-append, length-set}
 use Rattle.std.specs.Prelude.{All}
 use Rattle.std.proofs.lemmas.Bool.{cases_eq}
 use Rattle.fd_language.specs.Term.{Terms, no_terms, term, apply}
 use Rattle.heap_cells.specs.declared.Cell.{Cell}
 use Rattle.heap_cells.specs.Cells.{free, linked, Compound, Cells, slot_at, IsOf, with_slot, with_new_slot, with_compound}
-use Rattle.heap_cells.specs.Terms.{Naming, term_of}
+use Rattle.heap_cells.specs.Terms.{Naming}
 use Rattle.heap_cells.specs.Valid.{IsHeap}
 use Rattle.heap_cells.proofs.Binding.{slot_there, slot_elsewhere, of_same}
 use Rattle.heap_cells.proofs.Growing.{new_slot_at, var_kept, struct_kept, link_valid, link_kept}
 use Rattle.machine_relation.proofs.PostRenaming.{functions}
-use Rattle.machine_frames.specs.Environments.{cell_at, cell_look, env_look, AreAt}
+use Rattle.machine_frames.specs.Environments.{cell_at, cell_look, env_look, AreAt, OwnEnv}
 use Rattle.machine_frames.specs.Frames.{link_of, link_in, IsGrown}
 use Rattle.machine_frames.proofs.Continuing.{of_grown}
+use Rattle.machine_frames.specs.Posting.{IsLinkedMore}
 
 pub grown_same : (h : Cells) → IsGrown h h
 grown_same h = record { slots = λ i. refl; longer = omega arith; parts = omega arith; terms = λ name c o. refl }
@@ -43,10 +44,6 @@ grown_struct h valid k own = record {
   terms = struct_kept h valid k own;
 }
 
--- the environment's cells are of the heap
-abbrev pub OwnEnv : Cells → List (Option Cell) → Type 0
-OwnEnv h env = (x : ℕ) (d : Cell) → cell_at env x ≡ Some d → IsOf h d
-
 -- the terms of an environment stay
 pub env_grown : (name : Naming) (h now : Cells) → IsGrown h now → (env : List (Option Cell)) → OwnEnv h env → (x : ℕ) → env_look name now env x ≡ env_look name h env x
 env_grown name h now g env own x = by_cell (cell_at env x) refl where
@@ -63,21 +60,6 @@ at_grown name h now g env own (c ∷ cs) (term t ts) a = (
   (of_grown h now g c a.0.0, ap (λ s. apply s t) (functions (env_grown name h now g env own)) ∙ a.0.1 ∙ sym (g.terms name c a.0.0)),
   at_grown name h now g env own cs ts a.1,
 )
-
--- the pair is one of the list
-abbrev pub Listed : ℕ → ℕ → List (ℕ × ℕ) → Type 0
-Listed c k [] = ⊥
-Listed c k (p ∷ ps) = ((c ≡ p.0) × (k ≡ p.1)) ⊎ Listed c k ps
-
--- The heap now has the terms of the heap h; its variables of the store are those of h and these, each one's own.
-pub record IsLinkedMore (h now : Cells) (more : List (ℕ × ℕ)) : Type 0 where
-  pub valid : IsHeap now
-  pub size : length now.slots ≡ length h.slots
-  pub parts : now.compounds ≡ h.compounds
-  pub terms : (name : Naming) (c : Cell) → IsOf h c → term_of name now c ≡ term_of name h c
-  pub keep : (c k : ℕ) → link_in h c ≡ Some k → link_in now c ≡ Some k
-  pub new : (c k : ℕ) → link_in now c ≡ Some k → (link_in h c ≡ Some k) ⊎ Listed c k more
-  pub one : (c d k : ℕ) → link_in now c ≡ Some k → link_in now d ≡ Some k → c ≡ d
 
 some_same : (k j : ℕ) → Some k ≡ Some j → k ≡ j
 some_same k j e = cc

@@ -51,14 +51,7 @@ use Rattle.machine_frames.proofs.Keeping.{kept_consistent, kept_no_model}
 use Rattle.machine_frames.proofs.Ranging.{unsettled}
 use Rattle.machine_frames.proofs.Settling.{settled_look, settled_held, settled_rest}
 use Rattle.machine_frames.proofs.Unifying.{kept_unified}
-
--- A term of the heap, as the store's sets show it.
-abbrev pub read_term : Cells → Family → Term → Term
-read_term h G t = apply (λ c. value_at (link_in h c) G c) t
-
--- what a labelling of the list x does, by the heap and the store's sets
-abbrev pub heap_label : ℕ → Naming → Cells → List Indexical → Family → Order → Term → Labelled
-heap_label M name h qs G o x = labelled o (λ c. values_by M (cell_set G ((fixed_frame (frame_of name h qs) G).link c))) x
+use Rattle.machine_frames.specs.Reading.{read_term, heap_label}
 
 argument_renamed : (f : ℕ → ℕ) (t : Term) → only_argument (rename_term f t) ≡ rename_term f (only_argument t)
 argument_renamed f (Var x) = refl

@@ -20,3 +20,6 @@ pub mod Arena
 pub mod Trying
 pub mod Growing
 pub mod Labelling
+pub mod Naming
+pub mod Pooled
+pub mod Constraining

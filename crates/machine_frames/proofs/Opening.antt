@@ -18,17 +18,12 @@ use Rattle.machine_relation.specs.Heap.{after, Of, AllOf, EquationsOf, StandsFor
 use Rattle.machine_relation.specs.Says.{SaysSame}
 use Rattle.machine_relation.proofs.Growing.{after_are, after_is, agree, agree_all, agree_each, more_of, more_all, more_each, still_of}
 use Rattle.machine_relation.proofs.Placing.{with_one}
-use Rattle.machine_frames.specs.Environments.{Activation}
+use Rattle.machine_frames.specs.Environments.{Activation, AllOwn}
 use Rattle.machine_frames.specs.Matching.{Part, Known, part_equations, parts_of, AreSides, IsMatching}
 use Rattle.machine_frames.proofs.Continuing.{continues_moved}
 use Rattle.machine_frames.proofs.Entering.{term_list, renamed_all}
 use Rattle.machine_frames.proofs.Keeping.{kept_more}
 use Rattle.machine_frames.proofs.Matching.{env_low, one_here, one_else, sides_moved, sides_first}
-
--- each cell is of the heap
-abbrev pub AllOwn : Cells → List Cell → Type 0
-AllOwn h [] = Unit {0}
-AllOwn h (c ∷ cs) = IsOf h c × AllOwn h cs
 
 -- a variable for each cell, from top on
 abbrev ghosts : ℕ → List Cell → Terms

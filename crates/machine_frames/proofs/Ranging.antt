@@ -38,13 +38,14 @@ use Rattle.machine_relation.proofs.Views.{SameKind, kind_same, view_kind}
 use Rattle.machine_relation.proofs.Walking.{gone_by}
 use Rattle.machine_frames.specs.Environments.{cell_look, env_look, Activation}
 use Rattle.machine_frames.specs.Frames.{link_in, frame_of, IsKept}
-use Rattle.machine_frames.specs.Posting.{seen_env, env_row, IsRangeLinked}
+use Rattle.machine_frames.specs.Posting.{IsRangeLinked}
 use Rattle.machine_frames.specs.Walking.{IsHere, Choice, Waits, Walks, Returns}
 use Rattle.machine_frames.proofs.Continuing.{continues_moved, continues_fewer}
 use Rattle.machine_frames.proofs.FreshNames.{fresh_named}
 use Rattle.machine_frames.proofs.Keeping.{kept_consistent, kept_no_model}
 use Rattle.machine_frames.proofs.Posting.{kept_ranged, look2, look2_old}
 use Rattle.machine_frames.proofs.Settling.{settled_look, settled_held, settled_rest}
+use Rattle.machine_frames.specs.Reading.{seen_env, env_row}
 
 -- a variable that is read as open is open
 value_var : (xs : List ℕ) (c d : ℕ) → value_in xs c ≡ Var d → c ≡ d

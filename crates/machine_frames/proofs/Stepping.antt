@@ -30,14 +30,10 @@ use Rattle.machine_relation.proofs.Steps.{live_spent, live_none, live_one, live_
 use Rattle.machine_relation.proofs.Walking.{gone_by}
 use Rattle.machine_frames.specs.Environments.{env_look, Activation, Continues, AreAt}
 use Rattle.machine_frames.specs.Frames.{store_touches, IsGrown}
-use Rattle.machine_frames.specs.Walking.{IsHere, IsCalled, arguments, clauses, others, AllFit, Choice, Waits, Walks, Returns}
+use Rattle.machine_frames.specs.Walking.{IsHere, IsCalled, arguments, clauses, others, AllFit, Choice, Waits, Walks, Returns, fitting}
 use Rattle.machine_frames.proofs.Continuing.{continues_moved, continues_fewer, continues_split, placed_term, placed_below, placed_below_all, placed_at, here_goals, here_same, here_grown}
 use Rattle.machine_frames.proofs.Keeping.{kept_consistent, kept_no_model}
 use Rattle.machine_frames.proofs.Unifying.{kept_unified, kept_refuted}
-
--- the clauses whose heads have the goal's name and arity
-abbrev pub fitting : Term → List Clause → List Clause
-fitting t cs = filter (λ c. fits_head t c.head) cs
 
 filter_cons : (b : Bool) (f : Clause → Bool) (c : Clause) (cs : List Clause) → f c ≡ b → filter f (c ∷ cs) ≡ cond b (c ∷ filter f cs) (filter f cs)
 filter_cons true f c cs e = rw e refl

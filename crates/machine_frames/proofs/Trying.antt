@@ -17,7 +17,7 @@ use Rattle.unify_core.specs.Touches.{IsRefuted}
 use Rattle.unify_core.specs.Unified as core
 use Rattle.unify_core.specs.Unified.{cells_equal}
 use Rattle.machine_relation.specs.Store.{posts}
-use Rattle.machine_frames.specs.Environments.{cell_at, env_look, Activation}
+use Rattle.machine_frames.specs.Environments.{cell_at, env_look, Activation, AllOwn}
 use Rattle.machine_frames.specs.Frames.{store_touches, IsGrown}
 use Rattle.machine_frames.specs.Matching.{Part, parts_of, IsTried, IsBarred, IsMet, IsSpread, HasCells}
 use Rattle.machine_frames.specs.Walking.{arguments, IsGone, Enters}
@@ -25,7 +25,7 @@ use Rattle.machine_frames.proofs.Building.{match_spread, match_term}
 use Rattle.machine_frames.proofs.Entering.{match_begin, match_end}
 use Rattle.machine_frames.proofs.Keeping.{kept_no_model}
 use Rattle.machine_frames.proofs.Matching.{match_grown, match_new, match_place, match_barred, match_refuted, match_unified}
-use Rattle.machine_frames.proofs.Opening.{AllOwn, match_open}
+use Rattle.machine_frames.proofs.Opening.{match_open}
 
 -- a variable with a cell
 pub has_cell : (env : List (Option Cell)) (y : ℕ) (d : Cell) → cell_at env y ≡ Some d → HasCells env (Var y)

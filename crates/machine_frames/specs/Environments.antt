@@ -43,3 +43,12 @@ AreAt name h look [] no_terms = Unit {0}
 AreAt name h look [] (term t ts) = ⊥
 AreAt name h look (c ∷ cs) no_terms = ⊥
 AreAt name h look (c ∷ cs) (term t ts) = (IsOf h c × (apply look t ≡ term_of name h c)) × AreAt name h look cs ts
+
+-- the environment's cells are of the heap
+abbrev pub OwnEnv : Cells → List (Option Cell) → Type 0
+OwnEnv h env = (x : ℕ) (d : Cell) → cell_at env x ≡ Some d → IsOf h d
+
+-- each cell is of the heap
+abbrev pub AllOwn : Cells → List Cell → Type 0
+AllOwn h [] = Unit {0}
+AllOwn h (c ∷ cs) = IsOf h c × AllOwn h cs

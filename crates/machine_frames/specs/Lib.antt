@@ -1,7 +1,9 @@
 pub mod Frames
 pub mod Environments
 pub mod Walking
+pub mod Naming
 pub mod Matching
 pub mod Arena
+pub mod Reading
 pub mod Posting
 pub mod Laws

@@ -20,6 +20,7 @@ use Rattle.unify_core.specs.Touches.{IsLinked, IsSymbolic}
 use Rattle.machine_frames.specs.Environments.{Activation, Continues, cell_at}
 use Rattle.machine_frames.specs.Frames.{IsKept}
 use Rattle.machine_frames.specs.Walking.{IsCalled}
+use Rattle.term_pool.specs.declared.TermId.{TermId}
 
 -- a part of the head, over the clause's variables, that is still to be matched with a cell
 pub record Part : Type 0 where
@@ -106,3 +107,9 @@ Clash (Comp f ts) (Int z) = Unit {0}
 Clash (Comp f ts) (Atom a) = Unit {0}
 Clash (Comp f ts) (Comp g us) = f ≡ g → same_count ts us ≡ true → ⊥
 Clash _ _ = ⊥
+
+-- cells with the terms that they are to be matched with
+abbrev pub pool_parts : (TermId → Term) → List Cell → List TermId → List Part
+pool_parts part [] ts = []
+pool_parts part (c ∷ cs) [] = []
+pool_parts part (c ∷ cs) (t ∷ ts) = record { cell = c; term = part t } ∷ pool_parts part cs ts

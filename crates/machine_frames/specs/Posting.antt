@@ -1,27 +1,18 @@
--- A goal `T in R` of a clause, by the clause's environment.
-use Rattle.std.specs.Prelude.{◌≡◌, ℕ, ◌<◌, ◌≤◌, true, false, List, length, Option, Some, ◌⊎◌, Result}
-use Rattle.fd_model.specs.declared.kinds.QueryFault.{QueryFault}
-use Rattle.fd_language.specs.Term.{Term, Var, Substitution, apply}
-use Rattle.fd_language.specs.Family.{Family, has}
-use Rattle.fd_language.specs.Range.{Range, Indexical}
+-- What becomes of a heap and a store where ranges are posted.
+use Rattle.std.specs.Prelude.{◌≡◌, ℕ, ◌<◌, ◌≤◌, true, false, List, length, Option, Some, ◌⊎◌, [], ◌∷◌}
+use Rattle.fd_language.specs.Term.{Var, Substitution, apply}
+use Rattle.fd_language.specs.Family.{has}
+use Rattle.fd_language.specs.Range.{Indexical}
 use Rattle.fd_model.specs.Closed.{constrained}
 use Rattle.fd_model.specs.LinearRows.{Expansion}
 use Rattle.heap_cells.specs.declared.Cell.{Cell}
 use Rattle.heap_cells.specs.Cells.{Cells, IsOf}
 use Rattle.heap_cells.specs.Terms.{Naming, term_of}
-use Rattle.machine_relation.specs.Held.{value_at}
-use Rattle.machine_relation.specs.Rows.{post_row}
-use Rattle.machine_relation.specs.Store.{names}
-use Rattle.machine_frames.specs.Environments.{env_look}
+use Rattle.machine_relation.specs.Rows.{AreJoined}
+use Rattle.machine_relation.specs.Store.{names, Touch, IsUnified}
 use Rattle.machine_frames.specs.Frames.{link_in}
-
--- each variable of the clause as it is read by the store's sets: a variable of the store whose set has one value is that integer
-abbrev pub seen_env : Naming → Cells → List (Option Cell) → Family → Substitution
-seen_env name h env G x = apply (λ c. value_at (link_in h c) G c) (env_look name h env x)
-
--- The row of the goal with the clause's variables. The fresh ones come behind these.
-abbrev pub env_row : Naming → Cells → List (Option Cell) → Family → Term → Range → Result Expansion QueryFault
-env_row name h env G t r = post_row (seen_env name h env G) t r (length env)
+use Rattle.heap_cells.specs.Valid.{IsHeap}
+use Rattle.fd_model.specs.Constraining.{equations}
 
 -- The heap now has the terms of the heap h, with more variables of the store: those that the range p names, whose clause has v variables, of which seen shows each. of gives each variable that p names its variable of the store; those from v up to top are fresh, and no heap's variable is theirs.
 pub record IsRangeLinked (h now : Cells) (qs : List Indexical) (seen : Substitution) (v top : ℕ) (p : Indexical) (of : ℕ → ℕ) : Type 0 where
@@ -34,3 +25,26 @@ pub record IsRangeLinked (h now : Cells) (qs : List Indexical) (seen : Substitut
   pub one : (c d k : ℕ) → link_in now c ≡ Some k → link_in now d ≡ Some k → c ≡ d
   pub fresh : (y : ℕ) → v ≤ y → y < top → (has (constrained qs) (of y) ≡ false) × ((c : ℕ) → link_in now c ≡ Some (of y) → ⊥)
   pub apart : (y z : ℕ) → v ≤ y → y < top → v ≤ z → z < top → of y ≡ of z → y ≡ z
+
+-- the pair is one of the list
+abbrev pub Listed : ℕ → ℕ → List (ℕ × ℕ) → Type 0
+Listed c k [] = ⊥
+Listed c k (p ∷ ps) = ((c ≡ p.0) × (k ≡ p.1)) ⊎ Listed c k ps
+
+-- The heap now has the terms of the heap h; its variables of the store are those of h and these, each one's own.
+pub record IsLinkedMore (h now : Cells) (more : List (ℕ × ℕ)) : Type 0 where
+  pub valid : IsHeap now
+  pub size : length now.slots ≡ length h.slots
+  pub parts : now.compounds ≡ h.compounds
+  pub terms : (name : Naming) (c : Cell) → IsOf h c → term_of name now c ≡ term_of name h c
+  pub keep : (c k : ℕ) → link_in h c ≡ Some k → link_in now c ≡ Some k
+  pub new : (c k : ℕ) → link_in now c ≡ Some k → (link_in h c ≡ Some k) ⊎ Listed c k more
+  pub one : (c d k : ℕ) → link_in now c ≡ Some k → link_in now d ≡ Some k → c ≡ d
+
+-- What the heap and the store become by a row y over variables of the heap h, of which the fresh ones are the next: its ranges are linked and posted, and its equations unified.
+pub record IsRowLinked (h now : Cells) (qs : List Indexical) (y : Expansion) (link' : ℕ → Option ℕ) (qs' : List Indexical) (new : Substitution) (ts : List Touch) : Type 0 where
+  pub joined : AreJoined (link_in h) qs y.ranges link' qs'
+  pub unified : IsUnified y.fresh link' (equations y.equated) new (link_in now) ts
+  pub size : length now.slots ≡ y.fresh
+  pub own : (c : Cell) → IsOf h c → IsOf now c
+  pub terms : (name : Naming) (c : Cell) → IsOf h c → term_of name now c ≡ apply new (term_of name h c)

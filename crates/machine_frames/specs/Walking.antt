@@ -1,5 +1,5 @@
 -- What the state of a walker with environments stands for.
-use Rattle.std.specs.Prelude.{◌≡◌, ℕ, ◌<◌, ◌≤◌, true, List, [], ◌∷◌, map, Option}
+use Rattle.std.specs.Prelude.{◌≡◌, ℕ, ◌<◌, ◌≤◌, true, List, [], ◌∷◌, map, Option, filter}
 use Rattle.fd_language.specs.Term.{Term, Terms, Var, no_terms, Comp, Substitution}
 use Rattle.fd_language.specs.Range.{Indexical}
 use Rattle.fd_language.specs.Variables.{TermBelow, TermsBelow}
@@ -85,3 +85,7 @@ Walks M prog q name h qs acts cs n k es r = IsLive M prog q Choice (Waits M q na
 -- and on its way back to its newest choice point
 abbrev pub Returns : ℕ → Program → Query → Naming → List Choice → ℕ → Option ℕ → List Event → ℕ → Type 0
 Returns M prog q name cs n k es r = IsBack M prog q Choice (Waits M q name) cs n k es r
+
+-- the clauses whose heads have the goal's name and arity
+abbrev pub fitting : Term → List Clause → List Clause
+fitting t cs = filter (λ c. fits_head t c.head) cs
