@@ -1,9 +1,9 @@
 -- The variables of a sentence are those that its term has.
-use Rattle.std.proofs.Common.{◌≡◌, ℕ, suc, ◌+◌, ◌<◌, inl, inr, List, [], ◌∷◌, ◌++◌, length, map, Bool, true, false, Some, cond, refl, sym, ap, subst, ◌∙◌, arith, length-append, append_assoc, eqb-true, eq-eqb}
+use Rattle.std.proofs.Common.{◌≡◌, ℕ, suc, ◌+◌, ◌<◌, inl, inr, List, [], ◌∷◌, ◌++◌, length, map, Bool, true, false, Some, cond, refl, sym, ap, subst, ◌∙◌, arith, length-append, append_assoc, eq-eqb}
 use Rattle.std.specs.Prelude.{reverse, ◌==◌, ◌||◌, not, All}
 use Rattle.std.specs.List.{position_or_len, list_any, AllByRecursion}
 use Rattle.std.specs.Str.{bytes_eq}
-use Rattle.std.proofs.lemmas.Bool.{or_cases, or_left, true≢false, cases_lt}
+use Rattle.std.proofs.lemmas.Bool.{or_left, true≢false, cases_lt}
 use Rattle.std.proofs.lemmas.List.{append-nil, map-append, reverse-append, reverse-reverse, length-map}
 use Rattle.std.proofs.lemmas.List.Elements.{All-from_recursion}
 use Rattle.fd_language.specs.Term.{Name}

@@ -9,7 +9,7 @@ use Rattle.fd_language.specs.declared.range_node.RangeNode.TheVariants as node
 use Rattle.fd_language.specs.Range.{Range, Span, One, Dom, Union, Inter, Outside, Plus, Minus, Times, Over, Expr, Number, Infinity, Param, Min, Max, Val, Add, Sub, Mul, DivDown, DivUp}
 use Rattle.fd_language.specs.Needs.{is_literal, quotient_asks, expr_asks, over_asks, asks}
 use Rattle.fd_language.specs.Check.{is_parameter}
-use Rattle.fd_language.specs.Flat.{term_alone, term_of_terms, range_of_ranges, range_of_both, put, built, built_behind, spelled, IsSpelled, builds_range, spelled-nodes}
+use Rattle.fd_language.specs.Flat.{term_alone, term_of_terms, range_of_ranges, range_of_both, put, built, built_behind, spelled, IsSpelled}
 use Rattle.std.proofs.Common.{get_or, drop}
 use Rattle.std.proofs.lemmas.List.{at_drop_more, drop_all, append-nil, append_assoc}
 use Rattle.std.specs.Prelude.{Ok, Err}

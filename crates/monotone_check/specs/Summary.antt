@@ -5,7 +5,7 @@ use Rattle.fd_language.specs.declared.range_node.RangeNode.{RangeNode}
 use Rattle.fd_language.specs.declared.range_node.RangeNode.TheVariants as node
 use Rattle.fd_language.specs.declared.range_node.Offence.{Offence}
 use Rattle.fd_language.specs.declared.range_node.Offence.TheVariants.{NotMonotone}
-use Rattle.fd_language.specs.Range.{Range, Expr, Number, Infinity, Param, Min, Max, Val, Add, Sub, Mul, DivDown, DivUp}
+use Rattle.fd_language.specs.Range.{Range, Expr, Number, Infinity, Param, Min, Max, Val}
 use Rattle.fd_language.specs.Needs.{is_literal}
 use Rattle.fd_language.specs.Check.{Wish, turn, literal_value, is_parameter}
 use Rattle.fd_language.specs.RangeVerdict.{bound, wide_in_expr, wide_in_range, where_too_wide, over_limit, factor_over_limit, where_below_zero, where_natural, unless_divides, scaled, expr_offences, range_offences, expr_within, range_within, earlier, first}

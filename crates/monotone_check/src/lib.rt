@@ -140,4 +140,3 @@ pub fn needs(alloc: Global, checked: &Checked) -> Result<Vec<(u64, Need)>, NoMem
     let asking = read_asks(alloc, checked.range().nodes())?;
     gather(alloc, &asking.places)
 }
-
