@@ -63,8 +63,11 @@ impl Agenda for Fifo {
 
     ghost spare = { λ f. deque_capacity f.list - deque_len f.list };
 
+    // Room is made for twice as many, so that one more agent at each post doesn't ask for memory each time.
     fn reserve(&mut self, n: usize) -> Result<(), NoMemory> {
-        self.list.reserve(n)?;
+        if self.list.capacity() - self.list.len() < n {
+            self.list.reserve(n.saturating_mul(2))?;
+        }
         Ok(())
     }
 
