@@ -327,4 +327,3 @@ fn factor(c: i128) -> u32
         c as u32
     }
 }
-
