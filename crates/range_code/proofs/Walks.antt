@@ -7,11 +7,16 @@ use Rattle.fd_language.specs.declared.range_node.RangeNode.TheVariants as node
 use Rattle.fd_language.specs.Family.{Family}
 use Rattle.fd_language.specs.Range.{Range, Span, One, Dom, Union, Inter, Outside, Plus, Minus, Times, Over, Expr, Number, Infinity, Param, Min, Max, Val, Add, Sub, Mul, DivDown, DivUp}
 use Rattle.fd_language.specs.Flat.{built, spelled, IsSpelled, builds_range, spelled-nodes}
+use Rattle.fd_language.specs.declared.TheConstants.{INFINITY}
+use Rattle.fd_language.specs.Check.{fill_range}
+use Rattle.fd_language.specs.Range.{in_range}
+use Rattle.range_code.specs.Steps.{outside}
+use Rattle.range_code.proofs.Tables.{outside_is}
 use Rattle.range_code.specs.declared.work.Work.{Work}
 use Rattle.range_code.specs.declared.evaluate.Steps.{Steps}
 use Rattle.range_code.specs.Walked.{all_steps, IsAtLast}
 use Rattle.domain_ranges.specs.Narrowing.{between}
-use Rattle.range_code.specs.Work.{filled_value, filled_set, Fits, RangeFits, CanOperate, CanMove, CanTake, stacked_values, IsPending, Follows}
+use Rattle.range_code.specs.Work.{filled_value, filled_set, Fits, RangeFits, CanOperate, CanMove, CanTake, stacked_values, stacked_sets, IsPending, Follows}
 
 some_same : (r q : Range) → Some r ≡ Some q → r ≡ q
 some_same r q e = cc
@@ -265,3 +270,22 @@ pub last_ends : (S : Family) (p : ℕ → ℤ) (s : Steps) (w : Work) → s.last
 last_ends S p s w l (rs, ts, e, k) =
     let g = ends_of S p (spelled (all_steps s)) rs ts w.values.items (e ∙ ap (λ m. built (m ∷ []) rs ts) l) k.values in
     record { low = g.0; high = g.1; values = g.2; set = g.3 }
+
+-- the set of which the complement is taken waits
+pub record Inner (S : Family) (p : ℕ → ℤ) (s : Steps) (w : Work) : Type 0 where
+  pub inner : List ℕ
+  pub rest : List (List ℕ)
+  pub sets : w.sets.sets ≡ inner ∷ rest
+  pub set : filled_set S p (spelled (all_steps s)) ≡ outside inner
+
+inner_of : (S : Family) (p : ℕ → ℤ) (r : Range) (rs : List Range) (ts : List Expr) (sets : List (List ℕ)) → Some r ≡ built (node.Outside ∷ []) rs ts → sets ≡ stacked_sets S p rs → (q : Range) × (rest : List (List ℕ)) × (sets ≡ filled_set S p q ∷ rest) × (filled_set S p r ≡ outside (filled_set S p q))
+inner_of S p r [] [] sets e h = absurd cc
+inner_of S p r [] (t ∷ ts) sets e h = absurd cc
+inner_of S p r (q ∷ x ∷ rs) [] sets e h = absurd cc
+inner_of S p r (q ∷ rs) (t ∷ ts) sets e h = absurd cc
+inner_of S p r (q ∷ []) [] sets e h = (q, [], h, ap (filled_set S p) (some_same r (Outside q) e) ∙ sym (outside_is INFINITY (in_range INFINITY S (fill_range p q))))
+
+pub last_inner : (S : Family) (p : ℕ → ℤ) (s : Steps) (w : Work) → s.last ≡ node.Outside → IsAtLast S p s w → Inner S p s w
+last_inner S p s w l (rs, ts, e, k) =
+    let g = inner_of S p (spelled (all_steps s)) rs ts w.sets.sets (e ∙ ap (λ m. built (m ∷ []) rs ts) l) k.sets in
+    record { inner = filled_set S p g.0; rest = g.1; sets = g.2; set = g.3 }

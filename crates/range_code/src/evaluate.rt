@@ -59,12 +59,7 @@ fn leaf<V: View>(node: RangeNode, args: &[Arg], view: &V) -> i128
 
 /// Takes the operands of the node and puts its value or set in their place.
 #[inline(always)]
-fn take<V: View>(
-    work: &mut Work,
-    node: RangeNode,
-    args: &[Arg],
-    view: &V,
-) -> Result<(), NoMemory>
+fn take<V: View>(work: &mut Work, node: RangeNode, args: &[Arg], view: &V) -> Result<(), NoMemory>
     requires readable { IsReadable (length (V.sets view.now)) args.now node }
     requires fits { CanTake node work.old }
     requires room { HasRoom (node ∷ []) work.old }
@@ -141,7 +136,8 @@ pub(crate) fn evaluate<V: View>(
     work.pop_set()
 }
 
-/// What the range that the nodes spell leaves of the domain, by the table of ranges alone. Where it is an interval, no set is made.
+/// What the range that the nodes spell leaves of the domain, by the table of ranges alone. Where it is an interval, no set is made, and
+/// the complement of a set doesn't wait on the stack.
 pub(crate) fn evaluate_narrowing<V: View>(
     work: &mut Work,
     steps: &Steps,
@@ -164,6 +160,11 @@ pub(crate) fn evaluate_narrowing<V: View>(
             let high = work.pop_value();
             let low = work.pop_value();
             target.narrowed_to(low, high)
+        }
+        RangeNode::Outside => {
+            let inner = work.pop_set()?;
+            let others = inner.complement()?;
+            target.narrowed_by(&others)
         }
         last => {
             take(work, last, args, view)?;

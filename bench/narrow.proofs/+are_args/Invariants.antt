@@ -1,0 +1,5 @@
+use Rattle.std.proofs.Common.{length}
+use Rattle.bench_narrow.proofs.+are_args.Given as goal
+
+abbrev pub decreases-are_args : goal.decreases-are_args
+decreases-are_args l = length l.needs.now
