@@ -1,9 +1,10 @@
 -- What is compiled is the range.
-use Rattle.std.proofs.Common.{◌≡◌, ℕ, suc, ◌+◌, ◌<◌, ◌≤◌, Bool, true, false, cond, not, ◌==◌, nat_lt, nat_eq, List, [], ◌∷◌, ◌++◌, length, map, filter, max, take, get_or, Option, Some, None, IsTrue, refl, sym, ◌∙◌, ap, subst, arith}
+use Rattle.std.proofs.Common.{◌≡◌, ℕ, suc, ◌+◌, ◌<◌, ◌≤◌, Bool, true, false, cond, not, ◌||◌, ◌==◌, nat_lt, nat_eq, List, [], ◌∷◌, ◌++◌, length, map, filter, max, take, get_or, Option, Some, None, IsTrue, refl, sym, ◌∙◌, ap, subst, arith}
 use Rattle.std.specs.Prelude.{MatchOption}
 use Rattle.std.specs.Option.{option_to_list}
-use Rattle.std.specs.List.{position, position_or_len, list_any}
+use Rattle.std.specs.List.{position, position_or_len}
 use Rattle.std.proofs.lemmas.List.{take_more}
+use Rattle.std.proofs.lemmas.List.Folds.{list_any-append}
 use Rattle.fd_language.specs.declared.TheConstants.{INFINITY}
 use Rattle.fd_language.specs.declared.range_node.Need.{Need}
 use Rattle.fd_language.specs.declared.range_node.Feature.{Feature}
@@ -15,9 +16,10 @@ use Rattle.fd_language.specs.RangeVerdict.{is_accepted}
 use Rattle.fd_language.specs.Needs.{needs, once}
 use Rattle.fd_language.specs.declared.range_node.Feature.TheVariants as feature
 use Rattle.fd_language.specs.Family.{count_up}
-use Rattle.fd_language.specs.Features.{each_once, is_same_pair}
+use Rattle.fd_language.specs.Features.{each_once, is_same_pair, feature_at, node_features}
+use Rattle.fd_language.proofs.Leaves.{whole_nodes}
 use Rattle.range_code.specs.Asked.{need_in}
-use Rattle.range_code.specs.Nodes.{node_variables, node_features, node_variable, node_feature, listed, rename_node}
+use Rattle.range_code.specs.Nodes.{node_variables, node_variable, listed, rename_node}
 use Rattle.range_code.specs.Slots.{slots_of, slot_of, in_slots, slot_features}
 use Rattle.range_code.specs.Kinds.{has_pair, all_told}
 use Rattle.range_code.specs.Heights.{values_after, sets_after, peak}
@@ -25,11 +27,9 @@ use Rattle.range_code.specs.Walked.{all_steps}
 use Rattle.range_code.specs.Compiled.{IsCompiled}
 use Rattle.range_code.specs.declared.compile.ReadKind.{ReadKind}
 use Rattle.range_code.specs.declared.evaluate.Steps.{Steps}
-use Rattle.range_code.proofs.Standings.{any_once}
-use Rattle.range_code.specs.Gathered.{IsNumbered, IsRead}
+use Rattle.range_code.specs.Gathered.{IsNumbered}
 use Rattle.range_code.specs.declared.compile.Numbered.{Numbered}
-use Rattle.range_code.specs.declared.compile.Read.{Read}
-use Rattle.range_code.proofs.Variables.{node_variables_of, node_features_of, names_of, one_more, one_more_read}
+use Rattle.range_code.proofs.Variables.{node_variables_of, names_of, one_more}
 use Rattle.range_code.proofs.Asking.{need_more, needs_found}
 
 pub copied : (o : Option Range) (x r : Range) (P : Type 0) (items ns : List RangeNode) → o ≡ Some x → MatchOption o P (λ f. nodes_of f ≡ items) → items ≡ ns → ns ≡ nodes_of r → x ≡ r
@@ -56,42 +56,40 @@ pub numbered_more : (nodes : List RangeNode) (i : ℕ) (d : RangeNode) (old new 
     ((xs : List ℕ) → IsNumbered xs old → IsNumbered (xs ++ listed (node_variable (get_or nodes i d))) new) → IsNumbered (node_variables (take (i + 1) nodes)) new
 numbered_more nodes i d old new l h f = subst (λ xs. IsNumbered xs new) (sym (ap node_variables (take_more nodes i d l) ∙ one_more (take i nodes) (get_or nodes i d))) (f (node_variables (take i nodes)) h)
 
-pub read_more : (nodes : List RangeNode) (i : ℕ) (d : RangeNode) (old new : Read) → i < length nodes → IsRead (node_features (take i nodes)) old →
-    ((ds : List (ℕ × Feature)) → IsRead ds old → IsRead (ds ++ listed (node_feature (get_or nodes i d))) new) → IsRead (node_features (take (i + 1) nodes)) new
-read_more nodes i d old new l h f = subst (λ ds. IsRead ds new) (sym (ap node_features (take_more nodes i d l) ∙ one_more_read (take i nodes) (get_or nodes i d))) (f (node_features (take i nodes)) h)
-
 pub needs_more : (ds : List (ℕ × Need)) (i : ℕ) (d : ℕ × Need) (old new : Option Need) (y : ℕ) → i < length ds → new ≡ cond ((get_or ds i d).0 == y) (Some (get_or ds i d).1) old → old ≡ need_in (take i ds) y → new ≡ need_in (take (i + 1) ds) y
 needs_more ds i d old new y l e h = e ∙ (ap (λ o. cond ((get_or ds i d).0 == y) (Some (get_or ds i d).1) o) h ∙ (sym (need_more (take i ds) (get_or ds i d) y) ∙ ap (λ k. need_in k y) (sym (take_more ds i d l))))
 
 -- which slots were met, as pairs that were read
-same_told : (min min' max max' : ℕ → Bool) (fs fs' : List (ℕ × Feature)) → ((s : ℕ) → min s ≡ min' s) → ((s : ℕ) → max s ≡ max' s) → fs ≡ fs' → all_told min max fs ≡ all_told min' max' fs'
+pub same_told : (min min' max max' : ℕ → Bool) (fs fs' : List (ℕ × Feature)) → ((s : ℕ) → min s ≡ min' s) → ((s : ℕ) → max s ≡ max' s) → fs ≡ fs' → all_told min max fs ≡ all_told min' max' fs'
 same_told min min' max max' fs fs' h g e = ap (λ f. all_told f max fs) (λ i s. h s i) ∙ (ap (λ f. all_told min' f fs) (λ i s. g s i) ∙ ap (all_told min' max') e)
 
-kept_same : (p q : ℕ → Bool) (xs : List ℕ) → ((n : ℕ) → p n ≡ q n) → filter p xs ≡ filter q xs
+pub kept_same : (p q : ℕ → Bool) (xs : List ℕ) → ((n : ℕ) → p n ≡ q n) → filter p xs ≡ filter q xs
 kept_same p q xs h = ap (λ f. filter f xs) (λ i n. h n i)
 
-pair_once : (ds fs : List (ℕ × Feature)) (d : ℕ × Feature) → fs ≡ each_once ds → has_pair ds d ≡ has_pair fs d
-pair_once ds fs d e = sym (ap (λ l. has_pair l d) e ∙ any_once (is_same_pair d) ds)
+-- one more pair
+pub met_more : (ds : List (ℕ × Feature)) (i : ℕ) (d : ℕ × Feature) (wanted : ℕ × Feature) (old new : Bool) → i < length ds → old ≡ has_pair (take i ds) wanted → new ≡ (is_same_pair wanted (get_or ds i d) || old) → new ≡ has_pair (take (i + 1) ds) wanted
+met_more ds i d wanted old new l h f = f ∙ (ap (λ b. is_same_pair wanted (get_or ds i d) || b) h ∙ (swapped (is_same_pair wanted (get_or ds i d)) (has_pair (take i ds) wanted)
+    ∙ sym (ap (λ l. has_pair l wanted) (take_more ds i d l) ∙ list_any-append (is_same_pair wanted) (take i ds) (get_or ds i d ∷ [])))) where
+      swapped : (a b : Bool) → (a || b) ≡ (b || (a || false))
+      swapped a b = grind arith
 
 -- the whole
-pub compiled : (r q : Range) (ns : List RangeNode) (slots keys : List ℕ) (asked : List (ℕ × Need)) (ms : List RangeNode) (read : Read) (kinds : List (ℕ × ReadKind)) (ys : List ℕ) (by_slot : List (Option Need)) (steps : Steps) (high : ℕ) →
+pub compiled : (r q : Range) (ns : List RangeNode) (slots keys : List ℕ) (asked : List (ℕ × Need)) (ms : List RangeNode) (fs : List (ℕ × Feature)) (kinds : List (ℕ × ReadKind)) (ys : List ℕ) (by_slot : List (Option Need)) (steps : Steps) (high : ℕ) →
     IsTrue (is_accepted INFINITY r) → q ≡ r → ns ≡ nodes_of q → slots ≡ once (node_variables ns) → keys ≡ once (node_variables ns) → ms ≡ map (rename_node (λ y. position_or_len (nat_eq y) keys)) ns →
-    IsRead (node_features ms) read → kinds ≡ all_told (λ s. list_any (nat_eq s) read.met.min.keys) (λ s. list_any (nat_eq s) read.met.max.keys) read.features.items → ys ≡ filter (λ s. list_any (nat_eq s) read.met.val.keys) (count_up 0 (length slots)) →
+    fs ≡ each_once (node_features ms) → kinds ≡ all_told (λ s. has_pair fs (s, feature.Min)) (λ s. has_pair fs (s, feature.Max)) fs → ys ≡ filter (λ s. has_pair fs (s, feature.Val)) (count_up 0 (length slots)) →
     asked ≡ needs r → by_slot ≡ map (need_in asked) slots → ms ≡ all_steps steps → high ≡ max (peak values_after ms 0) (peak sets_after ms 0) →
-    IsCompiled q slots by_slot read.features.items kinds ys steps high
-compiled r q ns slots keys asked ms read kinds ys by_slot steps high a e n s k m rd kd vl d b st hi =
+    IsCompiled q slots by_slot fs kinds ys steps high
+compiled r q ns slots keys asked ms fs kinds ys by_slot steps high a e n s k m rd kd vl d b st hi =
     let all : once (node_variables ns) ≡ slots_of q = ap once (ap node_variables n ∙ node_variables_of q) in
     let named : ms ≡ nodes_of (in_slots q) = m ∙ (ap (λ l. map (rename_node (λ y. position_or_len (nat_eq y) l)) ns) (k ∙ all) ∙ (ap (map (rename_node (slot_of q))) n ∙ names_of (slot_of q) q)) in
-    let told : read.features.items ≡ slot_features q = rd.features ∙ (ap (λ l. each_once (node_features l)) named ∙ ap each_once (node_features_of (in_slots q))) in
-    let pair : (x : ℕ × Feature) → has_pair (node_features ms) x ≡ has_pair (slot_features q) x = λ x. pair_once (node_features ms) (slot_features q) x (sym told ∙ rd.features) in
+    let told : fs ≡ slot_features q = rd ∙ (ap (λ l. each_once (node_features l)) named ∙ ap each_once (whole_nodes feature_at (in_slots q))) in
     record {
       accepted = subst (λ p. IsTrue (is_accepted INFINITY p)) (sym e) a;
       slots = s ∙ all;
       needs = b ∙ (ap (λ l. map (need_in l) slots) (d ∙ ap needs (sym e)) ∙ (ap (map (need_in (needs q))) (s ∙ all) ∙ needs_found q));
       features = told;
-      kinds = kd ∙ same_told (λ x. list_any (nat_eq x) read.met.min.keys) (λ x. has_pair (slot_features q) (x, feature.Min)) (λ x. list_any (nat_eq x) read.met.max.keys) (λ x. has_pair (slot_features q) (x, feature.Max)) read.features.items (slot_features q)
-          (λ x. rd.met.min x ∙ pair (x, feature.Min)) (λ x. rd.met.max x ∙ pair (x, feature.Max)) told;
-      vals = vl ∙ (kept_same (λ x. list_any (nat_eq x) read.met.val.keys) (λ x. has_pair (slot_features q) (x, feature.Val)) (count_up 0 (length slots)) (λ x. rd.met.val x ∙ pair (x, feature.Val))
+      kinds = kd ∙ ap (λ l. all_told (λ s. has_pair l (s, feature.Min)) (λ s. has_pair l (s, feature.Max)) l) told;
+      vals = vl ∙ (ap (λ l. filter (λ x. has_pair l (x, feature.Val)) (count_up 0 (length slots))) told
           ∙ ap (λ l. filter (λ x. has_pair (slot_features q) (x, feature.Val)) (count_up 0 (length l))) (s ∙ all));
       nodes = sym st ∙ named;
       height = hi ∙ ap (λ l. max (peak values_after l 0) (peak sets_after l 0)) named;

@@ -1,12 +1,11 @@
 -- There is room for what waits, node by node.
-use Rattle.std.proofs.Common.{◌≡◌, ℕ, ℤ, zero, suc, ◌+◌, ◌-◌, ◌<◌, ◌≤◌, ◌⊎◌, inl, inr, List, [], ◌∷◌, ◌++◌, length, max, drop, get_or, refl, sym, ◌∙◌, ap, subst, arith, vec_len, vec_capacity}
+use Rattle.std.proofs.Common.{◌≡◌, ℕ, ◌+◌, ◌<◌, ◌≤◌, List, [], ◌∷◌, ◌++◌, length, max, drop, get_or, sym, ◌∙◌, subst, arith, vec_len, vec_capacity}
 use Rattle.std.proofs.lemmas.List.{at_drop_more, drop_all}
 use Rattle.fd_language.specs.declared.range_node.RangeNode.{RangeNode}
 use Rattle.fd_language.specs.declared.range_node.RangeNode.TheVariants as node
 use Rattle.range_code.specs.declared.work.Work.{Work}
 use Rattle.range_code.specs.declared.evaluate.Steps.{Steps}
-use Rattle.range_code.specs.Heights.{values_after, sets_after, peak, HasRoom, Counts, IsCounted, KeepsRoom}
-use Rattle.range_code.specs.Walked.{all_steps}
+use Rattle.range_code.specs.Heights.{values_after, sets_after, peak, HasRoom, IsCounted, KeepsRoom}
 
 -- what is counted doesn't fall where more waits before
 abbrev Grows : (RangeNode → ℕ → ℕ) → Type 0

@@ -1,12 +1,11 @@
 -- A run gives the set of the range that is posted.
-use Rattle.std.proofs.Common.{◌≡◌, ℕ, ℤ, Bool, true, false, cond, ◌||◌, ◌==◌, List, [], ◌∷◌, map, filter, length, Option, refl, sym, ◌∙◌, ap, subst, inl, inr, eqb-true, eq-eqb}
+use Rattle.std.proofs.Common.{◌≡◌, ℕ, ℤ, Bool, true, false, cond, ◌||◌, ◌==◌, List, [], ◌∷◌, map, filter, length, refl, sym, ◌∙◌, ap, subst, inl, inr, eqb-true, eq-eqb}
 use Rattle.std.specs.Prelude.{Result, IfOk}
 use Rattle.std.specs.List.{All, list_any}
 use Rattle.std.proofs.lemmas.Bool.{true≢false, or_left, or_right, or_cases}
 use Rattle.std.proofs.lemmas.Result.{IfOk-weaker}
 use Rattle.std.proofs.lemmas.List.Elements.{All-head, All-tail}
 use Rattle.fd_language.specs.declared.TheConstants.{INFINITY}
-use Rattle.fd_language.specs.declared.range_node.Need.{Need}
 use Rattle.fd_language.specs.declared.range_node.Feature.{Feature}
 use Rattle.fd_language.specs.declared.range_node.RangeNode.{RangeNode}
 use Rattle.fd_language.specs.declared.range_node.Feature.TheVariants as feature
@@ -30,7 +29,8 @@ use Rattle.range_code.specs.Frames.{IsFrame, slot_variable, slot_integer, family
 use Rattle.range_code.specs.Nodes.{IsSeen, IsReadable}
 use Rattle.range_code.specs.Standing.{opens, standing_of}
 use Rattle.range_code.specs.Work.{RangeFits, filled_set}
-use Rattle.range_code.proofs.Variables.{node_features_of}
+use Rattle.fd_language.specs.Features.{feature_at}
+use Rattle.fd_language.proofs.Leaves.{whole_nodes}
 use Rattle.range_code.proofs.Fits.{divides, fits}
 use Rattle.range_code.proofs.Framing.{all_readable}
 use Rattle.range_code.proofs.Posted.{fits_table, one_use, frame_meets}
@@ -151,7 +151,7 @@ module _ (sets : List (List ℕ)) (r : Range) (args : List Arg) (accepted : is_a
   Seen d = IsSeen (length sets) args d.0
 
   features_seen_all : All Seen (features_of (in_slots r))
-  features_seen_all = all_once Seen (range_features (in_slots r)) (subst (All Seen) (node_features_of (in_slots r)) (features_seen (length sets) args (nodes_of (in_slots r)) read_nodes))
+  features_seen_all = all_once Seen (range_features (in_slots r)) (subst (All Seen) (whole_nodes feature_at (in_slots r)) (features_seen (length sets) args (nodes_of (in_slots r)) read_nodes))
 
   pub features_there : (ds : List (ℕ × Feature)) → ds ≡ features_of (in_slots r) → All Seen ds
   features_there ds e = subst (All Seen) (sym e) features_seen_all

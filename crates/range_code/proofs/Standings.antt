@@ -10,14 +10,14 @@ use Rattle.fd_language.specs.declared.range_node.Feature.{Feature}
 use Rattle.fd_language.specs.declared.range_node.Feature.TheVariants as feature
 use Rattle.fd_language.specs.declared.range_node.RangeNode.{RangeNode}
 use Rattle.fd_language.specs.declared.range_node.RangeNode.TheVariants as node
-use Rattle.fd_language.specs.Range.{Range, Span, One, Dom, Union, Inter, Outside, Plus, Minus, Times, Over, Expr, Number, Infinity, Param, Min, Max, Val, Add, Sub, Mul, DivDown, DivUp, reads, expr_reads, vals, expr_vals, is_none_left, is_several}
+use Rattle.fd_language.specs.Range.{from_node, Range, Span, One, Dom, Union, Inter, Outside, Plus, Minus, Times, Over, Expr, Number, Infinity, Param, Min, Max, Val, Add, Sub, Mul, DivDown, DivUp, reads, expr_reads, vals, expr_vals, is_none_left, is_several}
 use Rattle.fd_language.specs.Check.{fill, fill_range}
 use Rattle.fd_language.specs.declared.TheConstants.{INFINITY}
 use Rattle.fd_language.specs.Family.{Family, IsRising, universe}
-use Rattle.fd_language.specs.Features.{expr_features, range_features, is_same_feature, is_same_pair, each_once, features_of}
+use Rattle.fd_language.specs.Features.{expr_features, range_features, is_same_feature, is_same_pair, each_once, features_of, feature_at, node_features}
 use Rattle.fd_language.proofs.Lemmas.{two, universe_rising}
 use Rattle.range_code.specs.declared.frame.Arg.{Arg}
-use Rattle.range_code.specs.Nodes.{IsSeen, IsReadable, node_features, node_feature, listed}
+use Rattle.range_code.specs.Nodes.{IsSeen, IsReadable}
 use Rattle.range_code.specs.Standing.{is_val, opens}
 
 -- what nodes read is there
@@ -25,7 +25,7 @@ module _ (count : ℕ) (args : List Arg) where
   abbrev Seen : ℕ × Feature → Type 0
   Seen d = IsSeen count args d.0
 
-  one_seen : (m : RangeNode) (ds : List (ℕ × Feature)) → IsReadable count args m → All Seen ds → All Seen (listed (node_feature m) ++ ds)
+  one_seen : (m : RangeNode) (ds : List (ℕ × Feature)) → IsReadable count args m → All Seen ds → All Seen (from_node feature_at m ++ ds)
   one_seen (node.Min y) ds h g = All-cons Seen (y, feature.Min) ds h g
   one_seen (node.Max y) ds h g = All-cons Seen (y, feature.Max) ds h g
   one_seen (node.Val y) ds h g = All-cons Seen (y, feature.Val) ds h g

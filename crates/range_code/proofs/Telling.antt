@@ -1,5 +1,5 @@
 -- What is told of slots, one more pair or slot at a time.
-use Rattle.std.proofs.Common.{◌≡◌, ℕ, zero, suc, ◌+◌, ◌<◌, ◌≤◌, Bool, true, false, cond, nat_eq, List, [], ◌∷◌, ◌++◌, length, filter, take, drop, get_or, max, Option, Some, None, refl, sym, ◌∙◌, ap, subst, arith, zero-add, add-suc, add-zero}
+use Rattle.std.proofs.Common.{◌≡◌, ℕ, zero, suc, ◌+◌, ◌<◌, ◌≤◌, Bool, true, false, cond, List, [], ◌∷◌, ◌++◌, length, filter, take, drop, get_or, max, Option, Some, None, refl, sym, ◌∙◌, ap, arith, zero-add, add-zero}
 use Rattle.std.proofs.lemmas.List.{take_more, at_drop_more, drop_all}
 use Rattle.std.proofs.lemmas.List.Elements.{filter-append}
 use Rattle.fd_language.specs.declared.range_node.Feature.{Feature}

@@ -6,8 +6,7 @@ use Rattle.fd_language.specs.Range.{Range, Span, One, Dom, Union, Inter, Outside
 use Rattle.fd_language.specs.Places.{Place, expr_places, range_places}
 use Rattle.fd_language.specs.Flat.{expr_nodes, range_nodes, nodes_of}
 use Rattle.fd_language.specs.RangeRenaming.{rename_expr, rename_range}
-use Rattle.fd_language.specs.Features.{expr_features, range_features}
-use Rattle.range_code.specs.Nodes.{listed, node_variable, node_variables, rename_node, node_feature, node_features}
+use Rattle.range_code.specs.Nodes.{listed, node_variable, node_variables, rename_node}
 
 abbrev of_places : List Place → List ℕ
 of_places ps = map (λ q. q.variable) ps
@@ -56,39 +55,6 @@ node_variables_of r = range_variables r [] ∙ nothing_behind (of_places (range_
 pub one_more : (ms : List RangeNode) (m : RangeNode) → node_variables (ms ++ m ∷ []) ≡ node_variables ms ++ listed (node_variable m)
 one_more [] m = nothing_behind (listed (node_variable m))
 one_more (n ∷ ms) m = ap (λ l. listed (node_variable n) ++ l) (one_more ms m) ∙ regroup (listed (node_variable n)) (node_variables ms) (listed (node_variable m))
-
-expr_told : (e : Expr) (rest : List RangeNode) → node_features (expr_nodes e rest) ≡ expr_features e ++ node_features rest
-expr_told (Number z) rest = refl
-expr_told Infinity rest = refl
-expr_told (Param x) rest = refl
-expr_told (Min y) rest = refl
-expr_told (Max y) rest = refl
-expr_told (Val y) rest = refl
-expr_told (Add a b) rest = expr_told a (expr_nodes b (node.Add ∷ rest)) ∙ (ap (λ l. expr_features a ++ l) (expr_told b (node.Add ∷ rest)) ∙ regroup (expr_features a) (expr_features b) (node_features rest))
-expr_told (Sub a b) rest = expr_told a (expr_nodes b (node.Sub ∷ rest)) ∙ (ap (λ l. expr_features a ++ l) (expr_told b (node.Sub ∷ rest)) ∙ regroup (expr_features a) (expr_features b) (node_features rest))
-expr_told (Mul a b) rest = expr_told a (expr_nodes b (node.Mul ∷ rest)) ∙ (ap (λ l. expr_features a ++ l) (expr_told b (node.Mul ∷ rest)) ∙ regroup (expr_features a) (expr_features b) (node_features rest))
-expr_told (DivDown a b) rest = expr_told a (expr_nodes b (node.DivDown ∷ rest)) ∙ (ap (λ l. expr_features a ++ l) (expr_told b (node.DivDown ∷ rest)) ∙ regroup (expr_features a) (expr_features b) (node_features rest))
-expr_told (DivUp a b) rest = expr_told a (expr_nodes b (node.DivUp ∷ rest)) ∙ (ap (λ l. expr_features a ++ l) (expr_told b (node.DivUp ∷ rest)) ∙ regroup (expr_features a) (expr_features b) (node_features rest))
-
-range_told : (r : Range) (rest : List RangeNode) → node_features (range_nodes r rest) ≡ range_features r ++ node_features rest
-range_told (Span a b) rest = expr_told a (expr_nodes b (node.Span ∷ rest)) ∙ (ap (λ l. expr_features a ++ l) (expr_told b (node.Span ∷ rest)) ∙ regroup (expr_features a) (expr_features b) (node_features rest))
-range_told (Union r q) rest = range_told r (range_nodes q (node.Union ∷ rest)) ∙ (ap (λ l. range_features r ++ l) (range_told q (node.Union ∷ rest)) ∙ regroup (range_features r) (range_features q) (node_features rest))
-range_told (Inter r q) rest = range_told r (range_nodes q (node.Inter ∷ rest)) ∙ (ap (λ l. range_features r ++ l) (range_told q (node.Inter ∷ rest)) ∙ regroup (range_features r) (range_features q) (node_features rest))
-range_told (Plus r c) rest = range_told r (expr_nodes c (node.Plus ∷ rest)) ∙ (ap (λ l. range_features r ++ l) (expr_told c (node.Plus ∷ rest)) ∙ regroup (range_features r) (expr_features c) (node_features rest))
-range_told (Minus r c) rest = range_told r (expr_nodes c (node.Minus ∷ rest)) ∙ (ap (λ l. range_features r ++ l) (expr_told c (node.Minus ∷ rest)) ∙ regroup (range_features r) (expr_features c) (node_features rest))
-range_told (Times r c) rest = range_told r (expr_nodes c (node.Times ∷ rest)) ∙ (ap (λ l. range_features r ++ l) (expr_told c (node.Times ∷ rest)) ∙ regroup (range_features r) (expr_features c) (node_features rest))
-range_told (Over r c) rest = range_told r (expr_nodes c (node.Over ∷ rest)) ∙ (ap (λ l. range_features r ++ l) (expr_told c (node.Over ∷ rest)) ∙ regroup (range_features r) (expr_features c) (node_features rest))
-range_told (One t) rest = expr_told t (node.One ∷ rest)
-range_told (Dom y) rest = refl
-range_told (Outside r) rest = range_told r (node.Outside ∷ rest)
-
-pub node_features_of : (r : Range) → node_features (nodes_of r) ≡ range_features r
-node_features_of r = range_told r [] ∙ nothing_behind (range_features r)
-
--- what one more node reads
-pub one_more_read : (ms : List RangeNode) (m : RangeNode) → node_features (ms ++ m ∷ []) ≡ node_features ms ++ listed (node_feature m)
-one_more_read [] m = nothing_behind (listed (node_feature m))
-one_more_read (n ∷ ms) m = ap (λ l. listed (node_feature n) ++ l) (one_more_read ms m) ∙ regroup (listed (node_feature n)) (node_features ms) (listed (node_feature m))
 
 expr_names : (f : ℕ → ℕ) (e : Expr) (rest : List RangeNode) → map (rename_node f) (expr_nodes e rest) ≡ expr_nodes (rename_expr f e) (map (rename_node f) rest)
 expr_names f (Number z) rest = refl

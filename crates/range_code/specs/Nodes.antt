@@ -1,7 +1,5 @@
 -- The variables of nodes, and what nodes read of them.
 use Rattle.std.specs.Prelude.{ℕ, ◌<◌, List, [], ◌∷◌, ◌++◌, length, Option, Some, None}
-use Rattle.fd_language.specs.declared.range_node.Feature.{Feature}
-use Rattle.fd_language.specs.declared.range_node.Feature.TheVariants as feature
 use Rattle.fd_language.specs.declared.range_node.RangeNode.{RangeNode}
 use Rattle.fd_language.specs.declared.range_node.RangeNode.TheVariants as node
 use Rattle.range_code.specs.declared.frame.Arg.{Arg}
@@ -32,18 +30,6 @@ rename_node f (node.Max y) = node.Max (f y)
 rename_node f (node.Val y) = node.Val (f y)
 rename_node f (node.Dom y) = node.Dom (f y)
 rename_node f n = n
-
--- what a node reads of a variable
-abbrev pub node_feature : RangeNode → Option (ℕ × Feature)
-node_feature (node.Min y) = Some (y, feature.Min)
-node_feature (node.Max y) = Some (y, feature.Max)
-node_feature (node.Val y) = Some (y, feature.Val)
-node_feature (node.Dom y) = Some (y, feature.Dom)
-node_feature _ = None
-
-abbrev pub node_features : List RangeNode → List (ℕ × Feature)
-node_features [] = []
-node_features (n ∷ ns) = listed (node_feature n) ++ node_features ns
 
 -- a slot that has an argument, and its variable is one of so many
 abbrev pub IsSeen : ℕ → List Arg → ℕ → Type 0

@@ -1,19 +1,15 @@
 -- The slots of a range: one for each of its variables, in the order of first occurrence.
-use Rattle.std.specs.Prelude.{◌≡◌, ℕ, if◌then◌else◌, nat_eq, IsTrue, List, map, Option, Some, None}
+use Rattle.std.specs.Prelude.{ℕ, if◌then◌else◌, nat_eq, List, map, Option, Some, None}
 use Rattle.std.specs.List.{position_or_len}
 use Rattle.fd_language.specs.declared.range_node.Need.{Need}
 use Rattle.fd_language.specs.declared.range_node.Feature.{Feature}
-use Rattle.fd_language.specs.declared.range_node.RangeNode.{RangeNode}
-use Rattle.fd_language.specs.declared.TheConstants.{INFINITY}
 use Rattle.fd_language.specs.Family.{has}
 use Rattle.fd_language.specs.Range.{Range}
 use Rattle.fd_language.specs.Places.{range_places}
 use Rattle.fd_language.specs.Needs.{once, need_of}
 use Rattle.fd_language.specs.Range.{params}
-use Rattle.fd_language.specs.RangeVerdict.{is_accepted}
 use Rattle.fd_language.specs.RangeRenaming.{rename_range}
 use Rattle.fd_language.specs.Features.{features_of}
-use Rattle.fd_language.specs.Flat.{nodes_of}
 
 -- the variable of each slot
 abbrev pub slots_of : Range → List ℕ

@@ -1,5 +1,5 @@
 -- What each kind of node takes from what waits, and what it puts there.
-use Rattle.std.specs.Prelude.{◌≡◌, ℕ, ◌&&◌, ◌||◌, not, ℤ, pos, int_le, neg_ℤ, List, [], ◌∷◌, ◌++◌, filter}
+use Rattle.std.specs.Prelude.{◌≡◌, ℕ, ◌||◌, not, ℤ, neg_ℤ, List, [], ◌∷◌, ◌++◌, filter}
 use Rattle.fd_language.specs.declared.range_node.RangeNode.{RangeNode}
 use Rattle.fd_language.specs.declared.range_node.RangeNode.TheVariants as node
 use Rattle.fd_language.specs.declared.TheConstants.{INFINITY}

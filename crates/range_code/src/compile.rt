@@ -3,17 +3,18 @@
 ghost use Rattle.std.specs.Prelude.{◌≡◌, ◌<◌, ◌-◌, ◌^◌, ◌||◌, not, max, ℕ, nat_eq, List, [], ◌∷◌, ◌++◌, map, filter, IfOk, OnOk};
 ghost use Rattle.std.specs.List.{list_any, position_or_len};
 ghost use Rattle.indexmap.specs.IndexMap.{get};
-ghost use Rattle.fd_language.specs.declared.range_node.Feature.{Feature as Told};
-ghost use Rattle.fd_language.specs.Features.{each_once};
-ghost use Rattle.range_code.specs.Nodes.{node_variable, listed, node_variables, rename_node, node_feature, node_features};
+ghost use Rattle.fd_language.specs.declared.range_node.Feature.TheVariants as Told;
+ghost use Rattle.fd_language.specs.Features.{each_once, is_same_feature, is_same_pair, node_features as read_by};
+ghost use Rattle.range_code.specs.Nodes.{node_variable, listed, node_variables, rename_node};
 ghost use Rattle.range_code.specs.Asked.{need_in};
 ghost use Rattle.fd_language.specs.Family.{count_up};
 ghost use Rattle.range_code.specs.Kinds.{has_pair, told_as as told_by, all_told};
 ghost use Rattle.range_code.specs.Heights.{values_after, sets_after, peak};
-ghost use Rattle.range_code.specs.Gathered.{IsNumbered, AreMet, IsRead};
+ghost use Rattle.range_code.specs.Gathered.{IsNumbered};
 
 use fd_language::{Feature, FlatRange, Need, NoMemory, RangeNode};
 use indexmap::{IndexMap, IndexSet};
+use range_features::node_features;
 use std::alloc::Global;
 use std::collections::HashSet;
 
@@ -125,101 +126,67 @@ pub(crate) fn name_slots(
     Ok(named)
 }
 
-fn feature_of(node: RangeNode) -> Option<(usize, Feature)>
-    ensures { result ≡ node_feature node }
+/// The pairs with slots as numbers of a list's places.
+fn by_slot(alloc: Global, pairs: &[(u64, Feature)]) -> Result<Vec<(usize, Feature)>, NoMemory>
+    ensures { IfOk result (λ v. v.items ≡ pairs.now) }
 {
-    match node {
-        RangeNode::Min(slot) => Some((slot as usize, Feature::Min)),
-        RangeNode::Max(slot) => Some((slot as usize, Feature::Max)),
-        RangeNode::Val(slot) => Some((slot as usize, Feature::Val)),
-        RangeNode::Dom(slot) => Some((slot as usize, Feature::Dom)),
-        _ => None,
+    let mut slots = Vec::with_capacity(alloc, pairs.len())?;
+    for (slot, feature) in pairs {
+        slots.push((*slot as usize, *feature))?;
     }
-}
-
-/// Meets the slot, and tells whether it is new.
-fn meet(met: &mut HashSet<usize>, slot: usize) -> Result<bool, NoMemory>
-    ensures fresh { IfOk result (λ fresh. fresh ≡ not (list_any (nat_eq slot) met.old.keys)) }
-    ensures met { OnOk result ((z : ℕ) → list_any (nat_eq z) met.new.keys ≡ (nat_eq z slot || list_any (nat_eq z) met.old.keys)) }
-{
-    Ok(met.insert(slot)?)
-}
-
-/// The slots of which each feature was met.
-#[derive(Drop)]
-pub(crate) struct Met {
-    min: HashSet<usize>,
-    max: HashSet<usize>,
-    val: HashSet<usize>,
-    dom: HashSet<usize>,
-}
-
-impl Met {
-    /// Meets the feature of the slot, and tells whether it is new.
-    fn add(&mut self, slot: usize, feature: Feature) -> Result<bool, NoMemory>
-        ensures { IfOk result (λ fresh. (ds : List (ℕ × Told)) → AreMet ds self.old → (fresh ≡ not (has_pair ds (slot, feature))) × AreMet (ds ++ (slot, feature) ∷ []) self.new) }
-    {
-        match feature {
-            Feature::Min => meet(&mut self.min, slot),
-            Feature::Max => meet(&mut self.max, slot),
-            Feature::Val => meet(&mut self.val, slot),
-            Feature::Dom => meet(&mut self.dom, slot),
-        }
-    }
-}
-
-/// What was read so far, each pair once.
-#[derive(Drop)]
-pub(crate) struct Read {
-    pub met: Met,
-    pub features: Vec<(usize, Feature)>,
-}
-
-impl Read {
-    fn new(alloc: Global) -> Read
-        ensures { IsRead [] result }
-    {
-        Read {
-            met: Met {
-                min: HashSet::new(alloc),
-                max: HashSet::new(alloc),
-                val: HashSet::new(alloc),
-                dom: HashSet::new(alloc),
-            },
-            features: Vec::new(alloc),
-        }
-    }
-
-    /// Reads the feature of the slot.
-    fn add(&mut self, slot: usize, feature: Feature) -> Result<(), NoMemory>
-        ensures { OnOk result ((ds : List (ℕ × Told)) → IsRead ds self.old → IsRead (ds ++ (slot, feature) ∷ []) self.new) }
-    {
-        if self.met.add(slot, feature)? {
-            self.features.push((slot, feature))?;
-        }
-        Ok(())
-    }
-
-    /// Reads what the node reads.
-    fn add_node(&mut self, node: RangeNode) -> Result<(), NoMemory>
-        ensures { OnOk result ((ds : List (ℕ × Told)) → IsRead ds self.old → IsRead (ds ++ listed (node_feature node)) self.new) }
-    {
-        match feature_of(node) {
-            Some((slot, feature)) => self.add(slot, feature),
-            None => Ok(()),
-        }
-    }
+    Ok(slots)
 }
 
 /// What the nodes read, each pair of a slot and a feature once, in the order of first occurrence.
-pub(crate) fn read_nodes(alloc: Global, nodes: &[RangeNode]) -> Result<Read, NoMemory>
-    ensures { IfOk result (IsRead (node_features nodes.now)) }
+pub(crate) fn read_slots(
+    alloc: Global,
+    nodes: &[RangeNode],
+) -> Result<Vec<(usize, Feature)>, NoMemory>
+    ensures { IfOk result (λ v. v.items ≡ each_once (read_by nodes.now)) }
 {
-    let mut read = Read::new(alloc);
-    for node in nodes {
-        read.add_node(*node)?;
+    let pairs = node_features(alloc, nodes)?;
+    by_slot(alloc, &pairs)
+}
+
+fn is_same(a: Feature, b: Feature) -> bool
+    ensures { result ≡ is_same_feature a b }
+{
+    match a {
+        Feature::Min => matches!(b, Feature::Min),
+        Feature::Max => matches!(b, Feature::Max),
+        Feature::Val => matches!(b, Feature::Val),
+        Feature::Dom => matches!(b, Feature::Dom),
     }
-    Ok(read)
+}
+
+/// Adds the slot of a pair, where the feature is the wanted one.
+fn meet(
+    met: &mut HashSet<usize>,
+    slot: usize,
+    feature: Feature,
+    wanted: Feature,
+) -> Result<(), NoMemory>
+    ensures { OnOk result ((z : ℕ) → list_any (nat_eq z) met.new.keys ≡ (is_same_pair (z, wanted) (slot, feature) || list_any (nat_eq z) met.old.keys)) }
+{
+    if is_same(wanted, feature) {
+        met.insert(slot)?;
+    }
+    Ok(())
+}
+
+/// The slots that are read with the feature.
+fn slots_with(
+    alloc: Global,
+    features: &[(usize, Feature)],
+    wanted: Feature,
+) -> Result<HashSet<usize>, NoMemory>
+    ensures { IfOk result (λ s. (z : ℕ) → list_any (nat_eq z) s.keys ≡ has_pair features.now (z, wanted)) }
+{
+    let mut met = HashSet::new(alloc);
+    for (slot, feature) in features {
+        meet(&mut met, *slot, *feature, wanted)?;
+    }
+    Ok(met)
 }
 
 /// What a range reads of a slot, the least and the greatest member of one slot together.
@@ -297,20 +264,28 @@ fn vals_of(alloc: Global, val: &HashSet<usize>, count: usize) -> Result<Vec<usiz
     Ok(vals)
 }
 
-impl Read {
-    /// The kinds of what was read.
-    pub fn kinds(&self, alloc: Global) -> Result<Vec<(usize, ReadKind)>, NoMemory>
-        ensures { IfOk result (λ v. v.items ≡ all_told (λ s. list_any (nat_eq s) self.now.met.min.keys) (λ s. list_any (nat_eq s) self.now.met.max.keys) self.now.features.items) }
-    {
-        kinds_of(alloc, &self.met.min, &self.met.max, &self.features)
-    }
+/// The kinds of what is read.
+pub(crate) fn read_kinds(
+    alloc: Global,
+    features: &[(usize, Feature)],
+) -> Result<Vec<(usize, ReadKind)>, NoMemory>
+    ensures { IfOk result (λ v. v.items ≡ all_told (λ s. has_pair features.now (s, Told.Min)) (λ s. has_pair features.now (s, Told.Max)) features.now) }
+{
+    let min = slots_with(alloc, features, Feature::Min)?;
+    let max = slots_with(alloc, features, Feature::Max)?;
+    kinds_of(alloc, &min, &max, features)
+}
 
-    /// The slots below the number that were read by val.
-    pub fn vals(&self, alloc: Global, count: usize) -> Result<Vec<usize>, NoMemory>
-        ensures { IfOk result (λ v. v.items ≡ filter (λ s. list_any (nat_eq s) self.now.met.val.keys) (count_up 0 count)) }
-    {
-        vals_of(alloc, &self.met.val, count)
-    }
+/// The slots below the number that are read by val.
+pub(crate) fn read_vals(
+    alloc: Global,
+    features: &[(usize, Feature)],
+    count: usize,
+) -> Result<Vec<usize>, NoMemory>
+    ensures { IfOk result (λ v. v.items ≡ filter (λ s. has_pair features.now (s, Told.Val)) (count_up 0 count)) }
+{
+    let val = slots_with(alloc, features, Feature::Val)?;
+    vals_of(alloc, &val, count)
 }
 
 /// How many values wait behind the node, where so many wait before it.

@@ -20,7 +20,8 @@ mod work;
 
 pub use crate::compile::ReadKind;
 use crate::compile::{
-    Read, copy_range, height_of, name_slots, number_variables, read_nodes, slot_needs_of,
+    copy_range, height_of, name_slots, number_variables, read_kinds, read_slots, read_vals,
+    slot_needs_of,
 };
 use crate::evaluate::{Steps, evaluate, evaluate_narrowing};
 pub use crate::frame::{Arg, are_some};
@@ -157,14 +158,13 @@ pub fn compile_range(alloc: Global, c: &Checked) -> Result<RangeCode, NoMemory>
     let source = range.nodes();
     let numbered = number_variables(alloc, source)?;
     let mut nodes = name_slots(alloc, source, &numbered.numbers)?;
-    let read = read_nodes(alloc, &nodes)?;
-    let kinds = read.kinds(alloc)?;
-    let vals = read.vals(alloc, numbered.slots.len())?;
+    let features = read_slots(alloc, &nodes)?;
+    let kinds = read_kinds(alloc, &features)?;
+    let vals = read_vals(alloc, &features, numbered.slots.len())?;
     let height = height_of(&nodes);
     let asked = needs(alloc, c)?;
     let needs = slot_needs_of(alloc, &numbered.slots, &asked)?;
     let last = nodes.pop().unwrap();
-    let Read { features, .. } = read;
     Ok(RangeCode {
         range,
         slots: numbered.slots,

@@ -1,5 +1,5 @@
-use Rattle.std.proofs.Common.{sym, ◌∙◌, subst, IsTrue}
-use Rattle.range_code.proofs.Running.{features_there, nodes_readable, nodes_spelled, nodes_fit, gives_empty, gives_all, gives_table}
+use Rattle.std.proofs.Common.{sym, ◌∙◌}
+use Rattle.range_code.proofs.Running.{features_there, nodes_readable, nodes_fit, gives_empty, gives_all, gives_table}
 use Rattle.range_code.proofs.run_range.Goals as goal
 
 pub find_standing-requires : goal.find_standing-requires

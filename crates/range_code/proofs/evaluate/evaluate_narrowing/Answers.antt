@@ -5,9 +5,7 @@ use Rattle.range_code.specs.Frames.{slot_set, slot_integer}
 use Rattle.range_code.specs.Work.{filled_set}
 use Rattle.range_code.specs.Walked.{all_steps}
 use mir.Syntax.{w128}
-use Rattle.std.proofs.Common.{rules, SFits, to_z-of_z, ◌≡◌, ◌∙◌, sym, ap, subst, ℕ, List, ◌∷◌, ◌++◌, [], not, filter}
-use Rattle.fd_language.specs.declared.TheConstants.{INFINITY}
-use Rattle.fd_language.specs.Family.{has, universe}
+use Rattle.std.proofs.Common.{rules, SFits, to_z-of_z, ◌∙◌, sym, ap, subst, ◌∷◌, ◌++◌, []}
 use Rattle.range_code.specs.Steps.{outside}
 use Rattle.range_code.proofs.Walks.{last_takes, last_gives, last_ends, last_inner}
 use Rattle.range_code.proofs.evaluate.evaluate_narrowing.Goals as goal
