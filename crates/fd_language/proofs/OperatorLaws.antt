@@ -24,7 +24,7 @@ found p (g ∷ gs) q f all e =
 abbrev rows : List Operator
 rows = comma_operator ∷ infix_operators
 
--- an infix at_operator's test
+-- an infix operator's test
 by_rows : (p : Operator → Bool) → all_rows p rows ≡ true → (x : Terminal) (f : Operator) → infix_operator x ≡ Some f → p f ≡ true
 unfolding infix_of
 by_rows p all (operator_word q o) f e = found p infix_operators (λ g. bytes_eq g.name o) f (and_parts (p comma_operator) (all_rows p infix_operators) all).1 e
@@ -47,7 +47,7 @@ bounds_infix x f e = bounds f (by_rows row_bounds refl x f e)
 pub bounds_prefix : (o : Name) (f : Operator) → prefix_of o ≡ Some f → ((left_limit f) ≤ f.priority) × ((right_limit f) ≤ f.priority)
 bounds_prefix o f e = bounds f (by_prefix_rows row_bounds refl o f e)
 
--- an at_operator that may stand on the left of f asks less of its right operand than f has
+-- an operator that may stand on the left of f asks less of its right operand than f has
 abbrev row_apart : Operator → Operator → Bool
 row_apart f g = nat_lt (left_limit f) g.priority || nat_lt (right_limit g) f.priority
 

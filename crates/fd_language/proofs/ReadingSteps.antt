@@ -22,7 +22,7 @@ pub data State : Type 0 where
   -- directly behind [ and {
   at_list : ℕ → Stack → State
   at_curly_bracket : ℕ → Stack → State
-  -- behind an at_operator word where an operand was wanted
+  -- behind an operator word where an operand was wanted
   at_operator : ℕ → Name → Stack → State
   -- behind an operand; behind a name a tight ( may follow
   after : Option (ℕ × Name) → Stack → PlacedTerm → State
@@ -94,7 +94,7 @@ closed (curly p s) t x = if is_close_curly x then Some (after None s (comp curly
 closed (before p o f s) t x = None
 closed (between p f a s) t x = None
 
--- an at_operator word alone may end here
+-- an operator word alone may end here
 abbrev pub lone : Stack → Terminal → Bool
 lone (top ts) x = false
 lone (paren s) x = is_close x

@@ -127,7 +127,7 @@ behind_curly p s ts h =
     ap (λ (b : Bool). option_and_then (λ st. run h.others st) (cond b (Some (after None s (atom curly_name p))) (wanted (curly p s) h.first))) (starter_close_curly h.first h.starts) in
     ap (λ (l : List Terminal). run l (at_curly_bracket p s)) h.split ∙ one ∙ ap (λ (l : List Terminal). run l (want (curly p s))) (sym h.split)
 
--- and behind a prefix at_operator
+-- and behind a prefix operator
 behind_prefix : (p : ℕ) (o : Name) (f : Operator) (s : Stack) (ts : List Terminal) → prefix_of o ≡ Some f → f.priority ≤ limit s → may_follow o ts ≡ true → Head ts → run ts (at_operator p o s) ≡ run ts (want (before p o f s))
 behind_prefix p o f s ts e le m h =
     let x = h.first in
@@ -190,7 +190,7 @@ infix_not_open : (x : Terminal) (f : Operator) → infix_operator x ≡ Some f �
 infix_not_open (opens p b) f e = absurd cc
 infix_not_open _ f e = refl
 
--- no at_operator takes what stands in an argument's place as its left operand behind the bracket
+-- no operator takes what stands in an argument's place as its left operand behind the bracket
 no_attach : (s s2 : Stack) (x : Terminal) (y t : PlacedTerm) (q : ℕ) → EndsArg s x → Spine s s2 y t q → q ≤ 999 → attach (token_place x) (infix_operator x) s2 y ≡ None
 no_attach s s2 x y t q e d le = go e.is_end
   where
