@@ -12,4 +12,3 @@ pub use adapters::{ReaderSource, WriterSink};
 pub use memory::{MemorySink, MemorySource};
 pub use ports::{Failed, MAX_TEXT, ReadTextFault, Sink, Source, WriteFault, read_text, write_all};
 pub use sure::{SureSink, SureSource};
-

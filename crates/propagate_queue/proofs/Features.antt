@@ -7,7 +7,7 @@ use Rattle.std.specs.List.{list_any}
 use Rattle.fd_language.specs.declared.TheConstants.{INFINITY}
 use Rattle.fd_language.specs.declared.range_node.Feature.{Feature}
 use Rattle.fd_language.specs.declared.range_node.Feature.TheVariants as feature
-use Rattle.fd_language.specs.Features.{expr_features, range_features, is_same_feature, is_same_pair, each_once}
+use Rattle.fd_language.specs.Features.{feature_at, expr_features, range_features, is_same_feature, is_same_pair, each_once}
 use Rattle.fd_language.specs.Check.{fill, fill_range}
 use Rattle.fd_language.specs.Flat.{nodes_of}
 use Rattle.fd_language.specs.Monotonicity.{IsMonotone}
@@ -21,7 +21,7 @@ use Rattle.range_code.specs.Nodes.{IsSeen}
 use Rattle.range_code.proofs.Framing.{all_readable}
 use Rattle.range_code.proofs.Posted.{one_use, posted_monotone}
 use Rattle.range_code.proofs.Standings.{features_seen, all_once}
-use Rattle.range_code.proofs.Variables.{node_features_of}
+use Rattle.fd_language.proofs.Lemmas.{whole_nodes}
 use Rattle.dependency_chains.specs.declared.Change.{Change}
 use Rattle.dependency_chains.specs.Waking.{wakes, is_woken}
 use Rattle.dependency_chains.proofs.Chaining.{same_feature}
@@ -126,7 +126,7 @@ read_alike r args ds c x e =
 
 -- each slot that is read has a variable
 pub slots_seen : (count : ℕ) (r : Range) (args : List Arg) → is_accepted INFINITY r ≡ true → IsFrame count r args → All (λ d. IsSeen count args d.0) (slot_features r)
-slots_seen count r args h frame = all_once (λ d. IsSeen count args d.0) (range_features (in_slots r)) (subst (λ (l : List Pair). All (λ d. IsSeen count args d.0) l) (node_features_of (in_slots r)) (features_seen count args (nodes_of (in_slots r)) (all_readable count r args frame (one_use r h))))
+slots_seen count r args h frame = all_once (λ d. IsSeen count args d.0) (range_features (in_slots r)) (subst (λ (l : List Pair). All (λ d. IsSeen count args d.0) l) (whole_nodes feature_at (in_slots r)) (features_seen count args (nodes_of (in_slots r)) (all_readable count r args frame (one_use r h))))
 
 pub slot_read : (count : ℕ) (r q : Range) (args : List Arg) (fs : List Pair) (i : ℕ) (d : Pair) → q ≡ r → is_accepted INFINITY q ≡ true → fs ≡ slot_features q → IsFrame count r args → i < length fs → IsSeen count args (get_or fs i d).0
 slot_read count r q args fs i d e h f frame l = subst (λ (z : List Pair). All (λ b. IsSeen count args b.0) z) (sym (f ∙ ap slot_features e)) (slots_seen count r args (sym (ap (is_accepted INFINITY) e) ∙ h) frame) i d l

@@ -17,7 +17,7 @@ use Rattle.fd_language.specs.Needs.{needs, once}
 use Rattle.fd_language.specs.declared.range_node.Feature.TheVariants as feature
 use Rattle.fd_language.specs.Family.{count_up}
 use Rattle.fd_language.specs.Features.{each_once, is_same_pair, feature_at, node_features}
-use Rattle.fd_language.proofs.Leaves.{whole_nodes}
+use Rattle.fd_language.proofs.Lemmas.{whole_nodes}
 use Rattle.range_code.specs.Asked.{need_in}
 use Rattle.range_code.specs.Nodes.{node_variables, node_variable, listed, rename_node}
 use Rattle.range_code.specs.Slots.{slots_of, slot_of, in_slots, slot_features}

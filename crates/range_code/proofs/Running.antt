@@ -10,7 +10,7 @@ use Rattle.fd_language.specs.declared.range_node.Feature.{Feature}
 use Rattle.fd_language.specs.declared.range_node.RangeNode.{RangeNode}
 use Rattle.fd_language.specs.declared.range_node.Feature.TheVariants as feature
 use Rattle.fd_language.specs.Family.{Family, has, universe, IsRising, IsFamily, IsSubset, count_up}
-use Rattle.fd_language.proofs.Lemmas.{rising_inside, bounded_values, needs_met, two, reads_map, set_same}
+use Rattle.fd_language.proofs.Lemmas.{rising_inside, bounded_values, needs_met, two, reads_map, set_same, whole_nodes}
 use Rattle.fd_language.specs.Range.{Range, Span, One, Dom, Union, Inter, Outside, Plus, Minus, Times, Over, Expr, Number, Infinity, Param, Min, Max, Val, Add, Sub, Mul, DivDown, DivUp, reads, vals, in_range, set_of, is_none_left, is_several}
 use Rattle.fd_language.specs.Needs.{meets_needs}
 use Rattle.fd_language.specs.Check.{fill, fill_range}
@@ -30,7 +30,6 @@ use Rattle.range_code.specs.Nodes.{IsSeen, IsReadable}
 use Rattle.range_code.specs.Standing.{opens, standing_of}
 use Rattle.range_code.specs.Work.{RangeFits, filled_set}
 use Rattle.fd_language.specs.Features.{feature_at}
-use Rattle.fd_language.proofs.Leaves.{whole_nodes}
 use Rattle.range_code.proofs.Fits.{divides, fits}
 use Rattle.range_code.proofs.Framing.{all_readable}
 use Rattle.range_code.proofs.Posted.{fits_table, one_use, frame_meets}

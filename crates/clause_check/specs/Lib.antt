@@ -1,4 +1,0 @@
-pub mod Programs
-pub mod Causes
-pub mod Terms
-pub mod Kept
