@@ -1,5 +1,5 @@
 -- How a run ends, from what its last call says.
-use Rattle.std.proofs.Common.{◌≡◌, ◌≢◌, ℕ, ◌<◌, ◌≤◌, ◌⊎◌, inl, inr, List, [], ◌∷◌, length, Option, Some, None, Ok, Err, Result, refl, ap, sym, subst, ◌∙◌, arith, codes, Bool, true, false, ◌==◌, map, string_bytes, String, Global, eqb-true, true≢false}
+use Rattle.std.proofs.Common.{◌≡◌, ◌≢◌, ℕ, ◌+◌, ◌<◌, IsSome, ◌≤◌, ◌⊎◌, inl, inr, List, [], ◌∷◌, length, Option, Some, None, Ok, Err, Result, refl, ap, sym, subst, ◌∙◌, arith, codes, Bool, true, false, ◌==◌, map, string_bytes, String, Global, eqb-true, true≢false}
 use Rattle.fd_model.specs.declared.Status.{Status}
 use Rattle.fd_model.specs.declared.Status.TheVariants.{Done, Usage, Refused, Stopped, ReadFault, WriteFault, NoMemory}
 use Rattle.fd_model.specs.Verdict.{Verdict, accepted, refused, max_text, sentences_verdict, reading_verdict}
@@ -10,8 +10,8 @@ use Rattle.fd_model.specs.Output.{Output, VerdictOutput, refusal, usage, stop_st
 use Rattle.std.specs.Str.{IsUtf8}
 use Rattle.std.specs.Str.Lossy.{utf8_valid_len}
 use Rattle.term_pool.specs.PlacedTerms.{placed_of}
-use Rattle.byte_ports.specs.Ports.{Put, PutPart, Took, IsAtEnd, ReadPast, Rose}
-use Rattle.byte_ports.proofs.Pieces.{put_none, part_none, text_is_left, past_was_left}
+use Rattle.byte_ports.specs.Ports.{Put, PutPart, Took, IsAtEnd, ReadJust, Rose}
+use Rattle.byte_ports.proofs.Pieces.{put_none, part_none, text_is_left, just_was_left}
 use Rattle.clpfd.specs.declared.fault.Fault.{Fault}
 use Rattle.clpfd.specs.declared.fault.Fault.TheVariants as fault
 use Rattle.term_reader.specs.Sentences.{sentence_of, sentences_of}
@@ -132,12 +132,14 @@ large_same t piece h g o s p =
     subst (λ x. Output M [] t x s) (sym once.0) (subst (λ x. Output M [] t (refusal max_text (codes "too large")) x) (sym once.1) (large_output M t h))
 
 -- the text was too large
-pub with_large : (words : List (List ℕ)) (old new : Ends) (result : Status) → words ≡ [] → ReadPast old.left new.left max_text → Ending old.written new.written old.sink_faults new.sink_faults result Refused (refusal max_text (codes "too large")) → Headline words old new result
-with_large words old new result none past ending =
+pub with_large : (words : List (List ℕ)) (old new : Ends) (result : Status) → words ≡ [] → ReadJust old.left new.left (max_text + 1) → Ending old.written new.written old.sink_faults new.sink_faults result Refused (refusal max_text (codes "too large")) → Headline words old new result
+with_large words old new result none just ending =
+    let long : max_text < length just.0 = omega (arith, just.1) in
+    let left : (t : List ℕ) → old.left ≡ Some t → IsSome new.left → max_text < length t = λ t e h. let k : max_text + 1 ≤ length t = just_was_left old.left new.left (max_text + 1) t e h just in omega (arith, k) in
     subst (λ ws. Headline ws old new result) (sym none)
-    (ended [] old new result past.0 (refusal max_text (codes "too large")) Refused (large_output M past.0 past.1)
-    (λ t i o s p. large_same t past.0 (past_was_left old.left new.left max_text t i.0 i.1 past) past.1 o s p)
-    (λ t i o s p. large_same past.0 t past.1 (past_was_left old.left new.left max_text t i.0 i.1 past) o s p)
+    (ended [] old new result just.0 (refusal max_text (codes "too large")) Refused (large_output M just.0 long)
+    (λ t i o s p. large_same t just.0 (left t i.0 i.1) long o s p)
+    (λ t i o s p. large_same just.0 t long (left t i.0 i.1) o s p)
     ((λ e. cc), (λ e. cc), (λ e. cc)) (λ c. elim c [ inl e ↦ absurd (cc) | inr e ↦ absurd (cc) ]) ((λ e. absurd (cc)), (λ n. absurd (n refl))) ending)
 
 -- reading failed
