@@ -1,4 +1,4 @@
-// What runs write, over ends in memory.
+//! What runs write, over ends in memory.
 use crate::run;
 use byte_ports::{MemorySink, MemorySource, SureSink, SureSource};
 use fd_model::Status;

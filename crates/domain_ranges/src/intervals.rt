@@ -1,4 +1,4 @@
-// Lists of intervals that rise and don't touch.
+//! Lists of intervals that rise and don't touch.
 
 ghost use Rattle.std.specs.Prelude.{◌≡◌, ◌<◌, ◌≤◌, ◌+◌, ◌&&◌, ◌||◌, not, ◌*◌, ◌^◌, ◌<ℤ◌, neg_ℤ, IsTrue, IsSome, ℕ, Bool, false, [], ◌∷◌, ◌++◌, length, pos, int_le, nat_le, slice_index_or, max, min, filter, IfSome, IfNone, IfOk, OnOk, OnErr};
 ghost use Rattle.domain_ranges.specs.Spans.{Span, within, IsSpans, members, interval_count, meet, listed, written, joined, gap, shifted, scaled};

@@ -1,4 +1,4 @@
-// Sets of numbers from 0 to INFINITY, as lists of intervals.
+//! Sets of numbers from 0 to INFINITY, as lists of intervals.
 #![tactic(auto)]
 
 ghost use Rattle.std.specs.Prelude.{◌≡◌, ◌<◌, ◌≤◌, ◌&&◌, ◌||◌, not, nat_le, ◌^◌, neg_ℤ, ◌≤ℤ◌, ◌<ℤ◌, ◌⊎◌, if◌then◌else◌, ℕ, List, [], ◌∷◌, length, slice_index_or, filter, pos, int_le, IfOk, OnErr, MatchOption, IsTrue, IfSome, OnSome, false};

@@ -1,4 +1,4 @@
-// Sets that wait for their operators.
+//! Sets that wait for their operators.
 
 ghost use Rattle.std.specs.Prelude.{◌≡◌, ◌<◌, ◌≤◌, ◌+◌, ◌-◌, ◌||◌, ℕ, List, [], ◌∷◌, length, filter, IfOk, IfSome, OnOk, MatchOption};
 ghost use Rattle.fd_language.specs.Family.{has, universe, IsRising};

@@ -1,4 +1,4 @@
-// Whether a list of nodes spells a range. Nothing is built: it is enough to count what waits for an operator.
+//! Whether a list of nodes spells a range. Nothing is built: it is enough to count what waits for an operator.
 
 ghost use Rattle.std.specs.Prelude.{◌≡◌, ◌↔◌, ℕ, suc, ◌+◌, ◌<◌, ◌≤◌, ◌^◌, List, [], ◌∷◌, IsTrue, None, MatchOption, IfSome, length};
 ghost use Rattle.fd_language.specs.Range.{Range, Expr};

@@ -1,4 +1,4 @@
-// A range as a list of nodes.
+//! A range as a list of nodes.
 
 ghost use Rattle.std.specs.Prelude.{◌≡◌, MatchOption};
 ghost use Rattle.fd_language.specs.Flat.{nodes_of, IsSpelled};

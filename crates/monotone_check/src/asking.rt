@@ -1,4 +1,4 @@
-// What is asked of each parameter, from left to right.
+//! What is asked of each parameter, from left to right.
 
 ghost use Rattle.std.specs.Prelude.{◌≡◌, ℕ, suc, ◌+◌, List, [], ◌∷◌, ◌++◌, length, Some, None, IfOk, OnOk, OnErr};
 ghost use Rattle.fd_language.specs.Needs.{expr_asks};

@@ -1,4 +1,4 @@
-// What is asked of the parameters, node by node.
+//! What is asked of the parameters, node by node.
 
 ghost use Rattle.std.specs.Prelude.{◌≡◌, ℕ, suc, List, [], ◌∷◌, ◌++◌, IsTrue, IfOk, OnOk};
 ghost use Rattle.fd_language.specs.Needs.{asks};

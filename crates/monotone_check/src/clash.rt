@@ -1,4 +1,4 @@
-// Variables with two uses: as a parameter, and in min, max, val or dom.
+//! Variables with two uses: as a parameter, and in min, max, val or dom.
 
 ghost use Rattle.std.specs.Prelude.{◌≡◌, ℕ, suc, List, [], ◌∷◌, length, slice_index, Option, IfOk, OnOk, IsTrue};
 ghost use Rattle.fd_language.specs.declared.range_node.RangeNode.{RangeNode as Spelled};

@@ -1,4 +1,4 @@
-// Each parameter with its strongest need.
+//! Each parameter with its strongest need.
 
 ghost use Rattle.std.specs.Prelude.{◌≡◌, ℕ, List, [], ◌∷◌, ◌++◌, length, reverse, IfOk, OnOk, map, nat_eq, nat_lt, if◌then◌else◌};
 ghost use Rattle.std.specs.List.{position_or_len};

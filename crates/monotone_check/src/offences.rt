@@ -1,4 +1,4 @@
-// Offences, and which of them comes first.
+//! Offences, and which of them comes first.
 
 ghost use Rattle.std.specs.Prelude.{◌≡◌, ℕ, ◌<◌, IsTrue, Option};
 ghost use Rattle.fd_language.specs.RangeVerdict.{is_before, earlier as earlier_of, offence_place, offence_kind};

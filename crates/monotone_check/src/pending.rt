@@ -1,4 +1,4 @@
-// The terms and ranges that wait for their operators.
+//! The terms and ranges that wait for their operators.
 
 ghost use Rattle.std.specs.Prelude.{◌≡◌, ℕ, suc, List, [], ◌∷◌, ◌++◌, Some, None, IfOk};
 ghost use Rattle.fd_language.specs.declared.range_node.RangeNode.{RangeNode as Spelled};

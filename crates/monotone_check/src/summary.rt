@@ -1,4 +1,4 @@
-// What is kept of a term and of a range while the nodes above it are still to come.
+//! What is kept of a term and of a range while the nodes above it are still to come.
 
 ghost use Rattle.std.specs.Prelude.{◌≡◌, ℕ, ◌+◌, ◌-◌, ◌*◌, ◌^◌, ◌≤◌, ◌<◌, min, max, ℤ, FitsSigned, Bool, true, false, Option, Some, None, IfSome, IsTrue, pos, int_le, nat_lt, nat_abs};
 ghost use Rattle.std.specs.Int.{w128};

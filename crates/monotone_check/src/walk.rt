@@ -1,4 +1,4 @@
-// The check of a whole range, node by node.
+//! The check of a whole range, node by node.
 
 ghost use Rattle.std.specs.Prelude.{◌≡◌, ℕ, ◌-◌, length, slice_index, IfOk};
 ghost use Rattle.fd_language.specs.Flat.{spelled, IsSpelled};

@@ -1,4 +1,4 @@
-// Ranges made ready: slots in place of variables, what is read of them, and what they need.
+//! Ranges made ready: slots in place of variables, what is read of them, and what they need.
 
 ghost use Rattle.std.specs.Prelude.{◌≡◌, ◌<◌, ◌-◌, ◌^◌, ◌||◌, not, max, ℕ, nat_eq, List, [], ◌∷◌, ◌++◌, map, filter, IfOk, OnOk};
 ghost use Rattle.std.specs.List.{list_any, position_or_len};

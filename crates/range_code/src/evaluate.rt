@@ -1,4 +1,4 @@
-// A range evaluated, node by node.
+//! A range evaluated, node by node.
 
 ghost use Rattle.std.specs.Prelude.{◌≡◌, ◌≤◌, ℕ, ℤ, pos, List, [], ◌∷◌, length, vec_capacity, IfOk, OnOk};
 ghost use Rattle.std.specs.List.{All};

@@ -1,4 +1,4 @@
-// The arguments of a range, and what they give.
+//! The arguments of a range, and what they give.
 
 ghost use Rattle.std.specs.Prelude.{◌≡◌, ◌<◌, ◌&&◌, ℕ, IsTrue, false, length, slice_index_or};
 ghost use Rattle.std.specs.List.{All, list_any};

@@ -1,4 +1,4 @@
-// The values and sets that wait for their operators.
+//! The values and sets that wait for their operators.
 
 ghost use Rattle.std.specs.Prelude.{◌≡◌, ◌<◌, ◌≤◌, ◌-◌, ℕ, ℤ, suc, List, [], ◌∷◌, ◌++◌, pos, ◌≤ℤ◌, length, IfOk, OnOk, vec_len, vec_capacity};
 ghost use Rattle.fd_language.specs.Family.{IsRising};

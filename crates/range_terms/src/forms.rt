@@ -1,4 +1,4 @@
-// What a term is read as in its position.
+//! What a term is read as in its position.
 
 ghost use Rattle.std.specs.Prelude.{◌≡◌, ℕ, ◌<◌, List, [], ◌∷◌, length, All, Some, MatchOption};
 ghost use Rattle.fd_language.specs.PlacedTerm.{var, comp, one, two};

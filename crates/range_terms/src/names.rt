@@ -1,4 +1,4 @@
-// The nodes that the names of operators spell.
+//! The nodes that the names of operators spell.
 
 ghost use Rattle.std.specs.Prelude.{◌≡◌};
 ghost use Rattle.range_terms.specs.Names.{range_operator_of, term_operator_of, feature_of};

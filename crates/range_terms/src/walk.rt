@@ -1,4 +1,4 @@
-// The walk over a term, node by node.
+//! The walk over a term, node by node.
 
 ghost use Rattle.std.specs.Prelude.{◌≡◌, ◌<◌, ◌*◌, [], length, IfOk, OnOk};
 ghost use Rattle.term_pool.specs.Terms.{term_of, size};
