@@ -123,6 +123,12 @@ shape_kept old new x t h =
     ap (λ (es : List Entry). option_map (λ e. e.shape) (slice_get es t.number)) x.entries.1
     ∙ ap (option_map (λ (e : Entry). e.shape)) (slice_get-append old.entries x.entries.0 t.number h)
 
+-- The place that an id had in the old pool it has in the new one.
+pub place_kept : (old new : Contents) → Extends old new → (t : TermId) → t.number < length old.entries → place_at new t ≡ place_at old t
+place_kept old new x t h =
+    ap (λ (es : List Entry). option_map (λ e. e.place) (slice_get es t.number)) x.entries.1
+    ∙ ap (option_map (λ (e : Entry). e.place)) (slice_get-append old.entries x.entries.0 t.number h)
+
 -- A shape whose ids are of the old pool has the same term in the new one.
 pub shape_term_kept : (old new : Contents) → IsPool old → Extends old new → (s : Shape) → IsWithin (length old.names) (length old.entries) s → shape_term new s ≡ shape_term old s
 shape_term_kept old new p x s w =
