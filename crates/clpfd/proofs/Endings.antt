@@ -1,172 +1,255 @@
 -- How a run ends, from what its last call says.
-use Rattle.std.proofs.Common.{◌≡◌, ◌≢◌, ℕ, ◌+◌, ◌<◌, IsSome, ◌≤◌, ◌⊎◌, inl, inr, List, [], ◌∷◌, length, Option, Some, None, Ok, Err, Result, refl, ap, sym, subst, ◌∙◌, arith, codes, Bool, true, false, ◌==◌, map, string_bytes, String, Global, eqb-true, true≢false}
+use Rattle.std.proofs.Common.{◌≡◌, ◌≢◌, ℕ, ◌+◌, ◌<◌, ◌≤◌, ◌⊎◌, inl, inr, List, [], ◌∷◌, ◌++◌, length, Option, Some, None, IsSome, refl, ap, sym, subst, ◌∙◌, arith, codes, Bool, true, false, ◌==◌, map, string_bytes, String, Global, eqb-true, true≢false, length-append, append-nil}
+use Rattle.std.specs.Prelude.{Result, Ok, Err, IfOk}
+use Rattle.fd_language.specs.declared.NoMemory.{NoMemory as OutOfMemory}
+use Rattle.fd_language.specs.declared.TheConstants.{INFINITY}
 use Rattle.fd_model.specs.declared.Status.{Status}
 use Rattle.fd_model.specs.declared.Status.TheVariants.{Done, Usage, Refused, Stopped, ReadFault, WriteFault, NoMemory}
-use Rattle.fd_model.specs.Verdict.{Verdict, accepted, refused, max_text, sentences_verdict, reading_verdict}
-use Rattle.fd_language.specs.Reading.{Reading, sentences, IsReading}
-use Rattle.fd_model.specs.Refusals.{Refusal, first_refusal}
-use Rattle.fd_model.specs.Queries.{program_of}
-use Rattle.fd_model.specs.Output.{Output, VerdictOutput, refusal, usage, stop_status}
-use Rattle.std.specs.Str.{IsUtf8}
-use Rattle.std.specs.Str.Lossy.{utf8_valid_len}
-use Rattle.term_pool.specs.PlacedTerms.{placed_of}
-use Rattle.byte_ports.specs.Ports.{Put, PutPart, Took, IsAtEnd, ReadJust, Rose}
-use Rattle.byte_ports.proofs.Pieces.{put_none, part_none, text_is_left, just_was_left}
+use Rattle.fd_model.specs.Goal.{Program}
+use Rattle.fd_model.specs.Verdict as model
+use Rattle.fd_model.specs.Verdict.{max_text}
+use Rattle.fd_model.specs.Output.{Output, Queries, VerdictOutput, refusal, usage, stop_status}
+use Rattle.byte_ports.specs.Ports.{Put, PutPart, Took, IsAtEnd, ReadJust, ReadWithin, Rose}
+use Rattle.byte_ports.proofs.Pieces.{put_none, part_none}
+use Rattle.term_pool.specs.Contents.{Contents}
+use Rattle.answer_text.specs.declared.reason.Reason.TheVariants.{TooLarge}
 use Rattle.clpfd.specs.declared.fault.Fault.{Fault}
 use Rattle.clpfd.specs.declared.fault.Fault.TheVariants as fault
-use Rattle.term_reader.specs.Sentences.{sentence_of, sentences_of}
-use Rattle.term_reader.specs.declared.reader.Sentence as code
-use Rattle.term_reader.specs.declared.reader.Sentences.{Sentences}
-use Rattle.clpfd.specs.Checked.{terms_of}
-use Rattle.clpfd.specs.Headline.{M, Headline, Ends, IsDecided, IsText, Ending, EndsAs, Wrote, fault_status}
-use Rattle.clpfd.specs.QueryOutputs.{sentences_output, sentences_stop}
-use Rattle.clpfd.proofs.AcceptedRuns.{accepted_queries, accepted_once}
-use Rattle.clpfd.proofs.OneOutput.{one_output, output_once, verdict_output, large_output, bytes_verdict, read_verdict}
+use Rattle.clpfd.specs.declared.judge.Verdict.{Verdict}
+use Rattle.clpfd.specs.declared.judge.Verdict.TheVariants as verdict
+use Rattle.clpfd.specs.Headline.{Headline, Ends, HasOutput, IsDecided, IsText}
+use Rattle.clpfd.specs.Endings.{SinkState, sink_at, WroteAll, WroteFront, WrotePart, CutBy, Wrote, Ending, fault_status}
+use Rattle.clpfd.specs.Verdicts.{verdict_of, HasNames, IsVerdictOn}
+use Rattle.clpfd.proofs.OneOutput.{one_output, output_once, verdict_output, large_verdict, large_output}
 
-no_pair : (r s t u : Status) → (r ≡ s) ⊎ (r ≡ t) → r ≡ u → (s ≡ u → ⊥) → (t ≡ u → ⊥) → ⊥
-no_pair r s t u (inl e) f a b = a (sym e ∙ f)
-no_pair r s t u (inr e) f a b = b (sym e ∙ f)
+-- ---- writing
 
-decided_by : (st : Status) → (st ≡ ReadFault → ⊥) → (st ≡ WriteFault → ⊥) → (st ≡ NoMemory → ⊥) → IsDecided st
-decided_by Done a b c = tt
-decided_by Usage a b c = tt
-decided_by Refused a b c = tt
-decided_by Stopped a b c = tt
-decided_by ReadFault a b c = absurd (a refl)
-decided_by WriteFault a b c = absurd (b refl)
-decided_by NoMemory a b c = absurd (c refl)
+pub nothing_written : (s : SinkState) (p : List ℕ) → WrotePart s s p
+nothing_written s p = record { put = part_none s.written s.written p (put_none s.written); faults = refl }
 
--- The last call wrote the output of some text that has the same outputs as the text of the run.
-module _ (words : List (List ℕ)) (old new : Ends) (result : Status) (text : List ℕ) (out : List ℕ) (st : Status) (output : Output M words text out st)
-    (there : (t : List ℕ) → IsText words old.left new.left t → (o : List ℕ) (s : Status) → Output M words text o s → Output M words t o s)
-    (back : (t : List ℕ) → IsText words old.left new.left t → (o : List ℕ) (s : Status) → Output M words t o s → Output M words text o s)
-    (plain : (st ≡ ReadFault → ⊥) × (st ≡ WriteFault → ⊥) × (st ≡ NoMemory → ⊥))
-    (whole_text : (st ≡ Done) ⊎ (st ≡ Stopped) → IsAtEnd new.left)
-    (for_words : (st ≡ Usage → words ≢ []) × (words ≢ [] → (new.left ≡ old.left) × (new.source_faults ≡ old.source_faults))) where
-  abbrev same_output : (t : List ℕ) → IsText words old.left new.left t → (o : List ℕ) (s : Status) → Output M words t o s → o ≡ out
-  same_output t i o s p = (output_once M words text out o st s output (back t i o s p)).0
+-- memory was wanting before the first byte
+pub no_memory : (s : SinkState) (st : Status) (out : List ℕ) → Ending s s NoMemory st out
+no_memory s st out = inr (inr (refl, nothing_written s out))
 
-  pub ended : Ending old.written new.written old.sink_faults new.sink_faults result st out → Headline words old new result
+cut_ending : (old new : SinkState) (f : Fault) (st : Status) (out : List ℕ) → CutBy old new f out → Ending old new (fault_status f) st out
+cut_ending old new fault.WriteFault st out c = inr (inl (refl, c))
+cut_ending old new fault.NoMemory st out c = inr (inr (refl, c))
+
+abbrev Writes : SinkState → SinkState → Program → Result Bool Fault → Type 0
+Writes old new p r = (out : List ℕ) (stop : Bool) → Queries INFINITY p 1000000 None 1 p.queries out stop → Wrote old new r out
+
+abbrev Tells : Program → Result Bool Fault → Type 0
+Tells p r = (out : List ℕ) (stop : Bool) → Queries INFINITY p 1000000 None 1 p.queries out stop → IfOk r (λ b. b ≡ stop)
+
+-- the answers were written
+pub answered : (old new : SinkState) (p : Program) (r : Result Bool Fault) (b : Bool) → r ≡ Ok b → Writes old new p r → Tells p r → (out : List ℕ) (st : Status) → VerdictOutput INFINITY (model.accepted p) 1000000 None out st → Ending old new (stop_status b) st out
+answered old new p r b e w t out st o =
+    let wrote : WroteAll old new out = subst (λ (q : Result Bool Fault). Wrote old new q out) e (w out o.0 o.1) in
+    let stop : b ≡ o.0 = subst (λ (q : Result Bool Fault). IfOk q (λ c. c ≡ o.0)) e (t out o.0 o.1) in
+    inl (ap stop_status stop ∙ sym o.2, wrote)
+
+-- or were cut short
+pub answers_cut : (old new : SinkState) (p : Program) (r : Result Bool Fault) (f : Fault) → r ≡ Err f → Writes old new p r → (out : List ℕ) (st : Status) → VerdictOutput INFINITY (model.accepted p) 1000000 None out st → Ending old new (fault_status f) st out
+answers_cut old new p r f e w out st o = cut_ending old new f st out (subst (λ (q : Result Bool Fault). Wrote old new q out) e (w out o.0 o.1))
+
+-- a refusal
+pub refused_ending : (old new : SinkState) (result : Status) (place : ℕ) (reason line : List ℕ) → line ≡ refusal place reason → Ending old new result Refused line → (out : List ℕ) (st : Status) → VerdictOutput INFINITY (model.refused place reason) 1000000 None out st → Ending old new result st out
+refused_ending old new result place reason line b e out st o =
+    subst (λ (s : Status). Ending old new result s out) (sym o.1) (subst (Ending old new result Refused) (b ∙ sym o.0) e)
+
+-- ---- verdicts
+
+pub verdict_names : (text : List ℕ) (v : Result Verdict OutOfMemory) → IfOk v (IsVerdictOn text) → IfOk v HasNames
+verdict_names text (Ok v) h = h.names
+verdict_names text (Err e) h = tt
+
+pub verdict_outputs : (text : List ℕ) (v : Result Verdict OutOfMemory) (out : List ℕ) (st : Status) → IfOk v (IsVerdictOn text) → Output INFINITY [] text out st → IfOk v (λ v. VerdictOutput INFINITY (verdict_of v) 1000000 None out st)
+verdict_outputs text (Ok v) out st h o = verdict_output INFINITY text (verdict_of v) out st h.verdict o
+verdict_outputs text (Err e) out st h o = tt
+
+pub large_names : (v : Result Verdict OutOfMemory) → IfOk v (λ v. (pool : Contents) × (v ≡ verdict.Refused max_text TooLarge pool)) → IfOk v HasNames
+large_names (Ok v) h = subst HasNames (sym h.1) tt
+large_names (Err e) h = tt
+
+pub large_verdicts : (text : List ℕ) (v : Result Verdict OutOfMemory) → max_text < length text → IfOk v (λ v. (pool : Contents) × (v ≡ verdict.Refused max_text TooLarge pool)) → IfOk v (IsVerdictOn text)
+large_verdicts text (Ok v) l h = subst (IsVerdictOn text) (sym h.1) (record { names = tt; verdict = large_verdict INFINITY text l })
+large_verdicts text (Err e) l h = tt
+
+-- ---- texts
+
+-- a text that was read to the end
+pub whole_text : (a b : Option (List ℕ)) (text : List ℕ) → Took a b text → IsAtEnd b → IsSome b → a ≡ Some text
+whole_text a None text t e s = absurd (cc (s))
+whole_text a (Some rest) text t e s = t ∙ ap (λ (r : List ℕ). Some (text ++ r)) e ∙ ap Some (append-nil text)
+
+-- a text of which n bytes were read
+pub front_text : (a b : Option (List ℕ)) (n : ℕ) → ReadJust a b n → (text : List ℕ) × (IsSome b → a ≡ Some text) × (n ≤ length text)
+front_text a None n h = (h.0, (λ s. absurd (cc (s))), (let l = h.1 in omega (arith, l)))
+front_text a (Some rest) n h = (h.0 ++ rest, (λ s. h.2), (let l = h.1 in let k = length-append h.0 rest in omega (arith, l, k)))
+
+pub just_front : (a b : Option (List ℕ)) (n : ℕ) → ReadJust a b n → (front : List ℕ) × Took a b front
+just_front a b n h = (h.0, h.2)
+
+pub within_front : (a b : Option (List ℕ)) (n : ℕ) → ReadWithin a b n → (front : List ℕ) × Took a b front
+within_front a b n h = (h.0, h.2)
+
+none_took : (a : Option (List ℕ)) → (front : List ℕ) × Took a a front
+none_took None = ([], tt)
+none_took (Some x) = ([], refl)
+
+-- ---- the headline
+
+abbrev sink_of : Ends → SinkState
+sink_of e = sink_at e.written e.sink_faults
+
+-- the statuses of an output
+decided_stop : (b : Bool) → IsDecided (stop_status b)
+decided_stop true = tt
+decided_stop false = tt
+
+decided_verdict : (v : model.Verdict) (out : List ℕ) (st : Status) → VerdictOutput INFINITY v 1000000 None out st → IsDecided st
+decided_verdict (model.refused place reason) out st o = subst IsDecided (sym o.1) tt
+decided_verdict (model.accepted prog) out st o = subst IsDecided (sym o.2) (decided_stop o.0)
+
+decided_output : (words : List (List ℕ)) (text out : List ℕ) (st : Status) → Output INFINITY words text out st → IsDecided st
+decided_output [] text out st o = decided_verdict o.0 out st o.2
+decided_output (w ∷ ws) text out st o = subst IsDecided (sym o.1) tt
+
+usage_verdict : (v : model.Verdict) (out : List ℕ) (st : Status) → VerdictOutput INFINITY v 1000000 None out st → st ≡ Usage → ⊥
+usage_verdict (model.refused place reason) out st o e = cc (e, o.1)
+usage_verdict (model.accepted prog) out st o e = by_stop o.0 (sym o.2 ∙ e)
+  where
+    by_stop : (b : Bool) → stop_status b ≡ Usage → ⊥
+    by_stop true e = cc
+    by_stop false e = cc
+
+usage_words : (words : List (List ℕ)) (text out : List ℕ) (st : Status) → Output INFINITY words text out st → st ≡ Usage → words ≢ []
+usage_words [] text out st o e n = usage_verdict o.0 out st o.2 e
+usage_words (w ∷ ws) text out st o e n = cc
+
+rose_not : (a b : ℕ) → b ≡ a → a < b → ⊥
+rose_not a b e l = omega arith
+
+-- the last call wrote the output of a text of the run
+module _ (words : List (List ℕ)) (old new : Ends) (result : Status) (text : List ℕ) (out : List ℕ) (st : Status) (output : Output INFINITY words text out st) (is : IsText words old.left new.left text)
+    (kept : new.source_faults ≡ old.source_faults) (rest : (front : List ℕ) × Took old.left new.left front) (whole_read : (result ≡ Done) ⊎ (result ≡ Stopped) → (st ≡ Done) ⊎ (st ≡ Stopped) → IsAtEnd new.left) (same : words ≢ [] → (new.left ≡ old.left) × (new.source_faults ≡ old.source_faults)) where
+  abbrev source_stays : old.source_faults < new.source_faults → ⊥
+  source_stays l = rose_not old.source_faults new.source_faults kept l
+
+  source_after : old.source_faults ≤ new.source_faults
+  source_after = omega (arith, kept)
+
+  decided : IsDecided st
+  decided = decided_output words text out st output
+
+  pub ended : Ending (sink_of old) (sink_of new) result st out → Headline words old new result
   ended (inl h) = record {
-    whole = λ t i d. (out, subst (Output M words t out) (sym h.0) (there t i out st output), h.1);
-    read_fault = λ e. absurd (plain.0 (sym h.0 ∙ e));
-    write_fault = λ e. absurd (plain.1 (sym h.0 ∙ e));
-    cut = λ t o s i p c. absurd (no_pair result WriteFault NoMemory st c h.0 (λ f. plain.1 (sym f)) (λ f. plain.2 (sym f)));
-    no_fault = λ a b. inl (subst IsDecided (sym h.0) (decided_by st plain.0 plain.1 plain.2));
-    usage_only = λ e. for_words.0 (sym h.0 ∙ e);
-    untouched = λ n. for_words.1 n;
-    read_whole = λ c. whole_text (elim c [ inl e ↦ inl (sym h.0 ∙ e) | inr e ↦ inr (sym h.0 ∙ e) ]);
+    whole = λ d. (text, out, st, is, output, (sym h.0, h.1.put));
+    cut = λ c. absurd (elim c [ inl e ↦ subst IsDecided (sym h.0 ∙ e) decided | inr e ↦ subst IsDecided (sym h.0 ∙ e) decided ]);
+    read_fault = λ e. absurd (subst IsDecided (sym h.0 ∙ e) decided);
+    read_told = λ l. absurd (source_stays l);
+    write_fault = λ e. absurd (subst IsDecided (sym h.0 ∙ e) decided);
+    write_told = λ l. absurd (rose_not old.sink_faults new.sink_faults h.1.faults l);
+    no_fault = λ a b. inl (subst IsDecided (sym h.0) decided);
+    source_later = source_after;
+    sink_later = (let f = h.1.faults in omega (arith, f));
+    rest = rest;
+    usage_only = λ e. usage_words words text out st output (sym h.0 ∙ e);
+    untouched = same;
+    read_whole = λ c. whole_read c (elim c [ inl e ↦ inl (sym h.0 ∙ e) | inr e ↦ inr (sym h.0 ∙ e) ]);
   }
   ended (inr (inl h)) = record {
-    whole = λ t i d. absurd (subst IsDecided h.0 d);
+    whole = λ d. absurd (subst IsDecided h.0 d);
+    cut = λ c. (text, out, st, is, output, h.1.put);
     read_fault = λ e. absurd (cc (e, h.0));
-    write_fault = λ e. h.2;
-    cut = λ t o s i p c. subst (PutPart old.written new.written) (sym (same_output t i o s p)) h.1;
-    no_fault = λ a b. absurd (b h.2);
+    read_told = λ l. absurd (source_stays l);
+    write_fault = λ e. h.1.rose;
+    write_told = λ l. h.0;
+    no_fault = λ a b. absurd (b h.1.rose);
+    source_later = source_after;
+    sink_later = h.1.later;
+    rest = rest;
     usage_only = λ e. absurd (cc (e, h.0));
-    untouched = λ n. for_words.1 n;
-    read_whole = λ c. absurd (no_pair result Done Stopped WriteFault c h.0 (λ f. cc) (λ f. cc));
+    untouched = same;
+    read_whole = λ c. absurd (elim c [ inl e ↦ (let f : Done ≡ WriteFault = sym e ∙ h.0 in cc) | inr e ↦ (let f : Stopped ≡ WriteFault = sym e ∙ h.0 in cc) ]);
   }
   ended (inr (inr h)) = record {
-    whole = λ t i d. absurd (subst IsDecided h.0 d);
+    whole = λ d. absurd (subst IsDecided h.0 d);
+    cut = λ c. (text, out, st, is, output, h.1.put);
     read_fault = λ e. absurd (cc (e, h.0));
+    read_told = λ l. absurd (source_stays l);
     write_fault = λ e. absurd (cc (e, h.0));
-    cut = λ t o s i p c. subst (PutPart old.written new.written) (sym (same_output t i o s p)) h.1;
+    write_told = λ l. absurd (rose_not old.sink_faults new.sink_faults h.1.faults l);
     no_fault = λ a b. inr h.0;
+    source_later = source_after;
+    sink_later = (let f = h.1.faults in omega (arith, f));
+    rest = rest;
     usage_only = λ e. absurd (cc (e, h.0));
-    untouched = λ n. for_words.1 n;
-    read_whole = λ c. absurd (no_pair result Done Stopped NoMemory c h.0 (λ f. cc) (λ f. cc));
+    untouched = same;
+    read_whole = λ c. absurd (elim c [ inl e ↦ (let f : Done ≡ NoMemory = sym e ∙ h.0 in cc) | inr e ↦ (let f : Stopped ≡ NoMemory = sym e ∙ h.0 in cc) ]);
   }
 
 -- refused words
-pub with_words : (words : List (List ℕ)) (old new : Ends) (result : Status) → words ≢ [] → new.left ≡ old.left → new.source_faults ≡ old.source_faults → Ending old.written new.written old.sink_faults new.sink_faults result Usage usage → Headline words old new result
+pub with_words : (words : List (List ℕ)) (old new : Ends) (result : Status) → words ≢ [] → new.left ≡ old.left → new.source_faults ≡ old.source_faults → Ending (sink_of old) (sink_of new) result Usage usage → Headline words old new result
 with_words [] old new result some same count h = absurd (some refl)
 with_words (w ∷ ws) old new result some same count h =
-    ended (w ∷ ws) old new result [] usage Usage (refl, refl) (λ t i o s p. p) (λ t i o s p. p) ((λ e. cc), (λ e. cc), (λ e. cc)) (λ c. elim c [ inl e ↦ absurd (cc) | inr e ↦ absurd (cc) ]) ((λ e. some), (λ n. (same, count))) h
-
--- the statuses of a text's output
-abbrev IsTexts : Status → Type 0
-IsTexts Done = Unit {0}
-IsTexts Usage = ⊥
-IsTexts Refused = Unit {0}
-IsTexts Stopped = Unit {0}
-IsTexts ReadFault = ⊥
-IsTexts WriteFault = ⊥
-IsTexts NoMemory = ⊥
-
-stop_texts : (b : Bool) → IsTexts (stop_status b)
-stop_texts true = tt
-stop_texts false = tt
-
-verdict_texts : (v : Verdict) (out : List ℕ) (st : Status) → VerdictOutput M v 1000000 None out st → IsTexts st
-verdict_texts (refused place reason) out st o = subst IsTexts (sym o.1) tt
-verdict_texts (accepted prog) out st o = subst IsTexts (sym o.2) (stop_texts o.0)
-
-output_texts : (text out : List ℕ) (st : Status) → Output M [] text out st → IsTexts st
-output_texts text out st o = verdict_texts o.0 out st o.2
-
-not_this : (st s : Status) → IsTexts st → (IsTexts s → ⊥) → st ≡ s → ⊥
-not_this st s h f e = f (subst IsTexts e h)
-
-same_text : (words : List (List ℕ)) (t items : List ℕ) → t ≡ items → (o : List ℕ) (s : Status) → Output M words items o s → Output M words t o s
-same_text words t items e o s p = subst (λ x. Output M words x o s) (sym e) p
+    ended (w ∷ ws) old new result [] usage Usage (refl, refl) tt count (subst (λ (l : Option (List ℕ)). (front : List ℕ) × Took old.left l front) (sym same) (none_took old.left))
+    (λ r c. absurd (elim c [ inl e ↦ (let f : Usage ≡ Done = e in cc) | inr e ↦ (let f : Usage ≡ Stopped = e in cc) ])) (λ n. (same, count)) h
 
 -- the text was read, and its output written
-pub with_read : (words : List (List ℕ)) (old new : Ends) (result : Status) (items : List ℕ) → words ≡ [] → Took old.left new.left items → IsAtEnd new.left
-    → ((out : List ℕ) (st : Status) → Output M [] items out st → Ending old.written new.written old.sink_faults new.sink_faults result st out) → Headline words old new result
-with_read words old new result items none took end ending =
-    let one = one_output M [] items in
-    let texts = output_texts items one.0 one.1 one.2 in
-    subst (λ ws. Headline ws old new result) (sym none)
-    (ended [] old new result items one.0 one.1 one.2
-    (λ t i o s p. same_text [] t items (sym (text_is_left old.left new.left t items i.0 i.1 took end)) o s p)
-    (λ t i o s p. same_text [] items t (text_is_left old.left new.left t items i.0 i.1 took end) o s p)
-    (not_this one.1 ReadFault texts (λ b. b), not_this one.1 WriteFault texts (λ b. b), not_this one.1 NoMemory texts (λ b. b))
-    (λ c. end)
-    ((λ e. absurd (not_this one.1 Usage texts (λ b. b) e)), (λ n. absurd (n refl)))
-    (ending one.0 one.1 one.2))
-
-large_same : (t piece : List ℕ) → max_text < length t → max_text < length piece → (o : List ℕ) (s : Status) → Output M [] piece o s → Output M [] t o s
-large_same t piece h g o s p =
-    let once = output_once M [] piece (refusal max_text (codes "too large")) o Refused s (large_output M piece g) p in
-    subst (λ x. Output M [] t x s) (sym once.0) (subst (λ x. Output M [] t (refusal max_text (codes "too large")) x) (sym once.1) (large_output M t h))
+pub with_read : (words : List (List ℕ)) (old new : Ends) (result : Status) (text : List ℕ) → words ≡ [] → Took old.left new.left text → IsAtEnd new.left → new.source_faults ≡ old.source_faults
+    → ((out : List ℕ) (st : Status) → Output INFINITY [] text out st → Ending (sink_of old) (sink_of new) result st out) → Headline words old new result
+with_read words old new result text none took end count h =
+    let one = one_output INFINITY [] text in
+    subst (λ (ws : List (List ℕ)). Headline ws old new result) (sym none)
+    (ended [] old new result text one.0 one.1 one.2 (λ s. whole_text old.left new.left text took end s) count (text, took) (λ r c. end) (λ n. absurd (n refl)) (h one.0 one.1 one.2))
 
 -- the text was too large
-pub with_large : (words : List (List ℕ)) (old new : Ends) (result : Status) → words ≡ [] → ReadJust old.left new.left (max_text + 1) → Ending old.written new.written old.sink_faults new.sink_faults result Refused (refusal max_text (codes "too large")) → Headline words old new result
-with_large words old new result none just ending =
-    let long : max_text < length just.0 = omega (arith, just.1) in
-    let left : (t : List ℕ) → old.left ≡ Some t → IsSome new.left → max_text < length t = λ t e h. let k : max_text + 1 ≤ length t = just_was_left old.left new.left (max_text + 1) t e h just in omega (arith, k) in
-    subst (λ ws. Headline ws old new result) (sym none)
-    (ended [] old new result just.0 (refusal max_text (codes "too large")) Refused (large_output M just.0 long)
-    (λ t i o s p. large_same t just.0 (left t i.0 i.1) long o s p)
-    (λ t i o s p. large_same just.0 t long (left t i.0 i.1) o s p)
-    ((λ e. cc), (λ e. cc), (λ e. cc)) (λ c. elim c [ inl e ↦ absurd (cc) | inr e ↦ absurd (cc) ]) ((λ e. absurd (cc)), (λ n. absurd (n refl))) ending)
+pub with_large : (words : List (List ℕ)) (old new : Ends) (result : Status) → words ≡ [] → ReadJust old.left new.left (max_text + 1) → new.source_faults ≡ old.source_faults
+    → ((text : List ℕ) → max_text < length text → (out : List ℕ) (st : Status) → Output INFINITY [] text out st → Ending (sink_of old) (sink_of new) result st out) → Headline words old new result
+with_large words old new result none read count h =
+    let text = front_text old.left new.left (max_text + 1) read in
+    let long : max_text < length text.0 = (let l = text.2 in omega (arith, l)) in
+    let output = large_output INFINITY text.0 long in
+    subst (λ (ws : List (List ℕ)). Headline ws old new result) (sym none)
+    (ended [] old new result text.0 (refusal max_text (codes "too large")) Refused output text.1 count (just_front old.left new.left (max_text + 1) read)
+    (λ r c. absurd (elim c [ inl e ↦ (let f : Refused ≡ Done = e in cc) | inr e ↦ (let f : Refused ≡ Stopped = e in cc) ])) (λ n. absurd (n refl))
+    (h text.0 long (refusal max_text (codes "too large")) Refused output))
 
 -- reading failed
-pub with_fault : (words : List (List ℕ)) (old new : Ends) → words ≡ [] → new.written ≡ old.written → Rose old.source_faults new.source_faults → Headline words old new ReadFault
-with_fault words old new none same rose = record {
-  whole = λ t i d. absurd d;
-  read_fault = λ e. (rose, subst (λ w. Put old.written w []) (sym same) (put_none old.written));
-  write_fault = λ e. absurd (cc);
-  cut = λ t o s i p c. absurd (no_pair ReadFault WriteFault NoMemory ReadFault c refl (λ f. cc) (λ f. cc));
-  no_fault = λ a b. absurd (a rose);
-  usage_only = λ e. absurd (cc);
-  untouched = λ n. absurd (n none);
-  read_whole = λ c. absurd (no_pair ReadFault Done Stopped ReadFault c refl (λ f. cc) (λ f. cc));
-}
+pub with_fault : (words : List (List ℕ)) (old new : Ends) → words ≡ [] → sink_of new ≡ sink_of old → ReadWithin old.left new.left max_text → Rose old.source_faults new.source_faults → old.source_faults ≤ new.source_faults → Headline words old new ReadFault
+with_fault words old new none same read rose later =
+    let put : Put old.written new.written [] = subst (λ (s : SinkState). Put old.written s.written []) (sym same) (put_none old.written) in
+    let faults : new.sink_faults ≡ old.sink_faults = ap (λ (s : SinkState). s.faults) same in
+    record {
+      whole = λ d. absurd d;
+      cut = λ c. absurd (elim c [ inl e ↦ (let f : ReadFault ≡ WriteFault = e in cc) | inr e ↦ (let f : ReadFault ≡ NoMemory = e in cc) ]);
+      read_fault = λ e. (rose, put);
+      read_told = λ l. refl;
+      write_fault = λ e. absurd (cc);
+      write_told = λ l. absurd (rose_not old.sink_faults new.sink_faults faults l);
+      no_fault = λ a b. absurd (a rose);
+      source_later = later;
+      sink_later = omega (arith, faults);
+      rest = within_front old.left new.left max_text read;
+      usage_only = λ e. absurd (cc);
+      untouched = λ n. absurd (n none);
+      read_whole = λ c. absurd (elim c [ inl e ↦ (let f : ReadFault ≡ Done = e in cc) | inr e ↦ (let f : ReadFault ≡ Stopped = e in cc) ]);
+    }
+
+left_text : (a b : Option (List ℕ)) (front : List ℕ) → Took a b front → (text : List ℕ) × (IsSome b → a ≡ Some text)
+left_text a None front t = ([], λ s. absurd (cc (s)))
+left_text a (Some rest) front t = (front ++ rest, λ s. t)
 
 -- memory was wanting while reading
-pub with_memory : (words : List (List ℕ)) (old new : Ends) → words ≡ [] → new.written ≡ old.written → Headline words old new NoMemory
-with_memory words old new none same = record {
-  whole = λ t i d. absurd d;
-  read_fault = λ e. absurd (cc);
-  write_fault = λ e. absurd (cc);
-  cut = λ t o s i p c. part_none old.written new.written o (subst (λ w. Put old.written w []) (sym same) (put_none old.written));
-  no_fault = λ a b. inr refl;
-  usage_only = λ e. absurd (cc);
-  untouched = λ n. absurd (n none);
-  read_whole = λ c. absurd (no_pair NoMemory Done Stopped NoMemory c refl (λ f. cc) (λ f. cc));
-}
+pub with_memory : (words : List (List ℕ)) (old new : Ends) → words ≡ [] → sink_of new ≡ sink_of old → ReadWithin old.left new.left max_text → new.source_faults ≡ old.source_faults → Headline words old new NoMemory
+with_memory words old new none same read count =
+    let front = within_front old.left new.left max_text read in
+    let text = left_text old.left new.left front.0 front.1 in
+    let one = one_output INFINITY [] text.0 in
+    subst (λ (ws : List (List ℕ)). Headline ws old new NoMemory) (sym none)
+    (ended [] old new NoMemory text.0 one.0 one.1 one.2 text.1 count front (λ r c. absurd (elim r [ inl e ↦ (let f : NoMemory ≡ Done = e in cc) | inr e ↦ (let f : NoMemory ≡ Stopped = e in cc) ])) (λ n. absurd (n refl))
+    (subst (λ (s : SinkState). Ending (sink_of old) s NoMemory one.1 one.0) (sym same) (no_memory (sink_of old) one.1 one.0)))
 
 pub no_words : (xs : List (String Global)) → true ≡ (length xs == 0) → map string_bytes xs ≡ []
 no_words [] h = refl
@@ -175,60 +258,3 @@ no_words (x ∷ xs) h = absurd (omega (arith, eqb-true (length (x ∷ xs)) 0 (sy
 pub some_words : (xs : List (String Global)) → false ≡ (length xs == 0) → map string_bytes xs ≢ []
 some_words [] h e = absurd (true≢false (sym h))
 some_words (x ∷ xs) h e = cc
-
--- a text that is refused
-pub refused_ending : (a b : Option (List ℕ)) (x y : ℕ) (result : Status) (place : ℕ) (reason : List ℕ) → Ending a b x y result Refused (refusal place reason) → EndsAs a b x y result (refused place reason)
-refused_ending a b x y result place reason e out st o = subst (λ s. Ending a b x y result s out) (sym o.1) (subst (λ p. Ending a b x y result Refused p) (sym o.0) e)
-
--- memory was wanting, and nothing was written
-pub no_memory : (a : Option (List ℕ)) (x y : ℕ) (result : Status) (v : Verdict) → result ≡ NoMemory → EndsAs a a x y result v
-no_memory a x y result v e out st o = inr (inr (e, part_none a a out (put_none a)))
-
--- bytes that are no text
-pub bytes_ending : (text : List ℕ) → length text ≤ max_text → (IsUtf8 text → ⊥) → (a b : Option (List ℕ)) (x y : ℕ) (result : Status) → Ending a b x y result Refused (refusal (utf8_valid_len text) (codes "not UTF-8"))
-    → (out : List ℕ) (st : Status) → Output M [] text out st → Ending a b x y result st out
-bytes_ending text h u a b x y result e out st o =
-    refused_ending a b x y result (utf8_valid_len text) (codes "not UTF-8") e out st (verdict_output M text (refused (utf8_valid_len text) (codes "not UTF-8")) out st (bytes_verdict M text h u) o)
-
--- a text that is read so
-pub read_ending : (text : List ℕ) → length text ≤ max_text → IsUtf8 text → (r : Reading) → IsReading text r → (a b : Option (List ℕ)) (x y : ℕ) (result : Status) → EndsAs a b x y result (reading_verdict M r)
-    → (out : List ℕ) (st : Status) → Output M [] text out st → Ending a b x y result st out
-read_ending text h u r i a b x y result e out st o = e out st (verdict_output M text (reading_verdict M r) out st (read_verdict M text r h u i) o)
-
--- the terms of the sentences
-same_terms : (s : Sentences) (xs : List code.Sentence) → map (λ x. x.term) (map (sentence_of s.pool) xs) ≡ map (λ x. placed_of s.pool x.term) xs
-same_terms s [] = refl
-same_terms s (x ∷ xs) = ap (λ l. placed_of s.pool x.term ∷ l) (same_terms s xs)
-
-pub terms_are : (s : Sentences) → map (λ x. x.term) (sentences_of s) ≡ terms_of s
-terms_are s = same_terms s s.list.items
-
-refusal_is : (s : Sentences) (o : Option Refusal) → first_refusal M (terms_of s) (terms_of s) ≡ o → reading_verdict M (sentences (sentences_of s)) ≡ sentences_verdict (sentences_of s) o
-refusal_is s o e = ap (sentences_verdict (sentences_of s)) (ap (λ ts. first_refusal M ts ts) (terms_are s) ∙ e)
-
-pub sentence_ending : (s : Sentences) (r : Refusal) → first_refusal M (terms_of s) (terms_of s) ≡ Some r → (a b : Option (List ℕ)) (x y : ℕ) (result : Status) → Ending a b x y result Refused (refusal r.place r.reason)
-    → EndsAs a b x y result (reading_verdict M (sentences (sentences_of s)))
-sentence_ending s r e a b x y result h = subst (EndsAs a b x y result) (sym (refusal_is s (Some r) e)) (refused_ending a b x y result r.place r.reason h)
-
--- the answers were written
-pub accepted_ending : (text : List ℕ) (s : Sentences) → IsReading text (sentences (sentences_of s)) → first_refusal M (terms_of s) (terms_of s) ≡ None → (a b : Option (List ℕ)) (x y : ℕ) (result : Status)
-    → Ending a b x y result (stop_status (sentences_stop M 1000000 (sentences_of s))) (sentences_output M 1000000 1 (sentences_of s)) → EndsAs a b x y result (reading_verdict M (sentences (sentences_of s)))
-accepted_ending text s i e a b x y result h =
-    subst (EndsAs a b x y result) (sym (refusal_is s None e))
-    (λ out st o.
-    let queries = accepted_queries M text (sentences_of s) i (ap (λ ts. first_refusal M ts ts) (terms_are s) ∙ e) in
-    let once = accepted_once M (program_of (sentences_of s)) 1000000 1 (sentences_of s) out o.0 queries o.1 in
-    subst (λ t. Ending a b x y result t out) (sym (o.2 ∙ ap stop_status once.1))
-    (subst (λ p. Ending a b x y result (stop_status (sentences_stop M 1000000 (sentences_of s))) p) (sym once.0) h))
-
--- how the writing of all queries ends
-pub stopped_ending : (a b : Option (List ℕ)) (x y : ℕ) (r : Result Bool Fault) (stop : Bool) (out : List ℕ) (b1 : Bool) → r ≡ Ok b1 → Wrote a b x y r out → b1 ≡ stop → Ending a b x y (stop_status b1) (stop_status stop) out
-stopped_ending a b x y r stop out b1 e w s = inl (ap stop_status s, subst (λ (q : Result Bool Fault). Wrote a b x y q out) e w)
-
--- a fault's status
-pub fault_ending : {A : Type 0} (a b : Option (List ℕ)) (x y : ℕ) (r : Result A Fault) (f : Fault) (st : Status) (out : List ℕ) → r ≡ Err f → Wrote a b x y r out → Ending a b x y (fault_status f) st out
-fault_ending {A} a b x y r f st out e w = by_fault f (subst (λ (q : Result A Fault). Wrote a b x y q out) e w)
-  where
-    by_fault : (f : Fault) → PutPart a b out × (f ≡ fault.WriteFault → Rose x y) → Ending a b x y (fault_status f) st out
-    by_fault fault.WriteFault c = inr (inl (refl, c.0, c.1 refl))
-    by_fault fault.NoMemory c = inr (inr (refl, c.0))

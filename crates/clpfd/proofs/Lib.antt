@@ -1,28 +1,5 @@
-pub mod Accepted
-pub mod AcceptedRuns
-pub mod AcceptedSentences
-pub mod Answering
-pub mod ConstantBranches
-pub mod ConstantRanges
-pub mod ConstantRuns
-pub mod ConstantSets
-pub mod ConstantSteps
-pub mod ConstantTexts
-pub mod Endings
-pub mod Functors
-pub mod GoalLists
-pub mod Joining
-pub mod Narrowing
-pub mod OneOutput
-pub mod Outputs
-pub mod PostedGoals
-pub mod RangeSets
-pub mod RangeVariables
-pub mod SentenceLists
-pub mod SetRuns
-pub mod Solving
-pub mod SpanIntervals
-pub mod TermShapes
-pub mod Variables
-pub mod WidePlaces
-pub mod Written
+mod OneOutput
+mod Written
+mod Judging
+mod Events
+mod Endings

@@ -1,5 +1,5 @@
 -- There is exactly one output for words and a text.
-use Rattle.std.proofs.Common.{◌≡◌, ℕ, ◌<◌, ◌≤◌, List, [], ◌∷◌, length, map, false, Option, Some, None, refl, ap, sym, ◌∙◌, subst, inl, inr, ◌⊎◌, arith, codes}
+use Rattle.std.proofs.Common.{◌≡◌, ℕ, ◌+◌, ◌<◌, ◌≤◌, Bool, List, [], ◌∷◌, ◌++◌, length, map, false, Option, Some, None, refl, ap, sym, ◌∙◌, subst, inl, inr, ◌⊎◌, arith, codes, decimal}
 use Rattle.std.specs.Str.{IsUtf8, is_utf8}
 use Rattle.std.specs.Str.Lossy.{utf8_valid_len}
 use Rattle.std.proofs.lemmas.Bool.{cases_Bool, cases_lt, true≢false}
@@ -10,13 +10,17 @@ use Rattle.fd_language.specs.Reading.{Sentence, Reading, sentences, token_fault,
 use Rattle.fd_model.specs.Refusals.{Refusal, first_refusal}
 use Rattle.fd_model.specs.Queries.{program_of}
 use Rattle.fd_model.specs.Verdict.{Verdict, accepted, refused, max_text, cause_name, sentences_verdict, reading_verdict, IsVerdict}
-use Rattle.fd_model.specs.Output.{Output, VerdictOutput, refusal, usage, stop_status}
+use Rattle.fd_model.specs.Output.{Output, Queries, VerdictOutput, refusal, usage, is_stop, or_stop, stop_status}
+use Rattle.fd_model.specs.Lines.{line, events_bytes}
+use Rattle.fd_model.specs.Goal.{Event, Program, Query, start_of}
+use Rattle.fd_model.specs.Run.{Run}
+use Rattle.fd_model.specs.Sound.{QueriesRunnable, IsRunnableProgram}
 use Rattle.fd_model.proofs.Lemmas.{queries_once}
+use Rattle.fd_model.proofs.Existence.{one_run}
+use Rattle.fd_model.proofs.Runnable.{accepted_runnable}
 use Rattle.fd_language.proofs.Lemmas.{one_verdict_of_reading}
 use Rattle.term_reader.proofs.Readable.{each_is_read}
 use Rattle.clpfd.specs.OneOutput.{OneOutput}
-use Rattle.clpfd.specs.QueryOutputs.{sentences_output, sentences_stop}
-use Rattle.clpfd.proofs.AcceptedRuns.{accepted_queries, accepted_run}
 
 -- Each text has a verdict, and it is one.
 pub large_verdict : (M : ℕ) (text : List ℕ) → max_text < length text → IsVerdict M text (refused max_text (codes "too large"))
@@ -28,7 +32,7 @@ bytes_verdict M text h u = inr (inl (h, u, refl))
 pub read_verdict : (M : ℕ) (text : List ℕ) (r : Reading) → length text ≤ max_text → IsUtf8 text → IsReading text r → IsVerdict M text (reading_verdict M r)
 read_verdict M text r h u i = inr (inr (h, u, (r, i, refl)))
 
-one_verdict : (M : ℕ) (text : List ℕ) (v w : Verdict) → IsVerdict M text v → IsVerdict M text w → v ≡ w
+pub one_verdict : (M : ℕ) (text : List ℕ) (v w : Verdict) → IsVerdict M text v → IsVerdict M text w → v ≡ w
 one_verdict M text v w (inl a) (inl b) = a.1 ∙ sym b.1
 one_verdict M text v w (inl a) (inr (inl b)) = absurd (let x = a.0 in let y = b.0 in omega arith)
 one_verdict M text v w (inl a) (inr (inr b)) = absurd (let x = a.0 in let y = b.0 in omega arith)
@@ -63,16 +67,26 @@ bytes_output M text h u = (refused (utf8_valid_len text) (codes "not UTF-8"), by
 abbrev HasOutput : ℕ → Verdict → Type 0
 HasOutput M v = (out : List ℕ) × (st : Status) × VerdictOutput M v 1000000 None out st
 
-pub accepted_has : (M : ℕ) (text : List ℕ) (ss : List Sentence) → IsSentences text ss → first_refusal M (map (λ s. s.term) ss) (map (λ s. s.term) ss) ≡ None
-    → VerdictOutput M (accepted (program_of ss)) 1000000 None (sentences_output M 1000000 1 ss) (stop_status (sentences_stop M 1000000 ss))
-accepted_has M text ss i e = (sentences_stop M 1000000 ss, accepted_run M (program_of ss) 1000000 1 ss (accepted_queries M text ss i e), refl)
+-- queries that can run have an output
+queries_have : (M : ℕ) (prog : Program) (n : ℕ) (qs : List Query) → IsRunnableProgram M prog → QueriesRunnable M qs → (out : List ℕ) × (stop : Bool) × Queries M prog 1000000 None n qs out stop
+queries_have M prog n [] r g = ([], false, (refl, refl))
+queries_have M prog n (q ∷ qs) r g =
+    let here = one_run M prog q 1000000 None r g.0 tt in
+    let later = queries_have M prog (n + 1) qs r g.1 in
+    (line (codes "query " ++ decimal n) ++ (events_bytes here.0 ++ later.0), or_stop (is_stop here.0) later.1, (here.0, here.1, later.0, later.1, here.2, later.2, refl, refl))
 
-by_refusal : (M : ℕ) (text : List ℕ) (ss : List Sentence) → IsSentences text ss → (o : Option Refusal) → first_refusal M (map (λ s. s.term) ss) (map (λ s. s.term) ss) ≡ o → HasOutput M (sentences_verdict ss o)
-by_refusal M text ss i None e = (sentences_output M 1000000 1 ss, stop_status (sentences_stop M 1000000 ss), accepted_has M text ss i e)
-by_refusal M text ss i (Some r) e = (refusal r.place r.reason, Refused, (refl, refl))
+accepted_has : (M : ℕ) (ss : List Sentence) → first_refusal M (map (λ s. s.term) ss) (map (λ s. s.term) ss) ≡ None → HasOutput M (accepted (program_of ss))
+accepted_has M ss e =
+    let runs = accepted_runnable M (map (λ s. s.term) ss) ss e in
+    let have = queries_have M (program_of ss) 1 (program_of ss).queries runs runs.queries in
+    (have.0, stop_status have.1, (have.1, have.2, refl))
+
+by_refusal : (M : ℕ) (ss : List Sentence) → (o : Option Refusal) → first_refusal M (map (λ s. s.term) ss) (map (λ s. s.term) ss) ≡ o → HasOutput M (sentences_verdict ss o)
+by_refusal M ss None e = accepted_has M ss e
+by_refusal M ss (Some r) e = (refusal r.place r.reason, Refused, (refl, refl))
 
 reading_has : (M : ℕ) (text : List ℕ) (r : Reading) → IsReading text r → HasOutput M (reading_verdict M r)
-reading_has M text (sentences ss) i = by_refusal M text ss i (first_refusal M (map (λ s. s.term) ss) (map (λ s. s.term) ss)) refl
+reading_has M text (sentences ss) i = by_refusal M ss (first_refusal M (map (λ s. s.term) ss) (map (λ s. s.term) ss)) refl
 reading_has M text (token_fault cause place) i = (refusal place (cause_name cause), Refused, (refl, refl))
 reading_has M text (syntax_fault place) i = (refusal place (codes "syntax"), Refused, (refl, refl))
 reading_has M text (too_deep place) i = (refusal place (codes "too deep"), Refused, (refl, refl))

@@ -1,24 +1,56 @@
 -- Pieces written one after another, until a fault.
-use Rattle.std.proofs.Common.{◌≡◌, ℕ, ◌≤◌, List, ◌++◌, Option, Result, Ok, Err, sym, subst}
+use Rattle.std.proofs.Common.{◌≡◌, ℕ, ◌<◌, ◌≤◌, List, [], ◌++◌, Option, Result, Ok, Err, refl, sym, ◌∙◌, subst, arith, inl, inr, ◌⊎◌}
+use Rattle.std.proofs.lemmas.Bool.{cases_lt}
 use Rattle.byte_ports.specs.Ports.{Put, PutPart, Rose}
-use Rattle.byte_ports.proofs.Pieces.{put_none, put_more, part_none, part_longer, part_more, rose_since}
+use Rattle.byte_ports.proofs.Pieces.{put_none, put_more, part_none, part_longer, part_more, part_of_more}
 use Rattle.clpfd.specs.declared.fault.Fault.{Fault}
 use Rattle.clpfd.specs.declared.fault.Fault.TheVariants as fault
-use Rattle.clpfd.specs.Headline.{Wrote}
+use Rattle.clpfd.specs.Endings.{SinkState, WroteAll, WroteFront, WrotePart, CutBy, Wrote}
 
--- what a fault leaves
-abbrev pub Cut : Option (List ℕ) → Option (List ℕ) → ℕ → ℕ → Fault → List ℕ → Type 0
-Cut a b x y e p = PutPart a b p × (e ≡ fault.WriteFault → Rose x y)
+-- a count that never falls and didn't rise
+pub stays : (a b : ℕ) → a ≤ b → (a < b → ⊥) → b ≡ a
+stays a b l n = pick (cases_lt a b)
+  where
+    pick : (a < b) ⊎ (b ≤ a) → b ≡ a
+    pick (inl h) = absurd (n h)
+    pick (inr h) = omega arith
 
--- memory was wanting before the piece
-pub wrote_none : {A : Type 0} (a : Option (List ℕ)) (x : ℕ) (p : List ℕ) (r : Result A Fault) → r ≡ Err fault.NoMemory → Wrote a a x x r p
-wrote_none a x p r e = subst (λ s. Wrote a a x x s p) (sym e) (part_none a a p (put_none a), λ k. absurd (cc))
+-- nothing was written
+pub wrote_nothing : (a : SinkState) → WroteAll a a []
+wrote_nothing a = record { put = put_none a.written; faults = refl }
+
+-- a piece behind another
+pub all_then : (a b c : SinkState) (p q : List ℕ) → WroteAll a b p → WroteAll b c q → WroteAll a c (p ++ q)
+all_then a b c p q h g = record { put = put_more a.written b.written c.written p q h.put g.put; faults = g.faults ∙ h.faults }
+
+rose_with : (a b c : ℕ) → b ≡ a → Rose b c → Rose a c
+rose_with a b c e h = subst (λ (n : ℕ). Rose n c) e h
+
+-- a front of a piece behind another
+pub cut_then : (a b c : SinkState) (p q : List ℕ) (e : Fault) → WroteAll a b p → CutBy b c e q → CutBy a c e (p ++ q)
+cut_then a b c p q fault.WriteFault h g = record {
+  put = part_more a.written b.written c.written p q h.put g.put;
+  rose = rose_with a.faults b.faults c.faults h.faults g.rose;
+  later = subst (λ (n : ℕ). n ≤ c.faults) h.faults g.later;
+}
+cut_then a b c p q fault.NoMemory h g = record { put = part_more a.written b.written c.written p q h.put g.put; faults = g.faults ∙ h.faults }
 
 -- a piece that was cut short is a cut of what begins with it
-pub wrote_cut : {A : Type 0} (a b : Option (List ℕ)) (x y : ℕ) (p q : List ℕ) (s : Result A Fault) (e : Fault) → s ≡ Err e → Cut a b x y e p → Wrote a b x y s (p ++ q)
-wrote_cut a b x y p q s e g w = subst (λ t. Wrote a b x y t (p ++ q)) (sym g) (part_longer a b p q w.0, w.1)
+pub cut_longer : (a b : SinkState) (p q : List ℕ) (e : Fault) → CutBy a b e p → CutBy a b e (p ++ q)
+cut_longer a b p q fault.WriteFault h = record { put = part_longer a.written b.written p q h.put; rose = h.rose; later = h.later }
+cut_longer a b p q fault.NoMemory h = record { put = part_longer a.written b.written p q h.put; faults = h.faults }
 
--- a whole piece, and one behind it
-pub wrote_then : {A : Type 0} (a b c : Option (List ℕ)) (x y z : ℕ) (r : Result A Fault) (p q : List ℕ) → Put a b p → x ≤ y → Wrote b c y z r q → Wrote a c x z r (p ++ q)
-wrote_then a b c x y z (Ok u) p q h l w = put_more a b c p q h w
-wrote_then a b c x y z (Err f) p q h l w = (part_more a b c p q h w.0, λ k. rose_since x y z l (w.1 k))
+-- memory was wanting behind a piece
+pub cut_here : (a b : SinkState) (p q : List ℕ) → WroteAll a b p → WrotePart a b (p ++ q)
+cut_here a b p q h = record { put = part_of_more a.written b.written p q h.put; faults = h.faults }
+
+-- of a result
+pub wrote_cut : {A : Type 0} (a b : SinkState) (r : Result A Fault) (e : Fault) (p : List ℕ) → r ≡ Err e → CutBy a b e p → Wrote a b r p
+wrote_cut {A} a b r e p is h = subst (λ (s : Result A Fault). Wrote a b s p) (sym is) h
+
+pub wrote_short : {A : Type 0} (a b : SinkState) (r : Result A Fault) (p q : List ℕ) → r ≡ Err fault.NoMemory → WroteAll a b p → Wrote a b r (p ++ q)
+wrote_short {A} a b r p q is h = wrote_cut a b r fault.NoMemory (p ++ q) is (cut_here a b p q h)
+
+pub wrote_then : {A : Type 0} (a b c : SinkState) (r : Result A Fault) (p q : List ℕ) → WroteAll a b p → Wrote b c r q → Wrote a c r (p ++ q)
+wrote_then a b c (Ok u) p q h g = all_then a b c p q h g
+wrote_then a b c (Err e) p q h g = cut_then a b c p q e h g

@@ -1,16 +1,10 @@
 -- The headline: what a run writes, how it ends, and what stays as it was.
-use Rattle.std.specs.Prelude.{◌≡◌, ◌≢◌, ◌⊎◌, ℕ, List, [], ◌∷◌, Option, Some, None, IsSome, Result, MatchResult}
+use Rattle.std.specs.Prelude.{◌≡◌, ◌≢◌, ◌<◌, ◌≤◌, ◌⊎◌, ℕ, List, [], ◌∷◌, Option, Some, IsSome}
+use Rattle.fd_language.specs.declared.TheConstants.{INFINITY}
 use Rattle.fd_model.specs.declared.Status.{Status}
 use Rattle.fd_model.specs.declared.Status.TheVariants.{Done, Usage, Refused, Stopped, ReadFault, WriteFault, NoMemory}
-use Rattle.fd_model.specs.Output.{Output, VerdictOutput}
-use Rattle.fd_model.specs.Verdict.{Verdict}
-use Rattle.clpfd.specs.declared.fault.Fault.{Fault}
-use Rattle.clpfd.specs.declared.fault.Fault.TheVariants as fault
-use Rattle.byte_ports.specs.Ports.{Put, PutPart, Rose, IsAtEnd}
-
--- the greatest number of the universe
-abbrev pub M : ℕ
-M = 16777215
+use Rattle.fd_model.specs.Output.{Output}
+use Rattle.byte_ports.specs.Ports.{Put, PutPart, Rose, Took, IsAtEnd}
 
 -- the statuses of Output
 abbrev pub IsDecided : Status → Type 0
@@ -29,46 +23,39 @@ pub record Ends : Type 0 where
   pub source_faults : ℕ
   pub sink_faults : ℕ
 
--- The text of a run: what a source that tells its bytes had left. Refused words never look at the source, so any text serves.
+-- A text of the run: what the source had left, where it still tells its bytes after the run, and else some text. Refused words never look at the source.
 abbrev pub IsText : List (List ℕ) → Option (List ℕ) → Option (List ℕ) → List ℕ → Type 0
-IsText [] old new text = (old ≡ Some text) × IsSome new
+IsText [] old new text = IsSome new → old ≡ Some text
 IsText (w ∷ ws) old new text = Unit {0}
 
--- Put and PutPart say nothing where the sink doesn't tell its bytes; what is said of status and source holds all the same.
+-- of a text of the run, with this output and this status of it
+abbrev pub HasOutput : List (List ℕ) → Ends → Ends → (List ℕ → Status → Type 0) → Type 0
+HasOutput words old new H = (text out : List ℕ) × (st : Status) × IsText words old.left new.left text × Output INFINITY words text out st × H out st
+
+-- Put, PutPart and Took say nothing where bytes aren't told; what is said of the status holds all the same.
 pub record Headline (words : List (List ℕ)) (old new : Ends) (result : Status) : Type 0 where
-  -- whole output: a decided status is that of Output, and the output was written whole
-  pub whole : (text : List ℕ) → IsText words old.left new.left text → IsDecided result → (out : List ℕ) × Output M words text out result × Put old.written new.written out
+  -- whole output: a decided status is that of an output, and the output was written whole
+  pub whole : IsDecided result → HasOutput words old new (λ out st. (st ≡ result) × Put old.written new.written out)
+  -- a front of an output was written before a write fault or want of memory
+  pub cut : (result ≡ WriteFault) ⊎ (result ≡ NoMemory) → HasOutput words old new (λ out st. PutPart old.written new.written out)
   -- a read fault was counted, and nothing was written
   pub read_fault : result ≡ ReadFault → Rose old.source_faults new.source_faults × Put old.written new.written []
+  -- and where a read fault was counted it is told
+  pub read_told : old.source_faults < new.source_faults → result ≡ ReadFault
   -- a write fault was counted
   pub write_fault : result ≡ WriteFault → Rose old.sink_faults new.sink_faults
-  -- after a write fault or want of memory a front of the output was written
-  pub cut : (text out : List ℕ) (st : Status) → IsText words old.left new.left text → Output M words text out st → (result ≡ WriteFault) ⊎ (result ≡ NoMemory) → PutPart old.written new.written out
+  -- and where one was counted it is told
+  pub write_told : old.sink_faults < new.sink_faults → result ≡ WriteFault
   -- without a counted fault the status is decided, or memory was wanting
   pub no_fault : (Rose old.source_faults new.source_faults → ⊥) → (Rose old.sink_faults new.sink_faults → ⊥) → IsDecided result ⊎ (result ≡ NoMemory)
+  -- no count falls
+  pub source_later : old.source_faults ≤ new.source_faults
+  pub sink_later : old.sink_faults ≤ new.sink_faults
+  -- what is left is an end of what was left
+  pub rest : (front : List ℕ) × Took old.left new.left front
   -- the usage line is for refused words alone, whatever the source tells
   pub usage_only : result ≡ Usage → words ≢ []
   -- refused words leave the source as it was
   pub untouched : words ≢ [] → (new.left ≡ old.left) × (new.source_faults ≡ old.source_faults)
   -- a text that was answered was read to its end
   pub read_whole : (result ≡ Done) ⊎ (result ≡ Stopped) → IsAtEnd new.left
-
--- Of a call that writes a piece of the output: it was written whole, or a front of it and a fault was counted, or a front of it and memory was wanting.
-abbrev pub Ending : Option (List ℕ) → Option (List ℕ) → ℕ → ℕ → Status → Status → List ℕ → Type 0
-Ending old new before now result st piece =
-    ((result ≡ st) × Put old new piece)
-    ⊎ (((result ≡ WriteFault) × PutPart old new piece × Rose before now)
-    ⊎ ((result ≡ NoMemory) × PutPart old new piece))
-
--- The run ended as the verdict on the text says.
-abbrev pub EndsAs : Option (List ℕ) → Option (List ℕ) → ℕ → ℕ → Status → Verdict → Type 0
-EndsAs old new before now result v = (out : List ℕ) (st : Status) → VerdictOutput M v 1000000 None out st → Ending old new before now result st out
-
--- the status of a run that was cut short
-abbrev pub fault_status : Fault → Status
-fault_status fault.WriteFault = WriteFault
-fault_status fault.NoMemory = NoMemory
-
--- the same where the call answers a Result
-abbrev pub Wrote : {A : Type 0} → Option (List ℕ) → Option (List ℕ) → ℕ → ℕ → Result A Fault → List ℕ → Type 0
-Wrote old new before now result piece = MatchResult result (λ _. Put old new piece) (λ e. PutPart old new piece × (e ≡ fault.WriteFault → Rose before now))

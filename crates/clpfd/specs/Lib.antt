@@ -1,6 +1,4 @@
-pub mod ConstantLines
-pub mod Checked
-pub mod QueryOutputs
-pub mod OneOutput
 pub mod Headline
-pub mod Shown
+pub mod OneOutput
+pub mod Verdicts
+pub mod Endings

@@ -1,7 +1,7 @@
 //! What cuts the writing of an output short.
 ghost use Rattle.clpfd.specs.declared.fault.Fault.TheVariants.{WriteFault, NoMemory};
 ghost use Rattle.std.specs.Prelude.{◌≡◌};
-ghost use Rattle.clpfd.specs.Headline.{fault_status};
+ghost use Rattle.clpfd.specs.Endings.{fault_status};
 
 use byte_ports::WriteFault;
 use fd_language::NoMemory;
@@ -44,6 +44,22 @@ impl From<NoMemory> for Fault {
     ghost from_gives = { λ _ fault. fault ≡ NoMemory };
 
     fn from(_fault: NoMemory) -> Fault {
+        Fault::NoMemory
+    }
+}
+
+impl From<AllocError> for Fault {
+    ghost from_gives = { λ _ fault. fault ≡ NoMemory };
+
+    fn from(_error: AllocError) -> Fault {
+        Fault::NoMemory
+    }
+}
+
+impl<T: Drop> From<AllocFailed<T>> for Fault {
+    ghost from_gives = { λ _ fault. fault ≡ NoMemory };
+
+    fn from(_error: AllocFailed<T>) -> Fault {
         Fault::NoMemory
     }
 }

@@ -68,3 +68,4 @@ pub mod Preceding
 pub mod Fewest
 mod Examples
 pub mod Unread
+pub mod Runnable

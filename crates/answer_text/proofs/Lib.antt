@@ -1,0 +1,3 @@
+mod Intervals
+mod Joining
+mod Numbering

@@ -1,0 +1,15 @@
+use Rattle.std.proofs.Common.{◌≡◌, take, map, None}
+use Rattle.fd_language.specs.declared.TheConstants.{INFINITY}
+use Rattle.fd_model.specs.Refusals.{first_refusal}
+use Rattle.term_pool.specs.PlacedTerms.{placed_of}
+use Rattle.clause_check.specs.Kept.{StandsFor}
+use Rattle.clause_check.specs.Terms.{terms_of}
+use Rattle.clause_check.proofs.SentenceLists.{front}
+use Rattle.clause_check.proofs.check.check_sentences.Given as goal
+
+abbrev pub invariant-loop-sentence : goal.invariant-loop-sentence
+invariant-loop-sentence l =
+    record {
+      accepted : first_refusal INFINITY (terms_of l.sentences) (front l.sentences l.sentence-index) ≡ None;
+      stands : StandsFor l.sentences.pool l.parts (take l.sentence-index l.sentences.list.items);
+    }

@@ -1,0 +1,4 @@
+pub mod Programs
+pub mod Causes
+pub mod Terms
+pub mod Kept

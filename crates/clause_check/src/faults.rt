@@ -1,0 +1,64 @@
+//! Why the sentences of a text have no program.
+ghost use Rattle.std.specs.Prelude.{◌≡◌};
+ghost use Rattle.clause_check.specs.declared.faults.Fault.TheVariants.{NoMemory};
+
+use fd_language::NoMemory;
+use monotone_check::CheckFault;
+use range_terms::RangeFault;
+use std::alloc::AllocFailed;
+use term_pool::{AtomId, Pool};
+
+/// Why a sentence is refused.
+#[derive(Debug, Drop)]
+pub enum Cause {
+    /// A goal is a variable, an integer, or has a name that no goal may have.
+    BadGoal,
+    /// The name of a goal is neither built in nor that of a head in the text.
+    Unknown { name: AtomId, arity: usize },
+    /// A compound term has more than 255 arguments.
+    ArityOver255,
+    /// The term on the right of `in` spells no range.
+    Range(RangeFault),
+    /// The range is not accepted.
+    Check(CheckFault),
+    /// A form that the language doesn't have yet.
+    NotYet { name: AtomId, arity: usize },
+    /// A form that isn't built.
+    NotBuilt,
+}
+
+/// Why a text has no program.
+#[derive(Drop)]
+pub enum ProgramFault {
+    /// The first refusal in the text: its place in bytes, its cause, and the pool of the text, whose atoms the cause names.
+    At {
+        place: usize,
+        cause: Cause,
+        pool: Pool,
+    },
+    /// Memory was wanting.
+    NoMemory,
+}
+
+/// The same without the pool.
+#[derive(Debug, Drop)]
+pub(crate) enum Fault {
+    Refused { place: usize, cause: Cause },
+    NoMemory,
+}
+
+impl From<NoMemory> for Fault {
+    ghost from_gives = { λ _ fault. fault ≡ NoMemory };
+
+    fn from(_error: NoMemory) -> Fault {
+        Fault::NoMemory
+    }
+}
+
+impl<T: Drop> From<AllocFailed<T>> for Fault {
+    ghost from_gives = { λ _ fault. fault ≡ NoMemory };
+
+    fn from(_error: AllocFailed<T>) -> Fault {
+        Fault::NoMemory
+    }
+}

@@ -1,0 +1,143 @@
+//! The output of a text, written line by line: its refusal, or the events of its queries.
+ghost use Rattle.std.specs.Prelude.{◌≡◌, ◌<◌, ℕ, Bool, None, List, length, map, All, IfOk};
+ghost use Rattle.fd_model.specs.Goal.{Event};
+ghost use Rattle.fd_model.specs.Lines.{events_bytes};
+ghost use Rattle.fd_model.specs.Output.{Queries, VerdictOutput, is_stop};
+ghost use Rattle.term_pool.specs.Contents.{atom_name};
+ghost use Rattle.clause_check.specs.Programs.{program_in};
+ghost use Rattle.wam_machine.specs.States.{StandsFor, query_of};
+ghost use Rattle.clpfd.specs.Endings.{sink_at, Ending, IsRunOf, Wrote};
+ghost use Rattle.clpfd.specs.Verdicts.{verdict_of, HasNames};
+
+use crate::fault::Fault;
+use crate::judge::Verdict;
+use answer_text::{event_text, query_text, refusal_text};
+use byte_ports::{Sink, write_all};
+use clause_check::Program;
+use fd_language::{INFINITY, NoMemory};
+use fd_model::Status;
+use propagate_queue::Fifo;
+use std::alloc::Global;
+use std::rc::Rc;
+use term_pool::{AtomId, Pool};
+use wam_machine::{CompiledProgram, Limits, Machine, MachineEvent, compile};
+
+/// The reductions that a query may take, and how many answers it may give.
+const LIMITS: Limits = Limits {
+    steps: 1_000_000,
+    answers: None,
+};
+
+/// Writes the last piece of an output.
+pub fn put_last<K: Sink>(sink: &mut K, piece: &[u8], status: Status) -> Status
+    ensures { Ending (sink_at (K.written sink.old) (K.faults sink.old)) (sink_at (K.written sink.new) (K.faults sink.new)) result status piece.now }
+{
+    match write_all(sink, piece) {
+        Ok(()) => status,
+        Err(_) => Status::WriteFault,
+    }
+}
+
+/// Writes a line.
+fn put_line<K: Sink>(sink: &mut K, line: &[u8]) -> Result<(), Fault>
+    ensures { Wrote (sink_at (K.written sink.old) (K.faults sink.old)) (sink_at (K.written sink.new) (K.faults sink.new)) result line.now }
+{
+    Ok(write_all(sink, line)?)
+}
+
+/// Writes the lines of the events of a machine, and tells whether its query was stopped. The names are those of the query's shown
+/// variables.
+fn put_events<K: Sink>(
+    alloc: Global,
+    pool: &Pool,
+    names: &[AtomId],
+    mut machine: Machine<Fifo>,
+    sink: &mut K,
+) -> Result<bool, Fault>
+    requires names { All (λ a. a.number < length pool.now.names) names.now }
+    requires own { map (atom_name pool.now) names.now ≡ (query_of machine).names }
+    ensures wrote { (es : List Event) (r : ℕ) → StandsFor machine es r
+        → Wrote (sink_at (K.written sink.old) (K.faults sink.old)) (sink_at (K.written sink.new) (K.faults sink.new)) result (events_bytes es) }
+    ensures stopped { (es : List Event) (r : ℕ) → StandsFor machine es r → IfOk result (λ stopped. stopped ≡ is_stop es) }
+{
+    'events: loop {
+        let event = machine.next()?;
+        put_line(sink, &event_text(alloc, pool, names, &event)?)?;
+        match event {
+            MachineEvent::Answer(_) => {}
+            MachineEvent::End | MachineEvent::Limit => return Ok(false),
+            MachineEvent::Budget | MachineEvent::Fault(_) => return Ok(true),
+        }
+    }
+}
+
+/// Writes the lines of a query's events, and tells whether the query was stopped.
+fn put_query<K: Sink>(
+    alloc: Global,
+    program: &Rc<CompiledProgram>,
+    query: usize,
+    sink: &mut K,
+) -> Result<bool, Fault>
+    requires { query < length program.now.value.queries }
+    ensures wrote { (es : List Event) (r : ℕ) → IsRunOf program.now.value query es r
+        → Wrote (sink_at (K.written sink.old) (K.faults sink.old)) (sink_at (K.written sink.new) (K.faults sink.new)) result (events_bytes es) }
+    ensures stopped { (es : List Event) (r : ℕ) → IsRunOf program.now.value query es r → IfOk result (λ stopped. stopped ≡ is_stop es) }
+{
+    let machine = Machine::new(alloc, Rc::clone(program)?, query, LIMITS, Fifo::new(alloc))?;
+    let source = program.program();
+    put_events(alloc, source.pool(), source.names(query), machine, sink)
+}
+
+/// Writes the lines of a program's queries, and tells whether one of them was stopped.
+fn put_program<K: Sink>(alloc: Global, program: Program, sink: &mut K) -> Result<bool, Fault>
+    ensures wrote { (out : List ℕ) (stop : Bool) → Queries INFINITY (program_in program) 1000000 None 1 (program_in program).queries out stop
+        → Wrote (sink_at (K.written sink.old) (K.faults sink.old)) (sink_at (K.written sink.new) (K.faults sink.new)) result out }
+    ensures stopped { (out : List ℕ) (stop : Bool) → Queries INFINITY (program_in program) 1000000 None 1 (program_in program).queries out stop
+        → IfOk result (λ stopped. stopped ≡ stop) }
+{
+    let count = program.queries();
+    let compiled = Rc::new(alloc, compile(alloc, program)?)?;
+    let mut stopped = false;
+    for query in 0..count {
+        put_line(sink, &query_text(alloc, query + 1)?)?;
+        if put_query(alloc, &compiled, query, sink)? {
+            stopped = true;
+        }
+    }
+    Ok(stopped)
+}
+
+/// Writes the output of a text with this verdict, and gives its status.
+fn put_output<K: Sink>(alloc: Global, verdict: Verdict, sink: &mut K) -> Status
+    requires { HasNames verdict }
+    ensures { (out : List ℕ) (st : Status) → VerdictOutput INFINITY (verdict_of verdict) 1000000 None out st
+        → Ending (sink_at (K.written sink.old) (K.faults sink.old)) (sink_at (K.written sink.new) (K.faults sink.new)) result st out }
+{
+    match verdict {
+        Verdict::Accepted(program) => match put_program(alloc, program, sink) {
+            Ok(true) => Status::Stopped,
+            Ok(false) => Status::Done,
+            Err(fault) => fault.status(),
+        },
+        Verdict::Refused {
+            place,
+            reason,
+            pool,
+        } => match refusal_text(alloc, place, &reason, &pool) {
+            Ok(line) => put_last(sink, &line, Status::Refused),
+            Err(NoMemory) => Status::NoMemory,
+        },
+    }
+}
+
+/// Writes the output of a text, where memory sufficed for its verdict.
+pub fn answer<K: Sink>(alloc: Global, verdict: Result<Verdict, NoMemory>, sink: &mut K) -> Status
+    requires { IfOk verdict HasNames }
+    ensures { (out : List ℕ) (st : Status) → IfOk verdict (λ v. VerdictOutput INFINITY (verdict_of v) 1000000 None out st)
+        → Ending (sink_at (K.written sink.old) (K.faults sink.old)) (sink_at (K.written sink.new) (K.faults sink.new)) result st out }
+{
+    match verdict {
+        Ok(verdict) => put_output(alloc, verdict, sink),
+        Err(NoMemory) => Status::NoMemory,
+    }
+}

@@ -1,0 +1,5 @@
+//! Tests of the machine over texts, by public calls alone.
+#![tactic(auto)]
+
+#[cfg(test)]
+mod runs;

@@ -1,0 +1,134 @@
+-- The arguments of a range, slot by slot, and the range that they make of it.
+use Rattle.std.proofs.Common.{◌≡◌, ℕ, zero, suc, ◌+◌, ◌<◌, Bool, true, false, cond, not, ◌||◌, ◌==◌, nat_eq, ℤ, pos, List, [], ◌∷◌, ◌++◌, length, map, get_or, Option, Some, None, refl, ap, sym, ◌∙◌, subst, inl, inr, arith, eqb-true, eq-eqb, IsTrue}
+use Rattle.std.specs.List.{position_or_len}
+use Rattle.std.proofs.lemmas.Bool.{cases_Bool, or_cases, or_left, or_right, true≢false}
+use Rattle.fd_model.specs.declared.kinds.QueryFault.{QueryFault}
+use Rattle.fd_model.specs.declared.kinds.QueryFault.TheVariants.{Parameter}
+use Rattle.fd_language.specs.declared.range_node.Need.{Need}
+use Rattle.fd_language.specs.Family.{has}
+use Rattle.fd_language.specs.Lists.{Each}
+use Rattle.fd_language.specs.Range.{Range, Span, One, Dom, Union, Inter, Outside, Plus, Minus, Times, Over, Expr, Number, Infinity, Param, Min, Max, Val, Add, Sub, Mul, DivDown, DivUp, params}
+use Rattle.fd_language.specs.RangeRenaming.{rename_expr, rename_range}
+use Rattle.fd_language.specs.Check.{fill, fill_range}
+use Rattle.fd_language.specs.Needs.{meets, need_of}
+use Rattle.fd_language.specs.Places.{Place, expr_places, range_places}
+use Rattle.fd_language.proofs.Lemmas.{each_before, each_after, two}
+use Rattle.range_code.specs.declared.frame.Arg.{Arg}
+use Rattle.range_code.specs.Slots.{slots_of, slot_of, slot_needs, need_at}
+use Rattle.range_code.specs.Frames.{IsArg, AreArgs, arg_at, variable_of, integer_of, slot_variable, slot_integer, posted}
+use Rattle.range_code.proofs.Once.{has_once}
+use Rattle.fd_model.specs.Posting.{or_later}
+use Rattle.wam_machine.specs.Naming.{fault_of, first_fault, StandsIn, AllStand}
+use Rattle.wam_machine.proofs.Places.{AreSettled, variables}
+
+-- two ways to fill and rename a range, which agree at its places
+module _ (f g : ℕ → ℕ) (p q : ℕ → ℤ) where
+  abbrev pub Agrees : Place → Type 0
+  Agrees x = (x.parameter ≡ true → p x.variable ≡ q x.variable) × (x.parameter ≡ false → f x.variable ≡ g x.variable)
+
+  both : {A B C : Type 0} (op : A → B → C) {a a' : A} {b b' : B} (xs ys : List Place) → (Each Agrees xs → a ≡ a') → (Each Agrees ys → b ≡ b') → Each Agrees (xs ++ ys) → op a b ≡ op a' b'
+  both op xs ys i j h = two op (i (each_before Agrees xs ys h)) (j (each_after Agrees xs ys h))
+
+  expr_same : (e : Expr) → Each Agrees (expr_places e) → rename_expr f (fill p e) ≡ rename_expr g (fill q e)
+  expr_same (Number z) h = refl
+  expr_same Infinity h = refl
+  expr_same (Param x) h = ap Number (h.0.0 refl)
+  expr_same (Min y) h = ap Min (h.0.1 refl)
+  expr_same (Max y) h = ap Max (h.0.1 refl)
+  expr_same (Val y) h = ap Val (h.0.1 refl)
+  expr_same (Add a b) h = both Add (expr_places a) (expr_places b) (expr_same a) (expr_same b) h
+  expr_same (Sub a b) h = both Sub (expr_places a) (expr_places b) (expr_same a) (expr_same b) h
+  expr_same (Mul a b) h = both Mul (expr_places a) (expr_places b) (expr_same a) (expr_same b) h
+  expr_same (DivDown a b) h = both DivDown (expr_places a) (expr_places b) (expr_same a) (expr_same b) h
+  expr_same (DivUp a b) h = both DivUp (expr_places a) (expr_places b) (expr_same a) (expr_same b) h
+
+  pub range_same : (r : Range) → Each Agrees (range_places r) → rename_range f (fill_range p r) ≡ rename_range g (fill_range q r)
+  range_same (Span a b) h = both Span (expr_places a) (expr_places b) (expr_same a) (expr_same b) h
+  range_same (One t) h = ap One (expr_same t h)
+  range_same (Dom y) h = ap Dom (h.0.1 refl)
+  range_same (Union r s) h = both Union (range_places r) (range_places s) (range_same r) (range_same s) h
+  range_same (Inter r s) h = both Inter (range_places r) (range_places s) (range_same r) (range_same s) h
+  range_same (Outside r) h = ap Outside (range_same r h)
+  range_same (Plus r c) h = both Plus (range_places r) (expr_places c) (range_same r) (expr_same c) h
+  range_same (Minus r c) h = both Minus (range_places r) (expr_places c) (range_same r) (expr_same c) h
+  range_same (Times r c) h = both Times (range_places r) (expr_places c) (range_same r) (expr_same c) h
+  range_same (Over r c) h = both Over (range_places r) (expr_places c) (range_same r) (expr_same c) h
+
+-- the place of a member
+first_place : (xs : List ℕ) (y : ℕ) (d : ℕ) → has xs y ≡ true → (position_or_len (nat_eq y) xs < length xs) × (get_or xs (position_or_len (nat_eq y) xs) d ≡ y)
+first_place [] y d h = absurd (true≢false (sym h))
+first_place (x ∷ xs) y d h = elim (cases_Bool (nat_eq y x)) [
+  | inl e ↦
+      let i : position_or_len (nat_eq y) (x ∷ xs) ≡ 0 = ap (λ c. cond (not c) (1 + position_or_len (nat_eq y) xs) 0) e in
+      (subst (λ n. n < suc (length xs)) (sym i) (omega arith), ap (λ n. get_or (x ∷ xs) n d) i ∙ sym (eqb-true y x e))
+  | inr e ↦
+      let i : position_or_len (nat_eq y) (x ∷ xs) ≡ suc (position_or_len (nat_eq y) xs) = ap (λ c. cond (not c) (1 + position_or_len (nat_eq y) xs) 0) e ∙ one_up (position_or_len (nat_eq y) xs) in
+      let k = first_place xs y d (later x y xs e h) in
+      (subst (λ n. n < suc (length xs)) (sym i) (let l = k.0 in omega (arith, l)), ap (λ n. get_or (x ∷ xs) n d) i ∙ k.1)
+] where
+  one_up : (n : ℕ) → 1 + n ≡ suc n
+  one_up n = omega arith
+
+  later : (x y : ℕ) (xs : List ℕ) → nat_eq y x ≡ false → ((x == y) || has xs y) ≡ true → has xs y ≡ true
+  later x y xs e h = elim (or_cases (x == y) (has xs y) h) [ inl i ↦ absurd (true≢false (sym (eq-eqb y x (sym (eqb-true x y i))) ∙ e)) | inr i ↦ i ]
+
+stands_at : (number : ℕ → Option ℕ) (cell : ℕ → ℕ) (need : ℕ → Option Need) (ys : List ℕ) (as' : List Arg) → AllStand number cell ys (map need ys) as' → (i d : ℕ) → i < length ys → StandsIn number cell (get_or ys i d) (need (get_or ys i d)) (arg_at as' i)
+stands_at number cell need [] as' h i d l = absurd (omega (arith, l))
+stands_at number cell need (y ∷ ys) [] h i d l = absurd h
+stands_at number cell need (y ∷ ys) (a ∷ as') h zero d l = h.0
+stands_at number cell need (y ∷ ys) (a ∷ as') h (suc i) d l = stands_at number cell need ys as' h.1 i d (omega (arith, l))
+
+module _ (number : ℕ → Option ℕ) (cell : ℕ → ℕ) (integer : ℕ → ℤ) (same : (y w : ℕ) → number y ≡ Some w → integer y ≡ pos w) (r : Range) (as' : List Arg) (stand : AllStand number cell (slots_of r) (slot_needs r) as') where
+  at_variable : (y : ℕ) → has (slots_of r) y ≡ true → StandsIn number cell y (need_at r y) (arg_at as' (slot_of r y))
+  at_variable y h =
+      let i = first_place (slots_of r) y 0 h in
+      subst (λ x. StandsIn number cell x (need_at r x) (arg_at as' (slot_of r y))) i.1 (stands_at number cell (need_at r) (slots_of r) as' stand (slot_of r y) 0 i.0)
+
+  by_parameter : (y : ℕ) → has (params r) y ≡ true → StandsIn number cell y (need_at r y) (arg_at as' (slot_of r y)) → slot_integer as' (slot_of r y) ≡ integer y
+  by_parameter y h s =
+      let k : StandsIn number cell y (Some (need_of r y)) (arg_at as' (slot_of r y)) = subst (λ n. StandsIn number cell y n (arg_at as' (slot_of r y))) (ap (λ b. cond b (Some (need_of r y)) None) h) s in
+      ap integer_of k.2 ∙ sym (same y k.0 k.1)
+
+  by_cell : (y : ℕ) → has (params r) y ≡ false → StandsIn number cell y (need_at r y) (arg_at as' (slot_of r y)) → slot_variable as' (slot_of r y) ≡ cell y
+  by_cell y h s =
+      let k : StandsIn number cell y None (arg_at as' (slot_of r y)) = subst (λ n. StandsIn number cell y n (arg_at as' (slot_of r y))) (ap (λ b. cond b (Some (need_of r y)) None) h) s in
+      ap variable_of k
+
+  each_agrees : (qs : List Place) → AreSettled (params r) qs → ((y : ℕ) → has (variables qs) y ≡ true → has (slots_of r) y ≡ true) → Each (Agrees (λ y. slot_variable as' (slot_of r y)) cell (λ y. slot_integer as' (slot_of r y)) integer) qs
+  each_agrees [] h k = tt
+  each_agrees (x ∷ qs) h k = (
+    (
+      λ e. by_parameter x.variable (sym h.0 ∙ e) (at_variable x.variable (k x.variable (here x.variable (variables qs)))),
+      λ e. by_cell x.variable (sym h.0 ∙ e) (at_variable x.variable (k x.variable (here x.variable (variables qs)))),
+    ),
+    each_agrees qs h.1 (λ y l. k y (or_right (x.variable == y) (has (variables qs) y) l)),
+  ) where
+    here : (x : ℕ) (xs : List ℕ) → has (x ∷ xs) x ≡ true
+    here x xs = or_left (x == x) (has xs x) (eq-eqb x x refl)
+
+  -- the range that these arguments make
+  pub posted_is : AreSettled (params r) (range_places r) → posted r as' ≡ rename_range cell (fill_range integer r)
+  posted_is h = range_same (λ y. slot_variable as' (slot_of r y)) cell (λ y. slot_integer as' (slot_of r y)) integer r (each_agrees (range_places r) h (λ y k. has_once (variables (range_places r)) y ∙ k))
+
+-- they are arguments of the range, where no parameter offends
+pub are_args : (count : ℕ) (number : ℕ → Option ℕ) (cell : ℕ → ℕ) (ys : List ℕ) (ns : List (Option Need)) (as' : List Arg) → AllStand number cell ys ns as' → first_fault number ys ns ≡ None → ((y : ℕ) → has ys y ≡ true → cell y < count) → AreArgs count ns as'
+are_args count number cell [] [] [] h e l = tt
+are_args count number cell [] [] (a ∷ as') h e l = absurd h
+are_args count number cell [] (n ∷ ns) as' h e l = absurd h
+are_args count number cell (y ∷ ys) [] as' h e l = absurd h
+are_args count number cell (y ∷ ys) (n ∷ ns) [] h e l = absurd h
+are_args count number cell (y ∷ ys) (n ∷ ns) (a ∷ as') h e l =
+    let t = none_both (fault_of (number y) n) (first_fault number ys ns) e in
+    (one n h.0 t.0, are_args count number cell ys ns as' h.1 t.1 (λ z k. l z (or_right (y == z) (has ys z) k)))
+  where
+    none_both : (a b : Option QueryFault) → or_later a b ≡ None → (a ≡ None) × (b ≡ None)
+    none_both (Some x) b h = absurd (cc)
+    none_both None b h = (refl, h)
+
+    meets_it : (need : Need) (w : ℕ) (b : Bool) → meets need (pos w) ≡ b → cond b None (Some Parameter) ≡ None → IsTrue (meets need (pos w))
+    meets_it need w true e h = e
+    meets_it need w false e h = absurd (cc)
+
+    one : (n : Option Need) → StandsIn number cell y n a → fault_of (number y) n ≡ None → IsArg count n a
+    one None s f = subst (IsArg count None) (sym s) (l y (or_left (y == y) (has ys y) (eq-eqb y y refl)))
+    one (Some need) s f = subst (IsArg count (Some need)) (sym s.2) (meets_it need s.0 (meets need (pos s.0)) refl (sym (ap (λ o. fault_of o (Some need)) s.1) ∙ f))
