@@ -1,0 +1,10 @@
+mod Signs
+mod Shares
+mod Joining
+mod Loops
+mod Words
+mod Alone
+mod Ordering
+mod Stacks
+mod Steps
+pub mod Lemmas

@@ -1,0 +1,6 @@
+use Rattle.std.proofs.Common.{refl}
+use Rattle.linear_forms.proofs.Stacks.{two_taken}
+use Rattle.linear_forms.proofs.walk.Made.take_two.Goals as goal
+
+pub returns : goal.returns
+returns c = two_taken c.args.self.now _ c.pop.new.self.items c.in-Some-pop.left c.in-Some.right c.in-Some.ensures.items c.in-Some-pop.ensures.items refl

@@ -1,0 +1,5 @@
+pub mod Form
+pub mod Shares
+pub mod Sums
+pub mod Tasks
+pub mod Loops
