@@ -1,0 +1,196 @@
+-- A comparison of two terms, pair by pair.
+use Rattle.std.proofs.Common.{◌≡◌, ℕ, ◌+◌, Bool, true, false, not, ◌==◌, refl, ap, sym, ◌∙◌, subst, arith, List, [], ◌∷◌, ◌++◌, length, Bor, eqb-true, eq-eqb}
+use Rattle.std.specs.Prelude.{All, reverse}
+use Rattle.std.proofs.lemmas.Bool.{false≢true}
+use Rattle.std.proofs.lemmas.List.{reverse-append, reverse-reverse}
+use Rattle.std.proofs.lemmas.List.Elements.{All-append}
+use Rattle.term_pool.specs.declared.AtomId.{AtomId}
+use Rattle.term_pool.specs.Terms.{size, sizes}
+use Rattle.fd_language.specs.Term.{Term, Comp}
+use Rattle.heap_cells.specs.declared.Cell.{Cell}
+use Rattle.heap_cells.specs.declared.Seen.{Seen}
+use Rattle.heap_cells.specs.declared.Seen.TheVariants as seen
+use Rattle.heap_cells.specs.Cells.{Cells, Compound, IsOf}
+use Rattle.heap_cells.specs.Terms.{Naming, terms_by, Same}
+use Rattle.heap_cells.specs.Valid.{IsHeap}
+use Rattle.heap_cells.proofs.Elements.{none_at_all, both_of, all_front, last_of, all_reverse, all_push, head_of, tail_of}
+use Rattle.heap_cells.proofs.Substitutions.{size_positive}
+use Rattle.builtin_calls.specs.declared.identity.Pair.{Pair}
+use Rattle.builtin_calls.specs.Reading.{family_of, read_term, seen_term}
+use Rattle.builtin_calls.specs.Shown.{shown, IsHeld}
+use Rattle.builtin_calls.specs.Waiting.{unnamed}
+use Rattle.builtin_calls.specs.Identical.{TellsIdentical, TellsShown, IsFlat, IsOwnPair, IsEqualPair, weight, paired, IsReduced, TellsPair}
+
+-- cells with one term have one term as the sets show it
+pub same_seen : (h : Cells) (sets : List (List ℕ)) (c d : Cell) → Same h c d → (name : Naming) → seen_term name h sets c ≡ seen_term name h sets d
+same_seen h sets c d s name = ap (read_term h (family_of sets)) (s name)
+
+-- what a cell shows is what its root shows
+pub rooted : (h : Cells) (sets : List (List ℕ)) (c d : Cell) → Same h c d → (y : Seen) → ((name : Naming) → seen_term name h sets d ≡ shown name (seen_term name h sets) y) → (name : Naming) → seen_term name h sets c ≡ shown name (seen_term name h sets) y
+rooted h sets c d s y t name = same_seen h sets c d s name ∙ t name
+
+-- whether two atoms are one, as a comparison of them tells
+pub atom_same : (f g : AtomId) (b : Bool) → b ≡ not (f.number == g.number) → b ≡ false → f ≡ g
+atom_same f g b e n = let q : f.number ≡ g.number = eqb-true f.number g.number (not_false (f.number == g.number) (sym e ∙ n)) in ap (λ k. let a : AtomId = record { number = k } in a) q
+  where
+    not_false : (c : Bool) → not c ≡ false → c ≡ true
+    not_false true h = refl
+    not_false false h = sym h
+
+pub atom_other : (f g : AtomId) (b : Bool) → b ≡ not (f.number == g.number) → b ≡ true → f ≡ g → ⊥
+atom_other f g b e t q = let s : (f.number == g.number) ≡ true = eq-eqb f.number g.number (ap (λ (a : AtomId). a.number) q) in false≢true (sym (ap not s) ∙ sym e ∙ t)
+
+-- what is seen is flat where it is no compound term
+pub flat_unless : (y : Seen) → ((f : AtomId) (args : Bor (List Cell)) → y ≡ seen.Struct f args → ⊥) → IsFlat y
+flat_unless (seen.Open i) n = tt
+flat_unless (seen.Constrained i k) n = tt
+flat_unless (seen.Int z) n = tt
+flat_unless (seen.Atom a) n = tt
+flat_unless (seen.Struct f args) n = n f args refl
+
+-- lists of cells
+same_count : (by : Cell → Term) (cs ds : List Cell) → terms_by by cs ≡ terms_by by ds → length cs ≡ length ds
+same_count by [] [] e = refl
+same_count by [] (d ∷ ds) e = cc
+same_count by (c ∷ cs) [] e = cc
+same_count by (c ∷ cs) (d ∷ ds) e = let h = same_count by cs ds (let q : terms_by by cs ≡ terms_by by ds = cc in q) in omega arith
+
+all_behind : {X : Type 0} (P : X → Type 0) (xs ys : List X) → All P (xs ++ ys) → All P ys
+all_behind P [] ys a = a
+all_behind P (x ∷ xs) ys a = all_behind P xs ys (tail_of P x (xs ++ ys) a)
+
+weight-append : (by : Cell → Term) (ps qs : List Pair) → weight by (ps ++ qs) ≡ weight by ps + weight by qs
+weight-append by [] qs = omega arith
+weight-append by (p ∷ ps) qs = let e = weight-append by ps qs in omega arith
+
+weight-reverse : (by : Cell → Term) (ps : List Pair) → weight by (reverse ps) ≡ weight by ps
+weight-reverse by [] = refl
+weight-reverse by (p ∷ ps) = let e = ap (weight by) (reverse-append (p ∷ []) ps) in let f = weight-append by (reverse ps) (p ∷ []) in let g = weight-reverse by ps in omega arith
+
+weight-paired : (by : Cell → Term) (cs ds : List Cell) → length cs ≡ length ds → weight by (paired cs ds) ≡ sizes (terms_by by cs)
+weight-paired by [] ds l = refl
+weight-paired by (c ∷ cs) [] l = absurd (omega arith)
+weight-paired by (c ∷ cs) (d ∷ ds) l = ap (λ n. size (by c) + n) (weight-paired by cs ds (let e : length cs ≡ length ds = omega arith in e))
+
+own_paired : (h : Cells) (cs ds : List Cell) → All (IsOf h) cs → All (IsOf h) ds → All (IsOwnPair h) (paired cs ds)
+own_paired h [] ds a b = none_at_all (IsOwnPair h)
+own_paired h (c ∷ cs) [] a b = none_at_all (IsOwnPair h)
+own_paired h (c ∷ cs) (d ∷ ds) a b = both_of (IsOwnPair h) (record { left = c; right = d }) (paired cs ds) (head_of (IsOf h) c cs a, head_of (IsOf h) d ds b) (own_paired h cs ds (tail_of (IsOf h) c cs a) (tail_of (IsOf h) d ds b))
+
+module _ (h : Cells) (sets : List (List ℕ)) where
+  paired_equal : (name : Naming) (cs ds : List Cell) → terms_by (seen_term name h sets) cs ≡ terms_by (seen_term name h sets) ds → All (IsEqualPair name h sets) (paired cs ds)
+  paired_equal name [] ds e = none_at_all (IsEqualPair name h sets)
+  paired_equal name (c ∷ cs) [] e = none_at_all (IsEqualPair name h sets)
+  paired_equal name (c ∷ cs) (d ∷ ds) e =
+      both_of (IsEqualPair name h sets) (record { left = c; right = d }) (paired cs ds) (let f : seen_term name h sets c ≡ seen_term name h sets d = cc in f)
+      (paired_equal name cs ds (let f : terms_by (seen_term name h sets) cs ≡ terms_by (seen_term name h sets) ds = cc in f))
+
+  equal_paired : (name : Naming) (cs ds : List Cell) → length cs ≡ length ds → All (IsEqualPair name h sets) (paired cs ds) → terms_by (seen_term name h sets) cs ≡ terms_by (seen_term name h sets) ds
+  equal_paired name [] [] l a = refl
+  equal_paired name [] (d ∷ ds) l a = absurd (omega arith)
+  equal_paired name (c ∷ cs) [] l a = absurd (omega arith)
+  equal_paired name (c ∷ cs) (d ∷ ds) l a =
+      let p : Pair = record { left = c; right = d } in
+      let f : seen_term name h sets c ≡ seen_term name h sets d = head_of (IsEqualPair name h sets) p (paired cs ds) a in
+      let g = equal_paired name cs ds (let e : length cs ≡ length ds = omega arith in e) (tail_of (IsEqualPair name h sets) p (paired cs ds) a) in
+      cc
+
+  -- two cells with one term
+  pub reduced_same : (ps : List Pair) (p : Pair) → ((name : Naming) → IsEqualPair name h sets p) → IsReduced h sets (ps ++ p ∷ []) ps
+  reduced_same ps p e = record {
+    forth = λ name a. all_front (IsEqualPair name h sets) ps (p ∷ []) a;
+    back = λ name a. all_push (IsEqualPair name h sets) ps p a (e name);
+    own = λ a. all_front (IsOwnPair h) ps (p ∷ []) a;
+    falls = let q = weight-append (seen_term unnamed h sets) ps (p ∷ []) in let r = size_positive (seen_term unnamed h sets p.left) in omega arith;
+  }
+
+  -- two compound terms with one name and as many arguments
+  pub reduced_parts : (ps new : List Pair) (p : Pair) (f : AtomId) (cs ds : List Cell) → ((name : Naming) → seen_term name h sets p.left ≡ Comp (name f) (terms_by (seen_term name h sets) cs)) → ((name : Naming) → seen_term name h sets p.right ≡ Comp (name f) (terms_by (seen_term name h sets) ds))
+      → All (IsOf h) cs → All (IsOf h) ds → length cs ≡ length ds → new ≡ ps ++ reverse (paired cs ds) → IsReduced h sets (ps ++ p ∷ []) new
+  reduced_parts ps new p f cs ds a b x y l e = subst (λ qs. IsReduced h sets (ps ++ p ∷ []) qs) (sym e) record {
+    forth = λ name g.
+        let i : seen_term name h sets p.left ≡ seen_term name h sets p.right = last_of (IsEqualPair name h sets) ps p g in
+        let j = sym (a name) ∙ i ∙ b name in
+        All-append (IsEqualPair name h sets) ps (reverse (paired cs ds)) (all_front (IsEqualPair name h sets) ps (p ∷ []) g)
+        (all_reverse (IsEqualPair name h sets) (paired cs ds) (paired_equal name cs ds (let k : terms_by (seen_term name h sets) cs ≡ terms_by (seen_term name h sets) ds = cc in k)));
+    back = λ name g.
+        let k = all_reverse (IsEqualPair name h sets) (reverse (paired cs ds)) (all_behind (IsEqualPair name h sets) ps (reverse (paired cs ds)) g) in
+        let m = subst (All (IsEqualPair name h sets)) (reverse-reverse (paired cs ds)) k in
+        all_push (IsEqualPair name h sets) ps p (all_front (IsEqualPair name h sets) ps (reverse (paired cs ds)) g) (a name ∙ ap (Comp (name f)) (equal_paired name cs ds l m) ∙ sym (b name));
+    own = λ g. All-append (IsOwnPair h) ps (reverse (paired cs ds)) (all_front (IsOwnPair h) ps (p ∷ []) g) (all_reverse (IsOwnPair h) (paired cs ds) (own_paired h cs ds x y));
+    falls =
+        let by = seen_term unnamed h sets in
+        let q = weight-append by ps (p ∷ []) in
+        let r = weight-append by ps (reverse (paired cs ds)) in
+        let s = weight-reverse by (paired cs ds) in
+        let t = weight-paired by cs ds l in
+        let u : size (by p.left) ≡ 1 + sizes (terms_by by cs) = ap size (a unnamed) in
+        omega arith;
+  }
+
+  -- two compound terms with other names, or with other numbers of arguments
+  pub parts_apart : (p : Pair) (f g : AtomId) (cs ds : List Cell) → ((name : Naming) → seen_term name h sets p.left ≡ Comp (name f) (terms_by (seen_term name h sets) cs)) → ((name : Naming) → seen_term name h sets p.right ≡ Comp (name g) (terms_by (seen_term name h sets) ds))
+      → (f ≡ g → length cs ≡ length ds → ⊥) → TellsIdentical h sets p.left p.right false
+  parts_apart p f g cs ds a b n name o e =
+      let j = sym (a name) ∙ e ∙ b name in
+      n (o f g (let k : name f ≡ name g = cc in k)) (same_count (seen_term name h sets) cs ds (let k : terms_by (seen_term name h sets) cs ≡ terms_by (seen_term name h sets) ds = cc in k))
+
+  compound_apart : (name : Naming) (f : AtomId) (args : Bor (List Cell)) (y : Seen) (by : Cell → Term) → ((g : AtomId) (ds : Bor (List Cell)) → y ≡ seen.Struct g ds → ⊥) → shown name by (seen.Struct f args) ≡ shown name by y → ⊥
+  compound_apart name f args (seen.Open i) by n e = cc
+  compound_apart name f args (seen.Constrained i k) by n e = cc
+  compound_apart name f args (seen.Int z) by n e = cc
+  compound_apart name f args (seen.Atom a) by n e = cc
+  compound_apart name f args (seen.Struct g ds) by n e = n g ds refl
+
+  -- a compound term and another term
+  pub else_apart : (p : Pair) (f : AtomId) (args : Bor (List Cell)) (y : Seen) → ((name : Naming) → seen_term name h sets p.left ≡ shown name (seen_term name h sets) (seen.Struct f args)) → ((name : Naming) → seen_term name h sets p.right ≡ shown name (seen_term name h sets) y) → ((g : AtomId) (ds : Bor (List Cell)) → y ≡ seen.Struct g ds → ⊥)
+      → TellsIdentical h sets p.left p.right false
+  else_apart p f args y a b n name o e = compound_apart name f args y (seen_term name h sets) n (sym (a name) ∙ e ∙ b name)
+
+  -- a term that is no compound term, and another one
+  pub flat_told : (ps : List Pair) (p : Pair) (x y : Seen) (b : Bool) → ((name : Naming) → seen_term name h sets p.left ≡ shown name (seen_term name h sets) x) → ((name : Naming) → seen_term name h sets p.right ≡ shown name (seen_term name h sets) y) → TellsShown x y b → TellsPair h sets ps p ps b
+  flat_told ps p x y true l r t = reduced_same ps p (λ name. l name ∙ t name (seen_term name h sets) ∙ sym (r name))
+  flat_told ps p x y false l r t = λ name o e. t name o (seen_term name h sets) (sym (l name) ∙ e ∙ r name)
+
+  -- so far
+  pub record IsComparing (a b : Cell) (work : List Pair) : Type 0 where
+    pub forth : (name : Naming) → seen_term name h sets a ≡ seen_term name h sets b → All (IsEqualPair name h sets) work
+    pub back : (name : Naming) → All (IsEqualPair name h sets) work → seen_term name h sets a ≡ seen_term name h sets b
+    pub own : All (IsOwnPair h) work
+
+  pub comparing_first : (a b : Cell) (work : List Pair) → IsOf h a → IsOf h b → work ≡ record { left = a; right = b } ∷ [] → IsComparing a b work
+  comparing_first a b work x y e = subst (IsComparing a b) (sym e) (
+      let p : Pair = record { left = a; right = b } in
+      record {
+        forth = λ name i. both_of (IsEqualPair name h sets) p [] i (none_at_all (IsEqualPair name h sets));
+        back = λ name i. head_of (IsEqualPair name h sets) p [] i;
+        own = both_of (IsOwnPair h) p [] (x, y) (none_at_all (IsOwnPair h));
+      })
+
+  pub comparing_further : (a b : Cell) (old new : List Pair) → IsComparing a b old → IsReduced h sets old new → IsComparing a b new
+  comparing_further a b old new c r = record {
+    forth = λ name i. r.forth name (c.forth name i);
+    back = λ name i. c.back name (r.back name i);
+    own = r.own c.own;
+  }
+
+  -- all pairs are equal
+  pub compared : (a b : Cell) (work : List Pair) → IsComparing a b work → work ≡ [] → TellsIdentical h sets a b true
+  compared a b work c e name = c.back name (subst (All (IsEqualPair name h sets)) (sym e) (none_at_all (IsEqualPair name h sets)))
+
+  -- the last pair isn't
+  pub told_apart : (a b : Cell) (ps : List Pair) (p : Pair) → IsComparing a b (ps ++ p ∷ []) → TellsIdentical h sets p.left p.right false → TellsIdentical h sets a b false
+  told_apart a b ps p c n name o e = n name o (last_of (IsEqualPair name h sets) ps p (c.forth name e))
+
+-- the arguments of a compound term that is seen are of the heap
+pub held_parts : (h : Cells) → IsHeap h → (f : AtomId) (args : Bor (List Cell)) → IsHeld h (seen.Struct f args) → All (IsOf h) args.now
+held_parts h v f args k = subst (λ (b : Compound). All (IsOf h) b.args) k.2 (v.parts k.0)
+
+-- what a step tells, by its answer
+pub told_true : (h : Cells) (sets : List (List ℕ)) (ps new : List Pair) (p : Pair) (b : Bool) → b ≡ true → TellsPair h sets ps p new b → IsReduced h sets (ps ++ p ∷ []) new
+told_true h sets ps new p true e t = t
+told_true h sets ps new p false e t = absurd (false≢true e)
+
+pub told_false : (h : Cells) (sets : List (List ℕ)) (ps new : List Pair) (p : Pair) (b : Bool) → b ≡ false → TellsPair h sets ps p new b → TellsIdentical h sets p.left p.right false
+told_false h sets ps new p true e t = absurd (false≢true (sym e))
+told_false h sets ps new p false e t = t

@@ -1,0 +1,219 @@
+-- An evaluation, step by step.
+use Rattle.std.proofs.Common.{◌≡◌, ℕ, ◌+◌, ◌<◌, ◌≤◌, ℤ, Bool, true, false, not, cond, refl, ap, sym, ◌∙◌, subst, arith, inl, inr, List, [], ◌∷◌, ◌++◌, length, Some, None, Bor}
+use Rattle.std.specs.Prelude.{All, Result, Ok, Err, codes}
+use Rattle.std.specs.Str.{bytes_eq}
+use Rattle.term_pool.specs.declared.AtomId.{AtomId}
+use Rattle.term_pool.specs.Contents.{name_in}
+use Rattle.term_pool.specs.Terms.{size}
+use Rattle.fd_language.specs.Term.{Name, Term, Comp}
+use Rattle.heap_cells.specs.declared.Cell.{Cell}
+use Rattle.heap_cells.specs.declared.Seen.{Seen}
+use Rattle.heap_cells.specs.declared.Seen.TheVariants as seen
+use Rattle.heap_cells.specs.Cells.{Cells, Compound, IsOf}
+use Rattle.heap_cells.specs.Terms.{Naming, terms_by}
+use Rattle.heap_cells.specs.Atoms.{HasAtomsBelow, IsAtomBelow}
+use Rattle.heap_cells.specs.Valid.{IsHeap}
+use Rattle.heap_cells.proofs.Elements.{none_at_all, all_front, last_of, all_push, head_of, tail_of}
+use Rattle.heap_cells.proofs.Substitutions.{size_positive}
+use Rattle.builtin_calls.specs.declared.evaluation.EvalFault.{EvalFault}
+use Rattle.builtin_calls.specs.declared.evaluation.EvalFault.TheVariants as fault
+use Rattle.builtin_calls.specs.declared.evaluation.Operation.{Operation}
+use Rattle.builtin_calls.specs.declared.evaluation.Operation.TheVariants.{Add, Subtract, Multiply, Divide, Modulo}
+use Rattle.builtin_calls.specs.declared.evaluation.Waiting.{Waiting}
+use Rattle.builtin_calls.specs.declared.evaluation.Waiting.TheVariants.{Left, Right, Opposite}
+use Rattle.builtin_calls.specs.declared.evaluation.Step.{Step}
+use Rattle.builtin_calls.specs.declared.evaluation.Step.TheVariants.{Enter, Leave}
+use Rattle.builtin_calls.specs.Arithmetic.{ValueFault, not_a_number, unbound, Value, value_of, by_name, of_both, of_one, opposite_of, sum_of, difference_of, product_of, quotient_of, modulo_of}
+use Rattle.builtin_calls.specs.Reading.{seen_term}
+use Rattle.builtin_calls.specs.Shown.{shown, IsHeld}
+use Rattle.builtin_calls.specs.Outcomes.{IsFault, IsNamedBy, meaning, operation_of}
+use Rattle.builtin_calls.specs.Waiting.{after, resumed, step_value, IsOwn, IsOwnWaiting, IsOfHeap, IsOwnStep, unnamed, burden, GoesOn, TellsStep, IsEntered}
+
+-- the operation that a name means
+operation_by : (a b c d e : Bool) (l r : Value) (o : Operation) → cond a (Some Add) (cond b (Some Subtract) (cond c (Some Multiply) (cond d (Some Divide) (cond e (Some Modulo) None)))) ≡ Some o
+    → cond a (of_both sum_of l r) (cond b (of_both difference_of l r) (cond c (of_both product_of l r) (cond d (of_both quotient_of l r) (cond e (of_both modulo_of l r) (Err not_a_number))))) ≡ of_both (meaning o) l r
+operation_by true b c d e l r o h = let f : Add ≡ o = cc in ap (λ x. of_both (meaning x) l r) f
+operation_by false true c d e l r o h = let f : Subtract ≡ o = cc in ap (λ x. of_both (meaning x) l r) f
+operation_by false false true d e l r o h = let f : Multiply ≡ o = cc in ap (λ x. of_both (meaning x) l r) f
+operation_by false false false true e l r o h = let f : Divide ≡ o = cc in ap (λ x. of_both (meaning x) l r) f
+operation_by false false false false true l r o h = let f : Modulo ≡ o = cc in ap (λ x. of_both (meaning x) l r) f
+operation_by false false false false false l r o h = absurd (let f : ⊥ = cc in f)
+
+by_operation : (f : Name) (l r : Value) (o : Operation) → operation_of f ≡ Some o → by_name f l r ≡ of_both (meaning o) l r
+by_operation f l r o h = operation_by (bytes_eq f (codes "+")) (bytes_eq f (codes "-")) (bytes_eq f (codes "*")) (bytes_eq f (codes "//")) (bytes_eq f (codes "mod")) l r o h
+
+-- what waits
+resumed-append : (by : Cell → Term) (ws : List Waiting) (w : Waiting) (v : Value) → resumed by (ws ++ w ∷ []) v ≡ resumed by ws (after by w v)
+resumed-append by [] w v = refl
+resumed-append by (x ∷ ws) w v = ap (after by x) (resumed-append by ws w v)
+
+fault_after : (by : Cell → Term) (w : Waiting) (f : ValueFault) → after by w (Err f) ≡ Err f
+fault_after by (Left o c) f = refl
+fault_after by (Right o z) f = refl
+fault_after by Opposite f = refl
+
+fault_resumed : (by : Cell → Term) (ws : List Waiting) (f : ValueFault) → resumed by ws (Err f) ≡ Err f
+fault_resumed by [] f = refl
+fault_resumed by (w ∷ ws) f = ap (after by w) (fault_resumed by ws f) ∙ fault_after by w f
+
+-- a fault ends all that waits
+pub fault_through : (by : Cell → Term) (ws : List Waiting) (e : EvalFault) (v : Value) → IsFault e v → IsFault e (resumed by ws v)
+fault_through by ws fault.Unbound v h = ap (resumed by ws) h ∙ fault_resumed by ws _
+fault_through by ws fault.NotANumber v h = ap (resumed by ws) h ∙ fault_resumed by ws _
+fault_through by ws fault.Overflow v h = ap (resumed by ws) h ∙ fault_resumed by ws _
+fault_through by ws fault.ZeroDivisor v h = ap (resumed by ws) h ∙ fault_resumed by ws _
+fault_through by ws fault.NoMemory v h = tt
+
+burden-append : (by : Cell → Term) (ws : List Waiting) (w : Waiting) → burden by (ws ++ w ∷ []) ≡ burden by ws + burden by (w ∷ [])
+burden-append by [] w = omega arith
+burden-append by (Left o c ∷ ws) w = let e = burden-append by ws w in omega arith
+burden-append by (Right o z ∷ ws) w = let e = burden-append by ws w in omega arith
+burden-append by (Opposite ∷ ws) w = let e = burden-append by ws w in omega arith
+
+burden_some : (by : Cell → Term) (w : Waiting) → 0 < burden by (w ∷ [])
+burden_some by (Left o c) = omega arith
+burden_some by (Right o z) = omega arith
+burden_some by Opposite = omega arith
+
+module _ (names : List Name) (h : Cells) (sets : List (List ℕ)) where
+  -- the right operand of an operation is entered
+  pub left_goes : (ws old new : List Waiting) (w : Waiting) (o : Operation) (c : Cell) (z : ℤ) → w ≡ Left o c → old ≡ ws ++ w ∷ [] → new ≡ ws ++ Right o z ∷ [] → GoesOn names h sets old (Leave z) new (Enter c)
+  left_goes ws old new w o c z i e f = subst (λ xs. GoesOn names h sets xs (Leave z) new (Enter c)) (sym (e ∙ ap (λ x. ws ++ x ∷ []) i)) (subst (λ xs. GoesOn names h sets (ws ++ Left o c ∷ []) (Leave z) xs (Enter c)) (sym f) record {
+    value = λ name n. resumed-append (seen_term name h sets) ws (Left o c) (Ok z) ∙ sym (resumed-append (seen_term name h sets) ws (Right o z) (value_of (seen_term name h sets c)));
+    own = λ s a. (last_of (IsOwnWaiting (length names) h) ws (Left o c) a, all_push (IsOwnWaiting (length names) h) ws (Right o z) (all_front (IsOwnWaiting (length names) h) ws (Left o c ∷ []) a) tt);
+    falls = let p = burden-append (seen_term unnamed h sets) ws (Left o c) in let q = burden-append (seen_term unnamed h sets) ws (Right o z) in omega arith;
+  })
+
+  -- what waited has its value
+  pub value_goes : (ws old : List Waiting) (w : Waiting) (z y : ℤ) → ((name : Naming) → after (seen_term name h sets) w (Ok z) ≡ Ok y) → old ≡ ws ++ w ∷ [] → GoesOn names h sets old (Leave z) ws (Leave y)
+  value_goes ws old w z y v e = subst (λ xs. GoesOn names h sets xs (Leave z) ws (Leave y)) (sym e) record {
+    value = λ name n. resumed-append (seen_term name h sets) ws w (Ok z) ∙ ap (resumed (seen_term name h sets) ws) (v name);
+    own = λ s a. (tt, all_front (IsOwnWaiting (length names) h) ws (w ∷ []) a);
+    falls = let p = burden-append (seen_term unnamed h sets) ws w in let q = burden_some (seen_term unnamed h sets) w in omega arith;
+  }
+
+  -- what waited has a fault
+  pub value_fails : (ws : List Waiting) (w : Waiting) (z : ℤ) (e : EvalFault) → ((name : Naming) → IsFault e (after (seen_term name h sets) w (Ok z))) → (name : Naming) → IsFault e (resumed (seen_term name h sets) (ws ++ w ∷ []) (Ok z))
+  value_fails ws w z e f name = subst (IsFault e) (sym (resumed-append (seen_term name h sets) ws w (Ok z))) (fault_through (seen_term name h sets) ws e (after (seen_term name h sets) w (Ok z)) (f name))
+
+  -- a term whose value is known
+  pub integer_goes : (ws : List Waiting) (c : Cell) (y : ℤ) → ((name : Naming) → value_of (seen_term name h sets c) ≡ Ok y) → GoesOn names h sets ws (Enter c) ws (Leave y)
+  integer_goes ws c y v = record {
+    value = λ name n. ap (resumed (seen_term name h sets) ws) (v name);
+    own = λ s a. (tt, a);
+    falls = let p = size_positive (seen_term unnamed h sets c) in omega arith;
+  }
+
+  -- a term that has a fault
+  pub term_fails : (ws : List Waiting) (c : Cell) (e : EvalFault) → ((name : Naming) → IsFault e (value_of (seen_term name h sets c))) → (name : Naming) → IsFault e (resumed (seen_term name h sets) ws (value_of (seen_term name h sets c)))
+  term_fails ws c e v name = fault_through (seen_term name h sets) ws e (value_of (seen_term name h sets c)) (v name)
+
+  -- a compound term
+  module _ (c : Cell) (f : AtomId) (args : List Cell) (there : f.number < length names) (own : All (IsOwn (length names) h) args) (is : (name : Naming) → seen_term name h sets c ≡ Comp (name f) (terms_by (seen_term name h sets) args)) (old : List Waiting) where
+    entered_opposite : (d : Cell) (new : List Waiting) (t : Step) → args ≡ d ∷ [] → bytes_eq (name_in names f) (codes "-") ≡ true → new ≡ old ++ Opposite ∷ [] → t ≡ Enter d → GoesOn names h sets old (Enter c) new t
+    entered_opposite d new t a m e s = subst (λ x. GoesOn names h sets old (Enter c) new x) (sym s) (subst (λ xs. GoesOn names h sets old (Enter c) xs (Enter d)) (sym e) record {
+      value = λ name n.
+          let by = seen_term name h sets in
+          let v : value_of (by c) ≡ of_one opposite_of (value_of (by d)) =
+          ap value_of (is name ∙ ap (λ xs. Comp (name f) (terms_by by xs)) a) ∙ ap (λ b. cond b (of_one opposite_of (value_of (by d))) (Err not_a_number)) (ap (λ g. bytes_eq g (codes "-")) (n f there) ∙ m) in
+          ap (resumed by old) v ∙ sym (resumed-append by old Opposite (value_of (by d)));
+      own = λ s all. (head_of (IsOwn (length names) h) d [] (subst (All (IsOwn (length names) h)) a own), all_push (IsOwnWaiting (length names) h) old Opposite all tt);
+      falls =
+          let by = seen_term unnamed h sets in
+          let p = burden-append by old Opposite in
+          let q : size (by c) ≡ 1 + (size (by d) + 0) = ap size (is unnamed ∙ ap (λ xs. Comp (unnamed f) (terms_by by xs)) a) in
+          omega arith;
+    })
+
+    entered_both : (d e : Cell) (o : Operation) (new : List Waiting) (t : Step) → args ≡ d ∷ e ∷ [] → operation_of (name_in names f) ≡ Some o → new ≡ old ++ Left o e ∷ [] → t ≡ Enter d → GoesOn names h sets old (Enter c) new t
+    entered_both d e o new t a m i s = subst (λ x. GoesOn names h sets old (Enter c) new x) (sym s) (subst (λ xs. GoesOn names h sets old (Enter c) xs (Enter d)) (sym i) record {
+      value = λ name n.
+          let by = seen_term name h sets in
+          let v : value_of (by c) ≡ of_both (meaning o) (value_of (by d)) (value_of (by e)) =
+          ap value_of (is name ∙ ap (λ xs. Comp (name f) (terms_by by xs)) a) ∙ by_operation (name f) (value_of (by d)) (value_of (by e)) o (ap operation_of (n f there) ∙ m) in
+          ap (resumed by old) v ∙ sym (resumed-append by old (Left o e) (value_of (by d)));
+      own = λ s all.
+          (let both = subst (All (IsOwn (length names) h)) a own in
+          (head_of (IsOwn (length names) h) d (e ∷ []) both, all_push (IsOwnWaiting (length names) h) old (Left o e) all (head_of (IsOwn (length names) h) e [] (tail_of (IsOwn (length names) h) d (e ∷ []) both))));
+      falls =
+          let by = seen_term unnamed h sets in
+          let p = burden-append by old (Left o e) in
+          let q : size (by c) ≡ 1 + (size (by d) + (size (by e) + 0)) = ap size (is unnamed ∙ ap (λ xs. Comp (unnamed f) (terms_by by xs)) a) in
+          omega arith;
+    })
+
+    -- a compound term is entered, or its fault is told
+    pub entered : (text : Name) (r : Result Step EvalFault) (new : List Waiting) → text ≡ name_in names f → IsEntered text args old r new → TellsStep names h sets old (Enter c) r new
+    entered text (Ok t) new x (inl k) = entered_opposite k.0 new t k.1 (ap (λ g. bytes_eq g (codes "-")) (sym x) ∙ k.2) k.3 k.4
+    entered text (Ok t) new x (inr k) = entered_both k.0 k.1 k.2 new t k.3 (ap operation_of (sym x) ∙ k.4) k.5 k.6
+    entered text (Err e) new x k = λ name n.
+        fault_through (seen_term name h sets) old e (value_of (seen_term name h sets c))
+        (subst (λ y. IsFault e (value_of y)) (sym (is name ∙ ap (λ g. Comp g (terms_by (seen_term name h sets) args)) (n f there ∙ sym x))) (k (seen_term name h sets)))
+
+-- the arguments of a compound term of the heap
+pub held_own : (n : ℕ) (h : Cells) → IsHeap h → HasAtomsBelow n h → (f : AtomId) (args : Bor (List Cell)) → IsHeld h (seen.Struct f args) → All (IsOwn n h) args.now
+held_own n h v a f args k i d l = (
+  subst (λ (b : Compound). All (IsOf h) b.args) k.2 (v.parts k.0) i d l,
+  subst (λ (b : Compound). All (IsAtomBelow n) b.args) k.2 (a.args k.0) i d l,
+)
+
+-- its name
+pub held_name : (n : ℕ) (h : Cells) → HasAtomsBelow n h → (f : AtomId) (args : Bor (List Cell)) → IsHeld h (seen.Struct f args) → f.number < n
+held_name n h a f args k = subst (λ (b : Compound). b.name.number < n) k.2 (a.names k.0 k.1)
+
+not_so : (b : Bool) → not b ≡ true → b ≡ false
+not_so true e = sym e
+not_so false e = refl
+
+-- a compound term with one argument and another name is no operation
+pub no_opposite : (f : Name) (args : List Cell) → 1 ≤ length args → length args < 2 → not (bytes_eq f (codes "-")) ≡ true → (by : Cell → Term) → value_of (Comp f (terms_by by args)) ≡ Err not_a_number
+no_opposite f [] a b e by = absurd (omega arith)
+no_opposite f (c ∷ []) a b e by = ap (λ x. cond x (of_one opposite_of (value_of (by c))) (Err not_a_number)) (not_so (bytes_eq f (codes "-")) e)
+no_opposite f (c ∷ d ∷ cs) a b e by = absurd (omega arith)
+
+-- nor is one with three or more
+pub too_many : (f : Name) (args : List Cell) → 3 ≤ length args → (by : Cell → Term) → value_of (Comp f (terms_by by args)) ≡ Err not_a_number
+too_many f [] a by = absurd (omega arith)
+too_many f (c ∷ []) a by = absurd (omega arith)
+too_many f (c ∷ d ∷ []) a by = absurd (omega arith)
+too_many f (c ∷ d ∷ e ∷ cs) a by = refl
+
+-- what is seen is a variable, where it is nothing else
+pub variable_seen : (name : Naming) (by : Cell → Term) (y : Seen) → ((z : ℤ) → y ≡ seen.Int z → ⊥) → ((a : AtomId) → y ≡ seen.Atom a → ⊥) → ((f : AtomId) (args : Bor (List Cell)) → y ≡ seen.Struct f args → ⊥) → value_of (shown name by y) ≡ Err unbound
+variable_seen name by (seen.Open i) a b d = refl
+variable_seen name by (seen.Constrained i k) a b d = refl
+variable_seen name by (seen.Int z) a b d = absurd (a z refl)
+variable_seen name by (seen.Atom x) a b d = absurd (b x refl)
+variable_seen name by (seen.Struct f args) a b d = absurd (d f args refl)
+
+-- an evaluation so far
+pub record IsUnderWay (names : List Name) (h : Cells) (sets : List (List ℕ)) (top : Cell) (ws : List Waiting) (s : Step) : Type 0 where
+  pub value : (name : Naming) → IsNamedBy names name → value_of (seen_term name h sets top) ≡ resumed (seen_term name h sets) ws (step_value (seen_term name h sets) s)
+  pub own : IsOwnStep (length names) h s
+  pub waiting : All (IsOwnWaiting (length names) h) ws
+
+pub under_way_first : (names : List Name) (h : Cells) (sets : List (List ℕ)) (top : Cell) (ws : List Waiting) → ws ≡ [] → IsOwn (length names) h top → IsUnderWay names h sets top ws (Enter top)
+under_way_first names h sets top ws e o = subst (λ xs. IsUnderWay names h sets top xs (Enter top)) (sym e) record { value = λ name n. refl; own = o; waiting = none_at_all (IsOwnWaiting (length names) h) }
+
+pub under_way_further : (names : List Name) (h : Cells) (sets : List (List ℕ)) (top : Cell) (old new : List Waiting) (s t : Step) → IsUnderWay names h sets top old s → GoesOn names h sets old s new t → IsUnderWay names h sets top new t
+under_way_further names h sets top old new s t w g =
+    let o = g.own w.own w.waiting in
+    record { value = λ name n. w.value name n ∙ g.value name n; own = o.0; waiting = o.1 }
+
+-- a fault on the way is that of the whole
+pub way_fails : (names : List Name) (h : Cells) (sets : List (List ℕ)) (top : Cell) (ws : List Waiting) (s : Step) (e : EvalFault) → IsUnderWay names h sets top ws s → ((name : Naming) → IsNamedBy names name → IsFault e (resumed (seen_term name h sets) ws (step_value (seen_term name h sets) s)))
+    → (name : Naming) → IsNamedBy names name → IsFault e (value_of (seen_term name h sets top))
+way_fails names h sets top ws s e w f name n = subst (IsFault e) (sym (w.value name n)) (f name n)
+
+-- the last value is that of the whole
+pub way_ends : (names : List Name) (h : Cells) (sets : List (List ℕ)) (top : Cell) (ws : List Waiting) (s : Step) (z : ℤ) → IsUnderWay names h sets top ws s → ws ≡ [] → s ≡ Leave z → (name : Naming) → IsNamedBy names name → value_of (seen_term name h sets top) ≡ Ok z
+way_ends names h sets top ws s z w e f name n = w.value name n ∙ ap (λ xs. resumed (seen_term name h sets) xs (step_value (seen_term name h sets) s)) e ∙ ap (step_value (seen_term name h sets)) f
+
+-- what waits last is of the heap
+pub last_held : (n : ℕ) (h : Cells) (all ws : List Waiting) (w : Waiting) → All (IsOwnWaiting n h) all → all ≡ ws ++ w ∷ [] → IsOfHeap h w
+last_held n h all ws w a e = go w (last_of (IsOwnWaiting n h) ws w (subst (All (IsOwnWaiting n h)) e a))
+  where
+    go : (x : Waiting) → IsOwnWaiting n h x → IsOfHeap h x
+    go (Left o c) i = i.0
+    go (Right o z) i = tt
+    go Opposite i = tt

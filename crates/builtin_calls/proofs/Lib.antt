@@ -1,0 +1,4 @@
+pub mod Showing
+pub mod Remainders
+pub mod Evaluating
+pub mod Comparing

@@ -1,0 +1,12 @@
+use Rattle.std.proofs.Common.{◌++◌, [], ◌∷◌}
+use Rattle.builtin_calls.specs.Identical.{weight}
+use Rattle.builtin_calls.specs.Reading.{seen_term}
+use Rattle.builtin_calls.specs.Waiting.{unnamed}
+use Rattle.builtin_calls.proofs.Comparing.{IsComparing}
+use Rattle.builtin_calls.proofs.identity.same.Given as goal
+
+abbrev pub invariant-pairs : goal.invariant-pairs
+invariant-pairs g l = IsComparing l.heap.now (g.V.View.sets l.view) l.fn.a l.fn.b (l.work.items ++ l.pair ∷ [])
+
+abbrev pub decreases-pairs : goal.decreases-pairs
+decreases-pairs g l = weight (seen_term unnamed l.heap.now (g.V.View.sets l.view)) (l.work.items ++ l.pair ∷ [])

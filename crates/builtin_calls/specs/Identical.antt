@@ -1,0 +1,60 @@
+-- Whether two terms are identical, and pairs of cells that are still to be compared.
+use Rattle.std.specs.Prelude.{◌≡◌, ℕ, ◌+◌, ◌<◌, Bool, true, false, List, [], ◌∷◌, ◌++◌, All}
+use Rattle.term_pool.specs.Terms.{size}
+use Rattle.fd_language.specs.Term.{Term}
+use Rattle.heap_cells.specs.declared.Cell.{Cell}
+use Rattle.heap_cells.specs.declared.Seen.{Seen}
+use Rattle.heap_cells.specs.declared.Seen.TheVariants as seen
+use Rattle.heap_cells.specs.Cells.{Cells, IsOf}
+use Rattle.heap_cells.specs.Terms.{Naming, IsOneToOne}
+use Rattle.builtin_calls.specs.declared.identity.Pair.{Pair}
+use Rattle.builtin_calls.specs.Reading.{seen_term}
+use Rattle.builtin_calls.specs.Shown.{shown}
+use Rattle.builtin_calls.specs.Waiting.{unnamed}
+
+-- the answer tells whether the terms of two cells are identical, where no two atoms have one name
+abbrev pub TellsIdentical : Cells → List (List ℕ) → Cell → Cell → Bool → Type 0
+TellsIdentical h sets a b true = (name : Naming) → seen_term name h sets a ≡ seen_term name h sets b
+TellsIdentical h sets a b false = (name : Naming) → IsOneToOne name → seen_term name h sets a ≡ seen_term name h sets b → ⊥
+
+-- the same of what is seen at two cells, whatever the terms of cells are
+abbrev pub TellsShown : Seen → Seen → Bool → Type 0
+TellsShown x y true = (name : Naming) (by : Cell → Term) → shown name by x ≡ shown name by y
+TellsShown x y false = (name : Naming) → IsOneToOne name → (by : Cell → Term) → shown name by x ≡ shown name by y → ⊥
+
+-- no compound term
+abbrev pub IsFlat : Seen → Type 0
+IsFlat (seen.Open i) = Unit {0}
+IsFlat (seen.Constrained i k) = Unit {0}
+IsFlat (seen.Int z) = Unit {0}
+IsFlat (seen.Atom a) = Unit {0}
+IsFlat (seen.Struct f args) = ⊥
+
+abbrev pub IsOwnPair : Cells → Pair → Type 0
+IsOwnPair h p = IsOf h p.left × IsOf h p.right
+
+abbrev pub IsEqualPair : Naming → Cells → List (List ℕ) → Pair → Type 0
+IsEqualPair name h sets p = seen_term name h sets p.left ≡ seen_term name h sets p.right
+
+-- the sizes of the terms on the left together
+abbrev pub weight : (Cell → Term) → List Pair → ℕ
+weight by [] = 0
+weight by (p ∷ ps) = size (by p.left) + weight by ps
+
+-- the pairs of two lists of cells
+abbrev pub paired : List Cell → List Cell → List Pair
+paired [] ds = []
+paired (c ∷ cs) [] = []
+paired (c ∷ cs) (d ∷ ds) = record { left = c; right = d } ∷ paired cs ds
+
+-- the pairs of the one list are equal exactly where those of the other are, and there is less to compare
+pub record IsReduced (h : Cells) (sets : List (List ℕ)) (old new : List Pair) : Type 0 where
+  pub forth : (name : Naming) → All (IsEqualPair name h sets) old → All (IsEqualPair name h sets) new
+  pub back : (name : Naming) → All (IsEqualPair name h sets) new → All (IsEqualPair name h sets) old
+  pub own : All (IsOwnPair h) old → All (IsOwnPair h) new
+  pub falls : weight (seen_term unnamed h sets) new < weight (seen_term unnamed h sets) old
+
+-- the pair's terms are identical if those of the new pairs are, or they are not
+abbrev pub TellsPair : Cells → List (List ℕ) → List Pair → Pair → List Pair → Bool → Type 0
+TellsPair h sets old p new true = IsReduced h sets (old ++ p ∷ []) new
+TellsPair h sets old p new false = TellsIdentical h sets p.left p.right false

@@ -1,0 +1,8 @@
+pub mod Arithmetic
+pub mod Kinds
+pub mod Reading
+pub mod Shown
+pub mod Passing
+pub mod Outcomes
+pub mod Waiting
+pub mod Identical

@@ -1,0 +1,85 @@
+-- An evaluation under way: where it stands, and what waits for the value there, of which the last is the next.
+use Rattle.std.specs.Prelude.{◌≡◌, ℕ, ◌+◌, ◌*◌, ◌<◌, List, [], ◌∷◌, ◌++◌, ◌⊎◌, true, length, Some, codes, All, Result, Ok, Err}
+use Rattle.std.specs.Str.{bytes_eq}
+use Rattle.fd_language.specs.Term.{Name, Term, Comp}
+use Rattle.term_pool.specs.Terms.{size}
+use Rattle.heap_cells.specs.declared.Cell.{Cell}
+use Rattle.heap_cells.specs.Cells.{Cells, IsOf}
+use Rattle.heap_cells.specs.Terms.{Naming, terms_by}
+use Rattle.heap_cells.specs.Atoms.{IsAtomBelow}
+use Rattle.builtin_calls.specs.declared.evaluation.EvalFault.{EvalFault}
+use Rattle.builtin_calls.specs.declared.evaluation.Operation.{Operation}
+use Rattle.builtin_calls.specs.declared.evaluation.Waiting.{Waiting}
+use Rattle.builtin_calls.specs.declared.evaluation.Waiting.TheVariants.{Left, Right, Opposite}
+use Rattle.builtin_calls.specs.declared.evaluation.Step.{Step}
+use Rattle.builtin_calls.specs.declared.evaluation.Step.TheVariants.{Enter, Leave}
+use Rattle.builtin_calls.specs.Arithmetic.{Value, value_of, of_both, of_one, opposite_of}
+use Rattle.builtin_calls.specs.Reading.{seen_term}
+use Rattle.builtin_calls.specs.Outcomes.{IsFault, IsNamedBy, meaning, operation_of}
+
+-- the value once the value that is waited for is there, where each cell's term is given
+abbrev pub after : (Cell → Term) → Waiting → Value → Value
+after by (Left o c) v = of_both (meaning o) v (value_of (by c))
+after by (Right o z) v = of_both (meaning o) (Ok z) v
+after by Opposite v = of_one opposite_of v
+
+abbrev pub resumed : (Cell → Term) → List Waiting → Value → Value
+resumed by [] v = v
+resumed by (w ∷ ws) v = after by w (resumed by ws v)
+
+-- the value at a step
+abbrev pub step_value : (Cell → Term) → Step → Value
+step_value by (Enter c) = value_of (by c)
+step_value by (Leave z) = Ok z
+
+-- the cell is of the heap, and an atom is one of the first n
+abbrev pub IsOwn : ℕ → Cells → Cell → Type 0
+IsOwn n h c = IsOf h c × IsAtomBelow n c
+
+abbrev pub IsOwnWaiting : ℕ → Cells → Waiting → Type 0
+IsOwnWaiting n h (Left o c) = IsOwn n h c
+IsOwnWaiting n h (Right o z) = Unit {0}
+IsOwnWaiting n h Opposite = Unit {0}
+
+-- a cell that waits is of the heap
+abbrev pub IsOfHeap : Cells → Waiting → Type 0
+IsOfHeap h (Left o c) = IsOf h c
+IsOfHeap h (Right o z) = Unit {0}
+IsOfHeap h Opposite = Unit {0}
+
+abbrev pub IsOwnStep : ℕ → Cells → Step → Type 0
+IsOwnStep n h (Enter c) = IsOwn n h c
+IsOwnStep n h (Leave z) = Unit {0}
+
+-- all atoms have one name
+abbrev pub unnamed : Naming
+unnamed a = []
+
+-- how much is left to do
+abbrev pub burden : (Cell → Term) → List Waiting → ℕ
+burden by [] = 0
+burden by (Left o c ∷ ws) = 2 * size (by c) + 1 + burden by ws
+burden by (Right o z ∷ ws) = 1 + burden by ws
+burden by (Opposite ∷ ws) = 1 + burden by ws
+
+abbrev pub load : (Cell → Term) → List Waiting → Step → ℕ
+load by ws (Enter c) = 2 * size (by c) + burden by ws
+load by ws (Leave z) = 1 + burden by ws
+
+-- one evaluation goes on as the other, and has less left to do
+pub record GoesOn (names : List Name) (h : Cells) (sets : List (List ℕ)) (old : List Waiting) (s : Step) (new : List Waiting) (t : Step) : Type 0 where
+  pub value : (name : Naming) → IsNamedBy names name → resumed (seen_term name h sets) old (step_value (seen_term name h sets) s) ≡ resumed (seen_term name h sets) new (step_value (seen_term name h sets) t)
+  pub own : IsOwnStep (length names) h s → All (IsOwnWaiting (length names) h) old → IsOwnStep (length names) h t × All (IsOwnWaiting (length names) h) new
+  pub falls : load (seen_term unnamed h sets) new t < load (seen_term unnamed h sets) old s
+
+-- an evaluation goes on, or its fault is told
+abbrev pub TellsStep : List Name → Cells → List (List ℕ) → List Waiting → Step → Result Step EvalFault → List Waiting → Type 0
+TellsStep names h sets old s (Ok t) new = GoesOn names h sets old s new t
+TellsStep names h sets old s (Err e) new = (name : Naming) → IsNamedBy names name → IsFault e (resumed (seen_term name h sets) old (step_value (seen_term name h sets) s))
+
+-- a compound term is entered at its first operand, or its fault is told
+abbrev pub IsEntered : Name → List Cell → List Waiting → Result Step EvalFault → List Waiting → Type 0
+IsEntered f args old (Ok t) new =
+    ((c : Cell) × (args ≡ c ∷ []) × (bytes_eq f (codes "-") ≡ true) × (new ≡ old ++ Opposite ∷ []) × (t ≡ Enter c))
+    ⊎ ((c : Cell) × (d : Cell) × (o : Operation) × (args ≡ c ∷ d ∷ []) × (operation_of f ≡ Some o) × (new ≡ old ++ Left o d ∷ []) × (t ≡ Enter c))
+IsEntered f args old (Err e) new = (by : Cell → Term) → IsFault e (value_of (Comp f (terms_by by args)))

@@ -1,0 +1,37 @@
+//! A cell as the sets of a store show it.
+
+ghost use Rattle.std.specs.Prelude.{◌≡◌, length};
+ghost use Rattle.heap_cells.specs.Cells.{IsOf};
+ghost use Rattle.heap_cells.specs.Terms.{Naming};
+ghost use Rattle.heap_cells.specs.Valid.{IsHeap};
+ghost use Rattle.builtin_calls.specs.Reading.{seen_term, HasLinksBelow};
+ghost use Rattle.builtin_calls.specs.Shown.{only, shown, IsHeld};
+
+use domain_ranges::{Domain, View};
+use heap_cells::{Cell, Heap, Seen};
+
+/// The only member of a domain.
+fn only_value(domain: &Domain) -> Option<u32>
+    ensures { result ≡ only domain.now }
+{
+    let least = domain.min();
+    if least == domain.max() { least } else { None }
+}
+
+/// What a cell comes to, where a variable of the store with one value is that integer.
+pub(crate) fn look<'h, V: View>(heap: &'h Heap, view: &V, c: Cell) -> Seen<'h>
+    requires own { IsOf heap.now.now c }
+    requires links { HasLinksBelow (length (V.sets view.now)) heap.now.now }
+    ensures term { (name : Naming) → seen_term name heap.now.now (V.sets view.now) c
+        ≡ shown name (seen_term name heap.now.now (V.sets view.now)) result }
+    ensures held { IsHeld heap.now.now result }
+    ensures valid { IsHeap heap.now.now }
+{
+    let seen = heap.deref(c);
+    if let Seen::Constrained(_, k) = seen {
+        if let Some(value) = only_value(view.domain(k)) {
+            return Seen::Int(value as i64);
+        }
+    }
+    seen
+}
