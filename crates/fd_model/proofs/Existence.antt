@@ -5,8 +5,7 @@ use Rattle.fd_language.specs.Term.{Term, Var, Substitution, apply}
 use Rattle.fd_language.specs.Unifier.{Equation, IsMostGeneral}
 use Rattle.fd_language.specs.Family.{Family, has, IsInside}
 use Rattle.fd_language.specs.Range.{Range, Indexical}
-use Rattle.fd_model.specs.declared.kinds.BuiltinKind.{BuiltinKind}
-use Rattle.fd_model.specs.declared.kinds.BuiltinKind.TheVariants.{Write, Nl}
+use Rattle.fd_model.specs.Builtins.{Finding, faulted, decided, equated, finding}
 use Rattle.fd_model.specs.Goal.{Goal, Goals, no_goals, goal, listed, True, Fail, Unify, Post, Constrain, Label, Call, Either, Builtin, Clause, Query, Branch, Program, Event, Answer, End, Budget, Limit, Fault, start_of}
 use Rattle.fd_model.specs.Closed.{constrained, AllPosted, IsClosed}
 use Rattle.fd_language.specs.Monotonicity.{IsMonotone}
@@ -22,9 +21,9 @@ use Rattle.fd_model.specs.declared.kinds.ConstraintKind.{ConstraintKind}
 use Rattle.fd_model.specs.LinearRows.{Expansion}
 use Rattle.fd_model.specs.Constraining.{constrain, arguments}
 use Rattle.fd_model.proofs.RowsMonotone.{monotone_rows}
-use Rattle.fd_model.specs.Children.{Offer, Faults, Gives, Awaited, Kept, KeptOffer, offer, look_in, sets_in, by_value, by_pick, by_listing, with_goals, with_equations, with_range, with_expansion, by_clauses, by_clause, by_post, by_constraint, by_builtin, fits_head}
+use Rattle.fd_model.specs.Children.{Offer, Faults, Gives, Kept, KeptOffer, offer, look_in, sets_in, by_value, by_pick, by_listing, with_goals, with_equations, with_range, with_expansion, by_clauses, by_clause, by_post, by_constraint, by_finding, fits_head}
 use Rattle.fd_model.specs.Lines.{answer_line, says}
-use Rattle.fd_model.specs.Sound.{IsRunnable, AllRunnable, AreRunnable, ClausesRunnable, IsRunnableProgram, IsGiven}
+use Rattle.fd_model.specs.Sound.{IsRunnable, AllRunnable, AreRunnable, ClausesRunnable, IsRunnableProgram}
 use Rattle.fd_language.specs.Check.{range_fits}
 use Rattle.fd_model.specs.Run.{IsLimit, Run, over, last, fewer, any, spent, faulty, taken}
 use Rattle.fd_model.proofs.Closing.{greatest_for, closed_either}
@@ -125,10 +124,11 @@ module _ (M : ℕ) (b : Branch) (rest : List Goal) (posted : AllPosted (λ p. Is
   one_sound : (c : Branch) (cs : List Branch) → Gives (c ∷ []) ≡ Gives cs → IsSound M c → AllSound M cs
   one_sound c cs e h = let kids : c ∷ [] ≡ cs = cc in subst (AllSound M) kids (h, tt)
 
-  builtin_sound : (k : BuiltinKind) → IsGiven k → (cs : List Branch) → by_builtin k b rest ≡ Gives cs → AllSound M cs
-  builtin_sound Write h cs e = one_sound (with_goals b rest) cs e (record { goals = others; posted = posted })
-  builtin_sound Nl h cs e = one_sound (with_goals b rest) cs e (record { goals = others; posted = posted })
-  builtin_sound _ h cs e = absurd h
+  finding_sound : (f : Finding) (cs : List Branch) → by_finding b rest f ≡ Gives cs → AllSound M cs
+  finding_sound (faulted f) cs e = absurd (cc)
+  finding_sound (decided true) cs e = one_sound (with_goals b rest) cs e (record { goals = others; posted = posted })
+  finding_sound (decided false) cs e = let kids : [] ≡ cs = cc in subst (AllSound M) kids tt
+  finding_sound (equated l r) cs e = one_sound (with_equations b rest (record { left = l; right = r } ∷ []) b.fresh) cs e (record { goals = others; posted = posted })
 
   values_sound : (g : Goal) → IsRunnable M g → (x : ℕ) (ns : List ℕ) → AllSound M (map (by_value b (g ∷ rest) x) ns)
   values_sound g h x [] = tt
@@ -141,14 +141,6 @@ module _ (M : ℕ) (b : Branch) (rest : List Goal) (posted : AllPosted (λ p. Is
   listing_sound : (values : ℕ → List ℕ) (o : Order) (g : Goal) → IsRunnable M g → (l : Result (List Member) QueryFault) (cs : List Branch) → by_listing values b o g rest l ≡ Gives cs → AllSound M cs
   listing_sound values o g h (Err f) cs e = absurd (cc)
   listing_sound values o g h (Ok ms) cs e = pick_sound values g h (pick o values ms) cs e
-
-  pick_given : (values : ℕ → List ℕ) (g : Goal) (r : Option ℕ) → by_pick values b g rest r ≡ Awaited → ⊥
-  pick_given values g None e = cc
-  pick_given values g (Some x) e = cc
-
-  listing_given : (values : ℕ → List ℕ) (o : Order) (g : Goal) (l : Result (List Member) QueryFault) → by_listing values b o g rest l ≡ Awaited → ⊥
-  listing_given values o g (Err f) e = cc
-  listing_given values o g (Ok ms) e = pick_given values g (pick o values ms) e
 
   -- the children of a sound branch are sound
   pub offer_sound : (prog : Program) (look : ℕ → Term) (sets : ℕ → Option (List ℕ)) (g : Goal) → IsRunnableProgram M prog → IsRunnable M g → (cs : List Branch) → offer M prog look sets b g rest ≡ Gives cs → AllSound M cs
@@ -163,28 +155,7 @@ module _ (M : ℕ) (b : Branch) (rest : List Goal) (posted : AllPosted (λ p. Is
       let kids : with_goals b (listed x ++ rest) ∷ with_goals b (listed y ++ rest) ∷ [] ≡ cs = cc in
       subst (AllSound M) kids
       (record { goals = runnable_both M (listed x) rest (runnable_listed M x h.0) others; posted = posted }, (record { goals = runnable_both M (listed y) rest (runnable_listed M y h.1) others; posted = posted }, tt))
-  offer_sound prog look sets (Builtin k t) p h cs e = builtin_sound k h cs e
-
-  builtin_given : (k : BuiltinKind) → IsGiven k → by_builtin k b rest ≡ Awaited → ⊥
-  builtin_given Write h e = cc
-  builtin_given Nl h e = cc
-  builtin_given _ h e = h
-
-  post_given : (f : Found) → by_post b rest f ≡ Awaited → ⊥
-  post_given (offends f) e = cc
-  post_given (posts p n es) e = cc
-
-  constraint_given : (r : Result Expansion QueryFault) → by_constraint b rest r ≡ Awaited → ⊥
-  constraint_given (Err f) e = cc
-  constraint_given (Ok x) e = cc
-
-  -- its row is given
-  offer_given : (prog : Program) (look : ℕ → Term) (sets : ℕ → Option (List ℕ)) (g : Goal) → IsRunnable M g → offer M prog look sets b g rest ≡ Awaited → ⊥
-  offer_given prog look sets (Post t r) h e = post_given (post look t r b.fresh) e
-  offer_given prog look sets (Constrain c t) h e = constraint_given (constrain look c t b.fresh) e
-  offer_given prog look sets (Label o t) h e = listing_given (λ x. values_by M (sets x)) o (Label o t) (read_list (apply look t)) e
-  offer_given prog look sets (Builtin k t) h e = builtin_given k h e
-  offer_given prog look sets _ h e = cc
+  offer_sound prog look sets (Builtin k t) p h cs e = finding_sound (finding k look sets t) cs e
 
 module _ (M : ℕ) (prog : Program) (q : Query) (runnable : IsRunnableProgram M prog) where
   abbrev IsLive : Branch → Type 0
@@ -220,7 +191,6 @@ module _ (M : ℕ) (prog : Program) (q : Query) (runnable : IsRunnableProgram M 
       let ks = keep cs (offer_sound M b rest l.0.posted hs prog (look_in b s D) (sets_in b s D) g runnable h cs i) in
       let more = later (ks.0 ++ bs) (live_both ks.0 bs ks.2 ls) in
       (says s D b g ++ more.0, suc more.1, taken g rest s D ks.0 e (record { view = v; kept = subst (λ o. KeptOffer M o (Gives ks.0)) (sym i) ks.1 }) more.2)
-  by_offer m k b bs g rest l ls e h hs later s D v Awaited i = absurd (offer_given M b rest l.0.posted hs prog (look_in b s D) (sets_in b s D) g h i)
 
   by_limit : (n : ℕ) (k : Option ℕ) (b : Branch) (bs : List Branch) → b.goals ≡ [] → IsLive b → IsLimit k → ((j : Option ℕ) → IsLimit j → HasRun n j bs) → HasRun n k (b ∷ bs)
   by_limit n None b bs e l a later = let v = view_of b l in let more = later None tt in (Answer (answer_line q v.0 v.1 b) ∷ more.0, more.1, any v.0 v.1 e v.2 more.2)

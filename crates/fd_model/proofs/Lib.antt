@@ -5,6 +5,7 @@ pub mod Constants
 pub mod Canonical
 pub mod Unique
 pub mod Accepting
+pub mod Findings
 pub mod Existence
 pub mod Texts
 pub mod Integers

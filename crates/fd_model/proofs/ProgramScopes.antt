@@ -4,7 +4,7 @@ use Rattle.std.proofs.lemmas.Bool.{or_left}
 use Rattle.std.specs.Str.{bytes_eq}
 use Rattle.std.specs.Prelude.{codes}
 use Rattle.fd_language.specs.Term.{Name, Term, Terms, Var, Int, Atom, Comp, no_terms, term}
-use Rattle.fd_language.specs.PlacedTerm.{PlacedTerm, var, atom, comp, no_parts, part, plain}
+use Rattle.fd_language.specs.PlacedTerm.{PlacedTerm, var, int, atom, comp, no_parts, part, plain}
 use Rattle.fd_language.specs.Family.{has}
 use Rattle.fd_language.specs.Range.{Range, One, Outside, Over, Expr, Infinity, Val, DivUp}
 use Rattle.fd_language.specs.Places.{expr_places, range_places}
@@ -12,11 +12,12 @@ use Rattle.fd_language.specs.Spelling.{Parsed, read, offends, expr_operator, exp
 use Rattle.fd_language.specs.Variables.{variables_of, variables_of_all}
 use Rattle.fd_language.specs.Reading.{Sentence, sentences, token_fault, syntax_fault, too_deep}
 use Rattle.fd_language.specs.Reading as reading
-use Rattle.fd_model.specs.Refusals.{Form, query, clause, directive, fact, form_of, goals_of, Refusal, first_refusal}
-use Rattle.fd_model.specs.Queries.{goal_of, is_shown, shown_from, queries_by, queries_of, program_of}
-use Rattle.fd_model.specs.Goal.{Post, Call, Query, Program}
+use Rattle.fd_model.specs.Forms.{GoalForm, truth, failure, unification, posting, constraint, labelling, builtin}
+use Rattle.fd_model.specs.Refusals.{Form, query, clause, directive, fact, form_of, functor_of, second_part, Refusal, first_refusal}
+use Rattle.fd_model.specs.Queries.{first_part, goal_by_form, goal_named, form_of_functor, goal_of, followed, body_goals, is_shown, shown_from, queries_by, queries_of, clauses_by, clauses_of, program_of}
+use Rattle.fd_model.specs.Goal.{Goals, no_goals, goal, listed, Either, Clause, Query, Program}
 use Rattle.fd_language.specs.Variables.{TermBelow, TermsBelow}
-use Rattle.fd_model.specs.Sound.{PlacesBelow, RangeBelow, GoalBelow, EachBelow, NumbersBelow, QueriesScoped, IsScoped}
+use Rattle.fd_model.specs.Sound.{PlacesBelow, RangeBelow, GoalBelow, GoalsBelow, EachBelow, NumbersBelow, ClausesScoped, QueriesScoped, IsScoped}
 use Rattle.fd_model.specs.Verdict.{accepted, refused, sentences_verdict, reading_verdict}
 use Rattle.fd_model.specs.ProgramLaws.{ScopedProgram}
 use Rattle.fd_language.specs.Lists.{Each}
@@ -135,33 +136,71 @@ module _ (n : ℕ) where
   abbrev IsBelow : PlacedTerm → Type 0
   IsBelow t = TermBelow n (plain t)
 
+  second_below : (t : PlacedTerm) → IsBelow t → IsBelow (second_part t)
+  second_below (comp f p (part a (part b ts))) h = h.1.0
+  second_below (comp f p (part a no_parts)) h = h
+  second_below (comp f p no_parts) h = h
+  second_below (var x p) h = h
+  second_below (int z p) h = h
+  second_below (atom a p) h = h
+
+  first_below : (t : PlacedTerm) → IsBelow t → IsBelow (first_part t)
+  first_below (comp f p (part a ts)) h = h.0
+  first_below (comp f p no_parts) h = h
+  first_below (var x p) h = h
+  first_below (int z p) h = h
+  first_below (atom a p) h = h
+
+  form_scoped : (form : GoalForm) (t : PlacedTerm) → IsBelow t → GoalBelow n (goal_by_form form t)
+  form_scoped truth t h = tt
+  form_scoped failure t h = tt
+  form_scoped unification t h = (first_below t h, second_below t h)
+  form_scoped posting t h = (first_below t h, range_scoped (second_part t) (second_below t h))
+  form_scoped (constraint k) t h = h
+  form_scoped (labelling o) t h = first_below t h
+  form_scoped (builtin k) t h = h
+
+  named_scoped : (o : Option GoalForm) (t : PlacedTerm) → IsBelow t → GoalBelow n (goal_named o t)
+  named_scoped (Some form) t h = form_scoped form t h
+  named_scoped None t h = h
+
   goal_scoped : (t : PlacedTerm) → IsBelow t → GoalBelow n (goal_of t)
-  goal_scoped (comp f p (part (var x q) (part r no_parts))) h =
-      either (GoalBelow n) (bytes_eq f (codes "in")) (Post (Var x) (read_range r).tree) (Call (plain (comp f p (part (var x q) (part r no_parts))))) (h.0, range_scoped r h.1.0) h
-  goal_scoped _ h = h
+  goal_scoped t h = named_scoped (form_of_functor (functor_of t)) t h
 
-  goals_below : (t : PlacedTerm) → IsBelow t → Each IsBelow (goals_of t)
-  goals_below (comp f p (part a (part b no_parts))) h =
-      either (Each IsBelow) (bytes_eq f (codes ",")) (goals_of a ++ goals_of b) (comp f p (part a (part b no_parts)) ∷ []) (each_both IsBelow (goals_of a) (goals_of b) (goals_below a h.0) (goals_below b h.1.0)) (h, tt)
-  goals_below _ h = (h, tt)
+  followed_scoped : (gs hs : Goals) → GoalsBelow n gs → GoalsBelow n hs → GoalsBelow n (followed gs hs)
+  followed_scoped no_goals hs h k = k
+  followed_scoped (goal g gs) hs h k = (h.0, followed_scoped gs hs h.1 k)
 
-  goals_scoped : (ts : List PlacedTerm) → Each IsBelow ts → EachBelow n (map goal_of ts)
-  goals_scoped [] h = tt
-  goals_scoped (t ∷ ts) h = (goal_scoped t h.0, goals_scoped ts h.1)
+  body_scoped : (t : PlacedTerm) → IsBelow t → GoalsBelow n (body_goals t)
+  body_scoped (comp f p (part a (part b no_parts))) h =
+      let left = body_scoped a h.0 in
+      let right = body_scoped b h.1.0 in
+      either (GoalsBelow n) (bytes_eq f (codes ",")) (followed (body_goals a) (body_goals b)) _ (followed_scoped (body_goals a) (body_goals b) left right)
+      (either (GoalsBelow n) (bytes_eq f (codes ";")) (goal (Either (body_goals a) (body_goals b)) no_goals) _ ((left, right), tt) (goal_scoped (comp f p (part a (part b no_parts))) h, tt))
+  body_scoped (comp f p (part a (part b (part c ts)))) h = (goal_scoped (comp f p (part a (part b (part c ts)))) h, tt)
+  body_scoped (comp f p (part a no_parts)) h = (goal_scoped (comp f p (part a no_parts)) h, tt)
+  body_scoped (comp f p no_parts) h = (goal_scoped (comp f p no_parts) h, tt)
+  body_scoped (var x p) h = (goal_scoped (var x p) h, tt)
+  body_scoped (int z p) h = (goal_scoped (int z p) h, tt)
+  body_scoped (atom a p) h = (goal_scoped (atom a p) h, tt)
+
+  listed_scoped : (gs : Goals) → GoalsBelow n gs → EachBelow n (listed gs)
+  listed_scoped no_goals h = tt
+  listed_scoped (goal g gs) h = (h.0, listed_scoped gs h.1)
 
   -- ---- sentences
 
   abbrev IsFormBelow : Form → Type 0
   IsFormBelow (query b) = IsBelow b
-  IsFormBelow (clause h b) = Unit {0}
+  IsFormBelow (clause h b) = IsBelow h × IsBelow b
   IsFormBelow directive = Unit {0}
-  IsFormBelow (fact t) = Unit {0}
+  IsFormBelow (fact t) = IsBelow t
 
   form_below : (t : PlacedTerm) → IsBelow t → IsFormBelow (form_of t)
   form_below (comp f p (part b no_parts)) h =
-      either IsFormBelow (bytes_eq f (codes "?-")) (query b) _ h.0 (either IsFormBelow (bytes_eq f (codes ":-")) directive (fact (comp f p (part b no_parts))) tt tt)
-  form_below (comp f p (part a (part b no_parts))) h = either IsFormBelow (bytes_eq f (codes ":-")) (clause a b) (fact (comp f p (part a (part b no_parts)))) tt tt
-  form_below _ h = tt
+      either IsFormBelow (bytes_eq f (codes "?-")) (query b) _ h.0 (either IsFormBelow (bytes_eq f (codes ":-")) directive (fact (comp f p (part b no_parts))) tt h)
+  form_below (comp f p (part a (part b no_parts))) h = either IsFormBelow (bytes_eq f (codes ":-")) (clause a b) (fact (comp f p (part a (part b no_parts)))) (h.0, h.1.0) h
+  form_below _ h = h
 
   shown_below : (k : ℕ) (names : List Name) → k + length names ≤ n → NumbersBelow n (shown_from k names)
   shown_below k [] l = tt
@@ -170,13 +209,24 @@ module _ (n : ℕ) where
       either (NumbersBelow n) (is_shown name) (k ∷ shown_from (suc k) names) (shown_from (suc k) names) (omega arith, later) later
 
 query_scoped : (names : List Name) (form : Form) (later : List Query) → IsFormBelow (length names) form → QueriesScoped later → QueriesScoped (queries_by names form later)
-query_scoped names (query b) later h g = ((shown_below (length names) 0 names (omega arith), goals_scoped (length names) (goals_of b) (goals_below (length names) b h)), g)
+query_scoped names (query b) later h g = ((shown_below (length names) 0 names (omega arith), listed_scoped (length names) (body_goals b) (body_scoped (length names) b h)), g)
 query_scoped names _ later h g = g
 
 -- each query names no variable beyond those of its sentence
 pub queries_scoped : (ss : List Sentence) → Each (λ s. TermBelow (length s.names) (plain s.term)) ss → QueriesScoped (queries_of ss)
 queries_scoped [] h = tt
 queries_scoped (s ∷ ss) h = query_scoped s.names (form_of s.term) (queries_of ss) (form_below (length s.names) s.term h.0) (queries_scoped ss h.1)
+
+clause_scoped : (names : List Name) (form : Form) (later : List Clause) → IsFormBelow (length names) form → ClausesScoped later → ClausesScoped (clauses_by names form later)
+clause_scoped names (query b) later h g = g
+clause_scoped names (clause t b) later h g = ((h.0, listed_scoped (length names) (body_goals b) (body_scoped (length names) b h.1)), g)
+clause_scoped names directive later h g = g
+clause_scoped names (fact t) later h g = ((h, tt), g)
+
+-- each clause names no variable beyond those of its sentence
+pub clauses_scoped : (ss : List Sentence) → Each (λ s. TermBelow (length s.names) (plain s.term)) ss → ClausesScoped (clauses_of ss)
+clauses_scoped [] h = tt
+clauses_scoped (s ∷ ss) h = clause_scoped s.names (form_of s.term) (clauses_of ss) (form_below (length s.names) s.term h.0) (clauses_scoped ss h.1)
 
 terms_below_names : (ss : List Sentence) → Each (λ s. (x : ℕ) → has (variables_of (plain s.term)) x ≡ true → x < length s.names) ss → Each (λ s. TermBelow (length s.names) (plain s.term)) ss
 terms_below_names [] h = tt
@@ -188,7 +238,7 @@ accepted_scoped ss (Some r) prog e h = absurd (cc)
 
 read_scoped : (M : ℕ) (text : List ℕ) (prog : Program) (r : reading.Reading) → reading.IsReading text r → accepted prog ≡ reading_verdict M r → IsScoped prog
 read_scoped M text prog (sentences ss) h e =
-    accepted_scoped ss (first_refusal M (map (λ s. s.term) ss) (map (λ s. s.term) ss)) prog e (record { clauses = tt; queries = queries_scoped ss (terms_below_names ss (each_below text ss h)) })
+    accepted_scoped ss (first_refusal M (map (λ s. s.term) ss) (map (λ s. s.term) ss)) prog e (record { clauses = clauses_scoped ss (terms_below_names ss (each_below text ss h)); queries = queries_scoped ss (terms_below_names ss (each_below text ss h)) })
 read_scoped _ text prog _ h e = absurd (cc)
 
 not_accepted : (p : ℕ) (reason : List ℕ) (prog : Program) → accepted prog ≡ refused p reason → ⊥

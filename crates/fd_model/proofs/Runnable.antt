@@ -1,21 +1,20 @@
 -- The program of accepted sentences can run: its goals post ranges that fit.
-use Rattle.std.proofs.Common.{◌≡◌, ℕ, Bool, true, false, cond, List, [], ◌∷◌, map, Option, Some, None, IsTrue, refl, subst, arith}
-use Rattle.std.specs.Prelude.{◌&&◌, codes}
+use Rattle.std.proofs.Common.{◌≡◌, ℕ, Bool, true, false, cond, List, [], ◌∷◌, ◌++◌, map, Option, Some, None, IsTrue, refl, sym, subst, arith}
+use Rattle.std.specs.Prelude.{◌&&◌, ◌||◌, codes}
 use Rattle.std.specs.Str.{bytes_eq}
-use Rattle.fd_language.specs.Term.{Term, Var}
 use Rattle.fd_language.specs.PlacedTerm.{PlacedTerm, var, int, atom, comp, no_parts, part}
 use Rattle.fd_language.specs.Check.{range_fits}
 use Rattle.fd_language.specs.Reading.{Sentence}
-use Rattle.fd_language.specs.RangeVerdict.{verdict, is_accepted, range_within, has_one_use}
+use Rattle.fd_language.specs.RangeVerdict.{verdict, range_within, has_one_use}
 use Rattle.fd_language.specs.Spelling.{read_range, not_a_range, least_place}
 use Rattle.fd_language.specs.declared.range_node.Offence.{Offence}
 use Rattle.fd_language.specs.declared.range_node.Offence.TheVariants.{NotMonotone, NotNatural, BadDivisor, TooWide}
 use Rattle.fd_language.proofs.Lemmas.{verdict_agrees}
-use Rattle.fd_model.specs.Forms.{is_named, reserved_names, not_yet_names}
-use Rattle.fd_model.specs.Goal.{Goal, Post, Query, Program}
-use Rattle.fd_model.specs.Queries.{goal_of, queries_by, queries_of, program_of}
-use Rattle.fd_model.specs.Refusals.{Refusal, Functor, Form, query, clause, directive, fact, form_of, functor_of, goals_of, posted_range, or_later, unspelled, offence_refusal, range_refusal, by_range, by_functor, goal_refusal, goals_refusal, wide_places, too_wide, form_refusal, sentence_refusal, first_refusal}
-use Rattle.fd_model.specs.Sound.{IsRunnable, AreRunnable, QueriesRunnable, IsRunnableProgram}
+use Rattle.fd_model.specs.Forms.{GoalForm, truth, failure, unification, posting, constraint, labelling, builtin, form_named, is_named, reserved_names, not_yet_names}
+use Rattle.fd_model.specs.Goal.{Goals, no_goals, goal, listed, Either, Clause, Query}
+use Rattle.fd_model.specs.Queries.{goal_by_form, goal_named, form_of_functor, goal_of, followed, body_goals, queries_by, queries_of, clauses_by, clauses_of, program_of}
+use Rattle.fd_model.specs.Refusals.{Refusal, Functor, Form, query, clause, directive, fact, form_of, functor_of, goals_of, second_part, or_later, unspelled, offence_refusal, range_refusal, form_refusal, by_form, by_functor, goal_refusal, goals_refusal, head_refusal, wide_places, too_wide, clause_refusal, sentence_refusal, first_refusal}
+use Rattle.fd_model.specs.Sound.{IsRunnable, AllRunnable, AreRunnable, ClausesRunnable, QueriesRunnable, IsRunnableProgram}
 
 first_none : (a b : Option Refusal) → or_later a b ≡ None → a ≡ None
 first_none None b e = refl
@@ -48,49 +47,85 @@ range_fit M r h =
     let none = unoffended (verdict M places value) (later_none (unspelled (not_a_range r)) (offence_refusal (verdict M places value)) h) in
     fitting (range_within M value) (range_fits M value true) (has_one_use value) ((verdict_agrees M places value).0 none)
 
--- a goal that posts a range
-posted_by : (M : ℕ) (named : Bool) (t : Term) (r s : PlacedTerm) (other : Goal) → cond named (Some r) None ≡ Some s → IsTrue (range_fits M (read_range s).tree true) → IsRunnable M (cond named (Post t (read_range r).tree) other)
-posted_by M true t r s other e h = let same : s ≡ r = cc in subst (λ (q : PlacedTerm). IsTrue (range_fits M (read_range q).tree true)) same h
-posted_by M false t r s other e h = absurd cc
+-- a goal of the language that isn't refused
+form_runs : (M : ℕ) (t : PlacedTerm) (form : GoalForm) → form_refusal M t form ≡ None → IsRunnable M (goal_by_form form t)
+form_runs M t truth h = tt
+form_runs M t failure h = tt
+form_runs M t unification h = tt
+form_runs M t posting h = range_fit M (second_part t) h
+form_runs M t (constraint k) h = tt
+form_runs M t (labelling o) h = tt
+form_runs M t (builtin k) h = tt
 
-posted_runs : (M : ℕ) (g r : PlacedTerm) → posted_range g ≡ Some r → IsTrue (range_fits M (read_range r).tree true) → IsRunnable M (goal_of g)
-posted_runs M (comp f p (part (var x q) (part r no_parts))) s e h = posted_by M (bytes_eq f (codes "in")) (Var x) r s _ e h
-posted_runs M (comp f p (part (var v q) (part r (part u us)))) s e h = absurd cc
-posted_runs M (comp f p (part (var v q) no_parts)) s e h = absurd cc
-posted_runs M (comp f p (part (int z q) us)) s e h = absurd cc
-posted_runs M (comp f p (part (atom a q) us)) s e h = absurd cc
-posted_runs M (comp f p (part (comp g q ts) us)) s e h = absurd cc
-posted_runs M (comp f p no_parts) s e h = absurd cc
-posted_runs M (var v p) s e h = absurd cc
-posted_runs M (int z p) s e h = absurd cc
-posted_runs M (atom a p) s e h = absurd cc
+by_form_runs : (M : ℕ) (all : List PlacedTerm) (t : PlacedTerm) (f : Functor) (o : Option GoalForm) → by_form M all t f o ≡ None → IsRunnable M (goal_named o t)
+by_form_runs M all t f (Some form) h = form_runs M t form h
+by_form_runs M all t f None h = tt
 
-by_posted : (M : ℕ) (all : List PlacedTerm) (g : PlacedTerm) (f : Functor) (o : Option PlacedTerm) → posted_range g ≡ o → by_range M all g f o ≡ None → IsRunnable M (goal_of g)
-by_posted M all g f (Some r) e h = posted_runs M g r e (range_fit M r h)
-by_posted M all g f None e h = absurd cc
+by_name : (M : ℕ) (all : List PlacedTerm) (t : PlacedTerm) (o : Option Functor) → by_functor M all t o ≡ None → IsRunnable M (goal_named (form_of_functor o) t)
+by_name M all t None h = absurd cc
+by_name M all t (Some f) h =
+    by_form_runs M all t f (form_named f.name f.arity) (neither (is_named reserved_names f.name) (is_named (not_yet_names f.arity) f.name) _ _ (by_form M all t f (form_named f.name f.arity)) h)
 
-by_name : (M : ℕ) (all : List PlacedTerm) (g : PlacedTerm) (o : Option Functor) → by_functor M all g o ≡ None → IsRunnable M (goal_of g)
-by_name M all g None h = absurd cc
-by_name M all g (Some f) h =
-    by_posted M all g f (posted_range g) refl (neither (is_named reserved_names f.name) (is_named (not_yet_names f.arity) f.name) _ _ (by_range M all g f (posted_range g)) h)
+followed_runs : (M : ℕ) (gs hs : Goals) → AllRunnable M gs → AllRunnable M hs → AllRunnable M (followed gs hs)
+followed_runs M no_goals hs h k = k
+followed_runs M (goal g gs) hs h k = (h.0, followed_runs M gs hs h.1 k)
 
-goals_run : (M : ℕ) (all gs : List PlacedTerm) → goals_refusal M all gs ≡ None → AreRunnable M (map goal_of gs)
-goals_run M all [] h = tt
-goals_run M all (g ∷ gs) h = (by_name M all g (functor_of g) (first_none (goal_refusal M all g) (goals_refusal M all gs) h), goals_run M all gs (later_none (goal_refusal M all g) (goals_refusal M all gs) h))
+first_run : (M : ℕ) (all as' bs : List PlacedTerm) → goals_refusal M all (as' ++ bs) ≡ None → goals_refusal M all as' ≡ None
+first_run M all [] bs h = refl
+first_run M all (a ∷ as') bs h =
+    subst (λ o. or_later o (goals_refusal M all as') ≡ None) (sym (first_none (goal_refusal M all a) (goals_refusal M all (as' ++ bs)) h)) (first_run M all as' bs (later_none (goal_refusal M all a) (goals_refusal M all (as' ++ bs)) h))
 
-form_runs : (M : ℕ) (all : List PlacedTerm) (s : Sentence) (f : Form) (later : List Query) → form_refusal M all s.term f ≡ None → QueriesRunnable M later → QueriesRunnable M (queries_by s.names f later)
-form_runs M all s (query b) later h g = (goals_run M all (goals_of b) h, g)
-form_runs M all s (clause a b) later h g = g
-form_runs M all s directive later h g = g
-form_runs M all s (fact t) later h g = g
+later_run : (M : ℕ) (all as' bs : List PlacedTerm) → goals_refusal M all (as' ++ bs) ≡ None → goals_refusal M all bs ≡ None
+later_run M all [] bs h = h
+later_run M all (a ∷ as') bs h = later_run M all as' bs (later_none (goal_refusal M all a) (goals_refusal M all (as' ++ bs)) h)
 
-sentences_run : (M : ℕ) (all : List PlacedTerm) (ss : List Sentence) → first_refusal M all (map (λ s. s.term) ss) ≡ None → QueriesRunnable M (queries_of ss)
-sentences_run M all [] h = tt
+one_runs : (M : ℕ) (all : List PlacedTerm) (t : PlacedTerm) → goals_refusal M all (t ∷ []) ≡ None → AllRunnable M (goal (goal_of t) no_goals)
+one_runs M all t h = (by_name M all t (functor_of t) (first_none (goal_refusal M all t) None h), tt)
+
+-- by the name of a term with two parts
+two_runs : (M : ℕ) (all : List PlacedTerm) (comma semicolon : Bool) (t : PlacedTerm) (as' bs : List PlacedTerm) (gs hs : Goals)
+    → (goals_refusal M all as' ≡ None → AllRunnable M gs) → (goals_refusal M all bs ≡ None → AllRunnable M hs)
+    → goals_refusal M all (cond (comma || (semicolon || false)) (as' ++ bs) (t ∷ [])) ≡ None
+    → AllRunnable M (cond comma (followed gs hs) (cond semicolon (goal (Either gs hs) no_goals) (goal (goal_of t) no_goals)))
+two_runs M all true b t as' bs gs hs left right h = followed_runs M gs hs (left (first_run M all as' bs h)) (right (later_run M all as' bs h))
+two_runs M all false true t as' bs gs hs left right h = ((left (first_run M all as' bs h), right (later_run M all as' bs h)), tt)
+two_runs M all false false t as' bs gs hs left right h = one_runs M all t h
+
+-- a body of which no goal is refused
+body_runs : (M : ℕ) (all : List PlacedTerm) (t : PlacedTerm) → goals_refusal M all (goals_of t) ≡ None → AllRunnable M (body_goals t)
+body_runs M all (comp f p (part a (part b no_parts))) h =
+    two_runs M all (bytes_eq f (codes ",")) (bytes_eq f (codes ";")) (comp f p (part a (part b no_parts))) (goals_of a) (goals_of b) (body_goals a) (body_goals b) (body_runs M all a) (body_runs M all b) h
+body_runs M all (comp f p (part a (part b (part c ts)))) h = one_runs M all (comp f p (part a (part b (part c ts)))) h
+body_runs M all (comp f p (part a no_parts)) h = one_runs M all (comp f p (part a no_parts)) h
+body_runs M all (comp f p no_parts) h = one_runs M all (comp f p no_parts) h
+body_runs M all (var x p) h = one_runs M all (var x p) h
+body_runs M all (int z p) h = one_runs M all (int z p) h
+body_runs M all (atom a p) h = one_runs M all (atom a p) h
+
+listed_runs : (M : ℕ) (gs : Goals) → AllRunnable M gs → AreRunnable M (listed gs)
+listed_runs M no_goals h = tt
+listed_runs M (goal g gs) h = (h.0, listed_runs M gs h.1)
+
+query_runs : (M : ℕ) (all : List PlacedTerm) (s : Sentence) (f : Form) (later : List Query) → clause_refusal M all s.term f ≡ None → QueriesRunnable M later → QueriesRunnable M (queries_by s.names f later)
+query_runs M all s (query b) later h g = (listed_runs M (body_goals b) (body_runs M all b h), g)
+query_runs M all s (clause a b) later h g = g
+query_runs M all s directive later h g = g
+query_runs M all s (fact t) later h g = g
+
+clause_runs : (M : ℕ) (all : List PlacedTerm) (s : Sentence) (f : Form) (later : List Clause) → clause_refusal M all s.term f ≡ None → ClausesRunnable M later → ClausesRunnable M (clauses_by s.names f later)
+clause_runs M all s (query b) later h g = g
+clause_runs M all s (clause a b) later h g = (listed_runs M (body_goals b) (body_runs M all b (later_none (head_refusal a) (goals_refusal M all (goals_of b)) h)), g)
+clause_runs M all s directive later h g = g
+clause_runs M all s (fact t) later h g = (tt, g)
+
+sentences_run : (M : ℕ) (all : List PlacedTerm) (ss : List Sentence) → first_refusal M all (map (λ s. s.term) ss) ≡ None → ClausesRunnable M (clauses_of ss) × QueriesRunnable M (queries_of ss)
+sentences_run M all [] h = (tt, tt)
 sentences_run M all (s ∷ ss) h =
     let here = first_none (sentence_refusal M all s.term) (first_refusal M all (map (λ s. s.term) ss)) h in
-    form_runs M all s (form_of s.term) (queries_of ss) (later_none (too_wide (least_place (wide_places s.term))) (form_refusal M all s.term (form_of s.term)) here)
-    (sentences_run M all ss (later_none (sentence_refusal M all s.term) (first_refusal M all (map (λ s. s.term) ss)) h))
+    let mine = later_none (too_wide (least_place (wide_places s.term))) (clause_refusal M all s.term (form_of s.term)) here in
+    let others = sentences_run M all ss (later_none (sentence_refusal M all s.term) (first_refusal M all (map (λ s. s.term) ss)) h) in
+    (clause_runs M all s (form_of s.term) (clauses_of ss) mine others.0, query_runs M all s (form_of s.term) (queries_of ss) mine others.1)
 
 -- sentences of which none is refused have a program that can run
 pub accepted_runnable : (M : ℕ) (all : List PlacedTerm) (ss : List Sentence) → first_refusal M all (map (λ s. s.term) ss) ≡ None → IsRunnableProgram M (program_of ss)
-accepted_runnable M all ss h = record { clauses = tt; queries = sentences_run M all ss h }
+accepted_runnable M all ss h = let both = sentences_run M all ss h in record { clauses = both.0; queries = both.1 }

@@ -9,7 +9,7 @@ use Rattle.fd_model.specs.Closed.{IsClosed}
 use Rattle.fd_model.specs.declared.kinds.QueryFault.{QueryFault}
 use Rattle.fd_model.specs.Goal.{Goal, Branch, Program, Query, Event, Answer, Limit, Fault}
 use Rattle.fd_model.specs.Seen.{IsView}
-use Rattle.fd_model.specs.Children.{Children, Offer, Faults, Gives, Awaited, Kept, KeptOffer, offer, look_in, sets_in}
+use Rattle.fd_model.specs.Children.{Children, Offer, Faults, Gives, Kept, KeptOffer, offer, look_in, sets_in}
 use Rattle.fd_model.specs.Lines.{answer_line, says, line, events_bytes}
 use Rattle.fd_model.specs.Output.{Queries, is_stop, or_stop}
 use Rattle.fd_model.specs.Run.{Run, over, last, fewer, any, spent, faulty, taken}
@@ -63,10 +63,8 @@ one_view M es ps s u D E v w =
 offer_once : (M : ℕ) (o p q : Offer) → KeptOffer M o p → KeptOffer M o q → p ≡ q
 offer_once M (Faults f) (Faults g) (Faults h) a b = ap Faults (sym a ∙ b)
 offer_once M (Faults f) (Faults g) (Gives cs) a b = absurd b
-offer_once M (Faults f) (Faults g) Awaited a b = absurd b
 offer_once M (Gives bs) (Gives cs) (Faults g) a b = absurd b
 offer_once M (Gives bs) (Gives cs) (Gives ds) a b = ap Gives (kept_once M bs cs ds a b)
-offer_once M (Gives bs) (Gives cs) Awaited a b = absurd b
 offer_once _ _ _ q a b = absurd a
 
 module _ (M : ℕ) (prog : Program) (b : Branch) (s u : Substitution) (D E : Family) where

@@ -6,8 +6,8 @@ use Rattle.std.specs.Prelude.{codes}
 use Rattle.fd_model.specs.declared.kinds.QueryFault.{QueryFault}
 use Rattle.fd_model.specs.declared.kinds.Order.{Order}
 use Rattle.fd_model.specs.declared.kinds.Order.TheVariants.{Leftmost, FirstFail}
-use Rattle.fd_model.specs.declared.kinds.BuiltinKind.{BuiltinKind}
-use Rattle.fd_model.specs.declared.kinds.BuiltinKind.TheVariants.{Write, Nl}
+use Rattle.fd_model.proofs.Findings.{IsFindingBelow, finding_below}
+use Rattle.fd_model.specs.Builtins.{Finding, faulted, decided, equated, finding}
 use Rattle.fd_language.specs.Term.{Term, Terms, Var, Int, Atom, Comp, Substitution, apply, no_terms, term}
 use Rattle.fd_language.specs.Unifier.{Equation}
 use Rattle.fd_language.specs.Family.{has}
@@ -23,7 +23,7 @@ use Rattle.fd_model.specs.Goal.{Goal, Clause, listed, True, Fail, Unify, Post, C
 use Rattle.fd_language.specs.Variables.{TermBelow, TermsBelow}
 use Rattle.fd_model.specs.Sound.{PlacesBelow, GoalBelow, EachBelow, ClausesScoped}
 use Rattle.fd_model.specs.Seen.{IsConsistent}
-use Rattle.fd_model.specs.Children.{Offer, Faults, Gives, Awaited, with_goals, with_equations, fits_head, paired, argument_equations, by_clause, by_clauses, by_post, by_constraint, by_builtin, Kept, KeptOffer, look_in, offer, is_number, by_value, by_pick, by_listing, sets_in}
+use Rattle.fd_model.specs.Children.{Offer, Faults, Gives, with_goals, with_equations, fits_head, paired, argument_equations, by_clause, by_clauses, by_post, by_constraint, by_finding, Kept, KeptOffer, look_in, offer, is_number, by_value, by_pick, by_listing, sets_in}
 use Rattle.fd_language.proofs.Lemmas.{has_either, filled_leaves, reads_placed}
 use Rattle.fd_model.specs.Labelling.{read_list, values_by, first_open, pick, open_ones}
 use Rattle.fd_model.specs.Members.{Member, Open, Known}
@@ -185,7 +185,6 @@ module _ (M : ℕ) (prog : Program) (scoped : ClausesScoped prog.clauses) where
     abbrev Tracks : List ℕ → Offer → Type 0
     Tracks us (Faults f) = Unit {0}
     Tracks us (Gives cs) = Each (λ c. IsTracked c us) cs
-    Tracks us Awaited = Unit {0}
 
     by_posting : (f : Found) → ((p : Indexical) (m : ℕ) (es : List Equation) → f ≡ posts p m es → IsBelow look b.fresh m p es) → Tracks ws (by_post b rest f)
     by_posting (offends f) h = tt
@@ -235,10 +234,11 @@ module _ (M : ℕ) (prog : Program) (scoped : ClausesScoped prog.clauses) where
     clauses_tracked t [] h k = tt
     clauses_tracked t (c ∷ cs) h k = by_head (fits_head t c.head) (by_clause b t rest c) (by_clauses cs b t rest) (clause_tracked t c h k.0.0 k.0.1) (clauses_tracked t cs h k.1)
 
-    builtin_tracked : (k : BuiltinKind) → Tracks ws (by_builtin k b rest)
-    builtin_tracked Write = (same_goals rest others, tt)
-    builtin_tracked Nl = (same_goals rest others, tt)
-    builtin_tracked _ = tt
+    finding_tracked : (f : Finding) → IsFindingBelow b.fresh f → Tracks ws (by_finding b rest f)
+    finding_tracked (faulted f) h = tt
+    finding_tracked (decided true) h = (same_goals rest others, tt)
+    finding_tracked (decided false) h = tt
+    finding_tracked (equated l r) h = (more_equations rest (record { left = l; right = r } ∷ []) b.fresh (omega arith) others (h, tt), tt)
 
     seen_below : (t : Term) → TermBelow b.fresh t → TermBelow b.fresh (apply look t)
     seen_below t h = below_under b.fresh b.fresh look seen t h
@@ -254,7 +254,7 @@ module _ (M : ℕ) (prog : Program) (scoped : ClausesScoped prog.clauses) where
         (by_listed (λ x. values_by M (sets x)) o (read_list (apply look t)) (λ ms f. list_below b.fresh (apply look t) ms (seen_below t i) f))
     offer_tracked sets (Call t) i e = clauses_tracked t prog.clauses i scoped
     offer_tracked sets (Either x y) i e = (same_goals (listed x ++ rest) (each_both_below b.fresh (listed x) rest (listed_below b.fresh x i.0) others), (same_goals (listed y ++ rest) (each_both_below b.fresh (listed y) rest (listed_below b.fresh y i.1) others), tt))
-    offer_tracked sets (Builtin k t) i e = builtin_tracked k
+    offer_tracked sets (Builtin k t) i e = finding_tracked (finding k look sets t) (finding_below b.fresh k look sets t i)
 
     kept_tracked : (us : List ℕ) (bs cs : List Branch) → Each (λ c. IsTracked c us) bs → Kept M bs cs → Each (λ c. IsTracked c us × IsConsistent M c.equations c.posted) cs
     kept_tracked us [] cs h k = subst (Each (λ c. IsTracked c us × IsConsistent M c.equations c.posted)) (sym k) tt
@@ -264,7 +264,6 @@ module _ (M : ℕ) (prog : Program) (scoped : ClausesScoped prog.clauses) where
     children_tracked : (us : List ℕ) (o : Offer) (cs : List Branch) → Tracks us o → KeptOffer M o (Gives cs) → Each (λ c. IsTracked c us × IsConsistent M c.equations c.posted) cs
     children_tracked us (Faults f) cs h k = absurd k
     children_tracked us (Gives bs) cs h k = kept_tracked us bs cs h k
-    children_tracked us Awaited cs h k = absurd k
 
   heads_below : (n : ℕ) (gs : List Goal) (g : Goal) (rest : List Goal) → gs ≡ g ∷ rest → EachBelow n gs → GoalBelow n g × EachBelow n rest
   heads_below n gs g rest e h = subst (EachBelow n) e h

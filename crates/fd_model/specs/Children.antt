@@ -2,8 +2,7 @@
 use Rattle.std.specs.Prelude.{◌≡◌, ℕ, ◌+◌, Bool, true, false, ◌&&◌, if◌then◌else◌, pos, List, [], ◌∷◌, ◌++◌, map, Option, Some, None, ◌⊎◌, Result, Ok, Err}
 use Rattle.std.specs.Str.{bytes_eq}
 use Rattle.fd_model.specs.declared.kinds.QueryFault.{QueryFault}
-use Rattle.fd_model.specs.declared.kinds.BuiltinKind.{BuiltinKind}
-use Rattle.fd_model.specs.declared.kinds.BuiltinKind.TheVariants.{Write, Nl}
+use Rattle.fd_model.specs.Builtins.{Finding, faulted, decided, equated, finding}
 use Rattle.fd_model.specs.declared.kinds.Order.{Order}
 use Rattle.fd_model.specs.Labelling.{read_list, pick, values_by}
 use Rattle.fd_model.specs.Members.{Member}
@@ -19,11 +18,10 @@ use Rattle.fd_model.specs.LinearRows.{Expansion}
 use Rattle.fd_model.specs.Constraining.{constrain, equations}
 use Rattle.fd_model.specs.Posting.{post, Found, offends, posts}
 
--- a fault; or branches of which some may not be consistent; or a goal whose row isn't given yet
+-- a fault, or branches of which some may not be consistent
 pub data Offer : Type 0 where
   Faults : QueryFault → Offer
   Gives : List Branch → Offer
-  Awaited : Offer
 
 abbrev pub with_goals : Branch → List Goal → Branch
 with_goals b gs = record { goals = gs; equations = b.equations; posted = b.posted; fresh = b.fresh }
@@ -79,10 +77,11 @@ abbrev pub by_constraint : Branch → List Goal → Result Expansion QueryFault 
 by_constraint b rest (Err f) = Faults f
 by_constraint b rest (Ok x) = Gives (with_expansion b rest x ∷ [])
 
-abbrev pub by_builtin : BuiltinKind → Branch → List Goal → Offer
-by_builtin Write b rest = Gives (with_goals b rest ∷ [])
-by_builtin Nl b rest = Gives (with_goals b rest ∷ [])
-by_builtin _ b rest = Awaited
+abbrev pub by_finding : Branch → List Goal → Finding → Offer
+by_finding b rest (faulted f) = Faults f
+by_finding b rest (decided true) = Gives (with_goals b rest ∷ [])
+by_finding b rest (decided false) = Gives []
+by_finding b rest (equated l r) = Gives (with_equations b rest (record { left = l; right = r } ∷ []) b.fresh ∷ [])
 
 abbrev pub is_number : ℕ → ℕ → Equation
 is_number x n = record { left = Var x; right = Int (pos n) }
@@ -110,7 +109,7 @@ offer M prog look sets b (Constrain c t) rest = by_constraint b rest (constrain 
 offer M prog look sets b (Label o t) rest = by_listing (λ x. values_by M (sets x)) b o (Label o t) rest (read_list (apply look t))
 offer M prog look sets b (Call t) rest = Gives (by_clauses prog.clauses b t rest)
 offer M prog look sets b (Either g h) rest = Gives (with_goals b (listed g ++ rest) ∷ with_goals b (listed h ++ rest) ∷ [])
-offer M prog look sets b (Builtin k t) rest = by_builtin k b rest
+offer M prog look sets b (Builtin k t) rest = by_finding b rest (finding k look sets t)
 
 -- the consistent ones among the branches, in order
 abbrev pub Kept : ℕ → List Branch → List Branch → Type 0

@@ -8,6 +8,8 @@ pub mod Renaming
 pub mod Seen
 pub mod Posting
 pub mod Labelling
+pub mod Arithmetic
+pub mod Builtins
 pub mod Children
 pub mod Lines
 pub mod Sound
@@ -16,6 +18,7 @@ pub mod Forms
 pub mod Refusals
 pub mod Queries
 pub mod Verdict
+pub mod Generator
 pub mod Output
 pub mod Linear
 pub mod LinearRows

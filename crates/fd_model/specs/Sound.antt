@@ -1,7 +1,5 @@
 -- Programs that can run: what their goals need so that each branch has its children.
 use Rattle.std.specs.Prelude.{ℕ, ◌<◌, true, IsTrue, List, [], ◌∷◌}
-use Rattle.fd_model.specs.declared.kinds.BuiltinKind.{BuiltinKind}
-use Rattle.fd_model.specs.declared.kinds.BuiltinKind.TheVariants.{Write, Nl}
 use Rattle.fd_language.specs.Lists.{Each}
 use Rattle.fd_language.specs.Range.{Range}
 use Rattle.fd_language.specs.Check.{range_fits}
@@ -9,13 +7,7 @@ use Rattle.fd_language.specs.Places.{Place, range_places}
 use Rattle.fd_model.specs.Goal.{Goal, Goals, no_goals, goal, True, Fail, Unify, Post, Constrain, Label, Call, Either, Builtin, Clause, Query, Program}
 use Rattle.fd_language.specs.Variables.{TermBelow}
 
--- the row of the built-in is given
-abbrev pub IsGiven : BuiltinKind → Type 0
-IsGiven Write = Unit {0}
-IsGiven Nl = Unit {0}
-IsGiven _ = ⊥
-
--- its row is given, and its ranges are accepted
+-- its ranges are accepted
 abbrev mutual
   pub IsRunnable : ℕ → Goal → Type 0
   IsRunnable M True = Unit {0}
@@ -26,7 +18,7 @@ abbrev mutual
   IsRunnable M (Label o t) = Unit {0}
   IsRunnable M (Call t) = Unit {0}
   IsRunnable M (Either g h) = AllRunnable M g × AllRunnable M h
-  IsRunnable M (Builtin k t) = IsGiven k
+  IsRunnable M (Builtin k t) = Unit {0}
 
   pub AllRunnable : ℕ → Goals → Type 0
   AllRunnable M no_goals = Unit {0}
