@@ -12,11 +12,12 @@ use Rattle.term_pool.specs.Terms as pool
 use Rattle.term_pool.proofs.Laws.{extends_refl, extends_trans, terms_by_same}
 use Rattle.heap_cells.specs.declared.Cell.{Cell}
 use Rattle.heap_cells.specs.Cells.{Cells, IsOf}
-use Rattle.heap_cells.specs.Terms.{term_of, terms_by}
+use Rattle.heap_cells.specs.Terms.{terms_by}
 use Rattle.heap_cells.specs.Atoms.{IsAtomBelow}
 use Rattle.heap_cells.proofs.Elements.{head_of, tail_of, none_at_all, both_of, all_front, last_of, all_push, all_reverse}
 use Rattle.heap_terms.specs.declared.Reading.{Reading}
 use Rattle.heap_terms.specs.declared.Reading.TheVariants.{Visit, Make}
+use Rattle.heap_terms.specs.Values.{shown_term}
 use Rattle.heap_terms.specs.Tasks.{visit, make, to_terms, Leaves}
 use Rattle.heap_terms.specs.Reading.{PlacesAtZero, CanRead, VisitsCell, MakesTerm, task_of}
 use Rattle.heap_terms.proofs.Tasks.{leaves_first}
@@ -43,23 +44,23 @@ abbrev pub Own : Contents → TermId → Type 0
 Own p t = t.number < length p.entries
 
 -- so far
-pub record IsReading (names : List Name) (h : Cells) (c : Cell) (before p : Contents) (ks : List Reading) (ds : List TermId) : Type 0 where
+pub record IsReading (names : List Name) (h : Cells) (sets : List (List ℕ)) (c : Cell) (before p : Contents) (ks : List Reading) (ds : List TermId) : Type 0 where
   pub tasks : All (CanRead names h) ks
   pub own : All (Own p) ds
-  pub leaves : Walks Reading TermId (task_of names h) (pool.term_of p) (term_of (name_in names) h c) ks ds
+  pub leaves : Walks Reading TermId (task_of names h sets) (pool.term_of p) (shown_term (name_in names) h sets c) ks ds
   pub extends : Extends before p
   pub kept : KeepsTerms before p
   pub places : PlacesAtZero before p
 
-module _ (names : List Name) (h : Cells) (c : Cell) (before : Contents) where
+module _ (names : List Name) (h : Cells) (sets : List (List ℕ)) (c : Cell) (before : Contents) where
   abbrev pub ahead_of : List Reading → ℕ
-  ahead_of ks = effort Reading TermId (task_of names h) (pool.term_of before) (term_of (name_in names) h c) ks
+  ahead_of ks = effort Reading TermId (task_of names h sets) (pool.term_of before) (shown_term (name_in names) h sets c) ks
 
-  pub reading_first : (ks : List Reading) (ds : List TermId) → ks ≡ Visit c ∷ [] → ds ≡ [] → IsOf h c → IsAtomBelow (length names) c → IsReading names h c before before ks ds
-  reading_first ks ds e f o a = subst (λ js. IsReading names h c before before js ds) (sym e) (subst (λ xs. IsReading names h c before before (Visit c ∷ []) xs) (sym f) (record {
+  pub reading_first : (ks : List Reading) (ds : List TermId) → ks ≡ Visit c ∷ [] → ds ≡ [] → IsOf h c → IsAtomBelow (length names) c → IsReading names h sets c before before ks ds
+  reading_first ks ds e f o a = subst (λ js. IsReading names h sets c before before js ds) (sym e) (subst (λ xs. IsReading names h sets c before before (Visit c ∷ []) xs) (sym f) (record {
     tasks = both_of (CanRead names h) (Visit c) [] (o, a) (none_at_all (CanRead names h));
     own = none_at_all (Own before);
-    leaves = leaves_first (term_of (name_in names) h c);
+    leaves = leaves_first (shown_term (name_in names) h sets c);
     extends = extends_refl before;
     kept = λ t l. refl;
     places = places_same before before refl;
@@ -72,79 +73,79 @@ module _ (names : List Name) (h : Cells) (c : Cell) (before : Contents) where
   wider p q x ds a = λ k d l. (let o : Own p (get_or ds k d) = a k d l in omega (arith, more_ids p q x))
 
   -- the pool has grown
-  pub grown : (p q : Contents) (ks : List Reading) (ds : List TermId) → Extends p q → KeepsTerms p q → PlacesAtZero p q → IsReading names h c before p ks ds → IsReading names h c before q ks ds
+  pub grown : (p q : Contents) (ks : List Reading) (ds : List TermId) → Extends p q → KeepsTerms p q → PlacesAtZero p q → IsReading names h sets c before p ks ds → IsReading names h sets c before q ks ds
   grown p q ks ds x k z w = record {
     tasks = w.tasks;
     own = wider p q x ds w.own;
-    leaves = subst (λ ts. Leaves (map (task_of names h) (reverse ks)) ts (term_of (name_in names) h c)) (map_agrees (Own p) (pool.term_of p) (pool.term_of q) (λ t o. sym (k t o)) ds w.own) w.leaves;
+    leaves = subst (λ ts. Leaves (map (task_of names h sets) (reverse ks)) ts (shown_term (name_in names) h sets c)) (map_agrees (Own p) (pool.term_of p) (pool.term_of q) (λ t o. sym (k t o)) ds w.own) w.leaves;
     extends = extends_trans before p q w.extends x;
     kept = λ t l. k t (let m = more_ids before p w.extends in omega arith) ∙ w.kept t l;
     places = places_both before p q w.places z x;
   }
 
   -- a cell was looked at
-  module _ (p q : Contents) (ks rest ms : List Reading) (ds es : List TermId) (d : Cell) (split : ks ≡ rest ++ Visit d ∷ []) (extends : Extends p q) (kept : KeepsTerms p q) (places : PlacesAtZero p q) (w : IsReading names h c before p ks ds) where
+  module _ (p q : Contents) (ks rest ms : List Reading) (ds es : List TermId) (d : Cell) (split : ks ≡ rest ++ Visit d ∷ []) (extends : Extends p q) (kept : KeepsTerms p q) (places : PlacesAtZero p q) (w : IsReading names h sets c before p ks ds) where
     pub next_can : IsOf h d × IsAtomBelow (length names) d
     next_can = last_of (CanRead names h) rest (Visit d) (subst (All (CanRead names h)) split w.tasks)
 
     before_it : All (CanRead names h) rest
     before_it = all_front (CanRead names h) rest (Visit d ∷ []) (subst (All (CanRead names h)) split w.tasks)
 
-    now : IsReading names h c before q ks ds
+    now : IsReading names h sets c before q ks ds
     now = grown p q ks ds extends kept places w
 
-    visited : VisitsCell names h d rest ds q ms es → IsReading names h c before q ms es × (ahead_of ms < ahead_of ks)
+    visited : VisitsCell names h sets d rest ds q ms es → IsReading names h sets c before q ms es × (ahead_of ms < ahead_of ks)
     visited (inl (e, (t, o, is, f))) = (
       record {
         tasks = subst (All (CanRead names h)) (sym e) before_it;
         own = subst (All (Own q)) (sym f) (all_push (Own q) ds t now.own o);
-        leaves = subst (λ js. Walks Reading TermId (task_of names h) (pool.term_of q) (term_of (name_in names) h c) js es) (sym e)
-            (walks_result Reading TermId (task_of names h) (pool.term_of q) (term_of (name_in names) h c) ks rest (Visit d) (term_of (name_in names) h d) split refl ds es t is f now.leaves);
+        leaves = subst (λ js. Walks Reading TermId (task_of names h sets) (pool.term_of q) (shown_term (name_in names) h sets c) js es) (sym e)
+            (walks_result Reading TermId (task_of names h sets) (pool.term_of q) (shown_term (name_in names) h sets c) ks rest (Visit d) (shown_term (name_in names) h sets d) split refl ds es t is f now.leaves);
         extends = now.extends;
         kept = now.kept;
         places = now.places;
       },
-      subst (λ js. ahead_of js < ahead_of ks) (sym e) (result_smaller Reading TermId (task_of names h) (pool.term_of before) (term_of (name_in names) h c) ks rest (Visit d) (term_of (name_in names) h d) split refl),
+      subst (λ js. ahead_of js < ahead_of ks) (sym e) (result_smaller Reading TermId (task_of names h sets) (pool.term_of before) (shown_term (name_in names) h sets c) ks rest (Visit d) (shown_term (name_in names) h sets d) split refl),
     )
     visited (inr (f, args, is, below, o, a, more, e)) =
         let name = name_in names in
-        let T = term_of name h in
+        let T = shown_term name h sets in
         let ts = map T args in
-        let top : task_of names h (Visit d) ≡ visit (Comp (name f) (to_terms ts)) = ap visit (is ∙ ap (Comp (name f)) (sym (to_terms-cells T args))) in
-        let long : task_of names h (Make f (length args)) ≡ make (name f) (length ts) = ap (make (name f)) (sym (length-map args T)) in
-        let all : map (task_of names h) (map Visit args) ≡ map visit ts = map_map (task_of names h) Visit args ∙ sym (map_map visit T args) in (
+        let top : task_of names h sets (Visit d) ≡ visit (Comp (name f) (to_terms ts)) = ap visit (is ∙ ap (Comp (name f)) (sym (to_terms-cells T args))) in
+        let long : task_of names h sets (Make f (length args)) ≡ make (name f) (length ts) = ap (make (name f)) (sym (length-map args T)) in
+        let all : map (task_of names h sets) (map Visit args) ≡ map visit ts = map_map (task_of names h sets) Visit args ∙ sym (map_map visit T args) in (
           record {
             tasks = subst (All (CanRead names h)) (sym more)
                 (All-append (CanRead names h) (rest ++ Make f (length args) ∷ []) (reverse (map Visit args)) (all_push (CanRead names h) rest (Make f (length args)) before_it below)
                 (all_reverse (CanRead names h) (map Visit args) (all_map (λ x. IsOf h x × IsAtomBelow (length names) x) (CanRead names h) Visit (λ x y. y) args (both_all (IsOf h) (IsAtomBelow (length names)) args o a))));
             own = subst (All (Own q)) (sym e) now.own;
-            leaves = subst (λ xs. Walks Reading TermId (task_of names h) (pool.term_of q) (T c) ms xs) (sym e)
-                (walks_parts Reading TermId (task_of names h) (pool.term_of q) (T c) ks rest (Visit d) (Make f (length args)) (map Visit args) ms (name f) ts split top long all more ds now.leaves);
+            leaves = subst (λ xs. Walks Reading TermId (task_of names h sets) (pool.term_of q) (T c) ms xs) (sym e)
+                (walks_parts Reading TermId (task_of names h sets) (pool.term_of q) (T c) ks rest (Visit d) (Make f (length args)) (map Visit args) ms (name f) ts split top long all more ds now.leaves);
             extends = now.extends;
             kept = now.kept;
             places = now.places;
           },
-          parts_smaller Reading TermId (task_of names h) (pool.term_of before) (T c) ks rest (Visit d) (Make f (length args)) (map Visit args) ms (name f) ts split top long all more,
+          parts_smaller Reading TermId (task_of names h sets) (pool.term_of before) (T c) ks rest (Visit d) (Make f (length args)) (map Visit args) ms (name f) ts split top long all more,
         )
 
-    pub visited_on : VisitsCell names h d rest ds q ms es → IsReading names h c before q ms es
+    pub visited_on : VisitsCell names h sets d rest ds q ms es → IsReading names h sets c before q ms es
     visited_on v = (visited v).0
 
-    pub visited_smaller : VisitsCell names h d rest ds q ms es → ahead_of ms < ahead_of ks
+    pub visited_smaller : VisitsCell names h sets d rest ds q ms es → ahead_of ms < ahead_of ks
     visited_smaller v = (visited v).1
 
   -- a compound term was made
-  module _ (p q : Contents) (ks rest : List Reading) (ds es : List TermId) (f : AtomId) (n : ℕ) (split : ks ≡ rest ++ Make f n ∷ []) (w : IsReading names h c before p ks ds) where
+  module _ (p q : Contents) (ks rest : List Reading) (ds es : List TermId) (f : AtomId) (n : ℕ) (split : ks ≡ rest ++ Make f n ∷ []) (w : IsReading names h sets c before p ks ds) where
     pub name_can : f.number < length names
     name_can = last_of (CanRead names h) rest (Make f n) (subst (All (CanRead names h)) split w.tasks)
 
     pub count_can : n ≤ length ds
-    count_can = walks_few Reading TermId (task_of names h) (pool.term_of p) (term_of (name_in names) h c) ks rest (Make f n) (name_in names f) n split refl ds w.leaves
+    count_can = walks_few Reading TermId (task_of names h sets) (pool.term_of p) (shown_term (name_in names) h sets c) ks rest (Make f n) (name_in names f) n split refl ds w.leaves
 
     pub made_smaller_on : ahead_of rest < ahead_of ks
-    made_smaller_on = made_smaller Reading TermId (task_of names h) (pool.term_of before) (term_of (name_in names) h c) ks rest (Make f n) (name_in names f) n split refl
+    made_smaller_on = made_smaller Reading TermId (task_of names h sets) (pool.term_of before) (shown_term (name_in names) h sets c) ks rest (Make f n) (name_in names f) n split refl
 
-    pub made_on : Extends p q → KeepsTerms p q → PlacesAtZero p q → MakesTerm names f n p ds q es → IsReading names h c before q rest es
+    pub made_on : Extends p q → KeepsTerms p q → PlacesAtZero p q → MakesTerm names f n p ds q es → IsReading names h sets c before q rest es
     made_on x k z (t, o, is, e) =
         let now = grown p q ks ds x k z w in
         let last = drop (length ds - n) ds in
@@ -153,12 +154,12 @@ module _ (names : List Name) (h : Cells) (c : Cell) (before : Contents) where
         record {
           tasks = all_front (CanRead names h) rest (Make f n ∷ []) (subst (All (CanRead names h)) split w.tasks);
           own = subst (All (Own q)) (sym e) (all_push (Own q) (take (length ds - n) ds) t (all_take (Own q) (length ds - n) ds now.own) o);
-          leaves = walks_made Reading TermId (task_of names h) (pool.term_of q) (term_of (name_in names) h c) ks rest (Make f n) (name_in names f) n split refl ds es t (is ∙ ap (Comp (name_in names f)) same) e now.leaves;
+          leaves = walks_made Reading TermId (task_of names h sets) (pool.term_of q) (shown_term (name_in names) h sets c) ks rest (Make f n) (name_in names f) n split refl ds es t (is ∙ ap (Comp (name_in names f)) same) e now.leaves;
           extends = now.extends;
           kept = now.kept;
           places = now.places;
         }
 
   -- no task is left
-  pub reading_last : (p : Contents) (ks : List Reading) (ds : List TermId) (d : TermId) → ks ≡ [] → IsReading names h c before p ks ds → (0 < length ds) × (pool.term_of p (get_or ds 0 d) ≡ term_of (name_in names) h c)
-  reading_last p ks ds d e w = walks_end Reading TermId (task_of names h) (pool.term_of p) (term_of (name_in names) h c) ks ds d e w.leaves
+  pub reading_last : (p : Contents) (ks : List Reading) (ds : List TermId) (d : TermId) → ks ≡ [] → IsReading names h sets c before p ks ds → (0 < length ds) × (pool.term_of p (get_or ds 0 d) ≡ shown_term (name_in names) h sets c)
+  reading_last p ks ds d e w = walks_end Reading TermId (task_of names h sets) (pool.term_of p) (shown_term (name_in names) h sets c) ks ds d e w.leaves

@@ -6,3 +6,4 @@ pub mod CellWalk
 pub mod VarWalk
 pub mod TermWalk
 pub mod Whole
+pub mod Values

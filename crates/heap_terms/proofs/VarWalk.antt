@@ -99,6 +99,7 @@ pub record IsGiving (c : Contents) (t : Term) (old h : Cells) (before vars : Lis
   pub fresh : AreNew old h before vars t
   pub apart : AreApart before vars
   pub atoms : (n : ℕ) → HasAtomsBelow n old → HasAtomsBelow n h
+  pub still : (i : ℕ) → slot_at h i ≡ slot_at old i
   pub own : All (Own c) ahead
   pub inside : (x : ℕ) → stands_ahead c x ahead ≡ true → occurs x t ≡ true
   pub covers : (x : ℕ) → occurs x t ≡ true → HasCell vars x ⊎ (stands_ahead c x ahead ≡ true)
@@ -114,6 +115,7 @@ giving_first c h vars t ahead e o a = subst (λ ts. IsGiving c (pool.term_of c t
   fresh = λ x d n s. cc;
   apart = λ x y d n s r. cc;
   atoms = λ n b. b;
+  still = λ i. refl;
   own = both_of (Own c) t [] o (none_at_all (Own c));
   inside = λ x q. sym (or_nothing (occurs x (pool.term_of c t))) ∙ q;
   covers = λ x q. inr (or_left (occurs x (pool.term_of c t)) false q);
@@ -132,6 +134,7 @@ module _ (c : Contents) (t : Term) (old h : Cells) (before vars : List (Option C
     fresh = w.fresh;
     apart = w.apart;
     atoms = w.atoms;
+    still = w.still;
     own = o;
     inside = λ x q. w.inside x (sym (e x) ∙ q);
     covers = λ x q. elim (w.covers x q) [ inl d ↦ inl d | inr s ↦ inr (e x ∙ s) ];
@@ -191,6 +194,7 @@ module _ (c : Contents) (t : Term) (old h : Cells) (before vars : List (Option C
       fresh = w.fresh;
       apart = w.apart;
       atoms = w.atoms;
+      still = w.still;
       own = own_rest;
       inside = inside_rest;
       covers = λ y q. elim (w.covers y q) [
@@ -273,6 +277,7 @@ module _ (c : Contents) (t : Term) (old h : Cells) (before vars : List (Option C
         fresh = new_ones;
         apart = each_own;
         atoms = λ n a. new_below n h (w.atoms n a);
+        still = λ i. new_slot_at h.slots i ∙ w.still i;
         own = own_rest;
         inside = inside_rest;
         covers = λ y q. elim (w.covers y q) [
@@ -296,4 +301,6 @@ module _ (c : Contents) (t : Term) (old h : Cells) (before vars : List (Option C
     apart = w.apart;
     wide = wide;
     atoms = w.atoms;
+    still = w.still;
+    size = w.long;
   }

@@ -32,4 +32,7 @@ module _ (names : List Name) (old mid now : Cells) (before after : List (Option 
     kept = given.kept;
     fresh = λ x d b e. (let f = given.fresh x d b e in (f.0, f.1, f.2, ap (λ (ss : List Slot). slice_index_or ss f.0 free) over.slots ∙ f.3, f.4));
     apart = given.apart;
+    wide = λ d o. over.wide d (given.wide d o);
+    still = λ i. ap (λ (ss : List Slot). slice_index_or ss i free) over.slots ∙ given.still i;
+    size = given.size;
   }

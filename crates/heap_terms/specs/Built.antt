@@ -47,7 +47,7 @@ AreNew old now before after t = (x : ℕ) (d : Cell) → cell_at before x ≡ No
 abbrev pub AreApart : List (Option Cell) → List (Option Cell) → Type 0
 AreApart before after = (x y : ℕ) (d : Cell) → cell_at before x ≡ None → cell_at after x ≡ Some d → cell_at after y ≡ Some d → x ≡ y
 
--- The cell stands for the term; each variable of the term has a cell, and those that had none have new ones, each its own.
+-- The cell stands for the term; each variable of the term has a cell, and those that had none have new ones, each its own. No variable of the heap changes.
 pub record IsBuilt (names : List Name) (old now : Cells) (before after : List (Option Cell)) (t : Term) (c : Cell) : Type 0 where
   pub own : IsOf now c
   pub term : term_of (name_in names) now c ≡ apply (look (name_in names) now after) t
@@ -56,6 +56,9 @@ pub record IsBuilt (names : List Name) (old now : Cells) (before after : List (O
   pub kept : KeepsCells before after
   pub fresh : AreNew old now before after t
   pub apart : AreApart before after
+  pub wide : (d : Cell) → IsOf old d → IsOf now d
+  pub still : (i : ℕ) → slot_at now i ≡ slot_at old i
+  pub size : length after ≡ length before
 
 -- where the atoms of the heap and of the cells were among the first n, they are so still
 abbrev pub KeepsAtoms : ℕ → Cells → Cells → List (Option Cell) → List (Option Cell) → Cell → Type 0

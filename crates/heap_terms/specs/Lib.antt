@@ -3,3 +3,4 @@ pub mod Given
 pub mod Tasks
 pub mod Building
 pub mod Reading
+pub mod Values

@@ -7,10 +7,11 @@ use Rattle.term_pool.specs.Contents.{Contents, name_in, place_at}
 use Rattle.term_pool.specs.Terms.{term_of as pool_term, terms_by as pool_terms}
 use Rattle.heap_cells.specs.declared.Cell.{Cell}
 use Rattle.heap_cells.specs.Cells.{Cells, IsOf}
-use Rattle.heap_cells.specs.Terms.{term_of, terms_by}
+use Rattle.heap_cells.specs.Terms.{terms_by}
 use Rattle.heap_cells.specs.Atoms.{IsAtomBelow}
 use Rattle.heap_terms.specs.declared.Reading.{Reading}
 use Rattle.heap_terms.specs.declared.Reading.TheVariants.{Visit, Make}
+use Rattle.heap_terms.specs.Values.{shown_term}
 use Rattle.heap_terms.specs.Tasks.{Task, visit, make}
 
 -- the new terms have the place 0
@@ -27,22 +28,22 @@ abbrev pub AddsTerm : Term → List TermId → Contents → List TermId → Type
 AddsTerm x ds p es = (t : TermId) × (t.number < length p.entries) × (pool_term p t ≡ x) × (es ≡ ds ++ t ∷ [])
 
 -- a cell becomes its term, or the visits of its arguments and a task that makes it
-abbrev pub VisitsLeaf : List Name → Cells → Cell → List Reading → List TermId → Contents → List Reading → List TermId → Type 0
-VisitsLeaf names h c ks ds p ms es = (ms ≡ ks) × AddsTerm (term_of (name_in names) h c) ds p es
+abbrev pub VisitsLeaf : List Name → Cells → List (List ℕ) → Cell → List Reading → List TermId → Contents → List Reading → List TermId → Type 0
+VisitsLeaf names h sets c ks ds p ms es = (ms ≡ ks) × AddsTerm (shown_term (name_in names) h sets c) ds p es
 
-abbrev pub VisitsCompound : List Name → Cells → Cell → List Reading → List TermId → List Reading → List TermId → Type 0
-VisitsCompound names h c ks ds ms es = (f : AtomId) × (args : List Cell)
-    × (term_of (name_in names) h c ≡ Comp (name_in names f) (terms_by (term_of (name_in names) h) args))
+abbrev pub VisitsCompound : List Name → Cells → List (List ℕ) → Cell → List Reading → List TermId → List Reading → List TermId → Type 0
+VisitsCompound names h sets c ks ds ms es = (f : AtomId) × (args : List Cell)
+    × (shown_term (name_in names) h sets c ≡ Comp (name_in names f) (terms_by (shown_term (name_in names) h sets) args))
     × (f.number < length names) × All (IsOf h) args × All (IsAtomBelow (length names)) args
     × (ms ≡ (ks ++ Make f (length args) ∷ []) ++ reverse (map Visit args)) × (es ≡ ds)
 
-abbrev pub VisitsCell : List Name → Cells → Cell → List Reading → List TermId → Contents → List Reading → List TermId → Type 0
-VisitsCell names h c ks ds p ms es = VisitsLeaf names h c ks ds p ms es ⊎ VisitsCompound names h c ks ds ms es
+abbrev pub VisitsCell : List Name → Cells → List (List ℕ) → Cell → List Reading → List TermId → Contents → List Reading → List TermId → Type 0
+VisitsCell names h sets c ks ds p ms es = VisitsLeaf names h sets c ks ds p ms es ⊎ VisitsCompound names h sets c ks ds ms es
 
 -- the last terms become the parts of a new compound term
 abbrev pub MakesTerm : List Name → AtomId → ℕ → Contents → List TermId → Contents → List TermId → Type 0
 MakesTerm names f n p ds q es = AddsTerm (Comp (name_in names f) (pool_terms (pool_term p) (drop (length ds - n) ds))) (take (length ds - n) ds) q es
 
-abbrev pub task_of : List Name → Cells → Reading → Task
-task_of names h (Visit c) = visit (term_of (name_in names) h c)
-task_of names h (Make f n) = make (name_in names f) n
+abbrev pub task_of : List Name → Cells → List (List ℕ) → Reading → Task
+task_of names h sets (Visit c) = visit (shown_term (name_in names) h sets c)
+task_of names h sets (Make f n) = make (name_in names f) n

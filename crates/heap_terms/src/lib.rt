@@ -10,7 +10,7 @@ ghost use Rattle.term_pool.specs.Contents.{name_in};
 ghost use Rattle.term_pool.specs.Terms.{term_of as pool_term, shape_term, Extends, KeepsTerms as KeepsPoolTerms};
 ghost use Rattle.term_pool.specs.Valid.{IsWithin, shape_of};
 ghost use Rattle.heap_cells.specs.Cells.{IsOf};
-ghost use Rattle.heap_cells.specs.Terms.{term_of, KeepsTerms};
+ghost use Rattle.heap_cells.specs.Terms.{KeepsTerms};
 ghost use Rattle.heap_cells.specs.Atoms.{HasAtomsBelow, IsAtomBelow};
 ghost use Rattle.heap_cells.specs.Valid.{IsHeap};
 ghost use Rattle.heap_terms.specs.declared.Building.TheVariants as building;
@@ -18,8 +18,10 @@ ghost use Rattle.heap_terms.specs.declared.Reading.TheVariants as reading;
 ghost use Rattle.heap_terms.specs.Built.{IsBuilt, AreOf, KeepsAtoms, cell_at, HasCell, HasCells};
 ghost use Rattle.heap_terms.specs.Given.{IsGiven, AreGiven};
 ghost use Rattle.heap_terms.specs.Building.{VisitsTerm, MakesCell, IsBuiltOver};
+ghost use Rattle.heap_terms.specs.Values.{only, value_of, shown_term, LinksBelow};
 ghost use Rattle.heap_terms.specs.Reading.{VisitsCell, AddsTerm, MakesTerm, PlacesAtZero};
 
+use domain_ranges::{Domain, View};
 use fd_language::NoMemory;
 use heap_cells::{Cell, Heap, Seen};
 use std::alloc::{AllocError, Global};
@@ -227,11 +229,40 @@ fn add_leaf(pool: &mut Pool, node: Node<'_>, done: &mut Vec<TermId>) -> Result<(
     Ok(())
 }
 
+/// The only member of a domain.
+pub fn only_value(domain: &Domain) -> Option<u32>
+    ensures { result ≡ only domain.now }
+{
+    let least = domain.min();
+    if least == domain.max() { least } else { None }
+}
+
+/// Adds the term of a variable of the store, whose number in the heap is `i`, to the pool and to those that are done. The error is
+/// want of memory.
+fn add_linked(
+    domain: &Domain,
+    i: usize,
+    pool: &mut Pool,
+    done: &mut Vec<TermId>,
+) -> Result<(), NoMemory>
+    ensures added { OnOk result (AddsTerm (value_of (only domain.now) i) done.old.items pool.new
+        done.new.items) }
+    ensures extends { Extends pool.old pool.new }
+    ensures kept { KeepsPoolTerms pool.old pool.new }
+    ensures places { PlacesAtZero pool.old pool.new }
+{
+    match only_value(domain) {
+        Some(value) => add_leaf(pool, Node::Int(i64::from(value)), done),
+        None => add_leaf(pool, Node::Var(i as u64), done),
+    }
+}
+
 /// Looks at a cell: its term, or the tasks of a compound term. The error is want of memory.
-fn visit_cell(
+fn visit_cell<V: View>(
     heap: &Heap,
     from: &Pool,
     c: Cell,
+    view: &V,
     pool: &mut Pool,
     tasks: &mut Vec<Reading>,
     done: &mut Vec<TermId>,
@@ -239,15 +270,16 @@ fn visit_cell(
     requires own { IsOf heap.now.now c }
     requires atoms { HasAtomsBelow (length from.now.names) heap.now.now }
     requires atom { IsAtomBelow (length from.now.names) c }
-    ensures read { OnOk result (VisitsCell from.now.names heap.now.now c tasks.old.items
-        done.old.items pool.new tasks.new.items done.new.items) }
+    requires linked { LinksBelow (length (V.sets view.now)) heap.now.now }
+    ensures read { OnOk result (VisitsCell from.now.names heap.now.now (V.sets view.now) c
+        tasks.old.items done.old.items pool.new tasks.new.items done.new.items) }
     ensures extends { Extends pool.old pool.new }
     ensures kept { KeepsPoolTerms pool.old pool.new }
     ensures places { PlacesAtZero pool.old pool.new }
 {
     match heap.deref(c) {
         Seen::Open(i) => add_leaf(pool, Node::Var(i as u64), done),
-        Seen::Constrained(i, _) => add_leaf(pool, Node::Var(i as u64), done),
+        Seen::Constrained(i, k) => add_linked(view.domain(k), i, pool, done),
         Seen::Int(z) => add_leaf(pool, Node::Int(z), done),
         Seen::Atom(a) => {
             let a = pool.atom(from.name_of(a))?;
@@ -286,21 +318,24 @@ fn make_term(
     Ok(())
 }
 
-/// Reads the term of a cell into another pool. `from` is the pool that the heap's atoms are of; they go into `pool` by their names. A
-/// variable keeps its number in the heap, and each new term has the place 0. The error is want of memory.
-pub fn read_back(
+/// Reads the term of a cell into another pool, as the sets of the view show it: a variable of the store with one value is that
+/// integer. `from` is the pool that the heap's atoms are of; they go into `pool` by their names. A variable keeps its number in the
+/// heap, and each new term has the place 0. The error is want of memory.
+pub fn read_back<V: View>(
     heap: &Heap,
     alloc: Global,
     from: &Pool,
     c: Cell,
+    view: &V,
     pool: &mut Pool,
 ) -> Result<TermId, NoMemory>
     requires own { IsOf heap.now.now c }
     requires atoms { HasAtomsBelow (length from.now.names) heap.now.now }
     requires atom { IsAtomBelow (length from.now.names) c }
+    requires linked { LinksBelow (length (V.sets view.now)) heap.now.now }
     ensures own { IfOk result (λ t. t.number < length pool.new.entries) }
     ensures term { IfOk result (λ t. pool_term pool.new t
-        ≡ term_of (name_in from.now.names) heap.now.now c) }
+        ≡ shown_term (name_in from.now.names) heap.now.now (V.sets view.now) c) }
     ensures extends { Extends pool.old pool.new }
     ensures kept { KeepsPoolTerms pool.old pool.new }
     ensures places { PlacesAtZero pool.old pool.new }
@@ -310,7 +345,9 @@ pub fn read_back(
     tasks.push(Reading::Visit(c))?;
     while let Some(task) = tasks.pop() {
         match task {
-            Reading::Visit(next) => visit_cell(heap, from, next, pool, &mut tasks, &mut done)?,
+            Reading::Visit(next) => {
+                visit_cell(heap, from, next, view, pool, &mut tasks, &mut done)?
+            }
             Reading::Make(f, count) => make_term(from, f, count, pool, &mut done)?,
         }
     }

@@ -23,3 +23,4 @@ pub mod Labelling
 pub mod Naming
 pub mod Pooled
 pub mod Constraining
+pub mod Finding

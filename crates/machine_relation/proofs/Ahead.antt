@@ -5,7 +5,7 @@ use Rattle.fd_language.specs.Family.{Family}
 use Rattle.fd_model.specs.declared.kinds.QueryFault.{QueryFault}
 use Rattle.fd_model.specs.Goal.{Goal, Branch, Program, Query, Event, Answer, End, Budget, Limit, Fault}
 use Rattle.fd_model.specs.Seen.{IsConsistent, IsView}
-use Rattle.fd_model.specs.Children.{Children, Offer, Faults, Gives, Awaited, Kept, KeptOffer}
+use Rattle.fd_model.specs.Children.{Children, Offer, Faults, Gives, Kept, KeptOffer}
 use Rattle.fd_model.specs.Lines.{answer_line, says}
 use Rattle.fd_model.specs.Sound.{AreRunnable, IsRunnableProgram}
 use Rattle.fd_model.specs.Run.{Run, over, last, fewer, any, spent, faulty, taken}
@@ -52,12 +52,10 @@ same_goals b c bs cs g h rest others e f i =
 fault_from : (M : ℕ) (o : Offer) (f : QueryFault) → KeptOffer M o (Faults f) → o ≡ Faults f
 fault_from M (Faults g) f h = ap Faults h
 fault_from M (Gives cs) f h = absurd h
-fault_from M Awaited f h = absurd h
 
 gives_from : (M : ℕ) (o : Offer) (cs : List Branch) → KeptOffer M o (Gives cs) → (ds : List Branch) × (o ≡ Gives ds) × Kept M ds cs
 gives_from M (Faults g) cs h = absurd h
 gives_from M (Gives ds) cs h = (ds, refl, h)
-gives_from M Awaited cs h = absurd h
 
 same_number : (n m : ℕ) → suc n ≡ suc m → n ≡ m
 same_number n m e = cc

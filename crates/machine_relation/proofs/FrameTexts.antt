@@ -1,5 +1,8 @@
 -- The texts, labellings and rows of constraints by a frame whose store is at rest are those by the branch's view.
-use Rattle.std.proofs.Common.{◌≡◌, ℕ, suc, ◌<◌, ◌≤◌, arith, true, List, [], ◌∷◌, ◌++◌, map, Option, Some, None, codes, refl, ap, sym, ◌∙◌}
+use Rattle.fd_model.specs.declared.kinds.BuiltinKind.{BuiltinKind}
+use Rattle.fd_model.specs.Builtins.{found}
+use Rattle.fd_model.proofs.Findings.{SameFinding, found_renamed}
+use Rattle.std.proofs.Common.{◌≡◌, ℕ, suc, ◌<◌, ◌≤◌, arith, true, List, [], ◌∷◌, ◌++◌, map, Option, Some, None, codes, refl, ap, sym, subst, ◌∙◌}
 use Rattle.std.proofs.lemmas.Bool.{true≢false}
 use Rattle.fd_model.specs.declared.kinds.ConstraintKind.{ConstraintKind}
 use Rattle.fd_model.specs.declared.kinds.Order.{Order}
@@ -221,3 +224,18 @@ module _ (M : ℕ) (f : Frame) (es : List Equation) (ps : List Indexical) (P : �
     -- the cells of the variables that it names
     pub row_cell : (y : ℕ) → has (variables_of_all (arguments (sees t))) y ≡ true → (y < n) × (look y ≡ Var (cell_from n y))
     row_cell y i = let j = of_arguments (sees t) y i in (low y j, named_cell y j)
+
+  -- What a built-in goal with the arguments a and b comes to is on the heap what it comes to in the branch; raw gives the heap's terms as they are bound.
+  pub found_same : (k : BuiltinKind) (raw : Substitution) (a b : Term) → Of P a → Of P b
+      → SameFinding raw (found k (set_at s D (constrained ps)) a b (sees a) (sees b)) (found k (λ d. cell_set T (f.link d)) (apply raw a) (apply raw b) (apply look a) (apply look b))
+  found_same k raw a b o i =
+      let ts = term (sees a) (term (sees b) no_terms) in
+      let comes : apply_all back (apply_all look ts) ≡ ts = let x = round a o in let y = round b i in cc in
+      let va = variables_of (sees a) in
+      let vb = variables_of (sees b) in
+      let in_a : (y : ℕ) → has va y ≡ true → has (variables_of_all ts) y ≡ true = λ y e. in_left va (vb ++ []) y e in
+      let in_b : (y : ℕ) → has vb y ≡ true → has (variables_of_all ts) y ≡ true = λ y e. in_right va (vb ++ []) y (in_left vb [] y e) in
+      subst (λ w. SameFinding raw (found k (set_at s D (constrained ps)) a b (sees a) (sees b)) (found k (λ d. cell_set T (f.link d)) (apply raw a) (apply raw b) (apply look a) w)) (look_seen b)
+      (subst (λ w. SameFinding raw (found k (set_at s D (constrained ps)) a b (sees a) (sees b)) (found k (λ d. cell_set T (f.link d)) (apply raw a) (apply raw b) w (apply look (sees b)))) (look_seen a)
+      (found_renamed raw look cell (set_at s D (constrained ps)) (λ d. cell_set T (f.link d)) a b (sees a) (sees b) (λ y e. (pair ts comes y (in_a y e)).0) (λ y e. (pair ts comes y (in_b y e)).0)
+      (λ x y e g j. apart ts comes x y (in_a x e) (in_b y g) j) (λ y e. let p = pair ts comes y (in_a y e) in sym (same_set y (cell y) p.0 p.1)) k))
