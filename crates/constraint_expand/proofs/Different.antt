@@ -1,0 +1,54 @@
+-- The ranges of variables that differ.
+use Rattle.std.proofs.Common.{◌≡◌, ℕ, ◌+◌, ◌<◌, ◌-◌, ◌^◌, take, length-drop, arith, List, [], ◌∷◌, ◌++◌, length, drop, get_or, drop-cons, add-one, Ok, refl, sym, ap, subst, ◌∙◌, append_assoc, append-nil}
+use Rattle.std.specs.Prelude.{IfOk}
+use Rattle.std.proofs.lemmas.List.{take_all}
+use Rattle.fd_language.specs.Term.{Term}
+use Rattle.fd_model.specs.Linear.{of_one}
+use Rattle.fd_model.specs.Members.{Member, as_member, walk, fresh_after}
+use Rattle.fd_model.specs.Constraining.{all_different}
+use Rattle.constraint_expand.specs.declared.members.Placed.{Placed}
+use Rattle.constraint_expand.specs.Lists.{AllPlaced}
+use Rattle.fd_language.specs.Range.{Range, Indexical}
+use Rattle.fd_model.specs.ListRows.{different_ranges, different_rows}
+use Rattle.constraint_expand.specs.Posts.{pairs_of, indexicals, Posts}
+
+pub pairs_append : (ps qs : List Indexical) → pairs_of (ps ++ qs) ≡ pairs_of ps ++ pairs_of qs
+pairs_append [] qs = refl
+pairs_append (p ∷ ps) qs = ap (λ (rs : List (ℕ × Range)). (p.target, p.range) ∷ rs) (pairs_append ps qs)
+
+pub pairs_back : (ps : List Indexical) → indexicals (pairs_of ps) ≡ ps
+pairs_back [] = refl
+pairs_back (p ∷ ps) = ap (λ (qs : List Indexical). p ∷ qs) (pairs_back ps)
+
+-- what is posted, and what is left of all rows
+pub record Posting (all : List Indexical) (start now : List (ℕ × Range)) (ahead : List Indexical) : Type 0 where
+  pub is : now ++ pairs_of ahead ≡ start ++ pairs_of all
+
+pub posting_turns : (all : List Indexical) (start now new : List (ℕ × Range)) (ps ahead : List Indexical) → Posting all start now (ps ++ ahead) → Posts ps now new → Posting all start new ahead
+posting_turns all start now new ps ahead i p = record { is = ap (λ rs. rs ++ pairs_of ahead) p ∙ append_assoc now (pairs_of ps) (pairs_of ahead) ∙ ap (λ rs. now ++ rs) (sym (pairs_append ps ahead)) ∙ i.is }
+
+pub posting_ends : (all : List Indexical) (start now : List (ℕ × Range)) → Posting all start now [] → Posts all start now
+posting_ends all start now i = sym (append-nil now) ∙ i.is
+
+pub posts_both : (ps qs : List Indexical) (start middle new : List (ℕ × Range)) → Posts ps start middle → Posts qs middle new → Posts (ps ++ qs) start new
+posts_both ps qs start middle new p q = q ∙ ap (λ rs. rs ++ pairs_of qs) p ∙ append_assoc start (pairs_of ps) (pairs_of qs) ∙ ap (λ rs. start ++ rs) (sym (pairs_append ps qs))
+
+-- what is left of a list, from its next element on
+pub next_drop : {A : Type 0} (s : List A) (i : ℕ) (d : A) → i < length s → drop i s ≡ get_or s i d ∷ drop (i + 1) s
+next_drop s i d h = rw (add-one, drop-cons s i d) refl
+
+-- a slice to the end
+pub whole_drop : {A : Type 0} (s : List A) (k : ℕ) → take (length s - k) (drop k s) ≡ drop k s
+whole_drop s k = take_all (length s - k) (drop k s) (omega (arith, length-drop k s))
+
+pub posted_list : (ps : List Indexical) (list : List (ℕ × Range)) → Posts ps [] list → indexicals list ≡ ps
+posted_list ps list p = ap indexicals p ∙ pairs_back ps
+
+pub different_expands : (l : Term) (n : ℕ) (ms : List Member) (p : Placed) (list : List (ℕ × Range)) → walk as_member l ≡ Ok ms → AllPlaced n ms p → Posts (different_ranges p.variables.items) [] list
+    → all_different l n ≡ Ok (record { equated = p.equated.items; ranges = indexicals list; fresh = p.fresh })
+different_expands l n ms p list w a q =
+    ap (of_one (λ ms. Ok (different_rows ms n))) w
+    ∙ (λ i. Ok (record { equated = sym a.equated i; ranges = (ap different_ranges (sym a.variables) ∙ sym (posted_list (different_ranges p.variables.items) list q)) i; fresh = sym a.fresh i }))
+
+pub different_ends : (l : Term) (n : ℕ) (ms : List Member) → walk as_member l ≡ Ok ms → IfOk (all_different l n) (λ x. x.fresh < 2 ^ 64) → fresh_after n ms < 2 ^ 64
+different_ends l n ms w h = subst (λ r. IfOk r (λ x. x.fresh < 2 ^ 64)) (ap (of_one (λ ms. Ok (different_rows ms n))) w) h

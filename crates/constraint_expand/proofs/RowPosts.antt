@@ -1,0 +1,158 @@
+-- The rows of a form, one by one.
+use Rattle.std.proofs.Common.{◌≡◌, ℕ, zero, suc, ◌+◌, ◌*◌, ◌<◌, ◌≤◌, Bool, true, false, ℤ, pos, negsuc, neg_ℤ, ◌*ℤ◌, ◌<ℤ◌, ◌≤ℤ◌, List, [], ◌∷◌, ◌++◌, length, take, drop, get_or, refl, sym, ap, subst, ◌∙◌, arith, append_assoc}
+use Rattle.std.specs.Prelude.{◌&&◌, FitsSigned}
+use Rattle.std.proofs.Common.{to_z, of_z}
+use Rattle.std.specs.Int.{w64, int_wrapping_neg}
+use Rattle.std.specs.List.{list_all}
+use Rattle.std.proofs.lemmas.Int.{ints, to_z-of_z, wrapping_neg_is, int_wrap_fits}
+use lib.Signed.{lt_z}
+use Rattle.fd_language.specs.Range.{Range, Indexical}
+use Rattle.fd_language.specs.Flat.{nodes_of, spelled, spelled-nodes}
+use Rattle.fd_language.specs.declared.range_node.RangeNode.{RangeNode}
+use Rattle.fd_model.specs.Linear.{in_integers, scaled}
+use Rattle.fd_model.specs.LinearRows.{row_by_sign, rows_behind}
+use Rattle.linear_forms.proofs.Lemmas.{neg_one, integer_fits, one_inside}
+use Rattle.constraint_expand.specs.declared.rows.Comparison.{Comparison}
+use Rattle.constraint_expand.specs.declared.rows.Form.{Form}
+use Rattle.std.proofs.lemmas.List.{drop_all, take-append-drop, length-take-le, take_more}
+use Rattle.constraint_expand.specs.Nodes.{AreIntegers, CanTurn, comparison_of, lower_reading, upper_reading, product_nodes, row_list, HasProduct, IsForm, AreSides, product_at, row_at, form_rows}
+use Rattle.constraint_expand.proofs.Different.{next_drop, Posting, posting_turns, posting_ends}
+use Rattle.constraint_expand.specs.Posts.{Posts, Accepted}
+use Rattle.constraint_expand.proofs.RowNodes.{straight_row, turned_row, products_length, scaled_length}
+
+-- each coefficient is an integer of the language, and so is its negation
+pub integer_at : (ts : List (ℕ × ℤ)) (i : ℕ) (d : ℕ × ℤ) → AreIntegers ts → i < length ts → in_integers (get_or ts i d).1 ≡ true
+integer_at [] i d h l = absurd (omega arith)
+integer_at (t ∷ ts) zero d h l = by (in_integers t.1) refl h where
+  by : (b : Bool) → in_integers t.1 ≡ b → (b && list_all (λ (t : ℕ × ℤ). in_integers t.1) ts) ≡ true → in_integers t.1 ≡ true
+  by true e g = e
+  by false e g = absurd (cc)
+integer_at (t ∷ ts) (suc i) d h l = integer_at ts i d (by (in_integers t.1) h) (omega arith) where
+  by : (b : Bool) → (b && list_all (λ (t : ℕ × ℤ). in_integers t.1) ts) ≡ true → AreIntegers ts
+  by true g = g
+  by false g = absurd (cc)
+
+pub neg_inside : (z : ℤ) → in_integers z ≡ true → in_integers (neg_ℤ z) ≡ true
+neg_inside z h = ap in_integers (sym (neg_one z)) ∙ one_inside z ∙ h
+
+pub negation_fits : (z : ℤ) → in_integers z ≡ true → FitsSigned w64 (neg_ℤ z)
+negation_fits z h = integer_fits (neg_ℤ z) (neg_inside z h)
+
+pub wrapped_negation : (z : ℤ) → FitsSigned w64 z → in_integers z ≡ true → int_wrapping_neg w64 z ≡ neg_ℤ z
+wrapped_negation z f h = wrapping_neg_is w64 z f ∙ int_wrap_fits w64 (neg_ℤ z) (negation_fits z h)
+
+-- a negated coefficient more
+pub negated_turns : (ts now new : List (ℕ × ℤ)) (i : ℕ) (z : ℤ) → i < length ts → now ++ scaled (negsuc 0) (drop i ts) ≡ scaled (negsuc 0) ts → z ≡ neg_ℤ (get_or ts i (0, pos 0)).1 → new ≡ now ++ ((get_or ts i (0, pos 0)).0, z) ∷ []
+    → new ++ scaled (negsuc 0) (drop (i + 1) ts) ≡ scaled (negsuc 0) ts
+negated_turns ts now new i z h f e p =
+    let t : ℕ × ℤ = get_or ts i (0, pos 0) in
+    let rest : List (ℕ × ℤ) = scaled (negsuc 0) (drop (i + 1) ts) in
+    let same : z ≡ negsuc 0 *ℤ t.1 = e ∙ sym (neg_one t.1) in
+    ap (λ (us : List (ℕ × ℤ)). us ++ rest) p ∙ append_assoc now ((t.0, z) ∷ []) rest ∙ (λ j. now ++ (t.0, same j) ∷ rest)
+    ∙ ap (λ (us : List (ℕ × ℤ)). now ++ scaled (negsuc 0) us) (sym (next_drop ts i (0, pos 0) h)) ∙ f
+
+-- nodes that spell a range
+pub spelled_back : (ns : List RangeNode) (r : Range) → ns ≡ nodes_of r → (nodes_of (spelled ns) ≡ ns) × (spelled ns ≡ r)
+spelled_back ns r e =
+    let same : spelled ns ≡ r = ap spelled e ∙ spelled-nodes r in
+    (ap nodes_of same ∙ sym e, same)
+
+-- a list around its element at i
+around : (ts : List (ℕ × ℤ)) (i : ℕ) (d : ℕ × ℤ) → i < length ts → ts ≡ take i ts ++ get_or ts i d ∷ drop (i + 1) ts
+around ts i d h = sym (take-append-drop i ts) ∙ ap (λ us. take i ts ++ us) (next_drop ts i d h)
+
+short : (ts : List (ℕ × ℤ)) (i : ℕ) → i < length ts → i ≡ length (take i ts)
+short ts i h = sym (length-take-le i ts (omega arith))
+
+module _ (k : Comparison) (straight turned : Form) (i : ℕ) (s : AreSides k straight turned i) where
+  low_length : (form : Form) (b : Bool) (ts : List (ℕ × ℤ)) (c : ℤ) → IsForm k b ts c form → i < length ts → HasProduct form i form.lower.items × HasProduct form i form.upper.items
+  low_length form b ts c f h =
+      let l : length form.lower.items ≡ 4 * length ts = ap (λ ns. length ns) f.lower ∙ products_length (lower_reading k) ts in
+      let u : length form.upper.items ≡ 4 * length ts = ap (λ ns. length ns) f.upper ∙ products_length (upper_reading k) ts in
+      let n : length form.terms.items ≡ length ts = ap (λ us. length us) f.terms in
+      (record { term = omega arith; nodes = omega arith }, record { term = omega arith; nodes = omega arith })
+
+  pub has_straight : HasProduct straight i straight.lower.items × HasProduct straight i straight.upper.items
+  has_straight = low_length straight false straight.terms.items straight.constant s.straight_form s.within
+
+  pub has_turned : (product_at straight i).1 <ℤ pos 0 → HasProduct turned i turned.lower.items × HasProduct turned i turned.upper.items
+  has_turned h = low_length turned true (scaled (negsuc 0) straight.terms.items) (neg_ℤ straight.constant) (s.turned_form h) (let e = scaled_length straight.terms.items in omega (arith, s.within))
+
+  -- where the coefficient is at least 0 the row is that of the form, and else that of the turned form
+  pub straight_nodes : pos 0 ≤ℤ (product_at straight i).1 → row_list k straight i ≡ nodes_of (row_at k straight i).range
+  straight_nodes h = by (product_at straight i).1 refl h where
+    by : (z : ℤ) → (product_at straight i).1 ≡ z → pos 0 ≤ℤ z → row_list k straight i ≡ nodes_of (row_by_sign (comparison_of k) straight.constant (take i straight.terms.items ++ drop (i + 1) straight.terms.items) (product_at straight i).1)
+    by (pos a) e g =
+        let parts : straight.terms.items ≡ take i straight.terms.items ++ ((product_at straight i).0, pos a) ∷ drop (i + 1) straight.terms.items =
+        around straight.terms.items i (0, pos 0) s.within ∙ (λ j. take i straight.terms.items ++ ((product_at straight i).0, e j) ∷ drop (i + 1) straight.terms.items) in
+        straight_row k (take i straight.terms.items) (drop (i + 1) straight.terms.items) (product_at straight i).0 a straight.constant straight i (short straight.terms.items i s.within)
+        (subst (λ ts. IsForm k false ts straight.constant straight) parts s.straight_form)
+        ∙ ap (λ z. nodes_of (row_by_sign (comparison_of k) straight.constant (take i straight.terms.items ++ drop (i + 1) straight.terms.items) z)) (sym e)
+    by (negsuc n) e g = absurd (omega (arith, ints))
+
+  pub turned_nodes : (product_at straight i).1 <ℤ pos 0 → row_list k turned i ≡ nodes_of (row_at k straight i).range
+  turned_nodes h = by (product_at straight i).1 refl h where
+    by : (z : ℤ) → (product_at straight i).1 ≡ z → z <ℤ pos 0 → row_list k turned i ≡ nodes_of (row_by_sign (comparison_of k) straight.constant (take i straight.terms.items ++ drop (i + 1) straight.terms.items) (product_at straight i).1)
+    by (pos a) e g = absurd (omega (arith, ints))
+    by (negsuc n) e g =
+        let parts : straight.terms.items ≡ take i straight.terms.items ++ ((product_at straight i).0, negsuc n) ∷ drop (i + 1) straight.terms.items =
+        around straight.terms.items i (0, pos 0) s.within ∙ (λ j. take i straight.terms.items ++ ((product_at straight i).0, e j) ∷ drop (i + 1) straight.terms.items) in
+        turned_row k (take i straight.terms.items) (drop (i + 1) straight.terms.items) (product_at straight i).0 n straight.constant turned i (short straight.terms.items i s.within)
+        (subst (λ ts. IsForm k true (scaled (negsuc 0) ts) (neg_ℤ straight.constant) turned) parts (s.turned_form h))
+        ∙ ap (λ z. nodes_of (row_by_sign (comparison_of k) straight.constant (take i straight.terms.items ++ drop (i + 1) straight.terms.items) z)) (sym e)
+
+-- the rows behind the first i
+abbrev pub rows_from : Comparison → Form → ℕ → List Indexical
+rows_from k form i = rows_behind (comparison_of k) form.constant (take i form.terms.items) (drop i form.terms.items)
+
+pub next_row : (k : Comparison) (form : Form) (i : ℕ) → i < length form.terms.items → rows_from k form i ≡ row_at k form i ∷ rows_from k form (i + 1)
+next_row k form i h =
+    ap (rows_behind (comparison_of k) form.constant (take i form.terms.items)) (next_drop form.terms.items i (0, pos 0) h)
+    ∙ ap (λ ts. row_at k form i ∷ rows_behind (comparison_of k) form.constant ts (drop (i + 1) form.terms.items)) (sym (take_more form.terms.items i (0, pos 0) h))
+
+-- what is posted of the rows, and those ahead
+pub record PostsFrom (k : Comparison) (form : Form) (start now : List (ℕ × Range)) (i : ℕ) : Type 0 where
+  pub posting : Posting (form_rows k form) start now (rows_from k form i)
+  pub accepted : Accepted (rows_from k form i)
+
+pub from_turns : (k : Comparison) (form : Form) (start now new : List (ℕ × Range)) (i : ℕ) → i < length form.terms.items → PostsFrom k form start now i → Posts (row_at k form i ∷ []) now new → PostsFrom k form start new (i + 1)
+from_turns k form start now new i h p q =
+    let here = subst (λ (ps : List Indexical). Posting (form_rows k form) start now ps) (next_row k form i h) p.posting in
+    let ok : Accepted (row_at k form i ∷ rows_from k form (i + 1)) = subst Accepted (next_row k form i h) p.accepted in
+    record { posting = posting_turns (form_rows k form) start now new (row_at k form i ∷ []) (rows_from k form (i + 1)) here q; accepted = ok.1 }
+
+pub row_accepted : (k : Comparison) (form : Form) (start now : List (ℕ × Range)) (i : ℕ) → i < length form.terms.items → PostsFrom k form start now i → Accepted (row_at k form i ∷ [])
+row_accepted k form start now i h p = let ok : Accepted (row_at k form i ∷ rows_from k form (i + 1)) = subst Accepted (next_row k form i h) p.accepted in (ok.0, tt)
+
+pub from_ends : (k : Comparison) (form : Form) (start now : List (ℕ × Range)) (i : ℕ) → length form.terms.items ≤ i → PostsFrom k form start now i → Posts (form_rows k form) start now
+from_ends k form start now i h p =
+    posting_ends (form_rows k form) start now (subst (λ (ps : List Indexical). Posting (form_rows k form) start now ps) (ap (rows_behind (comparison_of k) form.constant (take i form.terms.items)) (drop_all i form.terms.items h)) p.posting)
+
+-- the sides of a form that was made
+self_form : (k : Comparison) (b : Bool) (ts : List (ℕ × ℤ)) (c : ℤ) (form : Form) → IsForm k b ts c form → IsForm k b form.terms.items form.constant form
+self_form k b ts c form f = record { side = f.side; terms = refl; constant = refl; lower = f.lower ∙ ap (product_nodes (lower_reading k)) (sym f.terms); upper = f.upper ∙ ap (product_nodes (upper_reading k)) (sym f.terms) }
+
+pub sides_of : (k : Comparison) (ts us : List (ℕ × ℤ)) (c d : ℤ) (straight turned : Form) → IsForm k false ts c straight → IsForm k true us d turned → us ≡ scaled (negsuc 0) ts → CanTurn ts c → (in_integers c ≡ true → d ≡ neg_ℤ c) → (i : ℕ) → i < length straight.terms.items → AreSides k straight turned i
+sides_of k ts us c d straight turned f g e can m i h = record {
+  straight_form = self_form k false ts c straight f;
+  turned_form = λ below. subst (λ z. IsForm k true (scaled (negsuc 0) straight.terms.items) z turned) (m (can i (subst (λ (us : List (ℕ × ℤ)). (get_or us i (0, pos 0)).1 <ℤ pos 0) f.terms below)) ∙ ap neg_ℤ (sym f.constant)) (subst (λ vs. IsForm k true vs d turned) (e ∙ ap (scaled (negsuc 0)) (sym f.terms)) g);
+  within = h;
+}
+
+pub rows_same : (k : Comparison) (ts : List (ℕ × ℤ)) (c : ℤ) (straight : Form) → IsForm k false ts c straight → form_rows k straight ≡ rows_behind (comparison_of k) c [] ts
+rows_same k ts c straight f = λ i. rows_behind (comparison_of k) (f.constant i) [] (f.terms i)
+
+-- the sign of a coefficient that is passed on
+pub sign_below : (z y : ℤ) → FitsSigned w64 z → lt_z (to_z w64 (of_z w64 z)) (pos 0) ≡ true → z ≡ y → y <ℤ pos 0
+sign_below z y f h e = subst (λ x. x <ℤ pos 0) e (let k : lt_z z (pos 0) ≡ true = ap (λ x. lt_z x (pos 0)) (sym (to_z-of_z w64 z f)) ∙ h in grind (arith, ints))
+
+pub sign_above : (z y : ℤ) → FitsSigned w64 z → lt_z (to_z w64 (of_z w64 z)) (pos 0) ≡ false → z ≡ y → pos 0 ≤ℤ y
+sign_above z y f h e = subst (λ x. pos 0 ≤ℤ x) e (let k : lt_z z (pos 0) ≡ false = ap (λ x. lt_z x (pos 0)) (sym (to_z-of_z w64 z f)) ∙ h in grind (arith, ints))
+
+pub other_default : {A : Type 0} (s : List A) (i : ℕ) (d e : A) → i < length s → get_or s i d ≡ get_or s i e
+other_default [] i d e h = absurd (omega arith)
+other_default (x ∷ xs) zero d e h = refl
+other_default (x ∷ xs) (suc i) d e h = other_default xs i d e (omega arith)
+
+pub made_form : (k : Comparison) (b : Bool) (us ts : List (ℕ × ℤ)) (d c : ℤ) (form : Form) → IsForm k b us d form → us ≡ ts → d ≡ c → IsForm k b ts c form
+made_form k b us ts d c form f e m = subst (λ z. IsForm k b ts z form) m (subst (λ vs. IsForm k b vs d form) e f)

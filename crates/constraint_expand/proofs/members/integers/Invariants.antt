@@ -1,0 +1,10 @@
+use Rattle.constraint_expand.specs.Lists.{Walking}
+use Rattle.fd_model.specs.Members.{as_integer}
+use Rattle.term_pool.specs.Terms.{term_of, size}
+use Rattle.constraint_expand.proofs.members.integers.Given as goal
+
+abbrev pub invariant-loop-found : goal.invariant-loop-found
+invariant-loop-found l = Walking as_integer l.pool l.fn.list l.rest (l.found.items)
+
+abbrev pub decreases-loop-found : goal.decreases-loop-found
+decreases-loop-found l = size (term_of l.pool l.rest)

@@ -1,0 +1,6 @@
+pub mod Faults
+pub mod Posts
+pub mod Lists
+pub mod Views
+pub mod Nodes
+pub mod Unions

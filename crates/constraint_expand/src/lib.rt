@@ -1,0 +1,67 @@
+//! Constraints as ranges: comparisons of linear terms, lists of different members, elements of
+//! lists, and members that are counted.
+#![tactic(auto)]
+
+ghost use Rattle.std.specs.Prelude.{◌^◌, ◌<◌, length, All, IfOk};
+ghost use Rattle.fd_model.specs.Constraining.{expand as expanded};
+ghost use Rattle.term_pool.specs.Terms.{term_of, terms_by};
+ghost use Rattle.constraint_expand.specs.Views.{Expands};
+
+mod comparisons;
+mod counts;
+mod differences;
+mod elements;
+mod faults;
+mod members;
+mod posts;
+mod rows;
+
+use crate::comparisons::compare;
+use crate::counts::atmost;
+use crate::differences::all_different;
+use crate::elements::element;
+pub use crate::faults::{ExpandFault, ListCause};
+use fd_model::kinds::ConstraintKind;
+use monotone_check::Checked;
+use std::alloc::Global;
+use term_pool::{Pool, TermId};
+
+/// What a constraint becomes.
+#[derive(Drop)]
+pub struct Expansion {
+    /// Fresh variables, each with the integer that it is equated with.
+    pub equated: Vec<(u64, i64)>,
+    /// The next fresh number.
+    pub added: u64,
+    /// The posted ranges, each behind its target.
+    pub list: Vec<(u64, Checked)>,
+}
+
+/// The ranges of a constraint, where `fresh` is the next fresh number. The arguments are terms of
+/// the pool, seen as a whole. They are looked at from left to right, and the first fault is told.
+pub fn expand(
+    alloc: Global,
+    pool: &Pool,
+    kind: ConstraintKind,
+    args: &[TermId],
+    fresh: u64,
+) -> Result<Expansion, ExpandFault>
+    requires args { All (λ t. t.number < length pool.now.entries) args.now }
+    requires ends { IfOk (expanded kind (terms_by (term_of pool.now) args.now) fresh)
+        (λ x. x.fresh < 2 ^ 64) }
+    ensures { Expands (expanded kind (terms_by (term_of pool.now) args.now) fresh) result }
+{
+    match (kind, args) {
+        (ConstraintKind::Compare(relation), [left, right]) => {
+            compare(alloc, pool, relation, *left, *right, fresh)
+        }
+        (ConstraintKind::AllDifferent, [list]) => all_different(alloc, pool, *list, fresh),
+        (ConstraintKind::Element, [index, list, value]) => {
+            element(alloc, pool, *index, *list, *value, fresh)
+        }
+        (ConstraintKind::Atmost, [most, list, value]) => {
+            atmost(alloc, pool, *most, *list, *value, fresh)
+        }
+        _ => Err(ExpandFault::BadList(ListCause::Wrong)),
+    }
+}

@@ -1,0 +1,43 @@
+//! Ranges as they are posted.
+
+ghost use Rattle.std.specs.Prelude.{◌≡◌, ◌++◌, [], ◌∷◌, IsTrue, OnOk};
+ghost use Rattle.fd_language.specs.Flat.{nodes_of, spelled};
+ghost use Rattle.fd_language.specs.RangeVerdict.{is_accepted};
+ghost use Rattle.fd_model.specs.LinearRows.{no_number};
+ghost use Rattle.constraint_expand.specs.Posts.{Posts};
+
+use fd_language::{FlatRange, INFINITY, NoMemory, RangeNode};
+use monotone_check::Checked;
+use std::alloc::Global;
+
+/// Posts the range of the nodes on a variable, behind the others. The check accepts the range.
+pub(crate) fn post(
+    list: &mut Vec<(u64, Checked)>,
+    target: u64,
+    nodes: Vec<RangeNode>,
+) -> Result<(), NoMemory>
+    requires spelled { nodes_of (spelled nodes.items) ≡ nodes.items }
+    requires accepted { IsTrue (is_accepted INFINITY (spelled nodes.items)) }
+    ensures { OnOk result
+        (list.new.items ≡ list.old.items ++ (target, spelled nodes.items) ∷ []) }
+{
+    let range = FlatRange::from_nodes(nodes).unwrap();
+    list.push((target, Checked::from_accepted(range)))?;
+    Ok(())
+}
+
+/// Posts a range without numbers.
+pub(crate) fn post_none(
+    alloc: Global,
+    list: &mut Vec<(u64, Checked)>,
+    target: u64,
+) -> Result<(), NoMemory>
+    ensures { OnOk result (Posts (record { target = target; range = no_number } ∷ [])
+        list.old.items list.new.items) }
+{
+    let nodes = Vec::from_slice(
+        alloc,
+        &[RangeNode::Int(1), RangeNode::Int(0), RangeNode::Span],
+    )?;
+    post(list, target, nodes)
+}
