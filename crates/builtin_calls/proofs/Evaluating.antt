@@ -23,7 +23,7 @@ use Rattle.builtin_calls.specs.declared.evaluation.Waiting.{Waiting}
 use Rattle.builtin_calls.specs.declared.evaluation.Waiting.TheVariants.{Left, Right, Opposite}
 use Rattle.builtin_calls.specs.declared.evaluation.Step.{Step}
 use Rattle.builtin_calls.specs.declared.evaluation.Step.TheVariants.{Enter, Leave}
-use Rattle.builtin_calls.specs.Arithmetic.{ValueFault, not_a_number, unbound, Value, value_of, by_name, of_both, of_one, opposite_of, sum_of, difference_of, product_of, quotient_of, modulo_of}
+use Rattle.fd_model.specs.Arithmetic.{ValueFault, not_a_number, unbound, Value, value_of, by_name, of_both, of_one, opposite_of, sum_of, difference_of, product_of, quotient_of, modulo_of}
 use Rattle.builtin_calls.specs.Reading.{seen_term}
 use Rattle.builtin_calls.specs.Shown.{shown, IsHeld}
 use Rattle.builtin_calls.specs.Outcomes.{IsFault, IsNamedBy, meaning, operation_of}

@@ -7,7 +7,7 @@ use Rattle.std.proofs.lemmas.Int.{ints, to_z-of_z}
 use Rattle.std.proofs.lemmas.Bool.{true≢false, le-ltb}
 use mir.Val.{SFits}
 use Rattle.std.proofs.Common.{w64, to_z, of_z}
-use Rattle.builtin_calls.specs.Arithmetic.{modulo}
+use Rattle.fd_model.specs.Arithmetic.{modulo}
 
 -- the remainder and the divisor have different signs, or one of them is 0
 abbrev pub differ : ℤ → ℤ → Bool

@@ -1,5 +1,3 @@
-pub mod Arithmetic
-pub mod Kinds
 pub mod Reading
 pub mod Shown
 pub mod Passing

@@ -13,7 +13,7 @@ use Rattle.builtin_calls.specs.declared.evaluation.Waiting.{Waiting}
 use Rattle.builtin_calls.specs.declared.evaluation.Waiting.TheVariants.{Left, Right, Opposite}
 use Rattle.builtin_calls.specs.declared.evaluation.Step.{Step}
 use Rattle.builtin_calls.specs.declared.evaluation.Step.TheVariants.{Enter, Leave}
-use Rattle.builtin_calls.specs.Arithmetic.{Value, value_of, of_both, of_one, opposite_of}
+use Rattle.fd_model.specs.Arithmetic.{Value, value_of, of_both, of_one, opposite_of}
 use Rattle.builtin_calls.specs.Reading.{seen_term}
 use Rattle.builtin_calls.specs.Outcomes.{IsFault, IsNamedBy, meaning, operation_of}
 

@@ -9,7 +9,7 @@ ghost use Rattle.heap_cells.specs.Cells.{IsOf};
 ghost use Rattle.heap_cells.specs.Terms.{Naming};
 ghost use Rattle.builtin_calls.specs.declared.evaluation.EvalFault.TheVariants as fault;
 ghost use Rattle.builtin_calls.specs.declared.evaluation.Step.TheVariants as step;
-ghost use Rattle.builtin_calls.specs.Arithmetic.{integer, modulo, value_of};
+ghost use Rattle.fd_model.specs.Arithmetic.{integer, modulo, value_of};
 ghost use Rattle.builtin_calls.specs.Outcomes.{Tells, IsNamedBy, meaning, operation_of};
 ghost use Rattle.builtin_calls.specs.Reading.{seen_term, HasLinksBelow};
 ghost use Rattle.builtin_calls.specs.Waiting.{IsEntered, IsOfHeap, TellsStep};

@@ -2,7 +2,7 @@ use Rattle.std.proofs.Common.{FitsSigned, ap, sym, ◌∙◌, subst, w64, to_z, 
 use Rattle.std.specs.Prelude.{Ok}
 use Rattle.std.proofs.lemmas.Result.{err_from_is_err_and}
 use Rattle.builtin_calls.specs.declared.evaluation.EvalFault.TheVariants as fault
-use Rattle.builtin_calls.specs.Arithmetic.{value_of}
+use Rattle.fd_model.specs.Arithmetic.{value_of}
 use Rattle.builtin_calls.specs.Outcomes.{IsFault}
 use Rattle.builtin_calls.specs.Reading.{seen_term}
 use Rattle.builtin_calls.proofs.Remainders.{read_back}

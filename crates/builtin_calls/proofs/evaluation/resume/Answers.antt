@@ -2,7 +2,7 @@ use Rattle.std.proofs.Common.{◌≡◌, ◌++◌, [], ◌∷◌, neg_ℤ, FitsS
 use Rattle.std.specs.Prelude.{Ok}
 use Rattle.std.proofs.lemmas.Result.{err_from_is_err_and}
 use Rattle.builtin_calls.specs.declared.evaluation.Waiting.TheVariants.{Right}
-use Rattle.builtin_calls.specs.Arithmetic.{opposite_of, of_both}
+use Rattle.fd_model.specs.Arithmetic.{opposite_of, of_both}
 use Rattle.builtin_calls.specs.Outcomes.{IsFault, meaning}
 use Rattle.builtin_calls.specs.Reading.{seen_term}
 use Rattle.builtin_calls.specs.Waiting.{after}

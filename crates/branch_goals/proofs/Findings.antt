@@ -1,0 +1,302 @@
+-- What built-in goals come to.
+use Rattle.std.proofs.Common.{◌≡◌, ℕ, ◌<◌, Bool, true, false, ◌&&◌, ◌||◌, eq-eqb, eqb-true, not, ℤ, pos, List, [], ◌∷◌, length, Option, Some, None, Ok, Err, inl, inr, refl, ap, sym, ◌∙◌, subst}
+use Rattle.std.specs.Prelude.{MatchOption}
+use Rattle.std.specs.Option.{unwrap_or}
+use Rattle.std.specs.Str.{bytes_eq}
+use Rattle.std.proofs.lemmas.Bool.{cases_Bool, and_parts}
+use Rattle.std.proofs.lemmas.Bool.Decides.{Decides-int_eq}
+use Rattle.std.proofs.lemmas.Slice.Eq.{bytes_eq-Decides}
+use Rattle.fd_language.specs.Family.{Family}
+use Rattle.fd_language.specs.Range.{greatest as greatest_of}
+use Rattle.fd_language.specs.Term.{Term, Terms, Var, Int, Atom, Comp, no_terms, term}
+use Rattle.fd_language.proofs.Lemmas.{two}
+use Rattle.fd_model.specs.Arithmetic.{Value, value_of}
+use Rattle.fd_model.specs.Builtins.{Finding, faulted, decided, equated, evaluated, by_value, compared, found, is_same, are_same, is_open, is_integer, is_atom, is_atomic, is_compound, Numbers, one, those, numbers_of, equals_number, equals_value, greatest, last_of}
+use Rattle.fd_model.specs.Levels.{Levels}
+use Rattle.fd_model.specs.declared.kinds.BuiltinKind.{BuiltinKind}
+use Rattle.fd_model.specs.declared.kinds.BuiltinKind.TheVariants as kind
+use Rattle.fd_model.specs.declared.kinds.QueryFault.{QueryFault}
+use Rattle.fd_model.specs.declared.kinds.QueryFault.TheVariants.{Instantiation, BadType}
+use Rattle.heap_cells.specs.declared.Cell.{Cell}
+use Rattle.heap_cells.specs.declared.Cell.TheVariants as cell
+use Rattle.heap_cells.specs.Cells.{Cells, Heaps, Slot, free, linked, bound, slot_at, compound_at}
+use Rattle.heap_cells.specs.Terms.{Naming, IsOneToOne, Same, term_of}
+use Rattle.heap_cells.specs.Valid.{IsHeap}
+use Rattle.heap_cells.proofs.Ranks.{term-Int}
+use Rattle.heap_cells.proofs.Substitutions.{same_apply}
+use Rattle.heap_terms.specs.Values.{only}
+use Rattle.range_code.specs.Frames.{family_of}
+use Rattle.builtin_calls.specs.Outcomes.{IsFault}
+use Rattle.builtin_calls.specs.declared.evaluation.EvalFault.{EvalFault}
+use Rattle.builtin_calls.specs.declared.evaluation.EvalFault.TheVariants as eval
+use Rattle.builtin_calls.specs.Identical.{TellsIdentical}
+use Rattle.builtin_calls.specs.Reading as calls
+use Rattle.machine_relation.specs.Held.{value_in, value_at, link_at}
+use Rattle.machine_relation.specs.Held as held
+use Rattle.machine_relation.specs.Shown.{cell_set}
+use Rattle.machine_frames.specs.Frames.{link_of, link_in}
+use Rattle.branch_state.specs.States.{State, IsCell, IsSound}
+use Rattle.branch_goals.specs.declared.finding.Found.TheVariants.{Fault, Decided, Equal}
+use Rattle.branch_goals.specs.declared.finding.Numbers.{Numbers as Held}
+use Rattle.branch_goals.specs.declared.finding.Numbers.TheVariants.{One}
+use Rattle.branch_goals.specs.Lists.{shown_at}
+use Rattle.branch_goals.specs.Findings.{Finds, IsValueAt, AreValuesAt, AreNumbersAt, IsComparison, IsQuestion, fault_is, holds_by, seen_at, the_numbers, told_by, numbers_in_set, passes_by}
+use Rattle.branch_goals.proofs.Listing.{shown_free, shown_linked, shown_int, shown_atom, shown_compound}
+
+-- ---- a cell, by the two ways to read it
+
+same_set : (xs : List ℕ) (c : ℕ) → calls.value_in xs c ≡ value_in xs c
+same_set [] c = refl
+same_set (w ∷ []) c = refl
+same_set (w ∷ v ∷ ws) c = refl
+
+same_slot : (s : Slot) (G : Family) (c : ℕ) → calls.value_at (calls.link_of s) G c ≡ value_at (link_of s) G c
+same_slot free G c = refl
+same_slot (linked k) G c = same_set (G k) c
+same_slot (bound d) G c = refl
+
+pub same_term : (name : Naming) (h : Cells) (sets : List (List ℕ)) (c : Cell) → calls.seen_term name h sets c ≡ shown_at name h sets c
+same_term name h sets c =
+    same_apply (λ d. calls.value_at (calls.link_of (slot_at h d)) (calls.family_of sets) d) (λ d. value_at (link_in h d) (family_of sets) d) (λ d. same_slot (slot_at h d) (family_of sets) d) (term_of name h c)
+
+pub links_below : (s : State) → IsSound s → (hs : Heaps) (ls : Levels) → hs ≡ s.heaps → ls ≡ s.levels → (i k : ℕ) → slot_at hs.now i ≡ linked k → k < length ls.current.sets
+links_below s sound hs ls e f i k at =
+    subst (λ (l : Levels). k < length l.current.sets) (sym f) (sound.now.linked i k (ap link_of (subst (λ (h : Heaps). slot_at h.now i ≡ linked k) e at)))
+
+-- ---- values
+
+pub value_by : (name : Naming) (s : State) (hs : Heaps) (ls : Levels) → hs ≡ s.heaps → ls ≡ s.levels → (c : Cell) (P : Value → Type 0) → P (value_of (calls.seen_term name hs.now ls.current.sets c)) → P (value_of (calls.seen_term name s.heaps.now s.levels.current.sets c))
+value_by name s hs ls e f c P p =
+    subst (λ (l : Levels). P (value_of (calls.seen_term name s.heaps.now l.current.sets c))) f (subst (λ (h : Heaps). P (value_of (calls.seen_term name h.now ls.current.sets c))) e p)
+
+pub value_told : (name : Naming) (s : State) (c : Cell) (z : ℤ) → value_of (calls.seen_term name s.heaps.now s.levels.current.sets c) ≡ Ok z → IsValueAt name s c (Ok z)
+value_told name s c z e = ap (λ t. by_value (value_of t)) (sym (same_term name s.heaps.now s.levels.current.sets c)) ∙ ap by_value e
+
+fault_value : (e : EvalFault) (v : Value) (f : QueryFault) → IsFault e v → fault_is e f → by_value v ≡ Err f
+fault_value eval.Unbound v f i g = ap by_value i ∙ ap Err (sym g)
+fault_value eval.NotANumber v f i g = ap by_value i ∙ ap Err (sym g)
+fault_value eval.Overflow v f i g = ap by_value i ∙ ap Err (sym g)
+fault_value eval.ZeroDivisor v f i g = ap by_value i ∙ ap Err (sym g)
+fault_value eval.NoMemory v f i g = absurd g
+
+pub fault_told : (name : Naming) (s : State) (c : Cell) (e : EvalFault) (f : QueryFault) → IsFault e (value_of (calls.seen_term name s.heaps.now s.levels.current.sets c)) → fault_is e f → IsValueAt name s c (Err f)
+fault_told name s c e f i g =
+    ap (λ t. by_value (value_of t)) (sym (same_term name s.heaps.now s.levels.current.sets c))
+    ∙ fault_value e (value_of (calls.seen_term name s.heaps.now s.levels.current.sets c)) f i g
+
+pub left_fault : (name : Naming) (s : State) (a b : Cell) (f : QueryFault) → IsValueAt name s a (Err f) → AreValuesAt name s a b (Err f)
+left_fault name s a b f e holds = ap (λ r. compared holds r (evaluated (seen_at name s b))) e
+
+pub right_fault : (name : Naming) (s : State) (a b : Cell) (z : ℤ) (f : QueryFault) → IsValueAt name s a (Ok z) → IsValueAt name s b (Err f) → AreValuesAt name s a b (Err f)
+right_fault name s a b z f e g holds = two (compared holds) e g
+
+found_compared : (k : BuiltinKind) → IsComparison k → (sets : ℕ → Option (List ℕ)) (a b u v : Term) → found k sets a b u v ≡ compared (holds_by k) (evaluated u) (evaluated v)
+found_compared kind.True i sets a b u v = absurd i
+found_compared kind.Fail i sets a b u v = absurd i
+found_compared kind.False i sets a b u v = absurd i
+found_compared kind.Unify i sets a b u v = absurd i
+found_compared kind.Same i sets a b u v = absurd i
+found_compared kind.NotSame i sets a b u v = absurd i
+found_compared kind.Is i sets a b u v = absurd i
+found_compared kind.NumEqual i sets a b u v = refl
+found_compared kind.NumDiffer i sets a b u v = refl
+found_compared kind.NumLess i sets a b u v = refl
+found_compared kind.NumAtMost i sets a b u v = refl
+found_compared kind.NumGreater i sets a b u v = refl
+found_compared kind.NumAtLeast i sets a b u v = refl
+found_compared kind.Var i sets a b u v = absurd i
+found_compared kind.Nonvar i sets a b u v = absurd i
+found_compared kind.Integer i sets a b u v = absurd i
+found_compared kind.Atom i sets a b u v = absurd i
+found_compared kind.Atomic i sets a b u v = absurd i
+found_compared kind.Compound i sets a b u v = absurd i
+found_compared kind.Write i sets a b u v = absurd i
+found_compared kind.Nl i sets a b u v = absurd i
+found_compared kind.FdMin i sets a b u v = absurd i
+found_compared kind.FdMax i sets a b u v = absurd i
+found_compared kind.FdSize i sets a b u v = absurd i
+found_compared kind.FdDom i sets a b u v = absurd i
+
+module _ (name : Naming) (s : State) (k : BuiltinKind) (a b : Cell) where
+  abbrev sets : ℕ → Option (List ℕ)
+  sets d = cell_set (family_of s.levels.current.sets) (link_at (link_in s.heaps.now d) (family_of s.levels.current.sets))
+
+  abbrev A : Term
+  A = term_of name s.heaps.now a
+
+  abbrev B : Term
+  B = term_of name s.heaps.now b
+
+  pub compare_fault : IsComparison k → (f : QueryFault) → AreValuesAt name s a b (Err f) → Finds name s k a b (Fault f)
+  compare_fault i f e = found_compared k i sets A B (seen_at name s a) (seen_at name s b) ∙ e (holds_by k)
+
+  pub compare_told : IsComparison k → (z w : ℤ) → AreValuesAt name s a b (Ok (z, w)) → (r : Bool) → r ≡ holds_by k z w → Finds name s k a b (Decided r)
+  compare_told i z w e r h = found_compared k i sets A B (seen_at name s a) (seen_at name s b) ∙ two (compared (holds_by k)) e.0 e.1 ∙ ap decided (sym h)
+
+-- ---- numbers
+
+pub one_number : (xs : List ℕ) (w : ℕ) → only xs ≡ Some w → one (pos w) ≡ numbers_in_set xs
+one_number [] w e = absurd (cc)
+one_number (v ∷ []) w e = let f : v ≡ w = cc in ap (λ n. one (pos n)) (sym f)
+one_number (x ∷ y ∷ ys) w e = absurd (cc)
+
+pub those_numbers : (xs : List ℕ) → only xs ≡ None → those xs ≡ numbers_in_set xs
+those_numbers [] e = refl
+those_numbers (v ∷ []) e = absurd (cc)
+those_numbers (x ∷ y ∷ ys) e = refl
+
+module _ (name : Naming) (h : Cells) (valid : IsHeap h) (all : List (List ℕ)) (c : Cell) where
+  abbrev G : Family
+  G = family_of all
+
+  abbrev given : ℕ → Option (List ℕ)
+  given d = cell_set G (link_at (link_in h d) G)
+
+  pub numbers_free : (i : ℕ) → slot_at h i ≡ free → Same h c (cell.Ref i) → AreNumbersAt name h all c (Err Instantiation)
+  numbers_free i e s = ap (numbers_of given) (shown_free name h valid all c i e s) ∙ ap (λ o. Rattle.fd_model.specs.Builtins.set_numbers (cell_set G (link_at o G))) (ap link_of e)
+
+  in_set : (xs : List ℕ) (k i : ℕ) → G k ≡ xs → link_in h i ≡ Some k → numbers_of given (value_in xs i) ≡ Ok (numbers_in_set xs)
+  in_set [] k i g e = ap (λ o. Rattle.fd_model.specs.Builtins.set_numbers (cell_set G (link_at o G))) e ∙ ap (λ ys. Rattle.fd_model.specs.Builtins.set_numbers (cell_set G (held.link_in ys k))) g ∙ ap (λ ys. Ok (those ys)) g
+  in_set (w ∷ []) k i g e = refl
+  in_set (x ∷ y ∷ ys) k i g e = ap (λ o. Rattle.fd_model.specs.Builtins.set_numbers (cell_set G (link_at o G))) e ∙ ap (λ zs. Rattle.fd_model.specs.Builtins.set_numbers (cell_set G (held.link_in zs k))) g ∙ ap (λ zs. Ok (those zs)) g
+
+  pub numbers_linked : (i k : ℕ) (n : Held) → slot_at h i ≡ linked k → Same h c (cell.Ref i) → the_numbers n ≡ numbers_in_set (G k) → AreNumbersAt name h all c (Ok n)
+  numbers_linked i k n e s g = ap (numbers_of given) (shown_linked name h valid all c i k e s) ∙ in_set (G k) k i refl (ap link_of e) ∙ ap Ok (sym g)
+
+  pub numbers_int : (z : ℤ) → Same h c (cell.Int z) → AreNumbersAt name h all c (Ok (One z))
+  numbers_int z s = ap (numbers_of given) (shown_int name h valid all c z s)
+
+  pub numbers_atom : (a : Rattle.term_pool.specs.declared.AtomId.AtomId) → Same h c (cell.Atom a) → AreNumbersAt name h all c (Err BadType)
+  numbers_atom a s = ap (numbers_of given) (shown_atom name h valid all c a s)
+
+  pub numbers_compound : (f : Rattle.term_pool.specs.declared.AtomId.AtomId) (args : List Cell) (j : ℕ) → compound_at h j ≡ record { name = f; args = args } → Same h c (cell.Struct j) → AreNumbersAt name h all c (Err BadType)
+  numbers_compound f args j e s = ap (numbers_of given) (shown_compound name h valid all c f args j e s)
+
+asked : (k : BuiltinKind) → IsQuestion k → (sets : ℕ → Option (List ℕ)) (a b u v : Term) → found k sets a b u v ≡ equals_number (λ ns. Int (told_by k ns)) b (numbers_of sets u)
+asked kind.FdMin i sets a b u v = refl
+asked kind.FdMax i sets a b u v = refl
+asked kind.FdSize i sets a b u v = refl
+asked kind.True i sets a b u v = absurd i
+asked kind.Fail i sets a b u v = absurd i
+asked kind.False i sets a b u v = absurd i
+asked kind.Unify i sets a b u v = absurd i
+asked kind.Same i sets a b u v = absurd i
+asked kind.NotSame i sets a b u v = absurd i
+asked kind.Is i sets a b u v = absurd i
+asked kind.NumEqual i sets a b u v = absurd i
+asked kind.NumDiffer i sets a b u v = absurd i
+asked kind.NumLess i sets a b u v = absurd i
+asked kind.NumAtMost i sets a b u v = absurd i
+asked kind.NumGreater i sets a b u v = absurd i
+asked kind.NumAtLeast i sets a b u v = absurd i
+asked kind.Var i sets a b u v = absurd i
+asked kind.Nonvar i sets a b u v = absurd i
+asked kind.Integer i sets a b u v = absurd i
+asked kind.Atom i sets a b u v = absurd i
+asked kind.Atomic i sets a b u v = absurd i
+asked kind.Compound i sets a b u v = absurd i
+asked kind.Write i sets a b u v = absurd i
+asked kind.Nl i sets a b u v = absurd i
+asked kind.FdDom i sets a b u v = absurd i
+
+module _ (name : Naming) (s : State) (valid : IsHeap s.heaps.now) (k : BuiltinKind) (i : IsQuestion k) (of is : Cell) where
+  pub asked_fault : (f : QueryFault) → AreNumbersAt name s.heaps.now s.levels.current.sets of (Err f) → Finds name s k of is (Fault f)
+  asked_fault f e =
+      asked k i (sets name s k of is) (A name s k of is) (B name s k of is) (seen_at name s of) (seen_at name s is)
+      ∙ ap (equals_number (λ ns. Int (told_by k ns)) (B name s k of is)) e
+
+  pub asked_told : IsCell s is → (n : Held) (z : ℤ) → AreNumbersAt name s.heaps.now s.levels.current.sets of (Ok n) → z ≡ told_by k (the_numbers n) → Finds name s k of is (Equal is (cell.Int z))
+  asked_told own n z e h = (
+    own,
+    (tt, tt),
+    asked k i (sets name s k of is) (A name s k of is) (B name s k of is) (seen_at name s of) (seen_at name s is)
+        ∙ ap (equals_number (λ ns. Int (told_by k ns)) (B name s k of is)) e
+        ∙ ap (equated (B name s k of is)) (ap Int (sym h) ∙ sym (term-Int name s.heaps.now valid z)),
+  )
+
+-- ---- identity
+
+mutual
+  same_self : (t : Term) → is_same t t ≡ true
+  same_self (Var x) = eq-eqb x x refl
+  same_self (Int z) = (Decides-int_eq z z).1 refl
+  same_self (Atom a) = (bytes_eq-Decides a a).1 refl
+  same_self (Comp f ts) = two (λ x y. x && y) ((bytes_eq-Decides f f).1 refl) (all_self ts)
+
+  all_self : (ts : Terms) → are_same ts ts ≡ true
+  all_self no_terms = refl
+  all_self (term t ts) = two (λ x y. x && y) (same_self t) (all_self ts)
+
+mutual
+  is_one : (t u : Term) → is_same t u ≡ true → t ≡ u
+  is_one (Var x) (Var y) e = ap Var (eqb-true x y e)
+  is_one (Int z) (Int w) e = ap Int ((Decides-int_eq z w).0 e)
+  is_one (Atom a) (Atom b) e = ap Atom ((bytes_eq-Decides a b).0 e)
+  is_one (Comp f ts) (Comp g us) e = let p = and_parts (bytes_eq f g) (are_same ts us) e in two Comp ((bytes_eq-Decides f g).0 p.0) (are_one ts us p.1)
+  is_one (Var x) (Int z) e = absurd (cc)
+  is_one (Var x) (Atom a) e = absurd (cc)
+  is_one (Var x) (Comp f ts) e = absurd (cc)
+  is_one (Int z) (Var x) e = absurd (cc)
+  is_one (Int z) (Atom a) e = absurd (cc)
+  is_one (Int z) (Comp f ts) e = absurd (cc)
+  is_one (Atom a) (Var x) e = absurd (cc)
+  is_one (Atom a) (Int z) e = absurd (cc)
+  is_one (Atom a) (Comp f ts) e = absurd (cc)
+  is_one (Comp f ts) (Var x) e = absurd (cc)
+  is_one (Comp f ts) (Int z) e = absurd (cc)
+  is_one (Comp f ts) (Atom a) e = absurd (cc)
+
+  are_one : (ts us : Terms) → are_same ts us ≡ true → ts ≡ us
+  are_one no_terms no_terms e = refl
+  are_one (term t ts) (term u us) e = let p = and_parts (is_same t u) (are_same ts us) e in two term (is_one t u p.0) (are_one ts us p.1)
+  are_one no_terms (term u us) e = absurd (cc)
+  are_one (term t ts) no_terms e = absurd (cc)
+
+pub told_identical : (name : Naming) → IsOneToOne name → (s : State) (a b : Cell) (r : Bool) → TellsIdentical s.heaps.now s.levels.current.sets a b r → r ≡ is_same (seen_at name s a) (seen_at name s b)
+told_identical name n s a b true t =
+    sym (ap (is_same (seen_at name s a)) (sym (same_term name s.heaps.now s.levels.current.sets b) ∙ sym (t name) ∙ same_term name s.heaps.now s.levels.current.sets a) ∙ same_self (seen_at name s a))
+told_identical name n s a b false t = elim (cases_Bool (is_same (seen_at name s a) (seen_at name s b))) [
+  | inl y ↦ absurd (t name n (same_term name s.heaps.now s.levels.current.sets a ∙ is_one (seen_at name s a) (seen_at name s b) y ∙ sym (same_term name s.heaps.now s.levels.current.sets b)))
+  | inr y ↦ sym y
+]
+
+-- ---- tests of types
+
+pub is_passed : (k : BuiltinKind) (name : Naming) (s : State) (c : Cell) (p : Term → Bool) (r : Bool) → r ≡ p (calls.seen_term name s.heaps.now s.levels.current.sets c) → ((t : Term) → p t ≡ passes_by k t) → r ≡ passes_by k (seen_at name s c)
+is_passed k name s c p r e same = e ∙ ap p (same_term name s.heaps.now s.levels.current.sets c) ∙ same (seen_at name s c)
+
+pub atomic_is : (t : Term) → (is_integer t || is_atom t) ≡ is_atomic t
+atomic_is (Var x) = refl
+atomic_is (Int z) = refl
+atomic_is (Atom a) = refl
+atomic_is (Comp f ts) = refl
+
+-- ---- the other goals
+
+module _ (name : Naming) (s : State) (k : BuiltinKind) (a b : Cell) where
+  pub is_fault : kind.Is ≡ k → (f : QueryFault) → IsValueAt name s b (Err f) → Finds name s k a b (Fault f)
+  is_fault e f v = subst (λ j. Finds name s j a b (Fault f)) e (ap (equals_value (term_of name s.heaps.now a)) v)
+
+  pub is_told : IsHeap s.heaps.now → IsCell s a → kind.Is ≡ k → (z : ℤ) → IsValueAt name s b (Ok z) → Finds name s k a b (Equal a (cell.Int z))
+  is_told valid own e z v =
+      subst (λ j. Finds name s j a b (Equal a (cell.Int z))) e
+      (own, (tt, tt), ap (equals_value (term_of name s.heaps.now a)) v ∙ ap (equated (term_of name s.heaps.now a)) (sym (term-Int name s.heaps.now valid z)))
+
+  pub same_told : kind.Same ≡ k → (r : Bool) → r ≡ is_same (seen_at name s a) (seen_at name s b) → Finds name s k a b (Decided r)
+  same_told e r t = subst (λ j. Finds name s j a b (Decided r)) e (ap decided (sym t))
+
+  pub not_same_told : kind.NotSame ≡ k → (r : Bool) → r ≡ is_same (seen_at name s a) (seen_at name s b) → Finds name s k a b (Decided (not r))
+  not_same_told e r t = subst (λ j. Finds name s j a b (Decided (not r))) e (ap (λ x. decided (not x)) (sym t))
+
+-- the greatest of a rising list is its last
+pub last_is : (n : ℕ) (ns : List ℕ) → last_of n ns ≡ greatest_of (n ∷ ns)
+last_is n [] = refl
+last_is n (m ∷ ms) = last_is m ms
+
+pub greatest_is : (xs : List ℕ) → greatest (those xs) ≡ pos (greatest_of xs)
+greatest_is [] = refl
+greatest_is (x ∷ xs) = ap pos (last_is x xs)
+
+pub greatest_or : (xs : List ℕ) (o : Option ℕ) → MatchOption o (xs ≡ []) (λ n. n ≡ greatest_of xs) → unwrap_or o 0 ≡ greatest_of xs
+greatest_or xs None e = sym (ap greatest_of e)
+greatest_or xs (Some n) e = e

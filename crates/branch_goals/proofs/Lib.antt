@@ -1,0 +1,4 @@
+mod DomainLists
+mod Findings
+mod Labels
+mod Listing

@@ -1,0 +1,4 @@
+pub mod Domains
+pub mod Findings
+pub mod Labels
+pub mod Lists

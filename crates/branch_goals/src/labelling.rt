@@ -1,0 +1,66 @@
+//! What a labelling takes.
+
+ghost use Rattle.std.specs.Prelude.{◌≡◌, ◌<◌, length, IfOk};
+ghost use Rattle.heap_cells.specs.Cells.{IsOf};
+ghost use Rattle.heap_cells.specs.Terms.{Naming};
+ghost use Rattle.branch_state.specs.States.{IsSound, IsCell};
+ghost use Rattle.branch_goals.specs.Lists.{IsListNaming};
+ghost use Rattle.branch_goals.specs.Labels.{Labels, IsVariableOf};
+
+use crate::lists::read_members;
+use branch_state::BranchState;
+use fd_language::NoMemory;
+use fd_model::kinds::{Order, QueryFault};
+use heap_cells::{Cell, Heap, Seen};
+use label_search::pick;
+use propagate_queue::Agenda;
+use std::alloc::Global;
+
+/// What a labelling does.
+#[derive(Clone, Copy, Debug, PartialEq, Eq)]
+pub enum Labelling {
+    /// No member is open.
+    Done,
+    /// The variable of the heap, by its number, that is taken next.
+    Takes(usize),
+    /// The argument is no list of variables and integers.
+    Fault(QueryFault),
+}
+
+/// The variable that a cell comes to. Cells of other terms have the number 0.
+fn variable_of(heap: &Heap, c: Cell) -> usize
+    requires { IsOf heap.now.now c }
+    ensures { (name : Naming) → IsVariableOf name heap.now.now c result }
+{
+    match heap.deref(c) {
+        Seen::Open(i) => i,
+        Seen::Constrained(i, _) => i,
+        _ => 0,
+    }
+}
+
+/// What the labelling of the list in a cell does: by `Leftmost` it takes the first open member, by `FirstFail` the first of those
+/// with the fewest values. A variable of the store with one value counts as that integer, and a variable that the store doesn't have
+/// has all values from 0 to `INFINITY`. The error is want of memory.
+pub fn label<A: Agenda + Drop>(
+    alloc: Global,
+    branch: &BranchState<A>,
+    order: Order,
+    list: Cell,
+) -> Result<Labelling, NoMemory>
+    requires sound { IsSound branch.now }
+    requires list { IsCell branch.now list }
+    ensures { IfOk result (λ l. (name : Naming) → IsListNaming name
+        → Labels name branch.now order list l) }
+{
+    let heap = branch.heap();
+    let store = branch.store();
+    store.known();
+    match read_members(alloc, heap, store, list)? {
+        Err(fault) => Ok(Labelling::Fault(fault)),
+        Ok(list) => match pick(order, &list.members, store) {
+            Some(place) => Ok(Labelling::Takes(variable_of(heap, list.cells[place]))),
+            None => Ok(Labelling::Done),
+        },
+    }
+}

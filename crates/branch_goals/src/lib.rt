@@ -1,0 +1,12 @@
+//! What goals ask of a branch: the variable that a labelling takes, and what a built-in goal comes to.
+#![tactic(auto)]
+
+mod builtins;
+mod domains;
+mod finding;
+mod labelling;
+mod lists;
+
+pub use crate::builtins::find;
+pub use crate::finding::Found;
+pub use crate::labelling::{Labelling, label};

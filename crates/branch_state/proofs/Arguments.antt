@@ -1,0 +1,181 @@
+-- The arguments of a range, slot by slot, and the range that they make of it.
+use Rattle.std.proofs.Common.{◌≡◌, ℕ, zero, suc, ◌+◌, ◌<◌, Bool, true, false, cond, not, ◌||◌, ◌==◌, nat_eq, ℤ, List, [], ◌∷◌, ◌++◌, length, map, get_or, Option, Some, None, refl, ap, sym, ◌∙◌, subst, inl, inr, arith, eqb-true, eq-eqb, IsTrue}
+use Rattle.std.specs.List.{position_or_len}
+use Rattle.std.proofs.lemmas.Bool.{cases_Bool, or_cases, or_left, or_right, true≢false}
+use Rattle.fd_model.specs.declared.kinds.QueryFault.{QueryFault}
+use Rattle.fd_model.specs.declared.kinds.QueryFault.TheVariants.{Parameter}
+use Rattle.fd_language.specs.declared.range_node.Need.{Need}
+use Rattle.fd_language.specs.Family.{has}
+use Rattle.fd_language.specs.Lists.{Each}
+use Rattle.fd_language.specs.Range.{Range, Span, One, Dom, Union, Inter, Outside, Plus, Minus, Times, Over, Expr, Number, Infinity, Param, Min, Max, Val, Add, Sub, Mul, DivDown, DivUp, params}
+use Rattle.fd_language.specs.RangeRenaming.{rename_expr, rename_range}
+use Rattle.fd_language.specs.Check.{fill, fill_range}
+use Rattle.fd_language.specs.Term.{Substitution}
+use Rattle.fd_language.specs.Needs.{meets, need_of}
+use Rattle.fd_language.specs.Places.{Place, expr_places, range_places}
+use Rattle.fd_model.specs.Sound.{RangeBelow}
+use Rattle.std.specs.Prelude.{All}
+use Rattle.std.proofs.lemmas.List.Elements.{All-nil, All-cons}
+use Rattle.fd_language.proofs.Lemmas.{each_before, each_after, two}
+use Rattle.range_code.specs.declared.frame.Arg.{Arg}
+use Rattle.range_code.specs.Slots.{slots_of, slot_of, slot_needs, need_at}
+use Rattle.range_code.specs.Frames.{IsArg, AreArgs, arg_at, variable_of, integer_of, slot_variable, slot_integer, posted}
+use Rattle.range_code.proofs.Once.{has_once}
+use Rattle.fd_model.specs.Posting.{or_later}
+use Rattle.fd_model.specs.Posting as seen
+use Rattle.branch_state.specs.Naming.{offence, first_in, named_behind, StandsIn, AllStand}
+use Rattle.branch_state.proofs.Places.{AreSettled, variables}
+
+none_both : (a b : Option QueryFault) → or_later a b ≡ None → (a ≡ None) × (b ≡ None)
+none_both (Some x) b h = absurd (cc)
+none_both None b h = (refl, h)
+
+-- the slots that are no parameters
+abbrev pub slots_open : List ℕ → List (Option Need) → List ℕ
+slots_open [] ns = []
+slots_open (y ∷ ys) [] = []
+slots_open (y ∷ ys) (None ∷ ns) = y ∷ slots_open ys ns
+slots_open (y ∷ ys) (Some n ∷ ns) = slots_open ys ns
+
+-- two ways to fill and rename a range, which agree at its places
+module _ (f g : ℕ → ℕ) (p q : ℕ → ℤ) where
+  abbrev pub Agrees : Place → Type 0
+  Agrees x = (x.parameter ≡ true → p x.variable ≡ q x.variable) × (x.parameter ≡ false → f x.variable ≡ g x.variable)
+
+  both : {A B C : Type 0} (op : A → B → C) {a a' : A} {b b' : B} (xs ys : List Place) → (Each Agrees xs → a ≡ a') → (Each Agrees ys → b ≡ b') → Each Agrees (xs ++ ys) → op a b ≡ op a' b'
+  both op xs ys i j h = two op (i (each_before Agrees xs ys h)) (j (each_after Agrees xs ys h))
+
+  expr_same : (e : Expr) → Each Agrees (expr_places e) → rename_expr f (fill p e) ≡ rename_expr g (fill q e)
+  expr_same (Number z) h = refl
+  expr_same Infinity h = refl
+  expr_same (Param x) h = ap Number (h.0.0 refl)
+  expr_same (Min y) h = ap Min (h.0.1 refl)
+  expr_same (Max y) h = ap Max (h.0.1 refl)
+  expr_same (Val y) h = ap Val (h.0.1 refl)
+  expr_same (Add a b) h = both Add (expr_places a) (expr_places b) (expr_same a) (expr_same b) h
+  expr_same (Sub a b) h = both Sub (expr_places a) (expr_places b) (expr_same a) (expr_same b) h
+  expr_same (Mul a b) h = both Mul (expr_places a) (expr_places b) (expr_same a) (expr_same b) h
+  expr_same (DivDown a b) h = both DivDown (expr_places a) (expr_places b) (expr_same a) (expr_same b) h
+  expr_same (DivUp a b) h = both DivUp (expr_places a) (expr_places b) (expr_same a) (expr_same b) h
+
+  pub range_same : (r : Range) → Each Agrees (range_places r) → rename_range f (fill_range p r) ≡ rename_range g (fill_range q r)
+  range_same (Span a b) h = both Span (expr_places a) (expr_places b) (expr_same a) (expr_same b) h
+  range_same (One t) h = ap One (expr_same t h)
+  range_same (Dom y) h = ap Dom (h.0.1 refl)
+  range_same (Union r s) h = both Union (range_places r) (range_places s) (range_same r) (range_same s) h
+  range_same (Inter r s) h = both Inter (range_places r) (range_places s) (range_same r) (range_same s) h
+  range_same (Outside r) h = ap Outside (range_same r h)
+  range_same (Plus r c) h = both Plus (range_places r) (expr_places c) (range_same r) (expr_same c) h
+  range_same (Minus r c) h = both Minus (range_places r) (expr_places c) (range_same r) (expr_same c) h
+  range_same (Times r c) h = both Times (range_places r) (expr_places c) (range_same r) (expr_same c) h
+  range_same (Over r c) h = both Over (range_places r) (expr_places c) (range_same r) (expr_same c) h
+
+-- the place of a member
+first_place : (xs : List ℕ) (y : ℕ) (d : ℕ) → has xs y ≡ true → (position_or_len (nat_eq y) xs < length xs) × (get_or xs (position_or_len (nat_eq y) xs) d ≡ y)
+first_place [] y d h = absurd (true≢false (sym h))
+first_place (x ∷ xs) y d h = elim (cases_Bool (nat_eq y x)) [
+  | inl e ↦
+      let i : position_or_len (nat_eq y) (x ∷ xs) ≡ 0 = ap (λ c. cond (not c) (1 + position_or_len (nat_eq y) xs) 0) e in
+      (subst (λ n. n < suc (length xs)) (sym i) (omega arith), ap (λ n. get_or (x ∷ xs) n d) i ∙ sym (eqb-true y x e))
+  | inr e ↦
+      let i : position_or_len (nat_eq y) (x ∷ xs) ≡ suc (position_or_len (nat_eq y) xs) = ap (λ c. cond (not c) (1 + position_or_len (nat_eq y) xs) 0) e ∙ one_up (position_or_len (nat_eq y) xs) in
+      let k = first_place xs y d (later x y xs e h) in
+      (subst (λ n. n < suc (length xs)) (sym i) (let l = k.0 in omega (arith, l)), ap (λ n. get_or (x ∷ xs) n d) i ∙ k.1)
+] where
+  one_up : (n : ℕ) → 1 + n ≡ suc n
+  one_up n = omega arith
+
+  later : (x y : ℕ) (xs : List ℕ) → nat_eq y x ≡ false → ((x == y) || has xs y) ≡ true → has xs y ≡ true
+  later x y xs e h = elim (or_cases (x == y) (has xs y) h) [ inl i ↦ absurd (true≢false (sym (eq-eqb y x (sym (eqb-true x y i))) ∙ e)) | inr i ↦ i ]
+
+stands_at : (s : Substitution) (of : ℕ → ℕ) (need : ℕ → Option Need) (ys : List ℕ) (as' : List Arg) → AllStand s of ys (map need ys) as' → (i d : ℕ) → i < length ys → StandsIn s of (get_or ys i d) (need (get_or ys i d)) (arg_at as' i)
+stands_at s of need [] as' h i d l = absurd (omega (arith, l))
+stands_at s of need (y ∷ ys) [] h i d l = absurd h
+stands_at s of need (y ∷ ys) (a ∷ as') h zero d l = h.0
+stands_at s of need (y ∷ ys) (a ∷ as') h (suc i) d l = stands_at s of need ys as' h.1 i d (omega (arith, l))
+
+module _ (s : Substitution) (of : ℕ → ℕ) (r : Range) (as' : List Arg) (stand : AllStand s of (slots_of r) (slot_needs r) as') where
+  at_variable : (y : ℕ) → has (slots_of r) y ≡ true → StandsIn s of y (need_at r y) (arg_at as' (slot_of r y))
+  at_variable y h =
+      let i = first_place (slots_of r) y 0 h in
+      subst (λ x. StandsIn s of x (need_at r x) (arg_at as' (slot_of r y))) i.1 (stands_at s of (need_at r) (slots_of r) as' stand (slot_of r y) 0 i.0)
+
+  by_parameter : (y : ℕ) → has (params r) y ≡ true → StandsIn s of y (need_at r y) (arg_at as' (slot_of r y)) → slot_integer as' (slot_of r y) ≡ seen.integer_of (s y)
+  by_parameter y h t =
+      let k : StandsIn s of y (Some (need_of r y)) (arg_at as' (slot_of r y)) = subst (λ n. StandsIn s of y n (arg_at as' (slot_of r y))) (ap (λ b. cond b (Some (need_of r y)) None) h) t in
+      ap integer_of k.2 ∙ sym (ap seen.integer_of k.1)
+
+  by_cell : (y : ℕ) → has (params r) y ≡ false → StandsIn s of y (need_at r y) (arg_at as' (slot_of r y)) → slot_variable as' (slot_of r y) ≡ of y
+  by_cell y h t =
+      let k : StandsIn s of y None (arg_at as' (slot_of r y)) = subst (λ n. StandsIn s of y n (arg_at as' (slot_of r y))) (ap (λ b. cond b (Some (need_of r y)) None) h) t in
+      ap variable_of k
+
+  each_agrees : (qs : List Place) → AreSettled (params r) qs → ((y : ℕ) → has (variables qs) y ≡ true → has (slots_of r) y ≡ true) → Each (Agrees (λ y. slot_variable as' (slot_of r y)) of (λ y. slot_integer as' (slot_of r y)) (λ y. seen.integer_of (s y))) qs
+  each_agrees [] h k = tt
+  each_agrees (x ∷ qs) h k = (
+    (
+      λ e. by_parameter x.variable (sym h.0 ∙ e) (at_variable x.variable (k x.variable (here x.variable (variables qs)))),
+      λ e. by_cell x.variable (sym h.0 ∙ e) (at_variable x.variable (k x.variable (here x.variable (variables qs)))),
+    ),
+    each_agrees qs h.1 (λ y l. k y (or_right (x.variable == y) (has (variables qs) y) l)),
+  ) where
+    here : (x : ℕ) (xs : List ℕ) → has (x ∷ xs) x ≡ true
+    here x xs = or_left (x == x) (has xs x) (eq-eqb x x refl)
+
+  -- the range that these arguments make
+  pub posted_is : AreSettled (params r) (range_places r) → posted r as' ≡ rename_range of (fill_range (λ y. seen.integer_of (s y)) r)
+  posted_is h = range_same (λ y. slot_variable as' (slot_of r y)) of (λ y. slot_integer as' (slot_of r y)) (λ y. seen.integer_of (s y)) r (each_agrees (range_places r) h (λ y k. has_once (variables (range_places r)) y ∙ k))
+
+-- they are arguments of the range, where no parameter offends
+pub are_args : (count : ℕ) (s : Substitution) (of : ℕ → ℕ) (ys : List ℕ) (ns : List (Option Need)) (as' : List Arg) → AllStand s of ys ns as' → first_in s ys ns ≡ None → ((y : ℕ) → has (slots_open ys ns) y ≡ true → offence None (s y) ≡ None → of y < count) → AreArgs count ns as'
+are_args count s of [] [] [] h e l = tt
+are_args count s of [] [] (a ∷ as') h e l = absurd h
+are_args count s of [] (n ∷ ns) as' h e l = absurd h
+are_args count s of (y ∷ ys) [] as' h e l = absurd h
+are_args count s of (y ∷ ys) (n ∷ ns) [] h e l = absurd h
+are_args count s of (y ∷ ys) (None ∷ ns) (a ∷ as') h e l =
+    let t = none_both (offence None (s y)) (first_in s ys ns) e in
+    (subst (IsArg count None) (sym h.0) (l y (or_left (y == y) (has (slots_open ys ns) y) (eq-eqb y y refl)) t.0), are_args count s of ys ns as' h.1 t.1 (λ z k. l z (or_right (y == z) (has (slots_open ys ns) z) k)))
+are_args count s of (y ∷ ys) (Some need ∷ ns) (a ∷ as') h e l =
+    let t = none_both (offence (Some need) (s y)) (first_in s ys ns) e in
+    (subst (IsArg count (Some need)) (sym h.0.2) (meets_it need h.0.0 (meets need h.0.0) refl (sym (ap (offence (Some need)) h.0.1) ∙ t.0)), are_args count s of ys ns as' h.1 t.1 l)
+  where
+    meets_it : (need : Need) (z : ℤ) (b : Bool) → meets need z ≡ b → cond b None (Some Parameter) ≡ None → IsTrue (meets need z)
+    meets_it need z true e h = e
+    meets_it need z false e h = absurd (cc)
+
+-- each of these is named
+pub open_named : (x : ℕ) (ys : List ℕ) (ns : List (Option Need)) (y : ℕ) → has (slots_open ys ns) y ≡ true → has (x ∷ named_behind x ys ns) y ≡ true
+open_named x [] ns y h = absurd (true≢false (sym h))
+open_named x (z ∷ ys) [] y h = absurd (true≢false (sym h))
+open_named x (z ∷ ys) (Some n ∷ ns) y h = open_named x ys ns y h
+open_named x (z ∷ ys) (None ∷ ns) y h = elim (or_cases (z == y) (has (slots_open ys ns) y) h) [
+  | inl e ↦ here (z == x) refl (eqb-true z y e)
+  | inr e ↦ later (z == x) (x == y) (open_named x ys ns y e)
+] where
+  here : (b : Bool) → (z == x) ≡ b → z ≡ y → has (x ∷ cond b (named_behind x ys ns) (z ∷ named_behind x ys ns)) y ≡ true
+  here true e f = or_left (x == y) (has (named_behind x ys ns) y) (eq-eqb x y (sym (eqb-true z x e) ∙ f))
+  here false e f = or_right (x == y) (has (z ∷ named_behind x ys ns) y) (or_left (z == y) (has (named_behind x ys ns) y) (eq-eqb z y f))
+
+  later : (b c : Bool) → (c || has (named_behind x ys ns) y) ≡ true → (c || has (cond b (named_behind x ys ns) (z ∷ named_behind x ys ns)) y) ≡ true
+  later true c h = h
+  later false true h = refl
+  later false false h = or_right (z == y) (has (named_behind x ys ns) y) h
+
+places_low : (n : ℕ) (ps : List Place) → Each (λ p. p.variable < n) ps → (y : ℕ) → has (variables ps) y ≡ true → y < n
+places_low n [] h y k = absurd (true≢false (sym k))
+places_low n (p ∷ ps) h y k = elim (or_cases (p.variable == y) (has (variables ps) y) k) [
+  | inl e ↦ subst (λ m. m < n) (eqb-true p.variable y e) h.0
+  | inr e ↦ places_low n ps h.1 y e
+]
+
+-- the slots of a range whose variables are among the first n
+pub slot_low : (n : ℕ) (r : Range) → RangeBelow n r → (y : ℕ) → has (slots_of r) y ≡ true → y < n
+slot_low n r h y k = places_low n (range_places r) h y (sym (has_once (variables (range_places r)) y) ∙ k)
+
+all_members : (P : ℕ → Type 0) (xs : List ℕ) → ((y : ℕ) → has xs y ≡ true → P y) → All P xs
+all_members P [] h = All-nil P
+all_members P (x ∷ xs) h = All-cons P x xs (h x (or_left (x == x) (has xs x) (eq-eqb x x refl))) (all_members P xs (λ y k. h y (or_right (x == y) (has xs y) k)))
+
+pub slots_low : (n : ℕ) (r : Range) → RangeBelow n r → All (λ y. y < n) (slots_of r)
+slots_low n r h = all_members (λ y. y < n) (slots_of r) (slot_low n r h)

@@ -1,0 +1,123 @@
+-- Variables of the heap that become variables of the store, one after the other.
+use Rattle.std.proofs.Common.{◌≡◌, ℕ, suc, ◌+◌, ◌<◌, true, false, List, [], ◌∷◌, ◌++◌, length, take, get_or, None, Some, refl, ap, sym, ◌∙◌, subst, inl, inr, arith, eqb-true, ◌==◌}
+use Rattle.std.proofs.lemmas.Bool.{cases_Bool, or_cases, true≢false}
+use Rattle.fd_language.specs.declared.TheConstants.{INFINITY}
+use Rattle.fd_language.specs.Family.{has, universe}
+use Rattle.fd_language.specs.Term.{Term, Var, Int, Atom, Comp}
+use Rattle.fd_language.proofs.Lemmas.{has_either, in_left, only_member}
+use Rattle.heap_cells.specs.declared.Cell.{Cell}
+use Rattle.heap_cells.specs.declared.Cell.TheVariants as cell
+use Rattle.heap_cells.specs.declared.Seen.{Seen}
+use Rattle.heap_cells.specs.declared.Seen.TheVariants as seen
+use Rattle.heap_cells.specs.Cells.{Cells, Compound, free, linked, is_bound, slot_at, with_slot}
+use Rattle.heap_cells.specs.Seen.{IsSeen}
+use Rattle.heap_cells.specs.Terms.{Naming, term_of, terms_by, Same}
+use Rattle.heap_cells.specs.Valid.{IsHeap}
+use Rattle.heap_cells.proofs.Ranks.{unbound_term, term-Int, term-Atom, term-Struct}
+use Rattle.machine_frames.specs.Frames.{link_of}
+use Rattle.branch_state.specs.Constraints.{IsUnbound, AreUnbound}
+use Rattle.branch_state.specs.declared.look.Look.{Look}
+use Rattle.branch_state.specs.declared.look.Look.TheVariants.{Open, Linked}
+use Rattle.branch_state.specs.Naming.{LooksAs, integers, IsNaming, NameStep}
+use Rattle.branch_state.proofs.ConstrainingHeaps.{unbound_kept}
+use Rattle.branch_state.proofs.ConstrainingSteps.{take_more, has_at}
+use Rattle.branch_state.proofs.Named.{naming_next}
+
+no_name : Naming
+no_name a = []
+
+same_var : (x y : ℕ) → Var x ≡ Var y → x ≡ y
+same_var x y e = cc
+
+-- no variable is an integer
+no_integers : (xs : List ℕ) → integers Var xs ≡ []
+no_integers [] = refl
+no_integers (x ∷ xs) = no_integers xs
+
+-- a number above all of a list
+above : List ℕ → ℕ
+above [] = 0
+above (x ∷ xs) = suc x + above xs
+
+below_all : (xs : List ℕ) (z : ℕ) → has xs z ≡ true → z < above xs
+unfolding above
+below_all [] z e = absurd (true≢false (sym e))
+below_all (x ∷ xs) z e = elim (or_cases (x == z) (has xs z) e) [
+  | inl i ↦ (let f = eqb-true x z i in omega (arith, f))
+  | inr i ↦ (let l = below_all xs z i in omega (arith, l))
+]
+
+module _ (h : Cells) (sets : List (List ℕ)) (xs : List ℕ) (now : Cells) (S : List (List ℕ)) (w : IsNaming Var h sets xs now S [] []) (x : ℕ) where
+  abbrev Next : Cells → List (List ℕ) → Type 0
+  Next now' S' = IsNaming Var h sets (xs ++ x ∷ []) now' S' [] []
+
+  -- one that is named already
+  again : has xs x ≡ true → Next now S
+  again i = record {
+    more = w.more;
+    links = w.links;
+    atoms = w.atoms;
+    listed = λ c j l. (let t = w.listed c j l in (t.0, in_left xs (x ∷ []) t.0 t.1, t.2, t.3));
+    below = w.below;
+    longer = w.longer;
+    same = w.same;
+    named = λ z c l e. elim (has_either xs (x ∷ []) z l) [
+      | inl a ↦ w.named z c a e
+      | inr a ↦ w.named z c (subst (λ y. has xs y ≡ true) (only_member x z a) i) e
+    ];
+    count = ap length (sym (no_integers (xs ++ x ∷ [])));
+    told = refl;
+    fresh = λ k e. absurd (true≢false (sym e));
+    apart = tt;
+  }
+
+  -- one that isn't
+  named_now : has xs x ≡ false → (l : Look) → LooksAs now (Var x) l → (now' : Cells) (S' : List (List ℕ)) (k : ℕ) → NameStep l now S [] now' S' [] k → Next now' S'
+  named_now new_one l looks now' S' k step =
+      let t = naming_next Var (above (xs ++ x ∷ [])) h sets xs now S [] [] w x new_one (λ z i e. below_all (xs ++ x ∷ []) z i) l looks now' S' [] k step in
+      subst (λ ks. IsNaming Var h sets (xs ++ x ∷ []) now' S' ks []) (none t.ks' (t.naming.count ∙ ap length (no_integers (xs ++ x ∷ [])))) t.naming
+    where
+      none : (ks : List ℕ) → length ks ≡ 0 → ks ≡ []
+      none [] e = refl
+      none (k ∷ ks) e = absurd (omega (arith, e))
+
+  -- an open one
+  pub open_named : (i : ℕ) → x ≡ i → i < length now.slots → slot_at now i ≡ free → (now' : Cells) (S' : List (List ℕ)) → now' ≡ with_slot now i (linked (length S)) → S' ≡ S ++ universe INFINITY ∷ [] → Next now' S'
+  open_named i same own e now' S' f g = elim (cases_Bool (has xs x)) [
+    | inl a ↦ absurd (let k = w.named x x a refl in none_some k.0 (sym (ap link_of (ap (slot_at now) same ∙ e)) ∙ k.1))
+    | inr a ↦ named_now a (Open i) (ap Var same, own, e) now' S' (length S) (refl, f, g, refl)
+  ] where
+    none_some : (k : ℕ) → None ≡ Some k → ⊥
+    none_some k e = cc
+
+  -- a linked one
+  pub linked_named : (i k : ℕ) → x ≡ i → slot_at now i ≡ linked k → Next now S
+  linked_named i k same e = elim (cases_Bool (has xs x)) [
+    | inl a ↦ again a
+    | inr a ↦ named_now a (Linked k) (i, ap Var same, ap link_of e) now S k (refl, refl, refl, refl)
+  ]
+
+-- what an unbound variable is seen as
+module _ (h : Cells) (valid : IsHeap h) (x : ℕ) (u : IsUnbound h x) where
+  pub seen_var : (i : ℕ) → is_bound (slot_at h i) ≡ false → Same h (cell.Ref x) (cell.Ref i) → x ≡ i
+  seen_var i e s = same_var x i (sym (u.term no_name) ∙ s no_name ∙ unbound_term no_name h valid i e)
+
+  seen_else : (c : Cell) (t : Term) → term_of no_name h c ≡ t → ((y : ℕ) → t ≡ Var y → ⊥) → Same h (cell.Ref x) c → ⊥
+  seen_else c t e other s = other x (sym e ∙ sym (s no_name) ∙ u.term no_name)
+
+  pub seen_linked : (v : Seen) → IsSeen h (cell.Ref x) v → ((i : ℕ) → v ≡ seen.Open i → ⊥) → (i : ℕ) × (k : ℕ) × (x ≡ i) × (slot_at h i ≡ linked k)
+  seen_linked (seen.Open i) s open_not = absurd (open_not i refl)
+  seen_linked (seen.Constrained i k) s open_not = (i, k, seen_var i (ap is_bound s.1) s.2, s.1)
+  seen_linked (seen.Int z) s open_not = absurd (seen_else (cell.Int z) (Int z) (term-Int no_name h valid z) (λ y e. (cc)) s)
+  seen_linked (seen.Atom a) s open_not = absurd (seen_else (cell.Atom a) (Atom (no_name a)) (term-Atom no_name h valid a) (λ y e. (cc)) s)
+  seen_linked (seen.Struct f args) s open_not =
+      absurd (seen_else (cell.Struct s.0) (Comp (no_name f) (terms_by (term_of no_name h) args.now)) (term-Struct no_name h valid s.0 ∙ ap (λ (k : Compound). Comp (no_name k.name) (terms_by (term_of no_name h) k.args)) s.2) (λ y e. (cc)) s.3)
+
+-- ---- a list of them
+
+pub next_unbound : (h : Cells) (sets : List (List ℕ)) (xs : List ℕ) (i d : ℕ) → i < length xs → AreUnbound h xs → (ys : List ℕ) (now : Cells) (S : List (List ℕ)) → IsNaming Var h sets ys now S [] [] → IsUnbound now (get_or xs i d)
+next_unbound h sets xs i d l a ys now S w = unbound_kept h now (let e = w.links.size in omega (arith, e)) w.links.terms (get_or xs i d) (a (get_or xs i d) (has_at xs i d l))
+
+pub links_step : (h : Cells) (sets : List (List ℕ)) (xs : List ℕ) (i d : ℕ) → i < length xs → (now now' : Cells) (S S' : List (List ℕ)) → IsNaming Var h sets (take i xs) now S [] []
+    → ((g : Cells) (gs : List (List ℕ)) (ys : List ℕ) → IsNaming Var g gs ys now S [] [] → IsNaming Var g gs (ys ++ get_or xs i d ∷ []) now' S' [] []) → IsNaming Var h sets (take (i + 1) xs) now' S' [] []
+links_step h sets xs i d l now now' S S' w step = subst (λ ys. IsNaming Var h sets ys now' S' [] []) (sym (take_more xs i d l)) (step h sets (take i xs) w)

@@ -1,0 +1,126 @@
+-- What a constraint does to a branch.
+use Rattle.std.proofs.Common.{◌≡◌, ℕ, ◌<◌, Bool, true, false, List, [], ◌∷◌, ◌++◌, length, Option, Some, None, Result, Ok, Err, ap, sym, ◌∙◌, subst, inl, inr}
+use Rattle.std.specs.Prelude.{All, MatchOption}
+use Rattle.fd_language.specs.declared.TheConstants.{INFINITY}
+use Rattle.fd_language.specs.declared.NoMemory as memory
+use Rattle.fd_language.specs.Range.{Indexical, params}
+use Rattle.fd_language.specs.Term.{Name}
+use Rattle.fd_model.specs.declared.kinds.ConstraintKind.{ConstraintKind}
+use Rattle.fd_model.specs.declared.kinds.QueryFault.{QueryFault}
+use Rattle.fd_model.specs.Closed.{AllPosted}
+use Rattle.fd_model.specs.Constraining.{arguments, expand}
+use Rattle.fd_model.specs.Levels.{Level, Levels}
+use Rattle.fd_model.specs.LinearRows.{Expansion}
+use Rattle.fd_model.proofs.Lemmas.{scoped_rows}
+use Rattle.fd_model.proofs.RowDirections.{Fitting, expand_fitting}
+use Rattle.heap_cells.specs.declared.Cell.{Cell}
+use Rattle.heap_cells.specs.Atoms.{IsAtomBelow, HasAtomsBelow}
+use Rattle.heap_cells.specs.Terms.{term_of}
+use Rattle.heap_terms.specs.Values.{shown_term}
+use Rattle.term_pool.specs.Contents.{name_in}
+use Rattle.constraint_expand.specs.declared.faults.ExpandFault.{ExpandFault}
+use Rattle.constraint_expand.specs.declared.faults.ExpandFault.TheVariants.{NoMemory}
+use Rattle.constraint_expand.specs.Faults.{fault_of, IsFaultOf}
+use Rattle.heap_cells.specs.Cells.{Cells, Heaps}
+use Rattle.machine_relation.specs.Store.{posts}
+use Rattle.machine_relation.proofs.Numbering.{bindings}
+use Rattle.machine_frames.specs.Frames.{store_touches}
+use Rattle.machine_frames.specs.Naming.{full}
+use Rattle.machine_frames.specs.Reading.{read_term}
+use Rattle.range_code.specs.Frames.{family_of}
+use Rattle.propagate_queue.specs.declared.instance.Instance.{Instance}
+use Rattle.propagate_queue.specs.Instances.{posted_by, IsInstance}
+use Rattle.unify_core.specs.declared.Touch.{Touch}
+use Rattle.unify_core.specs.Outcome.{IfTrue, IfFalse}
+use Rattle.branch_state.specs.Constraints.{row_of, IsConstrained, Constrains, IsRowOf, IsRowReady}
+use Rattle.branch_state.specs.Naming.{OwnLinks, with_sets}
+use Rattle.branch_state.specs.Ranges.{kept_step}
+use Rattle.branch_state.specs.States.{State, IsPair, ArePairs, IsSound, IsSettled, HasNoModel, IsCell}
+use Rattle.branch_state.specs.Steps.{AreTouchesBelow}
+use Rattle.branch_state.proofs.ConstrainingHeaps.{arguments_unbound}
+use Rattle.branch_state.proofs.ConstrainingPosts.{row_pair, row_linked, rows_fit, touches_fit}
+use Rattle.branch_state.proofs.ConstrainingRows.{equated_next}
+use Rattle.branch_state.proofs.Showing.{term_read}
+
+pub own_links : (s : State) → IsSound s → OwnLinks (length s.levels.current.sets) s.heaps.now
+own_links s o = record { valid = o.now.valid; below = o.now.linked; one = o.now.one }
+
+module _ (names : List Name) (old : State) (o : IsSound old) (kind : ConstraintKind) (c : Cell) (y : Expansion) (is : row_of names old kind c ≡ Ok y) (row : IsRowOf old.heaps.now y) (now : Cells) (S : List (List ℕ)) (list : List Instance) (fixed : List Touch) (r : IsRowReady old.heaps.now old.levels.current.sets y now S list fixed) where
+  abbrev qs : List Indexical
+  qs = old.levels.current.posted
+
+  abbrev After' : List Indexical
+  After' = (qs ++ posted_by list) ++ posts (store_touches fixed)
+
+  constrained_row : IsConstrained names old kind c now After'
+  constrained_row =
+      let l = row_linked old.heaps.now old.levels.current.sets (own_links old o) qs o.now.posted y row now S list fixed r in
+      record { row = y; is = is; link = l.0; ranges = l.1; new = bindings y.equated; touches = l.2; linked = l.3; after = l.4 }
+
+  -- what may be posted
+  pub list_fits : All (IsInstance (length S)) list
+  list_fits = rows_fit old.heaps.now old.levels.current.sets (own_links old o) qs o.now.posted y row now S list fixed r
+
+  pub fixed_fits : AreTouchesBelow (length S) fixed
+  fixed_fits = touches_fit old.heaps.now old.levels.current.sets (own_links old o) qs o.now.posted y row now S list fixed r
+
+  -- whether all has a model then
+  pub constraint_step : (hs : Heaps) → hs.now ≡ now → hs.below ≡ old.heaps.below → (st ls : Levels) → st ≡ with_sets old.levels S → ls.below ≡ st.below → ls.spent ≡ false → length ls.current.sets ≡ length S → (kept : Bool)
+      → IfTrue {E = memory.NoMemory} (Ok kept) (ls.current.posted ≡ (st.current.posted ++ posted_by list) ++ posts (store_touches fixed)) → IfTrue {E = memory.NoMemory} (Ok kept) ((ls.current.failed ≡ false) × IsSettled ls.current) → IfFalse {E = memory.NoMemory} (Ok kept) (HasNoModel ((st.current.posted ++ posted_by list) ++ posts (store_touches fixed)))
+      → Constrains names old kind c (record { atoms = old.atoms; heaps = hs; levels = ls }) (kept_step kept)
+  constraint_step hs e f st ls g b u len true p v none =
+      let same : st.current.posted ≡ qs = ap (λ (l : Levels). l.current.posted) g in
+      let q : ls.current.posted ≡ After' = p ∙ ap (λ (l : List Indexical). (l ++ posted_by list) ++ posts (store_touches fixed)) same in (
+        subst (λ (x : Cells). IsConstrained names old kind c x ls.current.posted) (sym e) (subst (IsConstrained names old kind c now) (sym q) constrained_row),
+        record {
+          unspent = u;
+          marked = subst (λ (l : List Cells). 0 < length l) (sym f) o.marked;
+          below = subst (λ (l : List Level). ArePairs old.atoms hs.below l) (sym (b ∙ ap (λ (l : Levels). l.below) g)) (subst (λ (l : List Cells). ArePairs old.atoms l old.levels.below) (sym f) o.below);
+          now = subst (λ (x : Cells). IsPair old.atoms x ls.current) (sym e) (row_pair old.heaps.now old.levels.current.sets (own_links old o) qs o.now.posted y row now S list fixed r old.atoms o.now.names ls.current len q v);
+        },
+      )
+  constraint_step hs e f st ls g b u len false p v none =
+      let same : st.current.posted ≡ qs = ap (λ (l : Levels). l.current.posted) g in (
+        (
+          After',
+          subst (λ (x : Cells). IsConstrained names old kind c x After') (sym e) constrained_row,
+          subst HasNoModel (ap (λ (l : List Indexical). (l ++ posted_by list) ++ posts (store_touches fixed)) same) none,
+        ),
+        record {
+          unspent = u;
+          marked = subst (λ (l : List Cells). 0 < length l) (sym f) o.marked;
+          below = subst (λ (l : List Level). ArePairs old.atoms hs.below l) (sym (b ∙ ap (λ (l : Levels). l.below) g)) (subst (λ (l : List Cells). ArePairs old.atoms l old.levels.below) (sym f) o.below);
+        },
+      )
+
+-- ---- the row
+
+plain_rows : (ps : List Indexical) → Fitting INFINITY ps → AllPosted (λ p. params p.range ≡ []) ps
+plain_rows [] f = tt
+plain_rows (p ∷ ps) f = (f.0.params, plain_rows ps f.1)
+
+-- The row of a constraint on the term of a cell is one of the heap.
+pub row_of_heap : (names : List Name) (s : State) → IsSound s → (kind : ConstraintKind) (c : Cell) → IsCell s c → (y : Expansion) → row_of names s kind c ≡ Ok y → IsRowOf s.heaps.now y
+row_of_heap names s o kind c own y is =
+    let h = s.heaps.now in
+    let ts = arguments (read_term h (family_of s.levels.current.sets) (term_of (full names) h c)) in
+    let scoped = scoped_rows kind ts (length h.slots) y is in
+    record {
+      grows = scoped.grows;
+      named = λ x e. elim (scoped.named x e) [ inl i ↦ inl (arguments_unbound (full names) h o.now.valid (family_of s.levels.current.sets) c own.0 x i) | inr i ↦ inr i ];
+      equated = equated_next kind ts (length h.slots) y is;
+      fresh = scoped.equated;
+      plain = plain_rows y.ranges (expand_fitting INFINITY kind ts (length h.slots) y is);
+    }
+
+-- what is expanded is that row
+pub row_read : (names : List Name) (s : State) → IsSound s → length names ≡ s.atoms → (kind : ConstraintKind) (c : Cell) → IsCell s c → (n : ℕ) → n ≡ length s.heaps.now.slots → expand kind (arguments (shown_term (name_in names) s.heaps.now s.levels.current.sets c)) n ≡ row_of names s kind c
+row_read names s o same kind c own n e =
+    ap (λ m. expand kind (arguments (shown_term (name_in names) s.heaps.now s.levels.current.sets c)) m) e
+    ∙ ap (λ t. expand kind (arguments t) (length s.heaps.now.slots)) (term_read names s.heaps.now s.levels.current.sets o.now.valid (subst (λ m. HasAtomsBelow m s.heaps.now) (sym same) o.now.names) c own.0 (subst (λ m. IsAtomBelow m c) (sym same) own.1))
+
+pub fault_read : (d : Result Expansion QueryFault) (f : ExpandFault) (q : QueryFault) → IsFaultOf d f → fault_of f ≡ Some q → d ≡ Err q
+fault_read d f q i e = by_option (fault_of f) i e where
+  by_option : (m : Option QueryFault) → MatchOption m (f ≡ NoMemory) (λ q. d ≡ Err q) → m ≡ Some q → d ≡ Err q
+  by_option None i e = absurd (cc)
+  by_option (Some p) i e = let g : p ≡ q = cc in i ∙ ap Err g

@@ -1,0 +1,217 @@
+-- A constraint's ranges, its variables and its touches, one after the other.
+use Rattle.std.proofs.Common.{◌≡◌, ℕ, zero, suc, ◌+◌, ◌-◌, ◌<◌, ◌≤◌, true, false, ◌==◌, nat_lt, ℤ, List, [], ◌∷◌, ◌++◌, length, map, take, get_or, Some, refl, ap, sym, ◌∙◌, subst, inl, inr, arith, append_assoc, append-nil, eq-eqb}
+use Rattle.std.proofs.lemmas.Bool.{cases_Bool, or_left, or_right}
+use Rattle.std.proofs.lemmas.Bool.Decides.{nat_tests}
+use Rattle.fd_language.specs.Family.{has}
+use Rattle.fd_language.specs.Range.{Range, Indexical}
+use Rattle.fd_language.proofs.Lemmas.{in_left, in_right, only_member}
+use Rattle.heap_cells.specs.declared.Cell.TheVariants as cell
+use Rattle.heap_cells.specs.declared.Seen.{Seen}
+use Rattle.heap_cells.specs.declared.Seen.TheVariants as seen
+use Rattle.heap_cells.specs.Cells.{Cells, Heaps, Slot, free, linked, bound, is_bound, slot_at, with_slot, with_new_slot, with_now}
+use Rattle.heap_cells.specs.Seen.{IsSeen, IsTop, IsRoot}
+use Rattle.constraint_expand.specs.Posts.{indexicals}
+use Rattle.range_code.specs.Slots.{slots_of}
+use Rattle.unify_core.specs.declared.Touch.{Touch}
+use Rattle.unify_core.specs.declared.Touch.TheVariants.{Value}
+use Rattle.branch_state.specs.declared.constraints.Row.{Row}
+use Rattle.machine_frames.specs.Frames.{link_of, link_in}
+use Rattle.machine_frames.proofs.Linking.{slot_behind}
+use Rattle.branch_state.specs.Constraints.{indexical_of, variables_in, firsts, store_variable, row_touches, with_variables, with_integers, AreFrom, AreOpen, AreLinked}
+use Rattle.branch_state.specs.Naming.{or_zero}
+use Rattle.branch_state.proofs.ConstrainingHeaps.{bound_size, bound_else}
+
+-- ---- lists
+
+pub take_more : {X : Type 0} (xs : List X) (i : ℕ) (d : X) → i < length xs → take (i + 1) xs ≡ take i xs ++ get_or xs i d ∷ []
+take_more xs i d l = ap (λ n. take n xs) (let e : i + 1 ≡ suc i = omega arith in e) ∙ by_suc xs i l where
+  by_suc : (xs : List _) (i : ℕ) → i < length xs → take (suc i) xs ≡ take i xs ++ get_or xs i d ∷ []
+  by_suc [] i l = absurd (omega (arith, l))
+  by_suc (x ∷ xs) zero l = refl
+  by_suc (x ∷ xs) (suc i) l = ap (λ ys. x ∷ ys) (by_suc xs i (omega (arith, l)))
+
+pub map_more : {X Y : Type 0} (f : X → Y) (xs : List X) (x : X) → map f (xs ++ x ∷ []) ≡ map f xs ++ f x ∷ []
+map_more f [] x = refl
+map_more f (y ∷ xs) x = ap (λ l. f y ∷ l) (map_more f xs x)
+
+-- a mapped list of which one more is done
+pub mapped_step : {X Y Z : Type 0} (f : X → Y) (g : Z → Y) (xs : List X) (i : ℕ) (d : X) → i < length xs → (done new : List Z) (z : Z) → map g done ≡ map f (take i xs) → g z ≡ f (get_or xs i d) → new ≡ done ++ z ∷ [] → map g new ≡ map f (take (i + 1) xs)
+mapped_step f g xs i d l done new z e is n =
+    ap (map g) n ∙ map_more g done z ∙ ap (λ l. l ++ g z ∷ []) e ∙ ap (λ y. map f (take i xs) ++ y ∷ []) is ∙ sym (ap (map f) (take_more xs i d l) ∙ map_more f (take i xs) (get_or xs i d))
+
+-- the same where the new ones are listed as they are
+pub listed_step : {X Y : Type 0} (f : X → Y) (xs : List X) (i : ℕ) (d : X) → i < length xs → (done new : List Y) (y : Y) → done ≡ map f (take i xs) → y ≡ f (get_or xs i d) → new ≡ done ++ y ∷ [] → new ≡ map f (take (i + 1) xs)
+listed_step f xs i d l done new y e is n = n ∙ ap (λ l. l ++ y ∷ []) e ∙ ap (λ z. map f (take i xs) ++ z ∷ []) is ∙ sym (ap (map f) (take_more xs i d l) ∙ map_more f (take i xs) (get_or xs i d))
+
+pub mapped_twice : {X Y Z : Type 0} (f : Y → Z) (g : X → Y) (xs : List X) (i : ℕ) → length xs ≤ i → map (λ x. f (g x)) (take i xs) ≡ map f (map g xs)
+mapped_twice f g [] zero l = refl
+mapped_twice f g [] (suc i) l = refl
+mapped_twice f g (x ∷ xs) zero l = absurd (omega (arith, l))
+mapped_twice f g (x ∷ xs) (suc i) l = ap (λ ys. f (g x) ∷ ys) (mapped_twice f g xs i (omega (arith, l)))
+
+-- ---- ranges
+
+abbrev pub of_pair : ℕ × Range → Indexical
+of_pair p = record { target = p.0; range = p.1 }
+
+pub indexicals_map : (ps : List (ℕ × Range)) → indexicals ps ≡ map of_pair ps
+indexicals_map [] = refl
+indexicals_map (p ∷ ps) = ap (λ (l : List Indexical). of_pair p ∷ l) (indexicals_map ps)
+
+pub range_step : (ps : List (ℕ × Range)) (i : ℕ) (d : ℕ × Range) → i < length ps → (done new : List Row) (r : Row) → map indexical_of done ≡ indexicals (take i ps) → indexical_of r ≡ of_pair (get_or ps i d) → new ≡ done ++ r ∷ [] → map indexical_of new ≡ indexicals (take (i + 1) ps)
+range_step ps i d l done new r e is n = mapped_step of_pair indexical_of ps i d l done new r (e ∙ indexicals_map (take i ps)) is n ∙ sym (indexicals_map (take (i + 1) ps))
+
+-- ---- variables
+
+variables_both : (ps : List Indexical) (p : Indexical) → variables_in (ps ++ p ∷ []) ≡ variables_in ps ++ (p.target ∷ slots_of p.range)
+variables_both [] p = append-nil (p.target ∷ slots_of p.range)
+variables_both (q ∷ ps) p = ap (λ l. (q.target ∷ slots_of q.range) ++ l) (variables_both ps p) ∙ sym (append_assoc (q.target ∷ slots_of q.range) (variables_in ps) (p.target ∷ slots_of p.range))
+
+pub variables_step : (rows : List Row) (i : ℕ) (d : Row) → i < length rows → (done first new : List ℕ) → done ≡ variables_in (map indexical_of (take i rows)) → first ≡ done ++ (get_or rows i d).target ∷ [] → new ≡ first ++ slots_of (get_or rows i d).code.value → new ≡ variables_in (map indexical_of (take (i + 1) rows))
+variables_step rows i d l done first new e f n =
+    let r = get_or rows i d in
+    n ∙ ap (λ l. l ++ slots_of r.code.value) (f ∙ ap (λ l. l ++ r.target ∷ []) e)
+    ∙ append_assoc (variables_in (map indexical_of (take i rows))) (r.target ∷ []) (slots_of r.code.value)
+    ∙ sym (ap (λ l. variables_in (map indexical_of l)) (take_more rows i d l) ∙ ap variables_in (map_more indexical_of (take i rows) r) ∙ variables_both (map indexical_of (take i rows)) (indexical_of r))
+
+-- ---- touches
+
+touches_both : (of : ℕ → ℕ) (ds : List (ℕ × ℤ)) (d : ℕ × ℤ) → row_touches of (ds ++ d ∷ []) ≡ row_touches of ds ++ Value (of d.0) d.1 ∷ []
+touches_both of [] d = refl
+touches_both of (e ∷ ds) d = ap (λ (l : List Touch). Value (of e.0) e.1 ∷ l) (touches_both of ds d)
+
+pub touches_step : (of : ℕ → ℕ) (ds : List (ℕ × ℤ)) (i : ℕ) (d : ℕ × ℤ) → i < length ds → (done new : List Touch) (t : Touch) → done ≡ row_touches of (take i ds) → t ≡ Value (of (get_or ds i d).0) (get_or ds i d).1 → new ≡ done ++ t ∷ [] → new ≡ row_touches of (take (i + 1) ds)
+touches_step of ds i d l done new t e is n =
+    n ∙ ap (λ (l : List Touch). l ++ t ∷ []) e ∙ ap (λ (u : Touch). row_touches of (take i ds) ++ u ∷ []) is ∙ sym (ap (row_touches of) (take_more ds i d l) ∙ touches_both of (take i ds) (get_or ds i d))
+
+-- ---- bindings
+
+integers_both : (ds : List (ℕ × ℤ)) (d : ℕ × ℤ) (h : Cells) → with_integers (ds ++ d ∷ []) h ≡ with_slot (with_integers ds h) d.0 (bound (cell.Int d.1))
+integers_both [] d h = refl
+integers_both (e ∷ ds) d h = integers_both ds d (with_slot h e.0 (bound (cell.Int e.1)))
+
+pub integers_step : (ds : List (ℕ × ℤ)) (i : ℕ) (d : ℕ × ℤ) → i < length ds → (h : Cells) → with_slot (with_integers (take i ds) h) (get_or ds i d).0 (bound (cell.Int (get_or ds i d).1)) ≡ with_integers (take (i + 1) ds) h
+integers_step ds i d l h = sym (ap (λ l. with_integers l h) (take_more ds i d l) ∙ integers_both (take i ds) (get_or ds i d) h)
+
+-- a new variable
+pub added_step : (from next : ℕ) (h : Cells) → from ≤ next → with_new_slot (with_variables (next - from) h) ≡ with_variables (next + 1 - from) h
+added_step from next h l = ap (λ n. with_variables n h) (let e : suc (next - from) ≡ next + 1 - from = omega (arith, l) in e)
+
+-- ---- linked variables
+
+pub linked_slot : (h : Cells) (x k : ℕ) → link_in h x ≡ Some k → slot_at h x ≡ linked k
+linked_slot h x k e = by_slot (slot_at h x) e where
+  by_slot : (s : Slot) → link_of s ≡ Some k → s ≡ linked k
+  by_slot free e = absurd (cc)
+  by_slot (linked j) e = let f : j ≡ k = cc in ap linked f
+  by_slot (bound c) e = absurd (cc)
+
+pub linked_own : (h : Cells) (x k : ℕ) → link_in h x ≡ Some k → x < length h.slots
+linked_own h x k e = elim (cases_Bool (nat_lt x (length h.slots))) [
+  | inl t ↦ (let l : x < length h.slots = grind (arith, nat_tests) in l)
+  | inr t ↦ absurd (let l : length h.slots ≤ x = grind (arith, nat_tests) in let f : free ≡ linked k = sym (slot_behind h x l) ∙ linked_slot h x k e in cc)
+]
+
+linked_root : (h : Cells) (x k : ℕ) → link_in h x ≡ Some k → IsRoot h (cell.Ref x)
+linked_root h x k e = ap is_bound (linked_slot h x k e)
+
+same_ref : (x i : ℕ) → cell.Ref x ≡ cell.Ref i → x ≡ i
+same_ref x i e = cc
+
+-- what a linked variable is seen as
+pub seen_linked : (h : Cells) (x : ℕ) → AreLinked h (x ∷ []) → (i k : ℕ) → slot_at h i ≡ linked k → (IsRoot h (cell.Ref x) → cell.Ref x ≡ cell.Ref i) → k ≡ store_variable h x
+seen_linked h x a i k s top =
+    let l = a x (or_left (x == x) false (eq-eqb x x refl)) in
+    sym (ap or_zero (ap (link_in h) (same_ref x i (top (linked_root h x l.0 l.1))) ∙ ap link_of s))
+
+pub seen_never : (h : Cells) (x : ℕ) → AreLinked h (x ∷ []) → (v : Seen) → IsSeen h (cell.Ref x) v → (IsRoot h (cell.Ref x) → IsTop h (cell.Ref x) v) → ((i k : ℕ) → v ≡ seen.Constrained i k → ⊥) → ⊥
+seen_never h x a v s top other = by_seen v s (top (linked_root h x l.0 l.1)) other where
+  l : (k : ℕ) × (link_in h x ≡ Some k)
+  l = a x (or_left (x == x) false (eq-eqb x x refl))
+
+  by_seen : (v : Seen) → IsSeen h (cell.Ref x) v → IsTop h (cell.Ref x) v → ((i k : ℕ) → v ≡ seen.Constrained i k → ⊥) → ⊥
+  by_seen (seen.Open i) s t other = let f : free ≡ linked l.0 = sym s.1 ∙ ap (slot_at h) (sym (same_ref x i t)) ∙ linked_slot h x l.0 l.1 in (cc)
+  by_seen (seen.Constrained i k) s t other = other i k refl
+  by_seen (seen.Int z) s t other = (cc)
+  by_seen (seen.Atom b) s t other = (cc)
+  by_seen (seen.Struct f args) s t other = let e : cell.Ref x ≡ cell.Struct t.0 = t.1 in (cc)
+
+-- variables of a list that are linked
+pub one_linked : (h : Cells) (xs : List ℕ) (x : ℕ) → has xs x ≡ true → AreLinked h xs → AreLinked h (x ∷ [])
+one_linked h xs x i a y e = subst (λ z. (k : ℕ) × (link_in h z ≡ Some k)) (only_member x y e) (a x i)
+
+pub has_at : (xs : List ℕ) (i d : ℕ) → i < length xs → has xs (get_or xs i d) ≡ true
+has_at [] i d l = absurd (omega (arith, l))
+has_at (x ∷ xs) zero d l = or_left (x == x) (has xs x) (eq-eqb x x refl)
+has_at (x ∷ xs) (suc i) d l = or_right (x == get_or xs i d) (has xs (get_or xs i d)) (has_at xs i d (omega (arith, l)))
+
+pub at_linked : (h : Cells) (xs : List ℕ) (i d : ℕ) → i < length xs → AreLinked h xs → AreLinked h (get_or xs i d ∷ [])
+at_linked h xs i d l a = one_linked h xs (get_or xs i d) (has_at xs i d l) a
+
+pub target_linked : (h : Cells) (p : Indexical) → AreLinked h (variables_in (p ∷ [])) → AreLinked h (p.target ∷ [])
+target_linked h p a = one_linked h (variables_in (p ∷ [])) p.target (or_left (p.target == p.target) (has (slots_of p.range ++ []) p.target) (eq-eqb p.target p.target refl)) a
+
+pub slots_linked : (h : Cells) (p : Indexical) → AreLinked h (variables_in (p ∷ [])) → AreLinked h (slots_of p.range)
+slots_linked h p a y e = a y (or_right (p.target == y) (has (slots_of p.range ++ []) y) (in_left (slots_of p.range) [] y e))
+
+range_in : (ps : List Indexical) (i : ℕ) (d : Indexical) → i < length ps → (y : ℕ) → has (variables_in (get_or ps i d ∷ [])) y ≡ true → has (variables_in ps) y ≡ true
+range_in [] i d l y e = absurd (omega (arith, l))
+range_in (p ∷ ps) zero d l y e = in_left (p.target ∷ slots_of p.range) (variables_in ps) y (subst (λ xs. has xs y ≡ true) (append-nil (p.target ∷ slots_of p.range)) e)
+range_in (p ∷ ps) (suc i) d l y e = in_right (p.target ∷ slots_of p.range) (variables_in ps) y (range_in ps i d (omega (arith, l)) y e)
+
+map_at : (rows : List Row) (i : ℕ) (d : Row) → i < length rows → get_or (map indexical_of rows) i (indexical_of d) ≡ indexical_of (get_or rows i d)
+map_at [] i d l = absurd (omega (arith, l))
+map_at (r ∷ rows) zero d l = refl
+map_at (r ∷ rows) (suc i) d l = map_at rows i d (omega (arith, l))
+
+length_map : (rows : List Row) → length (map indexical_of rows) ≡ length rows
+length_map [] = refl
+length_map (r ∷ rows) = ap suc (length_map rows)
+
+pub row_linked : (h : Cells) (rows : List Row) (i : ℕ) (d : Row) → i < length rows → AreLinked h (variables_in (map indexical_of rows)) → AreLinked h (variables_in (indexical_of (get_or rows i d) ∷ []))
+row_linked h rows i d l a y e =
+    a y (range_in (map indexical_of rows) i (indexical_of d) (let n = length_map rows in omega (arith, n, l)) y (subst (λ (p : Indexical). has (variables_in (p ∷ [])) y ≡ true) (sym (map_at rows i d l)) e))
+
+first_linked : (h : Cells) (ds : List (ℕ × ℤ)) (i : ℕ) (d : ℕ × ℤ) → i < length ds → has (firsts ds) (get_or ds i d).0 ≡ true
+first_linked h [] i d l = absurd (omega (arith, l))
+first_linked h (e ∷ ds) zero d l = or_left (e.0 == e.0) (has (firsts ds) e.0) (eq-eqb e.0 e.0 refl)
+first_linked h (e ∷ ds) (suc i) d l = or_right (e.0 == (get_or ds i d).0) (has (firsts ds) (get_or ds i d).0) (first_linked h ds i d (omega (arith, l)))
+
+pub equated_linked : (h : Cells) (ds : List (ℕ × ℤ)) (i : ℕ) (d : ℕ × ℤ) → i < length ds → AreLinked h (firsts ds) → AreLinked h ((get_or ds i d).0 ∷ [])
+equated_linked h ds i d l a = one_linked h (firsts ds) (get_or ds i d).0 (first_linked h ds i d l) a
+
+-- ---- the next variable to be bound
+
+from_at : (n : ℕ) (ds : List (ℕ × ℤ)) (i : ℕ) (d : ℕ × ℤ) → AreFrom n ds → i < length ds → (get_or ds i d).0 ≡ n + i
+from_at n [] i d f l = absurd (omega (arith, l))
+from_at n (e ∷ ds) zero d f l = f.0 ∙ (let e : n ≡ n + 0 = omega arith in e)
+from_at n (e ∷ ds) (suc i) d f l = from_at (suc n) ds i d f.1 (omega (arith, l)) ∙ (let e : suc n + i ≡ n + suc i = omega arith in e)
+
+take_from : (n : ℕ) (ds : List (ℕ × ℤ)) (i : ℕ) → AreFrom n ds → AreFrom n (take i ds)
+take_from n [] zero f = tt
+take_from n [] (suc i) f = tt
+take_from n (d ∷ ds) zero f = tt
+take_from n (d ∷ ds) (suc i) f = (f.0, take_from (suc n) ds i f.1)
+
+length_take : (ds : List (ℕ × ℤ)) (i : ℕ) → i < length ds → length (take i ds) ≡ i
+length_take [] i l = absurd (omega (arith, l))
+length_take (d ∷ ds) zero l = refl
+length_take (d ∷ ds) (suc i) l = ap suc (length_take ds i (omega (arith, l)))
+
+pub next_there : (n : ℕ) (ds : List (ℕ × ℤ)) (h : Cells) → AreFrom n ds → AreOpen n ds h → (i : ℕ) (d : ℕ × ℤ) → i < length ds → (g : Cells) → g ≡ with_integers (take i ds) h → (get_or ds i d).0 < length g.slots
+next_there n ds h f o i d l g e =
+    let a = from_at n ds i d f l in
+    let u = o (get_or ds i d).0 (omega (arith, a)) (omega (arith, a, l)) in
+    subst (λ (c : Cells). (get_or ds i d).0 < length c.slots) (sym e) (subst (λ k. (get_or ds i d).0 < k) (sym (bound_size (take i ds) h)) u.0)
+
+pub next_unbound : (n : ℕ) (ds : List (ℕ × ℤ)) (h : Cells) → AreFrom n ds → AreOpen n ds h → (i : ℕ) (d : ℕ × ℤ) → i < length ds → (g : Cells) → g ≡ with_integers (take i ds) h → is_bound (slot_at g (get_or ds i d).0) ≡ false
+next_unbound n ds h f o i d l g e =
+    let a = from_at n ds i d f l in
+    let t = length_take ds i l in
+    let u = o (get_or ds i d).0 (omega (arith, a)) (omega (arith, a, l)) in
+    ap (λ (c : Cells). is_bound (slot_at c (get_or ds i d).0)) e ∙ ap is_bound (bound_else n (take i ds) h (take_from n ds i f) (get_or ds i d).0 (inr (omega (arith, a, t)))) ∙ u.1
+
+pub bound_step : (ds : List (ℕ × ℤ)) (i : ℕ) (d : ℕ × ℤ) → i < length ds → (first old new : Heaps) (z : ℤ) → old ≡ with_now first (with_integers (take i ds) first.now) → z ≡ (get_or ds i d).1 → new ≡ with_now old (with_slot old.now (get_or ds i d).0 (bound (cell.Int z))) → new ≡ with_now first (with_integers (take (i + 1) ds) first.now)
+bound_step ds i d l first old new z e same n =
+    n ∙ ap (λ (w : ℤ). with_now old (with_slot old.now (get_or ds i d).0 (bound (cell.Int w)))) same
+    ∙ ap (λ (x : Heaps). with_now x (with_slot x.now (get_or ds i d).0 (bound (cell.Int (get_or ds i d).1)))) e ∙ ap (with_now first) (integers_step ds i d l first.now)

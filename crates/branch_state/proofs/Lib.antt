@@ -1,0 +1,24 @@
+pub mod Spelling
+pub mod Settled
+pub mod Sound
+pub mod Building
+mod Compounds
+mod Constraining
+mod ConstrainingRows
+mod ConstrainingSteps
+mod ConstrainingHeaps
+mod ConstrainingLinks
+mod ConstrainingPosts
+mod ConstrainingStates
+pub mod Touches
+pub mod Premises
+mod Lists
+mod Places
+mod Gathering
+mod Arguments
+mod Looking
+mod Named
+mod Preparing
+mod Rows
+mod Ranged
+mod Showing

@@ -1,0 +1,203 @@
+-- What a variable of a clause looks as, by its cell.
+use Rattle.std.proofs.Common.{◌≡◌, ℕ, zero, suc, ◌<◌, ◌==◌, Bool, true, false, cond, ℤ, pos, List, [], ◌∷◌, length, take, get_or, Option, Some, None, is_some, refl, ap, sym, ◌∙◌, subst, arith, eq-eqb, ne_eqb}
+use Rattle.std.proofs.lemmas.Bool.{true≢false}
+use Rattle.fd_language.specs.declared.range_node.Need.{Need}
+use Rattle.fd_language.specs.Family.{Family}
+use Rattle.fd_language.specs.Term.{Term, Var, Int, Atom, Comp, Substitution, apply}
+use Rattle.fd_language.specs.Variables.{TermBelow}
+use Rattle.fd_model.specs.declared.kinds.QueryFault.{QueryFault}
+use Rattle.fd_model.specs.Posting.{or_later}
+use Rattle.heap_cells.specs.declared.Cell.{Cell}
+use Rattle.heap_cells.specs.declared.Cell.TheVariants as cell
+use Rattle.heap_cells.specs.Cells.{Cells, Compound, free, linked, is_bound, slot_at, compound_at}
+use Rattle.heap_cells.specs.declared.Seen.{Seen}
+use Rattle.heap_cells.specs.declared.Seen.TheVariants as seen
+use Rattle.heap_cells.specs.Seen.{IsSeen}
+use Rattle.heap_cells.specs.Terms.{Naming, term_of, Same, terms_by}
+use Rattle.heap_cells.specs.Valid.{IsHeap}
+use Rattle.heap_cells.proofs.Ranks.{unbound_term, term-Int, term-Atom, term-Struct}
+use Rattle.term_pool.specs.declared.AtomId.{AtomId}
+use Rattle.term_pool.specs.declared.TermId.{TermId}
+use Rattle.term_pool.specs.declared.Node.{Node}
+use Rattle.term_pool.specs.declared.Node.TheVariants as node
+use Rattle.term_pool.specs.Contents.{Contents}
+use Rattle.term_pool.specs.Terms as pool
+use Rattle.term_pool.specs.Valid.{shape_of}
+use Rattle.range_code.specs.declared.frame.Arg.{Arg}
+use Rattle.range_code.specs.declared.frame.Arg.TheVariants as arg
+use Rattle.range_code.specs.Frames.{family_of}
+use Rattle.unify_core.specs.declared.Touch.{Touch}
+use Rattle.unify_core.specs.Touches.{IsSymbolic}
+use Rattle.machine_relation.specs.Held.{value_in, value_at}
+use Rattle.machine_frames.specs.Environments.{cell_at, cell_look}
+use Rattle.machine_frames.specs.Frames.{link_of, link_in}
+use Rattle.machine_frames.specs.Reading.{seen_env}
+use Rattle.heap_terms.specs.Values.{only}
+use Rattle.branch_state.specs.declared.look.Look.{Look}
+use Rattle.branch_state.specs.declared.look.Look.TheVariants as look
+use Rattle.branch_state.specs.Naming.{LooksAs, IsKind, IsSight, offence, first_in, target_variable, target_seen, CanName, NameStep, ArgStep, IsInteger}
+
+-- ---- the only value of a domain
+
+pub one_value : (xs : List ℕ) (w c : ℕ) → only xs ≡ Some w → value_in xs c ≡ Int (pos w)
+one_value [] w c e = absurd (cc)
+one_value (v ∷ []) w c e = let f : v ≡ w = cc in ap (λ n. Int (pos n)) f
+one_value (x ∷ y ∷ ys) w c e = absurd (cc)
+
+pub no_value : (xs : List ℕ) (c : ℕ) → only xs ≡ None → value_in xs c ≡ Var c
+no_value [] c e = refl
+no_value (v ∷ []) c e = absurd (cc)
+no_value (x ∷ y ∷ ys) c e = refl
+
+-- ---- a cell
+
+module _ (name : Naming) (h : Cells) (valid : IsHeap h) (env : List (Option Cell)) (G : Family) (y : ℕ) (c : Cell) (at : cell_at env y ≡ Some c) where
+  abbrev value : Substitution
+  value d = value_at (link_in h d) G d
+
+  seen_at : (t : Term) → term_of name h c ≡ t → seen_env name h env G y ≡ apply value t
+  seen_at t e = ap (apply value) (ap (cell_look name h y) at ∙ e)
+
+  pub looks_open : (i : ℕ) → i < length h.slots → slot_at h i ≡ free → Same h c (cell.Ref i) → LooksAs h (seen_env name h env G y) (look.Open i)
+  looks_open i l e s = (seen_at (Var i) (s name ∙ unbound_term name h valid i (ap is_bound e)) ∙ ap (λ o. value_at o G i) (ap link_of e), l, e)
+
+  pub looks_number : (i k w : ℕ) → slot_at h i ≡ linked k → Same h c (cell.Ref i) → only (G k) ≡ Some w → LooksAs h (seen_env name h env G y) (look.Number (pos w))
+  looks_number i k w e s o = seen_at (Var i) (s name ∙ unbound_term name h valid i (ap is_bound e)) ∙ ap (λ o. value_at o G i) (ap link_of e) ∙ one_value (G k) w i o
+
+  pub looks_linked : (i k : ℕ) → slot_at h i ≡ linked k → Same h c (cell.Ref i) → only (G k) ≡ None → LooksAs h (seen_env name h env G y) (look.Linked k)
+  looks_linked i k e s o = (i, seen_at (Var i) (s name ∙ unbound_term name h valid i (ap is_bound e)) ∙ ap (λ o. value_at o G i) (ap link_of e) ∙ no_value (G k) i o, ap link_of e)
+
+  pub looks_int : (z : ℤ) → Same h c (cell.Int z) → LooksAs h (seen_env name h env G y) (look.Number z)
+  looks_int z s = seen_at (Int z) (s name ∙ term-Int name h valid z)
+
+  pub looks_atom : (a : AtomId) → Same h c (cell.Atom a) → LooksAs h (seen_env name h env G y) look.Symbol
+  looks_atom a s = subst (λ t. LooksAs h t look.Symbol) (sym (seen_at (Atom (name a)) (s name ∙ term-Atom name h valid a))) tt
+
+  pub looks_compound : (f : AtomId) (args : List Cell) (j : ℕ) → compound_at h j ≡ record { name = f; args = args } → Same h c (cell.Struct j) → LooksAs h (seen_env name h env G y) look.Symbol
+  looks_compound f args j e s =
+      subst (λ t. LooksAs h t look.Symbol) (sym (seen_at (Comp (name f) (terms_by (term_of name h) args)) (s name ∙ term-Struct name h valid j ∙ ap (λ (k : Compound). Comp (name k.name) (terms_by (term_of name h) k.args)) e))) tt
+
+  -- what is no variable and no integer
+  pub looks_symbol : (v : Seen) → IsSeen h c v → ((i : ℕ) → v ≡ seen.Open i → ⊥) → ((i k : ℕ) → v ≡ seen.Constrained i k → ⊥) → ((z : ℤ) → v ≡ seen.Int z → ⊥) → LooksAs h (seen_env name h env G y) look.Symbol
+  looks_symbol (seen.Open i) s a b z = absurd (a i refl)
+  looks_symbol (seen.Constrained i k) s a b z = absurd (b i k refl)
+  looks_symbol (seen.Int i) s a b z = absurd (z i refl)
+  looks_symbol (seen.Atom i) s a b z = looks_atom i s
+  looks_symbol (seen.Struct f args) s a b z = looks_compound f args.now s.0 s.2 s.3
+
+-- ---- a target
+
+put_here : (n : ℕ) (t u : Term) → cond (n == n) t u ≡ t
+put_here n t u = ap (λ b. cond b t u) (eq-eqb n n refl)
+
+put_else : (n y : ℕ) (t u : Term) → y < n → cond (y == n) t u ≡ u
+put_else n y t u l = ap (λ b. cond b t u) (ne_eqb y n (λ e. omega (arith, e, l)))
+
+module _ (h : Cells) (sets : List (List ℕ)) (env : List (Option Cell)) (name : Naming) where
+  abbrev sights : Substitution
+  sights = seen_env name h env (family_of sets)
+
+  abbrev n : ℕ
+  n = length env
+
+  pub sight_var : (t : Term) (x : ℕ) (l : Look) → TermBelow n t → t ≡ Var x → LooksAs h (sights x) l → IsSight h sets env x l (target_seen n t sights)
+  sight_var t x l b e k = subst (λ u. IsSight h sets env x l (target_seen n u sights)) (sym e) (record { name = name; seen = λ y i. refl; target = k; low = λ i f. subst (TermBelow n) e b })
+
+  pub sight_int : (t : Term) (z : ℤ) → t ≡ Int z → IsSight h sets env n (look.Number z) (target_seen n t sights)
+  sight_int t z e = subst (λ u. IsSight h sets env n (look.Number z) (target_seen n u sights)) (sym e) (record { name = name; seen = λ y i. put_else n y (Int z) (sights y) i; target = put_here n (Int z) (sights n); low = λ i f. absurd (let g = sym (put_here n (Int z) (sights n)) ∙ f in cc) })
+
+  pub sight_symbol : (t : Term) → ((x : ℕ) → t ≡ Var x → ⊥) → ((z : ℤ) → t ≡ Int z → ⊥) → IsSight h sets env n look.Symbol (target_seen n t sights)
+  sight_symbol (Var x) v i = absurd (v x refl)
+  sight_symbol (Int z) v i = absurd (i z refl)
+  sight_symbol (Atom a) v i = record { name = name; seen = λ y l. put_else n y (Atom a) (sights y) l; target = subst (λ t. LooksAs h t look.Symbol) (sym (put_here n (Atom a) (sights n))) tt; low = λ i f. absurd (let g = sym (put_here n (Atom a) (sights n)) ∙ f in cc) }
+  sight_symbol (Comp f ts) v i = record { name = name; seen = λ y l. put_else n y (Comp f ts) (sights y) l; target = subst (λ t. LooksAs h t look.Symbol) (sym (put_here n (Comp f ts) (sights n))) tt; low = λ i e. absurd (let g = sym (put_here n (Comp f ts) (sights n)) ∙ e in cc) }
+
+pub look_kind : (h : Cells) (t : Term) (l : Look) → LooksAs h t l → IsKind t l
+look_kind h t (look.Open i) k = k.0
+look_kind h t (look.Linked j) k = (k.0, k.1)
+look_kind h t (look.Number z) k = k
+look_kind h t look.Symbol k = k
+
+-- ---- offences
+
+pub first_none_yet : (s : Substitution) (ys : List ℕ) (ns : List (Option Need)) (i d : ℕ) (e : Option Need) → i < length ys → i < length ns → first_in s (take i ys) (take i ns) ≡ None → offence (get_or ns i e) (s (get_or ys i d)) ≡ None → first_in s (take (suc i) ys) (take (suc i) ns) ≡ None
+first_none_yet s [] ns i d e l k h f = absurd (omega (arith, l))
+first_none_yet s (y ∷ ys) [] i d e l k h f = absurd (omega (arith, k))
+first_none_yet s (y ∷ ys) (n ∷ ns) zero d e l k h f = ap (λ o. or_later o None) f
+first_none_yet s (y ∷ ys) (n ∷ ns) (suc i) d e l k h f = by_fault (offence n (s y)) h (first_none_yet s ys ns i d e (omega (arith, l)) (omega (arith, k))) where
+  by_fault : (o : Option QueryFault) → or_later o (first_in s (take i ys) (take i ns)) ≡ None → (first_in s (take i ys) (take i ns) ≡ None → offence (get_or ns i e) (s (get_or ys i d)) ≡ None → first_in s (take (suc i) ys) (take (suc i) ns) ≡ None) → or_later o (first_in s (take (suc i) ys) (take (suc i) ns)) ≡ None
+  by_fault (Some q) h k = absurd (cc)
+  by_fault None h k = k h f
+
+pub first_there : (s : Substitution) (ys : List ℕ) (ns : List (Option Need)) (i d : ℕ) (e : Option Need) (o : Option QueryFault) → i < length ys → i < length ns → first_in s (take i ys) (take i ns) ≡ None → offence (get_or ns i e) (s (get_or ys i d)) ≡ o → (o ≡ None → ⊥) → first_in s ys ns ≡ o
+first_there s [] ns i d e o l k h f t = absurd (omega (arith, l))
+first_there s (y ∷ ys) [] i d e o l k h f t = absurd (omega (arith, k))
+first_there s (y ∷ ys) (n ∷ ns) zero d e (Some q) l k h f t = ap (λ z. or_later z (first_in s ys ns)) f
+first_there s (y ∷ ys) (n ∷ ns) zero d e None l k h f t = absurd (t refl)
+first_there s (y ∷ ys) (n ∷ ns) (suc i) d e o l k h f t = by_fault (offence n (s y)) h (λ g. first_there s ys ns i d e o (omega (arith, l)) (omega (arith, k)) g f t) where
+  by_fault : (z : Option QueryFault) → or_later z (first_in s (take i ys) (take i ns)) ≡ None → (first_in s (take i ys) (take i ns) ≡ None → first_in s ys ns ≡ o) → or_later z (first_in s ys ns) ≡ o
+  by_fault (Some q) h k = absurd (cc)
+  by_fault None h k = k h
+
+-- a target without variable or integer
+pub symbol_shape : (p : Contents) (t : TermId) (y : Node) → pool.term_of p t ≡ pool.shape_term p (shape_of y) → ((x : ℕ) → y ≡ node.Var x → ⊥) → ((z : ℤ) → y ≡ node.Int z → ⊥) → ((x : ℕ) → pool.term_of p t ≡ Var x → ⊥) × ((z : ℤ) → pool.term_of p t ≡ Int z → ⊥)
+symbol_shape p t (node.Var x) e v i = absurd (v x refl)
+symbol_shape p t (node.Int z) e v i = absurd (i z refl)
+symbol_shape p t (node.Atom a) e v i = (λ x f. (let g = sym e ∙ f in cc), λ z f. (let g = sym e ∙ f in cc))
+symbol_shape p t (node.Comp f us) e v i = (λ x f. (let g = sym e ∙ f in cc), λ z f. (let g = sym e ∙ f in cc))
+
+-- its variable
+pub variable_symbol : (n : ℕ) (t : Term) → ((x : ℕ) → t ≡ Var x → ⊥) → target_variable n t ≡ n
+variable_symbol n (Var x) v = absurd (v x refl)
+variable_symbol n (Int z) v = refl
+variable_symbol n (Atom a) v = refl
+variable_symbol n (Comp f ts) v = refl
+
+-- the offence of a slot, by what it looks as
+pub slot_offence : (h : Cells) (sets : List (List ℕ)) (env : List (Option Cell)) (x : ℕ) (l : Look) (s : Substitution) → IsSight h sets env x l s → (y : ℕ) → y < length env → (k : Look) → ((name : Naming) → LooksAs h (seen_env name h env (family_of sets) y) k) → (need : Option Need) (o : Option QueryFault) → ((t : Term) → IsKind t k → o ≡ offence need t) → o ≡ offence need (s y)
+slot_offence h sets env x l s sight y low k looks need o is = is (s y) (look_kind h (s y) k (subst (λ t. LooksAs h t k) (sym (sight.seen y low)) (looks sight.name)))
+
+pub some_offence : (o : Option QueryFault) → is_some o ≡ true → o ≡ None → ⊥
+some_offence None h e = true≢false (sym h)
+some_offence (Some q) h e = absurd (cc)
+
+pub no_offence : (o : Option QueryFault) → is_some o ≡ false → o ≡ None
+no_offence None h = refl
+no_offence (Some q) h = absurd (true≢false h)
+
+-- what has no offence can be named
+pub can_name : (h : Cells) (t : Term) (l : Look) (need : Option Need) → LooksAs h t l → offence need t ≡ None → CanName h l
+can_name h t (look.Open i) need k o = (k.1, k.2)
+can_name h t (look.Linked j) need k o = tt
+can_name h t (look.Number z) need k o = tt
+can_name h (Var x) look.Symbol need k o = k
+can_name h (Int z) look.Symbol need k o = k
+can_name h (Atom a) look.Symbol None k o = absurd (cc)
+can_name h (Atom a) look.Symbol (Some n) k o = absurd (cc)
+can_name h (Comp f ts) look.Symbol None k o = absurd (cc)
+can_name h (Comp f ts) look.Symbol (Some n) k o = absurd (cc)
+
+pub none_first : (a b : Option QueryFault) → or_later a b ≡ None → (a ≡ None) × (b ≡ None)
+none_first (Some x) b h = absurd (cc)
+none_first None b h = (refl, h)
+
+-- ---- one argument more
+
+same_int : (a b : ℤ) → Int a ≡ Int b → a ≡ b
+same_int a b e = cc
+
+number_is : (h : Cells) (t : Term) (l : Look) (w z : ℤ) → LooksAs h t l → IsInteger l w → t ≡ Int z → w ≡ z
+number_is h t (look.Open j) w z k i e = absurd (let f = sym k.0 ∙ e in cc)
+number_is h t (look.Linked j) w z k i e = absurd (let f = sym k.1 ∙ e in cc)
+number_is h t (look.Number v) w z k i e = i ∙ same_int v z (sym k ∙ e)
+number_is h t look.Symbol w z k i e = absurd (subst IsSymbolic e k)
+
+pub step_number : (t : Term) (need : Option Need) (same : Bool) (h : Cells) (sets : List (List ℕ)) (fixed : List Touch) (v : ℕ) (l : Look) (w : ℤ) (a : Arg) → is_some need ≡ true → LooksAs h t l → IsInteger l w → a ≡ arg.Int w → ArgStep t need same h sets fixed h sets fixed v a
+step_number t None same h sets fixed v l w a e k i is = absurd (true≢false (sym e))
+step_number t (Some n) same h sets fixed v l w a e k i is = (refl, refl, refl, λ z f. is ∙ ap arg.Int (number_is h t l w z k i f))
+
+pub step_named : (t : Term) (need : Option Need) (same : Bool) (h : Cells) (sets : List (List ℕ)) (fixed : List Touch) (now : Cells) (sets' : List (List ℕ)) (fixed' : List Touch) (v : ℕ) (l : Look) (k : ℕ) → is_some need ≡ false → same ≡ false → LooksAs h t l → NameStep l h sets fixed now sets' fixed' k
+    → ArgStep t need same h sets fixed now sets' fixed' v (arg.Var k)
+step_named t (Some n) same h sets fixed now sets' fixed' v l k e f looks st = absurd (true≢false e)
+step_named t None true h sets fixed now sets' fixed' v l k e f looks st = absurd (true≢false f)
+step_named t None false h sets fixed now sets' fixed' v l k e f looks st = (l, k, refl, looks, st)

@@ -1,0 +1,267 @@
+-- What is shown of cells.
+use Rattle.std.proofs.Common.{◌≡◌, ℕ, zero, suc, ◌+◌, ◌<◌, ◌≤◌, ◌==◌, nat_eq, nat_lt, Bool, true, false, cond, not, List, [], ◌∷◌, ◌++◌, length, length-append, filter, map, reverse, take, get_or, Option, Some, None, is_some, MatchOption, refl, ap, sym, ◌∙◌, subst, arith, append-nil, append_assoc, inl, inr}
+use Rattle.std.specs.Prelude.{All}
+use Rattle.std.specs.List.{list_any}
+use Rattle.std.proofs.lemmas.Bool.{cases_Bool, true≢false}
+use Rattle.std.proofs.lemmas.Bool.Decides.{nat_tests}
+use Rattle.std.proofs.lemmas.List.{reverse-append}
+use Rattle.std.proofs.lemmas.List.Elements.{All-append}
+use Rattle.fd_language.specs.Family.{Family, has}
+use Rattle.fd_language.specs.Needs.{once}
+use Rattle.fd_language.specs.Term.{Name, Term, Terms, Var, term, apply}
+use Rattle.fd_language.specs.Variables.{variables_of, variables_of_all, distinct}
+use Rattle.fd_model.specs.Lines.{as_terms}
+use Rattle.heap_cells.specs.declared.Cell.{Cell}
+use Rattle.heap_cells.specs.declared.Cell.TheVariants as cell
+use Rattle.heap_cells.specs.declared.Seen.{Seen}
+use Rattle.heap_cells.specs.declared.Seen.TheVariants as seen
+use Rattle.heap_cells.specs.Atoms.{IsAtomBelow, HasAtomsBelow}
+use Rattle.heap_cells.specs.Cells.{Cells, Slot, free, linked, bound, is_bound, slot_at, IsOf}
+use Rattle.heap_cells.specs.Seen.{IsSeen, IsTop, IsRoot}
+use Rattle.heap_cells.specs.Terms.{term_of}
+use Rattle.heap_cells.specs.Valid.{IsHeap}
+use Rattle.heap_cells.proofs.Elements.{head_of, tail_of, none_at_all, both_of, all_front, last_of, all_reverse}
+use Rattle.heap_cells.proofs.Substitutions.{same_apply}
+use Rattle.heap_terms.specs.Values.{only, set_in, value_of, shown_slot, shown, shown_term}
+use Rattle.term_pool.specs.declared.AtomId.{AtomId}
+use Rattle.term_pool.specs.declared.TermId.{TermId}
+use Rattle.term_pool.specs.declared.Node.{Node}
+use Rattle.term_pool.specs.declared.Node.TheVariants as node
+use Rattle.term_pool.specs.Contents.{Contents, comp, name_in}
+use Rattle.term_pool.specs.Terms as pool
+use Rattle.term_pool.specs.Terms.{KeepsTerms, Extends, total_size}
+use Rattle.term_pool.specs.Valid.{shape_of}
+use Rattle.term_pool.proofs.Walks.{rest_is_smaller, parts_are_smaller, total_size-append, total_size-cons, total_size-nil}
+use Rattle.machine_relation.specs.Held as held
+use Rattle.machine_relation.specs.Held.{value_in, value_at, link_at}
+use Rattle.machine_relation.specs.Shown.{cell_set}
+use Rattle.range_code.specs.Frames.{family_of}
+use Rattle.range_code.proofs.Once.{once_more, keys_more, has_once, any_has}
+use Rattle.machine_frames.specs.Frames.{link_of, link_in}
+use Rattle.machine_frames.specs.Naming.{full}
+use Rattle.machine_frames.specs.Reading.{read_term}
+use Rattle.machine_frames.proofs.Linking.{slot_behind}
+use Rattle.machine_frames.proofs.Naming.{full_term}
+use Rattle.branch_state.specs.Showing.{terms_read, open_set, with_set, with_sets, variables_at, AreShowable, AreGathered}
+use Rattle.branch_state.proofs.Lists.{same_test, filter_agree}
+
+-- ---- a cell as it is read
+
+value_is : (xs : List ℕ) (i : ℕ) → value_of (only xs) i ≡ value_in xs i
+value_is [] i = refl
+value_is (w ∷ []) i = refl
+value_is (x ∷ y ∷ ys) i = refl
+
+slot_is : (sets : List (List ℕ)) (i : ℕ) (t : Slot) → shown_slot sets i t ≡ value_at (link_of t) (family_of sets) i
+slot_is sets i free = refl
+slot_is sets i (linked k) = value_is (set_in sets k) i
+slot_is sets i (bound c) = refl
+
+pub term_read : (names : List Name) (h : Cells) (sets : List (List ℕ)) → IsHeap h → HasAtomsBelow (length names) h → (c : Cell) → IsOf h c → IsAtomBelow (length names) c → shown_term (name_in names) h sets c ≡ read_term h (family_of sets) (term_of (full names) h c)
+term_read names h sets valid atoms c own low =
+    ap (apply (shown h sets)) (sym (full_term names h valid atoms c own low)) ∙ same_apply (shown h sets) (λ i. value_at (link_in h i) (family_of sets) i) (λ i. slot_is sets i (slot_at h i)) (term_of (full names) h c)
+
+pub all_read : (names : List Name) (h : Cells) (sets : List (List ℕ)) → IsHeap h → HasAtomsBelow (length names) h → (cs : List Cell) → AreShowable (length names) h cs → map (shown_term (name_in names) h sets) cs ≡ terms_read names h sets cs
+all_read names h sets valid atoms [] a = refl
+all_read names h sets valid atoms (c ∷ cs) a =
+    let one = head_of (λ c. IsOf h c × IsAtomBelow (length names) c) c cs a in
+    ap (λ (t : Term). t ∷ map (shown_term (name_in names) h sets) cs) (term_read names h sets valid atoms c one.0 one.1)
+    ∙ ap (λ (l : List Term). read_term h (family_of sets) (term_of (full names) h c) ∷ l) (all_read names h sets valid atoms cs (tail_of (λ c. IsOf h c × IsAtomBelow (length names) c) c cs a))
+
+-- one cell more
+abbrev Own : Contents → TermId → Type 0
+Own p t = t.number < length p.entries
+
+map_kept : (p q : Contents) (ts : List TermId) → KeepsTerms p q → All (Own p) ts → map (pool.term_of q) ts ≡ map (pool.term_of p) ts
+map_kept p q [] k a = refl
+map_kept p q (t ∷ ts) k a = ap (λ (u : Term). u ∷ map (pool.term_of q) ts) (k t (head_of (Own p) t ts a)) ∙ ap (λ (l : List Term). pool.term_of p t ∷ l) (map_kept p q ts k (tail_of (Own p) t ts a))
+
+map_append : {X Y : Type 0} (f : X → Y) (xs : List X) (x : X) → map f (xs ++ x ∷ []) ≡ map f xs ++ f x ∷ []
+map_append f [] x = refl
+map_append f (y ∷ xs) x = ap (λ l. f y ∷ l) (map_append f xs x)
+
+take_next : {X : Type 0} (xs : List X) (i : ℕ) (d : X) → i < length xs → take (suc i) xs ≡ take i xs ++ get_or xs i d ∷ []
+take_next [] i d l = absurd (omega (arith, l))
+take_next (x ∷ xs) zero d l = refl
+take_next (x ∷ xs) (suc i) d l = ap (λ ys. x ∷ ys) (take_next xs i d (omega (arith, l)))
+
+wider : (p q : Contents) → Extends p q → (t : TermId) → Own p t → Own q t
+wider p q x t o = let e = ap length x.entries.1 in let l = length-append p.entries x.entries.0 in omega (arith, e, l, o)
+
+pub read_more : (f : Cell → Term) (cs : List Cell) (i : ℕ) (d : Cell) → i < length cs → (p q : Contents) (ts new : List TermId) (t : TermId) → KeepsTerms p q → Extends p q → All (Own p) ts → map (pool.term_of p) ts ≡ map f (take i cs) → Own q t → pool.term_of q t ≡ f (get_or cs i d) → new ≡ ts ++ t ∷ []
+    → All (Own q) new × (map (pool.term_of q) new ≡ map f (take (i + 1) cs))
+read_more f cs i d l p q ts new t k x own e o is n = (
+  subst (All (Own q)) (sym n) (All-append (Own q) ts (t ∷ []) (λ j u m. wider p q x (get_or ts j u) (own j u m)) (both_of (Own q) t [] o (none_at_all (Own q)))),
+  ap (map (pool.term_of q)) n ∙ map_append (pool.term_of q) ts t ∙ ap (λ (l : List Term). l ++ pool.term_of q t ∷ []) (map_kept p q ts k own ∙ e) ∙ ap (λ (u : Term). map f (take i cs) ++ u ∷ []) is
+      ∙ sym (ap (map f) (ap (λ m. take m cs) (let g : i + 1 ≡ suc i = omega arith in g) ∙ take_next cs i d l) ∙ map_append f (take i cs) (get_or cs i d)),
+)
+
+-- ---- the variables of terms
+
+terms_same : (by : TermId → Term) (ts : List TermId) → as_terms (map by ts) ≡ pool.terms_by by ts
+terms_same by [] = refl
+terms_same by (t ∷ ts) = ap (term (by t)) (terms_same by ts)
+
+at_append : (p : Contents) (ts us : List TermId) → variables_at p (ts ++ us) ≡ variables_at p ts ++ variables_at p us
+at_append p [] us = refl
+at_append p (t ∷ ts) us = ap (λ l. variables_of (pool.term_of p t) ++ l) (at_append p ts us) ∙ sym (append_assoc (variables_of (pool.term_of p t)) (variables_at p ts) (variables_at p us))
+
+-- so far: those found, and those of the terms ahead, of which the last is the next
+pub record IsFinding (p : Contents) (all : List ℕ) (found : List ℕ) (ahead : List TermId) : Type 0 where
+  pub own : All (Own p) ahead
+  pub rest : all ≡ found ++ variables_at p (reverse ahead)
+
+twice : {X : Type 0} (xs : List X) → reverse (reverse xs) ≡ xs
+twice [] = refl
+twice (x ∷ xs) = ap reverse (reverse-append (x ∷ []) xs) ∙ reverse-append (reverse xs) (x ∷ []) ∙ ap (λ l. x ∷ l) (twice xs)
+
+pub finding_first : (p : Contents) (ts ahead : List TermId) → All (Own p) ts → ahead ≡ reverse ts → IsFinding p (variables_at p ts) [] ahead
+finding_first p ts ahead a e = subst (IsFinding p (variables_at p ts) []) (sym e) (record { own = all_reverse (Own p) ts a; rest = ap (variables_at p) (sym (twice ts)) })
+
+module _ (p : Contents) (all found : List ℕ) (ahead rest : List TermId) (t : TermId) (split : ahead ≡ rest ++ t ∷ []) (w : IsFinding p all found ahead) where
+  pub next_own : Own p t
+  next_own = last_of (Own p) rest t (subst (All (Own p)) split w.own)
+
+  rest_own : All (Own p) rest
+  rest_own = all_front (Own p) rest (t ∷ []) (subst (All (Own p)) split w.own)
+
+  turned : all ≡ found ++ (variables_of (pool.term_of p t) ++ variables_at p (reverse rest))
+  turned = w.rest ∙ ap (λ l. found ++ variables_at p l) (ap reverse split ∙ reverse-append rest (t ∷ []))
+
+  pub finding_var : (x : ℕ) (now : List ℕ) → pool.term_of p t ≡ Var x → now ≡ found ++ x ∷ [] → IsFinding p all now rest
+  finding_var x now is e = record {
+    own = rest_own;
+    rest = turned ∙ ap (λ u. found ++ (variables_of u ++ variables_at p (reverse rest))) is ∙ sym (append_assoc found (x ∷ []) (variables_at p (reverse rest))) ∙ ap (λ l. l ++ variables_at p (reverse rest)) (sym e);
+  }
+
+  pub finding_parts : (f : AtomId) (parts now : List TermId) → pool.term_of p t ≡ pool.shape_term p (comp f parts) → All (λ q. q.number < t.number) parts → now ≡ rest ++ reverse parts → IsFinding p all found now
+  finding_parts f parts now is low e = subst (IsFinding p all found) (sym e) (record {
+    own = All-append (Own p) rest (reverse parts) rest_own (all_reverse (Own p) parts (λ k d l. (let a : (get_or parts k d).number < t.number = low k d l in let b = next_own in omega (arith, a, b))));
+    rest = turned ∙ ap (λ u. found ++ (variables_of u ++ variables_at p (reverse rest))) is ∙ ap (λ (u : Terms). found ++ (variables_of_all u ++ variables_at p (reverse rest))) (sym (terms_same (pool.term_of p) parts))
+        ∙ ap (λ l. found ++ l) (sym (at_append p parts (reverse rest))) ∙ ap (λ l. found ++ variables_at p l) (sym (reverse-append rest (reverse parts) ∙ ap (λ l. l ++ reverse rest) (twice parts)));
+  })
+
+  pub finding_leaf : (y : Node) → pool.term_of p t ≡ pool.shape_term p (shape_of y) → ((x : ℕ) → y ≡ node.Var x → ⊥) → ((f : _) (ts : _) → y ≡ node.Comp f ts → ⊥) → IsFinding p all found rest
+  finding_leaf (node.Var x) is v c = absurd (v x refl)
+  finding_leaf (node.Comp f ts) is v c = absurd (c f ts refl)
+  finding_leaf (node.Int z) is v c = record { own = rest_own; rest = turned ∙ ap (λ u. found ++ (variables_of u ++ variables_at p (reverse rest))) is }
+  finding_leaf (node.Atom a) is v c = record { own = rest_own; rest = turned ∙ ap (λ u. found ++ (variables_of u ++ variables_at p (reverse rest))) is }
+
+size_reverse : (p : Contents) (ts : List TermId) → total_size p (reverse ts) ≡ total_size p ts
+size_reverse p [] = refl
+size_reverse p (t ∷ ts) = ap (total_size p) (reverse-append (t ∷ []) ts) ∙ (let a = total_size-append p (reverse ts) (t ∷ []) in let b = size_reverse p ts in let c = total_size-cons p t [] in let d = total_size-nil p in let e = total_size-cons p t ts in omega (arith, a, b, c, d, e))
+
+pub rest_less : (p : Contents) (ahead rest : List TermId) (t : TermId) → ahead ≡ rest ++ t ∷ [] → total_size p rest < total_size p ahead
+rest_less p ahead rest t e = subst (λ ts. total_size p rest < total_size p ts) (sym e) (rest_is_smaller p rest t)
+
+pub parts_less : (p : Contents) (ahead rest parts next : List TermId) (t : TermId) (f : AtomId) → ahead ≡ rest ++ t ∷ [] → next ≡ rest ++ reverse parts → pool.term_of p t ≡ pool.shape_term p (comp f parts) → total_size p next < total_size p ahead
+parts_less p ahead rest parts next t f e n is =
+    let a = total_size-append p rest (reverse parts) in let b = size_reverse p parts in let c = total_size-append p rest parts in
+    let s = parts_are_smaller p rest t (comp f parts) is in
+    subst (λ us. total_size p next < total_size p us) (sym e) (subst (λ us. total_size p us < total_size p (rest ++ t ∷ [])) (sym n) (omega (arith, a, b, c, s)))
+
+pub finding_last : (p : Contents) (all found : List ℕ) (ahead : List TermId) → ahead ≡ [] → IsFinding p all found ahead → found ≡ all
+finding_last p all found ahead e w = sym (w.rest ∙ ap (λ l. found ++ variables_at p (reverse l)) e ∙ append-nil found)
+
+-- ---- their sets
+
+distinct_once : (xs : List ℕ) → distinct xs ≡ once xs
+distinct_once [] = refl
+distinct_once (x ∷ xs) = ap (λ l. x ∷ l) (ap (filter (λ y. not (x == y))) (distinct_once xs) ∙ filter_agree (λ y. not (x == y)) (λ y. not (y == x)) (once xs) (λ y. ap not (same_test x y)))
+
+sets_more : (set : ℕ → Option (List ℕ)) (xs : List ℕ) (x : ℕ) → with_sets set (xs ++ x ∷ []) ≡ with_sets set xs ++ with_set x (set x) []
+sets_more set [] x = refl
+sets_more set (y ∷ xs) x = by_set (set y) (sets_more set xs x) where
+  by_set : (o : Option (List ℕ)) → with_sets set (xs ++ x ∷ []) ≡ with_sets set xs ++ with_set x (set x) [] → with_set y o (with_sets set (xs ++ x ∷ [])) ≡ with_set y o (with_sets set xs) ++ with_set x (set x) []
+  by_set None e = e
+  by_set (Some s) e = ap (λ l. (y, s) ∷ l) e
+
+pub gathered_first : (set : ℕ → Option (List ℕ)) → AreGathered set [] [] []
+gathered_first set = record { keys_are = refl; sets_are = refl }
+
+-- one variable more
+pub gathered_more : (set : ℕ → Option (List ℕ)) (xs keys new : List ℕ) (ps qs : List (ℕ × List ℕ)) (x : ℕ) (b : Bool) → AreGathered set xs keys ps → new ≡ cond (list_any (nat_eq x) keys) keys (keys ++ x ∷ []) → b ≡ not (list_any (nat_eq x) keys)
+    → qs ≡ cond b (ps ++ with_set x (set x) []) ps → AreGathered set (xs ++ x ∷ []) new qs
+gathered_more set xs keys new ps qs x b w e f g = record {
+  keys_are = keys_more xs keys new x e w.keys_are;
+  sets_are = g ∙ by_test b (has xs x) (f ∙ ap not (ap (list_any (nat_eq x)) w.keys_are ∙ any_has (once xs) x ∙ has_once xs x)) (once_more xs x);
+} where
+  by_test : (b c : Bool) → b ≡ not c → once (xs ++ x ∷ []) ≡ cond c (once xs) (once xs ++ x ∷ []) → cond b (ps ++ with_set x (set x) []) ps ≡ with_sets set (once (xs ++ x ∷ []))
+  by_test true true e h = absurd (true≢false e)
+  by_test true false e h = ap (λ l. l ++ with_set x (set x) []) w.sets_are ∙ sym (ap (with_sets set) h ∙ sets_more set (once xs) x)
+  by_test false true e h = w.sets_are ∙ sym (ap (with_sets set) h)
+  by_test false false e h = absurd (true≢false (sym e))
+
+pub gathered_all : (set : ℕ → Option (List ℕ)) (xs keys : List ℕ) (ps : List (ℕ × List ℕ)) → AreGathered set xs keys ps → ps ≡ with_sets set (distinct xs)
+gathered_all set xs keys ps w = w.sets_are ∙ ap (with_sets set) (sym (distinct_once xs))
+
+-- ---- the set of one variable
+
+several : (G : Family) (k : ℕ) (xs : List ℕ) → only xs ≡ None → cell_set G (held.link_in xs k) ≡ Some (G k)
+several G k [] e = refl
+several G k (w ∷ []) e = absurd (cc)
+several G k (x ∷ y ∷ ys) e = refl
+
+single : (G : Family) (k w : ℕ) (xs : List ℕ) → only xs ≡ Some w → cell_set G (held.link_in xs k) ≡ None
+single G k w [] e = absurd (cc)
+single G k w (v ∷ []) e = refl
+single G k w (x ∷ y ∷ ys) e = absurd (cc)
+
+pub set_several : (h : Cells) (sets : List (List ℕ)) (i k : ℕ) → slot_at h i ≡ linked k → only (family_of sets k) ≡ None → open_set h sets i ≡ Some (family_of sets k)
+set_several h sets i k e o = ap (λ s. cell_set (family_of sets) (link_at (link_of s) (family_of sets))) e ∙ several (family_of sets) k (family_of sets k) o
+
+pub set_single : (h : Cells) (sets : List (List ℕ)) (i k : ℕ) (o : Option ℕ) → slot_at h i ≡ linked k → o ≡ only (family_of sets k) → is_some o ≡ true → open_set h sets i ≡ None
+set_single h sets i k None e o t = absurd (true≢false (sym t))
+set_single h sets i k (Some w) e o t = ap (λ s. cell_set (family_of sets) (link_at (link_of s) (family_of sets))) e ∙ single (family_of sets) k w (family_of sets k) (sym o)
+
+pub only_none : (xs : List ℕ) (o : Option ℕ) → o ≡ only xs → is_some o ≡ false → only xs ≡ None
+only_none xs None e t = sym e
+only_none xs (Some w) e t = absurd (true≢false t)
+
+unlinked : (h : Cells) (sets : List (List ℕ)) (i : ℕ) → ((k : ℕ) → slot_at h i ≡ linked k → ⊥) → open_set h sets i ≡ None
+unlinked h sets i never = by_slot (slot_at h i) never where
+  by_slot : (t : Slot) → ((k : ℕ) → t ≡ linked k → ⊥) → cell_set (family_of sets) (link_at (link_of t) (family_of sets)) ≡ None
+  by_slot free never = refl
+  by_slot (linked k) never = absurd (never k refl)
+  by_slot (bound c) never = refl
+
+-- a variable that isn't the heap's
+pub set_past : (h : Cells) (sets : List (List ℕ)) (i : ℕ) → (IsOf h (cell.Ref i) → ⊥) → open_set h sets i ≡ None
+set_past h sets i out = unlinked h sets i (λ k e. elim (cases_Bool (nat_lt i (length h.slots))) [
+  | inl t ↦ out (grind (arith, nat_tests))
+  | inr t ↦ (let l : length h.slots ≤ i = grind (arith, nat_tests) in let f = sym (slot_behind h i l) ∙ e in cc)
+])
+
+-- one that is seen as another thing
+pub set_other : (h : Cells) (sets : List (List ℕ)) (i : ℕ) (v : Seen) → IsSeen h (cell.Ref i) v → (IsRoot h (cell.Ref i) → IsTop h (cell.Ref i) v) → ((k : ℕ) → v ≡ seen.Constrained i k → ⊥) → open_set h sets i ≡ None
+set_other h sets i v s top never = unlinked h sets i (λ k e. by_seen v s (top (ap is_bound e)) never k e) where
+  ref_same : (a b : ℕ) → cell.Ref a ≡ cell.Ref b → a ≡ b
+  ref_same a b e = cc
+
+  by_seen : (v : Seen) → IsSeen h (cell.Ref i) v → IsTop h (cell.Ref i) v → ((k : ℕ) → v ≡ seen.Constrained i k → ⊥) → (k : ℕ) → slot_at h i ≡ linked k → ⊥
+  by_seen (seen.Open j) s t never k e = let f = sym s.1 ∙ ap (slot_at h) (sym (ref_same i j t)) ∙ e in cc
+  by_seen (seen.Constrained j m) s t never k e = never m (ap (λ x. seen.Constrained x m) (sym (ref_same i j t)))
+  by_seen (seen.Int z) s t never k e = cc
+  by_seen (seen.Atom a) s t never k e = cc
+  by_seen (seen.Struct f args) s t never k e = let u = t.1 in cc
+
+-- ---- a variable that is added
+
+pub set_added : (set : ℕ → Option (List ℕ)) (x : ℕ) (ps qs : List (ℕ × List ℕ)) (b : Bool) (d : List ℕ) → b ≡ true → set x ≡ Some d → qs ≡ ps ++ (x, d) ∷ [] → qs ≡ cond b (ps ++ with_set x (set x) []) ps
+set_added set x ps qs b d t e q = q ∙ ap (λ o. ps ++ with_set x o []) (sym e) ∙ ap (λ c. cond c (ps ++ with_set x (set x) []) ps) (sym t)
+
+pub set_absent : (set : ℕ → Option (List ℕ)) (x : ℕ) (ps : List (ℕ × List ℕ)) (b : Bool) → b ≡ true → set x ≡ None → ps ≡ cond b (ps ++ with_set x (set x) []) ps
+set_absent set x ps b t e = sym (append-nil ps) ∙ ap (λ o. ps ++ with_set x o []) (sym e) ∙ ap (λ c. cond c (ps ++ with_set x (set x) []) ps) (sym t)
+
+pub set_before : (set : ℕ → Option (List ℕ)) (x : ℕ) (ps : List (ℕ × List ℕ)) (b : Bool) → b ≡ false → ps ≡ cond b (ps ++ with_set x (set x) []) ps
+set_before set x ps b t = ap (λ c. cond c (ps ++ with_set x (set x) []) ps) (sym t)
+
+pub none_there : {X : Type 0} (o : Option X) (s : Option (List ℕ)) (f : X → List ℕ) → MatchOption o (s ≡ None) (λ d. s ≡ Some (f d)) → ((d : X) → o ≡ Some d → ⊥) → s ≡ None
+none_there None s f m n = m
+none_there (Some d) s f m n = absurd (n d refl)
+
+pub take_all : {X : Type 0} (xs : List X) (i : ℕ) → length xs ≤ i → take i xs ≡ xs
+take_all [] zero l = refl
+take_all [] (suc i) l = refl
+take_all (x ∷ xs) zero l = absurd (omega (arith, l))
+take_all (x ∷ xs) (suc i) l = ap (λ ys. x ∷ ys) (take_all xs i (omega (arith, l)))

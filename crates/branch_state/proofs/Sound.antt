@@ -1,0 +1,197 @@
+-- Branches in order.
+use Rattle.std.proofs.Common.{◌≡◌, ℕ, zero, suc, ◌<◌, true, false, List, [], ◌∷◌, length, Some, None, refl, ap, sym, ◌∙◌, subst, arith, drop}
+use Rattle.std.specs.Prelude.{All, Result, Ok, Err, OnOk}
+use Rattle.std.proofs.lemmas.Bool.{true≢false}
+use Rattle.std.proofs.lemmas.List.{get_or_past}
+use Rattle.std.proofs.lemmas.List.Elements.{All-append}
+use Rattle.fd_language.specs.Family.{has}
+use Rattle.fd_model.specs.Closed.{constrained}
+use Rattle.fd_model.specs.Levels.{Level, Levels}
+use Rattle.heap_cells.specs.declared.Cell.{Cell}
+use Rattle.heap_cells.specs.Atoms.{IsAtomBelow, HasAtomsBelow}
+use Rattle.heap_cells.specs.Cells.{Cells, Compound, Heaps, no_cells, with_new_slot, with_now}
+use Rattle.heap_cells.specs.Valid.{IsHeap}
+use Rattle.heap_cells.proofs.Atoms.{new_below}
+use Rattle.heap_cells.proofs.Elements.{none_at_all}
+use Rattle.heap_cells.proofs.Growing.{new_slot_at}
+use Rattle.term_pool.specs.declared.TheConstants.{NIL}
+use Rattle.unify_core.specs.declared.Touch.{Touch}
+use Rattle.unify_core.specs.declared.Touch.TheVariants.{Value, Same}
+use Rattle.unify_core.specs.Effort.{unnamed}
+use Rattle.unify_core.specs.Outcome.{IfTrue, IfFalse}
+use Rattle.unify_core.specs.Touches.{NamesLinked}
+use Rattle.unify_core.specs.Unified.{AreUnified, KeepsAtoms}
+use Rattle.propagate_queue.specs.Running.{AreDomains}
+use Rattle.machine_frames.specs.Frames.{link_in, link_of}
+use Rattle.machine_frames.proofs.Linking.{slot_behind}
+use Rattle.machine_frames.proofs.Unifying.{linked_at, link_at}
+use Rattle.branch_state.specs.States.{State, IsPair, ArePairs, IsSound, IsSoundBelow, IsSettled, first_state, no_level, with_heap, with_pair, without_pairs, IsCell}
+use Rattle.branch_state.specs.Steps.{IsEqualled, IsTouchBelow, AreTouchesBelow, posted_with}
+use Rattle.branch_state.proofs.Settled.{settled}
+use Rattle.branch_state.proofs.Touches.{posted_low}
+
+none_some : {X : Type 0} (k : X) → None ≡ Some k → ⊥
+none_some k e = cc
+
+no_links : (c k : ℕ) → link_in no_cells c ≡ Some k → ⊥
+no_links c k e = none_some k (sym (ap link_of (slot_behind no_cells c (omega arith))) ∙ e)
+
+no_atoms : (n : ℕ) → HasAtomsBelow n no_cells
+no_atoms n = record {
+  slots = λ i c e. (let f = sym (slot_behind no_cells i (omega arith)) ∙ e in absurd (cc));
+  names = λ j l. absurd (omega (arith, l));
+  args = λ j. subst (λ (k : Compound). All (IsAtomBelow n) k.args) (sym (get_or_past no_cells.compounds j (record { name = NIL; args = [] }) (omega arith))) (none_at_all (IsAtomBelow n));
+}
+
+-- a new branch is in order
+pub first_pair : (n : ℕ) → IsHeap no_cells → AreDomains [] [] → IsPair n no_cells no_level
+first_pair n valid d = record {
+  valid = valid;
+  names = no_atoms n;
+  linked = λ c k e. absurd (no_links c k e);
+  one = λ c d k e f. absurd (no_links c k e);
+  posted = λ k e. absurd (true≢false (sym e));
+  live = refl;
+  settled = settled no_level d;
+}
+
+pub first_sound : (n : ℕ) → IsHeap no_cells → AreDomains [] [] → IsSound (first_state n)
+first_sound n valid d = record { unspent = refl; marked = omega arith; below = (first_pair n valid d, tt); now = first_pair n valid d }
+
+-- a heap with no more variables of the store
+pub pair_fewer : (n : ℕ) (h now : Cells) (l : Level) → IsPair n h l → IsHeap now → HasAtomsBelow n now → ((c k : ℕ) → link_in now c ≡ Some k → link_in h c ≡ Some k) → IsPair n now l
+pair_fewer n h now l p valid names fewer = record {
+  valid = valid;
+  names = names;
+  linked = λ c k e. p.linked c k (fewer c k e);
+  one = λ c d k e f. p.one c d k (fewer c k e) (fewer d k f);
+  posted = p.posted;
+  live = p.live;
+  settled = p.settled;
+}
+
+pub heap_sound : (s : State) → IsSound s → (h : Cells) → IsPair s.atoms h s.levels.current → IsSound (with_heap s h)
+heap_sound s o h p = record { unspent = o.unspent; marked = o.marked; below = o.below; now = p }
+
+pub heaps_sound : (s : State) → IsSound s → (h : Heaps) → h.below ≡ s.heaps.below → IsPair s.atoms h.now s.levels.current → IsSound (record s { heaps = h })
+heaps_sound s o h e p = record {
+  unspent = o.unspent;
+  marked = subst (λ (b : List Cells). 0 < length b) (sym e) o.marked;
+  below = subst (λ (b : List Cells). ArePairs s.atoms b s.levels.below) (sym e) o.below;
+  now = p;
+}
+
+-- a new variable
+pub var_sound : (s : State) → IsSound s → (h : Heaps) → h ≡ with_now s.heaps (with_new_slot s.heaps.now) → IsHeap h.now → IsSound (record s { heaps = h })
+var_sound s o h e valid =
+    let is : h.now ≡ with_new_slot s.heaps.now = ap (λ (x : Heaps). x.now) e in
+    heaps_sound s o h (ap (λ (x : Heaps). x.below) e)
+    (subst (λ (x : Cells). IsPair s.atoms x s.levels.current) (sym is)
+    (pair_fewer s.atoms s.heaps.now (with_new_slot s.heaps.now) s.levels.current o.now (subst IsHeap is valid) (new_below s.atoms s.heaps.now o.now.names) (λ c k e. sym (ap link_of (new_slot_at s.heaps.now.slots c)) ∙ e)))
+
+-- the pairs below
+drop_pairs : (n i : ℕ) (hs : List Cells) (ls : List Level) → ArePairs n hs ls → ArePairs n (drop i hs) (drop i ls)
+drop_pairs n zero hs ls p = p
+drop_pairs n (suc i) [] [] p = p
+drop_pairs n (suc i) [] (l ∷ ls) p = absurd p
+drop_pairs n (suc i) (h ∷ hs) [] p = absurd p
+drop_pairs n (suc i) (h ∷ hs) (l ∷ ls) p = drop_pairs n i hs ls p.1
+
+same_length : (n : ℕ) (hs : List Cells) (ls : List Level) → ArePairs n hs ls → length hs ≡ length ls
+same_length n [] [] p = refl
+same_length n [] (l ∷ ls) p = absurd p
+same_length n (h ∷ hs) [] p = absurd p
+same_length n (h ∷ hs) (l ∷ ls) p = ap suc (same_length n hs ls p.1)
+
+pub levels_below : (s : State) → IsSoundBelow s → length s.heaps.below ≡ length s.levels.below
+levels_below s o = same_length s.atoms s.heaps.below s.levels.below o.below
+
+pub sound_below : (s : State) → IsSound s → IsSoundBelow s
+sound_below s o = record { unspent = o.unspent; marked = o.marked; below = o.below }
+
+drop_some : {X : Type 0} (i : ℕ) (xs : List X) → i < length xs → 0 < length (drop i xs)
+drop_some zero xs l = l
+drop_some (suc i) [] l = absurd (omega (arith, l))
+drop_some (suc i) (x ∷ xs) l = drop_some i xs (omega (arith, l))
+
+pub dropped_sound : (n : ℕ) (s : State) → IsSound s → n < length s.heaps.below → IsSound (without_pairs n s)
+dropped_sound n s o l = record { unspent = o.unspent; marked = drop_some n s.heaps.below l; below = drop_pairs s.atoms n s.heaps.below s.levels.below o.below; now = o.now }
+
+pub marked_sound : (s : State) → IsSound s → IsSound (with_pair s)
+marked_sound s o = record { unspent = o.unspent; marked = omega arith; below = (o.now, o.below); now = o.now }
+
+pub undone_sound : (n : ℕ) (h : Cells) (hs : List Cells) (l : Level) (ls : List Level) (all_hs : List Cells) (all_ls : List Level) → all_hs ≡ h ∷ hs → all_ls ≡ l ∷ ls → 1 < length all_hs → ArePairs n all_hs all_ls → IsSound (record { atoms = n; heaps = record { now = h; below = hs }; levels = record { current = l; below = ls; spent = false } })
+undone_sound n h hs l ls all_hs all_ls e f m p =
+    let both : ArePairs n (h ∷ hs) (l ∷ ls) = subst (λ (z : List Level). ArePairs n (h ∷ hs) z) f (subst (λ (z : List Cells). ArePairs n z all_ls) e p) in
+    record { unspent = refl; marked = (let i = ap length e in omega (arith, i, m)); below = both.1; now = both.0 }
+
+-- a unification leaves no new variable of the store
+pub unified_fewer : (old now : Cells) (a b : Cell) (ts : List Touch) → AreUnified old a b now ts → (c k : ℕ) → link_in now c ≡ Some k → link_in old c ≡ Some k
+unified_fewer old now a b ts u c k e = link_at old c k ((u unnamed).touches.still c k (linked_at now c k e)).0
+
+pub unified_pair : (n : ℕ) (old now : Cells) (a b : Cell) (before after : List Touch) (l : Level) → IsPair n old l → IsEqualled old a b now before after → IsHeap now → HasAtomsBelow n now → IsPair n now l
+unified_pair n old now a b before after l p u valid names = pair_fewer n old now l p valid names (unified_fewer old now a b u.more u.unified)
+
+touch_low : (h : Cells) (n : ℕ) → ((c k : ℕ) → link_in h c ≡ Some k → k < n) → (t : Touch) → NamesLinked h t → IsTouchBelow n t
+touch_low h n low (Value k z) t = low t.0 k (link_at h t.0 k t.1)
+touch_low h n low (Same k j) t = (low t.0.0 k (link_at h t.0.0 k t.0.1), low t.1.0 j (link_at h t.1.0 j t.1.1))
+
+all_low : (h : Cells) (n : ℕ) → ((c k : ℕ) → link_in h c ≡ Some k → k < n) → (ts : List Touch) → All (NamesLinked h) ts → All (IsTouchBelow n) ts
+all_low h n low ts a = λ k d l. touch_low h n low _ (a k d l)
+
+-- and touches of the store's variables
+pub touches_low : (n : ℕ) (old now : Cells) (a b : Cell) (before after : List Touch) (l : Level) → IsPair n old l → IsEqualled old a b now before after → AreTouchesBelow (length l.sets) before → AreTouchesBelow (length l.sets) after
+touches_low n old now a b before after l p u low =
+    subst (AreTouchesBelow (length l.sets)) (sym u.touches) (All-append (IsTouchBelow (length l.sets)) before u.more low (all_low old (length l.sets) p.linked u.more (u.unified unnamed).touches.named))
+
+pub if_true : {E : Type 0} (r : Result _ E) (P Q : Type 0) → (P → Q) → IfTrue r P → IfTrue r Q
+if_true (Ok true) P Q f p = f p
+if_true (Ok false) P Q f p = tt
+if_true (Err e) P Q f p = tt
+
+pub if_both : {E : Type 0} (r : Result _ E) (P Q : Type 0) → IfTrue r P → IfTrue r Q → IfTrue r (P × Q)
+if_both (Ok true) P Q p q = (p, q)
+if_both (Ok false) P Q p q = tt
+if_both (Err e) P Q p q = tt
+
+pub on_ok : {A E : Type 0} (r : Result A E) (P Q : Type 0) → (P → Q) → OnOk r P → OnOk r Q
+on_ok (Ok a) P Q f p = f p
+on_ok (Err e) P Q f p = tt
+
+-- cells that are equal now
+pub unified_sound : (s : State) → IsSound s → (h : Heaps) (a b : Cell) (before after : List Touch) → h.below ≡ s.heaps.below → IsCell s a → IsCell s b → IsEqualled s.heaps.now a b h.now before after → KeepsAtoms s.heaps.now a b h.now → IsHeap h.now → IsSound (record s { heaps = h })
+unified_sound s o h a b before after e own_a own_b u atoms valid = heaps_sound s o h e (unified_pair s.atoms s.heaps.now h.now a b before after s.levels.current o.now u valid (atoms s.atoms o.now.names own_a.1 own_b.1))
+
+pub ok_true : {E : Type 0} (r : Result _ E) (P Q : Type 0) → (P → Q) → OnOk r P → IfTrue r Q
+ok_true (Ok true) P Q f p = f p
+ok_true (Ok false) P Q f p = tt
+ok_true (Err e) P Q f p = tt
+
+pub if_false_by : {E : Type 0} (r : Result _ E) (P Q R : Type 0) → (P → Q → R) → OnOk r P → IfFalse r Q → IfFalse r R
+if_false_by (Ok true) P Q R f p q = tt
+if_false_by (Ok false) P Q R f p q = f p q
+if_false_by (Err e) P Q R f p q = tt
+
+pub levels_sound : (s : State) → IsSound s → (l : Levels) → l.below ≡ s.levels.below → l.spent ≡ false → IsPair s.atoms s.heaps.now l.current → IsSound (record s { levels = l })
+levels_sound s o l e u p = record {
+  unspent = u;
+  marked = o.marked;
+  below = subst (ArePairs s.atoms s.heaps.below) (sym e) o.below;
+  now = p;
+}
+
+-- touches that are posted
+pub posted_sound : (s : State) → IsSound s → (l : Levels) (ts : List Touch) → AreTouchesBelow (length s.levels.current.sets) ts → l.below ≡ s.levels.below → l.spent ≡ false → l.current.posted ≡ posted_with s ts → length l.current.sets ≡ length s.levels.current.sets
+    → (l.current.failed ≡ false) × IsSettled l.current → IsSound (record s { levels = l })
+posted_sound s o l ts low e u q v k = levels_sound s o l e u (record {
+  valid = o.now.valid;
+  names = o.now.names;
+  linked = λ c j h. subst (λ n. j < n) (sym v) (o.now.linked c j h);
+  one = o.now.one;
+  posted = λ j h. subst (λ n. j < n) (sym v) (posted_low (length s.levels.current.sets) s.levels.current.posted ts o.now.posted low j (subst (λ ps. has (constrained ps) j ≡ true) q h));
+  live = k.0;
+  settled = k.1;
+})
+
+pub same_sound : (n : ℕ) (h h' : Heaps) (l l' : Levels) → h ≡ h' → l ≡ l' → IsSound (record { atoms = n; heaps = h'; levels = l' }) → IsSound (record { atoms = n; heaps = h; levels = l })
+same_sound n h h' l l' e f o = subst (λ (x : Heaps). IsSound (record { atoms = n; heaps = x; levels = l })) (sym e) (subst (λ (x : Levels). IsSound (record { atoms = n; heaps = h'; levels = x })) (sym f) o)

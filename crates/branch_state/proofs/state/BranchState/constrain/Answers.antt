@@ -1,0 +1,123 @@
+use Rattle.std.proofs.Common.{◌≡◌, ◌∙◌, ap, sym, subst, length, Ok, Err, refl}
+use Rattle.fd_model.specs.Constraining.{arguments, expand}
+use Rattle.heap_cells.specs.Cells.{Heaps, slot_at}
+use Rattle.heap_terms.specs.Values.{shown_term}
+use Rattle.term_pool.specs.Contents.{name_in}
+use Rattle.machine_frames.specs.Frames.{link_of}
+use Rattle.constraint_expand.specs.Views.{expansion_of}
+use Rattle.branch_state.specs.Constraints.{row_of, Constrains, IsRowOf, IsRowReady}
+use Rattle.branch_state.specs.States.{State, IsSound, IsCell}
+use Rattle.branch_state.proofs.ConstrainingStates.{constraint_step, list_fits, fixed_fits, row_of_heap, row_read, fault_read}
+use Rattle.branch_state.proofs.state.BranchState.constrain.Goals as goal
+
+pub expand_goal-expanded-requires-clause-linked : goal.expand_goal-expanded-requires-clause-linked
+expand_goal-expanded-requires-clause-linked g c =
+    let now : State = record { atoms = c.self.inside.atoms; heaps = c.self.inside.heap; levels = c.self.inside.store } in
+    let o : IsSound now = subst IsSound (sym c.self.view_is) c.requires.sound in
+    λ i k e. o.now.linked i k (ap link_of (ap (λ (x : Heaps). slot_at x.now i) (sym c.in_ok-fresh.ensures.same) ∙ e))
+
+pub returns-in-Err-clause-step : goal.returns-in-Err-clause-step
+returns-in-Err-clause-step g c =
+    let now : State = record { atoms = c.self.inside.atoms; heaps = c.self.inside.heap; levels = c.self.inside.store } in
+    let o : IsSound now = subst IsSound (sym c.self.view_is) c.requires.sound in
+    let names = c.args.pool.now.names in
+    let kind = c.args.kind in
+    let cell = c.args.goal in
+    let atoms : length names ≡ now.atoms = c.requires.atoms ∙ sym (ap (λ (s : State). s.atoms) c.self.view_is) in
+    let own : IsCell now cell = subst (λ (s : State). IsCell s cell) (sym c.self.view_is) c.requires.cell in
+    let same : c.count_variables.new.heap ≡ now.heaps = c.in_ok-fresh.ensures.same in
+    let fresh = c.in_ok-fresh.fresh in
+    let read = row_read names now o atoms kind cell own fresh c.in_ok-fresh.ensures.count in
+    let moved = ap (λ (x : Heaps). expand kind (arguments (shown_term (name_in names) x.now now.levels.current.sets cell)) fresh) (sym same) in
+    let fault : row_of names now kind cell ≡ Err c.in_ok-fault_of-in-Err.field-0 = sym read ∙ moved ∙ fault_read _ c.in-Err.fault c.in_ok-fault_of-in-Err.field-0 c.in-Err.ensures.row c.in_ok-fault_of-in-Err.ensures in
+    let unmoved : record { atoms = now.atoms; heaps = c.count_variables.new.heap; levels = now.levels } ≡ now = ap (λ (x : Heaps). record { atoms = now.atoms; heaps = x; levels = now.levels }) same in
+    (subst (λ (v : State). row_of names v kind cell ≡ Err c.in_ok-fault_of-in-Err.field-0) c.self.view_is fault, unmoved ∙ c.self.view_is)
+
+pub prepare_row-requires-clause-row : goal.prepare_row-requires-clause-row
+prepare_row-requires-clause-row g c =
+    let now : State = record { atoms = c.self.inside.atoms; heaps = c.self.inside.heap; levels = c.self.inside.store } in
+    let o : IsSound now = subst IsSound (sym c.self.view_is) c.requires.sound in
+    let names = c.args.pool.now.names in
+    let kind = c.args.kind in
+    let cell = c.args.goal in
+    let atoms : length names ≡ now.atoms = c.requires.atoms ∙ sym (ap (λ (s : State). s.atoms) c.self.view_is) in
+    let own : IsCell now cell = subst (λ (s : State). IsCell s cell) (sym c.self.view_is) c.requires.cell in
+    let same : c.count_variables.new.heap ≡ now.heaps = c.in_ok-fresh.ensures.same in
+    let fresh = c.in_ok-fresh.fresh in
+    let read = row_read names now o atoms kind cell own fresh c.in_ok-fresh.ensures.count in
+    let moved = ap (λ (x : Heaps). expand kind (arguments (shown_term (name_in names) x.now now.levels.current.sets cell)) fresh) (sym same) in
+    let y = expansion_of c.in-Ok.expansion in
+    let is : row_of names now kind cell ≡ Ok y = sym read ∙ moved ∙ c.in-Ok.ensures.row in
+    let row : IsRowOf now.heaps.now y = row_of_heap names now o kind cell own y is in
+    subst (λ (x : Heaps). IsRowOf x.now y) (sym same) row
+
+pub post_rows-requires-clause-list : goal.post_rows-requires-clause-list
+post_rows-requires-clause-list g c =
+    let now : State = record { atoms = c.self.inside.atoms; heaps = c.self.inside.heap; levels = c.self.inside.store } in
+    let o : IsSound now = subst IsSound (sym c.self.view_is) c.requires.sound in
+    let names = c.args.pool.now.names in
+    let kind = c.args.kind in
+    let cell = c.args.goal in
+    let atoms : length names ≡ now.atoms = c.requires.atoms ∙ sym (ap (λ (s : State). s.atoms) c.self.view_is) in
+    let own : IsCell now cell = subst (λ (s : State). IsCell s cell) (sym c.self.view_is) c.requires.cell in
+    let same : c.count_variables.new.heap ≡ now.heaps = c.in_ok-fresh.ensures.same in
+    let fresh = c.in_ok-fresh.fresh in
+    let read = row_read names now o atoms kind cell own fresh c.in_ok-fresh.ensures.count in
+    let moved = ap (λ (x : Heaps). expand kind (arguments (shown_term (name_in names) x.now now.levels.current.sets cell)) fresh) (sym same) in
+    let y = expansion_of c.in-Ok.expansion in
+    let is : row_of names now kind cell ≡ Ok y = sym read ∙ moved ∙ c.in-Ok.ensures.row in
+    let row : IsRowOf now.heaps.now y = row_of_heap names now o kind cell own y is in
+    let S = c.prepare_row.new.store.current.sets in
+    let list = c.in_ok-listed.listed.list.items in
+    let fixed = c.in_ok-listed.listed.fixed.items in
+    let ready : IsRowReady now.heaps.now now.levels.current.sets y c.prepare_row.new.heap.now S list fixed = subst (λ (x : Heaps). IsRowReady x.now now.levels.current.sets y c.prepare_row.new.heap.now S list fixed) same c.in_ok-listed.ensures.ready in
+    list_fits names now o kind cell y is row c.prepare_row.new.heap.now S list fixed ready
+
+pub post_rows-requires-clause-fixed : goal.post_rows-requires-clause-fixed
+post_rows-requires-clause-fixed g c =
+    let now : State = record { atoms = c.self.inside.atoms; heaps = c.self.inside.heap; levels = c.self.inside.store } in
+    let o : IsSound now = subst IsSound (sym c.self.view_is) c.requires.sound in
+    let names = c.args.pool.now.names in
+    let kind = c.args.kind in
+    let cell = c.args.goal in
+    let atoms : length names ≡ now.atoms = c.requires.atoms ∙ sym (ap (λ (s : State). s.atoms) c.self.view_is) in
+    let own : IsCell now cell = subst (λ (s : State). IsCell s cell) (sym c.self.view_is) c.requires.cell in
+    let same : c.count_variables.new.heap ≡ now.heaps = c.in_ok-fresh.ensures.same in
+    let fresh = c.in_ok-fresh.fresh in
+    let read = row_read names now o atoms kind cell own fresh c.in_ok-fresh.ensures.count in
+    let moved = ap (λ (x : Heaps). expand kind (arguments (shown_term (name_in names) x.now now.levels.current.sets cell)) fresh) (sym same) in
+    let y = expansion_of c.in-Ok.expansion in
+    let is : row_of names now kind cell ≡ Ok y = sym read ∙ moved ∙ c.in-Ok.ensures.row in
+    let row : IsRowOf now.heaps.now y = row_of_heap names now o kind cell own y is in
+    let S = c.prepare_row.new.store.current.sets in
+    let list = c.in_ok-listed.listed.list.items in
+    let fixed = c.in_ok-listed.listed.fixed.items in
+    let ready : IsRowReady now.heaps.now now.levels.current.sets y c.prepare_row.new.heap.now S list fixed = subst (λ (x : Heaps). IsRowReady x.now now.levels.current.sets y c.prepare_row.new.heap.now S list fixed) same c.in_ok-listed.ensures.ready in
+    fixed_fits names now o kind cell y is row c.prepare_row.new.heap.now S list fixed ready
+
+pub returns-clause-step : goal.returns-clause-step
+returns-clause-step g c =
+    let now : State = record { atoms = c.self.inside.atoms; heaps = c.self.inside.heap; levels = c.self.inside.store } in
+    let o : IsSound now = subst IsSound (sym c.self.view_is) c.requires.sound in
+    let names = c.args.pool.now.names in
+    let kind = c.args.kind in
+    let cell = c.args.goal in
+    let atoms : length names ≡ now.atoms = c.requires.atoms ∙ sym (ap (λ (s : State). s.atoms) c.self.view_is) in
+    let own : IsCell now cell = subst (λ (s : State). IsCell s cell) (sym c.self.view_is) c.requires.cell in
+    let same : c.count_variables.new.heap ≡ now.heaps = c.in_ok-fresh.ensures.same in
+    let fresh = c.in_ok-fresh.fresh in
+    let read = row_read names now o atoms kind cell own fresh c.in_ok-fresh.ensures.count in
+    let moved = ap (λ (x : Heaps). expand kind (arguments (shown_term (name_in names) x.now now.levels.current.sets cell)) fresh) (sym same) in
+    let y = expansion_of c.in-Ok.expansion in
+    let is : row_of names now kind cell ≡ Ok y = sym read ∙ moved ∙ c.in-Ok.ensures.row in
+    let row : IsRowOf now.heaps.now y = row_of_heap names now o kind cell own y is in
+    let S = c.prepare_row.new.store.current.sets in
+    let list = c.in_ok-listed.listed.list.items in
+    let fixed = c.in_ok-listed.listed.fixed.items in
+    let ready : IsRowReady now.heaps.now now.levels.current.sets y c.prepare_row.new.heap.now S list fixed = subst (λ (x : Heaps). IsRowReady x.now now.levels.current.sets y c.prepare_row.new.heap.now S list fixed) same c.in_ok-listed.ensures.ready in
+    let next : State = record { atoms = now.atoms; heaps = c.prepare_row.new.heap; levels = c.post_rows.new.store } in
+    let below = c.prepare_row.ensures.below ∙ ap (λ (x : Heaps). x.below) same in
+    subst (λ (v : State). Constrains names v kind cell next c.step_of.result) c.self.view_is
+    (subst (Constrains names now kind cell next) (sym c.step_of.ensures)
+    (constraint_step names now o kind cell y is row c.prepare_row.new.heap.now S list fixed ready
+    c.prepare_row.new.heap refl below c.prepare_row.new.store c.post_rows.new.store c.in_ok-listed.ensures.store c.post_rows.ensures.below c.in_ok-kept.ensures.unspent c.in_ok-kept.ensures.vars c.in_ok-kept.kept c.in_ok-kept.ensures.posted c.in_ok-kept.ensures.kept c.in_ok-kept.ensures.none))

@@ -1,0 +1,9 @@
+pub mod Codes
+pub mod States
+pub mod Steps
+pub mod Posting
+pub mod Naming
+pub mod Ranges
+pub mod Showing
+pub mod Compounds
+pub mod Constraints

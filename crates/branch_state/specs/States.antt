@@ -1,0 +1,101 @@
+-- A branch as callers see it: heaps of cells with levels of a store, in pairs.
+use Rattle.std.specs.Prelude.{◌≡◌, ℕ, ◌<◌, true, false, List, [], ◌∷◌, length, drop, Option, Some}
+use Rattle.fd_language.specs.declared.TheConstants.{INFINITY}
+use Rattle.fd_language.specs.Family.{Family, has, IsInside}
+use Rattle.fd_language.specs.Range.{Indexical}
+use Rattle.fd_model.specs.Closed.{constrained}
+use Rattle.fd_model.specs.Levels.{Level, Levels}
+use Rattle.fd_model.specs.Models.{IsModel}
+use Rattle.heap_cells.specs.declared.Cell.{Cell}
+use Rattle.heap_cells.specs.Atoms.{IsAtomBelow, HasAtomsBelow}
+use Rattle.heap_cells.specs.Cells.{Cells, no_cells, Heaps, with_mark, IsOf}
+use Rattle.heap_cells.specs.Valid.{IsHeap}
+use Rattle.range_code.specs.Frames.{family_of}
+use Rattle.machine_frames.specs.Environments.{cell_at}
+use Rattle.machine_frames.specs.Frames.{link_in}
+
+-- how many atoms cells may name, the heaps, and the levels of the store
+pub record State : Type 0 where
+  pub atoms : ℕ
+  pub heaps : Heaps
+  pub levels : Levels
+
+-- The sets are the greatest model of what is posted.
+pub record IsSettled (l : Level) : Type 0 where
+  pub model : IsModel INFINITY [] l.posted (family_of l.sets)
+  pub most : (R : Family) → IsModel INFINITY [] l.posted R → IsInside R (family_of l.sets)
+
+abbrev pub HasNoModel : List Indexical → Type 0
+HasNoModel ps = (T : Family) → IsModel INFINITY [] ps T → ⊥
+
+-- A heap and a level of the store belong together: each variable of the store that the heap has is the level's, and that of one heap's variable alone. What is posted names only the level's variables, and it holds.
+pub record IsPair (atoms : ℕ) (h : Cells) (l : Level) : Type 0 where
+  pub valid : IsHeap h
+  pub names : HasAtomsBelow atoms h
+  pub linked : (c k : ℕ) → link_in h c ≡ Some k → k < length l.sets
+  pub one : (c d k : ℕ) → link_in h c ≡ Some k → link_in h d ≡ Some k → c ≡ d
+  pub posted : (k : ℕ) → has (constrained l.posted) k ≡ true → k < length l.sets
+  pub live : l.failed ≡ false
+  pub settled : IsSettled l
+
+abbrev pub ArePairs : ℕ → List Cells → List Level → Type 0
+ArePairs atoms [] [] = Unit {0}
+ArePairs atoms (h ∷ hs) (l ∷ ls) = IsPair atoms h l × ArePairs atoms hs ls
+ArePairs atoms _ _ = ⊥
+
+-- what can be given back is in order, and memory wasn't wanting
+pub record IsSoundBelow (s : State) : Type 0 where
+  pub unspent : s.levels.spent ≡ false
+  pub marked : 0 < length s.heaps.below
+  pub below : ArePairs s.atoms s.heaps.below s.levels.below
+
+-- and so is the current pair
+pub record IsSound (s : State) : Type 0 where
+  pub unspent : s.levels.spent ≡ false
+  pub marked : 0 < length s.heaps.below
+  pub below : ArePairs s.atoms s.heaps.below s.levels.below
+  pub now : IsPair s.atoms s.heaps.now s.levels.current
+
+-- no variables, and nothing is posted
+abbrev pub no_level : Level
+no_level = record { posted = []; sets = []; failed = false }
+
+-- a new branch, with an empty pair below it
+abbrev pub first_state : ℕ → State
+first_state atoms = record {
+  atoms = atoms;
+  heaps = record { now = no_cells; below = no_cells ∷ [] };
+  levels = record { current = no_level; below = no_level ∷ []; spent = false };
+}
+
+-- another current heap
+abbrev pub with_heap : State → Cells → State
+with_heap s h = record s { heaps = record { now = h; below = s.heaps.below } }
+
+-- a copy of the current pair below it
+abbrev pub with_pair : State → State
+with_pair s = record s { heaps = with_mark s.heaps; levels = record s.levels { below = s.levels.current ∷ s.levels.below } }
+
+-- the n pairs directly below the current one are gone
+abbrev pub without_pairs : ℕ → State → State
+without_pairs n s = record s { heaps = record s.heaps { below = drop n s.heaps.below }; levels = record s.levels { below = drop n s.levels.below } }
+
+-- the pair below is the current one now
+pub record IsUndone (old new : State) : Type 0 where
+  pub atoms : new.atoms ≡ old.atoms
+  pub heaps : old.heaps.below ≡ new.heaps.now ∷ new.heaps.below
+  pub levels : old.levels.below ≡ new.levels.current ∷ new.levels.below
+
+-- nothing but the current pair is another one
+pub record IsSameBelow (old new : State) : Type 0 where
+  pub atoms : new.atoms ≡ old.atoms
+  pub heaps : new.heaps.below ≡ old.heaps.below
+  pub levels : new.levels.below ≡ old.levels.below
+
+-- the cell is of the branch's heap
+abbrev pub IsCell : State → Cell → Type 0
+IsCell s c = IsOf s.heaps.now c × IsAtomBelow s.atoms c
+
+-- the cells of an environment are
+abbrev pub AreCells : State → List (Option Cell) → Type 0
+AreCells s env = (x : ℕ) (c : Cell) → cell_at env x ≡ Some c → IsCell s c

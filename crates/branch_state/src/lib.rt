@@ -1,0 +1,15 @@
+//! A branch of a search: a heap of cells and a store of domains, marked and taken back together.
+#![tactic(auto)]
+
+mod codes;
+mod constraints;
+mod equal;
+mod look;
+mod naming;
+mod posting;
+mod shown;
+mod state;
+mod step;
+
+pub use crate::state::BranchState;
+pub use crate::step::Step;

@@ -1,0 +1,227 @@
+//! What is posted for touches.
+
+ghost use Rattle.std.specs.Prelude.{◌≡◌, ◌<◌, ◌++◌, ◌∷◌, [], false, map, length, All, IfOk, OnOk};
+ghost use Rattle.std.specs.List.{list_all};
+ghost use Rattle.propagate_queue.specs.Instances.{posting, posted_by, IsInstance};
+ghost use Rattle.unify_core.specs.Outcome.{IfTrue, IfFalse};
+ghost use Rattle.branch_state.specs.Codes.{exact_range, same_range};
+ghost use Rattle.range_code.specs.Frames.{IsFrame};
+ghost use Rattle.branch_state.specs.Naming.{goal_ranges};
+ghost use Rattle.branch_state.specs.Posting.{is_natural as natural, touch_postings, postings};
+ghost use Rattle.branch_state.specs.States.{IsSettled, HasNoModel};
+ghost use Rattle.branch_state.specs.Steps.{AreTouchesBelow};
+ghost use Rattle.machine_relation.specs.Store.{posts};
+ghost use Rattle.machine_frames.specs.Frames.{store_touches};
+
+use crate::constraints::Listed;
+use crate::naming::Prepared;
+use fd_language::NoMemory;
+use propagate_queue::{Agenda, Instance, Posted, Store};
+use range_code::{Activations, Arg, RangeCode};
+use std::alloc::Global;
+use std::rc::Rc;
+use unify_core::Touch;
+
+/// Whether no variable gets a negative integer by the touch.
+fn is_natural(touch: Touch) -> bool
+    ensures { result ≡ natural touch }
+{
+    match touch {
+        Touch::Value(_, z) => z >= 0,
+        Touch::Same(_, _) => true,
+    }
+}
+
+/// Whether this is so of all touches.
+fn are_natural(touches: &[Touch]) -> bool
+    ensures { result ≡ list_all natural touches.now }
+{
+    touches.iter().all(|touch| is_natural(*touch))
+}
+
+/// The range with one argument, on a target.
+fn instance(
+    alloc: Global,
+    code: &Rc<RangeCode>,
+    target: usize,
+    arg: Arg,
+) -> Result<Instance, NoMemory>
+    ensures { IfOk result (λ i. posting i
+        ≡ record { range = code.now.value; target = target; args = arg ∷ [] }) }
+{
+    Ok(Instance {
+        code: Rc::clone(code)?,
+        target,
+        args: vec![in alloc; arg]?,
+    })
+}
+
+/// Puts what is posted for a touch behind the list.
+fn add_touch(
+    alloc: Global,
+    exact: &Rc<RangeCode>,
+    same: &Rc<RangeCode>,
+    touch: Touch,
+    list: &mut Vec<Instance>,
+) -> Result<(), NoMemory>
+    requires exact { exact.now.value ≡ exact_range }
+    requires same { same.now.value ≡ same_range }
+    ensures { OnOk result (map posting list.new.items
+        ≡ map posting list.old.items ++ touch_postings touch) }
+{
+    match touch {
+        Touch::Value(k, z) => list.push(instance(alloc, exact, k, Arg::Int(z))?)?,
+        Touch::Same(k, j) => {
+            list.push(instance(alloc, same, k, Arg::Var(j))?)?;
+            list.push(instance(alloc, same, j, Arg::Var(k))?)?;
+        }
+    }
+    Ok(())
+}
+
+/// Puts what is posted for touches behind the list.
+fn add_touches(
+    alloc: Global,
+    exact: &Rc<RangeCode>,
+    same: &Rc<RangeCode>,
+    touches: &[Touch],
+    list: &mut Vec<Instance>,
+) -> Result<(), NoMemory>
+    requires exact { exact.now.value ≡ exact_range }
+    requires same { same.now.value ≡ same_range }
+    ensures { OnOk result (map posting list.new.items
+        ≡ map posting list.old.items ++ postings touches.now) }
+{
+    for touch in touches {
+        add_touch(alloc, exact, same, *touch, list)?;
+    }
+    Ok(())
+}
+
+/// Posts the list. Whether all that is posted has a model.
+pub(crate) fn post_list<A: Agenda + Drop>(
+    store: &mut Store<A>,
+    list: Vec<Instance>,
+    n: &mut Activations,
+) -> Result<bool, NoMemory>
+    requires { All (IsInstance (length store.old.current.sets)) list.items }
+    ensures posted { OnOk result (store.new.current.posted
+        ≡ store.old.current.posted ++ posted_by list.items) }
+    ensures kept { IfTrue result ((store.new.current.failed ≡ false)
+        × IsSettled store.new.current) }
+    ensures none { IfFalse result (HasNoModel store.new.current.posted) }
+    ensures vars { OnOk result (length store.new.current.sets ≡ length store.old.current.sets) }
+    ensures below { store.new.below ≡ store.old.below }
+    ensures unspent { OnOk result (store.new.spent ≡ false) }
+{
+    match store.post(list, n)? {
+        Posted::Kept => Ok(true),
+        Posted::Failed => Ok(false),
+    }
+}
+
+/// Posts what touches say. Whether all that is posted then has a model.
+pub(crate) fn post_all<A: Agenda + Drop>(
+    alloc: Global,
+    store: &mut Store<A>,
+    n: &mut Activations,
+    exact: &Rc<RangeCode>,
+    same: &Rc<RangeCode>,
+    touches: &[Touch],
+) -> Result<bool, NoMemory>
+    requires exact { exact.now.value ≡ exact_range }
+    requires same { same.now.value ≡ same_range }
+    requires touches { AreTouchesBelow (length store.old.current.sets) touches.now }
+    requires unspent { store.old.spent ≡ false }
+    ensures posted { IfTrue result (store.new.current.posted
+        ≡ store.old.current.posted ++ posts (store_touches touches.now)) }
+    ensures kept { IfTrue result ((store.new.current.failed ≡ false)
+        × IsSettled store.new.current) }
+    ensures none { IfFalse result (HasNoModel
+        (store.old.current.posted ++ posts (store_touches touches.now))) }
+    ensures vars { OnOk result (length store.new.current.sets ≡ length store.old.current.sets) }
+    ensures below { store.new.below ≡ store.old.below }
+    ensures unspent { OnOk result (store.new.spent ≡ false) }
+{
+    if !are_natural(touches) {
+        return Ok(false);
+    }
+    let mut list = Vec::with_capacity(alloc, touches.len())?;
+    add_touches(alloc, exact, same, touches, &mut list)?;
+    post_list(store, list, n)
+}
+
+/// Posts the range of a goal that is prepared, and gives fresh variables their integers. Whether all that is posted then has a model.
+pub(crate) fn post_prepared<A: Agenda + Drop>(
+    alloc: Global,
+    store: &mut Store<A>,
+    n: &mut Activations,
+    codes: (&Rc<RangeCode>, &Rc<RangeCode>),
+    code: &Rc<RangeCode>,
+    prepared: Prepared,
+) -> Result<bool, NoMemory>
+    requires exact { codes.0.now.value ≡ exact_range }
+    requires same { codes.1.now.value ≡ same_range }
+    requires target { prepared.target < length store.old.current.sets }
+    requires frame { IsFrame (length store.old.current.sets) code.now.value prepared.args.items }
+    requires fixed { AreTouchesBelow (length store.old.current.sets) prepared.fixed.items }
+    requires unspent { store.old.spent ≡ false }
+    ensures posted { IfTrue result (store.new.current.posted ≡ store.old.current.posted
+        ++ goal_ranges code.now.value prepared.target prepared.args.items prepared.fixed.items) }
+    ensures kept { IfTrue result ((store.new.current.failed ≡ false)
+        × IsSettled store.new.current) }
+    ensures none { IfFalse result (HasNoModel (store.old.current.posted
+        ++ goal_ranges code.now.value prepared.target prepared.args.items prepared.fixed.items)) }
+    ensures vars { OnOk result (length store.new.current.sets ≡ length store.old.current.sets) }
+    ensures below { store.new.below ≡ store.old.below }
+    ensures unspent { OnOk result (store.new.spent ≡ false) }
+{
+    let Prepared {
+        target,
+        args,
+        fixed,
+    } = prepared;
+    if !are_natural(&fixed) {
+        return Ok(false);
+    }
+    let mut list = Vec::with_capacity(alloc, fixed.len() + 1)?;
+    list.push(Instance {
+        code: Rc::clone(code)?,
+        target,
+        args,
+    })?;
+    add_touches(alloc, codes.0, codes.1, &fixed, &mut list)?;
+    post_list(store, list, n)
+}
+
+/// Posts the ranges of a constraint, and gives variables their integers. Whether all that is posted then has a model.
+pub(crate) fn post_rows<A: Agenda + Drop>(
+    alloc: Global,
+    store: &mut Store<A>,
+    n: &mut Activations,
+    codes: (&Rc<RangeCode>, &Rc<RangeCode>),
+    listed: Listed,
+) -> Result<bool, NoMemory>
+    requires exact { codes.0.now.value ≡ exact_range }
+    requires same { codes.1.now.value ≡ same_range }
+    requires list { All (IsInstance (length store.old.current.sets)) listed.list.items }
+    requires fixed { AreTouchesBelow (length store.old.current.sets) listed.fixed.items }
+    requires unspent { store.old.spent ≡ false }
+    ensures posted { IfTrue result (store.new.current.posted ≡ (store.old.current.posted
+        ++ posted_by listed.list.items) ++ posts (store_touches listed.fixed.items)) }
+    ensures kept { IfTrue result ((store.new.current.failed ≡ false)
+        × IsSettled store.new.current) }
+    ensures none { IfFalse result (HasNoModel ((store.old.current.posted
+        ++ posted_by listed.list.items) ++ posts (store_touches listed.fixed.items))) }
+    ensures vars { OnOk result (length store.new.current.sets ≡ length store.old.current.sets) }
+    ensures below { store.new.below ≡ store.old.below }
+    ensures unspent { OnOk result (store.new.spent ≡ false) }
+{
+    let Listed { list, fixed } = listed;
+    if !are_natural(&fixed) {
+        return Ok(false);
+    }
+    let mut list = list;
+    add_touches(alloc, codes.0, codes.1, &fixed, &mut list)?;
+    post_list(store, list, n)
+}

@@ -1,0 +1,321 @@
+//! A branch: the current heap and level of the store, and the pairs below.
+
+ghost use Rattle.std.specs.Prelude.{◌≡◌, ◌<◌, ◌≤◌, All, IfOk, OnOk, length};
+ghost use Rattle.fd_language.specs.Variables.{TermBelow};
+ghost use Rattle.fd_model.specs.Sound.{RangeBelow};
+ghost use Rattle.heap_cells.specs.declared.Cell.TheVariants as cell;
+ghost use Rattle.heap_cells.specs.Cells.{with_new_slot};
+ghost use Rattle.term_pool.specs.Terms.{term_of as pool_term};
+ghost use Rattle.unify_core.specs.Outcome.{IfTrue, IfFalse};
+ghost use Rattle.unify_core.specs.Unified.{CannotUnify};
+ghost use Rattle.branch_state.specs.States.{first_state, with_heap, with_pair, without_pairs, HasNoModel, IsSound, IsSoundBelow, IsSameBelow, IsUndone, IsCell, AreCells};
+ghost use Rattle.branch_state.specs.Steps.{IsBuilt, IsEqualled, AreTouchesBelow, posted_with};
+ghost use Rattle.branch_state.specs.Compounds.{IsMade};
+ghost use Rattle.branch_state.specs.Constraints.{Constrains};
+ghost use Rattle.branch_state.specs.Ranges.{IsFull, Posts};
+ghost use Rattle.branch_state.specs.Showing.{IsShown};
+
+use crate::codes::{exact_code, know_code, same_code};
+use crate::constraints::{count_variables, expand_goal, fault_of, prepare_row};
+use crate::equal::{equal, know};
+use crate::look::{find_offence, target_of};
+use crate::naming::prepare;
+use crate::posting::{post_all, post_prepared, post_rows};
+use crate::shown::show_cells;
+use crate::step::{Step, step_of};
+use fd_language::NoMemory;
+use fd_model::kinds::ConstraintKind;
+use heap_cells::{Cell, Heap};
+use heap_terms::build;
+use machine_events::Shown;
+use propagate_queue::{Agenda, Store};
+use range_code::{Activations, RangeCode};
+use std::alloc::Global;
+use std::marker::Model;
+use std::rc::Rc;
+use term_pool::{AtomId, Pool, TermId};
+use unify_core::Touch;
+
+/// A heap and a store, as a list of pairs of which the first is the current one.
+#[derive(Drop)]
+pub struct BranchState<A: Agenda + Drop> {
+    alloc: Global,
+    atoms: usize,
+    heap: Heap,
+    store: Store<A>,
+    activations: Activations,
+    exact: Rc<RangeCode>,
+    same: Rc<RangeCode>,
+}
+
+impl<A: Agenda + Drop> Model for BranchState<A> {
+    ghost use Rattle.branch_state.specs.States.{State};
+
+    ghost Value = { State };
+
+    ghost use Rattle.std.specs.Coded.{codes};
+    ghost use Rattle.fd_model.specs.Levels.{levels_coded};
+
+    ghost coded = { Prim.hlevel (codes, levels_coded) };
+
+    ghost use Rattle.std.specs.Prelude.{◌≡◌};
+    ghost use Rattle.branch_state.specs.Codes.{exact_range, same_range};
+
+    ghost view = { λ s. record { atoms = s.atoms; heaps = s.heap; levels = s.store } };
+
+    ghost invariant = { λ s. (s.exact.value ≡ exact_range) × (s.same.value ≡ same_range) };
+}
+
+impl<A: Agenda + Drop> BranchState<A> {
+    /// A branch with no variables, whose cells name the first `atoms` atoms of a pool, and an equal one below it. The error is want of
+    /// memory.
+    pub fn new(alloc: Global, agenda: A, atoms: usize) -> Result<BranchState<A>, NoMemory>
+        ensures first { IfOk result (λ s. s ≡ first_state atoms) }
+        ensures sound { IfOk result IsSound }
+    {
+        let mut heap = Heap::new(alloc)?;
+        heap.mark()?;
+        let mut store = Store::new(alloc, agenda);
+        store.known();
+        store.push_mark()?;
+        Ok(BranchState {
+            alloc,
+            atoms,
+            heap,
+            store,
+            activations: Activations::new(),
+            exact: exact_code(alloc)?,
+            same: same_code(alloc)?,
+        })
+    }
+
+    /// The heaps. No memory.
+    pub fn heap(&self) -> &Heap
+        ensures { result.now ≡ self.now.heaps }
+    {
+        &self.heap
+    }
+
+    /// The store. No memory.
+    pub fn store(&self) -> &Store<A>
+        ensures { result.now ≡ self.now.levels }
+    {
+        &self.store
+    }
+
+    /// A new variable of the heap, which is open. The error is want of memory.
+    pub fn new_var(&mut self) -> Result<Cell, NoMemory>
+        requires sound { IsSound self.old }
+        ensures id { IfOk result (λ c. c ≡ cell.Ref (length self.old.heaps.now.slots)) }
+        ensures added { OnOk result (self.new
+            ≡ with_heap self.old (with_new_slot self.old.heaps.now)) }
+        ensures sound { OnOk result (IsSound self.new) }
+    {
+        self.heap.new_var()
+    }
+
+    /// Builds a term of the pool. Its variables are the cells of `env`, by their numbers, and one that has none there gets a new
+    /// variable of the heap. The error is want of memory.
+    pub fn build(
+        &mut self,
+        pool: &Pool,
+        t: TermId,
+        env: &mut [Option<Cell>],
+    ) -> Result<Cell, NoMemory>
+        requires sound { IsSound self.old }
+        requires atoms { length pool.now.names ≡ self.old.atoms }
+        requires own { t.number < length pool.now.entries }
+        requires vars { TermBelow (length env.old) (pool_term pool.now t) }
+        requires cells { AreCells self.old env.old }
+        ensures built { IfOk result (IsBuilt pool.now.names self.old self.new env.old env.new
+            (pool_term pool.now t)) }
+        ensures heap { OnOk result (self.new ≡ with_heap self.old self.new.heaps.now) }
+        ensures sound { OnOk result (IsSound self.new) }
+    {
+        let cell = build(&mut self.heap, self.alloc, pool, t, env)?;
+        know(&self.heap);
+        Ok(cell)
+    }
+
+    /// A new compound term of cells of the branch. The error is want of memory.
+    pub fn compound(&mut self, f: AtomId, args: &[Cell]) -> Result<Cell, NoMemory>
+        requires sound { IsSound self.old }
+        requires name { f.number < self.old.atoms }
+        requires cells { All (IsCell self.old) args.now }
+        ensures made { IfOk result (IsMade f args.now self.old self.new) }
+        ensures heap { OnOk result (self.new ≡ with_heap self.old self.new.heaps.now) }
+        ensures sound { OnOk result (IsSound self.new) }
+    {
+        self.heap.new_struct(f, args)
+    }
+
+    /// Puts a copy of the current pair below it. The error is want of memory.
+    pub fn mark(&mut self) -> Result<(), NoMemory>
+        requires sound { IsSound self.old }
+        ensures marked { OnOk result (self.new ≡ with_pair self.old) }
+        ensures sound { OnOk result (IsSound self.new) }
+    {
+        self.heap.mark()?;
+        self.store.push_mark()
+    }
+
+    /// Gives the pair below back. The last one is never given back. No memory.
+    pub fn undo(&mut self)
+        requires sound { IsSoundBelow self.old }
+        requires marked { 1 < length self.old.heaps.below }
+        ensures undone { IsUndone self.old self.new }
+        ensures sound { IsSound self.new }
+    {
+        self.heap.undo_to_mark();
+        self.store.pop_mark();
+    }
+
+    /// Takes away the `n` pairs directly below the current one. The last one stays. No memory.
+    pub fn drop_marks(&mut self, n: usize)
+        requires sound { IsSound self.old }
+        requires marked { n < length self.old.heaps.below }
+        ensures dropped { self.new ≡ without_pairs n self.old }
+        ensures sound { IsSound self.new }
+    {
+        self.heap.drop_marks(n);
+        self.store.drop_marks(n);
+    }
+
+    /// Makes two cells equal, and puts what the store is to be told behind `touches`. `false` comes exactly where they can't be equal;
+    /// then the current pair is to be given up by `undo`. The error is want of memory.
+    pub fn unify(&mut self, a: Cell, b: Cell, touches: &mut Vec<Touch>) -> Result<bool, NoMemory>
+        requires sound { IsSound self.old }
+        requires own_a { IsCell self.old a }
+        requires own_b { IsCell self.old b }
+        ensures equal { IfTrue result (IsEqualled self.old.heaps.now a b self.new.heaps.now
+            touches.old.items touches.new.items) }
+        ensures unequal { IfFalse result (CannotUnify self.old.heaps.now a b) }
+        ensures touches { AreTouchesBelow (length self.old.levels.current.sets) touches.old.items
+            → IfTrue result (AreTouchesBelow (length self.new.levels.current.sets) touches.new.items) }
+        ensures heap { self.new ≡ with_heap self.old self.new.heaps.now }
+        ensures sound { IfTrue result (IsSound self.new) }
+        ensures below { IfFalse result (IsSoundBelow self.new) }
+    {
+        equal(&mut self.heap, self.alloc, a, b, touches)
+    }
+
+    /// Tells the store of touches: the ranges that say so are posted behind the others. `false` comes exactly where all have no model;
+    /// then the current pair is to be given up by `undo`. Where there are no touches nothing is done. The error is want of memory.
+    pub fn post_touches(&mut self, touches: &[Touch]) -> Result<bool, NoMemory>
+        requires sound { IsSound self.old }
+        requires touches { AreTouchesBelow (length self.old.levels.current.sets) touches.now }
+        ensures posted { IfTrue result (self.new.levels.current.posted
+            ≡ posted_with self.old touches.now) }
+        ensures none { IfFalse result (HasNoModel (posted_with self.old touches.now)) }
+        ensures heap { self.new.heaps ≡ self.old.heaps }
+        ensures same { IsSameBelow self.old self.new }
+        ensures sound { IfTrue result (IsSound self.new) }
+        ensures below { IfFalse result (IsSoundBelow self.new) }
+    {
+        if touches.is_empty() {
+            return Ok(true);
+        }
+        post_all(
+            self.alloc,
+            &mut self.store,
+            &mut self.activations,
+            &self.exact,
+            &self.same,
+            touches,
+        )
+    }
+
+    /// Posts `T in R`, where `code` is the code of the range, and each variable of the clause has its cell in `env`. After a failure the
+    /// current pair is to be given up by `undo`. The error is want of memory.
+    pub fn post_range(
+        &mut self,
+        pool: &Pool,
+        target: TermId,
+        code: &Rc<RangeCode>,
+        env: &[Option<Cell>],
+    ) -> Result<Step, NoMemory>
+        requires sound { IsSound self.old }
+        requires own { target.number < length pool.now.entries }
+        requires vars { TermBelow (length env.now) (pool_term pool.now target) }
+        requires range { RangeBelow (length env.now) code.now.value }
+        requires full { IsFull env.now }
+        requires cells { AreCells self.old env.now }
+        ensures step { IfOk result (Posts pool.now.names self.old env.now
+            (pool_term pool.now target) code.now.value self.new) }
+        ensures same { OnOk result (IsSameBelow self.old self.new) }
+    {
+        know_code(code);
+        let target = target_of(&self.heap, &self.store, pool, target, env);
+        let offence = find_offence(&self.heap, &self.store, env, code, target);
+        if let Some(fault) = offence {
+            return Ok(Step::Fault(fault));
+        }
+        let prepared = prepare(
+            self.alloc,
+            &mut self.heap,
+            &mut self.store,
+            env,
+            code,
+            target,
+        )?;
+        let kept = post_prepared(
+            self.alloc,
+            &mut self.store,
+            &mut self.activations,
+            (&self.exact, &self.same),
+            code,
+            prepared,
+        )?;
+        Ok(step_of(kept))
+    }
+
+    /// Posts a constraint, whose goal is the term of a cell. `pool` has the atoms that cells name. After a failure the current pair is to be
+    /// given up by `undo`. The error is want of memory.
+    pub fn constrain(
+        &mut self,
+        pool: &Pool,
+        kind: ConstraintKind,
+        goal: Cell,
+    ) -> Result<Step, NoMemory>
+        requires sound { IsSound self.old }
+        requires atoms { length pool.now.names ≡ self.old.atoms }
+        requires cell { IsCell self.old goal }
+        ensures step { IfOk result (Constrains pool.now.names self.old kind goal self.new) }
+        ensures same { OnOk result (IsSameBelow self.old self.new) }
+    {
+        let fresh = count_variables(&mut self.heap)?;
+        let expanded = expand_goal(self.alloc, &self.heap, &self.store, pool, kind, goal, fresh);
+        let expansion = match expanded {
+            Ok(expansion) => expansion,
+            Err(fault) => return Ok(Step::Fault(fault_of(fault)?)),
+        };
+        let listed = prepare_row(
+            self.alloc,
+            &mut self.heap,
+            &mut self.store,
+            fresh,
+            &expansion,
+        )?;
+        know(&self.heap);
+        let kept = post_rows(
+            self.alloc,
+            &mut self.store,
+            &mut self.activations,
+            (&self.exact, &self.same),
+            listed,
+        )?;
+        Ok(step_of(kept))
+    }
+
+    /// What the branch shows of cells: their terms, where a variable of the store with one value is that integer, and the domains of the
+    /// others that occur. `pool` has the atoms that the cells name. The error is want of memory.
+    pub fn show(&self, pool: &Pool, cells: &[Cell]) -> Result<Shown, NoMemory>
+        requires sound { IsSound self.now }
+        requires atoms { length pool.now.names ≡ self.now.atoms }
+        requires cells { All (IsCell self.now) cells.now }
+        ensures { IfOk result (IsShown pool.now.names self.now.heaps.now
+            self.now.levels.current.sets cells.now) }
+    {
+        show_cells(self.alloc, &self.heap, &self.store, pool, cells)
+    }
+}
