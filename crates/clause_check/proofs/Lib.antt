@@ -1,9 +1,17 @@
-pub mod Programs
-mod Functors
-mod GoalLists
+pub mod Lemmas
+mod FlatGoals
+mod AddedForms
+mod Closing
+mod FormNames
+mod HeadSets
 mod KeptGoals
-mod PostedGoals
+mod KeptParts
+mod KeptQueries
 mod SentenceLists
+mod Programs
+mod Reading
 mod ShownVariables
+mod Taking
+mod Tasks
 mod TermShapes
 mod WidePlaces

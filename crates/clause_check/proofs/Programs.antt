@@ -1,24 +1,23 @@
 -- The program of sentences that are all accepted.
-use Rattle.std.proofs.Common.{◌≡◌, ℕ, zero, suc, ◌+◌, ◌<◌, Bool, true, false, cond, ◌==◌, List, [], ◌∷◌, ◌++◌, length, map, filter, refl, sym, ap, ◌∙◌, subst, arith, IsTrue, slice_index_or}
-use Rattle.std.specs.Prelude.{All}
+use Rattle.std.proofs.Common.{◌≡◌, ℕ, suc, ◌<◌, Bool, true, false, cond, List, [], ◌∷◌, length, map, filter, None, refl, sym, ap, ◌∙◌, subst}
 use Rattle.std.specs.List.{AllByRecursion}
-use Rattle.std.proofs.lemmas.List.{length-map, get_or-map}
+use Rattle.std.proofs.lemmas.List.{length-map}
 use Rattle.std.proofs.lemmas.List.Elements.{All-from_recursion, recursion_from_All}
+use Rattle.fd_language.proofs.Lemmas.{two}
+use Rattle.fd_language.specs.PlacedTerm.{PlacedTerm, plain}
 use Rattle.fd_language.specs.Term.{Name, Term, Terms, Var, Int, Atom, Comp, no_terms, term}
-use Rattle.fd_language.specs.Range.{Range}
 use Rattle.fd_language.specs.Lists.{Each}
 use Rattle.fd_language.specs.Variables.{TermBelow, TermsBelow}
-use Rattle.fd_language.specs.PlacedTerm.{plain}
 use Rattle.fd_language.specs.Reading as reading
+use Rattle.fd_language.specs.declared.TheConstants.{INFINITY}
 use Rattle.fd_model.specs.Goal as model
 use Rattle.fd_model.specs.Queries.{is_shown, shown_from, queries_by, queries_of, program_of}
-use Rattle.fd_model.specs.Refusals.{Form, query, clause, directive, fact, form_of}
-use Rattle.fd_model.specs.Sound.{GoalBelow, EachBelow, NumbersBelow, QueriesScoped}
-use Rattle.fd_model.proofs.Lemmas.{queries_scoped}
-use Rattle.clause_check.specs.declared.program.QueryParts.{QueryParts}
+use Rattle.fd_model.specs.Refusals.{Form, query, clause, directive, fact, form_of, first_refusal}
+use Rattle.fd_model.specs.Sound.{NumbersBelow, QueriesScoped, IsScoped, IsRunnableProgram}
+use Rattle.fd_model.proofs.ProgramScopes.{clauses_scoped, queries_scoped}
+use Rattle.fd_model.proofs.Runnable.{accepted_runnable}
 use Rattle.term_pool.specs.Contents.{Contents, atom_name}
 use Rattle.term_pool.specs.Terms.{term_of}
-use Rattle.term_pool.specs.Valid.{IsPool}
 use Rattle.term_pool.specs.PlacedTerms.{placed_of}
 use Rattle.term_reader.specs.declared.reader.Sentence.{Sentence}
 use Rattle.term_reader.specs.declared.reader.Sentences.{Sentences}
@@ -26,10 +25,10 @@ use Rattle.term_reader.specs.Sentences.{sentence_of, sentences_of, AreOwn}
 use Rattle.term_reader.specs.Named.{VariablesBelow, AllVariablesBelow, HasNames, HaveNames}
 use Rattle.term_reader.proofs.Plain.{plain_placed}
 use Rattle.clause_check.specs.declared.check.Parts.{Parts}
-use Rattle.clause_check.specs.declared.program.FlatGoal.{FlatGoal}
-use Rattle.clause_check.specs.declared.program.FlatGoal.TheVariants.{Post}
-use Rattle.clause_check.specs.Kept.{IsVariable, IsWithin, IsQueryWithin, StandsFor, queries_kept}
-use Rattle.clause_check.specs.Programs.{FlatQuery, FlatProgram, no_query, query_kept, range_in, goal_of_parts, query_of_parts, goal_in, query_in, program_in, IsOpen, IsGoal, IsQuery, IsProgram}
+use Rattle.clause_check.specs.GoalStores.{stored}
+use Rattle.clause_check.specs.Parts.{IsQueryWithin, StandsFor, queries_kept}
+use Rattle.clause_check.specs.Programs.{FlatQuery, FlatProgram, query_by, program_in, IsQuery, IsProgram}
+use Rattle.clause_check.specs.Terms.{terms_of}
 
 -- ---- variables of terms
 
@@ -58,34 +57,17 @@ each_below c (s ∷ ss) h = (sentence_below c s h.0, each_below c ss h.1)
 
 -- ---- queries
 
-variable_open : (n : ℕ) (t : Term) → IsVariable t → TermBelow n t → IsOpen n t
-variable_open n (Var x) v h = h
-variable_open n (Int z) v h = v
-variable_open n (Atom a) v h = v
-variable_open n (Comp f ts) v h = v
-
-goal_known : (p : FlatProgram) (n : ℕ) (g : FlatGoal) → IsWithin p.pool (length p.ranges) g → GoalBelow n (goal_in p g) → IsGoal p n g
-goal_known p n (Post t r) w h = (w.0, w.1, variable_open n (term_of p.pool t) w.2 h.0, h.1)
-
-goals_known : (p : FlatProgram) (n : ℕ) (gs : List FlatGoal) → AllByRecursion (IsWithin p.pool (length p.ranges)) gs → EachBelow n (map (goal_in p) gs) → AllByRecursion (IsGoal p n) gs
-goals_known p n [] w h = tt
-goals_known p n (g ∷ gs) w h = (goal_known p n g w.0 h.0, goals_known p n gs w.1 h.1)
-
 numbers_known : (n : ℕ) (xs : List ℕ) → NumbersBelow n xs → AllByRecursion (λ x. x < n) xs
 numbers_known n [] h = tt
 numbers_known n (x ∷ xs) h = (h.0, numbers_known n xs h.1)
 
-query_known : (p : FlatProgram) (q : FlatQuery) → IsQueryWithin p.pool (length p.ranges) q → length q.names ≡ length q.shown → NumbersBelow q.variables q.shown → EachBelow q.variables (map (goal_in p) q.goals) → IsQuery p q
-query_known p q w same s g = record {
-  names = w.names;
-  same = same;
-  shown = All-from_recursion (λ x. x < q.variables) q.shown (numbers_known q.variables q.shown s);
-  goals = All-from_recursion (IsGoal p q.variables) q.goals (goals_known p q.variables q.goals (recursion_from_All (IsWithin p.pool (length p.ranges)) q.goals w.goals) g);
-}
+query_known : (c : Contents) (n : ℕ) (goals : List model.Goal) (q : FlatQuery) → IsQueryWithin c n q → length q.names ≡ length q.shown → NumbersBelow q.variables q.shown → IsQuery c n q
+query_known c n goals q w same s = record { names = w.names; same = same; shown = All-from_recursion (λ x. x < q.variables) q.shown (numbers_known q.variables q.shown s); goals = w.goals }
 
-queries_known : (p : FlatProgram) (qs : List FlatQuery) → AllByRecursion (IsQueryWithin p.pool (length p.ranges)) qs → QueriesScoped (map (query_in p) qs) → Each (λ q. length q.names ≡ length q.shown) (map (query_in p) qs) → AllByRecursion (IsQuery p) qs
-queries_known p [] w s m = tt
-queries_known p (q ∷ qs) w s m = (query_known p q w.0 (sym (length-map q.names (atom_name p.pool)) ∙ m.0) s.0.0 s.0.1, queries_known p qs w.1 s.1 m.1)
+queries_known : (c : Contents) (n : ℕ) (goals : List model.Goal) (qs : List FlatQuery) → AllByRecursion (IsQueryWithin c n) qs → QueriesScoped (map (query_by c goals) qs)
+    → Each (λ q. length q.names ≡ length q.shown) (map (query_by c goals) qs) → AllByRecursion (IsQuery c n) qs
+queries_known c n goals [] w s m = tt
+queries_known c n goals (q ∷ qs) w s m = (query_known c n goals q w.0 (sym (length-map q.names (atom_name c)) ∙ m.0) s.0.0, queries_known c n goals qs w.1 s.1 m.1)
 
 -- ---- names
 
@@ -110,25 +92,35 @@ sentences_many (s ∷ ss) = form_many s.names (form_of s.term) (queries_of ss) (
 -- ---- the program
 
 abbrev pub program_kept : Contents → Parts → FlatProgram
-program_kept c p = record { pool = c; ranges = p.ranges.items; queries = queries_kept p }
+program_kept c p = record { pool = c; ranges = p.store.ranges.items; goals = p.store.goals.items; clauses = p.clauses.items; queries = queries_kept p }
+
+-- it is that of the sentences
+pub program_is : (s : Sentences) (p : Parts) → StandsFor s.pool p s.list.items → program_in (program_kept s.pool p) ≡ program_of (sentences_of s)
+program_is s p k = two (λ (ks : List model.Clause) (qs : List model.Query). let made : model.Program = record { clauses = ks; queries = qs } in made) k.clauses_are k.queries_are
+
+terms_are : (c : Contents) (ss : List Sentence) → map (λ x. x.term) (map (sentence_of c) ss) ≡ map (λ x. placed_of c x.term) ss
+terms_are c [] = refl
+terms_are c (s ∷ ss) = ap (λ (ts : List PlacedTerm). placed_of c s.term ∷ ts) (terms_are c ss)
 
 -- what is kept of all sentences is a program
-pub kept_program : (s : Sentences) (p : Parts) → AreOwn s → HaveNames s → StandsFor s.pool p s.list.items → IsProgram (program_kept s.pool p)
-kept_program s p own named k =
-    let scoped : QueriesScoped (queries_of (sentences_of s)) = queries_scoped (sentences_of s) (each_below s.pool s.list.items (recursion_from_All (HasNames s.pool) s.list.items named)) in
-    let many = sentences_many (sentences_of s) in record {
+pub kept_program : (s : Sentences) (p : Parts) → AreOwn s → HaveNames s → first_refusal INFINITY (terms_of s) (terms_of s) ≡ None → StandsFor s.pool p s.list.items → IsProgram (program_kept s.pool p)
+kept_program s p own named a k =
+    let c = s.pool in
+    let ss = sentences_of s in
+    let n = length p.store.goals.items in
+    let below = each_below c s.list.items (recursion_from_All (HasNames c) s.list.items named) in
+    let is : program_of ss ≡ program_in (program_kept c p) = sym (program_is s p k) in
+    let scoped : QueriesScoped (queries_of ss) = queries_scoped ss below in
+    let many = sentences_many ss in
+    let first : first_refusal INFINITY (terms_of s) (map (λ x. x.term) ss) ≡ None = ap (first_refusal INFINITY (terms_of s)) (terms_are c s.list.items) ∙ a in
+    record {
       pool = own.pool;
-      ranges = k.accepted;
-      queries = All-from_recursion (IsQuery (program_kept s.pool p)) (queries_kept p)
-          (queries_known (program_kept s.pool p) (queries_kept p) (recursion_from_All (IsQueryWithin s.pool (length p.ranges.items)) (queries_kept p) k.within)
-          (subst QueriesScoped (sym k.are) scoped) (subst (λ (qs : List model.Query). Each (λ q. length q.names ≡ length q.shown) qs) (sym k.are) many));
+      ranges = k.store.ranges;
+      goals = k.store.goals;
+      clauses = k.clauses;
+      queries = All-from_recursion (IsQuery c n) (queries_kept p)
+          (queries_known c n (stored c p.store) (queries_kept p) (recursion_from_All (IsQueryWithin c n) (queries_kept p) k.queries) (subst QueriesScoped (sym k.queries_are) scoped)
+          (subst (λ (qs : List model.Query). Each (λ q. length q.names ≡ length q.shown) qs) (sym k.queries_are) many));
+      scoped = subst IsScoped is (record { clauses = clauses_scoped ss below; queries = scoped });
+      runnable = subst (IsRunnableProgram INFINITY) is (accepted_runnable INFINITY (terms_of s) ss first);
     }
-
--- and it is theirs
-pub program_is : (s : Sentences) (p : Parts) → StandsFor s.pool p s.list.items → program_in (program_kept s.pool p) ≡ program_of (sentences_of s)
-program_is s p k = ap (λ (qs : List model.Query). let made : model.Program = record { clauses = []; queries = qs } in made) k.are
-
--- the names of a program's query are of its pool
-pub names_kept : (p : FlatProgram) (items : List QueryParts) (q : ℕ) (d : QueryParts) → All (IsQuery p) (map query_kept items) → q < length (map query_kept items) → All (λ a. a.number < length p.pool.names) (slice_index_or items q d).names.items
-names_kept p items q d h l =
-    subst (λ (x : FlatQuery). All (λ a. a.number < length p.pool.names) x.names) (get_or-map query_kept items q d no_query (subst (λ (n : ℕ). q < n) (length-map items query_kept) l)) (h q no_query l).names

@@ -7,7 +7,7 @@ use Rattle.fd_language.specs.Term.{Name}
 use Rattle.fd_model.specs.Queries.{is_shown, shown_from}
 use Rattle.term_pool.specs.declared.AtomId.{AtomId}
 use Rattle.term_pool.specs.Contents.{Contents, atom_name}
-use Rattle.clause_check.specs.Kept.{AreShown}
+use Rattle.clause_check.specs.Parts.{AreShown}
 
 -- a name is shown where it doesn't begin with `_`
 pub shown_by : (name : Name) (r : Bool) → r ≡ (slice_index name 0 == 95) → is_shown name ≡ not r

@@ -1,5 +1,5 @@
 -- Why sentences are refused.
-use Rattle.std.specs.Prelude.{◌≡◌, ℕ, ◌<◌, List, ◌++◌, length, Option, Some, codes}
+use Rattle.std.specs.Prelude.{◌≡◌, ℕ, ◌<◌, List, ◌++◌, length, Option, Some, None, codes}
 use Rattle.fd_model.specs.Refusals as model
 use Rattle.fd_model.specs.Refusals.{refused_at, functor_name}
 use Rattle.term_pool.specs.Contents.{Contents, atom_name}
@@ -9,7 +9,7 @@ use Rattle.monotone_check.specs.declared.CheckFault.{CheckFault}
 use Rattle.monotone_check.specs.declared.CheckFault.TheVariants as check
 use Rattle.term_pool.specs.declared.AtomId.{AtomId}
 use Rattle.clause_check.specs.declared.faults.Cause.{Cause}
-use Rattle.clause_check.specs.declared.faults.Cause.TheVariants.{BadGoal, Unknown, ArityOver255, Range, Check, NotYet, NotBuilt}
+use Rattle.clause_check.specs.declared.faults.Cause.TheVariants.{BadHead, BadGoal, Unknown, Redefines, ArityOver255, Range, Check, NotYet}
 use Rattle.clause_check.specs.declared.faults.Fault.{Fault}
 use Rattle.clause_check.specs.declared.faults.Fault.TheVariants as fault
 use Rattle.clause_check.specs.declared.faults.ProgramFault.{ProgramFault}
@@ -27,13 +27,14 @@ check_text check.NoMemory = codes ""
 
 -- the reason that a refusal tells
 abbrev pub cause_text : Contents → Cause → List ℕ
+cause_text c BadHead = codes "bad head"
 cause_text c BadGoal = codes "bad goal"
 cause_text c (Unknown name arity) = codes "unknown " ++ functor_name (functor_at c name arity)
+cause_text c (Redefines name arity) = codes "redefines " ++ functor_name (functor_at c name arity)
 cause_text c ArityOver255 = codes "arity over 255"
 cause_text c (Range f) = codes "not a range"
 cause_text c (Check f) = check_text f
 cause_text c (NotYet name arity) = codes "not yet " ++ functor_name (functor_at c name arity)
-cause_text c NotBuilt = codes "not built"
 
 -- a fault at this place, and no want of memory
 abbrev pub IsSpelledAt : ℕ → RangeFault → Type 0
@@ -49,13 +50,14 @@ IsCheckedAt p check.NoMemory = ⊥
 
 -- the cause of a refusal at the place: its name is of the pool, and the place of the fault that it holds is that place
 abbrev pub IsCauseAt : Contents → ℕ → Cause → Type 0
+IsCauseAt c p BadHead = Unit {0}
 IsCauseAt c p BadGoal = Unit {0}
 IsCauseAt c p (Unknown name arity) = name.number < length c.names
+IsCauseAt c p (Redefines name arity) = name.number < length c.names
 IsCauseAt c p ArityOver255 = Unit {0}
 IsCauseAt c p (Range f) = IsSpelledAt p f
 IsCauseAt c p (Check f) = IsCheckedAt p f
 IsCauseAt c p (NotYet name arity) = name.number < length c.names
-IsCauseAt c p NotBuilt = Unit {0}
 
 -- the refusal is this one, or memory was wanting
 abbrev pub RefusedBy : Contents → Option model.Refusal → Fault → Type 0
@@ -79,3 +81,8 @@ IsOffence (check.NotNatural p) f = f ≡ fault.Refused p (Check (check.NotNatura
 IsOffence (check.BadDivisor p) f = f ≡ fault.Refused p (Check (check.BadDivisor p))
 IsOffence (check.TooWide p) f = f ≡ fault.Refused p (Check (check.TooWide p))
 IsOffence check.NoMemory f = f ≡ fault.NoMemory
+
+-- the cause of the refusal o at the place p, where there is one
+abbrev pub IsCauseOf : Contents → Option model.Refusal → ℕ → Option Cause → Type 0
+IsCauseOf c o p None = o ≡ None
+IsCauseOf c o p (Some k) = IsCauseAt c p k × (o ≡ Some (refused_at p (cause_text c k)))

@@ -1,4 +1,9 @@
 pub mod Programs
 pub mod Causes
 pub mod Terms
+pub mod Forms
+pub mod Heads
 pub mod Kept
+pub mod GoalStores
+pub mod Parts
+pub mod Refused

@@ -1,21 +1,28 @@
--- Programs as they are kept: terms of a pool, ranges by number, and queries over both.
-use Rattle.std.specs.Prelude.{◌≡◌, ℕ, ◌<◌, List, [], length, map, slice_index_or, All, IsTrue}
-use Rattle.fd_language.specs.Term.{Term, Var, Int, Atom, Comp}
+-- Programs as they are kept: terms of a pool, ranges and goals by their numbers, and clauses and queries over these.
+use Rattle.std.specs.Prelude.{◌≡◌, ℕ, suc, ◌<◌, ◌≤◌, List, [], ◌∷◌, ◌++◌, length, map, take, drop, slice_index_or, All, IsTrue}
+use Rattle.std.specs.Coded.{Coded, code_by, coded_list}
+use Rattle.fd_language.specs.Term.{Term, Terms, Var, Int, Atom, Comp, no_terms, term}
 use Rattle.fd_language.specs.Range.{Range}
 use Rattle.fd_language.specs.RangeVerdict.{is_accepted}
-use Rattle.std.specs.Coded.{Coded, code_by, coded_list}
 use Rattle.fd_language.specs.contracts.range_node.RangeNode as node
 use Rattle.fd_language.specs.Flat.{nodes_of, spelled, spelled-nodes}
 use Rattle.fd_language.specs.Spelling.{empty_range}
 use Rattle.fd_language.specs.declared.TheConstants.{INFINITY}
+use Rattle.fd_model.specs.declared.kinds.ConstraintKind.{ConstraintKind}
+use Rattle.fd_model.specs.declared.kinds.ConstraintKind.TheVariants.{Compare, AllDifferent, Element, Atmost}
+use Rattle.fd_model.specs.declared.kinds.BuiltinKind.{BuiltinKind}
+use Rattle.fd_model.specs.declared.kinds.BuiltinKind.TheVariants as builtin_kind
 use Rattle.fd_model.specs.Goal as model
-use Rattle.fd_model.specs.Sound.{RangeBelow}
+use Rattle.fd_model.specs.Goal.{Goals, no_goals, goal}
+use Rattle.fd_model.specs.Sound.{IsRunnableProgram, IsScoped}
 use Rattle.term_pool.specs.declared.AtomId.{AtomId}
 use Rattle.term_pool.specs.Contents.{Contents, atom_name}
 use Rattle.term_pool.specs.Terms.{term_of}
 use Rattle.term_pool.specs.Valid.{IsPool}
+use Rattle.clause_check.specs.declared.program.Part.{Part}
 use Rattle.clause_check.specs.declared.program.FlatGoal.{FlatGoal}
-use Rattle.clause_check.specs.declared.program.FlatGoal.TheVariants.{Post}
+use Rattle.clause_check.specs.declared.program.FlatGoal.TheVariants.{True, Fail, Unify, Post, Constrain, Label, Call, Either, Builtin}
+use Rattle.clause_check.specs.declared.program.FlatClause.{FlatClause}
 use Rattle.clause_check.specs.declared.program.QueryParts.{QueryParts}
 
 -- a query: how many variables it has, the names and the numbers of those that are shown, and its goals
@@ -23,20 +30,28 @@ pub record FlatQuery : Type 0 where
   pub variables : ℕ
   pub names : List AtomId
   pub shown : List ℕ
-  pub goals : List FlatGoal
+  pub goals : Part
 
 -- what contracts see of a program
 pub record FlatProgram : Type 0 where
   pub pool : Contents
   pub ranges : List Range
+  pub goals : List FlatGoal
+  pub clauses : List FlatClause
   pub queries : List FlatQuery
 
 -- a range is stored as the list of its nodes
 abbrev pub range_coded : Coded Range
 range_coded = code_by _ (coded_list node.the_row.coded) nodes_of spelled spelled-nodes
 
+abbrev pub no_part : Part
+no_part = record { from = 0; to = 0 }
+
+abbrev pub no_clause : FlatClause
+no_clause = record { variables = 0; head = record { number = 0 }; body = no_part }
+
 abbrev pub no_query : FlatQuery
-no_query = record { variables = 0; names = []; shown = []; goals = [] }
+no_query = record { variables = 0; names = []; shown = []; goals = no_part }
 
 -- the range with a number
 abbrev pub range_in : List Range → ℕ → Range
@@ -45,51 +60,165 @@ range_in ranges r = slice_index_or ranges r empty_range
 abbrev pub range_at : FlatProgram → ℕ → Range
 range_at p r = range_in p.ranges r
 
+abbrev pub goal_at : FlatProgram → ℕ → FlatGoal
+goal_at p i = slice_index_or p.goals i True
+
+abbrev pub clause_at : FlatProgram → ℕ → FlatClause
+clause_at p c = slice_index_or p.clauses c no_clause
+
 abbrev pub query_at : FlatProgram → ℕ → FlatQuery
 query_at p q = slice_index_or p.queries q no_query
 
+-- ---- the definition's goals
+
+-- those of a list
+abbrev pub unlisted : List model.Goal → Goals
+unlisted [] = no_goals
+unlisted (g ∷ gs) = goal g (unlisted gs)
+
+-- those with the numbers from..to
+abbrev pub between : List model.Goal → ℕ → ℕ → List model.Goal
+between goals from to = drop from (take to goals)
+
+abbrev pub part_of : List model.Goal → Part → List model.Goal
+part_of goals a = between goals a.from a.to
+
+-- what a goal stands for, where the parts that it names are of these goals
+abbrev pub tree_of : Contents → List Range → List model.Goal → FlatGoal → model.Goal
+tree_of c ranges goals True = model.True
+tree_of c ranges goals Fail = model.Fail
+tree_of c ranges goals (Unify s t) = model.Unify (term_of c s) (term_of c t)
+tree_of c ranges goals (Post t r) = model.Post (term_of c t) (range_in ranges r)
+tree_of c ranges goals (Constrain k t) = model.Constrain k (term_of c t)
+tree_of c ranges goals (Label o t) = model.Label o (term_of c t)
+tree_of c ranges goals (Call t) = model.Call (term_of c t)
+tree_of c ranges goals (Either a b) = model.Either (unlisted (part_of goals a)) (unlisted (part_of goals b))
+tree_of c ranges goals (Builtin k t) = model.Builtin k (term_of c t)
+
+-- the goals, followed by what the flat ones stand for, each of which names parts of those before it
+abbrev pub trees_from : Contents → List Range → List model.Goal → List FlatGoal → List model.Goal
+trees_from c ranges goals [] = goals
+trees_from c ranges goals (g ∷ gs) = trees_from c ranges (goals ++ tree_of c ranges goals g ∷ []) gs
+
+-- what each goal stands for
+unfoldable pub trees : Contents → List Range → List FlatGoal → List model.Goal
+trees c ranges goals = trees_from c ranges [] goals
+
+-- the goal with a number
+abbrev pub goal_tree : FlatProgram → ℕ → model.Goal
+goal_tree p i = slice_index_or (trees p.pool p.ranges p.goals) i model.True
+
+-- the goals with the numbers from..to
+abbrev pub goals_between : FlatProgram → ℕ → ℕ → List model.Goal
+goals_between p from to = between (trees p.pool p.ranges p.goals) from to
+
+abbrev pub goals_in : FlatProgram → Part → List model.Goal
+goals_in p a = goals_between p a.from a.to
+
+-- what a goal of the program stands for
+abbrev pub goal_in : FlatProgram → FlatGoal → model.Goal
+goal_in p g = tree_of p.pool p.ranges (trees p.pool p.ranges p.goals) g
+
 -- ---- the definition's program
 
-abbrev pub goal_of_parts : Contents → List Range → FlatGoal → model.Goal
-goal_of_parts c ranges (Post t r) = model.Post (term_of c t) (range_in ranges r)
+abbrev pub clause_by : Contents → List model.Goal → FlatClause → model.Clause
+clause_by c goals k = record { variables = k.variables; head = term_of c k.head; body = part_of goals k.body }
 
-abbrev pub query_of_parts : Contents → List Range → FlatQuery → model.Query
-query_of_parts c ranges q = record { variables = q.variables; names = map (atom_name c) q.names; shown = q.shown; goals = map (goal_of_parts c ranges) q.goals }
+abbrev pub query_by : Contents → List model.Goal → FlatQuery → model.Query
+query_by c goals q = record { variables = q.variables; names = map (atom_name c) q.names; shown = q.shown; goals = part_of goals q.goals }
 
-abbrev pub goal_in : FlatProgram → FlatGoal → model.Goal
-goal_in p g = goal_of_parts p.pool p.ranges g
+abbrev pub clause_in : FlatProgram → FlatClause → model.Clause
+clause_in p k = clause_by p.pool (trees p.pool p.ranges p.goals) k
 
 abbrev pub query_in : FlatProgram → FlatQuery → model.Query
-query_in p q = query_of_parts p.pool p.ranges q
+query_in p q = query_by p.pool (trees p.pool p.ranges p.goals) q
 
 abbrev pub program_in : FlatProgram → model.Program
-program_in p = record { clauses = []; queries = map (query_in p) p.queries }
+program_in p = record { clauses = map (clause_in p) p.clauses; queries = map (query_in p) p.queries }
 
 -- ---- what holds of every program
 
--- a variable of the first n
-abbrev pub IsOpen : ℕ → Term → Type 0
-IsOpen n (Var x) = x < n
-IsOpen n (Int z) = ⊥
-IsOpen n (Atom a) = ⊥
-IsOpen n (Comp f ts) = ⊥
+abbrev pub count : Terms → ℕ
+count no_terms = 0
+count (term t ts) = suc (count ts)
 
--- of the pool and the ranges, and over the first n variables
-abbrev pub IsGoal : FlatProgram → ℕ → FlatGoal → Type 0
-IsGoal p n (Post t r) = (t.number < length p.pool.entries) × (r < length p.ranges) × IsOpen n (term_of p.pool t) × RangeBelow n (range_at p r)
+-- an atom, for 0, or a compound term with so many arguments
+abbrev pub HasArguments : ℕ → Term → Type 0
+HasArguments n (Var x) = ⊥
+HasArguments n (Int z) = ⊥
+HasArguments n (Atom a) = n ≡ 0
+HasArguments n (Comp f ts) = count ts ≡ n
 
-pub record IsQuery (p : FlatProgram) (q : FlatQuery) : Type 0 where
-  pub names : All (λ a. a.number < length p.pool.names) q.names
+-- an atom or a compound term
+abbrev pub IsNamed : Term → Type 0
+IsNamed t = (n : ℕ) × HasArguments n t
+
+abbrev pub constraint_arity : ConstraintKind → ℕ
+constraint_arity (Compare r) = 2
+constraint_arity AllDifferent = 1
+constraint_arity Element = 3
+constraint_arity Atmost = 3
+
+abbrev pub builtin_arity : BuiltinKind → ℕ
+builtin_arity builtin_kind.True = 0
+builtin_arity builtin_kind.Fail = 0
+builtin_arity builtin_kind.False = 0
+builtin_arity builtin_kind.Nl = 0
+builtin_arity builtin_kind.Var = 1
+builtin_arity builtin_kind.Nonvar = 1
+builtin_arity builtin_kind.Integer = 1
+builtin_arity builtin_kind.Atom = 1
+builtin_arity builtin_kind.Atomic = 1
+builtin_arity builtin_kind.Compound = 1
+builtin_arity builtin_kind.Write = 1
+builtin_arity _ = 2
+
+-- of the first n goals
+pub record IsPart (n : ℕ) (a : Part) : Type 0 where
+  pub ordered : a.from ≤ a.to
+  pub within : a.to ≤ n
+
+-- of the pool and the first so many ranges, and its parts of the first n goals
+abbrev pub IsGoal : Contents → ℕ → ℕ → FlatGoal → Type 0
+IsGoal c ranges n True = Unit {0}
+IsGoal c ranges n Fail = Unit {0}
+IsGoal c ranges n (Unify s t) = (s.number < length c.entries) × (t.number < length c.entries)
+IsGoal c ranges n (Post t r) = (t.number < length c.entries) × (r < ranges)
+IsGoal c ranges n (Constrain k t) = (t.number < length c.entries) × HasArguments (constraint_arity k) (term_of c t)
+IsGoal c ranges n (Label o t) = t.number < length c.entries
+IsGoal c ranges n (Call t) = (t.number < length c.entries) × IsNamed (term_of c t)
+IsGoal c ranges n (Either a b) = IsPart n a × IsPart n b
+IsGoal c ranges n (Builtin k t) = (t.number < length c.entries) × HasArguments (builtin_arity k) (term_of c t)
+
+-- the parts that a goal names stand before it
+abbrev pub AreGoals : Contents → ℕ → List FlatGoal → Type 0
+AreGoals c ranges goals = (i : ℕ) → i < length goals → IsGoal c ranges i (slice_index_or goals i True)
+
+pub record IsClause (c : Contents) (n : ℕ) (k : FlatClause) : Type 0 where
+  pub head : k.head.number < length c.entries
+  pub named : IsNamed (term_of c k.head)
+  pub body : IsPart n k.body
+
+pub record IsQuery (c : Contents) (n : ℕ) (q : FlatQuery) : Type 0 where
+  pub names : All (λ a. a.number < length c.names) q.names
   pub same : length q.names ≡ length q.shown
   pub shown : All (λ x. x < q.variables) q.shown
-  pub goals : All (IsGoal p q.variables) q.goals
+  pub goals : IsPart n q.goals
 
 pub record IsProgram (p : FlatProgram) : Type 0 where
   pub pool : IsPool p.pool
   pub ranges : All (λ r. IsTrue (is_accepted INFINITY r)) p.ranges
-  pub queries : All (IsQuery p) p.queries
+  pub goals : AreGoals p.pool (length p.ranges) p.goals
+  pub clauses : All (IsClause p.pool (length p.goals)) p.clauses
+  pub queries : All (IsQuery p.pool (length p.goals)) p.queries
+  -- names no variable beyond those that its clauses and queries have
+  pub scoped : IsScoped (program_in p)
+  pub runnable : IsRunnableProgram INFINITY (program_in p)
 
 -- ---- as the code keeps it
 
 abbrev pub query_kept : QueryParts → FlatQuery
-query_kept q = record { variables = q.variables; names = q.names.items; shown = q.shown.items; goals = q.goals.items }
+query_kept q = record { variables = q.variables; names = q.names.items; shown = q.shown.items; goals = q.goals }
+
+abbrev pub program_of_parts : Contents → List Range → List FlatGoal → List FlatClause → List QueryParts → FlatProgram
+program_of_parts c ranges goals clauses queries = record { pool = c; ranges = ranges; goals = goals; clauses = clauses; queries = map query_kept queries }

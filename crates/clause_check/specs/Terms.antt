@@ -1,16 +1,22 @@
--- What the terms of a text are: sentences, heads, goals.
-use Rattle.std.specs.Prelude.{◌≡◌, ℕ, ◌+◌, ◌<◌, Bool, true, false, List, [], ◌∷◌, ◌++◌, length, map, Option, Some, None, min}
-use Rattle.fd_language.specs.PlacedTerm.{PlacedTerm, comp, part, place}
+-- What the terms of a text are: sentences, heads, bodies, goals.
+use Rattle.std.specs.Prelude.{◌≡◌, ℕ, ◌+◌, ◌<◌, List, [], ◌∷◌, ◌++◌, length, map, Option, Some, None, min}
+use Rattle.fd_language.specs.PlacedTerm.{PlacedTerm, place}
 use Rattle.fd_language.specs.Spelling.{least_place}
-use Rattle.fd_model.specs.Refusals as model
-use Rattle.fd_model.specs.Refusals.{Form, query, clause, directive, fact, form_of, head_in, goals_of, posted_range, wide_places}
+use Rattle.fd_model.specs.Goal.{no_goals, goal}
+use Rattle.fd_model.specs.Goal as model
+use Rattle.fd_model.specs.Queries.{goal_of, body_goals, followed}
+use Rattle.fd_model.specs.Refusals as refusals
+use Rattle.fd_model.specs.Refusals.{form_of, goals_of, wide_places}
 use Rattle.term_pool.specs.declared.TermId.{TermId}
 use Rattle.term_pool.specs.Contents.{Contents, Shape, atom_name}
 use Rattle.term_pool.specs.Terms.{term_of, size}
 use Rattle.term_pool.specs.PlacedTerms.{placed_of, placed_by}
 use Rattle.term_reader.specs.declared.reader.Sentences.{Sentences}
 use Rattle.clause_check.specs.declared.terms.Functor.{Functor}
-use Rattle.clause_check.specs.declared.terms.Post.{Post}
+use Rattle.clause_check.specs.declared.terms.SentenceForm.{SentenceForm}
+use Rattle.clause_check.specs.declared.terms.SentenceForm.TheVariants.{Query, Clause, Directive, Fact}
+use Rattle.clause_check.specs.declared.terms.Body.{Body}
+use Rattle.clause_check.specs.declared.terms.Body.TheVariants.{Both, Either, Goal}
 
 -- the terms of the sentences, in the order of the text
 abbrev pub terms_of : Sentences → List PlacedTerm
@@ -20,46 +26,47 @@ terms_of s = map (λ x. placed_of s.pool x.term) s.list.items
 abbrev pub IsSeen : Contents → TermId → Shape → Type 0
 IsSeen c t s = placed_of c t ≡ placed_by c.names (placed_of c) (place (placed_of c t)) s
 
-abbrev pub functor_in : Contents → Functor → model.Functor
-functor_in c f = model.functor (atom_name c f.name) f.arity
+-- the id is of the pool, and stands for this term
+abbrev pub IsPartOf : Contents → PlacedTerm → TermId → Type 0
+IsPartOf c x t = (t.number < length c.entries) × (placed_of c t ≡ x)
+
+abbrev pub functor_in : Contents → Functor → refusals.Functor
+functor_in c f = refusals.functor (atom_name c f.name) f.arity
+
+-- the functor is this one, and its name is of the pool
+abbrev pub IsFunctor : Contents → Option refusals.Functor → Option Functor → Type 0
+IsFunctor c o None = o ≡ None
+IsFunctor c o (Some f) = (f.name.number < length c.names) × (o ≡ Some (functor_in c f))
 
 abbrev pub IsFunctorOf : Contents → PlacedTerm → Option Functor → Type 0
-IsFunctorOf c x None = model.functor_of x ≡ None
-IsFunctorOf c x (Some f) = (f.name.number < length c.names) × (model.functor_of x ≡ Some (functor_in c f))
+IsFunctorOf c x f = IsFunctor c (refusals.functor_of x) f
 
-abbrev pub is_query : Form → Bool
-is_query (query b) = true
-is_query (clause h b) = false
-is_query directive = false
-is_query (fact t) = false
+abbrev pub form_in : Contents → SentenceForm → refusals.Form
+form_in c (Query b) = refusals.query (placed_of c b)
+form_in c (Clause h b) = refusals.clause (placed_of c h) (placed_of c b)
+form_in c Directive = refusals.directive
+form_in c (Fact t) = refusals.fact (placed_of c t)
 
-abbrev pub IsBodyOf : Contents → TermId → Option TermId → Type 0
-IsBodyOf c t None = is_query (form_of (placed_of c t)) ≡ false
-IsBodyOf c t (Some b) = (b.number < length c.entries) × (form_of (placed_of c t) ≡ query (placed_of c b))
+abbrev pub IsFormWithin : Contents → SentenceForm → Type 0
+IsFormWithin c (Query b) = b.number < length c.entries
+IsFormWithin c (Clause h b) = (h.number < length c.entries) × (b.number < length c.entries)
+IsFormWithin c Directive = Unit {0}
+IsFormWithin c (Fact t) = t.number < length c.entries
 
-abbrev pub IsHeadOf : Contents → TermId → Option TermId → Type 0
-IsHeadOf c t None = head_in (form_of (placed_of c t)) ≡ None
-IsHeadOf c t (Some h) = (h.number < length c.entries) × (head_in (form_of (placed_of c t)) ≡ model.functor_of (placed_of c h))
+abbrev pub IsSentenceForm : Contents → TermId → SentenceForm → Type 0
+IsSentenceForm c t f = IsFormWithin c f × (form_of (placed_of c t) ≡ form_in c f)
 
--- the term is a goal, or the goals of two bodies
-abbrev pub AreJoined : Contents → TermId → Option (TermId × TermId) → Type 0
-AreJoined c t None = goals_of (placed_of c t) ≡ placed_of c t ∷ []
-AreJoined c t (Some p) =
-    (p.0.number < length c.entries) × (p.1.number < length c.entries)
-    × (goals_of (placed_of c t) ≡ goals_of (placed_of c p.0) ++ goals_of (placed_of c p.1))
-    × (size (term_of c p.0) + size (term_of c p.1) < size (term_of c t))
+-- the two bodies that a term joins, whose goals stand one behind the other
+abbrev pub AreSides : Contents → TermId → TermId → TermId → Type 0
+AreSides c t a b =
+    (a.number < length c.entries) × (b.number < length c.entries)
+    × (goals_of (placed_of c t) ≡ goals_of (placed_of c a) ++ goals_of (placed_of c b))
+    × (size (term_of c a) + size (term_of c b) < size (term_of c t))
 
--- the first part of a term
-abbrev pub target_of : PlacedTerm → PlacedTerm
-target_of (comp f p (part t ts)) = t
-target_of t = t
-
--- a goal `V in R`: its target and its range
-abbrev pub IsPostOf : Contents → PlacedTerm → Option Post → Type 0
-IsPostOf c x None = posted_range x ≡ None
-IsPostOf c x (Some p) =
-    (p.target.number < length c.entries) × (p.range.number < length c.entries)
-    × (posted_range x ≡ Some (placed_of c p.range)) × (target_of x ≡ placed_of c p.target)
+abbrev pub IsBody : Contents → TermId → Body → Type 0
+IsBody c t (Both a b) = AreSides c t a b × (body_goals (placed_of c t) ≡ followed (body_goals (placed_of c a)) (body_goals (placed_of c b)))
+IsBody c t (Either a b) = AreSides c t a b × (body_goals (placed_of c t) ≡ goal (model.Either (body_goals (placed_of c a)) (body_goals (placed_of c b))) no_goals)
+IsBody c t Goal = (goals_of (placed_of c t) ≡ placed_of c t ∷ []) × (body_goals (placed_of c t) ≡ goal (goal_of (placed_of c t)) no_goals)
 
 -- the smallest place among those of the compound terms with too many arguments
 abbrev pub IsWidePlace : PlacedTerm → Option ℕ → Type 0

@@ -1,35 +1,25 @@
 //! The sentences of a text, checked from the first to the last.
-ghost use Rattle.std.specs.Prelude.{◌≡◌, ◌<◌, [], Some, None, length, All, IfOk, IfErr, OnOk};
-ghost use Rattle.fd_language.specs.PlacedTerm.{place};
-ghost use Rattle.fd_model.specs.Refusals as Refusals;
-ghost use Rattle.fd_model.specs.Refusals.{first_refusal, goals_of, goals_refusal, posted_range, form_of, head_in, is_that, refused_at, sentence_refusal};
+ghost use Rattle.std.specs.Prelude.{◌<◌, [], length, All, IfOk, IfErr, OnOk};
 ghost use Rattle.term_pool.specs.Contents.{Contents};
-ghost use Rattle.term_pool.specs.PlacedTerms.{placed_of};
 ghost use Rattle.term_reader.specs.Sentences.{AreOwn, IsSentence};
-ghost use Rattle.clause_check.specs.Causes.{cause_text, IsCauseAt, RefusedBy};
-ghost use Rattle.clause_check.specs.Kept.{AddsSentence, AreShown, IsGoalCause, IsReadGoal, KeepsGoals, StandsFor};
-ghost use Rattle.clause_check.specs.Terms.{functor_in, lesser, terms_of, IsWidePlace};
+ghost use Rattle.clause_check.specs.GoalStores.{IsStore};
+ghost use Rattle.clause_check.specs.Heads.{AreHeads};
+ghost use Rattle.clause_check.specs.Parts.{AddsAs, AddsSentence, AreShown, StandsFor};
+ghost use Rattle.clause_check.specs.Refused.{AcceptsText, IsHeadCause, RefusesAs, RefusesSentence, RefusesText};
+ghost use Rattle.clause_check.specs.declared.terms.SentenceForm.TheVariants.{Query, Clause, Fact};
 
-use crate::faults::{Cause, Fault};
+use crate::arities::wide_place;
+use crate::faults::{Cause, Fault, refused};
 use crate::forms::{is_built_in, is_not_yet, is_reserved};
-use crate::program::{FlatGoal, QueryParts};
-use crate::ranges::accepted_range;
-use crate::terms::{Functor, conjunction, functor_of, head_of, look, post_of, query_body};
-use fd_language::{INFINITY, NoMemory};
-use monotone_check::Checked;
+use crate::goals::GoalStore;
+use crate::heads::collect_heads;
+use crate::program::{FlatClause, Part, QueryParts};
+use crate::terms::{Functor, SentenceForm, functor_of, sentence_form};
+use fd_language::NoMemory;
+use indexmap::IndexSet;
 use std::alloc::Global;
-use term_pool::{AtomId, Node, Pool, TermId};
+use term_pool::{AtomId, Pool, TermId};
 use term_reader::{Sentence, Sentences};
-
-/// The most arguments that a compound term of a text may have.
-const MOST_ARGUMENTS: usize = 255;
-
-/// The target of a goal and its range.
-#[derive(Drop)]
-pub(crate) struct PostedRange {
-    target: TermId,
-    range: Checked,
-}
 
 /// The variables of a query that answers show.
 #[derive(Drop)]
@@ -38,149 +28,30 @@ struct ShownVariables {
     numbers: Vec<u64>,
 }
 
-/// The queries of sentences, and the ranges that their goals name.
+/// The clauses and the queries of sentences, and the goals that they name.
 #[derive(Drop)]
 pub(crate) struct Parts {
-    pub ranges: Vec<Checked>,
+    pub store: GoalStore,
+    pub clauses: Vec<FlatClause>,
     pub queries: Vec<QueryParts>,
 }
 
-/// Whether the head of some sentence has the functor.
-fn is_defined(sentences: &Sentences, functor: Functor) -> bool
-    requires own { AreOwn sentences.now }
-    requires name { functor.name.number < length sentences.now.pool.names }
-    ensures { result ≡ Refusals.is_defined (terms_of sentences.now) (functor_in sentences.now.pool functor) }
+/// Why the head of a clause or a fact is refused.
+fn head_cause(pool: &Pool, head: TermId) -> Option<Cause>
+    requires { head.number < length pool.now.entries }
+    ensures { IsHeadCause pool.now head result }
 {
-    for sentence in &sentences.list {
-        if has_head(&sentences.pool, sentence.term, functor) {
-            return true;
-        }
-    }
-    false
-}
-
-/// Whether the head of a sentence has the functor.
-fn has_head(pool: &Pool, t: TermId, functor: Functor) -> bool
-    requires term { t.number < length pool.now.entries }
-    requires name { functor.name.number < length pool.now.names }
-    ensures { result ≡ is_that (functor_in pool.now functor) (head_in (form_of (placed_of pool.now t))) }
-{
-    match head_of(pool, t) {
-        Some(head) => functor_of(pool, head) == Some(functor),
-        None => false,
-    }
-}
-
-/// Why a goal that posts no range is refused.
-fn goal_cause(sentences: &Sentences, t: TermId) -> Cause
-    requires own { AreOwn sentences.now }
-    requires term { t.number < length sentences.now.pool.entries }
-    requires other { posted_range (placed_of sentences.now.pool t) ≡ None }
-    ensures { IsGoalCause sentences.now (placed_of sentences.now.pool t) result }
-{
-    let Some(functor) = functor_of(&sentences.pool, t) else {
-        return Cause::BadGoal;
+    let Some(Functor { name, arity }) = functor_of(pool, head) else {
+        return Some(Cause::BadHead);
     };
-    let Functor { name, arity } = functor;
-    let text = sentences.pool.name_of(name);
+    let text = pool.name_of(name);
     if is_reserved(text) {
-        return Cause::BadGoal;
+        return Some(Cause::BadHead);
     }
-    if is_not_yet(text, arity) {
-        return Cause::NotYet { name, arity };
+    if is_built_in(text, arity) || is_not_yet(text, arity) {
+        return Some(Cause::Redefines { name, arity });
     }
-    if is_built_in(text, arity) || is_defined(sentences, functor) {
-        return Cause::NotBuilt;
-    }
-    Cause::Unknown { name, arity }
-}
-
-/// The refusal of a term.
-fn refused(pool: &Pool, t: TermId, cause: Cause) -> Fault
-    requires term { t.number < length pool.now.entries }
-    requires cause { IsCauseAt pool.now (place (placed_of pool.now t)) cause }
-    ensures { RefusedBy pool.now (Some (refused_at (place (placed_of pool.now t)) (cause_text pool.now cause))) result }
-{
-    Fault::Refused {
-        place: pool.place(t),
-        cause,
-    }
-}
-
-/// What is kept of a goal.
-fn read_goal(alloc: Global, sentences: &Sentences, t: TermId) -> Result<PostedRange, Fault>
-    requires own { AreOwn sentences.now }
-    requires term { t.number < length sentences.now.pool.entries }
-    ensures { IsReadGoal sentences.now (placed_of sentences.now.pool t) result }
-{
-    let pool = &sentences.pool;
-    let Some(post) = post_of(pool, t) else {
-        return Err(refused(pool, t, goal_cause(sentences, t)));
-    };
-    let range = accepted_range(alloc, pool, post.range)?;
-    Ok(PostedRange {
-        target: post.target,
-        range,
-    })
-}
-
-/// The goals of a body from left to right. Their ranges are put behind the others.
-fn read_goals(
-    alloc: Global,
-    sentences: &Sentences,
-    body: TermId,
-    ahead: &mut Vec<TermId>,
-    ranges: &mut Vec<Checked>,
-) -> Result<Vec<FlatGoal>, Fault>
-    requires own { AreOwn sentences.now }
-    requires term { body.number < length sentences.now.pool.entries }
-    ensures accepted { IfOk result (λ goals. goals_refusal INFINITY (terms_of sentences.now) (goals_of (placed_of sentences.now.pool body)) ≡ None) }
-    ensures kept { IfOk result (λ goals. KeepsGoals sentences.now.pool ranges.old.items ranges.new.items goals.items (goals_of (placed_of sentences.now.pool body))) }
-    ensures fault { IfErr result (RefusedBy sentences.now.pool (goals_refusal INFINITY (terms_of sentences.now) (goals_of (placed_of sentences.now.pool body)))) }
-{
-    let mut goals = Vec::new(alloc);
-    ahead.clear();
-    ahead.push(body)?;
-    while let Some(t) = ahead.pop() {
-        if let Some((left, right)) = conjunction(&sentences.pool, t) {
-            ahead.push(right)?;
-            ahead.push(left)?;
-            continue;
-        }
-        let posted = read_goal(alloc, sentences, t)?;
-        goals.push(FlatGoal::Post(posted.target, ranges.len()))?;
-        ranges.push(posted.range)?;
-    }
-    Ok(goals)
-}
-
-/// The smallest place of a compound term with too many arguments.
-fn wide_place(pool: &Pool, t: TermId, ahead: &mut Vec<TermId>) -> Result<Option<usize>, NoMemory>
-    requires { t.number < length pool.now.entries }
-    ensures { IfOk result (IsWidePlace (placed_of pool.now t)) }
-{
-    let mut least: Option<usize> = None;
-    ahead.clear();
-    ahead.push(t)?;
-    while let Some(next) = ahead.pop() {
-        if let Node::Comp(_, parts) = look(pool, next) {
-            if parts.len() > MOST_ARGUMENTS {
-                least = smaller(least, pool.place(next));
-            }
-            ahead.extend_from_slice(parts)?;
-        }
-    }
-    Ok(least)
-}
-
-/// The smaller of two places, where the first may not be there.
-fn smaller(least: Option<usize>, place: usize) -> Option<usize>
-    ensures { result ≡ Some (lesser least place) }
-{
-    match least {
-        Some(other) => Some(other.min(place)),
-        None => Some(place),
-    }
+    None
 }
 
 /// Those of a query's variables whose names don't begin with `_`. `names` has the names of all, by their numbers.
@@ -206,34 +77,31 @@ impl Parts {
         ensures { (c : Contents) → StandsFor c result [] }
     {
         Parts {
-            ranges: Vec::new(alloc),
+            store: GoalStore::new(alloc),
+            clauses: Vec::new(alloc),
             queries: Vec::new(alloc),
         }
     }
 
-    /// Adds a sentence that is a query.
-    fn add_sentence(
+    /// Adds the query with this body.
+    fn add_query(
         &mut self,
         alloc: Global,
         sentences: &Sentences,
+        heads: &IndexSet<Functor>,
         sentence: &Sentence,
-        ahead: &mut Vec<TermId>,
+        body: TermId,
     ) -> Result<(), Fault>
         requires own { AreOwn sentences.now }
+        requires heads { AreHeads sentences.now heads.now.keys }
+        requires store { IsStore sentences.now.pool self.old.store }
         requires sentence { IsSentence sentences.now.pool sentence.now }
-        ensures added { OnOk result (AddsSentence sentences.now self.old self.new sentence.now) }
-        ensures fault { IfErr result (RefusedBy sentences.now.pool (sentence_refusal INFINITY (terms_of sentences.now) (placed_of sentences.now.pool sentence.now.term))) }
+        requires body { body.number < length sentences.now.pool.entries }
+        ensures added { OnOk result (AddsAs sentences.now self.old self.new sentence.now (Query body)) }
+        ensures fault { IfErr result (RefusesAs sentences.now sentence.now (Query body)) }
     {
-        let pool = &sentences.pool;
-        if let Some(place) = wide_place(pool, sentence.term, ahead)? {
-            let cause = Cause::ArityOver255;
-            return Err(Fault::Refused { place, cause });
-        }
-        let Some(body) = query_body(pool, sentence.term) else {
-            return Err(refused(pool, sentence.term, Cause::NotBuilt));
-        };
-        let goals = read_goals(alloc, sentences, body, ahead, &mut self.ranges)?;
-        let shown = shown_variables(alloc, pool, &sentence.names)?;
+        let goals = self.store.read_body(alloc, sentences, heads, body)?;
+        let shown = shown_variables(alloc, &sentences.pool, &sentence.names)?;
         self.queries.push(QueryParts {
             variables: sentence.names.len(),
             names: shown.names,
@@ -242,19 +110,105 @@ impl Parts {
         })?;
         Ok(())
     }
+
+    /// Adds the clause with this head and this body.
+    fn add_clause(
+        &mut self,
+        alloc: Global,
+        sentences: &Sentences,
+        heads: &IndexSet<Functor>,
+        sentence: &Sentence,
+        head: TermId,
+        body: TermId,
+    ) -> Result<(), Fault>
+        requires own { AreOwn sentences.now }
+        requires heads { AreHeads sentences.now heads.now.keys }
+        requires store { IsStore sentences.now.pool self.old.store }
+        requires head { head.number < length sentences.now.pool.entries }
+        requires body { body.number < length sentences.now.pool.entries }
+        ensures added { OnOk result (AddsAs sentences.now self.old self.new sentence.now (Clause head body)) }
+        ensures fault { IfErr result (RefusesAs sentences.now sentence.now (Clause head body)) }
+    {
+        if let Some(cause) = head_cause(&sentences.pool, head) {
+            return Err(refused(&sentences.pool, head, cause));
+        }
+        let body = self.store.read_body(alloc, sentences, heads, body)?;
+        self.clauses.push(FlatClause {
+            variables: sentence.names.len(),
+            head,
+            body,
+        })?;
+        Ok(())
+    }
+
+    /// Adds the fact.
+    fn add_fact(
+        &mut self,
+        sentences: &Sentences,
+        sentence: &Sentence,
+        head: TermId,
+    ) -> Result<(), Fault>
+        requires store { IsStore sentences.now.pool self.old.store }
+        requires head { head.number < length sentences.now.pool.entries }
+        ensures added { OnOk result (AddsAs sentences.now self.old self.new sentence.now (Fact head)) }
+        ensures fault { IfErr result (RefusesAs sentences.now sentence.now (Fact head)) }
+    {
+        if let Some(cause) = head_cause(&sentences.pool, head) {
+            return Err(refused(&sentences.pool, head, cause));
+        }
+        let end = self.store.goals.len();
+        self.clauses.push(FlatClause {
+            variables: sentence.names.len(),
+            head,
+            body: Part { from: end, to: end },
+        })?;
+        Ok(())
+    }
+
+    /// Adds a sentence.
+    fn add_sentence(
+        &mut self,
+        alloc: Global,
+        sentences: &Sentences,
+        heads: &IndexSet<Functor>,
+        sentence: &Sentence,
+        ahead: &mut Vec<TermId>,
+    ) -> Result<(), Fault>
+        requires own { AreOwn sentences.now }
+        requires heads { AreHeads sentences.now heads.now.keys }
+        requires store { IsStore sentences.now.pool self.old.store }
+        requires sentence { IsSentence sentences.now.pool sentence.now }
+        ensures added { OnOk result (AddsSentence sentences.now self.old self.new sentence.now) }
+        ensures fault { IfErr result (RefusesSentence sentences.now sentence.now) }
+    {
+        let pool = &sentences.pool;
+        if let Some(place) = wide_place(pool, sentence.term, ahead)? {
+            let cause = Cause::ArityOver255;
+            return Err(Fault::Refused { place, cause });
+        }
+        match sentence_form(pool, sentence.term) {
+            SentenceForm::Query(body) => self.add_query(alloc, sentences, heads, sentence, body),
+            SentenceForm::Clause(head, body) => {
+                self.add_clause(alloc, sentences, heads, sentence, head, body)
+            }
+            SentenceForm::Directive => Err(refused(pool, sentence.term, Cause::BadHead)),
+            SentenceForm::Fact(head) => self.add_fact(sentences, sentence, head),
+        }
+    }
 }
 
-/// The queries of a text, or the first refusal in it.
+/// The clauses and the queries of a text, or the first refusal in it.
 pub(crate) fn check_sentences(alloc: Global, sentences: &Sentences) -> Result<Parts, Fault>
     requires { AreOwn sentences.now }
-    ensures accepted { IfOk result (λ p. first_refusal INFINITY (terms_of sentences.now) (terms_of sentences.now) ≡ None) }
+    ensures accepted { IfOk result (λ p. AcceptsText sentences.now) }
     ensures stands { IfOk result (λ p. StandsFor sentences.now.pool p sentences.now.list.items) }
-    ensures fault { IfErr result (RefusedBy sentences.now.pool (first_refusal INFINITY (terms_of sentences.now) (terms_of sentences.now))) }
+    ensures fault { IfErr result (RefusesText sentences.now) }
 {
+    let heads = collect_heads(alloc, sentences)?;
     let mut parts = Parts::new(alloc);
     let mut ahead = Vec::new(alloc);
     for sentence in &sentences.list {
-        parts.add_sentence(alloc, sentences, sentence, &mut ahead)?;
+        parts.add_sentence(alloc, sentences, &heads, sentence, &mut ahead)?;
     }
     Ok(parts)
 }

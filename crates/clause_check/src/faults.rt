@@ -1,20 +1,28 @@
 //! Why the sentences of a text have no program.
-ghost use Rattle.std.specs.Prelude.{◌≡◌};
+ghost use Rattle.std.specs.Prelude.{◌≡◌, ◌<◌, Some, length};
+ghost use Rattle.fd_language.specs.PlacedTerm.{place};
+ghost use Rattle.fd_model.specs.Refusals.{refused_at};
+ghost use Rattle.term_pool.specs.PlacedTerms.{placed_of};
+ghost use Rattle.clause_check.specs.Causes.{cause_text, IsCauseAt, RefusedBy};
 ghost use Rattle.clause_check.specs.declared.faults.Fault.TheVariants.{NoMemory};
 
 use fd_language::NoMemory;
 use monotone_check::CheckFault;
 use range_terms::RangeFault;
 use std::alloc::AllocFailed;
-use term_pool::{AtomId, Pool};
+use term_pool::{AtomId, Pool, TermId};
 
 /// Why a sentence is refused.
 #[derive(Debug, Drop)]
 pub enum Cause {
+    /// A head is a variable, an integer, or has a name that no head may have; or a sentence `:- B` has none.
+    BadHead,
     /// A goal is a variable, an integer, or has a name that no goal may have.
     BadGoal,
     /// The name of a goal is neither built in nor that of a head in the text.
     Unknown { name: AtomId, arity: usize },
+    /// A head has the name of a control or built-in form, or of one that the language doesn't have yet.
+    Redefines { name: AtomId, arity: usize },
     /// A compound term has more than 255 arguments.
     ArityOver255,
     /// The term on the right of `in` spells no range.
@@ -23,8 +31,6 @@ pub enum Cause {
     Check(CheckFault),
     /// A form that the language doesn't have yet.
     NotYet { name: AtomId, arity: usize },
-    /// A form that isn't built.
-    NotBuilt,
 }
 
 /// Why a text has no program.
@@ -60,5 +66,17 @@ impl<T: Drop> From<AllocFailed<T>> for Fault {
 
     fn from(_error: AllocFailed<T>) -> Fault {
         Fault::NoMemory
+    }
+}
+
+/// The refusal of a term.
+pub(crate) fn refused(pool: &Pool, t: TermId, cause: Cause) -> Fault
+    requires term { t.number < length pool.now.entries }
+    requires cause { IsCauseAt pool.now (place (placed_of pool.now t)) cause }
+    ensures { RefusedBy pool.now (Some (refused_at (place (placed_of pool.now t)) (cause_text pool.now cause))) result }
+{
+    Fault::Refused {
+        place: pool.place(t),
+        cause,
     }
 }

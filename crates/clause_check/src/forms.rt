@@ -1,6 +1,21 @@
 //! The names of the goals that belong to the language.
-ghost use Rattle.std.specs.Prelude.{◌≡◌};
-ghost use Rattle.fd_model.specs.Forms.{built_in_names, not_yet_names, reserved_names, is_named};
+ghost use Rattle.std.specs.Prelude.{◌≡◌, option_map};
+ghost use Rattle.fd_model.specs.Forms.{built_in_names, form_named as form_of_name, is_named, joining_names, not_yet_names, reserved_names};
+ghost use Rattle.clause_check.specs.Forms.{form_seen};
+
+use fd_model::kinds::{BuiltinKind, ConstraintKind, Order, Relation};
+
+/// What a goal of the language is.
+#[derive(Clone, Copy)]
+pub enum Form {
+    Truth,
+    Failure,
+    Unification,
+    Posting,
+    Constraint(ConstraintKind),
+    Labelling(Order),
+    Builtin(BuiltinKind),
+}
 
 /// Whether neither heads nor goals may have the name.
 pub fn is_reserved(name: &str) -> bool
@@ -25,58 +40,100 @@ pub fn is_not_yet(name: &str, arity: usize) -> bool
     }
 }
 
-/// Whether the name with so many arguments is that of a control or a built-in form.
-pub fn is_built_in(name: &str, arity: usize) -> bool
-    ensures { result ≡ is_named (built_in_names arity) name.now }
+/// Whether the name with so many arguments joins two bodies to one.
+fn is_joining(name: &str, arity: usize) -> bool
+    ensures { result ≡ is_named (joining_names arity) name.now }
 {
     match arity {
-        0 => matches!(name, "true" | "fail" | "false" | "nl"),
-        1 => matches!(
-            name,
-            "var"
-                | "nonvar"
-                | "integer"
-                | "atom"
-                | "atomic"
-                | "compound"
-                | "write"
-                | "fd_all_different"
-                | "fd_labeling"
-                | "fd_labelingff"
-        ),
-        2 => is_binary(name),
-        3 => matches!(name, "fd_element" | "fd_atmost"),
+        2 => matches!(name, "," | ";"),
         _ => false,
     }
 }
 
-/// Whether the name is that of a control or a built-in form with two arguments.
-fn is_binary(name: &str) -> bool
-    ensures { result ≡ is_named (built_in_names 2) name.now }
+/// Whether the name with so many arguments is that of a control or a built-in form.
+pub fn is_built_in(name: &str, arity: usize) -> bool
+    ensures { result ≡ is_named (built_in_names arity) name.now }
 {
-    matches!(
-        name,
-        "," | ";"
-            | "="
-            | "=="
-            | "\\=="
-            | "is"
-            | "=:="
-            | "=\\="
-            | "<"
-            | "=<"
-            | ">"
-            | ">="
-            | "in"
-            | "#="
-            | "#\\="
-            | "#<"
-            | "#=<"
-            | "#>"
-            | "#>="
-            | "fd_min"
-            | "fd_max"
-            | "fd_size"
-            | "fd_dom"
-    )
+    is_joining(name, arity) || form_named(name, arity).is_some()
+}
+
+/// The form of the goals with the name and so many arguments, if they belong to the language.
+pub fn form_named(name: &str, arity: usize) -> Option<Form>
+    ensures { option_map form_seen result ≡ form_of_name name.now arity }
+{
+    match arity {
+        0 => nullary(name),
+        1 => unary(name),
+        2 => binary(name),
+        3 => ternary(name),
+        _ => None,
+    }
+}
+
+fn nullary(name: &str) -> Option<Form>
+    ensures { option_map form_seen result ≡ form_of_name name.now 0 }
+{
+    match name {
+        "true" => Some(Form::Truth),
+        "fail" | "false" => Some(Form::Failure),
+        "nl" => Some(Form::Builtin(BuiltinKind::Nl)),
+        _ => None,
+    }
+}
+
+fn unary(name: &str) -> Option<Form>
+    ensures { option_map form_seen result ≡ form_of_name name.now 1 }
+{
+    match name {
+        "var" => Some(Form::Builtin(BuiltinKind::Var)),
+        "nonvar" => Some(Form::Builtin(BuiltinKind::Nonvar)),
+        "integer" => Some(Form::Builtin(BuiltinKind::Integer)),
+        "atom" => Some(Form::Builtin(BuiltinKind::Atom)),
+        "atomic" => Some(Form::Builtin(BuiltinKind::Atomic)),
+        "compound" => Some(Form::Builtin(BuiltinKind::Compound)),
+        "write" => Some(Form::Builtin(BuiltinKind::Write)),
+        "fd_all_different" => Some(Form::Constraint(ConstraintKind::AllDifferent)),
+        "fd_labeling" => Some(Form::Labelling(Order::Leftmost)),
+        "fd_labelingff" => Some(Form::Labelling(Order::FirstFail)),
+        _ => None,
+    }
+}
+
+fn binary(name: &str) -> Option<Form>
+    ensures { option_map form_seen result ≡ form_of_name name.now 2 }
+{
+    match name {
+        "=" => Some(Form::Unification),
+        "==" => Some(Form::Builtin(BuiltinKind::Same)),
+        "\\==" => Some(Form::Builtin(BuiltinKind::NotSame)),
+        "is" => Some(Form::Builtin(BuiltinKind::Is)),
+        "=:=" => Some(Form::Builtin(BuiltinKind::NumEqual)),
+        "=\\=" => Some(Form::Builtin(BuiltinKind::NumDiffer)),
+        "<" => Some(Form::Builtin(BuiltinKind::NumLess)),
+        "=<" => Some(Form::Builtin(BuiltinKind::NumAtMost)),
+        ">" => Some(Form::Builtin(BuiltinKind::NumGreater)),
+        ">=" => Some(Form::Builtin(BuiltinKind::NumAtLeast)),
+        "in" => Some(Form::Posting),
+        "#=" => Some(Form::Constraint(ConstraintKind::Compare(Relation::Equal))),
+        "#\\=" => Some(Form::Constraint(ConstraintKind::Compare(Relation::Differ))),
+        "#<" => Some(Form::Constraint(ConstraintKind::Compare(Relation::Less))),
+        "#=<" => Some(Form::Constraint(ConstraintKind::Compare(Relation::AtMost))),
+        "#>" => Some(Form::Constraint(ConstraintKind::Compare(Relation::Greater))),
+        "#>=" => Some(Form::Constraint(ConstraintKind::Compare(Relation::AtLeast))),
+        "fd_min" => Some(Form::Builtin(BuiltinKind::FdMin)),
+        "fd_max" => Some(Form::Builtin(BuiltinKind::FdMax)),
+        "fd_size" => Some(Form::Builtin(BuiltinKind::FdSize)),
+        "fd_dom" => Some(Form::Builtin(BuiltinKind::FdDom)),
+        _ => None,
+    }
+}
+
+fn ternary(name: &str) -> Option<Form>
+    ensures { option_map form_seen result ≡ form_of_name name.now 3 }
+{
+    match name {
+        "fd_element" => Some(Form::Constraint(ConstraintKind::Element)),
+        "fd_atmost" => Some(Form::Constraint(ConstraintKind::Atmost)),
+        _ => None,
+    }
 }

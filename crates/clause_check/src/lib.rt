@@ -10,9 +10,12 @@ ghost use Rattle.clause_check.specs.Causes.{Refuses};
 ghost use Rattle.clause_check.specs.Programs.{program_in};
 ghost use Rattle.clause_check.specs.Terms.{terms_of};
 
+mod arities;
 mod check;
 mod faults;
 mod forms;
+mod goals;
+mod heads;
 mod program;
 mod ranges;
 mod terms;
@@ -20,7 +23,7 @@ mod terms;
 use crate::check::check_sentences;
 use crate::faults::Fault;
 pub use crate::faults::{Cause, ProgramFault};
-pub use crate::program::{FlatGoal, Program};
+pub use crate::program::{FlatClause, FlatGoal, Part, Program};
 use fd_language::INFINITY;
 use std::alloc::Global;
 use term_reader::Sentences;
@@ -28,7 +31,7 @@ use term_reader::Sentences;
 /// The program of a text's sentences, or the first refusal among them. The pool of the sentences stands in the program, or is handed
 /// back with the refusal, so that its names can be printed.
 ///
-/// A sentence is looked at after those before it: its compound terms first, then its goals from left to right, and a goal's range
+/// A sentence is looked at after those before it: its compound terms first, then its head, then its goals from left to right, and a goal's range
 /// after its name and its target.
 pub fn check_program(alloc: Global, s: Sentences) -> Result<Program, ProgramFault>
     requires own { AreOwn s }
@@ -39,7 +42,16 @@ pub fn check_program(alloc: Global, s: Sentences) -> Result<Program, ProgramFaul
     ensures refused { IfErr result (Refuses s.pool (first_refusal INFINITY (terms_of s) (terms_of s))) }
 {
     match check_sentences(alloc, &s) {
-        Ok(parts) => Ok(Program::from_parts(s.pool, parts.ranges, parts.queries)),
+        Ok(parts) => {
+            let store = parts.store;
+            Ok(Program::from_parts(
+                s.pool,
+                store.ranges,
+                store.goals,
+                parts.clauses,
+                parts.queries,
+            ))
+        }
         Err(Fault::Refused { place, cause }) => Err(ProgramFault::At {
             place,
             cause,

@@ -1,20 +1,50 @@
-//! The program of a text: its queries over one pool of terms.
-ghost use Rattle.std.specs.Prelude.{◌≡◌, ◌<◌, ℕ, length, map, All, IsTrue};
-ghost use Rattle.fd_language.specs.Term.{Var};
+//! The program of a text: its goals, clauses and queries over one pool of terms.
+ghost use Rattle.std.specs.Prelude.{◌≡◌, ◌<◌, length, All, IsTrue};
 ghost use Rattle.fd_language.specs.RangeVerdict.{is_accepted};
-ghost use Rattle.term_pool.specs.Terms.{term_of};
-ghost use Rattle.clause_check.specs.Programs.{query_at, query_kept, range_at, IsGoal, IsOpen, IsProgram};
+ghost use Rattle.clause_check.specs.Programs.{clause_at, goal_at, program_of_parts, query_at, range_at, IsGoal, IsPart, IsProgram};
 
 use fd_language::INFINITY;
+use fd_model::kinds::{BuiltinKind, ConstraintKind, Order};
 use monotone_check::Checked;
 use std::marker::Model;
-use term_pool::{AtomId, Node, Pool, TermId};
+use term_pool::{AtomId, Pool, TermId};
+
+/// The goals with the numbers from `from` on, before `to`.
+#[derive(Clone, Copy, Debug)]
+pub struct Part {
+    pub from: usize,
+    pub to: usize,
+}
 
 /// A goal. Its terms are of the program's pool.
 #[derive(Clone, Copy, Debug)]
 pub enum FlatGoal {
+    /// `true`.
+    True,
+    /// `fail` or `false`.
+    Fail,
+    /// `S = T`.
+    Unify(TermId, TermId),
     /// `T in R`: the target, and the number of the range in the program.
     Post(TermId, usize),
+    /// A constraint: the whole goal.
+    Constrain(ConstraintKind, TermId),
+    /// A labelling of a list.
+    Label(Order, TermId),
+    /// A user goal.
+    Call(TermId),
+    /// `A ; B`: the goals of both sides.
+    Either(Part, Part),
+    /// A built-in predicate: the whole goal.
+    Builtin(BuiltinKind, TermId),
+}
+
+/// A clause: how many variables it has, its head, and the goals of its body.
+#[derive(Clone, Copy, Debug)]
+pub struct FlatClause {
+    pub variables: usize,
+    pub head: TermId,
+    pub body: Part,
 }
 
 /// A query: how many variables it has, the names and the numbers of those that answers show, and its goals.
@@ -23,49 +53,107 @@ pub(crate) struct QueryParts {
     pub variables: usize,
     pub names: Vec<AtomId>,
     pub shown: Vec<u64>,
-    pub goals: Vec<FlatGoal>,
+    pub goals: Part,
 }
 
-/// The program of a text. Queries are numbered from 0 in text order.
+/// The program of a text. Ranges, goals, clauses and queries are numbered from 0, the clauses and the queries in text order.
 #[derive(Drop)]
 pub struct Program {
     pool: Pool,
     ranges: Vec<Checked>,
+    goals: Vec<FlatGoal>,
+    clauses: Vec<FlatClause>,
     queries: Vec<QueryParts>,
 }
 
 impl Model for Program {
-    ghost use Rattle.std.specs.Prelude.{map};
     ghost use Rattle.std.specs.Coded.{codes};
-    ghost use Rattle.clause_check.specs.Programs.{FlatProgram, query_kept, range_coded, IsProgram};
+    ghost use Rattle.clause_check.specs.Programs.{FlatProgram, program_of_parts, range_coded, IsProgram};
 
     ghost Value = { FlatProgram };
 
     ghost coded = { Prim.hlevel (codes, range_coded) };
 
-    ghost view = { λ p. record { pool = p.pool; ranges = p.ranges.items; queries = map query_kept p.queries.items } };
+    ghost view = { λ p. program_of_parts p.pool p.ranges.items p.goals.items p.clauses.items p.queries.items };
 
-    ghost invariant = { λ p. IsProgram (record { pool = p.pool; ranges = p.ranges.items; queries = map query_kept p.queries.items }) };
+    ghost invariant = { λ p. IsProgram (program_of_parts p.pool p.ranges.items p.goals.items p.clauses.items p.queries.items) };
 }
 
 impl Program {
-    /// The program with these queries, whose goals name the ranges by their numbers.
-    pub(crate) fn from_parts(pool: Pool, ranges: Vec<Checked>, queries: Vec<QueryParts>) -> Program
-        requires { IsProgram (record { pool = pool; ranges = ranges.items; queries = map query_kept queries.items }) }
-        ensures { result ≡ record { pool = pool; ranges = ranges.items; queries = map query_kept queries.items } }
+    /// The program with these clauses and queries, whose goals name the ranges by their numbers.
+    pub(crate) fn from_parts(
+        pool: Pool,
+        ranges: Vec<Checked>,
+        goals: Vec<FlatGoal>,
+        clauses: Vec<FlatClause>,
+        queries: Vec<QueryParts>,
+    ) -> Program
+        requires { IsProgram (program_of_parts pool ranges.items goals.items clauses.items queries.items) }
+        ensures { result ≡ program_of_parts pool ranges.items goals.items clauses.items queries.items }
     {
         Program {
             pool,
             ranges,
+            goals,
+            clauses,
             queries,
         }
     }
 
-    /// What holds of each program: its atoms, terms, variables and ranges are there. Does nothing.
+    /// What holds of each program: its terms, ranges and goals are there, and it can run. Does nothing.
     pub fn known(&self)
         ensures { IsProgram self.now }
     {
         let _count = self.queries.len();
+    }
+
+    /// How many goals there are, in all clauses and queries.
+    pub fn goals(&self) -> usize
+        ensures { result ≡ length self.now.goals }
+    {
+        self.goals.len()
+    }
+
+    /// The goal with the number i.
+    pub fn goal(&self, i: usize) -> FlatGoal
+        requires { i < length self.now.goals }
+        ensures goal { result ≡ goal_at self.now i }
+        ensures own { IsGoal self.now.pool (length self.now.ranges) i result }
+    {
+        self.goals[i]
+    }
+
+    /// How many clauses there are.
+    pub fn clauses(&self) -> usize
+        ensures { result ≡ length self.now.clauses }
+    {
+        self.clauses.len()
+    }
+
+    /// How many variables the clause c has. They are numbered from 0.
+    pub fn variables_of_clause(&self, c: usize) -> usize
+        requires { c < length self.now.clauses }
+        ensures { result ≡ (clause_at self.now c).variables }
+    {
+        self.clauses[c].variables
+    }
+
+    /// The head of the clause c.
+    pub fn head(&self, c: usize) -> TermId
+        requires { c < length self.now.clauses }
+        ensures head { result ≡ (clause_at self.now c).head }
+        ensures own { result.number < length self.now.pool.entries }
+    {
+        self.clauses[c].head
+    }
+
+    /// The goals of the clause c, from left to right.
+    pub fn body(&self, c: usize) -> Part
+        requires { c < length self.now.clauses }
+        ensures body { result ≡ (clause_at self.now c).body }
+        ensures within { IsPart (length self.now.goals) result }
+    {
+        self.clauses[c].body
     }
 
     /// How many queries there are.
@@ -101,15 +189,15 @@ impl Program {
     }
 
     /// The goals of the query q, from left to right.
-    pub fn goals(&self, q: usize) -> &[FlatGoal]
+    pub fn goals_of(&self, q: usize) -> Part
         requires { q < length self.now.queries }
-        ensures goals { result.now ≡ (query_at self.now q).goals }
-        ensures own { All (IsGoal self.now (query_at self.now q).variables) result.now }
+        ensures goals { result ≡ (query_at self.now q).goals }
+        ensures within { IsPart (length self.now.goals) result }
     {
-        &self.queries[q].goals
+        self.queries[q].goals
     }
 
-    /// How many ranges the goals name. They are numbered from 0.
+    /// How many ranges the goals name.
     pub fn ranges(&self) -> usize
         ensures { result ≡ length self.now.ranges }
     {
@@ -123,18 +211,6 @@ impl Program {
         ensures accepted { IsTrue (is_accepted INFINITY result.now) }
     {
         &self.ranges[r]
-    }
-
-    /// The variable that the target of a goal is.
-    pub fn target(&self, t: TermId) -> u64
-        requires within { t.number < length self.now.pool.entries }
-        requires open { (n : ℕ) × IsOpen n (term_of self.now.pool t) }
-        ensures { term_of self.now.pool t ≡ Var result }
-    {
-        match self.pool.view(t) {
-            Node::Var(variable) => variable,
-            Node::Int(_) | Node::Atom(_) | Node::Comp(_, _) => 0,
-        }
     }
 
     /// The pool of its terms and names.

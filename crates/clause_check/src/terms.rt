@@ -1,24 +1,43 @@
-//! What the terms of a text are: sentences, heads, goals.
+//! What the terms of a text are: sentences, bodies, goals.
 ghost use Rattle.std.specs.Prelude.{◌≡◌, ◌<◌, length};
+ghost use Rattle.fd_model.specs.Queries.{first_part as first_of};
+ghost use Rattle.fd_model.specs.Refusals.{second_part as second_of};
 ghost use Rattle.term_pool.specs.Terms.{term_of, shape_term};
 ghost use Rattle.term_pool.specs.Valid.{shape_of, IsPool, IsWithin};
 ghost use Rattle.term_pool.specs.PlacedTerms.{placed_of};
-ghost use Rattle.clause_check.specs.Terms.{AreJoined, IsBodyOf, IsFunctorOf, IsHeadOf, IsPostOf, IsSeen};
+ghost use Rattle.clause_check.specs.Terms.{IsBody, IsFunctorOf, IsPartOf, IsSeen, IsSentenceForm};
 
 use term_pool::{AtomId, Node, Pool, TermId};
 
 /// A name with a number of arguments.
-#[derive(Clone, Copy, Debug, PartialEq, Eq)]
+#[derive(Clone, Copy, Debug, PartialEq, Eq, Hash)]
 pub struct Functor {
     pub name: AtomId,
     pub arity: usize,
 }
 
-/// A goal `V in R` of a variable V.
+/// What a sentence is.
 #[derive(Clone, Copy)]
-pub struct Post {
-    pub target: TermId,
-    pub range: TermId,
+pub enum SentenceForm {
+    /// `?- B`.
+    Query(TermId),
+    /// `H :- B`.
+    Clause(TermId, TermId),
+    /// `:- B`.
+    Directive,
+    /// Any other term.
+    Fact(TermId),
+}
+
+/// What a body is.
+#[derive(Clone, Copy)]
+pub enum Body {
+    /// `A, B`.
+    Both(TermId, TermId),
+    /// `A ; B`.
+    Either(TermId, TermId),
+    /// One goal.
+    Goal,
 }
 
 /// What a term is at its top. Its parts have smaller numbers.
@@ -48,59 +67,58 @@ pub fn functor_of(pool: &Pool, t: TermId) -> Option<Functor>
     }
 }
 
-/// The body of a sentence `?- B`.
-pub fn query_body(pool: &Pool, t: TermId) -> Option<TermId>
+/// What the sentence is.
+pub fn sentence_form(pool: &Pool, t: TermId) -> SentenceForm
     requires { t.number < length pool.now.entries }
-    ensures { IsBodyOf pool.now t result }
+    ensures { IsSentenceForm pool.now t result }
 {
     match look(pool, t) {
-        Node::Comp(name, &[body]) if pool.name_of(name) == "?-" => Some(body),
-        _ => None,
+        Node::Comp(name, &[body]) => match pool.name_of(name) {
+            "?-" => SentenceForm::Query(body),
+            ":-" => SentenceForm::Directive,
+            _ => SentenceForm::Fact(t),
+        },
+        Node::Comp(name, &[head, body]) => match pool.name_of(name) {
+            ":-" => SentenceForm::Clause(head, body),
+            _ => SentenceForm::Fact(t),
+        },
+        _ => SentenceForm::Fact(t),
     }
 }
 
-/// The term whose functor a sentence defines: the head of a clause, or a fact.
-pub fn head_of(pool: &Pool, t: TermId) -> Option<TermId>
+/// What the body is.
+pub fn body_form(pool: &Pool, t: TermId) -> Body
     requires { t.number < length pool.now.entries }
-    ensures { IsHeadOf pool.now t result }
+    ensures { IsBody pool.now t result }
 {
     match look(pool, t) {
-        Node::Comp(name, &[_]) => {
-            if matches!(pool.name_of(name), "?-" | ":-") {
-                None
-            } else {
-                Some(t)
-            }
-        }
-        Node::Comp(name, &[head, _]) if pool.name_of(name) == ":-" => Some(head),
-        _ => Some(t),
+        Node::Comp(name, &[left, right]) => match pool.name_of(name) {
+            "," => Body::Both(left, right),
+            ";" => Body::Either(left, right),
+            _ => Body::Goal,
+        },
+        _ => Body::Goal,
     }
 }
 
-/// The two bodies that a `,` joins.
-pub fn conjunction(pool: &Pool, t: TermId) -> Option<(TermId, TermId)>
+/// The first part of a term, or the term where it has none.
+pub fn first_part(pool: &Pool, t: TermId) -> TermId
     requires { t.number < length pool.now.entries }
-    ensures { AreJoined pool.now t result }
+    ensures { IsPartOf pool.now (first_of (placed_of pool.now t)) result }
 {
     match look(pool, t) {
-        Node::Comp(name, &[left, right]) if pool.name_of(name) == "," => Some((left, right)),
-        _ => None,
+        Node::Comp(_, &[first, ..]) => first,
+        _ => t,
     }
 }
 
-/// The target and the range of a goal `V in R`, where the target is a variable.
-pub fn post_of(pool: &Pool, t: TermId) -> Option<Post>
+/// The second part of a term, or the term where it has fewer.
+pub fn second_part(pool: &Pool, t: TermId) -> TermId
     requires { t.number < length pool.now.entries }
-    ensures { IsPostOf pool.now (placed_of pool.now t) result }
+    ensures { IsPartOf pool.now (second_of (placed_of pool.now t)) result }
 {
-    let Node::Comp(name, &[target, range]) = look(pool, t) else {
-        return None;
-    };
-    if pool.name_of(name) != "in" {
-        return None;
-    }
-    match look(pool, target) {
-        Node::Var(_) => Some(Post { target, range }),
-        _ => None,
+    match look(pool, t) {
+        Node::Comp(_, &[_, second, ..]) => second,
+        _ => t,
     }
 }

@@ -1,8 +1,12 @@
 use Rattle.std.proofs.Common.{◌≡◌, ◌<◌, List, length, get_or, refl, ap, ◌∙◌, subst}
 use Rattle.std.proofs.lemmas.Result.{err_from_is_err_and}
 use Rattle.term_reader.specs.declared.reader.Sentence.{Sentence}
-use Rattle.clause_check.proofs.SentenceLists.{refused_at_sentence, sentence_more}
+use Rattle.clause_check.proofs.SentenceLists.{refused_at_sentence, accepted_more}
+use Rattle.clause_check.proofs.KeptParts.{stands_more}
 use Rattle.clause_check.proofs.check.check_sentences.Goals as goal
+
+pub add_sentence-requires-clause-store : goal.add_sentence-requires-clause-store
+add_sentence-requires-clause-store c = c.loop-sentence.invariant.stands.store
 
 pub returns-in_err-add_sentence-clause-fault : goal.returns-in_err-add_sentence-clause-fault
 returns-in_err-add_sentence-clause-fault c =
@@ -12,7 +16,7 @@ returns-in_err-add_sentence-clause-fault c =
     let value = c.deref-sentence-items.ensures.value in
     let within : i < length s.list.items = subst (λ (xs : List Sentence). i < length xs) value c.loop-sentence-test.true in
     let is : item ≡ get_or s.list.items i item = c.sentence-item.is ∙ ap (λ (xs : List Sentence). get_or xs i item) value in
-    let p = err_from_is_err_and c.from_residual.result c.from_residual.ensures.1 in
+    let p = err_from_is_err_and c.from_residual-in_err-add_sentence.result c.from_residual-in_err-add_sentence.ensures.1 in
     rw (p.1, p.2) (refused_at_sentence s i item c.in_err-add_sentence.field-0.0 within is c.loop-sentence.invariant.accepted c.in_err-add_sentence.ensures.fault)
 
 pub loop-sentence-init : goal.loop-sentence-init
@@ -26,5 +30,8 @@ loop-sentence-preserved c =
     let value = c.deref-sentence-items.ensures.value in
     let within : i < length s.list.items = subst (λ (xs : List Sentence). i < length xs) value c.loop-sentence-test.true in
     let is : item ≡ get_or s.list.items i item = c.sentence-item.is ∙ ap (λ (xs : List Sentence). get_or xs i item) value in
-    let more = sentence_more s c.loop-sentence.parts c.add_sentence.new.self i item within is c.loop-sentence.invariant.accepted c.loop-sentence.invariant.stands c.in_ok-add_sentence.ensures.added in
-    record { accepted = more.0; stands = more.1 }
+    let added = c.in_ok-add_sentence.ensures.added in
+    record {
+      accepted = accepted_more s i item within is c.loop-sentence.invariant.accepted added.accepted;
+      stands = stands_more s c.loop-sentence.parts c.add_sentence.new.self i item within is c.loop-sentence.invariant.stands added;
+    }

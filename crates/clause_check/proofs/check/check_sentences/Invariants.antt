@@ -1,8 +1,7 @@
-use Rattle.std.proofs.Common.{◌≡◌, take, map, None}
+use Rattle.std.proofs.Common.{◌≡◌, take, None}
 use Rattle.fd_language.specs.declared.TheConstants.{INFINITY}
 use Rattle.fd_model.specs.Refusals.{first_refusal}
-use Rattle.term_pool.specs.PlacedTerms.{placed_of}
-use Rattle.clause_check.specs.Kept.{StandsFor}
+use Rattle.clause_check.specs.Parts.{StandsFor}
 use Rattle.clause_check.specs.Terms.{terms_of}
 use Rattle.clause_check.proofs.SentenceLists.{front}
 use Rattle.clause_check.proofs.check.check_sentences.Given as goal

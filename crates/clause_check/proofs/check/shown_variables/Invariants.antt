@@ -1,5 +1,5 @@
 use Rattle.std.proofs.Common.{take}
-use Rattle.clause_check.specs.Kept.{AreShown}
+use Rattle.clause_check.specs.Parts.{AreShown}
 use Rattle.clause_check.proofs.check.shown_variables.Given as goal
 
 abbrev pub invariant-loop-number : goal.invariant-loop-number

@@ -1,0 +1,79 @@
+-- The functors of the heads of a text, as a set.
+use Rattle.std.proofs.Common.{◌≡◌, ◌≢◌, ℕ, ◌<◌, ◌⊎◌, inl, inr, Bool, true, false, cond, List, [], ◌∷◌, ◌++◌, Option, Some, None, length, refl, sym, ap, ◌∙◌, arith}
+use Rattle.std.specs.Prelude.{◌==◌, ◌&&◌, ◌||◌}
+use Rattle.std.specs.List.{list_any}
+use Rattle.std.specs.Str.{bytes_eq}
+use Rattle.std.proofs.lemmas.Bool.{and_parts}
+use Rattle.std.proofs.lemmas.Bool.Decides.{eqb_tells, nat_tests}
+use Rattle.std.proofs.lemmas.Slice.Eq.{bytes_eq-Decides}
+use Rattle.std.proofs.lemmas.List.Folds.{list_any-append}
+use Rattle.fd_language.specs.PlacedTerm.{PlacedTerm}
+use Rattle.fd_model.specs.Refusals as refusals
+use Rattle.fd_model.specs.Refusals.{is_that, is_defined, head_in, form_of}
+use Rattle.term_pool.specs.declared.AtomId.{AtomId}
+use Rattle.term_pool.specs.Contents.{Contents, atom_name}
+use Rattle.term_pool.specs.Valid.{IsPool}
+use Rattle.term_pool.proofs.Names.{same_text}
+use Rattle.term_reader.proofs.Naming.{same_id}
+use Rattle.indexmap.specs.IndexSet.{insert_key}
+use Rattle.clause_check.specs.declared.terms.Functor.{Functor}
+use Rattle.clause_check.specs.Heads.{same_functor, AreHeadsOf}
+use Rattle.clause_check.specs.Terms.{functor_in, IsFunctor}
+
+same_names : (c : Contents) → IsPool c → (a b : AtomId) → a.number < length c.names → b.number < length c.names → (a.number == b.number) ≡ bytes_eq (atom_name c a) (atom_name c b)
+same_names c v a b h k = pick (eqb_tells a.number b.number)
+  where
+    differ : (t : Bool) → bytes_eq (atom_name c a) (atom_name c b) ≡ t → a.number ≢ b.number → false ≡ bytes_eq (atom_name c a) (atom_name c b)
+    differ true e n = absurd (n (ap (λ (x : AtomId). x.number) (v.distinct a b h k (same_text (atom_name c a) (atom_name c b) e))))
+    differ false e n = sym e
+
+    pick : ((a.number == b.number) ≡ true × (a.number ≡ b.number)) ⊎ ((a.number == b.number) ≡ false × (a.number ≢ b.number)) → (a.number == b.number) ≡ bytes_eq (atom_name c a) (atom_name c b)
+    pick (inl w) = w.0 ∙ sym ((bytes_eq-Decides (atom_name c a) (atom_name c b)).1 (ap (atom_name c) (same_id a b w.1)))
+    pick (inr w) = w.0 ∙ differ (bytes_eq (atom_name c a) (atom_name c b)) refl w.1
+
+-- two functors of a pool are the same where their names have one number
+same_in : (c : Contents) → IsPool c → (f g : Functor) → f.name.number < length c.names → g.name.number < length c.names → same_functor f g ≡ refusals.same_functor (functor_in c f) (functor_in c g)
+same_in c v f g h k = ap (λ (b : Bool). b && (f.arity == g.arity)) (same_names c v f.name g.name h k)
+
+equal : (f g : Functor) → same_functor f g ≡ true → f ≡ g
+equal f g e =
+    let names : f.name.number ≡ g.name.number = (let t = (and_parts (f.name.number == g.name.number) (f.arity == g.arity) e).0 in grind (arith, nat_tests)) in
+    let arities : f.arity ≡ g.arity = (let t = (and_parts (f.name.number == g.name.number) (f.arity == g.arity) e).1 in grind (arith, nat_tests)) in
+    ap (λ (a : AtomId). let made : Functor = record { name = a; arity = f.arity } in made) (same_id f.name g.name names) ∙ ap (λ (n : ℕ). let made : Functor = record { name = g.name; arity = n } in made) arities
+
+or_none : (b : Bool) → (b || false) ≡ b
+or_none true = refl
+or_none false = refl
+
+-- what is among them when one more is put to them
+any_insert : (heads : List Functor) (f g : Functor) → list_any (same_functor f) (insert_key same_functor heads g) ≡ (list_any (same_functor f) heads || same_functor f g)
+any_insert heads f g = pick (list_any (same_functor g) heads) refl
+  where
+    among : list_any (same_functor g) heads ≡ true → (b : Bool) → same_functor f g ≡ b → list_any (same_functor f) heads ≡ (list_any (same_functor f) heads || b)
+    among h true e = let t : list_any (same_functor f) heads ≡ true = ap (λ (x : Functor). list_any (same_functor x) heads) (equal f g e) ∙ h in t ∙ sym (ap (λ (b : Bool). b || true) t)
+    among h false e = sym (or_none (list_any (same_functor f) heads))
+
+    pick : (b : Bool) → list_any (same_functor g) heads ≡ b → list_any (same_functor f) (cond b heads (heads ++ g ∷ [])) ≡ (list_any (same_functor f) heads || same_functor f g)
+    pick true e = among e (same_functor f g) refl
+    pick false e = list_any-append (same_functor f) heads (g ∷ []) ∙ ap (λ (b : Bool). list_any (same_functor f) heads || b) (or_none (same_functor f g))
+
+-- one sentence more
+module _ (c : Contents) (terms : List PlacedTerm) (heads : List Functor) (x : PlacedTerm) (h : AreHeadsOf c terms heads) where
+  abbrev head : Option refusals.Functor
+  head = head_in (form_of x)
+
+  defined_more : (f : refusals.Functor) → is_defined (terms ++ x ∷ []) f ≡ (is_defined terms f || is_that f head)
+  defined_more f = list_any-append (λ t. is_that f (head_in (form_of t))) terms (x ∷ []) ∙ ap (λ (b : Bool). is_defined terms f || b) (or_none (is_that f head))
+
+  -- that has no head
+  pub heads_same : IsFunctor c head None → AreHeadsOf c (terms ++ x ∷ []) heads
+  heads_same e f l = h f l ∙ sym (defined_more (functor_in c f) ∙ ap (λ (o : Option refusals.Functor). is_defined terms (functor_in c f) || is_that (functor_in c f) o) e ∙ or_none (is_defined terms (functor_in c f)))
+
+  -- whose head has a functor
+  pub heads_more : IsPool c → (g : Functor) → IsFunctor c head (Some g) → AreHeadsOf c (terms ++ x ∷ []) (insert_key same_functor heads g)
+  heads_more v g e f l =
+      let own = functor_in c f in
+      any_insert heads f g
+      ∙ ap (λ (b : Bool). b || same_functor f g) (h f l)
+      ∙ ap (λ (b : Bool). is_defined terms own || b) (same_in c v f g l e.0)
+      ∙ sym (defined_more own ∙ ap (λ (o : Option refusals.Functor). is_defined terms own || is_that own o) e.1)

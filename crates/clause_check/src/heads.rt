@@ -1,0 +1,42 @@
+//! The functors that the heads of a text have.
+ghost use Rattle.std.specs.Prelude.{◌<◌, length, IfOk};
+ghost use Rattle.fd_model.specs.Refusals.{form_of, head_in};
+ghost use Rattle.term_pool.specs.PlacedTerms.{placed_of};
+ghost use Rattle.term_reader.specs.Sentences.{AreOwn};
+ghost use Rattle.clause_check.specs.Heads.{AreHeads};
+ghost use Rattle.clause_check.specs.Terms.{IsFunctor};
+
+use crate::terms::{Functor, SentenceForm, functor_of, sentence_form};
+use fd_language::NoMemory;
+use indexmap::IndexSet;
+use std::alloc::Global;
+use term_pool::{Pool, TermId};
+use term_reader::Sentences;
+
+/// The functor of the sentence's head.
+fn head_functor(pool: &Pool, t: TermId) -> Option<Functor>
+    requires { t.number < length pool.now.entries }
+    ensures { IsFunctor pool.now (head_in (form_of (placed_of pool.now t))) result }
+{
+    match sentence_form(pool, t) {
+        SentenceForm::Clause(head, _) | SentenceForm::Fact(head) => functor_of(pool, head),
+        SentenceForm::Query(_) | SentenceForm::Directive => None,
+    }
+}
+
+/// The functors of the heads of all sentences.
+pub(crate) fn collect_heads(
+    alloc: Global,
+    sentences: &Sentences,
+) -> Result<IndexSet<Functor>, NoMemory>
+    requires { AreOwn sentences.now }
+    ensures { IfOk result (λ heads. AreHeads sentences.now heads.keys) }
+{
+    let mut heads = IndexSet::new(alloc);
+    for sentence in &sentences.list {
+        if let Some(functor) = head_functor(&sentences.pool, sentence.term) {
+            heads.insert(functor)?;
+        }
+    }
+    Ok(heads)
+}
