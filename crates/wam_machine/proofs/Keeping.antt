@@ -1,95 +1,136 @@
--- What holds of a machine after each step.
-use Rattle.std.proofs.Common.{◌≡◌, ℕ, ◌+◌, ◌<◌, ◌≤◌, ◌^◌, Bool, true, false, cond, nat_eq, List, ◌∷◌, ◌++◌, length, Option, Some, None, IsTrue, ap, sym, ◌∙◌, subst, inl, inr, arith, length-append}
-use Rattle.fd_language.specs.declared.TheConstants.{INFINITY}
-use Rattle.fd_language.specs.Family.{has, IsRising}
-use Rattle.fd_language.specs.Range.{Range}
-use Rattle.fd_language.specs.RangeVerdict.{is_accepted}
-use Rattle.fd_language.proofs.Lemmas.{two}
-use Rattle.fd_model.specs.Closed.{constrained}
-use Rattle.fd_model.specs.Levels.{Levels}
-use Rattle.fd_model.specs.Run.{IsLimit}
-use Rattle.fd_model.proofs.Lemmas.{constrained_either}
-use Rattle.range_code.specs.Frames.{family_of, posted}
-use Rattle.range_code.specs.Slots.{slots_of, slot_needs}
-use Rattle.range_code.specs.declared.frame.Arg.{Arg}
-use Rattle.propagate_queue.specs.declared.instance.Instance.{Instance}
-use Rattle.propagate_queue.specs.declared.store.Posted.{Posted}
-use Rattle.propagate_queue.specs.declared.store.Posted.TheVariants as kept
-use Rattle.propagate_queue.specs.Instances.{posting, posted_by, IsInstance}
-use Rattle.propagate_queue.specs.Running.{AreDomains}
-use Rattle.propagate_queue.specs.Stored.{IsPosted}
-use Rattle.std.specs.Prelude.{All, map}
-use Rattle.clause_check.specs.Programs.{query_at, range_at}
-use Rattle.wam_machine.specs.declared.post.Fixed.{Fixed}
-use Rattle.std.specs.Option.{option_eq}
-use Rattle.wam_machine.specs.declared.stage.Ending.TheVariants as ending
-use Rattle.wam_machine.specs.declared.stage.Stage.TheVariants.{Returning, Ended}
-use Rattle.wam_machine.specs.Cells.{number_at, AreBelow, AreApart}
-use Rattle.wam_machine.specs.Naming.{first_fault, number_posts, postings, named_cells, IsReady}
-use Rattle.wam_machine.specs.States.{State, IsMachine, IsStage, IsSame, after_post, behind_answer}
-use Rattle.wam_machine.proofs.Instances.{posted_list, goal_instances, goal_names}
+-- A choice point more, and the continuation behind a goal.
+use Rattle.std.proofs.Common.{◌≡◌, ℕ, suc, ◌+◌, ◌≤◌, List, [], ◌∷◌, ◌++◌, length, take, reverse, Option, refl, ap, sym, ◌∙◌, subst, arith, inl, inr, append-nil, length-append}
+use Rattle.std.proofs.lemmas.List.{length-map, reverse-append, map-append}
+use Rattle.std.proofs.Math.Seq.{get_or-append_seam}
+use Rattle.fd_language.specs.Term.{Substitution}
+use Rattle.fd_model.specs.Goal.{Goal}
+use Rattle.heap_cells.specs.declared.Cell.{Cell}
+use Rattle.heap_cells.specs.Cells.{Cells}
+use Rattle.heap_cells.specs.Terms.{Naming}
+use Rattle.machine_frames.specs.Arena.{Continuation, continuation_at, nothing, activation_of, activations, IsArena, with_levels}
+use Rattle.machine_frames.specs.Environments.{Continues}
+use Rattle.machine_frames.proofs.Arena.{activations_next, arena_push}
+use Rattle.machine_frames.proofs.Continuing.{continues_none}
+use Rattle.clause_check.specs.Programs.{FlatProgram, goals_between}
+use Rattle.clause_check.proofs.Lemmas.{between_none}
+use Rattle.branch_state.specs.States.{State, with_pair}
+use Rattle.wam_machine.specs.declared.control.Segment.{Segment}
+use Rattle.wam_machine.specs.declared.control.Link.{Link}
+use Rattle.wam_machine.specs.declared.control.Alternative.{Alternative}
+use Rattle.wam_machine.specs.declared.control.ChoicePoint.{ChoicePoint}
+use Rattle.wam_machine.specs.Controls.{Vectors, activation, alternative, alternatives, at_work, from_link, link_of, links_of, segment_of, choices_of, query_of, ranges_below, all_left, left_of, waiting_left, Holds, IsSegment, IsAlternative, IsKept, AreWaiting}
+use Rattle.wam_machine.specs.Steps.{ContinuesWith}
+use Rattle.std.proofs.lemmas.List.Elements.{All-append}
+use Rattle.wam_machine.proofs.Building.{all_one}
+use Rattle.wam_machine.proofs.Prefixes.{IsSameFor, alternatives_same, from_longer, same_for_longer, waiting_same}
 
--- the stage alone changes, and numbers that stay within
-pub same_machine : (old new : State) → IsMachine old → IsSame old new → new.links ≡ old.links → new.store ≡ old.store → new.spent + new.budget < 2 ^ 64 → IsStage new new.stage → IsMachine new
-same_machine old new m same l s steps stage = record {
-  query = subst (λ q. q < length new.program.queries) (sym same.1) (subst (λ p. old.query < length p.queries) (sym same.0) m.query);
-  stage = stage;
-  cells = subst (λ xs. (query_at new.program new.query).variables ≤ length xs) (sym l) (subst (λ n. n ≤ length old.links) (two (λ p q. (query_at p q).variables) (sym same.0) (sym same.1)) m.cells);
-  below = subst (λ t. AreBelow (length t.current.sets) new.links) (sym s) (subst (AreBelow (length old.store.current.sets)) (sym l) m.below);
-  apart = subst AreApart (sym l) m.apart;
-  posted = subst (λ (t : Levels). (k : ℕ) → has (constrained t.current.posted) k ≡ true → k < length t.current.sets) (sym s) m.posted;
-  unspent = ap (λ t. t.spent) s ∙ m.unspent;
-  steps = steps;
-}
+pub take_all : {X : Type 0} (xs : List X) → take (length xs) xs ≡ xs
+take_all [] = refl
+take_all (x ∷ xs) = ap (λ l. x ∷ l) (take_all xs)
 
-module _ (old : State) (m : IsMachine old) (level : AreDomains old.store.current.posted old.store.current.sets) (v n : ℕ) (accepted : IsTrue (is_accepted INFINITY (range_at old.program n)))
-    (no_fault : first_fault (number_at old.store.current.sets old.links) (slots_of (range_at old.program n)) (slot_needs (range_at old.program n)) ≡ None) (L : List (Option ℕ)) (S : List (List ℕ)) (N : List Fixed) (k : ℕ) (as' : List Arg)
-    (ready : IsReady old.links old.store.current.sets v (slots_of (range_at old.program n)) (slot_needs (range_at old.program n)) L S N k as') where
-  abbrev r : Range
-  r = range_at old.program n
+abbrev pub point : Vectors → Alternative → ChoicePoint
+point v a = record { alternative = a; slots = length v.slots; links = length v.links; args = length v.args }
 
-  target_low : k < length S
-  target_low = ready.naming.below _ k ready.target_link
+abbrev pub with_point : Vectors → Alternative → Vectors
+with_point v a = record v { choices = v.choices ++ point v a ∷ [] }
 
-  rising : (x : ℕ) → IsRising 0 INFINITY (family_of old.store.current.sets x)
-  rising = level.family.rising
+whole : {D : Type 0} (f : List (Option Cell) → List Link → List Cell → D) (v : Vectors) → f (take (length v.slots) v.slots) (take (length v.links) v.links) (take (length v.args) v.args) ≡ f v.slots v.links v.args
+whole f v = ap (λ x. f x (take (length v.links) v.links) (take (length v.args) v.args)) (take_all v.slots) ∙ ap (λ x. f v.slots x (take (length v.args) v.args)) (take_all v.links) ∙ ap (λ x. f v.slots v.links x) (take_all v.args)
 
-  -- the list may be posted
-  pub list_fits : (is : List Instance) → map posting is ≡ postings r k as' N → All (IsInstance (length S)) is
-  list_fits is e = goal_instances old.store.current.sets old.links L rising (length S) ready.naming.below (v ∷ named_cells v (slots_of r) (slot_needs r)) r as' k target_low ready.stand no_fault _ _ N ready.naming.fixed is e
+module _ (p : FlatProgram) (s : State) (v : Vectors) (a : Alternative) where
+  newest : reverse (v.choices ++ point v a ∷ []) ≡ point v a ∷ reverse v.choices
+  newest = reverse-append v.choices (point v a ∷ [])
 
-  pub list_posts : (is : List Instance) → map posting is ≡ postings r k as' N → posted_by is ≡ record { target = k; range = posted r as' } ∷ number_posts N
-  list_posts is e = posted_list is r k as' N e
+  pub point_choices : choices_of p (with_pair s) (with_point v a) ≡ record { left = alternative p v.slots v.links v.args a; heap = s.heaps.now; store = s.levels.current.posted } ∷ choices_of p s v
+  point_choices =
+      ap (λ cs. with_levels (alternatives p cs v.slots v.links v.args) (s.heaps.now ∷ s.heaps.below) (s.levels.current.posted ∷ ranges_below s)) newest
+      ∙ whole (λ sl l ar. with_levels (alternative p sl l ar a ∷ alternatives p (reverse v.choices) sl l ar) (s.heaps.now ∷ s.heaps.below) (s.levels.current.posted ∷ ranges_below s)) v
 
-  longer : length old.store.current.sets ≤ length S
-  longer = let g = ready.naming.grown in let a = ap length g.1 in let b = length-append old.store.current.sets g.0 in omega (arith, a, b)
+  pub point_left : waiting_left p (with_point v a) ≡ left_of p a + waiting_left p v
+  point_left = ap (all_left p) newest
 
-  stage_of : (new : State) (taken : ℕ) → taken < length (query_at old.program old.query).goals → IsSame old new → IsLimit new.limit → (z : Posted) → IsPosted z new.store.current → IsStage new (after_post taken z)
-  stage_of new taken l same k kept.Kept d = (subst (λ i. taken + 1 ≤ i) (two (λ p q. length (query_at p q).goals) (sym same.0) (sym same.1)) (omega (arith, l)), d.0, k)
-  stage_of new taken l same k kept.Failed d = tt
+  pub point_kept : IsKept p s v → Holds p (query_of p v).variables s.heaps.now v.slots v.links v.args → IsAlternative p s.heaps.now v.slots v.links v.args a → IsKept p (with_pair s) (with_point v a)
+  point_kept k h i = record {
+    atoms = k.atoms;
+    query = k.query;
+    marks = (let m = k.marks in let l = length-append v.choices (point v a ∷ []) in omega (arith, m, l));
+    waiting = subst (λ cs. AreWaiting p (query_of p v).variables cs (s.heaps.now ∷ s.heaps.below) v.slots v.links v.args) (sym newest) (
+      record {
+        slots_there = omega arith;
+        links_there = omega arith;
+        args_there = omega arith;
+        holds = back_to (λ sl l ar. Holds p (query_of p v).variables s.heaps.now sl l ar) h;
+        left = back_to (λ sl l ar. IsAlternative p s.heaps.now sl l ar a) i;
+      },
+      back_to (λ sl l ar. AreWaiting p (query_of p v).variables (reverse v.choices) s.heaps.below sl l ar) k.waiting,
+    );
+  } where
+    back_to : (P : List (Option Cell) → List Link → List Cell → Type 0) → P v.slots v.links v.args → P (take (length v.slots) v.slots) (take (length v.links) v.links) (take (length v.args) v.args)
+    back_to P x = subst (λ l. P l (take (length v.links) v.links) (take (length v.args) v.args)) (sym (take_all v.slots)) (subst (λ l. P v.slots l (take (length v.args) v.args)) (sym (take_all v.links)) (subst (λ l. P v.slots v.links l) (sym (take_all v.args)) x))
 
-  -- and what holds of the machine afterwards
-  pub taken_machine : (new : State) → IsSame old new → new.links ≡ L → new.store.current.posted ≡ old.store.current.posted ++ (record { target = k; range = posted r as' } ∷ number_posts N) → length new.store.current.sets ≡ length S → new.store.spent ≡ false → IsLimit new.limit → new.spent + new.budget < 2 ^ 64
-      → (taken : ℕ) → taken < length (query_at old.program old.query).goals → (z : Posted) → IsPosted z new.store.current → new.stage ≡ after_post taken z → IsMachine new
-  taken_machine new same l ps size sp limit steps taken low z d st = record {
-    query = subst (λ q. q < length new.program.queries) (sym same.1) (subst (λ p. old.query < length p.queries) (sym same.0) m.query);
-    stage = subst (IsStage new) (sym st) (stage_of new taken low same limit z d);
-    cells =
-        let a : (query_at new.program new.query).variables ≡ (query_at old.program old.query).variables = two (λ p q. (query_at p q).variables) same.0 same.1 in
-        let b = ap length l in let c = ready.naming.cells in let e = m.cells in omega (arith, a, b, c, e);
-    below = subst (λ c. AreBelow c new.links) (sym size) (subst (AreBelow (length S)) (sym l) ready.naming.below);
-    apart = subst AreApart (sym l) ready.naming.apart;
-    posted = λ j h. elim (constrained_either old.store.current.posted (record { target = k; range = posted r as' } ∷ number_posts N) j (subst (λ qs. has (constrained qs) j ≡ true) ps h)) [
-      | inl a ↦ (let b = m.posted j a in omega (arith, b, longer, size))
-      | inr a ↦ (let b = goal_names old.store.current.sets old.links L rising (length S) ready.naming.below (v ∷ named_cells v (slots_of r) (slot_needs r)) r as' k target_low ready.stand no_fault _ _ N ready.naming.fixed accepted j a in omega (arith, b, size))
-    ];
-    unspent = sp;
-    steps = steps;
+-- the continuation behind goals, which stand with their environment
+module _ (p : FlatProgram) (slots : List (Option Cell)) (links : List Link) (at : Segment) (rest : ℕ) (arena : IsArena (links_of links) (length slots) (length links)) (room : at.environment + at.variables ≤ length slots) (low : rest ≤ length links) where
+  abbrev one : List Link
+  one = record { segment = at; rest = rest } ∷ []
+
+  counted : length (links_of links) ≡ length links
+  counted = length-map links link_of
+
+  pushed : IsArena (links_of (links ++ one)) (length slots) (suc (length links))
+  pushed = subst (λ l. IsArena l (length slots) (suc (length links))) (sym (map-append link_of links one)) (subst (λ n. IsArena (links_of links ++ links_of one) (length slots) (suc n)) counted
+      (arena_push (links_of links) (length slots) (link_of (record { segment = at; rest = rest })) (subst (IsArena (links_of links) (length slots)) (sym counted) arena) room (subst (λ n. rest ≤ n) (sym counted) low)))
+
+  pub pushed_from : from_link p slots (links ++ one) (suc (length links)) ≡ at_work p slots links at rest
+  pushed_from =
+      let here : continuation_at (links_of (links ++ one)) (length links) ≡ link_of (record { segment = at; rest = rest }) =
+      ap (λ l. continuation_at l (length links)) (map-append link_of links one) ∙ ap (continuation_at (links_of links ++ links_of one)) (sym counted) ∙ get_or-append_seam (links_of links) (link_of (record { segment = at; rest = rest })) [] nothing in
+      activations_next (goals_between p) slots (links_of (links ++ one)) (length slots) (suc (length links)) pushed (length links) (omega arith)
+      ∙ ap (λ (c : Continuation). activation_of (goals_between p) slots c.segment ∷ activations (goals_between p) slots (links_of (links ++ one)) c.rest) here
+      ∙ ap (λ l. activation p slots at ∷ l) (sym (subst (λ sl. from_link p slots links rest ≡ from_link p sl (links ++ one) rest) (append-nil slots) (from_longer p slots [] links one rest arena low)))
+
+  -- what continues with the segment in front continues with that continuation
+  pub cut : (links' : List Link) (k : ℕ) → ContinuesWith links at rest links' k → (name : Naming) (h : Cells) (n : ℕ) (look : Substitution) (all : List Goal) → Continues name h n look (at_work p slots links at rest) all → Continues name h n look (from_link p slots links' k) all
+  cut links' k (inl e) name h n look all w =
+      let empty : goals_between p at.next at.end ≡ [] = between_none p at.next at.end e.0 in
+      let w' = subst (λ gs. Continues name h n look (record { goals = gs; env = Rattle.machine_frames.specs.Arena.env_of slots (segment_of at) } ∷ from_link p slots links rest) all) empty w in
+      subst (λ l. Continues name h n look (from_link p slots l k) all) (sym e.1) (subst (λ j. Continues name h n look (from_link p slots links j) all) (sym e.2)
+      (continues_none name h n look (Rattle.machine_frames.specs.Arena.env_of slots (segment_of at)) (from_link p slots links rest) all w'))
+  cut links' k (inr e) name h n look all w = subst (λ l. Continues name h n look (from_link p slots l k) all) (sym e.0) (subst (λ j. Continues name h n look (from_link p slots (links ++ one) j) all) (sym e.1) (subst (λ as'. Continues name h n look as' all) (sym pushed_from) w))
+
+  -- and it is there
+  pub cut_low : (links' : List Link) (k : ℕ) → ContinuesWith links at rest links' k → (k ≤ length links') × ((more : List Link) × (links' ≡ links ++ more))
+  cut_low links' k (inl e) = ((let l = ap length e.1 in let r = e.2 in omega (arith, l, r, low)), ([], e.1 ∙ sym (append-nil links)))
+  cut_low links' k (inr e) = ((let l = ap length e.0 in let r = e.1 in let m = length-append links one in omega (arith, l, r, m)), (one, e.0))
+
+  -- the vectors with it
+  pub holds_more : (v : ℕ) (h : Cells) (args : List Cell) (links' : List Link) (k : ℕ) → IsSegment p (length slots) at → ContinuesWith links at rest links' k → Holds p v h slots links args → Holds p v h slots links' args
+  holds_more v h args links' k seg (inl e) o = subst (λ l. Holds p v h slots l args) (sym e.1) o
+  holds_more v h args links' k seg (inr e) o = subst (λ l. Holds p v h slots l args) (sym e.0) (record {
+    slots_own = o.slots_own;
+    args_own = o.args_own;
+    arena = subst (IsArena (links_of (links ++ one)) (length slots)) (let l = length-append links one in omega (arith, l)) pushed;
+    segments = All-append (λ (l : Link). IsSegment p (length slots) l.segment) links one o.segments (all_one (λ (l : Link). IsSegment p (length slots) l.segment) (record { segment = at; rest = rest }) seg);
+    query = o.query;
+  })
+
+module _ (p : FlatProgram) (s : State) (v : Vectors) (more : List Link) where
+  abbrev longer : Vectors
+  longer = record v { links = v.links ++ more }
+
+  pub longer_choices : AreWaiting p (query_of p v).variables (reverse v.choices) s.heaps.below v.slots v.links v.args → choices_of p s longer ≡ choices_of p s v
+  longer_choices w =
+      ap (λ as'. with_levels as' s.heaps.below (ranges_below s)) (sym (alternatives_same p (reverse v.choices) v.slots v.links v.args v.slots (v.links ++ more) v.args (same w)))
+    where
+      same : AreWaiting p (query_of p v).variables (reverse v.choices) s.heaps.below v.slots v.links v.args → IsSameFor (reverse v.choices) v.slots v.links v.args v.slots (v.links ++ more) v.args
+      same w = subst (λ sl. IsSameFor (reverse v.choices) v.slots v.links v.args sl (v.links ++ more) v.args) (append-nil v.slots) (subst (λ ar. IsSameFor (reverse v.choices) v.slots v.links v.args (v.slots ++ []) (v.links ++ more) ar) (append-nil v.args)
+          (same_for_longer p (query_of p v).variables (reverse v.choices) s.heaps.below v.slots v.links v.args [] more [] w))
+
+  pub longer_kept : IsKept p s v → IsKept p s longer
+  longer_kept k = record {
+    atoms = k.atoms;
+    query = k.query;
+    marks = k.marks;
+    waiting = waiting_same p (query_of p v).variables (reverse v.choices) s.heaps.below v.slots v.links v.args v.slots (v.links ++ more) v.args
+        (subst (λ sl. IsSameFor (reverse v.choices) v.slots v.links v.args sl (v.links ++ more) v.args) (append-nil v.slots) (subst (λ ar. IsSameFor (reverse v.choices) v.slots v.links v.args (v.slots ++ []) (v.links ++ more) ar) (append-nil v.args)
+        (same_for_longer p (query_of p v).variables (reverse v.choices) s.heaps.below v.slots v.links v.args [] more [] k.waiting))) k.waiting;
   }
-
--- after an answer no goal is taken
-pub behind_stage : (s : State) (k : Option ℕ) → IsStage s (behind_answer k)
-behind_stage s k = by_test (option_eq nat_eq k (Some 1)) where
-  by_test : (b : Bool) → IsStage s (cond b (Ended ending.Limit) Returning)
-  by_test true = tt
-  by_test false = tt

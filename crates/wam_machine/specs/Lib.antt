@@ -1,6 +1,11 @@
-pub mod Cells
-pub mod Naming
-pub mod Events
 pub mod ProgramCodes
-pub mod Codes
+pub mod Calls
+pub mod Compiled
+pub mod Groups
+pub mod Keys
+pub mod Controls
+pub mod Steps
+pub mod FoundGoals
+pub mod Heads
 pub mod States
+pub mod Walkers

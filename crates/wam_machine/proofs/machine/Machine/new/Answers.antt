@@ -1,29 +1,24 @@
-use Rattle.std.proofs.Common.{rules, ◌≡◌, ◌<◌, ◌+◌, ◌^◌, false, length, replicate, sym, ap, subst, ◌∙◌, refl, arith, None}
-use Rattle.fd_model.specs.Levels.{Levels}
-use Rattle.clause_check.specs.Programs.{FlatProgram, query_at, IsProgram}
-use Rattle.wam_machine.specs.declared.stage.Stage.TheVariants.{Walking}
-use Rattle.wam_machine.specs.States.{State}
-use Rattle.wam_machine.proofs.Beginning.{begins, begins_well}
+use Rattle.std.proofs.Common.{◌<◌, ◌∷◌, ℕ, List, [], false, length, refl, subst, sym}
+use Rattle.fd_language.specs.declared.TheConstants.{INFINITY}
+use Rattle.fd_model.specs.Goal.{Event, start_of}
+use Rattle.fd_model.specs.Run.{Run}
+use Rattle.clause_check.specs.Programs.{FlatProgram, program_in}
+use Rattle.wam_machine.specs.States.{State, state_of, query_of, IsMachine, StandsFor}
 use Rattle.wam_machine.proofs.machine.Machine.new.Goals as goal
 
-pub variables-count-requires : goal.variables-count-requires
-variables-count-requires g c =
-    subst (λ (p : FlatProgram). c.args.query < length p.queries) (sym (c.program-program.ensures ∙ c.deref.ensures)) c.requires.query
+pub start-requires-clause-query : goal.start-requires-clause-query
+start-requires-clause-query g c = subst (λ (p : FlatProgram). c.args.query < length p.queries) (sym c.deref.ensures) c.requires.query
 
 pub invariant_of-result : goal.invariant_of-result
 invariant_of-result g c =
-    let s : State = record { program = c.args.code.value; query = c.args.query; stage = Walking 0; links = c.in_ok-links.links.items; store = c.new.result; budget = c.args.limits.steps; limit = c.args.limits.answers; spent = 0; lost = false } in
-    let count : c.variables-count.result ≡ (query_at s.program s.query).variables = c.variables-count.ensures ∙ ap (λ (p : FlatProgram). (query_at p c.args.query).variables) (c.program-program.ensures ∙ c.deref.ensures) in
-    let links : s.links ≡ replicate (query_at s.program s.query).variables None = c.in_ok-links.ensures.items_if_clones_equal (λ y h. search rules) ∙ ap (λ n. replicate n None) count in
-    λ h. begins_well s c.requires.query refl links c.new.ensures c.requires.answers (let a : 0 + c.args.limits.steps < 2 ^ 64 = omega arith in a)
+    let w = c.in_ok-walker.walker in
+    λ h. subst (λ (p : FlatProgram). IsMachine (state_of p w.branch w.control w.budget w.limit w.spent false)) c.deref.ensures c.in_ok-walker.ensures.machine
 
 pub returns-clause-program : goal.returns-clause-program
-returns-clause-program g c = (refl, refl)
+returns-clause-program g c = (refl, c.in_ok-walker.ensures.query)
 
 pub returns-clause-stands : goal.returns-clause-stands
 returns-clause-stands g c =
-    let s : State = record { program = c.args.code.value; query = c.args.query; stage = Walking 0; links = c.in_ok-links.links.items; store = c.new.result; budget = c.args.limits.steps; limit = c.args.limits.answers; spent = 0; lost = false } in
-    let count : c.variables-count.result ≡ (query_at s.program s.query).variables = c.variables-count.ensures ∙ ap (λ (p : FlatProgram). (query_at p c.args.query).variables) (c.program-program.ensures ∙ c.deref.ensures) in
-    let links : s.links ≡ replicate (query_at s.program s.query).variables None = c.in_ok-links.ensures.items_if_clones_equal (λ y h. search rules) ∙ ap (λ n. replicate n None) count in
-    let known : IsProgram s.program = subst IsProgram (c.program-program.ensures ∙ c.deref.ensures) c.known.ensures in
-    λ es r run. begins s known c.requires.query refl links (ap (λ (t : Levels). t.current.posted) c.new.ensures) refl es r run
+    let w = c.in_ok-walker.walker in
+    let at : FlatProgram → State = λ p. state_of p w.branch w.control w.budget w.limit w.spent false in
+    subst (λ (p : FlatProgram). (es : List Event) (r : ℕ) → Run INFINITY (program_in p) (query_of (at p)) c.args.limits.steps c.args.limits.answers (start_of (query_of (at p)) ∷ []) es r → StandsFor (at p) es r) c.deref.ensures c.in_ok-walker.ensures.stands

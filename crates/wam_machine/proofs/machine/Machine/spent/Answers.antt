@@ -1,6 +1,6 @@
-use Rattle.std.proofs.Common.{subst, ap, sym, ◌∙◌}
+use Rattle.std.proofs.Common.{ap, sym, ◌∙◌}
 use Rattle.wam_machine.specs.States.{State}
-use Rattle.wam_machine.proofs.Saying.{total_spent}
+use Rattle.wam_machine.proofs.Running.{total_spent}
 use Rattle.wam_machine.proofs.machine.Machine.spent.Goals as goal
 
 pub returns-clause-whole : goal.returns-clause-whole

@@ -1,0 +1,80 @@
+use Rattle.std.proofs.Common.{◌+◌, ◌-◌, List, Option, length, refl, sym, ap, subst, ◌∙◌, arith}
+use Rattle.fd_model.specs.Sound.{GoalBelow}
+use Rattle.heap_cells.specs.declared.Cell.{Cell}
+use Rattle.fd_language.specs.Variables.{TermBelow}
+use Rattle.term_pool.specs.Contents.{Contents}
+use Rattle.term_pool.specs.Terms.{term_of as pool_term}
+use Rattle.branch_state.specs.Constraints.{Constrains}
+use Rattle.branch_state.specs.Ranges.{IsFull}
+use Rattle.branch_state.specs.States.{AreCells}
+use Rattle.machine_frames.specs.Arena.{env_of}
+use Rattle.clause_check.specs.Programs.{FlatProgram, IsProgram}
+use Rattle.wam_machine.specs.Controls.{segment_of, vectors}
+use Rattle.wam_machine.specs.Steps.{IsCellOf}
+use Rattle.wam_machine.proofs.ConstrainedGoals.{constraint_fault, constraint_kept, constraint_failed}
+use Rattle.wam_machine.proofs.Taking.{env_full, env_cells, env_size, front_below}
+use Rattle.wam_machine.proofs.Vectors.{part_is, put_back, two_at}
+use Rattle.wam_machine.proofs.goals.take_constraint.Goals as goal
+
+pub cell_of-requires-clause-vars : goal.cell_of-requires-clause-vars
+cell_of-requires-clause-vars g c =
+    let b = front_below c.args.code.now c.args.branch.now (vectors c.args.control.now) c.args.at.0 c.args.at.1 c.requires.at c.requires.front in
+    let low = subst (GoalBelow c.args.at.0.variables) c.requires.goal b.0 in
+    let size = ap length (part_is c.deref_mut.result.now c.args.control.now.slots.items c.args.at.0 c.deref_mut.ensures.value) ∙ env_size c.args.code.now c.args.branch.now (vectors c.args.control.now) c.args.at.0 c.args.at.1 c.requires.at in
+    let pool = c.pool-pool.ensures ∙ ap (λ (x : FlatProgram). x.pool) c.program-2.ensures in
+    two_at (λ n (x : Contents). TermBelow n (pool_term x c.args.goal.1)) (sym size) (sym pool) low
+
+pub cell_of-requires-clause-full : goal.cell_of-requires-clause-full
+cell_of-requires-clause-full g c = subst IsFull (sym (part_is c.deref_mut.result.now c.args.control.now.slots.items c.args.at.0 c.deref_mut.ensures.value)) (env_full c.args.code.now c.args.branch.now (vectors c.args.control.now) c.args.at.0 c.args.at.1 c.requires.at)
+
+pub cell_of-requires-clause-cells : goal.cell_of-requires-clause-cells
+cell_of-requires-clause-cells g c = subst (AreCells c.args.branch.now) (sym (part_is c.deref_mut.result.now c.args.control.now.slots.items c.args.at.0 c.deref_mut.ensures.value)) (env_cells c.args.code.now c.args.branch.now (vectors c.args.control.now) c.args.at.0 c.args.at.1 c.requires.at)
+
+pub returns-in-Kept : goal.returns-in-Kept
+returns-in-Kept g c =
+    let p = c.args.code.now in
+    let ctl = c.args.control.now in
+    let at = c.args.at.0 in
+    let part = part_is c.deref_mut.result.now ctl.slots.items at c.deref_mut.ensures.value in
+    let pool = c.pool-pool.ensures ∙ ap (λ (x : FlatProgram). x.pool) c.program-2.ensures in
+    let env = env_of ctl.slots.items (segment_of at) in
+    let one : IsCellOf p.pool.names c.args.branch.now c.cell_of.new.branch env (pool_term p.pool c.args.goal.1) c.in_ok-cell.cell =
+    two_at (λ (x : Contents) (y : List (Option Cell)). IsCellOf x.names c.args.branch.now c.cell_of.new.branch y (pool_term x c.args.goal.1) c.in_ok-cell.cell) pool part c.in_ok-cell.ensures.cell in
+    let done : Constrains p.pool.names c.cell_of.new.branch c.args.goal.0 c.in_ok-cell.cell c.constrain.new.self c.in_ok-constrain.field-0 =
+    subst (λ (x : Contents). Constrains x.names c.cell_of.new.branch c.args.goal.0 c.in_ok-cell.cell c.constrain.new.self c.in_ok-constrain.field-0) pool c.in_ok-constrain.ensures.step in
+    let back = put_back ctl.slots c.deref_mut.result.now c.cell_of.new.env at.environment (at.environment + at.variables - at.environment) c.deref_mut.ensures.value (let room = c.requires.at.segment.room in let e = ap length c.deref_mut.ensures.value in omega (arith, room, e)) c.in_ok-cell.ensures.env in
+    constraint_kept p (subst IsProgram c.program.ensures c.known.ensures) c.args.branch.now ctl at c.args.at.1 c.requires.at c.requires.front c.args.goal.0 (pool_term p.pool c.args.goal.1) c.requires.goal c.cell_of.new.branch c.in_ok-cell.cell one c.constrain.new.self _ (ap (λ l. record (vectors ctl) { slots = l }) back) c.in_ok-constrain.ensures.same c.stage_after-control.ensures
+    (subst (Constrains p.pool.names c.cell_of.new.branch c.args.goal.0 c.in_ok-cell.cell c.constrain.new.self) c.in-Kept.is done)
+
+pub returns-in-Failed : goal.returns-in-Failed
+returns-in-Failed g c =
+    let p = c.args.code.now in
+    let ctl = c.args.control.now in
+    let at = c.args.at.0 in
+    let part = part_is c.deref_mut.result.now ctl.slots.items at c.deref_mut.ensures.value in
+    let pool = c.pool-pool.ensures ∙ ap (λ (x : FlatProgram). x.pool) c.program-2.ensures in
+    let env = env_of ctl.slots.items (segment_of at) in
+    let one : IsCellOf p.pool.names c.args.branch.now c.cell_of.new.branch env (pool_term p.pool c.args.goal.1) c.in_ok-cell.cell =
+    two_at (λ (x : Contents) (y : List (Option Cell)). IsCellOf x.names c.args.branch.now c.cell_of.new.branch y (pool_term x c.args.goal.1) c.in_ok-cell.cell) pool part c.in_ok-cell.ensures.cell in
+    let done : Constrains p.pool.names c.cell_of.new.branch c.args.goal.0 c.in_ok-cell.cell c.constrain.new.self c.in_ok-constrain.field-0 =
+    subst (λ (x : Contents). Constrains x.names c.cell_of.new.branch c.args.goal.0 c.in_ok-cell.cell c.constrain.new.self c.in_ok-constrain.field-0) pool c.in_ok-constrain.ensures.step in
+    let back = put_back ctl.slots c.deref_mut.result.now c.cell_of.new.env at.environment (at.environment + at.variables - at.environment) c.deref_mut.ensures.value (let room = c.requires.at.segment.room in let e = ap length c.deref_mut.ensures.value in omega (arith, room, e)) c.in_ok-cell.ensures.env in
+    constraint_failed p (subst IsProgram c.program.ensures c.known.ensures) c.args.branch.now ctl at c.args.at.1 c.requires.at c.requires.front c.args.goal.0 (pool_term p.pool c.args.goal.1) c.requires.goal c.cell_of.new.branch c.in_ok-cell.cell one c.constrain.new.self _ (ap (λ l. record (vectors ctl) { slots = l }) back) c.in_ok-constrain.ensures.same c.stage_after-control-in-Failed.ensures
+    (subst (Constrains p.pool.names c.cell_of.new.branch c.args.goal.0 c.in_ok-cell.cell c.constrain.new.self) c.in-Failed.is done)
+
+pub returns-in-Fault : goal.returns-in-Fault
+returns-in-Fault g c =
+    let p = c.args.code.now in
+    let ctl = c.args.control.now in
+    let at = c.args.at.0 in
+    let part = part_is c.deref_mut.result.now ctl.slots.items at c.deref_mut.ensures.value in
+    let pool = c.pool-pool.ensures ∙ ap (λ (x : FlatProgram). x.pool) c.program-2.ensures in
+    let env = env_of ctl.slots.items (segment_of at) in
+    let one : IsCellOf p.pool.names c.args.branch.now c.cell_of.new.branch env (pool_term p.pool c.args.goal.1) c.in_ok-cell.cell =
+    two_at (λ (x : Contents) (y : List (Option Cell)). IsCellOf x.names c.args.branch.now c.cell_of.new.branch y (pool_term x c.args.goal.1) c.in_ok-cell.cell) pool part c.in_ok-cell.ensures.cell in
+    let done : Constrains p.pool.names c.cell_of.new.branch c.args.goal.0 c.in_ok-cell.cell c.constrain.new.self c.in_ok-constrain.field-0 =
+    subst (λ (x : Contents). Constrains x.names c.cell_of.new.branch c.args.goal.0 c.in_ok-cell.cell c.constrain.new.self c.in_ok-constrain.field-0) pool c.in_ok-constrain.ensures.step in (
+      constraint_fault p (subst IsProgram c.program.ensures c.known.ensures) c.args.branch.now ctl at c.args.at.1 c.requires.at c.requires.front c.args.goal.0 (pool_term p.pool c.args.goal.1) c.requires.goal c.cell_of.new.branch c.in_ok-cell.cell one c.constrain.new.self c.in-Fault.fault
+          (subst (Constrains p.pool.names c.cell_of.new.branch c.args.goal.0 c.in_ok-cell.cell c.constrain.new.self) c.in-Fault.is done),
+      refl,
+    )
