@@ -1,14 +1,14 @@
 -- Texts joined one after another.
 use Rattle.std.proofs.Common.{◌≡◌, ℕ, zero, suc, ◌+◌, ◌<◌, List, [], ◌∷◌, ◌++◌, refl, ap, sym, ◌∙◌, arith, append_assoc, length, map, take, slice_index_or, codes}
-use Rattle.std.proofs.lemmas.List.{length-take-le, length-map, take_more, map_more}
-use Rattle.fd_language.specs.Term.{Name}
-use Rattle.fd_model.specs.Lines.{joined, interval_text, intervals, domain_text}
+use Rattle.std.proofs.lemmas.List.{length-take-le, length-map, map_more}
+use Rattle.fd_language.specs.Term.{Name, Term}
+use Rattle.fd_language.specs.Writing.{Quoted, term_text}
+use Rattle.fd_model.specs.Lines.{joined, interval_text, intervals, domain_text, equals_text}
 use Rattle.domain_ranges.specs.Spans.{IsSpans, members}
 use Rattle.term_pool.specs.declared.AtomId.{AtomId}
-use Rattle.wam_machine.specs.declared.events.ShownTerm.{ShownTerm}
-use Rattle.wam_machine.specs.Events.{entries, entry_text}
+use Rattle.term_pool.specs.declared.TermId.{TermId}
 use Rattle.answer_text.specs.Pieces.{separator_at, spans_text, interval_of_span}
-use Rattle.answer_text.proofs.Intervals.{span_intervals}
+use Rattle.machine_events.proofs.Intervals.{span_intervals}
 
 -- a text more, behind others
 joined_more : (between : List ℕ) (t : List ℕ) (ts : List (List ℕ)) (u : List ℕ) → joined between ((t ∷ ts) ++ u ∷ []) ≡ joined between (t ∷ ts) ++ (between ++ u)
@@ -56,69 +56,66 @@ joined_last sep (t ∷ ts) u = joined_more sep t ts u
 
 -- ---- entries
 
-entries_more : (vs : List ℕ) (names : List Name) (ts : List ShownTerm) (n : Name) (t : ShownTerm) → length names ≡ length ts
-    → entries vs (names ++ n ∷ []) (ts ++ t ∷ []) ≡ entries vs names ts ++ (n ++ (codes " = " ++ entry_text vs t)) ∷ []
-entries_more vs [] [] n t e = refl
-entries_more vs [] (u ∷ ts) n t e = absurd (omega arith)
-entries_more vs (m ∷ names) [] n t e = absurd (omega arith)
-entries_more vs (m ∷ names) (u ∷ ts) n t e = ap (λ (l : List (List ℕ)). (m ++ (codes " = " ++ entry_text vs u)) ∷ l) (entries_more vs names ts n t (omega arith))
+entries_more : (vars : ℕ → List ℕ) (names : List Name) (ts : List Term) (n : Name) (t : Term) → length names ≡ length ts
+    → equals_text vars (names ++ n ∷ []) (ts ++ t ∷ []) ≡ equals_text vars names ts ++ (n ++ (codes " = " ++ term_text Quoted vars 699 t)) ∷ []
+entries_more vars [] [] n t e = refl
+entries_more vars [] (u ∷ ts) n t e = absurd (omega arith)
+entries_more vars (m ∷ names) [] n t e = absurd (omega arith)
+entries_more vars (m ∷ names) (u ∷ ts) n t e = ap (λ (l : List (List ℕ)). (m ++ (codes " = " ++ term_text Quoted vars 699 u)) ∷ l) (entries_more vars names ts n t (omega arith))
 
-entries_count : (vs : List ℕ) (names : List Name) (ts : List ShownTerm) → length names ≡ length ts → length (entries vs names ts) ≡ length names
-entries_count vs [] ts e = refl
-entries_count vs (m ∷ names) [] e = absurd (omega arith)
-entries_count vs (m ∷ names) (u ∷ ts) e = ap suc (entries_count vs names ts (omega arith))
+entries_count : (vars : ℕ → List ℕ) (names : List Name) (ts : List Term) → length names ≡ length ts → length (equals_text vars names ts) ≡ length names
+entries_count vars [] ts e = refl
+entries_count vars (m ∷ names) [] e = absurd (omega arith)
+entries_count vars (m ∷ names) (u ∷ ts) e = ap suc (entries_count vars names ts (omega arith))
 
-abbrev joined_entries : List ℕ → List Name → List ShownTerm → List ℕ
-joined_entries vs names ts = joined (codes ", ") (entries vs names ts)
+abbrev joined_entries : (ℕ → List ℕ) → List Name → List Term → List ℕ
+joined_entries vars names ts = joined (codes ", ") (equals_text vars names ts)
 
-entry_behind : (vs : List ℕ) (names : List Name) (ts : List ShownTerm) (n : Name) (t : ShownTerm) (i : ℕ) → length names ≡ i → length ts ≡ i
-    → joined_entries vs (names ++ n ∷ []) (ts ++ t ∷ []) ≡ joined_entries vs names ts ++ (separator_at i (codes ", ") ++ (n ++ (codes " = " ++ entry_text vs t)))
-entry_behind vs names ts n t i e f =
-    ap (joined (codes ", ")) (entries_more vs names ts n t (e ∙ sym f))
-    ∙ joined_last (codes ", ") (entries vs names ts) (n ++ (codes " = " ++ entry_text vs t))
-    ∙ ap (λ (k : ℕ). joined_entries vs names ts ++ (separator_at k (codes ", ") ++ (n ++ (codes " = " ++ entry_text vs t)))) (entries_count vs names ts (e ∙ sym f) ∙ e)
+entry_behind : (vars : ℕ → List ℕ) (names : List Name) (ts : List Term) (n : Name) (t : Term) (i : ℕ) → length names ≡ i → length ts ≡ i
+    → joined_entries vars (names ++ n ∷ []) (ts ++ t ∷ []) ≡ joined_entries vars names ts ++ (separator_at i (codes ", ") ++ (n ++ (codes " = " ++ term_text Quoted vars 699 t)))
+entry_behind vars names ts n t i e f =
+    ap (joined (codes ", ")) (entries_more vars names ts n t (e ∙ sym f))
+    ∙ joined_last (codes ", ") (equals_text vars names ts) (n ++ (codes " = " ++ term_text Quoted vars 699 t))
+    ∙ ap (λ (k : ℕ). joined_entries vars names ts ++ (separator_at k (codes ", ") ++ (n ++ (codes " = " ++ term_text Quoted vars 699 t)))) (entries_count vars names ts (e ∙ sym f) ∙ e)
 
 put_four : (a b c d e : List ℕ) → (((a ++ b) ++ c) ++ d) ++ e ≡ a ++ (b ++ (c ++ (d ++ e)))
 put_four a b c d e = append_assoc ((a ++ b) ++ c) d e ∙ append_assoc (a ++ b) c (d ++ e) ∙ append_assoc a b (c ++ (d ++ e))
 
+module _ {A B : Type 0} (f : A → B) where
+  take_map : (n : ℕ) (xs : List A) → take n (map f xs) ≡ map f (take n xs)
+  take_map zero xs = refl
+  take_map (suc n) [] = refl
+  take_map (suc n) (x ∷ xs) = ap (λ (l : List B). f x ∷ l) (take_map n xs)
+
+  -- the first of what f makes of a list, and one more
+  pub one_more : (xs : List A) (i : ℕ) (x : A) → i < length xs → take (i + 1) (map f xs) ≡ take i (map f xs) ++ f (slice_index_or xs i x) ∷ []
+  one_more xs i x h = take_map (i + 1) xs ∙ map_more f xs i x h ∙ ap (λ (l : List B). l ++ f (slice_index_or xs i x) ∷ []) (sym (take_map i xs))
+
 -- one entry more
-pub entry_step : (init t0 t1 t2 t3 t4 : List ℕ) (vs : List ℕ) (f : AtomId → Name) (ids : List AtomId) (ts : List ShownTerm) (i : ℕ) (a : AtomId) (t : ShownTerm) → i < length ids → i < length ts
-    → t0 ≡ init ++ joined (codes ", ") (entries vs (take i (map f ids)) (take i ts))
-    → t1 ≡ t0 ++ separator_at i (codes ", ") → t2 ≡ t1 ++ f (slice_index_or ids i a) → t3 ≡ t2 ++ codes " = " → t4 ≡ t3 ++ entry_text vs (slice_index_or ts i t)
-    → t4 ≡ init ++ joined (codes ", ") (entries vs (take (i + 1) (map f ids)) (take (i + 1) ts))
-entry_step init t0 t1 t2 t3 t4 vs f ids ts i a t h k inv f1 f2 f3 f4 =
-    let names = map f ids in
+pub entry_step : (init t0 t1 t2 t3 t4 : List ℕ) (vars : ℕ → List ℕ) (f : AtomId → Name) (g : TermId → Term) (ids : List AtomId) (ts : List TermId) (i : ℕ) (a : AtomId) (t : TermId) → i < length ids → i < length ts
+    → t0 ≡ init ++ joined (codes ", ") (equals_text vars (take i (map f ids)) (take i (map g ts)))
+    → t1 ≡ t0 ++ separator_at i (codes ", ") → t2 ≡ t1 ++ f (slice_index_or ids i a) → t3 ≡ t2 ++ codes " = " → t4 ≡ t3 ++ term_text Quoted vars 699 (g (slice_index_or ts i t))
+    → t4 ≡ init ++ joined (codes ", ") (equals_text vars (take (i + 1) (map f ids)) (take (i + 1) (map g ts)))
+entry_step init t0 t1 t2 t3 t4 vars f g ids ts i a t h k inv f1 f2 f3 f4 =
+    let names = take i (map f ids) in
+    let terms = take i (map g ts) in
     let name = f (slice_index_or ids i a) in
-    let here = slice_index_or ts i t in
-    let text = entry_text vs here in
-    let size : length names ≡ length ids = length-map ids f in
-    let one : length (take i names) ≡ i = length-take-le i names (omega (arith, size, h)) in
-    let two : length (take i ts) ≡ i = length-take-le i ts (omega (arith, k)) in
-    let old = joined_entries vs (take i names) (take i ts) in
+    let here = g (slice_index_or ts i t) in
+    let text = term_text Quoted vars 699 here in
+    let one : length names ≡ i = length-take-le i (map f ids) (omega (arith, h, length-map ids f)) in
+    let two : length terms ≡ i = length-take-le i (map g ts) (omega (arith, k, length-map ts g)) in
+    let old = joined_entries vars names terms in
     let tail = separator_at i (codes ", ") ++ (name ++ (codes " = " ++ text)) in
-    let both : joined_entries vs (take (i + 1) names) (take (i + 1) ts) ≡ joined_entries vs (take i names ++ name ∷ []) (take i ts ++ here ∷ []) =
-    ap (λ (l : List Name). joined_entries vs l (take (i + 1) ts)) (name_more f ids i a h) ∙ ap (joined_entries vs (take i names ++ name ∷ [])) (take_more ts i t k) in
+    let both : joined_entries vars (take (i + 1) (map f ids)) (take (i + 1) (map g ts)) ≡ joined_entries vars (names ++ name ∷ []) (terms ++ here ∷ []) =
+    ap (λ (l : List Name). joined_entries vars l (take (i + 1) (map g ts))) (one_more f ids i a h) ∙ ap (joined_entries vars (names ++ name ∷ [])) (one_more g ts i t k) in
     f4 ∙ ap (λ (x : List ℕ). x ++ text) (f3 ∙ ap (λ (x : List ℕ). x ++ codes " = ") (f2 ∙ ap (λ (x : List ℕ). x ++ name) f1))
     ∙ put_four t0 (separator_at i (codes ", ")) name (codes " = ") text
     ∙ ap (λ (x : List ℕ). x ++ tail) inv
     ∙ append_assoc init old tail
-    ∙ ap (λ (x : List ℕ). init ++ x) (sym (entry_behind vs (take i names) (take i ts) name here i one two))
+    ∙ ap (λ (x : List ℕ). init ++ x) (sym (entry_behind vars names terms name here i one two))
     ∙ ap (λ (x : List ℕ). init ++ x) (sym both)
-  where
-    take_map : (f : AtomId → Name) (n : ℕ) (xs : List AtomId) → take n (map f xs) ≡ map f (take n xs)
-    take_map f zero xs = refl
-    take_map f (suc n) [] = refl
-    take_map f (suc n) (x ∷ xs) = ap (λ (l : List Name). f x ∷ l) (take_map f n xs)
-
-    name_more : (f : AtomId → Name) (ids : List AtomId) (i : ℕ) (a : AtomId) → i < length ids → take (i + 1) (map f ids) ≡ take i (map f ids) ++ f (slice_index_or ids i a) ∷ []
-    name_more f ids i a h = take_map f (i + 1) ids ∙ map_more f ids i a h ∙ ap (λ (l : List Name). l ++ f (slice_index_or ids i a) ∷ []) (sym (take_map f i ids))
 
 -- a text in parentheses
 pub put_between : (t0 t1 t2 t3 d : List ℕ) → t1 ≡ t0 ++ 40 ∷ [] → t2 ≡ t1 ++ d → t3 ≡ t2 ++ 41 ∷ [] → t3 ≡ t0 ++ (codes "(" ++ (d ++ codes ")"))
 put_between t0 t1 t2 t3 d e f g =
     g ∙ ap (λ (x : List ℕ). x ++ 41 ∷ []) (f ∙ ap (λ (x : List ℕ). x ++ d) e) ∙ append_assoc (t0 ++ 40 ∷ []) d (41 ∷ []) ∙ append_assoc t0 (40 ∷ []) (d ++ 41 ∷ [])
-
--- an open variable's number
-pub put_open : (t0 t1 t2 t3 d p : List ℕ) → t1 ≡ t0 ++ 95 ∷ [] → t2 ≡ t1 ++ d → t3 ≡ t2 ++ p → t3 ≡ t0 ++ (codes "_" ++ (d ++ p))
-put_open t0 t1 t2 t3 d p e f g =
-    g ∙ ap (λ (x : List ℕ). x ++ p) (f ∙ ap (λ (x : List ℕ). x ++ d) e) ∙ append_assoc (t0 ++ 95 ∷ []) d p ∙ append_assoc t0 (95 ∷ []) (d ++ p)

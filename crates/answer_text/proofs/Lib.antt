@@ -1,3 +1,5 @@
-mod Intervals
 mod Joining
 mod Numbering
+mod Walking
+mod Sets
+mod Texts

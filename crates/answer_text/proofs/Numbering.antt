@@ -1,13 +1,13 @@
 -- The numbers of open variables: each has the place at which it was first met.
-use Rattle.std.proofs.Common.{◌≡◌, ℕ, zero, suc, ◌+◌, ◌<◌, Bool, true, false, cond, ◌==◌, ◌||◌, List, [], ◌∷◌, ◌++◌, filter, length, take, drop, refl, ap, sym, ◌∙◌, arith, append_assoc, eq-eqb, slice_index_or, inl, inr, ◌⊎◌}
+use Rattle.std.proofs.Common.{◌≡◌, ℕ, suc, ◌+◌, Bool, true, false, cond, ◌==◌, ◌||◌, List, [], ◌∷◌, ◌++◌, filter, take, drop, refl, ap, sym, ◌∙◌, arith, append_assoc, eq-eqb, inl, inr, ◌⊎◌}
 use Rattle.std.specs.Prelude.{not, ◌≢◌}
 use Rattle.std.specs.List.{list_any, position_or_len}
 use Rattle.std.proofs.lemmas.Bool.Decides.{eqb_tells}
-use Rattle.std.proofs.lemmas.List.{append-nil, take_more, take-append-drop}
-use Rattle.fd_language.specs.Variables.{distinct}
-use Rattle.fd_model.specs.Lines.{place_in}
-use Rattle.wam_machine.specs.declared.events.ShownTerm.{ShownTerm}
-use Rattle.wam_machine.specs.Events.{open_variables, variables_in}
+use Rattle.std.proofs.lemmas.List.{append-nil, take-append-drop}
+use Rattle.fd_language.specs.Term.{Term}
+use Rattle.fd_language.specs.Variables.{variables_of, variables_of_all, distinct}
+use Rattle.fd_model.specs.Lines.{place_in, as_terms}
+use Rattle.fd_language.specs.Family.{has}
 use Rattle.answer_text.specs.Pieces.{with_number, inserted}
 
 same_number : (m n : ℕ) → (m == n) ≡ (n == m)
@@ -110,23 +110,98 @@ place_of (k ∷ ks) more v = pick (v == k) refl (place_of ks more v)
         pushed true = refl
         pushed false = refl
 
--- ---- open variables of terms
+-- two lists, one behind the other
+pub inserted_append : (ks us vs : List ℕ) → inserted ks (us ++ vs) ≡ inserted (inserted ks us) vs
+inserted_append ks [] vs = refl
+inserted_append ks (u ∷ us) vs = inserted_append (with_number ks u) us vs
 
-open_append : (xs ys : List ShownTerm) → open_variables (xs ++ ys) ≡ open_variables xs ++ open_variables ys
-open_append [] ys = refl
-open_append (x ∷ xs) ys = ap (λ (l : List ℕ). variables_in x ++ l) (open_append xs ys) ∙ sym (append_assoc (variables_in x) (open_variables xs) (open_variables ys))
+-- ---- numbers that are met
+
+met_left : (v : ℕ) (ks more : List ℕ) → met v ks ≡ true → met v (ks ++ more) ≡ true
+met_left v [] more e = absurd (let d : false ≡ true = e in cc)
+met_left v (k ∷ ks) more e = pick (v == k) refl (met_left v ks more)
+  where
+    pick : (b : Bool) → (v == k) ≡ b → (met v ks ≡ true → met v (ks ++ more) ≡ true) → ((v == k) || met v (ks ++ more)) ≡ true
+    pick true f later = ap (λ (c : Bool). c || met v (ks ++ more)) f
+    pick false f later = ap (λ (c : Bool). c || met v (ks ++ more)) f ∙ later (sym (ap (λ (c : Bool). c || met v ks) f) ∙ e)
+
+met_pushed : (v : ℕ) (ks : List ℕ) → met v (ks ++ v ∷ []) ≡ true
+met_pushed v [] = ap (λ (c : Bool). c || false) (eq-eqb v v refl)
+met_pushed v (k ∷ ks) = pick (v == k) (met_pushed v ks)
+  where
+    pick : (b : Bool) → met v (ks ++ v ∷ []) ≡ true → (b || met v (ks ++ v ∷ [])) ≡ true
+    pick true h = refl
+    pick false h = h
+
+met_with : (v : ℕ) (ks : List ℕ) → met v (with_number ks v) ≡ true
+met_with v ks = pick (met v ks) refl
+  where
+    pick : (b : Bool) → met v ks ≡ b → met v (cond b ks (ks ++ v ∷ [])) ≡ true
+    pick true e = e
+    pick false e = met_pushed v ks
+
+met_inserted : (v : ℕ) (ks us : List ℕ) → met v ks ≡ true → met v (inserted ks us) ≡ true
+met_inserted v ks us e = let front = inserted_front ks us in ap (met v) front.1 ∙ met_left v ks front.0 e
+
+inserted_has : (v : ℕ) (ks us : List ℕ) → met v us ≡ true → met v (inserted ks us) ≡ true
+inserted_has v ks [] e = absurd (let d : false ≡ true = e in cc)
+inserted_has v ks (u ∷ us) e = pick (eqb_tells v u) (inserted_has v (with_number ks u) us)
+  where
+    pick : ((v == u) ≡ true × (v ≡ u)) ⊎ ((v == u) ≡ false × (v ≢ u)) → (met v us ≡ true → met v (inserted (with_number ks u) us) ≡ true) → met v (inserted (with_number ks u) us) ≡ true
+    pick (inl w) later = met_inserted v (with_number ks u) us (ap (λ (n : ℕ). met v (with_number ks n)) (sym w.1) ∙ met_with v ks)
+    pick (inr w) later = later (sym (ap (λ (c : Bool). c || met v us) w.0) ∙ e)
+
+known : (ks : List ℕ) (v : ℕ) → met v ks ≡ true → with_number ks v ≡ ks
+known ks v e = ap (λ (c : Bool). cond c ks (ks ++ v ∷ [])) e
+
+inserted_with : (ks js : List ℕ) (v : ℕ) → inserted ks (with_number js v) ≡ with_number (inserted ks js) v
+inserted_with ks js v = pick (met v js) refl
+  where
+    pick : (b : Bool) → met v js ≡ b → inserted ks (cond b js (js ++ v ∷ [])) ≡ with_number (inserted ks js) v
+    pick true e = sym (known (inserted ks js) v (inserted_has v ks js e))
+    pick false e = inserted_append ks js (v ∷ [])
+
+inserted_twice : (ks js vs : List ℕ) → inserted ks (inserted js vs) ≡ inserted (inserted ks js) vs
+inserted_twice ks js [] = refl
+inserted_twice ks js (v ∷ vs) = inserted_twice ks (with_number js v) vs ∙ ap (λ (l : List ℕ). inserted l vs) (inserted_with ks js v)
+
+-- the distinct ones of a list bring no others than the list, in the same order
+pub inserted_distinct : (ks vs : List ℕ) → inserted ks (distinct vs) ≡ inserted ks vs
+inserted_distinct ks vs = ap (inserted ks) (distinct_append [] vs) ∙ inserted_twice ks [] vs
+
+has_met : (vs : List ℕ) (y : ℕ) → has vs y ≡ met y vs
+has_met [] y = refl
+has_met (v ∷ vs) y = ap (λ (c : Bool). c || has vs y) (same_number v y) ∙ ap (λ (c : Bool). (y == v) || c) (has_met vs y)
+
+-- and they are all of them
+pub has_distinct : (vs : List ℕ) (y : ℕ) → has vs y ≡ true → has (distinct vs) y ≡ true
+has_distinct vs y e =
+    has_met (distinct vs) y ∙ ap (met y) (distinct_append [] vs) ∙ inserted_has y [] vs (sym (has_met vs y) ∙ e)
+
+-- ---- the variables of a line
+
+abbrev pub variables_in : List Term → List ℕ
+variables_in ts = variables_of_all (as_terms ts)
+
+variables_append : (ts us : List Term) → variables_in (ts ++ us) ≡ variables_in ts ++ variables_in us
+variables_append [] us = refl
+variables_append (t ∷ ts) us =
+    ap (λ (l : List ℕ). variables_of t ++ l) (variables_append ts us) ∙ sym (append_assoc (variables_of t) (variables_in ts) (variables_in us))
+
+-- one term
+pub numbers_one : (t : Term) → inserted [] (variables_of t) ≡ distinct (variables_in (t ∷ []))
+numbers_one t = sym (ap distinct (append-nil (variables_of t)) ∙ distinct_append [] (variables_of t))
 
 -- one term more
-pub numbers_more : (ts : List ShownTerm) (i : ℕ) (t : ShownTerm) → i < length ts → distinct (open_variables (take (i + 1) ts)) ≡ inserted (distinct (open_variables (take i ts))) (variables_in (slice_index_or ts i t))
-numbers_more ts i t h =
-    let x = slice_index_or ts i t in
-    ap (λ (l : List ShownTerm). distinct (open_variables l)) (take_more ts i t h)
-    ∙ ap distinct (open_append (take i ts) (x ∷ []) ∙ ap (λ (l : List ℕ). open_variables (take i ts) ++ l) (append-nil (variables_in x)))
-    ∙ distinct_append (open_variables (take i ts)) (variables_in x)
+pub numbers_more : (ts us : List Term) (t : Term) → us ≡ ts ++ t ∷ [] → distinct (variables_in us) ≡ inserted (distinct (variables_in ts)) (variables_of t)
+numbers_more ts us t e =
+    ap (λ (l : List Term). distinct (variables_in l)) e
+    ∙ ap distinct (variables_append ts (t ∷ []) ∙ ap (λ (l : List ℕ). variables_in ts ++ l) (append-nil (variables_of t)))
+    ∙ distinct_append (variables_in ts) (variables_of t)
 
 -- the numbers of the first terms are the first of all
-pub numbers_front : (ts : List ShownTerm) (n : ℕ) → (more : List ℕ) × (distinct (open_variables ts) ≡ distinct (open_variables (take n ts)) ++ more)
+pub numbers_front : (ts : List Term) (n : ℕ) → (more : List ℕ) × (distinct (variables_in ts) ≡ distinct (variables_in (take n ts)) ++ more)
 numbers_front ts n =
-    let split : open_variables ts ≡ open_variables (take n ts) ++ open_variables (drop n ts) = ap open_variables (sym (take-append-drop n ts)) ∙ open_append (take n ts) (drop n ts) in
-    let front = inserted_front (distinct (open_variables (take n ts))) (open_variables (drop n ts)) in
-    (front.0, ap distinct split ∙ distinct_append (open_variables (take n ts)) (open_variables (drop n ts)) ∙ front.1)
+    let split : variables_in ts ≡ variables_in (take n ts) ++ variables_in (drop n ts) = ap variables_in (sym (take-append-drop n ts)) ∙ variables_append (take n ts) (drop n ts) in
+    let front = inserted_front (distinct (variables_in (take n ts))) (variables_in (drop n ts)) in
+    (front.0, ap distinct split ∙ distinct_append (variables_in (take n ts)) (variables_in (drop n ts)) ∙ front.1)

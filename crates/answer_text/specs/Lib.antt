@@ -1,2 +1,4 @@
 pub mod Reasons
 pub mod Pieces
+pub mod Variables
+pub mod Events

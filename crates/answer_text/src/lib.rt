@@ -1,26 +1,30 @@
 //! The bytes that a run writes: the lines of refusals, of queries and of their events.
 #![tactic(auto)]
 
-ghost use Rattle.std.specs.Prelude.{◌≡◌, ◌++◌, ◌<◌, All, length, map, codes, decimal, IfOk};
+ghost use Rattle.std.specs.Prelude.{◌≡◌, ◌++◌, ◌<◌, All, List, length, map, codes, decimal, is_some, IfOk, IfSome};
+ghost use Rattle.fd_language.specs.Term.{Name};
 ghost use Rattle.fd_model.specs.Lines.{event_bytes, fault_name, line};
 ghost use Rattle.fd_model.specs.Output.{refusal};
 ghost use Rattle.term_pool.specs.Contents.{atom_name};
-ghost use Rattle.wam_machine.specs.Events.{event_of, HasTerms};
+ghost use Rattle.machine_events.specs.Events.{event_of, HasTerms};
+ghost use Rattle.answer_text.specs.Events.{is_fixed};
 ghost use Rattle.answer_text.specs.Reasons.{reason_text, IsReasonIn};
 
 mod answer;
+mod domains;
 mod numbers;
 mod reason;
+mod variables;
 
-use crate::answer::answer_line;
+use crate::answer::{answer_line, written_text};
 use crate::numbers::put_number;
 pub use crate::reason::Reason;
 use crate::reason::put_reason;
 use fd_language::NoMemory;
 use fd_model::kinds::QueryFault;
+use machine_events::MachineEvent;
 use std::alloc::Global;
 use term_pool::{AtomId, Pool};
-use wam_machine::MachineEvent;
 
 /// The line that refused words have.
 pub const USAGE: &[u8] =
@@ -67,7 +71,25 @@ fn fault_line(fault: QueryFault) -> &'static [u8]
     }
 }
 
-/// The line of an event of a query whose shown variables have these names. The names are atoms of the pool.
+/// The bytes of an event that shows no term; none for another.
+pub fn fixed_text(event: &MachineEvent) -> Option<&'static [u8]>
+    ensures text { IfSome result (λ text. (names : List Name) →
+        text.now ≡ event_bytes (event_of names event.now)) }
+    ensures there { is_some result ≡ is_fixed event.now }
+{
+    match event {
+        MachineEvent::Write(_) => None,
+        MachineEvent::Newline => Some(b"\n"),
+        MachineEvent::Answer(_) => None,
+        MachineEvent::End => Some(b"end\n"),
+        MachineEvent::Budget => Some(b"budget\n"),
+        MachineEvent::Limit => Some(b"limit\n"),
+        MachineEvent::Fault(fault) => Some(fault_line(*fault)),
+    }
+}
+
+/// The bytes of an event of a query whose shown variables have these names: a line, or what a goal writes. The names are atoms of
+/// the pool.
 pub fn event_text(
     alloc: Global,
     pool: &Pool,
@@ -76,14 +98,12 @@ pub fn event_text(
 ) -> Result<Vec<u8>, NoMemory>
     requires names { All (λ a. a.number < length pool.now.names) names.now }
     requires terms { HasTerms (length names.now) event.now }
-    ensures { IfOk result (λ text. text.items ≡ event_bytes (event_of (map (atom_name pool.now) names.now) event.now)) }
+    ensures { IfOk result (λ text. text.items
+        ≡ event_bytes (event_of (map (atom_name pool.now) names.now) event.now)) }
 {
-    let line: &[u8] = match event {
-        MachineEvent::Answer(shown) => return answer_line(alloc, pool, names, &shown.terms),
-        MachineEvent::End => b"end\n",
-        MachineEvent::Budget => b"budget\n",
-        MachineEvent::Limit => b"limit\n",
-        MachineEvent::Fault(fault) => fault_line(*fault),
-    };
-    Ok(Vec::from_slice(alloc, line)?)
+    match event {
+        MachineEvent::Write(shown) => written_text(alloc, shown),
+        MachineEvent::Answer(shown) => answer_line(alloc, pool, names, shown),
+        fixed => Ok(Vec::from_slice(alloc, fixed_text(fixed).unwrap())?),
+    }
 }

@@ -35,12 +35,16 @@ pub enum Reason {
     Syntax,
     /// Too many brackets are open.
     TooDeep,
+    /// A head is a variable, an integer, or has a name that no head may have; or a sentence `:- B` has none.
+    BadHead,
     /// A goal is a variable, an integer, or has a name that no goal may have.
     BadGoal,
     /// A compound term has too many arguments.
     ArityOver255,
     /// The name of a goal is neither built in nor that of a head.
     Unknown { name: AtomId, arity: usize },
+    /// A head has the name of a control or built-in form, or of one that the language doesn't have yet.
+    Redefines { name: AtomId, arity: usize },
     /// A form that the language doesn't have yet.
     NotYet { name: AtomId, arity: usize },
     /// The term on the right of `in` spells no range.
@@ -53,8 +57,6 @@ pub enum Reason {
     BadDivisor,
     /// Values over the limit of 126 bits.
     TooWide,
-    /// A form that isn't built.
-    NotBuilt,
 }
 
 /// The text of a reason, without the functor that follows it in some.
@@ -73,16 +75,17 @@ fn reason_name(reason: &Reason) -> &'static str
         Reason::StringOut => "string",
         Reason::Syntax => "syntax",
         Reason::TooDeep => "too deep",
+        Reason::BadHead => "bad head",
         Reason::BadGoal => "bad goal",
         Reason::ArityOver255 => "arity over 255",
         Reason::Unknown { .. } => "unknown ",
+        Reason::Redefines { .. } => "redefines ",
         Reason::NotYet { .. } => "not yet ",
         Reason::NotARange => "not a range",
         Reason::NotMonotone => "not monotone",
         Reason::NotNatural => "not natural",
         Reason::BadDivisor => "bad divisor",
         Reason::TooWide => "too wide",
-        Reason::NotBuilt => "not built",
     }
 }
 
@@ -114,7 +117,10 @@ pub(crate) fn put_reason(
     ensures { OnOk result (text.new.items ≡ text.old.items ++ reason_text pool.now reason.now) }
 {
     text.extend_from_slice(reason_name(reason).as_bytes())?;
-    if let Reason::Unknown { name, arity } | Reason::NotYet { name, arity } = reason {
+    if let Reason::Unknown { name, arity }
+    | Reason::Redefines { name, arity }
+    | Reason::NotYet { name, arity } = reason
+    {
         put_functor(alloc, text, pool, *name, *arity)?;
     }
     Ok(())

@@ -1,6 +1,6 @@
 use Rattle.std.proofs.Common.{rules}
 use Rattle.answer_text.proofs.Joining.{spans_step}
-use Rattle.answer_text.proofs.answer.put_spans.Goals as goal
+use Rattle.answer_text.proofs.domains.put_spans.Goals as goal
 
 pub loop-index-preserved : goal.loop-index-preserved
 loop-index-preserved c =

@@ -1,7 +1,7 @@
-use Rattle.std.proofs.Common.{◌≡◌, ◌++◌, ◌∙◌, List, ℕ, ap, codes}
+use Rattle.std.proofs.Common.{◌++◌, ◌∙◌, List, ℕ, ap}
 use Rattle.fd_model.specs.Lines.{domain_text}
 use Rattle.answer_text.proofs.Joining.{domain_spans, put_between}
-use Rattle.answer_text.proofs.answer.put_domain.Goals as goal
+use Rattle.answer_text.proofs.domains.put_domain.Goals as goal
 
 pub returns : goal.returns
 returns c =

@@ -1,0 +1,60 @@
+// Words that are accepted, and words that aren't.
+use crate::{AgendaName, Options, USUAL, WordsFault, read_words};
+use std::alloc::Global;
+use std::test::Fail;
+
+/// What the words of a line ask for.
+fn read(alloc: Global, line: &str) -> Result<Result<Options, WordsFault>, Fail> {
+    let mut words = Vec::new(alloc);
+    for word in line.split_whitespace() {
+        words.push(String::from_str(alloc, word)?)?;
+    }
+    Ok(read_words(alloc, &words))
+}
+
+#[test]
+fn options_in_any_order(rt: HostRuntime) -> Result<(), Fail> {
+    let all = Options {
+        steps: 10,
+        answers: Some(1_000_000_000_000),
+        agenda: AgendaName::Cheapest,
+        generate: Some(4),
+    };
+    let lines = [
+        ("", USUAL),
+        (
+            "--gen 4 --steps 10 --answers 1000000000000 --agenda cheapest",
+            all,
+        ),
+        (
+            "--agenda cheapest --answers 1000000000000 --steps 10 --gen 4",
+            all,
+        ),
+    ];
+    for (line, options) in lines {
+        assert!(rt; read(rt.alloc(), line)? == Ok(options), "at {line}");
+    }
+    Ok(())
+}
+
+#[test]
+fn words_that_are_refused(rt: HostRuntime) -> Result<(), Fail> {
+    let lines = [
+        "--steps 0",
+        "--agenda lifo",
+        "--fast",
+        "--steps",
+        "--steps=5",
+        "--steps 05",
+        "--steps +5",
+        "--steps 5 --steps 5",
+        "--",
+    ];
+    for line in lines {
+        assert!(rt;
+            read(rt.alloc(), line)? == Err(WordsFault::Usage),
+            "at {line}"
+        );
+    }
+    Ok(())
+}
