@@ -1,6 +1,6 @@
 -- How a run ends, from what its last call says.
-use Rattle.std.proofs.Common.{◌≡◌, ◌≢◌, ℕ, ◌+◌, ◌<◌, ◌≤◌, ◌⊎◌, inl, inr, List, [], ◌∷◌, ◌++◌, length, Option, Some, None, IsSome, refl, ap, sym, subst, ◌∙◌, arith, codes, Bool, true, false, ◌==◌, map, string_bytes, String, Global, eqb-true, true≢false, length-append, append-nil}
-use Rattle.std.specs.Prelude.{Result, Ok, Err, IfOk}
+use Rattle.std.proofs.Common.{◌≡◌, ℕ, ◌+◌, ◌<◌, ◌≤◌, ◌⊎◌, inl, inr, List, [], ◌++◌, length, Option, Some, None, IsSome, refl, ap, sym, subst, ◌∙◌, arith, codes, Bool, true, false, length-append, append-nil}
+use Rattle.std.specs.Prelude.{Result, Ok, Err, IfOk, IfSome}
 use Rattle.fd_language.specs.declared.NoMemory.{NoMemory as OutOfMemory}
 use Rattle.fd_language.specs.declared.TheConstants.{INFINITY}
 use Rattle.fd_model.specs.declared.Status.{Status}
@@ -8,8 +8,11 @@ use Rattle.fd_model.specs.declared.Status.TheVariants.{Done, Usage, Refused, Sto
 use Rattle.fd_model.specs.Goal.{Program}
 use Rattle.fd_model.specs.Verdict as model
 use Rattle.fd_model.specs.Verdict.{max_text}
-use Rattle.fd_model.specs.Output.{Output, Queries, VerdictOutput, refusal, usage, stop_status}
-use Rattle.byte_ports.specs.Ports.{Put, PutPart, Took, IsAtEnd, ReadJust, ReadWithin, Rose}
+use Rattle.clpfd.specs.Words.{options_of}
+use Rattle.fd_model.specs.Output.{Options, Output, Queries, VerdictOutput, refusal, usage, stop_status}
+use Rattle.command_words.specs.declared.Options as command
+use Rattle.command_words.specs.Words.{asked}
+use Rattle.byte_ports.specs.Ports.{Put, Took, IsAtEnd, ReadJust, ReadWithin, Rose}
 use Rattle.byte_ports.proofs.Pieces.{put_none, part_none}
 use Rattle.term_pool.specs.Contents.{Contents}
 use Rattle.answer_text.specs.declared.reason.Reason.TheVariants.{TooLarge}
@@ -17,10 +20,11 @@ use Rattle.clpfd.specs.declared.fault.Fault.{Fault}
 use Rattle.clpfd.specs.declared.fault.Fault.TheVariants as fault
 use Rattle.clpfd.specs.declared.judge.Verdict.{Verdict}
 use Rattle.clpfd.specs.declared.judge.Verdict.TheVariants as verdict
-use Rattle.clpfd.specs.Headline.{Headline, Ends, HasOutput, IsDecided, IsText}
-use Rattle.clpfd.specs.Endings.{SinkState, sink_at, WroteAll, WroteFront, WrotePart, CutBy, Wrote, Ending, fault_status}
+use Rattle.clpfd.specs.Headline.{Headline, Ends, IsDecided, IsText}
+use Rattle.clpfd.specs.Endings.{SinkState, sink_at, WroteAll, WrotePart, CutBy, Wrote, Ending, fault_status}
 use Rattle.clpfd.specs.Verdicts.{verdict_of, HasNames, IsVerdictOn}
-use Rattle.clpfd.proofs.OneOutput.{one_output, output_once, verdict_output, large_verdict, large_output}
+use Rattle.clpfd.proofs.OneOutput.{one_output, text_output, verdict_output, large_verdict, large_output}
+use Rattle.clpfd.proofs.Accepting.{IsAccepted, accepted_words, accepted_options}
 
 -- ---- writing
 
@@ -35,26 +39,26 @@ cut_ending : (old new : SinkState) (f : Fault) (st : Status) (out : List ℕ) �
 cut_ending old new fault.WriteFault st out c = inr (inl (refl, c))
 cut_ending old new fault.NoMemory st out c = inr (inr (refl, c))
 
-abbrev Writes : SinkState → SinkState → Program → Result Bool Fault → Type 0
-Writes old new p r = (out : List ℕ) (stop : Bool) → Queries INFINITY p 1000000 None 1 p.queries out stop → Wrote old new r out
+abbrev Writes : ℕ → Option ℕ → SinkState → SinkState → Program → Result Bool Fault → Type 0
+Writes steps answers old new p r = (out : List ℕ) (stop : Bool) → Queries INFINITY p steps answers 1 p.queries out stop → Wrote old new r out
 
-abbrev Tells : Program → Result Bool Fault → Type 0
-Tells p r = (out : List ℕ) (stop : Bool) → Queries INFINITY p 1000000 None 1 p.queries out stop → IfOk r (λ b. b ≡ stop)
+abbrev Tells : ℕ → Option ℕ → Program → Result Bool Fault → Type 0
+Tells steps answers p r = (out : List ℕ) (stop : Bool) → Queries INFINITY p steps answers 1 p.queries out stop → IfOk r (λ b. b ≡ stop)
 
 -- the answers were written
-pub answered : (old new : SinkState) (p : Program) (r : Result Bool Fault) (b : Bool) → r ≡ Ok b → Writes old new p r → Tells p r → (out : List ℕ) (st : Status) → VerdictOutput INFINITY (model.accepted p) 1000000 None out st → Ending old new (stop_status b) st out
-answered old new p r b e w t out st o =
+pub answered : (steps : ℕ) (answers : Option ℕ) (old new : SinkState) (p : Program) (r : Result Bool Fault) (b : Bool) → r ≡ Ok b → Writes steps answers old new p r → Tells steps answers p r → (out : List ℕ) (st : Status) → VerdictOutput INFINITY (model.accepted p) steps answers out st → Ending old new (stop_status b) st out
+answered steps answers old new p r b e w t out st o =
     let wrote : WroteAll old new out = subst (λ (q : Result Bool Fault). Wrote old new q out) e (w out o.0 o.1) in
     let stop : b ≡ o.0 = subst (λ (q : Result Bool Fault). IfOk q (λ c. c ≡ o.0)) e (t out o.0 o.1) in
     inl (ap stop_status stop ∙ sym o.2, wrote)
 
 -- or were cut short
-pub answers_cut : (old new : SinkState) (p : Program) (r : Result Bool Fault) (f : Fault) → r ≡ Err f → Writes old new p r → (out : List ℕ) (st : Status) → VerdictOutput INFINITY (model.accepted p) 1000000 None out st → Ending old new (fault_status f) st out
-answers_cut old new p r f e w out st o = cut_ending old new f st out (subst (λ (q : Result Bool Fault). Wrote old new q out) e (w out o.0 o.1))
+pub answers_cut : (steps : ℕ) (answers : Option ℕ) (old new : SinkState) (p : Program) (r : Result Bool Fault) (f : Fault) → r ≡ Err f → Writes steps answers old new p r → (out : List ℕ) (st : Status) → VerdictOutput INFINITY (model.accepted p) steps answers out st → Ending old new (fault_status f) st out
+answers_cut steps answers old new p r f e w out st o = cut_ending old new f st out (subst (λ (q : Result Bool Fault). Wrote old new q out) e (w out o.0 o.1))
 
 -- a refusal
-pub refused_ending : (old new : SinkState) (result : Status) (place : ℕ) (reason line : List ℕ) → line ≡ refusal place reason → Ending old new result Refused line → (out : List ℕ) (st : Status) → VerdictOutput INFINITY (model.refused place reason) 1000000 None out st → Ending old new result st out
-refused_ending old new result place reason line b e out st o =
+pub refused_ending : (steps : ℕ) (answers : Option ℕ) (old new : SinkState) (result : Status) (place : ℕ) (reason line : List ℕ) → line ≡ refusal place reason → Ending old new result Refused line → (out : List ℕ) (st : Status) → VerdictOutput INFINITY (model.refused place reason) steps answers out st → Ending old new result st out
+refused_ending steps answers old new result place reason line b e out st o =
     subst (λ (s : Status). Ending old new result s out) (sym o.1) (subst (Ending old new result Refused) (b ∙ sym o.0) e)
 
 -- ---- verdicts
@@ -63,9 +67,11 @@ pub verdict_names : (text : List ℕ) (v : Result Verdict OutOfMemory) → IfOk 
 verdict_names text (Ok v) h = h.names
 verdict_names text (Err e) h = tt
 
-pub verdict_outputs : (text : List ℕ) (v : Result Verdict OutOfMemory) (out : List ℕ) (st : Status) → IfOk v (IsVerdictOn text) → Output INFINITY [] text out st → IfOk v (λ v. VerdictOutput INFINITY (verdict_of v) 1000000 None out st)
-verdict_outputs text (Ok v) out st h o = verdict_output INFINITY text (verdict_of v) out st h.verdict o
-verdict_outputs text (Err e) out st h o = tt
+pub verdict_outputs : (words : List (List ℕ)) (o : command.Options) (text : List ℕ) (v : Result Verdict OutOfMemory) (out : List ℕ) (st : Status) → options_of words ≡ Some (asked o)
+    → IfOk v (IsVerdictOn text) → Output INFINITY (options_of words) text out st → IfOk v (λ v. VerdictOutput INFINITY (verdict_of v) o.steps o.answers out st)
+verdict_outputs words o text (Ok v) out st e h p =
+    verdict_output INFINITY (asked o) text (verdict_of v) out st (accepted_options words (asked o) e) h.verdict (subst (λ (a : Option Options). Output INFINITY a text out st) e p)
+verdict_outputs words o text (Err f) out st e h p = tt
 
 pub large_names : (v : Result Verdict OutOfMemory) → IfOk v (λ v. (pool : Contents) × (v ≡ verdict.Refused max_text TooLarge pool)) → IfOk v HasNames
 large_names (Ok v) h = subst HasNames (sym h.1) tt
@@ -107,32 +113,37 @@ decided_stop : (b : Bool) → IsDecided (stop_status b)
 decided_stop true = tt
 decided_stop false = tt
 
-decided_verdict : (v : model.Verdict) (out : List ℕ) (st : Status) → VerdictOutput INFINITY v 1000000 None out st → IsDecided st
-decided_verdict (model.refused place reason) out st o = subst IsDecided (sym o.1) tt
-decided_verdict (model.accepted prog) out st o = subst IsDecided (sym o.2) (decided_stop o.0)
+decided_verdict : (o : Options) (v : model.Verdict) (out : List ℕ) (st : Status) → VerdictOutput INFINITY v o.steps o.answers out st → IsDecided st
+decided_verdict o (model.refused place reason) out st p = subst IsDecided (sym p.1) tt
+decided_verdict o (model.accepted prog) out st p = subst IsDecided (sym p.2) (decided_stop p.0)
 
-decided_output : (words : List (List ℕ)) (text out : List ℕ) (st : Status) → Output INFINITY words text out st → IsDecided st
-decided_output [] text out st o = decided_verdict o.0 out st o.2
-decided_output (w ∷ ws) text out st o = subst IsDecided (sym o.1) tt
+decided_output : (a : Option Options) (text out : List ℕ) (st : Status) → IfSome a IsAccepted → Output INFINITY a text out st → IsDecided st
+decided_output None text out st r p = subst IsDecided (sym p.1) tt
+decided_output (Some o) text out st r p = let t = text_output INFINITY o text out st r p in decided_verdict o t.0 out st t.2
 
-usage_verdict : (v : model.Verdict) (out : List ℕ) (st : Status) → VerdictOutput INFINITY v 1000000 None out st → st ≡ Usage → ⊥
-usage_verdict (model.refused place reason) out st o e = cc (e, o.1)
-usage_verdict (model.accepted prog) out st o e = by_stop o.0 (sym o.2 ∙ e)
+usage_verdict : (o : Options) (v : model.Verdict) (out : List ℕ) (st : Status) → VerdictOutput INFINITY v o.steps o.answers out st → st ≡ Usage → ⊥
+usage_verdict o (model.refused place reason) out st p e = cc (e, p.1)
+usage_verdict o (model.accepted prog) out st p e = by_stop p.0 (sym p.2 ∙ e)
   where
     by_stop : (b : Bool) → stop_status b ≡ Usage → ⊥
     by_stop true e = cc
     by_stop false e = cc
 
-usage_words : (words : List (List ℕ)) (text out : List ℕ) (st : Status) → Output INFINITY words text out st → st ≡ Usage → words ≢ []
-usage_words [] text out st o e n = usage_verdict o.0 out st o.2 e
-usage_words (w ∷ ws) text out st o e n = cc
+usage_output : (a : Option Options) (text out : List ℕ) (st : Status) → IfSome a IsAccepted → Output INFINITY a text out st → st ≡ Usage → a ≡ None
+usage_output None text out st r p e = refl
+usage_output (Some o) text out st r p e = let t = text_output INFINITY o text out st r p in absurd (usage_verdict o t.0 out st t.2 e)
+
+-- a text that the source had is a text of the run, whatever the words ask for
+some_text : (a : Option Options) (old new : Option (List ℕ)) (text : List ℕ) → (IsSome new → old ≡ Some text) → IsText a old new text
+some_text None old new text h = tt
+some_text (Some o) old new text h = h
 
 rose_not : (a b : ℕ) → b ≡ a → a < b → ⊥
 rose_not a b e l = omega arith
 
 -- the last call wrote the output of a text of the run
-module _ (words : List (List ℕ)) (old new : Ends) (result : Status) (text : List ℕ) (out : List ℕ) (st : Status) (output : Output INFINITY words text out st) (is : IsText words old.left new.left text)
-    (kept : new.source_faults ≡ old.source_faults) (rest : (front : List ℕ) × Took old.left new.left front) (whole_read : (result ≡ Done) ⊎ (result ≡ Stopped) → (st ≡ Done) ⊎ (st ≡ Stopped) → IsAtEnd new.left) (same : words ≢ [] → (new.left ≡ old.left) × (new.source_faults ≡ old.source_faults)) where
+module _ (words : List (List ℕ)) (old new : Ends) (result : Status) (text : List ℕ) (out : List ℕ) (st : Status) (output : Output INFINITY (options_of words) text out st) (is : IsText (options_of words) old.left new.left text)
+    (kept : new.source_faults ≡ old.source_faults) (rest : (front : List ℕ) × Took old.left new.left front) (whole_read : (result ≡ Done) ⊎ (result ≡ Stopped) → (st ≡ Done) ⊎ (st ≡ Stopped) → IsAtEnd new.left) (same : options_of words ≡ None → (new.left ≡ old.left) × (new.source_faults ≡ old.source_faults)) where
   abbrev source_stays : old.source_faults < new.source_faults → ⊥
   source_stays l = rose_not old.source_faults new.source_faults kept l
 
@@ -140,7 +151,7 @@ module _ (words : List (List ℕ)) (old new : Ends) (result : Status) (text : Li
   source_after = omega (arith, kept)
 
   decided : IsDecided st
-  decided = decided_output words text out st output
+  decided = decided_output (options_of words) text out st (accepted_words words) output
 
   pub ended : Ending (sink_of old) (sink_of new) result st out → Headline words old new result
   ended (inl h) = record {
@@ -154,7 +165,7 @@ module _ (words : List (List ℕ)) (old new : Ends) (result : Status) (text : Li
     source_later = source_after;
     sink_later = (let f = h.1.faults in omega (arith, f));
     rest = rest;
-    usage_only = λ e. usage_words words text out st output (sym h.0 ∙ e);
+    usage_only = λ e. usage_output (options_of words) text out st (accepted_words words) output (sym h.0 ∙ e);
     untouched = same;
     read_whole = λ c. whole_read c (elim c [ inl e ↦ inl (sym h.0 ∙ e) | inr e ↦ inr (sym h.0 ∙ e) ]);
   }
@@ -190,35 +201,40 @@ module _ (words : List (List ℕ)) (old new : Ends) (result : Status) (text : Li
   }
 
 -- refused words
-pub with_words : (words : List (List ℕ)) (old new : Ends) (result : Status) → words ≢ [] → new.left ≡ old.left → new.source_faults ≡ old.source_faults → Ending (sink_of old) (sink_of new) result Usage usage → Headline words old new result
-with_words [] old new result some same count h = absurd (some refl)
-with_words (w ∷ ws) old new result some same count h =
-    ended (w ∷ ws) old new result [] usage Usage (refl, refl) tt count (subst (λ (l : Option (List ℕ)). (front : List ℕ) × Took old.left l front) (sym same) (none_took old.left))
+pub with_refused : (words : List (List ℕ)) (old new : Ends) (result : Status) → options_of words ≡ None → new.left ≡ old.left → new.source_faults ≡ old.source_faults → Ending (sink_of old) (sink_of new) result Usage usage → Headline words old new result
+with_refused words old new result none same count h =
+    let output : Output INFINITY (options_of words) [] usage Usage = subst (λ (a : Option Options). Output INFINITY a [] usage Usage) (sym none) (refl, refl) in
+    let is : IsText (options_of words) old.left new.left [] = subst (λ (a : Option Options). IsText a old.left new.left []) (sym none) tt in
+    ended words old new result [] usage Usage output is count (subst (λ (l : Option (List ℕ)). (front : List ℕ) × Took old.left l front) (sym same) (none_took old.left))
     (λ r c. absurd (elim c [ inl e ↦ (let f : Usage ≡ Done = e in cc) | inr e ↦ (let f : Usage ≡ Stopped = e in cc) ])) (λ n. (same, count)) h
 
+-- options aren't none
+not_refused : {P : Type 0} (a : Option Options) (o : Options) → a ≡ Some o → a ≡ None → P
+not_refused None o e n = absurd (cc (e))
+not_refused (Some p) o e n = absurd (cc (n))
+
 -- the text was read, and its output written
-pub with_read : (words : List (List ℕ)) (old new : Ends) (result : Status) (text : List ℕ) → words ≡ [] → Took old.left new.left text → IsAtEnd new.left → new.source_faults ≡ old.source_faults
-    → ((out : List ℕ) (st : Status) → Output INFINITY [] text out st → Ending (sink_of old) (sink_of new) result st out) → Headline words old new result
-with_read words old new result text none took end count h =
-    let one = one_output INFINITY [] text in
-    subst (λ (ws : List (List ℕ)). Headline ws old new result) (sym none)
-    (ended [] old new result text one.0 one.1 one.2 (λ s. whole_text old.left new.left text took end s) count (text, took) (λ r c. end) (λ n. absurd (n refl)) (h one.0 one.1 one.2))
+pub with_read : (words : List (List ℕ)) (o : Options) (old new : Ends) (result : Status) (text : List ℕ) → options_of words ≡ Some o → Took old.left new.left text → IsAtEnd new.left → new.source_faults ≡ old.source_faults
+    → ((out : List ℕ) (st : Status) → Output INFINITY (options_of words) text out st → Ending (sink_of old) (sink_of new) result st out) → Headline words old new result
+with_read words o old new result text some took end count h =
+    let one = one_output INFINITY words text in
+    ended words old new result text one.0 one.1 one.2 (some_text (options_of words) old.left new.left text (λ s. whole_text old.left new.left text took end s)) count (text, took) (λ r c. end)
+    (not_refused (options_of words) o some) (h one.0 one.1 one.2)
 
 -- the text was too large
-pub with_large : (words : List (List ℕ)) (old new : Ends) (result : Status) → words ≡ [] → ReadJust old.left new.left (max_text + 1) → new.source_faults ≡ old.source_faults
-    → ((text : List ℕ) → max_text < length text → (out : List ℕ) (st : Status) → Output INFINITY [] text out st → Ending (sink_of old) (sink_of new) result st out) → Headline words old new result
-with_large words old new result none read count h =
+pub with_large : (words : List (List ℕ)) (o : Options) (old new : Ends) (result : Status) → options_of words ≡ Some o → ReadJust old.left new.left (max_text + 1) → new.source_faults ≡ old.source_faults
+    → ((text : List ℕ) → max_text < length text → (out : List ℕ) (st : Status) → Output INFINITY (options_of words) text out st → Ending (sink_of old) (sink_of new) result st out) → Headline words old new result
+with_large words o old new result some read count h =
     let text = front_text old.left new.left (max_text + 1) read in
     let long : max_text < length text.0 = (let l = text.2 in omega (arith, l)) in
-    let output = large_output INFINITY text.0 long in
-    subst (λ (ws : List (List ℕ)). Headline ws old new result) (sym none)
-    (ended [] old new result text.0 (refusal max_text (codes "too large")) Refused output text.1 count (just_front old.left new.left (max_text + 1) read)
-    (λ r c. absurd (elim c [ inl e ↦ (let f : Refused ≡ Done = e in cc) | inr e ↦ (let f : Refused ≡ Stopped = e in cc) ])) (λ n. absurd (n refl))
-    (h text.0 long (refusal max_text (codes "too large")) Refused output))
+    let output = subst (λ (a : Option Options). Output INFINITY a text.0 (refusal max_text (codes "too large")) Refused) (sym some) (large_output INFINITY o text.0 (accepted_options words o some) long) in
+    ended words old new result text.0 (refusal max_text (codes "too large")) Refused output (some_text (options_of words) old.left new.left text.0 text.1) count (just_front old.left new.left (max_text + 1) read)
+    (λ r c. absurd (elim c [ inl e ↦ (let f : Refused ≡ Done = e in cc) | inr e ↦ (let f : Refused ≡ Stopped = e in cc) ])) (not_refused (options_of words) o some)
+    (h text.0 long (refusal max_text (codes "too large")) Refused output)
 
 -- reading failed
-pub with_fault : (words : List (List ℕ)) (old new : Ends) → words ≡ [] → sink_of new ≡ sink_of old → ReadWithin old.left new.left max_text → Rose old.source_faults new.source_faults → old.source_faults ≤ new.source_faults → Headline words old new ReadFault
-with_fault words old new none same read rose later =
+pub with_fault : (words : List (List ℕ)) (o : Options) (old new : Ends) → options_of words ≡ Some o → sink_of new ≡ sink_of old → ReadWithin old.left new.left max_text → Rose old.source_faults new.source_faults → old.source_faults ≤ new.source_faults → Headline words old new ReadFault
+with_fault words o old new some same read rose later =
     let put : Put old.written new.written [] = subst (λ (s : SinkState). Put old.written s.written []) (sym same) (put_none old.written) in
     let faults : new.sink_faults ≡ old.sink_faults = ap (λ (s : SinkState). s.faults) same in
     record {
@@ -233,7 +249,7 @@ with_fault words old new none same read rose later =
       sink_later = omega (arith, faults);
       rest = within_front old.left new.left max_text read;
       usage_only = λ e. absurd (cc);
-      untouched = λ n. absurd (n none);
+      untouched = not_refused (options_of words) o some;
       read_whole = λ c. absurd (elim c [ inl e ↦ (let f : ReadFault ≡ Done = e in cc) | inr e ↦ (let f : ReadFault ≡ Stopped = e in cc) ]);
     }
 
@@ -241,20 +257,20 @@ left_text : (a b : Option (List ℕ)) (front : List ℕ) → Took a b front → 
 left_text a None front t = ([], λ s. absurd (cc (s)))
 left_text a (Some rest) front t = (front ++ rest, λ s. t)
 
--- memory was wanting while reading
-pub with_memory : (words : List (List ℕ)) (old new : Ends) → words ≡ [] → sink_of new ≡ sink_of old → ReadWithin old.left new.left max_text → new.source_faults ≡ old.source_faults → Headline words old new NoMemory
-with_memory words old new none same read count =
-    let front = within_front old.left new.left max_text read in
+-- memory was wanting after a front of the source was read, or before
+short_of_memory : (words : List (List ℕ)) (old new : Ends) → sink_of new ≡ sink_of old → (front : List ℕ) × Took old.left new.left front → new.source_faults ≡ old.source_faults
+    → (options_of words ≡ None → (new.left ≡ old.left) × (new.source_faults ≡ old.source_faults)) → Headline words old new NoMemory
+short_of_memory words old new same front count untouched =
     let text = left_text old.left new.left front.0 front.1 in
-    let one = one_output INFINITY [] text.0 in
-    subst (λ (ws : List (List ℕ)). Headline ws old new NoMemory) (sym none)
-    (ended [] old new NoMemory text.0 one.0 one.1 one.2 text.1 count front (λ r c. absurd (elim r [ inl e ↦ (let f : NoMemory ≡ Done = e in cc) | inr e ↦ (let f : NoMemory ≡ Stopped = e in cc) ])) (λ n. absurd (n refl))
-    (subst (λ (s : SinkState). Ending (sink_of old) s NoMemory one.1 one.0) (sym same) (no_memory (sink_of old) one.1 one.0)))
+    let one = one_output INFINITY words text.0 in
+    ended words old new NoMemory text.0 one.0 one.1 one.2 (some_text (options_of words) old.left new.left text.0 text.1) count front
+    (λ r c. absurd (elim r [ inl e ↦ (let f : NoMemory ≡ Done = e in cc) | inr e ↦ (let f : NoMemory ≡ Stopped = e in cc) ])) untouched
+    (subst (λ (s : SinkState). Ending (sink_of old) s NoMemory one.1 one.0) (sym same) (no_memory (sink_of old) one.1 one.0))
 
-pub no_words : (xs : List (String Global)) → true ≡ (length xs == 0) → map string_bytes xs ≡ []
-no_words [] h = refl
-no_words (x ∷ xs) h = absurd (omega (arith, eqb-true (length (x ∷ xs)) 0 (sym h)))
+-- memory was wanting while reading
+pub with_memory : (words : List (List ℕ)) (o : Options) (old new : Ends) → options_of words ≡ Some o → sink_of new ≡ sink_of old → ReadWithin old.left new.left max_text → new.source_faults ≡ old.source_faults → Headline words old new NoMemory
+with_memory words o old new some same read count = short_of_memory words old new same (within_front old.left new.left max_text read) count (not_refused (options_of words) o some)
 
-pub some_words : (xs : List (String Global)) → false ≡ (length xs == 0) → map string_bytes xs ≢ []
-some_words [] h e = absurd (true≢false (sym h))
-some_words (x ∷ xs) h e = cc
+-- memory was wanting for the words
+pub words_short : (words : List (List ℕ)) (ends : Ends) → Headline words ends ends NoMemory
+words_short words ends = short_of_memory words ends ends refl (none_took ends.left) refl (λ n. (refl, refl))

@@ -2,7 +2,7 @@
 use Rattle.std.proofs.lemmas.List.{length-map, get_or-map}
 use Rattle.std.proofs.Math.Seq.{drop-cons}
 use Rattle.std.proofs.Math.ListN.{drop_of_length-le}
-use Rattle.std.proofs.Common.{◌≡◌, ℕ, suc, ◌≤◌, ◌+◌, ◌<◌, Bool, true, false, ◌⊎◌, inl, inr, List, [], ◌∷◌, ◌++◌, length, drop, Option, None, Result, Ok, Err, refl, ap, sym, ◌∙◌, subst, arith, append_assoc, append-nil, codes, decimal}
+use Rattle.std.proofs.Common.{◌≡◌, ℕ, suc, ◌+◌, ◌<◌, Bool, true, false, List, [], ◌∷◌, ◌++◌, length, drop, Option, Some, None, Result, Err, refl, ap, sym, ◌∙◌, subst, arith, append_assoc, append-nil, codes, decimal}
 use Rattle.fd_language.specs.declared.TheConstants.{INFINITY}
 use Rattle.fd_language.specs.Term.{Name}
 use Rattle.fd_model.specs.Goal.{Event, Program, Query, start_of}
@@ -10,16 +10,16 @@ use Rattle.fd_model.specs.Goal as model
 use Rattle.fd_model.specs.Lines.{event_bytes, events_bytes, line}
 use Rattle.fd_model.specs.Output.{Queries, is_stop, or_stop}
 use Rattle.fd_model.specs.Run.{Run}
-use Rattle.machine_relation.specs.Next.{is_final, behind, IsNext}
-use Rattle.wam_machine.specs.declared.events.MachineEvent.{MachineEvent}
-use Rattle.wam_machine.specs.declared.events.MachineEvent.TheVariants as events
-use Rattle.wam_machine.specs.declared.events.Shown.{Shown}
-use Rattle.wam_machine.specs.Events.{event_of, shown_line}
+use Rattle.machine_relation.specs.Next.{is_final, IsNext}
+use Rattle.machine_events.specs.declared.MachineEvent.{MachineEvent}
+use Rattle.machine_events.specs.declared.MachineEvent.TheVariants as events
+use Rattle.machine_events.specs.Events.{event_of}
+use Rattle.machine_relation.proofs.Next.{behind_other}
 use Rattle.clause_check.specs.Programs.{FlatProgram, no_query, query_at, query_in, program_in}
 use Rattle.wam_machine.specs.States.{State, StandsFor, query_of}
 use Rattle.clpfd.specs.declared.fault.Fault.{Fault}
 use Rattle.clpfd.specs.declared.fault.Fault.TheVariants as fault
-use Rattle.clpfd.specs.Endings.{SinkState, WroteAll, CutBy, Wrote, IsRunOf}
+use Rattle.clpfd.specs.Endings.{SinkState, WroteAll, CutBy, Wrote, IsEnding, IsRunOf}
 use Rattle.clpfd.proofs.Written.{all_then, wrote_nothing, wrote_short, wrote_cut, cut_then, cut_longer}
 
 -- of the events es, those that are still to come
@@ -41,18 +41,45 @@ next_line m n old now es r e k h =
     let first = h k.later r k.stands in
     (events_bytes first.0, k.is ∙ ap (λ (l : List Event). k.done ++ events_bytes l) first.1)
 
--- an answer is written, and others may follow
-pub answer_written : (m n : State) (old now new : SinkState) (es : List Event) (r : ℕ) (t : List ℕ) → Remain m old now es r → IsNext State StandsFor m (model.Answer t) n → WroteAll now new (event_bytes (model.Answer t)) → Remain n old new es r
-answer_written m n old now new es r t k h w =
+final_names : (names : List Name) (ev : MachineEvent) → is_final (event_of names ev) ≡ is_final (event_of [] ev)
+final_names names (events.Write s) = refl
+final_names names events.Newline = refl
+final_names names (events.Answer s) = refl
+final_names names events.End = refl
+final_names names events.Budget = refl
+final_names names events.Limit = refl
+final_names names (events.Fault f) = refl
+
+last_names : (names : List Name) (ev : MachineEvent) → is_final (event_of [] ev) ≡ true → event_of names ev ≡ event_of [] ev
+last_names names (events.Write s) h = absurd (cc)
+last_names names events.Newline h = refl
+last_names names (events.Answer s) h = absurd (cc)
+last_names names events.End h = refl
+last_names names events.Budget h = refl
+last_names names events.Limit h = refl
+last_names names (events.Fault f) h = refl
+
+goes_on : (e : Event) (later : List Event) → is_final e ≡ false → is_stop (e ∷ later) ≡ is_stop later
+goes_on (model.Wrote t) later h = refl
+goes_on model.Newline later h = refl
+goes_on (model.Answer t) later h = refl
+goes_on model.End later h = refl
+goes_on model.Budget later h = absurd (cc)
+goes_on model.Limit later h = refl
+goes_on (model.Fault f) later h = absurd (cc)
+
+-- an event is written, and others follow
+pub event_written : (m n : State) (old now new : SinkState) (es : List Event) (r : ℕ) (e : Event) → is_final e ≡ false → Remain m old now es r → IsNext State StandsFor m e n → WroteAll now new (event_bytes e) → Remain n old new es r
+event_written m n old now new es r e more k h w =
     let first = h k.later r k.stands in
-    let bytes = event_bytes (model.Answer t) in
+    let bytes = event_bytes e in
     record {
       done = k.done ++ bytes;
       later = first.0;
       is = k.is ∙ ap (λ (l : List Event). k.done ++ events_bytes l) first.1 ∙ sym (append_assoc k.done bytes (events_bytes first.0));
       wrote = all_then old now new k.done bytes k.wrote w;
-      stands = first.2;
-      stops = k.stops ∙ ap is_stop first.1;
+      stands = subst (λ (l : List Event). StandsFor n l r) (behind_other e first.0 more) first.2;
+      stops = k.stops ∙ ap is_stop first.1 ∙ goes_on e first.0 more;
     }
 
 -- the last event is written, and all is written
@@ -66,22 +93,22 @@ last_written m old now new es r e k h w =
 -- ---- queries
 
 -- of the output of queries, what is still to be written for those from the n-th on
-pub record Behind (prog : Program) (n : ℕ) (qs : List Query) (old now : SinkState) (stopped : Bool) (out : List ℕ) (stop : Bool) : Type 0 where
+pub record Behind (steps : ℕ) (answers : Option ℕ) (prog : Program) (n : ℕ) (qs : List Query) (old now : SinkState) (stopped : Bool) (out : List ℕ) (stop : Bool) : Type 0 where
   pub done : List ℕ
   pub rest : List ℕ
   pub later : Bool
   pub is : out ≡ done ++ rest
   pub wrote : WroteAll old now done
-  pub queries : Queries INFINITY prog 1000000 None n qs rest later
+  pub queries : Queries INFINITY prog steps answers n qs rest later
   pub stops : stop ≡ or_stop stopped later
 
 -- at the start
-pub behind_none : (prog : Program) (qs : List Query) (s : SinkState) (out : List ℕ) (stop : Bool) → Queries INFINITY prog 1000000 None 1 qs out stop → Behind prog 1 qs s s false out stop
-behind_none prog qs s out stop h = record { done = []; rest = out; later = stop; is = refl; wrote = wrote_nothing s; queries = h; stops = refl }
+pub behind_none : (steps : ℕ) (answers : Option ℕ) (prog : Program) (qs : List Query) (s : SinkState) (out : List ℕ) (stop : Bool) → Queries INFINITY prog steps answers 1 qs out stop → Behind steps answers prog 1 qs s s false out stop
+behind_none steps answers prog qs s out stop h = record { done = []; rest = out; later = stop; is = refl; wrote = wrote_nothing s; queries = h; stops = refl }
 
 -- at the end
-pub behind_all : (prog : Program) (n : ℕ) (old now : SinkState) (stopped : Bool) (out : List ℕ) (stop : Bool) → Behind prog n [] old now stopped out stop → WroteAll old now out × (stopped ≡ stop)
-behind_all prog n old now stopped out stop k =
+pub behind_all : (steps : ℕ) (answers : Option ℕ) (prog : Program) (n : ℕ) (old now : SinkState) (stopped : Bool) (out : List ℕ) (stop : Bool) → Behind steps answers prog n [] old now stopped out stop → WroteAll old now out × (stopped ≡ stop)
+behind_all steps answers prog n old now stopped out stop k =
     (subst (WroteAll old now) (sym (k.is ∙ ap (λ (b : List ℕ). k.done ++ b) k.queries.0 ∙ append-nil k.done)) k.wrote, sym (k.stops ∙ ap (or_stop stopped) k.queries.1 ∙ no_more stopped))
   where
     no_more : (b : Bool) → or_stop b false ≡ b
@@ -89,20 +116,20 @@ behind_all prog n old now stopped out stop k =
     no_more false = refl
 
 -- the next query: its run, and what its lines are
-pub record Next (prog : Program) (n : ℕ) (q : Query) (qs : List Query) (old now : SinkState) (stopped : Bool) (out : List ℕ) (stop : Bool) : Type 0 where
+pub record Next (steps : ℕ) (answers : Option ℕ) (prog : Program) (n : ℕ) (q : Query) (qs : List Query) (old now : SinkState) (stopped : Bool) (out : List ℕ) (stop : Bool) : Type 0 where
   pub done : List ℕ
   pub events : List Event
   pub spent : ℕ
   pub rest : List ℕ
   pub later : Bool
-  pub run : Run INFINITY prog q 1000000 None (start_of q ∷ []) events spent
+  pub run : Run INFINITY prog q steps answers (start_of q ∷ []) events spent
   pub is : out ≡ done ++ (line (codes "query " ++ decimal n) ++ (events_bytes events ++ rest))
   pub wrote : WroteAll old now done
-  pub queries : Queries INFINITY prog 1000000 None (n + 1) qs rest later
+  pub queries : Queries INFINITY prog steps answers (n + 1) qs rest later
   pub stops : stop ≡ or_stop stopped (or_stop (is_stop events) later)
 
-pub next_query : (prog : Program) (n : ℕ) (q : Query) (qs : List Query) (old now : SinkState) (stopped : Bool) (out : List ℕ) (stop : Bool) → Behind prog n (q ∷ qs) old now stopped out stop → Next prog n q qs old now stopped out stop
-next_query prog n q qs old now stopped out stop k =
+pub next_query : (steps : ℕ) (answers : Option ℕ) (prog : Program) (n : ℕ) (q : Query) (qs : List Query) (old now : SinkState) (stopped : Bool) (out : List ℕ) (stop : Bool) → Behind steps answers prog n (q ∷ qs) old now stopped out stop → Next steps answers prog n q qs old now stopped out stop
+next_query steps answers prog n q qs old now stopped out stop k =
     let h = k.queries in record {
       done = k.done;
       events = h.0;
@@ -117,9 +144,9 @@ next_query prog n q qs old now stopped out stop k =
     }
 
 -- its lines are written
-pub query_written : (prog : Program) (n : ℕ) (q : Query) (qs : List Query) (old now mid new : SinkState) (stopped here then : Bool) (out : List ℕ) (stop : Bool) (k : Next prog n q qs old now stopped out stop)
-    → WroteAll now mid (line (codes "query " ++ decimal n)) → WroteAll mid new (events_bytes k.events) → here ≡ is_stop k.events → then ≡ or_stop stopped here → Behind prog (n + 1) qs old new then out stop
-query_written prog n q qs old now mid new stopped here then out stop k w v s t =
+pub query_written : (steps : ℕ) (answers : Option ℕ) (prog : Program) (n : ℕ) (q : Query) (qs : List Query) (old now mid new : SinkState) (stopped here then : Bool) (out : List ℕ) (stop : Bool) (k : Next steps answers prog n q qs old now stopped out stop)
+    → WroteAll now mid (line (codes "query " ++ decimal n)) → WroteAll mid new (events_bytes k.events) → here ≡ is_stop k.events → then ≡ or_stop stopped here → Behind steps answers prog (n + 1) qs old new then out stop
+query_written steps answers prog n q qs old now mid new stopped here then out stop k w v s t =
     let first = line (codes "query " ++ decimal n) in
     let events = events_bytes k.events in record {
       done = (k.done ++ first) ++ events;
@@ -153,27 +180,27 @@ remain_cut {A} m n old now new es r e bytes f result k h b c is =
     wrote_cut old new result f (events_bytes es) is
     (subst (CutBy old new f) (sym next.1) (cut_then old now new k.done (event_bytes e ++ next.0) f k.wrote (cut_longer now new (event_bytes e) next.0 f (subst (CutBy now new f) b c))))
 
--- an answer
-pub remain_answer : (m n : State) (old now new : SinkState) (es : List Event) (r : ℕ) (names : List Name) (ev : MachineEvent) (s : Shown) (bytes : List ℕ) → ev ≡ events.Answer s → Remain m old now es r → IsNext State StandsFor m (event_of names ev) n
+-- an event that others follow
+pub remain_more : (m n : State) (old now new : SinkState) (es : List Event) (r : ℕ) (names : List Name) (ev : MachineEvent) (bytes : List ℕ) → is_final (event_of [] ev) ≡ false → Remain m old now es r → IsNext State StandsFor m (event_of names ev) n
     → bytes ≡ event_bytes (event_of names ev) → WroteAll now new bytes → Remain n old new es r
-remain_answer m n old now new es r names ev s bytes is k h b w =
-    answer_written m n old now new es r (shown_line names s.terms.items) k (subst (λ (v : MachineEvent). IsNext State StandsFor m (event_of names v) n) is h)
-    (subst (λ (v : MachineEvent). WroteAll now new (event_bytes (event_of names v))) is (subst (WroteAll now new) b w))
+remain_more m n old now new es r names ev bytes more k h b w = event_written m n old now new es r (event_of names ev) (final_names names ev ∙ more) k h (subst (WroteAll now new) b w)
 
 -- the last event
-pub remain_last : (m : State) (old now new : SinkState) (es : List Event) (r : ℕ) (names : List Name) (ev : MachineEvent) (bytes : List ℕ) → is_final (event_of [] ev) ≡ true → Remain m old now es r
+pub remain_none : (m : State) (old now new : SinkState) (es : List Event) (r : ℕ) (names : List Name) (ev : MachineEvent) (bytes : List ℕ) → is_final (event_of [] ev) ≡ true → Remain m old now es r
     → (is_final (event_of [] ev) ≡ true → (fs : List Event) (total : ℕ) → StandsFor m fs total → fs ≡ event_of [] ev ∷ []) → bytes ≡ event_bytes (event_of names ev) → WroteAll now new bytes
     → WroteAll old new (events_bytes es) × (is_stop es ≡ is_stop (event_of [] ev ∷ []))
-remain_last m old now new es r names (events.Answer s) bytes final k h b w = absurd (let e : false ≡ true = final in cc)
-remain_last m old now new es r names events.End bytes final k h b w = last_written m old now new es r model.End k (h final) (subst (WroteAll now new) b w)
-remain_last m old now new es r names events.Budget bytes final k h b w = last_written m old now new es r model.Budget k (h final) (subst (WroteAll now new) b w)
-remain_last m old now new es r names events.Limit bytes final k h b w = last_written m old now new es r model.Limit k (h final) (subst (WroteAll now new) b w)
-remain_last m old now new es r names (events.Fault f) bytes final k h b w = last_written m old now new es r (model.Fault f) k (h final) (subst (WroteAll now new) b w)
+remain_none m old now new es r names ev bytes final k h b w =
+    last_written m old now new es r (event_of [] ev) k (h final) (subst (WroteAll now new) (b ∙ ap event_bytes (last_names names ev final)) w)
+
+-- an event that isn't told to be the last one
+pub no_ending : (ev : MachineEvent) (o : Option Bool) → IsEnding ev o → ((b : Bool) → o ≡ Some b → ⊥) → is_final (event_of [] ev) ≡ false
+no_ending ev None h none = h
+no_ending ev (Some b) h none = absurd (none b refl)
 
 -- ---- the loop over a program's queries
 
-pub run_of : (m : State) (p : FlatProgram) (q : ℕ) (es : List Event) (r : ℕ) → m.program ≡ p → m.query ≡ q → IsRunOf p q es r → IsRunOf m.program m.query es r
-run_of m p q es r e f h = subst (λ (x : FlatProgram). IsRunOf x m.query es r) (sym e) (subst (λ (n : ℕ). IsRunOf p n es r) (sym f) h)
+pub run_of : (m : State) (p : FlatProgram) (q steps : ℕ) (answers : Option ℕ) (es : List Event) (r : ℕ) → m.program ≡ p → m.query ≡ q → IsRunOf p q steps answers es r → IsRunOf m.program m.query steps answers es r
+run_of m p q steps answers es r e f h = subst (λ (x : FlatProgram). IsRunOf x m.query steps answers es r) (sym e) (subst (λ (n : ℕ). IsRunOf p n steps answers es r) (sym f) h)
 
 queries_from : (p : FlatProgram) (i : ℕ) → i < length p.queries → drop i (program_in p).queries ≡ query_in p (query_at p i) ∷ drop (i + 1) (program_in p).queries
 queries_from p i l =
@@ -184,39 +211,39 @@ queries_from p i l =
     ∙ ap (λ (q : Query). q ∷ drop (suc i) qs) (get_or-map (query_in p) p.queries i no_query (query_in p no_query) l)
     ∙ ap (λ (n : ℕ). query_in p (query_at p i) ∷ drop n qs) one
 
-pub program_next : (p : FlatProgram) (i : ℕ) (old now : SinkState) (stopped : Bool) (out : List ℕ) (stop : Bool) → i < length p.queries → Behind (program_in p) (i + 1) (drop i (program_in p).queries) old now stopped out stop
-    → Next (program_in p) (i + 1) (query_in p (query_at p i)) (drop (i + 1) (program_in p).queries) old now stopped out stop
-program_next p i old now stopped out stop l k =
-    next_query (program_in p) (i + 1) (query_in p (query_at p i)) (drop (i + 1) (program_in p).queries) old now stopped out stop
-    (subst (λ (qs : List Query). Behind (program_in p) (i + 1) qs old now stopped out stop) (queries_from p i l) k)
+pub program_next : (steps : ℕ) (answers : Option ℕ) (p : FlatProgram) (i : ℕ) (old now : SinkState) (stopped : Bool) (out : List ℕ) (stop : Bool) → i < length p.queries → Behind steps answers (program_in p) (i + 1) (drop i (program_in p).queries) old now stopped out stop
+    → Next steps answers (program_in p) (i + 1) (query_in p (query_at p i)) (drop (i + 1) (program_in p).queries) old now stopped out stop
+program_next steps answers p i old now stopped out stop l k =
+    next_query steps answers (program_in p) (i + 1) (query_in p (query_at p i)) (drop (i + 1) (program_in p).queries) old now stopped out stop
+    (subst (λ (qs : List Query). Behind steps answers (program_in p) (i + 1) qs old now stopped out stop) (queries_from p i l) k)
 
 drop_all : (n : ℕ) (qs : List Query) → n ≡ length qs → drop n qs ≡ []
 drop_all n qs e = drop_of_length-le qs (omega (arith, e))
 
 -- all queries are written
-pub program_written : (p : FlatProgram) (i : ℕ) (old now : SinkState) (stopped : Bool) (out : List ℕ) (stop : Bool) → i ≡ length p.queries → Behind (program_in p) (i + 1) (drop i (program_in p).queries) old now stopped out stop
+pub program_written : (steps : ℕ) (answers : Option ℕ) (p : FlatProgram) (i : ℕ) (old now : SinkState) (stopped : Bool) (out : List ℕ) (stop : Bool) → i ≡ length p.queries → Behind steps answers (program_in p) (i + 1) (drop i (program_in p).queries) old now stopped out stop
     → WroteAll old now out × (stopped ≡ stop)
-program_written p i old now stopped out stop e k =
-    behind_all (program_in p) (i + 1) old now stopped out stop
-    (subst (λ (qs : List Query). Behind (program_in p) (i + 1) qs old now stopped out stop) (drop_all i (program_in p).queries (e ∙ sym (length-map p.queries (query_in p)))) k)
+program_written steps answers p i old now stopped out stop e k =
+    behind_all steps answers (program_in p) (i + 1) old now stopped out stop
+    (subst (λ (qs : List Query). Behind steps answers (program_in p) (i + 1) qs old now stopped out stop) (drop_all i (program_in p).queries (e ∙ sym (length-map p.queries (query_in p)))) k)
 
 -- memory was wanting
-pub behind_short : {A : Type 0} (prog : Program) (n : ℕ) (qs : List Query) (old now : SinkState) (stopped : Bool) (out : List ℕ) (stop : Bool) (result : Result A Fault) → Behind prog n qs old now stopped out stop → result ≡ Err fault.NoMemory → Wrote old now result out
-behind_short {A} prog n qs old now stopped out stop result k e = subst (Wrote old now result) (sym k.is) (wrote_short old now result k.done k.rest e k.wrote)
+pub behind_short : {A : Type 0} (steps : ℕ) (answers : Option ℕ) (prog : Program) (n : ℕ) (qs : List Query) (old now : SinkState) (stopped : Bool) (out : List ℕ) (stop : Bool) (result : Result A Fault) → Behind steps answers prog n qs old now stopped out stop → result ≡ Err fault.NoMemory → Wrote old now result out
+behind_short {A} steps answers prog n qs old now stopped out stop result k e = subst (Wrote old now result) (sym k.is) (wrote_short old now result k.done k.rest e k.wrote)
 
 -- the first line of a query was cut short
-pub line_cut : {A : Type 0} (prog : Program) (n : ℕ) (q : Query) (qs : List Query) (old now new : SinkState) (stopped : Bool) (out : List ℕ) (stop : Bool) (bytes : List ℕ) (f : Fault) (result : Result A Fault) → Next prog n q qs old now stopped out stop
+pub line_cut : {A : Type 0} (steps : ℕ) (answers : Option ℕ) (prog : Program) (n : ℕ) (q : Query) (qs : List Query) (old now new : SinkState) (stopped : Bool) (out : List ℕ) (stop : Bool) (bytes : List ℕ) (f : Fault) (result : Result A Fault) → Next steps answers prog n q qs old now stopped out stop
     → bytes ≡ line (codes "query " ++ decimal n) → CutBy now new f bytes → result ≡ Err f → Wrote old new result out
-line_cut {A} prog n q qs old now new stopped out stop bytes f result k b c is =
+line_cut {A} steps answers prog n q qs old now new stopped out stop bytes f result k b c is =
     let first = line (codes "query " ++ decimal n) in
     let later = events_bytes k.events ++ k.rest in
     wrote_cut old new result f out is
     (subst (CutBy old new f) (sym k.is) (cut_then old now new k.done (first ++ later) f k.wrote (cut_longer now new first later f (subst (CutBy now new f) b c))))
 
 -- its events were cut short
-pub events_cut : {A : Type 0} (prog : Program) (n : ℕ) (q : Query) (qs : List Query) (old now mid new : SinkState) (stopped : Bool) (out : List ℕ) (stop : Bool) (bytes : List ℕ) (f : Fault) (result : Result A Fault) (k : Next prog n q qs old now stopped out stop)
+pub events_cut : {A : Type 0} (steps : ℕ) (answers : Option ℕ) (prog : Program) (n : ℕ) (q : Query) (qs : List Query) (old now mid new : SinkState) (stopped : Bool) (out : List ℕ) (stop : Bool) (bytes : List ℕ) (f : Fault) (result : Result A Fault) (k : Next steps answers prog n q qs old now stopped out stop)
     → bytes ≡ line (codes "query " ++ decimal n) → WroteAll now mid bytes → CutBy mid new f (events_bytes k.events) → result ≡ Err f → Wrote old new result out
-events_cut {A} prog n q qs old now mid new stopped out stop bytes f result k b w c is =
+events_cut {A} steps answers prog n q qs old now mid new stopped out stop bytes f result k b w c is =
     let first = line (codes "query " ++ decimal n) in
     let events = events_bytes k.events in
     let before = all_then old now mid k.done first k.wrote (subst (WroteAll now mid) b w) in

@@ -17,7 +17,7 @@ use Rattle.term_reader.specs.declared.reader.Sentences.{Sentences}
 use Rattle.term_reader.specs.Sentences.{sentence_of, sentences_of}
 use Rattle.clause_check.specs.Terms.{terms_of}
 use Rattle.clpfd.specs.declared.judge.Verdict.{Verdict}
-use Rattle.clpfd.specs.Verdicts.{verdict_of, Is, IsVerdictOn}
+use Rattle.clpfd.specs.Verdicts.{Is, IsVerdictOn}
 use Rattle.clpfd.proofs.OneOutput.{read_verdict}
 
 -- a text that is read so

@@ -1,3 +1,4 @@
+mod Accepting
 mod OneOutput
 mod Written
 mod Judging

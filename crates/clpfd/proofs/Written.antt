@@ -1,11 +1,11 @@
 -- Pieces written one after another, until a fault.
-use Rattle.std.proofs.Common.{◌≡◌, ℕ, ◌<◌, ◌≤◌, List, [], ◌++◌, Option, Result, Ok, Err, refl, sym, ◌∙◌, subst, arith, inl, inr, ◌⊎◌}
+use Rattle.std.proofs.Common.{◌≡◌, ℕ, ◌<◌, ◌≤◌, List, [], ◌++◌, Result, Ok, Err, refl, sym, ◌∙◌, subst, arith, inl, inr, ◌⊎◌}
 use Rattle.std.proofs.lemmas.Bool.{cases_lt}
-use Rattle.byte_ports.specs.Ports.{Put, PutPart, Rose}
-use Rattle.byte_ports.proofs.Pieces.{put_none, put_more, part_none, part_longer, part_more, part_of_more}
+use Rattle.byte_ports.specs.Ports.{Rose}
+use Rattle.byte_ports.proofs.Pieces.{put_none, put_more, part_longer, part_more, part_of_more}
 use Rattle.clpfd.specs.declared.fault.Fault.{Fault}
 use Rattle.clpfd.specs.declared.fault.Fault.TheVariants as fault
-use Rattle.clpfd.specs.Endings.{SinkState, WroteAll, WroteFront, WrotePart, CutBy, Wrote}
+use Rattle.clpfd.specs.Endings.{SinkState, WroteAll, WrotePart, CutBy, Wrote}
 
 -- a count that never falls and didn't rise
 pub stays : (a b : ℕ) → a ≤ b → (a < b → ⊥) → b ≡ a

@@ -1,8 +1,12 @@
 -- What was written when a call ends.
-use Rattle.std.specs.Prelude.{◌≡◌, ◌≤◌, ◌⊎◌, ℕ, List, [], ◌∷◌, Option, None, Result, MatchResult}
+use Rattle.std.specs.Prelude.{◌≡◌, ◌≤◌, ◌⊎◌, ℕ, List, [], ◌∷◌, Bool, true, false, Option, Some, None, Result, MatchResult}
 use Rattle.fd_language.specs.declared.TheConstants.{INFINITY}
 use Rattle.fd_model.specs.Goal.{Event, start_of}
+use Rattle.fd_model.specs.Output.{is_stop}
 use Rattle.fd_model.specs.Run.{Run}
+use Rattle.machine_events.specs.declared.MachineEvent.{MachineEvent}
+use Rattle.machine_events.specs.Events.{event_of}
+use Rattle.machine_relation.specs.Next.{is_final}
 use Rattle.clause_check.specs.Programs.{FlatProgram, program_in, query_at, query_in}
 use Rattle.fd_model.specs.declared.Status.{Status}
 use Rattle.fd_model.specs.declared.Status.TheVariants.{WriteFault, NoMemory}
@@ -55,6 +59,13 @@ abbrev pub fault_status : Fault → Status
 fault_status fault.WriteFault = WriteFault
 fault_status fault.NoMemory = NoMemory
 
--- the run of a program's query
-abbrev pub IsRunOf : FlatProgram → ℕ → List Event → ℕ → Type 0
-IsRunOf p q es r = let query = query_in p (query_at p q) in Run INFINITY (program_in p) query 1000000 None (start_of query ∷ []) es r
+-- the run of a program's query with these limits
+abbrev pub IsRunOf : FlatProgram → ℕ → ℕ → Option ℕ → List Event → ℕ → Type 0
+IsRunOf p q steps answers es r =
+    let query = query_in p (query_at p q) in
+    Run INFINITY (program_in p) query steps answers (start_of query ∷ []) es r
+
+-- whether the event is the last one, and then whether it stops its query
+abbrev pub IsEnding : MachineEvent → Option Bool → Type 0
+IsEnding e None = is_final (event_of [] e) ≡ false
+IsEnding e (Some b) = (is_final (event_of [] e) ≡ true) × (b ≡ is_stop (event_of [] e ∷ []))

@@ -1,9 +1,10 @@
 -- The headline: what a run writes, how it ends, and what stays as it was.
-use Rattle.std.specs.Prelude.{◌≡◌, ◌≢◌, ◌<◌, ◌≤◌, ◌⊎◌, ℕ, List, [], ◌∷◌, Option, Some, IsSome}
+use Rattle.std.specs.Prelude.{◌≡◌, ◌<◌, ◌≤◌, ◌⊎◌, ℕ, List, [], Option, Some, None, IsSome}
 use Rattle.fd_language.specs.declared.TheConstants.{INFINITY}
 use Rattle.fd_model.specs.declared.Status.{Status}
 use Rattle.fd_model.specs.declared.Status.TheVariants.{Done, Usage, Refused, Stopped, ReadFault, WriteFault, NoMemory}
-use Rattle.fd_model.specs.Output.{Output}
+use Rattle.fd_model.specs.Output.{Options, Output}
+use Rattle.clpfd.specs.Words.{options_of}
 use Rattle.byte_ports.specs.Ports.{Put, PutPart, Rose, Took, IsAtEnd}
 
 -- the statuses of Output
@@ -24,13 +25,17 @@ pub record Ends : Type 0 where
   pub sink_faults : ℕ
 
 -- A text of the run: what the source had left, where it still tells its bytes after the run, and else some text. Refused words never look at the source.
-abbrev pub IsText : List (List ℕ) → Option (List ℕ) → Option (List ℕ) → List ℕ → Type 0
-IsText [] old new text = IsSome new → old ≡ Some text
-IsText (w ∷ ws) old new text = Unit {0}
+abbrev pub IsText : Option Options → Option (List ℕ) → Option (List ℕ) → List ℕ → Type 0
+IsText None old new text = Unit {0}
+IsText (Some o) old new text = IsSome new → old ≡ Some text
 
 -- of a text of the run, with this output and this status of it
 abbrev pub HasOutput : List (List ℕ) → Ends → Ends → (List ℕ → Status → Type 0) → Type 0
-HasOutput words old new H = (text out : List ℕ) × (st : Status) × IsText words old.left new.left text × Output INFINITY words text out st × H out st
+HasOutput words old new H =
+    (text out : List ℕ) × (st : Status)
+    × IsText (options_of words) old.left new.left text
+    × Output INFINITY (options_of words) text out st
+    × H out st
 
 -- Put, PutPart and Took say nothing where bytes aren't told; what is said of the status holds all the same.
 pub record Headline (words : List (List ℕ)) (old new : Ends) (result : Status) : Type 0 where
@@ -54,8 +59,8 @@ pub record Headline (words : List (List ℕ)) (old new : Ends) (result : Status)
   -- what is left is an end of what was left
   pub rest : (front : List ℕ) × Took old.left new.left front
   -- the usage line is for refused words alone, whatever the source tells
-  pub usage_only : result ≡ Usage → words ≢ []
+  pub usage_only : result ≡ Usage → options_of words ≡ None
   -- refused words leave the source as it was
-  pub untouched : words ≢ [] → (new.left ≡ old.left) × (new.source_faults ≡ old.source_faults)
+  pub untouched : options_of words ≡ None → (new.left ≡ old.left) × (new.source_faults ≡ old.source_faults)
   -- a text that was answered was read to its end
   pub read_whole : (result ≡ Done) ⊎ (result ≡ Stopped) → IsAtEnd new.left

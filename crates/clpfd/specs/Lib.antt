@@ -1,3 +1,4 @@
+pub mod Words
 pub mod Headline
 pub mod OneOutput
 pub mod Verdicts

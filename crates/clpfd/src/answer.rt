@@ -1,12 +1,13 @@
 //! The output of a text, written line by line: its refusal, or the events of its queries.
-ghost use Rattle.std.specs.Prelude.{◌≡◌, ◌<◌, ℕ, Bool, None, List, length, map, All, IfOk};
+ghost use Rattle.std.specs.Prelude.{◌≡◌, ◌<◌, ℕ, Bool, List, length, map, All, IfOk};
 ghost use Rattle.fd_model.specs.Goal.{Event};
+ghost use Rattle.fd_model.specs.Run.{IsLimit};
 ghost use Rattle.fd_model.specs.Lines.{events_bytes};
 ghost use Rattle.fd_model.specs.Output.{Queries, VerdictOutput, is_stop};
 ghost use Rattle.term_pool.specs.Contents.{atom_name};
 ghost use Rattle.clause_check.specs.Programs.{program_in};
 ghost use Rattle.wam_machine.specs.States.{StandsFor, query_of};
-ghost use Rattle.clpfd.specs.Endings.{sink_at, Ending, IsRunOf, Wrote};
+ghost use Rattle.clpfd.specs.Endings.{sink_at, Ending, IsEnding, IsRunOf, Wrote};
 ghost use Rattle.clpfd.specs.Verdicts.{verdict_of, HasNames};
 
 use crate::fault::Fault;
@@ -14,23 +15,20 @@ use crate::judge::Verdict;
 use answer_text::{event_text, query_text, refusal_text};
 use byte_ports::{Sink, write_all};
 use clause_check::Program;
+use command_words::{AgendaName, Options};
 use fd_language::{INFINITY, NoMemory};
 use fd_model::Status;
-use propagate_queue::Fifo;
+use machine_events::{Limits, MachineEvent};
+use propagate_queue::{Agenda, Cheapest, Fifo};
 use std::alloc::Global;
 use std::rc::Rc;
 use term_pool::{AtomId, Pool};
-use wam_machine::{CompiledProgram, Limits, Machine, MachineEvent, compile};
-
-/// The reductions that a query may take, and how many answers it may give.
-const LIMITS: Limits = Limits {
-    steps: 1_000_000,
-    answers: None,
-};
+use wam_machine::{CompiledProgram, Machine, compile};
 
 /// Writes the last piece of an output.
 pub fn put_last<K: Sink>(sink: &mut K, piece: &[u8], status: Status) -> Status
-    ensures { Ending (sink_at (K.written sink.old) (K.faults sink.old)) (sink_at (K.written sink.new) (K.faults sink.new)) result status piece.now }
+    ensures { Ending (sink_at (K.written sink.old) (K.faults sink.old)) (sink_at (K.written
+        sink.new) (K.faults sink.new)) result status piece.now }
 {
     match write_all(sink, piece) {
         Ok(()) => status,
@@ -40,35 +38,73 @@ pub fn put_last<K: Sink>(sink: &mut K, piece: &[u8], status: Status) -> Status
 
 /// Writes a line.
 fn put_line<K: Sink>(sink: &mut K, line: &[u8]) -> Result<(), Fault>
-    ensures { Wrote (sink_at (K.written sink.old) (K.faults sink.old)) (sink_at (K.written sink.new) (K.faults sink.new)) result line.now }
+    ensures { Wrote (sink_at (K.written sink.old) (K.faults sink.old)) (sink_at (K.written sink.new)
+        (K.faults sink.new)) result line.now }
 {
     Ok(write_all(sink, line)?)
 }
 
+/// Whether an event is the last one, and then whether it stops its query.
+fn ending(event: &MachineEvent) -> Option<bool>
+    ensures { IsEnding event.now result }
+{
+    match event {
+        MachineEvent::Write(_) | MachineEvent::Newline | MachineEvent::Answer(_) => None,
+        MachineEvent::End | MachineEvent::Limit => Some(false),
+        MachineEvent::Budget | MachineEvent::Fault(_) => Some(true),
+    }
+}
+
 /// Writes the lines of the events of a machine, and tells whether its query was stopped. The names are those of the query's shown
 /// variables.
-fn put_events<K: Sink>(
+fn put_events<A: Agenda + Drop, K: Sink>(
     alloc: Global,
     pool: &Pool,
     names: &[AtomId],
-    mut machine: Machine<Fifo>,
+    mut machine: Machine<A>,
     sink: &mut K,
 ) -> Result<bool, Fault>
     requires names { All (λ a. a.number < length pool.now.names) names.now }
     requires own { map (atom_name pool.now) names.now ≡ (query_of machine).names }
     ensures wrote { (es : List Event) (r : ℕ) → StandsFor machine es r
         → Wrote (sink_at (K.written sink.old) (K.faults sink.old)) (sink_at (K.written sink.new) (K.faults sink.new)) result (events_bytes es) }
-    ensures stopped { (es : List Event) (r : ℕ) → StandsFor machine es r → IfOk result (λ stopped. stopped ≡ is_stop es) }
+    ensures stopped { (es : List Event) (r : ℕ) → StandsFor machine es r → IfOk result (λ stopped.
+        stopped ≡ is_stop es) }
 {
     'events: loop {
         let event = machine.next()?;
         put_line(sink, &event_text(alloc, pool, names, &event)?)?;
-        match event {
-            MachineEvent::Answer(_) => {}
-            MachineEvent::End | MachineEvent::Limit => return Ok(false),
-            MachineEvent::Budget | MachineEvent::Fault(_) => return Ok(true),
+        if let Some(stopped) = ending(&event) {
+            return Ok(stopped);
         }
     }
+}
+
+/// Writes the lines of the events of a query whose machine has this agenda, and tells whether the query was stopped.
+fn put_run<A: Agenda + Drop, K: Sink>(
+    alloc: Global,
+    program: &Rc<CompiledProgram>,
+    query: usize,
+    options: Options,
+    agenda: A,
+    sink: &mut K,
+) -> Result<bool, Fault>
+    requires query { query < length program.now.value.queries }
+    requires limit { IsLimit options.answers }
+    ensures wrote { (es : List Event) (r : ℕ)
+        → IsRunOf program.now.value query options.steps options.answers es r
+        → Wrote (sink_at (K.written sink.old) (K.faults sink.old)) (sink_at (K.written sink.new) (K.faults sink.new)) result (events_bytes es) }
+    ensures stopped { (es : List Event) (r : ℕ)
+        → IsRunOf program.now.value query options.steps options.answers es r
+        → IfOk result (λ stopped. stopped ≡ is_stop es) }
+{
+    let limits = Limits {
+        steps: options.steps,
+        answers: options.answers,
+    };
+    let machine = Machine::new(alloc, Rc::clone(program)?, query, limits, agenda)?;
+    let source = program.program();
+    put_events(alloc, source.pool(), source.names(query), machine, sink)
 }
 
 /// Writes the lines of a query's events, and tells whether the query was stopped.
@@ -76,23 +112,41 @@ fn put_query<K: Sink>(
     alloc: Global,
     program: &Rc<CompiledProgram>,
     query: usize,
+    options: Options,
     sink: &mut K,
 ) -> Result<bool, Fault>
-    requires { query < length program.now.value.queries }
-    ensures wrote { (es : List Event) (r : ℕ) → IsRunOf program.now.value query es r
+    requires query { query < length program.now.value.queries }
+    requires limit { IsLimit options.answers }
+    ensures wrote { (es : List Event) (r : ℕ)
+        → IsRunOf program.now.value query options.steps options.answers es r
         → Wrote (sink_at (K.written sink.old) (K.faults sink.old)) (sink_at (K.written sink.new) (K.faults sink.new)) result (events_bytes es) }
-    ensures stopped { (es : List Event) (r : ℕ) → IsRunOf program.now.value query es r → IfOk result (λ stopped. stopped ≡ is_stop es) }
+    ensures stopped { (es : List Event) (r : ℕ)
+        → IsRunOf program.now.value query options.steps options.answers es r
+        → IfOk result (λ stopped. stopped ≡ is_stop es) }
 {
-    let machine = Machine::new(alloc, Rc::clone(program)?, query, LIMITS, Fifo::new(alloc))?;
-    let source = program.program();
-    put_events(alloc, source.pool(), source.names(query), machine, sink)
+    match options.agenda {
+        AgendaName::Fifo => put_run(alloc, program, query, options, Fifo::new(alloc), sink),
+        AgendaName::Cheapest => {
+            put_run(alloc, program, query, options, Cheapest::new(alloc), sink)
+        }
+    }
 }
 
 /// Writes the lines of a program's queries, and tells whether one of them was stopped.
-fn put_program<K: Sink>(alloc: Global, program: Program, sink: &mut K) -> Result<bool, Fault>
-    ensures wrote { (out : List ℕ) (stop : Bool) → Queries INFINITY (program_in program) 1000000 None 1 (program_in program).queries out stop
+fn put_program<K: Sink>(
+    alloc: Global,
+    program: Program,
+    options: Options,
+    sink: &mut K,
+) -> Result<bool, Fault>
+    requires { IsLimit options.answers }
+    ensures wrote { (out : List ℕ) (stop : Bool)
+        → Queries INFINITY (program_in program) options.steps options.answers 1
+        (program_in program).queries out stop
         → Wrote (sink_at (K.written sink.old) (K.faults sink.old)) (sink_at (K.written sink.new) (K.faults sink.new)) result out }
-    ensures stopped { (out : List ℕ) (stop : Bool) → Queries INFINITY (program_in program) 1000000 None 1 (program_in program).queries out stop
+    ensures stopped { (out : List ℕ) (stop : Bool)
+        → Queries INFINITY (program_in program) options.steps options.answers 1
+        (program_in program).queries out stop
         → IfOk result (λ stopped. stopped ≡ stop) }
 {
     let count = program.queries();
@@ -100,7 +154,7 @@ fn put_program<K: Sink>(alloc: Global, program: Program, sink: &mut K) -> Result
     let mut stopped = false;
     for query in 0..count {
         put_line(sink, &query_text(alloc, query + 1)?)?;
-        if put_query(alloc, &compiled, query, sink)? {
+        if put_query(alloc, &compiled, query, options, sink)? {
             stopped = true;
         }
     }
@@ -108,13 +162,15 @@ fn put_program<K: Sink>(alloc: Global, program: Program, sink: &mut K) -> Result
 }
 
 /// Writes the output of a text with this verdict, and gives its status.
-fn put_output<K: Sink>(alloc: Global, verdict: Verdict, sink: &mut K) -> Status
-    requires { HasNames verdict }
-    ensures { (out : List ℕ) (st : Status) → VerdictOutput INFINITY (verdict_of verdict) 1000000 None out st
+fn put_output<K: Sink>(alloc: Global, verdict: Verdict, options: Options, sink: &mut K) -> Status
+    requires names { HasNames verdict }
+    requires limit { IsLimit options.answers }
+    ensures { (out : List ℕ) (st : Status) → VerdictOutput INFINITY (verdict_of verdict)
+        options.steps options.answers out st
         → Ending (sink_at (K.written sink.old) (K.faults sink.old)) (sink_at (K.written sink.new) (K.faults sink.new)) result st out }
 {
     match verdict {
-        Verdict::Accepted(program) => match put_program(alloc, program, sink) {
+        Verdict::Accepted(program) => match put_program(alloc, program, options, sink) {
             Ok(true) => Status::Stopped,
             Ok(false) => Status::Done,
             Err(fault) => fault.status(),
@@ -131,13 +187,20 @@ fn put_output<K: Sink>(alloc: Global, verdict: Verdict, sink: &mut K) -> Status
 }
 
 /// Writes the output of a text, where memory sufficed for its verdict.
-pub fn answer<K: Sink>(alloc: Global, verdict: Result<Verdict, NoMemory>, sink: &mut K) -> Status
-    requires { IfOk verdict HasNames }
-    ensures { (out : List ℕ) (st : Status) → IfOk verdict (λ v. VerdictOutput INFINITY (verdict_of v) 1000000 None out st)
+pub fn answer<K: Sink>(
+    alloc: Global,
+    verdict: Result<Verdict, NoMemory>,
+    options: Options,
+    sink: &mut K,
+) -> Status
+    requires names { IfOk verdict HasNames }
+    requires limit { IsLimit options.answers }
+    ensures { (out : List ℕ) (st : Status) → IfOk verdict (λ v. VerdictOutput INFINITY (verdict_of
+        v) options.steps options.answers out st)
         → Ending (sink_at (K.written sink.old) (K.faults sink.old)) (sink_at (K.written sink.new) (K.faults sink.new)) result st out }
 {
     match verdict {
-        Ok(verdict) => put_output(alloc, verdict, sink),
+        Ok(verdict) => put_output(alloc, verdict, options, sink),
         Err(NoMemory) => Status::NoMemory,
     }
 }

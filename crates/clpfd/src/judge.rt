@@ -71,7 +71,8 @@ fn judge_characters(alloc: Global, text: &str) -> Result<Verdict, NoMemory>
 
 /// What a text is that has no sentences.
 fn judge_fault(alloc: Global, fault: ReaderFault) -> Result<Verdict, NoMemory>
-    ensures { (r : Reading.Reading) → IsFaultFor r fault → IfOk result (Is (reading_verdict INFINITY r)) }
+    ensures { (r : Reading.Reading) → IsFaultFor r fault → IfOk result (Is (reading_verdict INFINITY
+        r)) }
 {
     match fault {
         ReaderFault::Token(TokenFault::At { place, cause }) => {
@@ -85,7 +86,8 @@ fn judge_fault(alloc: Global, fault: ReaderFault) -> Result<Verdict, NoMemory>
 
 /// The reason that a fault of the tokens has.
 fn token_reason(cause: TokenCause) -> Reason
-    ensures { (c : Contents) → IsReasonIn c result × (reason_text c result ≡ Verdicts.cause_name (cause_of cause)) }
+    ensures { (c : Contents) → IsReasonIn c result × (reason_text c result ≡ Verdicts.cause_name
+        (cause_of cause)) }
 {
     match cause {
         TokenCause::BadCharacter => Reason::BadCharacter,
@@ -102,7 +104,8 @@ fn token_reason(cause: TokenCause) -> Reason
 fn judge_sentences(alloc: Global, sentences: Sentences) -> Result<Verdict, NoMemory>
     requires own { AreOwn sentences }
     requires names { HaveNames sentences }
-    ensures { IfOk result (Is (reading_verdict INFINITY (Reading.sentences (sentences_of sentences)))) }
+    ensures { IfOk result (Is (reading_verdict INFINITY (Reading.sentences (sentences_of
+        sentences)))) }
 {
     match check_program(alloc, sentences) {
         Ok(program) => Ok(Verdict::Accepted(program)),
@@ -117,11 +120,17 @@ fn judge_sentences(alloc: Global, sentences: Sentences) -> Result<Verdict, NoMem
 
 /// The reason that the refusal of a sentence has. Want of memory is no cause of one.
 fn sentence_reason(cause: &Cause) -> Reason
-    ensures { (c : Contents) (p : ℕ) → IsCauseAt c p cause.now → IsReasonIn c result × (reason_text c result ≡ cause_text c cause.now) }
+    ensures { (c : Contents) (p : ℕ) → IsCauseAt c p cause.now → IsReasonIn c result × (reason_text
+        c result ≡ cause_text c cause.now) }
 {
     match cause {
+        Cause::BadHead => Reason::BadHead,
         Cause::BadGoal => Reason::BadGoal,
         Cause::Unknown { name, arity } => Reason::Unknown {
+            name: *name,
+            arity: *arity,
+        },
+        Cause::Redefines { name, arity } => Reason::Redefines {
             name: *name,
             arity: *arity,
         },
@@ -132,13 +141,13 @@ fn sentence_reason(cause: &Cause) -> Reason
             name: *name,
             arity: *arity,
         },
-        Cause::NotBuilt => Reason::NotBuilt,
     }
 }
 
 /// The reason that the refusal of a range has. Want of memory is no cause of one.
 fn range_reason(fault: &CheckFault) -> Reason
-    ensures { (c : Contents) (p : ℕ) → IsCheckedAt p fault.now → IsReasonIn c result × (reason_text c result ≡ check_text fault.now) }
+    ensures { (c : Contents) (p : ℕ) → IsCheckedAt p fault.now → IsReasonIn c result × (reason_text
+        c result ≡ check_text fault.now) }
 {
     match fault {
         CheckFault::NotMonotone { .. } => Reason::NotMonotone,

@@ -1,15 +1,14 @@
-use Rattle.std.proofs.Common.{rules, ◌≡◌, ◌∙◌, refl, sym, ap, map, List, ℕ, [], ◌∷◌, true, inl, inr}
+use Rattle.std.proofs.Common.{rules, ◌≡◌, ◌∙◌, refl, sym, ap, map, List, ℕ, [], ◌∷◌, true}
 use Rattle.fd_language.specs.Term.{Name}
 use Rattle.fd_model.specs.Goal.{Event, Query}
 use Rattle.fd_model.specs.Lines.{event_bytes, events_bytes}
 use Rattle.fd_model.specs.Output.{is_stop}
 use Rattle.machine_relation.specs.Next.{is_final}
 use Rattle.term_pool.specs.Contents.{atom_name}
-use Rattle.wam_machine.specs.declared.events.MachineEvent.{MachineEvent}
-use Rattle.wam_machine.specs.Events.{event_of}
+use Rattle.machine_events.specs.Events.{event_of}
 use Rattle.wam_machine.specs.States.{query_of, StandsFor}
 use Rattle.clpfd.specs.Endings.{SinkState, sink_at, WroteAll}
-use Rattle.clpfd.proofs.Events.{same_query, remain_all, remain_short, remain_cut, remain_answer, remain_last}
+use Rattle.clpfd.proofs.Events.{same_query, remain_all, remain_short, remain_cut, remain_more, remain_none, no_ending}
 use Rattle.clpfd.proofs.answer.put_events.Given.{Over}
 use Rattle.clpfd.proofs.answer.put_events.Goals.{After-put_line}
 use Rattle.clpfd.proofs.answer.put_events.Goals as goal
@@ -27,7 +26,7 @@ all_written : (g : Over) (c : After-put_line g) (es : List Event) (r : ℕ) → 
     → WroteAll (sink_at (g.K.Sink.written c.args.sink.now) (g.K.Sink.faults c.args.sink.now)) (sink_at (g.K.Sink.written c.put_line.new.sink) (g.K.Sink.faults c.put_line.new.sink)) (events_bytes es)
     × (is_stop es ≡ is_stop (event_of [] c.in_ok-event.event ∷ []))
 all_written g c es r h final w =
-    remain_last c.events.machine (sink_at (g.K.Sink.written c.args.sink.now) (g.K.Sink.faults c.args.sink.now)) (sink_at (g.K.Sink.written c.events.sink) (g.K.Sink.faults c.events.sink))
+    remain_none c.events.machine (sink_at (g.K.Sink.written c.args.sink.now) (g.K.Sink.faults c.args.sink.now)) (sink_at (g.K.Sink.written c.events.sink) (g.K.Sink.faults c.events.sink))
     (sink_at (g.K.Sink.written c.put_line.new.sink) (g.K.Sink.faults c.put_line.new.sink)) es r (query_of c.events.machine).names c.in_ok-event.event c.deref.result.now
     final (c.events.invariant.remain es r h) c.in_ok-event.ensures.last (line_is g c) w
 
@@ -54,46 +53,52 @@ returns-in_err-put_line-clause-wrote g c = λ es r h.
     remain_cut c.events.machine c.next.new.self old now new es r (event_of (query_of c.events.machine).names c.in_ok-event.event) c.deref.result.now c.in_err-put_line.field-0.0 c.from_residual-in_err-put_line.result
     (c.events.invariant.remain es r h) c.in_ok-event.ensures.next (line_is g (goal.at.returns-in_err-put_line-clause-wrote g c).After-put_line) c.in_err-put_line.ensures (search rules)
 
-pub events-preserved-in-Answer : goal.events-preserved-in-Answer
-events-preserved-in-Answer g c =
+pub events-preserved : goal.events-preserved
+events-preserved g c =
     let old : SinkState = sink_at (g.K.Sink.written c.args.sink.now) (g.K.Sink.faults c.args.sink.now) in
     let now : SinkState = sink_at (g.K.Sink.written c.events.sink) (g.K.Sink.faults c.events.sink) in
     let new : SinkState = sink_at (g.K.Sink.written c.put_line.new.sink) (g.K.Sink.faults c.put_line.new.sink) in
+    let more = no_ending c.in_ok-event.event c.ending.result c.ending.ensures c.in_default.not-Some in
     record {
       program = c.in_ok-event.ensures.same.0 ∙ c.events.invariant.program;
       query = c.in_ok-event.ensures.same.1 ∙ c.events.invariant.query;
-      remain = λ es r h. remain_answer c.events.machine c.next.new.self old now new es r (query_of c.events.machine).names c.in_ok-event.event c.in-Answer.field-0 c.deref.result.now c.in-Answer.is
-          (c.events.invariant.remain es r h) c.in_ok-event.ensures.next (line_is g (goal.at.events-preserved-in-Answer g c).After-put_line) c.in_ok-put_line.ensures;
+      remain = λ es r h. remain_more c.events.machine c.next.new.self old now new es r (query_of c.events.machine).names c.in_ok-event.event c.deref.result.now more
+          (c.events.invariant.remain es r h) c.in_ok-event.ensures.next (line_is g (goal.at.events-preserved g c).After-put_line) c.in_ok-put_line.ensures;
     }
 
-pub returns-in-End-clause-wrote : goal.returns-in-End-clause-wrote
-returns-in-End-clause-wrote g c = λ es r h.
-    let final : is_final (event_of [] c.in_ok-event.event) ≡ true = elim c.in-End.is [
-      | inl e ↦ ap (λ (v : MachineEvent). is_final (event_of [] v)) e
-      | inr e ↦ ap (λ (v : MachineEvent). is_final (event_of [] v)) e
-    ] in
-    (all_written g (goal.at.returns-in-End-clause-wrote g c).After-put_line es r h final c.in_ok-put_line.ensures).0
+pub events-preserved-in_default : goal.events-preserved-in_default
+events-preserved-in_default g c =
+    let old : SinkState = sink_at (g.K.Sink.written c.args.sink.now) (g.K.Sink.faults c.args.sink.now) in
+    let now : SinkState = sink_at (g.K.Sink.written c.events.sink) (g.K.Sink.faults c.events.sink) in
+    let new : SinkState = sink_at (g.K.Sink.written c.put_line.new.sink) (g.K.Sink.faults c.put_line.new.sink) in
+    let more = no_ending c.in_ok-event.event c.ending.result c.ending.ensures c.in_default.not-Some in
+    record {
+      program = c.in_ok-event.ensures.same.0 ∙ c.events.invariant.program;
+      query = c.in_ok-event.ensures.same.1 ∙ c.events.invariant.query;
+      remain = λ es r h. remain_more c.events.machine c.next.new.self old now new es r (query_of c.events.machine).names c.in_ok-event.event c.deref.result.now more
+          (c.events.invariant.remain es r h) c.in_ok-event.ensures.next (line_is g (goal.at.events-preserved-in_default g c).After-put_line) c.in_ok-put_line.ensures;
+    }
 
-pub returns-in-End-clause-stopped : goal.returns-in-End-clause-stopped
-returns-in-End-clause-stopped g c = λ es r h.
-    let written = λ (final : is_final (event_of [] c.in_ok-event.event) ≡ true). all_written g (goal.at.returns-in-End-clause-stopped g c).After-put_line es r h final c.in_ok-put_line.ensures in
-    elim c.in-End.is [
-      | inl e ↦ sym ((written (ap (λ (v : MachineEvent). is_final (event_of [] v)) e)).1 ∙ ap (λ (v : MachineEvent). is_stop (event_of [] v ∷ [])) e)
-      | inr e ↦ sym ((written (ap (λ (v : MachineEvent). is_final (event_of [] v)) e)).1 ∙ ap (λ (v : MachineEvent). is_stop (event_of [] v ∷ [])) e)
-    ]
+pub events-preserved-in_default-2 : goal.events-preserved-in_default-2
+events-preserved-in_default-2 g c =
+    let old : SinkState = sink_at (g.K.Sink.written c.args.sink.now) (g.K.Sink.faults c.args.sink.now) in
+    let now : SinkState = sink_at (g.K.Sink.written c.events.sink) (g.K.Sink.faults c.events.sink) in
+    let new : SinkState = sink_at (g.K.Sink.written c.put_line.new.sink) (g.K.Sink.faults c.put_line.new.sink) in
+    let more = no_ending c.in_ok-event.event c.ending.result c.ending.ensures c.in_default.not-Some in
+    record {
+      program = c.in_ok-event.ensures.same.0 ∙ c.events.invariant.program;
+      query = c.in_ok-event.ensures.same.1 ∙ c.events.invariant.query;
+      remain = λ es r h. remain_more c.events.machine c.next.new.self old now new es r (query_of c.events.machine).names c.in_ok-event.event c.deref.result.now more
+          (c.events.invariant.remain es r h) c.in_ok-event.ensures.next (line_is g (goal.at.events-preserved-in_default-2 g c).After-put_line) c.in_ok-put_line.ensures;
+    }
 
-pub returns-in-Budget-clause-wrote : goal.returns-in-Budget-clause-wrote
-returns-in-Budget-clause-wrote g c = λ es r h.
-    let final : is_final (event_of [] c.in_ok-event.event) ≡ true = elim c.in-Budget.is [
-      | inl e ↦ ap (λ (v : MachineEvent). is_final (event_of [] v)) e
-      | inr (f, e) ↦ ap (λ (v : MachineEvent). is_final (event_of [] v)) e
-    ] in
-    (all_written g (goal.at.returns-in-Budget-clause-wrote g c).After-put_line es r h final c.in_ok-put_line.ensures).0
+pub events-smaller : goal.events-smaller
+events-smaller g c = c.in_ok-event.ensures.falls (no_ending c.in_ok-event.event c.ending.result c.ending.ensures c.in_default.not-Some)
 
-pub returns-in-Budget-clause-stopped : goal.returns-in-Budget-clause-stopped
-returns-in-Budget-clause-stopped g c = λ es r h.
-    let written = λ (final : is_final (event_of [] c.in_ok-event.event) ≡ true). all_written g (goal.at.returns-in-Budget-clause-stopped g c).After-put_line es r h final c.in_ok-put_line.ensures in
-    elim c.in-Budget.is [
-      | inl e ↦ sym ((written (ap (λ (v : MachineEvent). is_final (event_of [] v)) e)).1 ∙ ap (λ (v : MachineEvent). is_stop (event_of [] v ∷ [])) e)
-      | inr (f, e) ↦ sym ((written (ap (λ (v : MachineEvent). is_final (event_of [] v)) e)).1 ∙ ap (λ (v : MachineEvent). is_stop (event_of [] v ∷ [])) e)
-    ]
+pub returns-in-Some-clause-wrote : goal.returns-in-Some-clause-wrote
+returns-in-Some-clause-wrote g c = λ es r h.
+    (all_written g (goal.at.returns-in-Some-clause-wrote g c).After-put_line es r h c.in-Some.ensures.0 c.in_ok-put_line.ensures).0
+
+pub returns-in-Some-clause-stopped : goal.returns-in-Some-clause-stopped
+returns-in-Some-clause-stopped g c = λ es r h.
+    c.in-Some.ensures.1 ∙ sym (all_written g (goal.at.returns-in-Some-clause-stopped g c).After-put_line es r h c.in-Some.ensures.0 c.in_ok-put_line.ensures).1

@@ -1,4 +1,4 @@
-use Rattle.std.proofs.Common.{ℕ, ◌+◌, Bool, List, drop, None}
+use Rattle.std.proofs.Common.{ℕ, ◌+◌, Bool, List, drop}
 use Rattle.fd_language.specs.declared.TheConstants.{INFINITY}
 use Rattle.fd_model.specs.Output.{Queries}
 use Rattle.clause_check.specs.Programs.{program_in}
@@ -8,5 +8,5 @@ use Rattle.clpfd.proofs.answer.put_program.Given as goal
 
 abbrev pub invariant-loop-query : goal.invariant-loop-query
 invariant-loop-query g l =
-    (out : List ℕ) (stop : Bool) → Queries INFINITY (program_in l.fn.program) 1000000 None 1 (program_in l.fn.program).queries out stop
-    → Behind (program_in l.fn.program) (l.query + 1) (drop l.query (program_in l.fn.program).queries) (sink_at (g.K.Sink.written l.fn.sink) (g.K.Sink.faults l.fn.sink)) (sink_at (g.K.Sink.written l.sink) (g.K.Sink.faults l.sink)) l.stopped out stop
+    (out : List ℕ) (stop : Bool) → Queries INFINITY (program_in l.fn.program) l.fn.options.steps l.fn.options.answers 1 (program_in l.fn.program).queries out stop
+    → Behind l.fn.options.steps l.fn.options.answers (program_in l.fn.program) (l.query + 1) (drop l.query (program_in l.fn.program).queries) (sink_at (g.K.Sink.written l.fn.sink) (g.K.Sink.faults l.fn.sink)) (sink_at (g.K.Sink.written l.sink) (g.K.Sink.faults l.sink)) l.stopped out stop
