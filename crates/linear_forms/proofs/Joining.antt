@@ -129,7 +129,7 @@ added_inside a b new h g d x w e = by (share_at a x) (share_at b x) refl refl (s
   by None (Some v) p q k = g x w (q ∙ k)
   by (Some u) (Some v) p q k = let same : both u v ≡ w = cc in subst (λ (s : Share). in_integers s.coefficient ≡ true) same (d.inside x u v p q)
 
-joins_front : (a b new : Sum) (s t : linear.Sum) (lo m hi : ℕ) → IsSum a s lo m → IsSum b t m hi → AddsSum a b new → Joins a b new
+joins_front : (a b new : Sum) (s t : linear.Sum) (lo m hi : ℕ) → IsSum a s lo m → IsSum b t m hi → AddsSum (2 ^ 31) a b new → Joins a b new
 joins_front a b new s t lo m hi i j d = record {
   each = d.terms.each;
   inside = added_inside a.terms.entries b.terms.entries new.terms.entries (kept_inside a s lo m i) (kept_inside b t m hi j) d.terms;
@@ -139,7 +139,7 @@ joins_front a b new s t lo m hi i j d = record {
   few = d.few;
 }
 
-joins_back : (a b new : Sum) (s t : linear.Sum) (lo m hi : ℕ) → IsSum a s lo m → IsSum b t m hi → AddsSum b a new → Joins a b new
+joins_back : (a b new : Sum) (s t : linear.Sum) (lo m hi : ℕ) → IsSum a s lo m → IsSum b t m hi → AddsSum (2 ^ 31) b a new → Joins a b new
 joins_back a b new s t lo m hi i j d =
     let same : b.constant +ℤ a.constant ≡ a.constant +ℤ b.constant = omega (arith, ints) in
     record {
@@ -151,12 +151,12 @@ joins_back a b new s t lo m hi i j d =
       few = d.few;
     }
 
-over_front : (a b : Sum) (s : linear.Sum) (lo hi : ℕ) → IsSum a s lo hi → ExceedsSum a b → JoinsOver a b
+over_front : (a b : Sum) (s : linear.Sum) (lo hi : ℕ) → IsSum a s lo hi → ExceedsSum (2 ^ 31) a b → JoinsOver a b
 over_front a b s lo hi i (over_terms e) = over_share e.variable e.share e.is e.over
 over_front a b s lo hi i (over_constant e) = over_sum e
 over_front a b s lo hi i (over_many new d e) = over_count new d.each (d.unique i.unique) e
 
-over_back : (a b : Sum) (s : linear.Sum) (lo hi : ℕ) → IsSum b s lo hi → ExceedsSum b a → JoinsOver a b
+over_back : (a b : Sum) (s : linear.Sum) (lo hi : ℕ) → IsSum b s lo hi → ExceedsSum (2 ^ 31) b a → JoinsOver a b
 over_back a b s lo hi i (over_terms e) = over_share e.variable e.share (both_turned (share_at a.terms.entries e.variable) (share_at b.terms.entries e.variable) ∙ e.is) e.over
 over_back a b s lo hi i (over_constant e) = over_sum (ap in_integers (let same : a.constant +ℤ b.constant ≡ b.constant +ℤ a.constant = omega (arith, ints) in same) ∙ e)
 over_back a b s lo hi i (over_many new d e) = over_count new (λ x. d.each x ∙ both_turned (share_at b.terms.entries x) (share_at a.terms.entries x)) (d.unique i.unique) e
@@ -237,24 +237,24 @@ module _ (a b : Sum) (s t : linear.Sum) (lo m hi : ℕ) (p : IsSum a s lo m) (q 
       outside_checked (plus s t) (and_third (in_integers (plus s t).constant) (list_all (λ (t : ℕ × ℤ). in_integers t.1) (plus s t).products) (are_few (plus s t).products)
       (ap (λ n. not (nat_lt (2 ^ 31) n)) (ap (λ ts. length (nonzero ts)) (sym order_products) ∙ sym (count_same new order u order_distinct (λ x. each x ∙ order_share x))) ∙ ap not e))
 
-  front_err : (f : LinearFault) → OverflowsBy (ExceedsSum a b) f → IsFaultOf (sum_of s t) f
+  front_err : (f : LinearFault) → OverflowsBy (ExceedsSum (2 ^ 31) a b) f → IsFaultOf (sum_of s t) f
   front_err fault.Nonlinear h = absurd h
   front_err fault.NotANumber h = absurd h
   front_err fault.Overflow h = over_gives (over_front a b s lo m p h)
   front_err fault.NoMemory h = tt
 
-  back_err : (f : LinearFault) → OverflowsBy (ExceedsSum b a) f → IsFaultOf (sum_of s t) f
+  back_err : (f : LinearFault) → OverflowsBy (ExceedsSum (2 ^ 31) b a) f → IsFaultOf (sum_of s t) f
   back_err fault.Nonlinear h = absurd h
   back_err fault.NotANumber h = absurd h
   back_err fault.Overflow h = over_gives (over_back a b t m hi q h)
   back_err fault.NoMemory h = tt
 
   -- the sum of both, where b was added to a, or a to b
-  pub sum_front : (r : Result Sum LinearFault) → MatchResult r (AddsSum a b) (OverflowsBy (ExceedsSum a b)) → Gives (sum_of s t) lo hi r
+  pub sum_front : (r : Result Sum LinearFault) → MatchResult r (AddsSum (2 ^ 31) a b) (OverflowsBy (ExceedsSum (2 ^ 31) a b)) → Gives (sum_of s t) lo hi r
   sum_front (Ok new) d = joined_gives new (joins_front a b new s t lo m hi p q d)
   sum_front (Err f) h = front_err f h
 
-  pub sum_back : (r : Result Sum LinearFault) → MatchResult r (AddsSum b a) (OverflowsBy (ExceedsSum b a)) → Gives (sum_of s t) lo hi r
+  pub sum_back : (r : Result Sum LinearFault) → MatchResult r (AddsSum (2 ^ 31) b a) (OverflowsBy (ExceedsSum (2 ^ 31) b a)) → Gives (sum_of s t) lo hi r
   sum_back (Ok new) d = joined_gives new (joins_back a b new s t lo m hi p q d)
   sum_back (Err f) h = back_err f h
 

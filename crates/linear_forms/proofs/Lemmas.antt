@@ -5,7 +5,6 @@ use Rattle.std.specs.Ordering.{int_eq}
 use Rattle.std.specs.List.{list_all}
 use Rattle.fd_language.specs.Term.{Term}
 use Rattle.fd_model.specs.declared.kinds.QueryFault.{QueryFault}
-use Rattle.fd_model.specs.declared.kinds.QueryFault.TheVariants.{Evaluation}
 use Rattle.fd_model.specs.Linear.{Sum, Linear, nonzero, plus, times, in_integers, are_few, is_within, of_both, of_one, difference_of, collect_term, linear_of, collect}
 pub use Rattle.linear_forms.proofs.Signs.{neg_one, one_inside, checked_within}
 pub use Rattle.linear_forms.proofs.Words.{integer_fits, passed, passed_negation}

@@ -1,5 +1,5 @@
 -- The sum that is kept, and what is done with it.
-use Rattle.std.specs.Prelude.{◌≡◌, ℕ, ◌^◌, Bool, true, false, ℤ, negsuc, ◌+ℤ◌, ◌*ℤ◌, nat_eq, nat_lt, List, Some, None, MatchResult, Result, Ok}
+use Rattle.std.specs.Prelude.{◌≡◌, ℕ, Bool, true, false, ℤ, negsuc, ◌+ℤ◌, ◌*ℤ◌, nat_eq, nat_lt, List, Some, None, MatchResult, Result, Ok}
 use Rattle.std.specs.List.{IsDistinct}
 use Rattle.std.specs.Map.{keys_of, values_of}
 use Rattle.fd_model.specs.declared.kinds.QueryFault.{QueryFault}
@@ -48,18 +48,18 @@ pub record Exceeds (old other : List (ℕ × Share)) : Type 0 where
   pub is : together (share_at old variable) (share_at other variable) ≡ Some share
   pub over : in_integers share.coefficient ≡ false
 
--- the terms and the constant of both, within the limits
-pub record AddsSum (old other new : Sum) : Type 0 where
+-- the terms and the constant of both, integers of the language, and at most so many variables
+pub record AddsSum (most : ℕ) (old other new : Sum) : Type 0 where
   pub terms : Adds old.terms.entries other.terms.entries new.terms.entries
   pub constant : new.constant ≡ old.constant +ℤ other.constant
   pub inside : in_integers (old.constant +ℤ other.constant) ≡ true
-  pub few : nat_lt (2 ^ 31) (open_count (values_of new.terms.entries)) ≡ false
+  pub few : nat_lt most (open_count (values_of new.terms.entries)) ≡ false
 
--- a coefficient, the constant or the number of the variables is over the limits
-pub data ExceedsSum (old other : Sum) : Type 0 where
-  over_terms : Exceeds old.terms.entries other.terms.entries → ExceedsSum old other
-  over_constant : in_integers (old.constant +ℤ other.constant) ≡ false → ExceedsSum old other
-  over_many : (new : List (ℕ × Share)) → Adds old.terms.entries other.terms.entries new → nat_lt (2 ^ 31) (open_count (values_of new)) ≡ true → ExceedsSum old other
+-- a coefficient or the constant is no integer of the language, or the variables are too many
+pub data ExceedsSum (most : ℕ) (old other : Sum) : Type 0 where
+  over_terms : Exceeds old.terms.entries other.terms.entries → ExceedsSum most old other
+  over_constant : in_integers (old.constant +ℤ other.constant) ≡ false → ExceedsSum most old other
+  over_many : (new : List (ℕ × Share)) → Adds old.terms.entries other.terms.entries new → nat_lt most (open_count (values_of new)) ≡ true → ExceedsSum most old other
 
 -- the shares times k, each an integer of the language
 pub record Scales (k : ℤ) (old new : List (ℕ × Share)) : Type 0 where

@@ -1,6 +1,6 @@
 //! Sums of products, found by their variables.
 
-ghost use Rattle.std.specs.Prelude.{◌≡◌, ℕ, ◌^◌, suc, ◌==◌, nat_lt, not, Ok, MatchResult};
+ghost use Rattle.std.specs.Prelude.{◌≡◌, ℕ, suc, ◌==◌, nat_lt, not, Ok, MatchResult};
 ghost use Rattle.std.specs.Map.{values_of};
 ghost use Rattle.fd_language.specs.Term.{Var, Int};
 ghost use Rattle.fd_model.specs.Linear as linear;
@@ -103,11 +103,11 @@ impl Sum {
         open
     }
 
-    /// Whether at most 2^31 variables are left.
-    fn has_few(&self) -> bool
-        ensures { result ≡ not (nat_lt (2 ^ 31) (open_count (values_of self.now.terms.entries))) }
+    /// Whether at most so many variables are left.
+    fn has_few(&self, most: usize) -> bool
+        ensures { result ≡ not (nat_lt most (open_count (values_of self.now.terms.entries))) }
     {
-        self.terms.len() <= MOST_VARIABLES || self.open_variables() <= MOST_VARIABLES
+        self.terms.len() <= most || self.open_variables() <= most
     }
 }
 
@@ -166,16 +166,18 @@ fn times(alloc: Global, sum: &Sum, factor: i64) -> Result<Sum, LinearFault>
     }
 }
 
-/// A sum with the terms of another one added. The constant is that of both.
-fn added(mut longer: Sum, shorter: &Sum) -> Result<Sum, LinearFault>
-    ensures { MatchResult result (AddsSum longer shorter.now) (OverflowsBy (ExceedsSum longer shorter.now)) }
+/// A sum with the terms of another one added. The constant is that of both, and at most so many
+/// variables are left.
+fn added(mut longer: Sum, shorter: &Sum, most: usize) -> Result<Sum, LinearFault>
+    ensures { MatchResult result (AddsSum most longer shorter.now)
+        (OverflowsBy (ExceedsSum most longer shorter.now)) }
 {
     add_terms(&mut longer.terms, &shorter.terms)?;
     let Some(constant) = sum(longer.constant, shorter.constant) else {
         return Err(LinearFault::Overflow);
     };
     longer.constant = constant;
-    if longer.has_few() {
+    if longer.has_few(most) {
         Ok(longer)
     } else {
         Err(LinearFault::Overflow)
@@ -187,9 +189,9 @@ pub(crate) fn plus(left: Sum, right: Sum) -> Result<Sum, LinearFault>
     ensures { (s t : linear.Sum) (lo m hi : ℕ) → IsSum left s lo m → IsSum right t m hi → Gives (sum_of s t) lo hi result }
 {
     if left.terms.len() < right.terms.len() {
-        added(right, &left)
+        added(right, &left, MOST_VARIABLES)
     } else {
-        added(left, &right)
+        added(left, &right, MOST_VARIABLES)
     }
 }
 
@@ -231,4 +233,29 @@ pub(crate) fn linear_of(alloc: Global, mut sum: Sum) -> Result<Linear, LinearFau
         terms,
         constant: -sum.constant,
     })
+}
+
+#[cfg(test)]
+mod tests {
+    use super::*;
+
+    /// X and another variable, negated at `true`, added up within a limit.
+    fn with_x(alloc: Global, other: u64, negated: bool, most: usize) -> Result<Sum, LinearFault> {
+        let x = variable_alone(alloc, 0, false, 0)?;
+        let other = variable_alone(alloc, other, negated, 1)?;
+        added(x, &other, most)
+    }
+
+    /// X + Y within 2 variables and within 1, and X - X within none.
+    #[test]
+    fn a_sum_has_at_most_its_limit_of_variables(rt: HostRuntime) {
+        for (other, negated, most, fits) in [
+            (1, false, 2, true),
+            (1, false, 1, false),
+            (0, true, 0, true),
+        ] {
+            let found = with_x(rt.alloc(), other, negated, most).is_ok();
+            assert_eq!(rt; found, fits, "at most {most}");
+        }
+    }
 }
