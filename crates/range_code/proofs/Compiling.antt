@@ -25,6 +25,8 @@ use Rattle.range_code.specs.Kinds.{has_pair, all_told}
 use Rattle.range_code.specs.Heights.{values_after, sets_after, peak}
 use Rattle.range_code.specs.Walked.{all_steps}
 use Rattle.range_code.specs.Compiled.{IsCompiled}
+use Rattle.range_code.specs.Forms.{IsForm}
+use Rattle.range_code.specs.declared.form.Form.{Form}
 use Rattle.range_code.specs.declared.compile.ReadKind.{ReadKind}
 use Rattle.range_code.specs.declared.evaluate.Steps.{Steps}
 use Rattle.range_code.specs.Gathered.{IsNumbered}
@@ -74,12 +76,12 @@ met_more ds i d wanted old new l h f = f ∙ (ap (λ b. is_same_pair wanted (get
       swapped a b = grind arith
 
 -- the whole
-pub compiled : (r q : Range) (ns : List RangeNode) (slots keys : List ℕ) (asked : List (ℕ × Need)) (ms : List RangeNode) (fs : List (ℕ × Feature)) (kinds : List (ℕ × ReadKind)) (ys : List ℕ) (by_slot : List (Option Need)) (steps : Steps) (high : ℕ) →
+pub compiled : (r q : Range) (ns : List RangeNode) (slots keys : List ℕ) (asked : List (ℕ × Need)) (ms : List RangeNode) (fs : List (ℕ × Feature)) (kinds : List (ℕ × ReadKind)) (ys : List ℕ) (by_slot : List (Option Need)) (steps : Steps) (form : Form) (high : ℕ) →
     IsTrue (is_accepted INFINITY r) → q ≡ r → ns ≡ nodes_of q → slots ≡ once (node_variables ns) → keys ≡ once (node_variables ns) → ms ≡ map (rename_node (λ y. position_or_len (nat_eq y) keys)) ns →
     fs ≡ each_once (node_features ms) → kinds ≡ all_told (λ s. has_pair fs (s, feature.Min)) (λ s. has_pair fs (s, feature.Max)) fs → ys ≡ filter (λ s. has_pair fs (s, feature.Val)) (count_up 0 (length slots)) →
-    asked ≡ needs r → by_slot ≡ map (need_in asked) slots → ms ≡ all_steps steps → high ≡ max (peak values_after ms 0) (peak sets_after ms 0) →
-    IsCompiled q slots by_slot fs kinds ys steps high
-compiled r q ns slots keys asked ms fs kinds ys by_slot steps high a e n s k m rd kd vl d b st hi =
+    asked ≡ needs r → by_slot ≡ map (need_in asked) slots → ms ≡ all_steps steps → ((x : Range) → ms ≡ nodes_of x → IsForm x form) → high ≡ max (peak values_after ms 0) (peak sets_after ms 0) →
+    IsCompiled q slots by_slot fs kinds ys steps form high
+compiled r q ns slots keys asked ms fs kinds ys by_slot steps form high a e n s k m rd kd vl d b st fm hi =
     let all : once (node_variables ns) ≡ slots_of q = ap once (ap node_variables n ∙ node_variables_of q) in
     let named : ms ≡ nodes_of (in_slots q) = m ∙ (ap (λ l. map (rename_node (λ y. position_or_len (nat_eq y) l)) ns) (k ∙ all) ∙ (ap (map (rename_node (slot_of q))) n ∙ names_of (slot_of q) q)) in
     let told : fs ≡ slot_features q = rd ∙ (ap (λ l. each_once (node_features l)) named ∙ ap each_once (whole_nodes feature_at (in_slots q))) in
@@ -92,6 +94,7 @@ compiled r q ns slots keys asked ms fs kinds ys by_slot steps high a e n s k m r
       vals = vl ∙ (ap (λ l. filter (λ x. has_pair l (x, feature.Val)) (count_up 0 (length slots))) told
           ∙ ap (λ l. filter (λ x. has_pair (slot_features q) (x, feature.Val)) (count_up 0 (length l))) (s ∙ all));
       nodes = sym st ∙ named;
+      form = fm (in_slots q) named;
       height = hi ∙ ap (λ l. max (peak values_after l 0) (peak sets_after l 0)) named;
     }
 

@@ -14,3 +14,5 @@ pub mod Counting
 pub mod Telling
 pub mod Posted
 pub mod Running
+pub mod Forms
+pub mod Renaming

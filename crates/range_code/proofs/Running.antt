@@ -50,7 +50,7 @@ fill_named f p (Mul a b) = two Mul (fill_named f p a) (fill_named f p b)
 fill_named f p (DivDown a b) = two DivDown (fill_named f p a) (fill_named f p b)
 fill_named f p (DivUp a b) = two DivUp (fill_named f p a) (fill_named f p b)
 
-range_named : (f : ℕ → ℕ) (p : ℕ → ℤ) (r : Range) → fill_range p (rename_range f r) ≡ rename_range f (fill_range (λ y. p (f y)) r)
+pub range_named : (f : ℕ → ℕ) (p : ℕ → ℤ) (r : Range) → fill_range p (rename_range f r) ≡ rename_range f (fill_range (λ y. p (f y)) r)
 range_named f p (Span a b) = two Span (fill_named f p a) (fill_named f p b)
 range_named f p (Union r q) = two Union (range_named f p r) (range_named f p q)
 range_named f p (Inter r q) = two Inter (range_named f p r) (range_named f p q)

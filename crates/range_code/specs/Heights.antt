@@ -49,6 +49,10 @@ peak f (m ∷ ms) n = max n (peak f ms (f m n))
 abbrev pub height : Range → ℕ
 height r = max (peak values_after (nodes_of (in_slots r)) 0) (peak sets_after (nodes_of (in_slots r)) 0)
 
+-- the same of a list of nodes
+abbrev pub tallest : List RangeNode → ℕ
+tallest ms = max (peak values_after ms 0) (peak sets_after ms 0)
+
 -- there is room for all that will wait
 pub record HasRoom (ms : List RangeNode) (w : Work) : Type 0 where
   pub values : peak values_after ms (vec_len w.values) ≤ vec_capacity w.values

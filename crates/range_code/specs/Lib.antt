@@ -10,3 +10,4 @@ pub mod Walked
 pub mod Asked
 pub mod Gathered
 pub mod Compiled
+pub mod Forms

@@ -8,14 +8,18 @@ ghost use Rattle.fd_language.specs.Flat.{built, spelled, IsSpelled};
 ghost use Rattle.range_code.specs.Frames.{slot_set, slot_integer};
 ghost use Rattle.range_code.specs.Nodes.{IsReadable};
 ghost use Rattle.range_code.specs.Work.{leaf_value, filled_set, RangeFits, CanTake, IsPending, Follows};
-ghost use Rattle.range_code.specs.Heights.{HasRoom, IsCounted, KeepsRoom};
+ghost use Rattle.range_code.specs.Heights.{tallest, HasRoom, IsCounted, KeepsRoom};
+ghost use Rattle.range_code.specs.Steps.{outside};
+ghost use Rattle.range_code.specs.Forms.{IsForm};
 ghost use Rattle.range_code.specs.Walked.{all_steps, IsAtLast};
-ghost use Rattle.domain_ranges.specs.Narrowing.{IsNarrowed};
+ghost use Rattle.domain_ranges.specs.Narrowing.{between, IsNarrowed};
 
+use crate::form::Form;
 use crate::frame::{Arg, slot_domain, slot_value};
 use crate::work::Work;
 use domain_ranges::{Domain, Narrowed, View};
 use fd_language::{INFINITY, NoMemory, RangeNode};
+use std::alloc::Global;
 
 /// The nodes of a range, in postfix order.
 #[derive(Drop)]
@@ -138,7 +142,8 @@ pub(crate) fn evaluate<V: View>(
 
 /// What the range that the nodes spell leaves of the domain, by the table of ranges alone. Where it is an interval, no set is made, and
 /// the complement of a set doesn't wait on the stack.
-pub(crate) fn evaluate_narrowing<V: View>(
+#[inline(never)]
+fn narrow_by_nodes<V: View>(
     work: &mut Work,
     steps: &Steps,
     args: &[Arg],
@@ -171,5 +176,63 @@ pub(crate) fn evaluate_narrowing<V: View>(
             let set = work.pop_set()?;
             target.narrowed_by(&set)
         }
+    }
+}
+
+/// What is left of the domain without the numbers from `low` to `high`.
+#[inline(never)]
+fn narrow_outside(alloc: Global, target: &Domain, low: i64, high: i64) -> Result<Narrowed, NoMemory>
+    ensures { IfOk result (IsNarrowed target.now (outside (between low high))) }
+{
+    let inner = Domain::interval(alloc, low as i128, high as i128);
+    let others = inner.complement()?;
+    target.narrowed_by(&others)
+}
+
+/// What is left of the domain without the number.
+#[inline(always)]
+fn narrow_without(alloc: Global, target: &Domain, number: i64) -> Result<Narrowed, NoMemory>
+    ensures { IfOk result (IsNarrowed target.now (outside (between number number))) }
+{
+    if target.contains(number as i128) {
+        narrow_outside(alloc, target, number, number)
+    } else {
+        Ok(Narrowed::Same)
+    }
+}
+
+/// What the range leaves of the domain, by the table of ranges alone.
+#[inline(always)]
+pub(crate) fn evaluate_narrowing<V: View>(
+    work: &mut Work,
+    steps: &Steps,
+    form: &Form,
+    args: &[Arg],
+    view: &V,
+    target: &Domain,
+) -> Result<Narrowed, NoMemory>
+    requires spelled { IsSpelled (all_steps steps.now) }
+    requires form { IsForm (spelled (all_steps steps.now)) form.now }
+    requires readable { All (IsReadable (length (V.sets view.now)) args.now) (all_steps steps.now) }
+    requires fits { RangeFits (slot_set (V.sets view.now) args.now) (slot_integer args.now) (spelled (all_steps steps.now)) }
+    requires values { tallest (all_steps steps.now) ≤ vec_capacity work.old.values }
+    requires sets { tallest (all_steps steps.now) ≤ work.old.sets.room }
+    ensures narrowed { IfOk result (IsNarrowed target.now (filled_set (slot_set (V.sets view.now) args.now) (slot_integer args.now) (spelled (all_steps steps.now)))) }
+    ensures kept { KeepsRoom work.old work.new }
+{
+    match form {
+        Form::Nodes => {
+            work.clear();
+            narrow_by_nodes(work, steps, args, view, target)
+        }
+        Form::Between(low, high) => {
+            let low = low.value(args, view);
+            target.narrowed_to(low as i128, high.value(args, view) as i128)
+        }
+        Form::Without(low, high) => {
+            let low = low.value(args, view);
+            narrow_outside(work.alloc, target, low, high.value(args, view))
+        }
+        Form::Except(number) => narrow_without(work.alloc, target, number.value(args, view)),
     }
 }

@@ -1,7 +1,7 @@
 //! Ranges that are prepared once and evaluated often: the set of a range over the current domains (Codognet and Diaz 1996).
 #![tactic(auto)]
 
-ghost use Rattle.std.specs.Prelude.{◌≡◌, ◌≤◌, ◌+◌, ◌-◌, ◌^◌, min, ℕ, false, length, IfOk, OnOk, IsTrue};
+ghost use Rattle.std.specs.Prelude.{◌≡◌, ◌≤◌, ◌+◌, ◌-◌, ◌^◌, min, ℕ, List, false, length, IfOk, OnOk, IsTrue};
 ghost use Rattle.fd_language.specs.RangeVerdict.{is_accepted};
 ghost use Rattle.fd_language.specs.Family.{IsFamily};
 ghost use Rattle.fd_language.specs.Flat.{nodes_of};
@@ -11,19 +11,25 @@ ghost use Rattle.range_code.specs.Slots.{slots_of, slot_needs, slot_features, in
 ghost use Rattle.range_code.specs.Kinds.{slot_kinds, val_slots};
 ghost use Rattle.range_code.specs.Heights.{height};
 ghost use Rattle.range_code.specs.Walked.{all_steps};
+ghost use Rattle.range_code.specs.Forms.{IsForm};
 ghost use Rattle.range_code.specs.Frames.{IsFrame, posted, family_of};
+ghost use Rattle.range_code.specs.declared.frame.Arg.{Arg as AnyArg};
 
+mod alike;
 mod compile;
 mod evaluate;
+mod form;
 mod frame;
 mod work;
 
+use crate::alike::{are_same_needs, are_same_nodes, is_same_node};
 pub use crate::compile::ReadKind;
 use crate::compile::{
     copy_range, height_of, name_slots, number_variables, read_kinds, read_slots, read_vals,
     slot_needs_of,
 };
 use crate::evaluate::{Steps, evaluate, evaluate_narrowing};
+use crate::form::{Form, form_of};
 pub use crate::frame::{Arg, are_some};
 use crate::frame::{Standing, find_standing, is_some_open};
 use crate::work::Work;
@@ -46,6 +52,7 @@ pub struct RangeCode {
     kinds: Vec<(usize, ReadKind)>,
     vals: Vec<usize>,
     steps: Steps,
+    form: Form,
     height: usize,
 }
 
@@ -63,7 +70,7 @@ impl Model for RangeCode {
 
     ghost view = { λ c. c.range };
 
-    ghost invariant = { λ c. IsCompiled c.range c.slots.items c.needs.items c.features.items c.kinds.items c.vals.items c.steps c.height };
+    ghost invariant = { λ c. IsCompiled c.range c.slots.items c.needs.items c.features.items c.kinds.items c.vals.items c.steps c.form c.height };
 }
 
 /// How many ranges were evaluated.
@@ -126,6 +133,24 @@ impl RangeCode {
         &self.range
     }
 
+    /// Whether the other range is the same but for the names of its variables. With the same arguments the two are posted as one range,
+    /// so the code of one serves for both.
+    pub fn is_alike(&self, other: &RangeCode) -> bool
+        ensures posted { IsTrue result
+            → (args : List AnyArg) → posted self.now args ≡ posted other.now args }
+        ensures needs { IsTrue result → slot_needs self.now ≡ slot_needs other.now }
+        ensures nodes { IsTrue result
+            → length (nodes_of self.now) ≡ length (nodes_of other.now) }
+    {
+        if !are_same_needs(&self.needs, &other.needs) {
+            return false;
+        }
+        if !are_same_nodes(&self.steps.front, &other.steps.front) {
+            return false;
+        }
+        is_same_node(self.steps.last, other.steps.last)
+    }
+
     /// The slots that are read by val.
     fn vals(&self) -> &[usize]
         ensures vals { result.now ≡ val_slots self.now }
@@ -140,6 +165,13 @@ impl RangeCode {
         ensures accepted { IsTrue (is_accepted INFINITY self.now) }
     {
         &self.steps
+    }
+
+    /// How the range is evaluated where it narrows.
+    fn form(&self) -> &Form
+        ensures { IsForm (in_slots self.now) result.now }
+    {
+        &self.form
     }
 
     /// How many values or sets wait at most.
@@ -164,6 +196,7 @@ pub fn compile_range(alloc: Global, c: &Checked) -> Result<RangeCode, NoMemory>
     let height = height_of(&nodes);
     let asked = needs(alloc, c)?;
     let needs = slot_needs_of(alloc, &numbered.slots, &asked)?;
+    let form = form_of(alloc, &nodes)?;
     let last = nodes.pop().unwrap();
     Ok(RangeCode {
         range,
@@ -173,6 +206,7 @@ pub fn compile_range(alloc: Global, c: &Checked) -> Result<RangeCode, NoMemory>
         kinds,
         vals,
         steps: Steps { front: nodes, last },
+        form,
         height,
     })
 }
@@ -261,8 +295,14 @@ pub fn narrow<V: View>(
         target.rises();
         return Ok(Narrowed::Same);
     }
-    stacks.work.clear();
-    evaluate_narrowing(&mut stacks.work, code.steps(), args, view, target)
+    evaluate_narrowing(
+        &mut stacks.work,
+        code.steps(),
+        code.form(),
+        args,
+        view,
+        target,
+    )
 }
 
 #[cfg(test)]

@@ -9,7 +9,7 @@ use crate::{
     run_range,
 };
 use domain_ranges::{Domain, View};
-use fd_language::{Feature, FlatRange, INFINITY, Need, RangeNode};
+use fd_language::{Feature, FlatRange, Need, RangeNode};
 use monotone_check::check;
 use std::alloc::Global;
 use std::marker::Model;
@@ -143,11 +143,9 @@ fn leaves(
 fn narrowed(rt: HostRuntime) -> Result<(), Fail> {
     use RangeNode::*;
     let alloc = rt.alloc();
-    let above = [Min(7), Int(1), Add, Infinity, Span];
     let y = [Arg::Var(0)];
+    let above = [Min(7), Int(1), Add, Infinity, Span];
     leaves(&rt, alloc, &above, &y, &[(3, 5)], (0, 9), &[(4, 9)])?;
-    leaves(&rt, alloc, &above, &y, &[(3, 5)], (4, 9), &[(4, 9)])?;
-    leaves(&rt, alloc, &above, &y, &[(9, 9)], (4, 9), &[])?;
     let differs = [Val(7), One, Outside];
     leaves(
         &rt,
@@ -155,109 +153,19 @@ fn narrowed(rt: HostRuntime) -> Result<(), Fail> {
         &differs,
         &y,
         &[(4, 4)],
-        (3, 6),
-        &[(3, 3), (5, 6)],
+        (3, 5),
+        &[(3, 3), (5, 5)],
     )?;
-    leaves(&rt, alloc, &differs, &y, &[(4, 5)], (3, 6), &[(3, 6)])?;
-    leaves(&rt, alloc, &differs, &y, &[(4, 4)], (4, 4), &[])?;
     Ok(())
 }
 
+/// The set of `(0..max(Y))&-{2}`.
 #[test]
-fn constant_ranges(rt: HostRuntime) -> Result<(), Fail> {
+fn evaluated(rt: HostRuntime) -> Result<(), Fail> {
     use RangeNode::*;
-    let without_two = [Int(0), Int(3), Span, Int(2), One, Outside, Inter];
-    gives(&rt, rt.alloc(), &without_two, &[], &[], &[(0, 1), (3, 3)])?;
-    let scaled = [Int(1), One, Int(4), One, Union, Int(3), Times, Int(1), Plus];
-    gives(&rt, rt.alloc(), &scaled, &[], &[], &[(4, 4), (13, 13)])?;
-    let quotient = [Int(0), Int(10), Span, Int(3), Over];
-    gives(&rt, rt.alloc(), &quotient, &[], &[], &[(0, 3)])?;
-    Ok(())
-}
-
-/// `min(Y)+1..infinity`, `-{val(Y)}`, and an open `val` beside an empty set.
-#[test]
-fn ranges_over_domains(rt: HostRuntime) -> Result<(), Fail> {
-    use RangeNode::*;
-    let alloc = rt.alloc();
-    let above = [Min(7), Int(1), Add, Infinity, Span];
-    gives(
-        &rt,
-        alloc,
-        &above,
-        &[Arg::Var(0)],
-        &[(3, 5)],
-        &[(4, INFINITY)],
-    )?;
-    gives(&rt, alloc, &above, &[Arg::Var(0)], &[(5, 3)], &[])?;
-    let differs = [Val(7), One, Outside];
-    gives(
-        &rt,
-        alloc,
-        &differs,
-        &[Arg::Var(1)],
-        &[(9, 9), (4, 4)],
-        &[(0, 3), (5, INFINITY)],
-    )?;
-    gives(
-        &rt,
-        alloc,
-        &differs,
-        &[Arg::Var(1)],
-        &[(9, 9), (4, 5)],
-        &[(0, INFINITY)],
-    )?;
-    let either = [Val(7), One, Dom(2), Union];
-    let both = [Arg::Var(1), Arg::Var(0)];
-    gives(&rt, alloc, &either, &both, &[(2, 3), (4, 4)], &[(2, 4)])?;
-    gives(&rt, alloc, &either, &both, &[(5, 3), (4, 6)], &[])?;
-    Ok(())
-}
-
-/// Rounding of negative numbers, quotients by 0, and parameters.
-#[test]
-fn quotients_and_parameters(rt: HostRuntime) -> Result<(), Fail> {
-    use RangeNode::*;
-    let alloc = rt.alloc();
-    let up = [
-        Int(5),
-        Int(12),
-        Sub,
-        Int(2),
-        DivUp,
-        Int(10),
-        Add,
-        Int(20),
-        Span,
-    ];
-    gives(&rt, alloc, &up, &[], &[], &[(7, 20)])?;
-    let down = [
-        Int(5),
-        Int(12),
-        Sub,
-        Int(2),
-        DivDown,
-        Int(10),
-        Add,
-        Int(20),
-        Span,
-    ];
-    gives(&rt, alloc, &down, &[], &[], &[(6, 20)])?;
-    let by_least = [Int(0), Max(1), Min(4), DivDown, Span];
-    let both = [Arg::Var(0), Arg::Var(1)];
-    gives(&rt, alloc, &by_least, &both, &[(0, 9), (2, 3)], &[(0, 4)])?;
-    gives(
-        &rt,
-        alloc,
-        &by_least,
-        &both,
-        &[(0, 9), (0, 3)],
-        &[(0, INFINITY)],
-    )?;
-    let by_parameter = [Dom(4), Param(9), Over, Param(3), Minus];
-    let args = [Arg::Var(0), Arg::Int(3), Arg::Int(-2)];
-    gives(&rt, alloc, &by_parameter, &args, &[(4, 10)], &[(4, 5)])?;
-    Ok(())
+    let nodes = [Int(0), Max(7), Span, Int(2), One, Outside, Inter];
+    let y = [Arg::Var(0)];
+    gives(&rt, rt.alloc(), &nodes, &y, &[(1, 3)], &[(0, 1), (3, 3)])
 }
 
 /// The slots of `(Q*min(Y)..max(Y)):(P..9)&(0..max(Y)/<P)`, and what is told of them.
@@ -296,61 +204,14 @@ fn told_of_slots(rt: HostRuntime) -> Result<(), Fail> {
     Ok(())
 }
 
-/// Unions of spans in any order, nested to the left and to the right.
+/// `min(Y)..9` and `min(Z)..9` are alike, and `val(Y)..9` isn't.
 #[test]
-fn unions(rt: HostRuntime) -> Result<(), Fail> {
+fn alike(rt: HostRuntime) -> Result<(), Fail> {
     use RangeNode::*;
-    let alloc = rt.alloc();
-    let left = [
-        Int(6),
-        Int(8),
-        Span,
-        Int(2),
-        Int(3),
-        Span,
-        Union,
-        Int(4),
-        Int(4),
-        Span,
-        Union,
-        Int(0),
-        One,
-        Union,
-    ];
-    gives(&rt, alloc, &left, &[], &[], &[(0, 0), (2, 4), (6, 8)])?;
-    let right = [
-        Int(0),
-        One,
-        Int(3),
-        Int(7),
-        Span,
-        Int(2),
-        Int(4),
-        Span,
-        Int(9),
-        Int(8),
-        Span,
-        Union,
-        Union,
-        Union,
-    ];
-    gives(&rt, alloc, &right, &[], &[], &[(0, 0), (2, 7)])?;
-    let both = [
-        Int(5),
-        Int(9),
-        Span,
-        Int(0),
-        Int(6),
-        Span,
-        Union,
-        Int(8),
-        Int(20),
-        Span,
-        Int(3),
-        One,
-        Union,
-        Inter,
-    ];
-    gives(&rt, alloc, &both, &[], &[], &[(3, 3), (8, 9)])?;
+    let first = code_of(&rt, rt.alloc(), &[Min(3), Int(9), Span])?;
+    let second = code_of(&rt, rt.alloc(), &[Min(8), Int(9), Span])?;
+    let third = code_of(&rt, rt.alloc(), &[Val(3), Int(9), Span])?;
+    assert!(rt; first.is_alike(&second));
+    assert!(rt; !first.is_alike(&third));
     Ok(())
 }

@@ -14,7 +14,7 @@ unwrap-last-requires c = c.pop.ensures.variant.1 (some_node c.in_ok-range.range 
 pub invariant_of-result : goal.invariant_of-result
 invariant_of-result c =
     compiled c.args.c.now c.in_ok-range.range c.nodes-source.result.now c.in_ok-numbered.numbered.slots.items c.in_ok-numbered.numbered.numbers.keys c.in_ok-asked.asked.items c.in_ok-nodes.nodes.items c.in_ok-features.features.items c.in_ok-kinds.kinds.items c.in_ok-vals.vals.items c.in_ok-needs.needs.items
-    (record { front = c.pop.new.self; last = c.unwrap-last.result }) c.height_of-height.result
+    (record { front = c.pop.new.self; last = c.unwrap-last.result }) c.in_ok-form.form c.height_of-height.result
     c.range.ensures.accepted (c.in_ok-range.ensures ∙ c.range.ensures.range) c.nodes-source.ensures c.in_ok-numbered.ensures.slots c.in_ok-numbered.ensures.numbers c.in_ok-nodes.ensures
     (c.in_ok-features.ensures ∙ ap (λ l. each_once (node_features l)) c.deref.ensures.value)
     (c.in_ok-kinds.ensures ∙ ap (λ l. all_told (λ s. has_pair l (s, feature.Min)) (λ s. has_pair l (s, feature.Max)) l) c.deref-2.ensures.value)
@@ -23,4 +23,5 @@ invariant_of-result c =
     c.in_ok-asked.ensures
     (c.in_ok-needs.ensures ∙ (ap (λ l. map (need_in l) c.deref-5.result.now) c.deref-6.ensures.value ∙ ap (map (need_in c.in_ok-asked.asked.items)) c.deref-5.ensures.value))
     (put_last c.in_ok-nodes.nodes.items c.pop.new.self.items c.pop.result c.unwrap-last.result c.pop.ensures.items c.unwrap-last.ensures)
+    (λ x h. c.in_ok-form.ensures x (c.deref-7.ensures.value ∙ h))
     (c.height_of-height.ensures ∙ ap (λ l. max (peak values_after l 0) (peak sets_after l 0)) c.deref-4.ensures.value)

@@ -1,5 +1,7 @@
 use Rattle.std.proofs.Common.{sym, ◌∙◌}
 use Rattle.range_code.proofs.Running.{vals_there, nodes_readable, nodes_fit_family, open_narrows, table_narrows}
+use Rattle.range_code.specs.Slots.{in_slots}
+use Rattle.range_code.proofs.Forms.{form_spells}
 use Rattle.range_code.proofs.narrow.Goals as goal
 
 pub is_some_open-requires : goal.is_some_open-requires
@@ -14,6 +16,9 @@ evaluate_narrowing-requires-clause-readable g c = nodes_readable (g.V.View.sets 
 
 pub evaluate_narrowing-requires-clause-fits : goal.evaluate_narrowing-requires-clause-fits
 evaluate_narrowing-requires-clause-fits g c = nodes_fit_family (g.V.View.sets c.args.view.now) c.args.code.now c.args.args.now c.vals.ensures.accepted c.requires.frame _ c.steps.ensures.nodes c.requires.family
+
+pub evaluate_narrowing-requires-clause-form : goal.evaluate_narrowing-requires-clause-form
+evaluate_narrowing-requires-clause-form g c = form_spells _ (in_slots c.args.code.now) c.form.result.now c.steps.ensures.nodes c.form.ensures
 
 pub returns-clause-narrowed : goal.returns-clause-narrowed
 returns-clause-narrowed g c =

@@ -1,0 +1,348 @@
+-- How the nodes of a range are read as a form.
+use Rattle.std.proofs.Common.{SFits, ◌≡◌, ℕ, zero, suc, ◌+◌, ◌*◌, ◌-◌, ◌^◌, ◌<◌, ◌≤◌, length, take, drop, get_or, Bool, true, false, not, ◌&&◌, int_le, ◌||◌, ◌==◌, IsTrue, eqb-true, ℤ, pos, negsuc, neg_ℤ, nat_abs, ◌+ℤ◌, ◌-ℤ◌, ◌*ℤ◌, ◌≤ℤ◌, List, [], ◌∷◌, ◌++◌, Option, Some, None, refl, sym, ◌∙◌, ap, subst, ◌⊎◌, inl, inr, arith}
+use Rattle.std.proofs.Math.IntN.{+ℤ_assoc, +ℤ_comm, +ℤ_idl, *ℤ_comm, neg_ℤ-neg_ℤ}
+use Rattle.std.proofs.lemmas.Int.{ints, fits_signed_from_abs}
+use mir.Syntax.{w64, w128}
+use Rattle.std.specs.List.{All}
+use Rattle.std.specs.Prelude.{IfSome, IfOk, Result}
+use Rattle.std.specs.Option.{unwrap_or}
+use Rattle.std.proofs.lemmas.Bool.{cases_Bool, true≢false}
+use Rattle.std.proofs.lemmas.List.Elements.{All-head, All-tail, All-append}
+use Rattle.fd_language.specs.declared.TheConstants.{INFINITY}
+use Rattle.fd_language.specs.declared.range_node.RangeNode.{RangeNode}
+use Rattle.fd_language.specs.declared.range_node.RangeNode.TheVariants as node
+use Rattle.fd_language.specs.Family.{Family, has, universe, IsRising, IsSubset}
+use Rattle.fd_language.specs.Range.{Range, Expr, Infinity, Min, Max, Val, Add, Sub, Mul, DivDown, DivUp, Span, One, Outside, in_range}
+use Rattle.fd_language.specs.Range.{Number as Literal}
+use Rattle.fd_language.specs.Check.{fill_range}
+use Rattle.fd_language.specs.Flat.{nodes_of, built, built_behind, put, shape_of, term_alone, term_of_terms, builds_range, spelled, spelled-nodes, IsSpelled}
+use Rattle.fd_language.proofs.Lemmas.{two, in_universe, has-filter, has-filter_back}
+use Rattle.fd_language.proofs.Limits.{abs_add, abs_mul, products}
+use Rattle.std.proofs.lemmas.List.{at_drop_more, take_all}
+use Rattle.domain_ranges.specs.Narrowing.{between, IsNarrowed}
+use Rattle.domain_ranges.specs.Spans.{has_int}
+use Rattle.domain_ranges.specs.declared.Narrowed.{Narrowed}
+use Rattle.range_code.specs.declared.frame.Arg.{Arg}
+use Rattle.range_code.specs.declared.form.End.TheVariants.{Least, Greatest}
+use Rattle.range_code.specs.declared.form.Product.{Product}
+use Rattle.range_code.specs.declared.form.Division.{Division}
+use Rattle.range_code.specs.declared.form.Division.TheVariants.{Whole, Down, Up}
+use Rattle.range_code.specs.declared.form.Bound.{Bound}
+use Rattle.range_code.specs.declared.form.Form.{Form}
+use Rattle.range_code.specs.declared.form.Leaf.{Leaf}
+use Rattle.range_code.specs.declared.form.Leaf.TheVariants.{Number, Read}
+use Rattle.range_code.specs.declared.form.Addend.{Addend}
+use Rattle.range_code.specs.Nodes.{IsReadable, IsSeen}
+use Rattle.range_code.specs.Work.{filled_value, filled_set}
+use Rattle.range_code.specs.Steps.{outside}
+use Rattle.range_code.specs.Forms.{IsForm, end_of, width_of, sum_of, total_of, divided, bound_value, product_value, leaf_amount, amount, AreNarrow, AreSeen, IsLeafSeen, IsPositive, IsUsable, IsInterval, IsComplement, IsException, IsLeaf, IsSigned, IsDivision, IsPart, IsAdded, IsBound}
+use Rattle.range_code.proofs.Tables.{outside_is, one_is}
+
+-- leaves
+pub leaf_number : (n : RangeNode) (z : ℤ) → n ≡ node.Int z → IsLeaf n (Number z)
+leaf_number n z e = record { term = Literal z; shape = ap shape_of e; value = λ S p. refl; seen = λ count args h. tt }
+
+pub leaf_infinity : (n : RangeNode) → n ≡ node.Infinity → IsLeaf n (Number (pos INFINITY))
+leaf_infinity n e = record { term = Infinity; shape = ap shape_of e; value = λ S p. refl; seen = λ count args h. tt }
+
+pub leaf_min : (n : RangeNode) (y : ℕ) → n ≡ node.Min y → IsLeaf n (Read y Least)
+leaf_min n y e = record { term = Min y; shape = ap shape_of e; value = λ S p. refl; seen = λ count args h. subst (IsReadable count args) e h }
+
+pub leaf_max : (n : RangeNode) (y : ℕ) → n ≡ node.Max y → IsLeaf n (Read y Greatest)
+leaf_max n y e = record { term = Max y; shape = ap shape_of e; value = λ S p. refl; seen = λ count args h. subst (IsReadable count args) e h }
+
+pub leaf_val : (n : RangeNode) (y : ℕ) → n ≡ node.Val y → IsLeaf n (Read y Least)
+leaf_val n y e = record { term = Val y; shape = ap shape_of e; value = λ S p. refl; seen = λ count args h. subst (IsReadable count args) e h }
+
+-- one more node
+step_leaf : (n : RangeNode) (ns : List RangeNode) (rs : List Range) (ts : List Expr) (t : Expr) → shape_of n ≡ term_alone t → built (n ∷ ns) rs ts ≡ built ns rs (t ∷ ts)
+step_leaf n ns rs ts t e = ap (λ s. built_behind ns (put s rs ts)) e
+
+step_two : (n : RangeNode) (ns : List RangeNode) (rs : List Range) (ts : List Expr) (a b : Expr) (make : Expr → Expr → Expr) → shape_of n ≡ term_of_terms make → built (n ∷ ns) rs (b ∷ a ∷ ts) ≡ built ns rs (make a b ∷ ts)
+step_two n ns rs ts a b make e = ap (λ s. built_behind ns (put s rs (b ∷ a ∷ ts))) e
+
+-- what is added
+pub sign_kept : (n : RangeNode) (a : Addend) → n ≡ node.Add → IsSigned n a a
+sign_kept n a e = record { make = Add; shape = ap shape_of e; value = λ S p e f h. ap (λ z. filled_value S p e +ℤ z) h; seen = λ count args h. h }
+
+neg_times : (w x : ℤ) → neg_ℤ (w *ℤ x) ≡ neg_ℤ w *ℤ x
+neg_times (pos zero) (pos x) = let e : 0 * x ≡ 0 = omega arith in rw e refl
+neg_times (pos (suc w)) (pos x) = refl
+neg_times (negsuc w) (pos x) = neg_ℤ-neg_ℤ (pos (suc w * x))
+neg_times (pos zero) (negsuc x) = let e : 0 * suc x ≡ 0 = omega arith in rw e refl
+neg_times (pos (suc w)) (negsuc x) = neg_ℤ-neg_ℤ (pos (suc w * suc x))
+neg_times (negsuc w) (negsuc x) = refl
+
+pub sign_turned : (n : RangeNode) (a : Addend) (w : ℤ) → n ≡ node.Sub → w ≡ neg_ℤ a.weight → IsSigned n a (record { weight = w; leaf = a.leaf })
+sign_turned n a w e g = record {
+  make = Sub;
+  shape = ap shape_of e;
+  value = λ S p e f h. ap (λ z. filled_value S p e -ℤ z) h ∙ ap (λ z. filled_value S p e +ℤ z) (neg_times a.weight (leaf_amount S a.leaf) ∙ ap (λ v. v *ℤ leaf_amount S a.leaf) (sym g));
+  seen = λ count args h. h;
+}
+
+once_is : (z : ℤ) → z ≡ pos 1 *ℤ z
+once_is (pos n) = let e : 1 * n ≡ n = omega arith in rw e refl
+once_is (negsuc n) = let e : 1 * suc n ≡ suc n = omega arith in rw e refl
+
+pub times_first : (z : ℤ) (k : Leaf) (S : Family) → leaf_amount S (Number z) *ℤ leaf_amount S k ≡ amount S (record { weight = z; leaf = k })
+times_first z k S = refl
+
+pub times_second : (l : Leaf) (z : ℤ) (S : Family) → leaf_amount S l *ℤ leaf_amount S (Number z) ≡ amount S (record { weight = z; leaf = l })
+times_second l z S = *ℤ_comm (leaf_amount S l) z
+
+-- the first nodes of what follows a term
+module _ (first last : RangeNode) (rest : List RangeNode) where
+  pub part_alone : (l : Leaf) (a : Addend) → IsLeaf first l → IsSigned last (record { weight = pos 1; leaf = l }) a → IsPart (first ∷ last ∷ rest) a rest
+  part_alone l a f s = record {
+    make = λ e. s.make e f.term;
+    nodes = λ rs ts e. step_leaf first (last ∷ rest) rs (e ∷ ts) f.term f.shape ∙ step_two last rest rs ts e f.term s.make s.shape;
+    value = λ S p e. s.value S p e f.term (f.value S p ∙ once_is (leaf_amount S l));
+    seen = λ count args h. (
+      s.seen count args (f.seen count args (All-head (IsReadable count args) first (last ∷ rest) h)),
+      All-tail (IsReadable count args) last rest (All-tail (IsReadable count args) first (last ∷ rest) h),
+    );
+  }
+
+  leaf_seen : (second : RangeNode) (l k m : Leaf) (count : ℕ) (args : List Arg) → IsLeafSeen count args l → IsLeafSeen count args k → (m ≡ l) ⊎ (m ≡ k) → IsLeafSeen count args m
+  leaf_seen second l k m count args f g h = elim h [ inl e ↦ subst (IsLeafSeen count args) (sym e) f | inr e ↦ subst (IsLeafSeen count args) (sym e) g ]
+
+  pub part_times : (second third : RangeNode) (l k : Leaf) (m a : Addend) → third ≡ node.Mul → IsLeaf first l → IsLeaf second k → ((S : Family) → leaf_amount S l *ℤ leaf_amount S k ≡ amount S m) → (m.leaf ≡ l) ⊎ (m.leaf ≡ k) → IsSigned last m a →
+      IsPart (first ∷ second ∷ third ∷ last ∷ rest) a rest
+  part_times second third l k m a e f g h w s = record {
+    make = λ t. s.make t (Mul f.term g.term);
+    nodes = λ rs ts t. step_leaf first (second ∷ third ∷ last ∷ rest) rs (t ∷ ts) f.term f.shape
+        ∙ (step_leaf second (third ∷ last ∷ rest) rs (f.term ∷ t ∷ ts) g.term g.shape
+        ∙ (step_two third (last ∷ rest) rs (t ∷ ts) f.term g.term Mul (ap shape_of e)
+        ∙ step_two last rest rs ts t (Mul f.term g.term) s.make s.shape));
+    value = λ S p t. s.value S p t (Mul f.term g.term) (two (λ x y. x *ℤ y) (f.value S p) (g.value S p) ∙ h S);
+    seen = λ count args r.
+        let behind = All-tail (IsReadable count args) first (second ∷ third ∷ last ∷ rest) r in (
+          s.seen count args (leaf_seen second l k m.leaf count args (f.seen count args (All-head (IsReadable count args) first (second ∷ third ∷ last ∷ rest) r)) (g.seen count args (All-head (IsReadable count args) second (third ∷ last ∷ rest) behind)) w),
+          All-tail (IsReadable count args) last rest (All-tail (IsReadable count args) third (last ∷ rest) (All-tail (IsReadable count args) second (third ∷ last ∷ rest) behind)),
+        );
+  }
+
+-- sums
+sum_append : (S : Family) (ms : List Product) (m : Product) → sum_of S (ms ++ m ∷ []) ≡ sum_of S ms +ℤ product_value S m
+sum_append S [] m = let z = product_value S m in grind (arith, ints)
+sum_append S (k ∷ ms) m = ap (λ z. product_value S k +ℤ z) (sum_append S ms m) ∙ sym (+ℤ_assoc (product_value S k) (sum_of S ms) (product_value S m))
+
+swapped : (a b c : ℤ) → (a +ℤ b) +ℤ c ≡ (a +ℤ c) +ℤ b
+swapped a b c = +ℤ_assoc a b c ∙ (ap (λ z. a +ℤ z) (+ℤ_comm b c) ∙ sym (+ℤ_assoc a c b))
+
+pub added_number : (old new : Bound) (w z : ℤ) → new.constant ≡ old.constant +ℤ w *ℤ z → new.products ≡ old.products → new.division ≡ old.division → IsAdded old (record { weight = w; leaf = Number z }) new
+added_number old new w z c p d = record {
+  value = λ S. two (λ x ms. x +ℤ sum_of S ms) c (ap (λ v. v.items) p) ∙ swapped old.constant (w *ℤ z) (sum_of S old.products.items);
+  seen = λ count args h g. subst (λ v. AreSeen count args v.items) (sym p) h;
+  division = d;
+}
+
+none_seen : (count : ℕ) (args : List Arg) → AreSeen count args []
+none_seen count args k d h = absurd (nothing k h) where
+  nothing : (k : ℕ) → k < 0 → ⊥
+  nothing k h = omega arith
+
+one_seen : (count : ℕ) (args : List Arg) (m : Product) → IsSeen count args m.slot → AreSeen count args (m ∷ [])
+one_seen count args m h zero d l = h
+one_seen count args m h (suc k) d l = absurd (nothing k l) where
+  nothing : (k : ℕ) → suc k < 1 → ⊥
+  nothing k l = omega arith
+
+pub added_read : (old new : Bound) (m : Product) → new.constant ≡ old.constant → new.products.items ≡ old.products.items ++ m ∷ [] → new.division ≡ old.division → IsAdded old (record { weight = m.weight; leaf = Read m.slot m.end }) new
+added_read old new m c p d = record {
+  value = λ S. two (λ x ms. x +ℤ sum_of S ms) c p ∙ (ap (λ z. old.constant +ℤ z) (sum_append S old.products.items m) ∙ sym (+ℤ_assoc old.constant (sum_of S old.products.items) (product_value S m)));
+  seen = λ count args h g. subst (AreSeen count args) (sym p) (All-append (λ k. IsSeen count args k.slot) old.products.items (m ∷ []) h (one_seen count args m g));
+  division = d;
+}
+
+-- one more product of a sum
+pub product_small : (w : ℤ) (e : ℕ) → e ≤ INFINITY → nat_abs (w *ℤ pos e) ≤ nat_abs w * INFINITY
+product_small w e h = products (nat_abs (w *ℤ pos e)) (nat_abs w) e (nat_abs w) INFINITY (abs_mul w (pos e)) (omega arith) h
+
+pub sum_small : (s w : ℤ) (e : ℕ) → nat_abs s + nat_abs w * INFINITY ≤ 2 ^ 63 - 1 → e ≤ INFINITY → nat_abs (s +ℤ w *ℤ pos e) ≤ 2 ^ 63 - 1
+sum_small s w e h l = let a = abs_add s (w *ℤ pos e) in let b = product_small w e l in grind (arith, a, b, h)
+
+pub sum_more : (S : Family) (ms : List Product) (i : ℕ) (d : Product) (s total r : ℤ) (e : ℕ) → i < length ms → e ≡ end_of (S (get_or ms i d).slot) (get_or ms i d).end → s +ℤ sum_of S (drop i ms) ≡ total → r ≡ s +ℤ (get_or ms i d).weight *ℤ pos e →
+    r +ℤ sum_of S (drop (i + 1) ms) ≡ total
+sum_more S ms i d s total r e l h g f =
+    let m : Product = get_or ms i d in
+    ap (λ z. z +ℤ sum_of S (drop (i + 1) ms)) (f ∙ ap (λ k. s +ℤ m.weight *ℤ pos k) h) ∙ (+ℤ_assoc s (product_value S m) (sum_of S (drop (i + 1) ms))
+    ∙ (ap (λ z. s +ℤ z) (sym (at_drop_more (sum_of S) ms i d l)) ∙ g))
+
+pub width_first : (ms : List Product) (i : ℕ) (d : Product) (s : ℤ) → i < length ms → AreNarrow (nat_abs s) (drop i ms) → AreNarrow (nat_abs s) (get_or ms i d ∷ drop (i + 1) ms)
+width_first ms i d s l h = subst (λ n. nat_abs s + n ≤ 2 ^ 63 - 1) (at_drop_more width_of ms i d l) h
+
+pub width_there : (ms : List Product) (i : ℕ) (d : Product) (s : ℤ) → i < length ms → AreNarrow (nat_abs s) (drop i ms) → nat_abs s + nat_abs (get_or ms i d).weight * INFINITY ≤ 2 ^ 63 - 1
+width_there ms i d s l h = let k = width_first ms i d s l h in grind (arith, k)
+
+pub width_more : (ms : List Product) (i : ℕ) (d : Product) (s r : ℤ) (e : ℕ) → i < length ms → AreNarrow (nat_abs s) (drop i ms) → e ≤ INFINITY → r ≡ s +ℤ (get_or ms i d).weight *ℤ pos e → AreNarrow (nat_abs r) (drop (i + 1) ms)
+width_more ms i d s r e l h g f =
+    let k = width_first ms i d s l h in
+    let a = abs_add s ((get_or ms i d).weight *ℤ pos e) in
+    let b = product_small (get_or ms i d).weight e g in
+    subst (λ z. AreNarrow (nat_abs z) (drop (i + 1) ms)) (sym f) (joined (nat_abs (s +ℤ (get_or ms i d).weight *ℤ pos e)) (nat_abs s) (nat_abs ((get_or ms i d).weight *ℤ pos e)) (nat_abs (get_or ms i d).weight * INFINITY) (width_of (drop (i + 1) ms)) (2 ^ 63 - 1) a b k) where
+      joined : (x y z w v m : ℕ) → x ≤ y + z → z ≤ w → y + (w + v) ≤ m → x + v ≤ m
+      joined x y z w v m a b c = omega arith
+
+pub seen_at : (count : ℕ) (args : List Arg) (ms : List Product) (i : ℕ) (d : Product) → i < length ms → AreSeen count args ms → IsSeen count args (get_or ms i d).slot
+seen_at count args ms i d l h = h i d l
+
+pub has_limit : (M : ℕ) (xs : List ℕ) (n : ℕ) → IsRising 0 M xs → IsTrue (has xs n) → n ≤ M
+has_limit M xs n r h = within 0 M xs n r h where
+  within : (low M : ℕ) (xs : List ℕ) (n : ℕ) → IsRising low M xs → has xs n ≡ true → n ≤ M
+  within low M [] n r h = absurd cc
+  within low M (x ∷ xs) n r h = elim (cases_Bool (x == n)) [
+    | inl e ↦ subst (λ k. k ≤ M) (eqb-true x n e) r.1
+    | inr e ↦ within (suc x) M xs n r.2 (ap (λ b. b || has xs n) (sym e) ∙ h)
+  ]
+
+pub max_limit : (o : Option ℕ) (xs : List ℕ) (r : ℕ) → r ≡ unwrap_or o 0 → IfSome o (λ n. IsTrue (has xs n)) → IsRising 0 INFINITY xs → r ≤ INFINITY
+max_limit None xs r e h f = omega (arith, e)
+max_limit (Some n) xs r e h f = subst (λ k. k ≤ INFINITY) (sym e) (has_limit INFINITY xs n f h)
+
+-- a bound from the first leaf on
+pub bound_first : (n : RangeNode) (rest : List RangeNode) (l : Leaf) (empty b : Bound) → IsLeaf n l → ((S : Family) → total_of S empty ≡ pos 0) → empty.products.items ≡ [] → empty.division ≡ Whole → IsAdded empty (record { weight = pos 1; leaf = l }) b → IsBound (n ∷ rest) b rest
+bound_first n rest l empty b f z p d a = record {
+  term = f.term;
+  nodes = λ rs ts. step_leaf n rest rs ts f.term f.shape;
+  value = λ S v. f.value S v ∙ (once_is (leaf_amount S l) ∙ (sym (+ℤ_idl (pos 1 *ℤ leaf_amount S l)) ∙ (ap (λ x. x +ℤ pos 1 *ℤ leaf_amount S l) (sym (z S)) ∙ (sym (a.value S) ∙ ap (λ x. divided x (total_of S b)) (sym (a.division ∙ d))))));
+  seen = λ count args h. (a.seen count args (subst (AreSeen count args) (sym p) (none_seen count args)) (f.seen count args (All-head (IsReadable count args) n rest h)), All-tail (IsReadable count args) n rest h);
+  division = subst IsPositive (sym (a.division ∙ d)) tt;
+}
+
+whole_value : (S : Family) (b : Bound) → b.division ≡ Whole → bound_value S b ≡ total_of S b
+whole_value S b d = ap (λ x. divided x (total_of S b)) d
+
+pub bound_more : (ns rest behind : List RangeNode) (b c : Bound) (a : Addend) → IsBound ns b rest → b.division ≡ Whole → IsPart rest a behind → IsAdded b a c → IsBound ns c behind
+bound_more ns rest behind b c a f d g h = record {
+  term = g.make f.term;
+  nodes = λ rs ts. f.nodes rs ts ∙ g.nodes rs ts f.term;
+  value = λ S p. g.value S p f.term ∙ (ap (λ z. z +ℤ amount S a) (f.value S p ∙ whole_value S b d) ∙ (sym (h.value S) ∙ sym (whole_value S c (h.division ∙ d))));
+  seen = λ count args r. let s = f.seen count args r in let t = g.seen count args s.1 in (h.seen count args s.0 t.0, t.1);
+  division = subst IsPositive (sym (h.division ∙ d)) tt;
+}
+
+-- a divided one
+pub division_down : (n m : RangeNode) (d : ℤ) → n ≡ node.Int d → m ≡ node.DivDown → pos 1 ≤ℤ d → IsDivision n m (Down d)
+division_down n m d e f h = record { term = Literal d; make = DivDown; divisor = ap shape_of e; shape = ap shape_of f; value = λ S p t. refl; positive = h }
+
+pub division_up : (n m : RangeNode) (d : ℤ) → n ≡ node.Int d → m ≡ node.DivUp → pos 1 ≤ℤ d → IsDivision n m (Up d)
+division_up n m d e f h = record { term = Literal d; make = DivUp; divisor = ap shape_of e; shape = ap shape_of f; value = λ S p t. refl; positive = h }
+
+pub bound_divided : (ns rest : List RangeNode) (b c : Bound) (n m : RangeNode) (d : Division) → IsBound ns b (n ∷ m ∷ rest) → b.division ≡ Whole → IsDivision n m d → c.constant ≡ b.constant → c.products ≡ b.products → c.division ≡ d → IsBound ns c rest
+bound_divided ns rest b c n m d f w g k p q = record {
+  term = g.make f.term g.term;
+  nodes = λ rs ts. f.nodes rs ts ∙ (step_leaf n (m ∷ rest) rs (f.term ∷ ts) g.term g.divisor ∙ step_two m rest rs ts f.term g.term g.make g.shape);
+  value = λ S z. g.value S z f.term ∙ (ap (divided d) (f.value S z ∙ (whole_value S b w ∙ two (λ x ms. x +ℤ sum_of S ms) (sym k) (ap (λ l. l.items) (sym p)))) ∙ ap (λ x. divided x (total_of S c)) (sym q));
+  seen = λ count args r. let s = f.seen count args r in (subst (λ l. AreSeen count args l.items) (sym p) s.0, All-tail (IsReadable count args) m rest (All-tail (IsReadable count args) n (m ∷ rest) s.1));
+  division = subst IsPositive (sym q) g.positive;
+}
+
+-- the first elements of a list
+pub front_two : (ns : List RangeNode) (d : RangeNode) → 2 ≤ length ns → ns ≡ get_or ns 0 d ∷ get_or ns 1 d ∷ take (length ns - 2) (drop 2 ns)
+front_two [] d h = absurd (let k : ⊥ = omega (arith, h) in k)
+front_two (a ∷ []) d h = absurd (let k : ⊥ = omega (arith, h) in k)
+front_two (a ∷ b ∷ ns) d h = ap (λ l. a ∷ b ∷ l) (sym (take_all (length (a ∷ b ∷ ns) - 2) ns (omega arith)))
+
+pub front_four : (ns : List RangeNode) (d : RangeNode) → 4 ≤ length ns → ns ≡ get_or ns 0 d ∷ get_or ns 1 d ∷ get_or ns 2 d ∷ get_or ns 3 d ∷ take (length ns - 4) (drop 4 ns)
+front_four [] d h = absurd (let k : ⊥ = omega (arith, h) in k)
+front_four (a ∷ []) d h = absurd (let k : ⊥ = omega (arith, h) in k)
+front_four (a ∷ b ∷ []) d h = absurd (let k : ⊥ = omega (arith, h) in k)
+front_four (a ∷ b ∷ c ∷ []) d h = absurd (let k : ⊥ = omega (arith, h) in k)
+front_four (a ∷ b ∷ c ∷ e ∷ ns) d h = ap (λ l. a ∷ b ∷ c ∷ e ∷ l) (sym (take_all (length (a ∷ b ∷ c ∷ e ∷ ns) - 4) ns (omega arith)))
+
+pub front_one : (ns : List RangeNode) (d : RangeNode) → 1 ≤ length ns → ns ≡ get_or ns 0 d ∷ take (length ns - 1) (drop 1 ns)
+front_one [] d h = absurd (let k : ⊥ = omega (arith, h) in k)
+front_one (a ∷ ns) d h = ap (λ l. a ∷ l) (sym (take_all (length (a ∷ ns) - 1) ns (omega arith)))
+
+pub only_one : (ns : List RangeNode) (d : RangeNode) → length ns ≡ 1 → ns ≡ get_or ns 0 d ∷ []
+only_one [] d h = absurd (let k : ⊥ = omega (arith, h) in k)
+only_one (a ∷ []) d h = refl
+only_one (a ∷ b ∷ ns) d h = absurd (let k : ⊥ = omega (arith, h) in k)
+
+pub only_two : (ns : List RangeNode) (d : RangeNode) → length ns ≡ 2 → ns ≡ get_or ns 0 d ∷ get_or ns 1 d ∷ []
+only_two [] d h = absurd (let k : ⊥ = omega (arith, h) in k)
+only_two (a ∷ []) d h = absurd (let k : ⊥ = omega (arith, h) in k)
+only_two (a ∷ b ∷ []) d h = refl
+only_two (a ∷ b ∷ c ∷ ns) d h = absurd (let k : ⊥ = omega (arith, h) in k)
+
+-- the whole
+some_same : (r q : Range) → Some r ≡ Some q → r ≡ q
+some_same r q e = cc
+
+module _ (ns : List RangeNode) (r : Range) (are : ns ≡ nodes_of r) where
+  whole_built : Some r ≡ built ns [] []
+  whole_built = sym (ap (λ l. built l [] []) are ∙ builds_range r [] [])
+
+  usable : (b : Bound) → AreNarrow (nat_abs b.constant) b.products.items → IsPositive b.division → ((count : ℕ) (args : List Arg) → All (IsReadable count args) ns → AreSeen count args b.products.items) → IsUsable r b
+  usable b w p s = record { width = w; division = p; seen = λ count args h. s count args (subst (All (IsReadable count args)) (sym are) h) }
+
+  low_usable : (rest : List RangeNode) (a : Bound) → IsBound ns a rest → AreNarrow (nat_abs a.constant) a.products.items → IsUsable r a
+  low_usable rest a f w = usable a w f.division (λ count args h. (f.seen count args h).0)
+
+  high_usable : (middle rest : List RangeNode) (a b : Bound) → IsBound ns a middle → IsBound middle b rest → AreNarrow (nat_abs b.constant) b.products.items → IsUsable r b
+  high_usable middle rest a b f g w = usable b w g.division (λ count args h. (g.seen count args (f.seen count args h).1).0)
+
+  -- the range, where the nodes end with the bounds
+  two_ends : (middle rest : List RangeNode) (a b : Bound) (f : IsBound ns a middle) (g : IsBound middle b rest) → Some r ≡ built rest [] (g.term ∷ f.term ∷ [])
+  two_ends middle rest a b f g = whole_built ∙ (f.nodes [] [] ∙ g.nodes [] (f.term ∷ []))
+
+  pub interval_form : (middle : List RangeNode) (m : RangeNode) (a b : Bound) → IsBound ns a middle → IsBound middle b (m ∷ []) → m ≡ node.Span → AreNarrow (nat_abs a.constant) a.products.items → AreNarrow (nat_abs b.constant) b.products.items → IsInterval r a b
+  interval_form middle m a b f g e v w =
+      let is : r ≡ Span f.term g.term = some_same r (Span f.term g.term) (two_ends middle (m ∷ []) a b f g ∙ ap (λ k. built (k ∷ []) [] (g.term ∷ f.term ∷ [])) e) in
+      record {
+        set = λ S p. ap (filled_set S p) is ∙ two between (f.value S p) (g.value S p);
+        low = low_usable middle a f v;
+        high = high_usable middle (m ∷ []) a b f g w;
+      }
+
+  pub complement_form : (middle : List RangeNode) (m n : RangeNode) (a b : Bound) → IsBound ns a middle → IsBound middle b (m ∷ n ∷ []) → m ≡ node.Span → n ≡ node.Outside → AreNarrow (nat_abs a.constant) a.products.items → AreNarrow (nat_abs b.constant) b.products.items → IsComplement r a b
+  complement_form middle m n a b f g e i v w =
+      let is : r ≡ Outside (Span f.term g.term) = some_same r (Outside (Span f.term g.term)) (two_ends middle (m ∷ n ∷ []) a b f g ∙ two (λ k j. built (k ∷ j ∷ []) [] (g.term ∷ f.term ∷ [])) e i) in
+      record {
+        set = λ S p. ap (filled_set S p) is ∙ (sym (outside_is INFINITY (in_range INFINITY S (fill_range p (Span f.term g.term)))) ∙ ap outside (two between (f.value S p) (g.value S p)));
+        low = low_usable middle a f v;
+        high = high_usable middle (m ∷ n ∷ []) a b f g w;
+      }
+
+  pub exception_form : (m n : RangeNode) (a : Bound) → IsBound ns a (m ∷ n ∷ []) → m ≡ node.One → n ≡ node.Outside → AreNarrow (nat_abs a.constant) a.products.items → IsException r a
+  exception_form m n a f e i v =
+      let is : r ≡ Outside (One f.term) = some_same r (Outside (One f.term)) (whole_built ∙ (f.nodes [] [] ∙ two (λ k j. built (k ∷ j ∷ []) [] (f.term ∷ [])) e i)) in
+      record {
+        set = λ S p. ap (filled_set S p) is ∙ (sym (outside_is INFINITY (in_range INFINITY S (fill_range p (One f.term)))) ∙ ap outside (sym (one_is INFINITY (filled_value S p f.term)) ∙ ap (λ z. between z z) (f.value S p)));
+        value = low_usable (m ∷ n ∷ []) a f v;
+      }
+
+-- the nodes of a range spell it
+pub form_spells : (nodes : List RangeNode) (r : Range) (form : Form) → nodes ≡ nodes_of r → IsForm r form → IsForm (spelled nodes) form
+form_spells nodes r form e = subst (λ x. IsForm x form) (sym (ap spelled e ∙ spelled-nodes r))
+
+pub spells_itself : (nodes : List RangeNode) → IsSpelled nodes → nodes ≡ nodes_of (spelled nodes)
+spells_itself nodes (r, e) = sym e ∙ ap nodes_of (sym (spelled-nodes r) ∙ ap spelled e)
+
+pub fits_small : (z : ℤ) → nat_abs z ≤ 2 ^ 63 - 1 → SFits w64 z
+fits_small z h = fits_signed_from_abs w64 z (omega arith)
+
+-- an integer of 64 bits in 128 bits
+pub wider : (z : ℤ) → SFits w64 z → SFits w128 z
+wider z h = record { sfits = omega (arith, h.sfits) }
+
+-- what is left of a set, by the set that it is intersected with
+pub narrows_same : {E : Type 0} (res : Result Narrowed E) (old s t : List ℕ) → s ≡ t → IfOk res (IsNarrowed old s) → IfOk res (IsNarrowed old t)
+narrows_same res old s t e h = subst (λ l. IfOk res (IsNarrowed old l)) e h
+
+int_between : (v : ℤ) (n : ℕ) → (int_le v (pos n) && int_le (pos n) v) ≡ true → v ≡ pos n
+int_between v n h = grind (arith, ints, h)
+
+-- a set keeps all its members where the number that is left out isn't one
+pub kept_without : (xs : List ℕ) (v : ℤ) → has_int xs v ≡ false → IsRising 0 INFINITY xs → IsSubset xs (outside (between v v))
+kept_without xs v h r = record {
+  each = λ n g. let low : n ≤ INFINITY = has_limit INFINITY xs n r g in
+      has-filter (λ k. not (has (between v v) k)) (universe INFINITY) n (in_universe INFINITY n low) (apart n g (has (between v v) n) refl);
+} where
+  apart : (n : ℕ) → has xs n ≡ true → (b : Bool) → has (between v v) n ≡ b → not b ≡ true
+  apart n g false e = refl
+  apart n g true e =
+      let is : v ≡ pos n = int_between v n (has-filter_back (λ k. int_le v (pos k) && int_le (pos k) v) (universe INFINITY) n e).1 in
+      absurd (true≢false (sym g ∙ (sym (ap (has_int xs) is) ∙ h)))

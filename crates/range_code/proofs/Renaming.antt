@@ -1,0 +1,70 @@
+-- Ranges that are the same in slots are posted as the same range.
+use Rattle.std.proofs.Common.{◌≡◌, ℕ, ◌+◌, ◌<◌, ◌≤◌, List, ◌∷◌, length, drop, get_or, refl, sym, ◌∙◌, ap, arith}
+use Rattle.std.proofs.lemmas.List.{at_drop_more, drop_all}
+use Rattle.fd_language.specs.declared.range_node.RangeNode.{RangeNode}
+use Rattle.fd_language.specs.Range.{Range, Span, One, Dom, Union, Inter, Outside, Plus, Minus, Times, Over, Expr, Number, Infinity, Param, Min, Max, Val, Add, Sub, Mul, DivDown, DivUp}
+use Rattle.fd_language.specs.Check.{fill_range}
+use Rattle.fd_language.specs.Flat.{nodes_of, spelled, spelled-nodes}
+use Rattle.fd_language.specs.RangeRenaming.{rename_expr, rename_range}
+use Rattle.fd_language.proofs.Lemmas.{two}
+use Rattle.range_code.specs.declared.frame.Arg.{Arg}
+use Rattle.range_code.specs.Slots.{slot_of, in_slots}
+use Rattle.range_code.specs.Frames.{slot_variable, slot_integer, posted}
+use Rattle.range_code.specs.Nodes.{rename_node}
+use Rattle.range_code.proofs.Opened.{length_map}
+use Rattle.range_code.proofs.Variables.{names_of}
+use Rattle.range_code.proofs.Running.{range_named}
+
+-- variables that are named anew twice
+expr_twice : (f g : ℕ → ℕ) (e : Expr) → rename_expr f (rename_expr g e) ≡ rename_expr (λ y. f (g y)) e
+expr_twice f g (Number z) = refl
+expr_twice f g Infinity = refl
+expr_twice f g (Param x) = refl
+expr_twice f g (Min y) = refl
+expr_twice f g (Max y) = refl
+expr_twice f g (Val y) = refl
+expr_twice f g (Add a b) = two Add (expr_twice f g a) (expr_twice f g b)
+expr_twice f g (Sub a b) = two Sub (expr_twice f g a) (expr_twice f g b)
+expr_twice f g (Mul a b) = two Mul (expr_twice f g a) (expr_twice f g b)
+expr_twice f g (DivDown a b) = two DivDown (expr_twice f g a) (expr_twice f g b)
+expr_twice f g (DivUp a b) = two DivUp (expr_twice f g a) (expr_twice f g b)
+
+range_twice : (f g : ℕ → ℕ) (r : Range) → rename_range f (rename_range g r) ≡ rename_range (λ y. f (g y)) r
+range_twice f g (Span a b) = two Span (expr_twice f g a) (expr_twice f g b)
+range_twice f g (One t) = ap One (expr_twice f g t)
+range_twice f g (Dom y) = refl
+range_twice f g (Union r q) = two Union (range_twice f g r) (range_twice f g q)
+range_twice f g (Inter r q) = two Inter (range_twice f g r) (range_twice f g q)
+range_twice f g (Outside r) = ap Outside (range_twice f g r)
+range_twice f g (Plus r c) = two Plus (range_twice f g r) (expr_twice f g c)
+range_twice f g (Minus r c) = two Minus (range_twice f g r) (expr_twice f g c)
+range_twice f g (Times r c) = two Times (range_twice f g r) (expr_twice f g c)
+range_twice f g (Over r c) = two Over (range_twice f g r) (expr_twice f g c)
+
+-- Filling in integers and naming anew commute, so what is posted depends on the slots alone.
+by_slots : (r : Range) (args : List Arg) → rename_range (slot_variable args) (fill_range (slot_integer args) (in_slots r)) ≡ posted r args
+by_slots r args =
+    ap (rename_range (slot_variable args)) (range_named (slot_of r) (slot_integer args) r)
+    ∙ range_twice (slot_variable args) (slot_of r) (fill_range (λ y. slot_integer args (slot_of r y)) r)
+
+pub alike : (r q : Range) → in_slots r ≡ in_slots q → (args : List Arg) → posted r args ≡ posted q args
+alike r q e args = sym (by_slots r args) ∙ (ap (λ x. rename_range (slot_variable args) (fill_range (slot_integer args) x)) e ∙ by_slots q args)
+
+pub same_slots : (ns ms : List RangeNode) (r q : Range) → ns ≡ nodes_of (in_slots r) → ms ≡ nodes_of (in_slots q) → ns ≡ ms → in_slots r ≡ in_slots q
+same_slots ns ms r q e f h = sym (spelled-nodes (in_slots r)) ∙ (ap spelled (sym e ∙ (h ∙ f)) ∙ spelled-nodes (in_slots q))
+
+-- lists compared place by place
+pub same_more : {X : Type 0} (xs ys : List X) (i : ℕ) (d : X) → i < length xs → length xs ≡ length ys → get_or xs i d ≡ get_or ys i d → (drop i xs ≡ drop i ys → xs ≡ ys) → drop (i + 1) xs ≡ drop (i + 1) ys → xs ≡ ys
+same_more xs ys i d l n e h g =
+    let k : i < length ys = omega arith in
+    h (at_drop_more (λ zs. zs) xs i d l ∙ (two (λ x zs. x ∷ zs) e g ∙ sym (at_drop_more (λ zs. zs) ys i d k)))
+
+pub same_done : {X : Type 0} (xs ys : List X) (i : ℕ) → length xs ≤ i → length xs ≡ length ys → (drop i xs ≡ drop i ys → xs ≡ ys) → xs ≡ ys
+same_done xs ys i l n h = let k : length ys ≤ i = omega arith in h (drop_all i xs l ∙ sym (drop_all i ys k))
+
+pub slots_keep : (r : Range) → length (nodes_of (in_slots r)) ≡ length (nodes_of r)
+slots_keep r = ap length (sym (names_of (slot_of r) r)) ∙ length_map (rename_node (slot_of r)) (nodes_of r)
+
+-- as many nodes
+pub same_length : (r q : Range) → in_slots r ≡ in_slots q → length (nodes_of r) ≡ length (nodes_of q)
+same_length r q e = sym (slots_keep r) ∙ (ap (λ x. length (nodes_of x)) e ∙ slots_keep q)

@@ -1,0 +1,18 @@
+use Rattle.std.proofs.Common.{rules, ◌≡◌, ℕ, List, ◌∙◌, ap, SFits, to_z, to_z-of_z}
+use mir.Syntax.{w64}
+use Rattle.range_code.specs.Forms.{end_of}
+use Rattle.range_code.specs.Frames.{slot_set}
+use Rattle.range_code.specs.declared.form.End.{End}
+use Rattle.range_code.proofs.Forms.{sum_more, width_more}
+use Rattle.range_code.proofs.form.sum.Goals as goal
+
+at_end : (r : ℕ) (s t : List ℕ) (x : End) → r ≡ end_of s x → s ≡ t → r ≡ end_of t x
+at_end r s t x e h = e ∙ ap (λ l. end_of l x) h
+
+pub loop-product-preserved : goal.loop-product-preserved
+loop-product-preserved g c =
+    let f : SFits w64 c.add_product-sum.result = search rules in
+    record {
+      value = simp to_z-of_z (sum_more (slot_set (g.V.View.sets c.args.view.now) c.args.args.now) c.args.products.now c.loop-product.product-index _ (to_z w64 c.loop-product.sum-bits) _ c.add_product-sum.result c.end_of-end.result c.loop-product-test.true (at_end c.end_of-end.result c.slot_domain.result.now _ _ c.end_of-end.ensures.value c.slot_domain.ensures) c.loop-product.invariant.value c.add_product-sum.ensures);
+      width = simp to_z-of_z (width_more c.args.products.now c.loop-product.product-index _ (to_z w64 c.loop-product.sum-bits) c.add_product-sum.result c.end_of-end.result c.loop-product-test.true c.loop-product.invariant.width c.end_of-end.ensures.limit c.add_product-sum.ensures);
+    }

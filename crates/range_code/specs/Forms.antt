@@ -1,0 +1,150 @@
+-- Sums of products, intervals between them, and which ranges they are.
+use Rattle.std.specs.Prelude.{◌≡◌, ℕ, ◌+◌, ◌*◌, ◌-◌, ◌^◌, ◌≤◌, ℤ, pos, ◌+ℤ◌, ◌*ℤ◌, ◌≤ℤ◌, nat_abs, List, [], ◌∷◌}
+use Rattle.std.specs.List.{All}
+use Rattle.fd_language.specs.declared.range_node.RangeNode.{RangeNode}
+use Rattle.fd_language.specs.declared.TheConstants.{INFINITY}
+use Rattle.fd_language.specs.Family.{Family}
+use Rattle.fd_language.specs.Range.{Range, Expr, least, greatest, div_down, div_up}
+use Rattle.fd_language.specs.Flat.{nodes_of, built, shape_of, term_alone, term_of_terms}
+use Rattle.domain_ranges.specs.Narrowing.{between}
+use Rattle.range_code.specs.declared.frame.Arg.{Arg}
+use Rattle.range_code.specs.declared.form.End.{End}
+use Rattle.range_code.specs.declared.form.End.TheVariants.{Least, Greatest}
+use Rattle.range_code.specs.declared.form.Product.{Product}
+use Rattle.range_code.specs.declared.form.Division.{Division}
+use Rattle.range_code.specs.declared.form.Division.TheVariants.{Whole, Down, Up}
+use Rattle.range_code.specs.declared.form.Bound.{Bound}
+use Rattle.range_code.specs.declared.form.Form.{Form}
+use Rattle.range_code.specs.declared.form.Form.TheVariants.{Nodes, Between, Without, Except}
+use Rattle.range_code.specs.declared.form.Leaf.{Leaf}
+use Rattle.range_code.specs.declared.form.Leaf.TheVariants.{Number, Read}
+use Rattle.range_code.specs.declared.form.Addend.{Addend}
+use Rattle.range_code.specs.Nodes.{IsSeen, IsReadable}
+use Rattle.range_code.specs.Work.{filled_value, filled_set}
+use Rattle.range_code.specs.Steps.{outside}
+
+-- one end of a set
+abbrev pub end_of : List ℕ → End → ℕ
+end_of s Least = least s
+end_of s Greatest = greatest s
+
+abbrev pub product_value : Family → Product → ℤ
+product_value S m = m.weight *ℤ pos (end_of (S m.slot) m.end)
+
+abbrev pub sum_of : Family → List Product → ℤ
+sum_of S [] = pos 0
+sum_of S (m ∷ ms) = product_value S m +ℤ sum_of S ms
+
+abbrev pub divided : Division → ℤ → ℤ
+divided Whole z = z
+divided (Down d) z = div_down INFINITY z d
+divided (Up d) z = div_up INFINITY z d
+
+abbrev pub total_of : Family → Bound → ℤ
+total_of S b = b.constant +ℤ sum_of S b.products.items
+
+abbrev pub bound_value : Family → Bound → ℤ
+bound_value S b = divided b.division (total_of S b)
+
+-- how far from 0 the sum of the products may be
+abbrev pub width_of : List Product → ℕ
+width_of [] = 0
+width_of (m ∷ ms) = nat_abs m.weight * INFINITY + width_of ms
+
+-- No sum of the first products leaves 64 bits.
+abbrev pub AreNarrow : ℕ → List Product → Type 0
+AreNarrow n ms = n + width_of ms ≤ 2 ^ 63 - 1
+
+abbrev pub IsPositive : Division → Type 0
+IsPositive Whole = Unit {0}
+IsPositive (Down d) = pos 1 ≤ℤ d
+IsPositive (Up d) = pos 1 ≤ℤ d
+
+-- each slot has an argument, and its variable is one of so many
+abbrev pub AreSeen : ℕ → List Arg → List Product → Type 0
+AreSeen count args ms = All (λ m. IsSeen count args m.slot) ms
+
+-- a bound that may be evaluated wherever the range may be
+pub record IsUsable (r : Range) (b : Bound) : Type 0 where
+  pub width : AreNarrow (nat_abs b.constant) b.products.items
+  pub division : IsPositive b.division
+  pub seen : (count : ℕ) (args : List Arg) → All (IsReadable count args) (nodes_of r) → AreSeen count args b.products.items
+
+-- the range is the interval from a bound to a bound, and the complement of one
+pub record IsInterval (r : Range) (a b : Bound) : Type 0 where
+  pub set : (S : Family) (p : ℕ → ℤ) → filled_set S p r ≡ between (bound_value S a) (bound_value S b)
+  pub low : IsUsable r a
+  pub high : IsUsable r b
+
+pub record IsComplement (r : Range) (a b : Bound) : Type 0 where
+  pub set : (S : Family) (p : ℕ → ℤ) → filled_set S p r ≡ outside (between (bound_value S a) (bound_value S b))
+  pub low : IsUsable r a
+  pub high : IsUsable r b
+
+-- the range is the complement of one number
+pub record IsException (r : Range) (a : Bound) : Type 0 where
+  pub set : (S : Family) (p : ℕ → ℤ) → filled_set S p r ≡ outside (between (bound_value S a) (bound_value S a))
+  pub value : IsUsable r a
+
+-- the form is one of the range
+abbrev pub IsForm : Range → Form → Type 0
+IsForm r Nodes = Unit {0}
+IsForm r (Between a b) = IsInterval r a b
+IsForm r (Without a b) = IsComplement r a b
+IsForm r (Except a) = IsException r a
+
+-- what a leaf adds
+abbrev pub leaf_amount : Family → Leaf → ℤ
+leaf_amount S (Number z) = z
+leaf_amount S (Read slot end) = pos (end_of (S slot) end)
+
+abbrev pub amount : Family → Addend → ℤ
+amount S a = a.weight *ℤ leaf_amount S a.leaf
+
+abbrev pub IsLeafSeen : ℕ → List Arg → Leaf → Type 0
+IsLeafSeen count args (Number z) = Unit {0}
+IsLeafSeen count args (Read slot end) = IsSeen count args slot
+
+-- a node that is a term by itself, and its value
+pub record IsLeaf (n : RangeNode) (l : Leaf) : Type 0 where
+  pub term : Expr
+  pub shape : shape_of n ≡ term_alone term
+  pub value : (S : Family) (p : ℕ → ℤ) → filled_value S p term ≡ leaf_amount S l
+  pub seen : (count : ℕ) (args : List Arg) → IsReadable count args n → IsLeafSeen count args l
+
+-- a node that adds a term to a term or takes it away, so that the one is added
+pub record IsSigned (n : RangeNode) (old new : Addend) : Type 0 where
+  pub make : Expr → Expr → Expr
+  pub shape : shape_of n ≡ term_of_terms make
+  pub value : (S : Family) (p : ℕ → ℤ) (e f : Expr) → filled_value S p f ≡ amount S old → filled_value S p (make e f) ≡ filled_value S p e +ℤ amount S new
+  pub seen : (count : ℕ) (args : List Arg) → IsLeafSeen count args old.leaf → IsLeafSeen count args new.leaf
+
+-- two nodes that divide the term that waits
+pub record IsDivision (n m : RangeNode) (d : Division) : Type 0 where
+  pub term : Expr
+  pub make : Expr → Expr → Expr
+  pub divisor : shape_of n ≡ term_alone term
+  pub shape : shape_of m ≡ term_of_terms make
+  pub value : (S : Family) (p : ℕ → ℤ) (e : Expr) → filled_value S p (make e term) ≡ divided d (filled_value S p e)
+  pub positive : IsPositive d
+
+-- the first nodes add to the term that waits
+pub record IsPart (ns : List RangeNode) (a : Addend) (rest : List RangeNode) : Type 0 where
+  pub make : Expr → Expr
+  pub nodes : (rs : List Range) (ts : List Expr) (e : Expr) → built ns rs (e ∷ ts) ≡ built rest rs (make e ∷ ts)
+  pub value : (S : Family) (p : ℕ → ℤ) (e : Expr) → filled_value S p (make e) ≡ filled_value S p e +ℤ amount S a
+  pub seen : (count : ℕ) (args : List Arg) → All (IsReadable count args) ns → IsLeafSeen count args a.leaf × All (IsReadable count args) rest
+
+-- something is added to a bound
+pub record IsAdded (old : Bound) (a : Addend) (new : Bound) : Type 0 where
+  pub value : (S : Family) → total_of S new ≡ total_of S old +ℤ amount S a
+  pub seen : (count : ℕ) (args : List Arg) → AreSeen count args old.products.items → IsLeafSeen count args a.leaf → AreSeen count args new.products.items
+  pub division : new.division ≡ old.division
+
+-- the first nodes are a term with the bound's value, and with the sum's
+pub record IsBound (ns : List RangeNode) (b : Bound) (rest : List RangeNode) : Type 0 where
+  pub term : Expr
+  pub nodes : (rs : List Range) (ts : List Expr) → built ns rs ts ≡ built rest rs (term ∷ ts)
+  pub value : (S : Family) (p : ℕ → ℤ) → filled_value S p term ≡ bound_value S b
+  pub seen : (count : ℕ) (args : List Arg) → All (IsReadable count args) ns → AreSeen count args b.products.items × All (IsReadable count args) rest
+  pub division : IsPositive b.division

@@ -1,0 +1,391 @@
+//! Ranges that are evaluated without waiting values: an interval between two sums, and the complement of one.
+
+ghost use Rattle.std.specs.Prelude.{◌≡◌, ◌<◌, ◌≤◌, ◌^◌, ◌-◌, ◌+◌, ◌*◌, ◌⊎◌, pos, ◌+ℤ◌, ◌*ℤ◌, nat_abs, IsTrue, List, [], ◌∷◌, length, IfSome, IfOk};
+ghost use Rattle.fd_language.specs.declared.range_node.RangeNode.{RangeNode as Spelled};
+ghost use Rattle.fd_language.specs.Family.{Family};
+ghost use Rattle.fd_language.specs.Flat.{nodes_of};
+ghost use Rattle.fd_language.specs.Range.{Range};
+ghost use Rattle.range_code.specs.Frames.{slot_set};
+ghost use Rattle.range_code.specs.Forms.{end_of as end_of_set, sum_of, total_of, divided as divided_by, leaf_amount, amount, bound_value, AreNarrow, AreSeen, IsPositive, IsUsable, IsLeaf, IsSigned, IsDivision, IsPart, IsAdded, IsBound, IsForm};
+
+use crate::frame::{Arg, slot_domain};
+use domain_ranges::{Domain, View};
+use fd_language::{INFINITY, NoMemory, RangeNode};
+use std::alloc::Global;
+
+/// One end of a domain.
+#[derive(Clone, Copy)]
+pub(crate) enum End {
+    Least,
+    Greatest,
+}
+
+/// An integer times one end of the domain in a slot.
+#[derive(Clone, Copy)]
+pub(crate) struct Product {
+    pub weight: i64,
+    pub slot: usize,
+    pub end: End,
+}
+
+/// What a sum is divided by.
+#[derive(Clone, Copy)]
+pub(crate) enum Division {
+    Whole,
+    Down(i64),
+    Up(i64),
+}
+
+/// The sum of a constant and products, divided.
+#[derive(Drop)]
+pub(crate) struct Bound {
+    pub constant: i64,
+    pub products: Vec<Product>,
+    pub division: Division,
+}
+
+/// How a range is evaluated: by its nodes, as an interval, or as the complement of one or of a single number.
+#[derive(Drop)]
+pub(crate) enum Form {
+    Nodes,
+    Between(Bound, Bound),
+    Without(Bound, Bound),
+    Except(Bound),
+}
+
+/// A term without operators.
+#[derive(Clone, Copy)]
+pub(crate) enum Leaf {
+    Number(i64),
+    Read(usize, End),
+}
+
+/// An integer times a leaf.
+#[derive(Clone, Copy)]
+pub(crate) struct Addend {
+    pub weight: i64,
+    pub leaf: Leaf,
+}
+
+/// The end of the domain, and 0 where it has no member.
+#[inline(always)]
+fn end_of(domain: &Domain, end: End) -> u32
+    ensures value { result ≡ end_of_set domain.now end }
+    ensures limit { result ≤ INFINITY }
+{
+    match end {
+        End::Least => domain.min().unwrap_or(0),
+        End::Greatest => domain.max().unwrap_or(0),
+    }
+}
+
+/// One more product.
+#[inline(always)]
+fn add_product(sum: i64, product: Product, end: u32) -> i64
+    requires width { nat_abs sum + nat_abs product.weight * INFINITY ≤ 2 ^ 63 - 1 }
+    requires limit { end ≤ INFINITY }
+    ensures { result ≡ sum +ℤ product.weight *ℤ pos end }
+{
+    sum + product.weight * end as i64
+}
+
+/// The sum of a constant and products, in 64 bits.
+#[inline(always)]
+fn sum<V: View>(constant: i64, products: &[Product], args: &[Arg], view: &V) -> i64
+    requires width { AreNarrow (nat_abs constant) products.now }
+    requires seen { AreSeen (length (V.sets view.now)) args.now products.now }
+    ensures value { result
+        ≡ constant +ℤ sum_of (slot_set (V.sets view.now) args.now) products.now }
+    ensures limit { nat_abs result ≤ 2 ^ 63 - 1 }
+{
+    let mut sum = constant;
+    for product in products {
+        let end = end_of(slot_domain(args, product.slot, view), product.end);
+        sum = add_product(sum, *product, end);
+    }
+    sum
+}
+
+/// The sum, divided.
+#[inline(always)]
+fn divided(sum: i64, division: Division) -> i64
+    requires limit { nat_abs sum ≤ 2 ^ 63 - 1 }
+    requires positive { IsPositive division }
+    ensures { result ≡ divided_by division sum }
+{
+    match division {
+        Division::Whole => sum,
+        Division::Down(divisor) => sum.div_euclid(divisor),
+        Division::Up(divisor) => -(-sum).div_euclid(divisor),
+    }
+}
+
+impl Bound {
+    /// The value over the domains of a view.
+    #[inline(always)]
+    pub fn value<V: View>(&self, args: &[Arg], view: &V) -> i64
+        requires width { AreNarrow (nat_abs self.now.constant) self.now.products.items }
+        requires division { IsPositive self.now.division }
+        requires seen { AreSeen (length (V.sets view.now)) args.now self.now.products.items }
+        ensures { result ≡ bound_value (slot_set (V.sets view.now) args.now) self.now }
+    {
+        divided(
+            sum(self.constant, &self.products, args, view),
+            self.division,
+        )
+    }
+
+    /// The sum of nothing.
+    fn new(alloc: Global) -> Bound
+        ensures value { (S : Family) → total_of S result ≡ pos 0 }
+        ensures products { result.products.items ≡ [] }
+        ensures division { result.division ≡ Division.Whole }
+    {
+        Bound {
+            constant: 0,
+            products: Vec::new(alloc),
+            division: Division::Whole,
+        }
+    }
+
+    /// Adds the product of two integers, where 64 bits hold it.
+    fn add_number(&mut self, weight: i64, value: i64) -> bool
+        ensures constant { IsTrue result
+            → self.new.constant ≡ self.old.constant +ℤ weight *ℤ value }
+        ensures products { self.new.products ≡ self.old.products }
+        ensures division { self.new.division ≡ self.old.division }
+    {
+        let Some(product) = weight.checked_mul(value) else {
+            return false;
+        };
+        let Some(constant) = self.constant.checked_add(product) else {
+            return false;
+        };
+        self.constant = constant;
+        true
+    }
+
+    /// Adds an integer times a leaf, where 64 bits hold the constant.
+    fn add(&mut self, addend: Addend) -> Result<bool, NoMemory>
+        ensures { IfOk result (λ there. IsTrue there → IsAdded self.old addend self.new) }
+    {
+        match addend.leaf {
+            Leaf::Number(value) => Ok(self.add_number(addend.weight, value)),
+            Leaf::Read(slot, end) => {
+                self.products.push(Product {
+                    weight: addend.weight,
+                    slot,
+                    end,
+                })?;
+                Ok(true)
+            }
+        }
+    }
+
+    /// Whether no sum leaves 64 bits.
+    fn is_narrow(&self) -> bool
+        ensures { IsTrue result
+            → AreNarrow (nat_abs self.now.constant) self.now.products.items }
+    {
+        let mut width = self.constant.unsigned_abs();
+        for product in &self.products {
+            let weight = product.weight.unsigned_abs();
+            width = width.saturating_add(weight.saturating_mul(INFINITY as u64));
+        }
+        width <= i64::MAX as u64
+    }
+}
+
+/// The leaf that the node is, where its value needs at most 64 bits and no argument.
+fn leaf_of(node: RangeNode) -> Option<Leaf>
+    ensures { IfSome result (IsLeaf node) }
+{
+    match node {
+        RangeNode::Int(value) => Some(Leaf::Number(value)),
+        RangeNode::Infinity => Some(Leaf::Number(INFINITY as i64)),
+        RangeNode::Min(slot) => Some(Leaf::Read(slot as usize, End::Least)),
+        RangeNode::Max(slot) => Some(Leaf::Read(slot as usize, End::Greatest)),
+        RangeNode::Val(slot) => Some(Leaf::Read(slot as usize, End::Least)),
+        _ => None,
+    }
+}
+
+/// The product of two leaves, one of which is a number.
+fn times(a: Leaf, b: Leaf) -> Option<Addend>
+    ensures value { IfSome result (λ made. (S : Family)
+        → leaf_amount S a *ℤ leaf_amount S b ≡ amount S made) }
+    ensures leaf { IfSome result (λ made. (made.leaf ≡ a) ⊎ (made.leaf ≡ b)) }
+{
+    match (a, b) {
+        (Leaf::Number(weight), leaf) => Some(Addend { weight, leaf }),
+        (leaf, Leaf::Number(weight)) => Some(Addend { weight, leaf }),
+        _ => None,
+    }
+}
+
+/// What is added where the node adds something or takes it away.
+fn signed(addend: Addend, node: RangeNode) -> Option<Addend>
+    ensures { IfSome result (IsSigned node addend) }
+{
+    match node {
+        RangeNode::Add => Some(addend),
+        RangeNode::Sub => Some(Addend {
+            weight: addend.weight.checked_neg()?,
+            leaf: addend.leaf,
+        }),
+        _ => None,
+    }
+}
+
+fn is_product(node: RangeNode) -> bool
+    ensures { IsTrue result → node ≡ RangeNode.Mul }
+{
+    matches!(node, RangeNode::Mul)
+}
+
+fn is_span(node: RangeNode) -> bool
+    ensures { IsTrue result → node ≡ RangeNode.Span }
+{
+    matches!(node, RangeNode::Span)
+}
+
+fn is_single(node: RangeNode) -> bool
+    ensures { IsTrue result → node ≡ RangeNode.One }
+{
+    matches!(node, RangeNode::One)
+}
+
+fn is_complement(node: RangeNode) -> bool
+    ensures { IsTrue result → node ≡ RangeNode.Outside }
+{
+    matches!(node, RangeNode::Outside)
+}
+
+/// The division by an integer, where the two nodes are one.
+fn division_of(divisor: RangeNode, operator: RangeNode) -> Option<Division>
+    ensures { IfSome result (IsDivision divisor operator) }
+{
+    let RangeNode::Int(divisor) = divisor else {
+        return None;
+    };
+    if divisor < 1 {
+        return None;
+    }
+    match operator {
+        RangeNode::DivDown => Some(Division::Down(divisor)),
+        RangeNode::DivUp => Some(Division::Up(divisor)),
+        _ => None,
+    }
+}
+
+/// What two nodes add to the term before them.
+fn addend_of(first: RangeNode, last: RangeNode) -> Option<Addend>
+    ensures { IfSome result (λ a. (rest : List Spelled) → IsPart (first ∷ last ∷ rest) a rest) }
+{
+    let leaf = leaf_of(first)?;
+    signed(Addend { weight: 1, leaf }, last)
+}
+
+/// The same of four nodes.
+fn product_of(
+    first: RangeNode,
+    second: RangeNode,
+    third: RangeNode,
+    last: RangeNode,
+) -> Option<Addend>
+    ensures { IfSome result (λ a. (rest : List Spelled)
+        → IsPart (first ∷ second ∷ third ∷ last ∷ rest) a rest) }
+{
+    if !is_product(third) {
+        return None;
+    }
+    let a = leaf_of(first)?;
+    let b = leaf_of(second)?;
+    let product = times(a, b)?;
+    signed(product, last)
+}
+
+/// What the first nodes add to the term before them, and the nodes behind these.
+fn next_part(nodes: &[RangeNode]) -> Option<(Addend, &[RangeNode])>
+    ensures part { IfSome result (λ found. IsPart nodes.now found.0 found.1.now) }
+    ensures fewer { IfSome result (λ found. length found.1.now < length nodes.now) }
+{
+    if let [first, second, third, last, rest @ ..] = nodes {
+        if let Some(addend) = product_of(*first, *second, *third, *last) {
+            return Some((addend, rest));
+        }
+    }
+    if let [first, last, rest @ ..] = nodes {
+        let addend = addend_of(*first, *last)?;
+        return Some((addend, rest));
+    }
+    None
+}
+
+/// The sum that the first nodes are, and the nodes behind them.
+fn read_sum(alloc: Global, nodes: &[RangeNode]) -> Result<Option<(Bound, &[RangeNode])>, NoMemory>
+    ensures bound { IfOk result (λ o. IfSome o (λ found. IsBound nodes.now found.0 found.1.now)) }
+    ensures whole { IfOk result (λ o. IfSome o (λ found. found.0.division ≡ Division.Whole)) }
+{
+    let [first, rest @ ..] = nodes else {
+        return Ok(None);
+    };
+    let Some(leaf) = leaf_of(*first) else {
+        return Ok(None);
+    };
+    let mut bound = Bound::new(alloc);
+    let mut rest = rest;
+    if !bound.add(Addend { weight: 1, leaf })? {
+        return Ok(None);
+    }
+    'parts: while let Some((addend, behind)) = next_part(rest) {
+        if !bound.add(addend)? {
+            return Ok(None);
+        }
+        rest = behind;
+    }
+    Ok(Some((bound, rest)))
+}
+
+/// The divided sum that the first nodes are, and the nodes behind them.
+fn read_bound(alloc: Global, nodes: &[RangeNode]) -> Result<Option<(Bound, &[RangeNode])>, NoMemory>
+    ensures bound { IfOk result (λ o. IfSome o (λ found. IsBound nodes.now found.0 found.1.now)) }
+    ensures width { IfOk result (λ o. IfSome o (λ found.
+        AreNarrow (nat_abs found.0.constant) found.0.products.items)) }
+{
+    let Some((mut bound, rest)) = read_sum(alloc, nodes)? else {
+        return Ok(None);
+    };
+    if !bound.is_narrow() {
+        return Ok(None);
+    }
+    if let [divisor, operator, behind @ ..] = rest {
+        if let Some(division) = division_of(*divisor, *operator) {
+            bound.division = division;
+            return Ok(Some((bound, behind)));
+        }
+    }
+    Ok(Some((bound, rest)))
+}
+
+/// The form of the range that the nodes spell.
+pub(crate) fn form_of(alloc: Global, nodes: &[RangeNode]) -> Result<Form, NoMemory>
+    ensures { IfOk result (λ form. (r : Range) → nodes.now ≡ nodes_of r → IsForm r form) }
+{
+    let Some((low, rest)) = read_bound(alloc, nodes)? else {
+        return Ok(Form::Nodes);
+    };
+    if let [single, last] = rest {
+        if is_single(*single) && is_complement(*last) {
+            return Ok(Form::Except(low));
+        }
+    }
+    let Some((high, rest)) = read_bound(alloc, rest)? else {
+        return Ok(Form::Nodes);
+    };
+    match rest {
+        [last] if is_span(*last) => Ok(Form::Between(low, high)),
+        [span, last] if is_span(*span) && is_complement(*last) => Ok(Form::Without(low, high)),
+        _ => Ok(Form::Nodes),
+    }
+}
