@@ -1,5 +1,5 @@
 -- What a branch shows of cells.
-use Rattle.std.specs.Prelude.{◌≡◌, ℕ, ◌<◌, ◌==◌, if◌then◌else◌, List, [], ◌∷◌, length, map, All, Option, Some, None}
+use Rattle.std.specs.Prelude.{◌≡◌, ℕ, ◌<◌, List, [], ◌∷◌, length, map, All, Option, Some, None}
 use Rattle.fd_language.specs.Term.{Name, Term}
 use Rattle.fd_language.specs.Needs.{once}
 use Rattle.fd_language.specs.Variables.{variables_of_all, distinct}

@@ -3,12 +3,9 @@ use Rattle.std.specs.Prelude.{◌≡◌, ℕ, ◌<◌, List, ◌++◌, All, Opti
 use Rattle.fd_language.specs.Range.{Indexical}
 use Rattle.fd_language.specs.Term.{Name, Term, apply}
 use Rattle.heap_cells.specs.declared.Cell.{Cell}
-use Rattle.heap_cells.specs.Cells.{Cells}
 use Rattle.heap_cells.specs.Terms.{term_of}
 use Rattle.unify_core.specs.declared.Touch.{Touch}
 use Rattle.unify_core.specs.declared.Touch.TheVariants.{Value, Same}
-use Rattle.unify_core.specs.Reduces.{IsSameSize}
-use Rattle.unify_core.specs.Unified.{AreUnified}
 use Rattle.machine_relation.specs.Store.{posts}
 use Rattle.machine_frames.specs.Environments.{env_look}
 use Rattle.machine_frames.specs.Frames.{IsGrown, store_touches}
@@ -25,13 +22,6 @@ pub record IsBuilt (names : List Name) (old now : State) (env new : List (Option
   pub cells : AreCells now new
   pub there : HasCells new t
   pub same : HasCells env t → new ≡ env
-
--- The cells are equal now; what the store is to be told is behind what it was to be told before.
-pub record IsEqualled (old : Cells) (a b : Cell) (now : Cells) (before after : List Touch) : Type 0 where
-  pub more : List Touch
-  pub touches : after ≡ before ++ more
-  pub unified : AreUnified old a b now more
-  pub size : IsSameSize old now
 
 -- the touch is of variables of the store, of which there are so many
 abbrev pub IsTouchBelow : ℕ → Touch → Type 0

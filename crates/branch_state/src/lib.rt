@@ -3,7 +3,7 @@
 
 mod codes;
 mod constraints;
-mod equal;
+mod heap_facts;
 mod look;
 mod naming;
 mod posting;

@@ -8,7 +8,7 @@ ghost use Rattle.term_pool.specs.Contents.{name_in};
 ghost use Rattle.term_pool.specs.Terms.{term_of as pool_term};
 ghost use Rattle.branch_state.specs.Showing.{open_set, with_sets, variables_at, IsShown, AreShowable, AreGathered};
 
-use crate::equal::know;
+use crate::heap_facts::know;
 use domain_ranges::Domain;
 use fd_language::NoMemory;
 use heap_cells::{Cell, Heap, Seen};

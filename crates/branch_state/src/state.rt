@@ -7,9 +7,9 @@ ghost use Rattle.heap_cells.specs.declared.Cell.TheVariants as cell;
 ghost use Rattle.heap_cells.specs.Cells.{with_new_slot};
 ghost use Rattle.term_pool.specs.Terms.{term_of as pool_term};
 ghost use Rattle.unify_core.specs.Outcome.{IfTrue, IfFalse};
-ghost use Rattle.unify_core.specs.Unified.{CannotUnify};
+ghost use Rattle.unify_core.specs.Unified.{CannotUnify, IsEqualled};
 ghost use Rattle.branch_state.specs.States.{first_state, with_heap, with_pair, without_pairs, HasNoModel, IsSound, IsSoundBelow, IsSameBelow, IsUndone, IsCell, AreCells};
-ghost use Rattle.branch_state.specs.Steps.{IsBuilt, IsEqualled, AreTouchesBelow, posted_with};
+ghost use Rattle.branch_state.specs.Steps.{IsBuilt, AreTouchesBelow, posted_with};
 ghost use Rattle.branch_state.specs.Compounds.{IsMade};
 ghost use Rattle.branch_state.specs.Constraints.{Constrains};
 ghost use Rattle.branch_state.specs.Ranges.{IsFull, Posts};
@@ -17,7 +17,7 @@ ghost use Rattle.branch_state.specs.Showing.{IsShown};
 
 use crate::codes::{exact_code, know_code, same_code};
 use crate::constraints::{count_variables, expand_goal, fault_of, prepare_row};
-use crate::equal::{equal, know};
+use crate::heap_facts::know;
 use crate::look::{find_offence, target_of};
 use crate::naming::prepare;
 use crate::posting::{post_all, post_prepared, post_rows};
@@ -34,7 +34,7 @@ use std::alloc::Global;
 use std::marker::Model;
 use std::rc::Rc;
 use term_pool::{AtomId, Pool, TermId};
-use unify_core::Touch;
+use unify_core::{Touch, unify_into};
 
 /// A heap and a store, as a list of pairs of which the first is the current one.
 #[derive(Drop)]
@@ -196,7 +196,7 @@ impl<A: Agenda + Drop> BranchState<A> {
         ensures sound { IfTrue result (IsSound self.new) }
         ensures below { IfFalse result (IsSoundBelow self.new) }
     {
-        equal(&mut self.heap, self.alloc, a, b, touches)
+        unify_into(&mut self.heap, self.alloc, a, b, touches)
     }
 
     /// Tells the store of touches: the ranges that say so are posted behind the others. `false` comes exactly where all have no model;

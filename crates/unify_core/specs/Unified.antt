@@ -1,5 +1,5 @@
 -- What a unification leaves.
-use Rattle.std.specs.Prelude.{◌≡◌, ℕ, ◌<◌, ◌≤◌, List, [], ◌∷◌, length}
+use Rattle.std.specs.Prelude.{◌≡◌, ℕ, ◌<◌, ◌≤◌, List, [], ◌∷◌, ◌++◌, length}
 use Rattle.fd_language.specs.Term.{Var, Substitution, apply}
 use Rattle.fd_language.specs.Unifier.{Equation, IsMostGeneral}
 use Rattle.fd_language.specs.Variables.{TermBelow}
@@ -9,6 +9,7 @@ use Rattle.heap_cells.specs.Terms.{Naming, IsOneToOne, term_of}
 use Rattle.heap_cells.specs.Atoms.{IsAtomBelow, HasAtomsBelow}
 use Rattle.unify_core.specs.declared.Touch.{Touch}
 use Rattle.unify_core.specs.Touches.{AreTouched, IsRefuted}
+use Rattle.unify_core.specs.Reduces.{IsSameSize}
 
 -- the equation of two cells' terms
 abbrev pub cells_equal : Naming → Cells → Cell → Cell → List Equation
@@ -35,3 +36,10 @@ CannotUnify h a b = (name : Naming) → IsOneToOne name → IsRefuted h (cells_e
 -- where the atoms of the heap and of the two cells were among the first n, those of the heap are so still
 abbrev pub KeepsAtoms : Cells → Cell → Cell → Cells → Type 0
 KeepsAtoms old a b now = (n : ℕ) → HasAtomsBelow n old → IsAtomBelow n a → IsAtomBelow n b → HasAtomsBelow n now
+
+-- The cells are equal now; what the store is to be told is behind what it was to be told before.
+pub record IsEqualled (old : Cells) (a b : Cell) (now : Cells) (before after : List Touch) : Type 0 where
+  pub more : List Touch
+  pub touches : after ≡ before ++ more
+  pub unified : AreUnified old a b now more
+  pub size : IsSameSize old now

@@ -8,7 +8,8 @@ ghost use Rattle.heap_cells.specs.Seen.{IsRoot};
 ghost use Rattle.heap_cells.specs.Valid.{IsHeap};
 ghost use Rattle.unify_core.specs.Reduces.{IsOwn, IsSameSize};
 ghost use Rattle.unify_core.specs.Outcome.{IfTrue, IfFalse, IfYes, IfNo, IsDone, IsHopeless, IsBinding, IsInfinite, IsSymbolicCell, TellsOccurs, TellsTouch, paired};
-ghost use Rattle.unify_core.specs.Unified.{AreUnified, CannotUnify, KeepsAtoms};
+ghost use Rattle.unify_core.specs.Opened.{BindsOpen};
+ghost use Rattle.unify_core.specs.Unified.{AreUnified, CannotUnify, KeepsAtoms, IsEqualled};
 
 use fd_language::NoMemory;
 use heap_cells::{Cell, Heap, Seen};
@@ -211,4 +212,99 @@ pub fn unify(heap: &mut Heap, alloc: Global, a: Cell, b: Cell) -> Result<Unified
             None => return Ok(Unified::Yes(touches)),
         }
     }
+}
+
+/// Binds the open variable that a cell comes to, if it does, to a constant. Whether that was so. The error is want of memory.
+#[inline(always)]
+fn bind_constant(heap: &mut Heap, c: Cell, to: Cell) -> Result<bool, NoMemory>
+    requires own { IsOf heap.old.now c }
+    ensures bound { IfTrue result (BindsOpen heap.old.now c to heap.new.now) }
+    ensures other { IfFalse result (heap.new ≡ heap.old) }
+    ensures below { heap.new.below ≡ heap.old.below }
+{
+    match to {
+        Cell::Int(_) | Cell::Atom(_) => match heap.deref(c) {
+            Seen::Open(i) => {
+                heap.bind(i, to)?;
+                Ok(true)
+            }
+            _ => Ok(false),
+        },
+        _ => Ok(false),
+    }
+}
+
+/// What holds of the current heap.
+fn know(heap: &Heap)
+    ensures { IsHeap heap.now.now }
+{
+    let _ = heap.root(Cell::Int(0));
+}
+
+/// The same, where the general way is taken: what the store is to be told goes behind `touches`.
+#[inline(never)]
+fn unify_behind(
+    heap: &mut Heap,
+    alloc: Global,
+    a: Cell,
+    b: Cell,
+    touches: &mut Vec<Touch>,
+) -> Result<bool, NoMemory>
+    requires marked { 0 < length heap.old.below }
+    requires own_a { IsOf heap.old.now a }
+    requires own_b { IsOf heap.old.now b }
+    ensures equal { IfTrue result (IsEqualled heap.old.now a b heap.new.now touches.old.items
+        touches.new.items) }
+    ensures unequal { IfFalse result (CannotUnify heap.old.now a b) }
+    ensures atoms { IfTrue result (KeepsAtoms heap.old.now a b heap.new.now) }
+    ensures valid { IfTrue result (IsHeap heap.new.now) }
+    ensures below { heap.new.below ≡ heap.old.below }
+{
+    match unify(heap, alloc, a, b)? {
+        Unified::No => Ok(false),
+        Unified::Yes(more) => {
+            touches.extend_from_slice(&more)?;
+            know(heap);
+            Ok(true)
+        }
+    }
+}
+
+/// Makes two cells of a heap equal as `unify` does, and puts what the store is to be told behind `touches`. Where two integers meet,
+/// or an open variable and a constant, that is done at once. `false` comes exactly where `unify` says `No`.
+pub fn unify_into(
+    heap: &mut Heap,
+    alloc: Global,
+    a: Cell,
+    b: Cell,
+    touches: &mut Vec<Touch>,
+) -> Result<bool, NoMemory>
+    requires marked { 0 < length heap.old.below }
+    requires own_a { IsOf heap.old.now a }
+    requires own_b { IsOf heap.old.now b }
+    ensures equal { IfTrue result (IsEqualled heap.old.now a b heap.new.now touches.old.items
+        touches.new.items) }
+    ensures unequal { IfFalse result (CannotUnify heap.old.now a b) }
+    ensures atoms { IfTrue result (KeepsAtoms heap.old.now a b heap.new.now) }
+    ensures valid { IfTrue result (IsHeap heap.new.now) }
+    ensures below { heap.new.below ≡ heap.old.below }
+{
+    match heap.deref(a) {
+        Seen::Int(x) => {
+            if let Cell::Int(y) = b {
+                return Ok(x == y);
+            }
+        }
+        Seen::Open(i) => {
+            if let Cell::Int(_) | Cell::Atom(_) = b {
+                heap.bind(i, b)?;
+                return Ok(true);
+            }
+        }
+        _ => {}
+    }
+    if bind_constant(heap, b, a)? {
+        return Ok(true);
+    }
+    unify_behind(heap, alloc, a, b, touches)
 }

@@ -21,7 +21,7 @@ use Rattle.heap_cells.specs.Cells.{Cells, Heaps, IsOf}
 use Rattle.unify_core.specs.declared.Touch.{Touch}
 use Rattle.unify_core.specs.Outcome.{IfTrue, IfFalse}
 use Rattle.unify_core.specs.Reduces.{IsSameSize}
-use Rattle.unify_core.specs.Unified.{AreUnified}
+use Rattle.unify_core.specs.Unified.{AreUnified, IsEqualled}
 use Rattle.machine_relation.specs.Store.{posts}
 use Rattle.machine_frames.specs.Frames.{IsGrown, store_touches}
 use Rattle.heap_cells.specs.Atoms.{IsAtomBelow}
@@ -36,7 +36,7 @@ use Rattle.machine_frames.proofs.Continuing.{of_grown}
 use Rattle.machine_frames.proofs.Naming.{full_own}
 use Rattle.branch_state.specs.Ranges.{IsFull}
 use Rattle.branch_state.specs.States.{State, IsCell, AreCells, IsSound, IsSoundBelow, IsSameBelow, HasNoModel, with_heap}
-use Rattle.branch_state.specs.Steps.{IsBuilt, IsEqualled, posted_with}
+use Rattle.branch_state.specs.Steps.{IsBuilt, posted_with}
 use Rattle.wam_machine.specs.Steps.{IsCellOf, Pushes, AreEquated, HasNoModelFor, Equates}
 
 -- each variable of a term of the clause has a cell

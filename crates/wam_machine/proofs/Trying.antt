@@ -32,7 +32,7 @@ use Rattle.unify_core.specs.declared.Touch.{Touch}
 use Rattle.unify_core.specs.declared.Touch.TheVariants as touch
 use Rattle.unify_core.specs.Outcome.{IfTrue, IfFalse}
 use Rattle.unify_core.specs.Touches.{IsSymbolic}
-use Rattle.unify_core.specs.Unified.{CannotUnify}
+use Rattle.unify_core.specs.Unified.{CannotUnify, IsEqualled}
 use Rattle.machine_relation.specs.Store.{posts}
 use Rattle.machine_frames.specs.Environments.{Activation, AllOwn, cell_at, env_look}
 use Rattle.machine_frames.specs.Frames.{store_touches, IsGrown}
@@ -49,7 +49,7 @@ use Rattle.machine_frames.proofs.Naming.{full_own, full_one}
 use Rattle.machine_frames.proofs.Pooled.{parts_are, same_length, length_same}
 use Rattle.machine_frames.proofs.Trying.{tried_spread, tried_place, tried_open, tried_barred, tried_unified, tried_refuted, tried_new, tried_begin, tried_end, tried_failed}
 use Rattle.branch_state.specs.States.{State, IsCell, AreCells, IsSound, IsSoundBelow, IsSameBelow, HasNoModel, with_heap}
-use Rattle.branch_state.specs.Steps.{IsBuilt, IsEqualled, AreTouchesBelow, posted_with}
+use Rattle.branch_state.specs.Steps.{IsBuilt, AreTouchesBelow, posted_with}
 use Rattle.wam_machine.specs.declared.heads.HeadPart.{HeadPart}
 use Rattle.wam_machine.specs.Heads.{part_of, parts_left, Bars, IsHeadPart, IsOnWay, Goes, work_of, parts_of_cells, IsCompound, Matches, MatchesHead, HasCell, IsFilling, AreFirst, EntersBy, IsGoneBy}
 use Rattle.wam_machine.proofs.Building.{all_one, cell_grown, heap_atoms, same_below_both, same_below_heap}

@@ -9,8 +9,8 @@ pub returns-clause-touches : goal.returns-clause-touches
 returns-clause-touches g c =
     let now : State = record { atoms = c.self.inside.atoms; heaps = c.self.inside.heap; levels = c.self.inside.store } in
     let o : IsSound now = subst IsSound (sym c.self.view_is) c.requires.sound in
-    subst (λ (s : State). AreTouchesBelow (length s.levels.current.sets) c.args.touches.now.items → IfTrue c.equal.result (AreTouchesBelow (length now.levels.current.sets) c.equal.new.touches.items)) c.self.view_is
-    (λ low. if_true c.equal.result _ _ (λ u. touches_low now.atoms now.heaps.now c.equal.new.heap.now c.args.a c.args.b c.args.touches.now.items c.equal.new.touches.items now.levels.current o.now u low) c.equal.ensures.equal)
+    subst (λ (s : State). AreTouchesBelow (length s.levels.current.sets) c.args.touches.now.items → IfTrue c.unify_into.result (AreTouchesBelow (length now.levels.current.sets) c.unify_into.new.touches.items)) c.self.view_is
+    (λ low. if_true c.unify_into.result _ _ (λ u. touches_low now.atoms now.heaps.now c.unify_into.new.heap.now c.args.a c.args.b c.args.touches.now.items c.unify_into.new.touches.items now.levels.current o.now u low) c.unify_into.ensures.equal)
 
 pub returns-clause-sound : goal.returns-clause-sound
 returns-clause-sound g c =
@@ -18,5 +18,5 @@ returns-clause-sound g c =
     let o : IsSound now = subst IsSound (sym c.self.view_is) c.requires.sound in
     let own_a : IsCell now c.args.a = subst (λ (s : State). IsCell s c.args.a) (sym c.self.view_is) c.requires.own_a in
     let own_b : IsCell now c.args.b = subst (λ (s : State). IsCell s c.args.b) (sym c.self.view_is) c.requires.own_b in
-    if_true c.equal.result _ _ (λ u. unified_sound now o c.equal.new.heap c.args.a c.args.b c.args.touches.now.items c.equal.new.touches.items c.equal.ensures.below own_a own_b u.0 u.1.0 u.1.1)
-    (if_both c.equal.result _ _ c.equal.ensures.equal (if_both c.equal.result _ _ c.equal.ensures.atoms c.equal.ensures.valid))
+    if_true c.unify_into.result _ _ (λ u. unified_sound now o c.unify_into.new.heap c.args.a c.args.b c.args.touches.now.items c.unify_into.new.touches.items c.unify_into.ensures.below own_a own_b u.0 u.1.0 u.1.1)
+    (if_both c.unify_into.result _ _ c.unify_into.ensures.equal (if_both c.unify_into.result _ _ c.unify_into.ensures.atoms c.unify_into.ensures.valid))
