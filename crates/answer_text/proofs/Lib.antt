@@ -3,3 +3,4 @@ mod Numbering
 mod Walking
 mod Sets
 mod Texts
+mod Summaries

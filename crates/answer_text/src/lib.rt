@@ -1,7 +1,7 @@
 //! The bytes that a run writes: the lines of refusals, of queries and of their events.
 #![tactic(auto)]
 
-ghost use Rattle.std.specs.Prelude.{◌≡◌, ◌++◌, ◌<◌, All, List, length, map, codes, decimal, is_some, IfOk, IfSome};
+ghost use Rattle.std.specs.Prelude.{◌≡◌, ◌++◌, ◌<◌, true, All, List, length, map, codes, decimal, is_some, IfOk, IfSome};
 ghost use Rattle.fd_language.specs.Term.{Name};
 ghost use Rattle.fd_model.specs.Lines.{event_bytes, fault_name, line};
 ghost use Rattle.fd_model.specs.Output.{refusal};
@@ -106,4 +106,30 @@ pub fn event_text(
         MachineEvent::Answer(shown) => answer_line(alloc, pool, names, shown),
         fixed => Ok(Vec::from_slice(alloc, fixed_text(fixed).unwrap())?),
     }
+}
+
+/// The summary of a run of the text for so many queens: its size, its answers, its reductions, and the line of its last event.
+pub fn summary_text(
+    alloc: Global,
+    size: u32,
+    answers: u64,
+    spent: u64,
+    last: &MachineEvent,
+) -> Result<Vec<u8>, NoMemory>
+    requires last { is_fixed last.now ≡ true }
+    ensures { IfOk result (λ text. (names : List Name) → text.items
+        ≡ line (codes "gen " ++ decimal size)
+        ++ (line (codes "answers " ++ decimal answers)
+        ++ (line (codes "reductions " ++ decimal spent)
+        ++ event_bytes (event_of names last.now)))) }
+{
+    let mut text = Vec::from_slice(alloc, b"gen ")?;
+    put_number(&mut text, u64::from(size))?;
+    text.extend_from_slice(b"\nanswers ")?;
+    put_number(&mut text, answers)?;
+    text.extend_from_slice(b"\nreductions ")?;
+    put_number(&mut text, spent)?;
+    text.push(b'\n')?;
+    text.extend_from_slice(fixed_text(last).unwrap())?;
+    Ok(text)
 }

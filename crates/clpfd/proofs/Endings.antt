@@ -1,6 +1,6 @@
 -- How a run ends, from what its last call says.
-use Rattle.std.proofs.Common.{◌≡◌, ℕ, ◌+◌, ◌<◌, ◌≤◌, ◌⊎◌, inl, inr, List, [], ◌++◌, length, Option, Some, None, IsSome, refl, ap, sym, subst, ◌∙◌, arith, codes, Bool, true, false, length-append, append-nil}
-use Rattle.std.specs.Prelude.{Result, Ok, Err, IfOk, IfSome}
+use Rattle.std.proofs.Common.{◌≡◌, ℕ, ◌+◌, ◌<◌, ◌≤◌, ◌⊎◌, inl, inr, List, [], ◌++◌, length, Option, Some, None, IsSome, refl, ap, sym, subst, ◌∙◌, arith, codes, Bool, true, false, true≢false, length-append, append-nil}
+use Rattle.std.specs.Prelude.{Result, Ok, Err, IfOk, is_none}
 use Rattle.fd_language.specs.declared.NoMemory.{NoMemory as OutOfMemory}
 use Rattle.fd_language.specs.declared.TheConstants.{INFINITY}
 use Rattle.fd_model.specs.declared.Status.{Status}
@@ -8,10 +8,9 @@ use Rattle.fd_model.specs.declared.Status.TheVariants.{Done, Usage, Refused, Sto
 use Rattle.fd_model.specs.Goal.{Program}
 use Rattle.fd_model.specs.Verdict as model
 use Rattle.fd_model.specs.Verdict.{max_text}
-use Rattle.clpfd.specs.Words.{options_of}
-use Rattle.fd_model.specs.Output.{Options, Output, Queries, VerdictOutput, refusal, usage, stop_status}
+use Rattle.fd_model.specs.Output.{Options, Output, Queries, TextOutput, VerdictOutput, IsSummary, refusal, usage, is_stop, stop_status}
 use Rattle.command_words.specs.declared.Options as command
-use Rattle.command_words.specs.Words.{asked}
+use Rattle.command_words.specs.Words.{asked, options_of}
 use Rattle.byte_ports.specs.Ports.{Put, Took, IsAtEnd, ReadJust, ReadWithin, Rose}
 use Rattle.byte_ports.proofs.Pieces.{put_none, part_none}
 use Rattle.term_pool.specs.Contents.{Contents}
@@ -20,11 +19,10 @@ use Rattle.clpfd.specs.declared.fault.Fault.{Fault}
 use Rattle.clpfd.specs.declared.fault.Fault.TheVariants as fault
 use Rattle.clpfd.specs.declared.judge.Verdict.{Verdict}
 use Rattle.clpfd.specs.declared.judge.Verdict.TheVariants as verdict
-use Rattle.clpfd.specs.Headline.{Headline, Ends, IsDecided, IsText}
+use Rattle.clpfd.specs.Headline.{Headline, Ends, IsDecided, IsText, reads_source}
 use Rattle.clpfd.specs.Endings.{SinkState, sink_at, WroteAll, WrotePart, CutBy, Wrote, Ending, fault_status}
 use Rattle.clpfd.specs.Verdicts.{verdict_of, HasNames, IsVerdictOn}
-use Rattle.clpfd.proofs.OneOutput.{one_output, text_output, verdict_output, large_verdict, large_output}
-use Rattle.clpfd.proofs.Accepting.{IsAccepted, accepted_words, accepted_options}
+use Rattle.clpfd.proofs.OneOutput.{one_output, verdict_output, large_verdict, large_output}
 
 -- ---- writing
 
@@ -67,11 +65,11 @@ pub verdict_names : (text : List ℕ) (v : Result Verdict OutOfMemory) → IfOk 
 verdict_names text (Ok v) h = h.names
 verdict_names text (Err e) h = tt
 
-pub verdict_outputs : (words : List (List ℕ)) (o : command.Options) (text : List ℕ) (v : Result Verdict OutOfMemory) (out : List ℕ) (st : Status) → options_of words ≡ Some (asked o)
+pub verdict_outputs : (words : List (List ℕ)) (o : command.Options) (text : List ℕ) (v : Result Verdict OutOfMemory) (out : List ℕ) (st : Status) → options_of words ≡ Some (asked o) → o.generate ≡ None
     → IfOk v (IsVerdictOn text) → Output INFINITY (options_of words) text out st → IfOk v (λ v. VerdictOutput INFINITY (verdict_of v) o.steps o.answers out st)
-verdict_outputs words o text (Ok v) out st e h p =
-    verdict_output INFINITY (asked o) text (verdict_of v) out st (accepted_options words (asked o) e) h.verdict (subst (λ (a : Option Options). Output INFINITY a text out st) e p)
-verdict_outputs words o text (Err f) out st e h p = tt
+verdict_outputs words o text (Ok v) out st e read h p =
+    verdict_output INFINITY (asked o) text (verdict_of v) out st read h.verdict (subst (λ (a : Option Options). Output INFINITY a text out st) e p)
+verdict_outputs words o text (Err f) out st e read h p = tt
 
 pub large_names : (v : Result Verdict OutOfMemory) → IfOk v (λ v. (pool : Contents) × (v ≡ verdict.Refused max_text TooLarge pool)) → IfOk v HasNames
 large_names (Ok v) h = subst HasNames (sym h.1) tt
@@ -117,33 +115,52 @@ decided_verdict : (o : Options) (v : model.Verdict) (out : List ℕ) (st : Statu
 decided_verdict o (model.refused place reason) out st p = subst IsDecided (sym p.1) tt
 decided_verdict o (model.accepted prog) out st p = subst IsDecided (sym p.2) (decided_stop p.0)
 
-decided_output : (a : Option Options) (text out : List ℕ) (st : Status) → IfSome a IsAccepted → Output INFINITY a text out st → IsDecided st
-decided_output None text out st r p = subst IsDecided (sym p.1) tt
-decided_output (Some o) text out st r p = let t = text_output INFINITY o text out st r p in decided_verdict o t.0 out st t.2
+decided_text : (o : Options) (size : Option ℕ) (text out : List ℕ) (st : Status) → TextOutput INFINITY o size text out st → IsDecided st
+decided_text o None text out st t = decided_verdict o t.0 out st t.2
+decided_text o (Some n) text out st s = subst IsDecided (sym s.status) (decided_stop (is_stop s.events))
 
-usage_verdict : (o : Options) (v : model.Verdict) (out : List ℕ) (st : Status) → VerdictOutput INFINITY v o.steps o.answers out st → st ≡ Usage → ⊥
-usage_verdict o (model.refused place reason) out st p e = cc (e, p.1)
-usage_verdict o (model.accepted prog) out st p e = by_stop p.0 (sym p.2 ∙ e)
+decided_output : (a : Option Options) (text out : List ℕ) (st : Status) → Output INFINITY a text out st → IsDecided st
+decided_output None text out st p = subst IsDecided (sym p.1) tt
+decided_output (Some o) text out st p = decided_text o o.generate text out st p
+
+usage_stop : (b : Bool) → stop_status b ≡ Usage → ⊥
+usage_stop true e = cc
+usage_stop false e = cc
+
+usage_text : (o : Options) (size : Option ℕ) (text out : List ℕ) (st : Status) → TextOutput INFINITY o size text out st → st ≡ Usage → ⊥
+usage_text o None text out st t e = by_verdict t.0 t.2
   where
-    by_stop : (b : Bool) → stop_status b ≡ Usage → ⊥
-    by_stop true e = cc
-    by_stop false e = cc
+    by_verdict : (v : model.Verdict) → VerdictOutput INFINITY v o.steps o.answers out st → ⊥
+    by_verdict (model.refused place reason) p = cc (e, p.1)
+    by_verdict (model.accepted prog) p = usage_stop p.0 (sym p.2 ∙ e)
+usage_text o (Some n) text out st s e = usage_stop (is_stop s.events) (sym s.status ∙ e)
 
-usage_output : (a : Option Options) (text out : List ℕ) (st : Status) → IfSome a IsAccepted → Output INFINITY a text out st → st ≡ Usage → a ≡ None
-usage_output None text out st r p e = refl
-usage_output (Some o) text out st r p e = let t = text_output INFINITY o text out st r p in absurd (usage_verdict o t.0 out st t.2 e)
+usage_output : (a : Option Options) (text out : List ℕ) (st : Status) → Output INFINITY a text out st → st ≡ Usage → a ≡ None
+usage_output None text out st p e = refl
+usage_output (Some o) text out st p e = absurd (usage_text o o.generate text out st p e)
 
--- a text that the source had is a text of the run, whatever the words ask for
-some_text : (a : Option Options) (old new : Option (List ℕ)) (text : List ℕ) → (IsSome new → old ≡ Some text) → IsText a old new text
-some_text None old new text h = tt
-some_text (Some o) old new text h = h
+-- ---- which words have the source read
+
+pub refused_words : (a : Option Options) → a ≡ None → reads_source a ≡ false
+refused_words a e = ap reads_source e
+
+pub source_words : (a : Option Options) (o : Options) → a ≡ Some o → o.generate ≡ None → reads_source a ≡ true
+source_words a o e read = ap reads_source e ∙ ap is_none read
+
+size_words : (a : Option Options) (o : Options) (n : ℕ) → a ≡ Some o → o.generate ≡ Some n → reads_source a ≡ false
+size_words a o n e size = ap reads_source e ∙ ap is_none size
+
+-- words don't both have the source read and not
+pub not_both : {P : Type 0} (a : Option Options) → reads_source a ≡ true → reads_source a ≡ false → P
+not_both a r n = absurd (true≢false (sym r ∙ n))
 
 rose_not : (a b : ℕ) → b ≡ a → a < b → ⊥
 rose_not a b e l = omega arith
 
 -- the last call wrote the output of a text of the run
 module _ (words : List (List ℕ)) (old new : Ends) (result : Status) (text : List ℕ) (out : List ℕ) (st : Status) (output : Output INFINITY (options_of words) text out st) (is : IsText (options_of words) old.left new.left text)
-    (kept : new.source_faults ≡ old.source_faults) (rest : (front : List ℕ) × Took old.left new.left front) (whole_read : (result ≡ Done) ⊎ (result ≡ Stopped) → (st ≡ Done) ⊎ (st ≡ Stopped) → IsAtEnd new.left) (same : options_of words ≡ None → (new.left ≡ old.left) × (new.source_faults ≡ old.source_faults)) where
+    (kept : new.source_faults ≡ old.source_faults) (rest : (front : List ℕ) × Took old.left new.left front) (whole_read : reads_source (options_of words) ≡ true → (result ≡ Done) ⊎ (result ≡ Stopped) → (st ≡ Done) ⊎ (st ≡ Stopped) → IsAtEnd new.left)
+    (same : reads_source (options_of words) ≡ false → (new.left ≡ old.left) × (new.source_faults ≡ old.source_faults)) where
   abbrev source_stays : old.source_faults < new.source_faults → ⊥
   source_stays l = rose_not old.source_faults new.source_faults kept l
 
@@ -151,7 +168,7 @@ module _ (words : List (List ℕ)) (old new : Ends) (result : Status) (text : Li
   source_after = omega (arith, kept)
 
   decided : IsDecided st
-  decided = decided_output (options_of words) text out st (accepted_words words) output
+  decided = decided_output (options_of words) text out st output
 
   pub ended : Ending (sink_of old) (sink_of new) result st out → Headline words old new result
   ended (inl h) = record {
@@ -165,9 +182,9 @@ module _ (words : List (List ℕ)) (old new : Ends) (result : Status) (text : Li
     source_later = source_after;
     sink_later = (let f = h.1.faults in omega (arith, f));
     rest = rest;
-    usage_only = λ e. usage_output (options_of words) text out st (accepted_words words) output (sym h.0 ∙ e);
+    usage_only = λ e. usage_output (options_of words) text out st output (sym h.0 ∙ e);
     untouched = same;
-    read_whole = λ c. whole_read c (elim c [ inl e ↦ inl (sym h.0 ∙ e) | inr e ↦ inr (sym h.0 ∙ e) ]);
+    read_whole = λ r c. whole_read r c (elim c [ inl e ↦ inl (sym h.0 ∙ e) | inr e ↦ inr (sym h.0 ∙ e) ]);
   }
   ended (inr (inl h)) = record {
     whole = λ d. absurd (subst IsDecided h.0 d);
@@ -182,7 +199,7 @@ module _ (words : List (List ℕ)) (old new : Ends) (result : Status) (text : Li
     rest = rest;
     usage_only = λ e. absurd (cc (e, h.0));
     untouched = same;
-    read_whole = λ c. absurd (elim c [ inl e ↦ (let f : Done ≡ WriteFault = sym e ∙ h.0 in cc) | inr e ↦ (let f : Stopped ≡ WriteFault = sym e ∙ h.0 in cc) ]);
+    read_whole = λ r c. absurd (elim c [ inl e ↦ (let f : Done ≡ WriteFault = sym e ∙ h.0 in cc) | inr e ↦ (let f : Stopped ≡ WriteFault = sym e ∙ h.0 in cc) ]);
   }
   ended (inr (inr h)) = record {
     whole = λ d. absurd (subst IsDecided h.0 d);
@@ -197,44 +214,52 @@ module _ (words : List (List ℕ)) (old new : Ends) (result : Status) (text : Li
     rest = rest;
     usage_only = λ e. absurd (cc (e, h.0));
     untouched = same;
-    read_whole = λ c. absurd (elim c [ inl e ↦ (let f : Done ≡ NoMemory = sym e ∙ h.0 in cc) | inr e ↦ (let f : Stopped ≡ NoMemory = sym e ∙ h.0 in cc) ]);
+    read_whole = λ r c. absurd (elim c [ inl e ↦ (let f : Done ≡ NoMemory = sym e ∙ h.0 in cc) | inr e ↦ (let f : Stopped ≡ NoMemory = sym e ∙ h.0 in cc) ]);
   }
+
+-- nothing was read
+module _ (words : List (List ℕ)) (old new : Ends) (result : Status) (none : reads_source (options_of words) ≡ false) (same : new.left ≡ old.left) (count : new.source_faults ≡ old.source_faults) where
+  unread : (out : List ℕ) (st : Status) → Output INFINITY (options_of words) [] out st → Ending (sink_of old) (sink_of new) result st out → Headline words old new result
+  unread out st output h =
+      ended words old new result [] out st output (λ r. not_both (options_of words) r none) count (subst (λ (l : Option (List ℕ)). (front : List ℕ) × Took old.left l front) (sym same) (none_took old.left))
+      (λ r. not_both (options_of words) r none) (λ n. (same, count)) h
 
 -- refused words
 pub with_refused : (words : List (List ℕ)) (old new : Ends) (result : Status) → options_of words ≡ None → new.left ≡ old.left → new.source_faults ≡ old.source_faults → Ending (sink_of old) (sink_of new) result Usage usage → Headline words old new result
 with_refused words old new result none same count h =
-    let output : Output INFINITY (options_of words) [] usage Usage = subst (λ (a : Option Options). Output INFINITY a [] usage Usage) (sym none) (refl, refl) in
-    let is : IsText (options_of words) old.left new.left [] = subst (λ (a : Option Options). IsText a old.left new.left []) (sym none) tt in
-    ended words old new result [] usage Usage output is count (subst (λ (l : Option (List ℕ)). (front : List ℕ) × Took old.left l front) (sym same) (none_took old.left))
-    (λ r c. absurd (elim c [ inl e ↦ (let f : Usage ≡ Done = e in cc) | inr e ↦ (let f : Usage ≡ Stopped = e in cc) ])) (λ n. (same, count)) h
+    unread words old new result (refused_words (options_of words) none) same count usage Usage (subst (λ (a : Option Options). Output INFINITY a [] usage Usage) (sym none) (refl, refl)) h
 
--- options aren't none
-not_refused : {P : Type 0} (a : Option Options) (o : Options) → a ≡ Some o → a ≡ None → P
-not_refused None o e n = absurd (cc (e))
-not_refused (Some p) o e n = absurd (cc (n))
+-- the summary of a generated text was written
+pub with_summary : (words : List (List ℕ)) (o : Options) (n : ℕ) (old new : Ends) (result : Status) → options_of words ≡ Some o → o.generate ≡ Some n → new.left ≡ old.left → new.source_faults ≡ old.source_faults
+    → ((out : List ℕ) (st : Status) → IsSummary INFINITY n o out st → Ending (sink_of old) (sink_of new) result st out) → Headline words old new result
+with_summary words o n old new result some size same count h =
+    let one = one_output INFINITY words [] in
+    let output : Output INFINITY (Some o) [] one.0 one.1 = subst (λ (a : Option Options). Output INFINITY a [] one.0 one.1) some one.2 in
+    let is : IsSummary INFINITY n o one.0 one.1 = subst (λ (g : Option ℕ). TextOutput INFINITY o g [] one.0 one.1) size output in
+    unread words old new result (size_words (options_of words) o n some size) same count one.0 one.1 one.2 (h one.0 one.1 is)
 
 -- the text was read, and its output written
-pub with_read : (words : List (List ℕ)) (o : Options) (old new : Ends) (result : Status) (text : List ℕ) → options_of words ≡ Some o → Took old.left new.left text → IsAtEnd new.left → new.source_faults ≡ old.source_faults
+pub with_read : (words : List (List ℕ)) (o : Options) (old new : Ends) (result : Status) (text : List ℕ) → options_of words ≡ Some o → o.generate ≡ None → Took old.left new.left text → IsAtEnd new.left → new.source_faults ≡ old.source_faults
     → ((out : List ℕ) (st : Status) → Output INFINITY (options_of words) text out st → Ending (sink_of old) (sink_of new) result st out) → Headline words old new result
-with_read words o old new result text some took end count h =
+with_read words o old new result text some read took end count h =
     let one = one_output INFINITY words text in
-    ended words old new result text one.0 one.1 one.2 (some_text (options_of words) old.left new.left text (λ s. whole_text old.left new.left text took end s)) count (text, took) (λ r c. end)
-    (not_refused (options_of words) o some) (h one.0 one.1 one.2)
+    ended words old new result text one.0 one.1 one.2 (λ r s. whole_text old.left new.left text took end s) count (text, took) (λ r c d. end)
+    (not_both (options_of words) (source_words (options_of words) o some read)) (h one.0 one.1 one.2)
 
 -- the text was too large
-pub with_large : (words : List (List ℕ)) (o : Options) (old new : Ends) (result : Status) → options_of words ≡ Some o → ReadJust old.left new.left (max_text + 1) → new.source_faults ≡ old.source_faults
+pub with_large : (words : List (List ℕ)) (o : Options) (old new : Ends) (result : Status) → options_of words ≡ Some o → o.generate ≡ None → ReadJust old.left new.left (max_text + 1) → new.source_faults ≡ old.source_faults
     → ((text : List ℕ) → max_text < length text → (out : List ℕ) (st : Status) → Output INFINITY (options_of words) text out st → Ending (sink_of old) (sink_of new) result st out) → Headline words old new result
-with_large words o old new result some read count h =
-    let text = front_text old.left new.left (max_text + 1) read in
+with_large words o old new result some read just count h =
+    let text = front_text old.left new.left (max_text + 1) just in
     let long : max_text < length text.0 = (let l = text.2 in omega (arith, l)) in
-    let output = subst (λ (a : Option Options). Output INFINITY a text.0 (refusal max_text (codes "too large")) Refused) (sym some) (large_output INFINITY o text.0 (accepted_options words o some) long) in
-    ended words old new result text.0 (refusal max_text (codes "too large")) Refused output (some_text (options_of words) old.left new.left text.0 text.1) count (just_front old.left new.left (max_text + 1) read)
-    (λ r c. absurd (elim c [ inl e ↦ (let f : Refused ≡ Done = e in cc) | inr e ↦ (let f : Refused ≡ Stopped = e in cc) ])) (not_refused (options_of words) o some)
+    let output = subst (λ (a : Option Options). Output INFINITY a text.0 (refusal max_text (codes "too large")) Refused) (sym some) (large_output INFINITY o text.0 read long) in
+    ended words old new result text.0 (refusal max_text (codes "too large")) Refused output (λ r s. text.1 s) count (just_front old.left new.left (max_text + 1) just)
+    (λ r c d. absurd (elim d [ inl e ↦ (let f : Refused ≡ Done = e in cc) | inr e ↦ (let f : Refused ≡ Stopped = e in cc) ])) (not_both (options_of words) (source_words (options_of words) o some read))
     (h text.0 long (refusal max_text (codes "too large")) Refused output)
 
 -- reading failed
-pub with_fault : (words : List (List ℕ)) (o : Options) (old new : Ends) → options_of words ≡ Some o → sink_of new ≡ sink_of old → ReadWithin old.left new.left max_text → Rose old.source_faults new.source_faults → old.source_faults ≤ new.source_faults → Headline words old new ReadFault
-with_fault words o old new some same read rose later =
+pub with_fault : (words : List (List ℕ)) (o : Options) (old new : Ends) → options_of words ≡ Some o → o.generate ≡ None → sink_of new ≡ sink_of old → ReadWithin old.left new.left max_text → Rose old.source_faults new.source_faults → old.source_faults ≤ new.source_faults → Headline words old new ReadFault
+with_fault words o old new some source same read rose later =
     let put : Put old.written new.written [] = subst (λ (s : SinkState). Put old.written s.written []) (sym same) (put_none old.written) in
     let faults : new.sink_faults ≡ old.sink_faults = ap (λ (s : SinkState). s.faults) same in
     record {
@@ -249,8 +274,8 @@ with_fault words o old new some same read rose later =
       sink_later = omega (arith, faults);
       rest = within_front old.left new.left max_text read;
       usage_only = λ e. absurd (cc);
-      untouched = not_refused (options_of words) o some;
-      read_whole = λ c. absurd (elim c [ inl e ↦ (let f : ReadFault ≡ Done = e in cc) | inr e ↦ (let f : ReadFault ≡ Stopped = e in cc) ]);
+      untouched = not_both (options_of words) (source_words (options_of words) o some source);
+      read_whole = λ r c. absurd (elim c [ inl e ↦ (let f : ReadFault ≡ Done = e in cc) | inr e ↦ (let f : ReadFault ≡ Stopped = e in cc) ]);
     }
 
 left_text : (a b : Option (List ℕ)) (front : List ℕ) → Took a b front → (text : List ℕ) × (IsSome b → a ≡ Some text)
@@ -259,17 +284,18 @@ left_text a (Some rest) front t = (front ++ rest, λ s. t)
 
 -- memory was wanting after a front of the source was read, or before
 short_of_memory : (words : List (List ℕ)) (old new : Ends) → sink_of new ≡ sink_of old → (front : List ℕ) × Took old.left new.left front → new.source_faults ≡ old.source_faults
-    → (options_of words ≡ None → (new.left ≡ old.left) × (new.source_faults ≡ old.source_faults)) → Headline words old new NoMemory
+    → (reads_source (options_of words) ≡ false → (new.left ≡ old.left) × (new.source_faults ≡ old.source_faults)) → Headline words old new NoMemory
 short_of_memory words old new same front count untouched =
     let text = left_text old.left new.left front.0 front.1 in
     let one = one_output INFINITY words text.0 in
-    ended words old new NoMemory text.0 one.0 one.1 one.2 (some_text (options_of words) old.left new.left text.0 text.1) count front
-    (λ r c. absurd (elim r [ inl e ↦ (let f : NoMemory ≡ Done = e in cc) | inr e ↦ (let f : NoMemory ≡ Stopped = e in cc) ])) untouched
+    ended words old new NoMemory text.0 one.0 one.1 one.2 (λ r s. text.1 s) count front
+    (λ r c d. absurd (elim c [ inl e ↦ (let f : NoMemory ≡ Done = e in cc) | inr e ↦ (let f : NoMemory ≡ Stopped = e in cc) ])) untouched
     (subst (λ (s : SinkState). Ending (sink_of old) s NoMemory one.1 one.0) (sym same) (no_memory (sink_of old) one.1 one.0))
 
 -- memory was wanting while reading
-pub with_memory : (words : List (List ℕ)) (o : Options) (old new : Ends) → options_of words ≡ Some o → sink_of new ≡ sink_of old → ReadWithin old.left new.left max_text → new.source_faults ≡ old.source_faults → Headline words old new NoMemory
-with_memory words o old new some same read count = short_of_memory words old new same (within_front old.left new.left max_text read) count (not_refused (options_of words) o some)
+pub with_memory : (words : List (List ℕ)) (o : Options) (old new : Ends) → options_of words ≡ Some o → o.generate ≡ None → sink_of new ≡ sink_of old → ReadWithin old.left new.left max_text → new.source_faults ≡ old.source_faults → Headline words old new NoMemory
+with_memory words o old new some source same read count =
+    short_of_memory words old new same (within_front old.left new.left max_text read) count (not_both (options_of words) (source_words (options_of words) o some source))
 
 -- memory was wanting for the words
 pub words_short : (words : List (List ℕ)) (ends : Ends) → Headline words ends ends NoMemory

@@ -41,7 +41,7 @@ next_line m n old now es r e k h =
     let first = h k.later r k.stands in
     (events_bytes first.0, k.is ∙ ap (λ (l : List Event). k.done ++ events_bytes l) first.1)
 
-final_names : (names : List Name) (ev : MachineEvent) → is_final (event_of names ev) ≡ is_final (event_of [] ev)
+pub final_names : (names : List Name) (ev : MachineEvent) → is_final (event_of names ev) ≡ is_final (event_of [] ev)
 final_names names (events.Write s) = refl
 final_names names events.Newline = refl
 final_names names (events.Answer s) = refl
@@ -50,7 +50,7 @@ final_names names events.Budget = refl
 final_names names events.Limit = refl
 final_names names (events.Fault f) = refl
 
-last_names : (names : List Name) (ev : MachineEvent) → is_final (event_of [] ev) ≡ true → event_of names ev ≡ event_of [] ev
+pub last_names : (names : List Name) (ev : MachineEvent) → is_final (event_of [] ev) ≡ true → event_of names ev ≡ event_of [] ev
 last_names names (events.Write s) h = absurd (cc)
 last_names names events.Newline h = refl
 last_names names (events.Answer s) h = absurd (cc)
@@ -59,7 +59,7 @@ last_names names events.Budget h = refl
 last_names names events.Limit h = refl
 last_names names (events.Fault f) h = refl
 
-goes_on : (e : Event) (later : List Event) → is_final e ≡ false → is_stop (e ∷ later) ≡ is_stop later
+pub goes_on : (e : Event) (later : List Event) → is_final e ≡ false → is_stop (e ∷ later) ≡ is_stop later
 goes_on (model.Wrote t) later h = refl
 goes_on model.Newline later h = refl
 goes_on (model.Answer t) later h = refl
@@ -202,7 +202,7 @@ no_ending ev (Some b) h none = absurd (none b refl)
 pub run_of : (m : State) (p : FlatProgram) (q steps : ℕ) (answers : Option ℕ) (es : List Event) (r : ℕ) → m.program ≡ p → m.query ≡ q → IsRunOf p q steps answers es r → IsRunOf m.program m.query steps answers es r
 run_of m p q steps answers es r e f h = subst (λ (x : FlatProgram). IsRunOf x m.query steps answers es r) (sym e) (subst (λ (n : ℕ). IsRunOf p n steps answers es r) (sym f) h)
 
-queries_from : (p : FlatProgram) (i : ℕ) → i < length p.queries → drop i (program_in p).queries ≡ query_in p (query_at p i) ∷ drop (i + 1) (program_in p).queries
+pub queries_from : (p : FlatProgram) (i : ℕ) → i < length p.queries → drop i (program_in p).queries ≡ query_in p (query_at p i) ∷ drop (i + 1) (program_in p).queries
 queries_from p i l =
     let qs = (program_in p).queries in
     let size : i < length qs = subst (λ (n : ℕ). i < n) (sym (length-map p.queries (query_in p))) l in

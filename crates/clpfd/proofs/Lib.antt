@@ -4,3 +4,6 @@ mod Written
 mod Judging
 mod Events
 mod Endings
+mod Tallies
+mod QueensText
+mod Generated

@@ -1,5 +1,5 @@
 -- Pieces written one after another, until a fault.
-use Rattle.std.proofs.Common.{◌≡◌, ℕ, ◌<◌, ◌≤◌, List, [], ◌++◌, Result, Ok, Err, refl, sym, ◌∙◌, subst, arith, inl, inr, ◌⊎◌}
+use Rattle.std.proofs.Common.{◌≡◌, ℕ, ◌<◌, ◌≤◌, List, [], ◌++◌, Result, Ok, Err, refl, sym, ap, ◌∙◌, subst, arith, inl, inr, ◌⊎◌, append_assoc}
 use Rattle.std.proofs.lemmas.Bool.{cases_lt}
 use Rattle.byte_ports.specs.Ports.{Rose}
 use Rattle.byte_ports.proofs.Pieces.{put_none, put_more, part_longer, part_more, part_of_more}
@@ -54,3 +54,22 @@ wrote_short {A} a b r p q is h = wrote_cut a b r fault.NoMemory (p ++ q) is (cut
 pub wrote_then : {A : Type 0} (a b c : SinkState) (r : Result A Fault) (p q : List ℕ) → WroteAll a b p → Wrote b c r q → Wrote a c r (p ++ q)
 wrote_then a b c (Ok u) p q h g = all_then a b c p q h g
 wrote_then a b c (Err e) p q h g = cut_then a b c p q e h g
+
+-- ---- lines
+
+-- a front of the lines was written, and then the next one
+pub line_more : (old now new : SinkState) (text front left line later : List ℕ) → text ≡ front ++ left → left ≡ line ++ later → WroteAll old now front → WroteAll now new line
+    → (text ≡ (front ++ line) ++ later) × WroteAll old new (front ++ line)
+line_more old now new text front left line later is next h g =
+    (is ∙ ap (λ (l : List ℕ). front ++ l) next ∙ sym (append_assoc front line later), all_then old now new front line h g)
+
+-- or was cut short
+pub line_short : {A : Type 0} (old now new : SinkState) (r : Result A Fault) (e : Fault) (text front left line later : List ℕ) → r ≡ Err e → text ≡ front ++ left → left ≡ line ++ later → WroteAll old now front → CutBy now new e line
+    → Wrote old new r text
+line_short {A} old now new r e text front left line later err is next h g =
+    let part : text ≡ front ++ (line ++ later) = is ∙ ap (λ (l : List ℕ). front ++ l) next in
+    wrote_cut old new r e text err (subst (CutBy old new e) (sym part) (cut_then old now new front (line ++ later) e h (cut_longer now new line later e g)))
+
+-- and what is left of them
+pub line_last : {A : Type 0} (old now new : SinkState) (r : Result A Fault) (text front left : List ℕ) → text ≡ front ++ left → WroteAll old now front → Wrote now new r left → Wrote old new r text
+line_last {A} old now new r text front left is h g = subst (Wrote old new r) (sym is) (wrote_then old now new r front left h g)

@@ -1,10 +1,10 @@
 -- The headline: what a run writes, how it ends, and what stays as it was.
-use Rattle.std.specs.Prelude.{◌≡◌, ◌<◌, ◌≤◌, ◌⊎◌, ℕ, List, [], Option, Some, None, IsSome}
+use Rattle.std.specs.Prelude.{◌≡◌, ◌<◌, ◌≤◌, ◌⊎◌, ℕ, Bool, true, false, List, [], Option, Some, None, IsSome, is_none}
 use Rattle.fd_language.specs.declared.TheConstants.{INFINITY}
 use Rattle.fd_model.specs.declared.Status.{Status}
 use Rattle.fd_model.specs.declared.Status.TheVariants.{Done, Usage, Refused, Stopped, ReadFault, WriteFault, NoMemory}
 use Rattle.fd_model.specs.Output.{Options, Output}
-use Rattle.clpfd.specs.Words.{options_of}
+use Rattle.command_words.specs.Words.{options_of}
 use Rattle.byte_ports.specs.Ports.{Put, PutPart, Rose, Took, IsAtEnd}
 
 -- the statuses of Output
@@ -24,10 +24,14 @@ pub record Ends : Type 0 where
   pub source_faults : ℕ
   pub sink_faults : ℕ
 
--- A text of the run: what the source had left, where it still tells its bytes after the run, and else some text. Refused words never look at the source.
+-- whether the text is read from the source: the words are accepted, and ask for no generated text
+abbrev pub reads_source : Option Options → Bool
+reads_source None = false
+reads_source (Some o) = is_none o.generate
+
+-- A text of the run: what the source had left, where it is read and still tells its bytes after the run, and else some text.
 abbrev pub IsText : Option Options → Option (List ℕ) → Option (List ℕ) → List ℕ → Type 0
-IsText None old new text = Unit {0}
-IsText (Some o) old new text = IsSome new → old ≡ Some text
+IsText asked old new text = reads_source asked ≡ true → IsSome new → old ≡ Some text
 
 -- of a text of the run, with this output and this status of it
 abbrev pub HasOutput : List (List ℕ) → Ends → Ends → (List ℕ → Status → Type 0) → Type 0
@@ -60,7 +64,7 @@ pub record Headline (words : List (List ℕ)) (old new : Ends) (result : Status)
   pub rest : (front : List ℕ) × Took old.left new.left front
   -- the usage line is for refused words alone, whatever the source tells
   pub usage_only : result ≡ Usage → options_of words ≡ None
-  -- refused words leave the source as it was
-  pub untouched : options_of words ≡ None → (new.left ≡ old.left) × (new.source_faults ≡ old.source_faults)
-  -- a text that was answered was read to its end
-  pub read_whole : (result ≡ Done) ⊎ (result ≡ Stopped) → IsAtEnd new.left
+  -- refused words, and those that ask for a generated text, leave the source as it was
+  pub untouched : reads_source (options_of words) ≡ false → (new.left ≡ old.left) × (new.source_faults ≡ old.source_faults)
+  -- a text from the source that was answered was read to its end
+  pub read_whole : reads_source (options_of words) ≡ true → (result ≡ Done) ⊎ (result ≡ Stopped) → IsAtEnd new.left

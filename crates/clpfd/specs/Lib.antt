@@ -1,5 +1,5 @@
-pub mod Words
 pub mod Headline
 pub mod OneOutput
 pub mod Verdicts
 pub mod Endings
+pub mod Summaries

@@ -2,7 +2,7 @@
 use Rattle.std.specs.Prelude.{◌≡◌, ℕ, List}
 use Rattle.fd_model.specs.declared.Status.{Status}
 use Rattle.fd_model.specs.Output.{Output}
-use Rattle.clpfd.specs.Words.{options_of}
+use Rattle.command_words.specs.Words.{options_of}
 
 -- For all words and each text there is an output with its status, and it is one.
 abbrev pub OneOutput : Type 0

@@ -25,15 +25,29 @@ use std::rc::Rc;
 use term_pool::{AtomId, Pool};
 use wam_machine::{CompiledProgram, Machine, compile};
 
-/// Writes the last piece of an output.
-pub fn put_last<K: Sink>(sink: &mut K, piece: &[u8], status: Status) -> Status
+/// Writes the last lines of an output.
+pub fn put_last<K: Sink>(sink: &mut K, lines: &[u8], status: Status) -> Status
     ensures { Ending (sink_at (K.written sink.old) (K.faults sink.old)) (sink_at (K.written
-        sink.new) (K.faults sink.new)) result status piece.now }
+        sink.new) (K.faults sink.new)) result status lines.now }
 {
-    match write_all(sink, piece) {
+    match put_lines(sink, lines) {
         Ok(()) => status,
-        Err(_) => Status::WriteFault,
+        Err(fault) => fault.status(),
     }
+}
+
+/// Writes lines, each as a piece of its own.
+fn put_lines<K: Sink>(sink: &mut K, lines: &[u8]) -> Result<(), Fault>
+    ensures { Wrote (sink_at (K.written sink.old) (K.faults sink.old)) (sink_at (K.written sink.new)
+        (K.faults sink.new)) result lines.now }
+{
+    let mut left = lines;
+    'lines: while let Some(end) = left.iter().position(|byte| *byte == b'\n') {
+        let (line, later) = left.split_at(end + 1);
+        put_line(sink, line)?;
+        left = later;
+    }
+    put_line(sink, left)
 }
 
 /// Writes a line.
@@ -45,7 +59,7 @@ fn put_line<K: Sink>(sink: &mut K, line: &[u8]) -> Result<(), Fault>
 }
 
 /// Whether an event is the last one, and then whether it stops its query.
-fn ending(event: &MachineEvent) -> Option<bool>
+pub(crate) fn ending(event: &MachineEvent) -> Option<bool>
     ensures { IsEnding event.now result }
 {
     match event {

@@ -1,21 +1,22 @@
 //! clp(FD): Prolog with constraints over finite domains.
 #![tactic(auto)]
 
-ghost use Rattle.std.specs.Prelude.{◌≡◌, ℕ, List, Some, None, drop, map, string_bytes, IfOk, IfErr};
+ghost use Rattle.std.specs.Prelude.{◌≡◌, ℕ, List, Some, None, false, drop, map, string_bytes, IfOk};
 ghost use Rattle.std.specs.Vec.Iter.{into_iter_items};
 ghost use Rattle.fd_model.specs.Run.{IsLimit};
-ghost use Rattle.command_words.specs.Words.{asked};
-ghost use Rattle.command_words.specs.declared.WordsFault.TheVariants as fault;
-ghost use Rattle.clpfd.specs.Headline.{Headline};
-ghost use Rattle.clpfd.specs.Words.{options_of};
+ghost use Rattle.command_words.specs.Words.{asked, options_of};
+ghost use Rattle.clpfd.specs.Headline.{Headline, reads_source};
 
 mod answer;
 mod fault;
 mod judge;
 pub mod laws;
+mod queens;
+mod summary;
 
 use crate::answer::{answer, put_last};
 use crate::judge::{judge_text, refused};
+use crate::summary::put_summary;
 use answer_text::{Reason, USAGE};
 use byte_ports::{MAX_TEXT, ReadTextFault, ReaderSource, Sink, Source, WriterSink, read_text};
 pub use command_words::{AgendaName, Options, WordsFault, read_words};
@@ -27,20 +28,6 @@ use std::env::{Args, Env};
 use std::io::ErrorKind;
 use std::process::ExitCode;
 
-/// What the words ask for. As yet no text is generated, so words that ask for one are refused.
-fn accepted_options(alloc: Global, words: &[String]) -> Result<Options, WordsFault>
-    ensures accepted { IfOk result (λ o. options_of (map string_bytes words.now) ≡ Some (asked o)) }
-    ensures limit { IfOk result (λ o. IsLimit o.answers) }
-    ensures refused { IfErr result (λ e.
-        e ≡ fault.Usage → options_of (map string_bytes words.now) ≡ None) }
-{
-    let options = read_words(alloc, words)?;
-    match options.generate {
-        None => Ok(options),
-        Some(_) => Err(WordsFault::Usage),
-    }
-}
-
 /// Writes the output of the text that the source gives, and tells how the run ended.
 fn answer_source<S: Source, K: Sink>(
     alloc: Global,
@@ -48,7 +35,8 @@ fn answer_source<S: Source, K: Sink>(
     source: &mut S,
     sink: &mut K,
 ) -> Status
-    requires { IsLimit options.answers }
+    requires limit { IsLimit options.answers }
+    requires size { options.generate ≡ None }
     ensures { (words : List (List ℕ)) → options_of words ≡ Some (asked options) → Headline words
         (record { left = S.left source.old; written = K.written sink.old; source_faults = S.faults source.old; sink_faults = K.faults sink.old })
         (record { left = S.left source.new; written = K.written sink.new; source_faults = S.faults source.new; sink_faults = K.faults sink.new })
@@ -71,10 +59,10 @@ fn answer_source<S: Source, K: Sink>(
 
 /// Writes the output of the words and of the text that the source gives, and tells how the run ended.
 ///
-/// `words` are the command line without the program's own name; `read_words` says which are accepted. As yet those are
-/// refused too that ask for a generated text. The source is read to its end, in bytes, unless the words are refused.
-/// What the text is, a program or refused, is settled before the first byte is written. The status says which case it
-/// was: see `Status`.
+/// `words` are the command line without the program's own name; `read_words` says which are accepted. Where they ask for
+/// a generated text (`--gen`), its run is summed up in four lines, and the source isn't touched; nor is it where the
+/// words are refused. Else it is read to its end, in bytes, and what the text is, a program or refused, is settled before
+/// the first byte is written. The status says which case it was: see `Status`.
 pub fn run<S: Source, K: Sink>(
     alloc: Global,
     words: &[String],
@@ -85,10 +73,13 @@ pub fn run<S: Source, K: Sink>(
         (record { left = S.left source.old; written = K.written sink.old; source_faults = S.faults source.old; sink_faults = K.faults sink.old })
         (record { left = S.left source.new; written = K.written sink.new; source_faults = S.faults source.new; sink_faults = K.faults sink.new })
         result }
-    ensures untouched { options_of (map string_bytes words.now) ≡ None → source.new ≡ source.old }
+    ensures untouched { reads_source (options_of (map string_bytes words.now)) ≡ false → source.new ≡ source.old }
 {
-    match accepted_options(alloc, words) {
-        Ok(options) => answer_source(alloc, options, source, sink),
+    match read_words(alloc, words) {
+        Ok(options) => match options.generate {
+            Some(size) => put_summary(alloc, size, options, sink),
+            None => answer_source(alloc, options, source, sink),
+        },
         Err(WordsFault::Usage) => put_last(sink, USAGE, Status::Usage),
         Err(WordsFault::NoMemory) => Status::NoMemory,
     }

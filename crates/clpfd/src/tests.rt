@@ -1,6 +1,6 @@
 // What runs write, over ends in memory.
 use crate::run;
-use byte_ports::{MemorySink, MemorySource};
+use byte_ports::{MemorySink, MemorySource, SmallSink, SmallSource};
 use fd_model::Status;
 use std::alloc::Global;
 use std::process::Abort;
@@ -10,18 +10,17 @@ use std::test::Fail;
 fn written(
     alloc: Global,
     text: &[u8],
-    failing_reads: Vec<u64>,
     failing_writes: Vec<u64>,
 ) -> Result<(Status, Vec<u8>), Fail> {
-    let mut source = MemorySource::new(text.to_vec(alloc)?, failing_reads);
-    let mut sink = MemorySink::new(alloc, 1000, failing_writes)?;
+    let mut source = MemorySource::new(text.to_vec(alloc)?, Vec::new(alloc));
+    let mut sink = MemorySink::new(alloc, 1_000_000, failing_writes)?;
     let status = run(alloc, &[], &mut source, &mut sink);
     Ok((status, sink.bytes().to_vec(alloc)?))
 }
 
 /// The status of a run over ends that never fail, and the bytes that it wrote.
 fn answers(alloc: Global, text: &[u8]) -> Result<(Status, Vec<u8>), Fail> {
-    written(alloc, text, Vec::new(alloc), Vec::new(alloc))
+    written(alloc, text, Vec::new(alloc))
 }
 
 fn give(
@@ -38,185 +37,78 @@ fn give(
     Ok(())
 }
 
-#[test]
-fn intervals_of_one_variable_meet(rt: HostRuntime) -> Result<(), Fail> {
-    let texts = [("?- X in 1..5, X in 3..9.", "query 1\nX = _1(3..5)\nend\n")];
-    give(&rt, rt.alloc(), &texts, Status::Done)
-}
+/// Texts with another layout, or none.
+const LAYOUTS: [(&str, &str); 5] = [
+    ("", ""),
+    (
+        "?- B in 2..2, A in 0..9, B in 0..5, A in 7..20.\n",
+        "query 1\nB = 2, A = _1(7..9)\nend\n",
+    ),
+    (
+        "?- X in 0..1.\n?- X in 5..6, Y in 0..99999999.\n",
+        "query 1\nX = _1(0..1)\nend\nquery 2\nX = _1(5..6), Y = _2(0..16777215)\nend\n",
+    ),
+    (
+        "% two goals in brackets\n?- (((X in -3..2),\n  _Y in 0..1), /* and one */ Z in 0x10..16, _ in 1..1).",
+        "query 1\nX = _1(0..2), Z = 16\nend\n",
+    ),
+    (
+        "'?-'(','(in(X, '..'(1, 2)), X in 2..9)).",
+        "query 1\nX = 2\nend\n",
+    ),
+];
 
 #[test]
-fn the_empty_text_writes_nothing(rt: HostRuntime) -> Result<(), Fail> {
-    give(&rt, rt.alloc(), &[("", "")], Status::Done)
+fn layouts(rt: HostRuntime) -> Result<(), Fail> {
+    give(&rt, rt.alloc(), &LAYOUTS, Status::Done)
 }
 
-#[test]
-fn an_empty_interval_fails(rt: HostRuntime) -> Result<(), Fail> {
-    give(
-        &rt,
-        rt.alloc(),
-        &[("?- X in 5..3.", "query 1\nend\n")],
-        Status::Done,
-    )
-}
-
-#[test]
-fn a_complement_leaves_two_intervals(rt: HostRuntime) -> Result<(), Fail> {
-    let texts = [("?- X in 0..3, X in -{2}.", "query 1\nX = _1(0..1:3)\nend\n")];
-    give(&rt, rt.alloc(), &texts, Status::Done)
-}
-
-#[test]
-fn ranges_over_variables_narrow(rt: HostRuntime) -> Result<(), Fail> {
-    let texts = [
-        (
-            "?- X in 0..10, Y in 0..10, X in min(Y)+1..infinity, Y in 0..max(X)-1.",
-            "query 1\nX = _1(1..10), Y = _2(0..9)\nend\n",
-        ),
-        (
-            "?- X in 0..9, Y in 0..9, Z in 0..9, X in min(Y)+1..infinity, Y in min(Z)+1..infinity.",
-            "query 1\nX = _1(2..9), Y = _2(1..9), Z = _3(0..9)\nend\n",
-        ),
-        (
-            "?- Y in 0..3, X in 0..7/<min(Y).",
-            "query 1\nY = _1(0..3), X = _2(0..16777215)\nend\n",
-        ),
-        (
-            "?- X in 3..3, Y in X..9.",
-            "query 1\nX = 3, Y = _1(3..9)\nend\n",
-        ),
-    ];
-    give(&rt, rt.alloc(), &texts, Status::Done)
-}
-
-#[test]
-fn a_parameter_has_to_be_an_integer_that_fits(rt: HostRuntime) -> Result<(), Fail> {
-    let texts = [
-        ("?- X in C..9.", "query 1\nerror: instantiation\n"),
-        ("?- X in 0..0, Y in 0..7/<X.", "query 1\nerror: parameter\n"),
-        (
-            "?- X in 1..5, N = -1, Y in min(X)*N..9.",
-            "query 1\nerror: parameter\n",
-        ),
-    ];
-    give(&rt, rt.alloc(), &texts, Status::Stopped)
-}
-
-#[test]
-fn the_queries_behind_a_fault_are_answered(rt: HostRuntime) -> Result<(), Fail> {
-    let texts = [(
-        "?- X in 0..9, Y in X..9. ?- X in 0..3, X in -{2}.",
-        "query 1\nerror: instantiation\nquery 2\nX = _1(0..1:3)\nend\n",
-    )];
-    give(&rt, rt.alloc(), &texts, Status::Stopped)
-}
-
-#[test]
-fn a_target_has_to_be_a_variable_or_an_integer(rt: HostRuntime) -> Result<(), Fail> {
-    let texts = [
-        (
-            "?- X in 1..2, X = a. ?- X = a, X in 1..2. ?- X = -1, X in 0..9.",
-            "query 1\nend\nquery 2\nerror: type\nquery 3\nend\n",
-        ),
-        (
-            "?- 3 in 1..5. ?- 7 in 1..5. ?- f(X) in 1..5.",
-            "query 1\ntrue\nend\nquery 2\nend\nquery 3\nerror: type\n",
-        ),
-    ];
-    give(&rt, rt.alloc(), &texts, Status::Stopped)
-}
-
-#[test]
-fn what_goals_write_stands_between_the_lines(rt: HostRuntime) -> Result<(), Fail> {
-    let texts = [(
-        "?- write(a), nl, X in C..9. ?- write(b).",
-        "query 1\na\nerror: instantiation\nquery 2\nbtrue\nend\n",
-    )];
-    give(&rt, rt.alloc(), &texts, Status::Stopped)
-}
-
-#[test]
-fn a_loop_spends_the_budget(rt: HostRuntime) -> Result<(), Fail> {
-    let texts = [("loop :- loop. ?- loop.", "query 1\nbudget\n")];
-    give(&rt, rt.alloc(), &texts, Status::Stopped)
-}
-
-#[test]
-fn several_queries_and_variables(rt: HostRuntime) -> Result<(), Fail> {
-    let texts = [
-        (
-            "?- X in 0..3, Y in 4..4.",
-            "query 1\nX = _1(0..3), Y = 4\nend\n",
-        ),
-        (
-            "?- B in 2..2, A in 0..9, B in 0..5, A in 7..20.\n",
-            "query 1\nB = 2, A = _1(7..9)\nend\n",
-        ),
-        ("?- X in 3..3, X in 4..5.", "query 1\nend\n"),
-        (
-            "?- X in 0..1.\n?- X in 5..6, Y in 0..99999999.\n",
-            "query 1\nX = _1(0..1)\nend\nquery 2\nX = _1(5..6), Y = _2(0..16777215)\nend\n",
-        ),
-    ];
-    give(&rt, rt.alloc(), &texts, Status::Done)
-}
-
-#[test]
-fn any_layout_and_any_nesting_of_commas(rt: HostRuntime) -> Result<(), Fail> {
-    let texts = [
-        (
-            "% two goals in brackets\n?- (((X in -3..2),\n  _Y in 0..1), /* and one */ Z in 0x10..16, _ in 1..1).",
-            "query 1\nX = _1(0..2), Z = 16\nend\n",
-        ),
-        ("?- _X in 0..4.", "query 1\ntrue\nend\n"),
-        (
-            "'?-'(','(in(X, '..'(1, 2)), X in 2..9)).",
-            "query 1\nX = 2\nend\n",
-        ),
-    ];
-    give(&rt, rt.alloc(), &texts, Status::Done)
-}
-
-#[test]
-fn ranges_without_variables(rt: HostRuntime) -> Result<(), Fail> {
-    let texts = [
-        ("?- X in {3}.", "query 1\nX = 3\nend\n"),
-        ("?- X in 1..3:5..6.", "query 1\nX = _1(1..3:5..6)\nend\n"),
-        ("?- X in 1..9&4..20.", "query 1\nX = _1(4..9)\nend\n"),
-        (
-            "?- X in -(1..16777214).",
-            "query 1\nX = _1(0:16777215)\nend\n",
-        ),
-        ("?- X in (1..3)+2.", "query 1\nX = _1(3..5)\nend\n"),
-        ("?- X in (1..3)-2.", "query 1\nX = _1(0..1)\nend\n"),
-        ("?- X in (1..3)*4.", "query 1\nX = _1(4:8:12)\nend\n"),
-        ("?- X in (1..3)* -1.", "query 1\nend\n"),
-        ("?- X in (0..3)*0.", "query 1\nX = 0\nend\n"),
-        ("?- X in (1..10)/3.", "query 1\nX = _1(1..3)\nend\n"),
-        ("?- X in (0..10)/3.", "query 1\nX = _1(0..3)\nend\n"),
-        ("?- X in ({1}:{4})*3+1.", "query 1\nX = _1(4:13)\nend\n"),
-        ("?- X in 7/<2..7/>2.", "query 1\nX = _1(3..4)\nend\n"),
-        ("?- X in -7/< 2..3.", "query 1\nX = _1(0..3)\nend\n"),
-        (
-            "?- X in infinity-2..infinity.",
-            "query 1\nX = _1(16777213..16777215)\nend\n",
-        ),
-        ("?- X in 2*3+1..3*(4-1).", "query 1\nX = _1(7..9)\nend\n"),
-        ("?- X in {-1}.", "query 1\nend\n"),
-        ("?- X in 5/<1..5.", "query 1\nX = 5\nend\n"),
-        (
-            "?- X in (0..3)+(infinity-2).",
-            "query 1\nX = _1(16777213..16777215)\nend\n",
-        ),
-        (
-            "?- X in 16777215..infinity.",
-            "query 1\nX = 16777215\nend\n",
-        ),
-        ("?- X in 1..3: -{2}.", "query 1\nX = _1(0..16777215)\nend\n"),
-        ("?- X in -(-{2}).", "query 1\nX = 2\nend\n"),
-        ("?- X in 1..2:4..5:2..3.", "query 1\nX = _1(1..5)\nend\n"),
-    ];
-    give(&rt, rt.alloc(), &texts, Status::Done)
-}
+/// Queries of ranges, each with the lines of its output, where `; ` ends a line that isn't the last.
+const SETS: &str = "\
+?- X in 0..9, Y in 0..9, Z in 0..9, X in min(Y)+1..infinity, Y in min(Z)+1..infinity. | query 1; X = _1(2..9), Y = _2(1..9), Z = _3(0..9); end
+?- X in 0..9, Y in X..9. ?- X in 0..3, X in -{2}. | query 1; error: instantiation; query 2; X = _1(0..1:3); end
+?- 3 in 1..5. ?- 7 in 1..5. ?- f(X) in 1..5. | query 1; true; end; query 2; end; query 3; error: type
+?- write(a), nl, X in C..9. ?- write(b). | query 1; a; error: instantiation; query 2; btrue; end
+?- X in 0..3, Y in 4..4. | query 1; X = _1(0..3), Y = 4; end
+?- X in 3..3, X in 4..5. | query 1; end
+?- _X in 0..4. | query 1; true; end
+?- X in {3}. | query 1; X = 3; end
+?- X in 1..3:5..6. | query 1; X = _1(1..3:5..6); end
+?- X in 1..9&4..20. | query 1; X = _1(4..9); end
+?- X in -(1..16777214). | query 1; X = _1(0:16777215); end
+?- X in (1..3)+2. | query 1; X = _1(3..5); end
+?- X in (1..3)-2. | query 1; X = _1(0..1); end
+?- X in (1..3)*4. | query 1; X = _1(4:8:12); end
+?- X in (1..3)* -1. | query 1; end
+?- X in (0..3)*0. | query 1; X = 0; end
+?- X in (1..10)/3. | query 1; X = _1(1..3); end
+?- X in 7/<2..7/>2. | query 1; X = _1(3..4); end
+?- X in -7/< 2..3. | query 1; X = _1(0..3); end
+?- X in infinity-2..infinity. | query 1; X = _1(16777213..16777215); end
+?- X in 2*3+1..3*(4-1). | query 1; X = _1(7..9); end
+?- X in {-1}. | query 1; end
+?- X in 5/<1..5. | query 1; X = 5; end
+?- X in (0..3)+(infinity-2). | query 1; X = _1(16777213..16777215); end
+?- X in 16777215..infinity. | query 1; X = 16777215; end
+?- X in -(-{2}). | query 1; X = 2; end
+?- X in 1..2:4..5:2..3. | query 1; X = _1(1..5); end
+?- X in (0..3)&(-{2}). | query 1; X = _1(0..1:3); end
+?- Y in 3..5, X in min(Y)+1..infinity. | query 1; Y = _1(3..5), X = _2(4..16777215); end
+?- Y in 3..5, X in 0..9, X in min(Y)+1..infinity. | query 1; Y = _1(3..5), X = _2(4..9); end
+?- Y in 3..5, X in 4..9, X in min(Y)+1..infinity. | query 1; Y = _1(3..5), X = _2(4..9); end
+?- Y in 9..9, X in 4..9, X in min(Y)+1..infinity. | query 1; end
+?- Y in 4..4, X in 3..6, X in -{val(Y)}. | query 1; Y = 4, X = _1(3:5..6); end
+?- Y in 4..5, X in 3..6, X in -{val(Y)}. | query 1; Y = _1(4..5), X = _2(3..6); end
+?- Y in 4..4, X in 4..4, X in -{val(Y)}. | query 1; end
+?- Y in 4..4, Z in 2..3, X in {val(Y)}:dom(Z). | query 1; Y = 4, Z = _1(2..3), X = _2(2..4); end
+?- X in (5-12)/>2+10..20. | query 1; X = _1(7..20); end
+?- X in (5-12)/<2+10..20. | query 1; X = _1(6..20); end
+?- Y in 0..9, Z in 2..3, X in 0..max(Y)/<min(Z). | query 1; Y = _1(0..9), Z = _2(2..3), X = _3(0..4); end
+?- Y in 0..9, Z in 0..3, X in 0..max(Y)/<min(Z). | query 1; Y = _1(0..9), Z = _2(0..3), X = _3(0..16777215); end
+?- Y in 4..10, P = 3, Q = -2, X in dom(Y)/P-Q. | query 1; Y = _1(4..10), P = 3, Q = -2, X = _2(4..5); end
+?- X in (6..8):(2..3):(4..4):{0}. | query 1; X = _1(0:2..4:6..8); end
+?- X in {0}:((3..7):((2..4):(9..8))). | query 1; X = _1(0:2..7); end
+?- X in ((5..9):(0..6))&((8..20):{3}). | query 1; X = _1(3:8..9); end";
 
 /// Texts, each with the lines of its output, where `; ` ends a line that isn't the last.
 const PROGRAMS: &str = "\
@@ -677,6 +569,64 @@ a scaled set |  | ?- X in ({1}:{4})*3+1. | query 1; X = _1(4:13); end
 a set divided |  | ?- X in (0..10)/3. | query 1; X = _1(0..3); end
 20,000 variables under 40,000 marks | --answers 1 | mk(0,[]). mk(N,[X|Xs]) :- N > 0, X in 0..1, M is N-1, mk(M,Xs). d. d. c(0). c(N) :- N > 0, d, M is N-1, c(M). ?- mk(20000,_L), c(40000). | query 1; true; limit";
 
+/// Flat queries: what each shows, its text, and the lines of its output. They were counted outside the program by this, with a
+/// condition written by hand for each row, and the answers sorted in the order of the labelling:
+///
+///     for values in itertools.product(range(13), repeat=len(variables)):
+///         a = dict(zip(variables, values))
+///         if eval(condition, dict(a)): found.append(a)
+const FLATS: &str = "\
+less | ?- X in 0..3, Y in 1..2, X #< Y, fd_labeling([X,Y]). | query 1; X = 0, Y = 1; X = 0, Y = 2; X = 1, Y = 2; end
+at most, the second one first | ?- X in 1..3, Y in 0..2, X #=< Y, fd_labeling([Y,X]). | query 1; X = 1, Y = 1; X = 1, Y = 2; X = 2, Y = 2; end
+greater | ?- X in 0..4, Y in 2..6, X #> Y, fd_labeling([X,Y]). | query 1; X = 3, Y = 2; X = 4, Y = 2; X = 4, Y = 3; end
+at least | ?- X in 0..3, Y in 2..6, X #>= Y, fd_labeling([X,Y]). | query 1; X = 2, Y = 2; X = 3, Y = 2; X = 3, Y = 3; end
+equal with a constant | ?- X in 0..9, Y in 3..5, X #= Y + 4, fd_labeling([X,Y]). | query 1; X = 7, Y = 3; X = 8, Y = 4; X = 9, Y = 5; end
+different by a distance | ?- X in 0..2, Y in 0..2, X #\\= Y + 1, fd_labeling([X,Y]). | query 1; X = 0, Y = 0; X = 0, Y = 1; X = 0, Y = 2; X = 1, Y = 1; X = 1, Y = 2; X = 2, Y = 0; X = 2, Y = 2; end
+coefficients on both sides | ?- X in 0..6, Y in 0..6, 3*X + 2 #= 2*Y + 5, fd_labeling([X,Y]). | query 1; X = 1, Y = 0; X = 3, Y = 3; X = 5, Y = 6; end
+coefficients without an integer answer | ?- X in 0..6, Y in 0..6, 4*X + 6*Y #= 15, fd_labeling([X,Y]). | query 1; end
+three terms with both signs | ?- X in 0..3, Y in 0..3, Z in 0..3, 2*X - 3*Y + Z #= 4, fd_labeling([X,Y,Z]). | query 1; X = 1, Y = 0, Z = 2; X = 2, Y = 0, Z = 0; X = 2, Y = 1, Z = 3; X = 3, Y = 1, Z = 1; end
+a sum of three at most | ?- X in 1..3, Y in 1..3, Z in 1..3, X + Y + Z #=< 4, fd_labeling([X,Y,Z]). | query 1; X = 1, Y = 1, Z = 1; X = 1, Y = 1, Z = 2; X = 1, Y = 2, Z = 1; X = 2, Y = 1, Z = 1; end
+a sum of three at least | ?- X in 0..2, Y in 0..2, Z in 0..2, X + 2*Y + 3*Z #>= 11, fd_labeling([X,Y,Z]). | query 1; X = 1, Y = 2, Z = 2; X = 2, Y = 2, Z = 2; end
+a variable on both sides | ?- X in 0..4, Y in 0..4, 2*X + Y #< X + 2, fd_labeling([X,Y]). | query 1; X = 0, Y = 0; X = 0, Y = 1; X = 1, Y = 0; end
+a variable that falls out | ?- X in 0..1, Y in 0..9, X + Y - X #= 7, fd_labeling([X,Y]). | query 1; X = 0, Y = 7; X = 1, Y = 7; end
+a negative side | ?- X in 0..5, Y in 0..5, -X - Y #>= -2, fd_labeling([X,Y]). | query 1; X = 0, Y = 0; X = 0, Y = 1; X = 0, Y = 2; X = 1, Y = 0; X = 1, Y = 1; X = 2, Y = 0; end
+a chain of doubles | ?- X in 0..9, Y in 0..9, Z in 0..9, Y #= 2*X, Z #= 2*Y, Z #> 0, fd_labeling([X,Y,Z]). | query 1; X = 1, Y = 2, Z = 4; X = 2, Y = 4, Z = 8; end
+a circle of less | ?- X in 0..9, Y in 0..9, Z in 0..9, X #< Y, Y #< Z, Z #< X, fd_labeling([X,Y,Z]). | query 1; end
+a comparison of numbers that is false | ?- X in 0..2, 3 #< 2, fd_labeling([X]). | query 1; end
+a comparison of numbers that is true | ?- X in 0..2, 2*3 #>= 6, fd_labeling([X]). | query 1; X = 0; X = 1; X = 2; end
+a domain with a hole | ?- X in 0..2:6..7, Y in 1..9, X + Y #= 9, fd_labeling([X,Y]). | query 1; X = 0, Y = 9; X = 1, Y = 8; X = 2, Y = 7; X = 6, Y = 3; X = 7, Y = 2; end
+a complement within an interval | ?- X in 0..6, X in -(2..4), Y in 0..1, X #> 3*Y, fd_labeling([X,Y]). | query 1; X = 1, Y = 0; X = 5, Y = 0; X = 5, Y = 1; X = 6, Y = 0; X = 6, Y = 1; end
+single numbers | ?- X in {2}:{5}:{9}, Y in {1}:{4}, X #< 2*Y, fd_labeling([X,Y]). | query 1; X = 2, Y = 4; X = 5, Y = 4; end
+even and odd numbers | ?- X in (0..4)*2, Y in (0..3)*2+1, X #= Y + 1, fd_labeling([X,Y]). | query 1; X = 2, Y = 1; X = 4, Y = 3; X = 6, Y = 5; X = 8, Y = 7; end
+a set divided | ?- X in (1..20)/6, Y in 0..9, 2*X #= Y, fd_labeling([X,Y]). | query 1; X = 1, Y = 2; X = 2, Y = 4; X = 3, Y = 6; end
+a set and its complement | ?- X in (3..9)&(-(5..7)), fd_labeling([X]). | query 1; X = 3; X = 4; X = 8; X = 9; end
+a neighbour in either direction | ?- X in 0..4, Y in 1..3, X in dom(Y)+1:dom(Y)-1, Y in dom(X)+1:dom(X)-1, fd_labeling([X,Y]). | query 1; X = 0, Y = 1; X = 1, Y = 2; X = 2, Y = 1; X = 2, Y = 3; X = 3, Y = 2; X = 4, Y = 3; end
+a range of both bounds | ?- X in 0..5, Y in 2..4, X in min(Y)..max(Y), Y in min(X)..max(X), fd_labeling([X,Y]). | query 1; X = 2, Y = 2; X = 3, Y = 3; X = 4, Y = 4; end
+a bound that is a quotient | ?- X in 1..3, Y in 0..12, Y in 0..7/<min(X), Y #>= 3, fd_labeling([X,Y]). | query 1; X = 1, Y = 3; X = 1, Y = 4; X = 1, Y = 5; X = 1, Y = 6; X = 1, Y = 7; X = 2, Y = 3; end
+a value that isn't another's | ?- X in 0..2, Y in 0..2, X in -{val(Y)+1}, X #\\= Y, fd_labeling([X,Y]). | query 1; X = 0, Y = 1; X = 0, Y = 2; X = 1, Y = 2; X = 2, Y = 0; end
+no number is left | ?- X in 0..3, X in 5..9, fd_labeling([X]). | query 1; end
+three different numbers | ?- X in 1..3, Y in 1..3, Z in 2..3, fd_all_different([X,Y,Z]), fd_labeling([X,Y,Z]). | query 1; X = 1, Y = 2, Z = 3; X = 1, Y = 3, Z = 2; X = 2, Y = 1, Z = 3; X = 3, Y = 1, Z = 2; end
+three different of two numbers | ?- X in 4..5, Y in 4..5, Z in 4..5, fd_all_different([X,Y,Z]), fd_labeling([Z,Y,X]). | query 1; end
+different from two numbers | ?- X in 0..3, Y in 0..3, fd_all_different([X,1,Y,3]), fd_labeling([X,Y]). | query 1; X = 0, Y = 2; X = 2, Y = 0; end
+a member that stands twice is different from itself | ?- X in 0..2, fd_all_different([X,X]), fd_labeling([X]). | query 1; end
+different with a sum | ?- X in 1..4, Y in 1..4, Z in 1..4, fd_all_different([X,Y,Z]), X + Y #= Z, fd_labeling([X,Y,Z]). | query 1; X = 1, Y = 2, Z = 3; X = 1, Y = 3, Z = 4; X = 2, Y = 1, Z = 3; X = 3, Y = 1, Z = 4; end
+the places of an element | ?- I in 1..5, X in 3..9, fd_element(I, [2,4,4,8,1], X), fd_labeling([I,X]). | query 1; I = 2, X = 4; I = 3, X = 4; I = 4, X = 8; end
+the elements first | ?- I in 0..9, X in 0..9, fd_element(I, [7,3,7], X), fd_labeling([X,I]). | query 1; I = 2, X = 3; I = 1, X = 7; I = 3, X = 7; end
+a price that is bounded | ?- I in 1..4, X in 0..12, fd_element(I, [9,4,6,2], X), X + I #=< 9, fd_labeling([I,X]). | query 1; I = 2, X = 4; I = 3, X = 6; I = 4, X = 2; end
+two places of one table | ?- I in 1..3, J in 1..3, X in 0..9, fd_element(I, [5,6,5], X), fd_element(J, [6,5,6], X), fd_labeling([I,J,X]). | query 1; I = 1, J = 2, X = 5; I = 2, J = 1, X = 6; I = 2, J = 3, X = 6; I = 3, J = 2, X = 5; end
+an element that isn't there | ?- I in 0..9, X in 1..2, fd_element(I, [3,4,5], X), fd_labeling([I,X]). | query 1; end
+at most one of three | ?- X in 0..1, Y in 0..1, Z in 0..1, fd_atmost(1, [X,Y,Z], 1), fd_labeling([X,Y,Z]). | query 1; X = 0, Y = 0, Z = 0; X = 0, Y = 0, Z = 1; X = 0, Y = 1, Z = 0; X = 1, Y = 0, Z = 0; end
+at most none | ?- X in 2..3, Y in 2..4, fd_atmost(0, [X,Y], 3), fd_labeling([X,Y]). | query 1; X = 2, Y = 2; X = 2, Y = 4; end
+at most with a number in the list | ?- X in 4..5, Y in 4..5, fd_atmost(2, [X,5,Y], 5), fd_labeling([X,Y]). | query 1; X = 4, Y = 4; X = 4, Y = 5; X = 5, Y = 4; end
+at most with a member twice | ?- X in 0..1, Y in 0..1, fd_atmost(1, [X,Y,X], 0), fd_labeling([X,Y]). | query 1; X = 1, Y = 0; X = 1, Y = 1; end
+exactly one of each | ?- X in 1..3, Y in 1..3, Z in 1..3, fd_atmost(1, [X,Y,Z], 1), fd_atmost(1, [X,Y,Z], 2), fd_atmost(1, [X,Y,Z], 3), fd_labeling([X,Y,Z]). | query 1; X = 1, Y = 2, Z = 3; X = 1, Y = 3, Z = 2; X = 2, Y = 1, Z = 3; X = 2, Y = 3, Z = 1; X = 3, Y = 1, Z = 2; X = 3, Y = 2, Z = 1; end
+first fail takes the smaller domain | ?- X in 0..3, Y in 1..2, X #\\= Y, fd_labelingff([X,Y]). | query 1; X = 0, Y = 1; X = 2, Y = 1; X = 3, Y = 1; X = 0, Y = 2; X = 1, Y = 2; X = 3, Y = 2; end
+first fail takes the first of equals | ?- X in 0..2, Y in 1..3, X #\\= Y, fd_labelingff([Y,X]). | query 1; X = 0, Y = 1; X = 2, Y = 1; X = 0, Y = 2; X = 1, Y = 2; X = 0, Y = 3; X = 1, Y = 3; X = 2, Y = 3; end
+first fail with three | ?- X in 0..4, Y in 0..2, Z in 0..1, X + Y + Z #= 5, fd_labelingff([X,Y,Z]). | query 1; X = 3, Y = 2, Z = 0; X = 4, Y = 1, Z = 0; X = 2, Y = 2, Z = 1; X = 3, Y = 1, Z = 1; X = 4, Y = 0, Z = 1; end
+a member labelled twice | ?- X in 0..2, Y in 0..2, X #< Y, fd_labeling([Y,X,Y,X]). | query 1; X = 0, Y = 1; X = 0, Y = 2; X = 1, Y = 2; end
+numbers among the labelled | ?- X in 1..2, Y in 5..6, X + Y #\\= 7, fd_labeling([3,Y,7,X]). | query 1; X = 1, Y = 5; X = 2, Y = 6; end
+first fail without an answer | ?- X in 0..2, Y in 0..2, Z in 0..1, X #< Y, Y #< Z, fd_labelingff([X,Y,Z]). | query 1; end";
+
 /// Runs a text with the words of a line. The status is that of a stop where some line tells a fault or a spent budget.
 fn check(rt: &impl Abort, alloc: Global, words: &str, text: &str, lines: &str) -> Result<(), Fail> {
     let (ended, bytes) = asked(alloc, words, text)?;
@@ -694,32 +644,23 @@ fn check(rt: &impl Abort, alloc: Global, words: &str, text: &str, lines: &str) -
     Ok(())
 }
 
-#[test]
-fn programs_and_equations(rt: HostRuntime) -> Result<(), Fail> {
-    for row in PROGRAMS.lines() {
-        let (text, lines) = row.split_once(" | ").expect(&rt, row);
-        check(&rt, rt.alloc(), "", text, lines)?;
+/// Checks each row of a table with each of some words.
+fn check_rows(rt: &impl Abort, alloc: Global, table: &str, words: &[&str]) -> Result<(), Fail> {
+    for row in table.lines() {
+        let (text, lines) = row.split_once(" | ").expect(rt, row);
+        for words in words {
+            check(rt, alloc, words, text, lines)?;
+        }
     }
     Ok(())
 }
 
 #[test]
-fn constraints_labellings_and_built_ins(rt: HostRuntime) -> Result<(), Fail> {
-    for row in GOALS.lines() {
-        let (text, lines) = row.split_once(" | ").expect(&rt, row);
-        check(&rt, rt.alloc(), "", text, lines)?;
+fn texts_have_their_lines(rt: HostRuntime) -> Result<(), Fail> {
+    for table in [PROGRAMS, GOALS, SETS] {
+        check_rows(&rt, rt.alloc(), table, &[""])?;
     }
-    Ok(())
-}
-
-#[test]
-fn ranges_with_both_agendas(rt: HostRuntime) -> Result<(), Fail> {
-    for row in RANGES.lines() {
-        let (text, lines) = row.split_once(" | ").expect(&rt, row);
-        check(&rt, rt.alloc(), "", text, lines)?;
-        check(&rt, rt.alloc(), "--agenda cheapest", text, lines)?;
-    }
-    Ok(())
+    check_rows(&rt, rt.alloc(), RANGES, &["", "--agenda cheapest"])
 }
 
 #[test]
@@ -733,8 +674,20 @@ fn worked_rows(rt: HostRuntime) -> Result<(), Fail> {
     Ok(())
 }
 
+#[test]
+fn flat_queries_counted_by_brute_force(rt: HostRuntime) -> Result<(), Fail> {
+    for row in FLATS.lines() {
+        let (_, rest) = row.split_once(" | ").expect(&rt, row);
+        let (text, lines) = rest.split_once(" | ").expect(&rt, row);
+        check(&rt, rt.alloc(), "", text, lines)?;
+        check(&rt, rt.alloc(), "--agenda cheapest", text, lines)?;
+    }
+    Ok(())
+}
+
 /// Texts, each with its one line.
-const REFUSALS: [(&str, &str); 55] = [
+const REFUSALS: [(&str, &str); 56] = [
+    ("?- X in 0..3.\0", "refused at 13: bad character\n"),
     ("?- `x`.", "refused at 3: bad character\n"),
     ("?- X in 0'a'.", "refused at 9: bad character\n"),
     ("?- é = €.", "refused at 8: bad character\n"),
@@ -856,31 +809,176 @@ fn repeated(
     Ok(text)
 }
 
-#[test]
-fn too_many_brackets_and_arguments(rt: HostRuntime) -> Result<(), Fail> {
-    for (front, piece, count, back, output) in [
-        ("", "(", 1001, "", "refused at 1000: too deep\n"),
-        (
-            "?- X in 1..2.\n",
-            "[",
-            1001,
+/// A text and then another so many times behind it, twice, and a last text.
+fn nested(alloc: Global, parts: [&str; 5], count: usize) -> Result<String, Fail> {
+    let [front, left, middle, right, back] = parts;
+    let mut text = repeated(alloc, front, left, count, middle)?;
+    let rest = repeated(alloc, "", right, count, back)?;
+    text.push_str(&rest)?;
+    Ok(text)
+}
+
+/// Texts and outputs in which two pieces are repeated as often as the number in front says.
+const DEEP_TEXTS: [(usize, [&str; 5], [&str; 5], Status); 10] = [
+    (
+        1_000,
+        ["?- X = ", "(", "1", ")", "."],
+        ["query 1\nX = 1\nend\n", "", "", "", ""],
+        Status::Done,
+    ),
+    (
+        1_001,
+        ["?- X = ", "(", "1", ")", "."],
+        ["refused at 1007: too deep\n", "", "", "", ""],
+        Status::Refused,
+    ),
+    (
+        1_001,
+        ["", "(", "", "", ""],
+        ["refused at 1000: too deep\n", "", "", "", ""],
+        Status::Refused,
+    ),
+    (
+        1_001,
+        ["?- X in 1..2.\n", "[", "", "", ""],
+        ["refused at 1014: too deep\n", "", "", "", ""],
+        Status::Refused,
+    ),
+    (
+        10_000,
+        ["?- X = ", "- ", "a.", "", ""],
+        ["query 1\nX = ", "-(", "a", ")", "\nend\n"],
+        Status::Done,
+    ),
+    (
+        99_999,
+        ["?- L = [1", ",1", "].", "", ""],
+        ["query 1\nL = [1", ",1", "]\nend\n", "", ""],
+        Status::Done,
+    ),
+    (
+        100_000,
+        [
+            "big(0,a). big(N,f(T)) :- N > 0, M is N-1, big(M,T). ?- big(100000,T).",
             "",
-            "refused at 1014: too deep\n",
-        ),
-        ("?- f(a", ",a", 255, ").", "refused at 3: arity over 255\n"),
-        (
-            "?- X in 1..g(f(a",
-            ",a",
-            255,
-            ")).",
-            "refused at 13: arity over 255\n",
-        ),
-        ("?- f(a", ",a", 254, ").", "refused at 3: unknown f/255\n"),
-    ] {
-        let text = repeated(rt.alloc(), front, piece, count, back)?;
+            "",
+            "",
+            "",
+        ],
+        ["query 1\nT = ", "f(", "a", ")", "\nend\n"],
+        Status::Done,
+    ),
+    (
+        255,
+        ["?- f(a", ",a", ").", "", ""],
+        ["refused at 3: arity over 255\n", "", "", "", ""],
+        Status::Refused,
+    ),
+    (
+        255,
+        ["?- X in 1..g(f(a", ",a", ")).", "", ""],
+        ["refused at 13: arity over 255\n", "", "", "", ""],
+        Status::Refused,
+    ),
+    (
+        254,
+        ["?- f(a", ",a", ").", "", ""],
+        ["refused at 3: unknown f/255\n", "", "", "", ""],
+        Status::Refused,
+    ),
+];
+
+#[test]
+fn deep_and_long_texts(rt: HostRuntime) -> Result<(), Fail> {
+    for (count, parts, lines, status) in DEEP_TEXTS {
+        let text = nested(rt.alloc(), parts, count)?;
+        let output = nested(rt.alloc(), lines, count)?;
         let (ended, bytes) = answers(rt.alloc(), text.as_bytes())?;
-        assert_eq!(rt; bytes.as_slice(), output.as_bytes(), "at {front}");
-        assert_eq!(rt; ended, Status::Refused);
+        assert_eq!(rt;
+            bytes.as_slice(),
+            output.as_bytes(),
+            "at {} {}",
+            parts[0],
+            count
+        );
+        assert_eq!(rt; ended, status);
+    }
+    Ok(())
+}
+
+/// Two clauses, of 8 bytes and of 34, and a query.
+const SEND_MORE: &str = "\
+dig([]).
+dig([X|Xs]) :- X in 0..9, dig(Xs).
+?- L = [S,E,N,D,M,O,R,Y], dig(L), S #>= 1, M #>= 1,
+   1000*S+100*E+10*N+D + 1000*M+100*O+10*R+E
+     #= 10000*M+1000*O+100*N+10*E+Y,
+   fd_all_different(L), fd_labeling(L).";
+
+/// What is written for the first bytes of the text, so many. A front that ends a sentence has no query. One that ends in another place
+/// is refused there, or at a last word that is no operator: `i` and `#`. In `X in 0.` the range is a number.
+fn front_output(alloc: Global, length: usize) -> Result<String, Fail> {
+    let output = match length {
+        0 | 8 | 9 | 43 | 44 => String::new(alloc),
+        27 | 81 | 90 | 147 => format!(in alloc; "refused at {}: syntax\n", length - 1)?,
+        31 => format!(in alloc; "refused at 29: not a range\n")?,
+        _ => format!(in alloc; "refused at {length}: syntax\n")?,
+    };
+    Ok(output)
+}
+
+#[test]
+fn each_front_of_a_text(rt: HostRuntime) -> Result<(), Fail> {
+    for length in 0..SEND_MORE.len() {
+        let (ended, bytes) = answers(rt.alloc(), &SEND_MORE.as_bytes()[..length])?;
+        let output = front_output(rt.alloc(), length)?;
+        let status = if output.is_empty() {
+            Status::Done
+        } else {
+            Status::Refused
+        };
+        assert_eq!(rt; bytes.as_slice(), output.as_bytes(), "at {length}");
+        assert_eq!(rt; ended, status, "at {length}");
+    }
+    Ok(())
+}
+
+/// A text of 57 bytes, and its output of 31.
+const CHOICE: &[u8] = b"p(X) :- X in 1..2. p(X) :- X in 8..9. ?- X in 0..8, p(X).";
+
+const CHOICE_OUTPUT: &[u8] = b"query 1\nX = _1(1..2)\nX = 8\nend\n";
+
+/// A call for each byte, and one for the end.
+#[test]
+fn each_read_fails_in_turn(rt: HostRuntime) -> Result<(), Fail> {
+    for failing in 1..=58 {
+        let mut source = SmallSource::new(
+            CHOICE.to_vec(rt.alloc())?,
+            vec![in rt.alloc(); failing]?,
+        );
+        let mut sink = MemorySink::new(rt.alloc(), 1000, Vec::new(rt.alloc()))?;
+        let ended = run(rt.alloc(), &[], &mut source, &mut sink);
+        assert_eq!(rt; sink.bytes().len(), 0, "at {failing}");
+        assert_eq!(rt; ended, Status::ReadFault, "at {failing}");
+    }
+    Ok(())
+}
+
+/// A call for each byte. The last one that is to fail isn't made.
+#[test]
+fn each_write_fails_in_turn(rt: HostRuntime) -> Result<(), Fail> {
+    for failing in 1..=32 {
+        let mut source = MemorySource::new(CHOICE.to_vec(rt.alloc())?, Vec::new(rt.alloc()));
+        let mut sink = SmallSink::new(rt.alloc(), 31, vec![in rt.alloc(); failing]?)?;
+        let ended = run(rt.alloc(), &[], &mut source, &mut sink);
+        assert_eq!(rt; sink.bytes().len() as u64, failing - 1, "at {failing}");
+        assert!(rt; CHOICE_OUTPUT.starts_with(sink.bytes()), "at {failing}");
+        let status = if failing < 32 {
+            Status::WriteFault
+        } else {
+            Status::Done
+        };
+        assert_eq!(rt; ended, status, "at {failing}");
     }
     Ok(())
 }
@@ -919,28 +1017,24 @@ fn a_query_of_a_million_goals_and_one(rt: HostRuntime) -> Result<(), Fail> {
 fn a_failed_third_write(rt: HostRuntime) -> Result<(), Fail> {
     let failing = [3].to_vec(rt.alloc())?;
     let text = b"p(X) :- X in 1..2. p(X) :- X in 8..9. ?- X in 0..8, p(X).".as_slice();
-    let (ended, bytes) = written(rt.alloc(), text, Vec::new(rt.alloc()), failing)?;
+    let (ended, bytes) = written(rt.alloc(), text, failing)?;
     assert_eq!(rt; bytes.as_slice(), b"query 1\nX = _1(1..2)\n".as_slice());
     assert_eq!(rt; ended, Status::WriteFault);
     Ok(())
 }
 
-#[test]
-fn a_failed_first_read(rt: HostRuntime) -> Result<(), Fail> {
-    let failing = [1].to_vec(rt.alloc())?;
-    let text = b"?- X in 1..5.".as_slice();
-    let (ended, bytes) = written(rt.alloc(), text, failing, Vec::new(rt.alloc()))?;
-    assert_eq!(rt; bytes.len(), 0);
-    assert_eq!(rt; ended, Status::ReadFault);
-    Ok(())
-}
-
-/// The status of a run with the words of a line over ends that never fail, and the bytes that it wrote.
-fn asked(alloc: Global, line: &str, text: &str) -> Result<(Status, Vec<u8>), Fail> {
+/// The words of a line.
+fn words_of(alloc: Global, line: &str) -> Result<Vec<String>, Fail> {
     let mut words = Vec::new(alloc);
     for word in line.split_whitespace() {
         words.push(String::from_str(alloc, word)?)?;
     }
+    Ok(words)
+}
+
+/// The status of a run with the words of a line over ends that never fail, and the bytes that it wrote.
+fn asked(alloc: Global, line: &str, text: &str) -> Result<(Status, Vec<u8>), Fail> {
+    let words = words_of(alloc, line)?;
     let mut source = MemorySource::new(text.as_bytes().to_vec(alloc)?, Vec::new(alloc));
     let mut sink = MemorySink::new(alloc, 1000, Vec::new(alloc))?;
     let status = run(alloc, &words, &mut source, &mut sink);
@@ -997,5 +1091,70 @@ fn words_that_are_accepted(rt: HostRuntime) -> Result<(), Fail> {
         assert_eq!(rt; bytes.as_slice(), output.as_bytes(), "at {line}");
         assert_eq!(rt; ended, status, "at {line}");
     }
+    Ok(())
+}
+
+/// Words that ask for a generated text, and its summary. There are so many ways to place that many queens.
+const SUMMARIES: [(&str, &str, Status); 8] = [
+    (
+        "--gen 4",
+        "gen 4\nanswers 2\nreductions 54\nend\n",
+        Status::Done,
+    ),
+    (
+        "--gen 5",
+        "gen 5\nanswers 10\nreductions 91\nend\n",
+        Status::Done,
+    ),
+    (
+        "--gen 6",
+        "gen 6\nanswers 4\nreductions 133\nend\n",
+        Status::Done,
+    ),
+    (
+        "--gen 7",
+        "gen 7\nanswers 40\nreductions 246\nend\n",
+        Status::Done,
+    ),
+    (
+        "--gen 8 --agenda cheapest",
+        "gen 8\nanswers 92\nreductions 524\nend\n",
+        Status::Done,
+    ),
+    (
+        "--gen 4 --answers 1",
+        "gen 4\nanswers 1\nreductions 52\nlimit\n",
+        Status::Done,
+    ),
+    (
+        "--gen 4 --steps 10",
+        "gen 4\nanswers 0\nreductions 10\nbudget\n",
+        Status::Stopped,
+    ),
+    (
+        "--steps 10 --gen 4",
+        "gen 4\nanswers 0\nreductions 10\nbudget\n",
+        Status::Stopped,
+    ),
+];
+
+#[test]
+fn generated_texts_are_summed_up(rt: HostRuntime) -> Result<(), Fail> {
+    for (line, output, status) in SUMMARIES {
+        let (ended, bytes) = asked(rt.alloc(), line, "?- p.")?;
+        assert_eq!(rt; bytes.as_slice(), output.as_bytes(), "at {line}");
+        assert_eq!(rt; ended, status, "at {line}");
+    }
+    Ok(())
+}
+
+#[test]
+fn a_summary_reads_nothing_and_is_written_by_lines(rt: HostRuntime) -> Result<(), Fail> {
+    let words = words_of(rt.alloc(), "--gen 4")?;
+    let mut source = MemorySource::new(Vec::new(rt.alloc()), [1].to_vec(rt.alloc())?);
+    let mut sink = MemorySink::new(rt.alloc(), 1000, [3].to_vec(rt.alloc())?)?;
+    let status = run(rt.alloc(), &words, &mut source, &mut sink);
+    assert_eq!(rt; sink.bytes(), b"gen 4\nanswers 2\n".as_slice());
+    assert_eq!(rt; status, Status::WriteFault);
     Ok(())
 }

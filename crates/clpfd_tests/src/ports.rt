@@ -2,8 +2,8 @@
 ghost use Rattle.std.specs.Prelude.{None};
 
 use byte_ports::{
-    Failed, MemorySink, MemorySource, ReadTextFault, ReaderSource, Sink, Source, SureSink,
-    SureSource, WriterSink, read_text, write_all,
+    Failed, MemorySink, MemorySource, ReadTextFault, ReaderSource, Sink, SmallSink, SmallSource,
+    Source, SureSink, SureSource, WriterSink, read_text, write_all,
 };
 use std::alloc::Global;
 use std::io;
@@ -39,6 +39,18 @@ fn reads_a_text_from_each_source(rt: HostRuntime) -> Result<(), Fail> {
     assert_eq!(rt; found.as_ref(), Some(&text));
     let next = (memory.read(&mut [0; 1]), memory.read(&mut [0; 1]));
     assert_eq!(rt; next, (Err(Failed), Ok(0)));
+    Ok(())
+}
+
+/// Where the second call fails.
+#[test]
+fn a_small_source_gives_a_byte_a_call(rt: HostRuntime) -> Result<(), Fail> {
+    let text = Vec::from_slice(rt.alloc(), b"abc")?;
+    let mut source = SmallSource::new(text, vec![in rt.alloc(); 2]?);
+    for want in [Ok(1), Err(Failed), Ok(1), Ok(1), Ok(0)] {
+        let found = source.read(&mut [0; 2]);
+        assert_eq!(rt; found, want);
+    }
     Ok(())
 }
 
@@ -86,6 +98,23 @@ fn a_failed_write_leaves_what_was_written(rt: HostRuntime) -> Result<(), Fail> {
         ("f", false, "abcde"),
         ("fg", false, "abcde"),
         ("f", true, "abcdef"),
+    ] {
+        let written = put(&mut sink, piece);
+        assert_eq!(rt; written, whole, "{piece}");
+        assert_eq!(rt; sink.bytes(), after.as_bytes(), "{piece}");
+    }
+    Ok(())
+}
+
+/// Where the fourth call fails, and then there is no room.
+#[test]
+fn a_small_sink_takes_a_byte_a_call(rt: HostRuntime) -> Result<(), Fail> {
+    let mut sink = SmallSink::new(rt.alloc(), 5, vec![in rt.alloc(); 4]?)?;
+    for (piece, whole, after) in [
+        ("ab", true, "ab"),
+        ("cd", false, "abc"),
+        ("def", false, "abcde"),
+        ("", true, "abcde"),
     ] {
         let written = put(&mut sink, piece);
         assert_eq!(rt; written, whole, "{piece}");

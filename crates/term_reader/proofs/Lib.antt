@@ -1,4 +1,4 @@
-mod Sound
+pub mod Sound
 mod Complete
 mod PlacedLaws
 mod Stacks
