@@ -1,0 +1,281 @@
+-- The whole input, and how a run ends.
+use Rattle.std.proofs.Common.{◌≡◌, ℕ, ◌<◌, ◌≤◌, ◌⊎◌, inl, inr, Bool, true, false, List, [], ◌++◌, Option, Some, None, IsSome, Result, Err, refl, sym, ap, ◌∙◌, subst, arith, append-nil}
+use Rattle.std.specs.Prelude.{◌||◌}
+use Rattle.byte_ports.specs.Ports.{PutPart, Rose, Took, IsAtEnd}
+use Rattle.byte_ports.proofs.Pieces.{took_none, took_more}
+use Rattle.clpwhere.specs.declared.outcome.Fault.{Fault}
+use Rattle.clpwhere.specs.declared.outcome.Fault.TheVariants as fault
+use Rattle.clpwhere.specs.declared.outcome.Status.{Status}
+use Rattle.clpwhere.specs.declared.outcome.Status.TheVariants as status
+use Rattle.clpwhere.specs.declared.command.Asked.{Asked}
+use Rattle.clpwhere.specs.declared.command.Asked.TheVariants as asked
+use Rattle.clpwhere.specs.Parts.{TextParts}
+use Rattle.clpwhere.specs.Marked.{is_refused, marked}
+use Rattle.clpwhere.specs.Endings.{Ends, sink_of, WroteAll, CutBy, GaveAll, Copied, CutShort, CopyEnds, Counted, Ending, fault_status}
+use Rattle.clpwhere.specs.Headline.{Headline, IsDecided, IsInput, NeedsNoInput, output, output_status, refused_status}
+use Rattle.clpwhere.proofs.Pieces.{wrote_none_of, cut_part}
+use Rattle.clpwhere.proofs.LineSteps.{gave_none, gave_then, gave_cut, gave_front, gave_last, cut_last}
+
+-- ---- the input so far
+
+pub record Reading (text : TextParts) (old now : Ends) (line : List ℕ) (told : Bool) : Type 0 where
+  pub front : List ℕ
+  pub took : Took old.left now.left front
+  pub faults : now.source_faults ≡ old.source_faults
+  pub gave : GaveAll text (sink_of old) (sink_of now) front line told
+
+pub none_read : (text : TextParts) (e : Ends) → Reading text e e [] false
+none_read text e = record { front = []; took = took_none e.left; faults = refl; gave = gave_none text (sink_of e) [] refl }
+
+-- an input that begins with what was read
+pub record Whole (old new : Option (List ℕ)) (front : List ℕ) : Type 0 where
+  pub after : List ℕ
+  pub is : IsSome new → old ≡ Some (front ++ after)
+
+pub whole_of : (old new : Option (List ℕ)) (front : List ℕ) → Took old new front → Whole old new front
+whole_of old None front t = record { after = []; is = λ s. absurd (cc (s)) }
+whole_of old (Some after) front t = record { after = after; is = λ s. t }
+
+-- ---- a copy
+
+pub copied : (text : TextParts) (old now new : Ends) (line piece : List ℕ) (f g : Bool) → Reading text old now line f
+    → Took now.left new.left piece → piece ≡ [] → IsAtEnd new.left → new.source_faults ≡ now.source_faults
+    → WroteAll (sink_of now) (sink_of new) (marked text line) → g ≡ is_refused line → Copied text old new (f || g)
+copied text old now new line piece f g r t none end same w e =
+    let last = gave_last text (sink_of old) (sink_of now) (sink_of new) r.front line f g r.gave w e in
+    record {
+      input = r.front;
+      took = subst (Took old.left new.left) (ap (λ p. r.front ++ p) none ∙ append-nil r.front) (took_more old.left now.left new.left r.front piece r.took t);
+      end = end;
+      source_faults = same ∙ r.faults;
+      wrote = last.0;
+      tells = last.1;
+    }
+
+-- the counts of a sink that was written to
+sink_counted : (a b : Ends) (e : Fault) (p : List ℕ) → b.source_faults ≡ a.source_faults → CutBy (sink_of a) (sink_of b) e p → Counted e a b
+sink_counted a b fault.ReadFault p s c = absurd c
+sink_counted a b fault.WriteFault p s c = (s, c.rose, c.later)
+sink_counted a b fault.NoMemory p s c = (s, c.faults)
+
+-- a write failed, or memory was wanting, in the last line
+pub last_cut : (text : TextParts) (old now new : Ends) (line piece : List ℕ) (f : Bool) (e : Fault) → Reading text old now line f
+    → Took now.left new.left piece → piece ≡ [] → IsAtEnd new.left → new.source_faults ≡ now.source_faults
+    → CutBy (sink_of now) (sink_of new) e (marked text line) → CutShort text old new e
+last_cut text old now new line piece f e r t none end same c =
+    let cut = cut_last text (sink_of old) (sink_of now) (sink_of new) r.front line f e r.gave c in
+    let took = subst (Took old.left new.left) (ap (λ p. r.front ++ p) none ∙ append-nil r.front) (took_more old.left now.left new.left r.front piece r.took t) in
+    record {
+      input = r.front;
+      whole = at_end old.left new.left r.front took end;
+      wrote = cut_part (sink_of old) (sink_of new) e (marked text r.front) cut;
+      front = r.front;
+      took = took;
+      counted = sink_counted old new e (marked text r.front) (same ∙ r.faults) cut;
+    }
+  where
+    at_end : (a b : Option (List ℕ)) (front : List ℕ) → Took a b front → IsAtEnd b → IsSome b → a ≡ Some front
+    at_end a None front t end s = absurd (cc (s))
+    at_end a (Some after) front t end s = t ∙ ap (λ l. Some (front ++ l)) end ∙ ap Some (append-nil front)
+
+-- the lines of one more piece
+pub more_read : (text : TextParts) (old now new : Ends) (line next piece : List ℕ) (f g : Bool) → Reading text old now line f
+    → Took now.left new.left piece → new.source_faults ≡ now.source_faults → GaveAll text (sink_of now) (sink_of new) (line ++ piece) next g → Reading text old new next (f || g)
+more_read text old now new line next piece f g r t same h = record {
+  front = r.front ++ piece;
+  took = took_more old.left now.left new.left r.front piece r.took t;
+  faults = same ∙ r.faults;
+  gave = gave_then text (sink_of old) (sink_of now) (sink_of new) r.front line piece next f g r.gave h;
+}
+
+-- or a fault in them
+pub more_cut : (text : TextParts) (old now new : Ends) (line piece : List ℕ) (f : Bool) (e : Fault) → Reading text old now line f
+    → Took now.left new.left piece → new.source_faults ≡ now.source_faults → ((rest : List ℕ) → CutBy (sink_of now) (sink_of new) e (marked text ((line ++ piece) ++ rest))) → CutShort text old new e
+more_cut text old now new line piece f e r t same c =
+    let took = took_more old.left now.left new.left r.front piece r.took t in
+    let whole = whole_of old.left new.left (r.front ++ piece) took in
+    let cut = gave_cut text (sink_of old) (sink_of now) (sink_of new) r.front line piece f e r.gave c whole.after in
+    record {
+      input = (r.front ++ piece) ++ whole.after;
+      whole = whole.is;
+      wrote = cut_part (sink_of old) (sink_of new) e (marked text ((r.front ++ piece) ++ whole.after)) cut;
+      front = r.front ++ piece;
+      took = took;
+      counted = sink_counted old new e (marked text ((r.front ++ piece) ++ whole.after)) (same ∙ r.faults) cut;
+    }
+
+-- a read failed
+pub read_cut : (text : TextParts) (old now new : Ends) (line : List ℕ) (f : Bool) → Reading text old now line f
+    → Took now.left new.left [] → now.source_faults ≤ new.source_faults → Rose now.source_faults new.source_faults → new.written ≡ now.written → new.sink_faults ≡ now.sink_faults → CutShort text old new fault.ReadFault
+read_cut text old now new line f r t later rose written faults =
+    let took = subst (Took old.left new.left) (append-nil r.front) (took_more old.left now.left new.left r.front [] r.took t) in
+    let whole = whole_of old.left new.left r.front took in
+    let part = gave_front text (sink_of old) (sink_of now) r.front line f r.gave whole.after in
+    record {
+      input = r.front ++ whole.after;
+      whole = whole.is;
+      wrote = subst (λ w. PutPart old.written w (marked text (r.front ++ whole.after))) (sym written) part.put;
+      front = r.front;
+      took = took;
+      counted = (subst (λ n. Rose n new.source_faults) r.faults rose, subst (λ n. n ≤ new.source_faults) r.faults later, faults ∙ part.faults);
+    }
+
+-- memory was wanting between two pieces
+pub memory_cut : (text : TextParts) (old now : Ends) (line : List ℕ) (f : Bool) → Reading text old now line f → CutShort text old now fault.NoMemory
+memory_cut text old now line f r =
+    let whole = whole_of old.left now.left r.front r.took in
+    let part = gave_front text (sink_of old) (sink_of now) r.front line f r.gave whole.after in
+    record {
+      input = r.front ++ whole.after;
+      whole = whole.is;
+      wrote = part.put;
+      front = r.front;
+      took = r.took;
+      counted = (r.faults, part.faults);
+    }
+
+pub none_cut : (text : TextParts) (e : Ends) → CutShort text e e fault.NoMemory
+none_cut text e = memory_cut text e e [] false (none_read text e)
+
+pub copy_cut : (text : TextParts) (old new : Ends) (e : Fault) (r : Result Bool Fault) → r ≡ Err e → CutShort text old new e → CopyEnds text old new r
+copy_cut text old new e r is h = subst (CopyEnds text old new) (sym is) h
+
+-- ---- the headline
+
+rose_not : (a b : ℕ) → b ≡ a → a < b → ⊥
+rose_not a b e l = omega (arith, e)
+
+not_below : (a b : ℕ) → b ≡ a → a ≤ b
+not_below a b e = omega (arith, e)
+
+decided_refused : (b : Bool) → IsDecided (refused_status b)
+decided_refused true = tt
+decided_refused false = tt
+
+-- the input was copied
+pub run_copied : (text : TextParts) (old new : Ends) (b : Bool) (result : Status) → result ≡ refused_status b → Copied text old new b → Headline (asked.Text text) old new result
+run_copied text old new b result e h =
+    let decided : IsDecided result = subst IsDecided (sym e) (decided_refused b) in
+    record {
+      whole = λ d. (h.input, at_end old.left new.left h.input h.took h.end, ap refused_status (sym h.tells) ∙ sym e, h.wrote.put);
+      cut = λ n. absurd (n decided);
+      read_fault = λ f. absurd (subst IsDecided f decided);
+      read_told = λ l. absurd (rose_not old.source_faults new.source_faults h.source_faults l);
+      write_fault = λ f. absurd (subst IsDecided f decided);
+      write_told = λ l. absurd (rose_not old.sink_faults new.sink_faults h.wrote.faults l);
+      no_fault = λ a c. inl decided;
+      source_later = not_below old.source_faults new.source_faults h.source_faults;
+      sink_later = not_below old.sink_faults new.sink_faults h.wrote.faults;
+      rest = (h.input, h.took);
+      read_whole = λ c. h.end;
+    }
+  where
+    at_end : (a b : Option (List ℕ)) (front : List ℕ) → Took a b front → IsAtEnd b → IsSome b → a ≡ Some front
+    at_end a None front t end s = absurd (cc (s))
+    at_end a (Some after) front t end s = t ∙ ap (λ l. Some (front ++ l)) end ∙ ap Some (append-nil front)
+
+-- or it was cut short
+pub run_cut : (text : TextParts) (old new : Ends) (e : Fault) (result : Status) → result ≡ fault_status e → CutShort text old new e → Headline (asked.Text text) old new result
+run_cut text old new fault.ReadFault result e h = record {
+  whole = λ d. absurd (subst IsDecided e d);
+  cut = λ n. (h.input, h.whole, h.wrote);
+  read_fault = λ f. h.counted.0;
+  read_told = λ l. e;
+  write_fault = λ f. absurd (cc (e, f));
+  write_told = λ l. absurd (rose_not old.sink_faults new.sink_faults h.counted.2 l);
+  no_fault = λ a c. absurd (a h.counted.0);
+  source_later = h.counted.1;
+  sink_later = not_below old.sink_faults new.sink_faults h.counted.2;
+  rest = (h.front, h.took);
+  read_whole = λ c. absurd (elim c [ inl f ↦ (let g : status.Done ≡ status.ReadFault = sym f ∙ e in cc) | inr f ↦ (let g : status.Refused ≡ status.ReadFault = sym f ∙ e in cc) ]);
+}
+run_cut text old new fault.WriteFault result e h = record {
+  whole = λ d. absurd (subst IsDecided e d);
+  cut = λ n. (h.input, h.whole, h.wrote);
+  read_fault = λ f. absurd (cc (e, f));
+  read_told = λ l. absurd (rose_not old.source_faults new.source_faults h.counted.0 l);
+  write_fault = λ f. h.counted.1;
+  write_told = λ l. e;
+  no_fault = λ a c. absurd (c h.counted.1);
+  source_later = not_below old.source_faults new.source_faults h.counted.0;
+  sink_later = h.counted.2;
+  rest = (h.front, h.took);
+  read_whole = λ c. absurd (elim c [ inl f ↦ (let g : status.Done ≡ status.WriteFault = sym f ∙ e in cc) | inr f ↦ (let g : status.Refused ≡ status.WriteFault = sym f ∙ e in cc) ]);
+}
+run_cut text old new fault.NoMemory result e h = record {
+  whole = λ d. absurd (subst IsDecided e d);
+  cut = λ n. (h.input, h.whole, h.wrote);
+  read_fault = λ f. absurd (cc (e, f));
+  read_told = λ l. absurd (rose_not old.source_faults new.source_faults h.counted.0 l);
+  write_fault = λ f. absurd (cc (e, f));
+  write_told = λ l. absurd (rose_not old.sink_faults new.sink_faults h.counted.1 l);
+  no_fault = λ a c. inr e;
+  source_later = not_below old.source_faults new.source_faults h.counted.0;
+  sink_later = not_below old.sink_faults new.sink_faults h.counted.1;
+  rest = (h.front, h.took);
+  read_whole = λ c. absurd (elim c [ inl f ↦ (let g : status.Done ≡ status.NoMemory = sym f ∙ e in cc) | inr f ↦ (let g : status.Refused ≡ status.NoMemory = sym f ∙ e in cc) ]);
+}
+
+-- a run that needs no input
+some_input : (a : Asked) (old new : Option (List ℕ)) → NeedsNoInput a → IsInput a old new []
+some_input asked.Usage old new n = tt
+some_input (asked.Unreadable name) old new n = tt
+some_input (asked.Text text) old new n = absurd n
+
+decided_output : (a : Asked) (input : List ℕ) → IsDecided (output_status a input)
+decided_output asked.Usage input = tt
+decided_output (asked.Unreadable name) input = tt
+decided_output (asked.Text text) input = decided_refused (is_refused input)
+
+not_answered : (a : Asked) → NeedsNoInput a → (output_status a [] ≡ status.Done) ⊎ (output_status a [] ≡ status.Refused) → ⊥
+not_answered asked.Usage n c = elim c [ inl f ↦ cc | inr f ↦ cc ]
+not_answered (asked.Unreadable name) n c = elim c [ inl f ↦ cc | inr f ↦ cc ]
+not_answered (asked.Text text) n c = n
+
+pub run_line : (a : Asked) (old new : Ends) (result : Status) → NeedsNoInput a → new.left ≡ old.left → new.source_faults ≡ old.source_faults
+    → Ending (sink_of old) (sink_of new) result (output_status a []) (output a []) → Headline a old new result
+run_line a old new result n left same (inl h) =
+    let decided : IsDecided result = subst IsDecided (sym h.0) (decided_output a []) in
+    record {
+      whole = λ d. ([], some_input a old.left new.left n, sym h.0, h.1.put);
+      cut = λ f. absurd (f decided);
+      read_fault = λ f. absurd (subst IsDecided f decided);
+      read_told = λ l. absurd (rose_not old.source_faults new.source_faults same l);
+      write_fault = λ f. absurd (subst IsDecided f decided);
+      write_told = λ l. absurd (rose_not old.sink_faults new.sink_faults h.1.faults l);
+      no_fault = λ f g. inl decided;
+      source_later = not_below old.source_faults new.source_faults same;
+      sink_later = not_below old.sink_faults new.sink_faults h.1.faults;
+      rest = ([], subst (λ l. Took old.left l []) (sym left) (took_none old.left));
+      read_whole = λ c. absurd (not_answered a n (elim c [ inl f ↦ inl (sym h.0 ∙ f) | inr f ↦ inr (sym h.0 ∙ f) ]));
+    }
+run_line a old new result n left same (inr (inl h)) = record {
+  whole = λ d. absurd (subst IsDecided h.0 d);
+  cut = λ f. ([], some_input a old.left new.left n, h.1.put);
+  read_fault = λ f. absurd (let k = h.0 in cc (k, f));
+  read_told = λ l. absurd (rose_not old.source_faults new.source_faults same l);
+  write_fault = λ f. h.1.rose;
+  write_told = λ l. h.0;
+  no_fault = λ f g. absurd (g h.1.rose);
+  source_later = not_below old.source_faults new.source_faults same;
+  sink_later = h.1.later;
+  rest = ([], subst (λ l. Took old.left l []) (sym left) (took_none old.left));
+  read_whole = λ c. absurd (elim c [ inl f ↦ (let g : status.Done ≡ status.WriteFault = sym f ∙ h.0 in cc) | inr f ↦ (let g : status.Refused ≡ status.WriteFault = sym f ∙ h.0 in cc) ]);
+}
+run_line a old new result n left same (inr (inr h)) = record {
+  whole = λ d. absurd (subst IsDecided h.0 d);
+  cut = λ f. ([], some_input a old.left new.left n, h.1.put);
+  read_fault = λ f. absurd (let k = h.0 in cc (k, f));
+  read_told = λ l. absurd (rose_not old.source_faults new.source_faults same l);
+  write_fault = λ f. absurd (let k = h.0 in cc (k, f));
+  write_told = λ l. absurd (rose_not old.sink_faults new.sink_faults h.1.faults l);
+  no_fault = λ f g. inr h.0;
+  source_later = not_below old.source_faults new.source_faults same;
+  sink_later = not_below old.sink_faults new.sink_faults h.1.faults;
+  rest = ([], subst (λ l. Took old.left l []) (sym left) (took_none old.left));
+  read_whole = λ c. absurd (elim c [ inl f ↦ (let g : status.Done ≡ status.NoMemory = sym f ∙ h.0 in cc) | inr f ↦ (let g : status.Refused ≡ status.NoMemory = sym f ∙ h.0 in cc) ]);
+}
+
+-- memory was wanting before the line was made
+pub line_wanting : (a : Asked) (e : Ends) (result : Status) → NeedsNoInput a → result ≡ status.NoMemory → Headline a e e result
+line_wanting a e result n is = run_line a e e result n refl refl (inr (inr (is, wrote_none_of (sink_of e) (output a []))))

@@ -1,0 +1,8 @@
+use Rattle.std.proofs.Common.{◌++◌, take}
+use Rattle.clpwhere.specs.Endings.{sink_at, GaveAll}
+use Rattle.clpwhere.proofs.copy.feed.Given as goal
+
+abbrev pub invariant-loop-byte : goal.invariant-loop-byte
+invariant-loop-byte g l =
+    GaveAll l.text (sink_at (g.K.Sink.written l.fn.sink) (g.K.Sink.faults l.fn.sink)) (sink_at (g.K.Sink.written l.sink) (g.K.Sink.faults l.sink))
+    (l.fn.line.items ++ take l.byte-index l.bytes) l.line.items l.is_told

@@ -1,0 +1,5 @@
+use Rattle.clpwhere.proofs.Telling.{told}
+use Rattle.clpwhere.proofs.laws.told_as_spelled.Goals as goal
+
+pub returns : goal.returns
+returns c = λ line r. told line r

@@ -1,0 +1,77 @@
+-- The headline: what a run writes, how it ends, and what stays as it was.
+use Rattle.std.specs.Prelude.{◌≡◌, ◌<◌, ◌≤◌, ◌⊎◌, ℕ, Bool, true, false, List, ◌++◌, Option, Some, IsSome, codes, string_bytes}
+use Rattle.byte_ports.specs.Ports.{Put, PutPart, Rose, Took, IsAtEnd}
+use Rattle.clpwhere.specs.declared.outcome.Status.{Status}
+use Rattle.clpwhere.specs.declared.outcome.Status.TheVariants.{Done, Usage, Refused, Unreadable, ReadFault, WriteFault, NoMemory}
+use Rattle.clpwhere.specs.declared.command.Asked.{Asked}
+use Rattle.clpwhere.specs.declared.command.Asked.TheVariants as asked
+use Rattle.clpwhere.specs.Marked.{marked, is_refused}
+use Rattle.clpwhere.specs.Endings.{Ends}
+
+-- the statuses of an output
+abbrev pub IsDecided : Status → Type 0
+IsDecided Done = Unit {0}
+IsDecided Usage = Unit {0}
+IsDecided Refused = Unit {0}
+IsDecided Unreadable = Unit {0}
+IsDecided ReadFault = ⊥
+IsDecided WriteFault = ⊥
+IsDecided NoMemory = ⊥
+
+abbrev pub usage : List ℕ
+usage = codes "usage: clpwhere FILE\n"
+
+abbrev pub unreadable : List ℕ → List ℕ
+unreadable name = name ++ codes " can't be read\n"
+
+-- the whole output for what the words ask for and an input
+abbrev pub output : Asked → List ℕ → List ℕ
+output asked.Usage input = usage
+output (asked.Unreadable name) input = unreadable (string_bytes name)
+output (asked.Text text) input = marked text input
+
+abbrev pub refused_status : Bool → Status
+refused_status true = Refused
+refused_status false = Done
+
+-- and its status
+abbrev pub output_status : Asked → List ℕ → Status
+output_status asked.Usage input = Usage
+output_status (asked.Unreadable name) input = Unreadable
+output_status (asked.Text text) input = refused_status (is_refused input)
+
+-- An input of the run: what the source had left, where it still tells its bytes after the run, and
+-- else some bytes. Without a text the source isn't looked at.
+abbrev pub IsInput : Asked → Option (List ℕ) → Option (List ℕ) → List ℕ → Type 0
+IsInput (asked.Text text) old new input = IsSome new → old ≡ Some input
+IsInput _ old new input = Unit {0}
+
+-- Put, PutPart and Took say nothing where bytes aren't told; what is said of the status holds all the same.
+pub record Headline (a : Asked) (old new : Ends) (result : Status) : Type 0 where
+  -- whole output: a decided status is that of an input of the run, and its output was written whole
+  pub whole : IsDecided result → (input : List ℕ) × IsInput a old.left new.left input
+      × (output_status a input ≡ result) × Put old.written new.written (output a input)
+  -- a front of an output was written before a fault or want of memory
+  pub cut : (IsDecided result → ⊥) → (input : List ℕ) × IsInput a old.left new.left input
+      × PutPart old.written new.written (output a input)
+  -- a read fault was counted, and where one was counted it is told
+  pub read_fault : result ≡ ReadFault → Rose old.source_faults new.source_faults
+  pub read_told : old.source_faults < new.source_faults → result ≡ ReadFault
+  -- a write fault was counted, and where one was counted it is told
+  pub write_fault : result ≡ WriteFault → Rose old.sink_faults new.sink_faults
+  pub write_told : old.sink_faults < new.sink_faults → result ≡ WriteFault
+  -- without a counted fault the status is decided, or memory was wanting
+  pub no_fault : (Rose old.source_faults new.source_faults → ⊥)
+      → (Rose old.sink_faults new.sink_faults → ⊥) → IsDecided result ⊎ (result ≡ NoMemory)
+  -- no count falls
+  pub source_later : old.source_faults ≤ new.source_faults
+  pub sink_later : old.sink_faults ≤ new.sink_faults
+  -- what is left is an end of what was left
+  pub rest : (front : List ℕ) × Took old.left new.left front
+  -- an input that was answered was read to its end
+  pub read_whole : (result ≡ Done) ⊎ (result ≡ Refused) → IsAtEnd new.left
+
+-- nothing is asked of the source without a text
+abbrev pub NeedsNoInput : Asked → Type 0
+NeedsNoInput (asked.Text text) = ⊥
+NeedsNoInput _ = Unit {0}

@@ -1,0 +1,9 @@
+pub mod Parts
+pub mod Lines
+pub mod Places
+pub mod Reasons
+pub mod Refusals
+pub mod Marked
+pub mod Endings
+pub mod Words
+pub mod Headline

@@ -1,0 +1,119 @@
+//! The whole input, line by line.
+ghost use Rattle.std.specs.Prelude.{◌≡◌, ◌<◌, [], ◌∷◌, ◌++◌, length, IfOk};
+ghost use Rattle.clpwhere.specs.Endings.{ends_at, sink_at, CopyEnds, Fed, IsOpen, Wrote};
+ghost use Rattle.clpwhere.specs.Marked.{is_refused, marked};
+
+use crate::explain::put_line;
+use crate::outcome::Fault;
+use crate::text::NamedText;
+use byte_ports::{Sink, Source};
+use std::alloc::Global;
+
+/// The most bytes that one call of a source is asked for.
+const CHUNK: usize = 65_536;
+
+/// Takes a byte behind an open line, and writes what becomes of the line where the byte ends it. Tells whether the line told a
+/// refusal.
+fn feed_byte<K: Sink>(
+    alloc: Global,
+    text: &NamedText,
+    line: &mut Vec<u8>,
+    byte: u8,
+    sink: &mut K,
+) -> Result<bool, Fault>
+    requires { IsOpen line.old.items }
+    ensures { Fed text.now
+        (sink_at (K.written sink.old) (K.faults sink.old))
+        (sink_at (K.written sink.new) (K.faults sink.new))
+        (line.old.items ++ byte ∷ []) line.new.items result }
+{
+    line.push(byte)?;
+    if byte != b'\n' {
+        return Ok(false);
+    }
+    let is_told = put_line(alloc, text, line, sink)?;
+    line.clear();
+    Ok(is_told)
+}
+
+/// Takes bytes behind an open line, and writes what becomes of each line that they end. Tells whether one of these told a refusal.
+fn feed<K: Sink>(
+    alloc: Global,
+    text: &NamedText,
+    line: &mut Vec<u8>,
+    bytes: &[u8],
+    sink: &mut K,
+) -> Result<bool, Fault>
+    requires { IsOpen line.old.items }
+    ensures { Fed text.now
+        (sink_at (K.written sink.old) (K.faults sink.old))
+        (sink_at (K.written sink.new) (K.faults sink.new))
+        (line.old.items ++ bytes.now) line.new.items result }
+{
+    let mut is_told = false;
+    for byte in bytes {
+        is_told |= feed_byte(alloc, text, line, *byte, sink)?;
+    }
+    Ok(is_told)
+}
+
+/// Writes what becomes of the last line, which has no newline, and tells whether it told a refusal.
+fn finish<K: Sink>(
+    alloc: Global,
+    text: &NamedText,
+    line: &[u8],
+    sink: &mut K,
+) -> Result<bool, Fault>
+    requires { IsOpen line.now }
+    ensures wrote { Wrote (sink_at (K.written sink.old) (K.faults sink.old))
+        (sink_at (K.written sink.new) (K.faults sink.new))
+        result (marked text.now line.now) }
+    ensures told { IfOk result (λ told. told ≡ is_refused line.now) }
+{
+    if line.is_empty() {
+        return Ok(false);
+    }
+    put_line(alloc, text, line, sink)
+}
+
+/// Reads the input to its end, and writes what becomes of its lines. Tells whether one of them told a refusal.
+pub fn copy_input<S: Source, K: Sink>(
+    alloc: Global,
+    text: &NamedText,
+    source: &mut S,
+    sink: &mut K,
+) -> Result<bool, Fault>
+    ensures { CopyEnds text.now
+        (ends_at (S.left source.old) (S.faults source.old) (K.written sink.old) (K.faults sink.old))
+        (ends_at (S.left source.new) (S.faults source.new) (K.written sink.new) (K.faults sink.new))
+        result }
+{
+    let mut buffer = vec![in alloc; 0u8; CHUNK]?;
+    copy_through(alloc, text, source, sink, buffer.as_mut_slice())
+}
+
+/// Does it by calls of the source for as many bytes as the buffer holds. After 2^64 - 1 calls it answers want of memory.
+fn copy_through<S: Source, K: Sink>(
+    alloc: Global,
+    text: &NamedText,
+    source: &mut S,
+    sink: &mut K,
+    buffer: &mut [u8],
+) -> Result<bool, Fault>
+    requires { 0 < length buffer.old }
+    ensures { CopyEnds text.now
+        (ends_at (S.left source.old) (S.faults source.old) (K.written sink.old) (K.faults sink.old))
+        (ends_at (S.left source.new) (S.faults source.new) (K.written sink.new) (K.faults sink.new))
+        result }
+{
+    let mut line = Vec::new(alloc);
+    let mut is_told = false;
+    'reading: for _ in 0..u64::MAX {
+        match source.read(buffer) {
+            Ok(0) => return Ok(is_told | finish(alloc, text, &line, sink)?),
+            Ok(count) => is_told |= feed(alloc, text, &mut line, &buffer[..count], sink)?,
+            Err(_) => return Err(Fault::ReadFault),
+        }
+    }
+    Err(Fault::NoMemory)
+}

@@ -1,0 +1,160 @@
+//! What is written of a line.
+ghost use Rattle.std.specs.Prelude.{◌≡◌, ◌++◌, IfOk, OnOk, string_bytes};
+ghost use Rattle.clpwhere.specs.Endings.{sink_at, Wrote};
+ghost use Rattle.clpwhere.specs.Marked.{caret_lines, explained, is_refusal, marked_line, place_line};
+ghost use Rattle.clpwhere.specs.Places.{characters, column_number, cut_mark, shown_before, shown_character, shown_characters, shown_from};
+ghost use Rattle.clpwhere.specs.Refusals.{seen};
+
+use crate::outcome::Fault;
+use crate::refusal::{Refusal, refusal_of};
+use crate::text::{NamedText, before_byte};
+use byte_ports::{Sink, write_all};
+use fd_language::NoMemory;
+use std::alloc::Global;
+use unicode_width::UnicodeWidthStr;
+
+/// The most characters that are shown on either side of a place.
+const SHOWN_LIMIT: usize = 60;
+
+/// What stands for the characters that aren't shown.
+fn cut_mark(count: usize) -> &'static str
+    ensures { result.now ≡ cut_mark count }
+{
+    if count > SHOWN_LIMIT { "..." } else { "" }
+}
+
+/// A character as it is shown.
+fn shown_character(character: char) -> char
+    ensures { result ≡ shown_character character }
+{
+    if character.is_control() {
+        ' '
+    } else {
+        character
+    }
+}
+
+/// Appends characters as they are shown.
+fn put_shown(shown: &mut String, characters: &[char]) -> Result<(), NoMemory>
+    ensures { OnOk result
+        (string_bytes shown.new ≡ string_bytes shown.old ++ shown_characters characters.now) }
+{
+    for character in characters {
+        shown.push(shown_character(*character))?;
+    }
+    Ok(())
+}
+
+/// Bytes as characters; each sequence that isn't UTF-8 is the one character U+FFFD.
+fn characters(alloc: Global, bytes: &[u8]) -> Result<Vec<char>, NoMemory>
+    ensures { IfOk result (λ cs. cs.items ≡ characters bytes.now) }
+{
+    let text = String::from_utf8_lossy(alloc, bytes)?;
+    Ok(text.as_str().chars().collect(alloc)?)
+}
+
+/// The last of the characters before a place.
+fn shown_before(alloc: Global, characters: &[char]) -> Result<String, NoMemory>
+    ensures { IfOk result (λ shown. string_bytes shown ≡ shown_before characters.now) }
+{
+    let start = characters.len().saturating_sub(SHOWN_LIMIT);
+    let mut shown = String::from_str(alloc, cut_mark(characters.len()))?;
+    put_shown(&mut shown, &characters[start..])?;
+    Ok(shown)
+}
+
+/// The first of the characters from a place on.
+fn shown_from(alloc: Global, characters: &[char]) -> Result<String, NoMemory>
+    ensures { IfOk result (λ shown. string_bytes shown ≡ shown_from characters.now) }
+{
+    let end = SHOWN_LIMIT.min(characters.len());
+    let mut shown = String::new(alloc);
+    put_shown(&mut shown, &characters[..end])?;
+    shown.push_str(cut_mark(characters.len()))?;
+    Ok(shown)
+}
+
+/// Appends the lines that show the place: its line of the text, and a caret below it. The characters before it are passed.
+fn put_shown_lines(
+    alloc: Global,
+    out: &mut Vec<u8>,
+    before: &[char],
+    bytes: &[u8],
+) -> Result<(), NoMemory>
+    ensures { OnOk result (out.new.items ≡ out.old.items
+        ++ caret_lines (shown_before before.now) (shown_from (characters bytes.now))) }
+{
+    let shown = shown_before(alloc, before)?;
+    let rest = shown_from(alloc, &characters(alloc, bytes)?)?;
+    let indent = vec![in alloc; b' '; shown.as_str().width()]?;
+    out.extend_from_slice(shown.as_bytes())?;
+    out.extend_from_slice(rest.as_bytes())?;
+    out.extend_from_slice(b"\n")?;
+    out.extend_from_slice(&indent)?;
+    out.extend_from_slice(b"^\n")?;
+    Ok(())
+}
+
+/// The line that tells a refusal with its line and its column in the text.
+fn place_line(
+    alloc: Global,
+    text: &NamedText,
+    refusal: &Refusal<'_>,
+    column: usize,
+) -> Result<Vec<u8>, NoMemory>
+    requires { column ≡ column_number text.now.bytes refusal.now.place }
+    ensures { IfOk result (λ out. out.items ≡ place_line text.now (seen refusal.now)) }
+{
+    let name = text.name();
+    let line = text.line(refusal.place);
+    let head = format!(in alloc; "{name}:{line}:{column}: ")?;
+    let mut out = Vec::from_slice(alloc, head.as_bytes())?;
+    out.extend_from_slice(refusal.words)?;
+    out.extend_from_slice(b"\n")?;
+    Ok(out)
+}
+
+/// The explanation of a refusal.
+fn explained(alloc: Global, text: &NamedText, refusal: &Refusal<'_>) -> Result<Vec<u8>, NoMemory>
+    ensures { IfOk result (λ out. out.items ≡ explained text.now (seen refusal.now)) }
+{
+    let before = characters(alloc, text.before_place(refusal.place))?;
+    let mut out = place_line(alloc, text, refusal, 1 + before.len())?;
+    put_shown_lines(alloc, &mut out, &before, text.from_place(refusal.place))?;
+    out.extend_from_slice(refusal.reason.sentence().as_bytes())?;
+    out.extend_from_slice(b"\n")?;
+    Ok(out)
+}
+
+/// Writes a piece.
+fn put<K: Sink>(sink: &mut K, piece: &[u8]) -> Result<(), Fault>
+    ensures { Wrote (sink_at (K.written sink.old) (K.faults sink.old))
+        (sink_at (K.written sink.new) (K.faults sink.new))
+        result piece.now }
+{
+    Ok(write_all(sink, piece)?)
+}
+
+/// Writes what becomes of a line, and tells whether it told a refusal.
+pub fn put_line<K: Sink>(
+    alloc: Global,
+    text: &NamedText,
+    line: &[u8],
+    sink: &mut K,
+) -> Result<bool, Fault>
+    ensures wrote { Wrote (sink_at (K.written sink.old) (K.faults sink.old))
+        (sink_at (K.written sink.new) (K.faults sink.new))
+        result (marked_line text.now line.now) }
+    ensures told { IfOk result (λ told. told ≡ is_refusal line.now) }
+{
+    match refusal_of(before_byte(line, b'\n')) {
+        Some(refusal) => {
+            put(sink, &explained(alloc, text, &refusal)?)?;
+            Ok(true)
+        }
+        None => {
+            put(sink, line)?;
+            Ok(false)
+        }
+    }
+}

@@ -1,0 +1,9 @@
+//! The law of lines that tell a refusal.
+ghost use Rattle.std.specs.Prelude.{◌≡◌, ◌↔◌, ℕ, List, Some};
+ghost use Rattle.clpwhere.specs.Refusals.{refusal_of, Refusal, Tells};
+
+/// A line tells a refusal exactly where it is spelled as `clpfd` spells one: the place in decimal, at most 16,777,216, and the words
+/// of a reason.
+pub fn told_as_spelled()
+    ensures { (line : List ℕ) (r : Refusal) → (refusal_of line ≡ Some r) ↔ Tells line r }
+{}

@@ -1,0 +1,108 @@
+//! Explains the refusals that `clpfd` writes, by the text that it read.
+#![tactic(auto)]
+
+ghost use Rattle.std.specs.Prelude.{◌≡◌, drop, IfOk, string_bytes};
+ghost use Rattle.std.specs.Vec.Iter.{into_iter_items};
+ghost use Rattle.clpwhere.specs.Endings.{ends_at, sink_at, Ending};
+ghost use Rattle.clpwhere.specs.Headline.{unreadable, Headline, NeedsNoInput};
+
+mod command;
+mod copy;
+mod explain;
+pub mod laws;
+mod outcome;
+mod reason;
+mod refusal;
+mod text;
+
+pub use crate::command::{Asked, read_asked};
+use crate::copy::copy_input;
+pub use crate::outcome::Status;
+pub use crate::text::NamedText;
+use byte_ports::{ReaderSource, Sink, Source, WriterSink, write_all};
+use fd_language::NoMemory;
+use std::alloc::Global;
+use std::env;
+use std::env::{Args, Env};
+use std::io::ErrorKind;
+use std::process::ExitCode;
+
+/// Writes the last piece of an output.
+fn put_last<K: Sink>(sink: &mut K, piece: &[u8], status: Status) -> Status
+    ensures { Ending (sink_at (K.written sink.old) (K.faults sink.old))
+        (sink_at (K.written sink.new) (K.faults sink.new))
+        result status piece.now }
+{
+    match write_all(sink, piece) {
+        Ok(()) => status,
+        Err(_) => Status::WriteFault,
+    }
+}
+
+/// The line that says that a file can't be read.
+fn unreadable(alloc: Global, name: &str) -> Result<String, NoMemory>
+    ensures { IfOk result (λ line. string_bytes line ≡ unreadable name.now) }
+{
+    Ok(format!(in alloc; "{name} can't be read\n")?)
+}
+
+/// Writes what the words ask for, and tells how the run ended.
+///
+/// Of an input that `clpfd` wrote each line that tells a refusal becomes its explanation by the text, and every other line stays as
+/// it is. The input is read in pieces, and each line is written when it was read whole. Without a text the source is left as it was.
+/// The status says which case it was: see `Status`.
+pub fn run<S: Source, K: Sink>(alloc: Global, asked: &Asked, source: &mut S, sink: &mut K) -> Status
+    ensures headline { Headline asked.now
+        (ends_at (S.left source.old) (S.faults source.old) (K.written sink.old) (K.faults sink.old))
+        (ends_at (S.left source.new) (S.faults source.new) (K.written sink.new) (K.faults sink.new))
+        result }
+    ensures untouched { NeedsNoInput asked.now → source.new ≡ source.old }
+{
+    match asked {
+        Asked::Usage => put_last(sink, b"usage: clpwhere FILE\n", Status::Usage),
+        Asked::Unreadable(name) => match unreadable(alloc, name.as_str()) {
+            Ok(line) => put_last(sink, line.as_bytes(), Status::Unreadable),
+            Err(NoMemory) => Status::NoMemory,
+        },
+        Asked::Text(text) => match copy_input(alloc, text, source, sink) {
+            Ok(true) => Status::Refused,
+            Ok(false) => Status::Done,
+            Err(fault) => fault.status(),
+        },
+    }
+}
+
+/// The words behind the first, which is the program's own name.
+fn behind_name(alloc: Global, mut all: Args) -> Result<Vec<String>, NoMemory>
+    ensures { IfOk result (λ words. words.items ≡ drop 1 (into_iter_items all)) }
+{
+    let _name = all.next();
+    let mut words = Vec::new(alloc);
+    for word in all {
+        words.push(word)?;
+    }
+    Ok(words)
+}
+
+/// The words of the command line without the program's own name. Where a word isn't UTF-8 there are none.
+fn words<R: Env + AllocGlobal>(rt: &R) -> Result<Vec<String>, NoMemory> {
+    match env::args(rt) {
+        Ok(all) => behind_name(rt.alloc(), all),
+        Err(error) if error.kind() == ErrorKind::OutOfMemory => Err(NoMemory),
+        Err(_) => Ok(Vec::new(rt.alloc())),
+    }
+}
+
+/// Runs over standard input and output, and ends with the status's number.
+fn main(rt: HostRuntime) -> ExitCode {
+    let Ok(asked) = words(&rt).and_then(|words| read_asked(&rt, &words)) else {
+        return ExitCode::from(Status::NoMemory.number());
+    };
+    let mut source = ReaderSource::new(rt.stdin());
+    let mut sink = WriterSink::new(rt.stdout());
+    let status = run(rt.alloc(), &asked, &mut source, &mut sink);
+    ExitCode::from(status.number())
+}
+
+#[cfg(test)]
+mod tests;

@@ -1,0 +1,96 @@
+// What runs write, over ends in memory.
+use crate::{Asked, NamedText, Status, run};
+use byte_ports::{MemorySink, MemorySource};
+use std::alloc::Global;
+use std::process::Abort;
+use std::test::Fail;
+
+/// The status of a run over memory for a text that lies in the file `t.pl`, and the bytes that it wrote.
+fn written(
+    alloc: Global,
+    text: &[u8],
+    input: &[u8],
+    failing_reads: Vec<u64>,
+) -> Result<(Status, Vec<u8>), Fail> {
+    let name = String::from_str(alloc, "t.pl")?;
+    let asked = Asked::Text(NamedText::new(name, text.to_vec(alloc)?));
+    let mut source = MemorySource::new(input.to_vec(alloc)?, failing_reads);
+    let mut sink = MemorySink::new(alloc, 1000, Vec::new(alloc))?;
+    let status = run(alloc, &asked, &mut source, &mut sink);
+    Ok((status, sink.bytes().to_vec(alloc)?))
+}
+
+fn gives(
+    rt: &impl Abort,
+    alloc: Global,
+    text: &str,
+    input: &str,
+    output: &str,
+    status: Status,
+) -> Result<(), Fail> {
+    let (ended, bytes) = written(alloc, text.as_bytes(), input.as_bytes(), Vec::new(alloc))?;
+    assert_eq!(rt; bytes.as_slice(), output.as_bytes(), "at {input}");
+    assert_eq!(rt; ended, status);
+    Ok(())
+}
+
+#[test]
+fn answers_pass_through(rt: HostRuntime) -> Result<(), Fail> {
+    let input = "query 1\nX = _1(0..3)\nend\nrefused at 007: syntax\nno newline";
+    gives(&rt, rt.alloc(), "", input, input, Status::Done)
+}
+
+#[test]
+fn a_refusal_has_its_line_and_its_caret(rt: HostRuntime) -> Result<(), Fail> {
+    gives(
+        &rt,
+        rt.alloc(),
+        "p(1).\r\n\n?- X in 0..max(Y)/<0.\r\n",
+        "refused at 27: bad divisor\n",
+        "t.pl:3:20: bad divisor\n?- X in 0..max(Y)/<0. \n                   ^\nA literal divisor is at least 1, and that of a whole range is a literal or one parameter.\n",
+        Status::Refused,
+    )
+}
+
+#[test]
+fn a_wide_character_moves_the_caret_by_two(rt: HostRuntime) -> Result<(), Fail> {
+    gives(
+        &rt,
+        rt.alloc(),
+        "'漢'(1).\n\t?- é(2).",
+        "refused at 14: unknown é/1\n",
+        "t.pl:2:5: unknown é/1\n ?- é(2).\n    ^\nNo clause of the text has this name with this number of arguments, and the language has no such form.\n",
+        Status::Refused,
+    )?;
+    gives(
+        &rt,
+        rt.alloc(),
+        "'漢' :- $.",
+        "refused at 9: syntax",
+        "t.pl:1:8: syntax\n'漢' :- $.\n        ^\nWith this token the text begins no list of sentences, each ended by a full stop.\n",
+        Status::Refused,
+    )
+}
+
+#[test]
+fn a_place_at_the_end_is_behind_the_last_line(rt: HostRuntime) -> Result<(), Fail> {
+    let sentence =
+        "With this token the text begins no list of sentences, each ended by a full stop.";
+    let output = format!(in rt.alloc(); "t.pl:2:1: syntax\n\n^\n{sentence}\n")?;
+    gives(
+        &rt,
+        rt.alloc(),
+        "?- X in 1..3\n",
+        "refused at 13: syntax\n",
+        output.as_str(),
+        Status::Refused,
+    )
+}
+
+#[test]
+fn a_failed_read_is_told(rt: HostRuntime) -> Result<(), Fail> {
+    let (ended, bytes) = written(rt.alloc(), b"", b"end\n", vec![in rt.alloc(); 2]?)?;
+    assert_eq!(rt; ended, Status::ReadFault);
+    assert_eq!(rt; bytes.as_slice(), b"end\n".as_slice());
+    Ok(())
+}
