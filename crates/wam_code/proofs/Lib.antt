@@ -1,0 +1,9 @@
+pub mod Steps
+pub mod Trying
+pub mod Unifying
+pub mod Restating
+pub mod Keeping
+pub mod Ending
+pub mod Reaching
+pub mod Examples
+pub mod Shortest

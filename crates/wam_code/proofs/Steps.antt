@@ -1,0 +1,141 @@
+-- Places and rules without the bound.
+use Rattle.std.proofs.Common.{◌≡◌, ℕ, zero, suc, ◌+◌, ◌<◌, ◌≤◌, false, List, [], ◌∷◌, ◌++◌, Some, sym, ◌∙◌, subst, inl, inr, arith, zero-add, add_comm}
+use Rattle.fd_language.specs.Term.{Term, Var}
+use Rattle.fd_language.specs.Unifier.{Equation}
+use Rattle.fd_model.specs.Goal.{Goal, listed}
+use Rattle.wam_code.specs.declared.instruction.Code.{Code}
+use Rattle.wam_code.specs.declared.instruction.Code.TheVariants.{GetVariable, GetValue, GetConstant, GetInteger, GetStructure, PutVariable, PutValue, PutConstant, PutInteger, PutStructure, Allocate, Deallocate, Call, Execute, Proceed, Jump, AnswerNow, Either, Builtin, Constrain, Label, PostRange}
+use Rattle.wam_code.specs.Area.{Area, Holds}
+use Rattle.machine_relation.specs.Heap.{EquationsOf}
+use Rattle.machine_relation.specs.Says.{SaysSame}
+use Rattle.wam_code.specs.declared.instruction.Register.TheVariants.{X}
+use Rattle.wam_code.specs.Places.{Places, write, learn, IsFresh, Has}
+use Rattle.wam_code.specs.Means.{Rest, Later, Caller, Takes, Equates, Rule, Learns, Restates, Quietly, Within, Means}
+
+equates_grow : (p : Places) (a : ℕ) (s : Term) (es : List Equation) (F G : List Equation → Type 0) → ((ds : List Equation) → F ds → G ds) → Equates p a s es F → Equates p a s es G
+equates_grow p a s es F G k h = (h.0, h.1, h.2, h.3, k _ h.4)
+
+takes_grow : (taken : Goal → Type 0) (R S : Rest) → ((at : ℕ) (p : Places) (es : List Equation) (gs : List Goal) → R at p es gs → S at p es gs) → (at : ℕ) (p : Places) (es : List Equation) (gs : List Goal)
+    → Takes taken R at p es gs → Takes taken S at p es gs
+takes_grow taken R S k at p es gs h = (h.0, h.1, h.2, h.3, h.4, h.5, h.6, k _ _ _ _ h.7)
+
+-- A rule grows with what the later places stand for.
+pub rule_grows : (area : Area) (w : Caller) (R S : Rest) → ((at : ℕ) (p : Places) (es : List Equation) (gs : List Goal) → R at p es gs → S at p es gs)
+    → (i : Code) (at : ℕ) (p : Places) (es : List Equation) (gs : List Goal) → Rule area w R i at p es gs → Rule area w S i at p es gs
+rule_grows area w R S k (GetVariable r a) at p es gs h = (h.0, h.1, equates_grow p a _ es _ _ (λ ds. k _ _ ds gs) h.2)
+rule_grows area w R S k (GetValue r a) at p es gs h = (h.0, h.1, equates_grow p a _ es _ _ (λ ds. k _ _ ds gs) h.2)
+rule_grows area w R S k (GetConstant c a) at p es gs h = equates_grow p a _ es _ _ (λ ds. k _ _ ds gs) h
+rule_grows area w R S k (GetInteger z a) at p es gs h = equates_grow p a _ es _ _ (λ ds. k _ _ ds gs) h
+rule_grows area w R S k (GetStructure f n a) at p es gs h = (h.0, h.1, h.2, h.3, equates_grow p a _ es _ _ (λ ds. k _ _ ds gs) h.4)
+rule_grows area w R S k (PutVariable r a) at p es gs h = (h.0, h.1, k _ _ _ _ h.2)
+rule_grows area w R S k (PutValue r a) at p es gs h = (h.0, h.1, k _ _ _ _ h.2)
+rule_grows area w R S k (PutConstant c a) at p es gs h = k _ _ _ _ h
+rule_grows area w R S k (PutInteger z a) at p es gs h = k _ _ _ _ h
+rule_grows area w R S k (PutStructure f n a) at p es gs h = (h.0, h.1, h.2, h.3, k _ _ _ _ h.4)
+rule_grows area w R S k (Allocate n) at p es gs h = k _ _ _ _ h
+rule_grows area w R S k Deallocate at p es gs h = k _ _ _ _ h
+rule_grows area w R S k (Call e) at p es gs h = takes_grow _ R S k at _ es gs h
+rule_grows area w R S k (Execute e) at p es gs h = h
+rule_grows area w R S k Proceed at p es gs h = h
+rule_grows area w R S k (Jump to) at p es gs h = k _ _ _ _ h
+rule_grows area w R S k AnswerNow at p es gs h = h
+rule_grows area w R S k (Either to) at p es gs h = (h.0, h.1, h.2, h.3, h.4, h.5, h.6, k _ _ _ _ h.7, k _ _ _ _ h.8)
+rule_grows area w R S k (Builtin b) at p es gs h = takes_grow _ R S k at p es gs h
+rule_grows area w R S k (Constrain c) at p es gs h = takes_grow _ R S k at p es gs h
+rule_grows area w R S k (Label o) at p es gs h = takes_grow _ R S k at p es gs h
+rule_grows area w R S k (PostRange r n) at p es gs h = takes_grow _ R S k at p es gs h
+rule_grows area w R S k _ at p es gs h = absurd h
+
+learns_grow : (R S : Later) → ((p : Places) (es : List Equation) → R p es → S p es) → (p : Places) (es : List Equation) → Learns R p es → Learns S p es
+learns_grow R S k p es h = (h.0, h.1, h.2, equates_grow p h.0 _ es _ _ (λ ds. k _ ds) h.3)
+
+restates_grow : (R S : Later) → ((p : Places) (es : List Equation) → R p es → S p es) → (p : Places) (es : List Equation) → Restates R p es → Restates S p es
+restates_grow R S k p es h = (h.0, h.1, h.2, h.3, h.4, h.5, k _ _ h.6)
+
+-- A larger bound is as good.
+pub more : (area : Area) (w : Caller) (n : ℕ) (at : ℕ) (p : Places) (es : List Equation) (gs : List Goal) → Within area w n at p es gs → Within area w (suc n) at p es gs
+more area w zero at p es gs h = absurd h
+more area w (suc n) at p es gs (inl h) = inl (h.0, h.1, rule_grows area w (Within area w n) (Within area w (suc n)) (more area w n) h.0 at p es gs h.2)
+more area w (suc n) at p es gs (inr (inl h)) = inr (inl (learns_grow _ _ (λ q ds. more area w n at q ds gs) p es h))
+more area w (suc n) at p es gs (inr (inr h)) = inr (inr (restates_grow _ _ (λ q ds. more area w n at q ds gs) p es h))
+
+-- the same for so many more
+pub many_more : (area : Area) (w : Caller) (k n : ℕ) (at : ℕ) (p : Places) (es : List Equation) (gs : List Goal) → Within area w n at p es gs → Within area w (k + n) at p es gs
+many_more area w zero n at p es gs h = subst (λ m. Within area w m at p es gs) (sym (zero-add n)) h
+many_more area w (suc k) n at p es gs h =
+    let e : suc (k + n) ≡ suc k + n = omega arith in
+    subst (λ m. Within area w m at p es gs) e (more area w (k + n) at p es gs (many_more area w k n at p es gs h))
+
+quietly_within : (area : Area) (w : Caller) (at : ℕ) (i : Code) → Holds area at i → (gs : List Goal) → (n : ℕ) (p : Places) (es : List Equation) → Within area w n at p es gs → (m : ℕ) × Quietly m (λ q ds. Rule area w (Means area w) i at q ds gs) p es
+quietly_within area w at i f gs zero p es h = absurd h
+quietly_within area w at i f gs (suc n) p es (inl h) =
+    let same : h.0 ≡ i = let e : Some h.0 ≡ Some i = sym h.1 ∙ f in cc in
+    (zero, subst (λ j. Rule area w (Means area w) j at p es gs) same (rule_grows area w (Within area w n) (Means area w) (λ a q ds hs g. (n, g)) h.0 at p es gs h.2))
+quietly_within area w at i f gs (suc n) p es (inr (inl h)) =
+    let r = quietly_within area w at i f gs n _ _ h.3.4 in
+    (suc r.0, inl (h.0, h.1, h.2, (h.3.0, h.3.1, h.3.2, h.3.3, r.1)))
+quietly_within area w at i f gs (suc n) p es (inr (inr h)) =
+    let r = quietly_within area w at i f gs n _ _ h.6 in
+    (suc r.0, inr (h.0, h.1, h.2, h.3, h.4, h.5, r.1))
+
+-- For a machine: what a place stands for is the rule of the instruction that stands there, up to steps that no instruction takes.
+pub at_place : (area : Area) (w : Caller) (at : ℕ) (p : Places) (es : List Equation) (gs : List Goal) (i : Code) → Holds area at i → Means area w at p es gs → (m : ℕ) × Quietly m (λ q ds. Rule area w (Means area w) i at q ds gs) p es
+at_place area w at p es gs i f h = quietly_within area w at i f gs h.0 p es h.1
+
+-- What those steps keep holds where the instruction is taken.
+pub quietly_keeps : (I G : Later)
+    → ((p : Places) (es : List Equation) (a v : ℕ) (t : Term) (later : List Equation) → I p es → IsFresh p v → p.x a ≡ Some t → es ≡ record { left = t; right = Var v } ∷ later → I (write (learn p v) (X a) (Var v)) later)
+    → ((p : Places) (es : List Equation) (top : ℕ) (ds : List Equation) → I p es → p.top ≤ top → ((v : ℕ) → p.top ≤ v → v < top → p.known v ≡ false) → EquationsOf (Has (record p { top = top })) ds → SaysSame (Has p) ds es → I (record p { top = top }) ds)
+    → (m : ℕ) (p : Places) (es : List Equation) → I p es → Quietly m G p es → (q : Places) × (ds : List Equation) × I q ds × G q ds
+quietly_keeps I G k l zero p es i g = (p, es, i, g)
+quietly_keeps I G k l (suc m) p es i (inl h) = quietly_keeps I G k l m _ _ (k p es h.0 h.1 h.3.0 h.3.1 i h.2 h.3.2 h.3.3) h.3.4
+quietly_keeps I G k l (suc m) p es i (inr h) = quietly_keeps I G k l m _ _ (l p es h.0 h.1 i h.2 h.3 h.4 h.5) h.6
+
+-- ---- for a compiler
+
+equates_bounded : (p : Places) (a : ℕ) (s : Term) (es : List Equation) (F : ℕ → List Equation → Type 0) → Equates p a s es (λ ds. (n : ℕ) × F n ds) → (n : ℕ) × Equates p a s es (F n)
+equates_bounded p a s es F h = (h.4.0, (h.0, h.1, h.2, h.3, h.4.1))
+
+takes_bounded : (area : Area) (w : Caller) (taken : Goal → Type 0) (at : ℕ) (p : Places) (es : List Equation) (gs : List Goal) → Takes taken (Means area w) at p es gs → (n : ℕ) × Takes taken (Within area w n) at p es gs
+takes_bounded area w taken at p es gs h = (h.7.0, (h.0, h.1, h.2, h.3, h.4, h.5, h.6, h.7.1))
+
+rule_bounded : (area : Area) (w : Caller) (i : Code) (at : ℕ) (p : Places) (es : List Equation) (gs : List Goal) → Rule area w (Means area w) i at p es gs → (n : ℕ) × Rule area w (Within area w n) i at p es gs
+rule_bounded area w (GetVariable r a) at p es gs h = let b = equates_bounded p a _ es (λ n ds. Within area w n _ _ ds gs) h.2 in (b.0, (h.0, h.1, b.1))
+rule_bounded area w (GetValue r a) at p es gs h = let b = equates_bounded p a _ es (λ n ds. Within area w n _ _ ds gs) h.2 in (b.0, (h.0, h.1, b.1))
+rule_bounded area w (GetConstant c a) at p es gs h = equates_bounded p a _ es (λ n ds. Within area w n _ _ ds gs) h
+rule_bounded area w (GetInteger z a) at p es gs h = equates_bounded p a _ es (λ n ds. Within area w n _ _ ds gs) h
+rule_bounded area w (GetStructure f n a) at p es gs h = let b = equates_bounded p a _ es (λ n ds. Within area w n _ _ ds gs) h.4 in (b.0, (h.0, h.1, h.2, h.3, b.1))
+rule_bounded area w (PutVariable r a) at p es gs h = (h.2.0, (h.0, h.1, h.2.1))
+rule_bounded area w (PutValue r a) at p es gs h = (h.2.0, (h.0, h.1, h.2.1))
+rule_bounded area w (PutConstant c a) at p es gs h = h
+rule_bounded area w (PutInteger z a) at p es gs h = h
+rule_bounded area w (PutStructure f n a) at p es gs h = (h.4.0, (h.0, h.1, h.2, h.3, h.4.1))
+rule_bounded area w (Allocate n) at p es gs h = h
+rule_bounded area w Deallocate at p es gs h = h
+rule_bounded area w (Call e) at p es gs h = takes_bounded area w _ at _ es gs h
+rule_bounded area w (Execute e) at p es gs h = (zero, h)
+rule_bounded area w Proceed at p es gs h = (zero, h)
+rule_bounded area w (Jump to) at p es gs h = h
+rule_bounded area w AnswerNow at p es gs h = (zero, h)
+rule_bounded area w (Either to) at p es gs h =
+    let same = add_comm h.7.0 h.8.0 in
+    let first = many_more area w h.8.0 h.7.0 _ _ _ _ h.7.1 in
+    let other = many_more area w h.7.0 h.8.0 _ _ _ _ h.8.1 in
+    (h.7.0 + h.8.0, (h.0, h.1, h.2, h.3, h.4, h.5, h.6, subst (λ n. Within area w n (suc at) h.3 [] (listed h.0 ++ h.2)) (sym same) first, other))
+rule_bounded area w (Builtin b) at p es gs h = takes_bounded area w _ at p es gs h
+rule_bounded area w (Constrain c) at p es gs h = takes_bounded area w _ at p es gs h
+rule_bounded area w (Label o) at p es gs h = takes_bounded area w _ at p es gs h
+rule_bounded area w (PostRange r n) at p es gs h = takes_bounded area w _ at p es gs h
+rule_bounded area w _ at p es gs h = absurd h
+
+-- A place stands for what the rule of its instruction says.
+pub from_rule : (area : Area) (w : Caller) (at : ℕ) (p : Places) (es : List Equation) (gs : List Goal) (i : Code) → Holds area at i → Rule area w (Means area w) i at p es gs → Means area w at p es gs
+from_rule area w at p es gs i f h = let b = rule_bounded area w i at p es gs h in (suc b.0, inl (i, f, b.1))
+
+-- A variable of the head may be taken to be what a register holds.
+pub from_learning : (area : Area) (w : Caller) (at : ℕ) (p : Places) (es : List Equation) (gs : List Goal) → Learns (λ q ds. Means area w at q ds gs) p es → Means area w at p es gs
+from_learning area w at p es gs h = (suc h.3.4.0, inr (inl (h.0, h.1, h.2, (h.3.0, h.3.1, h.3.2, h.3.3, h.3.4.1))))
+
+-- The equations may be restated.
+pub from_restating : (area : Area) (w : Caller) (at : ℕ) (p : Places) (es : List Equation) (gs : List Goal) → Restates (λ q ds. Means area w at q ds gs) p es → Means area w at p es gs
+from_restating area w at p es gs h = (suc h.6.0, inr (inr (h.0, h.1, h.2, h.3, h.4, h.5, h.6.1)))

@@ -1,0 +1,11 @@
+pub mod Area
+pub mod Standing
+pub mod Arities
+pub mod Effect
+pub mod Verified
+pub mod Places
+pub mod Means
+pub mod Tries
+pub mod Ending
+pub mod Reaching
+pub mod Laws
