@@ -1,0 +1,13 @@
+pub mod Shown
+pub mod Making
+pub mod Settling
+pub mod Stepping
+pub mod Entering
+pub mod Trying
+pub mod Taking
+pub mod Leaving
+pub mod Ghosts
+pub mod Opening
+pub mod Reading
+pub mod Building
+pub mod Built

@@ -1,0 +1,59 @@
+-- The cells in registers and slots, and in the frames that are kept for later, with the terms of a branch that they stand for.
+use Rattle.std.specs.Prelude.{◌≡◌, ℕ, suc, ◌≤◌, List, [], ◌∷◌, Option, Some}
+use Rattle.fd_language.specs.Term.{Term, Terms, no_terms, term, Substitution, apply}
+use Rattle.heap_cells.specs.declared.Cell.{Cell}
+use Rattle.heap_cells.specs.Cells.{Cells, IsOf}
+use Rattle.heap_cells.specs.Terms.{Naming, term_of}
+use Rattle.machine_relation.specs.Heap.{Of}
+use Rattle.wam_code.specs.declared.instruction.Register.{Register}
+use Rattle.wam_code.specs.declared.instruction.Register.TheVariants.{X, Y}
+use Rattle.wam_code.specs.Means.{Return}
+
+-- the cells in the argument registers, and in the slots of the frame
+pub record Registers : Type 0 where
+  pub x : ℕ → Option Cell
+  pub y : ℕ → Option Cell
+
+-- a continuation: where to go on, with which slots
+pub record Saved : Type 0 where
+  pub to : ℕ
+  pub slots : ℕ → Option Cell
+
+abbrev pub cell_in : Registers → Register → Option Cell
+cell_in c (X n) = c.x n
+cell_in c (Y n) = c.y n
+
+-- the same cells but that the i-th is d
+pub record IsPut (old : ℕ → Option Cell) (i : ℕ) (d : Cell) (new : ℕ → Option Cell) : Type 0 where
+  pub here : new i ≡ Some d
+  pub else : (n : ℕ) → (n ≡ i → ⊥) → new n ≡ old n
+
+abbrev pub AreSame : (ℕ → Option Cell) → (ℕ → Option Cell) → Type 0
+AreSame old new = (n : ℕ) → new n ≡ old n
+
+-- the same registers and slots but that this one holds d
+abbrev pub IsWritten : Registers → Register → Cell → Registers → Type 0
+IsWritten old (X n) d new = IsPut old.x n d new.x × AreSame old.y new.y
+IsWritten old (Y n) d new = AreSame old.x new.x × IsPut old.y n d new.y
+
+-- The cell of the heap h stands for the term t of a branch, whose variables that the heap has are those of P. look takes each to its term.
+pub record IsShown (name : Naming) (h : Cells) (look : Substitution) (P : ℕ → Type 0) (t : Term) (d : Cell) : Type 0 where
+  pub known : Of P t
+  pub own : IsOf h d
+  pub value : apply look t ≡ term_of name h d
+
+-- each register that the code counts on holds a cell that stands for its term
+abbrev pub AreShown : Naming → Cells → Substitution → (ℕ → Type 0) → (ℕ → Option Term) → (ℕ → Option Cell) → Type 0
+AreShown name h look P terms cells = (n : ℕ) (t : Term) → terms n ≡ Some t → (d : Cell) × (cells n ≡ Some d) × IsShown name h look P t d
+
+-- the argument registers from i on hold the cells of these terms
+abbrev pub AreHeld : Naming → Cells → Substitution → (ℕ → Type 0) → ℕ → (ℕ → Option Cell) → Terms → Type 0
+AreHeld name h look P i cells no_terms = Unit {0}
+AreHeld name h look P i cells (term t ts) = ((d : Cell) × (cells i ≡ Some d) × IsShown name h look P t d) × AreHeld name h look P (suc i) cells ts
+
+-- Each continuation goes on where it should, and its slots hold what they should. Their variables are below fresh.
+abbrev pub AllShown : Naming → Cells → Substitution → (ℕ → Type 0) → ℕ → List Return → List Saved → Type 0
+AllShown name h look P fresh [] [] = Unit {0}
+AllShown name h look P fresh (r ∷ rs) [] = ⊥
+AllShown name h look P fresh [] (s ∷ ss) = ⊥
+AllShown name h look P fresh (r ∷ rs) (s ∷ ss) = (r.to ≡ s.to) × (r.own ≤ fresh) × AreShown name h look P r.slots s.slots × AllShown name h look P fresh rs ss

@@ -1,0 +1,69 @@
+-- What a machine stands for before a clause, where it chooses among those that are to be tried.
+use Rattle.std.specs.Prelude.{◌≡◌, ◌⊎◌, ℕ, List, [], ◌∷◌, ◌++◌, map, Option, Some}
+use Rattle.fd_language.specs.Term.{Terms, no_terms, term}
+use Rattle.fd_language.specs.Range.{Indexical}
+use Rattle.fd_model.specs.Children.{by_clause}
+use Rattle.fd_model.specs.Goal.{Clause, Branch}
+use Rattle.fd_model.specs.Sound.{ClausesScoped}
+use Rattle.heap_cells.specs.declared.Cell.{Cell}
+use Rattle.heap_cells.specs.Cells.{Cells}
+use Rattle.heap_cells.specs.Terms.{Naming, term_of}
+use Rattle.machine_frames.specs.Walking.{AllFit}
+use Rattle.wam_code.specs.declared.instruction.Code.{Code}
+use Rattle.wam_code.specs.declared.instruction.Code.TheVariants.{Jump, FailNow, TryMeElse, RetryMeElse, TrustMe, Try, Retry, Trust, SwitchOnTerm, SwitchOnConstant, SwitchOnInteger, SwitchOnStructure}
+use Rattle.wam_code.specs.declared.parts.Entry.{Entry}
+use Rattle.wam_code.specs.Area.{Area, Table, name_of}
+use Rattle.wam_code.specs.Places.{made}
+use Rattle.wam_code.specs.Tries.{Shape, is_open, shape_of, IsShape, Tries}
+use Rattle.code_steps.specs.Registers.{Registers, Saved}
+use Rattle.code_steps.specs.Standing.{IsCalling}
+
+-- What the first argument's cell shows. A goal without arguments shows nothing.
+abbrev pub ShowsFirst : Naming → Cells → (ℕ → Option Cell) → Terms → Shape → Type 0
+ShowsFirst name h cells no_terms s = s ≡ is_open
+ShowsFirst name h cells (term t ts) s = (d : Cell) × (cells 1 ≡ Some d) × (s ≡ shape_of (term_of name h d))
+
+-- At this place the branch b's goal, which is called, is to try clauses. Their branches are kids.
+pub record IsTrying (M : ℕ) (area : Area) (shown : List ℕ) (name : Naming) (h : Cells) (qs : List Indexical) (at : ℕ) (e : Entry) (c : Registers) (stack : List Saved) (b : Branch) (kids : List Branch) : Type 0 where
+  pub calling : IsCalling M area shown name h qs e c stack b
+  pub shape : Shape
+  pub shows : ShowsFirst name h c.x calling.ts shape
+  pub clauses : List Clause
+  pub tries : Tries area shape at clauses
+  pub fit : AllFit (made (name_of area e.name) calling.ts) clauses
+  pub scoped : ClausesScoped clauses
+  pub kids_are : kids ≡ map (by_clause b (made (name_of area e.name) calling.ts) calling.rest) clauses
+
+-- The clauses of two places: those of the one come first.
+pub record TriesBoth (M : ℕ) (area : Area) (shown : List ℕ) (name : Naming) (h : Cells) (qs : List Indexical) (first other : ℕ) (e : Entry) (c : Registers) (stack : List Saved) (b : Branch) (kids : List Branch) : Type 0 where
+  pub before : List Branch
+  pub behind : List Branch
+  pub now : IsTrying M area shown name h qs first e c stack b before
+  pub later : IsTrying M area shown name h qs other e c stack b behind
+  pub both : kids ≡ before ++ behind
+
+-- no row has the shape's key
+abbrev pub HasNoRow : Area → Shape → Table → Type 0
+HasNoRow area s [] = Unit {0}
+HasNoRow area s (row ∷ rows) = (IsShape area row.0 s → ⊥) × HasNoRow area s rows
+
+-- the first row with the shape's key has this place
+abbrev pub HasRow : Area → Shape → Table → ℕ → Type 0
+HasRow area s [] to = ⊥
+HasRow area s (row ∷ rows) to = (IsShape area row.0 s × (row.1 ≡ to)) ⊎ ((IsShape area row.0 s → ⊥) × HasRow area s rows to)
+
+-- neither a choice nor a switch
+abbrev pub IsFirst : Code → Type 0
+IsFirst (TryMeElse to) = ⊥
+IsFirst (RetryMeElse to) = ⊥
+IsFirst TrustMe = ⊥
+IsFirst (Try to) = ⊥
+IsFirst (Retry to) = ⊥
+IsFirst (Trust to) = ⊥
+IsFirst (Jump to) = ⊥
+IsFirst FailNow = ⊥
+IsFirst (SwitchOnTerm v k i s) = ⊥
+IsFirst (SwitchOnConstant n) = ⊥
+IsFirst (SwitchOnInteger n) = ⊥
+IsFirst (SwitchOnStructure n) = ⊥
+IsFirst _ = Unit {0}
