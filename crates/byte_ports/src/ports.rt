@@ -6,7 +6,8 @@ ghost use Rattle.byte_ports.specs.declared.ports.ReadTextFault.TheVariants.{NoMe
 use std::alloc::{AllocError, Global};
 use thiserror::Error;
 
-/// A call of a source or a sink that failed.
+/// A call of a source or a sink that failed. It moved no byte, and raised the count of faults by
+/// one, unless that stood at its last value.
 #[derive(Clone, Copy, Debug, PartialEq, Eq, Drop, Error)]
 #[error("the call failed")]
 pub struct Failed;
@@ -15,17 +16,18 @@ pub struct Failed;
 ///
 /// A source may tell the bytes that it has left, as one in memory does, or tell none, as one
 /// over a file does. What it tells after a call it told before it. Its count of faults is the number
-/// of its failed calls: it never falls, and a call that succeeds leaves it as it was.
+/// of its failed calls, as far as 64 bits hold it: a call that fails raises it by one, or leaves it
+/// at its last value, and a call that succeeds leaves it as it was.
 pub trait Source {
     /// The bytes not yet read, where they are told.
     ghost left: { Self → Option (List ℕ) };
 
-    /// How many calls have failed, as far as the count goes.
+    /// How many calls have failed, and at most 2^64 - 1.
     ghost faults: { Self → ℕ };
 
     /// Fills a front of `buf` with the next bytes, and gives how many. 0 for a buffer that is not
     /// empty is the end of the input. A call that fails takes no byte, and raises the count of
-    /// faults, or leaves it at its last value, 2^64 - 1.
+    /// faults by one, unless that stands at its last value, 2^64 - 1.
     fn read(&mut self, buf: &mut [u8]) -> Result<usize, Failed>
         ensures within { IfOk result (λ n. n ≤ length buf.new) }
         ensures bytes { IfOk result (λ n. Took (left self.old) (left self.new) (take n buf.new)) }
@@ -40,17 +42,18 @@ pub trait Source {
 ///
 /// A sink may tell the bytes that it has taken, as one in memory does, or tell none, as one
 /// over a file does. What it tells after a call it told before it. Its count of faults is the number
-/// of its failed calls: it never falls, and a call that succeeds leaves it as it was.
+/// of its failed calls, as far as 64 bits hold it: a call that fails raises it by one, or leaves it
+/// at its last value, and a call that succeeds leaves it as it was.
 pub trait Sink {
     /// The bytes taken, where they are told.
     ghost written: { Self → Option (List ℕ) };
 
-    /// How many calls have failed, as far as the count goes.
+    /// How many calls have failed, and at most 2^64 - 1.
     ghost faults: { Self → ℕ };
 
     /// Takes bytes from the front of `piece`, and gives how many: at least one, unless the piece
-    /// is empty. A call that fails takes no byte, and raises the count of faults, or leaves it at
-    /// its last value, 2^64 - 1.
+    /// is empty. A call that fails takes no byte, and raises the count of faults by one, unless that
+    /// stands at its last value, 2^64 - 1.
     fn write(&mut self, piece: &[u8]) -> Result<usize, Failed>
         ensures within { IfOk result (λ n. n ≤ length piece.now) }
         ensures some { IfOk result (λ n. 0 < length piece.now → 0 < n) }
@@ -62,7 +65,8 @@ pub trait Sink {
         ensures cause { OnErr result (Rose (faults self.old) (faults self.new)) };
 }
 
-/// A piece that was not written whole, since the sink failed.
+/// A piece that was not written whole: one call of the sink failed, the last one. A front of the
+/// piece was written, and the sink's count of faults is one more, unless it stood at its last value.
 #[derive(Clone, Copy, Debug, PartialEq, Eq, Drop, Error)]
 #[error("writing failed")]
 pub struct WriteFault;
@@ -75,7 +79,7 @@ pub fn write_all<K: Sink>(sink: &mut K, piece: &[u8]) -> Result<(), WriteFault>
     ensures err { OnErr result (PutPart (K.written sink.old) (K.written sink.new) piece.now) }
     ensures empty { piece.now ≡ [] → IsOk result × (sink.new ≡ sink.old) }
 
-    // The count of faults never falls, and `WriteFault` comes only where it rose, and wherever it did.
+    // The count of faults never falls. `WriteFault` raises it by one, and comes wherever it rose.
     ensures later { K.faults sink.old ≤ K.faults sink.new }
     ensures cause { OnErr result (Rose (K.faults sink.old) (K.faults sink.new)) }
     ensures told { K.faults sink.old < K.faults sink.new → IsErr result }
@@ -96,18 +100,19 @@ pub const MAX_TEXT: usize = 16_777_216;
 /// The most bytes that one call of a source is asked for.
 const CHUNK: usize = 65_536;
 
-/// Why a text was not read to its end.
+/// Why a text was not read to its end. The bytes that were taken are lost.
 #[derive(Clone, Copy, Debug, PartialEq, Eq, Drop, Error)]
 pub enum ReadTextFault {
-    /// The source failed.
+    /// A call of the source failed, the last one. The source's count of faults is one more, unless
+    /// it stood at its last value.
     #[error("reading failed")]
     ReadFault,
 
-    /// The source gave more than `MAX_TEXT` bytes.
+    /// The source gave `MAX_TEXT` bytes and one more. No call failed.
     #[error("the text has more than 16777216 bytes")]
     TooLarge,
 
-    /// Memory was wanting.
+    /// Memory was wanting. No call of the source failed.
     #[error("out of memory")]
     NoMemory,
 }
@@ -137,7 +142,7 @@ pub fn read_text<S: Source>(alloc: Global, src: &mut S) -> Result<Vec<u8>, ReadT
     ensures memory { IsErrOf result ReadTextFault.NoMemory
         → ReadWithin (S.left src.old) (S.left src.new) MAX_TEXT }
 
-    // The count of faults never falls, and `ReadFault` comes only where it rose, and wherever it did.
+    // The count of faults never falls. `ReadFault` raises it by one, and comes wherever it rose.
     ensures later { S.faults src.old ≤ S.faults src.new }
     ensures cause { IsErrOf result ReadTextFault.ReadFault
         → Rose (S.faults src.old) (S.faults src.new) }
