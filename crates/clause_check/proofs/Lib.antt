@@ -15,3 +15,4 @@ mod Taking
 mod Tasks
 mod TermShapes
 mod WidePlaces
+mod Codable

@@ -22,13 +22,16 @@ use Rattle.term_pool.specs.PlacedTerms.{placed_of}
 use Rattle.term_reader.specs.declared.reader.Sentence.{Sentence}
 use Rattle.term_reader.specs.declared.reader.Sentences.{Sentences}
 use Rattle.term_reader.specs.Sentences.{sentence_of, sentences_of, AreOwn}
+use Rattle.term_reader.specs.GivenParts.{HasParts, HaveParts}
 use Rattle.term_reader.specs.Named.{VariablesBelow, AllVariablesBelow, HasNames, HaveNames}
 use Rattle.term_reader.proofs.Plain.{plain_placed}
 use Rattle.clause_check.specs.declared.check.Parts.{Parts}
 use Rattle.clause_check.specs.GoalStores.{stored}
 use Rattle.clause_check.specs.Parts.{IsQueryWithin, StandsFor, queries_kept}
 use Rattle.clause_check.specs.Programs.{FlatQuery, FlatProgram, query_by, program_in, IsQuery, IsProgram}
+use Rattle.clause_check.specs.Codable.{IsCodable}
 use Rattle.clause_check.specs.Terms.{terms_of}
+use Rattle.clause_check.proofs.Codable.{accepted_codable}
 
 -- ---- variables of terms
 
@@ -102,9 +105,13 @@ terms_are : (c : Contents) (ss : List Sentence) → map (λ x. x.term) (map (sen
 terms_are c [] = refl
 terms_are c (s ∷ ss) = ap (λ (ts : List PlacedTerm). placed_of c s.term ∷ ts) (terms_are c ss)
 
+each_parts : (c : Contents) (ss : List Sentence) → AllByRecursion (λ x. HasParts (placed_of c x.term)) ss → Each (λ x. HasParts x.term) (map (sentence_of c) ss)
+each_parts c [] h = tt
+each_parts c (s ∷ ss) h = (h.0, each_parts c ss h.1)
+
 -- what is kept of all sentences is a program
-pub kept_program : (s : Sentences) (p : Parts) → AreOwn s → HaveNames s → first_refusal INFINITY (terms_of s) (terms_of s) ≡ None → StandsFor s.pool p s.list.items → IsProgram (program_kept s.pool p)
-kept_program s p own named a k =
+pub kept_program : (s : Sentences) (p : Parts) → AreOwn s → HaveNames s → HaveParts s → first_refusal INFINITY (terms_of s) (terms_of s) ≡ None → StandsFor s.pool p s.list.items → IsProgram (program_kept s.pool p)
+kept_program s p own named parts a k =
     let c = s.pool in
     let ss = sentences_of s in
     let n = length p.store.goals.items in
@@ -123,4 +130,5 @@ kept_program s p own named a k =
           (subst (λ (qs : List model.Query). Each (λ q. length q.names ≡ length q.shown) qs) (sym k.queries_are) many));
       scoped = subst IsScoped is (record { clauses = clauses_scoped ss below; queries = scoped });
       runnable = subst (IsRunnableProgram INFINITY) is (accepted_runnable INFINITY (terms_of s) ss first);
+      codable = subst IsCodable is (accepted_codable INFINITY (terms_of s) ss first (each_parts s.pool s.list.items (recursion_from_All (λ x. HasParts (placed_of c x.term)) s.list.items parts)));
     }

@@ -7,3 +7,4 @@ pub mod Kept
 pub mod GoalStores
 pub mod Parts
 pub mod Refused
+pub mod Codable

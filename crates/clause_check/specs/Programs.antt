@@ -19,6 +19,7 @@ use Rattle.term_pool.specs.declared.AtomId.{AtomId}
 use Rattle.term_pool.specs.Contents.{Contents, atom_name}
 use Rattle.term_pool.specs.Terms.{term_of}
 use Rattle.term_pool.specs.Valid.{IsPool}
+use Rattle.clause_check.specs.Codable.{IsCodable}
 use Rattle.clause_check.specs.declared.program.Part.{Part}
 use Rattle.clause_check.specs.declared.program.FlatGoal.{FlatGoal}
 use Rattle.clause_check.specs.declared.program.FlatGoal.TheVariants.{True, Fail, Unify, Post, Constrain, Label, Call, Either, Builtin}
@@ -214,6 +215,8 @@ pub record IsProgram (p : FlatProgram) : Type 0 where
   -- names no variable beyond those that its clauses and queries have
   pub scoped : IsScoped (program_in p)
   pub runnable : IsRunnableProgram INFINITY (program_in p)
+  -- has compound terms of 1 to 255 arguments, and shows no variable twice
+  pub codable : IsCodable (program_in p)
 
 -- ---- as the code keeps it
 

@@ -4,6 +4,7 @@
 ghost use Rattle.std.specs.Prelude.{◌≡◌, None, IfOk, IfErr};
 ghost use Rattle.fd_model.specs.Queries.{program_of};
 ghost use Rattle.fd_model.specs.Refusals.{first_refusal};
+ghost use Rattle.term_reader.specs.GivenParts.{HaveParts};
 ghost use Rattle.term_reader.specs.Named.{HaveNames};
 ghost use Rattle.term_reader.specs.Sentences.{sentences_of, AreOwn};
 ghost use Rattle.clause_check.specs.Causes.{Refuses};
@@ -36,6 +37,7 @@ use term_reader::Sentences;
 pub fn check_program(alloc: Global, s: Sentences) -> Result<Program, ProgramFault>
     requires own { AreOwn s }
     requires names { HaveNames s }
+    requires parts { HaveParts s }
     ensures accepted { IfOk result (λ p. first_refusal INFINITY (terms_of s) (terms_of s) ≡ None) }
     ensures program { IfOk result (λ p. program_in p ≡ program_of (sentences_of s)) }
     ensures pool { IfOk result (λ p. p.pool ≡ s.pool) }

@@ -8,6 +8,7 @@ ghost use Rattle.answer_text.specs.Reasons.{reason_text, IsReasonIn};
 ghost use Rattle.char_tokens.specs.Views.{cause_of};
 ghost use Rattle.clause_check.specs.Causes.{cause_text, check_text, IsCauseAt, IsCheckedAt};
 ghost use Rattle.term_pool.specs.Contents.{Contents};
+ghost use Rattle.term_reader.specs.GivenParts.{HaveParts};
 ghost use Rattle.term_reader.specs.Named.{HaveNames};
 ghost use Rattle.term_reader.specs.Sentences.{sentences_of, AreOwn, IsFaultFor};
 ghost use Rattle.clpfd.specs.Verdicts.{Is, IsVerdictOn};
@@ -104,6 +105,7 @@ fn token_reason(cause: TokenCause) -> Reason
 fn judge_sentences(alloc: Global, sentences: Sentences) -> Result<Verdict, NoMemory>
     requires own { AreOwn sentences }
     requires names { HaveNames sentences }
+    requires parts { HaveParts sentences }
     ensures { IfOk result (Is (reading_verdict INFINITY (Reading.sentences (sentences_of
         sentences)))) }
 {

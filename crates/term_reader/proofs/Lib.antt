@@ -17,3 +17,4 @@ pub mod Readable
 pub mod Plain
 mod Named
 pub mod Lemmas
+mod GivenParts

@@ -1,6 +1,6 @@
 -- The cells of a list, from its end.
 use Rattle.std.proofs.Common.{◌≡◌, ℕ, ◌+◌, ◌<◌, ◌≤◌, List, [], ◌∷◌, ◌++◌, length, take, refl, sym, ap, ◌∙◌, arith, get_or}
-use Rattle.std.proofs.lemmas.List.{take_all, take_more}
+use Rattle.std.proofs.lemmas.List.{take_more}
 use Rattle.fd_language.specs.Term.{Name}
 use Rattle.fd_language.specs.PlacedTerm.{PlacedTerm, PlacedTerms, comp, no_parts, part, two, with_last}
 use Rattle.fd_language.specs.Grammar.{list_of, cons_name}
@@ -9,7 +9,7 @@ use Rattle.term_pool.specs.declared.TheConstants.{CONS}
 use Rattle.term_pool.specs.Contents.{Contents, atom_name}
 use Rattle.term_pool.specs.Terms.{Extends}
 use Rattle.term_pool.specs.Valid.{IsPool}
-use Rattle.term_pool.proofs.Lemmas.{extends_refl, extends_trans}
+use Rattle.term_pool.proofs.Lemmas.{extends_trans}
 use Rattle.term_pool.specs.PlacedTerms.{placed_of}
 use Rattle.term_reader.specs.PlacedTerms.{parts_of, Adds}
 use Rattle.term_reader.specs.View.{AreTerms}

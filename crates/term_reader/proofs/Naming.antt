@@ -1,6 +1,6 @@
 -- The numbers of variables, by ids and by names.
 use Rattle.std.proofs.Common.{◌≡◌, ◌≢◌, ℕ, ◌+◌, ◌<◌, ◌⊎◌, inl, inr, List, [], ◌∷◌, ◌++◌, length, map, Some, Bool, true, false, cond, refl, sym, ap, ◌∙◌, arith, length-append, get_or, set}
-use Rattle.std.specs.Prelude.{slice_get, Result, Ok, Err, IfOk, OnOk, ◌==◌, All, codes, not, ◌||◌}
+use Rattle.std.specs.Prelude.{slice_get, Result, Ok, Err, IfOk, ◌==◌, All, codes, not, ◌||◌}
 use Rattle.std.specs.List.{position_or_len, list_any}
 use Rattle.std.specs.Str.{bytes_eq}
 use Rattle.std.proofs.lemmas.Bool.{ne_eqb, eq-eqb, false_from_ne_true}

@@ -11,7 +11,7 @@ use Rattle.term_pool.specs.declared.TermId.{TermId}
 use Rattle.term_pool.specs.Contents.{Contents, atom_name}
 use Rattle.term_pool.specs.Terms.{Extends}
 use Rattle.term_pool.specs.Valid.{IsPool}
-use Rattle.term_pool.proofs.Lemmas.{name_kept, extends_refl, extends_trans}
+use Rattle.term_pool.proofs.Lemmas.{name_kept, extends_trans}
 use Rattle.term_pool.specs.declared.AtomId.{AtomId}
 use Rattle.name_syntax.specs.declared.operators.Operator.{Operator}
 use Rattle.name_syntax.specs.Operators.{operator_of, nameless}

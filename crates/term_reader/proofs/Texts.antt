@@ -18,7 +18,7 @@ use Rattle.char_tokens.specs.declared.token.TokenFault.TheVariants as faults
 use Rattle.char_tokens.specs.Views.{cause_of}
 use Rattle.char_tokens.specs.Left.{Left}
 use Rattle.char_tokens.specs.Scanning.{IsNext, Refuses, IsFirstFault, AreTokens}
-use Rattle.char_tokens.proofs.Lemmas.{Completes, completes_all, completes_more, next_tokens, next_fault, fault_first}
+use Rattle.char_tokens.proofs.Lemmas.{Completes, completes_more, next_tokens, next_fault, fault_first}
 use Rattle.term_pool.specs.Contents.{Contents}
 use Rattle.term_pool.specs.Valid.{IsPool}
 use Rattle.term_reader.specs.declared.reader.Reader.{Reader}

@@ -5,3 +5,4 @@ pub mod GrammarTokens
 pub mod Sentences
 pub mod Named
 pub mod Laws
+pub mod GivenParts

@@ -3,6 +3,7 @@
 
 ghost use Rattle.std.specs.Prelude.{◌≡◌, List, ℕ, IfOk, IfErr, MatchResult};
 ghost use Rattle.fd_language.specs.Reading.{Reading, IsReading, sentences};
+ghost use Rattle.term_reader.specs.GivenParts.{HaveParts};
 ghost use Rattle.term_reader.specs.Named.{HaveNames};
 ghost use Rattle.term_reader.specs.Sentences.{sentences_of, AreOwn, IsFaultOf, IsFaultFor};
 
@@ -21,6 +22,7 @@ pub fn read_sentences(alloc: Global, text: &str) -> Result<Sentences, ReaderFaul
     ensures found { IfOk result (λ s. IsReading text.now (sentences (sentences_of s))) }
     ensures own { IfOk result AreOwn }
     ensures names { IfOk result HaveNames }
+    ensures parts { IfOk result HaveParts }
     ensures fault { IfErr result (IsFaultOf text.now) }
     ensures only { (v : Reading) → IsReading text.now v → MatchResult result (λ s. v ≡ sentences (sentences_of s)) (IsFaultFor v) }
 {

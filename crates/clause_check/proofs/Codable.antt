@@ -1,0 +1,234 @@
+-- There is code for the program of accepted sentences.
+use Rattle.std.proofs.Common.{◌≡◌, ℕ, zero, suc, ◌≤◌, Bool, true, false, cond, nat_lt, min, List, [], ◌∷◌, ◌++◌, map, Option, Some, None, refl, sym, ap, subst, arith}
+use Rattle.fd_language.specs.Term.{Name}
+use Rattle.std.proofs.lemmas.Bool.{ltb-false}
+use Rattle.std.specs.Str.{bytes_eq}
+use Rattle.std.specs.Prelude.{codes, IsTrue, slice_get}
+use Rattle.fd_language.specs.PlacedTerm.{PlacedTerm, PlacedTerms, var, int, atom, comp, no_parts, part, plain, all_plain}
+use Rattle.fd_language.specs.Lists.{Each}
+use Rattle.fd_language.specs.Reading.{Sentence}
+use Rattle.fd_language.specs.Spelling.{least_place}
+use Rattle.fd_model.specs.Forms.{GoalForm, truth, failure, unification, posting, constraint, labelling, builtin, forms, form_in}
+use Rattle.fd_model.specs.Refusals.{Form, query, clause, directive, fact, form_of, Functor, functor_of, second_part, Refusal, or_later, count, most_arguments, wide_places, wide_places_of, too_wide, clause_refusal, sentence_refusal, first_refusal}
+use Rattle.fd_model.specs.Queries.{first_part, goal_by_form, goal_named, form_of_functor, goal_of, followed, body_goals, is_shown, shown_from, queries_by, queries_of, clauses_by, clauses_of, program_of}
+use Rattle.fd_model.specs.Goal.{Goals, no_goals, goal, listed, Either, Clause, Query}
+use Rattle.term_reader.specs.GivenParts.{AreSome, HasParts, EachHasParts}
+use Rattle.clause_check.specs.Codable.{arguments_in, IsNarrow, AreNarrow, is_named, IsCodableGoal, AreCodableGoals, EachCodable, ClausesCodable, AreOnce, QueriesCodable, IsCodable}
+
+either : {A : Type 0} (P : A → Type 0) (b : Bool) (x y : A) → P x → P y → P (cond b x y)
+either P true x y h g = h
+either P false x y h g = g
+
+-- ---- terms
+
+abbrev AsTerm : PlacedTerm → Type 0
+AsTerm t = IsNarrow (plain t)
+
+first_empty : (xs ys : List ℕ) → xs ++ ys ≡ [] → xs ≡ []
+first_empty [] ys e = refl
+first_empty (x ∷ xs) ys e = absurd cc
+
+later_empty : (xs ys : List ℕ) → xs ++ ys ≡ [] → ys ≡ []
+later_empty [] ys e = e
+later_empty (x ∷ xs) ys e = absurd cc
+
+counted : (ts : PlacedTerms) → arguments_in (all_plain ts) ≡ count ts
+counted no_parts = refl
+counted (part t ts) = ap suc (counted ts)
+
+some_given : (ts : PlacedTerms) → AreSome ts → 1 ≤ arguments_in (all_plain ts)
+some_given no_parts h = absurd h
+some_given (part t ts) h = omega arith
+
+few : (n : ℕ) (b : Bool) (p : ℕ) (ps : List ℕ) → nat_lt most_arguments n ≡ b → cond b (p ∷ ps) ps ≡ [] → (n ≤ most_arguments) × (ps ≡ [])
+few n true p ps h e = absurd cc
+few n false p ps h e = (ltb-false most_arguments n h, e)
+
+mutual
+  term_narrow : (t : PlacedTerm) → wide_places t ≡ [] → HasParts t → IsNarrow (plain t)
+  term_narrow (var x p) e k = tt
+  term_narrow (int z p) e k = tt
+  term_narrow (atom a p) e k = tt
+  term_narrow (comp f p ts) e k =
+      let h = few (count ts) (nat_lt most_arguments (count ts)) p (wide_places_of ts) refl e in
+      (some_given ts k.0, subst (λ n. n ≤ most_arguments) (sym (counted ts)) h.0, terms_narrow ts h.1 k.1)
+
+  terms_narrow : (ts : PlacedTerms) → wide_places_of ts ≡ [] → EachHasParts ts → AreNarrow (all_plain ts)
+  terms_narrow no_parts e k = tt
+  terms_narrow (part t ts) e k =
+      (term_narrow t (first_empty (wide_places t) (wide_places_of ts) e) k.0, terms_narrow ts (later_empty (wide_places t) (wide_places_of ts) e) k.1)
+
+-- ---- goals
+
+second_narrow : (t : PlacedTerm) → AsTerm t → AsTerm (second_part t)
+second_narrow (comp f p (part a (part b ts))) h = h.2.1.0
+second_narrow (comp f p (part a no_parts)) h = h
+second_narrow (comp f p no_parts) h = h
+second_narrow (var x p) h = h
+second_narrow (int z p) h = h
+second_narrow (atom a p) h = h
+
+first_narrow : (t : PlacedTerm) → AsTerm t → AsTerm (first_part t)
+first_narrow (comp f p (part a ts)) h = h.2.0
+first_narrow (comp f p no_parts) h = h
+first_narrow (var x p) h = h
+first_narrow (int z p) h = h
+first_narrow (atom a p) h = h
+
+-- a built-in predicate is none of the goals that have a form of their own
+abbrev IsOwn : GoalForm → Type 0
+IsOwn (builtin k) = IsTrue (is_named k)
+IsOwn _ = Unit {0}
+
+abbrev IsOwnIfAny : Option GoalForm → Type 0
+IsOwnIfAny None = Unit {0}
+IsOwnIfAny (Some form) = IsOwn form
+
+abbrev AreOwnRows : List (Name × GoalForm) → Type 0
+AreOwnRows [] = Unit {0}
+AreOwnRows (row ∷ rows) = IsOwn row.1 × AreOwnRows rows
+
+own_in : (rows : List (Name × GoalForm)) (a : Name) → AreOwnRows rows → IsOwnIfAny (form_in rows a)
+own_in [] a h = tt
+own_in (row ∷ rows) a h = either IsOwnIfAny (bytes_eq a row.0) (Some row.1) (form_in rows a) h.0 (own_in rows a h.1)
+
+own_rows : (n : ℕ) → AreOwnRows (forms n)
+own_rows zero = (tt, (tt, (tt, (refl, tt))))
+own_rows (suc zero) = (refl, (refl, (refl, (refl, (refl, (refl, (refl, (tt, (tt, (tt, tt))))))))))
+own_rows (suc (suc zero)) = (tt, (refl, (refl, (refl, (refl, (refl, (refl, (refl, (refl, (refl, (tt, (tt, (tt, (tt, (tt, (tt, (tt, (refl, (refl, (refl, (refl, tt)))))))))))))))))))))
+own_rows (suc (suc (suc zero))) = (tt, (tt, tt))
+own_rows (suc (suc (suc (suc n)))) = tt
+
+own_form : (f : Option Functor) → IsOwnIfAny (form_of_functor f)
+own_form None = tt
+own_form (Some f) = own_in (forms f.arity) f.name (own_rows f.arity)
+
+form_codable : (form : GoalForm) → IsOwn form → (t : PlacedTerm) → AsTerm t → IsCodableGoal (goal_by_form form t)
+form_codable truth k t h = tt
+form_codable failure k t h = tt
+form_codable unification k t h = (first_narrow t h, second_narrow t h)
+form_codable posting k t h = first_narrow t h
+form_codable (constraint c) k t h = h
+form_codable (labelling o) k t h = first_narrow t h
+form_codable (builtin b) k t h = (k, h)
+
+named_codable : (o : Option GoalForm) → IsOwnIfAny o → (t : PlacedTerm) → AsTerm t → IsCodableGoal (goal_named o t)
+named_codable (Some form) k t h = form_codable form k t h
+named_codable None k t h = h
+
+goal_codable : (t : PlacedTerm) → AsTerm t → IsCodableGoal (goal_of t)
+goal_codable t h = named_codable (form_of_functor (functor_of t)) (own_form (functor_of t)) t h
+
+followed_codable : (gs hs : Goals) → AreCodableGoals gs → AreCodableGoals hs → AreCodableGoals (followed gs hs)
+followed_codable no_goals hs h k = k
+followed_codable (goal g gs) hs h k = (h.0, followed_codable gs hs h.1 k)
+
+body_codable : (t : PlacedTerm) → AsTerm t → AreCodableGoals (body_goals t)
+body_codable (comp f p (part a (part b no_parts))) h =
+    let left = body_codable a h.2.0 in
+    let right = body_codable b h.2.1.0 in
+    either AreCodableGoals (bytes_eq f (codes ",")) (followed (body_goals a) (body_goals b)) _ (followed_codable (body_goals a) (body_goals b) left right)
+    (either AreCodableGoals (bytes_eq f (codes ";")) (goal (Either (body_goals a) (body_goals b)) no_goals) _ ((left, right), tt) (goal_codable (comp f p (part a (part b no_parts))) h, tt))
+body_codable (comp f p (part a (part b (part c ts)))) h = (goal_codable (comp f p (part a (part b (part c ts)))) h, tt)
+body_codable (comp f p (part a no_parts)) h = (goal_codable (comp f p (part a no_parts)) h, tt)
+body_codable (comp f p no_parts) h = (goal_codable (comp f p no_parts) h, tt)
+body_codable (var x p) h = (goal_codable (var x p) h, tt)
+body_codable (int z p) h = (goal_codable (int z p) h, tt)
+body_codable (atom a p) h = (goal_codable (atom a p) h, tt)
+
+listed_codable : (gs : Goals) → AreCodableGoals gs → EachCodable (listed gs)
+listed_codable no_goals h = tt
+listed_codable (goal g gs) h = (h.0, listed_codable gs h.1)
+
+-- ---- sentences
+
+abbrev FormNarrow : Form → Type 0
+FormNarrow (query b) = AsTerm b
+FormNarrow (clause h b) = AsTerm h × AsTerm b
+FormNarrow directive = Unit {0}
+FormNarrow (fact t) = AsTerm t
+
+sentence_form_codable : (t : PlacedTerm) → AsTerm t → FormNarrow (form_of t)
+sentence_form_codable (comp f p (part b no_parts)) h =
+    either FormNarrow (bytes_eq f (codes "?-")) (query b) _ h.2.0 (either FormNarrow (bytes_eq f (codes ":-")) directive (fact (comp f p (part b no_parts))) tt h)
+sentence_form_codable (comp f p (part a (part b no_parts))) h = either FormNarrow (bytes_eq f (codes ":-")) (clause a b) (fact (comp f p (part a (part b no_parts)))) (h.2.0, h.2.1.0) h
+sentence_form_codable _ h = h
+
+-- the numbers shown rise
+abbrev IsFrom : ℕ → List ℕ → Type 0
+IsFrom n xs = (i x : ℕ) → slice_get xs i ≡ Some x → n ≤ x
+
+from_more : (n : ℕ) (xs : List ℕ) → IsFrom (suc n) xs → IsFrom n xs
+from_more n xs h i x e = omega (arith, h i x e)
+
+from_with : (n : ℕ) (xs : List ℕ) → IsFrom (suc n) xs → IsFrom n (n ∷ xs)
+from_with n xs h zero x e = let k : n ≡ x = cc in omega (arith, k)
+from_with n xs h (suc i) x e = omega (arith, h i x e)
+
+shown_rise : (n : ℕ) (names : List Name) → IsFrom n (shown_from n names)
+shown_rise n [] = λ i x e. absurd cc
+shown_rise n (name ∷ names) =
+    let later = shown_rise (suc n) names in
+    either (IsFrom n) (is_shown name) (n ∷ shown_from (suc n) names) (shown_from (suc n) names) (from_with n (shown_from (suc n) names) later) (from_more n (shown_from (suc n) names) later)
+
+once_with : (n : ℕ) (xs : List ℕ) → IsFrom (suc n) xs → AreOnce xs → AreOnce (n ∷ xs)
+once_with n xs h o zero zero x e k = refl
+once_with n xs h o zero (suc j) x e k = let m : n ≡ x = cc in absurd (omega (arith, m, h j x k))
+once_with n xs h o (suc i) zero x e k = let m : n ≡ x = cc in absurd (omega (arith, m, h i x e))
+once_with n xs h o (suc i) (suc j) x e k = ap suc (o i j x e k)
+
+once : (n : ℕ) (names : List Name) → AreOnce (shown_from n names)
+once n [] = λ i j x h k. absurd cc
+once n (name ∷ names) =
+    let later = once (suc n) names in
+    either AreOnce (is_shown name) (n ∷ shown_from (suc n) names) (shown_from (suc n) names) (once_with n (shown_from (suc n) names) (shown_rise (suc n) names) later) later
+
+query_codable : (s : Sentence) (form : Form) (later : List Query) → FormNarrow form → QueriesCodable later → QueriesCodable (queries_by s.names form later)
+query_codable s (query b) later h g = ((once 0 s.names, listed_codable (body_goals b) (body_codable b h)), g)
+query_codable s _ later h g = g
+
+clause_codable : (s : Sentence) (form : Form) (later : List Clause) → FormNarrow form → ClausesCodable later → ClausesCodable (clauses_by s.names form later)
+clause_codable s (query b) later h g = g
+clause_codable s (clause t b) later h g = ((h.0, listed_codable (body_goals b) (body_codable b h.1)), g)
+clause_codable s directive later h g = g
+clause_codable s (fact t) later h g = ((h, tt), g)
+
+-- ---- the text
+
+no_place : (ps : List ℕ) → least_place ps ≡ None → ps ≡ []
+no_place [] e = refl
+no_place (p ∷ ps) e = some p ps e
+  where
+    some : (q : ℕ) (qs : List ℕ) → least_place (q ∷ qs) ≡ None → q ∷ qs ≡ []
+    some q [] k = absurd cc
+    some q (r ∷ qs) k = absurd (never (min q r) qs k)
+      where
+        never : (n : ℕ) (ns : List ℕ) → least_place (n ∷ ns) ≡ None → ⊥
+        never n [] k = cc
+        never n (m ∷ ns) k = never (min n m) ns k
+
+not_wide : (o : Option ℕ) → too_wide o ≡ None → o ≡ None
+not_wide None e = refl
+not_wide (Some p) e = absurd cc
+
+first_none : (a b : Option Refusal) → or_later a b ≡ None → a ≡ None
+first_none None b e = refl
+first_none (Some r) b e = e
+
+later_none : (a b : Option Refusal) → or_later a b ≡ None → b ≡ None
+later_none None b e = e
+later_none (Some r) b e = absurd cc
+
+sentences_codable : (M : ℕ) (all : List PlacedTerm) (ss : List Sentence) → first_refusal M all (map (λ s. s.term) ss) ≡ None → Each (λ s. HasParts s.term) ss → ClausesCodable (clauses_of ss) × QueriesCodable (queries_of ss)
+sentences_codable M all [] h k = (tt, tt)
+sentences_codable M all (s ∷ ss) h k =
+    let here = first_none (sentence_refusal M all s.term) (first_refusal M all (map (λ s. s.term) ss)) h in
+    let mine = first_none (too_wide (least_place (wide_places s.term))) (clause_refusal M all s.term (form_of s.term)) here in
+    let narrow : AsTerm s.term = term_narrow s.term (no_place (wide_places s.term) (not_wide (least_place (wide_places s.term)) mine)) k.0 in
+    let form = sentence_form_codable s.term narrow in
+    let others = sentences_codable M all ss (later_none (sentence_refusal M all s.term) (first_refusal M all (map (λ s. s.term) ss)) h) k.1 in
+    (clause_codable s (form_of s.term) (clauses_of ss) form others.0, query_codable s (form_of s.term) (queries_of ss) form others.1)
+
+-- there is code for the program of sentences of which none is refused
+pub accepted_codable : (M : ℕ) (all : List PlacedTerm) (ss : List Sentence) → first_refusal M all (map (λ s. s.term) ss) ≡ None → Each (λ s. HasParts s.term) ss → IsCodable (program_of ss)
+accepted_codable M all ss h k = let both = sentences_codable M all ss h k in record { clauses = both.0; queries = both.1 }
