@@ -1,10 +1,9 @@
 -- The loop of the complement of a list of intervals.
-use Rattle.std.proofs.Common.{◌≡◌, ℕ, ◌+◌, ◌-◌, ◌<◌, ◌≤◌, true, false, not, ltb, List, [], ◌∷◌, ◌++◌, filter, refl, ap, ◌∙◌, subst, inl, inr, arith, length, get_or, drop, append-nil, drop_of_length-le}
+use Rattle.std.proofs.Common.{◌≡◌, ℕ, ◌+◌, ◌-◌, ◌<◌, ◌≤◌, false, not, ltb, List, [], ◌∷◌, ◌++◌, filter, refl, ap, ◌∙◌, subst, inl, inr, arith, length, get_or, drop, append-nil, drop_of_length-le}
 use Rattle.std.proofs.lemmas.Bool.{cases_Bool}
-use Rattle.std.proofs.lemmas.Bool.Decides.{nat_tests}
 use Rattle.fd_language.specs.Family.{universe}
 use Rattle.domain_ranges.specs.Spans.{Span, within, IsSpans, members, interval_count, gap}
-use Rattle.domain_ranges.proofs.Spans.{not_within, in_head, past_first}
+use Rattle.domain_ranges.proofs.Spans.{in_head, past_first}
 use Rattle.domain_ranges.proofs.Made.{Made, IsNext, made_none, made_skip, made_push, made_all, made_many}
 use Rattle.domain_ranges.proofs.Meeting.{drop_next, below_first}
 use Rattle.domain_ranges.proofs.Places.{ltb_less, ltb_not}

@@ -1,14 +1,18 @@
 -- Whether the numbers of a list of intervals are all in another one.
-use Rattle.std.proofs.Common.{◌≡◌, ℕ, suc, ◌+◌, ◌-◌, ◌<◌, ◌≤◌, Bool, true, false, List, [], ◌∷◌, filter, ℤ, pos, int_le, ◌&&◌, refl, sym, ◌∙◌, ap, subst, inl, inr, ◌⊎◌, arith, length, get_or, drop, drop_of_length-le, IsTrue}
+use Rattle.std.proofs.Common.{◌≡◌, ℕ, suc, ◌+◌, ◌-◌, ◌<◌, ◌≤◌, true, false, List, [], ◌∷◌, filter, ℤ, pos, int_le, ◌&&◌, refl, sym, ◌∙◌, ap, subst, inl, inr, ◌⊎◌, arith, length, get_or, drop, drop_of_length-le}
 use Rattle.std.proofs.lemmas.Bool.{true≢false}
-use Rattle.fd_language.specs.Family.{has, universe, IsRising, IsSubset}
-use Rattle.fd_language.specs.Range.{is_none_left}
-use Rattle.fd_language.proofs.Lemmas.{has-filter, has-filter_back, shorter_or_same}
-use Rattle.domain_ranges.specs.Spans.{Span, within, IsSpans, members}
-use Rattle.domain_ranges.specs.Narrowing.{between}
-use Rattle.domain_ranges.proofs.Members.{has_within, interval_none, members_none}
+use Rattle.fd_language.specs.Family.{has, IsSubset}
+use Rattle.fd_language.proofs.Lemmas.{has-filter_back, shorter_or_same}
+use Rattle.domain_ranges.specs.Spans.{Span, within, IsSpans, members, meet}
+use Rattle.domain_ranges.specs.declared.Narrowed.{Narrowed}
+use Rattle.domain_ranges.specs.declared.Narrowed.TheVariants.{Same, Empty, Changed}
+use Rattle.std.proofs.lemmas.Bool.{cases_Bool}
+use Rattle.std.proofs.lemmas.Bool.Decides.{nat_tests}
+use Rattle.std.proofs.Common.{leb, leb-true, max, min}
+use Rattle.domain_ranges.specs.Narrowing.{between, IsNarrowed, IsLeft}
+use Rattle.domain_ranges.proofs.Members.{has_within, interval_none, members_none, least_is}
 use Rattle.fd_language.specs.declared.TheConstants.{INFINITY}
-use Rattle.domain_ranges.proofs.Spans.{head_or_later, in_head, in_later, within_low, past_first, behind_first, IsLeast, IsGreatest, least_first, greatest_end, not_within}
+use Rattle.domain_ranges.proofs.Spans.{head_or_later, in_head, in_later, within_low, past_first, behind_first, least_first, greatest_end, not_within}
 use Rattle.domain_ranges.proofs.Meeting.{drop_next}
 use Rattle.domain_ranges.proofs.Places.{drop_spans}
 use Rattle.domain_ranges.proofs.Made.{out_low, out_high}
@@ -115,3 +119,24 @@ left_of old set new e (n, h, g) = subst (λ l. length l < length old) (sym e) (l
 -- no number of U is between the bounds
 pub none_between : (xs : List ℕ) (lo hi : ℤ) → ((n : ℕ) → n ≤ INFINITY → (int_le lo (pos n) && int_le (pos n) hi) ≡ false) → filter (has (between lo hi)) xs ≡ []
 none_between xs lo hi f = none_in xs (between lo hi) (λ n. ap (λ l. has l n) (sym (interval_none INFINITY lo hi f) ∙ members_none))
+
+-- one interval of which not all is left
+pub left_one : (xs set : List ℕ) (ls : List Span) (r : Narrowed) → members ls ≡ filter (has set) xs → IsSpans 0 INFINITY ls → (n : ℕ) × (has xs n ≡ true) × (has set n ≡ false) → IsLeft ls r → IsNarrowed xs set r
+left_one xs set ls Same e q o h = absurd h
+left_one xs set ls Empty e q o h = sym e ∙ (ap members h ∙ members_none)
+left_one xs set ls (Changed new) e q o h = let made : new ≡ filter (has set) xs = h.0 ∙ e in (made, (least_is INFINITY ls new q (sym h.0) h.1).0, left_of xs set new made o)
+
+pub met_spans : (x y : Span) → x.1 ≤ INFINITY → IsSpans 0 INFINITY (meet x y)
+met_spans x y h = elim (cases_Bool (leb (max x.0 y.0) (min x.1 y.1))) [
+  | inl t ↦ let l = leb-true (max x.0 y.0) (min x.1 y.1) t in rw t (omega arith, l, omega arith, tt)
+  | inr t ↦ rw t tt
+]
+
+pub met_one : (x y : Span) (low high : ℕ) (new : List ℕ) → low ≡ max x.0 y.0 → high ≡ min x.1 y.1 → low ≤ high → new ≡ members ((low, high) ∷ []) → (new ≡ members (meet x y)) × (1 ≤ length (meet x y))
+met_one x y low high new e f l m =
+    let t : leb (max x.0 y.0) (min x.1 y.1) ≡ true = grind (arith, nat_tests) in
+    let ends : ◌≡◌ {A = Span} (low, high) (max x.0 y.0, min x.1 y.1) = λ i. (e i, f i) in
+    rw t (m ∙ ap (λ (s : Span). members (s ∷ [])) ends, omega arith)
+
+pub met_none : (x y : Span) (low high : ℕ) → low ≡ max x.0 y.0 → high ≡ min x.1 y.1 → high < low → meet x y ≡ []
+met_none x y low high e f l = let t : leb (max x.0 y.0) (min x.1 y.1) ≡ false = grind (arith, nat_tests) in rw t refl

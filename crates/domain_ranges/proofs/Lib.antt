@@ -7,6 +7,8 @@ pub mod Joining
 pub mod Outcomes
 pub mod Places
 pub mod Gaps
+pub mod Cutting
+pub mod Excluding
 pub mod Dividing
 pub mod Shifting
 pub mod Scaling
@@ -14,3 +16,4 @@ pub mod Images
 pub mod Union
 pub mod Inside
 pub mod Stacking
+pub mod FromBelow

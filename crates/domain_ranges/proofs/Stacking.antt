@@ -1,22 +1,21 @@
 -- Sets one behind another in one list of intervals.
-use Rattle.std.proofs.Common.{◌≡◌, ℕ, zero, suc, ◌+◌, ◌-◌, ◌<◌, ◌≤◌, Bool, true, false, ◌||◌, ◌&&◌, leb, List, [], ◌∷◌, ◌++◌, filter, length, take, drop, get_or, drop_of_length-le, refl, sym, ◌∙◌, ap, subst, inl, inr, arith, Option, Some, None, append-nil, ℤ, pos, int_le}
+use Rattle.std.proofs.Common.{◌≡◌, ℕ, zero, suc, ◌+◌, ◌-◌, ◌<◌, ◌≤◌, Bool, true, false, ◌||◌, ◌&&◌, ◌==◌, leb, List, [], ◌∷◌, ◌++◌, filter, length, take, drop, get_or, drop_of_length-le, refl, sym, ◌∙◌, ap, subst, inl, inr, arith, Option, Some, None, append-nil, ℤ, pos, int_le}
 use Rattle.std.specs.Prelude.{reverse, MatchOption}
 use Rattle.std.specs.Option.{option_to_list}
-use Rattle.std.specs.List.{All}
 use Rattle.std.specs.List.Sorted.{IsNonDecreasingBy, IsPermutation}
 use Rattle.std.proofs.lemmas.Bool.{true≢false}
 use Rattle.std.proofs.lemmas.Bool.Decides.{nat_tests}
 use Rattle.std.proofs.Math.Seq.{take-append_seam, drop-append_seam}
-use Rattle.std.proofs.lemmas.List.{reverse-append, length-reverse, take-append-le, drop-append-le, take-append-drop, length-take-le, take_more}
-use Rattle.std.proofs.lemmas.List.Elements.{All-nil, All-cons, All-head, All-tail, All-take, All-append}
+use Rattle.std.proofs.lemmas.List.{reverse-append, length-reverse, take-append-le, drop-append-le, take-append-drop, length-take-le}
+use Rattle.std.proofs.lemmas.List.Elements.{All-nil, All-cons, All-head, All-tail, All-append}
 use Rattle.std.proofs.lemmas.List.Sorted.{list_any-IsPermutation, All-permutation}
 use Rattle.fd_language.specs.declared.TheConstants.{INFINITY}
 use Rattle.fd_language.specs.Family.{has, universe}
 use Rattle.domain_ranges.specs.Spans.{Span, within, IsSpans, members}
 use Rattle.domain_ranges.specs.Narrowing.{between}
 use Rattle.domain_ranges.specs.Waiting.{numbers, stacked, AreStarts, AreIntervals, AreRising}
-use Rattle.domain_ranges.proofs.Spans.{EndBefore, within_append, spans_push, ends_push, ends_more, head_or_later}
-use Rattle.domain_ranges.proofs.Members.{members_is, filter_same, interval_some, interval_none, members_none}
+use Rattle.domain_ranges.proofs.Spans.{within_append, head_or_later}
+use Rattle.domain_ranges.proofs.Members.{members_is, filter_same}
 use Rattle.domain_ranges.proofs.Images.{has_set, set_same}
 use Rattle.domain_ranges.proofs.Joining.{IsFirst}
 use Rattle.domain_ranges.proofs.Meeting.{drop_next}
@@ -116,6 +115,24 @@ unite_view (k ∷ j ∷ ks) js (Some i) ss h none e r q rest f =
     let others : stacked ks (take j (take k ss)) ≡ rest = cc in
     ap (λ l. stacked l ss) below ∙ (united k j ks ss h.1.0 h.0 ∙ (ap (λ l. filter (λ n. has l n || has (numbers (drop k ss)) n) (universe INFINITY) ∷ stacked ks (take j (take k ss))) next
     ∙ (ap (λ l. filter (λ n. has r n || has l n) (universe INFINITY) ∷ stacked ks (take j (take k ss))) top ∙ ap (λ l. filter (λ n. has r n || has q n) (universe INFINITY) ∷ l) others)))
+
+-- one more number in the set on top
+one_number : (n m : ℕ) → within ((n, n) ∷ []) m ≡ (m == n)
+one_number n m = grind (arith, nat_tests)
+
+numbers_more : (xs : List Span) (n : ℕ) → numbers (xs ++ (n, n) ∷ []) ≡ filter (λ m. has (numbers xs) m || (m == n)) (universe INFINITY)
+numbers_more xs n = set_same INFINITY (within (xs ++ (n, n) ∷ [])) (λ m. has (numbers xs) m || (m == n))
+    (λ m l. within_append xs ((n, n) ∷ []) m ∙ (ap (λ b. b || within ((n, n) ∷ []) m) (sym (has_set INFINITY (within xs) m l)) ∙ ap (λ b. has (numbers xs) m || b) (one_number n m)))
+
+pub added_view : (ks : List ℕ) (ss all : List Span) (n : ℕ) → AreStarts ks (length ss) → all ≡ ss ++ (n, n) ∷ [] → (r : List ℕ) (rest : List (List ℕ)) → stacked ks ss ≡ r ∷ rest → stacked ks all ≡ filter (λ m. has r m || (m == n)) (universe INFINITY) ∷ rest
+added_view [] ss all n h e r rest f = absurd cc
+added_view (k ∷ ks) ss all n h e r rest f =
+    let top : numbers (drop k ss) ≡ r = cc in
+    let others : stacked ks (take k ss) ≡ rest = cc in
+    let more = ap (drop k) e ∙ drop-append-le k ss ((n, n) ∷ []) h.0 in
+    let front = ap (take k) e ∙ take-append-le k ss ((n, n) ∷ []) h.0 in
+    ap (λ l. numbers l ∷ stacked ks (take k all)) more ∙ (ap (λ l. l ∷ stacked ks (take k all)) (numbers_more (drop k ss) n)
+    ∙ (ap (λ l. filter (λ m. has l m || (m == n)) (universe INFINITY) ∷ stacked ks (take k all)) top ∙ ap (λ l. filter (λ m. has r m || (m == n)) (universe INFINITY) ∷ l) (ap (stacked ks) front ∙ others)))
 
 -- intervals that begin in rising order
 later_from : (low n : ℕ) (ss : List Span) → AreRising low ss → within ss n ≡ true → low ≤ n

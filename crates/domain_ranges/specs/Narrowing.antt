@@ -1,8 +1,10 @@
 -- What is left of a set of values.
-use Rattle.std.specs.Prelude.{◌≡◌, ℕ, ◌<◌, Bool, false, ◌&&◌, ℤ, pos, int_le, List, [], filter, length}
+use Rattle.std.specs.Prelude.{◌≡◌, ℕ, ◌<◌, ◌≤◌, false, ◌&&◌, not, ℤ, pos, int_le, List, [], filter, length}
+use Rattle.std.specs.Ordering.{int_eq}
 use Rattle.fd_language.specs.Family.{has, universe, IsSubset}
 use Rattle.fd_language.specs.Range.{is_none_left}
 use Rattle.fd_language.specs.declared.TheConstants.{INFINITY}
+use Rattle.domain_ranges.specs.Spans.{Span, members}
 use Rattle.domain_ranges.specs.declared.Narrowed.{Narrowed}
 use Rattle.domain_ranges.specs.declared.Narrowed.TheVariants.{Same, Empty, Changed}
 
@@ -10,8 +12,18 @@ use Rattle.domain_ranges.specs.declared.Narrowed.TheVariants.{Same, Empty, Chang
 abbrev pub between : ℤ → ℤ → List ℕ
 between a b = filter (λ n. int_le a (pos n) && int_le (pos n) b) (universe INFINITY)
 
+-- the numbers of U other than the integer
+abbrev pub all_but : ℤ → List ℕ
+all_but z = filter (λ n. not (int_eq (pos n) z)) (universe INFINITY)
+
 -- The set `old`, intersected with another one: all of it is left, nothing is, or some members are and some aren't.
 abbrev pub IsNarrowed : List ℕ → List ℕ → Narrowed → Type 0
 IsNarrowed old set Same = IsSubset old set
 IsNarrowed old set Empty = filter (has set) old ≡ []
 IsNarrowed old set (Changed new) = (new ≡ filter (has set) old) × (is_none_left new ≡ false) × (length new < length old)
+
+-- intervals are what is left, and not all
+abbrev pub IsLeft : List Span → Narrowed → Type 0
+IsLeft ss Same = ⊥
+IsLeft ss Empty = ss ≡ []
+IsLeft ss (Changed new) = (new ≡ members ss) × (1 ≤ length ss)

@@ -1,6 +1,7 @@
 -- Sets of numbers as lists of intervals that rise and don't touch.
-use Rattle.std.specs.Prelude.{ℕ, suc, ◌+◌, ◌-◌, ◌≤◌, Bool, false, ◌&&◌, not, ◌==◌, ◌*◌, ◌/◌, nat_le, nat_lt, int_le, ◌+ℤ◌, max, min, if◌then◌else◌, ℤ, pos, negsuc, List, [], ◌∷◌, ◌++◌, filter, length, Option, Some, None}
+use Rattle.std.specs.Prelude.{◌≡◌, ℕ, suc, ◌+◌, ◌-◌, ◌≤◌, Bool, false, ◌&&◌, not, ◌==◌, ◌*◌, ◌/◌, nat_le, nat_lt, int_le, ◌+ℤ◌, max, min, if◌then◌else◌, ℤ, pos, negsuc, List, [], ◌∷◌, ◌++◌, filter, length, Option, Some, None}
 use Rattle.std.specs.List.{list_any}
+use Rattle.fd_language.specs.declared.TheConstants.{INFINITY}
 use Rattle.fd_language.specs.Family.{has, count_up}
 
 -- an interval, from its least to its greatest number
@@ -60,3 +61,9 @@ shifted ss c n = list_any (λ s. int_le (pos s.0 +ℤ c) (pos n) && int_le (pos 
 -- whether the number is c times one in the intervals, for a c that is not 0
 abbrev pub scaled : List Span → ℕ → ℕ → Bool
 scaled ss c n = (n / c * c == n) && within ss (n / c)
+
+-- intervals that rise and don't touch, of which the last one stands apart
+pub record AreFromBelow (ss : List Span) (last : Option Span) (capacity : ℕ) : Type 0 where
+  pub spans : IsSpans 0 INFINITY (ss ++ listed last)
+  pub alone : last ≡ None → ss ≡ []
+  pub room : 2 ≤ capacity

@@ -1,6 +1,6 @@
 //! Lists of intervals that rise and don't touch.
 
-ghost use Rattle.std.specs.Prelude.{◌≡◌, ◌<◌, ◌≤◌, ◌+◌, ◌&&◌, ◌||◌, not, ◌*◌, ◌^◌, ◌<ℤ◌, neg_ℤ, IsTrue, IsSome, ℕ, Bool, false, [], ◌∷◌, ◌++◌, length, pos, int_le, nat_le, slice_index_or, max, min, filter, IfSome, IfNone, IfOk, OnOk, OnErr};
+ghost use Rattle.std.specs.Prelude.{◌≡◌, ◌<◌, ◌≤◌, ◌+◌, ◌&&◌, ◌||◌, not, ◌==◌, ◌*◌, ◌^◌, ◌<ℤ◌, neg_ℤ, IsTrue, IsSome, ℕ, Bool, false, [], ◌∷◌, ◌++◌, length, pos, int_le, nat_le, slice_index_or, max, min, filter, IfSome, IfNone, IfOk, OnOk, OnErr};
 ghost use Rattle.domain_ranges.specs.Spans.{Span, within, IsSpans, members, interval_count, meet, listed, written, joined, gap, shifted, scaled};
 ghost use Rattle.fd_language.specs.Family.{universe};
 ghost use Rattle.domain_ranges.specs.Waiting.{numbers, AreIntervals, AreRising};
@@ -10,6 +10,7 @@ use smallvec::SmallVec;
 use std::alloc::Global;
 
 /// The interval of the numbers from `lo` to `hi` that are in 0 to `INFINITY`, if there are any.
+#[inline(always)]
 pub fn cut(lo: i128, hi: i128) -> Option<(u32, u32)>
     ensures none { IfNone result ((n : ℕ)
         → n ≤ INFINITY → (int_le lo (pos n) && int_le (pos n) hi) ≡ false) }
@@ -86,6 +87,7 @@ pub fn is_inside(a: &[(u32, u32)], b: &[(u32, u32)]) -> bool
 }
 
 /// Whether some number of the intervals is below or above the bounds.
+#[inline(always)]
 pub fn is_cut(spans: &[(u32, u32)], bounds: (u32, u32)) -> bool
     requires { IsSpans 0 INFINITY spans.now }
     ensures no { result ≡ false → (n : ℕ) → IsTrue (within spans.now n)
@@ -103,6 +105,7 @@ pub fn is_cut(spans: &[(u32, u32)], bounds: (u32, u32)) -> bool
 fn push(list: &mut SmallVec<(u32, u32), 2>, span: (u32, u32)) -> Result<(), NoMemory>
     requires { 2 ≤ list.old.capacity }
     ensures ok { OnOk result (list.new.items ≡ list.old.items ++ span ∷ []) }
+    ensures unchanged { OnErr result (list.new.items ≡ list.old.items) }
     ensures capacity { 2 ≤ list.new.capacity }
     ensures no_memory { OnErr result (2 ≤ length list.old.items) }
 {
@@ -130,6 +133,7 @@ fn push_meet(
 }
 
 /// The numbers in both of two lists of intervals.
+#[inline(never)]
 pub fn meet_all(
     alloc: Global,
     a: &[(u32, u32)],
@@ -157,28 +161,35 @@ pub fn meet_all(
     Ok(list)
 }
 
-/// The numbers of the intervals that are in one more interval.
-pub fn meet_one(
+/// The numbers of the intervals but `n`.
+#[inline(never)]
+pub fn without(
     alloc: Global,
     spans: &[(u32, u32)],
-    bounds: (u32, u32),
+    n: u32,
 ) -> Result<SmallVec<(u32, u32), 2>, NoMemory>
     requires list { IsSpans 0 INFINITY spans.now }
-    requires bounds { IsSpans 0 INFINITY (bounds ∷ []) }
+    requires number { n ≤ INFINITY }
     ensures spans { IfOk result (λ list. IsSpans 0 INFINITY list.items) }
     ensures set { IfOk result (λ list. members list.items
-        ≡ filter (λ n. within spans.now n && within (bounds ∷ []) n) (universe INFINITY)) }
+        ≡ filter (λ k. within spans.now k && not (k == n)) (universe INFINITY)) }
+    ensures no_memory { OnErr result (2 < interval_count
+        (filter (λ k. within spans.now k && not (k == n)) (universe INFINITY))) }
 {
-    if spans.len() == 1 {
-        let mut list = SmallVec::new(alloc);
-        push_meet(&mut list, spans[0], bounds)?;
-        return Ok(list);
+    let mut list = SmallVec::new(alloc);
+    for span in spans {
+        if n < span.0 || span.1 < n {
+            push(&mut list, *span)?;
+        } else {
+            push_gap(&mut list, span.0, n)?;
+            push_gap(&mut list, n + 1, span.1 + 1)?;
+        }
     }
-    meet_all(alloc, spans, &[bounds])
+    Ok(list)
 }
 
 /// Puts `last` behind the list, unless `next`, which begins no earlier, touches it. What the list may then end with.
-fn join(
+pub fn join(
     list: &mut SmallVec<(u32, u32), 2>,
     last: Option<(u32, u32)>,
     next: (u32, u32),
@@ -187,6 +198,7 @@ fn join(
     requires high { IfSome last (λ s. s.1 ≤ INFINITY) }
     ensures written { OnOk result (list.new.items ≡ list.old.items ++ written last next) }
     ensures joined { IfOk result (λ now. now ≡ joined last next) }
+    ensures unchanged { OnErr result (list.new.items ≡ list.old.items) }
     ensures capacity { 2 ≤ list.new.capacity }
     ensures no_memory { OnErr result (2 ≤ length list.old.items) }
     ensures apart { OnErr result (IfSome last (λ s. s.1 + 1 < next.0)) }
@@ -203,7 +215,7 @@ fn join(
 }
 
 /// The list with the interval that it may end with.
-fn close(
+pub fn close(
     mut list: SmallVec<(u32, u32), 2>,
     last: Option<(u32, u32)>,
 ) -> Result<SmallVec<(u32, u32), 2>, NoMemory>

@@ -2,16 +2,18 @@
 #![tactic(auto)]
 
 ghost use Rattle.std.specs.Prelude.{◌≡◌, ◌<◌, ◌≤◌, ◌&&◌, ◌||◌, not, nat_le, ◌^◌, neg_ℤ, ◌≤ℤ◌, ◌<ℤ◌, ◌⊎◌, if◌then◌else◌, ℕ, List, [], ◌∷◌, length, slice_index_or, filter, pos, int_le, IfOk, OnErr, MatchOption, IsTrue, IfSome, OnSome, false};
-ghost use Rattle.domain_ranges.specs.Spans.{IsSpans, members, interval_count, has_int};
+ghost use Rattle.domain_ranges.specs.Spans.{IsSpans, members, interval_count, has_int, meet};
 ghost use Rattle.domain_ranges.specs.Sets.{is_shifted, is_scaled, is_quotient};
-ghost use Rattle.domain_ranges.specs.Narrowing.{between, IsNarrowed};
+ghost use Rattle.domain_ranges.specs.Narrowing.{between, all_but, IsNarrowed, IsLeft};
 ghost use Rattle.fd_language.specs.Family.{has, universe, IsRising, IsSubset};
 ghost use Rattle.fd_language.specs.Range.{least, greatest, is_none_left};
 
+mod from_below;
 mod intervals;
 mod set_stack;
 
 use fd_language::{INFINITY, NoMemory};
+pub use from_below::Rising;
 pub use set_stack::SetStack;
 use smallvec::SmallVec;
 use std::alloc::Global;
@@ -189,8 +191,10 @@ impl Domain {
     }
 
     /// What is left of the set among the members of the other one. Where that is all, nothing is made.
+    /// `NoMemory` comes only where some members are left, in more than two intervals.
     pub fn narrowed_by(&self, other: &Domain) -> Result<Narrowed, NoMemory>
-        ensures { IfOk result (IsNarrowed self.now other.now) }
+        ensures narrowed { IfOk result (IsNarrowed self.now other.now) }
+        ensures no_memory { OnErr result (2 < interval_count (filter (has other.now) self.now)) }
     {
         if self.is_inside(other) {
             return Ok(Narrowed::Same);
@@ -202,9 +206,13 @@ impl Domain {
         }
     }
 
-    /// What is left of the set among the numbers from `lo` to `hi`. Where that is all, nothing is made.
+    /// What is left of the set among the numbers from `lo` to `hi`, both included. Where that is all, nothing is made.
+    /// `NoMemory` comes only where some members are left, in more than two intervals.
+    #[inline(always)]
     pub fn narrowed_to(&self, lo: i128, hi: i128) -> Result<Narrowed, NoMemory>
-        ensures { IfOk result (IsNarrowed self.now (between lo hi)) }
+        ensures narrowed { IfOk result (IsNarrowed self.now (between lo hi)) }
+        ensures no_memory { OnErr result
+            (2 < interval_count (filter (has (between lo hi)) self.now)) }
     {
         let Some(bounds) = intervals::cut(lo, hi) else {
             return Ok(Narrowed::Empty);
@@ -213,7 +221,27 @@ impl Domain {
         if !intervals::is_cut(spans, bounds) {
             return Ok(Narrowed::Same);
         }
-        let list = intervals::meet_one(*self.list.allocator(), spans, bounds)?;
+        if spans.len() == 1 {
+            return Ok(narrow_one(*self.list.allocator(), spans[0], bounds));
+        }
+        let list = intervals::meet_all(*self.list.allocator(), spans, &[bounds])?;
+        let left = Domain { list };
+        match left.min() {
+            None => Ok(Narrowed::Empty),
+            Some(_) => Ok(Narrowed::Changed(left)),
+        }
+    }
+
+    /// What is left of the set without the number `n`. Where that is all, nothing is made.
+    /// `NoMemory` comes only where the others stand in more than two intervals.
+    pub fn narrowed_without(&self, n: i64) -> Result<Narrowed, NoMemory>
+        ensures narrowed { IfOk result (IsNarrowed self.now (all_but n)) }
+        ensures no_memory { OnErr result (2 < interval_count (filter (has (all_but n)) self.now)) }
+    {
+        if !self.contains(n as i128) {
+            return Ok(Narrowed::Same);
+        }
+        let list = intervals::without(*self.list.allocator(), self.spans(), n as u32)?;
         let left = Domain { list };
         match left.min() {
             None => Ok(Narrowed::Empty),
@@ -255,6 +283,23 @@ impl Domain {
         match self.spans() {
             [] => None,
             [.., last] => Some(last.1),
+        }
+    }
+
+    /// The least and the greatest member, and `None` where there is none.
+    #[inline(always)]
+    pub fn bounds(&self) -> Option<(u32, u32)>
+        ensures least { MatchOption result (self.now ≡ []) (λ b. b.0 ≡ least self.now) }
+        ensures greatest { IfSome result (λ b. b.1 ≡ greatest self.now) }
+        ensures some { OnSome result (is_none_left self.now ≡ false) }
+        ensures members { IfSome result
+            (λ b. IsTrue (has self.now b.0) × IsTrue (has self.now b.1)) }
+        ensures rising { IsRising 0 INFINITY self.now }
+    {
+        let spans = self.spans();
+        match spans {
+            [] => None,
+            [first, ..] => Some((first.0, spans[spans.len() - 1].1)),
         }
     }
 
@@ -311,6 +356,21 @@ impl Domain {
         let mut list = SmallVec::new(alloc);
         list.push_reserved(span);
         Domain { list }
+    }
+}
+
+/// What is left of an interval among the numbers between the bounds, which isn't all.
+#[inline(always)]
+fn narrow_one(alloc: Global, span: (u32, u32), bounds: (u32, u32)) -> Narrowed
+    requires { span.1 ≤ INFINITY }
+    ensures { IsLeft (meet span bounds) result }
+{
+    let low = span.0.max(bounds.0);
+    let high = span.1.min(bounds.1);
+    if low <= high {
+        Narrowed::Changed(Domain::of_span(alloc, (low, high)))
+    } else {
+        Narrowed::Empty
     }
 }
 

@@ -1,6 +1,6 @@
 //! Sets that wait for their operators.
 
-ghost use Rattle.std.specs.Prelude.{◌≡◌, ◌<◌, ◌≤◌, ◌+◌, ◌-◌, ◌||◌, ℕ, List, [], ◌∷◌, length, filter, IfOk, IfSome, OnOk, MatchOption};
+ghost use Rattle.std.specs.Prelude.{◌≡◌, ◌<◌, ◌≤◌, ◌+◌, ◌-◌, ◌||◌, ◌==◌, ℕ, List, [], ◌∷◌, length, filter, IfOk, IfSome, OnOk, OnErr, MatchOption};
 ghost use Rattle.fd_language.specs.Family.{has, universe, IsRising};
 ghost use Rattle.domain_ranges.specs.Spans.{IsSpans};
 ghost use Rattle.domain_ranges.specs.Narrowing.{between};
@@ -14,6 +14,7 @@ use std::marker::Model;
 /// Sets that wait for their operators, the last one on top.
 ///
 /// A contract sees the sets, the one on top first, and how many of them there may be before their number takes memory.
+/// A call that answers `NoMemory` leaves the sets as they were.
 #[derive(Drop)]
 pub struct SetStack {
     alloc: Global,
@@ -68,6 +69,7 @@ impl SetStack {
     pub fn push_interval(&mut self, lo: i128, hi: i128) -> Result<(), NoMemory>
         requires { length self.old.sets < self.old.room }
         ensures pushed { OnOk result (self.new.sets ≡ between lo hi ∷ self.old.sets) }
+        ensures unchanged { OnErr result (self.new.sets ≡ self.old.sets) }
         ensures room { self.new.room ≡ self.old.room }
     {
         match intervals::cut(lo, hi) {
@@ -81,6 +83,7 @@ impl SetStack {
         requires spans { IsSpans 0 INFINITY spans.now }
         requires room { length self.old.sets < self.old.room }
         ensures pushed { OnOk result (self.new.sets ≡ numbers spans.now ∷ self.old.sets) }
+        ensures unchanged { OnErr result (self.new.sets ≡ self.old.sets) }
         ensures room { self.new.room ≡ self.old.room }
     {
         let from = self.spans.len();
@@ -93,25 +96,47 @@ impl SetStack {
     pub fn push(&mut self, domain: &Domain) -> Result<(), NoMemory>
         requires { length self.old.sets < self.old.room }
         ensures pushed { OnOk result (self.new.sets ≡ domain.now ∷ self.old.sets) }
+        ensures unchanged { OnErr result (self.new.sets ≡ self.old.sets) }
         ensures room { self.new.room ≡ self.old.room }
         ensures rising { IsRising 0 INFINITY domain.now }
     {
         self.put(domain.spans())
     }
 
+    /// One more number in the set on top, if there is one. Only its interval may take memory.
+    pub fn add(&mut self, n: u32) -> Result<(), NoMemory>
+        requires { n ≤ INFINITY }
+        ensures added { OnOk result ((r : List ℕ) (rest : List (List ℕ)) → self.old.sets ≡ r ∷ rest
+            → self.new.sets ≡ filter (λ k. has r k || (k == n)) (universe INFINITY) ∷ rest) }
+        ensures height { length self.new.sets ≡ length self.old.sets }
+        ensures unchanged { OnErr result (self.new.sets ≡ self.old.sets) }
+        ensures room { self.new.room ≡ self.old.room }
+    {
+        self.spans.push((n, n))?;
+        Ok(())
+    }
+
     /// Takes the set on top away, if there is one.
     pub fn pop(&mut self) -> Result<Option<Domain>, NoMemory>
         ensures popped { IfOk result (λ o. MatchOption o (self.old.sets ≡ []) (λ d. self.old.sets ≡ d ∷ self.new.sets)) }
         ensures left { IfOk result (λ o. IfSome o (λ _. length self.new.sets < self.new.room)) }
-        ensures fewer { length self.new.sets ≤ length self.old.sets - 1 }
+        ensures fewer { OnOk result (length self.new.sets ≤ length self.old.sets - 1) }
+        ensures unchanged { OnErr result (self.new.sets ≡ self.old.sets) }
         ensures room { self.new.room ≡ self.old.room }
     {
         let Some(from) = self.starts.pop() else {
             return Ok(None);
         };
-        let list = intervals::settled(self.alloc, &self.spans[from..])?;
-        self.spans.truncate(from);
-        Ok(Some(Domain { list }))
+        match intervals::settled(self.alloc, &self.spans[from..]) {
+            Ok(list) => {
+                self.spans.truncate(from);
+                Ok(Some(Domain { list }))
+            }
+            Err(refused) => {
+                self.starts.push_reserved(from);
+                Err(refused)
+            }
+        }
     }
 
     /// The union of the two sets on top waits in their place, if there are two. Their intervals stay where they are.

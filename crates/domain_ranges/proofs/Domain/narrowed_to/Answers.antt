@@ -1,36 +1,61 @@
-use Rattle.std.proofs.Common.{rules, sym, ◌∙◌, SFits, to_z-of_z, ◌≡◌, [], ◌∷◌, filter, length, ◌<◌, ◌≤◌, false}
+use Rattle.std.proofs.Common.{rules, subst, sym, ◌∙◌, SFits, to_z-of_z, [], ◌∷◌, ◌<◌}
 use mir.Syntax.{w128}
 use Rattle.fd_language.specs.declared.TheConstants.{INFINITY}
 use Rattle.domain_ranges.specs.Narrowing.{between}
 use Rattle.domain_ranges.proofs.Members.{interval_some, meet_is}
-use Rattle.domain_ranges.proofs.Inside.{subset_of, member_out, left_of, none_between}
+use Rattle.domain_ranges.specs.Spans.{IsSpans, meet}
+use Rattle.domain_ranges.proofs.Spans.{spans_at}
+use Rattle.domain_ranges.proofs.Meeting.{one_set}
+use Rattle.std.proofs.Common.{get_or, arith, refl}
+use Rattle.domain_ranges.proofs.Inside.{left_one, met_spans, subset_of, member_out, left_of, none_between}
+use Rattle.domain_ranges.specs.Spans.{interval_count}
+use Rattle.domain_ranges.proofs.Outcomes.{on_err}
 use Rattle.domain_ranges.proofs.Domain.narrowed_to.Goals as goal
 
-pub returns-in_default : goal.returns-in_default
-returns-in_default c =
+pub returns-in_default-clause-narrowed : goal.returns-in_default-clause-narrowed
+returns-in_default-clause-narrowed c =
     let f : SFits w128 c.args.lo = search rules in
     let g : SFits w128 c.args.hi = search rules in
     none_between c.args.self.now c.args.lo c.args.hi (λ n l. simp to_z-of_z at (c.in_default.ensures.none n l))
 
-pub returns-then-not-is_cut : goal.returns-then-not-is_cut
-returns-then-not-is_cut c =
+pub returns-then-not-is_cut-clause-narrowed : goal.returns-then-not-is_cut-clause-narrowed
+returns-then-not-is_cut-clause-narrowed c =
     let f : SFits w128 c.args.lo = search rules in
     let g : SFits w128 c.args.hi = search rules in
     subset_of INFINITY c.spans-spans.result.now (c.in-Some.bounds ∷ []) c.args.self.now (between c.args.lo c.args.hi) c.spans-spans.ensures.spans (search rules) c.spans-spans.ensures.members
     (interval_some INFINITY c.in-Some.bounds c.args.lo c.args.hi c.in-Some.ensures.order c.in-Some.ensures.high (λ n l. simp to_z-of_z at (c.in-Some.ensures.same n l)))
     (c.is_cut.ensures.no c.if-not-is_cut.true)
 
-pub returns-in-None : goal.returns-in-None
-returns-in-None c =
+pub returns-in-None-clause-narrowed : goal.returns-in-None-clause-narrowed
+returns-in-None-clause-narrowed c =
     let f : SFits w128 c.args.lo = search rules in
     let g : SFits w128 c.args.hi = search rules in
     sym (c.in_ok-list.ensures.set ∙ meet_is INFINITY c.spans-spans.result.now (c.in-Some.bounds ∷ []) c.args.self.now (between c.args.lo c.args.hi) c.spans-spans.ensures.spans (search rules) c.spans-spans.ensures.members
     (interval_some INFINITY c.in-Some.bounds c.args.lo c.args.hi c.in-Some.ensures.order c.in-Some.ensures.high (λ n l. simp to_z-of_z at (c.in-Some.ensures.same n l)))) ∙ c.in-None.ensures.least
 
-pub returns-in-Some-min : goal.returns-in-Some-min
-returns-in-Some-min c =
+pub returns-in-Some-min-clause-narrowed : goal.returns-in-Some-min-clause-narrowed
+returns-in-Some-min-clause-narrowed c =
     let f : SFits w128 c.args.lo = search rules in
     let g : SFits w128 c.args.hi = search rules in
     let same = interval_some INFINITY c.in-Some.bounds c.args.lo c.args.hi c.in-Some.ensures.order c.in-Some.ensures.high (λ n l. simp to_z-of_z at (c.in-Some.ensures.same n l)) in
     let set = c.in_ok-list.ensures.set ∙ meet_is INFINITY c.spans-spans.result.now (c.in-Some.bounds ∷ []) c.args.self.now (between c.args.lo c.args.hi) c.spans-spans.ensures.spans (search rules) c.spans-spans.ensures.members same in
     (set, c.in-Some-min.ensures.some, left_of c.args.self.now (between c.args.lo c.args.hi) _ set (member_out INFINITY c.spans-spans.result.now (c.in-Some.bounds ∷ []) c.args.self.now (between c.args.lo c.args.hi) c.spans-spans.ensures.spans (search rules) c.spans-spans.ensures.members same (c.is_cut.ensures.yes c.if-not-is_cut.false)))
+
+pub returns-in_err-list-clause-no_memory : goal.returns-in_err-list-clause-no_memory
+returns-in_err-list-clause-no_memory c =
+    let f : SFits w128 c.args.lo = search rules in
+    let g : SFits w128 c.args.hi = search rules in
+    on_err c.from_residual.result _ (subst (λ ns. 2 < interval_count ns) (meet_is INFINITY c.spans-spans.result.now (c.in-Some.bounds ∷ []) c.args.self.now (between c.args.lo c.args.hi) c.spans-spans.ensures.spans (search rules) c.spans-spans.ensures.members
+    (interval_some INFINITY c.in-Some.bounds c.args.lo c.args.hi c.in-Some.ensures.order c.in-Some.ensures.high (λ n l. simp to_z-of_z at (c.in-Some.ensures.same n l)))) c.in_err-list.ensures.no_memory)
+
+pub returns-then-spans-eq1-clause-narrowed : goal.returns-then-spans-eq1-clause-narrowed
+returns-then-spans-eq1-clause-narrowed c =
+    let f : SFits w128 c.args.lo = search rules in
+    let g : SFits w128 c.args.hi = search rules in
+    let ss = c.spans-spans.result.now in
+    let bounds : IsSpans 0 INFINITY (c.in-Some.bounds ∷ []) = search rules in
+    let same = interval_some INFINITY c.in-Some.bounds c.args.lo c.args.hi c.in-Some.ensures.order c.in-Some.ensures.high (λ n l. simp to_z-of_z at (c.in-Some.ensures.same n l)) in
+    let x = get_or ss 0 (0, 0) in
+    let set = one_set INFINITY ss c.in-Some.bounds c.spans-spans.ensures.spans bounds (sym c.if-spans-eq1.true) (meet x c.in-Some.bounds) refl ∙ meet_is INFINITY ss (c.in-Some.bounds ∷ []) c.args.self.now (between c.args.lo c.args.hi) c.spans-spans.ensures.spans bounds c.spans-spans.ensures.members same in
+    left_one c.args.self.now (between c.args.lo c.args.hi) (meet x c.in-Some.bounds) c.narrow_one.result set (met_spans x c.in-Some.bounds (spans_at 0 INFINITY 0 ss (0, 0) c.spans-spans.ensures.spans (omega arith)).1)
+    (member_out INFINITY ss (c.in-Some.bounds ∷ []) c.args.self.now (between c.args.lo c.args.hi) c.spans-spans.ensures.spans bounds c.spans-spans.ensures.members same (c.is_cut.ensures.yes c.if-not-is_cut.false)) c.narrow_one.ensures

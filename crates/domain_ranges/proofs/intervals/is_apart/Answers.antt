@@ -1,4 +1,4 @@
-use Rattle.std.proofs.Common.{rules, arith, subst, sym, drop_of_length-le}
+use Rattle.std.proofs.Common.{arith, subst, sym, drop_of_length-le}
 use Rattle.fd_language.specs.declared.TheConstants.{INFINITY}
 use Rattle.domain_ranges.specs.Spans.{IsSpans}
 use Rattle.domain_ranges.proofs.Stacking.{apart_more, interval_high}

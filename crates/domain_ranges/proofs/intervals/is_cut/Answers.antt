@@ -1,5 +1,3 @@
-use Rattle.std.proofs.Common.{rules, arith, nat_lt}
-use Rattle.std.proofs.lemmas.Bool.Decides.{nat_tests}
 use Rattle.fd_language.specs.declared.TheConstants.{INFINITY}
 use Rattle.domain_ranges.proofs.Places.{ltb_less, ltb_not}
 use Rattle.domain_ranges.proofs.Inside.{ends_within, below_bounds, above_bounds}

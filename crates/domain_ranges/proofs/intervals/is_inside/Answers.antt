@@ -1,6 +1,6 @@
 use Rattle.std.proofs.Common.{rules, arith, inl, inr}
 use Rattle.fd_language.specs.declared.TheConstants.{INFINITY}
-use Rattle.domain_ranges.proofs.Inside.{other_passed, one_passed, none_there, one_missing, all_compared}
+use Rattle.domain_ranges.proofs.Inside.{other_passed, one_passed, none_there, one_missing}
 use Rattle.domain_ranges.proofs.intervals.is_inside.Goals.{else-b-j-2-via-then-b-j-2+else-a-i, else-b-j-2-via-else-b-j-2}
 use Rattle.domain_ranges.proofs.intervals.is_inside.Goals as goal
 

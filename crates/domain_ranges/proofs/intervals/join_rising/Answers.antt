@@ -1,9 +1,8 @@
-use Rattle.std.proofs.Common.{rules, subst, sym, ap, ◌∙◌, drop, ◌+◌, ◌≤◌, ◌≡◌, ◌++◌, Some, get_or, filter}
-use Rattle.fd_language.specs.Family.{universe}
+use Rattle.std.proofs.Common.{rules, subst, sym, ap, ◌∙◌, drop, ◌+◌, ◌≡◌, ◌++◌, Some, get_or}
 use Rattle.fd_language.specs.declared.TheConstants.{INFINITY}
-use Rattle.domain_ranges.specs.Spans.{within, IsSpans, members, listed, written, joined}
+use Rattle.domain_ranges.specs.Spans.{within, IsSpans, members, listed, joined}
 use Rattle.domain_ranges.specs.Waiting.{numbers}
-use Rattle.domain_ranges.proofs.Joining.{Joining, join_more, join_done, close_spans, joining_start}
+use Rattle.domain_ranges.proofs.Joining.{Joining, join_more, join_done, close_spans}
 use Rattle.domain_ranges.proofs.Stacking.{first_at, no_more}
 use Rattle.domain_ranges.proofs.Outcomes.{if_ok}
 use Rattle.domain_ranges.proofs.intervals.join_rising.Goals as goal

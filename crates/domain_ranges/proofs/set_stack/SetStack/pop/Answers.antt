@@ -1,13 +1,21 @@
-use Rattle.std.proofs.Common.{ap, length}
-use Rattle.domain_ranges.proofs.Stacking.{popped_starts, one_fewer, fewer_sets, room_behind}
+use Rattle.std.proofs.Common.{ap, subst, sym, ◌∙◌, ◌≡◌, length, arith}
+use Rattle.std.specs.Prelude.{reverse}
+use Rattle.domain_ranges.specs.Waiting.{stacked, AreStarts}
+use Rattle.domain_ranges.proofs.Stacking.{room_behind}
 use Rattle.domain_ranges.proofs.set_stack.SetStack.pop.Goals as goal
 
-pub invariant_of-self-in_err-list : goal.invariant_of-self-in_err-list
-invariant_of-self-in_err-list c = (popped_starts c.self.inside.starts.items c.pop.new.self.items c.pop.result (length c.self.inside.spans.items) c.self.invariant.0 c.pop.ensures.items, c.self.invariant.1)
+pub push_reserved-requires : goal.push_reserved-requires
+push_reserved-requires c = let a = c.in-Some.ensures.cases in let b = c.self.inside.starts.ok.1 in let e = c.pop.ensures.capacity in omega arith
 
-pub returns-in_err-list-clause-fewer : goal.returns-in_err-list-clause-fewer
-returns-in_err-list-clause-fewer c =
-    fewer_sets c.self.inside.starts.items c.pop.new.self.items c.self.inside.spans.items c.self.inside.spans.items c.args.self.now.sets _ _ c.self.inside.starts.ok.0 c.pop.new.self.ok.0 (ap (λ w. w.sets) c.self.view_is) (one_fewer c.pop.result _ _ c.pop.ensures.cases)
+pub invariant_of-self-in-Err : goal.invariant_of-self-in-Err
+invariant_of-self-in-Err c =
+    let same : c.push_reserved.new.self.items ≡ c.self.inside.starts.items = c.push_reserved.ensures.items ∙ sym c.in-Some.ensures.items in
+    (subst (λ l. AreStarts (reverse l) (length c.self.inside.spans.items)) (sym same) c.self.invariant.0, c.self.invariant.1)
 
-pub returns-clause-left : goal.returns-clause-left
-returns-clause-left c = room_behind c.pop.new.self.items c.truncate.new.self.items _ _ _ _ c.pop.new.self.ok.0 c.in-Some.ensures.cases c.self.inside.starts.ok.1 c.pop.ensures.capacity
+pub returns-in-Err-clause-unchanged : goal.returns-in-Err-clause-unchanged
+returns-in-Err-clause-unchanged c =
+    let same : c.push_reserved.new.self.items ≡ c.self.inside.starts.items = c.push_reserved.ensures.items ∙ sym c.in-Some.ensures.items in
+    ap (λ l. stacked (reverse l) c.self.inside.spans.items) same ∙ ap (λ w. w.sets) c.self.view_is
+
+pub returns-in-Ok-clause-left : goal.returns-in-Ok-clause-left
+returns-in-Ok-clause-left c = room_behind c.pop.new.self.items c.truncate.new.self.items _ _ _ _ c.pop.new.self.ok.0 c.in-Some.ensures.cases c.self.inside.starts.ok.1 c.pop.ensures.capacity
