@@ -1,8 +1,7 @@
 -- What is compiled is the range.
-use Rattle.std.proofs.Common.{◌≡◌, ℕ, suc, ◌+◌, ◌<◌, ◌≤◌, Bool, true, false, cond, not, ◌||◌, ◌==◌, nat_lt, nat_eq, List, [], ◌∷◌, ◌++◌, length, map, filter, max, take, get_or, Option, Some, None, IsTrue, refl, sym, ◌∙◌, ap, subst, arith}
+use Rattle.std.proofs.Common.{◌≡◌, ℕ, suc, ◌+◌, ◌<◌, ◌≤◌, Bool, true, false, cond, not, ◌||◌, ◌==◌, nat_lt, nat_eq, List, [], ◌∷◌, ◌++◌, length, map, filter, fold, reverse, pos, take, get_or, Option, Some, None, IsTrue, refl, sym, ◌∙◌, ap, subst, arith}
 use Rattle.std.specs.Prelude.{MatchOption}
-use Rattle.std.specs.Option.{option_to_list}
-use Rattle.std.specs.List.{position, position_or_len}
+use Rattle.std.specs.List.{position, position_or_len, list_all}
 use Rattle.std.proofs.lemmas.List.{take_more}
 use Rattle.std.proofs.lemmas.List.Folds.{list_any-append}
 use Rattle.fd_language.specs.declared.TheConstants.{INFINITY}
@@ -10,21 +9,31 @@ use Rattle.fd_language.specs.declared.range_node.Need.{Need}
 use Rattle.fd_language.specs.declared.range_node.Feature.{Feature}
 use Rattle.fd_language.specs.declared.range_node.RangeNode.{RangeNode}
 use Rattle.fd_language.specs.Range.{Range}
-use Rattle.fd_language.specs.Flat.{nodes_of, spelled, spelled-nodes, built, builds_range}
-use Rattle.range_code.proofs.Opened.{length_map}
+use Rattle.fd_language.specs.Flat.{nodes_of, spelled, spelled-nodes}
 use Rattle.fd_language.specs.RangeVerdict.{is_accepted}
 use Rattle.fd_language.specs.Needs.{needs, once}
 use Rattle.fd_language.specs.declared.range_node.Feature.TheVariants as feature
 use Rattle.fd_language.specs.Family.{count_up}
 use Rattle.fd_language.specs.Features.{each_once, is_same_pair, feature_at, node_features}
-use Rattle.fd_language.proofs.Lemmas.{whole_nodes}
+use Rattle.fd_language.proofs.Lemmas.{whole_nodes, bounded_values, needs_met}
 use Rattle.range_code.specs.Asked.{need_in}
 use Rattle.range_code.specs.Nodes.{node_variables, node_variable, listed, rename_node}
-use Rattle.range_code.specs.Slots.{slots_of, slot_of, in_slots, slot_features}
-use Rattle.range_code.specs.Kinds.{has_pair, all_told}
-use Rattle.range_code.specs.Heights.{values_after, sets_after, peak}
-use Rattle.range_code.specs.Walked.{all_steps}
-use Rattle.range_code.specs.Compiled.{IsCompiled}
+use Rattle.range_code.specs.Slots.{slots_of, slot_of, slot_needs, in_slots, slot_features}
+use Rattle.range_code.specs.Kinds.{has_pair, all_told, val_slots}
+use Rattle.range_code.specs.Heights.{tallest}
+use Rattle.range_code.specs.Folded.{folded_nodes}
+use Rattle.range_code.specs.Pieces.{piece_node, taken, literals, FitsAlone}
+use Rattle.range_code.specs.Instructions.{integers}
+use Rattle.range_code.specs.declared.fold.Piece.{Piece}
+use Rattle.range_code.specs.Compiled.{IsCompiled, AreStepsOf}
+use Rattle.fd_language.specs.declared.range_node.Need.TheVariants as need
+use Rattle.fd_language.specs.Family.{IsFamily}
+use Rattle.fd_language.specs.CheckLaws.{AreBounded}
+use Rattle.fd_language.specs.Check.{fill_range}
+use Rattle.fd_language.specs.Needs.{meets, meets_needs}
+use Rattle.range_code.proofs.Fits.{divides, fits}
+use Rattle.range_code.proofs.Posted.{fits_table}
+use Rattle.range_code.proofs.Folding.{pieces_are}
 use Rattle.range_code.specs.Forms.{IsForm}
 use Rattle.range_code.specs.declared.form.Form.{Form}
 use Rattle.range_code.specs.declared.compile.ReadKind.{ReadKind}
@@ -40,9 +49,9 @@ copied o x r P items ns e h f g =
     sym (spelled-nodes x) ∙ (ap spelled (same ∙ (f ∙ g)) ∙ spelled-nodes r)
 
 -- where no element passes, the first place that passes is the length
-pub none_passes : (p : ℕ → Bool) (xs : List ℕ) (n : ℕ) → position p xs ≡ None → n ≡ length xs → n ≡ position_or_len p xs
-none_passes p xs n e h = h ∙ by_test (nat_lt (position_or_len p xs) (length xs)) refl e where
-  within : (xs : List ℕ) → position_or_len p xs ≤ length xs
+pub none_passes : {X : Type 0} (p : X → Bool) (xs : List X) (n : ℕ) → position p xs ≡ None → n ≡ length xs → n ≡ position_or_len p xs
+none_passes {X} p xs n e h = h ∙ by_test (nat_lt (position_or_len p xs) (length xs)) refl e where
+  within : (xs : List X) → position_or_len p xs ≤ length xs
   within [] = omega arith
   within (x ∷ xs) = more (p x) (position_or_len p xs) (length xs) (within xs) where
     more : (c : Bool) (m n : ℕ) → m ≤ n → cond (not c) (1 + m) 0 ≤ suc n
@@ -52,6 +61,13 @@ none_passes p xs n e h = h ∙ by_test (nat_lt (position_or_len p xs) (length xs
   by_test : (c : Bool) → nat_lt (position_or_len p xs) (length xs) ≡ c → cond c (Some (position_or_len p xs)) None ≡ None → length xs ≡ position_or_len p xs
   by_test true f g = absurd cc
   by_test false f g = let w = within xs in grind (arith, w, f)
+
+-- and where one does, it is the place of the first
+pub one_passes : {X : Type 0} (p : X → Bool) (xs : List X) (n : ℕ) → position p xs ≡ Some n → n ≡ position_or_len p xs
+one_passes p xs n e = by_test (nat_lt (position_or_len p xs) (length xs)) e where
+  by_test : (c : Bool) → cond c (Some (position_or_len p xs)) None ≡ Some n → n ≡ position_or_len p xs
+  by_test true f = cc
+  by_test false f = absurd cc
 
 -- one more node
 pub numbered_more : (nodes : List RangeNode) (i : ℕ) (d : RangeNode) (old new : Numbered) → i < length nodes → IsNumbered (node_variables (take i nodes)) old →
@@ -75,37 +91,57 @@ met_more ds i d wanted old new l h f = f ∙ (ap (λ b. is_same_pair wanted (get
       swapped : (a b : Bool) → (a || b) ≡ (b || (a || false))
       swapped a b = grind arith
 
+-- No value is over the limit where each parameter is 1, which meets each need.
+one_meets : (ds : List (ℕ × Need)) → list_all (λ d. meets d.1 (pos 1)) ds ≡ true
+one_meets [] = refl
+one_meets ((y, need.Whole) ∷ ds) = one_meets ds
+one_meets ((y, need.Natural) ∷ ds) = one_meets ds
+one_meets ((y, need.Divisor) ∷ ds) = one_meets ds
+
+fits_alone : (r : Range) → is_accepted INFINITY r ≡ true → FitsAlone (in_slots r)
+fits_alone r a =
+    let met : meets_needs (λ y. pos 1) r ≡ true = one_meets (needs r) in
+    let family : IsFamily INFINITY (λ y. []) = record { rising = λ y. tt } in
+    let b : AreBounded INFINITY (λ y. []) (fill_range (λ y. pos 1) r) = bounded_values INFINITY r (λ y. pos 1) (λ y. []) a met family in
+    fits (slot_of r) (λ y. []) (λ y. []) (λ y. pos 1) r (λ y h. refl) b.values b.divisors (divides (λ y. []) (λ y. pos 1) r true (fits_table r a) (needs_met (λ y. pos 1) r met))
+
+-- what is gathered of a range
+pub record Gathers (q : Range) (ns : List RangeNode) (slots : List ℕ) (asked : List (ℕ × Need)) (ms : List RangeNode) (fs : List (ℕ × Feature)) (kinds : List (ℕ × ReadKind)) (ys : List ℕ) (by_slot : List (Option Need)) : Type 0 where
+  pub keys : List ℕ
+  pub nodes : ns ≡ nodes_of q
+  pub slotted : slots ≡ once (node_variables ns)
+  pub keyed : keys ≡ once (node_variables ns)
+  pub named : ms ≡ map (rename_node (λ y. position_or_len (nat_eq y) keys)) ns
+  pub features : fs ≡ each_once (node_features ms)
+  pub told : kinds ≡ all_told (λ s. has_pair fs (s, feature.Min)) (λ s. has_pair fs (s, feature.Max)) fs
+  pub vals : ys ≡ filter (λ s. has_pair fs (s, feature.Val)) (count_up 0 (length slots))
+  pub needed : by_slot ≡ map (need_in asked) slots
+
 -- the whole
-pub compiled : (r q : Range) (ns : List RangeNode) (slots keys : List ℕ) (asked : List (ℕ × Need)) (ms : List RangeNode) (fs : List (ℕ × Feature)) (kinds : List (ℕ × ReadKind)) (ys : List ℕ) (by_slot : List (Option Need)) (steps : Steps) (form : Form) (high : ℕ) →
-    IsTrue (is_accepted INFINITY r) → q ≡ r → ns ≡ nodes_of q → slots ≡ once (node_variables ns) → keys ≡ once (node_variables ns) → ms ≡ map (rename_node (λ y. position_or_len (nat_eq y) keys)) ns →
-    fs ≡ each_once (node_features ms) → kinds ≡ all_told (λ s. has_pair fs (s, feature.Min)) (λ s. has_pair fs (s, feature.Max)) fs → ys ≡ filter (λ s. has_pair fs (s, feature.Val)) (count_up 0 (length slots)) →
-    asked ≡ needs r → by_slot ≡ map (need_in asked) slots → ms ≡ all_steps steps → ((x : Range) → ms ≡ nodes_of x → IsForm x form) → high ≡ max (peak values_after ms 0) (peak sets_after ms 0) →
-    IsCompiled q slots by_slot fs kinds ys steps form high
-compiled r q ns slots keys asked ms fs kinds ys by_slot steps form high a e n s k m rd kd vl d b st fm hi =
-    let all : once (node_variables ns) ≡ slots_of q = ap once (ap node_variables n ∙ node_variables_of q) in
-    let named : ms ≡ nodes_of (in_slots q) = m ∙ (ap (λ l. map (rename_node (λ y. position_or_len (nat_eq y) l)) ns) (k ∙ all) ∙ (ap (map (rename_node (slot_of q))) n ∙ names_of (slot_of q) q)) in
-    let told : fs ≡ slot_features q = rd ∙ (ap (λ l. each_once (node_features l)) named ∙ ap each_once (whole_nodes feature_at (in_slots q))) in
+pub compiled : (r q : Range) (ns : List RangeNode) (slots : List ℕ) (asked : List (ℕ × Need)) (ms : List RangeNode) (fs : List (ℕ × Feature)) (kinds : List (ℕ × ReadKind)) (ys : List ℕ) (by_slot : List (Option Need)) (pieces : List Piece) (steps : Steps) (form : Form) (high : ℕ) →
+    IsTrue (is_accepted INFINITY r) → q ≡ r → asked ≡ needs r → Gathers q ns slots asked ms fs kinds ys by_slot →
+    reverse pieces ≡ fold taken [] ms → AreStepsOf by_slot ys (literals pieces) (map piece_node pieces) steps → ((x : Range) → ms ≡ nodes_of x → IsForm x form) → high ≡ tallest (map piece_node pieces) →
+    IsCompiled q slots by_slot fs kinds ys ms steps form high
+compiled r q ns slots asked ms fs kinds ys by_slot pieces steps form high a e d g ps st fm hi =
+    let all : once (node_variables ns) ≡ slots_of q = ap once (ap node_variables g.nodes ∙ node_variables_of q) in
+    let named : ms ≡ nodes_of (in_slots q) = g.named ∙ (ap (λ l. map (rename_node (λ y. position_or_len (nat_eq y) l)) ns) (g.keyed ∙ all) ∙ (ap (map (rename_node (slot_of q))) g.nodes ∙ names_of (slot_of q) q)) in
+    let told : fs ≡ slot_features q = g.features ∙ (ap (λ l. each_once (node_features l)) named ∙ ap each_once (whole_nodes feature_at (in_slots q))) in
+    let accepted : is_accepted INFINITY q ≡ true = subst (λ p. IsTrue (is_accepted INFINITY p)) (sym e) a in
+    let needed : by_slot ≡ slot_needs q = g.needed ∙ (ap (λ l. map (need_in l) slots) (d ∙ ap needs (sym e)) ∙ (ap (map (need_in (needs q))) (g.slotted ∙ all) ∙ needs_found q)) in
+    let val : ys ≡ val_slots q = g.vals ∙ (ap (λ l. filter (λ x. has_pair l (x, feature.Val)) (count_up 0 (length slots))) told
+    ∙ ap (λ l. filter (λ x. has_pair (slot_features q) (x, feature.Val)) (count_up 0 (length l))) (g.slotted ∙ all)) in
+    let folds = pieces_are (in_slots q) ms pieces (fits_alone q accepted) named ps in
     record {
-      accepted = subst (λ p. IsTrue (is_accepted INFINITY p)) (sym e) a;
-      slots = s ∙ all;
-      needs = b ∙ (ap (λ l. map (need_in l) slots) (d ∙ ap needs (sym e)) ∙ (ap (map (need_in (needs q))) (s ∙ all) ∙ needs_found q));
+      accepted = accepted;
+      slots = g.slotted ∙ all;
+      needs = needed;
       features = told;
-      kinds = kd ∙ ap (λ l. all_told (λ s. has_pair l (s, feature.Min)) (λ s. has_pair l (s, feature.Max)) l) told;
-      vals = vl ∙ (ap (λ l. filter (λ x. has_pair l (x, feature.Val)) (count_up 0 (length slots))) told
-          ∙ ap (λ l. filter (λ x. has_pair (slot_features q) (x, feature.Val)) (count_up 0 (length l))) (s ∙ all));
-      nodes = sym st ∙ named;
+      kinds = g.told ∙ ap (λ l. all_told (λ s. has_pair l (s, feature.Min)) (λ s. has_pair l (s, feature.Max)) l) told;
+      vals = val;
+      nodes = named;
+      steps = subst (λ ns. AreStepsOf ns (val_slots q) (integers (folded_nodes q)) (folded_nodes q) steps) needed
+          (subst (λ l. AreStepsOf by_slot l (integers (folded_nodes q)) (folded_nodes q) steps) val
+          (subst (λ l. AreStepsOf by_slot ys l (folded_nodes q) steps) folds.values (subst (λ l. AreStepsOf by_slot ys (literals pieces) l steps) folds.nodes st)));
       form = fm (in_slots q) named;
-      height = hi ∙ ap (λ l. max (peak values_after l 0) (peak sets_after l 0)) named;
+      height = hi ∙ ap tallest folds.nodes;
     }
-
--- a range has a last node
-pub put_last : (ms front : List RangeNode) (o : Option RangeNode) (m : RangeNode) → ms ≡ front ++ option_to_list o → o ≡ Some m → ms ≡ front ++ m ∷ []
-put_last ms front o m e f = e ∙ ap (λ q. front ++ option_to_list q) f
-
-nodes_there : (r : Range) (ns : List RangeNode) → ns ≡ nodes_of r → 0 < length ns
-nodes_there r [] e = absurd (let k : None ≡ Some r = ap (λ l. built l [] []) e ∙ builds_range r [] [] in cc)
-nodes_there r (n ∷ ns) e = omega arith
-
-pub some_node : (q : Range) (ns : List RangeNode) (keys : List ℕ) (ms l : List RangeNode) (n : ℕ) → ns ≡ nodes_of q → ms ≡ map (rename_node (λ y. position_or_len (nat_eq y) keys)) ns → l ≡ ms → length l ≡ n → 0 < n
-some_node q ns keys ms l n e m d h =
-    subst (λ k. 0 < k) (sym (length_map (rename_node (λ y. position_or_len (nat_eq y) keys)) ns) ∙ (ap length (sym (d ∙ m)) ∙ h)) (nodes_there q ns e)

@@ -1,10 +1,13 @@
 -- There is room for what waits, node by node.
-use Rattle.std.proofs.Common.{◌≡◌, ℕ, ◌+◌, ◌<◌, ◌≤◌, List, [], ◌∷◌, ◌++◌, length, max, drop, get_or, sym, ◌∙◌, subst, arith, vec_len, vec_capacity}
-use Rattle.std.proofs.lemmas.List.{at_drop_more, drop_all}
+use Rattle.std.proofs.Common.{◌≡◌, ℕ, ◌+◌, ◌<◌, ◌≤◌, List, [], ◌∷◌, length, max, map, get_or, sym, ◌∙◌, subst, arith, vec_len, vec_capacity}
+use Rattle.std.proofs.lemmas.List.{at_drop_more}
 use Rattle.fd_language.specs.declared.range_node.RangeNode.{RangeNode}
 use Rattle.fd_language.specs.declared.range_node.RangeNode.TheVariants as node
 use Rattle.range_code.specs.declared.work.Work.{Work}
 use Rattle.range_code.specs.declared.evaluate.Steps.{Steps}
+use Rattle.range_code.specs.declared.instr.RangeInstr.{RangeInstr}
+use Rattle.range_code.specs.Instructions.{node_of}
+use Rattle.range_code.specs.Walked.{steps_from}
 use Rattle.range_code.specs.Heights.{values_after, sets_after, peak, HasRoom, IsCounted, KeepsRoom}
 
 -- what is counted doesn't fall where more waits before
@@ -85,24 +88,15 @@ room_more m ms old new h c k = record {
   sets = subst (λ n. peak sets_after ms (length new.sets.sets) ≤ n) (sym k.sets) (peak_more sets_after sets_grow m ms (length old.sets.sets) (length new.sets.sets) old.sets.room h.sets c.sets);
 }
 
--- the same at a place of the front
-at_place : (s : Steps) (i : ℕ) (d : RangeNode) (w : Work) → i < length s.front.items → HasRoom (drop i s.front.items ++ s.last ∷ []) w → HasRoom (get_or s.front.items i d ∷ (drop (i + 1) s.front.items ++ s.last ∷ [])) w
-at_place s i d w l h = subst (λ ms. HasRoom ms w) (at_drop_more (λ ns. ns ++ s.last ∷ []) s.front.items i d l) h
+-- the same at a place of the instructions
+at_place : (s : Steps) (i : ℕ) (d : RangeInstr) (w : Work) → i < length s.instrs.items → HasRoom (steps_from s i) w → HasRoom (node_of s.constants.items (get_or s.instrs.items i d) ∷ steps_from s (i + 1)) w
+at_place s i d w l h = subst (λ ms. HasRoom ms w) (at_drop_more (map (node_of s.constants.items)) s.instrs.items i d l) h
 
-pub room_at : (s : Steps) (i : ℕ) (d : RangeNode) (w : Work) → i < length s.front.items → HasRoom (drop i s.front.items ++ s.last ∷ []) w → HasRoom (get_or s.front.items i d ∷ []) w
-room_at s i d w l h = room_first (get_or s.front.items i d) (drop (i + 1) s.front.items ++ s.last ∷ []) w (at_place s i d w l h)
+pub room_there : (s : Steps) (i : ℕ) (d : RangeInstr) (w : Work) → i < length s.instrs.items → HasRoom (steps_from s i) w → HasRoom (node_of s.constants.items (get_or s.instrs.items i d) ∷ []) w
+room_there s i d w l h = room_first (node_of s.constants.items (get_or s.instrs.items i d)) (steps_from s (i + 1)) w (at_place s i d w l h)
 
-pub room_behind : (s : Steps) (i : ℕ) (d : RangeNode) (old new : Work) → i < length s.front.items → HasRoom (drop i s.front.items ++ s.last ∷ []) old → IsCounted (get_or s.front.items i d) old new → KeepsRoom old new → HasRoom (drop (i + 1) s.front.items ++ s.last ∷ []) new
-room_behind s i d old new l h c k = room_more (get_or s.front.items i d) (drop (i + 1) s.front.items ++ s.last ∷ []) old new (at_place s i d old l h) c k
-
-pub room_there : (s : Steps) (i : ℕ) (d : RangeNode) (w : Work) (items : List RangeNode) → items ≡ s.front.items → i < length items → HasRoom (drop i s.front.items ++ s.last ∷ []) w → HasRoom (get_or items i d ∷ []) w
-room_there s i d w items e = subst (λ l. i < length l → HasRoom (drop i s.front.items ++ s.last ∷ []) w → HasRoom (get_or l i d ∷ []) w) (sym e) (room_at s i d w)
-
-pub room_next : (s : Steps) (i : ℕ) (d : RangeNode) (old new : Work) (items : List RangeNode) → items ≡ s.front.items → i < length items → HasRoom (drop i s.front.items ++ s.last ∷ []) old → IsCounted (get_or items i d) old new → KeepsRoom old new → HasRoom (drop (i + 1) s.front.items ++ s.last ∷ []) new
-room_next s i d old new items e = subst (λ l. i < length l → HasRoom (drop i s.front.items ++ s.last ∷ []) old → IsCounted (get_or l i d) old new → KeepsRoom old new → HasRoom (drop (i + 1) s.front.items ++ s.last ∷ []) new) (sym e) (room_behind s i d old new)
-
-pub room_last : (s : Steps) (i : ℕ) (w : Work) → length s.front.items ≤ i → HasRoom (drop i s.front.items ++ s.last ∷ []) w → HasRoom (s.last ∷ []) w
-room_last s i w l h = subst (λ ms. HasRoom (ms ++ s.last ∷ []) w) (drop_all i s.front.items l) h
+pub room_next : (s : Steps) (i : ℕ) (d : RangeInstr) (old new : Work) → i < length s.instrs.items → HasRoom (steps_from s i) old → IsCounted (node_of s.constants.items (get_or s.instrs.items i d)) old new → KeepsRoom old new → HasRoom (steps_from s (i + 1)) new
+room_next s i d old new l h c k = room_more (node_of s.constants.items (get_or s.instrs.items i d)) (steps_from s (i + 1)) old new (at_place s i d old l h) c k
 
 pub keeps_on : (a b c : Work) → KeepsRoom a b → KeepsRoom b c → KeepsRoom a c
 keeps_on a b c h g = record { values = g.values ∙ h.values; sets = g.sets ∙ h.sets }

@@ -47,7 +47,7 @@ expr_reads_placed (Mul a b) y h = has_both (expr_places a) (expr_places b) y (ex
 expr_reads_placed (DivDown a b) y h = has_both (expr_places a) (expr_places b) y (expr_reads a) (expr_reads b) (expr_reads_placed a y) (expr_reads_placed b y) h
 expr_reads_placed (DivUp a b) y h = has_both (expr_places a) (expr_places b) y (expr_reads a) (expr_reads b) (expr_reads_placed a y) (expr_reads_placed b y) h
 
-reads_placed : (r : Range) (y : ℕ) → has (reads r) y ≡ true → has (of_places (range_places r)) y ≡ true
+pub reads_placed : (r : Range) (y : ℕ) → has (reads r) y ≡ true → has (of_places (range_places r)) y ≡ true
 reads_placed (Span a b) v h = has_both (expr_places a) (expr_places b) v (expr_reads a) (expr_reads b) (expr_reads_placed a v) (expr_reads_placed b v) h
 reads_placed (Union r q) v h = has_both (range_places r) (range_places q) v (reads r) (reads q) (reads_placed r v) (reads_placed q v) h
 reads_placed (Inter r q) v h = has_both (range_places r) (range_places q) v (reads r) (reads q) (reads_placed r v) (reads_placed q v) h
@@ -168,7 +168,7 @@ seen_arg count (Var k) h = h
 seen_arg count (Int z) h = absurd h
 
 -- a variable that is read is no parameter
-no_parameter : (xs ys : List ℕ) (y : ℕ) → list_all (λ x. not (has ys x)) xs ≡ true → has ys y ≡ true → has xs y ≡ false
+pub no_parameter : (xs ys : List ℕ) (y : ℕ) → list_all (λ x. not (has ys x)) xs ≡ true → has ys y ≡ true → has xs y ≡ false
 no_parameter [] ys y h g = refl
 no_parameter (x ∷ xs) ys y h g = both (x == y) (has xs y) (apart (cases_Bool (x == y))) (no_parameter xs ys y (right (not (has ys x)) (list_all (λ z. not (has ys z)) xs) h) g) where
   right : (a b : Bool) → (a && b) ≡ true → b ≡ true

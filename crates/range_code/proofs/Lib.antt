@@ -13,6 +13,9 @@ pub mod Opening
 pub mod Counting
 pub mod Telling
 pub mod Posted
+pub mod Folding
+pub mod Placing
+pub mod Testing
 pub mod Running
 pub mod Forms
 pub mod Renaming

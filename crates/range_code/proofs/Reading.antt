@@ -1,5 +1,5 @@
 -- Each node that is read leaves the values and sets that wait those of the terms and ranges that wait.
-use Rattle.std.proofs.Common.{◌≡◌, ℕ, ℤ, List, [], ◌∷◌, ◌++◌, filter, Option, Some, None, refl, sym, ◌∙◌, ap, subst, ◌⊎◌, inl, inr}
+use Rattle.std.proofs.Common.{◌≡◌, ℕ, ℤ, pos, get_or, List, [], ◌∷◌, ◌++◌, filter, Option, Some, None, refl, sym, ◌∙◌, ap, subst, ◌⊎◌, inl, inr}
 use Rattle.fd_language.specs.declared.TheConstants.{INFINITY}
 use Rattle.fd_language.specs.declared.range_node.RangeNode.{RangeNode}
 use Rattle.fd_language.specs.declared.range_node.RangeNode.TheVariants as node
@@ -8,9 +8,12 @@ use Rattle.fd_language.specs.Range.{Range, Span, One, Dom, Union, Inter, Outside
 use Rattle.fd_language.specs.Check.{fill_range}
 use Rattle.fd_language.specs.Flat.{built}
 use Rattle.range_code.specs.declared.work.Work.{Work}
-use Rattle.range_code.specs.Work.{leaf_value, filled_value, filled_set, stacked_values, stacked_sets, IsPending, Follows}
+use Rattle.range_code.specs.Work.{leaf_value, filled_value, filled_set, stacked_values, stacked_sets, IsPending, Follows, IsTaken}
 use Rattle.domain_ranges.specs.Narrowing.{between}
 use Rattle.range_code.specs.Steps.{PushesValue, PushesSet, Operates, Spans, Singles, either, Joins, Meets, outside, Complements, moved, Moves}
+use Rattle.range_code.specs.declared.instr.RangeInstr.{RangeInstr}
+use Rattle.range_code.specs.declared.instr.RangeInstr.TheVariants as instr
+use Rattle.range_code.specs.Instructions.{operator_of, node_of}
 use Rattle.range_code.proofs.Tables.{one_is, dom_is, union_is, inter_is, outside_is, plus_is, minus_is, times_is, over_is}
 
 follows : (S : Family) (p : ℕ → ℤ) (ns : List RangeNode) (rs : List Range) (ts : List Expr) (o : Option Range) (w : Work) → o ≡ built ns rs ts → IsPending S p rs ts w → Follows S p ns o w
@@ -172,37 +175,105 @@ module _ (S : Family) (p : ℕ → ℤ) (ns : List RangeNode) (old new : Work) w
       follows S p ns (Over r c ∷ rs) [] (built ns (Over r c ∷ rs) []) new refl
       (put_range rs (stacked_sets S p rs) (Over r c) (moved node.Over (filled_set S p r) (filled_value S p c)) refl (over_is INFINITY (in_range INFINITY S (fill_range p r)) (filled_value S p c)) made.0 made.1)
 
--- the same for each kind of node that the code tells apart
-abbrev pub Taken : Family → (ℕ → ℤ) → RangeNode → Work → Work → Type 0
-Taken S p m old new = (ns : List RangeNode) (rs : List Range) (ts : List Expr) → IsPending S p rs ts old → Follows S p ns (built (m ∷ ns) rs ts) new
+-- the same for each kind of instruction that the code tells apart
 
-at_node : (S : Family) (p : ℕ → ℤ) (m : RangeNode) (old new : Work) (P : RangeNode → Type 0) → (P m → Taken S p m old new) → (k : RangeNode) → k ≡ m → P k → Taken S p k old new
-at_node S p m old new P f k e h = subst (λ j. Taken S p j old new) (sym e) (f (subst P e h))
+at_instr : (P : RangeInstr → Type 0) (m k : RangeInstr) → k ≡ m → P m → P k
+at_instr P m k e h = subst P (sym e) h
 
-module _ (S : Family) (p : ℕ → ℤ) (old new : Work) where
-  pub leaf_taken : (m : RangeNode) → (((z : ℤ) × (m ≡ node.Int z)) ⊎ ((m ≡ node.Infinity) ⊎ (((x : ℕ) × (m ≡ node.Param x)) ⊎ (((y : ℕ) × (m ≡ node.Min y)) ⊎ (((y : ℕ) × (m ≡ node.Max y)) ⊎ ((y : ℕ) × (m ≡ node.Val y))))))) → PushesValue (leaf_value S p m) old new → Taken S p m old new
-  leaf_taken m is f = elim is [ inl e0 ↦ at_node S p (node.Int e0.0) old new (λ k. PushesValue (leaf_value S p k) old new) (λ f ns rs ts w. read_int S p ns old new e0.0 rs ts w f) m e0.1 f | inr h0 ↦ elim h0 [ inl e1 ↦ at_node S p node.Infinity old new (λ k. PushesValue (leaf_value S p k) old new) (λ f ns rs ts w. read_infinity S p ns old new rs ts w f) m e1 f | inr h1 ↦ elim h1 [ inl e2 ↦ at_node S p (node.Param e2.0) old new (λ k. PushesValue (leaf_value S p k) old new) (λ f ns rs ts w. read_param S p ns old new e2.0 rs ts w f) m e2.1 f | inr h2 ↦ elim h2 [ inl e3 ↦ at_node S p (node.Min e3.0) old new (λ k. PushesValue (leaf_value S p k) old new) (λ f ns rs ts w. read_min S p ns old new e3.0 rs ts w f) m e3.1 f | inr h3 ↦ elim h3 [ inl e4 ↦ at_node S p (node.Max e4.0) old new (λ k. PushesValue (leaf_value S p k) old new) (λ f ns rs ts w. read_max S p ns old new e4.0 rs ts w f) m e4.1 f | inr h4 ↦ at_node S p (node.Val h4.0) old new (λ k. PushesValue (leaf_value S p k) old new) (λ f ns rs ts w. read_val S p ns old new h4.0 rs ts w f) m h4.1 f ] ] ] ] ]
+abbrev IsPush : RangeInstr → Type 0
+IsPush i = ((c : ℕ) × (i ≡ instr.PushConst c)) ⊎ (((x : ℕ) × (i ≡ instr.PushArg x)) ⊎ (((y : ℕ) × (i ≡ instr.PushMin y)) ⊎ (((y : ℕ) × (i ≡ instr.PushMax y)) ⊎ ((y : ℕ) × (i ≡ instr.PushVal y)))))
 
-  pub operator_taken : (m : RangeNode) → ((m ≡ node.Add) ⊎ ((m ≡ node.Sub) ⊎ ((m ≡ node.Mul) ⊎ ((m ≡ node.DivDown) ⊎ (m ≡ node.DivUp))))) → Operates m old new → Taken S p m old new
-  operator_taken m is f = elim is [ inl e0 ↦ at_node S p node.Add old new (λ k. Operates k old new) (λ f ns rs ts w. read_add S p ns old new rs ts w f) m e0 f | inr h0 ↦ elim h0 [ inl e1 ↦ at_node S p node.Sub old new (λ k. Operates k old new) (λ f ns rs ts w. read_sub S p ns old new rs ts w f) m e1 f | inr h1 ↦ elim h1 [ inl e2 ↦ at_node S p node.Mul old new (λ k. Operates k old new) (λ f ns rs ts w. read_mul S p ns old new rs ts w f) m e2 f | inr h2 ↦ elim h2 [ inl e3 ↦ at_node S p node.DivDown old new (λ k. Operates k old new) (λ f ns rs ts w. read_div_down S p ns old new rs ts w f) m e3 f | inr h3 ↦ at_node S p node.DivUp old new (λ k. Operates k old new) (λ f ns rs ts w. read_div_up S p ns old new rs ts w f) m h3 f ] ] ] ]
+abbrev IsTermOperator : RangeInstr → Type 0
+IsTermOperator i = (i ≡ instr.Add) ⊎ ((i ≡ instr.Sub) ⊎ ((i ≡ instr.Mul) ⊎ ((i ≡ instr.DivDown) ⊎ (i ≡ instr.DivUp))))
 
-  pub span_taken : (m : RangeNode) → m ≡ node.Span → Spans old new → Taken S p m old new
-  span_taken m is f = at_node S p node.Span old new (λ k. Spans old new) (λ f ns rs ts w. read_span S p ns old new rs ts w f) m is f
+abbrev IsMove : RangeInstr → Type 0
+IsMove i = (i ≡ instr.Plus) ⊎ ((i ≡ instr.Minus) ⊎ ((i ≡ instr.Times) ⊎ (i ≡ instr.Over)))
 
-  pub one_taken : (m : RangeNode) → m ≡ node.One → Singles old new → Taken S p m old new
-  one_taken m is f = at_node S p node.One old new (λ k. Singles old new) (λ f ns rs ts w. read_one S p ns old new rs ts w f) m is f
+-- the node of an operator is the same for each table
+pub term_node : (k : List ℤ) (i : RangeInstr) → IsTermOperator i → node_of k i ≡ operator_of i
+term_node k i is = elim is [
+  | inl e ↦ at_instr (λ j. node_of k j ≡ operator_of j) instr.Add i e refl
+  | inr a ↦ elim a [
+    | inl e ↦ at_instr (λ j. node_of k j ≡ operator_of j) instr.Sub i e refl
+    | inr b ↦ elim b [
+      | inl e ↦ at_instr (λ j. node_of k j ≡ operator_of j) instr.Mul i e refl
+      | inr c ↦ elim c [ inl e ↦ at_instr (λ j. node_of k j ≡ operator_of j) instr.DivDown i e refl | inr e ↦ at_instr (λ j. node_of k j ≡ operator_of j) instr.DivUp i e refl ]
+    ]
+  ]
+]
 
-  pub union_taken : (m : RangeNode) → m ≡ node.Union → Joins old new → Taken S p m old new
-  union_taken m is f = at_node S p node.Union old new (λ k. Joins old new) (λ f ns rs ts w. read_union S p ns old new rs ts w f) m is f
+pub move_node : (k : List ℤ) (i : RangeInstr) → IsMove i → node_of k i ≡ operator_of i
+move_node k i is = elim is [
+  | inl e ↦ at_instr (λ j. node_of k j ≡ operator_of j) instr.Plus i e refl
+  | inr a ↦ elim a [
+    | inl e ↦ at_instr (λ j. node_of k j ≡ operator_of j) instr.Minus i e refl
+    | inr b ↦ elim b [
+      | inl e ↦ at_instr (λ j. node_of k j ≡ operator_of j) instr.Times i e refl
+      | inr e ↦ at_instr (λ j. node_of k j ≡ operator_of j) instr.Over i e refl
+    ]
+  ]
+]
 
-  pub inter_taken : (m : RangeNode) → m ≡ node.Inter → Meets old new → Taken S p m old new
-  inter_taken m is f = at_node S p node.Inter old new (λ k. Meets old new) (λ f ns rs ts w. read_inter S p ns old new rs ts w f) m is f
+module _ (S : Family) (p : ℕ → ℤ) (k : List ℤ) (old new : Work) where
+  abbrev Pushes : RangeInstr → Type 0
+  Pushes i = PushesValue (leaf_value S p (node_of k i)) old new → IsTaken S p (node_of k i) old new
 
-  pub outside_taken : (m : RangeNode) → m ≡ node.Outside → Complements old new → Taken S p m old new
-  outside_taken m is f = at_node S p node.Outside old new (λ k. Complements old new) (λ f ns rs ts w. read_outside S p ns old new rs ts w f) m is f
+  pub push_taken : (i : RangeInstr) → IsPush i → PushesValue (leaf_value S p (node_of k i)) old new → IsTaken S p (node_of k i) old new
+  push_taken i is = elim is [
+    | inl e ↦ at_instr Pushes (instr.PushConst e.0) i e.1 (λ f ns rs ts w. read_int S p ns old new (get_or k e.0 (pos 0)) rs ts w f)
+    | inr a ↦ elim a [
+      | inl e ↦ at_instr Pushes (instr.PushArg e.0) i e.1 (λ f ns rs ts w. read_param S p ns old new e.0 rs ts w f)
+      | inr b ↦ elim b [
+        | inl e ↦ at_instr Pushes (instr.PushMin e.0) i e.1 (λ f ns rs ts w. read_min S p ns old new e.0 rs ts w f)
+        | inr c ↦ elim c [ inl e ↦ at_instr Pushes (instr.PushMax e.0) i e.1 (λ f ns rs ts w. read_max S p ns old new e.0 rs ts w f) | inr e ↦ at_instr Pushes (instr.PushVal e.0) i e.1 (λ f ns rs ts w. read_val S p ns old new e.0 rs ts w f) ]
+      ]
+    ]
+  ]
 
-  pub moved_taken : (m : RangeNode) → ((m ≡ node.Plus) ⊎ ((m ≡ node.Minus) ⊎ ((m ≡ node.Times) ⊎ (m ≡ node.Over)))) → Moves m old new → Taken S p m old new
-  moved_taken m is f = elim is [ inl e0 ↦ at_node S p node.Plus old new (λ k. Moves k old new) (λ f ns rs ts w. read_plus S p ns old new rs ts w f) m e0 f | inr h0 ↦ elim h0 [ inl e1 ↦ at_node S p node.Minus old new (λ k. Moves k old new) (λ f ns rs ts w. read_minus S p ns old new rs ts w f) m e1 f | inr h1 ↦ elim h1 [ inl e2 ↦ at_node S p node.Times old new (λ k. Moves k old new) (λ f ns rs ts w. read_times S p ns old new rs ts w f) m e2 f | inr h2 ↦ at_node S p node.Over old new (λ k. Moves k old new) (λ f ns rs ts w. read_over S p ns old new rs ts w f) m h2 f ] ] ]
+  abbrev Operating : RangeInstr → Type 0
+  Operating i = Operates (operator_of i) old new → IsTaken S p (node_of k i) old new
 
-  pub dom_taken : (m : RangeNode) (y : ℕ) → m ≡ node.Dom y → IsRising 0 INFINITY (S y) → PushesSet (S y) old new → Taken S p m old new
-  dom_taken m y is r f = at_node S p (node.Dom y) old new (λ k. PushesSet (S y) old new) (λ f ns rs ts w. read_dom S p ns old new y rs ts r w f) m is f
+  pub operator_taken : (i : RangeInstr) → IsTermOperator i → Operates (operator_of i) old new → IsTaken S p (node_of k i) old new
+  operator_taken i is = elim is [
+    | inl e ↦ at_instr Operating instr.Add i e (λ f ns rs ts w. read_add S p ns old new rs ts w f)
+    | inr a ↦ elim a [
+      | inl e ↦ at_instr Operating instr.Sub i e (λ f ns rs ts w. read_sub S p ns old new rs ts w f)
+      | inr b ↦ elim b [
+        | inl e ↦ at_instr Operating instr.Mul i e (λ f ns rs ts w. read_mul S p ns old new rs ts w f)
+        | inr c ↦ elim c [
+          | inl e ↦ at_instr Operating instr.DivDown i e (λ f ns rs ts w. read_div_down S p ns old new rs ts w f)
+          | inr e ↦ at_instr Operating instr.DivUp i e (λ f ns rs ts w. read_div_up S p ns old new rs ts w f)
+        ]
+      ]
+    ]
+  ]
+
+  abbrev Moving : RangeInstr → Type 0
+  Moving i = Moves (operator_of i) old new → IsTaken S p (node_of k i) old new
+
+  pub moved_taken : (i : RangeInstr) → IsMove i → Moves (operator_of i) old new → IsTaken S p (node_of k i) old new
+  moved_taken i is = elim is [
+    | inl e ↦ at_instr Moving instr.Plus i e (λ f ns rs ts w. read_plus S p ns old new rs ts w f)
+    | inr a ↦ elim a [
+      | inl e ↦ at_instr Moving instr.Minus i e (λ f ns rs ts w. read_minus S p ns old new rs ts w f)
+      | inr b ↦ elim b [ inl e ↦ at_instr Moving instr.Times i e (λ f ns rs ts w. read_times S p ns old new rs ts w f) | inr e ↦ at_instr Moving instr.Over i e (λ f ns rs ts w. read_over S p ns old new rs ts w f) ]
+    ]
+  ]
+
+  pub span_taken : (i : RangeInstr) → i ≡ instr.Span → Spans old new → IsTaken S p (node_of k i) old new
+  span_taken i is f = at_instr (λ j. IsTaken S p (node_of k j) old new) instr.Span i is (λ ns rs ts w. read_span S p ns old new rs ts w f)
+
+  pub one_taken : (i : RangeInstr) → i ≡ instr.One → Singles old new → IsTaken S p (node_of k i) old new
+  one_taken i is f = at_instr (λ j. IsTaken S p (node_of k j) old new) instr.One i is (λ ns rs ts w. read_one S p ns old new rs ts w f)
+
+  pub union_taken : (i : RangeInstr) → i ≡ instr.Union → Joins old new → IsTaken S p (node_of k i) old new
+  union_taken i is f = at_instr (λ j. IsTaken S p (node_of k j) old new) instr.Union i is (λ ns rs ts w. read_union S p ns old new rs ts w f)
+
+  pub inter_taken : (i : RangeInstr) → i ≡ instr.Inter → Meets old new → IsTaken S p (node_of k i) old new
+  inter_taken i is f = at_instr (λ j. IsTaken S p (node_of k j) old new) instr.Inter i is (λ ns rs ts w. read_inter S p ns old new rs ts w f)
+
+  pub outside_taken : (i : RangeInstr) → i ≡ instr.Outside → Complements old new → IsTaken S p (node_of k i) old new
+  outside_taken i is f = at_instr (λ j. IsTaken S p (node_of k j) old new) instr.Outside i is (λ ns rs ts w. read_outside S p ns old new rs ts w f)
+
+  pub dom_taken : (i : RangeInstr) (y : ℕ) → i ≡ instr.PushDom y → IsRising 0 INFINITY (S y) → PushesSet (S y) old new → IsTaken S p (node_of k i) old new
+  dom_taken i y is r f = at_instr (λ j. IsTaken S p (node_of k j) old new) (instr.PushDom y) i is (λ ns rs ts w. read_dom S p ns old new y rs ts r w f)

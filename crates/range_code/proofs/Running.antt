@@ -10,7 +10,7 @@ use Rattle.fd_language.specs.declared.range_node.Feature.{Feature}
 use Rattle.fd_language.specs.declared.range_node.RangeNode.{RangeNode}
 use Rattle.fd_language.specs.declared.range_node.Feature.TheVariants as feature
 use Rattle.fd_language.specs.Family.{Family, has, universe, IsRising, IsFamily, IsSubset, count_up}
-use Rattle.fd_language.proofs.Lemmas.{rising_inside, bounded_values, needs_met, two, reads_map, set_same, whole_nodes}
+use Rattle.fd_language.proofs.Lemmas.{rising_inside, bounded_values, needs_met, two, set_same, whole_nodes}
 use Rattle.fd_language.specs.Range.{Range, Span, One, Dom, Union, Inter, Outside, Plus, Minus, Times, Over, Expr, Number, Infinity, Param, Min, Max, Val, Add, Sub, Mul, DivDown, DivUp, reads, vals, in_range, set_of, is_none_left, is_several}
 use Rattle.fd_language.specs.Needs.{meets_needs}
 use Rattle.fd_language.specs.Check.{fill, fill_range}
@@ -27,7 +27,12 @@ use Rattle.range_code.specs.Slots.{slot_of, in_slots, slots_of, slot_needs, need
 use Rattle.range_code.specs.Kinds.{has_pair, val_slots}
 use Rattle.range_code.specs.Frames.{IsFrame, slot_variable, slot_integer, family_of, slot_set, posted}
 use Rattle.range_code.specs.Nodes.{IsSeen, IsReadable}
-use Rattle.range_code.specs.Standing.{opens, standing_of}
+use Rattle.range_code.specs.Standing.{opens, standing_of, tested, IsTestSeen, TestRises}
+use Rattle.range_code.specs.declared.instr.RangeInstr.{RangeInstr}
+use Rattle.range_code.specs.Folded.{folded_range, folded_nodes}
+use Rattle.range_code.specs.Instructions.{without_need, tests_of}
+use Rattle.range_code.proofs.Folding.{set_folded, range_fits_folded, readable_folded}
+use Rattle.range_code.proofs.Testing.{tested_is, tests_seen, some_seen, any_tested, reads_rise}
 use Rattle.range_code.specs.Work.{RangeFits, filled_set}
 use Rattle.fd_language.specs.Features.{feature_at}
 use Rattle.range_code.proofs.Fits.{divides, fits}
@@ -152,12 +157,12 @@ module _ (sets : List (List ℕ)) (r : Range) (args : List Arg) (accepted : is_a
   features_seen_all : All Seen (features_of (in_slots r))
   features_seen_all = all_once Seen (range_features (in_slots r)) (subst (All Seen) (whole_nodes feature_at (in_slots r)) (features_seen (length sets) args (nodes_of (in_slots r)) read_nodes))
 
-  pub features_there : (ds : List (ℕ × Feature)) → ds ≡ features_of (in_slots r) → All Seen ds
-  features_there ds e = subst (All Seen) (sym e) features_seen_all
-
   pub vals_there : (ys : List ℕ) → ys ≡ val_slots r → All (IsSeen (length sets) args) ys
   vals_there ys e = subst (All (IsSeen (length sets) args)) (sym e)
       (all_kept (λ s. has_pair (features_of (in_slots r)) (s, feature.Val)) (IsSeen (length sets) args) (count_up 0 (length (slots_of r))) (λ s h. one_pair (IsSeen (length sets) args) (features_of (in_slots r)) s feature.Val features_seen_all h))
+
+  pub tests_there : (is : List RangeInstr) → is ≡ tests_of r → All (IsTestSeen (length sets) args) is
+  tests_there is e = subst (All (IsTestSeen (length sets) args)) (sym e) (tests_seen (length sets) args (without_need 0 (slot_needs r)) (val_slots r) (some_seen (length sets) args (slot_needs r) fit) (vals_there (val_slots r) refl))
 
   met : meets_needs (by_variable sets r args) r ≡ true
   met = frame_meets (length sets) r args accepted fit
@@ -166,11 +171,8 @@ module _ (sets : List (List ℕ)) (r : Range) (args : List Arg) (accepted : is_a
   abbrev Rising : Family
   Rising y = cond (has (reads r) y) (Sets sets r args (slot_of r y)) []
 
-  read_rises : All (λ d. IsRising 0 INFINITY (Sets sets r args d.0)) (features_of (in_slots r)) → (y : ℕ) → has (reads r) y ≡ true → IsRising 0 INFINITY (Sets sets r args (slot_of r y))
-  read_rises rises y h =
-      let there : has (reads (in_slots r)) (slot_of r y) ≡ true = subst (λ l. has l (slot_of r y) ≡ true) (sym (reads_map (slot_of r) r)) (has_map (slot_of r) (reads r) y h) in
-      one_of (λ x. IsRising 0 INFINITY (Sets sets r args x)) (features_of (in_slots r)) (slot_of r y) rises
-      (any_read (λ z. z == slot_of r y) (in_slots r) ∙ (has_any (reads (in_slots r)) (slot_of r y) ∙ there))
+  read_rises : All (TestRises (Sets sets r args)) (tests_of r) → (y : ℕ) → has (reads r) y ≡ true → IsRising 0 INFINITY (Sets sets r args (slot_of r y))
+  read_rises = reads_rise (Sets sets r args) r (one_use r accepted)
 
   abbrev none : Bool
   none = list_any (λ d. is_none_left (Sets sets r args d.0)) (features_of (in_slots r))
@@ -188,27 +190,33 @@ module _ (sets : List (List ℕ)) (r : Range) (args : List Arg) (accepted : is_a
   none_empty h [] = refl
   none_empty h (d ∷ ds) = two (λ a b. a || b) (h d) (none_empty h ds)
 
-  -- the set by the table, and whether nodes that spell the range may be evaluated
-  module _ (nodes : List RangeNode) (nodes_are : nodes ≡ nodes_of (in_slots r)) where
+  -- how the variables stand by the tests and by the features
+  standing_is : (is : List RangeInstr) → is ≡ tests_of r → tested (Sets sets r args) is ≡ standing_of (Sets sets r args) (features_of (in_slots r))
+  standing_is is e = ap (tested (Sets sets r args)) e ∙ (tested_is (Sets sets r args) (without_need 0 (slot_needs r)) (val_slots r)
+      ∙ two (λ a b. cond a Empty (cond b Open Settled)) (any_tested r (one_use r accepted) (λ s. is_none_left (Sets sets r args s))) (opens_same (val_slots r) refl))
+
+  -- the set by the table, and whether nodes that spell the folded range may be evaluated
+  module _ (nodes : List RangeNode) (nodes_are : nodes ≡ folded_nodes r) where
     pub nodes_readable : All (IsReadable (length sets) args) nodes
-    nodes_readable = subst (All (IsReadable (length sets) args)) (sym nodes_are) read_nodes
+    nodes_readable = subst (All (IsReadable (length sets) args)) (sym nodes_are) (readable_folded (length sets) args (in_slots r) read_nodes)
 
     pub nodes_spelled : IsSpelled nodes
-    nodes_spelled = (in_slots r, sym nodes_are)
+    nodes_spelled = (folded_range (in_slots r), sym nodes_are)
 
-    spells : spelled nodes ≡ in_slots r
-    spells = ap spelled nodes_are ∙ spelled-nodes (in_slots r)
+    spells : spelled nodes ≡ folded_range (in_slots r)
+    spells = ap spelled nodes_are ∙ spelled-nodes (folded_range (in_slots r))
 
     fits_where : ((y : ℕ) → has (reads r) y ≡ true → IsRising 0 INFINITY (Sets sets r args (slot_of r y))) → RangeFits (Sets sets r args) (integers sets r args) (spelled nodes)
     fits_where rise =
         let family : IsFamily INFINITY Rising = record { rising = λ y. empty_rises (has (reads r) y) (Sets sets r args (slot_of r y)) (rise y) } in
         let b : AreBounded INFINITY Rising (fill_range (by_variable sets r args) r) = bounded_values INFINITY r (by_variable sets r args) Rising accepted met family in
         subst (RangeFits (Sets sets r args) (integers sets r args)) (sym spells)
+        (range_fits_folded (Sets sets r args) (integers sets r args) (in_slots r)
         (fits (slot_of r) Rising (Sets sets r args) (integers sets r args) r (λ y h. ap (λ c. cond c (Sets sets r args (slot_of r y)) []) h) b.values b.divisors
-        (divides Rising (by_variable sets r args) r true (fits_table r accepted) (needs_met (by_variable sets r args) r met)))
+        (divides Rising (by_variable sets r args) r true (fits_table r accepted) (needs_met (by_variable sets r args) r met))))
 
-    pub nodes_fit : (ds : List (ℕ × Feature)) → ds ≡ features_of (in_slots r) → All (λ d. IsRising 0 INFINITY (Sets sets r args d.0)) ds → RangeFits (Sets sets r args) (integers sets r args) (spelled nodes)
-    nodes_fit ds e rises = fits_where (read_rises (subst (All (λ d. IsRising 0 INFINITY (Sets sets r args d.0))) e rises))
+    pub nodes_fit : (is : List RangeInstr) → is ≡ tests_of r → All (TestRises (Sets sets r args)) is → RangeFits (Sets sets r args) (integers sets r args) (spelled nodes)
+    nodes_fit is e rises = fits_where (read_rises (subst (All (TestRises (Sets sets r args))) e rises))
 
     pub nodes_fit_family : IsFamily INFINITY (family_of sets) → RangeFits (Sets sets r args) (integers sets r args) (spelled nodes)
     nodes_fit_family f = fits_where (λ y h. f.rising (slot_variable args (slot_of r y)))
@@ -216,12 +224,15 @@ module _ (sets : List (List ℕ)) (r : Range) (args : List Arg) (accepted : is_a
     abbrev table : List ℕ
     table = filled_set (Sets sets r args) (integers sets r args) (spelled nodes)
 
-    table_is : list_any (λ d. is_none_left (Sets sets r args d.0)) (features_of (in_slots r)) ≡ false → list_any (opens (Sets sets r args)) (features_of (in_slots r)) ≡ false → table ≡ set_of INFINITY (family_of sets) (posted r args)
-    table_is h g = ap (filled_set (Sets sets r args) (integers sets r args)) spells ∙ settled_by sets r args false false h g refl
+    unfolds : table ≡ filled_set (Sets sets r args) (integers sets r args) (in_slots r)
+    unfolds = ap (filled_set (Sets sets r args) (integers sets r args)) spells ∙ set_folded (Sets sets r args) (integers sets r args) (in_slots r)
 
-    pub gives_table : {E : Type 0} (res : Result (List ℕ) E) (ds : List (ℕ × Feature)) → ds ≡ features_of (in_slots r) → Settled ≡ standing_of (Sets sets r args) ds → IfOk res (λ d. d ≡ table) → IfOk res (λ d. d ≡ set_of INFINITY (family_of sets) (posted r args))
-    gives_table res ds e s h = IfOk-weaker res (λ d. d ≡ table) (λ d. d ≡ set_of INFINITY (family_of sets) (posted r args))
-        (λ d g. g ∙ (ap (filled_set (Sets sets r args) (integers sets r args)) spells ∙ settled_by sets r args none several refl refl (s ∙ ap (standing_of (Sets sets r args)) e))) h
+    table_is : list_any (λ d. is_none_left (Sets sets r args d.0)) (features_of (in_slots r)) ≡ false → list_any (opens (Sets sets r args)) (features_of (in_slots r)) ≡ false → table ≡ set_of INFINITY (family_of sets) (posted r args)
+    table_is h g = unfolds ∙ settled_by sets r args false false h g refl
+
+    pub gives_table : {E : Type 0} (res : Result (List ℕ) E) (is : List RangeInstr) → is ≡ tests_of r → Settled ≡ tested (Sets sets r args) is → IfOk res (λ d. d ≡ table) → IfOk res (λ d. d ≡ set_of INFINITY (family_of sets) (posted r args))
+    gives_table res is e s h = IfOk-weaker res (λ d. d ≡ table) (λ d. d ≡ set_of INFINITY (family_of sets) (posted r args))
+        (λ d g. g ∙ (unfolds ∙ settled_by sets r args none several refl refl (s ∙ standing_is is e))) h
 
     -- where no set is empty and no val is open
     pub table_narrows : {E : Type 0} (res : Result Narrowed E) (old : List ℕ) (ys : List ℕ) → ((k : ℕ) → is_none_left (family_of sets k) ≡ false) → ys ≡ val_slots r → false ≡ list_any (λ s. is_several (Sets sets r args s)) ys →
@@ -229,11 +240,11 @@ module _ (sets : List (List ℕ)) (r : Range) (args : List Arg) (accepted : is_a
     table_narrows res old ys some e f h = IfOk-weaker res (IsNarrowed old table) (IsNarrowed old (set_of INFINITY (family_of sets) (posted r args)))
         (λ o. subst (λ l. IsNarrowed old l o) (table_is (none_empty (λ d. some (slot_variable args d.0)) (features_of (in_slots r))) (sym (opens_same ys e) ∙ sym f))) h
 
-  pub gives_empty : (d : List ℕ) (ds : List (ℕ × Feature)) → ds ≡ features_of (in_slots r) → d ≡ [] → Empty ≡ standing_of (Sets sets r args) ds → d ≡ set_of INFINITY (family_of sets) (posted r args)
-  gives_empty d ds e h s = h ∙ empty_by sets r args none several refl refl (s ∙ ap (standing_of (Sets sets r args)) e)
+  pub gives_empty : (d : List ℕ) (is : List RangeInstr) → is ≡ tests_of r → d ≡ [] → Empty ≡ tested (Sets sets r args) is → d ≡ set_of INFINITY (family_of sets) (posted r args)
+  gives_empty d is e h s = h ∙ empty_by sets r args none several refl refl (s ∙ standing_is is e)
 
-  pub gives_all : (d : List ℕ) (ds : List (ℕ × Feature)) → ds ≡ features_of (in_slots r) → d ≡ universe INFINITY → Open ≡ standing_of (Sets sets r args) ds → d ≡ set_of INFINITY (family_of sets) (posted r args)
-  gives_all d ds e h s = h ∙ open_by sets r args none several refl refl (s ∙ ap (standing_of (Sets sets r args)) e)
+  pub gives_all : (d : List ℕ) (is : List RangeInstr) → is ≡ tests_of r → d ≡ universe INFINITY → Open ≡ tested (Sets sets r args) is → d ≡ set_of INFINITY (family_of sets) (posted r args)
+  gives_all d is e h s = h ∙ open_by sets r args none several refl refl (s ∙ standing_is is e)
 
   -- where some val is open
   pub open_narrows : (old : List ℕ) (ys : List ℕ) → ((k : ℕ) → is_none_left (family_of sets k) ≡ false) → ys ≡ val_slots r → true ≡ list_any (λ s. is_several (Sets sets r args s)) ys → IsRising 0 INFINITY old → IsSubset old (set_of INFINITY (family_of sets) (posted r args))

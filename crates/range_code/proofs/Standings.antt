@@ -1,24 +1,22 @@
 -- How the variables of a range stand, told from what it reads.
-use Rattle.std.proofs.Common.{◌≡◌, ℕ, zero, suc, ◌≤◌, ◌⊎◌, arith, ℤ, ◌+◌, ◌<◌, length, take, get_or, Option, Some, None, subst, Bool, true, false, cond, not, ◌||◌, ◌&&◌, ◌==◌, List, [], ◌∷◌, ◌++◌, filter, refl, sym, ◌∙◌, ap, inl, inr, eqb-true}
-use Rattle.std.specs.Prelude.{OnSome}
-use Rattle.std.specs.Option.{is_some}
+use Rattle.std.proofs.Common.{◌≡◌, ℕ, zero, suc, ◌≤◌, ◌⊎◌, arith, ℤ, ◌<◌, length, get_or, subst, Bool, true, false, cond, not, ◌||◌, ◌&&◌, ◌==◌, List, [], ◌∷◌, ◌++◌, filter, refl, sym, ◌∙◌, ap, inl, inr, eqb-true}
 use Rattle.std.specs.List.{All, list_any}
 use Rattle.std.proofs.lemmas.Bool.{cases_Bool, true≢false}
-use Rattle.std.proofs.lemmas.List.Elements.{All-nil, All-cons, All-head, All-tail, All-filter, All-more}
-use Rattle.std.proofs.lemmas.List.Folds.{list_any-append, list_any_more}
+use Rattle.std.proofs.lemmas.List.Elements.{All-nil, All-cons, All-head, All-tail, All-filter}
+use Rattle.std.proofs.lemmas.List.Folds.{list_any-append}
 use Rattle.fd_language.specs.declared.range_node.Feature.{Feature}
 use Rattle.fd_language.specs.declared.range_node.Feature.TheVariants as feature
 use Rattle.fd_language.specs.declared.range_node.RangeNode.{RangeNode}
 use Rattle.fd_language.specs.declared.range_node.RangeNode.TheVariants as node
-use Rattle.fd_language.specs.Range.{from_node, Range, Span, One, Dom, Union, Inter, Outside, Plus, Minus, Times, Over, Expr, Number, Infinity, Param, Min, Max, Val, Add, Sub, Mul, DivDown, DivUp, reads, expr_reads, vals, expr_vals, is_none_left, is_several}
+use Rattle.fd_language.specs.Range.{from_node, Range, Span, One, Dom, Union, Inter, Outside, Plus, Minus, Times, Over, Expr, Number, Infinity, Param, Min, Max, Val, Add, Sub, Mul, DivDown, DivUp, reads, expr_reads, vals, expr_vals, is_none_left}
 use Rattle.fd_language.specs.Check.{fill, fill_range}
 use Rattle.fd_language.specs.declared.TheConstants.{INFINITY}
-use Rattle.fd_language.specs.Family.{Family, IsRising, universe}
+use Rattle.fd_language.specs.Family.{IsRising, universe}
 use Rattle.fd_language.specs.Features.{expr_features, range_features, is_same_feature, is_same_pair, each_once, features_of, feature_at, node_features}
 use Rattle.fd_language.proofs.Lemmas.{two, universe_rising}
 use Rattle.range_code.specs.declared.frame.Arg.{Arg}
 use Rattle.range_code.specs.Nodes.{IsSeen, IsReadable}
-use Rattle.range_code.specs.Standing.{is_val, opens}
+use Rattle.range_code.specs.Standing.{is_val}
 
 -- what nodes read is there
 module _ (count : ℕ) (args : List Arg) where
@@ -213,24 +211,6 @@ vals_filled p (Over r c) = two (λ x y. x ++ y) (vals_filled p r) (expr_vals_fil
 vals_filled p (One a) = expr_vals_filled p a
 vals_filled p (Dom y) = refl
 vals_filled p (Outside r) = vals_filled p r
-
--- how the variables of the first pairs stand
-pub record Stands (S : Family) (ds : List (ℕ × Feature)) (opened : Bool) : Type 0 where
-  pub none : list_any (λ d. is_none_left (S d.0)) ds ≡ false
-  pub several : opened ≡ list_any (opens S) ds
-  pub rising : All (λ d. IsRising 0 INFINITY (S d.0)) ds
-
-some_left : (o : Option ℕ) (P : Type 0) → is_some o ≡ true → OnSome o P → P
-some_left (Some n) P h g = g
-some_left None P h g = absurd (true≢false (sym h))
-
-pub stands_more : (S : Family) (ds : List (ℕ × Feature)) (i : ℕ) (e : ℕ × Feature) (xs : List ℕ) (o : Option ℕ) (opened next : Bool) → i < length ds → xs ≡ S (get_or ds i e).0 → IsRising 0 INFINITY xs → is_some o ≡ true → OnSome o (is_none_left xs ≡ false) →
-    next ≡ (opened || (is_val (get_or ds i e).1 && is_several xs)) → Stands S (take i ds) opened → Stands S (take (i + 1) ds) next
-stands_more S ds i e xs o opened next l h r g k n s = record {
-  none = list_any_more (λ d. is_none_left (S d.0)) ds i e l ∙ two (λ a b. a || b) s.none (ap is_none_left (sym h) ∙ some_left o (is_none_left xs ≡ false) g k);
-  several = n ∙ (ap (λ b. b || (is_val (get_or ds i e).1 && is_several xs)) s.several ∙ (ap (λ l. list_any (opens S) (take i ds) || (is_val (get_or ds i e).1 && is_several l)) h ∙ sym (list_any_more (opens S) ds i e l)));
-  rising = All-more (λ d. IsRising 0 INFINITY (S d.0)) ds i e l s.rising (subst (IsRising 0 INFINITY) h r);
-}
 
 -- no set of a family is empty, where no listed one is
 at_or_past : (domains : List (List ℕ)) (k : ℕ) → (k < length domains) ⊎ (get_or domains k (universe INFINITY) ≡ universe INFINITY)

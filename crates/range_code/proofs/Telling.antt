@@ -1,6 +1,6 @@
 -- What is told of slots, one more pair or slot at a time.
-use Rattle.std.proofs.Common.{◌≡◌, ℕ, zero, suc, ◌+◌, ◌<◌, ◌≤◌, Bool, true, false, cond, List, [], ◌∷◌, ◌++◌, length, filter, take, drop, get_or, max, Option, Some, None, refl, sym, ◌∙◌, ap, arith, zero-add, add-zero}
-use Rattle.std.proofs.lemmas.List.{take_more, at_drop_more, drop_all}
+use Rattle.std.proofs.Common.{◌≡◌, ℕ, zero, suc, ◌+◌, ◌<◌, ◌≤◌, Bool, true, false, cond, List, [], ◌∷◌, ◌++◌, length, filter, take, drop, get_or, max, Option, Some, None, refl, sym, ◌∙◌, ap, arith, zero-add, add-zero, map, subst}
+use Rattle.std.proofs.lemmas.List.{take_more, at_drop_more, drop_all, get_or-map}
 use Rattle.std.proofs.lemmas.List.Elements.{filter-append}
 use Rattle.fd_language.specs.declared.range_node.Feature.{Feature}
 use Rattle.fd_language.specs.declared.range_node.RangeNode.{RangeNode}
@@ -9,7 +9,10 @@ use Rattle.fd_language.specs.Family.{count_up}
 use Rattle.range_code.specs.declared.compile.ReadKind.{ReadKind}
 use Rattle.range_code.specs.Nodes.{listed}
 use Rattle.range_code.specs.Kinds.{told_as, all_told}
+use Rattle.range_code.specs.declared.fold.Piece.{Piece}
+use Rattle.range_code.specs.Pieces.{piece_node}
 use Rattle.range_code.specs.Heights.{values_after, sets_after, peak}
+use Rattle.range_code.proofs.Opened.{length_map}
 use Rattle.range_code.proofs.Variables.{nothing_behind, regroup}
 
 module _ (min most : ℕ → Bool) where
@@ -127,3 +130,9 @@ pub high_end : (ms : List RangeNode) (i v s h w : ℕ) → length ms ≤ i → I
 high_end ms i v s h w l k =
     let e = ap (λ ns. max h (max (peak values_after ns v) (peak sets_after ns s))) (drop_all i ms l) in
     omega (arith, k.all, k.value_high, k.set_high)
+
+-- the same of pieces
+pub high_piece : (ps : List Piece) (i v s h w v' s' h' : ℕ) (d : Piece) → i < length ps → IsHigh (map piece_node ps) i v s h w → v' ≡ values_after (piece_node (get_or ps i d)) v → s' ≡ sets_after (piece_node (get_or ps i d)) s → h' ≡ max (max h v') s' → IsHigh (map piece_node ps) (i + 1) v' s' h' w
+high_piece ps i v s h w v' s' h' d l k a b e =
+    let same : get_or (map piece_node ps) i node.Infinity ≡ piece_node (get_or ps i d) = get_or-map piece_node ps i d node.Infinity l in
+    high_more (map piece_node ps) i v s h w v' s' h' node.Infinity (subst (λ n. i < n) (sym (length_map piece_node ps)) l) k (a ∙ ap (λ m. values_after m v) (sym same)) (b ∙ ap (λ m. sets_after m s) (sym same)) e

@@ -1,5 +1,10 @@
--- The walk over a range's nodes.
-use Rattle.std.proofs.Common.{◌≡◌, ℕ, ℤ, ◌+◌, ◌<◌, ◌≤◌, List, [], ◌∷◌, ◌++◌, length, drop, get_or, Option, Some, refl, sym, ◌∙◌, ap, subst}
+-- The walk over a range's instructions.
+use Rattle.std.proofs.Common.{◌≡◌, ℕ, ℤ, ◌+◌, ◌<◌, ◌≤◌, List, [], ◌∷◌, ◌++◌, length, map, drop, get_or, Option, Some, refl, sym, ◌∙◌, ap, subst, inl, inr}
+use Rattle.std.specs.List.{All}
+use Rattle.std.proofs.lemmas.Bool.{cases_lt}
+use Rattle.range_code.specs.declared.frame.Arg.{Arg}
+use Rattle.range_code.specs.Nodes.{IsReadable}
+use Rattle.range_code.proofs.Placing.{at_drop, all_back}
 use Rattle.std.proofs.lemmas.List.{at_drop_more, drop_all}
 use Rattle.fd_language.specs.declared.range_node.RangeNode.{RangeNode}
 use Rattle.fd_language.specs.declared.range_node.RangeNode.TheVariants as node
@@ -13,9 +18,12 @@ use Rattle.range_code.specs.Steps.{outside}
 use Rattle.range_code.proofs.Tables.{outside_is}
 use Rattle.range_code.specs.declared.work.Work.{Work}
 use Rattle.range_code.specs.declared.evaluate.Steps.{Steps}
-use Rattle.range_code.specs.Walked.{all_steps, IsAtLast}
+use Rattle.range_code.specs.declared.instr.RangeInstr.{RangeInstr}
+use Rattle.range_code.specs.declared.instr.RangeInstr.TheVariants as instr
+use Rattle.range_code.specs.Instructions.{node_of}
+use Rattle.range_code.specs.Walked.{steps_from, all_steps, IsAt}
 use Rattle.domain_ranges.specs.Narrowing.{between}
-use Rattle.range_code.specs.Work.{filled_value, filled_set, Fits, RangeFits, CanOperate, CanMove, CanTake, stacked_values, stacked_sets, IsPending, Follows}
+use Rattle.range_code.specs.Work.{filled_value, filled_set, Fits, RangeFits, CanOperate, CanMove, CanTake, stacked_values, stacked_sets, IsPending, Follows, IsTaken}
 
 some_same : (r q : Range) → Some r ≡ Some q → r ≡ q
 some_same r q e = cc
@@ -197,45 +205,42 @@ module _ (S : Family) (p : ℕ → ℤ) where
   can_take node.Over ns (q ∷ rs) (c ∷ []) r w e h k =
       let f = all_fit ns (Over q c ∷ rs) [] r e h in (λ front a b i. tt, λ front x i. one_on_top [] c w.values.items front x node.Over k.values f.ranges.0.2 i)
 
--- the nodes of the front from the number i on, and the last one, build the range on top of what waits
-abbrev pub IsWalked : Family → (ℕ → ℤ) → ℕ → Steps → Work → Type 0
-IsWalked S p i s w = (rs : List Range) × (ts : List Expr) × (Some (spelled (all_steps s)) ≡ built (drop i s.front.items ++ s.last ∷ []) rs ts) × IsPending S p rs ts w
-
 builds_all : (nodes : List RangeNode) → IsSpelled nodes → Some (spelled nodes) ≡ built nodes [] []
 builds_all nodes (r, e) = subst (λ ns. Some (spelled ns) ≡ built ns [] []) e (ap Some (spelled-nodes r) ∙ sym (builds_range r [] []))
 
-pub walk_start : (S : Family) (p : ℕ → ℤ) (s : Steps) (w : Work) → IsSpelled (all_steps s) → w.values.items ≡ [] → w.sets.sets ≡ [] → IsWalked S p 0 s w
+pub walk_start : (S : Family) (p : ℕ → ℤ) (s : Steps) (w : Work) → IsSpelled (all_steps s) → w.values.items ≡ [] → w.sets.sets ≡ [] → IsAt S p s s.tests w
 walk_start S p s w h v i = ([], [], builds_all (all_steps s) h, record { values = v; sets = i })
 
-next_is : (front rest : List RangeNode) (i : ℕ) (d : RangeNode) (rs : List Range) (ts : List Expr) (o : Option Range) → i < length front → o ≡ built (drop i front ++ rest) rs ts → o ≡ built (get_or front i d ∷ (drop (i + 1) front ++ rest)) rs ts
-next_is front rest i d rs ts o l e = e ∙ at_drop_more (λ ns. built (ns ++ rest) rs ts) front i d l
+-- the node at a place of the instructions
+abbrev node_at : Steps → ℕ → RangeInstr → RangeNode
+node_at s i d = node_of s.constants.items (get_or s.instrs.items i d)
 
-pub walk_takes : (S : Family) (p : ℕ → ℤ) (i : ℕ) (s : Steps) (d : RangeNode) (w : Work) → i < length s.front.items → RangeFits S p (spelled (all_steps s)) → IsWalked S p i s w → CanTake (get_or s.front.items i d) w
-walk_takes S p i s d w l h (rs, ts, e, k) = can_take S p (get_or s.front.items i d) (drop (i + 1) s.front.items ++ s.last ∷ []) rs ts (spelled (all_steps s)) w (next_is s.front.items (s.last ∷ []) i d rs ts (Some (spelled (all_steps s))) l e) h k
+next_is : (s : Steps) (i : ℕ) (d : RangeInstr) (rs : List Range) (ts : List Expr) (o : Option Range) → i < length s.instrs.items → o ≡ built (steps_from s i) rs ts → o ≡ built (node_at s i d ∷ steps_from s (i + 1)) rs ts
+next_is s i d rs ts o l e = e ∙ at_drop_more (λ is. built (map (node_of s.constants.items) is) rs ts) s.instrs.items i d l
+
+pub walk_takes : (S : Family) (p : ℕ → ℤ) (i : ℕ) (s : Steps) (d : RangeInstr) (w : Work) → i < length s.instrs.items → RangeFits S p (spelled (all_steps s)) → IsAt S p s i w → CanTake (node_of s.constants.items (get_or s.instrs.items i d)) w
+walk_takes S p i s d w l h (rs, ts, e, k) = can_take S p (node_at s i d) (steps_from s (i + 1)) rs ts (spelled (all_steps s)) w (next_is s i d rs ts (Some (spelled (all_steps s))) l e) h k
 
 from_follows : (S : Family) (p : ℕ → ℤ) (ns : List RangeNode) (r : Range) (o : Option Range) (w : Work) → Some r ≡ o → Follows S p ns o w → (rs : List Range) × (ts : List Expr) × (Some r ≡ built ns rs ts) × IsPending S p rs ts w
 from_follows S p ns r o w e f = subst (λ q. Follows S p ns q w) (sym e) f
 
-pub walk_step : (S : Family) (p : ℕ → ℤ) (i : ℕ) (s : Steps) (d : RangeNode) (old new : Work) → i < length s.front.items → IsWalked S p i s old →
-    ((ns : List RangeNode) (rs : List Range) (ts : List Expr) → IsPending S p rs ts old → Follows S p ns (built (get_or s.front.items i d ∷ ns) rs ts) new) → IsWalked S p (i + 1) s new
+pub walk_step : (S : Family) (p : ℕ → ℤ) (i : ℕ) (s : Steps) (d : RangeInstr) (old new : Work) → i < length s.instrs.items → IsAt S p s i old → IsTaken S p (node_of s.constants.items (get_or s.instrs.items i d)) old new → IsAt S p s (i + 1) new
 walk_step S p i s d old new l (rs, ts, e, k) f =
-    from_follows S p (drop (i + 1) s.front.items ++ s.last ∷ []) (spelled (all_steps s)) _ new (next_is s.front.items (s.last ∷ []) i d rs ts (Some (spelled (all_steps s))) l e) (f (drop (i + 1) s.front.items ++ s.last ∷ []) rs ts k)
+    from_follows S p (steps_from s (i + 1)) (spelled (all_steps s)) _ new (next_is s i d rs ts (Some (spelled (all_steps s))) l e) (f (steps_from s (i + 1)) rs ts k)
 
--- the same for items that are those of the front
-pub taken_at : (S : Family) (p : ℕ → ℤ) (i : ℕ) (s : Steps) (d : RangeNode) (w : Work) (items : List RangeNode) → items ≡ s.front.items → i < length items → RangeFits S p (spelled (all_steps s)) → IsWalked S p i s w → CanTake (get_or items i d) w
-taken_at S p i s d w items e = subst (λ l. i < length l → RangeFits S p (spelled (all_steps s)) → IsWalked S p i s w → CanTake (get_or l i d) w) (sym e) (walk_takes S p i s d w)
+-- the last instruction
+pub record IsLast (s : Steps) (i : ℕ) : Type 0 where
+  pub there : i < length s.instrs.items
+  pub last : length s.instrs.items ≤ i + 1
 
-pub step_at : (S : Family) (p : ℕ → ℤ) (i : ℕ) (s : Steps) (d : RangeNode) (old new : Work) (items : List RangeNode) → items ≡ s.front.items → i < length items → IsWalked S p i s old →
-    ((ns : List RangeNode) (rs : List Range) (ts : List Expr) → IsPending S p rs ts old → Follows S p ns (built (get_or items i d ∷ ns) rs ts) new) → IsWalked S p (i + 1) s new
-step_at S p i s d old new items e =
-    subst (λ l. i < length l → IsWalked S p i s old → ((ns : List RangeNode) (rs : List Range) (ts : List Expr) → IsPending S p rs ts old → Follows S p ns (built (get_or l i d ∷ ns) rs ts) new) → IsWalked S p (i + 1) s new) (sym e) (walk_step S p i s d old new)
+abbrev last_node : Steps → ℕ → RangeInstr → RangeNode
+last_node s i d = node_of s.constants.items (get_or s.instrs.items i d)
 
-pub walk_end : (S : Family) (p : ℕ → ℤ) (i : ℕ) (s : Steps) (w : Work) → length s.front.items ≤ i → IsWalked S p i s w → IsAtLast S p s w
-walk_end S p i s w h (rs, ts, e, k) = (rs, ts, e ∙ ap (λ ns. built (ns ++ s.last ∷ []) rs ts) (drop_all i s.front.items h), k)
+at_last : (s : Steps) (i : ℕ) (d : RangeInstr) → IsLast s i → steps_from s i ≡ last_node s i d ∷ []
+at_last s i d l = at_drop_more (map (node_of s.constants.items)) s.instrs.items i d l.there ∙ ap (λ is. last_node s i d ∷ map (node_of s.constants.items) is) (drop_all (i + 1) s.instrs.items l.last)
 
--- the last node
-pub last_takes : (S : Family) (p : ℕ → ℤ) (s : Steps) (w : Work) → RangeFits S p (spelled (all_steps s)) → IsAtLast S p s w → CanTake s.last w
-last_takes S p s w h (rs, ts, e, k) = can_take S p s.last [] rs ts (spelled (all_steps s)) w e h k
+at_end : (s : Steps) (i : ℕ) → length s.instrs.items ≤ i → steps_from s i ≡ []
+at_end s i l = ap (map (node_of s.constants.items)) (drop_all i s.instrs.items l)
 
 alone : (S : Family) (p : ℕ → ℤ) (r : Range) (rs : List Range) (ts : List Expr) (w : Work) → Some r ≡ built [] rs ts → IsPending S p rs ts w → w.sets.sets ≡ filled_set S p r ∷ []
 alone S p r [] [] w e h = absurd cc
@@ -245,11 +250,9 @@ alone S p r (q ∷ x ∷ rs) [] w e h = absurd cc
 alone S p r (q ∷ x ∷ rs) (t ∷ ts) w e h = absurd cc
 alone S p r (q ∷ []) [] w e h = h.sets ∙ ap (λ k. filled_set S p k ∷ []) (sym (some_same r q e))
 
--- behind it there is the set of the range alone
-pub last_gives : (S : Family) (p : ℕ → ℤ) (s : Steps) (old new : Work) → IsAtLast S p s old → ((ns : List RangeNode) (rs : List Range) (ts : List Expr) → IsPending S p rs ts old → Follows S p ns (built (s.last ∷ ns) rs ts) new) → new.sets.sets ≡ filled_set S p (spelled (all_steps s)) ∷ []
-last_gives S p s old new (rs, ts, e, k) f =
-    let g = from_follows S p [] (spelled (all_steps s)) (built (s.last ∷ []) rs ts) new e (f [] rs ts k) in
-    alone S p (spelled (all_steps s)) g.0 g.1 new g.2 g.3
+-- behind the last instruction there is the set of the range alone
+pub set_alone : (S : Family) (p : ℕ → ℤ) (s : Steps) (i : ℕ) (w : Work) → length s.instrs.items ≤ i → IsAt S p s i w → w.sets.sets ≡ filled_set S p (spelled (all_steps s)) ∷ []
+set_alone S p s i w l (rs, ts, e, k) = alone S p (spelled (all_steps s)) rs ts w (e ∙ ap (λ ns. built ns rs ts) (at_end s i l)) k
 
 -- the two ends of an interval wait
 pub record Ends (S : Family) (p : ℕ → ℤ) (s : Steps) (w : Work) : Type 0 where
@@ -265,9 +268,9 @@ ends_of S p r rs (b ∷ a ∷ c ∷ ts) items e h = absurd cc
 ends_of S p r (q ∷ rs) (b ∷ a ∷ []) items e h = absurd cc
 ends_of S p r [] (b ∷ a ∷ []) items e h = (filled_value S p a, filled_value S p b, h, ap (filled_set S p) (some_same r (Span a b) e))
 
-pub last_ends : (S : Family) (p : ℕ → ℤ) (s : Steps) (w : Work) → s.last ≡ node.Span → IsAtLast S p s w → Ends S p s w
-last_ends S p s w l (rs, ts, e, k) =
-    let g = ends_of S p (spelled (all_steps s)) rs ts w.values.items (e ∙ ap (λ m. built (m ∷ []) rs ts) l) k.values in
+pub last_ends : (S : Family) (p : ℕ → ℤ) (s : Steps) (i : ℕ) (d : RangeInstr) (w : Work) → IsLast s i → get_or s.instrs.items i d ≡ instr.Span → IsAt S p s i w → Ends S p s w
+last_ends S p s i d w l is (rs, ts, e, k) =
+    let g = ends_of S p (spelled (all_steps s)) rs ts w.values.items (e ∙ (ap (λ ns. built ns rs ts) (at_last s i d l) ∙ ap (λ m. built (node_of s.constants.items m ∷ []) rs ts) is)) k.values in
     record { low = g.0; high = g.1; values = g.2; set = g.3 }
 
 -- the set of which the complement is taken waits
@@ -284,7 +287,20 @@ inner_of S p r (q ∷ x ∷ rs) [] sets e h = absurd cc
 inner_of S p r (q ∷ rs) (t ∷ ts) sets e h = absurd cc
 inner_of S p r (q ∷ []) [] sets e h = (q, [], h, ap (filled_set S p) (some_same r (Outside q) e) ∙ sym (outside_is INFINITY (in_range INFINITY S (fill_range p q))))
 
-pub last_inner : (S : Family) (p : ℕ → ℤ) (s : Steps) (w : Work) → s.last ≡ node.Outside → IsAtLast S p s w → Inner S p s w
-last_inner S p s w l (rs, ts, e, k) =
-    let g = inner_of S p (spelled (all_steps s)) rs ts w.sets.sets (e ∙ ap (λ m. built (m ∷ []) rs ts) l) k.sets in
+pub last_inner : (S : Family) (p : ℕ → ℤ) (s : Steps) (i : ℕ) (d : RangeInstr) (w : Work) → IsLast s i → get_or s.instrs.items i d ≡ instr.Outside → IsAt S p s i w → Inner S p s w
+last_inner S p s i d w l is (rs, ts, e, k) =
+    let g = inner_of S p (spelled (all_steps s)) rs ts w.sets.sets (e ∙ (ap (λ ns. built ns rs ts) (at_last s i d l) ∙ ap (λ m. built (node_of s.constants.items m ∷ []) rs ts) is)) k.sets in
     record { inner = filled_set S p g.0; rest = g.1; sets = g.2; set = g.3 }
+
+-- something is behind the tests
+nothing_spelled : (ns : List RangeNode) → IsSpelled ns → ns ≡ [] → ⊥
+nothing_spelled ns h e = let k : Some (spelled ns) ≡ built [] [] [] = builds_all ns h ∙ ap (λ l. built l [] []) e in absurd cc
+
+pub some_step : (s : Steps) → IsSpelled (all_steps s) → s.tests < length s.instrs.items
+some_step s h = elim (cases_lt s.tests (length s.instrs.items)) [
+  | inl l ↦ l
+  | inr l ↦ absurd (nothing_spelled (all_steps s) h (at_end s s.tests l))
+]
+
+pub readable_at : (count : ℕ) (args : List Arg) (s : Steps) (i : ℕ) (d : RangeInstr) → s.tests ≤ i → i < length s.instrs.items → All (IsReadable count args) (all_steps s) → IsReadable count args (node_of s.constants.items (get_or s.instrs.items i d))
+readable_at count args s i d h l k = at_drop (λ j. IsReadable count args (node_of s.constants.items j)) s.instrs.items s.tests i d h l (all_back (IsReadable count args) (node_of s.constants.items) (drop s.tests s.instrs.items) k)

@@ -1,7 +1,8 @@
 -- What is kept of an accepted range.
-use Rattle.std.specs.Prelude.{◌≡◌, ℕ, IsTrue, List, Option}
+use Rattle.std.specs.Prelude.{◌≡◌, ℕ, ℤ, IsTrue, List, ◌++◌, map, length, Option}
 use Rattle.fd_language.specs.declared.range_node.Need.{Need}
 use Rattle.fd_language.specs.declared.range_node.Feature.{Feature}
+use Rattle.fd_language.specs.declared.range_node.RangeNode.{RangeNode}
 use Rattle.fd_language.specs.declared.TheConstants.{INFINITY}
 use Rattle.fd_language.specs.Range.{Range}
 use Rattle.fd_language.specs.RangeVerdict.{is_accepted}
@@ -13,15 +14,23 @@ use Rattle.range_code.specs.Forms.{IsForm}
 use Rattle.range_code.specs.Slots.{slots_of, slot_needs, slot_features, in_slots}
 use Rattle.range_code.specs.Kinds.{slot_kinds, val_slots}
 use Rattle.range_code.specs.Heights.{height}
-use Rattle.range_code.specs.Walked.{all_steps}
+use Rattle.range_code.specs.Folded.{folded_nodes}
+use Rattle.range_code.specs.Instructions.{tests_for, integers, once_each, instr_of}
 
-pub record IsCompiled (r : Range) (vs : List ℕ) (ns : List (Option Need)) (fs : List (ℕ × Feature)) (ks : List (ℕ × ReadKind)) (ys : List ℕ) (steps : Steps) (way : Form) (high : ℕ) : Type 0 where
+-- what is evaluated of nodes with so many constants, where slots have needs and the values of some are read by val
+pub record AreStepsOf (needs : List (Option Need)) (vals : List ℕ) (zs : List ℤ) (ms : List RangeNode) (s : Steps) : Type 0 where
+  pub instrs : s.instrs.items ≡ tests_for needs vals ++ map (instr_of (once_each zs)) ms
+  pub tests : s.tests ≡ length (tests_for needs vals)
+  pub constants : s.constants.items ≡ once_each zs
+
+pub record IsCompiled (r : Range) (vs : List ℕ) (ns : List (Option Need)) (fs : List (ℕ × Feature)) (ks : List (ℕ × ReadKind)) (ys : List ℕ) (ms : List RangeNode) (s : Steps) (way : Form) (high : ℕ) : Type 0 where
   pub accepted : IsTrue (is_accepted INFINITY r)
   pub slots : vs ≡ slots_of r
   pub needs : ns ≡ slot_needs r
   pub features : fs ≡ slot_features r
   pub kinds : ks ≡ slot_kinds r
   pub vals : ys ≡ val_slots r
-  pub nodes : all_steps steps ≡ nodes_of (in_slots r)
+  pub nodes : ms ≡ nodes_of (in_slots r)
+  pub steps : AreStepsOf (slot_needs r) (val_slots r) (integers (folded_nodes r)) (folded_nodes r) s
   pub form : IsForm (in_slots r) way
   pub height : high ≡ height r

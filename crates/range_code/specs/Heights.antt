@@ -3,9 +3,8 @@ use Rattle.std.specs.Prelude.{◌≡◌, ℕ, suc, ◌-◌, ◌≤◌, max, List
 use Rattle.fd_language.specs.declared.range_node.RangeNode.{RangeNode}
 use Rattle.fd_language.specs.declared.range_node.RangeNode.TheVariants as node
 use Rattle.fd_language.specs.Range.{Range}
-use Rattle.fd_language.specs.Flat.{nodes_of}
 use Rattle.range_code.specs.declared.work.Work.{Work}
-use Rattle.range_code.specs.Slots.{in_slots}
+use Rattle.range_code.specs.Folded.{folded_nodes}
 
 -- how many values wait behind a node, where so many wait before it
 abbrev pub values_after : RangeNode → ℕ → ℕ
@@ -45,13 +44,13 @@ abbrev pub peak : (RangeNode → ℕ → ℕ) → List RangeNode → ℕ → ℕ
 peak f [] n = n
 peak f (m ∷ ms) n = max n (peak f ms (f m n))
 
--- the greatest number of values, or of sets, that wait while the range is evaluated
-abbrev pub height : Range → ℕ
-height r = max (peak values_after (nodes_of (in_slots r)) 0) (peak sets_after (nodes_of (in_slots r)) 0)
-
--- the same of a list of nodes
+-- the greatest number of values, or of sets, that wait while the nodes are taken
 abbrev pub tallest : List RangeNode → ℕ
 tallest ms = max (peak values_after ms 0) (peak sets_after ms 0)
+
+-- the same while the range is evaluated
+abbrev pub height : Range → ℕ
+height r = tallest (folded_nodes r)
 
 -- there is room for all that will wait
 pub record HasRoom (ms : List RangeNode) (w : Work) : Type 0 where

@@ -2,8 +2,11 @@ pub mod Slots
 pub mod Frames
 pub mod Nodes
 pub mod Kinds
+pub mod Folded
+pub mod Instructions
 pub mod Standing
 pub mod Work
+pub mod Pieces
 pub mod Steps
 pub mod Heights
 pub mod Walked

@@ -1,5 +1,5 @@
 -- The slots of a range: one for each of its variables, in the order of first occurrence.
-use Rattle.std.specs.Prelude.{ℕ, if◌then◌else◌, nat_eq, List, map, Option, Some, None}
+use Rattle.std.specs.Prelude.{◌≡◌, ℕ, if◌then◌else◌, nat_eq, List, map, Option, Some, None}
 use Rattle.std.specs.List.{position_or_len}
 use Rattle.fd_language.specs.declared.range_node.Need.{Need}
 use Rattle.fd_language.specs.declared.range_node.Feature.{Feature}
@@ -32,3 +32,8 @@ in_slots r = rename_range (slot_of r) r
 
 abbrev pub slot_features : Range → List (ℕ × Feature)
 slot_features r = features_of (in_slots r)
+
+-- Two ranges that differ only in the names of their variables: they are the same in slots, and ask the same of them.
+pub record IsAlike (r q : Range) : Type 0 where
+  pub same : in_slots r ≡ in_slots q
+  pub needs : slot_needs r ≡ slot_needs q

@@ -92,6 +92,10 @@ abbrev pub Follows : Family → (ℕ → ℤ) → List RangeNode → Option Rang
 Follows S p ns None w = Unit {0}
 Follows S p ns (Some r) w = (rs : List Range) × (ts : List Expr) × (Some r ≡ built ns rs ts) × IsPending S p rs ts w
 
+-- the node's operands were taken, and what it makes of them waits in their place
+abbrev pub IsTaken : Family → (ℕ → ℤ) → RangeNode → Work → Work → Type 0
+IsTaken S p n old new = (ns : List RangeNode) (rs : List Range) (ts : List Expr) → IsPending S p rs ts old → Follows S p ns (built (n ∷ ns) rs ts) new
+
 -- the operands on top may be taken by an operator of terms, and by a pointwise one
 abbrev pub CanTakeTerms : RangeNode → Work → Type 0
 CanTakeTerms n w = (front : List ℤ) (a b : ℤ) → w.values.items ≡ (front ++ a ∷ []) ++ b ∷ [] → CanOperate n a b

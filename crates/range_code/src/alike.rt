@@ -1,18 +1,18 @@
 //! Ranges that differ only in the names of their variables.
 
-ghost use Rattle.std.specs.Prelude.{◌≡◌, IsTrue};
+ghost use Rattle.std.specs.Prelude.{◌≡◌, ◌↔◌, IsTrue};
 
 use fd_language::{Need, RangeNode};
 
 /// Whether the nodes are the same.
-pub(crate) fn is_same_node(a: RangeNode, b: RangeNode) -> bool
-    ensures { IsTrue result → a ≡ b }
+fn is_same_node(a: RangeNode, b: RangeNode) -> bool
+    ensures { IsTrue result ↔ (a ≡ b) }
 {
     a == b
 }
 
 fn is_same_need(a: Option<Need>, b: Option<Need>) -> bool
-    ensures { IsTrue result → a ≡ b }
+    ensures { IsTrue result ↔ (a ≡ b) }
 {
     match (a, b) {
         (None, None) => true,
@@ -23,7 +23,7 @@ fn is_same_need(a: Option<Need>, b: Option<Need>) -> bool
 
 /// Whether the lists of nodes are the same.
 pub(crate) fn are_same_nodes(a: &[RangeNode], b: &[RangeNode]) -> bool
-    ensures { IsTrue result → a.now ≡ b.now }
+    ensures { IsTrue result ↔ (a.now ≡ b.now) }
 {
     if a.len() != b.len() {
         return false;
@@ -38,7 +38,7 @@ pub(crate) fn are_same_nodes(a: &[RangeNode], b: &[RangeNode]) -> bool
 
 /// Whether the lists of needs are the same.
 pub(crate) fn are_same_needs(a: &[Option<Need>], b: &[Option<Need>]) -> bool
-    ensures { IsTrue result → a.now ≡ b.now }
+    ensures { IsTrue result ↔ (a.now ≡ b.now) }
 {
     if a.len() != b.len() {
         return false;

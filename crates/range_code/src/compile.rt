@@ -1,6 +1,6 @@
 //! Ranges made ready: slots in place of variables, what is read of them, and what they need.
 
-ghost use Rattle.std.specs.Prelude.{◌≡◌, ◌<◌, ◌-◌, ◌^◌, ◌||◌, not, max, ℕ, nat_eq, List, [], ◌∷◌, ◌++◌, map, filter, IfOk, OnOk};
+ghost use Rattle.std.specs.Prelude.{◌≡◌, ◌<◌, ◌-◌, ◌^◌, ◌||◌, not, ℕ, nat_eq, List, [], ◌∷◌, ◌++◌, map, filter, IfOk, OnOk};
 ghost use Rattle.std.specs.List.{list_any, position_or_len};
 ghost use Rattle.indexmap.specs.IndexMap.{get};
 ghost use Rattle.fd_language.specs.declared.range_node.Feature.TheVariants as Told;
@@ -9,9 +9,11 @@ ghost use Rattle.range_code.specs.Nodes.{node_variable, listed, node_variables, 
 ghost use Rattle.range_code.specs.Asked.{need_in};
 ghost use Rattle.fd_language.specs.Family.{count_up};
 ghost use Rattle.range_code.specs.Kinds.{has_pair, told_as as told_by, all_told};
-ghost use Rattle.range_code.specs.Heights.{values_after, sets_after, peak};
+ghost use Rattle.range_code.specs.Heights.{values_after, sets_after, tallest};
+ghost use Rattle.range_code.specs.Pieces.{piece_node};
 ghost use Rattle.range_code.specs.Gathered.{IsNumbered};
 
+use crate::fold::Piece;
 use fd_language::{Feature, FlatRange, Need, NoMemory, RangeNode};
 use indexmap::{IndexMap, IndexSet};
 use range_features::node_features;
@@ -288,11 +290,15 @@ pub(crate) fn read_vals(
     vals_of(alloc, &val, count)
 }
 
-/// How many values wait behind the node, where so many wait before it.
-fn values_behind(node: RangeNode, n: usize) -> usize
+/// How many values wait behind the piece, where so many wait before it.
+fn values_behind(piece: Piece, n: usize) -> usize
     requires { n < 2 ^ 64 - 1 }
-    ensures { result ≡ values_after node n }
+    ensures { result ≡ values_after (piece_node piece) n }
 {
+    let node = match piece {
+        Piece::Literal(_) => return n + 1,
+        Piece::Other(node) => node,
+    };
     match node {
         RangeNode::Int(_)
         | RangeNode::Infinity
@@ -306,28 +312,28 @@ fn values_behind(node: RangeNode, n: usize) -> usize
     }
 }
 
-/// How many sets wait behind the node, where so many wait before it.
-fn sets_behind(node: RangeNode, n: usize) -> usize
+/// How many sets wait behind the piece, where so many wait before it.
+fn sets_behind(piece: Piece, n: usize) -> usize
     requires { n < 2 ^ 64 - 1 }
-    ensures { result ≡ sets_after node n }
+    ensures { result ≡ sets_after (piece_node piece) n }
 {
-    match node {
-        RangeNode::Span | RangeNode::One | RangeNode::Dom(_) => n + 1,
-        RangeNode::Union | RangeNode::Inter => n.saturating_sub(1),
+    match piece {
+        Piece::Other(RangeNode::Span | RangeNode::One | RangeNode::Dom(_)) => n + 1,
+        Piece::Other(RangeNode::Union | RangeNode::Inter) => n.saturating_sub(1),
         _ => n,
     }
 }
 
-/// The greatest number of values, or of sets, that wait while the nodes are evaluated.
-pub(crate) fn height_of(nodes: &[RangeNode]) -> usize
-    ensures { result ≡ max (peak values_after nodes.now 0) (peak sets_after nodes.now 0) }
+/// The greatest number of values, or of sets, that wait while the pieces are evaluated.
+pub(crate) fn height_of(pieces: &[Piece]) -> usize
+    ensures { result ≡ tallest (map piece_node pieces.now) }
 {
     let mut values: usize = 0;
     let mut sets: usize = 0;
     let mut height: usize = 0;
-    for node in nodes {
-        values = values_behind(*node, values);
-        sets = sets_behind(*node, sets);
+    for piece in pieces {
+        values = values_behind(*piece, values);
+        sets = sets_behind(*piece, sets);
         height = height.max(values).max(sets);
     }
     height

@@ -1,31 +1,33 @@
-//! A range evaluated, node by node.
+//! A range evaluated, instruction by instruction.
 
 ghost use Rattle.std.specs.Prelude.{◌≡◌, ◌≤◌, ℕ, ℤ, pos, List, [], ◌∷◌, length, vec_capacity, IfOk, OnOk};
 ghost use Rattle.std.specs.List.{All};
-ghost use Rattle.fd_language.specs.declared.range_node.RangeNode.{RangeNode as Spelled};
-ghost use Rattle.fd_language.specs.Range.{Range, Expr, least as least_of, greatest as greatest_of};
-ghost use Rattle.fd_language.specs.Flat.{built, spelled, IsSpelled};
+ghost use Rattle.fd_language.specs.Range.{least as least_of, greatest as greatest_of};
+ghost use Rattle.fd_language.specs.Flat.{spelled, IsSpelled};
 ghost use Rattle.range_code.specs.Frames.{slot_set, slot_integer};
 ghost use Rattle.range_code.specs.Nodes.{IsReadable};
-ghost use Rattle.range_code.specs.Work.{leaf_value, filled_set, RangeFits, CanTake, IsPending, Follows};
+ghost use Rattle.range_code.specs.Work.{leaf_value, filled_set, RangeFits, CanTake, IsTaken};
 ghost use Rattle.range_code.specs.Heights.{tallest, HasRoom, IsCounted, KeepsRoom};
 ghost use Rattle.range_code.specs.Steps.{outside};
 ghost use Rattle.range_code.specs.Forms.{IsForm};
-ghost use Rattle.range_code.specs.Walked.{all_steps, IsAtLast};
+ghost use Rattle.range_code.specs.Instructions.{node_of, IsPlaced};
+ghost use Rattle.range_code.specs.Walked.{steps_from, all_steps, ArePlaced, IsAt};
 ghost use Rattle.domain_ranges.specs.Narrowing.{between, IsNarrowed};
 
 use crate::form::Form;
 use crate::frame::{Arg, slot_domain, slot_value};
+use crate::instr::RangeInstr;
 use crate::work::Work;
 use domain_ranges::{Domain, Narrowed, View};
-use fd_language::{INFINITY, NoMemory, RangeNode};
+use fd_language::NoMemory;
 use std::alloc::Global;
 
-/// The nodes of a range, in postfix order.
+/// The instructions of a range: some tests, and behind them the others in postfix order, with the constants that they push.
 #[derive(Drop)]
 pub(crate) struct Steps {
-    pub front: Vec<RangeNode>,
-    pub last: RangeNode,
+    pub instrs: Vec<RangeInstr>,
+    pub tests: usize,
+    pub constants: Vec<i128>,
 }
 
 /// The least member, and 0 where there is none.
@@ -44,82 +46,108 @@ fn greatest(domain: &Domain) -> i128
     domain.max().unwrap_or(0) as i128
 }
 
-/// The value of a leaf.
+/// The number that an instruction pushes.
 #[inline(always)]
-fn leaf<V: View>(node: RangeNode, args: &[Arg], view: &V) -> i128
-    requires { IsReadable (length (V.sets view.now)) args.now node }
-    ensures { result ≡ leaf_value (slot_set (V.sets view.now) args.now) (slot_integer args.now) node }
+fn pushed<V: View>(instr: RangeInstr, steps: &Steps, args: &[Arg], view: &V) -> i128
+    requires placed { IsPlaced (length steps.now.constants.items) instr }
+    requires readable { IsReadable (length (V.sets view.now)) args.now
+        (node_of steps.now.constants.items instr) }
+    ensures { result ≡ leaf_value (slot_set (V.sets view.now) args.now)
+        (slot_integer args.now) (node_of steps.now.constants.items instr) }
 {
-    match node {
-        RangeNode::Int(value) => value as i128,
-        RangeNode::Infinity => INFINITY as i128,
-        RangeNode::Param(slot) => slot_value(args, slot as usize) as i128,
-        RangeNode::Min(slot) => least(slot_domain(args, slot as usize, view)),
-        RangeNode::Max(slot) => greatest(slot_domain(args, slot as usize, view)),
-        RangeNode::Val(slot) => least(slot_domain(args, slot as usize, view)),
+    match instr {
+        RangeInstr::PushConst(place) => steps.constants[place],
+        RangeInstr::PushArg(slot) => slot_value(args, slot) as i128,
+        RangeInstr::PushMin(slot) => least(slot_domain(args, slot, view)),
+        RangeInstr::PushMax(slot) => greatest(slot_domain(args, slot, view)),
+        RangeInstr::PushVal(slot) => least(slot_domain(args, slot, view)),
         _ => 0,
     }
 }
 
-/// Takes the operands of the node and puts its value or set in their place.
+/// Takes the operands of the instruction and puts its value or set in their place.
 #[inline(always)]
-fn take<V: View>(work: &mut Work, node: RangeNode, args: &[Arg], view: &V) -> Result<(), NoMemory>
-    requires readable { IsReadable (length (V.sets view.now)) args.now node }
-    requires fits { CanTake node work.old }
-    requires room { HasRoom (node ∷ []) work.old }
-    ensures taken { OnOk result ((ns : List Spelled) (rs : List Range) (ts : List Expr) → IsPending (slot_set (V.sets view.now) args.now) (slot_integer args.now) rs ts work.old → Follows (slot_set (V.sets view.now) args.now) (slot_integer args.now) ns (built (node ∷ ns) rs ts) work.new) }
-    ensures counted { OnOk result (IsCounted node work.old work.new) }
+fn take<V: View>(
+    work: &mut Work,
+    instr: RangeInstr,
+    steps: &Steps,
+    args: &[Arg],
+    view: &V,
+) -> Result<(), NoMemory>
+    requires placed { IsPlaced (length steps.now.constants.items) instr }
+    requires readable { IsReadable (length (V.sets view.now)) args.now
+        (node_of steps.now.constants.items instr) }
+    requires fits { CanTake (node_of steps.now.constants.items instr) work.old }
+    requires room { HasRoom (node_of steps.now.constants.items instr ∷ []) work.old }
+    ensures taken { OnOk result (IsTaken (slot_set (V.sets view.now) args.now)
+        (slot_integer args.now) (node_of steps.now.constants.items instr) work.old work.new) }
+    ensures counted { OnOk result
+        (IsCounted (node_of steps.now.constants.items instr) work.old work.new) }
     ensures kept { KeepsRoom work.old work.new }
 {
-    match node {
-        RangeNode::Int(_)
-        | RangeNode::Infinity
-        | RangeNode::Param(_)
-        | RangeNode::Min(_)
-        | RangeNode::Max(_)
-        | RangeNode::Val(_) => {
-            work.push_value(leaf(node, args, view));
+    match instr {
+        RangeInstr::NeedSome(_) | RangeInstr::NeedFixed(_) => Ok(()),
+        RangeInstr::PushConst(_)
+        | RangeInstr::PushArg(_)
+        | RangeInstr::PushMin(_)
+        | RangeInstr::PushMax(_)
+        | RangeInstr::PushVal(_) => {
+            work.push_value(pushed(instr, steps, args, view));
             Ok(())
         }
-        RangeNode::Add | RangeNode::Sub | RangeNode::Mul | RangeNode::DivDown | RangeNode::DivUp =>
-            {
-                work.take_terms(node);
-                Ok(())
-            }
-        RangeNode::Span => work.take_span(),
-        RangeNode::One => work.take_single(),
-        RangeNode::Dom(slot) => work.push_domain(slot_domain(args, slot as usize, view)),
-        RangeNode::Union => {
+        RangeInstr::Add
+        | RangeInstr::Sub
+        | RangeInstr::Mul
+        | RangeInstr::DivDown
+        | RangeInstr::DivUp => {
+            work.take_terms(instr);
+            Ok(())
+        }
+        RangeInstr::Span => work.take_span(),
+        RangeInstr::One => work.take_single(),
+        RangeInstr::PushDom(slot) => work.push_domain(slot_domain(args, slot, view)),
+        RangeInstr::Union => {
             work.take_union();
             Ok(())
         }
-        RangeNode::Inter => work.take_both(),
-        RangeNode::Outside => work.take_outside(),
-        RangeNode::Plus | RangeNode::Minus | RangeNode::Times | RangeNode::Over => {
-            work.take_range(node)
+        RangeInstr::Inter => work.take_both(),
+        RangeInstr::Outside => work.take_outside(),
+        RangeInstr::Plus | RangeInstr::Minus | RangeInstr::Times | RangeInstr::Over => {
+            work.take_range(instr)
         }
     }
 }
 
-/// Takes all nodes but the last one.
-fn run<V: View>(work: &mut Work, steps: &Steps, args: &[Arg], view: &V) -> Result<(), NoMemory>
+/// Takes the instructions behind the tests up to a place.
+fn run<V: View>(
+    work: &mut Work,
+    steps: &Steps,
+    end: usize,
+    args: &[Arg],
+    view: &V,
+) -> Result<(), NoMemory>
     requires spelled { IsSpelled (all_steps steps.now) }
+    requires placed { ArePlaced steps.now }
+    requires start { steps.now.tests ≤ end }
+    requires end { end ≤ length steps.now.instrs.items }
     requires readable { All (IsReadable (length (V.sets view.now)) args.now) (all_steps steps.now) }
-    requires fits { RangeFits (slot_set (V.sets view.now) args.now) (slot_integer args.now) (spelled (all_steps steps.now)) }
+    requires fits { RangeFits (slot_set (V.sets view.now) args.now) (slot_integer args.now)
+        (spelled (all_steps steps.now)) }
     requires values { work.old.values.items ≡ [] }
     requires sets { work.old.sets.sets ≡ [] }
     requires room { HasRoom (all_steps steps.now) work.old }
-    ensures walked { OnOk result (IsAtLast (slot_set (V.sets view.now) args.now) (slot_integer args.now) steps.now work.new) }
-    ensures room { OnOk result (HasRoom (steps.now.last ∷ []) work.new) }
+    ensures walked { OnOk result (IsAt (slot_set (V.sets view.now) args.now)
+        (slot_integer args.now) steps.now end work.new) }
+    ensures room { OnOk result (HasRoom (steps_from steps.now end) work.new) }
     ensures kept { KeepsRoom work.old work.new }
 {
-    for node in &steps.front {
-        take(work, *node, args, view)?;
+    for place in steps.tests..end {
+        take(work, steps.instrs[place], steps, args, view)?;
     }
     Ok(())
 }
 
-/// The set of the range that the nodes spell, by the table of ranges alone.
+/// The set of the range, by the table of ranges alone.
 pub(crate) fn evaluate<V: View>(
     work: &mut Work,
     steps: &Steps,
@@ -127,23 +155,25 @@ pub(crate) fn evaluate<V: View>(
     view: &V,
 ) -> Result<Domain, NoMemory>
     requires spelled { IsSpelled (all_steps steps.now) }
+    requires placed { ArePlaced steps.now }
     requires readable { All (IsReadable (length (V.sets view.now)) args.now) (all_steps steps.now) }
-    requires fits { RangeFits (slot_set (V.sets view.now) args.now) (slot_integer args.now) (spelled (all_steps steps.now)) }
+    requires fits { RangeFits (slot_set (V.sets view.now) args.now) (slot_integer args.now)
+        (spelled (all_steps steps.now)) }
     requires values { work.old.values.items ≡ [] }
     requires sets { work.old.sets.sets ≡ [] }
     requires room { HasRoom (all_steps steps.now) work.old }
-    ensures set { IfOk result (λ d. d ≡ filled_set (slot_set (V.sets view.now) args.now) (slot_integer args.now) (spelled (all_steps steps.now))) }
+    ensures set { IfOk result (λ d. d ≡ filled_set (slot_set (V.sets view.now) args.now)
+        (slot_integer args.now) (spelled (all_steps steps.now))) }
     ensures kept { KeepsRoom work.old work.new }
 {
-    run(work, steps, args, view)?;
-    take(work, steps.last, args, view)?;
+    run(work, steps, steps.instrs.len(), args, view)?;
     work.pop_set()
 }
 
-/// What the range that the nodes spell leaves of the domain, by the table of ranges alone. Where it is an interval, no set is made, and
-/// the complement of a set doesn't wait on the stack.
+/// What the range leaves of the domain, by the table of ranges alone. Where it is an interval, no set is made, and the complement of a
+/// set doesn't wait on the stack.
 #[inline(never)]
-fn narrow_by_nodes<V: View>(
+fn narrow_by_steps<V: View>(
     work: &mut Work,
     steps: &Steps,
     args: &[Arg],
@@ -151,28 +181,33 @@ fn narrow_by_nodes<V: View>(
     target: &Domain,
 ) -> Result<Narrowed, NoMemory>
     requires spelled { IsSpelled (all_steps steps.now) }
+    requires placed { ArePlaced steps.now }
     requires readable { All (IsReadable (length (V.sets view.now)) args.now) (all_steps steps.now) }
-    requires fits { RangeFits (slot_set (V.sets view.now) args.now) (slot_integer args.now) (spelled (all_steps steps.now)) }
+    requires fits { RangeFits (slot_set (V.sets view.now) args.now) (slot_integer args.now)
+        (spelled (all_steps steps.now)) }
     requires values { work.old.values.items ≡ [] }
     requires sets { work.old.sets.sets ≡ [] }
     requires room { HasRoom (all_steps steps.now) work.old }
-    ensures narrowed { IfOk result (IsNarrowed target.now (filled_set (slot_set (V.sets view.now) args.now) (slot_integer args.now) (spelled (all_steps steps.now)))) }
+    ensures narrowed { IfOk result (IsNarrowed target.now
+        (filled_set (slot_set (V.sets view.now) args.now) (slot_integer args.now)
+        (spelled (all_steps steps.now)))) }
     ensures kept { KeepsRoom work.old work.new }
 {
-    run(work, steps, args, view)?;
-    match steps.last {
-        RangeNode::Span => {
+    let last = steps.instrs.len() - 1;
+    run(work, steps, last, args, view)?;
+    match steps.instrs[last] {
+        RangeInstr::Span => {
             let high = work.pop_value();
             let low = work.pop_value();
             target.narrowed_to(low, high)
         }
-        RangeNode::Outside => {
+        RangeInstr::Outside => {
             let inner = work.pop_set()?;
             let others = inner.complement()?;
             target.narrowed_by(&others)
         }
-        last => {
-            take(work, last, args, view)?;
+        instr => {
+            take(work, instr, steps, args, view)?;
             let set = work.pop_set()?;
             target.narrowed_by(&set)
         }
@@ -212,6 +247,7 @@ pub(crate) fn evaluate_narrowing<V: View>(
     target: &Domain,
 ) -> Result<Narrowed, NoMemory>
     requires spelled { IsSpelled (all_steps steps.now) }
+    requires placed { ArePlaced steps.now }
     requires form { IsForm (spelled (all_steps steps.now)) form.now }
     requires readable { All (IsReadable (length (V.sets view.now)) args.now) (all_steps steps.now) }
     requires fits { RangeFits (slot_set (V.sets view.now) args.now) (slot_integer args.now) (spelled (all_steps steps.now)) }
@@ -223,7 +259,7 @@ pub(crate) fn evaluate_narrowing<V: View>(
     match form {
         Form::Nodes => {
             work.clear();
-            narrow_by_nodes(work, steps, args, view, target)
+            narrow_by_steps(work, steps, args, view, target)
         }
         Form::Between(low, high) => {
             let low = low.value(args, view);

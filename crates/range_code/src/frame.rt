@@ -1,15 +1,16 @@
 //! The arguments of a range, and what they give.
 
-ghost use Rattle.std.specs.Prelude.{◌≡◌, ◌<◌, ◌&&◌, ℕ, IsTrue, false, length, slice_index_or};
+ghost use Rattle.std.specs.Prelude.{◌≡◌, ◌<◌, ◌↔◌, ℕ, IsTrue, false, length, slice_index_or};
 ghost use Rattle.std.specs.List.{All, list_any};
 ghost use Rattle.fd_language.specs.Family.{IsRising, IsFamily};
 ghost use Rattle.range_code.specs.Frames.{variable_of, integer_of, slot_integer, slot_set, family_of};
 ghost use Rattle.range_code.specs.Nodes.{IsSeen, IsReadable};
-ghost use Rattle.range_code.specs.Standing.{is_val, standing_of};
+ghost use Rattle.range_code.specs.Standing.{tested, IsTestSeen, TestRises};
 ghost use Rattle.fd_language.specs.Range.{is_several, is_none_left};
 
+use crate::instr::RangeInstr;
 use domain_ranges::{Domain, View};
-use fd_language::{Feature, INFINITY};
+use fd_language::INFINITY;
 
 /// What stands in a slot of a range.
 #[derive(Clone, Copy, Debug, PartialEq, Eq)]
@@ -68,39 +69,37 @@ pub(crate) fn slot_domain<'v, V: View>(args: &[Arg], slot: usize, view: &'v V) -
     view.domain(variable(args[slot]))
 }
 
-/// Whether the feature wants one value where the domain has several.
-fn is_open(domain: &Domain, feature: Feature) -> bool
-    ensures { result ≡ (is_val feature && is_several domain.now) }
+/// Whether the domain has several members.
+#[inline(always)]
+fn is_open(domain: &Domain) -> bool
+    ensures { result ≡ is_several domain.now }
 {
-    match feature {
-        Feature::Val => domain.min() != domain.max(),
-        Feature::Min | Feature::Max | Feature::Dom => false,
-    }
+    domain.min() != domain.max()
 }
 
-/// How the variables of the features stand.
-pub(crate) fn find_standing<V: View>(
-    features: &[(usize, Feature)],
-    args: &[Arg],
-    view: &V,
-) -> Standing
-    requires { All (λ d. IsSeen (length (V.sets view.now)) args.now d.0) features.now }
-    ensures value { result ≡ standing_of (slot_set (V.sets view.now) args.now) features.now }
-    ensures rising { result ≡ Standing.Settled → All (λ d. IsRising 0 INFINITY (slot_set (V.sets view.now) args.now d.0)) features.now }
+/// How the variables of a range stand by its tests: the first that doesn't pass decides.
+pub(crate) fn find_standing<V: View>(tests: &[RangeInstr], args: &[Arg], view: &V) -> Standing
+    requires { All (IsTestSeen (length (V.sets view.now)) args.now) tests.now }
+    ensures value { result ≡ tested (slot_set (V.sets view.now) args.now) tests.now }
+    ensures rising { result ≡ Standing.Settled
+        → All (TestRises (slot_set (V.sets view.now) args.now)) tests.now }
 {
-    let mut open = false;
-    for (slot, feature) in features {
-        let domain = slot_domain(args, *slot, view);
-        if domain.min().is_none() {
-            return Standing::Empty;
+    for test in tests {
+        match test {
+            RangeInstr::NeedSome(slot) => {
+                if slot_domain(args, *slot, view).min().is_none() {
+                    return Standing::Empty;
+                }
+            }
+            RangeInstr::NeedFixed(slot) => {
+                if is_open(slot_domain(args, *slot, view)) {
+                    return Standing::Open;
+                }
+            }
+            _ => {}
         }
-        open |= is_open(domain, *feature);
     }
-    if open {
-        Standing::Open
-    } else {
-        Standing::Settled
-    }
+    Standing::Settled
 }
 
 /// Whether the domain of some slot has several members.
@@ -110,7 +109,7 @@ pub(crate) fn is_some_open<V: View>(slots: &[usize], args: &[Arg], view: &V) -> 
     ensures { result ≡ list_any (λ s. is_several (slot_set (V.sets view.now) args.now s)) slots.now }
 {
     for slot in slots {
-        if is_open(slot_domain(args, *slot, view), Feature::Val) {
+        if is_open(slot_domain(args, *slot, view)) {
             return true;
         }
     }
@@ -119,7 +118,8 @@ pub(crate) fn is_some_open<V: View>(slots: &[usize], args: &[Arg], view: &V) -> 
 
 /// Whether each domain has a member. This is what `narrow` asks of the sets of its view.
 pub fn are_some(domains: &[Domain]) -> bool
-    ensures some { IsTrue result → (k : ℕ) → is_none_left (family_of domains.now k) ≡ false }
+    ensures some { IsTrue result
+        ↔ ((k : ℕ) → is_none_left (family_of domains.now k) ≡ false) }
     ensures family { IsTrue result → IsFamily INFINITY (family_of domains.now) }
 {
     for domain in domains {

@@ -1,16 +1,18 @@
 //! Ranges that are prepared once and evaluated often: the set of a range over the current domains (Codognet and Diaz 1996).
 #![tactic(auto)]
 
-ghost use Rattle.std.specs.Prelude.{◌≡◌, ◌≤◌, ◌+◌, ◌-◌, ◌^◌, min, ℕ, List, false, length, IfOk, OnOk, IsTrue};
+ghost use Rattle.std.specs.Prelude.{◌≡◌, ◌≤◌, ◌+◌, ◌-◌, ◌^◌, ◌↔◌, min, ℕ, List, false, length, IfOk, OnOk, IsTrue};
 ghost use Rattle.fd_language.specs.RangeVerdict.{is_accepted};
 ghost use Rattle.fd_language.specs.Family.{IsFamily};
 ghost use Rattle.fd_language.specs.Flat.{nodes_of};
 ghost use Rattle.fd_language.specs.Range.{set_of, is_none_left};
 ghost use Rattle.domain_ranges.specs.Narrowing.{IsNarrowed};
-ghost use Rattle.range_code.specs.Slots.{slots_of, slot_needs, slot_features, in_slots};
+ghost use Rattle.range_code.specs.Slots.{slots_of, slot_needs, slot_features, in_slots, IsAlike};
 ghost use Rattle.range_code.specs.Kinds.{slot_kinds, val_slots};
 ghost use Rattle.range_code.specs.Heights.{height};
-ghost use Rattle.range_code.specs.Walked.{all_steps};
+ghost use Rattle.range_code.specs.Folded.{folded_nodes};
+ghost use Rattle.range_code.specs.Instructions.{instructions_of, constants_of, tests_of};
+ghost use Rattle.range_code.specs.Walked.{all_steps, ArePlaced};
 ghost use Rattle.range_code.specs.Forms.{IsForm};
 ghost use Rattle.range_code.specs.Frames.{IsFrame, posted, family_of};
 ghost use Rattle.range_code.specs.declared.frame.Arg.{Arg as AnyArg};
@@ -18,24 +20,29 @@ ghost use Rattle.range_code.specs.declared.frame.Arg.{Arg as AnyArg};
 mod alike;
 mod compile;
 mod evaluate;
+mod fold;
 mod form;
 mod frame;
+mod instr;
 mod work;
 
-use crate::alike::{are_same_needs, are_same_nodes, is_same_node};
+use crate::alike::{are_same_needs, are_same_nodes};
 pub use crate::compile::ReadKind;
 use crate::compile::{
     copy_range, height_of, name_slots, number_variables, read_kinds, read_slots, read_vals,
     slot_needs_of,
 };
 use crate::evaluate::{Steps, evaluate, evaluate_narrowing};
+use crate::fold::fold_literals;
 use crate::form::{Form, form_of};
 pub use crate::frame::{Arg, are_some};
 use crate::frame::{Standing, find_standing, is_some_open};
+pub use crate::instr::RangeInstr;
+use crate::instr::steps_of;
 use crate::work::Work;
 pub use domain_ranges::Narrowed;
 use domain_ranges::{Domain, View};
-use fd_language::{Feature, FlatRange, INFINITY, Need, NoMemory};
+use fd_language::{Feature, FlatRange, INFINITY, Need, NoMemory, RangeNode};
 use monotone_check::{Checked, needs};
 use std::alloc::Global;
 use std::marker::Model;
@@ -51,6 +58,7 @@ pub struct RangeCode {
     features: Vec<(usize, Feature)>,
     kinds: Vec<(usize, ReadKind)>,
     vals: Vec<usize>,
+    nodes: Vec<RangeNode>,
     steps: Steps,
     form: Form,
     height: usize,
@@ -70,7 +78,7 @@ impl Model for RangeCode {
 
     ghost view = { λ c. c.range };
 
-    ghost invariant = { λ c. IsCompiled c.range c.slots.items c.needs.items c.features.items c.kinds.items c.vals.items c.steps c.form c.height };
+    ghost invariant = { λ c. IsCompiled c.range c.slots.items c.needs.items c.features.items c.kinds.items c.vals.items c.nodes.items c.steps c.form c.height };
 }
 
 /// How many ranges were evaluated.
@@ -133,22 +141,24 @@ impl RangeCode {
         &self.range
     }
 
+    /// The instructions of the range: what `run_range` does.
+    pub fn instrs(&self) -> &[RangeInstr]
+        ensures { result.now ≡ instructions_of self.now }
+    {
+        &self.steps.instrs
+    }
+
     /// Whether the other range is the same but for the names of its variables. With the same arguments the two are posted as one range,
     /// so the code of one serves for both.
     pub fn is_alike(&self, other: &RangeCode) -> bool
+        ensures alike { IsTrue result ↔ IsAlike self.now other.now }
         ensures posted { IsTrue result
             → (args : List AnyArg) → posted self.now args ≡ posted other.now args }
         ensures needs { IsTrue result → slot_needs self.now ≡ slot_needs other.now }
         ensures nodes { IsTrue result
             → length (nodes_of self.now) ≡ length (nodes_of other.now) }
     {
-        if !are_same_needs(&self.needs, &other.needs) {
-            return false;
-        }
-        if !are_same_nodes(&self.steps.front, &other.steps.front) {
-            return false;
-        }
-        is_same_node(self.steps.last, other.steps.last)
+        are_same_needs(&self.needs, &other.needs) && are_same_nodes(&self.nodes, &other.nodes)
     }
 
     /// The slots that are read by val.
@@ -159,10 +169,25 @@ impl RangeCode {
         &self.vals
     }
 
-    /// The nodes with slots in place of variables.
-    fn steps(&self) -> &Steps
-        ensures nodes { all_steps result.now ≡ nodes_of (in_slots self.now) }
+    /// The constants that the instructions push, by their places.
+    fn constants(&self) -> &[i128]
+        ensures { result.now ≡ constants_of self.now }
+    {
+        &self.steps.constants
+    }
+
+    /// The tests in front of the other instructions.
+    fn tests(&self) -> &[RangeInstr]
+        ensures tests { result.now ≡ tests_of self.now }
         ensures accepted { IsTrue (is_accepted INFINITY self.now) }
+    {
+        &self.steps.instrs[..self.steps.tests]
+    }
+
+    /// What is evaluated.
+    fn steps(&self) -> &Steps
+        ensures nodes { all_steps result.now ≡ folded_nodes self.now }
+        ensures placed { ArePlaced result.now }
     {
         &self.steps
     }
@@ -189,15 +214,16 @@ pub fn compile_range(alloc: Global, c: &Checked) -> Result<RangeCode, NoMemory>
     let range = copy_range(alloc, c.range())?;
     let source = range.nodes();
     let numbered = number_variables(alloc, source)?;
-    let mut nodes = name_slots(alloc, source, &numbered.numbers)?;
+    let nodes = name_slots(alloc, source, &numbered.numbers)?;
     let features = read_slots(alloc, &nodes)?;
     let kinds = read_kinds(alloc, &features)?;
     let vals = read_vals(alloc, &features, numbered.slots.len())?;
-    let height = height_of(&nodes);
     let asked = needs(alloc, c)?;
     let needs = slot_needs_of(alloc, &numbered.slots, &asked)?;
+    let pieces = fold_literals(alloc, &nodes)?;
+    let height = height_of(&pieces);
+    let steps = steps_of(alloc, &needs, &vals, &pieces)?;
     let form = form_of(alloc, &nodes)?;
-    let last = nodes.pop().unwrap();
     Ok(RangeCode {
         range,
         slots: numbered.slots,
@@ -205,7 +231,8 @@ pub fn compile_range(alloc: Global, c: &Checked) -> Result<RangeCode, NoMemory>
         features,
         kinds,
         vals,
-        steps: Steps { front: nodes, last },
+        nodes,
+        steps,
         form,
         height,
     })
@@ -226,7 +253,7 @@ pub fn run_range<V: View>(
     ensures count { n.new.count ≡ min (n.old.count + 1) (2 ^ 64 - 1) }
 {
     n.add();
-    match find_standing(code.features(), args, view) {
+    match find_standing(code.tests(), args, view) {
         Standing::Empty => Ok(Domain::empty(alloc)),
         Standing::Open => Ok(Domain::full(alloc)),
         Standing::Settled => {

@@ -5,8 +5,8 @@ ghost use Rattle.fd_language.specs.Flat.{nodes_of};
 ghost use Rattle.range_code.specs.Frames.{IsArg, AreArgs, IsFrame};
 
 use crate::{
-    Activations, Arg, Narrowed, RangeCode, ReadKind, Stacks, are_some, compile_range, narrow,
-    run_range,
+    Activations, Arg, Narrowed, RangeCode, RangeInstr, ReadKind, Stacks, are_some, compile_range,
+    narrow, run_range,
 };
 use domain_ranges::{Domain, View};
 use fd_language::{Feature, FlatRange, Need, RangeNode};
@@ -213,5 +213,27 @@ fn alike(rt: HostRuntime) -> Result<(), Fail> {
     let third = code_of(&rt, rt.alloc(), &[Val(3), Int(9), Span])?;
     assert!(rt; first.is_alike(&second));
     assert!(rt; !first.is_alike(&third));
+    Ok(())
+}
+
+/// The instructions of `min(Y)+2*3..9`, and their constants.
+#[test]
+fn compiled(rt: HostRuntime) -> Result<(), Fail> {
+    use RangeNode::*;
+    let nodes = [Min(7), Int(2), Int(3), Mul, Add, Int(9), Span];
+    let code = code_of(&rt, rt.alloc(), &nodes)?;
+    assert_eq!(rt;
+        code.instrs(),
+        [
+            RangeInstr::NeedSome(0),
+            RangeInstr::PushMin(0),
+            RangeInstr::PushConst(0),
+            RangeInstr::Add,
+            RangeInstr::PushConst(1),
+            RangeInstr::Span,
+        ]
+        .as_slice()
+    );
+    assert_eq!(rt; code.constants(), [6, 9].as_slice());
     Ok(())
 }

@@ -6,9 +6,11 @@ ghost use Rattle.fd_language.specs.Range.{div_down, div_up};
 ghost use Rattle.range_code.specs.Work.{IsLimited, operated, CanOperate, CanTakeTerms, CanMove, CanTakeRange, CanTake};
 ghost use Rattle.range_code.specs.Steps.{PushesValue, PushesSet, Operates, Spans, Singles, Joins, Meets, Complements, moved, Moves};
 ghost use Rattle.range_code.specs.Heights.{Counts, KeepsRoom};
+ghost use Rattle.range_code.specs.Instructions.{operator_of};
 
+use crate::instr::RangeInstr;
 use domain_ranges::{Domain, SetStack};
-use fd_language::{INFINITY, NoMemory, RangeNode};
+use fd_language::{INFINITY, NoMemory};
 use std::alloc::Global;
 
 /// The values of the terms and the sets of the ranges that wait for their operators, the last one on top. The nodes spell a range, so
@@ -51,30 +53,30 @@ fn divide_up(a: i128, b: i128) -> i128
 
 /// The value of an operator of two terms.
 #[inline(always)]
-fn operate(node: RangeNode, a: i128, b: i128) -> i128
-    requires { CanOperate node a b }
-    ensures { result ≡ operated node a b }
+fn operate(instr: RangeInstr, a: i128, b: i128) -> i128
+    requires { CanOperate (operator_of instr) a b }
+    ensures { result ≡ operated (operator_of instr) a b }
 {
-    match node {
-        RangeNode::Add => a + b,
-        RangeNode::Sub => a - b,
-        RangeNode::Mul => a * b,
-        RangeNode::DivDown => divide_down(a, b),
-        RangeNode::DivUp => divide_up(a, b),
+    match instr {
+        RangeInstr::Add => a + b,
+        RangeInstr::Sub => a - b,
+        RangeInstr::Mul => a * b,
+        RangeInstr::DivDown => divide_down(a, b),
+        RangeInstr::DivUp => divide_up(a, b),
         _ => 0,
     }
 }
 
 /// The set of a pointwise operator of a set and an integer.
-fn move_set(alloc: Global, node: RangeNode, r: &Domain, c: i128) -> Result<Domain, NoMemory>
-    requires { CanMove node c }
-    ensures { IfOk result (λ d. d ≡ moved node r.now c) }
+fn move_set(alloc: Global, instr: RangeInstr, r: &Domain, c: i128) -> Result<Domain, NoMemory>
+    requires { CanMove (operator_of instr) c }
+    ensures { IfOk result (λ d. d ≡ moved (operator_of instr) r.now c) }
 {
-    match node {
-        RangeNode::Plus => r.shift(c),
-        RangeNode::Minus => r.shift(-c),
-        RangeNode::Times => r.scale(c),
-        RangeNode::Over => r.quotient(c),
+    match instr {
+        RangeInstr::Plus => r.shift(c),
+        RangeInstr::Minus => r.shift(-c),
+        RangeInstr::Times => r.scale(c),
+        RangeInstr::Over => r.quotient(c),
         _ => Ok(Domain::empty(alloc)),
     }
 }
@@ -164,15 +166,15 @@ impl Work {
 
     /// An operator of terms takes the last two.
     #[inline(always)]
-    pub fn take_terms(&mut self, node: RangeNode)
-        requires { CanTakeTerms node self.old }
-        ensures taken { Operates node self.old self.new }
+    pub fn take_terms(&mut self, instr: RangeInstr)
+        requires { CanTakeTerms (operator_of instr) self.old }
+        ensures taken { Operates (operator_of instr) self.old self.new }
         ensures counted { Counts (λ n. n - 1) (λ n. n) self.old self.new }
         ensures room { KeepsRoom self.old self.new }
     {
         if let Some(b) = self.values.pop() {
             if let Some(a) = self.values.pop() {
-                self.values.push_reserved(operate(node, a, b));
+                self.values.push_reserved(operate(instr, a, b));
             }
         }
     }
@@ -246,15 +248,15 @@ impl Work {
 
     /// A pointwise operator takes the last term and the last set.
     #[inline(never)]
-    pub fn take_range(&mut self, node: RangeNode) -> Result<(), NoMemory>
-        requires { CanTakeRange node self.old }
-        ensures taken { OnOk result (Moves node self.old self.new) }
+    pub fn take_range(&mut self, instr: RangeInstr) -> Result<(), NoMemory>
+        requires { CanTakeRange (operator_of instr) self.old }
+        ensures taken { OnOk result (Moves (operator_of instr) self.old self.new) }
         ensures counted { OnOk result (Counts (λ n. n - 1) (λ n. n) self.old self.new) }
         ensures room { KeepsRoom self.old self.new }
     {
         if let Some(c) = self.values.pop() {
             if let Some(r) = self.sets.pop()? {
-                self.sets.push(&move_set(self.alloc, node, &r, c)?)?;
+                self.sets.push(&move_set(self.alloc, instr, &r, c)?)?;
             }
         }
         Ok(())

@@ -1,21 +1,20 @@
-use Rattle.std.proofs.Common.{◌++◌, ◌∷◌, [], ◌∙◌, sym, ap}
-use Rattle.fd_language.proofs.Lemmas.{two}
+use Rattle.std.proofs.Common.{◌∙◌, sym, ap}
 use Rattle.fd_language.specs.Flat.{nodes_of}
-use Rattle.range_code.specs.Slots.{in_slots}
-use Rattle.range_code.specs.Walked.{all_steps}
+use Rattle.range_code.specs.Slots.{slot_needs, in_slots}
 use Rattle.range_code.proofs.Renaming.{alike, same_slots, same_length}
 use Rattle.range_code.proofs.RangeCode.is_alike.Goals as goal
 
-pub returns-clause-posted : goal.returns-clause-posted
-returns-clause-posted c t =
-    let fronts = sym c.deref-3.ensures.value ∙ (c.are_same_nodes.ensures c.if-not-are_same_nodes.false ∙ c.deref-4.ensures.value) in
-    alike c.args.self.now c.args.other.now
-    (same_slots (all_steps c.self.inside.steps) (all_steps c.other.inside.steps) c.args.self.now c.args.other.now (c.self.invariant.nodes ∙ ap (λ r. nodes_of (in_slots r)) c.self.view_is) (c.other.invariant.nodes ∙ ap (λ r. nodes_of (in_slots r)) c.other.view_is)
-    (two (λ f l. f ++ l ∷ []) fronts (c.is_same_node.ensures t)))
+pub returns-then-are_same_needs-clause-alike : goal.returns-then-are_same_needs-clause-alike
+returns-then-are_same_needs-clause-alike c = (
+  λ t. record {
+    same = same_slots _ _ c.args.self.now c.args.other.now (c.deref-then-are_same_needs.ensures.value ∙ (c.self.invariant.nodes ∙ ap (λ r. nodes_of (in_slots r)) c.self.view_is)) (c.deref-then-are_same_needs-2.ensures.value ∙ (c.other.invariant.nodes ∙ ap (λ r. nodes_of (in_slots r)) c.other.view_is)) (c.are_same_nodes.ensures.0 t);
+    needs = sym (c.deref.ensures.value ∙ (c.self.invariant.needs ∙ ap slot_needs c.self.view_is)) ∙ (c.are_same_needs.ensures.0 c.if-are_same_needs.true ∙ (c.deref-2.ensures.value ∙ (c.other.invariant.needs ∙ ap slot_needs c.other.view_is)));
+  },
+  λ h. c.are_same_nodes.ensures.1 ((c.deref-then-are_same_needs.ensures.value ∙ (c.self.invariant.nodes ∙ ap (λ r. nodes_of (in_slots r)) c.self.view_is)) ∙ (ap nodes_of h.same ∙ sym (c.deref-then-are_same_needs-2.ensures.value ∙ (c.other.invariant.nodes ∙ ap (λ r. nodes_of (in_slots r)) c.other.view_is)))),
+)
 
-pub returns-clause-nodes : goal.returns-clause-nodes
-returns-clause-nodes c t =
-    let fronts = sym c.deref-3.ensures.value ∙ (c.are_same_nodes.ensures c.if-not-are_same_nodes.false ∙ c.deref-4.ensures.value) in
-    same_length c.args.self.now c.args.other.now
-    (same_slots (all_steps c.self.inside.steps) (all_steps c.other.inside.steps) c.args.self.now c.args.other.now (c.self.invariant.nodes ∙ ap (λ r. nodes_of (in_slots r)) c.self.view_is) (c.other.invariant.nodes ∙ ap (λ r. nodes_of (in_slots r)) c.other.view_is)
-    (two (λ f l. f ++ l ∷ []) fronts (c.is_same_node.ensures t)))
+pub returns-then-are_same_needs-clause-posted : goal.returns-then-are_same_needs-clause-posted
+returns-then-are_same_needs-clause-posted c t = alike c.args.self.now c.args.other.now (same_slots _ _ c.args.self.now c.args.other.now (c.deref-then-are_same_needs.ensures.value ∙ (c.self.invariant.nodes ∙ ap (λ r. nodes_of (in_slots r)) c.self.view_is)) (c.deref-then-are_same_needs-2.ensures.value ∙ (c.other.invariant.nodes ∙ ap (λ r. nodes_of (in_slots r)) c.other.view_is)) (c.are_same_nodes.ensures.0 t))
+
+pub returns-then-are_same_needs-clause-nodes : goal.returns-then-are_same_needs-clause-nodes
+returns-then-are_same_needs-clause-nodes c t = same_length c.args.self.now c.args.other.now (same_slots _ _ c.args.self.now c.args.other.now (c.deref-then-are_same_needs.ensures.value ∙ (c.self.invariant.nodes ∙ ap (λ r. nodes_of (in_slots r)) c.self.view_is)) (c.deref-then-are_same_needs-2.ensures.value ∙ (c.other.invariant.nodes ∙ ap (λ r. nodes_of (in_slots r)) c.other.view_is)) (c.are_same_nodes.ensures.0 t))

@@ -1,7 +1,8 @@
-use Rattle.std.proofs.Common.{max}
-use Rattle.range_code.specs.Heights.{values_after, sets_after, peak}
+use Rattle.std.proofs.Common.{map}
+use Rattle.range_code.specs.Heights.{tallest}
+use Rattle.range_code.specs.Pieces.{piece_node}
 use Rattle.range_code.proofs.Telling.{IsHigh}
 use Rattle.range_code.proofs.compile.height_of.Given as goal
 
-abbrev pub invariant-loop-node : goal.invariant-loop-node
-invariant-loop-node l = IsHigh l.nodes l.node-index l.values l.sets l.height (max (peak values_after l.nodes 0) (peak sets_after l.nodes 0))
+abbrev pub invariant-loop-piece : goal.invariant-loop-piece
+invariant-loop-piece l = IsHigh (map piece_node l.pieces) l.piece-index l.values l.sets l.height (tallest (map piece_node l.pieces))

@@ -42,7 +42,7 @@ returns-in-Between-clause-narrowed g c =
     let b : SFits w64 c.value.result = search rules in
     let f : SFits w128 c.value-low.result = wider c.value-low.result a in
     let h : SFits w128 c.value.result = wider c.value.result b in
-    let n = simp to_z-of_z at c.narrowed_to.ensures in
+    let n = simp to_z-of_z at c.narrowed_to.ensures.narrowed in
     narrows_same c.narrowed_to.result c.args.target.now (between c.value-low.result c.value.result) _
     (two between c.value-low.ensures c.value.ensures ∙ sym (k.set (slot_set (g.V.View.sets c.args.view.now) c.args.args.now) (slot_integer c.args.args.now))) n
 
