@@ -4,7 +4,7 @@
 ghost use Rattle.std.specs.Prelude.{◌≡◌, ◌<◌, ◌≤◌, ◌+◌, ◌-◌, ◌^◌, ◌&&◌, ◌==◌, not, nat_lt, ℕ, zero, suc, List, [], ◌∷◌, ◌++◌, true, false, if◌then◌else◌, length, take, drop, filter, slice_index_or, vec_len, vec_capacity, IfOk, OnOk, OnErr, IsTrue, MatchOption, All};
 ghost use Rattle.std.specs.List.{list_any};
 ghost use Rattle.fd_language.specs.Family.{has};
-ghost use Rattle.fd_language.specs.Range.{is_none_left, is_several};
+ghost use Rattle.fd_language.specs.Range.{least, greatest, is_none_left, is_several};
 ghost use Rattle.fd_language.specs.Features.{is_same_feature};
 ghost use Rattle.fd_language.specs.declared.range_node.Feature.{Feature as Told};
 
@@ -25,6 +25,7 @@ pub struct Change {
 }
 
 /// An agent that reads a feature of a variable, and one more than the place of the next older link of its chain, or 0.
+/// It takes 16 bytes.
 #[derive(Clone, Copy, Drop)]
 struct Link {
     agent: u32,
@@ -33,7 +34,9 @@ struct Link {
     next: u32,
 }
 
-/// One more than the place of the newest link of each chain of a variable, or 0.
+const _: () = prove!(size_of::<Link>() == 16);
+
+/// One more than the place of the newest link of each chain of a variable, or 0. It takes 16 bytes.
 #[derive(Clone, Copy, Drop)]
 struct Heads {
     min: u32,
@@ -42,7 +45,11 @@ struct Heads {
     dom: u32,
 }
 
+const _: () = prove!(size_of::<Heads>() == 16);
+
 /// The readers of variables. Each variable has a chain for each feature, and all links stand in one list, in the order of the agents.
+///
+/// A call that answers `NoMemory` leaves the chains as they were, and may be tried again.
 #[derive(Drop)]
 pub struct Chains {
     links: Vec<Link>,
@@ -92,24 +99,31 @@ ghost use Rattle.dependency_chains.specs.Waking.{change_of, wakes};
 ghost use Rattle.dependency_chains.specs.Reading.{read_by};
 ghost use Rattle.dependency_chains.specs.Links.{agents_from, AreLinked, AreChains, reads_of, head_of};
 
-/// Whether the domain has several values.
-fn is_open(domain: &Domain) -> bool
-    ensures { result ≡ is_several domain.now }
+/// The least and the greatest value of a domain that isn't empty.
+#[inline(always)]
+fn ends(domain: &Domain) -> (u32, u32)
+    requires { is_none_left domain.now ≡ false }
+    ensures least { result.0 ≡ least domain.now }
+    ensures greatest { result.1 ≡ greatest domain.now }
+    ensures several { not (result.0 == result.1) ≡ is_several domain.now }
 {
-    domain.min() != domain.max()
+    domain.bounds().unwrap()
 }
 
 impl Change {
-    /// How the old domain became the new one. Neither is empty.
+    /// How the old domain became the new one. Neither is empty. No memory is taken.
+    #[inline(always)]
     pub fn between(old: &Domain, new: &Domain) -> Change
         requires old { is_none_left old.now ≡ false }
         requires new { is_none_left new.now ≡ false }
         ensures { result ≡ change_of old.now new.now }
     {
+        let before = ends(old);
+        let after = ends(new);
         Change {
-            min: old.min() != new.min(),
-            max: old.max() != new.max(),
-            fixed: is_open(old) && !is_open(new),
+            min: before.0 != after.0,
+            max: before.1 != after.1,
+            fixed: before.0 != before.1 && after.0 == after.1,
         }
     }
 }
@@ -207,7 +221,7 @@ impl Chains {
         }
     }
 
-    /// One more variable, which nobody reads.
+    /// One more variable, which nobody reads. `NoMemory`: there is no room for it.
     pub fn new_var(&mut self) -> Result<(), NoMemory>
         ensures added { OnOk result (self.new ≡ record self.old { vars = self.old.vars + 1 }) }
         ensures unchanged { OnErr result (self.new ≡ self.old) }
@@ -221,7 +235,8 @@ impl Chains {
         Ok(())
     }
 
-    /// An agent that is at least as late as all others, and reads these features of variables.
+    /// An agent that is at least as late as all others, and reads these features of variables. `NoMemory`: there is no room
+    /// for its links, or a number of an agent, of variables or of links would need more than 32 bits.
     pub fn register(&mut self, agent: usize, features: &[(usize, Feature)]) -> Result<(), NoMemory>
         requires agent { All (λ r. r.agent ≤ agent) self.old.reads }
         requires vars { All (λ d. d.0 < self.old.vars) features.now }

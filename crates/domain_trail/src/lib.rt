@@ -10,21 +10,25 @@ use std::alloc::Global;
 use std::marker::Model;
 use std::mem;
 
-/// A variable's domain, and the stamp of the stretch between two marks in which it last changed.
+/// A variable's domain, and the stamp of the stretch between two marks in which it last changed. It takes 40 bytes.
 #[derive(Drop)]
 struct Cell {
     domain: Domain,
     stamp: u64,
 }
 
-/// What the cell of a variable was.
+const _: () = prove!(size_of::<Cell>() == 40);
+
+/// What the cell of a variable was. It takes 48 bytes.
 #[derive(Drop)]
 struct Saved {
     var: usize,
     cell: Cell,
 }
 
-/// How many cells were saved and how many variables there were, and the stamp before the mark.
+const _: () = prove!(size_of::<Saved>() == 48);
+
+/// How many cells were saved and how many variables there were, and the stamp before the mark. It takes 24 bytes.
 #[derive(Clone, Copy, Drop)]
 struct Mark {
     saved: usize,
@@ -32,10 +36,14 @@ struct Mark {
     stamp: u64,
 }
 
+const _: () = prove!(size_of::<Mark>() == 24);
+
 /// The domains of variables, as a list of stores of which the first is the current one.
 ///
 /// A domain changes in place. Between two marks the old one is saved at most once, unless marks were dropped there:
 /// a variable's stamp tells whether it was. A stamp is never handed out twice, and at the last one every change is saved.
+///
+/// A call that answers `NoMemory` leaves the trail as it was, and may be tried again.
 #[derive(Drop)]
 pub struct Trail {
     alloc: Global,
@@ -94,7 +102,7 @@ impl Trail {
         self.marks.len()
     }
 
-    /// One more variable, which may have any value.
+    /// One more variable, which may have any value, and its number. `NoMemory`: there is no room for it.
     pub fn new_var(&mut self) -> Result<usize, NoMemory>
         ensures number { IfOk result (λ k. k ≡ length self.old.current) }
         ensures added { OnOk result (self.new ≡ record self.old {
@@ -110,7 +118,7 @@ impl Trail {
         Ok(k)
     }
 
-    /// Gives the variable `k` another domain.
+    /// Gives the variable `k` another domain. `NoMemory`: there is no room for the old one; the new one is then gone.
     pub fn narrow(&mut self, k: usize, domain: Domain) -> Result<(), NoMemory>
         requires { k < length self.old.current }
         ensures changed { OnOk result
@@ -129,7 +137,7 @@ impl Trail {
         Ok(())
     }
 
-    /// Puts a copy of the current store below it.
+    /// Puts a copy of the current store below it. `NoMemory`: there is no room for the mark.
     pub fn push_mark(&mut self) -> Result<(), NoMemory>
         ensures marked { OnOk result (self.new ≡ record self.old {
           below = self.old.current ∷ self.old.below;

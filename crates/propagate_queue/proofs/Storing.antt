@@ -2,6 +2,7 @@
 use Rattle.std.proofs.Common.{◌≡◌, ℕ, zero, suc, ◌+◌, ◌-◌, ◌<◌, ◌≤◌, Bool, true, false, cond, ◌||◌, ◌&&◌, ◌==◌, List, [], ◌∷◌, ◌++◌, map, filter, take, drop, reverse, length, get_or, refl, ap, sym, ◌∙◌, subst, inl, inr, ◌⊎◌, arith, eqb-true, not, IsTrue, ◌↔◌, Option, Some, None, All, nat_lt, ltb-true, lt-ltb}
 use Rattle.std.proofs.lemmas.Bool.{cases_Bool, true≢false}
 use Rattle.std.proofs.lemmas.List.{length-append, length-map, length-reverse, length-take-le, length-drop, get_or-take, take-take, take_all, take-map, take-append-drop, reverse-append, drop_at, get_or_append_left, map-append}
+use Rattle.std.proofs.lemmas.Simd.{map-map}
 use Rattle.std.proofs.lemmas.List.Elements.{All-head, All-tail, All-cons, All-nil}
 use Rattle.std.specs.List.{list_any}
 use Rattle.fd_language.specs.declared.TheConstants.{INFINITY}
@@ -26,6 +27,8 @@ use Rattle.range_code.specs.Frames.{family_of}
 use Rattle.dependency_chains.specs.Reading.{Reading, Readings}
 use Rattle.dependency_chains.specs.Waking.{wakes, is_woken}
 use Rattle.domain_trail.specs.Stores.{Stores}
+use Rattle.propagate_queue.specs.declared.instance.Instance.{Instance}
+use Rattle.propagate_queue.specs.Instances.{posting, posted_by}
 use Rattle.propagate_queue.specs.Postings.{Posting, ranged, ranges_of, IsPosting, AreReaders}
 use Rattle.propagate_queue.specs.Queues.{times, flag_at, flagged, AreQueued}
 use Rattle.propagate_queue.specs.Running.{IsAtRest, IsRunning, AreDomains, HasNone}
@@ -466,6 +469,20 @@ sum_whole (y ∷ ys) f g h = omega (arith, h y, sum_whole ys f g h)
 pub whole : (ps : List Indexical) (old new : Family) → weights ps old new ≤ whole_weights ps old
 whole [] old new = omega arith
 whole (p ∷ ps) old new = omega (arith, sum_whole (once (reads p.range)) (weight p.range old new) (whole_weight p.range old) (λ y. weight_whole (reads_more p.range y) (is_several (old y)) (is_several (new y)) (length (old y)) (length (new y))), whole ps old new)
+
+-- ranges that are posted on a part of what is posted weigh no more
+whole_part : (ps qs : List Indexical) (old : Family) → whole_weights ps old ≤ whole_weights (ps ++ qs) old
+whole_part [] qs old = omega arith
+whole_part (p ∷ ps) qs old = omega (arith, whole_part ps qs old)
+
+pub whole_of_part : (old is' rest : List Posting) (list : List Instance) (S T : Family) → is' ++ rest ≡ old ++ map posting list → weights (ranges_of is') S T ≤ whole_weights (ranges_of old ++ posted_by list) S
+whole_of_part old is' rest list S T e =
+    let all : ranges_of is' ++ ranges_of rest ≡ ranges_of old ++ posted_by list =
+    sym (map-append ranged is' rest) ∙ (ap ranges_of e ∙ (map-append ranged old (map posting list) ∙ ap (λ l. ranges_of old ++ l) (map-map ranged posting list))) in
+    let a = whole (ranges_of is') S T in
+    let b = whole_part (ranges_of is') (ranges_of rest) S in
+    let c = ap (λ l. whole_weights l S) all in
+    omega arith
 
 -- the store once more is posted
 pub posted_store : (is is' : List Posting) (flags flags' : List Bool) (agenda agenda' : List ℕ) (spare spare' : ℕ) (readings readings' : Readings) (trail trail' : Stores) (ms : List ℕ) (lost lost' spent spent' : Bool) → IsStore is flags agenda spare readings trail ms lost spent

@@ -59,9 +59,9 @@ with_variable l = record l { sets = l.sets ++ universe INFINITY ∷ [] }
 abbrev pub step_weight : Level → Level → ℕ
 step_weight old new = weights new.posted (family_of old.sets) (family_of new.sets)
 
--- the most that it may weigh, whatever becomes of the sets
-abbrev pub whole_weight_of_step : Level → Level → ℕ
-whole_weight_of_step old new = whole_weights new.posted (family_of old.sets)
+-- the most that the change may weigh where these are posted on a level, whatever becomes of the sets
+abbrev pub whole_weight_of_post : Level → List Indexical → ℕ
+whole_weight_of_post old new = whole_weights (old.posted ++ new) (family_of old.sets)
 
 -- how a post leaves the current level
 abbrev pub IsPosted : Posted → Level → Type 0

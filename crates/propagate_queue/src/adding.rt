@@ -1,6 +1,6 @@
 //! New agents: their numbers, their places in the chains and on the agenda.
 
-ghost use Rattle.std.specs.Prelude.{◌≡◌, ◌<◌, ◌≤◌, ◌+◌, ◌++◌, ◌∷◌, [], ℕ, true, map, take, filter, nat_lt, length, All, OnOk, OnErr};
+ghost use Rattle.std.specs.Prelude.{◌≡◌, ◌<◌, ◌≤◌, ◌+◌, ◌++◌, ◌∷◌, [], ℕ, List, true, map, take, filter, nat_lt, length, All, OnOk, OnErr};
 ghost use Rattle.fd_language.specs.declared.TheConstants.{INFINITY as TOP};
 ghost use Rattle.fd_language.specs.Features.{range_features};
 ghost use Rattle.fd_language.specs.Monotonicity.{IsMonotone};
@@ -9,7 +9,7 @@ ghost use Rattle.range_code.specs.Frames.{variable_of};
 ghost use Rattle.dependency_chains.specs.declared.Change.{Change as Told};
 ghost use Rattle.dependency_chains.specs.Waking.{is_woken};
 ghost use Rattle.propagate_queue.specs.Instances.{posting, indexical, IsInstance};
-ghost use Rattle.propagate_queue.specs.Postings.{ranges_of, IsPosting, AreReaders};
+ghost use Rattle.propagate_queue.specs.Postings.{Posting, ranges_of, IsPosting, AreReaders};
 ghost use Rattle.propagate_queue.specs.Queues.{AreQueued};
 
 use crate::agenda::Agenda;
@@ -119,6 +119,8 @@ pub fn add_agents<A: Agenda>(
     requires old { All (IsPosting vars) agents.old }
     requires monotone { AllPosted (λ p. IsMonotone TOP p.range) (ranges_of agents.old) }
     ensures agents { OnOk result (agents.new ≡ agents.old ++ map posting list.items) }
+    ensures part { (rest : List Posting) × (agents.new ++ rest
+        ≡ agents.old ++ map posting list.items) }
     ensures flags { OnOk result (queued.new.items ≡ queued.old.items
         ++ map (λ _. true) list.items) }
     ensures queued { OnOk result (AreQueued queued.new.items (A.agents agenda.new)

@@ -1,13 +1,13 @@
 //! The store: domains under posted ranges, in levels.
 
-ghost use Rattle.std.specs.Prelude.{◌≡◌, ◌<◌, ◌≤◌, ◌+◌, ◌++◌, ◌∷◌, [], ℕ, true, false, map, take, drop, filter, nat_lt, length, All, IfOk, OnOk, OnErr, MatchBool};
+ghost use Rattle.std.specs.Prelude.{◌≡◌, ◌<◌, ◌≤◌, ◌+◌, ◌++◌, ◌∷◌, [], ℕ, List, true, false, map, take, drop, filter, nat_lt, length, All, IfOk, OnOk, OnErr, MatchBool};
 ghost use Rattle.fd_language.specs.declared.TheConstants.{INFINITY as TOP};
 ghost use Rattle.fd_language.specs.Monotonicity.{IsMonotone};
 ghost use Rattle.fd_model.specs.Closed.{AllPosted};
 ghost use Rattle.fd_model.specs.Weights.{weights};
 ghost use Rattle.range_code.specs.Frames.{family_of};
 ghost use Rattle.propagate_queue.specs.Instances.{posting, posted_by, IsInstance};
-ghost use Rattle.propagate_queue.specs.Postings.{ranges_of, IsPosting, AreReaders};
+ghost use Rattle.propagate_queue.specs.Postings.{Posting, ranges_of, IsPosting, AreReaders};
 ghost use Rattle.propagate_queue.specs.Queues.{AreQueued};
 ghost use Rattle.propagate_queue.specs.Running.{AreDomains, HasNone};
 
@@ -34,6 +34,8 @@ pub enum Posted {
 }
 
 /// The domains of variables under posted ranges, as a list of levels of which the first is the current one.
+///
+/// Where memory was wanting once, every later call that answers a Result answers `NoMemory`; the levels below stay as they are.
 #[derive(Drop)]
 pub struct Store<A: Agenda + Drop> {
     trail: Trail,
@@ -68,7 +70,7 @@ impl<A: Agenda + Drop> Model for Store<A> {
         (A.spare s.agenda) s.chains s.trail (reverse s.marks.items) s.failed s.spent };
 }
 
-ghost use Rattle.propagate_queue.specs.Stored.{no_levels, with_variable, step_weight, whole_weight_of_step, IsPosted};
+ghost use Rattle.propagate_queue.specs.Stored.{no_levels, with_variable, step_weight, whole_weight_of_post, IsPosted};
 ghost use Rattle.propagate_queue.specs.declared.store.Posted.TheVariants as Ended;
 
 impl<A: Agenda + Drop> Store<A> {
@@ -90,7 +92,8 @@ impl<A: Agenda + Drop> Store<A> {
         }
     }
 
-    /// One more variable, which may have any value.
+    /// One more variable, which may have any value, and its number. `NoMemory`: there is no room for it, or memory was
+    /// wanting before.
     pub fn new_var(&mut self) -> Result<usize, NoMemory>
         ensures number { IfOk result (λ k. k ≡ length self.old.current.sets) }
         ensures added { OnOk result
@@ -110,6 +113,8 @@ impl<A: Agenda + Drop> Store<A> {
     }
 
     /// Posts the ranges behind those that are posted, and narrows the domains until no posted range narrows one further.
+    /// `n` goes up by the activations that this takes. On a level that has failed nothing is activated, and it stays failed.
+    /// `NoMemory`: memory was wanting, now or before; what the current level then holds isn't told.
     pub fn post(&mut self, list: Vec<Instance>, n: &mut Activations) -> Result<Posted, NoMemory>
         requires { All (IsInstance (length self.old.current.sets)) list.items }
         ensures posted { OnOk result (self.new.current.posted ≡ self.old.current.posted
@@ -124,8 +129,8 @@ impl<A: Agenda + Drop> Store<A> {
         ensures uncounted { self.old.spent ≡ true → n.new.count ≡ n.old.count }
         ensures count { n.new.count
             ≤ n.old.count + (length list.items + step_weight self.old.current self.new.current) }
-        ensures whole { n.new.count
-            ≤ n.old.count + (length list.items + whole_weight_of_step self.old.current self.new.current) }
+        ensures whole { n.new.count ≤ n.old.count
+            + (length list.items + whole_weight_of_post self.old.current (posted_by list.items)) }
     {
         if self.spent {
             return Err(NoMemory);
@@ -179,7 +184,8 @@ impl<A: Agenda + Drop> Store<A> {
         let _ = &self.agents;
     }
 
-    /// Puts an equal level below the current one, which hasn't failed.
+    /// Puts an equal level below the current one, which hasn't failed. `NoMemory`: there is no room for the mark, or memory
+    /// was wanting before; the levels are then as they were.
     pub fn push_mark(&mut self) -> Result<(), NoMemory>
         requires { self.old.current.failed ≡ false }
         ensures marked { OnOk result (self.new ≡ record self.old {
@@ -256,6 +262,8 @@ fn post_all<A: Agenda>(
     requires settled { lost ≡ false → AreDomains (ranges_of agents.old) trail.old.current }
     requires failed { lost ≡ true → HasNone (ranges_of agents.old) (length trail.old.current) }
     ensures agents { OnOk result (agents.new ≡ agents.old ++ map posting list.items) }
+    ensures part { (rest : List Posting) × (agents.new ++ rest
+        ≡ agents.old ++ map posting list.items) }
     ensures instances { All (IsPosting (length trail.old.current)) agents.new }
     ensures monotone { AllPosted (λ p. IsMonotone TOP p.range) (ranges_of agents.new) }
     ensures readers { AreReaders (ranges_of agents.new) chains.new.reads }

@@ -1,7 +1,7 @@
-use Rattle.std.proofs.Common.{rules, ◌++◌, ◌∷◌, [], ◌∙◌, List, true, map, length, ap, sym, subst, arith, All}
+use Rattle.std.proofs.Common.{rules, ◌≡◌, ◌++◌, ◌∷◌, [], ◌∙◌, List, true, map, length, take, drop, ap, sym, subst, arith, All}
 use Rattle.std.proofs.lemmas.Iterator.Adapters.{YieldsList-from_vec}
-use Rattle.std.proofs.lemmas.Iterator.Consumers.{YieldsList-turn}
-use Rattle.std.proofs.lemmas.List.{append_assoc, map-append, length-append}
+use Rattle.std.proofs.lemmas.Iterator.Consumers.{YieldsList-turn, YieldsList-so_far}
+use Rattle.std.proofs.lemmas.List.{append_assoc, map-append, map-id, length-append, take-append-drop}
 use Rattle.std.proofs.lemmas.List.Elements.{All-push}
 use Rattle.fd_language.specs.declared.TheConstants.{INFINITY}
 use Rattle.fd_language.specs.Monotonicity.{IsMonotone}
@@ -11,6 +11,13 @@ use Rattle.propagate_queue.specs.Postings.{IsPosting}
 use Rattle.propagate_queue.specs.Instances.{posting, IsInstance}
 use Rattle.propagate_queue.proofs.NewAgents.{posted_more}
 use Rattle.propagate_queue.proofs.adding.add_agents.Goals as goal
+
+rest_of : (old : List Posting) (yielded list : List Instance) → map (λ x. x) yielded ≡ take (length yielded) list → (rest : List Posting) × ((old ++ map posting yielded) ++ rest ≡ old ++ map posting list)
+rest_of old yielded list e = (
+  map posting (drop (length yielded) list),
+  append_assoc old (map posting yielded) (map posting (drop (length yielded) list))
+      ∙ ap (λ l. old ++ l) (sym (map-append posting yielded (drop (length yielded) list)) ∙ ap (map posting) (ap (λ l. l ++ drop (length yielded) list) (sym (map-id yielded) ∙ e) ∙ take-append-drop (length yielded) list)),
+)
 
 pub loop-instance-preserved : goal.loop-instance-preserved
 loop-instance-preserved g c =
@@ -31,3 +38,9 @@ loop-instance-preserved g c =
       within = c.in_ok-add_agent.ensures.within;
       kept = λ m h. c.in_ok-add_agent.ensures.kept m (omega (arith, h, ap length inv.agents, length-append old (map posting c.loop-instance.yielded))) ∙ inv.kept m h;
     }
+
+pub returns-in_err-add_agent-clause-part : goal.returns-in_err-add_agent-clause-part
+returns-in_err-add_agent-clause-part g c =
+    let old = c.args.agents.now in
+    let so_far = YieldsList-so_far (YieldsList-from_vec {s = c.into_iter-instance-iterator.result} c.args.list.items (search rules) (search rules)) c.loop-instance.yielded c.loop-instance.instance-iterator c.loop-instance.yielded_by in
+    subst (λ l. (rest : List Posting) × (l ++ rest ≡ old ++ map posting c.args.list.items)) (sym (c.in_err-add_agent.ensures.unchanged ∙ c.loop-instance.invariant.agents)) (rest_of old c.loop-instance.yielded c.args.list.items so_far)

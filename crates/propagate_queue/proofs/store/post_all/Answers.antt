@@ -1,4 +1,4 @@
-use Rattle.std.proofs.Common.{◌++◌, ◌∙◌, List, Bool, map, length, ap, sym, subst, arith}
+use Rattle.std.proofs.Common.{◌++◌, ◌∙◌, List, Bool, map, length, ap, refl, sym, subst, arith}
 use Rattle.std.proofs.lemmas.List.{length-map}
 use Rattle.propagate_queue.specs.Instances.{posting}
 use Rattle.std.specs.Prelude.{IfOk, MatchBool}
@@ -9,6 +9,9 @@ use Rattle.propagate_queue.specs.Running.{AreDomains, HasNone}
 use Rattle.propagate_queue.proofs.NewAgents.{same_flags}
 use Rattle.propagate_queue.proofs.Storing.{none_more, starts, flagged_new}
 use Rattle.propagate_queue.proofs.store.post_all.Goals as goal
+
+pub returns-in_err-reserve-clause-part : goal.returns-in_err-reserve-clause-part
+returns-in_err-reserve-clause-part g c = (map posting c.args.list.items, refl)
 
 pub returns-then-lost-clause-done : goal.returns-then-lost-clause-done
 returns-then-lost-clause-done g c = none_more c.args.agents.now (map posting c.args.list.items) c.add_agents.new.agents (length c.args.trail.now.current) c.in_ok-add_agents.ensures.agents (c.requires.failed c.if-lost.true)

@@ -9,7 +9,7 @@ use Rattle.fd_model.specs.Levels.{Levels}
 use Rattle.propagate_queue.specs.Running.{AreDomains, HasNone}
 use Rattle.propagate_queue.specs.Stored.{levels_below}
 use Rattle.fd_model.specs.Weights.{whole_weights}
-use Rattle.propagate_queue.proofs.Storing.{posted_store, levels_added, whole}
+use Rattle.propagate_queue.proofs.Storing.{posted_store, levels_added, whole_of_part}
 use Rattle.propagate_queue.proofs.store.Store.post.Goals as goal
 
 pub invariant_of-self : goal.invariant_of-self
@@ -29,7 +29,9 @@ returns-in_err-kept-clause-below g c =
 pub returns-in_err-kept-clause-whole : goal.returns-in_err-kept-clause-whole
 returns-in_err-kept-clause-whole g c =
     let t = c.self.inside in
-    omega (arith, c.post_all.ensures.count, whole (ranges_of c.post_all.new.agents) (family_of t.trail.current) (family_of c.post_all.new.trail.current), ap (λ (v : Levels). whole_weights (ranges_of c.post_all.new.agents) (family_of v.current.sets)) c.self.view_is)
+    let part = c.post_all.ensures.part in
+    let all = whole_of_part t.agents c.post_all.new.agents part.0 c.args.list.items (family_of t.trail.current) (family_of c.post_all.new.trail.current) part.1 in
+    omega (arith, c.post_all.ensures.count, all, ap (λ (v : Levels). whole_weights (v.current.posted ++ posted_by c.args.list.items) (family_of v.current.sets)) c.self.view_is)
 
 pub invariant_of-self-2 : goal.invariant_of-self-2
 invariant_of-self-2 g c =
@@ -60,7 +62,9 @@ returns-clause-below g c =
 pub returns-clause-whole : goal.returns-clause-whole
 returns-clause-whole g c =
     let t = c.self.inside in
-    omega (arith, c.post_all.ensures.count, whole (ranges_of c.post_all.new.agents) (family_of t.trail.current) (family_of c.post_all.new.trail.current), ap (λ (v : Levels). whole_weights (ranges_of c.post_all.new.agents) (family_of v.current.sets)) c.self.view_is)
+    let part = c.post_all.ensures.part in
+    let all = whole_of_part t.agents c.post_all.new.agents part.0 c.args.list.items (family_of t.trail.current) (family_of c.post_all.new.trail.current) part.1 in
+    omega (arith, c.post_all.ensures.count, all, ap (λ (v : Levels). whole_weights (v.current.posted ++ posted_by c.args.list.items) (family_of v.current.sets)) c.self.view_is)
 
 pub returns-clause-posted : goal.returns-clause-posted
 returns-clause-posted g c =
