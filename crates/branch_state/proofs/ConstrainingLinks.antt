@@ -1,5 +1,5 @@
 -- Variables of the heap that become variables of the store, one after the other.
-use Rattle.std.proofs.Common.{◌≡◌, ℕ, suc, ◌+◌, ◌<◌, true, false, List, [], ◌∷◌, ◌++◌, length, take, get_or, None, Some, refl, ap, sym, ◌∙◌, subst, inl, inr, arith, eqb-true, ◌==◌}
+use Rattle.std.proofs.Common.{◌≡◌, ℕ, suc, ◌+◌, ◌<◌, true, false, List, [], ◌∷◌, ◌++◌, length, take, get_or, None, Some, refl, ap, sym, ◌∙◌, subst, inl, inr, arith, append-nil, append_assoc, eqb-true, ◌==◌}
 use Rattle.std.proofs.lemmas.Bool.{cases_Bool, or_cases, true≢false}
 use Rattle.fd_language.specs.declared.TheConstants.{INFINITY}
 use Rattle.fd_language.specs.Family.{has, universe}
@@ -14,14 +14,15 @@ use Rattle.heap_cells.specs.Seen.{IsSeen}
 use Rattle.heap_cells.specs.Terms.{Naming, term_of, terms_by, Same}
 use Rattle.heap_cells.specs.Valid.{IsHeap}
 use Rattle.heap_cells.proofs.Ranks.{unbound_term, term-Int, term-Atom, term-Struct}
-use Rattle.machine_frames.specs.Frames.{link_of}
-use Rattle.branch_state.specs.Constraints.{IsUnbound, AreUnbound}
+use Rattle.machine_frames.specs.Frames.{link_of, link_in}
+use Rattle.branch_state.specs.Constraints.{IsUnbound}
+use Rattle.branch_state.specs.Listing.{LinksMore}
 use Rattle.branch_state.specs.declared.look.Look.{Look}
 use Rattle.branch_state.specs.declared.look.Look.TheVariants.{Open, Linked}
-use Rattle.branch_state.specs.Naming.{LooksAs, integers, IsNaming, NameStep}
+use Rattle.branch_state.specs.Naming.{LooksAs, integers, IsNaming, NameStep, OwnLinks}
 use Rattle.branch_state.proofs.ConstrainingHeaps.{unbound_kept}
-use Rattle.branch_state.proofs.ConstrainingSteps.{take_more, has_at}
-use Rattle.branch_state.proofs.Named.{naming_next}
+use Rattle.branch_state.proofs.ConstrainingSteps.{take_more}
+use Rattle.branch_state.proofs.Named.{naming_start, naming_next}
 
 no_name : Naming
 no_name a = []
@@ -115,9 +116,26 @@ module _ (h : Cells) (valid : IsHeap h) (x : ℕ) (u : IsUnbound h x) where
 
 -- ---- a list of them
 
-pub next_unbound : (h : Cells) (sets : List (List ℕ)) (xs : List ℕ) (i d : ℕ) → i < length xs → AreUnbound h xs → (ys : List ℕ) (now : Cells) (S : List (List ℕ)) → IsNaming Var h sets ys now S [] [] → IsUnbound now (get_or xs i d)
-next_unbound h sets xs i d l a ys now S w = unbound_kept h now (let e = w.links.size in omega (arith, e)) w.links.terms (get_or xs i d) (a (get_or xs i d) (has_at xs i d l))
+module _ (h : Cells) (sets : List (List ℕ)) where
+  pub links_none : LinksMore h sets [] h sets
+  links_none first before ys w = subst (λ zs. IsNaming Var first before zs h sets [] []) (sym (append-nil ys)) w
 
-pub links_step : (h : Cells) (sets : List (List ℕ)) (xs : List ℕ) (i d : ℕ) → i < length xs → (now now' : Cells) (S S' : List (List ℕ)) → IsNaming Var h sets (take i xs) now S [] []
-    → ((g : Cells) (gs : List (List ℕ)) (ys : List ℕ) → IsNaming Var g gs ys now S [] [] → IsNaming Var g gs (ys ++ get_or xs i d ∷ []) now' S' [] []) → IsNaming Var h sets (take (i + 1) xs) now' S' [] []
-links_step h sets xs i d l now now' S S' w step = subst (λ ys. IsNaming Var h sets ys now' S' [] []) (sym (take_more xs i d l)) (step h sets (take i xs) w)
+  pub links_both : (xs ys : List ℕ) (middle now : Cells) (S T : List (List ℕ)) → LinksMore h sets xs middle S → LinksMore middle S ys now T → LinksMore h sets (xs ++ ys) now T
+  links_both xs ys middle now S T a b first before zs w = subst (λ l. IsNaming Var first before l now T [] []) (append_assoc zs xs ys) (b first before (zs ++ xs) (a first before zs w))
+
+  pub links_step : (xs : List ℕ) (i d : ℕ) → i < length xs → (middle : Cells) (S : List (List ℕ)) (now : Cells) (T : List (List ℕ)) → LinksMore h sets (take i xs) middle S → LinksMore middle S (get_or xs i d ∷ []) now T → LinksMore h sets (take (i + 1) xs) now T
+  links_step xs i d l middle S now T a b = subst (λ ys. LinksMore h sets ys now T) (sym (take_more xs i d l)) (links_both (take i xs) (get_or xs i d ∷ []) middle now S T a b)
+
+  module _ (own : OwnLinks (length sets) h) (xs : List ℕ) (now : Cells) (S : List (List ℕ)) (more : LinksMore h sets xs now S) where
+    pub links_named : IsNaming Var h sets xs now S [] []
+    links_named = more h sets [] (naming_start Var h sets own)
+
+    pub links_own : OwnLinks (length S) now
+    links_own = let w = links_named in record { valid = w.links.valid; below = w.below; one = w.links.one }
+
+    pub links_unbound : (x : ℕ) → IsUnbound h x → IsUnbound now x
+    links_unbound x u = let w = links_named in unbound_kept h now (let e = w.links.size in omega (arith, e)) w.links.terms x u
+
+    -- a variable that was linked stays so
+    pub links_keep : (x k : ℕ) → link_in h x ≡ Some k → link_in now x ≡ Some k
+    links_keep x k e = links_named.links.keep x k e

@@ -41,11 +41,12 @@ use Rattle.range_code.specs.Frames.{AreArgs, IsArg, posted}
 use Rattle.range_code.specs.Slots.{slots_of, need_at}
 use Rattle.range_code.proofs.Once.{has_once}
 use Rattle.propagate_queue.specs.declared.instance.Instance.{Instance}
-use Rattle.propagate_queue.specs.Instances.{posted_by, IsInstance}
+use Rattle.propagate_queue.specs.Instances.{posting, posted_by, IsInstance}
 use Rattle.propagate_queue.specs.Postings.{ranged}
 use Rattle.unify_core.specs.declared.Touch.{Touch}
 use Rattle.unify_core.specs.declared.Touch.TheVariants.{Value}
-use Rattle.branch_state.specs.Constraints.{variables_in, store_variable, row_posting, row_touches, with_variables, AreFrom, AreOpen, AreLinked, firsts, IsUnbound, AreUnbound, IsRowOf, IsRowReady}
+use Rattle.branch_state.specs.Constraints.{variables_in, store_variable, row_posting, row_touches, with_variables, AreFrom, AreOpen, AreLinked, firsts, IsUnbound, AreUnbound, IsRowOf}
+use Rattle.branch_state.specs.Ready.{IsRowReady}
 use Rattle.branch_state.specs.Naming.{or_zero, IsNaming, StandsIn, AllStand, OwnLinks}
 use Rattle.branch_state.specs.States.{IsPair, IsSettled}
 use Rattle.branch_state.specs.Steps.{IsTouchBelow, AreTouchesBelow}
@@ -53,8 +54,9 @@ use Rattle.branch_state.proofs.Arguments.{posted_is}
 use Rattle.branch_state.proofs.Constraining.{all_joined}
 use Rattle.branch_state.proofs.ConstrainingHeaps.{added_valid, added_grown, added_size, added_parts, added_atoms, bound_size, bound_parts, bound_valid, bound_terms, bound_links, bound_atoms, unbound_by, unbound_kept}
 use Rattle.branch_state.proofs.ConstrainingSteps.{linked_slot}
+use Rattle.branch_state.proofs.Listed.{same_ranged, same_instances}
 use Rattle.branch_state.proofs.Places.{AreSettled}
-use Rattle.branch_state.proofs.Touches.{map_twice, EachPosting, all_instances, touch_names}
+use Rattle.branch_state.proofs.Touches.{map_twice, EachPosting, touch_names}
 
 -- ---- ranges without parameters
 
@@ -303,7 +305,7 @@ module _ (h : Cells) (sets : List (List ℕ)) (o : OwnLinks (length sets) h) (qs
 
   -- what is posted
   posted_list : posted_by list ≡ map (rename_indexical of) y.ranges
-  posted_list = map_twice list ∙ ap (map ranged) r.list_is ∙ ranged_plain of y.ranges row.plain
+  posted_list = map_twice list ∙ same_ranged (map posting list) (map (row_posting of) y.ranges) r.list_is ∙ ranged_plain of y.ranges row.plain
 
   posted_touches : store_touches fixed ≡ number_touches of y.equated
   posted_touches = ap store_touches r.touches ∙ touches_same of y.equated
@@ -312,7 +314,7 @@ module _ (h : Cells) (sets : List (List ℕ)) (o : OwnLinks (length sets) h) (qs
   all_posted = two (λ (l : List Indexical) (ts : List store.Touch). (qs ++ l) ++ posts ts) posted_list posted_touches
 
   pub rows_fit : All (IsInstance (length S)) list
-  rows_fit = all_instances (length S) list (map (row_posting of) y.ranges) r.list_is (each_fits (length S) of y.ranges row.plain (λ x e. of_low x (named_out y.ranges row.plain x e)))
+  rows_fit = same_instances (length S) list (map (row_posting of) y.ranges) r.list_is (each_fits (length S) of y.ranges row.plain (λ x e. of_low x (named_out y.ranges row.plain x e)))
 
   pub touches_fit : AreTouchesBelow (length S) fixed
   touches_fit = subst (AreTouchesBelow (length S)) (sym r.touches) (touches_below (length S) H y.fresh y.ranges of of_low y.equated row.fresh)

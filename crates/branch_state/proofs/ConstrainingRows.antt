@@ -23,9 +23,8 @@ use Rattle.term_pool.specs.Contents.{Contents, Entry, Shape, var, int, atom, com
 use Rattle.term_pool.specs.Terms.{term_of, terms_by, shape_term}
 use Rattle.term_pool.specs.Valid.{IsPool, IsWithin, IsStorable, AreStorable}
 use Rattle.term_pool.proofs.Lemmas.{term_of_shape, term_is_storable}
-use Rattle.constraint_expand.specs.declared.Expansion as answer
 use Rattle.constraint_expand.specs.declared.faults.ExpandFault.{ExpandFault}
-use Rattle.constraint_expand.specs.Views.{Expands, expansion_of}
+use Rattle.constraint_expand.specs.Views.{Expands}
 use Rattle.heap_cells.proofs.Elements.{head_of, tail_of}
 use Rattle.branch_state.specs.Constraints.{AreFrom, AreWords}
 
@@ -235,6 +234,6 @@ pub all_storable : (c : Contents) → IsPool c → (ts : List TermId) → All (�
 all_storable c pool [] own = tt
 all_storable c pool (t ∷ ts) own = (term_is_storable c pool t (head_of (λ t. t.number < length c.entries) t ts own), all_storable c pool ts (tail_of (λ t. t.number < length c.entries) t ts own))
 
-pub answer_words : (c : Contents) → IsPool c → (ts : List TermId) → All (λ t. t.number < length c.entries) ts → (kind : ConstraintKind) (n : ℕ) (r : Result answer.Expansion ExpandFault) → Expands (expand kind (terms_by (term_of c) ts) n) r → IfOk r (λ x. AreWords x.equated.items)
-answer_words c pool ts own kind n (Ok x) e = equated_words kind (terms_by (term_of c) ts) n (expansion_of x) (all_storable c pool ts own) e
+pub answer_words : (c : Contents) → IsPool c → (ts : List TermId) → All (λ t. t.number < length c.entries) ts → (kind : ConstraintKind) (n : ℕ) (r : Result Expansion ExpandFault) → Expands (expand kind (terms_by (term_of c) ts) n) r → IfOk r (λ x. AreWords x.equated)
+answer_words c pool ts own kind n (Ok x) e = equated_words kind (terms_by (term_of c) ts) n x (all_storable c pool ts own) e
 answer_words c pool ts own kind n (Err f) e = tt

@@ -32,7 +32,8 @@ use Rattle.propagate_queue.specs.declared.instance.Instance.{Instance}
 use Rattle.propagate_queue.specs.Instances.{posted_by, IsInstance}
 use Rattle.unify_core.specs.declared.Touch.{Touch}
 use Rattle.unify_core.specs.Outcome.{IfTrue, IfFalse}
-use Rattle.branch_state.specs.Constraints.{row_of, IsConstrained, Constrains, IsRowOf, IsRowReady}
+use Rattle.branch_state.specs.Constraints.{row_of, IsConstrained, Constrains, IsRowOf}
+use Rattle.branch_state.specs.Ready.{IsRowReady}
 use Rattle.branch_state.specs.Naming.{OwnLinks, with_sets}
 use Rattle.branch_state.specs.Ranges.{kept_step}
 use Rattle.branch_state.specs.States.{State, IsPair, ArePairs, IsSound, IsSettled, HasNoModel, IsCell}

@@ -1,10 +1,10 @@
 -- A constraint's ranges, its variables and its touches, one after the other.
-use Rattle.std.proofs.Common.{◌≡◌, ℕ, zero, suc, ◌+◌, ◌-◌, ◌<◌, ◌≤◌, true, false, ◌==◌, nat_lt, ℤ, List, [], ◌∷◌, ◌++◌, length, map, take, get_or, Some, refl, ap, sym, ◌∙◌, subst, inl, inr, arith, append_assoc, append-nil, eq-eqb}
+use Rattle.std.proofs.Common.{◌≡◌, ℕ, zero, suc, ◌+◌, ◌-◌, ◌<◌, ◌≤◌, true, false, ◌==◌, nat_lt, ℤ, List, [], ◌∷◌, ◌++◌, length, map, take, get_or, Some, refl, ap, sym, ◌∙◌, subst, inl, inr, arith, eq-eqb}
 use Rattle.std.proofs.lemmas.Bool.{cases_Bool, or_left, or_right}
 use Rattle.std.proofs.lemmas.Bool.Decides.{nat_tests}
 use Rattle.fd_language.specs.Family.{has}
 use Rattle.fd_language.specs.Range.{Range, Indexical}
-use Rattle.fd_language.proofs.Lemmas.{in_left, in_right, only_member}
+use Rattle.fd_language.proofs.Lemmas.{in_left, only_member}
 use Rattle.heap_cells.specs.declared.Cell.TheVariants as cell
 use Rattle.heap_cells.specs.declared.Seen.{Seen}
 use Rattle.heap_cells.specs.declared.Seen.TheVariants as seen
@@ -14,10 +14,9 @@ use Rattle.constraint_expand.specs.Posts.{indexicals}
 use Rattle.range_code.specs.Slots.{slots_of}
 use Rattle.unify_core.specs.declared.Touch.{Touch}
 use Rattle.unify_core.specs.declared.Touch.TheVariants.{Value}
-use Rattle.branch_state.specs.declared.constraints.Row.{Row}
 use Rattle.machine_frames.specs.Frames.{link_of, link_in}
 use Rattle.machine_frames.proofs.Linking.{slot_behind}
-use Rattle.branch_state.specs.Constraints.{indexical_of, variables_in, firsts, store_variable, row_touches, with_variables, with_integers, AreFrom, AreOpen, AreLinked}
+use Rattle.branch_state.specs.Constraints.{variables_in, firsts, store_variable, row_touches, with_variables, with_integers, AreFrom, AreOpen, AreLinked}
 use Rattle.branch_state.specs.Naming.{or_zero}
 use Rattle.branch_state.proofs.ConstrainingHeaps.{bound_size, bound_else}
 
@@ -30,25 +29,6 @@ take_more xs i d l = ap (λ n. take n xs) (let e : i + 1 ≡ suc i = omega arith
   by_suc (x ∷ xs) zero l = refl
   by_suc (x ∷ xs) (suc i) l = ap (λ ys. x ∷ ys) (by_suc xs i (omega (arith, l)))
 
-pub map_more : {X Y : Type 0} (f : X → Y) (xs : List X) (x : X) → map f (xs ++ x ∷ []) ≡ map f xs ++ f x ∷ []
-map_more f [] x = refl
-map_more f (y ∷ xs) x = ap (λ l. f y ∷ l) (map_more f xs x)
-
--- a mapped list of which one more is done
-pub mapped_step : {X Y Z : Type 0} (f : X → Y) (g : Z → Y) (xs : List X) (i : ℕ) (d : X) → i < length xs → (done new : List Z) (z : Z) → map g done ≡ map f (take i xs) → g z ≡ f (get_or xs i d) → new ≡ done ++ z ∷ [] → map g new ≡ map f (take (i + 1) xs)
-mapped_step f g xs i d l done new z e is n =
-    ap (map g) n ∙ map_more g done z ∙ ap (λ l. l ++ g z ∷ []) e ∙ ap (λ y. map f (take i xs) ++ y ∷ []) is ∙ sym (ap (map f) (take_more xs i d l) ∙ map_more f (take i xs) (get_or xs i d))
-
--- the same where the new ones are listed as they are
-pub listed_step : {X Y : Type 0} (f : X → Y) (xs : List X) (i : ℕ) (d : X) → i < length xs → (done new : List Y) (y : Y) → done ≡ map f (take i xs) → y ≡ f (get_or xs i d) → new ≡ done ++ y ∷ [] → new ≡ map f (take (i + 1) xs)
-listed_step f xs i d l done new y e is n = n ∙ ap (λ l. l ++ y ∷ []) e ∙ ap (λ z. map f (take i xs) ++ z ∷ []) is ∙ sym (ap (map f) (take_more xs i d l) ∙ map_more f (take i xs) (get_or xs i d))
-
-pub mapped_twice : {X Y Z : Type 0} (f : Y → Z) (g : X → Y) (xs : List X) (i : ℕ) → length xs ≤ i → map (λ x. f (g x)) (take i xs) ≡ map f (map g xs)
-mapped_twice f g [] zero l = refl
-mapped_twice f g [] (suc i) l = refl
-mapped_twice f g (x ∷ xs) zero l = absurd (omega (arith, l))
-mapped_twice f g (x ∷ xs) (suc i) l = ap (λ ys. f (g x) ∷ ys) (mapped_twice f g xs i (omega (arith, l)))
-
 -- ---- ranges
 
 abbrev pub of_pair : ℕ × Range → Indexical
@@ -57,22 +37,6 @@ of_pair p = record { target = p.0; range = p.1 }
 pub indexicals_map : (ps : List (ℕ × Range)) → indexicals ps ≡ map of_pair ps
 indexicals_map [] = refl
 indexicals_map (p ∷ ps) = ap (λ (l : List Indexical). of_pair p ∷ l) (indexicals_map ps)
-
-pub range_step : (ps : List (ℕ × Range)) (i : ℕ) (d : ℕ × Range) → i < length ps → (done new : List Row) (r : Row) → map indexical_of done ≡ indexicals (take i ps) → indexical_of r ≡ of_pair (get_or ps i d) → new ≡ done ++ r ∷ [] → map indexical_of new ≡ indexicals (take (i + 1) ps)
-range_step ps i d l done new r e is n = mapped_step of_pair indexical_of ps i d l done new r (e ∙ indexicals_map (take i ps)) is n ∙ sym (indexicals_map (take (i + 1) ps))
-
--- ---- variables
-
-variables_both : (ps : List Indexical) (p : Indexical) → variables_in (ps ++ p ∷ []) ≡ variables_in ps ++ (p.target ∷ slots_of p.range)
-variables_both [] p = append-nil (p.target ∷ slots_of p.range)
-variables_both (q ∷ ps) p = ap (λ l. (q.target ∷ slots_of q.range) ++ l) (variables_both ps p) ∙ sym (append_assoc (q.target ∷ slots_of q.range) (variables_in ps) (p.target ∷ slots_of p.range))
-
-pub variables_step : (rows : List Row) (i : ℕ) (d : Row) → i < length rows → (done first new : List ℕ) → done ≡ variables_in (map indexical_of (take i rows)) → first ≡ done ++ (get_or rows i d).target ∷ [] → new ≡ first ++ slots_of (get_or rows i d).code.value → new ≡ variables_in (map indexical_of (take (i + 1) rows))
-variables_step rows i d l done first new e f n =
-    let r = get_or rows i d in
-    n ∙ ap (λ l. l ++ slots_of r.code.value) (f ∙ ap (λ l. l ++ r.target ∷ []) e)
-    ∙ append_assoc (variables_in (map indexical_of (take i rows))) (r.target ∷ []) (slots_of r.code.value)
-    ∙ sym (ap (λ l. variables_in (map indexical_of l)) (take_more rows i d l) ∙ ap variables_in (map_more indexical_of (take i rows) r) ∙ variables_both (map indexical_of (take i rows)) (indexical_of r))
 
 -- ---- touches
 
@@ -153,24 +117,6 @@ target_linked h p a = one_linked h (variables_in (p ∷ [])) p.target (or_left (
 
 pub slots_linked : (h : Cells) (p : Indexical) → AreLinked h (variables_in (p ∷ [])) → AreLinked h (slots_of p.range)
 slots_linked h p a y e = a y (or_right (p.target == y) (has (slots_of p.range ++ []) y) (in_left (slots_of p.range) [] y e))
-
-range_in : (ps : List Indexical) (i : ℕ) (d : Indexical) → i < length ps → (y : ℕ) → has (variables_in (get_or ps i d ∷ [])) y ≡ true → has (variables_in ps) y ≡ true
-range_in [] i d l y e = absurd (omega (arith, l))
-range_in (p ∷ ps) zero d l y e = in_left (p.target ∷ slots_of p.range) (variables_in ps) y (subst (λ xs. has xs y ≡ true) (append-nil (p.target ∷ slots_of p.range)) e)
-range_in (p ∷ ps) (suc i) d l y e = in_right (p.target ∷ slots_of p.range) (variables_in ps) y (range_in ps i d (omega (arith, l)) y e)
-
-map_at : (rows : List Row) (i : ℕ) (d : Row) → i < length rows → get_or (map indexical_of rows) i (indexical_of d) ≡ indexical_of (get_or rows i d)
-map_at [] i d l = absurd (omega (arith, l))
-map_at (r ∷ rows) zero d l = refl
-map_at (r ∷ rows) (suc i) d l = map_at rows i d (omega (arith, l))
-
-length_map : (rows : List Row) → length (map indexical_of rows) ≡ length rows
-length_map [] = refl
-length_map (r ∷ rows) = ap suc (length_map rows)
-
-pub row_linked : (h : Cells) (rows : List Row) (i : ℕ) (d : Row) → i < length rows → AreLinked h (variables_in (map indexical_of rows)) → AreLinked h (variables_in (indexical_of (get_or rows i d) ∷ []))
-row_linked h rows i d l a y e =
-    a y (range_in (map indexical_of rows) i (indexical_of d) (let n = length_map rows in omega (arith, n, l)) y (subst (λ (p : Indexical). has (variables_in (p ∷ [])) y ≡ true) (sym (map_at rows i d l)) e))
 
 first_linked : (h : Cells) (ds : List (ℕ × ℤ)) (i : ℕ) (d : ℕ × ℤ) → i < length ds → has (firsts ds) (get_or ds i d).0 ≡ true
 first_linked h [] i d l = absurd (omega (arith, l))

@@ -8,6 +8,7 @@ mod ConstrainingRows
 mod ConstrainingSteps
 mod ConstrainingHeaps
 mod ConstrainingLinks
+mod Listed
 mod ConstrainingPosts
 mod ConstrainingStates
 pub mod Touches

@@ -1,5 +1,5 @@
 -- What a constraint does to a branch.
-use Rattle.std.specs.Prelude.{◌≡◌, ℕ, zero, suc, ◌+◌, ◌-◌, ◌<◌, ◌≤◌, true, false, ℤ, List, [], ◌∷◌, ◌++◌, length, map, All, FitsSigned, Option, Some, ◌⊎◌, Result, Ok, Err}
+use Rattle.std.specs.Prelude.{◌≡◌, ℕ, zero, suc, ◌+◌, ◌<◌, ◌≤◌, true, false, ℤ, List, [], ◌∷◌, ◌++◌, length, map, All, FitsSigned, Option, Some, ◌⊎◌, Result, Ok, Err}
 use Rattle.std.specs.Int.{w64}
 use Rattle.fd_language.specs.Family.{has}
 use Rattle.fd_language.specs.Range.{Indexical, params}
@@ -18,8 +18,6 @@ use Rattle.machine_relation.specs.Store.{posts}
 use Rattle.range_code.specs.declared.frame.Arg.TheVariants as arg
 use Rattle.range_code.specs.Frames.{family_of}
 use Rattle.range_code.specs.Slots.{slots_of}
-use Rattle.propagate_queue.specs.declared.instance.Instance.{Instance}
-use Rattle.propagate_queue.specs.Instances.{posting}
 use Rattle.propagate_queue.specs.Postings.{Posting}
 use Rattle.unify_core.specs.declared.Touch.{Touch}
 use Rattle.unify_core.specs.declared.Touch.TheVariants.{Value}
@@ -27,10 +25,9 @@ use Rattle.machine_frames.specs.Frames.{link_in}
 use Rattle.machine_frames.specs.Naming.{full}
 use Rattle.machine_frames.specs.Posting.{IsRowLinked}
 use Rattle.machine_frames.specs.Reading.{heap_row}
-use Rattle.branch_state.specs.declared.constraints.Row.{Row}
 use Rattle.branch_state.specs.declared.step.Step.{Step}
 use Rattle.branch_state.specs.declared.step.Step.TheVariants.{Kept, Failed, Fault}
-use Rattle.branch_state.specs.Naming.{or_zero, IsNaming}
+use Rattle.branch_state.specs.Naming.{or_zero}
 use Rattle.branch_state.specs.States.{State, HasNoModel, IsSound, IsSoundBelow}
 
 -- the row of the constraint, by the branch's heap and sets
@@ -53,10 +50,6 @@ abbrev pub Constrains : List Name → State → ConstraintKind → Cell → Stat
 Constrains names old kind c new Kept = IsConstrained names old kind c new.heaps.now new.levels.current.posted × IsSound new
 Constrains names old kind c new Failed = ((qs : List Indexical) × IsConstrained names old kind c new.heaps.now qs × HasNoModel qs) × IsSoundBelow new
 Constrains names old kind c new (Fault f) = (row_of names old kind c ≡ Err f) × (new ≡ old)
-
--- a posted range with its code
-abbrev pub indexical_of : Row → Indexical
-indexical_of r = record { target = r.target; range = r.code.value }
 
 -- the variables that ranges name
 abbrev pub variables_in : List Indexical → List ℕ
@@ -123,11 +116,3 @@ pub record IsRowOf (h : Cells) (y : Expansion) : Type 0 where
   pub equated : AreFrom (length h.slots) y.equated
   pub fresh : AllFresh (length h.slots) y.fresh y.ranges y.equated
   pub plain : AllPosted (λ p. params p.range ≡ []) y.ranges
-
--- The row's variables are linked, what it posts is listed, and the equated variables are bound.
-pub record IsRowReady (h : Cells) (sets : List (List ℕ)) (y : Expansion) (now : Cells) (S : List (List ℕ)) (list : List Instance) (fixed : List Touch) : Type 0 where
-  pub middle : Cells
-  pub naming : IsNaming Var (with_variables (y.fresh - length h.slots) h) sets (variables_in y.ranges) middle S [] []
-  pub bound_now : now ≡ with_integers y.equated middle
-  pub list_is : map posting list ≡ map (row_posting (store_variable middle)) y.ranges
-  pub touches : fixed ≡ row_touches (store_variable middle) y.equated

@@ -7,3 +7,5 @@ pub mod Ranges
 pub mod Showing
 pub mod Compounds
 pub mod Constraints
+pub mod Listing
+pub mod Ready

@@ -4,6 +4,7 @@
 mod codes;
 mod constraints;
 mod heap_facts;
+mod listing;
 mod look;
 mod naming;
 mod posting;

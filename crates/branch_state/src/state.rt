@@ -37,6 +37,9 @@ use term_pool::{AtomId, Pool, TermId};
 use unify_core::{Touch, unify_into};
 
 /// A heap and a store, as a list of pairs of which the first is the current one.
+///
+/// Want of memory is told by `NoMemory`. A call that changes the branch may have done a part of it then: no call but `heap` and `store`
+/// is made any more. The pairs below are as they were.
 #[derive(Drop)]
 pub struct BranchState<A: Agenda + Drop> {
     alloc: Global,
@@ -68,7 +71,7 @@ impl<A: Agenda + Drop> Model for BranchState<A> {
 
 impl<A: Agenda + Drop> BranchState<A> {
     /// A branch with no variables, whose cells name the first `atoms` atoms of a pool, and an equal one below it. The error is want of
-    /// memory.
+    /// memory; the agenda is gone then.
     pub fn new(alloc: Global, agenda: A, atoms: usize) -> Result<BranchState<A>, NoMemory>
         ensures first { IfOk result (λ s. s ≡ first_state atoms) }
         ensures sound { IfOk result IsSound }
@@ -103,7 +106,7 @@ impl<A: Agenda + Drop> BranchState<A> {
         &self.store
     }
 
-    /// A new variable of the heap, which is open. The error is want of memory.
+    /// A new variable of the heap, which is open. After an error the branch isn't used any more.
     pub fn new_var(&mut self) -> Result<Cell, NoMemory>
         requires sound { IsSound self.old }
         ensures id { IfOk result (λ c. c ≡ cell.Ref (length self.old.heaps.now.slots)) }
@@ -115,7 +118,7 @@ impl<A: Agenda + Drop> BranchState<A> {
     }
 
     /// Builds a term of the pool. Its variables are the cells of `env`, by their numbers, and one that has none there gets a new
-    /// variable of the heap. The error is want of memory.
+    /// variable of the heap. After an error the branch isn't used any more.
     pub fn build(
         &mut self,
         pool: &Pool,
@@ -137,7 +140,7 @@ impl<A: Agenda + Drop> BranchState<A> {
         Ok(cell)
     }
 
-    /// A new compound term of cells of the branch. The error is want of memory.
+    /// A new compound term of cells of the branch. After an error the branch isn't used any more.
     pub fn compound(&mut self, f: AtomId, args: &[Cell]) -> Result<Cell, NoMemory>
         requires sound { IsSound self.old }
         requires name { f.number < self.old.atoms }
@@ -149,7 +152,7 @@ impl<A: Agenda + Drop> BranchState<A> {
         self.heap.new_struct(f, args)
     }
 
-    /// Puts a copy of the current pair below it. The error is want of memory.
+    /// Puts a copy of the current pair below it. After an error the branch isn't used any more.
     pub fn mark(&mut self) -> Result<(), NoMemory>
         requires sound { IsSound self.old }
         ensures marked { OnOk result (self.new ≡ with_pair self.old) }
@@ -182,7 +185,7 @@ impl<A: Agenda + Drop> BranchState<A> {
     }
 
     /// Makes two cells equal, and puts what the store is to be told behind `touches`. `false` comes exactly where they can't be equal;
-    /// then the current pair is to be given up by `undo`. The error is want of memory.
+    /// then the current pair is to be given up by `undo`. After an error neither branch nor `touches` is used any more.
     pub fn unify(&mut self, a: Cell, b: Cell, touches: &mut Vec<Touch>) -> Result<bool, NoMemory>
         requires sound { IsSound self.old }
         requires own_a { IsCell self.old a }
@@ -200,7 +203,8 @@ impl<A: Agenda + Drop> BranchState<A> {
     }
 
     /// Tells the store of touches: the ranges that say so are posted behind the others. `false` comes exactly where all have no model;
-    /// then the current pair is to be given up by `undo`. Where there are no touches nothing is done. The error is want of memory.
+    /// then the current pair is to be given up by `undo`. Where there are no touches nothing is done. After an error the branch isn't used
+    /// any more.
     pub fn post_touches(&mut self, touches: &[Touch]) -> Result<bool, NoMemory>
         requires sound { IsSound self.old }
         requires touches { AreTouchesBelow (length self.old.levels.current.sets) touches.now }
@@ -226,7 +230,7 @@ impl<A: Agenda + Drop> BranchState<A> {
     }
 
     /// Posts `T in R`, where `code` is the code of the range, and each variable of the clause has its cell in `env`. After a failure the
-    /// current pair is to be given up by `undo`. The error is want of memory.
+    /// current pair is to be given up by `undo`; after a fault the branch is as it was. After an error the branch isn't used any more.
     pub fn post_range(
         &mut self,
         pool: &Pool,
@@ -270,7 +274,7 @@ impl<A: Agenda + Drop> BranchState<A> {
     }
 
     /// Posts a constraint, whose goal is the term of a cell. `pool` has the atoms that cells name. After a failure the current pair is to be
-    /// given up by `undo`. The error is want of memory.
+    /// given up by `undo`; after a fault the branch is as it was. After an error the branch isn't used any more.
     pub fn constrain(
         &mut self,
         pool: &Pool,
@@ -294,7 +298,7 @@ impl<A: Agenda + Drop> BranchState<A> {
             &mut self.heap,
             &mut self.store,
             fresh,
-            &expansion,
+            expansion,
         )?;
         know(&self.heap);
         let kept = post_rows(
@@ -308,7 +312,7 @@ impl<A: Agenda + Drop> BranchState<A> {
     }
 
     /// What the branch shows of cells: their terms, where a variable of the store with one value is that integer, and the domains of the
-    /// others that occur. `pool` has the atoms that the cells name. The error is want of memory.
+    /// others that occur. `pool` has the atoms that the cells name. The error is want of memory; nothing has changed then.
     pub fn show(&self, pool: &Pool, cells: &[Cell]) -> Result<Shown, NoMemory>
         requires sound { IsSound self.now }
         requires atoms { length pool.now.names ≡ self.now.atoms }

@@ -3,7 +3,6 @@ use Rattle.std.proofs.Common.{◌≡◌, ℕ, suc, Bool, true, false, cond, ℤ,
 use Rattle.std.specs.Prelude.{◌&&◌}
 use Rattle.std.specs.List.{list_all}
 use Rattle.fd_language.specs.Term.{Term}
-use Rattle.fd_language.specs.Range.{Range}
 use Rattle.fd_model.specs.declared.kinds.QueryFault.{QueryFault}
 use Rattle.fd_model.specs.declared.kinds.QueryFault.TheVariants.{Evaluation}
 use Rattle.fd_model.specs.declared.kinds.Relation.{Relation}
@@ -14,8 +13,7 @@ use Rattle.fd_model.specs.LinearRows as rows
 use Rattle.fd_model.specs.Constraining.{compare}
 use Rattle.linear_forms.proofs.Lemmas.{neg_one, one_inside}
 use Rattle.constraint_expand.specs.Nodes.{AreIntegers, IsInside}
-use Rattle.constraint_expand.specs.Posts.{indexicals, Posts}
-use Rattle.constraint_expand.proofs.Different.{posted_list}
+use Rattle.constraint_expand.proofs.Different.{made}
 
 scaled_integers : (ts : List (ℕ × ℤ)) → list_all (λ (t : ℕ × ℤ). in_integers t.1) (scaled (negsuc 0) ts) ≡ list_all (λ (t : ℕ × ℤ). in_integers t.1) ts
 scaled_integers [] = refl
@@ -42,11 +40,8 @@ pub compared_is : (r : Relation) (s t : Term) (n : ℕ) (l m : linear.Linear) �
 compared_is r s t n l m e f =
     ap (λ q. of_one (λ l. Ok (rows.linear_rows (comparison r) l.products l.constant n)) (of_one (normal_form r) q)) e ∙ ap (of_one (λ l. Ok (rows.linear_rows (comparison r) l.products l.constant n))) f
 
-pub compared_expands : (d : Result rows.Expansion QueryFault) (x : rows.Expansion) → d ≡ Ok x → (es : List (ℕ × ℤ)) → x.equated ≡ es → (start list : List (ℕ × Range)) → Posts x.ranges start list → start ≡ [] → (added : ℕ) → added ≡ x.fresh
-    → d ≡ Ok (record { equated = es; ranges = indexicals list; fresh = added })
-compared_expands d x e es f start list p g added h =
-    let ranges : indexicals list ≡ x.ranges = posted_list x.ranges list (subst (λ rs. Posts x.ranges rs list) g p) in
-    e ∙ (λ i. Ok (record { equated = f i; ranges = sym ranges i; fresh = sym h i }))
+pub compared_expands : (d : Result rows.Expansion QueryFault) (y x : rows.Expansion) → d ≡ Ok y → y.equated ≡ [] → x.equated ≡ [] → x.ranges ≡ y.ranges → x.fresh ≡ y.fresh → d ≡ Ok x
+compared_expands d y x e none f r n = e ∙ ap Ok (made x y.equated y.ranges y.fresh (f ∙ sym none) r n)
 
 pub equated_none : (k : linear.Comparison) (ts : List (ℕ × ℤ)) (c : ℤ) (n : ℕ) → (rows.linear_rows k ts c n).equated ≡ []
 equated_none k [] c n = by (rows.compares k (pos 0) c) where

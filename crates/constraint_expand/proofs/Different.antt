@@ -1,10 +1,11 @@
 -- The ranges of variables that differ.
-use Rattle.std.proofs.Common.{◌≡◌, ℕ, ◌+◌, ◌<◌, ◌-◌, ◌^◌, take, length-drop, arith, List, [], ◌∷◌, ◌++◌, length, drop, get_or, drop-cons, add-one, Ok, refl, sym, ap, subst, ◌∙◌, append_assoc, append-nil}
+use Rattle.std.proofs.Common.{◌≡◌, ℕ, ◌+◌, ◌<◌, ◌-◌, ◌^◌, ℤ, take, length-drop, arith, List, [], ◌∷◌, ◌++◌, length, drop, get_or, drop-cons, add-one, Ok, refl, sym, ap, subst, ◌∙◌, append_assoc, append-nil}
 use Rattle.std.specs.Prelude.{IfOk}
 use Rattle.std.proofs.lemmas.List.{take_all}
 use Rattle.fd_language.specs.Term.{Term}
 use Rattle.fd_model.specs.Linear.{of_one}
-use Rattle.fd_model.specs.Members.{Member, as_member, walk, fresh_after}
+use Rattle.fd_model.specs.LinearRows.{Expansion}
+use Rattle.fd_model.specs.Members.{Member, as_member, walk, placed, equated_from, fresh_after}
 use Rattle.fd_model.specs.Constraining.{all_different}
 use Rattle.constraint_expand.specs.declared.members.Placed.{Placed}
 use Rattle.constraint_expand.specs.Lists.{AllPlaced}
@@ -44,11 +45,15 @@ whole_drop s k = take_all (length s - k) (drop k s) (omega (arith, length-drop k
 pub posted_list : (ps : List Indexical) (list : List (ℕ × Range)) → Posts ps [] list → indexicals list ≡ ps
 posted_list ps list p = ap indexicals p ∙ pairs_back ps
 
-pub different_expands : (l : Term) (n : ℕ) (ms : List Member) (p : Placed) (list : List (ℕ × Range)) → walk as_member l ≡ Ok ms → AllPlaced n ms p → Posts (different_ranges p.variables.items) [] list
-    → all_different l n ≡ Ok (record { equated = p.equated.items; ranges = indexicals list; fresh = p.fresh })
-different_expands l n ms p list w a q =
+-- an expansion by its parts
+pub made : (x : Expansion) (es : List (ℕ × ℤ)) (ps : List Indexical) (n : ℕ) → x.equated ≡ es → x.ranges ≡ ps → x.fresh ≡ n → record { equated = es; ranges = ps; fresh = n } ≡ x
+made x es ps n e r f = λ i. record { equated = sym e i; ranges = sym r i; fresh = sym f i }
+
+pub different_expands : (l : Term) (n : ℕ) (ms : List Member) (p : Placed) (x : Expansion) → walk as_member l ≡ Ok ms → AllPlaced n ms p → x.equated ≡ p.equated.items → x.ranges ≡ different_ranges p.variables.items → x.fresh ≡ p.fresh
+    → all_different l n ≡ Ok x
+different_expands l n ms p x w a e r f =
     ap (of_one (λ ms. Ok (different_rows ms n))) w
-    ∙ (λ i. Ok (record { equated = sym a.equated i; ranges = (ap different_ranges (sym a.variables) ∙ sym (posted_list (different_ranges p.variables.items) list q)) i; fresh = sym a.fresh i }))
+    ∙ ap Ok (made x (equated_from n ms) (different_ranges (placed n ms)) (fresh_after n ms) (e ∙ a.equated) (r ∙ ap different_ranges a.variables) (f ∙ a.fresh))
 
 pub different_ends : (l : Term) (n : ℕ) (ms : List Member) → walk as_member l ≡ Ok ms → IfOk (all_different l n) (λ x. x.fresh < 2 ^ 64) → fresh_after n ms < 2 ^ 64
 different_ends l n ms w h = subst (λ r. IfOk r (λ x. x.fresh < 2 ^ 64)) (ap (of_one (λ ms. Ok (different_rows ms n))) w) h

@@ -7,6 +7,7 @@ mod Comparing
 mod Unions
 mod Widths
 mod Counting
+mod Pieces
 mod Arguments
 mod Endings
 pub mod Lemmas

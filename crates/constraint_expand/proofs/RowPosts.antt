@@ -1,12 +1,12 @@
 -- The rows of a form, one by one.
-use Rattle.std.proofs.Common.{◌≡◌, ℕ, zero, suc, ◌+◌, ◌*◌, ◌<◌, ◌≤◌, Bool, true, false, ℤ, pos, negsuc, neg_ℤ, ◌*ℤ◌, ◌<ℤ◌, ◌≤ℤ◌, List, [], ◌∷◌, ◌++◌, length, take, drop, get_or, refl, sym, ap, subst, ◌∙◌, arith, append_assoc}
+use Rattle.std.proofs.Common.{◌≡◌, ℕ, zero, suc, ◌+◌, ◌*◌, ◌<◌, Bool, true, false, ℤ, pos, negsuc, neg_ℤ, ◌*ℤ◌, ◌<ℤ◌, ◌≤ℤ◌, List, [], ◌∷◌, ◌++◌, length, take, drop, get_or, refl, sym, ap, subst, ◌∙◌, arith, append_assoc}
 use Rattle.std.specs.Prelude.{◌&&◌, FitsSigned}
 use Rattle.std.proofs.Common.{to_z, of_z}
 use Rattle.std.specs.Int.{w64, int_wrapping_neg}
 use Rattle.std.specs.List.{list_all}
 use Rattle.std.proofs.lemmas.Int.{ints, to_z-of_z, wrapping_neg_is, int_wrap_fits}
 use lib.Signed.{lt_z}
-use Rattle.fd_language.specs.Range.{Range, Indexical}
+use Rattle.fd_language.specs.Range.{Range}
 use Rattle.fd_language.specs.Flat.{nodes_of, spelled, spelled-nodes}
 use Rattle.fd_language.specs.declared.range_node.RangeNode.{RangeNode}
 use Rattle.fd_model.specs.Linear.{in_integers, scaled}
@@ -14,10 +14,10 @@ use Rattle.fd_model.specs.LinearRows.{row_by_sign, rows_behind}
 use Rattle.linear_forms.proofs.Lemmas.{neg_one, integer_fits, one_inside}
 use Rattle.constraint_expand.specs.declared.rows.Comparison.{Comparison}
 use Rattle.constraint_expand.specs.declared.rows.Form.{Form}
-use Rattle.std.proofs.lemmas.List.{drop_all, take-append-drop, length-take-le, take_more}
+use Rattle.std.proofs.lemmas.List.{take-append-drop, length-take-le, take_more}
 use Rattle.constraint_expand.specs.Nodes.{AreIntegers, CanTurn, comparison_of, lower_reading, upper_reading, product_nodes, row_list, HasProduct, IsForm, AreSides, product_at, row_at, form_rows}
-use Rattle.constraint_expand.proofs.Different.{next_drop, Posting, posting_turns, posting_ends}
-use Rattle.constraint_expand.specs.Posts.{Posts, Accepted}
+use Rattle.constraint_expand.proofs.Different.{next_drop}
+use Rattle.constraint_expand.specs.Pieces.{rows_from}
 use Rattle.constraint_expand.proofs.RowNodes.{straight_row, turned_row, products_length, scaled_length}
 
 -- each coefficient is an integer of the language, and so is its negation
@@ -101,32 +101,10 @@ module _ (k : Comparison) (straight turned : Form) (i : ℕ) (s : AreSides k str
         (subst (λ ts. IsForm k true (scaled (negsuc 0) ts) (neg_ℤ straight.constant) turned) parts (s.turned_form h))
         ∙ ap (λ z. nodes_of (row_by_sign (comparison_of k) straight.constant (take i straight.terms.items ++ drop (i + 1) straight.terms.items) z)) (sym e)
 
--- the rows behind the first i
-abbrev pub rows_from : Comparison → Form → ℕ → List Indexical
-rows_from k form i = rows_behind (comparison_of k) form.constant (take i form.terms.items) (drop i form.terms.items)
-
 pub next_row : (k : Comparison) (form : Form) (i : ℕ) → i < length form.terms.items → rows_from k form i ≡ row_at k form i ∷ rows_from k form (i + 1)
 next_row k form i h =
     ap (rows_behind (comparison_of k) form.constant (take i form.terms.items)) (next_drop form.terms.items i (0, pos 0) h)
     ∙ ap (λ ts. row_at k form i ∷ rows_behind (comparison_of k) form.constant ts (drop (i + 1) form.terms.items)) (sym (take_more form.terms.items i (0, pos 0) h))
-
--- what is posted of the rows, and those ahead
-pub record PostsFrom (k : Comparison) (form : Form) (start now : List (ℕ × Range)) (i : ℕ) : Type 0 where
-  pub posting : Posting (form_rows k form) start now (rows_from k form i)
-  pub accepted : Accepted (rows_from k form i)
-
-pub from_turns : (k : Comparison) (form : Form) (start now new : List (ℕ × Range)) (i : ℕ) → i < length form.terms.items → PostsFrom k form start now i → Posts (row_at k form i ∷ []) now new → PostsFrom k form start new (i + 1)
-from_turns k form start now new i h p q =
-    let here = subst (λ (ps : List Indexical). Posting (form_rows k form) start now ps) (next_row k form i h) p.posting in
-    let ok : Accepted (row_at k form i ∷ rows_from k form (i + 1)) = subst Accepted (next_row k form i h) p.accepted in
-    record { posting = posting_turns (form_rows k form) start now new (row_at k form i ∷ []) (rows_from k form (i + 1)) here q; accepted = ok.1 }
-
-pub row_accepted : (k : Comparison) (form : Form) (start now : List (ℕ × Range)) (i : ℕ) → i < length form.terms.items → PostsFrom k form start now i → Accepted (row_at k form i ∷ [])
-row_accepted k form start now i h p = let ok : Accepted (row_at k form i ∷ rows_from k form (i + 1)) = subst Accepted (next_row k form i h) p.accepted in (ok.0, tt)
-
-pub from_ends : (k : Comparison) (form : Form) (start now : List (ℕ × Range)) (i : ℕ) → length form.terms.items ≤ i → PostsFrom k form start now i → Posts (form_rows k form) start now
-from_ends k form start now i h p =
-    posting_ends (form_rows k form) start now (subst (λ (ps : List Indexical). Posting (form_rows k form) start now ps) (ap (rows_behind (comparison_of k) form.constant (take i form.terms.items)) (drop_all i form.terms.items h)) p.posting)
 
 -- the sides of a form that was made
 self_form : (k : Comparison) (b : Bool) (ts : List (ℕ × ℤ)) (c : ℤ) (form : Form) → IsForm k b ts c form → IsForm k b form.terms.items form.constant form

@@ -4,3 +4,4 @@ pub mod Lists
 pub mod Views
 pub mod Nodes
 pub mod Unions
+pub mod Pieces

@@ -9,7 +9,7 @@ ghost use Rattle.constraint_expand.specs.Faults.{Answers};
 ghost use Rattle.constraint_expand.specs.Nodes.{IsInside, checked_form, comparison_of};
 ghost use Rattle.constraint_expand.specs.Views.{Expands};
 
-use crate::Expansion;
+use crate::expansion::Expansion;
 use crate::faults::ExpandFault;
 use crate::rows::{Comparison, linear_rows, negated};
 use fd_language::NoMemory;
@@ -96,18 +96,12 @@ pub(crate) fn compare(
 {
     let difference = collect(alloc, pool, left, right)?;
     let form = normal_form(alloc, relation, difference)?;
-    let mut list = Vec::new(alloc);
-    let added = linear_rows(
+    let linear = linear_rows(
         alloc,
-        &mut list,
         comparison_for(relation),
         &form.terms,
         form.constant,
         fresh,
     )?;
-    Ok(Expansion {
-        equated: Vec::new(alloc),
-        added,
-        list,
-    })
+    Ok(Expansion::comparing(alloc, linear))
 }

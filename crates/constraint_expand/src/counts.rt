@@ -1,14 +1,15 @@
 //! Lists of which at most so many members are a value.
 
-ghost use Rattle.std.specs.Prelude.{◌≡◌, ◌+◌, ◌^◌, ◌<◌, [], ◌∷◌, length, IfOk, OnOk};
+ghost use Rattle.std.specs.Prelude.{◌≡◌, ◌+◌, ◌^◌, ◌<◌, [], ◌∷◌, length, MatchOption, IfOk, OnOk, OnErr};
 ghost use Rattle.fd_model.specs.Constraining.{atmost as atmost_of};
-ghost use Rattle.fd_model.specs.ListRows.{counter as counter_row, counted as counted_row, counts};
+ghost use Rattle.fd_model.specs.ListRows.{counter as counter_row, counted as counted_row};
 ghost use Rattle.fd_model.specs.ListRows.{units as units_of};
 ghost use Rattle.term_pool.specs.Terms.{term_of};
 ghost use Rattle.constraint_expand.specs.Posts.{Posts};
+ghost use Rattle.constraint_expand.specs.Pieces.{IsPiece, IsOver, counts_ahead, AreNumbers};
 ghost use Rattle.constraint_expand.specs.Views.{Expands};
 
-use crate::Expansion;
+use crate::expansion::Expansion;
 use crate::faults::ExpandFault;
 use crate::members::{members, place_all, read_integer};
 use crate::posts::post;
@@ -111,26 +112,63 @@ fn post_counted(
     post(list, variable, nodes)
 }
 
-/// Posts a counter for each variable, numbered from `first` on, and gives their sum.
-fn post_counts(
-    alloc: Global,
-    list: &mut Vec<(u64, Checked)>,
-    value: i64,
-    variables: &[u64],
-    first: u64,
-) -> Result<Vec<(u64, i64)>, NoMemory>
+/// Variables that are counted, each by a counter of its own, where the counters are numbered from
+/// `first` on; and the place of the first that has not been posted.
+#[derive(Drop)]
+pub(crate) struct Counters {
+    pub value: i64,
+    pub variables: Vec<u64>,
+    pub first: u64,
+    pub next: usize,
+}
+
+impl Counters {
+    /// No variables.
+    pub(crate) fn none(alloc: Global) -> Counters
+        ensures none { counts_ahead result ≡ [] }
+        ensures numbers { AreNumbers result }
+    {
+        Counters {
+            value: 0,
+            variables: Vec::new(alloc),
+            first: 0,
+            next: 0,
+        }
+    }
+
+    /// The ranges of the next variable and its counter, and none where no variable is left.
+    pub(crate) fn next_piece(
+        &mut self,
+        alloc: Global,
+    ) -> Result<Option<Vec<(u64, Checked)>>, NoMemory>
+        requires { AreNumbers self.old }
+        ensures piece { IfOk result (λ p. MatchOption p
+            (IsOver (counts_ahead self.old) (counts_ahead self.new))
+            (λ list. IsPiece (counts_ahead self.old) (counts_ahead self.new) list.items)) }
+        ensures unchanged { OnErr result (self.new ≡ self.old) }
+        ensures numbers { AreNumbers self.new }
+    {
+        if self.next >= self.variables.len() {
+            return Ok(None);
+        }
+        let mut list = Vec::new(alloc);
+        let variable = self.variables[self.next];
+        let counter = self.first + self.next as u64;
+        post_counter(alloc, &mut list, self.value, variable, counter)?;
+        post_counted(alloc, &mut list, self.value, variable, counter)?;
+        self.next += 1;
+        Ok(Some(list))
+    }
+}
+
+/// The sum of counters, which are as many as the variables and are numbered from `first` on.
+fn sum_of(alloc: Global, variables: &[u64], first: u64) -> Result<Vec<(u64, i64)>, NoMemory>
     requires { first + length variables.now < 2 ^ 64 }
-    ensures posts { OnOk result (Posts (counts value variables.now first)
-        list.old.items list.new.items) }
-    ensures units { IfOk result (λ units. units.items ≡ units_of variables.now first) }
+    ensures { IfOk result (λ units. units.items ≡ units_of variables.now first) }
 {
     let mut units = Vec::with_capacity(alloc, variables.len())?;
-    let mut counter = first;
-    for variable in variables {
-        post_counter(alloc, list, value, *variable, counter)?;
-        post_counted(alloc, list, value, *variable, counter)?;
-        units.push((counter, 1))?;
-        counter += 1;
+    for index in 0..variables.len() {
+        units.push((first + index as u64, 1))?;
     }
     Ok(units)
 }
@@ -156,13 +194,8 @@ pub(crate) fn atmost(
     let members = members(alloc, pool, list)?;
     let value = read_integer(pool, value)?;
     let placed = place_all(alloc, &members, fresh)?;
-    let mut list = Vec::new(alloc);
-    let units = post_counts(alloc, &mut list, value, &placed.variables, placed.fresh)?;
+    let units = sum_of(alloc, &placed.variables, placed.fresh)?;
     let next = placed.fresh + units.len() as u64;
-    let added = linear_rows(alloc, &mut list, Comparison::AtMost, &units, most, next)?;
-    Ok(Expansion {
-        equated: placed.equated,
-        added,
-        list,
-    })
+    let sum = linear_rows(alloc, Comparison::AtMost, &units, most, next)?;
+    Ok(Expansion::counting(alloc, value, placed, sum))
 }

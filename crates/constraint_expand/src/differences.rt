@@ -1,13 +1,14 @@
 //! Lists of members that differ.
 
-ghost use Rattle.std.specs.Prelude.{◌^◌, ◌<◌, [], ◌∷◌, length, IfOk, OnOk};
+ghost use Rattle.std.specs.Prelude.{◌≡◌, ◌^◌, ◌<◌, ◌++◌, [], ◌∷◌, length, MatchOption, IfOk, OnOk, OnErr};
 ghost use Rattle.fd_model.specs.Constraining.{all_different as different};
 ghost use Rattle.fd_model.specs.ListRows.{differs, against, pairwise, different_ranges as ranges_of};
 ghost use Rattle.term_pool.specs.Terms.{term_of};
-ghost use Rattle.constraint_expand.specs.Posts.{Posts};
+ghost use Rattle.constraint_expand.specs.Posts.{Posts, indexicals};
+ghost use Rattle.constraint_expand.specs.Pieces.{IsPiece, IsOver, pairs_ahead};
 ghost use Rattle.constraint_expand.specs.Views.{Expands};
 
-use crate::Expansion;
+use crate::expansion::Expansion;
 use crate::faults::ExpandFault;
 use crate::members::{members, place_all};
 use crate::posts::post;
@@ -48,18 +49,45 @@ fn post_against(
     Ok(())
 }
 
-/// Posts that the variables differ, each pair once in each direction.
-fn post_pairwise(
-    alloc: Global,
-    list: &mut Vec<(u64, Checked)>,
-    variables: &[u64],
-) -> Result<(), NoMemory>
-    ensures { OnOk result (Posts (pairwise variables.now) list.old.items list.new.items) }
-{
-    for index in 0..variables.len() {
-        post_against(alloc, list, variables[index], &variables[index + 1..])?;
+/// Variables that differ, each pair once in each direction, and the place of the first that has not
+/// been posted against those behind it.
+#[derive(Drop)]
+pub(crate) struct Pairs {
+    pub variables: Vec<u64>,
+    pub next: usize,
+}
+
+impl Pairs {
+    /// No variables.
+    pub(crate) fn none(alloc: Global) -> Pairs
+        ensures { pairs_ahead result ≡ [] }
+    {
+        Pairs {
+            variables: Vec::new(alloc),
+            next: 0,
+        }
     }
-    Ok(())
+
+    /// The ranges of the next variable against those behind it, and none where no pair is left.
+    pub(crate) fn next_piece(
+        &mut self,
+        alloc: Global,
+    ) -> Result<Option<Vec<(u64, Checked)>>, NoMemory>
+        ensures piece { IfOk result (λ p. MatchOption p
+            (IsOver (pairs_ahead self.old) (pairs_ahead self.new))
+            (λ list. IsPiece (pairs_ahead self.old) (pairs_ahead self.new) list.items)) }
+        ensures unchanged { OnErr result (self.new ≡ self.old) }
+    {
+        let behind = self.next.saturating_add(1);
+        if behind >= self.variables.len() {
+            return Ok(None);
+        }
+        let mut list = Vec::new(alloc);
+        let variable = self.variables[self.next];
+        post_against(alloc, &mut list, variable, &self.variables[behind..])?;
+        self.next = behind;
+        Ok(Some(list))
+    }
 }
 
 /// Posts that a variable is in the universe.
@@ -73,14 +101,14 @@ fn post_universe(alloc: Global, list: &mut Vec<(u64, Checked)>, target: u64) -> 
     post(list, target, nodes)
 }
 
-/// The ranges of variables that differ.
-fn different_ranges(alloc: Global, variables: &[u64]) -> Result<Vec<(u64, Checked)>, NoMemory>
-    ensures { IfOk result (λ list. Posts (ranges_of variables.now) [] list.items) }
+/// The range of a variable that is alone, and none where there are others.
+fn alone(alloc: Global, variables: &[u64]) -> Result<Vec<(u64, Checked)>, NoMemory>
+    ensures { IfOk result (λ list. ranges_of variables.now
+        ≡ pairwise variables.now ++ indexicals list.items) }
 {
     let mut list = Vec::new(alloc);
-    match variables {
-        [only] => post_universe(alloc, &mut list, *only)?,
-        _ => post_pairwise(alloc, &mut list, variables)?,
+    if let [only] = variables {
+        post_universe(alloc, &mut list, *only)?;
     }
     Ok(list)
 }
@@ -98,10 +126,6 @@ pub(crate) fn all_different(
 {
     let members = members(alloc, pool, list)?;
     let placed = place_all(alloc, &members, fresh)?;
-    let list = different_ranges(alloc, &placed.variables)?;
-    Ok(Expansion {
-        equated: placed.equated,
-        added: placed.fresh,
-        list,
-    })
+    let rest = alone(alloc, &placed.variables)?;
+    Ok(Expansion::differing(alloc, placed, rest))
 }

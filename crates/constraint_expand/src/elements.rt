@@ -10,7 +10,7 @@ ghost use Rattle.constraint_expand.specs.Posts.{Posts, Accepted};
 ghost use Rattle.constraint_expand.specs.Unions.{given_at, given_from, given_row, joined_nodes};
 ghost use Rattle.constraint_expand.specs.Views.{Expands};
 
-use crate::Expansion;
+use crate::expansion::Expansion;
 use crate::faults::ExpandFault;
 use crate::members::{integers, place_all, read_member};
 use crate::posts::{post, post_none};
@@ -163,9 +163,5 @@ pub(crate) fn element(
     let value = read_member(pool, value)?;
     let placed = place_all(alloc, &[index, value], fresh)?;
     let list = element_ranges(alloc, placed.variables[0], &elements, placed.variables[1])?;
-    Ok(Expansion {
-        equated: placed.equated,
-        added: placed.fresh,
-        list,
-    })
+    Ok(Expansion::choosing(alloc, placed, list))
 }

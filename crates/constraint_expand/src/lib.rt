@@ -11,6 +11,7 @@ mod comparisons;
 mod counts;
 mod differences;
 mod elements;
+mod expansion;
 mod faults;
 mod members;
 mod posts;
@@ -20,22 +21,11 @@ use crate::comparisons::compare;
 use crate::counts::atmost;
 use crate::differences::all_different;
 use crate::elements::element;
+pub use crate::expansion::Expansion;
 pub use crate::faults::{ExpandFault, ListCause};
 use fd_model::kinds::ConstraintKind;
-use monotone_check::Checked;
 use std::alloc::Global;
 use term_pool::{Pool, TermId};
-
-/// What a constraint becomes.
-#[derive(Drop)]
-pub struct Expansion {
-    /// Fresh variables, each with the integer that it is equated with.
-    pub equated: Vec<(u64, i64)>,
-    /// The next fresh number.
-    pub added: u64,
-    /// The posted ranges, each behind its target.
-    pub list: Vec<(u64, Checked)>,
-}
 
 /// The ranges of a constraint, where `fresh` is the next fresh number. The arguments are terms of
 /// the pool, seen as a whole. They are looked at from left to right, and the first fault is told.

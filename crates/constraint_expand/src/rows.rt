@@ -1,10 +1,11 @@
 //! The ranges of a linear form.
 
-ghost use Rattle.std.specs.Prelude.{◌≡◌, ℕ, ◌+◌, ◌*◌, ◌^◌, ◌<◌, ◌≤◌, ◌++◌, [], ◌∷◌, length, Bool, true, pos, negsuc, neg_ℤ, IsTrue, if◌then◌else◌, slice_get, IsSome, IfOk, OnOk};
+ghost use Rattle.std.specs.Prelude.{◌≡◌, ℕ, ◌+◌, ◌*◌, ◌^◌, ◌<◌, ◌≤◌, ◌++◌, [], ◌∷◌, length, Bool, true, pos, negsuc, neg_ℤ, IsTrue, if◌then◌else◌, slice_get, IsSome, MatchOption, IfOk, OnOk, OnErr};
 ghost use Rattle.fd_model.specs.Linear.{in_integers, scaled};
 ghost use Rattle.fd_model.specs.LinearRows.{rows_behind, compares, linear_rows as rows_of};
-ghost use Rattle.constraint_expand.specs.Posts.{Posts, Accepted};
-ghost use Rattle.constraint_expand.specs.Nodes.{AreIntegers, CanTurn, comparison_of, lower_reading, upper_reading, feature_of, product_nodes, bound_nodes, lower_nodes, upper_nodes, row_list, HasProduct, IsForm, AreSides, row_at, form_rows};
+ghost use Rattle.constraint_expand.specs.Pieces.{IsPiece, IsOver, rows_ahead, AreReady};
+ghost use Rattle.constraint_expand.specs.Posts.{Posts, Accepted, indexicals};
+ghost use Rattle.constraint_expand.specs.Nodes.{AreIntegers, CanTurn, comparison_of, lower_reading, upper_reading, feature_of, product_nodes, bound_nodes, lower_nodes, upper_nodes, row_list, HasProduct, IsForm, AreSides, row_at};
 
 use crate::posts::{post, post_none};
 use fd_language::{NoMemory, RangeNode};
@@ -261,24 +262,70 @@ fn post_row(
     }
 }
 
-/// Posts the row of each variable.
-fn post_rows(
-    alloc: Global,
-    list: &mut Vec<(u64, Checked)>,
-    comparison: Comparison,
-    straight: &Form,
-    turned: &Form,
-) -> Result<(), NoMemory>
-    requires sides { (i : ℕ) → i < length straight.now.terms.items
-        → AreSides comparison straight.now turned.now i }
-    requires accepted { Accepted (form_rows comparison straight.now) }
-    ensures { OnOk result (Posts (form_rows comparison straight.now)
-        list.old.items list.new.items) }
-{
-    for index in 0..straight.terms.len() {
-        post_row(alloc, list, comparison, straight, turned, index)?;
+/// The rows of a form, each for one of its variables, and the place of the first that has not been
+/// given.
+#[derive(Drop)]
+pub(crate) struct Rows {
+    pub comparison: Comparison,
+    pub straight: Form,
+    pub turned: Form,
+    pub next: usize,
+}
+
+impl Rows {
+    /// No rows.
+    pub(crate) fn none(alloc: Global) -> Rows
+        ensures none { rows_ahead result ≡ [] }
+        ensures ready { AreReady result }
+    {
+        Rows {
+            comparison: Comparison::Equal,
+            straight: empty_form(alloc),
+            turned: empty_form(alloc),
+            next: 0,
+        }
     }
-    Ok(())
+
+    /// The next row, and none where no row is left.
+    pub(crate) fn next_piece(
+        &mut self,
+        alloc: Global,
+    ) -> Result<Option<Vec<(u64, Checked)>>, NoMemory>
+        requires { AreReady self.old }
+        ensures piece { IfOk result (λ p. MatchOption p
+            (IsOver (rows_ahead self.old) (rows_ahead self.new))
+            (λ list. IsPiece (rows_ahead self.old) (rows_ahead self.new) list.items)) }
+        ensures unchanged { OnErr result (self.new ≡ self.old) }
+        ensures ready { AreReady self.new }
+    {
+        if self.next >= self.straight.terms.len() {
+            return Ok(None);
+        }
+        let mut list = Vec::new(alloc);
+        post_row(
+            alloc,
+            &mut list,
+            self.comparison,
+            &self.straight,
+            &self.turned,
+            self.next,
+        )?;
+        self.next += 1;
+        Ok(Some(list))
+    }
+}
+
+/// A form without variables.
+fn empty_form(alloc: Global) -> Form
+    ensures { result.terms.items ≡ [] }
+{
+    Form {
+        turned: false,
+        terms: Vec::new(alloc),
+        constant: 0,
+        lower: Vec::new(alloc),
+        upper: Vec::new(alloc),
+    }
 }
 
 /// The constant of the turned form. The least integer of 64 bits stays as it is: no row is turned
@@ -289,19 +336,19 @@ fn turned_constant(constant: i64) -> i64
     constant.wrapping_neg()
 }
 
-/// Posts the rows of a form.
-fn post_form(
+/// The rows of a form.
+fn rows_of_form(
     alloc: Global,
-    list: &mut Vec<(u64, Checked)>,
     comparison: Comparison,
     terms: &[(u64, i64)],
     constant: i64,
-) -> Result<(), NoMemory>
+) -> Result<Rows, NoMemory>
     requires integers { AreIntegers terms.now }
     requires constant { CanTurn terms.now constant }
     requires accepted { Accepted (rows_behind (comparison_of comparison) constant [] terms.now) }
-    ensures { OnOk result (Posts (rows_behind (comparison_of comparison) constant [] terms.now)
-        list.old.items list.new.items) }
+    ensures rows { IfOk result (λ rows. rows_ahead rows
+        ≡ rows_behind (comparison_of comparison) constant [] terms.now) }
+    ensures ready { IfOk result AreReady }
 {
     let straight_terms = Vec::from_slice(alloc, terms)?;
     let turned_terms = negated(alloc, terms)?;
@@ -313,7 +360,12 @@ fn post_form(
         turned_terms,
         turned_constant(constant),
     )?;
-    post_rows(alloc, list, comparison, &straight, &turned)
+    Ok(Rows {
+        comparison,
+        straight,
+        turned,
+        next: 0,
+    })
 }
 
 /// Whether a form without variables is true.
@@ -327,34 +379,54 @@ fn holds(comparison: Comparison, constant: i64) -> bool
     }
 }
 
-/// Posts the ranges of a linear form, and gives the next fresh number. A false form without
-/// variables takes a fresh variable that has no value.
+/// The ranges of a linear form, and the next fresh number.
+#[derive(Drop)]
+pub(crate) struct LinearRanges {
+    pub rows: Rows,
+    pub rest: Vec<(u64, Checked)>,
+    pub added: u64,
+}
+
+/// The ranges of a linear form. A false form without variables takes a fresh variable that has no
+/// value.
 pub(crate) fn linear_rows(
     alloc: Global,
-    list: &mut Vec<(u64, Checked)>,
     comparison: Comparison,
     terms: &[(u64, i64)],
     constant: i64,
     fresh: u64,
-) -> Result<u64, NoMemory>
+) -> Result<LinearRanges, NoMemory>
     requires integers { AreIntegers terms.now }
     requires constant { CanTurn terms.now constant }
     requires accepted { Accepted
         (rows_of (comparison_of comparison) terms.now constant fresh).ranges }
     requires ends { (rows_of (comparison_of comparison) terms.now constant fresh).fresh < 2 ^ 64 }
-    ensures posts { OnOk result
-        (Posts (rows_of (comparison_of comparison) terms.now constant fresh).ranges
-        list.old.items list.new.items) }
+    ensures ranges { IfOk result (λ linear. rows_ahead linear.rows ++ indexicals linear.rest.items
+        ≡ (rows_of (comparison_of comparison) terms.now constant fresh).ranges) }
+    ensures ready { IfOk result (λ linear. AreReady linear.rows) }
     ensures fresh { IfOk result
-        (λ n. n ≡ (rows_of (comparison_of comparison) terms.now constant fresh).fresh) }
+        (λ l. l.added ≡ (rows_of (comparison_of comparison) terms.now constant fresh).fresh) }
 {
     if !terms.is_empty() {
-        post_form(alloc, list, comparison, terms, constant)?;
-        Ok(fresh)
-    } else if holds(comparison, constant) {
-        Ok(fresh)
-    } else {
-        post_none(alloc, list, fresh)?;
-        Ok(fresh + 1)
+        let rows = rows_of_form(alloc, comparison, terms, constant)?;
+        return Ok(LinearRanges {
+            rows,
+            rest: Vec::new(alloc),
+            added: fresh,
+        });
     }
+    if holds(comparison, constant) {
+        return Ok(LinearRanges {
+            rows: Rows::none(alloc),
+            rest: Vec::new(alloc),
+            added: fresh,
+        });
+    }
+    let mut rest = Vec::new(alloc);
+    post_none(alloc, &mut rest, fresh)?;
+    Ok(LinearRanges {
+        rows: Rows::none(alloc),
+        rest,
+        added: fresh + 1,
+    })
 }

@@ -44,6 +44,6 @@ returns c =
     let fits : FitsSigned w64 c.in_ok-form.form.constant = search rules in
     let same : rows.linear_rows (comparison c.args.relation) m.products m.constant n ≡ rows.linear_rows (comparison_of c.comparison_for.result) c.deref.result.now (to_z w64 (of_z w64 c.in_ok-form.form.constant)) n =
     λ i. rows.linear_rows (sym c.comparison_for.ensures i) (sym c.deref.ensures.value i) (sym (to_z-of_z w64 c.in_ok-form.form.constant fits) i) n in
-    let x = rows.linear_rows (comparison_of c.comparison_for.result) c.deref.result.now (to_z w64 (of_z w64 c.in_ok-form.form.constant)) n in
-    compared_expands (compare c.args.relation s t n) x (e ∙ ap (λ (y : rows.Expansion). Ok y) same) c.new.result.items (equated_none (comparison_of c.comparison_for.result) c.deref.result.now (to_z w64 (of_z w64 c.in_ok-form.form.constant)) n ∙ sym c.new.ensures.items)
-    c.new-list.result.items c.linear_rows.new.list.items c.in_ok-added.ensures.posts c.new-list.ensures.items c.in_ok-added.added c.in_ok-added.ensures.fresh
+    let y = rows.linear_rows (comparison_of c.comparison_for.result) c.deref.result.now (to_z w64 (of_z w64 c.in_ok-form.form.constant)) n in
+    compared_expands (compare c.args.relation s t n) y c.comparing.result (e ∙ ap (λ (y : rows.Expansion). Ok y) same) (equated_none (comparison_of c.comparison_for.result) c.deref.result.now (to_z w64 (of_z w64 c.in_ok-form.form.constant)) n)
+    c.comparing.ensures.equated (c.comparing.ensures.ranges ∙ c.in_ok-linear.ensures.ranges) (c.comparing.ensures.fresh ∙ c.in_ok-linear.ensures.fresh)

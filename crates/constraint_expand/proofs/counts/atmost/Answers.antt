@@ -1,22 +1,22 @@
-use Rattle.std.proofs.Common.{◌≡◌, ℕ, ℤ, ◌+◌, ◌<◌, ◌^◌, List, [], Ok, length, map, refl, ap, sym, subst, ◌∙◌, arith, rules, to_z, of_z, FitsSigned}
+use Rattle.std.proofs.Common.{◌≡◌, ℕ, ℤ, ◌+◌, ◌<◌, ◌^◌, ◌++◌, List, Ok, length, map, refl, ap, sym, subst, ◌∙◌, arith, rules, to_z, of_z, FitsSigned}
 use Rattle.std.specs.Int.{w64}
 use Rattle.std.proofs.lemmas.Int.{to_z-of_z}
-use Rattle.fd_language.specs.Range.{Range}
 use Rattle.fd_model.specs.Linear.{IsAtMost}
 use Rattle.fd_model.specs.LinearRows.{Expansion, linear_rows}
 use Rattle.fd_model.specs.Members.{as_integer, placed, fresh_after}
-use Rattle.fd_model.specs.ListRows.{counts, units}
+use Rattle.fd_model.specs.ListRows.{units}
 use Rattle.term_pool.specs.Terms.{term_of}
 use Rattle.constraint_expand.specs.declared.members.Member.{Member}
 use Rattle.constraint_expand.specs.Lists.{member_of, AllPlaced}
 use Rattle.constraint_expand.specs.Nodes.{AreIntegers, CanTurn}
-use Rattle.constraint_expand.specs.Posts.{Posts, Accepted}
+use Rattle.constraint_expand.specs.Posts.{indexicals, Accepted}
+use Rattle.constraint_expand.specs.Pieces.{rows_ahead}
 use Rattle.constraint_expand.proofs.Counting.{counters_fit, Summing, sum_terms, sum_next, units_integers, units_turn, atmost_is, atmost_ends, rows_end, atmost_expands}
 use Rattle.constraint_expand.proofs.Widths.{sum_accepted}
 use Rattle.constraint_expand.proofs.counts.atmost.Goals as goal
 
-pub post_counts-requires : goal.post_counts-requires
-post_counts-requires c =
+pub sum_of-requires : goal.sum_of-requires
+sum_of-requires c =
     let pool = c.args.pool.now in
     let m = term_of pool c.args.most in
     let l = term_of pool c.args.list in
@@ -42,7 +42,7 @@ overflow_add-next c =
     record {
       placed_all = subst (λ (ks : List Member). AllPlaced n (map member_of ks) p) c.deref.ensures.value c.in_ok-placed.ensures;
       variables = c.deref-2.ensures.value;
-      made = c.in_ok-units.ensures.units;
+      made = c.in_ok-units.ensures;
       terms = refl;
     }
     in
@@ -74,7 +74,7 @@ linear_rows-requires-clause-integers c =
     record {
       placed_all = subst (λ (ks : List Member). AllPlaced n (map member_of ks) p) c.deref.ensures.value c.in_ok-placed.ensures;
       variables = c.deref-2.ensures.value;
-      made = c.in_ok-units.ensures.units;
+      made = c.in_ok-units.ensures;
       terms = c.deref-3.ensures.value;
     }
     in
@@ -94,7 +94,7 @@ linear_rows-requires-clause-constant c =
     record {
       placed_all = subst (λ (ks : List Member). AllPlaced n (map member_of ks) p) c.deref.ensures.value c.in_ok-placed.ensures;
       variables = c.deref-2.ensures.value;
-      made = c.in_ok-units.ensures.units;
+      made = c.in_ok-units.ensures;
       terms = c.deref-3.ensures.value;
     }
     in
@@ -123,7 +123,7 @@ linear_rows-requires-clause-accepted c =
     record {
       placed_all = subst (λ (ks : List Member). AllPlaced n (map member_of ks) p) c.deref.ensures.value c.in_ok-placed.ensures;
       variables = c.deref-2.ensures.value;
-      made = c.in_ok-units.ensures.units;
+      made = c.in_ok-units.ensures;
       terms = c.deref-3.ensures.value;
     }
     in
@@ -158,7 +158,7 @@ linear_rows-requires-clause-ends c =
     record {
       placed_all = subst (λ (ks : List Member). AllPlaced n (map member_of ks) p) c.deref.ensures.value c.in_ok-placed.ensures;
       variables = c.deref-2.ensures.value;
-      made = c.in_ok-units.ensures.units;
+      made = c.in_ok-units.ensures;
       terms = c.deref-3.ensures.value;
     }
     in
@@ -191,7 +191,7 @@ returns c =
     record {
       placed_all = subst (λ (ks : List Member). AllPlaced n (map member_of ks) p) c.deref.ensures.value c.in_ok-placed.ensures;
       variables = c.deref-2.ensures.value;
-      made = c.in_ok-units.ensures.units;
+      made = c.in_ok-units.ensures;
       terms = c.deref-3.ensures.value;
     }
     in
@@ -206,10 +206,5 @@ returns c =
     let f = c.in_ok-members.ensures in
     let terms = sum_terms n ms p c.deref-2.result.now us c.deref-3.result.now s in
     let next = sum_next n ms p c.deref-2.result.now us c.deref-3.result.now s c.len.result (omega arith) in
-    let variables = s.variables ∙ s.placed_all.variables in
-    let posted : Posts (counts w (placed n ms) (fresh_after n ms)) [] c.post_counts.new.list.items =
-    subst (λ (start : List (ℕ × Range)). Posts (counts w (placed n ms) (fresh_after n ms)) start c.post_counts.new.list.items) c.new-list.ensures.items
-    (subst (λ (k : ℕ). Posts (counts w (placed n ms) k) c.new-list.result.items c.post_counts.new.list.items) s.placed_all.fresh
-    (subst (λ (xs : List ℕ). Posts (counts w xs p.fresh) c.new-list.result.items c.post_counts.new.list.items) variables c.in_ok-units.ensures.posts)) in
-    atmost_expands m l v n z ms w e f g p s.placed_all c.deref-3.result.now terms (p.fresh + c.len.result) next c.post_counts.new.list.items c.linear_rows.new.list.items posted
-    c.in_ok-added.ensures.posts c.in_ok-added.added c.in_ok-added.ensures.fresh
+    atmost_expands m l v n z ms w e f g p s.placed_all c.deref-3.result.now terms (p.fresh + c.len.result) next (rows_ahead c.in_ok-sum.sum.rows ++ indexicals c.in_ok-sum.sum.rest.items) c.in_ok-sum.ensures.ranges c.in_ok-sum.sum.added c.in_ok-sum.ensures.fresh
+    c.counting.result c.counting.ensures.equated c.counting.ensures.ranges c.counting.ensures.fresh

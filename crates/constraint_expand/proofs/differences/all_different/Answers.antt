@@ -1,10 +1,10 @@
-use Rattle.std.proofs.Common.{ℕ, ◌<◌, ◌^◌, List, [], map, sym, subst}
-use Rattle.fd_model.specs.ListRows.{different_ranges}
+use Rattle.std.proofs.Common.{◌≡◌, ℕ, ◌<◌, ◌^◌, ◌++◌, List, map, sym, subst, ◌∙◌}
+use Rattle.fd_model.specs.ListRows.{different_ranges, pairwise}
 use Rattle.fd_model.specs.Members.{fresh_after}
 use Rattle.term_pool.specs.Terms.{term_of}
 use Rattle.constraint_expand.specs.declared.members.Member.{Member}
 use Rattle.constraint_expand.specs.Lists.{member_of, AllPlaced}
-use Rattle.constraint_expand.specs.Posts.{Posts}
+use Rattle.constraint_expand.specs.Posts.{indexicals}
 use Rattle.constraint_expand.proofs.Different.{different_expands, different_ends}
 use Rattle.constraint_expand.proofs.differences.all_different.Goals as goal
 
@@ -15,6 +15,8 @@ place_all-requires c =
 
 pub returns : goal.returns
 returns c =
-    different_expands (term_of c.args.pool.now c.args.list) c.args.fresh (map member_of c.in_ok-members.members.items) c.in_ok-placed.placed c.in_ok-list.list.items c.in_ok-members.ensures
+    different_expands (term_of c.args.pool.now c.args.list) c.args.fresh (map member_of c.in_ok-members.members.items) c.in_ok-placed.placed c.differing.result c.in_ok-members.ensures
     (subst (λ (ms : List Member). AllPlaced c.args.fresh (map member_of ms) c.in_ok-placed.placed) c.deref.ensures.value c.in_ok-placed.ensures)
-    (subst (λ (xs : List ℕ). Posts (different_ranges xs) [] c.in_ok-list.list.items) c.deref-2.ensures.value c.in_ok-list.ensures)
+    c.differing.ensures.equated
+    (c.differing.ensures.ranges ∙ sym (subst (λ (xs : List ℕ). different_ranges xs ≡ pairwise xs ++ indexicals c.in_ok-rest.rest.items) c.deref-2.ensures.value c.in_ok-rest.ensures))
+    c.differing.ensures.fresh

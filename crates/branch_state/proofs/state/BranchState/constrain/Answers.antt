@@ -4,10 +4,11 @@ use Rattle.heap_cells.specs.Cells.{Heaps, slot_at}
 use Rattle.heap_terms.specs.Values.{shown_term}
 use Rattle.term_pool.specs.Contents.{name_in}
 use Rattle.machine_frames.specs.Frames.{link_of}
-use Rattle.constraint_expand.specs.Views.{expansion_of}
-use Rattle.branch_state.specs.Constraints.{row_of, Constrains, IsRowOf, IsRowReady}
+use Rattle.branch_state.specs.Constraints.{row_of, Constrains, IsRowOf}
+use Rattle.branch_state.specs.Ready.{IsRowReady}
+use Rattle.branch_state.specs.Naming.{OwnLinks}
 use Rattle.branch_state.specs.States.{State, IsSound, IsCell}
-use Rattle.branch_state.proofs.ConstrainingStates.{constraint_step, list_fits, fixed_fits, row_of_heap, row_read, fault_read}
+use Rattle.branch_state.proofs.ConstrainingStates.{own_links, constraint_step, list_fits, fixed_fits, row_of_heap, row_read, fault_read}
 use Rattle.branch_state.proofs.state.BranchState.constrain.Goals as goal
 
 pub expand_goal-expanded-requires-clause-linked : goal.expand_goal-expanded-requires-clause-linked
@@ -33,6 +34,12 @@ returns-in-Err-clause-step g c =
     let unmoved : record { atoms = now.atoms; heaps = c.count_variables.new.heap; levels = now.levels } ≡ now = ap (λ (x : Heaps). record { atoms = now.atoms; heaps = x; levels = now.levels }) same in
     (subst (λ (v : State). row_of names v kind cell ≡ Err c.in_ok-fault_of-in-Err.field-0) c.self.view_is fault, unmoved ∙ c.self.view_is)
 
+pub prepare_row-requires-clause-links : goal.prepare_row-requires-clause-links
+prepare_row-requires-clause-links g c =
+    let now : State = record { atoms = c.self.inside.atoms; heaps = c.self.inside.heap; levels = c.self.inside.store } in
+    let o : IsSound now = subst IsSound (sym c.self.view_is) c.requires.sound in
+    subst (λ (x : Heaps). OwnLinks (length now.levels.current.sets) x.now) (sym c.in_ok-fresh.ensures.same) (own_links now o)
+
 pub prepare_row-requires-clause-row : goal.prepare_row-requires-clause-row
 prepare_row-requires-clause-row g c =
     let now : State = record { atoms = c.self.inside.atoms; heaps = c.self.inside.heap; levels = c.self.inside.store } in
@@ -46,7 +53,7 @@ prepare_row-requires-clause-row g c =
     let fresh = c.in_ok-fresh.fresh in
     let read = row_read names now o atoms kind cell own fresh c.in_ok-fresh.ensures.count in
     let moved = ap (λ (x : Heaps). expand kind (arguments (shown_term (name_in names) x.now now.levels.current.sets cell)) fresh) (sym same) in
-    let y = expansion_of c.in-Ok.expansion in
+    let y = c.in-Ok.expansion in
     let is : row_of names now kind cell ≡ Ok y = sym read ∙ moved ∙ c.in-Ok.ensures.row in
     let row : IsRowOf now.heaps.now y = row_of_heap names now o kind cell own y is in
     subst (λ (x : Heaps). IsRowOf x.now y) (sym same) row
@@ -64,7 +71,7 @@ post_rows-requires-clause-list g c =
     let fresh = c.in_ok-fresh.fresh in
     let read = row_read names now o atoms kind cell own fresh c.in_ok-fresh.ensures.count in
     let moved = ap (λ (x : Heaps). expand kind (arguments (shown_term (name_in names) x.now now.levels.current.sets cell)) fresh) (sym same) in
-    let y = expansion_of c.in-Ok.expansion in
+    let y = c.in-Ok.expansion in
     let is : row_of names now kind cell ≡ Ok y = sym read ∙ moved ∙ c.in-Ok.ensures.row in
     let row : IsRowOf now.heaps.now y = row_of_heap names now o kind cell own y is in
     let S = c.prepare_row.new.store.current.sets in
@@ -86,7 +93,7 @@ post_rows-requires-clause-fixed g c =
     let fresh = c.in_ok-fresh.fresh in
     let read = row_read names now o atoms kind cell own fresh c.in_ok-fresh.ensures.count in
     let moved = ap (λ (x : Heaps). expand kind (arguments (shown_term (name_in names) x.now now.levels.current.sets cell)) fresh) (sym same) in
-    let y = expansion_of c.in-Ok.expansion in
+    let y = c.in-Ok.expansion in
     let is : row_of names now kind cell ≡ Ok y = sym read ∙ moved ∙ c.in-Ok.ensures.row in
     let row : IsRowOf now.heaps.now y = row_of_heap names now o kind cell own y is in
     let S = c.prepare_row.new.store.current.sets in
@@ -108,7 +115,7 @@ returns-clause-step g c =
     let fresh = c.in_ok-fresh.fresh in
     let read = row_read names now o atoms kind cell own fresh c.in_ok-fresh.ensures.count in
     let moved = ap (λ (x : Heaps). expand kind (arguments (shown_term (name_in names) x.now now.levels.current.sets cell)) fresh) (sym same) in
-    let y = expansion_of c.in-Ok.expansion in
+    let y = c.in-Ok.expansion in
     let is : row_of names now kind cell ≡ Ok y = sym read ∙ moved ∙ c.in-Ok.ensures.row in
     let row : IsRowOf now.heaps.now y = row_of_heap names now o kind cell own y is in
     let S = c.prepare_row.new.store.current.sets in

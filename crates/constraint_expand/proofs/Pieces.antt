@@ -1,0 +1,96 @@
+-- Ranges that are given in pieces.
+use Rattle.std.proofs.Common.{◌≡◌, ℕ, zero, suc, ◌+◌, ◌-◌, ◌<◌, ◌≤◌, ℤ, List, [], ◌∷◌, ◌++◌, length, take, drop, get_or, refl, sym, ap, subst, ◌∙◌, arith, append-nil, length-append}
+use Rattle.std.proofs.lemmas.List.{drop_all}
+use Rattle.fd_language.specs.Range.{Range, Indexical}
+use Rattle.fd_model.specs.LinearRows.{rows_behind}
+use Rattle.fd_model.specs.ListRows.{counter, counted, against, pairwise, counts}
+use Rattle.constraint_expand.specs.declared.rows.Rows.{Rows}
+use Rattle.constraint_expand.specs.Nodes.{comparison_of, row_at}
+use Rattle.constraint_expand.specs.Pieces.{IsPiece, IsOver, rows_from, rows_ahead, AreReady}
+use Rattle.constraint_expand.specs.Posts.{indexicals, Posts, Accepted}
+use Rattle.constraint_expand.proofs.Different.{next_drop, whole_drop, posted_list, posts_both}
+use Rattle.constraint_expand.proofs.RowPosts.{next_row, other_default}
+
+pub is_piece : (old new ps : List Indexical) (list : List (ℕ × Range)) → old ≡ ps ++ new → 0 < length ps → Posts ps [] list → IsPiece old new list
+is_piece old new ps list e some p = record {
+  ranges = e ∙ ap (λ qs. qs ++ new) (sym (posted_list ps list p));
+  some = let l : length old ≡ length ps + length new = ap length e ∙ length-append ps new in omega (arith, l, some);
+}
+
+-- ---- members that differ
+
+pub pairs_over : (xs : List ℕ) (i : ℕ) → length xs ≤ i + 1 → pairwise (drop i xs) ≡ []
+pairs_over [] zero l = refl
+pairs_over [] (suc i) l = refl
+pairs_over (x ∷ []) zero l = refl
+pairs_over (x ∷ y ∷ xs) zero l = absurd (omega (arith, l))
+pairs_over (x ∷ xs) (suc i) l = pairs_over xs i (omega (arith, l))
+
+against_some : (x : ℕ) (ys : List ℕ) → 0 < length ys → 0 < length (against x ys)
+against_some x [] l = absurd (omega (arith, l))
+against_some x (y ∷ ys) l = omega arith
+
+left_some : (xs : List ℕ) (j : ℕ) → j < length xs → 0 < length (drop j xs)
+left_some [] j l = absurd (omega (arith, l))
+left_some (x ∷ xs) zero l = omega arith
+left_some (x ∷ xs) (suc j) l = left_some xs j (omega (arith, l))
+
+pub pairs_piece : (xs : List ℕ) (i j : ℕ) → j ≡ i + 1 → j < length xs → (list : List (ℕ × Range)) → Posts (against (get_or xs i 0) (drop j xs)) [] list → IsPiece (pairwise (drop i xs)) (pairwise (drop j xs)) list
+pairs_piece xs i j e l list p =
+    let x = get_or xs i 0 in
+    let next : drop i xs ≡ x ∷ drop j xs = next_drop xs i 0 (omega (arith, e, l)) ∙ ap (λ k. x ∷ drop k xs) (sym e) in
+    is_piece (pairwise (drop i xs)) (pairwise (drop j xs)) (against x (drop j xs)) list (ap pairwise next) (against_some x (drop j xs) (left_some xs j l)) p
+
+-- ---- members that are counted
+
+pub counts_over : (v : ℤ) (xs : List ℕ) (n i : ℕ) → length xs ≤ i → counts v (drop i xs) n ≡ []
+counts_over v xs n i l = ap (λ ys. counts v ys n) (drop_all i xs l)
+
+pub counts_piece : (v : ℤ) (xs : List ℕ) (n i b : ℕ) → i < length xs → b ≡ n + i → (middle list : List (ℕ × Range)) → Posts (counter v (get_or xs i 0) b ∷ []) [] middle → Posts (counted v (get_or xs i 0) b ∷ []) middle list
+    → IsPiece (counts v (drop i xs) (n + i)) (counts v (drop (i + 1) xs) (n + (i + 1))) list
+counts_piece v xs n i b l e middle list p q =
+    let x = get_or xs i 0 in
+    let count : suc (n + i) ≡ n + (i + 1) = omega arith in
+    let ahead : counts v (drop i xs) (n + i) ≡ (counter v x b ∷ counted v x b ∷ []) ++ counts v (drop (i + 1) xs) (n + (i + 1)) =
+    ap (λ ys. counts v ys (n + i)) (next_drop xs i 0 l) ∙ ap (λ k. counter v x k ∷ counted v x k ∷ counts v (drop (i + 1) xs) (suc (n + i))) (sym e) ∙ ap (λ k. counter v x b ∷ counted v x b ∷ counts v (drop (i + 1) xs) k) count in
+    is_piece (counts v (drop i xs) (n + i)) (counts v (drop (i + 1) xs) (n + (i + 1))) (counter v x b ∷ counted v x b ∷ []) list ahead (omega arith)
+    (posts_both (counter v x b ∷ []) (counted v x b ∷ []) [] middle list p q)
+
+-- ---- rows
+
+pub rows_over : (r : Rows) → length r.straight.terms.items ≤ r.next → rows_ahead r ≡ []
+rows_over r l = ap (rows_behind (comparison_of r.comparison) r.straight.constant (take r.next r.straight.terms.items)) (drop_all r.next r.straight.terms.items l)
+
+pub row_accepted : (r : Rows) → r.next < length r.straight.terms.items → AreReady r → Accepted (row_at r.comparison r.straight r.next ∷ [])
+row_accepted r l ready = let ok : Accepted (row_at r.comparison r.straight r.next ∷ rows_from r.comparison r.straight (r.next + 1)) = subst Accepted (next_row r.comparison r.straight r.next l) ready.accepted in (ok.0, tt)
+
+pub row_piece : (r : Rows) → r.next < length r.straight.terms.items → (list : List (ℕ × Range)) → Posts (row_at r.comparison r.straight r.next ∷ []) [] list → IsPiece (rows_ahead r) (rows_from r.comparison r.straight (r.next + 1)) list
+row_piece r l list p = is_piece (rows_ahead r) (rows_from r.comparison r.straight (r.next + 1)) (row_at r.comparison r.straight r.next ∷ []) list (next_row r.comparison r.straight r.next l) (omega arith) p
+
+pub rows_ready : (r : Rows) → r.next < length r.straight.terms.items → AreReady r → AreReady (record r { next = r.next + 1 })
+rows_ready r l ready =
+    let ok : Accepted (row_at r.comparison r.straight r.next ∷ rows_from r.comparison r.straight (r.next + 1)) = subst Accepted (next_row r.comparison r.straight r.next l) ready.accepted in
+    record { sides = ready.sides; accepted = ok.1 }
+
+-- ---- the ranges that were made at once
+
+some_left : (rest : List (ℕ × Range)) → 0 < length rest → 0 < length (indexicals rest)
+some_left [] l = l
+some_left (p ∷ ps) l = omega arith
+
+pub last_piece : (a a' b b' d d' : List Indexical) (rest now list : List (ℕ × Range)) (all : List Indexical) → IsOver a a' → IsOver b b' → IsOver d d' → a ++ (b ++ (d ++ indexicals rest)) ≡ all → list ≡ rest → now ≡ [] → 0 < length rest → IsPiece all (a' ++ (b' ++ (d' ++ indexicals now))) list
+last_piece a a' b b' d d' rest now list all u v w e f g l =
+    let before : a ++ (b ++ (d ++ indexicals rest)) ≡ indexicals rest = λ i. u.0 i ++ (v.0 i ++ (w.0 i ++ indexicals rest)) in
+    let after : a' ++ (b' ++ (d' ++ indexicals now)) ≡ [] = λ i. u.1 i ++ (v.1 i ++ (w.1 i ++ indexicals (g i))) in
+    let is : all ≡ indexicals rest = sym e ∙ before in
+    record {
+      ranges = is ∙ ap indexicals (sym f) ∙ sym (append-nil (indexicals list)) ∙ ap (λ ps. indexicals list ++ ps) (sym after);
+      some = let m = some_left rest l in let n : length all ≡ length (indexicals rest) = ap length is in let k : length (a' ++ (b' ++ (d' ++ indexicals now))) ≡ 0 = ap length after in omega (arith, m, n, k);
+    }
+
+pub against_posts : (xs slice : List ℕ) (i j v : ℕ) (start list : List (ℕ × Range)) → slice ≡ xs → i < length xs → v ≡ get_or xs i v → start ≡ [] → Posts (against v (take (length slice - j) (drop j slice))) start list → Posts (against (get_or xs i 0) (drop j xs)) [] list
+against_posts xs slice i j v start list s l e n p =
+    let rest = take (length slice - j) (drop j slice) in
+    subst (λ (ys : List ℕ). Posts (against (get_or xs i 0) ys) [] list) (ap (λ zs. take (length zs - j) (drop j zs)) s ∙ whole_drop xs j)
+    (subst (λ (k : ℕ). Posts (against k rest) [] list) (e ∙ other_default xs i v 0 l)
+    (subst (λ (rs : List (ℕ × Range)). Posts (against v rest) rs list) n p))
