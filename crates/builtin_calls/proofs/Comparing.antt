@@ -1,5 +1,5 @@
 -- A comparison of two terms, pair by pair.
-use Rattle.std.proofs.Common.{◌≡◌, ℕ, ◌+◌, Bool, true, false, not, ◌==◌, refl, ap, sym, ◌∙◌, subst, arith, List, [], ◌∷◌, ◌++◌, length, Bor, eqb-true, eq-eqb}
+use Rattle.std.proofs.Common.{◌≡◌, ℕ, zero, suc, ◌+◌, ◌<◌, ◌≤◌, Bool, true, false, not, ◌==◌, refl, ap, sym, ◌∙◌, subst, arith, List, [], ◌∷◌, ◌++◌, length, get_or, drop, Bor, eqb-true, eq-eqb, append_assoc, append-nil}
 use Rattle.std.specs.Prelude.{All, reverse}
 use Rattle.std.proofs.lemmas.Bool.{false≢true}
 use Rattle.std.proofs.lemmas.List.{reverse-append, reverse-reverse}
@@ -19,15 +19,11 @@ use Rattle.builtin_calls.specs.declared.identity.Pair.{Pair}
 use Rattle.builtin_calls.specs.Reading.{family_of, read_term, seen_term}
 use Rattle.builtin_calls.specs.Shown.{shown, IsHeld}
 use Rattle.builtin_calls.specs.Waiting.{unnamed}
-use Rattle.builtin_calls.specs.Identical.{TellsIdentical, TellsShown, IsFlat, IsOwnPair, IsEqualPair, weight, paired, IsReduced, TellsPair}
+use Rattle.builtin_calls.specs.Identical.{TellsIdentical, TellsShown, IsFlat, IsOwnPair, IsEqualPair, weight, paired, IsReduced, IsSettled, TellsPair}
 
 -- cells with one term have one term as the sets show it
 pub same_seen : (h : Cells) (sets : List (List ℕ)) (c d : Cell) → Same h c d → (name : Naming) → seen_term name h sets c ≡ seen_term name h sets d
 same_seen h sets c d s name = ap (read_term h (family_of sets)) (s name)
-
--- what a cell shows is what its root shows
-pub rooted : (h : Cells) (sets : List (List ℕ)) (c d : Cell) → Same h c d → (y : Seen) → ((name : Naming) → seen_term name h sets d ≡ shown name (seen_term name h sets) y) → (name : Naming) → seen_term name h sets c ≡ shown name (seen_term name h sets) y
-rooted h sets c d s y t name = same_seen h sets c d s name ∙ t name
 
 -- whether two atoms are one, as a comparison of them tells
 pub atom_same : (f g : AtomId) (b : Bool) → b ≡ not (f.number == g.number) → b ≡ false → f ≡ g
@@ -77,6 +73,25 @@ own_paired h [] ds a b = none_at_all (IsOwnPair h)
 own_paired h (c ∷ cs) [] a b = none_at_all (IsOwnPair h)
 own_paired h (c ∷ cs) (d ∷ ds) a b = both_of (IsOwnPair h) (record { left = c; right = d }) (paired cs ds) (head_of (IsOf h) c cs a, head_of (IsOf h) d ds b) (own_paired h cs ds (tail_of (IsOf h) c cs a) (tail_of (IsOf h) d ds b))
 
+paired_none : (cs : List Cell) → paired cs [] ≡ []
+paired_none [] = refl
+paired_none (c ∷ cs) = refl
+
+no_pairs : (n : ℕ) (ls rs : List Cell) → length ls ≤ n → paired (drop n ls) (drop n rs) ≡ []
+no_pairs zero [] rs l = refl
+no_pairs zero (c ∷ ls) rs l = absurd (omega arith)
+no_pairs (suc n) [] rs l = refl
+no_pairs (suc n) (c ∷ ls) [] l = paired_none (drop n ls)
+no_pairs (suc n) (c ∷ ls) (d ∷ rs) l = no_pairs n ls rs (omega arith)
+
+first_pair : (i : ℕ) (ls rs : List Cell) (d : Cell) → i < length ls → i < length rs → paired (drop i ls) (drop i rs) ≡ record { left = get_or ls i d; right = get_or rs i d } ∷ paired (drop (suc i) ls) (drop (suc i) rs)
+first_pair zero (c ∷ ls) (e ∷ rs) d l m = refl
+first_pair zero [] rs d l m = absurd (omega arith)
+first_pair zero (c ∷ ls) [] d l m = absurd (omega arith)
+first_pair (suc i) [] rs d l m = absurd (omega arith)
+first_pair (suc i) (c ∷ ls) [] d l m = absurd (omega arith)
+first_pair (suc i) (c ∷ ls) (e ∷ rs) d l m = first_pair i ls rs d (omega arith) (omega arith)
+
 module _ (h : Cells) (sets : List (List ℕ)) where
   paired_equal : (name : Naming) (cs ds : List Cell) → terms_by (seen_term name h sets) cs ≡ terms_by (seen_term name h sets) ds → All (IsEqualPair name h sets) (paired cs ds)
   paired_equal name [] ds e = none_at_all (IsEqualPair name h sets)
@@ -102,6 +117,65 @@ module _ (h : Cells) (sets : List (List ℕ)) where
     back = λ name a. all_push (IsEqualPair name h sets) ps p a (e name);
     own = λ a. all_front (IsOwnPair h) ps (p ∷ []) a;
     falls = let q = weight-append (seen_term unnamed h sets) ps (p ∷ []) in let r = size_positive (seen_term unnamed h sets p.left) in omega arith;
+  }
+
+  -- pairs that are settled one by one
+  settled_same : (os new : List Pair) (p : Pair) → IsSettled h sets os new → ((name : Naming) → IsEqualPair name h sets p) → IsSettled h sets (os ++ p ∷ []) new
+  settled_same os new p s e = record {
+    forth = λ name a. s.forth name (all_front (IsEqualPair name h sets) os (p ∷ []) a);
+    back = λ name a. all_push (IsEqualPair name h sets) os p (s.back name a) (e name);
+    own = λ a. s.own (all_front (IsOwnPair h) os (p ∷ []) a);
+    lighter = let w = weight-append (seen_term unnamed h sets) os (p ∷ []) in let l = s.lighter in omega arith;
+  }
+
+  settled_push : (os new : List Pair) (p q : Pair) → IsSettled h sets os new → ((name : Naming) → seen_term name h sets p.left ≡ seen_term name h sets q.left) → ((name : Naming) → seen_term name h sets p.right ≡ seen_term name h sets q.right) → IsOwnPair h q → IsSettled h sets (os ++ p ∷ []) (new ++ q ∷ [])
+  settled_push os new p q s l r o = record {
+    forth = λ name a. all_push (IsEqualPair name h sets) new q (s.forth name (all_front (IsEqualPair name h sets) os (p ∷ []) a)) (sym (l name) ∙ last_of (IsEqualPair name h sets) os p a ∙ r name);
+    back = λ name a. all_push (IsEqualPair name h sets) os p (s.back name (all_front (IsEqualPair name h sets) new (q ∷ []) a)) (l name ∙ last_of (IsEqualPair name h sets) new q a ∙ sym (r name));
+    own = λ a. all_push (IsOwnPair h) new q (s.own (all_front (IsOwnPair h) os (p ∷ []) a)) o;
+    lighter =
+        let w = weight-append (seen_term unnamed h sets) os (p ∷ []) in
+        let v = weight-append (seen_term unnamed h sets) new (q ∷ []) in
+        let e : size (seen_term unnamed h sets p.left) ≡ size (seen_term unnamed h sets q.left) = ap size (l unnamed) in
+        let m = s.lighter in
+        omega arith;
+  }
+
+  -- the pairs from one place on
+  pub settled_none : (old : List Pair) (ls rs : List Cell) (n : ℕ) → length ls ≤ n → IsSettled h sets (old ++ reverse (paired (drop n ls) (drop n rs))) old
+  settled_none old ls rs n l = subst (λ ps. IsSettled h sets ps old) (sym (ap (λ ps. old ++ reverse ps) (no_pairs n ls rs l) ∙ append-nil old)) record {
+    forth = λ name a. a;
+    back = λ name a. a;
+    own = λ a. a;
+    lighter = omega arith;
+  }
+
+  settled_at : (old new : List Pair) (ls rs : List Cell) (i j : ℕ) (d : Cell) → suc i ≡ j → i < length ls → i < length rs → IsSettled h sets ((old ++ reverse (paired (drop j ls) (drop j rs))) ++ record { left = get_or ls i d; right = get_or rs i d } ∷ []) new → IsSettled h sets (old ++ reverse (paired (drop i ls) (drop i rs))) new
+  settled_at old new ls rs i j d n l m s =
+      let p : Pair = record { left = get_or ls i d; right = get_or rs i d } in
+      let qs = paired (drop j ls) (drop j rs) in
+      subst (λ ps. IsSettled h sets ps new)
+      (append_assoc old (reverse qs) (p ∷ []) ∙ ap (λ ps. old ++ ps) (sym (reverse-append (p ∷ []) qs)) ∙ ap (λ ps. old ++ reverse ps) (sym (first_pair i ls rs d l m ∙ ap (λ k. p ∷ paired (drop k ls) (drop k rs)) n))) s
+
+  pub settled_skip : (old new : List Pair) (ls rs : List Cell) (i j : ℕ) (d x y : Cell) → suc i ≡ j → i < length ls → i < length rs → IsSettled h sets (old ++ reverse (paired (drop j ls) (drop j rs))) new → Same h (get_or ls i d) x → Same h (get_or rs i d) y → x ≡ y
+      → IsSettled h sets (old ++ reverse (paired (drop i ls) (drop i rs))) new
+  settled_skip old new ls rs i j d x y n l m s a b e =
+      settled_at old new ls rs i j d n l m (settled_same (old ++ reverse (paired (drop j ls) (drop j rs))) new (record { left = get_or ls i d; right = get_or rs i d }) s
+      (λ name. same_seen h sets (get_or ls i d) x a name ∙ ap (seen_term name h sets) e ∙ sym (same_seen h sets (get_or rs i d) y b name)))
+
+  pub settled_put : (old new : List Pair) (ls rs : List Cell) (i j : ℕ) (d x y : Cell) → suc i ≡ j → i < length ls → i < length rs → IsSettled h sets (old ++ reverse (paired (drop j ls) (drop j rs))) new → Same h (get_or ls i d) x → Same h (get_or rs i d) y → IsOf h x → IsOf h y
+      → IsSettled h sets (old ++ reverse (paired (drop i ls) (drop i rs))) (new ++ record { left = x; right = y } ∷ [])
+  settled_put old new ls rs i j d x y n l m s a b o k =
+      settled_at old (new ++ record { left = x; right = y } ∷ []) ls rs i j d n l m
+      (settled_push (old ++ reverse (paired (drop j ls) (drop j rs))) new (record { left = get_or ls i d; right = get_or rs i d }) (record { left = x; right = y }) s
+      (λ name. same_seen h sets (get_or ls i d) x a name) (λ name. same_seen h sets (get_or rs i d) y b name) (o, k))
+
+  pub reduced_settled : (old mid new : List Pair) → IsReduced h sets old mid → IsSettled h sets mid new → IsReduced h sets old new
+  reduced_settled old mid new r s = record {
+    forth = λ name a. s.forth name (r.forth name a);
+    back = λ name a. r.back name (s.back name a);
+    own = λ a. s.own (r.own a);
+    falls = let l = s.lighter in let m = r.falls in omega arith;
   }
 
   -- two compound terms with one name and as many arguments
@@ -158,7 +232,7 @@ module _ (h : Cells) (sets : List (List ℕ)) where
     pub back : (name : Naming) → All (IsEqualPair name h sets) work → seen_term name h sets a ≡ seen_term name h sets b
     pub own : All (IsOwnPair h) work
 
-  pub comparing_first : (a b : Cell) (work : List Pair) → IsOf h a → IsOf h b → work ≡ record { left = a; right = b } ∷ [] → IsComparing a b work
+  comparing_first : (a b : Cell) (work : List Pair) → IsOf h a → IsOf h b → work ≡ record { left = a; right = b } ∷ [] → IsComparing a b work
   comparing_first a b work x y e = subst (IsComparing a b) (sym e) (
       let p : Pair = record { left = a; right = b } in
       record {
@@ -166,6 +240,15 @@ module _ (h : Cells) (sets : List (List ℕ)) where
         back = λ name i. head_of (IsEqualPair name h sets) p [] i;
         own = both_of (IsOwnPair h) p [] (x, y) (none_at_all (IsOwnPair h));
       })
+
+  pub comparing_roots : (a b x y : Cell) (work : List Pair) → Same h a x → Same h b y → IsOf h x → IsOf h y → work ≡ record { left = x; right = y } ∷ [] → IsComparing a b work
+  comparing_roots a b x y work i j o k e =
+      let c = comparing_first x y work o k e in
+      record {
+        forth = λ name q. c.forth name (sym (same_seen h sets a x i name) ∙ q ∙ same_seen h sets b y j name);
+        back = λ name w. same_seen h sets a x i name ∙ c.back name w ∙ sym (same_seen h sets b y j name);
+        own = c.own;
+      }
 
   pub comparing_further : (a b : Cell) (old new : List Pair) → IsComparing a b old → IsReduced h sets old new → IsComparing a b new
   comparing_further a b old new c r = record {

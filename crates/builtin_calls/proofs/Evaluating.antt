@@ -1,5 +1,5 @@
 -- An evaluation, step by step.
-use Rattle.std.proofs.Common.{◌≡◌, ℕ, ◌+◌, ◌<◌, ◌≤◌, ℤ, Bool, true, false, not, cond, refl, ap, sym, ◌∙◌, subst, arith, inl, inr, List, [], ◌∷◌, ◌++◌, length, Some, None, Bor}
+use Rattle.std.proofs.Common.{◌≡◌, ℕ, ◌+◌, ◌<◌, ◌≤◌, ℤ, Bool, true, false, not, cond, refl, ap, sym, ◌∙◌, subst, arith, inl, inr, List, [], ◌∷◌, ◌++◌, length, get_or, Some, None, Bor}
 use Rattle.std.specs.Prelude.{All, Result, Ok, Err, codes}
 use Rattle.std.specs.Str.{bytes_eq}
 use Rattle.term_pool.specs.declared.AtomId.{AtomId}
@@ -26,7 +26,7 @@ use Rattle.builtin_calls.specs.declared.evaluation.Step.TheVariants.{Enter, Leav
 use Rattle.fd_model.specs.Arithmetic.{ValueFault, not_a_number, unbound, Value, value_of, by_name, of_both, of_one, opposite_of, sum_of, difference_of, product_of, quotient_of, modulo_of}
 use Rattle.builtin_calls.specs.Reading.{seen_term}
 use Rattle.builtin_calls.specs.Shown.{shown, IsHeld}
-use Rattle.builtin_calls.specs.Outcomes.{IsFault, IsNamedBy, meaning, operation_of}
+use Rattle.builtin_calls.specs.Outcomes.{IsFault, IsNamedBy, Tells, meaning, operation_of}
 use Rattle.builtin_calls.specs.Waiting.{after, resumed, step_value, IsOwn, IsOwnWaiting, IsOfHeap, IsOwnStep, unnamed, burden, GoesOn, TellsStep, IsEntered}
 
 -- the operation that a name means
@@ -41,6 +41,19 @@ operation_by false false false false false l r o h = absurd (let f : ⊥ = cc in
 
 by_operation : (f : Name) (l r : Value) (o : Operation) → operation_of f ≡ Some o → by_name f l r ≡ of_both (meaning o) l r
 by_operation f l r o h = operation_by (bytes_eq f (codes "+")) (bytes_eq f (codes "-")) (bytes_eq f (codes "*")) (bytes_eq f (codes "//")) (bytes_eq f (codes "mod")) l r o h
+
+-- an operation of two operands whose values are known
+pub both_valued : (names : List Name) (h : Cells) (sets : List (List ℕ)) (c : Cell) (f : AtomId) (args : List Cell) → f.number < length names → ((name : Naming) → seen_term name h sets c ≡ Comp (name f) (terms_by (seen_term name h sets) args)) → 2 ≤ length args → length args < 3 → (d : Cell) (text : Name) (o : Operation) → text ≡ name_in names f → operation_of text ≡ Some o
+    → (a b : ℤ) → ((name : Naming) → value_of (seen_term name h sets (get_or args 0 d)) ≡ Ok a) → ((name : Naming) → value_of (seen_term name h sets (get_or args 1 d)) ≡ Ok b) → (r : Result ℤ EvalFault) → Tells r (meaning o a b) → (name : Naming) → IsNamedBy names name → Tells r (value_of (seen_term name h sets c))
+both_valued names h sets c f [] there is p q d text o x m a b u v r t name n = absurd (omega arith)
+both_valued names h sets c f (k ∷ []) there is p q d text o x m a b u v r t name n = absurd (omega arith)
+both_valued names h sets c f (k ∷ l ∷ []) there is p q d text o x m a b u v r t name n =
+    let by = seen_term name h sets in
+    let e : value_of (by c) ≡ meaning o a b =
+    ap value_of (is name) ∙ by_operation (name f) (value_of (by k)) (value_of (by l)) o (ap operation_of (n f there ∙ sym x) ∙ m)
+    ∙ ap (λ y. of_both (meaning o) y (value_of (by l))) (u name) ∙ ap (λ y. of_both (meaning o) (Ok a) y) (v name) in
+    subst (Tells r) (sym e) t
+both_valued names h sets c f (k ∷ l ∷ i ∷ ks) there is p q d text o x m a b u v r t name n = absurd (omega arith)
 
 -- what waits
 resumed-append : (by : Cell → Term) (ws : List Waiting) (w : Waiting) (v : Value) → resumed by (ws ++ w ∷ []) v ≡ resumed by ws (after by w v)

@@ -1,5 +1,5 @@
 -- Whether two terms are identical, and pairs of cells that are still to be compared.
-use Rattle.std.specs.Prelude.{◌≡◌, ℕ, ◌+◌, ◌<◌, Bool, true, false, List, [], ◌∷◌, ◌++◌, All}
+use Rattle.std.specs.Prelude.{◌≡◌, ℕ, ◌+◌, ◌<◌, ◌≤◌, Bool, true, false, List, [], ◌∷◌, ◌++◌, All}
 use Rattle.term_pool.specs.Terms.{size}
 use Rattle.fd_language.specs.Term.{Term}
 use Rattle.heap_cells.specs.declared.Cell.{Cell}
@@ -53,6 +53,13 @@ pub record IsReduced (h : Cells) (sets : List (List ℕ)) (old new : List Pair) 
   pub back : (name : Naming) → All (IsEqualPair name h sets) new → All (IsEqualPair name h sets) old
   pub own : All (IsOwnPair h) old → All (IsOwnPair h) new
   pub falls : weight (seen_term unnamed h sets) new < weight (seen_term unnamed h sets) old
+
+-- the pairs of the one list are equal exactly where those of the other are, and there is no more to compare
+pub record IsSettled (h : Cells) (sets : List (List ℕ)) (old new : List Pair) : Type 0 where
+  pub forth : (name : Naming) → All (IsEqualPair name h sets) old → All (IsEqualPair name h sets) new
+  pub back : (name : Naming) → All (IsEqualPair name h sets) new → All (IsEqualPair name h sets) old
+  pub own : All (IsOwnPair h) old → All (IsOwnPair h) new
+  pub lighter : weight (seen_term unnamed h sets) new ≤ weight (seen_term unnamed h sets) old
 
 -- the pair's terms are identical if those of the new pairs are, or they are not
 abbrev pub TellsPair : Cells → List (List ℕ) → List Pair → Pair → List Pair → Bool → Type 0

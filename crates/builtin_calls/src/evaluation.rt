@@ -25,7 +25,7 @@ use thiserror::Error;
 /// Why a term has no value.
 #[derive(Clone, Copy, Debug, PartialEq, Eq, Drop, Error)]
 pub enum EvalFault {
-    /// A variable without a value.
+    /// A variable that is open and isn't known to be one integer.
     #[error("a variable has no value")]
     Unbound,
     /// An atom, or a compound term that is no operation.
@@ -37,7 +37,7 @@ pub enum EvalFault {
     /// A division by 0.
     #[error("a divisor is zero")]
     ZeroDivisor,
-    /// Memory was wanting.
+    /// Memory was wanting for the operations that wait; the term may have a value.
     #[error("out of memory")]
     NoMemory,
 }
@@ -82,22 +82,29 @@ enum Step {
 /// How many operations may wait before their number takes memory.
 const ROOM: usize = 8;
 
+/// The operation whose name is this character.
+fn operation_of_byte(byte: u8) -> Option<Operation>
+    ensures { result ≡ operation_of (byte ∷ []) }
+{
+    match byte {
+        b'+' => Some(Operation::Add),
+        b'-' => Some(Operation::Subtract),
+        b'*' => Some(Operation::Multiply),
+        _ => None,
+    }
+}
+
 /// The operation of this name.
 fn operation_named(name: &str) -> Option<Operation>
     ensures { result ≡ operation_of name.now }
 {
-    if name == "+" {
-        Some(Operation::Add)
-    } else if name == "-" {
-        Some(Operation::Subtract)
-    } else if name == "*" {
-        Some(Operation::Multiply)
-    } else if name == "//" {
-        Some(Operation::Divide)
-    } else if name == "mod" {
-        Some(Operation::Modulo)
-    } else {
-        None
+    match name.as_bytes() {
+        &[only] => operation_of_byte(only),
+        &[first, second] if first == b'/' && second == b'/' => Some(Operation::Divide),
+        &[first, second, third] if first == b'm' && second == b'o' && third == b'd' => {
+            Some(Operation::Modulo)
+        }
+        _ => None,
     }
 }
 
@@ -229,11 +236,28 @@ fn resume<V: View>(
     }
 }
 
-/// The value of a term: of integers, `+`, `-`, `*`, `//` toward zero, `mod` with the divisor's sign, and prefix `-`.
-///
-/// The cell is of the heap, the heap's atoms are of the pool, and the view's sets are those of the heap's variables of the store.
-/// The left operand's fault comes first, then the right one's, then the operation's.
-pub fn eval<V: View>(
+/// The value of an integer, or of an operation of two integers, and `None` at another term.
+fn eval_flat<V: View>(heap: &Heap, pool: &Pool, view: &V, c: Cell) -> Option<Result<i64, EvalFault>>
+    requires own { IsOf heap.now.now c }
+    requires atoms { HasAtomsBelow (length pool.now.names) heap.now.now }
+    requires links { HasLinksBelow (length (V.sets view.now)) heap.now.now }
+    ensures { IfSome result (λ r. (name : Naming) → IsNamedBy pool.now.names name → Tells r
+        (value_of (seen_term name heap.now.now (V.sets view.now) c))) }
+{
+    match look(heap, view, c) {
+        Seen::Int(z) if z != i64::MIN => Some(Ok(z)),
+        Seen::Struct(f, &[left, right]) => {
+            let a = constant(heap, view, left)?;
+            let b = constant(heap, view, right)?;
+            let operation = operation_named(pool.name_of(f))?;
+            Some(apply(operation, a, b))
+        }
+        _ => None,
+    }
+}
+
+/// The value of a term, operand by operand.
+fn eval_nested<V: View>(
     alloc: Global,
     heap: &Heap,
     pool: &Pool,
@@ -258,4 +282,29 @@ pub fn eval<V: View>(
             },
         };
     }
+}
+
+/// The value of a term: of integers, `+`, `-`, `*`, `//` toward zero, `mod` with the divisor's sign, and prefix `-`.
+///
+/// The cell is of the heap, the heap's atoms are of the pool, and the view's sets are those of the heap's variables of the store.
+/// The left operand's fault comes first, then the right one's, then the operation's. An operation of integers takes no memory.
+/// The heap stays as it is, also after an error; `NoMemory` says nothing of the term.
+pub fn eval<V: View>(
+    alloc: Global,
+    heap: &Heap,
+    pool: &Pool,
+    view: &V,
+    c: Cell,
+) -> Result<i64, EvalFault>
+    requires own { IsOf heap.now.now c }
+    requires atom { IsAtomBelow (length pool.now.names) c }
+    requires atoms { HasAtomsBelow (length pool.now.names) heap.now.now }
+    requires links { HasLinksBelow (length (V.sets view.now)) heap.now.now }
+    ensures { (name : Naming) → IsNamedBy pool.now.names name → Tells result
+        (value_of (seen_term name heap.now.now (V.sets view.now) c)) }
+{
+    if let Some(told) = eval_flat(heap, pool, view, c) {
+        return told;
+    }
+    eval_nested(alloc, heap, pool, view, c)
 }

@@ -1,9 +1,9 @@
 //! Identity of terms.
 
-ghost use Rattle.std.specs.Prelude.{◌≡◌, ◌++◌, length, reverse, IfOk, OnOk};
+ghost use Rattle.std.specs.Prelude.{◌≡◌, ◌++◌, ℕ, List, length, reverse, All, IfOk, OnOk};
 ghost use Rattle.heap_cells.specs.Cells.{IsOf};
 ghost use Rattle.builtin_calls.specs.Reading.{HasLinksBelow};
-ghost use Rattle.builtin_calls.specs.Identical.{TellsIdentical, TellsShown, TellsPair, IsFlat, IsOwnPair, paired};
+ghost use Rattle.builtin_calls.specs.Identical.{TellsIdentical, TellsShown, TellsPair, IsFlat, IsOwnPair, IsSettled, paired};
 
 use crate::reading::look;
 use domain_ranges::View;
@@ -18,18 +18,29 @@ struct Pair {
     right: Cell,
 }
 
-/// Puts the pairs of two lists of cells of one length behind the work, so that the first pair is the next. The error is want of
-/// memory.
-fn pair_up(work: &mut Vec<Pair>, left: &[Cell], right: &[Cell]) -> Result<(), AllocError>
-    requires { length left.now ≡ length right.now }
-    ensures { OnOk result (work.new.items
-        ≡ work.old.items ++ reverse (paired left.now right.now)) }
+/// Puts the pairs of two lists of cells of one length behind the work, each at the ends of its bindings, so that the first pair is
+/// the next. A pair of one cell is left out. The error is want of memory.
+fn pair_up(
+    heap: &Heap,
+    left: &[Cell],
+    right: &[Cell],
+    work: &mut Vec<Pair>,
+) -> Result<(), AllocError>
+    requires count { length left.now ≡ length right.now }
+    requires own_left { All (IsOf heap.now.now) left.now }
+    requires own_right { All (IsOf heap.now.now) right.now }
+    ensures { OnOk result ((sets : List (List ℕ)) → IsSettled heap.now.now sets
+        (work.old.items ++ reverse (paired left.now right.now)) work.new.items) }
 {
     for i in (0..left.len()).rev() {
-        work.push(Pair {
-            left: left[i],
-            right: right[i],
-        })?;
+        let one = heap.root(left[i]);
+        let other = heap.root(right[i]);
+        if one != other {
+            work.push(Pair {
+                left: one,
+                right: other,
+            })?;
+        }
     }
     Ok(())
 }
@@ -63,28 +74,23 @@ fn step<V: View>(heap: &Heap, view: &V, pair: Pair, work: &mut Vec<Pair>) -> Res
     ensures { IfOk result (TellsPair heap.now.now (V.sets view.now) work.old.items pair
         work.new.items) }
 {
-    let left = heap.root(pair.left);
-    let right = heap.root(pair.right);
-    if left == right {
-        return Ok(true);
-    }
-    match look(heap, view, left) {
-        Seen::Struct(f, some) => match look(heap, view, right) {
+    match look(heap, view, pair.left) {
+        Seen::Struct(f, some) => match look(heap, view, pair.right) {
             Seen::Struct(g, others) => {
                 if f != g || some.len() != others.len() {
                     return Ok(false);
                 }
-                pair_up(work, some, others)?;
+                pair_up(heap, some, others, work)?;
                 Ok(true)
             }
             _ => Ok(false),
         },
-        flat => Ok(is_same_flat(flat, look(heap, view, right))),
+        flat => Ok(is_same_flat(flat, look(heap, view, pair.right))),
     }
 }
 
 /// Whether the terms of two cells are identical. The cells are of the heap, and the view's sets are those of the heap's variables of
-/// the store. The error is want of memory.
+/// the store. The heap stays as it is. The error is want of memory, and says nothing of the terms.
 pub fn same<V: View>(
     alloc: Global,
     heap: &Heap,
@@ -97,8 +103,13 @@ pub fn same<V: View>(
     requires links { HasLinksBelow (length (V.sets view.now)) heap.now.now }
     ensures { IfOk result (TellsIdentical heap.now.now (V.sets view.now) a b) }
 {
+    let left = heap.root(a);
+    let right = heap.root(b);
+    if left == right {
+        return Ok(true);
+    }
     let mut work = Vec::new(alloc);
-    let mut pair = Pair { left: a, right: b };
+    let mut pair = Pair { left, right };
     'pairs: loop {
         if !step(heap, view, pair, &mut work)? {
             return Ok(false);

@@ -24,7 +24,7 @@ pub enum TypeTest {
 }
 
 /// Whether a term passes a test of types. The cell is of the heap, and the view's sets are those of the heap's variables of the
-/// store. No memory.
+/// store. It answers for every cell, has no error, changes nothing and takes no memory.
 pub fn type_test<V: View>(test: TypeTest, heap: &Heap, view: &V, c: Cell) -> bool
     requires own { IsOf heap.now.now c }
     requires links { HasLinksBelow (length (V.sets view.now)) heap.now.now }

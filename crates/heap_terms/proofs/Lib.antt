@@ -7,3 +7,4 @@ pub mod VarWalk
 pub mod TermWalk
 pub mod Whole
 pub mod Values
+pub mod Flat

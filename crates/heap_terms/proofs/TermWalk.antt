@@ -39,11 +39,11 @@ at_depth_atom : (name : Naming) (h : Cells) (n : ℕ) → 0 < n → (a : AtomId)
 at_depth_atom name h zero l a = absurd (omega arith)
 at_depth_atom name h (suc n) l a = refl
 
-int_term : (name : Naming) (h : Cells) (z : ℤ) → term_of name h (cell.Int z) ≡ Int z
+pub int_term : (name : Naming) (h : Cells) (z : ℤ) → term_of name h (cell.Int z) ≡ Int z
 unfolding term_of
 int_term name h z = at_depth_int name h (depth h) (pow_pos (length h.slots + length h.compounds)) z
 
-atom_term : (name : Naming) (h : Cells) (a : AtomId) → term_of name h (cell.Atom a) ≡ Atom (name a)
+pub atom_term : (name : Naming) (h : Cells) (a : AtomId) → term_of name h (cell.Atom a) ≡ Atom (name a)
 unfolding term_of
 atom_term name h a = at_depth_atom name h (depth h) (pow_pos (length h.slots + length h.compounds)) a
 
@@ -66,7 +66,7 @@ parts_have vars by (t ∷ ts) h =
     both_of (λ u. HasCells vars (by u)) t ts (λ x e. h x (first_has (occurs x (by t)) (occurs_any x (pool.terms_by by ts)) e))
     (parts_have vars by ts (λ x e. h x (rest_has (occurs x (by t)) (occurs_any x (pool.terms_by by ts)) e)))
 
-look_is : (name : Naming) (h : Cells) (vars : List (Option Cell)) (x : ℕ) (d : Cell) → cell_at vars x ≡ Some d → look name h vars x ≡ term_of name h d
+pub look_is : (name : Naming) (h : Cells) (vars : List (Option Cell)) (x : ℕ) (d : Cell) → cell_at vars x ≡ Some d → look name h vars x ≡ term_of name h d
 look_is name h vars x d e = ap (cell_look name h x) e
 
 -- so far

@@ -1,5 +1,5 @@
 -- The steps of the walk that builds a term, over a list of tasks and a list of cells, the next and the newest last.
-use Rattle.std.specs.Prelude.{◌≡◌, ℕ, ◌-◌, ◌<◌, Option, Some, List, [], ◌∷◌, ◌++◌, length, take, drop, map, reverse}
+use Rattle.std.specs.Prelude.{◌≡◌, ℕ, ◌-◌, ◌<◌, ◌≤◌, Option, Some, List, [], ◌∷◌, ◌++◌, length, take, drop, map, reverse, slice_index_or}
 use Rattle.fd_language.specs.Term.{Name, Term, Substitution, apply}
 use Rattle.term_pool.specs.declared.AtomId.{AtomId}
 use Rattle.term_pool.specs.declared.TermId.{TermId}
@@ -26,6 +26,20 @@ VisitsShape vars (comp f ts) ks ds ms es = (ms ≡ (ks ++ Make f (length ts) ∷
 abbrev pub VisitsTerm : Contents → List (Option Cell) → TermId → List Building → List Cell → List Building → List Cell → Type 0
 VisitsTerm c vars t ks ds ms es = (s : Shape) × (pool_term c t ≡ shape_term c s) × IsWithin (length c.names) t.number s × VisitsShape vars s ks ds ms es
 
+-- the cell of a term that is no compound term
+abbrev pub IsLeaf : List (Option Cell) → Shape → Cell → Type 0
+IsLeaf vars (var x) d = cell_at vars x ≡ Some d
+IsLeaf vars (int z) d = d ≡ cell.Int z
+IsLeaf vars (atom a) d = d ≡ cell.Atom a
+IsLeaf vars (comp f ts) d = ⊥
+
+abbrev pub IsLeafCell : Contents → List (Option Cell) → TermId → Cell → Type 0
+IsLeafCell c vars t d = (s : Shape) × (pool_term c t ≡ shape_term c s) × IsWithin (length c.names) t.number s × IsLeaf vars s d
+
+-- the first cells are those of the terms
+abbrev pub AreLeafCells : Contents → List (Option Cell) → List TermId → List Cell → Type 0
+AreLeafCells c vars ts ds = (length ts ≤ length ds) × ((k : ℕ) → k < length ts → IsLeafCell c vars (slice_index_or ts k (record { number = 0 })) (slice_index_or ds k (cell.Ref 0)))
+
 -- a term can be looked at, and an atom of the pool named
 abbrev pub CanBuild : Contents → List (Option Cell) → Building → Type 0
 CanBuild c vars (Visit t) = (t.number < length c.entries) × HasCells vars (pool_term c t)
@@ -47,3 +61,7 @@ pub record IsBuiltOver (names : List Name) (old now : Cells) (vars : List (Optio
   pub slots : now.slots ≡ old.slots
   pub wide : (d : Cell) → IsOf old d → IsOf now d
   pub atoms : HasAtomsBelow (length names) old → CellsBelow (length names) vars → HasAtomsBelow (length names) now × IsAtomBelow (length names) c
+
+-- so does a cell that was made without new variables, since each of the term's variables has one
+abbrev pub IsBuiltFlat : List Name → Cells → Cells → List (Option Cell) → Term → Cell → Type 0
+IsBuiltFlat names old now vars t c = HasCells vars t × IsBuiltOver names old now vars t c

@@ -4,7 +4,7 @@
 //! parts are there.
 #![tactic(auto)]
 
-ghost use Rattle.std.specs.Prelude.{◌≡◌, ◌<◌, ◌≤◌, ◌++◌, length, map, reverse, Some, IfOk, OnOk, All};
+ghost use Rattle.std.specs.Prelude.{◌≡◌, ◌<◌, ◌≤◌, ◌++◌, length, map, reverse, Some, None, IfOk, IfSome, OnOk, All};
 ghost use Rattle.fd_language.specs.Variables.{TermBelow};
 ghost use Rattle.term_pool.specs.Contents.{name_in};
 ghost use Rattle.term_pool.specs.Terms.{term_of as pool_term, shape_term, Extends, KeepsTerms as KeepsPoolTerms};
@@ -17,7 +17,7 @@ ghost use Rattle.heap_terms.specs.declared.Building.TheVariants as building;
 ghost use Rattle.heap_terms.specs.declared.Reading.TheVariants as reading;
 ghost use Rattle.heap_terms.specs.Built.{IsBuilt, AreOf, KeepsAtoms, cell_at, HasCell, HasCells};
 ghost use Rattle.heap_terms.specs.Given.{IsGiven, AreGiven};
-ghost use Rattle.heap_terms.specs.Building.{VisitsTerm, MakesCell, IsBuiltOver};
+ghost use Rattle.heap_terms.specs.Building.{VisitsTerm, MakesCell, IsBuiltOver, IsLeafCell, AreLeafCells, IsBuiltFlat};
 ghost use Rattle.heap_terms.specs.Values.{only, value_of, shown_term, LinksBelow};
 ghost use Rattle.heap_terms.specs.Reading.{VisitsCell, AddsTerm, MakesTerm, PlacesAtZero};
 
@@ -26,6 +26,9 @@ use fd_language::NoMemory;
 use heap_cells::{Cell, Heap, Seen};
 use std::alloc::{AllocError, Global};
 use term_pool::{AtomId, Node, Pool, TermId};
+
+/// The most parts of a term that is built without stacks.
+const FLAT: usize = 4;
 
 /// What is still to be done for a cell: a term to be looked at, or a compound term to be made of the last cells.
 #[derive(Clone, Copy)]
@@ -181,9 +184,66 @@ fn build_over(
     Ok(done[0])
 }
 
-/// Builds a term of the pool. Its variables are the cells of `vars`, by their numbers, and one that has none there gets a new
-/// variable of the heap. The error is want of memory; the heaps below are then unchanged.
-pub fn build(
+/// The cell of a variable, an integer or an atom. `None` for a compound term, and for a variable that has no cell.
+fn leaf_cell(pool: &Pool, t: TermId, vars: &[Option<Cell>]) -> Option<Cell>
+    requires own { t.number < length pool.now.entries }
+    requires vars { TermBelow (length vars.now) (pool_term pool.now t) }
+    ensures { IfSome result (IsLeafCell pool.now vars.now t) }
+{
+    match pool.view(t) {
+        Node::Var(x) => vars[x as usize],
+        Node::Int(z) => Some(Cell::Int(z)),
+        Node::Atom(a) => Some(Cell::Atom(a)),
+        Node::Comp(_, _) => None,
+    }
+}
+
+/// The cells of at most `FLAT` terms, none of them a compound term, in a front of the list that is given. `None` where there are
+/// more, a compound term or a variable that has no cell.
+fn leaf_cells(pool: &Pool, terms: &[TermId], vars: &[Option<Cell>]) -> Option<[Cell; FLAT]>
+    requires own { All (λ t. t.number < length pool.now.entries) terms.now }
+    requires vars { All (λ t. TermBelow (length vars.now) (pool_term pool.now t)) terms.now }
+    ensures { IfSome result (λ cells. AreLeafCells pool.now vars.now terms.now cells) }
+{
+    if terms.len() > FLAT {
+        return None;
+    }
+    let mut cells = [Cell::Int(0); FLAT];
+    for i in 0..terms.len() {
+        cells[i] = leaf_cell(pool, terms[i], vars)?;
+    }
+    Some(cells)
+}
+
+/// The cell of a compound term of a few parts, none of them a compound term, whose variables have cells; `None` for any other term.
+/// The error is want of memory. The heap is unchanged after an error and after `None`.
+fn build_flat(
+    heap: &mut Heap,
+    pool: &Pool,
+    t: TermId,
+    vars: &[Option<Cell>],
+) -> Result<Option<Cell>, NoMemory>
+    requires own { t.number < length pool.now.entries }
+    requires vars { TermBelow (length vars.now) (pool_term pool.now t) }
+    requires cells { AreOf heap.old.now vars.now }
+    ensures built { IfOk result (λ o. IfSome o (IsBuiltFlat pool.now.names heap.old.now
+        heap.new.now vars.now (pool_term pool.now t))) }
+    ensures none { IfOk result (λ o. o ≡ None → heap.new ≡ heap.old) }
+    ensures kept { KeepsTerms heap.old.now heap.new.now }
+    ensures below { heap.new.below ≡ heap.old.below }
+{
+    let Node::Comp(f, parts) = pool.view(t) else {
+        return Ok(None);
+    };
+    let Some(cells) = leaf_cells(pool, parts, vars) else {
+        return Ok(None);
+    };
+    let made = heap.new_struct(f, &cells[..parts.len()])?;
+    Ok(Some(made))
+}
+
+/// Builds a term part by part, as `build` does.
+fn build_nested(
     heap: &mut Heap,
     alloc: Global,
     pool: &Pool,
@@ -202,6 +262,33 @@ pub fn build(
 {
     give_cells(heap, alloc, pool, t, vars)?;
     build_over(heap, alloc, pool, t, vars)
+}
+
+/// Builds a term of the pool. Its variables are the cells of `vars`, by their numbers, and one that has none there gets a new
+/// variable of the heap. A compound term of at most four parts takes no memory but the heap's, where none of them is a compound
+/// term and its variables have cells. The error is want of memory. Then the heaps below are unchanged, each earlier cell stands for
+/// its term, and the current heap and `vars` may have new cells.
+pub fn build(
+    heap: &mut Heap,
+    alloc: Global,
+    pool: &Pool,
+    t: TermId,
+    vars: &mut [Option<Cell>],
+) -> Result<Cell, NoMemory>
+    requires own { t.number < length pool.now.entries }
+    requires vars { TermBelow (length vars.old) (pool_term pool.now t) }
+    requires cells { AreOf heap.old.now vars.old }
+    ensures built { IfOk result (IsBuilt pool.now.names heap.old.now heap.new.now vars.old vars.new
+        (pool_term pool.now t)) }
+    ensures atoms { IfOk result (KeepsAtoms (length pool.now.names) heap.old.now heap.new.now
+        vars.old vars.new) }
+    ensures kept { KeepsTerms heap.old.now heap.new.now }
+    ensures below { heap.new.below ≡ heap.old.below }
+{
+    match build_flat(heap, pool, t, vars)? {
+        Some(cell) => Ok(cell),
+        None => build_nested(heap, alloc, pool, t, vars),
+    }
 }
 
 /// Puts cells to be looked at behind the tasks, so that the first of them is the next. The error is want of memory.
@@ -320,7 +407,8 @@ fn make_term(
 
 /// Reads the term of a cell into another pool, as the sets of the view show it: a variable of the store with one value is that
 /// integer. `from` is the pool that the heap's atoms are of; they go into `pool` by their names. A variable keeps its number in the
-/// heap, and each new term has the place 0. The error is want of memory.
+/// heap, and each new term has the place 0. The heap stays as it is. The error is want of memory; each earlier id of `pool` then has
+/// its atom or term still, and some new ones may stand behind them.
 pub fn read_back<V: View>(
     heap: &Heap,
     alloc: Global,

@@ -1,13 +1,23 @@
-use Rattle.std.proofs.Common.{◌≡◌, ◌++◌, [], ◌∷◌, ap, subst, List, rules}
+use Rattle.std.proofs.Common.{◌≡◌, ◌++◌, [], ◌∷◌, ap, sym, ◌∙◌, subst, List, rules}
 use Rattle.builtin_calls.specs.declared.identity.Pair.{Pair}
 use Rattle.builtin_calls.specs.Identical.{IsReduced}
-use Rattle.builtin_calls.proofs.Comparing.{comparing_first, comparing_further, compared, told_apart, told_true, told_false}
+use Rattle.builtin_calls.specs.Reading.{seen_term}
+use Rattle.builtin_calls.proofs.Comparing.{same_seen, comparing_roots, comparing_further, compared, told_apart, told_true, told_false}
 use Rattle.builtin_calls.proofs.identity.same.Given as given
 use Rattle.builtin_calls.proofs.identity.same.Goals as goal
 use Rattle.builtin_calls.proofs.identity.same.Goals.{In-Some}
 
 pub pairs-init : goal.pairs-init
-pairs-init g c = comparing_first c.args.heap.now.now (g.V.View.sets c.args.view.now) c.args.a c.args.b _ c.requires.own_a c.requires.own_b (ap (λ (ps : List Pair). ps ++ record { left = c.args.a; right = c.args.b } ∷ []) c.new-work.ensures.items)
+pairs-init g c =
+    comparing_roots c.args.heap.now.now (g.V.View.sets c.args.view.now) c.args.a c.args.b c.root-left.result c.root-right.result _ c.root-left.ensures.same c.root-right.ensures.same c.root-left.ensures.own c.root-right.ensures.own
+    (ap (λ (ps : List Pair). ps ++ record { left = c.root-left.result; right = c.root-right.result } ∷ []) c.new-work.ensures.items)
+
+pub returns-then-eq : goal.returns-then-eq
+returns-then-eq g c =
+    let h = c.args.heap.now.now in
+    let sets = g.V.View.sets c.args.view.now in
+    let e : c.root-left.result ≡ c.root-right.result = search rules in
+    λ name. same_seen h sets c.args.a c.root-left.result c.root-left.ensures.same name ∙ ap (seen_term name h sets) e ∙ sym (same_seen h sets c.args.b c.root-right.result c.root-right.ensures.same name)
 
 -- a step that reduced the work
 reduced : (g : given.Over) (c : In-Some g) → IsReduced c.args.heap.now.now (g.V.View.sets c.args.view.now) (c.pairs.work.items ++ c.pairs.pair ∷ []) (c.pop.new.self.items ++ c.in-Some.next ∷ [])

@@ -1,7 +1,7 @@
 use Rattle.builtin_calls.specs.Reading.{seen_term}
 use Rattle.builtin_calls.specs.Waiting.{unnamed, load}
 use Rattle.builtin_calls.proofs.Evaluating.{IsUnderWay}
-use Rattle.builtin_calls.proofs.evaluation.eval.Given as goal
+use Rattle.builtin_calls.proofs.evaluation.eval_nested.Given as goal
 
 abbrev pub invariant-steps : goal.invariant-steps
 invariant-steps g l = IsUnderWay l.pool.names l.heap.now (g.V.View.sets l.view) l.fn.c l.waiting.items l.step

@@ -7,9 +7,9 @@ use Rattle.builtin_calls.specs.Outcomes.{IsFault}
 use Rattle.builtin_calls.specs.Reading.{seen_term}
 use Rattle.builtin_calls.specs.Waiting.{resumed, step_value, GoesOn}
 use Rattle.builtin_calls.proofs.Evaluating.{under_way_first, under_way_further, way_fails, last_held}
-use Rattle.builtin_calls.proofs.evaluation.eval.Given as given
-use Rattle.builtin_calls.proofs.evaluation.eval.Goals as goal
-use Rattle.builtin_calls.proofs.evaluation.eval.Goals.{In_ok-step-in-Enter, In_ok-step-in-Some}
+use Rattle.builtin_calls.proofs.evaluation.eval_nested.Given as given
+use Rattle.builtin_calls.proofs.evaluation.eval_nested.Goals as goal
+use Rattle.builtin_calls.proofs.evaluation.eval_nested.Goals.{In_ok-step-in-Enter, In_ok-step-in-Some}
 
 pub steps-init : goal.steps-init
 steps-init g c = under_way_first c.args.pool.now.names c.args.heap.now.now (g.V.View.sets c.args.view.now) c.args.c c.new-waiting.result.items c.new-waiting.ensures.items (c.requires.own, c.requires.atom)

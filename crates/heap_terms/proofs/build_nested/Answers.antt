@@ -1,6 +1,6 @@
 use Rattle.term_pool.specs.Terms.{term_of}
 use Rattle.heap_terms.proofs.Whole.{if_ok, built_whole}
-use Rattle.heap_terms.proofs.build.Goals as goal
+use Rattle.heap_terms.proofs.build_nested.Goals as goal
 
 pub returns-clause-built : goal.returns-clause-built
 returns-clause-built c =
