@@ -1,6 +1,6 @@
-pub mod Pieces
-pub mod Having
-pub mod Splitting
-pub mod Trying
-pub mod Laws
-pub mod Homes
+pub mod First
+pub mod Groups
+pub mod Layout
+pub mod Listing
+pub mod Parts
+pub mod Sections

@@ -1,4 +1,9 @@
-//! Pieces of code, and what they do: the laws from which a compiler of clauses is to be proved. There is no compiler yet.
+//! The code of a program.
 #![tactic(auto)]
 
-pub mod laws;
+mod choices;
+mod groups;
+mod program;
+mod sections;
+
+pub use crate::program::compile;

@@ -59,6 +59,7 @@ module _ (M : ℕ) (area : Area) (shown : List ℕ) (name : Naming) (h : Cells) 
     ends = subst (λ l. Ends l m.next m.q m.todo m.after) (ap (joined m.gathered) is ∙ sym (joined_next m.gathered t us)) m.ends;
     continues = m.continues;
     below = m.below;
+    asked = m.asked;
   }
 
   first : (voids at : ℕ) (m : Now voids at (suc left)) → (t : Term) × (us : Terms) × (m.ts ≡ term t us) × (count us ≡ left) × Owed area voids at m.p (term t us) m.next m.q

@@ -94,18 +94,21 @@ all_values name h look P [] (term t ts) a = absurd a
 all_values name h look P (d ∷ ds) no_terms a = absurd a
 all_values name h look P (d ∷ ds) (term t ts) a = let first = a.0.value in let rest = all_values name h look P ds ts a.1 in cc
 
+-- a heap that grows keeps the terms of its cells
+terms_kept : (name : Naming) (h now : Cells) (look : Substitution) (P : ℕ → Type 0) → IsGrown h now → (ds : List Cell) (ts : Terms) → AreCells name h look P ds ts → terms_by (term_of name now) ds ≡ terms_by (term_of name h) ds
+terms_kept name h now look P g [] no_terms a = refl
+terms_kept name h now look P g [] (term t ts) a = absurd a
+terms_kept name h now look P g (d ∷ ds) no_terms a = absurd a
+terms_kept name h now look P g (d ∷ ds) (term t ts) a = let first = g.terms name d a.0.own in let rest = terms_kept name h now look P g ds ts a.1 in cc
+
 -- the new compound term is that of the gathered ones
-built_shown : (name : Naming) (h : Cells) (f : AtomId) (g : Name) → name f ≡ g → (ds : List Cell) → IsHeap (with_compound h (record { name = f; args = ds })) → (look : Substitution) (P : ℕ → Type 0) (ts : Terms) → AreCells name (with_compound h (record { name = f; args = ds })) look P ds ts
-    → IsShown name (with_compound h (record { name = f; args = ds })) look P (Comp g ts) (cell.Struct (length h.compounds))
-built_shown name h f g named ds valid look P ts a =
-    let k : Compound = record { name = f; args = ds } in
-    let now = with_compound h k in
-    record {
-      known = all_known name now look P ds ts a;
-      own = omega (arith, length-append h.compounds (k ∷ []));
-      value = ap (Comp g) (all_values name now look P ds ts a) ∙ ap (λ n. Comp n (terms_by (term_of name now) ds)) (sym named)
-          ∙ sym (term-Struct name now valid (length h.compounds) ∙ ap (compound_term name (term_of name now)) (part_new h k h.compounds _));
-    }
+built_shown : (name : Naming) (h now : Cells) (f : AtomId) (g : Name) → name f ≡ g → (ds : List Cell) (e : Cell) → IsOf now e → term_of name now e ≡ Comp (name f) (terms_by (term_of name h) ds) → terms_by (term_of name now) ds ≡ terms_by (term_of name h) ds → (look : Substitution) (P : ℕ → Type 0) (ts : Terms) → AreCells name now look P ds ts
+    → IsShown name now look P (Comp g ts) e
+built_shown name h now f g named ds e own is kept look P ts a = record {
+  known = all_known name now look P ds ts a;
+  own = own;
+  value = ap (Comp g) (all_values name now look P ds ts a ∙ kept) ∙ ap (λ n. Comp n (terms_by (term_of name h) ds)) (sym named) ∙ sym is;
+}
 
 module _ (M : ℕ) (area : Area) (shown : List ℕ) (name : Naming) (h : Cells) (qs : List Indexical) (at : ℕ) (c : Registers) (stack : List Saved) (b : Branch) where
   -- a head's argument: it is gathered first, and then the arguments of the term that is to be equal to it
@@ -133,6 +136,7 @@ module _ (M : ℕ) (area : Area) (shown : List ℕ) (name : Naming) (h : Cells) 
           ends = (e.0, k.3.0, e.1, refl, e.3, e.4);
           continues = m.continues;
           below = m.below;
+          asked = m.asked;
         },
       )
 
@@ -156,12 +160,11 @@ module _ (M : ℕ) (area : Area) (shown : List ℕ) (name : Naming) (h : Cells) 
         ends = k.3.4;
         continues = m.continues;
         below = m.below;
+        asked = m.asked;
       }
 
-  module _ (f : AtomId) (named : name f ≡ name_of area f) (ds : List Cell) (valid : IsHeap (with_compound h (record { name = f; args = ds }))) (grown : IsGrown h (with_compound h (record { name = f; args = ds }))) where
-    abbrev now : Cells
-    now = with_compound h (record { name = f; args = ds })
-
+  -- the cell new of the heap now is the compound term of the cells ds
+  module _ (f : AtomId) (named : name f ≡ name_of area f) (ds : List Cell) (now : Cells) (new : Cell) (grown : IsGrown h now) (own : IsOf now new) (is : term_of name now new ≡ Comp (name f) (terms_by (term_of name h) ds)) where
     -- nothing is left to be given
     at_end : (cells : List Cell) (Ends : End) (m : Builds M area shown name h qs 0 at c cells 0 stack b Ends) → (m.next ≡ at) × (m.q ≡ m.p) × Ends m.gathered m.next m.q m.todo m.after
     at_end cells Ends m = go m.ts m.counted m.owed m.ends
@@ -170,7 +173,7 @@ module _ (M : ℕ) (area : Area) (shown : List ℕ) (name : Naming) (h : Cells) 
         go no_terms n o e = (o.1, o.2, subst (λ l. Ends l m.next m.q m.todo m.after) (joined_none m.gathered) e)
         go (term t ts) n o e = absurd (omega (arith, n))
 
-    pub end_get : (d : Cell) → Builds M area shown name h qs 0 at c (d ∷ ds) 0 stack b (GetEnd area shown b (name_of area f)) → GoesOnEqual M area shown name now qs at c stack b d (cell.Struct (length h.compounds))
+    pub end_get : (d : Cell) → Builds M area shown name h qs 0 at c (d ∷ ds) 0 stack b (GetEnd area shown b (name_of area f)) → GoesOnEqual M area shown name now qs at c stack b d new
     end_get d m =
         let e = at_end (d ∷ ds) (GetEnd area shown b (name_of area f)) m in
         let k = made_grown M name qs m.returns stack b h c m.p m.todo m.made now grown in
@@ -180,30 +183,32 @@ module _ (M : ℕ) (area : Area) (shown : List ℕ) (name : Naming) (h : Cells) 
         let later = e.2.2 in
         let g = name_of area f in
         let are : AreCells name now k.0.look P (d ∷ ds) (term a us) = subst (AreCells name now k.0.look P (d ∷ ds)) e.2.3 (cells_keep name h now m.made.look k.0.look P P k.1 (d ∷ ds) m.gathered m.are) in
-        let built = built_shown name h f g named ds valid k.0.look P us are.1 in
+        let given : AreCells name h m.made.look P (d ∷ ds) (term a us) = subst (AreCells name h m.made.look P (d ∷ ds)) e.2.3 m.are in
+        let built = built_shown name h now f g named ds new own is (terms_kept name h now m.made.look P grown ds us given.1) k.0.look P us are.1 in
         let means : Means area (record { goals = m.after; shown = shown }) at m.p later b.goals = subst (λ q. Means area (record { goals = m.after; shown = shown }) at q later b.goals) e.1 (subst (λ to. Means area (record { goals = m.after; shown = shown }) to m.q later b.goals) e.0 e.2.5) in
         record {
-          unified = λ new ts u size. record {
+          unified = λ then' ts u size. record {
             p = m.p;
             todo = later;
             returns = m.returns;
             after = m.after;
-            made = made_unified M name qs m.returns stack b now c m.p m.todo k.0 a (Comp g us) d (cell.Struct (length h.compounds)) are.0 built later e.2.4 new ts u size;
+            made = made_unified M name qs m.returns stack b now c m.p m.todo k.0 a (Comp g us) d new are.0 built later e.2.4 then' ts u size;
             continues = m.continues;
             means = means;
             below = m.below;
+            asked = m.asked;
           };
-          refuted = made_refuted M name qs m.returns stack b now c m.p m.todo k.0 a (Comp g us) d (cell.Struct (length h.compounds)) are.0 built later e.2.4;
+          refuted = made_refuted M name qs m.returns stack b now c m.p m.todo k.0 a (Comp g us) d new are.0 built later e.2.4;
         }
 
-    pub end_put : (r : ℕ) → Builds M area shown name h qs 0 at c ds 0 stack b (PutEnd area shown b (name_of area f) r) → (c' : Registers) → IsWritten c (X r) (cell.Struct (length h.compounds)) c' → Stands M area shown name now qs at c' stack b
+    pub end_put : (r : ℕ) → Builds M area shown name h qs 0 at c ds 0 stack b (PutEnd area shown b (name_of area f) r) → (c' : Registers) → IsWritten c (X r) new c' → Stands M area shown name now qs at c' stack b
     end_put r m c' w =
         let e = at_end ds (PutEnd area shown b (name_of area f) r) m in
         let k = made_grown M name qs m.returns stack b h c m.p m.todo m.made now grown in
         let P = Made m.p b.fresh in
         let t : Term = Comp (name_of area f) m.gathered in
         let are = cells_keep name h now m.made.look k.0.look P P k.1 ds m.gathered m.are in
-        let built = built_shown name h f (name_of area f) named ds valid k.0.look P m.gathered are in
+        let built = built_shown name h now f (name_of area f) named ds new own is (terms_kept name h now m.made.look P grown ds m.gathered m.are) k.0.look P m.gathered are in
         let there : Means area (record { goals = m.after; shown = shown }) at (write m.p (X r) t) m.todo b.goals =
         subst (λ q. Means area (record { goals = m.after; shown = shown }) at (write q (X r) t) m.todo b.goals) e.1 (subst (λ to. Means area (record { goals = m.after; shown = shown }) to (write m.q (X r) t) m.todo b.goals) e.0 e.2) in
         record {
@@ -211,8 +216,9 @@ module _ (M : ℕ) (area : Area) (shown : List ℕ) (name : Naming) (h : Cells) 
           todo = m.todo;
           returns = m.returns;
           after = m.after;
-          made = (made_write M name qs m.returns stack b now c c' m.p m.todo k.0 (X r) t (cell.Struct (length h.compounds)) built w).0;
+          made = (made_write M name qs m.returns stack b now c c' m.p m.todo k.0 (X r) t new built w).0;
           continues = m.continues;
           means = there;
           below = m.below;
+          asked = m.asked;
         }

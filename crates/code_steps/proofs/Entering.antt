@@ -1,5 +1,5 @@
 -- A clause is entered, whose head's equations are still to be made.
-use Rattle.std.proofs.Common.{◌≡◌, ℕ, suc, ◌+◌, ◌<◌, ◌≤◌, true, List, ◌++◌, map, Option, Some, None, refl, ap, sym, ◌∙◌, subst, inl, inr, arith, nat_lt}
+use Rattle.std.proofs.Common.{◌≡◌, ℕ, suc, ◌+◌, ◌<◌, ◌≤◌, true, List, [], ◌∷◌, ◌++◌, map, Option, Some, None, refl, ap, sym, ◌∙◌, subst, inl, inr, arith, nat_lt}
 use Rattle.std.proofs.lemmas.Bool.{cases_eq, true≢false, and_parts}
 use Rattle.std.proofs.lemmas.Bool.Decides.{nat_tests}
 use Rattle.std.specs.Str.{bytes_eq}
@@ -11,7 +11,7 @@ use Rattle.fd_model.specs.Children.{by_clause, fits_head, same_count, paired, ar
 use Rattle.fd_model.specs.Constraining.{arguments}
 use Rattle.fd_model.specs.Goal.{Clause, Branch}
 use Rattle.fd_model.specs.Renaming.{rename_term, rename_goal}
-use Rattle.fd_model.specs.Sound.{EachBelow}
+use Rattle.fd_model.specs.Sound.{EachBelow, NumbersBelow}
 use Rattle.fd_model.proofs.Lemmas.{join_both, split_both}
 use Rattle.fd_model.proofs.Scoping.{each_wider, each_both_below, body_renamed}
 use Rattle.heap_cells.specs.declared.Cell.{Cell}
@@ -92,6 +92,10 @@ pub held_low : (name : Naming) (h : Cells) (look : Substitution) (P : ℕ → Ty
 held_low name h look P i cells no_terms a = tt
 held_low name h look P i cells (term t ts) a = (a.0.2.known, held_low name h look P (suc i) cells ts a.1)
 
+pub numbers_wider : (n k : ℕ) → n ≤ k → (vs : List ℕ) → NumbersBelow n vs → NumbersBelow k vs
+numbers_wider n k l [] b = tt
+numbers_wider n k l (v ∷ vs) b = ((let i = b.0 in omega (arith, i, l)), numbers_wider n k l vs b.1)
+
 module _ (M : ℕ) (area : Area) (shown : List ℕ) (name : Naming) (h : Cells) (qs : List Indexical) (at : ℕ) (e : Entry) (c : Registers) (stack : List Saved) (b : Branch) (m : IsCalling M area shown name h qs e c stack b) where
   -- Where the clause's code stands, the machine stands for the clause's branch. The slots hold whatever they do.
   pub enter_clause : (k : Clause) → IsClause area at k → fits_head (made (name_of area e.name) m.ts) k.head ≡ true → TermBelow k.variables k.head × EachBelow k.variables k.body
@@ -138,4 +142,5 @@ module _ (M : ℕ) (area : Area) (shown : List ℕ) (name : Naming) (h : Cells) 
         continues = m.continues;
         means = code n m.ts m.rest shown p (fits_count f m.ts k.head fits) old (hold_args p 1 m.ts (λ i l. refl)) (record { known = λ i l. (there i l).0; fresh = λ i l. grind (arith, nat_tests); own = refl; top = refl });
         below = each_both_below fresh (map (rename_goal (λ x. n + x)) k.body) m.rest (body_renamed k.variables fresh (λ x. n + x) (λ x l. omega (arith, l)) k.body low.1) (each_wider n fresh (omega arith) m.rest (subst (EachBelow n) m.goals m.below).1);
+        asked = numbers_wider n fresh (omega arith) shown m.asked;
       }

@@ -1,5 +1,5 @@
 -- A clause whose first argument clashes with what the goal's first cell shows may be left out: its branch has no model.
-use Rattle.std.proofs.Common.{◌≡◌, ℕ, suc, ◌+◌, ◌<◌, true, List, ◌∷◌, ◌++◌, Some, refl, ap, sym, ◌∙◌, subst, inl, inr}
+use Rattle.std.proofs.Common.{◌≡◌, ℕ, suc, ◌+◌, ◌<◌, true, List, ◌∷◌, ◌++◌, refl, ap, sym, ◌∙◌, subst, inl, inr, arith}
 use Rattle.fd_language.specs.Term.{Term, Terms, Var, Int, Atom, Comp, no_terms, term, Substitution, apply, apply_all}
 use Rattle.fd_language.specs.Family.{Family}
 use Rattle.fd_language.specs.Range.{Indexical}
@@ -9,7 +9,6 @@ use Rattle.fd_model.specs.Goal.{Clause, Branch}
 use Rattle.fd_model.specs.Models.{IsModel}
 use Rattle.fd_model.specs.Renaming.{rename_term}
 use Rattle.fd_model.proofs.Lemmas.{split_both, weaker}
-use Rattle.heap_cells.specs.declared.Cell.{Cell}
 use Rattle.heap_cells.specs.Cells.{Cells}
 use Rattle.heap_cells.specs.Terms.{Naming, term_of}
 use Rattle.machine_relation.specs.Heap.{after}
@@ -18,11 +17,11 @@ use Rattle.machine_frames.proofs.Unifying.{kept_barred}
 use Rattle.wam_code.specs.declared.parts.Entry.{Entry}
 use Rattle.wam_code.specs.Area.{Area, name_of}
 use Rattle.wam_code.specs.Places.{count, made}
-use Rattle.wam_code.specs.Tries.{Shape, is_open, shape_of, Clash, ClashFirst}
+use Rattle.wam_code.specs.Tries.{Shape, shape_of, Clash, ClashFirst}
 use Rattle.code_steps.specs.Registers.{Registers, Saved, AreHeld}
 use Rattle.code_steps.specs.Standing.{IsCalling}
 use Rattle.code_steps.specs.Trying.{ShowsFirst}
-use Rattle.code_steps.proofs.Entering.{fits_equations}
+use Rattle.code_steps.proofs.Entering.{fits_count, fits_equations}
 
 count_applied : (s : Substitution) (ts : Terms) → count (apply_all s ts) ≡ count ts
 count_applied s no_terms = refl
@@ -47,29 +46,19 @@ clash_none (Comp f ts) (Atom a) r v k e = absurd (cc)
 clash_none (Comp f ts) (Comp g us) r v (inl k) e = k (cc)
 clash_none (Comp f ts) (Comp g us) r v (inr k) e = let parts : apply_all r ts ≡ apply_all v us = cc in k (sym (count_applied r ts) ∙ ap count parts ∙ count_applied v us)
 
-open_none : (u : Term) → Clash is_open u → ⊥
-open_none (Var x) k = k
-open_none (Int z) k = k
-open_none (Atom a) k = k
-open_none (Comp f us) k = k
-
-same_cell : (d e : Cell) → Some d ≡ Some e → d ≡ e
-same_cell d e k = cc
-
-module _ (M : ℕ) (area : Area) (shown : List ℕ) (name : Naming) (h : Cells) (qs : List Indexical) (e : Entry) (c : Registers) (stack : List Saved) (b : Branch) (m : IsCalling M area shown name h qs e c stack b) (s : Shape) (shows : ShowsFirst name h c.x m.ts s) where
+module _ (M : ℕ) (area : Area) (shown : List ℕ) (name : Naming) (h : Cells) (qs : List Indexical) (e : Entry) (c : Registers) (stack : List Saved) (b : Branch) (m : IsCalling M area shown name h qs e c stack b) (s : Shape) (shows : ShowsFirst name h c.x s) where
   pub clash_gone : (k : Clause) → fits_head (made (name_of area e.name) m.ts) k.head ≡ true → ClashFirst s (arguments k.head) → (S : Family) → IsModel M (by_clause b (made (name_of area e.name) m.ts) m.rest k).equations b.posted S → ⊥
   clash_gone k fits clash S g =
-      go m.ts (arguments k.head) shows m.held clash
+      go m.ts (arguments k.head) (fits_count (name_of area e.name) m.ts k.head fits) m.held clash
       (subst (λ l. IsModel M (l ++ b.equations) b.posted S) (fits_equations (λ x. b.fresh + x) (name_of area e.name) m.ts k.head fits) g)
     where
-      go : (ts us : Terms) → ShowsFirst name h c.x ts s → AreHeld name h m.look (λ v. v < b.fresh) 1 c.x ts → ClashFirst s us → IsModel M (paired ts (apply_all (λ x. Var (b.fresh + x)) us) ++ b.equations) b.posted S → ⊥
+      go : (ts us : Terms) → count ts ≡ count us → AreHeld name h m.look (λ v. v < b.fresh) 1 c.x ts → ClashFirst s us → IsModel M (paired ts (apply_all (λ x. Var (b.fresh + x)) us) ++ b.equations) b.posted S → ⊥
       go ts no_terms w a n i = n
-      go no_terms (term u us) w a n i = open_none u (subst (λ l. Clash l u) w n)
+      go no_terms (term u us) w a n i = absurd (omega (arith, w))
       go (term t ts) (term u us) w a n i =
           let r : Term = rename_term (λ x. b.fresh + x) u in
           let one = a.0.2 in
-          let same = same_cell w.0 a.0.0 (sym w.1 ∙ a.0.1) in
-          let clash : Clash (shape_of (term_of name h a.0.0)) u = subst (λ d. Clash (shape_of (term_of name h d)) u) same (subst (λ l. Clash l u) w.2 n) in
+          let clash : Clash (shape_of (term_of name h a.0.0)) u = subst (λ l. Clash l u) (shows a.0.0 a.0.1) n in
           let rest = paired ts (apply_all (λ x. Var (b.fresh + x)) us) in
           kept_barred M h qs b.equations b.posted (λ v. v < b.fresh) m.look m.kept t r
           (λ back v known q. absurd (clash_none (term_of name h a.0.0) u back (after v (λ x. Var (b.fresh + x))) clash

@@ -372,6 +372,7 @@ module _ (M : ℕ) (area : Area) (shown : List ℕ) (name : Naming) (h : Cells) 
               continues = m.continues;
               means = e.4;
               below = m.below;
+              asked = m.asked;
             }),
         (λ none S j.
             let all = same_model M (λ v. v < b.fresh) ((made ∷ g.done) ++ later) b.equations b.posted S same g.used j in

@@ -123,6 +123,7 @@ module _ (M : ℕ) (area : Area) (shown : List ℕ) (name : Naming) (h : Cells) 
     continues = m.continues;
     means = m.means;
     below = m.below;
+    asked = m.asked;
   }
 
   -- the terms of the first cell
@@ -246,4 +247,5 @@ read_end M area shown name h qs at c stack b m = go m.sides m.ts m.made m.cells 
           continues = m.continues;
           means = subst (λ to. Means area (record { goals = m.after; shown = shown }) to q m.todo b.goals) o.1 m.means;
           below = m.below;
+          asked = m.asked;
         }

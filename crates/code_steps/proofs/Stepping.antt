@@ -54,7 +54,7 @@ module _ (M : ℕ) (area : Area) (shown : List ℕ) (name : Naming) (h : Cells) 
   Next h' qs' to c' = Stands M area shown name h' qs' to c' stack b
 
   next : (h' : Cells) (qs' : List Indexical) (to : ℕ) (c' : Registers) (p : Places) (todo : List Equation) → IsMade M name h' qs' c' m.returns stack b p todo → Means area w to p todo b.goals → Next h' qs' to c'
-  next h' qs' to c' p todo g k = record { p = p; todo = todo; returns = m.returns; after = m.after; made = g; continues = m.continues; means = k; below = m.below }
+  next h' qs' to c' p todo g k = record { p = p; todo = todo; returns = m.returns; after = m.after; made = g; continues = m.continues; means = k; below = m.below; asked = m.asked }
 
   -- the register takes the argument as it is
   pub step_get_variable : (r : Register) (a : ℕ) → Holds area at (GetVariable r a) → (d : Cell) × (c.x a ≡ Some d) × IsOf h d × ((c' : Registers) → IsWritten c r d c' → Next h qs (suc at) c')
@@ -161,6 +161,7 @@ module _ (M : ℕ) (area : Area) (shown : List ℕ) (name : Naming) (h : Cells) 
             continues = k.1;
             means = subst (λ gs. Means area (record { goals = k.0; shown = shown }) s.to (returned r) [] gs) (sym is) (subst (λ to. Means area (record { goals = k.0; shown = shown }) to (returned r) [] m.after) t.0 k.2);
             below = m.below;
+            asked = m.asked;
           }
 
   -- ---- calls
@@ -186,6 +187,7 @@ module _ (M : ℕ) (area : Area) (shown : List ℕ) (name : Naming) (h : Cells) 
           counted = call.3;
           goals = goals;
           below = m.below;
+          asked = m.asked;
           kept = settled_kept M name h qs m.returns stack b c p todo g whole none;
           held = held_of p todo g 1 call.1 call.4 (of_all b.fresh call.1 (below_arguments b.fresh f call.1 low));
           saved = all;

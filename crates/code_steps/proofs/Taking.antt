@@ -53,5 +53,6 @@ module _ (M : ℕ) (area : Area) (shown : List ℕ) (name : Naming) (h : Cells) 
         continues = m.continues;
         means = i;
         below = each_both_below b.fresh (listed gs) r.2 o low.1;
+        asked = m.asked;
       } in
       (r.0, r.1, r.2, r.6, way (suc at) r.0 (listed_below b.fresh r.0 low.0.0) r.7, way to r.1 (listed_below b.fresh r.1 low.0.1) r.8)

@@ -4,7 +4,7 @@ use Rattle.fd_language.specs.Term.{Name, Term, Terms, Comp, no_terms, term}
 use Rattle.fd_language.specs.Unifier.{Equation}
 use Rattle.fd_language.specs.Range.{Indexical}
 use Rattle.fd_model.specs.Goal.{Goal, Branch}
-use Rattle.fd_model.specs.Sound.{EachBelow}
+use Rattle.fd_model.specs.Sound.{EachBelow, NumbersBelow}
 use Rattle.heap_cells.specs.declared.Cell.{Cell}
 use Rattle.heap_cells.specs.Cells.{Cells}
 use Rattle.heap_cells.specs.Terms.{Naming}
@@ -51,3 +51,4 @@ pub record Builds (M : ℕ) (area : Area) (shown : List ℕ) (name : Naming) (h 
   pub ends : Ends (joined gathered ts) next q todo after
   pub continues : Continues area shown returns after
   pub below : EachBelow b.fresh b.goals
+  pub asked : NumbersBelow b.fresh shown

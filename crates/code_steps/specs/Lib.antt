@@ -4,4 +4,8 @@ pub mod Steps
 pub mod Trying
 pub mod Reading
 pub mod Building
+pub mod Running
+pub mod Amid
+pub mod Answers
+pub mod Ranging
 pub mod Laws

@@ -7,7 +7,7 @@ use Rattle.fd_language.specs.Family.{Family, has}
 use Rattle.fd_model.specs.Children.{paired}
 use Rattle.fd_model.specs.Closed.{constrained}
 use Rattle.fd_model.specs.Goal.{Goal, Branch}
-use Rattle.fd_model.specs.Sound.{EachBelow}
+use Rattle.fd_model.specs.Sound.{EachBelow, NumbersBelow}
 use Rattle.heap_cells.specs.declared.Cell.{Cell}
 use Rattle.heap_cells.specs.Cells.{Cells}
 use Rattle.heap_cells.specs.Terms.{Naming}
@@ -91,6 +91,7 @@ pub record Reads (M : ℕ) (area : Area) (shown : List ℕ) (name : Naming) (h :
   pub continues : Continues area shown returns after
   pub means : Means area (record { goals = after; shown = shown }) next q todo b.goals
   pub below : EachBelow b.fresh b.goals
+  pub asked : NumbersBelow b.fresh shown
 
 -- Two cells are to be equal: where they are unified, the arguments left are read next; where they can't be, the branch has no model.
 pub record ReadsOnEqual (M : ℕ) (area : Area) (shown : List ℕ) (name : Naming) (h : Cells) (qs : List Indexical) (to : ℕ) (c : Registers) (left : List Cell) (stack : List Saved) (b : Branch) (d e : Cell) : Type 0 where

@@ -51,6 +51,11 @@ abbrev pub AreHeld : Naming → Cells → Substitution → (ℕ → Type 0) → 
 AreHeld name h look P i cells no_terms = Unit {0}
 AreHeld name h look P i cells (term t ts) = ((d : Cell) × (cells i ≡ Some d) × IsShown name h look P t d) × AreHeld name h look P (suc i) cells ts
 
+-- the registers or slots from i on hold these cells
+abbrev pub AreIn : (ℕ → Option Cell) → ℕ → List Cell → Type 0
+AreIn cells i [] = Unit {0}
+AreIn cells i (d ∷ ds) = (cells i ≡ Some d) × AreIn cells (suc i) ds
+
 -- Each continuation goes on where it should, and its slots hold what they should. Their variables are below fresh.
 abbrev pub AllShown : Naming → Cells → Substitution → (ℕ → Type 0) → ℕ → List Return → List Saved → Type 0
 AllShown name h look P fresh [] [] = Unit {0}

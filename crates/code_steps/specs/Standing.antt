@@ -6,7 +6,7 @@ use Rattle.fd_language.specs.Range.{Indexical}
 use Rattle.fd_language.specs.Family.{has}
 use Rattle.fd_model.specs.Closed.{constrained}
 use Rattle.fd_model.specs.Goal.{Goal, Call, Branch}
-use Rattle.fd_model.specs.Sound.{EachBelow}
+use Rattle.fd_model.specs.Sound.{EachBelow, NumbersBelow}
 use Rattle.heap_cells.specs.Cells.{Cells}
 use Rattle.heap_cells.specs.Terms.{Naming}
 use Rattle.machine_relation.specs.Heap.{EquationsOf}
@@ -51,6 +51,7 @@ pub record Stands (M : ℕ) (area : Area) (shown : List ℕ) (name : Naming) (h 
   pub continues : Continues area shown returns after
   pub means : Means area (record { goals = after; shown = shown }) at p todo b.goals
   pub below : EachBelow b.fresh b.goals
+  pub asked : NumbersBelow b.fresh shown
 
 -- The branch's next goal is one of the predicate e. The argument registers hold its arguments, and the continuations stand for the goals behind it.
 pub record IsCalling (M : ℕ) (area : Area) (shown : List ℕ) (name : Naming) (h : Cells) (qs : List Indexical) (e : Entry) (c : Registers) (stack : List Saved) (b : Branch) : Type 0 where
@@ -61,6 +62,7 @@ pub record IsCalling (M : ℕ) (area : Area) (shown : List ℕ) (name : Naming) 
   pub counted : count ts ≡ e.arity
   pub goals : b.goals ≡ Call (made (name_of area e.name) ts) ∷ rest
   pub below : EachBelow b.fresh b.goals
+  pub asked : NumbersBelow b.fresh shown
   pub kept : IsKept M h qs b.equations b.posted (λ v. v < b.fresh) look
   pub held : AreHeld name h look (λ v. v < b.fresh) 1 c.x ts
   pub saved : AllShown name h look (λ v. v < b.fresh) b.fresh returns stack

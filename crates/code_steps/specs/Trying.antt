@@ -1,6 +1,5 @@
 -- What a machine stands for before a clause, where it chooses among those that are to be tried.
 use Rattle.std.specs.Prelude.{◌≡◌, ◌⊎◌, ℕ, List, [], ◌∷◌, ◌++◌, map, Option, Some}
-use Rattle.fd_language.specs.Term.{Terms, no_terms, term}
 use Rattle.fd_language.specs.Range.{Indexical}
 use Rattle.fd_model.specs.Children.{by_clause}
 use Rattle.fd_model.specs.Goal.{Clause, Branch}
@@ -14,20 +13,19 @@ use Rattle.wam_code.specs.declared.instruction.Code.TheVariants.{Jump, FailNow, 
 use Rattle.wam_code.specs.declared.parts.Entry.{Entry}
 use Rattle.wam_code.specs.Area.{Area, Table, name_of}
 use Rattle.wam_code.specs.Places.{made}
-use Rattle.wam_code.specs.Tries.{Shape, is_open, shape_of, IsShape, Tries}
+use Rattle.wam_code.specs.Tries.{Shape, shape_of, IsShape, Tries}
 use Rattle.code_steps.specs.Registers.{Registers, Saved}
 use Rattle.code_steps.specs.Standing.{IsCalling}
 
--- What the first argument's cell shows. A goal without arguments shows nothing.
-abbrev pub ShowsFirst : Naming → Cells → (ℕ → Option Cell) → Terms → Shape → Type 0
-ShowsFirst name h cells no_terms s = s ≡ is_open
-ShowsFirst name h cells (term t ts) s = (d : Cell) × (cells 1 ≡ Some d) × (s ≡ shape_of (term_of name h d))
+-- what the first argument's cell shows
+abbrev pub ShowsFirst : Naming → Cells → (ℕ → Option Cell) → Shape → Type 0
+ShowsFirst name h cells s = (d : Cell) → cells 1 ≡ Some d → s ≡ shape_of (term_of name h d)
 
 -- At this place the branch b's goal, which is called, is to try clauses. Their branches are kids.
 pub record IsTrying (M : ℕ) (area : Area) (shown : List ℕ) (name : Naming) (h : Cells) (qs : List Indexical) (at : ℕ) (e : Entry) (c : Registers) (stack : List Saved) (b : Branch) (kids : List Branch) : Type 0 where
   pub calling : IsCalling M area shown name h qs e c stack b
   pub shape : Shape
-  pub shows : ShowsFirst name h c.x calling.ts shape
+  pub shows : ShowsFirst name h c.x shape
   pub clauses : List Clause
   pub tries : Tries area shape at clauses
   pub fit : AllFit (made (name_of area e.name) calling.ts) clauses
@@ -67,3 +65,18 @@ IsFirst (SwitchOnConstant n) = ⊥
 IsFirst (SwitchOnInteger n) = ⊥
 IsFirst (SwitchOnStructure n) = ⊥
 IsFirst _ = Unit {0}
+
+-- a choice or a switch, but for a jump
+abbrev pub IsChoice : Code → Type 0
+IsChoice (TryMeElse to) = Unit {0}
+IsChoice (RetryMeElse to) = Unit {0}
+IsChoice TrustMe = Unit {0}
+IsChoice (Try to) = Unit {0}
+IsChoice (Retry to) = Unit {0}
+IsChoice (Trust to) = Unit {0}
+IsChoice FailNow = Unit {0}
+IsChoice (SwitchOnTerm v k i s) = Unit {0}
+IsChoice (SwitchOnConstant n) = Unit {0}
+IsChoice (SwitchOnInteger n) = Unit {0}
+IsChoice (SwitchOnStructure n) = Unit {0}
+IsChoice _ = ⊥

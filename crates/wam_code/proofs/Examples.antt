@@ -12,12 +12,10 @@ use Rattle.term_pool.specs.declared.AtomId.{AtomId}
 use Rattle.term_pool.specs.Contents.{Contents, atom_name}
 use Rattle.wam_code.specs.declared.instruction.Register.TheVariants.{X, Y}
 use Rattle.wam_code.specs.declared.instruction.Code.TheVariants.{GetConstant, GetInteger, PutVariable, Allocate, Call, Execute, Proceed, AnswerNow, TryMeElse, RetryMeElse, TrustMe}
-use Rattle.wam_code.specs.declared.parts.Slot.{Slot}
-use Rattle.wam_code.specs.declared.parts.Slot.TheVariants.{Unset, Cell}
 use Rattle.wam_code.specs.declared.parts.Entry.{Entry}
-use Rattle.wam_code.specs.Area.{State, Span, Area, Holds, HasState, HasEntry, HasQuery}
+use Rattle.wam_code.specs.Area.{Slot, Unset, Cell, State, Span, Area, Holds, HasState, HasEntry, HasQuery}
 use Rattle.wam_code.specs.Effect.{slot_at, is_cell}
-use Rattle.wam_code.specs.Verified.{named, goes_on, Names, Falls, Covers, Leads, BeginsWith, IsQuery, is_other, is_before, is_behind, NamesOther, HoldsOne, AreChoices, IsAtom, IsThere, IsVerified}
+use Rattle.wam_code.specs.Verified.{named, goes_on, Names, Falls, Covers, Leads, BeginsWith, IsQuery, is_other, is_before, is_behind, NamesOther, HoldsOne, AreChoices, IsAtom, IsThere, IsVerifiedBy, IsVerified}
 use Rattle.machine_relation.specs.Heap.{Below}
 use Rattle.wam_code.specs.Places.{Places, put_at, write, learn, no_registers, no_slots, IsWhole, IsSettled, Hold, count, made}
 use Rattle.wam_code.specs.Means.{Caller, Means}
@@ -34,12 +32,16 @@ example c p = record {
   pool = c;
   code = TryMeElse 3 ∷ GetConstant p 1 ∷ Proceed ∷ TrustMe ∷ GetInteger (pos 1) 1 ∷ Proceed ∷ Allocate 1 ∷ PutVariable (Y 1) 1 ∷ Call 0 ∷ AnswerNow ∷ [];
   tables = [];
-  states = at_state (1 ∷ []) None ∷ at_state (1 ∷ []) None ∷ at_state (1 ∷ []) None ∷ at_state (1 ∷ []) None ∷ at_state (1 ∷ []) None ∷ at_state (1 ∷ []) None
-      ∷ at_state [] None ∷ at_state [] (Some (Unset ∷ [])) ∷ at_state (1 ∷ []) (Some (Cell ∷ [])) ∷ at_state [] (Some (Cell ∷ [])) ∷ [];
   ranges = [];
   entries = record { name = p; arity = 1; at = 0 } ∷ [];
   queries = record { at = 6; end = 10; names = p ∷ [] } ∷ [];
 }
+
+-- what is known at its places
+abbrev its_states : List State
+its_states =
+    at_state (1 ∷ []) None ∷ at_state (1 ∷ []) None ∷ at_state (1 ∷ []) None ∷ at_state (1 ∷ []) None ∷ at_state (1 ∷ []) None ∷ at_state (1 ∷ []) None
+    ∷ at_state [] None ∷ at_state [] (Some (Unset ∷ [])) ∷ at_state (1 ∷ []) (Some (Cell ∷ [])) ∷ at_state [] (Some (Cell ∷ [])) ∷ []
 
 -- ---- facts on each place of a list
 
@@ -141,27 +143,27 @@ module _ (c : Contents) (p : AtomId) (own : p.number < length c.names) where
     no_start_behind = λ to h. absurd (none_behind to h);
   }
 
-  leads_all : AllAt (λ k i. (s : State) → HasState a k s → Leads a k i s) a.code
+  leads_all : AllAt (λ k i. (s : State) → HasState its_states k s → Leads a its_states k i s) a.code
   leads_all = (
-    on_one (Leads a 0 (TryMeElse 3)) (at_state (1 ∷ []) None) (at_state (1 ∷ []) None, refl, (λ to h. subst (λ n. (t : State) × HasState a n t × Covers (at_state (1 ∷ []) None) t) (sym (one_named 3 to h)) (at_state (1 ∷ []) None, refl, covers_self _)), λ g. (at_state (1 ∷ []) None, refl, covers_self _)),
+    on_one (Leads a its_states 0 (TryMeElse 3)) (at_state (1 ∷ []) None) (at_state (1 ∷ []) None, refl, (λ to h. subst (λ n. (t : State) × HasState its_states n t × Covers (at_state (1 ∷ []) None) t) (sym (one_named 3 to h)) (at_state (1 ∷ []) None, refl, covers_self _)), λ g. (at_state (1 ∷ []) None, refl, covers_self _)),
     (
-      on_one (Leads a 1 (GetConstant p 1)) (at_state (1 ∷ []) None) (at_state (1 ∷ []) None, refl, (λ to h. none_named to h), λ g. (at_state (1 ∷ []) None, refl, covers_self _)),
+      on_one (Leads a its_states 1 (GetConstant p 1)) (at_state (1 ∷ []) None) (at_state (1 ∷ []) None, refl, (λ to h. none_named to h), λ g. (at_state (1 ∷ []) None, refl, covers_self _)),
       (
-        on_one (Leads a 2 Proceed) (at_state (1 ∷ []) None) (at_state (1 ∷ []) None, refl, (λ to h. none_named to h), λ g. no_bool g),
+        on_one (Leads a its_states 2 Proceed) (at_state (1 ∷ []) None) (at_state (1 ∷ []) None, refl, (λ to h. none_named to h), λ g. no_bool g),
         (
-          on_one (Leads a 3 TrustMe) (at_state (1 ∷ []) None) (at_state (1 ∷ []) None, refl, (λ to h. none_named to h), λ g. (at_state (1 ∷ []) None, refl, covers_self _)),
+          on_one (Leads a its_states 3 TrustMe) (at_state (1 ∷ []) None) (at_state (1 ∷ []) None, refl, (λ to h. none_named to h), λ g. (at_state (1 ∷ []) None, refl, covers_self _)),
           (
-            on_one (Leads a 4 (GetInteger (pos 1) 1)) (at_state (1 ∷ []) None) (at_state (1 ∷ []) None, refl, (λ to h. none_named to h), λ g. (at_state (1 ∷ []) None, refl, covers_self _)),
+            on_one (Leads a its_states 4 (GetInteger (pos 1) 1)) (at_state (1 ∷ []) None) (at_state (1 ∷ []) None, refl, (λ to h. none_named to h), λ g. (at_state (1 ∷ []) None, refl, covers_self _)),
             (
-              on_one (Leads a 5 Proceed) (at_state (1 ∷ []) None) (at_state (1 ∷ []) None, refl, (λ to h. none_named to h), λ g. no_bool g),
+              on_one (Leads a its_states 5 Proceed) (at_state (1 ∷ []) None) (at_state (1 ∷ []) None, refl, (λ to h. none_named to h), λ g. no_bool g),
               (
-                on_one (Leads a 6 (Allocate 1)) (at_state [] None) (at_state [] (Some (Unset ∷ [])), refl, (λ to h. none_named to h), λ g. (at_state [] (Some (Unset ∷ [])), refl, covers_self _)),
+                on_one (Leads a its_states 6 (Allocate 1)) (at_state [] None) (at_state [] (Some (Unset ∷ [])), refl, (λ to h. none_named to h), λ g. (at_state [] (Some (Unset ∷ [])), refl, covers_self _)),
                 (
-                  on_one (Leads a 7 (PutVariable (Y 1) 1)) (at_state [] (Some (Unset ∷ []))) (at_state (1 ∷ []) (Some (Cell ∷ [])), refl, (λ to h. none_named to h), λ g. (at_state (1 ∷ []) (Some (Cell ∷ [])), refl, covers_self _)),
+                  on_one (Leads a its_states 7 (PutVariable (Y 1) 1)) (at_state [] (Some (Unset ∷ []))) (at_state (1 ∷ []) (Some (Cell ∷ [])), refl, (λ to h. none_named to h), λ g. (at_state (1 ∷ []) (Some (Cell ∷ [])), refl, covers_self _)),
                   (
-                    on_one (Leads a 8 (Call 0)) (at_state (1 ∷ []) (Some (Cell ∷ []))) (at_state [] (Some (Cell ∷ [])), refl, (λ to h. none_named to h), λ g. (at_state [] (Some (Cell ∷ [])), refl, covers_self _)),
+                    on_one (Leads a its_states 8 (Call 0)) (at_state (1 ∷ []) (Some (Cell ∷ []))) (at_state [] (Some (Cell ∷ [])), refl, (λ to h. none_named to h), λ g. (at_state [] (Some (Cell ∷ [])), refl, covers_self _)),
                     (
-                      on_one (Leads a 9 AnswerNow) (at_state [] (Some (Cell ∷ []))) (at_state [] (Some (Cell ∷ [])), refl, (λ to h. none_named to h), λ g. no_bool g),
+                      on_one (Leads a its_states 9 AnswerNow) (at_state [] (Some (Cell ∷ []))) (at_state [] (Some (Cell ∷ [])), refl, (λ to h. none_named to h), λ g. no_bool g),
                       tt,
                     ),
                   ),
@@ -195,7 +197,7 @@ module _ (c : Contents) (p : AtomId) (own : p.number < length c.names) where
   abbrev its_span : Span
   its_span = record { at = 6; end = 10; names = p ∷ [] }
 
-  its_query : IsQuery a its_span
+  its_query : IsQuery a its_states its_span
   its_query = record {
     some = omega arith;
     within = omega arith;
@@ -203,7 +205,7 @@ module _ (c : Contents) (p : AtomId) (own : p.number < length c.names) where
     shown = λ at s e h k low high.
         let n : at ≡ 9 = omega (arith, e) in
         let one : k ≡ 1 = omega (arith, low, high) in
-        let f : HasState a 9 s = subst (λ m. HasState a m s) n h in
+        let f : HasState its_states 9 s = subst (λ m. HasState its_states m s) n h in
         on_one (λ t. IsTrue (is_cell (slot_at t.frame k))) (at_state [] (Some (Cell ∷ []))) (subst (λ m. IsTrue (is_cell (slot_at (Some (Cell ∷ [])) m))) (sym one) refl) s f;
     no_proceed = λ at b h. let l = proceeds_early at h in omega (arith, b.0, l);
     no_execute = λ at e b h. executes_never at e h;
@@ -217,15 +219,15 @@ module _ (c : Contents) (p : AtomId) (own : p.number < length c.names) where
   there_all = (tt, (own, (tt, (tt, (tt, (tt, (tt, (tt, (omega arith, (tt, tt))))))))))
 
   -- Each condition holds of this code.
-  pub verified : IsVerified a
-  verified = record {
+  by_states : IsVerifiedBy a its_states
+  by_states = record {
     states = refl;
-    leads = λ at i s f g. all_at (λ k i. (s : State) → HasState a k s → Leads a k i s) a.code leads_all at i f s g;
+    leads = λ at i s f g. all_at (λ k i. (s : State) → HasState its_states k s → Leads a its_states k i s) a.code leads_all at i f s g;
     ahead = λ at to h. let w = names_only at to h in (omega (arith, w.0, w.1), omega (arith, w.1));
     next = λ at to h. let w = falls_only at to h in omega (arith, w.0, w.1.0);
-    entries = λ n e h. subst (λ x. BeginsWith a x.at x.arity) (sym (one_entry n e h).1) (at_state (1 ∷ []) None, refl, record { regs = λ m. ((λ g. let w = one_named 1 m g in (omega (arith, w), omega (arith, w))), λ g. let w : m ≡ 1 = omega (arith, g.0, g.1) in subst (λ k. IsTrue (has (1 ∷ []) k)) (sym w) refl); frame = refl; owed = refl });
-    firsts = λ n q h. subst (λ x. BeginsWith a x.at 0) (sym (one_query n q h).1) (at_state [] None, refl, record { regs = λ m. ((λ g. none_named m g), λ g. absurd (omega (arith, g.0, g.1))); frame = refl; owed = refl });
-    queries = λ n q h. subst (IsQuery a) (sym (one_query n q h).1) its_query;
+    entries = λ n e h. subst (λ x. BeginsWith its_states x.at x.arity) (sym (one_entry n e h).1) (at_state (1 ∷ []) None, refl, record { regs = λ m. ((λ g. let w = one_named 1 m g in (omega (arith, w), omega (arith, w))), λ g. let w : m ≡ 1 = omega (arith, g.0, g.1) in subst (λ k. IsTrue (has (1 ∷ []) k)) (sym w) refl); frame = refl; owed = refl });
+    firsts = λ n q h. subst (λ x. BeginsWith its_states x.at 0) (sym (one_query n q h).1) (at_state [] None, refl, record { regs = λ m. ((λ g. none_named m g), λ g. absurd (omega (arith, g.0, g.1))); frame = refl; owed = refl });
+    queries = λ n q h. subst (IsQuery a its_states) (sym (one_query n q h).1) its_query;
     apart = λ n m at q r h g b d. (one_query n q h).0 ∙ sym (one_query m r g).0;
     answers = λ at h. (0, its_span, refl, (let n = answers_last at h in let e : suc at ≡ 10 = omega (arith, n) in e));
     choices = choices;
@@ -234,6 +236,9 @@ module _ (c : Contents) (p : AtomId) (own : p.number < length c.names) where
     predicate_names = one_all (λ e. IsAtom a e.name) _ own;
     query_names = one_all (λ q. All (λ x. IsAtom a x) q.names) its_span (one_all (λ x. IsAtom a x) p own);
   }
+
+  pub verified : IsVerified a
+  verified = (its_states, by_states)
 
   -- ---- what it stands for
 

@@ -10,7 +10,7 @@ use Rattle.wam_code.specs.declared.parts.Entry.{Entry}
 use Rattle.wam_code.specs.Area.{State, Area, Holds, HasState}
 use Rattle.wam_code.specs.Arities.{builtin_arity, constraint_arity}
 use Rattle.wam_code.specs.Effect.{slot_at, is_unset, is_cell, with_cell, is_set, is_free, with_set, with_owed, are_set, are_given, has_frame, no_frame, when, plain_effect, unify_effect, effect_by, effect}
-use Rattle.wam_code.specs.Verified.{named, goes_on, Covers, HandedTo, Leads, IsVerified}
+use Rattle.wam_code.specs.Verified.{named, goes_on, Covers, HandedTo, Leads, IsVerifiedBy}
 
 -- Each need that the smaller state meets the larger one meets, and the results cover one another.
 abbrev pub Kept : Option State → Option State → Type 0
@@ -120,15 +120,15 @@ pub covers_self : (s : State) → Covers s s
 covers_self s = record { frame = refl; owed = refl; regs = λ n e. e }
 
 -- One step of verified code: what is there is what the place needs, and what is there after it covers the states of all places that come next.
-pub step_safe : (a : Area) → IsVerified a → (at : ℕ) (i : Code) (s actual : State) → Holds a at i → HasState a at s → Covers actual s → Leads a at i actual
-step_safe a v at i s actual f g c =
+pub step_safe : (a : Area) (ss : List State) → IsVerifiedBy a ss → (at : ℕ) (i : Code) (s actual : State) → Holds a at i → HasState ss at s → Covers actual s → Leads a ss at i actual
+step_safe a ss v at i s actual f g c =
     let w = v.leads at i s f g in
     go (effect a.entries i actual) (subst (λ o. Kept o (effect a.entries i actual)) w.1 (effect_kept a.entries i s actual c)) w.2 w.3 refl
   where
-    handed : (t u : State) (to : ℕ) → Covers u t → HandedTo a t to → HandedTo a u to
+    handed : (t u : State) (to : ℕ) → Covers u t → HandedTo ss t to → HandedTo ss u to
     handed t u to c h = (h.0, h.1, covers_both h.0 t u c h.2)
 
-    go : (o : Option State) → Kept (Some (v.leads at i s f g).0) o → ((to : ℕ) → IsTrue (has (named a i) to) → HandedTo a (v.leads at i s f g).0 to) → (IsTrue (goes_on i) → HandedTo a (v.leads at i s f g).0 (suc at)) → effect a.entries i actual ≡ o
-        → Leads a at i actual
+    go : (o : Option State) → Kept (Some (v.leads at i s f g).0) o → ((to : ℕ) → IsTrue (has (named a i) to) → HandedTo ss (v.leads at i s f g).0 to) → (IsTrue (goes_on i) → HandedTo ss (v.leads at i s f g).0 (suc at)) → effect a.entries i actual ≡ o
+        → Leads a ss at i actual
     go None k n h e = absurd k
     go (Some u) k n h e = (u, e, λ to m. handed (v.leads at i s f g).0 u to k (n to m), λ y. handed (v.leads at i s f g).0 u (suc at) k (h y))

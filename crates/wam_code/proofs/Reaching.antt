@@ -9,7 +9,7 @@ use Rattle.wam_code.specs.declared.instruction.Code.TheVariants.{Execute, Procee
 use Rattle.wam_code.specs.declared.parts.Entry.{Entry}
 use Rattle.wam_code.specs.Area.{State, Span, Area, Holds, HasState, HasEntry, HasQuery}
 use Rattle.wam_code.specs.Effect.{are_set, slot_at, is_cell}
-use Rattle.wam_code.specs.Verified.{Names, Falls, Covers, HandedTo, IsIn, IsQuery, IsVerified, goes_on}
+use Rattle.wam_code.specs.Verified.{Names, Falls, Covers, HandedTo, IsIn, IsQuery, IsVerifiedBy, goes_on}
 use Rattle.wam_code.specs.Reaching.{IsOutside, distance, begun}
 
 same_code : (a : Area) (at : ℕ) (i j : Code) → Holds a at i → Holds a at j → i ≡ j
@@ -17,34 +17,34 @@ same_code a at i j f g = let e : Some i ≡ Some j = sym f ∙ g in cc
 
 -- ---- queries
 
-not_last : (a : Area) (q : Span) → IsQuery a q → (at to : ℕ) → Falls a at to → suc at ≡ q.end → ⊥
-not_last a q h at to f e = true≢false (sym (subst (λ i. IsTrue (goes_on i)) (same_code a at f.0 AnswerNow f.1 (h.last at e)) f.2))
+not_last : (a : Area) (ss : List State) (q : Span) → IsQuery a ss q → (at to : ℕ) → Falls a at to → suc at ≡ q.end → ⊥
+not_last a ss q h at to f e = true≢false (sym (subst (λ i. IsTrue (goes_on i)) (same_code a at f.0 AnswerNow f.1 (h.last at e)) f.2))
 
 -- What a place of a query falls into is one of the query's.
-pub falls_inside : (a : Area) (q : Span) → IsQuery a q → (at to : ℕ) → IsIn q at → Falls a at to → IsIn q to
-falls_inside a q h at to b f = let no = not_last a q h at to f in omega (arith, f.3)
+pub falls_inside : (a : Area) (ss : List State) (q : Span) → IsQuery a ss q → (at to : ℕ) → IsIn q at → Falls a at to → IsIn q to
+falls_inside a ss q h at to b f = let no = not_last a ss q h at to f in omega (arith, f.3)
 
 -- What a place outside of all queries names or falls into is outside too.
-pub names_outside : (a : Area) → IsVerified a → (at to : ℕ) → IsOutside a at → Names a at to → IsOutside a to
-names_outside a v at to o h = λ n q g. (v.queries n q g).not_named at to (o n q g) h
+pub names_outside : (a : Area) (ss : List State) → IsVerifiedBy a ss → (at to : ℕ) → IsOutside a at → Names a at to → IsOutside a to
+names_outside a ss v at to o h = λ n q g. (v.queries n q g).not_named at to (o n q g) h
 
-pub falls_outside : (a : Area) → IsVerified a → (at to : ℕ) → IsOutside a at → Falls a at to → IsOutside a to
-falls_outside a v at to o h = λ n q g. (v.queries n q g).not_fallen at to (o n q g) h
+pub falls_outside : (a : Area) (ss : List State) → IsVerifiedBy a ss → (at to : ℕ) → IsOutside a at → Falls a at to → IsOutside a to
+falls_outside a ss v at to o h = λ n q g. (v.queries n q g).not_fallen at to (o n q g) h
 
 -- Predicates begin outside.
-pub entry_outside : (a : Area) → IsVerified a → (n : ℕ) (e : Entry) → HasEntry a n e → IsOutside a e.at
-entry_outside a v n e h = λ m q g. (v.queries m q g).no_entry n e h
+pub entry_outside : (a : Area) (ss : List State) → IsVerifiedBy a ss → (n : ℕ) (e : Entry) → HasEntry a n e → IsOutside a e.at
+entry_outside a ss v n e h = λ m q g. (v.queries m q g).no_entry n e h
 
 -- A place of a query doesn't return.
-pub returns_outside : (a : Area) → IsVerified a → (at : ℕ) → Holds a at Proceed → IsOutside a at
-returns_outside a v at h = λ n q g b. (v.queries n q g).no_proceed at b h
+pub returns_outside : (a : Area) (ss : List State) → IsVerifiedBy a ss → (at : ℕ) → Holds a at Proceed → IsOutside a at
+returns_outside a ss v at h = λ n q g b. (v.queries n q g).no_proceed at b h
 
-pub executes_outside : (a : Area) → IsVerified a → (at e : ℕ) → Holds a at (Execute e) → IsOutside a at
-executes_outside a v at e h = λ n q g b. (v.queries n q g).no_execute at e b h
+pub executes_outside : (a : Area) (ss : List State) → IsVerifiedBy a ss → (at e : ℕ) → Holds a at (Execute e) → IsOutside a at
+executes_outside a ss v at e h = λ n q g b. (v.queries n q g).no_execute at e b h
 
 -- Of the places of a query the last one answers, and no other place does.
-pub answers_inside : (a : Area) → IsVerified a → (n at : ℕ) (q : Span) → HasQuery a n q → IsIn q at → Holds a at AnswerNow → suc at ≡ q.end
-answers_inside a v n at q h b f =
+pub answers_inside : (a : Area) (ss : List State) → IsVerifiedBy a ss → (n at : ℕ) (q : Span) → HasQuery a n q → IsIn q at → Holds a at AnswerNow → suc at ≡ q.end
+answers_inside a ss v n at q h b f =
     let r = v.answers at f in
     let s = v.queries r.0 r.1 r.2 in
     let inside : IsIn r.1 at = (omega (arith, s.some, r.3), omega (arith, r.3)) in
@@ -53,16 +53,16 @@ answers_inside a v n at q h b f =
     let query : r.1 ≡ q = cc in
     subst (λ p. suc at ≡ p.end) query r.3
 
-pub no_answer_outside : (a : Area) → IsVerified a → (at : ℕ) → IsOutside a at → Holds a at AnswerNow → ⊥
-no_answer_outside a v at o f =
+pub no_answer_outside : (a : Area) (ss : List State) → IsVerifiedBy a ss → (at : ℕ) → IsOutside a at → Holds a at AnswerNow → ⊥
+no_answer_outside a ss v at o f =
     let r = v.answers at f in
     let s = v.queries r.0 r.1 r.2 in
     o r.0 r.1 r.2 (omega (arith, s.some, r.3), omega (arith, r.3))
 
 -- Where a query answers, its names have cells in the first slots.
-pub shown_are_cells : (a : Area) → IsVerified a → (n at : ℕ) (q : Span) → HasQuery a n q → IsIn q at → Holds a at AnswerNow → (s actual : State) → HasState a at s → Covers actual s → (k : ℕ) → 1 ≤ k → k ≤ length q.names → IsTrue (is_cell (slot_at actual.frame k))
-shown_are_cells a v n at q h b f s actual g c k low high =
-    subst (λ o. IsTrue (is_cell (slot_at o k))) (sym c.frame) ((v.queries n q h).shown at s (answers_inside a v n at q h b f) g k low high)
+pub shown_are_cells : (a : Area) (ss : List State) → IsVerifiedBy a ss → (n at : ℕ) (q : Span) → HasQuery a n q → IsIn q at → Holds a at AnswerNow → (s actual : State) → HasState ss at s → Covers actual s → (k : ℕ) → 1 ≤ k → k ≤ length q.names → IsTrue (is_cell (slot_at actual.frame k))
+shown_are_cells a ss v n at q h b f s actual g c k low high =
+    subst (λ o. IsTrue (is_cell (slot_at o k))) (sym c.frame) ((v.queries n q h).shown at s (answers_inside a ss v n at q h b f) g k low high)
 
 -- ---- the first states
 
@@ -79,26 +79,26 @@ set_below rs (suc k) n h low high = by (has rs (suc k)) refl h (λ g l. set_belo
         split false i = let no : n ≢ suc k = grind (arith, nat_tests) in smaller g (omega (arith, no, high))
 
 -- With its arguments in the first registers, a predicate's first place has its state.
-pub entry_covered : (a : Area) → IsVerified a → (n : ℕ) (e : Entry) → HasEntry a n e → (regs : List ℕ) → are_set regs e.arity ≡ true → HandedTo a (begun regs) e.at
-entry_covered a v n e h regs g =
+pub entry_covered : (a : Area) (ss : List State) → IsVerifiedBy a ss → (n : ℕ) (e : Entry) → HasEntry a n e → (regs : List ℕ) → are_set regs e.arity ≡ true → HandedTo ss (begun regs) e.at
+entry_covered a ss v n e h regs g =
     let b = v.entries n e h in
     (b.0, b.1, record { frame = sym b.2.frame; owed = sym b.2.owed; regs = λ m i. let w = (b.2.regs m).0 (i) in set_below regs e.arity m g w.0 w.1 })
 
 -- And a query's first place without any.
-pub query_covered : (a : Area) → IsVerified a → (n : ℕ) (q : Span) → HasQuery a n q → HandedTo a (begun []) q.at
-query_covered a v n q h =
+pub query_covered : (a : Area) (ss : List State) → IsVerifiedBy a ss → (n : ℕ) (q : Span) → HasQuery a n q → HandedTo ss (begun []) q.at
+query_covered a ss v n q h =
     let b = v.firsts n q h in
     (b.0, b.1, record { frame = sym b.2.frame; owed = sym b.2.owed; regs = λ m i. let w = (b.2.regs m).0 (i) in absurd (omega (arith, w.0, w.1)) })
 
 -- Each place of the code has a state.
-pub has_state : (a : Area) → IsVerified a → (at : ℕ) (i : Code) → Holds a at i → (s : State) × HasState a at s
-has_state a v at i h = let l = slice_get_within a.code at i h in (get_or a.states at (begun []), slice_get-get_or a.states at (begun []) (omega (arith, l, v.states)))
+pub has_state : (a : Area) (ss : List State) → IsVerifiedBy a ss → (at : ℕ) (i : Code) → Holds a at i → (s : State) × HasState ss at s
+has_state a ss v at i h = let l = slice_get_within a.code at i h in (get_or ss at (begun []), slice_get-get_or ss at (begun []) (omega (arith, l, v.states)))
 
 -- ---- the end
 
 -- A place that is named is nearer to the end, and so is one that is fallen into.
-pub names_nearer : (a : Area) → IsVerified a → (at to : ℕ) → Names a at to → distance a to < distance a at
-names_nearer a v at to h = let w = v.ahead at to h in omega (arith, w.0, w.1)
+pub names_nearer : (a : Area) (ss : List State) → IsVerifiedBy a ss → (at to : ℕ) → Names a at to → distance a to < distance a at
+names_nearer a ss v at to h = let w = v.ahead at to h in omega (arith, w.0, w.1)
 
-pub falls_nearer : (a : Area) → IsVerified a → (at to : ℕ) → Falls a at to → distance a to < distance a at
-falls_nearer a v at to h = let w = v.next at to h in omega (arith, w, h.3)
+pub falls_nearer : (a : Area) (ss : List State) → IsVerifiedBy a ss → (at to : ℕ) → Falls a at to → distance a to < distance a at
+falls_nearer a ss v at to h = let w = v.next at to h in omega (arith, w, h.3)

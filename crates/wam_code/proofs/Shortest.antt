@@ -1,12 +1,12 @@
 -- The shortest code, a query that is answered at once, is verified.
-use Rattle.std.proofs.Common.{◌≡◌, ℕ, zero, suc, false, IsTrue, [], ◌∷◌, Some, None, slice_get, All, refl, sym, ◌∙◌, subst, inl, inr, arith}
+use Rattle.std.proofs.Common.{◌≡◌, ℕ, zero, suc, false, IsTrue, List, [], ◌∷◌, Some, None, slice_get, All, refl, sym, ◌∙◌, subst, inl, inr, arith}
 use Rattle.std.proofs.lemmas.Bool.{true≢false}
 use Rattle.fd_language.specs.Family.{has}
 use Rattle.term_pool.specs.Contents.{Contents}
 use Rattle.wam_code.specs.declared.instruction.Code.{Code}
 use Rattle.wam_code.specs.declared.instruction.Code.TheVariants.{Execute, Proceed, AnswerNow, TryMeElse, RetryMeElse}
 use Rattle.wam_code.specs.Area.{State, Span, Area, Holds, HasQuery}
-use Rattle.wam_code.specs.Verified.{named, goes_on, Names, Falls, Leads, BeginsWith, IsQuery, is_other, is_before, is_behind, NamesOther, HoldsOne, AreChoices, IsAtom, IsThere, IsVerified}
+use Rattle.wam_code.specs.Verified.{named, goes_on, Names, Falls, Leads, BeginsWith, IsQuery, is_other, is_before, is_behind, NamesOther, HoldsOne, AreChoices, IsAtom, IsThere, IsVerifiedBy, IsVerified}
 
 abbrev empty_state : State
 empty_state = record { regs = []; frame = None; owed = 0 }
@@ -15,7 +15,7 @@ abbrev whole_span : Span
 whole_span = record { at = 0; end = 1; names = [] }
 
 abbrev pub shortest : Contents → Area
-shortest c = record { pool = c; code = AnswerNow ∷ []; tables = []; states = empty_state ∷ []; ranges = []; entries = []; queries = whole_span ∷ [] }
+shortest c = record { pool = c; code = AnswerNow ∷ []; tables = []; ranges = []; entries = []; queries = whole_span ∷ [] }
 
 only_one : {X : Type 0} (x : X) (at : ℕ) (y : X) → slice_get (x ∷ []) at ≡ Some y → (at ≡ 0) × (y ≡ x)
 only_one x zero y e = (refl, (let same : y ≡ x = cc in same))
@@ -27,6 +27,9 @@ nothing h = absurd (true≢false (sym h))
 module _ (c : Contents) where
   abbrev a : Area
   a = shortest c
+
+  abbrev its_states : List State
+  its_states = empty_state ∷ []
 
   one_code : (at : ℕ) (i : Code) → Holds a at i → (at ≡ 0) × (i ≡ AnswerNow)
   one_code at i h = only_one AnswerNow at i h
@@ -53,7 +56,7 @@ module _ (c : Contents) where
   one_query : (n : ℕ) (q : Span) → HasQuery a n q → (n ≡ 0) × (q ≡ whole_span)
   one_query n q h = only_one whole_span n q h
 
-  its_query : IsQuery a whole_span
+  its_query : IsQuery a its_states whole_span
   its_query = record {
     some = omega arith;
     within = omega arith;
@@ -84,18 +87,18 @@ module _ (c : Contents) where
   names_there zero d l i x m = absurd (omega (arith, m))
   names_there (suc k) d l i x m = absurd (omega (arith, l))
 
-  pub shortest_verified : IsVerified a
-  shortest_verified = record {
+  by_states : IsVerifiedBy a its_states
+  by_states = record {
     states = refl;
     leads = λ at i s f g.
-        subst (λ j. Leads a at j s) (sym (one_code at i f).1)
+        subst (λ j. Leads a its_states at j s) (sym (one_code at i f).1)
         (let e : s ≡ empty_state = (only_one empty_state at s g).1 in
-        subst (λ r. Leads a at AnswerNow r) (sym e) (empty_state, refl, (λ to h. nothing h), λ h. nothing h));
+        subst (λ r. Leads a its_states at AnswerNow r) (sym e) (empty_state, refl, (λ to h. nothing h), λ h. nothing h));
     ahead = λ at to h. no_names at to h;
     next = λ at to h. no_falls at to h;
     entries = λ n e h. absurd (cc);
-    firsts = λ n q h. subst (λ x. BeginsWith a x.at 0) (sym (one_query n q h).1) (empty_state, refl, record { regs = λ m. ((λ g. nothing g), λ g. absurd (omega (arith, g.0, g.1))); frame = refl; owed = refl });
-    queries = λ n q h. subst (IsQuery a) (sym (one_query n q h).1) its_query;
+    firsts = λ n q h. subst (λ x. BeginsWith its_states x.at 0) (sym (one_query n q h).1) (empty_state, refl, record { regs = λ m. ((λ g. nothing g), λ g. absurd (omega (arith, g.0, g.1))); frame = refl; owed = refl });
+    queries = λ n q h. subst (IsQuery a its_states) (sym (one_query n q h).1) its_query;
     apart = λ n m at q r h g b d. (one_query n q h).0 ∙ sym (one_query m r g).0;
     answers = λ at h. (0, whole_span, refl, (let n = (one_code at AnswerNow h).0 in let e : suc at ≡ 1 = omega (arith, n) in e));
     choices = choices;
@@ -104,3 +107,6 @@ module _ (c : Contents) where
     predicate_names = λ k d l. absurd (omega (arith, l));
     query_names = names_there;
   }
+
+  pub shortest_verified : IsVerified a
+  shortest_verified = (its_states, by_states)

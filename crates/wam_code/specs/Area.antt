@@ -1,5 +1,5 @@
 -- Code as contracts see it.
-use Rattle.std.specs.Prelude.{◌≡◌, ℕ, List, [], map, Option, Some, option_map, slice_get, slice_index_or}
+use Rattle.std.specs.Prelude.{◌≡◌, ℕ, List, [], map, Option, Some, slice_get, slice_index_or}
 use Rattle.std.specs.Coded.{Coded, code_by, coded_list}
 use Rattle.fd_language.specs.Term.{Name}
 use Rattle.fd_language.specs.Range.{Range}
@@ -10,13 +10,17 @@ use Rattle.term_pool.specs.declared.AtomId.{AtomId}
 use Rattle.term_pool.specs.Contents.{Contents, atom_name}
 use Rattle.wam_code.specs.declared.instruction.Key.{Key}
 use Rattle.wam_code.specs.declared.instruction.Code.{Code}
-use Rattle.wam_code.specs.declared.parts.Slot.{Slot}
-use Rattle.wam_code.specs.declared.parts.PlaceState.{PlaceState}
 use Rattle.wam_code.specs.declared.parts.Entry.{Entry}
 use Rattle.wam_code.specs.declared.parts.QueryEntry.{QueryEntry}
 use Rattle.wam_code.specs.declared.parts.CodeParts.{CodeParts}
 
--- what is known at a place: the argument registers that hold a cell, the frame's slots, and the arguments that are owed
+-- what is known of a frame's slot: it is unset, or holds a cell, or a level of the search
+pub data Slot : Type 0 where
+  Unset : Slot
+  Cell : Slot
+  Level : Slot
+
+-- What is known wherever a place is reached: the argument registers that hold a cell, the frame's slots where there is one, and how many arguments of a structure are still owed. No code keeps it.
 pub record State : Type 0 where
   pub regs : List ℕ
   pub frame : Option (List Slot)
@@ -36,7 +40,6 @@ pub record Area : Type 0 where
   pub pool : Contents
   pub code : List Code
   pub tables : List Table
-  pub states : List State
   pub ranges : List Range
   pub entries : List Entry
   pub queries : List Span
@@ -51,9 +54,9 @@ range_coded = code_by _ (coded_list node.the_row.coded) nodes_of spelled spelled
 abbrev pub Holds : Area → ℕ → Code → Type 0
 Holds a at i = slice_get a.code at ≡ Some i
 
--- the state of a place
-abbrev pub HasState : Area → ℕ → State → Type 0
-HasState a at s = slice_get a.states at ≡ Some s
+-- the state of a place, by the states of all places
+abbrev pub HasState : List State → ℕ → State → Type 0
+HasState ss at s = slice_get ss at ≡ Some s
 
 -- the predicate with a number
 abbrev pub HasEntry : Area → ℕ → Entry → Type 0
@@ -75,11 +78,8 @@ name_of a c = atom_name a.pool c
 
 -- ---- as it is kept
 
-abbrev pub state_of : PlaceState → State
-state_of s = record { regs = s.regs.items; frame = option_map (λ f. f.items) s.frame; owed = s.owed }
-
 abbrev pub span_of : QueryEntry → Span
 span_of q = record { at = q.at; end = q.end; names = q.names.items }
 
 abbrev pub area_of : CodeParts → Area
-area_of p = record { pool = p.pool; code = p.code.items; tables = map (λ t. t.items) p.tables.items; states = map state_of p.states.items; ranges = map (λ r. r.value) p.ranges.items; entries = p.entries.items; queries = map span_of p.queries.items }
+area_of p = record { pool = p.pool; code = p.code.items; tables = map (λ t. t.items) p.tables.items; ranges = map (λ r. r.value) p.ranges.items; entries = p.entries.items; queries = map span_of p.queries.items }

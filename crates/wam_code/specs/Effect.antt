@@ -5,10 +5,8 @@ use Rattle.wam_code.specs.declared.instruction.Register.{Register}
 use Rattle.wam_code.specs.declared.instruction.Register.TheVariants.{X, Y}
 use Rattle.wam_code.specs.declared.instruction.Code.{Code}
 use Rattle.wam_code.specs.declared.instruction.Code.TheVariants.{GetVariable, GetValue, GetConstant, GetInteger, GetStructure, UnifyVariable, UnifyValue, UnifyConstant, UnifyInteger, UnifyVoid, PutVariable, PutValue, PutConstant, PutInteger, PutStructure, Allocate, Deallocate, Call, Execute, Proceed, SwitchOnTerm, SwitchOnConstant, SwitchOnInteger, SwitchOnStructure, Builtin, Constrain, Label, PostRange}
-use Rattle.wam_code.specs.declared.parts.Slot.{Slot}
-use Rattle.wam_code.specs.declared.parts.Slot.TheVariants.{Unset, Cell}
 use Rattle.wam_code.specs.declared.parts.Entry.{Entry}
-use Rattle.wam_code.specs.Area.{State}
+use Rattle.wam_code.specs.Area.{Slot, Unset, Cell, State}
 use Rattle.wam_code.specs.Arities.{constraint_arity, builtin_arity}
 
 -- ---- registers and frames

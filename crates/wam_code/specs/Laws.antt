@@ -7,7 +7,7 @@ use Rattle.wam_code.specs.declared.instruction.Code.TheVariants.{Execute, Procee
 use Rattle.wam_code.specs.declared.parts.Entry.{Entry}
 use Rattle.wam_code.specs.Area.{State, Span, Area, Holds, HasState, HasEntry, HasQuery}
 use Rattle.wam_code.specs.Effect.{are_set, slot_at, is_cell}
-use Rattle.wam_code.specs.Verified.{Names, Falls, Covers, HandedTo, Leads, IsIn, IsVerified}
+use Rattle.wam_code.specs.Verified.{Names, Falls, Covers, HandedTo, Leads, IsIn, IsVerifiedBy}
 use Rattle.wam_code.specs.Reaching.{IsOutside, distance, begun}
 use Rattle.wam_code.specs.Places.{Places}
 use Rattle.wam_code.specs.Means.{Caller, Rule, Learns, Restates, Quietly, Means}
@@ -28,10 +28,10 @@ pub record ChoicesFollowRules : Type 0 where
 
 -- What is there at a place covers its state at first, and then at each place that comes next.
 pub record StepsAreSafe : Type 0 where
-  pub step : (a : Area) → IsVerified a → (at : ℕ) (i : Code) (s actual : State) → Holds a at i → HasState a at s → Covers actual s → Leads a at i actual
-  pub entry : (a : Area) → IsVerified a → (n : ℕ) (e : Entry) → HasEntry a n e → (regs : List ℕ) → are_set regs e.arity ≡ true → HandedTo a (begun regs) e.at
-  pub query : (a : Area) → IsVerified a → (n : ℕ) (q : Span) → HasQuery a n q → HandedTo a (begun []) q.at
-  pub state : (a : Area) → IsVerified a → (at : ℕ) (i : Code) → Holds a at i → (s : State) × HasState a at s
+  pub step : (a : Area) (ss : List State) → IsVerifiedBy a ss → (at : ℕ) (i : Code) (s actual : State) → Holds a at i → HasState ss at s → Covers actual s → Leads a ss at i actual
+  pub entry : (a : Area) (ss : List State) → IsVerifiedBy a ss → (n : ℕ) (e : Entry) → HasEntry a n e → (regs : List ℕ) → are_set regs e.arity ≡ true → HandedTo ss (begun regs) e.at
+  pub query : (a : Area) (ss : List State) → IsVerifiedBy a ss → (n : ℕ) (q : Span) → HasQuery a n q → HandedTo ss (begun []) q.at
+  pub state : (a : Area) (ss : List State) → IsVerifiedBy a ss → (at : ℕ) (i : Code) → Holds a at i → (s : State) × HasState ss at s
 
 -- A number falls with each instruction that goes on, that returns and that fails.
 pub record WorkFalls : Type 0 where
@@ -39,16 +39,16 @@ pub record WorkFalls : Type 0 where
   pub step : (d e : ℕ) (ds : List ℕ) (ts : List Thread) → e < d → work (record { distance = e; returns = ds } ∷ ts) < work (record { distance = d; returns = ds } ∷ ts)
   pub proceed : (d e : ℕ) (ds : List ℕ) (ts : List Thread) → work (record { distance = e; returns = ds } ∷ ts) < work (record { distance = d; returns = e ∷ ds } ∷ ts)
   pub back : (d : ℕ) (ds : List ℕ) (ts : List Thread) → work ts < work (record { distance = d; returns = ds } ∷ ts)
-  pub names : (a : Area) → IsVerified a → (at to : ℕ) → Names a at to → distance a to < distance a at
-  pub falls : (a : Area) → IsVerified a → (at to : ℕ) → Falls a at to → distance a to < distance a at
+  pub names : (a : Area) (ss : List State) → IsVerifiedBy a ss → (at to : ℕ) → Names a at to → distance a to < distance a at
+  pub falls : (a : Area) (ss : List State) → IsVerifiedBy a ss → (at to : ℕ) → Falls a at to → distance a to < distance a at
 
 pub record QueriesAreApart : Type 0 where
-  pub names_inside : (a : Area) → IsVerified a → (n : ℕ) (q : Span) → HasQuery a n q → (at to : ℕ) → IsIn q at → Names a at to → IsIn q to
-  pub falls_inside : (a : Area) → IsVerified a → (n : ℕ) (q : Span) → HasQuery a n q → (at to : ℕ) → IsIn q at → Falls a at to → IsIn q to
-  pub names_outside : (a : Area) → IsVerified a → (at to : ℕ) → IsOutside a at → Names a at to → IsOutside a to
-  pub falls_outside : (a : Area) → IsVerified a → (at to : ℕ) → IsOutside a at → Falls a at to → IsOutside a to
-  pub entries : (a : Area) → IsVerified a → (n : ℕ) (e : Entry) → HasEntry a n e → IsOutside a e.at
-  pub returns : (a : Area) → IsVerified a → (at : ℕ) → Holds a at Proceed → IsOutside a at
-  pub executes : (a : Area) → IsVerified a → (at e : ℕ) → Holds a at (Execute e) → IsOutside a at
-  pub answers : (a : Area) → IsVerified a → (at : ℕ) → IsOutside a at → ¬ Holds a at AnswerNow
-  pub shown : (a : Area) → IsVerified a → (n at : ℕ) (q : Span) → HasQuery a n q → IsIn q at → Holds a at AnswerNow → (s actual : State) → HasState a at s → Covers actual s → (k : ℕ) → 1 ≤ k → k ≤ length q.names → IsTrue (is_cell (slot_at actual.frame k))
+  pub names_inside : (a : Area) (ss : List State) → IsVerifiedBy a ss → (n : ℕ) (q : Span) → HasQuery a n q → (at to : ℕ) → IsIn q at → Names a at to → IsIn q to
+  pub falls_inside : (a : Area) (ss : List State) → IsVerifiedBy a ss → (n : ℕ) (q : Span) → HasQuery a n q → (at to : ℕ) → IsIn q at → Falls a at to → IsIn q to
+  pub names_outside : (a : Area) (ss : List State) → IsVerifiedBy a ss → (at to : ℕ) → IsOutside a at → Names a at to → IsOutside a to
+  pub falls_outside : (a : Area) (ss : List State) → IsVerifiedBy a ss → (at to : ℕ) → IsOutside a at → Falls a at to → IsOutside a to
+  pub entries : (a : Area) (ss : List State) → IsVerifiedBy a ss → (n : ℕ) (e : Entry) → HasEntry a n e → IsOutside a e.at
+  pub returns : (a : Area) (ss : List State) → IsVerifiedBy a ss → (at : ℕ) → Holds a at Proceed → IsOutside a at
+  pub executes : (a : Area) (ss : List State) → IsVerifiedBy a ss → (at e : ℕ) → Holds a at (Execute e) → IsOutside a at
+  pub answers : (a : Area) (ss : List State) → IsVerifiedBy a ss → (at : ℕ) → IsOutside a at → ¬ Holds a at AnswerNow
+  pub shown : (a : Area) (ss : List State) → IsVerifiedBy a ss → (n at : ℕ) (q : Span) → HasQuery a n q → IsIn q at → Holds a at AnswerNow → (s actual : State) → HasState ss at s → Covers actual s → (k : ℕ) → 1 ≤ k → k ≤ length q.names → IsTrue (is_cell (slot_at actual.frame k))

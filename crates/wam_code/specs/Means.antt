@@ -77,9 +77,9 @@ abbrev pub HoldVars : Places → ℕ → (ℕ → ℕ) → List ℕ → Type 0
 HoldVars p i f [] = Unit {0}
 HoldVars p i f (y ∷ ys) = (p.x i ≡ Some (Var (f y))) × HoldVars p (suc i) f ys
 
--- the target is in the first register, and the range's variables are in those behind it
+-- The target is in the first register, and the range's variables are in those behind it, each of which is a variable of its own.
 abbrev pub PostRule : Area → ℕ → Places → Goal → Type 0
-PostRule area r p g = (t : Term) × (f : ℕ → ℕ) × (p.x 1 ≡ Some t) × HoldVars p 2 f (slots_of (range_at area r)) × (g ≡ Post t (rename_range f (range_at area r)))
+PostRule area r p g = (t : Term) × (f : ℕ → ℕ) × ((x y : ℕ) → f x ≡ f y → x ≡ y) × (p.x 1 ≡ Some t) × HoldVars p 2 f (slots_of (range_at area r)) × (g ≡ Post t (rename_range f (range_at area r)))
 
 -- A goal is taken, where no equation is left to be made, and then the code goes on at the next place.
 abbrev pub Takes : (Goal → Type 0) → Rest → ℕ → Places → List Equation → List Goal → Type 0

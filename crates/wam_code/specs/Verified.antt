@@ -62,12 +62,12 @@ pub record Covers (more less : State) : Type 0 where
   pub regs : (n : ℕ) → has less.regs n ≡ true → has more.regs n ≡ true
 
 -- a state is handed to a place whose own one it covers
-abbrev pub HandedTo : Area → State → ℕ → Type 0
-HandedTo a s to = (t : State) × HasState a to t × Covers s t
+abbrev pub HandedTo : List State → State → ℕ → Type 0
+HandedTo ss s to = (t : State) × HasState ss to t × Covers s t
 
 -- the instruction finds what it needs, and what it hands on covers the states of the places that it leads to
-abbrev pub Leads : Area → ℕ → Code → State → Type 0
-Leads a at i s = (t : State) × (effect a.entries i s ≡ Some t) × ((to : ℕ) → IsTrue (has (named a i) to) → HandedTo a t to) × (IsTrue (goes_on i) → HandedTo a t (suc at))
+abbrev pub Leads : Area → List State → ℕ → Code → State → Type 0
+Leads a ss at i s = (t : State) × (effect a.entries i s ≡ Some t) × ((to : ℕ) → IsTrue (has (named a i) to) → HandedTo ss t to) × (IsTrue (goes_on i) → HandedTo ss t (suc at))
 
 -- ---- 3. where it begins
 
@@ -77,8 +77,8 @@ pub record IsFirst (k : ℕ) (s : State) : Type 0 where
   pub frame : s.frame ≡ None
   pub owed : s.owed ≡ 0
 
-abbrev pub BeginsWith : Area → ℕ → ℕ → Type 0
-BeginsWith a at k = (s : State) × HasState a at s × IsFirst k s
+abbrev pub BeginsWith : List State → ℕ → ℕ → Type 0
+BeginsWith ss at k = (s : State) × HasState ss at s × IsFirst k s
 
 -- ---- 4. queries
 
@@ -87,11 +87,11 @@ abbrev pub IsIn : Span → ℕ → Type 0
 IsIn q at = (q.at ≤ at) × (at < q.end)
 
 -- What is true of a query's code.
-pub record IsQuery (a : Area) (q : Span) : Type 0 where
+pub record IsQuery (a : Area) (ss : List State) (q : Span) : Type 0 where
   pub some : q.at < q.end
   pub within : q.end ≤ length a.code
   pub last : (at : ℕ) → suc at ≡ q.end → Holds a at AnswerNow
-  pub shown : (at : ℕ) (s : State) → suc at ≡ q.end → HasState a at s → (n : ℕ) → 1 ≤ n → n ≤ length q.names → IsTrue (is_cell (slot_at s.frame n))
+  pub shown : (at : ℕ) (s : State) → suc at ≡ q.end → HasState ss at s → (n : ℕ) → 1 ≤ n → n ≤ length q.names → IsTrue (is_cell (slot_at s.frame n))
   pub no_proceed : (at : ℕ) → IsIn q at → ¬ Holds a at Proceed
   pub no_execute : (at e : ℕ) → IsIn q at → ¬ Holds a at (Execute e)
   pub no_entry : (n : ℕ) (e : Entry) → HasEntry a n e → ¬ IsIn q e.at
@@ -190,18 +190,19 @@ IsThere a _ = Unit {0}
 
 -- ---- all of it
 
-pub record IsVerified (a : Area) : Type 0 where
+-- by these states of its places
+pub record IsVerifiedBy (a : Area) (ss : List State) : Type 0 where
   -- 1. Each place has a state, in which its instruction finds what it needs; what it hands on covers the states of the places that it leads to.
-  pub states : length a.states ≡ length a.code
-  pub leads : (at : ℕ) (i : Code) (s : State) → Holds a at i → HasState a at s → Leads a at i s
+  pub states : length ss ≡ length a.code
+  pub leads : (at : ℕ) (i : Code) (s : State) → Holds a at i → HasState ss at s → Leads a ss at i s
   -- 2. Places that are named are in the code and lie ahead, and places that are fallen into are in the code.
   pub ahead : (at to : ℕ) → Names a at to → (at < to) × (to < length a.code)
   pub next : (at to : ℕ) → Falls a at to → to < length a.code
   -- 3. A predicate begins with its arguments, and a query with none, both without a frame and with nothing owed.
-  pub entries : (n : ℕ) (e : Entry) → HasEntry a n e → BeginsWith a e.at e.arity
-  pub firsts : (n : ℕ) (q : Span) → HasQuery a n q → BeginsWith a q.at 0
+  pub entries : (n : ℕ) (e : Entry) → HasEntry a n e → BeginsWith ss e.at e.arity
+  pub firsts : (n : ℕ) (q : Span) → HasQuery a n q → BeginsWith ss q.at 0
   -- 4. A query's code stays within itself and ends with the answer, and no other code reaches it or answers.
-  pub queries : (n : ℕ) (q : Span) → HasQuery a n q → IsQuery a q
+  pub queries : (n : ℕ) (q : Span) → HasQuery a n q → IsQuery a ss q
   pub apart : (n m at : ℕ) (p q : Span) → HasQuery a n p → HasQuery a m q → IsIn p at → IsIn q at → n ≡ m
   pub answers : (at : ℕ) → Holds a at AnswerNow → (n : ℕ) × (q : Span) × HasQuery a n q × (suc at ≡ q.end)
   -- 5. Each other choice is reached from the one before it alone.
@@ -211,3 +212,7 @@ pub record IsVerified (a : Area) : Type 0 where
   pub keys : All (λ table. All (λ row. IsKey a row.0) table) a.tables
   pub predicate_names : All (λ e. IsAtom a e.name) a.entries
   pub query_names : All (λ q. All (λ c. IsAtom a c) q.names) a.queries
+
+-- There are states of its places by which it is.
+abbrev pub IsVerified : Area → Type 0
+IsVerified a = (ss : List State) × IsVerifiedBy a ss

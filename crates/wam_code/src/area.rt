@@ -32,7 +32,8 @@ impl Model for CodeArea {
 }
 
 impl CodeArea {
-    /// The code with these parts, which is verified: each place finds what it needs, wherever it is reached from.
+    /// The code with these parts, which is verified: there are states of its places by which each place finds what it needs, wherever it
+    /// is reached from.
     pub fn from_verified(parts: CodeParts) -> CodeArea
         requires { IsVerified (area_of parts) }
         ensures { result ≡ area_of parts }

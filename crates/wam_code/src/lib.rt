@@ -8,7 +8,7 @@ mod parts;
 
 pub use crate::area::CodeArea;
 pub use crate::instruction::{Code, Instr, Key, Register};
-pub use crate::parts::{CodeParts, Entry, PlaceState, QueryEntry, Slot};
+pub use crate::parts::{CodeParts, Entry, QueryEntry};
 
 #[cfg(test)]
 mod tests;

@@ -1,5 +1,5 @@
 //! The shortest code: a query that is answered at once.
-use crate::{Code, CodeArea, CodeParts, Instr, PlaceState, QueryEntry};
+use crate::{Code, CodeArea, CodeParts, Instr, QueryEntry};
 use std::alloc::Global;
 use std::test::Fail;
 use term_pool::Pool;
@@ -7,11 +7,6 @@ use term_pool::Pool;
 fn answer(alloc: Global) -> Result<CodeArea, Fail> {
     let pool = Pool::new(alloc)?;
     let code = vec![in alloc; Code::AnswerNow]?;
-    let state = PlaceState {
-        regs: Vec::new(alloc),
-        frame: None,
-        owed: 0,
-    };
     let query = QueryEntry {
         at: 0,
         end: 1,
@@ -21,7 +16,6 @@ fn answer(alloc: Global) -> Result<CodeArea, Fail> {
         pool,
         code,
         tables: Vec::new(alloc),
-        states: vec![in alloc; state]?,
         ranges: Vec::new(alloc),
         entries: Vec::new(alloc),
         queries: vec![in alloc; query]?,

@@ -3,8 +3,8 @@ use Rattle.wam_code.proofs.laws.queries_are_apart.Goals as goal
 
 pub returns : goal.returns
 returns c = record {
-  names_inside = λ a v n q h at to b g. (v.queries n q h).stays at to b g;
-  falls_inside = λ a v n q h at to b g. falls_inside a q (v.queries n q h) at to b g;
+  names_inside = λ a ss v n q h at to b g. (v.queries n q h).stays at to b g;
+  falls_inside = λ a ss v n q h at to b g. falls_inside a ss q (v.queries n q h) at to b g;
   names_outside = names_outside;
   falls_outside = falls_outside;
   entries = entry_outside;

@@ -3,4 +3,4 @@ use Rattle.wam_code.proofs.tests.answer.Goals as goal
 
 pub from_verified-requires : goal.from_verified-requires
 from_verified-requires c =
-    rw (c.in_ok-code.ensures.items, c.new-4.ensures.items, c.in_ok-vec.ensures.items, c.new-5.ensures.items, c.new-6.ensures.items, c.in_ok-vec-2.ensures.items, c.new-2.ensures.items, c.new-3.ensures.items) (shortest_verified _)
+    rw (c.in_ok-code.ensures.items, c.new-3.ensures.items, c.new-4.ensures.items, c.new-5.ensures.items, c.in_ok-vec.ensures.items, c.new-2.ensures.items) (shortest_verified _)

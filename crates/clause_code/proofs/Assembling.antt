@@ -1,0 +1,127 @@
+-- A clause of a program from its parts: what is known of its terms and goals, one goal after the other, and all of its code.
+use Rattle.std.proofs.Common.{◌≡◌, ℕ, zero, suc, ◌<◌, ◌≤◌, true, List, [], ◌∷◌, ◌++◌, map, length, get_or, refl, ap, sym, ◌∙◌, subst, arith, append_assoc, append-nil}
+use Rattle.std.proofs.lemmas.Bool.{true≢false}
+use Rattle.std.proofs.lemmas.List.{get_or-map, length-map}
+use Rattle.fd_language.specs.Term.{Terms, Atom}
+use Rattle.fd_language.specs.Variables.{TermBelow}
+use Rattle.fd_model.specs.Goal as model
+use Rattle.fd_model.specs.Constraining.{arguments}
+use Rattle.fd_model.specs.Sound.{GoalBelow, EachBelow, ClausesScoped}
+use Rattle.term_pool.specs.Terms.{term_of}
+use Rattle.clause_check.specs.Programs.{FlatProgram, clause_at, clause_in, goal_at, goal_in, goals_between, no_clause, program_in, IsProgram}
+use Rattle.clause_check.proofs.Lemmas.{between_first}
+use Rattle.wam_code.specs.declared.instruction.Register.{Register}
+use Rattle.wam_code.specs.declared.instruction.Register.TheVariants.{Y}
+use Rattle.wam_code.specs.declared.instruction.Code.{Code}
+use Rattle.wam_code.specs.Places.{count}
+use Rattle.clause_code.specs.Pieces.{Base, Predicate, past}
+use Rattle.clause_code.specs.Codable.{IsNarrow, IsCodableGoal, EachCodable, ClausesCodable, IsCodable}
+use Rattle.clause_code.specs.Predicates.{base_in}
+use Rattle.clause_code.specs.Safe.{IsClauseCode}
+use Rattle.clause_code.specs.Steps.{home, Suits, AllSuit}
+use Rattle.clause_code.specs.Bodies.{IsGoalsCode}
+use Rattle.clause_code.specs.Whole.{front, head_code, IsHoused, InOrder}
+use Rattle.clause_code.proofs.Bodies.{goals_nothing, goals_both}
+use Rattle.clause_code.proofs.GoalKinds.{OnlySlots}
+use Rattle.clause_code.proofs.Clauses.{Tail, start_code, whole_clause}
+use Rattle.clause_code.proofs.Suiting.{term_suits}
+use Rattle.clause_code.proofs.Simples.{arguments_suit}
+
+-- ---- what is known of a clause
+
+scoped_at : (cs : List model.Clause) → ClausesScoped cs → (i : ℕ) (d : model.Clause) → i < length cs → TermBelow (get_or cs i d).variables (get_or cs i d).head × EachBelow (get_or cs i d).variables (get_or cs i d).body
+scoped_at [] s i d l = absurd (omega (arith, l))
+scoped_at (c ∷ cs) s zero d l = s.0
+scoped_at (c ∷ cs) s (suc i) d l = scoped_at cs s.1 i d (omega (arith, l))
+
+codable_at : (cs : List model.Clause) → ClausesCodable cs → (i : ℕ) (d : model.Clause) → i < length cs → IsNarrow (get_or cs i d).head × EachCodable (get_or cs i d).body
+codable_at [] s i d l = absurd (omega (arith, l))
+codable_at (c ∷ cs) s zero d l = s.0
+codable_at (c ∷ cs) s (suc i) d l = codable_at cs s.1 i d (omega (arith, l))
+
+-- Code can be written for its head, and its goals are scoped and codable.
+pub record Known (p : FlatProgram) (c : ℕ) : Type 0 where
+  pub suits : Suits p.pool (clause_at p c).variables (term_of p.pool (clause_at p c).head)
+  pub head : AllSuit p.pool (clause_at p c).variables (arguments (term_of p.pool (clause_at p c).head))
+  pub below : EachBelow (clause_at p c).variables (clause_in p (clause_at p c)).body
+  pub codable : EachCodable (clause_in p (clause_at p c)).body
+
+pub clause_known : (p : FlatProgram) → IsProgram p → IsCodable (program_in p) → (c : ℕ) → c < length p.clauses → (clause_at p c).head.number < length p.pool.entries → Known p c
+clause_known p known codable c low own =
+    let none : model.Clause = record { variables = 0; head = Atom []; body = [] } in
+    let long = length-map p.clauses (clause_in p) in
+    let there : get_or (map (clause_in p) p.clauses) c none ≡ clause_in p (clause_at p c) = get_or-map (clause_in p) p.clauses c no_clause none low in
+    let s = subst (λ (k : model.Clause). TermBelow k.variables k.head × EachBelow k.variables k.body) there (scoped_at (program_in p).clauses known.scoped.clauses c none (omega (arith, long, low))) in
+    let d = subst (λ (k : model.Clause). IsNarrow k.head × EachCodable k.body) there (codable_at (program_in p).clauses codable.clauses c none (omega (arith, long, low))) in
+    let suits = term_suits p.pool known.pool (clause_at p c).variables (clause_at p c).head own s.0 d.0 in
+    record {
+      suits = suits;
+      head = arguments_suit p.pool (clause_at p c).variables (term_of p.pool (clause_at p c).head) suits;
+      below = s.1;
+      codable = d.1;
+    }
+
+-- ---- one goal after the other
+
+-- The goals before i are written; those from i on are scoped and codable.
+pub record Written (p : FlatProgram) (b : Base) (homes : List Register) (at : ℕ) (old now : List Code) (from i to : ℕ) : Type 0 where
+  pub js : List Code
+  pub done : List model.Goal
+  pub code : now ≡ old ++ js
+  pub goals : IsGoalsCode b homes true at js done
+  pub whole : goals_between p from to ≡ done ++ goals_between p i to
+  pub below : EachBelow (length homes) (goals_between p i to)
+  pub codable : EachCodable (goals_between p i to)
+
+pub written_first : (p : FlatProgram) (b : Base) (homes : List Register) (at : ℕ) (old : List Code) (from to : ℕ) → EachBelow (length homes) (goals_between p from to) → EachCodable (goals_between p from to) → Written p b homes at old old from from to
+written_first p b homes at old from to s c = record { js = []; done = []; code = sym (append-nil old); goals = goals_nothing b homes true at; whole = refl; below = s; codable = c }
+
+-- the first of the goals that are left
+pub next_known : (p : FlatProgram) → IsProgram p → (b : Base) (homes : List Register) (at : ℕ) (old now : List Code) (from i to : ℕ) → i < to → to ≤ length p.goals → Written p b homes at old now from i to → GoalBelow (length homes) (goal_in p (goal_at p i)) × IsCodableGoal (goal_in p (goal_at p i))
+next_known p known b homes at old now from i to l m w =
+    let e = between_first p known i to l m in
+    ((subst (EachBelow (length homes)) e w.below).0, (subst EachCodable e w.codable).0)
+
+pub written_next : (p : FlatProgram) → IsProgram p → (b : Base) (homes : List Register) (at : ℕ) (old now new is : List Code) (from i to : ℕ) → i < to → to ≤ length p.goals → Written p b homes at old now from i to → new ≡ now ++ is
+    → ((at : ℕ) → IsGoalsCode b homes true at is (goal_in p (goal_at p i) ∷ [])) → Written p b homes at old new from (suc i) to
+written_next p known b homes at old now new is from i to l m w e g =
+    let first = between_first p known i to l m in
+    record {
+      js = w.js ++ is;
+      done = w.done ++ (goal_in p (goal_at p i) ∷ []);
+      code = e ∙ ap (λ x. x ++ is) w.code ∙ append_assoc old w.js is;
+      goals = goals_both b homes true at w.js is w.done (goal_in p (goal_at p i) ∷ []) w.goals (g (past at w.js));
+      whole = w.whole ∙ ap (λ gs. w.done ++ gs) first ∙ sym (append_assoc w.done (goal_in p (goal_at p i) ∷ []) (goals_between p (suc i) to));
+      below = (subst (EachBelow (length homes)) first w.below).1;
+      codable = (subst EachCodable first w.codable).1;
+    }
+
+-- ---- the homes
+
+pub in_order_only : (homes : List Register) (v : ℕ) → InOrder homes v → OnlySlots homes
+in_order_only homes v o x l i e = let n = o.long in let s = o.slots x (omega (arith, l, n)) in absurd (cc)
+
+pub in_order_housed : (homes : List Register) (v k : ℕ) → InOrder homes v → IsHoused homes true v k (suc k)
+in_order_housed homes v k o =
+    let n = o.long in
+    record {
+      apart = λ x y l m e. let a = o.slots x (omega (arith, l, n)) in let b = o.slots y (omega (arith, m, n)) in let c : Y (suc x) ≡ Y (suc y) = sym a ∙ e ∙ b in let d : suc x ≡ suc y = cc in omega (arith, d);
+      in_frame = λ e x l. (x, o.slots x (omega (arith, l, n)), omega (arith, l, n));
+      in_registers = λ e. absurd (true≢false e);
+      clear = λ i h x l e. in_order_only homes v o x l i e;
+      above = omega arith;
+    }
+
+-- ---- all of the code
+
+-- A frame, the head, the goals but the last one, and the end.
+pub assembled : (p : FlatProgram) (ps : List Predicate) (homes : List Register) (at c : ℕ) (js ks : List Code) (i : Code) (gs hs : List model.Goal) → InOrder homes (clause_at p c).variables → Known p c → (clause_in p (clause_at p c)).body ≡ gs ++ hs
+    → let ts = arguments (term_of p.pool (clause_at p c).head) in
+    let is = front true (clause_at p c).variables ++ head_code p.pool homes (suc (count ts)) ts in
+    IsGoalsCode (base_in p ps) homes true (past at is) js gs → Tail (base_in p ps) homes true (past at (is ++ js)) ks i hs → IsClauseCode (base_in p ps) at ((is ++ js) ++ (ks ++ (i ∷ []))) (clause_in p (clause_at p c))
+assembled p ps homes at c js ks i gs hs order known body goals tail =
+    let ts : Terms = arguments (term_of p.pool (clause_at p c).head) in
+    let v : ℕ = (clause_at p c).variables in
+    let suit : AllSuit p.pool (length homes) ts = subst (λ n. AllSuit p.pool n ts) (sym order.long) known.head in
+    let is : List Code = front true v ++ head_code p.pool homes (suc (count ts)) ts in
+    whole_clause (base_in p ps) homes true at (clause_in p (clause_at p c)) is js ks i gs hs (sym order.long) body (start_code (base_in p ps) homes true v (count ts) (suc (count ts)) at ts (in_order_housed homes v (count ts) order) suit (omega arith)) goals tail

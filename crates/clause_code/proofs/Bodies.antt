@@ -1,0 +1,252 @@
+-- What the code of goals does, and how states flow through it.
+use Rattle.std.proofs.Common.{◌≡◌, ℕ, zero, suc, ◌+◌, ◌<◌, ◌≤◌, Bool, true, false, if◌then◌else◌, IsTrue, List, [], ◌∷◌, ◌++◌, map, Some, length, slice_get, refl, ap, sym, ◌∙◌, subst, arith, eq-eqb}
+use Rattle.std.proofs.lemmas.Bool.{true≢false}
+use Rattle.std.proofs.lemmas.Bool.Decides.{nat_tests}
+use Rattle.fd_language.specs.Family.{has}
+use Rattle.fd_language.specs.Term.{Term, Terms, Var}
+use Rattle.fd_model.specs.Goal as goal
+use Rattle.fd_model.specs.Goal.{Goal, Goals, listed}
+use Rattle.fd_model.specs.Renaming.{rename_goal, rename_goals}
+use Rattle.machine_relation.specs.Heap.{Below}
+use Rattle.wam_code.specs.declared.instruction.Register.{Register}
+use Rattle.wam_code.specs.declared.instruction.Register.TheVariants.{X, Y}
+use Rattle.wam_code.specs.declared.instruction.Code.{Code}
+use Rattle.wam_code.specs.declared.instruction.Code.TheVariants.{Jump, Either, GetVariable, GetValue, UnifyVariable, UnifyValue, PutVariable, PutValue}
+use Rattle.wam_code.specs.Area.{State}
+use Rattle.wam_code.specs.Effect.{effect}
+use Rattle.wam_code.specs.Verified.{Covers}
+use Rattle.wam_code.specs.Places.{Places, read, IsSettled, Hold, count}
+use Rattle.clause_code.specs.Pieces.{Base, past, Does}
+use Rattle.clause_code.specs.Laws.{other_side, sides}
+use Rattle.clause_code.specs.Safe.{unplaced, IsThereIn, may_enter}
+use Rattle.clause_code.specs.Flowing.{is_simple, MayEnter}
+use Rattle.clause_code.specs.Steps.{Step, get_variable, get_constant, get_integer, get_structure, unify_variable, unify_register, unify_constant, unify_integer, put_variable, put_constant, put_integer, put_structure, home, is_made, marked_by_all, instruction, code_of, puts, AllSuit}
+use Rattle.clause_code.specs.Bodies.{is_x, is_y, found_home, between_goals, InBody, IsRest, IsGoalsCode}
+use Rattle.clause_code.proofs.Pieces.{does_nothing, does_both, does_either}
+use Rattle.clause_code.proofs.Making.{Clear, AreApart, fits_whole}
+use Rattle.clause_code.proofs.Going.{moved_all, AllMade, At}
+use Rattle.clause_code.proofs.Building.{PutAllBy, puts_put}
+use Rattle.clause_code.proofs.Flowing.{flows_both, flows_nothing, flows_runs_less, flows_sides, enters_both, simple_enters}
+
+-- ---- places between goals
+
+found_is : (test : Register → Bool) (u : ℕ) (rs : List Register) (t : Term) → found_home test u rs ≡ Some t → (x : ℕ) × (x < length rs) × (test (home rs x) ≡ true) × (t ≡ Var (u + x))
+found_is test u [] t e = absurd (cc)
+found_is test u (r ∷ rs) t e = by (found_is test (suc u) rs t) (test r) refl e
+  where
+    by : (found_home test (suc u) rs ≡ Some t → (x : ℕ) × (x < length rs) × (test (home rs x) ≡ true) × (t ≡ Var (suc u + x))) → (c : Bool) → test r ≡ c → (if c then Some (Var u) else found_home test (suc u) rs) ≡ Some t
+        → (x : ℕ) × (x < length (r ∷ rs)) × (test (home (r ∷ rs) x) ≡ true) × (t ≡ Var (u + x))
+    by rest true h g = let a : Var u ≡ t = cc in let z : u ≡ u + 0 = omega arith in (0, omega arith, h, sym a ∙ ap Var z)
+    by rest false h g =
+        let w = rest g in
+        let l = w.1 in
+        let z : suc u + w.0 ≡ u + suc w.0 = omega arith in
+        (suc w.0, omega (arith, l), w.2, w.3 ∙ ap Var z)
+
+found_at : (test : Register → Bool) (u : ℕ) (rs : List Register) (x : ℕ) → x < length rs → test (home rs x) ≡ true → ((y : ℕ) → y < length rs → test (home rs y) ≡ true → y ≡ x) → found_home test u rs ≡ Some (Var (u + x))
+found_at test u [] x l h one = absurd (omega (arith, l))
+found_at test u (r ∷ rs) zero l h one = let z : u ≡ u + 0 = omega arith in ap (λ c. if c then Some (Var u) else found_home test (suc u) rs) h ∙ ap (λ k. Some (Var k)) z
+found_at test u (r ∷ rs) (suc x) l h one =
+    let z : suc u + x ≡ u + suc x = omega arith in
+    ap (λ c. if c then Some (Var u) else found_home test (suc u) rs) (not_first (test r) refl)
+    ∙ found_at test (suc u) rs x (omega (arith, l)) h (λ y m g. let e = one (suc y) (omega (arith, m)) g in omega (arith, e))
+    ∙ ap (λ k. Some (Var k)) z
+  where
+    not_first : (c : Bool) → test r ≡ c → test r ≡ false
+    not_first true e = let f = one 0 (omega arith) e in absurd (omega (arith, f))
+    not_first false e = e
+
+x_is : (i : ℕ) (r : Register) → is_x i r ≡ true → r ≡ X i
+x_is i (X j) h = let e : i ≡ j = grind (arith, nat_tests) in ap X (sym e)
+x_is i (Y j) h = absurd (true≢false (sym h))
+
+y_is : (i : ℕ) (r : Register) → is_y i r ≡ true → r ≡ Y i
+y_is i (X j) h = absurd (true≢false (sym h))
+y_is i (Y j) h = let e : i ≡ j = grind (arith, nat_tests) in ap Y (sym e)
+
+module _ (n : ℕ) (homes : List Register) (apart : AreApart homes) where
+  between_read : (x : ℕ) → x < length homes → (r : Register) → home homes x ≡ r → read (between_goals n homes) r ≡ Some (Var (n + x))
+  between_read x l (X i) e = found_at (is_x i) n homes x l (ap (is_x i) e ∙ eq-eqb i i refl) (λ y m h. apart y x m l (x_is i (home homes y) h ∙ sym e))
+  between_read x l (Y i) e = found_at (is_y i) n homes x l (ap (is_y i) e ∙ eq-eqb i i refl) (λ y m h. apart y x m l (y_is i (home homes y) h ∙ sym e))
+
+  -- Each variable is in its home.
+  pub between_in : InBody n homes (between_goals n homes)
+  between_in = record { held = λ x l. between_read x l (home homes x) refl; whole = λ v l. absurd (omega (arith, l)); own = refl }
+
+  -- After a goal no more than that is counted on.
+  pub between_settled : (p : Places) → InBody n homes p → IsSettled p (between_goals n homes)
+  between_settled p b = record {
+    whole = b.whole;
+    xs = λ i t e.
+        let w = found_is (is_x i) n homes t e in
+        let l = w.1 in
+        let own = b.own in
+        let less : n + w.0 < p.own = omega (arith, l, own) in
+        let read' : p.x i ≡ Some (Var (n + w.0)) = subst (λ r. read p r ≡ Some (Var (n + w.0))) (x_is i (home homes w.0) w.2) (b.held w.0 l) in
+        (read' ∙ ap Some (sym w.3), subst (Below p.own) (sym w.3) less);
+    ys = λ i t e.
+        let w = found_is (is_y i) n homes t e in
+        let l = w.1 in
+        let own = b.own in
+        let less : n + w.0 < p.own = omega (arith, l, own) in
+        let read' : p.y i ≡ Some (Var (n + w.0)) = subst (λ r. read p r ≡ Some (Var (n + w.0))) (y_is i (home homes w.0) w.2) (b.held w.0 l) in
+        (read' ∙ ap Some (sym w.3), subst (Below p.own) (sym w.3) less);
+    known = λ v. refl;
+    own = sym b.own;
+    top = refl;
+  }
+
+  pub at_body : (framed : Bool) (made : List Bool) (p : Places) (s : State) → AllMade homes made → length made ≡ length homes → InBody n homes p → IsRest homes framed s → At n homes made p s
+  at_body framed made p s all long b r = record {
+    fits = record { held = λ x l e. b.held x l; fresh = λ x l e. absurd (true≢false (sym (all x l) ∙ e)); whole = λ i l h. b.whole i l; own = b.own };
+    tracks = record { set = λ x l e. r.set x l; free = λ x l e. absurd (true≢false (sym (all x l) ∙ e)) };
+    long = long;
+  }
+
+  pub body_at : (made : List Bool) (p : Places) (s : State) → AllMade homes made → At n homes made p s → InBody n homes p
+  body_at made p s all a = record { held = λ x l. a.fits.held x l (all x l); whole = fits_whole n homes made p a.fits all; own = a.fits.own }
+
+-- ---- one goal
+
+pub step_simple : (homes : List Register) (made : List Bool) (s : Step) → IsTrue (is_simple (instruction homes made s))
+step_simple homes made (get_variable x a) = by (is_made made x)
+  where
+    by : (c : Bool) → IsTrue (is_simple (if c then GetValue (home homes x) a else GetVariable (home homes x) a))
+    by true = refl
+    by false = refl
+step_simple homes made (get_constant c a) = refl
+step_simple homes made (get_integer z a) = refl
+step_simple homes made (get_structure f n a) = refl
+step_simple homes made (unify_variable x) = by (is_made made x)
+  where
+    by : (c : Bool) → IsTrue (is_simple (if c then UnifyValue (home homes x) else UnifyVariable (home homes x)))
+    by true = refl
+    by false = refl
+step_simple homes made (unify_register r) = refl
+step_simple homes made (unify_constant c) = refl
+step_simple homes made (unify_integer z) = refl
+step_simple homes made (put_variable x a) = by (is_made made x)
+  where
+    by : (c : Bool) → IsTrue (is_simple (if c then PutValue (home homes x) a else PutVariable (home homes x) a))
+    by true = refl
+    by false = refl
+step_simple homes made (put_constant c a) = refl
+step_simple homes made (put_integer z a) = refl
+step_simple homes made (put_structure f n a) = refl
+
+-- the arguments of a goal can be put into the first registers, by way of those from `free` on
+pub record Fine (b : Base) (homes : List Register) (free : ℕ) (ts : Terms) : Type 0 where
+  pub suit : AllSuit b.pool (length homes) ts
+  pub below : suc (count ts) ≤ free
+  pub first : (j : ℕ) → 1 ≤ j → j < suc (count ts) → Clear homes j
+  pub clear : (j : ℕ) → free ≤ j → Clear homes j
+
+-- what holds behind the arguments of a goal
+pub record Loaded (s t : State) (k : ℕ) : Type 0 where
+  pub frame : t.frame ≡ s.frame
+  pub owed : t.owed ≡ 0
+  pub set : (j : ℕ) → 1 ≤ j → j ≤ k → has t.regs j ≡ true
+  pub regs : (j : ℕ) → has s.regs j ≡ true → has t.regs j ≡ true
+
+abbrev pub Taken : Base → List Register → Code → Goal → Terms → Type 0
+Taken b homes i g ts = (n at : ℕ) (later : List Goal) (q : Places) → InBody n homes q → Hold q 1 (moved_all n ts) → Does b at (i ∷ []) q [] (rename_goal (λ x. n + x) g ∷ later) (between_goals n homes) [] later
+
+abbrev pub Effective : Base → List Register → Bool → Code → ℕ → Type 0
+Effective b homes framed i k = (s t : State) → IsRest homes framed s → Loaded s t k → (u : State) × (effect (unplaced b) i t ≡ Some u) × Covers u s
+
+pub one_goal : (b : Base) (homes : List Register) (apart : AreApart homes) (framed : Bool) (made : List Bool) (free at : ℕ) (ts : Terms) (i : Code) (g : Goal) → AllMade homes made → length made ≡ length homes → Fine b homes free ts → IsTrue (is_simple i) → IsThereIn b i
+    → Taken b homes i g ts → Effective b homes framed i (count ts) → IsGoalsCode b homes framed at (code_of homes made (puts b.pool 1 free ts) ++ (i ∷ [])) (g ∷ [])
+one_goal b homes apart framed made free at ts i g all long f simple there takes effects =
+    record {
+      does = λ s r n p later h.
+          let w = put n p s r h in
+          let q : Places = w.went.q in
+          let mid : InBody n homes q = body_at n homes apart (marked_by_all made (puts b.pool 1 free ts)) q w.went.t (w.went.keeps.more all) w.went.there in
+          let js : List Code = code_of homes made (puts b.pool 1 free ts) in
+          let goals : List Goal = rename_goal (λ x. n + x) g ∷ later in
+          record {
+            q = between_goals n homes;
+            there = between_in n homes apart;
+            same = λ e. refl;
+            does = does_both b at js (i ∷ []) p q (between_goals n homes) [] [] [] goals goals later (w.went.does goals) (takes n (past at js) later q mid w.hold);
+          };
+      flows = λ s r.
+          let w = put 0 (between_goals 0 homes) s r (between_in 0 homes apart) in
+          let t : State = w.went.t in
+          let e = effects s t r (loaded s (between_goals 0 homes) r w) in
+          flows_runs_less b at (code_of homes made (puts b.pool 1 free ts)) i s t e.0 s w.went.runs e.1 e.2 simple there;
+      enters = λ j e. enter made at (puts b.pool 1 free ts) j e;
+    }
+  where
+    put : (n : ℕ) (p : Places) (s : State) → IsRest homes framed s → InBody n homes p → PutAllBy b n homes apart 1 made at p s [] (puts b.pool 1 free ts) ts
+    put n p s r h = puts_put b n homes apart made at 1 free ts p s [] (at_body n homes apart framed made p s all long h r) r.owed f.suit (let l = f.below in omega (arith, l)) (λ j m k. f.first j m (omega (arith, k))) f.clear
+
+    loaded : (s : State) (p : Places) → IsRest homes framed s → (w : PutAllBy b 0 homes apart 1 made at p s [] (puts b.pool 1 free ts) ts) → Loaded s w.went.t (count ts)
+    loaded s p r w = record { frame = w.went.keeps.frame all; owed = w.went.owed; set = λ j m k. w.set j m (omega (arith, k)); regs = w.went.keeps.regs }
+
+    enter : (made : List Bool) (at : ℕ) (ss : List Step) → MayEnter (code_of homes made ss ++ (i ∷ []))
+    enter made at [] j e = let same : i ≡ j = cc in subst (λ x. IsTrue (may_enter x)) same (simple_enters i simple)
+    enter made at (s ∷ ss) j e = let same : instruction homes made s ≡ j = cc in subst (λ x. IsTrue (may_enter x)) same (simple_enters (instruction homes made s) (step_simple homes made s))
+
+pub steps_enter : (homes : List Register) (made : List Bool) (ss : List Step) → MayEnter (code_of homes made ss)
+steps_enter homes made [] j e = absurd (cc)
+steps_enter homes made (s ∷ ss) j e = let same : instruction homes made s ≡ j = cc in subst (λ x. IsTrue (may_enter x)) same (simple_enters (instruction homes made s) (step_simple homes made s))
+
+-- ---- goals, one behind the other
+
+renamed_both : (f : ℕ → ℕ) (gs hs : List Goal) (later : List Goal) → map (rename_goal f) (gs ++ hs) ++ later ≡ map (rename_goal f) gs ++ (map (rename_goal f) hs ++ later)
+renamed_both f [] hs later = refl
+renamed_both f (g ∷ gs) hs later = ap (λ l. rename_goal f g ∷ l) (renamed_both f gs hs later)
+
+pub goals_nothing : (b : Base) (homes : List Register) (framed : Bool) (at : ℕ) → IsGoalsCode b homes framed at [] []
+goals_nothing b homes framed at = record {
+  does = λ s r n p later h. record { q = p; there = h; same = λ e. e; does = does_nothing b at p [] later };
+  flows = λ s r. flows_nothing b at s;
+  enters = λ i e. absurd (cc);
+}
+
+pub goals_both : (b : Base) (homes : List Register) (framed : Bool) (at : ℕ) (is js : List Code) (gs hs : List Goal) → IsGoalsCode b homes framed at is gs → IsGoalsCode b homes framed (past at is) js hs → IsGoalsCode b homes framed at (is ++ js) (gs ++ hs)
+goals_both b homes framed at is js gs hs f g = record {
+  does = λ s r n p later h.
+      let rest : List Goal = map (rename_goal (λ x. n + x)) hs ++ later in
+      let a = f.does s r n p rest h in
+      let c = g.does s r n a.q later a.there in
+      record {
+        q = c.q;
+        there = c.there;
+        same = λ e. c.same (a.same e);
+        does = subst (λ l. Does b at (is ++ js) p [] l c.q [] later) (sym (renamed_both (λ x. n + x) gs hs later)) (does_both b at is js p a.q c.q [] [] [] (map (rename_goal (λ x. n + x)) gs ++ rest) rest later a.does c.does);
+      };
+  flows = λ s r. flows_both b at is js s s s (f.flows s r) (g.flows s r);
+  enters = enters_both is js f.enters g.enters;
+}
+
+listed_renamed : (f : ℕ → ℕ) (gs : Goals) → listed (rename_goals f gs) ≡ map (rename_goal f) (listed gs)
+listed_renamed f goal.no_goals = refl
+listed_renamed f (goal.goal g gs) = ap (λ l. rename_goal f g ∷ l) (listed_renamed f gs)
+
+-- Both ways of A ; B.
+pub goals_either : (b : Base) (homes : List Register) (apart : AreApart homes) (framed : Bool) (at : ℕ) (is js : List Code) (x y : Goals) → IsGoalsCode b homes framed (suc at) is (listed x) → IsGoalsCode b homes framed (other_side at is js) js (listed y)
+    → IsGoalsCode b homes framed at (sides at is js) (goal.Either x y ∷ [])
+goals_either b homes apart framed at is js x y f g = record {
+  does = λ s r n p later h.
+      let q : Places = between_goals n homes in
+      let in' : InBody n homes q = between_in n homes apart in
+      let a = f.does s r n q later in' in
+      let c = g.does s r n q later in' in
+      let one : Does b (suc at) is q [] (listed (rename_goals (λ x. n + x) x) ++ later) q [] later =
+      subst (λ w. Does b (suc at) is q [] (listed (rename_goals (λ x. n + x) x) ++ later) w [] later) (a.same refl) (subst (λ l. Does b (suc at) is q [] (l ++ later) a.q [] later) (sym (listed_renamed (λ x. n + x) x)) a.does) in
+      let two : Does b (other_side at is js) js q [] (listed (rename_goals (λ x. n + x) y) ++ later) q [] later =
+      subst (λ w. Does b (other_side at is js) js q [] (listed (rename_goals (λ x. n + x) y) ++ later) w [] later) (c.same refl) (subst (λ l. Does b (other_side at is js) js q [] (l ++ later) c.q [] later) (sym (listed_renamed (λ x. n + x) y)) c.does) in
+      record {
+        q = q;
+        there = in';
+        same = λ e. refl;
+        does = does_either b at is js (rename_goals (λ x. n + x) x) (rename_goals (λ x. n + x) y) p q q later (between_settled n homes apart p h) one two;
+      };
+  flows = λ s r. flows_sides b at is js s r.owed (f.flows s r) (g.flows s r);
+  enters = λ i e. subst (λ x. IsTrue (may_enter x)) (first (other_side at is js) (is ++ (Jump (past (suc (past (suc at) is)) js) ∷ js)) i e) refl;
+}
+  where
+    first : (o : ℕ) (ks : List Code) (i : Code) → slice_get (Either o ∷ ks) 0 ≡ Some i → Either o ≡ i
+    first o ks i e = cc

@@ -1,0 +1,199 @@
+-- The code of a clause, once all its parts are written.
+use Rattle.std.proofs.Common.{◌≡◌, ℕ, zero, suc, ◌+◌, ◌-◌, ◌<◌, ◌≤◌, Bool, true, false, List, [], ◌∷◌, ◌++◌, map, length, get_or, replicate, refl, ap, sym, ◌∙◌, subst, arith, inl, inr, append_assoc, append-nil}
+use Rattle.std.proofs.lemmas.Bool.{cases_lt}
+use Rattle.std.proofs.lemmas.List.{get_or_past, length-replicate}
+use Rattle.std.proofs.lemmas.Option.{slice_get_within}
+use Rattle.fd_language.specs.Term.{Term, Terms, Var, Int, Atom, Comp, no_terms, term}
+use Rattle.fd_model.specs.Goal as model
+use Rattle.fd_model.specs.Constraining.{arguments}
+use Rattle.fd_model.specs.Sound.{EachBelow}
+use Rattle.term_pool.specs.declared.TermId.{TermId}
+use Rattle.term_pool.specs.Contents.{Contents, atom_name}
+use Rattle.term_pool.specs.Terms.{term_of, terms_by}
+use Rattle.clause_check.specs.declared.program.FlatGoal.{FlatGoal}
+use Rattle.clause_check.specs.declared.program.FlatGoal.TheVariants as flat
+use Rattle.clause_check.specs.Programs.{FlatProgram, clause_at, clause_in, goal_at, goal_in, goals_between, no_clause, IsGoal, IsProgram}
+use Rattle.clause_check.proofs.Lemmas.{between_first, between_none, between_split}
+use Rattle.wam_code.specs.declared.instruction.Register.{Register}
+use Rattle.wam_code.specs.declared.instruction.Register.TheVariants.{Y}
+use Rattle.wam_code.specs.declared.instruction.Code.{Code}
+use Rattle.wam_code.specs.declared.instruction.Code.TheVariants.{Deallocate, Execute, Proceed}
+use Rattle.wam_code.specs.Places.{count, made}
+use Rattle.clause_code.specs.Pieces.{Base, Predicate, past}
+use Rattle.clause_code.specs.Codable.{EachCodable}
+use Rattle.clause_code.proofs.GoalKinds.{OnlySlots}
+use Rattle.clause_code.specs.Predicates.{IsOf, IsNumberOf, Appends, base_in}
+use Rattle.clause_code.specs.Safe.{IsClauseCode}
+use Rattle.clause_code.specs.Steps.{home, Suits, AllSuit, is_made, filled, code_of, puts, gets, fills, marked_by_all}
+use Rattle.clause_code.specs.Bodies.{IsGoalsCode}
+use Rattle.clause_code.specs.Simple.{AreMade, GoalWritten, IsSimpleCode, IsOwn, IsWritable}
+use Rattle.clause_code.specs.Whole.{front, back, unmade, head_code, begin_code, InOrder, AreSlots, Executes}
+use Rattle.clause_code.specs.Works.{Writes}
+use Rattle.clause_code.proofs.Filling.{filled_long, filled_made}
+use Rattle.clause_code.proofs.Making.{AreApart}
+use Rattle.clause_code.proofs.Bodies.{Fine}
+use Rattle.clause_code.proofs.Clauses.{Tail, tail_proceed, tail_execute}
+use Rattle.clause_code.proofs.Rests.{count_terms}
+use Rattle.clause_code.proofs.Assembling.{Known, clause_known, Written, next_known, written_next, in_order_only, in_order_housed, assembled}
+use Rattle.clause_code.proofs.Simples.{arguments_suit, is_writable, simple_goal}
+
+-- ---- which are made
+
+pub all_made : (made : List Bool) → AreMade (filled made (length made))
+all_made made x = elim (cases_lt x (length made)) [
+  | inl l ↦ filled_made made (length made) (omega arith) x l
+  | inr h ↦ let n = filled_long made (length made) in get_or_past (filled made (length made)) x true (omega (arith, n, h))
+]
+
+-- ---- a head
+
+pub headed : (c : Contents) (homes : List Register) (code mid new : List Code) (now later : List Bool) (ids : List TermId) (n : ℕ) → n ≡ length ids + 1 → now ≡ unmade homes → Writes homes code now (gets c 1 n (terms_by (term_of c) ids)) mid later
+    → new ≡ mid ++ fills homes n later (length homes) → new ≡ code ++ head_code c homes (suc (count (terms_by (term_of c) ids))) (terms_by (term_of c) ids)
+headed c homes code mid new now later ids n e none w f =
+    let ts : Terms = terms_by (term_of c) ids in
+    let k = count_terms (term_of c) ids in
+    let m : n ≡ suc (count ts) = omega (arith, e, k) in
+    let marks : later ≡ marked_by_all (unmade homes) (gets c 1 n ts) = w.marks ∙ ap (λ l. marked_by_all l (gets c 1 n ts)) none in
+    let codes : mid ≡ code ++ code_of homes (unmade homes) (gets c 1 n ts) = w.codes ∙ ap (λ l. code ++ code_of homes l (gets c 1 n ts)) none in
+    f
+    ∙ ap (λ l. mid ++ fills homes n l (length homes)) marks
+    ∙ ap (λ l. l ++ fills homes n (marked_by_all (unmade homes) (gets c 1 n ts)) (length homes)) codes
+    ∙ append_assoc code (code_of homes (unmade homes) (gets c 1 n ts)) (fills homes n (marked_by_all (unmade homes) (gets c 1 n ts)) (length homes))
+    ∙ ap (λ j. code ++ head_code c homes j ts) m
+
+pub unmade_long : (homes : List Register) (made : List Bool) → made ≡ unmade homes → length made ≡ length homes
+unmade_long homes made e = ap length e ∙ length-replicate (length homes) false
+
+pub filled_all : (homes : List Register) (now later : List Bool) → length now ≡ length homes → later ≡ filled now (length homes) → AreMade later × (length later ≡ length homes)
+filled_all homes now later n e =
+    let same : later ≡ filled now (length now) = e ∙ ap (filled now) (sym n) in
+    (subst AreMade (sym same) (all_made now), ap length e ∙ filled_long now (length homes) ∙ n)
+
+-- ---- one goal
+
+pub goal_appended : (p : FlatProgram) (ps : List Predicate) (homes : List Register) (made : List Bool) (g : FlatGoal) (old new : List Code) → GoalWritten p ps homes made g old new → Appends old new (IsSimpleCode p ps homes made g)
+goal_appended p ps homes made flat.True old new w = (_, w, refl)
+goal_appended p ps homes made flat.Fail old new w = (_, w, refl)
+goal_appended p ps homes made (flat.Unify s t) old new w = (_, w, refl)
+goal_appended p ps homes made (flat.Post t r) old new w = (_, w, refl)
+goal_appended p ps homes made (flat.Constrain k t) old new w = (_, w, refl)
+goal_appended p ps homes made (flat.Label o t) old new w = (_, w, refl)
+goal_appended p ps homes made (flat.Call t) old new w = (_, w.code, (w.number, w.of.0, w.of.1, w.of.2, refl))
+goal_appended p ps homes made (flat.Builtin k t) old new w = (_, w, refl)
+goal_appended p ps homes made (flat.Either a b) old new w = absurd w
+
+-- ---- the goals before the last one
+
+pub each_below_split : (v : ℕ) (gs hs : List model.Goal) → EachBelow v (gs ++ hs) → EachBelow v gs × EachBelow v hs
+each_below_split v [] hs h = (tt, h)
+each_below_split v (g ∷ gs) hs h = let w = each_below_split v gs hs h.1 in ((h.0, w.0), w.1)
+
+pub each_codable_split : (gs hs : List model.Goal) → EachCodable (gs ++ hs) → EachCodable gs × EachCodable hs
+each_codable_split [] hs h = (tt, h)
+each_codable_split (g ∷ gs) hs h = let w = each_codable_split gs hs h.1 in ((h.0, w.0), w.1)
+
+pub last_goal : (p : FlatProgram) → IsProgram p → (from to : ℕ) → from < to → to ≤ length p.goals → goals_between p from to ≡ goals_between p from (to - 1) ++ (goal_in p (goal_at p (to - 1)) ∷ [])
+last_goal p known from to l m =
+    let k : ℕ = to - 1 in
+    let up : suc k ≡ to = omega (arith, l) in
+    between_split p from k to (omega (arith, l)) (omega arith)
+    ∙ ap (λ gs. goals_between p from k ++ gs) (between_first p known k to (omega (arith, l)) m)
+    ∙ ap (λ gs. goals_between p from k ++ (goal_in p (goal_at p k) ∷ gs)) (between_none p (suc k) to (omega (arith, up)))
+
+-- what is known of the goals before a last user goal, and of that goal
+pub record BeforeLast (p : FlatProgram) (v from to : ℕ) (u : TermId) : Type 0 where
+  pub below : EachBelow v (goals_between p from (to - 1))
+  pub codable : EachCodable (goals_between p from (to - 1))
+  pub own : IsOwn p.pool v u
+
+pub before_last : (p : FlatProgram) → IsProgram p → (v from to : ℕ) (u : TermId) → from < to → to ≤ length p.goals → goal_at p (to - 1) ≡ flat.Call u → EachBelow v (goals_between p from to) → EachCodable (goals_between p from to) → BeforeLast p v from to u
+before_last p known v from to u l m last below codable =
+    let e = last_goal p known from to l m in
+    let b = each_below_split v (goals_between p from (to - 1)) (goal_in p (goal_at p (to - 1)) ∷ []) (subst (EachBelow v) e below) in
+    let d = each_codable_split (goals_between p from (to - 1)) (goal_in p (goal_at p (to - 1)) ∷ []) (subst EachCodable e codable) in
+    let own = known.goals (to - 1) (omega (arith, l, m)) in
+    let w = is_writable p known.pool v (to - 1) (goal_at p (to - 1)) own b.1.0 d.1.0 in
+    record { below = b.0; codable = d.0; own = subst (IsWritable p v) last w }
+
+pub known_of : (p : FlatProgram) → IsProgram p → (c : ℕ) → c < length p.clauses → Known p c
+known_of p h c l = clause_known p h h.codable c l (h.clauses c no_clause l).head
+
+pub goal_writable : (p : FlatProgram) → IsProgram p → (b : Base) (homes : List Register) (at : ℕ) (old now : List Code) (from i to : ℕ) → i < to → to ≤ length p.goals → Written p b homes at old now from i to → IsWritable p (length homes) (goal_at p i)
+goal_writable p known b homes at old now from i to l m w =
+    let k = next_known p known b homes at old now from i to l m w in
+    is_writable p known.pool (length homes) i (goal_at p i) (known.goals i (omega (arith, l, m))) k.0 k.1
+
+slots_only : (homes : List Register) → AreSlots homes → OnlySlots homes
+slots_only homes s x l i e = let w = s.slots x l in let y : home homes x ≡ Y (suc w.0) = w.1 in absurd (cc)
+
+pub in_order_slots : (homes : List Register) (v : ℕ) → InOrder homes v → AreSlots homes
+in_order_slots homes v o = let h = in_order_housed homes v 0 o in record { apart = h.apart; slots = λ x l. let w = h.in_frame refl x l in (w.0, w.1) }
+
+-- the goal i is written
+pub goal_next : (p : FlatProgram) → IsProgram p → (ps : List Predicate) (homes : List Register) (at : ℕ) (old now new : List Code) (made_now : List Bool) (from i to : ℕ) → AreSlots homes → AreMade made_now → length made_now ≡ length homes → i < to → to ≤ length p.goals
+    → Written p (base_in p ps) homes at old now from i to → GoalWritten p ps homes made_now (goal_at p i) now new → Written p (base_in p ps) homes at old new from (i + 1) to
+goal_next p known ps homes at old now new made_now from i to slots all long l m w g =
+    let b : Base = base_in p ps in
+    let k = next_known p known b homes at old now from i to l m w in
+    let own = known.goals i (omega (arith, l, m)) in
+    let writable = is_writable p known.pool (length homes) i (goal_at p i) own k.0 k.1 in
+    let a = goal_appended p ps homes made_now (goal_at p i) now new g in
+    let up : suc i ≡ i + 1 = omega arith in
+    subst (λ j. Written p b homes at old new from j to) up
+    (written_next p known b homes at old now new a.0 from i to l m w a.1 (λ at. simple_goal p ps homes slots.apart (slots_only homes slots) made_now all long at i (goal_at p i) a.0 own writable k.1 a.2))
+
+pub all_written : (p : FlatProgram) (b : Base) (homes : List Register) (at : ℕ) (old now : List Code) (from i to : ℕ) → to ≤ i → Written p b homes at old now from i to → Appends old now (λ is. IsGoalsCode b homes true at is (goals_between p from to))
+all_written p b homes at old now from i to l w =
+    let e : w.done ≡ goals_between p from to = sym (append-nil w.done) ∙ ap (λ gs. w.done ++ gs) (sym (between_none p i to l)) ∙ sym w.whole in
+    (w.js, w.code, subst (IsGoalsCode b homes true at w.js) e w.goals)
+
+-- ---- a clause
+
+module _ (p : FlatProgram) (ps : List Predicate) (homes : List Register) (c : ℕ) (order : InOrder homes (clause_at p c).variables) (known : Known p c) (start : ℕ) (old head goals new : List Code) where
+  abbrev t : Term
+  t = term_of p.pool (clause_at p c).head
+
+  abbrev begun : List Code
+  begun = begin_code p.pool homes (clause_at p c).variables t
+
+  abbrev Goals : ℕ → ℕ → Type 0
+  Goals from to = (at : ℕ) → Appends head goals (λ js. IsGoalsCode (base_in p ps) homes true at js (goals_between p from to))
+
+  joined : (js ks : List Code) (i : Code) → head ≡ old ++ begun → goals ≡ head ++ js → new ≡ goals ++ (ks ++ (i ∷ [])) → new ≡ old ++ ((begun ++ js) ++ (ks ++ (i ∷ [])))
+  joined js ks i e f g =
+      g
+      ∙ ap (λ l. l ++ (ks ++ (i ∷ []))) (f ∙ ap (λ l. l ++ js) e ∙ append_assoc old begun js)
+      ∙ append_assoc old (begun ++ js) (ks ++ (i ∷ []))
+
+  pub clause_proceeds : (from to : ℕ) → goals_between p from to ≡ (clause_in p (clause_at p c)).body → head ≡ old ++ begun → Goals from to → new ≡ goals ++ (Deallocate ∷ Proceed ∷ [])
+      → Appends old new (λ is. IsClauseCode (base_in p ps) (start + length old) is (clause_in p (clause_at p c)))
+  clause_proceeds from to body e f g =
+      let at : ℕ = start + length old in
+      let w = f (past at begun) in
+      let b : Base = base_in p ps in (
+        (begun ++ w.0) ++ (back true ++ (Proceed ∷ [])),
+        joined w.0 (back true) Proceed e w.1 g,
+        assembled p ps homes at c w.0 (back true) Proceed (goals_between p from to) [] order known (sym body ∙ sym (append-nil (goals_between p from to))) w.2 (tail_proceed b homes true (past at (begun ++ w.0))),
+      )
+
+  pub clause_executes : (from to : ℕ) (u : TermId) (made_now : List Bool) → IsProgram p → from < to → to ≤ length p.goals → goal_at p (to - 1) ≡ flat.Call u → Suits p.pool (length homes) (term_of p.pool u) → AreMade made_now → length made_now ≡ length homes
+      → goals_between p from to ≡ (clause_in p (clause_at p c)).body → head ≡ old ++ begun → Goals from (to - 1) → Executes p.pool ps homes made_now u goals new
+      → Appends old new (λ is. IsClauseCode (base_in p ps) (start + length old) is (clause_in p (clause_at p c)))
+  clause_executes from to u made_now valid l m last suits all long body e f x =
+      let at : ℕ = start + length old in
+      let w = f (past at begun) in
+      let b : Base = base_in p ps in
+      let us : Terms = arguments (term_of p.pool u) in
+      let s : Predicate = x.of.0 in
+      let only = in_order_only homes (clause_at p c).variables order in
+      let fine : Fine b homes (suc (count us)) us = record { suit = arguments_suit p.pool (length homes) (term_of p.pool u) suits; below = omega arith; first = λ j l m y k i. only y k j i; clear = λ j l y k i. only y k j i } in
+      let apart : AreApart homes = (in_order_housed homes (clause_at p c).variables 0 order).apart in
+      let ks : List Code = code_of homes made_now (puts p.pool 1 (suc (count us)) us) ++ back true in
+      let tail : Tail b homes true (past at (begun ++ w.0)) ks (Execute x.number) (model.Call (made (atom_name p.pool s.name) us) ∷ []) =
+      tail_execute b homes apart true made_now (suc (count us)) (past at (begun ++ w.0)) (λ y k. all y) long x.number s us x.of.1 x.of.2.arity (slice_get_within ps x.number s x.of.1) fine in
+      let same : goal_in p (goal_at p (to - 1)) ≡ model.Call (made (atom_name p.pool s.name) us) = ap (goal_in p) last ∙ ap (λ v. model.Call v) x.of.2.name in (
+        (begun ++ w.0) ++ (ks ++ (Execute x.number ∷ [])),
+        joined w.0 ks (Execute x.number) e w.1 x.code,
+        assembled p ps homes at c w.0 ks (Execute x.number) (goals_between p from (to - 1)) (model.Call (made (atom_name p.pool s.name) us) ∷ []) order known
+            (sym body ∙ last_goal p valid from to l m ∙ ap (λ g. goals_between p from (to - 1) ++ (g ∷ [])) same) w.2 tail,
+      )

@@ -1,0 +1,5 @@
+use Rattle.clause_code.specs.Whole.{InOrder}
+use Rattle.clause_code.proofs.clause.slot_homes.Given as goal
+
+abbrev pub invariant-loop-x : goal.invariant-loop-x
+invariant-loop-x l = InOrder l.homes.items l.x

@@ -1,0 +1,5 @@
+use Rattle.clause_code.proofs.Restating.{does_move}
+use Rattle.clause_code.proofs.laws.any_order.Goals as goal
+
+pub returns : goal.returns
+returns c = does_move

@@ -1,0 +1,5 @@
+use Rattle.clause_code.proofs.Restating.{does_split}
+use Rattle.clause_code.proofs.laws.parts_apart.Goals as goal
+
+pub returns : goal.returns
+returns c = does_split

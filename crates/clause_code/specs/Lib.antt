@@ -1,0 +1,15 @@
+pub mod Pieces
+pub mod Having
+pub mod Splitting
+pub mod Trying
+pub mod Laws
+pub mod Homes
+pub mod Safe
+pub mod Codable
+pub mod Predicates
+pub mod Steps
+pub mod Flowing
+pub mod Bodies
+pub mod Whole
+pub mod Works
+pub mod Simple

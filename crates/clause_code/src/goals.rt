@@ -1,0 +1,267 @@
+//! The code of goals.
+ghost use Rattle.std.specs.Prelude.{◌≡◌, ℕ, ◌+◌, ◌<◌, ◌≤◌, true, [], ◌∷◌, ◌++◌, length, map, All, OnOk};
+ghost use Rattle.fd_model.specs.Sound.{EachBelow};
+ghost use Rattle.fd_language.specs.Term.{term};
+ghost use Rattle.fd_model.specs.Constraining.{arguments};
+ghost use Rattle.range_code.specs.Slots.{slots_of};
+ghost use Rattle.term_pool.specs.Terms.{term_of, terms_by};
+ghost use Rattle.clause_check.specs.Programs.{goals_between, range_at};
+ghost use Rattle.wam_code.specs.declared.instruction.Code.TheVariants.{PostRange};
+ghost use Rattle.clause_code.specs.Bodies.{IsGoalsCode};
+ghost use Rattle.clause_code.specs.Codable.{EachCodable};
+ghost use Rattle.clause_code.specs.Predicates.{Appends, base_in};
+ghost use Rattle.clause_code.specs.Simple.{variables, loads, AreMade, CallWritten, GoalWritten, IsOwn, IsWritable};
+ghost use Rattle.clause_code.specs.Steps.{puts, AllSuit};
+ghost use Rattle.clause_code.specs.Whole.{AreSlots, Executes};
+ghost use Rattle.clause_code.specs.Works.{Writes};
+
+use crate::predicates::Predicates;
+use crate::terms::{Work, put, put_all, put_variable};
+use clause_check::{FlatGoal, Program};
+use fd_language::NoMemory;
+use fd_model::kinds::BuiltinKind;
+use range_code::RangeCode;
+use std::rc::Rc;
+use term_pool::{Node, Pool, TermId};
+use wam_code::{Code, Register};
+
+/// The arguments into the first registers, and then the instruction.
+fn load(
+    pool: &Pool,
+    homes: &[Register],
+    made: &mut Vec<bool>,
+    code: &mut Vec<Code>,
+    works: &mut Vec<Work>,
+    ids: &[TermId],
+    last: Code,
+) -> Result<(), NoMemory>
+    requires own { All (λ t. t.number < length pool.now.entries) ids.now }
+    requires few { length ids.now ≤ 255 }
+    requires suits { AllSuit pool.now (length homes.now) (terms_by (term_of pool.now) ids.now) }
+    requires long { length made.old.items ≡ length homes.now }
+    requires made { AreMade made.old.items }
+    requires works { works.old.items ≡ [] }
+    ensures code { OnOk result (code.new.items ≡ code.old.items
+        ++ loads pool.now homes.now made.old.items (terms_by (term_of pool.now) ids.now) last) }
+    ensures made { OnOk result (made.new.items ≡ made.old.items) }
+    ensures works { OnOk result (works.new.items ≡ []) }
+{
+    put_all(pool, homes, made, code, works, ids, ids.len() + 1)?;
+    code.push(last)?;
+    Ok(())
+}
+
+/// The variables into the registers from 2 on.
+fn load_slots(
+    pool: &Pool,
+    homes: &[Register],
+    made: &mut Vec<bool>,
+    code: &mut Vec<Code>,
+    slots: &[u64],
+    free: usize,
+) -> Result<(), NoMemory>
+    requires slots { All (λ y. y < length homes.now) slots.now }
+    requires long { length made.old.items ≡ length homes.now }
+    requires free { length slots.now + 2 ≡ free }
+    ensures { OnOk result (Writes homes.now code.old.items made.old.items
+        (puts pool.now 2 free (variables slots.now)) code.new.items made.new.items) }
+{
+    let mut register = 2;
+    for slot in slots {
+        put_variable(homes, made, code, *slot as usize, register)?;
+        register += 1;
+    }
+    Ok(())
+}
+
+/// The variables of a range, by their slots.
+fn slots_at<'r>(program: &Program, ranges: &'r [Rc<RangeCode>], r: usize) -> &'r [u64]
+    requires within { r < length program.now.ranges }
+    requires ranges { map (λ r. r.value) ranges.now ≡ program.now.ranges }
+    ensures { result.now ≡ slots_of (range_at program.now r) }
+{
+    ranges[r].slots()
+}
+
+/// The range r and its target: the target into the first register, the range's variables into those behind it.
+fn post(
+    pool: &Pool,
+    slots: &[u64],
+    homes: &[Register],
+    made: &mut Vec<bool>,
+    code: &mut Vec<Code>,
+    works: &mut Vec<Work>,
+    t: TermId,
+    r: usize,
+) -> Result<(), NoMemory>
+    requires target { IsOwn pool.now (length homes.now) t }
+    requires slots { All (λ y. y < length homes.now) slots.now }
+    requires long { length made.old.items ≡ length homes.now }
+    requires made { AreMade made.old.items }
+    requires works { works.old.items ≡ [] }
+    ensures code { OnOk result (code.new.items ≡ code.old.items
+        ++ loads pool.now homes.now made.old.items (term (term_of pool.now t) (variables slots.now))
+        (PostRange r (length slots.now + 1))) }
+    ensures made { OnOk result (made.new.items ≡ made.old.items) }
+    ensures works { OnOk result (works.new.items ≡ []) }
+{
+    put(pool, homes, made, code, works, t, 1, slots.len() + 2)?;
+    load_slots(pool, homes, made, code, slots, slots.len() + 2)?;
+    code.push(Code::PostRange(r, slots.len() + 1))?;
+    Ok(())
+}
+
+/// The arguments of a goal into the first registers, and then the instruction.
+fn load_arguments(
+    pool: &Pool,
+    homes: &[Register],
+    made: &mut Vec<bool>,
+    code: &mut Vec<Code>,
+    works: &mut Vec<Work>,
+    t: TermId,
+    last: Code,
+) -> Result<(), NoMemory>
+    requires own { IsOwn pool.now (length homes.now) t }
+    requires long { length made.old.items ≡ length homes.now }
+    requires made { AreMade made.old.items }
+    requires works { works.old.items ≡ [] }
+    ensures code { OnOk result (code.new.items ≡ code.old.items
+        ++ loads pool.now homes.now made.old.items (arguments (term_of pool.now t)) last) }
+    ensures made { OnOk result (made.new.items ≡ made.old.items) }
+    ensures works { OnOk result (works.new.items ≡ []) }
+{
+    match pool.view(t) {
+        Node::Comp(_, parts) => load(pool, homes, made, code, works, parts, last),
+        _ => load(pool, homes, made, code, works, &[], last),
+    }
+}
+
+/// A user goal that isn't the last one.
+fn call(
+    pool: &Pool,
+    predicates: &Predicates,
+    homes: &[Register],
+    made: &mut Vec<bool>,
+    code: &mut Vec<Code>,
+    works: &mut Vec<Work>,
+    t: TermId,
+) -> Result<(), NoMemory>
+    requires own { IsOwn pool.now (length homes.now) t }
+    requires long { length made.old.items ≡ length homes.now }
+    requires made { AreMade made.old.items }
+    requires works { works.old.items ≡ [] }
+    ensures code { OnOk result (CallWritten pool.now predicates.now homes.now made.old.items t
+        code.old.items code.new.items) }
+    ensures made { OnOk result (made.new.items ≡ made.old.items) }
+    ensures works { OnOk result (works.new.items ≡ []) }
+{
+    let number = predicates.number_of_goal(pool, t).ok_or(NoMemory)?;
+    load_arguments(pool, homes, made, code, works, t, Code::Call(number))?;
+    Ok(())
+}
+
+/// A user goal that ends its clause.
+pub(crate) fn execute(
+    pool: &Pool,
+    predicates: &Predicates,
+    homes: &[Register],
+    made: &mut Vec<bool>,
+    code: &mut Vec<Code>,
+    works: &mut Vec<Work>,
+    t: TermId,
+) -> Result<(), NoMemory>
+    requires own { IsOwn pool.now (length homes.now) t }
+    requires long { length made.old.items ≡ length homes.now }
+    requires made { AreMade made.old.items }
+    requires works { works.old.items ≡ [] }
+    ensures { OnOk result (Executes pool.now predicates.now homes.now made.old.items t
+        code.old.items code.new.items) }
+{
+    let number = predicates.number_of_goal(pool, t).ok_or(NoMemory)?;
+    load_arguments(pool, homes, made, code, works, t, Code::Deallocate)?;
+    code.push(Code::Execute(number))?;
+    Ok(())
+}
+
+/// A goal. There is no code for an `A ; B` yet: the answer is then want of memory.
+fn write_goal(
+    program: &Program,
+    ranges: &[Rc<RangeCode>],
+    predicates: &Predicates,
+    homes: &[Register],
+    made: &mut Vec<bool>,
+    code: &mut Vec<Code>,
+    works: &mut Vec<Work>,
+    goal: FlatGoal,
+) -> Result<(), NoMemory>
+    requires writable { IsWritable program.now (length homes.now) goal }
+    requires ranges { map (λ r. r.value) ranges.now ≡ program.now.ranges }
+    requires long { length made.old.items ≡ length homes.now }
+    requires made { AreMade made.old.items }
+    requires works { works.old.items ≡ [] }
+    ensures code { OnOk result (GoalWritten program.now predicates.now homes.now made.old.items goal
+        code.old.items code.new.items) }
+    ensures made { OnOk result (made.new.items ≡ made.old.items) }
+    ensures works { OnOk result (works.new.items ≡ []) }
+{
+    let pool = program.pool();
+    match goal {
+        FlatGoal::True => code.push(Code::Builtin(BuiltinKind::True))?,
+        FlatGoal::Fail => code.push(Code::Builtin(BuiltinKind::Fail))?,
+        FlatGoal::Unify(s, t) => {
+            let last = Code::Builtin(BuiltinKind::Unify);
+            load(pool, homes, made, code, works, &[s, t], last)?;
+        }
+        FlatGoal::Post(t, r) => {
+            let slots = slots_at(program, ranges, r);
+            post(pool, slots, homes, made, code, works, t, r)?;
+        }
+        FlatGoal::Constrain(kind, t) => {
+            load_arguments(pool, homes, made, code, works, t, Code::Constrain(kind))?;
+        }
+        FlatGoal::Label(order, t) => {
+            load(pool, homes, made, code, works, &[t], Code::Label(order))?;
+        }
+        FlatGoal::Call(t) => call(pool, predicates, homes, made, code, works, t)?,
+        FlatGoal::Builtin(kind, t) => {
+            load_arguments(pool, homes, made, code, works, t, Code::Builtin(kind))?;
+        }
+        FlatGoal::Either(_, _) => return Err(NoMemory),
+    }
+    Ok(())
+}
+
+/// The goals with the numbers from `from` on, before `to`.
+pub(crate) fn write_goals(
+    program: &Program,
+    ranges: &[Rc<RangeCode>],
+    predicates: &Predicates,
+    homes: &[Register],
+    made: &mut Vec<bool>,
+    code: &mut Vec<Code>,
+    works: &mut Vec<Work>,
+    from: usize,
+    to: usize,
+) -> Result<(), NoMemory>
+    requires within { to ≤ length program.now.goals }
+    requires ordered { from ≤ to }
+    requires below { EachBelow (length homes.now) (goals_between program.now from to) }
+    requires codable { EachCodable (goals_between program.now from to) }
+    requires ranges { map (λ r. r.value) ranges.now ≡ program.now.ranges }
+    requires homes { AreSlots homes.now }
+    requires long { length made.old.items ≡ length homes.now }
+    requires made { AreMade made.old.items }
+    requires works { works.old.items ≡ [] }
+    ensures code { OnOk result ((at : ℕ) → Appends code.old.items code.new.items
+        (λ is. IsGoalsCode (base_in program.now predicates.now) homes.now true at is
+        (goals_between program.now from to))) }
+    ensures made { OnOk result (made.new.items ≡ made.old.items) }
+    ensures works { OnOk result (works.new.items ≡ []) }
+{
+    program.known();
+    for i in from..to {
+        let goal = program.goal(i);
+        write_goal(program, ranges, predicates, homes, made, code, works, goal)?;
+    }
+    Ok(())
+}

@@ -1,0 +1,344 @@
+-- From the pieces of a program's code to all of it.
+use Rattle.std.proofs.Common.{◌≡◌, ℕ, zero, suc, ◌+◌, ◌<◌, List, [], ◌∷◌, ◌++◌, Some, option_map, map, filter, take, drop, length, get_or, slice_get, All, ◌≤◌, append_assoc, refl, ap, ap₂, sym, ◌∙◌, subst, inl, arith}
+use Rattle.std.specs.List.{range_with_len}
+use Rattle.std.proofs.Math.Seq.{take-append_seam, drop-append_seam}
+use Rattle.std.proofs.lemmas.List.{length-append, length-map}
+use Rattle.std.proofs.lemmas.Option.{slice_get_within, slice_get-get_or, slice_get-map, get_or_from_slice_get}
+use Rattle.fd_language.specs.Term.{Terms}
+use Rattle.fd_language.specs.Range.{Range}
+use Rattle.fd_model.specs.Goal.{Clause, Query, Program}
+use Rattle.fd_model.specs.Children.{fits_head}
+use Rattle.term_pool.specs.Contents.{atom_name}
+use Rattle.clause_check.specs.Programs.{FlatProgram, clause_at, query_at, clause_in, query_in, program_in, no_clause, no_query, IsProgram}
+use Rattle.wam_code.specs.declared.instruction.Code.{Code}
+use Rattle.wam_code.specs.declared.instruction.Code.TheVariants.{Jump, FailNow, Try, Retry, Trust}
+use Rattle.wam_code.specs.declared.parts.Entry.{Entry}
+use Rattle.wam_code.specs.Area.{Area, Span, Holds, HasEntry, HasQuery, name_of}
+use Rattle.wam_code.specs.Verified.{IsAtom}
+use Rattle.wam_code.specs.Places.{count, made}
+use Rattle.wam_code.specs.Tries.{Thinned, IsPredicate}
+use Rattle.clause_code.specs.Pieces.{Predicate, predicate_of, base_of, Stand}
+use Rattle.clause_code.specs.Predicates.{ArePredicates, base_in, predicate_at, no_predicate}
+use Rattle.clause_code.specs.Safe.{IsClauseCode, IsQueryPiece}
+use Rattle.clause_code.specs.Trying.{rest_of_list, list_of}
+use Rattle.clause_code.proofs.Trying.{list_tries}
+use Rattle.clause_compiler.specs.Groups.{head_predicate, is_predicate, numbers_of}
+use Rattle.clause_compiler.specs.Layout.{joined, offset, AreChoicesOf, BeginsClause, IsSpanOf, IsLaidOut}
+use Rattle.clause_compiler.specs.Sections.{ArePut, its_place, IsClausePiece, its_span, IsQueryOf, its_entry, IsListOf, place_in, placed_code, IsNumbered}
+use Rattle.clause_compiler.proofs.Lists.{get_there, find_joined, get_left, get_right, get_joined, same_offset, same_length}
+use Rattle.clause_compiler.proofs.Placing.{piece_some}
+use Rattle.clause_compiler.proofs.Listing.{Each, list_choices}
+use Rattle.clause_compiler.proofs.Trying.{Enters, thinned_by, each_tries}
+use Rattle.clause_compiler.proofs.Fitting.{is_number, fits_predicate, head_arity}
+
+-- ---- lists
+same_lists : {X : Type 0} (xs ys : List X) → length xs ≡ length ys → ((k : ℕ) (x : X) → slice_get ys k ≡ Some x → slice_get xs k ≡ Some x) → xs ≡ ys
+same_lists [] [] e h = refl
+same_lists [] (y ∷ ys) e h = absurd (omega (arith, e))
+same_lists (x ∷ xs) [] e h = absurd (omega (arith, e))
+same_lists (x ∷ xs) (y ∷ ys) e h =
+    let f : Some x ≡ Some y = h 0 y refl in
+    let one : x ≡ y = cc in
+    ap₂ (λ z zs. z ∷ zs) one (same_lists xs ys (omega (arith, e)) (λ k. h (suc k)))
+
+map_joined : {X Y : Type 0} (f : X → Y) (xss : List (List X)) → map f (joined xss) ≡ joined (map (map f) xss)
+map_joined f [] = refl
+map_joined f (xs ∷ xss) = map_two f xs (joined xss) ∙ ap (λ l. map f xs ++ l) (map_joined f xss)
+  where
+    map_two : {X Y : Type 0} (f : X → Y) (xs ys : List X) → map f (xs ++ ys) ≡ map f xs ++ map f ys
+    map_two f [] ys = refl
+    map_two f (x ∷ xs) ys = ap (λ l. f x ∷ l) (map_two f xs ys)
+
+got_map : {X Y : Type 0} (f : X → Y) (xs : List X) (k : ℕ) (y : Y) → slice_get (map f xs) k ≡ Some y → (x : X) × (slice_get xs k ≡ Some x) × (y ≡ f x)
+got_map f [] k y e = absurd cc
+got_map f (x ∷ xs) zero y e = (x, refl, (let s : y ≡ f x = cc in s))
+got_map f (x ∷ xs) (suc k) y e = got_map f xs k y e
+
+same_some : {A : Type 0} (o : List A) (k : ℕ) (x y : A) → slice_get o k ≡ Some x → slice_get o k ≡ Some y → x ≡ y
+same_some o k x y e f = let g : Some x ≡ Some y = sym e ∙ f in cc
+
+-- the places in place of the numbers
+module _ (places : List ℕ) where
+  placed_rest : (l : ℕ) (ls : List ℕ) → map (placed_code places) (rest_of_list (l ∷ ls)) ≡ rest_of_list (map (place_in places) (l ∷ ls))
+  placed_rest l [] = refl
+  placed_rest l (k ∷ ls) = ap (λ is. Retry (place_in places l) ∷ is) (placed_rest k ls)
+
+  placed_list : (ls : List ℕ) → map (placed_code places) (list_of ls) ≡ list_of (map (place_in places) ls)
+  placed_list [] = refl
+  placed_list (l ∷ []) = refl
+  placed_list (l ∷ k ∷ ls) = ap (λ is. Try (place_in places l) ∷ is) (placed_rest k ls)
+
+-- the numbers in a list of choices
+module _ (many : ℕ) where
+  rest_numbered : (l : ℕ) (ls : List ℕ) → ((k n : ℕ) → slice_get (l ∷ ls) k ≡ Some n → n < many) → (n : ℕ) (i : Code) → slice_get (rest_of_list (l ∷ ls)) n ≡ Some i → IsNumbered many i
+  rest_numbered l [] h zero i e = let s : Trust l ≡ i = cc in subst (IsNumbered many) s (h 0 l refl)
+  rest_numbered l [] h (suc n) i e = absurd cc
+  rest_numbered l (k ∷ ls) h zero i e = let s : Retry l ≡ i = cc in subst (IsNumbered many) s (h 0 l refl)
+  rest_numbered l (k ∷ ls) h (suc n) i e = rest_numbered k ls (λ j. h (suc j)) n i e
+
+  list_numbered : (ls : List ℕ) → ((k n : ℕ) → slice_get ls k ≡ Some n → n < many) → (n : ℕ) (i : Code) → slice_get (list_of ls) n ≡ Some i → IsNumbered many i
+  list_numbered [] h zero i e = let s : FailNow ≡ i = cc in subst (IsNumbered many) s tt
+  list_numbered [] h (suc n) i e = absurd cc
+  list_numbered (l ∷ []) h zero i e = let s : Jump l ≡ i = cc in subst (IsNumbered many) s (h 0 l refl)
+  list_numbered (l ∷ []) h (suc n) i e = absurd cc
+  list_numbered (l ∷ k ∷ ls) h zero i e = let s : Try l ≡ i = cc in subst (IsNumbered many) s (h 0 l refl)
+  list_numbered (l ∷ k ∷ ls) h (suc n) i e = rest_numbered k ls (λ j. h (suc j)) n i e
+
+each_of : (P : ℕ → Type 0) (f : ℕ → ℕ) (ns : List ℕ) → ((k n : ℕ) → slice_get ns k ≡ Some n → P (f n)) → Each P (map f ns)
+each_of P f [] h = tt
+each_of P f (n ∷ ns) h = (h 0 n refl, each_of P f ns (λ k. h (suc k)))
+
+pub stand_at : (a : Area) (at : ℕ) (is : List Code) → ((n : ℕ) (i : Code) → slice_get is n ≡ Some i → Holds a (at + n) i) → Stand a at is
+stand_at a at [] h = tt
+stand_at a at (i ∷ is) h =
+    (subst (λ o. Holds a o i) (let e : at + 0 ≡ at = omega arith in e) (h 0 i refl), stand_at a (suc at) is (λ n j e. subst (λ o. Holds a o j) (let g : at + suc n ≡ suc at + n = omega arith in g) (h (suc n) j e)))
+
+module _ (p : FlatProgram) (v : IsProgram p) (ps : List Predicate) (w : ArePredicates p ps) (raw mid whole : List Code) (entries : List Entry) (places : List ℕ) (spans : List Span)
+    (hc : ArePut (its_entry ps) (IsListOf p ps) (length ps) [] raw entries) (hl : ArePut its_place (IsClausePiece p ps) (length p.clauses) raw mid places) (hq : ArePut (its_span p) (IsQueryOf p ps) (length p.queries) mid whole spans) where
+  -- ---- the code
+  abbrev pub code : List Code
+  code = map (placed_code places) (take (length raw) whole) ++ drop (length raw) whole
+
+  abbrev pub area : Area
+  area = record { pool = p.pool; code = code; tables = []; ranges = p.ranges; entries = entries; queries = spans }
+
+  abbrev prog : Program
+  prog = program_in p
+
+  abbrev choices : List (List Code)
+  choices = map (map (placed_code places)) hc.pieces
+
+  whole_is : whole ≡ raw ++ (joined hl.pieces ++ joined hq.pieces)
+  whole_is = hq.code ∙ ap (λ l. l ++ joined hq.pieces) hl.code ∙ append_three raw (joined hl.pieces) (joined hq.pieces)
+    where
+      append_three : (xs ys zs : List Code) → (xs ++ ys) ++ zs ≡ xs ++ (ys ++ zs)
+      append_three [] ys zs = refl
+      append_three (x ∷ xs) ys zs = ap (λ l. x ∷ l) (append_three xs ys zs)
+
+  code_is : code ≡ joined choices ++ (joined hl.pieces ++ joined hq.pieces)
+  code_is =
+      ap (λ l. map (placed_code places) (take (length raw) l) ++ drop (length raw) l) whole_is
+      ∙ ap₂ (λ l m. map (placed_code places) l ++ m) (take-append_seam raw (joined hl.pieces ++ joined hq.pieces)) (drop-append_seam raw (joined hl.pieces ++ joined hq.pieces))
+      ∙ ap (λ l. map (placed_code places) l ++ (joined hl.pieces ++ joined hq.pieces)) hc.code
+      ∙ ap (λ l. l ++ (joined hl.pieces ++ joined hq.pieces)) (map_joined (placed_code places) hc.pieces)
+
+  many_choices : length choices ≡ length hc.pieces
+  many_choices = length-map hc.pieces (map (placed_code places))
+
+  size_same : (k : ℕ) (xs ys : List Code) → slice_get hc.pieces k ≡ Some xs → slice_get choices k ≡ Some ys → length ys ≡ length xs
+  size_same k xs ys e f =
+      let g = got_map (map (placed_code places)) hc.pieces k ys f in
+      ap length g.2 ∙ length-map g.0 (placed_code places) ∙ ap length (same_some hc.pieces k g.0 xs g.1 e)
+
+  -- the clauses begin behind the choices
+  from_is : length (joined choices) ≡ length raw
+  from_is = same_length hc.pieces choices many_choices size_same ∙ sym (ap length hc.code)
+
+  -- ---- entries
+  entry_is : (k : ℕ) (e : Entry) (is : List Code) → HasEntry area k e → slice_get choices k ≡ Some is → (e ≡ its_entry ps k (offset choices k) is) × (is ≡ list_of (map (place_in places) (numbers_of p (length p.clauses) (predicate_at ps k))))
+  entry_is k e is h f =
+      let g = got_map (map (placed_code places)) hc.pieces k is f in
+      let same = same_some entries k e (its_entry ps k (0 + offset hc.pieces k) g.0) h (hc.each k g.0 g.1) in
+      let place : 0 + offset hc.pieces k ≡ offset choices k = (let o = same_offset hc.pieces choices many_choices size_same k in omega (arith, o)) in
+      (same ∙ ap (λ o. its_entry ps k o is) place, g.2 ∙ ap (map (placed_code places)) (hc.piece k g.0 g.1) ∙ placed_list places (numbers_of p (length p.clauses) (predicate_at ps k)))
+
+  piece_there : (k : ℕ) (e : Entry) → HasEntry area k e → (is : List Code) × (slice_get choices k ≡ Some is)
+  piece_there k e h = get_there choices k (let b = slice_get_within entries k e h in let m = many_choices in let s = hc.size in let t = hc.many in omega (arith, b, m, s, t))
+
+  number_within : (k : ℕ) (e : Entry) → HasEntry area k e → k < length ps
+  number_within k e h = let b = slice_get_within entries k e h in let s = hc.size in omega (arith, b, s)
+
+  base_is : base_of area ≡ base_in p ps
+  base_is = ap (λ l. record { pool = p.pool; ranges = p.ranges; predicates = l }) (same_lists (map predicate_of entries) ps (length-map entries predicate_of ∙ hc.size) each)
+    where
+      each : (k : ℕ) (s : Predicate) → slice_get ps k ≡ Some s → slice_get (map predicate_of entries) k ≡ Some s
+      each k s e =
+          let b = slice_get_within ps k s e in
+          let m = hc.many in
+          let is = get_there hc.pieces k (omega (arith, b, m)) in
+          slice_get-map predicate_of entries k ∙ ap (λ o. option_map predicate_of o) (hc.each k is.0 is.1) ∙ ap (λ x. Some x) (get_or_from_slice_get ps k s no_predicate e)
+
+  -- ---- clauses
+  abbrev clause : ℕ → Clause
+  clause n = clause_in p (clause_at p n)
+
+  clause_there : (n : ℕ) → n < length p.clauses → slice_get prog.clauses n ≡ Some (clause n)
+  clause_there n l = slice_get-map (clause_in p) p.clauses n ∙ ap (λ o. option_map (clause_in p) o) (slice_get-get_or p.clauses n no_clause l)
+
+  clause_is : (n : ℕ) (c : Clause) → slice_get prog.clauses n ≡ Some c → (n < length p.clauses) × (c ≡ clause n)
+  clause_is n c e =
+      let b = slice_get_within prog.clauses n c e in
+      let m = length-map p.clauses (clause_in p) in
+      let l : n < length p.clauses = omega (arith, b, m) in
+      (l, same_some prog.clauses n c (clause n) e (clause_there n l))
+
+  clause_code : (n : ℕ) (is : List Code) → slice_get hl.pieces n ≡ Some is → IsClauseCode (base_of area) (length (joined choices) + offset hl.pieces n) is (clause n)
+  clause_code n is e =
+      subst (λ b. IsClauseCode b (length (joined choices) + offset hl.pieces n) is (clause n)) (sym base_is) (subst (λ m. IsClauseCode (base_in p ps) (m + offset hl.pieces n) is (clause n)) (sym from_is) (hl.piece n is e))
+
+  place_is : (n : ℕ) (is : List Code) → slice_get hl.pieces n ≡ Some is → place_in places n ≡ length (joined choices) + offset hl.pieces n
+  place_is n is e = get_or_from_slice_get places n (length raw + offset hl.pieces n) 0 (hl.each n is e) ∙ ap (λ m. m + offset hl.pieces n) (sym from_is)
+
+  clause_holds : (n m : ℕ) (is : List Code) (i : Code) → slice_get hl.pieces n ≡ Some is → slice_get is m ≡ Some i → Holds area ((length (joined choices) + offset hl.pieces n) + m) i
+  clause_holds n m is i f g =
+      ap (λ c. slice_get c ((length (joined choices) + offset hl.pieces n) + m)) code_is
+      ∙ ap (slice_get (joined choices ++ (joined hl.pieces ++ joined hq.pieces))) (let e : (length (joined choices) + offset hl.pieces n) + m ≡ length (joined choices) + (offset hl.pieces n + m) = omega arith in e)
+      ∙ get_right (joined choices) (joined hl.pieces ++ joined hq.pieces) (offset hl.pieces n + m)
+      ∙ get_left (joined hl.pieces) (joined hq.pieces) (offset hl.pieces n + m) i (get_joined hl.pieces n m is i f g)
+
+  clause_piece : (n : ℕ) → n < length p.clauses → (is : List Code) × (slice_get hl.pieces n ≡ Some is)
+  clause_piece n l = get_there hl.pieces n (let m = hl.many in omega (arith, l, m))
+
+  enters : (n : ℕ) → n < length p.clauses → Enters area (place_in places n) (clause n)
+  enters n l =
+      let is = clause_piece n l in
+      let c = clause_code n is.0 is.1 in
+      let at = length (joined choices) + offset hl.pieces n in
+      let some = piece_some area at is.0 c.states c.first c.safe in
+      let i = get_there is.0 0 some in
+      let place : at + 0 ≡ at = omega arith in
+      subst (λ o. Enters area o (clause n)) (sym (place_is n is.0 is.1)) (i.0, subst (λ o. Holds area o i.0) place (clause_holds n 0 is.0 i.0 is.1 i.1), c.enters i.0 i.1, c.means area refl (stand_at area at is.0 (λ m j e. clause_holds n m is.0 j is.1 e)))
+
+  -- ---- choices
+  choice_safe : (k : ℕ) (e : Entry) (is : List Code) → HasEntry area k e → slice_get choices k ≡ Some is → AreChoicesOf area (BeginsClause prog.clauses (length (joined choices)) hl.pieces e.arity) e.at e.arity is
+  choice_safe k e is h f =
+      let x = entry_is k e is h f in
+      subst (AreChoicesOf area (BeginsClause prog.clauses (length (joined choices)) hl.pieces e.arity) e.at e.arity) (sym x.1)
+      (list_choices area (BeginsClause prog.clauses (length (joined choices)) hl.pieces e.arity) e.at e.arity (map (place_in places) (numbers_of p (length p.clauses) (predicate_at ps k)))
+      (each_of (BeginsClause prog.clauses (length (joined choices)) hl.pieces e.arity) (place_in places) (numbers_of p (length p.clauses) (predicate_at ps k)) begins))
+    where
+      begins : (j n : ℕ) → slice_get (numbers_of p (length p.clauses) (predicate_at ps k)) j ≡ Some n → BeginsClause prog.clauses (length (joined choices)) hl.pieces e.arity (place_in places n)
+      begins j n g =
+          let num = is_number p (length p.clauses) j n (predicate_at ps k) g in
+          let piece = clause_piece n num.0 in
+          let own = ap (λ (y : Entry). y.arity) (entry_is k e is h f).0 in
+          (n, clause n, clause_there n num.0, head_arity p v ps w n num.0 (predicate_at ps k) num.1 ∙ sym own, place_is n piece.0 piece.1)
+
+  choice_holds : (k n : ℕ) (is : List Code) (i : Code) → slice_get choices k ≡ Some is → slice_get is n ≡ Some i → Holds area (offset choices k + n) i
+  choice_holds k n is i f g = ap (λ c. slice_get c (offset choices k + n)) code_is ∙ get_left (joined choices) (joined hl.pieces ++ joined hq.pieces) (offset choices k + n) i (get_joined choices k n is i f g)
+
+  choice_means : (k : ℕ) (e : Entry) → HasEntry area k e → IsPredicate area prog e
+  choice_means k e h ts s size =
+      let piece = piece_there k e h in
+      let x = entry_is k e piece.0 h piece.1 in
+      let pred = predicate_at ps k in
+      let ns = numbers_of p (length p.clauses) pred in
+      let place : e.at ≡ offset choices k = ap (λ (y : Entry). y.at) x.0 in
+      let arity : count ts ≡ pred.arity = size ∙ ap (λ (y : Entry). y.arity) x.0 in
+      let name : name_of area e.name ≡ atom_name p.pool pred.name = ap (λ (y : Entry). atom_name p.pool y.name) x.0 in
+      let own : pred.name.number < length p.pool.names = w.atoms k pred (slice_get-get_or ps k no_predicate (number_within k e h)) in
+      let stand = subst (Stand area (offset choices k)) x.1 (stand_at area (offset choices k) piece.0 (λ n i g. choice_holds k n piece.0 i piece.1 g)) in (
+        map clause ns,
+        subst (λ y. Thinned s (made y ts) prog.clauses (map clause ns)) (sym name) (thin pred ts own arity),
+        list_tries area s (map (place_in places) ns) (map clause ns) e.at (each_tries area s (place_in places) clause ns (λ n j g. enters n (is_number p (length p.clauses) j n pred g).0)) (subst (λ o. Stand area o (list_of (map (place_in places) ns))) (sym place) stand),
+      )
+    where
+      thin : (pred : Predicate) (ts : Terms) → pred.name.number < length p.pool.names → count ts ≡ pred.arity → Thinned s (made (atom_name p.pool pred.name) ts) prog.clauses (map clause (numbers_of p (length p.clauses) pred))
+      thin pred ts own arity =
+          subst (λ n. Thinned s (made (atom_name p.pool pred.name) ts) prog.clauses (map clause (filter (λ c. is_predicate pred (head_predicate p c)) (range_with_len 0 n)))) (length-map p.clauses (clause_in p))
+          (thinned_by s (made (atom_name p.pool pred.name) ts) (λ c. is_predicate pred (head_predicate p c)) clause prog.clauses 0
+          (λ j c g. ap clause (zero_plus j) ∙ sym (clause_is j c g).1)
+          (λ j c g t. fits j c g ∙ ap (λ n. is_predicate pred (head_predicate p n)) (sym (zero_plus j)) ∙ t)
+          (λ j c g t. inl (fits j c g ∙ ap (λ n. is_predicate pred (head_predicate p n)) (sym (zero_plus j)) ∙ t)))
+        where
+          zero_plus : (j : ℕ) → 0 + j ≡ j
+          zero_plus j = omega arith
+
+          fits : (j : ℕ) (c : Clause) → slice_get prog.clauses j ≡ Some c → fits_head (made (atom_name p.pool pred.name) ts) c.head ≡ is_predicate pred (head_predicate p j)
+          fits j c g = let x = clause_is j c g in ap (λ (y : Clause). fits_head (made (atom_name p.pool pred.name) ts) y.head) x.1 ∙ fits_predicate p v ps w j x.0 pred ts own arity
+
+  -- ---- queries
+  abbrev query : ℕ → Query
+  query n = query_in p (query_at p n)
+
+  query_is : (n : ℕ) (q : Query) → slice_get prog.queries n ≡ Some q → (n < length p.queries) × (q ≡ query n)
+  query_is n q e =
+      let b = slice_get_within prog.queries n q e in
+      let m = length-map p.queries (query_in p) in
+      let l : n < length p.queries = omega (arith, b, m) in
+      (l, same_some prog.queries n q (query n) e (slice_get-map (query_in p) p.queries n ∙ ap (λ o. option_map (query_in p) o) (slice_get-get_or p.queries n no_query l)))
+
+  mid_long : length mid ≡ length (joined choices) + length (joined hl.pieces)
+  mid_long = ap length hl.code ∙ length-append raw (joined hl.pieces) ∙ ap (λ m. m + length (joined hl.pieces)) (sym from_is)
+
+  query_span : (k : ℕ) (q : Query) (s : Span) (is : List Code) → slice_get prog.queries k ≡ Some q → HasQuery area k s → slice_get hq.pieces k ≡ Some is
+      → IsSpanOf area (length (joined choices) + (length (joined hl.pieces) + offset hq.pieces k)) q s is
+  query_span k q s is e f g =
+      let x = query_is k q e in
+      let place : length mid + offset hq.pieces k ≡ length (joined choices) + (length (joined hl.pieces) + offset hq.pieces k) = (let m = mid_long in omega (arith, m)) in
+      let same : s ≡ its_span p k (length (joined choices) + (length (joined hl.pieces) + offset hq.pieces k)) is = same_some spans k s (its_span p k (length mid + offset hq.pieces k) is) f (hq.each k is g) ∙ ap (λ o. its_span p k o is) place in
+      let code = subst (λ b. IsQueryPiece b (length (joined choices) + (length (joined hl.pieces) + offset hq.pieces k)) is (query k)) (sym base_is) (subst (λ o. IsQueryPiece (base_in p ps) o is (query k)) place (hq.piece k is g)) in
+      let own = v.queries k no_query x.0 in
+      subst (λ z. IsSpanOf area (length (joined choices) + (length (joined hl.pieces) + offset hq.pieces k)) z s is) (sym x.1)
+      (subst (λ z. IsSpanOf area (length (joined choices) + (length (joined hl.pieces) + offset hq.pieces k)) (query k) z is) (sym same)
+      (record { begins = refl; ends = refl; names = refl; shown = length-map (query_at p k).names (atom_name p.pool) ∙ own.same; code = code }))
+
+  -- ---- names
+  entry_names : All (λ e. IsAtom area e.name) entries
+  entry_names k d l =
+      let e = get_there entries k l in
+      let piece = piece_there k e.0 e.1 in
+      let x = entry_is k e.0 piece.0 e.1 piece.1 in
+      let own = w.atoms k (predicate_at ps k) (slice_get-get_or ps k no_predicate (number_within k e.0 e.1)) in
+      subst (λ y. IsAtom area (y.name)) (sym (get_or_from_slice_get entries k e.0 d e.1)) (subst (λ y. IsAtom area (y.name)) (sym x.0) own)
+
+  span_names : All (λ s. All (λ c. IsAtom area c) s.names) spans
+  span_names k d l =
+      let s = get_there spans k l in
+      let m = hq.size in
+      let n = hq.many in
+      let is = get_there hq.pieces k (omega (arith, l, m, n)) in
+      let same = same_some spans k s.0 (its_span p k (length mid + offset hq.pieces k) is.0) s.1 (hq.each k is.0 is.1) in
+      let inside : k < length p.queries = omega (arith, l, m) in
+      subst (λ (y : Span). All (λ c. IsAtom area c) y.names) (sym (get_or_from_slice_get spans k s.0 d s.1)) (subst (λ (y : Span). All (λ c. IsAtom area c) y.names) (sym same) (v.queries k no_query inside).names)
+
+  -- ---- all of it
+  pub laid_out : IsLaidOut area prog
+  laid_out = record {
+    choices = choices;
+    clauses = hl.pieces;
+    queries = hq.pieces;
+    code = code_is;
+    each_choice = many_choices ∙ hc.many ∙ sym hc.size;
+    each_clause = hl.many ∙ sym (length-map p.clauses (clause_in p));
+    each_query = hq.many ∙ sym (length-map p.queries (query_in p));
+    each_span = hq.size ∙ sym (length-map p.queries (query_in p));
+    entry = λ k e h. let piece = piece_there k e h in ap (λ (y : Entry). y.at) (entry_is k e piece.0 h piece.1).0;
+    choice = choice_safe;
+    clause = λ k c is e f. let x = clause_is k c e in subst (IsClauseCode (base_of area) (length (joined choices) + offset hl.pieces k) is) (sym x.1) (clause_code k is f);
+    query = query_span;
+    predicates = choice_means;
+    keys = λ k d l. absurd (omega (arith, l));
+    predicate_names = entry_names;
+    query_names = span_names;
+  }
+
+-- ---- as the compiler has them
+module _ (p : FlatProgram) (v : IsProgram p) (ps : List Predicate) (w : ArePredicates p ps) (start raw mid whole : List Code) (entries : List Entry) (places : List ℕ) (spans : List Span) (none : start ≡ [])
+    (hc : ArePut (its_entry ps) (IsListOf p ps) (length ps) start raw entries) (hl : ArePut its_place (IsClausePiece p ps) (length p.clauses) raw mid places) (hq : ArePut (its_span p) (IsQueryOf p ps) (length p.queries) mid whole spans) where
+  whole_long : whole ≡ raw ++ (joined hl.pieces ++ joined hq.pieces)
+  whole_long = hq.code ∙ ap (λ l. l ++ joined hq.pieces) hl.code ∙ append_assoc raw (joined hl.pieces) (joined hq.pieces)
+
+  pub raw_within : length raw ≤ length whole
+  raw_within = let e = ap length whole_long in let m = length-append raw (joined hl.pieces ++ joined hq.pieces) in omega (arith, e, m)
+
+  -- the choices name clauses that are there
+  pub raw_numbered : (count many : ℕ) → count ≡ length raw → many ≡ length places → All (IsNumbered many) (take count whole)
+  raw_numbered count many e f k d l =
+      let is : take count whole ≡ raw = ap₂ take e whole_long ∙ take-append_seam raw (joined hl.pieces ++ joined hq.pieces) in
+      let inside : k < length raw = subst (λ x. k < length x) is l in
+      let i = get_there raw k inside in
+      let code : raw ≡ joined hc.pieces = hc.code ∙ ap (λ l. l ++ joined hc.pieces) none in
+      let g = find_joined hc.pieces k i.0 (ap (λ x. slice_get x k) (sym code) ∙ i.1) in
+      let list : slice_get (list_of (numbers_of p (length p.clauses) (predicate_at ps g.list))) g.index ≡ Some i.0 = subst (λ x. slice_get x g.index ≡ Some i.0) (hc.piece g.list g.elements g.at_list) g.at_index in
+      let one : IsNumbered many i.0 = list_numbered many (numbers_of p (length p.clauses) (predicate_at ps g.list)) (λ j n h. let a = is_number p (length p.clauses) j n (predicate_at ps g.list) h in let b = a.0 in let s = hl.size in omega (arith, b, s, f)) g.index i.0 list in
+      subst (IsNumbered many) (sym (ap (λ x. get_or x k d) is ∙ get_or_from_slice_get raw k i.0 d i.1)) one
+
+  pub laid_out_as : (code' : List Code) (ranges : List Range) (count : ℕ) (placed : List ℕ) → count ≡ length raw → placed ≡ places → code' ≡ map (placed_code placed) (take count whole) ++ drop count whole → ranges ≡ p.ranges
+      → IsLaidOut (record { pool = p.pool; code = code'; tables = []; ranges = ranges; entries = entries; queries = spans }) (program_in p)
+  laid_out_as code' ranges count placed e f g h =
+      let own = subst (λ s. ArePut (its_entry ps) (IsListOf p ps) (length ps) s raw entries) none hc in
+      let is : code' ≡ map (placed_code places) (take (length raw) whole) ++ drop (length raw) whole = g ∙ ap (λ n. map (placed_code placed) (take n whole) ++ drop n whole) e ∙ ap (λ q. map (placed_code q) (take (length raw) whole) ++ drop (length raw) whole) f in
+      subst (λ c. IsLaidOut (record { pool = p.pool; code = c; tables = []; ranges = ranges; entries = entries; queries = spans }) (program_in p)) (sym is)
+      (subst (λ r. IsLaidOut (record { pool = p.pool; code = map (placed_code places) (take (length raw) whole) ++ drop (length raw) whole; tables = []; ranges = r; entries = entries; queries = spans }) (program_in p)) (sym h)
+      (laid_out p v ps w raw mid whole entries places spans own hl hq))

@@ -1,5 +1,0 @@
-use Rattle.clause_compiler.proofs.Pieces.{does_either}
-use Rattle.clause_compiler.proofs.laws.both_ways.Goals as goal
-
-pub returns : goal.returns
-returns c = does_either

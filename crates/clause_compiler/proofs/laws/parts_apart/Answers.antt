@@ -1,5 +1,0 @@
-use Rattle.clause_compiler.proofs.Restating.{does_split}
-use Rattle.clause_compiler.proofs.laws.parts_apart.Goals as goal
-
-pub returns : goal.returns
-returns c = does_split

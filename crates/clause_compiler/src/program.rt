@@ -1,0 +1,67 @@
+//! The code of a program.
+ghost use Rattle.std.specs.Prelude.{[], IfOk};
+ghost use Rattle.clause_check.specs.Programs.{program_in};
+ghost use Rattle.clause_code.specs.Codable.{IsCodable};
+ghost use Rattle.clause_compiler.specs.Layout.{IsLaidOut};
+ghost use Rattle.clause_compiler.specs.Parts.{area_with};
+ghost use Rattle.wam_code.specs.Tries.{StandsForProgram};
+
+use crate::choices::{place_choices, put_choices};
+use crate::groups::groups_of;
+use crate::sections::{put_clauses, put_queries, ranges_of};
+use clause_check::Program;
+use clause_code::predicates_of;
+use fd_language::NoMemory;
+use range_code::RangeCode;
+use std::alloc::Global;
+use std::rc::Rc;
+use wam_code::{Code, CodeArea, CodeParts, Entry, QueryEntry};
+
+/// The code of a program, with all that it names but the pool.
+#[derive(Drop)]
+struct Parts {
+    code: Vec<Code>,
+    ranges: Vec<Rc<RangeCode>>,
+    entries: Vec<Entry>,
+    queries: Vec<QueryEntry>,
+}
+
+/// Puts the code of a program together: choices by the clauses' numbers, the clauses, the queries, and then the clauses' places in
+/// the choices.
+fn parts_of(alloc: Global, program: &Program) -> Result<Parts, NoMemory>
+    requires { IsCodable (program_in program.now) }
+    ensures { IfOk result (λ x. IsLaidOut (area_with program.now.pool [] x) (program_in program.now)) }
+{
+    program.known();
+    let ranges = ranges_of(alloc, program)?;
+    let predicates = predicates_of(alloc, program)?;
+    let groups = groups_of(alloc, program, &predicates)?;
+    let mut code = Vec::new(alloc);
+    let entries = put_choices(alloc, program, &predicates, &groups, &mut code)?;
+    let choices = code.len();
+    let places = put_clauses(alloc, program, &ranges, &predicates, &mut code)?;
+    let queries = put_queries(alloc, program, &ranges, &predicates, &mut code)?;
+    place_choices(&mut code, choices, &places);
+    Ok(Parts {
+        code,
+        ranges,
+        entries,
+        queries,
+    })
+}
+
+/// The code of a program. The error is want of memory.
+pub fn compile(alloc: Global, program: Program) -> Result<CodeArea, NoMemory>
+    requires { IsCodable (program_in program) }
+    ensures { IfOk result (λ a. StandsForProgram a (program_in program)) }
+{
+    let parts = parts_of(alloc, &program)?;
+    Ok(CodeArea::from_verified(CodeParts {
+        pool: program.into_pool(),
+        code: parts.code,
+        tables: Vec::new(alloc),
+        ranges: parts.ranges,
+        entries: parts.entries,
+        queries: parts.queries,
+    }))
+}

@@ -1,0 +1,89 @@
+//! The ranges, the clauses and the queries of a program, each put behind what is there.
+ghost use Rattle.std.specs.Prelude.{◌≡◌, length, map, IfOk};
+ghost use Rattle.clause_check.specs.Programs.{program_in};
+ghost use Rattle.clause_code.specs.Codable.{IsCodable};
+ghost use Rattle.clause_code.specs.Predicates.{ArePredicates};
+ghost use Rattle.clause_compiler.specs.Sections.{ArePut, IsClausePiece, IsQueryOf, its_place, its_span};
+ghost use Rattle.wam_code.specs.Area.{span_of};
+
+use clause_check::Program;
+use clause_code::{Predicates, compile_clause, compile_query};
+use fd_language::NoMemory;
+use range_code::{RangeCode, compile_range};
+use std::alloc::Global;
+use std::rc::Rc;
+use term_pool::AtomId;
+use wam_code::{Code, QueryEntry};
+
+/// The ranges of a program, compiled.
+pub(crate) fn ranges_of(alloc: Global, program: &Program) -> Result<Vec<Rc<RangeCode>>, NoMemory>
+    ensures { IfOk result (λ v. map (λ r. r.value) v.items ≡ program.now.ranges) }
+{
+    let mut ranges = Vec::with_capacity(alloc, program.ranges())?;
+    for range in 0..program.ranges() {
+        let code = compile_range(alloc, program.range(range))?;
+        ranges.push(Rc::new(alloc, code)?)?;
+    }
+    Ok(ranges)
+}
+
+/// Puts the clauses behind the code. Gives their places. The error is want of memory.
+pub(crate) fn put_clauses(
+    alloc: Global,
+    program: &Program,
+    ranges: &[Rc<RangeCode>],
+    predicates: &Predicates,
+    code: &mut Vec<Code>,
+) -> Result<Vec<usize>, NoMemory>
+    requires codable { IsCodable (program_in program.now) }
+    requires ranges { map (λ r. r.value) ranges.now ≡ program.now.ranges }
+    requires predicates { ArePredicates program.now predicates.now }
+    ensures { IfOk result (λ v. ArePut its_place (IsClausePiece program.now predicates.now)
+        (length program.now.clauses) code.old.items code.new.items v.items) }
+{
+    let mut places = Vec::with_capacity(alloc, program.clauses())?;
+    for clause in 0..program.clauses() {
+        let at = code.len();
+        compile_clause(alloc, program, ranges, predicates, clause, 0, code)?;
+        places.push(at)?;
+    }
+    Ok(places)
+}
+
+/// The same names.
+fn names_of(alloc: Global, names: &[AtomId]) -> Result<Vec<AtomId>, NoMemory>
+    ensures { IfOk result (λ v. v.items ≡ names.now) }
+{
+    let mut copy = Vec::with_capacity(alloc, names.len())?;
+    for i in 0..names.len() {
+        copy.push(names[i])?;
+    }
+    Ok(copy)
+}
+
+/// Puts the queries behind the code. Gives their entries. The error is want of memory.
+pub(crate) fn put_queries(
+    alloc: Global,
+    program: &Program,
+    ranges: &[Rc<RangeCode>],
+    predicates: &Predicates,
+    code: &mut Vec<Code>,
+) -> Result<Vec<QueryEntry>, NoMemory>
+    requires codable { IsCodable (program_in program.now) }
+    requires ranges { map (λ r. r.value) ranges.now ≡ program.now.ranges }
+    requires predicates { ArePredicates program.now predicates.now }
+    ensures { IfOk result (λ v. ArePut (its_span program.now) (IsQueryOf program.now predicates.now)
+        (length program.now.queries) code.old.items code.new.items (map span_of v.items)) }
+{
+    let mut queries = Vec::with_capacity(alloc, program.queries())?;
+    for query in 0..program.queries() {
+        let at = code.len();
+        compile_query(alloc, program, ranges, predicates, query, 0, code)?;
+        queries.push(QueryEntry {
+            at,
+            end: code.len(),
+            names: names_of(alloc, program.names(query))?,
+        })?;
+    }
+    Ok(queries)
+}

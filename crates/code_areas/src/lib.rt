@@ -1,0 +1,291 @@
+//! The argument registers, the frames and the choice points of a machine that runs code.
+//!
+//! Cells lie in two vectors. In each the current ones are the last: behind them stand those of choice points and of calls that have
+//! not returned, and these are never written.
+#![tactic(auto)]
+
+ghost use Rattle.std.specs.Prelude.{◌≡◌, ◌+◌, ◌<◌, ◌≤◌, [], ◌∷◌, length, take, reverse, replicate, slice_set, Some, None, IfOk, OnOk, OnErr};
+ghost use Rattle.code_areas.specs.Areas.{cell_at, IsSet, IsPut, nothing};
+ghost use Rattle.code_areas.specs.Stored.{frames_kept};
+
+use fd_language::NoMemory;
+use heap_cells::Cell;
+use std::alloc::Global;
+use std::marker::Model;
+
+/// What a call has left behind: where to go on, the slots from `start` to `end`, and the frame behind it by its number.
+#[derive(Clone, Copy)]
+struct Frame {
+    to: usize,
+    start: usize,
+    end: usize,
+    behind: usize,
+}
+
+/// A choice point: the place to come back to, where its registers and slots begin, and the lengths and the newest frame of then.
+#[derive(Clone, Copy)]
+struct Mark {
+    place: usize,
+    first: usize,
+    cells: usize,
+    base: usize,
+    slots: usize,
+    frames: usize,
+    newest: usize,
+}
+
+/// Argument registers, the slots of the current frame, continuations and choice points.
+///
+/// Registers and slots are numbered from 0. A number past the registers' end is one that is not set.
+#[derive(Drop)]
+pub struct Areas {
+    cells: Vec<Option<Cell>>,
+    first: usize,
+    slots: Vec<Option<Cell>>,
+    base: usize,
+    frames: Vec<Frame>,
+    newest: usize,
+    marks: Vec<Mark>,
+}
+
+impl Model for Areas {
+    ghost use Rattle.code_areas.specs.Areas.{Contents};
+
+    ghost Value = { Contents };
+
+    ghost use Rattle.code_areas.specs.Stored.{contents_of, AreStored};
+
+    ghost view = { λ a. contents_of a.cells.items a.first a.slots.items a.base a.frames.items a.newest
+        a.marks.items };
+
+    ghost invariant = { λ a. AreStored a.cells.items a.first a.slots.items a.base a.frames.items
+        a.newest a.marks.items };
+}
+
+impl Areas {
+    /// Nothing is set, and there is neither a frame nor a choice point.
+    pub fn new(alloc: Global) -> Areas
+        ensures { result ≡ nothing }
+    {
+        Areas {
+            cells: Vec::new(alloc),
+            first: 0,
+            slots: Vec::new(alloc),
+            base: 0,
+            frames: Vec::new(alloc),
+            newest: 0,
+            marks: Vec::new(alloc),
+        }
+    }
+
+    /// The cell in the register `n`.
+    pub fn register(&self, n: usize) -> Cell
+        requires { IsSet self.now.registers n }
+        ensures { cell_at self.now.registers n ≡ Some result }
+    {
+        set_cell(&self.cells, self.first + n)
+    }
+
+    /// Puts a cell into the register `n`. The error is want of memory.
+    pub fn set_register(&mut self, n: usize, cell: Cell) -> Result<(), NoMemory>
+        ensures put { OnOk result (IsPut self.old.registers n cell self.new.registers) }
+        ensures same { self.new ≡ record self.old { registers = self.new.registers } }
+        ensures unchanged { OnErr result (self.new ≡ self.old) }
+    {
+        put_cell(&mut self.cells, self.first, n, cell)?;
+        Ok(())
+    }
+
+    /// The cell in the slot `n`.
+    pub fn slot(&self, n: usize) -> Cell
+        requires { IsSet self.now.slots n }
+        ensures { cell_at self.now.slots n ≡ Some result }
+    {
+        set_cell(&self.slots, self.base + n)
+    }
+
+    /// How many slots the current frame has: none where there is no frame.
+    pub fn slots(&self) -> usize
+        ensures { result ≡ length self.now.slots }
+    {
+        self.slots.len() - self.base
+    }
+
+    /// Puts a cell into the slot `n` of the current frame. No memory.
+    pub fn set_slot(&mut self, n: usize, cell: Cell)
+        requires { n < length self.old.slots }
+        ensures { self.new
+            ≡ record self.old { slots = slice_set self.old.slots n (Some cell) } }
+    {
+        let at = self.base + n;
+        self.slots[at] = Some(cell);
+    }
+
+    /// Begins a frame of `n` slots, of which none is set. The error is want of memory.
+    pub fn allocate(&mut self, n: usize) -> Result<(), NoMemory>
+        requires none { length self.old.slots ≡ 0 }
+        ensures slots { OnOk result (self.new ≡ record self.old { slots = replicate n None }) }
+        ensures unchanged { OnErr result (self.new ≡ self.old) }
+    {
+        if n > usize::MAX - self.base {
+            return Err(NoMemory);
+        }
+        self.slots.resize(self.base + n, None)?;
+        Ok(())
+    }
+
+    /// Ends the current frame. No memory.
+    pub fn deallocate(&mut self)
+        ensures { self.new ≡ record self.old { slots = [] } }
+    {
+        self.slots.truncate(self.base);
+    }
+
+    /// Leaves the current frame to a call, which is to go on at the place `to`. The error is want of memory.
+    pub fn call(&mut self, to: usize) -> Result<(), NoMemory>
+        ensures called { OnOk result (self.new ≡ record self.old {
+          slots = [];
+          returns = record { to = to; slots = self.old.slots } ∷ self.old.returns;
+        }) }
+        ensures unchanged { OnErr result (self.new ≡ self.old) }
+    {
+        let end = self.slots.len();
+        self.frames.push(Frame {
+            to,
+            start: self.base,
+            end,
+            behind: self.newest,
+        })?;
+        self.newest = self.frames.len();
+        self.base = end;
+        Ok(())
+    }
+
+    /// Goes back to the newest continuation: its slots are the current ones, and the result is its place. Where no choice point is newer,
+    /// its memory is given back. The error is want of memory.
+    pub fn proceed(&mut self) -> Result<usize, NoMemory>
+        requires { 0 < length self.old.returns }
+        ensures returned { IfOk result (λ to. self.old.returns
+            ≡ record { to = to; slots = self.new.slots } ∷ self.new.returns) }
+        ensures same { self.new
+            ≡ record self.old { slots = self.new.slots; returns = self.new.returns } }
+        ensures unchanged { OnErr result (self.new ≡ self.old) }
+    {
+        let k = self.newest - 1;
+        let frame = self.frames[k];
+        if k < kept_frames(&self.marks) {
+            let base = self.slots.len();
+            self.slots.extend_from_within(frame.start..frame.end)?;
+            self.base = base;
+            self.newest = frame.behind;
+            return Ok(frame.to);
+        }
+        self.slots.truncate(frame.end);
+        self.frames.truncate(k);
+        self.base = frame.start;
+        self.newest = frame.behind;
+        Ok(frame.to)
+    }
+
+    /// How many choice points there are.
+    pub fn points(&self) -> usize
+        ensures { result ≡ length self.now.points }
+    {
+        self.marks.len()
+    }
+
+    /// Makes a choice point of all that is current, to come back to at `place`. The error is want of memory.
+    pub fn push_point(&mut self, place: usize) -> Result<(), NoMemory>
+        ensures pushed { OnOk result (self.new ≡ record self.old {
+          points = record {
+            place = place;
+            registers = self.old.registers;
+            slots = self.old.slots;
+            returns = self.old.returns;
+          } ∷ self.old.points;
+        }) }
+        ensures unchanged { OnErr result (self.new ≡ self.old) }
+    {
+        let mark = Mark {
+            place,
+            first: self.first,
+            cells: self.cells.len(),
+            base: self.base,
+            slots: self.slots.len(),
+            frames: self.frames.len(),
+            newest: self.newest,
+        };
+        self.marks.reserve(1)?;
+        self.slots.reserve(mark.slots - mark.base)?;
+        self.cells.extend_from_within(mark.first..mark.cells)?;
+        self.slots.extend_from_within(mark.base..mark.slots)?;
+        self.marks.push_reserved(mark);
+        self.first = mark.cells;
+        self.base = mark.slots;
+        Ok(())
+    }
+
+    /// Goes back to the newest choice point, which is taken away: what is current is what it has saved, and the result is its place.
+    /// No memory.
+    pub fn pop_point(&mut self) -> usize
+        requires { 0 < length self.old.points }
+        ensures { self.old.points ≡ record {
+          place = result;
+          registers = self.new.registers;
+          slots = self.new.slots;
+          returns = self.new.returns;
+        } ∷ self.new.points }
+    {
+        let mark = self.marks.pop().unwrap();
+        self.cells.truncate(mark.cells);
+        self.slots.truncate(mark.slots);
+        self.frames.truncate(mark.frames);
+        self.first = mark.first;
+        self.base = mark.base;
+        self.newest = mark.newest;
+        mark.place
+    }
+}
+
+/// The cell at a number where one is set.
+fn set_cell(cells: &[Option<Cell>], at: usize) -> Cell
+    requires { IsSet cells.now at }
+    ensures { cell_at cells.now at ≡ Some result }
+{
+    cells[at].unwrap()
+}
+
+/// Puts a cell behind the first ones at the number `n`.
+fn put_cell(
+    cells: &mut Vec<Option<Cell>>,
+    first: usize,
+    n: usize,
+    cell: Cell,
+) -> Result<(), NoMemory>
+    requires { first ≤ length cells.old.items }
+    ensures put { OnOk result (IsPut cells.old.items (first + n) cell cells.new.items) }
+    ensures kept { OnOk result (take first cells.new.items ≡ take first cells.old.items) }
+    ensures longer { OnOk result (first ≤ length cells.new.items) }
+    ensures unchanged { OnErr result (cells.new.items ≡ cells.old.items) }
+{
+    let at = first.checked_add(n).ok_or(NoMemory)?;
+    if at >= cells.len() {
+        let end = at.checked_add(1).ok_or(NoMemory)?;
+        cells.resize(end, None)?;
+    }
+    cells[at] = Some(cell);
+    Ok(())
+}
+
+/// How many frames the newest choice point keeps.
+fn kept_frames(marks: &[Mark]) -> usize
+    ensures { result ≡ frames_kept (reverse marks.now) }
+{
+    match marks.last() {
+        Some(mark) => mark.frames,
+        None => 0,
+    }
+}
+
+#[cfg(test)]
+mod tests;

@@ -1,0 +1,152 @@
+-- A goal is called: the branches of the clauses that its predicate's code tries are those that are still to come.
+use Rattle.std.proofs.Common.{◌≡◌, ℕ, suc, ◌<◌, Bool, true, false, cond, List, [], ◌∷◌, ◌++◌, map, Option, Some, None, refl, ap, sym, ◌∙◌, subst, inl, inr}
+use Rattle.std.proofs.lemmas.Bool.{true≢false}
+use Rattle.fd_language.specs.Term.{Term}
+use Rattle.fd_language.specs.Range.{Indexical}
+use Rattle.fd_model.specs.Children.{by_clause, by_clauses, fits_head, Kept}
+use Rattle.fd_model.specs.Constraining.{arguments}
+use Rattle.fd_model.specs.Goal.{Goal, Call, Clause, Branch, Program, Query, Event}
+use Rattle.fd_model.specs.Seen.{IsConsistent}
+use Rattle.fd_model.specs.Sound.{ClausesScoped, IsRunnableProgram}
+use Rattle.heap_cells.specs.declared.Cell.{Cell}
+use Rattle.heap_cells.specs.Cells.{Cells}
+use Rattle.heap_cells.specs.Terms.{Naming, term_of}
+use Rattle.machine_relation.specs.Ahead.{IsFit, AreFit, Spends}
+use Rattle.machine_relation.specs.Models.{HasModel}
+use Rattle.machine_relation.proofs.Walking.{gone_by}
+use Rattle.machine_frames.specs.Walking.{AllFit}
+use Rattle.machine_frames.proofs.Keeping.{kept_consistent}
+use Rattle.wam_code.specs.declared.instruction.Code.TheVariants as code
+use Rattle.wam_code.specs.declared.parts.Entry.{Entry}
+use Rattle.wam_code.specs.Area.{Area, Holds, HasEntry, name_of}
+use Rattle.wam_code.specs.Places.{made}
+use Rattle.wam_code.specs.Tries.{Shape, is_open, shape_of, ClashFirst, IsNeedless, Thinned, StandsForProgram}
+use Rattle.code_steps.specs.Registers.{Registers, Saved, AreSame}
+use Rattle.code_steps.specs.Standing.{IsCalling}
+use Rattle.code_steps.specs.Trying.{ShowsFirst}
+use Rattle.code_steps.specs.Running.{Choice, Runs}
+use Rattle.code_steps.proofs.Leaving.{clash_gone}
+use Rattle.code_steps.proofs.Readying.{goal_gives}
+use Rattle.code_steps.proofs.Running.{goes_inside}
+use Rattle.code_steps.proofs.Stepping.{step_call, step_execute}
+
+-- Clauses that needn't be tried are left out of what is ahead.
+module _ (M : ℕ) (s : Shape) (t : Term) (b : Branch) (rest : List Goal) (others : List Branch)
+    (gone : (c : Clause) → fits_head t c.head ≡ true → ClashFirst s (arguments c.head) → IsFit M (by_clause b t rest c) → IsConsistent M (by_clause b t rest c).equations (by_clause b t rest c).posted → ⊥) where
+  abbrev All : List Clause → List Branch
+  All cs = by_clauses cs b t rest ++ others
+
+  abbrev Some' : List Clause → List Branch
+  Some' cs = map (by_clause b t rest) cs ++ others
+
+  abbrev Both : List Branch → List Branch → Type 0
+  Both xs bs = AreFit M xs × Kept M xs bs
+
+  first_of : Clause → List Clause → Bool → List Branch
+  first_of c cs v = cond v (by_clause b t rest c ∷ by_clauses cs b t rest) (by_clauses cs b t rest) ++ others
+
+  needless : (c : Clause) (cs : List Clause) (bs : List Branch) → IsNeedless s t c → (v : Bool) → fits_head t c.head ≡ v → Both (first_of c cs v) bs → Both (All cs) bs
+  unfolding first_of
+  needless c cs bs i false e g = g
+  needless c cs bs (inl i) true e g = absurd (true≢false (sym e ∙ i))
+  needless c cs bs (inr i) true e (fit, inl g) = absurd (gone c e i fit.0 g.0)
+  needless c cs bs (inr i) true e (fit, inr g) = (fit.1, g.1)
+
+  kept_in : (c : Clause) (cs ds : List Clause) (bs : List Branch) → ((xs : List Branch) → Both (All cs) xs → Both (Some' ds) xs) → (v : Bool) → fits_head t c.head ≡ v → v ≡ true → Both (first_of c cs v) bs → Both (Some' (c ∷ ds)) bs
+  unfolding first_of
+  kept_in c cs ds bs more false e i g = absurd (true≢false (sym i))
+  kept_in c cs ds bs more true e i (fit, inl g) = let k = more g.1.0 (fit.1, g.1.2) in ((fit.0, k.0), inl (g.0, (g.1.0, g.1.1, k.1)))
+  kept_in c cs ds bs more true e i (fit, inr g) = let k = more bs (fit.1, g.1) in ((fit.0, k.0), inr (g.0, k.1))
+
+  pub thinned_ahead : (cs ds : List Clause) → Thinned s t cs ds → (bs : List Branch) → Both (All cs) bs → Both (Some' ds) bs
+  unfolding first_of
+  thinned_ahead [] ds e bs g = subst (λ l. Both (Some' l) bs) (sym e) g
+  thinned_ahead (c ∷ cs) [] e bs g = thinned_ahead cs [] e.1 bs (needless c cs bs e.0 (fits_head t c.head) refl g)
+  thinned_ahead (c ∷ cs) (d ∷ ds) (inl e) bs g = subst (λ x. Both (Some' (x ∷ ds)) bs) (sym e.0) (kept_in c cs ds bs (thinned_ahead cs ds e.2) (fits_head t c.head) refl e.1 g)
+  thinned_ahead (c ∷ cs) (d ∷ ds) (inr e) bs g = thinned_ahead cs (d ∷ ds) e.1 bs (needless c cs bs e.0 (fits_head t c.head) refl g)
+
+module _ (s : Shape) (t : Term) where
+  thinned_fit : (cs ds : List Clause) → Thinned s t cs ds → AllFit t ds
+  thinned_fit [] ds e = subst (AllFit t) (sym e) tt
+  thinned_fit (c ∷ cs) [] e = tt
+  thinned_fit (c ∷ cs) (d ∷ ds) (inl e) = (ap (λ (x : Clause). fits_head t x.head) e.0 ∙ e.1, thinned_fit cs ds e.2)
+  thinned_fit (c ∷ cs) (d ∷ ds) (inr e) = thinned_fit cs (d ∷ ds) e.1
+
+  thinned_scoped : (cs ds : List Clause) → Thinned s t cs ds → ClausesScoped cs → ClausesScoped ds
+  thinned_scoped [] ds e k = subst ClausesScoped (sym e) tt
+  thinned_scoped (c ∷ cs) [] e k = tt
+  thinned_scoped (c ∷ cs) (d ∷ ds) (inl e) k = subst (λ x. ClausesScoped (x ∷ ds)) (sym e.0) (k.0, thinned_scoped cs ds e.2 k.1)
+  thinned_scoped (c ∷ cs) (d ∷ ds) (inr e) k = thinned_scoped cs (d ∷ ds) e.1 k.1
+
+same_cell : (d e : Cell) → Some d ≡ Some e → d ≡ e
+same_cell d e k = cc
+
+no_cell : (d : Cell) → None ≡ Some d → ⊥
+no_cell d e = cc
+
+first_shape : (name : Naming) (h : Cells) (cells : ℕ → Option Cell) → (s : Shape) × ShowsFirst name h cells s
+first_shape name h cells = go (cells 1) refl
+  where
+    go : (o : Option Cell) → cells 1 ≡ o → (s : Shape) × ShowsFirst name h cells s
+    go None e = (is_open, λ d i. absurd (no_cell d (sym e ∙ i)))
+    go (Some c) e = (shape_of (term_of name h c), λ d i. ap (λ x. shape_of (term_of name h x)) (same_cell c d (sym e ∙ i)))
+
+module _ (M : ℕ) (area : Area) (prog : Program) (q : Query) (name : Naming) (h : Cells) (qs : List Indexical) (at : ℕ) (c : Registers) (stack : List Saved) (cs : List Choice) (k : Option ℕ) (es : List Event) (r : ℕ)
+    (program : StandsForProgram area prog) (scoped : ClausesScoped prog.clauses) (runnable : IsRunnableProgram M prog) (n : ℕ) (model : HasModel M qs) (m : Runs M area prog q name h qs at c stack cs (suc n) k es r) where
+  abbrev Begins : Entry → List Saved → List Event → ℕ → Type 0
+  Begins e stack' = Runs M area prog q name h qs e.at c stack' cs n k
+
+  calls : (b : Branch) → m.first ≡ b ∷ [] → (number : ℕ) (e : Entry) → HasEntry area number e → (stack' : List Saved) → IsCalling M area q.shown name h qs e c stack' b → Spends (Begins e stack') [] es r
+  calls b one number e there stack' i =
+      let t : Term = made (name_of area e.name) i.ts in
+      let shape = first_shape name h c.x in
+      let tries = program.predicates number e there i.ts shape.0 i.counted in
+      let kids = by_clauses prog.clauses b t i.rest in
+      let a = goal_gives M area prog q name h qs at c stack cs k es r b (kept_consistent M h qs b.equations b.posted (λ v. v < b.fresh) i.look i.kept model) (Call t) i.rest i.goals runnable n m one kids [] (λ u D v. refl) (λ u D v. refl) in
+      let gone : (d : Clause) → fits_head t d.head ≡ true → ClashFirst shape.0 (arguments d.head) → IsFit M (by_clause b t i.rest d) → IsConsistent M (by_clause b t i.rest d).equations (by_clause b t i.rest d).posted → ⊥ =
+      λ d fits clash. gone_by M (by_clause b t i.rest d) (clash_gone M area q.shown name h qs e c stack' b i shape.0 shape.1 d fits clash) in
+      let left = thinned_ahead M shape.0 t b i.rest m.others gone prog.clauses tries.0 tries.1 a.4.branches (a.4.fit, a.4.kept) in (
+        a.0,
+        a.1,
+        a.2,
+        a.3,
+        record {
+          first = map (by_clause b t i.rest) tries.0;
+          others = m.others;
+          here = inr (
+            e,
+            b,
+            record {
+              calling = i;
+              shape = shape.0;
+              shows = shape.1;
+              clauses = tries.0;
+              tries = tries.2;
+              fit = thinned_fit shape.0 t prog.clauses tries.0 tries.1;
+              scoped = thinned_scoped shape.0 t prog.clauses tries.0 tries.1 scoped;
+              kids_are = refl;
+            },
+          );
+          wait = m.wait;
+          ahead = record { fit = left.0; branches = a.4.branches; kept = left.1; run = a.4.run };
+        },
+      )
+
+  same_entry : (e d : Entry) → Some e ≡ Some d → e ≡ d
+  same_entry e d k = cc
+
+  -- The code behind the call is the newest continuation, and the predicate's code begins.
+  pub run_call : (number : ℕ) → Holds area at (code.Call number) → (e : Entry) → HasEntry area number e → (slots : ℕ → Option Cell) → AreSame c.y slots → Spends (Begins e (record { to = suc at; slots = slots } ∷ stack)) [] es r
+  run_call number f e there slots same =
+      let s = goes_inside M area q.shown name h qs at c stack m.first m.here (code.Call number) tt f in
+      let i = step_call M area q.shown name h qs at c stack s.0 s.1 number f slots same in
+      let is = same_entry i.0 e (sym i.1 ∙ there) in
+      calls s.0 s.2 number e there (record { to = suc at; slots = slots } ∷ stack) (subst (λ d. IsCalling M area q.shown name h qs d c (record { to = suc at; slots = slots } ∷ stack) s.0) is i.2)
+
+  -- or the clause's last goal
+  pub run_execute : (number : ℕ) → Holds area at (code.Execute number) → (e : Entry) → HasEntry area number e → Spends (Begins e stack) [] es r
+  run_execute number f e there =
+      let s = goes_inside M area q.shown name h qs at c stack m.first m.here (code.Execute number) tt f in
+      let i = step_execute M area q.shown name h qs at c stack s.0 s.1 number f in
+      let is = same_entry i.0 e (sym i.1 ∙ there) in
+      calls s.0 s.2 number e there stack (subst (λ d. IsCalling M area q.shown name h qs d c stack s.0) is i.2)

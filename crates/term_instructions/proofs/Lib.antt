@@ -1,0 +1,4 @@
+pub mod Equal
+pub mod Safety
+pub mod Steps
+pub mod Standing

@@ -1,0 +1,37 @@
+use Rattle.std.proofs.Common.{subst, sym}
+use Rattle.wam_code.specs.declared.instruction.Code.TheVariants.{GetValue}
+use Rattle.term_instructions.specs.Safety.{IsSafeThen}
+use Rattle.term_instructions.specs.Standing.{KeepsStanding}
+use Rattle.term_instructions.specs.declared.went.Went.{Went}
+use Rattle.term_instructions.proofs.Safety.{within_code}
+use Rattle.term_instructions.proofs.Steps.{held_own, get_value_needs, get_value_safe}
+use Rattle.term_instructions.proofs.Standing.{get_value_stands}
+use Rattle.term_instructions.proofs.gets.get_value.Goals as goal
+
+pub register-argument-requires : goal.register-argument-requires
+register-argument-requires g c = (get_value_needs c.args.code.now c.args.branch.now c.args.at c.args.areas.now c.requires.safe c.args.r c.args.a c.requires.holds).0
+
+pub read-held-requires : goal.read-held-requires
+read-held-requires g c = (get_value_needs c.args.code.now c.args.branch.now c.args.at c.args.areas.now c.requires.safe c.args.r c.args.a c.requires.holds).1
+
+pub equate-requires-clause-sound : goal.equate-requires-clause-sound
+equate-requires-clause-sound g c = c.requires.safe.sound
+
+pub equate-requires-clause-own_a : goal.equate-requires-clause-own_a
+equate-requires-clause-own_a g c = c.requires.safe.here.registers_own c.args.a c.register-argument.result c.register-argument.ensures
+
+pub equate-requires-clause-own_b : goal.equate-requires-clause-own_b
+equate-requires-clause-own_b g c = held_own c.args.branch.now c.args.areas.now c.args.r c.read-held.result c.requires.safe.here.registers_own c.requires.safe.here.slots_own c.read-held.ensures
+
+pub next_if-requires : goal.next_if-requires
+next_if-requires g c = within_code c.args.code.now c.args.at (GetValue c.args.r c.args.a) c.requires.holds
+
+pub returns-clause-safe : goal.returns-clause-safe
+returns-clause-safe g c =
+    subst (λ (w : Went). IsSafeThen c.args.code.now c.equate.new.branch c.args.areas.now w) (sym c.next_if.ensures)
+    (get_value_safe c.args.code.now c.args.branch.now c.args.at c.args.areas.now c.requires.safe c.args.r c.args.a c.requires.holds c.equate.new.branch c.register-argument.result c.read-held.result c.in_ok-equal.equal c.in_ok-equal.ensures.equates c.in_ok-equal.ensures.same)
+
+pub returns-clause-stands : goal.returns-clause-stands
+returns-clause-stands g c =
+    subst (λ (w : Went). KeepsStanding c.args.code.now c.args.branch.now c.args.at c.args.areas.now c.equate.new.branch c.args.areas.now w) (sym c.next_if.ensures)
+    (get_value_stands c.args.code.now c.args.branch.now c.args.at c.args.areas.now c.args.r c.args.a c.requires.holds c.register-argument.result c.read-held.result c.register-argument.ensures c.read-held.ensures c.equate.new.branch c.in_ok-equal.equal c.in_ok-equal.ensures.equates)

@@ -1,0 +1,27 @@
+use Rattle.std.proofs.Common.{subst, sym}
+use Rattle.wam_code.specs.declared.instruction.Code.TheVariants.{PutValue}
+use Rattle.term_instructions.specs.Safety.{IsSafeThen}
+use Rattle.term_instructions.specs.Standing.{KeepsStanding}
+use Rattle.term_instructions.specs.declared.went.Went.TheVariants.{On}
+use Rattle.term_instructions.proofs.Safety.{within_code}
+use Rattle.term_instructions.proofs.Steps.{put_value_needs, put_value_safe}
+use Rattle.term_instructions.proofs.Standing.{put_value_stands}
+use Rattle.term_instructions.proofs.puts.put_value.Goals as goal
+
+pub read-cell-requires : goal.read-cell-requires
+read-cell-requires g c = put_value_needs c.args.code.now c.args.branch.now c.args.at c.args.areas.now c.requires.safe c.args.r c.args.a c.requires.holds
+
+pub behind-requires : goal.behind-requires
+behind-requires g c = within_code c.args.code.now c.args.at (PutValue c.args.r c.args.a) c.requires.holds
+
+pub returns-clause-safe : goal.returns-clause-safe
+returns-clause-safe g c =
+    let w = c.in_ok-write.ensures in
+    subst (λ to. IsSafeThen c.args.code.now c.args.branch.now c.write.new.areas (On to)) (sym c.behind.ensures)
+    (put_value_safe c.args.code.now c.args.branch.now c.args.at c.args.areas.now c.requires.safe c.args.r c.args.a c.requires.holds c.write.new.areas c.read-cell.result c.read-cell.ensures w.written w.same w.slots)
+
+pub returns-clause-stands : goal.returns-clause-stands
+returns-clause-stands g c =
+    let w = c.in_ok-write.ensures in
+    subst (λ to. KeepsStanding c.args.code.now c.args.branch.now c.args.at c.args.areas.now c.args.branch.now c.write.new.areas (On to)) (sym c.behind.ensures)
+    (put_value_stands c.args.code.now c.args.branch.now c.args.at c.args.areas.now c.args.r c.args.a c.requires.holds c.write.new.areas c.read-cell.result c.read-cell.ensures w.written w.same)

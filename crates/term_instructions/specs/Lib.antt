@@ -1,0 +1,4 @@
+pub mod Machine
+pub mod Safety
+pub mod Standing
+pub mod Equating
