@@ -27,7 +27,7 @@ use Rattle.range_code.specs.Steps.{either, outside, moved}
 use Rattle.domain_ranges.specs.Narrowing.{between}
 use Rattle.range_code.specs.Work.{IsLimited, operated, filled_value, filled_set, Fits, RangeFits}
 use Rattle.range_code.specs.declared.form.Form.{Form}
-use Rattle.range_code.specs.declared.form.Form.TheVariants.{Nodes, Between, Without, Except}
+use Rattle.range_code.specs.declared.form.Form.TheVariants.{Nodes, Between, Without, Except, Chosen}
 use Rattle.range_code.specs.declared.form.Bound.{Bound}
 use Rattle.range_code.specs.Forms.{IsUsable, IsForm}
 use Rattle.range_code.proofs.Tables.{one_is, union_is, inter_is, outside_is, plus_is, minus_is, times_is, over_is}
@@ -279,6 +279,7 @@ form_folded r Nodes h = tt
 form_folded r (Between a b) h = record { set = λ S p. set_folded S p r ∙ h.set S p; low = usable_folded r a h.low; high = usable_folded r b h.high }
 form_folded r (Without a b) h = record { set = λ S p. set_folded S p r ∙ h.set S p; low = usable_folded r a h.low; high = usable_folded r b h.high }
 form_folded r (Except a) h = record { set = λ S p. set_folded S p r ∙ h.set S p; value = usable_folded r a h.value }
+form_folded r (Chosen c) h = record { set = λ S p. set_folded S p r ∙ h.set S p; high = h.high; rising = h.rising; seen = λ count args g. h.seen count args (readable_unfolded count args r g) }
 
 -- The walk over the nodes, with the last piece first.
 abbrev pub walked : List Piece → List RangeNode → List Piece

@@ -1,28 +1,28 @@
 -- How the nodes of a range are read as a form.
-use Rattle.std.proofs.Common.{SFits, ◌≡◌, ℕ, zero, suc, ◌+◌, ◌*◌, ◌-◌, ◌^◌, ◌<◌, ◌≤◌, length, take, drop, get_or, Bool, true, false, not, ◌&&◌, int_le, ◌||◌, ◌==◌, IsTrue, eqb-true, ℤ, pos, negsuc, neg_ℤ, nat_abs, ◌+ℤ◌, ◌-ℤ◌, ◌*ℤ◌, ◌≤ℤ◌, List, [], ◌∷◌, ◌++◌, Option, Some, None, refl, sym, ◌∙◌, ap, subst, ◌⊎◌, inl, inr, arith}
+use Rattle.std.proofs.Common.{SFits, ◌≡◌, ℕ, zero, suc, ◌+◌, ◌*◌, ◌-◌, ◌^◌, ◌<◌, ◌≤◌, length, take, drop, get_or, true, not, ◌||◌, ◌==◌, IsTrue, eqb-true, ℤ, pos, negsuc, neg_ℤ, nat_abs, ◌+ℤ◌, ◌-ℤ◌, ◌*ℤ◌, ◌≤ℤ◌, List, [], ◌∷◌, ◌++◌, Some, refl, sym, ◌∙◌, ap, subst, ◌⊎◌, inl, inr, arith}
 use Rattle.std.proofs.Math.IntN.{+ℤ_assoc, +ℤ_comm, +ℤ_idl, *ℤ_comm, neg_ℤ-neg_ℤ}
 use Rattle.std.proofs.lemmas.Int.{ints, fits_signed_from_abs}
 use mir.Syntax.{w64, w128}
 use Rattle.std.specs.List.{All}
-use Rattle.std.specs.Prelude.{IfSome, IfOk, Result}
-use Rattle.std.specs.Option.{unwrap_or}
-use Rattle.std.proofs.lemmas.Bool.{cases_Bool, true≢false}
-use Rattle.std.proofs.lemmas.List.Elements.{All-head, All-tail, All-append}
+use Rattle.std.specs.Prelude.{IfOk, Result}
+use Rattle.std.specs.Ordering.{int_eq}
+use Rattle.std.proofs.lemmas.Bool.{cases_Bool}
+use Rattle.std.proofs.lemmas.List.Elements.{All-head, All-tail, All-append, filter_agree}
 use Rattle.fd_language.specs.declared.TheConstants.{INFINITY}
 use Rattle.fd_language.specs.declared.range_node.RangeNode.{RangeNode}
 use Rattle.fd_language.specs.declared.range_node.RangeNode.TheVariants as node
-use Rattle.fd_language.specs.Family.{Family, has, universe, IsRising, IsSubset}
-use Rattle.fd_language.specs.Range.{Range, Expr, Infinity, Min, Max, Val, Add, Sub, Mul, DivDown, DivUp, Span, One, Outside, in_range}
+use Rattle.fd_language.specs.Family.{Family, has, universe, IsRising}
+use Rattle.fd_language.specs.Range.{Range, Expr, least, greatest, Infinity, Min, Max, Val, Add, Sub, Mul, DivDown, DivUp, Span, One, Outside, in_range}
 use Rattle.fd_language.specs.Range.{Number as Literal}
 use Rattle.fd_language.specs.Check.{fill_range}
 use Rattle.fd_language.specs.Flat.{nodes_of, built, built_behind, put, shape_of, term_alone, term_of_terms, builds_range, spelled, spelled-nodes, IsSpelled}
-use Rattle.fd_language.proofs.Lemmas.{two, in_universe, has-filter, has-filter_back}
+use Rattle.fd_language.proofs.Lemmas.{two}
 use Rattle.fd_language.proofs.Limits.{abs_add, abs_mul, products}
 use Rattle.std.proofs.lemmas.List.{at_drop_more, take_all}
-use Rattle.domain_ranges.specs.Narrowing.{between, IsNarrowed}
-use Rattle.domain_ranges.specs.Spans.{has_int}
+use Rattle.domain_ranges.specs.Narrowing.{between, all_but, IsNarrowed}
 use Rattle.domain_ranges.specs.declared.Narrowed.{Narrowed}
 use Rattle.range_code.specs.declared.frame.Arg.{Arg}
+use Rattle.range_code.specs.declared.form.End.{End}
 use Rattle.range_code.specs.declared.form.End.TheVariants.{Least, Greatest}
 use Rattle.range_code.specs.declared.form.Product.{Product}
 use Rattle.range_code.specs.declared.form.Division.{Division}
@@ -197,9 +197,9 @@ has_limit M xs n r h = within 0 M xs n r h where
     | inr e ↦ within (suc x) M xs n r.2 (ap (λ b. b || has xs n) (sym e) ∙ h)
   ]
 
-pub max_limit : (o : Option ℕ) (xs : List ℕ) (r : ℕ) → r ≡ unwrap_or o 0 → IfSome o (λ n. IsTrue (has xs n)) → IsRising 0 INFINITY xs → r ≤ INFINITY
-max_limit None xs r e h f = omega (arith, e)
-max_limit (Some n) xs r e h f = subst (λ k. k ≤ INFINITY) (sym e) (has_limit INFINITY xs n f h)
+pub none_end : (s : List ℕ) (end : End) → s ≡ [] → 0 ≡ end_of s end
+none_end s Least e = sym (ap least e)
+none_end s Greatest e = sym (ap greatest e)
 
 -- a bound from the first leaf on
 pub bound_first : (n : RangeNode) (rest : List RangeNode) (l : Leaf) (empty b : Bound) → IsLeaf n l → ((S : Family) → total_of S empty ≡ pos 0) → empty.products.items ≡ [] → empty.division ≡ Whole → IsAdded empty (record { weight = pos 1; leaf = l }) b → IsBound (n ∷ rest) b rest
@@ -332,17 +332,9 @@ wider z h = record { sfits = omega (arith, h.sfits) }
 pub narrows_same : {E : Type 0} (res : Result Narrowed E) (old s t : List ℕ) → s ≡ t → IfOk res (IsNarrowed old s) → IfOk res (IsNarrowed old t)
 narrows_same res old s t e h = subst (λ l. IfOk res (IsNarrowed old l)) e h
 
-int_between : (v : ℤ) (n : ℕ) → (int_le v (pos n) && int_le (pos n) v) ≡ true → v ≡ pos n
-int_between v n h = grind (arith, ints, h)
+other_way : (z : ℤ) (n : ℕ) → not (int_eq (pos n) z) ≡ not (int_eq z (pos n))
+other_way z n = grind (arith, ints)
 
--- a set keeps all its members where the number that is left out isn't one
-pub kept_without : (xs : List ℕ) (v : ℤ) → has_int xs v ≡ false → IsRising 0 INFINITY xs → IsSubset xs (outside (between v v))
-kept_without xs v h r = record {
-  each = λ n g. let low : n ≤ INFINITY = has_limit INFINITY xs n r g in
-      has-filter (λ k. not (has (between v v) k)) (universe INFINITY) n (in_universe INFINITY n low) (apart n g (has (between v v) n) refl);
-} where
-  apart : (n : ℕ) → has xs n ≡ true → (b : Bool) → has (between v v) n ≡ b → not b ≡ true
-  apart n g false e = refl
-  apart n g true e =
-      let is : v ≡ pos n = int_between v n (has-filter_back (λ k. int_le v (pos k) && int_le (pos k) v) (universe INFINITY) n e).1 in
-      absurd (true≢false (sym g ∙ (sym (ap (has_int xs) is) ∙ h)))
+-- all numbers but one are the complement of that one
+pub except_one : (z : ℤ) → all_but z ≡ outside (between z z)
+except_one z = filter_agree (λ n. not (int_eq (pos n) z)) (λ n. not (int_eq z (pos n))) (other_way z) (universe INFINITY) ∙ sym (ap outside (one_is INFINITY z) ∙ outside_is INFINITY (λ n. int_eq z (pos n)))

@@ -18,4 +18,5 @@ pub mod Placing
 pub mod Testing
 pub mod Running
 pub mod Forms
+pub mod Choices
 pub mod Renaming

@@ -1,14 +1,9 @@
 -- A set of several members is one whose least and greatest member differ.
-use Rattle.std.proofs.Common.{◌≡◌, ℕ, suc, ◌≤◌, Bool, false, not, ◌&&◌, ◌==◌, nat_eq, List, [], ◌∷◌, Option, Some, None, refl, sym, ◌∙◌, ap, arith, eq-eqb}
-use Rattle.std.specs.Prelude.{MatchOption, OnSome}
-use Rattle.std.specs.Option.{option_eq}
+use Rattle.std.proofs.Common.{◌≡◌, ℕ, suc, ◌≤◌, false, not, ◌==◌, List, [], ◌∷◌, ◌∙◌, ap, refl, arith, eq-eqb}
 use Rattle.std.proofs.lemmas.Bool.{true≢false, or_left}
-use Rattle.fd_language.specs.declared.range_node.Feature.{Feature}
-use Rattle.fd_language.specs.declared.range_node.Feature.TheVariants as feature
 use Rattle.fd_language.specs.Family.{IsRising, has}
 use Rattle.fd_language.specs.Range.{least, greatest, is_none_left, is_several}
 use Rattle.fd_language.proofs.Lemmas.{greatest_high}
-use Rattle.range_code.specs.Standing.{is_val}
 
 apart : (x y g : ℕ) → suc x ≤ y → y ≤ g → (x == g) ≡ false
 apart x y g h k = grind arith
@@ -18,13 +13,5 @@ ends_differ M [] h r = absurd (true≢false h)
 ends_differ M (x ∷ []) h r = ap not (eq-eqb x x refl)
 ends_differ M (x ∷ y ∷ ys) h r = ap not (apart x y (greatest (y ∷ ys)) r.2.0 (greatest_high (suc x) M y (y ∷ ys) r.2 (or_left (y == y) (has ys y) (eq-eqb y y refl))))
 
-differ : (M : ℕ) (xs : List ℕ) (a b : Option ℕ) → IsRising 0 M xs → MatchOption a (xs ≡ []) (λ n. n ≡ least xs) → OnSome a (is_none_left xs ≡ false) → MatchOption b (xs ≡ []) (λ n. n ≡ greatest xs) → OnSome b (is_none_left xs ≡ false) →
-    not (option_eq nat_eq a b) ≡ is_several xs
-differ M xs None None r h s g t = sym (ap is_several h)
-differ M xs None (Some m) r h s g t = absurd (true≢false (sym (ap is_none_left h) ∙ t))
-differ M xs (Some n) None r h s g t = absurd (true≢false (sym (ap is_none_left g) ∙ s))
-differ M xs (Some n) (Some m) r h s g t = ap (λ k. not (k == m)) h ∙ (ap (λ k. not (least xs == k)) g ∙ ends_differ M xs s r)
-
-pub opens_is : (M : ℕ) (f : Feature) (xs : List ℕ) (a b : Option ℕ) (c : Bool) → f ≡ feature.Val → IsRising 0 M xs → MatchOption a (xs ≡ []) (λ n. n ≡ least xs) → OnSome a (is_none_left xs ≡ false) → MatchOption b (xs ≡ []) (λ n. n ≡ greatest xs) → OnSome b (is_none_left xs ≡ false) →
-    c ≡ not (option_eq nat_eq a b) → c ≡ (is_val f && is_several xs)
-opens_is M f xs a b c e r h s g t d = d ∙ (differ M xs a b r h s g t ∙ ap (λ k. is_val k && is_several xs) (sym e))
+pub differ : (M : ℕ) (xs : List ℕ) (a b : ℕ) → is_none_left xs ≡ false → IsRising 0 M xs → a ≡ least xs → b ≡ greatest xs → not (a == b) ≡ is_several xs
+differ M xs a b h r e f = ap (λ k. not (k == b)) e ∙ (ap (λ k. not (least xs == k)) f ∙ ends_differ M xs h r)

@@ -15,11 +15,12 @@ use Rattle.range_code.specs.declared.form.Division.{Division}
 use Rattle.range_code.specs.declared.form.Division.TheVariants.{Whole, Down, Up}
 use Rattle.range_code.specs.declared.form.Bound.{Bound}
 use Rattle.range_code.specs.declared.form.Form.{Form}
-use Rattle.range_code.specs.declared.form.Form.TheVariants.{Nodes, Between, Without, Except}
+use Rattle.range_code.specs.declared.form.Form.TheVariants.{Nodes, Between, Without, Except, Chosen}
 use Rattle.range_code.specs.declared.form.Leaf.{Leaf}
 use Rattle.range_code.specs.declared.form.Leaf.TheVariants.{Number, Read}
 use Rattle.range_code.specs.declared.form.Addend.{Addend}
 use Rattle.range_code.specs.Nodes.{IsSeen, IsReadable}
+use Rattle.range_code.specs.Choices.{IsChoice}
 use Rattle.range_code.specs.Work.{filled_value, filled_set}
 use Rattle.range_code.specs.Steps.{outside}
 
@@ -92,6 +93,7 @@ IsForm r Nodes = Unit {0}
 IsForm r (Between a b) = IsInterval r a b
 IsForm r (Without a b) = IsComplement r a b
 IsForm r (Except a) = IsException r a
+IsForm r (Chosen c) = IsChoice r c
 
 -- what a leaf adds
 abbrev pub leaf_amount : Family → Leaf → ℤ

@@ -13,4 +13,5 @@ pub mod Walked
 pub mod Asked
 pub mod Gathered
 pub mod Compiled
+pub mod Choices
 pub mod Forms

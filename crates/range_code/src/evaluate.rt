@@ -1,6 +1,6 @@
 //! A range evaluated, instruction by instruction.
 
-ghost use Rattle.std.specs.Prelude.{◌≡◌, ◌≤◌, ℕ, ℤ, pos, List, [], ◌∷◌, length, vec_capacity, IfOk, OnOk};
+ghost use Rattle.std.specs.Prelude.{◌≡◌, ◌≤◌, ℕ, ℤ, pos, List, [], ◌∷◌, length, filter, vec_capacity, IfOk, OnOk};
 ghost use Rattle.std.specs.List.{All};
 ghost use Rattle.fd_language.specs.Range.{least as least_of, greatest as greatest_of};
 ghost use Rattle.fd_language.specs.Flat.{spelled, IsSpelled};
@@ -9,11 +9,15 @@ ghost use Rattle.range_code.specs.Nodes.{IsReadable};
 ghost use Rattle.range_code.specs.Work.{leaf_value, filled_set, RangeFits, CanTake, IsTaken};
 ghost use Rattle.range_code.specs.Heights.{tallest, HasRoom, IsCounted, KeepsRoom};
 ghost use Rattle.range_code.specs.Steps.{outside};
+ghost use Rattle.fd_language.specs.declared.TheConstants.{INFINITY as TOP};
+ghost use Rattle.fd_language.specs.Family.{universe};
+ghost use Rattle.range_code.specs.Choices.{is_chosen, AreRising};
 ghost use Rattle.range_code.specs.Forms.{IsForm};
 ghost use Rattle.range_code.specs.Instructions.{node_of, IsPlaced};
 ghost use Rattle.range_code.specs.Walked.{steps_from, all_steps, ArePlaced, IsAt};
 ghost use Rattle.domain_ranges.specs.Narrowing.{between, IsNarrowed};
 
+use crate::choice::chosen;
 use crate::form::Form;
 use crate::frame::{Arg, slot_domain, slot_value};
 use crate::instr::RangeInstr;
@@ -224,16 +228,21 @@ fn narrow_outside(alloc: Global, target: &Domain, low: i64, high: i64) -> Result
     target.narrowed_by(&others)
 }
 
-/// What is left of the domain without the number.
-#[inline(always)]
-fn narrow_without(alloc: Global, target: &Domain, number: i64) -> Result<Narrowed, NoMemory>
-    ensures { IfOk result (IsNarrowed target.now (outside (between number number))) }
+/// What is left of the domain among the numbers that are chosen.
+#[inline(never)]
+fn narrow_to_chosen(
+    alloc: Global,
+    target: &Domain,
+    pairs: &[(u32, u32)],
+    keys: &Domain,
+) -> Result<Narrowed, NoMemory>
+    requires high { All (λ pair. pair.1 ≤ TOP) pairs.now }
+    requires rising { AreRising pairs.now }
+    ensures { IfOk result (IsNarrowed target.now
+        (filter (is_chosen keys.now pairs.now) (universe TOP))) }
 {
-    if target.contains(number as i128) {
-        narrow_outside(alloc, target, number, number)
-    } else {
-        Ok(Narrowed::Same)
-    }
+    let numbers = chosen(alloc, pairs, keys)?;
+    target.narrowed_by(&numbers)
 }
 
 /// What the range leaves of the domain, by the table of ranges alone.
@@ -269,6 +278,10 @@ pub(crate) fn evaluate_narrowing<V: View>(
             let low = low.value(args, view);
             narrow_outside(work.alloc, target, low, high.value(args, view))
         }
-        Form::Except(number) => narrow_without(work.alloc, target, number.value(args, view)),
+        Form::Except(number) => target.narrowed_without(number.value(args, view)),
+        Form::Chosen(choice) => {
+            let keys = slot_domain(args, choice.slot, view);
+            narrow_to_chosen(work.alloc, target, &choice.pairs, keys)
+        }
     }
 }

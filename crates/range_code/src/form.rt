@@ -1,4 +1,4 @@
-//! Ranges that are evaluated without waiting values: an interval between two sums, and the complement of one.
+//! Ranges that are evaluated without waiting values: an interval between two sums, the complement of one, and chosen numbers.
 
 ghost use Rattle.std.specs.Prelude.{◌≡◌, ◌<◌, ◌≤◌, ◌^◌, ◌-◌, ◌+◌, ◌*◌, ◌⊎◌, pos, ◌+ℤ◌, ◌*ℤ◌, nat_abs, IsTrue, List, [], ◌∷◌, length, IfSome, IfOk};
 ghost use Rattle.fd_language.specs.declared.range_node.RangeNode.{RangeNode as Spelled};
@@ -8,6 +8,7 @@ ghost use Rattle.fd_language.specs.Range.{Range};
 ghost use Rattle.range_code.specs.Frames.{slot_set};
 ghost use Rattle.range_code.specs.Forms.{end_of as end_of_set, sum_of, total_of, divided as divided_by, leaf_amount, amount, bound_value, AreNarrow, AreSeen, IsPositive, IsUsable, IsLeaf, IsSigned, IsDivision, IsPart, IsAdded, IsBound, IsForm};
 
+use crate::choice::{Choice, read_choice};
 use crate::frame::{Arg, slot_domain};
 use domain_ranges::{Domain, View};
 use fd_language::{INFINITY, NoMemory, RangeNode};
@@ -44,13 +45,14 @@ pub(crate) struct Bound {
     pub division: Division,
 }
 
-/// How a range is evaluated: by its nodes, as an interval, or as the complement of one or of a single number.
+/// How a range is evaluated: by its nodes, as an interval, as the complement of one or of a single number, or by choosing numbers.
 #[derive(Drop)]
 pub(crate) enum Form {
     Nodes,
     Between(Bound, Bound),
     Without(Bound, Bound),
     Except(Bound),
+    Chosen(Choice),
 }
 
 /// A term without operators.
@@ -73,9 +75,12 @@ fn end_of(domain: &Domain, end: End) -> u32
     ensures value { result ≡ end_of_set domain.now end }
     ensures limit { result ≤ INFINITY }
 {
+    let Some((least, greatest)) = domain.bounds() else {
+        return 0;
+    };
     match end {
-        End::Least => domain.min().unwrap_or(0),
-        End::Greatest => domain.max().unwrap_or(0),
+        End::Least => least,
+        End::Greatest => greatest,
     }
 }
 
@@ -370,6 +375,16 @@ fn read_bound(alloc: Global, nodes: &[RangeNode]) -> Result<Option<(Bound, &[Ran
 
 /// The form of the range that the nodes spell.
 pub(crate) fn form_of(alloc: Global, nodes: &[RangeNode]) -> Result<Form, NoMemory>
+    ensures { IfOk result (λ form. (r : Range) → nodes.now ≡ nodes_of r → IsForm r form) }
+{
+    match read_choice(alloc, nodes)? {
+        Some(choice) => Ok(Form::Chosen(choice)),
+        None => sums_form(alloc, nodes),
+    }
+}
+
+/// Its form where it is made of sums.
+fn sums_form(alloc: Global, nodes: &[RangeNode]) -> Result<Form, NoMemory>
     ensures { IfOk result (λ form. (r : Range) → nodes.now ≡ nodes_of r → IsForm r form) }
 {
     let Some((low, rest)) = read_bound(alloc, nodes)? else {

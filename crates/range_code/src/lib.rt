@@ -11,13 +11,14 @@ ghost use Rattle.range_code.specs.Slots.{slots_of, slot_needs, slot_features, in
 ghost use Rattle.range_code.specs.Kinds.{slot_kinds, val_slots};
 ghost use Rattle.range_code.specs.Heights.{height};
 ghost use Rattle.range_code.specs.Folded.{folded_nodes};
-ghost use Rattle.range_code.specs.Instructions.{instructions_of, constants_of, tests_of};
+ghost use Rattle.range_code.specs.Instructions.{instructions_of, tests_of};
 ghost use Rattle.range_code.specs.Walked.{all_steps, ArePlaced};
 ghost use Rattle.range_code.specs.Forms.{IsForm};
 ghost use Rattle.range_code.specs.Frames.{IsFrame, posted, family_of};
 ghost use Rattle.range_code.specs.declared.frame.Arg.{Arg as AnyArg};
 
 mod alike;
+mod choice;
 mod compile;
 mod evaluate;
 mod fold;
@@ -97,6 +98,7 @@ impl Activations {
     }
 
     /// One more.
+    #[inline(always)]
     fn add(&mut self)
         ensures { self.new.count ≡ min (self.old.count + 1) (2 ^ 64 - 1) }
     {
@@ -162,18 +164,12 @@ impl RangeCode {
     }
 
     /// The slots that are read by val.
+    #[inline(always)]
     fn vals(&self) -> &[usize]
         ensures vals { result.now ≡ val_slots self.now }
         ensures accepted { IsTrue (is_accepted INFINITY self.now) }
     {
         &self.vals
-    }
-
-    /// The constants that the instructions push, by their places.
-    fn constants(&self) -> &[i128]
-        ensures { result.now ≡ constants_of self.now }
-    {
-        &self.steps.constants
     }
 
     /// The tests in front of the other instructions.
@@ -185,6 +181,7 @@ impl RangeCode {
     }
 
     /// What is evaluated.
+    #[inline(always)]
     fn steps(&self) -> &Steps
         ensures nodes { all_steps result.now ≡ folded_nodes self.now }
         ensures placed { ArePlaced result.now }
@@ -193,6 +190,7 @@ impl RangeCode {
     }
 
     /// How the range is evaluated where it narrows.
+    #[inline(always)]
     fn form(&self) -> &Form
         ensures { IsForm (in_slots self.now) result.now }
     {
@@ -301,6 +299,7 @@ impl Stacks {
 /// is an interval, no set is.
 ///
 /// The arguments are those of `run_range`. No set of the view is empty, and there is room for the range in the stacks.
+#[inline(always)]
 pub fn narrow<V: View>(
     code: &RangeCode,
     args: &[Arg],
@@ -331,6 +330,3 @@ pub fn narrow<V: View>(
         target,
     )
 }
-
-#[cfg(test)]
-mod tests;

@@ -1,16 +1,16 @@
-//! Sets of ranges over given domains, as the table of ranges has them.
+//! Codes of ranges: their sets over given domains, as the table of ranges has them, and what they tell.
 
 ghost use Rattle.std.specs.Prelude.{◌≡◌, ◌<◌, length, slice_index_or, MatchOption, IsTrue};
 ghost use Rattle.fd_language.specs.Flat.{nodes_of};
 ghost use Rattle.range_code.specs.Frames.{IsArg, AreArgs, IsFrame};
 
-use crate::{
-    Activations, Arg, Narrowed, RangeCode, RangeInstr, ReadKind, Stacks, are_some, compile_range,
-    narrow, run_range,
-};
 use domain_ranges::{Domain, View};
 use fd_language::{Feature, FlatRange, Need, RangeNode};
 use monotone_check::check;
+use range_code::{
+    Activations, Arg, Narrowed, RangeCode, RangeInstr, ReadKind, Stacks, are_some, compile_range,
+    narrow, run_range,
+};
 use std::alloc::Global;
 use std::marker::Model;
 use std::process::Abort;
@@ -140,7 +140,7 @@ fn leaves(
 
 /// What `min(Y)+1..infinity` and `-{val(Y)}` leave of a domain.
 #[test]
-fn narrowed(rt: HostRuntime) -> Result<(), Fail> {
+fn interval_and_complement_narrow(rt: HostRuntime) -> Result<(), Fail> {
     use RangeNode::*;
     let alloc = rt.alloc();
     let y = [Arg::Var(0)];
@@ -161,7 +161,7 @@ fn narrowed(rt: HostRuntime) -> Result<(), Fail> {
 
 /// The set of `(0..max(Y))&-{2}`.
 #[test]
-fn evaluated(rt: HostRuntime) -> Result<(), Fail> {
+fn set_of_an_intersection(rt: HostRuntime) -> Result<(), Fail> {
     use RangeNode::*;
     let nodes = [Int(0), Max(7), Span, Int(2), One, Outside, Inter];
     let y = [Arg::Var(0)];
@@ -170,7 +170,7 @@ fn evaluated(rt: HostRuntime) -> Result<(), Fail> {
 
 /// The slots of `(Q*min(Y)..max(Y)):(P..9)&(0..max(Y)/<P)`, and what is told of them.
 #[test]
-fn told_of_slots(rt: HostRuntime) -> Result<(), Fail> {
+fn slots_needs_and_reads(rt: HostRuntime) -> Result<(), Fail> {
     use RangeNode::*;
     let nodes = [
         Param(8),
@@ -206,7 +206,7 @@ fn told_of_slots(rt: HostRuntime) -> Result<(), Fail> {
 
 /// `min(Y)..9` and `min(Z)..9` are alike, and `val(Y)..9` isn't.
 #[test]
-fn alike(rt: HostRuntime) -> Result<(), Fail> {
+fn alike_but_for_names(rt: HostRuntime) -> Result<(), Fail> {
     use RangeNode::*;
     let first = code_of(&rt, rt.alloc(), &[Min(3), Int(9), Span])?;
     let second = code_of(&rt, rt.alloc(), &[Min(8), Int(9), Span])?;
@@ -216,9 +216,9 @@ fn alike(rt: HostRuntime) -> Result<(), Fail> {
     Ok(())
 }
 
-/// The instructions of `min(Y)+2*3..9`, and their constants.
+/// The instructions of `min(Y)+2*3..9`, and its set: so their constants are 6 and 9.
 #[test]
-fn compiled(rt: HostRuntime) -> Result<(), Fail> {
+fn instructions_with_folded_literals(rt: HostRuntime) -> Result<(), Fail> {
     use RangeNode::*;
     let nodes = [Min(7), Int(2), Int(3), Mul, Add, Int(9), Span];
     let code = code_of(&rt, rt.alloc(), &nodes)?;
@@ -234,6 +234,6 @@ fn compiled(rt: HostRuntime) -> Result<(), Fail> {
         ]
         .as_slice()
     );
-    assert_eq!(rt; code.constants(), [6, 9].as_slice());
-    Ok(())
+    let y = [Arg::Var(0)];
+    gives(&rt, rt.alloc(), &nodes, &y, &[(1, 3)], &[(7, 9)])
 }

@@ -2,7 +2,7 @@ use Rattle.std.proofs.Common.{◌≡◌, pos, subst, length, arith}
 use Rattle.fd_language.specs.declared.range_node.RangeNode.TheVariants as node
 use Rattle.range_code.specs.Forms.{IsBound}
 use Rattle.range_code.proofs.Forms.{only_one, only_two, interval_form, complement_form, exception_form}
-use Rattle.range_code.proofs.form.form_of.Goals as goal
+use Rattle.range_code.proofs.form.sums_form.Goals as goal
 
 pub returns-then-is_complement : goal.returns-then-is_complement
 returns-then-is_complement c r e =

@@ -1,5 +1,5 @@
 use Rattle.std.proofs.Common.{length}
-use Rattle.range_code.proofs.tests.+are_args.Given as goal
+use Rattle.store_tests.proofs.range_codes.+are_args.Given as goal
 
 abbrev pub decreases-are_args : goal.decreases-are_args
 decreases-are_args l = length l.needs.now

@@ -1,0 +1,202 @@
+-- How the nodes of a range are read as a choice, and how numbers are chosen.
+use Rattle.std.proofs.Common.{◌≡◌, ℕ, ◌+◌, ◌*◌, ◌<◌, ◌≤◌, length, take, get_or, Bool, true, false, ◌&&◌, ◌||◌, ◌==◌, eqb-true, eq-eqb, ℤ, pos, ◌+ℤ◌, ◌*ℤ◌, List, [], ◌∷◌, ◌++◌, filter, Some, refl, sym, ◌∙◌, ap, subst, arith, inl, inr}
+use Rattle.std.specs.List.{All}
+use Rattle.std.specs.List.Sorted.{IsPermutation}
+use Rattle.std.specs.Ordering.{int_eq}
+use Rattle.std.proofs.lemmas.Bool.{true≢false, or_cases, and_parts, and_from}
+use Rattle.std.proofs.lemmas.Bool.Decides.{Decides-int_eq, nat_tests}
+use Rattle.std.proofs.Math.IntN.{+ℤ_idl}
+use Rattle.std.proofs.lemmas.List.{get_or-take, get_or_default, length-take-le}
+use Rattle.std.proofs.lemmas.List.Elements.{All-nil, All-cons, All-head, All-tail, All-append}
+use Rattle.std.proofs.lemmas.List.Folds.{list_any-append, list_any_more}
+use Rattle.std.proofs.lemmas.List.Sorted.{list_any-IsPermutation, All-permutation}
+use Rattle.fd_language.specs.declared.TheConstants.{INFINITY}
+use Rattle.fd_language.specs.declared.range_node.RangeNode.{RangeNode}
+use Rattle.fd_language.specs.declared.range_node.RangeNode.TheVariants as node
+use Rattle.fd_language.specs.Family.{Family, has, universe}
+use Rattle.fd_language.specs.Range.{Range, Union, greatest, some_number}
+use Rattle.fd_language.specs.Flat.{nodes_of, range_nodes, built, builds_range}
+use Rattle.fd_language.proofs.Lemmas.{two, has-filter_back}
+use Rattle.domain_ranges.proofs.Dividing.{same_bool}
+use Rattle.domain_ranges.proofs.Shifting.{not_true}
+use Rattle.domain_ranges.proofs.Images.{has_set, set_same, some_has, some_from}
+use Rattle.range_code.specs.declared.frame.Arg.{Arg}
+use Rattle.range_code.specs.declared.choice.Choice.{Choice}
+use Rattle.range_code.specs.declared.choice.Part.{Part}
+use Rattle.range_code.specs.Nodes.{IsReadable, IsSeen}
+use Rattle.range_code.specs.Choices.{part_range, is_chosen, is_in, AreRising, IsChoice, IsPairAdded, IsChoosing}
+
+int_same : (x y : ℤ) → x ≡ y → int_eq x y ≡ true
+int_same x y e = (Decides-int_eq x y).1 e
+
+same_int : (x y : ℤ) → int_eq x y ≡ true → x ≡ y
+same_int x y e = (Decides-int_eq x y).0 e
+
+pos_same : (a b : ℕ) → pos a ≡ pos b → a ≡ b
+pos_same a b e = cc
+
+or_false : (a : Bool) → (a || false) ≡ a
+or_false a = grind arith
+
+times_zero : (k : ℕ) → k * 0 ≡ 0
+times_zero k = omega arith
+
+-- the number of a part is in its range where its key is in the set
+module _ (S : Family) (p : ℕ → ℤ) (m : Part) (n : ℕ) (low : n ≤ INFINITY) where
+  abbrev key_there : ℕ → Bool
+  key_there f = int_eq m.key (pos f) && has (S m.slot) f
+
+  abbrev from_key : ℕ → ℕ → Bool
+  from_key e f = key_there f && int_eq (pos f *ℤ pos 0) (pos e)
+
+  abbrev from_zero : ℕ → Bool
+  from_zero e = some_number INFINITY (from_key e) && int_eq (pos e +ℤ m.number) (pos n)
+
+  record Found : Type 0 where
+    key : ℕ
+    high : key ≤ INFINITY
+    is : m.key ≡ pos key
+    there : has (S m.slot) key ≡ true
+    number : pos 0 +ℤ m.number ≡ pos n
+
+  found : is_in S p (part_range m) n ≡ true → Found
+  found t =
+      let outer = some_from INFINITY from_zero t in
+      let both = and_parts (some_number INFINITY (from_key outer.0)) (int_eq (pos outer.0 +ℤ m.number) (pos n)) outer.2 in
+      let inner = some_from INFINITY (from_key outer.0) both.0 in
+      let parts = and_parts (key_there inner.0) (int_eq (pos inner.0 *ℤ pos 0) (pos outer.0)) inner.2 in
+      let key = and_parts (int_eq m.key (pos inner.0)) (has (S m.slot) inner.0) parts.0 in
+      let zeroth : outer.0 ≡ 0 = sym (pos_same (inner.0 * 0) outer.0 (same_int (pos (inner.0 * 0)) (pos outer.0) parts.1)) ∙ times_zero inner.0 in
+      record {
+        key = inner.0;
+        high = inner.1;
+        is = same_int m.key (pos inner.0) key.0;
+        there = key.1;
+        number = ap (λ e. pos e +ℤ m.number) (sym zeroth) ∙ same_int (pos outer.0 +ℤ m.number) (pos n) both.1;
+      }
+
+  there : (k : ℕ) → k ≤ INFINITY → m.key ≡ pos k → has (S m.slot) k ≡ true → pos 0 +ℤ m.number ≡ pos n → is_in S p (part_range m) n ≡ true
+  there k high is h number =
+      some_has INFINITY from_zero 0 (omega arith)
+      (and_from (some_number INFINITY (from_key 0)) (int_eq (pos 0 +ℤ m.number) (pos n))
+      (some_has INFINITY (from_key 0) k high
+      (and_from (key_there k) (int_eq (pos k *ℤ pos 0) (pos 0)) (and_from (int_eq m.key (pos k)) (has (S m.slot) k) (int_same m.key (pos k) is) h) (int_same (pos (k * 0)) (pos 0) (ap pos (times_zero k)))))
+      (int_same (pos 0 +ℤ m.number) (pos n) number))
+
+  none_there : ((k j : ℕ) → k ≤ INFINITY → j ≤ INFINITY → m.key ≡ pos k → m.number ≡ pos j → ⊥) → is_in S p (part_range m) n ≡ false
+  none_there h = not_true (is_in S p (part_range m) n) (λ t. let f = found t in h f.key n f.high low f.is (sym (+ℤ_idl m.number) ∙ f.number))
+
+  pair_there : (d : ℕ × ℕ) → m.key ≡ pos d.0 → m.number ≡ pos d.1 → d.0 ≤ INFINITY → (has (S m.slot) d.0 && (d.1 == n)) ≡ is_in S p (part_range m) n
+  pair_there d key number high = same_bool (has (S m.slot) d.0 && (d.1 == n)) (is_in S p (part_range m) n)
+      (λ t. let both = and_parts (has (S m.slot) d.0) (d.1 == n) t in there d.0 high key both.0 (+ℤ_idl m.number ∙ (number ∙ ap pos (eqb-true d.1 n both.1))))
+      (λ t. let f = found t in
+      let at : f.key ≡ d.0 = pos_same f.key d.0 (sym f.is ∙ key) in
+      let is : d.1 ≡ n = pos_same d.1 n (sym number ∙ (sym (+ℤ_idl m.number) ∙ f.number)) in
+      and_from (has (S m.slot) d.0) (d.1 == n) (ap (has (S m.slot)) (sym at) ∙ f.there) (eq-eqb d.1 n is))
+
+abbrev IsHigh : ℕ × ℕ → Type 0
+IsHigh d = d.1 ≤ INFINITY
+
+pub pair_added : (m : Part) (old new : List (ℕ × ℕ)) (d : ℕ × ℕ) → new ≡ old ++ d ∷ [] → m.key ≡ pos d.0 → m.number ≡ pos d.1 → d.0 ≤ INFINITY → d.1 ≤ INFINITY → IsPairAdded m old new
+pair_added m old new d e key number high top = record {
+  same = λ S p n low. ap (λ l. is_chosen (S m.slot) l n) e ∙ (list_any-append (λ c. has (S m.slot) c.0 && (c.1 == n)) old (d ∷ [])
+      ∙ ap (λ b. is_chosen (S m.slot) old n || b) (or_false (has (S m.slot) d.0 && (d.1 == n)) ∙ pair_there S p m n low d key number high));
+  high = λ h. subst (All IsHigh) (sym e) (All-append IsHigh old (d ∷ []) h (All-cons IsHigh d [] top (All-nil IsHigh)));
+}
+
+pub none_added : (m : Part) (old new : List (ℕ × ℕ)) → new ≡ old → ((k j : ℕ) → k ≤ INFINITY → j ≤ INFINITY → m.key ≡ pos k → m.number ≡ pos j → ⊥) → IsPairAdded m old new
+none_added m old new e none = record {
+  same = λ S p n low. ap (λ l. is_chosen (S m.slot) l n) e ∙ sym (ap (λ b. is_chosen (S m.slot) old n || b) (none_there S p m n low none) ∙ or_false (is_chosen (S m.slot) old n));
+  high = λ h. subst (All IsHigh) (sym e) h;
+}
+
+-- the first part, and one more
+third_seen : (count : ℕ) (args : List Arg) (m : Part) (rest : List RangeNode) → All (IsReadable count args) (range_nodes (part_range m) rest) → IsSeen count args m.slot
+third_seen count args m rest h = h 2 node.One (omega arith)
+
+pub choosing_first : (ns rest : List RangeNode) (m : Part) (ds : List (ℕ × ℕ)) → ns ≡ range_nodes (part_range m) rest → IsPairAdded m [] ds → IsChoosing ns m.slot ds rest
+choosing_first ns rest m ds e a = record {
+  range = part_range m;
+  nodes = ap (λ l. built l [] []) e ∙ builds_range (part_range m) rest [];
+  same = λ S p n low. sym (a.same S p n low);
+  high = a.high (All-nil IsHigh);
+  seen = λ count args h. third_seen count args m rest (subst (All (IsReadable count args)) e h);
+}
+
+pub choosing_more : (ns rest behind : List RangeNode) (slot : ℕ) (m : Part) (old new : List (ℕ × ℕ)) → IsChoosing ns slot old rest → rest ≡ range_nodes (part_range m) (node.Union ∷ behind) → m.slot ≡ slot → IsPairAdded m old new → IsChoosing ns slot new behind
+choosing_more ns rest behind slot m old new f e s a = record {
+  range = Union f.range (part_range m);
+  nodes = f.nodes ∙ (ap (λ l. built l (f.range ∷ []) []) e ∙ builds_range (part_range m) (node.Union ∷ behind) (f.range ∷ []));
+  same = λ S p n low. ap (λ b. b || is_in S p (part_range m) n) (f.same S p n low ∙ ap (λ k. is_chosen (S k) old n) (sym s)) ∙ (sym (a.same S p n low) ∙ ap (λ k. is_chosen (S k) new n) s);
+  high = a.high f.high;
+  seen = f.seen;
+}
+
+some_same : (r q : Range) → Some r ≡ Some q → r ≡ q
+some_same r q e = cc
+
+no_rest : (rest : List RangeNode) → length rest ≡ 0 → rest ≡ []
+no_rest [] e = refl
+no_rest (n ∷ ns) e = absurd (let k : ⊥ = omega (arith, e) in k)
+
+pub choosing_whole : (ns rest : List RangeNode) (ds : List (ℕ × ℕ)) (c : Choice) → IsChoosing ns c.slot ds rest → length rest ≡ 0 → IsPermutation ds c.pairs.items → AreRising c.pairs.items → (r : Range) → ns ≡ nodes_of r → IsChoice r c
+choosing_whole ns rest ds c f none perm rise r e =
+    let is : r ≡ f.range = some_same r f.range (sym (ap (λ l. built l [] []) e ∙ builds_range r [] []) ∙ (f.nodes ∙ ap (λ l. built l (f.range ∷ []) []) (no_rest rest none))) in
+    record {
+      set = λ S p. ap (λ q. filter (is_in S p q) (universe INFINITY)) is
+          ∙ set_same INFINITY (is_in S p f.range) (is_chosen (S c.slot) c.pairs.items) (λ n low. f.same S p n low ∙ list_any-IsPermutation (λ d. has (S c.slot) d.0 && (d.1 == n)) ds c.pairs.items perm);
+      high = All-permutation IsHigh ds c.pairs.items perm f.high;
+      rising = rise;
+      seen = λ count args h. f.seen count args (subst (All (IsReadable count args)) (sym e) h);
+    }
+
+-- the numbers that are chosen are no greater than the next one
+greatest_below : (xs : List ℕ) (top : ℕ) → ((n : ℕ) → has xs n ≡ true → n ≤ top) → greatest xs ≤ top
+greatest_below [] top h = omega arith
+greatest_below (x ∷ []) top h = h x (ap (λ b. b || false) (eq-eqb x x refl))
+greatest_below (x ∷ y ∷ ys) top h = greatest_below (y ∷ ys) top (λ n g. h n (later (x == n) (has (y ∷ ys) n) g))
+  where
+    later : (a b : Bool) → b ≡ true → (a || b) ≡ true
+    later a b g = grind (arith, g)
+
+chosen_below : (s : List ℕ) (ds : List (ℕ × ℕ)) (n top : ℕ) → All (λ d. d.1 ≤ top) ds → is_chosen s ds n ≡ true → n ≤ top
+chosen_below s [] n top a h = absurd (true≢false (sym h))
+chosen_below s (d ∷ ds) n top a h = elim (or_cases (has s d.0 && (d.1 == n)) (is_chosen s ds n) h) [
+  | inl e ↦ subst (λ k. k ≤ top) (eqb-true d.1 n (and_parts (has s d.0) (d.1 == n) e).1) (All-head (λ c. c.1 ≤ top) d ds a)
+  | inr e ↦ chosen_below s ds n top (All-tail (λ c. c.1 ≤ top) d ds a) e
+]
+
+pub chosen_low : (s numbers : List ℕ) (ds : List (ℕ × ℕ)) (i : ℕ) (d : ℕ × ℕ) → AreRising ds → i < length ds → numbers ≡ filter (is_chosen s (take i ds)) (universe INFINITY) → greatest numbers ≤ (get_or ds i d).1
+chosen_low s numbers ds i d rise l e =
+    greatest_below numbers (get_or ds i d).1 (λ k h. chosen_below s (take i ds) k (get_or ds i d).1 firsts (has-filter_back (is_chosen s (take i ds)) (universe INFINITY) k (ap (λ xs. has xs k) (sym e) ∙ h)).1)
+  where
+    firsts : All (λ c. c.1 ≤ (get_or ds i d).1) (take i ds)
+    firsts k c g =
+        let low : k < i = omega (arith, length-take-le i ds (omega arith), g) in
+        subst (λ x. x.1 ≤ (get_or ds i d).1) (sym (get_or-take i ds k c low))
+        (subst (λ x. (get_or ds k c).1 ≤ x.1) (get_or_default ds i c d l) (rise k i c (omega arith) l))
+
+other_way : (a b : ℕ) → (a == b) ≡ (b == a)
+other_way a b = grind (arith, nat_tests)
+
+-- one more pair
+pub chosen_more : (s numbers more : List ℕ) (ds : List (ℕ × ℕ)) (i : ℕ) (d : ℕ × ℕ) → i < length ds → numbers ≡ filter (is_chosen s (take i ds)) (universe INFINITY) → has s (get_or ds i d).0 ≡ true →
+    more ≡ filter (λ k. has numbers k || (k == (get_or ds i d).1)) (universe INFINITY) → more ≡ filter (is_chosen s (take (i + 1) ds)) (universe INFINITY)
+chosen_more s numbers more ds i d l e h f =
+    let c : ℕ × ℕ = get_or ds i d in
+    f ∙ set_same INFINITY (λ k. has numbers k || (k == c.1)) (is_chosen s (take (i + 1) ds)) (λ k low.
+    two (λ a b. a || b) (ap (λ xs. has xs k) e ∙ has_set INFINITY (is_chosen s (take i ds)) k low) (other_way k c.1 ∙ sym (ap (λ b. b && (c.1 == k)) h))
+    ∙ sym (list_any_more (λ x. has s x.0 && (x.1 == k)) ds i d l))
+
+pub chosen_same : (s numbers : List ℕ) (ds : List (ℕ × ℕ)) (i : ℕ) (d : ℕ × ℕ) → i < length ds → numbers ≡ filter (is_chosen s (take i ds)) (universe INFINITY) → has s (get_or ds i d).0 ≡ false → numbers ≡ filter (is_chosen s (take (i + 1) ds)) (universe INFINITY)
+chosen_same s numbers ds i d l e h =
+    let c : ℕ × ℕ = get_or ds i d in
+    e ∙ set_same INFINITY (is_chosen s (take i ds)) (is_chosen s (take (i + 1) ds)) (λ k low.
+    sym (list_any_more (λ x. has s x.0 && (x.1 == k)) ds i d l ∙ (ap (λ b. is_chosen s (take i ds) k || (b && (c.1 == k))) h ∙ or_false (is_chosen s (take i ds) k))))
+
+pub chosen_none : (s : List ℕ) (ds : List (ℕ × ℕ)) → [] ≡ filter (is_chosen s (take 0 ds)) (universe INFINITY)
+chosen_none s ds = sym (keeps_none (universe INFINITY))
+  where
+    keeps_none : (xs : List ℕ) → filter (λ n. false) xs ≡ []
+    keeps_none [] = refl
+    keeps_none (x ∷ xs) = keeps_none xs
