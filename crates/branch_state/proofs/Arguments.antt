@@ -23,19 +23,13 @@ use Rattle.range_code.specs.Frames.{IsArg, AreArgs, arg_at, variable_of, integer
 use Rattle.range_code.proofs.Once.{has_once}
 use Rattle.fd_model.specs.Posting.{or_later}
 use Rattle.fd_model.specs.Posting as seen
+use Rattle.branch_state.specs.CellNaming.{slots_open}
 use Rattle.branch_state.specs.Naming.{offence, first_in, named_behind, StandsIn, AllStand}
 use Rattle.branch_state.proofs.Places.{AreSettled, variables}
 
 none_both : (a b : Option QueryFault) → or_later a b ≡ None → (a ≡ None) × (b ≡ None)
 none_both (Some x) b h = absurd (cc)
 none_both None b h = (refl, h)
-
--- the slots that are no parameters
-abbrev pub slots_open : List ℕ → List (Option Need) → List ℕ
-slots_open [] ns = []
-slots_open (y ∷ ys) [] = []
-slots_open (y ∷ ys) (None ∷ ns) = y ∷ slots_open ys ns
-slots_open (y ∷ ys) (Some n ∷ ns) = slots_open ys ns
 
 -- two ways to fill and rename a range, which agree at its places
 module _ (f g : ℕ → ℕ) (p q : ℕ → ℤ) where

@@ -18,7 +18,7 @@ use Rattle.branch_state.specs.Naming.{offence, first_in, goal_offence, named_beh
 use Rattle.branch_state.proofs.Lists.{same_test, filter_agree, filter_twice, filter_without, once_filter}
 use Rattle.branch_state.proofs.Places.{AreSettled, settled, variables, plain_filter}
 
-abbrev is_open : Option Need → Bool
+abbrev pub is_open : Option Need → Bool
 is_open None = true
 is_open (Some n) = false
 
@@ -159,7 +159,8 @@ offence_of_goal look v r one = two or_later (target (look v)) (offence_of_range 
   target (Atom a) = refl
   target (Comp f ts) = refl
 
-plain_slots : (r : Range) → has_one_use r ≡ true → once (plain (range_places r)) ≡ filter (λ y. is_open (need_at r y)) (slots_of r)
+-- the slots that are no parameters are what it reads
+pub plain_slots : (r : Range) → has_one_use r ≡ true → once (plain (range_places r)) ≡ filter (λ y. is_open (need_at r y)) (slots_of r)
 plain_slots r one =
     ap once (plain_filter (params r) (range_places r) (settled r one)) ∙ sym (once_filter (λ y. not (has (params r) y)) (variables (range_places r)))
     ∙ filter_agree (λ y. not (has (params r) y)) (λ y. is_open (need_at r y)) (slots_of r) (λ y. sym (open_need Var r y))

@@ -22,4 +22,7 @@ mod Named
 mod Preparing
 mod Rows
 mod Ranged
+mod TermNaming
+mod CellsReady
+mod CellsPosted
 mod Showing

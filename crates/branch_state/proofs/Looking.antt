@@ -186,7 +186,7 @@ none_first None b h = (refl, h)
 same_int : (a b : ℤ) → Int a ≡ Int b → a ≡ b
 same_int a b e = cc
 
-number_is : (h : Cells) (t : Term) (l : Look) (w z : ℤ) → LooksAs h t l → IsInteger l w → t ≡ Int z → w ≡ z
+pub number_is : (h : Cells) (t : Term) (l : Look) (w z : ℤ) → LooksAs h t l → IsInteger l w → t ≡ Int z → w ≡ z
 number_is h t (look.Open j) w z k i e = absurd (let f = sym k.0 ∙ e in cc)
 number_is h t (look.Linked j) w z k i e = absurd (let f = sym k.1 ∙ e in cc)
 number_is h t (look.Number v) w z k i e = i ∙ same_int v z (sym k ∙ e)

@@ -22,6 +22,7 @@ use Rattle.unify_core.specs.declared.Touch.TheVariants.{Value}
 use Rattle.machine_relation.specs.Held.{value_in, value_at}
 use Rattle.machine_frames.specs.Environments.{cell_at, cell_look, OwnEnv}
 use Rattle.machine_frames.specs.Frames.{link_of, link_in}
+use Rattle.machine_frames.specs.Posting.{Listed, IsLinkedMore}
 use Rattle.machine_frames.specs.Reading.{seen_env}
 use Rattle.machine_frames.proofs.Growing.{linked_none, linked_next}
 use Rattle.branch_state.specs.declared.look.Look.{Look}
@@ -342,19 +343,24 @@ module _ (s : Substitution) (n : ℕ) (h : Cells) (sets : List (List ℕ)) (xs :
 
 -- ---- what variables are seen as stays
 
+-- a heap's variables have the values that they had, where new ones of the store are linked
+pub still_valued : (h : Cells) (sets : List (List ℕ)) (now : Cells) (S : List (List ℕ)) (more : List (ℕ × ℕ)) → IsLinkedMore h now more → ((c k : ℕ) → Listed c k more → length sets ≤ k) → ((k : ℕ) → family_of S k ≡ family_of sets k)
+    → (d : ℕ) → value_at (link_in now d) (family_of S) d ≡ value_at (link_in h d) (family_of sets) d
+still_valued h sets now S more links listed same d = by_old (link_in h d) refl where
+  by_new : (o : Option ℕ) → link_in h d ≡ None → link_in now d ≡ o → value_at o (family_of S) d ≡ Var d
+  by_new None e f = refl
+  by_new (Some k) e f = elim (links.new d k f) [
+    | inl a ↦ absurd (none_some k (sym e ∙ a))
+    | inr a ↦ ap (λ xs. value_in xs d) (same k) ∙ new_value sets k d (listed d k a)
+  ]
+
+  by_old : (o : Option ℕ) → link_in h d ≡ o → value_at (link_in now d) (family_of S) d ≡ value_at o (family_of sets) d
+  by_old None e = by_new (link_in now d) e refl
+  by_old (Some k) e = ap (λ o. value_at o (family_of S) d) (links.keep d k e) ∙ ap (λ xs. value_in xs d) (same k)
+
 module _ (s : Substitution) (h : Cells) (sets : List (List ℕ)) (xs : List ℕ) (now : Cells) (S : List (List ℕ)) (ks : List ℕ) (fs : List Touch) (w : IsNaming s h sets xs now S ks fs) where
   same_value : (d : ℕ) → value_at (link_in now d) (family_of S) d ≡ value_at (link_in h d) (family_of sets) d
-  same_value d = by_old (link_in h d) refl where
-    by_new : (o : Option ℕ) → link_in h d ≡ None → link_in now d ≡ o → value_at o (family_of S) d ≡ Var d
-    by_new None e f = refl
-    by_new (Some k) e f = elim (w.links.new d k f) [
-      | inl a ↦ absurd (none_some k (sym e ∙ a))
-      | inr a ↦ (let t = w.listed d k a in ap (λ xs. value_in xs d) (w.same k) ∙ new_value sets k d t.3)
-    ]
-
-    by_old : (o : Option ℕ) → link_in h d ≡ o → value_at (link_in now d) (family_of S) d ≡ value_at o (family_of sets) d
-    by_old None e = by_new (link_in now d) e refl
-    by_old (Some k) e = ap (λ o. value_at o (family_of S) d) (w.links.keep d k e) ∙ ap (λ xs. value_in xs d) (w.same k)
+  same_value d = still_valued h sets now S w.more w.links (λ c k i. (w.listed c k i).3) w.same d
 
   pub same_seen : (name : Naming) (env : List (Option Cell)) → OwnEnv h env → (y : ℕ) → seen_env name now env (family_of S) y ≡ seen_env name h env (family_of sets) y
   same_seen name env own y = ap (apply (λ d. value_at (link_in now d) (family_of S) d)) (by_cell (cell_at env y) refl) ∙ same_apply (λ d. value_at (link_in now d) (family_of S) d) (λ d. value_at (link_in h d) (family_of sets) d) same_value (cell_look name h y (cell_at env y)) where

@@ -77,7 +77,7 @@ stand_kept s of of' v (y ∷ ys) (None ∷ ns) (a ∷ as') h t = (t.0 ∙ ap arg
   later z true k = refl
   later z false k = deeper (y == v) z k
 
-stand_more : (s : Substitution) (of : ℕ → ℕ) (ys : List ℕ) (ns : List (Option Need)) (as' : List Arg) (y : ℕ) (n : Option Need) (a : Arg) → AllStand s of ys ns as' → StandsIn s of y n a → AllStand s of (ys ++ y ∷ []) (ns ++ n ∷ []) (as' ++ a ∷ [])
+pub stand_more : (s : Substitution) (of : ℕ → ℕ) (ys : List ℕ) (ns : List (Option Need)) (as' : List Arg) (y : ℕ) (n : Option Need) (a : Arg) → AllStand s of ys ns as' → StandsIn s of y n a → AllStand s of (ys ++ y ∷ []) (ns ++ n ∷ []) (as' ++ a ∷ [])
 stand_more s of [] [] [] y n a t u = (u, tt)
 stand_more s of [] [] (b ∷ as') y n a t u = absurd t
 stand_more s of [] (m ∷ ns) as' y n a t u = absurd t
@@ -190,18 +190,18 @@ not_before (y ∷ ys) (suc i) d a l = both_false (y == get_or ys i d) (has (take
     | inr e ↦ e
   ]
 
-take_lengths : {X Y : Type 0} (f : X → Y) (zs : List X) (i : ℕ) → length (take i zs) ≡ length (take i (map f zs))
+pub take_lengths : {X Y : Type 0} (f : X → Y) (zs : List X) (i : ℕ) → length (take i zs) ≡ length (take i (map f zs))
 take_lengths f [] zero = refl
 take_lengths f [] (suc i) = refl
 take_lengths f (z ∷ zs) zero = refl
 take_lengths f (z ∷ zs) (suc i) = ap suc (take_lengths f zs i)
 
-take_next : {X : Type 0} (xs : List X) (i : ℕ) (d : X) → i < length xs → take (suc i) xs ≡ take i xs ++ get_or xs i d ∷ []
+pub take_next : {X : Type 0} (xs : List X) (i : ℕ) (d : X) → i < length xs → take (suc i) xs ≡ take i xs ++ get_or xs i d ∷ []
 take_next [] i d l = absurd (omega (arith, l))
 take_next (x ∷ xs) zero d l = refl
 take_next (x ∷ xs) (suc i) d l = ap (λ ys. x ∷ ys) (take_next xs i d (omega (arith, l)))
 
-map_length : {X Y : Type 0} (f : X → Y) (xs : List X) → length (map f xs) ≡ length xs
+pub map_length : {X Y : Type 0} (f : X → Y) (xs : List X) → length (map f xs) ≡ length xs
 map_length f [] = refl
 map_length f (x ∷ xs) = ap suc (map_length f xs)
 

@@ -9,3 +9,5 @@ pub mod Compounds
 pub mod Constraints
 pub mod Listing
 pub mod Ready
+pub mod CellNaming
+pub mod CellPosts

@@ -4,6 +4,7 @@ ghost use Rattle.std.specs.Prelude.{◌≡◌, ◌<◌, pos, length, All};
 ghost use Rattle.fd_language.specs.Needs as needs;
 ghost use Rattle.fd_language.specs.Term.{Term, Substitution};
 ghost use Rattle.fd_language.specs.Variables.{TermBelow};
+ghost use Rattle.heap_cells.specs.Cells.{IsOf};
 ghost use Rattle.heap_cells.specs.Terms.{Naming};
 ghost use Rattle.range_code.specs.Frames.{family_of};
 ghost use Rattle.range_code.specs.Slots.{slots_of};
@@ -11,6 +12,7 @@ ghost use Rattle.term_pool.specs.Terms.{term_of as pool_term};
 ghost use Rattle.machine_frames.specs.Environments.{OwnEnv, cell_at};
 ghost use Rattle.machine_frames.specs.Reading.{seen_env};
 ghost use Rattle.branch_state.specs.declared.look.Look.TheVariants as looks;
+ghost use Rattle.branch_state.specs.CellNaming.{shown_as, shown_slots, slots_offence};
 ghost use Rattle.branch_state.specs.Ranges.{IsFull};
 ghost use Rattle.branch_state.specs.Naming.{LinksBelow, LooksAs, IsKind, IsSight, offence, goal_offence, target_variable, target_seen};
 
@@ -73,6 +75,24 @@ pub(crate) fn look_at<A: Agenda + Drop>(
         (seen_env name heap.now.now env.now (family_of store.now.current.sets) y) result }
 {
     match heap.deref(cell_of(env, y)) {
+        Seen::Open(i) => Look::Open(i),
+        Seen::Constrained(_, k) => match only_value(store.domain(k)) {
+            Some(value) => number(i64::from(value)),
+            None => Look::Linked(k),
+        },
+        Seen::Int(z) => number(z),
+        _ => Look::Symbol,
+    }
+}
+
+/// What a cell is seen as.
+pub(crate) fn look_cell<A: Agenda + Drop>(heap: &Heap, store: &Store<A>, cell: Cell) -> Look
+    requires linked { LinksBelow (length store.now.current.sets) heap.now.now }
+    requires own { IsOf heap.now.now cell }
+    ensures { (name : Naming) → LooksAs heap.now.now
+        (shown_as name heap.now.now store.now.current.sets cell) result }
+{
+    match heap.deref(cell) {
         Seen::Open(i) => Look::Open(i),
         Seen::Constrained(_, k) => match only_value(store.domain(k)) {
             Some(value) => number(i64::from(value)),
@@ -170,6 +190,34 @@ pub(crate) fn find_offence<A: Agenda + Drop>(
     for (index, need) in needs.iter().enumerate() {
         let look = look_at(heap, store, env, slots[index] as usize);
         let offence = offence_of(*need, look);
+        if offence.is_some() {
+            return offence;
+        }
+    }
+    None
+}
+
+/// The first offence of a goal by cells: of its target, or of its range's slots in their order.
+pub(crate) fn find_cells_offence<A: Agenda + Drop>(
+    heap: &Heap,
+    store: &Store<A>,
+    code: &RangeCode,
+    target: Look,
+    cells: &[Cell],
+) -> Option<QueryFault>
+    requires linked { LinksBelow (length store.now.current.sets) heap.now.now }
+    requires cells { All (IsOf heap.now.now) cells.now }
+    requires counted { length cells.now ≡ length (slots_of code.now) }
+    ensures { (name : Naming) (t : Term) → IsKind t target → result ≡ slots_offence t
+        (shown_slots name heap.now.now store.now.current.sets code.now cells.now) code.now }
+{
+    let offence = offence_of(None, target);
+    if offence.is_some() {
+        return offence;
+    }
+    let needs = code.needs();
+    for (index, need) in needs.iter().enumerate() {
+        let offence = offence_of(*need, look_cell(heap, store, cells[index]));
         if offence.is_some() {
             return offence;
         }

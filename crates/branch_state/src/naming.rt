@@ -30,7 +30,7 @@ pub(crate) struct Prepared {
 }
 
 /// The variable of the store of what a range names. An integer has a fresh one.
-fn name_look<A: Agenda + Drop>(
+pub(crate) fn name_look<A: Agenda + Drop>(
     heap: &mut Heap,
     store: &mut Store<A>,
     fixed: &mut Vec<Touch>,
@@ -91,7 +91,7 @@ fn argument<A: Agenda + Drop>(
 }
 
 /// The integer of a look that is one.
-fn integer_of(look: Look) -> i64
+pub(crate) fn integer_of(look: Look) -> i64
     ensures { IsInteger look result }
 {
     match look {
@@ -101,7 +101,7 @@ fn integer_of(look: Look) -> i64
 }
 
 /// An integer as an argument.
-fn number_arg(value: i64) -> Arg
+pub(crate) fn number_arg(value: i64) -> Arg
     ensures { result ≡ arguments.Int value }
 {
     Arg::Int(value)

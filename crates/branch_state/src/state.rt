@@ -14,11 +14,14 @@ ghost use Rattle.branch_state.specs.Compounds.{IsMade};
 ghost use Rattle.branch_state.specs.Constraints.{Constrains};
 ghost use Rattle.branch_state.specs.Ranges.{IsFull, Posts};
 ghost use Rattle.branch_state.specs.Showing.{IsShown};
+ghost use Rattle.branch_state.specs.CellPosts.{PostsCells};
+ghost use Rattle.range_code.specs.Slots.{slots_of};
 
+use crate::cells::prepare_cells;
 use crate::codes::{exact_code, know_code, same_code};
 use crate::constraints::{count_variables, expand_goal, fault_of, prepare_row};
 use crate::heap_facts::know;
-use crate::look::{find_offence, target_of};
+use crate::look::{find_cells_offence, find_offence, look_cell, target_of};
 use crate::naming::prepare;
 use crate::posting::{post_all, post_prepared, post_rows};
 use crate::shown::show_cells;
@@ -261,6 +264,46 @@ impl<A: Agenda + Drop> BranchState<A> {
             env,
             code,
             target,
+        )?;
+        let kept = post_prepared(
+            self.alloc,
+            &mut self.store,
+            &mut self.activations,
+            (&self.exact, &self.same),
+            code,
+            prepared,
+        )?;
+        Ok(step_of(kept))
+    }
+
+    /// Posts `T in R` on the cell of its target and those of the range's slots, where `code` is the code of the range. After a failure the
+    /// current pair is to be given up by `undo`; after a fault the branch is as it was. After an error the branch isn't used any more.
+    pub fn post_cells(
+        &mut self,
+        code: &Rc<RangeCode>,
+        target: Cell,
+        cells: &[Cell],
+    ) -> Result<Step, NoMemory>
+        requires sound { IsSound self.old }
+        requires target { IsCell self.old target }
+        requires cells { All (IsCell self.old) cells.now }
+        requires counted { length cells.now ≡ length (slots_of code.now.value) }
+        ensures step { IfOk result (PostsCells self.old target cells.now code.now.value self.new) }
+        ensures same { OnOk result (IsSameBelow self.old self.new) }
+    {
+        know_code(code);
+        let look = look_cell(&self.heap, &self.store, target);
+        let offence = find_cells_offence(&self.heap, &self.store, code, look, cells);
+        if let Some(fault) = offence {
+            return Ok(Step::Fault(fault));
+        }
+        let prepared = prepare_cells(
+            self.alloc,
+            &mut self.heap,
+            &mut self.store,
+            code,
+            look,
+            cells,
         )?;
         let kept = post_prepared(
             self.alloc,

@@ -6,4 +6,5 @@ pub mod Matching
 pub mod Arena
 pub mod Reading
 pub mod Posting
+pub mod CellRanges
 pub mod Laws
