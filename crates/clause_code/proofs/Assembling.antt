@@ -18,7 +18,8 @@ use Rattle.clause_code.specs.Pieces.{Base, Predicate, past}
 use Rattle.clause_code.specs.Codable.{IsNarrow, IsCodableGoal, EachCodable, ClausesCodable, IsCodable}
 use Rattle.clause_code.specs.Predicates.{base_in}
 use Rattle.clause_code.specs.Safe.{IsClauseCode}
-use Rattle.clause_code.specs.Steps.{home, Suits, AllSuit}
+use Rattle.clause_code.specs.Sides.{Written}
+use Rattle.clause_code.specs.Steps.{Suits, AllSuit}
 use Rattle.clause_code.specs.Bodies.{IsGoalsCode}
 use Rattle.clause_code.specs.Whole.{front, head_code, IsHoused, InOrder}
 use Rattle.clause_code.proofs.Bodies.{goals_nothing, goals_both}
@@ -63,16 +64,6 @@ clause_known p known codable c low own =
 
 -- ---- one goal after the other
 
--- The goals before i are written; those from i on are scoped and codable.
-pub record Written (p : FlatProgram) (b : Base) (homes : List Register) (at : ℕ) (old now : List Code) (from i to : ℕ) : Type 0 where
-  pub js : List Code
-  pub done : List model.Goal
-  pub code : now ≡ old ++ js
-  pub goals : IsGoalsCode b homes true at js done
-  pub whole : goals_between p from to ≡ done ++ goals_between p i to
-  pub below : EachBelow (length homes) (goals_between p i to)
-  pub codable : EachCodable (goals_between p i to)
-
 pub written_first : (p : FlatProgram) (b : Base) (homes : List Register) (at : ℕ) (old : List Code) (from to : ℕ) → EachBelow (length homes) (goals_between p from to) → EachCodable (goals_between p from to) → Written p b homes at old old from from to
 written_first p b homes at old from to s c = record { js = []; done = []; code = sym (append-nil old); goals = goals_nothing b homes true at; whole = refl; below = s; codable = c }
 
@@ -82,15 +73,15 @@ next_known p known b homes at old now from i to l m w =
     let e = between_first p known i to l m in
     ((subst (EachBelow (length homes)) e w.below).0, (subst EachCodable e w.codable).0)
 
-pub written_next : (p : FlatProgram) → IsProgram p → (b : Base) (homes : List Register) (at : ℕ) (old now new is : List Code) (from i to : ℕ) → i < to → to ≤ length p.goals → Written p b homes at old now from i to → new ≡ now ++ is
-    → ((at : ℕ) → IsGoalsCode b homes true at is (goal_in p (goal_at p i) ∷ [])) → Written p b homes at old new from (suc i) to
+pub written_next : (p : FlatProgram) → IsProgram p → (b : Base) (homes : List Register) (at : ℕ) (old now new is : List Code) (from i to : ℕ) → i < to → to ≤ length p.goals → (w : Written p b homes at old now from i to) → new ≡ now ++ is
+    → IsGoalsCode b homes true (past at w.js) is (goal_in p (goal_at p i) ∷ []) → Written p b homes at old new from (suc i) to
 written_next p known b homes at old now new is from i to l m w e g =
     let first = between_first p known i to l m in
     record {
       js = w.js ++ is;
       done = w.done ++ (goal_in p (goal_at p i) ∷ []);
       code = e ∙ ap (λ x. x ++ is) w.code ∙ append_assoc old w.js is;
-      goals = goals_both b homes true at w.js is w.done (goal_in p (goal_at p i) ∷ []) w.goals (g (past at w.js));
+      goals = goals_both b homes true at w.js is w.done (goal_in p (goal_at p i) ∷ []) w.goals g;
       whole = w.whole ∙ ap (λ gs. w.done ++ gs) first ∙ sym (append_assoc w.done (goal_in p (goal_at p i) ∷ []) (goals_between p (suc i) to));
       below = (subst (EachBelow (length homes)) first w.below).1;
       codable = (subst EachCodable first w.codable).1;

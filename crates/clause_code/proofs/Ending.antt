@@ -1,18 +1,18 @@
 -- The code of a clause, once all its parts are written.
-use Rattle.std.proofs.Common.{◌≡◌, ℕ, zero, suc, ◌+◌, ◌-◌, ◌<◌, ◌≤◌, Bool, true, false, List, [], ◌∷◌, ◌++◌, map, length, get_or, replicate, refl, ap, sym, ◌∙◌, subst, arith, inl, inr, append_assoc, append-nil}
+use Rattle.std.proofs.Common.{◌≡◌, ℕ, suc, ◌+◌, ◌-◌, ◌<◌, ◌≤◌, Bool, true, false, List, [], ◌∷◌, ◌++◌, length, refl, ap, sym, ◌∙◌, subst, arith, inl, inr, append_assoc, append-nil}
 use Rattle.std.proofs.lemmas.Bool.{cases_lt}
-use Rattle.std.proofs.lemmas.List.{get_or_past, length-replicate}
+use Rattle.std.proofs.lemmas.List.{get_or_past, length-append, length-replicate}
 use Rattle.std.proofs.lemmas.Option.{slice_get_within}
-use Rattle.fd_language.specs.Term.{Term, Terms, Var, Int, Atom, Comp, no_terms, term}
+use Rattle.fd_language.specs.Term.{Term, Terms}
 use Rattle.fd_model.specs.Goal as model
 use Rattle.fd_model.specs.Constraining.{arguments}
 use Rattle.fd_model.specs.Sound.{EachBelow}
 use Rattle.term_pool.specs.declared.TermId.{TermId}
 use Rattle.term_pool.specs.Contents.{Contents, atom_name}
 use Rattle.term_pool.specs.Terms.{term_of, terms_by}
-use Rattle.clause_check.specs.declared.program.FlatGoal.{FlatGoal}
+use Rattle.clause_check.specs.declared.program.Part.{Part}
 use Rattle.clause_check.specs.declared.program.FlatGoal.TheVariants as flat
-use Rattle.clause_check.specs.Programs.{FlatProgram, clause_at, clause_in, goal_at, goal_in, goals_between, no_clause, IsGoal, IsProgram}
+use Rattle.clause_check.specs.Programs.{FlatProgram, clause_at, clause_in, goal_at, goal_in, goals_in, goals_between, no_clause, IsProgram}
 use Rattle.clause_check.proofs.Lemmas.{between_first, between_none, between_split}
 use Rattle.wam_code.specs.declared.instruction.Register.{Register}
 use Rattle.wam_code.specs.declared.instruction.Register.TheVariants.{Y}
@@ -22,20 +22,21 @@ use Rattle.wam_code.specs.Places.{count, made}
 use Rattle.clause_code.specs.Pieces.{Base, Predicate, past}
 use Rattle.clause_code.specs.Codable.{EachCodable}
 use Rattle.clause_code.proofs.GoalKinds.{OnlySlots}
-use Rattle.clause_code.specs.Predicates.{IsOf, IsNumberOf, Appends, base_in}
+use Rattle.clause_code.specs.Predicates.{Appends, base_in}
 use Rattle.clause_code.specs.Safe.{IsClauseCode}
-use Rattle.clause_code.specs.Steps.{home, Suits, AllSuit, is_made, filled, code_of, puts, gets, fills, marked_by_all}
+use Rattle.clause_code.specs.Steps.{home, Suits, filled, code_of, puts, gets, fills, marked_by_all}
 use Rattle.clause_code.specs.Bodies.{IsGoalsCode}
-use Rattle.clause_code.specs.Simple.{AreMade, GoalWritten, IsSimpleCode, IsOwn, IsWritable}
-use Rattle.clause_code.specs.Whole.{front, back, unmade, head_code, begin_code, InOrder, AreSlots, Executes}
+use Rattle.clause_code.specs.Sides.{Written}
+use Rattle.clause_code.specs.Simple.{AreMade, IsOwn, IsWritable}
+use Rattle.clause_code.specs.Whole.{back, unmade, head_code, begin_code, InOrder, AreSlots, Executes}
 use Rattle.clause_code.specs.Works.{Writes}
 use Rattle.clause_code.proofs.Filling.{filled_long, filled_made}
 use Rattle.clause_code.proofs.Making.{AreApart}
 use Rattle.clause_code.proofs.Bodies.{Fine}
 use Rattle.clause_code.proofs.Clauses.{Tail, tail_proceed, tail_execute}
-use Rattle.clause_code.proofs.Rests.{count_terms}
-use Rattle.clause_code.proofs.Assembling.{Known, clause_known, Written, next_known, written_next, in_order_only, in_order_housed, assembled}
-use Rattle.clause_code.proofs.Simples.{arguments_suit, is_writable, simple_goal}
+use Rattle.clause_code.proofs.Laying.{past_is}
+use Rattle.clause_code.proofs.Assembling.{Known, clause_known, in_order_only, in_order_housed, assembled}
+use Rattle.clause_code.proofs.Simples.{arguments_suit, is_writable}
 
 -- ---- which are made
 
@@ -47,19 +48,16 @@ all_made made x = elim (cases_lt x (length made)) [
 
 -- ---- a head
 
-pub headed : (c : Contents) (homes : List Register) (code mid new : List Code) (now later : List Bool) (ids : List TermId) (n : ℕ) → n ≡ length ids + 1 → now ≡ unmade homes → Writes homes code now (gets c 1 n (terms_by (term_of c) ids)) mid later
-    → new ≡ mid ++ fills homes n later (length homes) → new ≡ code ++ head_code c homes (suc (count (terms_by (term_of c) ids))) (terms_by (term_of c) ids)
-headed c homes code mid new now later ids n e none w f =
+pub headed : (c : Contents) (homes : List Register) (code mid new : List Code) (now later : List Bool) (ids : List TermId) (n : ℕ) → now ≡ unmade homes → Writes homes code now (gets c 1 n (terms_by (term_of c) ids)) mid later
+    → new ≡ mid ++ fills homes n later (length homes) → new ≡ code ++ head_code c homes n (terms_by (term_of c) ids)
+headed c homes code mid new now later ids n none w f =
     let ts : Terms = terms_by (term_of c) ids in
-    let k = count_terms (term_of c) ids in
-    let m : n ≡ suc (count ts) = omega (arith, e, k) in
     let marks : later ≡ marked_by_all (unmade homes) (gets c 1 n ts) = w.marks ∙ ap (λ l. marked_by_all l (gets c 1 n ts)) none in
     let codes : mid ≡ code ++ code_of homes (unmade homes) (gets c 1 n ts) = w.codes ∙ ap (λ l. code ++ code_of homes l (gets c 1 n ts)) none in
     f
     ∙ ap (λ l. mid ++ fills homes n l (length homes)) marks
     ∙ ap (λ l. l ++ fills homes n (marked_by_all (unmade homes) (gets c 1 n ts)) (length homes)) codes
     ∙ append_assoc code (code_of homes (unmade homes) (gets c 1 n ts)) (fills homes n (marked_by_all (unmade homes) (gets c 1 n ts)) (length homes))
-    ∙ ap (λ j. code ++ head_code c homes j ts) m
 
 pub unmade_long : (homes : List Register) (made : List Bool) → made ≡ unmade homes → length made ≡ length homes
 unmade_long homes made e = ap length e ∙ length-replicate (length homes) false
@@ -68,19 +66,6 @@ pub filled_all : (homes : List Register) (now later : List Bool) → length now 
 filled_all homes now later n e =
     let same : later ≡ filled now (length now) = e ∙ ap (filled now) (sym n) in
     (subst AreMade (sym same) (all_made now), ap length e ∙ filled_long now (length homes) ∙ n)
-
--- ---- one goal
-
-pub goal_appended : (p : FlatProgram) (ps : List Predicate) (homes : List Register) (made : List Bool) (g : FlatGoal) (old new : List Code) → GoalWritten p ps homes made g old new → Appends old new (IsSimpleCode p ps homes made g)
-goal_appended p ps homes made flat.True old new w = (_, w, refl)
-goal_appended p ps homes made flat.Fail old new w = (_, w, refl)
-goal_appended p ps homes made (flat.Unify s t) old new w = (_, w, refl)
-goal_appended p ps homes made (flat.Post t r) old new w = (_, w, refl)
-goal_appended p ps homes made (flat.Constrain k t) old new w = (_, w, refl)
-goal_appended p ps homes made (flat.Label o t) old new w = (_, w, refl)
-goal_appended p ps homes made (flat.Call t) old new w = (_, w.code, (w.number, w.of.0, w.of.1, w.of.2, refl))
-goal_appended p ps homes made (flat.Builtin k t) old new w = (_, w, refl)
-goal_appended p ps homes made (flat.Either a b) old new w = absurd w
 
 -- ---- the goals before the last one
 
@@ -118,29 +103,11 @@ before_last p known v from to u l m last below codable =
 pub known_of : (p : FlatProgram) → IsProgram p → (c : ℕ) → c < length p.clauses → Known p c
 known_of p h c l = clause_known p h h.codable c l (h.clauses c no_clause l).head
 
-pub goal_writable : (p : FlatProgram) → IsProgram p → (b : Base) (homes : List Register) (at : ℕ) (old now : List Code) (from i to : ℕ) → i < to → to ≤ length p.goals → Written p b homes at old now from i to → IsWritable p (length homes) (goal_at p i)
-goal_writable p known b homes at old now from i to l m w =
-    let k = next_known p known b homes at old now from i to l m w in
-    is_writable p known.pool (length homes) i (goal_at p i) (known.goals i (omega (arith, l, m))) k.0 k.1
-
-slots_only : (homes : List Register) → AreSlots homes → OnlySlots homes
+pub slots_only : (homes : List Register) → AreSlots homes → OnlySlots homes
 slots_only homes s x l i e = let w = s.slots x l in let y : home homes x ≡ Y (suc w.0) = w.1 in absurd (cc)
 
 pub in_order_slots : (homes : List Register) (v : ℕ) → InOrder homes v → AreSlots homes
 in_order_slots homes v o = let h = in_order_housed homes v 0 o in record { apart = h.apart; slots = λ x l. let w = h.in_frame refl x l in (w.0, w.1) }
-
--- the goal i is written
-pub goal_next : (p : FlatProgram) → IsProgram p → (ps : List Predicate) (homes : List Register) (at : ℕ) (old now new : List Code) (made_now : List Bool) (from i to : ℕ) → AreSlots homes → AreMade made_now → length made_now ≡ length homes → i < to → to ≤ length p.goals
-    → Written p (base_in p ps) homes at old now from i to → GoalWritten p ps homes made_now (goal_at p i) now new → Written p (base_in p ps) homes at old new from (i + 1) to
-goal_next p known ps homes at old now new made_now from i to slots all long l m w g =
-    let b : Base = base_in p ps in
-    let k = next_known p known b homes at old now from i to l m w in
-    let own = known.goals i (omega (arith, l, m)) in
-    let writable = is_writable p known.pool (length homes) i (goal_at p i) own k.0 k.1 in
-    let a = goal_appended p ps homes made_now (goal_at p i) now new g in
-    let up : suc i ≡ i + 1 = omega arith in
-    subst (λ j. Written p b homes at old new from j to) up
-    (written_next p known b homes at old now new a.0 from i to l m w a.1 (λ at. simple_goal p ps homes slots.apart (slots_only homes slots) made_now all long at i (goal_at p i) a.0 own writable k.1 a.2))
 
 pub all_written : (p : FlatProgram) (b : Base) (homes : List Register) (at : ℕ) (old now : List Code) (from i to : ℕ) → to ≤ i → Written p b homes at old now from i to → Appends old now (λ is. IsGoalsCode b homes true at is (goals_between p from to))
 all_written p b homes at old now from i to l w =
@@ -148,6 +115,32 @@ all_written p b homes at old now from i to l w =
     (w.js, w.code, subst (IsGoalsCode b homes true at w.js) e w.goals)
 
 -- ---- a clause
+
+-- the place behind what is appended
+pub place_behind : (start : ℕ) (old is new : List Code) → new ≡ old ++ is → start + length new ≡ past (start + length old) is
+place_behind start old is new e = let a = ap length e in let c = length-append old is in let d = past_is (start + length old) is in omega (arith, a, c, d)
+
+-- what is known of its body
+pub body_known : (p : FlatProgram) → IsProgram p → (homes : List Register) (c : ℕ) → c < length p.clauses → InOrder homes (clause_at p c).variables → (body : Part) → body ≡ (clause_at p c).body → EachBelow (length homes) (goals_in p body) × EachCodable (goals_in p body)
+body_known p valid homes c l order body e =
+    let k = known_of p valid c l in
+    let below : EachBelow (length homes) (goals_in p (clause_at p c).body) = subst (λ v. EachBelow v (goals_in p (clause_at p c).body)) (sym order.long) k.below in
+    (subst (λ (a : Part). EachBelow (length homes) (goals_in p a)) (sym e) below, subst (λ (a : Part). EachCodable (goals_in p a)) (sym e) k.codable)
+
+pub head_own : (p : FlatProgram) → IsProgram p → (homes : List Register) (c : ℕ) → c < length p.clauses → InOrder homes (clause_at p c).variables → (q : Contents) (h : TermId) → q ≡ p.pool → h ≡ (clause_at p c).head → h.number < length p.pool.entries → IsOwn q (length homes) h
+head_own p valid homes c l order q h e f own =
+    let k = known_of p valid c l in
+    let suits : Suits p.pool (length homes) (term_of p.pool (clause_at p c).head) = subst (λ v. Suits p.pool v (term_of p.pool (clause_at p c).head)) (sym order.long) k.suits in
+    let there : IsOwn p.pool (length homes) h = (own, subst (λ (t : TermId). Suits p.pool (length homes) (term_of p.pool t)) (sym f) suits) in
+    subst (λ (c : Contents). IsOwn c (length homes) h) (sym e) there
+
+pub head_begun : (p : FlatProgram) (homes : List Register) (c : ℕ) → InOrder homes (clause_at p c).variables → (q : Contents) (h : TermId) → q ≡ p.pool → h ≡ (clause_at p c).head → (old new : List Code) → new ≡ old ++ begin_code q homes (length homes) (term_of q h)
+    → new ≡ old ++ begin_code p.pool homes (clause_at p c).variables (term_of p.pool (clause_at p c).head)
+head_begun p homes c order q h e f old new w =
+    w
+    ∙ ap (λ v. old ++ begin_code q homes v (term_of q h)) order.long
+    ∙ ap (λ (d : Contents). old ++ begin_code d homes (clause_at p c).variables (term_of d h)) e
+    ∙ ap (λ (t : TermId). old ++ begin_code p.pool homes (clause_at p c).variables (term_of p.pool t)) f
 
 module _ (p : FlatProgram) (ps : List Predicate) (homes : List Register) (c : ℕ) (order : InOrder homes (clause_at p c).variables) (known : Known p c) (start : ℕ) (old head goals new : List Code) where
   abbrev t : Term
@@ -157,7 +150,10 @@ module _ (p : FlatProgram) (ps : List Predicate) (homes : List Register) (c : �
   begun = begin_code p.pool homes (clause_at p c).variables t
 
   abbrev Goals : ℕ → ℕ → Type 0
-  Goals from to = (at : ℕ) → Appends head goals (λ js. IsGoalsCode (base_in p ps) homes true at js (goals_between p from to))
+  Goals from to = Appends head goals (λ js. IsGoalsCode (base_in p ps) homes true (start + length head) js (goals_between p from to))
+
+  placed : (from to : ℕ) → head ≡ old ++ begun → Goals from to → Appends head goals (λ js. IsGoalsCode (base_in p ps) homes true (past (start + length old) begun) js (goals_between p from to))
+  placed from to e f = subst (λ k. Appends head goals (λ js. IsGoalsCode (base_in p ps) homes true k js (goals_between p from to))) (place_behind start old begun head e) f
 
   joined : (js ks : List Code) (i : Code) → head ≡ old ++ begun → goals ≡ head ++ js → new ≡ goals ++ (ks ++ (i ∷ [])) → new ≡ old ++ ((begun ++ js) ++ (ks ++ (i ∷ [])))
   joined js ks i e f g =
@@ -169,7 +165,7 @@ module _ (p : FlatProgram) (ps : List Predicate) (homes : List Register) (c : �
       → Appends old new (λ is. IsClauseCode (base_in p ps) (start + length old) is (clause_in p (clause_at p c)))
   clause_proceeds from to body e f g =
       let at : ℕ = start + length old in
-      let w = f (past at begun) in
+      let w = placed from to e f in
       let b : Base = base_in p ps in (
         (begun ++ w.0) ++ (back true ++ (Proceed ∷ [])),
         joined w.0 (back true) Proceed e w.1 g,
@@ -181,7 +177,7 @@ module _ (p : FlatProgram) (ps : List Predicate) (homes : List Register) (c : �
       → Appends old new (λ is. IsClauseCode (base_in p ps) (start + length old) is (clause_in p (clause_at p c)))
   clause_executes from to u made_now valid l m last suits all long body e f x =
       let at : ℕ = start + length old in
-      let w = f (past at begun) in
+      let w = placed from (to - 1) e f in
       let b : Base = base_in p ps in
       let us : Terms = arguments (term_of p.pool u) in
       let s : Predicate = x.of.0 in

@@ -1,5 +1,5 @@
 -- The functors of a program, as they are gathered.
-use Rattle.std.proofs.Common.{◌≡◌, ◌⊎◌, ℕ, zero, suc, ◌+◌, ◌<◌, ◌≤◌, Bool, true, false, if◌then◌else◌, ◌||◌, List, [], ◌∷◌, ◌++◌, map, Option, Some, None, option_map, length, slice_get, IfSome, refl, ap, ap₂, sym, ◌∙◌, subst, arith, inl, inr}
+use Rattle.std.proofs.Common.{◌≡◌, ℕ, zero, suc, ◌+◌, ◌<◌, ◌≤◌, Bool, true, false, if◌then◌else◌, ◌||◌, List, [], ◌∷◌, ◌++◌, map, Option, Some, None, option_map, length, slice_get, IfSome, refl, ap, ap₂, sym, ◌∙◌, subst, arith, inl, inr}
 use Rattle.std.specs.Prelude.{Result, Ok, Err, OnOk}
 use Rattle.std.specs.List.{list_any}
 use Rattle.std.proofs.lemmas.Bool.{true≢false, cases_eq}
@@ -11,12 +11,11 @@ use Rattle.term_pool.specs.declared.TermId.{TermId}
 use Rattle.term_pool.specs.Contents.{Contents, atom_name}
 use Rattle.term_pool.specs.Terms.{term_of, terms_by}
 use Rattle.indexmap.specs.IndexSet.{insert_key}
-use Rattle.clause_check.specs.declared.program.FlatGoal.{FlatGoal}
 use Rattle.clause_check.specs.declared.program.FlatGoal.TheVariants.{Call}
 use Rattle.clause_check.specs.Programs.{FlatProgram, clause_at, goal_at}
 use Rattle.wam_code.specs.Places.{count, made}
 use Rattle.clause_code.specs.Pieces.{Predicate}
-use Rattle.clause_code.specs.Predicates.{predicate_in, IsOf, IsOfOne, IsNumberOf, ArePredicates, HasFunctor, HasOne, AreFunctors, Gathers, Gathered}
+use Rattle.clause_code.specs.Predicates.{predicate_in, IsOfOne, IsNumberOf, ArePredicates, HasFunctor, HasOne, AreFunctors, Gathers, Gathered}
 use Rattle.clause_code.specs.declared.predicates.Functor.{Functor}
 use Rattle.clause_code.proofs.Numbers.{same_functor, same_means, functor_itself}
 use Rattle.clause_code.proofs.Flowing.{get_both}

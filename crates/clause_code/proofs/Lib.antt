@@ -24,3 +24,6 @@ pub mod Simples
 pub mod Assembling
 pub mod Gathering
 pub mod Ending
+pub mod Asking
+pub mod Sides
+pub mod Short

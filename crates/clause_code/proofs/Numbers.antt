@@ -1,12 +1,10 @@
 -- Functors, and the numbers of predicates.
-use Rattle.std.proofs.Common.{◌≡◌, ℕ, zero, suc, ◌+◌, ◌<◌, Bool, true, false, cond, not, ◌&&◌, ◌==◌, nat_lt, List, [], ◌∷◌, map, Option, Some, None, option_map, length, slice_get, get_or, position, IfSome, IfNone, refl, ap, ap₂, sym, ◌∙◌, subst, arith}
+use Rattle.std.proofs.Common.{◌≡◌, ℕ, zero, suc, ◌+◌, ◌<◌, Bool, true, false, cond, not, ◌&&◌, ◌==◌, nat_lt, List, [], ◌∷◌, map, Option, Some, None, option_map, length, slice_get, get_or, position, IfSome, IfNone, refl, ap, ap₂, sym, ◌∙◌, arith}
 use Rattle.std.specs.List.{position_or_len}
 use Rattle.std.proofs.lemmas.Bool.{true≢false, eqb-true, eq-eqb, and_parts}
 use Rattle.std.proofs.lemmas.Bool.Decides.{nat_tests}
-use Rattle.std.proofs.lemmas.List.{length-map}
 use Rattle.std.proofs.lemmas.List.Quantifiers.{position-Some}
 use Rattle.std.proofs.lemmas.Option.{slice_get-map, slice_get-get_or}
-use Rattle.term_pool.specs.declared.AtomId.{AtomId}
 use Rattle.clause_code.specs.declared.predicates.Functor.{Functor}
 use Rattle.clause_code.specs.Pieces.{Predicate}
 use Rattle.clause_code.specs.Predicates.{predicate_in}

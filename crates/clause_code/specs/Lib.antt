@@ -13,3 +13,6 @@ pub mod Bodies
 pub mod Whole
 pub mod Works
 pub mod Simple
+pub mod Slots
+pub mod Sides
+pub mod Short

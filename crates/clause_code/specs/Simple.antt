@@ -12,7 +12,7 @@ use Rattle.clause_check.specs.declared.program.FlatGoal.TheVariants as flat
 use Rattle.clause_check.specs.Programs.{FlatProgram, range_at}
 use Rattle.wam_code.specs.declared.instruction.Register.{Register}
 use Rattle.wam_code.specs.declared.instruction.Code.{Code}
-use Rattle.wam_code.specs.declared.instruction.Code.TheVariants.{Call, Builtin, Constrain, Label, PostRange}
+use Rattle.wam_code.specs.declared.instruction.Code.TheVariants.{Call, Builtin, Constrain, Label, PostRange, Either}
 use Rattle.wam_code.specs.Places.{count}
 use Rattle.clause_code.specs.Pieces.{Predicate}
 use Rattle.clause_code.specs.Predicates.{IsOf, IsNumberOf}
@@ -52,7 +52,7 @@ pub record CallWritten (c : Contents) (ps : List Predicate) (homes : List Regist
   pub of : IsNumberOf c ps (term_of c t) number
   pub code : new ≡ old ++ loads c homes made (arguments (term_of c t)) (Call number)
 
--- the goal's code stands behind the old code
+-- the goal's code stands behind the old code, or of an A ; B the choice between its sides, without its place
 abbrev pub GoalWritten : FlatProgram → List Predicate → List Register → List Bool → FlatGoal → List Code → List Code → Type 0
 GoalWritten p ps homes made flat.True old new = new ≡ old ++ (Builtin kind.True ∷ [])
 GoalWritten p ps homes made flat.Fail old new = new ≡ old ++ (Builtin kind.Fail ∷ [])
@@ -62,7 +62,7 @@ GoalWritten p ps homes made (flat.Constrain k t) old new = new ≡ old ++ loads 
 GoalWritten p ps homes made (flat.Label o t) old new = new ≡ old ++ loads p.pool homes made (term (term_of p.pool t) no_terms) (Label o)
 GoalWritten p ps homes made (flat.Call t) old new = CallWritten p.pool ps homes made t old new
 GoalWritten p ps homes made (flat.Builtin k t) old new = new ≡ old ++ loads p.pool homes made (arguments (term_of p.pool t)) (Builtin k)
-GoalWritten p ps homes made (flat.Either a b) old new = ⊥
+GoalWritten p ps homes made (flat.Either a b) old new = new ≡ old ++ (Either 0 ∷ [])
 
 -- a term of the pool for which code can be written
 abbrev pub IsOwn : Contents → ℕ → TermId → Type 0

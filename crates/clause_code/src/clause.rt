@@ -1,24 +1,23 @@
-//! The code of one clause, and of one query.
-ghost use Rattle.std.specs.Prelude.{◌≡◌, ℕ, suc, ◌<◌, ◌≤◌, ◌+◌, ◌-◌, [], ◌++◌, length, map, All, IfOk, IfSome, OnOk};
-ghost use Rattle.term_pool.specs.Terms.{term_of, terms_by};
+//! The code of one clause.
+ghost use Rattle.std.specs.Prelude.{◌≡◌, ◌<◌, ◌+◌, ◌-◌, [], length, map, IfOk, IfSome, OnOk};
 ghost use Rattle.clause_check.specs.declared.program.FlatGoal.TheVariants.{Call};
-ghost use Rattle.clause_check.specs.Programs.{IsPart, goal_at, clause_at, clause_in, query_at, query_in, program_in};
+ghost use Rattle.clause_check.specs.Programs.{IsPart, goal_at, clause_at, clause_in, program_in};
 ghost use Rattle.clause_code.specs.Codable.{IsCodable};
 ghost use Rattle.clause_code.specs.Predicates.{ArePredicates, Appends, base_in};
-ghost use Rattle.wam_code.specs.Places.{count};
-ghost use Rattle.clause_code.specs.Safe.{IsClauseCode, IsQueryPiece};
-ghost use Rattle.clause_code.specs.Simple.{AreMade, IsOwn};
-ghost use Rattle.clause_code.specs.Steps.{AllSuit};
-ghost use Rattle.clause_code.specs.Whole.{InOrder, begin_code, head_code, unmade};
+ghost use Rattle.clause_code.specs.Safe.{IsClauseCode};
+ghost use Rattle.clause_code.specs.Whole.{InOrder, unmade};
 
+use crate::frameless::{Body, body_of, compile_short};
+use crate::goals::{execute, write_goals};
+use crate::heads::write_head;
 use crate::predicates::Predicates;
-use crate::terms::{Work, fill_all, get_all};
+use crate::terms::Work;
 use clause_check::{FlatGoal, Part, Program};
 use fd_language::NoMemory;
 use range_code::RangeCode;
 use std::alloc::Global;
 use std::rc::Rc;
-use term_pool::{Node, Pool, TermId};
+use term_pool::TermId;
 use wam_code::{Code, Register};
 
 /// The slots of a frame: variable x has the slot x + 1.
@@ -30,57 +29,6 @@ fn slot_homes(alloc: Global, variables: usize) -> Result<Vec<Register>, NoMemory
         homes.push(Register::Y(x + 1))?;
     }
     Ok(homes)
-}
-
-/// Reads the arguments of a head, and makes the variables that are in the body alone.
-fn read_arguments(
-    pool: &Pool,
-    homes: &[Register],
-    made: &mut Vec<bool>,
-    code: &mut Vec<Code>,
-    works: &mut Vec<Work>,
-    ids: &[TermId],
-) -> Result<(), NoMemory>
-    requires own { All (λ t. t.number < length pool.now.entries) ids.now }
-    requires few { length ids.now ≤ 255 }
-    requires suits { AllSuit pool.now (length homes.now) (terms_by (term_of pool.now) ids.now) }
-    requires made { made.old.items ≡ unmade homes.now }
-    requires works { works.old.items ≡ [] }
-    ensures code { OnOk result (code.new.items ≡ code.old.items
-        ++ head_code pool.now homes.now (suc (count (terms_by (term_of pool.now) ids.now)))
-        (terms_by (term_of pool.now) ids.now)) }
-    ensures made { OnOk result (AreMade made.new.items) }
-    ensures long { OnOk result (length made.new.items ≡ length homes.now) }
-    ensures works { OnOk result (works.new.items ≡ []) }
-{
-    get_all(pool, homes, made, code, works, ids, ids.len() + 1)?;
-    fill_all(homes, made, code, ids.len() + 1)?;
-    Ok(())
-}
-
-/// The frame and the head of a clause.
-fn write_head(
-    pool: &Pool,
-    homes: &[Register],
-    made: &mut Vec<bool>,
-    code: &mut Vec<Code>,
-    works: &mut Vec<Work>,
-    head: TermId,
-) -> Result<(), NoMemory>
-    requires own { IsOwn pool.now (length homes.now) head }
-    requires made { made.old.items ≡ unmade homes.now }
-    requires works { works.old.items ≡ [] }
-    ensures code { OnOk result (code.new.items ≡ code.old.items
-        ++ begin_code pool.now homes.now (length homes.now) (term_of pool.now head)) }
-    ensures made { OnOk result (AreMade made.new.items) }
-    ensures long { OnOk result (length made.new.items ≡ length homes.now) }
-    ensures works { OnOk result (works.new.items ≡ []) }
-{
-    code.push(Code::Allocate(homes.len()))?;
-    match pool.view(head) {
-        Node::Comp(_, parts) => read_arguments(pool, homes, made, code, works, parts),
-        _ => read_arguments(pool, homes, made, code, works, &[]),
-    }
 }
 
 /// The last goal of a body, if it is a user goal.
@@ -98,8 +46,80 @@ fn last_call(program: &Program, body: Part) -> Option<TermId>
     }
 }
 
+/// The code of the clause c, whose variables have these homes.
+fn write_clause(
+    alloc: Global,
+    program: &Program,
+    ranges: &[Rc<RangeCode>],
+    predicates: &Predicates,
+    homes: &[Register],
+    made: &mut Vec<bool>,
+    code: &mut Vec<Code>,
+    works: &mut Vec<Work>,
+    c: usize,
+    start: usize,
+) -> Result<(), NoMemory>
+    requires clause { c < length program.now.clauses }
+    requires ranges { map (λ r. r.value) ranges.now ≡ program.now.ranges }
+    requires homes { InOrder homes.now (clause_at program.now c).variables }
+    requires made { made.old.items ≡ unmade homes.now }
+    requires works { works.old.items ≡ [] }
+    ensures { OnOk result (Appends code.old.items code.new.items
+        (λ is. IsClauseCode (base_in program.now predicates.now) (start + length code.old.items) is
+        (clause_in program.now (clause_at program.now c)))) }
+{
+    program.known();
+    let pool = program.pool();
+    let body = program.body(c);
+    write_head(pool, homes, made, code, works, program.head(c))?;
+    match last_call(program, body) {
+        Some(t) => {
+            let before = Part {
+                from: body.from,
+                to: body.to - 1,
+            };
+            write_goals(
+                alloc, program, ranges, predicates, homes, made, code, works, start, before,
+            )?;
+            execute(pool, predicates, homes, made, code, works, t)?;
+        }
+        None => {
+            write_goals(
+                alloc, program, ranges, predicates, homes, made, code, works, start, body,
+            )?;
+            code.push(Code::Deallocate)?;
+            code.push(Code::Proceed)?;
+        }
+    }
+    Ok(())
+}
+
+/// The code of the clause c, whose variables are in a frame.
+fn compile_framed(
+    alloc: Global,
+    program: &Program,
+    ranges: &[Rc<RangeCode>],
+    predicates: &Predicates,
+    c: usize,
+    start: usize,
+    code: &mut Vec<Code>,
+) -> Result<(), NoMemory>
+    requires clause { c < length program.now.clauses }
+    requires ranges { map (λ r. r.value) ranges.now ≡ program.now.ranges }
+    ensures { OnOk result (Appends code.old.items code.new.items
+        (λ is. IsClauseCode (base_in program.now predicates.now) (start + length code.old.items) is
+        (clause_in program.now (clause_at program.now c)))) }
+{
+    let homes = slot_homes(alloc, program.variables_of_clause(c))?;
+    let mut made = vec![in alloc; false; homes.len()]?;
+    let mut works = Vec::new(alloc);
+    write_clause(
+        alloc, program, ranges, predicates, &homes, &mut made, code, &mut works, c, start,
+    )
+}
+
 /// Writes the code of the clause c behind what `code` has, which stands from the place `start` on. `ranges` are the program's, by
-/// their numbers. The error is want of memory.
+/// their numbers. Where the body is a user goal alone, or empty, there is no frame. The error is want of memory.
 pub fn compile_clause(
     alloc: Global,
     program: &Program,
@@ -117,26 +137,9 @@ pub fn compile_clause(
         (λ is. IsClauseCode (base_in program.now predicates.now) (start + length code.old.items) is
         (clause_in program.now (clause_at program.now c)))) }
 {
-    Err(NoMemory)
-}
-
-/// Writes the code of the query q likewise.
-pub fn compile_query(
-    alloc: Global,
-    program: &Program,
-    ranges: &[Rc<RangeCode>],
-    predicates: &Predicates,
-    q: usize,
-    start: usize,
-    code: &mut Vec<Code>,
-) -> Result<(), NoMemory>
-    requires query { q < length program.now.queries }
-    requires codable { IsCodable (program_in program.now) }
-    requires ranges { map (λ r. r.value) ranges.now ≡ program.now.ranges }
-    requires predicates { ArePredicates program.now predicates.now }
-    ensures { OnOk result (Appends code.old.items code.new.items
-        (λ is. IsQueryPiece (base_in program.now predicates.now) (start + length code.old.items) is
-        (query_in program.now (query_at program.now q)))) }
-{
-    Err(NoMemory)
+    match body_of(program, program.body(c)) {
+        Body::Empty => compile_short(alloc, program, predicates, c, None, start, code),
+        Body::Call(t) => compile_short(alloc, program, predicates, c, Some(t), start, code),
+        Body::Longer => compile_framed(alloc, program, ranges, predicates, c, start, code),
+    }
 }

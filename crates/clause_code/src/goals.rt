@@ -1,11 +1,11 @@
 //! The code of goals.
-ghost use Rattle.std.specs.Prelude.{◌≡◌, ℕ, ◌+◌, ◌<◌, ◌≤◌, true, [], ◌∷◌, ◌++◌, length, map, All, OnOk};
+ghost use Rattle.std.specs.Prelude.{◌≡◌, ◌+◌, ◌<◌, ◌≤◌, true, [], ◌++◌, length, map, All, OnOk};
 ghost use Rattle.fd_model.specs.Sound.{EachBelow};
 ghost use Rattle.fd_language.specs.Term.{term};
 ghost use Rattle.fd_model.specs.Constraining.{arguments};
 ghost use Rattle.range_code.specs.Slots.{slots_of};
 ghost use Rattle.term_pool.specs.Terms.{term_of, terms_by};
-ghost use Rattle.clause_check.specs.Programs.{goals_between, range_at};
+ghost use Rattle.clause_check.specs.Programs.{goals_in, range_at};
 ghost use Rattle.wam_code.specs.declared.instruction.Code.TheVariants.{PostRange};
 ghost use Rattle.clause_code.specs.Bodies.{IsGoalsCode};
 ghost use Rattle.clause_code.specs.Codable.{EachCodable};
@@ -15,12 +15,14 @@ ghost use Rattle.clause_code.specs.Steps.{puts, AllSuit};
 ghost use Rattle.clause_code.specs.Whole.{AreSlots, Executes};
 ghost use Rattle.clause_code.specs.Works.{Writes};
 
+use crate::either::{enter, leave};
 use crate::predicates::Predicates;
 use crate::terms::{Work, put, put_all, put_variable};
-use clause_check::{FlatGoal, Program};
+use clause_check::{FlatGoal, Part, Program};
 use fd_language::NoMemory;
 use fd_model::kinds::BuiltinKind;
 use range_code::RangeCode;
+use std::alloc::Global;
 use std::rc::Rc;
 use term_pool::{Node, Pool, TermId};
 use wam_code::{Code, Register};
@@ -183,7 +185,7 @@ pub(crate) fn execute(
     Ok(())
 }
 
-/// A goal. There is no code for an `A ; B` yet: the answer is then want of memory.
+/// A goal, or of an `A ; B` the instruction before both sides. It gets its place later.
 fn write_goal(
     program: &Program,
     ranges: &[Rc<RangeCode>],
@@ -226,13 +228,14 @@ fn write_goal(
         FlatGoal::Builtin(kind, t) => {
             load_arguments(pool, homes, made, code, works, t, Code::Builtin(kind))?;
         }
-        FlatGoal::Either(_, _) => return Err(NoMemory),
+        FlatGoal::Either(_, _) => code.push(Code::Either(0))?,
     }
     Ok(())
 }
 
-/// The goals with the numbers from `from` on, before `to`.
+/// The goals of the part, behind what `code` has, which stands from the place `start` on.
 pub(crate) fn write_goals(
+    alloc: Global,
     program: &Program,
     ranges: &[Rc<RangeCode>],
     predicates: &Predicates,
@@ -240,28 +243,44 @@ pub(crate) fn write_goals(
     made: &mut Vec<bool>,
     code: &mut Vec<Code>,
     works: &mut Vec<Work>,
-    from: usize,
-    to: usize,
+    start: usize,
+    part: Part,
 ) -> Result<(), NoMemory>
-    requires within { to ≤ length program.now.goals }
-    requires ordered { from ≤ to }
-    requires below { EachBelow (length homes.now) (goals_between program.now from to) }
-    requires codable { EachCodable (goals_between program.now from to) }
+    requires within { part.to ≤ length program.now.goals }
+    requires below { EachBelow (length homes.now) (goals_in program.now part) }
+    requires codable { EachCodable (goals_in program.now part) }
     requires ranges { map (λ r. r.value) ranges.now ≡ program.now.ranges }
     requires homes { AreSlots homes.now }
     requires long { length made.old.items ≡ length homes.now }
     requires made { AreMade made.old.items }
     requires works { works.old.items ≡ [] }
-    ensures code { OnOk result ((at : ℕ) → Appends code.old.items code.new.items
-        (λ is. IsGoalsCode (base_in program.now predicates.now) homes.now true at is
-        (goals_between program.now from to))) }
+    ensures code { OnOk result (Appends code.old.items code.new.items
+        (λ is. IsGoalsCode (base_in program.now predicates.now) homes.now true
+        (start + length code.old.items) is (goals_in program.now part))) }
     ensures made { OnOk result (made.new.items ≡ made.old.items) }
     ensures works { OnOk result (works.new.items ≡ []) }
 {
     program.known();
-    for i in from..to {
-        let goal = program.goal(i);
-        write_goal(program, ranges, predicates, homes, made, code, works, goal)?;
+    let mut sides = Vec::new(alloc);
+    let mut next = part;
+    loop {
+        if next.from < next.to {
+            let goal = program.goal(next.from);
+            let at = code.len();
+            write_goal(program, ranges, predicates, homes, made, code, works, goal)?;
+            next = enter(
+                &mut sides,
+                goal,
+                at,
+                Part {
+                    from: next.from + 1,
+                    to: next.to,
+                },
+            )?;
+        } else if let Some(side) = sides.pop() {
+            next = leave(start, code, &mut sides, side)?;
+        } else {
+            return Ok(());
+        }
     }
-    Ok(())
 }

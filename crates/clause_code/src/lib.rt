@@ -2,10 +2,15 @@
 #![tactic(auto)]
 
 mod clause;
+mod either;
+mod frameless;
 mod goals;
+mod heads;
 pub mod laws;
 mod predicates;
+mod query;
 mod terms;
 
-pub use crate::clause::{compile_clause, compile_query};
+pub use crate::clause::compile_clause;
 pub use crate::predicates::{Predicates, predicates_of};
+pub use crate::query::compile_query;

@@ -1,35 +1,42 @@
 -- From the pieces of a program's code to all of it.
-use Rattle.std.proofs.Common.{◌≡◌, ℕ, zero, suc, ◌+◌, ◌<◌, List, [], ◌∷◌, ◌++◌, Some, option_map, map, filter, take, drop, length, get_or, slice_get, All, ◌≤◌, append_assoc, refl, ap, ap₂, sym, ◌∙◌, subst, inl, arith}
+use Rattle.std.proofs.Common.{◌≡◌, ◌⊎◌, ℕ, suc, ◌+◌, ◌<◌, Bool, true, false, ◌&&◌, List, [], ◌∷◌, ◌++◌, Some, option_map, map, filter, take, drop, length, get_or, slice_get, All, ◌≤◌, append_assoc, refl, ap, ap₂, sym, ◌∙◌, subst, inl, inr, arith}
 use Rattle.std.specs.List.{range_with_len}
+use Rattle.std.proofs.lemmas.Bool.{true≢false, and_parts, and_cases}
 use Rattle.std.proofs.Math.Seq.{take-append_seam, drop-append_seam}
 use Rattle.std.proofs.lemmas.List.{length-append, length-map}
 use Rattle.std.proofs.lemmas.Option.{slice_get_within, slice_get-get_or, slice_get-map, get_or_from_slice_get}
-use Rattle.fd_language.specs.Term.{Terms}
 use Rattle.fd_language.specs.Range.{Range}
+use Rattle.fd_model.specs.Constraining.{arguments}
 use Rattle.fd_model.specs.Goal.{Clause, Query, Program}
 use Rattle.fd_model.specs.Children.{fits_head}
-use Rattle.term_pool.specs.Contents.{atom_name}
+use Rattle.term_pool.specs.Contents.{atom_name, shape_at}
+use Rattle.term_pool.specs.Terms.{term_of}
 use Rattle.clause_check.specs.Programs.{FlatProgram, clause_at, query_at, clause_in, query_in, program_in, no_clause, no_query, IsProgram}
 use Rattle.wam_code.specs.declared.instruction.Code.{Code}
-use Rattle.wam_code.specs.declared.instruction.Code.TheVariants.{Jump, FailNow, Try, Retry, Trust}
 use Rattle.wam_code.specs.declared.parts.Entry.{Entry}
-use Rattle.wam_code.specs.Area.{Area, Span, Holds, HasEntry, HasQuery, name_of}
-use Rattle.wam_code.specs.Verified.{IsAtom}
+use Rattle.wam_code.specs.Area.{Area, Span, Table, Holds, HasEntry, HasQuery, name_of}
+use Rattle.wam_code.specs.Verified.{IsAtom, IsKey}
 use Rattle.wam_code.specs.Places.{count, made}
-use Rattle.wam_code.specs.Tries.{Thinned, IsPredicate}
+use Rattle.wam_code.specs.Tries.{ClashFirst, IsNeedless, Thinned, Tries, IsPredicate}
 use Rattle.clause_code.specs.Pieces.{Predicate, predicate_of, base_of, Stand}
 use Rattle.clause_code.specs.Predicates.{ArePredicates, base_in, predicate_at, no_predicate}
 use Rattle.clause_code.specs.Safe.{IsClauseCode, IsQueryPiece}
-use Rattle.clause_code.specs.Trying.{rest_of_list, list_of}
+use Rattle.clause_code.specs.Trying.{list_of}
 use Rattle.clause_code.proofs.Trying.{list_tries}
+use Rattle.clause_compiler.specs.Switching.{code_of, AreChoicesBy, AreKeysIn}
 use Rattle.clause_compiler.specs.Groups.{head_predicate, is_predicate, numbers_of}
 use Rattle.clause_compiler.specs.Layout.{joined, offset, AreChoicesOf, BeginsClause, IsSpanOf, IsLaidOut}
-use Rattle.clause_compiler.specs.Sections.{ArePut, its_place, IsClausePiece, its_span, IsQueryOf, its_entry, IsListOf, place_in, placed_code, IsNumbered}
-use Rattle.clause_compiler.proofs.Lists.{get_there, find_joined, get_left, get_right, get_joined, same_offset, same_length}
+use Rattle.clause_compiler.specs.Sections.{ArePut, its_place, IsClausePiece, its_span, IsQueryOf, its_entry, IsChoiceOf, place_in, placed_code, IsNumbered}
+use Rattle.clause_compiler.proofs.Lists.{get_there, got_map, map_joined, find_joined, get_left, get_right, get_joined, same_offset, same_length}
 use Rattle.clause_compiler.proofs.Placing.{piece_some}
-use Rattle.clause_compiler.proofs.Listing.{Each, list_choices}
+use Rattle.clause_compiler.proofs.Listing.{each_of, list_choices, stand_at}
+use Rattle.clause_compiler.proofs.Numbering.{placed_list, placed_segment, placed_segments}
+use Rattle.clause_compiler.proofs.Rows.{key_within}
+use Rattle.clause_compiler.proofs.Segments.{segment_choices}
+use Rattle.clause_compiler.proofs.Sifting.{sift_both, sift_all}
+use Rattle.clause_compiler.proofs.Switches.{each_segment, switch_safe, switch_chooses, choices_numbered}
 use Rattle.clause_compiler.proofs.Trying.{Enters, thinned_by, each_tries}
-use Rattle.clause_compiler.proofs.Fitting.{is_number, fits_predicate, head_arity}
+use Rattle.clause_compiler.proofs.Fitting.{is_number, number_there, fits_predicate, head_arity}
 
 -- ---- lists
 same_lists : {X : Type 0} (xs ys : List X) → length xs ≡ length ys → ((k : ℕ) (x : X) → slice_get ys k ≡ Some x → slice_get xs k ≡ Some x) → xs ≡ ys
@@ -41,66 +48,17 @@ same_lists (x ∷ xs) (y ∷ ys) e h =
     let one : x ≡ y = cc in
     ap₂ (λ z zs. z ∷ zs) one (same_lists xs ys (omega (arith, e)) (λ k. h (suc k)))
 
-map_joined : {X Y : Type 0} (f : X → Y) (xss : List (List X)) → map f (joined xss) ≡ joined (map (map f) xss)
-map_joined f [] = refl
-map_joined f (xs ∷ xss) = map_two f xs (joined xss) ∙ ap (λ l. map f xs ++ l) (map_joined f xss)
-  where
-    map_two : {X Y : Type 0} (f : X → Y) (xs ys : List X) → map f (xs ++ ys) ≡ map f xs ++ map f ys
-    map_two f [] ys = refl
-    map_two f (x ∷ xs) ys = ap (λ l. f x ∷ l) (map_two f xs ys)
-
-got_map : {X Y : Type 0} (f : X → Y) (xs : List X) (k : ℕ) (y : Y) → slice_get (map f xs) k ≡ Some y → (x : X) × (slice_get xs k ≡ Some x) × (y ≡ f x)
-got_map f [] k y e = absurd cc
-got_map f (x ∷ xs) zero y e = (x, refl, (let s : y ≡ f x = cc in s))
-got_map f (x ∷ xs) (suc k) y e = got_map f xs k y e
-
 same_some : {A : Type 0} (o : List A) (k : ℕ) (x y : A) → slice_get o k ≡ Some x → slice_get o k ≡ Some y → x ≡ y
 same_some o k x y e f = let g : Some x ≡ Some y = sym e ∙ f in cc
 
--- the places in place of the numbers
-module _ (places : List ℕ) where
-  placed_rest : (l : ℕ) (ls : List ℕ) → map (placed_code places) (rest_of_list (l ∷ ls)) ≡ rest_of_list (map (place_in places) (l ∷ ls))
-  placed_rest l [] = refl
-  placed_rest l (k ∷ ls) = ap (λ is. Retry (place_in places l) ∷ is) (placed_rest k ls)
-
-  placed_list : (ls : List ℕ) → map (placed_code places) (list_of ls) ≡ list_of (map (place_in places) ls)
-  placed_list [] = refl
-  placed_list (l ∷ []) = refl
-  placed_list (l ∷ k ∷ ls) = ap (λ is. Try (place_in places l) ∷ is) (placed_rest k ls)
-
--- the numbers in a list of choices
-module _ (many : ℕ) where
-  rest_numbered : (l : ℕ) (ls : List ℕ) → ((k n : ℕ) → slice_get (l ∷ ls) k ≡ Some n → n < many) → (n : ℕ) (i : Code) → slice_get (rest_of_list (l ∷ ls)) n ≡ Some i → IsNumbered many i
-  rest_numbered l [] h zero i e = let s : Trust l ≡ i = cc in subst (IsNumbered many) s (h 0 l refl)
-  rest_numbered l [] h (suc n) i e = absurd cc
-  rest_numbered l (k ∷ ls) h zero i e = let s : Retry l ≡ i = cc in subst (IsNumbered many) s (h 0 l refl)
-  rest_numbered l (k ∷ ls) h (suc n) i e = rest_numbered k ls (λ j. h (suc j)) n i e
-
-  list_numbered : (ls : List ℕ) → ((k n : ℕ) → slice_get ls k ≡ Some n → n < many) → (n : ℕ) (i : Code) → slice_get (list_of ls) n ≡ Some i → IsNumbered many i
-  list_numbered [] h zero i e = let s : FailNow ≡ i = cc in subst (IsNumbered many) s tt
-  list_numbered [] h (suc n) i e = absurd cc
-  list_numbered (l ∷ []) h zero i e = let s : Jump l ≡ i = cc in subst (IsNumbered many) s (h 0 l refl)
-  list_numbered (l ∷ []) h (suc n) i e = absurd cc
-  list_numbered (l ∷ k ∷ ls) h zero i e = let s : Try l ≡ i = cc in subst (IsNumbered many) s (h 0 l refl)
-  list_numbered (l ∷ k ∷ ls) h (suc n) i e = rest_numbered k ls (λ j. h (suc j)) n i e
-
-each_of : (P : ℕ → Type 0) (f : ℕ → ℕ) (ns : List ℕ) → ((k n : ℕ) → slice_get ns k ≡ Some n → P (f n)) → Each P (map f ns)
-each_of P f [] h = tt
-each_of P f (n ∷ ns) h = (h 0 n refl, each_of P f ns (λ k. h (suc k)))
-
-pub stand_at : (a : Area) (at : ℕ) (is : List Code) → ((n : ℕ) (i : Code) → slice_get is n ≡ Some i → Holds a (at + n) i) → Stand a at is
-stand_at a at [] h = tt
-stand_at a at (i ∷ is) h =
-    (subst (λ o. Holds a o i) (let e : at + 0 ≡ at = omega arith in e) (h 0 i refl), stand_at a (suc at) is (λ n j e. subst (λ o. Holds a o j) (let g : at + suc n ≡ suc at + n = omega arith in g) (h (suc n) j e)))
-
-module _ (p : FlatProgram) (v : IsProgram p) (ps : List Predicate) (w : ArePredicates p ps) (raw mid whole : List Code) (entries : List Entry) (places : List ℕ) (spans : List Span)
-    (hc : ArePut (its_entry ps) (IsListOf p ps) (length ps) [] raw entries) (hl : ArePut its_place (IsClausePiece p ps) (length p.clauses) raw mid places) (hq : ArePut (its_span p) (IsQueryOf p ps) (length p.queries) mid whole spans) where
+module _ (p : FlatProgram) (v : IsProgram p) (ps : List Predicate) (w : ArePredicates p ps) (raw mid whole : List Code) (entries : List Entry) (places : List ℕ) (spans : List Span) (tables : List Table) (keys : AreKeysIn p tables)
+    (hc : ArePut (its_entry ps) (IsChoiceOf p tables ps) (length ps) [] raw entries) (hl : ArePut its_place (IsClausePiece p ps) (length p.clauses) raw mid places) (hq : ArePut (its_span p) (IsQueryOf p ps) (length p.queries) mid whole spans) where
   -- ---- the code
   abbrev pub code : List Code
   code = map (placed_code places) (take (length raw) whole) ++ drop (length raw) whole
 
   abbrev pub area : Area
-  area = record { pool = p.pool; code = code; tables = []; ranges = p.ranges; entries = entries; queries = spans }
+  area = record { pool = p.pool; code = code; tables = tables; ranges = p.ranges; entries = entries; queries = spans }
 
   abbrev prog : Program
   prog = program_in p
@@ -135,12 +93,12 @@ module _ (p : FlatProgram) (v : IsProgram p) (ps : List Predicate) (w : ArePredi
   from_is = same_length hc.pieces choices many_choices size_same ∙ sym (ap length hc.code)
 
   -- ---- entries
-  entry_is : (k : ℕ) (e : Entry) (is : List Code) → HasEntry area k e → slice_get choices k ≡ Some is → (e ≡ its_entry ps k (offset choices k) is) × (is ≡ list_of (map (place_in places) (numbers_of p (length p.clauses) (predicate_at ps k))))
+  entry_is : (k : ℕ) (e : Entry) (is : List Code) → HasEntry area k e → slice_get choices k ≡ Some is → (e ≡ its_entry ps k (offset choices k) is) × (xs : List Code) × (is ≡ map (placed_code places) xs) × IsChoiceOf p tables ps k (offset choices k) xs
   entry_is k e is h f =
       let g = got_map (map (placed_code places)) hc.pieces k is f in
       let same = same_some entries k e (its_entry ps k (0 + offset hc.pieces k) g.0) h (hc.each k g.0 g.1) in
       let place : 0 + offset hc.pieces k ≡ offset choices k = (let o = same_offset hc.pieces choices many_choices size_same k in omega (arith, o)) in
-      (same ∙ ap (λ o. its_entry ps k o is) place, g.2 ∙ ap (map (placed_code places)) (hc.piece k g.0 g.1) ∙ placed_list places (numbers_of p (length p.clauses) (predicate_at ps k)))
+      (same ∙ ap (λ o. its_entry ps k o is) place, g.0, g.2, subst (λ o. IsChoiceOf p tables ps k o g.0) place (hc.piece k g.0 g.1))
 
   piece_there : (k : ℕ) (e : Entry) → HasEntry area k e → (is : List Code) × (slice_get choices k ≡ Some is)
   piece_there k e h = get_there choices k (let b = slice_get_within entries k e h in let m = many_choices in let s = hc.size in let t = hc.many in omega (arith, b, m, s, t))
@@ -200,52 +158,106 @@ module _ (p : FlatProgram) (v : IsProgram p) (ps : List Predicate) (w : ArePredi
       subst (λ o. Enters area o (clause n)) (sym (place_is n is.0 is.1)) (i.0, subst (λ o. Holds area o i.0) place (clause_holds n 0 is.0 i.0 is.1 i.1), c.enters i.0 i.1, c.means area refl (stand_at area at is.0 (λ m j e. clause_holds n m is.0 j is.1 e)))
 
   -- ---- choices
+  -- the numbers of a predicate's clauses
+  abbrev numbers : ℕ → List ℕ
+  numbers k = numbers_of p (length p.clauses) (predicate_at ps k)
+
+  abbrev Begins : ℕ → ℕ → Type 0
+  Begins arity = BeginsClause prog.clauses (length (joined choices)) hl.pieces arity
+
   choice_safe : (k : ℕ) (e : Entry) (is : List Code) → HasEntry area k e → slice_get choices k ≡ Some is → AreChoicesOf area (BeginsClause prog.clauses (length (joined choices)) hl.pieces e.arity) e.at e.arity is
-  choice_safe k e is h f =
-      let x = entry_is k e is h f in
-      subst (AreChoicesOf area (BeginsClause prog.clauses (length (joined choices)) hl.pieces e.arity) e.at e.arity) (sym x.1)
-      (list_choices area (BeginsClause prog.clauses (length (joined choices)) hl.pieces e.arity) e.at e.arity (map (place_in places) (numbers_of p (length p.clauses) (predicate_at ps k)))
-      (each_of (BeginsClause prog.clauses (length (joined choices)) hl.pieces e.arity) (place_in places) (numbers_of p (length p.clauses) (predicate_at ps k)) begins))
+  choice_safe k e is h f = by x.3
     where
-      begins : (j n : ℕ) → slice_get (numbers_of p (length p.clauses) (predicate_at ps k)) j ≡ Some n → BeginsClause prog.clauses (length (joined choices)) hl.pieces e.arity (place_in places n)
+      x : (e ≡ its_entry ps k (offset choices k) is) × (xs : List Code) × (is ≡ map (placed_code places) xs) × IsChoiceOf p tables ps k (offset choices k) xs
+      x = entry_is k e is h f
+
+      arity_is : e.arity ≡ (predicate_at ps k).arity
+      arity_is = ap (λ (y : Entry). y.arity) x.0
+
+      place_at : e.at ≡ offset choices k
+      place_at = ap (λ (y : Entry). y.at) x.0
+
+      begins : (j n : ℕ) → slice_get (numbers k) j ≡ Some n → Begins e.arity (place_in places n)
       begins j n g =
           let num = is_number p (length p.clauses) j n (predicate_at ps k) g in
           let piece = clause_piece n num.0 in
-          let own = ap (λ (y : Entry). y.arity) (entry_is k e is h f).0 in
-          (n, clause n, clause_there n num.0, head_arity p v ps w n num.0 (predicate_at ps k) num.1 ∙ sym own, place_is n piece.0 piece.1)
+          (n, clause n, clause_there n num.0, head_arity p v ps w n num.0 (predicate_at ps k) num.1 ∙ sym arity_is, place_is n piece.0 piece.1)
+
+      by : AreChoicesBy p tables (numbers k) (predicate_at ps k).arity (offset choices k) x.1 → AreChoicesOf area (Begins e.arity) e.at e.arity is
+      by (inl r) = subst (AreChoicesOf area (Begins e.arity) e.at e.arity) (sym (x.2 ∙ ap (map (placed_code places)) r ∙ placed_list places (numbers k))) (list_choices area (Begins e.arity) e.at e.arity (map (place_in places) (numbers k)) (each_of (Begins e.arity) (place_in places) (numbers k) begins))
+      by (inr r) =
+          subst (λ o. AreChoicesOf area (Begins e.arity) o e.arity is) (sym place_at)
+          (subst (AreChoicesOf area (Begins e.arity) (offset choices k) e.arity) (sym (x.2 ∙ ap (map (placed_code places)) r.1.1 ∙ placed_segments places r.1.0 (each_segment p tables (numbers k) (offset choices k) r.1.0 r.1.2)))
+          (segment_choices area (Begins e.arity) (offset choices k) e.arity (map (placed_segment places) r.1.0) (switch_safe p tables (numbers k) (offset choices k) r.1.0 r.1.2 places area refl (Begins e.arity) e.arity (subst (λ m. 1 ≤ m) (sym arity_is) r.0) begins)))
 
   choice_holds : (k n : ℕ) (is : List Code) (i : Code) → slice_get choices k ≡ Some is → slice_get is n ≡ Some i → Holds area (offset choices k + n) i
   choice_holds k n is i f g = ap (λ c. slice_get c (offset choices k + n)) code_is ∙ get_left (joined choices) (joined hl.pieces ++ joined hq.pieces) (offset choices k + n) i (get_joined choices k n is i f g)
 
   choice_means : (k : ℕ) (e : Entry) → HasEntry area k e → IsPredicate area prog e
-  choice_means k e h ts s size =
-      let piece = piece_there k e h in
-      let x = entry_is k e piece.0 h piece.1 in
-      let pred = predicate_at ps k in
-      let ns = numbers_of p (length p.clauses) pred in
-      let place : e.at ≡ offset choices k = ap (λ (y : Entry). y.at) x.0 in
-      let arity : count ts ≡ pred.arity = size ∙ ap (λ (y : Entry). y.arity) x.0 in
-      let name : name_of area e.name ≡ atom_name p.pool pred.name = ap (λ (y : Entry). atom_name p.pool y.name) x.0 in
-      let own : pred.name.number < length p.pool.names = w.atoms k pred (slice_get-get_or ps k no_predicate (number_within k e h)) in
-      let stand = subst (Stand area (offset choices k)) x.1 (stand_at area (offset choices k) piece.0 (λ n i g. choice_holds k n piece.0 i piece.1 g)) in (
-        map clause ns,
-        subst (λ y. Thinned s (made y ts) prog.clauses (map clause ns)) (sym name) (thin pred ts own arity),
-        list_tries area s (map (place_in places) ns) (map clause ns) e.at (each_tries area s (place_in places) clause ns (λ n j g. enters n (is_number p (length p.clauses) j n pred g).0)) (subst (λ o. Stand area o (list_of (map (place_in places) ns))) (sym place) stand),
-      )
+  choice_means k e h ts s size = by x.3
     where
-      thin : (pred : Predicate) (ts : Terms) → pred.name.number < length p.pool.names → count ts ≡ pred.arity → Thinned s (made (atom_name p.pool pred.name) ts) prog.clauses (map clause (numbers_of p (length p.clauses) pred))
-      thin pred ts own arity =
-          subst (λ n. Thinned s (made (atom_name p.pool pred.name) ts) prog.clauses (map clause (filter (λ c. is_predicate pred (head_predicate p c)) (range_with_len 0 n)))) (length-map p.clauses (clause_in p))
-          (thinned_by s (made (atom_name p.pool pred.name) ts) (λ c. is_predicate pred (head_predicate p c)) clause prog.clauses 0
+      piece : (is : List Code) × (slice_get choices k ≡ Some is)
+      piece = piece_there k e h
+
+      x : (e ≡ its_entry ps k (offset choices k) piece.0) × (xs : List Code) × (piece.0 ≡ map (placed_code places) xs) × IsChoiceOf p tables ps k (offset choices k) xs
+      x = entry_is k e piece.0 h piece.1
+
+      place : e.at ≡ offset choices k
+      place = ap (λ (y : Entry). y.at) x.0
+
+      name : name_of area e.name ≡ atom_name p.pool (predicate_at ps k).name
+      name = ap (λ (y : Entry). atom_name p.pool y.name) x.0
+
+      enter : (j n : ℕ) → slice_get (numbers k) j ≡ Some n → Enters area (place_in places n) (clause n)
+      enter j n g = enters n (is_number p (length p.clauses) j n (predicate_at ps k) g).0
+
+      holds : (n : ℕ) (i : Code) → slice_get piece.0 n ≡ Some i → Holds area (offset choices k + n) i
+      holds n i g = choice_holds k n piece.0 i piece.1 g
+
+      fits : (j : ℕ) (c : Clause) → slice_get prog.clauses j ≡ Some c → fits_head (made (atom_name p.pool (predicate_at ps k).name) ts) c.head ≡ is_predicate (predicate_at ps k) (head_predicate p (0 + j))
+      fits j c g =
+          let z = clause_is j c g in
+          let own : (predicate_at ps k).name.number < length p.pool.names = w.atoms k (predicate_at ps k) (slice_get-get_or ps k no_predicate (number_within k e h)) in
+          let from_zero : j ≡ 0 + j = omega arith in
+          ap (λ (y : Clause). fits_head (made (atom_name p.pool (predicate_at ps k).name) ts) y.head) z.1 ∙ fits_predicate p v ps w j z.0 (predicate_at ps k) ts own (size ∙ ap (λ (y : Entry). y.arity) x.0) ∙ ap (λ n. is_predicate (predicate_at ps k) (head_predicate p n)) from_zero
+
+      -- those that pass a test, where the others clash
+      thin : (t : ℕ → Bool) → ((j n : ℕ) → slice_get (numbers k) j ≡ Some n → t n ≡ false → ClashFirst s (arguments (term_of p.pool (clause_at p n).head))) → Thinned s (made (name_of area e.name) ts) prog.clauses (map clause (filter t (numbers k)))
+      thin t clash =
+          subst (λ y. Thinned s (made y ts) prog.clauses (map clause (filter t (numbers k)))) (sym name)
+          (subst (λ ms. Thinned s (made (atom_name p.pool (predicate_at ps k).name) ts) prog.clauses (map clause ms)) (sym (sift_both (λ c. is_predicate (predicate_at ps k) (head_predicate p c)) t (range_with_len 0 (length p.clauses))))
+          (subst (λ n. Thinned s (made (atom_name p.pool (predicate_at ps k).name) ts) prog.clauses (map clause (filter (λ c. is_predicate (predicate_at ps k) (head_predicate p c) && t c) (range_with_len 0 n)))) (length-map p.clauses (clause_in p))
+          (thinned_by s (made (atom_name p.pool (predicate_at ps k).name) ts) (λ c. is_predicate (predicate_at ps k) (head_predicate p c) && t c) clause prog.clauses 0
           (λ j c g. ap clause (zero_plus j) ∙ sym (clause_is j c g).1)
-          (λ j c g t. fits j c g ∙ ap (λ n. is_predicate pred (head_predicate p n)) (sym (zero_plus j)) ∙ t)
-          (λ j c g t. inl (fits j c g ∙ ap (λ n. is_predicate pred (head_predicate p n)) (sym (zero_plus j)) ∙ t)))
+          (λ j c g u. fits j c g ∙ (and_parts (is_predicate (predicate_at ps k) (head_predicate p (0 + j))) (t (0 + j)) u).0)
+          (λ j c g u. needless j c g (and_cases (is_predicate (predicate_at ps k) (head_predicate p (0 + j))) (t (0 + j)) u)))))
         where
           zero_plus : (j : ℕ) → 0 + j ≡ j
           zero_plus j = omega arith
 
-          fits : (j : ℕ) (c : Clause) → slice_get prog.clauses j ≡ Some c → fits_head (made (atom_name p.pool pred.name) ts) c.head ≡ is_predicate pred (head_predicate p j)
-          fits j c g = let x = clause_is j c g in ap (λ (y : Clause). fits_head (made (atom_name p.pool pred.name) ts) y.head) x.1 ∙ fits_predicate p v ps w j x.0 pred ts own arity
+          needless : (j : ℕ) (c : Clause) → slice_get prog.clauses j ≡ Some c → (is_predicate (predicate_at ps k) (head_predicate p (0 + j)) ≡ false) ⊎ (t (0 + j) ≡ false) → IsNeedless s (made (atom_name p.pool (predicate_at ps k).name) ts) c
+          needless j c g (inl u) = inl (fits j c g ∙ u)
+          needless j c g (inr u) = by (is_predicate (predicate_at ps k) (head_predicate p (0 + j))) refl
+            where
+              by : (b : Bool) → is_predicate (predicate_at ps k) (head_predicate p (0 + j)) ≡ b → IsNeedless s (made (atom_name p.pool (predicate_at ps k).name) ts) c
+              by false h = inl (fits j c g ∙ h)
+              by true h =
+                  let z = clause_is j c g in
+                  let own = number_there p (length p.clauses) j (predicate_at ps k) z.0 (ap (λ n. is_predicate (predicate_at ps k) (head_predicate p n)) (sym (zero_plus j)) ∙ h) in
+                  inr (subst (λ (y : Clause). ClashFirst s (arguments y.head)) (sym z.1) (clash own.0 j own.1 (ap t (sym (zero_plus j)) ∙ u)))
+
+      by : AreChoicesBy p tables (numbers k) (predicate_at ps k).arity (offset choices k) x.1 → (cs : List Clause) × Thinned s (made (name_of area e.name) ts) prog.clauses cs × Tries area s e.at cs
+      by (inl r) =
+          let is : piece.0 ≡ list_of (map (place_in places) (numbers k)) = x.2 ∙ ap (map (placed_code places)) r ∙ placed_list places (numbers k) in
+          let stand = subst (Stand area (offset choices k)) is (stand_at area (offset choices k) piece.0 holds) in (
+            map clause (numbers k),
+            subst (λ ms. Thinned s (made (name_of area e.name) ts) prog.clauses (map clause ms)) (sift_all (numbers k)) (thin (λ n. true) (λ j n l u. absurd (true≢false u))),
+            list_tries area s (map (place_in places) (numbers k)) (map clause (numbers k)) e.at (each_tries area s (place_in places) clause (numbers k) (λ n j g. enter j n g)) (subst (λ o. Stand area o (list_of (map (place_in places) (numbers k)))) (sym place) stand),
+          )
+      by (inr r) =
+          let is : piece.0 ≡ code_of (map (placed_segment places) r.1.0) = x.2 ∙ ap (map (placed_code places)) r.1.1 ∙ placed_segments places r.1.0 (each_segment p tables (numbers k) (offset choices k) r.1.0 r.1.2) in
+          let c = switch_chooses p tables (numbers k) (offset choices k) r.1.0 r.1.2 places area refl clause (λ n i g. holds n i (subst (λ l. slice_get l n ≡ Some i) (sym is) g)) enter v ps w refl (λ j n g. (is_number p (length p.clauses) j n (predicate_at ps k) g).0) s in
+          (map clause (filter c.test (numbers k)), thin c.test c.clash, subst (λ o. Tries area s o (map clause (filter c.test (numbers k)))) (sym place) c.means)
 
   -- ---- queries
   abbrev query : ℕ → Query
@@ -292,6 +304,15 @@ module _ (p : FlatProgram) (v : IsProgram p) (ps : List Predicate) (w : ArePredi
       let inside : k < length p.queries = omega (arith, l, m) in
       subst (λ (y : Span). All (λ c. IsAtom area c) y.names) (sym (get_or_from_slice_get spans k s.0 d s.1)) (subst (λ (y : Span). All (λ c. IsAtom area c) y.names) (sym same) (v.queries k no_query inside).names)
 
+  keys_there : All (λ table. All (λ row. IsKey area row.0) table) tables
+  keys_there k d l =
+      let t = get_there tables k l in
+      subst (All (λ row. IsKey area row.0)) (sym (get_or_from_slice_get tables k t.0 d t.1))
+      (λ r e m.
+      let x = get_there t.0 r m in
+      let own = keys k t.0 t.1 r x.0.0 x.0.1 x.1 in
+      subst (λ y. IsKey area y.0) (sym (get_or_from_slice_get t.0 r x.0 e x.1)) (key_within area v.pool (shape_at p.pool (clause_at p own.0).head) x.0.0 own.2))
+
   -- ---- all of it
   pub laid_out : IsLaidOut area prog
   laid_out = record {
@@ -308,14 +329,14 @@ module _ (p : FlatProgram) (v : IsProgram p) (ps : List Predicate) (w : ArePredi
     clause = λ k c is e f. let x = clause_is k c e in subst (IsClauseCode (base_of area) (length (joined choices) + offset hl.pieces k) is) (sym x.1) (clause_code k is f);
     query = query_span;
     predicates = choice_means;
-    keys = λ k d l. absurd (omega (arith, l));
+    keys = keys_there;
     predicate_names = entry_names;
     query_names = span_names;
   }
 
 -- ---- as the compiler has them
-module _ (p : FlatProgram) (v : IsProgram p) (ps : List Predicate) (w : ArePredicates p ps) (start raw mid whole : List Code) (entries : List Entry) (places : List ℕ) (spans : List Span) (none : start ≡ [])
-    (hc : ArePut (its_entry ps) (IsListOf p ps) (length ps) start raw entries) (hl : ArePut its_place (IsClausePiece p ps) (length p.clauses) raw mid places) (hq : ArePut (its_span p) (IsQueryOf p ps) (length p.queries) mid whole spans) where
+module _ (p : FlatProgram) (v : IsProgram p) (ps : List Predicate) (w : ArePredicates p ps) (start raw mid whole : List Code) (entries : List Entry) (places : List ℕ) (spans : List Span) (tables : List Table) (keys : AreKeysIn p tables) (none : start ≡ [])
+    (hc : ArePut (its_entry ps) (IsChoiceOf p tables ps) (length ps) start raw entries) (hl : ArePut its_place (IsClausePiece p ps) (length p.clauses) raw mid places) (hq : ArePut (its_span p) (IsQueryOf p ps) (length p.queries) mid whole spans) where
   whole_long : whole ≡ raw ++ (joined hl.pieces ++ joined hq.pieces)
   whole_long = hq.code ∙ ap (λ l. l ++ joined hq.pieces) hl.code ∙ append_assoc raw (joined hl.pieces) (joined hq.pieces)
 
@@ -330,15 +351,15 @@ module _ (p : FlatProgram) (v : IsProgram p) (ps : List Predicate) (w : ArePredi
       let i = get_there raw k inside in
       let code : raw ≡ joined hc.pieces = hc.code ∙ ap (λ l. l ++ joined hc.pieces) none in
       let g = find_joined hc.pieces k i.0 (ap (λ x. slice_get x k) (sym code) ∙ i.1) in
-      let list : slice_get (list_of (numbers_of p (length p.clauses) (predicate_at ps g.list))) g.index ≡ Some i.0 = subst (λ x. slice_get x g.index ≡ Some i.0) (hc.piece g.list g.elements g.at_list) g.at_index in
-      let one : IsNumbered many i.0 = list_numbered many (numbers_of p (length p.clauses) (predicate_at ps g.list)) (λ j n h. let a = is_number p (length p.clauses) j n (predicate_at ps g.list) h in let b = a.0 in let s = hl.size in omega (arith, b, s, f)) g.index i.0 list in
+      let pred = predicate_at ps g.list in
+      let one : IsNumbered many i.0 = choices_numbered p tables many (numbers_of p (length p.clauses) pred) pred.arity (length start + offset hc.pieces g.list) g.elements (λ j n h. let a = is_number p (length p.clauses) j n pred h in let b = a.0 in let s = hl.size in omega (arith, b, s, f)) (hc.piece g.list g.elements g.at_list) g.index i.0 g.at_index in
       subst (IsNumbered many) (sym (ap (λ x. get_or x k d) is ∙ get_or_from_slice_get raw k i.0 d i.1)) one
 
   pub laid_out_as : (code' : List Code) (ranges : List Range) (count : ℕ) (placed : List ℕ) → count ≡ length raw → placed ≡ places → code' ≡ map (placed_code placed) (take count whole) ++ drop count whole → ranges ≡ p.ranges
-      → IsLaidOut (record { pool = p.pool; code = code'; tables = []; ranges = ranges; entries = entries; queries = spans }) (program_in p)
+      → IsLaidOut (record { pool = p.pool; code = code'; tables = tables; ranges = ranges; entries = entries; queries = spans }) (program_in p)
   laid_out_as code' ranges count placed e f g h =
-      let own = subst (λ s. ArePut (its_entry ps) (IsListOf p ps) (length ps) s raw entries) none hc in
+      let own = subst (λ s. ArePut (its_entry ps) (IsChoiceOf p tables ps) (length ps) s raw entries) none hc in
       let is : code' ≡ map (placed_code places) (take (length raw) whole) ++ drop (length raw) whole = g ∙ ap (λ n. map (placed_code placed) (take n whole) ++ drop n whole) e ∙ ap (λ q. map (placed_code q) (take (length raw) whole) ++ drop (length raw) whole) f in
-      subst (λ c. IsLaidOut (record { pool = p.pool; code = c; tables = []; ranges = ranges; entries = entries; queries = spans }) (program_in p)) (sym is)
-      (subst (λ r. IsLaidOut (record { pool = p.pool; code = map (placed_code places) (take (length raw) whole) ++ drop (length raw) whole; tables = []; ranges = r; entries = entries; queries = spans }) (program_in p)) (sym h)
-      (laid_out p v ps w raw mid whole entries places spans own hl hq))
+      subst (λ c. IsLaidOut (record { pool = p.pool; code = c; tables = tables; ranges = ranges; entries = entries; queries = spans }) (program_in p)) (sym is)
+      (subst (λ r. IsLaidOut (record { pool = p.pool; code = map (placed_code places) (take (length raw) whole) ++ drop (length raw) whole; tables = tables; ranges = r; entries = entries; queries = spans }) (program_in p)) (sym h)
+      (laid_out p v ps w raw mid whole entries places spans tables keys own hl hq))

@@ -1,16 +1,17 @@
 -- Which clauses fit a goal of a predicate.
-use Rattle.std.proofs.Common.{◌≡◌, ℕ, zero, suc, ◌+◌, ◌<◌, Bool, true, false, cond, ◌&&◌, ◌==◌, List, [], ◌∷◌, filter, Some, option_map, length, get_or, slice_get, refl, ap, ap₂, sym, ◌∙◌, subst, arith, bytes_eq}
+use Rattle.std.proofs.Common.{◌≡◌, ℕ, zero, suc, ◌+◌, ◌<◌, Bool, true, false, cond, ◌&&◌, ◌==◌, List, [], ◌∷◌, filter, Some, option_map, length, get_or, slice_get, refl, ap, ap₂, sym, ◌∙◌, subst, arith, bytes_eq, All}
 use Rattle.std.specs.List.{range_with_len}
 use Rattle.std.proofs.lemmas.Bool.{true≢false, eqb-true, eq-eqb, and_parts}
 use Rattle.std.proofs.lemmas.Bool.Decides.{nat_tests}
 use Rattle.std.proofs.lemmas.Slice.Eq.{bytes_eq-Decides}
-use Rattle.std.proofs.lemmas.Option.{slice_get-get_or}
+use Rattle.std.proofs.lemmas.List.FromFn.{get_or-range_with_len, length-range_with_len}
+use Rattle.std.proofs.lemmas.Option.{slice_get-get_or, get_or_from_slice_get}
 use Rattle.fd_language.specs.Term.{Term, Terms, Atom, Comp, no_terms, term}
 use Rattle.fd_model.specs.Children.{same_count, fits_head}
 use Rattle.fd_model.specs.Constraining.{arguments}
 use Rattle.term_pool.specs.declared.AtomId.{AtomId}
 use Rattle.term_pool.specs.declared.TermId.{TermId}
-use Rattle.term_pool.specs.Contents.{Contents, Entry, Shape, var, int, atom, comp, atom_name}
+use Rattle.term_pool.specs.Contents.{Contents, Entry, Shape, var, int, atom, comp, atom_name, shape_at}
 use Rattle.term_pool.specs.Terms.{term_of, shape_term, terms_by}
 use Rattle.term_pool.specs.Valid.{IsPool, IsWithin}
 use Rattle.term_pool.proofs.Laws.{term_of_shape}
@@ -19,6 +20,8 @@ use Rattle.wam_code.specs.Places.{count, made}
 use Rattle.clause_code.specs.Pieces.{Predicate}
 use Rattle.clause_code.specs.Predicates.{ArePredicates}
 use Rattle.clause_compiler.specs.Groups.{shape_predicate, some_predicate, head_predicate, is_predicate, numbers_of}
+use Rattle.clause_compiler.proofs.Lists.{get_there}
+use Rattle.clause_compiler.proofs.Sifting.{sifted_in}
 
 never : {A : Type 0} → false ≡ true → A
 never h = absurd (true≢false (sym h))
@@ -35,6 +38,16 @@ filtered t a (suc n) k x e = by (t a) refl k e (λ j f. let w = filtered t (a + 
 
 pub is_number : (p : FlatProgram) (n k x : ℕ) (s : Predicate) → slice_get (numbers_of p n s) k ≡ Some x → (x < n) × (is_predicate s (head_predicate p x) ≡ true)
 is_number p n k x s e = let w = filtered (λ c. is_predicate s (head_predicate p c)) 0 n k x e in (let h = w.0 in omega (arith, h), w.1)
+
+-- A clause of the predicate is among its numbers.
+pub number_there : (p : FlatProgram) (n x : ℕ) (s : Predicate) → x < n → is_predicate s (head_predicate p x) ≡ true → (k : ℕ) × (slice_get (numbers_of p n s) k ≡ Some x)
+number_there p n x s l e =
+    let long = length-range_with_len 0 n in
+    let one : get_or (range_with_len 0 n) x 0 ≡ x = get_or-range_with_len 0 n x 0 l ∙ (let z : 0 + x ≡ x = omega arith in z) in
+    sifted_in (λ c. is_predicate s (head_predicate p c)) (range_with_len 0 n) x x (slice_get-get_or (range_with_len 0 n) x 0 (omega (arith, l, long)) ∙ ap (λ y. Some y) one) e
+
+pub numbers_within : (p : FlatProgram) (n : ℕ) (s : Predicate) → All (λ c. c < n) (numbers_of p n s)
+numbers_within p n s k d l = let x = get_there (numbers_of p n s) k l in subst (λ y. y < n) (sym (get_or_from_slice_get (numbers_of p n s) k x.0 d x.1)) (is_number p n k x.0 s x.1).0
 
 -- ---- names and counts
 module _ (c : Contents) (v : IsPool c) where
@@ -126,3 +139,7 @@ module _ (p : FlatProgram) (v : IsProgram p) (ps : List Predicate) (q : ArePredi
 
   pub head_arity : (s : Predicate) → is_predicate s (head_predicate p n) ≡ true → count (arguments (term_of p.pool (clause_at p n).head)) ≡ s.arity
   head_arity s e = ap (λ t. count (arguments t)) is_term ∙ shape_arity p.pool v.pool s (the_head.0).shape (ap (is_predicate s) (sym is_shape) ∙ e)
+
+  -- The head is a term of this shape.
+  pub head_shape : (r : Shape) × (shape_at p.pool (clause_at p n).head ≡ Some r) × (term_of p.pool (clause_at p n).head ≡ shape_term p.pool r)
+  head_shape = ((the_head.0).shape, ap (option_map (λ (e : Entry). e.shape)) the_head.1, is_term)

@@ -32,7 +32,7 @@ module _ {X Y : Type 0} (f g : X → Y) where
   map_same (x ∷ xs) h = ap₂ (λ (y : Y) (ys : List Y). y ∷ ys) (sym (h 0 x refl)) (map_same xs (λ j. h (suc j)))
 
   -- where g differs from f at one place alone
-  map_set : (xs : List X) (k : ℕ) (y : Y) → ((j : ℕ) (x : X) → slice_get xs j ≡ Some x → j ≡ k → g x ≡ y) → ((j : ℕ) (x : X) → slice_get xs j ≡ Some x → j ≢ k → g x ≡ f x) → set (map f xs) k y ≡ map g xs
+  pub map_set : (xs : List X) (k : ℕ) (y : Y) → ((j : ℕ) (x : X) → slice_get xs j ≡ Some x → j ≡ k → g x ≡ y) → ((j : ℕ) (x : X) → slice_get xs j ≡ Some x → j ≢ k → g x ≡ f x) → set (map f xs) k y ≡ map g xs
   map_set [] zero y at other = refl
   map_set [] (suc k) y at other = refl
   map_set (x ∷ xs) zero y at other = ap₂ (λ (z : Y) (zs : List Y). z ∷ zs) (sym (at 0 x refl refl)) (map_same xs (λ j z e. other (suc j) z e (λ h. absurd (omega (arith, h)))))

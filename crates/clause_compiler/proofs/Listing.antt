@@ -1,19 +1,20 @@
 -- A list of places is safe as the choices of a predicate.
-use Rattle.std.proofs.Common.{◌≡◌, ℕ, zero, suc, Bool, true, false, ◌||◌, ◌==◌, IsTrue, List, [], ◌∷◌, Some, slice_get, refl, sym, subst, inl, inr, arith}
+use Rattle.std.proofs.Common.{◌≡◌, ℕ, zero, suc, ◌+◌, map, Bool, true, false, ◌||◌, ◌==◌, IsTrue, List, [], ◌∷◌, Some, slice_get, refl, sym, subst, inl, inr, arith}
 use Rattle.std.proofs.lemmas.Bool.{true≢false}
 use Rattle.std.proofs.lemmas.Bool.Decides.{nat_tests}
 use Rattle.fd_language.specs.Family.{has}
 use Rattle.wam_code.specs.declared.instruction.Code.{Code}
 use Rattle.wam_code.specs.declared.instruction.Code.TheVariants.{Jump, FailNow, Try, Retry, Trust}
-use Rattle.wam_code.specs.Area.{Area}
+use Rattle.wam_code.specs.Area.{Area, Holds}
 use Rattle.wam_code.specs.Verified.{named, is_before, is_behind, IsThere}
+use Rattle.clause_code.specs.Pieces.{Stand}
 use Rattle.clause_code.specs.Trying.{rest_of_list, list_of}
 use Rattle.clause_compiler.specs.Layout.{is_switch, is_listing, is_first, Passes, AreChoicesOf}
 
 never : {A : Type 0} → false ≡ true → A
 never h = absurd (true≢false (sym h))
 
-only_one : (is : Code) (n : ℕ) (i : Code) → slice_get (is ∷ []) n ≡ Some i → (n ≡ 0) × (is ≡ i)
+pub only_one : (is : Code) (n : ℕ) (i : Code) → slice_get (is ∷ []) n ≡ Some i → (n ≡ 0) × (is ≡ i)
 only_one is zero i e = (refl, (let s : is ≡ i = cc in s))
 only_one is (suc n) i e = absurd cc
 
@@ -31,10 +32,10 @@ Each P (l ∷ ls) = P l × Each P ls
 
 module _ (a : Area) (begins : ℕ → Type 0) where
   -- what is true of each instruction of a list
-  record IsListed (i : Code) : Type 0 where
-    listing : IsTrue (is_listing i)
-    leads : (to : ℕ) → IsTrue (has (named a i) to) → begins to
-    there : IsThere a i
+  pub record IsListed (i : Code) : Type 0 where
+    pub listing : IsTrue (is_listing i)
+    pub leads : (to : ℕ) → IsTrue (has (named a i) to) → begins to
+    pub there : IsThere a i
 
   to_one : (l to : ℕ) → begins l → IsTrue (has (l ∷ []) to) → begins to
   to_one l to b h = subst begins (sym (one_named l to h)) b
@@ -81,7 +82,7 @@ module _ (a : Area) (begins : ℕ → Type 0) where
   rest_previous l (k ∷ ls) (suc n) i e = rest_previous k ls n i e
 
   -- ---- the whole list
-  list_listed : (ls : List ℕ) → Each begins ls → (n : ℕ) (i : Code) → slice_get (list_of ls) n ≡ Some i → IsListed i
+  pub list_listed : (ls : List ℕ) → Each begins ls → (n : ℕ) (i : Code) → slice_get (list_of ls) n ≡ Some i → IsListed i
   list_listed [] b n i e = subst IsListed (only_one FailNow n i e).1 fail_listed
   list_listed (l ∷ []) b n i e = subst IsListed (only_one (Jump l) n i e).1 (jump_listed l b.0)
   list_listed (l ∷ k ∷ ls) b zero i e = let s : Try l ≡ i = cc in subst IsListed s (try_listed l b.0)
@@ -105,7 +106,7 @@ module _ (a : Area) (begins : ℕ → Type 0) where
   list_previous (l ∷ k ∷ ls) (suc zero) h = (0, refl, (Try l, refl, refl))
   list_previous (l ∷ k ∷ ls) (suc (suc n)) h = (suc n, refl, rest_previous k ls n h.0 h.1)
 
-  not_switch : (i : Code) → IsTrue (is_listing i) → IsTrue (is_switch i) → ⊥
+  pub not_switch : (i : Code) → IsTrue (is_listing i) → IsTrue (is_switch i) → ⊥
   not_switch (Jump to) h g = never g
   not_switch FailNow h g = never g
   not_switch (Try to) h g = never g
@@ -124,3 +125,14 @@ module _ (a : Area) (begins : ℕ → Type 0) where
     before = list_previous ls;
     there = λ n i e. (list_listed ls b n i e).there;
   }
+
+-- each image
+pub each_of : (P : ℕ → Type 0) (f : ℕ → ℕ) (ns : List ℕ) → ((k n : ℕ) → slice_get ns k ≡ Some n → P (f n)) → Each P (map f ns)
+each_of P f [] h = tt
+each_of P f (n ∷ ns) h = (h 0 n refl, each_of P f ns (λ k. h (suc k)))
+
+-- Code whose instructions are each at their places.
+pub stand_at : (a : Area) (at : ℕ) (is : List Code) → ((n : ℕ) (i : Code) → slice_get is n ≡ Some i → Holds a (at + n) i) → Stand a at is
+stand_at a at [] h = tt
+stand_at a at (i ∷ is) h =
+    (subst (λ o. Holds a o i) (let e : at + 0 ≡ at = omega arith in e) (h 0 i refl), stand_at a (suc at) is (λ n j e. subst (λ o. Holds a o j) (let g : at + suc n ≡ suc at + n = omega arith in g) (h (suc n) j e)))

@@ -1,5 +1,5 @@
 -- Lists, one behind the other.
-use Rattle.std.proofs.Common.{◌≡◌, ◌⊎◌, ℕ, zero, suc, ◌+◌, ◌<◌, ◌≤◌, List, [], ◌∷◌, ◌++◌, Some, length, slice_get, refl, ap, sym, ◌∙◌, subst, inl, inr, arith}
+use Rattle.std.proofs.Common.{◌≡◌, ◌⊎◌, ℕ, zero, suc, ◌+◌, ◌<◌, ◌≤◌, List, [], ◌∷◌, ◌++◌, map, Some, length, slice_get, refl, ap, sym, ◌∙◌, subst, inl, inr, arith}
 use Rattle.std.proofs.lemmas.List.{length-append}
 use Rattle.std.proofs.lemmas.Option.{slice_get_within}
 use Rattle.clause_compiler.specs.Layout.{joined, offset}
@@ -115,3 +115,18 @@ module _ {X Y : Type 0} where
           let b : one.0 ≡ y = cc in
           subst (λ v. P 0 v y) a (subst (P 0 x) b one.1)
       by one rest (suc k) z y e f = rest.each k z y e f
+
+-- The images of lists, one behind the other.
+pub map_joined : {X Y : Type 0} (f : X → Y) (xss : List (List X)) → map f (joined xss) ≡ joined (map (map f) xss)
+map_joined f [] = refl
+map_joined f (xs ∷ xss) = map_two f xs (joined xss) ∙ ap (λ l. map f xs ++ l) (map_joined f xss)
+  where
+    map_two : {X Y : Type 0} (f : X → Y) (xs ys : List X) → map f (xs ++ ys) ≡ map f xs ++ map f ys
+    map_two f [] ys = refl
+    map_two f (x ∷ xs) ys = ap (λ l. f x ∷ l) (map_two f xs ys)
+
+-- An image is that of an element.
+pub got_map : {X Y : Type 0} (f : X → Y) (xs : List X) (k : ℕ) (y : Y) → slice_get (map f xs) k ≡ Some y → (x : X) × (slice_get xs k ≡ Some x) × (y ≡ f x)
+got_map f [] k y e = absurd cc
+got_map f (x ∷ xs) zero y e = (x, refl, (let s : y ≡ f x = cc in s))
+got_map f (x ∷ xs) (suc k) y e = got_map f xs k y e

@@ -8,7 +8,7 @@ use Rattle.wam_code.specs.Tries.{IsQueryCode, AreQueries, StandsForProgram}
 use Rattle.clause_compiler.specs.Layout.{joined, offset, IsLaidOut}
 use Rattle.clause_compiler.proofs.Lists.{get_there}
 use Rattle.clause_compiler.proofs.Spots.{from_clauses, holds_query}
-use Rattle.clause_compiler.proofs.Assembling.{stand_at}
+use Rattle.clause_compiler.proofs.Listing.{stand_at}
 
 all_queries : (a : Area) (qs : List Query) (ss : List Span) → length ss ≡ length qs → ((k : ℕ) (q : Query) (s : Span) → slice_get qs k ≡ Some q → slice_get ss k ≡ Some s → IsQueryCode a q s) → AreQueries a qs ss
 all_queries a [] [] e h = tt

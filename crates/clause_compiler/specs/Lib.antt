@@ -1,6 +1,9 @@
 pub mod First
 pub mod Groups
+pub mod Keyed
+pub mod Keys
 pub mod Layout
 pub mod Listing
 pub mod Parts
 pub mod Sections
+pub mod Switching

@@ -1,9 +1,14 @@
 -- A program's code as it is put together.
-use Rattle.std.specs.Prelude.{List, map}
+use Rattle.std.specs.Prelude.{ℕ, List, map, Vec}
+use Rattle.std.specs.Global.{Global}
+use Rattle.wam_code.specs.declared.instruction.Key.{Key}
 use Rattle.term_pool.specs.Contents.{Contents}
 use Rattle.wam_code.specs.Area.{Area, Table, span_of}
 use Rattle.clause_compiler.specs.declared.program.Parts.{Parts}
 
--- the area of the parts, over a pool and with these tables
-abbrev pub area_with : Contents → List Table → Parts → Area
-area_with c tables x = record { pool = c; code = x.code.items; tables = tables; ranges = map (λ r. r.value) x.ranges.items; entries = x.entries.items; queries = map span_of x.queries.items }
+abbrev pub tables_in : Vec (Vec (Key × ℕ) Global) Global → List Table
+tables_in v = map (λ t. t.items) v.items
+
+-- the area of the parts, over a pool
+abbrev pub area_with : Contents → Parts → Area
+area_with c x = record { pool = c; code = x.code.items; tables = tables_in x.tables; ranges = map (λ r. r.value) x.ranges.items; entries = x.entries.items; queries = map span_of x.queries.items }

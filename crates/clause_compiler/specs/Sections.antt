@@ -1,16 +1,19 @@
 -- Pieces of code that are put behind other code, one behind the other.
-use Rattle.std.specs.Prelude.{◌≡◌, ℕ, ◌+◌, ◌<◌, List, ◌++◌, length, slice_get, slice_index_or, Some}
+use Rattle.std.specs.Prelude.{◌≡◌, ℕ, pos, ◌+◌, ◌<◌, List, [], ◌++◌, length, slice_get, slice_index_or, Some}
 use Rattle.clause_check.specs.Programs.{FlatProgram, clause_at, clause_in, query_at, query_in}
 use Rattle.wam_code.specs.declared.instruction.Code.{Code}
 use Rattle.wam_code.specs.declared.instruction.Code.TheVariants.{Jump, Try, Retry, Trust}
 use Rattle.wam_code.specs.declared.parts.Entry.{Entry}
-use Rattle.wam_code.specs.Area.{Span}
+use Rattle.wam_code.specs.declared.instruction.Key.{Key}
+use Rattle.wam_code.specs.declared.instruction.Key.TheVariants as key
+use Rattle.wam_code.specs.Area.{Span, Table}
 use Rattle.clause_code.specs.Pieces.{Predicate}
 use Rattle.clause_code.specs.Predicates.{base_in, predicate_at}
 use Rattle.clause_code.specs.Safe.{IsClauseCode, IsQueryPiece}
 use Rattle.clause_code.specs.Trying.{list_of}
 use Rattle.clause_compiler.specs.Groups.{numbers_of}
 use Rattle.clause_compiler.specs.Layout.{joined, offset}
+use Rattle.clause_compiler.specs.Switching.{AreChoicesBy}
 
 -- Behind the old code stand n pieces, of each of which P is true, by its number, its place and its instructions; and there is an item of each.
 pub record ArePut {X : Type 0} (item : ℕ → ℕ → List Code → X) (P : ℕ → ℕ → List Code → Type 0) (n : ℕ) (old new : List Code) (items : List X) : Type 0 where
@@ -42,8 +45,8 @@ IsQueryOf p ps k at is = IsQueryPiece (base_in p ps) at is (query_in p (query_at
 abbrev pub its_entry : List Predicate → ℕ → ℕ → List Code → Entry
 its_entry ps k at is = record { name = (predicate_at ps k).name; arity = (predicate_at ps k).arity; at = at }
 
-abbrev pub IsListOf : FlatProgram → List Predicate → ℕ → ℕ → List Code → Type 0
-IsListOf p ps k at is = is ≡ list_of (numbers_of p (length p.clauses) (predicate_at ps k))
+abbrev pub IsChoiceOf : FlatProgram → List Table → List Predicate → ℕ → ℕ → List Code → Type 0
+IsChoiceOf p tables ps k at is = AreChoicesBy p tables (numbers_of p (length p.clauses) (predicate_at ps k)) (predicate_at ps k).arity at is
 
 -- the place of a clause by its number
 abbrev pub place_in : List ℕ → ℕ → ℕ
@@ -64,3 +67,11 @@ IsNumbered n (Try c) = c < n
 IsNumbered n (Retry c) = c < n
 IsNumbered n (Trust c) = c < n
 IsNumbered n i = Unit {0}
+
+-- ---- rows of a table, each with its key
+
+abbrev pub its_row : List Key → ℕ → ℕ → List Code → Key × ℕ
+its_row keys k at is = (slice_index_or keys k (key.Int (pos 0)), at)
+
+abbrev pub IsListIn : List (List ℕ) → ℕ → ℕ → List Code → Type 0
+IsListIn groups k at is = is ≡ list_of (slice_index_or groups k [])

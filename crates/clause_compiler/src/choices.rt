@@ -1,16 +1,23 @@
 //! The choices before the clauses of a predicate.
-ghost use Rattle.std.specs.Prelude.{◌≡◌, ◌<◌, ◌≤◌, ◌++◌, length, map, take, drop, IfOk, OnOk, All};
-ghost use Rattle.clause_code.specs.Predicates.{ArePredicates};
+ghost use Rattle.std.specs.Prelude.{◌≡◌, ℕ, List, [], ◌<◌, ◌≤◌, ◌++◌, length, map, take, drop, IfOk, OnOk, All};
+ghost use Rattle.clause_code.specs.Predicates.{Appends, ArePredicates};
 ghost use Rattle.clause_code.specs.Trying.{list_of};
 ghost use Rattle.clause_compiler.specs.Groups.{AreGroups};
-ghost use Rattle.clause_compiler.specs.Sections.{ArePut, IsListOf, IsNumbered, its_entry, placed_code};
+ghost use Rattle.clause_compiler.specs.Sections.{ArePut, IsChoiceOf, IsListIn, IsNumbered, its_entry, its_row, placed_code};
+ghost use Rattle.clause_compiler.specs.Keys.{kind_numbers};
 ghost use Rattle.clause_compiler.specs.Listing.{listed_at};
+ghost use Rattle.clause_check.specs.Programs.{FlatProgram};
+ghost use Rattle.clause_compiler.specs.Keyed.{AreKeyed};
+ghost use Rattle.clause_compiler.specs.Parts.{tables_in};
+ghost use Rattle.clause_compiler.specs.Switching.{AreChoicesBy, AreKeysIn, IsSwitchCode, PutsKind, switch_on, TablesGrow};
 
+use crate::keys::{Kind, clauses_of_kind, has_key};
+use crate::tables::{Keyed, keyed_of};
 use clause_check::Program;
 use clause_code::Predicates;
 use fd_language::NoMemory;
 use std::alloc::Global;
-use wam_code::{Code, Entry};
+use wam_code::{Code, Entry, Key};
 
 /// The choice of the i-th of so many clauses, whose number is given.
 fn choice_of(count: usize, i: usize, clause: usize) -> Code
@@ -42,6 +49,135 @@ fn put_list(clauses: &[usize], code: &mut Vec<Code>) -> Result<(), NoMemory>
     Ok(())
 }
 
+/// Puts the choices of each of the lists behind each other. Gives each key with the place of its list. The error is want of memory.
+fn put_rows(
+    alloc: Global,
+    keys: &[Key],
+    lists: &[Vec<usize>],
+    code: &mut Vec<Code>,
+) -> Result<Vec<(Key, usize)>, NoMemory>
+    requires { length keys.now ≡ length lists.now }
+    ensures { IfOk result (λ v. ArePut (its_row keys.now) (IsListIn (map (λ l. l.items) lists.now))
+        (length keys.now) code.old.items code.new.items v.items) }
+{
+    let mut rows = Vec::with_capacity(alloc, keys.len())?;
+    for i in 0..keys.len() {
+        rows.push((keys[i], code.len()))?;
+        put_list(&lists[i], code)?;
+    }
+    Ok(rows)
+}
+
+/// The switch of the kind with a table.
+fn switch_of(kind: Kind, table: usize) -> Code
+    ensures { result ≡ switch_on kind table }
+{
+    match kind {
+        Kind::Atom => Code::SwitchOnConstant(table),
+        Kind::Integer => Code::SwitchOnInteger(table),
+        Kind::Structure => Code::SwitchOnStructure(table),
+    }
+}
+
+/// Puts a switch of the kind by these keys behind the code, with a table of its own, and behind it the choices of each key's
+/// clauses. The error is want of memory.
+fn put_table(
+    alloc: Global,
+    kind: Kind,
+    keyed: &Keyed,
+    code: &mut Vec<Code>,
+    tables: &mut Vec<Vec<(Key, usize)>>,
+) -> Result<(), NoMemory>
+    requires { length keyed.now.keys.items ≡ length keyed.now.lists.items }
+    ensures { OnOk result ((p : FlatProgram) (ns : List ℕ)
+        → AreKeyed p (kind_numbers p kind ns) keyed.now
+        → PutsKind p (tables_in tables.new) kind ns code.old.items code.new.items
+        × TablesGrow p ns (tables_in tables.old) (tables_in tables.new)) }
+{
+    code.push(switch_of(kind, tables.len()))?;
+    let rows = put_rows(alloc, &keyed.keys, &keyed.lists, code)?;
+    tables.push(rows)?;
+    Ok(())
+}
+
+/// Puts the choices of those clauses behind the code that may fit a first argument of the kind: by their keys, if each has one.
+/// The error is want of memory.
+fn put_kind(
+    alloc: Global,
+    program: &Program,
+    clauses: &[usize],
+    kind: Kind,
+    code: &mut Vec<Code>,
+    tables: &mut Vec<Vec<(Key, usize)>>,
+) -> Result<(), NoMemory>
+    requires clauses { All (λ c. c < length program.now.clauses) clauses.now }
+    ensures code { OnOk result (PutsKind program.now (tables_in tables.new) kind clauses.now
+        code.old.items code.new.items) }
+    ensures tables { OnOk result (TablesGrow program.now clauses.now
+        (tables_in tables.old) (tables_in tables.new)) }
+{
+    let own = clauses_of_kind(alloc, program, clauses, kind)?;
+    if own.len() >= 2 {
+        if let Some(keyed) = keyed_of(alloc, program, &own)? {
+            return put_table(alloc, kind, &keyed, code, tables);
+        }
+    }
+    put_list(&own, code)
+}
+
+/// Puts a switch by the first argument behind the code, and behind it the choices of all these clauses, and those for each kind of
+/// argument. The error is want of memory.
+fn put_switch(
+    alloc: Global,
+    program: &Program,
+    clauses: &[usize],
+    code: &mut Vec<Code>,
+    tables: &mut Vec<Vec<(Key, usize)>>,
+) -> Result<(), NoMemory>
+    requires clauses { All (λ c. c < length program.now.clauses) clauses.now }
+    ensures code { OnOk result (Appends code.old.items code.new.items
+        (IsSwitchCode program.now (tables_in tables.new) clauses.now (length code.old.items))) }
+    ensures tables { OnOk result (TablesGrow program.now clauses.now
+        (tables_in tables.old) (tables_in tables.new)) }
+{
+    let at = code.len();
+    code.push(Code::FailNow)?;
+    let all = code.len();
+    put_list(clauses, code)?;
+    let atoms = code.len();
+    put_kind(alloc, program, clauses, Kind::Atom, code, tables)?;
+    let integers = code.len();
+    put_kind(alloc, program, clauses, Kind::Integer, code, tables)?;
+    let structures = code.len();
+    put_kind(alloc, program, clauses, Kind::Structure, code, tables)?;
+    code[at] = Code::SwitchOnTerm(all, atoms, integers, structures);
+    Ok(())
+}
+
+/// Puts the choices of a predicate with so many arguments behind the code: a list, or a switch where one can tell its clauses
+/// apart. The error is want of memory.
+fn put_predicate(
+    alloc: Global,
+    program: &Program,
+    clauses: &[usize],
+    arity: usize,
+    code: &mut Vec<Code>,
+    tables: &mut Vec<Vec<(Key, usize)>>,
+) -> Result<(), NoMemory>
+    requires clauses { All (λ c. c < length program.now.clauses) clauses.now }
+    ensures code { OnOk result (Appends code.old.items code.new.items
+        (AreChoicesBy program.now (tables_in tables.new) clauses.now arity
+        (length code.old.items))) }
+    ensures tables { OnOk result (TablesGrow program.now clauses.now
+        (tables_in tables.old) (tables_in tables.new)) }
+{
+    if arity >= 1 && clauses.len() >= 2 && has_key(program, clauses) {
+        put_switch(alloc, program, clauses, code, tables)
+    } else {
+        put_list(clauses, code)
+    }
+}
+
 /// Puts the choices of each predicate behind each other, by the numbers of its clauses, where `groups` has these. Gives the
 /// predicates with the places of their code. The error is want of memory.
 pub(crate) fn put_choices(
@@ -50,20 +186,25 @@ pub(crate) fn put_choices(
     predicates: &Predicates,
     groups: &[Vec<usize>],
     code: &mut Vec<Code>,
+    tables: &mut Vec<Vec<(Key, usize)>>,
 ) -> Result<Vec<Entry>, NoMemory>
     requires predicates { ArePredicates program.now predicates.now }
     requires groups { AreGroups program.now predicates.now (length program.now.clauses)
         (map (λ g. g.items) groups.now) }
-    ensures { IfOk result (λ v. ArePut (its_entry predicates.now) (IsListOf program.now predicates.now)
+    requires tables { tables.old.items ≡ [] }
+    ensures choices { IfOk result (λ v. ArePut (its_entry predicates.now)
+        (IsChoiceOf program.now (tables_in tables.new) predicates.now)
         (length predicates.now) code.old.items code.new.items v.items) }
+    ensures keys { OnOk result (AreKeysIn program.now (tables_in tables.new)) }
 {
     let mut entries = Vec::with_capacity(alloc, predicates.len())?;
     for n in 0..predicates.len() {
         let at = code.len();
-        put_list(&groups[n], code)?;
+        let arity = predicates.arity(n);
+        put_predicate(alloc, program, &groups[n], arity, code, tables)?;
         entries.push(Entry {
             name: predicates.name(n),
-            arity: predicates.arity(n) as u8,
+            arity: arity as u8,
             at,
         })?;
     }

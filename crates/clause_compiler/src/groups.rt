@@ -13,7 +13,8 @@ use term_pool::Node;
 /// The number of the predicate of the clause's head.
 fn number_of_head(program: &Program, predicates: &Predicates, clause: usize) -> Option<usize>
     requires { clause < length program.now.clauses }
-    ensures found { IfSome result (λ n. slice_get predicates.now n ≡ head_predicate program.now clause) }
+    ensures found { IfSome result (λ n. slice_get predicates.now n
+        ≡ head_predicate program.now clause) }
     ensures within { IfSome result (λ n. n < length predicates.now) }
     ensures none { IfNone result ((n : ℕ) (s : Predicate) → slice_get predicates.now n ≡ Some s
         → is_predicate s (head_predicate program.now clause) ≡ false) }

@@ -3,7 +3,9 @@
 
 mod choices;
 mod groups;
+mod keys;
 mod program;
 mod sections;
+mod tables;
 
 pub use crate::program::compile;

@@ -1,7 +1,6 @@
 //! The code of a program.
-ghost use Rattle.std.specs.Prelude.{[], IfOk};
+ghost use Rattle.std.specs.Prelude.{IfOk};
 ghost use Rattle.clause_check.specs.Programs.{program_in};
-ghost use Rattle.clause_code.specs.Codable.{IsCodable};
 ghost use Rattle.clause_compiler.specs.Layout.{IsLaidOut};
 ghost use Rattle.clause_compiler.specs.Parts.{area_with};
 ghost use Rattle.wam_code.specs.Tries.{StandsForProgram};
@@ -15,12 +14,13 @@ use fd_language::NoMemory;
 use range_code::RangeCode;
 use std::alloc::Global;
 use std::rc::Rc;
-use wam_code::{Code, CodeArea, CodeParts, Entry, QueryEntry};
+use wam_code::{Code, CodeArea, CodeParts, Entry, Key, QueryEntry};
 
 /// The code of a program, with all that it names but the pool.
 #[derive(Drop)]
 struct Parts {
     code: Vec<Code>,
+    tables: Vec<Vec<(Key, usize)>>,
     ranges: Vec<Rc<RangeCode>>,
     entries: Vec<Entry>,
     queries: Vec<QueryEntry>,
@@ -29,21 +29,22 @@ struct Parts {
 /// Puts the code of a program together: choices by the clauses' numbers, the clauses, the queries, and then the clauses' places in
 /// the choices.
 fn parts_of(alloc: Global, program: &Program) -> Result<Parts, NoMemory>
-    requires { IsCodable (program_in program.now) }
-    ensures { IfOk result (λ x. IsLaidOut (area_with program.now.pool [] x) (program_in program.now)) }
+    ensures { IfOk result (λ x. IsLaidOut (area_with program.now.pool x) (program_in program.now)) }
 {
     program.known();
     let ranges = ranges_of(alloc, program)?;
     let predicates = predicates_of(alloc, program)?;
     let groups = groups_of(alloc, program, &predicates)?;
     let mut code = Vec::new(alloc);
-    let entries = put_choices(alloc, program, &predicates, &groups, &mut code)?;
+    let mut tables = Vec::new(alloc);
+    let entries = put_choices(alloc, program, &predicates, &groups, &mut code, &mut tables)?;
     let choices = code.len();
     let places = put_clauses(alloc, program, &ranges, &predicates, &mut code)?;
     let queries = put_queries(alloc, program, &ranges, &predicates, &mut code)?;
     place_choices(&mut code, choices, &places);
     Ok(Parts {
         code,
+        tables,
         ranges,
         entries,
         queries,
@@ -52,14 +53,13 @@ fn parts_of(alloc: Global, program: &Program) -> Result<Parts, NoMemory>
 
 /// The code of a program. The error is want of memory.
 pub fn compile(alloc: Global, program: Program) -> Result<CodeArea, NoMemory>
-    requires { IsCodable (program_in program) }
     ensures { IfOk result (λ a. StandsForProgram a (program_in program)) }
 {
     let parts = parts_of(alloc, &program)?;
     Ok(CodeArea::from_verified(CodeParts {
         pool: program.into_pool(),
         code: parts.code,
-        tables: Vec::new(alloc),
+        tables: parts.tables,
         ranges: parts.ranges,
         entries: parts.entries,
         queries: parts.queries,

@@ -1,48 +1,97 @@
-use Rattle.std.proofs.Common.{◌≡◌, ap, sym, length, refl, subst, ◌∙◌, arith}
-use Rattle.clause_check.specs.declared.program.FlatGoal.{FlatGoal}
-use Rattle.clause_check.specs.Programs.{goal_at}
+use Rattle.std.proofs.Common.{rules, ◌≡◌, ◌+◌, [], List, ap, sym, length, refl, subst, ◌∙◌, arith}
+use Rattle.clause_check.specs.declared.program.Part.{Part}
+use Rattle.clause_code.specs.declared.either.Side.{Side}
 use Rattle.clause_code.specs.Predicates.{base_in}
-use Rattle.clause_code.specs.Simple.{AreMade, GoalWritten, IsWritable}
-use Rattle.clause_code.proofs.Assembling.{written_first}
-use Rattle.clause_code.proofs.Ending.{goal_writable, goal_next, all_written}
+use Rattle.clause_code.specs.Sides.{Level, Stands, Enters, sides_turns}
+use Rattle.clause_code.specs.Simple.{AreMade, IsWritable}
+use Rattle.clause_code.proofs.Sides.{stands_first, stands_last, stands_writable, place_there, left_behind, entered, entered_less, left_less}
 use Rattle.clause_code.proofs.goals.write_goals.Goals as goal
 
-pub loop-i-init : goal.loop-i-init
-loop-i-init c = record {
-  written = λ at. written_first c.args.program.now (base_in c.args.program.now c.args.predicates.now) c.args.homes.now at c.args.code.now.items c.args.from c.args.to c.requires.below c.requires.codable;
-  same = refl;
-  all = c.requires.made;
-  long = c.requires.long;
-  works = c.requires.works;
-}
-
-pub loop-i-preserved : goal.loop-i-preserved
-loop-i-preserved c =
+pub loop-next-init : goal.loop-next-init
+loop-next-init c =
     let p = c.args.program.now in
-    let k = c.loop-i.invariant in
-    let w = c.in_ok-write_goal.ensures in
-    let now = c.loop-i.code.items in
-    let new = c.write_goal.new.code.items in
+    let b = base_in p c.args.predicates.now in
+    let first : Level = record { before = c.args.code.now.items; part = c.args.part } in
     record {
-      written = λ at.
-          goal_next p c.known.ensures c.args.predicates.now c.args.homes.now at c.args.code.now.items now new c.loop-i.made.items c.args.from c.loop-i.i c.args.to c.requires.homes k.all k.long c.loop-i-test.true c.requires.within (k.written at)
-          (subst (λ (g : FlatGoal). GoalWritten p c.args.predicates.now c.args.homes.now c.loop-i.made.items g now new) c.goal-goal.ensures.goal w.code);
+      stands = subst (λ (ss : List Side). Stands p b c.args.homes.now c.args.start first ss c.args.code.now.items c.args.part) (sym c.new-sides.ensures.items)
+          (stands_first p c.known.ensures b c.args.homes.now c.args.start c.args.code.now.items c.args.part c.requires.within c.requires.below c.requires.codable);
+      same = refl;
+      all = c.requires.made;
+      long = c.requires.long;
+      works = c.requires.works;
+    }
+
+pub write_goal-requires-clause-writable : goal.write_goal-requires-clause-writable
+write_goal-requires-clause-writable c =
+    let p = c.args.program.now in
+    let b = base_in p c.args.predicates.now in
+    let first : Level = record { before = c.args.code.now.items; part = c.args.part } in
+    subst (IsWritable p (length c.args.homes.now)) (sym c.goal-goal.ensures.goal)
+    (stands_writable p c.known.ensures b c.args.homes.now c.args.start first c.loop-next.sides.items c.loop-next.code.items c.loop-next.next c.loop-next.invariant.stands c.if-next.true)
+
+pub loop-next-preserved-then-next : goal.loop-next-preserved-then-next
+loop-next-preserved-then-next c =
+    let p = c.args.program.now in
+    let first : Level = record { before = c.args.code.now.items; part = c.args.part } in
+    let rest : Part = record { from = c.loop-next.next.from + 1; to = c.loop-next.next.to } in
+    let k = c.loop-next.invariant in
+    let w = c.in_ok-write_goal.ensures in
+    let at : c.len-at.result ≡ length c.loop-next.code.items = search rules in
+    record {
+      stands =
+          entered p c.known.ensures c.args.predicates.now c.args.homes.now c.requires.homes c.args.start c.loop-next.made.items k.all k.long first c.loop-next.sides.items c.enter.new.sides.items c.loop-next.code.items c.write_goal.new.code.items c.loop-next.next rest c.in_ok-next.next c.goal-goal.result k.stands
+          c.if-next.true (sym c.goal-goal.ensures.goal) refl refl w.code (subst (λ n. Enters c.goal-goal.result n rest c.loop-next.sides.items c.enter.new.sides.items c.in_ok-next.next) at c.in_ok-next.ensures);
       same = w.made ∙ k.same;
       all = subst AreMade (sym w.made) k.all;
       long = ap length w.made ∙ k.long;
       works = w.works;
     }
 
-pub write_goal-requires-clause-writable : goal.write_goal-requires-clause-writable
-write_goal-requires-clause-writable c =
+pub loop-next-smaller-then-next : goal.loop-next-smaller-then-next
+loop-next-smaller-then-next c =
     let p = c.args.program.now in
-    let k = c.loop-i.invariant in
-    subst (IsWritable p (length c.args.homes.now)) (sym c.goal-goal.ensures.goal)
-    (goal_writable p c.known.ensures (base_in p c.args.predicates.now) c.args.homes.now 0 c.args.code.now.items c.loop-i.code.items c.args.from c.loop-i.i c.args.to c.loop-i-test.true c.requires.within (k.written 0))
+    let rest : Part = record { from = c.loop-next.next.from + 1; to = c.loop-next.next.to } in
+    let k = c.loop-next.invariant in
+    entered_less p c.known.ensures c.loop-next.next rest c.in_ok-next.next c.goal-goal.result c.len-at.result c.loop-next.sides.items c.enter.new.sides.items c.if-next.true (let s = k.stands in s.within) (sym c.goal-goal.ensures.goal) refl refl c.in_ok-next.ensures
 
-pub returns-clause-code : goal.returns-clause-code
-returns-clause-code c = λ at.
+pub leave-requires : goal.leave-requires
+leave-requires c =
     let p = c.args.program.now in
-    let k = c.loop-i.invariant in
-    let f = c.loop-i-test.false in
-    all_written p (base_in p c.args.predicates.now) c.args.homes.now at c.args.code.now.items c.loop-i.code.items c.args.from c.loop-i.i c.args.to (omega arith) (k.written at)
+    let b = base_in p c.args.predicates.now in
+    let first : Level = record { before = c.args.code.now.items; part = c.args.part } in
+    let k = c.loop-next.invariant in
+    place_there p c.known.ensures b c.args.homes.now c.args.start first c.pop.new.self.items c.loop-next.code.items c.loop-next.next c.in-Some.side
+    (subst (λ (ss : List Side). Stands p b c.args.homes.now c.args.start first ss c.loop-next.code.items c.loop-next.next) c.in-Some.ensures.items k.stands)
+
+pub loop-next-preserved : goal.loop-next-preserved
+loop-next-preserved c =
+    let p = c.args.program.now in
+    let b = base_in p c.args.predicates.now in
+    let first : Level = record { before = c.args.code.now.items; part = c.args.part } in
+    let k = c.loop-next.invariant in
+    let l = c.if-next.false in
+    record {
+      stands =
+          left_behind p c.known.ensures b c.args.homes.now c.args.start c.requires.homes first c.pop.new.self.items c.leave.new.sides.items c.loop-next.code.items c.leave.new.code.items c.loop-next.next c.in_ok-next-2.next c.in-Some.side
+          (subst (λ (ss : List Side). Stands p b c.args.homes.now c.args.start first ss c.loop-next.code.items c.loop-next.next) c.in-Some.ensures.items k.stands) (omega arith) c.in_ok-next-2.ensures;
+      same = k.same;
+      all = k.all;
+      long = k.long;
+      works = k.works;
+    }
+
+pub loop-next-smaller : goal.loop-next-smaller
+loop-next-smaller c =
+    let p = c.args.program.now in
+    let less = left_less p c.args.start c.pop.new.self.items c.leave.new.sides.items c.loop-next.code.items c.leave.new.code.items c.loop-next.next c.in_ok-next-2.next c.in-Some.side c.in_ok-next-2.ensures in
+    let all = ap (sides_turns p) c.in-Some.ensures.items in
+    omega (arith, less, all)
+
+pub returns-in_default-clause-code : goal.returns-in_default-clause-code
+returns-in_default-clause-code c =
+    let p = c.args.program.now in
+    let b = base_in p c.args.predicates.now in
+    let first : Level = record { before = c.args.code.now.items; part = c.args.part } in
+    let none : c.loop-next.sides.items ≡ [] = search rules in
+    stands_last p c.known.ensures b c.args.homes.now c.args.start first c.loop-next.code.items c.loop-next.next
+    (subst (λ (ss : List Side). Stands p b c.args.homes.now c.args.start first ss c.loop-next.code.items c.loop-next.next) none c.loop-next.invariant.stands) c.if-next.false

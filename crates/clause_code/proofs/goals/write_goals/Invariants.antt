@@ -1,14 +1,17 @@
-use Rattle.std.proofs.Common.{◌≡◌, ℕ, [], length}
+use Rattle.std.proofs.Common.{◌≡◌, ◌+◌, [], length}
 use Rattle.clause_code.specs.Predicates.{base_in}
+use Rattle.clause_code.specs.Sides.{Stands, turns_of, sides_turns}
 use Rattle.clause_code.specs.Simple.{AreMade}
-use Rattle.clause_code.proofs.Assembling.{Written}
 use Rattle.clause_code.proofs.goals.write_goals.Given as goal
 
-abbrev pub invariant-loop-i : goal.invariant-loop-i
-invariant-loop-i l = record {
-  written : (at : ℕ) → Written l.program (base_in l.program l.predicates) l.homes at l.fn.code.items l.code.items l.from l.i l.to;
+abbrev pub invariant-loop-next : goal.invariant-loop-next
+invariant-loop-next l = record {
+  stands : Stands l.program (base_in l.program l.predicates) l.homes l.start (record { before = l.fn.code.items; part = l.fn.part }) l.sides.items l.code.items l.next;
   same : l.made.items ≡ l.fn.made.items;
   all : AreMade l.made.items;
   long : length l.made.items ≡ length l.homes;
   works : l.works.items ≡ [];
 }
+
+abbrev pub decreases-loop-next : goal.decreases-loop-next
+decreases-loop-next l = turns_of l.program l.next + sides_turns l.program l.sides.items

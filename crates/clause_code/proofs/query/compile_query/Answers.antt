@@ -1,0 +1,7 @@
+use Rattle.std.proofs.Common.{sym, subst}
+use Rattle.clause_code.specs.Codable.{AreOnce}
+use Rattle.clause_code.proofs.Asking.{query_known}
+use Rattle.clause_code.proofs.query.compile_query.Goals as goal
+
+pub frame_of-requires-clause-once : goal.frame_of-requires-clause-once
+frame_of-requires-clause-once c = subst AreOnce (sym c.shown.ensures) (query_known c.args.program.now c.known.ensures c.args.q c.requires.query).once

@@ -1,0 +1,41 @@
+use Rattle.std.proofs.Common.{◌+◌, ◌++◌, true, ap, sym, subst, length, ◌∙◌}
+use Rattle.fd_language.specs.Term.{no_terms}
+use Rattle.fd_model.specs.Sound.{EachBelow}
+use Rattle.term_pool.specs.Contents.{Contents}
+use Rattle.clause_check.specs.declared.program.Part.{Part}
+use Rattle.clause_check.specs.Programs.{goals_in, query_at}
+use Rattle.clause_code.specs.Bodies.{IsGoalsCode}
+use Rattle.clause_code.specs.Codable.{EachCodable}
+use Rattle.clause_code.specs.Predicates.{Appends, base_in}
+use Rattle.clause_code.specs.Whole.{head_code}
+use Rattle.clause_code.proofs.Asking.{query_known, frame_slots, query_written}
+use Rattle.clause_code.proofs.query.write_query.Goals as goal
+
+pub write_goals-requires-clause-below : goal.write_goals-requires-clause-below
+write_goals-requires-clause-below c =
+    let p = c.args.program.now in
+    let k = query_known p c.known.ensures c.args.q c.requires.query in
+    subst (λ (a : Part). EachBelow (length c.args.homes.now) (goals_in p a)) (sym c.goals_of-goals.ensures.goals) (subst (λ v. EachBelow v (goals_in p (query_at p c.args.q).goals)) (sym c.requires.frame.long) k.below)
+
+pub write_goals-requires-clause-codable : goal.write_goals-requires-clause-codable
+write_goals-requires-clause-codable c =
+    let p = c.args.program.now in
+    let k = query_known p c.known.ensures c.args.q c.requires.query in
+    subst (λ (a : Part). EachCodable (goals_in p a)) (sym c.goals_of-goals.ensures.goals) k.codable
+
+pub write_goals-requires-clause-homes : goal.write_goals-requires-clause-homes
+write_goals-requires-clause-homes c = let p = c.args.program.now in frame_slots (query_at p c.args.q).variables (query_at p c.args.q).shown c.args.homes.now c.args.slots c.requires.frame
+
+pub returns : goal.returns
+returns c =
+    let p = c.args.program.now in
+    let ps = c.args.predicates.now in
+    let homes = c.args.homes.now in
+    let head = c.read_arguments.new.code.items in
+    let goals = c.write_goals.new.code.items in
+    let h = c.in_ok-read_arguments.ensures in
+    let g = c.in_ok-write_goals.ensures in
+    query_written p ps homes c.args.slots c.args.q c.args.start c.args.code.now.items c.push.new.self.items head goals c.push-2.new.self.items c.requires.frame (query_known p c.known.ensures c.args.q c.requires.query) c.in_ok-push.ensures.items
+    (h.code ∙ ap (λ (q : Contents). c.push.new.self.items ++ head_code q homes 1 no_terms) c.pool-pool.ensures)
+    (subst (λ (gs : Part). Appends head goals (λ js. IsGoalsCode (base_in p ps) homes true (c.args.start + length head) js (goals_in p gs))) c.goals_of-goals.ensures.goals g.code)
+    c.in_ok-push-2.ensures.items

@@ -1,0 +1,171 @@
+//! The code of one query.
+ghost use Rattle.std.specs.Prelude.{◌≡◌, ℕ, ◌<◌, ◌+◌, [], length, map, All, IfOk, OnOk};
+ghost use Rattle.clause_check.specs.Programs.{query_at, query_in, program_in};
+ghost use Rattle.wam_code.specs.declared.instruction.Register.TheVariants.{Y};
+ghost use Rattle.clause_code.specs.Codable.{AreOnce, IsCodable};
+ghost use Rattle.clause_code.specs.Predicates.{ArePredicates, Appends, base_in};
+ghost use Rattle.clause_code.specs.Safe.{IsQueryPiece};
+ghost use Rattle.clause_code.specs.Slots.{AreAll, AreGiven, AreShown, IsFrame, slot};
+ghost use Rattle.clause_code.specs.Whole.{unmade};
+
+use crate::goals::write_goals;
+use crate::heads::read_arguments;
+use crate::predicates::Predicates;
+use crate::terms::Work;
+use clause_check::Program;
+use fd_language::NoMemory;
+use range_code::RangeCode;
+use std::alloc::Global;
+use std::rc::Rc;
+use wam_code::{Code, Register};
+
+/// The slots of a frame, one for each variable, and how many there are.
+#[derive(Drop)]
+struct Frame {
+    homes: Vec<Register>,
+    slots: usize,
+}
+
+/// The slots of the shown variables, from 1 on, by the variables' numbers. The others have 0.
+fn shown_slots(alloc: Global, variables: usize, shown: &[u64]) -> Result<Vec<usize>, NoMemory>
+    requires below { All (λ x. x < variables) shown.now }
+    requires once { AreOnce shown.now }
+    ensures given { IfOk result (λ s. AreGiven variables (length shown.now + 1) s.items) }
+    ensures shown { IfOk result (λ s. AreShown shown.now (length shown.now) s.items) }
+{
+    let mut slots = vec![in alloc; 0; variables]?;
+    let mut next = 1;
+    for x in shown {
+        slots[*x as usize] = next;
+        next += 1;
+    }
+    Ok(slots)
+}
+
+/// Gives the slot to the variable x, unless it has one. Returns the next free slot.
+fn give_one(slots: &mut Vec<usize>, x: usize, next: usize) -> Result<usize, NoMemory>
+    requires within { x < length slots.old.items }
+    requires given { AreGiven (length slots.old.items) next slots.old.items }
+    ensures given { IfOk result (λ n. AreGiven (length slots.old.items) n slots.new.items) }
+    ensures here { OnOk result (0 < slot slots.new.items x) }
+    ensures kept { (y : ℕ) → 0 < slot slots.old.items y
+        → slot slots.new.items y ≡ slot slots.old.items y }
+{
+    if slots[x] != 0 {
+        return Ok(next);
+    }
+    slots[x] = next;
+    next.checked_add(1).ok_or(NoMemory)
+}
+
+/// Gives slots to the variables that have none. Returns the slot behind all.
+fn give_others(slots: &mut Vec<usize>, first: usize) -> Result<usize, NoMemory>
+    requires { AreGiven (length slots.old.items) first slots.old.items }
+    ensures given { IfOk result (λ n. AreGiven (length slots.old.items) n slots.new.items) }
+    ensures all { OnOk result (AreAll (length slots.old.items) slots.new.items) }
+    ensures kept { (y : ℕ) → 0 < slot slots.old.items y
+        → slot slots.new.items y ≡ slot slots.old.items y }
+{
+    let mut next = first;
+    for x in 0..slots.len() {
+        next = give_one(slots, x, next)?;
+    }
+    Ok(next)
+}
+
+/// The registers of these slots.
+fn homes_of(alloc: Global, slots: &[usize]) -> Result<Vec<Register>, NoMemory>
+    ensures { IfOk result (λ h. h.items ≡ map Y slots.now) }
+{
+    Ok(slots.iter().map(|slot| Register::Y(*slot)).collect(alloc)?)
+}
+
+/// The frame of a query: the shown variables are in its first slots, in their order.
+fn frame_of(alloc: Global, variables: usize, shown: &[u64]) -> Result<Frame, NoMemory>
+    requires below { All (λ x. x < variables) shown.now }
+    requires once { AreOnce shown.now }
+    ensures { IfOk result (λ f. IsFrame variables shown.now f.homes.items f.slots) }
+{
+    let mut slots = shown_slots(alloc, variables, shown)?;
+    let behind = give_others(&mut slots, shown.len() + 1)?;
+    let homes = homes_of(alloc, &slots)?;
+    Ok(Frame {
+        homes,
+        slots: behind - 1,
+    })
+}
+
+/// The code of the query q, whose variables have these homes in a frame with so many slots.
+fn write_query(
+    alloc: Global,
+    program: &Program,
+    ranges: &[Rc<RangeCode>],
+    predicates: &Predicates,
+    homes: &[Register],
+    slots: usize,
+    made: &mut Vec<bool>,
+    code: &mut Vec<Code>,
+    works: &mut Vec<Work>,
+    q: usize,
+    start: usize,
+) -> Result<(), NoMemory>
+    requires query { q < length program.now.queries }
+    requires ranges { map (λ r. r.value) ranges.now ≡ program.now.ranges }
+    requires frame { IsFrame (query_at program.now q).variables (query_at program.now q).shown
+        homes.now slots }
+    requires made { made.old.items ≡ unmade homes.now }
+    requires works { works.old.items ≡ [] }
+    ensures { OnOk result (Appends code.old.items code.new.items
+        (λ is. IsQueryPiece (base_in program.now predicates.now) (start + length code.old.items) is
+        (query_in program.now (query_at program.now q)))) }
+{
+    program.known();
+    let pool = program.pool();
+    let goals = program.goals_of(q);
+    code.push(Code::Allocate(slots))?;
+    read_arguments(pool, homes, made, code, works, &[])?;
+    write_goals(
+        alloc, program, ranges, predicates, homes, made, code, works, start, goals,
+    )?;
+    code.push(Code::AnswerNow)?;
+    Ok(())
+}
+
+/// Writes the code of the query q behind what `code` has, which stands from the place `start` on. `ranges` are the program's, by
+/// their numbers. The error is want of memory.
+pub fn compile_query(
+    alloc: Global,
+    program: &Program,
+    ranges: &[Rc<RangeCode>],
+    predicates: &Predicates,
+    q: usize,
+    start: usize,
+    code: &mut Vec<Code>,
+) -> Result<(), NoMemory>
+    requires query { q < length program.now.queries }
+    requires codable { IsCodable (program_in program.now) }
+    requires ranges { map (λ r. r.value) ranges.now ≡ program.now.ranges }
+    requires predicates { ArePredicates program.now predicates.now }
+    ensures { OnOk result (Appends code.old.items code.new.items
+        (λ is. IsQueryPiece (base_in program.now predicates.now) (start + length code.old.items) is
+        (query_in program.now (query_at program.now q)))) }
+{
+    program.known();
+    let frame = frame_of(alloc, program.variables(q), program.shown(q))?;
+    let homes = frame.homes.as_slice();
+    let mut made = vec![in alloc; false; homes.len()]?;
+    let mut works = Vec::new(alloc);
+    write_query(
+        alloc,
+        program,
+        ranges,
+        predicates,
+        homes,
+        frame.slots,
+        &mut made,
+        code,
+        &mut works,
+        q,
+        start,
+    )
+}

@@ -1,0 +1,81 @@
+//! Clauses by the keys of their first arguments.
+ghost use Rattle.std.specs.Prelude.{◌≡◌, ◌++◌, ℕ, ◌<◌, ◌∷◌, [], All, IfOk, IfSome, List, OnOk, Some, length};
+ghost use Rattle.clause_check.specs.Programs.{FlatProgram};
+ghost use Rattle.clause_compiler.specs.Keys.{key_of};
+ghost use Rattle.clause_compiler.specs.Keyed.{AreKeyed, label};
+
+use crate::keys::first_key;
+use clause_check::Program;
+use fd_language::NoMemory;
+use indexmap::IndexSet;
+use std::alloc::Global;
+use term_pool::AtomId;
+use wam_code::Key;
+
+/// A key, as it is looked up.
+#[derive(Clone, Copy, PartialEq, Eq, Hash, Drop)]
+enum Label {
+    Atom(AtomId),
+    Integer(i64),
+    Structure(AtomId, u8),
+}
+
+/// Each key once, with the clauses that have it, by their numbers.
+#[derive(Drop)]
+pub(crate) struct Keyed {
+    labels: IndexSet<Label>,
+    pub(crate) keys: Vec<Key>,
+    pub(crate) lists: Vec<Vec<usize>>,
+}
+
+/// The label of a key.
+fn label_of(key: Key) -> Label
+    ensures { result ≡ label key }
+{
+    match key {
+        Key::Atom(name) => Label::Atom(name),
+        Key::Int(value) => Label::Integer(value),
+        Key::Struct(name, arity) => Label::Structure(name, arity),
+    }
+}
+
+/// Adds a clause with this key. The error is want of memory.
+fn add(alloc: Global, keyed: &mut Keyed, key: Key, clause: usize) -> Result<(), NoMemory>
+    requires { length keyed.old.lists.items ≡ length keyed.old.labels.keys }
+    ensures { OnOk result ((p : FlatProgram) (ns : List ℕ) → key_of p clause ≡ Some key
+        → AreKeyed p ns keyed.old → AreKeyed p (ns ++ clause ∷ []) keyed.new) }
+{
+    let (n, is_new) = keyed.labels.insert_full(label_of(key))?;
+    if is_new {
+        let mut list = Vec::new(alloc);
+        list.push(clause)?;
+        keyed.keys.push(key)?;
+        keyed.lists.push(list)?;
+    } else {
+        keyed.lists[n].push(clause)?;
+    }
+    Ok(())
+}
+
+/// The clauses by their keys, if each of them has one. The error is want of memory.
+pub(crate) fn keyed_of(
+    alloc: Global,
+    program: &Program,
+    clauses: &[usize],
+) -> Result<Option<Keyed>, NoMemory>
+    requires clauses { All (λ c. c < length program.now.clauses) clauses.now }
+    ensures { IfOk result (λ o. IfSome o (AreKeyed program.now clauses.now)) }
+{
+    let mut keyed = Keyed {
+        labels: IndexSet::new(alloc),
+        keys: Vec::new(alloc),
+        lists: Vec::new(alloc),
+    };
+    for i in 0..clauses.len() {
+        match first_key(program, clauses[i]) {
+            Some(key) => add(alloc, &mut keyed, key, clauses[i])?,
+            None => return Ok(None),
+        }
+    }
+    Ok(Some(keyed))
+}
