@@ -96,6 +96,13 @@ impl Areas {
         Ok(())
     }
 
+    /// Forgets the registers from the number `n` on. No memory.
+    pub fn keep_registers(&mut self, n: usize)
+        ensures { self.new ≡ record self.old { registers = take n self.old.registers } }
+    {
+        cut_cells(&mut self.cells, self.first, n);
+    }
+
     /// The cell in the slot `n`.
     pub fn slot(&self, n: usize) -> Cell
         requires { IsSet self.now.slots n }
@@ -275,6 +282,20 @@ fn put_cell(
     }
     cells[at] = Some(cell);
     Ok(())
+}
+
+/// Takes away the cells from the number `n` on behind the first ones.
+#[inline]
+#[tactic(auto, using(std::proofs::lemmas::List::take_all))]
+fn cut_cells(cells: &mut Vec<Option<Cell>>, first: usize, n: usize)
+    requires { first ≤ length cells.old.items }
+    ensures { cells.new.items ≡ take (first + n) cells.old.items }
+{
+    let held = cells.len() - first;
+    if n >= held {
+        return;
+    }
+    cells.truncate(first + n);
 }
 
 /// How many frames the newest choice point keeps.

@@ -1,17 +1,13 @@
 -- Where a compound term begins to be built, and where it is built.
-use Rattle.std.proofs.Common.{◌≡◌, ℕ, suc, List, [], ◌∷◌, length, Option, Some, None, cond, refl, ap, sym, ◌∙◌, subst, inl, inr, arith, length-append, eq-eqb, ne_eqb}
+use Rattle.std.proofs.Common.{◌≡◌, ℕ, suc, List, [], ◌∷◌, Option, Some, None, cond, refl, ap, sym, ◌∙◌, subst, inl, inr, arith, eq-eqb, ne_eqb}
 use Rattle.std.proofs.lemmas.Bool.{cases_eq}
 use Rattle.fd_language.specs.Term.{Name, Term, Terms, Comp, no_terms, term, Substitution, apply, apply_all}
 use Rattle.fd_language.specs.Unifier.{Equation}
 use Rattle.fd_language.specs.Range.{Indexical}
 use Rattle.fd_model.specs.Goal.{Branch}
 use Rattle.heap_cells.specs.declared.Cell.{Cell}
-use Rattle.heap_cells.specs.declared.Cell.TheVariants as cell
-use Rattle.heap_cells.specs.Cells.{Compound, Cells, IsOf, with_compound}
-use Rattle.heap_cells.specs.Terms.{Naming, terms_by, term_of, compound_term}
-use Rattle.heap_cells.specs.Valid.{IsHeap}
-use Rattle.heap_cells.proofs.Growing.{part_new}
-use Rattle.heap_cells.proofs.Ranks.{term-Struct}
+use Rattle.heap_cells.specs.Cells.{Cells, IsOf}
+use Rattle.heap_cells.specs.Terms.{Naming, terms_by, term_of}
 use Rattle.machine_relation.specs.Heap.{AllOf}
 use Rattle.machine_frames.specs.Frames.{IsGrown}
 use Rattle.machine_frames.proofs.Continuing.{of_grown}

@@ -1,7 +1,7 @@
 -- A goal is called: the branches of the clauses that its predicate's code tries are those that are still to come.
-use Rattle.std.proofs.Common.{◌≡◌, ℕ, suc, ◌<◌, Bool, true, false, cond, List, [], ◌∷◌, ◌++◌, map, Option, Some, None, refl, ap, sym, ◌∙◌, subst, inl, inr}
+use Rattle.std.proofs.Common.{◌≡◌, ℕ, suc, ◌+◌, ◌<◌, ◌≤◌, Bool, true, false, cond, List, [], ◌∷◌, ◌++◌, map, Option, Some, refl, ap, sym, ◌∙◌, subst, inl, inr, arith}
 use Rattle.std.proofs.lemmas.Bool.{true≢false}
-use Rattle.fd_language.specs.Term.{Term}
+use Rattle.fd_language.specs.Term.{Term, Terms, no_terms, term, Substitution}
 use Rattle.fd_language.specs.Range.{Indexical}
 use Rattle.fd_model.specs.Children.{by_clause, by_clauses, fits_head, Kept}
 use Rattle.fd_model.specs.Constraining.{arguments}
@@ -10,7 +10,7 @@ use Rattle.fd_model.specs.Seen.{IsConsistent}
 use Rattle.fd_model.specs.Sound.{ClausesScoped, IsRunnableProgram}
 use Rattle.heap_cells.specs.declared.Cell.{Cell}
 use Rattle.heap_cells.specs.Cells.{Cells}
-use Rattle.heap_cells.specs.Terms.{Naming, term_of}
+use Rattle.heap_cells.specs.Terms.{Naming}
 use Rattle.machine_relation.specs.Ahead.{IsFit, AreFit, Spends}
 use Rattle.machine_relation.specs.Models.{HasModel}
 use Rattle.machine_relation.proofs.Walking.{gone_by}
@@ -19,11 +19,11 @@ use Rattle.machine_frames.proofs.Keeping.{kept_consistent}
 use Rattle.wam_code.specs.declared.instruction.Code.TheVariants as code
 use Rattle.wam_code.specs.declared.parts.Entry.{Entry}
 use Rattle.wam_code.specs.Area.{Area, Holds, HasEntry, name_of}
-use Rattle.wam_code.specs.Places.{made}
-use Rattle.wam_code.specs.Tries.{Shape, is_open, shape_of, ClashFirst, IsNeedless, Thinned, StandsForProgram}
-use Rattle.code_steps.specs.Registers.{Registers, Saved, AreSame}
+use Rattle.wam_code.specs.Places.{count, made}
+use Rattle.wam_code.specs.Tries.{Shape, ClashFirst, IsNeedless, Thinned, StandsForProgram}
+use Rattle.code_steps.specs.Registers.{Registers, Saved, AreSame, AreSameTo, AreHeld}
 use Rattle.code_steps.specs.Standing.{IsCalling}
-use Rattle.code_steps.specs.Trying.{ShowsFirst}
+use Rattle.code_steps.specs.Trying.{shape_in}
 use Rattle.code_steps.specs.Running.{Choice, Runs}
 use Rattle.code_steps.proofs.Leaving.{clash_gone}
 use Rattle.code_steps.proofs.Readying.{goal_gives}
@@ -78,34 +78,43 @@ module _ (s : Shape) (t : Term) where
   thinned_scoped (c ∷ cs) (d ∷ ds) (inl e) k = subst (λ x. ClausesScoped (x ∷ ds)) (sym e.0) (k.0, thinned_scoped cs ds e.2 k.1)
   thinned_scoped (c ∷ cs) (d ∷ ds) (inr e) k = thinned_scoped cs (d ∷ ds) e.1 k.1
 
-same_cell : (d e : Cell) → Some d ≡ Some e → d ≡ e
-same_cell d e k = cc
+-- the registers from i on hold the same terms where they have the same cells
+held_moved : (name : Naming) (h : Cells) (look : Substitution) (P : ℕ → Type 0) (i : ℕ) (old new : ℕ → Option Cell) (ts : Terms) → ((n : ℕ) → i ≤ n → n < i + count ts → new n ≡ old n) → AreHeld name h look P i old ts → AreHeld name h look P i new ts
+held_moved name h look P i old new no_terms same a = tt
+held_moved name h look P i old new (term t ts) same a = ((a.0.0, same i (omega arith) (omega arith) ∙ a.0.1, a.0.2), held_moved name h look P (suc i) old new ts (λ n l u. same n (omega (arith, l)) (omega (arith, u))) a.1)
 
-no_cell : (d : Cell) → None ≡ Some d → ⊥
-no_cell d e = cc
-
-first_shape : (name : Naming) (h : Cells) (cells : ℕ → Option Cell) → (s : Shape) × ShowsFirst name h cells s
-first_shape name h cells = go (cells 1) refl
-  where
-    go : (o : Option Cell) → cells 1 ≡ o → (s : Shape) × ShowsFirst name h cells s
-    go None e = (is_open, λ d i. absurd (no_cell d (sym e ∙ i)))
-    go (Some c) e = (shape_of (term_of name h c), λ d i. ap (λ x. shape_of (term_of name h x)) (same_cell c d (sym e ∙ i)))
+-- A call needs the registers of its arguments alone.
+calling_moved : (M : ℕ) (area : Area) (shown : List ℕ) (name : Naming) (h : Cells) (qs : List Indexical) (e : Entry) (c c' : Registers) (stack : List Saved) (b : Branch) → AreSameTo e.arity c.x c'.x → IsCalling M area shown name h qs e c stack b → IsCalling M area shown name h qs e c' stack b
+calling_moved M area shown name h qs e c c' stack b same m = record {
+  look = m.look;
+  ts = m.ts;
+  rest = m.rest;
+  returns = m.returns;
+  counted = m.counted;
+  goals = m.goals;
+  below = m.below;
+  asked = m.asked;
+  kept = m.kept;
+  held = held_moved name h m.look (λ v. v < b.fresh) 1 c.x c'.x m.ts (λ n l u. same n l (let k = m.counted in omega (arith, u, k))) m.held;
+  saved = m.saved;
+  continues = m.continues;
+}
 
 module _ (M : ℕ) (area : Area) (prog : Program) (q : Query) (name : Naming) (h : Cells) (qs : List Indexical) (at : ℕ) (c : Registers) (stack : List Saved) (cs : List Choice) (k : Option ℕ) (es : List Event) (r : ℕ)
     (program : StandsForProgram area prog) (scoped : ClausesScoped prog.clauses) (runnable : IsRunnableProgram M prog) (n : ℕ) (model : HasModel M qs) (m : Runs M area prog q name h qs at c stack cs (suc n) k es r) where
-  abbrev Begins : Entry → List Saved → List Event → ℕ → Type 0
-  Begins e stack' = Runs M area prog q name h qs e.at c stack' cs n k
+  abbrev Begins : Entry → Registers → List Saved → List Event → ℕ → Type 0
+  Begins e c' stack' = Runs M area prog q name h qs e.at c' stack' cs n k
 
-  calls : (b : Branch) → m.first ≡ b ∷ [] → (number : ℕ) (e : Entry) → HasEntry area number e → (stack' : List Saved) → IsCalling M area q.shown name h qs e c stack' b → Spends (Begins e stack') [] es r
-  calls b one number e there stack' i =
+  calls : (b : Branch) → m.first ≡ b ∷ [] → (number : ℕ) (e : Entry) → HasEntry area number e → (c' : Registers) (stack' : List Saved) → IsCalling M area q.shown name h qs e c' stack' b → Spends (Begins e c' stack') [] es r
+  calls b one number e there c' stack' i =
       let t : Term = made (name_of area e.name) i.ts in
-      let shape = first_shape name h c.x in
-      let tries = program.predicates number e there i.ts shape.0 i.counted in
+      let shape : Shape = shape_in name h (c'.x 1) in
+      let tries = program.predicates number e there i.ts shape i.counted in
       let kids = by_clauses prog.clauses b t i.rest in
       let a = goal_gives M area prog q name h qs at c stack cs k es r b (kept_consistent M h qs b.equations b.posted (λ v. v < b.fresh) i.look i.kept model) (Call t) i.rest i.goals runnable n m one kids [] (λ u D v. refl) (λ u D v. refl) in
-      let gone : (d : Clause) → fits_head t d.head ≡ true → ClashFirst shape.0 (arguments d.head) → IsFit M (by_clause b t i.rest d) → IsConsistent M (by_clause b t i.rest d).equations (by_clause b t i.rest d).posted → ⊥ =
-      λ d fits clash. gone_by M (by_clause b t i.rest d) (clash_gone M area q.shown name h qs e c stack' b i shape.0 shape.1 d fits clash) in
-      let left = thinned_ahead M shape.0 t b i.rest m.others gone prog.clauses tries.0 tries.1 a.4.branches (a.4.fit, a.4.kept) in (
+      let gone : (d : Clause) → fits_head t d.head ≡ true → ClashFirst shape (arguments d.head) → IsFit M (by_clause b t i.rest d) → IsConsistent M (by_clause b t i.rest d).equations (by_clause b t i.rest d).posted → ⊥ =
+      λ d fits clash. gone_by M (by_clause b t i.rest d) (clash_gone M area q.shown name h qs e c' stack' b i shape refl d fits clash) in
+      let left = thinned_ahead M shape t b i.rest m.others gone prog.clauses tries.0 tries.1 a.4.branches (a.4.fit, a.4.kept) in (
         a.0,
         a.1,
         a.2,
@@ -118,12 +127,12 @@ module _ (M : ℕ) (area : Area) (prog : Program) (q : Query) (name : Naming) (h
             b,
             record {
               calling = i;
-              shape = shape.0;
-              shows = shape.1;
+              shape = shape;
+              shows = refl;
               clauses = tries.0;
               tries = tries.2;
-              fit = thinned_fit shape.0 t prog.clauses tries.0 tries.1;
-              scoped = thinned_scoped shape.0 t prog.clauses tries.0 tries.1 scoped;
+              fit = thinned_fit shape t prog.clauses tries.0 tries.1;
+              scoped = thinned_scoped shape t prog.clauses tries.0 tries.1 scoped;
               kids_are = refl;
             },
           );
@@ -135,18 +144,19 @@ module _ (M : ℕ) (area : Area) (prog : Program) (q : Query) (name : Naming) (h
   same_entry : (e d : Entry) → Some e ≡ Some d → e ≡ d
   same_entry e d k = cc
 
-  -- The code behind the call is the newest continuation, and the predicate's code begins.
-  pub run_call : (number : ℕ) → Holds area at (code.Call number) → (e : Entry) → HasEntry area number e → (slots : ℕ → Option Cell) → AreSame c.y slots → Spends (Begins e (record { to = suc at; slots = slots } ∷ stack)) [] es r
-  run_call number f e there slots same =
+  -- The code behind the call is the newest continuation, and the predicate's code begins with its arguments.
+  pub run_call : (number : ℕ) → Holds area at (code.Call number) → (e : Entry) → HasEntry area number e → (c' : Registers) → AreSameTo e.arity c.x c'.x → (slots : ℕ → Option Cell) → AreSame c.y slots → Spends (Begins e c' (record { to = suc at; slots = slots } ∷ stack)) [] es r
+  run_call number f e there c' given slots same =
       let s = goes_inside M area q.shown name h qs at c stack m.first m.here (code.Call number) tt f in
       let i = step_call M area q.shown name h qs at c stack s.0 s.1 number f slots same in
       let is = same_entry i.0 e (sym i.1 ∙ there) in
-      calls s.0 s.2 number e there (record { to = suc at; slots = slots } ∷ stack) (subst (λ d. IsCalling M area q.shown name h qs d c (record { to = suc at; slots = slots } ∷ stack) s.0) is i.2)
+      let stack' = record { to = suc at; slots = slots } ∷ stack in
+      calls s.0 s.2 number e there c' stack' (calling_moved M area q.shown name h qs e c c' stack' s.0 given (subst (λ d. IsCalling M area q.shown name h qs d c stack' s.0) is i.2))
 
   -- or the clause's last goal
-  pub run_execute : (number : ℕ) → Holds area at (code.Execute number) → (e : Entry) → HasEntry area number e → Spends (Begins e stack) [] es r
-  run_execute number f e there =
+  pub run_execute : (number : ℕ) → Holds area at (code.Execute number) → (e : Entry) → HasEntry area number e → (c' : Registers) → AreSameTo e.arity c.x c'.x → Spends (Begins e c' stack) [] es r
+  run_execute number f e there c' given =
       let s = goes_inside M area q.shown name h qs at c stack m.first m.here (code.Execute number) tt f in
       let i = step_execute M area q.shown name h qs at c stack s.0 s.1 number f in
       let is = same_entry i.0 e (sym i.1 ∙ there) in
-      calls s.0 s.2 number e there stack (subst (λ d. IsCalling M area q.shown name h qs d c stack s.0) is i.2)
+      calls s.0 s.2 number e there c' stack (calling_moved M area q.shown name h qs e c c' stack s.0 given (subst (λ d. IsCalling M area q.shown name h qs d c stack s.0) is i.2))

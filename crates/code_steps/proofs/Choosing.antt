@@ -1,5 +1,5 @@
 -- The steps of choices and switches, by the whole state.
-use Rattle.std.proofs.Common.{◌≡◌, ℕ, suc, List, [], ◌∷◌, Option, Some, sym, subst}
+use Rattle.std.proofs.Common.{◌≡◌, ℕ, suc, List, [], ◌∷◌, Option, Some, ap, sym, ◌∙◌, subst}
 use Rattle.fd_language.specs.Range.{Indexical}
 use Rattle.fd_model.specs.Goal.{Branch, Program, Query, Event}
 use Rattle.heap_cells.specs.declared.Cell.{Cell}
@@ -11,7 +11,7 @@ use Rattle.wam_code.specs.declared.instruction.Code.TheVariants.{FailNow, TryMeE
 use Rattle.wam_code.specs.Area.{Area, Holds, Table, table_at}
 use Rattle.wam_code.specs.Tries.{Shape, shape_of, by_shape}
 use Rattle.code_steps.specs.Registers.{Registers, Saved}
-use Rattle.code_steps.specs.Trying.{IsTrying, HasNoRow, HasRow, IsChoice}
+use Rattle.code_steps.specs.Trying.{IsTrying, ShowsFirst, shape_in, HasNoRow, HasRow, IsChoice}
 use Rattle.code_steps.specs.Running.{resume, Choice, Runs, Returns}
 use Rattle.code_steps.proofs.Running.{runs_tries, runs_over, runs_both}
 use Rattle.code_steps.proofs.Trying.{step_try_me_else, step_retry_me_else, step_try, step_retry, step_trust_me, step_trust, step_fail, step_switch, step_constants, step_integers, step_structures}
@@ -50,16 +50,19 @@ module _ (M : ℕ) (area : Area) (prog : Program) (q : Query) (name : Naming) (c
     abbrev pub shown : Shape
     shown = shape_of (term_of name h d)
 
+    shows_is : (s : Shape) → ShowsFirst name h c.x s → s ≡ shown
+    shows_is s shows = shows ∙ ap (shape_in name h) at_d
+
     pub run_switch : (v i z s : ℕ) → Holds area at (SwitchOnTerm v i z s) → On (by_shape shown v i z s) cs
     run_switch v i z s f = runs_tries M area prog q name n k es r h qs at c stack cs m (SwitchOnTerm v i z s) tt f (by_shape shown v i z s)
-        (λ e b t. subst (λ w. IsTrying M area q.shown name h qs (by_shape w v i z s) e c stack b m.first) (t.shows d at_d) (step_switch M area q.shown name h qs at e c stack b m.first t v i z s f))
+        (λ e b t. subst (λ w. IsTrying M area q.shown name h qs (by_shape w v i z s) e c stack b m.first) (shows_is t.shape t.shows) (step_switch M area q.shown name h qs at e c stack b m.first t v i z s f))
 
     module _ (i : Code) (choice : IsChoice i) (f : Holds area at i) (table : Table)
         (step : (e : Entry) (b : Branch) (t : IsTrying M area q.shown name h qs at e c stack b m.first) → ((to : ℕ) → HasRow area t.shape table to → IsTrying M area q.shown name h qs to e c stack b m.first) × (HasNoRow area t.shape table → m.first ≡ [])) where
       rows : ((to : ℕ) → HasRow area shown table to → On to cs) × (HasNoRow area shown table → Returns M area prog q name cs n k es r)
       rows = (
-        λ to w. runs_tries M area prog q name n k es r h qs at c stack cs m i choice f to (λ e b t. (step e b t).0 to (subst (λ s. HasRow area s table to) (sym (t.shows d at_d)) w)),
-        λ w. runs_over M area prog q name n k es r h qs at c stack cs m i choice f (λ e b t. (step e b t).1 (subst (λ s. HasNoRow area s table) (sym (t.shows d at_d)) w)),
+        λ to w. runs_tries M area prog q name n k es r h qs at c stack cs m i choice f to (λ e b t. (step e b t).0 to (subst (λ s. HasRow area s table to) (sym (shows_is t.shape t.shows)) w)),
+        λ w. runs_over M area prog q name n k es r h qs at c stack cs m i choice f (λ e b t. (step e b t).1 (subst (λ s. HasNoRow area s table) (sym (shows_is t.shape t.shows)) w)),
       )
 
     -- the table's row decides, or no clause fits

@@ -20,7 +20,7 @@ use Rattle.wam_code.specs.Places.{count, made}
 use Rattle.wam_code.specs.Tries.{Shape, shape_of, Clash, ClashFirst}
 use Rattle.code_steps.specs.Registers.{Registers, Saved, AreHeld}
 use Rattle.code_steps.specs.Standing.{IsCalling}
-use Rattle.code_steps.specs.Trying.{ShowsFirst}
+use Rattle.code_steps.specs.Trying.{shape_in, ShowsFirst}
 use Rattle.code_steps.proofs.Entering.{fits_count, fits_equations}
 
 count_applied : (s : Substitution) (ts : Terms) → count (apply_all s ts) ≡ count ts
@@ -58,7 +58,7 @@ module _ (M : ℕ) (area : Area) (shown : List ℕ) (name : Naming) (h : Cells) 
       go (term t ts) (term u us) w a n i =
           let r : Term = rename_term (λ x. b.fresh + x) u in
           let one = a.0.2 in
-          let clash : Clash (shape_of (term_of name h a.0.0)) u = subst (λ l. Clash l u) (shows a.0.0 a.0.1) n in
+          let clash : Clash (shape_of (term_of name h a.0.0)) u = subst (λ l. Clash l u) (shows ∙ ap (shape_in name h) a.0.1) n in
           let rest = paired ts (apply_all (λ x. Var (b.fresh + x)) us) in
           kept_barred M h qs b.equations b.posted (λ v. v < b.fresh) m.look m.kept t r
           (λ back v known q. absurd (clash_none (term_of name h a.0.0) u back (after v (λ x. Var (b.fresh + x))) clash

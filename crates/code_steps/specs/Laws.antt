@@ -23,7 +23,7 @@ use Rattle.wam_code.specs.declared.instruction.Code.TheVariants.{GetVariable, Ge
 use Rattle.wam_code.specs.declared.parts.Entry.{Entry}
 use Rattle.wam_code.specs.Area.{Area, Span, Holds, HasEntry, range_at}
 use Rattle.wam_code.specs.Tries.{IsQueryCode, StandsForProgram}
-use Rattle.code_steps.specs.Registers.{Registers, Saved, cell_in, AreSame, IsWritten, AreIn}
+use Rattle.code_steps.specs.Registers.{Registers, Saved, cell_in, AreSame, AreSameTo, IsWritten, AreIn}
 use Rattle.code_steps.specs.Standing.{Stands, IsCalling}
 use Rattle.code_steps.specs.Steps.{GoesOnEqual}
 use Rattle.code_steps.specs.Trying.{IsTrying, IsFirst}
@@ -51,13 +51,13 @@ ClausesAreEntered =
     (M : ℕ) (area : Area) (shown : List ℕ) (name : Naming) (h : Cells) (qs : List Indexical) (at : ℕ) (e : Entry) (c : Registers) (stack : List Saved) (b : Branch) (kids : List Branch) → IsTrying M area shown name h qs at e c stack b kids → (i : Code) → IsFirst i → Holds area at i
     → (c' : Registers) → AreSame c.x c'.x → (kid : Branch) × (kids ≡ kid ∷ []) × Stands M area shown name h qs at c' stack kid
 
--- A call spends a reduction, says nothing, and leaves the code behind it as the newest continuation. The predicate's code stands for the branches that the program gives.
+-- A call spends a reduction, says nothing, and leaves the code behind it as the newest continuation. With the registers of its arguments alone, the predicate's code stands for the branches that the program gives.
 abbrev pub CallsTryClauses : Type 0
 CallsTryClauses =
     (M : ℕ) (area : Area) (prog : Program) (q : Query) (name : Naming) (h : Cells) (qs : List Indexical) (at : ℕ) (c : Registers) (stack : List Saved) (cs : List Choice) (k : Option ℕ) (es : List Event) (r : ℕ)
     → StandsForProgram area prog → ClausesScoped prog.clauses → IsRunnableProgram M prog → (n : ℕ) → HasModel M qs → Runs M area prog q name h qs at c stack cs (suc n) k es r
-    → (number : ℕ) → Holds area at (Call number) → (e : Entry) → HasEntry area number e → (slots : ℕ → Option Cell) → AreSame c.y slots
-    → Spends (Runs M area prog q name h qs e.at c (record { to = suc at; slots = slots } ∷ stack) cs n k) [] es r
+    → (number : ℕ) → Holds area at (Call number) → (e : Entry) → HasEntry area number e → (c' : Registers) → AreSameTo e.arity c.x c'.x → (slots : ℕ → Option Cell) → AreSame c.y slots
+    → Spends (Runs M area prog q name h qs e.at c' (record { to = suc at; slots = slots } ∷ stack) cs n k) [] es r
 
 -- A choice among clauses leaves a choice point with all that is current, and coming back the machine goes on there. It stands for the same events throughout.
 pub record ChoicesComeBack : Type 0 where

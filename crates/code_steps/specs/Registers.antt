@@ -31,6 +31,10 @@ pub record IsPut (old : ℕ → Option Cell) (i : ℕ) (d : Cell) (new : ℕ →
 abbrev pub AreSame : (ℕ → Option Cell) → (ℕ → Option Cell) → Type 0
 AreSame old new = (n : ℕ) → new n ≡ old n
 
+-- the same cells from 1 to k
+abbrev pub AreSameTo : ℕ → (ℕ → Option Cell) → (ℕ → Option Cell) → Type 0
+AreSameTo k old new = (n : ℕ) → 1 ≤ n → n ≤ k → new n ≡ old n
+
 -- the same registers and slots but that this one holds d
 abbrev pub IsWritten : Registers → Register → Cell → Registers → Type 0
 IsWritten old (X n) d new = IsPut old.x n d new.x × AreSame old.y new.y

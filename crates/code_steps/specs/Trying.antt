@@ -1,5 +1,5 @@
 -- What a machine stands for before a clause, where it chooses among those that are to be tried.
-use Rattle.std.specs.Prelude.{◌≡◌, ◌⊎◌, ℕ, List, [], ◌∷◌, ◌++◌, map, Option, Some}
+use Rattle.std.specs.Prelude.{◌≡◌, ◌⊎◌, ℕ, List, [], ◌∷◌, ◌++◌, map, Option, Some, None}
 use Rattle.fd_language.specs.Range.{Indexical}
 use Rattle.fd_model.specs.Children.{by_clause}
 use Rattle.fd_model.specs.Goal.{Clause, Branch}
@@ -13,13 +13,18 @@ use Rattle.wam_code.specs.declared.instruction.Code.TheVariants.{Jump, FailNow, 
 use Rattle.wam_code.specs.declared.parts.Entry.{Entry}
 use Rattle.wam_code.specs.Area.{Area, Table, name_of}
 use Rattle.wam_code.specs.Places.{made}
-use Rattle.wam_code.specs.Tries.{Shape, shape_of, IsShape, Tries}
+use Rattle.wam_code.specs.Tries.{Shape, is_open, shape_of, IsShape, Tries}
 use Rattle.code_steps.specs.Registers.{Registers, Saved}
 use Rattle.code_steps.specs.Standing.{IsCalling}
 
--- what the first argument's cell shows
+-- what a register shows: nothing where it holds no cell
+abbrev pub shape_in : Naming → Cells → Option Cell → Shape
+shape_in name h None = is_open
+shape_in name h (Some d) = shape_of (term_of name h d)
+
+-- What the first argument's register shows. Of a goal without arguments it is never asked, whatever the register holds.
 abbrev pub ShowsFirst : Naming → Cells → (ℕ → Option Cell) → Shape → Type 0
-ShowsFirst name h cells s = (d : Cell) → cells 1 ≡ Some d → s ≡ shape_of (term_of name h d)
+ShowsFirst name h cells s = s ≡ shape_in name h (cells 1)
 
 -- At this place the branch b's goal, which is called, is to try clauses. Their branches are kids.
 pub record IsTrying (M : ℕ) (area : Area) (shown : List ℕ) (name : Naming) (h : Cells) (qs : List Indexical) (at : ℕ) (e : Entry) (c : Registers) (stack : List Saved) (b : Branch) (kids : List Branch) : Type 0 where

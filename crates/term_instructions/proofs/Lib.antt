@@ -1,4 +1,6 @@
-pub mod Equal
-pub mod Safety
 pub mod Steps
-pub mod Standing
+pub mod Unify
+pub mod ReadSteps
+pub mod BuildSteps
+pub mod Structure
+pub mod Head

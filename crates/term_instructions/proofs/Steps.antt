@@ -1,5 +1,5 @@
 -- The get and put groups are safe.
-use Rattle.std.proofs.Common.{◌≡◌, ℕ, zero, suc, ◌<◌, Bool, true, false, ◌&&◌, List, ◌∷◌, ◌++◌, [], length, Option, Some, None, refl, ap, sym, ◌∙◌, subst, arith, length-append, ℤ}
+use Rattle.std.proofs.Common.{◌≡◌, ℕ, zero, suc, ◌<◌, Bool, true, false, ◌&&◌, ◌∷◌, [], length, Some, None, refl, ap, sym, ◌∙◌, subst, arith, length-append, ℤ}
 use Rattle.std.proofs.lemmas.Bool.{and_parts}
 use Rattle.fd_language.specs.Family.{has}
 use Rattle.term_pool.specs.declared.AtomId.{AtomId}
@@ -17,12 +17,16 @@ use Rattle.wam_code.specs.Effect.{is_set, is_free, with_set, plain_effect}
 use Rattle.wam_code.specs.Verified.{goes_on}
 use Rattle.code_areas.specs.Areas.{cell_at, IsSet, Contents}
 use Rattle.code_steps.specs.Registers.{cell_in, IsWritten}
-use Rattle.term_instructions.specs.Machine.{registers_of, HasCell, CanHold, IsSameBehind}
-use Rattle.term_instructions.specs.Safety.{Fits, IsSafe, IsSafeThen}
-use Rattle.term_instructions.specs.Standing.{went_by}
-use Rattle.term_instructions.specs.Equating.{Equates}
-use Rattle.term_instructions.proofs.Equal.{same_cells}
-use Rattle.term_instructions.proofs.Safety.{Finds, found, when_parts, some_is, free_holds, set_holds, written_fits, written_own, cells_kept, back_safe, next_safe}
+use Rattle.code_states.specs.Machine.{registers_of, HasCell, CanHold, IsSameBehind}
+use Rattle.code_states.specs.Safety.{Fits, IsSafe, IsSafeThen}
+use Rattle.code_states.specs.Standing.{went_by}
+use Rattle.code_states.specs.Work.{LeadsOn}
+use Rattle.code_states.specs.declared.went.Went.{Went}
+use Rattle.code_states.specs.declared.went.Went.TheVariants.{On, Back}
+use Rattle.code_states.specs.Equating.{Equates}
+use Rattle.term_instructions.specs.Arguments.{LeadsFrom}
+use Rattle.code_states.proofs.Equal.{same_cells}
+use Rattle.code_states.proofs.Safety.{found, when_parts, some_is, free_holds, set_holds, written_fits, written_own, cells_kept, back_safe, next_safe}
 
 pub same_behind : (c : Contents) → IsSameBehind c c
 same_behind c = record { returns = refl; points = refl }
@@ -42,6 +46,16 @@ below_both a b c s t = record { atoms = t.atoms ∙ s.atoms; heaps = t.heaps ∙
 pub owed_set : (t : State) (r : Register) → (with_set t r).owed ≡ t.owed
 owed_set t (X n) = refl
 owed_set t (Y n) = refl
+
+-- Where two cells were made equal, the next place is a later one.
+pub led_by : (at : ℕ) (equal : Bool) → LeadsOn at (went_by at equal)
+led_by at true = omega arith
+led_by at false = tt
+
+-- What leads from the next place leads on.
+pub led_from : (at from : ℕ) → from ≡ suc at → (w : Went) → LeadsFrom from w → LeadsOn at w
+led_from at from is (On to) later = omega (arith, is, later)
+led_from at from is Back later = tt
 
 -- what a register holds is a cell of the branch
 pub held_own : (s : branch.State) (c : Contents) (r : Register) (d : HeapCell) → AreCells s c.registers → AreCells s c.slots → cell_in (registers_of c) r ≡ Some d → IsCell s d

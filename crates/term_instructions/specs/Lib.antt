@@ -1,4 +1,3 @@
-pub mod Machine
-pub mod Safety
-pub mod Standing
-pub mod Equating
+pub mod Arguments
+pub mod Reading
+pub mod Building

@@ -3,15 +3,15 @@ ghost use Rattle.std.specs.Prelude.{◌≡◌, IfOk, OnOk};
 ghost use Rattle.branch_state.specs.States.{IsSameBelow};
 ghost use Rattle.wam_code.specs.declared.instruction.Code.TheVariants as step;
 ghost use Rattle.wam_code.specs.Area.{Holds};
-ghost use Rattle.term_instructions.specs.Machine.{IsSameBehind};
-ghost use Rattle.term_instructions.specs.Safety.{IsSafe, IsSafeThen};
-ghost use Rattle.term_instructions.specs.Standing.{KeepsStanding};
+ghost use Rattle.code_states.specs.Machine.{IsSameBehind};
+ghost use Rattle.code_states.specs.Safety.{IsSafe, IsSafeThen};
+ghost use Rattle.code_states.specs.Standing.{KeepsStanding};
+ghost use Rattle.code_states.specs.Work.{LeadsOn};
 
-use crate::equating::equate;
 use crate::registers::{read, write};
-use crate::went::{Went, behind, next_if};
 use branch_state::BranchState;
 use code_areas::Areas;
+use code_states::{Went, behind, equate, next_if};
 use fd_language::NoMemory;
 use heap_cells::Cell;
 use propagate_queue::Agenda;
@@ -35,6 +35,7 @@ pub fn get_variable<A: Agenda + Drop>(
     ensures safe { IfOk result (IsSafeThen code.now branch.now areas.new) }
     ensures stands { IfOk result (KeepsStanding code.now branch.now at areas.old branch.now
         areas.new) }
+    ensures leads { IfOk result (LeadsOn at) }
     ensures same { OnOk result (IsSameBehind areas.old areas.new) }
 {
     let cell = areas.register(a);
@@ -58,6 +59,7 @@ pub fn get_value<A: Agenda + Drop>(
     ensures safe { IfOk result (IsSafeThen code.now branch.new areas.now) }
     ensures stands { IfOk result (KeepsStanding code.now branch.old at areas.now branch.new
         areas.now) }
+    ensures leads { IfOk result (LeadsOn at) }
     ensures same { OnOk result (IsSameBelow branch.old branch.new) }
 {
     let argument = areas.register(a);
@@ -81,6 +83,7 @@ pub fn get_constant<A: Agenda + Drop>(
     ensures safe { IfOk result (IsSafeThen code.now branch.new areas.now) }
     ensures stands { IfOk result (KeepsStanding code.now branch.old at areas.now branch.new
         areas.now) }
+    ensures leads { IfOk result (LeadsOn at) }
     ensures same { OnOk result (IsSameBelow branch.old branch.new) }
 {
     let argument = areas.register(a);
@@ -103,6 +106,7 @@ pub fn get_integer<A: Agenda + Drop>(
     ensures safe { IfOk result (IsSafeThen code.now branch.new areas.now) }
     ensures stands { IfOk result (KeepsStanding code.now branch.old at areas.now branch.new
         areas.now) }
+    ensures leads { IfOk result (LeadsOn at) }
     ensures same { OnOk result (IsSameBelow branch.old branch.new) }
 {
     let argument = areas.register(a);

@@ -1,14 +1,15 @@
 //! The instructions of a clause's terms, which put cells into registers and make them equal.
 #![tactic(auto)]
 
-mod equating;
+mod arguments;
+mod building;
 mod gets;
 mod puts;
+mod reading;
 mod registers;
 mod structures;
-mod went;
 
 pub use crate::gets::{get_constant, get_integer, get_value, get_variable};
 pub use crate::puts::{put_constant, put_integer, put_value, put_variable};
 pub use crate::structures::{Scratch, get_structure, put_structure};
-pub use crate::went::Went;
+pub use code_states::Went;

@@ -3,14 +3,15 @@ ghost use Rattle.std.specs.Prelude.{◌≡◌, IfOk, OnOk};
 ghost use Rattle.branch_state.specs.States.{IsSameBelow};
 ghost use Rattle.wam_code.specs.declared.instruction.Code.TheVariants as step;
 ghost use Rattle.wam_code.specs.Area.{Holds};
-ghost use Rattle.term_instructions.specs.Machine.{IsSameBehind};
-ghost use Rattle.term_instructions.specs.Safety.{IsSafe, IsSafeThen};
-ghost use Rattle.term_instructions.specs.Standing.{KeepsStanding};
+ghost use Rattle.code_states.specs.Machine.{IsSameBehind};
+ghost use Rattle.code_states.specs.Safety.{IsSafe, IsSafeThen};
+ghost use Rattle.code_states.specs.Standing.{KeepsStanding};
+ghost use Rattle.code_states.specs.Work.{LeadsOn};
 
 use crate::registers::{read, write};
-use crate::went::{Went, behind};
 use branch_state::BranchState;
 use code_areas::Areas;
+use code_states::{Went, behind};
 use fd_language::NoMemory;
 use heap_cells::Cell;
 use propagate_queue::Agenda;
@@ -31,6 +32,7 @@ pub fn put_variable<A: Agenda + Drop>(
     ensures safe { IfOk result (IsSafeThen code.now branch.new areas.new) }
     ensures stands { IfOk result (KeepsStanding code.now branch.old at areas.old branch.new
         areas.new) }
+    ensures leads { IfOk result (LeadsOn at) }
     ensures behind { OnOk result (IsSameBehind areas.old areas.new) }
     ensures below { OnOk result (IsSameBelow branch.old branch.new) }
 {
@@ -55,6 +57,7 @@ pub fn put_value<A: Agenda + Drop>(
     ensures safe { IfOk result (IsSafeThen code.now branch.now areas.new) }
     ensures stands { IfOk result (KeepsStanding code.now branch.now at areas.old branch.now
         areas.new) }
+    ensures leads { IfOk result (LeadsOn at) }
     ensures same { OnOk result (IsSameBehind areas.old areas.new) }
 {
     let cell = read(areas, r);
@@ -77,6 +80,7 @@ pub fn put_constant<A: Agenda + Drop>(
     ensures safe { IfOk result (IsSafeThen code.now branch.now areas.new) }
     ensures stands { IfOk result (KeepsStanding code.now branch.now at areas.old branch.now
         areas.new) }
+    ensures leads { IfOk result (LeadsOn at) }
     ensures same { OnOk result (IsSameBehind areas.old areas.new) }
 {
     write(areas, Register::X(a), Cell::Atom(c))?;
@@ -98,6 +102,7 @@ pub fn put_integer<A: Agenda + Drop>(
     ensures safe { IfOk result (IsSafeThen code.now branch.now areas.new) }
     ensures stands { IfOk result (KeepsStanding code.now branch.now at areas.old branch.now
         areas.new) }
+    ensures leads { IfOk result (LeadsOn at) }
     ensures same { OnOk result (IsSameBehind areas.old areas.new) }
 {
     write(areas, Register::X(a), Cell::Int(z))?;

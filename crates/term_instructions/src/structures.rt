@@ -1,22 +1,29 @@
 //! Structures of a clause, with the unify group behind them.
-ghost use Rattle.std.specs.Prelude.{IfOk, OnOk};
-ghost use Rattle.branch_state.specs.States.{IsSameBelow};
+ghost use Rattle.std.specs.Prelude.{◌≡◌, [], length, All, IfOk, OnOk};
+ghost use Rattle.branch_state.specs.States.{IsCell, IsSameBelow};
 ghost use Rattle.wam_code.specs.declared.instruction.Code.TheVariants as step;
 ghost use Rattle.wam_code.specs.Area.{Holds};
-ghost use Rattle.term_instructions.specs.Machine.{IsSameBehind};
-ghost use Rattle.term_instructions.specs.Safety.{IsSafe, IsSafeThen};
-ghost use Rattle.term_instructions.specs.Standing.{KeepsStanding};
+ghost use Rattle.wam_code.specs.Verified.{IsAtom};
+ghost use Rattle.code_states.specs.Machine.{IsSameBehind};
+ghost use Rattle.code_states.specs.Safety.{IsSafe, IsSafeThen};
+ghost use Rattle.code_states.specs.Standing.{KeepsStanding};
+ghost use Rattle.code_states.specs.Work.{LeadsOn};
+ghost use Rattle.term_instructions.specs.Reading.{AreTold, ReadsThen};
+ghost use Rattle.term_instructions.specs.Building.{BuildsThen};
 
-use crate::went::Went;
+use crate::building::gather_arguments;
+use crate::reading::{Reading, read_arguments};
+use crate::registers::write;
 use branch_state::BranchState;
 use code_areas::Areas;
+use code_states::{Went, behind, equate, on_if};
 use fd_language::NoMemory;
-use heap_cells::Cell;
+use heap_cells::{Cell, Seen};
 use propagate_queue::Agenda;
 use std::alloc::Global;
 use term_pool::AtomId;
 use unify_core::Touch;
-use wam_code::CodeArea;
+use wam_code::{CodeArea, Register};
 
 /// What instructions are lent: the cells of a structure's arguments, and what the store is to be told.
 #[derive(Drop)]
@@ -33,6 +40,55 @@ impl Scratch {
             touches: Vec::new(alloc),
         }
     }
+}
+
+/// Reads the arguments of a structure that is there, and tells the store. The result is the place behind them, or back where they can't
+/// be what the code gives; the error is want of memory.
+fn match_arguments<A: Agenda + Drop>(
+    code: &CodeArea,
+    from: usize,
+    branch: &mut BranchState<A>,
+    areas: &mut Areas,
+    cells: &[Cell],
+    touches: &mut Vec<Touch>,
+) -> Result<Went, NoMemory>
+    requires safe { IsSafe code.now branch.old from (length cells.now) areas.old }
+    requires own { All (IsCell branch.old) cells.now }
+    requires told { AreTold branch.old touches.old.items }
+    ensures { IfOk result (ReadsThen code.now cells.now branch.old touches.old.items from areas.old
+        branch.new areas.new) }
+{
+    let start = Reading { at: from, next: 0 };
+    let Some(at) = read_arguments(code, start, branch, areas, cells, touches)? else {
+        return Ok(Went::Back);
+    };
+    let posted = branch.post_touches(touches)?;
+    Ok(on_if(at, posted))
+}
+
+/// Builds the structure, makes it equal to a head's argument, and tells the store. The result is the place behind its arguments, or
+/// back where it can't be equal; the error is want of memory.
+fn build_argument<A: Agenda + Drop>(
+    code: &CodeArea,
+    from: usize,
+    functor: (AtomId, u8),
+    argument: Cell,
+    branch: &mut BranchState<A>,
+    areas: &mut Areas,
+    scratch: &mut Scratch,
+) -> Result<Went, NoMemory>
+    requires safe { IsSafe code.now branch.old from functor.1 areas.old }
+    requires name { IsAtom code.now functor.0 }
+    requires argument { IsCell branch.old argument }
+    requires empty { scratch.old.cells.items ≡ [] }
+    ensures { IfOk result (BuildsThen code.now functor.0 functor.1 argument branch.old from
+        areas.old branch.new areas.new) }
+{
+    let (name, n) = functor;
+    let next = gather_arguments(code, from, branch, areas, &mut scratch.cells, n as usize)?;
+    let built = branch.compound(name, &scratch.cells)?;
+    let equal = equate(branch, argument, built, &mut scratch.touches)?;
+    Ok(on_if(next, equal))
 }
 
 /// Matches a head's argument with a structure, whose arguments come with the unify group behind: a structure that is there is read, and
@@ -52,10 +108,32 @@ pub fn get_structure<A: Agenda + Drop>(
     ensures safe { IfOk result (IsSafeThen code.now branch.new areas.new) }
     ensures stands { IfOk result (KeepsStanding code.now branch.old at areas.old branch.new
         areas.new) }
+    ensures leads { IfOk result (LeadsOn at) }
     ensures behind { OnOk result (IsSameBehind areas.old areas.new) }
     ensures below { OnOk result (IsSameBelow branch.old branch.new) }
 {
-    Err(NoMemory)
+    let argument = areas.register(a);
+    let from = behind(code, at);
+    scratch.cells.clear();
+    scratch.touches.clear();
+    match branch.heap().deref(argument) {
+        Seen::Open(_) => build_argument(code, from, functor, argument, branch, areas, scratch),
+        Seen::Struct(name, args) => {
+            if name != functor.0 || args.len() != functor.1 as usize {
+                return Ok(Went::Back);
+            }
+            scratch.cells.extend_from_slice(args)?;
+            match_arguments(
+                code,
+                from,
+                branch,
+                areas,
+                &scratch.cells,
+                &mut scratch.touches,
+            )
+        }
+        _ => Ok(Went::Back),
+    }
 }
 
 /// A goal's argument is a structure, which the register takes; its arguments come with the unify group behind. `cells` is lent to gather
@@ -74,8 +152,16 @@ pub fn put_structure<A: Agenda + Drop>(
     ensures safe { IfOk result (IsSafeThen code.now branch.new areas.new) }
     ensures stands { IfOk result (KeepsStanding code.now branch.old at areas.old branch.new
         areas.new) }
+    ensures leads { IfOk result (LeadsOn at) }
     ensures behind { OnOk result (IsSameBehind areas.old areas.new) }
     ensures below { OnOk result (IsSameBelow branch.old branch.new) }
 {
-    Err(NoMemory)
+    let (name, n) = functor;
+    write(areas, Register::X(a), Cell::Int(0))?;
+    cells.clear();
+    let from = behind(code, at);
+    let next = gather_arguments(code, from, branch, areas, cells, n as usize)?;
+    let built = branch.compound(name, cells)?;
+    write(areas, Register::X(a), built)?;
+    Ok(Went::On(next))
 }

@@ -1,11 +1,12 @@
 use Rattle.std.proofs.Common.{subst, sym}
 use Rattle.wam_code.specs.declared.instruction.Code.TheVariants.{GetConstant}
-use Rattle.term_instructions.specs.Safety.{IsSafeThen}
-use Rattle.term_instructions.specs.Standing.{KeepsStanding}
-use Rattle.term_instructions.specs.declared.went.Went.{Went}
-use Rattle.term_instructions.proofs.Safety.{within_code}
-use Rattle.term_instructions.proofs.Steps.{get_constant_needs, get_constant_own, get_constant_safe}
-use Rattle.term_instructions.proofs.Standing.{get_constant_stands}
+use Rattle.code_states.specs.Safety.{IsSafeThen}
+use Rattle.code_states.specs.Standing.{KeepsStanding}
+use Rattle.code_states.specs.Work.{LeadsOn}
+use Rattle.code_states.specs.declared.went.Went.{Went}
+use Rattle.code_states.proofs.Safety.{within_code}
+use Rattle.term_instructions.proofs.Steps.{led_by, get_constant_needs, get_constant_own, get_constant_safe}
+use Rattle.code_states.proofs.Standing.{get_constant_stands}
 use Rattle.term_instructions.proofs.gets.get_constant.Goals as goal
 use Rattle.heap_cells.specs.declared.Cell.TheVariants as cell
 
@@ -33,3 +34,6 @@ pub returns-clause-stands : goal.returns-clause-stands
 returns-clause-stands g c =
     subst (λ (w : Went). KeepsStanding c.args.code.now c.args.branch.now c.args.at c.args.areas.now c.equate.new.branch c.args.areas.now w) (sym c.next_if.ensures)
     (get_constant_stands c.args.code.now c.args.branch.now c.args.at c.args.areas.now c.requires.safe c.args.c c.args.a c.requires.holds c.register-argument.result c.register-argument.ensures c.equate.new.branch c.in_ok-equal.equal c.in_ok-equal.ensures.equates)
+
+pub returns-clause-leads : goal.returns-clause-leads
+returns-clause-leads g c = subst (λ (w : Went). LeadsOn c.args.at w) (sym c.next_if.ensures) (led_by c.args.at c.in_ok-equal.equal)

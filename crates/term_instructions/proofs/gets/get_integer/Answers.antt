@@ -1,13 +1,14 @@
 use Rattle.std.proofs.Common.{FitsSigned, subst, sym, rules, w64}
 use Rattle.std.proofs.lemmas.Int.{to_z-of_z}
-use Rattle.term_instructions.specs.Equating.{Equates}
+use Rattle.code_states.specs.Equating.{Equates}
 use Rattle.wam_code.specs.declared.instruction.Code.TheVariants.{GetInteger}
-use Rattle.term_instructions.specs.Safety.{IsSafeThen}
-use Rattle.term_instructions.specs.Standing.{KeepsStanding}
-use Rattle.term_instructions.specs.declared.went.Went.{Went}
-use Rattle.term_instructions.proofs.Safety.{within_code}
-use Rattle.term_instructions.proofs.Steps.{get_integer_needs, get_integer_safe}
-use Rattle.term_instructions.proofs.Standing.{get_integer_stands}
+use Rattle.code_states.specs.Safety.{IsSafeThen}
+use Rattle.code_states.specs.Standing.{KeepsStanding}
+use Rattle.code_states.specs.Work.{LeadsOn}
+use Rattle.code_states.specs.declared.went.Went.{Went}
+use Rattle.code_states.proofs.Safety.{within_code}
+use Rattle.term_instructions.proofs.Steps.{led_by, get_integer_needs, get_integer_safe}
+use Rattle.code_states.proofs.Standing.{get_integer_stands}
 use Rattle.term_instructions.proofs.gets.get_integer.Goals as goal
 use Rattle.heap_cells.specs.declared.Cell.TheVariants as cell
 
@@ -39,3 +40,6 @@ returns-clause-stands g c =
     let equates = subst (λ z. Equates c.args.branch.now c.register-argument.result (cell.Int z) c.equate.new.branch c.in_ok-equal.equal) (to_z-of_z w64 c.args.z fits) c.in_ok-equal.ensures.equates in
     subst (λ (w : Went). KeepsStanding c.args.code.now c.args.branch.now c.args.at c.args.areas.now c.equate.new.branch c.args.areas.now w) (sym c.next_if.ensures)
     (get_integer_stands c.args.code.now c.args.branch.now c.args.at c.args.areas.now c.requires.safe c.args.z c.args.a c.requires.holds c.register-argument.result c.register-argument.ensures c.equate.new.branch c.in_ok-equal.equal equates)
+
+pub returns-clause-leads : goal.returns-clause-leads
+returns-clause-leads g c = subst (λ (w : Went). LeadsOn c.args.at w) (sym c.next_if.ensures) (led_by c.args.at c.in_ok-equal.equal)

@@ -1,11 +1,12 @@
 use Rattle.std.proofs.Common.{subst, sym}
 use Rattle.wam_code.specs.declared.instruction.Code.TheVariants.{GetValue}
-use Rattle.term_instructions.specs.Safety.{IsSafeThen}
-use Rattle.term_instructions.specs.Standing.{KeepsStanding}
-use Rattle.term_instructions.specs.declared.went.Went.{Went}
-use Rattle.term_instructions.proofs.Safety.{within_code}
-use Rattle.term_instructions.proofs.Steps.{held_own, get_value_needs, get_value_safe}
-use Rattle.term_instructions.proofs.Standing.{get_value_stands}
+use Rattle.code_states.specs.Safety.{IsSafeThen}
+use Rattle.code_states.specs.Standing.{KeepsStanding}
+use Rattle.code_states.specs.Work.{LeadsOn}
+use Rattle.code_states.specs.declared.went.Went.{Went}
+use Rattle.code_states.proofs.Safety.{within_code}
+use Rattle.term_instructions.proofs.Steps.{led_by, held_own, get_value_needs, get_value_safe}
+use Rattle.code_states.proofs.Standing.{get_value_stands}
 use Rattle.term_instructions.proofs.gets.get_value.Goals as goal
 
 pub register-argument-requires : goal.register-argument-requires
@@ -35,3 +36,6 @@ pub returns-clause-stands : goal.returns-clause-stands
 returns-clause-stands g c =
     subst (λ (w : Went). KeepsStanding c.args.code.now c.args.branch.now c.args.at c.args.areas.now c.equate.new.branch c.args.areas.now w) (sym c.next_if.ensures)
     (get_value_stands c.args.code.now c.args.branch.now c.args.at c.args.areas.now c.args.r c.args.a c.requires.holds c.register-argument.result c.read-held.result c.register-argument.ensures c.read-held.ensures c.equate.new.branch c.in_ok-equal.equal c.in_ok-equal.ensures.equates)
+
+pub returns-clause-leads : goal.returns-clause-leads
+returns-clause-leads g c = subst (λ (w : Went). LeadsOn c.args.at w) (sym c.next_if.ensures) (led_by c.args.at c.in_ok-equal.equal)

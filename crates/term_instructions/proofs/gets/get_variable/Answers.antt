@@ -1,11 +1,11 @@
-use Rattle.term_instructions.specs.Safety.{IsSafeThen}
-use Rattle.term_instructions.specs.Standing.{KeepsStanding}
-use Rattle.term_instructions.specs.declared.went.Went.TheVariants.{On}
+use Rattle.code_states.specs.Safety.{IsSafeThen}
+use Rattle.code_states.specs.Standing.{KeepsStanding}
+use Rattle.code_states.specs.declared.went.Went.TheVariants.{On}
 use Rattle.std.proofs.Common.{subst, sym}
 use Rattle.wam_code.specs.declared.instruction.Code.TheVariants.{GetVariable}
-use Rattle.term_instructions.proofs.Safety.{within_code}
+use Rattle.code_states.proofs.Safety.{within_code}
 use Rattle.term_instructions.proofs.Steps.{get_variable_needs, get_variable_safe}
-use Rattle.term_instructions.proofs.Standing.{get_variable_stands}
+use Rattle.code_states.proofs.Standing.{get_variable_stands}
 use Rattle.term_instructions.proofs.gets.get_variable.Goals as goal
 
 pub register-cell-requires : goal.register-cell-requires

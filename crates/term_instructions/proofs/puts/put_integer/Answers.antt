@@ -3,14 +3,14 @@ use Rattle.std.proofs.lemmas.Int.{to_z-of_z}
 use Rattle.heap_cells.specs.declared.Cell.TheVariants as cell
 use Rattle.wam_code.specs.declared.instruction.Register.TheVariants.{X}
 use Rattle.code_steps.specs.Registers.{IsWritten}
-use Rattle.term_instructions.specs.Machine.{registers_of}
+use Rattle.code_states.specs.Machine.{registers_of}
 use Rattle.wam_code.specs.declared.instruction.Code.TheVariants.{PutInteger}
-use Rattle.term_instructions.specs.Safety.{IsSafeThen}
-use Rattle.term_instructions.specs.Standing.{KeepsStanding}
-use Rattle.term_instructions.specs.declared.went.Went.TheVariants.{On}
-use Rattle.term_instructions.proofs.Safety.{within_code}
+use Rattle.code_states.specs.Safety.{IsSafeThen}
+use Rattle.code_states.specs.Standing.{KeepsStanding}
+use Rattle.code_states.specs.declared.went.Went.TheVariants.{On}
+use Rattle.code_states.proofs.Safety.{within_code}
 use Rattle.term_instructions.proofs.Steps.{put_integer_safe}
-use Rattle.term_instructions.proofs.Standing.{put_integer_stands}
+use Rattle.code_states.proofs.Standing.{put_integer_stands}
 use Rattle.term_instructions.proofs.puts.put_integer.Goals as goal
 
 pub behind-requires : goal.behind-requires

@@ -2,12 +2,12 @@ use Rattle.std.proofs.Common.{ap, subst, sym, ◌∙◌}
 use Rattle.branch_state.specs.States as branch
 use Rattle.branch_state.specs.States.{with_heap}
 use Rattle.wam_code.specs.declared.instruction.Code.TheVariants.{PutVariable}
-use Rattle.term_instructions.specs.Safety.{IsSafeThen}
-use Rattle.term_instructions.specs.Standing.{KeepsStanding}
-use Rattle.term_instructions.specs.declared.went.Went.TheVariants.{On}
-use Rattle.term_instructions.proofs.Safety.{within_code}
+use Rattle.code_states.specs.Safety.{IsSafeThen}
+use Rattle.code_states.specs.Standing.{KeepsStanding}
+use Rattle.code_states.specs.declared.went.Went.TheVariants.{On}
+use Rattle.code_states.proofs.Safety.{within_code}
 use Rattle.term_instructions.proofs.Steps.{behind_both, below_heap, put_variable_needs, put_variable_safe}
-use Rattle.term_instructions.proofs.Standing.{put_variable_stands}
+use Rattle.code_states.proofs.Standing.{put_variable_stands}
 use Rattle.term_instructions.proofs.puts.put_variable.Goals as goal
 
 pub new_var-requires : goal.new_var-requires

@@ -1,0 +1,4 @@
+pub mod Threads
+pub mod Working
+pub mod Stages
+pub mod Deciding

@@ -1,0 +1,82 @@
+-- The work that is left falls.
+use Rattle.std.proofs.Common.{◌≡◌, ℕ, zero, suc, ◌+◌, ◌*◌, ◌<◌, ◌≤◌, IsTrue, List, [], ◌∷◌, length, map, refl, sym, subst, arith}
+use Rattle.std.proofs.lemmas.Nat.{mul-le}
+use Rattle.fd_language.specs.Family.{has}
+use Rattle.wam_code.specs.declared.instruction.Code.{Code}
+use Rattle.wam_code.specs.Area.{State, Area, Holds}
+use Rattle.wam_code.specs.Ending.{weight, return_work, Thread, work}
+use Rattle.wam_code.specs.Reaching.{distance}
+use Rattle.wam_code.specs.Verified.{named, goes_on, IsVerifiedBy}
+use Rattle.wam_code.proofs.Ending.{fork_falls, step_falls, proceed_falls, back_falls}
+use Rattle.wam_code.proofs.Reaching.{names_nearer, falls_nearer}
+use Rattle.code_areas.specs.Areas.{Places, Return, Contents}
+use Rattle.code_states.specs.Choices.{point_of}
+use Rattle.code_states.specs.Work.{thread_of, point_threads, work_at, work_back, most_work}
+
+weight_up : (d e : ℕ) → d ≤ e → weight d ≤ weight e
+weight_up zero zero l = omega arith
+weight_up zero (suc e) l = let w = weight_up zero e (omega arith) in omega (arith, w)
+weight_up (suc d) zero l = absurd (omega (arith, l))
+weight_up (suc d) (suc e) l = let w = weight_up d e (omega (arith, l)) in omega (arith, w)
+
+weight_some : (d : ℕ) → 1 ≤ weight d
+weight_some d = weight_up zero d (omega arith)
+
+-- twice as much of the most
+most_split : (m x t : ℕ) → m * suc (x + t) ≡ m * suc x + m * t
+most_split m x t = grind arith
+
+-- a thread of so little work, beside others
+most_with : (m n x t : ℕ) → 1 ≤ m → n ≤ m * suc x → n + t ≤ m * suc (x + t)
+most_with m n x t some l =
+    let k = mul-le 1 t m t some (omega arith) in
+    let one : 1 * t ≡ t = omega arith in
+    let s = most_split m x t in
+    omega (arith, l, k, one, s)
+
+module _ (area : Area) (ss : List State) (v : IsVerifiedBy area ss) (at : ℕ) (c : Contents) where
+  abbrev after : List Return → List ℕ
+  after rs = map (λ r. distance area r.to) rs
+
+  abbrev others : List Thread
+  others = point_threads area c.points
+
+  module _ (i : Code) (holds : Holds area at i) where
+    pub named_near : (to : ℕ) → IsTrue (has (named area i) to) → distance area to < distance area at
+    named_near to n = names_nearer area ss v at to (i, holds, n)
+
+    pub next_near : IsTrue (goes_on i) → distance area (suc at) < distance area at
+    next_near on = falls_nearer area ss v at (suc at) (i, holds, on, refl)
+
+  pub moved_falls : (to : ℕ) → distance area to < distance area at → work_at area to c < work_at area at c
+  moved_falls to near = step_falls (distance area at) (distance area to) (after c.returns) others near
+
+  pub left_falls : (to other : ℕ) → distance area to < distance area at → distance area other < distance area at → work_at area to (record c { points = point_of c other ∷ c.points }) < work_at area at c
+  left_falls to other near near_too = fork_falls (distance area at) (distance area to) (distance area other) (after c.returns) others near near_too
+
+  pub returned_falls : (r : Return) (later : List Return) → c.returns ≡ r ∷ later → work_at area r.to (record c { slots = r.slots; returns = later }) < work_at area at c
+  returned_falls r later is = subst (λ l. work (thread_of area r.to later ∷ others) < work (thread_of area at l ∷ others)) (sym is) (proceed_falls (distance area at) (distance area r.to) (after later) others)
+
+  pub back_less : work_back area c < work_at area at c
+  back_less = back_falls (distance area at) (after c.returns) others
+
+  -- a call brings no more than the most
+  module _ (to : ℕ) where
+    abbrev before : ℕ
+    before = weight (distance area at) * suc (return_work (after c.returns))
+
+    most_near : weight (distance area to) ≤ weight (length area.code)
+    most_near = weight_up (distance area to) (length area.code) (omega arith)
+
+    pub called_most : (registers slots : Places) → work_at area to (record c { registers = registers; slots = []; returns = record { to = suc at; slots = slots } ∷ c.returns }) ≤ most_work area (work_at area at c)
+    called_most registers slots =
+        let next = mul-le (weight (distance area (suc at))) (suc (return_work (after c.returns))) (weight (distance area at)) (suc (return_work (after c.returns))) (weight_up (distance area (suc at)) (distance area at) (omega arith)) (omega arith) in
+        most_with (weight (length area.code)) (weight (distance area to) * suc (weight (distance area (suc at)) * suc (return_work (after c.returns)))) before (work others) (weight_some (length area.code))
+        (mul-le (weight (distance area to)) (suc (weight (distance area (suc at)) * suc (return_work (after c.returns)))) (weight (length area.code)) (suc before) most_near (omega (arith, next)))
+
+    pub executed_most : (registers : Places) → work_at area to (record c { registers = registers }) ≤ most_work area (work_at area at c)
+    executed_most registers =
+        let one = mul-le 1 (suc (return_work (after c.returns))) (weight (distance area at)) (suc (return_work (after c.returns))) (weight_some (distance area at)) (omega arith) in
+        let is : 1 * suc (return_work (after c.returns)) ≡ suc (return_work (after c.returns)) = omega arith in
+        most_with (weight (length area.code)) (weight (distance area to) * suc (return_work (after c.returns))) before (work others) (weight_some (length area.code))
+        (mul-le (weight (distance area to)) (suc (return_work (after c.returns))) (weight (length area.code)) (suc before) most_near (omega (arith, one, is)))

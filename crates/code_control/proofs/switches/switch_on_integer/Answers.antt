@@ -1,0 +1,27 @@
+use Rattle.std.proofs.Common.{refl, sym, subst}
+use Rattle.heap_cells.specs.Cells.{Heaps, IsOf}
+use Rattle.heap_cells.specs.Seen.{IsSeen}
+use Rattle.heap_cells.specs.Valid.{IsHeap}
+use Rattle.wam_code.specs.declared.instruction.Code.TheVariants as step
+use Rattle.code_control.proofs.Deciding.{first_there, first_own, integer_switched}
+use Rattle.code_control.proofs.switches.switch_on_integer.Goals as goal
+
+pub register-requires : goal.register-requires
+register-requires g c =
+    first_there c.args.code.now c.args.branch.now c.args.at c.args.areas.now c.requires.safe (step.SwitchOnInteger c.requires.holds.0) c.requires.holds.1 refl
+
+pub deref-requires : goal.deref-requires
+deref-requires g c =
+    subst (λ (hs : Heaps). IsOf hs.now c.register.result) (sym c.heap.ensures) (first_own c.args.code.now c.args.branch.now c.args.at c.args.areas.now c.requires.safe c.register.result c.register.ensures)
+
+pub returns-clause-safe : goal.returns-clause-safe
+returns-clause-safe g c =
+    (integer_switched c.args.code.now c.args.branch.now c.args.at c.args.areas.now c.requires.safe c.register.result c.register.ensures c.deref.result (subst (λ (hs : Heaps). IsSeen hs.now c.register.result c.deref.result) c.heap.ensures c.deref.ensures.seen) (subst (λ (hs : Heaps). IsHeap hs.now) c.heap.ensures c.deref.ensures.valid) c.args.table.now c.requires.holds c.find_row.result c.find_row.ensures).0
+
+pub returns-clause-runs : goal.returns-clause-runs
+returns-clause-runs g c =
+    (integer_switched c.args.code.now c.args.branch.now c.args.at c.args.areas.now c.requires.safe c.register.result c.register.ensures c.deref.result (subst (λ (hs : Heaps). IsSeen hs.now c.register.result c.deref.result) c.heap.ensures c.deref.ensures.seen) (subst (λ (hs : Heaps). IsHeap hs.now) c.heap.ensures c.deref.ensures.valid) c.args.table.now c.requires.holds c.find_row.result c.find_row.ensures).1
+
+pub returns-clause-falls : goal.returns-clause-falls
+returns-clause-falls g c =
+    (integer_switched c.args.code.now c.args.branch.now c.args.at c.args.areas.now c.requires.safe c.register.result c.register.ensures c.deref.result (subst (λ (hs : Heaps). IsSeen hs.now c.register.result c.deref.result) c.heap.ensures c.deref.ensures.seen) (subst (λ (hs : Heaps). IsHeap hs.now) c.heap.ensures c.deref.ensures.valid) c.args.table.now c.requires.holds c.find_row.result c.find_row.ensures).2

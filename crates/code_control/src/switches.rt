@@ -1,0 +1,105 @@
+//! Switches: what the first argument shows decides which clauses are tried.
+ghost use Rattle.std.specs.Prelude.{◌≡◌, ◌<◌};
+ghost use Rattle.wam_code.specs.declared.instruction.Code.TheVariants as step;
+ghost use Rattle.wam_code.specs.Area.{Holds};
+ghost use Rattle.code_states.specs.Safety.{IsSafe, IsSafeThen};
+ghost use Rattle.code_control.specs.Rows.{IsSwitch, place_for};
+ghost use Rattle.code_states.specs.Stages.{KeepsRunning, RunsThen};
+ghost use Rattle.code_states.specs.Work.{work_at, work_then};
+
+use crate::rows::find_row;
+use branch_state::BranchState;
+use code_areas::Areas;
+use code_states::Went;
+use heap_cells::Seen;
+use propagate_queue::Agenda;
+use wam_code::{CodeArea, Key};
+
+/// Goes on at `v` where the first argument is a variable, at `c` where it is an atom, at `i` where it is an integer, and at `s` where it is
+/// a structure. No memory.
+#[inline]
+pub fn switch_on_term<A: Agenda + Drop>(
+    code: &CodeArea,
+    at: usize,
+    v: usize,
+    c: usize,
+    i: usize,
+    s: usize,
+    branch: &BranchState<A>,
+    areas: &Areas,
+) -> usize
+    requires safe { IsSafe code.now branch.now at 0 areas.now }
+    requires holds { Holds code.now at (step.SwitchOnTerm v c i s) }
+    ensures safe { IsSafe code.now branch.now result 0 areas.now }
+    ensures runs { KeepsRunning code.now branch.now at areas.now branch.now result areas.now }
+    ensures falls { work_at code.now result areas.now < work_at code.now at areas.now }
+{
+    place_for(branch.heap().deref(areas.register(1)), v, c, i, s)
+}
+
+/// The place for a variable, an atom, an integer or a structure.
+#[inline]
+fn place_for(seen: Seen<'_>, v: usize, c: usize, i: usize, s: usize) -> usize
+    ensures { result ≡ place_for seen.entry v c i s }
+{
+    match seen {
+        Seen::Open(_) | Seen::Constrained(_, _) => v,
+        Seen::Atom(_) => c,
+        Seen::Int(_) => i,
+        Seen::Struct(_, _) => s,
+    }
+}
+
+/// Goes on where the row of the table leads whose key is the first argument, or back where there is none. No memory.
+#[inline]
+pub fn switch_on_constant<A: Agenda + Drop>(
+    code: &CodeArea,
+    at: usize,
+    table: &[(Key, usize)],
+    branch: &BranchState<A>,
+    areas: &Areas,
+) -> Went
+    requires safe { IsSafe code.now branch.now at 0 areas.now }
+    requires holds { IsSwitch code.now at step.SwitchOnConstant table.now }
+    ensures safe { IsSafeThen code.now branch.now areas.now result }
+    ensures runs { RunsThen code.now branch.now at areas.now branch.now areas.now result }
+    ensures falls { work_then code.now areas.now result < work_at code.now at areas.now }
+{
+    find_row(branch.heap().deref(areas.register(1)), table)
+}
+
+/// The same for an integer.
+#[inline]
+pub fn switch_on_integer<A: Agenda + Drop>(
+    code: &CodeArea,
+    at: usize,
+    table: &[(Key, usize)],
+    branch: &BranchState<A>,
+    areas: &Areas,
+) -> Went
+    requires safe { IsSafe code.now branch.now at 0 areas.now }
+    requires holds { IsSwitch code.now at step.SwitchOnInteger table.now }
+    ensures safe { IsSafeThen code.now branch.now areas.now result }
+    ensures runs { RunsThen code.now branch.now at areas.now branch.now areas.now result }
+    ensures falls { work_then code.now areas.now result < work_at code.now at areas.now }
+{
+    find_row(branch.heap().deref(areas.register(1)), table)
+}
+
+/// The same for a structure, by its name and the number of its arguments.
+#[inline]
+pub fn switch_on_structure<A: Agenda + Drop>(
+    code: &CodeArea,
+    at: usize,
+    table: &[(Key, usize)],
+    branch: &BranchState<A>,
+    areas: &Areas,
+) -> Went
+    requires safe { IsSafe code.now branch.now at 0 areas.now }
+    requires holds { IsSwitch code.now at step.SwitchOnStructure table.now }
+    ensures safe { IsSafeThen code.now branch.now areas.now result }
+    ensures runs { RunsThen code.now branch.now at areas.now branch.now areas.now result }
+    ensures falls { work_then code.now areas.now result < work_at code.now at areas.now }
+{
+    find_row(branch.heap().deref(areas.register(1)), table)
+}

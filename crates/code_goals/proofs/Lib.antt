@@ -1,0 +1,10 @@
+pub mod Tasks
+pub mod Moving
+pub mod Safe
+pub mod Texts
+pub mod Numbers
+pub mod BuiltinGoals
+pub mod Constraining
+pub mod Posting
+pub mod Labelling
+pub mod Answering

@@ -1,0 +1,16 @@
+//! The goals of the language as instructions of a machine over code, and what an answer shows.
+#![tactic(auto)]
+
+mod answers;
+mod builtins;
+mod constraints;
+mod labels;
+mod next;
+mod ranges;
+
+pub use crate::answers::show_answer;
+pub use crate::builtins::take_builtin;
+pub use crate::constraints::take_constraint;
+pub use crate::labels::{Labelled, Tried, ValuesLeft, take_label, try_value};
+pub use crate::next::Next;
+pub use crate::ranges::take_post;

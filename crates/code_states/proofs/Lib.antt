@@ -1,0 +1,6 @@
+pub mod Equal
+pub mod Safety
+pub mod Standing
+pub mod Stages
+pub mod Starting
+pub mod Left

@@ -1,0 +1,7 @@
+pub mod Machine
+pub mod Safety
+pub mod Standing
+pub mod Equating
+pub mod Choices
+pub mod Stages
+pub mod Work

@@ -1,0 +1,84 @@
+use Rattle.std.proofs.Common.{◌≡◌, ◌++◌, length, All, ap, sym, ◌∙◌, subst, inl, inr}
+use Rattle.heap_cells.specs.Cells.{Heaps, IsOf}
+use Rattle.heap_cells.specs.Seen.{IsSeen}
+use Rattle.heap_cells.specs.declared.Seen.TheVariants as seen
+use Rattle.branch_state.specs.States.{IsCell}
+use Rattle.wam_code.specs.declared.instruction.Code.TheVariants.{GetStructure}
+use Rattle.code_states.specs.Safety.{IsSafe}
+use Rattle.code_states.proofs.Safety.{within_code}
+use Rattle.term_instructions.proofs.Steps.{same_behind, same_below}
+use Rattle.term_instructions.proofs.Head.{get_needs, get_started, get_atom, get_back_safe, args_own, get_other, get_constant_seen, get_built, get_read, other_atom, same_atom}
+use Rattle.term_instructions.proofs.structures.get_structure.Goals as goal
+use Rattle.term_instructions.proofs.structures.get_structure.Goals.{then-ne-via-then-ne, then-ne-via-else-ne+then-args-functor}
+
+pub register-argument-requires : goal.register-argument-requires
+register-argument-requires g c = get_needs c.args.code.now c.args.branch.now c.args.at c.args.areas.now c.requires.safe c.args.functor.0 c.args.functor.1 c.args.a c.requires.holds
+
+pub behind-from-requires : goal.behind-from-requires
+behind-from-requires g c = within_code c.args.code.now c.args.at (GetStructure c.args.functor.0 c.args.functor.1 c.args.a) c.requires.holds
+
+pub deref-requires : goal.deref-requires
+deref-requires g c = subst (λ (hs : Heaps). IsOf hs.now c.register-argument.result) (sym c.heap.ensures) (c.requires.safe.here.registers_own c.args.a c.register-argument.result c.register-argument.ensures).0
+
+pub build_argument-requires-clause-safe : goal.build_argument-requires-clause-safe
+build_argument-requires-clause-safe g c =
+    subst (λ k. IsSafe c.args.code.now c.args.branch.now k c.args.functor.1 c.args.areas.now) (sym c.behind-from.ensures)
+    (get_started c.args.code.now c.args.branch.now c.args.at c.args.areas.now c.requires.safe c.args.functor.0 c.args.functor.1 c.args.a c.requires.holds)
+
+pub build_argument-requires-clause-name : goal.build_argument-requires-clause-name
+build_argument-requires-clause-name g c = get_atom c.args.code.now c.args.branch.now c.args.at c.args.areas.now c.requires.safe c.args.functor.0 c.args.functor.1 c.args.a c.requires.holds
+
+pub build_argument-requires-clause-argument : goal.build_argument-requires-clause-argument
+build_argument-requires-clause-argument g c = c.requires.safe.here.registers_own c.args.a c.register-argument.result c.register-argument.ensures
+
+pub returns-in-Open : goal.returns-in-Open
+returns-in-Open g c =
+    let k = get_built c.args.code.now c.args.branch.now c.args.at c.args.areas.now c.requires.safe c.args.functor.0 c.args.functor.1 c.args.a c.requires.holds c.register-argument.result c.register-argument.ensures c.behind-from.result c.behind-from.ensures
+    c.build_argument.new.branch c.build_argument.new.areas c.build_argument.result c.build_argument.ensures in
+    record { safe = k.0; stands = k.1; leads = k.2; behind = k.3; below = k.4 }
+
+pub returns-then-ne-clause-stands : goal.returns-then-ne-clause-stands
+returns-then-ne-clause-stands g c =
+    let k = subst (λ (hs : Heaps). IsSeen hs.now c.register-argument.result (seen.Struct c.in-Struct.name c.in-Struct.args)) c.heap.ensures c.in-Struct.ensures.seen in
+    get_other c.args.code.now c.args.branch.now c.args.at c.args.areas.now c.requires.safe c.args.functor.0 c.args.functor.1 c.args.a c.requires.holds c.register-argument.result c.register-argument.ensures c.in-Struct.name c.in-Struct.args.now k.0 k.1 k.2 k.3
+    (elim c.then-ne.branch [ then-ne-via-then-ne w ↦ inl (other_atom c.in-Struct.name c.args.functor.0 w.if-ne.ensures) | then-ne-via-else-ne+then-args-functor w ↦ inr w.if-args-functor.true ])
+
+pub match_arguments-requires-clause-safe : goal.match_arguments-requires-clause-safe
+match_arguments-requires-clause-safe g c =
+    let all : c.deref-in-Struct.result.now ≡ c.in-Struct.args.now = c.deref-in-Struct.ensures.value ∙ c.in_ok-extend_from_slice-in-Struct.ensures.items ∙ ap (λ l. l ++ c.in-Struct.args.now) c.clear.ensures.items in
+    subst (λ n. IsSafe c.args.code.now c.args.branch.now c.behind-from.result n c.args.areas.now) (sym (ap length all ∙ c.if-args-functor.false))
+    (subst (λ k. IsSafe c.args.code.now c.args.branch.now k c.args.functor.1 c.args.areas.now) (sym c.behind-from.ensures)
+    (get_started c.args.code.now c.args.branch.now c.args.at c.args.areas.now c.requires.safe c.args.functor.0 c.args.functor.1 c.args.a c.requires.holds))
+
+pub match_arguments-requires-clause-own : goal.match_arguments-requires-clause-own
+match_arguments-requires-clause-own g c =
+    let k = subst (λ (hs : Heaps). IsSeen hs.now c.register-argument.result (seen.Struct c.in-Struct.name c.in-Struct.args)) c.heap.ensures c.in-Struct.ensures.seen in
+    let all : c.deref-in-Struct.result.now ≡ c.in-Struct.args.now = c.deref-in-Struct.ensures.value ∙ c.in_ok-extend_from_slice-in-Struct.ensures.items ∙ ap (λ l. l ++ c.in-Struct.args.now) c.clear.ensures.items in
+    subst (All (IsCell c.args.branch.now)) (sym all)
+    (args_own c.args.code.now c.args.branch.now c.args.at c.args.areas.now c.requires.safe c.args.functor.0 c.args.functor.1 c.args.a c.requires.holds c.register-argument.result c.register-argument.ensures c.in-Struct.name c.in-Struct.args.now k.0 k.1 k.2 k.3)
+
+pub returns-in_ok-extend_from_slice-in-Struct-clause-stands : goal.returns-in_ok-extend_from_slice-in-Struct-clause-stands
+returns-in_ok-extend_from_slice-in-Struct-clause-stands g c =
+    let k = subst (λ (hs : Heaps). IsSeen hs.now c.register-argument.result (seen.Struct c.in-Struct.name c.in-Struct.args)) c.heap.ensures c.in-Struct.ensures.seen in
+    let all : c.deref-in-Struct.result.now ≡ c.in-Struct.args.now = c.deref-in-Struct.ensures.value ∙ c.in_ok-extend_from_slice-in-Struct.ensures.items ∙ ap (λ l. l ++ c.in-Struct.args.now) c.clear.ensures.items in
+    (get_read c.args.code.now c.args.branch.now c.args.at c.args.areas.now c.requires.safe c.args.functor.0 c.args.functor.1 c.args.a c.requires.holds c.register-argument.result c.register-argument.ensures c.behind-from.result c.behind-from.ensures
+    c.match_arguments.new.branch c.match_arguments.new.areas c.in-Struct.name c.in-Struct.args.now k.0 k.1 k.2 k.3 (same_atom c.in-Struct.name c.args.functor.0 c.if-ne.ensures) c.if-args-functor.false
+    c.deref-in-Struct.result.now all c.clear-2.new.self.items c.clear-2.ensures.items c.match_arguments.result c.match_arguments.ensures).1
+
+pub returns-in_ok-extend_from_slice-in-Struct-clause-leads : goal.returns-in_ok-extend_from_slice-in-Struct-clause-leads
+returns-in_ok-extend_from_slice-in-Struct-clause-leads g c =
+    let k = subst (λ (hs : Heaps). IsSeen hs.now c.register-argument.result (seen.Struct c.in-Struct.name c.in-Struct.args)) c.heap.ensures c.in-Struct.ensures.seen in
+    let all : c.deref-in-Struct.result.now ≡ c.in-Struct.args.now = c.deref-in-Struct.ensures.value ∙ c.in_ok-extend_from_slice-in-Struct.ensures.items ∙ ap (λ l. l ++ c.in-Struct.args.now) c.clear.ensures.items in
+    (get_read c.args.code.now c.args.branch.now c.args.at c.args.areas.now c.requires.safe c.args.functor.0 c.args.functor.1 c.args.a c.requires.holds c.register-argument.result c.register-argument.ensures c.behind-from.result c.behind-from.ensures
+    c.match_arguments.new.branch c.match_arguments.new.areas c.in-Struct.name c.in-Struct.args.now k.0 k.1 k.2 k.3 (same_atom c.in-Struct.name c.args.functor.0 c.if-ne.ensures) c.if-args-functor.false
+    c.deref-in-Struct.result.now all c.clear-2.new.self.items c.clear-2.ensures.items c.match_arguments.result c.match_arguments.ensures).2
+
+pub returns-in_default : goal.returns-in_default
+returns-in_default g c = record {
+  safe = get_back_safe c.args.code.now c.args.branch.now c.args.at c.args.areas.now c.requires.safe c.args.functor.0 c.args.functor.1 c.args.a c.requires.holds;
+  stands = get_constant_seen c.args.code.now c.args.branch.now c.args.at c.args.areas.now c.requires.safe c.args.functor.0 c.args.functor.1 c.args.a c.requires.holds c.register-argument.result c.register-argument.ensures
+      c.deref.result (subst (λ (hs : Heaps). IsSeen hs.now c.register-argument.result c.deref.result) c.heap.ensures c.deref.ensures.seen) c.in_default.not-Open c.in_default.not-Struct;
+  leads = tt;
+  behind = same_behind c.args.areas.now;
+  below = same_below c.args.branch.now;
+}

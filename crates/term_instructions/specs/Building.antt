@@ -1,0 +1,67 @@
+-- The arguments of a structure that is built, gathered one by one.
+use Rattle.std.specs.Prelude.{◌≡◌, ℕ, zero, suc, ◌-◌, ◌≤◌, List, [], ◌∷◌, ◌++◌, length, All}
+use Rattle.fd_language.specs.declared.TheConstants.{INFINITY}
+use Rattle.fd_language.specs.Term.{Name}
+use Rattle.fd_model.specs.Goal.{Branch}
+use Rattle.heap_cells.specs.declared.Cell.{Cell}
+use Rattle.heap_cells.specs.declared.Cell.TheVariants as cell
+use Rattle.heap_cells.specs.Cells.{Cells, with_new_slot}
+use Rattle.heap_cells.specs.Terms.{Naming}
+use Rattle.branch_state.specs.States as branch
+use Rattle.branch_state.specs.States.{IsCell, IsSameBelow, IsSound, with_heap}
+use Rattle.term_pool.specs.declared.AtomId.{AtomId}
+use Rattle.wam_code.specs.Area.{Area, name_of}
+use Rattle.code_areas.specs.Areas.{Contents}
+use Rattle.code_steps.specs.Building.{End, GetEnd, PutEnd, Builds}
+use Rattle.code_states.specs.Machine.{registers_of, stack_of, IsSameBehind}
+use Rattle.code_states.specs.Safety.{IsSafe, IsSafeThen}
+use Rattle.code_states.specs.Standing.{IsNaming, StandsThen}
+use Rattle.code_states.specs.declared.went.Went.{Went}
+use Rattle.term_instructions.specs.Arguments.{LeadsFrom}
+
+-- what the structure is for: the head's argument with this cell, or a goal's argument in this register
+pub data Purpose : Type 0 where
+  for_head : Cell → Purpose
+  for_goal : ℕ → Purpose
+
+abbrev pub end_of : Area → List ℕ → Branch → Name → Purpose → End
+end_of area shown b f (for_head d) = GetEnd area shown b f
+end_of area shown b f (for_goal r) = PutEnd area shown b f r
+
+-- a head's argument is gathered first
+abbrev pub gathered : Purpose → List Cell → List Cell
+gathered (for_head d) cells = d ∷ cells
+gathered (for_goal r) cells = cells
+
+-- These cells are the first arguments of a structure with a name, of which so many are left to be given from the place on.
+abbrev pub BuildsAt : Area → List ℕ → Naming → Name → Purpose → branch.State → ℕ → Contents → List Cell → ℕ → Branch → Type 0
+BuildsAt area shown name f use' s at c cells left b = Builds INFINITY area shown name s.heaps.now s.levels.current.posted 0 at (registers_of c) (gathered use' cells) left (stack_of c) b (end_of area shown b f use')
+
+-- It is safe to go on to a structure's n arguments, and the machine stands for the same branches.
+pub record IsGatheredTo (area : Area) (n : ℕ) (s : branch.State) (at : ℕ) (c : Contents) (cells : List Cell) (s' : branch.State) (at' : ℕ) (c' : Contents) (cells' : List Cell) : Type 0 where
+  pub safe : IsSafe area s' at' (n - length cells') c'
+  pub within : length cells' ≤ n
+  pub leads : at ≤ at'
+  pub own : All (IsCell s') cells'
+  pub stays : (d : Cell) → IsCell s d → IsCell s' d
+  pub behind : IsSameBehind c c'
+  pub below : IsSameBelow s s'
+  pub keeps : (shown : List ℕ) (name : Naming) (f : Name) (use' : Purpose) (b : Branch) → IsNaming area name → BuildsAt area shown name f use' s at c cells (n - length cells) b → BuildsAt area shown name f use' s' at' c' cells' (n - length cells') b
+
+-- so many new variables of the heap are put behind the cells
+abbrev pub AddsVariables : ℕ → Cells → List Cell → Cells → List Cell → Type 0
+AddsVariables zero h cells h' cells' = (h' ≡ h) × (cells' ≡ cells)
+AddsVariables (suc n) h cells h' cells' = AddsVariables n (with_new_slot h) (cells ++ cell.Ref (length h.slots) ∷ []) h' cells'
+
+pub record AreVariablesAdded (n : ℕ) (s : branch.State) (cells : List Cell) (s' : branch.State) (cells' : List Cell) : Type 0 where
+  pub added : AddsVariables n s.heaps.now cells s'.heaps.now cells'
+  pub heap : s' ≡ with_heap s s'.heaps.now
+  pub sound : IsSound s'
+
+-- The structure was built and made equal to a head's argument with the cell d, and the machine stands for the same branches.
+pub record BuildsThen (area : Area) (f : AtomId) (n : ℕ) (d : Cell) (s : branch.State) (at : ℕ) (c : Contents) (s' : branch.State) (c' : Contents) (w : Went) : Type 0 where
+  pub safe : IsSafeThen area s' c' w
+  pub leads : LeadsFrom at w
+  pub behind : IsSameBehind c c'
+  pub below : IsSameBelow s s'
+  pub stands : (shown : List ℕ) (name : Naming) (b : Branch) → IsNaming area name → BuildsAt area shown name (name_of area f) (for_head d) s at c [] n b → StandsThen area shown name s' c' w b

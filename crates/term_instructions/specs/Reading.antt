@@ -1,0 +1,67 @@
+-- The arguments of a structure that is there, read one by one.
+use Rattle.std.specs.Prelude.{◌≡◌, ℕ, suc, ◌-◌, ◌≤◌, List, length, drop, All, Option, Some, None}
+use Rattle.fd_language.specs.declared.TheConstants.{INFINITY}
+use Rattle.fd_model.specs.Goal.{Branch}
+use Rattle.heap_cells.specs.declared.Cell.{Cell}
+use Rattle.heap_cells.specs.Terms.{Naming}
+use Rattle.unify_core.specs.declared.Touch.{Touch}
+use Rattle.branch_state.specs.States as branch
+use Rattle.branch_state.specs.States.{IsCell, IsSameBelow}
+use Rattle.branch_state.specs.Steps.{AreTouchesBelow, posted_with}
+use Rattle.wam_code.specs.Area.{Area}
+use Rattle.code_areas.specs.Areas.{Contents}
+use Rattle.code_steps.specs.Reading.{Reads}
+use Rattle.code_states.specs.Machine.{registers_of, stack_of, IsSameBehind}
+use Rattle.code_states.specs.Safety.{IsSafe, IsSafeBack, IsSafeThen}
+use Rattle.code_states.specs.Standing.{IsNaming, HasNoModel, StandsThen}
+use Rattle.term_instructions.specs.declared.reading.Reading.{Reading}
+use Rattle.code_states.specs.declared.went.Went.{Went}
+use Rattle.term_instructions.specs.Arguments.{LeadsFrom}
+
+-- The cells left are to be equal to the terms that the code gives from the place on, where what was touched is still to be posted.
+abbrev pub ReadsAt : Area → List ℕ → Naming → branch.State → List Touch → ℕ → Contents → List Cell → Branch → Type 0
+ReadsAt area shown name s told at c left b = Reads INFINITY area shown name s.heaps.now (posted_with s told) 0 at (registers_of c) left (stack_of c) b
+
+-- what was told has its variables
+abbrev pub AreTold : branch.State → List Touch → Type 0
+AreTold s told = AreTouchesBelow (length s.levels.current.sets) told
+
+-- It is safe to read on, and the machine stands for the same branches.
+pub record IsReadTo (area : Area) (cells : List Cell) (s : branch.State) (told : List Touch) (from : Reading) (c : Contents) (s' : branch.State) (told' : List Touch) (to : Reading) (c' : Contents) : Type 0 where
+  pub safe : IsSafe area s' to.at (length cells - to.next) c'
+  pub within : to.next ≤ length cells
+  pub leads : from.at ≤ to.at
+  pub own : All (IsCell s') cells
+  pub are_told : AreTold s' told'
+  pub behind : IsSameBehind c c'
+  pub below : IsSameBelow s s'
+  pub keeps : (shown : List ℕ) (name : Naming) (b : Branch) → IsNaming area name → ReadsAt area shown name s told from.at c (drop from.next cells) b → ReadsAt area shown name s' told' to.at c' (drop to.next cells) b
+
+-- It is safe to go back, and no such branch has a model.
+pub record IsRefused (area : Area) (cells : List Cell) (s : branch.State) (told : List Touch) (from : Reading) (c : Contents) (s' : branch.State) (c' : Contents) : Type 0 where
+  pub safe : IsSafeBack area s' c'
+  pub behind : IsSameBehind c c'
+  pub below : IsSameBelow s s'
+  pub none : (shown : List ℕ) (name : Naming) (b : Branch) → IsNaming area name → ReadsAt area shown name s told from.at c (drop from.next cells) b → HasNoModel b
+
+abbrev pub ReadsOn : Area → List Cell → branch.State → List Touch → Reading → Contents → branch.State → List Touch → Contents → Option Reading → Type 0
+ReadsOn area cells s told from c s' told' c' (Some to) = IsReadTo area cells s told from c s' told' to c'
+ReadsOn area cells s told from c s' told' c' None = IsRefused area cells s told from c s' c'
+
+-- the instruction behind is the next one
+abbrev pub IsNextPlace : ℕ → Option Reading → Type 0
+IsNextPlace at (Some to) = to.at ≡ suc at
+IsNextPlace at None = Unit {0}
+
+-- all of them are read
+abbrev pub ReadsAll : Area → List Cell → branch.State → List Touch → Reading → Contents → branch.State → List Touch → Contents → Option ℕ → Type 0
+ReadsAll area cells s told from c s' told' c' (Some at) = IsReadTo area cells s told from c s' told' (record { at = at; next = length cells }) c'
+ReadsAll area cells s told from c s' told' c' None = IsRefused area cells s told from c s' c'
+
+-- Reading has ended where this leads, and the machine stands for the same branches.
+pub record ReadsThen (area : Area) (cells : List Cell) (s : branch.State) (told : List Touch) (at : ℕ) (c : Contents) (s' : branch.State) (c' : Contents) (w : Went) : Type 0 where
+  pub safe : IsSafeThen area s' c' w
+  pub leads : LeadsFrom at w
+  pub behind : IsSameBehind c c'
+  pub below : IsSameBelow s s'
+  pub stands : (shown : List ℕ) (name : Naming) (b : Branch) → IsNaming area name → ReadsAt area shown name s told at c cells b → StandsThen area shown name s' c' w b

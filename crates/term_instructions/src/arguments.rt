@@ -1,0 +1,34 @@
+//! The arguments of a structure in code.
+ghost use Rattle.std.specs.Prelude.{◌<◌, length};
+ghost use Rattle.wam_code.specs.Area.{Holds};
+ghost use Rattle.term_instructions.specs.Arguments.{code_of, IsUnifyAt};
+
+use term_pool::AtomId;
+use wam_code::{CodeArea, Instr, Register};
+
+/// What an instruction of the unify group gives.
+#[derive(Clone, Copy)]
+pub(crate) enum Argument {
+    Variable(Register),
+    Value(Register),
+    Constant(AtomId),
+    Integer(i64),
+    Void(usize),
+}
+
+/// What the instruction at a place gives.
+#[inline]
+pub(crate) fn argument_at(code: &CodeArea, at: usize) -> Argument
+    requires there { at < length code.now.code }
+    requires unify { IsUnifyAt code.now at }
+    ensures { Holds code.now at (code_of result) }
+{
+    match code.instr(at) {
+        Instr::UnifyVariable(r) => Argument::Variable(r),
+        Instr::UnifyValue(r) => Argument::Value(r),
+        Instr::UnifyConstant(c) => Argument::Constant(c),
+        Instr::UnifyInteger(z) => Argument::Integer(z),
+        Instr::UnifyVoid(n) => Argument::Void(n),
+        _ => unreachable!(),
+    }
+}
