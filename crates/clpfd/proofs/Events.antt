@@ -16,10 +16,11 @@ use Rattle.machine_events.specs.declared.MachineEvent.TheVariants as events
 use Rattle.machine_events.specs.Events.{event_of}
 use Rattle.machine_relation.proofs.Next.{behind_other}
 use Rattle.clause_check.specs.Programs.{FlatProgram, no_query, query_at, query_in, program_in}
-use Rattle.wam_machine.specs.States.{State, StandsFor, query_of}
+use Rattle.wam_code.specs.Area.{Area}
+use Rattle.code_machine.specs.States.{State, StandsFor, names_in, names_of}
 use Rattle.clpfd.specs.declared.fault.Fault.{Fault}
 use Rattle.clpfd.specs.declared.fault.Fault.TheVariants as fault
-use Rattle.clpfd.specs.Endings.{SinkState, WroteAll, CutBy, Wrote, IsEnding, IsRunOf}
+use Rattle.clpfd.specs.Endings.{SinkState, WroteAll, CutBy, Wrote, IsEnding}
 use Rattle.clpfd.proofs.Written.{all_then, wrote_nothing, wrote_short, wrote_cut, cut_then, cut_longer}
 
 -- of the events es, those that are still to come
@@ -164,9 +165,8 @@ query_written steps answers prog n q qs old now mid new stopped here then out st
 
 -- ---- the loop over a machine's events
 
-pub same_query : (m n : State) → m.program ≡ n.program → m.query ≡ n.query → query_of m ≡ query_of n
-same_query m n e f =
-    ap (λ (p : FlatProgram). query_in p (query_at p m.query)) e ∙ ap (λ (q : ℕ). query_in n.program (query_at n.program q)) f
+pub same_names : (m n : State) → m.area ≡ n.area → m.query ≡ n.query → names_of m ≡ names_of n
+same_names m n e f = ap (λ (a : Area). names_in a m.query) e ∙ ap (λ (q : ℕ). names_in n.area q) f
 
 -- memory was wanting
 pub remain_short : {A : Type 0} (m : State) (old now : SinkState) (es : List Event) (r : ℕ) (result : Result A Fault) → Remain m old now es r → result ≡ Err fault.NoMemory → Wrote old now result (events_bytes es)
@@ -198,9 +198,6 @@ no_ending ev None h none = h
 no_ending ev (Some b) h none = absurd (none b refl)
 
 -- ---- the loop over a program's queries
-
-pub run_of : (m : State) (p : FlatProgram) (q steps : ℕ) (answers : Option ℕ) (es : List Event) (r : ℕ) → m.program ≡ p → m.query ≡ q → IsRunOf p q steps answers es r → IsRunOf m.program m.query steps answers es r
-run_of m p q steps answers es r e f h = subst (λ (x : FlatProgram). IsRunOf x m.query steps answers es r) (sym e) (subst (λ (n : ℕ). IsRunOf p n steps answers es r) (sym f) h)
 
 pub queries_from : (p : FlatProgram) (i : ℕ) → i < length p.queries → drop i (program_in p).queries ≡ query_in p (query_at p i) ∷ drop (i + 1) (program_in p).queries
 queries_from p i l =

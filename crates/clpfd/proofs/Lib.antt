@@ -2,6 +2,7 @@ mod Accepting
 mod OneOutput
 mod Written
 mod Judging
+mod Compiled
 mod Events
 mod Endings
 mod Tallies

@@ -17,7 +17,7 @@ use Rattle.machine_events.specs.declared.MachineEvent.{MachineEvent}
 use Rattle.machine_events.specs.declared.MachineEvent.TheVariants as events
 use Rattle.machine_events.specs.Events.{event_of}
 use Rattle.answer_text.specs.Events.{is_fixed}
-use Rattle.wam_machine.specs.States.{State, StandsFor}
+use Rattle.code_machine.specs.States.{State, StandsFor}
 use Rattle.clpfd.specs.declared.summary.Tally.{Tally}
 use Rattle.clpfd.specs.Summaries.{IsTally}
 use Rattle.clpfd.specs.Endings.{IsRunOf}

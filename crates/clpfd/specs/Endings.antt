@@ -1,13 +1,15 @@
 -- What was written when a call ends.
 use Rattle.std.specs.Prelude.{◌≡◌, ◌≤◌, ◌⊎◌, ℕ, List, [], ◌∷◌, Bool, true, false, Option, Some, None, Result, MatchResult}
 use Rattle.fd_language.specs.declared.TheConstants.{INFINITY}
-use Rattle.fd_model.specs.Goal.{Event, start_of}
+use Rattle.fd_model.specs.Goal.{Program, Query, Event, start_of}
 use Rattle.fd_model.specs.Output.{is_stop}
 use Rattle.fd_model.specs.Run.{Run}
 use Rattle.machine_events.specs.declared.MachineEvent.{MachineEvent}
 use Rattle.machine_events.specs.Events.{event_of}
 use Rattle.machine_relation.specs.Next.{is_final}
 use Rattle.clause_check.specs.Programs.{FlatProgram, program_in, query_at, query_in}
+use Rattle.wam_code.specs.Area.{Area}
+use Rattle.code_machine.specs.States.{MayRun}
 use Rattle.fd_model.specs.declared.Status.{Status}
 use Rattle.fd_model.specs.declared.Status.TheVariants.{WriteFault, NoMemory}
 use Rattle.byte_ports.specs.Ports.{Put, PutPart, Rose}
@@ -64,6 +66,11 @@ abbrev pub IsRunOf : FlatProgram → ℕ → ℕ → Option ℕ → List Event �
 IsRunOf p q steps answers es r =
     let query = query_in p (query_at p q) in
     Run INFINITY (program_in p) query steps answers (start_of query ∷ []) es r
+
+-- The run of the query that code has under a number, for some program that the code stands for.
+abbrev pub IsRunBy : Area → ℕ → ℕ → Option ℕ → List Event → ℕ → Type 0
+IsRunBy area number steps answers es r =
+    (prog : Program) × (query : Query) × MayRun area number prog query × Run INFINITY prog query steps answers (start_of query ∷ []) es r
 
 -- whether the event is the last one, and then whether it stops its query
 abbrev pub IsEnding : MachineEvent → Option Bool → Type 0

@@ -6,8 +6,8 @@ ghost use Rattle.fd_model.specs.Lines.{events_bytes};
 ghost use Rattle.fd_model.specs.Output.{Queries, VerdictOutput, is_stop};
 ghost use Rattle.term_pool.specs.Contents.{atom_name};
 ghost use Rattle.clause_check.specs.Programs.{program_in};
-ghost use Rattle.wam_machine.specs.States.{StandsFor, query_of};
-ghost use Rattle.clpfd.specs.Endings.{sink_at, Ending, IsEnding, IsRunOf, Wrote};
+ghost use Rattle.code_machine.specs.States.{StandsFor, names_of};
+ghost use Rattle.clpfd.specs.Endings.{sink_at, Ending, IsEnding, IsRunBy, Wrote};
 ghost use Rattle.clpfd.specs.Verdicts.{verdict_of, HasNames};
 
 use crate::fault::Fault;
@@ -15,6 +15,8 @@ use crate::judge::Verdict;
 use answer_text::{event_text, query_text, refusal_text};
 use byte_ports::{Sink, write_all};
 use clause_check::Program;
+use clause_compiler::compile;
+use code_machine::Machine;
 use command_words::{AgendaName, Options};
 use fd_language::{INFINITY, NoMemory};
 use fd_model::Status;
@@ -23,7 +25,7 @@ use propagate_queue::{Agenda, Cheapest, Fifo};
 use std::alloc::Global;
 use std::rc::Rc;
 use term_pool::{AtomId, Pool};
-use wam_machine::{CompiledProgram, Machine, compile};
+use wam_code::CodeArea;
 
 /// Writes the last lines of an output.
 pub fn put_last<K: Sink>(sink: &mut K, lines: &[u8], status: Status) -> Status
@@ -79,7 +81,7 @@ fn put_events<A: Agenda + Drop, K: Sink>(
     sink: &mut K,
 ) -> Result<bool, Fault>
     requires names { All (λ a. a.number < length pool.now.names) names.now }
-    requires own { map (atom_name pool.now) names.now ≡ (query_of machine).names }
+    requires own { map (atom_name pool.now) names.now ≡ names_of machine }
     ensures wrote { (es : List Event) (r : ℕ) → StandsFor machine es r
         → Wrote (sink_at (K.written sink.old) (K.faults sink.old)) (sink_at (K.written sink.new) (K.faults sink.new)) result (events_bytes es) }
     ensures stopped { (es : List Event) (r : ℕ) → StandsFor machine es r → IfOk result (λ stopped.
@@ -97,52 +99,56 @@ fn put_events<A: Agenda + Drop, K: Sink>(
 /// Writes the lines of the events of a query whose machine has this agenda, and tells whether the query was stopped.
 fn put_run<A: Agenda + Drop, K: Sink>(
     alloc: Global,
-    program: &Rc<CompiledProgram>,
+    code: &Rc<CodeArea>,
     query: usize,
     options: Options,
     agenda: A,
     sink: &mut K,
 ) -> Result<bool, Fault>
-    requires query { query < length program.now.value.queries }
+    requires query { query < length code.now.value.queries }
     requires limit { IsLimit options.answers }
     ensures wrote { (es : List Event) (r : ℕ)
-        → IsRunOf program.now.value query options.steps options.answers es r
+        → IsRunBy code.now.value query options.steps options.answers es r
         → Wrote (sink_at (K.written sink.old) (K.faults sink.old)) (sink_at (K.written sink.new) (K.faults sink.new)) result (events_bytes es) }
     ensures stopped { (es : List Event) (r : ℕ)
-        → IsRunOf program.now.value query options.steps options.answers es r
+        → IsRunBy code.now.value query options.steps options.answers es r
         → IfOk result (λ stopped. stopped ≡ is_stop es) }
 {
     let limits = Limits {
         steps: options.steps,
         answers: options.answers,
     };
-    let machine = Machine::new(alloc, Rc::clone(program)?, query, limits, agenda)?;
-    let source = program.program();
-    put_events(alloc, source.pool(), source.names(query), machine, sink)
+    let machine = Machine::new(alloc, Rc::clone(code)?, query, limits, agenda)?;
+    let parts = code.parts();
+    put_events(
+        alloc,
+        &parts.pool,
+        &parts.queries[query].names,
+        machine,
+        sink,
+    )
 }
 
 /// Writes the lines of a query's events, and tells whether the query was stopped.
 fn put_query<K: Sink>(
     alloc: Global,
-    program: &Rc<CompiledProgram>,
+    code: &Rc<CodeArea>,
     query: usize,
     options: Options,
     sink: &mut K,
 ) -> Result<bool, Fault>
-    requires query { query < length program.now.value.queries }
+    requires query { query < length code.now.value.queries }
     requires limit { IsLimit options.answers }
     ensures wrote { (es : List Event) (r : ℕ)
-        → IsRunOf program.now.value query options.steps options.answers es r
+        → IsRunBy code.now.value query options.steps options.answers es r
         → Wrote (sink_at (K.written sink.old) (K.faults sink.old)) (sink_at (K.written sink.new) (K.faults sink.new)) result (events_bytes es) }
     ensures stopped { (es : List Event) (r : ℕ)
-        → IsRunOf program.now.value query options.steps options.answers es r
+        → IsRunBy code.now.value query options.steps options.answers es r
         → IfOk result (λ stopped. stopped ≡ is_stop es) }
 {
     match options.agenda {
-        AgendaName::Fifo => put_run(alloc, program, query, options, Fifo::new(alloc), sink),
-        AgendaName::Cheapest => {
-            put_run(alloc, program, query, options, Cheapest::new(alloc), sink)
-        }
+        AgendaName::Fifo => put_run(alloc, code, query, options, Fifo::new(alloc), sink),
+        AgendaName::Cheapest => put_run(alloc, code, query, options, Cheapest::new(alloc), sink),
     }
 }
 
@@ -163,12 +169,14 @@ fn put_program<K: Sink>(
         (program_in program).queries out stop
         → IfOk result (λ stopped. stopped ≡ stop) }
 {
+    program.known();
     let count = program.queries();
-    let compiled = Rc::new(alloc, compile(alloc, program)?)?;
+    let code = compile(alloc, program)?;
+    let shared = Rc::new(alloc, code)?;
     let mut stopped = false;
     for query in 0..count {
         put_line(sink, &query_text(alloc, query + 1)?)?;
-        if put_query(alloc, &compiled, query, options, sink)? {
+        if put_query(alloc, &shared, query, options, sink)? {
             stopped = true;
         }
     }

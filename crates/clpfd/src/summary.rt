@@ -11,7 +11,7 @@ ghost use Rattle.fd_model.specs.Verdict.{IsVerdict, accepted};
 ghost use Rattle.answer_text.specs.Events.{is_fixed};
 ghost use Rattle.command_words.specs.Words.{asked};
 ghost use Rattle.machine_events.specs.Events.{event_of};
-ghost use Rattle.wam_machine.specs.States.{StandsFor};
+ghost use Rattle.code_machine.specs.States.{StandsFor};
 ghost use Rattle.clpfd.specs.Endings.{sink_at, Ending, IsRunOf};
 ghost use Rattle.clpfd.specs.Summaries.{IsTally};
 
@@ -21,6 +21,8 @@ use crate::queens::queens_text;
 use answer_text::summary_text;
 use byte_ports::Sink;
 use clause_check::Program;
+use clause_compiler::compile;
+use code_machine::Machine;
 use command_words::{AgendaName, Options};
 use fd_language::NoMemory;
 use fd_model::Status;
@@ -28,7 +30,6 @@ use machine_events::{Limits, MachineEvent};
 use propagate_queue::{Agenda, Cheapest, Fifo};
 use std::alloc::Global;
 use std::rc::Rc;
-use wam_machine::{Machine, compile};
 
 /// How a run went: its answers, its reductions, whether it was stopped, and its last event.
 #[derive(Drop)]
@@ -89,8 +90,10 @@ fn count_query<A: Agenda + Drop>(
         steps: options.steps,
         answers: options.answers,
     };
-    let compiled = Rc::new(alloc, compile(alloc, program)?)?;
-    count_events(Machine::new(alloc, compiled, 0, limits, agenda)?)
+    program.known();
+    let code = compile(alloc, program)?;
+    let machine = Machine::new(alloc, Rc::new(alloc, code)?, 0, limits, agenda)?;
+    count_events(machine)
 }
 
 /// Runs the first query of a program.

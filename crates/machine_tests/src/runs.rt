@@ -3,6 +3,8 @@
 ghost use Rattle.fd_model.specs.Run.{IsLimit};
 
 use clause_check::{Program, check_program};
+use clause_compiler::compile;
+use code_machine::Machine;
 use fd_language::NoMemory;
 use fd_model::kinds::QueryFault;
 use machine_events::{Limits, MachineEvent};
@@ -11,7 +13,6 @@ use std::alloc::Global;
 use std::rc::Rc;
 use std::test::Fail;
 use term_reader::read_sentences;
-use wam_machine::{Machine, compile};
 
 fn program_of(alloc: Global, text: &str) -> Result<Program, Fail> {
     let Ok(sentences) = read_sentences(alloc, text) else {
@@ -50,12 +51,11 @@ fn run<A: Agenda + Drop>(
 ) -> Result<String, Fail>
     requires { IsLimit limits.answers }
 {
-    let program = program_of(alloc, text)?;
-    if program.queries() == 0 {
+    let code = compile(alloc, program_of(alloc, text)?)?;
+    if code.queries() == 0 {
         return Err(Fail::new("no query"));
     }
-    let code = Rc::new(alloc, compile(alloc, program)?)?;
-    let mut machine = Machine::new(alloc, code, 0, limits, agenda)?;
+    let mut machine = Machine::new(alloc, Rc::new(alloc, code)?, 0, limits, agenda)?;
     let mut lines = String::new(alloc);
     for _ in 0..events {
         let event = machine.next()?;

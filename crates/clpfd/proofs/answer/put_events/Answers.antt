@@ -1,23 +1,23 @@
 use Rattle.std.proofs.Common.{rules, ◌≡◌, ◌∙◌, refl, sym, ap, map, List, ℕ, [], ◌∷◌, true}
 use Rattle.fd_language.specs.Term.{Name}
-use Rattle.fd_model.specs.Goal.{Event, Query}
+use Rattle.fd_model.specs.Goal.{Event}
 use Rattle.fd_model.specs.Lines.{event_bytes, events_bytes}
 use Rattle.fd_model.specs.Output.{is_stop}
 use Rattle.machine_relation.specs.Next.{is_final}
 use Rattle.term_pool.specs.Contents.{atom_name}
 use Rattle.machine_events.specs.Events.{event_of}
-use Rattle.wam_machine.specs.States.{query_of, StandsFor}
+use Rattle.code_machine.specs.States.{names_of, StandsFor}
 use Rattle.clpfd.specs.Endings.{SinkState, sink_at, WroteAll}
-use Rattle.clpfd.proofs.Events.{same_query, remain_all, remain_short, remain_cut, remain_more, remain_none, no_ending}
+use Rattle.clpfd.proofs.Events.{same_names, remain_all, remain_short, remain_cut, remain_more, remain_none, no_ending}
 use Rattle.clpfd.proofs.answer.put_events.Given.{Over}
 use Rattle.clpfd.proofs.answer.put_events.Goals.{After-put_line}
 use Rattle.clpfd.proofs.answer.put_events.Goals as goal
 
 -- the line is that of the event
-line_is : (g : Over) (c : After-put_line g) → c.deref.result.now ≡ event_bytes (event_of (query_of c.events.machine).names c.in_ok-event.event)
+line_is : (g : Over) (c : After-put_line g) → c.deref.result.now ≡ event_bytes (event_of (names_of c.events.machine) c.in_ok-event.event)
 line_is g c =
     let names : List Name = map (atom_name c.args.pool.now) c.args.names.now in
-    let named : names ≡ (query_of c.events.machine).names = c.requires.own ∙ ap (λ (q : Query). q.names) (sym (same_query c.events.machine c.args.machine c.events.invariant.program c.events.invariant.query)) in
+    let named : names ≡ names_of c.events.machine = c.requires.own ∙ sym (same_names c.events.machine c.args.machine c.events.invariant.area c.events.invariant.query) in
     c.deref.ensures.value ∙ c.in_ok-event_text.ensures ∙ ap (λ (ns : List Name). event_bytes (event_of ns c.in_ok-event.event)) named
 
 -- with the line of a final event all is written
@@ -27,11 +27,11 @@ all_written : (g : Over) (c : After-put_line g) (es : List Event) (r : ℕ) → 
     × (is_stop es ≡ is_stop (event_of [] c.in_ok-event.event ∷ []))
 all_written g c es r h final w =
     remain_none c.events.machine (sink_at (g.K.Sink.written c.args.sink.now) (g.K.Sink.faults c.args.sink.now)) (sink_at (g.K.Sink.written c.events.sink) (g.K.Sink.faults c.events.sink))
-    (sink_at (g.K.Sink.written c.put_line.new.sink) (g.K.Sink.faults c.put_line.new.sink)) es r (query_of c.events.machine).names c.in_ok-event.event c.deref.result.now
+    (sink_at (g.K.Sink.written c.put_line.new.sink) (g.K.Sink.faults c.put_line.new.sink)) es r (names_of c.events.machine) c.in_ok-event.event c.deref.result.now
     final (c.events.invariant.remain es r h) c.in_ok-event.ensures.last (line_is g c) w
 
 pub events-init : goal.events-init
-events-init g c = record { program = refl; query = refl; remain = λ es r h. remain_all c.args.machine (sink_at (g.K.Sink.written c.args.sink.now) (g.K.Sink.faults c.args.sink.now)) es r h }
+events-init g c = record { area = refl; query = refl; remain = λ es r h. remain_all c.args.machine (sink_at (g.K.Sink.written c.args.sink.now) (g.K.Sink.faults c.args.sink.now)) es r h }
 
 pub returns-in_err-event-clause-wrote : goal.returns-in_err-event-clause-wrote
 returns-in_err-event-clause-wrote g c = λ es r h.
@@ -50,8 +50,8 @@ returns-in_err-put_line-clause-wrote g c = λ es r h.
     let old : SinkState = sink_at (g.K.Sink.written c.args.sink.now) (g.K.Sink.faults c.args.sink.now) in
     let now : SinkState = sink_at (g.K.Sink.written c.events.sink) (g.K.Sink.faults c.events.sink) in
     let new : SinkState = sink_at (g.K.Sink.written c.put_line.new.sink) (g.K.Sink.faults c.put_line.new.sink) in
-    remain_cut c.events.machine c.next.new.self old now new es r (event_of (query_of c.events.machine).names c.in_ok-event.event) c.deref.result.now c.in_err-put_line.field-0.0 c.from_residual-in_err-put_line.result
-    (c.events.invariant.remain es r h) c.in_ok-event.ensures.next (line_is g (goal.at.returns-in_err-put_line-clause-wrote g c).After-put_line) c.in_err-put_line.ensures (search rules)
+    remain_cut c.events.machine c.next.new.self old now new es r (event_of (names_of c.events.machine) c.in_ok-event.event) c.deref.result.now c.in_err-put_line.field-0.0 c.from_residual-in_err-put_line.result
+    (c.events.invariant.remain es r h) c.in_ok-event.ensures.next (line_is g (goal.at.returns-in_err-put_line-clause-wrote g c).After-put_line) c.in_err-put_line.ensures (search (c.from_residual-in_err-put_line.ensures, rules))
 
 pub events-preserved : goal.events-preserved
 events-preserved g c =
@@ -60,9 +60,9 @@ events-preserved g c =
     let new : SinkState = sink_at (g.K.Sink.written c.put_line.new.sink) (g.K.Sink.faults c.put_line.new.sink) in
     let more = no_ending c.in_ok-event.event c.ending.result c.ending.ensures c.in_default.not-Some in
     record {
-      program = c.in_ok-event.ensures.same.0 ∙ c.events.invariant.program;
+      area = c.in_ok-event.ensures.same.0 ∙ c.events.invariant.area;
       query = c.in_ok-event.ensures.same.1 ∙ c.events.invariant.query;
-      remain = λ es r h. remain_more c.events.machine c.next.new.self old now new es r (query_of c.events.machine).names c.in_ok-event.event c.deref.result.now more
+      remain = λ es r h. remain_more c.events.machine c.next.new.self old now new es r (names_of c.events.machine) c.in_ok-event.event c.deref.result.now more
           (c.events.invariant.remain es r h) c.in_ok-event.ensures.next (line_is g (goal.at.events-preserved g c).After-put_line) c.in_ok-put_line.ensures;
     }
 
@@ -73,9 +73,9 @@ events-preserved-in_default g c =
     let new : SinkState = sink_at (g.K.Sink.written c.put_line.new.sink) (g.K.Sink.faults c.put_line.new.sink) in
     let more = no_ending c.in_ok-event.event c.ending.result c.ending.ensures c.in_default.not-Some in
     record {
-      program = c.in_ok-event.ensures.same.0 ∙ c.events.invariant.program;
+      area = c.in_ok-event.ensures.same.0 ∙ c.events.invariant.area;
       query = c.in_ok-event.ensures.same.1 ∙ c.events.invariant.query;
-      remain = λ es r h. remain_more c.events.machine c.next.new.self old now new es r (query_of c.events.machine).names c.in_ok-event.event c.deref.result.now more
+      remain = λ es r h. remain_more c.events.machine c.next.new.self old now new es r (names_of c.events.machine) c.in_ok-event.event c.deref.result.now more
           (c.events.invariant.remain es r h) c.in_ok-event.ensures.next (line_is g (goal.at.events-preserved-in_default g c).After-put_line) c.in_ok-put_line.ensures;
     }
 
@@ -86,9 +86,9 @@ events-preserved-in_default-2 g c =
     let new : SinkState = sink_at (g.K.Sink.written c.put_line.new.sink) (g.K.Sink.faults c.put_line.new.sink) in
     let more = no_ending c.in_ok-event.event c.ending.result c.ending.ensures c.in_default.not-Some in
     record {
-      program = c.in_ok-event.ensures.same.0 ∙ c.events.invariant.program;
+      area = c.in_ok-event.ensures.same.0 ∙ c.events.invariant.area;
       query = c.in_ok-event.ensures.same.1 ∙ c.events.invariant.query;
-      remain = λ es r h. remain_more c.events.machine c.next.new.self old now new es r (query_of c.events.machine).names c.in_ok-event.event c.deref.result.now more
+      remain = λ es r h. remain_more c.events.machine c.next.new.self old now new es r (names_of c.events.machine) c.in_ok-event.event c.deref.result.now more
           (c.events.invariant.remain es r h) c.in_ok-event.ensures.next (line_is g (goal.at.events-preserved-in_default-2 g c).After-put_line) c.in_ok-put_line.ensures;
     }
 

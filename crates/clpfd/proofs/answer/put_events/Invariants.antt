@@ -1,6 +1,6 @@
 use Rattle.std.proofs.Common.{◌≡◌, ℕ, List}
 use Rattle.fd_model.specs.Goal.{Event}
-use Rattle.wam_machine.specs.States.{StandsFor, left}
+use Rattle.code_machine.specs.States.{StandsFor, left}
 use Rattle.clpfd.specs.Endings.{sink_at}
 use Rattle.clpfd.proofs.Events.{Remain}
 use Rattle.clpfd.proofs.answer.put_events.Given as goal
@@ -8,7 +8,7 @@ use Rattle.clpfd.proofs.answer.put_events.Given as goal
 abbrev pub invariant-events : goal.invariant-events
 invariant-events g l =
     record {
-      program : l.machine.program ≡ l.fn.machine.program;
+      area : l.machine.area ≡ l.fn.machine.area;
       query : l.machine.query ≡ l.fn.machine.query;
       remain : (es : List Event) (r : ℕ) → StandsFor l.fn.machine es r
           → Remain l.machine (sink_at (g.K.Sink.written l.fn.sink) (g.K.Sink.faults l.fn.sink)) (sink_at (g.K.Sink.written l.sink) (g.K.Sink.faults l.sink)) es r;

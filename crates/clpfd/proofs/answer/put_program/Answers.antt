@@ -1,17 +1,33 @@
 use Rattle.std.proofs.Common.{rules, ◌≡◌, ◌+◌, ◌<◌, ◌++◌, ◌∙◌, sym, ap, subst, length, [], codes, decimal, drop}
 use Rattle.fd_model.specs.Lines.{line}
 use Rattle.fd_model.specs.Output.{or_stop}
-use Rattle.clause_check.specs.Programs.{FlatProgram, program_in, query_at, query_in}
-use Rattle.clpfd.specs.Endings.{SinkState, sink_at, WroteAll, IsRunOf}
+use Rattle.clause_check.specs.Programs.{program_in, query_at, query_in}
+use Rattle.wam_code.specs.Area.{Area}
+use Rattle.clpfd.specs.Endings.{SinkState, sink_at, WroteAll, IsRunBy}
+use Rattle.clpfd.proofs.Compiled.{has_query, run_by}
 use Rattle.clpfd.proofs.Written.{wrote_nothing, wrote_short}
 use Rattle.clpfd.proofs.Events.{program_next, program_written, line_cut, events_cut, query_written, or_true, or_false}
 use Rattle.clpfd.proofs.answer.put_program.Goals as goal
 use Rattle.clpfd.proofs.answer.put_program.Goals.{then-branch, else-branch}
 
-pub returns-in_err-compiled-clause-wrote : goal.returns-in_err-compiled-clause-wrote
-returns-in_err-compiled-clause-wrote g c = λ out stop h.
+pub returns-in_err-code-clause-wrote : goal.returns-in_err-code-clause-wrote
+returns-in_err-code-clause-wrote g c = λ out stop h.
     let s : SinkState = sink_at (g.K.Sink.written c.args.sink.now) (g.K.Sink.faults c.args.sink.now) in
-    wrote_short s s c.from_residual-in_err-compiled.result [] out (search rules) (wrote_nothing s)
+    wrote_short s s c.from_residual.result [] out (search rules) (wrote_nothing s)
+
+pub returns-in_err-shared-clause-wrote : goal.returns-in_err-shared-clause-wrote
+returns-in_err-shared-clause-wrote g c = λ out stop h.
+    let s : SinkState = sink_at (g.K.Sink.written c.args.sink.now) (g.K.Sink.faults c.args.sink.now) in
+    wrote_short s s c.from_residual-in_err-shared.result [] out (search rules) (wrote_nothing s)
+
+pub put_query-requires-clause-query : goal.put_query-requires-clause-query
+put_query-requires-clause-query g c =
+    let p = c.args.program in
+    let i = c.loop-query.query in
+    let size : i < length p.queries = search rules in
+    let area : Area = c.in_ok-code.code in
+    let shared : c.in_ok-shared.shared.value ≡ area = search rules in
+    subst (λ (a : Area). i < length a.queries) (sym shared) (has_query area p c.in_ok-code.ensures i size)
 
 pub returns-in_err-put_line-clause-wrote : goal.returns-in_err-put_line-clause-wrote
 returns-in_err-put_line-clause-wrote g c = λ out stop h.
@@ -35,8 +51,10 @@ returns-in_err-put_query-clause-wrote g c = λ out stop h.
     let size : i < length p.queries = search rules in
     let first : c.deref.result.now ≡ line (codes "query " ++ decimal (i + 1)) = c.deref.ensures.value ∙ c.in_ok-query_text.ensures in
     let k = program_next c.args.options.steps c.args.options.answers p i old now c.loop-query.stopped out stop size (c.loop-query.invariant out stop h) in
-    let shared : c.in_ok-compiled.compiled.value ≡ p = search rules in
-    let run = subst (λ (q : FlatProgram). IsRunOf q i c.args.options.steps c.args.options.answers k.events k.spent) (sym shared) k.run in
+    let area : Area = c.in_ok-code.code in
+    let shared : c.in_ok-shared.shared.value ≡ area = search rules in
+    let run = subst (λ (a : Area). IsRunBy a i c.args.options.steps c.args.options.answers k.events k.spent) (sym shared)
+    (run_by area p c.known.ensures c.in_ok-code.ensures i size c.args.options.steps c.args.options.answers k.events k.spent k.run) in
     let mid : SinkState = sink_at (g.K.Sink.written c.put_line.new.sink) (g.K.Sink.faults c.put_line.new.sink) in
     let new : SinkState = sink_at (g.K.Sink.written c.put_query.new.sink) (g.K.Sink.faults c.put_query.new.sink) in
     events_cut c.args.options.steps c.args.options.answers (program_in p) (i + 1) (query_in p (query_at p i)) (drop (i + 1) (program_in p).queries) old now mid new c.loop-query.stopped out stop c.deref.result.now c.in_err-put_query.field-0.0 c.from_residual-in_err-put_query.result
@@ -51,8 +69,10 @@ loop-query-preserved g c = λ out stop h.
     let size : i < length p.queries = search rules in
     let first : c.deref.result.now ≡ line (codes "query " ++ decimal (i + 1)) = c.deref.ensures.value ∙ c.in_ok-query_text.ensures in
     let k = program_next c.args.options.steps c.args.options.answers p i old now c.loop-query.stopped out stop size (c.loop-query.invariant out stop h) in
-    let shared : c.in_ok-compiled.compiled.value ≡ p = search rules in
-    let run = subst (λ (q : FlatProgram). IsRunOf q i c.args.options.steps c.args.options.answers k.events k.spent) (sym shared) k.run in
+    let area : Area = c.in_ok-code.code in
+    let shared : c.in_ok-shared.shared.value ≡ area = search rules in
+    let run = subst (λ (a : Area). IsRunBy a i c.args.options.steps c.args.options.answers k.events k.spent) (sym shared)
+    (run_by area p c.known.ensures c.in_ok-code.ensures i size c.args.options.steps c.args.options.answers k.events k.spent k.run) in
     let mid : SinkState = sink_at (g.K.Sink.written c.put_line.new.sink) (g.K.Sink.faults c.put_line.new.sink) in
     let new : SinkState = sink_at (g.K.Sink.written c.put_query.new.sink) (g.K.Sink.faults c.put_query.new.sink) in
     let before = c.loop-query.stopped in

@@ -1,6 +1,6 @@
 use Rattle.std.proofs.Common.{ℕ, List}
 use Rattle.fd_model.specs.Goal.{Event}
-use Rattle.wam_machine.specs.States.{StandsFor, left}
+use Rattle.code_machine.specs.States.{StandsFor, left}
 use Rattle.clpfd.proofs.Tallies.{Counted}
 use Rattle.clpfd.proofs.summary.count_events.Given as goal
 

@@ -1,0 +1,156 @@
+-- The steps by the stages that they begin and end at.
+use Rattle.std.proofs.Common.{◌≡◌, ℕ, zero, suc, ◌+◌, ◌-◌, ◌<◌, List, [], ◌∷◌, length, Option, refl, sym, subst, arith}
+use Rattle.term_pool.proofs.Names.{slice_get_found}
+use Rattle.machine_events.specs.declared.MachineEvent.{MachineEvent}
+use Rattle.machine_events.specs.declared.MachineEvent.TheVariants as event
+use Rattle.machine_events.specs.declared.Shown.{Shown}
+use Rattle.branch_state.specs.States as branch
+use Rattle.wam_code.specs.declared.instruction.Code.{Code}
+use Rattle.wam_code.specs.declared.instruction.Code.TheVariants as step
+use Rattle.wam_code.specs.Area.{Area, Span, Holds, HasQuery}
+use Rattle.code_areas.specs.Areas.{Point, Contents}
+use Rattle.code_steps.proofs.Goals.{TakesGoal}
+use Rattle.code_states.specs.declared.went.Went.{Went}
+use Rattle.code_states.specs.Safety.{IsSafe}
+use Rattle.code_states.proofs.Safety.{place_within}
+use Rattle.code_goals.specs.declared.next.Next.{Next}
+use Rattle.code_goals.specs.Answers.{IsInQuery, ShowsAnswer}
+use Rattle.code_machine.specs.declared.run.Ending.{Ending}
+use Rattle.code_machine.specs.declared.run.Ending.TheVariants as ending
+use Rattle.code_machine.specs.declared.run.Label.{Label}
+use Rattle.code_machine.specs.declared.run.Stage.{Stage}
+use Rattle.code_machine.specs.declared.run.Stage.TheVariants.{Going, Returning, Ended}
+use Rattle.code_machine.specs.Labels.{AreLabels}
+use Rattle.code_machine.specs.States.{State, last_event, IsMachine, IsQuiet, IsStep, Says, behind_answer, one_fewer}
+use Rattle.code_machine.specs.Steps.{Moves, Spends, ComesBack, IsCall, IsGoal, stage_of, stage_next, event_next}
+use Rattle.code_machine.proofs.Running.{seen, moved_machine, moved_quiet, back_machine, back_quiet, spent_machine, spent_step, budget_says, none_says, ended_says, answer_machine, answer_says}
+
+-- a goal takes one of those still to come
+pub goal_takes : (i : Code) → IsGoal i → TakesGoal i
+goal_takes (step.Builtin k) g = tt
+goal_takes (step.Constrain k) g = tt
+goal_takes (step.Label o) g = tt
+goal_takes (step.PostRange r n) g = tt
+goal_takes _ g = absurd g
+
+-- so does a call
+pub call_takes : (i : Code) → IsCall i → TakesGoal i
+call_takes (step.Call e) g = tt
+call_takes (step.Execute e) g = tt
+call_takes (step.Either to) g = tt
+call_takes _ g = absurd g
+
+module _ (area : Area) (query : ℕ) (s : branch.State) (c : Contents) (ls : List Label) (st : Stage) (n : ℕ) (k : Option ℕ) (spent : ℕ) (m : IsMachine (seen area query s c ls st n k spent)) where
+  abbrev old : State
+  old = seen area query s c ls st n k spent
+
+  -- ---- at a place
+
+  module _ (at : ℕ) (is : st ≡ Going at) where
+    going : IsMachine (seen area query s c ls (Going at) n k spent)
+    going = subst (λ x. IsMachine (seen area query s c ls x n k spent)) is m
+
+    pub going_safe : IsSafe area s at 0 c
+    going_safe = going.ready.0
+
+    pub going_labels : AreLabels area c.points s.heaps.below ls
+    going_labels = going.ready.1
+
+    pub going_within : at < length area.code
+    going_within = place_within area s at 0 c going_safe
+
+    module _ (s' : branch.State) (c' : Contents) (st' : Stage) where
+      -- an instruction that spends nothing
+      module _ (w : Went) (moves : Moves area s at c s' c' w) (is' : st' ≡ stage_of w) where
+        pub moves_machine : IsMachine (seen area query s' c' ls st' n k spent)
+        moves_machine = subst (λ x. IsMachine (seen area query s' c' ls x n k spent)) (sym is') (moved_machine area query s s' c c' ls n k spent at w moves going)
+
+        pub moves_quiet : IsQuiet old (seen area query s' c' ls st' n k spent)
+        moves_quiet =
+            subst (λ x. IsQuiet (seen area query s c ls x n k spent) (seen area query s' c' ls st' n k spent)) (sym is)
+            (subst (λ x. IsQuiet (seen area query s c ls (Going at) n k spent) (seen area query s' c' ls x n k spent)) (sym is') (moved_quiet area query s s' c c' ls n k spent at w moves going))
+
+      -- a goal
+      module _ (some : n ≡ 0 → ⊥) (ls' : List Label) (x : Next) (spends : Spends area s at c ls s' c' ls' x) (is' : st' ≡ stage_next x) where
+        one_less : n ≡ suc (n - 1)
+        one_less = least n some
+          where
+            least : (n : ℕ) → (n ≡ 0 → ⊥) → n ≡ suc (n - 1)
+            least zero h = absurd (h refl)
+            least (suc n) h = omega arith
+
+        before : IsMachine (seen area query s c ls (Going at) (suc (n - 1)) k spent)
+        before = subst (λ j. IsMachine (seen area query s c ls (Going at) j k spent)) one_less going
+
+        pub spends_machine : IsMachine (seen area query s' c' ls' st' (n - 1) k (spent + 1))
+        spends_machine = subst (λ y. IsMachine (seen area query s' c' ls' y (n - 1) k (spent + 1))) (sym is') (spent_machine area query s s' at c c' ls ls' (n - 1) k spent x spends before)
+
+        pub spends_step : (o : Option MachineEvent) → o ≡ event_next x → IsStep old o (seen area query s' c' ls' st' (n - 1) k (spent + 1))
+        spends_step o said =
+            subst (λ y. IsStep (seen area query s c ls y n k spent) o (seen area query s' c' ls' st' (n - 1) k (spent + 1))) (sym is)
+            (subst (λ j. IsStep (seen area query s c ls (Going at) j k spent) o (seen area query s' c' ls' st' (n - 1) k (spent + 1))) (sym one_less)
+            (subst (λ y. IsStep (seen area query s c ls (Going at) (suc (n - 1)) k spent) o (seen area query s' c' ls' y (n - 1) k (spent + 1))) (sym is')
+            (subst (λ y. IsStep (seen area query s c ls (Going at) (suc (n - 1)) k spent) y (seen area query s' c' ls' (stage_next x) (n - 1) k (spent + 1))) (sym said)
+            (spent_step area query s s' at c c' ls ls' (n - 1) k spent x spends before))))
+
+    -- no reduction is left for it
+    pub no_budget : (i : Code) → Holds area at i → TakesGoal i → n ≡ 0 → Says old event.Budget (seen area query s c ls (Ended ending.Budget) n k spent)
+    no_budget i holds takes none =
+        subst (λ y. Says (seen area query s c ls y n k spent) event.Budget (seen area query s c ls (Ended ending.Budget) n k spent)) (sym is)
+        (subst (λ j. Says (seen area query s c ls (Going at) j k spent) event.Budget (seen area query s c ls (Ended ending.Budget) j k spent)) (sym none)
+        (budget_says area query s c ls k spent at i takes holds (subst (λ j. IsMachine (seen area query s c ls (Going at) j k spent)) none going)))
+
+    -- an answer
+    module _ (x : Shown) (shows : ShowsAnswer area s at c query x) (st' : Stage) (is' : st' ≡ behind_answer k) (k' : Option ℕ) (limit : k' ≡ one_fewer k) where
+      query_there : (span : Span) × HasQuery area query span
+      query_there = slice_get_found area.queries query m.query
+
+      pub answers_machine : IsMachine (seen area query s c ls st' n k' spent)
+      answers_machine =
+          subst (λ y. IsMachine (seen area query s c ls y n k' spent)) (sym is')
+          (subst (λ j. IsMachine (seen area query s c ls (behind_answer k) n j spent)) (sym limit) (answer_machine area query s at c ls n spent x shows k going query_there.0 query_there.1))
+
+      pub answers_says : Says old (event.Answer x) (seen area query s c ls st' n k' spent)
+      answers_says =
+          subst (λ y. Says (seen area query s c ls y n k spent) (event.Answer x) (seen area query s c ls st' n k' spent)) (sym is)
+          (subst (λ y. Says (seen area query s c ls (Going at) n k spent) (event.Answer x) (seen area query s c ls y n k' spent)) (sym is')
+          (subst (λ j. Says (seen area query s c ls (Going at) n k spent) (event.Answer x) (seen area query s c ls (behind_answer k) n j spent)) (sym limit)
+          (answer_says area query s at c ls n spent x shows k going query_there.0 query_there.1)))
+
+    -- The last place of the query's code is one of it.
+    pub end_inside : ((span : Span) → HasQuery area query span → suc at ≡ span.end) → IsInQuery area query at
+    end_inside ends =
+        let there = slice_get_found area.queries query m.query in
+        let of = going_safe.verified.queries query there.0 there.1 in
+        let some = of.some in
+        let e = ends there.0 there.1 in
+        (there.0, there.1, (omega (arith, some, e), omega (arith, e)))
+
+  -- ---- on the way back
+
+  module _ (is : st ≡ Returning) where
+    returning : IsMachine (seen area query s c ls Returning n k spent)
+    returning = subst (λ x. IsMachine (seen area query s c ls x n k spent)) is m
+
+    module _ (s' : branch.State) (c' : Contents) (ls' : List Label) (w : Went) (back : ComesBack area s c ls s' c' ls' w) (st' : Stage) (is' : st' ≡ stage_of w) where
+      pub returns_machine : IsMachine (seen area query s' c' ls' st' n k spent)
+      returns_machine = subst (λ x. IsMachine (seen area query s' c' ls' x n k spent)) (sym is') (back_machine area query s s' c c' ls n k spent ls' w back returning)
+
+      pub returns_quiet : IsQuiet old (seen area query s' c' ls' st' n k spent)
+      returns_quiet =
+          subst (λ x. IsQuiet (seen area query s c ls x n k spent) (seen area query s' c' ls' st' n k spent)) (sym is)
+          (subst (λ x. IsQuiet (seen area query s c ls Returning n k spent) (seen area query s' c' ls' x n k spent)) (sym is') (back_quiet area query s s' c c' ls n k spent ls' w back returning))
+
+    no_points : (ps : List Point) → length ps ≡ 0 → ps ≡ []
+    no_points [] e = refl
+    no_points (p ∷ ps) e = absurd (omega (arith, e))
+
+    -- no choice point is left
+    pub nothing_left : length c.points ≡ 0 → Says old event.End (seen area query s c ls (Ended ending.End) n k spent)
+    nothing_left none =
+        subst (λ y. Says (seen area query s c ls y n k spent) event.End (seen area query s c ls (Ended ending.End) n k spent)) (sym is) (none_says area query s c ls k spent n (no_points c.points none))
+
+  -- ---- at the end
+
+  pub said_again : (e : Ending) → st ≡ Ended e → Says old (last_event e) old
+  said_again e is = subst (λ y. Says (seen area query s c ls y n k spent) (last_event e) (seen area query s c ls y n k spent)) (sym is) (ended_says area query s c ls k spent n e)

@@ -1,0 +1,125 @@
+-- Goals that are taken.
+use Rattle.std.proofs.Common.{◌≡◌, ℕ, suc, ◌+◌, ◌*◌, ◌<◌, ◌≤◌, List, [], ◌∷◌, ◌++◌, length, Option, Some, None, Result, Ok, Err, IfOk, OnOk, refl, ap, sym, ◌∙◌, subst, inl, arith}
+use Rattle.fd_language.specs.declared.TheConstants.{INFINITY}
+use Rattle.fd_model.specs.Goal.{Event}
+use Rattle.branch_state.specs.States as branch
+use Rattle.branch_state.specs.States.{IsSameBelow, with_pair}
+use Rattle.wam_code.specs.Area.{Area}
+use Rattle.code_areas.specs.Areas.{Contents}
+use Rattle.code_steps.specs.Running.{Left, resume}
+use Rattle.code_states.specs.declared.went.Went.{Went}
+use Rattle.code_states.specs.declared.went.Went.TheVariants.{On, Back}
+use Rattle.code_states.specs.Choices.{point_of}
+use Rattle.code_states.specs.Safety.{IsSafe, IsSafeThen}
+use Rattle.code_states.specs.Stages.{Task, Calls, SplitsAt}
+use Rattle.code_states.specs.Work.{work_at, most_work, values_work}
+use Rattle.code_goals.specs.declared.labels.ValuesLeft.{ValuesLeft}
+use Rattle.code_goals.specs.declared.labels.Labelled.TheVariants.{Took, Tries}
+use Rattle.code_goals.specs.declared.labels.Tried.{Tried}
+use Rattle.code_goals.specs.declared.next.Next.{Next}
+use Rattle.code_goals.specs.declared.next.Next.TheVariants as next
+use Rattle.code_goals.specs.Taking.{IsSafeNext, RunsNext, SpendsTo, Takes}
+use Rattle.code_goals.specs.Tasks.{task_of}
+use Rattle.code_goals.specs.Values.{lefts_of, work_left, BringsMost, with_mark, with_point, IsOpen, IsSafeLabelled, Labels, RunsWent}
+use Rattle.code_machine.specs.declared.run.Label.{Label}
+use Rattle.code_machine.specs.Labels.{lefts_by, labels_work, AreLabels, whole_at}
+use Rattle.code_machine.specs.States.{most}
+use Rattle.code_machine.specs.Steps.{labelled, next_of, next_work, CallsTo, Spends}
+use Rattle.code_machine.proofs.Labelling.{labels_more, lefts_more, lefts_values, no_newest}
+use Rattle.code_machine.proofs.Working.{called_most, less_most, next_most, tried_most}
+
+module _ (area : Area) (s : branch.State) (at : ℕ) (c : Contents) (ls : List Label) (own : AreLabels area c.points s.heaps.below ls) where
+  -- a call
+  pub call_spends : (c' : Contents) (to : ℕ) → IsSafe area s to 0 c' → Calls area s at c s to c' → work_at area to c' ≤ most_work area (work_at area at c) → c'.points ≡ c.points → Spends area s at c ls s c' ls (next.On to)
+  call_spends c' to safe calls work same = record {
+    safe = safe;
+    labels = subst (λ ps. AreLabels area ps s.heaps.below ls) (sym same) own;
+    runs = λ number prog q task n k es r m. subst (λ ps. RunsNext area (task_of area prog q) s c' (lefts_by ps ls) n k es r (next.On to)) (sym same) (calls (task_of area prog q) (lefts_by c.points ls) n k es r task.ready m);
+    work = subst (λ ps. work_at area to c' + values_work area ps (lefts_by ps ls) ≤ most area * suc (whole_at area at c ls)) (sym same) (called_most area (work_at area to c') (labels_work area c ls) (work_at area at c) work);
+  }
+
+  -- a disjunction
+  pub either_spends : (s' : branch.State) (c' : Contents) (to other : ℕ) → IsSafe area s' to 0 c' → SplitsAt area s at c s' to c' other → work_at area to c' < work_at area at c → s' ≡ with_pair s → c'.points ≡ point_of c other ∷ c.points → Spends area s at c ls s' c' ls (next.On to)
+  either_spends s' c' to other safe splits work pair same =
+      let left : lefts_by (point_of c other ∷ c.points) ls ≡ resume other ∷ lefts_by c.points ls = lefts_more (point_of c other) c.points ls (no_newest area c.points s.heaps.below ls own) in
+      record {
+        safe = safe;
+        labels = subst (λ ps. AreLabels area ps s'.heaps.below ls) (sym same) (subst (λ (t : branch.State). AreLabels area (point_of c other ∷ c.points) t.heaps.below ls) (sym pair) (labels_more area (point_of c other) c.points s.heaps.now s.heaps.below ls own));
+        runs = λ number prog q task n k es r m. subst (λ ps. RunsNext area (task_of area prog q) s' c' (lefts_by ps ls) n k es r (next.On to)) (sym same)
+            (subst (λ l. RunsNext area (task_of area prog q) s' c' l n k es r (next.On to)) (sym left) (splits (task_of area prog q) (lefts_by c.points ls) n k es r task.ready m));
+        work = less_most area (whole_at area to c' ls) (whole_at area at c ls) (
+            let v : labels_work area c' ls ≡ labels_work area c ls = ap (λ ps. values_work area ps (lefts_by ps ls)) same ∙ ap (values_work area (point_of c other ∷ c.points)) left in
+            omega (arith, v, work));
+      }
+
+  -- a goal that leaves the areas as they are
+  pub goal_spends : (s' : branch.State) (x : Next) → IsSafeNext area s' c x → Takes area s at c s' x → IsSameBelow s s' → Spends area s at c ls s' c ls x
+  goal_spends s' x safe takes below = record {
+    safe = safe;
+    labels = subst (λ hs. AreLabels area c.points hs ls) (sym below.heaps) own;
+    runs = λ number prog q task n k es r m. takes prog q (lefts_by c.points ls) n k es r task.ready.runnable m;
+    work = next_most area at c ls x;
+  }
+
+  pub goals_spend : {E : Type 0} (s' : branch.State) (r : Result Next E) → IfOk r (IsSafeNext area s' c) → IfOk r (Takes area s at c s') → OnOk r (IsSameBelow s s') → IfOk r (Spends area s at c ls s' c ls)
+  goals_spend s' (Ok x) safe takes below = goal_spends s' x safe takes below
+  goals_spend s' (Err e) safe takes below = tt
+
+  -- ---- a labelling
+
+  pub took_spends : (s' : branch.State) (c' : Contents) (x : Next) → IsSafeLabelled area s' c' (Took x) → Labels area s at c s' c' (Took x) → Spends area s at c ls s' c' ls x
+  took_spends s' c' x safe told = record {
+    safe = safe;
+    labels = subst (λ (a : Contents). AreLabels area a.points s'.heaps.below ls) (sym told.1) (subst (λ (t : branch.State). AreLabels area c.points t.heaps.below ls) (sym told.0) own);
+    runs = λ number prog q task n k es r m.
+        subst (λ (a : Contents). RunsNext area (task_of area prog q) s' a (lefts_by a.points ls) n k es r x) (sym told.1)
+        (subst (λ (t : branch.State). RunsNext area (task_of area prog q) t c (lefts_by c.points ls) n k es r x) (sym told.0)
+        (told.2 prog q (lefts_by c.points ls) n k es r task.ready.runnable m));
+    work = subst (λ (a : Contents). next_work area a ls x ≤ most area * suc (whole_at area at c ls)) (sym told.1) (next_most area at c ls x);
+  }
+
+  went_next : (t : Task) (s' : branch.State) (c' : Contents) (l : List Left) (n : ℕ) (k : Option ℕ) (es : List Event) (r : ℕ) (w : Went) → SpendsTo (RunsWent area t s' c' l w) [] n k es r → RunsNext area t s' c' l n k es r (next_of w)
+  went_next t s' c' l n k es r (On to) m = m
+  went_next t s' c' l n k es r Back m = m
+
+  went_safe : (s' : branch.State) (c' : Contents) (w : Went) → IsSafeThen area s' c' w → IsSafeNext area s' c' (next_of w)
+  went_safe s' c' (On to) safe = safe
+  went_safe s' c' Back safe = safe
+
+  -- the labels of the points with the new one
+  pub tried_labels : (o : Option ValuesLeft) → ((w : ValuesLeft) → o ≡ Some w → IsOpen area s.heaps.now w) → AreLabels area (with_point c at o).points (with_mark s o).heaps.below (labelled (length c.points) o ls)
+  tried_labels None opened = own
+  tried_labels (Some v) opened = inl (refl, opened v refl, own)
+
+  -- and what is left at them
+  pub tried_lefts : (o : Option ValuesLeft) → lefts_by (with_point c at o).points (labelled (length c.points) o ls) ≡ lefts_of at o ++ lefts_by c.points ls
+  tried_lefts None = refl
+  tried_lefts (Some v) = lefts_values (point_of c at) c.points v ls
+
+  pub tries_spends : (s' : branch.State) (c' : Contents) (t : Tried) → IsSafeLabelled area s' c' (Tries t) → Labels area s at c s' c' (Tries t) → BringsMost area at c c' (Tries t) → (ls' : List Label) → ls' ≡ labelled (length c.points) t.left ls → Spends area s at c ls s' c' ls' (next_of t.went)
+  tries_spends s' c' t safe told brings ls' is =
+      let pointed = told.0 in
+      let new : List Label = labelled (length c.points) t.left ls in
+      subst (λ l. Spends area s at c ls s' c' l (next_of t.went)) (sym is) (record {
+        safe = went_safe s' c' t.went safe;
+        labels = subst (λ (a : Contents). AreLabels area a.points s'.heaps.below new) (sym pointed) (subst (λ hs. AreLabels area (with_point c at t.left).points hs new) (sym told.1.heaps) (tried_labels t.left told.2));
+        runs = λ number prog q task n k es r m.
+            went_next (task_of area prog q) s' c' (lefts_by c'.points new) n k es r t.went
+            (subst (λ (a : Contents). SpendsTo (RunsWent area (task_of area prog q) s' c' (lefts_by a.points new) t.went) [] n k es r) (sym pointed)
+            (subst (λ l. SpendsTo (RunsWent area (task_of area prog q) s' c' l t.went) [] n k es r) (sym (tried_lefts t.left))
+            (told.3 prog q (lefts_by c.points ls) n k es r task.ready.runnable m)));
+        work = tried_most area at c ls new c' t.went
+            (subst (λ (a : Contents). work_left area c' t.went (lefts_by a.points new) ≤ suc (suc INFINITY) * suc (whole_at area at c ls)) (sym pointed)
+            (subst (λ l. work_left area c' t.went l ≤ suc (suc INFINITY) * suc (whole_at area at c ls)) (sym (tried_lefts t.left)) (brings (lefts_by c.points ls))));
+      })
+
+-- ---- a call or a disjunction, whatever the labels are
+
+module _ {E : Type 0} (area : Area) (s : branch.State) (at : ℕ) (c c' : Contents) where
+  pub calls_to : (r : Result ℕ E) → IfOk r (λ to. IsSafe area s to 0 c') → IfOk r (λ to. Calls area s at c s to c') → IfOk r (λ to. work_at area to c' ≤ most_work area (work_at area at c)) → OnOk r (c'.points ≡ c.points) → IfOk r (CallsTo area s at c s c')
+  calls_to (Ok to) safe calls work same = λ ls own. call_spends area s at c ls own c' to safe calls work same
+  calls_to (Err e) safe calls work same = tt
+
+  pub splits_to : (s' : branch.State) (other : ℕ) (r : Result ℕ E) → IfOk r (λ to. IsSafe area s' to 0 c') → IfOk r (λ to. SplitsAt area s at c s' to c' other) → IfOk r (λ to. work_at area to c' < work_at area at c) → OnOk r (s' ≡ with_pair s) → OnOk r (c'.points ≡ point_of c other ∷ c.points) → IfOk r (CallsTo area s at c s' c')
+  splits_to s' other (Ok to) safe splits work pair point = λ ls own. either_spends area s at c ls own s' c' to other safe splits work pair point
+  splits_to s' other (Err e) safe splits work pair point = tt

@@ -1,0 +1,8 @@
+use Rattle.std.proofs.Common.{reverse}
+use Rattle.code_machine.proofs.Stepping.{nothing_left}
+use Rattle.code_machine.proofs.steps.end.Goals as goal
+
+pub returns-clause-says : goal.returns-clause-says
+returns-clause-says g c =
+    let r = c.args.run.now in
+    nothing_left c.args.code.now r.query c.args.branch.now r.areas (reverse r.labels.items) r.stage r.budget r.limit r.spent c.requires.machine c.requires.stage c.requires.none

@@ -1,0 +1,3 @@
+pub mod Labels
+pub mod States
+pub mod Steps

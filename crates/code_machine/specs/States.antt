@@ -1,0 +1,190 @@
+-- What a machine is seen as, and what its state stands for.
+use Rattle.std.specs.Prelude.{◌≡◌, ℕ, ◌+◌, ◌*◌, ◌-◌, ◌<◌, ◌≤◌, ◌^◌, Bool, true, false, List, [], ◌∷◌, length, map, reverse, Option, Some, None, MatchOption, if◌then◌else◌, nat_eq, slice_index_or}
+use Rattle.std.specs.Option.{option_eq}
+use Rattle.fd_language.specs.declared.TheConstants.{INFINITY}
+use Rattle.fd_language.specs.Term.{Name}
+use Rattle.fd_model.specs.Goal.{Program, Query, Event}
+use Rattle.fd_model.specs.Run.{IsLimit}
+use Rattle.fd_model.specs.Sound.{EachBelow, NumbersBelow, AreRunnable}
+use Rattle.machine_relation.specs.Next.{is_final, IsNext}
+use Rattle.machine_events.specs.declared.MachineEvent.{MachineEvent}
+use Rattle.machine_events.specs.declared.MachineEvent.TheVariants as event
+use Rattle.machine_events.specs.Events.{event_of, HasTerms}
+use Rattle.branch_state.specs.States as branch
+use Rattle.wam_code.specs.declared.instruction.Code.{Code}
+use Rattle.wam_code.specs.declared.instruction.Code.TheVariants as step
+use Rattle.wam_code.specs.Area.{Area, Span, Holds, HasQuery, name_of}
+use Rattle.wam_code.specs.Ending.{weight}
+use Rattle.wam_code.specs.Tries.{IsQueryCode}
+use Rattle.code_areas.specs.Areas.{Contents}
+use Rattle.code_steps.specs.Running.{Left}
+use Rattle.code_states.specs.Safety.{IsSafe, IsSafeBack}
+use Rattle.code_states.specs.Stages.{Task, RunsAt, ReturnsTo, IsReadyToRun}
+use Rattle.code_states.specs.Standing.{IsNaming}
+use Rattle.code_states.specs.Work.{left_by}
+use Rattle.code_goals.specs.Answers.{IsAsked}
+use Rattle.code_goals.specs.Tasks as tasks
+use Rattle.code_goals.specs.Tasks.{task_of}
+use Rattle.code_machine.specs.declared.run.Ending.{Ending}
+use Rattle.code_machine.specs.declared.run.Ending.TheVariants as ending
+use Rattle.code_machine.specs.declared.run.Label.{Label}
+use Rattle.code_machine.specs.declared.run.Run.{Run}
+use Rattle.code_machine.specs.declared.run.Stage.{Stage}
+use Rattle.code_machine.specs.declared.run.Stage.TheVariants.{Going, Returning, Ended}
+use Rattle.code_machine.specs.Labels.{lefts_by, AreLabels, whole_at, whole_back}
+
+-- The code, the number of the query, and how far its run has come. The labels are the newest first. lost: memory was wanting.
+pub record State : Type 0 where
+  pub area : Area
+  pub query : ℕ
+  pub branch : branch.State
+  pub areas : Contents
+  pub labels : List Label
+  pub stage : Stage
+  pub budget : ℕ
+  pub limit : Option ℕ
+  pub spent : ℕ
+  pub lost : Bool
+
+abbrev pub state_of : Area → branch.State → Run → Bool → State
+state_of area s r lost = record { area = area; query = r.query; branch = s; areas = r.areas; labels = reverse r.labels.items; stage = r.stage; budget = r.budget; limit = r.limit; spent = r.spent; lost = lost }
+
+abbrev pub no_span : Span
+no_span = record { at = 0; end = 0; names = [] }
+
+-- the names of the variables that an answer shows
+abbrev pub names_in : Area → ℕ → List Name
+names_in area query = map (name_of area) (slice_index_or area.queries query no_span).names
+
+abbrev pub names_of : State → List Name
+names_of s = names_in s.area s.query
+
+-- ---- what it stands for
+
+-- The code stands for the program, and the query with the number is this one, which may be run.
+pub record MayRun (area : Area) (number : ℕ) (prog : Program) (q : Query) : Type 0 where
+  pub ready : IsReadyToRun area prog
+  pub span : Span
+  pub has : HasQuery area number span
+  pub code : IsQueryCode area q span
+  pub below : EachBelow q.variables q.goals
+  pub shown : NumbersBelow q.variables q.shown
+  pub runnable : AreRunnable INFINITY q.goals
+
+-- The code stands for the program and has the query's names.
+pub record IsTask (area : Area) (number : ℕ) (prog : Program) (q : Query) : Type 0 where
+  pub ready : IsReadyToRun area prog
+  pub asked : IsAsked area number q
+  pub naming : IsNaming area (tasks.names_of area)
+
+abbrev pub last_event : Ending → MachineEvent
+last_event ending.End = event.End
+last_event ending.Budget = event.Budget
+last_event ending.Limit = event.Limit
+last_event (ending.Fault f) = event.Fault f
+
+-- the events and reductions still to come at a stage, with this budget and so many answers
+abbrev pub StandsBy : Area → Task → branch.State → Contents → List Left → Stage → ℕ → Option ℕ → List Event → ℕ → Type 0
+StandsBy area t s c ls (Going at) n k es r = RunsAt area t s at c ls (record { budget = n; answers = k; events = es; reductions = r })
+StandsBy area t s c ls Returning n k es r = ReturnsTo area t s c ls (record { budget = n; answers = k; events = es; reductions = r })
+StandsBy area t s c ls (Ended e) n k es r = (es ≡ event_of [] (last_event e) ∷ []) × (r ≡ 0)
+
+-- the events still to come, and the reductions of the whole run
+pub record StandsFor (s : State) (es : List Event) (total : ℕ) : Type 0 where
+  pub program : Program
+  pub query : Query
+  pub task : IsTask s.area s.query program query
+  pub later : ℕ
+  pub all : total ≡ s.spent + later
+  pub stands : StandsBy s.area (task_of s.area program query) s.branch s.areas (lefts_by s.areas.points s.labels) s.stage s.budget s.limit es later
+
+-- ---- what is left to be done
+
+-- One reduction brings at most so many times the work, and so much more.
+abbrev pub most : Area → ℕ
+most area = weight (length area.code) + (INFINITY + 3)
+
+abbrev pub left_at : Area → Contents → List Label → ℕ → Stage → ℕ
+left_at area c ls n (Going at) = 1 + 2 * left_by (most area) n (whole_at area at c ls)
+left_at area c ls n Returning = 2 + 2 * left_by (most area) n (whole_back area c ls)
+left_at area c ls n (Ended e) = 0
+
+-- it falls with each step, and with each event that isn't final
+abbrev pub left : State → ℕ
+left s = left_at s.area s.areas s.labels s.budget s.stage
+
+-- ---- what holds of it
+
+-- It is safe to go on, or back, with these labels, and an answer is allowed.
+abbrev pub IsReadyAt : Area → branch.State → Contents → List Label → Option ℕ → Stage → Type 0
+IsReadyAt area s c ls k (Going at) = IsSafe area s at 0 c × AreLabels area c.points s.heaps.below ls × IsLimit k
+IsReadyAt area s c ls k Returning = IsSafeBack area s c × AreLabels area c.points s.heaps.below ls × IsLimit k
+IsReadyAt area s c ls k (Ended e) = Unit {0}
+
+-- what holds of a machine for which memory wasn't wanting
+pub record IsMachine (s : State) : Type 0 where
+  pub query : s.query < length s.area.queries
+  pub ready : IsReadyAt s.area s.branch s.areas s.labels s.limit s.stage
+  pub steps : s.spent + s.budget < 2 ^ 64
+
+-- the code and the query stay
+abbrev pub IsSame : State → State → Type 0
+IsSame old new = (new.area ≡ old.area) × (new.query ≡ old.query)
+
+-- nothing is said, and the same is still to come
+pub record IsQuiet (old new : State) : Type 0 where
+  pub stands : (es : List Event) (total : ℕ) → StandsFor old es total → StandsFor new es total
+  pub falls : left new < left old
+
+-- the event is the first of those still to come, and the others are left
+pub record Says (old : State) (e : MachineEvent) (new : State) : Type 0 where
+  pub next : IsNext State StandsFor old (event_of (names_of old) e) new
+  pub last : is_final (event_of [] e) ≡ true → (es : List Event) (total : ℕ) → StandsFor old es total → es ≡ event_of [] e ∷ []
+  pub falls : is_final (event_of [] e) ≡ false → left new < left old
+  pub ends : is_final (event_of [] e) ≡ true → left new ≡ 0
+  pub shown : HasTerms (length (names_of old)) e
+
+-- one step
+abbrev pub IsStep : State → Option MachineEvent → State → Type 0
+IsStep old o new = MatchOption o (IsQuiet old new) (λ e. Says old e new)
+
+-- With this budget, an instruction that may say something: the answer, a goal that is no call, or any goal where no reduction is left.
+abbrev pub MaySay : ℕ → Code → Type 0
+MaySay n step.AnswerNow = Unit {0}
+MaySay n (step.Builtin k) = Unit {0}
+MaySay n (step.Constrain k) = Unit {0}
+MaySay n (step.Label o) = Unit {0}
+MaySay n (step.PostRange r m) = Unit {0}
+MaySay n (step.Call e) = n ≡ 0
+MaySay n (step.Execute e) = n ≡ 0
+MaySay n (step.Either to) = n ≡ 0
+MaySay n _ = ⊥
+
+-- at the place of such an instruction, on the way back with no choice point left, or at the end
+abbrev pub MaySayAt : Area → Contents → ℕ → Stage → Type 0
+MaySayAt area c n (Going at) = (i : Code) × Holds area at i × MaySay n i
+MaySayAt area c n Returning = length c.points ≡ 0
+MaySayAt area c n (Ended e) = Unit {0}
+
+abbrev pub IsToSay : State → Type 0
+IsToSay s = MaySayAt s.area s.areas s.budget s.stage
+
+-- A step was taken and nothing was said; or none was, since something may have to be said.
+abbrev pub IsWalk : State → State → Bool → Type 0
+IsWalk old new true = IsQuiet old new
+IsWalk old new false = (new ≡ old) × IsToSay old
+
+-- the state after steps that say nothing
+pub record StillRuns (old new : State) : Type 0 where
+  pub machine : IsMachine new
+  pub same : IsSame old new
+  pub stands : (es : List Event) (total : ℕ) → StandsFor old es total → StandsFor new es total
+  pub less : left new ≤ left old
+
+-- where a run is after an answer, with so many allowed before
+abbrev pub behind_answer : Option ℕ → Stage
+behind_answer o = if option_eq nat_eq o (Some 1) then Ended ending.Limit else Returning
+
+abbrev pub one_fewer : Option ℕ → Option ℕ
+one_fewer None = None
+one_fewer (Some n) = Some (n - 1)

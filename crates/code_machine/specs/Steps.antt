@@ -1,0 +1,182 @@
+-- What the instructions do to a branch, the areas and the labels of a machine.
+use Rattle.std.specs.Prelude.{◌≡◌, ◌⊎◌, ℕ, suc, ◌*◌, ◌<◌, ◌≤◌, List, ◌∷◌, Option, Some, None}
+use Rattle.fd_model.specs.Goal.{Program, Query, Event}
+use Rattle.machine_events.specs.declared.MachineEvent.{MachineEvent}
+use Rattle.machine_events.specs.declared.MachineEvent.TheVariants as event
+use Rattle.branch_state.specs.States as branch
+use Rattle.branch_state.specs.States.{IsSameBelow, with_pair}
+use Rattle.wam_code.specs.Area.{Area}
+use Rattle.wam_code.specs.declared.instruction.Code.{Code}
+use Rattle.wam_code.specs.declared.instruction.Code.TheVariants as step
+use Rattle.wam_code.specs.declared.instruction.Instr.{Instr}
+use Rattle.wam_code.specs.declared.instruction.Instr.TheVariants as instr
+use Rattle.code_areas.specs.Areas.{Contents}
+use Rattle.code_states.specs.declared.went.Went.{Went}
+use Rattle.code_states.specs.declared.went.Went.TheVariants.{On, Back}
+use Rattle.code_states.specs.Choices.{point_of}
+use Rattle.code_states.specs.Safety.{IsSafeThen}
+use Rattle.code_states.specs.Stages.{Future, RunsAt, ReturnsTo, RunsThen, LeavesChoice}
+use Rattle.code_states.specs.Work.{work_at, work_then}
+use Rattle.code_goals.specs.declared.labels.ValuesLeft.{ValuesLeft}
+use Rattle.code_goals.specs.declared.next.Next.{Next}
+use Rattle.code_goals.specs.declared.next.Next.TheVariants as next
+use Rattle.code_goals.specs.Taking.{IsSafeNext, RunsNext}
+use Rattle.code_goals.specs.Tasks.{task_of}
+use Rattle.code_goals.specs.Values.{RunsWent}
+use Rattle.code_machine.specs.declared.run.Ending.TheVariants as ending
+use Rattle.code_machine.specs.declared.run.Label.{Label}
+use Rattle.code_machine.specs.declared.run.Stage.{Stage}
+use Rattle.code_machine.specs.declared.run.Stage.TheVariants.{Going, Returning, Ended}
+use Rattle.code_machine.specs.Labels.{lefts_by, AreLabels, whole_at, whole_back}
+use Rattle.code_machine.specs.States.{IsTask, most}
+
+-- ---- instructions that spend no reduction
+
+-- neither a goal nor the answer
+abbrev pub SpendsNothing : Code → Type 0
+SpendsNothing (step.Call e) = ⊥
+SpendsNothing (step.Execute e) = ⊥
+SpendsNothing (step.Either to) = ⊥
+SpendsNothing (step.Builtin k) = ⊥
+SpendsNothing (step.Constrain k) = ⊥
+SpendsNothing (step.Label o) = ⊥
+SpendsNothing (step.PostRange r n) = ⊥
+SpendsNothing step.AnswerNow = ⊥
+SpendsNothing _ = Unit {0}
+
+-- a goal that is no call and no disjunction
+abbrev pub IsGoal : Code → Type 0
+IsGoal (step.Builtin k) = Unit {0}
+IsGoal (step.Constrain k) = Unit {0}
+IsGoal (step.Label o) = Unit {0}
+IsGoal (step.PostRange r n) = Unit {0}
+IsGoal _ = ⊥
+
+-- a call, or a disjunction
+abbrev pub IsCall : Code → Type 0
+IsCall (step.Call e) = Unit {0}
+IsCall (step.Execute e) = Unit {0}
+IsCall (step.Either to) = Unit {0}
+IsCall _ = ⊥
+
+-- a choice, or a switch
+abbrev pub IsChoice : Code → Type 0
+IsChoice (step.TryMeElse to) = Unit {0}
+IsChoice (step.RetryMeElse to) = Unit {0}
+IsChoice step.TrustMe = Unit {0}
+IsChoice (step.Try to) = Unit {0}
+IsChoice (step.Retry to) = Unit {0}
+IsChoice (step.Trust to) = Unit {0}
+IsChoice (step.SwitchOnTerm v k i s) = Unit {0}
+IsChoice (step.SwitchOnConstant t) = Unit {0}
+IsChoice (step.SwitchOnInteger t) = Unit {0}
+IsChoice (step.SwitchOnStructure t) = Unit {0}
+IsChoice _ = ⊥
+
+-- a switch on a table
+abbrev pub IsTable : Instr → Type 0
+IsTable (instr.SwitchOnConstant t) = Unit {0}
+IsTable (instr.SwitchOnInteger t) = Unit {0}
+IsTable (instr.SwitchOnStructure t) = Unit {0}
+IsTable _ = ⊥
+
+-- a range to be posted
+abbrev pub IsPost : Instr → Type 0
+IsPost (instr.PostRange r n) = Unit {0}
+IsPost _ = ⊥
+
+-- The choice points are as they were, with their pairs, and what was still to come is to come.
+pub record Keeps (area : Area) (s : branch.State) (at : ℕ) (c : Contents) (s' : branch.State) (c' : Contents) (w : Went) : Type 0 where
+  pub below : IsSameBelow s s'
+  pub points : c'.points ≡ c.points
+  pub runs : RunsThen area s at c s' c' w
+
+abbrev pub LeavesThen : Area → branch.State → ℕ → Contents → branch.State → Contents → ℕ → Went → Type 0
+LeavesThen area s at c s' c' other (On to) = LeavesChoice area s at c s' to c' other
+LeavesThen area s at c s' c' other Back = ⊥
+
+-- or there is a new one
+pub record Leaves (area : Area) (s : branch.State) (at : ℕ) (c : Contents) (s' : branch.State) (c' : Contents) (w : Went) : Type 0 where
+  pub other : ℕ
+  pub pair : s' ≡ with_pair s
+  pub point : c'.points ≡ point_of c other ∷ c.points
+  pub runs : LeavesThen area s at c s' c' other w
+
+-- An instruction that spends nothing leads on or back, and less is left to be done.
+pub record Moves (area : Area) (s : branch.State) (at : ℕ) (c : Contents) (s' : branch.State) (c' : Contents) (w : Went) : Type 0 where
+  pub safe : IsSafeThen area s' c' w
+  pub moves : Keeps area s at c s' c' w ⊎ Leaves area s at c s' c' w
+  pub falls : work_then area c' w < work_at area at c
+
+-- ---- labels
+
+-- a new label, where values are left for the point with so many older ones
+abbrev pub labelled : ℕ → Option ValuesLeft → List Label → List Label
+labelled point None ls = ls
+labelled point (Some v) ls = record { point = point; values = v } ∷ ls
+
+-- the newest label is that of the point with so many older ones, and is taken away
+abbrev pub TakesValues : List Label → ℕ → List Label → Option ValuesLeft → Type 0
+TakesValues ls point ls' None = (ls' ≡ ls) × ((l : Label) (rest : List Label) → ls ≡ l ∷ rest → l.point ≡ point → ⊥)
+TakesValues ls point ls' (Some v) = ls ≡ record { point = point; values = v } ∷ ls'
+
+-- ---- goals
+
+-- what is left to be done, but for reductions, where a goal was taken
+abbrev pub next_work : Area → Contents → List Label → Next → ℕ
+next_work area c ls (next.On to) = whole_at area to c ls
+next_work area c ls next.Back = whole_back area c ls
+next_work area c ls (next.Fault f) = 0
+next_work area c ls (next.Write to x) = whole_at area to c ls
+next_work area c ls (next.Newline to) = whole_at area to c ls
+
+-- A reduction is spent on the goal at a place: what was still to come is that of what the machine does next.
+pub record Spends (area : Area) (s : branch.State) (at : ℕ) (c : Contents) (ls : List Label) (s' : branch.State) (c' : Contents) (ls' : List Label) (x : Next) : Type 0 where
+  pub safe : IsSafeNext area s' c' x
+  pub labels : AreLabels area c'.points s'.heaps.below ls'
+  pub runs : (number : ℕ) (prog : Program) (q : Query) → IsTask area number prog q → (n : ℕ) (k : Option ℕ) (es : List Event) (r : ℕ)
+      → RunsAt area (task_of area prog q) s at c (lefts_by c.points ls) (record { budget = suc n; answers = k; events = es; reductions = r })
+      → RunsNext area (task_of area prog q) s' c' (lefts_by c'.points ls') n k es r x
+  pub work : next_work area c' ls' x ≤ most area * suc (whole_at area at c ls)
+
+-- A reduction is spent on a call or a disjunction, whatever the labels are, which stay.
+abbrev pub CallsTo : Area → branch.State → ℕ → Contents → branch.State → Contents → ℕ → Type 0
+CallsTo area s at c s' c' to = (ls : List Label) → AreLabels area c.points s.heaps.below ls → Spends area s at c ls s' c' ls (next.On to)
+
+-- where a goal leads that was a labelling
+abbrev pub next_of : Went → Next
+next_of (On to) = next.On to
+next_of Back = next.Back
+
+abbrev pub stage_of : Went → Stage
+stage_of (On to) = Going to
+stage_of Back = Returning
+
+abbrev pub stage_next : Next → Stage
+stage_next (next.On to) = Going to
+stage_next next.Back = Returning
+stage_next (next.Fault f) = Ended (ending.Fault f)
+stage_next (next.Write to x) = Going to
+stage_next (next.Newline to) = Going to
+
+-- what a goal says
+abbrev pub event_next : Next → Option MachineEvent
+event_next (next.On to) = None
+event_next next.Back = None
+event_next (next.Fault f) = Some (event.Fault f)
+event_next (next.Write to x) = Some (event.Write x)
+event_next (next.Newline to) = Some event.Newline
+
+-- ---- the way back
+
+-- what is left to be done where a choice point leads
+abbrev pub NoMore : Area → Contents → List Label → Went → ℕ → Type 0
+NoMore area c ls (On to) w = whole_at area to c ls ≤ w
+NoMore area c ls Back w = whole_back area c ls < w
+
+-- The newest choice point was come back to. It is gone, or stays with fewer values.
+pub record ComesBack (area : Area) (s : branch.State) (c : Contents) (ls : List Label) (s' : branch.State) (c' : Contents) (ls' : List Label) (w : Went) : Type 0 where
+  pub safe : IsSafeThen area s' c' w
+  pub labels : AreLabels area c'.points s'.heaps.below ls'
+  pub runs : (prog : Program) (q : Query) (f : Future) → ReturnsTo area (task_of area prog q) s c (lefts_by c.points ls) f → RunsWent area (task_of area prog q) s' c' (lefts_by c'.points ls') w f
+  pub work : NoMore area c' ls' w (whole_back area c ls)

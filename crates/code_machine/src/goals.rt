@@ -1,0 +1,135 @@
+//! Goals, each of which spends a reduction.
+ghost use Rattle.std.specs.Prelude.{◌≡◌, reverse, IfOk, OnOk};
+ghost use Rattle.wam_code.specs.declared.instruction.Code.TheVariants as step;
+ghost use Rattle.branch_state.specs.States.{IsSameBelow};
+ghost use Rattle.wam_code.specs.Area.{Holds};
+ghost use Rattle.wam_code.specs.Standing.{StandsAt};
+ghost use Rattle.code_states.specs.Safety.{IsSafe};
+ghost use Rattle.code_goals.specs.Taking.{IsSafeNext, Takes};
+ghost use Rattle.code_machine.specs.Labels.{AreLabels};
+ghost use Rattle.code_machine.specs.Steps.{next_of, CallsTo, IsCall, IsGoal, IsPost, Spends};
+
+use crate::labels::keep_values;
+use crate::run::Label;
+use branch_state::BranchState;
+use code_areas::Areas;
+use code_control::{call, either, execute};
+use code_goals::{Labelled, Next, take_builtin, take_constraint, take_label, take_post};
+use code_states::Went;
+use fd_language::NoMemory;
+use fd_model::kinds::Order;
+use propagate_queue::Agenda;
+use term_instructions::Scratch;
+use wam_code::{Code, CodeArea, Instr};
+
+/// Where a labelling leads that has tried a value.
+fn next_of(went: Went) -> Next
+    ensures { result ≡ next_of went }
+{
+    match went {
+        Went::On(to) => Next::On(to),
+        Went::Back => Next::Back,
+    }
+}
+
+/// Takes the labelling at a place, as `take_goal` does.
+fn take_labelling<A: Agenda + Drop>(
+    code: &CodeArea,
+    at: usize,
+    order: Order,
+    branch: &mut BranchState<A>,
+    areas: &mut Areas,
+    labels: &mut Vec<Label>,
+    scratch: &mut Scratch,
+) -> Result<Next, NoMemory>
+    requires safe { IsSafe code.now branch.old at 0 areas.old }
+    requires labels { AreLabels code.now areas.old.points branch.old.heaps.below
+        (reverse labels.old.items) }
+    requires holds { Holds code.now at (step.Label order) }
+    ensures { IfOk result (Spends code.now branch.old at areas.old (reverse labels.old.items)
+        branch.new areas.new (reverse labels.new.items)) }
+{
+    let point = areas.points();
+    match take_label(code, at, order, branch, areas, &mut scratch.touches)? {
+        Labelled::Took(next) => Ok(next),
+        Labelled::Tries(tried) => {
+            keep_values(labels, point, tried.left)?;
+            Ok(next_of(tried.went))
+        }
+    }
+}
+
+/// Posts the range at a place, as `take_goal` does.
+fn post<A: Agenda + Drop>(
+    code: &CodeArea,
+    at: usize,
+    instr: Instr<'_>,
+    branch: &mut BranchState<A>,
+    areas: &Areas,
+    scratch: &mut Scratch,
+) -> Result<Next, NoMemory>
+    requires safe { IsSafe code.now branch.old at 0 areas.now }
+    requires stands { StandsAt code.now at instr }
+    requires post { IsPost instr }
+    ensures safe { IfOk result (IsSafeNext code.now branch.new areas.now) }
+    ensures takes { IfOk result (Takes code.now branch.old at areas.now branch.new) }
+    ensures same { OnOk result (IsSameBelow branch.old branch.new) }
+{
+    match instr {
+        Instr::PostRange(range, count) => {
+            take_post(code, at, range, count, branch, areas, &mut scratch.cells)
+        }
+        _ => unreachable!(),
+    }
+}
+
+/// Takes the call or the disjunction at a place, and gives the place where it leads. The error is want of memory.
+pub(crate) fn take_call<A: Agenda + Drop>(
+    code: &CodeArea,
+    at: usize,
+    instruction: Code,
+    branch: &mut BranchState<A>,
+    areas: &mut Areas,
+) -> Result<usize, NoMemory>
+    requires safe { IsSafe code.now branch.old at 0 areas.old }
+    requires holds { Holds code.now at instruction }
+    requires call { IsCall instruction }
+    ensures { IfOk result (CallsTo code.now branch.old at areas.old branch.new areas.new) }
+{
+    match instruction {
+        Code::Call(e) => call(code, at, e, branch, areas),
+        Code::Execute(e) => Ok(execute(code, at, e, branch, areas)),
+        Code::Either(to) => either(code, at, to, branch, areas),
+        _ => unreachable!(),
+    }
+}
+
+/// Takes the goal at a place, whose arguments are in the first registers; `scratch` is lent. After a way back the current pair of the
+/// branch is to be given up. The error is want of memory.
+pub(crate) fn take_goal<A: Agenda + Drop>(
+    code: &CodeArea,
+    at: usize,
+    instruction: Code,
+    branch: &mut BranchState<A>,
+    areas: &mut Areas,
+    labels: &mut Vec<Label>,
+    scratch: &mut Scratch,
+) -> Result<Next, NoMemory>
+    requires safe { IsSafe code.now branch.old at 0 areas.old }
+    requires labels { AreLabels code.now areas.old.points branch.old.heaps.below
+        (reverse labels.old.items) }
+    requires holds { Holds code.now at instruction }
+    requires goal { IsGoal instruction }
+    ensures { IfOk result (Spends code.now branch.old at areas.old (reverse labels.old.items)
+        branch.new areas.new (reverse labels.new.items)) }
+{
+    match instruction {
+        Code::Builtin(kind) => { take_builtin(code, at, kind, branch, areas, &mut scratch.touches) }
+        Code::Constrain(kind) => {
+            take_constraint(code, at, kind, branch, areas, &mut scratch.cells)
+        }
+        Code::Label(order) => take_labelling(code, at, order, branch, areas, labels, scratch),
+        Code::PostRange(_, _) => post(code, at, code.instr(at), branch, areas, scratch),
+        _ => unreachable!(),
+    }
+}

@@ -1,0 +1,114 @@
+//! Instructions that spend no reduction.
+ghost use Rattle.std.specs.Prelude.{IfOk};
+ghost use Rattle.wam_code.specs.Area.{Holds};
+ghost use Rattle.wam_code.specs.Standing.{StandsAt};
+ghost use Rattle.code_states.specs.Safety.{IsSafe};
+ghost use Rattle.code_machine.specs.Steps.{IsChoice, IsTable, Moves, SpendsNothing};
+
+use branch_state::BranchState;
+use code_areas::Areas;
+use code_control::{
+    allocate, deallocate, fail_now, jump, proceed, retry, retry_me_else, switch_on_constant,
+    switch_on_integer, switch_on_structure, switch_on_term, trust, trust_me, try_, try_me_else,
+};
+use code_states::Went;
+use fd_language::NoMemory;
+use propagate_queue::Agenda;
+use term_instructions::{
+    Scratch, get_constant, get_integer, get_structure, get_value, get_variable, put_constant,
+    put_integer, put_structure, put_value, put_variable,
+};
+use wam_code::{Code, CodeArea, Instr};
+
+/// Takes a switch on a table, as `take_quiet` does.
+fn take_table<A: Agenda + Drop>(
+    code: &CodeArea,
+    at: usize,
+    instr: Instr<'_>,
+    branch: &BranchState<A>,
+    areas: &Areas,
+) -> Went
+    requires safe { IsSafe code.now branch.now at 0 areas.now }
+    requires stands { StandsAt code.now at instr }
+    requires table { IsTable instr }
+    ensures { Moves code.now branch.now at areas.now branch.now areas.now result }
+{
+    match instr {
+        Instr::SwitchOnConstant(table) => switch_on_constant(code, at, table, branch, areas),
+        Instr::SwitchOnInteger(table) => switch_on_integer(code, at, table, branch, areas),
+        Instr::SwitchOnStructure(table) => switch_on_structure(code, at, table, branch, areas),
+        _ => unreachable!(),
+    }
+}
+
+/// Takes a choice or a switch, as `take_quiet` does.
+fn take_choice<A: Agenda + Drop>(
+    code: &CodeArea,
+    at: usize,
+    instruction: Code,
+    branch: &mut BranchState<A>,
+    areas: &mut Areas,
+) -> Result<Went, NoMemory>
+    requires safe { IsSafe code.now branch.old at 0 areas.old }
+    requires holds { Holds code.now at instruction }
+    requires choice { IsChoice instruction }
+    ensures { IfOk result (Moves code.now branch.old at areas.old branch.new areas.new) }
+{
+    match instruction {
+        Code::TryMeElse(to) => Ok(Went::On(try_me_else(code, at, to, branch, areas)?)),
+        Code::RetryMeElse(to) => Ok(Went::On(retry_me_else(code, at, to, branch, areas)?)),
+        Code::TrustMe => Ok(Went::On(trust_me(code, at, branch, areas))),
+        Code::Try(to) => Ok(Went::On(try_(code, at, to, branch, areas)?)),
+        Code::Retry(to) => Ok(Went::On(retry(code, at, to, branch, areas)?)),
+        Code::Trust(to) => Ok(Went::On(trust(code, at, to, branch, areas))),
+        Code::SwitchOnTerm(v, c, i, s) => {
+            let to = switch_on_term(code, at, v, c, i, s, branch, areas);
+            Ok(Went::On(to))
+        }
+        Code::SwitchOnConstant(_) | Code::SwitchOnInteger(_) | Code::SwitchOnStructure(_) => {
+            Ok(take_table(code, at, code.instr(at), branch, areas))
+        }
+        _ => unreachable!(),
+    }
+}
+
+/// Takes an instruction that spends nothing, and gives where it leads; `scratch` is lent. The error is want of memory.
+pub(crate) fn take_quiet<A: Agenda + Drop>(
+    code: &CodeArea,
+    at: usize,
+    instruction: Code,
+    branch: &mut BranchState<A>,
+    areas: &mut Areas,
+    scratch: &mut Scratch,
+) -> Result<Went, NoMemory>
+    requires safe { IsSafe code.now branch.old at 0 areas.old }
+    requires holds { Holds code.now at instruction }
+    requires quiet { SpendsNothing instruction }
+    ensures { IfOk result (Moves code.now branch.old at areas.old branch.new areas.new) }
+{
+    match instruction {
+        Code::GetVariable(r, a) => get_variable(code, at, r, a, branch, areas),
+        Code::GetValue(r, a) => get_value(code, at, r, a, branch, areas, &mut scratch.touches),
+        Code::GetConstant(c, a) => {
+            get_constant(code, at, c, a, branch, areas, &mut scratch.touches)
+        }
+        Code::GetInteger(z, a) => get_integer(code, at, z, a, branch, areas, &mut scratch.touches),
+        Code::GetStructure(f, n, a) => get_structure(code, at, (f, n), a, branch, areas, scratch),
+        Code::PutVariable(r, a) => put_variable(code, at, r, a, branch, areas),
+        Code::PutValue(r, a) => put_value(code, at, r, a, branch, areas),
+        Code::PutConstant(c, a) => put_constant(code, at, c, a, branch, areas),
+        Code::PutInteger(z, a) => put_integer(code, at, z, a, branch, areas),
+        Code::PutStructure(f, n, a) => {
+            put_structure(code, at, (f, n), a, branch, areas, &mut scratch.cells)
+        }
+        Code::Allocate(n) => Ok(Went::On(allocate(code, at, n, branch, areas)?)),
+        Code::Deallocate => Ok(Went::On(deallocate(code, at, branch, areas))),
+        Code::Proceed => Ok(Went::On(proceed(code, at, branch, areas)?)),
+        Code::Jump(to) => Ok(Went::On(jump(code, at, to, branch, areas))),
+        Code::FailNow => {
+            fail_now(code, at, branch, areas);
+            Ok(Went::Back)
+        }
+        _ => take_choice(code, at, instruction, branch, areas),
+    }
+}

@@ -1,0 +1,251 @@
+//! The steps of a run, up to the next event.
+ghost use Rattle.std.specs.Prelude.{◌≡◌, ◌<◌, suc, length, true, false, IfOk, OnOk};
+ghost use Rattle.wam_code.specs.Area.{Span, Holds, HasQuery};
+ghost use Rattle.wam_code.specs.declared.instruction.Code.TheVariants as code_step;
+ghost use Rattle.code_machine.specs.declared.run.Stage.TheVariants as stage;
+ghost use Rattle.code_machine.specs.States.{state_of, behind_answer, last_event, one_fewer, IsMachine, IsStep, IsToSay, MaySay, Says};
+ghost use Rattle.code_machine.specs.Steps.{event_next, stage_next, IsCall, IsGoal};
+
+use crate::goals::take_goal;
+use crate::run::{Ending, Run, Stage};
+use crate::walk::{code_at, walk};
+use branch_state::BranchState;
+use code_goals::{Next, show_answer};
+use code_states::behind;
+use fd_language::NoMemory;
+use machine_events::MachineEvent;
+use propagate_queue::Agenda;
+use std::alloc::Global;
+use wam_code::{Code, CodeArea};
+
+/// Where the run is after an answer, with so many answers still allowed before it.
+fn stage_behind(limit: Option<u64>) -> Stage
+    ensures { result ≡ behind_answer limit }
+{
+    if limit == Some(1) {
+        Stage::Ended(Ending::Limit)
+    } else {
+        Stage::Returning
+    }
+}
+
+/// One answer less.
+fn fewer(limit: Option<u64>) -> Option<u64>
+    ensures { result ≡ one_fewer limit }
+{
+    match limit {
+        Some(answers) => Some(answers.saturating_sub(1)),
+        None => None,
+    }
+}
+
+/// The event of an end.
+fn said(ending: Ending) -> MachineEvent
+    ensures { result ≡ last_event ending }
+{
+    match ending {
+        Ending::End => MachineEvent::End,
+        Ending::Budget => MachineEvent::Budget,
+        Ending::Limit => MachineEvent::Limit,
+        Ending::Fault(fault) => MachineEvent::Fault(fault),
+    }
+}
+
+/// The stage behind a goal, and what the goal says.
+fn outcome(next: Next) -> (Stage, Option<MachineEvent>)
+    ensures stage { result.0 ≡ stage_next next }
+    ensures event { result.1 ≡ event_next next }
+{
+    match next {
+        Next::On(to) => (Stage::Going(to), None),
+        Next::Back => (Stage::Returning, None),
+        Next::Fault(fault) => (
+            Stage::Ended(Ending::Fault(fault)),
+            Some(MachineEvent::Fault(fault)),
+        ),
+        Next::Write(to, shown) => (Stage::Going(to), Some(MachineEvent::Write(shown))),
+        Next::Newline(to) => (Stage::Going(to), Some(MachineEvent::Newline)),
+    }
+}
+
+/// Whether a place is the last one of the query with a number.
+fn is_end(code: &CodeArea, query: usize, at: usize) -> bool
+    requires query { query < length code.now.queries }
+    requires at { at < length code.now.code }
+    ensures { result ≡ true → (span : Span) → HasQuery code.now query span → suc at ≡ span.end }
+{
+    code.parts().queries[query].end == behind(code, at)
+}
+
+/// The answer at a place, which is the last one of the run's query: other places of the code don't answer.
+fn answer<A: Agenda + Drop>(
+    alloc: Global,
+    code: &CodeArea,
+    at: usize,
+    branch: &BranchState<A>,
+    run: &mut Run,
+) -> Result<MachineEvent, NoMemory>
+    requires machine { IsMachine (state_of code.now branch.now run.old false) }
+    requires stage { run.old.stage ≡ stage.Going at }
+    requires holds { Holds code.now at code_step.AnswerNow }
+    ensures machine { OnOk result (IsMachine (state_of code.now branch.now run.new false)) }
+    ensures same { OnOk result (run.new.query ≡ run.old.query) }
+    ensures says { IfOk result (λ e. Says (state_of code.now branch.now run.old false) e
+        (state_of code.now branch.now run.new false)) }
+{
+    if !is_end(code, run.query, at) {
+        return Err(NoMemory);
+    }
+    let shown = show_answer(alloc, code, at, run.query, branch, &run.areas)?;
+    run.stage = stage_behind(run.limit);
+    run.limit = fewer(run.limit);
+    Ok(MachineEvent::Answer(shown))
+}
+
+/// Takes the goal at a place, for a reduction, and gives what it says.
+fn reduce<A: Agenda + Drop>(
+    code: &CodeArea,
+    at: usize,
+    instruction: Code,
+    branch: &mut BranchState<A>,
+    run: &mut Run,
+) -> Result<Option<MachineEvent>, NoMemory>
+    requires machine { IsMachine (state_of code.now branch.old run.old false) }
+    requires stage { run.old.stage ≡ stage.Going at }
+    requires holds { Holds code.now at instruction }
+    requires goal { IsGoal instruction }
+    ensures machine { OnOk result (IsMachine (state_of code.now branch.new run.new false)) }
+    ensures same { OnOk result (run.new.query ≡ run.old.query) }
+    ensures step { IfOk result (λ o. IsStep (state_of code.now branch.old run.old false) o
+        (state_of code.now branch.new run.new false)) }
+{
+    if run.budget == 0 {
+        run.stage = Stage::Ended(Ending::Budget);
+        return Ok(Some(MachineEvent::Budget));
+    }
+    run.budget -= 1;
+    run.spent += 1;
+    let next = take_goal(
+        code,
+        at,
+        instruction,
+        branch,
+        &mut run.areas,
+        &mut run.labels,
+        &mut run.scratch,
+    )?;
+    let (stage, event) = outcome(next);
+    run.stage = stage;
+    Ok(event)
+}
+
+/// The end of a run that comes to a call with no reduction left.
+fn stop<A: Agenda + Drop>(
+    code: &CodeArea,
+    at: usize,
+    instruction: Code,
+    branch: &BranchState<A>,
+    run: &mut Run,
+) -> MachineEvent
+    requires machine { IsMachine (state_of code.now branch.now run.old false) }
+    requires stage { run.old.stage ≡ stage.Going at }
+    requires holds { Holds code.now at instruction }
+    requires call { IsCall instruction }
+    requires none { run.old.budget ≡ 0 }
+    ensures machine { IsMachine (state_of code.now branch.now run.new false) }
+    ensures same { run.new.query ≡ run.old.query }
+    ensures says { Says (state_of code.now branch.now run.old false) result
+        (state_of code.now branch.now run.new false) }
+{
+    run.stage = Stage::Ended(Ending::Budget);
+    MachineEvent::Budget
+}
+
+/// Takes an instruction that may say something.
+fn speak<A: Agenda + Drop>(
+    alloc: Global,
+    code: &CodeArea,
+    at: usize,
+    instruction: Code,
+    branch: &mut BranchState<A>,
+    run: &mut Run,
+) -> Result<Option<MachineEvent>, NoMemory>
+    requires machine { IsMachine (state_of code.now branch.old run.old false) }
+    requires stage { run.old.stage ≡ stage.Going at }
+    requires holds { Holds code.now at instruction }
+    requires says { MaySay run.old.budget instruction }
+    ensures machine { OnOk result (IsMachine (state_of code.now branch.new run.new false)) }
+    ensures same { OnOk result (run.new.query ≡ run.old.query) }
+    ensures step { IfOk result (λ o. IsStep (state_of code.now branch.old run.old false) o
+        (state_of code.now branch.new run.new false)) }
+{
+    match instruction {
+        Code::AnswerNow => Ok(Some(answer(alloc, code, at, branch, run)?)),
+        Code::Call(_) | Code::Execute(_) | Code::Either(_) => {
+            Ok(Some(stop(code, at, instruction, branch, run)))
+        }
+        Code::Builtin(_) | Code::Constrain(_) | Code::Label(_) | Code::PostRange(_, _) => {
+            reduce(code, at, instruction, branch, run)
+        }
+        _ => unreachable!(),
+    }
+}
+
+/// The end of a run that has no choice point left on its way back.
+fn end<A: Agenda + Drop>(code: &CodeArea, branch: &BranchState<A>, run: &mut Run) -> MachineEvent
+    requires machine { IsMachine (state_of code.now branch.now run.old false) }
+    requires stage { run.old.stage ≡ stage.Returning }
+    requires none { length run.old.areas.points ≡ 0 }
+    ensures machine { IsMachine (state_of code.now branch.now run.new false) }
+    ensures same { run.new.query ≡ run.old.query }
+    ensures says { Says (state_of code.now branch.now run.old false) result
+        (state_of code.now branch.now run.new false) }
+{
+    run.stage = Stage::Ended(Ending::End);
+    MachineEvent::End
+}
+
+/// Takes a step where something may have to be said.
+fn step<A: Agenda + Drop>(
+    alloc: Global,
+    code: &CodeArea,
+    branch: &mut BranchState<A>,
+    run: &mut Run,
+) -> Result<Option<MachineEvent>, NoMemory>
+    requires machine { IsMachine (state_of code.now branch.old run.old false) }
+    requires says { IsToSay (state_of code.now branch.old run.old false) }
+    ensures machine { OnOk result (IsMachine (state_of code.now branch.new run.new false)) }
+    ensures same { OnOk result (run.new.query ≡ run.old.query) }
+    ensures step { IfOk result (λ o. IsStep (state_of code.now branch.old run.old false) o
+        (state_of code.now branch.new run.new false)) }
+{
+    match run.stage {
+        Stage::Going(at) => {
+            let instruction = code_at(code, at);
+            speak(alloc, code, at, instruction, branch, run)
+        }
+        Stage::Returning => Ok(Some(end(code, branch, run))),
+        Stage::Ended(ending) => Ok(Some(said(ending))),
+    }
+}
+
+/// Goes to the next event.
+pub(crate) fn run_on<A: Agenda + Drop>(
+    alloc: Global,
+    code: &CodeArea,
+    branch: &mut BranchState<A>,
+    run: &mut Run,
+) -> Result<MachineEvent, NoMemory>
+    requires { IsMachine (state_of code.now branch.old run.old false) }
+    ensures machine { OnOk result (IsMachine (state_of code.now branch.new run.new false)) }
+    ensures same { OnOk result (run.new.query ≡ run.old.query) }
+    ensures says { IfOk result (λ e. Says (state_of code.now branch.old run.old false) e
+        (state_of code.now branch.new run.new false)) }
+{
+    'going: loop {
+        walk(code, branch, run)?;
+        if let Some(event) = step(alloc, code, branch, run)? {
+            return Ok(event);
+        }
+    }
+}
