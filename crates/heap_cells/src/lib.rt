@@ -4,7 +4,7 @@
 //! variable that is older than the newest mark is saved on the trail before it changes.
 #![tactic(auto)]
 
-ghost use Rattle.std.specs.Prelude.{◌≡◌, ◌<◌, ◌≤◌, [], ◌∷◌, length, length as count, take, drop, slice_set, Ok, false, IfOk, OnOk, OnErr, All, reverse, MatchOption, IsTrue, ◌↔◌};
+ghost use Rattle.std.specs.Prelude.{◌≡◌, ◌<◌, ◌≤◌, [], ◌∷◌, ◌++◌, length, length as count, take, drop, slice_set, Ok, false, IfOk, OnOk, OnErr, All, reverse, MatchOption, IsTrue, ◌↔◌};
 ghost use Rattle.heap_cells.specs.declared.Cell.TheVariants as cell;
 ghost use Rattle.heap_cells.specs.Cells.{free, linked, bound, is_bound, no_cells, slot_at, IsOf, with_slot, with_new_slot, with_now, with_mark, AddsCompound};
 ghost use Rattle.heap_cells.specs.Terms.{KeepsTerms, Same, IsAbsent, Replaces};
@@ -101,6 +101,7 @@ impl Model for Heap {
 }
 
 /// A variable bound to a cell.
+#[inline]
 fn bound_to(c: Cell) -> Variable
     ensures { slot_of result ≡ bound c }
 {
@@ -126,7 +127,19 @@ fn binding_of(v: Variable) -> Option<Cell>
     }
 }
 
+/// Puts a variable on the trail.
+#[inline(never)]
+fn save(trail: &mut Vec<Saved>, at: usize, was: Variable) -> Result<(), NoMemory>
+    ensures saved { OnOk result (trail.new.items
+        ≡ trail.old.items ++ record { at = at; was = was } ∷ []) }
+    ensures err { OnErr result (trail.new.items ≡ trail.old.items) }
+{
+    trail.push(Saved { at, was })?;
+    Ok(())
+}
+
 /// Changes a variable, which is saved where it is older than the newest mark.
+#[inline]
 fn change(
     variables: &mut Vec<Variable>,
     trail: &mut Vec<Saved>,
@@ -146,8 +159,7 @@ fn change(
         None => 0,
     };
     if at < newest {
-        let was = variables[at];
-        trail.push(Saved { at, was })?;
+        save(trail, at, variables[at])?;
     }
     variables[at] = to;
     Ok(())
@@ -184,6 +196,7 @@ impl Heap {
     }
 
     /// Whether a cell is of this heap. No memory.
+    #[inline]
     pub fn has(&self, c: Cell) -> bool
         ensures { IsTrue result ↔ IsOf self.now.now c }
     {
@@ -195,6 +208,7 @@ impl Heap {
     }
 
     /// The cell at the end of a cell's bindings: a variable that isn't bound, a constant or a compound term. No memory.
+    #[inline]
     pub fn root(&self, c: Cell) -> Cell
         requires { IsOf self.now.now c }
         ensures root { IsRoot self.now.now result }
@@ -214,6 +228,7 @@ impl Heap {
     }
 
     /// What a cell of this heap comes to. No memory.
+    #[inline]
     pub fn deref(&self, c: Cell) -> Seen<'_>
         requires { IsOf self.now.now c }
         ensures seen { IsSeen self.now.now c result }
@@ -235,6 +250,7 @@ impl Heap {
     }
 
     /// A new variable, which is open. The error is want of memory, and the heap is then as before.
+    #[inline]
     pub fn new_var(&mut self) -> Result<Cell, NoMemory>
         ensures id { IfOk result (λ c. c ≡ cell.Ref (length self.old.now.slots)) }
         ensures added { OnOk result (self.new ≡ with_now self.old (with_new_slot self.old.now)) }
@@ -269,6 +285,7 @@ impl Heap {
 
     /// Binds a variable that isn't bound to a cell in which it doesn't occur. The error is want of memory, and the heap is then as
     /// before.
+    #[inline]
     pub fn bind(&mut self, var: usize, to: Cell) -> Result<(), NoMemory>
         requires there { var < length self.old.now.slots }
         requires unbound { is_bound (slot_at self.old.now var) ≡ false }
@@ -290,6 +307,7 @@ impl Heap {
     }
 
     /// Makes an open variable one of the store. The error is want of memory, and the heap is then as before.
+    #[inline]
     pub fn constrain(&mut self, var: usize, k: usize) -> Result<(), NoMemory>
         requires there { var < length self.old.now.slots }
         requires open { slot_at self.old.now var ≡ free }
@@ -310,6 +328,7 @@ impl Heap {
 
     /// Puts a copy of the current heap below it, at the cost of four numbers. The error is want of memory, and the heap is then as
     /// before.
+    #[inline]
     pub fn mark(&mut self) -> Result<(), NoMemory>
         ensures marked { OnOk result (self.new ≡ with_mark self.old) }
         ensures err { OnErr result (self.new ≡ self.old) }
