@@ -4,4 +4,3 @@ pub mod Efforts
 pub mod Occurring
 pub mod Stepping
 pub mod Whole
-pub mod Constants

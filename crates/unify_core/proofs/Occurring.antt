@@ -1,7 +1,8 @@
--- A walk over cells in which a variable is looked for.
-use Rattle.std.proofs.Common.{◌≡◌, ℕ, ℤ, ◌+◌, ◌<◌, Bool, true, false, ◌||◌, ◌==◌, refl, ap, sym, ◌∙◌, subst, arith, List, [], ◌∷◌, ◌++◌, eq-eqb, ne_eqb}
-use Rattle.std.specs.Prelude.{All, reverse}
-use Rattle.std.proofs.lemmas.List.{reverse-append}
+-- A walk over compound terms in which a variable is looked for.
+use Rattle.std.proofs.Common.{◌≡◌, ℕ, suc, ℤ, ◌+◌, ◌<◌, Bool, true, false, ◌||◌, ◌==◌, refl, ap, sym, ◌∙◌, subst, arith, List, [], ◌∷◌, ◌++◌, length, take, drop, get_or, append_assoc, drop-cons, eq-eqb, ne_eqb}
+use Rattle.std.specs.Prelude.{All}
+use Rattle.std.proofs.Math.Seq.{take-suc}
+use Rattle.std.proofs.lemmas.List.{append-nil, map-append, take-append-drop}
 use Rattle.std.proofs.lemmas.List.Elements.{All-append}
 use Rattle.term_pool.specs.declared.AtomId.{AtomId}
 use Rattle.term_pool.specs.Terms.{size, sizes}
@@ -10,18 +11,17 @@ use Rattle.heap_cells.specs.declared.Cell.{Cell}
 use Rattle.heap_cells.specs.declared.Cell.TheVariants as cell
 use Rattle.heap_cells.specs.Cells.{Cells, free, is_bound, slot_at, compound_at, IsOf}
 use Rattle.heap_cells.specs.Terms.{Naming, terms_by, term_of, occurs, occurs_any, Same}
-use Rattle.std.proofs.Common.{Bor}
 use Rattle.heap_cells.specs.declared.Seen.{Seen}
 use Rattle.heap_cells.specs.declared.Seen.TheVariants as seen
 use Rattle.heap_cells.specs.Seen.{IsSeen, IsTop, IsRoot}
 use Rattle.heap_cells.specs.Valid.{IsHeap}
 use Rattle.heap_cells.proofs.Ranks.{unbound_term, term-Int, term-Atom, term-Struct}
-use Rattle.heap_cells.proofs.Substitutions.{size_positive}
 use Rattle.unify_core.specs.Effort.{unnamed}
 use Rattle.unify_core.specs.Touches.{IsSymbolic}
+use Rattle.unify_core.specs.Occurs.{compounds, OccursAmong, LeavesAhead}
 use Rattle.unify_core.specs.Outcome.{TellsOccurs, IsInfinite}
-use Rattle.unify_core.proofs.Reducing.{IsCompound, compound_term_is, compound_own}
-use Rattle.heap_cells.proofs.Elements.{none_at_all, both_of, all_front, last_of, all_reverse}
+use Rattle.unify_core.proofs.Reducing.{IsCompound, compound_term_is}
+use Rattle.heap_cells.proofs.Elements.{none_at_all, both_of, all_front, last_of}
 
 or_assoc : (a b c : Bool) → ((a || b) || c) ≡ (a || (b || c))
 or_assoc true b c = refl
@@ -35,88 +35,124 @@ occurs_any-append : (v : ℕ) (by : Cell → Term) (cs ds : List Cell) → occur
 occurs_any-append v by [] ds = refl
 occurs_any-append v by (c ∷ cs) ds = ap (λ b. occurs v (by c) || b) (occurs_any-append v by cs ds) ∙ sym (or_assoc (occurs v (by c)) (occurs_any v (terms_by by cs)) (occurs_any v (terms_by by ds)))
 
-or_turned : (a b : Bool) → (a || (b || false)) ≡ (b || a)
-or_turned true true = refl
-or_turned true false = refl
-or_turned false true = refl
-or_turned false false = refl
-
-occurs_any-reverse : (v : ℕ) (by : Cell → Term) (cs : List Cell) → occurs_any v (terms_by by (reverse cs)) ≡ occurs_any v (terms_by by cs)
-occurs_any-reverse v by [] = refl
-occurs_any-reverse v by (c ∷ cs) =
-    ap (λ l. occurs_any v (terms_by by l)) (reverse-append (c ∷ []) cs) ∙ occurs_any-append v by (reverse cs) (c ∷ [])
-    ∙ or_turned (occurs_any v (terms_by by (reverse cs))) (occurs v (by c)) ∙ ap (λ b. occurs v (by c) || b) (occurs_any-reverse v by cs)
-
 sizes-append : (by : Cell → Term) (cs ds : List Cell) → sizes (terms_by by (cs ++ ds)) ≡ sizes (terms_by by cs) + sizes (terms_by by ds)
 sizes-append by [] ds = omega arith
 sizes-append by (c ∷ cs) ds = let e = sizes-append by cs ds in omega arith
 
-sizes-reverse : (by : Cell → Term) (cs : List Cell) → sizes (terms_by by (reverse cs)) ≡ sizes (terms_by by cs)
-sizes-reverse by [] = refl
-sizes-reverse by (c ∷ cs) = ap (λ l. sizes (terms_by by l)) (reverse-append (c ∷ []) cs) ∙ (let e = sizes-append by (reverse cs) (c ∷ []) in let f = sizes-reverse by cs in omega arith)
+or_there : (a b : Bool) → (a || (true || b)) ≡ true
+or_there true b = refl
+or_there false b = refl
 
--- what is before the walk, and what it has found so far: the variable occurs in the top where it occurs in a cell ahead
-abbrev pub ahead_size : Cells → List Cell → ℕ
-ahead_size h cs = sizes (terms_by (term_of unnamed h) cs)
+-- the same of compound terms by their numbers
+any_compounds-append : (v : ℕ) (by : Cell → Term) (js ks : List ℕ) → occurs_any v (terms_by by (compounds (js ++ ks))) ≡ (occurs_any v (terms_by by (compounds js)) || occurs_any v (terms_by by (compounds ks)))
+any_compounds-append v by js ks = ap (λ cs. occurs_any v (terms_by by cs)) (map-append cell.Struct js ks) ∙ occurs_any-append v by (compounds js) (compounds ks)
 
-abbrev pub Looks : Cells → ℕ → List Cell → Cell → Type 0
-Looks h v ahead top = All (IsOf h) ahead × ((name : Naming) → occurs_any v (terms_by (term_of name h) ahead) ≡ occurs v (term_of name h top))
+pub ahead_size : Cells → List ℕ → ℕ
+ahead_size h js = sizes (terms_by (term_of unnamed h) (compounds js))
 
-pub looks_first : (h : Cells) (v : ℕ) (top : Cell) (ahead : List Cell) → ahead ≡ top ∷ [] → IsOf h top → Looks h v ahead top
-looks_first h v top ahead e o = subst (λ cs. Looks h v cs top) (sym e) (both_of (IsOf h) top [] o (none_at_all (IsOf h)), λ name. or_nothing (occurs v (term_of name h top)))
+ahead_size-append : (h : Cells) (js ks : List ℕ) → ahead_size h (js ++ ks) ≡ ahead_size h js + ahead_size h ks
+unfolding ahead_size
+ahead_size-append h js ks = ap (λ cs. sizes (terms_by (term_of unnamed h) cs)) (map-append cell.Struct js ks) ∙ sizes-append (term_of unnamed h) (compounds js) (compounds ks)
 
-pub looks_last : (h : Cells) (v : ℕ) (top : Cell) (ahead : List Cell) → ahead ≡ [] → Looks h v ahead top → TellsOccurs h v top false
-looks_last h v top ahead e l name = sym (ap (λ cs. occurs_any v (terms_by (term_of name h) cs)) e) ∙ l.1 name
+own_both : (h : Cells) (js ks : List ℕ) → All (IsOf h) (compounds js) → All (IsOf h) (compounds ks) → All (IsOf h) (compounds (js ++ ks))
+own_both h js ks a b = subst (All (IsOf h)) (sym (map-append cell.Struct js ks)) (All-append (IsOf h) (compounds js) (compounds ks) a b)
 
--- the last cell is one in which the variable doesn't occur
-module _ (h : Cells) (v : ℕ) (ahead rest : List Cell) (top c : Cell) (split : ahead ≡ rest ++ c ∷ []) (looks : Looks h v ahead top) where
-  pub rest_smaller : ahead_size h rest < ahead_size h ahead
-  rest_smaller = let e = ap (ahead_size h) split in let f = sizes-append (term_of unnamed h) rest (c ∷ []) in let g = size_positive (term_of unnamed h c) in omega arith
+-- ---- a look at cells in their order
 
-  own : IsOf h c
-  own = last_of (IsOf h) rest c (subst (All (IsOf h)) split looks.0)
+pub leaves_none : (h : Cells) (v : ℕ) (old : List ℕ) → LeavesAhead h v [] old old
+leaves_none h v old = record { more = []; ahead = sym (append-nil old); own = none_at_all (IsOf h); same = λ name. refl; smaller = omega arith }
 
-  pub rest_looks : ((name : Naming) → occurs v (term_of name h c) ≡ false) → Looks h v rest top
-  rest_looks not_there = (
-    all_front (IsOf h) rest (c ∷ []) (subst (All (IsOf h)) split looks.0),
-    λ name.
+module _ (h : Cells) (v : ℕ) (cs : List Cell) (c : Cell) (old now : List ℕ) (l : LeavesAhead h v cs old now) where
+  pub leaves_absent : ((name : Naming) → occurs v (term_of name h c) ≡ false) → LeavesAhead h v (cs ++ c ∷ []) old now
+  leaves_absent absent = record {
+    more = l.more;
+    ahead = l.ahead;
+    own = l.own;
+    same = λ name.
         let T = term_of name h in
-        let e : (occurs_any v (terms_by T rest) || (occurs v (T c) || false)) ≡ occurs_any v (terms_by T rest) = ap (λ b. occurs_any v (terms_by T rest) || (b || false)) (not_there name) ∙ or_nothing (occurs_any v (terms_by T rest)) in
-        sym e ∙ sym (occurs_any-append v T rest (c ∷ [])) ∙ ap (λ l. occurs_any v (terms_by T l)) (sym split) ∙ looks.1 name,
-  )
+        l.same name ∙ sym (occurs_any-append v T cs (c ∷ []) ∙ ap (λ b. occurs_any v (terms_by T cs) || (b || false)) (absent name) ∙ or_nothing (occurs_any v (terms_by T cs)));
+    smaller = let e = sizes-append (term_of unnamed h) cs (c ∷ []) in let s = l.smaller in omega arith;
+  }
 
-  or_right : (a b : Bool) → b ≡ true → (a || (b || false)) ≡ true
-  or_right true b e = refl
-  or_right false b e = ap (λ x. x || false) e
+  pub leaves_pushed : (j : ℕ) (next : List ℕ) → next ≡ now ++ j ∷ [] → IsOf h (cell.Struct j) → Same h c (cell.Struct j) → LeavesAhead h v (cs ++ c ∷ []) old next
+  leaves_pushed j next e o s = record {
+    more = l.more ++ j ∷ [];
+    ahead = e ∙ ap (λ js. js ++ j ∷ []) l.ahead ∙ append_assoc old l.more (j ∷ []);
+    own = own_both h l.more (j ∷ []) l.own (both_of (IsOf h) (cell.Struct j) [] o (none_at_all (IsOf h)));
+    same = λ name.
+        let T = term_of name h in
+        any_compounds-append v T l.more (j ∷ []) ∙ ap (λ b. b || (occurs v (T (cell.Struct j)) || false)) (l.same name)
+        ∙ ap (λ t. occurs_any v (terms_by T cs) || (occurs v t || false)) (sym (s name)) ∙ sym (occurs_any-append v T cs (c ∷ []));
+    smaller =
+        let T = term_of unnamed h in
+        let d = sizes-append T cs (c ∷ []) in
+        let f = ap (λ ds. sizes (terms_by T ds)) (map-append cell.Struct l.more (j ∷ [])) ∙ sizes-append T (compounds l.more) (cell.Struct j ∷ []) in
+        let z = ap size (s unnamed) in
+        let m = l.smaller in
+        omega arith;
+  }
 
-  pub found_there : ((name : Naming) → occurs v (term_of name h c) ≡ true) → TellsOccurs h v top true
-  found_there there name =
+pub leaves_next : (h : Cells) (v : ℕ) (cs : List Cell) (i : ℕ) (d : Cell) → i < length cs → (old new : List ℕ) → LeavesAhead h v (take i cs ++ get_or cs i d ∷ []) old new → LeavesAhead h v (take (i + 1) cs) old new
+leaves_next h v cs i d l old new = subst (λ ds. LeavesAhead h v ds old new) (sym (take-suc cs i d l) ∙ ap (λ n. take n cs) (let e : suc i ≡ i + 1 = omega arith in e))
+
+-- one of the cells
+pub found_among : (h : Cells) (v : ℕ) (cs : List Cell) (i : ℕ) (d : Cell) → i < length cs → ((name : Naming) → occurs v (term_of name h (get_or cs i d)) ≡ true) → OccursAmong h v cs
+found_among h v cs i d l there name =
+    let T = term_of name h in
+    let rest = drop (suc i) cs in
+    ap (λ ds. occurs_any v (terms_by T ds)) (sym (ap (λ ds. take i cs ++ ds) (sym (drop-cons cs i d l)) ∙ take-append-drop i cs))
+    ∙ occurs_any-append v T (take i cs) (get_or cs i d ∷ rest)
+    ∙ ap (λ b. occurs_any v (terms_by T (take i cs)) || (b || occurs_any v (terms_by T rest))) (there name) ∙ or_there (occurs_any v (terms_by T (take i cs))) (occurs_any v (terms_by T rest))
+
+-- ---- the walk: the variable occurs in the top exactly where it occurs in a compound term ahead
+
+pub record Looks (h : Cells) (v : ℕ) (ahead : List ℕ) (top : Cell) : Type 0 where
+  pub own : All (IsOf h) (compounds ahead)
+  pub same : (name : Naming) → occurs_any v (terms_by (term_of name h) (compounds ahead)) ≡ occurs v (term_of name h top)
+
+pub looks_first : (h : Cells) (v top : ℕ) (ahead : List ℕ) → ahead ≡ [] → IsOf h (cell.Struct top) → Looks h v (ahead ++ top ∷ []) (cell.Struct top)
+looks_first h v top ahead e o = subst (λ js. Looks h v (js ++ top ∷ []) (cell.Struct top)) (sym e) (record {
+  own = both_of (IsOf h) (cell.Struct top) [] o (none_at_all (IsOf h));
+  same = λ name. or_nothing (occurs v (term_of name h (cell.Struct top)));
+})
+
+pub looks_own : (h : Cells) (v : ℕ) (ahead : List ℕ) (at : ℕ) (top : Cell) → Looks h v (ahead ++ at ∷ []) top → IsOf h (cell.Struct at)
+looks_own h v ahead at top l = last_of (IsOf h) (compounds ahead) (cell.Struct at) (subst (All (IsOf h)) (map-append cell.Struct ahead (at ∷ [])) l.own)
+
+pub looks_last : (h : Cells) (v : ℕ) (top : Cell) (ahead : List ℕ) → ahead ≡ [] → Looks h v ahead top → TellsOccurs h v top false
+looks_last h v top ahead e l name = sym (ap (λ js. occurs_any v (terms_by (term_of name h) (compounds js))) e) ∙ l.same name
+
+module _ (h : Cells) (valid : IsHeap h) (v : ℕ) (ahead : List ℕ) (at : ℕ) (top : Cell) (looks : Looks h v (ahead ++ at ∷ []) top) (f : AtomId) (args : List Cell) (compound : IsCompound h (cell.Struct at) f args) where
+  last_is : (name : Naming) → (occurs_any v (terms_by (term_of name h) (compounds ahead)) || occurs_any v (terms_by (term_of name h) args)) ≡ occurs v (term_of name h top)
+  last_is name =
       let T = term_of name h in
-      sym (sym (looks.1 name) ∙ ap (λ l. occurs_any v (terms_by T l)) split ∙ occurs_any-append v T rest (c ∷ []) ∙ or_right (occurs_any v (terms_by T rest)) (occurs v (T c)) (there name))
+      let a = occurs_any v (terms_by T (compounds ahead)) in
+      sym (ap (λ b. a || b) (or_nothing (occurs v (T (cell.Struct at))) ∙ ap (occurs v) (compound_term_is name h valid (cell.Struct at) f args compound)))
+      ∙ sym (any_compounds-append v T ahead (at ∷ [])) ∙ looks.same name
 
-  -- a compound term, whose arguments take its place
-  module _ (valid : IsHeap h) (f : AtomId) (args next : List Cell) (compound : IsCompound h c f args) (next_is : next ≡ rest ++ reverse args) where
-    pub args_smaller : ahead_size h next < ahead_size h ahead
-    args_smaller =
-        let e = ap (ahead_size h) split in
-        let g = sizes-append (term_of unnamed h) rest (c ∷ []) in
-        let i = ap (ahead_size h) next_is in
-        let j = sizes-append (term_of unnamed h) rest (reverse args) in
-        let r = sizes-reverse (term_of unnamed h) args in
-        let k : size (term_of unnamed h c) ≡ 1 + sizes (terms_by (term_of unnamed h) args) = ap size (compound_term_is unnamed h valid c f args compound) in
-        omega arith
+  or_right : (a b : Bool) → b ≡ true → (a || b) ≡ true
+  or_right true b e = refl
+  or_right false b e = e
 
-    pub args_look : Looks h v next top
-    args_look = (
-      subst (All (IsOf h)) (sym next_is) (All-append (IsOf h) rest (reverse args) (all_front (IsOf h) rest (c ∷ []) (subst (All (IsOf h)) split looks.0)) (all_reverse (IsOf h) args (compound_own h valid c f args compound))),
-      λ name.
-          let T = term_of name h in
-          let a = occurs_any v (terms_by T rest) in
-          let k : occurs v (T c) ≡ occurs_any v (terms_by T (reverse args)) = ap (occurs v) (compound_term_is name h valid c f args compound) ∙ sym (occurs_any-reverse v T args) in
-          ap (λ l. occurs_any v (terms_by T l)) next_is ∙ occurs_any-append v T rest (reverse args)
-          ∙ sym (ap (λ b. a || b) (or_nothing (occurs v (T c)) ∙ k))
-          ∙ sym (occurs_any-append v T rest (c ∷ [])) ∙ ap (λ l. occurs_any v (terms_by T l)) (sym split) ∙ looks.1 name,
-    )
+  pub found_there : OccursAmong h v args → TellsOccurs h v top true
+  found_there there name = sym (sym (last_is name) ∙ or_right (occurs_any v (terms_by (term_of name h) (compounds ahead))) (occurs_any v (terms_by (term_of name h) args)) (there name))
+
+  pub looks_further : (next : List ℕ) → LeavesAhead h v args ahead next → Looks h v next top
+  looks_further next l = subst (λ js. Looks h v js top) (sym l.ahead) (record {
+    own = own_both h ahead l.more (all_front (IsOf h) (compounds ahead) (compounds (at ∷ [])) (subst (All (IsOf h)) (map-append cell.Struct ahead (at ∷ [])) looks.own)) l.own;
+    same = λ name.
+        let T = term_of name h in
+        any_compounds-append v T ahead l.more ∙ ap (λ b. occurs_any v (terms_by T (compounds ahead)) || b) (l.same name) ∙ last_is name;
+  })
+
+  pub looks_smaller : (next : List ℕ) → LeavesAhead h v args ahead next → ahead_size h next < ahead_size h (ahead ++ at ∷ [])
+  unfolding ahead_size
+  looks_smaller next l =
+      let e = ap (ahead_size h) l.ahead ∙ ahead_size-append h ahead l.more in
+      let g = ahead_size-append h ahead (at ∷ []) in
+      let k : size (term_of unnamed h (cell.Struct at)) ≡ 1 + sizes (terms_by (term_of unnamed h) args) = ap size (compound_term_is unnamed h valid (cell.Struct at) f args compound) in
+      let s = l.smaller in
+      omega arith
 
 -- what is seen at a cell
 pub var_occurs : (h : Cells) → IsHeap h → (v i : ℕ) (c : Cell) → is_bound (slot_at h i) ≡ false → Same h c (cell.Ref i) → (name : Naming) → occurs v (term_of name h c) ≡ (i == v)
@@ -134,14 +170,12 @@ int_absent h valid v c z s name = ap (occurs v) (s name ∙ term-Int name h vali
 pub atom_absent : (h : Cells) → IsHeap h → (v : ℕ) (c : Cell) (a : AtomId) → Same h c (cell.Atom a) → (name : Naming) → occurs v (term_of name h c) ≡ false
 atom_absent h valid v c a s name = ap (occurs v) (s name ∙ term-Atom name h valid a)
 
--- a constant
-pub else_absent : (h : Cells) → IsHeap h → (v : ℕ) (c : Cell) (y : Seen) → IsSeen h c y → ((f : AtomId) (args : Bor (List Cell)) → y ≡ seen.Struct f args → ⊥) → ((i : ℕ) → y ≡ seen.Open i → ⊥) → ((i k : ℕ) → y ≡ seen.Constrained i k → ⊥)
-    → (name : Naming) → occurs v (term_of name h c) ≡ false
-else_absent h valid v c (seen.Open i) s a b d = absurd (b i refl)
-else_absent h valid v c (seen.Constrained i k) s a b d = absurd (d i k refl)
-else_absent h valid v c (seen.Int z) s a b d = int_absent h valid v c z s
-else_absent h valid v c (seen.Atom x) s a b d = atom_absent h valid v c x s
-else_absent h valid v c (seen.Struct f args) s a b d = absurd (a f args refl)
+-- a cell that comes to a constant
+pub constant_absent : (h : Cells) → IsHeap h → (v : ℕ) (c to : Cell) → Same h c to → ((i : ℕ) → to ≡ cell.Ref i → ⊥) → ((j : ℕ) → to ≡ cell.Struct j → ⊥) → (name : Naming) → occurs v (term_of name h c) ≡ false
+constant_absent h valid v c (cell.Ref i) s r n = absurd (r i refl)
+constant_absent h valid v c (cell.Int z) s r n = int_absent h valid v c z s
+constant_absent h valid v c (cell.Atom x) s r n = atom_absent h valid v c x s
+constant_absent h valid v c (cell.Struct j) s r n = absurd (n j refl)
 
 -- another root that is no compound term
 pub root_absent : (h : Cells) → IsHeap h → (v : ℕ) (to : Cell) → IsRoot h to → (to ≡ cell.Ref v → ⊥) → ((j : ℕ) → to ≡ cell.Struct j → ⊥) → (name : Naming) → occurs v (term_of name h to) ≡ false

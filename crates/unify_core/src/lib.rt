@@ -1,19 +1,20 @@
 //! Unification of two cells of a heap.
 #![tactic(auto)]
 
-ghost use Rattle.std.specs.Prelude.{◌≡◌, ℕ, ◌<◌, ◌++◌, [], ◌∷◌, length, reverse, IfOk, OnOk};
+ghost use Rattle.std.specs.Prelude.{◌≡◌, ℕ, ◌<◌, ◌++◌, [], ◌∷◌, length, reverse, All, IfOk, OnOk, MatchOption};
 ghost use Rattle.heap_cells.specs.declared.Cell.TheVariants as cell;
 ghost use Rattle.heap_cells.specs.Cells.{free, linked, slot_at, IsOf};
 ghost use Rattle.heap_cells.specs.Seen.{IsRoot};
 ghost use Rattle.heap_cells.specs.Valid.{IsHeap};
 ghost use Rattle.unify_core.specs.Reduces.{IsOwn, IsSameSize};
 ghost use Rattle.unify_core.specs.Outcome.{IfTrue, IfFalse, IfYes, IfNo, IsDone, IsHopeless, IsBinding, IsInfinite, IsSymbolicCell, TellsOccurs, TellsTouch, paired};
-ghost use Rattle.unify_core.specs.Opened.{BindsOpen};
+ghost use Rattle.unify_core.specs.Occurs.{OccursAmong, LeavesAhead};
 ghost use Rattle.unify_core.specs.Unified.{AreUnified, CannotUnify, KeepsAtoms, IsEqualled};
 
 use fd_language::NoMemory;
 use heap_cells::{Cell, Heap, Seen};
 use std::alloc::{AllocError, Global};
+use std::marker::Model;
 
 /// What the store is to be told.
 #[derive(Clone, Copy, Debug, PartialEq, Eq)]
@@ -39,44 +40,104 @@ struct Pair {
     right: Cell,
 }
 
-/// Puts cells behind those ahead, so that the first of them is the next. The error is want of memory.
-fn look_into(ahead: &mut Vec<Cell>, cells: &[Cell]) -> Result<(), AllocError>
-    ensures { OnOk result (ahead.new.items ≡ ahead.old.items ++ reverse cells.now) }
-{
-    for i in (0..cells.len()).rev() {
-        ahead.push(cells[i])?;
-    }
-    Ok(())
+/// Compound terms that are still to be looked into, by their numbers. The last one is kept apart, so that the walk along a list takes
+/// no memory.
+#[derive(Drop)]
+struct Ahead {
+    others: Vec<usize>,
+    last: Option<usize>,
 }
 
-/// Whether a variable that isn't bound occurs in the term of a cell. The error is want of memory.
-#[inline(never)]
-fn occurs_in(heap: &Heap, alloc: Global, var: usize, top: Cell) -> Result<bool, NoMemory>
-    requires { IsOf heap.now.now top }
-    ensures { IfOk result (TellsOccurs heap.now.now var top) }
+impl Model for Ahead {
+    ghost use Rattle.std.specs.Prelude.{ℕ, List};
+
+    ghost Value = { List ℕ };
+
+    ghost use Rattle.unify_core.specs.Occurs.{with_last};
+
+    ghost view = { λ a. with_last a.others.items a.last };
+}
+
+impl Ahead {
+    /// Nothing yet. No memory.
+    #[inline]
+    fn new(alloc: Global) -> Ahead
+        ensures { result ≡ [] }
+    {
+        Ahead {
+            others: Vec::new(alloc),
+            last: None,
+        }
+    }
+
+    /// Puts a compound term behind the others. The error is want of memory.
+    #[inline]
+    fn push(&mut self, j: usize) -> Result<(), NoMemory>
+        ensures { OnOk result (self.new ≡ self.old ++ j ∷ []) }
+    {
+        if let Some(last) = self.last {
+            self.others.push(last)?;
+        }
+        self.last = Some(j);
+        Ok(())
+    }
+
+    /// Takes the last one. No memory.
+    #[inline]
+    fn pop(&mut self) -> Option<usize>
+        ensures { MatchOption result (self.old ≡ []) (λ j. self.old ≡ self.new ++ j ∷ []) }
+    {
+        match self.last.take() {
+            Some(j) => Some(j),
+            None => self.others.pop(),
+        }
+    }
+}
+
+/// Whether a variable that isn't bound is one of the cells. Compound terms among them are put behind those ahead. The error is want of
+/// memory.
+fn look_into(heap: &Heap, var: usize, cells: &[Cell], ahead: &mut Ahead) -> Result<bool, NoMemory>
+    requires { All (IsOf heap.now.now) cells.now }
+    ensures found { IfTrue result (OccursAmong heap.now.now var cells.now) }
+    ensures further { IfFalse result (LeavesAhead heap.now.now var cells.now ahead.old ahead.new) }
 {
-    let mut ahead = Vec::new(alloc);
-    ahead.push(top)?;
-    while let Some(c) = ahead.pop() {
-        match heap.deref(c) {
-            Seen::Struct(_, args) => look_into(&mut ahead, args)?,
-            Seen::Open(i) => {
+    for c in cells {
+        match heap.root(*c) {
+            Cell::Ref(i) => {
                 if i == var {
                     return Ok(true);
                 }
             }
-            Seen::Constrained(i, _) => {
-                if i == var {
-                    return Ok(true);
-                }
-            }
+            Cell::Struct(j) => ahead.push(j)?,
             _ => {}
         }
     }
     Ok(false)
 }
 
+/// Whether a variable that isn't bound occurs in a compound term. The error is want of memory.
+fn occurs_in(heap: &Heap, alloc: Global, var: usize, top: usize) -> Result<bool, NoMemory>
+    requires { IsOf heap.now.now (cell.Struct top) }
+    ensures { IfOk result (TellsOccurs heap.now.now var (cell.Struct top)) }
+{
+    let mut ahead = Ahead::new(alloc);
+    let mut at = top;
+    'compounds: loop {
+        let Seen::Struct(_, args) = heap.deref(Cell::Struct(at)) else {
+            return Ok(false);
+        };
+        if look_into(heap, var, args, &mut ahead)? {
+            return Ok(true);
+        }
+        match ahead.pop() {
+            Some(next) => at = next,
+            None => return Ok(false),
+        }
+    }
+}
+
 /// Binds an open variable to another root, unless it occurs there. The error is want of memory.
+#[inline]
 fn bind_open(heap: &mut Heap, alloc: Global, var: usize, to: Cell) -> Result<bool, NoMemory>
     requires valid { IsHeap heap.old.now }
     requires there { var < length heap.old.now.slots }
@@ -88,8 +149,8 @@ fn bind_open(heap: &mut Heap, alloc: Global, var: usize, to: Cell) -> Result<boo
     ensures infinite { IfFalse result (IsInfinite heap.old.now var to) }
     ensures below { heap.new.below ≡ heap.old.below }
 {
-    if let Cell::Struct(_) = to {
-        if occurs_in(heap, alloc, var, to)? {
+    if let Cell::Struct(j) = to {
+        if occurs_in(heap, alloc, var, j)? {
             return Ok(false);
         }
     }
@@ -143,6 +204,7 @@ fn pair_up(work: &mut Vec<Pair>, left: &[Cell], right: &[Cell]) -> Result<(), Al
 }
 
 /// Works off a pair of cells. The answer tells whether they may be equal. The error is want of memory.
+#[inline]
 fn step(
     heap: &mut Heap,
     alloc: Global,
@@ -186,92 +248,16 @@ fn step(
     }
 }
 
-/// Makes two cells of a heap equal, where that can be done: the unification of ISO/IEC 13211-1, 7.3, with its occurs check.
-///
-/// `No` comes exactly where their terms have no unifier, or each would make a variable of the store an atom or a compound term. The
-/// error is want of memory. After both the heaps below are as before, and the current one is to be given up by `undo_to_mark`.
-pub fn unify(heap: &mut Heap, alloc: Global, a: Cell, b: Cell) -> Result<Unified, NoMemory>
-    requires marked { 0 < length heap.old.below }
-    requires own_a { IsOf heap.old.now a }
-    requires own_b { IsOf heap.old.now b }
-    ensures yes { IfYes result (AreUnified heap.old.now a b heap.new.now) }
-    ensures no { IfNo result (CannotUnify heap.old.now a b) }
-    ensures size { IfYes result (λ ts. IsSameSize heap.old.now heap.new.now) }
-    ensures atoms { IfYes result (λ ts. KeepsAtoms heap.old.now a b heap.new.now) }
-    ensures below { heap.new.below ≡ heap.old.below }
-{
-    let mut work = Vec::new(alloc);
-    let mut touches = Vec::new(alloc);
-    let mut pair = Pair { left: a, right: b };
-    'pairs: loop {
-        if !step(heap, alloc, pair, &mut work, &mut touches)? {
-            return Ok(Unified::No);
-        }
-        match work.pop() {
-            Some(next) => pair = next,
-            None => return Ok(Unified::Yes(touches)),
-        }
-    }
-}
-
-/// Binds the open variable that a cell comes to, if it does, to a constant. Whether that was so. The error is want of memory.
-#[inline(always)]
-fn bind_constant(heap: &mut Heap, c: Cell, to: Cell) -> Result<bool, NoMemory>
-    requires own { IsOf heap.old.now c }
-    ensures bound { IfTrue result (BindsOpen heap.old.now c to heap.new.now) }
-    ensures other { IfFalse result (heap.new ≡ heap.old) }
-    ensures below { heap.new.below ≡ heap.old.below }
-{
-    match to {
-        Cell::Int(_) | Cell::Atom(_) => match heap.deref(c) {
-            Seen::Open(i) => {
-                heap.bind(i, to)?;
-                Ok(true)
-            }
-            _ => Ok(false),
-        },
-        _ => Ok(false),
-    }
-}
-
 /// What holds of the current heap.
+#[inline]
 fn know(heap: &Heap)
     ensures { IsHeap heap.now.now }
 {
     let _ = heap.root(Cell::Int(0));
 }
 
-/// The same, where the general way is taken: what the store is to be told goes behind `touches`.
-#[inline(never)]
-fn unify_behind(
-    heap: &mut Heap,
-    alloc: Global,
-    a: Cell,
-    b: Cell,
-    touches: &mut Vec<Touch>,
-) -> Result<bool, NoMemory>
-    requires marked { 0 < length heap.old.below }
-    requires own_a { IsOf heap.old.now a }
-    requires own_b { IsOf heap.old.now b }
-    ensures equal { IfTrue result (IsEqualled heap.old.now a b heap.new.now touches.old.items
-        touches.new.items) }
-    ensures unequal { IfFalse result (CannotUnify heap.old.now a b) }
-    ensures atoms { IfTrue result (KeepsAtoms heap.old.now a b heap.new.now) }
-    ensures valid { IfTrue result (IsHeap heap.new.now) }
-    ensures below { heap.new.below ≡ heap.old.below }
-{
-    match unify(heap, alloc, a, b)? {
-        Unified::No => Ok(false),
-        Unified::Yes(more) => {
-            touches.extend_from_slice(&more)?;
-            know(heap);
-            Ok(true)
-        }
-    }
-}
-
-/// Makes two cells of a heap equal as `unify` does, and puts what the store is to be told behind `touches`. Where two integers meet,
-/// or an open variable and a constant, that is done at once. `false` comes exactly where `unify` says `No`.
+/// Makes two cells of a heap equal as `unify` does, and puts what the store is to be told behind `touches`. No memory is taken but for
+/// touches, the trail, and compound terms on both sides or within another. `false` comes exactly where `unify` says `No`.
 pub fn unify_into(
     heap: &mut Heap,
     alloc: Global,
@@ -289,22 +275,40 @@ pub fn unify_into(
     ensures valid { IfTrue result (IsHeap heap.new.now) }
     ensures below { heap.new.below ≡ heap.old.below }
 {
-    match heap.deref(a) {
-        Seen::Int(x) => {
-            if let Cell::Int(y) = b {
-                return Ok(x == y);
-            }
+    let mut work = Vec::new(alloc);
+    let mut pair = Pair { left: a, right: b };
+    'pairs: loop {
+        if !step(heap, alloc, pair, &mut work, touches)? {
+            return Ok(false);
         }
-        Seen::Open(i) => {
-            if let Cell::Int(_) | Cell::Atom(_) = b {
-                heap.bind(i, b)?;
+        match work.pop() {
+            Some(next) => pair = next,
+            None => {
+                know(heap);
                 return Ok(true);
             }
         }
-        _ => {}
     }
-    if bind_constant(heap, b, a)? {
-        return Ok(true);
+}
+
+/// Makes two cells of a heap equal, where that can be done: the unification of ISO/IEC 13211-1, 7.3, with its occurs check.
+///
+/// `No` comes exactly where their terms have no unifier, or each would make a variable of the store an atom or a compound term. The
+/// error is want of memory. After both the heaps below are as before, and the current one is to be given up by `undo_to_mark`.
+pub fn unify(heap: &mut Heap, alloc: Global, a: Cell, b: Cell) -> Result<Unified, NoMemory>
+    requires marked { 0 < length heap.old.below }
+    requires own_a { IsOf heap.old.now a }
+    requires own_b { IsOf heap.old.now b }
+    ensures yes { IfYes result (AreUnified heap.old.now a b heap.new.now) }
+    ensures no { IfNo result (CannotUnify heap.old.now a b) }
+    ensures size { IfYes result (λ ts. IsSameSize heap.old.now heap.new.now) }
+    ensures atoms { IfYes result (λ ts. KeepsAtoms heap.old.now a b heap.new.now) }
+    ensures below { heap.new.below ≡ heap.old.below }
+{
+    let mut touches = Vec::new(alloc);
+    if unify_into(heap, alloc, a, b, &mut touches)? {
+        Ok(Unified::Yes(touches))
+    } else {
+        Ok(Unified::No)
     }
-    unify_behind(heap, alloc, a, b, touches)
 }

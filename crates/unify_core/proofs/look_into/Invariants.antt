@@ -1,6 +1,6 @@
-use Rattle.std.proofs.Common.{◌≡◌, ◌++◌, drop}
-use Rattle.std.specs.Prelude.{reverse}
+use Rattle.std.proofs.Common.{take}
+use Rattle.unify_core.specs.Occurs.{LeavesAhead}
 use Rattle.unify_core.proofs.look_into.Given as goal
 
-abbrev pub invariant-loop-i : goal.invariant-loop-i
-invariant-loop-i l = l.ahead.items ≡ l.fn.ahead.items ++ reverse (drop l.i l.cells)
+abbrev pub invariant-loop-c : goal.invariant-loop-c
+invariant-loop-c l = LeavesAhead l.heap.now l.var (take l.c-index l.cells) l.fn.ahead l.ahead

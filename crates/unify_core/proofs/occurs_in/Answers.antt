@@ -1,58 +1,34 @@
-use Rattle.std.proofs.Common.{ap}
-use Rattle.heap_cells.specs.Cells.{is_bound}
-use Rattle.unify_core.proofs.Occurring.{rest_smaller, rest_looks, found_there, args_smaller, args_look, var_there, var_absent, else_absent}
+use Rattle.std.proofs.Common.{sym, subst}
+use Rattle.heap_cells.specs.declared.Cell.TheVariants as cell
+use Rattle.unify_core.specs.Occurs.{OccursAmong, LeavesAhead}
+use Rattle.unify_core.proofs.Occurring.{Looks, found_there, looks_further, looks_smaller, looks_last}
+use Rattle.unify_core.proofs.Whole.{at_true, at_false}
 use Rattle.unify_core.proofs.occurs_in.Goals as goal
 
--- a compound term
-pub loop-c-smaller-in-Continue-branch-2 : goal.loop-c-smaller-in-Continue-branch-2
-loop-c-smaller-in-Continue-branch-2 c =
+pub returns-then-branch : goal.returns-then-branch
+returns-then-branch c =
+    let h = c.args.heap.now.now in
     let s = c.in-Struct.ensures.seen in
-    args_smaller c.args.heap.now.now c.args.var c.loop-c.ahead.items c.pop.new.self.items c.args.top c.in-Some.c c.in-Some.ensures.items c.loop-c.invariant c.deref.ensures.valid c.in-Struct.field-0 c.in-Struct.args.now
-    c.look_into.new.ahead.items (s.0, s.2, s.3) c.in_ok-look_into-in-Struct.ensures
+    found_there h c.deref.ensures.valid c.args.var c.compounds.ahead c.compounds.at (cell.Struct c.args.top) c.compounds.invariant c.in-Struct.field-0 c.in-Struct.args.now (s.0, s.2, s.3)
+    (at_true c.in_ok-look_into.field-0 (OccursAmong h c.args.var c.in-Struct.args.now) c.if-branch.true c.in_ok-look_into.ensures.found)
 
-pub loop-c-preserved-in-Continue-branch-2 : goal.loop-c-preserved-in-Continue-branch-2
-loop-c-preserved-in-Continue-branch-2 c =
+pub compounds-smaller : goal.compounds-smaller
+compounds-smaller c =
+    let h = c.args.heap.now.now in
     let s = c.in-Struct.ensures.seen in
-    args_look c.args.heap.now.now c.args.var c.loop-c.ahead.items c.pop.new.self.items c.args.top c.in-Some.c c.in-Some.ensures.items c.loop-c.invariant c.deref.ensures.valid c.in-Struct.field-0 c.in-Struct.args.now
-    c.look_into.new.ahead.items (s.0, s.2, s.3) c.in_ok-look_into-in-Struct.ensures
+    rw (sym c.in-Some.ensures) (looks_smaller h c.deref.ensures.valid c.args.var c.compounds.ahead c.compounds.at (cell.Struct c.args.top) c.compounds.invariant c.in-Struct.field-0 c.in-Struct.args.now (s.0, s.2, s.3) c.look_into.new.ahead
+    (at_false c.in_ok-look_into.field-0 (LeavesAhead h c.args.var c.in-Struct.args.now c.compounds.ahead c.look_into.new.ahead) c.if-branch.false c.in_ok-look_into.ensures.further))
 
--- an open variable
-pub returns-then-i-var : goal.returns-then-i-var
-returns-then-i-var c =
-    let s = c.in-Open.ensures.seen in
-    found_there c.args.heap.now.now c.args.var c.loop-c.ahead.items c.pop.new.self.items c.args.top c.in-Some.c c.in-Some.ensures.items c.loop-c.invariant
-    (var_there c.args.heap.now.now c.deref.ensures.valid c.args.var c.in-Open.i c.in-Some.c (ap is_bound s.1) s.2 c.if-i-var.true)
+pub compounds-preserved : goal.compounds-preserved
+compounds-preserved c =
+    let h = c.args.heap.now.now in
+    let s = c.in-Struct.ensures.seen in
+    subst (λ js. Looks h c.args.var js (cell.Struct c.args.top)) c.in-Some.ensures (looks_further h c.deref.ensures.valid c.args.var c.compounds.ahead c.compounds.at (cell.Struct c.args.top) c.compounds.invariant c.in-Struct.field-0 c.in-Struct.args.now (s.0, s.2, s.3) c.look_into.new.ahead
+    (at_false c.in_ok-look_into.field-0 (LeavesAhead h c.args.var c.in-Struct.args.now c.compounds.ahead c.look_into.new.ahead) c.if-branch.false c.in_ok-look_into.ensures.further))
 
-pub loop-c-smaller-else-i-var : goal.loop-c-smaller-else-i-var
-loop-c-smaller-else-i-var c = rest_smaller c.args.heap.now.now c.args.var c.loop-c.ahead.items c.pop.new.self.items c.args.top c.in-Some.c c.in-Some.ensures.items c.loop-c.invariant
-
-pub loop-c-preserved-else-i-var : goal.loop-c-preserved-else-i-var
-loop-c-preserved-else-i-var c =
-    let s = c.in-Open.ensures.seen in
-    rest_looks c.args.heap.now.now c.args.var c.loop-c.ahead.items c.pop.new.self.items c.args.top c.in-Some.c c.in-Some.ensures.items c.loop-c.invariant
-    (var_absent c.args.heap.now.now c.deref.ensures.valid c.args.var c.in-Open.i c.in-Some.c (ap is_bound s.1) s.2 c.if-i-var.false)
-
--- a variable of the store
-pub returns-then-i-var-2 : goal.returns-then-i-var-2
-returns-then-i-var-2 c =
-    let s = c.in-Constrained.ensures.seen in
-    found_there c.args.heap.now.now c.args.var c.loop-c.ahead.items c.pop.new.self.items c.args.top c.in-Some.c c.in-Some.ensures.items c.loop-c.invariant
-    (var_there c.args.heap.now.now c.deref.ensures.valid c.args.var c.in-Constrained.i c.in-Some.c (ap is_bound s.1) s.2 c.if-i-var-2.true)
-
-pub loop-c-smaller-else-i-var-2 : goal.loop-c-smaller-else-i-var-2
-loop-c-smaller-else-i-var-2 c = rest_smaller c.args.heap.now.now c.args.var c.loop-c.ahead.items c.pop.new.self.items c.args.top c.in-Some.c c.in-Some.ensures.items c.loop-c.invariant
-
-pub loop-c-preserved-else-i-var-2 : goal.loop-c-preserved-else-i-var-2
-loop-c-preserved-else-i-var-2 c =
-    let s = c.in-Constrained.ensures.seen in
-    rest_looks c.args.heap.now.now c.args.var c.loop-c.ahead.items c.pop.new.self.items c.args.top c.in-Some.c c.in-Some.ensures.items c.loop-c.invariant
-    (var_absent c.args.heap.now.now c.deref.ensures.valid c.args.var c.in-Constrained.i c.in-Some.c (ap is_bound s.1) s.2 c.if-i-var-2.false)
-
--- a constant
-pub loop-c-smaller : goal.loop-c-smaller
-loop-c-smaller c = rest_smaller c.args.heap.now.now c.args.var c.loop-c.ahead.items c.pop.new.self.items c.args.top c.in-Some.c c.in-Some.ensures.items c.loop-c.invariant
-
-pub loop-c-preserved : goal.loop-c-preserved
-loop-c-preserved c =
-    rest_looks c.args.heap.now.now c.args.var c.loop-c.ahead.items c.pop.new.self.items c.args.top c.in-Some.c c.in-Some.ensures.items c.loop-c.invariant
-    (else_absent c.args.heap.now.now c.deref.ensures.valid c.args.var c.in-Some.c c.deref.result c.deref.ensures.seen (λ f args. c.in_default-deref.not-Struct f args) (λ i. c.in_default-deref.not-Open i) (λ i k. c.in_default-deref.not-Constrained i k))
+pub returns-in-None : goal.returns-in-None
+returns-in-None c =
+    let h = c.args.heap.now.now in
+    let s = c.in-Struct.ensures.seen in
+    looks_last h c.args.var (cell.Struct c.args.top) c.look_into.new.ahead c.in-None.ensures (looks_further h c.deref.ensures.valid c.args.var c.compounds.ahead c.compounds.at (cell.Struct c.args.top) c.compounds.invariant c.in-Struct.field-0 c.in-Struct.args.now (s.0, s.2, s.3) c.look_into.new.ahead
+    (at_false c.in_ok-look_into.field-0 (LeavesAhead h c.args.var c.in-Struct.args.now c.compounds.ahead c.look_into.new.ahead) c.if-branch.false c.in_ok-look_into.ensures.further))

@@ -1,38 +1,45 @@
-use Rattle.std.proofs.Common.{ap, rules}
-use Rattle.heap_cells.specs.Cells.{Heaps}
-use Rattle.unify_core.specs.Opened.{BindsOpen}
-use Rattle.unify_core.proofs.Constants.{constant_absent, left_bound, right_bound, integers_true, integers_false, equalled}
-use Rattle.unify_core.proofs.Whole.{at_true}
+use Rattle.std.proofs.Common.{◌≡◌, rules, ◌++◌, [], ◌∷◌, ◌∙◌, List, refl, subst}
+use Rattle.unify_core.specs.declared.Pair.{Pair}
+use Rattle.unify_core.specs.Outcome.{IsDone, IsHopeless}
+use Rattle.unify_core.proofs.Whole.{IsBehind, behind_first, behind_further, equalled, none_unified, atoms_unified, at_true, at_false}
 use Rattle.unify_core.proofs.unify_into.Goals as goal
+use Rattle.unify_core.proofs.unify_into.Goals.{In-Some}
 
-pub returns-in-Int-b-clause-equal : goal.returns-in-Int-b-clause-equal
-returns-in-Int-b-clause-equal c = integers_true c.args.heap.now.now c.deref.ensures.valid c.args.a c.args.b c.in-Int.x c.in-Int-b.y _ c.args.touches.now.items (λ e. search rules) c.requires.own_a c.requires.own_b c.in-Int.ensures.seen c.in-Int-b.is
+pub pairs-init : goal.pairs-init
+pairs-init c = (behind_first c.args.heap.now.now c.args.a c.args.b c.new-work.result.items c.args.touches.now.items c.new-work.ensures.items c.requires.own_a c.requires.own_b, refl)
 
-pub returns-in-Int-b-clause-unequal : goal.returns-in-Int-b-clause-unequal
-returns-in-Int-b-clause-unequal c = integers_false c.args.heap.now.now c.deref.ensures.valid c.args.a c.args.b c.in-Int.x c.in-Int-b.y _ (λ e f. search rules) c.requires.own_a c.requires.own_b c.in-Int.ensures.seen c.in-Int-b.is
+pub returns-then-not-branch-clause-unequal : goal.returns-then-not-branch-clause-unequal
+returns-then-not-branch-clause-unequal c =
+    let w = c.pairs.invariant.0 in
+    none_unified c.args.heap.now.now c.pairs.heap.now c.args.a c.args.b (c.pairs.work.items ++ c.pairs.pair ∷ []) w.more w.way (at_false c.in_ok-step.field-0 (IsHopeless c.pairs.heap.now (c.pairs.work.items ++ c.pairs.pair ∷ [])) c.if-not-branch.true c.in_ok-step.ensures.hopeless)
 
-pub bind-requires-clause-absent : goal.bind-requires-clause-absent
-bind-requires-clause-absent c = constant_absent c.args.heap.now.now c.deref.ensures.valid c.in-Open.i c.args.b c.in-Int-b-2.is
+-- a step that was done
+some : (c : In-Some) → IsDone c.pairs.heap.now (c.pairs.work.items ++ c.pairs.pair ∷ []) c.pairs.touches.items c.step.new.heap.now (c.pop.new.self.items ++ c.in-Some.next ∷ []) c.step.new.touches.items
+some c =
+    subst (λ (ps : List Pair). IsDone c.pairs.heap.now (c.pairs.work.items ++ c.pairs.pair ∷ []) c.pairs.touches.items c.step.new.heap.now ps c.step.new.touches.items) c.in-Some.ensures.items
+    (at_true c.in_ok-step.field-0 (IsDone c.pairs.heap.now (c.pairs.work.items ++ c.pairs.pair ∷ []) c.pairs.touches.items c.step.new.heap.now c.step.new.work.items c.step.new.touches.items) c.if-not-branch.false c.in_ok-step.ensures.done)
 
-pub returns-in-Int-b-2-clause-equal : goal.returns-in-Int-b-2-clause-equal
-returns-in-Int-b-2-clause-equal c =
-    let h = c.args.heap.now.now in
-    let s = c.in-Open.ensures.seen in
-    equalled h c.bind.new.self.now c.args.a c.args.b c.args.touches.now.items (left_bound h c.bind.new.self.now c.args.a c.args.b c.requires.own_a c.requires.own_b (record {
-      var = c.in-Open.i;
-      there = s.0;
-      is_free = s.1;
-      valid = c.deref.ensures.valid;
-      valid_now = c.in_ok-bind-in-Open.ensures.valid;
-      same = s.2;
-      binding = record { bound = ap (λ (g : Heaps). g.now) c.in_ok-bind-in-Open.ensures.bound; absent = constant_absent h c.deref.ensures.valid c.in-Open.i c.args.b c.in-Int-b-2.is };
-    }))
+pub pairs-smaller : goal.pairs-smaller
+pairs-smaller c = (some c).falls
 
-pub returns-then-branch-clause-equal : goal.returns-then-branch-clause-equal
-returns-then-branch-clause-equal c =
-    let h = c.args.heap.now.now in
-    equalled h c.bind_constant.new.heap.now c.args.a c.args.b c.args.touches.now.items (right_bound h c.bind_constant.new.heap.now c.args.a c.args.b c.requires.own_a c.requires.own_b
-    (at_true c.in_ok-bind_constant.field-0 (BindsOpen h c.args.b c.args.a c.bind_constant.new.heap.now) c.if-branch.true c.in_ok-bind_constant.ensures.bound))
+pub pairs-preserved : goal.pairs-preserved
+pairs-preserved c = (
+  behind_further c.args.heap.now.now c.pairs.heap.now c.step.new.heap.now c.args.a c.args.b (c.pairs.work.items ++ c.pairs.pair ∷ []) (c.pop.new.self.items ++ c.in-Some.next ∷ []) c.args.touches.now.items c.pairs.touches.items c.step.new.touches.items c.pairs.invariant.0 (some c),
+  c.in_ok-step.ensures.below ∙ c.pairs.invariant.1,
+)
 
-pub returns-then-branch-clause-valid : goal.returns-then-branch-clause-valid
-returns-then-branch-clause-valid c = (at_true c.in_ok-bind_constant.field-0 (BindsOpen c.args.heap.now.now c.args.b c.args.a c.bind_constant.new.heap.now) c.if-branch.true c.in_ok-bind_constant.ensures.bound).valid_now
+-- all work is done
+last : (c : goal.After-drop-work-in-None) → IsBehind c.args.heap.now.now c.args.a c.args.b c.step.new.heap.now c.step.new.work.items c.args.touches.now.items c.step.new.touches.items
+last c =
+    behind_further c.args.heap.now.now c.pairs.heap.now c.step.new.heap.now c.args.a c.args.b (c.pairs.work.items ++ c.pairs.pair ∷ []) c.step.new.work.items c.args.touches.now.items c.pairs.touches.items c.step.new.touches.items c.pairs.invariant.0
+    (at_true c.in_ok-step.field-0 (IsDone c.pairs.heap.now (c.pairs.work.items ++ c.pairs.pair ∷ []) c.pairs.touches.items c.step.new.heap.now c.step.new.work.items c.step.new.touches.items) c.if-not-branch.false c.in_ok-step.ensures.done)
+
+pub returns-in-None-clause-equal : goal.returns-in-None-clause-equal
+returns-in-None-clause-equal c =
+    let e : c.step.new.work.items ≡ [] = search rules in
+    equalled c.args.heap.now.now c.step.new.heap.now c.args.a c.args.b c.step.new.work.items c.args.touches.now.items c.step.new.touches.items e (last c)
+
+pub returns-in-None-clause-atoms : goal.returns-in-None-clause-atoms
+returns-in-None-clause-atoms c =
+    let w = last c in
+    atoms_unified c.args.heap.now.now c.step.new.heap.now c.args.a c.args.b c.step.new.work.items w.more w.way

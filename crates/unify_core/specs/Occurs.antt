@@ -1,0 +1,29 @@
+-- How a variable is looked for in a compound term.
+use Rattle.std.specs.Prelude.{◌≡◌, ℕ, ◌≤◌, true, List, [], ◌∷◌, ◌++◌, All, map, Option, Some, None}
+use Rattle.term_pool.specs.Terms.{sizes}
+use Rattle.heap_cells.specs.declared.Cell.{Cell}
+use Rattle.heap_cells.specs.declared.Cell.TheVariants as cell
+use Rattle.heap_cells.specs.Cells.{Cells, IsOf}
+use Rattle.heap_cells.specs.Terms.{Naming, term_of, terms_by, occurs_any}
+use Rattle.unify_core.specs.Effort.{unnamed}
+
+-- those ahead, and the last one, where there is one
+abbrev pub with_last : List ℕ → Option ℕ → List ℕ
+with_last js None = js
+with_last js (Some j) = js ++ j ∷ []
+
+-- the compound terms with these numbers
+abbrev pub compounds : List ℕ → List Cell
+compounds js = map cell.Struct js
+
+-- the variable occurs in one of the cells' terms
+abbrev pub OccursAmong : Cells → ℕ → List Cell → Type 0
+OccursAmong h var cells = (name : Naming) → occurs_any var (terms_by (term_of name h) cells) ≡ true
+
+-- More compound terms are ahead: the variable occurs in one of them exactly where it occurs in one of the cells.
+pub record LeavesAhead (h : Cells) (var : ℕ) (cells : List Cell) (old new : List ℕ) : Type 0 where
+  pub more : List ℕ
+  pub ahead : new ≡ old ++ more
+  pub own : All (IsOf h) (compounds more)
+  pub same : (name : Naming) → occurs_any var (terms_by (term_of name h) (compounds more)) ≡ occurs_any var (terms_by (term_of name h) cells)
+  pub smaller : sizes (terms_by (term_of unnamed h) (compounds more)) ≤ sizes (terms_by (term_of unnamed h) cells)
