@@ -4,3 +4,4 @@ pub mod Efforts
 pub mod Occurring
 pub mod Stepping
 pub mod Whole
+pub mod AtOnce

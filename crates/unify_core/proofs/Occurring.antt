@@ -2,7 +2,7 @@
 use Rattle.std.proofs.Common.{◌≡◌, ℕ, suc, ℤ, ◌+◌, ◌<◌, Bool, true, false, ◌||◌, ◌==◌, refl, ap, sym, ◌∙◌, subst, arith, List, [], ◌∷◌, ◌++◌, length, take, drop, get_or, append_assoc, drop-cons, eq-eqb, ne_eqb}
 use Rattle.std.specs.Prelude.{All}
 use Rattle.std.proofs.Math.Seq.{take-suc}
-use Rattle.std.proofs.lemmas.List.{append-nil, map-append, take-append-drop}
+use Rattle.std.proofs.lemmas.List.{map-append, take-append-drop}
 use Rattle.std.proofs.lemmas.List.Elements.{All-append}
 use Rattle.term_pool.specs.declared.AtomId.{AtomId}
 use Rattle.term_pool.specs.Terms.{size, sizes}
@@ -18,10 +18,10 @@ use Rattle.heap_cells.specs.Valid.{IsHeap}
 use Rattle.heap_cells.proofs.Ranks.{unbound_term, term-Int, term-Atom, term-Struct}
 use Rattle.unify_core.specs.Effort.{unnamed}
 use Rattle.unify_core.specs.Touches.{IsSymbolic}
-use Rattle.unify_core.specs.Occurs.{compounds, OccursAmong, LeavesAhead}
+use Rattle.unify_core.specs.Occurs.{compounds, OccursAmong, LeavesAhead, IsOther, IsAbsentAmong}
 use Rattle.unify_core.specs.Outcome.{TellsOccurs, IsInfinite}
 use Rattle.unify_core.proofs.Reducing.{IsCompound, compound_term_is}
-use Rattle.heap_cells.proofs.Elements.{none_at_all, both_of, all_front, last_of}
+use Rattle.heap_cells.proofs.Elements.{none_at_all, both_of, all_front}
 
 or_assoc : (a b c : Bool) → ((a || b) || c) ≡ (a || (b || c))
 or_assoc true b c = refl
@@ -58,9 +58,6 @@ own_both : (h : Cells) (js ks : List ℕ) → All (IsOf h) (compounds js) → Al
 own_both h js ks a b = subst (All (IsOf h)) (sym (map-append cell.Struct js ks)) (All-append (IsOf h) (compounds js) (compounds ks) a b)
 
 -- ---- a look at cells in their order
-
-pub leaves_none : (h : Cells) (v : ℕ) (old : List ℕ) → LeavesAhead h v [] old old
-leaves_none h v old = record { more = []; ahead = sym (append-nil old); own = none_at_all (IsOf h); same = λ name. refl; smaller = omega arith }
 
 module _ (h : Cells) (v : ℕ) (cs : List Cell) (c : Cell) (old now : List ℕ) (l : LeavesAhead h v cs old now) where
   pub leaves_absent : ((name : Naming) → occurs v (term_of name h c) ≡ false) → LeavesAhead h v (cs ++ c ∷ []) old now
@@ -109,15 +106,6 @@ found_among h v cs i d l there name =
 pub record Looks (h : Cells) (v : ℕ) (ahead : List ℕ) (top : Cell) : Type 0 where
   pub own : All (IsOf h) (compounds ahead)
   pub same : (name : Naming) → occurs_any v (terms_by (term_of name h) (compounds ahead)) ≡ occurs v (term_of name h top)
-
-pub looks_first : (h : Cells) (v top : ℕ) (ahead : List ℕ) → ahead ≡ [] → IsOf h (cell.Struct top) → Looks h v (ahead ++ top ∷ []) (cell.Struct top)
-looks_first h v top ahead e o = subst (λ js. Looks h v (js ++ top ∷ []) (cell.Struct top)) (sym e) (record {
-  own = both_of (IsOf h) (cell.Struct top) [] o (none_at_all (IsOf h));
-  same = λ name. or_nothing (occurs v (term_of name h (cell.Struct top)));
-})
-
-pub looks_own : (h : Cells) (v : ℕ) (ahead : List ℕ) (at : ℕ) (top : Cell) → Looks h v (ahead ++ at ∷ []) top → IsOf h (cell.Struct at)
-looks_own h v ahead at top l = last_of (IsOf h) (compounds ahead) (cell.Struct at) (subst (All (IsOf h)) (map-append cell.Struct ahead (at ∷ [])) l.own)
 
 pub looks_last : (h : Cells) (v : ℕ) (top : Cell) (ahead : List ℕ) → ahead ≡ [] → Looks h v ahead top → TellsOccurs h v top false
 looks_last h v top ahead e l name = sym (ap (λ js. occurs_any v (terms_by (term_of name h) (compounds js))) e) ∙ l.same name
@@ -176,6 +164,27 @@ constant_absent h valid v c (cell.Ref i) s r n = absurd (r i refl)
 constant_absent h valid v c (cell.Int z) s r n = int_absent h valid v c z s
 constant_absent h valid v c (cell.Atom x) s r n = atom_absent h valid v c x s
 constant_absent h valid v c (cell.Struct j) s r n = absurd (n j refl)
+
+-- ---- a look at a cell and at its arguments
+
+other_absent : (h : Cells) → IsHeap h → (v : ℕ) (c to : Cell) → IsRoot h to → Same h c to → IsOther v to → (name : Naming) → occurs v (term_of name h c) ≡ false
+other_absent h valid v c (cell.Ref i) r s o = var_absent h valid v i c r s o
+other_absent h valid v c (cell.Int z) r s o = int_absent h valid v c z s
+other_absent h valid v c (cell.Atom x) r s o = atom_absent h valid v c x s
+other_absent h valid v c (cell.Struct j) r s o = absurd o
+
+pub root_other : (h : Cells) → IsHeap h → (v : ℕ) (to : Cell) → IsRoot h to → IsOther v to → (name : Naming) → occurs v (term_of name h to) ≡ false
+root_other h valid v to r o = other_absent h valid v to to r (λ name. refl) o
+
+pub others_next : (h : Cells) → IsHeap h → (v : ℕ) (cs : List Cell) (i : ℕ) (d to : Cell) → i < length cs → IsAbsentAmong h v (take i cs) → IsRoot h to → Same h (get_or cs i d) to → IsOther v to → IsAbsentAmong h v (take (i + 1) cs)
+others_next h valid v cs i d to l before r s o name =
+    let T = term_of name h in
+    let e : suc i ≡ i + 1 = omega arith in
+    ap (λ n. occurs_any v (terms_by T (take n cs))) (sym e) ∙ ap (λ ds. occurs_any v (terms_by T ds)) (take-suc cs i d l) ∙ occurs_any-append v T (take i cs) (get_or cs i d ∷ [])
+    ∙ ap (λ b. b || (occurs v (T (get_or cs i d)) || false)) (before name) ∙ ap (λ b. b || false) (other_absent h valid v (get_or cs i d) to r s o name)
+
+pub args_absent : (h : Cells) → IsHeap h → (v : ℕ) (c : Cell) (f : AtomId) (args : List Cell) → IsCompound h c f args → IsAbsentAmong h v args → (name : Naming) → occurs v (term_of name h c) ≡ false
+args_absent h valid v c f args k a name = ap (occurs v) (compound_term_is name h valid c f args k) ∙ a name
 
 -- another root that is no compound term
 pub root_absent : (h : Cells) → IsHeap h → (v : ℕ) (to : Cell) → IsRoot h to → (to ≡ cell.Ref v → ⊥) → ((j : ℕ) → to ≡ cell.Struct j → ⊥) → (name : Naming) → occurs v (term_of name h to) ≡ false

@@ -12,7 +12,7 @@ use Rattle.heap_cells.proofs.Binding.{slot_there, slot_elsewhere}
 use Rattle.heap_cells.proofs.Substitutions.{one_self, join_both, split_both}
 use Rattle.unify_core.specs.declared.Touch.{Touch}
 use Rattle.unify_core.specs.declared.Touch.TheVariants.{Value, Same}
-use Rattle.unify_core.specs.Touches.{touch_equation, touched, IsLinked, NamesLinked, IsPlain, AreTouched, IsSymbolic}
+use Rattle.unify_core.specs.Touches.{touch_equation, touched, IsLinked, NamesLinked, AreTouched}
 use Rattle.heap_cells.proofs.Elements.{both_of}
 
 pub one_else : (v : ℕ) (t : Term) (c : ℕ) → c ≢ v → one v t c ≡ Var c
@@ -153,8 +153,3 @@ touched_both old mid now first second ts us p q = record {
     | inr d ↦ p.pairs a both.0 c d.0 k d.1 l d.3 d.2 ∙ q.pairs a both.1 d.0 x d.1 j d.3 m (sym (ap (apply second) d.2) ∙ e)
   ]);
 }
-
--- a variable of the store that is symbolic is neither
-pub not_plain : (h : Cells) (t : Term) → IsPlain h t → IsSymbolic t → ⊥
-not_plain h t (inl i) s = subst IsSymbolic i.1 s
-not_plain h t (inr d) s = subst IsSymbolic d.2 s

@@ -1,5 +1,5 @@
 -- A whole unification, from its steps.
-use Rattle.std.proofs.Common.{◌≡◌, ℕ, suc, Bool, true, false, refl, ap, sym, ◌∙◌, subst, arith, List, [], ◌∷◌, ◌++◌, append_assoc}
+use Rattle.std.proofs.Common.{◌≡◌, ℕ, Bool, true, false, refl, ap, sym, ◌∙◌, subst, List, [], ◌∷◌, ◌++◌, append_assoc}
 use Rattle.std.specs.Prelude.{All, Ok}
 use Rattle.std.proofs.lemmas.Bool.{false≢true}
 use Rattle.std.proofs.lemmas.List.{append-nil}
@@ -45,10 +45,6 @@ under_way_further old mid now a b work left before ts w d = record {
 
 pub atoms_unified : (old now : Cells) (a b : Cell) (left : List Pair) (ts : List Touch) → IsUnderWay old a b now left ts → KeepsAtoms old a b now
 atoms_unified old now a b left ts w n o p q = (w.atoms n o p q).0
-
-pub last_own : (h : Cells) (ps : List Pair) (p : Pair) → All (IsOwn h) (ps ++ p ∷ []) → IsOwn h p
-last_own h [] p a = a 0 p (omega arith)
-last_own h (q ∷ ps) p a = last_own h ps p (λ k d l. a (suc k) d (omega arith))
 
 pub all_unified : (old now : Cells) (a b : Cell) (left : List Pair) (ts : List Touch) → left ≡ [] → IsUnderWay old a b now left ts → (name : Naming) → IsUnified name old a b now ts
 all_unified old now a b left ts e w name = unified name old now a b ts (subst (λ ps. Reduces name old (start a b) now ps ts) e (w.reduces name))

@@ -1,5 +1,5 @@
 -- How a variable is looked for in a compound term.
-use Rattle.std.specs.Prelude.{◌≡◌, ℕ, ◌≤◌, true, List, [], ◌∷◌, ◌++◌, All, map, Option, Some, None}
+use Rattle.std.specs.Prelude.{◌≡◌, ◌≢◌, ℕ, ◌≤◌, true, false, List, [], ◌∷◌, ◌++◌, All, map, Option, Some, None}
 use Rattle.term_pool.specs.Terms.{sizes}
 use Rattle.heap_cells.specs.declared.Cell.{Cell}
 use Rattle.heap_cells.specs.declared.Cell.TheVariants as cell
@@ -19,6 +19,17 @@ compounds js = map cell.Struct js
 -- the variable occurs in one of the cells' terms
 abbrev pub OccursAmong : Cells → ℕ → List Cell → Type 0
 OccursAmong h var cells = (name : Naming) → occurs_any var (terms_by (term_of name h) cells) ≡ true
+
+-- it occurs in none
+abbrev pub IsAbsentAmong : Cells → ℕ → List Cell → Type 0
+IsAbsentAmong h var cells = (name : Naming) → occurs_any var (terms_by (term_of name h) cells) ≡ false
+
+-- the cell is a constant, or a variable other than this one
+abbrev pub IsOther : ℕ → Cell → Type 0
+IsOther var (cell.Ref i) = i ≢ var
+IsOther var (cell.Int z) = Unit {0}
+IsOther var (cell.Atom a) = Unit {0}
+IsOther var (cell.Struct j) = ⊥
 
 -- More compound terms are ahead: the variable occurs in one of them exactly where it occurs in one of the cells.
 pub record LeavesAhead (h : Cells) (var : ℕ) (cells : List Cell) (old new : List ℕ) : Type 0 where

@@ -1,14 +1,15 @@
 //! Unification of two cells of a heap.
 #![tactic(auto)]
 
-ghost use Rattle.std.specs.Prelude.{◌≡◌, ℕ, ◌<◌, ◌++◌, [], ◌∷◌, length, reverse, All, IfOk, OnOk, MatchOption};
+ghost use Rattle.std.specs.Prelude.{◌≡◌, ℕ, ◌<◌, ◌++◌, [], ◌∷◌, length, reverse, All, IfOk, OnOk, MatchOption, IsTrue};
 ghost use Rattle.heap_cells.specs.declared.Cell.TheVariants as cell;
 ghost use Rattle.heap_cells.specs.Cells.{free, linked, slot_at, IsOf};
 ghost use Rattle.heap_cells.specs.Seen.{IsRoot};
+ghost use Rattle.heap_cells.specs.Terms.{IsAbsent};
 ghost use Rattle.heap_cells.specs.Valid.{IsHeap};
 ghost use Rattle.unify_core.specs.Reduces.{IsOwn, IsSameSize};
 ghost use Rattle.unify_core.specs.Outcome.{IfTrue, IfFalse, IfYes, IfNo, IsDone, IsHopeless, IsBinding, IsInfinite, IsSymbolicCell, TellsOccurs, TellsTouch, paired};
-ghost use Rattle.unify_core.specs.Occurs.{OccursAmong, LeavesAhead};
+ghost use Rattle.unify_core.specs.Occurs.{OccursAmong, LeavesAhead, IsOther, IsAbsentAmong};
 ghost use Rattle.unify_core.specs.Unified.{AreUnified, CannotUnify, KeepsAtoms, IsEqualled};
 
 use fd_language::NoMemory;
@@ -136,6 +137,45 @@ fn occurs_in(heap: &Heap, alloc: Global, var: usize, top: usize) -> Result<bool,
     }
 }
 
+/// Whether the end of a cell's bindings is a constant, or a variable other than this one.
+#[inline(always)]
+fn is_other(var: usize, root: Cell) -> bool
+    ensures { IsTrue result → IsOther var root }
+{
+    match root {
+        Cell::Ref(i) => i != var,
+        Cell::Struct(_) => false,
+        _ => true,
+    }
+}
+
+/// Whether all these cells come to constants, or to variables other than this one.
+#[inline(always)]
+fn are_others(heap: &Heap, var: usize, cells: &[Cell]) -> bool
+    requires { All (IsOf heap.now.now) cells.now }
+    ensures { IsTrue result → IsAbsentAmong heap.now.now var cells.now }
+{
+    for c in cells {
+        if !is_other(var, heap.root(*c)) {
+            return false;
+        }
+    }
+    true
+}
+
+/// Whether a look at a cell and at its arguments shows that a variable doesn't occur in it.
+#[inline(always)]
+fn is_apart(heap: &Heap, var: usize, root: Cell) -> bool
+    requires own { IsOf heap.now.now root }
+    requires root { IsRoot heap.now.now root }
+    ensures { IsTrue result → IsAbsent heap.now.now var root }
+{
+    match heap.deref(root) {
+        Seen::Struct(_, args) => are_others(heap, var, args),
+        _ => is_other(var, root),
+    }
+}
+
 /// Binds an open variable to another root, unless it occurs there. The error is want of memory.
 #[inline]
 fn bind_open(heap: &mut Heap, alloc: Global, var: usize, to: Cell) -> Result<bool, NoMemory>
@@ -256,9 +296,10 @@ fn know(heap: &Heap)
     let _ = heap.root(Cell::Int(0));
 }
 
-/// Makes two cells of a heap equal as `unify` does, and puts what the store is to be told behind `touches`. No memory is taken but for
-/// touches, the trail, and compound terms on both sides or within another. `false` comes exactly where `unify` says `No`.
-pub fn unify_into(
+/// Makes two cells equal pair by pair, and puts what the store is to be told behind `touches`. `false` comes exactly where they can't be
+/// equal. The error is want of memory.
+#[inline(never)]
+fn unify_pairs(
     heap: &mut Heap,
     alloc: Global,
     a: Cell,
@@ -289,6 +330,49 @@ pub fn unify_into(
             }
         }
     }
+}
+
+/// Makes two cells of a heap equal as `unify` does, and puts what the store is to be told behind `touches`. `false` comes exactly where
+/// `unify` says `No`. An open variable on the left and two constants are seen to at once.
+#[inline(always)]
+pub fn unify_into(
+    heap: &mut Heap,
+    alloc: Global,
+    a: Cell,
+    b: Cell,
+    touches: &mut Vec<Touch>,
+) -> Result<bool, NoMemory>
+    requires marked { 0 < length heap.old.below }
+    requires own_a { IsOf heap.old.now a }
+    requires own_b { IsOf heap.old.now b }
+    ensures equal { IfTrue result (IsEqualled heap.old.now a b heap.new.now touches.old.items
+        touches.new.items) }
+    ensures unequal { IfFalse result (CannotUnify heap.old.now a b) }
+    ensures atoms { IfTrue result (KeepsAtoms heap.old.now a b heap.new.now) }
+    ensures valid { IfTrue result (IsHeap heap.new.now) }
+    ensures below { heap.new.below ≡ heap.old.below }
+{
+    let right = heap.root(b);
+    match heap.deref(a) {
+        Seen::Open(i) => {
+            if is_apart(heap, i, right) {
+                heap.bind(i, right)?;
+                return Ok(true);
+            }
+        }
+        Seen::Int(x) => {
+            if let Cell::Int(y) = right {
+                return Ok(x == y);
+            }
+        }
+        Seen::Atom(x) => {
+            if let Cell::Atom(y) = right {
+                return Ok(x == y);
+            }
+        }
+        _ => {}
+    }
+    unify_pairs(heap, alloc, a, b, touches)
 }
 
 /// Makes two cells of a heap equal, where that can be done: the unification of ISO/IEC 13211-1, 7.3, with its occurs check.

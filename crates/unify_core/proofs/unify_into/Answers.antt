@@ -1,45 +1,29 @@
-use Rattle.std.proofs.Common.{◌≡◌, rules, ◌++◌, [], ◌∷◌, ◌∙◌, List, refl, subst}
-use Rattle.unify_core.specs.declared.Pair.{Pair}
-use Rattle.unify_core.specs.Outcome.{IsDone, IsHopeless}
-use Rattle.unify_core.proofs.Whole.{IsBehind, behind_first, behind_further, equalled, none_unified, atoms_unified, at_true, at_false}
+use Rattle.std.proofs.Common.{ap, rules, refl, []}
+use Rattle.heap_cells.specs.Cells.{Heaps}
+use Rattle.unify_core.proofs.AtOnce.{left_bound, integers_true, integers_false, atoms_true, atoms_false}
+use Rattle.unify_core.proofs.Whole.{IsBehind, equalled, atoms_unified}
 use Rattle.unify_core.proofs.unify_into.Goals as goal
-use Rattle.unify_core.proofs.unify_into.Goals.{In-Some}
 
-pub pairs-init : goal.pairs-init
-pairs-init c = (behind_first c.args.heap.now.now c.args.a c.args.b c.new-work.result.items c.args.touches.now.items c.new-work.ensures.items c.requires.own_a c.requires.own_b, refl)
+bound : (c : goal.In_ok-bind-in-Open) → IsBehind c.args.heap.now.now c.args.a c.args.b c.bind.new.self.now [] c.args.touches.now.items c.args.touches.now.items
+bound c =
+    let s = c.in-Open.ensures.seen in
+    left_bound c.args.heap.now.now c.bind.new.self.now c.deref.ensures.valid c.args.a c.args.b c.root-right.result c.in-Open.i c.args.touches.now.items c.requires.own_a c.requires.own_b s.0 s.1 s.2 c.root-right.ensures.own c.root-right.ensures.same
+    (record { bound = ap (λ (g : Heaps). g.now) c.in_ok-bind-in-Open.ensures.bound; absent = c.is_apart.ensures c.if-is_apart.true })
 
-pub returns-then-not-branch-clause-unequal : goal.returns-then-not-branch-clause-unequal
-returns-then-not-branch-clause-unequal c =
-    let w = c.pairs.invariant.0 in
-    none_unified c.args.heap.now.now c.pairs.heap.now c.args.a c.args.b (c.pairs.work.items ++ c.pairs.pair ∷ []) w.more w.way (at_false c.in_ok-step.field-0 (IsHopeless c.pairs.heap.now (c.pairs.work.items ++ c.pairs.pair ∷ [])) c.if-not-branch.true c.in_ok-step.ensures.hopeless)
+pub returns-then-is_apart-clause-equal : goal.returns-then-is_apart-clause-equal
+returns-then-is_apart-clause-equal c = equalled c.args.heap.now.now c.bind.new.self.now c.args.a c.args.b [] c.args.touches.now.items c.args.touches.now.items refl (bound c)
 
--- a step that was done
-some : (c : In-Some) → IsDone c.pairs.heap.now (c.pairs.work.items ++ c.pairs.pair ∷ []) c.pairs.touches.items c.step.new.heap.now (c.pop.new.self.items ++ c.in-Some.next ∷ []) c.step.new.touches.items
-some c =
-    subst (λ (ps : List Pair). IsDone c.pairs.heap.now (c.pairs.work.items ++ c.pairs.pair ∷ []) c.pairs.touches.items c.step.new.heap.now ps c.step.new.touches.items) c.in-Some.ensures.items
-    (at_true c.in_ok-step.field-0 (IsDone c.pairs.heap.now (c.pairs.work.items ++ c.pairs.pair ∷ []) c.pairs.touches.items c.step.new.heap.now c.step.new.work.items c.step.new.touches.items) c.if-not-branch.false c.in_ok-step.ensures.done)
+pub returns-then-is_apart-clause-atoms : goal.returns-then-is_apart-clause-atoms
+returns-then-is_apart-clause-atoms c = let w = bound c in atoms_unified c.args.heap.now.now c.bind.new.self.now c.args.a c.args.b [] w.more w.way
 
-pub pairs-smaller : goal.pairs-smaller
-pairs-smaller c = (some c).falls
+pub returns-in-Int-right-clause-equal : goal.returns-in-Int-right-clause-equal
+returns-in-Int-right-clause-equal c = integers_true c.args.heap.now.now c.deref.ensures.valid c.args.a c.args.b c.requires.own_a c.requires.own_b c.in-Int.x c.in-Int-right.y _ c.args.touches.now.items (λ e. search rules) c.in-Int.ensures.seen c.in-Int-right.ensures.same
 
-pub pairs-preserved : goal.pairs-preserved
-pairs-preserved c = (
-  behind_further c.args.heap.now.now c.pairs.heap.now c.step.new.heap.now c.args.a c.args.b (c.pairs.work.items ++ c.pairs.pair ∷ []) (c.pop.new.self.items ++ c.in-Some.next ∷ []) c.args.touches.now.items c.pairs.touches.items c.step.new.touches.items c.pairs.invariant.0 (some c),
-  c.in_ok-step.ensures.below ∙ c.pairs.invariant.1,
-)
+pub returns-in-Int-right-clause-unequal : goal.returns-in-Int-right-clause-unequal
+returns-in-Int-right-clause-unequal c = integers_false c.args.heap.now.now c.deref.ensures.valid c.args.a c.args.b c.requires.own_a c.requires.own_b c.in-Int.x c.in-Int-right.y _ (λ e f. search rules) c.in-Int.ensures.seen c.in-Int-right.ensures.same
 
--- all work is done
-last : (c : goal.After-drop-work-in-None) → IsBehind c.args.heap.now.now c.args.a c.args.b c.step.new.heap.now c.step.new.work.items c.args.touches.now.items c.step.new.touches.items
-last c =
-    behind_further c.args.heap.now.now c.pairs.heap.now c.step.new.heap.now c.args.a c.args.b (c.pairs.work.items ++ c.pairs.pair ∷ []) c.step.new.work.items c.args.touches.now.items c.pairs.touches.items c.step.new.touches.items c.pairs.invariant.0
-    (at_true c.in_ok-step.field-0 (IsDone c.pairs.heap.now (c.pairs.work.items ++ c.pairs.pair ∷ []) c.pairs.touches.items c.step.new.heap.now c.step.new.work.items c.step.new.touches.items) c.if-not-branch.false c.in_ok-step.ensures.done)
+pub returns-in-Atom-right-clause-equal : goal.returns-in-Atom-right-clause-equal
+returns-in-Atom-right-clause-equal c = atoms_true c.args.heap.now.now c.deref.ensures.valid c.args.a c.args.b c.requires.own_a c.requires.own_b c.in-Atom.x c.in-Atom-right.y c.eq.result c.args.touches.now.items c.eq.ensures c.in-Atom.ensures.seen c.in-Atom-right.ensures.same
 
-pub returns-in-None-clause-equal : goal.returns-in-None-clause-equal
-returns-in-None-clause-equal c =
-    let e : c.step.new.work.items ≡ [] = search rules in
-    equalled c.args.heap.now.now c.step.new.heap.now c.args.a c.args.b c.step.new.work.items c.args.touches.now.items c.step.new.touches.items e (last c)
-
-pub returns-in-None-clause-atoms : goal.returns-in-None-clause-atoms
-returns-in-None-clause-atoms c =
-    let w = last c in
-    atoms_unified c.args.heap.now.now c.step.new.heap.now c.args.a c.args.b c.step.new.work.items w.more w.way
+pub returns-in-Atom-right-clause-unequal : goal.returns-in-Atom-right-clause-unequal
+returns-in-Atom-right-clause-unequal c = atoms_false c.args.heap.now.now c.deref.ensures.valid c.args.a c.args.b c.requires.own_a c.requires.own_b c.in-Atom.x c.in-Atom-right.y c.eq.result c.eq.ensures c.in-Atom.ensures.seen c.in-Atom-right.ensures.same
