@@ -1,5 +1,6 @@
 -- How the nodes of a range are read as a form.
 use Rattle.std.proofs.Common.{SFits, ◌≡◌, ℕ, zero, suc, ◌+◌, ◌*◌, ◌-◌, ◌^◌, ◌<◌, ◌≤◌, length, take, drop, get_or, true, not, ◌||◌, ◌==◌, IsTrue, eqb-true, ℤ, pos, negsuc, neg_ℤ, nat_abs, ◌+ℤ◌, ◌-ℤ◌, ◌*ℤ◌, ◌≤ℤ◌, List, [], ◌∷◌, ◌++◌, Some, refl, sym, ◌∙◌, ap, subst, ◌⊎◌, inl, inr, arith}
+use Rattle.std.proofs.Math.Nat.{div-one}
 use Rattle.std.proofs.Math.IntN.{+ℤ_assoc, +ℤ_comm, +ℤ_idl, *ℤ_comm, neg_ℤ-neg_ℤ}
 use Rattle.std.proofs.lemmas.Int.{ints, fits_signed_from_abs}
 use mir.Syntax.{w64, w128}
@@ -12,7 +13,7 @@ use Rattle.fd_language.specs.declared.TheConstants.{INFINITY}
 use Rattle.fd_language.specs.declared.range_node.RangeNode.{RangeNode}
 use Rattle.fd_language.specs.declared.range_node.RangeNode.TheVariants as node
 use Rattle.fd_language.specs.Family.{Family, has, universe, IsRising}
-use Rattle.fd_language.specs.Range.{Range, Expr, least, greatest, Infinity, Min, Max, Val, Add, Sub, Mul, DivDown, DivUp, Span, One, Outside, in_range}
+use Rattle.fd_language.specs.Range.{Range, Expr, least, greatest, down_by, Infinity, Min, Max, Val, Add, Sub, Mul, DivDown, DivUp, Span, One, Outside, in_range}
 use Rattle.fd_language.specs.Range.{Number as Literal}
 use Rattle.fd_language.specs.Check.{fill_range}
 use Rattle.fd_language.specs.Flat.{nodes_of, built, built_behind, put, shape_of, term_alone, term_of_terms, builds_range, spelled, spelled-nodes, IsSpelled}
@@ -338,3 +339,24 @@ other_way z n = grind (arith, ints)
 -- all numbers but one are the complement of that one
 pub except_one : (z : ℤ) → all_but z ≡ outside (between z z)
 except_one z = filter_agree (λ n. not (int_eq (pos n) z)) (λ n. not (int_eq z (pos n))) (other_way z) (universe INFINITY) ∙ sym (ap outside (one_is INFINITY z) ∙ outside_is INFINITY (λ n. int_eq z (pos n)))
+
+-- a term divided by 1
+down_one : (z : ℤ) → down_by z 0 ≡ z
+down_one (pos a) = ap pos (div-one a)
+down_one (negsuc a) = ap negsuc (div-one a)
+
+up_one : (z : ℤ) → neg_ℤ (down_by (neg_ℤ z) 0) ≡ z
+up_one z = ap neg_ℤ (down_one (neg_ℤ z)) ∙ neg_ℤ-neg_ℤ z
+
+pub undivided_down : (n m : RangeNode) → n ≡ node.Int (pos 1) → m ≡ node.DivDown → IsDivision n m Whole
+undivided_down n m e f = record { term = Literal (pos 1); make = DivDown; divisor = ap shape_of e; shape = ap shape_of f; value = λ S p t. down_one (filled_value S p t); positive = tt }
+
+pub undivided_up : (n m : RangeNode) → n ≡ node.Int (pos 1) → m ≡ node.DivUp → IsDivision n m Whole
+undivided_up n m e f = record { term = Literal (pos 1); make = DivUp; divisor = ap shape_of e; shape = ap shape_of f; value = λ S p t. up_one (filled_value S p t); positive = tt }
+
+-- two bounds that are one sum
+pub one_sum : (a b : Bound) → a.constant ≡ b.constant → a.division ≡ Whole → b.division ≡ Whole → a.products.items ≡ b.products.items → (S : Family) → bound_value S a ≡ bound_value S b
+one_sum a b c d e p S = two divided (d ∙ sym e) (two (λ x ms. x +ℤ sum_of S ms) c p)
+
+pub one_outside : (r : Range) (a b : Bound) → IsComplement r a b → ((S : Family) → bound_value S a ≡ bound_value S b) → IsException r a
+one_outside r a b h e = record { set = λ S p. h.set S p ∙ ap (λ z. outside (between (bound_value S a) z)) (sym (e S)); value = h.low }

@@ -6,7 +6,7 @@ ghost use Rattle.fd_language.specs.Family.{Family};
 ghost use Rattle.fd_language.specs.Flat.{nodes_of};
 ghost use Rattle.fd_language.specs.Range.{Range};
 ghost use Rattle.range_code.specs.Frames.{slot_set};
-ghost use Rattle.range_code.specs.Forms.{end_of as end_of_set, sum_of, total_of, divided as divided_by, leaf_amount, amount, bound_value, AreNarrow, AreSeen, IsPositive, IsUsable, IsLeaf, IsSigned, IsDivision, IsPart, IsAdded, IsBound, IsForm};
+ghost use Rattle.range_code.specs.Forms.{end_of as end_of_set, sum_of, total_of, divided as divided_by, leaf_amount, amount, bound_value, AreNarrow, AreSeen, IsPositive, IsUsable, IsLeaf, IsSigned, IsDivision, IsPart, IsAdded, IsBound, IsComplement, IsForm};
 
 use crate::choice::{Choice, read_choice};
 use crate::frame::{Arg, slot_domain};
@@ -266,6 +266,17 @@ fn is_complement(node: RangeNode) -> bool
     matches!(node, RangeNode::Outside)
 }
 
+/// A division by 1, which leaves the term whole.
+fn undivided(operator: RangeNode) -> Option<Division>
+    ensures { IfSome result (IsDivision (RangeNode.Int (pos 1)) operator) }
+{
+    match operator {
+        RangeNode::DivDown => Some(Division::Whole),
+        RangeNode::DivUp => Some(Division::Whole),
+        _ => None,
+    }
+}
+
 /// The division by an integer, where the two nodes are one.
 fn division_of(divisor: RangeNode, operator: RangeNode) -> Option<Division>
     ensures { IfSome result (IsDivision divisor operator) }
@@ -275,6 +286,9 @@ fn division_of(divisor: RangeNode, operator: RangeNode) -> Option<Division>
     };
     if divisor < 1 {
         return None;
+    }
+    if divisor == 1 {
+        return undivided(operator);
     }
     match operator {
         RangeNode::DivDown => Some(Division::Down(divisor)),
@@ -400,7 +414,67 @@ fn sums_form(alloc: Global, nodes: &[RangeNode]) -> Result<Form, NoMemory>
     };
     match rest {
         [last] if is_span(*last) => Ok(Form::Between(low, high)),
-        [span, last] if is_span(*span) && is_complement(*last) => Ok(Form::Without(low, high)),
+        [span, last] if is_span(*span) && is_complement(*last) => Ok(outside_form(low, high)),
         _ => Ok(Form::Nodes),
+    }
+}
+
+/// Whether the ends are the same.
+fn is_same_end(a: End, b: End) -> bool
+    ensures { IsTrue result → a ≡ b }
+{
+    match (a, b) {
+        (End::Least, End::Least) => true,
+        (End::Greatest, End::Greatest) => true,
+        _ => false,
+    }
+}
+
+/// Whether the products are the same.
+fn is_same_product(a: Product, b: Product) -> bool
+    ensures { IsTrue result → a ≡ b }
+{
+    a.weight == b.weight && a.slot == b.slot && is_same_end(a.end, b.end)
+}
+
+/// Whether the lists of products are the same.
+fn are_same_products(a: &[Product], b: &[Product]) -> bool
+    ensures { IsTrue result → a.now ≡ b.now }
+{
+    if a.len() != b.len() {
+        return false;
+    }
+    for (i, product) in a.iter().enumerate() {
+        if !is_same_product(*product, b[i]) {
+            return false;
+        }
+    }
+    true
+}
+
+fn is_whole(division: Division) -> bool
+    ensures { IsTrue result → division ≡ Division.Whole }
+{
+    matches!(division, Division::Whole)
+}
+
+/// Whether the bounds are one undivided sum.
+fn is_one_sum(a: &Bound, b: &Bound) -> bool
+    ensures { IsTrue result → (S : Family) → bound_value S a.now ≡ bound_value S b.now }
+{
+    a.constant == b.constant
+        && is_whole(a.division)
+        && is_whole(b.division)
+        && are_same_products(&a.products, &b.products)
+}
+
+/// The form of the complement of the interval between two bounds: where they are one sum, a single number is left out.
+fn outside_form(low: Bound, high: Bound) -> Form
+    ensures { (r : Range) → IsComplement r low high → IsForm r result }
+{
+    if is_one_sum(&low, &high) {
+        Form::Except(low)
+    } else {
+        Form::Without(low, high)
     }
 }
