@@ -17,17 +17,17 @@ use Rattle.heap_cells.proofs.Elements.{none_at_all, all_front, last_of, all_push
 use Rattle.heap_cells.proofs.Substitutions.{size_positive}
 use Rattle.builtin_calls.specs.declared.evaluation.EvalFault.{EvalFault}
 use Rattle.builtin_calls.specs.declared.evaluation.EvalFault.TheVariants as fault
-use Rattle.builtin_calls.specs.declared.evaluation.Operation.{Operation}
-use Rattle.builtin_calls.specs.declared.evaluation.Operation.TheVariants.{Add, Subtract, Multiply, Divide, Modulo}
-use Rattle.builtin_calls.specs.declared.evaluation.Waiting.{Waiting}
-use Rattle.builtin_calls.specs.declared.evaluation.Waiting.TheVariants.{Left, Right, Opposite}
+use Rattle.builtin_calls.specs.declared.waiting.Operation.{Operation}
+use Rattle.builtin_calls.specs.declared.waiting.Operation.TheVariants.{Add, Subtract, Multiply, Divide, Modulo}
+use Rattle.builtin_calls.specs.declared.waiting.Waiting.{Waiting}
+use Rattle.builtin_calls.specs.declared.waiting.Waiting.TheVariants.{Left, Right, Opposite}
 use Rattle.builtin_calls.specs.declared.evaluation.Step.{Step}
 use Rattle.builtin_calls.specs.declared.evaluation.Step.TheVariants.{Enter, Leave}
 use Rattle.fd_model.specs.Arithmetic.{ValueFault, not_a_number, unbound, Value, value_of, by_name, of_both, of_one, opposite_of, sum_of, difference_of, product_of, quotient_of, modulo_of}
 use Rattle.builtin_calls.specs.Reading.{seen_term}
 use Rattle.builtin_calls.specs.Shown.{shown, IsHeld}
 use Rattle.builtin_calls.specs.Outcomes.{IsFault, IsNamedBy, Tells, meaning, operation_of}
-use Rattle.builtin_calls.specs.Waiting.{after, resumed, step_value, IsOwn, IsOwnWaiting, IsOfHeap, IsOwnStep, unnamed, burden, GoesOn, TellsStep, IsEntered}
+use Rattle.builtin_calls.specs.Waiting.{after, resumed, step_value, IsOwn, IsOwnWaiting, IsOfHeap, IsOwnStep, unnamed, burden, GoesOn, Leads, TellsStep, TellsAscent, IsEntered}
 
 -- the operation that a name means
 operation_by : (a b c d e : Bool) (l r : Value) (o : Operation) → cond a (Some Add) (cond b (Some Subtract) (cond c (Some Multiply) (cond d (Some Divide) (cond e (Some Modulo) None)))) ≡ Some o
@@ -155,13 +155,78 @@ module _ (names : List Name) (h : Cells) (sets : List (List ℕ)) where
           omega arith;
     })
 
+    entered_known : (d e : Cell) (o : Operation) (z : ℤ) (new : List Waiting) (t : Step) → args ≡ d ∷ e ∷ [] → operation_of (name_in names f) ≡ Some o → ((name : Naming) → value_of (seen_term name h sets d) ≡ Ok z) → new ≡ old ++ Right o z ∷ [] → t ≡ Enter e → GoesOn names h sets old (Enter c) new t
+    entered_known d e o z new t a m known i s = subst (λ x. GoesOn names h sets old (Enter c) new x) (sym s) (subst (λ xs. GoesOn names h sets old (Enter c) xs (Enter e)) (sym i) record {
+      value = λ name n.
+          let by = seen_term name h sets in
+          let v : value_of (by c) ≡ of_both (meaning o) (Ok z) (value_of (by e)) =
+          ap value_of (is name ∙ ap (λ xs. Comp (name f) (terms_by by xs)) a) ∙ by_operation (name f) (value_of (by d)) (value_of (by e)) o (ap operation_of (n f there) ∙ m) ∙ ap (λ y. of_both (meaning o) y (value_of (by e))) (known name) in
+          ap (resumed by old) v ∙ sym (resumed-append by old (Right o z) (value_of (by e)));
+      own = λ s all.
+          (let both = subst (All (IsOwn (length names) h)) a own in
+          (head_of (IsOwn (length names) h) e [] (tail_of (IsOwn (length names) h) d (e ∷ []) both), all_push (IsOwnWaiting (length names) h) old (Right o z) all tt));
+      falls =
+          let by = seen_term unnamed h sets in
+          let p = burden-append by old (Right o z) in
+          let q : size (by c) ≡ 1 + (size (by d) + (size (by e) + 0)) = ap size (is unnamed ∙ ap (λ xs. Comp (unnamed f) (terms_by by xs)) a) in
+          omega arith;
+    })
+
     -- a compound term is entered, or its fault is told
-    pub entered : (text : Name) (r : Result Step EvalFault) (new : List Waiting) → text ≡ name_in names f → IsEntered text args old r new → TellsStep names h sets old (Enter c) r new
+    pub entered : (text : Name) (r : Result Step EvalFault) (new : List Waiting) → text ≡ name_in names f → IsEntered h sets text args old r new → TellsStep names h sets old (Enter c) r new
     entered text (Ok t) new x (inl k) = entered_opposite k.0 new t k.1 (ap (λ g. bytes_eq g (codes "-")) (sym x) ∙ k.2) k.3 k.4
-    entered text (Ok t) new x (inr k) = entered_both k.0 k.1 k.2 new t k.3 (ap operation_of (sym x) ∙ k.4) k.5 k.6
+    entered text (Ok t) new x (inr (inl k)) = entered_both k.0 k.1 k.2 new t k.3 (ap operation_of (sym x) ∙ k.4) k.5 k.6
+    entered text (Ok t) new x (inr (inr k)) = entered_known k.0 k.1 k.2 k.3 new t k.4 (ap operation_of (sym x) ∙ k.5) k.6 k.7 k.8
     entered text (Err e) new x k = λ name n.
         fault_through (seen_term name h sets) old e (value_of (seen_term name h sets c))
         (subst (λ y. IsFault e (value_of y)) (sym (is name ∙ ap (λ g. Comp g (terms_by (seen_term name h sets) args)) (n f there ∙ sym x))) (k (seen_term name h sets)))
+
+  -- an evaluation that has gone on
+  pub leads_same : (ws : List Waiting) (s : Step) → Leads names h sets ws s ws s
+  leads_same ws s = record { value = λ name n. refl; own = λ o a. (o, a); lighter = omega arith }
+
+  pub leads_further : (old mid new : List Waiting) (s t u : Step) → Leads names h sets old s mid t → GoesOn names h sets mid t new u → Leads names h sets old s new u
+  leads_further old mid new s t u l g = record {
+    value = λ name n. l.value name n ∙ g.value name n;
+    own = λ o a. let b = l.own o a in g.own b.0 b.1;
+    lighter = let m = l.lighter in let n = g.falls in omega arith;
+  }
+
+  pub leads_on : (old mid new : List Waiting) (s t u : Step) → Leads names h sets old s mid t → GoesOn names h sets mid t new u → GoesOn names h sets old s new u
+  leads_on old mid new s t u l g = record {
+    value = λ name n. l.value name n ∙ g.value name n;
+    own = λ o a. let b = l.own o a in g.own b.0 b.1;
+    falls = let m = l.lighter in let n = g.falls in omega arith;
+  }
+
+  pub goes_leading : (old mid new : List Waiting) (s t u : Step) → GoesOn names h sets old s mid t → Leads names h sets mid t new u → GoesOn names h sets old s new u
+  goes_leading old mid new s t u g l = record {
+    value = λ name n. g.value name n ∙ l.value name n;
+    own = λ o a. let b = g.own o a in l.own b.0 b.1;
+    falls = let m = l.lighter in let n = g.falls in omega arith;
+  }
+
+  -- what waited last was taken away
+  pub leads_popped : (old mid ws new : List Waiting) (w : Waiting) (s : Step) (y x : ℤ) (t : Step) → y ≡ x → mid ≡ ws ++ w ∷ [] → Leads names h sets old s mid (Leave y) → GoesOn names h sets (ws ++ w ∷ []) (Leave x) new t → Leads names h sets old s new t
+  leads_popped old mid ws new w s y x t e m l g = leads_further old mid new s (Leave y) t l (subst (λ z. GoesOn names h sets mid (Leave z) new t) (sym e) (subst (λ (xs : List Waiting). GoesOn names h sets xs (Leave x) new t) (sym m) g))
+
+  pub popped_falls : (mid ws new : List Waiting) (w : Waiting) (x z : ℤ) (t : Step) → mid ≡ ws ++ w ∷ [] → GoesOn names h sets (ws ++ w ∷ []) (Leave x) new t → t ≡ Leave z → 1 + burden (seen_term unnamed h sets) new < 1 + burden (seen_term unnamed h sets) mid
+  popped_falls mid ws new w x z t m g e = (subst (λ (xs : List Waiting). GoesOn names h sets xs (Leave x) new (Leave z)) (sym m) (subst (GoesOn names h sets (ws ++ w ∷ []) (Leave x) new) e g)).falls
+
+  pub popped_fails : (old mid ws : List Waiting) (w : Waiting) (s : Step) (y x : ℤ) (e : EvalFault) → y ≡ x → mid ≡ ws ++ w ∷ [] → Leads names h sets old s mid (Leave y) → ((name : Naming) → IsNamedBy names name → IsFault e (resumed (seen_term name h sets) (ws ++ w ∷ []) (Ok x)))
+      → (name : Naming) → IsNamedBy names name → IsFault e (resumed (seen_term name h sets) old (step_value (seen_term name h sets) s))
+  popped_fails old mid ws w s y x e q m l f name n = subst (IsFault e) (sym (l.value name n ∙ ap (resumed (seen_term name h sets) mid) (ap Ok q) ∙ ap (λ (xs : List Waiting). resumed (seen_term name h sets) xs (Ok x)) m)) (f name n)
+
+  -- the way down to an integer, and the way up from there
+  pub climbed : (old mid new : List Waiting) (at next : Cell) (z y : ℤ) (t : Step) → GoesOn names h sets old (Enter at) mid (Leave z) → y ≡ z → TellsAscent names h sets mid y (Ok t) new → t ≡ Enter next → GoesOn names h sets old (Enter at) new (Enter next)
+  climbed old mid new at next z y t g e a i = goes_leading old mid new (Enter at) (Leave z) (Enter next) g (subst (λ x. Leads names h sets mid (Leave x) new (Enter next)) e (subst (λ s. TellsAscent names h sets mid y (Ok s) new) i a))
+
+  pub climbed_out : (old mid new : List Waiting) (at : Cell) (z y x : ℤ) (t : Step) → GoesOn names h sets old (Enter at) mid (Leave z) → y ≡ z → TellsAscent names h sets mid y (Ok t) new → t ≡ Leave x → GoesOn names h sets old (Enter at) [] (Leave x)
+  climbed_out old mid new at z y x t g e a i = goes_leading old mid [] (Enter at) (Leave z) (Leave x) g (subst (λ v. Leads names h sets mid (Leave v) [] (Leave x)) e (subst (λ s. TellsAscent names h sets mid y (Ok s) new) i a))
+
+  pub climbed_fails : (old mid : List Waiting) (at : Cell) (z y : ℤ) (e : EvalFault) → GoesOn names h sets old (Enter at) mid (Leave z) → y ≡ z → ((name : Naming) → IsNamedBy names name → IsFault e (resumed (seen_term name h sets) mid (Ok y)))
+      → (name : Naming) → IsNamedBy names name → IsFault e (resumed (seen_term name h sets) old (value_of (seen_term name h sets at)))
+  climbed_fails old mid at z y e g q f name n = subst (IsFault e) (sym (g.value name n ∙ ap (resumed (seen_term name h sets) mid) (ap Ok (sym q)))) (f name n)
 
 -- the arguments of a compound term of the heap
 pub held_own : (n : ℕ) (h : Cells) → IsHeap h → HasAtomsBelow n h → (f : AtomId) (args : Bor (List Cell)) → IsHeld h (seen.Struct f args) → All (IsOwn n h) args.now
@@ -173,6 +238,13 @@ held_own n h v a f args k i d l = (
 -- its name
 pub held_name : (n : ℕ) (h : Cells) → HasAtomsBelow n h → (f : AtomId) (args : Bor (List Cell)) → IsHeld h (seen.Struct f args) → f.number < n
 held_name n h a f args k = subst (λ (b : Compound). b.name.number < n) k.2 (a.names k.0 k.1)
+
+-- a list of two
+pub two_of : (cs : List Cell) (d : Cell) → 2 ≤ length cs → length cs < 3 → cs ≡ get_or cs 0 d ∷ get_or cs 1 d ∷ []
+two_of [] d a b = absurd (omega arith)
+two_of (x ∷ []) d a b = absurd (omega arith)
+two_of (x ∷ y ∷ []) d a b = refl
+two_of (x ∷ y ∷ z ∷ zs) d a b = absurd (omega arith)
 
 not_so : (b : Bool) → not b ≡ true → b ≡ false
 not_so true e = sym e
@@ -222,9 +294,9 @@ way_fails names h sets top ws s e w f name n = subst (IsFault e) (sym (w.value n
 pub way_ends : (names : List Name) (h : Cells) (sets : List (List ℕ)) (top : Cell) (ws : List Waiting) (s : Step) (z : ℤ) → IsUnderWay names h sets top ws s → ws ≡ [] → s ≡ Leave z → (name : Naming) → IsNamedBy names name → value_of (seen_term name h sets top) ≡ Ok z
 way_ends names h sets top ws s z w e f name n = w.value name n ∙ ap (λ xs. resumed (seen_term name h sets) xs (step_value (seen_term name h sets) s)) e ∙ ap (step_value (seen_term name h sets)) f
 
--- what waits last is of the heap
-pub last_held : (n : ℕ) (h : Cells) (all ws : List Waiting) (w : Waiting) → All (IsOwnWaiting n h) all → all ≡ ws ++ w ∷ [] → IsOfHeap h w
-last_held n h all ws w a e = go w (last_of (IsOwnWaiting n h) ws w (subst (All (IsOwnWaiting n h)) e a))
+-- what waits is of the heap
+pub all_held : (n : ℕ) (h : Cells) (ws : List Waiting) → All (IsOwnWaiting n h) ws → All (IsOfHeap h) ws
+all_held n h ws a k d l = go (get_or ws k d) (a k d l)
   where
     go : (x : Waiting) → IsOwnWaiting n h x → IsOfHeap h x
     go (Left o c) i = i.0

@@ -4,3 +4,4 @@ pub mod Passing
 pub mod Outcomes
 pub mod Waiting
 pub mod Identical
+pub mod Waiters

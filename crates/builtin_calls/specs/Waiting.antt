@@ -1,5 +1,5 @@
 -- An evaluation under way: where it stands, and what waits for the value there, of which the last is the next.
-use Rattle.std.specs.Prelude.{◌≡◌, ℕ, ◌+◌, ◌*◌, ◌<◌, List, [], ◌∷◌, ◌++◌, ◌⊎◌, true, length, Some, codes, All, Result, Ok, Err}
+use Rattle.std.specs.Prelude.{◌≡◌, ℕ, ◌+◌, ◌*◌, ◌<◌, ◌≤◌, ℤ, List, [], ◌∷◌, ◌++◌, ◌⊎◌, true, length, Some, codes, All, Result, Ok, Err}
 use Rattle.std.specs.Str.{bytes_eq}
 use Rattle.fd_language.specs.Term.{Name, Term, Comp}
 use Rattle.term_pool.specs.Terms.{size}
@@ -8,9 +8,9 @@ use Rattle.heap_cells.specs.Cells.{Cells, IsOf}
 use Rattle.heap_cells.specs.Terms.{Naming, terms_by}
 use Rattle.heap_cells.specs.Atoms.{IsAtomBelow}
 use Rattle.builtin_calls.specs.declared.evaluation.EvalFault.{EvalFault}
-use Rattle.builtin_calls.specs.declared.evaluation.Operation.{Operation}
-use Rattle.builtin_calls.specs.declared.evaluation.Waiting.{Waiting}
-use Rattle.builtin_calls.specs.declared.evaluation.Waiting.TheVariants.{Left, Right, Opposite}
+use Rattle.builtin_calls.specs.declared.waiting.Operation.{Operation}
+use Rattle.builtin_calls.specs.declared.waiting.Waiting.{Waiting}
+use Rattle.builtin_calls.specs.declared.waiting.Waiting.TheVariants.{Left, Right, Opposite}
 use Rattle.builtin_calls.specs.declared.evaluation.Step.{Step}
 use Rattle.builtin_calls.specs.declared.evaluation.Step.TheVariants.{Enter, Leave}
 use Rattle.fd_model.specs.Arithmetic.{Value, value_of, of_both, of_one, opposite_of}
@@ -77,9 +77,27 @@ abbrev pub TellsStep : List Name → Cells → List (List ℕ) → List Waiting 
 TellsStep names h sets old s (Ok t) new = GoesOn names h sets old s new t
 TellsStep names h sets old s (Err e) new = (name : Naming) → IsNamedBy names name → IsFault e (resumed (seen_term name h sets) old (step_value (seen_term name h sets) s))
 
--- a compound term is entered at its first operand, or its fault is told
-abbrev pub IsEntered : Name → List Cell → List Waiting → Result Step EvalFault → List Waiting → Type 0
-IsEntered f args old (Ok t) new =
+-- one evaluation goes on as the other, or is the other
+pub record Leads (names : List Name) (h : Cells) (sets : List (List ℕ)) (old : List Waiting) (s : Step) (new : List Waiting) (t : Step) : Type 0 where
+  pub value : (name : Naming) → IsNamedBy names name → resumed (seen_term name h sets) old (step_value (seen_term name h sets) s) ≡ resumed (seen_term name h sets) new (step_value (seen_term name h sets) t)
+  pub own : IsOwnStep (length names) h s → All (IsOwnWaiting (length names) h) old → IsOwnStep (length names) h t × All (IsOwnWaiting (length names) h) new
+  pub lighter : load (seen_term unnamed h sets) new t ≤ load (seen_term unnamed h sets) old s
+
+-- the way down to an integer, or its fault
+abbrev pub TellsDescent : List Name → Cells → List (List ℕ) → List Waiting → Cell → Result ℤ EvalFault → List Waiting → Type 0
+TellsDescent names h sets old c (Ok z) new = GoesOn names h sets old (Enter c) new (Leave z)
+TellsDescent names h sets old c (Err e) new = (name : Naming) → IsNamedBy names name → IsFault e (resumed (seen_term name h sets) old (value_of (seen_term name h sets c)))
+
+-- the way up with a value: to an operand, or to the end, where nothing waits; or its fault
+abbrev pub TellsAscent : List Name → Cells → List (List ℕ) → List Waiting → ℤ → Result Step EvalFault → List Waiting → Type 0
+TellsAscent names h sets old z (Ok (Enter c)) new = Leads names h sets old (Leave z) new (Enter c)
+TellsAscent names h sets old z (Ok (Leave y)) new = Leads names h sets old (Leave z) [] (Leave y)
+TellsAscent names h sets old z (Err e) new = (name : Naming) → IsNamedBy names name → IsFault e (resumed (seen_term name h sets) old (Ok z))
+
+-- a compound term is entered at its first operand, or at the second one where the first has a value; or its fault is told
+abbrev pub IsEntered : Cells → List (List ℕ) → Name → List Cell → List Waiting → Result Step EvalFault → List Waiting → Type 0
+IsEntered h sets f args old (Ok t) new =
     ((c : Cell) × (args ≡ c ∷ []) × (bytes_eq f (codes "-") ≡ true) × (new ≡ old ++ Opposite ∷ []) × (t ≡ Enter c))
-    ⊎ ((c : Cell) × (d : Cell) × (o : Operation) × (args ≡ c ∷ d ∷ []) × (operation_of f ≡ Some o) × (new ≡ old ++ Left o d ∷ []) × (t ≡ Enter c))
-IsEntered f args old (Err e) new = (by : Cell → Term) → IsFault e (value_of (Comp f (terms_by by args)))
+    ⊎ (((c : Cell) × (d : Cell) × (o : Operation) × (args ≡ c ∷ d ∷ []) × (operation_of f ≡ Some o) × (new ≡ old ++ Left o d ∷ []) × (t ≡ Enter c))
+    ⊎ ((c : Cell) × (d : Cell) × (o : Operation) × (z : ℤ) × (args ≡ c ∷ d ∷ []) × (operation_of f ≡ Some o) × ((name : Naming) → value_of (seen_term name h sets c) ≡ Ok z) × (new ≡ old ++ Right o z ∷ []) × (t ≡ Enter d)))
+IsEntered h sets f args old (Err e) new = (by : Cell → Term) → IsFault e (value_of (Comp f (terms_by by args)))

@@ -1,6 +1,6 @@
 //! Arithmetic.
 
-ghost use Rattle.std.specs.Prelude.{◌≡◌, ◌++◌, [], ◌∷◌, ℤ, pos, List, length, FitsSigned, IfSome, Ok};
+ghost use Rattle.std.specs.Prelude.{◌≡◌, ◌++◌, [], ◌∷◌, ℤ, pos, List, length, FitsSigned, IfSome, Ok, OnOk, All};
 ghost use Rattle.std.specs.Option.{SomeIff};
 ghost use Rattle.std.specs.Int.{w64};
 ghost use Rattle.fd_language.specs.Term.{Name};
@@ -12,13 +12,13 @@ ghost use Rattle.builtin_calls.specs.declared.evaluation.Step.TheVariants as ste
 ghost use Rattle.fd_model.specs.Arithmetic.{integer, modulo, value_of};
 ghost use Rattle.builtin_calls.specs.Outcomes.{Tells, IsNamedBy, meaning, operation_of};
 ghost use Rattle.builtin_calls.specs.Reading.{seen_term, HasLinksBelow};
-ghost use Rattle.builtin_calls.specs.Waiting.{IsEntered, IsOfHeap, TellsStep};
+ghost use Rattle.builtin_calls.specs.Waiting.{IsEntered, IsOfHeap, IsOwn, IsOwnWaiting, TellsStep, TellsDescent, TellsAscent};
 
 use crate::reading::look;
+use crate::waiting::{Operation, Waiters, Waiting};
 use domain_ranges::View;
 use heap_cells::{Cell, Heap, Seen};
-use smallvec::SmallVec;
-use std::alloc::{AllocFailed, Global};
+use std::alloc::{AllocError, Global};
 use term_pool::Pool;
 use thiserror::Error;
 
@@ -42,34 +42,12 @@ pub enum EvalFault {
     NoMemory,
 }
 
-impl<T: Drop> From<AllocFailed<T>> for EvalFault {
+impl From<AllocError> for EvalFault {
     ghost from_gives = { λ _ e. e ≡ fault.NoMemory };
 
-    fn from(_error: AllocFailed<T>) -> EvalFault {
+    fn from(_error: AllocError) -> EvalFault {
         EvalFault::NoMemory
     }
-}
-
-/// An operation of two operands.
-#[derive(Clone, Copy)]
-enum Operation {
-    Add,
-    Subtract,
-    Multiply,
-    Divide,
-    Modulo,
-}
-
-/// What waits for the value of an operand.
-#[derive(Clone, Copy, Default)]
-enum Waiting {
-    /// An operation that waits for its left operand. The right one is to be entered then.
-    Left(Operation, Cell),
-    /// An operation with its left operand that waits for its right one.
-    Right(Operation, i64),
-    /// A prefix `-`.
-    #[default]
-    Opposite,
 }
 
 /// Where an evaluation stands: before a term, or behind one with its value.
@@ -78,9 +56,6 @@ enum Step {
     Enter(Cell),
     Leave(i64),
 }
-
-/// How many operations may wait before their number takes memory.
-const ROOM: usize = 8;
 
 /// The operation whose name is this character.
 fn operation_of_byte(byte: u8) -> Option<Operation>
@@ -147,13 +122,33 @@ fn apply(operation: Operation, left: i64, right: i64) -> Result<i64, EvalFault>
     }
 }
 
-/// Enters a compound term at its first operand.
-fn enter_compound(
+/// The value of an integer, and `None` at another term.
+#[inline(always)]
+fn constant<V: View>(heap: &Heap, view: &V, c: Cell) -> Option<i64>
+    requires own { IsOf heap.now.now c }
+    requires links { HasLinksBelow (length (V.sets view.now)) heap.now.now }
+    ensures { IfSome result (λ z. (name : Naming) → value_of
+        (seen_term name heap.now.now (V.sets view.now) c) ≡ Ok z) }
+{
+    match look(heap, view, c) {
+        Seen::Int(z) if z != i64::MIN => Some(z),
+        _ => None,
+    }
+}
+
+/// Enters a compound term at its first operand, or at the second one where the first is an integer.
+#[inline(always)]
+fn enter_compound<V: View>(
+    heap: &Heap,
+    view: &V,
     name: &str,
     args: &[Cell],
-    waiting: &mut SmallVec<Waiting, ROOM>,
+    waiting: &mut Waiters,
 ) -> Result<Step, EvalFault>
-    ensures { IsEntered name.now args.now waiting.old.items result waiting.new.items }
+    requires own { All (IsOf heap.now.now) args.now }
+    requires links { HasLinksBelow (length (V.sets view.now)) heap.now.now }
+    ensures { IsEntered heap.now.now (V.sets view.now) name.now args.now waiting.old result
+        waiting.new }
 {
     match args {
         &[only] => {
@@ -167,6 +162,10 @@ fn enter_compound(
             let Some(operation) = operation_named(name) else {
                 return Err(EvalFault::NotANumber);
             };
+            if let Some(value) = constant(heap, view, left) {
+                waiting.push(Waiting::Right(operation, value))?;
+                return Ok(Step::Enter(right));
+            }
             waiting.push(Waiting::Left(operation, right))?;
             Ok(Step::Enter(left))
         }
@@ -174,54 +173,44 @@ fn enter_compound(
     }
 }
 
-/// Enters a term: the step to its first operand, or behind it.
+/// Enters a term: the step to an operand, or behind it.
+#[inline(always)]
 fn enter<V: View>(
     heap: &Heap,
     pool: &Pool,
     view: &V,
     c: Cell,
-    waiting: &mut SmallVec<Waiting, ROOM>,
+    waiting: &mut Waiters,
 ) -> Result<Step, EvalFault>
     requires own { IsOf heap.now.now c }
     requires atoms { HasAtomsBelow (length pool.now.names) heap.now.now }
     requires links { HasLinksBelow (length (V.sets view.now)) heap.now.now }
-    ensures { TellsStep pool.now.names heap.now.now (V.sets view.now) waiting.old.items
-        (step.Enter c) result waiting.new.items }
+    ensures { TellsStep pool.now.names heap.now.now (V.sets view.now) waiting.old
+        (step.Enter c) result waiting.new }
 {
     match look(heap, view, c) {
         Seen::Int(z) => Ok(Step::Leave(checked(Some(z))?)),
-        Seen::Struct(f, args) => enter_compound(pool.name_of(f), args, waiting),
+        Seen::Struct(f, args) => enter_compound(heap, view, pool.name_of(f), args, waiting),
         Seen::Atom(_) => Err(EvalFault::NotANumber),
         _ => Err(EvalFault::Unbound),
     }
 }
 
-/// The value of an integer, and `None` at another term.
-#[inline]
-fn constant<V: View>(heap: &Heap, view: &V, c: Cell) -> Option<i64>
-    requires own { IsOf heap.now.now c }
-    requires links { HasLinksBelow (length (V.sets view.now)) heap.now.now }
-    ensures { IfSome result (λ z. (name : Naming) → value_of
-        (seen_term name heap.now.now (V.sets view.now) c) ≡ Ok z) }
-{
-    match look(heap, view, c) {
-        Seen::Int(z) if z != i64::MIN => Some(z),
-        _ => None,
-    }
-}
-
 /// Goes on with a value that was waited for.
+#[inline(always)]
 fn resume<V: View>(
     heap: &Heap,
     view: &V,
     waits: Waiting,
     value: i64,
-    waiting: &mut SmallVec<Waiting, ROOM>,
+    waiting: &mut Waiters,
 ) -> Result<Step, EvalFault>
     requires own { IsOfHeap heap.now.now waits }
     requires links { HasLinksBelow (length (V.sets view.now)) heap.now.now }
-    ensures { (names : List Name) → TellsStep names heap.now.now (V.sets view.now)
-        (waiting.old.items ++ waits ∷ []) (step.Leave value) result waiting.new.items }
+    ensures goes { (names : List Name) → TellsStep names heap.now.now (V.sets view.now)
+        (waiting.old ++ waits ∷ []) (step.Leave value) result waiting.new }
+    ensures held { OnOk result (All (IsOfHeap heap.now.now) waiting.old
+        → All (IsOfHeap heap.now.now) waiting.new) }
 {
     match waits {
         Waiting::Left(operation, right) => {
@@ -256,6 +245,54 @@ fn eval_flat<V: View>(heap: &Heap, pool: &Pool, view: &V, c: Cell) -> Option<Res
     }
 }
 
+/// Goes down to the first integer, past what waits for values.
+#[inline(always)]
+fn descend<V: View>(
+    heap: &Heap,
+    pool: &Pool,
+    view: &V,
+    c: Cell,
+    waiting: &mut Waiters,
+) -> Result<i64, EvalFault>
+    requires own { IsOwn (length pool.now.names) heap.now.now c }
+    requires waiting { All (IsOwnWaiting (length pool.now.names) heap.now.now) waiting.old }
+    requires atoms { HasAtomsBelow (length pool.now.names) heap.now.now }
+    requires links { HasLinksBelow (length (V.sets view.now)) heap.now.now }
+    ensures { TellsDescent pool.now.names heap.now.now (V.sets view.now) waiting.old c result
+        waiting.new }
+{
+    let mut at = c;
+    'down: loop {
+        match enter(heap, pool, view, at, waiting)? {
+            Step::Enter(next) => at = next,
+            Step::Leave(value) => return Ok(value),
+        }
+    }
+}
+
+/// Goes up with a value, to the next operand that is to be entered, or to the end.
+#[inline(always)]
+fn ascend<V: View>(
+    heap: &Heap,
+    view: &V,
+    value: i64,
+    waiting: &mut Waiters,
+) -> Result<Step, EvalFault>
+    requires own { All (IsOfHeap heap.now.now) waiting.old }
+    requires links { HasLinksBelow (length (V.sets view.now)) heap.now.now }
+    ensures { (names : List Name) → TellsAscent names heap.now.now (V.sets view.now) waiting.old
+        value result waiting.new }
+{
+    let mut current = value;
+    while let Some(waits) = waiting.pop() {
+        match resume(heap, view, waits, current, waiting)? {
+            Step::Enter(next) => return Ok(Step::Enter(next)),
+            Step::Leave(next) => current = next,
+        }
+    }
+    Ok(Step::Leave(current))
+}
+
 /// The value of a term, operand by operand.
 fn eval_nested<V: View>(
     alloc: Global,
@@ -271,16 +308,14 @@ fn eval_nested<V: View>(
     ensures { (name : Naming) → IsNamedBy pool.now.names name → Tells result
         (value_of (seen_term name heap.now.now (V.sets view.now) c)) }
 {
-    let mut waiting = SmallVec::new(alloc);
-    let mut step = Step::Enter(c);
+    let mut waiting = Waiters::new(alloc);
+    let mut at = c;
     'steps: loop {
-        step = match step {
-            Step::Enter(next) => enter(heap, pool, view, next, &mut waiting)?,
-            Step::Leave(value) => match waiting.pop() {
-                Some(waits) => resume(heap, view, waits, value, &mut waiting)?,
-                None => return Ok(value),
-            },
-        };
+        let value = descend(heap, pool, view, at, &mut waiting)?;
+        match ascend(heap, view, value, &mut waiting)? {
+            Step::Enter(next) => at = next,
+            Step::Leave(value) => return Ok(value),
+        }
     }
 }
 

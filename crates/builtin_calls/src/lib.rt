@@ -7,6 +7,7 @@ mod evaluation;
 mod identity;
 mod reading;
 mod type_tests;
+mod waiting;
 
 pub use evaluation::{EvalFault, eval};
 pub use identity::same;

@@ -1,10 +1,11 @@
+use Rattle.builtin_calls.specs.declared.evaluation.Step.TheVariants.{Enter}
 use Rattle.builtin_calls.specs.Reading.{seen_term}
-use Rattle.builtin_calls.specs.Waiting.{unnamed, load}
+use Rattle.builtin_calls.specs.Waiting.{load, unnamed}
 use Rattle.builtin_calls.proofs.Evaluating.{IsUnderWay}
 use Rattle.builtin_calls.proofs.evaluation.eval_nested.Given as goal
 
 abbrev pub invariant-steps : goal.invariant-steps
-invariant-steps g l = IsUnderWay l.pool.names l.heap.now (g.V.View.sets l.view) l.fn.c l.waiting.items l.step
+invariant-steps g l = IsUnderWay l.pool.names l.heap.now (g.V.View.sets l.view) l.fn.c l.waiting (Enter l.at)
 
 abbrev pub decreases-steps : goal.decreases-steps
-decreases-steps g l = load (seen_term unnamed l.heap.now (g.V.View.sets l.view)) l.waiting.items l.step
+decreases-steps g l = load (seen_term unnamed l.heap.now (g.V.View.sets l.view)) l.waiting (Enter l.at)

@@ -1,0 +1,94 @@
+//! What waits for the values of operands.
+
+ghost use Rattle.std.specs.Prelude.{◌≡◌, ◌++◌, [], ◌∷◌, MatchOption, OnOk};
+
+use heap_cells::Cell;
+use std::alloc::{AllocError, Global};
+use std::marker::Model;
+
+/// An operation of two operands.
+#[derive(Clone, Copy)]
+pub(crate) enum Operation {
+    Add,
+    Subtract,
+    Multiply,
+    Divide,
+    Modulo,
+}
+
+/// What waits for the value of an operand.
+#[derive(Clone, Copy)]
+pub(crate) enum Waiting {
+    /// An operation that waits for its left operand. The right one is to be entered then.
+    Left(Operation, Cell),
+    /// An operation with its left operand that waits for its right one.
+    Right(Operation, i64),
+    /// A prefix `-`.
+    Opposite,
+}
+
+/// How many may wait before their number takes memory.
+const ROOM: usize = 8;
+
+/// All that waits, of which the last is the next: the first eight here, and those behind them in memory of their own.
+#[derive(Drop)]
+pub(crate) struct Waiters {
+    near: [Waiting; ROOM],
+    count: usize,
+    far: Vec<Waiting>,
+}
+
+impl Model for Waiters {
+    ghost use Rattle.std.specs.Prelude.{List};
+    ghost use Rattle.builtin_calls.specs.declared.waiting.Waiting.{Waiting};
+    ghost use Rattle.builtin_calls.specs.Waiters.{all_waiting, IsFilled};
+
+    ghost Value = { List Waiting };
+
+    ghost view = { λ w. all_waiting w.near w.count w.far.items };
+
+    ghost invariant = { λ w. IsFilled w.near w.count w.far.items };
+}
+
+impl Waiters {
+    /// Nothing waits.
+    #[inline]
+    pub(crate) fn new(alloc: Global) -> Waiters
+        ensures { result ≡ [] }
+    {
+        Waiters {
+            near: [Waiting::Opposite; ROOM],
+            count: 0,
+            far: Vec::new(alloc),
+        }
+    }
+
+    /// Puts what waits behind the others. The error is want of memory.
+    #[inline(always)]
+    pub(crate) fn push(&mut self, waits: Waiting) -> Result<(), AllocError>
+        ensures { OnOk result (self.new ≡ self.old ++ waits ∷ []) }
+    {
+        if self.count < ROOM {
+            self.near[self.count] = waits;
+            self.count += 1;
+        } else {
+            self.far.push(waits)?;
+        }
+        Ok(())
+    }
+
+    /// Takes the last of what waits away.
+    #[inline(always)]
+    pub(crate) fn pop(&mut self) -> Option<Waiting>
+        ensures { MatchOption result (self.old ≡ []) (λ w. self.old ≡ self.new ++ w ∷ []) }
+    {
+        if let Some(waits) = self.far.pop() {
+            return Some(waits);
+        }
+        if self.count == 0 {
+            return None;
+        }
+        self.count -= 1;
+        Some(self.near[self.count])
+    }
+}
