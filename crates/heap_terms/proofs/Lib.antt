@@ -3,8 +3,4 @@ pub mod Stacks
 pub mod Pools
 pub mod CellReads
 pub mod CellWalk
-pub mod VarWalk
-pub mod TermWalk
-pub mod Whole
 pub mod Values
-pub mod Flat

@@ -56,10 +56,6 @@ leaves_compound f n ks ds g l =
       ready = (let e : suc (length ds - n) ≡ length (take (length ds - n) ds ++ t ∷ []) = omega (arith, length-append (take (length ds - n) ds) (t ∷ [])) in subst (AreReady ks) e l.ready.1);
     }
 
--- No task is left.
-pub leaves_one : (ds : List Term) (g : Term) → Leaves [] ds g → ds ≡ g ∷ []
-leaves_one ds g l = l.ends
-
 -- The stack of the code has the next task last.
 module _ (A : Type 0) (f : A → Task) where
   abbrev pub stack : List A → List Task

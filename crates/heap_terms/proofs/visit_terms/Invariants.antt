@@ -1,7 +1,0 @@
-use Rattle.std.proofs.Common.{◌≡◌, ◌++◌, drop}
-use Rattle.std.specs.Prelude.{map, reverse}
-use Rattle.heap_terms.specs.declared.Building.TheVariants.{Visit}
-use Rattle.heap_terms.proofs.visit_terms.Given as goal
-
-abbrev pub invariant-loop-i : goal.invariant-loop-i
-invariant-loop-i l = l.tasks.items ≡ l.fn.tasks.items ++ reverse (map Visit (drop l.i l.terms))
