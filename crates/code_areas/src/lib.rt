@@ -4,7 +4,7 @@
 //! not returned, and these are never written.
 #![tactic(auto)]
 
-ghost use Rattle.std.specs.Prelude.{◌≡◌, ◌+◌, ◌<◌, ◌≤◌, [], ◌∷◌, length, take, reverse, replicate, slice_set, Some, None, IfOk, OnOk, OnErr};
+ghost use Rattle.std.specs.Prelude.{◌≡◌, ◌+◌, ◌<◌, ◌≤◌, [], ◌∷◌, ◌++◌, length, take, reverse, replicate, slice_set, slice_range, vec_len, vec_capacity, Some, None, IfOk, OnOk, OnErr};
 ghost use Rattle.code_areas.specs.Areas.{cell_at, IsSet, IsPut, nothing};
 ghost use Rattle.code_areas.specs.Stored.{frames_kept};
 
@@ -79,6 +79,7 @@ impl Areas {
     }
 
     /// The cell in the register `n`.
+    #[inline]
     pub fn register(&self, n: usize) -> Cell
         requires { IsSet self.now.registers n }
         ensures { cell_at self.now.registers n ≡ Some result }
@@ -87,6 +88,7 @@ impl Areas {
     }
 
     /// Puts a cell into the register `n`. The error is want of memory.
+    #[inline]
     pub fn set_register(&mut self, n: usize, cell: Cell) -> Result<(), NoMemory>
         ensures put { OnOk result (IsPut self.old.registers n cell self.new.registers) }
         ensures same { self.new ≡ record self.old { registers = self.new.registers } }
@@ -97,6 +99,7 @@ impl Areas {
     }
 
     /// Forgets the registers from the number `n` on. No memory.
+    #[inline]
     pub fn keep_registers(&mut self, n: usize)
         ensures { self.new ≡ record self.old { registers = take n self.old.registers } }
     {
@@ -104,6 +107,7 @@ impl Areas {
     }
 
     /// The cell in the slot `n`.
+    #[inline]
     pub fn slot(&self, n: usize) -> Cell
         requires { IsSet self.now.slots n }
         ensures { cell_at self.now.slots n ≡ Some result }
@@ -119,6 +123,7 @@ impl Areas {
     }
 
     /// Puts a cell into the slot `n` of the current frame. No memory.
+    #[inline]
     pub fn set_slot(&mut self, n: usize, cell: Cell)
         requires { n < length self.old.slots }
         ensures { self.new
@@ -129,6 +134,7 @@ impl Areas {
     }
 
     /// Begins a frame of `n` slots, of which none is set. The error is want of memory.
+    #[inline]
     pub fn allocate(&mut self, n: usize) -> Result<(), NoMemory>
         requires none { length self.old.slots ≡ 0 }
         ensures slots { OnOk result (self.new ≡ record self.old { slots = replicate n None }) }
@@ -142,6 +148,7 @@ impl Areas {
     }
 
     /// Ends the current frame. No memory.
+    #[inline]
     pub fn deallocate(&mut self)
         ensures { self.new ≡ record self.old { slots = [] } }
     {
@@ -149,6 +156,7 @@ impl Areas {
     }
 
     /// Leaves the current frame to a call, which is to go on at the place `to`. The error is want of memory.
+    #[inline]
     pub fn call(&mut self, to: usize) -> Result<(), NoMemory>
         ensures called { OnOk result (self.new ≡ record self.old {
           slots = [];
@@ -157,12 +165,13 @@ impl Areas {
         ensures unchanged { OnErr result (self.new ≡ self.old) }
     {
         let end = self.slots.len();
-        self.frames.push(Frame {
+        let frame = Frame {
             to,
             start: self.base,
             end,
             behind: self.newest,
-        })?;
+        };
+        push(&mut self.frames, frame)?;
         self.newest = self.frames.len();
         self.base = end;
         Ok(())
@@ -170,6 +179,7 @@ impl Areas {
 
     /// Goes back to the newest continuation: its slots are the current ones, and the result is its place. Where no choice point is newer,
     /// its memory is given back. The error is want of memory.
+    #[inline]
     pub fn proceed(&mut self) -> Result<usize, NoMemory>
         requires { 0 < length self.old.returns }
         ensures returned { IfOk result (λ to. self.old.returns
@@ -182,7 +192,7 @@ impl Areas {
         let frame = self.frames[k];
         if k < kept_frames(&self.marks) {
             let base = self.slots.len();
-            self.slots.extend_from_within(frame.start..frame.end)?;
+            copy_slots(&mut self.slots, frame.start, frame.end)?;
             self.base = base;
             self.newest = frame.behind;
             return Ok(frame.to);
@@ -255,6 +265,7 @@ impl Areas {
 }
 
 /// The cell at a number where one is set.
+#[inline]
 fn set_cell(cells: &[Option<Cell>], at: usize) -> Cell
     requires { IsSet cells.now at }
     ensures { cell_at cells.now at ≡ Some result }
@@ -262,8 +273,70 @@ fn set_cell(cells: &[Option<Cell>], at: usize) -> Cell
     cells[at].unwrap()
 }
 
+/// Puts an item behind the others. The error is want of memory.
+#[inline]
+fn push<T: Copy>(items: &mut Vec<T>, item: T) -> Result<(), NoMemory>
+    ensures pushed { OnOk result (items.new.items ≡ items.old.items ++ item ∷ []) }
+    ensures unchanged { OnErr result (items.new.items ≡ items.old.items) }
+{
+    if items.len() == items.capacity() {
+        make_room(items)?;
+    }
+    items.push_reserved(item);
+    Ok(())
+}
+
+/// Makes room for one more item at least. The error is want of memory.
+#[inline(never)]
+fn make_room<T: Copy>(items: &mut Vec<T>) -> Result<(), NoMemory>
+    ensures same { items.new.items ≡ items.old.items }
+    ensures room { OnOk result (vec_len items.new < vec_capacity items.new) }
+{
+    items.reserve(1)?;
+    Ok(())
+}
+
+/// Copies the slots from `start` on before `end` behind all. The error is want of memory.
+#[inline(never)]
+fn copy_slots(slots: &mut Vec<Option<Cell>>, start: usize, end: usize) -> Result<(), NoMemory>
+    requires ordered { start ≤ end }
+    requires within { end ≤ length slots.old.items }
+    ensures copied { OnOk result (slots.new.items
+        ≡ slots.old.items ++ slice_range slots.old.items start end) }
+    ensures unchanged { OnErr result (slots.new.items ≡ slots.old.items) }
+{
+    slots.extend_from_within(start..end)?;
+    Ok(())
+}
+
 /// Puts a cell behind the first ones at the number `n`.
+#[inline]
 fn put_cell(
+    cells: &mut Vec<Option<Cell>>,
+    first: usize,
+    n: usize,
+    cell: Cell,
+) -> Result<(), NoMemory>
+    requires { first ≤ length cells.old.items }
+    ensures put { OnOk result (IsPut cells.old.items (first + n) cell cells.new.items) }
+    ensures kept { OnOk result (take first cells.new.items ≡ take first cells.old.items) }
+    ensures longer { OnOk result (first ≤ length cells.new.items) }
+    ensures unchanged { OnErr result (cells.new.items ≡ cells.old.items) }
+{
+    let held = cells.len() - first;
+    if n > held {
+        return put_beyond(cells, first, n, cell);
+    }
+    if n == held {
+        return push(cells, Some(cell));
+    }
+    cells[first + n] = Some(cell);
+    Ok(())
+}
+
+/// Puts a cell behind the first ones at the number `n`, which may be past the end: those between are not set.
+#[inline(never)]
+fn put_beyond(
     cells: &mut Vec<Option<Cell>>,
     first: usize,
     n: usize,
