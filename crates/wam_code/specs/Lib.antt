@@ -1,4 +1,5 @@
 pub mod Area
+pub mod Keys
 pub mod Standing
 pub mod Arities
 pub mod Effect

@@ -1,11 +1,13 @@
 //! Code that is safe to run.
-ghost use Rattle.std.specs.Prelude.{◌≡◌, ◌<◌, length};
+ghost use Rattle.std.specs.Prelude.{◌≡◌, ◌↔◌, ◌<◌, length, IsTrue};
 ghost use Rattle.wam_code.specs.Area.{area_of, table_at, range_at, Holds};
+ghost use Rattle.wam_code.specs.Keys.{HasRisingTables};
 ghost use Rattle.wam_code.specs.Standing.{StandsAt};
 ghost use Rattle.wam_code.specs.Verified.{IsVerified, IsThere};
 
 use crate::instruction::{Code, Instr, Key};
 use crate::parts::CodeParts;
+use crate::rising::have_rising_tables;
 use range_code::RangeCode;
 use std::marker::Model;
 use std::rc::Rc;
@@ -15,11 +17,14 @@ use term_pool::Pool;
 #[derive(Drop)]
 pub struct CodeArea {
     parts: CodeParts,
+    rising: bool,
 }
 
 impl Model for CodeArea {
     ghost use Rattle.std.specs.Coded.{codes};
     ghost use Rattle.wam_code.specs.Area.{Area, area_of, range_coded};
+    ghost use Rattle.std.specs.Prelude.{◌↔◌, IsTrue};
+    ghost use Rattle.wam_code.specs.Keys.{HasRisingTables};
     ghost use Rattle.wam_code.specs.Verified.{IsVerified};
 
     ghost Value = { Area };
@@ -28,17 +33,27 @@ impl Model for CodeArea {
 
     ghost view = { λ a. area_of a.parts };
 
-    ghost invariant = { λ a. IsVerified (area_of a.parts) };
+    ghost invariant = { λ a. IsVerified (area_of a.parts)
+        × (IsTrue a.rising ↔ HasRisingTables (area_of a.parts)) };
 }
 
 impl CodeArea {
-    /// The code with these parts, which is verified: there are states of its places by which each place finds what it needs, wherever it
-    /// is reached from.
+    /// The code with these parts, which is verified: there are states of its places by which each
+    /// place finds what it needs, wherever it is reached from.
     pub fn from_verified(parts: CodeParts) -> CodeArea
         requires { IsVerified (area_of parts) }
         ensures { result ≡ area_of parts }
     {
-        CodeArea { parts }
+        let rising = have_rising_tables(&parts);
+        CodeArea { parts, rising }
+    }
+
+    /// Whether the keys of every table rise, so that they can be looked for by halves.
+    #[inline]
+    pub fn has_rising_tables(&self) -> bool
+        ensures { IsTrue result ↔ HasRisingTables self.now }
+    {
+        self.rising
     }
 
     /// The parts.
@@ -65,7 +80,7 @@ impl CodeArea {
 
     /// The table with this number.
     #[inline]
-    fn table(&self, t: usize) -> &[(Key, usize)]
+    pub fn table(&self, t: usize) -> &[(Key, usize)]
         requires { t < length self.now.tables }
         ensures { result.now ≡ table_at self.now t }
     {
@@ -81,9 +96,9 @@ impl CodeArea {
         &self.parts.ranges[r]
     }
 
-    /// The instruction at a place of the code, as it is kept.
+    /// The instruction at a place of the code, as it is kept: tables and ranges by their numbers.
     #[inline]
-    fn code(&self, at: usize) -> Code
+    pub fn code_at(&self, at: usize) -> Code
         requires { at < length self.now.code }
         ensures holds { Holds self.now at result }
         ensures there { IsThere self.now result }
@@ -91,13 +106,13 @@ impl CodeArea {
         self.parts.code[at]
     }
 
-    /// The instruction at a place of the code.
+    /// The instruction at a place of the code, with its table or range.
     #[inline]
     pub fn instr(&self, at: usize) -> Instr<'_>
         requires { at < length self.now.code }
         ensures { StandsAt self.now at result }
     {
-        match self.code(at) {
+        match self.code_at(at) {
             Code::GetVariable(r, a) => Instr::GetVariable(r, a),
             Code::GetValue(r, a) => Instr::GetValue(r, a),
             Code::GetConstant(c, a) => Instr::GetConstant(c, a),

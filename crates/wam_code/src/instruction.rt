@@ -1,4 +1,7 @@
 //! The instructions.
+ghost use Rattle.std.specs.Prelude.{◌↔◌, IsTrue};
+ghost use Rattle.wam_code.specs.Keys.{IsBelow};
+
 use fd_model::kinds::{BuiltinKind, ConstraintKind, Order};
 use range_code::RangeCode;
 use std::rc::Rc;
@@ -11,7 +14,8 @@ pub enum Register {
     Y(usize),
 }
 
-/// What a switch looks for in the first argument: an atom, an integer, or a name with a number of arguments.
+/// What a switch looks for in the first argument: an atom, an integer, or a name with a number of
+/// arguments.
 #[derive(Clone, Copy, Debug, PartialEq, Eq)]
 pub enum Key {
     Atom(AtomId),
@@ -19,8 +23,31 @@ pub enum Key {
     Struct(AtomId, u8),
 }
 
-/// An instruction as code keeps it, of the Warren machine (Ait-Kaci 1991) with constraints (Codognet and Diaz 1996). Tables, ranges
-/// and predicates stand by their numbers, and an argument's number comes last.
+impl Key {
+    /// Whether the key stands before another one of its kind: atoms by number, integers by value,
+    /// structures by the name's number and then by the number of arguments. No memory.
+    #[inline]
+    pub fn is_below(self, other: Key) -> bool
+        ensures { IsTrue result ↔ IsBelow self other }
+    {
+        match (self, other) {
+            (Key::Atom(c), Key::Atom(d)) => c.number < d.number,
+            (Key::Int(y), Key::Int(z)) => y < z,
+            (Key::Struct(f, n), Key::Struct(g, m)) => {
+                if f.number == g.number {
+                    n < m
+                } else {
+                    f.number < g.number
+                }
+            }
+            _ => false,
+        }
+    }
+}
+
+/// An instruction as code keeps it, of the Warren machine (Ait-Kaci 1991) with constraints
+/// (Codognet and Diaz 1996). Tables, ranges and predicates stand by their numbers, and an
+/// argument's number comes last.
 #[derive(Clone, Copy, Debug)]
 pub enum Code {
     /// A head's argument that is a variable met first: the register holds the argument from now on.
@@ -81,7 +108,8 @@ pub enum Code {
     Retry(usize),
     /// The last clauses of a choice are those at the place.
     Trust(usize),
-    /// Where the code goes on for a first argument that is a variable, an atom, an integer, a structure.
+    /// Where the code goes on for a first argument that is a variable, an atom, an integer, a
+    /// structure.
     SwitchOnTerm(usize, usize, usize, usize),
     /// Where it goes on by the atom, or nothing fits.
     SwitchOnConstant(usize),
@@ -97,11 +125,13 @@ pub enum Code {
     Constrain(ConstraintKind),
     /// A labelling of a list.
     Label(Order),
-    /// A range is posted. So many registers have the target and then the range's variables, by slots.
+    /// A range is posted. So many registers have the target and then the range's variables, by
+    /// slots.
     PostRange(usize, usize),
 }
 
-/// An instruction as a machine sees it: `Code` with the table and the range in the place of their numbers.
+/// An instruction as a machine sees it: `Code` with the table and the range in the place of their
+/// numbers.
 #[derive(Clone, Copy)]
 pub enum Instr<'c> {
     GetVariable(Register, usize),

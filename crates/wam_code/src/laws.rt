@@ -6,12 +6,14 @@ pub fn places_follow_rules()
     ensures { PlacesFollowRules }
 {}
 
-/// A place before a clause stands for the clauses that the rule of its instruction says, and for no others.
+/// A place before a clause stands for the clauses that the rule of its instruction says, and for no
+/// others.
 pub fn choices_follow_rules()
     ensures { ChoicesFollowRules }
 {}
 
-/// In verified code a place that is reached with what its state says finds what it needs, and so do the places that it leads to.
+/// In verified code a place that is reached with what its state says finds what it needs, and so do
+/// the places that it leads to.
 pub fn steps_are_safe()
     ensures { StepsAreSafe }
 {}

@@ -1,10 +1,12 @@
-//! Instructions of a Warren machine with constraints, code that is safe to run, and what code stands for (Warren 1983, Ait-Kaci 1991).
+//! Instructions of a Warren machine with constraints, code that is safe to run, and what code
+//! stands for (Warren 1983, Ait-Kaci 1991).
 #![tactic(auto)]
 
 mod area;
 mod instruction;
 pub mod laws;
 mod parts;
+mod rising;
 
 pub use crate::area::CodeArea;
 pub use crate::instruction::{Code, Instr, Key, Register};

@@ -12,7 +12,8 @@ pub struct Entry {
     pub at: usize,
 }
 
-/// A query: its code is from `at` on before `end`, and an answer shows the first slots under these names.
+/// A query: its code is from `at` on before `end`, and an answer shows the first slots under these
+/// names.
 #[derive(Drop)]
 pub struct QueryEntry {
     pub at: usize,
@@ -20,7 +21,8 @@ pub struct QueryEntry {
     pub names: Vec<AtomId>,
 }
 
-/// The instructions, and the tables, ranges, predicates and queries that they name, each by its number from 0. Atoms are of the pool.
+/// The instructions, and the tables, ranges, predicates and queries that they name, each by its
+/// number from 0. Atoms are of the pool.
 #[derive(Drop)]
 pub struct CodeParts {
     pub pool: Pool,
