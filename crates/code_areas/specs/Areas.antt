@@ -30,7 +30,8 @@ pub record Point : Type 0 where
   pub slots : Places
   pub returns : List Return
 
--- the argument registers, the slots of the current frame, and the continuations and the choice points, the newest first
+-- the argument registers, the slots of the current frame, and the continuations and the choice
+-- points, the newest first
 pub record Contents : Type 0 where
   pub registers : Places
   pub slots : Places

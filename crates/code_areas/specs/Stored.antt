@@ -13,7 +13,8 @@ frame_at frames k = slice_index_or frames k no_frame
 abbrev pub return_of : Places → Frame → Return
 return_of slots f = record { to = f.to; slots = slice_range slots f.start f.end }
 
--- the frames from the one with the number k on, of which there are no more than so many: 0 is none, and suc k is the one at place k
+-- the frames from the one with the number k on, of which there are no more than so many: 0 is none,
+-- and suc k is the one at place k
 abbrev pub within : Places → List Frame → ℕ → ℕ → List Return
 within slots frames zero k = []
 within slots frames (suc most) zero = []
@@ -38,7 +39,8 @@ abbrev pub contents_of : Places → ℕ → Places → ℕ → List Frame → �
 contents_of cells first slots base frames newest marks =
     record { registers = drop first cells; slots = drop base slots; returns = returns_of slots frames newest; points = points_of (reverse marks) cells slots frames }
 
--- The registers stand behind those that were saved, and the current slots behind all frames'. Each frame has older ones behind it, and its slots stand behind theirs.
+-- The registers stand behind those that were saved, and the current slots behind all frames'. Each
+-- frame has older ones behind it, and its slots stand behind theirs.
 pub record IsLevel (cells : Places) (first : ℕ) (slots : Places) (base : ℕ) (frames : List Frame) (newest : ℕ) : Type 0 where
   pub first_in : first ≤ length cells
   pub base_in : base ≤ length slots

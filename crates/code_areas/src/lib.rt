@@ -1,10 +1,10 @@
 //! The argument registers, the frames and the choice points of a machine that runs code.
 //!
-//! Cells lie in two vectors. In each the current ones are the last: behind them stand those of choice points and of calls that have
-//! not returned, and these are never written.
+//! Cells lie in two vectors. In each the current ones are the last: behind them stand those of
+//! choice points and of calls that have not returned, and these are never written.
 #![tactic(auto)]
 
-ghost use Rattle.std.specs.Prelude.{◌≡◌, ◌+◌, ◌<◌, ◌≤◌, [], ◌∷◌, ◌++◌, length, take, reverse, replicate, slice_set, slice_range, vec_len, vec_capacity, Some, None, IfOk, OnOk, OnErr};
+ghost use Rattle.std.specs.Prelude.{◌≡◌, ◌+◌, ◌<◌, ◌≤◌, [], ◌∷◌, length, take, reverse, replicate, slice_set, Some, None, IfOk, OnOk, OnErr};
 ghost use Rattle.code_areas.specs.Areas.{cell_at, IsSet, IsPut, nothing};
 ghost use Rattle.code_areas.specs.Stored.{frames_kept};
 
@@ -13,7 +13,8 @@ use heap_cells::Cell;
 use std::alloc::Global;
 use std::marker::Model;
 
-/// What a call has left behind: where to go on, the slots from `start` to `end`, and the frame behind it by its number.
+/// What a call has left behind: where to go on, the slots from `start` to `end`, and the frame
+/// behind it by its number.
 #[derive(Clone, Copy)]
 struct Frame {
     to: usize,
@@ -22,7 +23,8 @@ struct Frame {
     behind: usize,
 }
 
-/// A choice point: the place to come back to, where its registers and slots begin, and the lengths and the newest frame of then.
+/// A choice point: the place to come back to, where its registers and slots begin, and the lengths
+/// and the newest frame of then.
 #[derive(Clone, Copy)]
 struct Mark {
     place: usize,
@@ -36,7 +38,8 @@ struct Mark {
 
 /// Argument registers, the slots of the current frame, continuations and choice points.
 ///
-/// Registers and slots are numbered from 0. A number past the registers' end is one that is not set.
+/// Registers and slots are numbered from 0. A number past the registers' end is one that is not
+/// set.
 #[derive(Drop)]
 pub struct Areas {
     cells: Vec<Option<Cell>>,
@@ -155,7 +158,8 @@ impl Areas {
         self.slots.truncate(self.base);
     }
 
-    /// Leaves the current frame to a call, which is to go on at the place `to`. The error is want of memory.
+    /// Leaves the current frame to a call, which is to go on at the place `to`. The error is want
+    /// of memory.
     #[inline]
     pub fn call(&mut self, to: usize) -> Result<(), NoMemory>
         ensures called { OnOk result (self.new ≡ record self.old {
@@ -165,20 +169,20 @@ impl Areas {
         ensures unchanged { OnErr result (self.new ≡ self.old) }
     {
         let end = self.slots.len();
-        let frame = Frame {
+        self.frames.push(Frame {
             to,
             start: self.base,
             end,
             behind: self.newest,
-        };
-        push(&mut self.frames, frame)?;
+        })?;
         self.newest = self.frames.len();
         self.base = end;
         Ok(())
     }
 
-    /// Goes back to the newest continuation: its slots are the current ones, and the result is its place. Where no choice point is newer,
-    /// its memory is given back. The error is want of memory.
+    /// Goes back to the newest continuation: its slots are the current ones, and the result is its
+    /// place. Where no choice point is newer, its memory is given back. The error is want of
+    /// memory.
     #[inline]
     pub fn proceed(&mut self) -> Result<usize, NoMemory>
         requires { 0 < length self.old.returns }
@@ -192,7 +196,7 @@ impl Areas {
         let frame = self.frames[k];
         if k < kept_frames(&self.marks) {
             let base = self.slots.len();
-            copy_slots(&mut self.slots, frame.start, frame.end)?;
+            self.slots.extend_from_within(frame.start..frame.end)?;
             self.base = base;
             self.newest = frame.behind;
             return Ok(frame.to);
@@ -211,7 +215,8 @@ impl Areas {
         self.marks.len()
     }
 
-    /// Makes a choice point of all that is current, to come back to at `place`. The error is want of memory.
+    /// Makes a choice point of all that is current, to come back to at `place`. The error is want
+    /// of memory.
     pub fn push_point(&mut self, place: usize) -> Result<(), NoMemory>
         ensures pushed { OnOk result (self.new ≡ record self.old {
           points = record {
@@ -242,8 +247,8 @@ impl Areas {
         Ok(())
     }
 
-    /// Goes back to the newest choice point, which is taken away: what is current is what it has saved, and the result is its place.
-    /// No memory.
+    /// Goes back to the newest choice point, which is taken away: what is current is what it has
+    /// saved, and the result is its place. No memory.
     pub fn pop_point(&mut self) -> usize
         requires { 0 < length self.old.points }
         ensures { self.old.points ≡ record {
@@ -273,42 +278,6 @@ fn set_cell(cells: &[Option<Cell>], at: usize) -> Cell
     cells[at].unwrap()
 }
 
-/// Puts an item behind the others. The error is want of memory.
-#[inline]
-fn push<T: Copy>(items: &mut Vec<T>, item: T) -> Result<(), NoMemory>
-    ensures pushed { OnOk result (items.new.items ≡ items.old.items ++ item ∷ []) }
-    ensures unchanged { OnErr result (items.new.items ≡ items.old.items) }
-{
-    if items.len() == items.capacity() {
-        make_room(items)?;
-    }
-    items.push_reserved(item);
-    Ok(())
-}
-
-/// Makes room for one more item at least. The error is want of memory.
-#[inline(never)]
-fn make_room<T: Copy>(items: &mut Vec<T>) -> Result<(), NoMemory>
-    ensures same { items.new.items ≡ items.old.items }
-    ensures room { OnOk result (vec_len items.new < vec_capacity items.new) }
-{
-    items.reserve(1)?;
-    Ok(())
-}
-
-/// Copies the slots from `start` on before `end` behind all. The error is want of memory.
-#[inline(never)]
-fn copy_slots(slots: &mut Vec<Option<Cell>>, start: usize, end: usize) -> Result<(), NoMemory>
-    requires ordered { start ≤ end }
-    requires within { end ≤ length slots.old.items }
-    ensures copied { OnOk result (slots.new.items
-        ≡ slots.old.items ++ slice_range slots.old.items start end) }
-    ensures unchanged { OnErr result (slots.new.items ≡ slots.old.items) }
-{
-    slots.extend_from_within(start..end)?;
-    Ok(())
-}
-
 /// Puts a cell behind the first ones at the number `n`.
 #[inline]
 fn put_cell(
@@ -324,35 +293,17 @@ fn put_cell(
     ensures unchanged { OnErr result (cells.new.items ≡ cells.old.items) }
 {
     let held = cells.len() - first;
-    if n > held {
-        return put_beyond(cells, first, n, cell);
+    if n < held {
+        cells[first + n] = Some(cell);
+        return Ok(());
     }
-    if n == held {
-        return push(cells, Some(cell));
+    if n == held && cells.len() < cells.capacity() {
+        cells.push_reserved(Some(cell));
+        return Ok(());
     }
-    cells[first + n] = Some(cell);
-    Ok(())
-}
-
-/// Puts a cell behind the first ones at the number `n`, which may be past the end: those between are not set.
-#[inline(never)]
-fn put_beyond(
-    cells: &mut Vec<Option<Cell>>,
-    first: usize,
-    n: usize,
-    cell: Cell,
-) -> Result<(), NoMemory>
-    requires { first ≤ length cells.old.items }
-    ensures put { OnOk result (IsPut cells.old.items (first + n) cell cells.new.items) }
-    ensures kept { OnOk result (take first cells.new.items ≡ take first cells.old.items) }
-    ensures longer { OnOk result (first ≤ length cells.new.items) }
-    ensures unchanged { OnErr result (cells.new.items ≡ cells.old.items) }
-{
     let at = first.checked_add(n).ok_or(NoMemory)?;
-    if at >= cells.len() {
-        let end = at.checked_add(1).ok_or(NoMemory)?;
-        cells.resize(end, None)?;
-    }
+    let end = at.checked_add(1).ok_or(NoMemory)?;
+    cells.resize(end, None)?;
     cells[at] = Some(cell);
     Ok(())
 }
