@@ -301,6 +301,24 @@ fn put_cell(
         cells.push_reserved(Some(cell));
         return Ok(());
     }
+    put_beyond(cells, first, n, cell)
+}
+
+/// Puts a cell past the end, at the number `n` behind the first ones: those between are not set.
+#[inline(never)]
+fn put_beyond(
+    cells: &mut Vec<Option<Cell>>,
+    first: usize,
+    n: usize,
+    cell: Cell,
+) -> Result<(), NoMemory>
+    requires within { first ≤ length cells.old.items }
+    requires beyond { length cells.old.items ≤ first + n }
+    ensures put { OnOk result (IsPut cells.old.items (first + n) cell cells.new.items) }
+    ensures kept { OnOk result (take first cells.new.items ≡ take first cells.old.items) }
+    ensures longer { OnOk result (first ≤ length cells.new.items) }
+    ensures unchanged { OnErr result (cells.new.items ≡ cells.old.items) }
+{
     let at = first.checked_add(n).ok_or(NoMemory)?;
     let end = at.checked_add(1).ok_or(NoMemory)?;
     cells.resize(end, None)?;
