@@ -1,37 +1,22 @@
 -- Domains as lists of intervals.
-use Rattle.std.proofs.Common.{◌≡◌, ℕ, zero, suc, ◌+◌, ◌<◌, ◌≤◌, ℤ, pos, codes, List, [], ◌∷◌, ◌++◌, length, map, take, get_or, Option, Some, None, Result, Ok, Err, refl, ap, sym, ◌∙◌, subst, arith}
+use Rattle.std.proofs.Common.{◌≡◌, ℕ, ◌+◌, ◌<◌, ◌≤◌, ℤ, pos, List, [], ◌∷◌, ◌++◌, map, refl, ap, sym, ◌∙◌, arith}
 use Rattle.fd_language.specs.declared.TheConstants.{INFINITY}
-use Rattle.fd_language.specs.Family.{Family}
 use Rattle.domain_ranges.specs.Spans.{IsSpans, members}
 use Rattle.machine_events.proofs.Intervals.{span_intervals}
-use Rattle.fd_language.specs.Term.{Term, Var, Int, Atom, Comp, no_terms, term}
+use Rattle.fd_language.specs.Term.{Int, Atom, Comp, term}
 use Rattle.fd_language.proofs.Lemmas.{two}
-use Rattle.fd_model.specs.Builtins.{Finding, equated, faulted, Numbers, one, those, numbers_of, set_numbers, equals_number, two_terms, interval_term, interval_terms, interval_list}
-use Rattle.fd_model.specs.declared.kinds.BuiltinKind.TheVariants.{FdDom}
-use Rattle.fd_model.specs.declared.kinds.QueryFault.{QueryFault}
+use Rattle.fd_model.specs.Builtins.{those, two_terms, interval_terms}
 use Rattle.fd_model.specs.Lines.{Interval, intervals}
-use Rattle.term_pool.specs.Contents.{Contents}
-use Rattle.term_pool.specs.Valid.{IsPool}
 use Rattle.term_pool.specs.declared.TheConstants.{NIL, CONS, SPAN}
 use Rattle.heap_cells.specs.declared.Cell.{Cell}
 use Rattle.heap_cells.specs.declared.Cell.TheVariants as cell
-use Rattle.heap_cells.specs.Cells.{Cells, slot_at, IsOf}
-use Rattle.heap_cells.specs.Terms.{Naming, term_of, terms_by}
-use Rattle.heap_cells.specs.Valid.{IsHeap}
+use Rattle.heap_cells.specs.Cells.{Cells, IsOf}
+use Rattle.heap_cells.specs.Terms.{Naming, term_of}
 use Rattle.heap_cells.proofs.Ranks.{term-Int, term-Atom}
-use Rattle.heap_cells.proofs.Substitutions.{same_apply}
-use Rattle.range_code.specs.Frames.{family_of}
-use Rattle.machine_relation.specs.Held.{value_at, link_at}
-use Rattle.machine_relation.specs.Shown.{cell_set}
-use Rattle.machine_frames.specs.Frames.{link_of, link_in, IsGrown}
+use Rattle.machine_frames.specs.Frames.{IsGrown}
 use Rattle.branch_state.specs.Compounds.{IsMade}
-use Rattle.branch_state.specs.States.{State, IsCell, IsSound, with_heap}
-use Rattle.branch_goals.specs.declared.finding.Found.TheVariants.{Fault, Equal}
-use Rattle.branch_goals.specs.declared.finding.Numbers.{Numbers as Held}
-use Rattle.branch_goals.specs.declared.finding.Numbers.TheVariants.{One, Those}
+use Rattle.branch_state.specs.States.{State, IsSound, with_heap}
 use Rattle.branch_goals.specs.Domains.{AreSpans, AreSpansOf, IsSpanList, IsSpanNaming, span_of, spans_term}
-use Rattle.branch_goals.specs.Findings.{AreNumbersAt, Finds, IsNaming, found_in, numbers_at, seen_at, the_numbers}
-use Rattle.branch_goals.specs.Lists.{shown_at}
 
 -- ---- a heap that has grown
 
@@ -51,24 +36,6 @@ grown_twice a b c g k = record {
   parts = (let x = g.parts in let y = k.parts in omega (arith, x, y));
   terms = λ name d own. k.terms name d (own_grown a b g d own) ∙ g.terms name d own;
 }
-
-module _ (name : Naming) (old now : Cells) (g : IsGrown old now) (sets : List (List ℕ)) (c : Cell) (own : IsOf old c) where
-  abbrev G : Family
-  G = family_of sets
-
-  shown_grown : shown_at name now sets c ≡ shown_at name old sets c
-  shown_grown =
-      same_apply (λ d. value_at (link_in now d) G d) (λ d. value_at (link_in old d) G d) (λ d. ap (λ s. value_at (link_of s) G d) (g.slots d)) (term_of name now c)
-      ∙ ap (Rattle.machine_frames.specs.Reading.read_term old G) (g.terms name c own)
-
-  given_grown : (t : Term) → numbers_of (λ d. cell_set G (link_at (link_in now d) G)) t ≡ numbers_of (λ d. cell_set G (link_at (link_in old d) G)) t
-  given_grown (Var x) = ap (λ s. set_numbers (cell_set G (link_at (link_of s) G))) (g.slots x)
-  given_grown (Int z) = refl
-  given_grown (Atom a) = refl
-  given_grown (Comp f ts) = refl
-
-  pub numbers_grown : numbers_at name now sets c ≡ numbers_at name old sets c
-  numbers_grown = given_grown (shown_at name now sets c) ∙ ap (numbers_of (λ d. cell_set G (link_at (link_in old d) G))) shown_grown
 
 -- ---- lists of spans
 
@@ -115,35 +82,14 @@ listing_more old spans left rest s now list l e mid interval m mid_is mid_sound 
       };
     }
 
-pub listing_end : (old : State) (spans : List (ℤ × ℤ)) (now : State) (c : Cell) → IsListing old spans [] now c → IsSpanList old spans now c
-listing_end old spans now c l = subst (λ ss. IsSpanList old ss now c) (sym l.all) l.list
-
 -- ---- what they are by the definition
 
 spans_list : (name : Naming) → IsSpanNaming name → (is : List Interval) → spans_term name (map span_of is) ≡ interval_terms is
 spans_list name n [] = ap Atom n.0.nil
 spans_list name n (i ∷ is) = two (λ f t. Comp f t) n.0.cons (two two_terms (ap (λ f. Comp f (two_terms (Int (pos i.low)) (Int (pos i.high)))) n.1) (spans_list name n is))
 
-pub one_span : (z : ℤ) (spans : List (ℤ × ℤ)) → spans ≡ (z, z) ∷ [] → AreSpans (one z) spans
-one_span z spans e name n =
-    ap (spans_term name) e ∙ two (λ f t. Comp f t) n.0.cons (two two_terms (ap (λ f. Comp f (two_terms (Int z) (Int z))) n.1) (ap Atom n.0.nil))
-
 pub those_spans : (xs : List ℕ) (spans : List (ℤ × ℤ)) → AreSpansOf xs spans → AreSpans (those xs) spans
 those_spans xs spans e name n = ap (spans_term name) e ∙ spans_list name n (intervals xs)
-
-module _ (name : Naming) (old now : State) (of is : Cell) where
-  pub domain_told : IsSpanNaming name → IsCell old of → IsCell now is → (ns : Numbers) → numbers_at name old.heaps.now old.levels.current.sets of ≡ Ok ns → (spans : List (ℤ × ℤ)) → AreSpans ns spans → (c : Cell) → IsSpanList old spans now c → Finds name now FdDom of is (Equal is c)
-  domain_told n own own_is ns e spans a c l = (
-    own_is,
-    l.own,
-    ap (equals_number interval_list (term_of name now.heaps.now is))
-        (ap (λ (s : State). numbers_at name now.heaps.now s.levels.current.sets of) l.heap
-        ∙ numbers_grown name old.heaps.now now.heaps.now l.grown old.levels.current.sets of own.0 ∙ e)
-        ∙ ap (equated (term_of name now.heaps.now is)) (sym (l.term name ∙ a name n)),
-  )
-
-  pub domain_fault : (f : QueryFault) → numbers_at name old.heaps.now old.levels.current.sets of ≡ Err f → Finds name old FdDom of is (Fault f)
-  domain_fault f e = ap (equals_number interval_list (term_of name old.heaps.now is)) e
 
 -- ---- the spans of a domain
 
@@ -157,20 +103,3 @@ spans_are xs spans s e =
     each : (ss : List (ℕ × ℕ)) → map whole_numbers ss ≡ map span_of (map (λ s. record { low = s.0; high = s.1 }) ss)
     each [] = refl
     each (s ∷ ss) = ap (λ r. (pos s.0, pos s.1) ∷ r) (each ss)
-
-pub domain_by : (s : State) (hs : Rattle.heap_cells.specs.Cells.Heaps) (ls : Rattle.fd_model.specs.Levels.Levels) → hs ≡ s.heaps → ls ≡ s.levels → (c : Cell) (r : Result Held QueryFault) → ((name : Naming) → AreNumbersAt name hs.now ls.current.sets c r)
-    → (x : Result Held QueryFault) → r ≡ x → (name : Naming) → AreNumbersAt name s.heaps.now s.levels.current.sets c x
-domain_by s hs ls e f c r t x i name =
-    subst (AreNumbersAt name s.heaps.now s.levels.current.sets c) i
-    (subst (λ (l : Rattle.fd_model.specs.Levels.Levels). AreNumbersAt name s.heaps.now l.current.sets c r) f (subst (λ (h : Rattle.heap_cells.specs.Cells.Heaps). AreNumbersAt name h.now ls.current.sets c r) e (t name)))
-
--- the names of a pool are also those of lists
-pub span_naming : (c : Contents) → IsPool c → (name : Naming) → IsNaming c.names name → IsSpanNaming name
-span_naming c p name n = (
-  record {
-    nil = n.0 NIL (let l = p.three in omega (arith, l)) ∙ p.nil;
-    cons = n.0 CONS (let l = p.three in omega (arith, l)) ∙ p.cons;
-    apart = n.1;
-  },
-  n.0 SPAN (let l = p.three in omega (arith, l)) ∙ p.span,
-)

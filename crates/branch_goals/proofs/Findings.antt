@@ -1,5 +1,5 @@
 -- What built-in goals come to.
-use Rattle.std.proofs.Common.{◌≡◌, ℕ, ◌<◌, Bool, true, false, ◌&&◌, ◌||◌, eq-eqb, eqb-true, not, ℤ, pos, List, [], ◌∷◌, length, Option, Some, None, Ok, Err, inl, inr, refl, ap, sym, ◌∙◌, subst}
+use Rattle.std.proofs.Common.{◌≡◌, ℕ, ◌<◌, Bool, true, false, ◌&&◌, ◌||◌, eq-eqb, eqb-true, ℤ, pos, List, [], ◌∷◌, length, Option, Some, None, Ok, Err, inl, inr, refl, ap, sym, ◌∙◌, subst}
 use Rattle.std.specs.Prelude.{MatchOption}
 use Rattle.std.specs.Option.{unwrap_or}
 use Rattle.std.specs.Str.{bytes_eq}
@@ -11,7 +11,7 @@ use Rattle.fd_language.specs.Range.{greatest as greatest_of}
 use Rattle.fd_language.specs.Term.{Term, Terms, Var, Int, Atom, Comp, no_terms, term}
 use Rattle.fd_language.proofs.Lemmas.{two}
 use Rattle.fd_model.specs.Arithmetic.{Value, value_of}
-use Rattle.fd_model.specs.Builtins.{Finding, faulted, decided, equated, evaluated, by_value, compared, found, is_same, are_same, is_open, is_integer, is_atom, is_atomic, is_compound, Numbers, one, those, numbers_of, equals_number, equals_value, greatest, last_of}
+use Rattle.fd_model.specs.Builtins.{decided, equated, evaluated, by_value, compared, found, is_same, are_same, is_integer, is_atom, is_atomic, those, numbers_of, equals_number, equals_value, greatest, last_of}
 use Rattle.fd_model.specs.Levels.{Levels}
 use Rattle.fd_model.specs.declared.kinds.BuiltinKind.{BuiltinKind}
 use Rattle.fd_model.specs.declared.kinds.BuiltinKind.TheVariants as kind
@@ -24,7 +24,6 @@ use Rattle.heap_cells.specs.Terms.{Naming, IsOneToOne, Same, term_of}
 use Rattle.heap_cells.specs.Valid.{IsHeap}
 use Rattle.heap_cells.proofs.Ranks.{term-Int}
 use Rattle.heap_cells.proofs.Substitutions.{same_apply}
-use Rattle.heap_terms.specs.Values.{only}
 use Rattle.range_code.specs.Frames.{family_of}
 use Rattle.builtin_calls.specs.Outcomes.{IsFault}
 use Rattle.builtin_calls.specs.declared.evaluation.EvalFault.{EvalFault}
@@ -84,12 +83,6 @@ fault_told name s c e f i g =
     ap (λ t. by_value (value_of t)) (sym (same_term name s.heaps.now s.levels.current.sets c))
     ∙ fault_value e (value_of (calls.seen_term name s.heaps.now s.levels.current.sets c)) f i g
 
-pub left_fault : (name : Naming) (s : State) (a b : Cell) (f : QueryFault) → IsValueAt name s a (Err f) → AreValuesAt name s a b (Err f)
-left_fault name s a b f e holds = ap (λ r. compared holds r (evaluated (seen_at name s b))) e
-
-pub right_fault : (name : Naming) (s : State) (a b : Cell) (z : ℤ) (f : QueryFault) → IsValueAt name s a (Ok z) → IsValueAt name s b (Err f) → AreValuesAt name s a b (Err f)
-right_fault name s a b z f e g holds = two (compared holds) e g
-
 found_compared : (k : BuiltinKind) → IsComparison k → (sets : ℕ → Option (List ℕ)) (a b u v : Term) → found k sets a b u v ≡ compared (holds_by k) (evaluated u) (evaluated v)
 found_compared kind.True i sets a b u v = absurd i
 found_compared kind.Fail i sets a b u v = absurd i
@@ -134,16 +127,6 @@ module _ (name : Naming) (s : State) (k : BuiltinKind) (a b : Cell) where
   compare_told i z w e r h = found_compared k i sets A B (seen_at name s a) (seen_at name s b) ∙ two (compared (holds_by k)) e.0 e.1 ∙ ap decided (sym h)
 
 -- ---- numbers
-
-pub one_number : (xs : List ℕ) (w : ℕ) → only xs ≡ Some w → one (pos w) ≡ numbers_in_set xs
-one_number [] w e = absurd (cc)
-one_number (v ∷ []) w e = let f : v ≡ w = cc in ap (λ n. one (pos n)) (sym f)
-one_number (x ∷ y ∷ ys) w e = absurd (cc)
-
-pub those_numbers : (xs : List ℕ) → only xs ≡ None → those xs ≡ numbers_in_set xs
-those_numbers [] e = refl
-those_numbers (v ∷ []) e = absurd (cc)
-those_numbers (x ∷ y ∷ ys) e = refl
 
 module _ (name : Naming) (h : Cells) (valid : IsHeap h) (all : List (List ℕ)) (c : Cell) where
   abbrev G : Family
@@ -200,10 +183,6 @@ asked kind.Nl i sets a b u v = absurd i
 asked kind.FdDom i sets a b u v = absurd i
 
 module _ (name : Naming) (s : State) (valid : IsHeap s.heaps.now) (k : BuiltinKind) (i : IsQuestion k) (of is : Cell) where
-  pub asked_fault : (f : QueryFault) → AreNumbersAt name s.heaps.now s.levels.current.sets of (Err f) → Finds name s k of is (Fault f)
-  asked_fault f e =
-      asked k i (sets name s k of is) (A name s k of is) (B name s k of is) (seen_at name s of) (seen_at name s is)
-      ∙ ap (equals_number (λ ns. Int (told_by k ns)) (B name s k of is)) e
 
   pub asked_told : IsCell s is → (n : Held) (z : ℤ) → AreNumbersAt name s.heaps.now s.levels.current.sets of (Ok n) → z ≡ told_by k (the_numbers n) → Finds name s k of is (Equal is (cell.Int z))
   asked_told own n z e h = (
@@ -274,19 +253,11 @@ atomic_is (Comp f ts) = refl
 -- ---- the other goals
 
 module _ (name : Naming) (s : State) (k : BuiltinKind) (a b : Cell) where
-  pub is_fault : kind.Is ≡ k → (f : QueryFault) → IsValueAt name s b (Err f) → Finds name s k a b (Fault f)
-  is_fault e f v = subst (λ j. Finds name s j a b (Fault f)) e (ap (equals_value (term_of name s.heaps.now a)) v)
 
   pub is_told : IsHeap s.heaps.now → IsCell s a → kind.Is ≡ k → (z : ℤ) → IsValueAt name s b (Ok z) → Finds name s k a b (Equal a (cell.Int z))
   is_told valid own e z v =
       subst (λ j. Finds name s j a b (Equal a (cell.Int z))) e
       (own, (tt, tt), ap (equals_value (term_of name s.heaps.now a)) v ∙ ap (equated (term_of name s.heaps.now a)) (sym (term-Int name s.heaps.now valid z)))
-
-  pub same_told : kind.Same ≡ k → (r : Bool) → r ≡ is_same (seen_at name s a) (seen_at name s b) → Finds name s k a b (Decided r)
-  same_told e r t = subst (λ j. Finds name s j a b (Decided r)) e (ap decided (sym t))
-
-  pub not_same_told : kind.NotSame ≡ k → (r : Bool) → r ≡ is_same (seen_at name s a) (seen_at name s b) → Finds name s k a b (Decided (not r))
-  not_same_told e r t = subst (λ j. Finds name s j a b (Decided (not r))) e (ap (λ x. decided (not x)) (sym t))
 
 -- the greatest of a rising list is its last
 pub last_is : (n : ℕ) (ns : List ℕ) → last_of n ns ≡ greatest_of (n ∷ ns)

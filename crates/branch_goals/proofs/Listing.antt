@@ -6,7 +6,7 @@ use Rattle.std.proofs.lemmas.Option.{unwrap_or-slice_get}
 use Rattle.std.proofs.lemmas.Slice.Eq.{bytes_eq-Decides}
 use Rattle.fd_language.specs.Family.{Family}
 use Rattle.fd_language.specs.Range.{is_none_left}
-use Rattle.fd_language.specs.Term.{Term, Terms, Var, Int, Atom, Comp, no_terms, term}
+use Rattle.fd_language.specs.Term.{Term, Var, Int, Atom, Comp, no_terms, term}
 use Rattle.fd_model.specs.declared.kinds.QueryFault.{QueryFault}
 use Rattle.fd_model.specs.declared.kinds.QueryFault.TheVariants.{Instantiation, BadType}
 use Rattle.fd_model.specs.Labelling.{read_list}
@@ -67,16 +67,6 @@ is_list_naming = record {
 
 -- ---- one node
 
-pub one_value_node : (xs : List ℕ) (w : ℕ) → only xs ≡ Some w → (i : ℕ) → read_list (value_in xs i) ≡ Err BadType
-one_value_node [] w e i = absurd (cc)
-one_value_node (v ∷ []) w e i = refl
-one_value_node (x ∷ y ∷ ys) w e i = absurd (cc)
-
-pub open_node : (xs : List ℕ) → only xs ≡ None → (i : ℕ) → read_list (value_in xs i) ≡ Err Instantiation
-open_node [] e i = refl
-open_node (v ∷ []) e i = absurd (cc)
-open_node (x ∷ y ∷ ys) e i = refl
-
 -- two atoms with different ids have different names
 named_apart : (name : Naming) (n : IsListNaming name) (a b : AtomId) → (a ≡ b → ⊥) → (t : List ℕ) → name b ≡ t → bytes_eq (name a) t ≡ false
 named_apart name n a b apart t e = elim (cases_Bool (bytes_eq (name a) t)) [
@@ -86,9 +76,6 @@ named_apart name n a b apart t e = elim (cases_Bool (bytes_eq (name a) t)) [
 
 named_same : (name : Naming) (b : AtomId) (t : List ℕ) → name b ≡ t → bytes_eq (name b) t ≡ true
 named_same name b t e = (bytes_eq-Decides (name b) t).1 e
-
-pub other_atom : (a : AtomId) → (a ≡ NIL → ⊥) → (name : Naming) → IsListNaming name → read_list (Atom (name a)) ≡ Err BadType
-other_atom a apart name n = ap (λ b. cond b (Ok []) (Err BadType)) (named_apart name n a NIL apart (codes "[]") n.nil)
 
 -- a compound term that is no node
 pub other_name : (f : AtomId) (args : List Cell) → (f ≡ CONS → ⊥) → (name : Naming) → IsListNaming name → (by : Cell → Term) → read_list (Comp (name f) (terms_by by args)) ≡ Err BadType
@@ -102,12 +89,6 @@ other_count f [] apart name n by = refl
 other_count f (a ∷ []) apart name n by = refl
 other_count f (a ∷ b ∷ []) apart name n by = absurd (apart refl)
 other_count f (a ∷ b ∷ c ∷ cs) apart name n by = refl
-
-pub pair_args : (args : List Cell) (d : Cell) → length args ≡ 2 → args ≡ get_or args 0 d ∷ get_or args 1 d ∷ []
-pair_args [] d e = absurd (cc)
-pair_args (a ∷ []) d e = absurd (cc)
-pair_args (a ∷ b ∷ []) d e = refl
-pair_args (a ∷ b ∷ c ∷ cs) d e = absurd (cc)
 
 -- the list of a node
 pub read_pair : (name : Naming) → IsListNaming name → (t u : Term) → read_list (Comp (name CONS) (term t (term u no_terms))) ≡ of_both prepend (as_member t) (read_list u)

@@ -1,6 +1,6 @@
 //! Domains as lists of intervals.
 
-ghost use Rattle.std.specs.Prelude.{◌≡◌, ◌<◌, length, IfOk, OnOk};
+ghost use Rattle.std.specs.Prelude.{◌≡◌, ◌<◌, IfOk, OnOk};
 ghost use Rattle.fd_model.specs.declared.kinds.BuiltinKind.TheVariants.{FdDom};
 ghost use Rattle.heap_cells.specs.Terms.{Naming};
 ghost use Rattle.machine_frames.specs.Frames.{IsGrown};

@@ -9,7 +9,6 @@ ghost use Rattle.fd_model.specs.Builtins.{is_same};
 ghost use Rattle.fd_model.specs.declared.kinds.BuiltinKind.TheVariants.{FdDom};
 ghost use Rattle.branch_state.specs.Naming.{LinksBelow};
 ghost use Rattle.branch_state.specs.States.{IsSound, IsCell};
-ghost use Rattle.branch_goals.specs.Lists.{IsListNaming};
 ghost use Rattle.branch_goals.specs.Findings.{AreNumbersAt, AreValuesAt, Finds, IsComparison, IsNaming, IsQuestion, IsValueAt, fault_is, holds_by, numbers_in_set, passes_by, seen_at, the_numbers, told_by};
 
 use branch_state::BranchState;

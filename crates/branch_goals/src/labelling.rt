@@ -1,6 +1,6 @@
 //! What a labelling takes.
 
-ghost use Rattle.std.specs.Prelude.{◌≡◌, ◌<◌, length, IfOk};
+ghost use Rattle.std.specs.Prelude.{◌≡◌, ◌<◌, IfOk};
 ghost use Rattle.heap_cells.specs.Cells.{IsOf};
 ghost use Rattle.heap_cells.specs.Terms.{Naming};
 ghost use Rattle.branch_state.specs.States.{IsSound, IsCell};

@@ -1,10 +1,8 @@
 //! Lists of a heap, as the sets of a store show them.
 
-ghost use Rattle.std.specs.Prelude.{◌≡◌, ◌<◌, length, pos, false, IfOk};
-ghost use Rattle.fd_language.specs.Range.{is_none_left};
+ghost use Rattle.std.specs.Prelude.{◌≡◌, ◌<◌, length, IfOk};
 ghost use Rattle.heap_cells.specs.Cells.{IsOf};
 ghost use Rattle.heap_cells.specs.Terms.{Naming};
-ghost use Rattle.range_code.specs.Frames.{family_of};
 ghost use Rattle.branch_state.specs.Naming.{LinksBelow};
 ghost use Rattle.branch_goals.specs.Lists.{IsListNaming, IsNode, IsVariableNode, IsAtomNode, IsCompoundNode, IsMemberOf, IsListRead, HasNoEmpty};
 

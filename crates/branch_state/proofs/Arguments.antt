@@ -13,9 +13,6 @@ use Rattle.fd_language.specs.Check.{fill, fill_range}
 use Rattle.fd_language.specs.Term.{Substitution}
 use Rattle.fd_language.specs.Needs.{meets, need_of}
 use Rattle.fd_language.specs.Places.{Place, expr_places, range_places}
-use Rattle.fd_model.specs.Sound.{RangeBelow}
-use Rattle.std.specs.Prelude.{All}
-use Rattle.std.proofs.lemmas.List.Elements.{All-nil, All-cons}
 use Rattle.fd_language.proofs.Lemmas.{each_before, each_after, two}
 use Rattle.range_code.specs.declared.frame.Arg.{Arg}
 use Rattle.range_code.specs.Slots.{slots_of, slot_of, slot_needs, need_at}
@@ -24,7 +21,7 @@ use Rattle.range_code.proofs.Once.{has_once}
 use Rattle.fd_model.specs.Posting.{or_later}
 use Rattle.fd_model.specs.Posting as seen
 use Rattle.branch_state.specs.CellNaming.{slots_open}
-use Rattle.branch_state.specs.Naming.{offence, first_in, named_behind, StandsIn, AllStand}
+use Rattle.branch_state.specs.Naming.{offence, first_in, StandsIn, AllStand}
 use Rattle.branch_state.proofs.Places.{AreSettled, variables}
 
 none_both : (a b : Option QueryFault) → or_later a b ≡ None → (a ≡ None) × (b ≡ None)
@@ -137,39 +134,3 @@ are_args count s of (y ∷ ys) (Some need ∷ ns) (a ∷ as') h e l =
     meets_it : (need : Need) (z : ℤ) (b : Bool) → meets need z ≡ b → cond b None (Some Parameter) ≡ None → IsTrue (meets need z)
     meets_it need z true e h = e
     meets_it need z false e h = absurd (cc)
-
--- each of these is named
-pub open_named : (x : ℕ) (ys : List ℕ) (ns : List (Option Need)) (y : ℕ) → has (slots_open ys ns) y ≡ true → has (x ∷ named_behind x ys ns) y ≡ true
-open_named x [] ns y h = absurd (true≢false (sym h))
-open_named x (z ∷ ys) [] y h = absurd (true≢false (sym h))
-open_named x (z ∷ ys) (Some n ∷ ns) y h = open_named x ys ns y h
-open_named x (z ∷ ys) (None ∷ ns) y h = elim (or_cases (z == y) (has (slots_open ys ns) y) h) [
-  | inl e ↦ here (z == x) refl (eqb-true z y e)
-  | inr e ↦ later (z == x) (x == y) (open_named x ys ns y e)
-] where
-  here : (b : Bool) → (z == x) ≡ b → z ≡ y → has (x ∷ cond b (named_behind x ys ns) (z ∷ named_behind x ys ns)) y ≡ true
-  here true e f = or_left (x == y) (has (named_behind x ys ns) y) (eq-eqb x y (sym (eqb-true z x e) ∙ f))
-  here false e f = or_right (x == y) (has (z ∷ named_behind x ys ns) y) (or_left (z == y) (has (named_behind x ys ns) y) (eq-eqb z y f))
-
-  later : (b c : Bool) → (c || has (named_behind x ys ns) y) ≡ true → (c || has (cond b (named_behind x ys ns) (z ∷ named_behind x ys ns)) y) ≡ true
-  later true c h = h
-  later false true h = refl
-  later false false h = or_right (z == y) (has (named_behind x ys ns) y) h
-
-places_low : (n : ℕ) (ps : List Place) → Each (λ p. p.variable < n) ps → (y : ℕ) → has (variables ps) y ≡ true → y < n
-places_low n [] h y k = absurd (true≢false (sym k))
-places_low n (p ∷ ps) h y k = elim (or_cases (p.variable == y) (has (variables ps) y) k) [
-  | inl e ↦ subst (λ m. m < n) (eqb-true p.variable y e) h.0
-  | inr e ↦ places_low n ps h.1 y e
-]
-
--- the slots of a range whose variables are among the first n
-pub slot_low : (n : ℕ) (r : Range) → RangeBelow n r → (y : ℕ) → has (slots_of r) y ≡ true → y < n
-slot_low n r h y k = places_low n (range_places r) h y (sym (has_once (variables (range_places r)) y) ∙ k)
-
-all_members : (P : ℕ → Type 0) (xs : List ℕ) → ((y : ℕ) → has xs y ≡ true → P y) → All P xs
-all_members P [] h = All-nil P
-all_members P (x ∷ xs) h = All-cons P x xs (h x (or_left (x == x) (has xs x) (eq-eqb x x refl))) (all_members P xs (λ y k. h y (or_right (x == y) (has xs y) k)))
-
-pub slots_low : (n : ℕ) (r : Range) → RangeBelow n r → All (λ y. y < n) (slots_of r)
-slots_low n r h = all_members (λ y. y < n) (slots_of r) (slot_low n r h)

@@ -6,17 +6,16 @@ use Rattle.fd_language.specs.Family.{has}
 use Rattle.fd_language.specs.Range.{Range, Indexical}
 use Rattle.fd_language.proofs.Lemmas.{in_left, only_member}
 use Rattle.heap_cells.specs.declared.Cell.TheVariants as cell
-use Rattle.heap_cells.specs.declared.Seen.{Seen}
 use Rattle.heap_cells.specs.declared.Seen.TheVariants as seen
-use Rattle.heap_cells.specs.Cells.{Cells, Heaps, Slot, free, linked, bound, is_bound, slot_at, with_slot, with_new_slot, with_now}
-use Rattle.heap_cells.specs.Seen.{IsSeen, IsTop, IsRoot}
+use Rattle.heap_cells.specs.Cells.{Cells, Heaps, Slot, free, linked, bound, is_bound, slot_at, with_slot, with_now}
+use Rattle.heap_cells.specs.Seen.{IsRoot}
 use Rattle.constraint_expand.specs.Posts.{indexicals}
 use Rattle.range_code.specs.Slots.{slots_of}
 use Rattle.unify_core.specs.declared.Touch.{Touch}
 use Rattle.unify_core.specs.declared.Touch.TheVariants.{Value}
 use Rattle.machine_frames.specs.Frames.{link_of, link_in}
 use Rattle.machine_frames.proofs.Linking.{slot_behind}
-use Rattle.branch_state.specs.Constraints.{variables_in, firsts, store_variable, row_touches, with_variables, with_integers, AreFrom, AreOpen, AreLinked}
+use Rattle.branch_state.specs.Constraints.{variables_in, firsts, store_variable, row_touches, with_integers, AreFrom, AreOpen, AreLinked}
 use Rattle.branch_state.specs.Naming.{or_zero}
 use Rattle.branch_state.proofs.ConstrainingHeaps.{bound_size, bound_else}
 
@@ -57,10 +56,6 @@ integers_both (e ∷ ds) d h = integers_both ds d (with_slot h e.0 (bound (cell.
 pub integers_step : (ds : List (ℕ × ℤ)) (i : ℕ) (d : ℕ × ℤ) → i < length ds → (h : Cells) → with_slot (with_integers (take i ds) h) (get_or ds i d).0 (bound (cell.Int (get_or ds i d).1)) ≡ with_integers (take (i + 1) ds) h
 integers_step ds i d l h = sym (ap (λ l. with_integers l h) (take_more ds i d l) ∙ integers_both (take i ds) (get_or ds i d) h)
 
--- a new variable
-pub added_step : (from next : ℕ) (h : Cells) → from ≤ next → with_new_slot (with_variables (next - from) h) ≡ with_variables (next + 1 - from) h
-added_step from next h l = ap (λ n. with_variables n h) (let e : suc (next - from) ≡ next + 1 - from = omega (arith, l) in e)
-
 -- ---- linked variables
 
 pub linked_slot : (h : Cells) (x k : ℕ) → link_in h x ≡ Some k → slot_at h x ≡ linked k
@@ -87,18 +82,6 @@ pub seen_linked : (h : Cells) (x : ℕ) → AreLinked h (x ∷ []) → (i k : �
 seen_linked h x a i k s top =
     let l = a x (or_left (x == x) false (eq-eqb x x refl)) in
     sym (ap or_zero (ap (link_in h) (same_ref x i (top (linked_root h x l.0 l.1))) ∙ ap link_of s))
-
-pub seen_never : (h : Cells) (x : ℕ) → AreLinked h (x ∷ []) → (v : Seen) → IsSeen h (cell.Ref x) v → (IsRoot h (cell.Ref x) → IsTop h (cell.Ref x) v) → ((i k : ℕ) → v ≡ seen.Constrained i k → ⊥) → ⊥
-seen_never h x a v s top other = by_seen v s (top (linked_root h x l.0 l.1)) other where
-  l : (k : ℕ) × (link_in h x ≡ Some k)
-  l = a x (or_left (x == x) false (eq-eqb x x refl))
-
-  by_seen : (v : Seen) → IsSeen h (cell.Ref x) v → IsTop h (cell.Ref x) v → ((i k : ℕ) → v ≡ seen.Constrained i k → ⊥) → ⊥
-  by_seen (seen.Open i) s t other = let f : free ≡ linked l.0 = sym s.1 ∙ ap (slot_at h) (sym (same_ref x i t)) ∙ linked_slot h x l.0 l.1 in (cc)
-  by_seen (seen.Constrained i k) s t other = other i k refl
-  by_seen (seen.Int z) s t other = (cc)
-  by_seen (seen.Atom b) s t other = (cc)
-  by_seen (seen.Struct f args) s t other = let e : cell.Ref x ≡ cell.Struct t.0 = t.1 in (cc)
 
 -- variables of a list that are linked
 pub one_linked : (h : Cells) (xs : List ℕ) (x : ℕ) → has xs x ≡ true → AreLinked h xs → AreLinked h (x ∷ [])

@@ -1,7 +1,6 @@
 pub mod Spelling
 pub mod Settled
 pub mod Sound
-pub mod Building
 mod Compounds
 mod Constraining
 mod ConstrainingRows
@@ -12,7 +11,6 @@ mod Listed
 mod ConstrainingPosts
 mod ConstrainingStates
 pub mod Touches
-pub mod Premises
 mod Lists
 mod Places
 mod Gathering
@@ -20,7 +18,6 @@ mod Arguments
 mod Looking
 mod Named
 mod Preparing
-mod Rows
 mod Ranged
 mod TermNaming
 mod CellsReady

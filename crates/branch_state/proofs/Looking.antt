@@ -1,10 +1,9 @@
 -- What a variable of a clause looks as, by its cell.
-use Rattle.std.proofs.Common.{◌≡◌, ℕ, zero, suc, ◌<◌, ◌==◌, Bool, true, false, cond, ℤ, pos, List, [], ◌∷◌, length, take, get_or, Option, Some, None, is_some, refl, ap, sym, ◌∙◌, subst, arith, eq-eqb, ne_eqb}
+use Rattle.std.proofs.Common.{◌≡◌, ℕ, zero, suc, ◌<◌, ◌==◌, true, false, ℤ, pos, List, [], ◌∷◌, length, take, get_or, Option, Some, None, is_some, refl, ap, sym, ◌∙◌, subst, arith}
 use Rattle.std.proofs.lemmas.Bool.{true≢false}
 use Rattle.fd_language.specs.declared.range_node.Need.{Need}
 use Rattle.fd_language.specs.Family.{Family}
 use Rattle.fd_language.specs.Term.{Term, Var, Int, Atom, Comp, Substitution, apply}
-use Rattle.fd_language.specs.Variables.{TermBelow}
 use Rattle.fd_model.specs.declared.kinds.QueryFault.{QueryFault}
 use Rattle.fd_model.specs.Posting.{or_later}
 use Rattle.heap_cells.specs.declared.Cell.{Cell}
@@ -17,16 +16,6 @@ use Rattle.heap_cells.specs.Terms.{Naming, term_of, Same, terms_by}
 use Rattle.heap_cells.specs.Valid.{IsHeap}
 use Rattle.heap_cells.proofs.Ranks.{unbound_term, term-Int, term-Atom, term-Struct}
 use Rattle.term_pool.specs.declared.AtomId.{AtomId}
-use Rattle.term_pool.specs.declared.TermId.{TermId}
-use Rattle.term_pool.specs.declared.Node.{Node}
-use Rattle.term_pool.specs.declared.Node.TheVariants as node
-use Rattle.term_pool.specs.Contents.{Contents}
-use Rattle.term_pool.specs.Terms as pool
-use Rattle.term_pool.specs.Valid.{shape_of}
-use Rattle.range_code.specs.declared.frame.Arg.{Arg}
-use Rattle.range_code.specs.declared.frame.Arg.TheVariants as arg
-use Rattle.range_code.specs.Frames.{family_of}
-use Rattle.unify_core.specs.declared.Touch.{Touch}
 use Rattle.unify_core.specs.Touches.{IsSymbolic}
 use Rattle.machine_relation.specs.Held.{value_in, value_at}
 use Rattle.machine_frames.specs.Environments.{cell_at, cell_look}
@@ -35,7 +24,7 @@ use Rattle.machine_frames.specs.Reading.{seen_env}
 use Rattle.heap_terms.specs.Values.{only}
 use Rattle.branch_state.specs.declared.look.Look.{Look}
 use Rattle.branch_state.specs.declared.look.Look.TheVariants as look
-use Rattle.branch_state.specs.Naming.{LooksAs, IsKind, IsSight, offence, first_in, target_variable, target_seen, CanName, NameStep, ArgStep, IsInteger}
+use Rattle.branch_state.specs.Naming.{LooksAs, IsKind, offence, first_in, CanName, IsInteger}
 
 -- ---- the only value of a domain
 
@@ -87,30 +76,10 @@ module _ (name : Naming) (h : Cells) (valid : IsHeap h) (env : List (Option Cell
 
 -- ---- a target
 
-put_here : (n : ℕ) (t u : Term) → cond (n == n) t u ≡ t
-put_here n t u = ap (λ b. cond b t u) (eq-eqb n n refl)
-
-put_else : (n y : ℕ) (t u : Term) → y < n → cond (y == n) t u ≡ u
-put_else n y t u l = ap (λ b. cond b t u) (ne_eqb y n (λ e. omega (arith, e, l)))
-
 module _ (h : Cells) (sets : List (List ℕ)) (env : List (Option Cell)) (name : Naming) where
-  abbrev sights : Substitution
-  sights = seen_env name h env (family_of sets)
 
   abbrev n : ℕ
   n = length env
-
-  pub sight_var : (t : Term) (x : ℕ) (l : Look) → TermBelow n t → t ≡ Var x → LooksAs h (sights x) l → IsSight h sets env x l (target_seen n t sights)
-  sight_var t x l b e k = subst (λ u. IsSight h sets env x l (target_seen n u sights)) (sym e) (record { name = name; seen = λ y i. refl; target = k; low = λ i f. subst (TermBelow n) e b })
-
-  pub sight_int : (t : Term) (z : ℤ) → t ≡ Int z → IsSight h sets env n (look.Number z) (target_seen n t sights)
-  sight_int t z e = subst (λ u. IsSight h sets env n (look.Number z) (target_seen n u sights)) (sym e) (record { name = name; seen = λ y i. put_else n y (Int z) (sights y) i; target = put_here n (Int z) (sights n); low = λ i f. absurd (let g = sym (put_here n (Int z) (sights n)) ∙ f in cc) })
-
-  pub sight_symbol : (t : Term) → ((x : ℕ) → t ≡ Var x → ⊥) → ((z : ℤ) → t ≡ Int z → ⊥) → IsSight h sets env n look.Symbol (target_seen n t sights)
-  sight_symbol (Var x) v i = absurd (v x refl)
-  sight_symbol (Int z) v i = absurd (i z refl)
-  sight_symbol (Atom a) v i = record { name = name; seen = λ y l. put_else n y (Atom a) (sights y) l; target = subst (λ t. LooksAs h t look.Symbol) (sym (put_here n (Atom a) (sights n))) tt; low = λ i f. absurd (let g = sym (put_here n (Atom a) (sights n)) ∙ f in cc) }
-  sight_symbol (Comp f ts) v i = record { name = name; seen = λ y l. put_else n y (Comp f ts) (sights y) l; target = subst (λ t. LooksAs h t look.Symbol) (sym (put_here n (Comp f ts) (sights n))) tt; low = λ i e. absurd (let g = sym (put_here n (Comp f ts) (sights n)) ∙ e in cc) }
 
 pub look_kind : (h : Cells) (t : Term) (l : Look) → LooksAs h t l → IsKind t l
 look_kind h t (look.Open i) k = k.0
@@ -138,24 +107,6 @@ first_there s (y ∷ ys) (n ∷ ns) (suc i) d e o l k h f t = by_fault (offence 
   by_fault : (z : Option QueryFault) → or_later z (first_in s (take i ys) (take i ns)) ≡ None → (first_in s (take i ys) (take i ns) ≡ None → first_in s ys ns ≡ o) → or_later z (first_in s ys ns) ≡ o
   by_fault (Some q) h k = absurd (cc)
   by_fault None h k = k h
-
--- a target without variable or integer
-pub symbol_shape : (p : Contents) (t : TermId) (y : Node) → pool.term_of p t ≡ pool.shape_term p (shape_of y) → ((x : ℕ) → y ≡ node.Var x → ⊥) → ((z : ℤ) → y ≡ node.Int z → ⊥) → ((x : ℕ) → pool.term_of p t ≡ Var x → ⊥) × ((z : ℤ) → pool.term_of p t ≡ Int z → ⊥)
-symbol_shape p t (node.Var x) e v i = absurd (v x refl)
-symbol_shape p t (node.Int z) e v i = absurd (i z refl)
-symbol_shape p t (node.Atom a) e v i = (λ x f. (let g = sym e ∙ f in cc), λ z f. (let g = sym e ∙ f in cc))
-symbol_shape p t (node.Comp f us) e v i = (λ x f. (let g = sym e ∙ f in cc), λ z f. (let g = sym e ∙ f in cc))
-
--- its variable
-pub variable_symbol : (n : ℕ) (t : Term) → ((x : ℕ) → t ≡ Var x → ⊥) → target_variable n t ≡ n
-variable_symbol n (Var x) v = absurd (v x refl)
-variable_symbol n (Int z) v = refl
-variable_symbol n (Atom a) v = refl
-variable_symbol n (Comp f ts) v = refl
-
--- the offence of a slot, by what it looks as
-pub slot_offence : (h : Cells) (sets : List (List ℕ)) (env : List (Option Cell)) (x : ℕ) (l : Look) (s : Substitution) → IsSight h sets env x l s → (y : ℕ) → y < length env → (k : Look) → ((name : Naming) → LooksAs h (seen_env name h env (family_of sets) y) k) → (need : Option Need) (o : Option QueryFault) → ((t : Term) → IsKind t k → o ≡ offence need t) → o ≡ offence need (s y)
-slot_offence h sets env x l s sight y low k looks need o is = is (s y) (look_kind h (s y) k (subst (λ t. LooksAs h t k) (sym (sight.seen y low)) (looks sight.name)))
 
 pub some_offence : (o : Option QueryFault) → is_some o ≡ true → o ≡ None → ⊥
 some_offence None h e = true≢false (sym h)
@@ -191,13 +142,3 @@ number_is h t (look.Open j) w z k i e = absurd (let f = sym k.0 ∙ e in cc)
 number_is h t (look.Linked j) w z k i e = absurd (let f = sym k.1 ∙ e in cc)
 number_is h t (look.Number v) w z k i e = i ∙ same_int v z (sym k ∙ e)
 number_is h t look.Symbol w z k i e = absurd (subst IsSymbolic e k)
-
-pub step_number : (t : Term) (need : Option Need) (same : Bool) (h : Cells) (sets : List (List ℕ)) (fixed : List Touch) (v : ℕ) (l : Look) (w : ℤ) (a : Arg) → is_some need ≡ true → LooksAs h t l → IsInteger l w → a ≡ arg.Int w → ArgStep t need same h sets fixed h sets fixed v a
-step_number t None same h sets fixed v l w a e k i is = absurd (true≢false (sym e))
-step_number t (Some n) same h sets fixed v l w a e k i is = (refl, refl, refl, λ z f. is ∙ ap arg.Int (number_is h t l w z k i f))
-
-pub step_named : (t : Term) (need : Option Need) (same : Bool) (h : Cells) (sets : List (List ℕ)) (fixed : List Touch) (now : Cells) (sets' : List (List ℕ)) (fixed' : List Touch) (v : ℕ) (l : Look) (k : ℕ) → is_some need ≡ false → same ≡ false → LooksAs h t l → NameStep l h sets fixed now sets' fixed' k
-    → ArgStep t need same h sets fixed now sets' fixed' v (arg.Var k)
-step_named t (Some n) same h sets fixed now sets' fixed' v l k e f looks st = absurd (true≢false e)
-step_named t None true h sets fixed now sets' fixed' v l k e f looks st = absurd (true≢false f)
-step_named t None false h sets fixed now sets' fixed' v l k e f looks st = (l, k, refl, looks, st)

@@ -5,25 +5,20 @@ use Rattle.std.proofs.lemmas.Bool.Decides.{nat_tests}
 use Rattle.std.proofs.lemmas.List.{get_or_append_left, get_or-append_right, get_or_past}
 use Rattle.fd_language.specs.declared.TheConstants.{INFINITY}
 use Rattle.fd_language.specs.Family.{has, universe}
-use Rattle.fd_language.specs.Term.{Term, Var, Int, Substitution, apply}
+use Rattle.fd_language.specs.Term.{Term, Var, Int, Substitution}
 use Rattle.fd_language.proofs.Lemmas.{has_either, in_left, in_right, in_universe}
 use Rattle.fd_model.specs.Posting.{slot, is_integer, integer_of}
 use Rattle.fd_model.proofs.Lemmas.{slot_out, slot_low, slot_high}
-use Rattle.heap_cells.specs.declared.Cell.{Cell}
 use Rattle.heap_cells.specs.Cells.{Cells, free, linked, slot_at, with_slot}
-use Rattle.heap_cells.specs.Terms.{Naming}
 use Rattle.heap_cells.proofs.Atoms.{linked_below}
 use Rattle.heap_cells.proofs.Binding.{slot_there, slot_elsewhere}
-use Rattle.heap_cells.proofs.Substitutions.{same_apply}
 use Rattle.range_code.specs.Frames.{family_of}
 use Rattle.range_code.proofs.Once.{has_kept}
 use Rattle.unify_core.specs.declared.Touch.{Touch}
 use Rattle.unify_core.specs.declared.Touch.TheVariants.{Value}
 use Rattle.machine_relation.specs.Held.{value_in, value_at}
-use Rattle.machine_frames.specs.Environments.{cell_at, cell_look, OwnEnv}
 use Rattle.machine_frames.specs.Frames.{link_of, link_in}
 use Rattle.machine_frames.specs.Posting.{Listed, IsLinkedMore}
-use Rattle.machine_frames.specs.Reading.{seen_env}
 use Rattle.machine_frames.proofs.Growing.{linked_none, linked_next}
 use Rattle.branch_state.specs.declared.look.Look.{Look}
 use Rattle.branch_state.specs.declared.look.Look.TheVariants.{Open, Linked, Number, Symbol}
@@ -357,13 +352,3 @@ still_valued h sets now S more links listed same d = by_old (link_in h d) refl w
   by_old : (o : Option ℕ) → link_in h d ≡ o → value_at (link_in now d) (family_of S) d ≡ value_at o (family_of sets) d
   by_old None e = by_new (link_in now d) e refl
   by_old (Some k) e = ap (λ o. value_at o (family_of S) d) (links.keep d k e) ∙ ap (λ xs. value_in xs d) (same k)
-
-module _ (s : Substitution) (h : Cells) (sets : List (List ℕ)) (xs : List ℕ) (now : Cells) (S : List (List ℕ)) (ks : List ℕ) (fs : List Touch) (w : IsNaming s h sets xs now S ks fs) where
-  same_value : (d : ℕ) → value_at (link_in now d) (family_of S) d ≡ value_at (link_in h d) (family_of sets) d
-  same_value d = still_valued h sets now S w.more w.links (λ c k i. (w.listed c k i).3) w.same d
-
-  pub same_seen : (name : Naming) (env : List (Option Cell)) → OwnEnv h env → (y : ℕ) → seen_env name now env (family_of S) y ≡ seen_env name h env (family_of sets) y
-  same_seen name env own y = ap (apply (λ d. value_at (link_in now d) (family_of S) d)) (by_cell (cell_at env y) refl) ∙ same_apply (λ d. value_at (link_in now d) (family_of S) d) (λ d. value_at (link_in h d) (family_of sets) d) same_value (cell_look name h y (cell_at env y)) where
-    by_cell : (o : Option Cell) → cell_at env y ≡ o → cell_look name now y o ≡ cell_look name h y o
-    by_cell None e = refl
-    by_cell (Some c) e = w.links.terms name c (own y c e)

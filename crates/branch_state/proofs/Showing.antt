@@ -1,23 +1,19 @@
 -- What is shown of cells.
-use Rattle.std.proofs.Common.{◌≡◌, ℕ, zero, suc, ◌+◌, ◌<◌, ◌≤◌, ◌==◌, nat_eq, nat_lt, Bool, true, false, cond, not, List, [], ◌∷◌, ◌++◌, length, length-append, filter, map, reverse, take, get_or, Option, Some, None, is_some, MatchOption, refl, ap, sym, ◌∙◌, subst, arith, append-nil, append_assoc, inl, inr}
+use Rattle.std.proofs.Common.{◌≡◌, ℕ, zero, suc, ◌+◌, ◌<◌, ◌≤◌, ◌==◌, nat_eq, Bool, true, false, cond, not, List, [], ◌∷◌, ◌++◌, length, length-append, filter, map, reverse, take, get_or, Option, Some, None, MatchOption, refl, ap, sym, ◌∙◌, subst, arith, append-nil, append_assoc}
 use Rattle.std.specs.Prelude.{All}
 use Rattle.std.specs.List.{list_any}
-use Rattle.std.proofs.lemmas.Bool.{cases_Bool, true≢false}
-use Rattle.std.proofs.lemmas.Bool.Decides.{nat_tests}
+use Rattle.std.proofs.lemmas.Bool.{true≢false}
 use Rattle.std.proofs.lemmas.List.{reverse-append}
 use Rattle.std.proofs.lemmas.List.Elements.{All-append}
-use Rattle.fd_language.specs.Family.{Family, has}
+use Rattle.fd_language.specs.Family.{has}
 use Rattle.fd_language.specs.Needs.{once}
 use Rattle.fd_language.specs.Term.{Name, Term, Terms, Var, term, apply}
 use Rattle.fd_language.specs.Variables.{variables_of, variables_of_all, distinct}
 use Rattle.fd_model.specs.Lines.{as_terms}
 use Rattle.heap_cells.specs.declared.Cell.{Cell}
 use Rattle.heap_cells.specs.declared.Cell.TheVariants as cell
-use Rattle.heap_cells.specs.declared.Seen.{Seen}
-use Rattle.heap_cells.specs.declared.Seen.TheVariants as seen
 use Rattle.heap_cells.specs.Atoms.{IsAtomBelow, HasAtomsBelow}
-use Rattle.heap_cells.specs.Cells.{Cells, Slot, free, linked, bound, is_bound, slot_at, IsOf}
-use Rattle.heap_cells.specs.Seen.{IsSeen, IsTop, IsRoot}
+use Rattle.heap_cells.specs.Cells.{Cells, Slot, free, linked, bound, slot_at, IsOf}
 use Rattle.heap_cells.specs.Terms.{term_of}
 use Rattle.heap_cells.specs.Valid.{IsHeap}
 use Rattle.heap_cells.proofs.Elements.{head_of, tail_of, none_at_all, both_of, all_front, last_of, all_reverse}
@@ -32,17 +28,14 @@ use Rattle.term_pool.specs.Terms as pool
 use Rattle.term_pool.specs.Terms.{KeepsTerms, Extends, total_size}
 use Rattle.term_pool.specs.Valid.{shape_of}
 use Rattle.term_pool.proofs.Walks.{rest_is_smaller, parts_are_smaller, total_size-append, total_size-cons, total_size-nil}
-use Rattle.machine_relation.specs.Held as held
-use Rattle.machine_relation.specs.Held.{value_in, value_at, link_at}
-use Rattle.machine_relation.specs.Shown.{cell_set}
+use Rattle.machine_relation.specs.Held.{value_in, value_at}
 use Rattle.range_code.specs.Frames.{family_of}
 use Rattle.range_code.proofs.Once.{once_more, keys_more, has_once, any_has}
 use Rattle.machine_frames.specs.Frames.{link_of, link_in}
 use Rattle.machine_frames.specs.Naming.{full}
 use Rattle.machine_frames.specs.Reading.{read_term}
-use Rattle.machine_frames.proofs.Linking.{slot_behind}
 use Rattle.machine_frames.proofs.Naming.{full_term}
-use Rattle.branch_state.specs.Showing.{terms_read, open_set, with_set, with_sets, variables_at, AreShowable, AreGathered}
+use Rattle.branch_state.specs.Showing.{terms_read, with_set, with_sets, variables_at, AreShowable, AreGathered}
 use Rattle.branch_state.proofs.Lists.{same_test, filter_agree}
 
 -- ---- a cell as it is read
@@ -176,9 +169,6 @@ sets_more set (y ∷ xs) x = by_set (set y) (sets_more set xs x) where
   by_set None e = e
   by_set (Some s) e = ap (λ l. (y, s) ∷ l) e
 
-pub gathered_first : (set : ℕ → Option (List ℕ)) → AreGathered set [] [] []
-gathered_first set = record { keys_are = refl; sets_are = refl }
-
 -- one variable more
 pub gathered_more : (set : ℕ → Option (List ℕ)) (xs keys new : List ℕ) (ps qs : List (ℕ × List ℕ)) (x : ℕ) (b : Bool) → AreGathered set xs keys ps → new ≡ cond (list_any (nat_eq x) keys) keys (keys ++ x ∷ []) → b ≡ not (list_any (nat_eq x) keys)
     → qs ≡ cond b (ps ++ with_set x (set x) []) ps → AreGathered set (xs ++ x ∷ []) new qs
@@ -196,54 +186,6 @@ pub gathered_all : (set : ℕ → Option (List ℕ)) (xs keys : List ℕ) (ps : 
 gathered_all set xs keys ps w = w.sets_are ∙ ap (with_sets set) (sym (distinct_once xs))
 
 -- ---- the set of one variable
-
-several : (G : Family) (k : ℕ) (xs : List ℕ) → only xs ≡ None → cell_set G (held.link_in xs k) ≡ Some (G k)
-several G k [] e = refl
-several G k (w ∷ []) e = absurd (cc)
-several G k (x ∷ y ∷ ys) e = refl
-
-single : (G : Family) (k w : ℕ) (xs : List ℕ) → only xs ≡ Some w → cell_set G (held.link_in xs k) ≡ None
-single G k w [] e = absurd (cc)
-single G k w (v ∷ []) e = refl
-single G k w (x ∷ y ∷ ys) e = absurd (cc)
-
-pub set_several : (h : Cells) (sets : List (List ℕ)) (i k : ℕ) → slot_at h i ≡ linked k → only (family_of sets k) ≡ None → open_set h sets i ≡ Some (family_of sets k)
-set_several h sets i k e o = ap (λ s. cell_set (family_of sets) (link_at (link_of s) (family_of sets))) e ∙ several (family_of sets) k (family_of sets k) o
-
-pub set_single : (h : Cells) (sets : List (List ℕ)) (i k : ℕ) (o : Option ℕ) → slot_at h i ≡ linked k → o ≡ only (family_of sets k) → is_some o ≡ true → open_set h sets i ≡ None
-set_single h sets i k None e o t = absurd (true≢false (sym t))
-set_single h sets i k (Some w) e o t = ap (λ s. cell_set (family_of sets) (link_at (link_of s) (family_of sets))) e ∙ single (family_of sets) k w (family_of sets k) (sym o)
-
-pub only_none : (xs : List ℕ) (o : Option ℕ) → o ≡ only xs → is_some o ≡ false → only xs ≡ None
-only_none xs None e t = sym e
-only_none xs (Some w) e t = absurd (true≢false t)
-
-unlinked : (h : Cells) (sets : List (List ℕ)) (i : ℕ) → ((k : ℕ) → slot_at h i ≡ linked k → ⊥) → open_set h sets i ≡ None
-unlinked h sets i never = by_slot (slot_at h i) never where
-  by_slot : (t : Slot) → ((k : ℕ) → t ≡ linked k → ⊥) → cell_set (family_of sets) (link_at (link_of t) (family_of sets)) ≡ None
-  by_slot free never = refl
-  by_slot (linked k) never = absurd (never k refl)
-  by_slot (bound c) never = refl
-
--- a variable that isn't the heap's
-pub set_past : (h : Cells) (sets : List (List ℕ)) (i : ℕ) → (IsOf h (cell.Ref i) → ⊥) → open_set h sets i ≡ None
-set_past h sets i out = unlinked h sets i (λ k e. elim (cases_Bool (nat_lt i (length h.slots))) [
-  | inl t ↦ out (grind (arith, nat_tests))
-  | inr t ↦ (let l : length h.slots ≤ i = grind (arith, nat_tests) in let f = sym (slot_behind h i l) ∙ e in cc)
-])
-
--- one that is seen as another thing
-pub set_other : (h : Cells) (sets : List (List ℕ)) (i : ℕ) (v : Seen) → IsSeen h (cell.Ref i) v → (IsRoot h (cell.Ref i) → IsTop h (cell.Ref i) v) → ((k : ℕ) → v ≡ seen.Constrained i k → ⊥) → open_set h sets i ≡ None
-set_other h sets i v s top never = unlinked h sets i (λ k e. by_seen v s (top (ap is_bound e)) never k e) where
-  ref_same : (a b : ℕ) → cell.Ref a ≡ cell.Ref b → a ≡ b
-  ref_same a b e = cc
-
-  by_seen : (v : Seen) → IsSeen h (cell.Ref i) v → IsTop h (cell.Ref i) v → ((k : ℕ) → v ≡ seen.Constrained i k → ⊥) → (k : ℕ) → slot_at h i ≡ linked k → ⊥
-  by_seen (seen.Open j) s t never k e = let f = sym s.1 ∙ ap (slot_at h) (sym (ref_same i j t)) ∙ e in cc
-  by_seen (seen.Constrained j m) s t never k e = never m (ap (λ x. seen.Constrained x m) (sym (ref_same i j t)))
-  by_seen (seen.Int z) s t never k e = cc
-  by_seen (seen.Atom a) s t never k e = cc
-  by_seen (seen.Struct f args) s t never k e = let u = t.1 in cc
 
 -- ---- a variable that is added
 

@@ -1,5 +1,5 @@
 -- Branches in order.
-use Rattle.std.proofs.Common.{◌≡◌, ℕ, zero, suc, ◌<◌, true, false, List, [], ◌∷◌, length, Some, None, refl, ap, sym, ◌∙◌, subst, arith, drop}
+use Rattle.std.proofs.Common.{◌≡◌, ℕ, ◌<◌, true, false, List, [], ◌∷◌, length, Some, None, refl, ap, sym, ◌∙◌, subst, arith}
 use Rattle.std.specs.Prelude.{All, Result, Ok, Err, OnOk}
 use Rattle.std.proofs.lemmas.Bool.{true≢false}
 use Rattle.std.proofs.lemmas.List.{get_or_past}
@@ -25,7 +25,7 @@ use Rattle.propagate_queue.specs.Running.{AreDomains}
 use Rattle.machine_frames.specs.Frames.{link_in, link_of}
 use Rattle.machine_frames.proofs.Linking.{slot_behind}
 use Rattle.machine_frames.proofs.Unifying.{linked_at, link_at}
-use Rattle.branch_state.specs.States.{State, IsPair, ArePairs, IsSound, IsSoundBelow, IsSettled, first_state, no_level, with_heap, with_pair, without_pairs, IsCell}
+use Rattle.branch_state.specs.States.{State, IsPair, ArePairs, IsSound, IsSettled, first_state, no_level, IsCell}
 use Rattle.branch_state.specs.Steps.{IsTouchBelow, AreTouchesBelow, posted_with}
 use Rattle.branch_state.proofs.Settled.{settled}
 use Rattle.branch_state.proofs.Touches.{posted_low}
@@ -70,9 +70,6 @@ pair_fewer n h now l p valid names fewer = record {
   settled = p.settled;
 }
 
-pub heap_sound : (s : State) → IsSound s → (h : Cells) → IsPair s.atoms h s.levels.current → IsSound (with_heap s h)
-heap_sound s o h p = record { unspent = o.unspent; marked = o.marked; below = o.below; now = p }
-
 pub heaps_sound : (s : State) → IsSound s → (h : Heaps) → h.below ≡ s.heaps.below → IsPair s.atoms h.now s.levels.current → IsSound (record s { heaps = h })
 heaps_sound s o h e p = record {
   unspent = o.unspent;
@@ -88,42 +85,6 @@ var_sound s o h e valid =
     heaps_sound s o h (ap (λ (x : Heaps). x.below) e)
     (subst (λ (x : Cells). IsPair s.atoms x s.levels.current) (sym is)
     (pair_fewer s.atoms s.heaps.now (with_new_slot s.heaps.now) s.levels.current o.now (subst IsHeap is valid) (new_below s.atoms s.heaps.now o.now.names) (λ c k e. sym (ap link_of (new_slot_at s.heaps.now.slots c)) ∙ e)))
-
--- the pairs below
-drop_pairs : (n i : ℕ) (hs : List Cells) (ls : List Level) → ArePairs n hs ls → ArePairs n (drop i hs) (drop i ls)
-drop_pairs n zero hs ls p = p
-drop_pairs n (suc i) [] [] p = p
-drop_pairs n (suc i) [] (l ∷ ls) p = absurd p
-drop_pairs n (suc i) (h ∷ hs) [] p = absurd p
-drop_pairs n (suc i) (h ∷ hs) (l ∷ ls) p = drop_pairs n i hs ls p.1
-
-same_length : (n : ℕ) (hs : List Cells) (ls : List Level) → ArePairs n hs ls → length hs ≡ length ls
-same_length n [] [] p = refl
-same_length n [] (l ∷ ls) p = absurd p
-same_length n (h ∷ hs) [] p = absurd p
-same_length n (h ∷ hs) (l ∷ ls) p = ap suc (same_length n hs ls p.1)
-
-pub levels_below : (s : State) → IsSoundBelow s → length s.heaps.below ≡ length s.levels.below
-levels_below s o = same_length s.atoms s.heaps.below s.levels.below o.below
-
-pub sound_below : (s : State) → IsSound s → IsSoundBelow s
-sound_below s o = record { unspent = o.unspent; marked = o.marked; below = o.below }
-
-drop_some : {X : Type 0} (i : ℕ) (xs : List X) → i < length xs → 0 < length (drop i xs)
-drop_some zero xs l = l
-drop_some (suc i) [] l = absurd (omega (arith, l))
-drop_some (suc i) (x ∷ xs) l = drop_some i xs (omega (arith, l))
-
-pub dropped_sound : (n : ℕ) (s : State) → IsSound s → n < length s.heaps.below → IsSound (without_pairs n s)
-dropped_sound n s o l = record { unspent = o.unspent; marked = drop_some n s.heaps.below l; below = drop_pairs s.atoms n s.heaps.below s.levels.below o.below; now = o.now }
-
-pub marked_sound : (s : State) → IsSound s → IsSound (with_pair s)
-marked_sound s o = record { unspent = o.unspent; marked = omega arith; below = (o.now, o.below); now = o.now }
-
-pub undone_sound : (n : ℕ) (h : Cells) (hs : List Cells) (l : Level) (ls : List Level) (all_hs : List Cells) (all_ls : List Level) → all_hs ≡ h ∷ hs → all_ls ≡ l ∷ ls → 1 < length all_hs → ArePairs n all_hs all_ls → IsSound (record { atoms = n; heaps = record { now = h; below = hs }; levels = record { current = l; below = ls; spent = false } })
-undone_sound n h hs l ls all_hs all_ls e f m p =
-    let both : ArePairs n (h ∷ hs) (l ∷ ls) = subst (λ (z : List Level). ArePairs n (h ∷ hs) z) f (subst (λ (z : List Cells). ArePairs n z all_ls) e p) in
-    record { unspent = refl; marked = (let i = ap length e in omega (arith, i, m)); below = both.1; now = both.0 }
 
 -- a unification leaves no new variable of the store
 pub unified_fewer : (old now : Cells) (a b : Cell) (ts : List Touch) → AreUnified old a b now ts → (c k : ℕ) → link_in now c ≡ Some k → link_in old c ≡ Some k

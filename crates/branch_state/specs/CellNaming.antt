@@ -38,7 +38,8 @@ slots_offence t see r = or_later (offence None t) (first_in see (slots_of r) (sl
 
 -- a goal whose target looks as l has no offence
 abbrev pub IsFineGoal : Cells → List (List ℕ) → Range → Look → List Cell → Type 0
-IsFineGoal h sets r l cells = (name : Naming) (t : Term) → LooksAs h t l → slots_offence t (shown_slots name h sets r cells) r ≡ None
+IsFineGoal h sets r l cells = (name : Naming) (t : Term) → LooksAs h t l
+    → slots_offence t (shown_slots name h sets r cells) r ≡ None
 
 -- what a slot is seen as has no offence
 abbrev pub IsFineSlot : Cells → List (List ℕ) → Option Need → Cell → Type 0
@@ -74,7 +75,8 @@ IsTold k z [] = ⊥
 IsTold k z (t ∷ ts) = (t ≡ Value k z) ⊎ IsTold k z ts
 
 -- The terms are named on the heap now, which had been h, with the store's sets of then and now: what is open is linked, and each integer has a fresh variable, which the touches tell.
-pub record IsTermNaming (h : Cells) (sets : List (List ℕ)) (Named : Term → Type 0) (now : Cells) (S : List (List ℕ)) (fs : List Touch) (of : ℤ → Option ℕ) : Type 0 where
+pub record IsTermNaming (h : Cells) (sets : List (List ℕ)) (Named : Term → Type 0) (now : Cells)
+    (S : List (List ℕ)) (fs : List Touch) (of : ℤ → Option ℕ) : Type 0 where
   pub more : List (ℕ × ℕ)
   pub links : IsLinkedMore h now more
   pub atoms : (n : ℕ) → HasAtomsBelow n h → HasAtomsBelow n now
@@ -85,7 +87,8 @@ pub record IsTermNaming (h : Cells) (sets : List (List ℕ)) (Named : Term → T
   pub plain : (u : Term) → Named u → offence None u ≡ None
   pub named : (c : ℕ) → Named (Var c) → (k : ℕ) × (link_in now c ≡ Some k)
   pub numbered : (z : ℤ) → Named (Int z) → (k : ℕ) × (of z ≡ Some k)
-  pub fresh : (z : ℤ) (k : ℕ) → of z ≡ Some k → Named (Int z) × (length sets ≤ k) × (k < length S) × ((c : ℕ) → link_in now c ≡ Some k → ⊥)
+  pub fresh : (z : ℤ) (k : ℕ) → of z ≡ Some k → Named (Int z) × (length sets ≤ k) × (k < length S)
+      × ((c : ℕ) → link_in now c ≡ Some k → ⊥)
   pub apart : (z w : ℤ) (k : ℕ) → of z ≡ Some k → of w ≡ Some k → z ≡ w
   pub told : AreTold of fs
   pub all : (z : ℤ) (k : ℕ) → of z ≡ Some k → IsTold k z fs
@@ -95,21 +98,31 @@ abbrev pub IsPut : (ℤ → Option ℕ) → (ℤ → Option ℕ) → ℤ → ℕ
 IsPut of of' z k = (of' z ≡ Some k) × ((w : ℤ) → (w ≡ z → ⊥) → of' w ≡ of w)
 
 -- One name more: an integer that was met has its variable already.
-abbrev pub TermStep : Look → Cells → List (List ℕ) → List Touch → (ℤ → Option ℕ) → Cells → List (List ℕ) → List Touch → (ℤ → Option ℕ) → ℕ → Type 0
-TermStep (Number z) h sets fs of now S fs' of' k = ((of z ≡ Some k) × (now ≡ h) × (S ≡ sets) × (fs' ≡ fs) × (of' ≡ of)) ⊎ ((of z ≡ None) × IsPut of of' z k × NameStep (Number z) h sets fs now S fs' k)
+abbrev pub TermStep : Look → Cells → List (List ℕ) → List Touch → (ℤ → Option ℕ) → Cells
+    → List (List ℕ) → List Touch → (ℤ → Option ℕ) → ℕ → Type 0
+TermStep (Number z) h sets fs of now S fs' of' k = ((of z ≡ Some k) × (now ≡ h) × (S ≡ sets)
+    × (fs' ≡ fs) × (of' ≡ of)) ⊎ ((of z ≡ None) × IsPut of of' z k
+    × NameStep (Number z) h sets fs now S fs' k)
 TermStep l h sets fs of now S fs' of' k = (of' ≡ of) × NameStep l h sets fs now S fs' k
 
 -- One argument more: a parameter's integer, or the variable of what is named now. t is what the slot is seen as.
-abbrev pub SlotStep : Term → Option Need → Cells → List (List ℕ) → List Touch → (ℤ → Option ℕ) → Cells → List (List ℕ) → List Touch → (ℤ → Option ℕ) → Arg → Type 0
-SlotStep t (Some n) h sets fs of now S fs' of' a = (now ≡ h) × (S ≡ sets) × (fs' ≡ fs) × (of' ≡ of) × ((z : ℤ) → t ≡ Int z → a ≡ arg.Int z)
-SlotStep t None h sets fs of now S fs' of' a = (l : Look) × (k : ℕ) × (a ≡ arg.Var k) × LooksAs h t l × TermStep l h sets fs of now S fs' of' k
+abbrev pub SlotStep : Term → Option Need → Cells → List (List ℕ) → List Touch → (ℤ → Option ℕ)
+    → Cells → List (List ℕ) → List Touch → (ℤ → Option ℕ) → Arg → Type 0
+SlotStep t (Some n) h sets fs of now S fs' of' a = (now ≡ h) × (S ≡ sets) × (fs' ≡ fs) × (of' ≡ of)
+    × ((z : ℤ) → t ≡ Int z → a ≡ arg.Int z)
+SlotStep t None h sets fs of now S fs' of' a = (l : Look) × (k : ℕ) × (a ≡ arg.Var k)
+    × LooksAs h t l × TermStep l h sets fs of now S fs' of' k
 
 -- The target t and the first slots of a goal's range are made ready.
-pub record AreCellsReady (t : Term) (see : Substitution) (h : Cells) (sets : List (List ℕ)) (ys : List ℕ) (ns : List (Option Need)) (now : Cells) (S : List (List ℕ)) (fs : List Touch) (of : ℤ → Option ℕ) (target : ℕ) (as' : List Arg) : Type 0 where
+pub record AreCellsReady (t : Term) (see : Substitution) (h : Cells) (sets : List (List ℕ))
+    (ys : List ℕ) (ns : List (Option Need)) (now : Cells) (S : List (List ℕ)) (fs : List Touch)
+    (of : ℤ → Option ℕ) (target : ℕ) (as' : List Arg) : Type 0 where
   pub naming : IsTermNaming h sets (NamedBy t see (slots_open ys ns)) now S fs of
   pub at : target ≡ slot_in now of t
   pub stand : AllStand see (λ y. slot_in now of (see y)) ys ns as'
 
 -- and all of them are
-abbrev pub IsPrepared : Term → Substitution → Cells → List (List ℕ) → Range → Cells → List (List ℕ) → List Touch → ℕ → List Arg → Type 0
-IsPrepared t see h sets r now S fs target as' = (of : ℤ → Option ℕ) × AreCellsReady t see h sets (slots_of r) (slot_needs r) now S fs of target as'
+abbrev pub IsPrepared : Term → Substitution → Cells → List (List ℕ) → Range → Cells → List (List ℕ)
+    → List Touch → ℕ → List Arg → Type 0
+IsPrepared t see h sets r now S fs target as' = (of : ℤ → Option ℕ)
+    × AreCellsReady t see h sets (slots_of r) (slot_needs r) now S fs of target as'

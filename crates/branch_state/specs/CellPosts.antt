@@ -21,19 +21,27 @@ abbrev pub slots_in : Naming → State → Range → List Cell → Substitution
 slots_in name s r cells = shown_slots name s.heaps.now s.levels.current.sets r cells
 
 -- The goal has no offence, and its range is linked on the heap now. The store's ranges are to be qs then.
-pub record IsCellsPosted (name : Naming) (old : State) (target : Cell) (cells : List Cell) (r : Range) (now : Cells) (qs : List Indexical) : Type 0 where
+pub record IsCellsPosted (name : Naming) (old : State) (target : Cell) (cells : List Cell)
+    (r : Range) (now : Cells) (qs : List Indexical) : Type 0 where
   pub fine : cells_offence (term_in name old target) (slots_in name old r cells) r ≡ None
   pub slot : Term → ℕ
   pub touches : List Touch
-  pub linked : IsTermsLinked old.heaps.now now old.levels.current.posted slot (Names (term_in name old target) (slots_in name old r cells) r) touches
-  pub after : qs ≡ (old.levels.current.posted ++ cells_range slot (term_in name old target) (slots_in name old r cells) r ∷ []) ++ posts touches
+  pub linked : IsTermsLinked old.heaps.now now old.levels.current.posted slot
+      (Names (term_in name old target) (slots_in name old r cells) r) touches
+  pub after : qs ≡ (old.levels.current.posted
+      ++ cells_range slot (term_in name old target) (slots_in name old r cells) r ∷ [])
+      ++ posts touches
 
 -- what the goal did, by these names of atoms
 abbrev pub PostsNamed : Naming → State → Cell → List Cell → Range → State → Step → Type 0
-PostsNamed name old target cells r new Kept = IsCellsPosted name old target cells r new.heaps.now new.levels.current.posted × IsSound new
-PostsNamed name old target cells r new Failed = ((qs : List Indexical) × IsCellsPosted name old target cells r new.heaps.now qs × HasNoModel qs) × IsSoundBelow new
-PostsNamed name old target cells r new (Fault f) = (cells_offence (term_in name old target) (slots_in name old r cells) r ≡ Some f) × (new ≡ old)
+PostsNamed name old target cells r new Kept = IsCellsPosted name old target cells r new.heaps.now
+    new.levels.current.posted × IsSound new
+PostsNamed name old target cells r new Failed = ((qs : List Indexical)
+    × IsCellsPosted name old target cells r new.heaps.now qs × HasNoModel qs) × IsSoundBelow new
+PostsNamed name old target cells r new (Fault f) = (cells_offence (term_in name old target)
+    (slots_in name old r cells) r ≡ Some f) × (new ≡ old)
 
 -- and by any
 abbrev pub PostsCells : State → Cell → List Cell → Range → State → Step → Type 0
-PostsCells old target cells r new step = (name : Naming) → PostsNamed name old target cells r new step
+PostsCells old target cells r new step = (name : Naming)
+    → PostsNamed name old target cells r new step

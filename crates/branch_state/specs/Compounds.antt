@@ -10,5 +10,6 @@ use Rattle.branch_state.specs.States.{State, IsCell}
 -- The cell stands for the compound term of the cells, under whatever names.
 pub record IsMade (f : AtomId) (args : List Cell) (old now : State) (c : Cell) : Type 0 where
   pub own : IsCell now c
-  pub term : (name : Naming) → term_of name now.heaps.now c ≡ Comp (name f) (terms_by (term_of name old.heaps.now) args)
+  pub term : (name : Naming) → term_of name now.heaps.now c
+      ≡ Comp (name f) (terms_by (term_of name old.heaps.now) args)
   pub grown : IsGrown old.heaps.now now.heaps.now

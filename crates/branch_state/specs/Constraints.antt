@@ -32,10 +32,12 @@ use Rattle.branch_state.specs.States.{State, HasNoModel, IsSound, IsSoundBelow}
 
 -- the row of the constraint, by the branch's heap and sets
 abbrev pub row_of : List Name → State → ConstraintKind → Cell → Result Expansion QueryFault
-row_of names s kind c = heap_row s.heaps.now (family_of s.levels.current.sets) kind (term_of (full names) s.heaps.now c)
+row_of names s kind c = heap_row s.heaps.now (family_of s.levels.current.sets) kind
+    (term_of (full names) s.heaps.now c)
 
 -- The constraint's row is linked on the heap now. The store's ranges are to be qs then.
-pub record IsConstrained (names : List Name) (old : State) (kind : ConstraintKind) (c : Cell) (now : Cells) (qs : List Indexical) : Type 0 where
+pub record IsConstrained (names : List Name) (old : State) (kind : ConstraintKind) (c : Cell)
+    (now : Cells) (qs : List Indexical) : Type 0 where
   pub row : Expansion
   pub is : row_of names old kind c ≡ Ok row
   pub link : ℕ → Option ℕ
@@ -47,8 +49,10 @@ pub record IsConstrained (names : List Name) (old : State) (kind : ConstraintKin
 
 -- what the constraint did
 abbrev pub Constrains : List Name → State → ConstraintKind → Cell → State → Step → Type 0
-Constrains names old kind c new Kept = IsConstrained names old kind c new.heaps.now new.levels.current.posted × IsSound new
-Constrains names old kind c new Failed = ((qs : List Indexical) × IsConstrained names old kind c new.heaps.now qs × HasNoModel qs) × IsSoundBelow new
+Constrains names old kind c new Kept = IsConstrained names old kind c new.heaps.now
+    new.levels.current.posted × IsSound new
+Constrains names old kind c new Failed = ((qs : List Indexical)
+    × IsConstrained names old kind c new.heaps.now qs × HasNoModel qs) × IsSoundBelow new
 Constrains names old kind c new (Fault f) = (row_of names old kind c ≡ Err f) × (new ≡ old)
 
 -- the variables that ranges name
@@ -67,7 +71,8 @@ store_variable h x = or_zero (link_in h x)
 
 -- a range on variables of the heap, as it is posted
 abbrev pub row_posting : (ℕ → ℕ) → Indexical → Posting
-row_posting of p = record { range = p.range; target = of p.target; args = map (λ y. arg.Var (of y)) (slots_of p.range) }
+row_posting of p = record { range = p.range; target = of p.target;
+    args = map (λ y. arg.Var (of y)) (slots_of p.range) }
 
 -- variables of the heap that get integers, as touches of the store
 abbrev pub row_touches : (ℕ → ℕ) → List (ℕ × ℤ) → List Touch
@@ -91,7 +96,8 @@ AreFrom n (d ∷ ds) = (d.0 ≡ n) × AreFrom (suc n) ds
 
 -- these are the heap's, and none is bound
 abbrev pub AreOpen : ℕ → List (ℕ × ℤ) → Cells → Type 0
-AreOpen n ds h = (x : ℕ) → n ≤ x → x < n + length ds → (x < length h.slots) × (is_bound (slot_at h x) ≡ false)
+AreOpen n ds h = (x : ℕ) → n ≤ x → x < n + length ds → (x < length h.slots)
+    × (is_bound (slot_at h x) ≡ false)
 
 -- the variable is the heap's, and it isn't bound
 pub record IsUnbound (h : Cells) (x : ℕ) : Type 0 where
@@ -112,7 +118,8 @@ AreLinked h xs = (x : ℕ) → has xs x ≡ true → (k : ℕ) × (link_in h x �
 -- The row's variables are unbound ones of the heap or fresh, those that are equated are the first fresh ones, and no range has a parameter.
 pub record IsRowOf (h : Cells) (y : Expansion) : Type 0 where
   pub grows : length h.slots ≤ y.fresh
-  pub named : (x : ℕ) → has (constrained y.ranges) x ≡ true → IsUnbound h x ⊎ ((length h.slots ≤ x) × (x < y.fresh))
+  pub named : (x : ℕ) → has (constrained y.ranges) x ≡ true → IsUnbound h x
+      ⊎ ((length h.slots ≤ x) × (x < y.fresh))
   pub equated : AreFrom (length h.slots) y.equated
   pub fresh : AllFresh (length h.slots) y.fresh y.ranges y.equated
   pub plain : AllPosted (λ p. params p.range ≡ []) y.ranges

@@ -36,4 +36,5 @@ pub record AreListed (h : Cells) (ps : List Indexical) (old new : List Instance)
 
 -- whatever had been named before, these variables are named with it now
 abbrev pub LinksMore : Cells → List (List ℕ) → List ℕ → Cells → List (List ℕ) → Type 0
-LinksMore h sets xs now S = (first : Cells) (before : List (List ℕ)) (ys : List ℕ) → IsNaming Var first before ys h sets [] [] → IsNaming Var first before (ys ++ xs) now S [] []
+LinksMore h sets xs now S = (first : Cells) (before : List (List ℕ)) (ys : List ℕ)
+    → IsNaming Var first before ys h sets [] [] → IsNaming Var first before (ys ++ xs) now S [] []

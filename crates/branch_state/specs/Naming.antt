@@ -1,35 +1,27 @@
 -- How the variables that a goal `T in r` names get variables of the store.
-use Rattle.std.specs.Prelude.{◌≡◌, ℕ, ◌-◌, ◌+◌, ◌<◌, ◌≤◌, Bool, true, false, ◌==◌, if◌then◌else◌, nat_lt, ℤ, List, [], ◌∷◌, ◌++◌, length, filter, slice_index_or, Option, Some, None}
+use Rattle.std.specs.Prelude.{◌≡◌, ℕ, ◌-◌, ◌+◌, ◌<◌, ◌≤◌, true, false, ◌==◌, if◌then◌else◌, nat_lt, ℤ, List, [], ◌∷◌, ◌++◌, length, filter, slice_index_or, Option, Some, None}
 use Rattle.fd_language.specs.declared.TheConstants.{INFINITY}
 use Rattle.fd_language.specs.declared.range_node.Need.{Need}
 use Rattle.fd_language.specs.Family.{has, universe}
 use Rattle.fd_language.specs.Needs.{meets}
-use Rattle.fd_language.specs.Check.{fill_range}
 use Rattle.fd_language.specs.Range.{Range, Indexical}
-use Rattle.fd_language.specs.RangeRenaming.{rename_range}
 use Rattle.fd_language.specs.Term.{Term, Var, Int, Atom, Comp, Substitution}
 use Rattle.fd_model.specs.declared.kinds.QueryFault.{QueryFault}
 use Rattle.fd_model.specs.declared.kinds.QueryFault.TheVariants.{Instantiation, BadType, Parameter}
 use Rattle.fd_model.specs.Levels.{Levels}
-use Rattle.fd_model.specs.LinearRows.{Expansion}
 use Rattle.fd_model.specs.Posting.{is_integer, integer_of, or_later, slot}
-use Rattle.heap_cells.specs.declared.Cell.{Cell}
 use Rattle.heap_cells.specs.Atoms.{HasAtomsBelow}
 use Rattle.heap_cells.specs.Cells.{Cells, free, linked, slot_at, with_slot}
-use Rattle.heap_cells.specs.Terms.{Naming}
 use Rattle.heap_cells.specs.Valid.{IsHeap}
 use Rattle.range_code.specs.declared.frame.Arg.{Arg}
 use Rattle.range_code.specs.declared.frame.Arg.TheVariants as arg
 use Rattle.range_code.specs.Frames.{family_of, posted}
-use Rattle.range_code.specs.Slots.{slots_of, slot_needs}
 use Rattle.unify_core.specs.declared.Touch.{Touch}
 use Rattle.unify_core.specs.declared.Touch.TheVariants.{Value}
 use Rattle.unify_core.specs.Touches.{IsSymbolic}
-use Rattle.machine_relation.specs.Rows.{slot_numbers}
 use Rattle.machine_relation.specs.Store.{posts}
 use Rattle.machine_frames.specs.Frames.{link_in, store_touches}
 use Rattle.machine_frames.specs.Posting.{Listed, IsLinkedMore}
-use Rattle.machine_frames.specs.Reading.{seen_env}
 use Rattle.branch_state.specs.declared.look.Look.{Look}
 use Rattle.branch_state.specs.declared.look.Look.TheVariants.{Open, Linked, Number, Symbol}
 
@@ -47,13 +39,6 @@ IsKind t (Linked k) = (i : ℕ) × (t ≡ Var i)
 IsKind t (Number z) = t ≡ Int z
 IsKind t Symbol = IsSymbolic t
 
--- s is what the clause's variables are seen as, by some names, and the target x, which looks as l
-pub record IsSight (h : Cells) (sets : List (List ℕ)) (env : List (Option Cell)) (x : ℕ) (l : Look) (s : Substitution) : Type 0 where
-  pub name : Naming
-  pub seen : (y : ℕ) → y < length env → s y ≡ seen_env name h env (family_of sets) y
-  pub target : LooksAs h (s x) l
-  pub low : (i : ℕ) → s x ≡ Var i → x < length env
-
 -- the offence of a slot with this need, or none
 abbrev pub offence : Option Need → Term → Option QueryFault
 offence None (Var y) = None
@@ -69,26 +54,17 @@ first_in s [] ns = None
 first_in s (y ∷ ys) [] = None
 first_in s (y ∷ ys) (n ∷ ns) = or_later (offence n (s y)) (first_in s ys ns)
 
--- that of a goal with the target x
-abbrev pub goal_offence : Substitution → ℕ → Range → Option QueryFault
-goal_offence s x r = or_later (offence None (s x)) (first_in s (slots_of r) (slot_needs r))
-
 -- the variables that a goal names: its target, and behind it the range's variables other than parameters, each once
 abbrev pub named_behind : ℕ → List ℕ → List (Option Need) → List ℕ
 named_behind x [] ns = []
 named_behind x (y ∷ ys) [] = []
-named_behind x (y ∷ ys) (None ∷ ns) = if y == x then named_behind x ys ns else y ∷ named_behind x ys ns
+named_behind x (y ∷ ys) (None ∷ ns) = if y == x then named_behind x ys ns else y
+    ∷ named_behind x ys ns
 named_behind x (y ∷ ys) (Some n ∷ ns) = named_behind x ys ns
 
 -- those that are seen as integers
 abbrev pub integers : Substitution → List ℕ → List ℕ
 integers s xs = filter (λ y. is_integer (s y)) xs
-
--- the row of a goal without offences, with n variables in its clause
-abbrev pub goal_row : Substitution → ℕ → ℕ → Range → Expansion
-goal_row s n x r =
-    let zs = integers s (x ∷ named_behind x (slots_of r) (slot_needs r)) in
-    record { equated = slot_numbers s n zs; ranges = record { target = slot n zs x; range = rename_range (slot n zs) (fill_range (λ y. integer_of (s y)) r) } ∷ []; fresh = n + length zs }
 
 abbrev pub or_zero : Option ℕ → ℕ
 or_zero None = 0
@@ -100,7 +76,8 @@ linked_to h t = None
 
 -- the variable of the store of a clause's variable, and from n on those of the fresh ones, which have the variables ks
 abbrev pub variable_of : Substitution → ℕ → Cells → List ℕ → ℕ → ℕ
-variable_of s n now ks y = if nat_lt y n then or_zero (linked_to now (s y)) else slice_index_or ks (y - n) 0
+variable_of s n now ks y = if nat_lt y n then or_zero (linked_to now (s y))
+    else slice_index_or ks (y - n) 0
 
 -- variables of the store that are to get the integers of ys
 abbrev pub values : Substitution → List ℕ → List ℕ → List Touch
@@ -113,25 +90,32 @@ Apart [] = Unit {0}
 Apart (x ∷ xs) = (has xs x ≡ false) × Apart xs
 
 -- The variables xs are named on the heap now, which had been h, with the store's sets of then and now: what is open is linked, and integers have fresh variables ks.
-pub record IsNaming (s : Substitution) (h : Cells) (sets : List (List ℕ)) (xs : List ℕ) (now : Cells) (sets' : List (List ℕ)) (ks : List ℕ) (fixed : List Touch) : Type 0 where
+pub record IsNaming (s : Substitution) (h : Cells) (sets : List (List ℕ)) (xs : List ℕ)
+    (now : Cells) (sets' : List (List ℕ)) (ks : List ℕ) (fixed : List Touch) : Type 0 where
   pub more : List (ℕ × ℕ)
   pub links : IsLinkedMore h now more
   pub atoms : (n : ℕ) → HasAtomsBelow n h → HasAtomsBelow n now
-  pub listed : (c k : ℕ) → Listed c k more → (y : ℕ) × (has xs y ≡ true) × (s y ≡ Var c) × (length sets ≤ k)
+  pub listed : (c k : ℕ) → Listed c k more → (y : ℕ) × (has xs y ≡ true) × (s y ≡ Var c)
+      × (length sets ≤ k)
   pub below : (c k : ℕ) → link_in now c ≡ Some k → k < length sets'
   pub longer : length sets ≤ length sets'
   pub same : (k : ℕ) → family_of sets' k ≡ family_of sets k
   pub named : (y d : ℕ) → has xs y ≡ true → s y ≡ Var d → (k : ℕ) × (link_in now d ≡ Some k)
   pub count : length ks ≡ length (integers s xs)
   pub told : fixed ≡ values s ks (integers s xs)
-  pub fresh : (k : ℕ) → has ks k ≡ true → (length sets ≤ k) × (k < length sets') × ((c : ℕ) → link_in now c ≡ Some k → ⊥)
+  pub fresh : (k : ℕ) → has ks k ≡ true → (length sets ≤ k) × (k < length sets')
+      × ((c : ℕ) → link_in now c ≡ Some k → ⊥)
   pub apart : Apart ks
 
 -- What is named gets the variable k: an open one is linked to a new variable, and an integer has one that no variable of the heap is linked to.
-abbrev pub NameStep : Look → Cells → List (List ℕ) → List Touch → Cells → List (List ℕ) → List Touch → ℕ → Type 0
-NameStep (Open i) h sets fixed now sets' fixed' k = (k ≡ length sets) × (now ≡ with_slot h i (linked k)) × (sets' ≡ sets ++ universe INFINITY ∷ []) × (fixed' ≡ fixed)
-NameStep (Linked j) h sets fixed now sets' fixed' k = (k ≡ j) × (now ≡ h) × (sets' ≡ sets) × (fixed' ≡ fixed)
-NameStep (Number z) h sets fixed now sets' fixed' k = (k ≡ length sets) × (now ≡ h) × (sets' ≡ sets ++ universe INFINITY ∷ []) × (fixed' ≡ fixed ++ Value k z ∷ [])
+abbrev pub NameStep : Look → Cells → List (List ℕ) → List Touch → Cells → List (List ℕ) → List Touch
+    → ℕ → Type 0
+NameStep (Open i) h sets fixed now sets' fixed' k = (k ≡ length sets)
+    × (now ≡ with_slot h i (linked k)) × (sets' ≡ sets ++ universe INFINITY ∷ []) × (fixed' ≡ fixed)
+NameStep (Linked j) h sets fixed now sets' fixed' k = (k ≡ j) × (now ≡ h) × (sets' ≡ sets)
+    × (fixed' ≡ fixed)
+NameStep (Number z) h sets fixed now sets' fixed' k = (k ≡ length sets) × (now ≡ h)
+    × (sets' ≡ sets ++ universe INFINITY ∷ []) × (fixed' ≡ fixed ++ Value k z ∷ [])
 NameStep Symbol h sets fixed now sets' fixed' k = ⊥
 
 -- what stands in a slot: a parameter's integer, or the variable of the store of another variable
@@ -145,11 +129,14 @@ AllStand s of (y ∷ ys) (n ∷ ns) (a ∷ as') = StandsIn s of y n a × AllStan
 AllStand s of _ _ _ = ⊥
 
 -- The target x and the first slots of a goal's range are made ready, where a clause has n variables.
-pub record IsReady (s : Substitution) (n : ℕ) (h : Cells) (sets : List (List ℕ)) (x : ℕ) (ys : List ℕ) (ns : List (Option Need)) (now : Cells) (sets' : List (List ℕ)) (fixed : List Touch) (target : ℕ) (as' : List Arg) : Type 0 where
+pub record IsReady (s : Substitution) (n : ℕ) (h : Cells) (sets : List (List ℕ)) (x : ℕ)
+    (ys : List ℕ) (ns : List (Option Need)) (now : Cells) (sets' : List (List ℕ))
+    (fixed : List Touch) (target : ℕ) (as' : List Arg) : Type 0 where
   pub ks : List ℕ
   pub naming : IsNaming s h sets (x ∷ named_behind x ys ns) now sets' ks fixed
   pub at : target ≡ variable_of s n now ks (slot n (integers s (x ∷ named_behind x ys ns)) x)
-  pub stand : AllStand s (λ y. variable_of s n now ks (slot n (integers s (x ∷ named_behind x ys ns)) y)) ys ns as'
+  pub stand : AllStand s (λ y. variable_of s n now ks
+      (slot n (integers s (x ∷ named_behind x ys ns)) y)) ys ns as'
 
 -- the links of a heap go to variables of the store, of which there are so many
 abbrev pub LinksBelow : ℕ → Cells → Type 0
@@ -166,28 +153,10 @@ CanName h Symbol = ⊥
 abbrev pub with_sets : Levels → List (List ℕ) → Levels
 with_sets ls sets = record ls { current = record ls.current { sets = sets } }
 
--- the variable of the goal's target, and what the clause's variables are seen as; a target that is no variable stands for the variable behind the last one
-abbrev pub target_variable : ℕ → Term → ℕ
-target_variable n (Var x) = x
-target_variable n t = n
-
-abbrev pub target_seen : ℕ → Term → Substitution → Substitution
-target_seen n (Var x) seen y = seen y
-target_seen n t seen y = if y == n then t else seen y
-
--- One argument more: a parameter's integer, the target's variable v, or that of a variable that is named now. t is what the slot's variable is seen as, and same tells whether it is the target.
-abbrev pub ArgStep : Term → Option Need → Bool → Cells → List (List ℕ) → List Touch → Cells → List (List ℕ) → List Touch → ℕ → Arg → Type 0
-ArgStep t (Some n) same h sets fixed now sets' fixed' v a = (now ≡ h) × (sets' ≡ sets) × (fixed' ≡ fixed) × ((z : ℤ) → t ≡ Int z → a ≡ arg.Int z)
-ArgStep t None true h sets fixed now sets' fixed' v a = (now ≡ h) × (sets' ≡ sets) × (fixed' ≡ fixed) × (a ≡ arg.Var v)
-ArgStep t None false h sets fixed now sets' fixed' v a = (l : Look) × (k : ℕ) × (a ≡ arg.Var k) × LooksAs h t l × NameStep l h sets fixed now sets' fixed' k
-
--- what a slot is seen as has no offence
-abbrev pub IsFine : Cells → List (List ℕ) → List (Option Cell) → Option Need → ℕ → Type 0
-IsFine h sets env need y = (name : Naming) × (offence need (seen_env name h env (family_of sets) y) ≡ None)
-
 -- the ranges that are posted for a goal
 abbrev pub goal_ranges : Range → ℕ → List Arg → List Touch → List Indexical
-goal_ranges r v as' fixed = record { target = v; range = posted r as' } ∷ posts (store_touches fixed)
+goal_ranges r v as' fixed = record { target = v; range = posted r as' }
+    ∷ posts (store_touches fixed)
 
 -- the integer of a look that is one
 abbrev pub IsInteger : Look → ℤ → Type 0

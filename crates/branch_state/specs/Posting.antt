@@ -16,7 +16,8 @@ is_natural (Same k j) = true
 -- a variable gets an integer, and two variables get each other's values
 abbrev pub touch_postings : Touch → List Posting
 touch_postings (Value k z) = record { range = exact_range; target = k; args = arg.Int z ∷ [] } ∷ []
-touch_postings (Same k j) = record { range = same_range; target = k; args = arg.Var j ∷ [] } ∷ record { range = same_range; target = j; args = arg.Var k ∷ [] } ∷ []
+touch_postings (Same k j) = record { range = same_range; target = k; args = arg.Var j ∷ [] }
+    ∷ record { range = same_range; target = j; args = arg.Var k ∷ [] } ∷ []
 
 abbrev pub postings : List Touch → List Posting
 postings [] = []

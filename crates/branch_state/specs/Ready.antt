@@ -11,9 +11,12 @@ use Rattle.branch_state.specs.Listing.{AreSamePostings}
 use Rattle.branch_state.specs.Naming.{IsNaming}
 
 -- The row's variables are linked, what it posts is listed, and the equated variables are bound.
-pub record IsRowReady (h : Cells) (sets : List (List ℕ)) (y : Expansion) (now : Cells) (S : List (List ℕ)) (list : List Instance) (fixed : List Touch) : Type 0 where
+pub record IsRowReady (h : Cells) (sets : List (List ℕ)) (y : Expansion) (now : Cells)
+    (S : List (List ℕ)) (list : List Instance) (fixed : List Touch) : Type 0 where
   pub middle : Cells
-  pub naming : IsNaming Var (with_variables (y.fresh - length h.slots) h) sets (variables_in y.ranges) middle S [] []
+  pub naming : IsNaming Var (with_variables (y.fresh - length h.slots) h) sets
+      (variables_in y.ranges) middle S [] []
   pub bound_now : now ≡ with_integers y.equated middle
-  pub list_is : AreSamePostings (map posting list) (map (row_posting (store_variable middle)) y.ranges)
+  pub list_is : AreSamePostings (map posting list)
+      (map (row_posting (store_variable middle)) y.ranges)
   pub touches : fixed ≡ row_touches (store_variable middle) y.equated

@@ -37,10 +37,12 @@ with_sets set [] = []
 with_sets set (c ∷ cs) = with_set c (set c) (with_sets set cs)
 
 -- Each cell as it is read, and the sets of the variables that occur, each once, in order of first occurrence.
-pub record IsShown (names : List Name) (h : Cells) (sets : List (List ℕ)) (cells : List Cell) (x : Shown) : Type 0 where
+pub record IsShown (names : List Name) (h : Cells) (sets : List (List ℕ)) (cells : List Cell)
+    (x : Shown) : Type 0 where
   pub own : All (λ t. t.number < length x.pool.entries) x.terms.items
   pub terms : map (pool_term x.pool) x.terms.items ≡ terms_read names h sets cells
-  pub sets_of : x.sets.items ≡ with_sets (open_set h sets) (distinct (variables_of_all (as_terms (terms_read names h sets cells))))
+  pub sets_of : x.sets.items ≡ with_sets (open_set h sets)
+      (distinct (variables_of_all (as_terms (terms_read names h sets cells))))
 
 -- the cells are of the heap, and name the first n atoms
 abbrev pub AreShowable : ℕ → Cells → List Cell → Type 0
@@ -51,6 +53,7 @@ abbrev pub variables_at : Contents → List TermId → List ℕ
 variables_at p ts = variables_of_all (as_terms (map (pool_term p) ts))
 
 -- the variables of a list that were gathered, each once, with their sets
-pub record AreGathered (set : ℕ → Option (List ℕ)) (xs keys : List ℕ) (ps : List (ℕ × List ℕ)) : Type 0 where
+pub record AreGathered (set : ℕ → Option (List ℕ)) (xs keys : List ℕ)
+    (ps : List (ℕ × List ℕ)) : Type 0 where
   pub keys_are : keys ≡ once xs
   pub sets_are : ps ≡ with_sets set (once xs)

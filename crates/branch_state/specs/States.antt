@@ -1,5 +1,5 @@
 -- A branch as callers see it: heaps of cells with levels of a store, in pairs.
-use Rattle.std.specs.Prelude.{◌≡◌, ℕ, ◌<◌, true, false, List, [], ◌∷◌, length, drop, Option, Some}
+use Rattle.std.specs.Prelude.{◌≡◌, ℕ, ◌<◌, true, false, List, [], ◌∷◌, length, Option, Some}
 use Rattle.fd_language.specs.declared.TheConstants.{INFINITY}
 use Rattle.fd_language.specs.Family.{Family, has, IsInside}
 use Rattle.fd_language.specs.Range.{Indexical}
@@ -74,11 +74,8 @@ with_heap s h = record s { heaps = record { now = h; below = s.heaps.below } }
 
 -- a copy of the current pair below it
 abbrev pub with_pair : State → State
-with_pair s = record s { heaps = with_mark s.heaps; levels = record s.levels { below = s.levels.current ∷ s.levels.below } }
-
--- the n pairs directly below the current one are gone
-abbrev pub without_pairs : ℕ → State → State
-without_pairs n s = record s { heaps = record s.heaps { below = drop n s.heaps.below }; levels = record s.levels { below = drop n s.levels.below } }
+with_pair s = record s { heaps = with_mark s.heaps;
+    levels = record s.levels { below = s.levels.current ∷ s.levels.below } }
 
 -- the pair below is the current one now
 pub record IsUndone (old new : State) : Type 0 where

@@ -121,6 +121,7 @@ pub(crate) fn post_list<A: Agenda + Drop>(
 }
 
 /// Posts what touches say. Whether all that is posted then has a model.
+#[inline(never)]
 pub(crate) fn post_all<A: Agenda + Drop>(
     alloc: Global,
     store: &mut Store<A>,

@@ -1,18 +1,14 @@
 //! A branch: the current heap and level of the store, and the pairs below.
 
 ghost use Rattle.std.specs.Prelude.{◌≡◌, ◌<◌, ◌≤◌, All, IfOk, OnOk, length};
-ghost use Rattle.fd_language.specs.Variables.{TermBelow};
-ghost use Rattle.fd_model.specs.Sound.{RangeBelow};
 ghost use Rattle.heap_cells.specs.declared.Cell.TheVariants as cell;
 ghost use Rattle.heap_cells.specs.Cells.{with_new_slot};
-ghost use Rattle.term_pool.specs.Terms.{term_of as pool_term};
 ghost use Rattle.unify_core.specs.Outcome.{IfTrue, IfFalse};
 ghost use Rattle.unify_core.specs.Unified.{CannotUnify, IsEqualled};
-ghost use Rattle.branch_state.specs.States.{first_state, with_heap, with_pair, without_pairs, HasNoModel, IsSound, IsSoundBelow, IsSameBelow, IsUndone, IsCell, AreCells};
-ghost use Rattle.branch_state.specs.Steps.{IsBuilt, AreTouchesBelow, posted_with};
+ghost use Rattle.branch_state.specs.States.{first_state, with_heap, with_pair, HasNoModel, IsSound, IsSoundBelow, IsSameBelow, IsUndone, IsCell};
+ghost use Rattle.branch_state.specs.Steps.{AreTouchesBelow, AreTouchesOf, posted_with};
 ghost use Rattle.branch_state.specs.Compounds.{IsMade};
 ghost use Rattle.branch_state.specs.Constraints.{Constrains};
-ghost use Rattle.branch_state.specs.Ranges.{IsFull, Posts};
 ghost use Rattle.branch_state.specs.Showing.{IsShown};
 ghost use Rattle.branch_state.specs.CellPosts.{PostsCells};
 ghost use Rattle.range_code.specs.Slots.{slots_of};
@@ -21,22 +17,20 @@ use crate::cells::prepare_cells;
 use crate::codes::{exact_code, know_code, same_code};
 use crate::constraints::{count_variables, expand_goal, fault_of, prepare_row};
 use crate::heap_facts::know;
-use crate::look::{find_cells_offence, find_offence, look_cell, target_of};
-use crate::naming::prepare;
+use crate::look::{find_cells_offence, look_cell};
 use crate::posting::{post_all, post_prepared, post_rows};
 use crate::shown::show_cells;
 use crate::step::{Step, step_of};
 use fd_language::NoMemory;
 use fd_model::kinds::ConstraintKind;
 use heap_cells::{Cell, Heap};
-use heap_terms::build;
 use machine_events::Shown;
 use propagate_queue::{Agenda, Store};
 use range_code::{Activations, RangeCode};
 use std::alloc::Global;
 use std::marker::Model;
 use std::rc::Rc;
-use term_pool::{AtomId, Pool, TermId};
+use term_pool::{AtomId, Pool};
 use unify_core::{Touch, unify_into};
 
 /// A heap and a store, as a list of pairs of which the first is the current one.
@@ -96,6 +90,7 @@ impl<A: Agenda + Drop> BranchState<A> {
     }
 
     /// The heaps. No memory.
+    #[inline]
     pub fn heap(&self) -> &Heap
         ensures { result.now ≡ self.now.heaps }
     {
@@ -103,6 +98,7 @@ impl<A: Agenda + Drop> BranchState<A> {
     }
 
     /// The store. No memory.
+    #[inline]
     pub fn store(&self) -> &Store<A>
         ensures { result.now ≡ self.now.levels }
     {
@@ -110,6 +106,7 @@ impl<A: Agenda + Drop> BranchState<A> {
     }
 
     /// A new variable of the heap, which is open. After an error the branch isn't used any more.
+    #[inline]
     pub fn new_var(&mut self) -> Result<Cell, NoMemory>
         requires sound { IsSound self.old }
         ensures id { IfOk result (λ c. c ≡ cell.Ref (length self.old.heaps.now.slots)) }
@@ -120,30 +117,8 @@ impl<A: Agenda + Drop> BranchState<A> {
         self.heap.new_var()
     }
 
-    /// Builds a term of the pool. Its variables are the cells of `env`, by their numbers, and one that has none there gets a new
-    /// variable of the heap. After an error the branch isn't used any more.
-    pub fn build(
-        &mut self,
-        pool: &Pool,
-        t: TermId,
-        env: &mut [Option<Cell>],
-    ) -> Result<Cell, NoMemory>
-        requires sound { IsSound self.old }
-        requires atoms { length pool.now.names ≡ self.old.atoms }
-        requires own { t.number < length pool.now.entries }
-        requires vars { TermBelow (length env.old) (pool_term pool.now t) }
-        requires cells { AreCells self.old env.old }
-        ensures built { IfOk result (IsBuilt pool.now.names self.old self.new env.old env.new
-            (pool_term pool.now t)) }
-        ensures heap { OnOk result (self.new ≡ with_heap self.old self.new.heaps.now) }
-        ensures sound { OnOk result (IsSound self.new) }
-    {
-        let cell = build(&mut self.heap, self.alloc, pool, t, env)?;
-        know(&self.heap);
-        Ok(cell)
-    }
-
     /// A new compound term of cells of the branch. After an error the branch isn't used any more.
+    #[inline]
     pub fn compound(&mut self, f: AtomId, args: &[Cell]) -> Result<Cell, NoMemory>
         requires sound { IsSound self.old }
         requires name { f.number < self.old.atoms }
@@ -176,19 +151,9 @@ impl<A: Agenda + Drop> BranchState<A> {
         self.store.pop_mark();
     }
 
-    /// Takes away the `n` pairs directly below the current one. The last one stays. No memory.
-    pub fn drop_marks(&mut self, n: usize)
-        requires sound { IsSound self.old }
-        requires marked { n < length self.old.heaps.below }
-        ensures dropped { self.new ≡ without_pairs n self.old }
-        ensures sound { IsSound self.new }
-    {
-        self.heap.drop_marks(n);
-        self.store.drop_marks(n);
-    }
-
     /// Makes two cells equal, and puts what the store is to be told behind `touches`. `false` comes exactly where they can't be equal;
     /// then the current pair is to be given up by `undo`. After an error neither branch nor `touches` is used any more.
+    #[inline]
     pub fn unify(&mut self, a: Cell, b: Cell, touches: &mut Vec<Touch>) -> Result<bool, NoMemory>
         requires sound { IsSound self.old }
         requires own_a { IsCell self.old a }
@@ -196,8 +161,8 @@ impl<A: Agenda + Drop> BranchState<A> {
         ensures equal { IfTrue result (IsEqualled self.old.heaps.now a b self.new.heaps.now
             touches.old.items touches.new.items) }
         ensures unequal { IfFalse result (CannotUnify self.old.heaps.now a b) }
-        ensures touches { AreTouchesBelow (length self.old.levels.current.sets) touches.old.items
-            → IfTrue result (AreTouchesBelow (length self.new.levels.current.sets) touches.new.items) }
+        ensures touches { AreTouchesOf self.old touches.old.items
+            → IfTrue result (AreTouchesOf self.new touches.new.items) }
         ensures heap { self.new ≡ with_heap self.old self.new.heaps.now }
         ensures sound { IfTrue result (IsSound self.new) }
         ensures below { IfFalse result (IsSoundBelow self.new) }
@@ -208,6 +173,7 @@ impl<A: Agenda + Drop> BranchState<A> {
     /// Tells the store of touches: the ranges that say so are posted behind the others. `false` comes exactly where all have no model;
     /// then the current pair is to be given up by `undo`. Where there are no touches nothing is done. After an error the branch isn't used
     /// any more.
+    #[inline]
     pub fn post_touches(&mut self, touches: &[Touch]) -> Result<bool, NoMemory>
         requires sound { IsSound self.old }
         requires touches { AreTouchesBelow (length self.old.levels.current.sets) touches.now }
@@ -230,50 +196,6 @@ impl<A: Agenda + Drop> BranchState<A> {
             &self.same,
             touches,
         )
-    }
-
-    /// Posts `T in R`, where `code` is the code of the range, and each variable of the clause has its cell in `env`. After a failure the
-    /// current pair is to be given up by `undo`; after a fault the branch is as it was. After an error the branch isn't used any more.
-    pub fn post_range(
-        &mut self,
-        pool: &Pool,
-        target: TermId,
-        code: &Rc<RangeCode>,
-        env: &[Option<Cell>],
-    ) -> Result<Step, NoMemory>
-        requires sound { IsSound self.old }
-        requires own { target.number < length pool.now.entries }
-        requires vars { TermBelow (length env.now) (pool_term pool.now target) }
-        requires range { RangeBelow (length env.now) code.now.value }
-        requires full { IsFull env.now }
-        requires cells { AreCells self.old env.now }
-        ensures step { IfOk result (Posts pool.now.names self.old env.now
-            (pool_term pool.now target) code.now.value self.new) }
-        ensures same { OnOk result (IsSameBelow self.old self.new) }
-    {
-        know_code(code);
-        let target = target_of(&self.heap, &self.store, pool, target, env);
-        let offence = find_offence(&self.heap, &self.store, env, code, target);
-        if let Some(fault) = offence {
-            return Ok(Step::Fault(fault));
-        }
-        let prepared = prepare(
-            self.alloc,
-            &mut self.heap,
-            &mut self.store,
-            env,
-            code,
-            target,
-        )?;
-        let kept = post_prepared(
-            self.alloc,
-            &mut self.store,
-            &mut self.activations,
-            (&self.exact, &self.same),
-            code,
-            prepared,
-        )?;
-        Ok(step_of(kept))
     }
 
     /// Posts `T in R` on the cell of its target and those of the range's slots, where `code` is the code of the range. After a failure the

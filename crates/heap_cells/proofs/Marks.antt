@@ -18,9 +18,6 @@ pub map_same : {X Y : Type 0} (P : X → Type 0) (f g : X → Y) → ((x : X) �
 map_same P f g e [] h = refl
 map_same P f g e (x ∷ xs) h = let a = e x (head_of P x xs h) in let b = map_same P f g e xs (tail_of P x xs h) in cc
 
-pub all_by : {X : Type 0} (P Q R : X → Type 0) → ((x : X) → P x → Q x → R x) → (xs : List X) → All P xs → All Q xs → All R xs
-all_by P Q R f xs p q = λ k d l. f (get_or xs k d) (p k d l) (q k d l)
-
 -- marks
 pub up_to_itself : (n : Mark) → IsUpTo n n
 up_to_itself n = record { variables = omega arith; args = omega arith; structures = omega arith; trail = omega arith }

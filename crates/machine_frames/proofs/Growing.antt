@@ -1,16 +1,11 @@
 -- Heaps that grow while terms are built, and heaps whose variables become variables of the store.
-use Rattle.std.proofs.Common.{◌≡◌, ◌≢◌, ℕ, ◌<◌, List, [], ◌∷◌, length, Option, Some, None, refl, ap, sym, ◌∙◌, inl, inr, arith, length-append, length-set}
-use Rattle.std.specs.Prelude.{All}
+use Rattle.std.proofs.Common.{◌≡◌, ◌≢◌, ℕ, ◌<◌, List, [], ◌∷◌, length, Some, None, refl, ap, sym, ◌∙◌, inl, inr, arith, length-append, length-set}
 use Rattle.std.proofs.lemmas.Bool.{cases_eq}
-use Rattle.fd_language.specs.Term.{Terms, no_terms, term, apply}
 use Rattle.heap_cells.specs.declared.Cell.{Cell}
-use Rattle.heap_cells.specs.Cells.{free, linked, Compound, Cells, slot_at, IsOf, with_slot, with_new_slot, with_compound}
-use Rattle.heap_cells.specs.Terms.{Naming}
+use Rattle.heap_cells.specs.Cells.{free, linked, Cells, slot_at, IsOf, with_slot, with_new_slot}
 use Rattle.heap_cells.specs.Valid.{IsHeap}
 use Rattle.heap_cells.proofs.Binding.{slot_there, slot_elsewhere, of_same}
-use Rattle.heap_cells.proofs.Growing.{new_slot_at, var_kept, struct_kept, link_valid, link_kept}
-use Rattle.machine_relation.proofs.PostRenaming.{functions}
-use Rattle.machine_frames.specs.Environments.{cell_at, cell_look, env_look, AreAt, OwnEnv}
+use Rattle.heap_cells.proofs.Growing.{new_slot_at, var_kept, link_valid, link_kept}
 use Rattle.machine_frames.specs.Frames.{link_of, link_in, IsGrown}
 use Rattle.machine_frames.proofs.Continuing.{of_grown}
 use Rattle.machine_frames.specs.Posting.{IsLinkedMore}
@@ -34,32 +29,6 @@ grown_var h valid = record {
   parts = omega arith;
   terms = var_kept h valid;
 }
-
--- a new compound term of cells that are there
-pub grown_struct : (h : Cells) → IsHeap h → (k : Compound) → All (IsOf h) k.args → IsGrown h (with_compound h k)
-grown_struct h valid k own = record {
-  slots = λ i. refl;
-  longer = omega arith;
-  parts = omega (arith, length-append h.compounds (k ∷ []));
-  terms = struct_kept h valid k own;
-}
-
--- the terms of an environment stay
-pub env_grown : (name : Naming) (h now : Cells) → IsGrown h now → (env : List (Option Cell)) → OwnEnv h env → (x : ℕ) → env_look name now env x ≡ env_look name h env x
-env_grown name h now g env own x = by_cell (cell_at env x) refl where
-  by_cell : (o : Option Cell) → cell_at env x ≡ o → cell_look name now x (cell_at env x) ≡ cell_look name h x (cell_at env x)
-  by_cell None e = ap (cell_look name now x) e ∙ sym (ap (cell_look name h x) e)
-  by_cell (Some d) e = ap (cell_look name now x) e ∙ g.terms name d (own x d e) ∙ sym (ap (cell_look name h x) e)
-
--- and so do the arguments that were built before
-pub at_grown : (name : Naming) (h now : Cells) → IsGrown h now → (env : List (Option Cell)) → OwnEnv h env → (cs : List Cell) (ts : Terms) → AreAt name h (env_look name h env) cs ts → AreAt name now (env_look name now env) cs ts
-at_grown name h now g env own [] no_terms a = tt
-at_grown name h now g env own [] (term t ts) a = a
-at_grown name h now g env own (c ∷ cs) no_terms a = a
-at_grown name h now g env own (c ∷ cs) (term t ts) a = (
-  (of_grown h now g c a.0.0, ap (λ s. apply s t) (functions (env_grown name h now g env own)) ∙ a.0.1 ∙ sym (g.terms name c a.0.0)),
-  at_grown name h now g env own cs ts a.1,
-)
 
 some_same : (k j : ℕ) → Some k ≡ Some j → k ≡ j
 some_same k j e = cc

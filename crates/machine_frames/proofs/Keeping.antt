@@ -29,13 +29,6 @@ module _ (M : ℕ) (h : Cells) (qs : List Indexical) (es : List Equation) (ps : 
   pub kept_no_model : ((T : Family) → IsModel M [] qs T → ⊥) → (S : Family) → IsModel M es ps S → ⊥
   kept_no_model none S m = let t = s.stored.up S m in none t.0 t.1
 
-  -- another look that agrees on the known variables
-  pub kept_other : (look' : Substitution) → ((x : ℕ) → P x → look x ≡ look' x) → IsKept M h qs es ps P look'
-  kept_other look' same = record {
-    slot = s.slot;
-    stored = other M es ps P (length h.slots) look (link_in h) s.slot qs s.stored look' (length h.slots) same (λ x p. subst (Of (λ c. c < length h.slots)) (same x p) (s.stored.heap.cells x p));
-  }
-
   -- the heap grows
   pub kept_grown : (now : Cells) → IsGrown h now → IsKept M now qs es ps P look
   kept_grown now g =

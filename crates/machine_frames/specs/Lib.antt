@@ -2,8 +2,6 @@ pub mod Frames
 pub mod Environments
 pub mod Walking
 pub mod Naming
-pub mod Matching
-pub mod Arena
 pub mod Reading
 pub mod Posting
 pub mod CellRanges

@@ -6,7 +6,7 @@ use Rattle.fd_model.specs.declared.kinds.Order.{Order}
 use Rattle.fd_model.specs.declared.kinds.QueryFault.{QueryFault}
 use Rattle.fd_language.specs.Term.{Term, Substitution, apply}
 use Rattle.fd_language.specs.Family.{Family}
-use Rattle.fd_language.specs.Range.{Range, Indexical}
+use Rattle.fd_language.specs.Range.{Indexical}
 use Rattle.fd_model.specs.Builtins.{Finding, found}
 use Rattle.fd_model.specs.Constraining.{arguments, expand}
 use Rattle.fd_model.specs.Labelling.{values_by}
@@ -16,7 +16,6 @@ use Rattle.heap_cells.specs.Cells.{Cells}
 use Rattle.heap_cells.specs.Terms.{Naming}
 use Rattle.machine_relation.specs.Held.{value_at, fixed_frame}
 use Rattle.machine_relation.specs.Labelling.{Labelled, labelled}
-use Rattle.machine_relation.specs.Rows.{post_row}
 use Rattle.machine_relation.specs.Shown.{cell_set}
 use Rattle.machine_frames.specs.Environments.{env_look}
 use Rattle.machine_frames.specs.Frames.{link_in, frame_of}
@@ -28,10 +27,6 @@ read_term h G t = apply (λ c. value_at (link_in h c) G c) t
 -- each variable of the clause as it is read by the store's sets: a variable of the store whose set has one value is that integer
 abbrev pub seen_env : Naming → Cells → List (Option Cell) → Family → Substitution
 seen_env name h env G x = apply (λ c. value_at (link_in h c) G c) (env_look name h env x)
-
--- The row of the goal with the clause's variables. The fresh ones come behind these.
-abbrev pub env_row : Naming → Cells → List (Option Cell) → Family → Term → Range → Result Expansion QueryFault
-env_row name h env G t r = post_row (seen_env name h env G) t r (length env)
 
 -- the row of a constraint on the term x of the heap
 abbrev pub heap_row : Cells → Family → ConstraintKind → Term → Result Expansion QueryFault

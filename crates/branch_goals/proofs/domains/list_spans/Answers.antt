@@ -1,9 +1,9 @@
-use Rattle.std.proofs.Common.{◌≡◌, ◌∷◌, [], ◌++◌, List, FitsSigned, ℤ, to_z, of_z, subst, rules, w64}
+use Rattle.std.proofs.Common.{◌≡◌, ◌∷◌, [], ◌++◌, FitsSigned, ℤ, to_z, of_z, subst, rules, w64}
 use Rattle.std.proofs.lemmas.Int.{to_z-of_z}
 use Rattle.term_pool.specs.declared.TheConstants.{SPAN}
 use Rattle.heap_cells.specs.declared.Cell.TheVariants as cell
 use Rattle.branch_state.specs.Compounds.{IsMade}
-use Rattle.branch_goals.proofs.DomainLists.{listing_start, listing_more, listing_end}
+use Rattle.branch_goals.proofs.DomainLists.{listing_start, listing_more}
 use Rattle.branch_goals.proofs.domains.list_spans.Goals as goal
 
 pub loop-low-init : goal.loop-low-init

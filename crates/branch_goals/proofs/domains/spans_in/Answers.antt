@@ -1,6 +1,5 @@
-use Rattle.std.proofs.Common.{◌≡◌, ◌∙◌, ◌≤◌, length, map, take, ap, sym, arith, subst, List, ℕ, rules}
+use Rattle.std.proofs.Common.{◌≡◌, ◌∙◌, ◌≤◌, map, take, ap, ℕ, rules}
 use Rattle.std.proofs.lemmas.List.{take_all}
-use Rattle.branch_goals.specs.Domains.{AreSpansOf}
 use Rattle.branch_goals.proofs.DomainLists.{spans_are, whole_numbers}
 use Rattle.branch_goals.proofs.domains.spans_in.Goals as goal
 

@@ -1,4 +1,4 @@
-use Rattle.std.proofs.Common.{Result, Ok, Err, IfOk, ap, sym, subst}
+use Rattle.std.proofs.Common.{Result, Ok, Err, IfOk, sym, subst}
 use Rattle.branch_goals.specs.Domains.{AreSpans, AreSpansOf}
 use Rattle.branch_goals.specs.Findings.{the_numbers}
 use Rattle.branch_goals.proofs.DomainLists.{those_spans}
