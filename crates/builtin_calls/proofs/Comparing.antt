@@ -19,7 +19,7 @@ use Rattle.builtin_calls.specs.declared.identity.Pair.{Pair}
 use Rattle.builtin_calls.specs.Reading.{family_of, read_term, seen_term}
 use Rattle.builtin_calls.specs.Shown.{shown, IsHeld}
 use Rattle.builtin_calls.specs.Waiting.{unnamed}
-use Rattle.builtin_calls.specs.Identical.{TellsIdentical, TellsShown, IsFlat, IsOwnPair, IsEqualPair, weight, paired, IsReduced, IsSettled, TellsPair}
+use Rattle.builtin_calls.specs.Identical.{TellsIdentical, TellsShown, IsFlat, IsOwnPair, IsEqualPair, weight, paired, IsReduced, IsSettled}
 
 -- cells with one term have one term as the sets show it
 pub same_seen : (h : Cells) (sets : List (List ℕ)) (c d : Cell) → Same h c d → (name : Naming) → seen_term name h sets c ≡ seen_term name h sets d
@@ -170,7 +170,7 @@ module _ (h : Cells) (sets : List (List ℕ)) where
       (settled_push (old ++ reverse (paired (drop j ls) (drop j rs))) new (record { left = get_or ls i d; right = get_or rs i d }) (record { left = x; right = y }) s
       (λ name. same_seen h sets (get_or ls i d) x a name) (λ name. same_seen h sets (get_or rs i d) y b name) (o, k))
 
-  pub reduced_settled : (old mid new : List Pair) → IsReduced h sets old mid → IsSettled h sets mid new → IsReduced h sets old new
+  reduced_settled : (old mid new : List Pair) → IsReduced h sets old mid → IsSettled h sets mid new → IsReduced h sets old new
   reduced_settled old mid new r s = record {
     forth = λ name a. s.forth name (r.forth name a);
     back = λ name a. r.back name (s.back name a);
@@ -179,7 +179,7 @@ module _ (h : Cells) (sets : List (List ℕ)) where
   }
 
   -- two compound terms with one name and as many arguments
-  pub reduced_parts : (ps new : List Pair) (p : Pair) (f : AtomId) (cs ds : List Cell) → ((name : Naming) → seen_term name h sets p.left ≡ Comp (name f) (terms_by (seen_term name h sets) cs)) → ((name : Naming) → seen_term name h sets p.right ≡ Comp (name f) (terms_by (seen_term name h sets) ds))
+  reduced_parts : (ps new : List Pair) (p : Pair) (f : AtomId) (cs ds : List Cell) → ((name : Naming) → seen_term name h sets p.left ≡ Comp (name f) (terms_by (seen_term name h sets) cs)) → ((name : Naming) → seen_term name h sets p.right ≡ Comp (name f) (terms_by (seen_term name h sets) ds))
       → All (IsOf h) cs → All (IsOf h) ds → length cs ≡ length ds → new ≡ ps ++ reverse (paired cs ds) → IsReduced h sets (ps ++ p ∷ []) new
   reduced_parts ps new p f cs ds a b x y l e = subst (λ qs. IsReduced h sets (ps ++ p ∷ []) qs) (sym e) record {
     forth = λ name g.
@@ -202,6 +202,13 @@ module _ (h : Cells) (sets : List (List ℕ)) where
         omega arith;
   }
 
+  -- the same, where the pairs of their arguments are settled
+  pub parts_settled : (ps new : List Pair) (p : Pair) (f g : AtomId) (cs ds : List Cell) → f ≡ g → ((name : Naming) → seen_term name h sets p.left ≡ Comp (name f) (terms_by (seen_term name h sets) cs)) → ((name : Naming) → seen_term name h sets p.right ≡ Comp (name g) (terms_by (seen_term name h sets) ds))
+      → All (IsOf h) cs → All (IsOf h) ds → length cs ≡ length ds → IsSettled h sets (ps ++ reverse (paired cs ds)) new → IsReduced h sets (ps ++ p ∷ []) new
+  parts_settled ps new p f g cs ds e a b x y l s =
+      reduced_settled (ps ++ p ∷ []) (ps ++ reverse (paired cs ds)) new
+      (reduced_parts ps (ps ++ reverse (paired cs ds)) p f cs ds a (λ name. b name ∙ ap (λ i. Comp (name i) (terms_by (seen_term name h sets) ds)) (sym e)) x y l refl) s
+
   -- two compound terms with other names, or with other numbers of arguments
   pub parts_apart : (p : Pair) (f g : AtomId) (cs ds : List Cell) → ((name : Naming) → seen_term name h sets p.left ≡ Comp (name f) (terms_by (seen_term name h sets) cs)) → ((name : Naming) → seen_term name h sets p.right ≡ Comp (name g) (terms_by (seen_term name h sets) ds))
       → (f ≡ g → length cs ≡ length ds → ⊥) → TellsIdentical h sets p.left p.right false
@@ -222,9 +229,13 @@ module _ (h : Cells) (sets : List (List ℕ)) where
   else_apart p f args y a b n name o e = compound_apart name f args y (seen_term name h sets) n (sym (a name) ∙ e ∙ b name)
 
   -- a term that is no compound term, and another one
-  pub flat_told : (ps : List Pair) (p : Pair) (x y : Seen) (b : Bool) → ((name : Naming) → seen_term name h sets p.left ≡ shown name (seen_term name h sets) x) → ((name : Naming) → seen_term name h sets p.right ≡ shown name (seen_term name h sets) y) → TellsShown x y b → TellsPair h sets ps p ps b
-  flat_told ps p x y true l r t = reduced_same ps p (λ name. l name ∙ t name (seen_term name h sets) ∙ sym (r name))
-  flat_told ps p x y false l r t = λ name o e. t name o (seen_term name h sets) (sym (l name) ∙ e ∙ r name)
+  pub flat_alike : (ps : List Pair) (p : Pair) (x y : Seen) (b : Bool) → b ≡ true → ((name : Naming) → seen_term name h sets p.left ≡ shown name (seen_term name h sets) x) → ((name : Naming) → seen_term name h sets p.right ≡ shown name (seen_term name h sets) y) → TellsShown x y b → IsReduced h sets (ps ++ p ∷ []) ps
+  flat_alike ps p x y true e l r t = reduced_same ps p (λ name. l name ∙ t name (seen_term name h sets) ∙ sym (r name))
+  flat_alike ps p x y false e l r t = absurd (false≢true e)
+
+  pub flat_apart : (p : Pair) (x y : Seen) (b : Bool) → b ≡ false → ((name : Naming) → seen_term name h sets p.left ≡ shown name (seen_term name h sets) x) → ((name : Naming) → seen_term name h sets p.right ≡ shown name (seen_term name h sets) y) → TellsShown x y b → TellsIdentical h sets p.left p.right false
+  flat_apart p x y true q l r t = absurd (false≢true (sym q))
+  flat_apart p x y false q l r t = λ name o e. t name o (seen_term name h sets) (sym (l name) ∙ e ∙ r name)
 
   -- so far
   pub record IsComparing (a b : Cell) (work : List Pair) : Type 0 where
@@ -268,12 +279,3 @@ module _ (h : Cells) (sets : List (List ℕ)) where
 -- the arguments of a compound term that is seen are of the heap
 pub held_parts : (h : Cells) → IsHeap h → (f : AtomId) (args : Bor (List Cell)) → IsHeld h (seen.Struct f args) → All (IsOf h) args.now
 held_parts h v f args k = subst (λ (b : Compound). All (IsOf h) b.args) k.2 (v.parts k.0)
-
--- what a step tells, by its answer
-pub told_true : (h : Cells) (sets : List (List ℕ)) (ps new : List Pair) (p : Pair) (b : Bool) → b ≡ true → TellsPair h sets ps p new b → IsReduced h sets (ps ++ p ∷ []) new
-told_true h sets ps new p true e t = t
-told_true h sets ps new p false e t = absurd (false≢true e)
-
-pub told_false : (h : Cells) (sets : List (List ℕ)) (ps new : List Pair) (p : Pair) (b : Bool) → b ≡ false → TellsPair h sets ps p new b → TellsIdentical h sets p.left p.right false
-told_false h sets ps new p true e t = absurd (false≢true (sym e))
-told_false h sets ps new p false e t = t

@@ -8,6 +8,8 @@ use Rattle.heap_cells.specs.declared.Seen.TheVariants as seen
 use Rattle.heap_cells.specs.Cells.{Cells, IsOf}
 use Rattle.heap_cells.specs.Terms.{Naming, IsOneToOne}
 use Rattle.builtin_calls.specs.declared.identity.Pair.{Pair}
+use Rattle.builtin_calls.specs.declared.identity.Told.{Told}
+use Rattle.builtin_calls.specs.declared.identity.Told.TheVariants.{Apart, Alike, Next}
 use Rattle.builtin_calls.specs.Reading.{seen_term}
 use Rattle.builtin_calls.specs.Shown.{shown}
 use Rattle.builtin_calls.specs.Waiting.{unnamed}
@@ -62,6 +64,7 @@ pub record IsSettled (h : Cells) (sets : List (List ℕ)) (old new : List Pair) 
   pub lighter : weight (seen_term unnamed h sets) new ≤ weight (seen_term unnamed h sets) old
 
 -- the pair's terms are identical if those of the new pairs are, or they are not
-abbrev pub TellsPair : Cells → List (List ℕ) → List Pair → Pair → List Pair → Bool → Type 0
-TellsPair h sets old p new true = IsReduced h sets (old ++ p ∷ []) new
-TellsPair h sets old p new false = TellsIdentical h sets p.left p.right false
+abbrev pub TellsPair : Cells → List (List ℕ) → List Pair → Pair → List Pair → Told → Type 0
+TellsPair h sets old p new Apart = TellsIdentical h sets p.left p.right false
+TellsPair h sets old p new Alike = IsReduced h sets (old ++ p ∷ []) new
+TellsPair h sets old p new (Next q) = IsReduced h sets (old ++ p ∷ []) (new ++ q ∷ [])

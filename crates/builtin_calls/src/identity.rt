@@ -1,6 +1,6 @@
 //! Identity of terms.
 
-ghost use Rattle.std.specs.Prelude.{◌≡◌, ◌++◌, ℕ, List, length, reverse, All, IfOk, OnOk};
+ghost use Rattle.std.specs.Prelude.{◌≡◌, ◌++◌, ℕ, List, length, reverse, option_to_list, All, IfOk, OnOk};
 ghost use Rattle.heap_cells.specs.Cells.{IsOf};
 ghost use Rattle.builtin_calls.specs.Reading.{HasLinksBelow};
 ghost use Rattle.builtin_calls.specs.Identical.{TellsIdentical, TellsShown, TellsPair, IsFlat, IsOwnPair, IsSettled, paired};
@@ -18,31 +18,44 @@ struct Pair {
     right: Cell,
 }
 
-/// Puts the pairs of two lists of cells of one length behind the work, each at the ends of its bindings, so that the first pair is
-/// the next. A pair of one cell is left out. The error is want of memory.
+/// Puts a pair, if there is one, behind the work. The error is want of memory.
+fn put_off(later: Option<Pair>, work: &mut Vec<Pair>) -> Result<(), AllocError>
+    ensures { OnOk result (work.new.items ≡ work.old.items ++ option_to_list later) }
+{
+    if let Some(pair) = later {
+        work.push(pair)?;
+    }
+    Ok(())
+}
+
+/// The first pair of two lists of cells of one length, each at the ends of its bindings; the others go behind the work, so that the
+/// second one is the next there. A pair of one cell is left out. The error is want of memory.
 fn pair_up(
     heap: &Heap,
     left: &[Cell],
     right: &[Cell],
     work: &mut Vec<Pair>,
-) -> Result<(), AllocError>
+) -> Result<Option<Pair>, AllocError>
     requires count { length left.now ≡ length right.now }
     requires own_left { All (IsOf heap.now.now) left.now }
     requires own_right { All (IsOf heap.now.now) right.now }
-    ensures { OnOk result ((sets : List (List ℕ)) → IsSettled heap.now.now sets
-        (work.old.items ++ reverse (paired left.now right.now)) work.new.items) }
+    ensures { IfOk result (λ next. (sets : List (List ℕ)) → IsSettled heap.now.now sets
+        (work.old.items ++ reverse (paired left.now right.now))
+        (work.new.items ++ option_to_list next)) }
 {
+    let mut next = None;
     for i in (0..left.len()).rev() {
         let one = heap.root(left[i]);
         let other = heap.root(right[i]);
         if one != other {
-            work.push(Pair {
+            put_off(next, work)?;
+            next = Some(Pair {
                 left: one,
                 right: other,
-            })?;
+            });
         }
     }
-    Ok(())
+    Ok(next)
 }
 
 /// Whether two terms are identical, of which the left one is no compound term.
@@ -67,8 +80,17 @@ fn is_same_flat(left: Seen<'_>, right: Seen<'_>) -> bool
     }
 }
 
+/// What a comparison of two cells at their tops tells.
+#[derive(Clone, Copy)]
+enum Told {
+    Apart,
+    Alike,
+    /// They are alike where these are, and those behind them.
+    Next(Pair),
+}
+
 /// Compares two cells at their tops, and puts the pairs of their arguments behind the work. The error is want of memory.
-fn step<V: View>(heap: &Heap, view: &V, pair: Pair, work: &mut Vec<Pair>) -> Result<bool, NoMemory>
+fn step<V: View>(heap: &Heap, view: &V, pair: Pair, work: &mut Vec<Pair>) -> Result<Told, NoMemory>
     requires own { IsOwnPair heap.now.now pair }
     requires links { HasLinksBelow (length (V.sets view.now)) heap.now.now }
     ensures { IfOk result (TellsPair heap.now.now (V.sets view.now) work.old.items pair
@@ -78,19 +100,27 @@ fn step<V: View>(heap: &Heap, view: &V, pair: Pair, work: &mut Vec<Pair>) -> Res
         Seen::Struct(f, some) => match look(heap, view, pair.right) {
             Seen::Struct(g, others) => {
                 if f != g || some.len() != others.len() {
-                    return Ok(false);
+                    return Ok(Told::Apart);
                 }
-                pair_up(heap, some, others, work)?;
-                Ok(true)
+                match pair_up(heap, some, others, work)? {
+                    Some(next) => Ok(Told::Next(next)),
+                    None => Ok(Told::Alike),
+                }
             }
-            _ => Ok(false),
+            _ => Ok(Told::Apart),
         },
-        flat => Ok(is_same_flat(flat, look(heap, view, pair.right))),
+        flat => {
+            if is_same_flat(flat, look(heap, view, pair.right)) {
+                Ok(Told::Alike)
+            } else {
+                Ok(Told::Apart)
+            }
+        }
     }
 }
 
 /// Whether the terms of two cells are identical. The cells are of the heap, and the view's sets are those of the heap's variables of
-/// the store. The heap stays as it is. The error is want of memory, and says nothing of the terms.
+/// the store. The heap stays as it is. Lists of constants take no memory. The error is want of memory, and says nothing of the terms.
 pub fn same<V: View>(
     alloc: Global,
     heap: &Heap,
@@ -111,12 +141,13 @@ pub fn same<V: View>(
     let mut work = Vec::new(alloc);
     let mut pair = Pair { left, right };
     'pairs: loop {
-        if !step(heap, view, pair, &mut work)? {
-            return Ok(false);
-        }
-        match work.pop() {
-            Some(next) => pair = next,
-            None => return Ok(true),
+        match step(heap, view, pair, &mut work)? {
+            Told::Apart => return Ok(false),
+            Told::Next(next) => pair = next,
+            Told::Alike => match work.pop() {
+                Some(next) => pair = next,
+                None => return Ok(true),
+            },
         }
     }
 }
