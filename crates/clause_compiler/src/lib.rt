@@ -5,6 +5,7 @@ mod choices;
 mod groups;
 mod keys;
 mod program;
+mod ranges;
 mod sections;
 mod tables;
 

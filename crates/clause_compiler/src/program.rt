@@ -7,7 +7,8 @@ ghost use Rattle.wam_code.specs.Tries.{StandsForProgram};
 
 use crate::choices::{place_choices, put_choices};
 use crate::groups::groups_of;
-use crate::sections::{put_clauses, put_queries, ranges_of};
+use crate::ranges::ranges_of;
+use crate::sections::{put_clauses, put_queries};
 use clause_check::Program;
 use clause_code::predicates_of;
 use fd_language::NoMemory;

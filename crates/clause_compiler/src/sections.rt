@@ -1,4 +1,4 @@
-//! The ranges, the clauses and the queries of a program, each put behind what is there.
+//! The clauses and the queries of a program, each put behind what is there.
 ghost use Rattle.std.specs.Prelude.{◌≡◌, length, map, IfOk};
 ghost use Rattle.clause_check.specs.Programs.{program_in};
 ghost use Rattle.clause_code.specs.Codable.{IsCodable};
@@ -9,23 +9,11 @@ ghost use Rattle.wam_code.specs.Area.{span_of};
 use clause_check::Program;
 use clause_code::{Predicates, compile_clause, compile_query};
 use fd_language::NoMemory;
-use range_code::{RangeCode, compile_range};
+use range_code::RangeCode;
 use std::alloc::Global;
 use std::rc::Rc;
 use term_pool::AtomId;
 use wam_code::{Code, QueryEntry};
-
-/// The ranges of a program, compiled.
-pub(crate) fn ranges_of(alloc: Global, program: &Program) -> Result<Vec<Rc<RangeCode>>, NoMemory>
-    ensures { IfOk result (λ v. map (λ r. r.value) v.items ≡ program.now.ranges) }
-{
-    let mut ranges = Vec::with_capacity(alloc, program.ranges())?;
-    for range in 0..program.ranges() {
-        let code = compile_range(alloc, program.range(range))?;
-        ranges.push(Rc::new(alloc, code)?)?;
-    }
-    Ok(ranges)
-}
 
 /// Puts the clauses behind the code. Gives their places. The error is want of memory.
 pub(crate) fn put_clauses(

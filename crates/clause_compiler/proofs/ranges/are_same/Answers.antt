@@ -1,0 +1,11 @@
+use Rattle.std.proofs.Common.{◌≡◌, ◌∙◌, ap, sym}
+use Rattle.fd_language.specs.Range.{Range}
+use Rattle.fd_language.specs.Flat.{nodes_of, spelled, spelled-nodes}
+use Rattle.clause_compiler.proofs.ranges.are_same.Goals as goal
+
+-- The nodes tell which range it is.
+same_range : (q r : Range) → nodes_of q ≡ nodes_of r → q ≡ r
+same_range q r e = sym (spelled-nodes q) ∙ ap spelled e ∙ spelled-nodes r
+
+pub returns : goal.returns
+returns c = λ t. same_range c.args.a.now c.args.b.now (sym c.nodes.ensures ∙ c.are_same_nodes.ensures.0 t ∙ c.nodes-2.ensures)
