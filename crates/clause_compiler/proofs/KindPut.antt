@@ -1,6 +1,8 @@
 -- The choices of a kind, put behind the segments before them.
 use Rattle.std.proofs.Common.{◌≡◌, ◌⊎◌, ℕ, zero, suc, pos, ◌+◌, ◌<◌, List, [], ◌∷◌, ◌++◌, map, option_map, get_or, Some, length, slice_get, refl, ap, ap₂, sym, ◌∙◌, subst, inl, inr, arith, append_assoc}
+use Rattle.std.specs.List.Sorted.{IsPermutation}
 use Rattle.std.proofs.lemmas.List.{length-append, length-map}
+use Rattle.std.proofs.lemmas.List.Sorted.{IsPermutation-sym}
 use Rattle.std.proofs.lemmas.Option.{slice_get-map, slice_get_within, get_or_from_slice_get}
 use Rattle.clause_check.specs.Programs.{FlatProgram}
 use Rattle.wam_code.specs.declared.instruction.Key.{Key}
@@ -15,7 +17,7 @@ use Rattle.clause_compiler.specs.Keyed.{may_have, key_numbers, AreKeyedBy}
 use Rattle.clause_compiler.specs.Layout.{joined, offset}
 use Rattle.clause_compiler.specs.Sections.{ArePut, IsListIn, its_row}
 use Rattle.clause_compiler.specs.Switching.{Segment, listing, switch, segment_code, code_of, LeadsTo, switch_on, IsTableOf, IsKeySwitch, SwitchesTo, KindAt, IsBehind, AreKeysAmong, TablesGrow, PutsKind}
-use Rattle.clause_compiler.proofs.Lists.{get_there, split_get, get_left, get_right, got_map}
+use Rattle.clause_compiler.proofs.Lists.{get_there, split_get, get_left, get_right, got_map, moved_get}
 use Rattle.clause_compiler.proofs.Sifting.{sifted_one, among_sifted}
 
 -- ---- segments behind others
@@ -129,8 +131,8 @@ same_some o k x y e f = let g : Some x ≡ Some y = sym e ∙ f in cc
 abbrev row_by : Key → ℕ → Key × ℕ
 row_by x a = (x, a)
 
-module _ (p : FlatProgram) (k : Kind) (ns : List ℕ) (looked : List Label) (keys : List Key) (groups : List (List ℕ)) (w : AreKeyedBy p (kind_numbers p k ns) looked keys groups) (old mid new : List Code) (before after : List Table) (rows : Table) (t : ℕ) (number : t ≡ length before)
-    (one : mid ≡ old ++ switch_on k t ∷ []) (put : ArePut (its_row keys) (IsListIn groups) (length keys) mid new rows) (tables : after ≡ before ++ rows ∷ []) where
+module _ (p : FlatProgram) (k : Kind) (ns : List ℕ) (looked : List Label) (keys : List Key) (groups : List (List ℕ)) (w : AreKeyedBy p (kind_numbers p k ns) looked keys groups) (old mid new : List Code) (before after : List Table) (rows sorted : Table) (moved : IsPermutation rows sorted) (t : ℕ) (number : t ≡ length before)
+    (one : mid ≡ old ++ switch_on k t ∷ []) (put : ArePut (its_row keys) (IsListIn groups) (length keys) mid new rows) (tables : after ≡ before ++ sorted ∷ []) where
   abbrev more : List Segment
   more = switch (switch_on k t) ∷ map listing groups
 
@@ -167,14 +169,19 @@ module _ (p : FlatProgram) (k : Kind) (ns : List ℕ) (looked : List Label) (key
       let piece = get_there put.pieces r (omega (arith, b, m)) in
       (length mid + offset put.pieces r, put.each r piece.0 piece.1 ∙ ap (λ a. Some (row_by a (length mid + offset put.pieces r))) (get_or_from_slice_get keys r x (key.Int (pos 0)) e))
 
+  -- a row's number before the rows were sorted
+  row_before : (r : ℕ) (x : Key) (to : ℕ) → slice_get sorted r ≡ Some (x, to) → (m : ℕ) × (slice_get rows m ≡ Some (x, to))
+  row_before r x to = moved_get rows sorted moved r (x, to)
+
   -- The table has keys of these clauses alone.
   pub table_grows : TablesGrow p ns before after
-  table_grows = (rows ∷ [], tables, among)
+  table_grows = (sorted ∷ [], tables, among)
     where
-      among : AreKeysAmong p ns (rows ∷ [])
+      among : AreKeysAmong p ns (sorted ∷ [])
       among zero table e r x to f =
-          let s : rows ≡ table = cc in
-          let g = w.from r x (row_is r x to (subst (λ l. slice_get l r ≡ Some (x, to)) (sym s) f)).0 in
+          let s : sorted ≡ table = cc in
+          let m = row_before r x to (subst (λ l. slice_get l r ≡ Some (x, to)) (sym s) f) in
+          let g = w.from m.0 x (row_is m.0 x to m.1).0 in
           let h = sifted_one (λ n. may_be k (key_of p n)) ns g.0 g.1 g.2 in
           (h.0, g.1, h.1, g.3)
       among (suc i) table e r x to f = absurd cc
@@ -189,25 +196,30 @@ module _ (p : FlatProgram) (k : Kind) (ns : List ℕ) (looked : List Label) (key
       mid_long : length mid ≡ length old + 1
       mid_long = ap length one ∙ length-append old (switch_on k t ∷ [])
 
-      is_table : IsTableOf p rows (kind_numbers p k ns) at (ss ++ more) (length ss + 0)
+      is_table : IsTableOf p sorted (kind_numbers p k ns) at (ss ++ more) (length ss + 0)
       is_table = record {
         rows = λ r x to e.
-            let y = row_is r x to e in
+            let was = row_before r x to e in
+            let y = row_is was.0 x to was.1 in
             let place = y.1 in
-            let o = offset_behind ss more (suc r) in
+            let o = offset_behind ss more (suc was.0) in
             let m = mid_long in
-            let list : slice_get groups r ≡ Some (key_numbers p x (kind_numbers p k ns)) = ap (λ l. slice_get l r) w.lists ∙ slice_get-map (λ z. key_numbers p z (kind_numbers p k ns)) keys r ∙ ap (λ o. option_map (λ z. key_numbers p z (kind_numbers p k ns)) o) y.0 in
-            (length ss + suc r, (let z : length ss + 0 < length ss + suc r = omega arith in z), omega (arith, place, o, m, here), get_right ss more (suc r) ∙ slice_get-map listing groups r ∙ ap (λ o. option_map listing o) list);
-        own = λ r x to e. w.from r x (row_is r x to e).0;
-        each = λ i n e. let g = w.each i n e in let y = row_there g.0 g.1 g.2 in (g.0, g.1, y.0, y.1, g.3);
+            let list : slice_get groups was.0 ≡ Some (key_numbers p x (kind_numbers p k ns)) = ap (λ l. slice_get l was.0) w.lists ∙ slice_get-map (λ z. key_numbers p z (kind_numbers p k ns)) keys was.0 ∙ ap (λ o. option_map (λ z. key_numbers p z (kind_numbers p k ns)) o) y.0 in
+            (length ss + suc was.0, (let z : length ss + 0 < length ss + suc was.0 = omega arith in z), omega (arith, place, o, m, here), get_right ss more (suc was.0) ∙ slice_get-map listing groups was.0 ∙ ap (λ o. option_map listing o) list);
+        own = λ r x to e. let was = row_before r x to e in w.from was.0 x (row_is was.0 x to was.1).0;
+        each = λ i n e.
+            let g = w.each i n e in
+            let y = row_there g.0 g.1 g.2 in
+            let now = moved_get sorted rows (IsPermutation-sym rows sorted moved) g.0 (g.1, y.0) y.1 in
+            (now.0, g.1, y.0, now.1, g.3);
       }
 
       key_switch : IsKeySwitch p after k ns at (ss ++ more) (length ss + 0) (switch_on k t)
       key_switch = record {
         number = t;
-        table = rows;
+        table = sorted;
         code = refl;
-        there = ap (λ l. slice_get l t) tables ∙ ap (slice_get (before ++ rows ∷ [])) (let e : t ≡ length before + 0 = omega (arith, number) in e) ∙ get_right before (rows ∷ []) 0;
+        there = ap (λ l. slice_get l t) tables ∙ ap (slice_get (before ++ sorted ∷ [])) (let e : t ≡ length before + 0 = omega (arith, number) in e) ∙ get_right before (sorted ∷ []) 0;
         keys = is_table;
       }
 

@@ -1,7 +1,9 @@
 -- Lists, one behind the other.
 use Rattle.std.proofs.Common.{◌≡◌, ◌⊎◌, ℕ, zero, suc, ◌+◌, ◌<◌, ◌≤◌, List, [], ◌∷◌, ◌++◌, map, Some, length, slice_get, refl, ap, sym, ◌∙◌, subst, inl, inr, arith}
 use Rattle.std.proofs.lemmas.List.{length-append}
-use Rattle.std.proofs.lemmas.Option.{slice_get_within}
+use Rattle.std.specs.List.Sorted.{IsPermutation}
+use Rattle.std.proofs.lemmas.List.Sorted.{Contains-permutation, IsPermutation-sym}
+use Rattle.std.proofs.lemmas.Option.{slice_get_within, get_or_from_slice_get}
 use Rattle.clause_compiler.specs.Layout.{joined, offset}
 
 module _ {X : Type 0} where
@@ -28,6 +30,13 @@ module _ {X : Type 0} where
       by : (slice_get xs n ≡ Some x) ⊎ ((m : ℕ) × (n ≡ length xs + m) × (slice_get ys m ≡ Some x)) → (slice_get xs n ≡ Some x) ⊎ ((m : ℕ) × (suc n ≡ suc (length xs) + m) × (slice_get ys m ≡ Some x))
       by (inl f) = inl f
       by (inr f) = inr (f.0, (let e = f.1 in omega (arith, e)), f.2)
+
+  -- An element of a list is one of the same list in another order.
+  pub moved_get : (xs ys : List X) → IsPermutation xs ys → (n : ℕ) (x : X) → slice_get ys n ≡ Some x → (m : ℕ) × (slice_get xs m ≡ Some x)
+  moved_get xs ys moved n x e =
+      let c = Contains-permutation ys xs x (IsPermutation-sym xs ys moved) (n, slice_get_within ys n x e, get_or_from_slice_get ys n x x e) in
+      let g = get_there xs c.0 c.1 in
+      (c.0, g.1 ∙ ap (λ y. Some y) (sym (get_or_from_slice_get xs c.0 g.0 x g.1) ∙ c.2))
 
   -- An element of one of the lists is one of them all.
   pub get_joined : (xss : List (List X)) (k n : ℕ) (xs : List X) (x : X) → slice_get xss k ≡ Some xs → slice_get xs n ≡ Some x → slice_get (joined xss) (offset xss k + n) ≡ Some x

@@ -12,7 +12,7 @@ ghost use Rattle.clause_compiler.specs.Parts.{tables_in};
 ghost use Rattle.clause_compiler.specs.Switching.{AreChoicesBy, AreKeysIn, IsSwitchCode, PutsKind, switch_on, TablesGrow};
 
 use crate::keys::{Kind, clauses_of_kind, has_key};
-use crate::tables::{Keyed, keyed_of};
+use crate::tables::{Keyed, keyed_of, label_of};
 use clause_check::Program;
 use clause_code::Predicates;
 use fd_language::NoMemory;
@@ -79,8 +79,8 @@ fn switch_of(kind: Kind, table: usize) -> Code
     }
 }
 
-/// Puts a switch of the kind by these keys behind the code, with a table of its own, and behind it the choices of each key's
-/// clauses. The error is want of memory.
+/// Puts a switch of the kind by these keys behind the code, with a table of its own in rising order of the keys, and behind it the
+/// choices of each key's clauses. The error is want of memory.
 fn put_table(
     alloc: Global,
     kind: Kind,
@@ -95,7 +95,8 @@ fn put_table(
         × TablesGrow p ns (tables_in tables.old) (tables_in tables.new)) }
 {
     code.push(switch_of(kind, tables.len()))?;
-    let rows = put_rows(alloc, &keyed.keys, &keyed.lists, code)?;
+    let mut rows = put_rows(alloc, &keyed.keys, &keyed.lists, code)?;
+    rows.sort_unstable_by_key(|row| label_of(row.0));
     tables.push(rows)?;
     Ok(())
 }

@@ -12,9 +12,10 @@ use std::alloc::Global;
 use term_pool::AtomId;
 use wam_code::Key;
 
-/// A key, as it is looked up.
-#[derive(Clone, Copy, PartialEq, Eq, Hash, Drop)]
-enum Label {
+/// A key, as it is looked up and sorted: atoms by their numbers, integers by value, structures by their names' numbers and then by
+/// how many arguments they have.
+#[derive(Clone, Copy, PartialEq, Eq, PartialOrd, Ord, Hash, Drop)]
+pub(crate) enum Label {
     Atom(AtomId),
     Integer(i64),
     Structure(AtomId, u8),
@@ -29,7 +30,7 @@ pub(crate) struct Keyed {
 }
 
 /// The label of a key.
-fn label_of(key: Key) -> Label
+pub(crate) fn label_of(key: Key) -> Label
     ensures { result ≡ label key }
 {
     match key {

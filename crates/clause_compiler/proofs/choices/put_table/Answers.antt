@@ -23,7 +23,7 @@ returns c p ns w =
     let one = c.in_ok-push.ensures.items ∙ ap (λ i. c.args.code.now.items ++ i ∷ []) (c.switch_of.ensures ∙ ap (switch_on k) tables) in
     let put = subst (λ ks. ArePut (its_row ks) (IsListIn groups) (length ks) c.push.new.self.items c.put_rows.new.code.items c.in_ok-rows.rows.items) c.deref.ensures.value
     (subst (λ gs. ArePut (its_row c.deref.result.now) (IsListIn (map (λ (l : Vec ℕ Global). l.items) gs)) (length c.deref.result.now) c.push.new.self.items c.put_rows.new.code.items c.in_ok-rows.rows.items) c.deref-2.ensures.value c.in_ok-rows.ensures) in
-    let grown = ap (map items) c.in_ok-push-2.ensures.items ∙ map_push items c.args.tables.now.items c.in_ok-rows.rows in (
-      table_put p k ns looked keys groups w c.args.code.now.items c.push.new.self.items c.put_rows.new.code.items before after c.in_ok-rows.rows.items (length c.args.tables.now.items) number one put grown,
-      table_grows p k ns looked keys groups w c.args.code.now.items c.push.new.self.items c.put_rows.new.code.items before after c.in_ok-rows.rows.items (length c.args.tables.now.items) number one put grown,
+    let grown = ap (map items) c.in_ok-push-2.ensures.items ∙ map_push items c.args.tables.now.items c.sort_unstable_by_key.new.self in (
+      table_put p k ns looked keys groups w c.args.code.now.items c.push.new.self.items c.put_rows.new.code.items before after c.in_ok-rows.rows.items c.sort_unstable_by_key.new.self.items c.sort_unstable_by_key.ensures.permutation (length c.args.tables.now.items) number one put grown,
+      table_grows p k ns looked keys groups w c.args.code.now.items c.push.new.self.items c.put_rows.new.code.items before after c.in_ok-rows.rows.items c.sort_unstable_by_key.new.self.items c.sort_unstable_by_key.ensures.permutation (length c.args.tables.now.items) number one put grown,
     )
