@@ -183,7 +183,6 @@ asked kind.Nl i sets a b u v = absurd i
 asked kind.FdDom i sets a b u v = absurd i
 
 module _ (name : Naming) (s : State) (valid : IsHeap s.heaps.now) (k : BuiltinKind) (i : IsQuestion k) (of is : Cell) where
-
   pub asked_told : IsCell s is → (n : Held) (z : ℤ) → AreNumbersAt name s.heaps.now s.levels.current.sets of (Ok n) → z ≡ told_by k (the_numbers n) → Finds name s k of is (Equal is (cell.Int z))
   asked_told own n z e h = (
     own,
@@ -253,7 +252,6 @@ atomic_is (Comp f ts) = refl
 -- ---- the other goals
 
 module _ (name : Naming) (s : State) (k : BuiltinKind) (a b : Cell) where
-
   pub is_told : IsHeap s.heaps.now → IsCell s a → kind.Is ≡ k → (z : ℤ) → IsValueAt name s b (Ok z) → Finds name s k a b (Equal a (cell.Int z))
   is_told valid own e z v =
       subst (λ j. Finds name s j a b (Equal a (cell.Int z))) e

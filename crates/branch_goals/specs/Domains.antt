@@ -24,7 +24,8 @@ AreSpansOf xs spans = spans ≡ map span_of (intervals xs)
 -- the list of spans as a term
 abbrev pub spans_term : Naming → List (ℤ × ℤ) → Term
 spans_term name [] = Atom (name NIL)
-spans_term name (s ∷ ss) = Comp (name CONS) (two_terms (Comp (name SPAN) (two_terms (Int s.0) (Int s.1))) (spans_term name ss))
+spans_term name (s ∷ ss) = Comp (name CONS)
+    (two_terms (Comp (name SPAN) (two_terms (Int s.0) (Int s.1))) (spans_term name ss))
 
 -- the spans are those of the numbers
 abbrev pub AreSpans : Numbers → List (ℤ × ℤ) → Type 0

@@ -35,12 +35,14 @@ seen_at name s c = shown_at name s.heaps.now s.levels.current.sets c
 
 -- what a goal comes to whose arguments are in the cells a and b
 abbrev pub found_in : Naming → State → BuiltinKind → Cell → Cell → Finding
-found_in name s k a b = heap_finding name s.heaps.now s.levels.current.posted (family_of s.levels.current.sets) k (term_of name s.heaps.now a) (term_of name s.heaps.now b)
+found_in name s k a b = heap_finding name s.heaps.now s.levels.current.posted
+    (family_of s.levels.current.sets) k (term_of name s.heaps.now a) (term_of name s.heaps.now b)
 
 abbrev pub Finds : Naming → State → BuiltinKind → Cell → Cell → Found → Type 0
 Finds name s k a b (Fault f) = found_in name s k a b ≡ faulted f
 Finds name s k a b (Decided holds) = found_in name s k a b ≡ decided holds
-Finds name s k a b (Equal x y) = IsCell s x × IsCell s y × (found_in name s k a b ≡ equated (term_of name s.heaps.now x) (term_of name s.heaps.now y))
+Finds name s k a b (Equal x y) = IsCell s x × IsCell s y
+    × (found_in name s k a b ≡ equated (term_of name s.heaps.now x) (term_of name s.heaps.now y))
 
 -- the query's fault for a fault of arithmetic
 abbrev pub fault_is : EvalFault → QueryFault → Type 0
@@ -55,8 +57,10 @@ IsValueAt name s c v = evaluated (seen_at name s c) ≡ v
 
 -- both values, or the first fault of the two
 abbrev pub AreValuesAt : Naming → State → Cell → Cell → Result (ℤ × ℤ) QueryFault → Type 0
-AreValuesAt name s a b (Ok v) = (evaluated (seen_at name s a) ≡ Ok v.0) × (evaluated (seen_at name s b) ≡ Ok v.1)
-AreValuesAt name s a b (Err f) = (holds : ℤ → ℤ → Bool) → compared holds (evaluated (seen_at name s a)) (evaluated (seen_at name s b)) ≡ faulted f
+AreValuesAt name s a b (Ok v) = (evaluated (seen_at name s a) ≡ Ok v.0)
+    × (evaluated (seen_at name s b) ≡ Ok v.1)
+AreValuesAt name s a b (Err f) = (holds : ℤ → ℤ → Bool)
+    → compared holds (evaluated (seen_at name s a)) (evaluated (seen_at name s b)) ≡ faulted f
 
 -- how two values are compared
 abbrev pub holds_by : BuiltinKind → ℤ → ℤ → Bool

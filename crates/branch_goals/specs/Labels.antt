@@ -21,18 +21,22 @@ use Rattle.branch_state.specs.States.{State}
 abbrev pub labelled_in : Naming → State → Order → Cell → Labelled
 labelled_in name s o c =
     let G = family_of s.levels.current.sets in
-    heap_label INFINITY name s.heaps.now s.levels.current.posted G o (read_term s.heaps.now G (term_of name s.heaps.now c))
+    heap_label INFINITY name s.heaps.now s.levels.current.posted G o
+    (read_term s.heaps.now G (term_of name s.heaps.now c))
 
 -- the values of a variable of the heap: those of its set, and all where the store doesn't have it
 abbrev pub values_of : State → ℕ → List ℕ
-values_of s i = values_by INFINITY (cell_set (family_of s.levels.current.sets) (link_in s.heaps.now i))
+values_of s i = values_by INFINITY
+    (cell_set (family_of s.levels.current.sets) (link_in s.heaps.now i))
 
 -- The variable that is taken is an open one of the heap, with its values.
 abbrev pub Labels : Naming → State → Order → Cell → Labelling → Type 0
 Labels name s o c Done = labelled_in name s o c ≡ done
-Labels name s o c (Takes i) = (labelled_in name s o c ≡ labels i (values_of s i)) × (i < length s.heaps.now.slots) × (term_of name s.heaps.now (cell.Ref i) ≡ Var i)
+Labels name s o c (Takes i) = (labelled_in name s o c ≡ labels i (values_of s i))
+    × (i < length s.heaps.now.slots) × (term_of name s.heaps.now (cell.Ref i) ≡ Var i)
 Labels name s o c (Fault f) = labelled_in name s o c ≡ faults f
 
 -- where the cell's term is a variable, this is its number
 abbrev pub IsVariableOf : Naming → Cells → Cell → ℕ → Type 0
-IsVariableOf name h c i = (j : ℕ) → term_of name h c ≡ Var j → (j ≡ i) × (i < length h.slots) × (term_of name h (cell.Ref i) ≡ Var i)
+IsVariableOf name h c i = (j : ℕ) → term_of name h c ≡ Var j → (j ≡ i) × (i < length h.slots)
+    × (term_of name h (cell.Ref i) ≡ Var i)

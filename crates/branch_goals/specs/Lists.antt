@@ -40,7 +40,8 @@ shown_at name h sets c = read_term h (family_of sets) (term_of name h c)
 -- a cell as a node of a list
 abbrev pub IsNode : Naming → Cells → List (List ℕ) → Cell → ListNode → Type 0
 IsNode name h sets at (Pair a b) =
-    IsOf h a × IsOf h b × (shown_at name h sets at ≡ Comp (name CONS) (term (shown_at name h sets a) (term (shown_at name h sets b) no_terms)))
+    IsOf h a × IsOf h b × (shown_at name h sets at
+    ≡ Comp (name CONS) (term (shown_at name h sets a) (term (shown_at name h sets b) no_terms)))
 IsNode name h sets at Empty = shown_at name h sets at ≡ Atom (name NIL)
 IsNode name h sets at (Broken f) = read_list (shown_at name h sets at) ≡ Err f
 
@@ -56,13 +57,15 @@ IsAtomNode a _ = ⊥
 
 abbrev pub IsCompoundNode : AtomId → List Cell → ListNode → Type 0
 IsCompoundNode f args (Pair a b) = (f ≡ CONS) × (args ≡ a ∷ b ∷ [])
-IsCompoundNode f args (Broken e) = (name : Naming) → IsListNaming name → (by : Cell → Term) → read_list (Comp (name f) (terms_by by args)) ≡ Err e
+IsCompoundNode f args (Broken e) = (name : Naming) → IsListNaming name → (by : Cell → Term)
+    → read_list (Comp (name f) (terms_by by args)) ≡ Err e
 IsCompoundNode f args _ = ⊥
 
 -- The member is what is seen: an integer, the store's variable that the variable of the heap is, or one that the store doesn't have.
 abbrev pub IsSeenMember : Cells → List (List ℕ) → Member → seen.Member → Type 0
 IsSeenMember h sets (Fixed z) s = s ≡ seen.Known z
-IsSeenMember h sets (Var k) s = (i : ℕ) × (s ≡ seen.Open i) × (link_in h i ≡ Some k) × (k < length sets) × (1 < length (family_of sets k))
+IsSeenMember h sets (Var k) s = (i : ℕ) × (s ≡ seen.Open i) × (link_in h i ≡ Some k)
+    × (k < length sets) × (1 < length (family_of sets k))
 IsSeenMember h sets Free s = (i : ℕ) × (s ≡ seen.Open i) × (link_in h i ≡ None)
 
 abbrev pub IsMemberAt : Naming → Cells → List (List ℕ) → Cell → Member → seen.Member → Type 0
@@ -74,13 +77,17 @@ IsMemberOf name h sets c None = as_member (shown_at name h sets c) ≡ Err BadTy
 IsMemberOf name h sets c (Some m) = (s : seen.Member) × IsMemberAt name h sets c m s
 
 -- the cells are members, each as it is seen
-abbrev pub AreMembersAt : Naming → Cells → List (List ℕ) → List Cell → List Member → List seen.Member → Type 0
+abbrev pub AreMembersAt : Naming → Cells → List (List ℕ) → List Cell → List Member
+    → List seen.Member → Type 0
 AreMembersAt name h sets [] [] [] = Unit {0}
-AreMembersAt name h sets (c ∷ cs) (m ∷ ms) (s ∷ ss) = IsOf h c × IsMemberAt name h sets c m s × AreMembersAt name h sets cs ms ss
+AreMembersAt name h sets (c ∷ cs) (m ∷ ms) (s ∷ ss) = IsOf h c × IsMemberAt name h sets c m s
+    × AreMembersAt name h sets cs ms ss
 AreMembersAt name h sets _ _ _ = ⊥
 
 -- the list in a cell: its members with their cells, or its fault
 abbrev pub IsListRead : Naming → Cells → List (List ℕ) → Cell → Result Members QueryFault → Type 0
 IsListRead name h sets c (Err f) = read_list (shown_at name h sets c) ≡ Err f
 IsListRead name h sets c (Ok r) =
-    (ss : List seen.Member) × (read_list (shown_at name h sets c) ≡ Ok ss) × AreMembersAt name h sets r.cells.items r.members.items ss × AreThere (length sets) r.members.items
+    (ss : List seen.Member) × (read_list (shown_at name h sets c) ≡ Ok ss)
+    × AreMembersAt name h sets r.cells.items r.members.items ss
+    × AreThere (length sets) r.members.items

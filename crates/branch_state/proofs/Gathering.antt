@@ -22,7 +22,6 @@ is_open None = true
 is_open (Some n) = false
 
 module _ (look : Substitution) where
-
   open_need : (r : Range) (y : ℕ) → is_open (need_at r y) ≡ not (has (params r) y)
   open_need r y = by_test (has (params r) y) where
     by_test : (b : Bool) → is_open (cond b (Some (need_of r y)) None) ≡ not b

@@ -77,7 +77,6 @@ module _ (name : Naming) (h : Cells) (valid : IsHeap h) (env : List (Option Cell
 -- ---- a target
 
 module _ (h : Cells) (sets : List (List ℕ)) (env : List (Option Cell)) (name : Naming) where
-
   abbrev n : ℕ
   n = length env
 

@@ -71,8 +71,11 @@ store_variable h x = or_zero (link_in h x)
 
 -- a range on variables of the heap, as it is posted
 abbrev pub row_posting : (ℕ → ℕ) → Indexical → Posting
-row_posting of p = record { range = p.range; target = of p.target;
-    args = map (λ y. arg.Var (of y)) (slots_of p.range) }
+row_posting of p = record {
+  range = p.range;
+  target = of p.target;
+  args = map (λ y. arg.Var (of y)) (slots_of p.range);
+}
 
 -- variables of the heap that get integers, as touches of the store
 abbrev pub row_touches : (ℕ → ℕ) → List (ℕ × ℤ) → List Touch

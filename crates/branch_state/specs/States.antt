@@ -74,8 +74,10 @@ with_heap s h = record s { heaps = record { now = h; below = s.heaps.below } }
 
 -- a copy of the current pair below it
 abbrev pub with_pair : State → State
-with_pair s = record s { heaps = with_mark s.heaps;
-    levels = record s.levels { below = s.levels.current ∷ s.levels.below } }
+with_pair s = record s {
+  heaps = with_mark s.heaps;
+  levels = record s.levels { below = s.levels.current ∷ s.levels.below };
+}
 
 -- the pair below is the current one now
 pub record IsUndone (old new : State) : Type 0 where
