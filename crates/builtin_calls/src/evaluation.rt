@@ -1,6 +1,7 @@
 //! Arithmetic.
 
-ghost use Rattle.std.specs.Prelude.{◌≡◌, ◌++◌, [], ◌∷◌, ℤ, pos, List, length, FitsSigned, IfSome, Ok, OnOk, All};
+ghost use Rattle.std.specs.Prelude.{◌≡◌, ◌++◌, [], ◌∷◌, ℤ, pos, List, length, FitsSigned, IfSome, Ok, OnOk, All, codes};
+ghost use Rattle.std.specs.Str.{bytes_eq};
 ghost use Rattle.std.specs.Option.{SomeIff};
 ghost use Rattle.std.specs.Int.{w64};
 ghost use Rattle.fd_language.specs.Term.{Name};
@@ -83,6 +84,17 @@ fn operation_named(name: &str) -> Option<Operation>
     }
 }
 
+/// Whether this is the name of the prefix `-`.
+#[inline]
+fn is_minus(name: &str) -> bool
+    ensures { result ≡ bytes_eq name.now (codes "-") }
+{
+    match name.as_bytes() {
+        &[only] => only == b'-',
+        _ => false,
+    }
+}
+
 /// The remainder with the divisor's sign. The divisor isn't 0.
 fn modulo_of(left: i64, right: i64) -> i64
     requires { right ≡ pos 0 → ⊥ }
@@ -151,13 +163,6 @@ fn enter_compound<V: View>(
         waiting.new }
 {
     match args {
-        &[only] => {
-            if name != "-" {
-                return Err(EvalFault::NotANumber);
-            }
-            waiting.push(Waiting::Opposite)?;
-            Ok(Step::Enter(only))
-        }
         &[left, right] => {
             let Some(operation) = operation_named(name) else {
                 return Err(EvalFault::NotANumber);
@@ -168,6 +173,13 @@ fn enter_compound<V: View>(
             }
             waiting.push(Waiting::Left(operation, right))?;
             Ok(Step::Enter(left))
+        }
+        &[only] => {
+            if !is_minus(name) {
+                return Err(EvalFault::NotANumber);
+            }
+            waiting.push(Waiting::Opposite)?;
+            Ok(Step::Enter(only))
         }
         _ => Err(EvalFault::NotANumber),
     }

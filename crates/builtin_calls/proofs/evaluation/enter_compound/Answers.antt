@@ -1,12 +1,12 @@
-use Rattle.std.proofs.Common.{◌++◌, [], ◌∷◌, FitsSigned, refl, ap, sym, ◌∙◌, inr, get_or, w64, rules}
+use Rattle.std.proofs.Common.{◌++◌, [], ◌∷◌, FitsSigned, refl, not, ap, sym, ◌∙◌, inr, get_or, w64, rules}
 use Rattle.heap_cells.specs.declared.Cell.TheVariants as cell
 use Rattle.builtin_calls.specs.declared.waiting.Waiting.TheVariants.{Right}
 use Rattle.builtin_calls.proofs.Remainders.{read_back}
 use Rattle.builtin_calls.proofs.Evaluating.{no_opposite, too_many, two_of}
 use Rattle.builtin_calls.proofs.evaluation.enter_compound.Goals as goal
 
-pub returns-then-ne : goal.returns-then-ne
-returns-then-ne g c = no_opposite c.args.name.now c.args.args.now c.in-len1.len_at_least c.in-len1.len_below (sym c.ne.ensures ∙ c.if-ne.true)
+pub returns-then-not-is_minus : goal.returns-then-not-is_minus
+returns-then-not-is_minus g c = no_opposite c.args.name.now c.args.args.now c.in-len1.len_at_least c.in-len1.len_below (ap not (sym c.is_minus.ensures ∙ c.if-not-is_minus.true))
 
 pub returns-in_default-2 : goal.returns-in_default-2
 returns-in_default-2 g c = too_many c.args.name.now c.args.args.now c.in_default.len_at_least
