@@ -35,7 +35,8 @@ fn choice_of(count: usize, i: usize, clause: usize) -> Code
     }
 }
 
-/// Puts the choices of these clauses behind the code, by their numbers. The error is want of memory.
+/// Puts the choices of these clauses behind the code, by their numbers. The error is want of
+/// memory.
 fn put_list(clauses: &[usize], code: &mut Vec<Code>) -> Result<(), NoMemory>
     ensures { OnOk result (code.new.items ≡ code.old.items ++ list_of clauses.now) }
 {
@@ -49,7 +50,8 @@ fn put_list(clauses: &[usize], code: &mut Vec<Code>) -> Result<(), NoMemory>
     Ok(())
 }
 
-/// Puts the choices of each of the lists behind each other. Gives each key with the place of its list. The error is want of memory.
+/// Puts the choices of each of the lists behind each other. Gives each key with the place of its
+/// list. The error is want of memory.
 fn put_rows(
     alloc: Global,
     keys: &[Key],
@@ -79,8 +81,8 @@ fn switch_of(kind: Kind, table: usize) -> Code
     }
 }
 
-/// Puts a switch of the kind by these keys behind the code, with a table of its own in rising order of the keys, and behind it the
-/// choices of each key's clauses. The error is want of memory.
+/// Puts a switch of the kind by these keys behind the code, with a table of its own in rising order
+/// of the keys, and behind it the choices of each key's clauses. The error is want of memory.
 fn put_table(
     alloc: Global,
     kind: Kind,
@@ -101,8 +103,8 @@ fn put_table(
     Ok(())
 }
 
-/// Puts the choices of those clauses behind the code that may fit a first argument of the kind: by their keys, if each has one.
-/// The error is want of memory.
+/// Puts the choices of those clauses behind the code that may fit a first argument of the kind: by
+/// their keys, if each has one. The error is want of memory.
 fn put_kind(
     alloc: Global,
     program: &Program,
@@ -126,8 +128,8 @@ fn put_kind(
     put_list(&own, code)
 }
 
-/// Puts a switch by the first argument behind the code, and behind it the choices of all these clauses, and those for each kind of
-/// argument. The error is want of memory.
+/// Puts a switch by the first argument behind the code, and behind it the choices of all these
+/// clauses, and those for each kind of argument. The error is want of memory.
 fn put_switch(
     alloc: Global,
     program: &Program,
@@ -155,8 +157,8 @@ fn put_switch(
     Ok(())
 }
 
-/// Puts the choices of a predicate with so many arguments behind the code: a list, or a switch where one can tell its clauses
-/// apart. The error is want of memory.
+/// Puts the choices of a predicate with so many arguments behind the code: a list, or a switch
+/// where one can tell its clauses apart. The error is want of memory.
 fn put_predicate(
     alloc: Global,
     program: &Program,
@@ -179,8 +181,9 @@ fn put_predicate(
     }
 }
 
-/// Puts the choices of each predicate behind each other, by the numbers of its clauses, where `groups` has these. Gives the
-/// predicates with the places of their code. The error is want of memory.
+/// Puts the choices of each predicate behind each other, by the numbers of its clauses, where
+/// `groups` has these. Gives the predicates with the places of their code. The error is want of
+/// memory.
 pub(crate) fn put_choices(
     alloc: Global,
     program: &Program,

@@ -26,7 +26,8 @@ fn number_of_head(program: &Program, predicates: &Predicates, clause: usize) -> 
     }
 }
 
-/// For each predicate, by its number, the numbers of its clauses in text order. The error is want of memory.
+/// For each predicate, by its number, the numbers of its clauses in text order. The error is want
+/// of memory.
 pub(crate) fn groups_of(
     alloc: Global,
     program: &Program,

@@ -27,8 +27,8 @@ struct Parts {
     queries: Vec<QueryEntry>,
 }
 
-/// Puts the code of a program together: choices by the clauses' numbers, the clauses, the queries, and then the clauses' places in
-/// the choices.
+/// Puts the code of a program together: choices by the clauses' numbers, the clauses, the queries,
+/// and then the clauses' places in the choices.
 fn parts_of(alloc: Global, program: &Program) -> Result<Parts, NoMemory>
     ensures { IfOk result (λ x. IsLaidOut (area_with program.now.pool x) (program_in program.now)) }
 {

@@ -77,7 +77,8 @@ fn are_same(a: &FlatRange, b: &FlatRange) -> bool
     are_same_nodes(a.nodes(), b.nodes())
 }
 
-/// The code of the range: that of an earlier one, if `known` has it by its hash. The error is want of memory.
+/// The code of the range: that of an earlier one, if `known` has it by its hash. The error is want
+/// of memory.
 fn code_of(
     alloc: Global,
     range: &Checked,

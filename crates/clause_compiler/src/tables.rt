@@ -12,8 +12,8 @@ use std::alloc::Global;
 use term_pool::AtomId;
 use wam_code::Key;
 
-/// A key, as it is looked up and sorted: atoms by their numbers, integers by value, structures by their names' numbers and then by
-/// how many arguments they have.
+/// A key, as it is looked up and sorted: atoms by their numbers, integers by value, structures by
+/// their names' numbers and then by how many arguments they have.
 #[derive(Clone, Copy, PartialEq, Eq, PartialOrd, Ord, Hash, Drop)]
 pub(crate) enum Label {
     Atom(AtomId),
