@@ -34,7 +34,7 @@ use Rattle.code_states.specs.Safety.{IsSafe, IsSafeThen}
 use Rattle.code_states.specs.Standing.{IsNaming}
 use Rattle.code_states.specs.declared.went.Went.{Went}
 use Rattle.code_states.specs.declared.went.Went.TheVariants.{On, Back}
-use Rattle.code_control.specs.Rows.{IsKeyOf, IsFirstRow, HasNoKey, Finds, IsSwitch, place_for}
+use Rattle.code_control.specs.Rows.{IsKeyOf, IsFirstRow, HasNoKey, Finds, place_for}
 use Rattle.code_states.specs.Stages.{Task, KeepsRunning, RunsThen}
 use Rattle.code_states.specs.Work.{work_at, work_then}
 use Rattle.code_control.proofs.Stages.{tries, over}
@@ -196,14 +196,14 @@ module _ (area : Area) (s : branch.State) (at : ℕ) (c : Contents) (safe : IsSa
   abbrev Switched : Table → Went → Type 0
   Switched rows w = IsSafeThen area s c w × RunsThen area s at c s c w × (work_then area c w < work_at area at c)
 
-  pub constant_switched : (rows : Table) → IsSwitch area at SwitchOnConstant rows → (w : Went) → Finds x rows w → Switched rows w
-  constant_switched rows t w found = table_all (SwitchOnConstant t.0) t.0 t.1 refl refl (safe.verified.there at (SwitchOnConstant t.0) t.1).0 tt (λ task e b kids m. step_constants INFINITY area task.query.shown task.name s.heaps.now s.levels.current.posted at e (registers_of c) (stack_of c) b kids m t.0 t.1) rows t.2 w found
+  pub constant_switched : (t : ℕ) → Holds area at (SwitchOnConstant t) → (rows : Table) → rows ≡ table_at area t → (w : Went) → Finds x rows w → Switched rows w
+  constant_switched t holds rows is w found = table_all (SwitchOnConstant t) t holds refl refl (safe.verified.there at (SwitchOnConstant t) holds).0 tt (λ task e b kids m. step_constants INFINITY area task.query.shown task.name s.heaps.now s.levels.current.posted at e (registers_of c) (stack_of c) b kids m t holds) rows is w found
 
-  pub integer_switched : (rows : Table) → IsSwitch area at SwitchOnInteger rows → (w : Went) → Finds x rows w → Switched rows w
-  integer_switched rows t w found = table_all (SwitchOnInteger t.0) t.0 t.1 refl refl (safe.verified.there at (SwitchOnInteger t.0) t.1).0 tt (λ task e b kids m. step_integers INFINITY area task.query.shown task.name s.heaps.now s.levels.current.posted at e (registers_of c) (stack_of c) b kids m t.0 t.1) rows t.2 w found
+  pub integer_switched : (t : ℕ) → Holds area at (SwitchOnInteger t) → (rows : Table) → rows ≡ table_at area t → (w : Went) → Finds x rows w → Switched rows w
+  integer_switched t holds rows is w found = table_all (SwitchOnInteger t) t holds refl refl (safe.verified.there at (SwitchOnInteger t) holds).0 tt (λ task e b kids m. step_integers INFINITY area task.query.shown task.name s.heaps.now s.levels.current.posted at e (registers_of c) (stack_of c) b kids m t holds) rows is w found
 
-  pub structure_switched : (rows : Table) → IsSwitch area at SwitchOnStructure rows → (w : Went) → Finds x rows w → Switched rows w
-  structure_switched rows t w found = table_all (SwitchOnStructure t.0) t.0 t.1 refl refl (safe.verified.there at (SwitchOnStructure t.0) t.1).0 tt (λ task e b kids m. step_structures INFINITY area task.query.shown task.name s.heaps.now s.levels.current.posted at e (registers_of c) (stack_of c) b kids m t.0 t.1) rows t.2 w found
+  pub structure_switched : (t : ℕ) → Holds area at (SwitchOnStructure t) → (rows : Table) → rows ≡ table_at area t → (w : Went) → Finds x rows w → Switched rows w
+  structure_switched t holds rows is w found = table_all (SwitchOnStructure t) t holds refl refl (safe.verified.there at (SwitchOnStructure t) holds).0 tt (λ task e b kids m. step_structures INFINITY area task.query.shown task.name s.heaps.now s.levels.current.posted at e (registers_of c) (stack_of c) b kids m t holds) rows is w found
 
 -- a switch finds something in the first register
 pub first_there : (area : Area) (s : branch.State) (at : ℕ) (c : Contents) (safe : IsSafe area s at 0 c) (i : Code) → Holds area at i → plain_effect area.entries i safe.here.reached.state ≡ when (has safe.here.reached.state.regs 1) safe.here.reached.state → IsSet c.registers 1

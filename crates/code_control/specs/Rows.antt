@@ -2,10 +2,9 @@
 use Rattle.std.specs.Prelude.{◌≡◌, ◌⊎◌, ℕ, [], ◌∷◌, length}
 use Rattle.heap_cells.specs.declared.Seen.{Seen}
 use Rattle.heap_cells.specs.declared.Seen.TheVariants as seen
-use Rattle.wam_code.specs.declared.instruction.Code.{Code}
 use Rattle.wam_code.specs.declared.instruction.Key.{Key}
 use Rattle.wam_code.specs.declared.instruction.Key.TheVariants as key
-use Rattle.wam_code.specs.Area.{Table, Area, Holds, table_at}
+use Rattle.wam_code.specs.Area.{Table}
 use Rattle.code_states.specs.declared.went.Went.{Went}
 use Rattle.code_states.specs.declared.went.Went.TheVariants.{On, Back}
 
@@ -29,10 +28,6 @@ HasNoKey x (row ∷ rows) = (IsKeyOf x row.0 → ⊥) × HasNoKey x rows
 abbrev pub Finds : Seen → Table → Went → Type 0
 Finds x rows (On to) = IsFirstRow x rows to
 Finds x rows Back = HasNoKey x rows
-
--- At a place there is a switch by this table.
-abbrev pub IsSwitch : Area → ℕ → (ℕ → Code) → Table → Type 0
-IsSwitch area at i rows = (t : ℕ) × Holds area at (i t) × (rows ≡ table_at area t)
 
 -- where a switch goes on that tells kinds of terms apart
 abbrev pub place_for : Seen → ℕ → ℕ → ℕ → ℕ → ℕ

@@ -3,17 +3,18 @@ ghost use Rattle.std.specs.Prelude.{◌≡◌, ◌<◌};
 ghost use Rattle.wam_code.specs.declared.instruction.Code.TheVariants as step;
 ghost use Rattle.wam_code.specs.Area.{Holds};
 ghost use Rattle.code_states.specs.Safety.{IsSafe, IsSafeThen};
-ghost use Rattle.code_control.specs.Rows.{IsSwitch, place_for};
+ghost use Rattle.code_control.specs.Rows.{place_for};
 ghost use Rattle.code_states.specs.Stages.{KeepsRunning, RunsThen};
 ghost use Rattle.code_states.specs.Work.{work_at, work_then};
 
+use crate::places::table_of;
 use crate::rows::find_row;
 use branch_state::BranchState;
 use code_areas::Areas;
 use code_states::Went;
 use heap_cells::Seen;
 use propagate_queue::Agenda;
-use wam_code::{CodeArea, Key};
+use wam_code::CodeArea;
 
 /// Goes on at `v` where the first argument is a variable, at `c` where it is an atom, at `i` where it is an integer, and at `s` where it is
 /// a structure. No memory.
@@ -50,22 +51,22 @@ fn place_for(seen: Seen<'_>, v: usize, c: usize, i: usize, s: usize) -> usize
     }
 }
 
-/// Goes on where the row of the table leads whose key is the first argument, or back where there is none. No memory.
+/// Goes on where the row leads, of the table with this number, whose key is the first argument, or back where there is none. No memory.
 #[inline]
 pub fn switch_on_constant<A: Agenda + Drop>(
     code: &CodeArea,
     at: usize,
-    table: &[(Key, usize)],
+    table: usize,
     branch: &BranchState<A>,
     areas: &Areas,
 ) -> Went
     requires safe { IsSafe code.now branch.now at 0 areas.now }
-    requires holds { IsSwitch code.now at step.SwitchOnConstant table.now }
+    requires holds { Holds code.now at (step.SwitchOnConstant table) }
     ensures safe { IsSafeThen code.now branch.now areas.now result }
     ensures runs { RunsThen code.now branch.now at areas.now branch.now areas.now result }
     ensures falls { work_then code.now areas.now result < work_at code.now at areas.now }
 {
-    find_row(branch.heap().deref(areas.register(1)), table)
+    find_row(branch.heap().deref(areas.register(1)), table_of(code, table))
 }
 
 /// The same for an integer.
@@ -73,17 +74,17 @@ pub fn switch_on_constant<A: Agenda + Drop>(
 pub fn switch_on_integer<A: Agenda + Drop>(
     code: &CodeArea,
     at: usize,
-    table: &[(Key, usize)],
+    table: usize,
     branch: &BranchState<A>,
     areas: &Areas,
 ) -> Went
     requires safe { IsSafe code.now branch.now at 0 areas.now }
-    requires holds { IsSwitch code.now at step.SwitchOnInteger table.now }
+    requires holds { Holds code.now at (step.SwitchOnInteger table) }
     ensures safe { IsSafeThen code.now branch.now areas.now result }
     ensures runs { RunsThen code.now branch.now at areas.now branch.now areas.now result }
     ensures falls { work_then code.now areas.now result < work_at code.now at areas.now }
 {
-    find_row(branch.heap().deref(areas.register(1)), table)
+    find_row(branch.heap().deref(areas.register(1)), table_of(code, table))
 }
 
 /// The same for a structure, by its name and the number of its arguments.
@@ -91,15 +92,15 @@ pub fn switch_on_integer<A: Agenda + Drop>(
 pub fn switch_on_structure<A: Agenda + Drop>(
     code: &CodeArea,
     at: usize,
-    table: &[(Key, usize)],
+    table: usize,
     branch: &BranchState<A>,
     areas: &Areas,
 ) -> Went
     requires safe { IsSafe code.now branch.now at 0 areas.now }
-    requires holds { IsSwitch code.now at step.SwitchOnStructure table.now }
+    requires holds { Holds code.now at (step.SwitchOnStructure table) }
     ensures safe { IsSafeThen code.now branch.now areas.now result }
     ensures runs { RunsThen code.now branch.now at areas.now branch.now areas.now result }
     ensures falls { work_then code.now areas.now result < work_at code.now at areas.now }
 {
-    find_row(branch.heap().deref(areas.register(1)), table)
+    find_row(branch.heap().deref(areas.register(1)), table_of(code, table))
 }
