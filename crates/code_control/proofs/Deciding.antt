@@ -196,14 +196,14 @@ module _ (area : Area) (s : branch.State) (at : ℕ) (c : Contents) (safe : IsSa
   abbrev Switched : Table → Went → Type 0
   Switched rows w = IsSafeThen area s c w × RunsThen area s at c s c w × (work_then area c w < work_at area at c)
 
-  pub constant_switched : (t : ℕ) → Holds area at (SwitchOnConstant t) → (rows : Table) → rows ≡ table_at area t → (w : Went) → Finds x rows w → Switched rows w
-  constant_switched t holds rows is w found = table_all (SwitchOnConstant t) t holds refl refl (safe.verified.there at (SwitchOnConstant t) holds).0 tt (λ task e b kids m. step_constants INFINITY area task.query.shown task.name s.heaps.now s.levels.current.posted at e (registers_of c) (stack_of c) b kids m t holds) rows is w found
+  pub constant_switched : (t : ℕ) → Holds area at (SwitchOnConstant t) → (w : Went) → Finds x (table_at area t) w → Switched (table_at area t) w
+  constant_switched t holds w found = table_all (SwitchOnConstant t) t holds refl refl (safe.verified.there at (SwitchOnConstant t) holds).0 tt (λ task e b kids m. step_constants INFINITY area task.query.shown task.name s.heaps.now s.levels.current.posted at e (registers_of c) (stack_of c) b kids m t holds) (table_at area t) refl w found
 
-  pub integer_switched : (t : ℕ) → Holds area at (SwitchOnInteger t) → (rows : Table) → rows ≡ table_at area t → (w : Went) → Finds x rows w → Switched rows w
-  integer_switched t holds rows is w found = table_all (SwitchOnInteger t) t holds refl refl (safe.verified.there at (SwitchOnInteger t) holds).0 tt (λ task e b kids m. step_integers INFINITY area task.query.shown task.name s.heaps.now s.levels.current.posted at e (registers_of c) (stack_of c) b kids m t holds) rows is w found
+  pub integer_switched : (t : ℕ) → Holds area at (SwitchOnInteger t) → (w : Went) → Finds x (table_at area t) w → Switched (table_at area t) w
+  integer_switched t holds w found = table_all (SwitchOnInteger t) t holds refl refl (safe.verified.there at (SwitchOnInteger t) holds).0 tt (λ task e b kids m. step_integers INFINITY area task.query.shown task.name s.heaps.now s.levels.current.posted at e (registers_of c) (stack_of c) b kids m t holds) (table_at area t) refl w found
 
-  pub structure_switched : (t : ℕ) → Holds area at (SwitchOnStructure t) → (rows : Table) → rows ≡ table_at area t → (w : Went) → Finds x rows w → Switched rows w
-  structure_switched t holds rows is w found = table_all (SwitchOnStructure t) t holds refl refl (safe.verified.there at (SwitchOnStructure t) holds).0 tt (λ task e b kids m. step_structures INFINITY area task.query.shown task.name s.heaps.now s.levels.current.posted at e (registers_of c) (stack_of c) b kids m t holds) rows is w found
+  pub structure_switched : (t : ℕ) → Holds area at (SwitchOnStructure t) → (w : Went) → Finds x (table_at area t) w → Switched (table_at area t) w
+  structure_switched t holds w found = table_all (SwitchOnStructure t) t holds refl refl (safe.verified.there at (SwitchOnStructure t) holds).0 tt (λ task e b kids m. step_structures INFINITY area task.query.shown task.name s.heaps.now s.levels.current.posted at e (registers_of c) (stack_of c) b kids m t holds) (table_at area t) refl w found
 
 -- a switch finds something in the first register
 pub first_there : (area : Area) (s : branch.State) (at : ℕ) (c : Contents) (safe : IsSafe area s at 0 c) (i : Code) → Holds area at i → plain_effect area.entries i safe.here.reached.state ≡ when (has safe.here.reached.state.regs 1) safe.here.reached.state → IsSet c.registers 1

@@ -1,10 +1,11 @@
 -- The row of a switch's table that decides.
-use Rattle.std.specs.Prelude.{◌≡◌, ◌⊎◌, ℕ, [], ◌∷◌, length}
+use Rattle.std.specs.Prelude.{◌≡◌, ◌⊎◌, ◌<◌, ◌≤◌, ℕ, [], ◌∷◌, length, Some, slice_get}
 use Rattle.heap_cells.specs.declared.Seen.{Seen}
 use Rattle.heap_cells.specs.declared.Seen.TheVariants as seen
 use Rattle.wam_code.specs.declared.instruction.Key.{Key}
 use Rattle.wam_code.specs.declared.instruction.Key.TheVariants as key
 use Rattle.wam_code.specs.Area.{Table}
+use Rattle.wam_code.specs.Keys.{IsBelow}
 use Rattle.code_states.specs.declared.went.Went.{Went}
 use Rattle.code_states.specs.declared.went.Went.TheVariants.{On, Back}
 
@@ -14,6 +15,17 @@ IsKeyOf (seen.Atom a) (key.Atom b) = b ≡ a
 IsKeyOf (seen.Int y) (key.Int z) = z ≡ y
 IsKeyOf (seen.Struct f args) (key.Struct g n) = (g ≡ f) × (n ≡ length args.now)
 IsKeyOf _ _ = ⊥
+
+-- it is below the key of what is seen
+abbrev pub IsKeyBelow : Seen → Key → Type 0
+IsKeyBelow (seen.Atom a) k = IsBelow k (key.Atom a)
+IsKeyBelow (seen.Int z) k = IsBelow k (key.Int z)
+IsKeyBelow (seen.Struct f args) k = IsBelow k (key.Struct f (length args.now))
+IsKeyBelow _ k = ⊥
+
+-- the rows with the key lie from one number on before another
+abbrev pub LiesBetween : Seen → Table → ℕ → ℕ → Type 0
+LiesBetween x rows low high = (i : ℕ) (row : Key × ℕ) → slice_get rows i ≡ Some row → IsKeyOf x row.0 → (low ≤ i) × (i < high)
 
 -- the first row with the key has this place
 abbrev pub IsFirstRow : Seen → Table → ℕ → Type 0

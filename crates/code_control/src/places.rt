@@ -1,8 +1,8 @@
 //! Places of code.
-ghost use Rattle.std.specs.Prelude.{◌≡◌, ◌<◌, length};
-ghost use Rattle.wam_code.specs.Area.{HasEntry, table_at};
+ghost use Rattle.std.specs.Prelude.{◌<◌, length};
+ghost use Rattle.wam_code.specs.Area.{HasEntry};
 
-use wam_code::{CodeArea, Entry, Key};
+use wam_code::{CodeArea, Entry};
 
 /// The predicate with this number.
 #[inline]
@@ -11,13 +11,4 @@ pub(crate) fn entry_of(code: &CodeArea, e: usize) -> Entry
     ensures { HasEntry code.now e result }
 {
     code.parts().entries[e]
-}
-
-/// The rows of the table with this number.
-#[inline]
-pub(crate) fn table_of(code: &CodeArea, t: usize) -> &[(Key, usize)]
-    requires { t < length code.now.tables }
-    ensures { result.now ≡ table_at code.now t }
-{
-    &code.parts().tables[t]
 }

@@ -7,7 +7,6 @@ ghost use Rattle.code_control.specs.Rows.{place_for};
 ghost use Rattle.code_states.specs.Stages.{KeepsRunning, RunsThen};
 ghost use Rattle.code_states.specs.Work.{work_at, work_then};
 
-use crate::places::table_of;
 use crate::rows::find_row;
 use branch_state::BranchState;
 use code_areas::Areas;
@@ -66,7 +65,7 @@ pub fn switch_on_constant<A: Agenda + Drop>(
     ensures runs { RunsThen code.now branch.now at areas.now branch.now areas.now result }
     ensures falls { work_then code.now areas.now result < work_at code.now at areas.now }
 {
-    find_row(branch.heap().deref(areas.register(1)), table_of(code, table))
+    find_row(code, table, branch.heap().deref(areas.register(1)))
 }
 
 /// The same for an integer.
@@ -84,7 +83,7 @@ pub fn switch_on_integer<A: Agenda + Drop>(
     ensures runs { RunsThen code.now branch.now at areas.now branch.now areas.now result }
     ensures falls { work_then code.now areas.now result < work_at code.now at areas.now }
 {
-    find_row(branch.heap().deref(areas.register(1)), table_of(code, table))
+    find_row(code, table, branch.heap().deref(areas.register(1)))
 }
 
 /// The same for a structure, by its name and the number of its arguments.
@@ -102,5 +101,5 @@ pub fn switch_on_structure<A: Agenda + Drop>(
     ensures runs { RunsThen code.now branch.now at areas.now branch.now areas.now result }
     ensures falls { work_then code.now areas.now result < work_at code.now at areas.now }
 {
-    find_row(branch.heap().deref(areas.register(1)), table_of(code, table))
+    find_row(code, table, branch.heap().deref(areas.register(1)))
 }

@@ -14,17 +14,17 @@ pub deref-requires : goal.deref-requires
 deref-requires g c =
     subst (λ (hs : Heaps). IsOf hs.now c.register.result) (sym c.heap.ensures) (first_own c.args.code.now c.args.branch.now c.args.at c.args.areas.now c.requires.safe c.register.result c.register.ensures)
 
-pub table_of-requires : goal.table_of-requires
-table_of-requires g c = (c.requires.safe.verified.there c.args.at (step.SwitchOnInteger c.args.table) c.requires.holds).0
+pub find_row-requires : goal.find_row-requires
+find_row-requires g c = (c.requires.safe.verified.there c.args.at (step.SwitchOnInteger c.args.table) c.requires.holds).0
 
 pub returns-clause-safe : goal.returns-clause-safe
 returns-clause-safe g c =
-    (integer_switched c.args.code.now c.args.branch.now c.args.at c.args.areas.now c.requires.safe c.register.result c.register.ensures c.deref.result (subst (λ (hs : Heaps). IsSeen hs.now c.register.result c.deref.result) c.heap.ensures c.deref.ensures.seen) (subst (λ (hs : Heaps). IsHeap hs.now) c.heap.ensures c.deref.ensures.valid) c.args.table c.requires.holds c.table_of.result.now c.table_of.ensures c.find_row.result c.find_row.ensures).0
+    (integer_switched c.args.code.now c.args.branch.now c.args.at c.args.areas.now c.requires.safe c.register.result c.register.ensures c.deref.result (subst (λ (hs : Heaps). IsSeen hs.now c.register.result c.deref.result) c.heap.ensures c.deref.ensures.seen) (subst (λ (hs : Heaps). IsHeap hs.now) c.heap.ensures c.deref.ensures.valid) c.args.table c.requires.holds c.find_row.result c.find_row.ensures).0
 
 pub returns-clause-runs : goal.returns-clause-runs
 returns-clause-runs g c =
-    (integer_switched c.args.code.now c.args.branch.now c.args.at c.args.areas.now c.requires.safe c.register.result c.register.ensures c.deref.result (subst (λ (hs : Heaps). IsSeen hs.now c.register.result c.deref.result) c.heap.ensures c.deref.ensures.seen) (subst (λ (hs : Heaps). IsHeap hs.now) c.heap.ensures c.deref.ensures.valid) c.args.table c.requires.holds c.table_of.result.now c.table_of.ensures c.find_row.result c.find_row.ensures).1
+    (integer_switched c.args.code.now c.args.branch.now c.args.at c.args.areas.now c.requires.safe c.register.result c.register.ensures c.deref.result (subst (λ (hs : Heaps). IsSeen hs.now c.register.result c.deref.result) c.heap.ensures c.deref.ensures.seen) (subst (λ (hs : Heaps). IsHeap hs.now) c.heap.ensures c.deref.ensures.valid) c.args.table c.requires.holds c.find_row.result c.find_row.ensures).1
 
 pub returns-clause-falls : goal.returns-clause-falls
 returns-clause-falls g c =
-    (integer_switched c.args.code.now c.args.branch.now c.args.at c.args.areas.now c.requires.safe c.register.result c.register.ensures c.deref.result (subst (λ (hs : Heaps). IsSeen hs.now c.register.result c.deref.result) c.heap.ensures c.deref.ensures.seen) (subst (λ (hs : Heaps). IsHeap hs.now) c.heap.ensures c.deref.ensures.valid) c.args.table c.requires.holds c.table_of.result.now c.table_of.ensures c.find_row.result c.find_row.ensures).2
+    (integer_switched c.args.code.now c.args.branch.now c.args.at c.args.areas.now c.requires.safe c.register.result c.register.ensures c.deref.result (subst (λ (hs : Heaps). IsSeen hs.now c.register.result c.deref.result) c.heap.ensures c.deref.ensures.seen) (subst (λ (hs : Heaps). IsHeap hs.now) c.heap.ensures c.deref.ensures.valid) c.args.table c.requires.holds c.find_row.result c.find_row.ensures).2

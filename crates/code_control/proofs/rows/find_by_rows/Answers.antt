@@ -1,7 +1,7 @@
 use Rattle.std.proofs.Common.{◌+◌, sym, ◌∙◌, arith}
 use Rattle.std.proofs.lemmas.Bool.{true≢false}
 use Rattle.code_control.proofs.Deciding.{row_passed}
-use Rattle.code_control.proofs.rows.find_row.Goals as goal
+use Rattle.code_control.proofs.rows.find_by_rows.Goals as goal
 
 pub loop-row-preserved : goal.loop-row-preserved
 loop-row-preserved c =
