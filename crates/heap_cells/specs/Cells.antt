@@ -65,4 +65,5 @@ abbrev pub with_mark : Heaps → Heaps
 with_mark hs = record { now = hs.now; below = hs.now ∷ hs.below }
 
 abbrev pub AddsCompound : AtomId → List Cell → Heaps → Heaps → Type 0
-AddsCompound f args old new = new ≡ with_now old (with_compound old.now (record { name = f; args = args }))
+AddsCompound f args old new = new
+    ≡ with_now old (with_compound old.now (record { name = f; args = args }))

@@ -48,7 +48,8 @@ Same h c d = (name : Naming) → term_of name h c ≡ term_of name h d
 
 -- each earlier cell stands for the same term as before
 abbrev pub KeepsTerms : Cells → Cells → Type 0
-KeepsTerms old new = (name : Naming) (c : Cell) → IsOf old c → term_of name new c ≡ term_of name old c
+KeepsTerms old new = (name : Naming) (c : Cell) → IsOf old c
+    → term_of name new c ≡ term_of name old c
 
 -- whether a variable occurs in a term
 abbrev mutual
@@ -76,4 +77,5 @@ IsAbsent h x c = (name : Naming) → occurs x (term_of name h c) ≡ false
 
 -- each cell stands for its old term with the variable replaced by the term of another cell
 abbrev pub Replaces : Cells → ℕ → Cell → Cells → Type 0
-Replaces old x to new = (name : Naming) (c : Cell) → term_of name new c ≡ apply (one x (term_of name old to)) (term_of name old c)
+Replaces old x to new = (name : Naming) (c : Cell)
+    → term_of name new c ≡ apply (one x (term_of name old to)) (term_of name old c)

@@ -23,7 +23,8 @@ use Rattle.machine_frames.specs.Reading.{read_term}
 abbrev pub slot_terms : Naming → Cells → Family → List ℕ → List Cell → Substitution
 slot_terms name h G [] ds y = Var y
 slot_terms name h G (x ∷ xs) [] y = Var y
-slot_terms name h G (x ∷ xs) (d ∷ ds) y = if x == y then read_term h G (term_of name h d) else slot_terms name h G xs ds y
+slot_terms name h G (x ∷ xs) (d ∷ ds) y = if x == y then read_term h G (term_of name h d)
+    else slot_terms name h G xs ds y
 
 abbrev pub target_offence : Term → Option QueryFault
 target_offence (Var c) = None
@@ -41,7 +42,10 @@ filled see r = fill_range (λ y. integer_of (see y)) r
 
 -- what is posted on the store, where slot gives each term a variable of the store
 abbrev pub cells_range : (Term → ℕ) → Term → Substitution → Range → Indexical
-cells_range slot t see r = record { target = slot t; range = rename_range (λ y. slot (see y)) (filled see r) }
+cells_range slot t see r = record {
+  target = slot t;
+  range = rename_range (λ y. slot (see y)) (filled see r);
+}
 
 -- the terms that it names
 abbrev pub Names : Term → Substitution → Range → Term → Type 0
@@ -50,11 +54,13 @@ Names t see r u = (u ≡ t) ⊎ ((y : ℕ) × (has (reads (filled see r)) y ≡ 
 -- each touch says of an integer's variable of the store which integer it is
 abbrev pub AreNumbers : (Term → ℕ) → (Term → Type 0) → List Touch → Type 0
 AreNumbers slot Named [] = Unit {0}
-AreNumbers slot Named (Value k z ∷ ts) = (Named (Int z) × (slot (Int z) ≡ k)) × AreNumbers slot Named ts
+AreNumbers slot Named (Value k z ∷ ts) = (Named (Int z) × (slot (Int z) ≡ k))
+    × AreNumbers slot Named ts
 AreNumbers slot Named (Same k j ∷ ts) = ⊥
 
 -- The heap now has the terms of the heap h. Each open variable that is named is linked to its variable of the store, and each integer that is named has a new one; no two terms share one.
-pub record IsTermsLinked (h now : Cells) (qs : List Indexical) (slot : Term → ℕ) (Named : Term → Type 0) (ts : List Touch) : Type 0 where
+pub record IsTermsLinked (h now : Cells) (qs : List Indexical) (slot : Term → ℕ)
+    (Named : Term → Type 0) (ts : List Touch) : Type 0 where
   pub size : length now.slots ≡ length h.slots
   pub own : (c : Cell) → IsOf h c → IsOf now c
   pub terms : (name : Naming) (c : Cell) → IsOf h c → term_of name now c ≡ term_of name h c
@@ -62,6 +68,8 @@ pub record IsTermsLinked (h now : Cells) (qs : List Indexical) (slot : Term → 
   pub number : (z : ℤ) → Named (Int z) → has (constrained qs) (slot (Int z)) ≡ false
   pub apart : (u w : Term) → Named u → Named w → slot u ≡ slot w → u ≡ w
   pub keep : (c k : ℕ) → link_in h c ≡ Some k → link_in now c ≡ Some k
-  pub new : (c k : ℕ) → link_in now c ≡ Some k → (link_in h c ≡ Some k) ⊎ (Named (Var c) × (has (constrained qs) k ≡ false))
+  pub new : (c k : ℕ) → link_in now c ≡ Some k → (link_in h c ≡ Some k)
+      ⊎ (Named (Var c) × (has (constrained qs) k ≡ false))
   pub told : AreNumbers slot Named ts
-  pub all : (z : ℤ) → Named (Int z) → (u : Substitution) → Unifies u (touched ts) → u (slot (Int z)) ≡ Int z
+  pub all : (z : ℤ) → Named (Int z) → (u : Substitution) → Unifies u (touched ts)
+      → u (slot (Int z)) ≡ Int z

@@ -23,7 +23,12 @@ link_in h c = link_of (slot_at h c)
 
 -- the frame of the heap h and a store with the ranges qs
 abbrev pub frame_of : Naming → Cells → List Indexical → Frame
-frame_of name h qs = record { heap = λ c. term_of name h (cell.Ref c); cells = length h.slots; link = link_in h; store = qs }
+frame_of name h qs = record {
+  heap = λ c. term_of name h (cell.Ref c);
+  cells = length h.slots;
+  link = link_in h;
+  store = qs;
+}
 
 -- the touches as the machine relation has them
 abbrev pub store_touch : Touch → store.Touch
@@ -34,7 +39,8 @@ abbrev pub store_touches : List Touch → List store.Touch
 store_touches ts = map store_touch ts
 
 -- The heap h and the ranges qs stand for the equations es and the ranges ps. look takes each known variable, that is each of P, to its term over the heap's variables. No variable of the heap is bound for having one value.
-pub record IsKept (M : ℕ) (h : Cells) (qs : List Indexical) (es : List Equation) (ps : List Indexical) (P : ℕ → Type 0) (look : Substitution) : Type 0 where
+pub record IsKept (M : ℕ) (h : Cells) (qs : List Indexical) (es : List Equation)
+    (ps : List Indexical) (P : ℕ → Type 0) (look : Substitution) : Type 0 where
   pub slot : ℕ → ℕ
   pub stored : IsStored M es ps P (length h.slots) look (link_in h) slot qs
 

@@ -17,9 +17,12 @@ use Rattle.machine_frames.specs.Naming.{full}
 -- A unification of two cells gives the machine relation's: its unifier, the links that are left, and the touches.
 abbrev pub UnifiedIsGeneral : Type 0
 UnifiedIsGeneral =
-    (name : Naming) (old now : Cells) (a b : Cell) (ts : List Touch) (u : core.IsUnified name old a b now ts)
-    → IsUnified (length old.slots) (link_in old) (cells_equal name old a b) u.unifier (link_in now) (store_touches ts)
+    (name : Naming) (old now : Cells) (a b : Cell) (ts : List Touch)
+    (u : core.IsUnified name old a b now ts)
+    → IsUnified (length old.slots) (link_in old) (cells_equal name old a b) u.unifier (link_in now)
+    (store_touches ts)
 
 -- The names of a pool can be told apart, and so can those of all other atoms.
 abbrev pub FullNames : Type 0
-FullNames = (names : List Name) → AreDistinct names → IsOneToOne (full names) × ((a : AtomId) → a.number < length names → full names a ≡ name_in names a)
+FullNames = (names : List Name) → AreDistinct names → IsOneToOne (full names)
+    × ((a : AtomId) → a.number < length names → full names a ≡ name_in names a)

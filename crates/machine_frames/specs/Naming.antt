@@ -10,4 +10,5 @@ zeros (suc n) = 0 ∷ zeros n
 
 -- an atom that isn't of the pool has a name that is longer than all of the pool's
 abbrev pub full : List Name → Naming
-full names a = if nat_lt a.number (length names) then name_in names a else zeros (suc (sum_by length names + a.number))
+full names a = if nat_lt a.number (length names) then name_in names a
+    else zeros (suc (sum_by length names + a.number))

@@ -28,9 +28,11 @@ pub record IsLinkedMore (h now : Cells) (more : List (ℕ × ℕ)) : Type 0 wher
   pub one : (c d k : ℕ) → link_in now c ≡ Some k → link_in now d ≡ Some k → c ≡ d
 
 -- What the heap and the store become by a row y over variables of the heap h, of which the fresh ones are the next: its ranges are linked and posted, and its equations unified.
-pub record IsRowLinked (h now : Cells) (qs : List Indexical) (y : Expansion) (link' : ℕ → Option ℕ) (qs' : List Indexical) (new : Substitution) (ts : List Touch) : Type 0 where
+pub record IsRowLinked (h now : Cells) (qs : List Indexical) (y : Expansion) (link' : ℕ → Option ℕ)
+    (qs' : List Indexical) (new : Substitution) (ts : List Touch) : Type 0 where
   pub joined : AreJoined (link_in h) qs y.ranges link' qs'
   pub unified : IsUnified y.fresh link' (equations y.equated) new (link_in now) ts
   pub size : length now.slots ≡ y.fresh
   pub own : (c : Cell) → IsOf h c → IsOf now c
-  pub terms : (name : Naming) (c : Cell) → IsOf h c → term_of name now c ≡ apply new (term_of name h c)
+  pub terms : (name : Naming) (c : Cell) → IsOf h c
+      → term_of name now c ≡ apply new (term_of name h c)

@@ -34,8 +34,12 @@ heap_row h G kind x = expand kind (arguments (read_term h G x)) (length h.slots)
 
 -- what a labelling of the list x does, by the heap and the store's sets
 abbrev pub heap_label : ℕ → Naming → Cells → List Indexical → Family → Order → Term → Labelled
-heap_label M name h qs G o x = labelled o (λ c. values_by M (cell_set G ((fixed_frame (frame_of name h qs) G).link c))) x
+heap_label M name h qs G o x = labelled o
+    (λ c. values_by M (cell_set G ((fixed_frame (frame_of name h qs) G).link c))) x
 
 -- what a built-in goal comes to whose arguments are the terms a and b of the heap
-abbrev pub heap_finding : Naming → Cells → List Indexical → Family → BuiltinKind → Term → Term → Finding
-heap_finding name h qs G k a b = found k (λ c. cell_set G ((fixed_frame (frame_of name h qs) G).link c)) a b (read_term h G a) (read_term h G b)
+abbrev pub heap_finding : Naming → Cells → List Indexical → Family → BuiltinKind → Term → Term
+    → Finding
+heap_finding name h qs G k a b = found k
+    (λ c. cell_set G ((fixed_frame (frame_of name h qs) G).link c)) a b (read_term h G a)
+    (read_term h G b)

@@ -22,7 +22,8 @@ OccursAmong h var cells = (name : Naming) → occurs_any var (terms_by (term_of 
 
 -- it occurs in none
 abbrev pub IsAbsentAmong : Cells → ℕ → List Cell → Type 0
-IsAbsentAmong h var cells = (name : Naming) → occurs_any var (terms_by (term_of name h) cells) ≡ false
+IsAbsentAmong h var cells = (name : Naming)
+    → occurs_any var (terms_by (term_of name h) cells) ≡ false
 
 -- the cell is a constant, or a variable other than this one
 abbrev pub IsOther : ℕ → Cell → Type 0
@@ -36,5 +37,7 @@ pub record LeavesAhead (h : Cells) (var : ℕ) (cells : List Cell) (old new : Li
   pub more : List ℕ
   pub ahead : new ≡ old ++ more
   pub own : All (IsOf h) (compounds more)
-  pub same : (name : Naming) → occurs_any var (terms_by (term_of name h) (compounds more)) ≡ occurs_any var (terms_by (term_of name h) cells)
-  pub smaller : sizes (terms_by (term_of unnamed h) (compounds more)) ≤ sizes (terms_by (term_of unnamed h) cells)
+  pub same : (name : Naming) → occurs_any var (terms_by (term_of name h) (compounds more))
+      ≡ occurs_any var (terms_by (term_of name h) cells)
+  pub smaller : sizes (terms_by (term_of unnamed h) (compounds more)) ≤ sizes
+      (terms_by (term_of unnamed h) cells)

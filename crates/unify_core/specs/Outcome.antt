@@ -36,13 +36,15 @@ IfNo (Ok No) p = p
 IfNo (Err e) p = Unit {0}
 
 -- some of the work is done
-pub record IsDone (old : Cells) (work : List Pair) (before : List Touch) (now : Cells) (left : List Pair) (ts : List Touch) : Type 0 where
+pub record IsDone (old : Cells) (work : List Pair) (before : List Touch) (now : Cells)
+    (left : List Pair) (ts : List Touch) : Type 0 where
   pub more : List Touch
   pub touches : ts ≡ before ++ more
   pub reduces : (name : Naming) → Reduces name old work now left more
   pub size : IsSameSize old now
   pub own : All (IsOwn old) work → All (IsOwn now) left
-  pub atoms : (n : ℕ) → HasAtomsBelow n old → All (HasAtoms n) work → HasAtomsBelow n now × All (HasAtoms n) left
+  pub atoms : (n : ℕ) → HasAtomsBelow n old → All (HasAtoms n) work → HasAtomsBelow n now
+      × All (HasAtoms n) left
   pub falls : effort now left < effort old work
 
 -- the work can't be done
@@ -66,11 +68,15 @@ TellsOccurs h var c b = (name : Naming) → b ≡ occurs var (term_of name h c)
 
 -- a compound term that the variable occurs in
 abbrev pub IsInfinite : Cells → ℕ → Cell → Type 0
-IsInfinite h var c = (name : Naming) → (f : Name) × (ts : Terms) × (term_of name h c ≡ Comp f ts) × (occurs_any var ts ≡ true)
+IsInfinite h var c = (name : Naming) → (f : Name) × (ts : Terms) × (term_of name h c ≡ Comp f ts)
+    × (occurs_any var ts ≡ true)
 
 abbrev pub IsSymbolicCell : Cells → Cell → Type 0
 IsSymbolicCell h c = (name : Naming) → IsSymbolic (term_of name h c)
 
 -- what the store is told where its variable k is bound to the cell
 abbrev pub TellsTouch : Cells → ℕ → ℕ → Cell → List Touch → List Touch → Type 0
-TellsTouch h var k to before after = ((z : ℤ) × (to ≡ cell.Int z) × (after ≡ before ++ Value k z ∷ [])) ⊎ ((d : ℕ) × (m : ℕ) × (to ≡ cell.Ref d) × (slot_at h d ≡ linked m) × (after ≡ before ++ Same k m ∷ []))
+TellsTouch h var k to before after = ((z : ℤ) × (to ≡ cell.Int z)
+    × (after ≡ before ++ Value k z ∷ []))
+    ⊎ ((d : ℕ) × (m : ℕ) × (to ≡ cell.Ref d) × (slot_at h d ≡ linked m)
+    × (after ≡ before ++ Same k m ∷ []))

@@ -20,11 +20,14 @@ equations name h (p ∷ ps) = equation name h p ∷ equations name h ps
 
 -- A heap with work becomes another heap with other work: the variables have new terms, and the new work says of the new heap what
 -- the old work said of the old one.
-pub record Reduces (name : Naming) (old : Cells) (work : List Pair) (now : Cells) (left : List Pair) (ts : List Touch) : Type 0 where
+pub record Reduces (name : Naming) (old : Cells) (work : List Pair) (now : Cells) (left : List Pair)
+    (ts : List Touch) : Type 0 where
   pub new : Substitution
   pub terms : (c : Cell) → term_of name now c ≡ apply new (term_of name old c)
-  pub forth : (u : Substitution) → Unifies u (equations name old work) → ((x : ℕ) → apply u (new x) ≡ u x) × Unifies u (equations name now left)
-  pub back : (r : Substitution) → Unifies r (equations name now left) → Unifies (after r new) (equations name old work)
+  pub forth : (u : Substitution) → Unifies u (equations name old work)
+      → ((x : ℕ) → apply u (new x) ≡ u x) × Unifies u (equations name now left)
+  pub back : (r : Substitution) → Unifies r (equations name now left)
+      → Unifies (after r new) (equations name old work)
   pub cells : (c : ℕ) → c < length old.slots → TermBelow (length old.slots) (new c)
   pub outside : (c : ℕ) → length old.slots ≤ c → new c ≡ Var c
   pub touches : AreTouched old now new ts

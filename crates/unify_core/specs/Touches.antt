@@ -34,10 +34,15 @@ pub record AreTouched (old now : Cells) (new : Substitution) (ts : List Touch) :
   pub plain : (c k : ℕ) → IsLinked old c k → IsPlain now (new c)
   pub named : All (NamesLinked old) ts
   -- the touches follow from the new terms
-  pub follow : (a : Substitution) → ((c k : ℕ) (z : ℤ) → IsLinked old c k → new c ≡ Int z → a k ≡ Int z) → ((c d k j : ℕ) → IsLinked old c k → IsLinked old d j → new c ≡ new d → a k ≡ a j) → Unifies a (touched ts)
+  pub follow : (a : Substitution)
+      → ((c k : ℕ) (z : ℤ) → IsLinked old c k → new c ≡ Int z → a k ≡ Int z)
+      → ((c d k j : ℕ) → IsLinked old c k → IsLinked old d j → new c ≡ new d → a k ≡ a j)
+      → Unifies a (touched ts)
   -- and from them the values and the equalities follow
-  pub values : (a : Substitution) → Unifies a (touched ts) → (c k : ℕ) (z : ℤ) → IsLinked old c k → new c ≡ Int z → a k ≡ Int z
-  pub pairs : (a : Substitution) → Unifies a (touched ts) → (c d k j : ℕ) → IsLinked old c k → IsLinked now d j → new c ≡ Var d → a k ≡ a j
+  pub values : (a : Substitution) → Unifies a (touched ts) → (c k : ℕ) (z : ℤ) → IsLinked old c k
+      → new c ≡ Int z → a k ≡ Int z
+  pub pairs : (a : Substitution) → Unifies a (touched ts) → (c d k j : ℕ) → IsLinked old c k
+      → IsLinked now d j → new c ≡ Var d → a k ≡ a j
 
 -- an atom or a compound term
 abbrev pub IsSymbolic : Term → Type 0
@@ -48,4 +53,5 @@ IsSymbolic (Comp f ts) = Unit {0}
 
 -- each unifier, if there is one, makes a variable of the store an atom or a compound term
 abbrev pub IsRefuted : Cells → List Equation → Type 0
-IsRefuted h es = (u : Substitution) → Unifies u es → (c : ℕ) × (k : ℕ) × IsLinked h c k × IsSymbolic (u c)
+IsRefuted h es = (u : Substitution) → Unifies u es → (c : ℕ) × (k : ℕ) × IsLinked h c k
+    × IsSymbolic (u c)

@@ -16,7 +16,8 @@ abbrev pub cells_equal : Naming → Cells → Cell → Cell → List Equation
 cells_equal name h a b = record { left = term_of name h a; right = term_of name h b } ∷ []
 
 -- Each cell stands for its old term under a most general unifier of the two terms.
-pub record IsUnified (name : Naming) (old : Cells) (a b : Cell) (now : Cells) (ts : List Touch) : Type 0 where
+pub record IsUnified (name : Naming) (old : Cells) (a b : Cell) (now : Cells)
+    (ts : List Touch) : Type 0 where
   pub unifier : Substitution
   pub general : IsMostGeneral (cells_equal name old a b) unifier
   pub terms : (c : Cell) → term_of name now c ≡ apply unifier (term_of name old c)
@@ -35,10 +36,12 @@ CannotUnify h a b = (name : Naming) → IsOneToOne name → IsRefuted h (cells_e
 
 -- where the atoms of the heap and of the two cells were among the first n, those of the heap are so still
 abbrev pub KeepsAtoms : Cells → Cell → Cell → Cells → Type 0
-KeepsAtoms old a b now = (n : ℕ) → HasAtomsBelow n old → IsAtomBelow n a → IsAtomBelow n b → HasAtomsBelow n now
+KeepsAtoms old a b now = (n : ℕ) → HasAtomsBelow n old → IsAtomBelow n a → IsAtomBelow n b
+    → HasAtomsBelow n now
 
 -- The cells are equal now; what the store is to be told is behind what it was to be told before.
-pub record IsEqualled (old : Cells) (a b : Cell) (now : Cells) (before after : List Touch) : Type 0 where
+pub record IsEqualled (old : Cells) (a b : Cell) (now : Cells)
+    (before after : List Touch) : Type 0 where
   pub more : List Touch
   pub touches : after ≡ before ++ more
   pub unified : AreUnified old a b now more
