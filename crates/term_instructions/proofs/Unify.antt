@@ -11,13 +11,9 @@ use Rattle.wam_code.specs.Means.{Owed}
 use Rattle.wam_code.proofs.Unifying.{at_unify}
 use Rattle.wam_code.specs.declared.instruction.Register.{Register}
 use Rattle.wam_code.specs.declared.instruction.Code.{Code}
-use Rattle.wam_code.specs.declared.instruction.Code.TheVariants as code
 use Rattle.wam_code.specs.declared.instruction.Code.TheVariants.{UnifyVariable, UnifyValue, UnifyConstant, UnifyInteger, UnifyVoid}
-use Rattle.wam_code.specs.declared.instruction.Instr.{Instr}
-use Rattle.wam_code.specs.declared.instruction.Instr.TheVariants as instr
 use Rattle.wam_code.specs.declared.parts.Entry.{Entry}
 use Rattle.wam_code.specs.Area.{State, Area, Holds}
-use Rattle.wam_code.specs.Standing.{StandsAt}
 use Rattle.wam_code.specs.Effect.{is_set, is_free, with_set, with_owed, unify_effect, effect_by}
 use Rattle.code_areas.specs.Areas.{Places, Contents}
 use Rattle.code_states.specs.Machine.{HasCell, CanHold}
@@ -86,42 +82,10 @@ none_some t e = cc
 no_unify : (area : Area) (at : ℕ) (i : Code) → Holds area at i → ((s : State) → unify_effect i s ≡ None) → IsUnifyAt area at → ⊥
 no_unify area at i f none u = none_some u.2 (sym (none u.1) ∙ ap (λ j. unify_effect j u.1) (same_code area at i u.0 f u.3) ∙ u.4)
 
-pub only_unify : (area : Area) (at : ℕ) (i : Instr) → StandsAt area at i → IsUnifyAt area at → ((r : Register) → i ≡ instr.UnifyVariable r → ⊥) → ((r : Register) → i ≡ instr.UnifyValue r → ⊥) → ((c : AtomId) → i ≡ instr.UnifyConstant c → ⊥) → ((z : ℤ) → i ≡ instr.UnifyInteger z → ⊥) → ((n : ℕ) → i ≡ instr.UnifyVoid n → ⊥) → ⊥
-only_unify area at (instr.UnifyVariable r) h u no1 no2 no3 no4 no5 = no1 r refl
-only_unify area at (instr.UnifyValue r) h u no1 no2 no3 no4 no5 = no2 r refl
-only_unify area at (instr.UnifyConstant c) h u no1 no2 no3 no4 no5 = no3 c refl
-only_unify area at (instr.UnifyInteger z) h u no1 no2 no3 no4 no5 = no4 z refl
-only_unify area at (instr.UnifyVoid n) h u no1 no2 no3 no4 no5 = no5 n refl
-only_unify area at (instr.GetVariable r a) h u no1 no2 no3 no4 no5 = no_unify area at (code.GetVariable r a) h (λ s. refl) u
-only_unify area at (instr.GetValue r a) h u no1 no2 no3 no4 no5 = no_unify area at (code.GetValue r a) h (λ s. refl) u
-only_unify area at (instr.GetConstant c a) h u no1 no2 no3 no4 no5 = no_unify area at (code.GetConstant c a) h (λ s. refl) u
-only_unify area at (instr.GetInteger z a) h u no1 no2 no3 no4 no5 = no_unify area at (code.GetInteger z a) h (λ s. refl) u
-only_unify area at (instr.GetStructure f n a) h u no1 no2 no3 no4 no5 = no_unify area at (code.GetStructure f n a) h (λ s. refl) u
-only_unify area at (instr.PutVariable r a) h u no1 no2 no3 no4 no5 = no_unify area at (code.PutVariable r a) h (λ s. refl) u
-only_unify area at (instr.PutValue r a) h u no1 no2 no3 no4 no5 = no_unify area at (code.PutValue r a) h (λ s. refl) u
-only_unify area at (instr.PutConstant c a) h u no1 no2 no3 no4 no5 = no_unify area at (code.PutConstant c a) h (λ s. refl) u
-only_unify area at (instr.PutInteger z a) h u no1 no2 no3 no4 no5 = no_unify area at (code.PutInteger z a) h (λ s. refl) u
-only_unify area at (instr.PutStructure f n a) h u no1 no2 no3 no4 no5 = no_unify area at (code.PutStructure f n a) h (λ s. refl) u
-only_unify area at (instr.Allocate n) h u no1 no2 no3 no4 no5 = no_unify area at (code.Allocate n) h (λ s. refl) u
-only_unify area at instr.Deallocate h u no1 no2 no3 no4 no5 = no_unify area at code.Deallocate h (λ s. refl) u
-only_unify area at (instr.Call e) h u no1 no2 no3 no4 no5 = no_unify area at (code.Call e) h (λ s. refl) u
-only_unify area at (instr.Execute e) h u no1 no2 no3 no4 no5 = no_unify area at (code.Execute e) h (λ s. refl) u
-only_unify area at instr.Proceed h u no1 no2 no3 no4 no5 = no_unify area at code.Proceed h (λ s. refl) u
-only_unify area at (instr.Jump to) h u no1 no2 no3 no4 no5 = no_unify area at (code.Jump to) h (λ s. refl) u
-only_unify area at instr.FailNow h u no1 no2 no3 no4 no5 = no_unify area at code.FailNow h (λ s. refl) u
-only_unify area at instr.AnswerNow h u no1 no2 no3 no4 no5 = no_unify area at code.AnswerNow h (λ s. refl) u
-only_unify area at (instr.TryMeElse to) h u no1 no2 no3 no4 no5 = no_unify area at (code.TryMeElse to) h (λ s. refl) u
-only_unify area at (instr.RetryMeElse to) h u no1 no2 no3 no4 no5 = no_unify area at (code.RetryMeElse to) h (λ s. refl) u
-only_unify area at instr.TrustMe h u no1 no2 no3 no4 no5 = no_unify area at code.TrustMe h (λ s. refl) u
-only_unify area at (instr.Try to) h u no1 no2 no3 no4 no5 = no_unify area at (code.Try to) h (λ s. refl) u
-only_unify area at (instr.Retry to) h u no1 no2 no3 no4 no5 = no_unify area at (code.Retry to) h (λ s. refl) u
-only_unify area at (instr.Trust to) h u no1 no2 no3 no4 no5 = no_unify area at (code.Trust to) h (λ s. refl) u
-only_unify area at (instr.SwitchOnTerm v k i s) h u no1 no2 no3 no4 no5 = no_unify area at (code.SwitchOnTerm v k i s) h (λ s. refl) u
-only_unify area at (instr.Either to) h u no1 no2 no3 no4 no5 = no_unify area at (code.Either to) h (λ s. refl) u
-only_unify area at (instr.Builtin k) h u no1 no2 no3 no4 no5 = no_unify area at (code.Builtin k) h (λ s. refl) u
-only_unify area at (instr.Constrain k) h u no1 no2 no3 no4 no5 = no_unify area at (code.Constrain k) h (λ s. refl) u
-only_unify area at (instr.Label o) h u no1 no2 no3 no4 no5 = no_unify area at (code.Label o) h (λ s. refl) u
-only_unify area at (instr.SwitchOnConstant table) h u no1 no2 no3 no4 no5 = no_unify area at (code.SwitchOnConstant h.0) h.1 (λ s. refl) u
-only_unify area at (instr.SwitchOnInteger table) h u no1 no2 no3 no4 no5 = no_unify area at (code.SwitchOnInteger h.0) h.1 (λ s. refl) u
-only_unify area at (instr.SwitchOnStructure table) h u no1 no2 no3 no4 no5 = no_unify area at (code.SwitchOnStructure h.0) h.1 (λ s. refl) u
-only_unify area at (instr.PostRange k n) h u no1 no2 no3 no4 no5 = no_unify area at (code.PostRange h.0 n) h.1 (λ s. refl) u
+pub only_unify : (area : Area) (at : ℕ) (i : Code) → Holds area at i → IsUnifyAt area at → ((r : Register) → i ≡ UnifyVariable r → ⊥) → ((r : Register) → i ≡ UnifyValue r → ⊥) → ((c : AtomId) → i ≡ UnifyConstant c → ⊥) → ((z : ℤ) → i ≡ UnifyInteger z → ⊥) → ((n : ℕ) → i ≡ UnifyVoid n → ⊥) → ⊥
+only_unify area at (UnifyVariable r) h u no1 no2 no3 no4 no5 = no1 r refl
+only_unify area at (UnifyValue r) h u no1 no2 no3 no4 no5 = no2 r refl
+only_unify area at (UnifyConstant c) h u no1 no2 no3 no4 no5 = no3 c refl
+only_unify area at (UnifyInteger z) h u no1 no2 no3 no4 no5 = no4 z refl
+only_unify area at (UnifyVoid n) h u no1 no2 no3 no4 no5 = no5 n refl
+only_unify area at i h u no1 no2 no3 no4 no5 = no_unify area at i h (λ s. refl) u

@@ -19,7 +19,8 @@ use Rattle.code_states.specs.Standing.{IsNaming, StandsThen}
 use Rattle.code_states.specs.declared.went.Went.{Went}
 use Rattle.term_instructions.specs.Arguments.{LeadsFrom}
 
--- what the structure is for: the head's argument with this cell, or a goal's argument in this register
+-- what the structure is for: the head's argument with this cell, or a goal's argument in this
+-- register
 pub data Purpose : Type 0 where
   for_head : Cell → Purpose
   for_goal : ℕ → Purpose
@@ -33,7 +34,8 @@ abbrev pub gathered : Purpose → List Cell → List Cell
 gathered (for_head d) cells = d ∷ cells
 gathered (for_goal r) cells = cells
 
--- These cells are the first arguments of a structure with a name, of which so many are left to be given from the place on.
+-- These cells are the first arguments of a structure with a name, of which so many are left to be
+-- given from the place on.
 abbrev pub BuildsAt : Area → List ℕ → Naming → Name → Purpose → branch.State → ℕ → Contents → List Cell → ℕ → Branch → Type 0
 BuildsAt area shown name f use' s at c cells left b = Builds INFINITY area shown name s.heaps.now s.levels.current.posted 0 at (registers_of c) (gathered use' cells) left (stack_of c) b (end_of area shown b f use')
 
@@ -58,7 +60,8 @@ pub record AreVariablesAdded (n : ℕ) (s : branch.State) (cells : List Cell) (s
   pub heap : s' ≡ with_heap s s'.heaps.now
   pub sound : IsSound s'
 
--- The structure was built and made equal to a head's argument with the cell d, and the machine stands for the same branches.
+-- The structure was built and made equal to a head's argument with the cell d, and the machine
+-- stands for the same branches.
 pub record BuildsThen (area : Area) (f : AtomId) (n : ℕ) (d : Cell) (s : branch.State) (at : ℕ) (c : Contents) (s' : branch.State) (c' : Contents) (w : Went) : Type 0 where
   pub safe : IsSafeThen area s' c' w
   pub leads : LeadsFrom at w

@@ -18,7 +18,8 @@ use Rattle.term_instructions.specs.declared.reading.Reading.{Reading}
 use Rattle.code_states.specs.declared.went.Went.{Went}
 use Rattle.term_instructions.specs.Arguments.{LeadsFrom}
 
--- The cells left are to be equal to the terms that the code gives from the place on, where what was touched is still to be posted.
+-- The cells left are to be equal to the terms that the code gives from the place on, where what was
+-- touched is still to be posted.
 abbrev pub ReadsAt : Area → List ℕ → Naming → branch.State → List Touch → ℕ → Contents → List Cell → Branch → Type 0
 ReadsAt area shown name s told at c left b = Reads INFINITY area shown name s.heaps.now (posted_with s told) 0 at (registers_of c) left (stack_of c) b
 

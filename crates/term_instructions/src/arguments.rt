@@ -4,7 +4,7 @@ ghost use Rattle.wam_code.specs.Area.{Holds};
 ghost use Rattle.term_instructions.specs.Arguments.{code_of, IsUnifyAt};
 
 use term_pool::AtomId;
-use wam_code::{CodeArea, Instr, Register};
+use wam_code::{Code, CodeArea, Register};
 
 /// What an instruction of the unify group gives.
 #[derive(Clone, Copy)]
@@ -23,12 +23,12 @@ pub(crate) fn argument_at(code: &CodeArea, at: usize) -> Argument
     requires unify { IsUnifyAt code.now at }
     ensures { Holds code.now at (code_of result) }
 {
-    match code.instr(at) {
-        Instr::UnifyVariable(r) => Argument::Variable(r),
-        Instr::UnifyValue(r) => Argument::Value(r),
-        Instr::UnifyConstant(c) => Argument::Constant(c),
-        Instr::UnifyInteger(z) => Argument::Integer(z),
-        Instr::UnifyVoid(n) => Argument::Void(n),
+    match code.code_at(at) {
+        Code::UnifyVariable(r) => Argument::Variable(r),
+        Code::UnifyValue(r) => Argument::Value(r),
+        Code::UnifyConstant(c) => Argument::Constant(c),
+        Code::UnifyInteger(z) => Argument::Integer(z),
+        Code::UnifyVoid(n) => Argument::Void(n),
         _ => unreachable!(),
     }
 }

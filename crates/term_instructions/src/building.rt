@@ -31,7 +31,8 @@ fn push_variables<A: Agenda + Drop>(
     Ok(())
 }
 
-/// Puts the next argument behind the others, or those of one instruction. The error is want of memory.
+/// Puts the next argument behind the others, or those of one instruction. The error is want of
+/// memory.
 fn push_argument<A: Agenda + Drop>(
     code: &CodeArea,
     at: usize,
@@ -59,8 +60,8 @@ fn push_argument<A: Agenda + Drop>(
     }
 }
 
-/// Gathers the `n` arguments of a structure, which the code gives from a place on. The result is the place behind them; the error is want
-/// of memory.
+/// Gathers the `n` arguments of a structure, which the code gives from a place on. The result is
+/// the place behind them; the error is want of memory.
 pub(crate) fn gather_arguments<A: Agenda + Drop>(
     code: &CodeArea,
     from: usize,

@@ -19,8 +19,8 @@ use term_pool::AtomId;
 use unify_core::Touch;
 use wam_code::{CodeArea, Register};
 
-/// A head's argument that is a variable met first: the register takes the argument's cell. The result is the next place; the error is
-/// want of memory.
+/// A head's argument that is a variable met first: the register takes the argument's cell. The
+/// result is the next place; the error is want of memory.
 #[inline]
 pub fn get_variable<A: Agenda + Drop>(
     code: &CodeArea,
@@ -43,8 +43,9 @@ pub fn get_variable<A: Agenda + Drop>(
     Ok(Went::On(behind(code, at)))
 }
 
-/// Makes an argument equal to what the register holds, and tells the store; `touches` is lent for that. The result is the next place,
-/// or back where they can't be equal; the error is want of memory.
+/// Makes an argument equal to what the register holds, and tells the store; `touches` is lent for
+/// that. The result is the next place, or back where they can't be equal; the error is want of
+/// memory.
 pub fn get_value<A: Agenda + Drop>(
     code: &CodeArea,
     at: usize,

@@ -18,7 +18,8 @@ use propagate_queue::Agenda;
 use term_pool::AtomId;
 use wam_code::{CodeArea, Register};
 
-/// A goal's argument that is a new variable, which both registers take. The result is the next place; the error is want of memory.
+/// A goal's argument that is a new variable, which both registers take. The result is the next
+/// place; the error is want of memory.
 pub fn put_variable<A: Agenda + Drop>(
     code: &CodeArea,
     at: usize,
@@ -42,7 +43,8 @@ pub fn put_variable<A: Agenda + Drop>(
     Ok(Went::On(behind(code, at)))
 }
 
-/// A goal's argument is what a register holds. The result is the next place; the error is want of memory.
+/// A goal's argument is what a register holds. The result is the next place; the error is want of
+/// memory.
 #[inline]
 pub fn put_value<A: Agenda + Drop>(
     code: &CodeArea,

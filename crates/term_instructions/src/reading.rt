@@ -30,8 +30,8 @@ fn reading_if(equal: bool, to: Reading) -> Option<Reading>
     if equal { Some(to) } else { None }
 }
 
-/// Reads the next argument, or those that one instruction leaves out. `None` comes where it can't be what the code gives. The error is
-/// want of memory.
+/// Reads the next argument, or those that one instruction leaves out. `None` comes where it can't
+/// be what the code gives. The error is want of memory.
 #[inline]
 fn read_argument<A: Agenda + Drop>(
     code: &CodeArea,
@@ -80,8 +80,8 @@ fn read_argument<A: Agenda + Drop>(
     }
 }
 
-/// Reads all arguments, and gives the place behind their instructions. `None` comes where they can't be what the code gives. The error
-/// is want of memory.
+/// Reads all arguments, and gives the place behind their instructions. `None` comes where they
+/// can't be what the code gives. The error is want of memory.
 pub(crate) fn read_arguments<A: Agenda + Drop>(
     code: &CodeArea,
     from: Reading,

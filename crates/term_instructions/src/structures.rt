@@ -1,5 +1,5 @@
 //! Structures of a clause, with the unify group behind them.
-ghost use Rattle.std.specs.Prelude.{◌≡◌, [], length, All, IfOk, OnOk};
+ghost use Rattle.std.specs.Prelude.{◌≡◌, ◌++◌, [], length, All, IfOk, OnOk};
 ghost use Rattle.branch_state.specs.States.{IsCell, IsSameBelow};
 ghost use Rattle.wam_code.specs.declared.instruction.Code.TheVariants as step;
 ghost use Rattle.wam_code.specs.Area.{Holds};
@@ -25,7 +25,8 @@ use term_pool::AtomId;
 use unify_core::Touch;
 use wam_code::{CodeArea, Register};
 
-/// What instructions are lent: the cells of a structure's arguments, and what the store is to be told.
+/// What instructions are lent: the cells of a structure's arguments, and what the store is to be
+/// told.
 #[derive(Drop)]
 pub struct Scratch {
     pub cells: Vec<Cell>,
@@ -42,8 +43,20 @@ impl Scratch {
     }
 }
 
-/// Reads the arguments of a structure that is there, and tells the store. The result is the place behind them, or back where they can't
-/// be what the code gives; the error is want of memory.
+/// Puts copies of cells, which are few, behind the others. The error is want of memory.
+#[inline]
+fn push_copies(cells: &mut Vec<Cell>, more: &[Cell]) -> Result<(), NoMemory>
+    ensures { OnOk result (cells.new.items ≡ cells.old.items ++ more.now) }
+{
+    cells.reserve(more.len())?;
+    for cell in more {
+        cells.push_reserved(*cell);
+    }
+    Ok(())
+}
+
+/// Reads the arguments of a structure that is there, and tells the store. The result is the place
+/// behind them, or back where they can't be what the code gives; the error is want of memory.
 fn match_arguments<A: Agenda + Drop>(
     code: &CodeArea,
     from: usize,
@@ -66,8 +79,8 @@ fn match_arguments<A: Agenda + Drop>(
     Ok(on_if(at, posted))
 }
 
-/// Builds the structure, makes it equal to a head's argument, and tells the store. The result is the place behind its arguments, or
-/// back where it can't be equal; the error is want of memory.
+/// Builds the structure, makes it equal to a head's argument, and tells the store. The result is
+/// the place behind its arguments, or back where it can't be equal; the error is want of memory.
 fn build_argument<A: Agenda + Drop>(
     code: &CodeArea,
     from: usize,
@@ -91,9 +104,9 @@ fn build_argument<A: Agenda + Drop>(
     Ok(on_if(next, equal))
 }
 
-/// Matches a head's argument with a structure, whose arguments come with the unify group behind: a structure that is there is read, and
-/// for a variable one is built. `scratch` is lent. The result is the place behind all, or back where they can't be equal; the error is
-/// want of memory.
+/// Matches a head's argument with a structure, whose arguments come with the unify group behind: a
+/// structure that is there is read, and for a variable one is built. `scratch` is lent. The result
+/// is the place behind all, or back where they can't be equal; the error is want of memory.
 pub fn get_structure<A: Agenda + Drop>(
     code: &CodeArea,
     at: usize,
@@ -122,7 +135,7 @@ pub fn get_structure<A: Agenda + Drop>(
             if name != functor.0 || args.len() != functor.1 as usize {
                 return Ok(Went::Back);
             }
-            scratch.cells.extend_from_slice(args)?;
+            push_copies(&mut scratch.cells, args)?;
             match_arguments(
                 code,
                 from,
@@ -136,8 +149,9 @@ pub fn get_structure<A: Agenda + Drop>(
     }
 }
 
-/// A goal's argument is a structure, which the register takes; its arguments come with the unify group behind. `cells` is lent to gather
-/// them. The result is the place behind all; the error is want of memory.
+/// A goal's argument is a structure, which the register takes; its arguments come with the unify
+/// group behind. `cells` is lent to gather them. The result is the place behind all; the error is
+/// want of memory.
 pub fn put_structure<A: Agenda + Drop>(
     code: &CodeArea,
     at: usize,

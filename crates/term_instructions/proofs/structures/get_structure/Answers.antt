@@ -45,7 +45,7 @@ returns-then-ne-clause-stands g c =
 
 pub match_arguments-requires-clause-safe : goal.match_arguments-requires-clause-safe
 match_arguments-requires-clause-safe g c =
-    let all : c.deref-in-Struct.result.now ≡ c.in-Struct.args.now = c.deref-in-Struct.ensures.value ∙ c.in_ok-extend_from_slice-in-Struct.ensures.items ∙ ap (λ l. l ++ c.in-Struct.args.now) c.clear.ensures.items in
+    let all : c.deref-in-Struct.result.now ≡ c.in-Struct.args.now = c.deref-in-Struct.ensures.value ∙ c.in_ok-push_copies-in-Struct.ensures ∙ ap (λ l. l ++ c.in-Struct.args.now) c.clear.ensures.items in
     subst (λ n. IsSafe c.args.code.now c.args.branch.now c.behind-from.result n c.args.areas.now) (sym (ap length all ∙ c.if-args-functor.false))
     (subst (λ k. IsSafe c.args.code.now c.args.branch.now k c.args.functor.1 c.args.areas.now) (sym c.behind-from.ensures)
     (get_started c.args.code.now c.args.branch.now c.args.at c.args.areas.now c.requires.safe c.args.functor.0 c.args.functor.1 c.args.a c.requires.holds))
@@ -53,22 +53,22 @@ match_arguments-requires-clause-safe g c =
 pub match_arguments-requires-clause-own : goal.match_arguments-requires-clause-own
 match_arguments-requires-clause-own g c =
     let k = subst (λ (hs : Heaps). IsSeen hs.now c.register-argument.result (seen.Struct c.in-Struct.name c.in-Struct.args)) c.heap.ensures c.in-Struct.ensures.seen in
-    let all : c.deref-in-Struct.result.now ≡ c.in-Struct.args.now = c.deref-in-Struct.ensures.value ∙ c.in_ok-extend_from_slice-in-Struct.ensures.items ∙ ap (λ l. l ++ c.in-Struct.args.now) c.clear.ensures.items in
+    let all : c.deref-in-Struct.result.now ≡ c.in-Struct.args.now = c.deref-in-Struct.ensures.value ∙ c.in_ok-push_copies-in-Struct.ensures ∙ ap (λ l. l ++ c.in-Struct.args.now) c.clear.ensures.items in
     subst (All (IsCell c.args.branch.now)) (sym all)
     (args_own c.args.code.now c.args.branch.now c.args.at c.args.areas.now c.requires.safe c.args.functor.0 c.args.functor.1 c.args.a c.requires.holds c.register-argument.result c.register-argument.ensures c.in-Struct.name c.in-Struct.args.now k.0 k.1 k.2 k.3)
 
-pub returns-in_ok-extend_from_slice-in-Struct-clause-stands : goal.returns-in_ok-extend_from_slice-in-Struct-clause-stands
-returns-in_ok-extend_from_slice-in-Struct-clause-stands g c =
+pub returns-in_ok-push_copies-in-Struct-clause-stands : goal.returns-in_ok-push_copies-in-Struct-clause-stands
+returns-in_ok-push_copies-in-Struct-clause-stands g c =
     let k = subst (λ (hs : Heaps). IsSeen hs.now c.register-argument.result (seen.Struct c.in-Struct.name c.in-Struct.args)) c.heap.ensures c.in-Struct.ensures.seen in
-    let all : c.deref-in-Struct.result.now ≡ c.in-Struct.args.now = c.deref-in-Struct.ensures.value ∙ c.in_ok-extend_from_slice-in-Struct.ensures.items ∙ ap (λ l. l ++ c.in-Struct.args.now) c.clear.ensures.items in
+    let all : c.deref-in-Struct.result.now ≡ c.in-Struct.args.now = c.deref-in-Struct.ensures.value ∙ c.in_ok-push_copies-in-Struct.ensures ∙ ap (λ l. l ++ c.in-Struct.args.now) c.clear.ensures.items in
     (get_read c.args.code.now c.args.branch.now c.args.at c.args.areas.now c.requires.safe c.args.functor.0 c.args.functor.1 c.args.a c.requires.holds c.register-argument.result c.register-argument.ensures c.behind-from.result c.behind-from.ensures
     c.match_arguments.new.branch c.match_arguments.new.areas c.in-Struct.name c.in-Struct.args.now k.0 k.1 k.2 k.3 (same_atom c.in-Struct.name c.args.functor.0 c.if-ne.ensures) c.if-args-functor.false
     c.deref-in-Struct.result.now all c.clear-2.new.self.items c.clear-2.ensures.items c.match_arguments.result c.match_arguments.ensures).1
 
-pub returns-in_ok-extend_from_slice-in-Struct-clause-leads : goal.returns-in_ok-extend_from_slice-in-Struct-clause-leads
-returns-in_ok-extend_from_slice-in-Struct-clause-leads g c =
+pub returns-in_ok-push_copies-in-Struct-clause-leads : goal.returns-in_ok-push_copies-in-Struct-clause-leads
+returns-in_ok-push_copies-in-Struct-clause-leads g c =
     let k = subst (λ (hs : Heaps). IsSeen hs.now c.register-argument.result (seen.Struct c.in-Struct.name c.in-Struct.args)) c.heap.ensures c.in-Struct.ensures.seen in
-    let all : c.deref-in-Struct.result.now ≡ c.in-Struct.args.now = c.deref-in-Struct.ensures.value ∙ c.in_ok-extend_from_slice-in-Struct.ensures.items ∙ ap (λ l. l ++ c.in-Struct.args.now) c.clear.ensures.items in
+    let all : c.deref-in-Struct.result.now ≡ c.in-Struct.args.now = c.deref-in-Struct.ensures.value ∙ c.in_ok-push_copies-in-Struct.ensures ∙ ap (λ l. l ++ c.in-Struct.args.now) c.clear.ensures.items in
     (get_read c.args.code.now c.args.branch.now c.args.at c.args.areas.now c.requires.safe c.args.functor.0 c.args.functor.1 c.args.a c.requires.holds c.register-argument.result c.register-argument.ensures c.behind-from.result c.behind-from.ensures
     c.match_arguments.new.branch c.match_arguments.new.areas c.in-Struct.name c.in-Struct.args.now k.0 k.1 k.2 k.3 (same_atom c.in-Struct.name c.args.functor.0 c.if-ne.ensures) c.if-args-functor.false
     c.deref-in-Struct.result.now all c.clear-2.new.self.items c.clear-2.ensures.items c.match_arguments.result c.match_arguments.ensures).2
