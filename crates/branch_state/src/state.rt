@@ -173,7 +173,7 @@ impl<A: Agenda + Drop> BranchState<A> {
     /// Tells the store of touches: the ranges that say so are posted behind the others. `false` comes exactly where all have no model;
     /// then the current pair is to be given up by `undo`. Where there are no touches nothing is done. After an error the branch isn't used
     /// any more.
-    #[inline]
+    #[inline(always)]
     pub fn post_touches(&mut self, touches: &[Touch]) -> Result<bool, NoMemory>
         requires sound { IsSound self.old }
         requires touches { AreTouchesBelow (length self.old.levels.current.sets) touches.now }

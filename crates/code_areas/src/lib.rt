@@ -82,7 +82,7 @@ impl Areas {
     }
 
     /// The cell in the register `n`.
-    #[inline]
+    #[inline(always)]
     pub fn register(&self, n: usize) -> Cell
         requires { IsSet self.now.registers n }
         ensures { cell_at self.now.registers n ≡ Some result }
@@ -91,7 +91,7 @@ impl Areas {
     }
 
     /// Puts a cell into the register `n`. The error is want of memory.
-    #[inline]
+    #[inline(always)]
     pub fn set_register(&mut self, n: usize, cell: Cell) -> Result<(), NoMemory>
         ensures put { OnOk result (IsPut self.old.registers n cell self.new.registers) }
         ensures same { self.new ≡ record self.old { registers = self.new.registers } }
@@ -110,7 +110,7 @@ impl Areas {
     }
 
     /// The cell in the slot `n`.
-    #[inline]
+    #[inline(always)]
     pub fn slot(&self, n: usize) -> Cell
         requires { IsSet self.now.slots n }
         ensures { cell_at self.now.slots n ≡ Some result }
@@ -126,7 +126,7 @@ impl Areas {
     }
 
     /// Puts a cell into the slot `n` of the current frame. No memory.
-    #[inline]
+    #[inline(always)]
     pub fn set_slot(&mut self, n: usize, cell: Cell)
         requires { n < length self.old.slots }
         ensures { self.new
@@ -270,7 +270,7 @@ impl Areas {
 }
 
 /// The cell at a number where one is set.
-#[inline]
+#[inline(always)]
 fn set_cell(cells: &[Option<Cell>], at: usize) -> Cell
     requires { IsSet cells.now at }
     ensures { cell_at cells.now at ≡ Some result }
@@ -279,7 +279,7 @@ fn set_cell(cells: &[Option<Cell>], at: usize) -> Cell
 }
 
 /// Puts a cell behind the first ones at the number `n`.
-#[inline]
+#[inline(always)]
 fn put_cell(
     cells: &mut Vec<Option<Cell>>,
     first: usize,

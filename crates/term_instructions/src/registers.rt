@@ -9,7 +9,7 @@ use heap_cells::Cell;
 use wam_code::Register;
 
 /// The cell that a register holds.
-#[inline]
+#[inline(always)]
 pub(crate) fn read(areas: &Areas, r: Register) -> Cell
     requires { HasCell areas.now r }
     ensures { cell_in (registers_of areas.now) r ≡ Some result }
@@ -21,7 +21,7 @@ pub(crate) fn read(areas: &Areas, r: Register) -> Cell
 }
 
 /// Puts a cell into a register. The error is want of memory.
-#[inline]
+#[inline(always)]
 pub(crate) fn write(areas: &mut Areas, r: Register, cell: Cell) -> Result<(), NoMemory>
     requires { CanHold areas.old r }
     ensures written { OnOk result (IsWritten (registers_of areas.old) r cell

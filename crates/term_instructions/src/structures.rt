@@ -44,7 +44,7 @@ impl Scratch {
 }
 
 /// Puts copies of cells, which are few, behind the others. The error is want of memory.
-#[inline]
+#[inline(always)]
 fn push_copies(cells: &mut Vec<Cell>, more: &[Cell]) -> Result<(), NoMemory>
     ensures { OnOk result (cells.new.items ≡ cells.old.items ++ more.now) }
 {
