@@ -138,3 +138,17 @@ pub args_more : (n i : ℕ) (ns : List (Option Need)) (as' : List Arg) (k : Opti
 args_more n i ns as' k a l e h j =
     subst (λ x. AreArgs n x (take (i + 1) as')) (sym (take_more ns i k (omega (arith, l, e))))
     (subst (AreArgs n (take i ns ++ get_or ns i k ∷ [])) (sym (take_more as' i a l)) (args_last n (take i ns) (take i as') (get_or ns i k) (get_or as' i a) h j))
+
+-- arguments that fit are as many as their needs, and each fits its own
+pub args_length : (n : ℕ) (ns : List (Option Need)) (as' : List Arg) → AreArgs n ns as' → length ns ≡ length as'
+args_length n [] [] h = refl
+args_length n [] (x ∷ xs) h = absurd h
+args_length n (k ∷ ks) [] h = absurd h
+args_length n (k ∷ ks) (x ∷ xs) h = ap suc (args_length n ks xs h.1)
+
+pub arg_at : (n i : ℕ) (ns : List (Option Need)) (as' : List Arg) (k : Option Need) (a : Arg) → AreArgs n ns as' → i < length as' → IsArg n (get_or ns i k) (get_or as' i a)
+arg_at n i [] [] k a h l = absurd (let e : ⊥ = omega (arith, l) in e)
+arg_at n i [] (x ∷ xs) k a h l = absurd h
+arg_at n i (m ∷ ms) [] k a h l = absurd h
+arg_at n zero (m ∷ ms) (x ∷ xs) k a h l = h.0
+arg_at n (suc i) (m ∷ ms) (x ∷ xs) k a h l = arg_at n i ms xs k a h.1 (omega (arith, l))

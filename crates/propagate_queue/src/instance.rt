@@ -1,6 +1,6 @@
 //! What may be posted: a range over variables of a store, with its target.
 
-ghost use Rattle.std.specs.Prelude.{◌≡◌, IsTrue};
+ghost use Rattle.std.specs.Prelude.{◌≡◌, ◌↔◌, IsTrue};
 ghost use Rattle.fd_language.specs.Needs as needs;
 ghost use Rattle.range_code.specs.Frames.{AreArgs, IsArg};
 ghost use Rattle.propagate_queue.specs.Instances.{IsInstance};
@@ -23,7 +23,7 @@ pub struct Instance {
 impl Instance {
     /// Whether the target is one of `vars` variables, and the arguments are of these and meet the needs of their slots.
     pub fn fits(&self, vars: usize) -> bool
-        ensures { IsTrue result → IsInstance vars self.now }
+        ensures { IsTrue result ↔ IsInstance vars self.now }
     {
         self.target < vars && args_fit(self.code.needs(), &self.args, vars)
     }
@@ -31,7 +31,7 @@ impl Instance {
 
 /// Whether there is an argument for each slot, which is a variable of so many, or an integer that meets the slot's need.
 fn args_fit(needs: &[Option<Need>], args: &[Arg], vars: usize) -> bool
-    ensures { IsTrue result → AreArgs vars needs.now args.now }
+    ensures { IsTrue result ↔ AreArgs vars needs.now args.now }
 {
     if needs.len() != args.len() {
         return false;
@@ -48,7 +48,7 @@ fn args_fit(needs: &[Option<Need>], args: &[Arg], vars: usize) -> bool
 
 /// Whether the argument is one of so many variables, or an integer that meets the need.
 fn arg_fits(need: Option<Need>, arg: Arg, vars: usize) -> bool
-    ensures { IsTrue result → IsArg vars need arg }
+    ensures { IsTrue result ↔ IsArg vars need arg }
 {
     match (need, arg) {
         (None, Arg::Var(k)) => k < vars,
