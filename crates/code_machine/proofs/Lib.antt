@@ -5,4 +5,5 @@ pub mod Taking
 pub mod Returning
 pub mod Running
 pub mod Stepping
+pub mod Walking
 pub mod Starting

@@ -1,5 +1,5 @@
 -- Instructions that spend nothing.
-use Rattle.std.proofs.Common.{◌≡◌, ℕ, ◌<◌, ◌∷◌, Result, Ok, Err, IfOk, OnOk, refl, inl, inr}
+use Rattle.std.proofs.Common.{◌≡◌, ℕ, ◌<◌, ◌∷◌, refl, inl, inr}
 use Rattle.branch_state.specs.States as branch
 use Rattle.branch_state.specs.States.{IsSameBelow, with_pair}
 use Rattle.wam_code.specs.declared.instruction.Code.{Code}
@@ -32,11 +32,6 @@ module _ (area : Area) (s : branch.State) (at : ℕ) (c : Contents) where
     falls = kept_falls area at c i holds c' behind w leads;
   }
 
-  -- where each is a fact of what is given
-  pub terms_move : {E : Type 0} (i : Code) → IsFirst i → Holds area at i → (s' : branch.State) (c' : Contents) (r : Result Went E) → OnOk r (IsSameBelow s s') → OnOk r (IsSameBehind c c') → IfOk r (IsSafeThen area s' c') → IfOk r (KeepsStanding area s at c s' c') → IfOk r (LeadsOn at) → IfOk r (Moves area s at c s' c')
-  terms_move i first holds s' c' (Ok w) below behind safe keep leads = term_moves i first holds s' c' below behind w safe keep leads
-  terms_move i first holds s' c' (Err e) below behind safe keep leads = tt
-
   -- another instruction that leaves the choice points
   pub other_moves : (s' : branch.State) (c' : Contents) (w : Went) → IsSameBelow s s' → c'.points ≡ c.points → IsSafeThen area s' c' w → RunsThen area s at c s' c' w → work_then area c' w < work_at area at c → Moves area s at c s' c' w
   other_moves s' c' w below points safe runs falls = record { safe = safe; moves = inl (record { below = below; points = points; runs = runs }); falls = falls }
@@ -44,8 +39,3 @@ module _ (area : Area) (s : branch.State) (at : ℕ) (c : Contents) where
   -- one that leaves a new one
   pub choice_moves : (s' : branch.State) (c' : Contents) (to other : ℕ) → s' ≡ with_pair s → c'.points ≡ point_of c other ∷ c.points → IsSafe area s' to 0 c' → LeavesChoice area s at c s' to c' other → work_at area to c' < work_at area at c → Moves area s at c s' c' (On to)
   choice_moves s' c' to other pair point safe runs falls = record { safe = safe; moves = inr (record { other = other; pair = pair; point = point; runs = runs }); falls = falls }
-
--- a fact of what was there before
-pub as_before : {A E : Type 0} {P : Type 0} (r : Result A E) → P → OnOk r P
-as_before (Ok x) p = p
-as_before (Err e) p = tt

@@ -35,7 +35,7 @@ use Rattle.code_machine.specs.declared.run.Run.{Run}
 use Rattle.code_machine.specs.declared.run.Stage.{Stage}
 use Rattle.code_machine.specs.declared.run.Stage.TheVariants.{Going, Returning, Ended}
 use Rattle.code_machine.specs.Labels.{lefts_by, labels_work, AreLabels, whole_at, whole_back}
-use Rattle.code_machine.specs.States.{State, state_of, names_in, names_of, no_span, IsTask, last_event, StandsBy, StandsFor, most, left, left_at, IsReadyAt, IsMachine, IsSame, IsQuiet, Says, IsStep, IsWalk, StillRuns, behind_answer, one_fewer}
+use Rattle.code_machine.specs.States.{State, state_of, names_in, names_of, no_span, IsTask, last_event, StandsBy, StandsFor, most, left, left_at, IsReadyAt, IsMachine, IsSame, IsQuiet, Says, IsStep, StillRuns, behind_answer, one_fewer}
 use Rattle.code_machine.specs.Steps.{Keeps, Leaves, LeavesThen, Moves, Spends, ComesBack, NoMore, next_work, stage_of, stage_next, event_next}
 use Rattle.code_machine.proofs.Labelling.{labels_more, lefts_more, no_newest}
 
@@ -432,11 +432,6 @@ run_more old s new k m same quiet = record {
   stands = λ es total h. quiet.stands es total (k.stands es total h);
   less = (let a = quiet.falls in let b = k.less in omega (arith, a, b));
 }
-
--- the same, where an instruction may have been taken
-pub run_walks : (old s new : State) → StillRuns old s → IsMachine new → IsSame s new → (took : Bool) → IsWalk s new took → StillRuns old new
-run_walks old s new k m same true walk = run_more old s new k m same walk
-run_walks old s new k m same false walk = subst (StillRuns old) (sym walk.0) k
 
 -- quiet steps behind others
 pub run_on_from : (old s new : State) → StillRuns old s → StillRuns s new → StillRuns old new

@@ -20,10 +20,9 @@ use Rattle.code_machine.specs.declared.run.Ending.TheVariants as ending
 use Rattle.code_machine.specs.declared.run.Label.{Label}
 use Rattle.code_machine.specs.declared.run.Stage.{Stage}
 use Rattle.code_machine.specs.declared.run.Stage.TheVariants.{Going, Returning, Ended}
-use Rattle.code_machine.specs.Labels.{AreLabels}
 use Rattle.code_machine.specs.States.{State, last_event, IsMachine, IsQuiet, IsStep, Says, behind_answer, one_fewer}
-use Rattle.code_machine.specs.Steps.{Moves, Spends, ComesBack, IsCall, IsGoal, stage_of, stage_next, event_next}
-use Rattle.code_machine.proofs.Running.{seen, moved_machine, moved_quiet, back_machine, back_quiet, spent_machine, spent_step, budget_says, none_says, ended_says, answer_machine, answer_says}
+use Rattle.code_machine.specs.Steps.{Spends, ComesBack, IsCall, IsGoal, stage_of, stage_next, event_next}
+use Rattle.code_machine.proofs.Running.{seen, back_machine, back_quiet, spent_machine, spent_step, budget_says, none_says, ended_says, answer_machine, answer_says}
 
 -- a goal takes one of those still to come
 pub goal_takes : (i : Code) → IsGoal i → TakesGoal i
@@ -53,23 +52,10 @@ module _ (area : Area) (query : ℕ) (s : branch.State) (c : Contents) (ls : Lis
     pub going_safe : IsSafe area s at 0 c
     going_safe = going.ready.0
 
-    pub going_labels : AreLabels area c.points s.heaps.below ls
-    going_labels = going.ready.1
-
     pub going_within : at < length area.code
     going_within = place_within area s at 0 c going_safe
 
     module _ (s' : branch.State) (c' : Contents) (st' : Stage) where
-      -- an instruction that spends nothing
-      module _ (w : Went) (moves : Moves area s at c s' c' w) (is' : st' ≡ stage_of w) where
-        pub moves_machine : IsMachine (seen area query s' c' ls st' n k spent)
-        moves_machine = subst (λ x. IsMachine (seen area query s' c' ls x n k spent)) (sym is') (moved_machine area query s s' c c' ls n k spent at w moves going)
-
-        pub moves_quiet : IsQuiet old (seen area query s' c' ls st' n k spent)
-        moves_quiet =
-            subst (λ x. IsQuiet (seen area query s c ls x n k spent) (seen area query s' c' ls st' n k spent)) (sym is)
-            (subst (λ x. IsQuiet (seen area query s c ls (Going at) n k spent) (seen area query s' c' ls x n k spent)) (sym is') (moved_quiet area query s s' c c' ls n k spent at w moves going))
-
       -- a goal
       module _ (some : n ≡ 0 → ⊥) (ls' : List Label) (x : Next) (spends : Spends area s at c ls s' c' ls' x) (is' : st' ≡ stage_next x) where
         one_less : n ≡ suc (n - 1)

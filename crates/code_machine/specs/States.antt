@@ -18,6 +18,7 @@ use Rattle.wam_code.specs.Ending.{weight}
 use Rattle.wam_code.specs.Tries.{IsQueryCode}
 use Rattle.code_areas.specs.Areas.{Contents}
 use Rattle.code_steps.specs.Running.{Left}
+use Rattle.code_states.specs.declared.went.Went.{Went}
 use Rattle.code_states.specs.Safety.{IsSafe, IsSafeBack}
 use Rattle.code_states.specs.Stages.{Task, RunsAt, ReturnsTo, IsReadyToRun}
 use Rattle.code_states.specs.Standing.{IsNaming}
@@ -48,6 +49,10 @@ pub record State : Type 0 where
 
 abbrev pub state_of : Area → branch.State → Run → Bool → State
 state_of area s r lost = record { area = area; query = r.query; branch = s; areas = r.areas; labels = reverse r.labels.items; stage = r.stage; budget = r.budget; limit = r.limit; spent = r.spent; lost = lost }
+
+-- a run as it is at another stage
+abbrev pub state_at : Area → branch.State → Run → Stage → State
+state_at area s r st = record (state_of area s r false) { stage = st }
 
 abbrev pub no_span : Span
 no_span = record { at = 0; end = 0; names = [] }
@@ -169,10 +174,10 @@ MaySayAt area c n (Ended e) = Unit {0}
 abbrev pub IsToSay : State → Type 0
 IsToSay s = MaySayAt s.area s.areas s.budget s.stage
 
--- A step was taken and nothing was said; or none was, since something may have to be said.
-abbrev pub IsWalk : State → State → Bool → Type 0
-IsWalk old new true = IsQuiet old new
-IsWalk old new false = (new ≡ old) × IsToSay old
+-- After an instruction that said nothing; or none was taken, since something may have to be said.
+abbrev pub IsWalk : State → State → Option Went → Type 0
+IsWalk old new (Some w) = IsQuiet old new
+IsWalk old new None = (new ≡ old) × IsToSay old
 
 -- the state after steps that say nothing
 pub record StillRuns (old new : State) : Type 0 where
@@ -180,6 +185,11 @@ pub record StillRuns (old new : State) : Type 0 where
   pub same : IsSame old new
   pub stands : (es : List Event) (total : ℕ) → StandsFor old es total → StandsFor new es total
   pub less : left new ≤ left old
+
+-- Steps that say nothing, with less left to be done; or something may have to be said behind them.
+abbrev pub WalksOn : State → State → Bool → Type 0
+WalksOn old new true = StillRuns old new × (left new < left old)
+WalksOn old new false = StillRuns old new × IsToSay new
 
 -- where a run is after an answer, with so many allowed before
 abbrev pub behind_answer : Option ℕ → Stage

@@ -25,24 +25,30 @@ use Rattle.code_goals.specs.Tasks.{task_of}
 use Rattle.code_goals.specs.Values.{RunsWent}
 use Rattle.code_machine.specs.declared.run.Ending.TheVariants as ending
 use Rattle.code_machine.specs.declared.run.Label.{Label}
+use Rattle.code_machine.specs.declared.run.Run.{Run}
 use Rattle.code_machine.specs.declared.run.Stage.{Stage}
 use Rattle.code_machine.specs.declared.run.Stage.TheVariants.{Going, Returning, Ended}
 use Rattle.code_machine.specs.Labels.{lefts_by, AreLabels, whole_at, whole_back}
-use Rattle.code_machine.specs.States.{IsTask, most}
+use Rattle.code_machine.specs.States.{state_at, IsTask, most, IsMachine, IsWalk}
 
 -- ---- instructions that spend no reduction
 
--- neither a goal nor the answer
-abbrev pub SpendsNothing : Code → Type 0
-SpendsNothing (step.Call e) = ⊥
-SpendsNothing (step.Execute e) = ⊥
-SpendsNothing (step.Either to) = ⊥
-SpendsNothing (step.Builtin k) = ⊥
-SpendsNothing (step.Constrain k) = ⊥
-SpendsNothing (step.Label o) = ⊥
-SpendsNothing (step.PostRange r n) = ⊥
-SpendsNothing step.AnswerNow = ⊥
-SpendsNothing _ = Unit {0}
+-- none of a clause's terms, and none of its frame
+abbrev pub IsOther : Code → Type 0
+IsOther (step.GetVariable r a) = ⊥
+IsOther (step.GetValue r a) = ⊥
+IsOther (step.GetConstant c a) = ⊥
+IsOther (step.GetInteger z a) = ⊥
+IsOther (step.GetStructure f n a) = ⊥
+IsOther (step.PutVariable r a) = ⊥
+IsOther (step.PutValue r a) = ⊥
+IsOther (step.PutConstant c a) = ⊥
+IsOther (step.PutInteger z a) = ⊥
+IsOther (step.PutStructure f n a) = ⊥
+IsOther (step.Allocate n) = ⊥
+IsOther step.Deallocate = ⊥
+IsOther step.Proceed = ⊥
+IsOther _ = Unit {0}
 
 -- a goal that is no call and no disjunction
 abbrev pub IsGoal : Code → Type 0
@@ -59,8 +65,10 @@ IsCall (step.Execute e) = Unit {0}
 IsCall (step.Either to) = Unit {0}
 IsCall _ = ⊥
 
--- a choice, or a switch
+-- a choice, a switch, or a jump
 abbrev pub IsChoice : Code → Type 0
+IsChoice (step.Jump to) = Unit {0}
+IsChoice step.FailNow = Unit {0}
 IsChoice (step.TryMeElse to) = Unit {0}
 IsChoice (step.RetryMeElse to) = Unit {0}
 IsChoice step.TrustMe = Unit {0}
@@ -72,13 +80,6 @@ IsChoice (step.SwitchOnConstant t) = Unit {0}
 IsChoice (step.SwitchOnInteger t) = Unit {0}
 IsChoice (step.SwitchOnStructure t) = Unit {0}
 IsChoice _ = ⊥
-
--- a switch on a table
-abbrev pub IsTable : Instr → Type 0
-IsTable (instr.SwitchOnConstant t) = Unit {0}
-IsTable (instr.SwitchOnInteger t) = Unit {0}
-IsTable (instr.SwitchOnStructure t) = Unit {0}
-IsTable _ = ⊥
 
 -- a range to be posted
 abbrev pub IsPost : Instr → Type 0
@@ -107,6 +108,11 @@ pub record Moves (area : Area) (s : branch.State) (at : ℕ) (c : Contents) (s' 
   pub safe : IsSafeThen area s' c' w
   pub moves : Keeps area s at c s' c' w ⊎ Leaves area s at c s' c' w
   pub falls : work_then area c' w < work_at area at c
+
+-- An instruction of a clause's terms or of its frame was taken; or it is another one.
+abbrev pub TakesTerm : Area → ℕ → Code → branch.State → Contents → branch.State → Contents → Option Went → Type 0
+TakesTerm area at i s c s' c' (Some w) = Moves area s at c s' c' w
+TakesTerm area at i s c s' c' None = (s' ≡ s) × (c' ≡ c) × IsOther i
 
 -- ---- labels
 
@@ -152,6 +158,11 @@ abbrev pub stage_of : Went → Stage
 stage_of (On to) = Going to
 stage_of Back = Returning
 
+-- nowhere else, where no instruction was taken
+abbrev pub stage_after : ℕ → Option Went → Stage
+stage_after at (Some w) = stage_of w
+stage_after at None = Going at
+
 abbrev pub stage_next : Next → Stage
 stage_next (next.On to) = Going to
 stage_next next.Back = Returning
@@ -180,3 +191,11 @@ pub record ComesBack (area : Area) (s : branch.State) (c : Contents) (ls : List 
   pub labels : AreLabels area c'.points s'.heaps.below ls'
   pub runs : (prog : Program) (q : Query) (f : Future) → ReturnsTo area (task_of area prog q) s c (lefts_by c.points ls) f → RunsWent area (task_of area prog q) s' c' (lefts_by c'.points ls') w f
   pub work : NoMore area c' ls' w (whole_back area c ls)
+
+-- ---- walks
+
+-- The instruction at a place was taken and said nothing; or it was not taken, since something may have to be said.
+pub record IsTaken (area : Area) (at : ℕ) (s : branch.State) (r : Run) (s' : branch.State) (r' : Run) (o : Option Went) : Type 0 where
+  pub machine : IsMachine (state_at area s' r' (stage_after at o))
+  pub same : r'.query ≡ r.query
+  pub walks : IsWalk (state_at area s r (Going at)) (state_at area s' r' (stage_after at o)) o

@@ -84,6 +84,7 @@ fn post<A: Agenda + Drop>(
 }
 
 /// Takes the call or the disjunction at a place, and gives the place where it leads. The error is want of memory.
+#[inline(always)]
 pub(crate) fn take_call<A: Agenda + Drop>(
     code: &CodeArea,
     at: usize,

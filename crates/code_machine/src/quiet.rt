@@ -1,9 +1,8 @@
 //! Instructions that spend no reduction.
 ghost use Rattle.std.specs.Prelude.{IfOk};
 ghost use Rattle.wam_code.specs.Area.{Holds};
-ghost use Rattle.wam_code.specs.Standing.{StandsAt};
 ghost use Rattle.code_states.specs.Safety.{IsSafe};
-ghost use Rattle.code_machine.specs.Steps.{IsChoice, IsTable, Moves, SpendsNothing};
+ghost use Rattle.code_machine.specs.Steps.{IsChoice, Moves, TakesTerm};
 
 use branch_state::BranchState;
 use code_areas::Areas;
@@ -18,31 +17,55 @@ use term_instructions::{
     Scratch, get_constant, get_integer, get_structure, get_value, get_variable, put_constant,
     put_integer, put_structure, put_value, put_variable,
 };
-use wam_code::{Code, CodeArea, Instr};
+use wam_code::{Code, CodeArea};
 
-/// Takes a switch on a table, as `take_quiet` does.
-fn take_table<A: Agenda + Drop>(
+/// Takes an instruction of a clause's terms, or of its frame, and gives where it leads, or nothing where it is another one; `scratch` is
+/// lent. The error is want of memory.
+#[inline(always)]
+pub(crate) fn take_term<A: Agenda + Drop>(
     code: &CodeArea,
     at: usize,
-    instr: Instr<'_>,
-    branch: &BranchState<A>,
-    areas: &Areas,
-) -> Went
-    requires safe { IsSafe code.now branch.now at 0 areas.now }
-    requires stands { StandsAt code.now at instr }
-    requires table { IsTable instr }
-    ensures { Moves code.now branch.now at areas.now branch.now areas.now result }
+    instruction: Code,
+    branch: &mut BranchState<A>,
+    areas: &mut Areas,
+    scratch: &mut Scratch,
+) -> Result<Option<Went>, NoMemory>
+    requires safe { IsSafe code.now branch.old at 0 areas.old }
+    requires holds { Holds code.now at instruction }
+    ensures { IfOk result (TakesTerm code.now at instruction branch.old areas.old branch.new
+        areas.new) }
 {
-    match instr {
-        Instr::SwitchOnConstant(table) => switch_on_constant(code, at, table, branch, areas),
-        Instr::SwitchOnInteger(table) => switch_on_integer(code, at, table, branch, areas),
-        Instr::SwitchOnStructure(table) => switch_on_structure(code, at, table, branch, areas),
-        _ => unreachable!(),
+    match instruction {
+        Code::GetVariable(r, a) => Ok(Some(get_variable(code, at, r, a, branch, areas)?)),
+        Code::GetValue(r, a) => {
+            Ok(Some(get_value(code, at, r, a, branch, areas, &mut scratch.touches)?))
+        }
+        Code::GetConstant(c, a) => {
+            Ok(Some(get_constant(code, at, c, a, branch, areas, &mut scratch.touches)?))
+        }
+        Code::GetInteger(z, a) => {
+            Ok(Some(get_integer(code, at, z, a, branch, areas, &mut scratch.touches)?))
+        }
+        Code::GetStructure(f, n, a) => {
+            Ok(Some(get_structure(code, at, (f, n), a, branch, areas, scratch)?))
+        }
+        Code::PutVariable(r, a) => Ok(Some(put_variable(code, at, r, a, branch, areas)?)),
+        Code::PutValue(r, a) => Ok(Some(put_value(code, at, r, a, branch, areas)?)),
+        Code::PutConstant(c, a) => Ok(Some(put_constant(code, at, c, a, branch, areas)?)),
+        Code::PutInteger(z, a) => Ok(Some(put_integer(code, at, z, a, branch, areas)?)),
+        Code::PutStructure(f, n, a) => {
+            Ok(Some(put_structure(code, at, (f, n), a, branch, areas, &mut scratch.cells)?))
+        }
+        Code::Allocate(n) => Ok(Some(Went::On(allocate(code, at, n, branch, areas)?))),
+        Code::Deallocate => Ok(Some(Went::On(deallocate(code, at, branch, areas)))),
+        Code::Proceed => Ok(Some(Went::On(proceed(code, at, branch, areas)?))),
+        _ => Ok(None),
     }
 }
 
-/// Takes a choice or a switch, as `take_quiet` does.
-fn take_choice<A: Agenda + Drop>(
+/// Takes a choice or a switch, and gives where it leads. The error is want of memory.
+#[inline(always)]
+pub(crate) fn take_choice<A: Agenda + Drop>(
     code: &CodeArea,
     at: usize,
     instruction: Code,
@@ -55,6 +78,11 @@ fn take_choice<A: Agenda + Drop>(
     ensures { IfOk result (Moves code.now branch.old at areas.old branch.new areas.new) }
 {
     match instruction {
+        Code::Jump(to) => Ok(Went::On(jump(code, at, to, branch, areas))),
+        Code::FailNow => {
+            fail_now(code, at, branch, areas);
+            Ok(Went::Back)
+        }
         Code::TryMeElse(to) => Ok(Went::On(try_me_else(code, at, to, branch, areas)?)),
         Code::RetryMeElse(to) => Ok(Went::On(retry_me_else(code, at, to, branch, areas)?)),
         Code::TrustMe => Ok(Went::On(trust_me(code, at, branch, areas))),
@@ -65,50 +93,9 @@ fn take_choice<A: Agenda + Drop>(
             let to = switch_on_term(code, at, v, c, i, s, branch, areas);
             Ok(Went::On(to))
         }
-        Code::SwitchOnConstant(_) | Code::SwitchOnInteger(_) | Code::SwitchOnStructure(_) => {
-            Ok(take_table(code, at, code.instr(at), branch, areas))
-        }
+        Code::SwitchOnConstant(t) => Ok(switch_on_constant(code, at, t, branch, areas)),
+        Code::SwitchOnInteger(t) => Ok(switch_on_integer(code, at, t, branch, areas)),
+        Code::SwitchOnStructure(t) => Ok(switch_on_structure(code, at, t, branch, areas)),
         _ => unreachable!(),
-    }
-}
-
-/// Takes an instruction that spends nothing, and gives where it leads; `scratch` is lent. The error is want of memory.
-pub(crate) fn take_quiet<A: Agenda + Drop>(
-    code: &CodeArea,
-    at: usize,
-    instruction: Code,
-    branch: &mut BranchState<A>,
-    areas: &mut Areas,
-    scratch: &mut Scratch,
-) -> Result<Went, NoMemory>
-    requires safe { IsSafe code.now branch.old at 0 areas.old }
-    requires holds { Holds code.now at instruction }
-    requires quiet { SpendsNothing instruction }
-    ensures { IfOk result (Moves code.now branch.old at areas.old branch.new areas.new) }
-{
-    match instruction {
-        Code::GetVariable(r, a) => get_variable(code, at, r, a, branch, areas),
-        Code::GetValue(r, a) => get_value(code, at, r, a, branch, areas, &mut scratch.touches),
-        Code::GetConstant(c, a) => {
-            get_constant(code, at, c, a, branch, areas, &mut scratch.touches)
-        }
-        Code::GetInteger(z, a) => get_integer(code, at, z, a, branch, areas, &mut scratch.touches),
-        Code::GetStructure(f, n, a) => get_structure(code, at, (f, n), a, branch, areas, scratch),
-        Code::PutVariable(r, a) => put_variable(code, at, r, a, branch, areas),
-        Code::PutValue(r, a) => put_value(code, at, r, a, branch, areas),
-        Code::PutConstant(c, a) => put_constant(code, at, c, a, branch, areas),
-        Code::PutInteger(z, a) => put_integer(code, at, z, a, branch, areas),
-        Code::PutStructure(f, n, a) => {
-            put_structure(code, at, (f, n), a, branch, areas, &mut scratch.cells)
-        }
-        Code::Allocate(n) => Ok(Went::On(allocate(code, at, n, branch, areas)?)),
-        Code::Deallocate => Ok(Went::On(deallocate(code, at, branch, areas))),
-        Code::Proceed => Ok(Went::On(proceed(code, at, branch, areas)?)),
-        Code::Jump(to) => Ok(Went::On(jump(code, at, to, branch, areas))),
-        Code::FailNow => {
-            fail_now(code, at, branch, areas);
-            Ok(Went::Back)
-        }
-        _ => take_choice(code, at, instruction, branch, areas),
     }
 }

@@ -4,12 +4,12 @@ ghost use Rattle.wam_code.specs.Area.{Holds};
 ghost use Rattle.code_states.specs.Safety.{IsSafeBack};
 ghost use Rattle.code_machine.specs.declared.run.Stage.TheVariants as stage;
 ghost use Rattle.code_machine.specs.Labels.{AreLabels};
-ghost use Rattle.code_machine.specs.States.{state_of, IsMachine, IsQuiet, IsToSay, IsWalk, StillRuns};
-ghost use Rattle.code_machine.specs.Steps.{stage_of, ComesBack, IsCall, SpendsNothing};
+ghost use Rattle.code_machine.specs.States.{state_at, state_of, IsMachine, IsQuiet, IsToSay, StillRuns, WalksOn};
+ghost use Rattle.code_machine.specs.Steps.{stage_of, ComesBack, IsCall, IsOther, IsTaken};
 
 use crate::goals::take_call;
 use crate::labels::{keep_values, take_values};
-use crate::quiet::take_quiet;
+use crate::quiet::{take_choice, take_term};
 use crate::run::{Label, Run, Stage};
 use branch_state::BranchState;
 use code_areas::Areas;
@@ -39,77 +39,44 @@ fn stage_of(went: Went) -> Stage
     }
 }
 
-/// Takes an instruction that spends nothing.
-fn go_on<A: Agenda + Drop>(
-    code: &CodeArea,
-    at: usize,
-    instruction: Code,
-    branch: &mut BranchState<A>,
-    run: &mut Run,
-) -> Result<(), NoMemory>
-    requires machine { IsMachine (state_of code.now branch.old run.old false) }
-    requires stage { run.old.stage ≡ stage.Going at }
-    requires holds { Holds code.now at instruction }
-    requires quiet { SpendsNothing instruction }
-    ensures machine { OnOk result (IsMachine (state_of code.now branch.new run.new false)) }
-    ensures same { OnOk result (run.new.query ≡ run.old.query) }
-    ensures quiet { OnOk result (IsQuiet (state_of code.now branch.old run.old false)
-        (state_of code.now branch.new run.new false)) }
-{
-    let went = take_quiet(
-        code,
-        at,
-        instruction,
-        branch,
-        &mut run.areas,
-        &mut run.scratch,
-    )?;
-    run.stage = stage_of(went);
-    Ok(())
-}
-
-/// Takes a call or a disjunction, where a reduction is left for it. Gives whether one was.
+/// Takes a call or a disjunction, if a reduction is left for it, and gives where it leads. The error is want of memory.
+#[inline(always)]
 fn call_on<A: Agenda + Drop>(
     code: &CodeArea,
     at: usize,
     instruction: Code,
     branch: &mut BranchState<A>,
     run: &mut Run,
-) -> Result<bool, NoMemory>
-    requires machine { IsMachine (state_of code.now branch.old run.old false) }
-    requires stage { run.old.stage ≡ stage.Going at }
+) -> Result<Option<Went>, NoMemory>
+    requires machine { IsMachine (state_at code.now branch.old run.old (stage.Going at)) }
     requires holds { Holds code.now at instruction }
     requires call { IsCall instruction }
-    ensures machine { OnOk result (IsMachine (state_of code.now branch.new run.new false)) }
-    ensures same { OnOk result (run.new.query ≡ run.old.query) }
-    ensures walks { IfOk result (IsWalk (state_of code.now branch.old run.old false)
-        (state_of code.now branch.new run.new false)) }
+    ensures { IfOk result (IsTaken code.now at branch.old run.old branch.new run.new) }
 {
     if run.budget == 0 {
-        return Ok(false);
+        return Ok(None);
     }
     run.budget -= 1;
     run.spent += 1;
     let to = take_call(code, at, instruction, branch, &mut run.areas)?;
-    run.stage = Stage::Going(to);
-    Ok(true)
+    Ok(Some(Went::On(to)))
 }
 
-/// Takes the instruction at a place, unless it may say something. Gives whether it was taken.
-fn walk_at<A: Agenda + Drop>(
+/// Takes an instruction that is none of a clause's terms or of its frame, unless it may say something, and gives where it leads. The error
+/// is want of memory.
+#[inline(always)]
+fn other_on<A: Agenda + Drop>(
     code: &CodeArea,
     at: usize,
+    instruction: Code,
     branch: &mut BranchState<A>,
     run: &mut Run,
-) -> Result<bool, NoMemory>
-    requires machine { IsMachine (state_of code.now branch.old run.old false) }
-    requires stage { run.old.stage ≡ stage.Going at }
-    ensures machine { OnOk result (IsMachine (state_of code.now branch.new run.new false)) }
-    ensures same { OnOk result (run.new.query ≡ run.old.query) }
-    ensures walks { IfOk result (IsWalk (state_of code.now branch.old run.old false)
-        (state_of code.now branch.new run.new false)) }
+) -> Result<Option<Went>, NoMemory>
+    requires machine { IsMachine (state_at code.now branch.old run.old (stage.Going at)) }
+    requires holds { Holds code.now at instruction }
+    requires other { IsOther instruction }
+    ensures { IfOk result (IsTaken code.now at branch.old run.old branch.new run.new) }
 {
-    let instruction = code_at(code, at);
     match instruction {
         Code::Call(_) | Code::Execute(_) | Code::Either(_) => {
             call_on(code, at, instruction, branch, run)
@@ -118,10 +85,63 @@ fn walk_at<A: Agenda + Drop>(
         | Code::Builtin(_)
         | Code::Constrain(_)
         | Code::Label(_)
-        | Code::PostRange(_, _) => Ok(false),
+        | Code::PostRange(_, _) => Ok(None),
         _ => {
-            go_on(code, at, instruction, branch, run)?;
-            Ok(true)
+            let went = take_choice(code, at, instruction, branch, &mut run.areas)?;
+            Ok(Some(went))
+        }
+    }
+}
+
+/// Takes the instruction at a place, unless it may say something, and gives where it leads. The error is want of memory.
+#[inline(always)]
+fn walk_at<A: Agenda + Drop>(
+    code: &CodeArea,
+    at: usize,
+    branch: &mut BranchState<A>,
+    run: &mut Run,
+) -> Result<Option<Went>, NoMemory>
+    requires machine { IsMachine (state_at code.now branch.old run.old (stage.Going at)) }
+    ensures { IfOk result (IsTaken code.now at branch.old run.old branch.new run.new) }
+{
+    let instruction = code_at(code, at);
+    let taken = take_term(
+        code,
+        at,
+        instruction,
+        branch,
+        &mut run.areas,
+        &mut run.scratch,
+    )?;
+    match taken {
+        Some(went) => Ok(Some(went)),
+        None => other_on(code, at, instruction, branch, run),
+    }
+}
+
+/// Goes on from a place until something may have to be said, or the way leads back; gives whether it does. The error is want of memory.
+fn walk_from<A: Agenda + Drop>(
+    code: &CodeArea,
+    from: usize,
+    branch: &mut BranchState<A>,
+    run: &mut Run,
+) -> Result<bool, NoMemory>
+    requires { IsMachine (state_at code.now branch.old run.old (stage.Going from)) }
+    ensures { IfOk result (WalksOn (state_at code.now branch.old run.old (stage.Going from))
+        (state_of code.now branch.new run.new false)) }
+{
+    let mut at = from;
+    'going: loop {
+        match walk_at(code, at, branch, run)? {
+            Some(Went::On(to)) => at = to,
+            Some(Went::Back) => {
+                run.stage = Stage::Returning;
+                return Ok(true);
+            }
+            None => {
+                run.stage = Stage::Going(at);
+                return Ok(false);
+            }
         }
     }
 }
@@ -179,20 +199,19 @@ fn resume<A: Agenda + Drop>(
     Ok(())
 }
 
-/// Takes an instruction that says nothing, or goes back. Gives whether there was such a step.
+/// Goes on, or back to the newest choice point, with nothing to be said. Gives whether the run is to go on so: else something may have to
+/// be said. The error is want of memory.
 fn walk_on<A: Agenda + Drop>(
     code: &CodeArea,
     branch: &mut BranchState<A>,
     run: &mut Run,
 ) -> Result<bool, NoMemory>
     requires { IsMachine (state_of code.now branch.old run.old false) }
-    ensures machine { OnOk result (IsMachine (state_of code.now branch.new run.new false)) }
-    ensures same { OnOk result (run.new.query ≡ run.old.query) }
-    ensures walks { IfOk result (IsWalk (state_of code.now branch.old run.old false)
+    ensures { IfOk result (WalksOn (state_of code.now branch.old run.old false)
         (state_of code.now branch.new run.new false)) }
 {
     match run.stage {
-        Stage::Going(at) => walk_at(code, at, branch, run),
+        Stage::Going(at) => walk_from(code, at, branch, run),
         Stage::Returning => {
             if run.areas.points() == 0 {
                 return Ok(false);
@@ -204,7 +223,7 @@ fn walk_on<A: Agenda + Drop>(
     }
 }
 
-/// Goes on, and back, until something may have to be said: no event is carried here.
+/// Goes on, and back, until something may have to be said: no event is carried here. The error is want of memory.
 pub(crate) fn walk<A: Agenda + Drop>(
     code: &CodeArea,
     branch: &mut BranchState<A>,

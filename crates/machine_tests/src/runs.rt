@@ -12,9 +12,12 @@ use propagate_queue::{Agenda, Cheapest, Fifo};
 use std::alloc::Global;
 use std::rc::Rc;
 use std::test::Fail;
+use term_pool::Pool;
 use term_reader::read_sentences;
+use wam_code::{Code, CodeArea, CodeParts, QueryEntry};
 
-fn program_of(alloc: Global, text: &str) -> Result<Program, Fail> {
+/// The program of a text.
+pub(crate) fn program_of(alloc: Global, text: &str) -> Result<Program, Fail> {
     let Ok(sentences) = read_sentences(alloc, text) else {
         return Err(Fail::new("no sentences"));
     };
@@ -41,17 +44,16 @@ fn event_text(alloc: Global, event: &MachineEvent) -> Result<String, NoMemory> {
     }
 }
 
-/// The first events of the first query, and the reductions behind them.
-fn run<A: Agenda + Drop>(
+/// The first events of the code's first query, and the reductions behind them.
+fn run_code<A: Agenda + Drop>(
     alloc: Global,
-    text: &str,
+    code: CodeArea,
     limits: Limits,
     agenda: A,
     events: usize,
 ) -> Result<String, Fail>
     requires { IsLimit limits.answers }
 {
-    let code = compile(alloc, program_of(alloc, text)?)?;
     if code.queries() == 0 {
         return Err(Fail::new("no query"));
     }
@@ -68,6 +70,20 @@ fn run<A: Agenda + Drop>(
     let spent = machine.spent();
     lines.push_str(format!(in alloc; "{spent}")?.as_str())?;
     Ok(lines)
+}
+
+/// Those of the text's first query.
+fn run<A: Agenda + Drop>(
+    alloc: Global,
+    text: &str,
+    limits: Limits,
+    agenda: A,
+    events: usize,
+) -> Result<String, Fail>
+    requires { IsLimit limits.answers }
+{
+    let code = compile(alloc, program_of(alloc, text)?)?;
+    run_code(alloc, code, limits, agenda, events)
 }
 
 const ROWS: &str = "\
@@ -108,7 +124,7 @@ fn runs_with_both_agendas(rt: HostRuntime) -> Result<(), Fail> {
 }
 
 #[test]
-fn a_spent_budget(rt: HostRuntime) -> Result<(), Fail> {
+fn limits_end_a_run(rt: HostRuntime) -> Result<(), Fail> {
     let alloc = rt.alloc();
     let limits = Limits {
         steps: 5,
@@ -116,23 +132,49 @@ fn a_spent_budget(rt: HostRuntime) -> Result<(), Fail> {
     };
     let lines = run(alloc, "loop :- loop. ?- loop.", limits, Fifo::new(alloc), 2)?;
     assert_eq!(rt; lines.as_str(), "budget; budget; 5");
-    Ok(())
-}
-
-#[test]
-fn a_limit_of_answers(rt: HostRuntime) -> Result<(), Fail> {
-    let alloc = rt.alloc();
     let limits = Limits {
         steps: 9,
         answers: Some(2),
     };
-    let lines = run(
-        alloc,
-        "p(1). p(2). p(3). ?- p(X).",
-        limits,
-        Fifo::new(alloc),
-        4,
-    )?;
+    let text = "p(1). p(2). p(3). ?- p(X).";
+    let lines = run(alloc, text, limits, Fifo::new(alloc), 4)?;
     assert_eq!(rt; lines.as_str(), "answer 1; answer 1; limit; limit; 1");
+    Ok(())
+}
+
+/// A query that switches on a register into which it has just put an integer: no program has such
+/// code.
+fn unmeant_code(alloc: Global) -> Result<CodeArea, Fail> {
+    let pool = Pool::new(alloc)?;
+    let code = vec![in alloc;
+        Code::Allocate(0),
+        Code::PutInteger(1, 1),
+        Code::SwitchOnTerm(3, 3, 3, 3),
+        Code::AnswerNow,
+    ]?;
+    let query = QueryEntry {
+        at: 0,
+        end: 4,
+        names: Vec::new(alloc),
+    };
+    Ok(CodeArea::from_verified(CodeParts {
+        pool,
+        code,
+        tables: Vec::new(alloc),
+        ranges: Vec::new(alloc),
+        entries: Vec::new(alloc),
+        queries: vec![in alloc; query]?,
+    }))
+}
+
+#[test]
+fn verified_code_of_no_program(rt: HostRuntime) -> Result<(), Fail> {
+    let alloc = rt.alloc();
+    let limits = Limits {
+        steps: 9,
+        answers: None,
+    };
+    let lines = run_code(alloc, unmeant_code(alloc)?, limits, Fifo::new(alloc), 2)?;
+    assert_eq!(rt; lines.as_str(), "answer 0; end; 0");
     Ok(())
 }

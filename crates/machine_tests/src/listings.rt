@@ -1,0 +1,109 @@
+//! The code of small texts, and what it shares.
+
+use crate::runs::program_of;
+use clause_compiler::compile;
+use std::alloc::Global;
+use std::rc::Rc;
+use std::test::Fail;
+
+/// The instructions of a text's code, one a line, and then its tables.
+fn listing(alloc: Global, text: &str) -> Result<String, Fail> {
+    let code = compile(alloc, program_of(alloc, text)?)?;
+    let parts = code.parts();
+    let mut lines = String::new(alloc);
+    for instruction in &parts.code {
+        lines.push_str(format!(in alloc; "{instruction:?}\n")?.as_str())?;
+    }
+    for table in &parts.tables {
+        for row in table {
+            lines.push_str(format!(in alloc; "{row:?}\n")?.as_str())?;
+        }
+    }
+    Ok(lines)
+}
+
+/// One code after the other: the choices of app/3, its clauses, the query.
+const APPEND: &str = "\
+SwitchOnTerm(1, 3, 4, 5)
+Try(6)
+Trust(10)
+Jump(6)
+FailNow
+Jump(10)
+GetConstant(AtomId { number: 0 }, 1)
+GetVariable(X(4), 2)
+GetValue(X(4), 3)
+Proceed
+GetStructure(AtomId { number: 1 }, 2, 1)
+UnifyVariable(X(4))
+UnifyVariable(X(5))
+GetVariable(X(6), 2)
+GetStructure(AtomId { number: 1 }, 2, 3)
+UnifyValue(X(4))
+UnifyVariable(X(7))
+PutValue(X(5), 1)
+PutValue(X(6), 2)
+PutValue(X(7), 3)
+Execute(0)
+Allocate(2)
+PutVariable(Y(1), 1)
+PutVariable(Y(2), 1)
+PutValue(Y(1), 1)
+PutValue(Y(2), 2)
+PutStructure(AtomId { number: 1 }, 2, 3)
+UnifyInteger(1)
+UnifyConstant(AtomId { number: 0 })
+Call(0)
+AnswerNow
+";
+
+/// The rows of a table stand in rising order.
+const INTEGERS: &str = "\
+SwitchOnTerm(1, 4, 5, 9)
+Try(10)
+Retry(12)
+Trust(14)
+FailNow
+SwitchOnInteger(0)
+Jump(10)
+Jump(12)
+Jump(14)
+FailNow
+GetInteger(3, 1)
+Proceed
+GetInteger(-1, 1)
+Proceed
+GetInteger(2, 1)
+Proceed
+Allocate(1)
+PutVariable(Y(1), 1)
+PutValue(Y(1), 1)
+Call(0)
+AnswerNow
+(Int(-1), 7)
+(Int(2), 8)
+(Int(3), 6)
+";
+
+#[test]
+fn listings_of_code(rt: HostRuntime) -> Result<(), Fail> {
+    let alloc = rt.alloc();
+    let text = "app([],L,L). app([X|Xs],L,[X|Zs]) :- app(Xs,L,Zs). ?- app(X,Y,[1]).";
+    assert_eq!(rt; listing(alloc, text)?.as_str(), APPEND);
+    let text = "r(3). r(-1). r(2). ?- r(X).";
+    assert_eq!(rt; listing(alloc, text)?.as_str(), INTEGERS);
+    Ok(())
+}
+
+#[test]
+fn equal_ranges_share_their_code(rt: HostRuntime) -> Result<(), Fail> {
+    let alloc = rt.alloc();
+    let text = "?- X in 0..9, Y in 0..8, Z in 0..9.";
+    let code = compile(alloc, program_of(alloc, text)?)?;
+    let parts = code.parts();
+    assert_eq!(rt; parts.ranges.len(), 3);
+    if let [a, b, c] = parts.ranges.as_slice() {
+        assert!(rt; Rc::ptr_eq(a, c) && !Rc::ptr_eq(a, b));
+    }
+    Ok(())
+}
