@@ -1,89 +1,16 @@
 //! clp(FD): Prolog with constraints over finite domains.
 #![tactic(auto)]
 
-ghost use Rattle.std.specs.Prelude.{◌≡◌, ℕ, List, Some, None, false, drop, map, string_bytes, IfOk};
+ghost use Rattle.std.specs.Prelude.{◌≡◌, drop, IfOk};
 ghost use Rattle.std.specs.Vec.Iter.{into_iter_items};
-ghost use Rattle.fd_model.specs.Run.{IsLimit};
-ghost use Rattle.command_words.specs.Words.{asked, options_of};
-ghost use Rattle.clpfd.specs.Headline.{Headline, reads_source};
 
-mod answer;
-mod fault;
-mod judge;
-pub mod laws;
-mod queens;
-mod summary;
-
-use crate::answer::{answer, put_last};
-use crate::judge::{judge_text, refused};
-use crate::summary::put_summary;
-use answer_text::{Reason, USAGE};
-use byte_ports::{MAX_TEXT, ReadTextFault, ReaderSource, Sink, Source, WriterSink, read_text};
-pub use command_words::{AgendaName, Options, WordsFault, read_words};
+use byte_ports::{ReaderSource, WriterSink};
 use fd_language::NoMemory;
-pub use fd_model::Status;
-use std::alloc::Global;
 use std::env;
 use std::env::{Args, Env};
 use std::io::ErrorKind;
 use std::process::ExitCode;
-
-/// Writes the output of the text that the source gives, and tells how the run ended.
-fn answer_source<S: Source, K: Sink>(
-    alloc: Global,
-    options: Options,
-    source: &mut S,
-    sink: &mut K,
-) -> Status
-    requires limit { IsLimit options.answers }
-    requires size { options.generate ≡ None }
-    ensures { (words : List (List ℕ)) → options_of words ≡ Some (asked options) → Headline words
-        (record { left = S.left source.old; written = K.written sink.old; source_faults = S.faults source.old; sink_faults = K.faults sink.old })
-        (record { left = S.left source.new; written = K.written sink.new; source_faults = S.faults source.new; sink_faults = K.faults sink.new })
-        result }
-{
-    match read_text(alloc, source) {
-        Ok(text) => answer(alloc, judge_text(alloc, &text), options, sink),
-        Err(ReadTextFault::ReadFault) => Status::ReadFault,
-        Err(ReadTextFault::TooLarge) => {
-            answer(
-                alloc,
-                refused(alloc, MAX_TEXT, Reason::TooLarge),
-                options,
-                sink,
-            )
-        }
-        Err(ReadTextFault::NoMemory) => Status::NoMemory,
-    }
-}
-
-/// Writes the output of the words and of the text that the source gives, and tells how the run ended.
-///
-/// `words` are the command line without the program's own name; `read_words` says which are accepted. Where they ask for
-/// a generated text (`--gen`), its run is summed up in four lines, and the source isn't touched; nor is it where the
-/// words are refused. Else it is read to its end, in bytes, and what the text is, a program or refused, is settled before
-/// the first byte is written. The status says which case it was: see `Status`.
-pub fn run<S: Source, K: Sink>(
-    alloc: Global,
-    words: &[String],
-    source: &mut S,
-    sink: &mut K,
-) -> Status
-    ensures headline { Headline (map string_bytes words.now)
-        (record { left = S.left source.old; written = K.written sink.old; source_faults = S.faults source.old; sink_faults = K.faults sink.old })
-        (record { left = S.left source.new; written = K.written sink.new; source_faults = S.faults source.new; sink_faults = K.faults sink.new })
-        result }
-    ensures untouched { reads_source (options_of (map string_bytes words.now)) ≡ false → source.new ≡ source.old }
-{
-    match read_words(alloc, words) {
-        Ok(options) => match options.generate {
-            Some(size) => put_summary(alloc, size, options, sink),
-            None => answer_source(alloc, options, source, sink),
-        },
-        Err(WordsFault::Usage) => put_last(sink, USAGE, Status::Usage),
-        Err(WordsFault::NoMemory) => Status::NoMemory,
-    }
-}
+pub use top_level::{AgendaName, Options, Status, WordsFault, queens_text, read_words, run};
 
 /// The words behind the first, which is the program's own name.
 fn behind_name(alloc: Global, mut all: Args) -> Result<Vec<String>, NoMemory>
@@ -116,6 +43,3 @@ fn main(rt: HostRuntime) -> ExitCode {
     let status = run(rt.alloc(), &words, &mut source, &mut sink);
     ExitCode::from(status.number())
 }
-
-#[cfg(test)]
-mod tests;

@@ -1,5 +1,0 @@
-pub mod Headline
-pub mod OneOutput
-pub mod Verdicts
-pub mod Endings
-pub mod Summaries

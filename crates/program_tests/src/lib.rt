@@ -1,0 +1,5 @@
+//! Tables of texts, each with all that a run writes for it.
+#![tactic(auto)]
+
+#[cfg(test)]
+mod runs;

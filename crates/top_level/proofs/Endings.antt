@@ -1,0 +1,303 @@
+-- How a run ends, from what its last call says.
+use Rattle.std.proofs.Common.{◌≡◌, ℕ, ◌+◌, ◌<◌, ◌≤◌, ◌⊎◌, inl, inr, List, [], ◌++◌, length, Option, Some, None, IsSome, refl, ap, sym, subst, ◌∙◌, arith, codes, Bool, true, false, true≢false, length-append, append-nil}
+use Rattle.std.specs.Prelude.{Result, Ok, Err, IfOk, is_none}
+use Rattle.fd_language.specs.declared.NoMemory.{NoMemory as OutOfMemory}
+use Rattle.fd_language.specs.declared.TheConstants.{INFINITY}
+use Rattle.fd_model.specs.declared.Status.{Status}
+use Rattle.fd_model.specs.declared.Status.TheVariants.{Done, Usage, Refused, Stopped, ReadFault, WriteFault, NoMemory}
+use Rattle.fd_model.specs.Goal.{Program}
+use Rattle.fd_model.specs.Verdict as model
+use Rattle.fd_model.specs.Verdict.{max_text}
+use Rattle.fd_model.specs.Output.{Options, Output, Queries, TextOutput, VerdictOutput, IsSummary, refusal, usage, is_stop, stop_status}
+use Rattle.command_words.specs.declared.Options as command
+use Rattle.command_words.specs.Words.{asked, options_of}
+use Rattle.byte_ports.specs.Ports.{Put, Took, IsAtEnd, ReadJust, ReadWithin, Rose}
+use Rattle.byte_ports.proofs.Pieces.{put_none, part_none}
+use Rattle.term_pool.specs.Contents.{Contents}
+use Rattle.answer_text.specs.declared.reason.Reason.TheVariants.{TooLarge}
+use Rattle.top_level.specs.declared.fault.Fault.{Fault}
+use Rattle.top_level.specs.declared.fault.Fault.TheVariants as fault
+use Rattle.text_verdict.specs.declared.judge.Verdict.{Verdict}
+use Rattle.text_verdict.specs.declared.judge.Verdict.TheVariants as verdict
+use Rattle.top_level.specs.Headline.{Headline, Ends, IsDecided, IsText, reads_source}
+use Rattle.top_level.specs.Endings.{SinkState, sink_at, WroteAll, WrotePart, CutBy, Wrote, Ending, fault_status}
+use Rattle.text_verdict.specs.Verdicts.{verdict_of, HasNames, IsVerdictOn}
+use Rattle.text_verdict.proofs.OneVerdict.{large_verdict}
+use Rattle.top_level.proofs.OneOutput.{one_output, verdict_output, large_output}
+
+-- ---- writing
+
+pub nothing_written : (s : SinkState) (p : List ℕ) → WrotePart s s p
+nothing_written s p = record { put = part_none s.written s.written p (put_none s.written); faults = refl }
+
+-- memory was wanting before the first byte
+pub no_memory : (s : SinkState) (st : Status) (out : List ℕ) → Ending s s NoMemory st out
+no_memory s st out = inr (inr (refl, nothing_written s out))
+
+cut_ending : (old new : SinkState) (f : Fault) (st : Status) (out : List ℕ) → CutBy old new f out → Ending old new (fault_status f) st out
+cut_ending old new fault.WriteFault st out c = inr (inl (refl, c))
+cut_ending old new fault.NoMemory st out c = inr (inr (refl, c))
+
+abbrev Writes : ℕ → Option ℕ → SinkState → SinkState → Program → Result Bool Fault → Type 0
+Writes steps answers old new p r = (out : List ℕ) (stop : Bool) → Queries INFINITY p steps answers 1 p.queries out stop → Wrote old new r out
+
+abbrev Tells : ℕ → Option ℕ → Program → Result Bool Fault → Type 0
+Tells steps answers p r = (out : List ℕ) (stop : Bool) → Queries INFINITY p steps answers 1 p.queries out stop → IfOk r (λ b. b ≡ stop)
+
+-- the answers were written
+pub answered : (steps : ℕ) (answers : Option ℕ) (old new : SinkState) (p : Program) (r : Result Bool Fault) (b : Bool) → r ≡ Ok b → Writes steps answers old new p r → Tells steps answers p r → (out : List ℕ) (st : Status) → VerdictOutput INFINITY (model.accepted p) steps answers out st → Ending old new (stop_status b) st out
+answered steps answers old new p r b e w t out st o =
+    let wrote : WroteAll old new out = subst (λ (q : Result Bool Fault). Wrote old new q out) e (w out o.0 o.1) in
+    let stop : b ≡ o.0 = subst (λ (q : Result Bool Fault). IfOk q (λ c. c ≡ o.0)) e (t out o.0 o.1) in
+    inl (ap stop_status stop ∙ sym o.2, wrote)
+
+-- or were cut short
+pub answers_cut : (steps : ℕ) (answers : Option ℕ) (old new : SinkState) (p : Program) (r : Result Bool Fault) (f : Fault) → r ≡ Err f → Writes steps answers old new p r → (out : List ℕ) (st : Status) → VerdictOutput INFINITY (model.accepted p) steps answers out st → Ending old new (fault_status f) st out
+answers_cut steps answers old new p r f e w out st o = cut_ending old new f st out (subst (λ (q : Result Bool Fault). Wrote old new q out) e (w out o.0 o.1))
+
+-- a refusal
+pub refused_ending : (steps : ℕ) (answers : Option ℕ) (old new : SinkState) (result : Status) (place : ℕ) (reason line : List ℕ) → line ≡ refusal place reason → Ending old new result Refused line → (out : List ℕ) (st : Status) → VerdictOutput INFINITY (model.refused place reason) steps answers out st → Ending old new result st out
+refused_ending steps answers old new result place reason line b e out st o =
+    subst (λ (s : Status). Ending old new result s out) (sym o.1) (subst (Ending old new result Refused) (b ∙ sym o.0) e)
+
+-- ---- verdicts
+
+pub verdict_names : (text : List ℕ) (v : Result Verdict OutOfMemory) → IfOk v (IsVerdictOn text) → IfOk v HasNames
+verdict_names text (Ok v) h = h.names
+verdict_names text (Err e) h = tt
+
+pub verdict_outputs : (words : List (List ℕ)) (o : command.Options) (text : List ℕ) (v : Result Verdict OutOfMemory) (out : List ℕ) (st : Status) → options_of words ≡ Some (asked o) → o.generate ≡ None
+    → IfOk v (IsVerdictOn text) → Output INFINITY (options_of words) text out st → IfOk v (λ v. VerdictOutput INFINITY (verdict_of v) o.steps o.answers out st)
+verdict_outputs words o text (Ok v) out st e read h p =
+    verdict_output INFINITY (asked o) text (verdict_of v) out st read h.verdict (subst (λ (a : Option Options). Output INFINITY a text out st) e p)
+verdict_outputs words o text (Err f) out st e read h p = tt
+
+pub large_names : (v : Result Verdict OutOfMemory) → IfOk v (λ v. (pool : Contents) × (v ≡ verdict.Refused max_text TooLarge pool)) → IfOk v HasNames
+large_names (Ok v) h = subst HasNames (sym h.1) tt
+large_names (Err e) h = tt
+
+pub large_verdicts : (text : List ℕ) (v : Result Verdict OutOfMemory) → max_text < length text → IfOk v (λ v. (pool : Contents) × (v ≡ verdict.Refused max_text TooLarge pool)) → IfOk v (IsVerdictOn text)
+large_verdicts text (Ok v) l h = subst (IsVerdictOn text) (sym h.1) (record { names = tt; verdict = large_verdict INFINITY text l })
+large_verdicts text (Err e) l h = tt
+
+-- ---- texts
+
+-- a text that was read to the end
+pub whole_text : (a b : Option (List ℕ)) (text : List ℕ) → Took a b text → IsAtEnd b → IsSome b → a ≡ Some text
+whole_text a None text t e s = absurd (cc (s))
+whole_text a (Some rest) text t e s = t ∙ ap (λ (r : List ℕ). Some (text ++ r)) e ∙ ap Some (append-nil text)
+
+-- a text of which n bytes were read
+pub front_text : (a b : Option (List ℕ)) (n : ℕ) → ReadJust a b n → (text : List ℕ) × (IsSome b → a ≡ Some text) × (n ≤ length text)
+front_text a None n h = (h.0, (λ s. absurd (cc (s))), (let l = h.1 in omega (arith, l)))
+front_text a (Some rest) n h = (h.0 ++ rest, (λ s. h.2), (let l = h.1 in let k = length-append h.0 rest in omega (arith, l, k)))
+
+pub just_front : (a b : Option (List ℕ)) (n : ℕ) → ReadJust a b n → (front : List ℕ) × Took a b front
+just_front a b n h = (h.0, h.2)
+
+pub within_front : (a b : Option (List ℕ)) (n : ℕ) → ReadWithin a b n → (front : List ℕ) × Took a b front
+within_front a b n h = (h.0, h.2)
+
+none_took : (a : Option (List ℕ)) → (front : List ℕ) × Took a a front
+none_took None = ([], tt)
+none_took (Some x) = ([], refl)
+
+-- ---- the headline
+
+abbrev sink_of : Ends → SinkState
+sink_of e = sink_at e.written e.sink_faults
+
+-- the statuses of an output
+decided_stop : (b : Bool) → IsDecided (stop_status b)
+decided_stop true = tt
+decided_stop false = tt
+
+decided_verdict : (o : Options) (v : model.Verdict) (out : List ℕ) (st : Status) → VerdictOutput INFINITY v o.steps o.answers out st → IsDecided st
+decided_verdict o (model.refused place reason) out st p = subst IsDecided (sym p.1) tt
+decided_verdict o (model.accepted prog) out st p = subst IsDecided (sym p.2) (decided_stop p.0)
+
+decided_text : (o : Options) (size : Option ℕ) (text out : List ℕ) (st : Status) → TextOutput INFINITY o size text out st → IsDecided st
+decided_text o None text out st t = decided_verdict o t.0 out st t.2
+decided_text o (Some n) text out st s = subst IsDecided (sym s.status) (decided_stop (is_stop s.events))
+
+decided_output : (a : Option Options) (text out : List ℕ) (st : Status) → Output INFINITY a text out st → IsDecided st
+decided_output None text out st p = subst IsDecided (sym p.1) tt
+decided_output (Some o) text out st p = decided_text o o.generate text out st p
+
+usage_stop : (b : Bool) → stop_status b ≡ Usage → ⊥
+usage_stop true e = cc
+usage_stop false e = cc
+
+usage_text : (o : Options) (size : Option ℕ) (text out : List ℕ) (st : Status) → TextOutput INFINITY o size text out st → st ≡ Usage → ⊥
+usage_text o None text out st t e = by_verdict t.0 t.2
+  where
+    by_verdict : (v : model.Verdict) → VerdictOutput INFINITY v o.steps o.answers out st → ⊥
+    by_verdict (model.refused place reason) p = cc (e, p.1)
+    by_verdict (model.accepted prog) p = usage_stop p.0 (sym p.2 ∙ e)
+usage_text o (Some n) text out st s e = usage_stop (is_stop s.events) (sym s.status ∙ e)
+
+usage_output : (a : Option Options) (text out : List ℕ) (st : Status) → Output INFINITY a text out st → st ≡ Usage → a ≡ None
+usage_output None text out st p e = refl
+usage_output (Some o) text out st p e = absurd (usage_text o o.generate text out st p e)
+
+-- ---- which words have the source read
+
+pub refused_words : (a : Option Options) → a ≡ None → reads_source a ≡ false
+refused_words a e = ap reads_source e
+
+pub source_words : (a : Option Options) (o : Options) → a ≡ Some o → o.generate ≡ None → reads_source a ≡ true
+source_words a o e read = ap reads_source e ∙ ap is_none read
+
+size_words : (a : Option Options) (o : Options) (n : ℕ) → a ≡ Some o → o.generate ≡ Some n → reads_source a ≡ false
+size_words a o n e size = ap reads_source e ∙ ap is_none size
+
+-- words don't both have the source read and not
+pub not_both : {P : Type 0} (a : Option Options) → reads_source a ≡ true → reads_source a ≡ false → P
+not_both a r n = absurd (true≢false (sym r ∙ n))
+
+rose_not : (a b : ℕ) → b ≡ a → a < b → ⊥
+rose_not a b e l = omega arith
+
+-- the last call wrote the output of a text of the run
+module _ (words : List (List ℕ)) (old new : Ends) (result : Status) (text : List ℕ) (out : List ℕ) (st : Status) (output : Output INFINITY (options_of words) text out st) (is : IsText (options_of words) old.left new.left text)
+    (kept : new.source_faults ≡ old.source_faults) (rest : (front : List ℕ) × Took old.left new.left front) (whole_read : reads_source (options_of words) ≡ true → (result ≡ Done) ⊎ (result ≡ Stopped) → (st ≡ Done) ⊎ (st ≡ Stopped) → IsAtEnd new.left)
+    (same : reads_source (options_of words) ≡ false → (new.left ≡ old.left) × (new.source_faults ≡ old.source_faults)) where
+  abbrev source_stays : old.source_faults < new.source_faults → ⊥
+  source_stays l = rose_not old.source_faults new.source_faults kept l
+
+  source_after : old.source_faults ≤ new.source_faults
+  source_after = omega (arith, kept)
+
+  decided : IsDecided st
+  decided = decided_output (options_of words) text out st output
+
+  pub ended : Ending (sink_of old) (sink_of new) result st out → Headline words old new result
+  ended (inl h) = record {
+    whole = λ d. (text, out, st, is, output, (sym h.0, h.1.put));
+    cut = λ c. absurd (elim c [ inl e ↦ subst IsDecided (sym h.0 ∙ e) decided | inr e ↦ subst IsDecided (sym h.0 ∙ e) decided ]);
+    read_fault = λ e. absurd (subst IsDecided (sym h.0 ∙ e) decided);
+    read_told = λ l. absurd (source_stays l);
+    write_fault = λ e. absurd (subst IsDecided (sym h.0 ∙ e) decided);
+    write_told = λ l. absurd (rose_not old.sink_faults new.sink_faults h.1.faults l);
+    no_fault = λ a b. inl (subst IsDecided (sym h.0) decided);
+    source_later = source_after;
+    sink_later = (let f = h.1.faults in omega (arith, f));
+    rest = rest;
+    usage_only = λ e. usage_output (options_of words) text out st output (sym h.0 ∙ e);
+    untouched = same;
+    read_whole = λ r c. whole_read r c (elim c [ inl e ↦ inl (sym h.0 ∙ e) | inr e ↦ inr (sym h.0 ∙ e) ]);
+  }
+  ended (inr (inl h)) = record {
+    whole = λ d. absurd (subst IsDecided h.0 d);
+    cut = λ c. (text, out, st, is, output, h.1.put);
+    read_fault = λ e. absurd (cc (e, h.0));
+    read_told = λ l. absurd (source_stays l);
+    write_fault = λ e. h.1.rose;
+    write_told = λ l. h.0;
+    no_fault = λ a b. absurd (b h.1.rose);
+    source_later = source_after;
+    sink_later = h.1.later;
+    rest = rest;
+    usage_only = λ e. absurd (cc (e, h.0));
+    untouched = same;
+    read_whole = λ r c. absurd (elim c [ inl e ↦ (let f : Done ≡ WriteFault = sym e ∙ h.0 in cc) | inr e ↦ (let f : Stopped ≡ WriteFault = sym e ∙ h.0 in cc) ]);
+  }
+  ended (inr (inr h)) = record {
+    whole = λ d. absurd (subst IsDecided h.0 d);
+    cut = λ c. (text, out, st, is, output, h.1.put);
+    read_fault = λ e. absurd (cc (e, h.0));
+    read_told = λ l. absurd (source_stays l);
+    write_fault = λ e. absurd (cc (e, h.0));
+    write_told = λ l. absurd (rose_not old.sink_faults new.sink_faults h.1.faults l);
+    no_fault = λ a b. inr h.0;
+    source_later = source_after;
+    sink_later = (let f = h.1.faults in omega (arith, f));
+    rest = rest;
+    usage_only = λ e. absurd (cc (e, h.0));
+    untouched = same;
+    read_whole = λ r c. absurd (elim c [ inl e ↦ (let f : Done ≡ NoMemory = sym e ∙ h.0 in cc) | inr e ↦ (let f : Stopped ≡ NoMemory = sym e ∙ h.0 in cc) ]);
+  }
+
+-- nothing was read
+module _ (words : List (List ℕ)) (old new : Ends) (result : Status) (none : reads_source (options_of words) ≡ false) (same : new.left ≡ old.left) (count : new.source_faults ≡ old.source_faults) where
+  unread : (out : List ℕ) (st : Status) → Output INFINITY (options_of words) [] out st → Ending (sink_of old) (sink_of new) result st out → Headline words old new result
+  unread out st output h =
+      ended words old new result [] out st output (λ r. not_both (options_of words) r none) count (subst (λ (l : Option (List ℕ)). (front : List ℕ) × Took old.left l front) (sym same) (none_took old.left))
+      (λ r. not_both (options_of words) r none) (λ n. (same, count)) h
+
+-- refused words
+pub with_refused : (words : List (List ℕ)) (old new : Ends) (result : Status) → options_of words ≡ None → new.left ≡ old.left → new.source_faults ≡ old.source_faults → Ending (sink_of old) (sink_of new) result Usage usage → Headline words old new result
+with_refused words old new result none same count h =
+    unread words old new result (refused_words (options_of words) none) same count usage Usage (subst (λ (a : Option Options). Output INFINITY a [] usage Usage) (sym none) (refl, refl)) h
+
+-- the summary of a generated text was written
+pub with_summary : (words : List (List ℕ)) (o : Options) (n : ℕ) (old new : Ends) (result : Status) → options_of words ≡ Some o → o.generate ≡ Some n → new.left ≡ old.left → new.source_faults ≡ old.source_faults
+    → ((out : List ℕ) (st : Status) → IsSummary INFINITY n o out st → Ending (sink_of old) (sink_of new) result st out) → Headline words old new result
+with_summary words o n old new result some size same count h =
+    let one = one_output INFINITY words [] in
+    let output : Output INFINITY (Some o) [] one.0 one.1 = subst (λ (a : Option Options). Output INFINITY a [] one.0 one.1) some one.2 in
+    let is : IsSummary INFINITY n o one.0 one.1 = subst (λ (g : Option ℕ). TextOutput INFINITY o g [] one.0 one.1) size output in
+    unread words old new result (size_words (options_of words) o n some size) same count one.0 one.1 one.2 (h one.0 one.1 is)
+
+-- the text was read, and its output written
+pub with_read : (words : List (List ℕ)) (o : Options) (old new : Ends) (result : Status) (text : List ℕ) → options_of words ≡ Some o → o.generate ≡ None → Took old.left new.left text → IsAtEnd new.left → new.source_faults ≡ old.source_faults
+    → ((out : List ℕ) (st : Status) → Output INFINITY (options_of words) text out st → Ending (sink_of old) (sink_of new) result st out) → Headline words old new result
+with_read words o old new result text some read took end count h =
+    let one = one_output INFINITY words text in
+    ended words old new result text one.0 one.1 one.2 (λ r s. whole_text old.left new.left text took end s) count (text, took) (λ r c d. end)
+    (not_both (options_of words) (source_words (options_of words) o some read)) (h one.0 one.1 one.2)
+
+-- the text was too large
+pub with_large : (words : List (List ℕ)) (o : Options) (old new : Ends) (result : Status) → options_of words ≡ Some o → o.generate ≡ None → ReadJust old.left new.left (max_text + 1) → new.source_faults ≡ old.source_faults
+    → ((text : List ℕ) → max_text < length text → (out : List ℕ) (st : Status) → Output INFINITY (options_of words) text out st → Ending (sink_of old) (sink_of new) result st out) → Headline words old new result
+with_large words o old new result some read just count h =
+    let text = front_text old.left new.left (max_text + 1) just in
+    let long : max_text < length text.0 = (let l = text.2 in omega (arith, l)) in
+    let output = subst (λ (a : Option Options). Output INFINITY a text.0 (refusal max_text (codes "too large")) Refused) (sym some) (large_output INFINITY o text.0 read long) in
+    ended words old new result text.0 (refusal max_text (codes "too large")) Refused output (λ r s. text.1 s) count (just_front old.left new.left (max_text + 1) just)
+    (λ r c d. absurd (elim d [ inl e ↦ (let f : Refused ≡ Done = e in cc) | inr e ↦ (let f : Refused ≡ Stopped = e in cc) ])) (not_both (options_of words) (source_words (options_of words) o some read))
+    (h text.0 long (refusal max_text (codes "too large")) Refused output)
+
+-- reading failed
+pub with_fault : (words : List (List ℕ)) (o : Options) (old new : Ends) → options_of words ≡ Some o → o.generate ≡ None → sink_of new ≡ sink_of old → ReadWithin old.left new.left max_text → Rose old.source_faults new.source_faults → old.source_faults ≤ new.source_faults → Headline words old new ReadFault
+with_fault words o old new some source same read rose later =
+    let put : Put old.written new.written [] = subst (λ (s : SinkState). Put old.written s.written []) (sym same) (put_none old.written) in
+    let faults : new.sink_faults ≡ old.sink_faults = ap (λ (s : SinkState). s.faults) same in
+    record {
+      whole = λ d. absurd d;
+      cut = λ c. absurd (elim c [ inl e ↦ (let f : ReadFault ≡ WriteFault = e in cc) | inr e ↦ (let f : ReadFault ≡ NoMemory = e in cc) ]);
+      read_fault = λ e. (rose, put);
+      read_told = λ l. refl;
+      write_fault = λ e. absurd (cc);
+      write_told = λ l. absurd (rose_not old.sink_faults new.sink_faults faults l);
+      no_fault = λ a b. absurd (a rose);
+      source_later = later;
+      sink_later = omega (arith, faults);
+      rest = within_front old.left new.left max_text read;
+      usage_only = λ e. absurd (cc);
+      untouched = not_both (options_of words) (source_words (options_of words) o some source);
+      read_whole = λ r c. absurd (elim c [ inl e ↦ (let f : ReadFault ≡ Done = e in cc) | inr e ↦ (let f : ReadFault ≡ Stopped = e in cc) ]);
+    }
+
+left_text : (a b : Option (List ℕ)) (front : List ℕ) → Took a b front → (text : List ℕ) × (IsSome b → a ≡ Some text)
+left_text a None front t = ([], λ s. absurd (cc (s)))
+left_text a (Some rest) front t = (front ++ rest, λ s. t)
+
+-- memory was wanting after a front of the source was read, or before
+short_of_memory : (words : List (List ℕ)) (old new : Ends) → sink_of new ≡ sink_of old → (front : List ℕ) × Took old.left new.left front → new.source_faults ≡ old.source_faults
+    → (reads_source (options_of words) ≡ false → (new.left ≡ old.left) × (new.source_faults ≡ old.source_faults)) → Headline words old new NoMemory
+short_of_memory words old new same front count untouched =
+    let text = left_text old.left new.left front.0 front.1 in
+    let one = one_output INFINITY words text.0 in
+    ended words old new NoMemory text.0 one.0 one.1 one.2 (λ r s. text.1 s) count front
+    (λ r c d. absurd (elim c [ inl e ↦ (let f : NoMemory ≡ Done = e in cc) | inr e ↦ (let f : NoMemory ≡ Stopped = e in cc) ])) untouched
+    (subst (λ (s : SinkState). Ending (sink_of old) s NoMemory one.1 one.0) (sym same) (no_memory (sink_of old) one.1 one.0))
+
+-- memory was wanting while reading
+pub with_memory : (words : List (List ℕ)) (o : Options) (old new : Ends) → options_of words ≡ Some o → o.generate ≡ None → sink_of new ≡ sink_of old → ReadWithin old.left new.left max_text → new.source_faults ≡ old.source_faults → Headline words old new NoMemory
+with_memory words o old new some source same read count =
+    short_of_memory words old new same (within_front old.left new.left max_text read) count (not_both (options_of words) (source_words (options_of words) o some source))
+
+-- memory was wanting for the words
+pub words_short : (words : List (List ℕ)) (ends : Ends) → Headline words ends ends NoMemory
+words_short words ends = short_of_memory words ends ends refl (none_took ends.left) refl (λ n. (refl, refl))

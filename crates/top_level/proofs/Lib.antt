@@ -1,0 +1,9 @@
+mod Accepting
+mod OneOutput
+mod Written
+mod Compiled
+mod Events
+mod Endings
+mod Tallies
+mod QueensText
+mod Generated

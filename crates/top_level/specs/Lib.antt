@@ -1,0 +1,4 @@
+pub mod Headline
+pub mod OneOutput
+pub mod Endings
+pub mod Summaries
