@@ -98,7 +98,8 @@ fn put_functor(
     arity: usize,
 ) -> Result<(), NoMemory>
     requires { name.number < length pool.now.names }
-    ensures { OnOk result (text.new.items ≡ text.old.items ++ functor_name (functor (atom_name pool.now name) arity)) }
+    ensures { OnOk result (text.new.items ≡ text.old.items ++ functor_name
+        (functor (atom_name pool.now name) arity)) }
 {
     write_atom(alloc, pool.name_of(name), true, text)?;
     text.push(b'/')?;

@@ -49,7 +49,11 @@ impl Shelf {
     pub(crate) fn put(&mut self, piece: &[u8])
         requires { length piece.now ≤ self.old.room }
         ensures { self.new ≡
-            record { bytes = self.old.bytes ++ piece.now; room = self.old.room - length piece.now } }
+            record {
+              bytes = self.old.bytes ++ piece.now;
+              room = self.old.room -
+                  length piece.now;
+            } }
     {
         self.room -= piece.len();
         self.bytes.extend_from_slice(piece).unwrap();

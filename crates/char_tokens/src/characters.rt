@@ -67,7 +67,8 @@ pub(crate) fn run_behind<'t>(
     behind: &'t str,
 ) -> (usize, &'t str)
     requires { text.now ≡ encode_utf8 c ++ behind.now }
-    ensures size { result.0 ≡ len_utf8 c + Characters.run_size (Views.passes class) (chars behind.now) }
+    ensures size { result.0 ≡ len_utf8 c + Characters.run_size (Views.passes class)
+        (chars behind.now) }
     ensures within { result.0 ≤ length text.now }
     ensures text { IsUtf8 result.1.now }
     ensures rest { result.1.now ≡ drop result.0 text.now }

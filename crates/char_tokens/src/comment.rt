@@ -21,7 +21,8 @@ fn closes(c: char, behind: &str) -> bool
 pub(crate) fn comment<'t>(text: &'t str, behind: &'t str) -> (Front, &'t str)
     requires slash { text.now ≡ 47 ∷ behind.now }
     requires star { Characters.starts_with 42 (chars behind.now) ≡ true }
-    ensures front { Views.front_is result.0 ≡ Tokens.comment_front 2 (Characters.tail (chars behind.now)) }
+    ensures front { Views.front_is result.0 ≡ Tokens.comment_front 2
+        (Characters.tail (chars behind.now)) }
     ensures behind { Views.IsBehind text.now result.0 result.1.now }
     ensures text { IsUtf8 result.1.now }
 {

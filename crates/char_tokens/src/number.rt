@@ -32,7 +32,8 @@ fn digits(base: u32, text: &str) -> (usize, Option<u64>, &str)
     requires high { base ≤ 16 }
     ensures size { result.0 ≡ Characters.run_size (Characters.is_digit_of base) (chars text.now) }
     ensures value { result.1 ≡ Views.integer_of (Characters.value base 0 (chars text.now)) }
-    ensures past { chars result.2.now ≡ Characters.past_run (Characters.is_digit_of base) (chars text.now) }
+    ensures past { chars result.2.now ≡ Characters.past_run (Characters.is_digit_of base)
+        (chars text.now) }
     ensures rest { result.2.now ≡ drop result.0 text.now }
     ensures within { result.0 ≤ length text.now }
     ensures text { IsUtf8 result.2.now }
@@ -53,7 +54,8 @@ fn digits(base: u32, text: &str) -> (usize, Option<u64>, &str)
 
 /// The base that a letter behind `0` names.
 fn base_of(letter: char) -> Option<u32>
-    ensures { MatchOption result (Tokens.base_of letter ≡ 0) (λ base. (Tokens.base_of letter ≡ base) × (2 ≤ base) × (base ≤ 16) × (letter < 128)) }
+    ensures { MatchOption result (Tokens.base_of letter ≡ 0)
+        (λ base. (Tokens.base_of letter ≡ base) × (2 ≤ base) × (base ≤ 16) × (letter < 128)) }
 {
     match letter {
         'x' => Some(16),
@@ -76,7 +78,8 @@ fn starts_with_digit(base: u32, text: &str) -> bool
 
 /// The base that the first character names, and the text behind it, where that begins with a digit of the base.
 fn base(text: &str) -> Option<(u32, &str)>
-    ensures { MatchOption result (Tokens.has_base (chars text.now) ≡ false) (λ r. Views.IsBased text.now r.0 r.1.now) }
+    ensures { MatchOption result (Tokens.has_base (chars text.now) ≡ false)
+        (λ r. Views.IsBased text.now r.0 r.1.now) }
 {
     let (letter, behind) = first_char(text)?;
     let base = base_of(letter)?;
@@ -100,7 +103,8 @@ fn has_fraction(text: &str) -> bool
 /// An integer of so many bytes, or that its number is too wide.
 fn number(value: Option<u64>, size: usize) -> Front
     requires { IfSome value (λ v. v ≤ Tokens.greatest) }
-    ensures { (v : ℕ) → value ≡ Views.integer_of v → Views.front_is result ≡ Tokens.number_front v size }
+    ensures { (v : ℕ) → value ≡ Views.integer_of v → Views.front_is result
+        ≡ Tokens.number_front v size }
 {
     match value {
         Some(value) => Front::Token(Kind::Integer(value as i64), size),

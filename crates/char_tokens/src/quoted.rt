@@ -59,7 +59,8 @@ fn escaped(c: char) -> char
 
 /// The character that the digits of `\x` name, where `c` ends them.
 fn named(count: u32, value: u32, c: char) -> Option<char>
-    ensures { Views.characters result ≡ (if Tokens.names_character count value c then value ∷ [] else []) }
+    ensures { Views.characters result ≡ (if Tokens.names_character count value c then value ∷ []
+        else []) }
 {
     if c == '\\' && 0 < count {
         char::from_u32(value)
@@ -72,7 +73,8 @@ fn named(count: u32, value: u32, c: char) -> Option<char>
 fn past_digits(from: usize, count: u32, value: u32, n: usize, c: char) -> Step
     requires from { from ≤ n }
     requires digits { (count ≤ 6) × (value < 16 ^ count) }
-    ensures step { Views.step_is n result ≡ Tokens.inside (Tokens.AfterDigits from count value) n c }
+    ensures step { Views.step_is n result ≡ Tokens.inside (Tokens.AfterDigits from count value)
+        n c }
     ensures bounded { Views.IsBounded n result }
 {
     if let Some(digit) = c.to_digit(16) {
@@ -143,7 +145,8 @@ fn end(place: Inside, n: usize) -> Front
 /// The quoted atom at the front of a text that begins with a quote, and the text behind it. `behind` is the text behind the quote.
 pub(crate) fn quoted<'t>(text: &'t str, behind: &'t str) -> (Front, &'t str)
     requires { text.now ≡ 39 ∷ behind.now }
-    ensures front { Views.front_is result.0 ≡ Tokens.quoted_front Tokens.Between 1 (chars behind.now) }
+    ensures front { Views.front_is result.0 ≡ Tokens.quoted_front Tokens.Between 1
+        (chars behind.now) }
     ensures behind { Views.IsBehind text.now result.0 result.1.now }
     ensures text { IsUtf8 result.1.now }
 {
@@ -183,7 +186,8 @@ fn spelled(place: Inside, c: char) -> Option<char>
 
 /// Appends the character, if there is one.
 fn append(text: &mut String, character: Option<char>) -> Result<(), NoMemory>
-    ensures { OnOk result (string_bytes text.new ≡ string_bytes text.old ++ encode_utf8_all (Views.characters character)) }
+    ensures { OnOk result (string_bytes text.new ≡ string_bytes text.old ++ encode_utf8_all
+        (Views.characters character)) }
 {
     if let Some(c) = character {
         text.push(c)?;

@@ -15,9 +15,13 @@ use std::marker::Model;
 /// The first token of a text that begins at this place, and the text behind it; `None` where only layout and comments are.
 fn first_token(text: &str, from: usize) -> Result<Option<(Token<'_>, &str)>, TokenFault>
     requires { from + length text.now ≤ 9223372036854775807 }
-    ensures found { IfOk result (λ o. MatchOption o (Tokens.HasTokens from true text.now []) (λ r. IsNext (record { bytes = text.now; place = from }) (record { bytes = r.1.now; place = r.0.place + length r.0.text.now }) (lexeme_of r.0))) }
+    ensures found { IfOk result (λ o. MatchOption o (Tokens.HasTokens from true text.now [])
+        (λ r. IsNext (record { bytes = text.now; place = from })
+        (record { bytes = r.1.now; place = r.0.place + length r.0.text.now }) (lexeme_of r.0))) }
     ensures text { IfOk result (λ o. IfSome o (λ r. IsUtf8 r.1.now)) }
-    ensures within { IfOk result (λ o. IfSome o (λ r. r.0.place + length r.0.text.now + length r.1.now ≤ from + length text.now)) }
+    ensures within { IfOk result
+        (λ o. IfSome o (λ r. r.0.place + length r.0.text.now + length r.1.now ≤ from +
+        length text.now)) }
     ensures fault { IfErr result (Refuses (record { bytes = text.now; place = from })) }
 {
     let mut rest = text;
@@ -113,8 +117,10 @@ pub fn tokens(alloc: Global, text: &str) -> Result<Vec<Token<'_>>, TokenFault>
     ensures found { IfOk result (λ v. Tokens.TokensOf text.now (lexemes v.items)) }
     ensures slices { IfOk result (λ v. AreSlices text.now 0 (lexemes v.items)) }
     ensures fault { IfErr result (IsFaultIn text.now) }
-    ensures only_these { (ts : List Tokens.Lexeme) → Tokens.TokensOf text.now ts → MatchResult result (λ v. lexemes v.items ≡ ts) (λ e. e ≡ TokenFault.NoMemory) }
-    ensures only_this { (cause : Tokens.Cause) (place : ℕ) → Tokens.FaultOf text.now cause place → MatchResult result (λ _. ⊥) (IsFaultAt cause place) }
+    ensures only_these { (ts : List Tokens.Lexeme) → Tokens.TokensOf text.now ts
+        → MatchResult result (λ v. lexemes v.items ≡ ts) (λ e. e ≡ TokenFault.NoMemory) }
+    ensures only_this { (cause : Tokens.Cause) (place : ℕ) → Tokens.FaultOf text.now cause place
+        → MatchResult result (λ _. ⊥) (IsFaultAt cause place) }
 {
     let mut found = Vec::new(alloc);
     let mut scanner = Scanner::new(text);

@@ -57,7 +57,8 @@ fn head_cause(pool: &Pool, head: TermId) -> Option<Cause>
 /// Those of a query's variables whose names don't begin with `_`. `names` has the names of all, by their numbers.
 fn shown_variables(alloc: Global, pool: &Pool, names: &[AtomId]) -> Result<ShownVariables, NoMemory>
     requires { All (λ a. a.number < length pool.now.names) names.now }
-    ensures { IfOk result (λ shown. AreShown pool.now names.now shown.names.items shown.numbers.items) }
+    ensures { IfOk result (λ shown. AreShown pool.now names.now shown.names.items
+        shown.numbers.items) }
 {
     let mut shown = ShownVariables {
         names: Vec::new(alloc),
@@ -97,7 +98,8 @@ impl Parts {
         requires store { IsStore sentences.now.pool self.old.store }
         requires sentence { IsSentence sentences.now.pool sentence.now }
         requires body { body.number < length sentences.now.pool.entries }
-        ensures added { OnOk result (AddsAs sentences.now self.old self.new sentence.now (Query body)) }
+        ensures added { OnOk result (AddsAs sentences.now self.old self.new sentence.now
+            (Query body)) }
         ensures fault { IfErr result (RefusesAs sentences.now sentence.now (Query body)) }
     {
         let goals = self.store.read_body(alloc, sentences, heads, body)?;
@@ -126,7 +128,8 @@ impl Parts {
         requires store { IsStore sentences.now.pool self.old.store }
         requires head { head.number < length sentences.now.pool.entries }
         requires body { body.number < length sentences.now.pool.entries }
-        ensures added { OnOk result (AddsAs sentences.now self.old self.new sentence.now (Clause head body)) }
+        ensures added { OnOk result (AddsAs sentences.now self.old self.new sentence.now
+            (Clause head body)) }
         ensures fault { IfErr result (RefusesAs sentences.now sentence.now (Clause head body)) }
     {
         if let Some(cause) = head_cause(&sentences.pool, head) {
@@ -150,7 +153,8 @@ impl Parts {
     ) -> Result<(), Fault>
         requires store { IsStore sentences.now.pool self.old.store }
         requires head { head.number < length sentences.now.pool.entries }
-        ensures added { OnOk result (AddsAs sentences.now self.old self.new sentence.now (Fact head)) }
+        ensures added { OnOk result (AddsAs sentences.now self.old self.new sentence.now
+            (Fact head)) }
         ensures fault { IfErr result (RefusesAs sentences.now sentence.now (Fact head)) }
     {
         if let Some(cause) = head_cause(&sentences.pool, head) {

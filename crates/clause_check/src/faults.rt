@@ -73,7 +73,8 @@ impl<T: Drop> From<AllocFailed<T>> for Fault {
 pub(crate) fn refused(pool: &Pool, t: TermId, cause: Cause) -> Fault
     requires term { t.number < length pool.now.entries }
     requires cause { IsCauseAt pool.now (place (placed_of pool.now t)) cause }
-    ensures { RefusedBy pool.now (Some (refused_at (place (placed_of pool.now t)) (cause_text pool.now cause))) result }
+    ensures { RefusedBy pool.now (Some (refused_at (place (placed_of pool.now t))
+        (cause_text pool.now cause))) result }
 {
     Fault::Refused {
         place: pool.place(t),

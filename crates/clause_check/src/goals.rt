@@ -199,7 +199,8 @@ impl GoalStore {
         requires own { AreOwn sentences.now }
         requires heads { AreHeads sentences.now heads.now.keys }
         requires store { IsStore sentences.now.pool self.old }
-        requires start { start_in (length self.old.pending.items) task ≤ length self.old.pending.items }
+        requires start { start_in (length self.old.pending.items) task ≤
+            length self.old.pending.items }
         requires task { IsTask sentences.now.pool (length self.old.goals.items) task }
         ensures taken { OnOk result (IsTaken sentences.now self.old self.new task) }
         ensures fault { IfErr result (RefusesTask sentences.now task) }
@@ -223,7 +224,8 @@ impl GoalStore {
         requires heads { AreHeads sentences.now heads.now.keys }
         requires store { IsStore sentences.now.pool self.old }
         requires term { body.number < length sentences.now.pool.entries }
-        ensures read { IfOk result (IsRead sentences.now self.old self.new (placed_of sentences.now.pool body)) }
+        ensures read { IfOk result (IsRead sentences.now self.old self.new
+            (placed_of sentences.now.pool body)) }
         ensures fault { IfErr result (RefusesBody sentences.now body) }
     {
         self.pending.clear();

@@ -41,7 +41,8 @@ pub fn check_program(alloc: Global, s: Sentences) -> Result<Program, ProgramFaul
     ensures accepted { IfOk result (λ p. first_refusal INFINITY (terms_of s) (terms_of s) ≡ None) }
     ensures program { IfOk result (λ p. program_in p ≡ program_of (sentences_of s)) }
     ensures pool { IfOk result (λ p. p.pool ≡ s.pool) }
-    ensures refused { IfErr result (Refuses s.pool (first_refusal INFINITY (terms_of s) (terms_of s))) }
+    ensures refused { IfErr result (Refuses s.pool (first_refusal INFINITY (terms_of s)
+        (terms_of s))) }
 {
     match check_sentences(alloc, &s) {
         Ok(parts) => {

@@ -74,9 +74,11 @@ impl Model for Program {
 
     ghost coded = { Prim.hlevel (codes, range_coded) };
 
-    ghost view = { λ p. program_of_parts p.pool p.ranges.items p.goals.items p.clauses.items p.queries.items };
+    ghost view = { λ p. program_of_parts p.pool p.ranges.items p.goals.items p.clauses.items
+        p.queries.items };
 
-    ghost invariant = { λ p. IsProgram (program_of_parts p.pool p.ranges.items p.goals.items p.clauses.items p.queries.items) };
+    ghost invariant = { λ p. IsProgram (program_of_parts p.pool p.ranges.items p.goals.items
+        p.clauses.items p.queries.items) };
 }
 
 impl Program {
@@ -88,8 +90,10 @@ impl Program {
         clauses: Vec<FlatClause>,
         queries: Vec<QueryParts>,
     ) -> Program
-        requires { IsProgram (program_of_parts pool ranges.items goals.items clauses.items queries.items) }
-        ensures { result ≡ program_of_parts pool ranges.items goals.items clauses.items queries.items }
+        requires { IsProgram (program_of_parts pool ranges.items goals.items clauses.items
+            queries.items) }
+        ensures { result ≡ program_of_parts pool ranges.items goals.items clauses.items
+            queries.items }
     {
         Program {
             pool,

@@ -58,7 +58,8 @@ impl Model for Areas {
 
     ghost use Rattle.code_areas.specs.Stored.{contents_of, AreStored};
 
-    ghost view = { λ a. contents_of a.cells.items a.first a.slots.items a.base a.frames.items a.newest
+    ghost view = { λ a. contents_of a.cells.items a.first a.slots.items a.base a.frames.items
+        a.newest
         a.marks.items };
 
     ghost invariant = { λ a. AreStored a.cells.items a.first a.slots.items a.base a.frames.items

@@ -61,7 +61,8 @@ fn write_given(
 ) -> Result<(), NoMemory>
     requires { number < 2 ^ 63 }
     ensures { OnOk result
-        (nodes.new.items ≡ nodes.old.items ++ nodes_of (given_at direction variable number element)) }
+        (nodes.new.items ≡ nodes.old.items ++ nodes_of
+        (given_at direction variable number element)) }
 {
     match direction {
         Direction::ElementAt => write_where(nodes, number as i64, variable, element),

@@ -53,7 +53,9 @@ impl Waiting {
     /// What waits behind the node, and `None` where its operands aren't there.
     fn after(self, node: RangeNode) -> Option<Waiting>
         requires { self.ranges + self.terms < usize.MAX }
-        ensures reached { (ns : List Spelled) (rs : List Range) (ts : List Expr) → length rs ≡ self.ranges → length ts ≡ self.terms → MatchOption result (built (node ∷ ns) rs ts ≡ None) (λ w. IsReached (built (node ∷ ns) rs ts) ns w.ranges w.terms) }
+        ensures reached { (ns : List Spelled) (rs : List Range) (ts : List Expr) → length rs
+            ≡ self.ranges → length ts ≡ self.terms → MatchOption result (built (node ∷ ns) rs ts
+            ≡ None) (λ w. IsReached (built (node ∷ ns) rs ts) ns w.ranges w.terms) }
         ensures room { IfSome result (λ w. w.ranges + w.terms ≤ suc (self.ranges + self.terms)) }
     {
         let taken = operands_of(node);

@@ -126,7 +126,8 @@ fn add_terms(
     terms: &mut IndexMap<u64, Share>,
     other: &IndexMap<u64, Share>,
 ) -> Result<(), LinearFault>
-    ensures { MatchResult result (λ _. Adds terms.old.entries other.now.entries terms.new.entries) (OverflowsBy (Exceeds terms.old.entries other.now.entries)) }
+    ensures { MatchResult result (λ _. Adds terms.old.entries other.now.entries terms.new.entries)
+        (OverflowsBy (Exceeds terms.old.entries other.now.entries)) }
 {
     for (variable, share) in other.iter() {
         let Some(whole) = whole_share(terms, *variable, *share) else {
@@ -143,7 +144,8 @@ fn scaled_terms(
     terms: &IndexMap<u64, Share>,
     factor: i64,
 ) -> Result<IndexMap<u64, Share>, LinearFault>
-    ensures { MatchResult result (λ scaled. Scales factor terms.now.entries scaled.entries) (OverflowsBy (ScalesOver factor terms.now.entries)) }
+    ensures { MatchResult result (λ scaled. Scales factor terms.now.entries scaled.entries)
+        (OverflowsBy (ScalesOver factor terms.now.entries)) }
 {
     let mut scaled = IndexMap::with_capacity(alloc, terms.len())?;
     for (variable, share) in terms.iter() {
@@ -157,7 +159,8 @@ fn scaled_terms(
 
 /// A sum times a constant.
 fn times(alloc: Global, sum: &Sum, factor: i64) -> Result<Sum, LinearFault>
-    ensures { MatchResult result (Multiplies factor sum.now) (OverflowsBy (ExceedsTimes factor sum.now)) }
+    ensures { MatchResult result (Multiplies factor sum.now)
+        (OverflowsBy (ExceedsTimes factor sum.now)) }
 {
     let terms = scaled_terms(alloc, &sum.terms, factor)?;
     match product(factor, sum.constant) {
@@ -186,7 +189,8 @@ fn added(mut longer: Sum, shorter: &Sum, most: usize) -> Result<Sum, LinearFault
 
 /// The sum of two, of which the shorter one is added to the longer one.
 pub(crate) fn plus(left: Sum, right: Sum) -> Result<Sum, LinearFault>
-    ensures { (s t : linear.Sum) (lo m hi : ℕ) → IsSum left s lo m → IsSum right t m hi → Gives (sum_of s t) lo hi result }
+    ensures { (s t : linear.Sum) (lo m hi : ℕ) → IsSum left s lo m → IsSum right t m hi
+        → Gives (sum_of s t) lo hi result }
 {
     if left.terms.len() < right.terms.len() {
         added(right, &left, MOST_VARIABLES)
@@ -197,7 +201,8 @@ pub(crate) fn plus(left: Sum, right: Sum) -> Result<Sum, LinearFault>
 
 /// The product of two, of which one has to be a constant.
 pub(crate) fn multiply(alloc: Global, left: Sum, right: Sum) -> Result<Sum, LinearFault>
-    ensures { (s t : linear.Sum) (lo m hi : ℕ) → IsSum left s lo m → IsSum right t m hi → Gives (product_of s t) lo hi result }
+    ensures { (s t : linear.Sum) (lo m hi : ℕ) → IsSum left s lo m → IsSum right t m hi
+        → Gives (product_of s t) lo hi result }
 {
     if left.is_constant() {
         times(alloc, &right, left.constant)
@@ -210,7 +215,8 @@ pub(crate) fn multiply(alloc: Global, left: Sum, right: Sum) -> Result<Sum, Line
 
 /// The terms whose coefficient is not 0.
 fn open_terms(alloc: Global, terms: &IndexMap<u64, Share>) -> Result<Vec<(u64, i64)>, LinearFault>
-    ensures { MatchResult result (λ left. left.items ≡ nonzero (coefficients terms.now.entries)) (OverflowsBy ⊥) }
+    ensures { MatchResult result (λ left. left.items ≡ nonzero (coefficients terms.now.entries))
+        (OverflowsBy ⊥) }
 {
     let mut left = Vec::new(alloc);
     for (variable, share) in terms.iter() {
@@ -225,7 +231,8 @@ fn open_terms(alloc: Global, terms: &IndexMap<u64, Share>) -> Result<Vec<(u64, i
 /// The sum against its constant, with its variables in the order of first occurrence.
 pub(crate) fn linear_of(alloc: Global, mut sum: Sum) -> Result<Linear, LinearFault>
     requires { IsKept sum }
-    ensures { (s : linear.Sum) (lo hi : ℕ) → IsSum sum s lo hi → MatchResult result (λ l. linear_form s ≡ Ok (form_of l)) (OverflowsBy ⊥) }
+    ensures { (s : linear.Sum) (lo hi : ℕ) → IsSum sum s lo hi → MatchResult result
+        (λ l. linear_form s ≡ Ok (form_of l)) (OverflowsBy ⊥) }
 {
     sum.terms.sort_by_key(|_, share| share.first)?;
     let terms = open_terms(alloc, &sum.terms)?;

@@ -40,7 +40,8 @@ fn open_operator(
     negated: bool,
     ahead: &mut Vec<Task>,
 ) -> Result<(), LinearFault>
-    ensures { Opens (operator_tasks name.now left right negated) ahead.old.items ahead.new.items result }
+    ensures { Opens (operator_tasks name.now left right negated) ahead.old.items ahead.new.items
+        result }
 {
     if name == "+" {
         ahead.extend_from_slice(&[
@@ -73,7 +74,8 @@ fn open_compound(
     negated: bool,
     ahead: &mut Vec<Task>,
 ) -> Result<(), LinearFault>
-    ensures { Opens (compound_tasks name.now parts.now negated) ahead.old.items ahead.new.items result }
+    ensures { Opens (compound_tasks name.now parts.now negated) ahead.old.items ahead.new.items
+        result }
 {
     match parts {
         [only] => {
@@ -96,7 +98,8 @@ impl Made {
         variable: u64,
         negated: bool,
     ) -> Result<(), LinearFault>
-        ensures { Applies (λ ss. before ss (signed negated (collect_term (Var variable)))) self.old self.new result }
+        ensures { Applies (λ ss. before ss (signed negated (collect_term (Var variable)))) self.old
+            self.new result }
     {
         let Some(met) = self.met.checked_add(1) else {
             return Err(LinearFault::NoMemory);
@@ -113,7 +116,8 @@ impl Made {
         integer: i64,
         negated: bool,
     ) -> Result<(), LinearFault>
-        ensures { Applies (λ ss. before ss (signed negated (collect_term (Int integer)))) self.old self.new result }
+        ensures { Applies (λ ss. before ss (signed negated (collect_term (Int integer)))) self.old
+            self.new result }
     {
         let alone = constant_alone(alloc, integer, negated)?;
         self.sums.push(alone)?;
@@ -130,7 +134,9 @@ impl Made {
         ahead: &mut Vec<Task>,
     ) -> Result<(), LinearFault>
         requires { term.number < length pool.now.entries }
-        ensures { MatchResult result (λ _. Does pool.now (task.Collect term negated) self.old ahead.old.items self.new ahead.new.items) (Refuses pool.now (task.Collect term negated) self.old) }
+        ensures { MatchResult result (λ _. Does pool.now (task.Collect term negated) self.old
+            ahead.old.items self.new ahead.new.items) (Refuses pool.now (task.Collect term negated)
+            self.old) }
     {
         match pool.view(term) {
             Node::Var(variable) => self.push_variable(alloc, variable, negated),
@@ -142,7 +148,9 @@ impl Made {
 
     /// The last two sums. There are two, since an operator stands behind its operands.
     fn take_two(&mut self) -> Result<(Sum, Sum), LinearFault>
-        ensures { MatchResult result (λ p. (ss : List linear.Sum) → Makes self.old ss → TakesTwo self.old p.0 p.1 self.new ss) (λ f. (ss : List linear.Sum) → Makes self.old ss → HasNotTwo f ss) }
+        ensures { MatchResult result (λ p. (ss : List linear.Sum) → Makes self.old ss
+            → TakesTwo self.old p.0 p.1 self.new ss) (λ f. (ss : List linear.Sum)
+            → Makes self.old ss → HasNotTwo f ss) }
     {
         let Some(right) = self.sums.pop() else {
             return Err(LinearFault::NotANumber);
@@ -179,7 +187,8 @@ impl Made {
         ahead: &mut Vec<Task>,
     ) -> Result<(), LinearFault>
         requires { IsOf pool.now task }
-        ensures { MatchResult result (λ _. Does pool.now task self.old ahead.old.items self.new ahead.new.items) (Refuses pool.now task self.old) }
+        ensures { MatchResult result (λ _. Does pool.now task self.old ahead.old.items self.new
+            ahead.new.items) (Refuses pool.now task self.old) }
     {
         match task {
             Task::Collect(term, negated) => self.collect(alloc, pool, term, negated, ahead),
@@ -198,7 +207,9 @@ pub(crate) fn collect_difference(
 ) -> Result<Sum, LinearFault>
     requires left { left.number < length pool.now.entries }
     requires right { right.number < length pool.now.entries }
-    ensures { (lo : ℕ) × (hi : ℕ) × Gives (of_both difference_of (collect_term (term_of pool.now left)) (collect_term (term_of pool.now right))) lo hi result }
+    ensures { (lo : ℕ) × (hi : ℕ)
+        × Gives (of_both difference_of (collect_term (term_of pool.now left))
+        (collect_term (term_of pool.now right))) lo hi result }
 {
     let mut made = Made {
         sums: Vec::new(alloc),

@@ -40,7 +40,8 @@ impl Asking {
 
     /// One more place, which asks for any integer.
     pub fn add(&mut self, variable: u64) -> Result<(), NoMemory>
-        ensures { OnOk result (told 0 self.new.places.items ≡ told 0 self.old.places.items ++ (variable, Whole) ∷ []) }
+        ensures { OnOk result (told 0 self.new.places.items ≡ told 0 self.old.places.items ++
+            (variable, Whole) ∷ []) }
     {
         let floor = self.len() + 1;
         self.places.push(Asked {
@@ -64,7 +65,8 @@ impl Asking {
 
     /// The last place stands alone as a divisor.
     pub fn divide(&mut self)
-        ensures { (front : List (ℕ × Asks)) (x : ℕ) (n : Asks) → told 0 self.old.places.items ≡ front ++ (x, n) ∷ [] → told 0 self.new.places.items ≡ front ++ (x, Divisor) ∷ [] }
+        ensures { (front : List (ℕ × Asks)) (x : ℕ) (n : Asks) → told 0 self.old.places.items
+            ≡ front ++ (x, n) ∷ [] → told 0 self.new.places.items ≡ front ++ (x, Divisor) ∷ [] }
     {
         let count = self.len();
         if count > 0 {

@@ -18,8 +18,11 @@ fn meet(
     variable: u64,
     place: usize,
 ) -> Result<Option<Offence>, NoMemory>
-    ensures clash { IfOk result (λ o. (xs ys : List ℕ) → AreSeen xs other.now.keys → AreSeen ys own.old.keys → o ≡ first (where_first_clash (has xs variable) (has ys variable) place)) }
-    ensures seen { OnOk result ((ys : List ℕ) → AreSeen ys own.old.keys → AreSeen (variable ∷ ys) own.new.keys) }
+    ensures clash { IfOk result (λ o. (xs ys : List ℕ) → AreSeen xs other.now.keys
+        → AreSeen ys own.old.keys → o ≡ first (where_first_clash (has xs variable)
+        (has ys variable) place)) }
+    ensures seen { OnOk result ((ys : List ℕ) → AreSeen ys own.old.keys
+        → AreSeen (variable ∷ ys) own.new.keys) }
 {
     let clashes = other.contains(&variable) && !own.contains(&variable);
     own.insert(variable)?;
@@ -40,7 +43,8 @@ struct Uses {
 impl Uses {
     /// Meets the node's variable.
     fn meet_node(&mut self, node: RangeNode, place: usize) -> Result<Option<Offence>, NoMemory>
-        ensures { IfOk result (FindsAt place node self.old.parameters.keys self.old.named.keys self.new.parameters.keys self.new.named.keys) }
+        ensures { IfOk result (FindsAt place node self.old.parameters.keys self.old.named.keys
+            self.new.parameters.keys self.new.named.keys) }
     {
         match node {
             RangeNode::Param(variable) => meet(&self.named, &mut self.parameters, variable, place),
@@ -60,7 +64,8 @@ pub(crate) fn first_clash(
     places: &[usize],
 ) -> Result<Option<Offence>, NoMemory>
     requires { length places.now ≡ length nodes.now }
-    ensures { IfOk result (λ o. o ≡ first (clashes (λ n. slice_index places.now n) 0 [] [] nodes.now)) }
+    ensures { IfOk result
+        (λ o. o ≡ first (clashes (λ n. slice_index places.now n) 0 [] [] nodes.now)) }
 {
     let mut uses = Uses {
         parameters: HashSet::new(alloc),

@@ -56,7 +56,8 @@ fn join(
     variable: u64,
     need: Need,
 ) -> Result<(), NoMemory>
-    ensures { OnOk result (number ≡ position_or_len (nat_eq variable) (map (λ d. d.0) needs.old.items) → needs.new.items ≡ put needs.old.items variable need) }
+    ensures { OnOk result (number ≡ position_or_len (nat_eq variable)
+        (map (λ d. d.0) needs.old.items) → needs.new.items ≡ put needs.old.items variable need) }
 {
     if number < needs.len() {
         let found = needs[number];

@@ -123,7 +123,8 @@ fn first_offence(
 /// Accepts a range, or says which node is refused first. `places` has a place for each node in postfix order.
 pub fn check(alloc: Global, range: FlatRange, places: &[usize]) -> Result<Checked, CheckFault>
     requires { length places.now ≡ length (nodes_of range) }
-    ensures { MatchResult result (λ c. (c ≡ range) × (verdict INFINITY places.now range ≡ None)) (IsFaultOf (verdict INFINITY places.now range)) }
+    ensures { MatchResult result (λ c. (c ≡ range) × (verdict INFINITY places.now range ≡ None))
+        (IsFaultOf (verdict INFINITY places.now range)) }
 {
     match first_offence(alloc, &range, places) {
         Ok(None) => Ok(Checked { range }),

@@ -110,7 +110,9 @@ impl Pending {
 
     /// Takes the node's operands and puts what is kept of its term or range.
     pub fn take(&mut self, node: RangeNode, place: usize) -> Result<(), NoMemory>
-        ensures { IfOk result (λ _. (at : ℕ → ℕ) (n : ℕ) (ns : List Spelled) (rs : List Range) (ts : List Expr) → at n ≡ place → IsPending INFINITY at n rs ts self.old → Follows INFINITY at n ns (built (node ∷ ns) rs ts) self.new) }
+        ensures { IfOk result (λ _. (at : ℕ → ℕ) (n : ℕ) (ns : List Spelled) (rs : List Range)
+            (ts : List Expr) → at n ≡ place → IsPending INFINITY at n rs ts self.old
+            → Follows INFINITY at n ns (built (node ∷ ns) rs ts) self.new) }
     {
         match node {
             RangeNode::Int(_)

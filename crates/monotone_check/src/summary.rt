@@ -93,7 +93,8 @@ fn quotient_bound(a: u128) -> u128
 }
 
 fn bound_of(node: RangeNode, a: u128, b: u128) -> u128
-    ensures { (x y : ℕ) → a ≡ capped x → b ≡ capped y → result ≡ capped (operator_bound INFINITY node x y) }
+    ensures { (x y : ℕ) → a ≡ capped x → b ≡ capped y → result
+        ≡ capped (operator_bound INFINITY node x y) }
 {
     match node {
         RangeNode::Add | RangeNode::Sub => sum_bound(a, b),
@@ -116,8 +117,10 @@ fn literal_of(node: RangeNode, a: Option<i128>, b: Option<i128>) -> Option<i128>
 
 /// The wishes for the operands of a product.
 fn product_wishes(a: TermCheck, b: TermCheck) -> (Wishes, Wishes)
-    ensures plain { (w : Wish) → by_wish result.0 w ≡ product_first a.literal b.literal a b w false }
-    ensures natural { (w : Wish) → by_wish result.1 w ≡ product_first a.literal b.literal a b w true }
+    ensures plain { (w : Wish) → by_wish result.0 w ≡ product_first a.literal b.literal a b w
+        false }
+    ensures natural { (w : Wish) → by_wish result.1 w ≡ product_first a.literal b.literal a b w
+        true }
 {
     match (a.literal, b.literal) {
         (Some(factor), _) => (
@@ -224,7 +227,8 @@ fn literal_leaf(value: i128, place: usize) -> TermCheck
     ensures literal { result.literal ≡ Some value }
     ensures parameter { result.parameter ≡ false }
     ensures plain { (w : Wish) → by_wish result.plain w ≡ None }
-    ensures natural { (w : Wish) → by_wish result.natural w ≡ first (where_below_zero true value place) }
+    ensures natural { (w : Wish) → by_wish result.natural w
+        ≡ first (where_below_zero true value place) }
 {
     let bound = value.unsigned_abs().min(OVER_LIMIT);
     TermCheck {

@@ -18,7 +18,8 @@ pub(crate) fn summarize(
 ) -> Result<RangeCheck, NoMemory>
     requires spelled { IsSpelled nodes.now }
     requires placed { length places.now ≡ length nodes.now }
-    ensures { IfOk result (λ s. IsRange INFINITY (λ n. slice_index places.now n) (range_size (spelled nodes.now) - 1) (spelled nodes.now) s) }
+    ensures { IfOk result (λ s. IsRange INFINITY (λ n. slice_index places.now n)
+        (range_size (spelled nodes.now) - 1) (spelled nodes.now) s) }
 {
     let mut pending = Pending::new(alloc);
     for (number, node) in nodes.iter().enumerate() {

@@ -7,8 +7,10 @@ ghost use Rattle.fd_language.specs.Characters as Characters;
 
 /// The first character, and the text behind it.
 pub fn first_char(text: &str) -> Option<(char, &str)>
-    ensures split { MatchOption result (text.now ≡ []) (λ r. IsScalar r.0 × (text.now ≡ encode_utf8 r.0 ++ r.1.now)) }
-    ensures characters { MatchOption result (chars text.now ≡ []) (λ r. chars text.now ≡ r.0 ∷ chars r.1.now) }
+    ensures split { MatchOption result (text.now ≡ []) (λ r. IsScalar r.0
+        × (text.now ≡ encode_utf8 r.0 ++ r.1.now)) }
+    ensures characters { MatchOption result (chars text.now ≡ []) (λ r. chars text.now
+        ≡ r.0 ∷ chars r.1.now) }
 {
     let mut characters = text.chars();
     match characters.next() {

@@ -25,7 +25,8 @@ struct Seen {
 /// A variable, and whether it is new. Then it is met.
 fn meet(variables: &mut HashSet<u64>, variable: u64) -> Result<bool, NoMemory>
     ensures new { IfOk result (λ new. new ≡ not (list_any (nat_eq variable) variables.old.keys)) }
-    ensures seen { OnOk result ((z : ℕ) → list_any (nat_eq z) variables.new.keys ≡ (nat_eq z variable || list_any (nat_eq z) variables.old.keys)) }
+    ensures seen { OnOk result ((z : ℕ) → list_any (nat_eq z) variables.new.keys
+        ≡ (nat_eq z variable || list_any (nat_eq z) variables.old.keys)) }
 {
     Ok(variables.insert(variable)?)
 }
@@ -34,7 +35,8 @@ impl Seen {
     /// Whether what is read of the variable is new. Then it is met.
     fn add(&mut self, variable: u64, feature: Feature) -> Result<bool, NoMemory>
         ensures new { IfOk result (λ new. new ≡ not (sees self.old (variable, feature))) }
-        ensures seen { OnOk result ((e : ℕ × Read) → sees self.new e ≡ (sees self.old e || is_same_pair e (variable, feature))) }
+        ensures seen { OnOk result ((e : ℕ × Read) → sees self.new e
+            ≡ (sees self.old e || is_same_pair e (variable, feature))) }
     {
         match feature {
             Feature::Min => meet(&mut self.min, variable),

@@ -47,7 +47,8 @@ pub(crate) enum Form {
 /// The number of a term that is a variable.
 fn variable_of(pool: &Pool, t: TermId) -> Option<u64>
     requires { t.number < length pool.now.entries }
-    ensures { MatchOption result (IsNoVariable (placed_of pool.now t)) (λ x. (q : ℕ) × (placed_of pool.now t ≡ var x q)) }
+    ensures { MatchOption result (IsNoVariable (placed_of pool.now t))
+        (λ x. (q : ℕ) × (placed_of pool.now t ≡ var x q)) }
 {
     match pool.view(t) {
         Node::Var(variable) => Some(variable),
@@ -60,7 +61,8 @@ fn variable_of(pool: &Pool, t: TermId) -> Option<u64>
 /// `dom` of a variable.
 fn domain_form(pool: &Pool, only: TermId) -> Form
     requires { only.number < length pool.now.entries }
-    ensures { (p : ℕ) → IsForm pool.now (of_range (read_dom (placed_of pool.now only) p)) p (only ∷ []) result }
+    ensures { (p : ℕ) → IsForm pool.now (of_range (read_dom (placed_of pool.now only) p)) p
+        (only ∷ []) result }
 {
     match variable_of(pool, only) {
         Some(variable) => Form::Leaf(RangeNode::Dom(variable)),
@@ -71,7 +73,9 @@ fn domain_form(pool: &Pool, only: TermId) -> Form
 /// A range with one part.
 fn single_range_form(pool: &Pool, name: &str, only: TermId) -> Form
     requires { only.number < length pool.now.entries }
-    ensures { (p : ℕ) → IsForm pool.now (wanted place_in.Range (comp name.now p (one (placed_of pool.now only)))) p (only ∷ []) result }
+    ensures { (p : ℕ) → IsForm pool.now
+        (wanted place_in.Range (comp name.now p (one (placed_of pool.now only)))) p
+        (only ∷ []) result }
 {
     if name == "{}" {
         let operand = Operand {
@@ -94,7 +98,9 @@ fn single_range_form(pool: &Pool, name: &str, only: TermId) -> Form
 
 /// A range with two parts.
 fn double_range_form(pool: &Pool, name: &str, first: TermId, second: TermId) -> Form
-    ensures { (p : ℕ) → IsForm pool.now (wanted place_in.Range (comp name.now p (two (placed_of pool.now first) (placed_of pool.now second)))) p (first ∷ second ∷ []) result }
+    ensures { (p : ℕ) → IsForm pool.now
+        (wanted place_in.Range (comp name.now p (two (placed_of pool.now first)
+        (placed_of pool.now second)))) p (first ∷ second ∷ []) result }
 {
     match range_operator(name) {
         Some(operator) => Form::Binary(
@@ -115,7 +121,9 @@ fn double_range_form(pool: &Pool, name: &str, first: TermId, second: TermId) -> 
 /// `min`, `max` or `val` of a variable.
 fn feature_form(pool: &Pool, name: &str, only: TermId) -> Form
     requires { only.number < length pool.now.entries }
-    ensures { (p : ℕ) → IsForm pool.now (wanted place_in.Term (comp name.now p (one (placed_of pool.now only)))) p (only ∷ []) result }
+    ensures { (p : ℕ) → IsForm pool.now
+        (wanted place_in.Term (comp name.now p (one (placed_of pool.now only)))) p
+        (only ∷ []) result }
 {
     match variable_of(pool, only) {
         Some(variable) => match feature(name, variable) {
@@ -135,7 +143,9 @@ fn operation_form(
     position: Position,
 ) -> Form
     requires { IsOfTerms position }
-    ensures { (p : ℕ) → IsForm pool.now (wanted position (comp name.now p (two (placed_of pool.now first) (placed_of pool.now second)))) p (first ∷ second ∷ []) result }
+    ensures { (p : ℕ) → IsForm pool.now
+        (wanted position (comp name.now p (two (placed_of pool.now first)
+        (placed_of pool.now second)))) p (first ∷ second ∷ []) result }
 {
     match term_operator(name) {
         Some(node) => Form::Binary(
@@ -156,7 +166,9 @@ fn operation_form(
 /// A compound where a range is wanted.
 fn range_form(pool: &Pool, name: &str, parts: &[TermId]) -> Form
     requires { All (λ t. t.number < length pool.now.entries) parts.now }
-    ensures { (p : ℕ) → IsForm pool.now (wanted place_in.Range (comp name.now p (parts_by (placed_of pool.now) parts.now))) p parts.now result }
+    ensures { (p : ℕ) → IsForm pool.now
+        (wanted place_in.Range (comp name.now p (parts_by (placed_of pool.now) parts.now))) p
+        parts.now result }
 {
     match parts {
         [only] => single_range_form(pool, name, *only),
@@ -169,7 +181,9 @@ fn range_form(pool: &Pool, name: &str, parts: &[TermId]) -> Form
 /// A compound where a number is wanted.
 fn term_form(pool: &Pool, name: &str, parts: &[TermId]) -> Form
     requires { All (λ t. t.number < length pool.now.entries) parts.now }
-    ensures { (p : ℕ) → IsForm pool.now (wanted place_in.Term (comp name.now p (parts_by (placed_of pool.now) parts.now))) p parts.now result }
+    ensures { (p : ℕ) → IsForm pool.now
+        (wanted place_in.Term (comp name.now p (parts_by (placed_of pool.now) parts.now))) p
+        parts.now result }
 {
     match parts {
         [only] => feature_form(pool, name, *only),
@@ -181,7 +195,8 @@ fn term_form(pool: &Pool, name: &str, parts: &[TermId]) -> Form
 
 /// A compound where a number is wanted that no domain changes.
 fn constant_form(pool: &Pool, name: &str, parts: &[TermId]) -> Form
-    ensures { (p : ℕ) → IsForm pool.now (wanted place_in.Constant (comp name.now p (parts_by (placed_of pool.now) parts.now))) p parts.now result }
+    ensures { (p : ℕ) → IsForm pool.now (wanted place_in.Constant
+        (comp name.now p (parts_by (placed_of pool.now) parts.now))) p parts.now result }
 {
     match parts {
         [first, second] => operation_form(pool, name, *first, *second, Position::Constant),
@@ -194,7 +209,9 @@ fn constant_form(pool: &Pool, name: &str, parts: &[TermId]) -> Form
 /// A compound in its position.
 fn compound_form(pool: &Pool, name: &str, parts: &[TermId], position: Position) -> Form
     requires { All (λ t. t.number < length pool.now.entries) parts.now }
-    ensures { (p : ℕ) → IsForm pool.now (wanted position (comp name.now p (parts_by (placed_of pool.now) parts.now))) p parts.now result }
+    ensures { (p : ℕ) → IsForm pool.now
+        (wanted position (comp name.now p (parts_by (placed_of pool.now) parts.now))) p parts.now
+        result }
 {
     match position {
         Position::Range => range_form(pool, name, parts),
@@ -205,7 +222,8 @@ fn compound_form(pool: &Pool, name: &str, parts: &[TermId], position: Position) 
 
 /// A number, which fits where one is wanted.
 fn number_form(node: RangeNode, position: Position) -> Form
-    ensures { (c : Contents) (w : Wanted) (p : ℕ) → IsNumber position node p w → IsForm c w p [] result }
+    ensures { (c : Contents) (w : Wanted) (p : ℕ) → IsNumber position node p w
+        → IsForm c w p [] result }
 {
     match position {
         Position::Range => Form::Misfit,
@@ -216,7 +234,9 @@ fn number_form(node: RangeNode, position: Position) -> Form
 /// What the operand is read as.
 pub(crate) fn form_of(pool: &Pool, operand: Operand) -> Form
     requires { operand.term.number < length pool.now.entries }
-    ensures { (s : Shape) (p : ℕ) → shape_at pool.now operand.term ≡ Some s → place_at pool.now operand.term ≡ Some p → IsForm pool.now (of_operand pool.now operand) p (parts_of s) result }
+    ensures { (s : Shape) (p : ℕ) → shape_at pool.now operand.term ≡ Some s
+        → place_at pool.now operand.term ≡ Some p → IsForm pool.now (of_operand pool.now operand) p
+        (parts_of s) result }
 {
     match pool.view(operand.term) {
         Node::Var(variable) => number_form(RangeNode::Param(variable), operand.position),

@@ -41,7 +41,10 @@ pub enum RangeFault {
 /// The range that a term of the pool spells, with the place of each of its nodes.
 pub fn read_range(alloc: Global, pool: &Pool, t: TermId) -> Result<SourceRange, RangeFault>
     requires { t.number < length pool.now.entries }
-    ensures spelled { MatchResult result (λ s. (not_a_range (placed_of pool.now t) ≡ None) × (s.range ≡ (reading_of (placed_of pool.now t)).tree) × (s.places.items ≡ (reading_of (placed_of pool.now t)).places)) (IsFaultOf (not_a_range (placed_of pool.now t))) }
+    ensures spelled { MatchResult result (λ s. (not_a_range (placed_of pool.now t) ≡ None)
+        × (s.range ≡ (reading_of (placed_of pool.now t)).tree)
+        × (s.places.items ≡ (reading_of (placed_of pool.now t)).places))
+        (IsFaultOf (not_a_range (placed_of pool.now t))) }
     ensures placed { IfOk result (λ s. length s.places.items ≡ length (nodes_of s.range)) }
 {
     let Found {

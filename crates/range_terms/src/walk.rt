@@ -51,7 +51,9 @@ impl Found {
     /// Reads a part, and leaves its operands to tasks.
     fn read(&mut self, pool: &Pool, operand: Operand, ahead: &mut Vec<Task>) -> Result<(), NoMemory>
         requires { operand.term.number < length pool.now.entries }
-        ensures { OnOk result (Replaces pool.now (of_operand pool.now operand) (2 * size (term_of pool.now operand.term)) self.old ahead.old.items self.new ahead.new.items) }
+        ensures { OnOk result (Replaces pool.now (of_operand pool.now operand)
+            (2 * size (term_of pool.now operand.term)) self.old ahead.old.items self.new
+            ahead.new.items) }
     {
         let place = pool.place(operand.term);
         match form_of(pool, operand) {
@@ -73,7 +75,8 @@ impl Found {
 
     fn take(&mut self, pool: &Pool, task: Task, ahead: &mut Vec<Task>) -> Result<(), NoMemory>
         requires { IsOf pool.now task }
-        ensures { OnOk result (Replaces pool.now (of_task pool.now task) (task_weight pool.now task) self.old ahead.old.items self.new ahead.new.items) }
+        ensures { OnOk result (Replaces pool.now (of_task pool.now task)
+            (task_weight pool.now task) self.old ahead.old.items self.new ahead.new.items) }
     {
         match task {
             Task::Read(operand) => self.read(pool, operand, ahead),
@@ -85,7 +88,8 @@ impl Found {
 /// All that is found of a term where a range is wanted.
 pub(crate) fn read_term(alloc: Global, pool: &Pool, t: TermId) -> Result<Found, NoMemory>
     requires { t.number < length pool.now.entries }
-    ensures { IfOk result (λ f. IsLeft pool.now (wanted place_in.Range (placed_of pool.now t)) f []) }
+    ensures { IfOk result (λ f. IsLeft pool.now (wanted place_in.Range (placed_of pool.now t)) f
+        []) }
 {
     let mut found = Found {
         nodes: Vec::new(alloc),

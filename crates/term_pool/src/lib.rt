@@ -87,16 +87,24 @@ impl Model for Pool {
     ghost use Rattle.std.specs.Prelude.{map, string_bytes};
     ghost use Rattle.term_pool.specs.Stored.{entries_of, AreStored};
 
-    ghost view = { λ p. record { names = map string_bytes p.atoms.keys; entries = entries_of p.parts.items p.nodes.items } };
+    ghost view = { λ p. record {
+      names = map string_bytes p.atoms.keys;
+      entries = entries_of
+          p.parts.items p.nodes.items;
+    } };
 
-    ghost invariant = { λ p. AreStored (map string_bytes p.atoms.keys) p.parts.items p.nodes.items };
+    ghost invariant = { λ p. AreStored (map string_bytes p.atoms.keys) p.parts.items
+        p.nodes.items };
 }
 
 /// The number of a name, which is added where it is not there.
 fn intern(atoms: &mut IndexSet<String>, text: &str) -> Result<AtomId, NoMemory>
-    ensures known { IsTrue (list_any (bytes_eq text.now) (map string_bytes atoms.old.keys)) → IsOk result }
-    ensures stands { IfOk result (λ a. slice_get (map string_bytes atoms.new.keys) a.number ≡ Some text.now) }
-    ensures names { OnOk result (map string_bytes atoms.new.keys ≡ interned (map string_bytes atoms.old.keys) text.now) }
+    ensures known { IsTrue (list_any (bytes_eq text.now) (map string_bytes atoms.old.keys))
+        → IsOk result }
+    ensures stands { IfOk result (λ a. slice_get (map string_bytes atoms.new.keys) a.number
+        ≡ Some text.now) }
+    ensures names { OnOk result (map string_bytes atoms.new.keys ≡ interned
+        (map string_bytes atoms.old.keys) text.now) }
     ensures err { OnErr result (map string_bytes atoms.new.keys ≡ map string_bytes atoms.old.keys) }
 {
     if let Some(number) = atoms.get_index_of(text) {
@@ -169,8 +177,10 @@ impl Pool {
     pub fn atom(&mut self, text: &str) -> Result<AtomId, NoMemory>
         ensures own { IfOk result (λ a. a.number < length self.new.names) }
         ensures name { IfOk result (λ a. atom_name self.new a ≡ text.now) }
-        ensures known { (a : AtomNumber) → a.number < length self.old.names → atom_name self.old a ≡ text.now → result ≡ Ok a }
-        ensures names { OnOk result (self.new ≡ record self.old { names = interned self.old.names text.now }) }
+        ensures known { (a : AtomNumber) → a.number < length self.old.names → atom_name self.old a
+            ≡ text.now → result ≡ Ok a }
+        ensures names { OnOk result
+            (self.new ≡ record self.old { names = interned self.old.names text.now }) }
         ensures err { OnErr result (self.new ≡ self.old) }
         ensures kept { KeepsTerms self.old self.new }
         ensures extends { Extends self.old self.new }
@@ -193,8 +203,13 @@ impl Pool {
     pub fn add(&mut self, node: Node<'_>, place: usize) -> Result<TermId, NoMemory>
         requires { IsWithin (length self.old.names) (length self.old.entries) (shape_of node) }
         ensures id { IfOk result (λ t. t.number ≡ length self.old.entries) }
-        ensures added { OnOk result (self.new ≡ record self.old { entries = self.old.entries ++ record { shape = shape_of node.entry; place = place } ∷ [] }) }
-        ensures term { IfOk result (λ t. term_of self.new t ≡ shape_term self.old (shape_of node.entry)) }
+        ensures added { OnOk result
+            (self.new ≡ record self.old {
+              entries = self.old.entries ++ record
+                  { shape = shape_of node.entry; place = place } ∷ [];
+            }) }
+        ensures term { IfOk result (λ t. term_of self.new t ≡ shape_term self.old
+            (shape_of node.entry)) }
         ensures err { OnErr result (self.new ≡ self.old) }
         ensures kept { KeepsTerms self.old self.new }
         ensures extends { Extends self.old self.new }

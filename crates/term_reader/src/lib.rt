@@ -24,7 +24,8 @@ pub fn read_sentences(alloc: Global, text: &str) -> Result<Sentences, ReaderFaul
     ensures names { IfOk result HaveNames }
     ensures parts { IfOk result HaveParts }
     ensures fault { IfErr result (IsFaultOf text.now) }
-    ensures only { (v : Reading) → IsReading text.now v → MatchResult result (λ s. v ≡ sentences (sentences_of s)) (IsFaultFor v) }
+    ensures only { (v : Reading) → IsReading text.now v → MatchResult result
+        (λ s. v ≡ sentences (sentences_of s)) (IsFaultFor v) }
 {
     read_text(alloc, text)
 }

@@ -173,7 +173,8 @@ fn add_compound(
     requires pool { IsPool pool.old }
     requires name { name.number < length pool.old.names }
     requires parts { AreTerms pool.old parts.now }
-    ensures { IfOk result (Adds pool.old pool.new (comp (atom_name pool.old name) place (parts_of pool.old parts.now))) }
+    ensures { IfOk result (Adds pool.old pool.new (comp (atom_name pool.old name) place
+        (parts_of pool.old parts.now))) }
 {
     pool.add(Node::Comp(name, parts), place)
 }
@@ -187,7 +188,8 @@ fn add_named(
 ) -> Result<TermId, NoMemory>
     requires pool { IsPool pool.old }
     requires parts { AreTerms pool.old parts.now }
-    ensures { IfOk result (Adds pool.old pool.new (comp name.now place (parts_of pool.old parts.now))) }
+    ensures { IfOk result
+        (Adds pool.old pool.new (comp name.now place (parts_of pool.old parts.now))) }
 {
     let atom = pool.atom(name)?;
     add_compound(pool, atom, parts, place)
@@ -264,9 +266,13 @@ fn reduce_once(
     requires ids { HaveIds pool.old (reverse items.old.items) }
     requires operand { operand.number < length pool.old.entries }
     ensures stays { IfOk result (λ o. IfNone o (Stays below pool.new items.new.items)) }
-    ensures same { IfOk result (λ o. IfNone o ((pool.new ≡ pool.old) × (items.new.items ≡ items.old.items))) }
-    ensures steps { IfOk result (λ o. IfSome o (λ r. (q : ℕ) → Steps below pool.old pool.new items.old.items items.new.items q r.1 operand r.0)) }
-    ensures less { IfOk result (λ o. IfSome o (λ r. length items.new.items < length items.old.items)) }
+    ensures same { IfOk result
+        (λ o. IfNone o ((pool.new ≡ pool.old) × (items.new.items ≡ items.old.items))) }
+    ensures steps { IfOk result
+        (λ o. IfSome o (λ r. (q : ℕ) → Steps below pool.old pool.new items.old.items
+        items.new.items q r.1 operand r.0)) }
+    ensures less { IfOk result
+        (λ o. IfSome o (λ r. length items.new.items < length items.old.items)) }
 {
     let Some(item) = top_item(items) else {
         return Ok(None);
@@ -320,7 +326,8 @@ fn reduce(
     requires pool { IsPool pool.old }
     requires ids { HaveIds pool.old (reverse items.old.items) }
     requires operand { operand.number < length pool.old.entries }
-    ensures steps { IfOk result (λ r. Steps below pool.old pool.new items.old.items items.new.items priority r.1 operand r.0) }
+    ensures steps { IfOk result (λ r. Steps below pool.old pool.new items.old.items items.new.items
+        priority r.1 operand r.0) }
     ensures stays { IfOk result (λ _. Stays below pool.new items.new.items) }
 {
     let mut term = operand;
@@ -402,7 +409,8 @@ fn is_close_curly(token: Terminal) -> bool
 
 /// The operator that a token is between two operands.
 fn infix_at(token: Terminal) -> Option<Operator>
-    ensures { (c : Contents) (p : ℕ) → IsTerminal c token → option_map (operator_of (infix_name c token)) result ≡ infix_operator (terminal_at c p token) }
+    ensures { (c : Contents) (p : ℕ) → IsTerminal c token → option_map (operator_of
+        (infix_name c token)) result ≡ infix_operator (terminal_at c p token) }
 {
     match token {
         Terminal::OperatorWord { name: _, roles } => roles.infix,
@@ -440,7 +448,8 @@ fn negated(value: i64) -> i64
 fn negative(pool: &Pool, name: AtomId, token: Terminal) -> Option<i64>
     requires name { name.number < length pool.now.names }
     requires token { IsTerminal pool.now token }
-    ensures { (p : ℕ) → IsNegative (is_negated (atom_name pool.now name) (terminal_at pool.now p token)) (Machine.number_of (terminal_at pool.now p token)) result }
+    ensures { (p : ℕ) → IsNegative (is_negated (atom_name pool.now name)
+        (terminal_at pool.now p token)) (Machine.number_of (terminal_at pool.now p token)) result }
 {
     match token {
         Terminal::Integer { tight, value } => {
@@ -472,7 +481,8 @@ fn add_list(
     requires pool { IsPool pool.old }
     requires elements { AreTerms pool.old elements.now }
     requires tail { tail.number < length pool.old.entries }
-    ensures { IfOk result (Adds pool.old pool.new (list_of place (parts_of pool.old elements.now) (placed_of pool.old tail))) }
+    ensures { IfOk result (Adds pool.old pool.new (list_of place (parts_of pool.old elements.now)
+        (placed_of pool.old tail))) }
 {
     let mut list = tail;
     let mut count = elements.len();
@@ -487,7 +497,8 @@ impl Parser {
     /// A parser that has read nothing.
     pub(crate) fn new(alloc: Global) -> Result<Parser, NoMemory>
         ensures whole { IfOk result IsWhole }
-        ensures begins { IfOk result (λ r. (done : List PlacedTerm) → state r done ≡ Machine.want (Machine.top done)) }
+        ensures begins { IfOk result (λ r. (done : List PlacedTerm) → state r done ≡ Machine.want
+            (Machine.top done)) }
     {
         Ok(Parser {
             pool: Pool::new(alloc)?,
@@ -508,7 +519,8 @@ impl Parser {
     fn operand(&mut self, token: Terminal, place: usize) -> Result<bool, NoMemory>
         requires whole { IsWhole self.old }
         requires token { IsTerminal self.old.pool token }
-        ensures { IfOk result (Moves self.old.pool (λ done. Machine.wanted (stack self.old done) (terminal_at self.old.pool place token)) self.new) }
+        ensures { IfOk result (Moves self.old.pool (λ done. Machine.wanted (stack self.old done)
+            (terminal_at self.old.pool place token)) self.new) }
     {
         match token {
             Terminal::Name(name) => {
@@ -561,7 +573,9 @@ impl Parser {
         requires whole { IsWhole self.old }
         requires last { last.number < length self.old.pool.entries }
         requires top { last_item self.old.items.items ≡ Some (Item.Call place name from) }
-        ensures { IfOk result (λ _. Moves self.old.pool (λ done. Machine.closed (stack self.old done) (placed_of self.old.pool last) Terminals.closes) self.new true) }
+        ensures { IfOk result (λ _. Moves self.old.pool
+            (λ done. Machine.closed (stack self.old done) (placed_of self.old.pool last)
+            Terminals.closes) self.new true) }
     {
         self.arguments.push(last)?;
         let term = add_compound(&mut self.pool, name, ids_from(&self.arguments, from), place)?;
@@ -576,7 +590,9 @@ impl Parser {
         requires whole { IsWhole self.old }
         requires term { term.number < length self.old.pool.entries }
         requires top { TakesArguments (last_item self.old.items.items) }
-        ensures { IfOk result (λ _. (p : ℕ) → Moves self.old.pool (λ done. Machine.closed (stack self.old done) (placed_of self.old.pool term) (Terminals.comma p)) self.new true) }
+        ensures { IfOk result (λ _. (p : ℕ) → Moves self.old.pool
+            (λ done. Machine.closed (stack self.old done) (placed_of self.old.pool term)
+            (Terminals.comma p)) self.new true) }
     {
         self.arguments.push(term)?;
         self.expecting = Expecting::Operand;
@@ -588,7 +604,9 @@ impl Parser {
         requires whole { IsWhole self.old }
         requires last { last.number < length self.old.pool.entries }
         requires top { last_item self.old.items.items ≡ Some (Item.List place from) }
-        ensures { IfOk result (λ _. Moves self.old.pool (λ done. Machine.closed (stack self.old done) (placed_of self.old.pool last) Terminals.close_list) self.new true) }
+        ensures { IfOk result (λ _. Moves self.old.pool
+            (λ done. Machine.closed (stack self.old done) (placed_of self.old.pool last)
+            Terminals.close_list) self.new true) }
     {
         self.arguments.push(last)?;
         let nil = add_atom(&mut self.pool, NIL, place)?;
@@ -604,7 +622,9 @@ impl Parser {
         requires whole { IsWhole self.old }
         requires tail { tail.number < length self.old.pool.entries }
         requires top { last_item self.old.items.items ≡ Some (Item.Tail place from) }
-        ensures { IfOk result (λ _. Moves self.old.pool (λ done. Machine.closed (stack self.old done) (placed_of self.old.pool tail) Terminals.close_list) self.new true) }
+        ensures { IfOk result (λ _. Moves self.old.pool
+            (λ done. Machine.closed (stack self.old done) (placed_of self.old.pool tail)
+            Terminals.close_list) self.new true) }
     {
         let term = add_list(&mut self.pool, ids_from(&self.arguments, from), place, tail)?;
         self.arguments.truncate(from);
@@ -618,7 +638,9 @@ impl Parser {
         requires whole { IsWhole self.old }
         requires last { last.number < length self.old.pool.entries }
         requires top { last_item self.old.items.items ≡ Some (Item.List place from) }
-        ensures { IfOk result (λ _. Moves self.old.pool (λ done. Machine.closed (stack self.old done) (placed_of self.old.pool last) Terminals.bar) self.new true) }
+        ensures { IfOk result (λ _. Moves self.old.pool
+            (λ done. Machine.closed (stack self.old done) (placed_of self.old.pool last)
+            Terminals.bar) self.new true) }
     {
         self.arguments.push(last)?;
         self.items.pop();
@@ -632,7 +654,9 @@ impl Parser {
         requires whole { IsWhole self.old }
         requires inner { inner.number < length self.old.pool.entries }
         requires top { last_item self.old.items.items ≡ Some (Item.Curly place) }
-        ensures { IfOk result (λ _. Moves self.old.pool (λ done. Machine.closed (stack self.old done) (placed_of self.old.pool inner) Terminals.close_curly) self.new true) }
+        ensures { IfOk result (λ _. Moves self.old.pool
+            (λ done. Machine.closed (stack self.old done) (placed_of self.old.pool inner)
+            Terminals.close_curly) self.new true) }
     {
         let term = add_named(&mut self.pool, "{}", &[inner], place)?;
         self.items.pop();
@@ -644,7 +668,9 @@ impl Parser {
     fn close(&mut self, term: TermId, token: Terminal) -> Result<bool, NoMemory>
         requires whole { IsWhole self.old }
         requires term { term.number < length self.old.pool.entries }
-        ensures { IfOk result (λ b. (p : ℕ) → Moves self.old.pool (λ done. Machine.closed (stack self.old done) (placed_of self.old.pool term) (terminal_at self.old.pool p token)) self.new b) }
+        ensures { IfOk result (λ b. (p : ℕ) → Moves self.old.pool
+            (λ done. Machine.closed (stack self.old done) (placed_of self.old.pool term)
+            (terminal_at self.old.pool p token)) self.new b) }
     {
         match closing_of(top_item(&self.items), token) {
             Closing::Nothing => return Ok(false),
@@ -672,7 +698,9 @@ impl Parser {
         requires whole { IsWhole self.old }
         requires operand { operand.number < length self.old.pool.entries }
         requires token { IsTerminal self.old.pool token }
-        ensures { IfOk result (λ b. (p : ℕ) → Moves self.old.pool (λ done. Machine.ended (Machine.reduce None (stack self.old done) priority (placed_of self.old.pool operand)) (terminal_at self.old.pool p token)) self.new b) }
+        ensures { IfOk result (λ b. (p : ℕ) → Moves self.old.pool
+            (λ done. Machine.ended (Machine.reduce None (stack self.old done) priority
+            (placed_of self.old.pool operand)) (terminal_at self.old.pool p token)) self.new b) }
     {
         let (term, _) = reduce(&mut self.pool, &mut self.items, None, operand, priority)?;
         self.close(term, token)
@@ -689,8 +717,11 @@ impl Parser {
         requires whole { IsWhole self.old }
         requires operand { operand.number < length self.old.pool.entries }
         requires token { IsTerminal self.old.pool token }
-        requires operator { infix_operator (terminal_at self.old.pool place token) ≡ Some (operator_of (infix_name self.old.pool token) operator) }
-        ensures { IfOk result (Moves self.old.pool (λ done. Machine.behind_operand (stack self.old done) (placed_of self.old.pool operand) (terminal_at self.old.pool place token)) self.new) }
+        requires operator { infix_operator (terminal_at self.old.pool place token)
+            ≡ Some (operator_of (infix_name self.old.pool token) operator) }
+        ensures { IfOk result (Moves self.old.pool (λ done. Machine.behind_operand
+            (stack self.old done) (placed_of self.old.pool operand)
+            (terminal_at self.old.pool place token)) self.new) }
     {
         let (left, priority) = reduce(
             &mut self.pool,
@@ -719,7 +750,9 @@ impl Parser {
         requires whole { IsWhole self.old }
         requires operand { operand.number < length self.old.pool.entries }
         requires token { IsTerminal self.old.pool token }
-        ensures { IfOk result (Moves self.old.pool (λ done. Machine.behind_operand (stack self.old done) (placed_of self.old.pool operand) (terminal_at self.old.pool place token)) self.new) }
+        ensures { IfOk result (Moves self.old.pool (λ done. Machine.behind_operand
+            (stack self.old done) (placed_of self.old.pool operand)
+            (terminal_at self.old.pool place token)) self.new) }
     {
         match infix_at(token) {
             Some(operator) => self.attach(operand, operator, token, place),
@@ -731,7 +764,9 @@ impl Parser {
     fn begin_call(&mut self, place: usize, name: AtomId) -> Result<(), NoMemory>
         requires whole { IsWhole self.old }
         requires name { name.number < length self.old.pool.names }
-        ensures { IfOk result (λ _. Moves self.old.pool (λ done. Some (Machine.want (Machine.args place (atom_name self.old.pool name) no_parts (stack self.old done)))) self.new true) }
+        ensures { IfOk result (λ _. Moves self.old.pool
+            (λ done. Some (Machine.want (Machine.args place (atom_name self.old.pool name) no_parts
+            (stack self.old done)))) self.new true) }
     {
         let from = self.arguments.len();
         self.items.push(Item::Call { place, name, from })?;
@@ -750,9 +785,13 @@ impl Parser {
     ) -> Result<bool, NoMemory>
         requires whole { IsWhole self.old }
         requires name { name.number < length self.old.pool.names }
-        requires prefix { option_map (operator_of (atom_name self.old.pool name)) prefix ≡ prefix_of (atom_name self.old.pool name) }
+        requires prefix { option_map (operator_of (atom_name self.old.pool name)) prefix
+            ≡ prefix_of (atom_name self.old.pool name) }
         requires token { IsTerminal self.old.pool token }
-        ensures { IfOk result (Moves self.old.pool (λ done. Machine.begun at (atom_name self.old.pool name) (prefix_of (atom_name self.old.pool name)) (stack self.old done) (terminal_at self.old.pool place token)) self.new) }
+        ensures { IfOk result
+            (Moves self.old.pool (λ done. Machine.begun at (atom_name self.old.pool name)
+            (prefix_of (atom_name self.old.pool name)) (stack self.old done)
+            (terminal_at self.old.pool place token)) self.new) }
     {
         let Some(operator) = prefix else {
             return Ok(false);
@@ -781,7 +820,10 @@ impl Parser {
         requires whole { IsWhole self.old }
         requires word { IsOperatorWord self.old.pool name roles }
         requires token { IsTerminal self.old.pool token }
-        ensures { IfOk result (Moves self.old.pool (λ done. Machine.step (Machine.at_operator at (atom_name self.old.pool name) (stack self.old done)) (terminal_at self.old.pool place token)) self.new) }
+        ensures { IfOk result
+            (Moves self.old.pool (λ done. Machine.step
+            (Machine.at_operator at (atom_name self.old.pool name) (stack self.old done))
+            (terminal_at self.old.pool place token)) self.new) }
     {
         if is_tight_open(token) {
             self.begin_call(at, name)?;
@@ -809,7 +851,11 @@ impl Parser {
         requires whole { IsWhole self.old }
         requires name { name.number < length self.old.pool.names }
         requires token { IsTerminal self.old.pool token }
-        ensures { IfOk result (Moves self.old.pool (λ done. Machine.step (Machine.after (Some (at, atom_name self.old.pool name)) (stack self.old done) (atom (atom_name self.old.pool name) at)) (terminal_at self.old.pool place token)) self.new) }
+        ensures { IfOk result
+            (Moves self.old.pool (λ done. Machine.step
+            (Machine.after (Some (at, atom_name self.old.pool name)) (stack self.old done)
+            (atom (atom_name self.old.pool name) at)) (terminal_at self.old.pool place token))
+            self.new) }
     {
         if is_tight_open(token) {
             self.begin_call(at, name)?;
@@ -830,7 +876,9 @@ impl Parser {
         requires whole { IsWhole self.old }
         requires operand { operand.number < length self.old.pool.entries }
         requires token { IsTerminal self.old.pool token }
-        ensures { IfOk result (Moves self.old.pool (λ done. Machine.step (Machine.after None (stack self.old done) (placed_of self.old.pool operand)) (terminal_at self.old.pool place token)) self.new) }
+        ensures { IfOk result
+            (Moves self.old.pool (λ done. Machine.step (Machine.after None (stack self.old done)
+            (placed_of self.old.pool operand)) (terminal_at self.old.pool place token)) self.new) }
     {
         if is_tight_open(token) {
             Ok(false)
@@ -848,7 +896,9 @@ impl Parser {
     ) -> Result<bool, NoMemory>
         requires whole { IsWhole self.old }
         requires token { IsTerminal self.old.pool token }
-        ensures { IfOk result (Moves self.old.pool (λ done. Machine.step (Machine.at_list at (stack self.old done)) (terminal_at self.old.pool place token)) self.new) }
+        ensures { IfOk result
+            (Moves self.old.pool (λ done. Machine.step (Machine.at_list at (stack self.old done))
+            (terminal_at self.old.pool place token)) self.new) }
     {
         if is_close_list(token) {
             let term = add_atom(&mut self.pool, NIL, at)?;
@@ -870,7 +920,9 @@ impl Parser {
     ) -> Result<bool, NoMemory>
         requires whole { IsWhole self.old }
         requires token { IsTerminal self.old.pool token }
-        ensures { IfOk result (Moves self.old.pool (λ done. Machine.step (Machine.at_curly_bracket at (stack self.old done)) (terminal_at self.old.pool place token)) self.new) }
+        ensures { IfOk result
+            (Moves self.old.pool (λ done. Machine.step (Machine.at_curly_bracket at
+            (stack self.old done)) (terminal_at self.old.pool place token)) self.new) }
     {
         if is_close_curly(token) {
             let term = add_named_atom(&mut self.pool, "{}", at)?;
@@ -886,7 +938,8 @@ impl Parser {
     pub(crate) fn step(&mut self, token: Terminal, place: usize) -> Result<bool, NoMemory>
         requires whole { IsWhole self.old }
         requires token { IsTerminal self.old.pool token }
-        ensures { IfOk result (Moves self.old.pool (λ done. Machine.step (state self.old done) (terminal_at self.old.pool place token)) self.new) }
+        ensures { IfOk result (Moves self.old.pool (λ done. Machine.step (state self.old done)
+            (terminal_at self.old.pool place token)) self.new) }
     {
         match self.expecting {
             Expecting::Operand => self.operand(token, place),
@@ -944,8 +997,10 @@ impl Parser {
 
     /// Whether nothing is begun.
     pub(crate) fn is_between(&self) -> bool
-        ensures between { IsTrue result → (done : List PlacedTerm) → state self.now done ≡ Machine.want (Machine.top done) }
-        ensures begun { IsFalse result → (done terms : List PlacedTerm) → state self.now done ≡ Machine.want (Machine.top terms) → ⊥ }
+        ensures between { IsTrue result → (done : List PlacedTerm) → state self.now done
+            ≡ Machine.want (Machine.top done) }
+        ensures begun { IsFalse result → (done terms : List PlacedTerm) → state self.now done
+            ≡ Machine.want (Machine.top terms) → ⊥ }
     {
         match self.expecting {
             Expecting::Operand => self.items.is_empty(),

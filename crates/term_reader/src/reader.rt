@@ -83,7 +83,8 @@ struct Reader {
 /// The brackets that are open behind a token, where `depth` were open before it.
 fn depth_behind(depth: usize, token: Token<'_>) -> usize
     requires { depth ≤ deepest }
-    ensures { (names : List Name) → result ≡ open_behind depth (terminal_of names (lexeme_of token.entry)) }
+    ensures { (names : List Name) → result ≡ open_behind depth
+        (terminal_of names (lexeme_of token.entry)) }
 {
     if token.kind != Kind::Punct {
         return depth;
@@ -113,7 +114,8 @@ impl Reader {
     fn end(&mut self, alloc: Global) -> Result<bool, NoMemory>
         requires { IsReader self.old }
         ensures whole { IfOk result (λ b. IsTrue b → IsReader self.new) }
-        ensures took { IfOk result (λ b. (ls : List Lexeme) (l : Lexeme) → IsStop l → HasRead ls self.old → Took b ls l self.new) }
+        ensures took { IfOk result (λ b. (ls : List Lexeme) (l : Lexeme) → IsStop l
+            → HasRead ls self.old → Took b ls l self.new) }
     {
         let Some(term) = self.parser.stop()? else {
             return Ok(false);
@@ -128,7 +130,8 @@ impl Reader {
         requires whole { IsReader self.old }
         requires natural { HasNatural (lexeme_of token) }
         ensures whole { IfOk result (λ b. IsTrue b → IsReader self.new) }
-        ensures took { IfOk result (λ b. (ls : List Lexeme) → HasRead ls self.old → Took b ls (lexeme_of token.entry) self.new) }
+        ensures took { IfOk result (λ b. (ls : List Lexeme) → HasRead ls self.old → Took b ls
+            (lexeme_of token.entry) self.new) }
     {
         match terminal(alloc, &mut self.parser.pool, &mut self.variables, token)? {
             Some(seen) => self.parser.step(seen, token.place),

@@ -53,7 +53,8 @@ fn word(pool: &mut Pool, text: &str) -> Result<Terminal, NoMemory>
 /// What a quoted atom spells.
 fn quoted(alloc: Global, pool: &mut Pool, text: &str) -> Result<Terminal, NoMemory>
     requires { IsPool pool.old }
-    ensures { IfOk result (λ x. Knows pool.old pool.new (λ p. Terminals.name p (Tokens.unquoted text.now)) x) }
+    ensures { IfOk result (λ x. Knows pool.old pool.new
+        (λ p. Terminals.name p (Tokens.unquoted text.now)) x) }
 {
     let spelling = unquote(alloc, text)?;
     let name = pool.atom(spelling.as_str())?;
@@ -70,7 +71,8 @@ pub(crate) fn terminal(
     requires pool { IsPool pool.old }
     requires variables { AreVariables pool.old variables.old }
     requires natural { HasNatural (lexeme_of token) }
-    ensures { IfOk result (Sees pool.old pool.new variables.old variables.new (lexeme_of token.entry)) }
+    ensures { IfOk result (Sees pool.old pool.new variables.old variables.new
+        (lexeme_of token.entry)) }
 {
     match token.kind {
         Kind::Word => {

@@ -43,7 +43,10 @@ impl Variables {
     }
 
     fn find(&self, name: AtomId) -> Option<usize>
-        ensures { MatchOption result ((j : ℕ) → slice_get self.now.names.items j ≡ Some name → slice_get self.now.numbers.items name.number ≡ Some j → ⊥) (λ k. (slice_get self.now.names.items k ≡ Some name) × (slice_get self.now.numbers.items name.number ≡ Some k)) }
+        ensures { MatchOption result ((j : ℕ) → slice_get self.now.names.items j ≡ Some name
+            → slice_get self.now.numbers.items name.number ≡ Some j → ⊥)
+            (λ k. (slice_get self.now.names.items k ≡ Some name)
+            × (slice_get self.now.numbers.items name.number ≡ Some k)) }
     {
         let Some(number) = self.numbers.get(name.number).copied() else {
             return None;
@@ -59,12 +62,15 @@ impl Variables {
     }
 
     fn add(&mut self, name: AtomId) -> Result<usize, NoMemory>
-        requires indexed { IsIndexed self.old.anonymous self.old.names.items self.old.numbers.items }
-        requires new { (j : ℕ) → slice_get self.old.names.items j ≡ Some name → name ≡ self.old.anonymous }
+        requires indexed { IsIndexed self.old.anonymous self.old.names.items
+            self.old.numbers.items }
+        requires new { (j : ℕ) → slice_get self.old.names.items j ≡ Some name → name
+            ≡ self.old.anonymous }
         ensures number { IfOk result (λ n. n ≡ length self.old.names.items) }
         ensures names { OnOk result (self.new.names.items ≡ self.old.names.items ++ name ∷ []) }
         ensures anonymous { self.new.anonymous ≡ self.old.anonymous }
-        ensures indexed { OnOk result (IsIndexed self.new.anonymous self.new.names.items self.new.numbers.items) }
+        ensures indexed { OnOk result (IsIndexed self.new.anonymous self.new.names.items
+            self.new.numbers.items) }
     {
         let number = self.names.len();
         reach(&mut self.numbers, name.number)?;
@@ -76,10 +82,13 @@ impl Variables {
     /// The number of the variable with this name.
     pub(crate) fn number(&mut self, name: AtomId) -> Result<usize, NoMemory>
         requires { IsIndexed self.old.anonymous self.old.names.items self.old.numbers.items }
-        ensures number { IfOk result (λ n. n ≡ id_number self.old.anonymous self.old.names.items name) }
-        ensures names { OnOk result (self.new.names.items ≡ with_id self.old.anonymous self.old.names.items name) }
+        ensures number { IfOk result (λ n. n ≡ id_number self.old.anonymous self.old.names.items
+            name) }
+        ensures names { OnOk result (self.new.names.items ≡ with_id self.old.anonymous
+            self.old.names.items name) }
         ensures anonymous { self.new.anonymous ≡ self.old.anonymous }
-        ensures indexed { OnOk result (IsIndexed self.new.anonymous self.new.names.items self.new.numbers.items) }
+        ensures indexed { OnOk result (IsIndexed self.new.anonymous self.new.names.items
+            self.new.numbers.items) }
     {
         if name.number == self.anonymous.number {
             return self.add(name);

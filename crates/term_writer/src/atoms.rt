@@ -107,7 +107,8 @@ fn is_bare(name: &str) -> bool
 
 /// Whether a name stands without quotes before `(`.
 fn is_bare_functor(name: &str) -> bool
-    ensures { result ≡ (Writing.is_bare name.now || (Operators.is_operator name.now && not (bytes_eq name.now (codes ",")))) }
+    ensures { result ≡ (Writing.is_bare name.now || (Operators.is_operator name.now && not
+        (bytes_eq name.now (codes ",")))) }
 {
     is_bare(name) || is_operator(name) && name != ","
 }
@@ -139,7 +140,8 @@ fn append_hex(byte: u8, text: &mut Vec<u8>) -> Result<(), NoMemory>
 
 /// Appends the escape of a byte by its number.
 fn append_code(byte: u8, text: &mut Vec<u8>) -> Result<(), NoMemory>
-    ensures { OnOk result (text.new.items ≡ text.old.items ++ (codes "\\x" ++ (digits 16 false byte ++ codes "\\"))) }
+    ensures { OnOk result (text.new.items ≡ text.old.items ++
+        (codes "\\x" ++ (digits 16 false byte ++ codes "\\"))) }
 {
     text.extend_from_slice(b"\\x")?;
     append_hex(byte, text)?;
@@ -177,7 +179,8 @@ fn append_quoted(name: &[u8], text: &mut Vec<u8>) -> Result<(), NoMemory>
 
 /// Whether a name stands without quotes. `before` says that it stands before `(`.
 fn stands_bare(mode: Mode, name: &str, before: bool) -> bool
-    ensures { name_text (mode_of mode) before name.now ≡ (if result then name.now else Writing.quoted_name name.now) }
+    ensures { name_text (mode_of mode) before name.now
+        ≡ (if result then name.now else Writing.quoted_name name.now) }
 {
     match mode {
         Mode::Plain => true,
@@ -196,7 +199,8 @@ pub(crate) fn append_name(
     name: &str,
     before: bool,
 ) -> Result<(), NoMemory>
-    ensures { OnOk result (text.new.items ≡ joined text.old.items (name_text (mode_of mode) before name.now)) }
+    ensures { OnOk result (text.new.items ≡ joined text.old.items
+        (name_text (mode_of mode) before name.now)) }
 {
     if stands_bare(mode, name, before) {
         return append(text, name.as_bytes());

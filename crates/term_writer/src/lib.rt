@@ -48,7 +48,8 @@ pub fn write_term(
     out: &mut Vec<u8>,
 ) -> Result<(), NoMemory>
     requires { t.number < length pool.now.entries }
-    ensures text { OnOk result (out.new.items ≡ out.old.items ++ Writing.term_text (mode_of mode) (text_of vars.now) limit (term_of pool.now t)) }
+    ensures text { OnOk result (out.new.items ≡ out.old.items ++ Writing.term_text (mode_of mode)
+        (text_of vars.now) limit (term_of pool.now t)) }
     ensures err { OnErr result (out.new.items ≡ out.old.items) }
 {
     let text = terms::term_bytes(alloc, pool, t, mode, vars, limit)?;
@@ -63,7 +64,8 @@ pub fn write_atom(
     before: bool,
     out: &mut Vec<u8>,
 ) -> Result<(), NoMemory>
-    ensures text { OnOk result (out.new.items ≡ out.old.items ++ name_text Writing.Quoted before name.now) }
+    ensures text { OnOk result (out.new.items ≡ out.old.items ++ name_text Writing.Quoted before
+        name.now) }
     ensures err { OnErr result (out.new.items ≡ out.old.items) }
 {
     let mut text = Vec::new(alloc);

@@ -63,7 +63,11 @@ fn open_compound<'p>(
 ) -> Result<(), NoMemory>
     requires name { atom.number < length pool.now.names }
     requires parts { All (λ t. t.number < length pool.now.entries) parts.now }
-    ensures { OnOk result ((vars : ℕ → List ℕ) → Replaces pool.now (mode_of mode) vars ((Writing.spelled_compound (mode_of mode) (atom_name pool.now atom) (Writing.spelled_each (mode_of mode) vars (terms_by (term_of pool.now) parts.now))).at limit) (8 + weights (terms_by (term_of pool.now) parts.now)) text.old.items ahead.old.items text.new.items ahead.new.items) }
+    ensures { OnOk result ((vars : ℕ → List ℕ) → Replaces pool.now (mode_of mode) vars
+        ((Writing.spelled_compound (mode_of mode) (atom_name pool.now atom)
+        (Writing.spelled_each (mode_of mode) vars (terms_by (term_of pool.now) parts.now))).at
+        limit) (8 + weights (terms_by (term_of pool.now) parts.now)) text.old.items ahead.old.items
+        text.new.items ahead.new.items) }
 {
     let name = pool.name_of(atom);
     match form_of(name, parts) {
@@ -115,7 +119,10 @@ fn open_term<'p>(
     ahead: &mut Vec<Piece<'p>>,
 ) -> Result<(), NoMemory>
     requires { t.number < length pool.now.entries }
-    ensures { OnOk result (Replaces pool.now (mode_of mode) (text_in names.now) ((Writing.spelled (mode_of mode) (text_in names.now) (term_of pool.now t)).at limit) (weight (term_of pool.now t)) text.old.items ahead.old.items text.new.items ahead.new.items) }
+    ensures { OnOk result (Replaces pool.now (mode_of mode) (text_in names.now)
+        ((Writing.spelled (mode_of mode) (text_in names.now) (term_of pool.now t)).at limit)
+        (weight (term_of pool.now t)) text.old.items ahead.old.items text.new.items
+        ahead.new.items) }
 {
     match pool.view(t) {
         Node::Var(variable) => append(text, names.text_of(variable)),
@@ -150,7 +157,9 @@ fn rest_of(pool: &Pool, t: TermId) -> Rest
 /// Leaves what follows an element of a list to pieces.
 fn open_rest<'p>(pool: &'p Pool, t: TermId, ahead: &mut Vec<Piece<'p>>) -> Result<(), NoMemory>
     requires { t.number < length pool.now.entries }
-    ensures { OnOk result ((mode : Writing.Mode) (vars : ℕ → List ℕ) (text : List ℕ) → Replaces pool.now mode vars (Writing.spelled mode vars (term_of pool.now t)).rest (weight (term_of pool.now t) + 2) text ahead.old.items text ahead.new.items) }
+    ensures { OnOk result ((mode : Writing.Mode) (vars : ℕ → List ℕ) (text : List ℕ)
+        → Replaces pool.now mode vars (Writing.spelled mode vars (term_of pool.now t)).rest
+        (weight (term_of pool.now t) + 2) text ahead.old.items text ahead.new.items) }
 {
     match rest_of(pool, t) {
         Rest::Nothing => {}
@@ -168,7 +177,10 @@ fn open_rest<'p>(pool: &'p Pool, t: TermId, ahead: &mut Vec<Piece<'p>>) -> Resul
 
 /// Leaves arguments to pieces.
 fn open_arguments<'p>(parts: &'p [TermId], ahead: &mut Vec<Piece<'p>>) -> Result<(), NoMemory>
-    ensures { OnOk result ((c : Contents) (mode : Writing.Mode) (vars : ℕ → List ℕ) (text : List ℕ) → All (λ t. t.number < length c.entries) parts.now → Replaces c mode vars (Writing.arguments_text (Writing.spelled_each mode vars (terms_by (term_of c) parts.now))) (weights (terms_by (term_of c) parts.now) + 1) text ahead.old.items text ahead.new.items) }
+    ensures { OnOk result ((c : Contents) (mode : Writing.Mode) (vars : ℕ → List ℕ) (text : List ℕ)
+        → All (λ t. t.number < length c.entries) parts.now → Replaces c mode vars
+        (Writing.arguments_text (Writing.spelled_each mode vars (terms_by (term_of c) parts.now)))
+        (weights (terms_by (term_of c) parts.now) + 1) text ahead.old.items text ahead.new.items) }
 {
     match parts {
         [] => {}
@@ -192,7 +204,10 @@ fn write_piece<'p>(
     ahead: &mut Vec<Piece<'p>>,
 ) -> Result<(), NoMemory>
     requires { IsOf pool.now piece }
-    ensures { OnOk result (Replaces pool.now (mode_of mode) (text_in names.now) (piece_text pool.now (mode_of mode) (text_in names.now) piece.entry) (piece_weight pool.now piece.entry) text.old.items ahead.old.items text.new.items ahead.new.items) }
+    ensures { OnOk result (Replaces pool.now (mode_of mode) (text_in names.now)
+        (piece_text pool.now (mode_of mode) (text_in names.now) piece.entry)
+        (piece_weight pool.now piece.entry) text.old.items ahead.old.items text.new.items
+        ahead.new.items) }
 {
     match piece {
         Piece::Term(t, limit) => open_term(pool, mode, names, t, limit, text, ahead),
@@ -213,7 +228,8 @@ pub(crate) fn term_bytes(
     limit: u32,
 ) -> Result<Vec<u8>, NoMemory>
     requires { t.number < length pool.now.entries }
-    ensures { IfOk result (λ v. v.items ≡ Writing.term_text (mode_of mode) (text_of vars.now) limit (term_of pool.now t)) }
+    ensures { IfOk result (λ v. v.items ≡ Writing.term_text (mode_of mode) (text_of vars.now) limit
+        (term_of pool.now t)) }
 {
     let names = Names::new(alloc, vars)?;
     let mut text = Vec::new(alloc);

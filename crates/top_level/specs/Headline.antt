@@ -24,6 +24,9 @@ pub record Ends : Type 0 where
   pub source_faults : ℕ
   pub sink_faults : ℕ
 
+abbrev pub ends : Option (List ℕ) → Option (List ℕ) → ℕ → ℕ → Ends
+ends left written source_faults sink_faults = record { left = left; written = written; source_faults = source_faults; sink_faults = sink_faults }
+
 -- whether the text is read from the source: the words are accepted, and ask for no generated text
 abbrev pub reads_source : Option Options → Bool
 reads_source None = false

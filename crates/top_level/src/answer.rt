@@ -83,7 +83,8 @@ fn put_events<A: Agenda + Drop, K: Sink>(
     requires names { All (λ a. a.number < length pool.now.names) names.now }
     requires own { map (atom_name pool.now) names.now ≡ names_of machine }
     ensures wrote { (es : List Event) (r : ℕ) → StandsFor machine es r
-        → Wrote (sink_at (K.written sink.old) (K.faults sink.old)) (sink_at (K.written sink.new) (K.faults sink.new)) result (events_bytes es) }
+        → Wrote (sink_at (K.written sink.old) (K.faults sink.old)) (sink_at (K.written sink.new)
+        (K.faults sink.new)) result (events_bytes es) }
     ensures stopped { (es : List Event) (r : ℕ) → StandsFor machine es r → IfOk result (λ stopped.
         stopped ≡ is_stop es) }
 {
@@ -109,7 +110,8 @@ fn put_run<A: Agenda + Drop, K: Sink>(
     requires limit { IsLimit options.answers }
     ensures wrote { (es : List Event) (r : ℕ)
         → IsRunBy code.now.value query options.steps options.answers es r
-        → Wrote (sink_at (K.written sink.old) (K.faults sink.old)) (sink_at (K.written sink.new) (K.faults sink.new)) result (events_bytes es) }
+        → Wrote (sink_at (K.written sink.old) (K.faults sink.old)) (sink_at (K.written sink.new)
+        (K.faults sink.new)) result (events_bytes es) }
     ensures stopped { (es : List Event) (r : ℕ)
         → IsRunBy code.now.value query options.steps options.answers es r
         → IfOk result (λ stopped. stopped ≡ is_stop es) }
@@ -141,7 +143,8 @@ fn put_query<K: Sink>(
     requires limit { IsLimit options.answers }
     ensures wrote { (es : List Event) (r : ℕ)
         → IsRunBy code.now.value query options.steps options.answers es r
-        → Wrote (sink_at (K.written sink.old) (K.faults sink.old)) (sink_at (K.written sink.new) (K.faults sink.new)) result (events_bytes es) }
+        → Wrote (sink_at (K.written sink.old) (K.faults sink.old)) (sink_at (K.written sink.new)
+        (K.faults sink.new)) result (events_bytes es) }
     ensures stopped { (es : List Event) (r : ℕ)
         → IsRunBy code.now.value query options.steps options.answers es r
         → IfOk result (λ stopped. stopped ≡ is_stop es) }
@@ -163,7 +166,8 @@ fn put_program<K: Sink>(
     ensures wrote { (out : List ℕ) (stop : Bool)
         → Queries INFINITY (program_in program) options.steps options.answers 1
         (program_in program).queries out stop
-        → Wrote (sink_at (K.written sink.old) (K.faults sink.old)) (sink_at (K.written sink.new) (K.faults sink.new)) result out }
+        → Wrote (sink_at (K.written sink.old) (K.faults sink.old)) (sink_at (K.written sink.new)
+        (K.faults sink.new)) result out }
     ensures stopped { (out : List ℕ) (stop : Bool)
         → Queries INFINITY (program_in program) options.steps options.answers 1
         (program_in program).queries out stop
@@ -189,7 +193,8 @@ fn put_output<K: Sink>(alloc: Global, verdict: Verdict, options: Options, sink: 
     requires limit { IsLimit options.answers }
     ensures { (out : List ℕ) (st : Status) → VerdictOutput INFINITY (verdict_of verdict)
         options.steps options.answers out st
-        → Ending (sink_at (K.written sink.old) (K.faults sink.old)) (sink_at (K.written sink.new) (K.faults sink.new)) result st out }
+        → Ending (sink_at (K.written sink.old) (K.faults sink.old)) (sink_at (K.written sink.new)
+        (K.faults sink.new)) result st out }
 {
     match verdict {
         Verdict::Accepted(program) => match put_program(alloc, program, options, sink) {
@@ -219,7 +224,8 @@ pub fn answer<K: Sink>(
     requires limit { IsLimit options.answers }
     ensures { (out : List ℕ) (st : Status) → IfOk verdict (λ v. VerdictOutput INFINITY (verdict_of
         v) options.steps options.answers out st)
-        → Ending (sink_at (K.written sink.old) (K.faults sink.old)) (sink_at (K.written sink.new) (K.faults sink.new)) result st out }
+        → Ending (sink_at (K.written sink.old) (K.faults sink.old)) (sink_at (K.written sink.new)
+        (K.faults sink.new)) result st out }
 {
     match verdict {
         Ok(verdict) => put_output(alloc, verdict, options, sink),

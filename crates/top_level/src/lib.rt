@@ -4,7 +4,7 @@
 ghost use Rattle.std.specs.Prelude.{◌≡◌, ℕ, List, Some, None, false, map, string_bytes};
 ghost use Rattle.fd_model.specs.Run.{IsLimit};
 ghost use Rattle.command_words.specs.Words.{asked, options_of};
-ghost use Rattle.top_level.specs.Headline.{Headline, reads_source};
+ghost use Rattle.top_level.specs.Headline.{Headline, ends, reads_source};
 
 mod answer;
 mod fault;
@@ -31,9 +31,10 @@ fn answer_source<S: Source, K: Sink>(
 ) -> Status
     requires limit { IsLimit options.answers }
     requires size { options.generate ≡ None }
-    ensures { (words : List (List ℕ)) → options_of words ≡ Some (asked options) → Headline words
-        (record { left = S.left source.old; written = K.written sink.old; source_faults = S.faults source.old; sink_faults = K.faults sink.old })
-        (record { left = S.left source.new; written = K.written sink.new; source_faults = S.faults source.new; sink_faults = K.faults sink.new })
+    ensures { (words : List (List ℕ)) → options_of words ≡ Some (asked options)
+        → Headline words
+        (ends (S.left source.old) (K.written sink.old) (S.faults source.old) (K.faults sink.old))
+        (ends (S.left source.new) (K.written sink.new) (S.faults source.new) (K.faults sink.new))
         result }
 {
     match read_text(alloc, source) {
@@ -64,10 +65,11 @@ pub fn run<S: Source, K: Sink>(
     sink: &mut K,
 ) -> Status
     ensures headline { Headline (map string_bytes words.now)
-        (record { left = S.left source.old; written = K.written sink.old; source_faults = S.faults source.old; sink_faults = K.faults sink.old })
-        (record { left = S.left source.new; written = K.written sink.new; source_faults = S.faults source.new; sink_faults = K.faults sink.new })
+        (ends (S.left source.old) (K.written sink.old) (S.faults source.old) (K.faults sink.old))
+        (ends (S.left source.new) (K.written sink.new) (S.faults source.new) (K.faults sink.new))
         result }
-    ensures untouched { reads_source (options_of (map string_bytes words.now)) ≡ false → source.new ≡ source.old }
+    ensures untouched { reads_source (options_of (map string_bytes words.now)) ≡ false
+        → source.new ≡ source.old }
 {
     match read_words(alloc, words) {
         Ok(options) => match options.generate {

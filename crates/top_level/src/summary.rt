@@ -53,7 +53,8 @@ fn answers_in(event: &MachineEvent) -> u64
 /// Runs a machine to its last event. More answers than can be counted are want of memory.
 fn count_events<A: Agenda + Drop>(mut machine: Machine<A>) -> Result<Tally, NoMemory>
     ensures last { IfOk result (λ t. is_fixed t.last ≡ true) }
-    ensures whole { (es : List Event) (r : ℕ) → StandsFor machine es r → IfOk result (IsTally es r) }
+    ensures whole { (es : List Event) (r : ℕ) → StandsFor machine es r → IfOk result
+        (IsTally es r) }
 {
     let mut answers: u64 = 0;
     'events: loop {
