@@ -159,5 +159,5 @@ query_written p ps homes slots q start old one head goals new frame asked d e f 
       g
           ∙ ap (λ l. l ++ (AnswerNow ∷ [])) (w.1 ∙ ap (λ l. l ++ w.0) stands ∙ append_assoc old is w.0)
           ∙ append_assoc old (is ++ w.0) (AnswerNow ∷ []),
-      whole_query b homes at (query_in p (query_at p q)) is w.0 (sym frame.long) placed (start_code b homes true slots 0 1 at no_terms (frame_housed (query_at p q).variables shown homes slots frame) tt (omega arith)) w.2,
+      whole_query b homes at (query_in p (query_at p q)) is w.0 (sym frame.long) placed (start_code b homes true slots 0 1 at no_terms (frame_housed (query_at p q).variables shown homes slots frame) tt (omega arith) tt) w.2,
     )

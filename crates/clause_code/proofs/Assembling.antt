@@ -27,6 +27,7 @@ use Rattle.clause_code.proofs.GoalKinds.{OnlySlots}
 use Rattle.clause_code.proofs.Clauses.{Tail, start_code, whole_clause}
 use Rattle.clause_code.proofs.Suiting.{term_suits}
 use Rattle.clause_code.proofs.Simples.{arguments_suit}
+use Rattle.clause_code.proofs.Sparing.{slots_wait}
 
 -- ---- what is known of a clause
 
@@ -115,4 +116,4 @@ assembled p ps homes at c js ks i gs hs order known body goals tail =
     let v : ℕ = (clause_at p c).variables in
     let suit : AllSuit p.pool (length homes) ts = subst (λ n. AllSuit p.pool n ts) (sym order.long) known.head in
     let is : List Code = front true v ++ head_code p.pool homes (suc (count ts)) ts in
-    whole_clause (base_in p ps) homes true at (clause_in p (clause_at p c)) is js ks i gs hs (sym order.long) body (start_code (base_in p ps) homes true v (count ts) (suc (count ts)) at ts (in_order_housed homes v (count ts) order) suit (omega arith)) goals tail
+    whole_clause (base_in p ps) homes true at (clause_in p (clause_at p c)) is js ks i gs hs (sym order.long) body (start_code (base_in p ps) homes true v (count ts) (suc (count ts)) at ts (in_order_housed homes v (count ts) order) suit (omega arith) (slots_wait homes (in_order_only homes v order) 1 (count ts) ts)) goals tail

@@ -11,7 +11,7 @@ use Rattle.machine_relation.specs.Heap.{Below}
 use Rattle.wam_code.specs.declared.instruction.Register.{Register}
 use Rattle.wam_code.specs.declared.instruction.Register.TheVariants.{X, Y}
 use Rattle.wam_code.specs.declared.instruction.Code.{Code}
-use Rattle.wam_code.specs.declared.instruction.Code.TheVariants.{Jump, Either, GetVariable, GetValue, UnifyVariable, UnifyValue, PutVariable, PutValue}
+use Rattle.wam_code.specs.declared.instruction.Code.TheVariants.{Jump, Either, GetVariable, GetValue, GetConstant, GetInteger, GetStructure, UnifyVariable, UnifyValue, UnifyConstant, UnifyInteger, PutVariable, PutValue, PutConstant, PutInteger, PutStructure}
 use Rattle.wam_code.specs.Area.{State}
 use Rattle.wam_code.specs.Effect.{effect}
 use Rattle.wam_code.specs.Verified.{Covers}
@@ -20,7 +20,8 @@ use Rattle.clause_code.specs.Pieces.{Base, past, Does}
 use Rattle.clause_code.specs.Laws.{other_side, sides}
 use Rattle.clause_code.specs.Safe.{unplaced, IsThereIn, may_enter}
 use Rattle.clause_code.specs.Flowing.{is_simple, MayEnter}
-use Rattle.clause_code.specs.Steps.{Step, get_variable, get_constant, get_integer, get_structure, unify_variable, unify_register, unify_constant, unify_integer, put_variable, put_constant, put_integer, put_structure, home, is_made, marked_by_all, instruction, code_of, puts, AllSuit}
+use Rattle.clause_code.specs.Steps.{Step, get_variable, get_constant, get_integer, get_structure, unify_variable, unify_register, unify_constant, unify_integer, put_variable, put_constant, put_integer, put_structure, home, is_made, is_register, marked_by, marked_by_all, instructions, code_of, puts, AllSuit}
+use Rattle.clause_code.specs.Staying.{AllLand}
 use Rattle.clause_code.specs.Bodies.{is_x, is_y, found_home, between_goals, InBody, IsRest, IsGoalsCode}
 use Rattle.clause_code.proofs.Pieces.{does_nothing, does_both, does_either}
 use Rattle.clause_code.proofs.Making.{Clear, AreApart, fits_whole}
@@ -108,37 +109,49 @@ module _ (n : ℕ) (homes : List Register) (apart : AreApart homes) where
 
 -- ---- one goal
 
-pub step_simple : (homes : List Register) (made : List Bool) (s : Step) → IsTrue (is_simple (instruction homes made s))
-step_simple homes made (get_variable x a) = by (is_made made x)
+pub nothing_enters : MayEnter []
+nothing_enters i e = absurd (cc)
+
+pub single_enters : (i : Code) → IsTrue (may_enter i) → MayEnter (i ∷ [])
+single_enters i h j e = let same : i ≡ j = cc in subst (λ x. IsTrue (may_enter x)) same h
+
+step_enters : (homes : List Register) (made : List Bool) (s : Step) → MayEnter (instructions homes made s)
+step_enters homes made (get_variable x a) = by (is_made made x) (is_register (home homes x) a)
   where
-    by : (c : Bool) → IsTrue (is_simple (if c then GetValue (home homes x) a else GetVariable (home homes x) a))
-    by true = refl
-    by false = refl
-step_simple homes made (get_constant c a) = refl
-step_simple homes made (get_integer z a) = refl
-step_simple homes made (get_structure f n a) = refl
-step_simple homes made (unify_variable x) = by (is_made made x)
+    by : (c d : Bool) → MayEnter (if c then GetValue (home homes x) a ∷ [] else (if d then [] else GetVariable (home homes x) a ∷ []))
+    by true d = single_enters (GetValue (home homes x) a) refl
+    by false true = nothing_enters
+    by false false = single_enters (GetVariable (home homes x) a) refl
+step_enters homes made (get_constant c a) = single_enters (GetConstant c a) refl
+step_enters homes made (get_integer z a) = single_enters (GetInteger z a) refl
+step_enters homes made (get_structure f n a) = single_enters (GetStructure f n a) refl
+step_enters homes made (unify_variable x) = by (is_made made x)
   where
-    by : (c : Bool) → IsTrue (is_simple (if c then UnifyValue (home homes x) else UnifyVariable (home homes x)))
-    by true = refl
-    by false = refl
-step_simple homes made (unify_register r) = refl
-step_simple homes made (unify_constant c) = refl
-step_simple homes made (unify_integer z) = refl
-step_simple homes made (put_variable x a) = by (is_made made x)
+    by : (c : Bool) → MayEnter (if c then UnifyValue (home homes x) ∷ [] else UnifyVariable (home homes x) ∷ [])
+    by true = single_enters (UnifyValue (home homes x)) refl
+    by false = single_enters (UnifyVariable (home homes x)) refl
+step_enters homes made (unify_register r) = single_enters (UnifyValue (X r)) refl
+step_enters homes made (unify_constant c) = single_enters (UnifyConstant c) refl
+step_enters homes made (unify_integer z) = single_enters (UnifyInteger z) refl
+step_enters homes made (put_variable x a) = by (is_made made x) (is_register (home homes x) a)
   where
-    by : (c : Bool) → IsTrue (is_simple (if c then PutValue (home homes x) a else PutVariable (home homes x) a))
-    by true = refl
-    by false = refl
-step_simple homes made (put_constant c a) = refl
-step_simple homes made (put_integer z a) = refl
-step_simple homes made (put_structure f n a) = refl
+    by : (c d : Bool) → MayEnter (if c then (if d then [] else PutValue (home homes x) a ∷ []) else PutVariable (home homes x) a ∷ [])
+    by true true = nothing_enters
+    by true false = single_enters (PutValue (home homes x) a) refl
+    by false d = single_enters (PutVariable (home homes x) a) refl
+step_enters homes made (put_constant c a) = single_enters (PutConstant c a) refl
+step_enters homes made (put_integer z a) = single_enters (PutInteger z a) refl
+step_enters homes made (put_structure f n a) = single_enters (PutStructure f n a) refl
+
+pub steps_enter : (homes : List Register) (made : List Bool) (ss : List Step) → MayEnter (code_of homes made ss)
+steps_enter homes made [] = nothing_enters
+steps_enter homes made (s ∷ ss) = enters_both (instructions homes made s) (code_of homes (marked_by made s) ss) (step_enters homes made s) (steps_enter homes (marked_by made s) ss)
 
 -- the arguments of a goal can be put into the first registers, by way of those from `free` on
 pub record Fine (b : Base) (homes : List Register) (free : ℕ) (ts : Terms) : Type 0 where
   pub suit : AllSuit b.pool (length homes) ts
   pub below : suc (count ts) ≤ free
-  pub first : (j : ℕ) → 1 ≤ j → j < suc (count ts) → Clear homes j
+  pub lands : AllLand homes 1 ts
   pub clear : (j : ℕ) → free ≤ j → Clear homes j
 
 -- what holds behind the arguments of a goal
@@ -161,7 +174,7 @@ one_goal b homes apart framed made free at ts i g all long f simple there takes 
       does = λ s r n p later h.
           let w = put n p s r h in
           let q : Places = w.went.q in
-          let mid : InBody n homes q = body_at n homes apart (marked_by_all made (puts b.pool 1 free ts)) q w.went.t (w.went.keeps.more all) w.went.there in
+          let mid : InBody n homes q = body_at n homes apart (marked_by_all made (puts b.pool 1 free ts)) q w.went.t (λ x l. w.went.keeps.more x l (all x l)) w.went.there in
           let js : List Code = code_of homes made (puts b.pool 1 free ts) in
           let goals : List Goal = rename_goal (λ x. n + x) g ∷ later in
           record {
@@ -175,22 +188,14 @@ one_goal b homes apart framed made free at ts i g all long f simple there takes 
           let t : State = w.went.t in
           let e = effects s t r (loaded s (between_goals 0 homes) r w) in
           flows_runs_less b at (code_of homes made (puts b.pool 1 free ts)) i s t e.0 s w.went.runs e.1 e.2 simple there;
-      enters = λ j e. enter made at (puts b.pool 1 free ts) j e;
+      enters = enters_both (code_of homes made (puts b.pool 1 free ts)) (i ∷ []) (steps_enter homes made (puts b.pool 1 free ts)) (single_enters i (simple_enters i simple));
     }
   where
     put : (n : ℕ) (p : Places) (s : State) → IsRest homes framed s → InBody n homes p → PutAllBy b n homes apart 1 made at p s [] (puts b.pool 1 free ts) ts
-    put n p s r h = puts_put b n homes apart made at 1 free ts p s [] (at_body n homes apart framed made p s all long h r) r.owed f.suit (let l = f.below in omega (arith, l)) (λ j m k. f.first j m (omega (arith, k))) f.clear
+    put n p s r h = puts_put b n homes apart made at 1 free ts p s [] (at_body n homes apart framed made p s all long h r) r.owed f.suit (let l = f.below in omega (arith, l)) all f.lands f.clear
 
     loaded : (s : State) (p : Places) → IsRest homes framed s → (w : PutAllBy b 0 homes apart 1 made at p s [] (puts b.pool 1 free ts) ts) → Loaded s w.went.t (count ts)
     loaded s p r w = record { frame = w.went.keeps.frame all; owed = w.went.owed; set = λ j m k. w.set j m (omega (arith, k)); regs = w.went.keeps.regs }
-
-    enter : (made : List Bool) (at : ℕ) (ss : List Step) → MayEnter (code_of homes made ss ++ (i ∷ []))
-    enter made at [] j e = let same : i ≡ j = cc in subst (λ x. IsTrue (may_enter x)) same (simple_enters i simple)
-    enter made at (s ∷ ss) j e = let same : instruction homes made s ≡ j = cc in subst (λ x. IsTrue (may_enter x)) same (simple_enters (instruction homes made s) (step_simple homes made s))
-
-pub steps_enter : (homes : List Register) (made : List Bool) (ss : List Step) → MayEnter (code_of homes made ss)
-steps_enter homes made [] j e = absurd (cc)
-steps_enter homes made (s ∷ ss) j e = let same : instruction homes made s ≡ j = cc in subst (λ x. IsTrue (may_enter x)) same (simple_enters (instruction homes made s) (step_simple homes made s))
 
 -- ---- goals, one behind the other
 

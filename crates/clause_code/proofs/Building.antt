@@ -16,10 +16,12 @@ use Rattle.wam_code.specs.Effect.{with_set, with_owed}
 use Rattle.wam_code.specs.Places.{Places, write, without, Hold, count}
 use Rattle.clause_code.specs.Pieces.{Base, past, Does}
 use Rattle.clause_code.specs.Steps.{Step, put_structure, get_structure, marked_by_all, code_of, atom_of, compounds, parts, build, builds, put, puts, get, gets, HasAtom, Suits, AllSuit}
+use Rattle.clause_code.specs.Staying.{Waits, AllWait, Lands, AllLand}
 use Rattle.clause_code.proofs.Homes.{put_here, put_else}
 use Rattle.clause_code.proofs.Pieces.{equation, does_get_structure, does_put_structure}
-use Rattle.clause_code.proofs.Making.{drop_else, has_first, has_more, Clear, AreApart}
-use Rattle.clause_code.proofs.Going.{when_true, plain_of, moved, moved_all, count_moved, At, Went, WentBy, went_nothing, went_steps}
+use Rattle.clause_code.proofs.Making.{drop_else, has_first, has_more, Clear, Spared, clear_spared, AreApart}
+use Rattle.clause_code.proofs.Going.{when_true, plain_of, moved, moved_all, count_moved, AllMade, At, Went, WentBy, went_nothing, went_steps}
+use Rattle.clause_code.proofs.Sparing.{get_spared, inner_spared}
 use Rattle.clause_code.proofs.Stepping.{at_wrote, at_owed, at_without, went_get_variable, went_get_constant, went_get_integer, Put, put_variable_step, put_constant_step, put_integer_step, InRegisters, registers_kept, parts_gave}
 
 module _ (b : Base) (n : ℕ) (homes : List Register) (apart : AreApart homes) where
@@ -91,7 +93,7 @@ module _ (b : Base) (n : ℕ) (homes : List Register) (apart : AreApart homes) w
       let z = closed (marked_by_all made others) (past at (code_of homes made others)) j free f us a.went.q a.went.t es su.0.0 su.0.3 (cs j (omega arith)) (omega (arith, l)) clear inside in
       let v = went_steps b n homes j j (suc j) (suc j) j free made at others one p s es es es (omega arith) (inr (omega arith)) (omega (arith, l)) (inl refl) a.went z.went in
       let kept : InRegisters b n homes apart z.went.q z.went.t (suc j) ts =
-      registers_kept b n homes apart a.went.q z.went.q a.went.t z.went.t (suc j) ts (λ i m k. z.went.keeps.xs i (cs i (omega (arith, m))) (omega (arith, k, l)) (λ e. omega (arith, e, m))) z.went.keeps.regs a.there in
+      registers_kept b n homes apart a.went.q z.went.q a.went.t z.went.t (suc j) ts (λ i m k. z.went.keeps.xs i (clear_spared homes (marked_by_all made others) (marked_by_all (marked_by_all made others) one) i (cs i (omega (arith, m)))) (omega (arith, k, l)) (λ e. omega (arith, e, m))) z.went.keeps.regs a.there in
       record {
         went = v.0;
         there = subst (λ x. InRegisters b n homes apart x v.0.t j (term (Comp f us) ts)) (sym v.1) (subst (λ x. InRegisters b n homes apart z.went.q x j (term (Comp f us) ts)) (sym v.2) (z.here, z.set, kept));
@@ -105,15 +107,15 @@ module _ (b : Base) (n : ℕ) (homes : List Register) (apart : AreApart homes) w
   -- ---- the arguments of a goal
 
   -- any term is put
-  pub put_put : (made : List Bool) (at r free : ℕ) (t : Term) (p : Places) (s : State) (es : List Equation) → At n homes made p s → s.owed ≡ 0 → Suits b.pool (length homes) t → Clear homes r → r < free → ((i : ℕ) → free ≤ i → Clear homes i)
+  pub put_put : (made : List Bool) (at r free : ℕ) (t : Term) (p : Places) (s : State) (es : List Equation) → At n homes made p s → s.owed ≡ 0 → Suits b.pool (length homes) t → AllMade homes made → Lands homes r t → r < free → ((i : ℕ) → free ≤ i → Clear homes i)
       → PutBy r free made at p s es (put b.pool r free t) (moved n t)
-  put_put made at r free (Var x) p s es w o su c l cs = put_variable_step b n homes apart made at x r free p s es w o su c
-  put_put made at r free (Int z) p s es w o su c l cs = put_integer_step b n homes apart made at z r free p s es w o c
-  put_put made at r free (Atom a) p s es w o su c l cs =
+  put_put made at r free (Var x) p s es w o su all c l cs = put_variable_step b n homes apart made at x r free p s es w o su (all x su) c
+  put_put made at r free (Int z) p s es w o su all c l cs = put_integer_step b n homes apart made at z r free p s es w o (λ x m h. let e : Int z ≡ Var x = c x m h in absurd (cc))
+  put_put made at r free (Atom a) p s es w o su all c l cs =
       let h : HasAtom b.pool a = su in
-      let z = put_constant_step b n homes apart made at (atom_of b.pool a) r free p s es w o h.within c in
+      let z = put_constant_step b n homes apart made at (atom_of b.pool a) r free p s es w o h.within (λ x m h. let e : Atom a ≡ Var x = c x m h in absurd (cc)) in
       record { went = z.went; here = z.here ∙ ap (λ x. Some (Atom x)) h.name; set = z.set }
-  put_put made at r free (Comp f us) p s es w o su c l cs = build_put made at r free f us p s es w o su.0 su.3 c l cs
+  put_put made at r free (Comp f us) p s es w o su all c l cs = build_put made at r free f us p s es w o su.0 su.3 (λ x m h. let e : Comp f us ≡ Var x = c x m h in absurd (cc)) l cs
 
   -- steps after which the registers from i on hold the terms
   pub record PutAllBy (i : ℕ) (made : List Bool) (at : ℕ) (p : Places) (s : State) (es : List Equation) (ss : List Step) (ts : Terms) : Type 0 where
@@ -122,15 +124,16 @@ module _ (b : Base) (n : ℕ) (homes : List Register) (apart : AreApart homes) w
     pub set : (j : ℕ) → i ≤ j → j < i + count ts → has went.t.regs j ≡ true
 
   pub puts_put : (made : List Bool) (at i free : ℕ) (ts : Terms) (p : Places) (s : State) (es : List Equation) → At n homes made p s → s.owed ≡ 0 → AllSuit b.pool (length homes) ts → i + count ts ≤ free
-      → ((j : ℕ) → i ≤ j → j < i + count ts → Clear homes j) → ((j : ℕ) → free ≤ j → Clear homes j) → PutAllBy i made at p s es (puts b.pool i free ts) ts
-  puts_put made at i free no_terms p s es w o su l ca cs = record { went = went_nothing b n homes i i made at p s es w o; hold = tt; set = λ j m k. absurd (omega (arith, m, k)) }
-  puts_put made at i free (term t ts) p s es w o su l ca cs =
+      → AllMade homes made → AllLand homes i ts → ((j : ℕ) → free ≤ j → Clear homes j) → PutAllBy i made at p s es (puts b.pool i free ts) ts
+  puts_put made at i free no_terms p s es w o su l all ca cs = record { went = went_nothing b n homes i i made at p s es w o; hold = tt; set = λ j m k. absurd (omega (arith, m, k)) }
+  puts_put made at i free (term t ts) p s es w o su l all ca cs =
       let one : List Step = put b.pool i free t in
       let others : List Step = puts b.pool (suc i) free ts in
-      let a = put_put made at i free t p s es w o su.0 (ca i (omega arith) (omega arith)) (omega (arith, l)) cs in
-      let z = puts_put (marked_by_all made one) (past at (code_of homes made one)) (suc i) free ts a.went.q a.went.t es a.went.there a.went.owed su.1 (omega (arith, l)) (λ j m k. ca j (omega (arith, m)) (omega (arith, k))) cs in
+      let a = put_put made at i free t p s es w o su.0 all ca.0 (omega (arith, l)) cs in
+      let still : AllMade homes (marked_by_all made one) = λ x m. a.went.keeps.more x m (all x m) in
+      let z = puts_put (marked_by_all made one) (past at (code_of homes made one)) (suc i) free ts a.went.q a.went.t es a.went.there a.went.owed su.1 (omega (arith, l)) still ca.1 cs in
       let v = went_steps b n homes i i i free (suc i) (suc i) made at one others p s es es es (omega (arith, l)) (inl refl) (omega arith) (inr (omega arith)) a.went z.went in
-      let here : z.went.q.x i ≡ Some (moved n t) = z.went.keeps.xs i (ca i (omega arith) (omega arith)) (omega arith) (λ e. omega (arith, e)) ∙ a.here in
+      let here : z.went.q.x i ≡ Some (moved n t) = z.went.keeps.xs i (λ x m h e. still x m) (omega arith) (λ e. omega (arith, e)) ∙ a.here in
       record {
         went = v.0;
         hold = subst (λ x. Hold x i (moved_all n (term t ts))) (sym v.1) (here, z.hold);
@@ -146,7 +149,7 @@ module _ (b : Base) (n : ℕ) (homes : List Register) (apart : AreApart homes) w
   abbrev pub AreCells : State → ℕ → Terms → Type 0
   AreCells s i ts = (j : ℕ) → i ≤ j → j < i + count ts → has s.regs j ≡ true
 
-  get_structure_went : (made : List Bool) (at i free : ℕ) (f : Name) (us : Terms) (a : Term) (p : Places) (s : State) (es : List Equation) → At n homes made p s → s.owed ≡ 0 → HasAtom b.pool f → AllSuit b.pool (length homes) us → i < free → Clear homes i → ((j : ℕ) → free ≤ j → Clear homes j)
+  get_structure_went : (made : List Bool) (at i free : ℕ) (f : Name) (us : Terms) (a : Term) (p : Places) (s : State) (es : List Equation) → At n homes made p s → s.owed ≡ 0 → HasAtom b.pool f → AllSuit b.pool (length homes) us → i < free → Spared homes made (marked_by_all made (builds b.pool free (free + compounds us) us)) i → ((j : ℕ) → free ≤ j → Clear homes j)
       → p.x i ≡ Some a → has s.regs i ≡ true → WentBy b n homes free free made at p s (equation a (Comp f (moved_all n us)) ∷ es) (get b.pool i free (Comp f us)) es
   get_structure_went made at i free f us a p s es w o h su l c cs e g =
       let inner : List Step = builds b.pool free (free + compounds us) us in
@@ -174,31 +177,30 @@ module _ (b : Base) (n : ℕ) (homes : List Register) (apart : AreApart homes) w
       } in
       (went_steps b n homes free free free free free free made at inner one p s (equation a (Comp f (moved_all n us)) ∷ es) (equation a (Comp f (moved_all n us)) ∷ es) es (omega arith) (inl refl) (omega arith) (inl refl) d.went taken).0
 
-  pub get_went : (made : List Bool) (at i free : ℕ) (t a : Term) (p : Places) (s : State) (es : List Equation) → At n homes made p s → s.owed ≡ 0 → Suits b.pool (length homes) t → i < free → Clear homes i → ((j : ℕ) → free ≤ j → Clear homes j)
+  pub get_went : (made : List Bool) (at i free : ℕ) (t a : Term) (p : Places) (s : State) (es : List Equation) → At n homes made p s → s.owed ≡ 0 → Suits b.pool (length homes) t → i < free → (k : ℕ) → i ≤ k → Waits homes i k t → ((j : ℕ) → free ≤ j → Clear homes j)
       → p.x i ≡ Some a → has s.regs i ≡ true → WentBy b n homes free free made at p s (equation a (moved n t) ∷ es) (get b.pool i free t) es
-  get_went made at i free (Var x) a p s es w o su l c cs e g = went_get_variable b n homes apart made at x i a p s es w o su e g free
-  get_went made at i free (Int z) a p s es w o su l c cs e g = went_get_integer b n homes apart made at z i a p s es w o e g free
-  get_went made at i free (Atom k) a p s es w o su l c cs e g =
+  get_went made at i free (Var x) a p s es w o su l k m c cs e g = went_get_variable b n homes apart made at x i a p s es w o su e g free
+  get_went made at i free (Int z) a p s es w o su l k m c cs e g = went_get_integer b n homes apart made at z i a p s es w o e g free
+  get_went made at i free (Atom k) a p s es w o su l n' m c cs e g =
       let h : HasAtom b.pool k = su in
       subst (λ x. Went b n homes free free made at (code_of homes made (get b.pool i free (Atom k))) p s (equation a (Atom x) ∷ es) made es) h.name (went_get_constant b n homes apart made at (atom_of b.pool k) i a p s es w o h.within e g free)
-  get_went made at i free (Comp f us) a p s es w o su l c cs e g = get_structure_went made at i free f us a p s es w o su.0 su.3 l c cs e g
+  get_went made at i free (Comp f us) a p s es w o su l k m c cs e g = get_structure_went made at i free f us a p s es w o su.0 su.3 l (inner_spared homes b.pool made i k free (free + compounds us) us m c) cs e g
 
   hold_kept : (p q : Places) (i : ℕ) (ts : Terms) → ((j : ℕ) → i ≤ j → j < i + count ts → q.x j ≡ p.x j) → Hold p i ts → Hold q i ts
   hold_kept p q i no_terms h g = tt
   hold_kept p q i (term t ts) h g = (h i (omega arith) (omega arith) ∙ g.0, hold_kept p q (suc i) ts (λ j l m. h j (omega (arith, l)) (omega (arith, m))) g.1)
 
   pub gets_went : (made : List Bool) (at i free : ℕ) (ts as' : Terms) (p : Places) (s : State) (es : List Equation) → At n homes made p s → s.owed ≡ 0 → AllSuit b.pool (length homes) ts → count as' ≡ count ts → i + count ts ≤ free
-      → ((j : ℕ) → i ≤ j → j < i + count ts → Clear homes j) → ((j : ℕ) → free ≤ j → Clear homes j) → Hold p i as' → AreCells s i ts
+      → (last : ℕ) → i + count ts ≤ suc last → AllWait homes i last ts → ((j : ℕ) → free ≤ j → Clear homes j) → Hold p i as' → AreCells s i ts
       → WentBy b n homes free free made at p s (paired as' (moved_all n ts) ++ es) (gets b.pool i free ts) es
-  gets_went made at i free no_terms no_terms p s es w o su k l ca cs h g = went_nothing b n homes free free made at p s es w o
-  gets_went made at i free no_terms (term a as') p s es w o su k l ca cs h g = absurd (omega (arith, k))
-  gets_went made at i free (term t ts) no_terms p s es w o su k l ca cs h g = absurd (omega (arith, k))
-  gets_went made at i free (term t ts) (term a as') p s es w o su k l ca cs h g =
+  gets_went made at i free no_terms no_terms p s es w o su k l last up ca cs h g = went_nothing b n homes free free made at p s es w o
+  gets_went made at i free no_terms (term a as') p s es w o su k l last up ca cs h g = absurd (omega (arith, k))
+  gets_went made at i free (term t ts) no_terms p s es w o su k l last up ca cs h g = absurd (omega (arith, k))
+  gets_went made at i free (term t ts) (term a as') p s es w o su k l last up ca cs h g =
       let one : List Step = get b.pool i free t in
       let others : List Step = gets b.pool (suc i) free ts in
       let later : List Equation = paired as' (moved_all n ts) ++ es in
-      let ci : Clear homes i = ca i (omega arith) (omega arith) in
-      let x = get_went made at i free t a p s later w o su.0 (omega (arith, l)) ci cs h.0 (g i (omega arith) (omega arith)) in
-      let kept : Hold x.q (suc i) as' = hold_kept p x.q (suc i) as' (λ j m y. x.keeps.xs j (ca j (omega (arith, m)) (omega (arith, y, k))) (omega (arith, y, l, k)) (λ e. omega (arith, e, y, l, k))) h.1 in
-      let z = gets_went (marked_by_all made one) (past at (code_of homes made one)) (suc i) free ts as' x.q x.t es x.there x.owed su.1 (omega (arith, k)) (omega (arith, l)) (λ j m y. ca j (omega (arith, m)) (omega (arith, y))) cs kept (λ j m y. x.keeps.regs j (g j (omega (arith, m)) (omega (arith, y)))) in
+      let x = get_went made at i free t a p s later w o su.0 (omega (arith, l)) last (omega (arith, up)) ca.0 cs h.0 (g i (omega arith) (omega arith)) in
+      let kept : Hold x.q (suc i) as' = hold_kept p x.q (suc i) as' (λ j m y. x.keeps.xs j (get_spared homes b.pool j made i last free t (omega (arith, m)) (omega (arith, y, k, up)) ca.0) (omega (arith, y, l, k)) (λ e. omega (arith, e, y, l, k))) h.1 in
+      let z = gets_went (marked_by_all made one) (past at (code_of homes made one)) (suc i) free ts as' x.q x.t es x.there x.owed su.1 (omega (arith, k)) (omega (arith, l)) last (omega (arith, up)) ca.1 cs kept (λ j m y. x.keeps.regs j (g j (omega (arith, m)) (omega (arith, y)))) in
       (went_steps b n homes free free free free free free made at one others p s (equation a (moved n t) ∷ later) later es (omega arith) (inl refl) (omega arith) (inl refl) x z).0

@@ -25,18 +25,19 @@ use Rattle.wam_code.specs.Tries.{IsBefore}
 use Rattle.wam_code.proofs.Keeping.{covers_self}
 use Rattle.machine_relation.proofs.PostRenaming.{functions}
 use Rattle.clause_code.specs.Pieces.{Base, Predicate, past, Does, Ends}
-use Rattle.clause_code.specs.Safe.{unplaced, aims, is_plain, IsThereIn, may_enter, IsSafePiece, IsClauseCode, IsQueryPiece}
+use Rattle.clause_code.specs.Safe.{unplaced, aims, is_plain, IsThereIn, IsSafePiece, IsClauseCode, IsQueryPiece}
 use Rattle.clause_code.specs.Flowing.{is_inner, Runs, Flows, MayEnter}
 use Rattle.clause_code.specs.Steps.{home, is_made, marked_by_all, code_of, gets, puts, fills, filled, AllSuit}
 use Rattle.clause_code.specs.Bodies.{between_goals, InBody, IsRest, IsGoalsCode}
 use Rattle.clause_code.specs.Whole.{front, back, unmade, head_code, IsHoused}
+use Rattle.clause_code.specs.Staying.{AllWait}
 use Rattle.clause_code.proofs.Pieces.{does_both, does_allocate, ends_behind, ends_proceed, ends_execute, ends_answer, does_deallocate}
 use Rattle.clause_code.proofs.Making.{AreApart}
 use Rattle.clause_code.proofs.Going.{when_true, both, plain_of, moved, moved_all, count_moved, AllMade, At, Went, went_both}
 use Rattle.clause_code.proofs.Building.{gets_went, PutAllBy, puts_put}
 use Rattle.clause_code.proofs.Filling.{filled_made, fills_went}
 use Rattle.clause_code.proofs.Flowing.{flows_both, flows_runs, flows_simple, flows_runs_less, enters_runs, enters_both, safe_ends, get_both}
-use Rattle.clause_code.proofs.Bodies.{between_in, at_body, body_at, Fine, steps_enter}
+use Rattle.clause_code.proofs.Bodies.{between_in, at_body, body_at, Fine, single_enters, steps_enter}
 use Rattle.clause_code.proofs.GoalKinds.{given_cells, moved_made}
 use Rattle.clause_code.proofs.SameGoals.{goals_identity}
 
@@ -115,7 +116,7 @@ pub record Start (b : Base) (homes : List Register) (framed : Bool) (at : ℕ) (
 is_unmade : (homes : List Register) (x : ℕ) → x < length homes → is_made (unmade homes) x ≡ false
 is_unmade homes x l = get_or-replicate (length homes) x false true l
 
-module _ (b : Base) (homes : List Register) (framed : Bool) (slots k free : ℕ) (housed : IsHoused homes framed slots k free) (ts : Terms) (suit : AllSuit b.pool (length homes) ts) (few : count ts ≤ k) where
+module _ (b : Base) (homes : List Register) (framed : Bool) (slots k free : ℕ) (housed : IsHoused homes framed slots k free) (ts : Terms) (suit : AllSuit b.pool (length homes) ts) (few : count ts ≤ k) (waits : AllWait homes 1 (count ts) ts) where
   free_home : (x : ℕ) → x < length homes → is_free (first_state framed slots (count ts)) (home homes x) ≡ true
   free_home x l = by framed refl
     where
@@ -169,9 +170,9 @@ module _ (b : Base) (homes : List Register) (framed : Bool) (slots k free : ℕ)
       let mid : List Bool = marked_by_all made0 (gets b.pool 1 free ts) in
       let es : List Equation = paired as' (moved_all n ts) in
       let above : k < free = housed.above in
-      let a0 = gets_went b n homes housed.apart made0 at 1 free ts as' p s0 [] (at_first n p before) refl suit size (omega (arith, above, few)) (λ j l m. housed.clear j (inl (omega (arith, m, few)))) (λ j l. housed.clear j (inr l)) hold (λ j l m. firsts_have (count ts) j l (omega (arith, m))) in
+      let a0 = gets_went b n homes housed.apart made0 at 1 free ts as' p s0 [] (at_first n p before) refl suit size (omega (arith, above, few)) (count ts) (omega arith) waits housed.clear hold (λ j l m. firsts_have (count ts) j l (omega (arith, m))) in
       let a : Went b n homes free free made0 at heads p s0 es mid [] = subst (λ e. Went b n homes free free made0 at heads p s0 e mid []) (append-nil es) a0 in
-      let f = fills_went b n homes housed.apart mid (past at heads) free free (length homes) a.q a.t [] a.there a.owed (omega arith) (housed.clear free (inr (omega arith))) (omega arith) in
+      let f = fills_went b n homes housed.apart mid (past at heads) free free (length homes) a.q a.t [] a.there a.owed (omega arith) (housed.clear free (omega arith)) (omega arith) in
       let w = went_both b n homes free free free free free free made0 mid (filled mid (length homes)) at heads (fills homes free mid (length homes)) p s0 es [] [] (omega arith) (inl refl) (omega arith) (inl refl) a f in
       let long = a.there.long in
       let all : AllMade homes (filled mid (length homes)) = λ x l. filled_made mid (length homes) (omega (arith, long)) x l in
@@ -213,9 +214,9 @@ runs_less b at i [] s t u r c = flows_simple b at i s r.0 u r.1 (subst (λ x. Co
 runs_less b at i (j ∷ js) s t u r c = flows_both b at (i ∷ []) (j ∷ js) s r.0 u (flows_simple b at i s r.0 r.0 r.1 (covers_self r.0) r.2 r.3) (runs_less b (suc at) j js r.0 t u r.4 c)
 
 -- The code of a head, with or without a frame.
-pub start_code : (b : Base) (homes : List Register) (framed : Bool) (slots k free at : ℕ) (ts : Terms) → IsHoused homes framed slots k free → AllSuit b.pool (length homes) ts → count ts ≤ k → Start b homes framed at (front framed slots ++ head_code b.pool homes free ts) ts
-start_code b homes false slots k free at ts housed suit few =
-    let h = headed b homes false slots k free housed ts suit few 0 at (atoms ts) (some_place (length homes)) (atoms_count ts) (atoms_hold (length homes) 1 ts) (some_before (length homes)) in
+pub start_code : (b : Base) (homes : List Register) (framed : Bool) (slots k free at : ℕ) (ts : Terms) → IsHoused homes framed slots k free → AllSuit b.pool (length homes) ts → count ts ≤ k → AllWait homes 1 (count ts) ts → Start b homes framed at (front framed slots ++ head_code b.pool homes free ts) ts
+start_code b homes false slots k free at ts housed suit few waits =
+    let h = headed b homes false slots k free housed ts suit few waits 0 at (atoms ts) (some_place (length homes)) (atoms_count ts) (atoms_hold (length homes) 1 ts) (some_before (length homes)) in
     record {
       first = before_frame (count ts);
       rest = h.t;
@@ -223,10 +224,10 @@ start_code b homes false slots k free at ts housed suit few =
       rested = record { set = h.set; owed = h.owed; frame = h.shape; regs = λ e. absurd (true≢false (sym e)) };
       flows = flows_runs b at (head_code b.pool homes free ts) (before_frame (count ts)) h.t h.runs;
       enters = enters_runs b (head_code b.pool homes free ts) (before_frame (count ts)) h.t h.runs;
-      does = λ n as' p size hold before. let g = headed b homes false slots k free housed ts suit few n at as' p size hold before in record { q = g.q; there = g.there; does = g.does };
+      does = λ n as' p size hold before. let g = headed b homes false slots k free housed ts suit few waits n at as' p size hold before in record { q = g.q; there = g.there; does = g.does };
     }
-start_code b homes true slots k free at ts housed suit few =
-    let h = headed b homes true slots k free housed ts suit few 0 (suc at) (atoms ts) (some_place (length homes)) (atoms_count ts) (atoms_hold (length homes) 1 ts) (some_before (length homes)) in
+start_code b homes true slots k free at ts housed suit few waits =
+    let h = headed b homes true slots k free housed ts suit few waits 0 (suc at) (atoms ts) (some_place (length homes)) (atoms_count ts) (atoms_hold (length homes) 1 ts) (some_before (length homes)) in
     let rest : State = record h.t { regs = [] } in
     let cover : Covers h.t rest = record { frame = refl; owed = refl; regs = λ n e. absurd (true≢false (sym e)) } in
     let runs : Runs b (before_frame (count ts)) (Allocate slots ∷ head_code b.pool homes free ts) h.t = (first_state true slots (count ts), refl, refl, tt, h.runs) in
@@ -244,7 +245,7 @@ start_code b homes true slots k free at ts housed suit few =
       enters = enters_runs b (Allocate slots ∷ head_code b.pool homes free ts) (before_frame (count ts)) h.t runs;
       does = λ n as' p size hold before.
           let before' : IsBefore (no_slots p) n (length homes) = record { known = before.known; fresh = before.fresh; own = before.own; top = before.top } in
-          let g = headed b homes true slots k free housed ts suit few n (suc at) as' (no_slots p) size (hold_slots p 1 as' hold) before' in
+          let g = headed b homes true slots k free housed ts suit few waits n (suc at) as' (no_slots p) size (hold_slots p 1 as' hold) before' in
           record {
             q = g.q;
             there = g.there;
@@ -268,9 +269,6 @@ pub record Tail (b : Base) (homes : List Register) (framed : Bool) (at : ℕ) (k
 no_frame_of : (o : Option (List Slot)) → has_frame o ≡ false → no_frame o ≡ true
 no_frame_of None e = refl
 no_frame_of (Some ss) e = absurd (true≢false e)
-
-single_enters : (i : Code) → IsTrue (may_enter i) → MayEnter (i ∷ [])
-single_enters i h j e = let same : i ≡ j = cc in subst (λ x. IsTrue (may_enter x)) same h
 
 -- No goal is left.
 pub tail_proceed : (b : Base) (homes : List Register) (framed : Bool) (at : ℕ) → Tail b homes framed at (back framed) Proceed []
@@ -315,7 +313,7 @@ tail_execute b homes apart framed made_now free at all long e s us h ar le fine 
     js = code_of homes made_now (puts b.pool 1 free us)
 
     put : (f : Bool) (n at : ℕ) (p : Places) (d : State) → IsRest homes f d → InBody n homes p → PutAllBy b n homes apart 1 made_now at p d [] (puts b.pool 1 free us) us
-    put f n at p d r body = puts_put b n homes apart made_now at 1 free us p d [] (at_body n homes apart f made_now p d all long body r) r.owed fine.suit (let l = fine.below in omega (arith, l)) (λ j m k. fine.first j m (omega (arith, k))) fine.clear
+    put f n at p d r body = puts_put b n homes apart made_now at 1 free us p d [] (at_body n homes apart f made_now p d all long body r) r.owed fine.suit (let l = fine.below in omega (arith, l)) all fine.lands fine.clear
 
     goals : ℕ → Caller → List Goal
     goals n w = goal.Call (moved n (made (atom_name b.pool s.name) us)) ∷ w.goals
@@ -335,7 +333,7 @@ tail_execute b homes apart framed made_now free at all long e s us h ar le fine 
         let is : List Code = code_of homes made_now (puts b.pool 1 free us) in
         let gs : List Goal = goal.Call (moved n (made (atom_name b.pool s.name) us)) ∷ w.goals in
         let c = put f n at p d r body in
-        let after : InBody n homes c.went.q = body_at n homes apart (marked_by_all made_now (puts b.pool 1 free us)) c.went.q c.went.t (c.went.keeps.more all) c.went.there in
+        let after : InBody n homes c.went.q = body_at n homes apart (marked_by_all made_now (puts b.pool 1 free us)) c.went.q c.went.t (λ x l. c.went.keeps.more x l (all x l)) c.went.there in
         subst (λ l. Ends b w at l p [] gs) (sym (append_assoc is (back f) (Execute e ∷ [])))
         (ends_behind b w at is (back f ++ (Execute e ∷ [])) p c.went.q [] [] gs gs (c.went.does gs) (last_ends f n (past at is) w c.went.q after c.hold))
 

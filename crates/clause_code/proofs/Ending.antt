@@ -37,6 +37,7 @@ use Rattle.clause_code.proofs.Clauses.{Tail, tail_proceed, tail_execute}
 use Rattle.clause_code.proofs.Laying.{past_is}
 use Rattle.clause_code.proofs.Assembling.{Known, clause_known, in_order_only, in_order_housed, assembled}
 use Rattle.clause_code.proofs.Simples.{arguments_suit, is_writable}
+use Rattle.clause_code.proofs.Sparing.{slots_land}
 
 -- ---- which are made
 
@@ -182,7 +183,7 @@ module _ (p : FlatProgram) (ps : List Predicate) (homes : List Register) (c : �
       let us : Terms = arguments (term_of p.pool u) in
       let s : Predicate = x.of.0 in
       let only = in_order_only homes (clause_at p c).variables order in
-      let fine : Fine b homes (suc (count us)) us = record { suit = arguments_suit p.pool (length homes) (term_of p.pool u) suits; below = omega arith; first = λ j l m y k i. only y k j i; clear = λ j l y k i. only y k j i } in
+      let fine : Fine b homes (suc (count us)) us = record { suit = arguments_suit p.pool (length homes) (term_of p.pool u) suits; below = omega arith; lands = slots_land homes only 1 us; clear = λ j l y k i. only y k j i } in
       let apart : AreApart homes = (in_order_housed homes (clause_at p c).variables 0 order).apart in
       let ks : List Code = code_of homes made_now (puts p.pool 1 (suc (count us)) us) ++ back true in
       let tail : Tail b homes true (past at (begun ++ w.0)) ks (Execute x.number) (model.Call (made (atom_name p.pool s.name) us) ∷ []) =

@@ -1,17 +1,16 @@
 -- The variables that a head doesn't make.
-use Rattle.std.proofs.Common.{◌≡◌, ℕ, zero, suc, ◌+◌, ◌<◌, ◌≤◌, Bool, true, false, if◌then◌else◌, List, [], ◌∷◌, ◌++◌, length, slice_set, refl, sym, ◌∙◌, subst, arith, inl, inr, length-set}
+use Rattle.std.proofs.Common.{◌≡◌, ℕ, zero, suc, ◌<◌, ◌≤◌, Bool, true, false, if◌then◌else◌, List, [], ◌∷◌, ◌++◌, length, slice_set, refl, sym, ◌∙◌, subst, arith, inl, inr, length-set}
 use Rattle.std.proofs.lemmas.Bool.{cases_eq, cases_Bool}
-use Rattle.fd_language.specs.Term.{Var}
 use Rattle.fd_language.specs.Unifier.{Equation}
 use Rattle.wam_code.specs.declared.instruction.Register.{Register}
-use Rattle.wam_code.specs.declared.instruction.Code.TheVariants.{PutVariable, PutValue}
+use Rattle.wam_code.specs.declared.instruction.Code.TheVariants.{PutVariable}
 use Rattle.wam_code.specs.Area.{State}
 use Rattle.wam_code.specs.Places.{Places}
 use Rattle.clause_code.specs.Pieces.{Base, past}
 use Rattle.clause_code.specs.Steps.{home, is_made, marked, filled, fills}
 use Rattle.clause_code.proofs.Making.{made_here, made_still, Clear, AreApart}
 use Rattle.clause_code.proofs.Going.{At, Went, went_nothing, went_both}
-use Rattle.clause_code.proofs.Stepping.{Put, put_variable_step}
+use Rattle.clause_code.proofs.Stepping.{put_new_step}
 
 -- ---- which are made
 
@@ -54,12 +53,6 @@ filled_made made (suc k) l x m =
 -- ---- their instructions
 
 module _ (b : Base) (n : ℕ) (homes : List Register) (apart : AreApart homes) where
-  put_unmade : (made : List Bool) (at x r free : ℕ) (p : Places) (s : State) (es : List Equation) → At n homes made p s → s.owed ≡ 0 → x < length homes → Clear homes r → is_made made x ≡ false
-      → Put b n homes apart r free made at (PutVariable (home homes x) r ∷ []) p s es (slice_set made x true) (Var (n + x))
-  put_unmade made at x r free p s es w o l c e =
-      subst (λ f. Put b n homes apart r free made at ((if f then PutValue (home homes x) r else PutVariable (home homes x) r) ∷ []) p s es (if f then made else slice_set made x true) (Var (n + x))) e
-      (put_variable_step b n homes apart made at x r free p s es w o l c)
-
   pub fills_went : (made : List Bool) (at scratch free k : ℕ) (p : Places) (s : State) (es : List Equation) → At n homes made p s → s.owed ≡ 0 → k ≤ length homes → Clear homes scratch → free ≤ scratch
       → Went b n homes free free made at (fills homes scratch made k) p s es (filled made k) es
   fills_went made at scratch free zero p s es w o l c f = went_nothing b n homes free free made at p s es w o
@@ -73,5 +66,5 @@ module _ (b : Base) (n : ℕ) (homes : List Register) (apart : AreApart homes) w
         | inr e ↦
             subst (λ d. Went b n homes free free made at (fills homes scratch made k ++ (if d then [] else PutVariable (home homes k) scratch ∷ [])) p s es (if d then filled made k else slice_set (filled made k) k true) es) (sym e)
             (went_both b n homes free free free free scratch free made (filled made k) (slice_set (filled made k) k true) at (fills homes scratch made k) (PutVariable (home homes k) scratch ∷ []) p s es es es (omega arith) (inl refl) (omega arith) (inr f) a
-            (put_unmade (filled made k) from k scratch free a.q a.t es a.there a.owed (omega (arith, l)) c e).went)
+            (put_new_step b n homes apart (filled made k) from k scratch free a.q a.t es a.there a.owed (omega (arith, l)) e c).went)
       ]

@@ -1,5 +1,5 @@
 -- What the steps of a clause's terms do, and how the states go through them.
-use Rattle.std.proofs.Common.{◌≡◌, ◌⊎◌, ℕ, suc, ◌+◌, ◌<◌, ◌≤◌, Bool, true, ◌&&◌, List, [], ◌∷◌, ◌++◌, Some, length, refl, ap, sym, ◌∙◌, subst, arith, inl, inr}
+use Rattle.std.proofs.Common.{◌≡◌, ◌⊎◌, ℕ, suc, ◌+◌, ◌<◌, ◌≤◌, Bool, true, ◌&&◌, List, [], ◌∷◌, ◌++◌, Some, length, refl, ap, sym, ◌∙◌, subst, arith, inl, inr, append_assoc}
 use Rattle.fd_language.specs.Family.{has}
 use Rattle.fd_language.specs.Term.{Term, Terms, Var, no_terms, term, apply, apply_all}
 use Rattle.fd_language.specs.Unifier.{Equation}
@@ -13,10 +13,10 @@ use Rattle.wam_code.specs.Places.{Places, write, count}
 use Rattle.clause_code.specs.Pieces.{Base, past, Does, Parts}
 use Rattle.clause_code.specs.Safe.{unplaced}
 use Rattle.clause_code.specs.Flowing.{Runs}
-use Rattle.clause_code.specs.Steps.{Step, is_made, marked_by, marked_by_all, instruction, code_of}
+use Rattle.clause_code.specs.Steps.{Step, is_made, marked_by, marked_by_all, instructions, code_of}
 use Rattle.clause_code.proofs.Homes.{put_else}
 use Rattle.clause_code.proofs.Pieces.{does_nothing, does_both}
-use Rattle.clause_code.proofs.Making.{Clear, Fits, Tracks}
+use Rattle.clause_code.proofs.Making.{Spared, Grows, Fits, Tracks}
 
 -- ---- single instructions
 
@@ -51,7 +51,9 @@ runs_both b s t u (i ∷ is) js f g = (f.0, f.1, f.2, f.3, runs_both b f.0 t u i
 
 pub code_both : (homes : List Register) (made : List Bool) (ss ts : List Step) → code_of homes made (ss ++ ts) ≡ code_of homes made ss ++ code_of homes (marked_by_all made ss) ts
 code_both homes made [] ts = refl
-code_both homes made (s ∷ ss) ts = ap (λ r. instruction homes made s ∷ r) (code_both homes (marked_by made s) ss ts)
+code_both homes made (s ∷ ss) ts =
+    let rest : List Code = code_of homes (marked_by_all (marked_by made s) ss) ts in
+    ap (λ r. instructions homes made s ++ r) (code_both homes (marked_by made s) ss ts) ∙ sym (append_assoc (instructions homes made s) (code_of homes (marked_by made s) ss) rest)
 
 pub marked_both : (made : List Bool) (ss ts : List Step) → marked_by_all made (ss ++ ts) ≡ marked_by_all (marked_by_all made ss) ts
 marked_both made [] ts = refl
@@ -76,13 +78,13 @@ pub record At (n : ℕ) (homes : List Register) (made : List Bool) (p : Places) 
   pub tracks : Tracks homes made s
   pub long : length made ≡ length homes
 
--- What is kept from one place to another: the registers below `free` but r, and the frame where nothing was to be made.
+-- What is kept from one place to another: the registers below `free` but r where no variable is made, and the frame where nothing was to be made.
 pub record Keeps (homes : List Register) (r free : ℕ) (made later : List Bool) (p q : Places) (s t : State) : Type 0 where
-  pub xs : (i : ℕ) → Clear homes i → i < free → (i ≡ r → ⊥) → q.x i ≡ p.x i
+  pub xs : (i : ℕ) → Spared homes made later i → i < free → (i ≡ r → ⊥) → q.x i ≡ p.x i
   pub regs : (i : ℕ) → has s.regs i ≡ true → has t.regs i ≡ true
   pub frame : AllMade homes made → t.frame ≡ s.frame
   pub shape : has_frame t.frame ≡ has_frame s.frame
-  pub more : AllMade homes made → AllMade homes later
+  pub more : Grows homes made later
 
 -- A piece leads from places, a state and equations to others, with more variables made.
 pub record Went (b : Base) (n : ℕ) (homes : List Register) (r free : ℕ) (made : List Bool) (at : ℕ) (is : List Code) (p : Places) (s : State) (es : List Equation) (later : List Bool) (ds : List Equation) : Type 0 where
@@ -102,11 +104,11 @@ pub record Gave (b : Base) (n : ℕ) (homes : List Register) (made : List Bool) 
   pub runs : Runs b s is t
   pub there : At n homes later q t
   pub owed : t.owed ≡ 0
-  pub xs : (i : ℕ) → Clear homes i → q.x i ≡ p.x i
+  pub xs : (i : ℕ) → Spared homes made later i → q.x i ≡ p.x i
   pub regs : (i : ℕ) → has s.regs i ≡ true → has t.regs i ≡ true
   pub frame : AllMade homes made → t.frame ≡ s.frame
   pub shape : has_frame t.frame ≡ has_frame s.frame
-  pub more : AllMade homes made → AllMade homes later
+  pub more : Grows homes made later
 
 keeps_less : (homes : List Register) (r free r' free' : ℕ) (made later : List Bool) (p q : Places) (s t : State) → free ≤ free' → (r' ≡ r) ⊎ (free ≤ r') → Keeps homes r' free' made later p q s t → Keeps homes r free made later p q s t
 keeps_less homes r free r' free' made later p q s t l o f = record {
@@ -123,16 +125,16 @@ keeps_less homes r free r' free' made later p q s t l o f = record {
 
 keeps_both : (homes : List Register) (r free : ℕ) (made mid later : List Bool) (p q w : Places) (s t u : State) → Keeps homes r free made mid p q s t → Keeps homes r free mid later q w t u → Keeps homes r free made later p w s u
 keeps_both homes r free made mid later p q w s t u f g = record {
-  xs = λ i c m d. g.xs i c m d ∙ f.xs i c m d;
+  xs = λ i c m d. g.xs i (λ x l h e. f.more x l (c x l h e)) m d ∙ f.xs i (λ x l h e. c x l h (g.more x l e)) m d;
   regs = λ i e. g.regs i (f.regs i e);
-  frame = λ a. g.frame (f.more a) ∙ f.frame a;
+  frame = λ a. g.frame (λ x l. f.more x l (a x l)) ∙ f.frame a;
   shape = g.shape ∙ f.shape;
-  more = λ a. g.more (f.more a);
+  more = λ x l e. g.more x l (f.more x l e);
 }
 
 module _ (b : Base) (n : ℕ) (homes : List Register) where
   pub went_nothing : (r free : ℕ) (made : List Bool) (at : ℕ) (p : Places) (s : State) (es : List Equation) → At n homes made p s → s.owed ≡ 0 → Went b n homes r free made at [] p s es made es
-  went_nothing r free made at p s es a o = record { q = p; t = s; does = λ gs. does_nothing b at p es gs; runs = refl; there = a; owed = o; keeps = record { xs = λ i c l d. refl; regs = λ i e. e; frame = λ a. refl; shape = refl; more = λ a. a } }
+  went_nothing r free made at p s es a o = record { q = p; t = s; does = λ gs. does_nothing b at p es gs; runs = refl; there = a; owed = o; keeps = record { xs = λ i c l d. refl; regs = λ i e. e; frame = λ a. refl; shape = refl; more = λ x l e. e } }
 
   -- One behind the other, where fewer registers are said to be kept.
   pub went_both : (r free r1 free1 r2 free2 : ℕ) (made mid later : List Bool) (at : ℕ) (is js : List Code) (p : Places) (s : State) (es ds cs : List Equation) → free ≤ free1 → (r1 ≡ r) ⊎ (free ≤ r1) → free ≤ free2 → (r2 ≡ r) ⊎ (free ≤ r2)

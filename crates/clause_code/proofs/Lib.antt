@@ -8,6 +8,7 @@ pub mod Homes
 pub mod Making
 pub mod Numbers
 pub mod Going
+pub mod Sparing
 pub mod Stepping
 pub mod Building
 pub mod Flowing
@@ -26,4 +27,5 @@ pub mod Gathering
 pub mod Ending
 pub mod Asking
 pub mod Sides
+pub mod Finding
 pub mod Short

@@ -81,7 +81,7 @@ regs_more s (Y n) i h = h
 pub made_here : (made : List Bool) (x : ℕ) → x < length made → is_made (slice_set made x true) x ≡ true
 made_here made x l = get_or-set_same made x true true l
 
-made_else : (made : List Bool) (x y : ℕ) → (y ≡ x → ⊥) → is_made (slice_set made x true) y ≡ is_made made y
+pub made_else : (made : List Bool) (x y : ℕ) → (y ≡ x → ⊥) → is_made (slice_set made x true) y ≡ is_made made y
 made_else made x y h = get_or-set_other made x y true true h
 
 -- A variable that is made stays so.
@@ -96,6 +96,20 @@ made_still made x y l h = elim (cases_eq y x) [
 -- the register is no variable's
 abbrev pub Clear : List Register → ℕ → Type 0
 Clear homes i = (x : ℕ) → x < length homes → home homes x ≡ X i → ⊥
+
+-- no variable that has its home in the register is made in between
+abbrev pub Spared : List Register → List Bool → List Bool → ℕ → Type 0
+Spared homes made later i = (x : ℕ) → x < length homes → home homes x ≡ X i → is_made later x ≡ true → is_made made x ≡ true
+
+-- those that are made stay so
+abbrev pub Grows : List Register → List Bool → List Bool → Type 0
+Grows homes made later = (x : ℕ) → x < length homes → is_made made x ≡ true → is_made later x ≡ true
+
+pub clear_spared : (homes : List Register) (made later : List Bool) (i : ℕ) → Clear homes i → Spared homes made later i
+clear_spared homes made later i c = λ x l h e. absurd (c x l h)
+
+pub spared_both : (homes : List Register) (made mid later : List Bool) (i : ℕ) → Spared homes made mid i → Spared homes mid later i → Spared homes made later i
+spared_both homes made mid later i f g = λ x l h e. f x l h (g x l h e)
 
 -- no two variables have one register
 abbrev pub AreApart : List Register → Type 0
@@ -177,6 +191,19 @@ module _ (homes : List Register) (made : List Bool) where
     free = λ y m e. elim (cases_eq y x) [
       | inl same ↦ absurd (true≢false (sym (subst (λ z. is_made (slice_set made x true) z ≡ true) (sym same) (made_here made x (subst (λ z. x < z) (sym long) l))) ∙ e))
       | inr other ↦ free_else s (home homes x) (home homes y) (λ h. other (apart y x m l h)) (f.free y m (sym (made_else made x y other) ∙ e))
+    ];
+  }
+
+  -- The register of a variable that is made is a cell already.
+  pub tracks_stays : (s : State) → AreApart homes → length made ≡ length homes → Tracks homes made s → (x : ℕ) → x < length homes → is_set s (home homes x) ≡ true → Tracks homes (slice_set made x true) s
+  tracks_stays s apart long f x l there = record {
+    set = λ y m e. elim (cases_eq y x) [
+      | inl same ↦ subst (λ z. is_set s (home homes z) ≡ true) (sym same) there
+      | inr other ↦ f.set y m (sym (made_else made x y other) ∙ e)
+    ];
+    free = λ y m e. elim (cases_eq y x) [
+      | inl same ↦ absurd (true≢false (sym (subst (λ z. is_made (slice_set made x true) z ≡ true) (sym same) (made_here made x (subst (λ z. x < z) (sym long) l))) ∙ e))
+      | inr other ↦ f.free y m (sym (made_else made x y other) ∙ e)
     ];
   }
 

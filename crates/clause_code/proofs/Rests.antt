@@ -265,3 +265,10 @@ fills_next homes scratch old code new first made x e m n =
 
 pub filled_next : (first made later : List Bool) (x : ℕ) → made ≡ filled first x → later ≡ marked made x → later ≡ filled first (x + 1)
 filled_next first made later x m n = n ∙ ap (λ k. marked k x) m ∙ ap (filled first) (sym (add-one x))
+
+pub part_next : (homes : List Register) (code new : List Code) (made later : List Bool) (c : Contents) (ids : List TermId) (i j next : ℕ) (d : TermId) (whole : List Code) (last : List Bool) → i < length ids → next ≡ behind j (term_of c (get_or ids i d)) → Owes homes code made (parts c j (rest c ids i)) whole last
+    → Writes homes code made (part c j (term_of c (get_or ids i d)) ∷ []) new later → Owes homes new later (parts c next (rest c ids (i + 1))) whole last
+part_next homes code new made later c ids i j next d whole last l e o w =
+    let one : Step = part c j (term_of c (get_or ids i d)) in
+    subst (λ k. Owes homes new later (parts c k (rest c ids (i + 1))) whole last) (sym e)
+    (owes_less homes code new made later (one ∷ []) (parts c (behind j (term_of c (get_or ids i d))) (rest c ids (i + 1))) whole last (subst (λ ss. Owes homes code made ss whole last) (parts_rest c ids i j d l) o) w)

@@ -35,6 +35,7 @@ use Rattle.clause_code.specs.Simple.{variables, AreMade, loads, posted_terms, Is
 use Rattle.clause_code.proofs.Making.{AreApart}
 use Rattle.clause_code.proofs.Bodies.{Fine}
 use Rattle.clause_code.proofs.GoalKinds.{OnlySlots, goal_true, goal_fail, goal_unify, goal_builtin, goal_constrain, goal_label, goal_post, goal_call}
+use Rattle.clause_code.proofs.Sparing.{slots_land}
 use Rattle.clause_code.proofs.Suiting.{term_suits}
 
 -- ---- the variables of a range
@@ -119,7 +120,7 @@ module _ (p : FlatProgram) (ps : List Predicate) (homes : List Register) (apart 
   b = base_in p ps
 
   fine : (ts : Terms) → AllSuit p.pool (length homes) ts → Fine b homes (suc (count ts)) ts
-  fine ts s = record { suit = s; below = omega arith; first = λ j l m x k e. only x k j e; clear = λ j l x k e. only x k j e }
+  fine ts s = record { suit = s; below = omega arith; lands = slots_land homes only 1 ts; clear = λ j l x k e. only x k j e }
 
   pub simple_goal : (n : ℕ) (g : FlatGoal) (is : List Code) → IsGoal p.pool (length p.ranges) n g → IsWritable p (length homes) g → IsCodableGoal (goal_in p g) → IsSimpleCode p ps homes made_now g is → IsGoalsCode b homes true at is (goal_in p g ∷ [])
   simple_goal n flat.True is o w c e = subst (λ l. IsGoalsCode b homes true at l (goal.True ∷ [])) (sym e) (goal_true b homes apart true made_now 1 at (λ x l. all x) long (fine no_terms tt))

@@ -1,6 +1,7 @@
 -- Single steps, and the arguments of a structure.
-use Rattle.std.proofs.Common.{◌≡◌, ℕ, suc, ℤ, ◌+◌, ◌-◌, ◌<◌, ◌≤◌, Bool, true, false, IsTrue, if◌then◌else◌, List, [], ◌∷◌, Option, Some, None, option_map, length, slice_set, refl, sym, ◌∙◌, subst, arith, length-set}
+use Rattle.std.proofs.Common.{◌≡◌, ℕ, suc, ℤ, ◌+◌, ◌-◌, ◌<◌, ◌≤◌, Bool, true, false, IsTrue, if◌then◌else◌, List, [], ◌∷◌, ◌++◌, Option, Some, None, option_map, length, slice_set, refl, ap, sym, ◌∙◌, subst, arith, eq-eqb, length-set}
 use Rattle.std.proofs.lemmas.Bool.{true≢false}
+use Rattle.std.proofs.lemmas.Bool.Decides.{nat_tests}
 use Rattle.fd_language.specs.Family.{has}
 use Rattle.fd_language.specs.Term.{Term, Terms, Var, Int, Atom, Comp, no_terms, term}
 use Rattle.fd_language.specs.Unifier.{Equation}
@@ -12,15 +13,23 @@ use Rattle.wam_code.specs.declared.instruction.Code.{Code}
 use Rattle.wam_code.specs.declared.instruction.Code.TheVariants.{GetVariable, GetValue, GetConstant, GetInteger, UnifyVariable, UnifyValue, UnifyConstant, UnifyInteger, PutVariable, PutValue, PutConstant, PutInteger}
 use Rattle.wam_code.specs.Area.{Slot, State}
 use Rattle.wam_code.specs.Effect.{has_frame, with_cell, is_set, is_free, with_set, with_owed, effect}
-use Rattle.wam_code.specs.Places.{Places, write, learn, without, count}
-use Rattle.clause_code.specs.Pieces.{Base, Parts}
+use Rattle.wam_code.specs.Places.{Places, read, write, learn, without, count}
+use Rattle.clause_code.specs.Pieces.{Base, Does, Parts}
 use Rattle.clause_code.specs.Safe.{unplaced, IsThereIn}
 use Rattle.clause_code.specs.Flowing.{is_simple}
-use Rattle.clause_code.specs.Steps.{Step, get_variable, unify_variable, put_variable, home, is_made, marked, marked_by_all, instruction, code_of, atom_of, compounds, parts, HasAtom, AllSuit}
+use Rattle.clause_code.specs.Steps.{Step, get_variable, unify_variable, put_variable, home, is_made, marked, marked_by_all, is_register, move_in, move_out, code_of, atom_of, compounds, parts, HasAtom, AllSuit}
+use Rattle.clause_code.specs.Staying.{Lands}
 use Rattle.clause_code.proofs.Homes.{put_here, put_else}
-use Rattle.clause_code.proofs.Pieces.{equation, does_get_variable, does_get_value, does_get_constant, does_get_integer, no_parts, part_variable, part_value, part_constant, part_integer, does_put_variable, does_put_value, does_put_constant, does_put_integer}
-use Rattle.clause_code.proofs.Making.{has_first, has_more, regs_more, made_still, Clear, AreApart, fits_made, fits_wrote, fits_without, tracks_made, tracks_set, tracks_owed}
+use Rattle.clause_code.proofs.Pieces.{equation, does_nothing, does_learn, does_get_variable, does_get_value, does_get_constant, does_get_integer, no_parts, part_variable, part_value, part_constant, part_integer, does_put_variable, does_put_value, does_put_constant, does_put_integer}
+use Rattle.clause_code.proofs.Making.{has_first, has_more, regs_more, made_here, made_still, Clear, Spared, Grows, clear_spared, AreApart, fits_made, fits_wrote, fits_without, tracks_made, tracks_stays, tracks_set, tracks_owed}
 use Rattle.clause_code.proofs.Going.{when_true, both, plain_of, owing_of, owed_of_set, x_of_written, moved_all, AllMade, At, Keeps, Went, Gave}
+
+pub register_is : (r : Register) (a : ℕ) → is_register r a ≡ true → r ≡ X a
+register_is (X i) a h = let e : i ≡ a = grind (arith, nat_tests) in ap X e
+register_is (Y i) a h = absurd (true≢false (sym h))
+
+pub register_at : (r : Register) (a : ℕ) → r ≡ X a → is_register r a ≡ true
+register_at r a e = ap (λ z. is_register z a) e ∙ eq-eqb a a refl
 
 shape_of_set : (s : State) (r : Register) → has_frame (with_set s r).frame ≡ has_frame s.frame
 shape_of_set s (X i) = refl
@@ -34,6 +43,9 @@ module _ (b : Base) (n : ℕ) (homes : List Register) (apart : AreApart homes) w
   at_made : (made : List Bool) (p : Places) (s : State) → At n homes made p s → (x : ℕ) → x < length homes → is_made made x ≡ false → At n homes (slice_set made x true) (write (learn p (n + x)) (home homes x) (Var (n + x))) (with_set s (home homes x))
   at_made made p s a x l e = record { fits = fits_made n homes made p apart a.long a.fits x l e; tracks = tracks_made homes made s apart a.long a.tracks x l e; long = length-set made x true ∙ a.long }
 
+  at_stays : (made : List Bool) (p : Places) (s : State) → At n homes made p s → (x : ℕ) → x < length homes → is_made made x ≡ false → is_set s (home homes x) ≡ true → At n homes (slice_set made x true) (write (learn p (n + x)) (home homes x) (Var (n + x))) s
+  at_stays made p s a x l e there = record { fits = fits_made n homes made p apart a.long a.fits x l e; tracks = tracks_stays homes made s apart a.long a.tracks x l there; long = length-set made x true ∙ a.long }
+
   pub at_wrote : (made : List Bool) (p : Places) (s : State) → At n homes made p s → (i : ℕ) (t : Term) → Clear homes i → At n homes made (write p (X i) t) (with_set s (X i))
   at_wrote made p s a i t c = record { fits = fits_wrote n homes made p a.fits i t c; tracks = tracks_set homes made s a.tracks i c; long = a.long }
 
@@ -43,29 +55,41 @@ module _ (b : Base) (n : ℕ) (homes : List Register) (apart : AreApart homes) w
   pub at_without : (made : List Bool) (p : Places) (s : State) → At n homes made p s → (i : ℕ) → Clear homes i → At n homes made (without p i) s
   at_without made p s a i c = record { fits = fits_without n homes made p a.fits i c; tracks = a.tracks; long = a.long }
 
-  more_made : (made : List Bool) (x : ℕ) → x < length homes → length made ≡ length homes → AllMade homes made → AllMade homes (slice_set made x true)
-  more_made made x l e a y m = made_still made x y (subst (λ k. x < k) (sym e) l) (a y m)
+  more_made : (made : List Bool) (x : ℕ) → x < length homes → length made ≡ length homes → Grows homes made (slice_set made x true)
+  more_made made x l e y m h = made_still made x y (subst (λ k. x < k) (sym e) l) h
+
+  -- a spared register is not the home of a variable that is made now
+  other_home : (made : List Bool) (x i : ℕ) → x < length homes → length made ≡ length homes → is_made made x ≡ false → Spared homes made (slice_set made x true) i → home homes x ≡ X i → ⊥
+  other_home made x i l long e c h = true≢false (sym (c x l h (made_here made x (subst (λ k. x < k) (sym long) l))) ∙ e)
 
   -- ---- a head's argument
 
   pub went_get_variable : (made : List Bool) (at x a : ℕ) (t : Term) (p : Places) (s : State) (es : List Equation) → At n homes made p s → s.owed ≡ 0 → x < length homes → p.x a ≡ Some t → has s.regs a ≡ true → (free : ℕ)
-      → Went b n homes free free made at (instruction homes made (get_variable x a) ∷ []) p s (equation t (Var (n + x)) ∷ es) (marked made x) es
+      → Went b n homes free free made at (code_of homes made (get_variable x a ∷ [])) p s (equation t (Var (n + x)) ∷ es) (marked made x) es
   went_get_variable made at x a t p s es w o l h g free = by (is_made made x) refl
     where
       r : Register
       r = home homes x
 
-      by : (c : Bool) → is_made made x ≡ c → Went b n homes free free made at ((if c then GetValue (home homes x) a else GetVariable (home homes x) a) ∷ []) p s (equation t (Var (n + x)) ∷ es) (if c then made else slice_set made x true) es
-      by true e = record {
-        q = p;
-        t = s;
-        does = λ gs. does_get_value b at (home homes x) a (Var (n + x)) t p es gs (w.fits.held x l e) h;
-        runs = (s, plain_of b (GetValue (home homes x) a) s o ∙ when_true _ s (both (has s.regs a) (is_set s (home homes x)) g (w.tracks.set x l e)), refl, tt, refl);
-        there = w;
-        owed = o;
-        keeps = record { xs = λ i c m d. refl; regs = λ i f. f; frame = λ f. refl; shape = refl; more = λ f. f };
-      }
-      by false e = record {
+      -- the variable is made: it stays in the register, or moves to its home
+      first : (d : Bool) → is_register r a ≡ d → is_made made x ≡ false → Went b n homes free free made at ((if d then [] else GetVariable r a ∷ []) ++ []) p s (equation t (Var (n + x)) ∷ es) (slice_set made x true) es
+      first true f e =
+          let same : r ≡ X a = register_is r a f in record {
+            q = write (learn p (n + x)) r (Var (n + x));
+            t = s;
+            does = λ gs. subst (λ z. Does b at [] p (equation t (Var (n + x)) ∷ es) gs (write (learn p (n + x)) z (Var (n + x))) es gs) (sym same) (does_learn b at a (n + x) t p es gs (w.fits.fresh x l e) h);
+            runs = refl;
+            there = at_stays made p s w x l e (subst (λ z. is_set s z ≡ true) (sym same) g);
+            owed = o;
+            keeps = record {
+              xs = λ i c m d. x_of_written (learn p (n + x)) r (Var (n + x)) i (other_home made x i l w.long e c);
+              regs = λ i f. f;
+              frame = λ f. absurd (true≢false (sym (f x l) ∙ e));
+              shape = refl;
+              more = more_made made x l w.long;
+            };
+          }
+      first false f e = record {
         q = write (learn p (n + x)) (home homes x) (Var (n + x));
         t = with_set s (home homes x);
         does = λ gs. does_get_variable b at (home homes x) a (n + x) t p es gs (w.fits.fresh x l e) h;
@@ -73,13 +97,25 @@ module _ (b : Base) (n : ℕ) (homes : List Register) (apart : AreApart homes) w
         there = at_made made p s w x l e;
         owed = owed_of_set s (home homes x) ∙ o;
         keeps = record {
-          xs = λ i c m d. x_of_written (learn p (n + x)) (home homes x) (Var (n + x)) i (c x l);
+          xs = λ i c m d. x_of_written (learn p (n + x)) (home homes x) (Var (n + x)) i (other_home made x i l w.long e c);
           regs = λ i f. regs_more s (home homes x) i f;
           frame = λ f. absurd (true≢false (sym (f x l) ∙ e));
           shape = shape_of_set s (home homes x);
-          more = λ f. more_made made x l w.long f;
+          more = more_made made x l w.long;
         };
       }
+
+      by : (c : Bool) → is_made made x ≡ c → Went b n homes free free made at ((if c then GetValue r a ∷ [] else move_in r a) ++ []) p s (equation t (Var (n + x)) ∷ es) (if c then made else slice_set made x true) es
+      by true e = record {
+        q = p;
+        t = s;
+        does = λ gs. does_get_value b at (home homes x) a (Var (n + x)) t p es gs (w.fits.held x l e) h;
+        runs = (s, plain_of b (GetValue (home homes x) a) s o ∙ when_true _ s (both (has s.regs a) (is_set s (home homes x)) g (w.tracks.set x l e)), refl, tt, refl);
+        there = w;
+        owed = o;
+        keeps = record { xs = λ i c m d. refl; regs = λ i f. f; frame = λ f. refl; shape = refl; more = λ y m h. h };
+      }
+      by false e = first (is_register r a) refl e
 
   pub went_get_constant : (made : List Bool) (at : ℕ) (c : AtomId) (a : ℕ) (t : Term) (p : Places) (s : State) (es : List Equation) → At n homes made p s → s.owed ≡ 0 → c.number < length b.pool.names → p.x a ≡ Some t → has s.regs a ≡ true → (free : ℕ)
       → Went b n homes free free made at (GetConstant c a ∷ []) p s (equation t (Atom (atom_name b.pool c)) ∷ es) made es
@@ -90,7 +126,7 @@ module _ (b : Base) (n : ℕ) (homes : List Register) (apart : AreApart homes) w
     runs = (s, plain_of b (GetConstant c a) s o ∙ when_true _ s g, refl, l, refl);
     there = w;
     owed = o;
-    keeps = record { xs = λ i c m d. refl; regs = λ i f. f; frame = λ f. refl; shape = refl; more = λ f. f };
+    keeps = record { xs = λ i c m d. refl; regs = λ i f. f; frame = λ f. refl; shape = refl; more = λ y m h. h };
   }
 
   pub went_get_integer : (made : List Bool) (at : ℕ) (z : ℤ) (a : ℕ) (t : Term) (p : Places) (s : State) (es : List Equation) → At n homes made p s → s.owed ≡ 0 → p.x a ≡ Some t → has s.regs a ≡ true → (free : ℕ)
@@ -102,13 +138,13 @@ module _ (b : Base) (n : ℕ) (homes : List Register) (apart : AreApart homes) w
     runs = (s, plain_of b (GetInteger z a) s o ∙ when_true _ s g, refl, tt, refl);
     there = w;
     owed = o;
-    keeps = record { xs = λ i c m d. refl; regs = λ i f. f; frame = λ f. refl; shape = refl; more = λ f. f };
+    keeps = record { xs = λ i c m d. refl; regs = λ i f. f; frame = λ f. refl; shape = refl; more = λ y m h. h };
   }
 
   -- ---- a goal's argument
 
   wrote_keeps : (made : List Bool) (p : Places) (s : State) (r free : ℕ) (t : Term) → Keeps homes r free made made p (write p (X r) t) s (with_set s (X r))
-  wrote_keeps made p s r free t = record { xs = λ i c m d. put_else r t p.x i d; regs = λ i f. has_more r i s.regs f; frame = λ f. refl; shape = refl; more = λ f. f }
+  wrote_keeps made p s r free t = record { xs = λ i c m d. put_else r t p.x i d; regs = λ i f. has_more r i s.regs f; frame = λ f. refl; shape = refl; more = λ y m h. h }
 
   -- what a goal's argument leaves in its register
   pub record Put (r free : ℕ) (made : List Bool) (at : ℕ) (is : List Code) (p : Places) (s : State) (es : List Equation) (later : List Bool) (t : Term) : Type 0 where
@@ -116,45 +152,64 @@ module _ (b : Base) (n : ℕ) (homes : List Register) (apart : AreApart homes) w
     pub here : went.q.x r ≡ Some t
     pub set : has went.t.regs r ≡ true
 
-  pub put_variable_step : (made : List Bool) (at x r free : ℕ) (p : Places) (s : State) (es : List Equation) → At n homes made p s → s.owed ≡ 0 → x < length homes → Clear homes r
-      → Put r free made at (instruction homes made (put_variable x r) ∷ []) p s es (marked made x) (Var (n + x))
-  put_variable_step made at x r free p s es w o l c = by (is_made made x) refl
+  -- a variable that is made is put, unless it is there
+  pub put_variable_step : (made : List Bool) (at x r free : ℕ) (p : Places) (s : State) (es : List Equation) → At n homes made p s → s.owed ≡ 0 → x < length homes → is_made made x ≡ true → Lands homes r (Var x)
+      → Put r free made at (code_of homes made (put_variable x r ∷ [])) p s es (marked made x) (Var (n + x))
+  put_variable_step made at x r free p s es w o l e lands =
+      subst (λ f. Put r free made at ((if f then move_out (home homes x) r else PutVariable (home homes x) r ∷ []) ++ []) p s es (if f then made else slice_set made x true) (Var (n + x))) (sym e)
+      (by (is_register (home homes x) r) refl)
     where
-      by : (f : Bool) → is_made made x ≡ f → Put r free made at ((if f then PutValue (home homes x) r else PutVariable (home homes x) r) ∷ []) p s es (if f then made else slice_set made x true) (Var (n + x))
-      by true e = record {
+      clear : is_register (home homes x) r ≡ false → Clear homes r
+      clear f y m h =
+          let t : Var x ≡ Var y = lands y m h in
+          let same : x ≡ y = cc in
+          true≢false (sym (register_at (home homes x) r (ap (home homes) same ∙ h)) ∙ f)
+
+      by : (d : Bool) → is_register (home homes x) r ≡ d → Put r free made at ((if d then [] else PutValue (home homes x) r ∷ []) ++ []) p s es made (Var (n + x))
+      by true f =
+          let same : home homes x ≡ X r = register_is (home homes x) r f in record {
+            went = record { q = p; t = s; does = λ gs. does_nothing b at p es gs; runs = refl; there = w; owed = o; keeps = record { xs = λ i c m d. refl; regs = λ i f. f; frame = λ f. refl; shape = refl; more = λ y m h. h } };
+            here = subst (λ z. read p z ≡ Some (Var (n + x))) same (w.fits.held x l e);
+            set = subst (λ z. is_set s z ≡ true) same (w.tracks.set x l e);
+          }
+      by false f = record {
         went = record {
           q = write p (X r) (Var (n + x));
           t = with_set s (X r);
           does = λ gs. does_put_value b at (home homes x) r (Var (n + x)) p es gs (w.fits.held x l e);
           runs = (with_set s (X r), plain_of b (PutValue (home homes x) r) s o ∙ when_true _ (with_set s (X r)) (w.tracks.set x l e), refl, tt, refl);
-          there = at_wrote made p s w r (Var (n + x)) c;
+          there = at_wrote made p s w r (Var (n + x)) (clear f);
           owed = o;
           keeps = wrote_keeps made p s r free (Var (n + x));
         };
         here = put_here r (Var (n + x)) p.x;
         set = has_first r s.regs;
       }
-      by false e =
-          let mid : Places = write (learn p (n + x)) (home homes x) (Var (n + x)) in
-          let u : State = with_set s (home homes x) in record {
-            went = record {
-              q = write mid (X r) (Var (n + x));
-              t = with_set u (X r);
-              does = λ gs. does_put_variable b at (home homes x) r (n + x) p es gs (w.fits.fresh x l e);
-              runs = (with_set u (X r), plain_of b (PutVariable (home homes x) r) s o ∙ when_true _ (with_set u (X r)) (w.tracks.free x l e), refl, tt, refl);
-              there = at_wrote (slice_set made x true) mid u (at_made made p s w x l e) r (Var (n + x)) c;
-              owed = owed_of_set s (home homes x) ∙ o;
-              keeps = record {
-                xs = λ i c m d. put_else r (Var (n + x)) mid.x i d ∙ x_of_written (learn p (n + x)) (home homes x) (Var (n + x)) i (c x l);
-                regs = λ i f. has_more r i u.regs (regs_more s (home homes x) i f);
-                frame = λ f. absurd (true≢false (sym (f x l) ∙ e));
-                shape = shape_of_set s (home homes x);
-                more = λ f. more_made made x l w.long f;
-              };
-            };
-            here = put_here r (Var (n + x)) mid.x;
-            set = has_first r u.regs;
-          }
+
+  -- a variable is made
+  pub put_new_step : (made : List Bool) (at x r free : ℕ) (p : Places) (s : State) (es : List Equation) → At n homes made p s → s.owed ≡ 0 → x < length homes → is_made made x ≡ false → Clear homes r
+      → Put r free made at (PutVariable (home homes x) r ∷ []) p s es (slice_set made x true) (Var (n + x))
+  put_new_step made at x r free p s es w o l e c =
+      let mid : Places = write (learn p (n + x)) (home homes x) (Var (n + x)) in
+      let u : State = with_set s (home homes x) in record {
+        went = record {
+          q = write mid (X r) (Var (n + x));
+          t = with_set u (X r);
+          does = λ gs. does_put_variable b at (home homes x) r (n + x) p es gs (w.fits.fresh x l e);
+          runs = (with_set u (X r), plain_of b (PutVariable (home homes x) r) s o ∙ when_true _ (with_set u (X r)) (w.tracks.free x l e), refl, tt, refl);
+          there = at_wrote (slice_set made x true) mid u (at_made made p s w x l e) r (Var (n + x)) c;
+          owed = owed_of_set s (home homes x) ∙ o;
+          keeps = record {
+            xs = λ i c m d. put_else r (Var (n + x)) mid.x i d ∙ x_of_written (learn p (n + x)) (home homes x) (Var (n + x)) i (other_home made x i l w.long e c);
+            regs = λ i f. has_more r i u.regs (regs_more s (home homes x) i f);
+            frame = λ f. absurd (true≢false (sym (f x l) ∙ e));
+            shape = shape_of_set s (home homes x);
+            more = more_made made x l w.long;
+          };
+        };
+        here = put_here r (Var (n + x)) mid.x;
+        set = has_first r u.regs;
+      }
 
   pub put_constant_step : (made : List Bool) (at : ℕ) (k : AtomId) (r free : ℕ) (p : Places) (s : State) (es : List Equation) → At n homes made p s → s.owed ≡ 0 → k.number < length b.pool.names → Clear homes r
       → Put r free made at (PutConstant k r ∷ []) p s es made (Atom (atom_name b.pool k))
@@ -209,14 +264,14 @@ module _ (b : Base) (n : ℕ) (homes : List Register) (apart : AreApart homes) w
   record Unified (made : List Bool) (p : Places) (s : State) (later : List Bool) (q : Places) (t : State) : Type 0 where
     there : At n homes later q t
     owed : t.owed ≡ s.owed - 1
-    xs : (i : ℕ) → Clear homes i → q.x i ≡ p.x i
+    xs : (i : ℕ) → Spared homes made later i → q.x i ≡ p.x i
     regs : (i : ℕ) → has s.regs i ≡ true → has t.regs i ≡ true
     frame : AllMade homes made → t.frame ≡ s.frame
     shape : has_frame t.frame ≡ has_frame s.frame
-    more : AllMade homes made → AllMade homes later
+    more : Grows homes made later
 
   unified_same : (made : List Bool) (p : Places) (s : State) → At n homes made p s → Unified made p s made p (with_owed s (s.owed - 1))
-  unified_same made p s w = record { there = at_owed made p s w (s.owed - 1); owed = refl; xs = λ i c. refl; regs = λ i e. e; frame = λ f. refl; shape = refl; more = λ f. f }
+  unified_same made p s w = record { there = at_owed made p s w (s.owed - 1); owed = refl; xs = λ i c. refl; regs = λ i e. e; frame = λ f. refl; shape = refl; more = λ y m h. h }
 
   -- the rest of the arguments behind one
   behind : (made mid later : List Bool) (at : ℕ) (i : Code) (is : List Code) (t : Term) (ts : Terms) (p q : Places) (s u : State) → Unified made p s mid q u → effect (unplaced b) i s ≡ Some u → IsTrue (is_simple i) → IsThereIn b i
@@ -228,11 +283,11 @@ module _ (b : Base) (n : ℕ) (homes : List Register) (apart : AreApart homes) w
     runs = (u, e, simple, there, g.runs);
     there = g.there;
     owed = g.owed;
-    xs = λ j c. g.xs j c ∙ k.xs j c;
+    xs = λ j c. g.xs j (λ x l h e. k.more x l (c x l h e)) ∙ k.xs j (λ x l h e. c x l h (g.more x l e));
     regs = λ j h. g.regs j (k.regs j h);
-    frame = λ a. g.frame (k.more a) ∙ k.frame a;
+    frame = λ a. g.frame (λ x l. k.more x l (a x l)) ∙ k.frame a;
     shape = g.shape ∙ k.shape;
-    more = λ a. g.more (k.more a);
+    more = λ x l e. g.more x l (k.more x l e);
   }
 
   variable_part : (made : List Bool) (at x : ℕ) (ss : List Step) (ts : Terms) (p : Places) (s : State) (k : ℕ) → At n homes made p s → x < length homes → s.owed ≡ suc k
@@ -241,7 +296,7 @@ module _ (b : Base) (n : ℕ) (homes : List Register) (apart : AreApart homes) w
   variable_part made at x ss ts p s k w l o rest = by (is_made made x) refl
     where
       by : (f : Bool) → is_made made x ≡ f
-          → Gave b n homes made at ((if f then UnifyValue (home homes x) else UnifyVariable (home homes x)) ∷ code_of homes (if f then made else slice_set made x true) ss) p s (term (Var (n + x)) ts) (marked_by_all (if f then made else slice_set made x true) ss)
+          → Gave b n homes made at ((if f then UnifyValue (home homes x) ∷ [] else UnifyVariable (home homes x) ∷ []) ++ code_of homes (if f then made else slice_set made x true) ss) p s (term (Var (n + x)) ts) (marked_by_all (if f then made else slice_set made x true) ss)
       by true e =
           let u : State = with_owed s (s.owed - 1) in
           behind made made (marked_by_all made ss) at (UnifyValue (home homes x)) (code_of homes made ss) (Var (n + x)) ts p p s u (unified_same made p s w)
@@ -254,11 +309,11 @@ module _ (b : Base) (n : ℕ) (homes : List Register) (apart : AreApart homes) w
           let step : Unified made p s mid q u = record {
             there = at_made made p (with_owed s (s.owed - 1)) (at_owed made p s w (s.owed - 1)) x l e;
             owed = owed_of_set (with_owed s (s.owed - 1)) (home homes x);
-            xs = λ i c. x_of_written (learn p (n + x)) (home homes x) (Var (n + x)) i (c x l);
+            xs = λ i c. x_of_written (learn p (n + x)) (home homes x) (Var (n + x)) i (other_home made x i l w.long e c);
             regs = λ i h. regs_more (with_owed s (s.owed - 1)) (home homes x) i h;
             frame = λ a. absurd (true≢false (sym (a x l) ∙ e));
             shape = shape_of_set (with_owed s (s.owed - 1)) (home homes x);
-            more = λ a. more_made made x l w.long a;
+            more = more_made made x l w.long;
           } in
           behind made mid (marked_by_all mid ss) at (UnifyVariable (home homes x)) (code_of homes mid ss) (Var (n + x)) ts p q s u step
           (owing_of b (UnifyVariable (home homes x)) s k o ∙ when_true _ u (w.tracks.free x l e)) refl tt (rest mid q u step)
@@ -266,9 +321,9 @@ module _ (b : Base) (n : ℕ) (homes : List Register) (apart : AreApart homes) w
 
   pub parts_gave : (made : List Bool) (at j : ℕ) (ts : Terms) (p : Places) (s : State) → At n homes made p s → AllSuit b.pool (length homes) ts → s.owed ≡ count ts → InRegisters p s j ts → ((i : ℕ) → j ≤ i → Clear homes i)
       → Gave b n homes made at (code_of homes made (parts b.pool j ts)) p s (moved_all n ts) (marked_by_all made (parts b.pool j ts))
-  parts_gave made at j no_terms p s w o e g c = record { q = p; t = s; parts = no_parts b at p; runs = refl; there = w; owed = e; xs = λ i c. refl; regs = λ i h. h; frame = λ a. refl; shape = refl; more = λ a. a }
+  parts_gave made at j no_terms p s w o e g c = record { q = p; t = s; parts = no_parts b at p; runs = refl; there = w; owed = e; xs = λ i c. refl; regs = λ i h. h; frame = λ a. refl; shape = refl; more = λ y m h. h }
   parts_gave made at j (term (Var x) ts) p s w o e g c = variable_part made at x (parts b.pool j ts) (moved_all n ts) p s (count ts) w o.0 e (λ mid q u k.
-      parts_gave mid (suc at) j ts q u k.there o.1 (k.owed ∙ omega (arith, e)) (registers_kept p q s u j ts (λ i l m. k.xs i (c i l)) k.regs g) c)
+      parts_gave mid (suc at) j ts q u k.there o.1 (k.owed ∙ omega (arith, e)) (registers_kept p q s u j ts (λ i l m. k.xs i (clear_spared homes made mid i (c i l))) k.regs g) c)
   parts_gave made at j (term (Int z) ts) p s w o e g c =
       let u : State = with_owed s (s.owed - 1) in
       let k : Unified made p s made p u = unified_same made p s w in

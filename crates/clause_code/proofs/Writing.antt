@@ -10,7 +10,7 @@ use Rattle.term_pool.specs.Contents.{Contents, atom_name}
 use Rattle.term_pool.specs.Valid.{IsPool}
 use Rattle.wam_code.specs.declared.instruction.Register.{Register}
 use Rattle.wam_code.specs.declared.instruction.Code.{Code}
-use Rattle.clause_code.specs.Steps.{Step, get_variable, unify_variable, put_variable, is_made, marked, marked_by, marked_by_all, instruction, code_of, place_in, atom_of}
+use Rattle.clause_code.specs.Steps.{Step, get_variable, unify_variable, put_variable, is_made, marked, marked_by, marked_by_all, instructions, code_of, place_in, atom_of}
 use Rattle.clause_code.specs.Works.{Writes}
 use Rattle.clause_code.proofs.Going.{code_both, marked_both}
 
@@ -37,9 +37,9 @@ owes_less homes code new made later ss ts whole last o w = record {
   marks = ap (λ m. marked_by_all m ts) w.marks ∙ sym (marked_both made ss ts) ∙ o.marks;
 }
 
--- One instruction that makes no variable.
-pub writes_one : (homes : List Register) (code new : List Code) (made : List Bool) (s : Step) → new ≡ code ++ (instruction homes made s ∷ []) → marked_by made s ≡ made → Writes homes code made (s ∷ []) new made
-writes_one homes code new made s e m = record { codes = e; marks = sym m }
+-- One step that makes no variable.
+pub writes_one : (homes : List Register) (code new : List Code) (made : List Bool) (s : Step) → new ≡ code ++ instructions homes made s → marked_by made s ≡ made → Writes homes code made (s ∷ []) new made
+writes_one homes code new made s e m = record { codes = e ∙ ap (λ l. code ++ l) (sym (append-nil (instructions homes made s))); marks = sym m }
 
 pub marked_long : (made : List Bool) (x : ℕ) → length (marked made x) ≡ length made
 marked_long made x = by (is_made made x)

@@ -16,3 +16,4 @@ pub mod Simple
 pub mod Slots
 pub mod Sides
 pub mod Short
+pub mod Staying

@@ -1,5 +1,6 @@
 -- Clauses that need no frame: no goal stands in their bodies but a last user goal.
 use Rattle.std.specs.Prelude.{◌≡◌, ℕ, ◌+◌, ◌<◌, Bool, List, ◌∷◌, [], ◌++◌, Option, Some, None, length}
+use Rattle.fd_language.specs.Term.{Terms, no_terms}
 use Rattle.fd_model.specs.Constraining.{arguments}
 use Rattle.term_pool.specs.declared.TermId.{TermId}
 use Rattle.term_pool.specs.Contents.{Contents}
@@ -23,6 +24,11 @@ use Rattle.clause_code.specs.Whole.{head_code}
 abbrev pub IsShortBody : FlatProgram → Part → Option TermId → Type 0
 IsShortBody p a None = a.from ≡ a.to
 IsShortBody p a (Some t) = (a.to ≡ a.from + 1) × (goal_at p a.from ≡ flat.Call t)
+
+-- the arguments of the goal, if there is one
+abbrev pub last_arguments : Contents → Option TermId → Terms
+last_arguments c None = no_terms
+last_arguments c (Some t) = arguments (term_of c t)
 
 -- what the goals of a part are
 abbrev pub IsBody : FlatProgram → Part → Body → Type 0

@@ -1,11 +1,11 @@
 -- What the code of a clause does for its terms, step by step. A variable's first step makes it, in its home.
-use Rattle.std.specs.Prelude.{◌≡◌, ℕ, zero, suc, ℤ, ◌+◌, ◌<◌, ◌≤◌, Bool, true, if◌then◌else◌, List, [], ◌∷◌, ◌++◌, length, slice_index_or, slice_set}
+use Rattle.std.specs.Prelude.{◌≡◌, ℕ, zero, suc, ℤ, ◌+◌, ◌<◌, ◌≤◌, ◌==◌, Bool, true, false, if◌then◌else◌, List, [], ◌∷◌, ◌++◌, length, slice_index_or, slice_set}
 use Rattle.std.specs.Str.{bytes_eq}
 use Rattle.fd_language.specs.Term.{Name, Term, Terms, Var, Int, Atom, Comp, no_terms, term}
 use Rattle.term_pool.specs.declared.AtomId.{AtomId}
 use Rattle.term_pool.specs.Contents.{Contents, atom_name}
 use Rattle.wam_code.specs.declared.instruction.Register.{Register}
-use Rattle.wam_code.specs.declared.instruction.Register.TheVariants.{X}
+use Rattle.wam_code.specs.declared.instruction.Register.TheVariants.{X, Y}
 use Rattle.wam_code.specs.declared.instruction.Code.{Code}
 use Rattle.wam_code.specs.declared.instruction.Code.TheVariants.{GetVariable, GetValue, GetConstant, GetInteger, GetStructure, UnifyVariable, UnifyValue, UnifyConstant, UnifyInteger, PutVariable, PutValue, PutConstant, PutInteger, PutStructure}
 use Rattle.wam_code.specs.Places.{count}
@@ -47,23 +47,37 @@ abbrev pub marked_by_all : List Bool → List Step → List Bool
 marked_by_all made [] = made
 marked_by_all made (s ∷ ss) = marked_by_all (marked_by made s) ss
 
-abbrev pub instruction : List Register → List Bool → Step → Code
-instruction homes made (get_variable x a) = if is_made made x then GetValue (home homes x) a else GetVariable (home homes x) a
-instruction homes made (get_constant c a) = GetConstant c a
-instruction homes made (get_integer z a) = GetInteger z a
-instruction homes made (get_structure f n a) = GetStructure f n a
-instruction homes made (unify_variable x) = if is_made made x then UnifyValue (home homes x) else UnifyVariable (home homes x)
-instruction homes made (unify_register r) = UnifyValue (X r)
-instruction homes made (unify_constant c) = UnifyConstant c
-instruction homes made (unify_integer z) = UnifyInteger z
-instruction homes made (put_variable x a) = if is_made made x then PutValue (home homes x) a else PutVariable (home homes x) a
-instruction homes made (put_constant c a) = PutConstant c a
-instruction homes made (put_integer z a) = PutInteger z a
-instruction homes made (put_structure f n a) = PutStructure f n a
+-- it is the argument register a
+abbrev pub is_register : Register → ℕ → Bool
+is_register (X i) a = i == a
+is_register (Y i) a = false
+
+-- an argument becomes a variable's home, which is no instruction where it is its home
+abbrev pub move_in : Register → ℕ → List Code
+move_in r a = if is_register r a then [] else GetVariable r a ∷ []
+
+-- and a variable becomes an argument
+abbrev pub move_out : Register → ℕ → List Code
+move_out r a = if is_register r a then [] else PutValue r a ∷ []
+
+-- the instructions of a step, one or none
+abbrev pub instructions : List Register → List Bool → Step → List Code
+instructions homes made (get_variable x a) = if is_made made x then GetValue (home homes x) a ∷ [] else move_in (home homes x) a
+instructions homes made (get_constant c a) = GetConstant c a ∷ []
+instructions homes made (get_integer z a) = GetInteger z a ∷ []
+instructions homes made (get_structure f n a) = GetStructure f n a ∷ []
+instructions homes made (unify_variable x) = if is_made made x then UnifyValue (home homes x) ∷ [] else UnifyVariable (home homes x) ∷ []
+instructions homes made (unify_register r) = UnifyValue (X r) ∷ []
+instructions homes made (unify_constant c) = UnifyConstant c ∷ []
+instructions homes made (unify_integer z) = UnifyInteger z ∷ []
+instructions homes made (put_variable x a) = if is_made made x then move_out (home homes x) a else PutVariable (home homes x) a ∷ []
+instructions homes made (put_constant c a) = PutConstant c a ∷ []
+instructions homes made (put_integer z a) = PutInteger z a ∷ []
+instructions homes made (put_structure f n a) = PutStructure f n a ∷ []
 
 abbrev pub code_of : List Register → List Bool → List Step → List Code
 code_of homes made [] = []
-code_of homes made (s ∷ ss) = instruction homes made s ∷ code_of homes (marked_by made s) ss
+code_of homes made (s ∷ ss) = instructions homes made s ++ code_of homes (marked_by made s) ss
 
 -- ---- the steps of terms
 

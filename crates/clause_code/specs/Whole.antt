@@ -1,5 +1,5 @@
 -- The parts of a clause's code beside its goals.
-use Rattle.std.specs.Prelude.{◌≡◌, ◌⊎◌, ℕ, suc, ◌<◌, ◌≤◌, Bool, true, false, List, [], ◌∷◌, ◌++◌, length, replicate}
+use Rattle.std.specs.Prelude.{◌≡◌, ℕ, suc, ◌<◌, ◌≤◌, Bool, true, false, List, [], ◌∷◌, ◌++◌, length, replicate}
 use Rattle.fd_language.specs.Term.{Term, Terms}
 use Rattle.fd_model.specs.Constraining.{arguments}
 use Rattle.term_pool.specs.Contents.{Contents}
@@ -32,12 +32,12 @@ unmade homes = replicate (length homes) false
 abbrev pub head_code : Contents → List Register → ℕ → Terms → List Code
 head_code c homes free ts = code_of homes (unmade homes) (gets c 1 free ts) ++ fills homes free (marked_by_all (unmade homes) (gets c 1 free ts)) (length homes)
 
--- The variables have homes: slots of the frame, or argument registers behind the first k and before `free`.
+-- The variables have homes: slots of the frame, or argument registers before `free`, which is behind the first k.
 pub record IsHoused (homes : List Register) (framed : Bool) (slots k free : ℕ) : Type 0 where
   pub apart : (x y : ℕ) → x < length homes → y < length homes → home homes x ≡ home homes y → x ≡ y
   pub in_frame : framed ≡ true → (x : ℕ) → x < length homes → (i : ℕ) × (home homes x ≡ Y (suc i)) × (i < slots)
   pub in_registers : framed ≡ false → (x : ℕ) → x < length homes → (i : ℕ) × (home homes x ≡ X i)
-  pub clear : (i : ℕ) → (i ≤ k) ⊎ (free ≤ i) → (x : ℕ) → x < length homes → home homes x ≡ X i → ⊥
+  pub clear : (i : ℕ) → free ≤ i → (x : ℕ) → x < length homes → home homes x ≡ X i → ⊥
   pub above : k < free
 
 -- variable x in the slot x + 1

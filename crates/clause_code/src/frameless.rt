@@ -1,18 +1,18 @@
 //! The code of clauses that need no frame: no goal stands in their bodies but a last user goal.
-ghost use Rattle.std.specs.Prelude.{◌≡◌, ◌+◌, ◌≤◌, ◌<◌, [], ◌++◌, length, IfOk, IfSome, OnOk};
+ghost use Rattle.std.specs.Prelude.{◌≡◌, ◌+◌, ◌<◌, [], ◌++◌, length, All, IfSome, OnOk};
 ghost use Rattle.fd_model.specs.Constraining.{arguments};
-ghost use Rattle.term_pool.specs.Terms.{term_of};
+ghost use Rattle.term_pool.specs.Terms.{term_of, terms_by};
 ghost use Rattle.clause_check.specs.Programs.{IsPart, clause_at, clause_in};
-ghost use Rattle.wam_code.specs.Places.{count};
 ghost use Rattle.clause_code.specs.Predicates.{Appends, base_in};
 ghost use Rattle.clause_code.specs.Safe.{IsClauseCode};
-ghost use Rattle.clause_code.specs.Short.{GoesOn, InRegisters, IsBody, IsShort, IsShortBody};
+ghost use Rattle.clause_code.specs.Short.{GoesOn, IsBody, IsShort, IsShortBody, last_arguments};
 ghost use Rattle.clause_code.specs.Simple.{IsOwn};
 ghost use Rattle.clause_code.specs.Steps.{puts, code_of};
 ghost use Rattle.clause_code.specs.Whole.{unmade};
 
 use crate::heads::read_head;
 use crate::predicates::Predicates;
+use crate::staying::{added, arguments_of, find_homes};
 use crate::terms::{Work, put_all};
 use clause_check::{FlatGoal, Part, Program};
 use fd_language::NoMemory;
@@ -48,48 +48,16 @@ pub(crate) fn body_of(program: &Program, part: Part) -> Body
     }
 }
 
-/// How many arguments the term has.
-fn arity_of(pool: &Pool, t: TermId) -> usize
-    requires { t.number < length pool.now.entries }
-    ensures { result ≡ count (arguments (term_of pool.now t)) }
+/// The arguments of the goal, if there is one.
+fn goal_arguments<'p>(pool: &'p Pool, goal: Option<TermId>) -> &'p [TermId]
+    requires { IfSome goal (λ t. t.number < length pool.now.entries) }
+    ensures terms { terms_by (term_of pool.now) result.now ≡ last_arguments pool.now goal }
+    ensures own { All (λ u. u.number < length pool.now.entries) result.now }
 {
-    match pool.view(t) {
-        Node::Comp(_, parts) => parts.len(),
-        _ => 0,
-    }
-}
-
-/// How many arguments the head or the goal has, whichever has more.
-fn most_arguments(pool: &Pool, head: TermId, goal: Option<TermId>) -> usize
-    requires head { head.number < length pool.now.entries }
-    requires goal { IfSome goal (λ t. t.number < length pool.now.entries) }
-    ensures head { count (arguments (term_of pool.now head)) ≤ result }
-    ensures goal { IfSome goal (λ t. count (arguments (term_of pool.now t)) ≤ result) }
-{
-    let given = arity_of(pool, head);
     match goal {
-        Some(t) => given.max(arity_of(pool, t)),
-        None => given,
+        Some(t) => arguments_of(pool, t),
+        None => &[],
     }
-}
-
-/// Their sum. More registers than there are numbers are more than memory has.
-fn added(a: usize, b: usize) -> Result<usize, NoMemory>
-    ensures { IfOk result (λ s. s ≡ a + b) }
-{
-    a.checked_add(b).ok_or(NoMemory)
-}
-
-/// The registers from `first` on, before `free`.
-fn register_homes(alloc: Global, first: usize, free: usize) -> Result<Vec<Register>, NoMemory>
-    requires { first ≤ free }
-    ensures { IfOk result (λ h. InRegisters h.items first free) }
-{
-    let mut homes = Vec::new(alloc);
-    for register in first..free {
-        homes.push(Register::X(register))?;
-    }
-    Ok(homes)
 }
 
 /// The arguments of a goal into the first registers, by way of those from `free` on.
@@ -184,10 +152,12 @@ pub(crate) fn compile_short(
     program.known();
     let pool = program.pool();
     let head = program.head(c);
-    let given = most_arguments(pool, head, goal);
-    let first = added(given, 1)?;
-    let free = added(first, program.variables_of_clause(c))?;
-    let homes = register_homes(alloc, first, free)?;
+    let given = arguments_of(pool, head);
+    let wanted = goal_arguments(pool, goal);
+    let variables = program.variables_of_clause(c);
+    let first = added(given.len().max(wanted.len()), 1)?;
+    let free = added(first, variables)?;
+    let homes = find_homes(alloc, pool, given, wanted, variables, first, free)?;
     let mut made = vec![in alloc; false; homes.len()]?;
     let mut works = Vec::new(alloc);
     write_short(

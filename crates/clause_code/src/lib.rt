@@ -9,6 +9,7 @@ mod heads;
 pub mod laws;
 mod predicates;
 mod query;
+mod staying;
 mod terms;
 
 pub use crate::clause::compile_clause;

@@ -4,7 +4,7 @@ ghost use Rattle.fd_language.specs.Term.{Comp};
 ghost use Rattle.term_pool.specs.Contents.{atom_name};
 ghost use Rattle.term_pool.specs.Terms.{term_of, terms_by};
 ghost use Rattle.term_pool.specs.Valid.{IsPool};
-ghost use Rattle.clause_code.specs.Steps.{get_variable, unify_variable, put_variable, is_made, marked, behind as behind_term, compounds, part, parts, put, puts, get, gets, filled, fill, fills, Suits, AllSuit};
+ghost use Rattle.clause_code.specs.Steps.{get_variable, unify_variable, put_variable, is_made, marked, is_register, behind as behind_term, compounds, part, parts, put, puts, get, gets, filled, fill, fills, Suits, AllSuit};
 ghost use Rattle.clause_code.specs.Works.{Writes, closing, stack_steps, work_of, IsWork, Pushes, Opens, Turns};
 
 use fd_language::NoMemory;
@@ -33,7 +33,17 @@ fn mark(made: &mut Vec<bool>, x: usize) -> bool
     false
 }
 
-/// A head's argument that is a variable.
+/// Whether it is the argument register with this number.
+fn is_register(home: Register, argument: usize) -> bool
+    ensures { result ≡ is_register home argument }
+{
+    match home {
+        Register::X(register) => register == argument,
+        Register::Y(_) => false,
+    }
+}
+
+/// A head's argument that is a variable. Where the register becomes the variable's home, there is nothing to do.
 fn get_variable(
     homes: &[Register],
     made: &mut Vec<bool>,
@@ -49,7 +59,7 @@ fn get_variable(
     let home = homes[x];
     if mark(made, x) {
         code.push(Code::GetValue(home, argument))?;
-    } else {
+    } else if !is_register(home, argument) {
         code.push(Code::GetVariable(home, argument))?;
     }
     Ok(())
@@ -76,7 +86,7 @@ fn unify_variable(
     Ok(())
 }
 
-/// A goal's argument that is a variable.
+/// A goal's argument that is a variable. Where it is in the register, there is nothing to do.
 pub(crate) fn put_variable(
     homes: &[Register],
     made: &mut Vec<bool>,
@@ -90,10 +100,10 @@ pub(crate) fn put_variable(
         (put_variable x argument ∷ []) code.new.items made.new.items) }
 {
     let home = homes[x];
-    if mark(made, x) {
-        code.push(Code::PutValue(home, argument))?;
-    } else {
+    if !mark(made, x) {
         code.push(Code::PutVariable(home, argument))?;
+    } else if !is_register(home, argument) {
+        code.push(Code::PutValue(home, argument))?;
     }
     Ok(())
 }

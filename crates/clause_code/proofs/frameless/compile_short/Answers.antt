@@ -1,56 +1,88 @@
-use Rattle.std.proofs.Common.{◌≡◌, ◌≤◌, IfSome, length, sym, subst, arith}
+use Rattle.std.proofs.Common.{◌≡◌, ◌≤◌, ◌<◌, ◌∙◌, IfSome, ap, length, sym, subst, arith}
 use Rattle.fd_model.specs.Constraining.{arguments}
 use Rattle.term_pool.specs.declared.TermId.{TermId}
 use Rattle.term_pool.specs.Contents.{Contents}
-use Rattle.term_pool.specs.Terms.{term_of}
+use Rattle.term_pool.specs.Terms.{term_of, terms_by}
 use Rattle.clause_check.specs.Programs.{clause_at}
 use Rattle.wam_code.specs.Places.{count}
-use Rattle.clause_code.specs.Short.{InRegisters, IsShort}
+use Rattle.clause_code.specs.Short.{last_arguments, IsShort}
 use Rattle.clause_code.specs.Simple.{IsOwn}
-use Rattle.clause_code.proofs.Short.{short_housed, head_there, goals_own, short_written}
+use Rattle.clause_code.specs.Staying.{AreHomes}
+use Rattle.clause_code.specs.Steps.{AllSuit}
+use Rattle.clause_code.proofs.Rests.{count_terms}
+use Rattle.clause_code.proofs.Short.{short_housed, head_here, goals_here, goal_suits, goal_fewer, few_arguments, short_written}
+use Rattle.clause_code.proofs.Simples.{arguments_suit}
 use Rattle.clause_code.proofs.frameless.compile_short.Goals as goal
+
+pub find_homes-requires-clause-head_suits : goal.find_homes-requires-clause-head_suits
+find_homes-requires-clause-head_suits c =
+    let q = c.pool-pool.result.now in
+    let n = c.variables_of_clause-variables.result in
+    let own = head_here c.args.program.now c.known.ensures c.args.c c.requires.clause q c.pool-pool.ensures n c.variables_of_clause-variables.ensures c.head-head.result c.head-head.ensures.head in
+    subst (AllSuit q n) (sym c.arguments_of-given.ensures.terms) (arguments_suit q n (term_of q c.head-head.result) own.1)
+
+pub find_homes-requires-clause-head_few : goal.find_homes-requires-clause-head_few
+find_homes-requires-clause-head_few c =
+    let q = c.pool-pool.result.now in
+    let n = c.variables_of_clause-variables.result in
+    let own = head_here c.args.program.now c.known.ensures c.args.c c.requires.clause q c.pool-pool.ensures n c.variables_of_clause-variables.ensures c.head-head.result c.head-head.ensures.head in
+    let few = few_arguments q n (term_of q c.head-head.result) own.1 in
+    let long = count_terms (term_of q) c.arguments_of-given.result.now in
+    let same = ap count c.arguments_of-given.ensures.terms in
+    omega (arith, few, long, same)
+
+pub find_homes-requires-clause-goal_suits : goal.find_homes-requires-clause-goal_suits
+find_homes-requires-clause-goal_suits c =
+    let q = c.pool-pool.result.now in
+    let n = c.variables_of_clause-variables.result in
+    let own = goals_here c.args.program.now c.known.ensures c.args.c c.requires.clause q c.pool-pool.ensures n c.variables_of_clause-variables.ensures c.args.goal c.requires.body in
+    subst (AllSuit q n) (sym c.goal_arguments-wanted.ensures.terms) (goal_suits q n c.args.goal own)
 
 pub write_short-requires-clause-own : goal.write_short-requires-clause-own
 write_short-requires-clause-own c =
-    let p = c.args.program.now in
-    let homes = c.deref.result.now in
-    let r : InRegisters homes c.in_ok-first.first c.in_ok-free.free = subst (λ h. InRegisters h c.in_ok-first.first c.in_ok-free.free) (sym c.deref.ensures.value) c.in_ok-homes.ensures in
-    let n = r.long in
-    let f = c.in_ok-free.ensures in
-    let v = c.variables_of_clause.ensures in
-    let long : length homes ≡ (clause_at p c.args.c).variables = omega (arith, n, f, v) in
-    subst (λ (q : Contents). IsOwn q (length homes) c.head-head.result) (sym c.pool-pool.ensures)
-    (subst (λ (t : TermId). IsOwn p.pool (length homes) t) (sym c.head-head.ensures.head) (head_there p c.known.ensures c.args.predicates.now homes c.args.c c.requires.clause long))
+    let q = c.pool-pool.result.now in
+    let n = c.variables_of_clause-variables.result in
+    let own = head_here c.args.program.now c.known.ensures c.args.c c.requires.clause q c.pool-pool.ensures n c.variables_of_clause-variables.ensures c.head-head.result c.head-head.ensures.head in
+    subst (λ m. IsOwn q m c.head-head.result) (sym (ap length c.deref.ensures.value ∙ c.in_ok-homes.ensures.long)) own
 
 pub write_short-requires-clause-goal : goal.write_short-requires-clause-goal
 write_short-requires-clause-goal c =
-    let p = c.args.program.now in
-    let homes = c.deref.result.now in
-    let r : InRegisters homes c.in_ok-first.first c.in_ok-free.free = subst (λ h. InRegisters h c.in_ok-first.first c.in_ok-free.free) (sym c.deref.ensures.value) c.in_ok-homes.ensures in
-    let n = r.long in
-    let f = c.in_ok-free.ensures in
-    let v = c.variables_of_clause.ensures in
-    let long : length homes ≡ (clause_at p c.args.c).variables = omega (arith, n, f, v) in
-    subst (λ (q : Contents). IfSome c.args.goal (IsOwn q (length homes))) (sym c.pool-pool.ensures) (goals_own p c.known.ensures c.args.predicates.now homes c.args.c c.requires.clause long c.args.goal c.requires.body)
+    let q = c.pool-pool.result.now in
+    let n = c.variables_of_clause-variables.result in
+    let own = goals_here c.args.program.now c.known.ensures c.args.c c.requires.clause q c.pool-pool.ensures n c.variables_of_clause-variables.ensures c.args.goal c.requires.body in
+    subst (λ m. IfSome c.args.goal (IsOwn q m)) (sym (ap length c.deref.ensures.value ∙ c.in_ok-homes.ensures.long)) own
 
 pub returns : goal.returns
 returns c =
     let p = c.args.program.now in
     let ps = c.args.predicates.now in
+    let q = c.pool-pool.result.now in
+    let found = c.in_ok-homes.homes.items in
     let homes = c.deref.result.now in
     let free = c.in_ok-free.free in
-    let given = c.most_arguments-given.result in
+    let k = c.max.result in
+    let m = c.max.ensures in
     let old = c.args.code.now.items in
     let new = c.write_short.new.code.items in
-    let r : InRegisters homes c.in_ok-first.first free = subst (λ h. InRegisters h c.in_ok-first.first free) (sym c.deref.ensures.value) c.in_ok-homes.ensures in
-    let n = r.long in
+    let head = c.arguments_of-given.result.now in
+    let goal = c.goal_arguments-wanted.result.now in
+    let ts = arguments (term_of p.pool (clause_at p c.args.c).head) in
+    let us = last_arguments p.pool c.args.goal in
+    let head_is : terms_by (term_of q) head ≡ ts =
+    c.arguments_of-given.ensures.terms ∙ ap (λ (d : Contents). arguments (term_of d c.head-head.result)) c.pool-pool.ensures ∙ ap (λ (t : TermId). arguments (term_of p.pool t)) c.head-head.ensures.head in
+    let goal_is : terms_by (term_of q) goal ≡ us = c.goal_arguments-wanted.ensures.terms ∙ ap (λ (d : Contents). last_arguments d c.args.goal) c.pool-pool.ensures in
+    let all : AreHomes homes free ts us =
+    subst (λ h. AreHomes h free ts us) (sym c.deref.ensures.value) (subst (λ x. AreHomes found free x us) head_is (subst (λ x. AreHomes found free (terms_by (term_of q) head) x) goal_is c.in_ok-homes.ensures.homes)) in
+    let long : length homes ≡ (clause_at p c.args.c).variables = ap length c.deref.ensures.value ∙ c.in_ok-homes.ensures.long ∙ c.variables_of_clause-variables.ensures in
+    let head_long = count_terms (term_of q) head in
+    let head_same = ap count head_is in
+    let few : count ts ≤ k = omega (arith, m, head_long, head_same) in
+    let goal_long = count_terms (term_of q) goal in
+    let goal_same = ap count goal_is in
+    let fewer = goal_fewer p.pool k c.args.goal (omega (arith, m, goal_long, goal_same)) in
     let f = c.in_ok-free.ensures in
-    let v = c.variables_of_clause.ensures in
-    let long : length homes ≡ (clause_at p c.args.c).variables = omega (arith, n, f, v) in
-    let m = c.most_arguments-given.ensures in
-    let few : count (arguments (term_of p.pool (clause_at p c.args.c).head)) ≤ given =
-    subst (λ (t : TermId). count (arguments (term_of p.pool t)) ≤ given) c.head-head.ensures.head (subst (λ (q : Contents). count (arguments (term_of q c.head-head.result)) ≤ given) c.pool-pool.ensures m.head) in
-    let fewer = subst (λ (q : Contents). IfSome c.args.goal (λ t. count (arguments (term_of q t)) ≤ given)) c.pool-pool.ensures m.goal in
+    let o = c.in_ok-first.ensures in
+    let above : k < free = omega (arith, f, o) in
     let written =
-    subst (λ (t : TermId). IsShort p.pool ps homes free t c.args.goal old new) c.head-head.ensures.head (subst (λ (q : Contents). IsShort q ps homes free c.head-head.result c.args.goal old new) c.pool-pool.ensures c.in_ok-write_short.ensures) in
-    short_written p c.known.ensures ps homes c.args.c c.requires.clause long given free (short_housed homes given c.in_ok-first.first free r c.in_ok-first.ensures) few c.args.start old new c.args.goal c.requires.body fewer written
+    subst (λ (t : TermId). IsShort p.pool ps homes free t c.args.goal old new) c.head-head.ensures.head (subst (λ (d : Contents). IsShort d ps homes free c.head-head.result c.args.goal old new) c.pool-pool.ensures c.in_ok-write_short.ensures) in
+    short_written p c.known.ensures ps homes c.args.c c.requires.clause long k free (short_housed homes k free ts us all above) few all.waits c.args.start old new c.args.goal c.requires.body fewer all.lands written
