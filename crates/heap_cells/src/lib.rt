@@ -4,9 +4,11 @@
 //! variable that is older than the newest mark is saved on the trail before it changes.
 #![tactic(auto)]
 
-ghost use Rattle.std.specs.Prelude.{◌≡◌, ◌<◌, ◌≤◌, [], ◌∷◌, ◌++◌, length, length as count, take, drop, slice_set, Ok, false, IfOk, OnOk, OnErr, All, reverse, MatchOption, IsTrue, ◌↔◌};
+ghost use Rattle.std.specs.Vec.{vec_len, vec_capacity};
+ghost use Rattle.std.specs.Prelude.{◌≡◌, ◌+◌, ◌<◌, ◌≤◌, [], ◌∷◌, ◌++◌, length, length as count, take, drop, slice_set, Ok, false, IfSome, IfOk, OnOk, OnErr, All, reverse, MatchOption, IsTrue, ◌↔◌};
 ghost use Rattle.heap_cells.specs.declared.Cell.TheVariants as cell;
-ghost use Rattle.heap_cells.specs.Cells.{free, linked, bound, is_bound, no_cells, slot_at, IsOf, with_slot, with_new_slot, with_now, with_mark, AddsCompound};
+ghost use Rattle.heap_cells.specs.declared.Seen.TheVariants as seen;
+ghost use Rattle.heap_cells.specs.Cells.{Cells, free, linked, bound, is_bound, no_cells, slot_at, IsOf, with_slot, with_new_slot, with_now, with_mark, AddsCompound};
 ghost use Rattle.heap_cells.specs.Terms.{KeepsTerms, Same, IsAbsent, Replaces};
 ghost use Rattle.heap_cells.specs.Valid.{IsHeap};
 ghost use Rattle.heap_cells.specs.Stored.{slot_of, trailed, saved_at, restored};
@@ -127,6 +129,17 @@ fn binding_of(v: Variable) -> Option<Cell>
     }
 }
 
+/// A cell, if it is no variable.
+#[inline(always)]
+fn no_variable(c: Cell) -> Option<Cell>
+    ensures { (h : Cells) → IfSome result (λ r. (r ≡ c) × IsRoot h r) }
+{
+    match c {
+        Cell::Ref(_) => None,
+        Cell::Int(_) | Cell::Atom(_) | Cell::Struct(_) => Some(c),
+    }
+}
+
 /// Puts a variable on the trail.
 #[inline(never)]
 fn save(trail: &mut Vec<Saved>, at: usize, was: Variable) -> Result<(), NoMemory>
@@ -139,7 +152,7 @@ fn save(trail: &mut Vec<Saved>, at: usize, was: Variable) -> Result<(), NoMemory
 }
 
 /// Changes a variable, which is saved where it is older than the newest mark.
-#[inline]
+#[inline(always)]
 fn change(
     variables: &mut Vec<Variable>,
     trail: &mut Vec<Saved>,
@@ -162,6 +175,44 @@ fn change(
         save(trail, at, variables[at])?;
     }
     variables[at] = to;
+    Ok(())
+}
+
+/// Makes room for so many more behind a list. The error is want of memory.
+#[inline(never)]
+fn make_room<T>(list: &mut Vec<T>, count: usize) -> Result<(), NoMemory>
+    ensures items { list.new.items ≡ list.old.items }
+    ensures room { OnOk result (vec_len list.new + count ≤ vec_capacity list.new) }
+{
+    list.reserve(count)?;
+    Ok(())
+}
+
+/// Puts copies of cells, which are few, behind the others. The error is want of memory.
+#[inline(always)]
+fn push_copies(cells: &mut Vec<Cell>, more: &[Cell]) -> Result<(), NoMemory>
+    ensures copied { OnOk result (cells.new.items ≡ cells.old.items ++ more.now) }
+    ensures err { OnErr result (cells.new.items ≡ cells.old.items) }
+{
+    if cells.capacity() - cells.len() < more.len() {
+        make_room(cells, more.len())?;
+    }
+    for cell in more {
+        cells.push_reserved(*cell);
+    }
+    Ok(())
+}
+
+/// Puts an item behind the others. The error is want of memory.
+#[inline(always)]
+fn append<T: Copy>(list: &mut Vec<T>, item: T) -> Result<(), NoMemory>
+    ensures added { OnOk result (list.new.items ≡ list.old.items ++ item ∷ []) }
+    ensures err { OnErr result (list.new.items ≡ list.old.items) }
+{
+    if list.len() == list.capacity() {
+        make_room(list, 1)?;
+    }
+    list.push_reserved(item);
     Ok(())
 }
 
@@ -227,6 +278,56 @@ impl Heap {
         at
     }
 
+    /// The cell at the end of a cell's bindings where there is at most one. No memory.
+    #[inline(always)]
+    pub fn near_root(&self, c: Cell) -> Option<Cell>
+        requires { IsOf self.now.now c }
+        ensures root { IfSome result (IsRoot self.now.now) }
+        ensures same { IfSome result (Same self.now.now c) }
+        ensures valid { IsHeap self.now.now }
+    {
+        let variables = &self.variables;
+        let Cell::Ref(i) = c else {
+            return Some(c);
+        };
+        match binding_of(variables[i]) {
+            Some(next) => no_variable(next),
+            None => Some(c),
+        }
+    }
+
+    /// The integer that a cell is, or that it is bound to without other bindings. No memory.
+    #[inline(always)]
+    pub fn near_int(&self, c: Cell) -> Option<i64>
+        requires { IsOf self.now.now c }
+        ensures { IfSome result (λ z. Same self.now.now c (cell.Int z)) }
+    {
+        match c {
+            Cell::Int(z) => Some(z),
+            Cell::Ref(i) => match self.variables[i] {
+                Variable::Int(z) => Some(z),
+                _ => None,
+            },
+            _ => None,
+        }
+    }
+
+    /// The open variable that a cell comes to, if it comes to one. No memory.
+    #[inline(always)]
+    pub fn open_root(&self, c: Cell) -> Option<usize>
+        requires { IsOf self.now.now c }
+        ensures open { IfSome result (λ i. IsSeen self.now.now c (seen.Open i)) }
+        ensures valid { IsHeap self.now.now }
+    {
+        match self.root(c) {
+            Cell::Ref(i) => match self.variables[i] {
+                Variable::Open => Some(i),
+                _ => None,
+            },
+            _ => None,
+        }
+    }
+
     /// What a cell of this heap comes to. No memory.
     #[inline]
     pub fn deref(&self, c: Cell) -> Seen<'_>
@@ -259,11 +360,12 @@ impl Heap {
         ensures valid { IsHeap self.new.now }
     {
         let i = self.variables.len();
-        self.variables.push(Variable::Open)?;
+        append(&mut self.variables, Variable::Open)?;
         Ok(Cell::Ref(i))
     }
 
     /// A new compound term. The error is want of memory, and the heap is then as before.
+    #[inline]
     pub fn new_struct(&mut self, f: AtomId, args: &[Cell]) -> Result<Cell, NoMemory>
         requires { All (IsOf self.old.now) args.now }
         ensures id { IfOk result (λ c. c ≡ cell.Struct (length self.old.now.compounds)) }
@@ -274,12 +376,13 @@ impl Heap {
     {
         let j = self.structures.len();
         let first = self.args.len();
-        self.args.extend_from_slice(args)?;
-        self.structures.push(Structure {
+        push_copies(&mut self.args, args)?;
+        let structure = Structure {
             name: f,
             first,
             count: args.len(),
-        })?;
+        };
+        append(&mut self.structures, structure)?;
         Ok(Cell::Struct(j))
     }
 
@@ -339,7 +442,7 @@ impl Heap {
             structures: self.structures.len(),
             trail: self.trail.len(),
         };
-        self.marks.push(here)?;
+        append(&mut self.marks, here)?;
         Ok(())
     }
 

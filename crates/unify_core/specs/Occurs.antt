@@ -4,7 +4,8 @@ use Rattle.term_pool.specs.Terms.{sizes}
 use Rattle.heap_cells.specs.declared.Cell.{Cell}
 use Rattle.heap_cells.specs.declared.Cell.TheVariants as cell
 use Rattle.heap_cells.specs.Cells.{Cells, IsOf}
-use Rattle.heap_cells.specs.Terms.{Naming, term_of, terms_by, occurs_any}
+use Rattle.heap_cells.specs.Terms.{Naming, Same, term_of, terms_by, occurs_any}
+use Rattle.heap_cells.specs.Seen.{IsRoot}
 use Rattle.unify_core.specs.Effort.{unnamed}
 
 -- those ahead, and the last one, where there is one
@@ -31,6 +32,10 @@ IsOther var (cell.Ref i) = i ≢ var
 IsOther var (cell.Int z) = Unit {0}
 IsOther var (cell.Atom a) = Unit {0}
 IsOther var (cell.Struct j) = ⊥
+
+-- the cell comes to a constant, or to a variable other than this one
+abbrev pub ComesToOther : Cells → ℕ → Cell → Type 0
+ComesToOther h var c = (root : Cell) × IsRoot h root × Same h c root × IsOther var root
 
 -- More compound terms are ahead: the variable occurs in one of them exactly where it occurs in one of the cells.
 pub record LeavesAhead (h : Cells) (var : ℕ) (cells : List Cell) (old new : List ℕ) : Type 0 where

@@ -9,7 +9,7 @@ ghost use Rattle.heap_cells.specs.Terms.{IsAbsent};
 ghost use Rattle.heap_cells.specs.Valid.{IsHeap};
 ghost use Rattle.unify_core.specs.Reduces.{IsOwn, IsSameSize};
 ghost use Rattle.unify_core.specs.Outcome.{IfTrue, IfFalse, IfYes, IfNo, IsDone, IsHopeless, IsBinding, IsInfinite, IsSymbolicCell, TellsOccurs, TellsTouch, paired};
-ghost use Rattle.unify_core.specs.Occurs.{OccursAmong, LeavesAhead, IsOther, IsAbsentAmong};
+ghost use Rattle.unify_core.specs.Occurs.{OccursAmong, LeavesAhead, IsOther, ComesToOther, IsAbsentAmong};
 ghost use Rattle.unify_core.specs.Unified.{AreUnified, CannotUnify, KeepsAtoms, IsEqualled};
 
 use fd_language::NoMemory;
@@ -149,14 +149,27 @@ fn is_other(var: usize, root: Cell) -> bool
     }
 }
 
-/// Whether all these cells come to constants, or to variables other than this one.
+/// Whether a look at a cell shows that it comes to a constant, or to a variable other than this one.
+#[inline(always)]
+fn is_soon_other(heap: &Heap, var: usize, c: Cell) -> bool
+    requires { IsOf heap.now.now c }
+    ensures other { IsTrue result → ComesToOther heap.now.now var c }
+    ensures valid { IsHeap heap.now.now }
+{
+    match heap.near_root(c) {
+        Some(root) => is_other(var, root),
+        None => false,
+    }
+}
+
+/// Whether looks at these cells show that all come to constants, or to variables other than this one.
 #[inline(always)]
 fn are_others(heap: &Heap, var: usize, cells: &[Cell]) -> bool
     requires { All (IsOf heap.now.now) cells.now }
     ensures { IsTrue result → IsAbsentAmong heap.now.now var cells.now }
 {
     for c in cells {
-        if !is_other(var, heap.root(*c)) {
+        if !is_soon_other(heap, var, *c) {
             return false;
         }
     }
@@ -353,19 +366,20 @@ pub fn unify_into(
     ensures below { heap.new.below ≡ heap.old.below }
 {
     let right = heap.root(b);
-    match heap.deref(a) {
-        Seen::Open(i) => {
-            if is_apart(heap, i, right) {
-                heap.bind(i, right)?;
-                return Ok(true);
-            }
+    if let Some(i) = heap.open_root(a) {
+        if is_apart(heap, i, right) {
+            heap.bind(i, right)?;
+            return Ok(true);
         }
-        Seen::Int(x) => {
+        return unify_pairs(heap, alloc, a, b, touches);
+    }
+    match heap.root(a) {
+        Cell::Int(x) => {
             if let Cell::Int(y) = right {
                 return Ok(x == y);
             }
         }
-        Seen::Atom(x) => {
+        Cell::Atom(x) => {
             if let Cell::Atom(y) = right {
                 return Ok(x == y);
             }

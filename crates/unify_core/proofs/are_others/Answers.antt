@@ -6,7 +6,8 @@ use Rattle.unify_core.proofs.are_others.Goals as goal
 
 pub loop-c-preserved : goal.loop-c-preserved
 loop-c-preserved c =
-    others_next c.args.heap.now.now c.root.ensures.valid c.args.var c.args.cells.now c.loop-c.c-index _ c.root.result c.loop-c-test.true c.loop-c.invariant c.root.ensures.root c.root.ensures.same (c.is_other.ensures (search rules))
+    let k = c.is_soon_other.ensures.other (search rules) in
+    others_next c.args.heap.now.now c.is_soon_other.ensures.valid c.args.var c.args.cells.now c.loop-c.c-index _ k.0 c.loop-c-test.true c.loop-c.invariant k.1 k.2 k.3
 
 pub returns : goal.returns
 returns c = λ t. subst (IsAbsentAmong c.args.heap.now.now c.args.var) (take_all c.loop-c.c-index c.args.cells.now c.loop-c-test.false) c.loop-c.invariant
