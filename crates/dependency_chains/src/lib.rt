@@ -107,7 +107,7 @@ fn ends(domain: &Domain) -> (u32, u32)
     ensures greatest { result.1 ≡ greatest domain.now }
     ensures several { not (result.0 == result.1) ≡ is_several domain.now }
 {
-    domain.bounds().unwrap()
+    (domain.least(), domain.greatest())
 }
 
 impl Change {

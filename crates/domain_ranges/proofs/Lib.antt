@@ -5,6 +5,7 @@ pub mod Meeting
 pub mod Integers
 pub mod Joining
 pub mod Outcomes
+pub mod Ends
 pub mod Places
 pub mod Gaps
 pub mod Cutting

@@ -3,6 +3,7 @@ use Rattle.std.specs.Prelude.{◌≡◌, ℕ, suc, ◌+◌, ◌-◌, ◌≤◌, 
 use Rattle.std.specs.List.{list_any}
 use Rattle.fd_language.specs.declared.TheConstants.{INFINITY}
 use Rattle.fd_language.specs.Family.{has, count_up}
+use Rattle.fd_language.specs.Range.{least, greatest}
 
 -- an interval, from its least to its greatest number
 abbrev pub Span : Type 0
@@ -67,3 +68,9 @@ pub record AreFromBelow (ss : List Span) (last : Option Span) (capacity : ℕ) :
   pub spans : IsSpans 0 INFINITY (ss ++ listed last)
   pub alone : last ≡ None → ss ≡ []
   pub room : 2 ≤ capacity
+
+-- intervals that rise and don't touch, with their least and their greatest number, which are 0 where there is none
+pub record AreWithEnds (ss : List Span) (ends : ℕ × ℕ) : Type 0 where
+  pub spans : IsSpans 0 INFINITY ss
+  pub least : ends.0 ≡ least (members ss)
+  pub greatest : ends.1 ≡ greatest (members ss)

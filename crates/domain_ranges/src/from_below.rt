@@ -62,6 +62,6 @@ impl Rising {
         ensures no_memory { OnErr result (2 < interval_count self) }
     {
         let list = intervals::close(self.list, self.last)?;
-        Ok(Domain { list })
+        Ok(Domain::of_list(list))
     }
 }

@@ -1,7 +1,7 @@
 //! Lists of intervals that rise and don't touch.
 
 ghost use Rattle.std.specs.Prelude.{◌≡◌, ◌<◌, ◌≤◌, ◌+◌, ◌&&◌, ◌||◌, not, ◌==◌, ◌*◌, ◌^◌, ◌<ℤ◌, neg_ℤ, IsTrue, IsSome, ℕ, Bool, false, [], ◌∷◌, ◌++◌, length, pos, int_le, nat_le, slice_index_or, max, min, filter, IfSome, IfNone, IfOk, OnOk, OnErr};
-ghost use Rattle.domain_ranges.specs.Spans.{Span, within, IsSpans, members, interval_count, meet, listed, written, joined, gap, shifted, scaled};
+ghost use Rattle.domain_ranges.specs.Spans.{Span, within, IsSpans, AreWithEnds, members, interval_count, meet, listed, written, joined, gap, shifted, scaled};
 ghost use Rattle.fd_language.specs.Family.{universe};
 ghost use Rattle.domain_ranges.specs.Waiting.{numbers, AreIntervals, AreRising};
 
@@ -86,18 +86,14 @@ pub fn is_inside(a: &[(u32, u32)], b: &[(u32, u32)]) -> bool
     true
 }
 
-/// Whether some number of the intervals is below or above the bounds.
-#[inline(always)]
-pub fn is_cut(spans: &[(u32, u32)], bounds: (u32, u32)) -> bool
+/// The least and the greatest number of the intervals, and 0 where there is none.
+pub fn ends(spans: &[(u32, u32)]) -> (u32, u32)
     requires { IsSpans 0 INFINITY spans.now }
-    ensures no { result ≡ false → (n : ℕ) → IsTrue (within spans.now n)
-        → IsTrue (within (bounds ∷ []) n) }
-    ensures yes { IsTrue result
-        → (n : ℕ) × IsTrue (within spans.now n) × (within (bounds ∷ []) n ≡ false) }
+    ensures { AreWithEnds spans.now result }
 {
     match spans {
-        [] => false,
-        [first, ..] => first.0 < bounds.0 || bounds.1 < spans[spans.len() - 1].1,
+        [] => (0, 0),
+        [first, ..] => (first.0, spans[spans.len() - 1].1),
     }
 }
 

@@ -21,23 +21,24 @@ use std::marker::Model;
 
 /// A set of numbers from 0 to `INFINITY`: the values that a variable may have.
 ///
-/// It is held as a strictly rising list of intervals that neither overlap nor touch. The first two take no memory:
-/// a call that makes a set gives `NoMemory` only where the set has more than two intervals.
+/// It is held as a strictly rising list of intervals that neither overlap nor touch, with the ends beside it. The first two
+/// intervals take no memory: a call that makes a set gives `NoMemory` only where the set has more than two intervals.
 #[derive(Drop)]
 pub struct Domain {
+    ends: (u32, u32),
     list: SmallVec<(u32, u32), 2>,
 }
 
 impl Model for Domain {
     ghost use Rattle.std.specs.Prelude.{ℕ, List};
     ghost use Rattle.fd_language.specs.declared.TheConstants.{INFINITY};
-    ghost use Rattle.domain_ranges.specs.Spans.{IsSpans, members};
+    ghost use Rattle.domain_ranges.specs.Spans.{members, AreWithEnds};
 
     ghost Value = { List ℕ };
 
     ghost view = { λ d. members d.list.items };
 
-    ghost invariant = { λ d. IsSpans 0 INFINITY d.list.items };
+    ghost invariant = { λ d. AreWithEnds d.list.items d.ends };
 }
 
 /// What is left of a set of values.
@@ -75,6 +76,7 @@ impl Domain {
         ensures { result ≡ [] }
     {
         Domain {
+            ends: (0, 0),
             list: SmallVec::new(alloc),
         }
     }
@@ -97,7 +99,7 @@ impl Domain {
         ensures no_memory { OnErr result (2 < interval_count self.now) }
     {
         let list = SmallVec::from_slice(*self.list.allocator(), self.spans())?;
-        Ok(Domain { list })
+        Ok(Domain::of_list(list))
     }
 
     /// The numbers in both sets.
@@ -108,7 +110,7 @@ impl Domain {
         ensures no_memory { OnErr result (2 < interval_count (filter (has other.now) self.now)) }
     {
         let list = intervals::meet_all(*self.list.allocator(), self.spans(), other.spans())?;
-        Ok(Domain { list })
+        Ok(Domain::of_list(list))
     }
 
     /// The numbers in one of the two sets, or in both.
@@ -119,7 +121,7 @@ impl Domain {
             (filter (λ n. has self.now n || has other.now n) (universe INFINITY))) }
     {
         let list = intervals::join_all(*self.list.allocator(), self.spans(), other.spans())?;
-        Ok(Domain { list })
+        Ok(Domain::of_list(list))
     }
 
     /// The numbers from 0 to `INFINITY` that are not in the set.
@@ -130,7 +132,7 @@ impl Domain {
             (filter (λ n. not (has self.now n)) (universe INFINITY))) }
     {
         let list = intervals::gaps(*self.list.allocator(), self.spans())?;
-        Ok(Domain { list })
+        Ok(Domain::of_list(list))
     }
 
     /// The members plus `c`, as far as they are in 0 to `INFINITY`: the range `r + c` of Codognet and Diaz (1996).
@@ -144,7 +146,7 @@ impl Domain {
             (2 < interval_count (filter (is_shifted INFINITY self.now c) (universe INFINITY))) }
     {
         let list = intervals::shift_all(*self.list.allocator(), self.spans(), c)?;
-        Ok(Domain { list })
+        Ok(Domain::of_list(list))
     }
 
     /// The members times `c`, as far as they are in 0 to `INFINITY`: the range `r * c`.
@@ -166,7 +168,7 @@ impl Domain {
             return self.copy();
         }
         let list = intervals::scale_all(alloc, spans, factor(c))?;
-        Ok(Domain { list })
+        Ok(Domain::of_list(list))
     }
 
     /// The numbers from 0 to `INFINITY` whose product with `c` is a member: the range `r / c`. `c` is at least 1.
@@ -178,7 +180,7 @@ impl Domain {
             (2 < interval_count (filter (is_quotient INFINITY self.now c) (universe INFINITY))) }
     {
         let list = intervals::divide_all(*self.list.allocator(), self.spans(), factor(c))?;
-        Ok(Domain { list })
+        Ok(Domain::of_list(list))
     }
 
     /// Whether each member is a member of the other set.
@@ -217,15 +219,15 @@ impl Domain {
         let Some(bounds) = intervals::cut(lo, hi) else {
             return Ok(Narrowed::Empty);
         };
-        let spans = self.spans();
-        if !intervals::is_cut(spans, bounds) {
+        if !self.is_cut(bounds) {
             return Ok(Narrowed::Same);
         }
+        let spans = self.spans();
         if spans.len() == 1 {
             return Ok(narrow_one(*self.list.allocator(), spans[0], bounds));
         }
         let list = intervals::meet_all(*self.list.allocator(), spans, &[bounds])?;
-        let left = Domain { list };
+        let left = Domain::of_list(list);
         match left.min() {
             None => Ok(Narrowed::Empty),
             Some(_) => Ok(Narrowed::Changed(left)),
@@ -242,7 +244,7 @@ impl Domain {
             return Ok(Narrowed::Same);
         }
         let list = intervals::without(*self.list.allocator(), self.spans(), n as u32)?;
-        let left = Domain { list };
+        let left = Domain::of_list(list);
         match left.min() {
             None => Ok(Narrowed::Empty),
             Some(_) => Ok(Narrowed::Changed(left)),
@@ -347,6 +349,49 @@ impl Domain {
         }
     }
 
+    /// The numbers of the intervals.
+    fn of_list(list: SmallVec<(u32, u32), 2>) -> Domain
+        requires { IsSpans 0 INFINITY list.items }
+        ensures { result ≡ members list.items }
+    {
+        let ends = intervals::ends(list.as_slice());
+        Domain { ends, list }
+    }
+
+    /// Whether some member is below or above the bounds.
+    #[inline(always)]
+    fn is_cut(&self, bounds: (u32, u32)) -> bool
+        requires order { bounds.0 ≤ bounds.1 }
+        requires high { bounds.1 ≤ INFINITY }
+        ensures no { result ≡ false → IsSubset self.now (members (bounds ∷ [])) }
+        ensures yes { IsTrue result → (n : ℕ) × IsTrue (has self.now n)
+            × (has (members (bounds ∷ [])) n ≡ false) }
+    {
+        let (least, greatest) = self.ends;
+        if bounds.0 <= least && greatest <= bounds.1 {
+            return false;
+        }
+        !self.spans().is_empty()
+    }
+
+    /// The least member, and 0 where there is none.
+    #[inline(always)]
+    pub fn least(&self) -> u32
+        ensures least { result ≡ least self.now }
+        ensures rising { IsRising 0 INFINITY self.now }
+    {
+        self.ends.0
+    }
+
+    /// The greatest member, and 0 where there is none.
+    #[inline(always)]
+    pub fn greatest(&self) -> u32
+        ensures greatest { result ≡ greatest self.now }
+        ensures rising { IsRising 0 INFINITY self.now }
+    {
+        self.ends.1
+    }
+
     /// The numbers of one interval.
     fn of_span(alloc: Global, span: (u32, u32)) -> Domain
         requires order { span.0 ≤ span.1 }
@@ -355,7 +400,7 @@ impl Domain {
     {
         let mut list = SmallVec::new(alloc);
         list.push_reserved(span);
-        Domain { list }
+        Domain { ends: span, list }
     }
 }
 

@@ -130,7 +130,7 @@ impl SetStack {
         match intervals::settled(self.alloc, &self.spans[from..]) {
             Ok(list) => {
                 self.spans.truncate(from);
-                Ok(Some(Domain { list }))
+                Ok(Some(Domain::of_list(list)))
             }
             Err(refused) => {
                 self.starts.push_reserved(from);

@@ -10,23 +10,23 @@ use std::alloc::Global;
 use std::marker::Model;
 use std::mem;
 
-/// A variable's domain, and the stamp of the stretch between two marks in which it last changed. It takes 40 bytes.
+/// A variable's domain, and the stamp of the stretch between two marks in which it last changed. It takes 48 bytes.
 #[derive(Drop)]
 struct Cell {
     domain: Domain,
     stamp: u64,
 }
 
-const _: () = prove!(size_of::<Cell>() == 40);
+const _: () = prove!(size_of::<Cell>() == 48);
 
-/// What the cell of a variable was. It takes 48 bytes.
+/// What the cell of a variable was. It takes 56 bytes.
 #[derive(Drop)]
 struct Saved {
     var: usize,
     cell: Cell,
 }
 
-const _: () = prove!(size_of::<Saved>() == 48);
+const _: () = prove!(size_of::<Saved>() == 56);
 
 /// How many cells were saved and how many variables there were, and the stamp before the mark. It takes 24 bytes.
 #[derive(Clone, Copy, Drop)]
@@ -119,6 +119,7 @@ impl Trail {
     }
 
     /// Gives the variable `k` another domain. `NoMemory`: there is no room for the old one; the new one is then gone.
+    #[inline(always)]
     pub fn narrow(&mut self, k: usize, domain: Domain) -> Result<(), NoMemory>
         requires { k < length self.old.current }
         ensures changed { OnOk result
@@ -131,7 +132,19 @@ impl Trail {
             self.cells[k] = Cell { domain, stamp };
             return Ok(());
         }
+        self.save_and_narrow(k, domain)
+    }
+
+    /// The same where the old domain is saved.
+    #[inline(never)]
+    fn save_and_narrow(&mut self, k: usize, domain: Domain) -> Result<(), NoMemory>
+        requires { k < length self.old.current }
+        ensures changed { OnOk result
+            (self.new ≡ record self.old { current = slice_set self.old.current k domain }) }
+        ensures unchanged { OnErr result (self.new ≡ self.old) }
+    {
         self.saved.reserve(1)?;
+        let stamp = self.stamp;
         let cell = mem::replace(&mut self.cells[k], Cell { domain, stamp });
         self.saved.push_reserved(Saved { var: k, cell });
         Ok(())
@@ -195,6 +208,7 @@ impl View for Trail {
 }
 
 /// Whether a cell that was written at the stamp `old` may change unsaved: there is no mark, or it was saved since the newest one.
+#[inline(always)]
 fn needs_no_saving(marks: &[Mark], old: u64, stamp: u64) -> bool
     ensures { IsTrue result → MayChange marks.now old stamp }
 {

@@ -21,6 +21,17 @@ IsAtRest sets p = IsSubset (family_of sets p.target) (set_of INFINITY (family_of
 abbrev pub narrowed : Indexical → List (List ℕ) → List ℕ
 narrowed p sets = filter (has (set_of INFINITY (family_of sets) p.range)) (family_of sets p.target)
 
+-- the set of x is intersected with a set
+abbrev pub IsCutTo : List ℕ → ℕ → Stores → Stores → Outcome → Type 0
+IsCutTo set x old new Same = (new ≡ old) × IsSubset (family_of old.current x) set
+IsCutTo set x old new Empty = (new ≡ old) × (filter (has set) (family_of old.current x) ≡ [])
+IsCutTo set x old new (Changed c) =
+    (new ≡ record old { current = slice_set old.current x (filter (has set) (family_of old.current x)) })
+    × (is_none_left (filter (has set) (family_of old.current x)) ≡ false)
+    × (length (filter (has set) (family_of old.current x)) < length (family_of old.current x))
+    × (c ≡ change_of (family_of old.current x) (filter (has set) (family_of old.current x)))
+
+-- the target's set is intersected with that of the range
 abbrev pub Activated : Indexical → Stores → Stores → Outcome → Type 0
 Activated p old new Same = (new ≡ old) × IsAtRest old.current p
 Activated p old new Empty = (new ≡ old) × (narrowed p old.current ≡ [])

@@ -7,13 +7,14 @@ ghost use Rattle.fd_language.specs.Flat.{nodes_of};
 ghost use Rattle.fd_language.specs.Range.{set_of, is_none_left};
 ghost use Rattle.domain_ranges.specs.Narrowing.{IsNarrowed};
 ghost use Rattle.range_code.specs.Frames.{family_of, IsFrame};
+ghost use Rattle.range_code.specs.Reaching.{IsReach};
 ghost use Rattle.propagate_queue.specs.Instances.{posting};
 ghost use Rattle.propagate_queue.specs.Postings.{Posting, ranged, posting_at};
 
 use crate::instance::Instance;
 use domain_ranges::{Domain, Narrowed, View};
 use fd_language::NoMemory;
-use range_code::{Activations, Arg, RangeCode, Stacks, narrow};
+use range_code::{Activations, Arg, RangeCode, Reach, Stacks, find_reach, narrow};
 use std::alloc::Global;
 use std::marker::Model;
 use std::rc::Rc;
@@ -86,6 +87,23 @@ impl Agents {
         ensures { result ≡ length (nodes_of (posting_at self.now number).range) }
     {
         self.list[number].code.range().nodes().len()
+    }
+
+    /// The set of the range of an agent, as far as numbers tell it. No set of the view is empty.
+    #[inline(always)]
+    pub fn find_reach<V: View>(&self, number: usize, view: &V) -> Reach
+        requires number { number < length self.now }
+        requires frame { IsFrame (length (V.sets view.now))
+            (posting_at self.now number).range (posting_at self.now number).args }
+        requires some { (k : ℕ) → is_none_left (family_of (V.sets view.now) k) ≡ false }
+        ensures { IsReach
+            (set_of TOP (family_of (V.sets view.now)) (ranged (posting_at self.now number)).range)
+            result }
+    {
+        let agent = &self.list[number];
+        let end = agent.first + agent.count;
+        let args = &self.args[agent.first..end];
+        find_reach(&agent.code, args, view)
     }
 
     /// What the range of an agent leaves of `target`, and one more activation in `n`. No set of the view is empty.

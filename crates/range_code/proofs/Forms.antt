@@ -1,5 +1,5 @@
 -- How the nodes of a range are read as a form.
-use Rattle.std.proofs.Common.{SFits, ◌≡◌, ℕ, zero, suc, ◌+◌, ◌*◌, ◌-◌, ◌^◌, ◌<◌, ◌≤◌, length, take, drop, get_or, true, not, ◌||◌, ◌==◌, IsTrue, eqb-true, ℤ, pos, negsuc, neg_ℤ, nat_abs, ◌+ℤ◌, ◌-ℤ◌, ◌*ℤ◌, ◌≤ℤ◌, List, [], ◌∷◌, ◌++◌, Some, refl, sym, ◌∙◌, ap, subst, ◌⊎◌, inl, inr, arith}
+use Rattle.std.proofs.Common.{SFits, drop_of_length-le, ◌≡◌, ℕ, zero, suc, ◌+◌, ◌*◌, ◌-◌, ◌^◌, ◌<◌, ◌≤◌, length, take, drop, get_or, true, not, ◌||◌, ◌==◌, IsTrue, eqb-true, ℤ, pos, negsuc, neg_ℤ, nat_abs, ◌+ℤ◌, ◌-ℤ◌, ◌*ℤ◌, ◌≤ℤ◌, List, [], ◌∷◌, ◌++◌, Some, refl, sym, ◌∙◌, ap, subst, ◌⊎◌, inl, inr, arith}
 use Rattle.std.proofs.Math.Nat.{div-one}
 use Rattle.std.proofs.Math.IntN.{+ℤ_assoc, +ℤ_comm, +ℤ_idl, *ℤ_comm, neg_ℤ-neg_ℤ}
 use Rattle.std.proofs.lemmas.Int.{ints, fits_signed_from_abs}
@@ -17,7 +17,7 @@ use Rattle.fd_language.specs.Range.{Range, Expr, least, greatest, down_by, Infin
 use Rattle.fd_language.specs.Range.{Number as Literal}
 use Rattle.fd_language.specs.Check.{fill_range}
 use Rattle.fd_language.specs.Flat.{nodes_of, built, built_behind, put, shape_of, term_alone, term_of_terms, builds_range, spelled, spelled-nodes, IsSpelled}
-use Rattle.fd_language.proofs.Lemmas.{two}
+use Rattle.fd_language.proofs.Lemmas.{two, greatest_in}
 use Rattle.fd_language.proofs.Limits.{abs_add, abs_mul, products}
 use Rattle.std.proofs.lemmas.List.{at_drop_more, take_all}
 use Rattle.domain_ranges.specs.Narrowing.{between, all_but, IsNarrowed}
@@ -36,7 +36,7 @@ use Rattle.range_code.specs.declared.form.Addend.{Addend}
 use Rattle.range_code.specs.Nodes.{IsReadable, IsSeen}
 use Rattle.range_code.specs.Work.{filled_value, filled_set}
 use Rattle.range_code.specs.Steps.{outside}
-use Rattle.range_code.specs.Forms.{IsForm, end_of, width_of, sum_of, total_of, divided, bound_value, product_value, leaf_amount, amount, AreNarrow, AreSeen, IsLeafSeen, IsPositive, IsUsable, IsInterval, IsComplement, IsException, IsLeaf, IsSigned, IsDivision, IsPart, IsAdded, IsBound}
+use Rattle.range_code.specs.Forms.{IsForm, end_of, width_of, sum_of, total_of, divided, bound_value, product_value, leaf_amount, amount, AreNarrow, AreSeen, IsLeafSeen, IsPositive, IsUsable, IsInterval, IsComplement, IsException, IsLeaf, IsSigned, IsDivision, IsPart, IsAdded, IsBound, other_end, IsOpposite, AreOpposite}
 use Rattle.range_code.proofs.Tables.{outside_is, one_is}
 
 -- leaves
@@ -186,6 +186,70 @@ width_more ms i d s r e l h g f =
       joined : (x y z w v m : ℕ) → x ≤ y + z → z ≤ w → y + (w + v) ≤ m → x + v ≤ m
       joined x y z w v m a b c = omega arith
 
+-- the sum of one more product, where the other list has its opposite
+pub opposite_end : (S : Family) (m k : Product) (e : ℕ) → IsOpposite m k → e ≡ end_of (S m.slot) (other_end m.end) → e ≡ end_of (S k.slot) k.end
+opposite_end S m k e o h = h ∙ sym (two (λ slot end. end_of (S slot) end) o.slot o.end)
+
+pub opposite_sum : (m k : Product) (s r : ℤ) (e : ℕ) → IsOpposite m k → r ≡ s +ℤ m.weight *ℤ pos e → r ≡ s +ℤ k.weight *ℤ pos e
+opposite_sum m k s r e o h = h ∙ ap (λ w. s +ℤ w *ℤ pos e) (sym o.weight)
+
+pub opposite_width : (m k : Product) (s : ℤ) → IsOpposite m k → nat_abs s + nat_abs k.weight * INFINITY ≤ 2 ^ 63 - 1 → nat_abs s + nat_abs m.weight * INFINITY ≤ 2 ^ 63 - 1
+opposite_width m k s o h = subst (λ w. nat_abs s + nat_abs w * INFINITY ≤ 2 ^ 63 - 1) o.weight h
+
+summed_all : (S : Family) (ms : List Product) (i : ℕ) (a total : ℤ) → length ms ≤ i → a +ℤ sum_of S (drop i ms) ≡ total → a ≡ total
+summed_all S ms i a total l e = sym (+ℤ_idl a) ∙ (+ℤ_comm (pos 0) a ∙ (ap (λ ns. a +ℤ sum_of S ns) (sym (drop_of_length-le ms l)) ∙ e))
+
+-- two sums at a place of two lists of opposite products: with what is left they come to the totals, and none leaves 64 bits
+pub record Summing (S : Family) (ms ks : List Product) (i : ℕ) (a b low high : ℤ) : Type 0 where
+  pub low_sum : a +ℤ sum_of S (drop i ms) ≡ low
+  pub high_sum : b +ℤ sum_of S (drop i ks) ≡ high
+  pub low_width : AreNarrow (nat_abs a) (drop i ms)
+  pub high_width : AreNarrow (nat_abs b) (drop i ks)
+
+pub starts_summing : (S : Family) (ms : List Product) (a b : Bound) → ms ≡ a.products.items → AreNarrow (nat_abs a.constant) a.products.items → AreNarrow (nat_abs b.constant) b.products.items → Summing S ms b.products.items 0 a.constant b.constant (total_of S a) (total_of S b)
+starts_summing S ms a b e h g = record { low_sum = ap (λ l. a.constant +ℤ sum_of S l) e; high_sum = refl; low_width = subst (AreNarrow (nat_abs a.constant)) (sym e) h; high_width = g }
+
+module _ (S : Family) (ms ks : List Product) (i : ℕ) (a b low high : ℤ) (opposite : AreOpposite ms ks) (h : Summing S ms ks i a b low high) where
+  module _ (d : Product) (l : i < length ms) where
+    abbrev m : Product
+    m = get_or ms i d
+
+    abbrev k : Product
+    k = get_or ks i d
+
+    each : IsOpposite m k
+    each = opposite.each i d l
+
+    within : i < length ks
+    within = omega (arith, l, opposite.count)
+
+    pub low_fits : nat_abs a + nat_abs m.weight * INFINITY ≤ 2 ^ 63 - 1
+    low_fits = width_there ms i d a l h.low_width
+
+    pub high_fits : nat_abs b + nat_abs m.weight * INFINITY ≤ 2 ^ 63 - 1
+    high_fits = opposite_width m k b each (width_there ks i d b within h.high_width)
+
+    pub summed : (e f : ℕ) (r q : ℤ) → e ≡ end_of (S m.slot) m.end → f ≡ end_of (S m.slot) (other_end m.end) → e ≤ INFINITY → f ≤ INFINITY → r ≡ a +ℤ m.weight *ℤ pos e → q ≡ b +ℤ m.weight *ℤ pos f → Summing S ms ks (i + 1) r q low high
+    summed e f r q x y u v p o = let g = opposite_sum m k b q f each o in record {
+      low_sum = sum_more S ms i d a low r e l x h.low_sum p;
+      high_sum = sum_more S ks i d b high q f within (opposite_end S m k f each y) h.high_sum g;
+      low_width = width_more ms i d a r e l h.low_width u p;
+      high_width = width_more ks i d b q f within h.high_width v g;
+    }
+
+  module _ (l : length ms ≤ i) where
+    pub low_done : a ≡ low
+    low_done = summed_all S ms i a low l h.low_sum
+
+    pub high_done : b ≡ high
+    high_done = summed_all S ks i b high (omega (arith, l, opposite.count)) h.high_sum
+
+    pub low_small : nat_abs a ≤ 2 ^ 63 - 1
+    low_small = let g = h.low_width in omega (arith, g)
+
+    pub high_small : nat_abs b ≤ 2 ^ 63 - 1
+    high_small = let g = h.high_width in omega (arith, g)
+
 pub seen_at : (count : ℕ) (args : List Arg) (ms : List Product) (i : ℕ) (d : Product) → i < length ms → AreSeen count args ms → IsSeen count args (get_or ms i d).slot
 seen_at count args ms i d l h = h i d l
 
@@ -314,6 +378,11 @@ module _ (ns : List RangeNode) (r : Range) (are : ns ≡ nodes_of r) where
         set = λ S p. ap (filled_set S p) is ∙ (sym (outside_is INFINITY (in_range INFINITY S (fill_range p (One f.term)))) ∙ ap outside (sym (one_is INFINITY (filled_value S p f.term)) ∙ ap (λ z. between z z) (f.value S p)));
         value = low_usable (m ∷ n ∷ []) a f v;
       }
+
+-- the greatest member is in U
+pub greatest_limit : (M : ℕ) (xs : List ℕ) (n : ℕ) → IsRising 0 M xs → n ≡ greatest xs → n ≤ M
+greatest_limit M [] n r e = omega (arith, e)
+greatest_limit M (x ∷ xs) n r e = has_limit M (x ∷ xs) n r (ap (has (x ∷ xs)) e ∙ greatest_in (x ∷ xs) refl)
 
 -- the nodes of a range spell it
 pub form_spells : (nodes : List RangeNode) (r : Range) (form : Form) → nodes ≡ nodes_of r → IsForm r form → IsForm (spelled nodes) form

@@ -1,17 +1,17 @@
 -- A set of several members is one whose least and greatest member differ.
 use Rattle.std.proofs.Common.{◌≡◌, ℕ, suc, ◌≤◌, false, not, ◌==◌, List, [], ◌∷◌, ◌∙◌, ap, refl, arith, eq-eqb}
-use Rattle.std.proofs.lemmas.Bool.{true≢false, or_left}
+use Rattle.std.proofs.lemmas.Bool.{or_left}
 use Rattle.fd_language.specs.Family.{IsRising, has}
-use Rattle.fd_language.specs.Range.{least, greatest, is_none_left, is_several}
+use Rattle.fd_language.specs.Range.{least, greatest, is_several}
 use Rattle.fd_language.proofs.Lemmas.{greatest_high}
 
 apart : (x y g : ℕ) → suc x ≤ y → y ≤ g → (x == g) ≡ false
 apart x y g h k = grind arith
 
-ends_differ : (M : ℕ) (xs : List ℕ) → is_none_left xs ≡ false → IsRising 0 M xs → not (least xs == greatest xs) ≡ is_several xs
-ends_differ M [] h r = absurd (true≢false h)
-ends_differ M (x ∷ []) h r = ap not (eq-eqb x x refl)
-ends_differ M (x ∷ y ∷ ys) h r = ap not (apart x y (greatest (y ∷ ys)) r.2.0 (greatest_high (suc x) M y (y ∷ ys) r.2 (or_left (y == y) (has ys y) (eq-eqb y y refl))))
+ends_differ : (M : ℕ) (xs : List ℕ) → IsRising 0 M xs → not (least xs == greatest xs) ≡ is_several xs
+ends_differ M [] r = refl
+ends_differ M (x ∷ []) r = ap not (eq-eqb x x refl)
+ends_differ M (x ∷ y ∷ ys) r = ap not (apart x y (greatest (y ∷ ys)) r.2.0 (greatest_high (suc x) M y (y ∷ ys) r.2 (or_left (y == y) (has ys y) (eq-eqb y y refl))))
 
-pub differ : (M : ℕ) (xs : List ℕ) (a b : ℕ) → is_none_left xs ≡ false → IsRising 0 M xs → a ≡ least xs → b ≡ greatest xs → not (a == b) ≡ is_several xs
-differ M xs a b h r e f = ap (λ k. not (k == b)) e ∙ (ap (λ k. not (least xs == k)) f ∙ ends_differ M xs h r)
+pub differ : (M : ℕ) (xs : List ℕ) (a b : ℕ) → IsRising 0 M xs → a ≡ least xs → b ≡ greatest xs → not (a == b) ≡ is_several xs
+differ M xs a b r e f = ap (λ k. not (k == b)) e ∙ (ap (λ k. not (least xs == k)) f ∙ ends_differ M xs r)

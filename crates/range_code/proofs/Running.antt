@@ -148,7 +148,7 @@ module _ (sets : List (List ℕ)) (r : Range) (args : List Arg) where
 
 -- what is kept of an accepted range, whose arguments fit
 module _ (sets : List (List ℕ)) (r : Range) (args : List Arg) (accepted : is_accepted INFINITY r ≡ true) (fit : IsFrame (length sets) r args) where
-  read_nodes : All (IsReadable (length sets) args) (nodes_of (in_slots r))
+  pub read_nodes : All (IsReadable (length sets) args) (nodes_of (in_slots r))
   read_nodes = all_readable (length sets) r args fit (one_use r accepted)
 
   abbrev Seen : ℕ × Feature → Type 0
@@ -240,13 +240,20 @@ module _ (sets : List (List ℕ)) (r : Range) (args : List Arg) (accepted : is_a
     table_narrows res old ys some e f h = IfOk-weaker res (IsNarrowed old table) (IsNarrowed old (set_of INFINITY (family_of sets) (posted r args)))
         (λ o. subst (λ l. IsNarrowed old l o) (table_is (none_empty (λ d. some (slot_variable args d.0)) (features_of (in_slots r))) (sym (opens_same ys e) ∙ sym f))) h
 
+  -- where no set is empty and no val is open
+  pub settled_set : ((k : ℕ) → is_none_left (family_of sets k) ≡ false) → list_any (λ s. is_several (Sets sets r args s)) (val_slots r) ≡ false → set_of INFINITY (family_of sets) (posted r args) ≡ filled_set (Sets sets r args) (integers sets r args) (in_slots r)
+  settled_set some f = sym (settled_by sets r args false false (none_empty (λ d. some (slot_variable args d.0)) (features_of (in_slots r))) (sym (opens_same (val_slots r) refl) ∙ f) refl)
+
+  -- where some val is open
+  pub open_set : (ys : List ℕ) → ((k : ℕ) → is_none_left (family_of sets k) ≡ false) → ys ≡ val_slots r → true ≡ list_any (λ s. is_several (Sets sets r args s)) ys → set_of INFINITY (family_of sets) (posted r args) ≡ universe INFINITY
+  open_set ys some e f = sym (open_by sets r args false true (none_empty (λ d. some (slot_variable args d.0)) (features_of (in_slots r))) (sym (opens_same ys e) ∙ sym f) refl)
+
   pub gives_empty : (d : List ℕ) (is : List RangeInstr) → is ≡ tests_of r → d ≡ [] → Empty ≡ tested (Sets sets r args) is → d ≡ set_of INFINITY (family_of sets) (posted r args)
   gives_empty d is e h s = h ∙ empty_by sets r args none several refl refl (s ∙ standing_is is e)
 
   pub gives_all : (d : List ℕ) (is : List RangeInstr) → is ≡ tests_of r → d ≡ universe INFINITY → Open ≡ tested (Sets sets r args) is → d ≡ set_of INFINITY (family_of sets) (posted r args)
   gives_all d is e h s = h ∙ open_by sets r args none several refl refl (s ∙ standing_is is e)
 
-  -- where some val is open
   pub open_narrows : (old : List ℕ) (ys : List ℕ) → ((k : ℕ) → is_none_left (family_of sets k) ≡ false) → ys ≡ val_slots r → true ≡ list_any (λ s. is_several (Sets sets r args s)) ys → IsRising 0 INFINITY old → IsSubset old (set_of INFINITY (family_of sets) (posted r args))
   open_narrows old ys some e f rise =
       subst (IsSubset old) (open_by sets r args false true (none_empty (λ d. some (slot_variable args d.0)) (features_of (in_slots r))) (sym (opens_same ys e) ∙ sym f) refl) (rising_inside INFINITY old rise)

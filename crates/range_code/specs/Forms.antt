@@ -1,5 +1,5 @@
 -- Sums of products, intervals between them, and which ranges they are.
-use Rattle.std.specs.Prelude.{◌≡◌, ℕ, ◌+◌, ◌*◌, ◌-◌, ◌^◌, ◌≤◌, ℤ, pos, ◌+ℤ◌, ◌*ℤ◌, ◌≤ℤ◌, nat_abs, List, [], ◌∷◌}
+use Rattle.std.specs.Prelude.{◌≡◌, ℕ, ◌+◌, ◌*◌, ◌-◌, ◌^◌, ◌≤◌, ℤ, pos, ◌+ℤ◌, ◌*ℤ◌, ◌≤ℤ◌, ◌<◌, nat_abs, List, [], ◌∷◌, length, slice_index_or}
 use Rattle.std.specs.List.{All}
 use Rattle.fd_language.specs.declared.range_node.RangeNode.{RangeNode}
 use Rattle.fd_language.specs.declared.TheConstants.{INFINITY}
@@ -15,7 +15,7 @@ use Rattle.range_code.specs.declared.form.Division.{Division}
 use Rattle.range_code.specs.declared.form.Division.TheVariants.{Whole, Down, Up}
 use Rattle.range_code.specs.declared.form.Bound.{Bound}
 use Rattle.range_code.specs.declared.form.Form.{Form}
-use Rattle.range_code.specs.declared.form.Form.TheVariants.{Nodes, Between, Without, Except, Chosen}
+use Rattle.range_code.specs.declared.form.Form.TheVariants.{Nodes, Between, Row, Without, Except, Chosen}
 use Rattle.range_code.specs.declared.form.Leaf.{Leaf}
 use Rattle.range_code.specs.declared.form.Leaf.TheVariants.{Number, Read}
 use Rattle.range_code.specs.declared.form.Addend.{Addend}
@@ -28,6 +28,21 @@ use Rattle.range_code.specs.Steps.{outside}
 abbrev pub end_of : List ℕ → End → ℕ
 end_of s Least = least s
 end_of s Greatest = greatest s
+
+abbrev pub other_end : End → End
+other_end Least = Greatest
+other_end Greatest = Least
+
+-- products that differ in their ends alone
+pub record IsOpposite (m k : Product) : Type 0 where
+  pub weight : k.weight ≡ m.weight
+  pub slot : k.slot ≡ m.slot
+  pub end : k.end ≡ other_end m.end
+
+-- of each two products at one place, the one is opposite to the other
+pub record AreOpposite (ms ks : List Product) : Type 0 where
+  pub count : length ks ≡ length ms
+  pub each : (i : ℕ) (d : Product) → i < length ms → IsOpposite (slice_index_or ms i d) (slice_index_or ks i d)
 
 abbrev pub product_value : Family → Product → ℤ
 product_value S m = m.weight *ℤ pos (end_of (S m.slot) m.end)
@@ -91,6 +106,7 @@ pub record IsException (r : Range) (a : Bound) : Type 0 where
 abbrev pub IsForm : Range → Form → Type 0
 IsForm r Nodes = Unit {0}
 IsForm r (Between a b) = IsInterval r a b
+IsForm r (Row a b) = IsInterval r a b × AreOpposite a.products.items b.products.items
 IsForm r (Without a b) = IsComplement r a b
 IsForm r (Except a) = IsException r a
 IsForm r (Chosen c) = IsChoice r c

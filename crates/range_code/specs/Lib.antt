@@ -15,3 +15,4 @@ pub mod Gathered
 pub mod Compiled
 pub mod Choices
 pub mod Forms
+pub mod Reaching

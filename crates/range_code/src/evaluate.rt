@@ -266,22 +266,17 @@ pub(crate) fn evaluate_narrowing<V: View>(
     ensures kept { KeepsRoom work.old work.new }
 {
     match form {
-        Form::Nodes => {
-            work.clear();
-            narrow_by_steps(work, steps, args, view, target)
-        }
-        Form::Between(low, high) => {
-            let low = low.value(args, view);
-            target.narrowed_to(low as i128, high.value(args, view) as i128)
-        }
         Form::Without(low, high) => {
             let low = low.value(args, view);
             narrow_outside(work.alloc, target, low, high.value(args, view))
         }
-        Form::Except(number) => target.narrowed_without(number.value(args, view)),
         Form::Chosen(choice) => {
             let keys = slot_domain(args, choice.slot, view);
             narrow_to_chosen(work.alloc, target, &choice.pairs, keys)
+        }
+        _ => {
+            work.clear();
+            narrow_by_steps(work, steps, args, view, target)
         }
     }
 }

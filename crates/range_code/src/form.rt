@@ -6,7 +6,7 @@ ghost use Rattle.fd_language.specs.Family.{Family};
 ghost use Rattle.fd_language.specs.Flat.{nodes_of};
 ghost use Rattle.fd_language.specs.Range.{Range};
 ghost use Rattle.range_code.specs.Frames.{slot_set};
-ghost use Rattle.range_code.specs.Forms.{end_of as end_of_set, sum_of, total_of, divided as divided_by, leaf_amount, amount, bound_value, AreNarrow, AreSeen, IsPositive, IsUsable, IsLeaf, IsSigned, IsDivision, IsPart, IsAdded, IsBound, IsComplement, IsForm};
+ghost use Rattle.range_code.specs.Forms.{end_of as end_of_set, sum_of, total_of, divided as divided_by, leaf_amount, amount, bound_value, AreNarrow, AreSeen, IsPositive, IsUsable, IsLeaf, IsSigned, IsDivision, IsPart, IsAdded, IsBound, IsInterval, IsComplement, IsForm, other_end, IsOpposite, AreOpposite};
 
 use crate::choice::{Choice, read_choice};
 use crate::frame::{Arg, slot_domain};
@@ -45,11 +45,13 @@ pub(crate) struct Bound {
     pub division: Division,
 }
 
-/// How a range is evaluated: by its nodes, as an interval, as the complement of one or of a single number, or by choosing numbers.
+/// How a range is evaluated: by its nodes, as an interval, as one between bounds whose products are opposite, as the complement
+/// of an interval or of a single number, or by choosing numbers.
 #[derive(Drop)]
 pub(crate) enum Form {
     Nodes,
     Between(Bound, Bound),
+    Row(Bound, Bound),
     Without(Bound, Bound),
     Except(Bound),
     Chosen(Choice),
@@ -75,12 +77,9 @@ fn end_of(domain: &Domain, end: End) -> u32
     ensures value { result ≡ end_of_set domain.now end }
     ensures limit { result ≤ INFINITY }
 {
-    let Some((least, greatest)) = domain.bounds() else {
-        return 0;
-    };
     match end {
-        End::Least => least,
-        End::Greatest => greatest,
+        End::Least => domain.least(),
+        End::Greatest => domain.greatest(),
     }
 }
 
@@ -109,6 +108,61 @@ fn sum<V: View>(constant: i64, products: &[Product], args: &[Arg], view: &V) -> 
         sum = add_product(sum, *product, end);
     }
     sum
+}
+
+/// That end of the domain and the other one, and 0 for each where it has no member.
+#[inline(always)]
+fn both_ends(domain: &Domain, end: End) -> (u32, u32)
+    ensures one { result.0 ≡ end_of_set domain.now end }
+    ensures other { result.1 ≡ end_of_set domain.now (other_end end) }
+    ensures one_limit { result.0 ≤ INFINITY }
+    ensures other_limit { result.1 ≤ INFINITY }
+{
+    match end {
+        End::Least => (domain.least(), domain.greatest()),
+        End::Greatest => (domain.greatest(), domain.least()),
+    }
+}
+
+/// The sums of two bounds whose products are opposite, in one pass.
+#[inline(always)]
+fn both_sums<V: View>(low: &Bound, high: &Bound, args: &[Arg], view: &V) -> (i64, i64)
+    requires opposite { AreOpposite low.now.products.items high.now.products.items }
+    requires low_width { AreNarrow (nat_abs low.now.constant) low.now.products.items }
+    requires high_width { AreNarrow (nat_abs high.now.constant) high.now.products.items }
+    requires seen { AreSeen (length (V.sets view.now)) args.now low.now.products.items }
+    ensures low { result.0 ≡ total_of (slot_set (V.sets view.now) args.now) low.now }
+    ensures high { result.1 ≡ total_of (slot_set (V.sets view.now) args.now) high.now }
+    ensures low_limit { nat_abs result.0 ≤ 2 ^ 63 - 1 }
+    ensures high_limit { nat_abs result.1 ≤ 2 ^ 63 - 1 }
+{
+    let mut low_sum = low.constant;
+    let mut high_sum = high.constant;
+    for product in &low.products {
+        let ends = both_ends(slot_domain(args, product.slot, view), product.end);
+        low_sum = add_product(low_sum, *product, ends.0);
+        high_sum = add_product(high_sum, *product, ends.1);
+    }
+    (low_sum, high_sum)
+}
+
+/// The values of two bounds whose products are opposite, over the domains of a view.
+#[inline(always)]
+pub(crate) fn both_values<V: View>(low: &Bound, high: &Bound, args: &[Arg], view: &V) -> (i64, i64)
+    requires opposite { AreOpposite low.now.products.items high.now.products.items }
+    requires low_width { AreNarrow (nat_abs low.now.constant) low.now.products.items }
+    requires high_width { AreNarrow (nat_abs high.now.constant) high.now.products.items }
+    requires low_division { IsPositive low.now.division }
+    requires high_division { IsPositive high.now.division }
+    requires seen { AreSeen (length (V.sets view.now)) args.now low.now.products.items }
+    ensures low { result.0 ≡ bound_value (slot_set (V.sets view.now) args.now) low.now }
+    ensures high { result.1 ≡ bound_value (slot_set (V.sets view.now) args.now) high.now }
+{
+    let sums = both_sums(low, high, args, view);
+    (
+        divided(sums.0, low.division),
+        divided(sums.1, high.division),
+    )
 }
 
 /// The sum, divided.
@@ -413,7 +467,7 @@ fn sums_form(alloc: Global, nodes: &[RangeNode]) -> Result<Form, NoMemory>
         return Ok(Form::Nodes);
     };
     match rest {
-        [last] if is_span(*last) => Ok(Form::Between(low, high)),
+        [last] if is_span(*last) => Ok(between_form(low, high)),
         [span, last] if is_span(*span) && is_complement(*last) => Ok(outside_form(low, high)),
         _ => Ok(Form::Nodes),
     }
@@ -450,6 +504,50 @@ fn are_same_products(a: &[Product], b: &[Product]) -> bool
         }
     }
     true
+}
+
+/// Whether the second end is the other one.
+fn is_other_end(a: End, b: End) -> bool
+    ensures { IsTrue result → b ≡ other_end a }
+{
+    match (a, b) {
+        (End::Least, End::Greatest) => true,
+        (End::Greatest, End::Least) => true,
+        _ => false,
+    }
+}
+
+/// Whether the products differ in their ends alone.
+fn is_opposite(a: Product, b: Product) -> bool
+    ensures { IsTrue result → IsOpposite a b }
+{
+    a.weight == b.weight && a.slot == b.slot && is_other_end(a.end, b.end)
+}
+
+/// Whether each two products at one place differ in their ends alone.
+fn are_opposite(a: &[Product], b: &[Product]) -> bool
+    ensures { IsTrue result → AreOpposite a.now b.now }
+{
+    if a.len() != b.len() {
+        return false;
+    }
+    for (i, product) in a.iter().enumerate() {
+        if !is_opposite(*product, b[i]) {
+            return false;
+        }
+    }
+    true
+}
+
+/// The form of the interval between two bounds: where their products are opposite, one pass gives both.
+fn between_form(low: Bound, high: Bound) -> Form
+    ensures { (r : Range) → IsInterval r low high → IsForm r result }
+{
+    if are_opposite(&low.products, &high.products) {
+        Form::Row(low, high)
+    } else {
+        Form::Between(low, high)
+    }
 }
 
 fn is_whole(division: Division) -> bool

@@ -74,10 +74,7 @@ pub(crate) fn slot_domain<'v, V: View>(args: &[Arg], slot: usize, view: &'v V) -
 fn is_open(domain: &Domain) -> bool
     ensures { result ≡ is_several domain.now }
 {
-    match domain.bounds() {
-        Some((low, high)) => low != high,
-        None => false,
-    }
+    domain.least() != domain.greatest()
 }
 
 /// How the variables of a range stand by its tests: the first that doesn't pass decides.

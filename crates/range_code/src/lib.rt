@@ -5,7 +5,7 @@ ghost use Rattle.std.specs.Prelude.{◌≡◌, ◌≤◌, ◌+◌, ◌-◌, ◌^
 ghost use Rattle.fd_language.specs.RangeVerdict.{is_accepted};
 ghost use Rattle.fd_language.specs.Family.{IsFamily};
 ghost use Rattle.fd_language.specs.Flat.{nodes_of};
-ghost use Rattle.fd_language.specs.Range.{set_of, is_none_left};
+ghost use Rattle.fd_language.specs.Range.{set_of, is_none_left, is_several};
 ghost use Rattle.domain_ranges.specs.Narrowing.{IsNarrowed};
 ghost use Rattle.range_code.specs.Slots.{slots_of, slot_needs, slot_features, in_slots, IsAlike};
 ghost use Rattle.range_code.specs.Kinds.{slot_kinds, val_slots};
@@ -14,7 +14,9 @@ ghost use Rattle.range_code.specs.Folded.{folded_nodes};
 ghost use Rattle.range_code.specs.Instructions.{instructions_of, tests_of};
 ghost use Rattle.range_code.specs.Walked.{all_steps, ArePlaced};
 ghost use Rattle.range_code.specs.Forms.{IsForm};
-ghost use Rattle.range_code.specs.Frames.{IsFrame, posted, family_of};
+ghost use Rattle.range_code.specs.Reaching.{IsReach};
+ghost use Rattle.std.specs.List.{list_any};
+ghost use Rattle.range_code.specs.Frames.{IsFrame, posted, family_of, slot_set};
 ghost use Rattle.range_code.specs.declared.frame.Arg.{Arg as AnyArg};
 
 mod alike;
@@ -35,7 +37,7 @@ use crate::compile::{
 };
 use crate::evaluate::{Steps, evaluate, evaluate_narrowing};
 use crate::fold::fold_literals;
-use crate::form::{Form, form_of};
+use crate::form::{Form, both_values, form_of};
 pub use crate::frame::{Arg, are_some};
 use crate::frame::{Standing, find_standing, is_some_open};
 pub use crate::instr::RangeInstr;
@@ -99,7 +101,7 @@ impl Activations {
 
     /// One more.
     #[inline(always)]
-    fn add(&mut self)
+    pub fn add(&mut self)
         ensures { self.new.count ≡ min (self.old.count + 1) (2 ^ 64 - 1) }
     {
         self.count = self.count.saturating_add(1);
@@ -192,7 +194,8 @@ impl RangeCode {
     /// How the range is evaluated where it narrows.
     #[inline(always)]
     fn form(&self) -> &Form
-        ensures { IsForm (in_slots self.now) result.now }
+        ensures form { IsForm (in_slots self.now) result.now }
+        ensures accepted { IsTrue (is_accepted INFINITY self.now) }
     {
         &self.form
     }
@@ -295,6 +298,57 @@ impl Stacks {
     }
 }
 
+/// The set of a range over the domains of a view, as far as numbers tell it.
+#[derive(Clone, Copy, Debug, PartialEq, Eq)]
+pub enum Reach {
+    /// All numbers.
+    All,
+    /// The numbers from a number to a number.
+    Between(i64, i64),
+    /// All numbers but one.
+    Except(i64),
+    /// Another set, or one of these.
+    Other,
+}
+
+/// The same where each variable that is read by val has a single member.
+#[inline(always)]
+fn settled_reach<V: View>(code: &RangeCode, args: &[Arg], view: &V) -> Reach
+    requires frame { IsFrame (length (V.sets view.now)) code.now args.now }
+    requires some { (k : ℕ) → is_none_left (family_of (V.sets view.now) k) ≡ false }
+    requires settled { list_any (λ s. is_several (slot_set (V.sets view.now) args.now s))
+        (val_slots code.now) ≡ false }
+    ensures { IsReach (set_of INFINITY (family_of (V.sets view.now)) (posted code.now args.now)) result }
+{
+    match code.form() {
+        Form::Between(low, high) => {
+            let low = low.value(args, view);
+            Reach::Between(low, high.value(args, view))
+        }
+        Form::Row(low, high) => {
+            let ends = both_values(low, high, args, view);
+            Reach::Between(ends.0, ends.1)
+        }
+        Form::Except(number) => Reach::Except(number.value(args, view)),
+        _ => Reach::Other,
+    }
+}
+
+/// The set of the range over the domains of a view, as far as numbers tell it. No memory is taken.
+///
+/// The arguments are those of `run_range`. No set of the view is empty.
+#[inline(always)]
+pub fn find_reach<V: View>(code: &RangeCode, args: &[Arg], view: &V) -> Reach
+    requires frame { IsFrame (length (V.sets view.now)) code.now args.now }
+    requires some { (k : ℕ) → is_none_left (family_of (V.sets view.now) k) ≡ false }
+    ensures { IsReach (set_of INFINITY (family_of (V.sets view.now)) (posted code.now args.now)) result }
+{
+    if is_some_open(code.vals(), args, view) {
+        return Reach::All;
+    }
+    settled_reach(code, args, view)
+}
+
 /// What the set of the range leaves of `target`, and one more activation in `n`. Where that is all, nothing is made, and where the range
 /// is an interval, no set is.
 ///
@@ -321,12 +375,16 @@ pub fn narrow<V: View>(
         target.rises();
         return Ok(Narrowed::Same);
     }
-    evaluate_narrowing(
-        &mut stacks.work,
-        code.steps(),
-        code.form(),
-        args,
-        view,
-        target,
-    )
+    match settled_reach(code, args, view) {
+        Reach::Between(low, high) => target.narrowed_to(low as i128, high as i128),
+        Reach::Except(number) => target.narrowed_without(number),
+        _ => evaluate_narrowing(
+            &mut stacks.work,
+            code.steps(),
+            code.form(),
+            args,
+            view,
+            target,
+        ),
+    }
 }

@@ -7,7 +7,9 @@ use Rattle.domain_ranges.specs.Spans.{IsSpans, meet}
 use Rattle.domain_ranges.proofs.Spans.{spans_at}
 use Rattle.domain_ranges.proofs.Meeting.{one_set}
 use Rattle.std.proofs.Common.{get_or, arith, refl}
-use Rattle.domain_ranges.proofs.Inside.{left_one, met_spans, subset_of, member_out, left_of, none_between}
+use Rattle.fd_language.specs.Family.{IsSubset}
+use Rattle.domain_ranges.proofs.Inside.{left_one, met_spans, left_of, none_between}
+use Rattle.domain_ranges.proofs.Ends.{HasOther}
 use Rattle.domain_ranges.specs.Spans.{interval_count}
 use Rattle.domain_ranges.proofs.Outcomes.{on_err}
 use Rattle.domain_ranges.proofs.Domain.narrowed_to.Goals as goal
@@ -22,7 +24,7 @@ pub returns-then-not-is_cut-clause-narrowed : goal.returns-then-not-is_cut-claus
 returns-then-not-is_cut-clause-narrowed c =
     let f : SFits w128 c.args.lo = search rules in
     let g : SFits w128 c.args.hi = search rules in
-    subset_of INFINITY c.spans-spans.result.now (c.in-Some.bounds ∷ []) c.args.self.now (between c.args.lo c.args.hi) c.spans-spans.ensures.spans (search rules) c.spans-spans.ensures.members
+    subst (IsSubset c.args.self.now)
     (interval_some INFINITY c.in-Some.bounds c.args.lo c.args.hi c.in-Some.ensures.order c.in-Some.ensures.high (λ n l. simp to_z-of_z at (c.in-Some.ensures.same n l)))
     (c.is_cut.ensures.no c.if-not-is_cut.true)
 
@@ -30,7 +32,7 @@ pub returns-in-None-clause-narrowed : goal.returns-in-None-clause-narrowed
 returns-in-None-clause-narrowed c =
     let f : SFits w128 c.args.lo = search rules in
     let g : SFits w128 c.args.hi = search rules in
-    sym (c.in_ok-list.ensures.set ∙ meet_is INFINITY c.spans-spans.result.now (c.in-Some.bounds ∷ []) c.args.self.now (between c.args.lo c.args.hi) c.spans-spans.ensures.spans (search rules) c.spans-spans.ensures.members
+    sym (c.of_list-left.ensures ∙ c.in_ok-list.ensures.set ∙ meet_is INFINITY c.spans-spans.result.now (c.in-Some.bounds ∷ []) c.args.self.now (between c.args.lo c.args.hi) c.spans-spans.ensures.spans (search rules) c.spans-spans.ensures.members
     (interval_some INFINITY c.in-Some.bounds c.args.lo c.args.hi c.in-Some.ensures.order c.in-Some.ensures.high (λ n l. simp to_z-of_z at (c.in-Some.ensures.same n l)))) ∙ c.in-None.ensures.least
 
 pub returns-in-Some-min-clause-narrowed : goal.returns-in-Some-min-clause-narrowed
@@ -38,8 +40,8 @@ returns-in-Some-min-clause-narrowed c =
     let f : SFits w128 c.args.lo = search rules in
     let g : SFits w128 c.args.hi = search rules in
     let same = interval_some INFINITY c.in-Some.bounds c.args.lo c.args.hi c.in-Some.ensures.order c.in-Some.ensures.high (λ n l. simp to_z-of_z at (c.in-Some.ensures.same n l)) in
-    let set = c.in_ok-list.ensures.set ∙ meet_is INFINITY c.spans-spans.result.now (c.in-Some.bounds ∷ []) c.args.self.now (between c.args.lo c.args.hi) c.spans-spans.ensures.spans (search rules) c.spans-spans.ensures.members same in
-    (set, c.in-Some-min.ensures.some, left_of c.args.self.now (between c.args.lo c.args.hi) _ set (member_out INFINITY c.spans-spans.result.now (c.in-Some.bounds ∷ []) c.args.self.now (between c.args.lo c.args.hi) c.spans-spans.ensures.spans (search rules) c.spans-spans.ensures.members same (c.is_cut.ensures.yes c.if-not-is_cut.false)))
+    let set = c.of_list-left.ensures ∙ c.in_ok-list.ensures.set ∙ meet_is INFINITY c.spans-spans.result.now (c.in-Some.bounds ∷ []) c.args.self.now (between c.args.lo c.args.hi) c.spans-spans.ensures.spans (search rules) c.spans-spans.ensures.members same in
+    (set, c.in-Some-min.ensures.some, left_of c.args.self.now (between c.args.lo c.args.hi) _ set (subst (HasOther c.args.self.now) same (c.is_cut.ensures.yes c.if-not-is_cut.false)))
 
 pub returns-in_err-list-clause-no_memory : goal.returns-in_err-list-clause-no_memory
 returns-in_err-list-clause-no_memory c =
@@ -58,4 +60,4 @@ returns-then-spans-eq1-clause-narrowed c =
     let x = get_or ss 0 (0, 0) in
     let set = one_set INFINITY ss c.in-Some.bounds c.spans-spans.ensures.spans bounds (sym c.if-spans-eq1.true) (meet x c.in-Some.bounds) refl ∙ meet_is INFINITY ss (c.in-Some.bounds ∷ []) c.args.self.now (between c.args.lo c.args.hi) c.spans-spans.ensures.spans bounds c.spans-spans.ensures.members same in
     left_one c.args.self.now (between c.args.lo c.args.hi) (meet x c.in-Some.bounds) c.narrow_one.result set (met_spans x c.in-Some.bounds (spans_at 0 INFINITY 0 ss (0, 0) c.spans-spans.ensures.spans (omega arith)).1)
-    (member_out INFINITY ss (c.in-Some.bounds ∷ []) c.args.self.now (between c.args.lo c.args.hi) c.spans-spans.ensures.spans bounds c.spans-spans.ensures.members same (c.is_cut.ensures.yes c.if-not-is_cut.false)) c.narrow_one.ensures
+    (subst (HasOther c.args.self.now) same (c.is_cut.ensures.yes c.if-not-is_cut.false)) c.narrow_one.ensures

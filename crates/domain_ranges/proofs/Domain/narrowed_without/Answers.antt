@@ -52,7 +52,7 @@ returns-in-None-clause-narrowed c =
     let v : to_z w64 (of_z w64 c.args.n) ≡ pos k.0 = to_z-of_z a ∙ k.1 in
     let is : c.args.n ≡ pos (nat_abs (to_z w64 (of_z w64 c.args.n))) = k.1 ∙ ap (λ y. pos (nat_abs y)) (sym v) in
     let set = excluded c.spans.result.now c.args.self.now c.args.n (nat_abs (to_z w64 (of_z w64 c.args.n))) c.spans.ensures.spans c.spans.ensures.members is in
-    sym (c.in_ok-list.ensures.set ∙ set) ∙ c.in-None.ensures.least
+    sym (c.of_list-left.ensures ∙ (c.in_ok-list.ensures.set ∙ set)) ∙ c.in-None.ensures.least
 
 pub returns-in-Some-clause-narrowed : goal.returns-in-Some-clause-narrowed
 returns-in-Some-clause-narrowed c =
@@ -63,5 +63,5 @@ returns-in-Some-clause-narrowed c =
     let v : to_z w64 (of_z w64 c.args.n) ≡ pos k.0 = to_z-of_z a ∙ k.1 in
     let is : c.args.n ≡ pos (nat_abs (to_z w64 (of_z w64 c.args.n))) = k.1 ∙ ap (λ y. pos (nat_abs y)) (sym v) in
     let set = excluded c.spans.result.now c.args.self.now c.args.n (nat_abs (to_z w64 (of_z w64 c.args.n))) c.spans.ensures.spans c.spans.ensures.members is in
-    let made = c.in_ok-list.ensures.set ∙ set in
+    let made = c.of_list-left.ensures ∙ (c.in_ok-list.ensures.set ∙ set) in
     (made, c.in-Some.ensures.some, fewer_left c.args.self.now _ c.args.n k.0 made k.1 k.2 k.3)

@@ -42,4 +42,4 @@ pub returns-clause-set : goal.returns-clause-set
 returns-clause-set c =
     let two = code_two c.args.c _ (to_z-of_z c.ranges.c) c.if-c-lt0.false c.if-c-eq0.false c.if-c-eq1.false in
     let more : 2 ≤ c.factor.result = c.factor.ensures.several (code_low c.args.c _ (pos 2) (to_z-of_z c.ranges.c) two) in
-    c.in_ok-list.ensures.set ∙ scale_set INFINITY c.factor.result c.spans-spans.result.now c.args.self.now c.args.c c.spans-spans.ensures.spans c.spans-spans.ensures.members (omega arith) (one_low c.args.c two) (code_factor INFINITY c.args.c _ c.factor.result (to_z-of_z c.ranges.c) c.factor.ensures.same)
+    c.of_list.ensures ∙ c.in_ok-list.ensures.set ∙ scale_set INFINITY c.factor.result c.spans-spans.result.now c.args.self.now c.args.c c.spans-spans.ensures.spans c.spans-spans.ensures.members (omega arith) (one_low c.args.c two) (code_factor INFINITY c.args.c _ c.factor.result (to_z-of_z c.ranges.c) c.factor.ensures.same)

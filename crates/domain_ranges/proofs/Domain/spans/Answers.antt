@@ -5,4 +5,4 @@ use Rattle.domain_ranges.proofs.Members.{members_rising}
 use Rattle.domain_ranges.proofs.Domain.spans.Goals as goal
 
 pub returns-clause-rising : goal.returns-clause-rising
-returns-clause-rising c = subst (IsRising 0 INFINITY) c.self.view_is (members_rising 0 INFINITY c.self.inside.list.items c.self.invariant)
+returns-clause-rising c = subst (IsRising 0 INFINITY) c.self.view_is (members_rising 0 INFINITY c.self.inside.list.items c.self.invariant.spans)

@@ -19,8 +19,8 @@ returns-in-len1 c r e =
     let d = rw (c.in-Some-2.is) at c.in_ok-high.ensures.bound in
     let v = rw (c.in-Some-2.is) at c.in_ok-high.ensures.width in
     let one : length c.in-Some-2.rest.now ≡ 1 = omega arith in
-    interval_form c.args.nodes.now r e c.in-Some.rest.now _ c.in-Some.low c.in-Some-2.high b (subst (IsBound c.in-Some.rest.now c.in-Some-2.high) (only_one c.in-Some-2.rest.now (node.Int (pos 0)) one) d)
-    (c.is_span.ensures c.if-is_span.true) w v
+    c.between_form.ensures r (interval_form c.args.nodes.now r e c.in-Some.rest.now _ c.in-Some.low c.in-Some-2.high b (subst (IsBound c.in-Some.rest.now c.in-Some-2.high) (only_one c.in-Some-2.rest.now (node.Int (pos 0)) one) d)
+    (c.is_span.ensures c.if-is_span.true) w v)
 
 pub returns-in-len2-rest : goal.returns-in-len2-rest
 returns-in-len2-rest c r e =
