@@ -27,7 +27,7 @@ use Rattle.fd_model.specs.Arithmetic.{ValueFault, not_a_number, unbound, Value, 
 use Rattle.builtin_calls.specs.Reading.{seen_term}
 use Rattle.builtin_calls.specs.Shown.{shown, IsHeld}
 use Rattle.builtin_calls.specs.Outcomes.{IsFault, IsNamedBy, Tells, meaning, operation_of}
-use Rattle.builtin_calls.specs.Waiting.{after, resumed, step_value, IsOwn, IsOwnWaiting, IsOfHeap, IsOwnStep, unnamed, burden, GoesOn, Leads, TellsStep, TellsAscent, IsEntered}
+use Rattle.builtin_calls.specs.Waiting.{after, resumed, step_value, TellsDescent, IsOwn, IsOwnWaiting, IsOfHeap, IsOwnStep, unnamed, burden, GoesOn, Leads, TellsAscent, IsEntered}
 
 -- the operation that a name means
 operation_by : (a b c d e : Bool) (l r : Value) (o : Operation) → cond a (Some Add) (cond b (Some Subtract) (cond c (Some Multiply) (cond d (Some Divide) (cond e (Some Modulo) None)))) ≡ Some o
@@ -172,14 +172,17 @@ module _ (names : List Name) (h : Cells) (sets : List (List ℕ)) where
           omega arith;
     })
 
-    -- a compound term is entered, or its fault is told
-    pub entered : (text : Name) (r : Result Step EvalFault) (new : List Waiting) → text ≡ name_in names f → IsEntered h sets text args old r new → TellsStep names h sets old (Enter c) r new
-    entered text (Ok t) new x (inl k) = entered_opposite k.0 new t k.1 (ap (λ g. bytes_eq g (codes "-")) (sym x) ∙ k.2) k.3 k.4
-    entered text (Ok t) new x (inr (inl k)) = entered_both k.0 k.1 k.2 new t k.3 (ap operation_of (sym x) ∙ k.4) k.5 k.6
-    entered text (Ok t) new x (inr (inr k)) = entered_known k.0 k.1 k.2 k.3 new t k.4 (ap operation_of (sym x) ∙ k.5) k.6 k.7 k.8
-    entered text (Err e) new x k = λ name n.
+    -- a compound term is entered
+    pub entered : (d : Cell) (new : List Waiting) → IsEntered h sets (name_in names f) args old (Ok d) new → GoesOn names h sets old (Enter c) new (Enter d)
+    entered d new (inl k) = entered_opposite k.0 new (Enter d) k.1 k.2 k.3 (ap Enter k.4)
+    entered d new (inr (inl k)) = entered_both k.0 k.1 k.2 new (Enter d) k.3 k.4 k.5 (ap Enter k.6)
+    entered d new (inr (inr k)) = entered_known k.0 k.1 k.2 k.3 new (Enter d) k.4 k.5 k.6 k.7 (ap Enter k.8)
+
+    -- or its fault is told
+    pub enter_fails : (e : EvalFault) (new : List Waiting) → IsEntered h sets (name_in names f) args old (Err e) new → (name : Naming) → IsNamedBy names name → IsFault e (resumed (seen_term name h sets) old (value_of (seen_term name h sets c)))
+    enter_fails e new k name n =
         fault_through (seen_term name h sets) old e (value_of (seen_term name h sets c))
-        (subst (λ y. IsFault e (value_of y)) (sym (is name ∙ ap (λ g. Comp g (terms_by (seen_term name h sets) args)) (n f there ∙ sym x))) (k (seen_term name h sets)))
+        (subst (λ y. IsFault e (value_of y)) (sym (is name ∙ ap (λ g. Comp g (terms_by (seen_term name h sets) args)) (n f there))) (k (seen_term name h sets)))
 
   -- an evaluation that has gone on
   pub leads_same : (ws : List Waiting) (s : Step) → Leads names h sets ws s ws s
@@ -205,6 +208,15 @@ module _ (names : List Name) (h : Cells) (sets : List (List ℕ)) where
     own = λ o a. let b = g.own o a in l.own b.0 b.1;
     falls = let m = l.lighter in let n = g.falls in omega arith;
   }
+
+  -- the way down ends at a term that is no compound term
+  pub descended : (old mid : List Waiting) (c at : Cell) (r : Result ℤ EvalFault) → Leads names h sets old (Enter c) mid (Enter at) → ((name : Naming) → Tells r (value_of (seen_term name h sets at))) → TellsDescent names h sets old c r mid
+  descended old mid c at (Ok z) l v = leads_on old mid mid (Enter c) (Enter at) (Leave z) l (integer_goes mid at z v)
+  descended old mid c at (Err e) l v = λ name n. subst (IsFault e) (sym (l.value name n)) (term_fails mid at e v name)
+
+  -- or at one that can't be entered
+  pub descent_fails : (old mid : List Waiting) (c at : Cell) (e : EvalFault) → Leads names h sets old (Enter c) mid (Enter at) → ((name : Naming) → IsNamedBy names name → IsFault e (resumed (seen_term name h sets) mid (value_of (seen_term name h sets at)))) → (name : Naming) → IsNamedBy names name → IsFault e (resumed (seen_term name h sets) old (value_of (seen_term name h sets c)))
+  descent_fails old mid c at e l f name n = subst (IsFault e) (sym (l.value name n)) (f name n)
 
   -- what waited last was taken away
   pub leads_popped : (old mid ws new : List Waiting) (w : Waiting) (s : Step) (y x : ℤ) (t : Step) → y ≡ x → mid ≡ ws ++ w ∷ [] → Leads names h sets old s mid (Leave y) → GoesOn names h sets (ws ++ w ∷ []) (Leave x) new t → Leads names h sets old s new t
@@ -245,6 +257,15 @@ two_of [] d a b = absurd (omega arith)
 two_of (x ∷ []) d a b = absurd (omega arith)
 two_of (x ∷ y ∷ []) d a b = refl
 two_of (x ∷ y ∷ z ∷ zs) d a b = absurd (omega arith)
+
+one_of : (xs : List ℕ) → 1 ≤ length xs → length xs < 2 → xs ≡ get_or xs 0 0 ∷ []
+one_of [] a b = absurd (omega arith)
+one_of (x ∷ []) a b = refl
+one_of (x ∷ y ∷ ys) a b = absurd (omega arith)
+
+-- the operation whose name is one character
+pub operation_at : (text bytes : Name) (o : Operation) → bytes ≡ text → 1 ≤ length bytes → length bytes < 2 → operation_of (get_or bytes 0 0 ∷ []) ≡ Some o → operation_of text ≡ Some o
+operation_at text bytes o e a b m = ap operation_of (sym e ∙ one_of bytes a b) ∙ m
 
 not_so : (b : Bool) → not b ≡ true → b ≡ false
 not_so true e = sym e

@@ -1,10 +1,11 @@
 -- What a cell shows through the sets of a store.
-use Rattle.std.proofs.Common.{◌≡◌, ℕ, suc, pos, ◌≤◌, true, false, eqb, List, [], ◌∷◌, Option, Some, None, MatchOption, OnSome, refl, ap, sym, ◌∙◌, arith, eq-eqb, eqb-true}
+use Rattle.std.proofs.Common.{◌≡◌, ℕ, suc, pos, ◌≤◌, true, false, eqb, List, [], ◌∷◌, Option, Some, None, MatchOption, OnSome, refl, ap, sym, ◌∙◌, arith, eq-eqb, eqb-true, Bor}
 use Rattle.std.specs.Option.{option_eq}
 use Rattle.std.proofs.lemmas.Bool.{true≢false}
-use Rattle.fd_language.specs.Term.{Term, Var, Int, Comp, term, Substitution, apply, apply_all}
+use Rattle.fd_language.specs.Term.{Name, Term, Terms, Var, Int, Comp, term, Substitution, apply, apply_all}
 use Rattle.fd_language.specs.Family.{IsRising}
 use Rattle.fd_language.specs.Range.{least, greatest, is_none_left}
+use Rattle.term_pool.specs.declared.AtomId.{AtomId}
 use Rattle.heap_cells.specs.declared.Cell.{Cell}
 use Rattle.heap_cells.specs.declared.Seen.{Seen}
 use Rattle.heap_cells.specs.declared.Seen.TheVariants as seen
@@ -85,6 +86,19 @@ module _ (name : Naming) (h : Cells) (sets : List (List ℕ)) (valid : IsHeap h)
   shown_else (seen.Struct f args) s n =
       ap (read_term h (family_of sets)) (s.3 name ∙ term-Struct name h valid s.0 ∙ ap (λ (d : Compound). Comp (name d.name) (terms_by (term_of name h) d.args)) s.2)
       ∙ ap (Comp (name f)) (applied_each (λ i. value_at (link_of (slot_at h i)) (family_of sets) i) (term_of name h) args.now)
+
+  simple_value : (xs : List ℕ) (i : ℕ) (f : Name) (ts : Terms) → value_in xs i ≡ Comp f ts → ⊥
+  simple_value [] i f ts e = cc
+  simple_value (w ∷ []) i f ts e = cc
+  simple_value (w ∷ v ∷ ws) i f ts e = cc
+
+  -- what is seen is no compound term, and neither is the term
+  pub simple_seen : (y : Seen) → IsSeen h c y → ((f : AtomId) (args : Bor (List Cell)) → y ≡ seen.Struct f args → ⊥) → (f : Name) (ts : Terms) → seen_term name h sets c ≡ Comp f ts → ⊥
+  simple_seen (seen.Open i) s n f ts e = let k = sym (shown_else (seen.Open i) s (λ j m x. cc)) ∙ e in cc
+  simple_seen (seen.Constrained i k) s n f ts e = simple_value (family_of sets k) i f ts (sym (linked_term i k s) ∙ e)
+  simple_seen (seen.Int z) s n f ts e = let k = sym (shown_else (seen.Int z) s (λ j m x. cc)) ∙ e in cc
+  simple_seen (seen.Atom a) s n f ts e = let k = sym (shown_else (seen.Atom a) s (λ j m x. cc)) ∙ e in cc
+  simple_seen (seen.Struct g args) s n f ts e = absurd (n g args refl)
 
 -- a variable of the store is seen with its number
 pub number_same : (i k j m : ℕ) → seen.Constrained i k ≡ seen.Constrained j m → m ≡ k

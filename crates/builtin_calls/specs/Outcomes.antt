@@ -7,6 +7,7 @@ use Rattle.term_pool.specs.Contents.{name_in}
 use Rattle.heap_cells.specs.Terms.{Naming}
 use Rattle.builtin_calls.specs.declared.evaluation.EvalFault.{EvalFault}
 use Rattle.builtin_calls.specs.declared.evaluation.EvalFault.TheVariants.{Unbound, NotANumber, Overflow, ZeroDivisor, NoMemory}
+use Rattle.builtin_calls.specs.declared.evaluation.Named.{Named}
 use Rattle.builtin_calls.specs.declared.waiting.Operation.{Operation}
 use Rattle.builtin_calls.specs.declared.waiting.Operation.TheVariants.{Add, Subtract, Multiply, Divide, Modulo}
 use Rattle.fd_model.specs.Arithmetic.{unbound, not_a_number, overflow, zero_divisor, Value, sum_of, difference_of, product_of, quotient_of, modulo_of}
@@ -43,3 +44,11 @@ operation_of f =
     if bytes_eq f (codes "*") then Some Multiply else
     if bytes_eq f (codes "//") then Some Divide else
     if bytes_eq f (codes "mod") then Some Modulo else None
+
+-- the operation is the one that its atom's name means
+abbrev pub IsMeant : List Name → Named → Type 0
+IsMeant names n = operation_of (name_in names n.name) ≡ Some n.operation
+
+-- the value of the operation with a name
+abbrev pub IsMeaning : Name → ℤ → ℤ → ℤ → Type 0
+IsMeaning f a b z = (o : Operation) × (operation_of f ≡ Some o) × (meaning o a b ≡ Ok z)

@@ -95,9 +95,9 @@ TellsAscent names h sets old z (Ok (Leave y)) new = Leads names h sets old (Leav
 TellsAscent names h sets old z (Err e) new = (name : Naming) → IsNamedBy names name → IsFault e (resumed (seen_term name h sets) old (Ok z))
 
 -- a compound term is entered at its first operand, or at the second one where the first has a value; or its fault is told
-abbrev pub IsEntered : Cells → List (List ℕ) → Name → List Cell → List Waiting → Result Step EvalFault → List Waiting → Type 0
+abbrev pub IsEntered : Cells → List (List ℕ) → Name → List Cell → List Waiting → Result Cell EvalFault → List Waiting → Type 0
 IsEntered h sets f args old (Ok t) new =
-    ((c : Cell) × (args ≡ c ∷ []) × (bytes_eq f (codes "-") ≡ true) × (new ≡ old ++ Opposite ∷ []) × (t ≡ Enter c))
-    ⊎ (((c : Cell) × (d : Cell) × (o : Operation) × (args ≡ c ∷ d ∷ []) × (operation_of f ≡ Some o) × (new ≡ old ++ Left o d ∷ []) × (t ≡ Enter c))
-    ⊎ ((c : Cell) × (d : Cell) × (o : Operation) × (z : ℤ) × (args ≡ c ∷ d ∷ []) × (operation_of f ≡ Some o) × ((name : Naming) → value_of (seen_term name h sets c) ≡ Ok z) × (new ≡ old ++ Right o z ∷ []) × (t ≡ Enter d)))
+    ((c : Cell) × (args ≡ c ∷ []) × (bytes_eq f (codes "-") ≡ true) × (new ≡ old ++ Opposite ∷ []) × (t ≡ c))
+    ⊎ (((c : Cell) × (d : Cell) × (o : Operation) × (args ≡ c ∷ d ∷ []) × (operation_of f ≡ Some o) × (new ≡ old ++ Left o d ∷ []) × (t ≡ c))
+    ⊎ ((c : Cell) × (d : Cell) × (o : Operation) × (z : ℤ) × (args ≡ c ∷ d ∷ []) × (operation_of f ≡ Some o) × ((name : Naming) → value_of (seen_term name h sets c) ≡ Ok z) × (new ≡ old ++ Right o z ∷ []) × (t ≡ d)))
 IsEntered h sets f args old (Err e) new = (by : Cell → Term) → IsFault e (value_of (Comp f (terms_by by args)))

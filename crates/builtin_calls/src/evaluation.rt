@@ -1,26 +1,28 @@
 //! Arithmetic.
 
-ghost use Rattle.std.specs.Prelude.{◌≡◌, ◌++◌, [], ◌∷◌, ℤ, pos, List, length, FitsSigned, IfSome, Ok, OnOk, All, codes};
+ghost use Rattle.std.specs.Prelude.{◌≡◌, ℕ, ◌<◌, ◌++◌, [], ◌∷◌, ℤ, pos, List, length, FitsSigned, IfSome, Ok, OnOk, All, codes};
 ghost use Rattle.std.specs.Str.{bytes_eq};
 ghost use Rattle.std.specs.Option.{SomeIff};
 ghost use Rattle.std.specs.Int.{w64};
 ghost use Rattle.fd_language.specs.Term.{Name};
 ghost use Rattle.heap_cells.specs.Atoms.{HasAtomsBelow, IsAtomBelow};
-ghost use Rattle.heap_cells.specs.Cells.{IsOf};
+ghost use Rattle.term_pool.specs.Contents.{name_in};
+ghost use Rattle.heap_cells.specs.Cells.{Cells, IsOf};
 ghost use Rattle.heap_cells.specs.Terms.{Naming};
 ghost use Rattle.builtin_calls.specs.declared.evaluation.EvalFault.TheVariants as fault;
 ghost use Rattle.builtin_calls.specs.declared.evaluation.Step.TheVariants as step;
 ghost use Rattle.fd_model.specs.Arithmetic.{integer, modulo, value_of};
-ghost use Rattle.builtin_calls.specs.Outcomes.{Tells, IsNamedBy, meaning, operation_of};
+ghost use Rattle.builtin_calls.specs.Outcomes.{Tells, IsMeant, IsMeaning, IsNamedBy, meaning, operation_of};
 ghost use Rattle.builtin_calls.specs.Reading.{seen_term, HasLinksBelow};
+ghost use Rattle.builtin_calls.specs.Shown.{IsSimple};
 ghost use Rattle.builtin_calls.specs.Waiting.{IsEntered, IsOfHeap, IsOwn, IsOwnWaiting, TellsStep, TellsDescent, TellsAscent};
 
-use crate::reading::look;
+use crate::reading::{glance, look};
 use crate::waiting::{Operation, Waiters, Waiting};
 use domain_ranges::View;
 use heap_cells::{Cell, Heap, Seen};
 use std::alloc::{AllocError, Global};
-use term_pool::Pool;
+use term_pool::{AtomId, Pool};
 use thiserror::Error;
 
 /// Why a term has no value.
@@ -71,6 +73,7 @@ fn operation_of_byte(byte: u8) -> Option<Operation>
 }
 
 /// The operation of this name.
+#[inline(never)]
 fn operation_named(name: &str) -> Option<Operation>
     ensures { result ≡ operation_of name.now }
 {
@@ -82,6 +85,31 @@ fn operation_named(name: &str) -> Option<Operation>
         }
         _ => None,
     }
+}
+
+/// An operation with the atom that names it.
+#[derive(Clone, Copy)]
+struct Named {
+    name: AtomId,
+    operation: Operation,
+}
+
+/// The operation that an atom names, which may be the latest that was looked for.
+#[inline(always)]
+fn find_operation(pool: &Pool, name: AtomId, latest: &mut Option<Named>) -> Option<Operation>
+    requires own { name.number < length pool.now.names }
+    requires latest { IfSome latest.old (IsMeant pool.now.names) }
+    ensures found { result ≡ operation_of (name_in pool.now.names name) }
+    ensures latest { IfSome latest.new (IsMeant pool.now.names) }
+{
+    if let Some(named) = *latest {
+        if named.name.number == name.number {
+            return Some(named.operation);
+        }
+    }
+    let operation = operation_named(pool.name_of(name))?;
+    *latest = Some(Named { name, operation });
+    Some(operation)
 }
 
 /// Whether this is the name of the prefix `-`.
@@ -134,99 +162,99 @@ fn apply(operation: Operation, left: i64, right: i64) -> Result<i64, EvalFault>
     }
 }
 
-/// The value of an integer, and `None` at another term.
+/// The value of an integer that a look shows, and `None` at another term.
 #[inline(always)]
-fn constant<V: View>(heap: &Heap, view: &V, c: Cell) -> Option<i64>
-    requires own { IsOf heap.now.now c }
-    requires links { HasLinksBelow (length (V.sets view.now)) heap.now.now }
-    ensures { IfSome result (λ z. (name : Naming) → value_of
-        (seen_term name heap.now.now (V.sets view.now) c) ≡ Ok z) }
+fn constant(heap: &Heap, c: Cell) -> Option<i64>
+    requires { IsOf heap.now.now c }
+    ensures { IfSome result (λ z. (name : Naming) (sets : List (List ℕ)) → value_of
+        (seen_term name heap.now.now sets c) ≡ Ok z) }
 {
-    match look(heap, view, c) {
-        Seen::Int(z) if z != i64::MIN => Some(z),
+    match glance(heap, c) {
+        Some(z) if z != i64::MIN => Some(z),
         _ => None,
     }
 }
 
-/// Enters a compound term at its first operand, or at the second one where the first is an integer.
-#[inline(always)]
-fn enter_compound<V: View>(
-    heap: &Heap,
-    view: &V,
-    name: &str,
-    args: &[Cell],
-    waiting: &mut Waiters,
-) -> Result<Step, EvalFault>
-    requires own { All (IsOf heap.now.now) args.now }
+/// The value of a term that is no compound term.
+#[inline(never)]
+fn value_of_simple<V: View>(heap: &Heap, view: &V, c: Cell) -> Result<i64, EvalFault>
+    requires own { IsOf heap.now.now c }
+    requires simple { IsSimple heap.now.now (V.sets view.now) c }
     requires links { HasLinksBelow (length (V.sets view.now)) heap.now.now }
-    ensures { IsEntered heap.now.now (V.sets view.now) name.now args.now waiting.old result
-        waiting.new }
+    ensures { (name : Naming) → Tells result
+        (value_of (seen_term name heap.now.now (V.sets view.now) c)) }
+{
+    match look(heap, view, c) {
+        Seen::Int(z) => checked(Some(z)),
+        Seen::Atom(_) => Err(EvalFault::NotANumber),
+        Seen::Struct(_, _) => Err(EvalFault::NotANumber),
+        _ => Err(EvalFault::Unbound),
+    }
+}
+
+/// Enters a compound term that hasn't two arguments.
+#[inline(always)]
+fn enter_opposite(name: &str, args: &[Cell], waiting: &mut Waiters) -> Result<Cell, EvalFault>
+    requires { length args.now ≡ 2 → ⊥ }
+    ensures { (h : Cells) (sets : List (List ℕ)) → IsEntered h sets name.now args.now waiting.old
+        result waiting.new }
 {
     match args {
-        &[left, right] => {
-            let Some(operation) = operation_named(name) else {
-                return Err(EvalFault::NotANumber);
-            };
-            if let Some(value) = constant(heap, view, left) {
-                waiting.push(Waiting::Right(operation, value))?;
-                return Ok(Step::Enter(right));
-            }
-            waiting.push(Waiting::Left(operation, right))?;
-            Ok(Step::Enter(left))
-        }
         &[only] => {
             if !is_minus(name) {
                 return Err(EvalFault::NotANumber);
             }
             waiting.push(Waiting::Opposite)?;
-            Ok(Step::Enter(only))
+            Ok(only)
         }
         _ => Err(EvalFault::NotANumber),
     }
 }
 
-/// Enters a term: the step to an operand, or behind it.
+/// Enters a compound term at its first operand, or at the second one where the first is an integer. `latest` is the operation that
+/// was found last.
 #[inline(always)]
-fn enter<V: View>(
+fn enter_compound(
     heap: &Heap,
     pool: &Pool,
-    view: &V,
-    c: Cell,
+    name: AtomId,
+    args: &[Cell],
     waiting: &mut Waiters,
-) -> Result<Step, EvalFault>
-    requires own { IsOf heap.now.now c }
-    requires atoms { HasAtomsBelow (length pool.now.names) heap.now.now }
-    requires links { HasLinksBelow (length (V.sets view.now)) heap.now.now }
-    ensures { TellsStep pool.now.names heap.now.now (V.sets view.now) waiting.old
-        (step.Enter c) result waiting.new }
+    latest: &mut Option<Named>,
+) -> Result<Cell, EvalFault>
+    requires own { name.number < length pool.now.names }
+    requires args { All (IsOf heap.now.now) args.now }
+    requires latest { IfSome latest.old (IsMeant pool.now.names) }
+    ensures entered { (sets : List (List ℕ)) → IsEntered heap.now.now sets
+        (name_in pool.now.names name) args.now waiting.old result waiting.new }
+    ensures latest { IfSome latest.new (IsMeant pool.now.names) }
 {
-    match look(heap, view, c) {
-        Seen::Int(z) => Ok(Step::Leave(checked(Some(z))?)),
-        Seen::Struct(f, args) => enter_compound(heap, view, pool.name_of(f), args, waiting),
-        Seen::Atom(_) => Err(EvalFault::NotANumber),
-        _ => Err(EvalFault::Unbound),
+    let &[left, right] = args else {
+        return enter_opposite(pool.name_of(name), args, waiting);
+    };
+    let Some(operation) = find_operation(pool, name, latest) else {
+        return Err(EvalFault::NotANumber);
+    };
+    if let Some(value) = constant(heap, left) {
+        waiting.push(Waiting::Right(operation, value))?;
+        return Ok(right);
     }
+    waiting.push(Waiting::Left(operation, right))?;
+    Ok(left)
 }
 
 /// Goes on with a value that was waited for.
 #[inline(always)]
-fn resume<V: View>(
-    heap: &Heap,
-    view: &V,
-    waits: Waiting,
-    value: i64,
-    waiting: &mut Waiters,
-) -> Result<Step, EvalFault>
+fn resume(heap: &Heap, waits: Waiting, value: i64, waiting: &mut Waiters) -> Result<Step, EvalFault>
     requires own { IsOfHeap heap.now.now waits }
-    requires links { HasLinksBelow (length (V.sets view.now)) heap.now.now }
-    ensures goes { (names : List Name) → TellsStep names heap.now.now (V.sets view.now)
+    ensures goes { (names : List Name) (sets : List (List ℕ)) → TellsStep names heap.now.now sets
         (waiting.old ++ waits ∷ []) (step.Leave value) result waiting.new }
     ensures held { OnOk result (All (IsOfHeap heap.now.now) waiting.old
         → All (IsOfHeap heap.now.now) waiting.new) }
 {
     match waits {
         Waiting::Left(operation, right) => {
-            if let Some(operand) = constant(heap, view, right) {
+            if let Some(operand) = constant(heap, right) {
                 return Ok(Step::Leave(apply(operation, value, operand)?));
             }
             waiting.push(Waiting::Right(operation, value))?;
@@ -237,28 +265,40 @@ fn resume<V: View>(
     }
 }
 
-/// The value of an integer, or of an operation of two integers, and `None` at another term.
-fn eval_flat<V: View>(heap: &Heap, pool: &Pool, view: &V, c: Cell) -> Option<Result<i64, EvalFault>>
+/// The value of a sum, a difference or a product by its sign, where it has one.
+#[inline(always)]
+fn value_by_sign(sign: u8, left: i64, right: i64) -> Option<i64>
+    ensures { IfSome result (λ z. IsMeaning (sign ∷ []) left right z) }
+{
+    match sign {
+        b'+' => apply(Operation::Add, left, right).ok(),
+        b'-' => apply(Operation::Subtract, left, right).ok(),
+        b'*' => apply(Operation::Multiply, left, right).ok(),
+        _ => None,
+    }
+}
+
+/// The value of an integer, or of a sum, a difference or a product of two integers, where a look shows it.
+#[inline(always)]
+fn near_value(heap: &Heap, pool: &Pool, c: Cell) -> Option<i64>
     requires own { IsOf heap.now.now c }
     requires atoms { HasAtomsBelow (length pool.now.names) heap.now.now }
-    requires links { HasLinksBelow (length (V.sets view.now)) heap.now.now }
-    ensures { IfSome result (λ r. (name : Naming) → IsNamedBy pool.now.names name → Tells r
-        (value_of (seen_term name heap.now.now (V.sets view.now) c))) }
+    ensures { IfSome result (λ z. (name : Naming) (sets : List (List ℕ)) → IsNamedBy pool.now.names
+        name → value_of (seen_term name heap.now.now sets c) ≡ Ok z) }
 {
-    match look(heap, view, c) {
-        Seen::Int(z) if z != i64::MIN => Some(Ok(z)),
-        Seen::Struct(f, &[left, right]) => {
-            let a = constant(heap, view, left)?;
-            let b = constant(heap, view, right)?;
-            let operation = operation_named(pool.name_of(f))?;
-            Some(apply(operation, a, b))
-        }
+    let Seen::Struct(f, &[left, right]) = heap.deref(c) else {
+        return constant(heap, c);
+    };
+    let a = constant(heap, left)?;
+    let b = constant(heap, right)?;
+    match pool.name_of(f).as_bytes() {
+        &[sign] => value_by_sign(sign, a, b),
         _ => None,
     }
 }
 
 /// Goes down to the first integer, past what waits for values.
-#[inline(always)]
+#[inline(never)]
 fn descend<V: View>(
     heap: &Heap,
     pool: &Pool,
@@ -274,30 +314,25 @@ fn descend<V: View>(
         waiting.new }
 {
     let mut at = c;
+    let mut latest = None;
     'down: loop {
-        match enter(heap, pool, view, at, waiting)? {
-            Step::Enter(next) => at = next,
-            Step::Leave(value) => return Ok(value),
-        }
+        let Seen::Struct(f, args) = heap.deref(at) else {
+            return value_of_simple(heap, view, at);
+        };
+        at = enter_compound(heap, pool, f, args, waiting, &mut latest)?;
     }
 }
 
 /// Goes up with a value, to the next operand that is to be entered, or to the end.
 #[inline(always)]
-fn ascend<V: View>(
-    heap: &Heap,
-    view: &V,
-    value: i64,
-    waiting: &mut Waiters,
-) -> Result<Step, EvalFault>
+fn ascend(heap: &Heap, value: i64, waiting: &mut Waiters) -> Result<Step, EvalFault>
     requires own { All (IsOfHeap heap.now.now) waiting.old }
-    requires links { HasLinksBelow (length (V.sets view.now)) heap.now.now }
-    ensures { (names : List Name) → TellsAscent names heap.now.now (V.sets view.now) waiting.old
-        value result waiting.new }
+    ensures { (names : List Name) (sets : List (List ℕ)) → TellsAscent names heap.now.now sets
+        waiting.old value result waiting.new }
 {
     let mut current = value;
     while let Some(waits) = waiting.pop() {
-        match resume(heap, view, waits, current, waiting)? {
+        match resume(heap, waits, current, waiting)? {
             Step::Enter(next) => return Ok(Step::Enter(next)),
             Step::Leave(next) => current = next,
         }
@@ -306,6 +341,7 @@ fn ascend<V: View>(
 }
 
 /// The value of a term, operand by operand.
+#[inline(never)]
 fn eval_nested<V: View>(
     alloc: Global,
     heap: &Heap,
@@ -324,7 +360,7 @@ fn eval_nested<V: View>(
     let mut at = c;
     'steps: loop {
         let value = descend(heap, pool, view, at, &mut waiting)?;
-        match ascend(heap, view, value, &mut waiting)? {
+        match ascend(heap, value, &mut waiting)? {
             Step::Enter(next) => at = next,
             Step::Leave(value) => return Ok(value),
         }
@@ -350,8 +386,8 @@ pub fn eval<V: View>(
     ensures { (name : Naming) → IsNamedBy pool.now.names name → Tells result
         (value_of (seen_term name heap.now.now (V.sets view.now) c)) }
 {
-    if let Some(told) = eval_flat(heap, pool, view, c) {
-        return told;
+    if let Some(value) = near_value(heap, pool, c) {
+        return Ok(value);
     }
     eval_nested(alloc, heap, pool, view, c)
 }

@@ -1,6 +1,7 @@
 //! A cell as the sets of a store show it.
 
-ghost use Rattle.std.specs.Prelude.{◌≡◌, length};
+ghost use Rattle.std.specs.Prelude.{◌≡◌, ℕ, List, length, IfSome};
+ghost use Rattle.fd_language.specs.Term.{Int};
 ghost use Rattle.heap_cells.specs.Cells.{IsOf};
 ghost use Rattle.heap_cells.specs.Terms.{Naming};
 ghost use Rattle.heap_cells.specs.Valid.{IsHeap};
@@ -34,4 +35,14 @@ pub(crate) fn look<'h, V: View>(heap: &'h Heap, view: &V, c: Cell) -> Seen<'h>
         }
     }
     seen
+}
+
+/// The integer that a look at a cell shows, and `None` at another term.
+#[inline(always)]
+pub(crate) fn glance(heap: &Heap, c: Cell) -> Option<i64>
+    requires { IsOf heap.now.now c }
+    ensures { IfSome result (λ z. (name : Naming) (sets : List (List ℕ)) → seen_term name
+        heap.now.now sets c ≡ Int z) }
+{
+    heap.near_int(c)
 }

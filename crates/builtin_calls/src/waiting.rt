@@ -1,6 +1,7 @@
 //! What waits for the values of operands.
 
-ghost use Rattle.std.specs.Prelude.{◌≡◌, ◌++◌, [], ◌∷◌, MatchOption, OnOk};
+ghost use Rattle.std.specs.Prelude.{◌≡◌, ◌<◌, ◌++◌, [], ◌∷◌, MatchOption, OnOk};
+ghost use Rattle.std.specs.Vec.{vec_len, vec_capacity};
 
 use heap_cells::Cell;
 use std::alloc::{AllocError, Global};
@@ -30,6 +31,9 @@ pub(crate) enum Waiting {
 /// How many may wait before their number takes memory.
 const ROOM: usize = 8;
 
+/// For how many more memory is taken at once.
+const MORE: usize = 56;
+
 /// All that waits, of which the last is the next: the first eight here, and those behind them in memory of their own.
 #[derive(Drop)]
 pub(crate) struct Waiters {
@@ -48,6 +52,27 @@ impl Model for Waiters {
     ghost view = { λ w. all_waiting w.near w.count w.far.items };
 
     ghost invariant = { λ w. IsFilled w.near w.count w.far.items };
+}
+
+/// Makes room for more. The error is want of memory.
+#[inline(never)]
+fn make_room(far: &mut Vec<Waiting>) -> Result<(), AllocError>
+    ensures items { far.new.items ≡ far.old.items }
+    ensures room { OnOk result (vec_len far.new < vec_capacity far.new) }
+{
+    far.reserve(MORE)
+}
+
+/// Puts what waits behind the others. The error is want of memory.
+#[inline(always)]
+fn push_far(far: &mut Vec<Waiting>, waits: Waiting) -> Result<(), AllocError>
+    ensures { OnOk result (far.new.items ≡ far.old.items ++ waits ∷ []) }
+{
+    if far.len() == far.capacity() {
+        make_room(far)?;
+    }
+    far.push_reserved(waits);
+    Ok(())
 }
 
 impl Waiters {
@@ -72,7 +97,7 @@ impl Waiters {
             self.near[self.count] = waits;
             self.count += 1;
         } else {
-            self.far.push(waits)?;
+            push_far(&mut self.far, waits)?;
         }
         Ok(())
     }

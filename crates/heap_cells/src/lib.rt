@@ -300,11 +300,13 @@ impl Heap {
     #[inline(always)]
     pub fn near_int(&self, c: Cell) -> Option<i64>
         requires { IsOf self.now.now c }
-        ensures { IfSome result (λ z. Same self.now.now c (cell.Int z)) }
+        ensures same { IfSome result (λ z. Same self.now.now c (cell.Int z)) }
+        ensures valid { IsHeap self.now.now }
     {
+        let variables = &self.variables;
         match c {
             Cell::Int(z) => Some(z),
-            Cell::Ref(i) => match self.variables[i] {
+            Cell::Ref(i) => match variables[i] {
                 Variable::Int(z) => Some(z),
                 _ => None,
             },

@@ -12,45 +12,40 @@ use Rattle.builtin_calls.proofs.Evaluating.{leads_popped, popped_falls, popped_f
 use Rattle.builtin_calls.proofs.evaluation.ascend.Goals as goal
 
 pub returns-in_err-next : goal.returns-in_err-next
-returns-in_err-next g c =
+returns-in_err-next c =
     let p = err_from_is_err_and c.from_residual.result c.from_residual.ensures.1 in
     let h = c.args.heap.now.now in
-    let sets = g.V.View.sets c.args.view.now in
-    rw (p.1, p.2) (λ names name n. subst (λ z. IsFault c.in_err-next.field-0.0 (resumed (seen_term name h sets) c.args.waiting.now (Ok z))) (read_back c.args.value c.ranges.value)
+    rw (p.1, p.2) (λ names sets name n. subst (λ z. IsFault c.in_err-next.field-0.0 (resumed (seen_term name h sets) c.args.waiting.now (Ok z))) (read_back c.args.value c.ranges.value)
     (popped_fails names h sets c.args.waiting.now c.loop-waits.waiting c.pop.new.self c.in-Some.waits (Leave (to_z w64 (of_z w64 c.args.value))) (to_z w64 c.loop-waits.current-bits) (to_z w64 c.loop-waits.current-bits) c.in_err-next.field-0.0
-    refl c.in-Some.ensures (c.loop-waits.invariant.leads names) (c.in_err-next.ensures.goes names) name n))
+    refl c.in-Some.ensures (c.loop-waits.invariant.leads names sets) (c.in_err-next.ensures.goes names sets) name n))
 
 pub returns-in-Enter : goal.returns-in-Enter
-returns-in-Enter g c names =
+returns-in-Enter c names sets =
     let h = c.args.heap.now.now in
-    let sets = g.V.View.sets c.args.view.now in
     subst (λ z. Leads names h sets c.args.waiting.now (Leave z) c.resume.new.waiting (Enter c.in-Enter.next)) (read_back c.args.value c.ranges.value)
     (subst (Leads names h sets c.args.waiting.now (Leave (to_z w64 (of_z w64 c.args.value))) c.resume.new.waiting) c.in-Enter.is
     (leads_popped names h sets c.args.waiting.now c.loop-waits.waiting c.pop.new.self c.resume.new.waiting c.in-Some.waits (Leave (to_z w64 (of_z w64 c.args.value))) (to_z w64 c.loop-waits.current-bits) (to_z w64 c.loop-waits.current-bits) c.in_ok-next.field-0
-    refl c.in-Some.ensures (c.loop-waits.invariant.leads names) (c.in_ok-next.ensures.goes names)))
+    refl c.in-Some.ensures (c.loop-waits.invariant.leads names sets) (c.in_ok-next.ensures.goes names sets)))
 
 pub loop-waits-smaller : goal.loop-waits-smaller
-loop-waits-smaller g c =
+loop-waits-smaller c =
     let h = c.args.heap.now.now in
-    let sets = g.V.View.sets c.args.view.now in
-    popped_falls [] h sets c.loop-waits.waiting c.pop.new.self c.resume.new.waiting c.in-Some.waits (to_z w64 c.loop-waits.current-bits) c.in-Leave.next c.in_ok-next.field-0 c.in-Some.ensures (c.in_ok-next.ensures.goes []) c.in-Leave.is
+    popped_falls [] h [] c.loop-waits.waiting c.pop.new.self c.resume.new.waiting c.in-Some.waits (to_z w64 c.loop-waits.current-bits) c.in-Leave.next c.in_ok-next.field-0 c.in-Some.ensures (c.in_ok-next.ensures.goes [] []) c.in-Leave.is
 
 pub loop-waits-preserved : goal.loop-waits-preserved
-loop-waits-preserved g c =
+loop-waits-preserved c =
     let h = c.args.heap.now.now in
-    let sets = g.V.View.sets c.args.view.now in
     let fits : FitsSigned w64 c.in-Leave.next = search rules in
     record {
-      leads = λ names. subst (Leads names h sets c.args.waiting.now (Leave (to_z w64 (of_z w64 c.args.value))) c.resume.new.waiting) (c.in-Leave.is ∙ ap Leave (sym (read_back c.in-Leave.next fits)))
+      leads = λ names sets. subst (Leads names h sets c.args.waiting.now (Leave (to_z w64 (of_z w64 c.args.value))) c.resume.new.waiting) (c.in-Leave.is ∙ ap Leave (sym (read_back c.in-Leave.next fits)))
           (leads_popped names h sets c.args.waiting.now c.loop-waits.waiting c.pop.new.self c.resume.new.waiting c.in-Some.waits (Leave (to_z w64 (of_z w64 c.args.value))) (to_z w64 c.loop-waits.current-bits) (to_z w64 c.loop-waits.current-bits) c.in_ok-next.field-0
-          refl c.in-Some.ensures (c.loop-waits.invariant.leads names) (c.in_ok-next.ensures.goes names));
+          refl c.in-Some.ensures (c.loop-waits.invariant.leads names sets) (c.in_ok-next.ensures.goes names sets));
       held = c.in_ok-next.ensures.held (all_front (IsOfHeap h) c.pop.new.self (c.in-Some.waits ∷ []) (subst (All (IsOfHeap h)) c.in-Some.ensures c.loop-waits.invariant.held));
     }
 
 pub returns : goal.returns
-returns g c names =
+returns c names sets =
     let h = c.args.heap.now.now in
-    let sets = g.V.View.sets c.args.view.now in
     let none : c.loop-waits.waiting ≡ [] = search rules in
     subst (λ z. Leads names h sets c.args.waiting.now (Leave z) [] (Leave (to_z w64 c.loop-waits.current-bits))) (read_back c.args.value c.ranges.value)
-    (subst (λ (ws : List Waiting). Leads names h sets c.args.waiting.now (Leave (to_z w64 (of_z w64 c.args.value))) ws (Leave (to_z w64 c.loop-waits.current-bits))) none (c.loop-waits.invariant.leads names))
+    (subst (λ (ws : List Waiting). Leads names h sets c.args.waiting.now (Leave (to_z w64 (of_z w64 c.args.value))) ws (Leave (to_z w64 c.loop-waits.current-bits))) none (c.loop-waits.invariant.leads names sets))

@@ -11,7 +11,7 @@ steps-smaller g c =
     let sets = g.V.View.sets c.args.view.now in
     let fits : FitsSigned w64 c.in_ok-value.value = search rules in
     (climbed c.args.pool.now.names h sets c.steps.waiting c.descend.new.waiting c.ascend.new.waiting c.steps.at c.in-Enter.next c.in_ok-value.value (to_z w64 (of_z w64 c.in_ok-value.value)) c.in_ok-next.field-0
-    c.in_ok-value.ensures (read_back c.in_ok-value.value fits) (c.in_ok-next.ensures c.args.pool.now.names) c.in-Enter.is).falls
+    c.in_ok-value.ensures (read_back c.in_ok-value.value fits) (c.in_ok-next.ensures c.args.pool.now.names sets) c.in-Enter.is).falls
 
 pub steps-preserved : goal.steps-preserved
 steps-preserved g c =
@@ -20,7 +20,7 @@ steps-preserved g c =
     let fits : FitsSigned w64 c.in_ok-value.value = search rules in
     under_way_further c.args.pool.now.names h sets c.args.c c.steps.waiting c.ascend.new.waiting (Enter c.steps.at) (Enter c.in-Enter.next) c.steps.invariant
     (climbed c.args.pool.now.names h sets c.steps.waiting c.descend.new.waiting c.ascend.new.waiting c.steps.at c.in-Enter.next c.in_ok-value.value (to_z w64 (of_z w64 c.in_ok-value.value)) c.in_ok-next.field-0
-    c.in_ok-value.ensures (read_back c.in_ok-value.value fits) (c.in_ok-next.ensures c.args.pool.now.names) c.in-Enter.is)
+    c.in_ok-value.ensures (read_back c.in_ok-value.value fits) (c.in_ok-next.ensures c.args.pool.now.names sets) c.in-Enter.is)
 
 pub returns-in-Leave : goal.returns-in-Leave
 returns-in-Leave g c =
@@ -31,7 +31,7 @@ returns-in-Leave g c =
     way_ends c.args.pool.now.names h sets c.args.c [] (Leave (to_z w64 (of_z w64 c.in-Leave.value))) (to_z w64 (of_z w64 c.in-Leave.value))
     (under_way_further c.args.pool.now.names h sets c.args.c c.steps.waiting [] (Enter c.steps.at) (Leave (to_z w64 (of_z w64 c.in-Leave.value))) c.steps.invariant
     (climbed_out c.args.pool.now.names h sets c.steps.waiting c.descend.new.waiting c.ascend.new.waiting c.steps.at c.in_ok-value.value (to_z w64 (of_z w64 c.in_ok-value.value)) (to_z w64 (of_z w64 c.in-Leave.value)) c.in_ok-next.field-0
-    c.in_ok-value.ensures (read_back c.in_ok-value.value fits) (c.in_ok-next.ensures c.args.pool.now.names) (c.in-Leave.is ∙ ap Leave (sym (read_back c.in-Leave.value fv))))) refl refl
+    c.in_ok-value.ensures (read_back c.in_ok-value.value fits) (c.in_ok-next.ensures c.args.pool.now.names sets) (c.in-Leave.is ∙ ap Leave (sym (read_back c.in-Leave.value fv))))) refl refl
 
 pub returns-in_err-next : goal.returns-in_err-next
 returns-in_err-next g c =
@@ -40,4 +40,4 @@ returns-in_err-next g c =
     let sets = g.V.View.sets c.args.view.now in
     let fits : FitsSigned w64 c.in_ok-value.value = search rules in
     rw (p.1, p.2) (way_fails c.args.pool.now.names h sets c.args.c c.steps.waiting (Enter c.steps.at) c.in_err-next.field-0.0 c.steps.invariant
-    (climbed_fails c.args.pool.now.names h sets c.steps.waiting c.descend.new.waiting c.steps.at c.in_ok-value.value (to_z w64 (of_z w64 c.in_ok-value.value)) c.in_err-next.field-0.0 c.in_ok-value.ensures (read_back c.in_ok-value.value fits) (c.in_err-next.ensures c.args.pool.now.names)))
+    (climbed_fails c.args.pool.now.names h sets c.steps.waiting c.descend.new.waiting c.steps.at c.in_ok-value.value (to_z w64 (of_z w64 c.in_ok-value.value)) c.in_err-next.field-0.0 c.in_ok-value.ensures (read_back c.in_ok-value.value fits) (c.in_err-next.ensures c.args.pool.now.names sets)))

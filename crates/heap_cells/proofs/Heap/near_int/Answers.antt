@@ -6,8 +6,8 @@ use Rattle.heap_cells.specs.Stored.{slot_of}
 use Rattle.heap_cells.proofs.Chains.{one_binding}
 use Rattle.heap_cells.proofs.Heap.near_int.Goals as goal
 
-pub returns-in-Int-index : goal.returns-in-Int-index
-returns-in-Int-index c =
+pub returns-in-Int-index-clause-same : goal.returns-in-Int-index-clause-same
+returns-in-Int-index-clause-same c =
     let z = c.in-Int-index.z in
     let fits : FitsSigned w64 c.in-Int-index.z = search rules in
     subst (λ y. Same c.args.self.now.now c.args.c (cell.Int y)) (sym (to_z-of_z w64 z fits))
