@@ -2,17 +2,18 @@
 
 ghost use Rattle.std.specs.Prelude.{◌≡◌, ◌<◌, ◌≤◌, All, IfOk, OnOk, length};
 ghost use Rattle.heap_cells.specs.declared.Cell.TheVariants as cell;
-ghost use Rattle.heap_cells.specs.Cells.{with_new_slot};
+ghost use Rattle.heap_cells.specs.Cells.{free, slot_at, with_new_slot};
 ghost use Rattle.unify_core.specs.Outcome.{IfTrue, IfFalse};
 ghost use Rattle.unify_core.specs.Unified.{CannotUnify, IsEqualled};
 ghost use Rattle.branch_state.specs.States.{first_state, with_heap, with_pair, HasNoModel, IsSound, IsSoundBelow, IsSameBelow, IsUndone, IsCell};
 ghost use Rattle.branch_state.specs.Steps.{AreTouchesBelow, AreTouchesOf, posted_with};
-ghost use Rattle.branch_state.specs.Compounds.{IsMade};
+ghost use Rattle.branch_state.specs.Compounds.{IsMade, IsCompoundOf, BindsCompound};
 ghost use Rattle.branch_state.specs.Constraints.{Constrains};
 ghost use Rattle.branch_state.specs.Showing.{IsShown};
 ghost use Rattle.branch_state.specs.CellPosts.{PostsCells};
 ghost use Rattle.range_code.specs.Slots.{slots_of};
 
+use crate::binding::are_others;
 use crate::cells::prepare_cells;
 use crate::codes::{exact_code, know_code, same_code};
 use crate::constraints::{count_variables, expand_goal, fault_of, prepare_row};
@@ -168,6 +169,66 @@ impl<A: Agenda + Drop> BranchState<A> {
         ensures below { IfFalse result (IsSoundBelow self.new) }
     {
         unify_into(&mut self.heap, self.alloc, a, b, touches)
+    }
+
+    /// Makes an open variable equal to a compound term of these cells, as `unify` does. Where none of them comes to a compound term or to
+    /// the variable, it is bound at once.
+    #[inline(always)]
+    fn bind_built(
+        &mut self,
+        var: usize,
+        built: Cell,
+        args: &[Cell],
+        touches: &mut Vec<Touch>,
+    ) -> Result<bool, NoMemory>
+        requires sound { IsSound self.old }
+        requires there { var < length self.old.heaps.now.slots }
+        requires open { slot_at self.old.heaps.now var ≡ free }
+        requires own { IsCell self.old built }
+        requires cells { All (IsCell self.old) args.now }
+        requires compound { IsCompoundOf self.old.heaps.now args.now built }
+        ensures equal { IfTrue result (IsEqualled self.old.heaps.now (cell.Ref var) built
+            self.new.heaps.now touches.old.items touches.new.items) }
+        ensures unequal { IfFalse result (CannotUnify self.old.heaps.now (cell.Ref var) built) }
+        ensures touches { AreTouchesOf self.old touches.old.items
+            → IfTrue result (AreTouchesOf self.new touches.new.items) }
+        ensures heap { self.new ≡ with_heap self.old self.new.heaps.now }
+        ensures sound { IfTrue result (IsSound self.new) }
+        ensures below { IfFalse result (IsSoundBelow self.new) }
+    {
+        if !are_others(&self.heap, var, args) {
+            return self.unify(Cell::Ref(var), built, touches);
+        }
+        self.heap.bind(var, built)?;
+        Ok(true)
+    }
+
+    /// Makes a new compound term of cells of the branch, and makes an open variable equal to it, as `compound` and `unify` do. `false`
+    /// comes exactly where the variable occurs in it; then the current pair is to be given up by `undo`. After an error neither branch
+    /// nor `touches` is used any more.
+    #[inline(always)]
+    pub fn bind_compound(
+        &mut self,
+        var: usize,
+        f: AtomId,
+        args: &[Cell],
+        touches: &mut Vec<Touch>,
+    ) -> Result<bool, NoMemory>
+        requires sound { IsSound self.old }
+        requires there { var < length self.old.heaps.now.slots }
+        requires open { slot_at self.old.heaps.now var ≡ free }
+        requires name { f.number < self.old.atoms }
+        requires cells { All (IsCell self.old) args.now }
+        ensures binds { IfOk result (BindsCompound f args.now var self.old self.new
+            touches.old.items touches.new.items) }
+        ensures touches { AreTouchesOf self.old touches.old.items
+            → IfTrue result (AreTouchesOf self.new touches.new.items) }
+        ensures heap { OnOk result (self.new ≡ with_heap self.old self.new.heaps.now) }
+        ensures sound { IfTrue result (IsSound self.new) }
+        ensures below { IfFalse result (IsSoundBelow self.new) }
+    {
+        let built = self.compound(f, args)?;
+        self.bind_built(var, built, args, touches)
     }
 
     /// Tells the store of touches: the ranges that say so are posted behind the others. `false` comes exactly where all have no model;

@@ -15,6 +15,8 @@ use Rattle.heap_cells.specs.Cells.{free, Cells, IsOf, with_new_slot}
 use Rattle.heap_cells.specs.Terms.{Naming}
 use Rattle.heap_cells.specs.Valid.{IsHeap}
 use Rattle.heap_cells.proofs.Growing.{var_valid}
+use Rattle.machine_frames.specs.Frames.{IsGrown}
+use Rattle.machine_frames.proofs.Growing.{grown_same, grown_both, grown_var}
 use Rattle.branch_state.specs.States as branch
 use Rattle.branch_state.specs.States.{IsCell, AreCells, IsSound, IsSameBelow, with_heap}
 use Rattle.wam_code.specs.declared.instruction.Register.{Register}
@@ -81,6 +83,11 @@ added_own atoms (suc k) h cells h' cells' a own =
     let k' = added_own atoms k now (cells ++ new ∷ []) h' cells' a both in
     (λ d o. k'.0 d (own_new atoms h d o), k'.1, (let e = k'.2 in omega (arith, e, length-append cells (new ∷ []))))
 
+added_grown : (k : ℕ) (h : Cells) (cells : List Cell) (h' : Cells) (cells' : List Cell) → IsHeap h → AddsVariables k h cells h' cells' → IsGrown h h'
+added_grown zero h cells h' cells' valid a = subst (IsGrown h) (sym a.0) (grown_same h)
+added_grown (suc k) h cells h' cells' valid a =
+    grown_both h (with_new_slot h) h' (grown_var h valid) (added_grown k (with_new_slot h) (cells ++ cell.Ref (length h.slots) ∷ []) h' cells' (var_valid h valid) a)
+
 next_gathered : (use' : Purpose) (cells : List Cell) (e : Cell) → gathered use' (cells ++ e ∷ []) ≡ gathered use' cells ++ e ∷ []
 next_gathered (for_head d) cells e = refl
 next_gathered (for_goal r) cells e = refl
@@ -133,6 +140,7 @@ module _ (area : Area) (n : ℕ) (s : branch.State) (at : ℕ) (c : Contents) (c
         stays = λ e o. o;
         behind = same_behind c;
         below = same_below s;
+        grown = grown_same h;
         keeps = λ shown name g use' b m w.
             subst (λ l. Builds INFINITY area shown name h qs 0 (suc at) (registers_of c) l (n - length (cells ++ d ∷ [])) (stack_of c) b (end_of area shown b g use')) (sym (next_gathered use' cells d))
             (builds shown name g use' b (n - length (cells ++ d ∷ [])) m (subst (λ k. Before shown name g use' b k) left_is w));
@@ -178,6 +186,7 @@ module _ (area : Area) (n : ℕ) (s : branch.State) (at : ℕ) (c : Contents) (c
         stays = keep;
         behind = same;
         below = below;
+        grown = subst (λ (t : branch.State). IsGrown h t.heaps.now) (sym added) (grown_var h valid);
         keeps = λ shown name g use' b m v.
             let End' = end_of area shown b g use' in
             let left = n - length (cells ++ d ∷ []) in
@@ -207,6 +216,7 @@ module _ (area : Area) (n : ℕ) (s : branch.State) (at : ℕ) (c : Contents) (c
         stays = keep;
         behind = same_behind c;
         below = below;
+        grown = added_grown k h cells s'.heaps.now cells' valid a.added;
         keeps = λ shown name g use' b m v.
             subst (λ ps. Builds INFINITY area shown name s'.heaps.now ps 0 (suc at) (registers_of c) (gathered use' cells') (n - length cells') (stack_of c) b (end_of area shown b g use')) (sym (ap (λ (t : branch.State). t.levels.current.posted) a.heap))
             (given shown name g use' b k holds a.added low size v);
@@ -226,7 +236,7 @@ module _ (area : Area) (n : ℕ) (s : branch.State) (at : ℕ) (c : Contents) (c
 -- ---- many instructions
 
 pub gathered_start : (area : Area) (n : ℕ) (s : branch.State) (at : ℕ) (c : Contents) (cells : List Cell) → IsSafe area s at (n - length cells) c → length cells ≤ n → All (IsCell s) cells → IsGatheredTo area n s at c cells s at c cells
-gathered_start area n s at c cells safe within own = record { safe = safe; within = within; leads = omega arith; own = own; stays = λ d o. o; behind = same_behind c; below = same_below s; keeps = λ shown name f use' b m v. v }
+gathered_start area n s at c cells safe within own = record { safe = safe; within = within; leads = omega arith; own = own; stays = λ d o. o; behind = same_behind c; below = same_below s; grown = grown_same s.heaps.now; keeps = λ shown name f use' b m v. v }
 
 pub gathered_both : (area : Area) (n : ℕ) (s : branch.State) (at : ℕ) (c : Contents) (cells : List Cell) (s1 : branch.State) (at1 : ℕ) (c1 : Contents) (cells1 : List Cell) (s2 : branch.State) (at2 : ℕ) (c2 : Contents) (cells2 : List Cell)
     → IsGatheredTo area n s at c cells s1 at1 c1 cells1 → IsGatheredTo area n s1 at1 c1 cells1 s2 at2 c2 cells2 → IsGatheredTo area n s at c cells s2 at2 c2 cells2
@@ -238,5 +248,6 @@ gathered_both area n s at c cells s1 at1 c1 cells1 s2 at2 c2 cells2 g k = record
   stays = λ d o. k.stays d (g.stays d o);
   behind = behind_both c c1 c2 g.behind k.behind;
   below = below_both s s1 s2 g.below k.below;
+  grown = grown_both s.heaps.now s1.heaps.now s2.heaps.now g.grown k.grown;
   keeps = λ shown name f use' b m v. k.keeps shown name f use' b m (g.keeps shown name f use' b m v);
 }

@@ -1,8 +1,9 @@
 -- A structure of a head, where it is matched.
-use Rattle.std.proofs.Common.{◌≡◌, ℕ, suc, ◌-◌, ◌<◌, ◌==◌, Bool, true, false, not, List, [], ◌∷◌, ◌++◌, length, drop, All, Some, Bor, Result, Ok, Err, refl, ap, sym, ◌∙◌, subst, inl, inr, arith, append-nil, ◌⊎◌, eqb-true, eq-eqb}
+use Rattle.std.proofs.Common.{◌≡◌, ℕ, suc, ◌-◌, ◌<◌, ◌≤◌, ◌==◌, Bool, true, false, not, List, [], ◌∷◌, ◌++◌, length, drop, All, Some, Bor, Result, Ok, Err, refl, ap, sym, ◌∙◌, subst, inl, inr, arith, append-nil, ◌⊎◌, eqb-true, eq-eqb}
 use Rattle.std.proofs.lemmas.Bool.{cases_Bool, true≢false}
 use Rattle.std.specs.Result.{IfOk, OnOk}
 use Rattle.std.proofs.lemmas.Option.{same_Some}
+use Rattle.fd_language.specs.declared.NoMemory.{NoMemory}
 use Rattle.fd_language.specs.declared.TheConstants.{INFINITY}
 use Rattle.fd_language.specs.Family.{has}
 use Rattle.fd_language.specs.Term.{Term, Terms, Var, Int, Atom, Comp, Substitution, apply, apply_all}
@@ -45,14 +46,17 @@ use Rattle.code_states.specs.Safety.{Fits, IsSafe, IsSafeBack, IsSafeThen}
 use Rattle.code_states.specs.Standing.{IsNaming, KeepsStanding, went_to}
 use Rattle.code_states.specs.Work.{LeadsOn}
 use Rattle.code_states.specs.Equating.{Equates}
-use Rattle.term_instructions.specs.Building.{for_head, BuildsAt, IsGatheredTo, BuildsThen}
+use Rattle.term_instructions.specs.Arguments.{LeadsFrom}
+use Rattle.term_instructions.specs.declared.reading.Reading.{Reading}
+use Rattle.term_instructions.specs.Building.{for_head, BuildsAt, IsGatheredTo, BuildsThen, BuildsFor}
 use Rattle.term_instructions.specs.Reading.{ReadsAt, IsReadTo, IsRefused, ReadsThen}
 use Rattle.code_states.specs.declared.went.Went.{Went}
-use Rattle.code_states.specs.declared.went.Went.TheVariants.{Back}
+use Rattle.code_states.specs.declared.went.Went.TheVariants.{On, Back}
 use Rattle.code_states.proofs.Equal.{same_cells}
 use Rattle.code_states.proofs.Safety.{found, when_parts, back_safe, next_safe}
-use Rattle.term_instructions.proofs.Steps.{led_from, same_behind, same_below, below_heap, below_both}
+use Rattle.term_instructions.proofs.Steps.{led_from, same_behind, behind_both, same_below, below_heap, below_both}
 use Rattle.term_instructions.proofs.Unify.{fits_owed}
+use Rattle.term_instructions.proofs.ReadSteps.{read_all}
 use Rattle.term_instructions.proofs.Structure.{grown_safe, sound_safe, equated_safe, made_keeps}
 
 drop_all : {X : Type 0} (xs : List X) → drop (length xs) xs ≡ []
@@ -62,8 +66,8 @@ drop_all (x ∷ xs) = drop_all xs
 -- ---- the arguments of one that is there
 
 -- what was touched is posted, or has no model
-pub read_then : (area : Area) (cells : List Cell) (s : branch.State) (told : List Touch) (from : ℕ) (c : Contents) (s1 : branch.State) (told1 : List Touch) (at : ℕ) (c1 : Contents) → IsReadTo area cells s told (record { at = from; next = 0 }) c s1 told1 (record { at = at; next = length cells }) c1
-    → (s2 : branch.State) (given : List Touch) → given ≡ told1 → (posted : Bool) → (E : Type 0) → s2.heaps ≡ s1.heaps → IsSameBelow s1 s2 → IfTrue {E = E} (Ok posted) (s2.levels.current.posted ≡ posted_with s1 given) → IfFalse {E = E} (Ok posted) (branch.HasNoModel (posted_with s1 given)) → IfTrue {E = E} (Ok posted) (IsSound s2) → IfFalse {E = E} (Ok posted) (IsSoundBelow s2) → ReadsThen area cells s told from c s2 c1 (went_to at posted)
+pub read_then : (area : Area) (cells : List Cell) (s : branch.State) (told : List Touch) (from : Reading) (c : Contents) (s1 : branch.State) (told1 : List Touch) (at : ℕ) (c1 : Contents) → IsReadTo area cells s told from c s1 told1 (record { at = at; next = length cells }) c1
+    → (s2 : branch.State) (given : List Touch) → given ≡ told1 → (posted : Bool) → (E : Type 0) → s2.heaps ≡ s1.heaps → IsSameBelow s1 s2 → IfTrue {E = E} (Ok posted) (s2.levels.current.posted ≡ posted_with s1 given) → IfFalse {E = E} (Ok posted) (branch.HasNoModel (posted_with s1 given)) → IfTrue {E = E} (Ok posted) (IsSound s2) → IfFalse {E = E} (Ok posted) (IsSoundBelow s2) → ReadsThen area (drop from.next cells) s told from.at c s2 c1 (went_to at posted)
 read_then area cells s told from c s1 told1 at c1 g s2 given is true E heap below all none sound back =
     let none_left : length cells - length cells ≡ 0 = omega arith in
     let ps : posted_with s1 told1 ≡ s2.levels.current.posted = ap (posted_with s1) (sym is) ∙ sym all in
@@ -91,8 +95,33 @@ read_then area cells s told from c s1 told1 at c1 g s2 given is false E heap bel
           stands_no_model INFINITY area shown name s1.heaps.now (posted_with s1 told1) at (registers_of c1) (stack_of c1) b st (subst branch.HasNoModel (ap (posted_with s1) is) none);
     }
 
-pub refused_then : (area : Area) (cells : List Cell) (s : branch.State) (told : List Touch) (from : ℕ) (c : Contents) (s1 : branch.State) (c1 : Contents) → IsRefused area cells s told (record { at = from; next = 0 }) c s1 c1 → ReadsThen area cells s told from c s1 c1 Back
+pub refused_then : (area : Area) (cells : List Cell) (s : branch.State) (told : List Touch) (from : Reading) (c : Contents) (s1 : branch.State) (c1 : Contents) → IsRefused area cells s told from c s1 c1 → ReadsThen area (drop from.next cells) s told from.at c s1 c1 Back
 refused_then area cells s told from c s1 c1 r = record { safe = r.safe; leads = tt; behind = r.behind; below = r.below; stands = r.none }
+
+led_both : (a b : ℕ) → a ≤ b → (w : Went) → LeadsFrom b w → LeadsFrom a w
+led_both a b low (On to) l = omega (arith, low, l)
+led_both a b low Back l = tt
+
+-- Some of them were read by a look.
+module _ (area : Area) (cells : List Cell) (s : branch.State) (from : Reading) (c : Contents) (to : Reading) (c1 : Contents) (g : IsReadTo area cells s [] from c s [] to c1) where
+  -- and these were all
+  pub looked_all : to.next ≡ length cells → ReadsThen area (drop from.next cells) s [] from.at c s c1 (On to.at)
+  looked_all all =
+      let k = read_all area cells s [] from c s [] to c1 g (omega (arith, all)) in
+      read_then area cells s [] from c s [] to.at c1 k s [] refl true NoMemory refl (same_below s) (sym (append-nil s.levels.current.posted)) tt (g.safe.sound) tt
+
+  -- and the others are read behind
+  pub looked_first : (given : List Cell) → given ≡ cells → (told : List Touch) → told ≡ [] → (s' : branch.State) (c' : Contents) {E : Type 0} → (r : Result Went E) → IfOk r (ReadsThen area (drop to.next given) s told to.at c1 s' c') → IfOk r (ReadsThen area (drop from.next cells) s [] from.at c s' c')
+  looked_first given given_is told empty s' c' (Ok w) k =
+      let r : ReadsThen area (drop to.next cells) s [] to.at c1 s' c' w = subst (λ ts. ReadsThen area (drop to.next cells) s ts to.at c1 s' c' w) empty (subst (λ l. ReadsThen area (drop to.next l) s told to.at c1 s' c' w) given_is k) in
+      record {
+        safe = r.safe;
+        leads = led_both from.at to.at g.leads w r.leads;
+        behind = behind_both c c1 c' g.behind r.behind;
+        below = r.below;
+        stands = λ shown name b n m. r.stands shown name b n (g.keeps shown name b n m);
+      }
+  looked_first given given_is told empty s' c' (Err e) k = tt
 
 -- ---- the arguments of a new one
 
@@ -223,6 +252,11 @@ module _ (area : Area) (s : branch.State) (at : ℕ) (c : Contents) (safe : IsSa
         go (seen.Struct g args) k not_open not_struct back us size e = absurd (not_struct g args refl)
 
 -- ---- how a call ends the instruction
+
+-- A structure was built for what this cell comes to.
+pub if_ok_at : (area : Area) (f : AtomId) (n var : ℕ) (s : branch.State) (at : ℕ) (c : Contents) (s' : branch.State) (c' : Contents) {E : Type 0} → (r : Result Went E) (d : Cell) → IsCell s d → Same s.heaps.now d (cell.Ref var) → IfOk r (BuildsFor area f n var s at c s' c') → IfOk r (BuildsThen area f n d s at c s' c')
+if_ok_at area f n var s at c s' c' (Ok w) d own same g = g d own same
+if_ok_at area f n var s at c s' c' (Err e) d own same g = tt
 
 module _ (area : Area) (s : branch.State) (at : ℕ) (c : Contents) (safe : IsSafe area s at 0 c) (f : AtomId) (n a : ℕ) (holds : Holds area at (GetStructure f n a)) (d : Cell) (here : cell_at c.registers a ≡ Some d) (from : ℕ) (is : from ≡ suc at) (s' : branch.State) (c' : Contents) where
   -- where a structure was built

@@ -4,3 +4,4 @@ pub mod ReadSteps
 pub mod BuildSteps
 pub mod Structure
 pub mod Head
+pub mod Bound

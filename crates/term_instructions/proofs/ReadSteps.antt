@@ -1,7 +1,9 @@
 -- One argument of a structure that is there is read.
-use Rattle.std.proofs.Common.{◌≡◌, ℕ, zero, suc, ◌+◌, ◌-◌, ◌<◌, ◌≤◌, nat_le, Bool, true, false, if◌then◌else◌, List, [], ◌∷◌, ◌++◌, length, map, drop, All, Some, None, Ok, refl, ap, sym, ◌∙◌, subst, arith, append_assoc, ℤ, length-drop, get_or}
+use Rattle.std.proofs.Common.{◌≡◌, ℕ, zero, suc, ◌+◌, ◌-◌, ◌<◌, ◌≤◌, nat_le, Bool, true, false, if◌then◌else◌, List, [], ◌∷◌, ◌++◌, length, map, drop, All, Some, None, Ok, refl, ap, sym, ◌∙◌, subst, arith, append_assoc, ℤ, length-drop, get_or, eq-eqb, ne_eqb}
 use Rattle.std.proofs.lemmas.List.{drop-drop}
+use Rattle.std.proofs.lemmas.List.Elements.{All-nil}
 use Rattle.std.proofs.lemmas.Option.{same_Some}
+use Rattle.fd_language.specs.declared.NoMemory.{NoMemory}
 use Rattle.fd_language.specs.declared.TheConstants.{INFINITY}
 use Rattle.fd_language.specs.Term.{Terms, no_terms, term, Substitution}
 use Rattle.fd_language.specs.Range.{Indexical}
@@ -10,17 +12,18 @@ use Rattle.fd_model.specs.Levels.{Levels}
 use Rattle.term_pool.specs.declared.AtomId.{AtomId}
 use Rattle.heap_cells.specs.declared.Cell.{Cell}
 use Rattle.heap_cells.specs.declared.Cell.TheVariants as cell
-use Rattle.heap_cells.specs.Cells.{Cells}
-use Rattle.heap_cells.specs.Terms.{Naming}
+use Rattle.heap_cells.specs.Cells.{Cells, IsOf}
+use Rattle.heap_cells.specs.Terms.{Naming, Same, term_of}
 use Rattle.machine_relation.specs.Store.{posts}
 use Rattle.machine_frames.specs.Frames.{store_touches}
 use Rattle.unify_core.specs.declared.Touch.{Touch}
 use Rattle.unify_core.specs.declared.Touch.TheVariants as touch
 use Rattle.unify_core.specs.Outcome.{IfTrue, IfFalse}
 use Rattle.unify_core.specs.Unified.{IsEqualled, CannotUnify}
+use Rattle.unify_core.proofs.AtOnce.{integers_true, integers_false, atoms_true, atoms_false}
 use Rattle.branch_state.specs.States as branch
 use Rattle.branch_state.specs.States.{IsCell, AreCells, IsSound, IsSoundBelow, IsSameBelow, with_heap}
-use Rattle.branch_state.specs.Steps.{posted_with}
+use Rattle.branch_state.specs.Steps.{IsTouchBelow, posted_with}
 use Rattle.wam_code.specs.declared.instruction.Register.{Register}
 use Rattle.wam_code.specs.declared.instruction.Code.{Code}
 use Rattle.wam_code.specs.declared.instruction.Code.TheVariants.{UnifyVariable, UnifyValue, UnifyConstant, UnifyInteger, UnifyVoid}
@@ -36,8 +39,10 @@ use Rattle.code_steps.proofs.Reading.{read_variable, read_value, read_constant, 
 use Rattle.code_states.specs.Machine.{saved_of, registers_of, stack_of, IsSameBehind}
 use Rattle.code_states.specs.Safety.{Fits, IsSafe}
 use Rattle.code_states.specs.Standing.{IsNaming}
-use Rattle.term_instructions.specs.Reading.{ReadsAt, AreTold, IsReadTo, IsRefused, ReadsOn, IsNextPlace}
+use Rattle.term_instructions.specs.Reading.{ReadsAt, AreTold, IsReadTo, IsRefused, ReadsOn, IsNextPlace, TellsEqual, LooksOn, IsNextLook}
 use Rattle.term_instructions.specs.declared.reading.Reading.{Reading}
+use Rattle.term_instructions.specs.declared.reading.Look.{Look}
+use Rattle.term_instructions.specs.declared.reading.Look.TheVariants.{Read, Refused, Unclear}
 use Rattle.code_states.proofs.Equal.{same_cells}
 use Rattle.code_states.proofs.Safety.{found, when_parts, some_is, written_fits, written_own, cells_kept, back_safe, next_safe}
 use Rattle.term_instructions.proofs.Steps.{same_behind, behind_both, same_below, below_heap, below_both, owed_set}
@@ -201,6 +206,63 @@ integer_stays z t u e = some_is (with_owed t (t.owed - 1)) u e
 pub next_place : (equal : Bool) (at : ℕ) (to : Reading) → to.at ≡ suc at → IsNextPlace at (if equal then Some to else None)
 next_place true at to e = e
 next_place false at to e = tt
+
+-- ---- one argument is looked at
+
+module _ (area : Area) (cells : List Cell) (s : branch.State) (at i : ℕ) (c : Contents) (safe : IsSafe area s at (length cells - i) c) (more : i < length cells) (own : All (IsCell s) cells) (d : Cell) (d_own : IsOf s.heaps.now d) (first : drop i cells ≡ d ∷ drop (suc i) cells) where
+  untold : AreTold s []
+  untold = All-nil (IsTouchBelow (length s.levels.current.sets))
+
+  -- The code gives a cell that the argument is equal to.
+  same_looked : (step : Code) → Holds area at step → goes_on step ≡ true → ((t u : State) → unify_effect step t ≡ Some u → u ≡ with_owed t (t.owed - 1)) → (e : Cell) → OnsEqual area cells s [] at i c safe more own untold d first e → IsEqualled s.heaps.now d e s.heaps.now [] [] → (to : Reading) → to.at ≡ suc at → to.next ≡ suc i
+      → IsReadTo area cells s [] (record { at = at; next = i }) c s [] to c
+  same_looked step holds on stays e ons same = reads_equal area cells s [] at i c safe more own untold d first step holds on stays e ons NoMemory s [] true same tt (λ a. a) refl safe.sound tt
+
+  -- or one that it can't be
+  other_looked : (step : Code) → Holds area at step → goes_on step ≡ true → ((t u : State) → unify_effect step t ≡ Some u → u ≡ with_owed t (t.owed - 1)) → (e : Cell) → OnsEqual area cells s [] at i c safe more own untold d first e → CannotUnify s.heaps.now d e → IsRefused area cells s [] (record { at = at; next = i }) c s c
+  other_looked step holds on stays e ons un =
+      reads_equal area cells s [] at i c safe more own untold d first step holds on stays e ons NoMemory s [] false tt un (λ a. tt) refl tt (record { unspent = safe.sound.unspent; marked = safe.sound.marked; below = safe.sound.below }) (record { at = suc at; next = suc i }) refl refl
+
+  abbrev Looks : Reading → Look → Type 0
+  Looks to l = to.at ≡ suc at → to.next ≡ suc i → LooksOn area cells s (record { at = at; next = i }) c c l
+
+  -- what a look tells, where the code gives an atom
+  pub looked_atom : (k : AtomId) → Holds area at (UnifyConstant k) → (root : Cell) → Same s.heaps.now d root → (to : Reading) (l : Look) → TellsEqual root (cell.Atom k) to l → Looks to l
+  looked_atom k holds root same to (Read there) t at_is next_is =
+      let h = s.heaps.now in
+      let equal = atoms_true h safe.sound.now.valid d (cell.Atom k) d_own tt k k true [] (sym (eq-eqb k.number k.number refl)) (λ name. same name ∙ ap (term_of name h) t.0) (λ name. refl) in
+      subst (λ r. IsReadTo area cells s [] (record { at = at; next = i }) c s [] r c) (sym t.1)
+      (same_looked (UnifyConstant k) holds refl (constant_stays k) (cell.Atom k) (constant_equal area cells s [] at i c safe more own untold d first k holds) equal to at_is next_is)
+  looked_atom k holds (cell.Atom a) same to Refused t at_is next_is =
+      let h = s.heaps.now in
+      let un = atoms_false h safe.sound.now.valid d (cell.Atom k) d_own tt a k false (sym (ne_eqb a.number k.number (λ e. t (ap (λ n. let f : AtomId = record { number = n } in f) e)))) same (λ name. refl) in
+      other_looked (UnifyConstant k) holds refl (constant_stays k) (cell.Atom k) (constant_equal area cells s [] at i c safe more own untold d first k holds) un
+  looked_atom k holds (cell.Ref j) same to Refused t at_is next_is = absurd t
+  looked_atom k holds (cell.Int x) same to Refused t at_is next_is = absurd t
+  looked_atom k holds (cell.Struct j) same to Refused t at_is next_is = absurd t
+  looked_atom k holds root same to Unclear t at_is next_is = refl
+
+  -- and where it gives an integer
+  pub looked_integer : (z : ℤ) → Holds area at (UnifyInteger z) → (root : Cell) → Same s.heaps.now d root → (to : Reading) (l : Look) → TellsEqual root (cell.Int z) to l → Looks to l
+  looked_integer z holds root same to (Read there) t at_is next_is =
+      let h = s.heaps.now in
+      let equal = integers_true h safe.sound.now.valid d (cell.Int z) d_own tt z z true [] (λ e. refl) (λ name. same name ∙ ap (term_of name h) t.0) (λ name. refl) in
+      subst (λ r. IsReadTo area cells s [] (record { at = at; next = i }) c s [] r c) (sym t.1)
+      (same_looked (UnifyInteger z) holds refl (integer_stays z) (cell.Int z) (integer_equal area cells s [] at i c safe more own untold d first z holds) equal to at_is next_is)
+  looked_integer z holds (cell.Int x) same to Refused t at_is next_is =
+      let h = s.heaps.now in
+      let un = integers_false h safe.sound.now.valid d (cell.Int z) d_own tt x z false (λ e q. t q) same (λ name. refl) in
+      other_looked (UnifyInteger z) holds refl (integer_stays z) (cell.Int z) (integer_equal area cells s [] at i c safe more own untold d first z holds) un
+  looked_integer z holds (cell.Ref j) same to Refused t at_is next_is = absurd t
+  looked_integer z holds (cell.Atom a) same to Refused t at_is next_is = absurd t
+  looked_integer z holds (cell.Struct j) same to Refused t at_is next_is = absurd t
+  looked_integer z holds root same to Unclear t at_is next_is = refl
+
+-- where constants are seen, the next place is the one behind
+pub next_looked : (at : ℕ) (root e : Cell) (to : Reading) (l : Look) → TellsEqual root e to l → to.at ≡ suc at → IsNextLook at l
+next_looked at root e to (Read there) t at_is = ap (λ (r : Reading). r.at) t.1 ∙ at_is
+next_looked at root e to Refused t at_is = tt
+next_looked at root e to Unclear t at_is = tt
 
 -- ---- many arguments
 

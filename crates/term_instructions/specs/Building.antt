@@ -6,7 +6,8 @@ use Rattle.fd_model.specs.Goal.{Branch}
 use Rattle.heap_cells.specs.declared.Cell.{Cell}
 use Rattle.heap_cells.specs.declared.Cell.TheVariants as cell
 use Rattle.heap_cells.specs.Cells.{Cells, with_new_slot}
-use Rattle.heap_cells.specs.Terms.{Naming}
+use Rattle.heap_cells.specs.Terms.{Naming, Same}
+use Rattle.machine_frames.specs.Frames.{IsGrown}
 use Rattle.branch_state.specs.States as branch
 use Rattle.branch_state.specs.States.{IsCell, IsSameBelow, IsSound, with_heap}
 use Rattle.term_pool.specs.declared.AtomId.{AtomId}
@@ -48,6 +49,7 @@ pub record IsGatheredTo (area : Area) (n : ℕ) (s : branch.State) (at : ℕ) (c
   pub stays : (d : Cell) → IsCell s d → IsCell s' d
   pub behind : IsSameBehind c c'
   pub below : IsSameBelow s s'
+  pub grown : IsGrown s.heaps.now s'.heaps.now
   pub keeps : (shown : List ℕ) (name : Naming) (f : Name) (use' : Purpose) (b : Branch) → IsNaming area name → BuildsAt area shown name f use' s at c cells (n - length cells) b → BuildsAt area shown name f use' s' at' c' cells' (n - length cells') b
 
 -- so many new variables of the heap are put behind the cells
@@ -68,3 +70,9 @@ pub record BuildsThen (area : Area) (f : AtomId) (n : ℕ) (d : Cell) (s : branc
   pub behind : IsSameBehind c c'
   pub below : IsSameBelow s s'
   pub stands : (shown : List ℕ) (name : Naming) (b : Branch) → IsNaming area name → BuildsAt area shown name (name_of area f) (for_head d) s at c [] n b → StandsThen area shown name s' c' w b
+
+-- so for each cell that comes to a variable
+abbrev pub BuildsFor : Area → AtomId → ℕ → ℕ → branch.State → ℕ → Contents → branch.State
+    → Contents → Went → Type 0
+BuildsFor area f n var s at c s' c' w = (d : Cell) → IsCell s d
+    → Same s.heaps.now d (cell.Ref var) → BuildsThen area f n d s at c s' c' w

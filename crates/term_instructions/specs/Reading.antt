@@ -1,8 +1,10 @@
 -- The arguments of a structure that is there, read one by one.
-use Rattle.std.specs.Prelude.{◌≡◌, ℕ, suc, ◌-◌, ◌≤◌, List, length, drop, All, Option, Some, None}
+use Rattle.std.specs.Prelude.{◌≡◌, ◌≢◌, ℕ, suc, ◌-◌, ◌≤◌, List, [], length, drop, All, Option, Some, None}
 use Rattle.fd_language.specs.declared.TheConstants.{INFINITY}
 use Rattle.fd_model.specs.Goal.{Branch}
+use Rattle.term_pool.specs.declared.AtomId.{AtomId}
 use Rattle.heap_cells.specs.declared.Cell.{Cell}
+use Rattle.heap_cells.specs.declared.Cell.TheVariants as cell
 use Rattle.heap_cells.specs.Terms.{Naming}
 use Rattle.unify_core.specs.declared.Touch.{Touch}
 use Rattle.branch_state.specs.States as branch
@@ -15,6 +17,8 @@ use Rattle.code_states.specs.Machine.{registers_of, stack_of, IsSameBehind}
 use Rattle.code_states.specs.Safety.{IsSafe, IsSafeBack, IsSafeThen}
 use Rattle.code_states.specs.Standing.{IsNaming, HasNoModel, StandsThen}
 use Rattle.term_instructions.specs.declared.reading.Reading.{Reading}
+use Rattle.term_instructions.specs.declared.reading.Look.{Look}
+use Rattle.term_instructions.specs.declared.reading.Look.TheVariants.{Read, Refused, Unclear}
 use Rattle.code_states.specs.declared.went.Went.{Went}
 use Rattle.term_instructions.specs.Arguments.{LeadsFrom}
 
@@ -66,3 +70,28 @@ pub record ReadsThen (area : Area) (cells : List Cell) (s : branch.State) (told 
   pub behind : IsSameBehind c c'
   pub below : IsSameBelow s s'
   pub stands : (shown : List ℕ) (name : Naming) (b : Branch) → IsNaming area name → ReadsAt area shown name s told at c cells b → StandsThen area shown name s' c' w b
+
+-- constants of one kind that differ
+abbrev pub AreOther : Cell → Cell → Type 0
+AreOther (cell.Atom a) (cell.Atom c) = a ≢ c
+AreOther (cell.Int x) (cell.Int z) = x ≢ z
+AreOther _ _ = ⊥
+
+-- what a look at the end of an argument's bindings tells, where the code gives a constant
+abbrev pub TellsEqual : Cell → Cell → Reading → Look → Type 0
+TellsEqual root constant to (Read there) = (root ≡ constant) × (there ≡ to)
+TellsEqual root constant to Refused = AreOther root constant
+TellsEqual root constant to Unclear = Unit {0}
+
+-- what a look at an argument comes to: nothing has changed but a register
+abbrev pub LooksOn : Area → List Cell → branch.State → Reading → Contents → Contents → Look
+    → Type 0
+LooksOn area cells s from c c' (Read to) = IsReadTo area cells s [] from c s [] to c'
+LooksOn area cells s from c c' Refused = IsRefused area cells s [] from c s c'
+LooksOn area cells s from c c' Unclear = c' ≡ c
+
+-- the instruction behind is the next one
+abbrev pub IsNextLook : ℕ → Look → Type 0
+IsNextLook at (Read to) = to.at ≡ suc at
+IsNextLook at Refused = Unit {0}
+IsNextLook at Unclear = Unit {0}

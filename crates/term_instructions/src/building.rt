@@ -15,6 +15,7 @@ use propagate_queue::Agenda;
 use wam_code::CodeArea;
 
 /// Puts so many new variables of the heap behind the cells. The error is want of memory.
+#[inline(never)]
 fn push_variables<A: Agenda + Drop>(
     branch: &mut BranchState<A>,
     cells: &mut Vec<Cell>,
@@ -33,6 +34,7 @@ fn push_variables<A: Agenda + Drop>(
 
 /// Puts the next argument behind the others, or those of one instruction. The error is want of
 /// memory.
+#[inline(always)]
 fn push_argument<A: Agenda + Drop>(
     code: &CodeArea,
     at: usize,
@@ -62,6 +64,7 @@ fn push_argument<A: Agenda + Drop>(
 
 /// Gathers the `n` arguments of a structure, which the code gives from a place on. The result is
 /// the place behind them; the error is want of memory.
+#[inline(always)]
 pub(crate) fn gather_arguments<A: Agenda + Drop>(
     code: &CodeArea,
     from: usize,

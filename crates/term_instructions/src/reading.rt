@@ -1,8 +1,10 @@
 //! Arguments of a structure that is there.
-ghost use Rattle.std.specs.Prelude.{◌≡◌, ◌-◌, ◌<◌, ◌≤◌, length, All, IfOk, Some, None, if◌then◌else◌};
+ghost use Rattle.std.specs.Prelude.{◌≡◌, ◌-◌, ◌<◌, ◌≤◌, length, [], All, IfOk, Some, None, if◌then◌else◌};
+ghost use Rattle.heap_cells.specs.declared.Cell.TheVariants as cell;
 ghost use Rattle.branch_state.specs.States.{IsCell};
 ghost use Rattle.code_states.specs.Safety.{IsSafe};
-ghost use Rattle.term_instructions.specs.Reading.{AreTold, IsNextPlace, ReadsOn, ReadsAll};
+ghost use Rattle.term_instructions.specs.declared.reading.Look.TheVariants as look;
+ghost use Rattle.term_instructions.specs.Reading.{AreTold, IsNextPlace, ReadsOn, ReadsAll, TellsEqual, LooksOn, IsNextLook};
 
 use crate::arguments::{Argument, argument_at};
 use crate::registers::{read, write};
@@ -12,6 +14,7 @@ use code_states::behind;
 use fd_language::NoMemory;
 use heap_cells::Cell;
 use propagate_queue::Agenda;
+use term_pool::AtomId;
 use unify_core::Touch;
 use wam_code::CodeArea;
 
@@ -20,6 +23,107 @@ use wam_code::CodeArea;
 pub(crate) struct Reading {
     pub at: usize,
     pub next: usize,
+}
+
+/// What a look at an argument comes to.
+#[derive(Clone, Copy)]
+pub(crate) enum Look {
+    /// It is what the code gives.
+    Read(Reading),
+    /// It can't be what the code gives.
+    Refused,
+    /// A look doesn't tell.
+    Unclear,
+}
+
+/// What it comes to that an argument and what the code gives are constants of one kind.
+#[inline(always)]
+fn look_if(equal: bool, to: Reading) -> Look
+    ensures { result ≡ (if equal then look.Read to else look.Refused) }
+{
+    if equal { Look::Read(to) } else { Look::Refused }
+}
+
+/// Whether the end of an argument's bindings is an atom.
+#[inline(always)]
+fn look_at_atom(root: Cell, c: AtomId, to: Reading) -> Look
+    ensures { TellsEqual root (cell.Atom c) to result }
+{
+    match root {
+        Cell::Atom(a) => look_if(a == c, to),
+        _ => Look::Unclear,
+    }
+}
+
+/// Whether the end of an argument's bindings is an integer.
+#[inline(always)]
+fn look_at_integer(root: Cell, z: i64, to: Reading) -> Look
+    ensures { TellsEqual root (cell.Int z) to result }
+{
+    match root {
+        Cell::Int(x) => look_if(x == z, to),
+        _ => Look::Unclear,
+    }
+}
+
+/// Reads the next argument, or those that one instruction leaves out, where a look at it is
+/// enough. The error is want of memory.
+#[inline(always)]
+fn look_at_argument<A: Agenda + Drop>(
+    code: &CodeArea,
+    from: Reading,
+    branch: &BranchState<A>,
+    areas: &mut Areas,
+    cells: &[Cell],
+) -> Result<Look, NoMemory>
+    requires safe { IsSafe code.now branch.now from.at (length cells.now - from.next) areas.old }
+    requires more { from.next < length cells.now }
+    requires own { All (IsCell branch.now) cells.now }
+    ensures looks { IfOk result (LooksOn code.now cells.now branch.now from areas.old areas.new) }
+    ensures place { IfOk result (IsNextLook from.at) }
+{
+    let next = from.next;
+    let cell = cells[next];
+    let at = behind(code, from.at);
+    let to = Reading { at, next: next + 1 };
+    match argument_at(code, from.at) {
+        Argument::Variable(r) => {
+            write(areas, r, cell)?;
+            Ok(Look::Read(to))
+        }
+        Argument::Value(_) => Ok(Look::Unclear),
+        Argument::Constant(c) => Ok(look_at_atom(branch.heap().root(cell), c, to)),
+        Argument::Integer(z) => Ok(look_at_integer(branch.heap().root(cell), z, to)),
+        Argument::Void(n) => Ok(Look::Read(Reading { at, next: next + n })),
+    }
+}
+
+/// Reads arguments as long as a look at each is enough: the heap stays as it is. The result is
+/// the place behind them, and how many they are; `None` comes where one of them can't be what the
+/// code gives. The error is want of memory.
+#[inline(always)]
+pub(crate) fn look_at_arguments<A: Agenda + Drop>(
+    code: &CodeArea,
+    from: Reading,
+    branch: &BranchState<A>,
+    areas: &mut Areas,
+    cells: &[Cell],
+) -> Result<Option<Reading>, NoMemory>
+    requires safe { IsSafe code.now branch.now from.at (length cells.now - from.next) areas.old }
+    requires within { from.next ≤ length cells.now }
+    requires own { All (IsCell branch.now) cells.now }
+    ensures { IfOk result (ReadsOn code.now cells.now branch.now [] from areas.old branch.now []
+        areas.new) }
+{
+    let mut now = from;
+    'arguments: while now.next < cells.len() {
+        match look_at_argument(code, now, branch, areas, cells)? {
+            Look::Read(to) => now = to,
+            Look::Refused => return Ok(None),
+            Look::Unclear => return Ok(Some(now)),
+        }
+    }
+    Ok(Some(now))
 }
 
 /// Where reading goes on, if two cells were equal.

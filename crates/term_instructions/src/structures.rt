@@ -1,5 +1,6 @@
 //! Structures of a clause, with the unify group behind them.
-ghost use Rattle.std.specs.Prelude.{◌≡◌, ◌++◌, [], length, All, IfOk, OnOk};
+ghost use Rattle.std.specs.Prelude.{◌≡◌, ◌-◌, ◌<◌, ◌≤◌, ◌++◌, [], length, drop, All, IfOk, OnOk};
+ghost use Rattle.heap_cells.specs.Cells.{free, slot_at};
 ghost use Rattle.branch_state.specs.States.{IsCell, IsSameBelow};
 ghost use Rattle.wam_code.specs.declared.instruction.Code.TheVariants as step;
 ghost use Rattle.wam_code.specs.Area.{Holds};
@@ -9,14 +10,14 @@ ghost use Rattle.code_states.specs.Safety.{IsSafe, IsSafeThen};
 ghost use Rattle.code_states.specs.Standing.{KeepsStanding};
 ghost use Rattle.code_states.specs.Work.{LeadsOn};
 ghost use Rattle.term_instructions.specs.Reading.{AreTold, ReadsThen};
-ghost use Rattle.term_instructions.specs.Building.{BuildsThen};
+ghost use Rattle.term_instructions.specs.Building.{BuildsFor};
 
 use crate::building::gather_arguments;
-use crate::reading::{Reading, read_arguments};
+use crate::reading::{Reading, look_at_arguments, read_arguments};
 use crate::registers::write;
 use branch_state::BranchState;
 use code_areas::Areas;
-use code_states::{Went, behind, equate, on_if};
+use code_states::{Went, behind, on_if};
 use fd_language::NoMemory;
 use heap_cells::{Cell, Seen};
 use propagate_queue::Agenda;
@@ -44,7 +45,6 @@ impl Scratch {
 }
 
 /// Puts copies of cells, which are few, behind the others. The error is want of memory.
-#[inline(always)]
 fn push_copies(cells: &mut Vec<Cell>, more: &[Cell]) -> Result<(), NoMemory>
     ensures { OnOk result (cells.new.items ≡ cells.old.items ++ more.now) }
 {
@@ -55,53 +55,59 @@ fn push_copies(cells: &mut Vec<Cell>, more: &[Cell]) -> Result<(), NoMemory>
     Ok(())
 }
 
-/// Reads the arguments of a structure that is there, and tells the store. The result is the place
-/// behind them, or back where they can't be what the code gives; the error is want of memory.
+/// Reads the other arguments of a structure that is there, and tells the store. The result is the
+/// place behind them, or back where they can't be what the code gives; the error is want of memory.
+#[inline(never)]
 fn match_arguments<A: Agenda + Drop>(
     code: &CodeArea,
-    from: usize,
+    from: Reading,
     branch: &mut BranchState<A>,
     areas: &mut Areas,
     cells: &[Cell],
     touches: &mut Vec<Touch>,
 ) -> Result<Went, NoMemory>
-    requires safe { IsSafe code.now branch.old from (length cells.now) areas.old }
+    requires safe { IsSafe code.now branch.old from.at (length cells.now - from.next) areas.old }
+    requires within { from.next ≤ length cells.now }
     requires own { All (IsCell branch.old) cells.now }
     requires told { AreTold branch.old touches.old.items }
-    ensures { IfOk result (ReadsThen code.now cells.now branch.old touches.old.items from areas.old
-        branch.new areas.new) }
+    ensures { IfOk result (ReadsThen code.now (drop from.next cells.now) branch.old
+        touches.old.items from.at areas.old branch.new areas.new) }
 {
-    let start = Reading { at: from, next: 0 };
-    let Some(at) = read_arguments(code, start, branch, areas, cells, touches)? else {
+    let Some(at) = read_arguments(code, from, branch, areas, cells, touches)? else {
         return Ok(Went::Back);
     };
     let posted = branch.post_touches(touches)?;
     Ok(on_if(at, posted))
 }
 
-/// Builds the structure, makes it equal to a head's argument, and tells the store. The result is
-/// the place behind its arguments, or back where it can't be equal; the error is want of memory.
+/// Builds the structure for an open variable, and binds it. The result is the place behind its
+/// arguments, or back where the variable occurs among them; the error is want of memory.
+#[inline(always)]
 fn build_argument<A: Agenda + Drop>(
     code: &CodeArea,
     from: usize,
     functor: (AtomId, u8),
-    argument: Cell,
+    var: usize,
     branch: &mut BranchState<A>,
     areas: &mut Areas,
     scratch: &mut Scratch,
 ) -> Result<Went, NoMemory>
     requires safe { IsSafe code.now branch.old from functor.1 areas.old }
     requires name { IsAtom code.now functor.0 }
-    requires argument { IsCell branch.old argument }
+    requires there { var < length branch.old.heaps.now.slots }
+    requires open { slot_at branch.old.heaps.now var ≡ free }
     requires empty { scratch.old.cells.items ≡ [] }
-    ensures { IfOk result (BuildsThen code.now functor.0 functor.1 argument branch.old from
-        areas.old branch.new areas.new) }
+    requires untold { scratch.old.touches.items ≡ [] }
+    ensures { IfOk result (BuildsFor code.now functor.0 functor.1 var branch.old from areas.old
+        branch.new areas.new) }
 {
     let (name, n) = functor;
     let next = gather_arguments(code, from, branch, areas, &mut scratch.cells, n as usize)?;
-    let built = branch.compound(name, &scratch.cells)?;
-    let equal = equate(branch, argument, built, &mut scratch.touches)?;
-    Ok(on_if(next, equal))
+    if !branch.bind_compound(var, name, &scratch.cells, &mut scratch.touches)? {
+        return Ok(Went::Back);
+    }
+    let posted = branch.post_touches(&scratch.touches)?;
+    Ok(on_if(next, posted))
 }
 
 /// Matches a head's argument with a structure, whose arguments come with the unify group behind: a
@@ -127,18 +133,29 @@ pub fn get_structure<A: Agenda + Drop>(
 {
     let argument = areas.register(a);
     let from = behind(code, at);
-    scratch.cells.clear();
-    scratch.touches.clear();
     match branch.heap().deref(argument) {
-        Seen::Open(_) => build_argument(code, from, functor, argument, branch, areas, scratch),
+        Seen::Open(var) => {
+            scratch.cells.clear();
+            scratch.touches.clear();
+            build_argument(code, from, functor, var, branch, areas, scratch)
+        }
         Seen::Struct(name, args) => {
             if name != functor.0 || args.len() != functor.1 as usize {
                 return Ok(Went::Back);
             }
+            let start = Reading { at: from, next: 0 };
+            let Some(read) = look_at_arguments(code, start, branch, areas, args)? else {
+                return Ok(Went::Back);
+            };
+            if read.next == args.len() {
+                return Ok(Went::On(read.at));
+            }
+            scratch.cells.clear();
+            scratch.touches.clear();
             push_copies(&mut scratch.cells, args)?;
             match_arguments(
                 code,
-                from,
+                read,
                 branch,
                 areas,
                 &scratch.cells,

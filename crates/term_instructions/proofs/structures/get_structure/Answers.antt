@@ -1,4 +1,5 @@
-use Rattle.std.proofs.Common.{◌≡◌, ◌++◌, length, All, ap, sym, ◌∙◌, subst, inl, inr}
+use Rattle.std.proofs.Common.{◌≡◌, ◌++◌, ◌-◌, length, All, ap, sym, ◌∙◌, subst, inl, inr, arith, refl, [], drop, Ok}
+use Rattle.fd_language.specs.declared.NoMemory.{NoMemory}
 use Rattle.heap_cells.specs.Cells.{Heaps, IsOf}
 use Rattle.heap_cells.specs.Seen.{IsSeen}
 use Rattle.heap_cells.specs.declared.Seen.TheVariants as seen
@@ -6,8 +7,11 @@ use Rattle.branch_state.specs.States.{IsCell}
 use Rattle.wam_code.specs.declared.instruction.Code.TheVariants.{GetStructure}
 use Rattle.code_states.specs.Safety.{IsSafe}
 use Rattle.code_states.proofs.Safety.{within_code}
+use Rattle.code_states.specs.declared.went.Went.TheVariants.{On, Back}
+use Rattle.term_instructions.specs.Reading.{ReadsOn}
+use Rattle.term_instructions.specs.declared.reading.Reading.{Reading}
 use Rattle.term_instructions.proofs.Steps.{same_behind, same_below}
-use Rattle.term_instructions.proofs.Head.{get_needs, get_started, get_atom, get_back_safe, args_own, get_other, get_constant_seen, get_built, get_read, other_atom, same_atom}
+use Rattle.term_instructions.proofs.Head.{if_ok_at, get_needs, get_started, get_atom, get_back_safe, args_own, get_other, get_constant_seen, get_built, get_read, refused_then, looked_all, looked_first, other_atom, same_atom}
 use Rattle.term_instructions.proofs.structures.get_structure.Goals as goal
 use Rattle.term_instructions.proofs.structures.get_structure.Goals.{then-ne-via-then-ne, then-ne-via-else-ne+then-args-functor}
 
@@ -28,13 +32,18 @@ build_argument-requires-clause-safe g c =
 pub build_argument-requires-clause-name : goal.build_argument-requires-clause-name
 build_argument-requires-clause-name g c = get_atom c.args.code.now c.args.branch.now c.args.at c.args.areas.now c.requires.safe c.args.functor.0 c.args.functor.1 c.args.a c.requires.holds
 
-pub build_argument-requires-clause-argument : goal.build_argument-requires-clause-argument
-build_argument-requires-clause-argument g c = c.requires.safe.here.registers_own c.args.a c.register-argument.result c.register-argument.ensures
+pub build_argument-requires-clause-there : goal.build_argument-requires-clause-there
+build_argument-requires-clause-there g c = (subst (λ (hs : Heaps). IsSeen hs.now c.register-argument.result (seen.Open c.in-Open.var)) c.heap.ensures c.in-Open.ensures.seen).0
+
+pub build_argument-requires-clause-open : goal.build_argument-requires-clause-open
+build_argument-requires-clause-open g c = (subst (λ (hs : Heaps). IsSeen hs.now c.register-argument.result (seen.Open c.in-Open.var)) c.heap.ensures c.in-Open.ensures.seen).1
 
 pub returns-in-Open : goal.returns-in-Open
 returns-in-Open g c =
+    let k' = subst (λ (hs : Heaps). IsSeen hs.now c.register-argument.result (seen.Open c.in-Open.var)) c.heap.ensures c.in-Open.ensures.seen in
+    let own = c.requires.safe.here.registers_own c.args.a c.register-argument.result c.register-argument.ensures in
     let k = get_built c.args.code.now c.args.branch.now c.args.at c.args.areas.now c.requires.safe c.args.functor.0 c.args.functor.1 c.args.a c.requires.holds c.register-argument.result c.register-argument.ensures c.behind-from.result c.behind-from.ensures
-    c.build_argument.new.branch c.build_argument.new.areas c.build_argument.result c.build_argument.ensures in
+    c.build_argument.new.branch c.build_argument.new.areas c.build_argument.result (if_ok_at c.args.code.now c.args.functor.0 c.args.functor.1 c.in-Open.var c.args.branch.now c.behind-from.result c.args.areas.now c.build_argument.new.branch c.build_argument.new.areas c.build_argument.result c.register-argument.result own k'.2 c.build_argument.ensures) in
     record { safe = k.0; stands = k.1; leads = k.2; behind = k.3; below = k.4 }
 
 pub returns-then-ne-clause-stands : goal.returns-then-ne-clause-stands
@@ -43,35 +52,48 @@ returns-then-ne-clause-stands g c =
     get_other c.args.code.now c.args.branch.now c.args.at c.args.areas.now c.requires.safe c.args.functor.0 c.args.functor.1 c.args.a c.requires.holds c.register-argument.result c.register-argument.ensures c.in-Struct.name c.in-Struct.args.now k.0 k.1 k.2 k.3
     (elim c.then-ne.branch [ then-ne-via-then-ne w ↦ inl (other_atom c.in-Struct.name c.args.functor.0 w.if-ne.ensures) | then-ne-via-else-ne+then-args-functor w ↦ inr w.if-args-functor.true ])
 
-pub match_arguments-requires-clause-safe : goal.match_arguments-requires-clause-safe
-match_arguments-requires-clause-safe g c =
-    let all : c.deref-in-Struct.result.now ≡ c.in-Struct.args.now = c.deref-in-Struct.ensures.value ∙ c.in_ok-push_copies-in-Struct.ensures ∙ ap (λ l. l ++ c.in-Struct.args.now) c.clear.ensures.items in
-    subst (λ n. IsSafe c.args.code.now c.args.branch.now c.behind-from.result n c.args.areas.now) (sym (ap length all ∙ c.if-args-functor.false))
-    (subst (λ k. IsSafe c.args.code.now c.args.branch.now k c.args.functor.1 c.args.areas.now) (sym c.behind-from.ensures)
-    (get_started c.args.code.now c.args.branch.now c.args.at c.args.areas.now c.requires.safe c.args.functor.0 c.args.functor.1 c.args.a c.requires.holds))
-
-pub match_arguments-requires-clause-own : goal.match_arguments-requires-clause-own
-match_arguments-requires-clause-own g c =
+pub look_at_arguments-requires : goal.look_at_arguments-requires
+look_at_arguments-requires g c =
     let k = subst (λ (hs : Heaps). IsSeen hs.now c.register-argument.result (seen.Struct c.in-Struct.name c.in-Struct.args)) c.heap.ensures c.in-Struct.ensures.seen in
-    let all : c.deref-in-Struct.result.now ≡ c.in-Struct.args.now = c.deref-in-Struct.ensures.value ∙ c.in_ok-push_copies-in-Struct.ensures ∙ ap (λ l. l ++ c.in-Struct.args.now) c.clear.ensures.items in
-    subst (All (IsCell c.args.branch.now)) (sym all)
-    (args_own c.args.code.now c.args.branch.now c.args.at c.args.areas.now c.requires.safe c.args.functor.0 c.args.functor.1 c.args.a c.requires.holds c.register-argument.result c.register-argument.ensures c.in-Struct.name c.in-Struct.args.now k.0 k.1 k.2 k.3)
+    record {
+      safe = subst (λ n. IsSafe c.args.code.now c.args.branch.now c.behind-from.result n c.args.areas.now) (let size = c.if-args-functor.false in let e : c.args.functor.1 ≡ length c.in-Struct.args.now - 0 = omega (arith, size) in e)
+          (subst (λ k. IsSafe c.args.code.now c.args.branch.now k c.args.functor.1 c.args.areas.now) (sym c.behind-from.ensures)
+          (get_started c.args.code.now c.args.branch.now c.args.at c.args.areas.now c.requires.safe c.args.functor.0 c.args.functor.1 c.args.a c.requires.holds));
+      within = omega arith;
+      own = args_own c.args.code.now c.args.branch.now c.args.at c.args.areas.now c.requires.safe c.args.functor.0 c.args.functor.1 c.args.a c.requires.holds c.register-argument.result c.register-argument.ensures c.in-Struct.name c.in-Struct.args.now k.0 k.1 k.2 k.3;
+    }
+
+pub returns-in_default-2-clause-stands : goal.returns-in_default-2-clause-stands
+returns-in_default-2-clause-stands g c =
+    let k = subst (λ (hs : Heaps). IsSeen hs.now c.register-argument.result (seen.Struct c.in-Struct.name c.in-Struct.args)) c.heap.ensures c.in-Struct.ensures.seen in
+    let start : Reading = record { at = c.behind-from.result; next = 0 } in
+    (get_read c.args.code.now c.args.branch.now c.args.at c.args.areas.now c.requires.safe c.args.functor.0 c.args.functor.1 c.args.a c.requires.holds c.register-argument.result c.register-argument.ensures c.behind-from.result c.behind-from.ensures
+    c.args.branch.now c.look_at_arguments.new.areas c.in-Struct.name c.in-Struct.args.now k.0 k.1 k.2 k.3 (same_atom c.in-Struct.name c.args.functor.0 c.if-ne.ensures) c.if-args-functor.false
+    c.in-Struct.args.now refl [] refl {E = NoMemory} (Ok Back)
+    (refused_then c.args.code.now c.in-Struct.args.now c.args.branch.now [] start c.args.areas.now c.args.branch.now c.look_at_arguments.new.areas
+    (subst (ReadsOn c.args.code.now c.in-Struct.args.now c.args.branch.now [] start c.args.areas.now c.args.branch.now [] c.look_at_arguments.new.areas) c.in_default-2.is c.in_ok-read-in-Struct.ensures))).1
+
+pub returns-then-read-args-clause-stands : goal.returns-then-read-args-clause-stands
+returns-then-read-args-clause-stands g c =
+    let k = subst (λ (hs : Heaps). IsSeen hs.now c.register-argument.result (seen.Struct c.in-Struct.name c.in-Struct.args)) c.heap.ensures c.in-Struct.ensures.seen in
+    let start : Reading = record { at = c.behind-from.result; next = 0 } in
+    (get_read c.args.code.now c.args.branch.now c.args.at c.args.areas.now c.requires.safe c.args.functor.0 c.args.functor.1 c.args.a c.requires.holds c.register-argument.result c.register-argument.ensures c.behind-from.result c.behind-from.ensures
+    c.args.branch.now c.look_at_arguments.new.areas c.in-Struct.name c.in-Struct.args.now k.0 k.1 k.2 k.3 (same_atom c.in-Struct.name c.args.functor.0 c.if-ne.ensures) c.if-args-functor.false
+    c.in-Struct.args.now refl [] refl {E = NoMemory} (Ok (On c.in-Some.read.at))
+    (looked_all c.args.code.now c.in-Struct.args.now c.args.branch.now start c.args.areas.now c.in-Some.read c.look_at_arguments.new.areas
+    (subst (ReadsOn c.args.code.now c.in-Struct.args.now c.args.branch.now [] start c.args.areas.now c.args.branch.now [] c.look_at_arguments.new.areas) c.in-Some.is c.in_ok-read-in-Struct.ensures) c.if-read-args.true)).1
 
 pub returns-in_ok-push_copies-in-Struct-clause-stands : goal.returns-in_ok-push_copies-in-Struct-clause-stands
 returns-in_ok-push_copies-in-Struct-clause-stands g c =
     let k = subst (λ (hs : Heaps). IsSeen hs.now c.register-argument.result (seen.Struct c.in-Struct.name c.in-Struct.args)) c.heap.ensures c.in-Struct.ensures.seen in
-    let all : c.deref-in-Struct.result.now ≡ c.in-Struct.args.now = c.deref-in-Struct.ensures.value ∙ c.in_ok-push_copies-in-Struct.ensures ∙ ap (λ l. l ++ c.in-Struct.args.now) c.clear.ensures.items in
+    let start : Reading = record { at = c.behind-from.result; next = 0 } in
+    let all : c.deref-in-Struct.result.now ≡ c.in-Struct.args.now = c.deref-in-Struct.ensures.value ∙ c.in_ok-push_copies-in-Struct.ensures ∙ ap (λ l. l ++ c.in-Struct.args.now) c.clear-in-Struct.ensures.items in
     (get_read c.args.code.now c.args.branch.now c.args.at c.args.areas.now c.requires.safe c.args.functor.0 c.args.functor.1 c.args.a c.requires.holds c.register-argument.result c.register-argument.ensures c.behind-from.result c.behind-from.ensures
     c.match_arguments.new.branch c.match_arguments.new.areas c.in-Struct.name c.in-Struct.args.now k.0 k.1 k.2 k.3 (same_atom c.in-Struct.name c.args.functor.0 c.if-ne.ensures) c.if-args-functor.false
-    c.deref-in-Struct.result.now all c.clear-2.new.self.items c.clear-2.ensures.items c.match_arguments.result c.match_arguments.ensures).1
-
-pub returns-in_ok-push_copies-in-Struct-clause-leads : goal.returns-in_ok-push_copies-in-Struct-clause-leads
-returns-in_ok-push_copies-in-Struct-clause-leads g c =
-    let k = subst (λ (hs : Heaps). IsSeen hs.now c.register-argument.result (seen.Struct c.in-Struct.name c.in-Struct.args)) c.heap.ensures c.in-Struct.ensures.seen in
-    let all : c.deref-in-Struct.result.now ≡ c.in-Struct.args.now = c.deref-in-Struct.ensures.value ∙ c.in_ok-push_copies-in-Struct.ensures ∙ ap (λ l. l ++ c.in-Struct.args.now) c.clear.ensures.items in
-    (get_read c.args.code.now c.args.branch.now c.args.at c.args.areas.now c.requires.safe c.args.functor.0 c.args.functor.1 c.args.a c.requires.holds c.register-argument.result c.register-argument.ensures c.behind-from.result c.behind-from.ensures
-    c.match_arguments.new.branch c.match_arguments.new.areas c.in-Struct.name c.in-Struct.args.now k.0 k.1 k.2 k.3 (same_atom c.in-Struct.name c.args.functor.0 c.if-ne.ensures) c.if-args-functor.false
-    c.deref-in-Struct.result.now all c.clear-2.new.self.items c.clear-2.ensures.items c.match_arguments.result c.match_arguments.ensures).2
+    c.in-Struct.args.now refl [] refl c.match_arguments.result
+    (looked_first c.args.code.now c.in-Struct.args.now c.args.branch.now start c.args.areas.now c.in-Some.read c.look_at_arguments.new.areas
+    (subst (ReadsOn c.args.code.now c.in-Struct.args.now c.args.branch.now [] start c.args.areas.now c.args.branch.now [] c.look_at_arguments.new.areas) c.in-Some.is c.in_ok-read-in-Struct.ensures)
+    c.deref-in-Struct.result.now all c.clear-in-Struct-2.new.self.items c.clear-in-Struct-2.ensures.items c.match_arguments.new.branch c.match_arguments.new.areas c.match_arguments.result c.match_arguments.ensures)).1
 
 pub returns-in_default : goal.returns-in_default
 returns-in_default g c = record {
