@@ -1,13 +1,15 @@
 -- A set without a number.
-use Rattle.std.proofs.Common.{◌≡◌, ℕ, ◌<◌, ◌≤◌, Bool, true, false, ◌&&◌, ◌==◌, not, List, filter, length, refl, ap, sym, ◌∙◌, subst, arith, ℤ, pos, negsuc, int_le, SFits}
+use Rattle.std.proofs.Common.{◌≡◌, ℕ, ◌<◌, ◌≤◌, Bool, true, false, ◌&&◌, ◌==◌, not, List, filter, length, refl, ap, sym, ◌∙◌, subst, arith, ℤ, pos, negsuc, int_le, ◌⊎◌, inl, inr, SFits}
 use mir.Syntax.{w64, w128}
+use lib.Signed.{lt_z}
 use Rattle.std.specs.Ordering.{int_eq}
-use Rattle.std.proofs.lemmas.Bool.{true≢false}
+use Rattle.std.proofs.lemmas.Bool.{true≢false, cases_Bool}
 use Rattle.std.proofs.lemmas.Bool.Decides.{Decides-int_eq, nat_tests}
 use Rattle.std.proofs.lemmas.Int.{ints}
 use Rattle.fd_language.specs.declared.TheConstants.{INFINITY}
 use Rattle.fd_language.specs.Family.{has, universe, IsRising, IsSubset}
-use Rattle.fd_language.proofs.Lemmas.{has-filter, in_universe, has_high}
+use Rattle.fd_language.specs.Range.{least, greatest}
+use Rattle.fd_language.proofs.Lemmas.{has-filter, in_universe, has_high, least_low, greatest_high}
 use Rattle.domain_ranges.specs.Spans.{Span, IsSpans, members, has_int}
 use Rattle.domain_ranges.specs.Narrowing.{between, all_but}
 use Rattle.domain_ranges.proofs.Members.{has_within, filter_inside, members_rising}
@@ -15,6 +17,7 @@ use Rattle.domain_ranges.proofs.Images.{has_set, set_same}
 use Rattle.domain_ranges.proofs.Inside.{left_of}
 use Rattle.domain_ranges.proofs.Dividing.{same_bool}
 use Rattle.domain_ranges.proofs.Cutting.{but}
+use Rattle.domain_ranges.proofs.Places.{ltb_less}
 
 pub wider : (z : ℤ) → SFits w64 z → SFits w128 z
 wider z h = record { sfits = omega (arith, h.sfits) }
@@ -63,3 +66,14 @@ between_one z n = same_bool (int_eq (pos n) z) (int_le z (pos n) && int_le (pos 
 pub all_but_is : (z : ℤ) → all_but z ≡ filter (λ n. not (has (between z z) n)) (universe INFINITY)
 all_but_is z = set_same INFINITY (λ n. not (int_eq (pos n) z)) (λ n. not (has (between z z) n)) (λ n l.
     ap not (between_one z n ∙ sym (has_set INFINITY (λ m. int_le z (pos m) && int_le (pos m) z) n l)))
+
+-- an integer below the least or above the greatest member is no member
+pub no_member : (xs : List ℕ) (z : ℤ) → IsRising 0 INFINITY xs → (lt_z z (pos (least xs)) ≡ true) ⊎ (lt_z (pos (greatest xs)) z ≡ true) → has_int xs z ≡ false
+no_member xs (negsuc n) r h = refl
+no_member xs (pos n) r h = elim (cases_Bool (has xs n)) [
+  | inl t ↦ absurd (outside n (least xs) (greatest xs) (least_low 0 INFINITY n xs r t) (greatest_high 0 INFINITY n xs r t) h)
+  | inr f ↦ f
+] where
+  outside : (n low high : ℕ) → low ≤ n → n ≤ high → (lt_z (pos n) (pos low) ≡ true) ⊎ (lt_z (pos high) (pos n) ≡ true) → ⊥
+  outside n low high a b (inl g) = let k = ltb_less n low g in omega arith
+  outside n low high a b (inr g) = let k = ltb_less high n g in omega arith

@@ -236,7 +236,22 @@ impl Domain {
 
     /// What is left of the set without the number `n`. Where that is all, nothing is made.
     /// `NoMemory` comes only where the others stand in more than two intervals.
+    #[inline(always)]
     pub fn narrowed_without(&self, n: i64) -> Result<Narrowed, NoMemory>
+        ensures narrowed { IfOk result (IsNarrowed self.now (all_but n)) }
+        ensures no_memory { OnErr result (2 < interval_count (filter (has (all_but n)) self.now)) }
+    {
+        let (least, greatest) = self.ends;
+        if n < least as i64 || n > greatest as i64 {
+            self.rises();
+            return Ok(Narrowed::Same);
+        }
+        self.left_without(n)
+    }
+
+    /// The same, wherever the number stands.
+    #[inline(never)]
+    fn left_without(&self, n: i64) -> Result<Narrowed, NoMemory>
         ensures narrowed { IfOk result (IsNarrowed self.now (all_but n)) }
         ensures no_memory { OnErr result (2 < interval_count (filter (has (all_but n)) self.now)) }
     {

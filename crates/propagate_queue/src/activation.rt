@@ -109,14 +109,6 @@ fn activate_evaluating(
     ensures agents { agents.new ≡ agents.old }
     ensures count { n.new.count ≡ min (n.old.count + 1) (2 ^ 64 - 1) }
 {
-    match agents.narrow(agent, trail, trail.domain(target), n) {
-        Ok(Narrowed::Same) => Ok(Outcome::Same),
-        Ok(Narrowed::Empty) => Ok(Outcome::Empty),
-        Ok(Narrowed::Changed(domain)) => {
-            let change = Change::between(trail.domain(target), &domain);
-            trail.narrow(target, domain)?;
-            Ok(Outcome::Changed(change))
-        }
-        Err(refused) => Err(refused),
-    }
+    let left = agents.narrow(agent, trail, trail.domain(target), n)?;
+    take_left(trail, target, left)
 }

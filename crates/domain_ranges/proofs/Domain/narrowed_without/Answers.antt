@@ -1,67 +1,32 @@
-use Rattle.std.proofs.Common.{rules, subst, sym, ap, ◌∙◌, ◌≡◌, ◌<◌, SFits, to_z, of_z, to_z-of_z, pos, ◌≤◌}
-use mir.Syntax.{w64, w128}
-use lib.IntN.{nat_abs}
-use Rattle.fd_language.specs.declared.TheConstants.{INFINITY}
-use Rattle.domain_ranges.specs.Spans.{interval_count}
-use Rattle.domain_ranges.proofs.Outcomes.{on_err}
-use Rattle.domain_ranges.proofs.Excluding.{wider, member_number, keeps_all, excluded, fewer_left}
+use Rattle.std.proofs.Common.{rules, ◌≡◌, ◌<◌, ◌^◌, ◌∙◌, ap, sym, subst, inl, inr, arith, true, pos, SFits, Fits, to_z, to_z-of_z}
+use lib.Signed.{lt_z}
+use mir.ValLaws.{to_z_pos}
+use mir.Syntax.{w32, w64}
+use Rattle.fd_language.specs.Range.{least as least_of, greatest as greatest_of}
+use Rattle.domain_ranges.proofs.Excluding.{keeps_all, no_member}
+use Rattle.domain_ranges.proofs.Domain.narrowed_without.Goals.{then-n-least-via-then-n-least, then-n-least-via-else-n-least+then-n-greatest}
 use Rattle.domain_ranges.proofs.Domain.narrowed_without.Goals as goal
 
-pub returns-then-not-contains-clause-narrowed : goal.returns-then-not-contains-clause-narrowed
-returns-then-not-contains-clause-narrowed c =
+pub returns-then-n-least-clause-narrowed : goal.returns-then-n-least-clause-narrowed
+returns-then-n-least-clause-narrowed c =
     let a : SFits w64 c.args.n = c.ranges.n in
-    let f : SFits w128 c.args.n = wider c.args.n a in
-    let m = simp to_z-of_z at c.contains.ensures.member in
-    keeps_all c.args.self.now c.args.n c.contains.ensures.rising (sym m ∙ c.if-not-contains.true)
+    let u : Fits w32 c.self.inside.ends.0 = search rules in
+    let v : Fits w32 c.self.inside.ends.1 = search rules in
+    let e : to_z w64 c.self.inside.ends.0 ≡ pos c.self.inside.ends.0 = to_z_pos w64 c.self.inside.ends.0 (omega (arith, u.fits)) in
+    let f : to_z w64 c.self.inside.ends.1 ≡ pos c.self.inside.ends.1 = to_z_pos w64 c.self.inside.ends.1 (omega (arith, v.fits)) in
+    let least = c.self.invariant.least ∙ ap least_of c.self.view_is in
+    let greatest = c.self.invariant.greatest ∙ ap greatest_of c.self.view_is in
+    keeps_all c.args.self.now c.args.n c.rises.ensures (no_member c.args.self.now c.args.n c.rises.ensures (elim c.then-n-least.branch [
+      | then-n-least-via-then-n-least w ↦ let h = simp (to_z-of_z, e) at w.if-n-least.true in inl (subst (λ k. lt_z c.args.n (pos k) ≡ true) least h)
+      | then-n-least-via-else-n-least+then-n-greatest w ↦ let h = simp (to_z-of_z, f) at w.if-n-greatest.true in inr (subst (λ k. lt_z (pos k) c.args.n ≡ true) greatest h)
+    ]))
 
-pub overflow_cast-n-2 : goal.overflow_cast-n-2
-overflow_cast-n-2 c =
+pub returns-clause-narrowed : goal.returns-clause-narrowed
+returns-clause-narrowed c =
     let a : SFits w64 c.args.n = c.ranges.n in
-    let f : SFits w128 c.args.n = wider c.args.n a in
-    let m = simp to_z-of_z at c.contains.ensures.member in
-    let k = member_number c.args.self.now c.args.n c.contains.ensures.rising (sym m ∙ c.if-not-contains.false) in
-    let v : to_z w64 (of_z w64 c.args.n) ≡ pos k.0 = to_z-of_z a ∙ k.1 in
-    search rules
+    simp to_z-of_z at c.left_without.ensures.narrowed
 
-pub without-requires-clause-number : goal.without-requires-clause-number
-without-requires-clause-number c =
+pub returns-clause-no_memory : goal.returns-clause-no_memory
+returns-clause-no_memory c =
     let a : SFits w64 c.args.n = c.ranges.n in
-    let f : SFits w128 c.args.n = wider c.args.n a in
-    let m = simp to_z-of_z at c.contains.ensures.member in
-    let k = member_number c.args.self.now c.args.n c.contains.ensures.rising (sym m ∙ c.if-not-contains.false) in
-    let v : to_z w64 (of_z w64 c.args.n) ≡ pos k.0 = to_z-of_z a ∙ k.1 in
-    subst (λ z. nat_abs z ≤ INFINITY) (sym v) k.2
-
-pub returns-in_err-list-clause-no_memory : goal.returns-in_err-list-clause-no_memory
-returns-in_err-list-clause-no_memory c =
-    let a : SFits w64 c.args.n = c.ranges.n in
-    let f : SFits w128 c.args.n = wider c.args.n a in
-    let m = simp to_z-of_z at c.contains.ensures.member in
-    let k = member_number c.args.self.now c.args.n c.contains.ensures.rising (sym m ∙ c.if-not-contains.false) in
-    let v : to_z w64 (of_z w64 c.args.n) ≡ pos k.0 = to_z-of_z a ∙ k.1 in
-    let is : c.args.n ≡ pos (nat_abs (to_z w64 (of_z w64 c.args.n))) = k.1 ∙ ap (λ y. pos (nat_abs y)) (sym v) in
-    let set = excluded c.spans.result.now c.args.self.now c.args.n (nat_abs (to_z w64 (of_z w64 c.args.n))) c.spans.ensures.spans c.spans.ensures.members is in
-    on_err c.from_residual.result _ (subst (λ ns. 2 < interval_count ns) set c.in_err-list.ensures.no_memory)
-
-pub returns-in-None-clause-narrowed : goal.returns-in-None-clause-narrowed
-returns-in-None-clause-narrowed c =
-    let a : SFits w64 c.args.n = c.ranges.n in
-    let f : SFits w128 c.args.n = wider c.args.n a in
-    let m = simp to_z-of_z at c.contains.ensures.member in
-    let k = member_number c.args.self.now c.args.n c.contains.ensures.rising (sym m ∙ c.if-not-contains.false) in
-    let v : to_z w64 (of_z w64 c.args.n) ≡ pos k.0 = to_z-of_z a ∙ k.1 in
-    let is : c.args.n ≡ pos (nat_abs (to_z w64 (of_z w64 c.args.n))) = k.1 ∙ ap (λ y. pos (nat_abs y)) (sym v) in
-    let set = excluded c.spans.result.now c.args.self.now c.args.n (nat_abs (to_z w64 (of_z w64 c.args.n))) c.spans.ensures.spans c.spans.ensures.members is in
-    sym (c.of_list-left.ensures ∙ (c.in_ok-list.ensures.set ∙ set)) ∙ c.in-None.ensures.least
-
-pub returns-in-Some-clause-narrowed : goal.returns-in-Some-clause-narrowed
-returns-in-Some-clause-narrowed c =
-    let a : SFits w64 c.args.n = c.ranges.n in
-    let f : SFits w128 c.args.n = wider c.args.n a in
-    let m = simp to_z-of_z at c.contains.ensures.member in
-    let k = member_number c.args.self.now c.args.n c.contains.ensures.rising (sym m ∙ c.if-not-contains.false) in
-    let v : to_z w64 (of_z w64 c.args.n) ≡ pos k.0 = to_z-of_z a ∙ k.1 in
-    let is : c.args.n ≡ pos (nat_abs (to_z w64 (of_z w64 c.args.n))) = k.1 ∙ ap (λ y. pos (nat_abs y)) (sym v) in
-    let set = excluded c.spans.result.now c.args.self.now c.args.n (nat_abs (to_z w64 (of_z w64 c.args.n))) c.spans.ensures.spans c.spans.ensures.members is in
-    let made = c.of_list-left.ensures ∙ (c.in_ok-list.ensures.set ∙ set) in
-    (made, c.in-Some.ensures.some, fewer_left c.args.self.now _ c.args.n k.0 made k.1 k.2 k.3)
+    simp to_z-of_z at c.left_without.ensures.no_memory
