@@ -1,7 +1,6 @@
 //! A branch of a search: a heap of cells and a store of domains, marked and taken back together.
 #![tactic(auto)]
 
-mod binding;
 mod cells;
 mod codes;
 mod constraints;

@@ -13,7 +13,6 @@ ghost use Rattle.branch_state.specs.Showing.{IsShown};
 ghost use Rattle.branch_state.specs.CellPosts.{PostsCells};
 ghost use Rattle.range_code.specs.Slots.{slots_of};
 
-use crate::binding::are_others;
 use crate::cells::prepare_cells;
 use crate::codes::{exact_code, know_code, same_code};
 use crate::constraints::{count_variables, expand_goal, fault_of, prepare_row};
@@ -32,7 +31,7 @@ use std::alloc::Global;
 use std::marker::Model;
 use std::rc::Rc;
 use term_pool::{AtomId, Pool};
-use unify_core::{Touch, unify_into};
+use unify_core::{Touch, are_others, unify_into};
 
 /// A heap and a store, as a list of pairs of which the first is the current one.
 ///

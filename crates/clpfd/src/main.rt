@@ -6,6 +6,7 @@ ghost use Rattle.std.specs.Vec.Iter.{into_iter_items};
 
 use byte_ports::{ReaderSource, WriterSink};
 use fd_language::NoMemory;
+use std::alloc::Global;
 use std::env;
 use std::env::{Args, Env};
 use std::io::ErrorKind;

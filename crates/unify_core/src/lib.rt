@@ -162,9 +162,10 @@ fn is_soon_other(heap: &Heap, var: usize, c: Cell) -> bool
     }
 }
 
-/// Whether looks at these cells show that all come to constants, or to variables other than this one.
+/// Whether looks at these cells show that all come to constants, or to variables other than this one: then it occurs in none of them.
+/// No memory.
 #[inline(always)]
-fn are_others(heap: &Heap, var: usize, cells: &[Cell]) -> bool
+pub fn are_others(heap: &Heap, var: usize, cells: &[Cell]) -> bool
     requires { All (IsOf heap.now.now) cells.now }
     ensures { IsTrue result → IsAbsentAmong heap.now.now var cells.now }
 {
