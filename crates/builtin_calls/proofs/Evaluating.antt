@@ -7,7 +7,6 @@ use Rattle.term_pool.specs.Contents.{name_in}
 use Rattle.term_pool.specs.Terms.{size}
 use Rattle.fd_language.specs.Term.{Name, Term, Comp}
 use Rattle.heap_cells.specs.declared.Cell.{Cell}
-use Rattle.heap_cells.specs.declared.Seen.{Seen}
 use Rattle.heap_cells.specs.declared.Seen.TheVariants as seen
 use Rattle.heap_cells.specs.Cells.{Cells, Compound, IsOf}
 use Rattle.heap_cells.specs.Terms.{Naming, terms_by}
@@ -23,9 +22,9 @@ use Rattle.builtin_calls.specs.declared.waiting.Waiting.{Waiting}
 use Rattle.builtin_calls.specs.declared.waiting.Waiting.TheVariants.{Left, Right, Opposite}
 use Rattle.builtin_calls.specs.declared.evaluation.Step.{Step}
 use Rattle.builtin_calls.specs.declared.evaluation.Step.TheVariants.{Enter, Leave}
-use Rattle.fd_model.specs.Arithmetic.{ValueFault, not_a_number, unbound, Value, value_of, by_name, of_both, of_one, opposite_of, sum_of, difference_of, product_of, quotient_of, modulo_of}
+use Rattle.fd_model.specs.Arithmetic.{ValueFault, not_a_number, Value, value_of, by_name, of_both, of_one, opposite_of, sum_of, difference_of, product_of, quotient_of, modulo_of}
 use Rattle.builtin_calls.specs.Reading.{seen_term}
-use Rattle.builtin_calls.specs.Shown.{shown, IsHeld}
+use Rattle.builtin_calls.specs.Shown.{IsHeld}
 use Rattle.builtin_calls.specs.Outcomes.{IsFault, IsNamedBy, Tells, meaning, operation_of}
 use Rattle.builtin_calls.specs.Waiting.{after, resumed, step_value, TellsDescent, IsOwn, IsOwnWaiting, IsOfHeap, IsOwnStep, unnamed, burden, GoesOn, Leads, TellsAscent, IsEntered}
 
@@ -283,14 +282,6 @@ too_many f [] a by = absurd (omega arith)
 too_many f (c ∷ []) a by = absurd (omega arith)
 too_many f (c ∷ d ∷ []) a by = absurd (omega arith)
 too_many f (c ∷ d ∷ e ∷ cs) a by = refl
-
--- what is seen is a variable, where it is nothing else
-pub variable_seen : (name : Naming) (by : Cell → Term) (y : Seen) → ((z : ℤ) → y ≡ seen.Int z → ⊥) → ((a : AtomId) → y ≡ seen.Atom a → ⊥) → ((f : AtomId) (args : Bor (List Cell)) → y ≡ seen.Struct f args → ⊥) → value_of (shown name by y) ≡ Err unbound
-variable_seen name by (seen.Open i) a b d = refl
-variable_seen name by (seen.Constrained i k) a b d = refl
-variable_seen name by (seen.Int z) a b d = absurd (a z refl)
-variable_seen name by (seen.Atom x) a b d = absurd (b x refl)
-variable_seen name by (seen.Struct f args) a b d = absurd (d f args refl)
 
 -- an evaluation so far
 pub record IsUnderWay (names : List Name) (h : Cells) (sets : List (List ℕ)) (top : Cell) (ws : List Waiting) (s : Step) : Type 0 where
