@@ -30,6 +30,7 @@ use Rattle.code_areas.specs.Areas.{cell_at, IsSet, Contents}
 use Rattle.code_steps.specs.Trying.{shape_in, HasNoRow, HasRow, IsTrying, IsChoice}
 use Rattle.code_steps.proofs.Trying.{step_switch, step_constants, step_integers, step_structures}
 use Rattle.code_states.specs.Machine.{registers_of, stack_of}
+use Rattle.code_states.specs.Queries.{KeepsQuery, KeepsQueryThen}
 use Rattle.code_states.specs.Safety.{IsSafe, IsSafeThen}
 use Rattle.code_states.specs.Standing.{IsNaming}
 use Rattle.code_states.specs.declared.went.Went.{Went}
@@ -37,6 +38,7 @@ use Rattle.code_states.specs.declared.went.Went.TheVariants.{On, Back}
 use Rattle.code_control.specs.Rows.{IsKeyOf, IsFirstRow, HasNoKey, Finds, place_for}
 use Rattle.code_states.specs.Stages.{Task, KeepsRunning, RunsThen}
 use Rattle.code_states.specs.Work.{work_at, work_then}
+use Rattle.code_control.proofs.Queries.{named_query}
 use Rattle.code_control.proofs.Stages.{tries, over}
 use Rattle.code_control.proofs.Threads.{first_set, switch_thread, moved_safe, back_safe}
 use Rattle.code_control.proofs.Working.{named_near, moved_falls, back_less}
@@ -158,6 +160,9 @@ module _ (area : Area) (s : branch.State) (at : ℕ) (c : Contents) (safe : IsSa
     pub term_falls : work_at area place c < work_at area at c
     term_falls = moved_falls area safe.states safe.verified at c place (named_near area safe.states safe.verified at c (SwitchOnTerm v k i t) f place place_in)
 
+    pub term_query : KeepsQuery area at c place c
+    term_query = named_query area s at c safe (SwitchOnTerm v k i t) f place place_in
+
     pub term_runs : KeepsRunning area s at c s place c
     term_runs = tries area s at c (SwitchOnTerm v k i t) tt f place (λ task naming e b kids m.
         subst (λ to. IsTrying INFINITY area task.query.shown task.name s.heaps.now s.levels.current.posted to e (registers_of c) (stack_of c) b kids)
@@ -177,6 +182,10 @@ module _ (area : Area) (s : branch.State) (at : ℕ) (c : Contents) (safe : IsSa
     table_falls (On to) r = moved_falls area safe.states safe.verified at c to (named_near area safe.states safe.verified at c i f to (row_in to r))
     table_falls Back r = back_less area safe.states safe.verified at c
 
+    table_query : (w : Went) → Finds x (table_at area n) w → KeepsQueryThen area at c c w
+    table_query (On to) r = named_query area s at c safe i f to (row_in to r)
+    table_query Back r = tt
+
     abbrev Trying : Task → ℕ → Entry → Branch → List Branch → Type 0
     Trying task to e b kids = IsTrying INFINITY area task.query.shown task.name s.heaps.now s.levels.current.posted to e (registers_of c) (stack_of c) b kids
 
@@ -190,11 +199,11 @@ module _ (area : Area) (s : branch.State) (at : ℕ) (c : Contents) (safe : IsSa
       table_runs Back r = over area s at c i choice f (λ task naming e b kids m.
           (step task e b kids m).1 (subst (λ sh. HasNoRow area sh (table_at area n)) (sym (shape_is task.name m.shape m.shows)) (none_there area task.name naming x (table_at area n) own r)))
 
-      pub table_all : (rows : Table) → rows ≡ table_at area n → (w : Went) → Finds x rows w → IsSafeThen area s c w × RunsThen area s at c s c w × (work_then area c w < work_at area at c)
-      table_all rows same w found = let r = subst (λ l. Finds x l w) same found in (table_safe w r, table_runs w r, table_falls w r)
+      pub table_all : (rows : Table) → rows ≡ table_at area n → (w : Went) → Finds x rows w → IsSafeThen area s c w × RunsThen area s at c s c w × (work_then area c w < work_at area at c) × KeepsQueryThen area at c c w
+      table_all rows same w found = let r = subst (λ l. Finds x l w) same found in (table_safe w r, table_runs w r, table_falls w r, table_query w r)
 
   abbrev Switched : Table → Went → Type 0
-  Switched rows w = IsSafeThen area s c w × RunsThen area s at c s c w × (work_then area c w < work_at area at c)
+  Switched rows w = IsSafeThen area s c w × RunsThen area s at c s c w × (work_then area c w < work_at area at c) × KeepsQueryThen area at c c w
 
   pub constant_switched : (t : ℕ) → Holds area at (SwitchOnConstant t) → (w : Went) → Finds x (table_at area t) w → Switched (table_at area t) w
   constant_switched t holds w found = table_all (SwitchOnConstant t) t holds refl refl (safe.verified.there at (SwitchOnConstant t) holds).0 tt (λ task e b kids m. step_constants INFINITY area task.query.shown task.name s.heaps.now s.levels.current.posted at e (registers_of c) (stack_of c) b kids m t holds) (table_at area t) refl w found

@@ -1,4 +1,5 @@
 pub mod Threads
+pub mod Queries
 pub mod Working
 pub mod Stages
 pub mod Deciding

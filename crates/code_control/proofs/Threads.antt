@@ -230,7 +230,7 @@ module _ (area : Area) (s : branch.State) (at : ℕ) (c : Contents) (safe : IsSa
       })
 
   -- a place outside of all queries has a continuation
-  continued : (rs : List Return) → AreBehind area at rs → IsOutside area at → (r : Return) × (later : List Return) × (rs ≡ r ∷ later) × AreBehind area r.to later
+  pub continued : (rs : List Return) → AreBehind area at rs → IsOutside area at → (r : Return) × (later : List Return) × (rs ≡ r ∷ later) × AreBehind area r.to later
   continued [] b o = absurd (o b.0 b.1 b.2 b.3)
   continued (r ∷ rs) b o = (r, rs, refl, b.1)
 

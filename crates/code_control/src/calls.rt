@@ -3,6 +3,7 @@ ghost use Rattle.std.specs.Prelude.{◌≡◌, ◌<◌, ◌≤◌, IfOk, OnOk};
 ghost use Rattle.wam_code.specs.declared.instruction.Code.TheVariants as step;
 ghost use Rattle.wam_code.specs.Area.{Holds};
 ghost use Rattle.code_states.specs.Machine.{IsSameBehind};
+ghost use Rattle.code_states.specs.Queries.{KeepsQuery};
 ghost use Rattle.code_states.specs.Safety.{IsSafe};
 ghost use Rattle.code_states.specs.Stages.{KeepsRunning, Calls};
 ghost use Rattle.code_states.specs.Work.{work_at, most_work};
@@ -32,6 +33,7 @@ pub fn call<A: Agenda + Drop>(
         areas.new) }
     ensures most { IfOk result (λ to. work_at code.now to areas.new
         ≤ most_work code.now (work_at code.now at areas.old)) }
+    ensures query { IfOk result (λ to. KeepsQuery code.now at areas.old to areas.new) }
     ensures same { OnOk result (areas.new.points ≡ areas.old.points) }
 {
     areas.call(behind(code, at))?;
@@ -56,6 +58,7 @@ pub fn execute<A: Agenda + Drop>(
     ensures runs { Calls code.now branch.now at areas.old branch.now result areas.new }
     ensures most { work_at code.now result areas.new
         ≤ most_work code.now (work_at code.now at areas.old) }
+    ensures query { KeepsQuery code.now at areas.old result areas.new }
     ensures same { IsSameBehind areas.old areas.new }
 {
     let entry = entry_of(code, e);
@@ -78,6 +81,7 @@ pub fn proceed<A: Agenda + Drop>(
         areas.new) }
     ensures falls { IfOk result (λ to. work_at code.now to areas.new
         < work_at code.now at areas.old) }
+    ensures query { IfOk result (λ to. KeepsQuery code.now at areas.old to areas.new) }
     ensures same { OnOk result (areas.new.points ≡ areas.old.points) }
 {
     areas.proceed()

@@ -3,6 +3,7 @@ ghost use Rattle.std.specs.Prelude.{◌≡◌, suc, ◌<◌, ◌∷◌, length, 
 ghost use Rattle.wam_code.specs.declared.instruction.Code.TheVariants as step;
 ghost use Rattle.wam_code.specs.Area.{Holds};
 ghost use Rattle.branch_state.specs.States.{with_pair, IsSound, IsUndone};
+ghost use Rattle.code_states.specs.Queries.{KeepsQuery};
 ghost use Rattle.code_states.specs.Safety.{IsSafe, IsSafeBack};
 ghost use Rattle.code_states.specs.Choices.{point_of};
 ghost use Rattle.code_states.specs.Stages.{KeepsRunning, GoesBack, LeavesChoice, SplitsAt, Resumes};
@@ -47,6 +48,8 @@ pub fn try_me_else<A: Agenda + Drop>(
         areas.new to) }
     ensures falls { IfOk result (λ next. work_at code.now next areas.new
         < work_at code.now at areas.old) }
+    ensures query { IfOk result (λ next. KeepsQuery code.now at areas.old next areas.new) }
+    ensures other { OnOk result (KeepsQuery code.now at areas.old to areas.old) }
     ensures pair { OnOk result (branch.new ≡ with_pair branch.old) }
     ensures point { OnOk result (areas.new.points
         ≡ point_of areas.old to ∷ areas.old.points) }
@@ -71,6 +74,8 @@ pub fn retry_me_else<A: Agenda + Drop>(
         areas.new to) }
     ensures falls { IfOk result (λ next. work_at code.now next areas.new
         < work_at code.now at areas.old) }
+    ensures query { IfOk result (λ next. KeepsQuery code.now at areas.old next areas.new) }
+    ensures other { OnOk result (KeepsQuery code.now at areas.old to areas.old) }
     ensures pair { OnOk result (branch.new ≡ with_pair branch.old) }
     ensures point { OnOk result (areas.new.points
         ≡ point_of areas.old to ∷ areas.old.points) }
@@ -95,6 +100,8 @@ pub fn try_<A: Agenda + Drop>(
         areas.new (suc at)) }
     ensures falls { IfOk result (λ next. work_at code.now next areas.new
         < work_at code.now at areas.old) }
+    ensures query { IfOk result (λ next. KeepsQuery code.now at areas.old next areas.new) }
+    ensures other { OnOk result (KeepsQuery code.now at areas.old (suc at) areas.old) }
     ensures pair { OnOk result (branch.new ≡ with_pair branch.old) }
     ensures point { OnOk result (areas.new.points
         ≡ point_of areas.old (suc at) ∷ areas.old.points) }
@@ -119,6 +126,8 @@ pub fn retry<A: Agenda + Drop>(
         areas.new (suc at)) }
     ensures falls { IfOk result (λ next. work_at code.now next areas.new
         < work_at code.now at areas.old) }
+    ensures query { IfOk result (λ next. KeepsQuery code.now at areas.old next areas.new) }
+    ensures other { OnOk result (KeepsQuery code.now at areas.old (suc at) areas.old) }
     ensures pair { OnOk result (branch.new ≡ with_pair branch.old) }
     ensures point { OnOk result (areas.new.points
         ≡ point_of areas.old (suc at) ∷ areas.old.points) }
@@ -143,6 +152,8 @@ pub fn either<A: Agenda + Drop>(
         areas.new to) }
     ensures falls { IfOk result (λ next. work_at code.now next areas.new
         < work_at code.now at areas.old) }
+    ensures query { IfOk result (λ next. KeepsQuery code.now at areas.old next areas.new) }
+    ensures other { OnOk result (KeepsQuery code.now at areas.old to areas.old) }
     ensures pair { OnOk result (branch.new ≡ with_pair branch.old) }
     ensures point { OnOk result (areas.new.points ≡ point_of areas.old to ∷ areas.old.points) }
 {
@@ -163,6 +174,7 @@ pub fn trust_me<A: Agenda + Drop>(
     ensures safe { IsSafe code.now branch.now result 0 areas.now }
     ensures runs { KeepsRunning code.now branch.now at areas.now branch.now result areas.now }
     ensures falls { work_at code.now result areas.now < work_at code.now at areas.now }
+    ensures query { KeepsQuery code.now at areas.now result areas.now }
 {
     behind(code, at)
 }
@@ -181,6 +193,7 @@ pub fn trust<A: Agenda + Drop>(
     ensures safe { IsSafe code.now branch.now result 0 areas.now }
     ensures runs { KeepsRunning code.now branch.now at areas.now branch.now result areas.now }
     ensures falls { work_at code.now result areas.now < work_at code.now at areas.now }
+    ensures query { KeepsQuery code.now at areas.now result areas.now }
 {
     to
 }
@@ -199,6 +212,7 @@ pub fn jump<A: Agenda + Drop>(
     ensures safe { IsSafe code.now branch.now result 0 areas.now }
     ensures runs { KeepsRunning code.now branch.now at areas.now branch.now result areas.now }
     ensures falls { work_at code.now result areas.now < work_at code.now at areas.now }
+    ensures query { KeepsQuery code.now at areas.now result areas.now }
 {
     to
 }

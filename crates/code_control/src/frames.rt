@@ -3,6 +3,7 @@ ghost use Rattle.std.specs.Prelude.{◌≡◌, ◌<◌, IfOk, OnOk};
 ghost use Rattle.wam_code.specs.declared.instruction.Code.TheVariants as step;
 ghost use Rattle.wam_code.specs.Area.{Holds};
 ghost use Rattle.code_states.specs.Machine.{IsSameBehind};
+ghost use Rattle.code_states.specs.Queries.{KeepsQuery};
 ghost use Rattle.code_states.specs.Safety.{IsSafe};
 ghost use Rattle.code_states.specs.Stages.{KeepsRunning};
 ghost use Rattle.code_states.specs.Work.{work_at};
@@ -30,6 +31,7 @@ pub fn allocate<A: Agenda + Drop>(
         areas.new) }
     ensures falls { IfOk result (λ to. work_at code.now to areas.new
         < work_at code.now at areas.old) }
+    ensures query { IfOk result (λ to. KeepsQuery code.now at areas.old to areas.new) }
     ensures same { OnOk result (IsSameBehind areas.old areas.new) }
 {
     areas.allocate(n)?;
@@ -49,6 +51,7 @@ pub fn deallocate<A: Agenda + Drop>(
     ensures safe { IsSafe code.now branch.now result 0 areas.new }
     ensures runs { KeepsRunning code.now branch.now at areas.old branch.now result areas.new }
     ensures falls { work_at code.now result areas.new < work_at code.now at areas.old }
+    ensures query { KeepsQuery code.now at areas.old result areas.new }
     ensures same { IsSameBehind areas.old areas.new }
 {
     areas.deallocate();

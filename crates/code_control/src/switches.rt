@@ -2,6 +2,7 @@
 ghost use Rattle.std.specs.Prelude.{◌≡◌, ◌<◌};
 ghost use Rattle.wam_code.specs.declared.instruction.Code.TheVariants as step;
 ghost use Rattle.wam_code.specs.Area.{Holds};
+ghost use Rattle.code_states.specs.Queries.{KeepsQuery, KeepsQueryThen};
 ghost use Rattle.code_states.specs.Safety.{IsSafe, IsSafeThen};
 ghost use Rattle.code_control.specs.Rows.{place_for};
 ghost use Rattle.code_states.specs.Stages.{KeepsRunning, RunsThen};
@@ -33,6 +34,7 @@ pub fn switch_on_term<A: Agenda + Drop>(
     ensures safe { IsSafe code.now branch.now result 0 areas.now }
     ensures runs { KeepsRunning code.now branch.now at areas.now branch.now result areas.now }
     ensures falls { work_at code.now result areas.now < work_at code.now at areas.now }
+    ensures query { KeepsQuery code.now at areas.now result areas.now }
 {
     place_for(branch.heap().deref(areas.register(1)), v, c, i, s)
 }
@@ -64,6 +66,7 @@ pub fn switch_on_constant<A: Agenda + Drop>(
     ensures safe { IsSafeThen code.now branch.now areas.now result }
     ensures runs { RunsThen code.now branch.now at areas.now branch.now areas.now result }
     ensures falls { work_then code.now areas.now result < work_at code.now at areas.now }
+    ensures query { KeepsQueryThen code.now at areas.now areas.now result }
 {
     find_row(code, table, branch.heap().deref(areas.register(1)))
 }
@@ -82,6 +85,7 @@ pub fn switch_on_integer<A: Agenda + Drop>(
     ensures safe { IsSafeThen code.now branch.now areas.now result }
     ensures runs { RunsThen code.now branch.now at areas.now branch.now areas.now result }
     ensures falls { work_then code.now areas.now result < work_at code.now at areas.now }
+    ensures query { KeepsQueryThen code.now at areas.now areas.now result }
 {
     find_row(code, table, branch.heap().deref(areas.register(1)))
 }
@@ -100,6 +104,7 @@ pub fn switch_on_structure<A: Agenda + Drop>(
     ensures safe { IsSafeThen code.now branch.now areas.now result }
     ensures runs { RunsThen code.now branch.now at areas.now branch.now areas.now result }
     ensures falls { work_then code.now areas.now result < work_at code.now at areas.now }
+    ensures query { KeepsQueryThen code.now at areas.now areas.now result }
 {
     find_row(code, table, branch.heap().deref(areas.register(1)))
 }

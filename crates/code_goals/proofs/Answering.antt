@@ -19,10 +19,11 @@ use Rattle.code_areas.specs.Areas.{cell_at, Contents}
 use Rattle.code_steps.specs.Registers.{AreIn}
 use Rattle.code_steps.specs.Answers.{slots_line}
 use Rattle.code_steps.proofs.Answering.{run_last, run_fewer, run_any}
+use Rattle.code_states.specs.Queries.{IsInQuery}
 use Rattle.code_states.specs.Choices.{choices_in}
 use Rattle.code_states.specs.Machine.{slot_cell, registers_of, stack_of}
 use Rattle.code_states.specs.Safety.{IsSafe}
-use Rattle.code_goals.specs.Answers.{AreSlots, IsAsked, IsInQuery, ShowsAnswer}
+use Rattle.code_goals.specs.Answers.{AreSlots, IsAsked, ShowsAnswer}
 use Rattle.code_goals.specs.Tasks.{names_of}
 use Rattle.code_goals.proofs.Texts.{line_shown, shown_length}
 

@@ -47,7 +47,7 @@ use Rattle.code_goals.specs.declared.labels.Tried.{Tried}
 use Rattle.code_goals.specs.declared.labels.Labelled.TheVariants.{Took, Tries}
 use Rattle.code_goals.specs.declared.next.Next.TheVariants.{On, Fault}
 use Rattle.code_goals.specs.Tasks.{names_of, task_of}
-use Rattle.code_goals.specs.Values.{numbers_left, IsOpen, left_of, lefts_of, pointed, with_point, with_mark, IsKept, KeepsValues, RunsWent, work_left, IsTried, Labels, BringsMost}
+use Rattle.code_goals.specs.Values.{numbers_left, IsOpen, left_of, lefts_of, pointed, with_point, with_mark, IsKept, KeepsValues, RunsWent, StaysAt, work_left, IsTried, Labels, BringsMost}
 use Rattle.code_goals.proofs.Moving.{runs_none, runs_over}
 use Rattle.code_goals.proofs.Numbers.{filter_from_low, rising_length, can_be}
 use Rattle.code_goals.proofs.Safe.{choices_same, same_below, sound_below, moved_safe, marked_safe, goes_back}
@@ -114,6 +114,10 @@ module _ (area : Area) (prog : Program) (q : Query) (s : branch.State) (at : ℕ
 
 -- ---- a value is tried
 
+stays_at : (at : ℕ) (equal : Bool) → StaysAt at (went_to at equal)
+stays_at at true = refl
+stays_at at false = tt
+
 -- on the way back there is less work
 back_less : (area : Area) (at : ℕ) (c : Contents) → work_back area c < work_at area at c
 back_less area at c = back_falls (distance area at) (map (λ r. distance area r.to) c.returns) (point_threads area c.points)
@@ -133,6 +137,7 @@ module _ (area : Area) (pool : IsPool area.pool) (s : branch.State) (at : ℕ) (
     kept = refl;
     below = same_below s;
     safe = goes_back area s at c safe s (same_below s) (sound_below s safe.sound);
+    leads = tt;
     opened = λ w i. absurd (cc);
     falls = λ ls. (let f = back_less area at c in omega (arith, f));
     runs = λ prog q ls f m. back_settled area prog q s at c ls f v None e safe.sound m;
@@ -219,6 +224,7 @@ module _ (area : Area) (pool : IsPool area.pool) (s : branch.State) (at : ℕ) (
         kept = refl;
         below = below;
         safe = tried_safe equal e;
+        leads = stays_at at equal;
         opened = λ w i. opens w o kept i;
         falls = tried_falls equal;
         runs = tried_runs equal (marked_equates s o x z s' equal e);

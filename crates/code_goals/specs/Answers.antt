@@ -7,17 +7,12 @@ use Rattle.machine_events.specs.declared.Shown.{Shown}
 use Rattle.machine_events.specs.Events.{shown_line, ShowsTerms}
 use Rattle.branch_state.specs.States as branch
 use Rattle.wam_code.specs.Area.{Area, Span, HasQuery, name_of}
-use Rattle.wam_code.specs.Verified.{IsIn}
 use Rattle.code_areas.specs.Areas.{IsSet, Contents}
 use Rattle.code_steps.specs.Registers.{AreIn}
 use Rattle.code_steps.specs.Running.{Left}
 use Rattle.code_states.specs.Machine.{slot_cell}
 use Rattle.code_states.specs.Stages.{RunsAt, ReturnsTo}
 use Rattle.code_goals.specs.Tasks.{task_of}
-
--- the place is one of the query with a number
-abbrev pub IsInQuery : Area → ℕ → ℕ → Type 0
-IsInQuery area number at = (span : Span) × HasQuery area number span × IsIn span at
 
 -- the code's query with a number has the names of this one, and it shows as many variables
 pub record IsAsked (area : Area) (number : ℕ) (q : Query) : Type 0 where

@@ -80,6 +80,11 @@ abbrev pub RunsWent : Area → Task → branch.State → Contents → List Left 
 RunsWent area t s c ls (On to) f = RunsAt area t s to c ls f
 RunsWent area t s c ls Back f = ReturnsTo area t s c ls f
 
+-- it stays at the labelling's place, if it goes on
+abbrev pub StaysAt : ℕ → Went → Type 0
+StaysAt at (On to) = to ≡ at
+StaysAt at Back = Unit {0}
+
 -- the work of a machine that goes somewhere, with the values that are left at its choice points
 abbrev pub work_left : Area → Contents → Went → List Left → ℕ
 work_left area c w ls = work_then area c w + values_work area c.points ls
@@ -89,6 +94,7 @@ pub record IsTried (area : Area) (s : branch.State) (at : ℕ) (c : Contents) (v
   pub kept : c' ≡ with_point c at t.left
   pub below : IsSameBelow (with_mark s t.left) s'
   pub safe : IsSafeThen area s' c' t.went
+  pub leads : StaysAt at t.went
   pub opened : (w : ValuesLeft) → t.left ≡ Some w → IsOpen area s.heaps.now w
   pub falls : (ls : List Left) → work_left area c' t.went (lefts_of at t.left ++ ls) < work_left area (pointed c at) Back (left_of at v ∷ ls)
   pub runs : (prog : Program) (q : Query) (ls : List Left) (f : Future) → ReturnsTo area (task_of area prog q) (with_pair s) (pointed c at) (left_of at v ∷ ls) f
@@ -108,10 +114,10 @@ Labels area s at c s' c' (Tries t) =
     (c' ≡ with_point c at t.left) × IsSameBelow (with_mark s t.left) s' × ((w : ValuesLeft) → t.left ≡ Some w → IsOpen area s.heaps.now w)
     × TakesBy area s at c (λ task ls n k es r. SpendsTo (RunsWent area task s' c' (lefts_of at t.left ++ ls) t.went) [] n k es r)
 
--- Where nothing is tried, the machine goes on at the next place, if it goes on.
+-- Where nothing is tried, the machine goes on at the next place, if it goes on, and else it stays at the same one.
 abbrev pub LeadsLabelled : ℕ → Labelled → Type 0
 LeadsLabelled at (Took x) = LeadsNext at x
-LeadsLabelled at (Tries t) = Unit {0}
+LeadsLabelled at (Tries t) = StaysAt at t.went
 
 -- Where a value is tried, the work is so much at most: once for the choice points that there are, and once for each number that a variable can have.
 abbrev pub BringsMost : Area → ℕ → Contents → Contents → Labelled → Type 0

@@ -2,8 +2,9 @@
 ghost use Rattle.std.specs.Prelude.{◌≡◌, ◌<◌, length, IfOk, OnOk};
 ghost use Rattle.wam_code.specs.declared.instruction.Code.TheVariants as step;
 ghost use Rattle.wam_code.specs.Area.{Span, Holds, HasQuery};
+ghost use Rattle.code_states.specs.Queries.{IsInQuery};
 ghost use Rattle.code_states.specs.Safety.{IsSafe};
-ghost use Rattle.code_goals.specs.Answers.{AreSlots, HasFirstSlots, IsInQuery, ShowsAnswer};
+ghost use Rattle.code_goals.specs.Answers.{AreSlots, HasFirstSlots, ShowsAnswer};
 
 use branch_state::BranchState;
 use code_areas::Areas;

@@ -1,5 +1,5 @@
 -- Instructions that spend nothing.
-use Rattle.std.proofs.Common.{◌≡◌, ℕ, ◌<◌, ◌∷◌, refl, inl, inr}
+use Rattle.std.proofs.Common.{◌≡◌, ℕ, ◌<◌, ◌∷◌, refl, sym, subst, inl, inr}
 use Rattle.branch_state.specs.States as branch
 use Rattle.branch_state.specs.States.{IsSameBelow, with_pair}
 use Rattle.wam_code.specs.declared.instruction.Code.{Code}
@@ -7,13 +7,15 @@ use Rattle.wam_code.specs.Area.{Area, Holds}
 use Rattle.code_areas.specs.Areas.{Contents}
 use Rattle.code_steps.specs.Trying.{IsFirst}
 use Rattle.code_states.specs.declared.went.Went.{Went}
-use Rattle.code_states.specs.declared.went.Went.TheVariants.{On}
+use Rattle.code_states.specs.declared.went.Went.TheVariants.{On, Back}
 use Rattle.code_states.specs.Choices.{point_of}
 use Rattle.code_states.specs.Machine.{IsSameBehind}
 use Rattle.code_states.specs.Safety.{IsSafe, IsSafeThen}
 use Rattle.code_states.specs.Stages.{RunsThen, LeavesChoice}
 use Rattle.code_states.specs.Standing.{KeepsStanding}
+use Rattle.code_states.specs.Queries.{EndsIn, KeepsQuery, KeepsQueryThen}
 use Rattle.code_states.specs.Work.{work_at, work_then, LeadsOn}
+use Rattle.code_states.proofs.Queries.{ends_on}
 use Rattle.code_states.proofs.Stages.{kept_runs, kept_falls}
 use Rattle.code_machine.specs.Steps.{Moves}
 
@@ -24,18 +26,23 @@ pub same_areas : (c : Contents) → IsSameBehind c c
 same_areas c = record { returns = refl; points = refl }
 
 module _ (area : Area) (s : branch.State) (at : ℕ) (c : Contents) where
+  -- A place of the same query with the same continuations keeps the query.
+  leads_inside : (c' : Contents) → IsSameBehind c c' → (w : Went) → LeadsOn area at w → KeepsQueryThen area at c c' w
+  leads_inside c' behind (On to) leads = λ number ends. subst (λ rs. EndsIn area number to rs) (sym behind.returns) (ends_on area at to leads.1 number c.returns ends)
+  leads_inside c' behind Back leads = tt
+
   -- a term of a clause
-  pub term_moves : (i : Code) → IsFirst i → Holds area at i → (s' : branch.State) (c' : Contents) → IsSameBelow s s' → IsSameBehind c c' → (w : Went) → IsSafeThen area s' c' w → KeepsStanding area s at c s' c' w → LeadsOn at w → Moves area s at c s' c' w
+  pub term_moves : (i : Code) → IsFirst i → Holds area at i → (s' : branch.State) (c' : Contents) → IsSameBelow s s' → IsSameBehind c c' → (w : Went) → IsSafeThen area s' c' w → KeepsStanding area s at c s' c' w → LeadsOn area at w → Moves area s at c s' c' w
   term_moves i first holds s' c' below behind w safe keep leads = record {
     safe = safe;
-    moves = inl (record { below = below; points = behind.points; runs = kept_runs area s at c i first holds s' c' below behind w keep });
+    moves = inl (record { below = below; points = behind.points; runs = kept_runs area s at c i first holds s' c' below behind w keep; query = leads_inside c' behind w leads });
     falls = kept_falls area at c i holds c' behind w leads;
   }
 
   -- another instruction that leaves the choice points
-  pub other_moves : (s' : branch.State) (c' : Contents) (w : Went) → IsSameBelow s s' → c'.points ≡ c.points → IsSafeThen area s' c' w → RunsThen area s at c s' c' w → work_then area c' w < work_at area at c → Moves area s at c s' c' w
-  other_moves s' c' w below points safe runs falls = record { safe = safe; moves = inl (record { below = below; points = points; runs = runs }); falls = falls }
+  pub other_moves : (s' : branch.State) (c' : Contents) (w : Went) → IsSameBelow s s' → c'.points ≡ c.points → IsSafeThen area s' c' w → RunsThen area s at c s' c' w → KeepsQueryThen area at c c' w → work_then area c' w < work_at area at c → Moves area s at c s' c' w
+  other_moves s' c' w below points safe runs query falls = record { safe = safe; moves = inl (record { below = below; points = points; runs = runs; query = query }); falls = falls }
 
   -- one that leaves a new one
-  pub choice_moves : (s' : branch.State) (c' : Contents) (to other : ℕ) → s' ≡ with_pair s → c'.points ≡ point_of c other ∷ c.points → IsSafe area s' to 0 c' → LeavesChoice area s at c s' to c' other → work_at area to c' < work_at area at c → Moves area s at c s' c' (On to)
-  choice_moves s' c' to other pair point safe runs falls = record { safe = safe; moves = inr (record { other = other; pair = pair; point = point; runs = runs }); falls = falls }
+  pub choice_moves : (s' : branch.State) (c' : Contents) (to other : ℕ) → s' ≡ with_pair s → c'.points ≡ point_of c other ∷ c.points → IsSafe area s' to 0 c' → LeavesChoice area s at c s' to c' other → KeepsQuery area at c to c' → KeepsQuery area at c other c → work_at area to c' < work_at area at c → Moves area s at c s' c' (On to)
+  choice_moves s' c' to other pair point safe runs query left falls = record { safe = safe; moves = inr (record { other = other; pair = pair; point = point; runs = runs; query = query; left = left }); falls = falls }

@@ -16,15 +16,21 @@ use Rattle.code_goals.specs.Values.{left_of, pointed, with_point, work_left, IsO
 use Rattle.code_goals.proofs.Labelling.{back_at}
 use Rattle.code_machine.specs.declared.run.Label.{Label}
 use Rattle.code_machine.specs.Labels.{lefts_by, AreLabels, whole_back}
-use Rattle.code_machine.specs.Steps.{labelled, ComesBack, NoMore, TakesValues}
+use Rattle.code_machine.specs.declared.run.Stage.TheVariants.{Going, Returning}
+use Rattle.code_machine.specs.States.{PointsEndIn, IsInside}
+use Rattle.code_machine.specs.Steps.{labelled, stage_of, ComesBack, NoMore, TakesValues}
 use Rattle.code_machine.proofs.Labelling.{label_gone, labels_less, lefts_more, lefts_values}
-use Rattle.code_machine.proofs.Taking.{tried_labels, tried_lefts}
+use Rattle.code_machine.proofs.Taking.{tried_inside, tried_labels, tried_lefts}
 use Rattle.code_machine.proofs.Working.{resumed_work, tried_less}
 
 module _ (area : Area) (s : branch.State) (c : Contents) (ls : List Label) (own : AreLabels area c.points s.heaps.below ls) (s1 : branch.State) (at : ℕ) (c1 : Contents) (undone : IsUndone s s1) (is : c.points ≡ point_of c1 at ∷ c1.points) where
   -- the labels of the points, with the newest of these
   owned : AreLabels area (point_of c1 at ∷ c1.points) (s1.heaps.now ∷ s1.heaps.below) ls
   owned = subst (λ ps. AreLabels area ps (s1.heaps.now ∷ s1.heaps.below) ls) is (subst (λ hs. AreLabels area c.points hs ls) undone.heaps own)
+
+  -- The point is in the query still, and so are the others.
+  come_inside : (number : ℕ) → IsInside area number c Returning → IsInside area number c1 (Going at)
+  come_inside number i = subst (PointsEndIn area number) is i
 
   -- It has no values.
   pub resumed_back : IsSafe area s1 at 0 c1 → Resumes area s c s1 at c1 → (ls' : List Label) → TakesValues ls (length c1.points) ls' None → ComesBack area s c ls s1 c1 ls' (On at)
@@ -34,6 +40,7 @@ module _ (area : Area) (s : branch.State) (c : Contents) (ls : List Label) (own 
         safe = safe;
         labels = labels_less area (point_of c1 at) c1.points s1.heaps.now s1.heaps.below ls takes.1 owned;
         runs = λ prog q f m. resumes (task_of area prog q) (lefts_by c1.points ls) f (subst (λ l. ReturnsTo area (task_of area prog q) s c l f) left m);
+        inside = come_inside;
         work = resumed_work area at c1 c is ls left;
       })
 
@@ -61,6 +68,7 @@ module _ (area : Area) (s : branch.State) (c : Contents) (ls : List Label) (own 
               (tried.runs prog q (lefts_by c1.points ls1) f
               (back_at area (task_of area prog q) s s1 at c c1 undone is (left_of at v) (lefts_by c1.points ls1) f
               (subst (λ l. ReturnsTo area (task_of area prog q) s c l f) left m))));
+          inside = λ number i. subst (λ (a : Contents). IsInside area number a (stage_of t.went)) (sym tried.kept) (tried_inside area s1 at c1 ls1 gone.1 t.left t.went tried.leads number (come_inside number i));
           work = subst (λ l. NoMore area c' new t.went (whole_back area c l)) (sym takes)
               (tried_less area at c1 c is v ls1 new c' t.went
               (subst (λ (a : Contents). work_left area c' t.went (lefts_by a.points new) < work_left area (pointed c1 at) Back (left_of at v ∷ lefts_by c1.points ls1)) (sym tried.kept)

@@ -5,6 +5,7 @@ use Rattle.fd_model.specs.Goal as model
 use Rattle.fd_model.specs.Goal.{Program, Query, Event}
 use Rattle.fd_model.specs.Run.{IsLimit}
 use Rattle.machine_relation.specs.Next.{is_final, IsNext, behind}
+use Rattle.machine_events.specs.declared.Limits.{Limits}
 use Rattle.machine_events.specs.declared.MachineEvent.{MachineEvent}
 use Rattle.machine_events.specs.declared.MachineEvent.TheVariants as event
 use Rattle.machine_events.specs.declared.Shown.{Shown}
@@ -18,6 +19,7 @@ use Rattle.code_steps.specs.Running.{Left, resume}
 use Rattle.code_states.specs.declared.went.Went.{Went}
 use Rattle.code_states.specs.declared.went.Went.TheVariants.{On, Back}
 use Rattle.code_states.specs.Choices.{point_of}
+use Rattle.code_states.specs.Queries.{KeepsQueryThen}
 use Rattle.code_states.specs.Safety.{IsSafe, IsSafeBack, IsSafeThen}
 use Rattle.code_states.specs.Stages.{Task, RunsAt}
 use Rattle.code_states.specs.Work.{left_by, work_at, work_back, work_then, values_work}
@@ -34,14 +36,15 @@ use Rattle.code_machine.specs.declared.run.Label.{Label}
 use Rattle.code_machine.specs.declared.run.Run.{Run}
 use Rattle.code_machine.specs.declared.run.Stage.{Stage}
 use Rattle.code_machine.specs.declared.run.Stage.TheVariants.{Going, Returning, Ended}
+use Rattle.code_machine.specs.Instructions.{HasGoal}
 use Rattle.code_machine.specs.Labels.{lefts_by, labels_work, AreLabels, whole_at, whole_back}
-use Rattle.code_machine.specs.States.{State, state_of, names_in, names_of, no_span, IsTask, last_event, StandsBy, StandsFor, most, left, left_at, IsReadyAt, IsMachine, IsSame, IsQuiet, Says, IsStep, StillRuns, behind_answer, one_fewer}
+use Rattle.code_machine.specs.States.{State, state_of, state_within, names_in, names_of, no_limits, no_span, IsTask, last_event, StandsBy, StandsFor, most, left, left_at, IsEndedBy, IsReadyAt, PointsEndIn, IsInside, IsMachine, IsSame, IsPaced, Allows, ComesOf, IsQuiet, Says, IsStep, StillRuns, AreCounted, IsWithin, IsOfGoal, counted, behind_answer, one_fewer}
 use Rattle.code_machine.specs.Steps.{Keeps, Leaves, LeavesThen, Moves, Spends, ComesBack, NoMore, next_work, stage_of, stage_next, event_next}
 use Rattle.code_machine.proofs.Labelling.{labels_more, lefts_more, no_newest}
 
 -- a machine for which memory wasn't wanting
 abbrev pub seen : Area → ℕ → branch.State → Contents → List Label → Stage → ℕ → Option ℕ → ℕ → State
-seen area query s c ls st n k spent = record { area = area; query = query; branch = s; areas = c; labels = ls; stage = st; budget = n; limit = k; spent = spent; lost = false }
+seen area query s c ls st n k spent = record { area = area; query = query; branch = s; areas = c; labels = ls; stage = st; budget = n; limit = k; spent = spent; lost = false; limits = no_limits; answers = 0 }
 
 -- ---- the last event
 
@@ -69,10 +72,22 @@ no_terms_shown n ending.Budget = tt
 no_terms_shown n ending.Limit = tt
 no_terms_shown n (ending.Fault f) = tt
 
+allows_end : (e : Ending) (k k' : Option ℕ) → k' ≡ k → Allows (last_event e) k k'
+allows_end ending.End k k' same = same
+allows_end ending.Budget k k' same = same
+allows_end ending.Limit k k' same = same
+allows_end (ending.Fault f) k k' same = same
+
+comes_of_end : (s : State) (e : Ending) → IsEndedBy s.area s.budget s.limit e → ComesOf s (last_event e)
+comes_of_end s ending.End ended = tt
+comes_of_end s ending.Budget ended = ended
+comes_of_end s ending.Limit ended = ended
+comes_of_end s (ending.Fault f) ended = ended
+
 -- A machine that comes to its end says that, and has nothing else to say.
-pub ends_says : (old : State) (e : Ending) (s' : branch.State) (c' : Contents) (ls' : List Label) (n' : ℕ) (k' : Option ℕ) (spent' : ℕ) → ((es : List Event) (total : ℕ) → StandsFor old es total → (es ≡ event_of [] (last_event e) ∷ []) × (total ≡ spent'))
-    → Says old (last_event e) (seen old.area old.query s' c' ls' (Ended e) n' k' spent')
-ends_says old e s' c' ls' n' k' spent' stops =
+pub ends_says : (old : State) (e : Ending) (s' : branch.State) (c' : Contents) (ls' : List Label) (n' : ℕ) (k' : Option ℕ) (spent' : ℕ) → spent' + n' ≡ old.spent + old.budget → k' ≡ old.limit → IsEndedBy old.area n' k' e
+    → ((es : List Event) (total : ℕ) → StandsFor old es total → (es ≡ event_of [] (last_event e) ∷ []) × (total ≡ spent')) → Says old (last_event e) (seen old.area old.query s' c' ls' (Ended e) n' k' spent')
+ends_says old e s' c' ls' n' k' spent' paced limit ended stops =
     let new : State = seen old.area old.query s' c' ls' (Ended e) n' k' spent' in
     record {
       next = λ es total w.
@@ -84,6 +99,9 @@ ends_says old e s' c' ls' n' k' spent' stops =
       falls = λ f. absurd (true≢false (sym (final e) ∙ f));
       ends = λ f. refl;
       shown = no_terms_shown (length (names_of old)) e;
+      paced = paced;
+      limit = allows_end e old.limit k' limit;
+      comes = comes_of_end new e ended;
     }
 
 -- ---- a step that says nothing
@@ -106,12 +124,23 @@ module _ (area : Area) (query : ℕ) (s s' : branch.State) (c c' : Contents) (ls
       | inr l ↦ subst (λ ps. AreLabels area ps s'.heaps.below ls) (sym l.point) (subst (λ (t : branch.State). AreLabels area (point_of c l.other ∷ c.points) t.heaps.below ls) (sym l.pair) (labels_more area (point_of c l.other) c.points s.heaps.now s.heaps.below ls owned))
     ]
 
-    ready_then : (w : Went) → IsSafeThen area s' c' w → IsReadyAt area s' c' ls k (stage_of w)
+    ready_then : (w : Went) → IsSafeThen area s' c' w → IsReadyAt area s' c' ls n k (stage_of w)
     ready_then (On to) safe = (safe, labels_then, m.ready.2)
     ready_then Back safe = (safe, labels_then, m.ready.2)
 
+    -- a place whose query is kept, over the same choice points
+    keeps_inside : (w : Went) → KeepsQueryThen area at c c' w → (ps : List Point) → c'.points ≡ ps → PointsEndIn area query ps → IsInside area query c' (stage_of w)
+    keeps_inside (On to) keeps ps is own = (keeps query m.inside.0, subst (PointsEndIn area query) (sym is) own)
+    keeps_inside Back keeps ps is own = subst (PointsEndIn area query) (sym is) own
+
+    inside_then : IsInside area query c' (stage_of w)
+    inside_then = elim moves.moves [
+      | inl keep ↦ keeps_inside w keep.query c.points keep.points m.inside.1
+      | inr l ↦ keeps_inside w l.query (point_of c l.other ∷ c.points) l.point (l.left query m.inside.0, m.inside.1)
+    ]
+
     pub moved_machine : IsMachine now
-    moved_machine = record { query = m.query; ready = ready_then w moves.safe; steps = m.steps }
+    moved_machine = record { query = m.query; ready = ready_then w moves.safe; inside = inside_then; steps = m.steps }
 
     lefts_new : (l : Leaves area s at c s' c' w) → lefts_by c'.points ls ≡ resume l.other ∷ lefts_by c.points ls
     lefts_new l = ap (λ ps. lefts_by ps ls) l.point ∙ lefts_more (point_of c l.other) c.points ls (no_newest area c.points s.heaps.below ls owned)
@@ -154,7 +183,7 @@ module _ (area : Area) (query : ℕ) (s s' : branch.State) (c c' : Contents) (ls
         omega (arith, f)
 
     pub moved_quiet : IsQuiet was now
-    moved_quiet = record { stands = moved_stands; falls = falls_by w moves.falls }
+    moved_quiet = record { stands = moved_stands; falls = falls_by w moves.falls; paced = refl; limit = refl }
 
   -- ---- the way back
 
@@ -165,12 +194,12 @@ module _ (area : Area) (query : ℕ) (s s' : branch.State) (c c' : Contents) (ls
     abbrev now_back : State
     now_back = seen area query s' c' ls' (stage_of w) n k spent
 
-    ready_back : (w : Went) → IsSafeThen area s' c' w → IsReadyAt area s' c' ls' k (stage_of w)
+    ready_back : (w : Went) → IsSafeThen area s' c' w → IsReadyAt area s' c' ls' n k (stage_of w)
     ready_back (On to) safe = (safe, back.labels, m.ready.2)
     ready_back Back safe = (safe, back.labels, m.ready.2)
 
     pub back_machine : IsMachine now_back
-    back_machine = record { query = m.query; ready = ready_back w back.safe; steps = m.steps }
+    back_machine = record { query = m.query; ready = ready_back w back.safe; inside = back.inside query m.inside; steps = m.steps }
 
     stands_back : (t : Task) (l : List Left) (es : List Event) (r : ℕ) (v : Went) → RunsWent area t s' c' l v (record { budget = n; answers = k; events = es; reductions = r }) → StandsBy area t s' c' l (stage_of v) n k es r
     stands_back t l es r (On to) runs = runs
@@ -195,26 +224,43 @@ module _ (area : Area) (query : ℕ) (s s' : branch.State) (c c' : Contents) (ls
         stands = stands_back (task_of area h.program h.query) (lefts_by c'.points ls') es h.later w (back.runs h.program h.query (record { budget = n; answers = k; events = es; reductions = h.later }) h.stands);
       };
       falls = falls_back w back.work;
+      paced = refl;
+      limit = refl;
     }
 
 -- ---- a goal
 
-module _ (area : Area) (query : ℕ) (s s' : branch.State) (at : ℕ) (c c' : Contents) (ls ls' : List Label) (n : ℕ) (k : Option ℕ) (spent : ℕ) (x : Next) (spends : Spends area s at c ls s' c' ls' x) (m : IsMachine (seen area query s c ls (Going at) (suc n) k spent)) where
+-- what is only said where the code has a goal
+abbrev pub NeedsGoal : Area → Next → Type 0
+NeedsGoal area (next.On to) = Unit {0}
+NeedsGoal area next.Back = Unit {0}
+NeedsGoal area (next.Fault f) = HasGoal area
+NeedsGoal area (next.Write to x) = HasGoal area
+NeedsGoal area (next.Newline to) = HasGoal area
+
+pub needed_goal : (area : Area) (x : Next) → HasGoal area → NeedsGoal area x
+needed_goal area (next.On to) g = tt
+needed_goal area next.Back g = tt
+needed_goal area (next.Fault f) g = g
+needed_goal area (next.Write to x) g = g
+needed_goal area (next.Newline to) g = g
+
+module _ (area : Area) (query : ℕ) (s s' : branch.State) (at : ℕ) (c c' : Contents) (ls ls' : List Label) (n : ℕ) (k : Option ℕ) (spent : ℕ) (x : Next) (spends : Spends area s at c ls s' c' ls' x) (goal : NeedsGoal area x) (m : IsMachine (seen area query s c ls (Going at) (suc n) k spent)) where
   abbrev before : State
   before = seen area query s c ls (Going at) (suc n) k spent
 
   abbrev after : Stage → State
   after st = seen area query s' c' ls' st n k (spent + 1)
 
-  ready_next : (x : Next) → IsSafeNext area s' c' x → IsReadyAt area s' c' ls' k (stage_next x)
-  ready_next (next.On to) safe = (safe, spends.labels, m.ready.2)
-  ready_next next.Back safe = (safe, spends.labels, m.ready.2)
-  ready_next (next.Fault f) safe = tt
-  ready_next (next.Write to y) safe = (safe.0, spends.labels, m.ready.2)
-  ready_next (next.Newline to) safe = (safe, spends.labels, m.ready.2)
+  ready_next : (x : Next) → IsSafeNext area s' c' x → NeedsGoal area x → IsReadyAt area s' c' ls' n k (stage_next x)
+  ready_next (next.On to) safe g = (safe, spends.labels, m.ready.2)
+  ready_next next.Back safe g = (safe, spends.labels, m.ready.2)
+  ready_next (next.Fault f) safe g = g
+  ready_next (next.Write to y) safe g = (safe.0, spends.labels, m.ready.2)
+  ready_next (next.Newline to) safe g = (safe, spends.labels, m.ready.2)
 
   pub spent_machine : IsMachine (after (stage_next x))
-  spent_machine = record { query = m.query; ready = ready_next x spends.safe; steps = (let l = m.steps in omega (arith, l)) }
+  spent_machine = record { query = m.query; ready = ready_next x spends.safe goal; inside = spends.inside query m.inside; steps = (let l = m.steps in omega (arith, l)) }
 
   less_at : (to : ℕ) → whole_at area to c' ls' ≤ most area * suc (whole_at area at c ls) → left_at area c' ls' n (Going to) < left_at area c ls (suc n) (Going at)
   less_at to l = let f = left_spent (most area) n (whole_at area at c ls) (whole_at area to c' ls') l in omega (arith, f)
@@ -226,6 +272,9 @@ module _ (area : Area) (query : ℕ) (s s' : branch.State) (at : ℕ) (c c' : Co
   Told y =
       (prog : Program) (q : Query) → IsTask area query prog q → (es : List Event) (r : ℕ) → RunsAt area (task_of area prog q) s at c (lefts_by c.points ls) (record { budget = suc n; answers = k; events = es; reductions = r })
       → RunsNext area (task_of area prog q) s' c' (lefts_by c'.points ls') n k es r y
+
+  one_spent : spent + 1 + n ≡ spent + suc n
+  one_spent = omega arith
 
   quiet_by : (to : ℕ) → whole_at area to c' ls' ≤ most area * suc (whole_at area at c ls) → Told (next.On to) → IsQuiet before (after (Going to))
   quiet_by to l told = record {
@@ -240,6 +289,8 @@ module _ (area : Area) (query : ℕ) (s s' : branch.State) (at : ℕ) (c c' : Co
           stands = w.4;
         }));
     falls = less_at to l;
+    paced = one_spent;
+    limit = refl;
   }
 
   gone_by : whole_back area c' ls' ≤ most area * suc (whole_at area at c ls) → Told next.Back → IsQuiet before (after Returning)
@@ -255,14 +306,16 @@ module _ (area : Area) (query : ℕ) (s s' : branch.State) (at : ℕ) (c c' : Co
           stands = w.4;
         }));
     falls = less_back l;
+    paced = one_spent;
+    limit = refl;
   }
 
   -- what a goal says first
-  saying : (to : ℕ) (e : MachineEvent) (said : Event) → ((names : List (List ℕ)) → event_of names e ≡ said) → is_final said ≡ false → ((later : List Event) → behind said later ≡ later) → HasTerms (length (names_of before)) e → whole_at area to c' ls' ≤ most area * suc (whole_at area at c ls)
+  saying : (to : ℕ) (e : MachineEvent) (said : Event) → ((names : List (List ℕ)) → event_of names e ≡ said) → is_final said ≡ false → ((later : List Event) → behind said later ≡ later) → HasTerms (length (names_of before)) e → ((j : Option ℕ) → Allows e j j) → ComesOf (after (Going to)) e → whole_at area to c' ls' ≤ most area * suc (whole_at area at c ls)
       → ((prog : Program) (q : Query) → IsTask area query prog q → (es : List Event) (r : ℕ) → RunsAt area (task_of area prog q) s at c (lefts_by c.points ls) (record { budget = suc n; answers = k; events = es; reductions = r })
       → (later : List Event) × (j : ℕ) × (es ≡ said ∷ later) × (r ≡ suc j) × RunsAt area (task_of area prog q) s' to c' (lefts_by c'.points ls') (record { budget = n; answers = k; events = later; reductions = j }))
       → Says before e (after (Going to))
-  saying to e said is open_ end_ shown l told = record {
+  saying to e said is open_ end_ shown allows comes l told = record {
     next = λ es total h.
         (let w = told h.program h.query h.task es h.later h.stands in
         subst (λ y. (later : List Event) × (es ≡ y ∷ later) × StandsFor (after (Going to)) (behind y later) total) (sym (is (names_of before))) (
@@ -281,40 +334,43 @@ module _ (area : Area) (query : ℕ) (s s' : branch.State) (at : ℕ) (c c' : Co
     falls = λ f. less_at to l;
     ends = λ f. absurd (true≢false (sym f ∙ ap is_final (is []) ∙ open_));
     shown = shown;
+    paced = one_spent;
+    limit = allows k;
+    comes = comes;
   }
 
-  next_step : (y : Next) → IsSafeNext area s' c' y → next_work area c' ls' y ≤ most area * suc (whole_at area at c ls) → Told y → IsStep before (event_next y) (after (stage_next y))
-  next_step (next.On to) safe l told = quiet_by to l told
-  next_step next.Back safe l told = gone_by l told
-  next_step (next.Fault f) safe l told = ends_says before (ending.Fault f) s' c' ls' n k (spent + 1) (λ es total h. (let w = told h.program h.query h.task es h.later h.stands in (w.0, (let a = h.all in let j = w.1 in omega (arith, a, j)))))
-  next_step (next.Write to y) safe l told = saying to (event.Write y) (event_of [] (event.Write y)) (λ names. refl) refl (λ later. refl) safe.1 l told
-  next_step (next.Newline to) safe l told = saying to event.Newline model.Newline (λ names. refl) refl (λ later. refl) tt l told
+  next_step : (y : Next) → IsSafeNext area s' c' y → NeedsGoal area y → next_work area c' ls' y ≤ most area * suc (whole_at area at c ls) → Told y → IsStep before (event_next y) (after (stage_next y))
+  next_step (next.On to) safe g l told = quiet_by to l told
+  next_step next.Back safe g l told = gone_by l told
+  next_step (next.Fault f) safe g l told = ends_says before (ending.Fault f) s' c' ls' n k (spent + 1) one_spent refl g (λ es total h. (let w = told h.program h.query h.task es h.later h.stands in (w.0, (let a = h.all in let j = w.1 in omega (arith, a, j)))))
+  next_step (next.Write to y) safe g l told = saying to (event.Write y) (event_of [] (event.Write y)) (λ names. refl) refl (λ later. refl) safe.1 (λ j. refl) g l told
+  next_step (next.Newline to) safe g l told = saying to event.Newline model.Newline (λ names. refl) refl (λ later. refl) tt (λ j. refl) g l told
 
   pub spent_step : IsStep before (event_next x) (after (stage_next x))
-  spent_step = next_step x spends.safe spends.work (λ prog q task es r runs. spends.runs query prog q task n k es r runs)
+  spent_step = next_step x spends.safe goal spends.work (λ prog q task es r runs. spends.runs query prog q task n k es r runs)
 
 -- ---- an end that takes no reduction
 
 module _ (area : Area) (query : ℕ) (s : branch.State) (c : Contents) (ls : List Label) (k : Option ℕ) (spent : ℕ) where
   -- no reduction is left
-  pub budget_machine : (n : ℕ) (st : Stage) (e : Ending) (s' : branch.State) (c' : Contents) (ls' : List Label) → IsMachine (seen area query s c ls st n k spent) → IsMachine (seen area query s' c' ls' (Ended e) n k spent)
-  budget_machine n st e s' c' ls' m = record { query = m.query; ready = tt; steps = m.steps }
+  pub budget_machine : (n : ℕ) (st : Stage) (e : Ending) (s' : branch.State) (c' : Contents) (ls' : List Label) → IsEndedBy area n k e → IsMachine (seen area query s c ls st n k spent) → IsMachine (seen area query s' c' ls' (Ended e) n k spent)
+  budget_machine n st e s' c' ls' ended m = record { query = m.query; ready = ended; inside = tt; steps = m.steps }
 
   pub budget_says : (at : ℕ) (i : Code) → Rattle.code_steps.proofs.Goals.TakesGoal i → Holds area at i → IsMachine (seen area query s c ls (Going at) 0 k spent) → Says (seen area query s c ls (Going at) 0 k spent) event.Budget (seen area query s c ls (Ended ending.Budget) 0 k spent)
   budget_says at i takes holds m =
-      ends_says (seen area query s c ls (Going at) 0 k spent) ending.Budget s c ls 0 k spent
+      ends_says (seen area query s c ls (Going at) 0 k spent) ending.Budget s c ls 0 k spent refl refl refl
       (λ es total h. (let z = Rattle.code_states.proofs.Stages.budget_ends area (task_of area h.program h.query) s m.ready.0.sound at i takes holds c (lefts_by c.points ls) k es h.later h.stands in (z.0, (let a = h.all in let j = z.1 in omega (arith, a, j)))))
 
   -- no choice point is left
   pub none_says : (n : ℕ) → c.points ≡ [] → Says (seen area query s c ls Returning n k spent) event.End (seen area query s c ls (Ended ending.End) n k spent)
   none_says n none =
-      ends_says (seen area query s c ls Returning n k spent) ending.End s c ls n k spent
+      ends_says (seen area query s c ls Returning n k spent) ending.End s c ls n k spent refl refl tt
       (λ es total h. (let z = Rattle.code_states.proofs.Stages.returned_ends area (task_of area h.program h.query) s c (lefts_by c.points ls) (record { budget = n; answers = k; events = es; reductions = h.later }) none h.stands in (z.0, (let a = h.all in let j = z.1 in omega (arith, a, j)))))
 
   -- the end was reached before
-  pub ended_says : (n : ℕ) (e : Ending) → Says (seen area query s c ls (Ended e) n k spent) (last_event e) (seen area query s c ls (Ended e) n k spent)
-  ended_says n e =
-      ends_says (seen area query s c ls (Ended e) n k spent) e s c ls n k spent
+  pub ended_says : (n : ℕ) (e : Ending) → IsEndedBy area n k e → Says (seen area query s c ls (Ended e) n k spent) (last_event e) (seen area query s c ls (Ended e) n k spent)
+  ended_says n e ended =
+      ends_says (seen area query s c ls (Ended e) n k spent) e s c ls n k spent refl refl ended
       (λ es total h. (h.stands.0, (let a = h.all in let j = h.stands.1 in omega (arith, a, j))))
 
 -- ---- an answer
@@ -380,6 +436,11 @@ module _ (area : Area) (query : ℕ) (s : branch.State) (at : ℕ) (c : Contents
   less_by (Some (suc zero)) = omega arith
   less_by (Some (suc (suc j))) = subst (λ st. left_at area c ls n st < left_at area c ls n (Going at)) (sym (goes_back j)) less
 
+  allowed : (k : Option ℕ) → IsLimit k → Allows (event.Answer x) k (one_fewer k)
+  allowed None l = refl
+  allowed (Some zero) l = absurd l
+  allowed (Some (suc j)) l = (j, refl, ap Some (omega arith))
+
   back_ready : IsSafe area s at 0 c → IsSafeBack area s c
   back_ready safe = record {
     states = safe.states;
@@ -389,20 +450,27 @@ module _ (area : Area) (query : ℕ) (s : branch.State) (at : ℕ) (c : Contents
     points = safe.points;
   }
 
-  ready_by : (k : Option ℕ) → IsSafe area s at 0 c × AreLabels area c.points s.heaps.below ls × IsLimit k → IsReadyAt area s c ls (one_fewer k) (behind_answer k)
+  ready_by : (k : Option ℕ) → IsSafe area s at 0 c × AreLabels area c.points s.heaps.below ls × IsLimit k → IsReadyAt area s c ls n (one_fewer k) (behind_answer k)
   ready_by None r = (back_ready r.0, r.1, tt)
   ready_by (Some zero) r = absurd r.2
-  ready_by (Some (suc zero)) r = tt
+  ready_by (Some (suc zero)) r = refl
   ready_by (Some (suc (suc j))) r =
-      subst (λ st. IsReadyAt area s c ls (one_fewer (Some (suc (suc j)))) st) (sym (goes_back j))
-      (subst (λ k'. IsReadyAt area s c ls k' Returning) (sym (fewer_left j)) (back_ready r.0, r.1, tt))
+      subst (λ st. IsReadyAt area s c ls n (one_fewer (Some (suc (suc j)))) st) (sym (goes_back j))
+      (subst (λ k'. IsReadyAt area s c ls n k' Returning) (sym (fewer_left j)) (back_ready r.0, r.1, tt))
+
+  -- The choice points stay.
+  inside_by : (k : Option ℕ) → IsInside area query c (Going at) → IsInside area query c (behind_answer k)
+  inside_by None i = i.1
+  inside_by (Some zero) i = i.1
+  inside_by (Some (suc zero)) i = tt
+  inside_by (Some (suc (suc j))) i = subst (IsInside area query c) (sym (goes_back j)) i.1
 
   module _ (k : Option ℕ) (m : IsMachine (asked_at k)) (span : Span) (has : HasQuery area query span) where
     abbrev told_at : State
     told_at = seen area query s c ls (behind_answer k) n (one_fewer k) spent
 
     pub answer_machine : IsMachine told_at
-    answer_machine = record { query = m.query; ready = ready_by k m.ready; steps = m.steps }
+    answer_machine = record { query = m.query; ready = ready_by k m.ready; inside = inside_by k m.inside; steps = m.steps }
 
     pub answer_says : Says (asked_at k) (event.Answer x) told_at
     answer_says = record {
@@ -413,16 +481,19 @@ module _ (area : Area) (query : ℕ) (s : branch.State) (at : ℕ) (c : Contents
       falls = λ f. less_by k;
       ends = λ f. absurd (true≢false (sym f));
       shown = subst (λ j. Rattle.machine_events.specs.Events.ShowsTerms j x) (sym (map_long area (slice_index_or area.queries query no_span) ∙ ap (λ (p : Span). length p.names) (span_is area.queries query span has))) (shows.terms span has);
+      paced = refl;
+      limit = allowed k m.ready.2;
+      comes = tt;
     }
 
 -- ---- runs of steps
 
 pub run_start : (s : State) → IsMachine s → StillRuns s s
-run_start s m = record { machine = m; same = (refl, refl); stands = λ es total h. h; less = omega arith }
+run_start s m = record { machine = m; same = (refl, refl, refl); stands = λ es total h. h; less = omega arith; paced = refl; limit = refl }
 
 -- the code and the query stay
 pub same_trans : (a b c : State) → IsSame a b → IsSame b c → IsSame a c
-same_trans a b c h k = (k.0 ∙ h.0, k.1 ∙ h.1)
+same_trans a b c h k = (k.0 ∙ h.0, k.1 ∙ h.1, k.2 ∙ h.2)
 
 -- one quiet step more
 pub run_more : (old s new : State) → StillRuns old s → IsMachine new → IsSame s new → IsQuiet s new → StillRuns old new
@@ -431,6 +502,8 @@ run_more old s new k m same quiet = record {
   same = same_trans old s new k.same same;
   stands = λ es total h. quiet.stands es total (k.stands es total h);
   less = (let a = quiet.falls in let b = k.less in omega (arith, a, b));
+  paced = quiet.paced ∙ k.paced;
+  limit = quiet.limit ∙ k.limit;
 }
 
 -- quiet steps behind others
@@ -440,6 +513,8 @@ run_on_from old s new k h = record {
   same = same_trans old s new k.same h.same;
   stands = λ es total w. h.stands es total (k.stands es total w);
   less = (let a = h.less in let b = k.less in omega (arith, a, b));
+  paced = h.paced ∙ k.paced;
+  limit = h.limit ∙ k.limit;
 }
 
 two : {A B C : Type 0} (f : A → B → C) {a b : A} {c d : B} → a ≡ b → c ≡ d → f a c ≡ f b d
@@ -456,6 +531,9 @@ says_from old s new e k h =
       falls = λ f. (let a = h.falls f in let b = k.less in omega (arith, a, b));
       ends = h.ends;
       shown = subst (λ ns. HasTerms (length ns) e) names h.shown;
+      paced = h.paced ∙ k.paced;
+      limit = subst (λ j. Allows e j new.limit) k.limit h.limit;
+      comes = h.comes;
     }
 
 -- at the end all was spent
@@ -470,20 +548,83 @@ total_at s (Ended x) e l es total h =
 pub total_spent : (s : State) → left s ≡ 0 → (es : List Event) (total : ℕ) → StandsFor s es total → total ≡ s.spent
 total_spent s l es total h = total_at s s.stage refl l es total h
 
--- ---- whether memory was wanting says nothing of what a machine stands for
+-- ---- Whether memory was wanting says nothing of what a machine stands for, nor do its limits.
 
-module _ (a b : Area) (same : a ≡ b) (s : branch.State) (r : Run) (lost : Bool) where
-  pub lost_machine : IsMachine (state_of b s r lost) → IsMachine (state_of a s r false)
-  lost_machine m = subst (λ x. IsMachine (state_of x s r false)) (sym same) (record { query = m.query; ready = m.ready; steps = m.steps })
+module _ (a b : Area) (same : a ≡ b) (s : branch.State) (r : Run) (lost : Bool) (limits : Limits) (answers : ℕ) where
+  pub whole_machine : IsMachine (state_of a s r false) → IsMachine (state_within b s r lost limits answers)
+  whole_machine m =
+      let n : IsMachine (state_of b s r false) = subst (λ x. IsMachine (state_of x s r false)) same m in
+      record { query = n.query; ready = n.ready; inside = n.inside; steps = n.steps }
+
+  pub whole_stands : (es : List Event) (total : ℕ) → StandsFor (state_of a s r false) es total → StandsFor (state_within b s r lost limits answers) es total
+  whole_stands es total h =
+      let k : StandsFor (state_of b s r false) es total = subst (λ x. StandsFor (state_of x s r false) es total) same h in
+      record { program = k.program; query = k.query; task = k.task; later = k.later; all = k.all; stands = k.stands }
+
+  pub lost_machine : IsMachine (state_within b s r lost limits answers) → IsMachine (state_of a s r false)
+  lost_machine m = subst (λ x. IsMachine (state_of x s r false)) (sym same) (record { query = m.query; ready = m.ready; inside = m.inside; steps = m.steps })
 
   -- what is said of a machine is said of what it was seen as
-  pub seen_says : (s' : branch.State) (r' : Run) (told_as : State) (e : MachineEvent) → state_of b s r lost ≡ told_as → Says (state_of a s r false) e (state_of a s' r' false) → Says told_as e (state_of b s' r' false)
-  seen_says s' r' told_as e view h =
+  pub seen_says : (s' : branch.State) (r' : Run) (answers' : ℕ) (told_as : State) (e : MachineEvent) → state_within b s r lost limits answers ≡ told_as → Says (state_of a s r false) e (state_of a s' r' false) → Says told_as e (state_within b s' r' false limits answers')
+  seen_says s' r' answers' told_as e view h =
       let told : Says (state_of b s r false) e (state_of b s' r' false) = subst (λ x. Says (state_of x s r false) e (state_of x s' r' false)) same h in
-      subst (λ o. Says o e (state_of b s' r' false)) view (record {
-        next = λ es total w. told.next es total (record { program = w.program; query = w.query; task = w.task; later = w.later; all = w.all; stands = w.stands });
+      subst (λ o. Says o e (state_within b s' r' false limits answers')) view (record {
+        next = λ es total w.
+            (let t = told.next es total (record { program = w.program; query = w.query; task = w.task; later = w.later; all = w.all; stands = w.stands }) in
+            (t.0, t.1, record { program = t.2.program; query = t.2.query; task = t.2.task; later = t.2.later; all = t.2.all; stands = t.2.stands }));
         last = λ f es total w. told.last f es total (record { program = w.program; query = w.query; task = w.task; later = w.later; all = w.all; stands = w.stands });
         falls = told.falls;
         ends = told.ends;
         shown = told.shown;
+        paced = told.paced;
+        limit = told.limit;
+        comes = told.comes;
       })
+
+-- ---- limits
+
+-- What is spent and what is left make up the limits, whatever is said.
+module _ (limits : Limits) (answers : ℕ) (old new : State) (e : MachineEvent) (paced : IsPaced old new) (allows : Allows e old.limit new.limit) (within : IsWithin (record old { limits = limits; answers = answers })) where
+  counted_by : (e : MachineEvent) (m k k' : Option ℕ) → Allows e k k' → AreCounted m answers k → AreCounted m (counted e answers) k'
+  counted_by (event.Answer x) None None k' f a = subst (AreCounted None (counted (event.Answer x) answers)) (sym f) tt
+  counted_by (event.Answer x) (Some m) (Some k) k' f a =
+      let low = a.1 in
+      let sum = a.0 in
+      let one = f.1 in
+      let least : counted (event.Answer x) answers ≡ answers + 1 = Rattle.std.proofs.Math.Nat.min-eq_left (omega (arith, low, sum, one)) in
+      subst (AreCounted (Some m) (counted (event.Answer x) answers)) (sym f.2) (omega (arith, least, sum, one), low)
+  counted_by (event.Answer x) None (Some k) k' f a = absurd a
+  counted_by (event.Answer x) (Some m) None k' f a = absurd a
+  counted_by event.Budget m k k' f a = subst (AreCounted m answers) (sym f) a
+  counted_by event.Limit m k k' f a = subst (AreCounted m answers) (sym f) a
+  counted_by event.End m k k' f a = subst (AreCounted m answers) (sym f) a
+  counted_by event.Newline m k k' f a = subst (AreCounted m answers) (sym f) a
+  counted_by (event.Write x) m k k' f a = subst (AreCounted m answers) (sym f) a
+  counted_by (event.Fault q) m k k' f a = subst (AreCounted m answers) (sym f) a
+
+  pub within_more : (answers' : ℕ) → answers' ≡ counted e answers → IsWithin (record new { limits = limits; answers = answers' })
+  within_more answers' is = record { steps = paced ∙ within.steps; answers = subst (λ n. AreCounted limits.answers n new.limit) (sym is) (counted_by e limits.answers old.limit new.limit allows within.answers) }
+
+-- The budget is spent where that is said,
+pub all_spent : (s : State) → IsWithin s → (e : MachineEvent) → ComesOf s e → e ≡ event.Budget → s.spent ≡ s.limits.steps
+all_spent s within e comes is =
+    let none : s.budget ≡ 0 = subst (ComesOf s) is comes in
+    let sum = within.steps in
+    omega (arith, none, sum)
+
+-- and all answers are given.
+pub all_given : (s : State) → IsWithin s → (e : MachineEvent) → ComesOf s e → e ≡ event.Limit → s.limits.answers ≡ Some s.answers
+all_given s within e comes is = by s.limits.answers (subst (AreCounted s.limits.answers s.answers) (subst (ComesOf s) is comes) within.answers)
+  where
+    by : (m : Option ℕ) → AreCounted m s.answers (Some 0) → m ≡ Some s.answers
+    by None a = absurd a
+    by (Some m) a = let sum = a.0 in ap Some (omega (arith, sum))
+
+pub of_goal : (s : State) (e : MachineEvent) → ComesOf s e → IsOfGoal e → HasGoal s.area
+of_goal s (event.Write x) comes o = comes
+of_goal s event.Newline comes o = comes
+of_goal s (event.Fault f) comes o = comes
+of_goal s event.Budget comes o = absurd o
+of_goal s event.Limit comes o = absurd o
+of_goal s event.End comes o = absurd o
+of_goal s (event.Answer x) comes o = absurd o

@@ -28,6 +28,7 @@ module _ (area : Area) (verified : IsVerified area) (pool : IsPool area.pool) (q
   first_machine low sound limit steps = record {
     query = low;
     ready = (started_safe area verified.0 verified.1 atoms named sound query span has, tt, limit);
+    inside = ((span, has, (omega arith, (verified.1.queries query span has).some)), tt);
     steps = omega (arith, steps);
   }
 

@@ -8,21 +8,24 @@ use Rattle.branch_state.specs.States as branch
 use Rattle.wam_code.specs.declared.instruction.Code.{Code}
 use Rattle.wam_code.specs.declared.instruction.Code.TheVariants as step
 use Rattle.wam_code.specs.Area.{Area, Span, Holds, HasQuery}
-use Rattle.code_areas.specs.Areas.{Point, Contents}
+use Rattle.wam_code.proofs.Reaching.{no_answer_outside}
+use Rattle.code_areas.specs.Areas.{Return, Point, Contents}
 use Rattle.code_steps.proofs.Goals.{TakesGoal}
 use Rattle.code_states.specs.declared.went.Went.{Went}
-use Rattle.code_states.specs.Safety.{IsSafe}
+use Rattle.code_states.specs.Queries.{IsInQuery, EndsIn}
+use Rattle.code_states.specs.Safety.{AreBehind, IsSafe}
 use Rattle.code_states.proofs.Safety.{place_within}
 use Rattle.code_goals.specs.declared.next.Next.{Next}
-use Rattle.code_goals.specs.Answers.{IsInQuery, ShowsAnswer}
+use Rattle.code_goals.specs.Answers.{ShowsAnswer}
 use Rattle.code_machine.specs.declared.run.Ending.{Ending}
 use Rattle.code_machine.specs.declared.run.Ending.TheVariants as ending
 use Rattle.code_machine.specs.declared.run.Label.{Label}
 use Rattle.code_machine.specs.declared.run.Stage.{Stage}
 use Rattle.code_machine.specs.declared.run.Stage.TheVariants.{Going, Returning, Ended}
 use Rattle.code_machine.specs.States.{State, last_event, IsMachine, IsQuiet, IsStep, Says, behind_answer, one_fewer}
-use Rattle.code_machine.specs.Steps.{Spends, ComesBack, IsCall, IsGoal, stage_of, stage_next, event_next}
-use Rattle.code_machine.proofs.Running.{seen, back_machine, back_quiet, spent_machine, spent_step, budget_says, none_says, ended_says, answer_machine, answer_says}
+use Rattle.code_machine.specs.Instructions.{IsCall, IsGoal}
+use Rattle.code_machine.specs.Steps.{Spends, ComesBack, stage_of, stage_next, event_next}
+use Rattle.code_machine.proofs.Running.{seen, NeedsGoal, back_machine, back_quiet, spent_machine, spent_step, budget_says, none_says, ended_says, answer_machine, answer_says}
 
 -- a goal takes one of those still to come
 pub goal_takes : (i : Code) → IsGoal i → TakesGoal i
@@ -57,7 +60,7 @@ module _ (area : Area) (query : ℕ) (s : branch.State) (c : Contents) (ls : Lis
 
     module _ (s' : branch.State) (c' : Contents) (st' : Stage) where
       -- a goal
-      module _ (some : n ≡ 0 → ⊥) (ls' : List Label) (x : Next) (spends : Spends area s at c ls s' c' ls' x) (is' : st' ≡ stage_next x) where
+      module _ (some : n ≡ 0 → ⊥) (ls' : List Label) (x : Next) (spends : Spends area s at c ls s' c' ls' x) (goal : NeedsGoal area x) (is' : st' ≡ stage_next x) where
         one_less : n ≡ suc (n - 1)
         one_less = least n some
           where
@@ -69,7 +72,7 @@ module _ (area : Area) (query : ℕ) (s : branch.State) (c : Contents) (ls : Lis
         before = subst (λ j. IsMachine (seen area query s c ls (Going at) j k spent)) one_less going
 
         pub spends_machine : IsMachine (seen area query s' c' ls' st' (n - 1) k (spent + 1))
-        spends_machine = subst (λ y. IsMachine (seen area query s' c' ls' y (n - 1) k (spent + 1))) (sym is') (spent_machine area query s s' at c c' ls ls' (n - 1) k spent x spends before)
+        spends_machine = subst (λ y. IsMachine (seen area query s' c' ls' y (n - 1) k (spent + 1))) (sym is') (spent_machine area query s s' at c c' ls ls' (n - 1) k spent x spends goal before)
 
         pub spends_step : (o : Option MachineEvent) → o ≡ event_next x → IsStep old o (seen area query s' c' ls' st' (n - 1) k (spent + 1))
         spends_step o said =
@@ -77,7 +80,7 @@ module _ (area : Area) (query : ℕ) (s : branch.State) (c : Contents) (ls : Lis
             (subst (λ j. IsStep (seen area query s c ls (Going at) j k spent) o (seen area query s' c' ls' st' (n - 1) k (spent + 1))) (sym one_less)
             (subst (λ y. IsStep (seen area query s c ls (Going at) (suc (n - 1)) k spent) o (seen area query s' c' ls' y (n - 1) k (spent + 1))) (sym is')
             (subst (λ y. IsStep (seen area query s c ls (Going at) (suc (n - 1)) k spent) y (seen area query s' c' ls' (stage_next x) (n - 1) k (spent + 1))) (sym said)
-            (spent_step area query s s' at c c' ls ls' (n - 1) k spent x spends before))))
+            (spent_step area query s s' at c c' ls ls' (n - 1) k spent x spends goal before))))
 
     -- no reduction is left for it
     pub no_budget : (i : Code) → Holds area at i → TakesGoal i → n ≡ 0 → Says old event.Budget (seen area query s c ls (Ended ending.Budget) n k spent)
@@ -103,14 +106,13 @@ module _ (area : Area) (query : ℕ) (s : branch.State) (c : Contents) (ls : Lis
           (subst (λ j. Says (seen area query s c ls (Going at) n k spent) (event.Answer x) (seen area query s c ls (behind_answer k) n j spent)) (sym limit)
           (answer_says area query s at c ls n spent x shows k going query_there.0 query_there.1)))
 
-    -- The last place of the query's code is one of it.
-    pub end_inside : ((span : Span) → HasQuery area query span → suc at ≡ span.end) → IsInQuery area query at
-    end_inside ends =
-        let there = slice_get_found area.queries query m.query in
-        let of = going_safe.verified.queries query there.0 there.1 in
-        let some = of.some in
-        let e = ends there.0 there.1 in
-        (there.0, there.1, (omega (arith, some, e), omega (arith, e)))
+    -- An answer comes at a place of the run's query: no call is to return there, since no code outside of all queries answers.
+    pub answer_inside : Holds area at step.AnswerNow → IsInQuery area query at
+    answer_inside holds = by c.returns going_safe.here.behind going.inside.0
+      where
+        by : (rs : List Return) → AreBehind area at rs → EndsIn area query at rs → IsInQuery area query at
+        by [] behind ends = ends
+        by (r ∷ rs) behind ends = absurd (no_answer_outside area going_safe.states going_safe.verified at behind.0 holds)
 
   -- ---- on the way back
 
@@ -138,5 +140,8 @@ module _ (area : Area) (query : ℕ) (s : branch.State) (c : Contents) (ls : Lis
 
   -- ---- at the end
 
+  ended : (e : Ending) → st ≡ Ended e → IsMachine (seen area query s c ls (Ended e) n k spent)
+  ended e is = subst (λ x. IsMachine (seen area query s c ls x n k spent)) is m
+
   pub said_again : (e : Ending) → st ≡ Ended e → Says old (last_event e) old
-  said_again e is = subst (λ y. Says (seen area query s c ls y n k spent) (last_event e) (seen area query s c ls y n k spent)) (sym is) (ended_says area query s c ls k spent n e)
+  said_again e is = subst (λ y. Says (seen area query s c ls y n k spent) (last_event e) (seen area query s c ls y n k spent)) (sym is) (ended_says area query s c ls k spent n e (ended e is).ready)

@@ -1,15 +1,19 @@
 -- Goals that are taken.
-use Rattle.std.proofs.Common.{◌≡◌, ℕ, suc, ◌+◌, ◌*◌, ◌<◌, ◌≤◌, List, [], ◌∷◌, ◌++◌, length, Option, Some, None, Result, Ok, Err, IfOk, OnOk, refl, ap, sym, ◌∙◌, subst, inl, arith}
+use Rattle.std.proofs.Common.{◌≡◌, ℕ, suc, ◌+◌, ◌*◌, ◌<◌, ◌≤◌, IsTrue, List, [], ◌∷◌, ◌++◌, length, Option, Some, None, Result, Ok, Err, IfOk, OnOk, refl, ap, sym, ◌∙◌, subst, inl, arith}
 use Rattle.fd_language.specs.declared.TheConstants.{INFINITY}
 use Rattle.fd_model.specs.Goal.{Event}
 use Rattle.branch_state.specs.States as branch
 use Rattle.branch_state.specs.States.{IsSameBelow, with_pair}
+use Rattle.wam_code.specs.declared.instruction.Code.{Code}
+use Rattle.wam_code.specs.declared.instruction.Code.TheVariants as step
 use Rattle.wam_code.specs.Area.{Area}
+use Rattle.wam_code.specs.Verified.{goes_on}
 use Rattle.code_areas.specs.Areas.{Contents}
 use Rattle.code_steps.specs.Running.{Left, resume}
 use Rattle.code_states.specs.declared.went.Went.{Went}
 use Rattle.code_states.specs.declared.went.Went.TheVariants.{On, Back}
 use Rattle.code_states.specs.Choices.{point_of}
+use Rattle.code_states.specs.Queries.{StaysInside, EndsIn, KeepsQuery}
 use Rattle.code_states.specs.Safety.{IsSafe, IsSafeThen}
 use Rattle.code_states.specs.Stages.{Task, Calls, SplitsAt}
 use Rattle.code_states.specs.Work.{work_at, most_work, values_work}
@@ -18,63 +22,89 @@ use Rattle.code_goals.specs.declared.labels.Labelled.TheVariants.{Took, Tries}
 use Rattle.code_goals.specs.declared.labels.Tried.{Tried}
 use Rattle.code_goals.specs.declared.next.Next.{Next}
 use Rattle.code_goals.specs.declared.next.Next.TheVariants as next
-use Rattle.code_goals.specs.Taking.{IsSafeNext, RunsNext, SpendsTo, Takes}
+use Rattle.code_goals.specs.Taking.{IsSafeNext, LeadsNext, RunsNext, SpendsTo, Takes}
 use Rattle.code_goals.specs.Tasks.{task_of}
-use Rattle.code_goals.specs.Values.{lefts_of, work_left, BringsMost, with_mark, with_point, IsOpen, IsSafeLabelled, Labels, RunsWent}
+use Rattle.code_goals.specs.Values.{lefts_of, work_left, BringsMost, with_mark, with_point, IsOpen, IsSafeLabelled, Labels, RunsWent, StaysAt}
 use Rattle.code_machine.specs.declared.run.Label.{Label}
+use Rattle.code_machine.specs.Instructions.{IsGoal}
 use Rattle.code_machine.specs.Labels.{lefts_by, labels_work, AreLabels, whole_at}
-use Rattle.code_machine.specs.States.{most}
-use Rattle.code_machine.specs.Steps.{labelled, next_of, next_work, CallsTo, Spends}
+use Rattle.code_machine.specs.declared.run.Stage.TheVariants.{Going}
+use Rattle.code_machine.specs.States.{most, PointsEndIn, IsInside}
+use Rattle.code_machine.specs.Steps.{labelled, next_of, next_work, stage_of, stage_next, CallsTo, Spends}
+use Rattle.code_states.proofs.Queries.{ends_on}
 use Rattle.code_machine.proofs.Labelling.{labels_more, lefts_more, lefts_values, no_newest}
 use Rattle.code_machine.proofs.Working.{called_most, less_most, next_most, tried_most}
 
+-- A goal goes on to the next place.
+pub goal_goes : (i : Code) → IsGoal i → IsTrue (goes_on i)
+goal_goes (step.Builtin k) g = refl
+goal_goes (step.Constrain k) g = refl
+goal_goes (step.Label o) g = refl
+goal_goes (step.PostRange r n) g = refl
+goal_goes _ g = absurd g
+
 module _ (area : Area) (s : branch.State) (at : ℕ) (c : Contents) (ls : List Label) (own : AreLabels area c.points s.heaps.below ls) where
   -- a call
-  pub call_spends : (c' : Contents) (to : ℕ) → IsSafe area s to 0 c' → Calls area s at c s to c' → work_at area to c' ≤ most_work area (work_at area at c) → c'.points ≡ c.points → Spends area s at c ls s c' ls (next.On to)
-  call_spends c' to safe calls work same = record {
+  pub call_spends : (c' : Contents) (to : ℕ) → IsSafe area s to 0 c' → Calls area s at c s to c' → KeepsQuery area at c to c' → work_at area to c' ≤ most_work area (work_at area at c) → c'.points ≡ c.points → Spends area s at c ls s c' ls (next.On to)
+  call_spends c' to safe calls query work same = record {
     safe = safe;
     labels = subst (λ ps. AreLabels area ps s.heaps.below ls) (sym same) own;
     runs = λ number prog q task n k es r m. subst (λ ps. RunsNext area (task_of area prog q) s c' (lefts_by ps ls) n k es r (next.On to)) (sym same) (calls (task_of area prog q) (lefts_by c.points ls) n k es r task.ready m);
+    inside = λ number i. (query number i.0, subst (PointsEndIn area number) (sym same) i.1);
     work = subst (λ ps. work_at area to c' + values_work area ps (lefts_by ps ls) ≤ most area * suc (whole_at area at c ls)) (sym same) (called_most area (work_at area to c') (labels_work area c ls) (work_at area at c) work);
   }
 
   -- a disjunction
-  pub either_spends : (s' : branch.State) (c' : Contents) (to other : ℕ) → IsSafe area s' to 0 c' → SplitsAt area s at c s' to c' other → work_at area to c' < work_at area at c → s' ≡ with_pair s → c'.points ≡ point_of c other ∷ c.points → Spends area s at c ls s' c' ls (next.On to)
-  either_spends s' c' to other safe splits work pair same =
+  pub either_spends : (s' : branch.State) (c' : Contents) (to other : ℕ) → IsSafe area s' to 0 c' → SplitsAt area s at c s' to c' other → KeepsQuery area at c to c' → KeepsQuery area at c other c → work_at area to c' < work_at area at c → s' ≡ with_pair s → c'.points ≡ point_of c other ∷ c.points → Spends area s at c ls s' c' ls (next.On to)
+  either_spends s' c' to other safe splits query left_query work pair same =
       let left : lefts_by (point_of c other ∷ c.points) ls ≡ resume other ∷ lefts_by c.points ls = lefts_more (point_of c other) c.points ls (no_newest area c.points s.heaps.below ls own) in
       record {
         safe = safe;
         labels = subst (λ ps. AreLabels area ps s'.heaps.below ls) (sym same) (subst (λ (t : branch.State). AreLabels area (point_of c other ∷ c.points) t.heaps.below ls) (sym pair) (labels_more area (point_of c other) c.points s.heaps.now s.heaps.below ls own));
         runs = λ number prog q task n k es r m. subst (λ ps. RunsNext area (task_of area prog q) s' c' (lefts_by ps ls) n k es r (next.On to)) (sym same)
             (subst (λ l. RunsNext area (task_of area prog q) s' c' l n k es r (next.On to)) (sym left) (splits (task_of area prog q) (lefts_by c.points ls) n k es r task.ready m));
+        inside = λ number i. (query number i.0, subst (PointsEndIn area number) (sym same) (left_query number i.0, i.1));
         work = less_most area (whole_at area to c' ls) (whole_at area at c ls) (
             let v : labels_work area c' ls ≡ labels_work area c ls = ap (λ ps. values_work area ps (lefts_by ps ls)) same ∙ ap (values_work area (point_of c other ∷ c.points)) left in
             omega (arith, v, work));
       }
 
+  -- the next place is of the same query
+  on_inside : StaysInside area at (suc at) → (to : ℕ) → to ≡ suc at → (number : ℕ) → IsInside area number c (Going at) → IsInside area number c (Going to)
+  on_inside stays to is number i = (subst (λ k. EndsIn area number k c.returns) (sym is) (ends_on area at (suc at) stays number c.returns i.0), i.1)
+
+  goal_inside : StaysInside area at (suc at) → (x : Next) → LeadsNext at x → (number : ℕ) → IsInside area number c (Going at) → IsInside area number c (stage_next x)
+  goal_inside stays (next.On to) leads = on_inside stays to leads
+  goal_inside stays next.Back leads = λ number i. i.1
+  goal_inside stays (next.Fault f) leads = λ number i. tt
+  goal_inside stays (next.Write to x) leads = on_inside stays to leads
+  goal_inside stays (next.Newline to) leads = on_inside stays to leads
+
   -- a goal that leaves the areas as they are
-  pub goal_spends : (s' : branch.State) (x : Next) → IsSafeNext area s' c x → Takes area s at c s' x → IsSameBelow s s' → Spends area s at c ls s' c ls x
-  goal_spends s' x safe takes below = record {
+  pub goal_spends : StaysInside area at (suc at) → (s' : branch.State) (x : Next) → IsSafeNext area s' c x → Takes area s at c s' x → LeadsNext at x → IsSameBelow s s' → Spends area s at c ls s' c ls x
+  goal_spends stays s' x safe takes leads below = record {
     safe = safe;
     labels = subst (λ hs. AreLabels area c.points hs ls) (sym below.heaps) own;
     runs = λ number prog q task n k es r m. takes prog q (lefts_by c.points ls) n k es r task.ready.runnable m;
+    inside = goal_inside stays x leads;
     work = next_most area at c ls x;
   }
 
-  pub goals_spend : {E : Type 0} (s' : branch.State) (r : Result Next E) → IfOk r (IsSafeNext area s' c) → IfOk r (Takes area s at c s') → OnOk r (IsSameBelow s s') → IfOk r (Spends area s at c ls s' c ls)
-  goals_spend s' (Ok x) safe takes below = goal_spends s' x safe takes below
-  goals_spend s' (Err e) safe takes below = tt
+  pub goals_spend : StaysInside area at (suc at) → {E : Type 0} (s' : branch.State) (r : Result Next E) → IfOk r (IsSafeNext area s' c) → IfOk r (Takes area s at c s') → IfOk r (LeadsNext at) → OnOk r (IsSameBelow s s') → IfOk r (Spends area s at c ls s' c ls)
+  goals_spend stays s' (Ok x) safe takes leads below = goal_spends stays s' x safe takes leads below
+  goals_spend stays s' (Err e) safe takes leads below = tt
 
   -- ---- a labelling
 
-  pub took_spends : (s' : branch.State) (c' : Contents) (x : Next) → IsSafeLabelled area s' c' (Took x) → Labels area s at c s' c' (Took x) → Spends area s at c ls s' c' ls x
-  took_spends s' c' x safe told = record {
+  pub took_spends : StaysInside area at (suc at) → (s' : branch.State) (c' : Contents) (x : Next) → IsSafeLabelled area s' c' (Took x) → Labels area s at c s' c' (Took x) → LeadsNext at x → Spends area s at c ls s' c' ls x
+  took_spends stays s' c' x safe told leads = record {
     safe = safe;
     labels = subst (λ (a : Contents). AreLabels area a.points s'.heaps.below ls) (sym told.1) (subst (λ (t : branch.State). AreLabels area c.points t.heaps.below ls) (sym told.0) own);
     runs = λ number prog q task n k es r m.
         subst (λ (a : Contents). RunsNext area (task_of area prog q) s' a (lefts_by a.points ls) n k es r x) (sym told.1)
         (subst (λ (t : branch.State). RunsNext area (task_of area prog q) t c (lefts_by c.points ls) n k es r x) (sym told.0)
         (told.2 prog q (lefts_by c.points ls) n k es r task.ready.runnable m));
+    inside = λ number i. subst (λ (a : Contents). IsInside area number a (stage_next x)) (sym told.1) (goal_inside stays x leads number i);
     work = subst (λ (a : Contents). next_work area a ls x ≤ most area * suc (whole_at area at c ls)) (sym told.1) (next_most area at c ls x);
   }
 
@@ -96,8 +126,19 @@ module _ (area : Area) (s : branch.State) (at : ℕ) (c : Contents) (ls : List L
   tried_lefts None = refl
   tried_lefts (Some v) = lefts_values (point_of c at) c.points v ls
 
-  pub tries_spends : (s' : branch.State) (c' : Contents) (t : Tried) → IsSafeLabelled area s' c' (Tries t) → Labels area s at c s' c' (Tries t) → BringsMost area at c c' (Tries t) → (ls' : List Label) → ls' ≡ labelled (length c.points) t.left ls → Spends area s at c ls s' c' ls' (next_of t.went)
-  tries_spends s' c' t safe told brings ls' is =
+  -- The labelling's place is that of its choice point, too.
+  pub tried_inside : (o : Option ValuesLeft) (w : Went) → StaysAt at w → (number : ℕ) → IsInside area number c (Going at) → IsInside area number (with_point c at o) (stage_of w)
+  tried_inside None (On to) leads number i = subst (λ k. IsInside area number c (Going k)) (sym leads) i
+  tried_inside None Back leads number i = i.1
+  tried_inside (Some v) (On to) leads number i = (subst (λ k. EndsIn area number k c.returns) (sym leads) i.0, (i.0, i.1))
+  tried_inside (Some v) Back leads number i = (i.0, i.1)
+
+  stage_went : (w : Went) → stage_next (next_of w) ≡ stage_of w
+  stage_went (On to) = refl
+  stage_went Back = refl
+
+  pub tries_spends : (s' : branch.State) (c' : Contents) (t : Tried) → IsSafeLabelled area s' c' (Tries t) → Labels area s at c s' c' (Tries t) → StaysAt at t.went → BringsMost area at c c' (Tries t) → (ls' : List Label) → ls' ≡ labelled (length c.points) t.left ls → Spends area s at c ls s' c' ls' (next_of t.went)
+  tries_spends s' c' t safe told leads brings ls' is =
       let pointed = told.0 in
       let new : List Label = labelled (length c.points) t.left ls in
       subst (λ l. Spends area s at c ls s' c' l (next_of t.went)) (sym is) (record {
@@ -108,6 +149,7 @@ module _ (area : Area) (s : branch.State) (at : ℕ) (c : Contents) (ls : List L
             (subst (λ (a : Contents). SpendsTo (RunsWent area (task_of area prog q) s' c' (lefts_by a.points new) t.went) [] n k es r) (sym pointed)
             (subst (λ l. SpendsTo (RunsWent area (task_of area prog q) s' c' l t.went) [] n k es r) (sym (tried_lefts t.left))
             (told.3 prog q (lefts_by c.points ls) n k es r task.ready.runnable m)));
+        inside = λ number i. subst (IsInside area number c') (sym (stage_went t.went)) (subst (λ (a : Contents). IsInside area number a (stage_of t.went)) (sym pointed) (tried_inside t.left t.went leads number i));
         work = tried_most area at c ls new c' t.went
             (subst (λ (a : Contents). work_left area c' t.went (lefts_by a.points new) ≤ suc (suc INFINITY) * suc (whole_at area at c ls)) (sym pointed)
             (subst (λ l. work_left area c' t.went l ≤ suc (suc INFINITY) * suc (whole_at area at c ls)) (sym (tried_lefts t.left)) (brings (lefts_by c.points ls))));
@@ -116,10 +158,10 @@ module _ (area : Area) (s : branch.State) (at : ℕ) (c : Contents) (ls : List L
 -- ---- a call or a disjunction, whatever the labels are
 
 module _ {E : Type 0} (area : Area) (s : branch.State) (at : ℕ) (c c' : Contents) where
-  pub calls_to : (r : Result ℕ E) → IfOk r (λ to. IsSafe area s to 0 c') → IfOk r (λ to. Calls area s at c s to c') → IfOk r (λ to. work_at area to c' ≤ most_work area (work_at area at c)) → OnOk r (c'.points ≡ c.points) → IfOk r (CallsTo area s at c s c')
-  calls_to (Ok to) safe calls work same = λ ls own. call_spends area s at c ls own c' to safe calls work same
-  calls_to (Err e) safe calls work same = tt
+  pub calls_to : (r : Result ℕ E) → IfOk r (λ to. IsSafe area s to 0 c') → IfOk r (λ to. Calls area s at c s to c') → IfOk r (λ to. KeepsQuery area at c to c') → IfOk r (λ to. work_at area to c' ≤ most_work area (work_at area at c)) → OnOk r (c'.points ≡ c.points) → IfOk r (CallsTo area s at c s c')
+  calls_to (Ok to) safe calls query work same = λ ls own. call_spends area s at c ls own c' to safe calls query work same
+  calls_to (Err e) safe calls query work same = tt
 
-  pub splits_to : (s' : branch.State) (other : ℕ) (r : Result ℕ E) → IfOk r (λ to. IsSafe area s' to 0 c') → IfOk r (λ to. SplitsAt area s at c s' to c' other) → IfOk r (λ to. work_at area to c' < work_at area at c) → OnOk r (s' ≡ with_pair s) → OnOk r (c'.points ≡ point_of c other ∷ c.points) → IfOk r (CallsTo area s at c s' c')
-  splits_to s' other (Ok to) safe splits work pair point = λ ls own. either_spends area s at c ls own s' c' to other safe splits work pair point
-  splits_to s' other (Err e) safe splits work pair point = tt
+  pub splits_to : (s' : branch.State) (other : ℕ) (r : Result ℕ E) → IfOk r (λ to. IsSafe area s' to 0 c') → IfOk r (λ to. SplitsAt area s at c s' to c' other) → IfOk r (λ to. KeepsQuery area at c to c') → OnOk r (KeepsQuery area at c other c) → IfOk r (λ to. work_at area to c' < work_at area at c) → OnOk r (s' ≡ with_pair s) → OnOk r (c'.points ≡ point_of c other ∷ c.points) → IfOk r (CallsTo area s at c s' c')
+  splits_to s' other (Ok to) safe splits query left_query work pair point = λ ls own. either_spends area s at c ls own s' c' to other safe splits query left_query work pair point
+  splits_to s' other (Err e) safe splits query left_query work pair point = tt

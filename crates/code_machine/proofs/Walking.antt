@@ -24,7 +24,7 @@ module _ (area : Area) (at : ℕ) (s : branch.State) (r : Run) (s' : branch.Stat
   module _ (old : State) (k : StillRuns old (state_at area s r (Going at))) where
     -- one instruction more
     pub taken_more : (w : Went) → IsTaken area at s r s' r' (Some w) → StillRuns old (state_at area s' r' (stage_of w))
-    taken_more w t = run_more old (state_at area s r (Going at)) (state_at area s' r' (stage_of w)) k t.machine (refl, t.same) t.walks
+    taken_more w t = run_more old (state_at area s r (Going at)) (state_at area s' r' (stage_of w)) k t.machine (refl, t.same, refl) t.walks
 
     -- and less to be done
     pub taken_less : (w : Went) → IsTaken area at s r s' r' (Some w) → left (state_at area s' r' (stage_of w)) < left old

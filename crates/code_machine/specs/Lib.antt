@@ -1,3 +1,4 @@
+pub mod Instructions
 pub mod Labels
 pub mod States
 pub mod Steps

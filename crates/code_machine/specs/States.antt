@@ -1,5 +1,5 @@
 -- What a machine is seen as, and what its state stands for.
-use Rattle.std.specs.Prelude.{◌≡◌, ℕ, ◌+◌, ◌*◌, ◌-◌, ◌<◌, ◌≤◌, ◌^◌, Bool, true, false, List, [], ◌∷◌, length, map, reverse, Option, Some, None, MatchOption, if◌then◌else◌, nat_eq, slice_index_or}
+use Rattle.std.specs.Prelude.{min, ◌≡◌, ℕ, ◌+◌, ◌*◌, ◌-◌, ◌<◌, ◌≤◌, ◌^◌, Bool, true, false, suc, List, [], ◌∷◌, length, map, reverse, Option, Some, None, MatchOption, if◌then◌else◌, nat_eq, slice_index_or}
 use Rattle.std.specs.Option.{option_eq}
 use Rattle.fd_language.specs.declared.TheConstants.{INFINITY}
 use Rattle.fd_language.specs.Term.{Name}
@@ -7,6 +7,7 @@ use Rattle.fd_model.specs.Goal.{Program, Query, Event}
 use Rattle.fd_model.specs.Run.{IsLimit}
 use Rattle.fd_model.specs.Sound.{EachBelow, NumbersBelow, AreRunnable}
 use Rattle.machine_relation.specs.Next.{is_final, IsNext}
+use Rattle.machine_events.specs.declared.Limits.{Limits}
 use Rattle.machine_events.specs.declared.MachineEvent.{MachineEvent}
 use Rattle.machine_events.specs.declared.MachineEvent.TheVariants as event
 use Rattle.machine_events.specs.Events.{event_of, HasTerms}
@@ -16,9 +17,10 @@ use Rattle.wam_code.specs.declared.instruction.Code.TheVariants as step
 use Rattle.wam_code.specs.Area.{Area, Span, Holds, HasQuery, name_of}
 use Rattle.wam_code.specs.Ending.{weight}
 use Rattle.wam_code.specs.Tries.{IsQueryCode}
-use Rattle.code_areas.specs.Areas.{Contents}
+use Rattle.code_areas.specs.Areas.{Point, Contents}
 use Rattle.code_steps.specs.Running.{Left}
 use Rattle.code_states.specs.declared.went.Went.{Went}
+use Rattle.code_states.specs.Queries.{EndsIn}
 use Rattle.code_states.specs.Safety.{IsSafe, IsSafeBack}
 use Rattle.code_states.specs.Stages.{Task, RunsAt, ReturnsTo, IsReadyToRun}
 use Rattle.code_states.specs.Standing.{IsNaming}
@@ -32,9 +34,10 @@ use Rattle.code_machine.specs.declared.run.Label.{Label}
 use Rattle.code_machine.specs.declared.run.Run.{Run}
 use Rattle.code_machine.specs.declared.run.Stage.{Stage}
 use Rattle.code_machine.specs.declared.run.Stage.TheVariants.{Going, Returning, Ended}
+use Rattle.code_machine.specs.Instructions.{HasGoal}
 use Rattle.code_machine.specs.Labels.{lefts_by, AreLabels, whole_at, whole_back}
 
--- The code, the number of the query, and how far its run has come. The labels are the newest first. lost: memory was wanting.
+-- The code, the number of the query, and how far its run has come. The labels are the newest first. lost: memory was wanting. budget and limit are what is left of limits; answers counts those given, and stays at its last value.
 pub record State : Type 0 where
   pub area : Area
   pub query : ℕ
@@ -46,9 +49,20 @@ pub record State : Type 0 where
   pub limit : Option ℕ
   pub spent : ℕ
   pub lost : Bool
+  pub limits : Limits
+  pub answers : ℕ
+
+-- A run alone knows neither its limits nor how many answers it has given.
+abbrev pub no_limits : Limits
+no_limits = record { steps = 0; answers = None }
 
 abbrev pub state_of : Area → branch.State → Run → Bool → State
-state_of area s r lost = record { area = area; query = r.query; branch = s; areas = r.areas; labels = reverse r.labels.items; stage = r.stage; budget = r.budget; limit = r.limit; spent = r.spent; lost = lost }
+state_of area s r lost =
+    record { area = area; query = r.query; branch = s; areas = r.areas; labels = reverse r.labels.items; stage = r.stage; budget = r.budget; limit = r.limit; spent = r.spent; lost = lost; limits = no_limits; answers = 0 }
+
+-- a run with these
+abbrev pub state_within : Area → branch.State → Run → Bool → Limits → ℕ → State
+state_within area s r lost limits answers = record (state_of area s r lost) { limits = limits; answers = answers }
 
 -- a run as it is at another stage
 abbrev pub state_at : Area → branch.State → Run → Stage → State
@@ -120,26 +134,79 @@ left s = left_at s.area s.areas s.labels s.budget s.stage
 
 -- ---- what holds of it
 
--- It is safe to go on, or back, with these labels, and an answer is allowed.
-abbrev pub IsReadyAt : Area → branch.State → Contents → List Label → Option ℕ → Stage → Type 0
-IsReadyAt area s c ls k (Going at) = IsSafe area s at 0 c × AreLabels area c.points s.heaps.below ls × IsLimit k
-IsReadyAt area s c ls k Returning = IsSafeBack area s c × AreLabels area c.points s.heaps.below ls × IsLimit k
-IsReadyAt area s c ls k (Ended e) = Unit {0}
+-- how a run has ended: its choices are all taken, no reduction is left, no answer is allowed any more, or a goal of the code is at fault
+abbrev pub IsEndedBy : Area → ℕ → Option ℕ → Ending → Type 0
+IsEndedBy area n k ending.End = Unit {0}
+IsEndedBy area n k ending.Budget = n ≡ 0
+IsEndedBy area n k ending.Limit = k ≡ Some 0
+IsEndedBy area n k (ending.Fault f) = HasGoal area
+
+-- It is safe to go on, or back, with these labels, and an answer is allowed; or the run has ended.
+abbrev pub IsReadyAt : Area → branch.State → Contents → List Label → ℕ → Option ℕ → Stage → Type 0
+IsReadyAt area s c ls n k (Going at) = IsSafe area s at 0 c × AreLabels area c.points s.heaps.below ls × IsLimit k
+IsReadyAt area s c ls n k Returning = IsSafeBack area s c × AreLabels area c.points s.heaps.below ls × IsLimit k
+IsReadyAt area s c ls n k (Ended e) = IsEndedBy area n k e
+
+-- the same of choice points, the newest first
+abbrev pub PointsEndIn : Area → ℕ → List Point → Type 0
+PointsEndIn area number [] = Unit {0}
+PointsEndIn area number (p ∷ ps) = EndsIn area number p.place p.returns × PointsEndIn area number ps
+
+-- Where all calls have returned, the machine is in the code of the query with a number, and so it is when it comes back to a choice point.
+abbrev pub IsInside : Area → ℕ → Contents → Stage → Type 0
+IsInside area number c (Going at) = EndsIn area number at c.returns × PointsEndIn area number c.points
+IsInside area number c Returning = PointsEndIn area number c.points
+IsInside area number c (Ended e) = Unit {0}
 
 -- what holds of a machine for which memory wasn't wanting
 pub record IsMachine (s : State) : Type 0 where
   pub query : s.query < length s.area.queries
-  pub ready : IsReadyAt s.area s.branch s.areas s.labels s.limit s.stage
+  pub ready : IsReadyAt s.area s.branch s.areas s.labels s.budget s.limit s.stage
+  pub inside : IsInside s.area s.query s.areas s.stage
   pub steps : s.spent + s.budget < 2 ^ 64
 
--- the code and the query stay
+-- as many answers were given as are not allowed any more
+abbrev pub AreCounted : Option ℕ → ℕ → Option ℕ → Type 0
+AreCounted None a None = Unit {0}
+AreCounted None a (Some k) = ⊥
+AreCounted (Some m) a None = ⊥
+AreCounted (Some m) a (Some k) = (a + k ≡ m) × (m < 2 ^ 64)
+
+-- What was spent makes up the limits with what is left.
+pub record IsWithin (s : State) : Type 0 where
+  pub steps : s.spent + s.budget ≡ s.limits.steps
+  pub answers : AreCounted s.limits.answers s.answers s.limit
+
+-- the code, the query and its limits stay
 abbrev pub IsSame : State → State → Type 0
-IsSame old new = (new.area ≡ old.area) × (new.query ≡ old.query)
+IsSame old new = (new.area ≡ old.area) × (new.query ≡ old.query) × (new.limits ≡ old.limits)
+
+-- A reduction that is spent is none that is left.
+abbrev pub IsPaced : State → State → Type 0
+IsPaced old new = new.spent + new.budget ≡ old.spent + old.budget
+
+-- An answer is one fewer of those that are allowed.
+abbrev pub Allows : MachineEvent → Option ℕ → Option ℕ → Type 0
+Allows (event.Answer x) None k' = k' ≡ None
+Allows (event.Answer x) (Some k) k' = (j : ℕ) × (k ≡ suc j) × (k' ≡ Some j)
+Allows e k k' = k' ≡ k
+
+-- what an event comes of
+abbrev pub ComesOf : State → MachineEvent → Type 0
+ComesOf s event.Budget = s.budget ≡ 0
+ComesOf s event.Limit = s.limit ≡ Some 0
+ComesOf s event.Newline = HasGoal s.area
+ComesOf s (event.Write x) = HasGoal s.area
+ComesOf s (event.Fault f) = HasGoal s.area
+ComesOf s event.End = Unit {0}
+ComesOf s (event.Answer x) = Unit {0}
 
 -- nothing is said, and the same is still to come
 pub record IsQuiet (old new : State) : Type 0 where
   pub stands : (es : List Event) (total : ℕ) → StandsFor old es total → StandsFor new es total
   pub falls : left new < left old
+  pub paced : IsPaced old new
+  pub limit : new.limit ≡ old.limit
 
 -- the event is the first of those still to come, and the others are left
 pub record Says (old : State) (e : MachineEvent) (new : State) : Type 0 where
@@ -148,6 +215,9 @@ pub record Says (old : State) (e : MachineEvent) (new : State) : Type 0 where
   pub falls : is_final (event_of [] e) ≡ false → left new < left old
   pub ends : is_final (event_of [] e) ≡ true → left new ≡ 0
   pub shown : HasTerms (length (names_of old)) e
+  pub paced : IsPaced old new
+  pub limit : Allows e old.limit new.limit
+  pub comes : ComesOf new e
 
 -- one step
 abbrev pub IsStep : State → Option MachineEvent → State → Type 0
@@ -185,11 +255,27 @@ pub record StillRuns (old new : State) : Type 0 where
   pub same : IsSame old new
   pub stands : (es : List Event) (total : ℕ) → StandsFor old es total → StandsFor new es total
   pub less : left new ≤ left old
+  pub paced : IsPaced old new
+  pub limit : new.limit ≡ old.limit
 
 -- Steps that say nothing, with less left to be done; or something may have to be said behind them.
 abbrev pub WalksOn : State → State → Bool → Type 0
 WalksOn old new true = StillRuns old new × (left new < left old)
 WalksOn old new false = StillRuns old new × IsToSay new
+
+-- ---- what a machine shows
+
+-- an event that only a goal of the code gives
+abbrev pub IsOfGoal : MachineEvent → Type 0
+IsOfGoal (event.Write x) = Unit {0}
+IsOfGoal event.Newline = Unit {0}
+IsOfGoal (event.Fault f) = Unit {0}
+IsOfGoal _ = ⊥
+
+-- one answer more, up to the last number
+abbrev pub counted : MachineEvent → ℕ → ℕ
+counted (event.Answer x) n = min (n + 1) (2 ^ 64 - 1)
+counted _ n = n
 
 -- where a run is after an answer, with so many allowed before
 abbrev pub behind_answer : Option ℕ → Stage

@@ -7,13 +7,11 @@ use Rattle.branch_state.specs.States as branch
 use Rattle.branch_state.specs.States.{IsSameBelow, with_pair}
 use Rattle.wam_code.specs.Area.{Area}
 use Rattle.wam_code.specs.declared.instruction.Code.{Code}
-use Rattle.wam_code.specs.declared.instruction.Code.TheVariants as step
-use Rattle.wam_code.specs.declared.instruction.Instr.{Instr}
-use Rattle.wam_code.specs.declared.instruction.Instr.TheVariants as instr
 use Rattle.code_areas.specs.Areas.{Contents}
 use Rattle.code_states.specs.declared.went.Went.{Went}
 use Rattle.code_states.specs.declared.went.Went.TheVariants.{On, Back}
 use Rattle.code_states.specs.Choices.{point_of}
+use Rattle.code_states.specs.Queries.{KeepsQuery, KeepsQueryThen}
 use Rattle.code_states.specs.Safety.{IsSafeThen}
 use Rattle.code_states.specs.Stages.{Future, RunsAt, ReturnsTo, RunsThen, LeavesChoice}
 use Rattle.code_states.specs.Work.{work_at, work_then}
@@ -28,69 +26,34 @@ use Rattle.code_machine.specs.declared.run.Label.{Label}
 use Rattle.code_machine.specs.declared.run.Run.{Run}
 use Rattle.code_machine.specs.declared.run.Stage.{Stage}
 use Rattle.code_machine.specs.declared.run.Stage.TheVariants.{Going, Returning, Ended}
+use Rattle.code_machine.specs.Instructions.{IsOther}
 use Rattle.code_machine.specs.Labels.{lefts_by, AreLabels, whole_at, whole_back}
-use Rattle.code_machine.specs.States.{state_at, IsTask, most, IsMachine, IsWalk}
+use Rattle.code_machine.specs.States.{state_at, IsTask, most, IsInside, IsMachine, IsWalk}
 
--- ---- instructions that spend no reduction
+-- where an instruction leads
+abbrev pub stage_of : Went → Stage
+stage_of (On to) = Going to
+stage_of Back = Returning
 
--- none of a clause's terms, and none of its frame
-abbrev pub IsOther : Code → Type 0
-IsOther (step.GetVariable r a) = ⊥
-IsOther (step.GetValue r a) = ⊥
-IsOther (step.GetConstant c a) = ⊥
-IsOther (step.GetInteger z a) = ⊥
-IsOther (step.GetStructure f n a) = ⊥
-IsOther (step.PutVariable r a) = ⊥
-IsOther (step.PutValue r a) = ⊥
-IsOther (step.PutConstant c a) = ⊥
-IsOther (step.PutInteger z a) = ⊥
-IsOther (step.PutStructure f n a) = ⊥
-IsOther (step.Allocate n) = ⊥
-IsOther step.Deallocate = ⊥
-IsOther step.Proceed = ⊥
-IsOther _ = Unit {0}
+-- nowhere else, where no instruction was taken
+abbrev pub stage_after : ℕ → Option Went → Stage
+stage_after at (Some w) = stage_of w
+stage_after at None = Going at
 
--- a goal that is no call and no disjunction
-abbrev pub IsGoal : Code → Type 0
-IsGoal (step.Builtin k) = Unit {0}
-IsGoal (step.Constrain k) = Unit {0}
-IsGoal (step.Label o) = Unit {0}
-IsGoal (step.PostRange r n) = Unit {0}
-IsGoal _ = ⊥
-
--- a call, or a disjunction
-abbrev pub IsCall : Code → Type 0
-IsCall (step.Call e) = Unit {0}
-IsCall (step.Execute e) = Unit {0}
-IsCall (step.Either to) = Unit {0}
-IsCall _ = ⊥
-
--- a choice, a switch, or a jump
-abbrev pub IsChoice : Code → Type 0
-IsChoice (step.Jump to) = Unit {0}
-IsChoice step.FailNow = Unit {0}
-IsChoice (step.TryMeElse to) = Unit {0}
-IsChoice (step.RetryMeElse to) = Unit {0}
-IsChoice step.TrustMe = Unit {0}
-IsChoice (step.Try to) = Unit {0}
-IsChoice (step.Retry to) = Unit {0}
-IsChoice (step.Trust to) = Unit {0}
-IsChoice (step.SwitchOnTerm v k i s) = Unit {0}
-IsChoice (step.SwitchOnConstant t) = Unit {0}
-IsChoice (step.SwitchOnInteger t) = Unit {0}
-IsChoice (step.SwitchOnStructure t) = Unit {0}
-IsChoice _ = ⊥
-
--- a range to be posted
-abbrev pub IsPost : Instr → Type 0
-IsPost (instr.PostRange r n) = Unit {0}
-IsPost _ = ⊥
+-- and a goal
+abbrev pub stage_next : Next → Stage
+stage_next (next.On to) = Going to
+stage_next next.Back = Returning
+stage_next (next.Fault f) = Ended (ending.Fault f)
+stage_next (next.Write to x) = Going to
+stage_next (next.Newline to) = Going to
 
 -- The choice points are as they were, with their pairs, and what was still to come is to come.
 pub record Keeps (area : Area) (s : branch.State) (at : ℕ) (c : Contents) (s' : branch.State) (c' : Contents) (w : Went) : Type 0 where
   pub below : IsSameBelow s s'
   pub points : c'.points ≡ c.points
   pub runs : RunsThen area s at c s' c' w
+  pub query : KeepsQueryThen area at c c' w
 
 abbrev pub LeavesThen : Area → branch.State → ℕ → Contents → branch.State → Contents → ℕ → Went → Type 0
 LeavesThen area s at c s' c' other (On to) = LeavesChoice area s at c s' to c' other
@@ -102,6 +65,8 @@ pub record Leaves (area : Area) (s : branch.State) (at : ℕ) (c : Contents) (s'
   pub pair : s' ≡ with_pair s
   pub point : c'.points ≡ point_of c other ∷ c.points
   pub runs : LeavesThen area s at c s' c' other w
+  pub query : KeepsQueryThen area at c c' w
+  pub left : KeepsQuery area at c other c
 
 -- An instruction that spends nothing leads on or back, and less is left to be done.
 pub record Moves (area : Area) (s : branch.State) (at : ℕ) (c : Contents) (s' : branch.State) (c' : Contents) (w : Went) : Type 0 where
@@ -143,6 +108,7 @@ pub record Spends (area : Area) (s : branch.State) (at : ℕ) (c : Contents) (ls
   pub runs : (number : ℕ) (prog : Program) (q : Query) → IsTask area number prog q → (n : ℕ) (k : Option ℕ) (es : List Event) (r : ℕ)
       → RunsAt area (task_of area prog q) s at c (lefts_by c.points ls) (record { budget = suc n; answers = k; events = es; reductions = r })
       → RunsNext area (task_of area prog q) s' c' (lefts_by c'.points ls') n k es r x
+  pub inside : (number : ℕ) → IsInside area number c (Going at) → IsInside area number c' (stage_next x)
   pub work : next_work area c' ls' x ≤ most area * suc (whole_at area at c ls)
 
 -- A reduction is spent on a call or a disjunction, whatever the labels are, which stay.
@@ -153,22 +119,6 @@ CallsTo area s at c s' c' to = (ls : List Label) → AreLabels area c.points s.h
 abbrev pub next_of : Went → Next
 next_of (On to) = next.On to
 next_of Back = next.Back
-
-abbrev pub stage_of : Went → Stage
-stage_of (On to) = Going to
-stage_of Back = Returning
-
--- nowhere else, where no instruction was taken
-abbrev pub stage_after : ℕ → Option Went → Stage
-stage_after at (Some w) = stage_of w
-stage_after at None = Going at
-
-abbrev pub stage_next : Next → Stage
-stage_next (next.On to) = Going to
-stage_next next.Back = Returning
-stage_next (next.Fault f) = Ended (ending.Fault f)
-stage_next (next.Write to x) = Going to
-stage_next (next.Newline to) = Going to
 
 -- what a goal says
 abbrev pub event_next : Next → Option MachineEvent
@@ -190,6 +140,7 @@ pub record ComesBack (area : Area) (s : branch.State) (c : Contents) (ls : List 
   pub safe : IsSafeThen area s' c' w
   pub labels : AreLabels area c'.points s'.heaps.below ls'
   pub runs : (prog : Program) (q : Query) (f : Future) → ReturnsTo area (task_of area prog q) s c (lefts_by c.points ls) f → RunsWent area (task_of area prog q) s' c' (lefts_by c'.points ls') w f
+  pub inside : (number : ℕ) → IsInside area number c Returning → IsInside area number c' (stage_of w)
   pub work : NoMore area c' ls' w (whole_back area c ls)
 
 -- ---- walks

@@ -5,9 +5,10 @@ ghost use Rattle.branch_state.specs.States.{IsSameBelow};
 ghost use Rattle.wam_code.specs.Area.{Holds};
 ghost use Rattle.wam_code.specs.Standing.{StandsAt};
 ghost use Rattle.code_states.specs.Safety.{IsSafe};
-ghost use Rattle.code_goals.specs.Taking.{IsSafeNext, Takes};
+ghost use Rattle.code_goals.specs.Taking.{IsSafeNext, LeadsNext, Takes};
 ghost use Rattle.code_machine.specs.Labels.{AreLabels};
-ghost use Rattle.code_machine.specs.Steps.{next_of, CallsTo, IsCall, IsGoal, IsPost, Spends};
+ghost use Rattle.code_machine.specs.Instructions.{IsCall, IsGoal, IsPost};
+ghost use Rattle.code_machine.specs.Steps.{next_of, CallsTo, Spends};
 
 use crate::labels::keep_values;
 use crate::run::Label;
@@ -73,6 +74,7 @@ fn post<A: Agenda + Drop>(
     requires post { IsPost instr }
     ensures safe { IfOk result (IsSafeNext code.now branch.new areas.now) }
     ensures takes { IfOk result (Takes code.now branch.old at areas.now branch.new) }
+    ensures leads { IfOk result (LeadsNext at) }
     ensures same { OnOk result (IsSameBelow branch.old branch.new) }
 {
     match instr {

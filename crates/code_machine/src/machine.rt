@@ -1,11 +1,13 @@
 //! The machine.
-ghost use Rattle.std.specs.Prelude.{◌≡◌, ◌<◌, ◌∷◌, [], ℕ, List, true, false, length, IfOk, OnOk, OnErr, IsErr};
+ghost use Rattle.std.specs.Prelude.{◌≡◌, ◌<◌, ◌∷◌, [], ℕ, List, Some, true, false, length, IfOk, OnOk, OnErr, IsErr};
 ghost use Rattle.fd_language.specs.declared.TheConstants.{INFINITY as TOP};
 ghost use Rattle.fd_model.specs.Goal.{Program, Query, Event, start_of};
 ghost use Rattle.fd_model.specs.Run.{Run as Runs, IsLimit};
 ghost use Rattle.machine_relation.specs.Next.{is_final, IsNext};
 ghost use Rattle.machine_events.specs.Events.{event_of, HasTerms};
-ghost use Rattle.code_machine.specs.States.{State, names_of, left, MayRun, StandsFor, IsSame};
+ghost use Rattle.machine_events.specs.declared.MachineEvent.TheVariants as event;
+ghost use Rattle.code_machine.specs.Instructions.{HasGoal};
+ghost use Rattle.code_machine.specs.States.{State, counted, names_of, left, IsOfGoal, MayRun, StandsFor, IsSame};
 
 use crate::run::Run;
 use crate::start::start;
@@ -26,7 +28,19 @@ pub struct Machine<A: Agenda + Drop> {
     code: Rc<CodeArea>,
     branch: BranchState<A>,
     run: Run,
+    limits: Limits,
+    answers: u64,
     lost: bool,
+}
+
+/// How many answers were given, behind an event.
+fn counted(event: &MachineEvent, answers: u64) -> u64
+    ensures { result ≡ counted event.now answers }
+{
+    match event {
+        MachineEvent::Answer(_) => answers.saturating_add(1),
+        _ => answers,
+    }
 }
 
 impl<A: Agenda + Drop> Model for Machine<A> {
@@ -51,12 +65,13 @@ impl<A: Agenda + Drop> Model for Machine<A> {
     ) };
 
     ghost use Rattle.std.specs.Prelude.{◌≡◌, false};
-    ghost use Rattle.code_machine.specs.States.{state_of, IsMachine};
+    ghost use Rattle.code_machine.specs.States.{state_within, IsMachine, IsWithin};
 
-    ghost view = { λ m. state_of m.code.value m.branch m.run m.lost };
+    ghost view = { λ m. state_within m.code.value m.branch m.run m.lost m.limits m.answers };
 
     ghost invariant = { λ m. m.lost ≡ false
-        → IsMachine (state_of m.code.value m.branch m.run m.lost) };
+        → IsMachine (state_within m.code.value m.branch m.run m.lost m.limits m.answers)
+        × IsWithin (state_within m.code.value m.branch m.run m.lost m.limits m.answers) };
 }
 
 impl<A: Agenda + Drop> Machine<A> {
@@ -71,6 +86,7 @@ impl<A: Agenda + Drop> Machine<A> {
         requires query { query < length code.value.queries }
         requires answers { IsLimit limits.answers }
         ensures code { IfOk result (λ m. (m.area ≡ code.value) × (m.query ≡ query)) }
+        ensures limits { IfOk result (λ m. (m.limits ≡ limits) × (m.answers ≡ 0)) }
         ensures stands { IfOk result (λ m. (prog : Program) (q : Query) → MayRun m.area query prog q
             → (es : List Event) (r : ℕ)
             → Runs TOP prog q limits.steps limits.answers (start_of q ∷ []) es r
@@ -82,6 +98,8 @@ impl<A: Agenda + Drop> Machine<A> {
             code,
             branch,
             run,
+            limits,
+            answers: 0,
             lost: false,
         })
     }
@@ -98,6 +116,12 @@ impl<A: Agenda + Drop> Machine<A> {
             → left self.new < left self.old) }
         ensures ended { IfOk result (λ e. is_final (event_of [] e) ≡ true → left self.new ≡ 0) }
         ensures shown { IfOk result (HasTerms (length (names_of self.old))) }
+        ensures counted { IfOk result (λ e. self.new.answers ≡ counted e self.old.answers) }
+        ensures budget { IfOk result (λ e. e ≡ event.Budget
+            → self.new.spent ≡ self.new.limits.steps) }
+        ensures limit { IfOk result (λ e. e ≡ event.Limit
+            → self.new.limits.answers ≡ Some self.new.answers) }
+        ensures goals { IfOk result (λ e. IsOfGoal e → HasGoal self.new.area) }
         ensures lost { OnErr result (self.new.lost ≡ true) }
         ensures still_lost { self.old.lost ≡ true → IsErr result }
     {
@@ -106,8 +130,23 @@ impl<A: Agenda + Drop> Machine<A> {
         }
         self.lost = true;
         let event = run_on(self.alloc, &self.code, &mut self.branch, &mut self.run)?;
+        self.answers = counted(&event, self.answers);
         self.lost = false;
         Ok(event)
+    }
+
+    /// The limits that it was made with.
+    pub fn limits(&self) -> Limits
+        ensures { result ≡ self.now.limits }
+    {
+        self.limits
+    }
+
+    /// How many answers it has given. The number stands still at 2^64 - 1.
+    pub fn answers(&self) -> u64
+        ensures { result ≡ self.now.answers }
+    {
+        self.answers
     }
 
     /// The reductions that were spent so far. Behind the last event these are all that the run takes.

@@ -2,7 +2,8 @@
 ghost use Rattle.std.specs.Prelude.{IfOk};
 ghost use Rattle.wam_code.specs.Area.{Holds};
 ghost use Rattle.code_states.specs.Safety.{IsSafe};
-ghost use Rattle.code_machine.specs.Steps.{IsChoice, Moves, TakesTerm};
+ghost use Rattle.code_machine.specs.Instructions.{IsChoice};
+ghost use Rattle.code_machine.specs.Steps.{Moves, TakesTerm};
 
 use branch_state::BranchState;
 use code_areas::Areas;

@@ -4,7 +4,7 @@ ghost use Rattle.fd_language.specs.declared.TheConstants.{INFINITY as TOP};
 ghost use Rattle.fd_model.specs.Goal.{Program, Query, Event, start_of};
 ghost use Rattle.fd_model.specs.Run.{Run as Runs, IsLimit};
 ghost use Rattle.wam_code.specs.Area.{Span, HasQuery};
-ghost use Rattle.code_machine.specs.States.{state_of, IsMachine, MayRun, StandsFor};
+ghost use Rattle.code_machine.specs.States.{state_of, state_within, AreCounted, IsMachine, IsWithin, MayRun, StandsFor};
 
 use crate::run::{Run, Stage};
 use branch_state::BranchState;
@@ -24,6 +24,17 @@ fn place_of(code: &CodeArea, query: usize) -> usize
     code.parts().queries[query].at
 }
 
+/// All answers that a limit allows, of which none is given.
+fn all_of(answers: Option<u64>) -> Option<u64>
+    ensures same { result ≡ answers }
+    ensures counted { AreCounted answers 0 result }
+{
+    match answers {
+        Some(most) => Some(most),
+        None => None,
+    }
+}
+
 /// The branch and the run at the beginning of a query. The error is want of memory.
 pub(crate) fn start<A: Agenda + Drop>(
     alloc: Global,
@@ -36,6 +47,7 @@ pub(crate) fn start<A: Agenda + Drop>(
     requires answers { IsLimit limits.answers }
     ensures machine { IfOk result (λ w. IsMachine (state_of code.now w.0 w.1 false)) }
     ensures query { IfOk result (λ w. w.1.query ≡ query) }
+    ensures within { IfOk result (λ w. IsWithin (state_within code.now w.0 w.1 false limits 0)) }
     ensures stands { IfOk result (λ w. (prog : Program) (q : Query) → MayRun code.now query prog q
         → (es : List Event) (r : ℕ)
         → Runs TOP prog q limits.steps limits.answers (start_of q ∷ []) es r
@@ -51,7 +63,7 @@ pub(crate) fn start<A: Agenda + Drop>(
         stage: Stage::Going(at),
         scratch: Scratch::new(alloc),
         budget: limits.steps,
-        limit: limits.answers,
+        limit: all_of(limits.answers),
         spent: 0,
     };
     Ok((branch, run))

@@ -1,17 +1,17 @@
 //! The steps of a run, up to the next event.
-ghost use Rattle.std.specs.Prelude.{◌≡◌, ◌<◌, suc, length, true, false, IfOk, OnOk};
-ghost use Rattle.wam_code.specs.Area.{Span, Holds, HasQuery};
+ghost use Rattle.std.specs.Prelude.{◌≡◌, length, false, IfOk, OnOk};
+ghost use Rattle.wam_code.specs.Area.{Holds};
 ghost use Rattle.wam_code.specs.declared.instruction.Code.TheVariants as code_step;
 ghost use Rattle.code_machine.specs.declared.run.Stage.TheVariants as stage;
 ghost use Rattle.code_machine.specs.States.{state_of, behind_answer, last_event, one_fewer, IsMachine, IsStep, IsToSay, MaySay, Says};
-ghost use Rattle.code_machine.specs.Steps.{event_next, stage_next, IsCall, IsGoal};
+ghost use Rattle.code_machine.specs.Instructions.{IsCall, IsGoal};
+ghost use Rattle.code_machine.specs.Steps.{event_next, stage_next};
 
 use crate::goals::take_goal;
 use crate::run::{Ending, Run, Stage};
 use crate::walk::{code_at, walk};
 use branch_state::BranchState;
 use code_goals::{Next, show_answer};
-use code_states::behind;
 use fd_language::NoMemory;
 use machine_events::MachineEvent;
 use propagate_queue::Agenda;
@@ -68,16 +68,7 @@ fn outcome(next: Next) -> (Stage, Option<MachineEvent>)
     }
 }
 
-/// Whether a place is the last one of the query with a number.
-fn is_end(code: &CodeArea, query: usize, at: usize) -> bool
-    requires query { query < length code.now.queries }
-    requires at { at < length code.now.code }
-    ensures { result ≡ true → (span : Span) → HasQuery code.now query span → suc at ≡ span.end }
-{
-    code.parts().queries[query].end == behind(code, at)
-}
-
-/// The answer at a place, which is the last one of the run's query: other places of the code don't answer.
+/// The answer at a place, which is one of the run's query: no other query's code is reached.
 fn answer<A: Agenda + Drop>(
     alloc: Global,
     code: &CodeArea,
@@ -93,9 +84,6 @@ fn answer<A: Agenda + Drop>(
     ensures says { IfOk result (λ e. Says (state_of code.now branch.now run.old false) e
         (state_of code.now branch.now run.new false)) }
 {
-    if !is_end(code, run.query, at) {
-        return Err(NoMemory);
-    }
     let shown = show_answer(alloc, code, at, run.query, branch, &run.areas)?;
     run.stage = stage_behind(run.limit);
     run.limit = fewer(run.limit);

@@ -5,7 +5,8 @@ ghost use Rattle.code_states.specs.Safety.{IsSafeBack};
 ghost use Rattle.code_machine.specs.declared.run.Stage.TheVariants as stage;
 ghost use Rattle.code_machine.specs.Labels.{AreLabels};
 ghost use Rattle.code_machine.specs.States.{state_at, state_of, IsMachine, IsQuiet, IsToSay, StillRuns, WalksOn};
-ghost use Rattle.code_machine.specs.Steps.{stage_of, ComesBack, IsCall, IsOther, IsTaken};
+ghost use Rattle.code_machine.specs.Instructions.{IsCall, IsOther};
+ghost use Rattle.code_machine.specs.Steps.{stage_of, ComesBack, IsTaken};
 
 use crate::goals::take_call;
 use crate::labels::{keep_values, take_values};

@@ -3,4 +3,5 @@ pub mod Safety
 pub mod Standing
 pub mod Stages
 pub mod Starting
+pub mod Queries
 pub mod Left

@@ -48,11 +48,11 @@ pub later_nearer : (area : Area) (at to : ℕ) (i : Code) → Holds area at i �
 later_nearer area at to i holds later = let within = slice_get_within area.code at i holds in omega (arith, within, later)
 
 -- The work falls where an instruction leads on or back, and leaves the continuations and the choice points as they are.
-pub kept_falls : (area : Area) (at : ℕ) (c : Contents) (i : Code) → Holds area at i → (c' : Contents) → IsSameBehind c c' → (w : Went) → LeadsOn at w → work_then area c' w < work_at area at c
+pub kept_falls : (area : Area) (at : ℕ) (c : Contents) (i : Code) → Holds area at i → (c' : Contents) → IsSameBehind c c' → (w : Went) → LeadsOn area at w → work_then area c' w < work_at area at c
 kept_falls area at c i holds c' behind w leads = subst (λ rs. work_then area c' w < work (thread_of area at rs ∷ point_threads area c.points)) behind.returns (subst (λ ps. work_then area c' w < work (thread_of area at c'.returns ∷ point_threads area ps)) behind.points (less w leads))
   where
-    less : (w : Went) → LeadsOn at w → work_then area c' w < work_at area at c'
-    less (On to) later = step_falls (distance area at) (distance area to) (map (λ r. distance area r.to) c'.returns) (point_threads area c'.points) (later_nearer area at to i holds later)
+    less : (w : Went) → LeadsOn area at w → work_then area c' w < work_at area at c'
+    less (On to) leads = step_falls (distance area at) (distance area to) (map (λ r. distance area r.to) c'.returns) (point_threads area c'.points) (later_nearer area at to i holds leads.0)
     less Back leads = back_falls (distance area at) (map (λ r. distance area r.to) c'.returns) (point_threads area c'.points)
 
 -- ---- ends

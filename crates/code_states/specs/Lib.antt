@@ -4,4 +4,5 @@ pub mod Standing
 pub mod Equating
 pub mod Choices
 pub mod Stages
+pub mod Queries
 pub mod Work

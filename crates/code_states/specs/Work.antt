@@ -5,6 +5,7 @@ use Rattle.wam_code.specs.Reaching.{distance}
 use Rattle.wam_code.specs.Ending.{weight, Thread, thread_work, work}
 use Rattle.code_areas.specs.Areas.{Return, Point, Contents}
 use Rattle.code_steps.specs.Running.{Left, resume, values}
+use Rattle.code_states.specs.Queries.{StaysInside}
 use Rattle.code_states.specs.declared.went.Went.{Went}
 use Rattle.code_states.specs.declared.went.Went.TheVariants.{On, Back}
 
@@ -27,10 +28,10 @@ abbrev pub work_then : Area → Contents → Went → ℕ
 work_then area c (On to) = work_at area to c
 work_then area c Back = work_back area c
 
--- An instruction leads to a later place, or back.
-abbrev pub LeadsOn : ℕ → Went → Type 0
-LeadsOn at (On to) = at < to
-LeadsOn at Back = Unit {0}
+-- An instruction leads to a later place, of the same query, or back.
+abbrev pub LeadsOn : Area → ℕ → Went → Type 0
+LeadsOn area at (On to) = (at < to) × StaysInside area at to
+LeadsOn area at Back = Unit {0}
 
 -- So much at most is to be done behind a call, with so much before it.
 abbrev pub most_work : Area → ℕ → ℕ

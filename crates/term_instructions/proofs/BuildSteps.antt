@@ -34,7 +34,7 @@ use Rattle.code_states.specs.Safety.{Fits, IsSafe}
 use Rattle.code_states.specs.Standing.{IsNaming}
 use Rattle.term_instructions.specs.Building.{Purpose, for_head, for_goal, end_of, gathered, IsGatheredTo, AddsVariables, AreVariablesAdded}
 use Rattle.code_states.proofs.Safety.{found, when_parts, some_is, written_fits, written_own, cells_kept, next_safe}
-use Rattle.term_instructions.proofs.Steps.{same_behind, behind_both, same_below, below_heap, below_both, owed_set, held_own, new_slot_own}
+use Rattle.term_instructions.proofs.Steps.{next_among, among_both, among_none, same_behind, behind_both, same_below, below_heap, below_both, owed_set, held_own, new_slot_own}
 use Rattle.term_instructions.proofs.Unify.{fits_owed, effect_owed, no_void}
 use Rattle.term_instructions.proofs.ReadSteps.{own_all}
 
@@ -135,7 +135,7 @@ module _ (area : Area) (n : ℕ) (s : branch.State) (at : ℕ) (c : Contents) (c
       record {
         safe = next_safe area s s at (n - length cells) c c safe (same_below s) (same_behind c) step holds on f (n - length (cells ++ d ∷ [])) fits owes safe.sound (λ x l. l) safe.here.registers_own safe.here.slots_own;
         within = omega (arith, more, size);
-        leads = omega arith;
+        leads = next_among area s at (n - length cells) c safe step holds on (suc at) refl;
         own = all_own s (λ e o. o) d d_own;
         stays = λ e o. o;
         behind = same_behind c;
@@ -181,7 +181,7 @@ module _ (area : Area) (n : ℕ) (s : branch.State) (at : ℕ) (c : Contents) (c
       record {
         safe = next_safe area s s' at (n - length cells) c c' safe below same (UnifyVariable r) holds refl f (n - length (cells ++ d ∷ [])) fits owes sound keep o.0 o.1;
         within = omega (arith, more, size);
-        leads = omega arith;
+        leads = next_among area s at (n - length cells) c safe (UnifyVariable r) holds refl (suc at) refl;
         own = all_own s' keep d d_own;
         stays = keep;
         behind = same;
@@ -211,7 +211,7 @@ module _ (area : Area) (n : ℕ) (s : branch.State) (at : ℕ) (c : Contents) (c
       record {
         safe = next_safe area s s' at (n - length cells) c c safe below (same_behind c) (UnifyVoid k) holds refl f (n - length cells') fits owes a.sound keep (cells_kept s s' keep c.registers safe.here.registers_own) (cells_kept s s' keep c.slots safe.here.slots_own);
         within = omega (arith, more, low, size);
-        leads = omega arith;
+        leads = next_among area s at (n - length cells) c safe (UnifyVoid k) holds refl (suc at) refl;
         own = subst (λ m. All (λ d. IsOf s'.heaps.now d × IsAtomBelow m d) cells') (sym below.atoms) all.1;
         stays = keep;
         behind = same_behind c;
@@ -236,14 +236,14 @@ module _ (area : Area) (n : ℕ) (s : branch.State) (at : ℕ) (c : Contents) (c
 -- ---- many instructions
 
 pub gathered_start : (area : Area) (n : ℕ) (s : branch.State) (at : ℕ) (c : Contents) (cells : List Cell) → IsSafe area s at (n - length cells) c → length cells ≤ n → All (IsCell s) cells → IsGatheredTo area n s at c cells s at c cells
-gathered_start area n s at c cells safe within own = record { safe = safe; within = within; leads = omega arith; own = own; stays = λ d o. o; behind = same_behind c; below = same_below s; grown = grown_same s.heaps.now; keeps = λ shown name f use' b m v. v }
+gathered_start area n s at c cells safe within own = record { safe = safe; within = within; leads = among_none area at; own = own; stays = λ d o. o; behind = same_behind c; below = same_below s; grown = grown_same s.heaps.now; keeps = λ shown name f use' b m v. v }
 
 pub gathered_both : (area : Area) (n : ℕ) (s : branch.State) (at : ℕ) (c : Contents) (cells : List Cell) (s1 : branch.State) (at1 : ℕ) (c1 : Contents) (cells1 : List Cell) (s2 : branch.State) (at2 : ℕ) (c2 : Contents) (cells2 : List Cell)
     → IsGatheredTo area n s at c cells s1 at1 c1 cells1 → IsGatheredTo area n s1 at1 c1 cells1 s2 at2 c2 cells2 → IsGatheredTo area n s at c cells s2 at2 c2 cells2
 gathered_both area n s at c cells s1 at1 c1 cells1 s2 at2 c2 cells2 g k = record {
   safe = k.safe;
   within = k.within;
-  leads = (let one = g.leads in let two = k.leads in omega (arith, one, two));
+  leads = among_both area at at1 at2 g.leads k.leads;
   own = k.own;
   stays = λ d o. k.stays d (g.stays d o);
   behind = behind_both c c1 c2 g.behind k.behind;

@@ -260,15 +260,15 @@ if_ok_at area f n var s at c s' c' (Err e) d own same g = tt
 
 module _ (area : Area) (s : branch.State) (at : ℕ) (c : Contents) (safe : IsSafe area s at 0 c) (f : AtomId) (n a : ℕ) (holds : Holds area at (GetStructure f n a)) (d : Cell) (here : cell_at c.registers a ≡ Some d) (from : ℕ) (is : from ≡ suc at) (s' : branch.State) (c' : Contents) where
   -- where a structure was built
-  pub get_built : {E : Type 0} → (r : Result Went E) → IfOk r (BuildsThen area f n d s from c s' c') → IfOk r (IsSafeThen area s' c') × IfOk r (KeepsStanding area s at c s' c') × IfOk r (LeadsOn at) × OnOk r (IsSameBehind c c') × OnOk r (IsSameBelow s s')
-  get_built (Ok w) g = (g.safe, get_open area s at c safe f n a holds d here s' c' w (subst (λ k. BuildsThen area f n d s k c s' c' w) is g), led_from at from is w g.leads, g.behind, g.below)
+  pub get_built : {E : Type 0} → (r : Result Went E) → IfOk r (BuildsThen area f n d s from c s' c') → IfOk r (IsSafeThen area s' c') × IfOk r (KeepsStanding area s at c s' c') × IfOk r (LeadsOn area at) × OnOk r (IsSameBehind c c') × OnOk r (IsSameBelow s s')
+  get_built (Ok w) g = (g.safe, get_open area s at c safe f n a holds d here s' c' w (subst (λ k. BuildsThen area f n d s k c s' c' w) is g), led_from area s at c safe (GetStructure f n a) holds refl from is w g.leads, g.behind, g.below)
   get_built (Err e) g = (tt, tt, tt, tt, tt)
 
   -- where one was read
   pub get_read : (g : AtomId) (args : List Cell) (j : ℕ) → j < length s.heaps.now.compounds → compound_at s.heaps.now j ≡ record { name = g; args = args } → Same s.heaps.now d (cell.Struct j) → g ≡ f → length args ≡ n → (cells : List Cell) → cells ≡ args → (told : List Touch) → told ≡ []
-      → {E : Type 0} → (r : Result Went E) → IfOk r (ReadsThen area cells s told from c s' c') → IfOk r (IsSafeThen area s' c') × IfOk r (KeepsStanding area s at c s' c') × IfOk r (LeadsOn at) × OnOk r (IsSameBehind c c') × OnOk r (IsSameBelow s s')
+      → {E : Type 0} → (r : Result Went E) → IfOk r (ReadsThen area cells s told from c s' c') → IfOk r (IsSafeThen area s' c') × IfOk r (KeepsStanding area s at c s' c') × IfOk r (LeadsOn area at) × OnOk r (IsSameBehind c c') × OnOk r (IsSameBelow s s')
   get_read g args j low there same is_f size cells given told empty (Ok w) k =
-      (k.safe, get_struct area s at c safe f n a holds d here g args j low there same is_f size cells given told empty s' c' w (subst (λ i. ReadsThen area cells s told i c s' c' w) is k), led_from at from is w k.leads, k.behind, k.below)
+      (k.safe, get_struct area s at c safe f n a holds d here g args j low there same is_f size cells given told empty s' c' w (subst (λ i. ReadsThen area cells s told i c s' c' w) is k), led_from area s at c safe (GetStructure f n a) holds refl from is w k.leads, k.behind, k.below)
   get_read g args j low there same is_f size cells given told empty (Err e) k = (tt, tt, tt, tt, tt)
 
 -- ---- names

@@ -45,7 +45,7 @@ use Rattle.term_instructions.specs.declared.reading.Look.{Look}
 use Rattle.term_instructions.specs.declared.reading.Look.TheVariants.{Read, Refused, Unclear}
 use Rattle.code_states.proofs.Equal.{same_cells}
 use Rattle.code_states.proofs.Safety.{found, when_parts, some_is, written_fits, written_own, cells_kept, back_safe, next_safe}
-use Rattle.term_instructions.proofs.Steps.{same_behind, behind_both, same_below, below_heap, below_both, owed_set}
+use Rattle.term_instructions.proofs.Steps.{next_among, among_both, among_none, same_behind, behind_both, same_below, below_heap, below_both, owed_set}
 use Rattle.term_instructions.proofs.Unify.{fits_owed, effect_owed, no_void}
 
 posts_both : (ts us : List Touch) → posts (store_touches (ts ++ us)) ≡ posts (store_touches ts) ++ posts (store_touches us)
@@ -100,7 +100,7 @@ module _ (area : Area) (cells : List Cell) (s : branch.State) (told : List Touch
       record {
         safe = subst (λ a. IsSafe area s a (length cells - to.next) c') (sym at_is) (next_safe area s s at (length cells - i) c c' safe (same_below s) same (UnifyVariable r) holds refl e (length cells - to.next) fits owes safe.sound (λ x l. l) o.0 o.1);
         within = omega (arith, more, next_is);
-        leads = omega (arith, at_is);
+        leads = next_among area s at (length cells - i) c safe (UnifyVariable r) holds refl to.at at_is;
         own = own;
         are_told = are_told;
         behind = same;
@@ -121,7 +121,7 @@ module _ (area : Area) (cells : List Cell) (s : branch.State) (told : List Touch
       record {
         safe = subst (λ a. IsSafe area s a (length cells - to.next) c) (sym at_is) (next_safe area s s at (length cells - i) c c safe (same_below s) (same_behind c) (UnifyVoid k) holds refl e (length cells - to.next) fits owes safe.sound (λ x l. l) safe.here.registers_own safe.here.slots_own);
         within = omega (arith, more, low, next_is);
-        leads = omega (arith, at_is);
+        leads = next_among area s at (length cells - i) c safe (UnifyVoid k) holds refl to.at at_is;
         own = own;
         are_told = are_told;
         behind = same_behind c;
@@ -157,7 +157,7 @@ module _ (area : Area) (cells : List Cell) (s : branch.State) (told : List Touch
         safe = subst (λ a. IsSafe area s' a (length cells - to.next) c) (sym at_is)
             (next_safe area s s' at (length cells - i) c c safe below (same_behind c) step holds on f (length cells - to.next) fits owes sound keep (cells_kept s s' keep c.registers safe.here.registers_own) (cells_kept s s' keep c.slots safe.here.slots_own));
         within = omega (arith, more, next_is);
-        leads = omega (arith, at_is);
+        leads = next_among area s at (length cells - i) c safe step holds on to.at at_is;
         own = own_all s s' keep cells own;
         are_told = told_then are_told;
         behind = same_behind c;
@@ -267,14 +267,14 @@ next_looked at root e to Unclear t at_is = tt
 -- ---- many arguments
 
 pub read_start : (area : Area) (cells : List Cell) (s : branch.State) (told : List Touch) (from : Reading) (c : Contents) → IsSafe area s from.at (length cells - from.next) c → from.next ≤ length cells → All (IsCell s) cells → AreTold s told → IsReadTo area cells s told from c s told from c
-read_start area cells s told from c safe within own are = record { safe = safe; within = within; leads = omega arith; own = own; are_told = are; behind = same_behind c; below = same_below s; keeps = λ shown name b n m. m }
+read_start area cells s told from c safe within own are = record { safe = safe; within = within; leads = among_none area from.at; own = own; are_told = are; behind = same_behind c; below = same_below s; keeps = λ shown name b n m. m }
 
 module _ (area : Area) (cells : List Cell) (s : branch.State) (told : List Touch) (from : Reading) (c : Contents) (s1 : branch.State) (told1 : List Touch) (to : Reading) (c1 : Contents) (g : IsReadTo area cells s told from c s1 told1 to c1) where
   pub read_both : (s2 : branch.State) (told2 : List Touch) (to2 : Reading) (c2 : Contents) → IsReadTo area cells s1 told1 to c1 s2 told2 to2 c2 → IsReadTo area cells s told from c s2 told2 to2 c2
   read_both s2 told2 to2 c2 k = record {
     safe = k.safe;
     within = k.within;
-    leads = (let one = g.leads in let two = k.leads in omega (arith, one, two));
+    leads = among_both area from.at to.at to2.at g.leads k.leads;
     own = k.own;
     are_told = k.are_told;
     behind = behind_both c c1 c2 g.behind k.behind;

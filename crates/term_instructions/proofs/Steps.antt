@@ -1,5 +1,5 @@
 -- The get and put groups are safe.
-use Rattle.std.proofs.Common.{◌≡◌, ℕ, zero, suc, ◌<◌, Bool, true, false, ◌&&◌, ◌∷◌, [], length, Some, None, refl, ap, sym, ◌∙◌, subst, arith, length-append, ℤ}
+use Rattle.std.proofs.Common.{◌≡◌, ℕ, zero, suc, ◌<◌, Bool, true, false, ◌&&◌, IsTrue, ◌∷◌, [], length, Some, None, refl, ap, sym, ◌∙◌, subst, arith, length-append, ℤ}
 use Rattle.std.proofs.lemmas.Bool.{and_parts}
 use Rattle.fd_language.specs.Family.{has}
 use Rattle.term_pool.specs.declared.AtomId.{AtomId}
@@ -18,14 +18,16 @@ use Rattle.wam_code.specs.Verified.{goes_on}
 use Rattle.code_areas.specs.Areas.{cell_at, IsSet, Contents}
 use Rattle.code_steps.specs.Registers.{cell_in, IsWritten}
 use Rattle.code_states.specs.Machine.{registers_of, HasCell, CanHold, IsSameBehind}
+use Rattle.code_states.specs.Queries.{StaysInside}
 use Rattle.code_states.specs.Safety.{Fits, IsSafe, IsSafeThen}
 use Rattle.code_states.specs.Standing.{went_by}
 use Rattle.code_states.specs.Work.{LeadsOn}
 use Rattle.code_states.specs.declared.went.Went.{Went}
 use Rattle.code_states.specs.declared.went.Went.TheVariants.{On, Back}
 use Rattle.code_states.specs.Equating.{Equates}
-use Rattle.term_instructions.specs.Arguments.{LeadsFrom}
+use Rattle.term_instructions.specs.Arguments.{LeadsAmong, LeadsFrom}
 use Rattle.code_states.proofs.Equal.{same_cells}
+use Rattle.code_states.proofs.Queries.{next_inside}
 use Rattle.code_states.proofs.Safety.{found, when_parts, some_is, free_holds, set_holds, written_fits, written_own, cells_kept, back_safe, next_safe}
 
 pub same_behind : (c : Contents) → IsSameBehind c c
@@ -47,15 +49,36 @@ pub owed_set : (t : State) (r : Register) → (with_set t r).owed ≡ t.owed
 owed_set t (X n) = refl
 owed_set t (Y n) = refl
 
--- Where two cells were made equal, the next place is a later one.
-pub led_by : (at : ℕ) (equal : Bool) → LeadsOn at (went_by at equal)
-led_by at true = omega arith
-led_by at false = tt
+-- The next place is one behind an argument,
+pub next_among : (area : Area) (s : branch.State) (at n : ℕ) (c : Contents) → IsSafe area s at n c → (i : Code) → Holds area at i → IsTrue (goes_on i) → (to : ℕ) → to ≡ suc at → LeadsAmong area at to
+next_among area s at n c safe i holds on to is = subst (LeadsAmong area at) (sym is) (omega arith, next_inside area s at n c safe i holds on)
 
--- What leads from the next place leads on.
-pub led_from : (at from : ℕ) → from ≡ suc at → (w : Went) → LeadsFrom from w → LeadsOn at w
-led_from at from is (On to) later = omega (arith, is, later)
-led_from at from is Back later = tt
+-- and is behind more of them, from a place behind some.
+pub among_both : (area : Area) (at from to : ℕ) → LeadsAmong area at from → LeadsAmong area from to → LeadsAmong area at to
+among_both area at from to f g = ((let one = f.0 in let two = g.0 in omega (arith, one, two)), λ number i. g.1 number (f.1 number i))
+
+-- no argument yet
+pub among_none : (area : Area) (at : ℕ) → LeadsAmong area at at
+among_none area at = (omega arith, λ number i. i)
+
+module _ (area : Area) (s : branch.State) (at : ℕ) (c : Contents) (safe : IsSafe area s at 0 c) (i : Code) (holds : Holds area at i) (on : IsTrue (goes_on i)) where
+  -- An instruction leads on to the next place.
+  pub led_on : (to : ℕ) → to ≡ suc at → LeadsOn area at (On to)
+  led_on to is = subst (λ k. LeadsOn area at (On k)) (sym is) (omega arith, next_inside area s at 0 c safe i holds on)
+
+  -- Where two cells were made equal, the next place is a later one.
+  pub led_by : (equal : Bool) → LeadsOn area at (went_by at equal)
+  led_by true = led_on (suc at) refl
+  led_by false = tt
+
+  -- What leads from the next place leads on.
+  pub led_from : (from : ℕ) → from ≡ suc at → (w : Went) → LeadsFrom area from w → LeadsOn area at w
+  led_from from is (On to) later =
+      let next : (at < from) × StaysInside area at from = led_on from is in
+      let low = next.0 in
+      let high = later.0 in
+      (omega (arith, low, high), λ number i. later.1 number (next.1 number i))
+  led_from from is Back later = tt
 
 -- what a register holds is a cell of the branch
 pub held_own : (s : branch.State) (c : Contents) (r : Register) (d : HeapCell) → AreCells s c.registers → AreCells s c.slots → cell_in (registers_of c) r ≡ Some d → IsCell s d

@@ -4,6 +4,7 @@ use Rattle.wam_code.specs.declared.instruction.Code.{Code}
 use Rattle.wam_code.specs.declared.instruction.Code.TheVariants.{UnifyVariable, UnifyValue, UnifyConstant, UnifyInteger, UnifyVoid}
 use Rattle.wam_code.specs.Area.{State, Area, Holds}
 use Rattle.wam_code.specs.Effect.{unify_effect}
+use Rattle.code_states.specs.Queries.{StaysInside}
 use Rattle.code_states.specs.declared.went.Went.{Went}
 use Rattle.code_states.specs.declared.went.Went.TheVariants.{On, Back}
 use Rattle.term_instructions.specs.declared.arguments.Argument.{Argument}
@@ -20,7 +21,11 @@ code_of (Void n) = UnifyVoid n
 abbrev pub IsUnifyAt : Area → ℕ → Type 0
 IsUnifyAt area at = (i : Code) × (s : State) × (t : State) × Holds area at i × (unify_effect i s ≡ Some t)
 
+-- the place behind some of them, of the same query
+abbrev pub LeadsAmong : Area → ℕ → ℕ → Type 0
+LeadsAmong area from to = (from ≤ to) × StaysInside area from to
+
 -- It leads to a place behind some of them, or back.
-abbrev pub LeadsFrom : ℕ → Went → Type 0
-LeadsFrom from (On to) = from ≤ to
-LeadsFrom from Back = Unit {0}
+abbrev pub LeadsFrom : Area → ℕ → Went → Type 0
+LeadsFrom area from (On to) = LeadsAmong area from to
+LeadsFrom area from Back = Unit {0}

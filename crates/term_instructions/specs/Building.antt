@@ -18,7 +18,7 @@ use Rattle.code_states.specs.Machine.{registers_of, stack_of, IsSameBehind}
 use Rattle.code_states.specs.Safety.{IsSafe, IsSafeThen}
 use Rattle.code_states.specs.Standing.{IsNaming, StandsThen}
 use Rattle.code_states.specs.declared.went.Went.{Went}
-use Rattle.term_instructions.specs.Arguments.{LeadsFrom}
+use Rattle.term_instructions.specs.Arguments.{LeadsAmong, LeadsFrom}
 
 -- what the structure is for: the head's argument with this cell, or a goal's argument in this
 -- register
@@ -44,7 +44,7 @@ BuildsAt area shown name f use' s at c cells left b = Builds INFINITY area shown
 pub record IsGatheredTo (area : Area) (n : ℕ) (s : branch.State) (at : ℕ) (c : Contents) (cells : List Cell) (s' : branch.State) (at' : ℕ) (c' : Contents) (cells' : List Cell) : Type 0 where
   pub safe : IsSafe area s' at' (n - length cells') c'
   pub within : length cells' ≤ n
-  pub leads : at ≤ at'
+  pub leads : LeadsAmong area at at'
   pub own : All (IsCell s') cells'
   pub stays : (d : Cell) → IsCell s d → IsCell s' d
   pub behind : IsSameBehind c c'
@@ -66,7 +66,7 @@ pub record AreVariablesAdded (n : ℕ) (s : branch.State) (cells : List Cell) (s
 -- stands for the same branches.
 pub record BuildsThen (area : Area) (f : AtomId) (n : ℕ) (d : Cell) (s : branch.State) (at : ℕ) (c : Contents) (s' : branch.State) (c' : Contents) (w : Went) : Type 0 where
   pub safe : IsSafeThen area s' c' w
-  pub leads : LeadsFrom at w
+  pub leads : LeadsFrom area at w
   pub behind : IsSameBehind c c'
   pub below : IsSameBelow s s'
   pub stands : (shown : List ℕ) (name : Naming) (b : Branch) → IsNaming area name → BuildsAt area shown name (name_of area f) (for_head d) s at c [] n b → StandsThen area shown name s' c' w b

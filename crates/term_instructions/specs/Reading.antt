@@ -20,7 +20,7 @@ use Rattle.term_instructions.specs.declared.reading.Reading.{Reading}
 use Rattle.term_instructions.specs.declared.reading.Look.{Look}
 use Rattle.term_instructions.specs.declared.reading.Look.TheVariants.{Read, Refused, Unclear}
 use Rattle.code_states.specs.declared.went.Went.{Went}
-use Rattle.term_instructions.specs.Arguments.{LeadsFrom}
+use Rattle.term_instructions.specs.Arguments.{LeadsAmong, LeadsFrom}
 
 -- The cells left are to be equal to the terms that the code gives from the place on, where what was
 -- touched is still to be posted.
@@ -35,7 +35,7 @@ AreTold s told = AreTouchesBelow (length s.levels.current.sets) told
 pub record IsReadTo (area : Area) (cells : List Cell) (s : branch.State) (told : List Touch) (from : Reading) (c : Contents) (s' : branch.State) (told' : List Touch) (to : Reading) (c' : Contents) : Type 0 where
   pub safe : IsSafe area s' to.at (length cells - to.next) c'
   pub within : to.next ≤ length cells
-  pub leads : from.at ≤ to.at
+  pub leads : LeadsAmong area from.at to.at
   pub own : All (IsCell s') cells
   pub are_told : AreTold s' told'
   pub behind : IsSameBehind c c'
@@ -66,7 +66,7 @@ ReadsAll area cells s told from c s' told' c' None = IsRefused area cells s told
 -- Reading has ended where this leads, and the machine stands for the same branches.
 pub record ReadsThen (area : Area) (cells : List Cell) (s : branch.State) (told : List Touch) (at : ℕ) (c : Contents) (s' : branch.State) (c' : Contents) (w : Went) : Type 0 where
   pub safe : IsSafeThen area s' c' w
-  pub leads : LeadsFrom at w
+  pub leads : LeadsFrom area at w
   pub behind : IsSameBehind c c'
   pub below : IsSameBelow s s'
   pub stands : (shown : List ℕ) (name : Naming) (b : Branch) → IsNaming area name → ReadsAt area shown name s told at c cells b → StandsThen area shown name s' c' w b

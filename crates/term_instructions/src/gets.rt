@@ -35,7 +35,7 @@ pub fn get_variable<A: Agenda + Drop>(
     ensures safe { IfOk result (IsSafeThen code.now branch.now areas.new) }
     ensures stands { IfOk result (KeepsStanding code.now branch.now at areas.old branch.now
         areas.new) }
-    ensures leads { IfOk result (LeadsOn at) }
+    ensures leads { IfOk result (LeadsOn code.now at) }
     ensures same { OnOk result (IsSameBehind areas.old areas.new) }
 {
     let cell = areas.register(a);
@@ -60,7 +60,7 @@ pub fn get_value<A: Agenda + Drop>(
     ensures safe { IfOk result (IsSafeThen code.now branch.new areas.now) }
     ensures stands { IfOk result (KeepsStanding code.now branch.old at areas.now branch.new
         areas.now) }
-    ensures leads { IfOk result (LeadsOn at) }
+    ensures leads { IfOk result (LeadsOn code.now at) }
     ensures same { OnOk result (IsSameBelow branch.old branch.new) }
 {
     let argument = areas.register(a);
@@ -84,7 +84,7 @@ pub fn get_constant<A: Agenda + Drop>(
     ensures safe { IfOk result (IsSafeThen code.now branch.new areas.now) }
     ensures stands { IfOk result (KeepsStanding code.now branch.old at areas.now branch.new
         areas.now) }
-    ensures leads { IfOk result (LeadsOn at) }
+    ensures leads { IfOk result (LeadsOn code.now at) }
     ensures same { OnOk result (IsSameBelow branch.old branch.new) }
 {
     let argument = areas.register(a);
@@ -107,7 +107,7 @@ pub fn get_integer<A: Agenda + Drop>(
     ensures safe { IfOk result (IsSafeThen code.now branch.new areas.now) }
     ensures stands { IfOk result (KeepsStanding code.now branch.old at areas.now branch.new
         areas.now) }
-    ensures leads { IfOk result (LeadsOn at) }
+    ensures leads { IfOk result (LeadsOn code.now at) }
     ensures same { OnOk result (IsSameBelow branch.old branch.new) }
 {
     let argument = areas.register(a);

@@ -33,7 +33,7 @@ pub fn put_variable<A: Agenda + Drop>(
     ensures safe { IfOk result (IsSafeThen code.now branch.new areas.new) }
     ensures stands { IfOk result (KeepsStanding code.now branch.old at areas.old branch.new
         areas.new) }
-    ensures leads { IfOk result (LeadsOn at) }
+    ensures leads { IfOk result (LeadsOn code.now at) }
     ensures behind { OnOk result (IsSameBehind areas.old areas.new) }
     ensures below { OnOk result (IsSameBelow branch.old branch.new) }
 {
@@ -59,7 +59,7 @@ pub fn put_value<A: Agenda + Drop>(
     ensures safe { IfOk result (IsSafeThen code.now branch.now areas.new) }
     ensures stands { IfOk result (KeepsStanding code.now branch.now at areas.old branch.now
         areas.new) }
-    ensures leads { IfOk result (LeadsOn at) }
+    ensures leads { IfOk result (LeadsOn code.now at) }
     ensures same { OnOk result (IsSameBehind areas.old areas.new) }
 {
     let cell = read(areas, r);
@@ -82,7 +82,7 @@ pub fn put_constant<A: Agenda + Drop>(
     ensures safe { IfOk result (IsSafeThen code.now branch.now areas.new) }
     ensures stands { IfOk result (KeepsStanding code.now branch.now at areas.old branch.now
         areas.new) }
-    ensures leads { IfOk result (LeadsOn at) }
+    ensures leads { IfOk result (LeadsOn code.now at) }
     ensures same { OnOk result (IsSameBehind areas.old areas.new) }
 {
     write(areas, Register::X(a), Cell::Atom(c))?;
@@ -104,7 +104,7 @@ pub fn put_integer<A: Agenda + Drop>(
     ensures safe { IfOk result (IsSafeThen code.now branch.now areas.new) }
     ensures stands { IfOk result (KeepsStanding code.now branch.now at areas.old branch.now
         areas.new) }
-    ensures leads { IfOk result (LeadsOn at) }
+    ensures leads { IfOk result (LeadsOn code.now at) }
     ensures same { OnOk result (IsSameBehind areas.old areas.new) }
 {
     write(areas, Register::X(a), Cell::Int(z))?;

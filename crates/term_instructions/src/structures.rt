@@ -127,7 +127,7 @@ pub fn get_structure<A: Agenda + Drop>(
     ensures safe { IfOk result (IsSafeThen code.now branch.new areas.new) }
     ensures stands { IfOk result (KeepsStanding code.now branch.old at areas.old branch.new
         areas.new) }
-    ensures leads { IfOk result (LeadsOn at) }
+    ensures leads { IfOk result (LeadsOn code.now at) }
     ensures behind { OnOk result (IsSameBehind areas.old areas.new) }
     ensures below { OnOk result (IsSameBelow branch.old branch.new) }
 {
@@ -183,7 +183,7 @@ pub fn put_structure<A: Agenda + Drop>(
     ensures safe { IfOk result (IsSafeThen code.now branch.new areas.new) }
     ensures stands { IfOk result (KeepsStanding code.now branch.old at areas.old branch.new
         areas.new) }
-    ensures leads { IfOk result (LeadsOn at) }
+    ensures leads { IfOk result (LeadsOn code.now at) }
     ensures behind { OnOk result (IsSameBehind areas.old areas.new) }
     ensures below { OnOk result (IsSameBelow branch.old branch.new) }
 {

@@ -8,6 +8,8 @@ use Rattle.code_control.proofs.Threads.{call_safe, moved_to}
 use Rattle.code_states.specs.Work.{work_at, most_work}
 use Rattle.code_control.proofs.Stages.{call_runs}
 use Rattle.code_control.proofs.Working.{called_most}
+use Rattle.code_states.specs.Queries.{KeepsQuery}
+use Rattle.code_control.proofs.Queries.{call_query}
 use Rattle.code_control.proofs.calls.call.Goals as goal
 
 pub behind-requires : goal.behind-requires
@@ -36,3 +38,8 @@ returns-clause-most g c =
 pub returns-clause-same : goal.returns-clause-same
 returns-clause-same g c =
     ap (λ (a : Contents). a.points) (c.keep_registers.ensures ∙ ap (λ (a : Contents). record a { registers = take (c.entry_of-entry.result.arity + 1) a.registers }) c.in_ok-call.ensures.called)
+
+pub returns-clause-query : goal.returns-clause-query
+returns-clause-query g c =
+    moved_to (λ to a. KeepsQuery c.args.code.now c.args.at c.args.areas.now to a) c.entry_of-entry.result.at c.entry_of-entry.result.at (record c.args.areas.now { registers = take (c.entry_of-entry.result.arity + 1) c.args.areas.now.registers; slots = []; returns = record { to = suc c.args.at; slots = c.args.areas.now.slots } ∷ c.args.areas.now.returns }) c.keep_registers.new.self refl (c.keep_registers.ensures ∙ ap (λ (a : Contents). record a { registers = take (c.entry_of-entry.result.arity + 1) a.registers }) (c.in_ok-call.ensures.called ∙ ap (λ k. record c.args.areas.now { slots = []; returns = record { to = k; slots = c.args.areas.now.slots } ∷ c.args.areas.now.returns }) c.behind.ensures))
+    (call_query c.args.code.now c.args.branch.now c.args.at c.args.areas.now c.requires.safe c.args.e c.requires.holds c.entry_of-entry.result.at (take (c.entry_of-entry.result.arity + 1) c.args.areas.now.registers))

@@ -7,6 +7,8 @@ use Rattle.code_control.proofs.Threads.{execute_safe, moved_to}
 use Rattle.code_states.specs.Work.{work_at, most_work}
 use Rattle.code_control.proofs.Stages.{execute_runs}
 use Rattle.code_control.proofs.Working.{executed_most}
+use Rattle.code_states.specs.Queries.{KeepsQuery}
+use Rattle.code_control.proofs.Queries.{execute_query}
 use Rattle.code_control.proofs.calls.execute.Goals as goal
 
 pub entry_of-entry-requires : goal.entry_of-entry-requires
@@ -31,3 +33,8 @@ returns-clause-most g c =
 pub returns-clause-same : goal.returns-clause-same
 returns-clause-same g c =
     record { returns = ap (λ (a : Contents). a.returns) c.keep_registers.ensures; points = ap (λ (a : Contents). a.points) c.keep_registers.ensures }
+
+pub returns-clause-query : goal.returns-clause-query
+returns-clause-query g c =
+    moved_to (λ to a. KeepsQuery c.args.code.now c.args.at c.args.areas.now to a) c.entry_of-entry.result.at c.entry_of-entry.result.at (record c.args.areas.now { registers = take (c.entry_of-entry.result.arity + 1) c.args.areas.now.registers }) c.keep_registers.new.self refl c.keep_registers.ensures
+    (execute_query c.args.code.now c.args.branch.now c.args.at c.args.areas.now c.requires.safe c.args.e c.requires.holds c.entry_of-entry.result.at (take (c.entry_of-entry.result.arity + 1) c.args.areas.now.registers))

@@ -4,6 +4,7 @@ use Rattle.wam_code.specs.declared.instruction.Code.TheVariants as step
 use Rattle.code_control.proofs.Threads.{named_thread, moved_safe}
 use Rattle.code_control.proofs.Working.{named_near, moved_falls}
 use Rattle.code_control.proofs.Stages.{trust_runs}
+use Rattle.code_control.proofs.Queries.{named_query}
 use Rattle.code_control.proofs.choices.trust.Goals as goal
 
 pub returns-clause-safe : goal.returns-clause-safe
@@ -17,3 +18,7 @@ returns-clause-runs g c =
 pub returns-clause-falls : goal.returns-clause-falls
 returns-clause-falls g c =
     moved_falls c.args.code.now c.requires.safe.states c.requires.safe.verified c.args.at c.args.areas.now c.args.to (named_near c.args.code.now c.requires.safe.states c.requires.safe.verified c.args.at c.args.areas.now (step.Trust c.args.to) c.requires.holds c.args.to (first_member c.args.to []))
+
+pub returns-clause-query : goal.returns-clause-query
+returns-clause-query g c =
+    named_query c.args.code.now c.args.branch.now c.args.at c.args.areas.now c.requires.safe (step.Trust c.args.to) c.requires.holds c.args.to (first_member c.args.to [])

@@ -8,9 +8,11 @@ use Rattle.code_states.specs.Choices.{point_of}
 use Rattle.code_states.specs.Stages.{LeavesChoice}
 use Rattle.code_states.specs.Work.{work_at}
 use Rattle.code_states.proofs.Safety.{within_code}
-use Rattle.code_control.proofs.Threads.{next_thread, named_thread, left_safe, left_to}
+use Rattle.code_control.proofs.Threads.{next_thread, named_thread, left_safe, left_to, moved_to}
 use Rattle.code_control.proofs.Working.{named_near, next_near, left_falls}
 use Rattle.code_control.proofs.Stages.{try_me_else_runs}
+use Rattle.code_states.specs.Queries.{KeepsQuery}
+use Rattle.code_control.proofs.Queries.{next_query, named_query}
 use Rattle.code_control.proofs.choices.try_me_else.Goals as goal
 
 pub behind-requires : goal.behind-requires
@@ -39,3 +41,12 @@ returns-clause-falls g c =
 pub returns-clause-point : goal.returns-clause-point
 returns-clause-point g c =
     ap (λ (a : Contents). a.points) c.in_ok-leave_choice.ensures.point
+
+pub returns-clause-query : goal.returns-clause-query
+returns-clause-query g c =
+    moved_to (λ to a. KeepsQuery c.args.code.now c.args.at c.args.areas.now to a) (suc c.args.at) c.behind.result (record c.args.areas.now { points = point_of c.args.areas.now c.args.to ∷ c.args.areas.now.points }) c.leave_choice.new.areas c.behind.ensures c.in_ok-leave_choice.ensures.point
+    (next_query c.args.code.now c.args.branch.now c.args.at c.args.areas.now c.requires.safe (step.TryMeElse c.args.to) c.requires.holds refl)
+
+pub returns-clause-other : goal.returns-clause-other
+returns-clause-other g c =
+    named_query c.args.code.now c.args.branch.now c.args.at c.args.areas.now c.requires.safe (step.TryMeElse c.args.to) c.requires.holds c.args.to (first_member c.args.to [])

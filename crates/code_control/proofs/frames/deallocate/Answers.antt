@@ -8,6 +8,8 @@ use Rattle.code_states.proofs.Safety.{within_code}
 use Rattle.code_control.proofs.Threads.{deallocate_safe, moved_to}
 use Rattle.code_control.proofs.Working.{next_near, moved_falls}
 use Rattle.code_control.proofs.Stages.{deallocate_runs}
+use Rattle.code_states.specs.Queries.{KeepsQuery}
+use Rattle.code_control.proofs.Queries.{next_query}
 use Rattle.code_control.proofs.frames.deallocate.Goals as goal
 
 pub behind-requires : goal.behind-requires
@@ -32,3 +34,8 @@ returns-clause-falls g c =
 pub returns-clause-same : goal.returns-clause-same
 returns-clause-same g c =
     record { returns = ap (λ (a : Contents). a.returns) c.deallocate.ensures; points = ap (λ (a : Contents). a.points) c.deallocate.ensures }
+
+pub returns-clause-query : goal.returns-clause-query
+returns-clause-query g c =
+    moved_to (λ to a. KeepsQuery c.args.code.now c.args.at c.args.areas.now to a) (suc c.args.at) c.behind.result (record c.args.areas.now { slots = [] }) c.deallocate.new.self c.behind.ensures c.deallocate.ensures
+    (next_query c.args.code.now c.args.branch.now c.args.at c.args.areas.now c.requires.safe step.Deallocate c.requires.holds refl)

@@ -28,3 +28,7 @@ returns-clause-runs g c =
 pub returns-clause-falls : goal.returns-clause-falls
 returns-clause-falls g c =
     (constant_switched c.args.code.now c.args.branch.now c.args.at c.args.areas.now c.requires.safe c.register.result c.register.ensures c.deref.result (subst (λ (hs : Heaps). IsSeen hs.now c.register.result c.deref.result) c.heap.ensures c.deref.ensures.seen) (subst (λ (hs : Heaps). IsHeap hs.now) c.heap.ensures c.deref.ensures.valid) c.args.table c.requires.holds c.find_row.result c.find_row.ensures).2
+
+pub returns-clause-query : goal.returns-clause-query
+returns-clause-query g c =
+    (constant_switched c.args.code.now c.args.branch.now c.args.at c.args.areas.now c.requires.safe c.register.result c.register.ensures c.deref.result (subst (λ (hs : Heaps). IsSeen hs.now c.register.result c.deref.result) c.heap.ensures c.deref.ensures.seen) (subst (λ (hs : Heaps). IsHeap hs.now) c.heap.ensures c.deref.ensures.valid) c.args.table c.requires.holds c.find_row.result c.find_row.ensures).3

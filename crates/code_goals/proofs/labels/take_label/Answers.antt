@@ -75,3 +75,6 @@ pub returns-in_ok-tried-in-Takes-clause-most : goal.returns-in_ok-tried-in-Takes
 returns-in_ok-tried-in-Takes-clause-most g c =
     tried_most c.args.code.now c.args.branch.now c.args.at c.args.areas.now (record { variable = c.in-Takes.variable; values = c.in_ok-values-in-Takes.values; from = 0 }) c.in_ok-values-in-Takes.values c.in_ok-values-in-Takes.ensures.rising refl
     c.try_value.new.branch c.try_value.new.areas c.in_ok-tried-in-Takes.tried c.in_ok-tried-in-Takes.ensures
+
+pub returns-in_ok-tried-in-Takes-clause-leads : goal.returns-in_ok-tried-in-Takes-clause-leads
+returns-in_ok-tried-in-Takes-clause-leads g c = c.in_ok-tried-in-Takes.ensures.leads

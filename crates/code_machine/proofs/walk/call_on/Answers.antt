@@ -13,7 +13,7 @@ returns g c =
     let m = c.requires.machine in
     let spends = c.in_ok-to.ensures ls m.ready.1 in
     record {
-      machine = spends_machine c.args.code.now r.query c.args.branch.now r.areas ls (Going c.args.at) r.budget r.limit r.spent m c.args.at refl n.branch n.areas (Going to) c.if-run-eq0.false ls (On to) spends refl;
+      machine = spends_machine c.args.code.now r.query c.args.branch.now r.areas ls (Going c.args.at) r.budget r.limit r.spent m c.args.at refl n.branch n.areas (Going to) c.if-run-eq0.false ls (On to) spends tt refl;
       same = refl;
-      walks = spends_step c.args.code.now r.query c.args.branch.now r.areas ls (Going c.args.at) r.budget r.limit r.spent m c.args.at refl n.branch n.areas (Going to) c.if-run-eq0.false ls (On to) spends refl None refl;
+      walks = spends_step c.args.code.now r.query c.args.branch.now r.areas ls (Going c.args.at) r.budget r.limit r.spent m c.args.at refl n.branch n.areas (Going to) c.if-run-eq0.false ls (On to) spends tt refl None refl;
     }

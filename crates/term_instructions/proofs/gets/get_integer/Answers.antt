@@ -1,4 +1,4 @@
-use Rattle.std.proofs.Common.{FitsSigned, subst, sym, rules, w64}
+use Rattle.std.proofs.Common.{FitsSigned, subst, sym, rules, w64, refl}
 use Rattle.std.proofs.lemmas.Int.{to_z-of_z}
 use Rattle.code_states.specs.Equating.{Equates}
 use Rattle.wam_code.specs.declared.instruction.Code.TheVariants.{GetInteger}
@@ -42,4 +42,6 @@ returns-clause-stands g c =
     (get_integer_stands c.args.code.now c.args.branch.now c.args.at c.args.areas.now c.requires.safe c.args.z c.args.a c.requires.holds c.register-argument.result c.register-argument.ensures c.equate.new.branch c.in_ok-equal.equal equates)
 
 pub returns-clause-leads : goal.returns-clause-leads
-returns-clause-leads g c = subst (λ (w : Went). LeadsOn c.args.at w) (sym c.next_if.ensures) (led_by c.args.at c.in_ok-equal.equal)
+returns-clause-leads g c =
+    subst (λ (w : Went). LeadsOn c.args.code.now c.args.at w) (sym c.next_if.ensures)
+    (led_by c.args.code.now c.args.branch.now c.args.at c.args.areas.now c.requires.safe (GetInteger c.args.z c.args.a) c.requires.holds refl c.in_ok-equal.equal)

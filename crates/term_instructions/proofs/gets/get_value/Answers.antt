@@ -1,4 +1,4 @@
-use Rattle.std.proofs.Common.{subst, sym}
+use Rattle.std.proofs.Common.{subst, sym, refl}
 use Rattle.wam_code.specs.declared.instruction.Code.TheVariants.{GetValue}
 use Rattle.code_states.specs.Safety.{IsSafeThen}
 use Rattle.code_states.specs.Standing.{KeepsStanding}
@@ -38,4 +38,6 @@ returns-clause-stands g c =
     (get_value_stands c.args.code.now c.args.branch.now c.args.at c.args.areas.now c.args.r c.args.a c.requires.holds c.register-argument.result c.read-held.result c.register-argument.ensures c.read-held.ensures c.equate.new.branch c.in_ok-equal.equal c.in_ok-equal.ensures.equates)
 
 pub returns-clause-leads : goal.returns-clause-leads
-returns-clause-leads g c = subst (λ (w : Went). LeadsOn c.args.at w) (sym c.next_if.ensures) (led_by c.args.at c.in_ok-equal.equal)
+returns-clause-leads g c =
+    subst (λ (w : Went). LeadsOn c.args.code.now c.args.at w) (sym c.next_if.ensures)
+    (led_by c.args.code.now c.args.branch.now c.args.at c.args.areas.now c.requires.safe (GetValue c.args.r c.args.a) c.requires.holds refl c.in_ok-equal.equal)

@@ -1,10 +1,10 @@
 use Rattle.code_states.specs.Safety.{IsSafeThen}
 use Rattle.code_states.specs.Standing.{KeepsStanding}
 use Rattle.code_states.specs.declared.went.Went.TheVariants.{On}
-use Rattle.std.proofs.Common.{subst, sym}
+use Rattle.std.proofs.Common.{subst, sym, refl}
 use Rattle.wam_code.specs.declared.instruction.Code.TheVariants.{GetVariable}
 use Rattle.code_states.proofs.Safety.{within_code}
-use Rattle.term_instructions.proofs.Steps.{get_variable_needs, get_variable_safe}
+use Rattle.term_instructions.proofs.Steps.{led_on, get_variable_needs, get_variable_safe}
 use Rattle.code_states.proofs.Standing.{get_variable_stands}
 use Rattle.term_instructions.proofs.gets.get_variable.Goals as goal
 
@@ -28,3 +28,6 @@ returns-clause-stands g c =
     let w = c.in_ok-write.ensures in
     subst (λ to. KeepsStanding c.args.code.now c.args.branch.now c.args.at c.args.areas.now c.args.branch.now c.write.new.areas (On to)) (sym c.behind.ensures)
     (get_variable_stands c.args.code.now c.args.branch.now c.args.at c.args.areas.now c.args.r c.args.a c.requires.holds c.write.new.areas c.register-cell.result c.register-cell.ensures w.written w.same)
+
+pub returns-clause-leads : goal.returns-clause-leads
+returns-clause-leads g c = led_on c.args.code.now c.args.branch.now c.args.at c.args.areas.now c.requires.safe (GetVariable c.args.r c.args.a) c.requires.holds refl c.behind.result c.behind.ensures

@@ -1,4 +1,4 @@
-use Rattle.std.proofs.Common.{FitsSigned, subst, sym, rules, w64}
+use Rattle.std.proofs.Common.{FitsSigned, subst, sym, rules, w64, refl}
 use Rattle.std.proofs.lemmas.Int.{to_z-of_z}
 use Rattle.heap_cells.specs.declared.Cell.TheVariants as cell
 use Rattle.wam_code.specs.declared.instruction.Register.TheVariants.{X}
@@ -9,7 +9,7 @@ use Rattle.code_states.specs.Safety.{IsSafeThen}
 use Rattle.code_states.specs.Standing.{KeepsStanding}
 use Rattle.code_states.specs.declared.went.Went.TheVariants.{On}
 use Rattle.code_states.proofs.Safety.{within_code}
-use Rattle.term_instructions.proofs.Steps.{put_integer_safe}
+use Rattle.term_instructions.proofs.Steps.{led_on, put_integer_safe}
 use Rattle.code_states.proofs.Standing.{put_integer_stands}
 use Rattle.term_instructions.proofs.puts.put_integer.Goals as goal
 
@@ -31,3 +31,6 @@ returns-clause-stands g c =
     let put = subst (λ z. IsWritten (registers_of c.args.areas.now) (X c.args.a) (cell.Int z) (registers_of c.write.new.areas)) (to_z-of_z w64 c.args.z fits) w.written in
     subst (λ to. KeepsStanding c.args.code.now c.args.branch.now c.args.at c.args.areas.now c.args.branch.now c.write.new.areas (On to)) (sym c.behind.ensures)
     (put_integer_stands c.args.code.now c.args.branch.now c.args.at c.args.areas.now c.requires.safe c.args.z c.args.a c.requires.holds c.write.new.areas put w.same)
+
+pub returns-clause-leads : goal.returns-clause-leads
+returns-clause-leads g c = led_on c.args.code.now c.args.branch.now c.args.at c.args.areas.now c.requires.safe (PutInteger c.args.z c.args.a) c.requires.holds refl c.behind.result c.behind.ensures

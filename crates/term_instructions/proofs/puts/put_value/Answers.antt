@@ -1,10 +1,10 @@
-use Rattle.std.proofs.Common.{subst, sym}
+use Rattle.std.proofs.Common.{subst, sym, refl}
 use Rattle.wam_code.specs.declared.instruction.Code.TheVariants.{PutValue}
 use Rattle.code_states.specs.Safety.{IsSafeThen}
 use Rattle.code_states.specs.Standing.{KeepsStanding}
 use Rattle.code_states.specs.declared.went.Went.TheVariants.{On}
 use Rattle.code_states.proofs.Safety.{within_code}
-use Rattle.term_instructions.proofs.Steps.{put_value_needs, put_value_safe}
+use Rattle.term_instructions.proofs.Steps.{led_on, put_value_needs, put_value_safe}
 use Rattle.code_states.proofs.Standing.{put_value_stands}
 use Rattle.term_instructions.proofs.puts.put_value.Goals as goal
 
@@ -25,3 +25,6 @@ returns-clause-stands g c =
     let w = c.in_ok-write.ensures in
     subst (λ to. KeepsStanding c.args.code.now c.args.branch.now c.args.at c.args.areas.now c.args.branch.now c.write.new.areas (On to)) (sym c.behind.ensures)
     (put_value_stands c.args.code.now c.args.branch.now c.args.at c.args.areas.now c.args.r c.args.a c.requires.holds c.write.new.areas c.read-cell.result c.read-cell.ensures w.written w.same)
+
+pub returns-clause-leads : goal.returns-clause-leads
+returns-clause-leads g c = led_on c.args.code.now c.args.branch.now c.args.at c.args.areas.now c.requires.safe (PutValue c.args.r c.args.a) c.requires.holds refl c.behind.result c.behind.ensures

@@ -1,4 +1,4 @@
-use Rattle.std.proofs.Common.{ap, subst, sym, ◌∙◌}
+use Rattle.std.proofs.Common.{ap, subst, sym, ◌∙◌, refl}
 use Rattle.branch_state.specs.States as branch
 use Rattle.branch_state.specs.States.{with_heap}
 use Rattle.wam_code.specs.declared.instruction.Code.TheVariants.{PutVariable}
@@ -6,7 +6,7 @@ use Rattle.code_states.specs.Safety.{IsSafeThen}
 use Rattle.code_states.specs.Standing.{KeepsStanding}
 use Rattle.code_states.specs.declared.went.Went.TheVariants.{On}
 use Rattle.code_states.proofs.Safety.{within_code}
-use Rattle.term_instructions.proofs.Steps.{behind_both, below_heap, put_variable_needs, put_variable_safe}
+use Rattle.term_instructions.proofs.Steps.{led_on, behind_both, below_heap, put_variable_needs, put_variable_safe}
 use Rattle.code_states.proofs.Standing.{put_variable_stands}
 use Rattle.term_instructions.proofs.puts.put_variable.Goals as goal
 
@@ -42,3 +42,6 @@ pub returns-clause-below : goal.returns-clause-below
 returns-clause-below g c =
     let e = c.in_ok-cell.ensures.added in
     below_heap c.args.branch.now c.new_var.new.self (e ∙ ap (with_heap c.args.branch.now) (sym (ap (λ (t : branch.State). t.heaps.now) e)))
+
+pub returns-clause-leads : goal.returns-clause-leads
+returns-clause-leads g c = led_on c.args.code.now c.args.branch.now c.args.at c.args.areas.now c.requires.safe (PutVariable c.args.r c.args.a) c.requires.holds refl c.behind.result c.behind.ensures

@@ -1,9 +1,11 @@
-use Rattle.std.proofs.Common.{◌≡◌, ◌-◌, ◌<◌, length, sym, ap, subst, arith}
+use Rattle.std.proofs.Common.{◌≡◌, ◌-◌, ◌<◌, length, sym, ap, subst, arith, refl}
 use Rattle.wam_code.specs.declared.instruction.Code.TheVariants.{PutStructure}
 use Rattle.code_states.specs.Safety.{IsSafe}
 use Rattle.code_states.proofs.Safety.{within_code}
 use Rattle.term_instructions.proofs.Structure.{put_name, put_started, put_safe, put_stands}
+use Rattle.code_states.specs.declared.went.Went.TheVariants.{On}
 use Rattle.term_instructions.specs.Building.{IsGatheredTo}
+use Rattle.term_instructions.proofs.Steps.{led_from}
 use Rattle.term_instructions.proofs.structures.put_structure.Goals as goal
 
 pub behind-from-requires : goal.behind-from-requires
@@ -47,6 +49,4 @@ returns-clause-stands g c =
 
 pub returns-clause-leads : goal.returns-clause-leads
 returns-clause-leads g c =
-    let from_is = c.behind-from.ensures in
-    let later = c.in_ok-next.ensures.gathered.leads in
-    omega (arith, from_is, later)
+    led_from c.args.code.now c.args.branch.now c.args.at c.args.areas.now c.requires.safe (PutStructure c.args.functor.0 c.args.functor.1 c.args.a) c.requires.holds refl c.behind-from.result c.behind-from.ensures (On c.in_ok-next.next) c.in_ok-next.ensures.gathered.leads

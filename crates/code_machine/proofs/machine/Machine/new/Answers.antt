@@ -1,9 +1,7 @@
-use Rattle.std.proofs.Common.{◌<◌, ◌∷◌, ℕ, List, [], false, length, subst, sym}
-use Rattle.fd_language.specs.declared.TheConstants.{INFINITY}
-use Rattle.fd_model.specs.Goal.{Program, Query, Event, start_of}
-use Rattle.fd_model.specs.Run.{Run}
+use Rattle.std.proofs.Common.{◌<◌, false, length, subst, sym}
 use Rattle.wam_code.specs.Area.{Area}
-use Rattle.code_machine.specs.States.{state_of, IsMachine, MayRun, StandsFor}
+use Rattle.code_machine.specs.States.{state_within, IsWithin}
+use Rattle.code_machine.proofs.Running.{whole_machine, whole_stands}
 use Rattle.code_machine.proofs.machine.Machine.new.Goals as goal
 
 pub start-requires-clause-query : goal.start-requires-clause-query
@@ -12,9 +10,12 @@ start-requires-clause-query g c = subst (λ (a : Area). c.args.query < length a.
 pub invariant_of-result : goal.invariant_of-result
 invariant_of-result g c =
     let w = c.in_ok-branch in
-    λ h. subst (λ (a : Area). IsMachine (state_of a w.branch w.run' false)) c.deref.ensures w.ensures.machine
+    λ h. (
+      whole_machine c.deref.result.now c.args.code.value c.deref.ensures w.branch w.run' false c.args.limits 0 w.ensures.machine,
+      subst (λ (a : Area). IsWithin (state_within a w.branch w.run' false c.args.limits 0)) c.deref.ensures w.ensures.within,
+    )
 
 pub returns-clause-stands : goal.returns-clause-stands
 returns-clause-stands g c =
     let w = c.in_ok-branch in
-    subst (λ (a : Area). (prog : Program) (q : Query) → MayRun a c.args.query prog q → (es : List Event) (r : ℕ) → Run INFINITY prog q c.args.limits.steps c.args.limits.answers (start_of q ∷ []) es r → StandsFor (state_of a w.branch w.run' false) es r) c.deref.ensures w.ensures.stands
+    λ prog q may es r run. whole_stands c.deref.result.now c.args.code.value c.deref.ensures w.branch w.run' false c.args.limits 0 es r (w.ensures.stands prog q (subst (λ (a : Area). Rattle.code_machine.specs.States.MayRun a c.args.query prog q) (sym c.deref.ensures) may) es r run)
