@@ -307,18 +307,19 @@ pub enum Reach {
     Between(i64, i64),
     /// All numbers but one.
     Except(i64),
-    /// Another set, or one of these.
+    /// Any set: numbers don't tell it.
     Other,
 }
 
-/// The same where each variable that is read by val has a single member.
+/// The set of the range, as far as numbers tell it, where each variable that is read by val has a single member.
 #[inline(always)]
 fn settled_reach<V: View>(code: &RangeCode, args: &[Arg], view: &V) -> Reach
     requires frame { IsFrame (length (V.sets view.now)) code.now args.now }
     requires some { (k : ℕ) → is_none_left (family_of (V.sets view.now) k) ≡ false }
     requires settled { list_any (λ s. is_several (slot_set (V.sets view.now) args.now s))
         (val_slots code.now) ≡ false }
-    ensures { IsReach (set_of INFINITY (family_of (V.sets view.now)) (posted code.now args.now)) result }
+    ensures { IsReach
+        (set_of INFINITY (family_of (V.sets view.now)) (posted code.now args.now)) result }
 {
     match code.form() {
         Form::Between(low, high) => {
@@ -341,7 +342,8 @@ fn settled_reach<V: View>(code: &RangeCode, args: &[Arg], view: &V) -> Reach
 pub fn find_reach<V: View>(code: &RangeCode, args: &[Arg], view: &V) -> Reach
     requires frame { IsFrame (length (V.sets view.now)) code.now args.now }
     requires some { (k : ℕ) → is_none_left (family_of (V.sets view.now) k) ≡ false }
-    ensures { IsReach (set_of INFINITY (family_of (V.sets view.now)) (posted code.now args.now)) result }
+    ensures { IsReach
+        (set_of INFINITY (family_of (V.sets view.now)) (posted code.now args.now)) result }
 {
     if is_some_open(code.vals(), args, view) {
         return Reach::All;
