@@ -291,9 +291,10 @@ fn near_value(heap: &Heap, pool: &Pool, c: Cell) -> Option<i64>
     };
     let a = constant(heap, left)?;
     let b = constant(heap, right)?;
-    match pool.name_of(f).as_bytes() {
+    let name = pool.name_of(f);
+    match name.as_bytes() {
         &[sign] => value_by_sign(sign, a, b),
-        _ => None,
+        _ => apply(operation_named(name)?, a, b).ok(),
     }
 }
 

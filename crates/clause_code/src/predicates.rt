@@ -100,7 +100,8 @@ fn functor_of(pool: &Pool, t: TermId) -> Option<Functor>
 /// Puts the functor of the term behind the others, unless it is there.
 fn add(functors: &mut IndexSet<Functor>, pool: &Pool, t: TermId) -> Result<(), NoMemory>
     requires { t.number < length pool.now.entries }
-    ensures { OnOk result (Gathers pool.now (term_of pool.now t) functors.old.keys functors.new.keys) }
+    ensures { OnOk result (Gathers pool.now (term_of pool.now t) functors.old.keys
+        functors.new.keys) }
 {
     let functor = functor_of(pool, t).ok_or(NoMemory)?;
     functors.insert_full(functor)?;

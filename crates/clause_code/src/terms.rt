@@ -169,7 +169,8 @@ fn unify_parts(
     requires suits { AllSuit pool.now (length homes.now) (terms_by (term_of pool.now) ids.now) }
     requires made { length made.old.items ≡ length homes.now }
     ensures { OnOk result (Writes homes.now code.old.items made.old.items
-        (parts pool.now first (terms_by (term_of pool.now) ids.now)) code.new.items made.new.items) }
+        (parts pool.now first (terms_by (term_of pool.now) ids.now)) code.new.items
+        made.new.items) }
 {
     let mut register = first;
     for id in ids {
@@ -436,7 +437,8 @@ pub(crate) fn put_all(
     requires made { length made.old.items ≡ length homes.now }
     requires works { works.old.items ≡ [] }
     ensures writes { OnOk result (Writes homes.now code.old.items made.old.items
-        (puts pool.now 1 free (terms_by (term_of pool.now) ids.now)) code.new.items made.new.items) }
+        (puts pool.now 1 free (terms_by (term_of pool.now) ids.now)) code.new.items
+        made.new.items) }
     ensures done { OnOk result (works.new.items ≡ []) }
 {
     let mut register = 1;
@@ -463,7 +465,8 @@ pub(crate) fn get_all(
     requires made { length made.old.items ≡ length homes.now }
     requires works { works.old.items ≡ [] }
     ensures writes { OnOk result (Writes homes.now code.old.items made.old.items
-        (gets pool.now 1 free (terms_by (term_of pool.now) ids.now)) code.new.items made.new.items) }
+        (gets pool.now 1 free (terms_by (term_of pool.now) ids.now)) code.new.items
+        made.new.items) }
     ensures done { OnOk result (works.new.items ≡ []) }
 {
     let mut register = 1;

@@ -44,7 +44,8 @@ pub fn try_me_else<A: Agenda + Drop>(
     requires safe { IsSafe code.now branch.old at 0 areas.old }
     requires holds { Holds code.now at (step.TryMeElse to) }
     ensures safe { IfOk result (λ next. IsSafe code.now branch.new next 0 areas.new) }
-    ensures runs { IfOk result (λ next. LeavesChoice code.now branch.old at areas.old branch.new next
+    ensures runs { IfOk result (λ next. LeavesChoice code.now branch.old at areas.old branch.new
+        next
         areas.new to) }
     ensures falls { IfOk result (λ next. work_at code.now next areas.new
         < work_at code.now at areas.old) }
@@ -70,7 +71,8 @@ pub fn retry_me_else<A: Agenda + Drop>(
     requires safe { IsSafe code.now branch.old at 0 areas.old }
     requires holds { Holds code.now at (step.RetryMeElse to) }
     ensures safe { IfOk result (λ next. IsSafe code.now branch.new next 0 areas.new) }
-    ensures runs { IfOk result (λ next. LeavesChoice code.now branch.old at areas.old branch.new next
+    ensures runs { IfOk result (λ next. LeavesChoice code.now branch.old at areas.old branch.new
+        next
         areas.new to) }
     ensures falls { IfOk result (λ next. work_at code.now next areas.new
         < work_at code.now at areas.old) }
@@ -96,7 +98,8 @@ pub fn try_<A: Agenda + Drop>(
     requires safe { IsSafe code.now branch.old at 0 areas.old }
     requires holds { Holds code.now at (step.Try to) }
     ensures safe { IfOk result (λ next. IsSafe code.now branch.new next 0 areas.new) }
-    ensures runs { IfOk result (λ next. LeavesChoice code.now branch.old at areas.old branch.new next
+    ensures runs { IfOk result (λ next. LeavesChoice code.now branch.old at areas.old branch.new
+        next
         areas.new (suc at)) }
     ensures falls { IfOk result (λ next. work_at code.now next areas.new
         < work_at code.now at areas.old) }
@@ -122,7 +125,8 @@ pub fn retry<A: Agenda + Drop>(
     requires safe { IsSafe code.now branch.old at 0 areas.old }
     requires holds { Holds code.now at (step.Retry to) }
     ensures safe { IfOk result (λ next. IsSafe code.now branch.new next 0 areas.new) }
-    ensures runs { IfOk result (λ next. LeavesChoice code.now branch.old at areas.old branch.new next
+    ensures runs { IfOk result (λ next. LeavesChoice code.now branch.old at areas.old branch.new
+        next
         areas.new (suc at)) }
     ensures falls { IfOk result (λ next. work_at code.now next areas.new
         < work_at code.now at areas.old) }

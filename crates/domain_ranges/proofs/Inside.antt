@@ -82,18 +82,6 @@ module _ (M : ℕ) (a b : List Span) (i j : ℕ) (r : IsSpans 0 M a) (q : IsSpan
 pub all_compared : (a b : List Span) (i j : ℕ) → length a ≤ i → Comparing a b (drop i a) (drop j b) → AllIn a b
 all_compared a b i j h c = c.inside (λ n g. absurd (true≢false (sym g ∙ ap (λ l. within l n) (drop_of_length-le a h))))
 
--- the ends against bounds
-pub ends_within : (M : ℕ) (ss : List Span) (s : Span) → IsSpans 0 M ss → 1 ≤ length ss → s.0 ≤ (get_or ss 0 (0, 0)).0 → (get_or ss (length ss - 1) (0, 0)).1 ≤ s.1 → AllIn ss (s ∷ [])
-ends_within M ss s r h e f n g =
-    let l = least_first M ss ss r refl h in let k = greatest_end M ss ss r refl h in
-    in_head s [] n (omega (arith, l.least n g)) (omega (arith, k.greatest n g))
-
-pub below_bounds : (M : ℕ) (ss : List Span) (s : Span) → IsSpans 0 M ss → 1 ≤ length ss → (get_or ss 0 (0, 0)).0 < s.0 → SomeOut ss (s ∷ [])
-below_bounds M ss s r h e = ((get_or ss 0 (0, 0)).0, (least_first M ss ss r refl h).there, out_low s _ e)
-
-pub above_bounds : (M : ℕ) (ss : List Span) (s : Span) → IsSpans 0 M ss → 1 ≤ length ss → s.1 < (get_or ss (length ss - 1) (0, 0)).1 → SomeOut ss (s ∷ [])
-above_bounds M ss s r h e = ((get_or ss (length ss - 1) (0, 0)).1, (greatest_end M ss ss r refl h).there, out_high s _ e)
-
 -- a set that loses a member is shorter
 pub loses : (xs ys : List ℕ) (n : ℕ) → has xs n ≡ true → has ys n ≡ false → length (filter (has ys) xs) < length xs
 loses xs ys n h g = elim (shorter_or_same (has ys) xs) [

@@ -28,9 +28,14 @@ impl Model for SetStack {
 
     ghost Value = { Waiting };
 
-    ghost view = { λ s. record { sets = stacked (reverse s.starts.items) s.spans.items; room = vec_capacity s.starts } };
+    ghost view = { λ s. record {
+      sets = stacked (reverse s.starts.items) s.spans.items;
+      room =
+          vec_capacity s.starts;
+    } };
 
-    ghost invariant = { λ s. AreStarts (reverse s.starts.items) (length s.spans.items) × AreIntervals s.spans.items };
+    ghost invariant = { λ s. AreStarts (reverse s.starts.items) (length s.spans.items)
+        × AreIntervals s.spans.items };
 }
 
 impl SetStack {
@@ -118,7 +123,8 @@ impl SetStack {
 
     /// Takes the set on top away, if there is one.
     pub fn pop(&mut self) -> Result<Option<Domain>, NoMemory>
-        ensures popped { IfOk result (λ o. MatchOption o (self.old.sets ≡ []) (λ d. self.old.sets ≡ d ∷ self.new.sets)) }
+        ensures popped { IfOk result (λ o. MatchOption o (self.old.sets ≡ []) (λ d. self.old.sets
+            ≡ d ∷ self.new.sets)) }
         ensures left { IfOk result (λ o. IfSome o (λ _. length self.new.sets < self.new.room)) }
         ensures fewer { OnOk result (length self.new.sets ≤ length self.old.sets - 1) }
         ensures unchanged { OnErr result (self.new.sets ≡ self.old.sets) }

@@ -120,7 +120,8 @@ impl Agents {
         requires some { (k : ℕ) → is_none_left (family_of (V.sets view.now) k) ≡ false }
         requires family { IsFamily TOP (family_of (V.sets view.now)) }
         ensures narrowed { IfOk result (IsNarrowed target.now
-            (set_of TOP (family_of (V.sets view.now)) (ranged (posting_at self.old number)).range)) }
+            (set_of TOP (family_of (V.sets view.now))
+            (ranged (posting_at self.old number)).range)) }
         ensures unchanged { self.new ≡ self.old }
         ensures count { n.new.count ≡ min (n.old.count + 1) (2 ^ 64 - 1) }
     {

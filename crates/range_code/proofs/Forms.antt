@@ -262,10 +262,6 @@ has_limit M xs n r h = within 0 M xs n r h where
     | inr e ↦ within (suc x) M xs n r.2 (ap (λ b. b || has xs n) (sym e) ∙ h)
   ]
 
-pub none_end : (s : List ℕ) (end : End) → s ≡ [] → 0 ≡ end_of s end
-none_end s Least e = sym (ap least e)
-none_end s Greatest e = sym (ap greatest e)
-
 -- a bound from the first leaf on
 pub bound_first : (n : RangeNode) (rest : List RangeNode) (l : Leaf) (empty b : Bound) → IsLeaf n l → ((S : Family) → total_of S empty ≡ pos 0) → empty.products.items ≡ [] → empty.division ≡ Whole → IsAdded empty (record { weight = pos 1; leaf = l }) b → IsBound (n ∷ rest) b rest
 bound_first n rest l empty b f z p d a = record {

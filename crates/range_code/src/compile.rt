@@ -60,7 +60,8 @@ impl Numbered {
 
     /// Gives the variable a slot, if it has none.
     fn add(&mut self, variable: u64) -> Result<(), NoMemory>
-        ensures { OnOk result ((xs : List ℕ) → IsNumbered xs self.old → IsNumbered (xs ++ variable ∷ []) self.new) }
+        ensures { OnOk result ((xs : List ℕ) → IsNumbered xs self.old → IsNumbered
+            (xs ++ variable ∷ []) self.new) }
     {
         if self.numbers.insert(variable)? {
             self.slots.push(variable)?;
@@ -70,7 +71,8 @@ impl Numbered {
 
     /// Gives the node's variable a slot.
     fn add_node(&mut self, node: RangeNode) -> Result<(), NoMemory>
-        ensures { OnOk result ((xs : List ℕ) → IsNumbered xs self.old → IsNumbered (xs ++ listed (node_variable node)) self.new) }
+        ensures { OnOk result ((xs : List ℕ) → IsNumbered xs self.old → IsNumbered
+            (xs ++ listed (node_variable node)) self.new) }
     {
         match variable_of(node) {
             Some(variable) => self.add(variable),
@@ -119,7 +121,9 @@ pub(crate) fn name_slots(
     nodes: &[RangeNode],
     numbers: &IndexSet<u64>,
 ) -> Result<Vec<RangeNode>, NoMemory>
-    ensures { IfOk result (λ v. v.items ≡ map (rename_node (λ y. position_or_len (nat_eq y) numbers.now.keys)) nodes.now) }
+    ensures { IfOk result
+        (λ v. v.items ≡ map (rename_node (λ y. position_or_len (nat_eq y) numbers.now.keys))
+        nodes.now) }
 {
     let mut named = Vec::with_capacity(alloc, nodes.len())?;
     for node in nodes {
@@ -168,7 +172,8 @@ fn meet(
     feature: Feature,
     wanted: Feature,
 ) -> Result<(), NoMemory>
-    ensures { OnOk result ((z : ℕ) → list_any (nat_eq z) met.new.keys ≡ (is_same_pair (z, wanted) (slot, feature) || list_any (nat_eq z) met.old.keys)) }
+    ensures { OnOk result ((z : ℕ) → list_any (nat_eq z) met.new.keys
+        ≡ (is_same_pair (z, wanted) (slot, feature) || list_any (nat_eq z) met.old.keys)) }
 {
     if is_same(wanted, feature) {
         met.insert(slot)?;
@@ -182,7 +187,8 @@ fn slots_with(
     features: &[(usize, Feature)],
     wanted: Feature,
 ) -> Result<HashSet<usize>, NoMemory>
-    ensures { IfOk result (λ s. (z : ℕ) → list_any (nat_eq z) s.keys ≡ has_pair features.now (z, wanted)) }
+    ensures { IfOk result (λ s. (z : ℕ) → list_any (nat_eq z) s.keys ≡ has_pair features.now
+        (z, wanted)) }
 {
     let mut met = HashSet::new(alloc);
     for (slot, feature) in features {
@@ -213,7 +219,8 @@ fn told_as(
     slot: usize,
     feature: Feature,
 ) -> Option<(usize, ReadKind)>
-    ensures { result ≡ told_by (λ s. list_any (nat_eq s) min.now.keys) (λ s. list_any (nat_eq s) max.now.keys) (slot, feature) }
+    ensures { result ≡ told_by (λ s. list_any (nat_eq s) min.now.keys)
+        (λ s. list_any (nat_eq s) max.now.keys) (slot, feature) }
 {
     match feature {
         Feature::Min => {
@@ -242,7 +249,8 @@ fn kinds_of(
     max: &HashSet<usize>,
     features: &[(usize, Feature)],
 ) -> Result<Vec<(usize, ReadKind)>, NoMemory>
-    ensures { IfOk result (λ v. v.items ≡ all_told (λ s. list_any (nat_eq s) min.now.keys) (λ s. list_any (nat_eq s) max.now.keys) features.now) }
+    ensures { IfOk result (λ v. v.items ≡ all_told (λ s. list_any (nat_eq s) min.now.keys)
+        (λ s. list_any (nat_eq s) max.now.keys) features.now) }
 {
     let mut kinds = Vec::new(alloc);
     for (slot, feature) in features {
@@ -255,7 +263,8 @@ fn kinds_of(
 
 /// The slots below the number that are read by val.
 fn vals_of(alloc: Global, val: &HashSet<usize>, count: usize) -> Result<Vec<usize>, NoMemory>
-    ensures { IfOk result (λ v. v.items ≡ filter (λ s. list_any (nat_eq s) val.now.keys) (count_up 0 count)) }
+    ensures { IfOk result (λ v. v.items ≡ filter (λ s. list_any (nat_eq s) val.now.keys)
+        (count_up 0 count)) }
 {
     let mut vals = Vec::new(alloc);
     for slot in 0..count {
@@ -271,7 +280,8 @@ pub(crate) fn read_kinds(
     alloc: Global,
     features: &[(usize, Feature)],
 ) -> Result<Vec<(usize, ReadKind)>, NoMemory>
-    ensures { IfOk result (λ v. v.items ≡ all_told (λ s. has_pair features.now (s, Told.Min)) (λ s. has_pair features.now (s, Told.Max)) features.now) }
+    ensures { IfOk result (λ v. v.items ≡ all_told (λ s. has_pair features.now (s, Told.Min))
+        (λ s. has_pair features.now (s, Told.Max)) features.now) }
 {
     let min = slots_with(alloc, features, Feature::Min)?;
     let max = slots_with(alloc, features, Feature::Max)?;
@@ -284,7 +294,8 @@ pub(crate) fn read_vals(
     features: &[(usize, Feature)],
     count: usize,
 ) -> Result<Vec<usize>, NoMemory>
-    ensures { IfOk result (λ v. v.items ≡ filter (λ s. has_pair features.now (s, Told.Val)) (count_up 0 count)) }
+    ensures { IfOk result (λ v. v.items ≡ filter (λ s. has_pair features.now (s, Told.Val))
+        (count_up 0 count)) }
 {
     let val = slots_with(alloc, features, Feature::Val)?;
     vals_of(alloc, &val, count)

@@ -259,10 +259,13 @@ pub(crate) fn evaluate_narrowing<V: View>(
     requires placed { ArePlaced steps.now }
     requires form { IsForm (spelled (all_steps steps.now)) form.now }
     requires readable { All (IsReadable (length (V.sets view.now)) args.now) (all_steps steps.now) }
-    requires fits { RangeFits (slot_set (V.sets view.now) args.now) (slot_integer args.now) (spelled (all_steps steps.now)) }
+    requires fits { RangeFits (slot_set (V.sets view.now) args.now) (slot_integer args.now)
+        (spelled (all_steps steps.now)) }
     requires values { tallest (all_steps steps.now) ≤ vec_capacity work.old.values }
     requires sets { tallest (all_steps steps.now) ≤ work.old.sets.room }
-    ensures narrowed { IfOk result (IsNarrowed target.now (filled_set (slot_set (V.sets view.now) args.now) (slot_integer args.now) (spelled (all_steps steps.now)))) }
+    ensures narrowed { IfOk result
+        (IsNarrowed target.now (filled_set (slot_set (V.sets view.now) args.now)
+        (slot_integer args.now) (spelled (all_steps steps.now)))) }
     ensures kept { KeepsRoom work.old work.new }
 {
     match form {

@@ -106,7 +106,8 @@ pub(crate) fn find_standing<V: View>(tests: &[RangeInstr], args: &[Arg], view: &
 #[inline(always)]
 pub(crate) fn is_some_open<V: View>(slots: &[usize], args: &[Arg], view: &V) -> bool
     requires { All (IsSeen (length (V.sets view.now)) args.now) slots.now }
-    ensures { result ≡ list_any (λ s. is_several (slot_set (V.sets view.now) args.now s)) slots.now }
+    ensures { result ≡ list_any (λ s. is_several (slot_set (V.sets view.now) args.now s))
+        slots.now }
 {
     for slot in slots {
         if is_open(slot_domain(args, *slot, view)) {

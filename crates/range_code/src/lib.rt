@@ -81,7 +81,8 @@ impl Model for RangeCode {
 
     ghost view = { λ c. c.range };
 
-    ghost invariant = { λ c. IsCompiled c.range c.slots.items c.needs.items c.features.items c.kinds.items c.vals.items c.nodes.items c.steps c.form c.height };
+    ghost invariant = { λ c. IsCompiled c.range c.slots.items c.needs.items c.features.items
+        c.kinds.items c.vals.items c.nodes.items c.steps c.form c.height };
 }
 
 /// How many ranges were evaluated.
@@ -250,7 +251,8 @@ pub fn run_range<V: View>(
     n: &mut Activations,
 ) -> Result<Domain, NoMemory>
     requires { IsFrame (length (V.sets view.now)) code.now args.now }
-    ensures set { IfOk result (λ d. d ≡ set_of INFINITY (family_of (V.sets view.now)) (posted code.now args.now)) }
+    ensures set { IfOk result (λ d. d ≡ set_of INFINITY (family_of (V.sets view.now))
+        (posted code.now args.now)) }
     ensures count { n.new.count ≡ min (n.old.count + 1) (2 ^ 64 - 1) }
 {
     n.add();
@@ -368,7 +370,9 @@ pub fn narrow<V: View>(
     requires some { (k : ℕ) → is_none_left (family_of (V.sets view.now) k) ≡ false }
     requires family { IsFamily INFINITY (family_of (V.sets view.now)) }
     requires room { height code.now ≤ stacks.old }
-    ensures narrowed { IfOk result (IsNarrowed target.now (set_of INFINITY (family_of (V.sets view.now)) (posted code.now args.now))) }
+    ensures narrowed { IfOk result
+        (IsNarrowed target.now (set_of INFINITY (family_of (V.sets view.now))
+        (posted code.now args.now))) }
     ensures room { stacks.old ≤ stacks.new }
     ensures count { n.new.count ≡ min (n.old.count + 1) (2 ^ 64 - 1) }
 {

@@ -147,7 +147,8 @@ impl Work {
     /// Takes the last term away, if there is one.
     #[inline(always)]
     pub fn pop_value(&mut self) -> i128
-        ensures taken { (front : List ℤ) (a : ℤ) → self.old.values.items ≡ front ++ a ∷ [] → (result ≡ a) × (self.new.values.items ≡ front) }
+        ensures taken { (front : List ℤ) (a : ℤ) → self.old.values.items ≡ front ++ a ∷ []
+            → (result ≡ a) × (self.new.values.items ≡ front) }
         ensures room { KeepsRoom self.old self.new }
     {
         self.values.pop().unwrap_or(0)
@@ -155,7 +156,8 @@ impl Work {
 
     /// Takes the last set away, if there is one.
     pub fn pop_set(&mut self) -> Result<Domain, NoMemory>
-        ensures taken { IfOk result (λ d. (r : List ℕ) (rest : List (List ℕ)) → self.old.sets.sets ≡ r ∷ rest → d ≡ r) }
+        ensures taken { IfOk result (λ d. (r : List ℕ) (rest : List (List ℕ)) → self.old.sets.sets
+            ≡ r ∷ rest → d ≡ r) }
         ensures room { KeepsRoom self.old self.new }
     {
         match self.sets.pop()? {
