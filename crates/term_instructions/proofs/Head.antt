@@ -46,7 +46,7 @@ use Rattle.code_states.specs.Safety.{Fits, IsSafe, IsSafeBack, IsSafeThen}
 use Rattle.code_states.specs.Standing.{IsNaming, KeepsStanding, went_to}
 use Rattle.code_states.specs.Work.{LeadsOn}
 use Rattle.code_states.specs.Equating.{Equates}
-use Rattle.term_instructions.specs.Arguments.{LeadsFrom}
+use Rattle.term_instructions.specs.Arguments.{LeadsAmong, LeadsFrom}
 use Rattle.term_instructions.specs.declared.reading.Reading.{Reading}
 use Rattle.term_instructions.specs.Building.{for_head, BuildsAt, IsGatheredTo, BuildsThen, BuildsFor}
 use Rattle.term_instructions.specs.Reading.{ReadsAt, IsReadTo, IsRefused, ReadsThen}
@@ -54,7 +54,7 @@ use Rattle.code_states.specs.declared.went.Went.{Went}
 use Rattle.code_states.specs.declared.went.Went.TheVariants.{On, Back}
 use Rattle.code_states.proofs.Equal.{same_cells}
 use Rattle.code_states.proofs.Safety.{found, when_parts, back_safe, next_safe}
-use Rattle.term_instructions.proofs.Steps.{led_from, same_behind, behind_both, same_below, below_heap, below_both}
+use Rattle.term_instructions.proofs.Steps.{among_both, led_from, same_behind, behind_both, same_below, below_heap, below_both}
 use Rattle.term_instructions.proofs.Unify.{fits_owed}
 use Rattle.term_instructions.proofs.ReadSteps.{read_all}
 use Rattle.term_instructions.proofs.Structure.{grown_safe, sound_safe, equated_safe, made_keeps}
@@ -98,9 +98,9 @@ read_then area cells s told from c s1 told1 at c1 g s2 given is false E heap bel
 pub refused_then : (area : Area) (cells : List Cell) (s : branch.State) (told : List Touch) (from : Reading) (c : Contents) (s1 : branch.State) (c1 : Contents) → IsRefused area cells s told from c s1 c1 → ReadsThen area (drop from.next cells) s told from.at c s1 c1 Back
 refused_then area cells s told from c s1 c1 r = record { safe = r.safe; leads = tt; behind = r.behind; below = r.below; stands = r.none }
 
-led_both : (a b : ℕ) → a ≤ b → (w : Went) → LeadsFrom b w → LeadsFrom a w
-led_both a b low (On to) l = omega (arith, low, l)
-led_both a b low Back l = tt
+led_both : (area : Area) (a b : ℕ) → LeadsAmong area a b → (w : Went) → LeadsFrom area b w → LeadsFrom area a w
+led_both area a b some (On to) more = among_both area a b to some more
+led_both area a b some Back more = tt
 
 -- Some of them were read by a look.
 module _ (area : Area) (cells : List Cell) (s : branch.State) (from : Reading) (c : Contents) (to : Reading) (c1 : Contents) (g : IsReadTo area cells s [] from c s [] to c1) where
@@ -116,7 +116,7 @@ module _ (area : Area) (cells : List Cell) (s : branch.State) (from : Reading) (
       let r : ReadsThen area (drop to.next cells) s [] to.at c1 s' c' w = subst (λ ts. ReadsThen area (drop to.next cells) s ts to.at c1 s' c' w) empty (subst (λ l. ReadsThen area (drop to.next l) s told to.at c1 s' c' w) given_is k) in
       record {
         safe = r.safe;
-        leads = led_both from.at to.at g.leads w r.leads;
+        leads = led_both area from.at to.at g.leads w r.leads;
         behind = behind_both c c1 c' g.behind r.behind;
         below = r.below;
         stands = λ shown name b n m. r.stands shown name b n (g.keeps shown name b n m);
