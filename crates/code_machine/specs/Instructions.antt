@@ -6,7 +6,7 @@ use Rattle.wam_code.specs.declared.instruction.Instr.{Instr}
 use Rattle.wam_code.specs.declared.instruction.Instr.TheVariants as instr
 use Rattle.wam_code.specs.Area.{Area, Holds}
 
--- none of a clause's terms, and none of its frame
+-- none of a clause's terms or of its frame, no jump, and no switch by kinds
 abbrev pub IsOther : Code → Type 0
 IsOther (step.GetVariable r a) = ⊥
 IsOther (step.GetValue r a) = ⊥
@@ -21,6 +21,8 @@ IsOther (step.PutStructure f n a) = ⊥
 IsOther (step.Allocate n) = ⊥
 IsOther step.Deallocate = ⊥
 IsOther step.Proceed = ⊥
+IsOther (step.Jump to) = ⊥
+IsOther (step.SwitchOnTerm v k i s) = ⊥
 IsOther _ = Unit {0}
 
 -- a goal that is no call and no disjunction
@@ -38,9 +40,8 @@ IsCall (step.Execute e) = Unit {0}
 IsCall (step.Either to) = Unit {0}
 IsCall _ = ⊥
 
--- a choice, a switch, or a jump
+-- a choice, or a switch by keys
 abbrev pub IsChoice : Code → Type 0
-IsChoice (step.Jump to) = Unit {0}
 IsChoice step.FailNow = Unit {0}
 IsChoice (step.TryMeElse to) = Unit {0}
 IsChoice (step.RetryMeElse to) = Unit {0}
@@ -48,7 +49,6 @@ IsChoice step.TrustMe = Unit {0}
 IsChoice (step.Try to) = Unit {0}
 IsChoice (step.Retry to) = Unit {0}
 IsChoice (step.Trust to) = Unit {0}
-IsChoice (step.SwitchOnTerm v k i s) = Unit {0}
 IsChoice (step.SwitchOnConstant t) = Unit {0}
 IsChoice (step.SwitchOnInteger t) = Unit {0}
 IsChoice (step.SwitchOnStructure t) = Unit {0}

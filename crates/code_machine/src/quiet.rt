@@ -20,8 +20,8 @@ use term_instructions::{
 };
 use wam_code::{Code, CodeArea};
 
-/// Takes an instruction of a clause's terms, or of its frame, and gives where it leads, or nothing where it is another one; `scratch` is
-/// lent. The error is want of memory.
+/// Takes an instruction of a clause's terms or of its frame, a jump, or a switch by kinds, and gives where it leads, or nothing where it
+/// is another one; `scratch` is lent. The error is want of memory.
 #[inline(always)]
 pub(crate) fn take_term<A: Agenda + Drop>(
     code: &CodeArea,
@@ -60,11 +60,16 @@ pub(crate) fn take_term<A: Agenda + Drop>(
         Code::Allocate(n) => Ok(Some(Went::On(allocate(code, at, n, branch, areas)?))),
         Code::Deallocate => Ok(Some(Went::On(deallocate(code, at, branch, areas)))),
         Code::Proceed => Ok(Some(Went::On(proceed(code, at, branch, areas)?))),
+        Code::Jump(to) => Ok(Some(Went::On(jump(code, at, to, branch, areas)))),
+        Code::SwitchOnTerm(v, c, i, s) => {
+            let to = switch_on_term(code, at, v, c, i, s, branch, areas);
+            Ok(Some(Went::On(to)))
+        }
         _ => Ok(None),
     }
 }
 
-/// Takes a choice or a switch, and gives where it leads. The error is want of memory.
+/// Takes a choice or a switch by keys, and gives where it leads. The error is want of memory.
 #[inline(always)]
 pub(crate) fn take_choice<A: Agenda + Drop>(
     code: &CodeArea,
@@ -79,7 +84,6 @@ pub(crate) fn take_choice<A: Agenda + Drop>(
     ensures { IfOk result (Moves code.now branch.old at areas.old branch.new areas.new) }
 {
     match instruction {
-        Code::Jump(to) => Ok(Went::On(jump(code, at, to, branch, areas))),
         Code::FailNow => {
             fail_now(code, at, branch, areas);
             Ok(Went::Back)
@@ -90,10 +94,6 @@ pub(crate) fn take_choice<A: Agenda + Drop>(
         Code::Try(to) => Ok(Went::On(try_(code, at, to, branch, areas)?)),
         Code::Retry(to) => Ok(Went::On(retry(code, at, to, branch, areas)?)),
         Code::Trust(to) => Ok(Went::On(trust(code, at, to, branch, areas))),
-        Code::SwitchOnTerm(v, c, i, s) => {
-            let to = switch_on_term(code, at, v, c, i, s, branch, areas);
-            Ok(Went::On(to))
-        }
         Code::SwitchOnConstant(t) => Ok(switch_on_constant(code, at, t, branch, areas)),
         Code::SwitchOnInteger(t) => Ok(switch_on_integer(code, at, t, branch, areas)),
         Code::SwitchOnStructure(t) => Ok(switch_on_structure(code, at, t, branch, areas)),

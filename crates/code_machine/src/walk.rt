@@ -63,7 +63,7 @@ fn call_on<A: Agenda + Drop>(
     Ok(Some(Went::On(to)))
 }
 
-/// Takes an instruction that is none of a clause's terms or of its frame, unless it may say something, and gives where it leads. The error
+/// Takes an instruction that `take_term` doesn't take, unless it may say something, and gives where it leads. The error
 /// is want of memory.
 #[inline(always)]
 fn other_on<A: Agenda + Drop>(
