@@ -1,7 +1,5 @@
-//! Tests of the machine over texts, and of the code that it runs, by public calls alone.
+//! Tests of the machine over texts, by public calls alone.
 #![tactic(auto)]
 
-#[cfg(test)]
-mod listings;
 #[cfg(test)]
 mod runs;

@@ -17,7 +17,7 @@ use term_reader::read_sentences;
 use wam_code::{Code, CodeArea, CodeParts, QueryEntry};
 
 /// The program of a text.
-pub(crate) fn program_of(alloc: Global, text: &str) -> Result<Program, Fail> {
+fn program_of(alloc: Global, text: &str) -> Result<Program, Fail> {
     let Ok(sentences) = read_sentences(alloc, text) else {
         return Err(Fail::new("no sentences"));
     };

@@ -1,14 +1,27 @@
 //! The code of small texts, and what it shares.
 
-use crate::runs::program_of;
+use clause_check::check_program;
 use clause_compiler::compile;
 use std::alloc::Global;
 use std::rc::Rc;
 use std::test::Fail;
+use term_reader::read_sentences;
+use wam_code::CodeArea;
+
+/// The code of a text.
+fn code_of(alloc: Global, text: &str) -> Result<CodeArea, Fail> {
+    let Ok(sentences) = read_sentences(alloc, text) else {
+        return Err(Fail::new("no sentences"));
+    };
+    let Ok(program) = check_program(alloc, sentences) else {
+        return Err(Fail::new("refused"));
+    };
+    Ok(compile(alloc, program)?)
+}
 
 /// The instructions of a text's code, one a line, and then its tables.
 fn listing(alloc: Global, text: &str) -> Result<String, Fail> {
-    let code = compile(alloc, program_of(alloc, text)?)?;
+    let code = code_of(alloc, text)?;
     let parts = code.parts();
     let mut lines = String::new(alloc);
     for instruction in &parts.code {
@@ -94,7 +107,7 @@ fn listings_of_code(rt: HostRuntime) -> Result<(), Fail> {
 fn equal_ranges_share_their_code(rt: HostRuntime) -> Result<(), Fail> {
     let alloc = rt.alloc();
     let text = "?- X in 0..9, Y in 0..8, Z in 0..9.";
-    let code = compile(alloc, program_of(alloc, text)?)?;
+    let code = code_of(alloc, text)?;
     let parts = code.parts();
     assert_eq!(rt; parts.ranges.len(), 3);
     if let [a, b, c] = parts.ranges.as_slice() {
