@@ -165,7 +165,7 @@ pub record IsMachine (s : State) : Type 0 where
   pub inside : IsInside s.area s.query s.areas s.stage
   pub steps : s.spent + s.budget < 2 ^ 64
 
--- as many answers were given as are not allowed any more
+-- The answers given and those that are left make up the limit, where there is one.
 abbrev pub AreCounted : Option ℕ → ℕ → Option ℕ → Type 0
 AreCounted None a None = Unit {0}
 AreCounted None a (Some k) = ⊥
