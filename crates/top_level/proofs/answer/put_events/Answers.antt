@@ -43,7 +43,7 @@ pub returns-in_err-event_text-clause-wrote : goal.returns-in_err-event_text-clau
 returns-in_err-event_text-clause-wrote g c = λ es r h.
     let old : SinkState = sink_at (g.K.Sink.written c.args.sink.now) (g.K.Sink.faults c.args.sink.now) in
     let now : SinkState = sink_at (g.K.Sink.written c.events.sink) (g.K.Sink.faults c.events.sink) in
-    remain_short c.events.machine old now es r c.from_residual-in_err-event_text.result (c.events.invariant.remain es r h) (search rules)
+    remain_short c.events.machine old now es r c.from_residual-in_err-event_text.result (c.events.invariant.remain es r h) (search (c.from_residual-in_err-event_text.ensures, rules))
 
 pub returns-in_err-put_line-clause-wrote : goal.returns-in_err-put_line-clause-wrote
 returns-in_err-put_line-clause-wrote g c = λ es r h.
