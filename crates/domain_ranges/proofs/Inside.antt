@@ -1,5 +1,5 @@
 -- Whether the numbers of a list of intervals are all in another one.
-use Rattle.std.proofs.Common.{◌≡◌, ℕ, suc, ◌+◌, ◌-◌, ◌<◌, ◌≤◌, true, false, List, [], ◌∷◌, filter, ℤ, pos, int_le, ◌&&◌, refl, sym, ◌∙◌, ap, subst, inl, inr, ◌⊎◌, arith, length, get_or, drop, drop_of_length-le}
+use Rattle.std.proofs.Common.{◌≡◌, ℕ, suc, ◌+◌, ◌<◌, ◌≤◌, true, false, List, [], ◌∷◌, filter, ℤ, pos, int_le, ◌&&◌, refl, sym, ◌∙◌, ap, subst, inl, inr, ◌⊎◌, arith, length, get_or, drop, drop_of_length-le}
 use Rattle.std.proofs.lemmas.Bool.{true≢false}
 use Rattle.fd_language.specs.Family.{has, IsSubset}
 use Rattle.fd_language.proofs.Lemmas.{has-filter_back, shorter_or_same}
@@ -12,10 +12,9 @@ use Rattle.std.proofs.Common.{leb, leb-true, max, min}
 use Rattle.domain_ranges.specs.Narrowing.{between, IsNarrowed, IsLeft}
 use Rattle.domain_ranges.proofs.Members.{has_within, interval_none, members_none, least_is}
 use Rattle.fd_language.specs.declared.TheConstants.{INFINITY}
-use Rattle.domain_ranges.proofs.Spans.{head_or_later, in_head, in_later, within_low, past_first, behind_first, least_first, greatest_end, not_within}
+use Rattle.domain_ranges.proofs.Spans.{head_or_later, in_head, in_later, within_low, past_first, behind_first, not_within}
 use Rattle.domain_ranges.proofs.Meeting.{drop_next}
 use Rattle.domain_ranges.proofs.Places.{drop_spans}
-use Rattle.domain_ranges.proofs.Made.{out_low, out_high}
 
 abbrev pub AllIn : List Span → List Span → Type 0
 AllIn a b = (n : ℕ) → within a n ≡ true → within b n ≡ true

@@ -6,6 +6,7 @@ pub mod Integers
 pub mod Joining
 pub mod Outcomes
 pub mod Ends
+pub mod Parts
 pub mod Places
 pub mod Gaps
 pub mod Cutting

@@ -1,12 +1,14 @@
 -- What is left of a set of values.
-use Rattle.std.specs.Prelude.{◌≡◌, ℕ, ◌<◌, ◌≤◌, false, ◌&&◌, not, ℤ, pos, int_le, List, [], filter, length}
+use Rattle.std.specs.Prelude.{◌≡◌, ℕ, ◌<◌, ◌≤◌, false, ◌&&◌, not, ℤ, pos, int_le, List, [], ◌∷◌, filter, length}
 use Rattle.std.specs.Ordering.{int_eq}
-use Rattle.fd_language.specs.Family.{has, universe, IsSubset}
-use Rattle.fd_language.specs.Range.{is_none_left}
+use Rattle.fd_language.specs.Family.{has, universe, IsRising, IsSubset}
+use Rattle.fd_language.specs.Range.{least, greatest, is_none_left}
 use Rattle.fd_language.specs.declared.TheConstants.{INFINITY}
 use Rattle.domain_ranges.specs.Spans.{Span, members}
 use Rattle.domain_ranges.specs.declared.Narrowed.{Narrowed}
 use Rattle.domain_ranges.specs.declared.Narrowed.TheVariants.{Same, Empty, Changed}
+use Rattle.domain_ranges.specs.declared.Part.{Part}
+use Rattle.domain_ranges.specs.declared.Part.TheVariants.{All, Nothing, Within}
 
 -- the numbers of U from a to b
 abbrev pub between : ℤ → ℤ → List ℕ
@@ -27,3 +29,24 @@ abbrev pub IsLeft : List Span → Narrowed → Type 0
 IsLeft ss Same = ⊥
 IsLeft ss Empty = ss ≡ []
 IsLeft ss (Changed new) = (new ≡ members ss) × (1 ≤ length ss)
+
+-- the least and the greatest member of a set that has one
+pub record AreEnds (ends : ℕ × ℕ) (ns : List ℕ) : Type 0 where
+  pub some : is_none_left ns ≡ false
+  pub rising : IsRising 0 INFINITY ns
+  pub least : ends.0 ≡ least ns
+  pub greatest : ends.1 ≡ greatest ns
+
+-- all numbers from the least to the greatest one
+abbrev pub IsInterval : List ℕ → Type 0
+IsInterval ns = ns ≡ members ((least ns, greatest ns) ∷ [])
+
+-- The set `old`, intersected with another one: all of it is left, nothing is, or not all is, and of an interval an interval.
+abbrev pub IsPart : List ℕ → List ℕ → Part → Type 0
+IsPart old set All = IsSubset old set
+IsPart old set Nothing = filter (has set) old ≡ []
+IsPart old set (Within low high) =
+    (low ≤ high)
+    × (high ≤ INFINITY)
+    × (length (filter (has set) old) < length old)
+    × (IsInterval old → filter (has set) old ≡ members ((low, high) ∷ []))

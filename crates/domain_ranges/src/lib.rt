@@ -1,10 +1,10 @@
 //! Sets of numbers from 0 to INFINITY, as lists of intervals.
 #![tactic(auto)]
 
-ghost use Rattle.std.specs.Prelude.{◌≡◌, ◌<◌, ◌≤◌, ◌&&◌, ◌||◌, not, nat_le, ◌^◌, neg_ℤ, ◌≤ℤ◌, ◌<ℤ◌, ◌⊎◌, if◌then◌else◌, ℕ, List, [], ◌∷◌, length, slice_index_or, filter, pos, int_le, IfOk, OnErr, MatchOption, IsTrue, IfSome, OnSome, false};
+ghost use Rattle.std.specs.Prelude.{◌≡◌, ◌<◌, ◌≤◌, ◌&&◌, ◌||◌, not, nat_le, ◌^◌, neg_ℤ, ◌≤ℤ◌, ◌<ℤ◌, ◌⊎◌, ◌↔◌, if◌then◌else◌, ℕ, List, [], ◌∷◌, length, slice_index_or, filter, pos, int_le, IfOk, OnErr, MatchOption, IsTrue, IfSome, OnSome, false};
 ghost use Rattle.domain_ranges.specs.Spans.{IsSpans, members, interval_count, has_int, meet};
 ghost use Rattle.domain_ranges.specs.Sets.{is_shifted, is_scaled, is_quotient};
-ghost use Rattle.domain_ranges.specs.Narrowing.{between, all_but, IsNarrowed, IsLeft};
+ghost use Rattle.domain_ranges.specs.Narrowing.{between, all_but, IsNarrowed, IsLeft, IsInterval, IsPart};
 ghost use Rattle.fd_language.specs.Family.{has, universe, IsRising, IsSubset};
 ghost use Rattle.fd_language.specs.Range.{least, greatest, is_none_left};
 
@@ -50,6 +50,17 @@ pub enum Narrowed {
     Empty,
     /// Some members, fewer than before.
     Changed(Domain),
+}
+
+/// What the numbers of an interval leave of a set that isn't empty, as far as its ends tell.
+#[derive(Clone, Copy, Debug, PartialEq, Eq)]
+pub enum Part {
+    /// All of it.
+    All,
+    /// Nothing.
+    Nothing,
+    /// Not all of it. Of an interval the numbers from the first to the second one are left.
+    Within(u32, u32),
 }
 
 /// What has a domain for each variable number below some bound.
@@ -231,6 +242,53 @@ impl Domain {
         match left.min() {
             None => Ok(Narrowed::Empty),
             Some(_) => Ok(Narrowed::Changed(left)),
+        }
+    }
+
+    /// What the numbers from `lo` to `hi`, both included, leave of the set, which isn't empty. Nothing is made.
+    #[inline(always)]
+    pub fn part_between(&self, lo: i128, hi: i128) -> Part
+        requires { is_none_left self.now ≡ false }
+        ensures { IsPart self.now (between lo hi) result }
+    {
+        let Some(bounds) = intervals::cut(lo, hi) else {
+            return Part::Nothing;
+        };
+        let (least, greatest) = self.ends;
+        if bounds.0 <= least && bounds.1 >= greatest {
+            return Part::All;
+        }
+        let low = least.max(bounds.0);
+        let high = greatest.min(bounds.1);
+        if low <= high {
+            Part::Within(low, high)
+        } else {
+            Part::Nothing
+        }
+    }
+
+    /// Whether the set is the interval between its ends.
+    #[inline(always)]
+    pub fn is_interval(&self) -> bool
+        ensures { IsTrue result ↔ IsInterval self.now }
+    {
+        self.list.len() == 1
+    }
+
+    /// The set becomes that of the numbers from `low` to `high`, in place where it was an interval.
+    #[inline(always)]
+    pub fn set_interval(&mut self, low: u32, high: u32)
+        requires order { low ≤ high }
+        requires high { high ≤ INFINITY }
+        ensures { self.new ≡ members ((low, high) ∷ []) }
+    {
+        if self.list.len() == 1 {
+            let spans = self.list.as_mut_slice();
+            spans[0] = (low, high);
+            self.ends = (low, high);
+        } else {
+            let alloc = *self.list.allocator();
+            *self = Domain::of_span(alloc, (low, high));
         }
     }
 

@@ -1,4 +1,4 @@
-use Rattle.std.proofs.Common.{rules, ◌≡◌, ◌<◌, ◌^◌, ◌∙◌, ap, sym, subst, inl, inr, arith, true, pos, SFits, Fits, to_z, to_z-of_z}
+use Rattle.std.proofs.Common.{rules, ◌≡◌, ◌∙◌, ap, subst, inl, inr, arith, true, pos, SFits, Fits, to_z, to_z-of_z}
 use lib.Signed.{lt_z}
 use mir.ValLaws.{to_z_pos}
 use mir.Syntax.{w32, w64}

@@ -1,0 +1,108 @@
+-- What an interval leaves of a set, by its ends.
+use Rattle.std.proofs.Common.{◌≡◌, ℕ, ◌<◌, ◌≤◌, ◌⊎◌, inl, inr, true, false, ◌==◌, max, min, List, [], ◌∷◌, filter, refl, sym, ◌∙◌, ap, subst, arith, length, set, eq-eqb}
+use Rattle.std.specs.List.{refill}
+use Rattle.std.proofs.lemmas.Bool.{or_left, or_right}
+use Rattle.fd_language.specs.declared.TheConstants.{INFINITY}
+use Rattle.fd_language.specs.Family.{has, IsRising}
+use Rattle.fd_language.specs.Range.{least, greatest, is_none_left}
+use Rattle.fd_language.proofs.Lemmas.{has_high, least_low, least_in, greatest_in, greatest_high}
+use Rattle.domain_ranges.specs.Spans.{Span, within, IsSpans, AreWithEnds, members, meet}
+use Rattle.domain_ranges.specs.Narrowing.{IsInterval, IsPart}
+use Rattle.domain_ranges.specs.declared.Part.TheVariants.{Nothing, Within}
+use Rattle.domain_ranges.proofs.Made.{out_low, out_high}
+use Rattle.domain_ranges.proofs.Members.{has_members, members_rising, meet_is, spans_once, has_within, least_is, greatest_is}
+use Rattle.domain_ranges.proofs.Meeting.{one_set}
+use Rattle.domain_ranges.proofs.Inside.{left_of, met_one}
+use Rattle.domain_ranges.proofs.Ends.{below_ends, above_ends}
+
+-- nothing is left of a set among numbers none of which it has
+none_of : (xs ys : List ℕ) → ((n : ℕ) → has xs n ≡ true → has ys n ≡ false) → filter (has ys) xs ≡ []
+none_of [] ys h = refl
+none_of (x ∷ xs) ys h = rw (h x (or_left (x == x) (has xs x) (eq-eqb x x refl))) (none_of xs ys (λ n g. h n (or_right (x == n) (has xs n) g)))
+
+-- the ends of a set, and an interval
+module _ (xs : List ℕ) (b : Span) (rises : IsRising 0 INFINITY xs) (some : is_none_left xs ≡ false) (order : b.0 ≤ b.1) (limit : b.1 ≤ INFINITY) where
+  in_bounds : (n : ℕ) → has (members (b ∷ [])) n ≡ within (b ∷ []) n
+  in_bounds n = has_members 0 INFINITY (b ∷ []) n (omega arith, order, limit, tt)
+
+  out_of : (n : ℕ) → (n < b.0) ⊎ (b.1 < n) → has (members (b ∷ [])) n ≡ false
+  out_of n (inl l) = in_bounds n ∙ out_low b n l
+  out_of n (inr l) = in_bounds n ∙ out_high b n l
+
+  -- the two have no number in common
+  pub nothing_left : min (greatest xs) b.1 < max (least xs) b.0 → filter (has (members (b ∷ []))) xs ≡ []
+  nothing_left h = none_of xs (members (b ∷ [])) (λ n m. out_of n (beside n (least_low 0 INFINITY n xs rises m) (greatest_high 0 INFINITY n xs rises m))) where
+    beside : (n : ℕ) → least xs ≤ n → n ≤ greatest xs → (n < b.0) ⊎ (b.1 < n)
+    beside n k l = grind (arith, h)
+
+  -- an end lies outside of the bounds
+  pub less_left : (least xs < b.0) ⊎ (b.1 < greatest xs) → length (filter (has (members (b ∷ []))) xs) < length xs
+  less_left (inl l) = left_of xs (members (b ∷ [])) (filter (has (members (b ∷ []))) xs) refl (below_ends b order limit xs some l)
+  less_left (inr l) = left_of xs (members (b ∷ [])) (filter (has (members (b ∷ []))) xs) refl (above_ends b order limit xs some l)
+
+  abbrev own : Span
+  own = (least xs, greatest xs)
+
+  ends_span : IsSpans 0 INFINITY (own ∷ [])
+  ends_span = (omega arith, greatest_high 0 INFINITY (least xs) xs rises (least_in xs some), has_high 0 INFINITY xs (greatest xs) rises (greatest_in xs some), tt)
+
+  -- of an interval an interval is left
+  pub interval_left : (low high : ℕ) → low ≡ max (least xs) b.0 → high ≡ min (greatest xs) b.1 → low ≤ high → IsInterval xs → filter (has (members (b ∷ []))) xs ≡ members ((low, high) ∷ [])
+  interval_left low high e f l i =
+      let bounds : IsSpans 0 INFINITY (b ∷ []) = (omega arith, order, limit, tt) in
+      sym (meet_is INFINITY (own ∷ []) (b ∷ []) xs (members (b ∷ [])) ends_span bounds (sym i) refl)
+      ∙ sym (one_set INFINITY (own ∷ []) b ends_span bounds refl (meet own b) refl)
+      ∙ sym (met_one own b low high (members ((low, high) ∷ [])) e f l refl).0
+
+-- the same of the ends that are held beside the intervals
+module _ (ss : List Span) (xs set : List ℕ) (ends b : Span) (low high : ℕ) (held : AreWithEnds ss ends) (same : members ss ≡ xs) (some : is_none_left xs ≡ false) (order : b.0 ≤ b.1) (limit : b.1 ≤ INFINITY) (is : members (b ∷ []) ≡ set) (e : low ≡ max ends.0 b.0) (f : high ≡ min ends.1 b.1) where
+  rises : IsRising 0 INFINITY xs
+  rises = subst (IsRising 0 INFINITY) same (members_rising 0 INFINITY ss held.spans)
+
+  first : ends.0 ≡ least xs
+  first = held.least ∙ ap least same
+
+  last : ends.1 ≡ greatest xs
+  last = held.greatest ∙ ap greatest same
+
+  from : low ≡ max (least xs) b.0
+  from = subst (λ k. low ≡ max k b.0) first e
+
+  to : high ≡ min (greatest xs) b.1
+  to = subst (λ k. high ≡ min k b.1) last f
+
+  pub held_nothing : high < low → IsPart xs set Nothing
+  held_nothing l = subst (λ q. IsPart xs q Nothing) is (nothing_left xs b rises some order limit (omega (arith, from, to, l)))
+
+  pub held_within : low ≤ high → ((b.0 ≤ ends.0) × (b.1 < ends.1)) ⊎ (ends.0 < b.0) → IsPart xs set (Within low high)
+  held_within l k = subst (λ q. IsPart xs q (Within low high)) is (
+    l,
+    omega (arith, f, limit),
+    less_left xs b rises some order limit (elim k [ inl h ↦ inr (omega (arith, h.1, last)) | inr h ↦ inl (omega (arith, h, first)) ]),
+    interval_left xs b rises some order limit low high from to l,
+  )
+
+-- a set is an interval where one interval is all of it
+pub one_interval : (ss : List Span) (xs : List ℕ) (ends : Span) → AreWithEnds ss ends → members ss ≡ xs → length ss ≡ 1 → IsInterval xs
+one_interval [] xs ends held e h = absurd (omega (arith, h))
+one_interval (s ∷ t ∷ ss) xs ends held e h = absurd (omega (arith, h))
+one_interval (s ∷ []) xs ends held e h =
+    let first : s.0 ≡ least xs = (least_is INFINITY (s ∷ []) xs held.spans e (omega arith)).1 in
+    let last : s.1 ≡ greatest xs = (greatest_is INFINITY (s ∷ []) xs held.spans e (omega arith)).1 in
+    let own : ◌≡◌ {A = Span} s (least xs, greatest xs) = λ i. (first i, last i) in
+    sym e ∙ ap (λ (q : Span). members (q ∷ [])) own
+
+ordered : (xs : List ℕ) → IsRising 0 INFINITY xs → IsSpans 0 INFINITY ((least xs, greatest xs) ∷ [])
+ordered [] r = (omega arith, omega arith, omega arith, tt)
+ordered (x ∷ xs) r = let ys : List ℕ = x ∷ xs in (omega arith, greatest_high 0 INFINITY (least ys) ys r (least_in ys refl), has_high 0 INFINITY ys (greatest ys) r (greatest_in ys refl), tt)
+
+pub interval_alone : (ss : List Span) (xs : List ℕ) → IsSpans 0 INFINITY ss → members ss ≡ xs → IsInterval xs → length ss ≡ 1
+interval_alone ss xs r e i =
+    let q = ordered xs (subst (IsRising 0 INFINITY) e (members_rising 0 INFINITY ss r)) in
+    ap length (spans_once 0 INFINITY ss ((least xs, greatest xs) ∷ []) r q (λ n. has_within INFINITY ss xs n r e ∙ sym (has_within INFINITY ((least xs, greatest xs) ∷ []) xs n q (sym i))))
+
+-- the only interval is replaced
+pub replaced : (xs ys : List Span) (v : Span) → ys ≡ xs → length xs ≡ 1 → refill (length xs) xs (set ys 0 v) ≡ v ∷ []
+replaced [] ys v e h = absurd (omega (arith, h))
+replaced (s ∷ t ∷ xs) ys v e h = absurd (omega (arith, h))
+replaced (s ∷ []) ys v e h = ap (λ q. refill 1 (s ∷ []) (set q 0 v)) e
