@@ -95,6 +95,27 @@ impl<'c> Model for Woken<'c> {
         × (w.val ≤ length w.links.now) };
 }
 
+/// The agents of one chain, one after another.
+#[derive(Drop)]
+pub struct Chain<'c> {
+    links: &'c [Link],
+    place: u32,
+}
+
+impl<'c> Model for Chain<'c> {
+    ghost use Rattle.std.specs.Prelude.{List, ℕ};
+
+    ghost Value = { List ℕ };
+
+    ghost use Rattle.std.specs.Prelude.{◌≤◌, length};
+    ghost use Rattle.dependency_chains.specs.Links.{agents_from, AreLinked};
+
+    ghost view = { λ c. agents_from c.links.now c.place };
+
+    ghost invariant = { λ c. AreLinked c.links.now × (c.place ≤ length c.links.now) };
+}
+
+ghost use Rattle.domain_ranges.specs.Narrowing.{AreEnds};
 ghost use Rattle.dependency_chains.specs.Waking.{change_of, wakes};
 ghost use Rattle.dependency_chains.specs.Reading.{read_by};
 ghost use Rattle.dependency_chains.specs.Links.{agents_from, AreLinked, AreChains, reads_of, head_of};
@@ -103,9 +124,7 @@ ghost use Rattle.dependency_chains.specs.Links.{agents_from, AreLinked, AreChain
 #[inline(always)]
 fn ends(domain: &Domain) -> (u32, u32)
     requires { is_none_left domain.now ≡ false }
-    ensures least { result.0 ≡ least domain.now }
-    ensures greatest { result.1 ≡ greatest domain.now }
-    ensures several { not (result.0 == result.1) ≡ is_several domain.now }
+    ensures { AreEnds result domain.now }
 {
     (domain.least(), domain.greatest())
 }
@@ -118,8 +137,15 @@ impl Change {
         requires new { is_none_left new.now ≡ false }
         ensures { result ≡ change_of old.now new.now }
     {
-        let before = ends(old);
-        let after = ends(new);
+        Change::of_ends(ends(old), ends(new))
+    }
+
+    /// The same by the least and the greatest value of the old domain, and those of the new one.
+    #[inline(always)]
+    pub fn of_ends(before: (u32, u32), after: (u32, u32)) -> Change
+        ensures { (old new : List ℕ) → AreEnds before old → AreEnds after new
+            → result ≡ change_of old new }
+    {
         Change {
             min: before.0 != after.0,
             max: before.1 != after.1,
@@ -204,6 +230,7 @@ fn cut_links(links: &mut Vec<Link>, heads: &mut Vec<Heads>, agents: usize)
 }
 
 /// The place where it is wanted, and else none.
+#[inline(always)]
 fn place_if(wanted: bool, place: u32) -> u32
     ensures { result ≡ (if wanted then place else 0) }
 {
@@ -268,6 +295,7 @@ impl Chains {
     }
 
     /// The agents that read what a change of the variable `k` changed.
+    #[inline(always)]
     pub fn woken(&self, k: usize, change: Change) -> Woken<'_>
         requires { k < self.now.vars }
         ensures { (a : ℕ) → has result a ≡ list_any (λ r. (r.agent == a) &&
@@ -285,6 +313,7 @@ impl Chains {
 }
 
 /// Takes one step along a chain.
+#[inline(always)]
 fn step(links: &[Link], place: &mut u32) -> Option<usize>
     requires linked { AreLinked links.now }
     requires within { place.old ≤ length links.now }
@@ -298,6 +327,44 @@ fn step(links: &[Link], place: &mut u32) -> Option<usize>
     let link = links[*place as usize - 1];
     *place = link.next;
     Some(link.agent as usize)
+}
+
+impl Chain<'_> {
+    /// The next agent.
+    #[inline(always)]
+    pub fn next(&mut self) -> Option<usize>
+        ensures { MatchOption result (self.old ≡ []) (λ a. self.old ≡ a ∷ self.new) }
+    {
+        step(self.links, &mut self.place)
+    }
+}
+
+impl<'c> Woken<'c> {
+    /// The chains in which the agents stand.
+    #[inline(always)]
+    pub fn chains(&self) -> (Chain<'c>, Chain<'c>, Chain<'c>, Chain<'c>)
+        ensures { self.now ≡ result.0 ++ (result.1 ++ (result.2 ++ result.3)) }
+    {
+        let links = self.links;
+        (
+            Chain {
+                links,
+                place: self.dom,
+            },
+            Chain {
+                links,
+                place: self.min,
+            },
+            Chain {
+                links,
+                place: self.max,
+            },
+            Chain {
+                links,
+                place: self.val,
+            },
+        )
+    }
 }
 
 impl Woken<'_> {
