@@ -1,10 +1,14 @@
 //! Domains that are changed in place, with marks to which they go back.
 #![tactic(auto)]
 
-ghost use Rattle.std.specs.Prelude.{◌≡◌, ◌<◌, ◌≤◌, [], ◌∷◌, ◌++◌, length, take, drop, slice_set, slice_index_or, IfOk, OnOk, OnErr, IsTrue};
+ghost use Rattle.std.specs.Prelude.{◌≡◌, ◌<◌, ◌≤◌, [], ◌∷◌, ◌++◌, length, take, drop, slice_set, slice_index_or, IfOk, OnOk, OnErr, IsTrue, false};
 ghost use Rattle.fd_language.specs.Family.{universe};
+ghost use Rattle.fd_language.specs.Range.{is_none_left};
+ghost use Rattle.domain_ranges.specs.Spans.{members};
+ghost use Rattle.domain_ranges.specs.Narrowing.{between, AreEnds};
+ghost use Rattle.domain_trail.specs.Cuts.{set_at, IsCut};
 
-use domain_ranges::{Domain, View};
+use domain_ranges::{Domain, Narrowed, Part, View};
 use fd_language::{INFINITY, NoMemory};
 use std::alloc::Global;
 use std::marker::Model;
@@ -37,6 +41,17 @@ struct Mark {
 }
 
 const _: () = prove!(size_of::<Mark>() == 24);
+
+/// What became of a domain of which some values were taken away.
+#[derive(Clone, Copy, Debug, PartialEq, Eq)]
+pub enum Cut {
+    /// It is as it was.
+    Same,
+    /// No value would be left, and it is as it was.
+    Empty,
+    /// It has fewer values: the least and the greatest one before, and those after.
+    Changed((u32, u32), (u32, u32)),
+}
 
 /// The domains of variables, as a list of stores of which the first is the current one.
 ///
@@ -150,6 +165,53 @@ impl Trail {
         Ok(())
     }
 
+    /// Takes the values outside of `lo` to `hi` from the domain of the variable `k`, which isn't empty. `NoMemory`: there is no
+    /// room for the old domain, or for the new one.
+    #[inline(always)]
+    pub fn cut(&mut self, k: usize, lo: i64, hi: i64) -> Result<Cut, NoMemory>
+        requires var { k < length self.old.current }
+        requires some { is_none_left (set_at self.old k) ≡ false }
+        ensures cut { IfOk result (IsCut (between lo hi) k self.old self.new) }
+        ensures unchanged { OnErr result (self.new ≡ self.old) }
+    {
+        match self.cells[k].domain.part_between(lo as i128, hi as i128) {
+            Part::All => Ok(Cut::Same),
+            Part::Nothing => Ok(Cut::Empty),
+            Part::Within(low, high) => {
+                let cell = &self.cells[k];
+                if cell.domain.is_interval()
+                    && needs_no_saving(&self.marks, cell.stamp, self.stamp)
+                {
+                    let before = ends(&cell.domain);
+                    let stamp = self.stamp;
+                    set_interval(&mut self.cells, k, (low, high), stamp);
+                    return Ok(Cut::Changed(before, (low, high)));
+                }
+                self.cut_apart(k, lo, hi)
+            }
+        }
+    }
+
+    /// The same by a new domain.
+    #[inline(never)]
+    fn cut_apart(&mut self, k: usize, lo: i64, hi: i64) -> Result<Cut, NoMemory>
+        requires var { k < length self.old.current }
+        requires some { is_none_left (set_at self.old k) ≡ false }
+        ensures cut { IfOk result (IsCut (between lo hi) k self.old self.new) }
+        ensures unchanged { OnErr result (self.new ≡ self.old) }
+    {
+        match self.cells[k].domain.narrowed_to(lo as i128, hi as i128)? {
+            Narrowed::Same => Ok(Cut::Same),
+            Narrowed::Empty => Ok(Cut::Empty),
+            Narrowed::Changed(domain) => {
+                let before = ends(&self.cells[k].domain);
+                let after = ends(&domain);
+                self.narrow(k, domain)?;
+                Ok(Cut::Changed(before, after))
+            }
+        }
+    }
+
     /// Puts a copy of the current store below it. `NoMemory`: there is no room for the mark.
     pub fn push_mark(&mut self) -> Result<(), NoMemory>
         ensures marked { OnOk result (self.new ≡ record self.old {
@@ -207,12 +269,35 @@ impl View for Trail {
     }
 }
 
+/// The least and the greatest value of a domain that isn't empty.
+#[inline(always)]
+fn ends(domain: &Domain) -> (u32, u32)
+    requires { is_none_left domain.now ≡ false }
+    ensures { AreEnds result domain.now }
+{
+    (domain.least(), domain.greatest())
+}
+
 /// Whether a cell that was written at the stamp `old` may change unsaved: there is no mark, or it was saved since the newest one.
 #[inline(always)]
 fn needs_no_saving(marks: &[Mark], old: u64, stamp: u64) -> bool
     ensures { IsTrue result → MayChange marks.now old stamp }
 {
     marks.is_empty() || old == stamp && stamp < u64::MAX
+}
+
+/// The domain of a cell becomes an interval, at a stamp.
+#[inline(always)]
+fn set_interval(cells: &mut Vec<Cell>, k: usize, span: (u32, u32), stamp: u64)
+    requires cell { k < length cells.old.items }
+    requires order { span.0 ≤ span.1 }
+    requires high { span.1 ≤ INFINITY }
+    ensures { cells.new.items ≡ slice_set cells.old.items k
+        (record { domain = members (span ∷ []); stamp = stamp }) }
+{
+    let cell = &mut cells[k];
+    cell.stamp = stamp;
+    cell.domain.set_interval(span.0, span.1);
 }
 
 ghost use Rattle.std.specs.Prelude.{All};
