@@ -1,9 +1,9 @@
 -- A set of the store intersected with another one.
-use Rattle.std.proofs.Common.{◌≡◌, ℕ, ◌<◌, false, List, length, filter, ap, sym, ◌∙◌, subst}
+use Rattle.std.proofs.Common.{◌≡◌, ℕ, ◌<◌, false, List, length, ap, sym, ◌∙◌, subst}
 use Rattle.std.specs.Prelude.{Result, IfOk, slice_set}
 use Rattle.std.proofs.lemmas.Result.{IfOk-weaker}
 use Rattle.fd_language.specs.declared.TheConstants.{INFINITY}
-use Rattle.fd_language.specs.Family.{has, universe, IsRising, IsSubset}
+use Rattle.fd_language.specs.Family.{universe, IsRising, IsSubset}
 use Rattle.fd_language.specs.Range.{Indexical, set_of, is_none_left}
 use Rattle.fd_language.proofs.Lemmas.{rising_inside}
 use Rattle.domain_ranges.specs.Narrowing.{IsNarrowed}
@@ -35,6 +35,9 @@ by_target p old new (Changed c) h = h
 pub cut_activates : {E : Type 0} (res : Result Outcome E) (p : Indexical) (x : ℕ) (set : List ℕ) (old new : Stores) → x ≡ p.target → set_of INFINITY (family_of old.current) p.range ≡ set → IfOk res (IsCutTo set x old new) → IfOk res (Activated p old new)
 cut_activates res p x set old new e f h = IfOk-weaker res (IsCutTo set x old new) (Activated p old new)
     (λ o g. by_target p old new o (subst (λ y. IsCutTo (set_of INFINITY (family_of old.current) p.range) y old new o) e (subst (λ s. IsCutTo s x old new o) (sym f) g))) h
+
+pub cut_done : (p : Indexical) (x : ℕ) (set : List ℕ) (old new : Stores) (o : Outcome) → x ≡ p.target → set_of INFINITY (family_of old.current) p.range ≡ set → IsCutTo set x old new o → Activated p old new o
+cut_done p x set old new o e f h = by_target p old new o (subst (λ y. IsCutTo (set_of INFINITY (family_of old.current) p.range) y old new o) e (subst (λ s. IsCutTo s x old new o) (sym f) h))
 
 -- all is left of a set among all numbers
 pub all_left : (xs set : List ℕ) → IsRising 0 INFINITY xs → set ≡ universe INFINITY → IsSubset xs set

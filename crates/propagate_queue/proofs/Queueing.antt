@@ -115,6 +115,48 @@ in_rest a k rest woken e h = ap (λ l. has l k) e ∙ or_right (a == k) (has res
 pub in_first : (a : ℕ) (rest woken : List ℕ) → woken ≡ a ∷ rest → has woken a ≡ true
 in_first a rest woken e = ap (λ l. has l a) e ∙ or_left (a == a) (has rest a) (eq-eqb a a refl)
 
+has_both : (xs ys : List ℕ) (k : ℕ) → has (xs ++ ys) k ≡ (has xs k || has ys k)
+has_both [] ys k = refl
+has_both (x ∷ xs) ys k = ap (λ b. (x == k) || b) (has_both xs ys k) ∙ regroup (x == k) (has xs k) (has ys k) where
+  regroup : (a b c : Bool) → (a || (b || c)) ≡ ((a || b) || c)
+  regroup a b c = grind arith
+
+-- the agents of four chains
+pub record AreFour (woken dom min max val : List ℕ) : Type 0 where
+  pub each : (k : ℕ) → has woken k ≡ (has dom k || (has min k || (has max k || has val k)))
+
+pub four_chains : (woken dom min max val : List ℕ) → woken ≡ dom ++ (min ++ (max ++ val)) → AreFour woken dom min max val
+four_chains woken dom min max val e = record {
+  each = λ k. ap (λ l. has l k) e ∙ has_both dom (min ++ (max ++ val)) k ∙ ap (λ b. has dom k || b) (has_both min (max ++ val) k ∙ ap (λ b. has min k || b) (has_both max val k));
+}
+
+module _ (woken dom min max val : List ℕ) (f : AreFour woken dom min max val) (k : ℕ) where
+  pub by_dom : has dom k ≡ true → has woken k ≡ true
+  by_dom h = f.each k ∙ so (has dom k) (has min k) (has max k) (has val k) h where
+    so : (a b c d : Bool) → a ≡ true → (a || (b || (c || d))) ≡ true
+    so a b c d h = grind arith
+
+  pub by_min : has min k ≡ true → has woken k ≡ true
+  by_min h = f.each k ∙ so (has dom k) (has min k) (has max k) (has val k) h where
+    so : (a b c d : Bool) → b ≡ true → (a || (b || (c || d))) ≡ true
+    so a b c d h = grind arith
+
+  pub by_max : has max k ≡ true → has woken k ≡ true
+  by_max h = f.each k ∙ so (has dom k) (has min k) (has max k) (has val k) h where
+    so : (a b c d : Bool) → c ≡ true → (a || (b || (c || d))) ≡ true
+    so a b c d h = grind arith
+
+  pub by_val : has val k ≡ true → has woken k ≡ true
+  by_val h = f.each k ∙ so (has dom k) (has min k) (has max k) (has val k) h where
+    so : (a b c d : Bool) → d ≡ true → (a || (b || (c || d))) ≡ true
+    so a b c d h = grind arith
+
+  -- the flags once the agents of all four were put
+  pub all_put : (f0 f1 f2 f3 f4 : Bool) → f1 ≡ (f0 || has dom k) → f2 ≡ (f1 || has min k) → f3 ≡ (f2 || has max k) → f4 ≡ (f3 || has val k) → f4 ≡ (f0 || has woken k)
+  all_put f0 f1 f2 f3 f4 h1 h2 h3 h4 = h4 ∙ ap (λ b. b || has val k) (h3 ∙ ap (λ b. b || has max k) (h2 ∙ ap (λ b. b || has min k) h1)) ∙ regroup f0 (has dom k) (has min k) (has max k) (has val k) ∙ ap (λ b. f0 || b) (sym (f.each k)) where
+    regroup : (e a b c d : Bool) → ((((e || a) || b) || c) || d) ≡ (e || (a || (b || (c || d))))
+    regroup e a b c d = grind arith
+
 -- at the end of a list, an agent stands on it once more
 pub times_last : (k a : ℕ) (xs : List ℕ) → times k (xs ++ a ∷ []) ≡ times k (a ∷ xs)
 times_last k a [] = refl

@@ -7,12 +7,14 @@ ghost use Rattle.fd_language.specs.Range.{is_none_left};
 ghost use Rattle.range_code.specs.Frames.{family_of};
 ghost use Rattle.propagate_queue.specs.Postings.{ranged, posting_at, IsPosting};
 ghost use Rattle.domain_ranges.specs.Narrowing.{IsNarrowed};
+ghost use Rattle.domain_trail.specs.Stores.{Stores};
+ghost use Rattle.domain_trail.specs.Cuts.{IsCut};
 ghost use Rattle.propagate_queue.specs.Running.{Activated, IsCutTo};
 
 use crate::agents::Agents;
 use dependency_chains::Change;
 use domain_ranges::{Narrowed, View};
-use domain_trail::Trail;
+use domain_trail::{Cut, Trail};
 use fd_language::NoMemory;
 use range_code::{Activations, Reach};
 
@@ -24,6 +26,19 @@ pub enum Outcome {
     Empty,
     /// It has fewer values.
     Changed(Change),
+}
+
+/// What the cut of a domain did to it.
+#[inline(always)]
+fn outcome_of(cut: Cut) -> Outcome
+    ensures { (set : List ℕ) (x : ℕ) (old new : Stores) → IsCut set x old new cut
+        → IsCutTo set x old new result }
+{
+    match cut {
+        Cut::Same => Outcome::Same,
+        Cut::Empty => Outcome::Empty,
+        Cut::Changed(before, after) => Outcome::Changed(Change::of_ends(before, after)),
+    }
 }
 
 /// Gives the target what is left of its domain.
@@ -74,8 +89,8 @@ pub fn activate(
         }
         Reach::Between(low, high) => {
             n.add();
-            let left = trail.domain(target).narrowed_to(low as i128, high as i128)?;
-            take_left(trail, target, left)
+            let cut = trail.cut(target, low, high)?;
+            Ok(outcome_of(cut))
         }
         Reach::Except(number) => {
             n.add();

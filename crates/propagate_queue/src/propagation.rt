@@ -14,26 +14,43 @@ ghost use Rattle.propagate_queue.specs.Running.{IsRunning, AreDomains, HasNone};
 use crate::activation::{Outcome, activate};
 use crate::agenda::Agenda;
 use crate::agents::Agents;
-use dependency_chains::{Chains, Woken};
+use dependency_chains::{Chain, Chains, Woken};
 use domain_trail::Trail;
 use fd_language::NoMemory;
 use range_code::Activations;
 
-/// Puts the woken agents on the agenda, except those that stand there already.
-pub fn wake<A: Agenda>(agenda: &mut A, queued: &mut [bool], agents: &Agents, mut woken: Woken<'_>)
+/// Puts the agents of a chain on the agenda, except those that stand there already.
+#[inline(always)]
+fn wake_chain<A: Agenda>(agenda: &mut A, queued: &mut [bool], agents: &Agents, mut chain: Chain<'_>)
     requires agents { length agents.now ≡ length queued.old }
-    requires known { (a : ℕ) → has woken a ≡ true → a < length queued.old }
+    requires known { (a : ℕ) → has chain a ≡ true → a < length queued.old }
     requires queued { AreQueued queued.old (A.agents agenda.old) (A.spare agenda.old) }
     ensures queued { AreQueued queued.new (A.agents agenda.new) (A.spare agenda.new) }
-    ensures flags { (a : ℕ) → flag_at queued.new a ≡ (flag_at queued.old a || has woken.entry a) }
+    ensures flags { (a : ℕ) → flag_at queued.new a ≡ (flag_at queued.old a || has chain.entry a) }
 {
-    'waking: while let Some(agent) = woken.next() {
+    'waking: while let Some(agent) = chain.next() {
         if !queued[agent] {
             queued[agent] = true;
             let cost = agents.cost(agent);
             agenda.put(agent, cost);
         }
     }
+}
+
+/// Puts the woken agents on the agenda, except those that stand there already.
+#[inline(always)]
+fn wake<A: Agenda>(agenda: &mut A, queued: &mut [bool], agents: &Agents, woken: Woken<'_>)
+    requires agents { length agents.now ≡ length queued.old }
+    requires known { (a : ℕ) → has woken a ≡ true → a < length queued.old }
+    requires queued { AreQueued queued.old (A.agents agenda.old) (A.spare agenda.old) }
+    ensures queued { AreQueued queued.new (A.agents agenda.new) (A.spare agenda.new) }
+    ensures flags { (a : ℕ) → flag_at queued.new a ≡ (flag_at queued.old a || has woken.entry a) }
+{
+    let (dom, min, max, val) = woken.chains();
+    wake_chain(agenda, queued, agents, dom);
+    wake_chain(agenda, queued, agents, min);
+    wake_chain(agenda, queued, agents, max);
+    wake_chain(agenda, queued, agents, val);
 }
 
 /// Activates the agents on the agenda until none waits, or some domain would be empty. Whether none would be.

@@ -1,32 +1,19 @@
-use Rattle.std.proofs.Common.{◌<◌, ◌∙◌, true, arith, length}
-use Rattle.std.proofs.lemmas.List.{length-set}
-use Rattle.propagate_queue.proofs.Queueing.{has_room, was_put, woke, awake, in_rest, in_first}
+use Rattle.std.proofs.Common.{arith}
+use Rattle.propagate_queue.specs.Queues.{flag_at}
+use Rattle.propagate_queue.proofs.Queueing.{four_chains, by_dom, by_min, by_max, by_val, all_put}
 use Rattle.propagate_queue.proofs.propagation.wake.Goals as goal
 
-pub bounds-queued-agent : goal.bounds-queued-agent
-bounds-queued-agent g c = c.waking.invariant.known c.in-Some.agent (in_first c.in-Some.agent c.next.new.self c.waking.woken c.in-Some.ensures)
+pub wake_chain-requires-clause-known : goal.wake_chain-requires-clause-known
+wake_chain-requires-clause-known g c a h = c.requires.known a (by_dom c.args.woken c.chains-dom.result.0 c.chains-dom.result.1 c.chains-dom.result.2 c.chains-dom.result.3 (four_chains c.args.woken c.chains-dom.result.0 c.chains-dom.result.1 c.chains-dom.result.2 c.chains-dom.result.3 c.chains-dom.ensures) a h)
 
-pub put-requires : goal.put-requires
-put-requires g c =
-    let within = c.waking.invariant.known c.in-Some.agent (in_first c.in-Some.agent c.next.new.self c.waking.woken c.in-Some.ensures) in
-    has_room c.waking.queued (g.A.Agenda.agents c.waking.agenda) (g.A.Agenda.spare c.waking.agenda) c.in-Some.agent c.waking.invariant.queued within c.if-not-queued-agent.true
+pub wake_chain-requires-2-clause-known : goal.wake_chain-requires-2-clause-known
+wake_chain-requires-2-clause-known g c a h = omega (arith, c.requires.known a (by_min c.args.woken c.chains-dom.result.0 c.chains-dom.result.1 c.chains-dom.result.2 c.chains-dom.result.3 (four_chains c.args.woken c.chains-dom.result.0 c.chains-dom.result.1 c.chains-dom.result.2 c.chains-dom.result.3 c.chains-dom.ensures) a h), c.wake_chain.auto.queued)
 
-pub waking-preserved-then-not-queued-agent : goal.waking-preserved-then-not-queued-agent
-waking-preserved-then-not-queued-agent g c =
-    let flags = c.waking.queued in
-    let a = c.in-Some.agent in
-    let within : a < length flags = c.waking.invariant.known a (in_first a c.next.new.self c.waking.woken c.in-Some.ensures) in
-    record {
-      known = λ k h. omega (arith, length-set flags a true, c.waking.invariant.known k (in_rest a k c.next.new.self c.waking.woken c.in-Some.ensures h));
-      queued = was_put flags (g.A.Agenda.agents c.waking.agenda) (g.A.Agenda.agents c.put.new.self) (g.A.Agenda.spare c.waking.agenda) (g.A.Agenda.spare c.put.new.self) a c.waking.invariant.queued within c.if-not-queued-agent.true c.put.ensures.added c.put.ensures.len c.put.ensures.room;
-      flags = λ k. woke flags a k c.next.new.self c.waking.woken within c.in-Some.ensures ∙ c.waking.invariant.flags k;
-    }
+pub wake_chain-requires-3-clause-known : goal.wake_chain-requires-3-clause-known
+wake_chain-requires-3-clause-known g c a h = omega (arith, c.requires.known a (by_max c.args.woken c.chains-dom.result.0 c.chains-dom.result.1 c.chains-dom.result.2 c.chains-dom.result.3 (four_chains c.args.woken c.chains-dom.result.0 c.chains-dom.result.1 c.chains-dom.result.2 c.chains-dom.result.3 c.chains-dom.ensures) a h), c.wake_chain.auto.queued, c.wake_chain-2.auto.queued)
 
-pub waking-preserved : goal.waking-preserved
-waking-preserved g c =
-    let a = c.in-Some.agent in
-    record {
-      known = λ k h. c.waking.invariant.known k (in_rest a k c.next.new.self c.waking.woken c.in-Some.ensures h);
-      queued = c.waking.invariant.queued;
-      flags = λ k. awake c.waking.queued a k c.next.new.self c.waking.woken c.if-not-queued-agent.false c.in-Some.ensures ∙ c.waking.invariant.flags k;
-    }
+pub wake_chain-requires-4-clause-known : goal.wake_chain-requires-4-clause-known
+wake_chain-requires-4-clause-known g c a h = omega (arith, c.requires.known a (by_val c.args.woken c.chains-dom.result.0 c.chains-dom.result.1 c.chains-dom.result.2 c.chains-dom.result.3 (four_chains c.args.woken c.chains-dom.result.0 c.chains-dom.result.1 c.chains-dom.result.2 c.chains-dom.result.3 c.chains-dom.ensures) a h), c.wake_chain.auto.queued, c.wake_chain-2.auto.queued, c.wake_chain-3.auto.queued)
+
+pub returns-clause-flags : goal.returns-clause-flags
+returns-clause-flags g c a = all_put c.args.woken c.chains-dom.result.0 c.chains-dom.result.1 c.chains-dom.result.2 c.chains-dom.result.3 (four_chains c.args.woken c.chains-dom.result.0 c.chains-dom.result.1 c.chains-dom.result.2 c.chains-dom.result.3 c.chains-dom.ensures) a (flag_at c.args.queued.now a) (flag_at c.wake_chain.new.queued a) (flag_at c.wake_chain-2.new.queued a) (flag_at c.wake_chain-3.new.queued a) (flag_at c.wake_chain-4.new.queued a) (c.wake_chain.ensures.flags a) (c.wake_chain-2.ensures.flags a) (c.wake_chain-3.ensures.flags a) (c.wake_chain-4.ensures.flags a)
