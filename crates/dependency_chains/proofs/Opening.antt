@@ -27,5 +27,6 @@ change_by_ends old new before after c e f g a b = same (e ∙ ap (λ k. not (k =
   where
     once : (x y : Bool) → not x ≡ y → x ≡ not y
     once x y h = grind (arith, h)
+
     same : {x y z : Bool} → c.min ≡ x → c.max ≡ y → c.fixed ≡ z → ◌≡◌ {A = Change} c (record { min = x; max = y; fixed = z })
     same p q r = λ i. record { min = p i; max = q i; fixed = r i }
