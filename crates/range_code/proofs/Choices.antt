@@ -1,25 +1,23 @@
 -- How the nodes of a range are read as a choice, and how numbers are chosen.
-use Rattle.std.proofs.Common.{◌≡◌, ℕ, ◌+◌, ◌*◌, ◌<◌, ◌≤◌, length, take, get_or, Bool, true, false, ◌&&◌, ◌||◌, ◌==◌, eqb-true, eq-eqb, ℤ, pos, ◌+ℤ◌, ◌*ℤ◌, List, [], ◌∷◌, ◌++◌, filter, Some, refl, sym, ◌∙◌, ap, subst, arith, inl, inr}
+use Rattle.std.proofs.Common.{◌≡◌, ℕ, ◌*◌, ◌≤◌, length, Bool, true, false, ◌&&◌, ◌||◌, ◌==◌, eqb-true, eq-eqb, ℤ, pos, ◌+ℤ◌, ◌*ℤ◌, List, [], ◌∷◌, ◌++◌, filter, Some, refl, sym, ◌∙◌, ap, subst, arith}
 use Rattle.std.specs.List.{All}
 use Rattle.std.specs.List.Sorted.{IsPermutation}
 use Rattle.std.specs.Ordering.{int_eq}
-use Rattle.std.proofs.lemmas.Bool.{true≢false, or_cases, and_parts, and_from}
-use Rattle.std.proofs.lemmas.Bool.Decides.{Decides-int_eq, nat_tests}
+use Rattle.std.proofs.lemmas.Bool.{and_parts, and_from}
+use Rattle.std.proofs.lemmas.Bool.Decides.{Decides-int_eq}
 use Rattle.std.proofs.Math.IntN.{+ℤ_idl}
-use Rattle.std.proofs.lemmas.List.{get_or-take, get_or_default, length-take-le}
-use Rattle.std.proofs.lemmas.List.Elements.{All-nil, All-cons, All-head, All-tail, All-append}
-use Rattle.std.proofs.lemmas.List.Folds.{list_any-append, list_any_more}
+use Rattle.std.proofs.lemmas.List.Elements.{All-nil, All-cons, All-append}
+use Rattle.std.proofs.lemmas.List.Folds.{list_any-append}
 use Rattle.std.proofs.lemmas.List.Sorted.{list_any-IsPermutation, All-permutation}
 use Rattle.fd_language.specs.declared.TheConstants.{INFINITY}
 use Rattle.fd_language.specs.declared.range_node.RangeNode.{RangeNode}
 use Rattle.fd_language.specs.declared.range_node.RangeNode.TheVariants as node
 use Rattle.fd_language.specs.Family.{Family, has, universe}
-use Rattle.fd_language.specs.Range.{Range, Union, greatest, some_number}
+use Rattle.fd_language.specs.Range.{Range, Union, some_number}
 use Rattle.fd_language.specs.Flat.{nodes_of, range_nodes, built, builds_range}
-use Rattle.fd_language.proofs.Lemmas.{two, has-filter_back}
 use Rattle.domain_ranges.proofs.Dividing.{same_bool}
 use Rattle.domain_ranges.proofs.Shifting.{not_true}
-use Rattle.domain_ranges.proofs.Images.{has_set, set_same, some_has, some_from}
+use Rattle.domain_ranges.proofs.Images.{set_same, some_has, some_from}
 use Rattle.range_code.specs.declared.frame.Arg.{Arg}
 use Rattle.range_code.specs.declared.choice.Choice.{Choice}
 use Rattle.range_code.specs.declared.choice.Part.{Part}
@@ -149,54 +147,3 @@ choosing_whole ns rest ds c f none perm rise r e =
       rising = rise;
       seen = λ count args h. f.seen count args (subst (All (IsReadable count args)) (sym e) h);
     }
-
--- the numbers that are chosen are no greater than the next one
-greatest_below : (xs : List ℕ) (top : ℕ) → ((n : ℕ) → has xs n ≡ true → n ≤ top) → greatest xs ≤ top
-greatest_below [] top h = omega arith
-greatest_below (x ∷ []) top h = h x (ap (λ b. b || false) (eq-eqb x x refl))
-greatest_below (x ∷ y ∷ ys) top h = greatest_below (y ∷ ys) top (λ n g. h n (later (x == n) (has (y ∷ ys) n) g))
-  where
-    later : (a b : Bool) → b ≡ true → (a || b) ≡ true
-    later a b g = grind (arith, g)
-
-chosen_below : (s : List ℕ) (ds : List (ℕ × ℕ)) (n top : ℕ) → All (λ d. d.1 ≤ top) ds → is_chosen s ds n ≡ true → n ≤ top
-chosen_below s [] n top a h = absurd (true≢false (sym h))
-chosen_below s (d ∷ ds) n top a h = elim (or_cases (has s d.0 && (d.1 == n)) (is_chosen s ds n) h) [
-  | inl e ↦ subst (λ k. k ≤ top) (eqb-true d.1 n (and_parts (has s d.0) (d.1 == n) e).1) (All-head (λ c. c.1 ≤ top) d ds a)
-  | inr e ↦ chosen_below s ds n top (All-tail (λ c. c.1 ≤ top) d ds a) e
-]
-
-pub chosen_low : (s numbers : List ℕ) (ds : List (ℕ × ℕ)) (i : ℕ) (d : ℕ × ℕ) → AreRising ds → i < length ds → numbers ≡ filter (is_chosen s (take i ds)) (universe INFINITY) → greatest numbers ≤ (get_or ds i d).1
-chosen_low s numbers ds i d rise l e =
-    greatest_below numbers (get_or ds i d).1 (λ k h. chosen_below s (take i ds) k (get_or ds i d).1 firsts (has-filter_back (is_chosen s (take i ds)) (universe INFINITY) k (ap (λ xs. has xs k) (sym e) ∙ h)).1)
-  where
-    firsts : All (λ c. c.1 ≤ (get_or ds i d).1) (take i ds)
-    firsts k c g =
-        let low : k < i = omega (arith, length-take-le i ds (omega arith), g) in
-        subst (λ x. x.1 ≤ (get_or ds i d).1) (sym (get_or-take i ds k c low))
-        (subst (λ x. (get_or ds k c).1 ≤ x.1) (get_or_default ds i c d l) (rise k i c (omega arith) l))
-
-other_way : (a b : ℕ) → (a == b) ≡ (b == a)
-other_way a b = grind (arith, nat_tests)
-
--- one more pair
-pub chosen_more : (s numbers more : List ℕ) (ds : List (ℕ × ℕ)) (i : ℕ) (d : ℕ × ℕ) → i < length ds → numbers ≡ filter (is_chosen s (take i ds)) (universe INFINITY) → has s (get_or ds i d).0 ≡ true →
-    more ≡ filter (λ k. has numbers k || (k == (get_or ds i d).1)) (universe INFINITY) → more ≡ filter (is_chosen s (take (i + 1) ds)) (universe INFINITY)
-chosen_more s numbers more ds i d l e h f =
-    let c : ℕ × ℕ = get_or ds i d in
-    f ∙ set_same INFINITY (λ k. has numbers k || (k == c.1)) (is_chosen s (take (i + 1) ds)) (λ k low.
-    two (λ a b. a || b) (ap (λ xs. has xs k) e ∙ has_set INFINITY (is_chosen s (take i ds)) k low) (other_way k c.1 ∙ sym (ap (λ b. b && (c.1 == k)) h))
-    ∙ sym (list_any_more (λ x. has s x.0 && (x.1 == k)) ds i d l))
-
-pub chosen_same : (s numbers : List ℕ) (ds : List (ℕ × ℕ)) (i : ℕ) (d : ℕ × ℕ) → i < length ds → numbers ≡ filter (is_chosen s (take i ds)) (universe INFINITY) → has s (get_or ds i d).0 ≡ false → numbers ≡ filter (is_chosen s (take (i + 1) ds)) (universe INFINITY)
-chosen_same s numbers ds i d l e h =
-    let c : ℕ × ℕ = get_or ds i d in
-    e ∙ set_same INFINITY (is_chosen s (take i ds)) (is_chosen s (take (i + 1) ds)) (λ k low.
-    sym (list_any_more (λ x. has s x.0 && (x.1 == k)) ds i d l ∙ (ap (λ b. is_chosen s (take i ds) k || (b && (c.1 == k))) h ∙ or_false (is_chosen s (take i ds) k))))
-
-pub chosen_none : (s : List ℕ) (ds : List (ℕ × ℕ)) → [] ≡ filter (is_chosen s (take 0 ds)) (universe INFINITY)
-chosen_none s ds = sym (keeps_none (universe INFINITY))
-  where
-    keeps_none : (xs : List ℕ) → filter (λ n. false) xs ≡ []
-    keeps_none [] = refl
-    keeps_none (x ∷ xs) = keeps_none xs

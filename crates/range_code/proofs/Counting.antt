@@ -1,5 +1,5 @@
 -- There is room for what waits, node by node.
-use Rattle.std.proofs.Common.{◌≡◌, ℕ, ◌+◌, ◌<◌, ◌≤◌, List, [], ◌∷◌, length, max, map, get_or, sym, ◌∙◌, subst, arith, vec_len, vec_capacity}
+use Rattle.std.proofs.Common.{◌≡◌, ℕ, suc, ◌+◌, ◌<◌, ◌≤◌, List, [], ◌∷◌, length, max, map, get_or, sym, ◌∙◌, subst, arith, vec_len, vec_capacity}
 use Rattle.std.proofs.lemmas.List.{at_drop_more}
 use Rattle.fd_language.specs.declared.range_node.RangeNode.{RangeNode}
 use Rattle.fd_language.specs.declared.range_node.RangeNode.TheVariants as node
@@ -8,7 +8,10 @@ use Rattle.range_code.specs.declared.evaluate.Steps.{Steps}
 use Rattle.range_code.specs.declared.instr.RangeInstr.{RangeInstr}
 use Rattle.range_code.specs.Instructions.{node_of}
 use Rattle.range_code.specs.Walked.{steps_from}
-use Rattle.range_code.specs.Heights.{values_after, sets_after, peak, HasRoom, IsCounted, KeepsRoom}
+use Rattle.fd_language.specs.Range.{Range, Span, One, Dom, Union, Inter, Outside, Plus, Minus, Times, Over, Expr, Number, Infinity, Param, Min, Max, Val, Add, Sub, Mul, DivDown, DivUp}
+use Rattle.fd_language.specs.Flat.{range_nodes, expr_nodes, IsSpelled}
+use Rattle.range_code.specs.Heights.{values_after, sets_after, peak, tallest, HasRoom, IsCounted, KeepsRoom}
+use Rattle.range_code.proofs.Telling.{low_peak}
 
 -- what is counted doesn't fall where more waits before
 abbrev Grows : (RangeNode → ℕ → ℕ) → Type 0
@@ -107,3 +110,32 @@ room_start ms w high v s e a b = record {
   values = subst (λ n. peak values_after ms n ≤ vec_capacity w.values) (sym v) (omega arith);
   sets = subst (λ l. peak sets_after ms (length l) ≤ w.sets.room) (sym s) (omega arith);
 }
+
+-- some set waits while a range is evaluated
+expr_keeps : (e : Expr) (rest : List RangeNode) (n : ℕ) → peak sets_after rest n ≤ peak sets_after (expr_nodes e rest) n
+expr_keeps (Number z) rest n = omega arith
+expr_keeps Infinity rest n = omega arith
+expr_keeps (Param x) rest n = omega arith
+expr_keeps (Min y) rest n = omega arith
+expr_keeps (Max y) rest n = omega arith
+expr_keeps (Val y) rest n = omega arith
+expr_keeps (Add a b) rest n = let h = expr_keeps a (expr_nodes b (node.Add ∷ rest)) n in let k = expr_keeps b (node.Add ∷ rest) n in omega (arith, h, k)
+expr_keeps (Sub a b) rest n = let h = expr_keeps a (expr_nodes b (node.Sub ∷ rest)) n in let k = expr_keeps b (node.Sub ∷ rest) n in omega (arith, h, k)
+expr_keeps (Mul a b) rest n = let h = expr_keeps a (expr_nodes b (node.Mul ∷ rest)) n in let k = expr_keeps b (node.Mul ∷ rest) n in omega (arith, h, k)
+expr_keeps (DivDown a b) rest n = let h = expr_keeps a (expr_nodes b (node.DivDown ∷ rest)) n in let k = expr_keeps b (node.DivDown ∷ rest) n in omega (arith, h, k)
+expr_keeps (DivUp a b) rest n = let h = expr_keeps a (expr_nodes b (node.DivUp ∷ rest)) n in let k = expr_keeps b (node.DivUp ∷ rest) n in omega (arith, h, k)
+
+range_waits : (r : Range) (rest : List RangeNode) (n : ℕ) → suc n ≤ peak sets_after (range_nodes r rest) n
+range_waits (Span a b) rest n = let h = expr_keeps a (expr_nodes b (node.Span ∷ rest)) n in let k = expr_keeps b (node.Span ∷ rest) n in let l = low_peak sets_after rest (suc n) in omega (arith, h, k, l)
+range_waits (One t) rest n = let h = expr_keeps t (node.One ∷ rest) n in let l = low_peak sets_after rest (suc n) in omega (arith, h, l)
+range_waits (Dom y) rest n = let l = low_peak sets_after rest (suc n) in omega (arith, l)
+range_waits (Union r q) rest n = range_waits r (range_nodes q (node.Union ∷ rest)) n
+range_waits (Inter r q) rest n = range_waits r (range_nodes q (node.Inter ∷ rest)) n
+range_waits (Outside r) rest n = range_waits r (node.Outside ∷ rest) n
+range_waits (Plus r c) rest n = range_waits r (expr_nodes c (node.Plus ∷ rest)) n
+range_waits (Minus r c) rest n = range_waits r (expr_nodes c (node.Minus ∷ rest)) n
+range_waits (Times r c) rest n = range_waits r (expr_nodes c (node.Times ∷ rest)) n
+range_waits (Over r c) rest n = range_waits r (expr_nodes c (node.Over ∷ rest)) n
+
+pub some_height : (nodes : List RangeNode) → IsSpelled nodes → 1 ≤ tallest nodes
+some_height nodes (r, e) = subst (λ ns. 1 ≤ tallest ns) e (let h = range_waits r [] 0 in omega (arith, h))

@@ -27,9 +27,10 @@ use Rattle.range_code.specs.Steps.{either, outside, moved}
 use Rattle.domain_ranges.specs.Narrowing.{between}
 use Rattle.range_code.specs.Work.{IsLimited, operated, filled_value, filled_set, Fits, RangeFits}
 use Rattle.range_code.specs.declared.form.Form.{Form}
-use Rattle.range_code.specs.declared.form.Form.TheVariants.{Nodes, Between, Row, Without, Except, Chosen}
+use Rattle.range_code.specs.declared.form.Shift.{Shift}
+use Rattle.range_code.specs.declared.form.Form.TheVariants.{Nodes, Differs, Above, Below, Between, Row, Without, Except, Chosen}
 use Rattle.range_code.specs.declared.form.Bound.{Bound}
-use Rattle.range_code.specs.Forms.{IsUsable, IsInterval, IsForm}
+use Rattle.range_code.specs.Forms.{IsShiftUsable, IsUsable, IsInterval, IsForm}
 use Rattle.range_code.proofs.Tables.{one_is, union_is, inter_is, outside_is, plus_is, minus_is, times_is, over_is}
 
 -- a term that is a literal, or none
@@ -277,8 +278,14 @@ usable_folded r b u = record { width = u.width; division = u.division; seen = λ
 interval_folded : (r : Range) (a b : Bound) → IsInterval r a b → IsInterval (folded_range r) a b
 interval_folded r a b h = record { set = λ S p. set_folded S p r ∙ h.set S p; low = usable_folded r a h.low; high = usable_folded r b h.high }
 
+shift_folded : (r : Range) (s : Shift) → IsShiftUsable r s → IsShiftUsable (folded_range r) s
+shift_folded r s u = record { width = u.width; seen = λ count args h. u.seen count args (readable_unfolded count args r h) }
+
 pub form_folded : (r : Range) (f : Form) → IsForm r f → IsForm (folded_range r) f
 form_folded r Nodes h = tt
+form_folded r (Differs slot) h = ap folded_range h
+form_folded r (Above s z) h = record { set = λ S p. set_folded S p r ∙ h.set S p; usable = shift_folded r s h.usable }
+form_folded r (Below z s) h = record { set = λ S p. set_folded S p r ∙ h.set S p; usable = shift_folded r s h.usable }
 form_folded r (Between a b) h = interval_folded r a b h
 form_folded r (Row a b) h = (interval_folded r a b h.0, h.1)
 form_folded r (Without a b) h = record { set = λ S p. set_folded S p r ∙ h.set S p; low = usable_folded r a h.low; high = usable_folded r b h.high }

@@ -23,9 +23,9 @@ use Rattle.std.proofs.lemmas.List.{at_drop_more, take_all}
 use Rattle.domain_ranges.specs.Narrowing.{between, all_but, IsNarrowed}
 use Rattle.domain_ranges.specs.declared.Narrowed.{Narrowed}
 use Rattle.range_code.specs.declared.frame.Arg.{Arg}
-use Rattle.range_code.specs.declared.form.End.{End}
 use Rattle.range_code.specs.declared.form.End.TheVariants.{Least, Greatest}
 use Rattle.range_code.specs.declared.form.Product.{Product}
+use Rattle.range_code.specs.declared.form.Shift.{Shift}
 use Rattle.range_code.specs.declared.form.Division.{Division}
 use Rattle.range_code.specs.declared.form.Division.TheVariants.{Whole, Down, Up}
 use Rattle.range_code.specs.declared.form.Bound.{Bound}
@@ -36,7 +36,7 @@ use Rattle.range_code.specs.declared.form.Addend.{Addend}
 use Rattle.range_code.specs.Nodes.{IsReadable, IsSeen}
 use Rattle.range_code.specs.Work.{filled_value, filled_set}
 use Rattle.range_code.specs.Steps.{outside}
-use Rattle.range_code.specs.Forms.{IsForm, end_of, width_of, sum_of, total_of, divided, bound_value, product_value, leaf_amount, amount, AreNarrow, AreSeen, IsLeafSeen, IsPositive, IsUsable, IsInterval, IsComplement, IsException, IsLeaf, IsSigned, IsDivision, IsPart, IsAdded, IsBound, other_end, IsOpposite, AreOpposite}
+use Rattle.range_code.specs.Forms.{IsForm, end_of, width_of, sum_of, total_of, divided, bound_value, product_value, leaf_amount, amount, AreNarrow, AreSeen, IsLeafSeen, IsPositive, IsUsable, IsInterval, IsComplement, IsException, IsAbove, IsBelow, IsShiftOf, IsShiftUsable, all_but_val, IsLeaf, IsSigned, IsDivision, IsPart, IsAdded, IsBound, other_end, IsOpposite, AreOpposite}
 use Rattle.range_code.proofs.Tables.{outside_is, one_is}
 
 -- leaves
@@ -156,6 +156,10 @@ added_read old new m c p d = record {
   seen = λ count args h g. subst (AreSeen count args) (sym p) (All-append (λ k. IsSeen count args k.slot) old.products.items (m ∷ []) h (one_seen count args m g));
   division = d;
 }
+
+-- a moved end
+pub shift_small : (c : ℤ) (e : ℕ) → nat_abs c + INFINITY ≤ 2 ^ 63 - 1 → e ≤ INFINITY → nat_abs (c +ℤ pos e) ≤ 2 ^ 63 - 1
+shift_small c e h l = let a = abs_add c (pos e) in grind (arith, a, h)
 
 -- one more product of a sum
 pub product_small : (w : ℤ) (e : ℕ) → e ≤ INFINITY → nat_abs (w *ℤ pos e) ≤ nat_abs w * INFINITY
@@ -425,3 +429,49 @@ one_sum a b c d e p S = two divided (d ∙ sym e) (two (λ x ms. x +ℤ sum_of S
 
 pub one_outside : (r : Range) (a b : Bound) → IsComplement r a b → ((S : Family) → bound_value S a ≡ bound_value S b) → IsException r a
 one_outside r a b h e = record { set = λ S p. h.set S p ∙ ap (λ z. outside (between (bound_value S a) z)) (sym (e S)); value = h.low }
+
+-- bounds that are a number, and a moved end
+plus_none : (z : ℤ) → z +ℤ pos 0 ≡ z
+plus_none z = +ℤ_comm z (pos 0) ∙ +ℤ_idl z
+
+no_products : (ms : List Product) → length ms ≡ 0 → ms ≡ []
+no_products [] e = refl
+no_products (m ∷ ms) e = absurd (let k : ⊥ = omega (arith, e) in k)
+
+pub number_is : (b : Bound) → b.division ≡ Whole → length b.products.items ≡ 0 → (S : Family) → bound_value S b ≡ b.constant
+number_is b d e S = whole_value S b d ∙ (ap (λ ms. b.constant +ℤ sum_of S ms) (no_products b.products.items e) ∙ plus_none b.constant)
+
+only_product : (ms : List Product) (d : Product) → length ms ≡ 1 → ms ≡ get_or ms 0 d ∷ []
+only_product [] d e = absurd (let k : ⊥ = omega (arith, e) in k)
+only_product (m ∷ []) d e = refl
+only_product (m ∷ k ∷ ms) d e = absurd (let z : ⊥ = omega (arith, e) in z)
+
+shift_at : (b : Bound) (m : Product) → b.division ≡ Whole → b.products.items ≡ m ∷ [] → m.weight ≡ pos 1 → IsShiftOf b (record { constant = b.constant; slot = m.slot; end = m.end })
+shift_at b m d e w = record {
+  value = λ S. whole_value S b d ∙ (ap (λ ms. b.constant +ℤ sum_of S ms) e ∙ ap (λ z. b.constant +ℤ z) (plus_none (product_value S m) ∙ (ap (λ x. x *ℤ pos (end_of (S m.slot) m.end)) w ∙ sym (once_is (pos (end_of (S m.slot) m.end))))));
+  width = λ h. narrow (subst (AreNarrow (nat_abs b.constant)) e h);
+  seen = λ count args h. subst (AreSeen count args) e h 0 m (omega arith);
+} where
+  narrow : AreNarrow (nat_abs b.constant) (m ∷ []) → nat_abs b.constant + INFINITY ≤ 2 ^ 63 - 1
+  narrow h = let k = ap nat_abs w in one (nat_abs b.constant) (nat_abs m.weight) k h where
+    one : (n k : ℕ) → k ≡ 1 → n + (k * INFINITY + 0) ≤ 2 ^ 63 - 1 → n + INFINITY ≤ 2 ^ 63 - 1
+    one n k e h = omega (arith, e, h)
+
+pub shift_is : (b : Bound) (ms : List Product) (k : Product) → b.division ≡ Whole → ms ≡ b.products.items → length ms ≡ 1 → (get_or ms 0 k).weight ≡ pos 1 → IsShiftOf b (record { constant = b.constant; slot = (get_or ms 0 k).slot; end = (get_or ms 0 k).end })
+shift_is b ms k d e l w = shift_at b (get_or ms 0 k) d (sym e ∙ only_product ms k l) w
+
+shift_usable : (r : Range) (b : Bound) (s : Shift) → IsUsable r b → IsShiftOf b s → IsShiftUsable r s
+shift_usable r b s u h = record { width = h.width u.width; seen = λ count args g. h.seen count args (u.seen count args g) }
+
+pub above_form : (r : Range) (a b : Bound) (s : Shift) (z : ℤ) → IsInterval r a b → IsShiftOf a s → ((S : Family) → bound_value S b ≡ z) → IsAbove r s z
+above_form r a b s z h e f = record { set = λ S p. h.set S p ∙ two between (e.value S) (f S); usable = shift_usable r a s h.low e }
+
+pub below_form : (r : Range) (a b : Bound) (s : Shift) (z : ℤ) → IsInterval r a b → ((S : Family) → bound_value S a ≡ z) → IsShiftOf b s → IsBelow r z s
+below_form r a b s z h f e = record { set = λ S p. h.set S p ∙ two between (f S) (e.value S); usable = shift_usable r b s h.high e }
+
+-- all numbers but the value of a variable
+pub differs_form : (ns : List RangeNode) (slot : ℕ) → ns ≡ nodes_of (all_but_val slot) → (r : Range) → ns ≡ nodes_of r → r ≡ all_but_val slot
+differs_form ns slot e r f = sym (spelled-nodes r) ∙ (ap spelled (sym f ∙ e) ∙ spelled-nodes (all_but_val slot))
+
+pub but_val_set : (S : Family) (p : ℕ → ℤ) (slot : ℕ) → filled_set S p (all_but_val slot) ≡ all_but (pos (least (S slot)))
+but_val_set S p slot = let z = pos (least (S slot)) in sym (filter_agree (λ n. not (int_eq (pos n) z)) (λ n. not (int_eq z (pos n))) (other_way z) (universe INFINITY))

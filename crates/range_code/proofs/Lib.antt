@@ -19,4 +19,5 @@ pub mod Testing
 pub mod Running
 pub mod Forms
 pub mod Choices
+pub mod Choosing
 pub mod Renaming

@@ -1,5 +1,5 @@
 -- A run gives the set of the range that is posted.
-use Rattle.std.proofs.Common.{◌≡◌, ℕ, ℤ, Bool, true, false, cond, ◌||◌, ◌==◌, List, [], ◌∷◌, map, filter, length, refl, sym, ◌∙◌, ap, subst, inl, inr, eqb-true, eq-eqb}
+use Rattle.std.proofs.Common.{◌≡◌, ℕ, ℤ, pos, arith, Bool, true, false, cond, ◌||◌, ◌==◌, List, [], ◌∷◌, map, filter, length, refl, sym, ◌∙◌, ap, subst, inl, inr, eqb-true, eq-eqb}
 use Rattle.std.specs.Prelude.{Result, IfOk}
 use Rattle.std.specs.List.{All, list_any}
 use Rattle.std.proofs.lemmas.Bool.{true≢false, or_left, or_right, or_cases}
@@ -9,9 +9,10 @@ use Rattle.fd_language.specs.declared.TheConstants.{INFINITY}
 use Rattle.fd_language.specs.declared.range_node.Feature.{Feature}
 use Rattle.fd_language.specs.declared.range_node.RangeNode.{RangeNode}
 use Rattle.fd_language.specs.declared.range_node.Feature.TheVariants as feature
-use Rattle.fd_language.specs.Family.{Family, has, universe, IsRising, IsFamily, IsSubset, count_up}
-use Rattle.fd_language.proofs.Lemmas.{rising_inside, bounded_values, needs_met, two, set_same, whole_nodes}
-use Rattle.fd_language.specs.Range.{Range, Span, One, Dom, Union, Inter, Outside, Plus, Minus, Times, Over, Expr, Number, Infinity, Param, Min, Max, Val, Add, Sub, Mul, DivDown, DivUp, reads, vals, in_range, set_of, is_none_left, is_several}
+use Rattle.fd_language.specs.declared.range_node.RangeNode.TheVariants as node
+use Rattle.fd_language.specs.Family.{Family, has, universe, IsRising, IsFamily, count_up}
+use Rattle.fd_language.proofs.Lemmas.{bounded_values, needs_met, two, set_same, whole_nodes}
+use Rattle.fd_language.specs.Range.{Range, Span, One, Dom, Union, Inter, Outside, Plus, Minus, Times, Over, Expr, Number, Infinity, Param, Min, Max, Val, Add, Sub, Mul, DivDown, DivUp, reads, vals, in_range, set_of, least, is_none_left, is_several}
 use Rattle.fd_language.specs.Needs.{meets_needs}
 use Rattle.fd_language.specs.Check.{fill, fill_range}
 use Rattle.fd_language.specs.RangeVerdict.{is_accepted}
@@ -22,7 +23,7 @@ use Rattle.fd_language.specs.CheckLaws.{AreBounded}
 use Rattle.range_code.specs.declared.frame.Arg.{Arg}
 use Rattle.range_code.specs.declared.frame.Standing.TheVariants.{Empty, Open, Settled}
 use Rattle.domain_ranges.specs.declared.Narrowed.{Narrowed}
-use Rattle.domain_ranges.specs.Narrowing.{IsNarrowed}
+use Rattle.domain_ranges.specs.Narrowing.{IsNarrowed, all_but}
 use Rattle.range_code.specs.Slots.{slot_of, in_slots, slots_of, slot_needs, need_at}
 use Rattle.range_code.specs.Kinds.{has_pair, val_slots}
 use Rattle.range_code.specs.Frames.{IsFrame, slot_variable, slot_integer, family_of, slot_set, posted}
@@ -31,6 +32,11 @@ use Rattle.range_code.specs.Standing.{opens, standing_of, tested, IsTestSeen, Te
 use Rattle.range_code.specs.declared.instr.RangeInstr.{RangeInstr}
 use Rattle.range_code.specs.Folded.{folded_range, folded_nodes}
 use Rattle.range_code.specs.Instructions.{without_need, tests_of}
+use Rattle.range_code.specs.declared.Reach.{Reach}
+use Rattle.range_code.specs.declared.Reach.TheVariants as reach
+use Rattle.range_code.specs.Reaching.{IsReach}
+use Rattle.range_code.specs.Forms.{all_but_val}
+use Rattle.range_code.proofs.Forms.{but_val_set}
 use Rattle.range_code.proofs.Folding.{set_folded, range_fits_folded, readable_folded}
 use Rattle.range_code.proofs.Testing.{tested_is, tests_seen, some_seen, any_tested, reads_rise}
 use Rattle.range_code.specs.Work.{RangeFits, filled_set}
@@ -248,12 +254,32 @@ module _ (sets : List (List ℕ)) (r : Range) (args : List Arg) (accepted : is_a
   pub open_set : (ys : List ℕ) → ((k : ℕ) → is_none_left (family_of sets k) ≡ false) → ys ≡ val_slots r → true ≡ list_any (λ s. is_several (Sets sets r args s)) ys → set_of INFINITY (family_of sets) (posted r args) ≡ universe INFINITY
   open_set ys some e f = sym (open_by sets r args false true (none_empty (λ d. some (slot_variable args d.0)) (features_of (in_slots r))) (sym (opens_same ys e) ∙ sym f) refl)
 
+  -- where all numbers but one value are meant
+  module _ (slot : ℕ) (differs : in_slots r ≡ all_but_val slot) (some : (k : ℕ) → is_none_left (family_of sets k) ≡ false) where
+    one_open : list_any (λ s. is_several (Sets sets r args s)) (val_slots r) ≡ is_several (Sets sets r args slot)
+    one_open = opens_same (val_slots r) refl ∙ (ap (λ q. list_any (opens (Sets sets r args)) (features_of q)) differs ∙ alone (is_several (Sets sets r args slot)))
+      where
+        alone : (b : Bool) → (b || false) ≡ b
+        alone true = refl
+        alone false = refl
+
+    differs_open : is_several (Sets sets r args slot) ≡ true → set_of INFINITY (family_of sets) (posted r args) ≡ universe INFINITY
+    differs_open e = open_set (val_slots r) some refl (sym (one_open ∙ e))
+
+    differs_known : is_several (Sets sets r args slot) ≡ false → set_of INFINITY (family_of sets) (posted r args) ≡ all_but (pos (least (Sets sets r args slot)))
+    differs_known e = settled_set some (one_open ∙ e) ∙ (ap (filled_set (Sets sets r args) (integers sets r args)) differs ∙ but_val_set (Sets sets r args) (integers sets r args) slot)
+
+    pub differs_reach : (d : List ℕ) (res : Reach) → d ≡ Sets sets r args slot → (is_several d ≡ true → res ≡ reach.All) → (is_several d ≡ false → res ≡ reach.Except (pos (least d))) → IsReach (set_of INFINITY (family_of sets) (posted r args)) res
+    differs_reach d res h opened known = by (is_several d) refl where
+      by : (b : Bool) → is_several d ≡ b → IsReach (set_of INFINITY (family_of sets) (posted r args)) res
+      by true g = subst (IsReach (set_of INFINITY (family_of sets) (posted r args))) (sym (opened g)) (differs_open (sym (ap is_several h) ∙ g))
+      by false g = subst (IsReach (set_of INFINITY (family_of sets) (posted r args))) (sym (known g)) (differs_known (sym (ap is_several h) ∙ g) ∙ ap (λ l. all_but (pos (least l))) (sym h))
+
+  pub differs_seen : (slot : ℕ) → in_slots r ≡ all_but_val slot → IsSeen (length sets) args slot
+  differs_seen slot e = subst (λ q. All (IsReadable (length sets) args) (nodes_of q)) e read_nodes 0 node.One (omega arith)
+
   pub gives_empty : (d : List ℕ) (is : List RangeInstr) → is ≡ tests_of r → d ≡ [] → Empty ≡ tested (Sets sets r args) is → d ≡ set_of INFINITY (family_of sets) (posted r args)
   gives_empty d is e h s = h ∙ empty_by sets r args none several refl refl (s ∙ standing_is is e)
 
   pub gives_all : (d : List ℕ) (is : List RangeInstr) → is ≡ tests_of r → d ≡ universe INFINITY → Open ≡ tested (Sets sets r args) is → d ≡ set_of INFINITY (family_of sets) (posted r args)
   gives_all d is e h s = h ∙ open_by sets r args none several refl refl (s ∙ standing_is is e)
-
-  pub open_narrows : (old : List ℕ) (ys : List ℕ) → ((k : ℕ) → is_none_left (family_of sets k) ≡ false) → ys ≡ val_slots r → true ≡ list_any (λ s. is_several (Sets sets r args s)) ys → IsRising 0 INFINITY old → IsSubset old (set_of INFINITY (family_of sets) (posted r args))
-  open_narrows old ys some e f rise =
-      subst (IsSubset old) (open_by sets r args false true (none_empty (λ d. some (slot_variable args d.0)) (features_of (in_slots r))) (sym (opens_same ys e) ∙ sym f) refl) (rising_inside INFINITY old rise)

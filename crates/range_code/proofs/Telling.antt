@@ -56,7 +56,7 @@ pub record IsHigh (ms : List RangeNode) (i values sets height whole : ℕ) : Typ
   pub set_high : sets ≤ height
   pub all : max height (max (peak values_after (drop i ms) values) (peak sets_after (drop i ms) sets)) ≡ whole
 
-low_peak : (f : RangeNode → ℕ → ℕ) (ms : List RangeNode) (n : ℕ) → n ≤ peak f ms n
+pub low_peak : (f : RangeNode → ℕ → ℕ) (ms : List RangeNode) (n : ℕ) → n ≤ peak f ms n
 low_peak f [] n = omega arith
 low_peak f (m ∷ ms) n = omega arith
 

@@ -5,6 +5,7 @@ use Rattle.std.specs.List.Sorted.{IsNonDecreasingBy}
 use Rattle.fd_language.specs.declared.range_node.RangeNode.{RangeNode}
 use Rattle.fd_language.specs.declared.TheConstants.{INFINITY}
 use Rattle.fd_language.specs.Family.{Family, has, universe}
+use Rattle.domain_ranges.specs.Spans.{Span}
 use Rattle.fd_language.specs.Range.{Range, One, Dom, Inter, Times, Plus, Number, in_range}
 use Rattle.fd_language.specs.Check.{fill_range}
 use Rattle.fd_language.specs.Flat.{nodes_of, built}
@@ -21,6 +22,15 @@ part_range m = Plus (Times (Inter (One (Number m.key)) (Dom m.slot)) (Number (po
 -- whether the number is that of a pair whose key is in the set
 abbrev pub is_chosen : List ℕ → List (ℕ × ℕ) → ℕ → Bool
 is_chosen s ds n = list_any (λ d. has s d.0 && (d.1 == n)) ds
+
+-- the members of a set that are chosen
+abbrev pub left_chosen : List ℕ → List ℕ → List (ℕ × ℕ) → List ℕ
+left_chosen t s ds = filter (λ n. has t n && is_chosen s ds n) (universe INFINITY)
+
+-- the first interval, if there is one, doesn't end below the number
+abbrev pub IsFromNumber : ℕ → List Span → Type 0
+IsFromNumber n [] = Unit {0}
+IsFromNumber n (s ∷ ss) = n ≤ s.1
 
 -- the numbers don't fall
 abbrev pub AreRising : List (ℕ × ℕ) → Type 0

@@ -4,18 +4,19 @@ use Rattle.std.specs.List.{All}
 use Rattle.fd_language.specs.declared.range_node.RangeNode.{RangeNode}
 use Rattle.fd_language.specs.declared.TheConstants.{INFINITY}
 use Rattle.fd_language.specs.Family.{Family}
-use Rattle.fd_language.specs.Range.{Range, Expr, least, greatest, div_down, div_up}
+use Rattle.fd_language.specs.Range.{Range, Outside, One, Expr, Val, least, greatest, div_down, div_up}
 use Rattle.fd_language.specs.Flat.{nodes_of, built, shape_of, term_alone, term_of_terms}
 use Rattle.domain_ranges.specs.Narrowing.{between}
 use Rattle.range_code.specs.declared.frame.Arg.{Arg}
 use Rattle.range_code.specs.declared.form.End.{End}
 use Rattle.range_code.specs.declared.form.End.TheVariants.{Least, Greatest}
 use Rattle.range_code.specs.declared.form.Product.{Product}
+use Rattle.range_code.specs.declared.form.Shift.{Shift}
 use Rattle.range_code.specs.declared.form.Division.{Division}
 use Rattle.range_code.specs.declared.form.Division.TheVariants.{Whole, Down, Up}
 use Rattle.range_code.specs.declared.form.Bound.{Bound}
 use Rattle.range_code.specs.declared.form.Form.{Form}
-use Rattle.range_code.specs.declared.form.Form.TheVariants.{Nodes, Between, Row, Without, Except, Chosen}
+use Rattle.range_code.specs.declared.form.Form.TheVariants.{Nodes, Differs, Above, Below, Between, Row, Without, Except, Chosen}
 use Rattle.range_code.specs.declared.form.Leaf.{Leaf}
 use Rattle.range_code.specs.declared.form.Leaf.TheVariants.{Number, Read}
 use Rattle.range_code.specs.declared.form.Addend.{Addend}
@@ -62,6 +63,10 @@ total_of S b = b.constant +ℤ sum_of S b.products.items
 abbrev pub bound_value : Family → Bound → ℤ
 bound_value S b = divided b.division (total_of S b)
 
+-- the sum of a constant and one end of the set of a slot
+abbrev pub shift_value : Family → Shift → ℤ
+shift_value S s = s.constant +ℤ pos (end_of (S s.slot) s.end)
+
 -- how far from 0 the sum of the products may be
 abbrev pub width_of : List Product → ℕ
 width_of [] = 0
@@ -86,6 +91,30 @@ pub record IsUsable (r : Range) (b : Bound) : Type 0 where
   pub division : IsPositive b.division
   pub seen : (count : ℕ) (args : List Arg) → All (IsReadable count args) (nodes_of r) → AreSeen count args b.products.items
 
+-- a moved end that may be evaluated wherever the range may be
+pub record IsShiftUsable (r : Range) (s : Shift) : Type 0 where
+  pub width : nat_abs s.constant + INFINITY ≤ 2 ^ 63 - 1
+  pub seen : (count : ℕ) (args : List Arg) → All (IsReadable count args) (nodes_of r) → IsSeen count args s.slot
+
+-- the range is the interval from a moved end to a number, and from a number to a moved end
+pub record IsAbove (r : Range) (s : Shift) (z : ℤ) : Type 0 where
+  pub set : (S : Family) (p : ℕ → ℤ) → filled_set S p r ≡ between (shift_value S s) z
+  pub usable : IsShiftUsable r s
+
+pub record IsBelow (r : Range) (z : ℤ) (s : Shift) : Type 0 where
+  pub set : (S : Family) (p : ℕ → ℤ) → filled_set S p r ≡ between z (shift_value S s)
+  pub usable : IsShiftUsable r s
+
+-- the moved end has the bound's value
+pub record IsShiftOf (b : Bound) (s : Shift) : Type 0 where
+  pub value : (S : Family) → bound_value S b ≡ shift_value S s
+  pub width : AreNarrow (nat_abs b.constant) b.products.items → nat_abs s.constant + INFINITY ≤ 2 ^ 63 - 1
+  pub seen : (count : ℕ) (args : List Arg) → AreSeen count args b.products.items → IsSeen count args s.slot
+
+-- all numbers but the value of a variable
+abbrev pub all_but_val : ℕ → Range
+all_but_val slot = Outside (One (Val slot))
+
 -- the range is the interval from a bound to a bound, and the complement of one
 pub record IsInterval (r : Range) (a b : Bound) : Type 0 where
   pub set : (S : Family) (p : ℕ → ℤ) → filled_set S p r ≡ between (bound_value S a) (bound_value S b)
@@ -105,6 +134,9 @@ pub record IsException (r : Range) (a : Bound) : Type 0 where
 -- the form is one of the range
 abbrev pub IsForm : Range → Form → Type 0
 IsForm r Nodes = Unit {0}
+IsForm r (Differs slot) = r ≡ all_but_val slot
+IsForm r (Above s z) = IsAbove r s z
+IsForm r (Below z s) = IsBelow r z s
 IsForm r (Between a b) = IsInterval r a b
 IsForm r (Row a b) = IsInterval r a b × AreOpposite a.products.items b.products.items
 IsForm r (Without a b) = IsComplement r a b

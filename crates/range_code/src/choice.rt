@@ -1,14 +1,15 @@
 //! Ranges whose numbers are chosen: each number has a key, and is there where the key is in a domain.
 
-ghost use Rattle.std.specs.Prelude.{◌≡◌, ◌<◌, ◌≤◌, ◌∷◌, ℕ, pos, IsTrue, length, filter, IfSome, IfNone, IfOk, OnOk};
+ghost use Rattle.std.specs.Prelude.{◌≡◌, ◌<◌, ◌≤◌, [], ◌∷◌, ℕ, pos, IsTrue, length, IfSome, IfNone, IfOk, OnOk};
 ghost use Rattle.std.specs.List.{All};
 ghost use Rattle.fd_language.specs.declared.range_node.RangeNode.{RangeNode as Spelled};
-ghost use Rattle.fd_language.specs.Family.{has, universe};
+ghost use Rattle.domain_ranges.specs.Spans.{within, IsSpans};
+ghost use Rattle.fd_language.specs.Family.{has};
 ghost use Rattle.fd_language.specs.Flat.{nodes_of, range_nodes};
 ghost use Rattle.fd_language.specs.Range.{Range};
-ghost use Rattle.range_code.specs.Choices.{part_range, is_chosen, IsPairAdded, AreRising, IsChoice};
+ghost use Rattle.range_code.specs.Choices.{part_range, left_chosen, IsPairAdded, AreRising, IsChoice, IsFromNumber};
 
-use domain_ranges::{Domain, Rising};
+use domain_ranges::{Domain, SetStack};
 use fd_language::{INFINITY, NoMemory, RangeNode};
 use std::alloc::Global;
 
@@ -155,21 +156,67 @@ pub(crate) fn read_choice(alloc: Global, nodes: &[RangeNode]) -> Result<Option<C
 fn is_key(key: u32, keys: &Domain) -> bool
     ensures { result ≡ has keys.now key }
 {
-    keys.contains(key as i128)
+    match keys.spans() {
+        [only] => only.0 <= key && key <= only.1,
+        _ => keys.contains(key as i128),
+    }
 }
 
-/// The numbers of the pairs whose keys are in the domain.
-pub(crate) fn chosen(alloc: Global, pairs: &[(u32, u32)], keys: &Domain) -> Result<Domain, NoMemory>
+/// The intervals from the first one on that doesn't end below the number.
+#[inline(always)]
+fn spans_from(spans: &[(u32, u32)], number: u32) -> &[(u32, u32)]
+    requires { IsSpans 0 INFINITY spans.now }
+    ensures spans { IsSpans 0 INFINITY result.now }
+    ensures same { (n : ℕ) → number ≤ n → within result.now n ≡ within spans.now n }
+    ensures first { IsFromNumber number result.now }
+{
+    let mut rest = spans;
+    'skipping: while let [first, behind @ ..] = rest {
+        if number <= first.1 {
+            return rest;
+        }
+        rest = behind;
+    }
+    rest
+}
+
+/// Whether the number is in the intervals, the first of which doesn't end below it.
+#[inline(always)]
+fn is_in_first(spans: &[(u32, u32)], number: u32) -> bool
+    requires spans { IsSpans 0 INFINITY spans.now }
+    requires first { IsFromNumber number spans.now }
+    ensures { result ≡ within spans.now number }
+{
+    match spans {
+        [] => false,
+        [first, ..] => first.0 <= number,
+    }
+}
+
+/// Puts the members of the target that are chosen into the set on top, which is empty. How many they are.
+pub(crate) fn gather(
+    sets: &mut SetStack,
+    pairs: &[(u32, u32)],
+    keys: &Domain,
+    target: &Domain,
+) -> Result<u32, NoMemory>
     requires high { All (λ pair. pair.1 ≤ INFINITY) pairs.now }
     requires rising { AreRising pairs.now }
-    ensures { IfOk result (λ d. d
-        ≡ filter (is_chosen keys.now pairs.now) (universe INFINITY)) }
+    requires top { sets.old.sets ≡ [] ∷ [] }
+    ensures gathered { OnOk result (sets.new.sets ≡ left_chosen target.now keys.now pairs.now ∷ []) }
+    ensures count { IfOk result (λ n. n ≡ length (left_chosen target.now keys.now pairs.now)) }
+    ensures room { sets.new.room ≡ sets.old.room }
 {
-    let mut numbers = Rising::new(alloc);
+    let mut rest = target.spans();
+    let mut from = 0;
+    let mut count = 0;
     for pair in pairs {
-        if is_key(pair.0, keys) {
-            numbers.push(pair.1)?;
+        rest = spans_from(rest, pair.1);
+        if from <= pair.1 && is_in_first(rest, pair.1) && is_key(pair.0, keys) {
+            sets.add(pair.1)?;
+            from = pair.1 + 1;
+            count += 1;
         }
     }
-    Ok(numbers.into_domain()?)
+    Ok(count)
 }

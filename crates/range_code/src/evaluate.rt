@@ -17,7 +17,7 @@ ghost use Rattle.range_code.specs.Instructions.{node_of, IsPlaced};
 ghost use Rattle.range_code.specs.Walked.{steps_from, all_steps, ArePlaced, IsAt};
 ghost use Rattle.domain_ranges.specs.Narrowing.{between, IsNarrowed};
 
-use crate::choice::chosen;
+use crate::choice::gather;
 use crate::form::Form;
 use crate::frame::{Arg, slot_domain, slot_value};
 use crate::instr::RangeInstr;
@@ -231,18 +231,28 @@ fn narrow_outside(alloc: Global, target: &Domain, low: i64, high: i64) -> Result
 /// What is left of the domain among the numbers that are chosen.
 #[inline(never)]
 fn narrow_to_chosen(
-    alloc: Global,
+    work: &mut Work,
     target: &Domain,
     pairs: &[(u32, u32)],
     keys: &Domain,
 ) -> Result<Narrowed, NoMemory>
     requires high { All (λ pair. pair.1 ≤ TOP) pairs.now }
     requires rising { AreRising pairs.now }
-    ensures { IfOk result (IsNarrowed target.now
+    requires room { 1 ≤ work.old.sets.room }
+    ensures narrowed { IfOk result (IsNarrowed target.now
         (filter (is_chosen keys.now pairs.now) (universe TOP))) }
+    ensures kept { KeepsRoom work.old work.new }
 {
-    let numbers = chosen(alloc, pairs, keys)?;
-    target.narrowed_by(&numbers)
+    let members = target.size();
+    work.begin_set()?;
+    let count = gather(&mut work.sets, pairs, keys, target)?;
+    if count == 0 {
+        return Ok(Narrowed::Empty);
+    }
+    if count == members {
+        return Ok(Narrowed::Same);
+    }
+    Ok(Narrowed::Changed(work.pop_set()?))
 }
 
 /// What the range leaves of the domain, by the table of ranges alone.
@@ -275,7 +285,7 @@ pub(crate) fn evaluate_narrowing<V: View>(
         }
         Form::Chosen(choice) => {
             let keys = slot_domain(args, choice.slot, view);
-            narrow_to_chosen(work.alloc, target, &choice.pairs, keys)
+            narrow_to_chosen(work, target, &choice.pairs, keys)
         }
         _ => {
             work.clear();

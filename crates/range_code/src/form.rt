@@ -6,7 +6,8 @@ ghost use Rattle.fd_language.specs.Family.{Family};
 ghost use Rattle.fd_language.specs.Flat.{nodes_of};
 ghost use Rattle.fd_language.specs.Range.{Range};
 ghost use Rattle.range_code.specs.Frames.{slot_set};
-ghost use Rattle.range_code.specs.Forms.{end_of as end_of_set, sum_of, total_of, divided as divided_by, leaf_amount, amount, bound_value, AreNarrow, AreSeen, IsPositive, IsUsable, IsLeaf, IsSigned, IsDivision, IsPart, IsAdded, IsBound, IsInterval, IsComplement, IsForm, other_end, IsOpposite, AreOpposite};
+ghost use Rattle.range_code.specs.Nodes.{IsSeen};
+ghost use Rattle.range_code.specs.Forms.{end_of as end_of_set, sum_of, total_of, divided as divided_by, leaf_amount, amount, bound_value, shift_value, IsShiftOf, all_but_val, AreNarrow, AreSeen, IsPositive, IsUsable, IsLeaf, IsSigned, IsDivision, IsPart, IsAdded, IsBound, IsInterval, IsComplement, IsForm, other_end, IsOpposite, AreOpposite};
 
 use crate::choice::{Choice, read_choice};
 use crate::frame::{Arg, slot_domain};
@@ -45,11 +46,23 @@ pub(crate) struct Bound {
     pub division: Division,
 }
 
-/// How a range is evaluated: by its nodes, as an interval, as one between bounds whose products are opposite, as the complement
+/// The sum of a constant and one end of the domain in a slot.
+#[derive(Clone, Copy)]
+pub(crate) struct Shift {
+    pub constant: i64,
+    pub slot: usize,
+    pub end: End,
+}
+
+/// How a range is evaluated: by its nodes, as the complement of a variable's value, as an interval from a moved end up to a number
+/// or from a number up to a moved end, as any other interval, as one between bounds whose products are opposite, as the complement
 /// of an interval or of a single number, or by choosing numbers.
 #[derive(Drop)]
 pub(crate) enum Form {
     Nodes,
+    Differs(usize),
+    Above(Shift, i64),
+    Below(i64, Shift),
     Between(Bound, Bound),
     Row(Bound, Bound),
     Without(Bound, Bound),
@@ -80,6 +93,31 @@ fn end_of(domain: &Domain, end: End) -> u32
     match end {
         End::Least => domain.least(),
         End::Greatest => domain.greatest(),
+    }
+}
+
+/// A constant and an end.
+#[inline(always)]
+fn add_end(constant: i64, end: u32) -> i64
+    requires width { nat_abs constant + INFINITY ≤ 2 ^ 63 - 1 }
+    requires limit { end ≤ INFINITY }
+    ensures { result ≡ constant +ℤ pos end }
+{
+    constant + end as i64
+}
+
+impl Shift {
+    /// The value over the domains of a view.
+    #[inline(always)]
+    pub fn value<V: View>(&self, args: &[Arg], view: &V) -> i64
+        requires width { nat_abs self.now.constant + INFINITY ≤ 2 ^ 63 - 1 }
+        requires seen { IsSeen (length (V.sets view.now)) args.now self.now.slot }
+        ensures { result ≡ shift_value (slot_set (V.sets view.now) args.now) self.now }
+    {
+        add_end(
+            self.constant,
+            end_of(slot_domain(args, self.slot, view), self.end),
+        )
     }
 }
 
@@ -441,10 +479,29 @@ fn read_bound(alloc: Global, nodes: &[RangeNode]) -> Result<Option<(Bound, &[Ran
     Ok(Some((bound, rest)))
 }
 
+/// The slot whose value alone is left out, where the nodes say so.
+fn differing_slot(nodes: &[RangeNode]) -> Option<usize>
+    ensures { IfSome result (λ slot. nodes.now ≡ nodes_of (all_but_val slot)) }
+{
+    let [value, single, last] = nodes else {
+        return None;
+    };
+    if !is_single(*single) || !is_complement(*last) {
+        return None;
+    }
+    let RangeNode::Val(slot) = value else {
+        return None;
+    };
+    Some(*slot as usize)
+}
+
 /// The form of the range that the nodes spell.
 pub(crate) fn form_of(alloc: Global, nodes: &[RangeNode]) -> Result<Form, NoMemory>
     ensures { IfOk result (λ form. (r : Range) → nodes.now ≡ nodes_of r → IsForm r form) }
 {
+    if let Some(slot) = differing_slot(nodes) {
+        return Ok(Form::Differs(slot));
+    }
     match read_choice(alloc, nodes)? {
         Some(choice) => Ok(Form::Chosen(choice)),
         None => sums_form(alloc, nodes),
@@ -539,21 +596,70 @@ fn are_opposite(a: &[Product], b: &[Product]) -> bool
     true
 }
 
+fn is_whole(division: Division) -> bool
+    ensures { IsTrue result → division ≡ Division.Whole }
+{
+    matches!(division, Division::Whole)
+}
+
+/// The number that a bound is, where it reads nothing and isn't divided.
+fn number_of(bound: &Bound) -> Option<i64>
+    ensures { IfSome result (λ z. (S : Family) → bound_value S bound.now ≡ z) }
+{
+    if !is_whole(bound.division) {
+        return None;
+    }
+    if !bound.products.is_empty() {
+        return None;
+    }
+    Some(bound.constant)
+}
+
+/// The moved end that a bound is, where it reads one and isn't divided.
+fn shift_of(bound: &Bound) -> Option<Shift>
+    ensures { IfSome result (IsShiftOf bound.now) }
+{
+    if !is_whole(bound.division) {
+        return None;
+    }
+    let [only] = bound.products.as_slice() else {
+        return None;
+    };
+    if only.weight != 1 {
+        return None;
+    }
+    Some(Shift {
+        constant: bound.constant,
+        slot: only.slot,
+        end: only.end,
+    })
+}
+
+/// The form of the interval between two bounds, where one is a number and the other a moved end.
+fn shifted_form(low: &Bound, high: &Bound) -> Option<Form>
+    ensures { IfSome result (λ form. (r : Range) → IsInterval r low.now high.now → IsForm r form) }
+{
+    if let Some(number) = number_of(high) {
+        let shift = shift_of(low)?;
+        return Some(Form::Above(shift, number));
+    }
+    let number = number_of(low)?;
+    let shift = shift_of(high)?;
+    Some(Form::Below(number, shift))
+}
+
 /// The form of the interval between two bounds: where their products are opposite, one pass gives both.
 fn between_form(low: Bound, high: Bound) -> Form
     ensures { (r : Range) → IsInterval r low high → IsForm r result }
 {
+    if let Some(form) = shifted_form(&low, &high) {
+        return form;
+    }
     if are_opposite(&low.products, &high.products) {
         Form::Row(low, high)
     } else {
         Form::Between(low, high)
     }
-}
-
-fn is_whole(division: Division) -> bool
-    ensures { IsTrue result → division ≡ Division.Whole }
-{
-    matches!(division, Division::Whole)
 }
 
 /// Whether the bounds are one undivided sum.

@@ -71,7 +71,7 @@ pub(crate) fn slot_domain<'v, V: View>(args: &[Arg], slot: usize, view: &'v V) -
 
 /// Whether the domain has several members.
 #[inline(always)]
-fn is_open(domain: &Domain) -> bool
+pub(crate) fn is_open(domain: &Domain) -> bool
     ensures { result ≡ is_several domain.now }
 {
     domain.least() != domain.greatest()

@@ -1,11 +1,11 @@
 //! Ranges that are prepared once and evaluated often: the set of a range over the current domains (Codognet and Diaz 1996).
 #![tactic(auto)]
 
-ghost use Rattle.std.specs.Prelude.{◌≡◌, ◌≤◌, ◌+◌, ◌-◌, ◌^◌, ◌↔◌, min, ℕ, List, false, length, IfOk, OnOk, IsTrue};
+ghost use Rattle.std.specs.Prelude.{◌≡◌, ◌≤◌, ◌+◌, ◌-◌, ◌^◌, ◌↔◌, min, ℕ, pos, List, true, false, length, IfOk, OnOk, IsTrue};
 ghost use Rattle.fd_language.specs.RangeVerdict.{is_accepted};
 ghost use Rattle.fd_language.specs.Family.{IsFamily};
 ghost use Rattle.fd_language.specs.Flat.{nodes_of};
-ghost use Rattle.fd_language.specs.Range.{set_of, is_none_left, is_several};
+ghost use Rattle.fd_language.specs.Range.{set_of, least, is_none_left, is_several};
 ghost use Rattle.domain_ranges.specs.Narrowing.{IsNarrowed};
 ghost use Rattle.range_code.specs.Slots.{slots_of, slot_needs, slot_features, in_slots, IsAlike};
 ghost use Rattle.range_code.specs.Kinds.{slot_kinds, val_slots};
@@ -39,7 +39,7 @@ use crate::evaluate::{Steps, evaluate, evaluate_narrowing};
 use crate::fold::fold_literals;
 use crate::form::{Form, both_values, form_of};
 pub use crate::frame::{Arg, are_some};
-use crate::frame::{Standing, find_standing, is_some_open};
+use crate::frame::{Standing, find_standing, is_open, is_some_open, slot_domain};
 pub use crate::instr::RangeInstr;
 use crate::instr::steps_of;
 use crate::work::Work;
@@ -313,6 +313,20 @@ pub enum Reach {
     Other,
 }
 
+/// All numbers but the only member of the domain, and all where it has several.
+#[inline(always)]
+fn reach_without(domain: &Domain) -> Reach
+    ensures open { is_several domain.now ≡ true → result ≡ Reach.All }
+    ensures known { is_several domain.now ≡ false
+        → result ≡ Reach.Except (pos (least domain.now)) }
+{
+    if is_open(domain) {
+        Reach::All
+    } else {
+        Reach::Except(domain.least() as i64)
+    }
+}
+
 /// The set of the range, as far as numbers tell it, where each variable that is read by val has a single member.
 #[inline(always)]
 fn settled_reach<V: View>(code: &RangeCode, args: &[Arg], view: &V) -> Reach
@@ -324,6 +338,8 @@ fn settled_reach<V: View>(code: &RangeCode, args: &[Arg], view: &V) -> Reach
         (set_of INFINITY (family_of (V.sets view.now)) (posted code.now args.now)) result }
 {
     match code.form() {
+        Form::Above(low, high) => Reach::Between(low.value(args, view), *high),
+        Form::Below(low, high) => Reach::Between(*low, high.value(args, view)),
         Form::Between(low, high) => {
             let low = low.value(args, view);
             Reach::Between(low, high.value(args, view))
@@ -337,9 +353,29 @@ fn settled_reach<V: View>(code: &RangeCode, args: &[Arg], view: &V) -> Reach
     }
 }
 
+/// The set of the range over the domains of a view, as far as numbers tell it.
+#[inline(always)]
+fn reach_of<V: View>(code: &RangeCode, args: &[Arg], view: &V) -> Reach
+    requires frame { IsFrame (length (V.sets view.now)) code.now args.now }
+    requires some { (k : ℕ) → is_none_left (family_of (V.sets view.now) k) ≡ false }
+    ensures reach { IsReach
+        (set_of INFINITY (family_of (V.sets view.now)) (posted code.now args.now)) result }
+    ensures other { result ≡ Reach.Other
+        → list_any (λ s. is_several (slot_set (V.sets view.now) args.now s))
+        (val_slots code.now) ≡ false }
+{
+    if let Form::Differs(slot) = code.form() {
+        return reach_without(slot_domain(args, *slot, view));
+    }
+    if is_some_open(code.vals(), args, view) {
+        return Reach::All;
+    }
+    settled_reach(code, args, view)
+}
+
 /// The set of the range over the domains of a view, as far as numbers tell it. No memory is taken.
 ///
-/// The arguments are those of `run_range`. No set of the view is empty.
+/// The arguments are those of `run_range`. No set of the view is empty. A caller may not rely on when `Other` comes.
 #[inline(always)]
 pub fn find_reach<V: View>(code: &RangeCode, args: &[Arg], view: &V) -> Reach
     requires frame { IsFrame (length (V.sets view.now)) code.now args.now }
@@ -347,10 +383,7 @@ pub fn find_reach<V: View>(code: &RangeCode, args: &[Arg], view: &V) -> Reach
     ensures { IsReach
         (set_of INFINITY (family_of (V.sets view.now)) (posted code.now args.now)) result }
 {
-    if is_some_open(code.vals(), args, view) {
-        return Reach::All;
-    }
-    settled_reach(code, args, view)
+    reach_of(code, args, view)
 }
 
 /// What the set of the range leaves of `target`, and one more activation in `n`. Where that is all, nothing is made, and where the range
@@ -377,14 +410,14 @@ pub fn narrow<V: View>(
     ensures count { n.new.count ≡ min (n.old.count + 1) (2 ^ 64 - 1) }
 {
     n.add();
-    if is_some_open(code.vals(), args, view) {
-        target.rises();
-        return Ok(Narrowed::Same);
-    }
-    match settled_reach(code, args, view) {
+    match reach_of(code, args, view) {
+        Reach::All => {
+            target.rises();
+            Ok(Narrowed::Same)
+        }
         Reach::Between(low, high) => target.narrowed_to(low as i128, high as i128),
         Reach::Except(number) => target.narrowed_without(number),
-        _ => evaluate_narrowing(
+        Reach::Other => evaluate_narrowing(
             &mut stacks.work,
             code.steps(),
             code.form(),

@@ -121,6 +121,16 @@ impl Work {
         Ok(())
     }
 
+    /// An empty set waits, and nothing else does. There is room.
+    pub fn begin_set(&mut self) -> Result<(), NoMemory>
+        requires { 1 ≤ self.old.sets.room }
+        ensures begun { OnOk result (self.new.sets.sets ≡ [] ∷ []) }
+        ensures room { KeepsRoom self.old self.new }
+    {
+        self.clear();
+        self.sets.push(&Domain::empty(self.alloc))
+    }
+
     /// A term waits. There is room.
     #[inline(always)]
     pub fn push_value(&mut self, value: i128)

@@ -1,4 +1,4 @@
-use Rattle.std.proofs.Common.{rules, ◌∙◌, sym, ap, subst, filter, length, SFits, to_z-of_z}
+use Rattle.std.proofs.Common.{rules, arith, ◌∙◌, sym, ap, subst, filter, length, SFits, to_z-of_z}
 use mir.Syntax.{w64}
 use Rattle.std.specs.List.{All}
 use Rattle.fd_language.specs.declared.TheConstants.{INFINITY}
@@ -10,6 +10,7 @@ use Rattle.range_code.specs.Frames.{slot_set, slot_integer}
 use Rattle.range_code.specs.Nodes.{IsReadable}
 use Rattle.range_code.specs.Steps.{outside}
 use Rattle.range_code.specs.Walked.{all_steps}
+use Rattle.range_code.proofs.Counting.{some_height}
 use Rattle.range_code.proofs.Forms.{narrows_same, spells_itself}
 use Rattle.range_code.proofs.evaluate.evaluate_narrowing.Goals as goal
 
@@ -41,4 +42,7 @@ pub returns-in-Chosen-clause-narrowed : goal.returns-in-Chosen-clause-narrowed
 returns-in-Chosen-clause-narrowed g c =
     let k = rw (c.in-Chosen.is) at c.requires.form in
     narrows_same c.narrow_to_chosen.result c.args.target.now (filter (is_chosen c.slot_domain-keys.result.now c.deref.result.now) (universe INFINITY)) _
-    (two (λ keys pairs. filter (is_chosen keys pairs) (universe INFINITY)) c.slot_domain-keys.ensures c.deref.ensures.value ∙ sym (k.set (slot_set (g.V.View.sets c.args.view.now) c.args.args.now) (slot_integer c.args.args.now))) c.narrow_to_chosen.ensures
+    (two (λ keys pairs. filter (is_chosen keys pairs) (universe INFINITY)) c.slot_domain-keys.ensures c.deref.ensures.value ∙ sym (k.set (slot_set (g.V.View.sets c.args.view.now) c.args.args.now) (slot_integer c.args.args.now))) c.narrow_to_chosen.ensures.narrowed
+
+pub narrow_to_chosen-requires-clause-room : goal.narrow_to_chosen-requires-clause-room
+narrow_to_chosen-requires-clause-room g c = let h = some_height (all_steps c.args.steps.now) c.requires.spelled in omega (arith, h, c.requires.sets)

@@ -1,7 +1,7 @@
 use Rattle.std.proofs.Common.{rules, ◌≡◌, ℕ, List, ◌∙◌, ap, sym, subst, pos, SFits, to_z, to_z-of_z}
 use mir.Syntax.{w64}
 use Rattle.fd_language.specs.Family.{Family}
-use Rattle.range_code.specs.Forms.{end_of, total_of, sum_of, AreNarrow, AreOpposite}
+use Rattle.range_code.specs.Forms.{end_of, total_of, AreOpposite}
 use Rattle.range_code.specs.Frames.{slot_set}
 use Rattle.range_code.specs.declared.form.End.{End}
 use Rattle.range_code.specs.declared.form.End.TheVariants.{Least}
