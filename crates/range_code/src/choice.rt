@@ -203,7 +203,8 @@ pub(crate) fn gather(
     requires high { All (λ pair. pair.1 ≤ INFINITY) pairs.now }
     requires rising { AreRising pairs.now }
     requires top { sets.old.sets ≡ [] ∷ [] }
-    ensures gathered { OnOk result (sets.new.sets ≡ left_chosen target.now keys.now pairs.now ∷ []) }
+    ensures gathered { OnOk result
+        (sets.new.sets ≡ left_chosen target.now keys.now pairs.now ∷ []) }
     ensures count { IfOk result (λ n. n ≡ length (left_chosen target.now keys.now pairs.now)) }
     ensures room { sets.new.room ≡ sets.old.room }
 {
