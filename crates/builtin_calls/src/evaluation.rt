@@ -278,16 +278,16 @@ fn value_by_sign(sign: u8, left: i64, right: i64) -> Option<i64>
     }
 }
 
-/// The value of an integer, or of a sum, a difference or a product of two integers, where a look shows it.
+/// The value of an operation of two integers, where a look shows it. The cell has no binding to follow.
 #[inline(always)]
-fn near_value(heap: &Heap, pool: &Pool, c: Cell) -> Option<i64>
+fn near_operation(heap: &Heap, pool: &Pool, c: Cell) -> Option<i64>
     requires own { IsOf heap.now.now c }
     requires atoms { HasAtomsBelow (length pool.now.names) heap.now.now }
     ensures { IfSome result (λ z. (name : Naming) (sets : List (List ℕ)) → IsNamedBy pool.now.names
         name → value_of (seen_term name heap.now.now sets c) ≡ Ok z) }
 {
     let Seen::Struct(f, &[left, right]) = heap.deref(c) else {
-        return constant(heap, c);
+        return None;
     };
     let a = constant(heap, left)?;
     let b = constant(heap, right)?;
@@ -295,6 +295,21 @@ fn near_value(heap: &Heap, pool: &Pool, c: Cell) -> Option<i64>
     match name.as_bytes() {
         &[sign] => value_by_sign(sign, a, b),
         _ => apply(operation_named(name)?, a, b).ok(),
+    }
+}
+
+/// The value of an integer, or of an operation of two integers, where a look shows it.
+#[inline(always)]
+fn near_value(heap: &Heap, pool: &Pool, c: Cell) -> Option<i64>
+    requires own { IsOf heap.now.now c }
+    requires atoms { HasAtomsBelow (length pool.now.names) heap.now.now }
+    ensures { IfSome result (λ z. (name : Naming) (sets : List (List ℕ)) → IsNamedBy pool.now.names
+        name → value_of (seen_term name heap.now.now sets c) ≡ Ok z) }
+{
+    let root = heap.near_root(c)?;
+    match root {
+        Cell::Struct(_) => near_operation(heap, pool, root),
+        _ => constant(heap, root),
     }
 }
 
@@ -373,6 +388,7 @@ fn eval_nested<V: View>(
 /// The cell is of the heap, the heap's atoms are of the pool, and the view's sets are those of the heap's variables of the store.
 /// The left operand's fault comes first, then the right one's, then the operation's. An operation of integers takes no memory.
 /// The heap stays as it is, also after an error; `NoMemory` says nothing of the term.
+#[inline(always)]
 pub fn eval<V: View>(
     alloc: Global,
     heap: &Heap,

@@ -12,7 +12,7 @@ use Rattle.builtin_calls.specs.declared.waiting.Operation.{Operation}
 use Rattle.builtin_calls.proofs.Remainders.{read_back}
 use Rattle.builtin_calls.proofs.Showing.{shown_else, held_seen}
 use Rattle.builtin_calls.proofs.Evaluating.{both_valued, held_name, operation_at}
-use Rattle.builtin_calls.proofs.evaluation.near_value.Goals as goal
+use Rattle.builtin_calls.proofs.evaluation.near_operation.Goals as goal
 
 pub returns-in-len1 : goal.returns-in-len1
 returns-in-len1 c = go c.value_by_sign.result c.value_by_sign.ensures
