@@ -3,6 +3,7 @@ pub mod Substitutions
 pub mod Ranks
 pub mod Binding
 pub mod Chains
+pub mod Looking
 pub mod Fields
 pub mod Marks
 pub mod Changing

@@ -5,14 +5,14 @@
 #![tactic(auto)]
 
 ghost use Rattle.std.specs.Vec.{vec_len, vec_capacity};
-ghost use Rattle.std.specs.Prelude.{◌≡◌, ◌+◌, ◌<◌, ◌≤◌, [], ◌∷◌, ◌++◌, length, length as count, take, drop, slice_set, Ok, false, IfSome, IfOk, OnOk, OnErr, All, reverse, MatchOption, IsTrue, ◌↔◌};
+ghost use Rattle.std.specs.Prelude.{◌≡◌, ◌+◌, ◌<◌, ◌≤◌, [], ◌∷◌, ◌++◌, length, length as count, take, drop, slice_set, Ok, false, IfSome, IfOk, OnOk, OnErr, All, reverse, MatchOption, IsTrue, ◌↔◌, ℕ, None};
 ghost use Rattle.heap_cells.specs.declared.Cell.TheVariants as cell;
 ghost use Rattle.heap_cells.specs.declared.Seen.TheVariants as seen;
 ghost use Rattle.heap_cells.specs.Cells.{Cells, free, linked, bound, is_bound, no_cells, slot_at, IsOf, with_slot, with_new_slot, with_now, with_mark, AddsCompound};
 ghost use Rattle.heap_cells.specs.Terms.{KeepsTerms, Same, IsAbsent, Replaces};
 ghost use Rattle.heap_cells.specs.Valid.{IsHeap};
 ghost use Rattle.heap_cells.specs.Stored.{slot_of, trailed, saved_at, restored};
-ghost use Rattle.heap_cells.specs.Seen.{IsSeen, IsTop, IsRoot};
+ghost use Rattle.heap_cells.specs.Seen.{IsSeen, IsTop, IsRoot, IsNeverOpen, IsBoundToVariable, one_step, integer_in};
 
 use fd_language::NoMemory;
 use std::alloc::Global;
@@ -132,7 +132,8 @@ fn binding_of(v: Variable) -> Option<Cell>
 /// A cell, if it is no variable.
 #[inline(always)]
 fn no_variable(c: Cell) -> Option<Cell>
-    ensures { (h : Cells) → IfSome result (λ r. (r ≡ c) × IsRoot h r) }
+    ensures root { (h : Cells) → IfSome result (λ r. (r ≡ c) × IsRoot h r) }
+    ensures none { result ≡ None ↔ ((k : ℕ) × (c ≡ cell.Ref k)) }
 {
     match c {
         Cell::Ref(_) => None,
@@ -278,12 +279,16 @@ impl Heap {
         at
     }
 
-    /// The cell at the end of a cell's bindings where there is at most one. No memory.
+    /// The cell at the end of a cell's bindings where one look finds it. `None` comes exactly at a variable that is bound to a variable. No
+    /// memory.
     #[inline(always)]
     pub fn near_root(&self, c: Cell) -> Option<Cell>
         requires { IsOf self.now.now c }
         ensures root { IfSome result (IsRoot self.now.now) }
         ensures same { IfSome result (Same self.now.now c) }
+        ensures own { IfSome result (IsOf self.now.now) }
+        ensures near { IfSome result (λ r. r ≡ one_step self.now.now c) }
+        ensures none { result ≡ None ↔ IsBoundToVariable self.now.now c }
         ensures valid { IsHeap self.now.now }
     {
         let variables = &self.variables;
@@ -296,11 +301,13 @@ impl Heap {
         }
     }
 
-    /// The integer that a cell is, or that it is bound to without other bindings. No memory.
+    /// The integer that a cell is, or that it is bound to without other bindings. `None` comes at all others, also at a variable that
+    /// comes to an integer by way of another. No memory.
     #[inline(always)]
     pub fn near_int(&self, c: Cell) -> Option<i64>
         requires { IsOf self.now.now c }
         ensures same { IfSome result (λ z. Same self.now.now c (cell.Int z)) }
+        ensures near { result ≡ integer_in (one_step self.now.now c) }
         ensures valid { IsHeap self.now.now }
     {
         let variables = &self.variables;
@@ -319,6 +326,7 @@ impl Heap {
     pub fn open_root(&self, c: Cell) -> Option<usize>
         requires { IsOf self.now.now c }
         ensures open { IfSome result (λ i. IsSeen self.now.now c (seen.Open i)) }
+        ensures none { result ≡ None → IsNeverOpen self.now.now c }
         ensures valid { IsHeap self.now.now }
     {
         match self.root(c) {
