@@ -47,6 +47,7 @@ fn fault_of(fault: EvalFault) -> Result<QueryFault, NoMemory>
 }
 
 /// The value of a term, or its fault. The outer error is want of memory.
+#[inline(always)]
 fn value<A: Agenda + Drop>(
     alloc: Global,
     branch: &BranchState<A>,
