@@ -12,6 +12,38 @@ use fd_language::NoMemory;
 use heap_cells::Cell;
 use std::alloc::Global;
 use std::marker::Model;
+use term_pool::AtomId;
+
+/// What a register or a slot holds: a cell, or nothing as long as it is not set.
+#[derive(Clone, Copy)]
+enum Kept {
+    Ref(usize),
+    Int(i64),
+    Atom(AtomId),
+    Struct(usize),
+    Unset,
+}
+
+/// A register or a slot. It takes no more memory than a cell.
+#[derive(Clone, Copy)]
+struct Place {
+    kept: Kept,
+}
+
+const _: () = prove!(size_of::<Place>() == 16);
+
+impl Model for Place {
+    ghost use Rattle.std.specs.Prelude.{Option};
+    ghost use Rattle.heap_cells.specs.declared.Cell.{Cell as HeapCell};
+
+    ghost Value = { Option HeapCell };
+
+    ghost use Rattle.code_areas.specs.Kept.{cell_kept, kept_for};
+
+    ghost view = { λ p. cell_kept p.kept };
+
+    ghost inverse = { λ o. record { kept = kept_for o } };
+}
 
 /// What a call has left behind: where to go on, the slots from `start` to `end`, and the frame
 /// behind it by its number.
@@ -42,9 +74,9 @@ struct Mark {
 /// set.
 #[derive(Drop)]
 pub struct Areas {
-    cells: Vec<Option<Cell>>,
+    cells: Vec<Place>,
     first: usize,
-    slots: Vec<Option<Cell>>,
+    slots: Vec<Place>,
     base: usize,
     frames: Vec<Frame>,
     newest: usize,
@@ -134,7 +166,7 @@ impl Areas {
             ≡ record self.old { slots = slice_set self.old.slots n (Some cell) } }
     {
         let at = self.base + n;
-        self.slots[at] = Some(cell);
+        self.slots[at] = place_of(cell);
     }
 
     /// Begins a frame of `n` slots, of which none is set. The error is want of memory.
@@ -147,7 +179,7 @@ impl Areas {
         if n > usize::MAX - self.base {
             return Err(NoMemory);
         }
-        self.slots.resize(self.base + n, None)?;
+        self.slots.resize(self.base + n, unset())?;
         Ok(())
     }
 
@@ -270,23 +302,47 @@ impl Areas {
     }
 }
 
+/// A place that holds the cell.
+#[inline(always)]
+fn place_of(cell: Cell) -> Place
+    ensures { result ≡ Some cell }
+{
+    let kept = match cell {
+        Cell::Ref(variable) => Kept::Ref(variable),
+        Cell::Int(number) => Kept::Int(number),
+        Cell::Atom(atom) => Kept::Atom(atom),
+        Cell::Struct(structure) => Kept::Struct(structure),
+    };
+    Place { kept }
+}
+
+/// A place where no cell is set.
+#[inline(always)]
+fn unset() -> Place
+    ensures { result ≡ None }
+{
+    Place { kept: Kept::Unset }
+}
+
 /// The cell at a number where one is set.
 #[inline(always)]
-fn set_cell(cells: &[Option<Cell>], at: usize) -> Cell
+fn set_cell(cells: &[Place], at: usize) -> Cell
     requires { IsSet cells.now at }
     ensures { cell_at cells.now at ≡ Some result }
 {
-    cells[at].unwrap()
+    let place = &cells[at];
+    match place.kept {
+        Kept::Ref(variable) => Cell::Ref(variable),
+        Kept::Int(number) => Cell::Int(number),
+        Kept::Atom(atom) => Cell::Atom(atom),
+        Kept::Struct(structure) => Cell::Struct(structure),
+        Kept::Unset => unreachable!(),
+    }
 }
 
 /// Puts a cell behind the first ones at the number `n`.
 #[inline(always)]
-fn put_cell(
-    cells: &mut Vec<Option<Cell>>,
-    first: usize,
-    n: usize,
-    cell: Cell,
-) -> Result<(), NoMemory>
+fn put_cell(cells: &mut Vec<Place>, first: usize, n: usize, cell: Cell) -> Result<(), NoMemory>
     requires { first ≤ length cells.old.items }
     ensures put { OnOk result (IsPut cells.old.items (first + n) cell cells.new.items) }
     ensures kept { OnOk result (take first cells.new.items ≡ take first cells.old.items) }
@@ -295,11 +351,11 @@ fn put_cell(
 {
     let held = cells.len() - first;
     if n < held {
-        cells[first + n] = Some(cell);
+        cells[first + n] = place_of(cell);
         return Ok(());
     }
     if n == held && cells.len() < cells.capacity() {
-        cells.push_reserved(Some(cell));
+        cells.push_reserved(place_of(cell));
         return Ok(());
     }
     put_beyond(cells, first, n, cell)
@@ -307,12 +363,7 @@ fn put_cell(
 
 /// Puts a cell past the end, at the number `n` behind the first ones: those between are not set.
 #[inline(never)]
-fn put_beyond(
-    cells: &mut Vec<Option<Cell>>,
-    first: usize,
-    n: usize,
-    cell: Cell,
-) -> Result<(), NoMemory>
+fn put_beyond(cells: &mut Vec<Place>, first: usize, n: usize, cell: Cell) -> Result<(), NoMemory>
     requires within { first ≤ length cells.old.items }
     requires beyond { length cells.old.items ≤ first + n }
     ensures put { OnOk result (IsPut cells.old.items (first + n) cell cells.new.items) }
@@ -322,15 +373,15 @@ fn put_beyond(
 {
     let at = first.checked_add(n).ok_or(NoMemory)?;
     let end = at.checked_add(1).ok_or(NoMemory)?;
-    cells.resize(end, None)?;
-    cells[at] = Some(cell);
+    cells.resize(end, unset())?;
+    cells[at] = place_of(cell);
     Ok(())
 }
 
 /// Takes away the cells from the number `n` on behind the first ones.
 #[inline]
 #[tactic(auto, using(std::proofs::lemmas::List::take_all))]
-fn cut_cells(cells: &mut Vec<Option<Cell>>, first: usize, n: usize)
+fn cut_cells(cells: &mut Vec<Place>, first: usize, n: usize)
     requires { first ≤ length cells.old.items }
     ensures { cells.new.items ≡ take (first + n) cells.old.items }
 {
