@@ -1,5 +1,6 @@
 -- A structure is built for an open variable, which is bound to it.
-use Rattle.std.proofs.Common.{◌≡◌, ℕ, ◌<◌, Bool, true, false, List, [], ◌∷◌, length, Ok, ap, sym, ◌∙◌, subst, inl}
+use Rattle.std.proofs.Common.{◌≡◌, ℕ, ◌<◌, Bool, true, false, List, [], ◌∷◌, length, Result, Ok, Err, ap, sym, ◌∙◌, subst, inl}
+use Rattle.std.specs.Prelude.{IfOk}
 use Rattle.std.proofs.lemmas.Bool.{false≢true}
 use Rattle.fd_language.specs.Unifier.{IsMostGeneral}
 use Rattle.term_pool.specs.declared.AtomId.{AtomId}
@@ -21,11 +22,13 @@ use Rattle.wam_code.specs.Area.{Area}
 use Rattle.wam_code.specs.Verified.{IsAtom}
 use Rattle.code_areas.specs.Areas.{Contents}
 use Rattle.code_states.specs.Standing.{went_to}
+use Rattle.code_states.specs.declared.went.Went.{Went}
 use Rattle.code_states.specs.declared.went.Went.TheVariants.{Back}
 use Rattle.code_states.proofs.Equal.{equated}
-use Rattle.term_instructions.specs.Building.{IsGatheredTo, BuildsFor}
+use Rattle.term_instructions.specs.Building.{IsGatheredTo, BuildsFor, BuildsOn}
 use Rattle.term_instructions.proofs.Steps.{below_heap, below_both}
 use Rattle.term_instructions.proofs.Head.{built_then}
+use Rattle.term_instructions.proofs.BuildSteps.{gathered_both}
 
 -- what holds of a cell that another one comes to
 module _ (h : Cells) (d e : Cell) (same : Same h d e) where
@@ -78,3 +81,16 @@ module _ (area : Area) (f : AtomId) (n : ℕ) (atom : IsAtom area f) (s : branch
       at_unequal : (e : Bool) → e ≡ false → EqualsOrNot b.middle.heaps.now (cell.Ref var) b.built s4.heaps.now before after e → CannotUnify b.middle.heaps.now (cell.Ref var) b.built
       at_unequal true so q = absurd (false≢true (sym so))
       at_unequal false so q = q
+
+-- Building goes on from where gathering began,
+pub built_from : (area : Area) (f : AtomId) (n var : ℕ) (s : branch.State) (from : ℕ) (c : Contents) → var < length s.heaps.now.slots → (s1 : branch.State) (at : ℕ) (c1 : Contents) (cells : List Cell) → IsGatheredTo area n s from c [] s1 at c1 cells → (s' : branch.State) (c' : Contents) {E : Type 0} (r : Result Went E)
+    → IfOk r (BuildsOn area f n var s1 at c1 cells s' c') → IfOk r (BuildsFor area f n var s from c s' c')
+built_from area f n var s from c there s1 at c1 cells g s' c' (Ok w) q = q s from c there g
+built_from area f n var s from c there s1 at c1 cells g s' c' (Err e) q = tt
+
+-- and from where some arguments were gathered.
+pub built_on : (area : Area) (f : AtomId) (n var : ℕ) (s1 : branch.State) (at : ℕ) (c1 : Contents) (cells : List Cell) (s2 : branch.State) (next : ℕ) (c2 : Contents) (cells2 : List Cell) → IsGatheredTo area n s1 at c1 cells s2 next c2 cells2 → (given : List Cell) → given ≡ cells2 → (s' : branch.State) {E : Type 0} (r : Result Went E)
+    → IfOk r (BuildsOn area f n var s2 next c2 given s' c2) → IfOk r (BuildsOn area f n var s1 at c1 cells s' c2)
+built_on area f n var s1 at c1 cells s2 next c2 cells2 g given is s' (Ok w) q = λ s from c there k.
+    q s from c there (subst (λ l. IsGatheredTo area n s from c [] s2 next c2 l) (sym is) (gathered_both area n s from c [] s1 at c1 cells s2 next c2 cells2 k g))
+built_on area f n var s1 at c1 cells s2 next c2 cells2 g given is s' (Err e) q = tt

@@ -1,6 +1,6 @@
 -- One argument of a structure that is built is gathered.
 use Rattle.std.proofs.Common.{◌≡◌, ℕ, zero, suc, ◌+◌, ◌-◌, ◌<◌, ◌≤◌, nat_le, true, List, [], ◌∷◌, ◌++◌, length, map, All, Some, refl, ap, sym, ◌∙◌, subst, arith, ℤ, length-append, get_or}
-use Rattle.std.proofs.lemmas.List.Elements.{All-append}
+use Rattle.std.proofs.lemmas.List.Elements.{All-append, All-nil}
 use Rattle.std.proofs.lemmas.Option.{same_Some}
 use Rattle.fd_language.specs.declared.TheConstants.{INFINITY}
 use Rattle.fd_language.specs.Term.{Name}
@@ -32,7 +32,7 @@ use Rattle.code_steps.proofs.Building.{build_variable, build_value, build_consta
 use Rattle.code_states.specs.Machine.{saved_of, registers_of, stack_of, IsSameBehind}
 use Rattle.code_states.specs.Safety.{Fits, IsSafe}
 use Rattle.code_states.specs.Standing.{IsNaming}
-use Rattle.term_instructions.specs.Building.{Purpose, for_head, for_goal, end_of, gathered, IsGatheredTo, AddsVariables, AreVariablesAdded}
+use Rattle.term_instructions.specs.Building.{Purpose, for_head, for_goal, end_of, gathered, IsGatheredTo, AddsVariables, AreVariablesAdded, GivesOne}
 use Rattle.code_states.proofs.Safety.{found, when_parts, some_is, written_fits, written_own, cells_kept, next_safe}
 use Rattle.term_instructions.proofs.Steps.{next_among, among_both, among_none, same_behind, behind_both, same_below, below_heap, below_both, owed_set, held_own, new_slot_own}
 use Rattle.term_instructions.proofs.Unify.{fits_owed, effect_owed, no_void}
@@ -233,6 +233,32 @@ module _ (area : Area) (n : ℕ) (s : branch.State) (at : ℕ) (c : Contents) (c
           voids_built INFINITY area shown name qs (suc at) (registers_of c) (stack_of c) b End' use' left k (left + k) (with_new_slot h) (cells ++ cell.Ref (length h.slots) ∷ []) s'.heaps.now cells' (var_valid h valid) refl added
           (subst (λ l. Builds INFINITY area shown name (with_new_slot h) qs k (suc at) (registers_of c) l (left + k) (stack_of c) b End') (sym (next_gathered use' cells (cell.Ref (length h.slots)))) one)
 
+-- ---- one argument, whatever was gathered before
+
+module _ (area : Area) (left : ℕ) (s : branch.State) (at : ℕ) (c : Contents) (safe : IsSafe area s at left c) (some : 0 < left) where
+  left_safe : (n : ℕ) (cells : List Cell) → n - length cells ≡ left → IsSafe area s at (n - length cells) c
+  left_safe n cells e = subst (λ k. IsSafe area s at k c) (sym e) safe
+
+  left_more : (n : ℕ) (cells : List Cell) → n - length cells ≡ left → length cells < n
+  left_more n cells e = omega (arith, e, some)
+
+  pub give_value : (r : Register) → Holds area at (UnifyValue r) → (d : Cell) → cell_in (registers_of c) r ≡ Some d → GivesOne area left s at c s c d
+  give_value r holds d here = λ n cells e own. gather_value area n s at c cells (left_safe n cells e) (left_more n cells e) own r holds d here
+
+  pub give_constant : (i : AtomId) → Holds area at (UnifyConstant i) → GivesOne area left s at c s c (cell.Atom i)
+  give_constant i holds = λ n cells e own. gather_constant area n s at c cells (left_safe n cells e) (left_more n cells e) own i holds
+
+  pub give_integer : (z : ℤ) → Holds area at (UnifyInteger z) → GivesOne area left s at c s c (cell.Int z)
+  give_integer z holds = λ n cells e own. gather_integer area n s at c cells (left_safe n cells e) (left_more n cells e) own z holds
+
+  pub give_variable : (r : Register) → Holds area at (UnifyVariable r) → (s' : branch.State) → s' ≡ with_heap s (with_new_slot s.heaps.now) → IsSound s' → (d : Cell) → d ≡ cell.Ref (length s.heaps.now.slots) → (c' : Contents) → IsWritten (registers_of c) r d (registers_of c') → IsSameBehind c c' → length c'.slots ≡ length c.slots → GivesOne area left s at c s' c' d
+  give_variable r holds s' added sound d is c' w same size = λ n cells e own. gather_variable area n s at c cells (left_safe n cells e) (left_more n cells e) own r holds s' added sound d is c' w same size
+
+  pub give_void : Holds area at (UnifyVoid 1) → (s' : branch.State) → s' ≡ with_heap s (with_new_slot s.heaps.now) → IsSound s' → (d : Cell) → d ≡ cell.Ref (length s.heaps.now.slots) → GivesOne area left s at c s' c d
+  give_void holds s' added sound d is = λ n cells e own.
+      gather_void area n s at c cells (left_safe n cells e) (left_more n cells e) own 1 holds (let m = left_more n cells e in omega (arith, m)) s' (cells ++ d ∷ [])
+      (variables_more 0 s cells s cells (record { added = (refl, refl); heap = refl; sound = safe.sound }) s' added sound d is (cells ++ d ∷ []) refl)
+
 -- ---- many instructions
 
 pub gathered_start : (area : Area) (n : ℕ) (s : branch.State) (at : ℕ) (c : Contents) (cells : List Cell) → IsSafe area s at (n - length cells) c → length cells ≤ n → All (IsCell s) cells → IsGatheredTo area n s at c cells s at c cells
@@ -251,3 +277,13 @@ gathered_both area n s at c cells s1 at1 c1 cells1 s2 at2 c2 cells2 g k = record
   grown = grown_both s.heaps.now s1.heaps.now s2.heaps.now g.grown k.grown;
   keeps = λ shown name f use' b m v. k.keeps shown name f use' b m (g.keeps shown name f use' b m v);
 }
+
+-- ---- two arguments
+
+pub one_given : (area : Area) (s : branch.State) (at : ℕ) (c : Contents) (s1 : branch.State) (c1 : Contents) (a : Cell) → GivesOne area 2 s at c s1 c1 a → IsGatheredTo area 2 s at c [] s1 (suc at) c1 (a ∷ [])
+one_given area s at c s1 c1 a g = g 2 [] refl (All-nil (IsCell s))
+
+pub two_given : (area : Area) (s : branch.State) (at : ℕ) (c : Contents) (s1 : branch.State) (c1 : Contents) (a : Cell) → GivesOne area 2 s at c s1 c1 a → (s2 : branch.State) (c2 : Contents) (b : Cell) → GivesOne area 1 s1 (suc at) c1 s2 c2 b → IsGatheredTo area 2 s at c [] s2 (suc (suc at)) c2 (a ∷ b ∷ [])
+two_given area s at c s1 c1 a g s2 c2 b k =
+    let one = one_given area s at c s1 c1 a g in
+    gathered_both area 2 s at c [] s1 (suc at) c1 (a ∷ []) s2 (suc (suc at)) c2 (a ∷ b ∷ []) one (k 2 (a ∷ []) refl one.own)

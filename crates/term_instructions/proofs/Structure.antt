@@ -1,5 +1,6 @@
 -- Structures, from their instruction to the place behind the unify group.
-use Rattle.std.proofs.Common.{◌≡◌, ℕ, suc, ◌-◌, ◌<◌, ◌==◌, true, ◌||◌, List, [], ◌∷◌, length, map, refl, ap, sym, ◌∙◌, subst, inl, inr, arith, ℤ}
+use Rattle.std.specs.Prelude.{IfOk, OnOk}
+use Rattle.std.proofs.Common.{◌≡◌, ℕ, suc, ◌-◌, ◌==◌, true, ◌||◌, List, [], ◌∷◌, length, map, Result, Ok, Err, refl, ap, sym, ◌∙◌, subst, inl, inr, arith, ℤ}
 use Rattle.std.proofs.lemmas.Bool.{cases_Bool}
 use Rattle.fd_language.specs.declared.TheConstants.{INFINITY}
 use Rattle.fd_language.specs.Family.{has}
@@ -15,6 +16,7 @@ use Rattle.branch_state.specs.States.{IsCell, AreCells, IsSound, IsSameBelow, wi
 use Rattle.wam_code.specs.declared.instruction.Register.TheVariants.{X}
 use Rattle.wam_code.specs.declared.instruction.Code.TheVariants.{PutStructure}
 use Rattle.wam_code.specs.Area.{State, Area, Holds, name_of}
+use Rattle.wam_code.specs.Verified.{IsAtom}
 use Rattle.wam_code.specs.Effect.{with_set, with_owed}
 use Rattle.code_areas.specs.Areas.{Contents}
 use Rattle.code_steps.specs.Registers.{IsWritten}
@@ -22,13 +24,16 @@ use Rattle.code_steps.specs.Building.{PutEnd, Builds}
 use Rattle.code_steps.specs.Standing.{Stands}
 use Rattle.code_steps.proofs.Built.{start_put, end_put}
 use Rattle.code_states.specs.Machine.{saved_of, registers_of, stack_of, IsSameBehind}
-use Rattle.code_states.specs.Safety.{Fits, AreReturns, AreBehind, IsSafe}
+use Rattle.code_states.specs.Safety.{Fits, AreReturns, AreBehind, IsSafe, IsSafeThen}
 use Rattle.code_states.specs.Standing.{KeepsStanding}
-use Rattle.term_instructions.specs.Building.{for_goal, BuildsAt, IsGatheredTo}
+use Rattle.code_states.specs.Work.{LeadsOn}
+use Rattle.term_instructions.specs.Building.{for_goal, BuildsAt, IsGatheredTo, IsPutAt, PutsOn}
+use Rattle.code_states.specs.declared.went.Went.{Went}
 use Rattle.code_states.specs.declared.went.Went.TheVariants.{On}
 use Rattle.code_states.proofs.Safety.{found, some_is, written_fits, written_own, cells_kept, returns_kept, points_then, next_safe}
-use Rattle.term_instructions.proofs.Steps.{same_behind, behind_both, same_below, below_heap, below_both}
+use Rattle.term_instructions.proofs.Steps.{same_behind, behind_both, same_below, below_heap, below_both, led_from}
 use Rattle.term_instructions.proofs.Unify.{fits_owed}
+use Rattle.term_instructions.proofs.BuildSteps.{gathered_both}
 
 has_more : (a k : ℕ) (regs : List ℕ) → has regs k ≡ true → has (a ∷ regs) k ≡ true
 has_more a k regs e = elim (cases_Bool (a == k)) [ inl i ↦ ap (λ b. b || has regs k) i | inr i ↦ ap (λ b. b || has regs k) i ∙ e ]
@@ -85,8 +90,8 @@ pub made_keeps : (f : AtomId) (cells : List Cell) (s s' : branch.State) (new : C
 made_keeps f cells s s' new m heap d o = (of_grown s.heaps.now s'.heaps.now m.grown d o.0, subst (λ n. IsAtomBelow n d) (sym (below_heap s s' heap).atoms) o.1)
 
 module _ (area : Area) (s : branch.State) (at : ℕ) (c : Contents) (safe : IsSafe area s at 0 c) (f : AtomId) (n a : ℕ) (holds : Holds area at (PutStructure f n a)) where
-  pub put_name : f.number < s.atoms
-  put_name = subst (λ k. f.number < k) (sym safe.atoms) (safe.verified.there at (PutStructure f n a) holds)
+  pub put_atom : IsAtom area f
+  put_atom = safe.verified.there at (PutStructure f n a) holds
 
   -- the register holds some cell meanwhile
   pub put_started : (c1 : Contents) (z : ℤ) → IsWritten (registers_of c) (X a) (cell.Int z) (registers_of c1) → IsSameBehind c c1 → length c1.slots ≡ length c.slots → IsSafe area s (suc at) n c1
@@ -123,3 +128,29 @@ module _ (area : Area) (s : branch.State) (at : ℕ) (c : Contents) (safe : IsSa
         let five = end_put INFINITY area shown name s2.heaps.now s2.levels.current.posted next (registers_of c2) (stack_of c2) b f named given s3.heaps.now new made.grown made.own.0 (made.term name) a four (registers_of c3) w3 in
         subst (λ rs. Stands INFINITY area shown name s3.heaps.now s3.levels.current.posted next (registers_of c3) (map saved_of rs) b) (sym same3.returns)
         (subst (λ ps. Stands INFINITY area shown name s3.heaps.now ps next (registers_of c3) (stack_of c2) b) (sym (ap (λ (t : branch.State). t.levels.current.posted) heap)) five)
+
+  -- The register takes it.
+  pub put_done : (c1 : Contents) (z : ℤ) → IsWritten (registers_of c) (X a) (cell.Int z) (registers_of c1) → IsSameBehind c c1 → (from : ℕ) → from ≡ suc at → (s' : branch.State) (c' : Contents) {E : Type 0} (r : Result Went E) → IfOk r (PutsOn area f n a s from c1 [] s' c')
+      → IfOk r (IsSafeThen area s' c') × IfOk r (KeepsStanding area s at c s' c') × IfOk r (LeadsOn area at) × OnOk r (IsSameBehind c c') × OnOk r (IsSameBelow s s')
+  put_done c1 z w1 same1 from is s' c' (Err e) p = (tt, tt, tt, tt, tt)
+  put_done c1 z w1 same1 from is s' c' (Ok w) p =
+      let t = p.put in
+      let g : IsGatheredTo area n s (suc at) c1 [] p.middle p.next p.contents p.args = subst (λ i. IsGatheredTo area n s i c1 [] p.middle p.next p.contents p.args) is p.gathered in (
+        subst (IsSafeThen area s' c') (sym t.leads) (put_safe c1 z w1 same1 [] refl p.middle p.next p.contents p.args g p.all s' t.built p.args refl t.made t.heap t.sound c' t.written t.same t.slots),
+        subst (KeepsStanding area s at c s' c') (sym t.leads) (put_stands c1 z w1 same1 [] refl p.middle p.next p.contents p.args g p.all s' t.built p.args refl t.made t.heap t.sound c' t.written t.same),
+        subst (LeadsOn area at) (sym t.leads) (led_from area s at c safe (PutStructure f n a) holds refl from is (On p.next) p.gathered.leads),
+        put_behind c1 z w1 same1 [] refl p.middle p.next p.contents p.args g p.all s' t.built p.args refl t.made t.heap t.sound c' t.written t.same,
+        put_below c1 z w1 same1 [] refl p.middle p.next p.contents p.args g p.all s' t.built p.args refl t.made t.heap t.sound c' t.written t.same,
+      )
+
+-- The arguments that are left were gathered before.
+pub puts_on : (area : Area) (f : AtomId) (n a : ℕ) (s1 : branch.State) (at : ℕ) (c1 : Contents) (cells : List Cell) (s2 : branch.State) (next : ℕ) (c2 : Contents) (args : List Cell) → IsGatheredTo area n s1 at c1 cells s2 next c2 args → length args ≡ n → (given : List Cell) → given ≡ args → (s' : branch.State) (c' : Contents) {E : Type 0} (r : Result Went E)
+    → IfOk r (IsPutAt f given a next s2 c2 s' c') → IfOk r (PutsOn area f n a s1 at c1 cells s' c')
+puts_on area f n a s1 at c1 cells s2 next c2 args g all given is s' c' (Ok w) p = record { next = next; middle = s2; contents = c2; args = args; gathered = g; all = all; put = subst (λ l. IsPutAt f l a next s2 c2 s' c' w) is p }
+puts_on area f n a s1 at c1 cells s2 next c2 args g all given is s' c' (Err e) p = tt
+
+-- Some arguments were gathered before the others.
+pub puts_from : (area : Area) (f : AtomId) (n a : ℕ) (s : branch.State) (from : ℕ) (c : Contents) (s1 : branch.State) (at : ℕ) (c1 : Contents) (cells : List Cell) → IsGatheredTo area n s from c [] s1 at c1 cells → (s' : branch.State) (c' : Contents) {E : Type 0} (r : Result Went E)
+    → IfOk r (PutsOn area f n a s1 at c1 cells s' c') → IfOk r (PutsOn area f n a s from c [] s' c')
+puts_from area f n a s from c s1 at c1 cells g s' c' (Ok w) p = record { next = p.next; middle = p.middle; contents = p.contents; args = p.args; gathered = gathered_both area n s from c [] s1 at c1 cells p.middle p.next p.contents p.args g p.gathered; all = p.all; put = p.put }
+puts_from area f n a s from c s1 at c1 cells g s' c' (Err e) p = tt

@@ -18,7 +18,9 @@ use Rattle.wam_code.specs.Effect.{is_set, is_free, with_set, with_owed, unify_ef
 use Rattle.code_areas.specs.Areas.{Places, Contents}
 use Rattle.code_states.specs.Machine.{HasCell, CanHold}
 use Rattle.code_states.specs.Safety.{Fits, IsSafe}
-use Rattle.term_instructions.specs.Arguments.{IsUnifyAt}
+use Rattle.term_instructions.specs.declared.arguments.Argument.{Argument}
+use Rattle.term_instructions.specs.declared.arguments.Argument.TheVariants as argument
+use Rattle.term_instructions.specs.Arguments.{IsOne, IsUnifyAt}
 use Rattle.code_states.proofs.Safety.{Finds, found, when_parts, free_holds, set_holds}
 
 pub fits_owed : (t : State) (n : ℕ) (registers slots : Places) → Fits t registers slots → Fits (with_owed t n) registers slots
@@ -89,3 +91,12 @@ only_unify area at (UnifyConstant c) h u no1 no2 no3 no4 no5 = no3 c refl
 only_unify area at (UnifyInteger z) h u no1 no2 no3 no4 no5 = no4 z refl
 only_unify area at (UnifyVoid n) h u no1 no2 no3 no4 no5 = no5 n refl
 only_unify area at i h u no1 no2 no3 no4 no5 = no_unify area at i h (λ s. refl) u
+
+-- ---- an argument alone
+
+pub one_unless : (a : Argument) → ((n : ℕ) → a ≡ argument.Void n → ⊥) → IsOne a
+one_unless (argument.Variable r) none = tt
+one_unless (argument.Value r) none = tt
+one_unless (argument.Constant c) none = tt
+one_unless (argument.Integer z) none = tt
+one_unless (argument.Void n) none = absurd (none n refl)

@@ -17,6 +17,14 @@ code_of (Constant c) = UnifyConstant c
 code_of (Integer z) = UnifyInteger z
 code_of (Void n) = UnifyVoid n
 
+-- it gives one argument
+abbrev pub IsOne : Argument → Type 0
+IsOne (Void n) = n ≡ 1
+IsOne (Variable r) = Unit {0}
+IsOne (Value r) = Unit {0}
+IsOne (Constant c) = Unit {0}
+IsOne (Integer z) = Unit {0}
+
 -- one of them stands there
 abbrev pub IsUnifyAt : Area → ℕ → Type 0
 IsUnifyAt area at = (i : Code) × (s : State) × (t : State) × Holds area at i × (unify_effect i s ≡ Some t)

@@ -1,7 +1,7 @@
 //! The arguments of a structure in code.
-ghost use Rattle.std.specs.Prelude.{◌<◌, length};
+ghost use Rattle.std.specs.Prelude.{◌<◌, length, IsTrue};
 ghost use Rattle.wam_code.specs.Area.{Holds};
-ghost use Rattle.term_instructions.specs.Arguments.{code_of, IsUnifyAt};
+ghost use Rattle.term_instructions.specs.Arguments.{code_of, IsOne, IsUnifyAt};
 
 use term_pool::AtomId;
 use wam_code::{Code, CodeArea, Register};
@@ -30,5 +30,16 @@ pub(crate) fn argument_at(code: &CodeArea, at: usize) -> Argument
         Code::UnifyInteger(z) => Argument::Integer(z),
         Code::UnifyVoid(n) => Argument::Void(n),
         _ => unreachable!(),
+    }
+}
+
+/// Whether an instruction of the unify group gives one argument.
+#[inline(always)]
+pub(crate) fn is_one(argument: Argument) -> bool
+    ensures { IsTrue result → IsOne argument }
+{
+    match argument {
+        Argument::Void(n) => n == 1,
+        _ => true,
     }
 }

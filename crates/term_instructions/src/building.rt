@@ -1,10 +1,12 @@
 //! Arguments of a structure that is built.
-ghost use Rattle.std.specs.Prelude.{◌≡◌, ◌-◌, ◌<◌, ◌≤◌, suc, length, All, IfOk, OnOk};
+ghost use Rattle.std.specs.Prelude.{◌≡◌, ◌-◌, ◌<◌, ◌≤◌, [], suc, length, All, IfOk, OnOk};
 ghost use Rattle.branch_state.specs.States.{IsCell, IsSound};
+ghost use Rattle.wam_code.specs.Area.{Holds};
 ghost use Rattle.code_states.specs.Safety.{IsSafe};
-ghost use Rattle.term_instructions.specs.Building.{IsGatheredTo, AreVariablesAdded};
+ghost use Rattle.term_instructions.specs.Arguments.{code_of, IsOne};
+ghost use Rattle.term_instructions.specs.Building.{IsGatheredTo, AreVariablesAdded, GivesOne, GathersTwo};
 
-use crate::arguments::{Argument, argument_at};
+use crate::arguments::{Argument, argument_at, is_one};
 use crate::registers::{read, write};
 use branch_state::BranchState;
 use code_areas::Areas;
@@ -13,6 +15,15 @@ use fd_language::NoMemory;
 use heap_cells::Cell;
 use propagate_queue::Agenda;
 use wam_code::CodeArea;
+
+/// Two arguments of a structure.
+#[derive(Clone, Copy)]
+pub(crate) enum Gathered {
+    /// Both, with the place behind them.
+    Pair(Cell, Cell, usize),
+    /// They are gathered in a list, as far as the place.
+    Listed(usize),
+}
 
 /// Puts so many new variables of the heap behind the cells. The error is want of memory.
 #[inline(never)]
@@ -30,6 +41,69 @@ fn push_variables<A: Agenda + Drop>(
         cells.push(cell)?;
     }
     Ok(())
+}
+
+/// The next argument of a structure, which an instruction gives alone, with `left` to be given. The
+/// error is want of memory.
+#[inline(always)]
+fn one_cell<A: Agenda + Drop>(
+    code: &CodeArea,
+    at: usize,
+    argument: Argument,
+    branch: &mut BranchState<A>,
+    areas: &mut Areas,
+    left: usize,
+) -> Result<Cell, NoMemory>
+    requires safe { IsSafe code.now branch.old at left areas.old }
+    requires some { 0 < left }
+    requires holds { Holds code.now at (code_of argument) }
+    requires one { IsOne argument }
+    ensures { IfOk result (GivesOne code.now left branch.old at areas.old branch.new areas.new) }
+{
+    match argument {
+        Argument::Variable(r) => {
+            let cell = branch.new_var()?;
+            write(areas, r, cell)?;
+            Ok(cell)
+        }
+        Argument::Value(r) => Ok(read(areas, r)),
+        Argument::Constant(c) => Ok(Cell::Atom(c)),
+        Argument::Integer(z) => Ok(Cell::Int(z)),
+        Argument::Void(_) => {
+            let cell = branch.new_var()?;
+            Ok(cell)
+        }
+    }
+}
+
+/// Gathers the two arguments of a structure, which the code gives from a place on. The error is
+/// want of memory.
+#[inline(always)]
+pub(crate) fn gather_two<A: Agenda + Drop>(
+    code: &CodeArea,
+    from: usize,
+    branch: &mut BranchState<A>,
+    areas: &mut Areas,
+    cells: &mut Vec<Cell>,
+) -> Result<Gathered, NoMemory>
+    requires safe { IsSafe code.now branch.old from 2 areas.old }
+    requires empty { cells.old.items ≡ [] }
+    ensures { IfOk result (GathersTwo code.now branch.old from areas.old branch.new areas.new
+        cells.new.items) }
+{
+    let first = argument_at(code, from);
+    if !is_one(first) {
+        return Ok(Gathered::Listed(from));
+    }
+    let a = one_cell(code, from, first, branch, areas, 2)?;
+    let at = behind(code, from);
+    let second = argument_at(code, at);
+    if !is_one(second) {
+        cells.push(a)?;
+        return Ok(Gathered::Listed(at));
+    }
+    let b = one_cell(code, at, second, branch, areas, 1)?;
+    Ok(Gathered::Pair(a, b, behind(code, at)))
 }
 
 /// Puts the next argument behind the others, or those of one instruction. The error is want of
@@ -50,15 +124,11 @@ fn push_argument<A: Agenda + Drop>(
         branch.new (suc at) areas.new cells.new.items) }
 {
     match argument_at(code, at) {
-        Argument::Variable(r) => {
-            let cell = branch.new_var()?;
-            write(areas, r, cell)?;
+        Argument::Void(count) => push_variables(branch, cells, count),
+        one => {
+            let cell = one_cell(code, at, one, branch, areas, n - cells.len())?;
             Ok(cells.push(cell)?)
         }
-        Argument::Value(r) => Ok(cells.push(read(areas, r))?),
-        Argument::Constant(c) => Ok(cells.push(Cell::Atom(c))?),
-        Argument::Integer(z) => Ok(cells.push(Cell::Int(z))?),
-        Argument::Void(count) => push_variables(branch, cells, count),
     }
 }
 

@@ -1,18 +1,19 @@
 //! Structures of a clause, with the unify group behind them.
 ghost use Rattle.std.specs.Prelude.{◌≡◌, ◌-◌, ◌<◌, ◌≤◌, ◌++◌, [], length, drop, All, IfOk, OnOk};
 ghost use Rattle.heap_cells.specs.Cells.{free, slot_at};
-ghost use Rattle.branch_state.specs.States.{IsCell, IsSameBelow};
+ghost use Rattle.branch_state.specs.States.{IsCell, IsSameBelow, IsSound};
 ghost use Rattle.wam_code.specs.declared.instruction.Code.TheVariants as step;
 ghost use Rattle.wam_code.specs.Area.{Holds};
 ghost use Rattle.wam_code.specs.Verified.{IsAtom};
+ghost use Rattle.code_areas.specs.Areas.{Contents};
 ghost use Rattle.code_states.specs.Machine.{IsSameBehind};
 ghost use Rattle.code_states.specs.Safety.{IsSafe, IsSafeThen};
 ghost use Rattle.code_states.specs.Standing.{KeepsStanding};
 ghost use Rattle.code_states.specs.Work.{LeadsOn};
 ghost use Rattle.term_instructions.specs.Reading.{AreTold, ReadsThen};
-ghost use Rattle.term_instructions.specs.Building.{BuildsFor};
+ghost use Rattle.term_instructions.specs.Building.{BuildsFor, BuildsOn, IsPutAt, PutsOn};
 
-use crate::building::gather_arguments;
+use crate::building::{Gathered, gather_arguments, gather_two};
 use crate::reading::{Reading, look_at_arguments, read_arguments};
 use crate::registers::write;
 use branch_state::BranchState;
@@ -80,6 +81,109 @@ fn match_arguments<A: Agenda + Drop>(
     Ok(on_if(at, posted))
 }
 
+/// Binds an open variable to the structure of the `n` arguments that were gathered up to the place
+/// `next`, and tells the store. The result is that place, or back where the variable occurs among
+/// them; the error is want of memory.
+#[inline(always)]
+fn bind_gathered<A: Agenda + Drop>(
+    code: &CodeArea,
+    next: usize,
+    functor: (AtomId, u8),
+    var: usize,
+    branch: &mut BranchState<A>,
+    args: &[Cell],
+    touches: &mut Vec<Touch>,
+) -> Result<Went, NoMemory>
+    requires name { IsAtom code.now functor.0 }
+    requires atoms { branch.old.atoms ≡ length code.now.pool.names }
+    requires sound { IsSound branch.old }
+    requires own { All (IsCell branch.old) args.now }
+    requires all { length args.now ≡ functor.1 }
+    requires there { var < length branch.old.heaps.now.slots }
+    requires open { slot_at branch.old.heaps.now var ≡ free }
+    requires untold { touches.old.items ≡ [] }
+    ensures { (c : Contents) → IfOk result (BuildsOn code.now functor.0 functor.1 var branch.old
+        next c args.now branch.new c) }
+{
+    if !branch.bind_compound(var, functor.0, args, touches)? {
+        return Ok(Went::Back);
+    }
+    let posted = branch.post_touches(touches)?;
+    Ok(on_if(next, posted))
+}
+
+/// Gathers the arguments that are left of a structure, builds it for an open variable, and binds
+/// that. The result is the place behind its arguments, or back where the variable occurs among
+/// them; the error is want of memory.
+#[inline(never)]
+fn build_rest<A: Agenda + Drop>(
+    code: &CodeArea,
+    at: usize,
+    functor: (AtomId, u8),
+    var: usize,
+    branch: &mut BranchState<A>,
+    areas: &mut Areas,
+    scratch: &mut Scratch,
+) -> Result<Went, NoMemory>
+    requires safe { IsSafe code.now branch.old at (functor.1 - length scratch.old.cells.items)
+        areas.old }
+    requires within { length scratch.old.cells.items ≤ functor.1 }
+    requires own { All (IsCell branch.old) scratch.old.cells.items }
+    requires name { IsAtom code.now functor.0 }
+    requires there { var < length branch.old.heaps.now.slots }
+    requires open { slot_at branch.old.heaps.now var ≡ free }
+    requires untold { scratch.old.touches.items ≡ [] }
+    ensures { IfOk result (BuildsOn code.now functor.0 functor.1 var branch.old at areas.old
+        scratch.old.cells.items branch.new areas.new) }
+{
+    let n = functor.1 as usize;
+    let next = gather_arguments(code, at, branch, areas, &mut scratch.cells, n)?;
+    bind_gathered(
+        code,
+        next,
+        functor,
+        var,
+        branch,
+        &scratch.cells,
+        &mut scratch.touches,
+    )
+}
+
+/// Builds a structure of two arguments as `build_argument` does.
+#[inline(always)]
+fn build_two<A: Agenda + Drop>(
+    code: &CodeArea,
+    from: usize,
+    functor: (AtomId, u8),
+    var: usize,
+    branch: &mut BranchState<A>,
+    areas: &mut Areas,
+    scratch: &mut Scratch,
+) -> Result<Went, NoMemory>
+    requires safe { IsSafe code.now branch.old from functor.1 areas.old }
+    requires two { functor.1 ≡ 2 }
+    requires name { IsAtom code.now functor.0 }
+    requires there { var < length branch.old.heaps.now.slots }
+    requires open { slot_at branch.old.heaps.now var ≡ free }
+    requires empty { scratch.old.cells.items ≡ [] }
+    requires untold { scratch.old.touches.items ≡ [] }
+    ensures { IfOk result (BuildsFor code.now functor.0 functor.1 var branch.old from areas.old
+        branch.new areas.new) }
+{
+    match gather_two(code, from, branch, areas, &mut scratch.cells)? {
+        Gathered::Pair(a, b, next) => bind_gathered(
+            code,
+            next,
+            functor,
+            var,
+            branch,
+            &[a, b],
+            &mut scratch.touches,
+        ),
+        Gathered::Listed(at) => build_rest(code, at, functor, var, branch, areas, scratch),
+    }
+}
+
 /// Builds the structure for an open variable, and binds it. The result is the place behind its
 /// arguments, or back where the variable occurs among them; the error is want of memory.
 #[inline(always)]
@@ -101,13 +205,11 @@ fn build_argument<A: Agenda + Drop>(
     ensures { IfOk result (BuildsFor code.now functor.0 functor.1 var branch.old from areas.old
         branch.new areas.new) }
 {
-    let (name, n) = functor;
-    let next = gather_arguments(code, from, branch, areas, &mut scratch.cells, n as usize)?;
-    if !branch.bind_compound(var, name, &scratch.cells, &mut scratch.touches)? {
-        return Ok(Went::Back);
+    if functor.1 == 2 {
+        build_two(code, from, functor, var, branch, areas, scratch)
+    } else {
+        build_rest(code, from, functor, var, branch, areas, scratch)
     }
-    let posted = branch.post_touches(&scratch.touches)?;
-    Ok(on_if(next, posted))
 }
 
 /// Matches a head's argument with a structure, whose arguments come with the unify group behind: a
@@ -166,6 +268,103 @@ pub fn get_structure<A: Agenda + Drop>(
     }
 }
 
+/// Puts the structure of the arguments that were gathered up to the place `next` into the
+/// register. The result is that place; the error is want of memory.
+#[inline(always)]
+fn put_gathered<A: Agenda + Drop>(
+    next: usize,
+    name: AtomId,
+    a: usize,
+    branch: &mut BranchState<A>,
+    areas: &mut Areas,
+    args: &[Cell],
+) -> Result<Went, NoMemory>
+    requires sound { IsSound branch.old }
+    requires name { name.number < branch.old.atoms }
+    requires own { All (IsCell branch.old) args.now }
+    ensures { IfOk result (IsPutAt name args.now a next branch.old areas.old branch.new
+        areas.new) }
+{
+    let built = branch.compound(name, args)?;
+    write(areas, Register::X(a), built)?;
+    Ok(Went::On(next))
+}
+
+/// Gathers the arguments that are left of a structure, and puts it into the register. The result
+/// is the place behind its arguments; the error is want of memory.
+#[inline(never)]
+fn put_rest<A: Agenda + Drop>(
+    code: &CodeArea,
+    at: usize,
+    functor: (AtomId, u8),
+    a: usize,
+    branch: &mut BranchState<A>,
+    areas: &mut Areas,
+    cells: &mut Vec<Cell>,
+) -> Result<Went, NoMemory>
+    requires safe { IsSafe code.now branch.old at (functor.1 - length cells.old.items) areas.old }
+    requires within { length cells.old.items ≤ functor.1 }
+    requires own { All (IsCell branch.old) cells.old.items }
+    requires name { IsAtom code.now functor.0 }
+    ensures { IfOk result (PutsOn code.now functor.0 functor.1 a branch.old at areas.old
+        cells.old.items branch.new areas.new) }
+{
+    let n = functor.1 as usize;
+    let next = gather_arguments(code, at, branch, areas, cells, n)?;
+    put_gathered(next, functor.0, a, branch, areas, cells)
+}
+
+/// Puts a structure of two arguments as `put_arguments` does.
+#[inline(always)]
+fn put_two<A: Agenda + Drop>(
+    code: &CodeArea,
+    from: usize,
+    functor: (AtomId, u8),
+    a: usize,
+    branch: &mut BranchState<A>,
+    areas: &mut Areas,
+    cells: &mut Vec<Cell>,
+) -> Result<Went, NoMemory>
+    requires safe { IsSafe code.now branch.old from functor.1 areas.old }
+    requires two { functor.1 ≡ 2 }
+    requires name { IsAtom code.now functor.0 }
+    requires empty { cells.old.items ≡ [] }
+    ensures { IfOk result (PutsOn code.now functor.0 functor.1 a branch.old from areas.old []
+        branch.new areas.new) }
+{
+    match gather_two(code, from, branch, areas, cells)? {
+        Gathered::Pair(first, second, next) => {
+            put_gathered(next, functor.0, a, branch, areas, &[first, second])
+        }
+        Gathered::Listed(at) => put_rest(code, at, functor, a, branch, areas, cells),
+    }
+}
+
+/// Puts a structure into the register, whose arguments the code gives from a place on. The result
+/// is the place behind them; the error is want of memory.
+#[inline(always)]
+fn put_arguments<A: Agenda + Drop>(
+    code: &CodeArea,
+    from: usize,
+    functor: (AtomId, u8),
+    a: usize,
+    branch: &mut BranchState<A>,
+    areas: &mut Areas,
+    cells: &mut Vec<Cell>,
+) -> Result<Went, NoMemory>
+    requires safe { IsSafe code.now branch.old from functor.1 areas.old }
+    requires name { IsAtom code.now functor.0 }
+    requires empty { cells.old.items ≡ [] }
+    ensures { IfOk result (PutsOn code.now functor.0 functor.1 a branch.old from areas.old []
+        branch.new areas.new) }
+{
+    if functor.1 == 2 {
+        put_two(code, from, functor, a, branch, areas, cells)
+    } else {
+        put_rest(code, from, functor, a, branch, areas, cells)
+    }
+}
+
 /// A goal's argument is a structure, which the register takes; its arguments come with the unify
 /// group behind. `cells` is lent to gather them. The result is the place behind all; the error is
 /// want of memory.
@@ -187,12 +386,8 @@ pub fn put_structure<A: Agenda + Drop>(
     ensures behind { OnOk result (IsSameBehind areas.old areas.new) }
     ensures below { OnOk result (IsSameBelow branch.old branch.new) }
 {
-    let (name, n) = functor;
     write(areas, Register::X(a), Cell::Int(0))?;
     cells.clear();
     let from = behind(code, at);
-    let next = gather_arguments(code, from, branch, areas, cells, n as usize)?;
-    let built = branch.compound(name, cells)?;
-    write(areas, Register::X(a), built)?;
-    Ok(Went::On(next))
+    put_arguments(code, from, functor, a, branch, areas, cells)
 }

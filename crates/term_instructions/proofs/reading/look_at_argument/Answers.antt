@@ -1,15 +1,13 @@
-use Rattle.std.proofs.Common.{[], FitsSigned, ◌+◌, refl, subst, sym, arith, rules, w64, add-one, get_or, ap}
+use Rattle.std.proofs.Common.{[], FitsSigned, ◌+◌, refl, subst, arith, rules, w64, add-one, get_or}
 use Rattle.std.proofs.Math.Seq.{drop-cons}
 use Rattle.std.proofs.lemmas.Int.{to_z-of_z}
 use Rattle.std.proofs.lemmas.List.Elements.{All-nil}
-use Rattle.heap_cells.specs.declared.Cell.{Cell}
 use Rattle.heap_cells.specs.declared.Cell.TheVariants as cell
-use Rattle.heap_cells.specs.Cells.{Heaps, IsOf}
+use Rattle.heap_cells.specs.Cells.{Heaps}
 use Rattle.heap_cells.specs.Terms.{Same}
 use Rattle.branch_state.specs.Steps.{IsTouchBelow}
-use Rattle.term_instructions.specs.Reading.{TellsEqual}
 use Rattle.term_instructions.specs.declared.reading.Reading.{Reading}
-use Rattle.term_instructions.proofs.ReadSteps.{reads_variable, reads_void, looked_atom, looked_integer, next_looked}
+use Rattle.term_instructions.proofs.ReadSteps.{reads_variable, reads_void, looked_atom, looked_integer}
 use Rattle.term_instructions.proofs.Unify.{place_within, unify_there, variable_needs, void_needs}
 use Rattle.term_instructions.proofs.reading.look_at_argument.Goals as goal
 

@@ -1,9 +1,8 @@
-use Rattle.std.proofs.Common.{◌≡◌, ◌++◌, ◌-◌, length, All, ap, sym, ◌∙◌, subst, inl, inr, arith, refl, [], drop, Ok}
+use Rattle.std.proofs.Common.{◌≡◌, ◌++◌, ◌-◌, length, ap, sym, ◌∙◌, subst, inl, inr, arith, refl, [], Ok}
 use Rattle.fd_language.specs.declared.NoMemory.{NoMemory}
 use Rattle.heap_cells.specs.Cells.{Heaps, IsOf}
 use Rattle.heap_cells.specs.Seen.{IsSeen}
 use Rattle.heap_cells.specs.declared.Seen.TheVariants as seen
-use Rattle.branch_state.specs.States.{IsCell}
 use Rattle.wam_code.specs.declared.instruction.Code.TheVariants.{GetStructure}
 use Rattle.code_states.specs.Safety.{IsSafe}
 use Rattle.code_states.proofs.Safety.{within_code}
