@@ -3,7 +3,8 @@ use Rattle.std.proofs.Common.{◌≡◌, ℕ, ◌+◌, ◌-◌, ◌<◌, ◌≤�
 use Rattle.std.proofs.lemmas.List.Folds.{concat-append}
 use Rattle.std.proofs.lemmas.List.{take-append-le, drop-drop}
 use Rattle.std.specs.List.{concat}
-use Rattle.byte_ports.specs.Ports.{Took, IsAtEnd, ReadJust, ReadWithin, Put, PutPart}
+use Rattle.byte_ports.specs.Ports.{Took, IsAtEnd, ReadJust, ReadWithin, Put, PutPart, Rose}
+use Rattle.byte_ports.specs.Ends.{SinkState, WroteAll, WroteFront, WrotePart}
 
 some_same : (x y : List ℕ) → Some x ≡ Some y → x ≡ y
 some_same x y e = cc
@@ -153,3 +154,50 @@ put_rest a b c d n p h g =
 -- d bytes of a piece and then none are a front of it
 pub put_stop : (a b c : Option (List ℕ)) (d : ℕ) (p : List ℕ) → Put a b (take d p) → Put b c [] → PutPart a c p
 put_stop a b c d p h g = (take d p, drop d p, sym (take-append-drop d p), subst (Put a c) (append-nil (take d p)) (put_more a b c (take d p) [] h g))
+
+-- A sink's state.
+
+-- nothing was written
+pub wrote_nothing : (a : SinkState) → WroteAll a a []
+wrote_nothing a = record { put = put_none a.written; faults = refl }
+
+-- of each piece
+pub wrote_no_part : (a : SinkState) (p : List ℕ) → WrotePart a a p
+wrote_no_part a p = record { put = part_none a.written a.written p (put_none a.written); faults = refl }
+
+-- a piece behind another
+pub all_then : (a b c : SinkState) (p q : List ℕ) → WroteAll a b p → WroteAll b c q → WroteAll a c (p ++ q)
+all_then a b c p q h g = record { put = put_more a.written b.written c.written p q h.put g.put; faults = g.faults ∙ h.faults }
+
+rose_with : (a b c : ℕ) → b ≡ a → Rose b c → Rose a c
+rose_with a b c e h = subst (λ (n : ℕ). Rose n c) e h
+
+-- a front of a piece behind another, before a call failed
+pub front_then : (a b c : SinkState) (p q : List ℕ) → WroteAll a b p → WroteFront b c q → WroteFront a c (p ++ q)
+front_then a b c p q h g = record {
+  put = part_more a.written b.written c.written p q h.put g.put;
+  rose = rose_with a.faults b.faults c.faults h.faults g.rose;
+  later = subst (λ (n : ℕ). n ≤ c.faults) h.faults g.later;
+}
+
+-- and where none failed
+pub part_then : (a b c : SinkState) (p q : List ℕ) → WroteAll a b p → WrotePart b c q → WrotePart a c (p ++ q)
+part_then a b c p q h g = record { put = part_more a.written b.written c.written p q h.put g.put; faults = g.faults ∙ h.faults }
+
+-- a front of a piece is one of what begins with it
+pub longer_front : (a b : SinkState) (p q : List ℕ) → WroteFront a b p → WroteFront a b (p ++ q)
+longer_front a b p q h = record { put = part_longer a.written b.written p q h.put; rose = h.rose; later = h.later }
+
+pub longer_part : (a b : SinkState) (p q : List ℕ) → WrotePart a b p → WrotePart a b (p ++ q)
+longer_part a b p q h = record { put = part_longer a.written b.written p q h.put; faults = h.faults }
+
+-- and so is the whole piece
+pub all_front : (a b : SinkState) (p q : List ℕ) → WroteAll a b p → WrotePart a b (p ++ q)
+all_front a b p q h = record { put = part_of_more a.written b.written p q h.put; faults = h.faults }
+
+-- A count that never falls and didn't rise stays.
+pub stays : (a b : ℕ) → a ≤ b → (a < b → ⊥) → b ≡ a
+stays a b l n = by_order a b l n
+  where
+    by_order : (a b : ℕ) → a ≤ b → (a < b → ⊥) → b ≡ a
+    by_order a b l n = grind arith

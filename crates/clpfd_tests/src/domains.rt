@@ -63,7 +63,8 @@ impl View for Domains {
 
 fn least_of<V: View>(view: &V, k: usize) -> Option<u32>
     requires { k < length (V.sets view.now) }
-    ensures { MatchOption result (slice_index_or (V.sets view.now) k (universe INFINITY) ≡ []) (λ n. n ≡ least (slice_index_or (V.sets view.now) k (universe INFINITY))) }
+    ensures { MatchOption result (slice_index_or (V.sets view.now) k (universe INFINITY) ≡ [])
+        (λ n. n ≡ least (slice_index_or (V.sets view.now) k (universe INFINITY))) }
 {
     view.domain(k).min()
 }

@@ -6,8 +6,9 @@ use Rattle.clpwhere.specs.declared.outcome.Fault.{Fault}
 use Rattle.clpwhere.specs.declared.outcome.Fault.TheVariants as fault
 use Rattle.clpwhere.specs.Parts.{TextParts}
 use Rattle.clpwhere.specs.Marked.{is_refusal, is_refused, marked, marked_line}
-use Rattle.clpwhere.specs.Endings.{SinkState, WroteAll, CutBy, Wrote, Fed, IsOpen, GaveAll}
-use Rattle.clpwhere.proofs.Pieces.{wrote_none_of}
+use Rattle.byte_ports.specs.Ends.{SinkState, WroteAll}
+use Rattle.clpwhere.specs.Endings.{CutBy, Wrote, Fed, IsOpen, GaveAll}
+use Rattle.byte_ports.proofs.Pieces.{wrote_no_part}
 use Rattle.clpwhere.proofs.LineSteps.{byte_open, cut_line, cut_more, gave_cut, gave_line, gave_none, gave_then, marked-open, refused-open}
 
 -- ---- of a result
@@ -19,7 +20,7 @@ fed_cut text a b bytes next e r is h = subst (Fed text a b bytes next) (sym is) 
 
 -- memory was wanting for it
 pub fed_short : (text : TextParts) (a : SinkState) (bytes next : List ℕ) (r : Result Bool Fault) → r ≡ Err fault.NoMemory → Fed text a a bytes next r
-fed_short text a bytes next r is = fed_cut text a a bytes next fault.NoMemory r is (λ rest. wrote_none_of a (marked text (bytes ++ rest)))
+fed_short text a bytes next r is = fed_cut text a a bytes next fault.NoMemory r is (λ rest. wrote_no_part a (marked text (bytes ++ rest)))
 
 -- it leaves the line open
 pub gave_open : (text : TextParts) (a : SinkState) (line next : List ℕ) (b : ℕ) → IsOpen line → (b ≡ 10 → ⊥) → next ≡ line ++ b ∷ [] → GaveAll text a a (line ++ b ∷ []) next false

@@ -7,8 +7,10 @@ use Rattle.clpwhere.specs.declared.outcome.Fault.{Fault}
 use Rattle.clpwhere.specs.Parts.{TextParts}
 use Rattle.clpwhere.specs.Lines.{is_newline, lines_of}
 use Rattle.clpwhere.specs.Marked.{is_refusal, is_refused, marked, marked_line}
-use Rattle.clpwhere.specs.Endings.{SinkState, WroteAll, WrotePart, CutBy, IsOpen, GaveAll}
-use Rattle.clpwhere.proofs.Pieces.{wrote_nothing, all_then, cut_then, cut_longer, all_front}
+use Rattle.byte_ports.specs.Ends.{SinkState, WroteAll, WrotePart}
+use Rattle.clpwhere.specs.Endings.{CutBy, IsOpen, GaveAll}
+use Rattle.byte_ports.proofs.Pieces.{wrote_nothing, all_then, all_front}
+use Rattle.clpwhere.proofs.Pieces.{cut_then, cut_longer}
 
 -- ---- lines
 

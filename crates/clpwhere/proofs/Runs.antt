@@ -2,7 +2,7 @@
 use Rattle.std.proofs.Common.{◌≡◌, ℕ, ◌<◌, ◌≤◌, ◌⊎◌, inl, inr, Bool, true, false, List, [], ◌++◌, Option, Some, None, IsSome, Result, Err, refl, sym, ap, ◌∙◌, subst, arith, append-nil}
 use Rattle.std.specs.Prelude.{◌||◌}
 use Rattle.byte_ports.specs.Ports.{PutPart, Rose, Took, IsAtEnd}
-use Rattle.byte_ports.proofs.Pieces.{took_none, took_more}
+use Rattle.byte_ports.proofs.Pieces.{took_none, took_more, wrote_no_part}
 use Rattle.clpwhere.specs.declared.outcome.Fault.{Fault}
 use Rattle.clpwhere.specs.declared.outcome.Fault.TheVariants as fault
 use Rattle.clpwhere.specs.declared.outcome.Status.{Status}
@@ -11,9 +11,10 @@ use Rattle.clpwhere.specs.declared.command.Asked.{Asked}
 use Rattle.clpwhere.specs.declared.command.Asked.TheVariants as asked
 use Rattle.clpwhere.specs.Parts.{TextParts}
 use Rattle.clpwhere.specs.Marked.{is_refused, marked}
-use Rattle.clpwhere.specs.Endings.{Ends, sink_of, WroteAll, CutBy, GaveAll, Copied, CutShort, CopyEnds, Counted, Ending, fault_status}
+use Rattle.byte_ports.specs.Ends.{Ends, sink_of, WroteAll}
+use Rattle.clpwhere.specs.Endings.{CutBy, GaveAll, Copied, CutShort, CopyEnds, Counted, Ending, fault_status}
 use Rattle.clpwhere.specs.Headline.{Headline, IsDecided, IsInput, NeedsNoInput, output, output_status, refused_status}
-use Rattle.clpwhere.proofs.Pieces.{wrote_none_of, cut_part}
+use Rattle.clpwhere.proofs.Pieces.{cut_part}
 use Rattle.clpwhere.proofs.LineSteps.{gave_none, gave_then, gave_cut, gave_front, gave_last, cut_last}
 
 -- ---- the input so far
@@ -278,4 +279,4 @@ run_line a old new result n left same (inr (inr h)) = record {
 
 -- memory was wanting before the line was made
 pub line_wanting : (a : Asked) (e : Ends) (result : Status) → NeedsNoInput a → result ≡ status.NoMemory → Headline a e e result
-line_wanting a e result n is = run_line a e e result n refl refl (inr (inr (is, wrote_none_of (sink_of e) (output a []))))
+line_wanting a e result n is = run_line a e e result n refl refl (inr (inr (is, wrote_no_part (sink_of e) (output a []))))

@@ -1,7 +1,8 @@
 -- What was read and written when a call ends.
 use Rattle.std.specs.Prelude.{◌≡◌, ◌≤◌, ◌⊎◌, ℕ, List, ◌++◌, Option, Some, IsSome, Bool, false, Result, MatchResult, ◌||◌}
 use Rattle.std.specs.List.{list_any}
-use Rattle.byte_ports.specs.Ports.{Put, PutPart, Rose, Took, IsAtEnd}
+use Rattle.byte_ports.specs.Ends.{Ends, SinkState, sink_of, WroteAll, WroteFront, WrotePart}
+use Rattle.byte_ports.specs.Ports.{PutPart, Rose, Took, IsAtEnd}
 use Rattle.clpwhere.specs.declared.outcome.Fault.{Fault}
 use Rattle.clpwhere.specs.declared.outcome.Fault.TheVariants as fault
 use Rattle.clpwhere.specs.declared.outcome.Status.{Status}
@@ -9,44 +10,6 @@ use Rattle.clpwhere.specs.declared.outcome.Status.TheVariants as status
 use Rattle.clpwhere.specs.Lines.{is_newline}
 use Rattle.clpwhere.specs.Marked.{marked, is_refused}
 use Rattle.clpwhere.specs.Parts.{TextParts}
-
--- The ends before or after a call: what the source has left and the sink was given, where they tell it, and how often they failed.
-pub record Ends : Type 0 where
-  pub left : Option (List ℕ)
-  pub written : Option (List ℕ)
-  pub source_faults : ℕ
-  pub sink_faults : ℕ
-
-abbrev pub ends_at : Option (List ℕ) → ℕ → Option (List ℕ) → ℕ → Ends
-ends_at left reads written writes =
-    record { left = left; written = written; source_faults = reads; sink_faults = writes }
-
--- a sink: the bytes that it was given, where it tells them, and how often it failed
-pub record SinkState : Type 0 where
-  pub written : Option (List ℕ)
-  pub faults : ℕ
-
-abbrev pub sink_at : Option (List ℕ) → ℕ → SinkState
-sink_at written faults = record { written = written; faults = faults }
-
-abbrev pub sink_of : Ends → SinkState
-sink_of e = sink_at e.written e.sink_faults
-
--- the piece was written whole, and no call failed
-pub record WroteAll (old new : SinkState) (piece : List ℕ) : Type 0 where
-  pub put : Put old.written new.written piece
-  pub faults : new.faults ≡ old.faults
-
--- a front of the piece was written, and the last call failed
-pub record WroteFront (old new : SinkState) (piece : List ℕ) : Type 0 where
-  pub put : PutPart old.written new.written piece
-  pub rose : Rose old.faults new.faults
-  pub later : old.faults ≤ new.faults
-
--- a front of the piece was written, and no call failed
-pub record WrotePart (old new : SinkState) (piece : List ℕ) : Type 0 where
-  pub put : PutPart old.written new.written piece
-  pub faults : new.faults ≡ old.faults
 
 -- what a fault leaves of a piece; writing has no fault of reading
 abbrev pub CutBy : SinkState → SinkState → Fault → List ℕ → Type 0

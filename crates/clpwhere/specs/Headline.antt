@@ -6,7 +6,7 @@ use Rattle.clpwhere.specs.declared.outcome.Status.TheVariants.{Done, Usage, Refu
 use Rattle.clpwhere.specs.declared.command.Asked.{Asked}
 use Rattle.clpwhere.specs.declared.command.Asked.TheVariants as asked
 use Rattle.clpwhere.specs.Marked.{marked, is_refused}
-use Rattle.clpwhere.specs.Endings.{Ends}
+use Rattle.byte_ports.specs.Ends.{Ends}
 
 -- the statuses of an output
 abbrev pub IsDecided : Status → Type 0

@@ -1,6 +1,7 @@
 //! The whole input, line by line.
 ghost use Rattle.std.specs.Prelude.{◌≡◌, ◌<◌, [], ◌∷◌, ◌++◌, length, IfOk};
-ghost use Rattle.clpwhere.specs.Endings.{ends_at, sink_at, CopyEnds, Fed, IsOpen, Wrote};
+ghost use Rattle.byte_ports.specs.Ends.{ends, sink_at};
+ghost use Rattle.clpwhere.specs.Endings.{CopyEnds, Fed, IsOpen, Wrote};
 ghost use Rattle.clpwhere.specs.Marked.{is_refused, marked};
 
 use crate::explain::put_line;
@@ -84,8 +85,8 @@ pub fn copy_input<S: Source, K: Sink>(
     sink: &mut K,
 ) -> Result<bool, Fault>
     ensures { CopyEnds text.now
-        (ends_at (S.left source.old) (S.faults source.old) (K.written sink.old) (K.faults sink.old))
-        (ends_at (S.left source.new) (S.faults source.new) (K.written sink.new) (K.faults sink.new))
+        (ends (S.left source.old) (K.written sink.old) (S.faults source.old) (K.faults sink.old))
+        (ends (S.left source.new) (K.written sink.new) (S.faults source.new) (K.faults sink.new))
         result }
 {
     let mut buffer = vec![in alloc; 0u8; CHUNK]?;
@@ -102,8 +103,8 @@ fn copy_through<S: Source, K: Sink>(
 ) -> Result<bool, Fault>
     requires { 0 < length buffer.old }
     ensures { CopyEnds text.now
-        (ends_at (S.left source.old) (S.faults source.old) (K.written sink.old) (K.faults sink.old))
-        (ends_at (S.left source.new) (S.faults source.new) (K.written sink.new) (K.faults sink.new))
+        (ends (S.left source.old) (K.written sink.old) (S.faults source.old) (K.faults sink.old))
+        (ends (S.left source.new) (K.written sink.new) (S.faults source.new) (K.faults sink.new))
         result }
 {
     let mut line = Vec::new(alloc);

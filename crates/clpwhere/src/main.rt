@@ -3,7 +3,8 @@
 
 ghost use Rattle.std.specs.Prelude.{◌≡◌, drop, IfOk, string_bytes};
 ghost use Rattle.std.specs.Vec.Iter.{into_iter_items};
-ghost use Rattle.clpwhere.specs.Endings.{ends_at, sink_at, Ending};
+ghost use Rattle.byte_ports.specs.Ends.{ends, sink_at};
+ghost use Rattle.clpwhere.specs.Endings.{Ending};
 ghost use Rattle.clpwhere.specs.Headline.{unreadable, Headline, NeedsNoInput};
 
 mod command;
@@ -53,8 +54,8 @@ fn unreadable(alloc: Global, name: &str) -> Result<String, NoMemory>
 /// The status says which case it was: see `Status`.
 pub fn run<S: Source, K: Sink>(alloc: Global, asked: &Asked, source: &mut S, sink: &mut K) -> Status
     ensures headline { Headline asked.now
-        (ends_at (S.left source.old) (S.faults source.old) (K.written sink.old) (K.faults sink.old))
-        (ends_at (S.left source.new) (S.faults source.new) (K.written sink.new) (K.faults sink.new))
+        (ends (S.left source.old) (K.written sink.old) (S.faults source.old) (K.faults sink.old))
+        (ends (S.left source.new) (K.written sink.new) (S.faults source.new) (K.faults sink.new))
         result }
     ensures untouched { NeedsNoInput asked.now → source.new ≡ source.old }
 {

@@ -11,54 +11,19 @@ use Rattle.fd_model.specs.Verdict.{max_text}
 use Rattle.fd_model.specs.Output.{Options, Output, Queries, TextOutput, VerdictOutput, IsSummary, refusal, usage, is_stop, stop_status}
 use Rattle.command_words.specs.declared.Options as command
 use Rattle.command_words.specs.Words.{asked, options_of}
+use Rattle.byte_ports.specs.Ends.{Ends, SinkState, sink_of}
 use Rattle.byte_ports.specs.Ports.{Put, Took, IsAtEnd, ReadJust, ReadWithin, Rose}
-use Rattle.byte_ports.proofs.Pieces.{put_none, part_none}
+use Rattle.byte_ports.proofs.Pieces.{put_none}
 use Rattle.term_pool.specs.Contents.{Contents}
 use Rattle.answer_text.specs.declared.reason.Reason.TheVariants.{TooLarge}
-use Rattle.top_level.specs.declared.fault.Fault.{Fault}
-use Rattle.top_level.specs.declared.fault.Fault.TheVariants as fault
 use Rattle.text_verdict.specs.declared.judge.Verdict.{Verdict}
 use Rattle.text_verdict.specs.declared.judge.Verdict.TheVariants as verdict
-use Rattle.top_level.specs.Headline.{Headline, Ends, IsDecided, IsText, reads_source}
-use Rattle.top_level.specs.Endings.{SinkState, sink_at, WroteAll, WrotePart, CutBy, Wrote, Ending, fault_status}
+use Rattle.top_level.specs.Headline.{Headline, IsDecided, IsText, reads_source}
+use Rattle.text_output.specs.Endings.{Ending}
+use Rattle.text_output.proofs.Lemmas.{no_memory}
 use Rattle.text_verdict.specs.Verdicts.{verdict_of, HasNames, IsVerdictOn}
 use Rattle.text_verdict.proofs.OneVerdict.{large_verdict}
 use Rattle.top_level.proofs.OneOutput.{one_output, verdict_output, large_output}
-
--- ---- writing
-
-pub nothing_written : (s : SinkState) (p : List ℕ) → WrotePart s s p
-nothing_written s p = record { put = part_none s.written s.written p (put_none s.written); faults = refl }
-
--- memory was wanting before the first byte
-pub no_memory : (s : SinkState) (st : Status) (out : List ℕ) → Ending s s NoMemory st out
-no_memory s st out = inr (inr (refl, nothing_written s out))
-
-cut_ending : (old new : SinkState) (f : Fault) (st : Status) (out : List ℕ) → CutBy old new f out → Ending old new (fault_status f) st out
-cut_ending old new fault.WriteFault st out c = inr (inl (refl, c))
-cut_ending old new fault.NoMemory st out c = inr (inr (refl, c))
-
-abbrev Writes : ℕ → Option ℕ → SinkState → SinkState → Program → Result Bool Fault → Type 0
-Writes steps answers old new p r = (out : List ℕ) (stop : Bool) → Queries INFINITY p steps answers 1 p.queries out stop → Wrote old new r out
-
-abbrev Tells : ℕ → Option ℕ → Program → Result Bool Fault → Type 0
-Tells steps answers p r = (out : List ℕ) (stop : Bool) → Queries INFINITY p steps answers 1 p.queries out stop → IfOk r (λ b. b ≡ stop)
-
--- the answers were written
-pub answered : (steps : ℕ) (answers : Option ℕ) (old new : SinkState) (p : Program) (r : Result Bool Fault) (b : Bool) → r ≡ Ok b → Writes steps answers old new p r → Tells steps answers p r → (out : List ℕ) (st : Status) → VerdictOutput INFINITY (model.accepted p) steps answers out st → Ending old new (stop_status b) st out
-answered steps answers old new p r b e w t out st o =
-    let wrote : WroteAll old new out = subst (λ (q : Result Bool Fault). Wrote old new q out) e (w out o.0 o.1) in
-    let stop : b ≡ o.0 = subst (λ (q : Result Bool Fault). IfOk q (λ c. c ≡ o.0)) e (t out o.0 o.1) in
-    inl (ap stop_status stop ∙ sym o.2, wrote)
-
--- or were cut short
-pub answers_cut : (steps : ℕ) (answers : Option ℕ) (old new : SinkState) (p : Program) (r : Result Bool Fault) (f : Fault) → r ≡ Err f → Writes steps answers old new p r → (out : List ℕ) (st : Status) → VerdictOutput INFINITY (model.accepted p) steps answers out st → Ending old new (fault_status f) st out
-answers_cut steps answers old new p r f e w out st o = cut_ending old new f st out (subst (λ (q : Result Bool Fault). Wrote old new q out) e (w out o.0 o.1))
-
--- a refusal
-pub refused_ending : (steps : ℕ) (answers : Option ℕ) (old new : SinkState) (result : Status) (place : ℕ) (reason line : List ℕ) → line ≡ refusal place reason → Ending old new result Refused line → (out : List ℕ) (st : Status) → VerdictOutput INFINITY (model.refused place reason) steps answers out st → Ending old new result st out
-refused_ending steps answers old new result place reason line b e out st o =
-    subst (λ (s : Status). Ending old new result s out) (sym o.1) (subst (Ending old new result Refused) (b ∙ sym o.0) e)
 
 -- ---- verdicts
 
@@ -103,9 +68,6 @@ none_took None = ([], tt)
 none_took (Some x) = ([], refl)
 
 -- ---- the headline
-
-abbrev sink_of : Ends → SinkState
-sink_of e = sink_at e.written e.sink_faults
 
 -- the statuses of an output
 decided_stop : (b : Bool) → IsDecided (stop_status b)

@@ -1,9 +1,3 @@
 mod Accepting
 mod OneOutput
-mod Written
-mod Compiled
-mod Events
 mod Endings
-mod Tallies
-mod QueensText
-mod Generated

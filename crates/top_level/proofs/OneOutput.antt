@@ -13,7 +13,7 @@ use Rattle.fd_model.specs.Verdict.{Verdict, accepted, refused, max_text, cause_n
 use Rattle.std.specs.Prelude.{IfSome}
 use Rattle.command_words.specs.Words.{options_of}
 use Rattle.top_level.proofs.Accepting.{IsAccepted, IsSize, accepted_words}
-use Rattle.top_level.proofs.Generated.{queens_program}
+use Rattle.run_summary.proofs.Lemmas.{queens_program, same_program}
 use Rattle.fd_model.specs.Generator.{queens_text, summary}
 use Rattle.fd_model.specs.Output.{Options, Output, Queries, TextOutput, VerdictOutput, IsSummary, refusal, usage, is_stop, or_stop, stop_status}
 use Rattle.fd_model.specs.Lines.{line, events_bytes}
@@ -49,13 +49,6 @@ large_output M o text read h =
     subst (λ (size : Option ℕ). TextOutput M o size text (refusal max_text (codes "too large")) Refused) (sym read) (refused max_text (codes "too large"), large_verdict M text h, (refl, refl))
 
 -- ---- generated texts
-
-pub same_program : (p q : Program) → accepted p ≡ accepted q → p ≡ q
-same_program p q e = ap program_or e
-  where
-    program_or : Verdict → Program
-    program_or (accepted x) = x
-    program_or (refused place reason) = p
 
 same_query : (p q : Query) → p ∷ [] ≡ q ∷ [] → p ≡ q
 same_query p q e = ap first_or e

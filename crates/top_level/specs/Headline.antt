@@ -5,6 +5,7 @@ use Rattle.fd_model.specs.declared.Status.{Status}
 use Rattle.fd_model.specs.declared.Status.TheVariants.{Done, Usage, Refused, Stopped, ReadFault, WriteFault, NoMemory}
 use Rattle.fd_model.specs.Output.{Options, Output}
 use Rattle.command_words.specs.Words.{options_of}
+use Rattle.byte_ports.specs.Ends.{Ends}
 use Rattle.byte_ports.specs.Ports.{Put, PutPart, Rose, Took, IsAtEnd}
 
 -- the statuses of Output
@@ -16,16 +17,6 @@ IsDecided Stopped = Unit {0}
 IsDecided ReadFault = ⊥
 IsDecided WriteFault = ⊥
 IsDecided NoMemory = ⊥
-
--- The ends before or after a run: what the source has left and the sink was given, where they tell it, and how often they failed.
-pub record Ends : Type 0 where
-  pub left : Option (List ℕ)
-  pub written : Option (List ℕ)
-  pub source_faults : ℕ
-  pub sink_faults : ℕ
-
-abbrev pub ends : Option (List ℕ) → Option (List ℕ) → ℕ → ℕ → Ends
-ends left written source_faults sink_faults = record { left = left; written = written; source_faults = source_faults; sink_faults = sink_faults }
 
 -- whether the text is read from the source: the words are accepted, and ask for no generated text
 abbrev pub reads_source : Option Options → Bool

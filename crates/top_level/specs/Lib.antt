@@ -1,4 +1,2 @@
 pub mod Headline
 pub mod OneOutput
-pub mod Endings
-pub mod Summaries

@@ -4,22 +4,19 @@
 ghost use Rattle.std.specs.Prelude.{◌≡◌, ℕ, List, Some, None, false, map, string_bytes};
 ghost use Rattle.fd_model.specs.Run.{IsLimit};
 ghost use Rattle.command_words.specs.Words.{asked, options_of};
-ghost use Rattle.top_level.specs.Headline.{Headline, ends, reads_source};
+ghost use Rattle.byte_ports.specs.Ends.{ends};
+ghost use Rattle.top_level.specs.Headline.{Headline, reads_source};
 
-mod answer;
-mod fault;
 pub mod laws;
-mod queens;
-mod summary;
 
-use crate::answer::{answer, put_last};
-pub use crate::queens::queens_text;
-use crate::summary::put_summary;
 use answer_text::{Reason, USAGE};
 use byte_ports::{MAX_TEXT, ReadTextFault, Sink, Source, read_text};
 pub use command_words::{AgendaName, Options, WordsFault, read_words};
 pub use fd_model::Status;
+use run_summary::put_summary;
+pub use run_summary::queens_text;
 use std::alloc::Global;
+use text_output::{answer, put_last};
 use text_verdict::{judge_text, refused};
 
 /// Writes the output of the text that the source gives, and tells how the run ended.

@@ -1,7 +1,7 @@
 use Rattle.std.proofs.Common.{refl, sym, subst}
 use Rattle.clpwhere.specs.declared.command.Asked.{Asked}
 use Rattle.clpwhere.specs.declared.command.Asked.TheVariants.{Usage}
-use Rattle.clpwhere.specs.Endings.{Ends}
+use Rattle.byte_ports.specs.Ends.{Ends}
 use Rattle.clpwhere.specs.Headline.{Headline}
 use Rattle.clpwhere.proofs.Runs.{run_line}
 use Rattle.clpwhere.proofs.run.Goals as goal

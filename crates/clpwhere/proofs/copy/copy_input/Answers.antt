@@ -1,6 +1,6 @@
 use Rattle.std.proofs.Common.{rules}
 use Rattle.clpwhere.specs.declared.outcome.Fault.TheVariants.{NoMemory}
-use Rattle.clpwhere.specs.Endings.{Ends}
+use Rattle.byte_ports.specs.Ends.{Ends}
 use Rattle.clpwhere.proofs.Runs.{copy_cut, none_cut}
 use Rattle.clpwhere.proofs.copy.copy_input.Goals as goal
 

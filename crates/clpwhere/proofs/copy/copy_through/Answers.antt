@@ -1,5 +1,5 @@
 use Rattle.std.proofs.Common.{rules, ◌≡◌, ◌<◌, [], length, take, refl, sym, ap, subst}
-use Rattle.clpwhere.specs.Endings.{Ends}
+use Rattle.byte_ports.specs.Ends.{Ends}
 use Rattle.clpwhere.proofs.Runs.{Reading, copied, copy_cut, last_cut, memory_cut, more_cut, more_read, read_cut}
 use Rattle.clpwhere.proofs.copy.copy_through.Goals as goal
 

@@ -1,4 +1,4 @@
-use Rattle.clpwhere.specs.Endings.{Ends}
+use Rattle.byte_ports.specs.Ends.{Ends}
 use Rattle.clpwhere.proofs.Runs.{Reading}
 use Rattle.clpwhere.proofs.copy.copy_through.Given as goal
 

@@ -1,6 +1,6 @@
 use Rattle.std.proofs.Common.{rules, get_or, refl}
 use Rattle.std.specs.Prelude.{◌||◌}
-use Rattle.clpwhere.specs.Endings.{SinkState, sink_at}
+use Rattle.byte_ports.specs.Ends.{SinkState, sink_at}
 use Rattle.clpwhere.proofs.Feeding.{fed_stop, gave_step}
 use Rattle.clpwhere.proofs.copy.feed.Goals as goal
 

@@ -1,5 +1,6 @@
 use Rattle.std.proofs.Common.{◌++◌, take}
-use Rattle.clpwhere.specs.Endings.{sink_at, GaveAll}
+use Rattle.byte_ports.specs.Ends.{sink_at}
+use Rattle.clpwhere.specs.Endings.{GaveAll}
 use Rattle.clpwhere.proofs.copy.feed.Given as goal
 
 abbrev pub invariant-loop-byte : goal.invariant-loop-byte

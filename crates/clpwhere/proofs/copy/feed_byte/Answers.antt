@@ -1,5 +1,5 @@
 use Rattle.std.proofs.Common.{rules, ◌≡◌, ◌∷◌, ◌++◌, []}
-use Rattle.clpwhere.specs.Endings.{SinkState, sink_at}
+use Rattle.byte_ports.specs.Ends.{SinkState, sink_at}
 use Rattle.clpwhere.proofs.Feeding.{fed_short, fed_ended, gave_open, gave_ended}
 use Rattle.clpwhere.proofs.copy.feed_byte.Goals as goal
 

@@ -1,0 +1,4 @@
+mod Tallies
+mod QueensText
+mod Generated
+pub mod Lemmas

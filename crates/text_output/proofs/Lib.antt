@@ -1,0 +1,5 @@
+mod Written
+mod Compiled
+mod Events
+mod Endings
+pub mod Lemmas

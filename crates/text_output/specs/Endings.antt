@@ -1,0 +1,54 @@
+-- What was written when a call ends.
+use Rattle.std.specs.Prelude.{◌≡◌, ◌≤◌, ◌⊎◌, ℕ, List, [], ◌∷◌, Bool, true, false, Option, Some, None, Result, MatchResult}
+use Rattle.fd_language.specs.declared.TheConstants.{INFINITY}
+use Rattle.fd_model.specs.Goal.{Program, Query, Event, start_of}
+use Rattle.fd_model.specs.Output.{is_stop}
+use Rattle.fd_model.specs.Run.{Run}
+use Rattle.machine_events.specs.declared.MachineEvent.{MachineEvent}
+use Rattle.machine_events.specs.Events.{event_of}
+use Rattle.machine_relation.specs.Next.{is_final}
+use Rattle.clause_check.specs.Programs.{FlatProgram, program_in, query_at, query_in}
+use Rattle.wam_code.specs.Area.{Area}
+use Rattle.code_machine.specs.States.{MayRun}
+use Rattle.fd_model.specs.declared.Status.{Status}
+use Rattle.fd_model.specs.declared.Status.TheVariants.{WriteFault, NoMemory}
+use Rattle.byte_ports.specs.Ends.{SinkState, WroteAll, WroteFront, WrotePart}
+use Rattle.text_output.specs.declared.fault.Fault.{Fault}
+use Rattle.text_output.specs.declared.fault.Fault.TheVariants as fault
+
+-- what a fault leaves of a piece
+abbrev pub CutBy : SinkState → SinkState → Fault → List ℕ → Type 0
+CutBy old new fault.WriteFault piece = WroteFront old new piece
+CutBy old new fault.NoMemory piece = WrotePart old new piece
+
+-- of a call that writes a piece
+abbrev pub Wrote : {A : Type 0} → SinkState → SinkState → Result A Fault → List ℕ → Type 0
+Wrote old new result piece = MatchResult result (λ _. WroteAll old new piece) (λ e. CutBy old new e piece)
+
+-- of a run that writes an output with its status
+abbrev pub Ending : SinkState → SinkState → Status → Status → List ℕ → Type 0
+Ending old new result st out =
+    ((result ≡ st) × WroteAll old new out)
+    ⊎ (((result ≡ WriteFault) × WroteFront old new out)
+    ⊎ ((result ≡ NoMemory) × WrotePart old new out))
+
+-- the status of a run that was cut short
+abbrev pub fault_status : Fault → Status
+fault_status fault.WriteFault = WriteFault
+fault_status fault.NoMemory = NoMemory
+
+-- the run of a program's query with these limits
+abbrev pub IsRunOf : FlatProgram → ℕ → ℕ → Option ℕ → List Event → ℕ → Type 0
+IsRunOf p q steps answers es r =
+    let query = query_in p (query_at p q) in
+    Run INFINITY (program_in p) query steps answers (start_of query ∷ []) es r
+
+-- The run of the query that code has under a number, for some program that the code stands for.
+abbrev pub IsRunBy : Area → ℕ → ℕ → Option ℕ → List Event → ℕ → Type 0
+IsRunBy area number steps answers es r =
+    (prog : Program) × (query : Query) × MayRun area number prog query × Run INFINITY prog query steps answers (start_of query ∷ []) es r
+
+-- whether the event is the last one, and then whether it stops its query
+abbrev pub IsEnding : MachineEvent → Option Bool → Type 0
+IsEnding e None = is_final (event_of [] e) ≡ false
+IsEnding e (Some b) = (is_final (event_of [] e) ≡ true) × (b ≡ is_stop (event_of [] e ∷ []))

@@ -1,0 +1,235 @@
+//! The output of a text, written line by line: its refusal, or the events of its queries.
+ghost use Rattle.std.specs.Prelude.{◌≡◌, ◌<◌, ℕ, Bool, List, length, map, All, IfOk};
+ghost use Rattle.fd_model.specs.Goal.{Event};
+ghost use Rattle.fd_model.specs.Run.{IsLimit};
+ghost use Rattle.fd_model.specs.Lines.{events_bytes};
+ghost use Rattle.fd_model.specs.Output.{Queries, VerdictOutput, is_stop};
+ghost use Rattle.term_pool.specs.Contents.{atom_name};
+ghost use Rattle.clause_check.specs.Programs.{program_in};
+ghost use Rattle.code_machine.specs.States.{StandsFor, names_of};
+ghost use Rattle.byte_ports.specs.Ends.{sink_at};
+ghost use Rattle.text_output.specs.Endings.{Ending, IsEnding, IsRunBy, Wrote};
+ghost use Rattle.text_verdict.specs.Verdicts.{verdict_of, HasNames};
+
+use crate::fault::Fault;
+use answer_text::{event_text, query_text, refusal_text};
+use byte_ports::{Sink, write_all};
+use clause_check::Program;
+use clause_compiler::compile;
+use code_machine::Machine;
+use command_words::{AgendaName, Options};
+use fd_language::{INFINITY, NoMemory};
+use fd_model::Status;
+use machine_events::{Limits, MachineEvent};
+use propagate_queue::{Agenda, Cheapest, Fifo};
+use std::alloc::Global;
+use std::rc::Rc;
+use term_pool::{AtomId, Pool};
+use text_verdict::Verdict;
+use wam_code::CodeArea;
+
+/// Writes the last lines of an output.
+pub fn put_last<K: Sink>(sink: &mut K, lines: &[u8], status: Status) -> Status
+    ensures { Ending (sink_at (K.written sink.old) (K.faults sink.old)) (sink_at (K.written
+        sink.new) (K.faults sink.new)) result status lines.now }
+{
+    match put_lines(sink, lines) {
+        Ok(()) => status,
+        Err(fault) => fault.status(),
+    }
+}
+
+/// Writes lines, each as a piece of its own.
+fn put_lines<K: Sink>(sink: &mut K, lines: &[u8]) -> Result<(), Fault>
+    ensures { Wrote (sink_at (K.written sink.old) (K.faults sink.old)) (sink_at (K.written sink.new)
+        (K.faults sink.new)) result lines.now }
+{
+    let mut left = lines;
+    'lines: while let Some(end) = left.iter().position(|byte| *byte == b'\n') {
+        let (line, later) = left.split_at(end + 1);
+        put_line(sink, line)?;
+        left = later;
+    }
+    put_line(sink, left)
+}
+
+/// Writes a line.
+fn put_line<K: Sink>(sink: &mut K, line: &[u8]) -> Result<(), Fault>
+    ensures { Wrote (sink_at (K.written sink.old) (K.faults sink.old)) (sink_at (K.written sink.new)
+        (K.faults sink.new)) result line.now }
+{
+    Ok(write_all(sink, line)?)
+}
+
+/// Whether an event is the last one, and then whether it stops its query.
+pub fn ending(event: &MachineEvent) -> Option<bool>
+    ensures { IsEnding event.now result }
+{
+    match event {
+        MachineEvent::Write(_) | MachineEvent::Newline | MachineEvent::Answer(_) => None,
+        MachineEvent::End | MachineEvent::Limit => Some(false),
+        MachineEvent::Budget | MachineEvent::Fault(_) => Some(true),
+    }
+}
+
+/// Writes the lines of the events of a machine, and tells whether its query was stopped. The names are those of the query's shown
+/// variables.
+fn put_events<A: Agenda + Drop, K: Sink>(
+    alloc: Global,
+    pool: &Pool,
+    names: &[AtomId],
+    mut machine: Machine<A>,
+    sink: &mut K,
+) -> Result<bool, Fault>
+    requires names { All (λ a. a.number < length pool.now.names) names.now }
+    requires own { map (atom_name pool.now) names.now ≡ names_of machine }
+    ensures wrote { (es : List Event) (r : ℕ) → StandsFor machine es r
+        → Wrote (sink_at (K.written sink.old) (K.faults sink.old)) (sink_at (K.written sink.new)
+        (K.faults sink.new)) result (events_bytes es) }
+    ensures stopped { (es : List Event) (r : ℕ) → StandsFor machine es r → IfOk result (λ stopped.
+        stopped ≡ is_stop es) }
+{
+    'events: loop {
+        let event = machine.next()?;
+        put_line(sink, &event_text(alloc, pool, names, &event)?)?;
+        if let Some(stopped) = ending(&event) {
+            return Ok(stopped);
+        }
+    }
+}
+
+/// Writes the lines of the events of a query whose machine has this agenda, and tells whether the query was stopped.
+fn put_run<A: Agenda + Drop, K: Sink>(
+    alloc: Global,
+    code: &Rc<CodeArea>,
+    query: usize,
+    options: Options,
+    agenda: A,
+    sink: &mut K,
+) -> Result<bool, Fault>
+    requires query { query < length code.now.value.queries }
+    requires limit { IsLimit options.answers }
+    ensures wrote { (es : List Event) (r : ℕ)
+        → IsRunBy code.now.value query options.steps options.answers es r
+        → Wrote (sink_at (K.written sink.old) (K.faults sink.old)) (sink_at (K.written sink.new)
+        (K.faults sink.new)) result (events_bytes es) }
+    ensures stopped { (es : List Event) (r : ℕ)
+        → IsRunBy code.now.value query options.steps options.answers es r
+        → IfOk result (λ stopped. stopped ≡ is_stop es) }
+{
+    let limits = Limits {
+        steps: options.steps,
+        answers: options.answers,
+    };
+    let machine = Machine::new(alloc, Rc::clone(code)?, query, limits, agenda)?;
+    let parts = code.parts();
+    put_events(
+        alloc,
+        &parts.pool,
+        &parts.queries[query].names,
+        machine,
+        sink,
+    )
+}
+
+/// Writes the lines of a query's events, and tells whether the query was stopped.
+fn put_query<K: Sink>(
+    alloc: Global,
+    code: &Rc<CodeArea>,
+    query: usize,
+    options: Options,
+    sink: &mut K,
+) -> Result<bool, Fault>
+    requires query { query < length code.now.value.queries }
+    requires limit { IsLimit options.answers }
+    ensures wrote { (es : List Event) (r : ℕ)
+        → IsRunBy code.now.value query options.steps options.answers es r
+        → Wrote (sink_at (K.written sink.old) (K.faults sink.old)) (sink_at (K.written sink.new)
+        (K.faults sink.new)) result (events_bytes es) }
+    ensures stopped { (es : List Event) (r : ℕ)
+        → IsRunBy code.now.value query options.steps options.answers es r
+        → IfOk result (λ stopped. stopped ≡ is_stop es) }
+{
+    match options.agenda {
+        AgendaName::Fifo => put_run(alloc, code, query, options, Fifo::new(alloc), sink),
+        AgendaName::Cheapest => put_run(alloc, code, query, options, Cheapest::new(alloc), sink),
+    }
+}
+
+/// Writes the lines of a program's queries, and tells whether one of them was stopped.
+fn put_program<K: Sink>(
+    alloc: Global,
+    program: Program,
+    options: Options,
+    sink: &mut K,
+) -> Result<bool, Fault>
+    requires { IsLimit options.answers }
+    ensures wrote { (out : List ℕ) (stop : Bool)
+        → Queries INFINITY (program_in program) options.steps options.answers 1
+        (program_in program).queries out stop
+        → Wrote (sink_at (K.written sink.old) (K.faults sink.old)) (sink_at (K.written sink.new)
+        (K.faults sink.new)) result out }
+    ensures stopped { (out : List ℕ) (stop : Bool)
+        → Queries INFINITY (program_in program) options.steps options.answers 1
+        (program_in program).queries out stop
+        → IfOk result (λ stopped. stopped ≡ stop) }
+{
+    program.known();
+    let count = program.queries();
+    let code = compile(alloc, program)?;
+    let shared = Rc::new(alloc, code)?;
+    let mut stopped = false;
+    for query in 0..count {
+        put_line(sink, &query_text(alloc, query + 1)?)?;
+        if put_query(alloc, &shared, query, options, sink)? {
+            stopped = true;
+        }
+    }
+    Ok(stopped)
+}
+
+/// Writes the output of a text with this verdict, and gives its status.
+fn put_output<K: Sink>(alloc: Global, verdict: Verdict, options: Options, sink: &mut K) -> Status
+    requires names { HasNames verdict }
+    requires limit { IsLimit options.answers }
+    ensures { (out : List ℕ) (st : Status) → VerdictOutput INFINITY (verdict_of verdict)
+        options.steps options.answers out st
+        → Ending (sink_at (K.written sink.old) (K.faults sink.old)) (sink_at (K.written sink.new)
+        (K.faults sink.new)) result st out }
+{
+    match verdict {
+        Verdict::Accepted(program) => match put_program(alloc, program, options, sink) {
+            Ok(true) => Status::Stopped,
+            Ok(false) => Status::Done,
+            Err(fault) => fault.status(),
+        },
+        Verdict::Refused {
+            place,
+            reason,
+            pool,
+        } => match refusal_text(alloc, place, &reason, &pool) {
+            Ok(line) => put_last(sink, &line, Status::Refused),
+            Err(NoMemory) => Status::NoMemory,
+        },
+    }
+}
+
+/// Writes the output of a text, where memory sufficed for its verdict.
+pub fn answer<K: Sink>(
+    alloc: Global,
+    verdict: Result<Verdict, NoMemory>,
+    options: Options,
+    sink: &mut K,
+) -> Status
+    requires names { IfOk verdict HasNames }
+    requires limit { IsLimit options.answers }
+    ensures { (out : List ℕ) (st : Status) → IfOk verdict (λ v. VerdictOutput INFINITY (verdict_of
+        v) options.steps options.answers out st)
+        → Ending (sink_at (K.written sink.old) (K.faults sink.old)) (sink_at (K.written sink.new)
+        (K.faults sink.new)) result st out }
+{
+    match verdict {
+        Ok(verdict) => put_output(alloc, verdict, options, sink),
+        Err(NoMemory) => Status::NoMemory,
+    }
+}
