@@ -118,7 +118,7 @@ impl<A: Agenda + Drop> BranchState<A> {
     }
 
     /// A new compound term of cells of the branch. After an error the branch isn't used any more.
-    #[inline]
+    #[inline(always)]
     pub fn compound(&mut self, f: AtomId, args: &[Cell]) -> Result<Cell, NoMemory>
         requires sound { IsSound self.old }
         requires name { f.number < self.old.atoms }

@@ -375,7 +375,7 @@ impl Heap {
     }
 
     /// A new compound term. The error is want of memory, and the heap is then as before.
-    #[inline]
+    #[inline(always)]
     pub fn new_struct(&mut self, f: AtomId, args: &[Cell]) -> Result<Cell, NoMemory>
         requires { All (IsOf self.old.now) args.now }
         ensures id { IfOk result (λ c. c ≡ cell.Struct (length self.old.now.compounds)) }
@@ -398,7 +398,7 @@ impl Heap {
 
     /// Binds a variable that isn't bound to a cell in which it doesn't occur. The error is want of memory, and the heap is then as
     /// before.
-    #[inline]
+    #[inline(always)]
     pub fn bind(&mut self, var: usize, to: Cell) -> Result<(), NoMemory>
         requires there { var < length self.old.now.slots }
         requires unbound { is_bound (slot_at self.old.now var) ≡ false }
