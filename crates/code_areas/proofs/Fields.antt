@@ -1,6 +1,6 @@
 -- The same by the lengths and the frame that the code reads.
 use Rattle.std.proofs.Common.{◌≡◌, ℕ, zero, suc, ◌+◌, ◌-◌, ◌<◌, ◌≤◌, List, [], ◌∷◌, ◌++◌, length, take, drop, slice_range, replicate, None, ap, sym, ◌∙◌, subst, arith, length-append, length-drop, get_or}
-use Rattle.std.proofs.lemmas.List.{take_all, get_or-drop, get_or_default}
+use Rattle.std.proofs.lemmas.List.{get_or-drop, get_or_default}
 use Rattle.std.proofs.Math.Seq.{take-length, take-append_seam, drop-append_seam}
 use Rattle.heap_cells.specs.declared.Cell.{Cell}
 use Rattle.code_areas.specs.declared.Frame.{Frame}
@@ -30,14 +30,9 @@ module _ (cells : Places) (first : ℕ) (slots : Places) (base : ℕ) (frames : 
   frame_read k is f e = let n = s.0.newest_in in e ∙ get_or_default frames k f no_frame (omega (arith, n, is))
 
   -- a frame is begun where there is none
-  module _ (n : ℕ) (none : length (drop base slots) ≡ 0) (xs : Places) (is : xs ≡ take (base + n) slots ++ replicate ((base + n) - length slots) None) where
+  module _ (n : ℕ) (none : length (drop base slots) ≡ 0) (xs : Places) (xs_is : xs ≡ slots ++ replicate n None) where
     size : length slots ≡ base
     size = let b = s.0.base_in in omega (arith, b, none, length-drop base slots)
-
-    xs_is : xs ≡ slots ++ replicate n None
-    xs_is =
-        let e : (base + n) - length slots ≡ n = omega (arith, size) in
-        is ∙ ap (λ l. l ++ replicate ((base + n) - length slots) None) (take_all (base + n) slots (omega (arith, size))) ∙ ap (λ k. slots ++ replicate k None) e
 
     same : take base slots ≡ take base xs
     same = subst (λ b. take b slots ≡ take b xs) size (take-length slots ∙ sym (ap (take (length slots)) xs_is ∙ take-append_seam slots (replicate n None)))

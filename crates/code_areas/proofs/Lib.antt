@@ -1,3 +1,4 @@
 pub mod Levels
 pub mod Moving
 pub mod Fields
+pub mod Copying

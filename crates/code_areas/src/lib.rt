@@ -4,7 +4,8 @@
 //! choice points and of calls that have not returned, and these are never written.
 #![tactic(auto)]
 
-ghost use Rattle.std.specs.Prelude.{◌≡◌, ◌+◌, ◌<◌, ◌≤◌, [], ◌∷◌, length, take, reverse, replicate, slice_set, Some, None, IfOk, OnOk, OnErr};
+ghost use Rattle.std.specs.Prelude.{◌≡◌, ◌+◌, ◌-◌, ◌<◌, ◌≤◌, [], ◌∷◌, ◌++◌, length, take, reverse, replicate, slice_range, slice_set, Some, None, IfOk, OnOk, OnErr};
+ghost use Rattle.std.specs.Vec.{vec_len, vec_capacity};
 ghost use Rattle.code_areas.specs.Areas.{cell_at, IsSet, IsPut, nothing};
 ghost use Rattle.code_areas.specs.Stored.{frames_kept};
 
@@ -176,10 +177,8 @@ impl Areas {
         ensures slots { OnOk result (self.new ≡ record self.old { slots = replicate n None }) }
         ensures unchanged { OnErr result (self.new ≡ self.old) }
     {
-        if n > usize::MAX - self.base {
-            return Err(NoMemory);
-        }
-        self.slots.resize(self.base + n, unset())?;
+        make_room(&mut self.slots, n)?;
+        put_unset(&mut self.slots, n);
         Ok(())
     }
 
@@ -229,7 +228,8 @@ impl Areas {
         let frame = self.frames[k];
         if k < kept_frames(&self.marks) {
             let base = self.slots.len();
-            self.slots.extend_from_within(frame.start..frame.end)?;
+            make_room(&mut self.slots, frame.end - frame.start)?;
+            put_copies(&mut self.slots, frame.start, frame.end);
             self.base = base;
             self.newest = frame.behind;
             return Ok(frame.to);
@@ -271,9 +271,10 @@ impl Areas {
             newest: self.newest,
         };
         self.marks.reserve(1)?;
-        self.slots.reserve(mark.slots - mark.base)?;
-        self.cells.extend_from_within(mark.first..mark.cells)?;
-        self.slots.extend_from_within(mark.base..mark.slots)?;
+        make_room(&mut self.cells, mark.cells - mark.first)?;
+        make_room(&mut self.slots, mark.slots - mark.base)?;
+        put_copies(&mut self.cells, mark.first, mark.cells);
+        put_copies(&mut self.slots, mark.base, mark.slots);
         self.marks.push_reserved(mark);
         self.first = mark.cells;
         self.base = mark.slots;
@@ -340,6 +341,45 @@ fn set_cell(cells: &[Place], at: usize) -> Cell
     }
 }
 
+/// Makes room for so many more places. The error is want of memory.
+#[inline(always)]
+fn make_room(places: &mut Vec<Place>, count: usize) -> Result<(), NoMemory>
+    ensures items { places.new.items ≡ places.old.items }
+    ensures room { OnOk result (vec_len places.new + count ≤ vec_capacity places.new) }
+{
+    if places.capacity() - places.len() < count {
+        places.reserve(count)?;
+    }
+    Ok(())
+}
+
+/// Puts copies of the places from `start` to `end` behind the last one. There is room for them.
+#[inline(always)]
+fn put_copies(places: &mut Vec<Place>, start: usize, end: usize)
+    requires order { start ≤ end }
+    requires end { end ≤ length places.old.items }
+    requires room { vec_len places.old + (end - start) ≤ vec_capacity places.old }
+    ensures { places.new.items ≡ places.old.items ++ slice_range places.old.items start end }
+{
+    for at in start..end {
+        let place = places[at];
+        places.push_reserved(place);
+    }
+}
+
+/// Puts so many places behind the last one, of which none is set. There is room for them.
+#[inline(always)]
+fn put_unset(places: &mut Vec<Place>, count: usize)
+    requires { vec_len places.old + count ≤ vec_capacity places.old }
+    ensures items { places.new.items ≡ places.old.items ++ replicate count None }
+    ensures room { vec_len places.new ≡ vec_len places.old + count }
+    ensures same { vec_capacity places.new ≡ vec_capacity places.old }
+{
+    for _ in 0..count {
+        places.push_reserved(unset());
+    }
+}
+
 /// Puts a cell behind the first ones at the number `n`.
 #[inline(always)]
 fn put_cell(cells: &mut Vec<Place>, first: usize, n: usize, cell: Cell) -> Result<(), NoMemory>
@@ -372,9 +412,10 @@ fn put_beyond(cells: &mut Vec<Place>, first: usize, n: usize, cell: Cell) -> Res
     ensures unchanged { OnErr result (cells.new.items ≡ cells.old.items) }
 {
     let at = first.checked_add(n).ok_or(NoMemory)?;
-    let end = at.checked_add(1).ok_or(NoMemory)?;
-    cells.resize(end, unset())?;
-    cells[at] = place_of(cell);
+    let missing = at - cells.len();
+    make_room(cells, missing.saturating_add(1))?;
+    put_unset(cells, missing);
+    cells.push_reserved(place_of(cell));
     Ok(())
 }
 

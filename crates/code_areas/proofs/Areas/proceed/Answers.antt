@@ -1,6 +1,6 @@
-use Rattle.std.proofs.Common.{◌-◌, ◌<◌, ◌≤◌, List, length, drop, reverse, ap, sym, ◌∙◌, subst, arith}
+use Rattle.std.proofs.Common.{◌-◌, ◌<◌, ◌≤◌, List, ◌++◌, length, drop, slice_range, reverse, ap, sym, ◌∙◌, subst, arith}
 use Rattle.code_areas.specs.declared.Mark.{Mark}
-use Rattle.code_areas.specs.Areas.{Contents}
+use Rattle.code_areas.specs.Areas.{Places, Contents}
 use Rattle.code_areas.specs.Stored.{returns_of, frames_kept}
 use Rattle.code_areas.proofs.Fields.{some_newest, frame_read, copy_made, cut_made}
 use Rattle.code_areas.proofs.Areas.proceed.Goals as goal
@@ -11,8 +11,8 @@ invariant_of-self-then-k-kept_frames c =
     let is = some_newest a.slots.items a.frames.items a.newest (subst (λ (k : Contents). 0 < length k.returns) (sym c.self.view_is) c.requires) in
     let f = c.index-frame.result.now in
     let frame = frame_read a.cells.items a.first a.slots.items a.base a.frames.items a.newest (reverse a.marks.items) c.self.invariant (a.newest - 1) is f c.index-frame.ensures in
-    (copy_made a.cells.items a.first a.slots.items a.base a.frames.items a.newest (reverse a.marks.items) c.self.invariant (a.newest - 1) is f frame c.len-base.result c.extend_from_within.new.self.items
-    (omega (arith, c.len-base.ensures, a.slots.ok.0)) c.in_ok-extend_from_within.ensures.items).0
+    (copy_made a.cells.items a.first a.slots.items a.base a.frames.items a.newest (reverse a.marks.items) c.self.invariant (a.newest - 1) is f frame c.len-base.result c.put_copies.new.places.items
+    (omega (arith, c.len-base.ensures, a.slots.ok.0)) (c.put_copies.ensures ∙ ap (λ (l : Places). l ++ slice_range l f.start f.end) c.in_ok-make_room.ensures.items)).0
 
 pub returns-then-k-kept_frames-clause-returned : goal.returns-then-k-kept_frames-clause-returned
 returns-then-k-kept_frames-clause-returned c =
@@ -21,8 +21,8 @@ returns-then-k-kept_frames-clause-returned c =
     let f = c.index-frame.result.now in
     let frame = frame_read a.cells.items a.first a.slots.items a.base a.frames.items a.newest (reverse a.marks.items) c.self.invariant (a.newest - 1) is f c.index-frame.ensures in
     ap (λ (k : Contents). k.returns) (sym c.self.view_is)
-    ∙ (copy_made a.cells.items a.first a.slots.items a.base a.frames.items a.newest (reverse a.marks.items) c.self.invariant (a.newest - 1) is f frame c.len-base.result c.extend_from_within.new.self.items
-    (omega (arith, c.len-base.ensures, a.slots.ok.0)) c.in_ok-extend_from_within.ensures.items).2
+    ∙ (copy_made a.cells.items a.first a.slots.items a.base a.frames.items a.newest (reverse a.marks.items) c.self.invariant (a.newest - 1) is f frame c.len-base.result c.put_copies.new.places.items
+    (omega (arith, c.len-base.ensures, a.slots.ok.0)) (c.put_copies.ensures ∙ ap (λ (l : Places). l ++ slice_range l f.start f.end) c.in_ok-make_room.ensures.items)).2
 
 pub returns-then-k-kept_frames-clause-same : goal.returns-then-k-kept_frames-clause-same
 returns-then-k-kept_frames-clause-same c =
@@ -30,9 +30,9 @@ returns-then-k-kept_frames-clause-same c =
     let is = some_newest a.slots.items a.frames.items a.newest (subst (λ (k : Contents). 0 < length k.returns) (sym c.self.view_is) c.requires) in
     let f = c.index-frame.result.now in
     let frame = frame_read a.cells.items a.first a.slots.items a.base a.frames.items a.newest (reverse a.marks.items) c.self.invariant (a.newest - 1) is f c.index-frame.ensures in
-    (copy_made a.cells.items a.first a.slots.items a.base a.frames.items a.newest (reverse a.marks.items) c.self.invariant (a.newest - 1) is f frame c.len-base.result c.extend_from_within.new.self.items
-    (omega (arith, c.len-base.ensures, a.slots.ok.0)) c.in_ok-extend_from_within.ensures.items).1
-    ∙ ap (λ (k : Contents). record k { slots = drop c.len-base.result c.extend_from_within.new.self.items; returns = returns_of c.extend_from_within.new.self.items a.frames.items f.behind }) c.self.view_is
+    (copy_made a.cells.items a.first a.slots.items a.base a.frames.items a.newest (reverse a.marks.items) c.self.invariant (a.newest - 1) is f frame c.len-base.result c.put_copies.new.places.items
+    (omega (arith, c.len-base.ensures, a.slots.ok.0)) (c.put_copies.ensures ∙ ap (λ (l : Places). l ++ slice_range l f.start f.end) c.in_ok-make_room.ensures.items)).1
+    ∙ ap (λ (k : Contents). record k { slots = drop c.len-base.result c.put_copies.new.places.items; returns = returns_of c.put_copies.new.places.items a.frames.items f.behind }) c.self.view_is
 
 pub invariant_of-self-2 : goal.invariant_of-self-2
 invariant_of-self-2 c =
