@@ -1,5 +1,5 @@
 -- A set and its ends.
-use Rattle.std.proofs.Common.{◌≡◌, ℕ, ◌-◌, ◌<◌, ◌≤◌, ◌⊎◌, inl, inr, Bool, true, false, not, ◌==◌, List, [], ◌∷◌, refl, sym, ◌∙◌, ap, subst, arith, length, get_or}
+use Rattle.std.proofs.Common.{◌≡◌, ℕ, ◌+◌, ◌-◌, ◌<◌, ◌≤◌, ◌⊎◌, inl, inr, Bool, true, false, not, ◌==◌, List, [], ◌∷◌, refl, sym, ◌∙◌, ap, subst, arith, length, get_or}
 use Rattle.std.proofs.lemmas.Bool.{true≢false}
 use Rattle.std.proofs.lemmas.Bool.Decides.{nat_tests}
 use Rattle.fd_language.specs.declared.TheConstants.{INFINITY}
@@ -29,6 +29,10 @@ some_ends ss a b r h e f = record { spans = r; least = e ∙ (least_is INFINITY 
 -- one interval has its own ends
 pub own_ends : (s : Span) (ss : List Span) → s.0 ≤ s.1 → s.1 ≤ INFINITY → ss ≡ s ∷ [] → AreWithEnds ss s
 own_ends s ss h g e = subst (λ l. AreWithEnds l s) (sym e) (some_ends (s ∷ []) s.0 s.1 (omega arith, h, g, tt) (omega arith) refl refl)
+
+-- two intervals that don't touch have the first one's least and the second one's greatest number
+pub pair_ends : (s t : Span) (ss : List Span) → s.0 ≤ s.1 → s.1 + 2 ≤ t.0 → t.0 ≤ t.1 → t.1 ≤ INFINITY → ss ≡ s ∷ t ∷ [] → AreWithEnds ss (s.0, t.1)
+pair_ends s t ss h a g l e = subst (λ q. AreWithEnds q (s.0, t.1)) (sym e) (some_ends (s ∷ t ∷ []) s.0 t.1 (omega arith, h, omega arith, (a, g, l, tt)) (omega arith) refl refl)
 
 some_there : (b : Bool) (n : ℕ) → b ≡ (n == 0) → not b ≡ true → 1 ≤ n
 some_there b n e h = grind (arith, nat_tests, e, h)

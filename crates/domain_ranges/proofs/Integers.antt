@@ -1,7 +1,7 @@
 -- Integers beside the numbers of U.
-use Rattle.std.proofs.Common.{◌≡◌, ℕ, true, false, arith, ℤ, pos, negsuc, int_le, ◌<ℤ◌, ◌≤◌, ◌≤ℤ◌, ◌∙◌, sym, ap, subst, to_z, of_z, SFits, to_z-of_z}
+use Rattle.std.proofs.Common.{◌≡◌, ℕ, true, false, arith, ℤ, pos, negsuc, int_le, ◌<ℤ◌, ◌≤◌, ◌≤ℤ◌, ◌∙◌, refl, sym, ap, subst, to_z, of_z, SFits, to_z-of_z}
 use Rattle.std.proofs.lemmas.Bool.{true≢false}
-use mir.Syntax.{w128}
+use mir.Syntax.{w64, w128}
 use lib.Signed.{lt_z}
 use Rattle.std.proofs.lemmas.Int.{ints}
 use lib.IntN.{nat_abs}
@@ -35,3 +35,12 @@ code_low z v k e h = subst (λ u. k ≤ℤ u) (sym e) h
 
 pub one_low : (z : ℤ) → pos 2 ≤ℤ z → pos 1 ≤ℤ z
 one_low z h = omega (arith, ints)
+
+-- an integer that is no less than a number of U
+pub not_below : (z : ℤ) (k : ℕ) → pos k ≤ℤ z → z ≡ pos (nat_abs z)
+not_below (pos n) k h = refl
+not_below (negsuc n) k h = absurd (omega (arith, ints))
+
+-- the same where it is held in 64 bits
+pub held_number : (z : ℤ) (k : ℕ) → SFits w64 z → pos k ≤ℤ z → z ≡ pos (nat_abs (to_z w64 (of_z w64 z)))
+held_number z k f h = not_below z k h ∙ ap (λ y. pos (nat_abs y)) (sym (to_z-of_z f))

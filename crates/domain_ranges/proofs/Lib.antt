@@ -11,6 +11,7 @@ pub mod Places
 pub mod Gaps
 pub mod Cutting
 pub mod Excluding
+pub mod Leaving
 pub mod Dividing
 pub mod Shifting
 pub mod Scaling
@@ -18,4 +19,3 @@ pub mod Images
 pub mod Union
 pub mod Inside
 pub mod Stacking
-pub mod FromBelow

@@ -1,16 +1,20 @@
 -- What an interval leaves of a set, by its ends.
-use Rattle.std.proofs.Common.{◌≡◌, ℕ, ◌<◌, ◌≤◌, ◌⊎◌, inl, inr, true, false, ◌==◌, max, min, List, [], ◌∷◌, filter, refl, sym, ◌∙◌, ap, subst, arith, length, set, eq-eqb}
+use Rattle.std.proofs.Common.{◌≡◌, ℕ, ◌<◌, ◌≤◌, ◌⊎◌, inl, inr, true, false, ◌==◌, ◌&&◌, ℤ, pos, int_le, ◌<ℤ◌, ◌≤ℤ◌, max, min, List, [], ◌∷◌, filter, refl, sym, ◌∙◌, ap, subst, arith, length, set, eq-eqb}
 use Rattle.std.specs.List.{refill}
-use Rattle.std.proofs.lemmas.Bool.{or_left, or_right}
+use Rattle.std.proofs.lemmas.Bool.{or_left, or_right, cases_Bool}
+use Rattle.std.proofs.lemmas.Bool.Decides.{nat_tests}
+use Rattle.std.proofs.lemmas.Int.{ints, clamps}
+use Rattle.std.specs.Int.{int_max, int_min}
 use Rattle.fd_language.specs.declared.TheConstants.{INFINITY}
-use Rattle.fd_language.specs.Family.{has, IsRising}
+use Rattle.fd_language.specs.Family.{has, IsRising, IsSubset}
 use Rattle.fd_language.specs.Range.{least, greatest, is_none_left}
 use Rattle.fd_language.proofs.Lemmas.{has_high, least_low, least_in, greatest_in, greatest_high}
 use Rattle.domain_ranges.specs.Spans.{Span, within, IsSpans, AreWithEnds, members, meet}
-use Rattle.domain_ranges.specs.Narrowing.{IsInterval, IsPart}
+use Rattle.domain_ranges.specs.Narrowing.{between, IsInterval, IsPart}
 use Rattle.domain_ranges.specs.declared.Part.TheVariants.{Nothing, Within}
 use Rattle.domain_ranges.proofs.Made.{out_low, out_high}
 use Rattle.domain_ranges.proofs.Members.{has_members, members_rising, meet_is, spans_once, has_within, least_is, greatest_is}
+use Rattle.domain_ranges.proofs.Images.{has_set}
 use Rattle.domain_ranges.proofs.Meeting.{one_set}
 use Rattle.domain_ranges.proofs.Inside.{left_of, met_one}
 use Rattle.domain_ranges.proofs.Ends.{below_ends, above_ends}
@@ -22,19 +26,6 @@ none_of (x ∷ xs) ys h = rw (h x (or_left (x == x) (has xs x) (eq-eqb x x refl)
 
 -- the ends of a set, and an interval
 module _ (xs : List ℕ) (b : Span) (rises : IsRising 0 INFINITY xs) (some : is_none_left xs ≡ false) (order : b.0 ≤ b.1) (limit : b.1 ≤ INFINITY) where
-  in_bounds : (n : ℕ) → has (members (b ∷ [])) n ≡ within (b ∷ []) n
-  in_bounds n = has_members 0 INFINITY (b ∷ []) n (omega arith, order, limit, tt)
-
-  out_of : (n : ℕ) → (n < b.0) ⊎ (b.1 < n) → has (members (b ∷ [])) n ≡ false
-  out_of n (inl l) = in_bounds n ∙ out_low b n l
-  out_of n (inr l) = in_bounds n ∙ out_high b n l
-
-  -- the two have no number in common
-  pub nothing_left : min (greatest xs) b.1 < max (least xs) b.0 → filter (has (members (b ∷ []))) xs ≡ []
-  nothing_left h = none_of xs (members (b ∷ [])) (λ n m. out_of n (beside n (least_low 0 INFINITY n xs rises m) (greatest_high 0 INFINITY n xs rises m))) where
-    beside : (n : ℕ) → least xs ≤ n → n ≤ greatest xs → (n < b.0) ⊎ (b.1 < n)
-    beside n k l = grind (arith, h)
-
   -- an end lies outside of the bounds
   pub less_left : (least xs < b.0) ⊎ (b.1 < greatest xs) → length (filter (has (members (b ∷ []))) xs) < length xs
   less_left (inl l) = left_of xs (members (b ∷ [])) (filter (has (members (b ∷ []))) xs) refl (below_ends b order limit xs some l)
@@ -71,9 +62,6 @@ module _ (ss : List Span) (xs set : List ℕ) (ends b : Span) (low high : ℕ) (
   to : high ≡ min (greatest xs) b.1
   to = subst (λ k. high ≡ min k b.1) last f
 
-  pub held_nothing : high < low → IsPart xs set Nothing
-  held_nothing l = subst (λ q. IsPart xs q Nothing) is (nothing_left xs b rises some order limit (omega (arith, from, to, l)))
-
   pub held_within : low ≤ high → ((b.0 ≤ ends.0) × (b.1 < ends.1)) ⊎ (ends.0 < b.0) → IsPart xs set (Within low high)
   held_within l k = subst (λ q. IsPart xs q (Within low high)) is (
     l,
@@ -81,6 +69,54 @@ module _ (ss : List Span) (xs set : List ℕ) (ends b : Span) (low high : ℕ) (
     less_left xs b rises some order limit (elim k [ inl h ↦ inr (omega (arith, h.1, last)) | inr h ↦ inl (omega (arith, h, first)) ]),
     interval_left xs b rises some order limit low high from to l,
   )
+
+-- two sets that agree on the members leave the same of them
+filter_on : (xs ys zs : List ℕ) → ((n : ℕ) → has xs n ≡ true → has ys n ≡ has zs n) → filter (has ys) xs ≡ filter (has zs) xs
+filter_on [] ys zs h = refl
+filter_on (x ∷ xs) ys zs h =
+    let here = h x (or_left (x == x) (has xs x) (eq-eqb x x refl)) in
+    let later = filter_on xs ys zs (λ n g. h n (or_right (x == n) (has xs n) g)) in
+    elim (cases_Bool (has zs x)) [
+      | inl t ↦ rw (here ∙ t, t) (ap (λ l. x ∷ l) later)
+      | inr t ↦ rw (here ∙ t, t) later
+    ]
+
+-- bounds that may lie anywhere, and the ends that are held
+module _ (ss : List Span) (xs : List ℕ) (ends : Span) (lo hi : ℤ) (held : AreWithEnds ss ends) (same : members ss ≡ xs) where
+  in_ends : (n : ℕ) → has xs n ≡ true → (ends.0 ≤ n) × (n ≤ ends.1) × (n ≤ INFINITY)
+  in_ends n m =
+      let r = subst (IsRising 0 INFINITY) same (members_rising 0 INFINITY ss held.spans) in
+      (omega (arith, held.least ∙ ap least same, least_low 0 INFINITY n xs r m), omega (arith, held.greatest ∙ ap greatest same, greatest_high 0 INFINITY n xs r m), has_high 0 INFINITY xs n r m)
+
+  between_is : (n : ℕ) → n ≤ INFINITY → has (between lo hi) n ≡ (int_le lo (pos n) && int_le (pos n) hi)
+  between_is n l = has_set INFINITY (λ k. int_le lo (pos k) && int_le (pos k) hi) n l
+
+  inside_both : (a b n : ℕ) → lo ≤ℤ pos a → pos b ≤ℤ hi → a ≤ n → n ≤ b → (int_le lo (pos n) && int_le (pos n) hi) ≡ true
+  inside_both a b n h g k l = grind (arith, ints)
+
+  pub all_between : lo ≤ℤ pos ends.0 → pos ends.1 ≤ℤ hi → IsSubset xs (between lo hi)
+  all_between h g = record { each = λ n m. let w = in_ends n m in between_is n w.2 ∙ inside_both ends.0 ends.1 n h g w.0 w.1 }
+
+  module _ (low high : ℤ) (from : low ≡ int_max lo (pos ends.0)) (to : high ≡ int_min hi (pos ends.1)) where
+    beside_both : (n : ℕ) → high <ℤ low → ends.0 ≤ n → n ≤ ends.1 → (int_le lo (pos n) && int_le (pos n) hi) ≡ false
+    beside_both n h g k = grind (arith, ints, clamps)
+
+    pub none_between_ends : high <ℤ low → filter (has (between lo hi)) xs ≡ []
+    none_between_ends h = none_of xs (between lo hi) (λ n m. let w = in_ends n m in between_is n w.2 ∙ beside_both n h w.0 w.1)
+
+    in_both : (a b n : ℕ) → low ≡ pos a → high ≡ pos b → ends.0 ≤ n → n ≤ ends.1 → within ((a, b) ∷ []) n ≡ (int_le lo (pos n) && int_le (pos n) hi)
+    in_both a b n e f h g = grind (arith, ints, clamps, nat_tests)
+
+    pub some_between : (a b : ℕ) → low ≡ pos a → high ≡ pos b → a ≤ b → is_none_left xs ≡ false → ((lo ≤ℤ pos ends.0) × (hi <ℤ pos ends.1)) ⊎ (pos ends.0 <ℤ lo) → IsPart xs (between lo hi) (Within a b)
+    some_between a b e f l some out =
+        let a0 : ends.0 ≤ a = omega (arith, ints, clamps) in
+        let b1 : b ≤ ends.1 = omega (arith, ints, clamps) in
+        let last_high : ends.1 ≤ INFINITY = omega (arith, held.greatest ∙ ap greatest same, has_high 0 INFINITY xs (greatest xs) (subst (IsRising 0 INFINITY) same (members_rising 0 INFINITY ss held.spans)) (greatest_in xs some)) in
+        let moved : ((a ≤ ends.0) × (b < ends.1)) ⊎ (ends.0 < a) = elim out [ inl h ↦ inl (omega (arith, ints, clamps, h.0, h.1), omega (arith, ints, clamps, h.0, h.1)) | inr h ↦ inr (omega (arith, ints, clamps, h)) ] in
+        let part = held_within ss xs (members ((a, b) ∷ [])) ends (a, b) a b held same some l (omega arith) refl (omega arith) (omega arith) l moved in
+        let agree = filter_on xs (members ((a, b) ∷ [])) (between lo hi) (λ n m. let w = in_ends n m in
+        has_members 0 INFINITY ((a, b) ∷ []) n (omega arith, l, omega arith, tt) ∙ in_both a b n e f w.0 w.1 ∙ sym (between_is n w.2)) in
+        (part.0, part.1, subst (λ q. length q < length xs) agree part.2, λ i. sym agree ∙ part.3 i)
 
 -- a set is an interval where one interval is all of it
 pub one_interval : (ss : List Span) (xs : List ℕ) (ends : Span) → AreWithEnds ss ends → members ss ≡ xs → length ss ≡ 1 → IsInterval xs
@@ -92,7 +128,7 @@ one_interval (s ∷ []) xs ends held e h =
     let own : ◌≡◌ {A = Span} s (least xs, greatest xs) = λ i. (first i, last i) in
     sym e ∙ ap (λ (q : Span). members (q ∷ [])) own
 
-ordered : (xs : List ℕ) → IsRising 0 INFINITY xs → IsSpans 0 INFINITY ((least xs, greatest xs) ∷ [])
+pub ordered : (xs : List ℕ) → IsRising 0 INFINITY xs → IsSpans 0 INFINITY ((least xs, greatest xs) ∷ [])
 ordered [] r = (omega arith, omega arith, omega arith, tt)
 ordered (x ∷ xs) r = let ys : List ℕ = x ∷ xs in (omega arith, greatest_high 0 INFINITY (least ys) ys r (least_in ys refl), has_high 0 INFINITY ys (greatest ys) r (greatest_in ys refl), tt)
 

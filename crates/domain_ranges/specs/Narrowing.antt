@@ -1,14 +1,16 @@
 -- What is left of a set of values.
-use Rattle.std.specs.Prelude.{◌≡◌, ℕ, ◌<◌, ◌≤◌, false, ◌&&◌, not, ℤ, pos, int_le, List, [], ◌∷◌, filter, length}
+use Rattle.std.specs.Prelude.{◌≡◌, ℕ, ◌<◌, ◌≤◌, false, ◌&&◌, not, IsTrue, ℤ, pos, int_le, List, [], ◌∷◌, filter, length}
 use Rattle.std.specs.Ordering.{int_eq}
 use Rattle.fd_language.specs.Family.{has, universe, IsRising, IsSubset}
 use Rattle.fd_language.specs.Range.{least, greatest, is_none_left}
 use Rattle.fd_language.specs.declared.TheConstants.{INFINITY}
-use Rattle.domain_ranges.specs.Spans.{Span, members}
+use Rattle.domain_ranges.specs.Spans.{Span, members, has_int}
 use Rattle.domain_ranges.specs.declared.Narrowed.{Narrowed}
 use Rattle.domain_ranges.specs.declared.Narrowed.TheVariants.{Same, Empty, Changed}
 use Rattle.domain_ranges.specs.declared.Part.{Part}
 use Rattle.domain_ranges.specs.declared.Part.TheVariants.{All, Nothing, Within}
+use Rattle.domain_ranges.specs.declared.Membership.{Membership}
+use Rattle.domain_ranges.specs.declared.Membership.TheVariants.{Outside, Alone, Among}
 
 -- the numbers of U from a to b
 abbrev pub between : ℤ → ℤ → List ℕ
@@ -50,3 +52,9 @@ IsPart old set (Within low high) =
     × (high ≤ INFINITY)
     × (length (filter (has set) old) < length old)
     × (IsInterval old → filter (has set) old ≡ members ((low, high) ∷ []))
+
+-- how an integer stands to a set: it is no member, the only one, or one of several
+abbrev pub IsMembership : List ℕ → ℤ → Membership → Type 0
+IsMembership ns z Outside = has_int ns z ≡ false
+IsMembership ns z Alone = (n : ℕ) × (z ≡ pos n) × (ns ≡ n ∷ [])
+IsMembership ns z (Among n) = (z ≡ pos n) × IsTrue (has ns n) × (least ns < greatest ns)

@@ -63,12 +63,6 @@ shifted ss c n = list_any (λ s. int_le (pos s.0 +ℤ c) (pos n) && int_le (pos 
 abbrev pub scaled : List Span → ℕ → ℕ → Bool
 scaled ss c n = (n / c * c == n) && within ss (n / c)
 
--- intervals that rise and don't touch, of which the last one stands apart
-pub record AreFromBelow (ss : List Span) (last : Option Span) (capacity : ℕ) : Type 0 where
-  pub spans : IsSpans 0 INFINITY (ss ++ listed last)
-  pub alone : last ≡ None → ss ≡ []
-  pub room : 2 ≤ capacity
-
 -- intervals that rise and don't touch, with their least and their greatest number, which are 0 where there is none
 pub record AreWithEnds (ss : List Span) (ends : ℕ × ℕ) : Type 0 where
   pub spans : IsSpans 0 INFINITY ss

@@ -185,7 +185,7 @@ pub fn without(
 }
 
 /// Puts `last` behind the list, unless `next`, which begins no earlier, touches it. What the list may then end with.
-pub fn join(
+fn join(
     list: &mut SmallVec<(u32, u32), 2>,
     last: Option<(u32, u32)>,
     next: (u32, u32),
@@ -211,7 +211,7 @@ pub fn join(
 }
 
 /// The list with the interval that it may end with.
-pub fn close(
+fn close(
     mut list: SmallVec<(u32, u32), 2>,
     last: Option<(u32, u32)>,
 ) -> Result<SmallVec<(u32, u32), 2>, NoMemory>

@@ -1,19 +1,17 @@
 //! Sets of numbers from 0 to INFINITY, as lists of intervals.
 #![tactic(auto)]
 
-ghost use Rattle.std.specs.Prelude.{◌≡◌, ◌<◌, ◌≤◌, ◌&&◌, ◌||◌, not, nat_le, ◌^◌, neg_ℤ, ◌≤ℤ◌, ◌<ℤ◌, ◌⊎◌, ◌↔◌, if◌then◌else◌, ℕ, List, [], ◌∷◌, length, slice_index_or, filter, pos, int_le, IfOk, OnErr, MatchOption, IsTrue, IfSome, OnSome, false};
+ghost use Rattle.std.specs.Prelude.{◌≡◌, ◌<◌, ◌≤◌, ◌&&◌, ◌||◌, not, nat_le, ◌^◌, neg_ℤ, ◌≤ℤ◌, ◌<ℤ◌, ◌⊎◌, ◌+◌, ◌↔◌, if◌then◌else◌, ℕ, List, [], ◌∷◌, length, slice_index_or, filter, pos, int_le, IfOk, OnOk, OnErr, MatchOption, IsTrue, IfSome, OnSome, false};
 ghost use Rattle.domain_ranges.specs.Spans.{IsSpans, members, interval_count, has_int, meet};
 ghost use Rattle.domain_ranges.specs.Sets.{is_shifted, is_scaled, is_quotient};
-ghost use Rattle.domain_ranges.specs.Narrowing.{between, all_but, IsNarrowed, IsLeft, IsInterval, IsPart};
+ghost use Rattle.domain_ranges.specs.Narrowing.{between, all_but, IsNarrowed, IsLeft, IsInterval, IsPart, IsMembership};
 ghost use Rattle.fd_language.specs.Family.{has, universe, IsRising, IsSubset};
 ghost use Rattle.fd_language.specs.Range.{least, greatest, is_none_left};
 
-mod from_below;
 mod intervals;
 mod set_stack;
 
 use fd_language::{INFINITY, NoMemory};
-pub use from_below::Rising;
 pub use set_stack::SetStack;
 use smallvec::SmallVec;
 use std::alloc::Global;
@@ -61,6 +59,17 @@ pub enum Part {
     Nothing,
     /// Not all of it. Of an interval the numbers from the first to the second one are left.
     Within(u32, u32),
+}
+
+/// How a number stands to a set.
+#[derive(Clone, Copy, Debug, PartialEq, Eq)]
+pub enum Membership {
+    /// It is no member.
+    Outside,
+    /// It is the only member.
+    Alone,
+    /// It is this member, and there are others.
+    Among(u32),
 }
 
 /// What has a domain for each variable number below some bound.
@@ -247,21 +256,18 @@ impl Domain {
 
     /// What the numbers from `lo` to `hi`, both included, leave of the set, which isn't empty. Nothing is made.
     #[inline(always)]
-    pub fn part_between(&self, lo: i128, hi: i128) -> Part
+    pub fn part_between(&self, lo: i64, hi: i64) -> Part
         requires { is_none_left self.now ≡ false }
         ensures { IsPart self.now (between lo hi) result }
     {
-        let Some(bounds) = intervals::cut(lo, hi) else {
-            return Part::Nothing;
-        };
         let (least, greatest) = self.ends;
-        if bounds.0 <= least && bounds.1 >= greatest {
+        if lo <= least as i64 && hi >= greatest as i64 {
             return Part::All;
         }
-        let low = least.max(bounds.0);
-        let high = greatest.min(bounds.1);
+        let low = lo.max(least as i64);
+        let high = hi.min(greatest as i64);
         if low <= high {
-            Part::Within(low, high)
+            Part::Within(low as u32, high as u32)
         } else {
             Part::Nothing
         }
@@ -290,6 +296,76 @@ impl Domain {
             let alloc = *self.list.allocator();
             *self = Domain::of_span(alloc, (low, high));
         }
+    }
+
+    /// The set becomes that of the numbers of two intervals.
+    #[inline(always)]
+    fn set_pair(&mut self, first: (u32, u32), second: (u32, u32))
+        requires first { first.0 ≤ first.1 }
+        requires apart { first.1 + 2 ≤ second.0 }
+        requires second { second.0 ≤ second.1 }
+        requires high { second.1 ≤ INFINITY }
+        ensures { self.new ≡ members (first ∷ second ∷ []) }
+    {
+        let alloc = *self.list.allocator();
+        *self = Domain::of_pair(alloc, first, second);
+    }
+
+    /// Whether `n` is a member, and the only one.
+    #[inline(always)]
+    pub fn membership(&self, n: i64) -> Membership
+        ensures membership { IsMembership self.now n result }
+        ensures rising { IsRising 0 INFINITY self.now }
+    {
+        let (least, greatest) = self.ends;
+        if n < least as i64 || n > greatest as i64 {
+            return Membership::Outside;
+        }
+        if !self.is_interval() && !intervals::contains(self.spans(), n as u32) {
+            return Membership::Outside;
+        }
+        if least == greatest {
+            Membership::Alone
+        } else {
+            Membership::Among(n as u32)
+        }
+    }
+
+    /// Takes out the member `n`, which isn't the only one. After `NoMemory` the set is as it was.
+    #[inline(always)]
+    pub fn leave_out(&mut self, n: u32) -> Result<(), NoMemory>
+        requires member { IsTrue (has self.old n) }
+        requires others { least self.old < greatest self.old }
+        ensures left { OnOk result (self.new ≡ filter (has (all_but (pos n))) self.old) }
+        ensures some { OnOk result (is_none_left self.new ≡ false) }
+        ensures unchanged { OnErr result (self.new ≡ self.old) }
+    {
+        let (least, greatest) = self.ends;
+        if !self.is_interval() {
+            return self.leave_out_apart(n);
+        }
+        if n == least {
+            self.set_interval(least + 1, greatest);
+        } else if n == greatest {
+            self.set_interval(least, greatest - 1);
+        } else {
+            self.set_pair((least, n - 1), (n + 1, greatest));
+        }
+        Ok(())
+    }
+
+    /// The same of a set of any intervals.
+    #[inline(never)]
+    fn leave_out_apart(&mut self, n: u32) -> Result<(), NoMemory>
+        requires member { IsTrue (has self.old n) }
+        requires others { least self.old < greatest self.old }
+        ensures left { OnOk result (self.new ≡ filter (has (all_but (pos n))) self.old) }
+        ensures some { OnOk result (is_none_left self.new ≡ false) }
+        ensures unchanged { OnErr result (self.new ≡ self.old) }
+    {
+        let list = intervals::without(*self.list.allocator(), self.spans(), n)?;
+        *self = Domain::of_list(list);
+        Ok(())
     }
 
     /// What is left of the set without the number `n`. Where that is all, nothing is made.
@@ -465,8 +541,27 @@ impl Domain {
         self.ends.1
     }
 
+    /// The numbers of two intervals, the second of which begins past the first one and doesn't touch it.
+    #[inline(always)]
+    fn of_pair(alloc: Global, first: (u32, u32), second: (u32, u32)) -> Domain
+        requires first { first.0 ≤ first.1 }
+        requires apart { first.1 + 2 ≤ second.0 }
+        requires second { second.0 ≤ second.1 }
+        requires high { second.1 ≤ INFINITY }
+        ensures { result ≡ members (first ∷ second ∷ []) }
+    {
+        let mut list = SmallVec::new(alloc);
+        list.push_reserved(first);
+        list.push_reserved(second);
+        Domain {
+            ends: (first.0, second.1),
+            list,
+        }
+    }
+
     /// The numbers of one interval.
-    fn of_span(alloc: Global, span: (u32, u32)) -> Domain
+    #[inline(always)]
+    pub fn of_span(alloc: Global, span: (u32, u32)) -> Domain
         requires order { span.0 ≤ span.1 }
         requires high { span.1 ≤ INFINITY }
         ensures { result ≡ members (span ∷ []) }

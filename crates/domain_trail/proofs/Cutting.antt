@@ -1,14 +1,17 @@
 -- A set of the current store intersected with another one.
-use Rattle.std.proofs.Common.{◌≡◌, ℕ, ◌<◌, ◌≤◌, List, [], ◌∷◌, filter, length, get_or, set, reverse, refl, ap, sym, ◌∙◌, subst, arith}
+use Rattle.std.proofs.Common.{◌≡◌, ℕ, ◌<◌, ◌≤◌, List, [], ◌∷◌, filter, length, get_or, set, reverse, true, ℤ, pos, get_or-set_same, refl, ap, sym, ◌∙◌, subst, arith}
 use Rattle.std.specs.Prelude.{slice_set}
-use Rattle.std.proofs.lemmas.List.{get_or-map, map-set}
+use Rattle.std.proofs.lemmas.List.{get_or-map, map-set, length-set}
 use Rattle.fd_language.specs.declared.TheConstants.{INFINITY}
-use Rattle.fd_language.specs.Family.{has, universe}
+use Rattle.fd_language.specs.Family.{has, universe, IsRising}
+use Rattle.fd_language.proofs.Lemmas.{has_high}
 use Rattle.domain_ranges.specs.Spans.{members}
-use Rattle.domain_ranges.specs.Narrowing.{AreEnds, IsInterval, IsPart, IsNarrowed}
+use Rattle.domain_ranges.specs.Narrowing.{all_but, AreEnds, IsInterval, IsPart, IsNarrowed, IsMembership}
 use Rattle.domain_ranges.specs.declared.Narrowed.{Narrowed}
 use Rattle.domain_ranges.specs.declared.Narrowed.TheVariants as left
 use Rattle.domain_ranges.specs.declared.Part.TheVariants.{Within}
+use Rattle.domain_ranges.specs.declared.Membership.TheVariants.{Among}
+use Rattle.domain_ranges.proofs.Excluding.{fewer_left}
 use Rattle.domain_ranges.proofs.Members.{least_is, members_rising}
 use Rattle.domain_ranges.proofs.Ends.{own_ends}
 use Rattle.domain_trail.specs.declared.Cell.{Cell}
@@ -57,7 +60,21 @@ interval_cut set d k old new low high before e p i g b =
       subst (AreEnds (low, high)) (sym is) (own low high q.0 q.1),
     )
 
--- a cell that becomes an interval unsaved
+-- a member is left out
+pub number_cut : (d : List ℕ) (z : ℤ) (k n : ℕ) (old new : Stores) (before after : ℕ × ℕ) → d ≡ set_at old k → IsMembership d z (Among n) → IsRising 0 INFINITY d → new ≡ record old { current = slice_set old.current k (filter (has (all_but (pos n))) (set_at old k)) } → AreEnds before (set_at old k) → AreEnds after (filter (has (all_but (pos n))) (set_at old k))
+    → IsCut (all_but z) k old new (Changed before after)
+number_cut d z k n old new before after e m r g b a =
+    let is : z ≡ pos n = m.0 in
+    let there : has (set_at old k) n ≡ true = subst (λ (x : List ℕ). has x n ≡ true) e m.1 in
+    let high : n ≤ INFINITY = has_high 0 INFINITY d n r m.1 in
+    subst (λ (y : ℤ). IsCut (all_but y) k old new (Changed before after)) (sym is)
+    (g, fewer_left (set_at old k) (filter (has (all_but (pos n))) (set_at old k)) (pos n) n refl refl high there, b, a)
+
+-- the set that was written is there
+pub set_there : (old new : Stores) (k : ℕ) (f : List ℕ) → new ≡ record old { current = slice_set old.current k f } → k < length old.current → (k < length new.current) × (set_at new k ≡ f)
+set_there old new k f e l = subst (λ (s : Stores). (k < length s.current) × (set_at s k ≡ f)) (sym e) (omega (arith, length-set old.current k f), rw get_or-set_same refl)
+
+-- a cell that is written in place
 pub set_in_place : (ms : List Mark) (es : List Saved) (cs cs' : List Cell) (stamp k : ℕ) (x c : Cell) (old : Stores) → ◌≡◌ {A = Stores} (record { current = sets_of cs; below = stores_below (reverse ms) es cs }) old → k < length cs → x ≡ get_or cs k x → MayChange ms x.stamp stamp → IsTrail (reverse ms) es cs stamp → cs' ≡ set cs k c
     → ◌≡◌ {A = Stores} (record { current = sets_of cs'; below = stores_below (reverse ms) es cs' }) (record old { current = slice_set old.current k c.domain })
 set_in_place ms es cs cs' stamp k x c old v l e m t g =

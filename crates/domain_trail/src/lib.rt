@@ -1,14 +1,14 @@
 //! Domains that are changed in place, with marks to which they go back.
 #![tactic(auto)]
 
-ghost use Rattle.std.specs.Prelude.{◌≡◌, ◌<◌, ◌≤◌, [], ◌∷◌, ◌++◌, length, take, drop, slice_set, slice_index_or, IfOk, OnOk, OnErr, IsTrue, false};
-ghost use Rattle.fd_language.specs.Family.{universe};
-ghost use Rattle.fd_language.specs.Range.{is_none_left};
+ghost use Rattle.std.specs.Prelude.{◌≡◌, ◌<◌, ◌≤◌, ℕ, List, pos, filter, [], ◌∷◌, ◌++◌, length, take, drop, slice_set, slice_index_or, IfOk, OnOk, OnErr, IsTrue, false};
+ghost use Rattle.fd_language.specs.Family.{has, universe};
+ghost use Rattle.fd_language.specs.Range.{least, greatest, is_none_left};
 ghost use Rattle.domain_ranges.specs.Spans.{members};
-ghost use Rattle.domain_ranges.specs.Narrowing.{between, AreEnds};
+ghost use Rattle.domain_ranges.specs.Narrowing.{between, all_but, AreEnds, IsNarrowed};
 ghost use Rattle.domain_trail.specs.Cuts.{set_at, IsCut};
 
-use domain_ranges::{Domain, Narrowed, Part, View};
+use domain_ranges::{Domain, Membership, Narrowed, Part, View};
 use fd_language::{INFINITY, NoMemory};
 use std::alloc::Global;
 use std::marker::Model;
@@ -22,6 +22,25 @@ struct Cell {
 }
 
 const _: () = prove!(size_of::<Cell>() == 48);
+
+impl Cell {
+    /// Takes a member out of the domain, which has others, at a stamp. After `NoMemory` the cell is as it was.
+    #[inline(always)]
+    fn leave_out(&mut self, n: u32, stamp: u64) -> Result<(), NoMemory>
+        requires member { IsTrue (has self.old.domain n) }
+        requires others { least self.old.domain < greatest self.old.domain }
+        ensures left { OnOk result (self.new ≡ record {
+          domain = filter (has (all_but (pos n))) self.old.domain;
+          stamp = stamp;
+        }) }
+        ensures some { OnOk result (is_none_left self.new.domain ≡ false) }
+        ensures unchanged { OnErr result (self.new ≡ self.old) }
+    {
+        self.domain.leave_out(n)?;
+        self.stamp = stamp;
+        Ok(())
+    }
+}
 
 /// What the cell of a variable was. It takes 56 bytes.
 #[derive(Drop)]
@@ -174,25 +193,22 @@ impl Trail {
         ensures cut { IfOk result (IsCut (between lo hi) k self.old self.new) }
         ensures unchanged { OnErr result (self.new ≡ self.old) }
     {
-        match self.cells[k].domain.part_between(lo as i128, hi as i128) {
+        let domain = &self.cells[k].domain;
+        match domain.part_between(lo, hi) {
             Part::All => Ok(Cut::Same),
             Part::Nothing => Ok(Cut::Empty),
             Part::Within(low, high) => {
-                let cell = &self.cells[k];
-                if cell.domain.is_interval()
-                    && needs_no_saving(&self.marks, cell.stamp, self.stamp)
-                {
-                    let before = ends(&cell.domain);
-                    let stamp = self.stamp;
-                    set_interval(&mut self.cells, k, (low, high), stamp);
-                    return Ok(Cut::Changed(before, (low, high)));
+                if !domain.is_interval() {
+                    return self.cut_apart(k, lo, hi);
                 }
-                self.cut_apart(k, lo, hi)
+                let before = ends(domain);
+                self.set_interval(k, (low, high))?;
+                Ok(Cut::Changed(before, (low, high)))
             }
         }
     }
 
-    /// The same by a new domain.
+    /// The same of a domain of any intervals.
     #[inline(never)]
     fn cut_apart(&mut self, k: usize, lo: i64, hi: i64) -> Result<Cut, NoMemory>
         requires var { k < length self.old.current }
@@ -200,7 +216,87 @@ impl Trail {
         ensures cut { IfOk result (IsCut (between lo hi) k self.old self.new) }
         ensures unchanged { OnErr result (self.new ≡ self.old) }
     {
-        match self.cells[k].domain.narrowed_to(lo as i128, hi as i128)? {
+        let left = self.cells[k].domain.narrowed_to(lo as i128, hi as i128)?;
+        self.take_left(k, left)
+    }
+
+    /// Gives the variable `k` the numbers of an interval as its domain. `NoMemory`: there is no room for the old one.
+    #[inline(always)]
+    fn set_interval(&mut self, k: usize, span: (u32, u32)) -> Result<(), NoMemory>
+        requires var { k < length self.old.current }
+        requires order { span.0 ≤ span.1 }
+        requires high { span.1 ≤ INFINITY }
+        ensures changed { OnOk result (self.new ≡ record self.old {
+          current = slice_set self.old.current k (members (span ∷ []));
+        }) }
+        ensures unchanged { OnErr result (self.new ≡ self.old) }
+    {
+        let stamp = self.stamp;
+        let old = self.cells[k].stamp;
+        if needs_no_saving(&self.marks, old, stamp) {
+            set_interval(&mut self.cells, k, span, stamp);
+            return Ok(());
+        }
+        self.save_and_narrow(k, Domain::of_span(self.alloc, span))
+    }
+
+    /// Takes the number from the domain of the variable `k`, which isn't empty. `NoMemory`: there is no room for the old
+    /// domain, or for the new one.
+    #[inline(always)]
+    pub fn cut_out(&mut self, k: usize, number: i64) -> Result<Cut, NoMemory>
+        requires var { k < length self.old.current }
+        requires some { is_none_left (set_at self.old k) ≡ false }
+        ensures cut { IfOk result (IsCut (all_but number) k self.old self.new) }
+        ensures unchanged { OnErr result (self.new ≡ self.old) }
+    {
+        let domain = &self.cells[k].domain;
+        match domain.membership(number) {
+            Membership::Outside => Ok(Cut::Same),
+            Membership::Alone => Ok(Cut::Empty),
+            Membership::Among(n) => {
+                let before = ends(domain);
+                self.leave_out(k, n)?;
+                let after = ends(&self.cells[k].domain);
+                Ok(Cut::Changed(before, after))
+            }
+        }
+    }
+
+    /// Takes the member `n` from the domain of the variable `k`, which has others.
+    #[inline(always)]
+    fn leave_out(&mut self, k: usize, n: u32) -> Result<(), NoMemory>
+        requires var { k < length self.old.current }
+        requires member { IsTrue (has (set_at self.old k) n) }
+        requires others { least (set_at self.old k) < greatest (set_at self.old k) }
+        ensures changed { OnOk result (self.new ≡ record self.old {
+          current = slice_set self.old.current k (filter (has (all_but (pos n))) (set_at self.old k));
+        }) }
+        ensures some { OnOk result
+            (is_none_left (filter (has (all_but (pos n))) (set_at self.old k)) ≡ false) }
+        ensures unchanged { OnErr result (self.new ≡ self.old) }
+    {
+        let stamp = self.stamp;
+        let old = self.cells[k].stamp;
+        if needs_no_saving(&self.marks, old, stamp) {
+            self.cells[k].leave_out(n, stamp)?;
+            return Ok(());
+        }
+        let mut left = self.cells[k].domain.copy()?;
+        left.leave_out(n)?;
+        self.save_and_narrow(k, left)
+    }
+
+    /// Gives the variable `k` what is left of its domain, which isn't empty. `NoMemory`: there is no room for the old domain.
+    #[inline(always)]
+    pub fn take_left(&mut self, k: usize, left: Narrowed) -> Result<Cut, NoMemory>
+        requires var { k < length self.old.current }
+        requires some { is_none_left (set_at self.old k) ≡ false }
+        requires left { (set : List ℕ) × IsNarrowed (set_at self.old k) set left }
+        ensures cut { (set : List ℕ) → IsNarrowed (set_at self.old k) set left
+            → IfOk result (IsCut set k self.old self.new) }
+        ensures unchanged { OnErr result (self.new ≡ self.old) }
+    {
+        match left {
             Narrowed::Same => Ok(Cut::Same),
             Narrowed::Empty => Ok(Cut::Empty),
             Narrowed::Changed(domain) => {
