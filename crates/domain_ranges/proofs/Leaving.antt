@@ -79,6 +79,13 @@ module _ (ss : List Span) (xs : List ℕ) (ends : Span) (held : AreWithEnds ss e
       let b = last in
       ap (λ l. has l k) i ∙ has_members 0 INFINITY ((least xs, greatest xs) ∷ []) k (ordered xs rises) ∙ in_head (least xs, greatest xs) [] k (omega arith) (omega arith)
 
+  pub ends_ordered : (ends.0 ≤ ends.1) × (ends.1 ≤ INFINITY)
+  ends_ordered = let r = ordered xs rises in let a = first in let b = last in (omega (arith, r.1), omega (arith, r.2))
+
+  -- an interval is the one between the ends that are held
+  pub ends_all : IsInterval xs → members ((ends.0, ends.1) ∷ []) ≡ xs
+  ends_all i = (let own : ◌≡◌ {A = Span} (ends.0, ends.1) (least xs, greatest xs) = λ j. (first j, last j) in ap (λ (q : Span). members (q ∷ [])) own) ∙ sym i
+
   -- a member of an interval of several numbers
   pub record Held (k : ℕ) : Type 0 where
     pub low : ends.0 ≤ k
@@ -96,7 +103,7 @@ module _ (ss : List Span) (xs : List ℕ) (ends : Span) (held : AreWithEnds ss e
         high = omega (arith, greatest_high 0 INFINITY k xs rises m);
         limit = omega (arith, has_high 0 INFINITY xs (greatest xs) rises (greatest_in xs (not_empty xs k m)));
         more = omega arith;
-        is = (let own : ◌≡◌ {A = Span} (ends.0, ends.1) (least xs, greatest xs) = λ j. (a j, b j) in ap (λ (q : Span). members (q ∷ [])) own) ∙ sym i;
+        is = ends_all i;
       }
 
 -- a set whose numbers are those of an interval but one

@@ -12,6 +12,7 @@ pub mod Gaps
 pub mod Cutting
 pub mod Excluding
 pub mod Leaving
+pub mod Parting
 pub mod Dividing
 pub mod Shifting
 pub mod Scaling

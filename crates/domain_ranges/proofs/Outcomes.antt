@@ -1,10 +1,15 @@
 -- Outcomes of calls.
-use Rattle.std.proofs.Common.{ℕ, ◌<◌, ◌≤◌, Result, Ok, Err, OnErr, IfOk, rules, arith}
+use Rattle.std.proofs.Common.{ℕ, ◌<◌, ◌≤◌, Result, Ok, Err, OnOk, OnErr, IfOk, rules, arith}
 
 -- a fact that holds, where a call failed
 pub on_err : {A E : Type 0} (r : Result A E) (P : Type 0) → P → OnErr r P
 on_err (Ok x) P p = search rules
 on_err (Err e) P p = p
+
+-- a fact that follows from another one, where a call went well
+pub on_ok : {A E : Type 0} {P Q : Type 0} (r : Result A E) → (P → Q) → OnOk r P → OnOk r Q
+on_ok (Ok x) f p = f p
+on_ok (Err e) f p = search rules
 
 -- what can't fail with two intervals failed
 pub more_than_two : (n : ℕ) → (n ≤ 2 → ⊥) → 2 < n

@@ -11,8 +11,7 @@ use Rattle.fd_language.specs.Range.{least, greatest, is_none_left}
 use Rattle.fd_language.proofs.Lemmas.{has_high, least_low, least_in, greatest_in, greatest_high}
 use Rattle.domain_ranges.specs.Spans.{Span, within, IsSpans, AreWithEnds, members, meet}
 use Rattle.domain_ranges.specs.Narrowing.{between, IsInterval, IsPart}
-use Rattle.domain_ranges.specs.declared.Part.TheVariants.{Nothing, Within}
-use Rattle.domain_ranges.proofs.Made.{out_low, out_high}
+use Rattle.domain_ranges.specs.declared.Part.TheVariants.{Within}
 use Rattle.domain_ranges.proofs.Members.{has_members, members_rising, meet_is, spans_once, has_within, least_is, greatest_is}
 use Rattle.domain_ranges.proofs.Images.{has_set}
 use Rattle.domain_ranges.proofs.Meeting.{one_set}

@@ -1,5 +1,5 @@
 -- Sets of numbers as lists of intervals that rise and don't touch.
-use Rattle.std.specs.Prelude.{◌≡◌, ℕ, suc, ◌+◌, ◌-◌, ◌≤◌, Bool, false, ◌&&◌, not, ◌==◌, ◌*◌, ◌/◌, nat_le, nat_lt, int_le, ◌+ℤ◌, max, min, if◌then◌else◌, ℤ, pos, negsuc, List, [], ◌∷◌, ◌++◌, filter, length, Option, Some, None}
+use Rattle.std.specs.Prelude.{◌≡◌, ℕ, zero, suc, ◌+◌, ◌-◌, ◌≤◌, Bool, false, ◌&&◌, not, ◌==◌, ◌*◌, ◌/◌, nat_le, nat_lt, int_le, ◌+ℤ◌, max, min, if◌then◌else◌, ℤ, pos, negsuc, List, [], ◌∷◌, ◌++◌, filter, length, Option, Some, None}
 use Rattle.std.specs.List.{list_any}
 use Rattle.fd_language.specs.declared.TheConstants.{INFINITY}
 use Rattle.fd_language.specs.Family.{has, count_up}
@@ -54,6 +54,12 @@ joined (Some s) x = if nat_le x.0 (s.1 + 1) then (s.0, max s.1 x.1) else x
 -- the numbers from the one on and below the other, as at most one interval
 abbrev pub gap : ℕ → ℕ → List Span
 gap low end = if nat_lt low end then (low, end - 1) ∷ [] else []
+
+-- the intervals, of which the one at a place loses a number
+abbrev pub parted : List Span → ℕ → ℕ → List Span
+parted [] place n = []
+parted (s ∷ ss) zero n = gap s.0 n ++ (gap (n + 1) (s.1 + 1) ++ ss)
+parted (s ∷ ss) (suc place) n = s ∷ parted ss place n
 
 -- whether the number is c more than one in the intervals
 abbrev pub shifted : List Span → ℤ → ℕ → Bool

@@ -1,7 +1,7 @@
 //! Lists of intervals that rise and don't touch.
 
-ghost use Rattle.std.specs.Prelude.{◌≡◌, ◌<◌, ◌≤◌, ◌+◌, ◌&&◌, ◌||◌, not, ◌==◌, ◌*◌, ◌^◌, ◌<ℤ◌, neg_ℤ, IsTrue, IsSome, ℕ, Bool, false, [], ◌∷◌, ◌++◌, length, pos, int_le, nat_le, slice_index_or, max, min, filter, IfSome, IfNone, IfOk, OnOk, OnErr};
-ghost use Rattle.domain_ranges.specs.Spans.{Span, within, IsSpans, AreWithEnds, members, interval_count, meet, listed, written, joined, gap, shifted, scaled};
+ghost use Rattle.std.specs.Prelude.{◌≡◌, ◌<◌, ◌≤◌, ◌+◌, ◌&&◌, ◌||◌, not, ◌==◌, ◌*◌, ◌^◌, ◌<ℤ◌, neg_ℤ, IsTrue, IsSome, ℕ, Bool, false, [], ◌∷◌, ◌++◌, length, pos, int_le, nat_le, slice_index_or, slice_set, max, min, filter, IfSome, IfNone, IfOk, OnOk, OnErr};
+ghost use Rattle.domain_ranges.specs.Spans.{Span, within, IsSpans, AreWithEnds, members, interval_count, meet, listed, written, joined, gap, parted, shifted, scaled};
 ghost use Rattle.fd_language.specs.Family.{universe};
 ghost use Rattle.domain_ranges.specs.Waiting.{numbers, AreIntervals, AreRising};
 
@@ -182,6 +182,53 @@ pub fn without(
         }
     }
     Ok(list)
+}
+
+/// Writes an interval at a place.
+#[inline(always)]
+fn write(list: &mut SmallVec<(u32, u32), 2>, place: usize, span: (u32, u32))
+    requires { place < length list.old.items }
+    ensures { list.new.items ≡ slice_set list.old.items place span }
+{
+    let spans = list.as_mut_slice();
+    spans[place] = span;
+}
+
+/// Parts the interval at a place by a number that it has: it loses an end, goes, or becomes two.
+/// After `NoMemory` the list is as it was.
+fn part(list: &mut SmallVec<(u32, u32), 2>, place: usize, n: u32) -> Result<(), NoMemory>
+    requires place { place < length list.old.items }
+    requires low { (slice_index_or list.old.items place (0, 0)).0 ≤ n }
+    requires high { n ≤ (slice_index_or list.old.items place (0, 0)).1 }
+    requires fits { n ≤ INFINITY }
+    ensures parted { OnOk result (list.new.items ≡ parted list.old.items place n) }
+    ensures unchanged { OnErr result (list.new.items ≡ list.old.items) }
+{
+    let (low, high) = list.as_slice()[place];
+    if low == high {
+        let _span = list.remove(place);
+    } else if n == low {
+        write(list, place, (n + 1, high));
+    } else if n == high {
+        write(list, place, (low, n - 1));
+    } else {
+        list.insert(place + 1, (n + 1, high))?;
+        write(list, place, (low, n - 1));
+    }
+    Ok(())
+}
+
+/// Takes a number out of the intervals, one of which has it. After `NoMemory` they are as they were.
+pub fn leave_out(list: &mut SmallVec<(u32, u32), 2>, n: u32) -> Result<(), NoMemory>
+    requires spans { IsSpans 0 INFINITY list.old.items }
+    requires member { IsTrue (within list.old.items n) }
+    ensures spans { OnOk result (IsSpans 0 INFINITY list.new.items) }
+    ensures set { OnOk result (members list.new.items
+        ≡ filter (λ k. within list.old.items k && not (k == n)) (universe INFINITY)) }
+    ensures unchanged { OnErr result (list.new.items ≡ list.old.items) }
+{
+    let place = place_from(list.as_slice(), n);
+    part(list, place, n)
 }
 
 /// Puts `last` behind the list, unless `next`, which begins no earlier, touches it. What the list may then end with.

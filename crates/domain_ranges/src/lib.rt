@@ -113,7 +113,22 @@ impl Domain {
     }
 
     /// The same set once more.
+    #[inline(always)]
     pub fn copy(&self) -> Result<Domain, NoMemory>
+        ensures set { IfOk result (λ copy. copy ≡ self.now) }
+        ensures rising { IsRising 0 INFINITY self.now }
+        ensures no_memory { OnErr result (2 < interval_count self.now) }
+    {
+        if !self.is_interval() {
+            return self.copy_apart();
+        }
+        self.rises();
+        Ok(Domain::of_span(*self.list.allocator(), self.ends))
+    }
+
+    /// The same of a set of any intervals.
+    #[inline(never)]
+    fn copy_apart(&self) -> Result<Domain, NoMemory>
         ensures set { IfOk result (λ copy. copy ≡ self.now) }
         ensures rising { IsRising 0 INFINITY self.now }
         ensures no_memory { OnErr result (2 < interval_count self.now) }
@@ -363,8 +378,8 @@ impl Domain {
         ensures some { OnOk result (is_none_left self.new ≡ false) }
         ensures unchanged { OnErr result (self.new ≡ self.old) }
     {
-        let list = intervals::without(*self.list.allocator(), self.spans(), n)?;
-        *self = Domain::of_list(list);
+        intervals::leave_out(&mut self.list, n)?;
+        self.ends = intervals::ends(self.list.as_slice());
         Ok(())
     }
 

@@ -170,7 +170,7 @@ impl Trail {
     }
 
     /// The same where the old domain is saved.
-    #[inline(never)]
+    #[inline(always)]
     fn save_and_narrow(&mut self, k: usize, domain: Domain) -> Result<(), NoMemory>
         requires { k < length self.old.current }
         ensures changed { OnOk result

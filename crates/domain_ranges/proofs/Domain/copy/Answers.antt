@@ -1,9 +1,12 @@
-use Rattle.std.proofs.Common.{sym}
-use Rattle.std.proofs.lemmas.Bool.{true≢false}
-use Rattle.fd_language.specs.declared.TheConstants.{INFINITY}
-use Rattle.domain_ranges.proofs.Members.{three_spans}
-use Rattle.domain_ranges.proofs.Outcomes.{on_err, more_than_two}
+use Rattle.std.proofs.Common.{◌∙◌}
+use Rattle.domain_ranges.proofs.Leaving.{ends_ordered, ends_all}
 use Rattle.domain_ranges.proofs.Domain.copy.Goals as goal
 
-pub returns-in_err-list-clause-no_memory : goal.returns-in_err-list-clause-no_memory
-returns-in_err-list-clause-no_memory c = on_err c.from_residual.result _ (three_spans INFINITY c.spans.result.now c.args.self.now c.spans.ensures.spans c.spans.ensures.members (more_than_two _ (λ k. true≢false (sym (c.in_err-list.ensures.succeeds k)))))
+pub of_span-requires-clause-order : goal.of_span-requires-clause-order
+of_span-requires-clause-order c = (ends_ordered c.self.inside.list.items c.args.self.now c.self.inside.ends c.self.invariant c.self.view_is).0
+
+pub of_span-requires-clause-high : goal.of_span-requires-clause-high
+of_span-requires-clause-high c = (ends_ordered c.self.inside.list.items c.args.self.now c.self.inside.ends c.self.invariant c.self.view_is).1
+
+pub returns-clause-set : goal.returns-clause-set
+returns-clause-set c = c.of_span.ensures ∙ ends_all c.self.inside.list.items c.args.self.now c.self.inside.ends c.self.invariant c.self.view_is (c.is_interval.ensures.0 c.if-not-is_interval.false)
