@@ -52,6 +52,7 @@ pub fn place_from(spans: &[(u32, u32)], n: u32) -> usize
 }
 
 /// Whether the number is in one of the intervals.
+#[inline(never)]
 pub fn contains(spans: &[(u32, u32)], n: u32) -> bool
     requires { IsSpans 0 INFINITY spans.now }
     ensures { result ≡ within spans.now n }

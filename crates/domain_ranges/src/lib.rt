@@ -137,6 +137,21 @@ impl Domain {
         Ok(Domain::of_list(list))
     }
 
+    /// The same set once more, with room for one more interval where it has more than two.
+    #[inline]
+    pub fn copy_with_room(&self) -> Result<Domain, NoMemory>
+        ensures set { IfOk result (λ copy. copy ≡ self.now) }
+    {
+        let spans = self.spans();
+        if spans.len() <= 2 {
+            return self.copy();
+        }
+        let room = spans.len().saturating_add(1);
+        let mut list = SmallVec::with_capacity(*self.list.allocator(), room)?;
+        list.extend_from_slice(spans)?;
+        Ok(Domain::of_list(list))
+    }
+
     /// The numbers in both sets.
     pub fn intersect(&self, other: &Domain) -> Result<Domain, NoMemory>
         ensures set { IfOk result (λ both. both ≡ filter (has other.now) self.now) }

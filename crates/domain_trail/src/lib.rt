@@ -281,7 +281,23 @@ impl Trail {
             self.cells[k].leave_out(n, stamp)?;
             return Ok(());
         }
-        let mut left = self.cells[k].domain.copy()?;
+        self.save_and_leave_out(k, n)
+    }
+
+    /// The same where the old domain is saved.
+    #[inline(never)]
+    fn save_and_leave_out(&mut self, k: usize, n: u32) -> Result<(), NoMemory>
+        requires var { k < length self.old.current }
+        requires member { IsTrue (has (set_at self.old k) n) }
+        requires others { least (set_at self.old k) < greatest (set_at self.old k) }
+        ensures changed { OnOk result (self.new ≡ record self.old {
+          current = slice_set self.old.current k (filter (has (all_but (pos n))) (set_at self.old k));
+        }) }
+        ensures some { OnOk result
+            (is_none_left (filter (has (all_but (pos n))) (set_at self.old k)) ≡ false) }
+        ensures unchanged { OnErr result (self.new ≡ self.old) }
+    {
+        let mut left = self.cells[k].domain.copy_with_room()?;
         left.leave_out(n)?;
         self.save_and_narrow(k, left)
     }
