@@ -1,12 +1,11 @@
 //! The agents that wait for an activation.
 
-ghost use Rattle.std.specs.Prelude.{◌≡◌, ◌<◌, ◌≤◌, ◌+◌, ◌-◌, ℕ, List, [], ◌∷◌, ◌++◌, length, OnOk, IfSome, IfNone, MatchOption};
-ghost use Rattle.std.specs.VecDeque.{deque_len, deque_capacity};
+ghost use Rattle.std.specs.Prelude.{◌≡◌, ◌<◌, ◌≤◌, ◌+◌, ℕ, List, [], ◌∷◌, ◌++◌, length, drop, vec_len, vec_capacity, OnOk, IfSome, IfNone, MatchOption};
 ghost use Rattle.propagate_queue.specs.Queues.{times};
 
 use fd_language::NoMemory;
 use std::alloc::Global;
-use std::collections::VecDeque;
+use std::marker::Model;
 
 /// The agents that wait for an activation, each with a cost.
 pub trait Agenda {
@@ -42,62 +41,120 @@ pub trait Agenda {
 }
 
 /// An agenda that gives the agent that was put on it first.
+///
+/// Those that wait stand in a list from the place `first` on, and no more than `room` wait at once. Once `first` is past
+/// `farthest` they are moved to the front of the list. The list holds at least twice as many as may wait, so a move of
+/// `n` agents comes after at least `n` were taken.
 #[derive(Drop)]
 pub struct Fifo {
-    list: VecDeque<usize>,
+    list: Vec<usize>,
+    first: usize,
+    room: usize,
+    farthest: usize,
+}
+
+impl Model for Fifo {
+    ghost use Rattle.propagate_queue.specs.Lines.{Line};
+
+    ghost Value = { Line };
+
+    ghost use Rattle.std.specs.Prelude.{◌-◌, drop, vec_len, vec_capacity};
+    ghost use Rattle.propagate_queue.specs.Lines.{IsLine};
+
+    ghost view = { λ f. record {
+      waiting = drop f.first f.list.items;
+      spare = f.room - (vec_len f.list - f.first);
+    } };
+
+    ghost invariant = { λ f. IsLine (vec_len f.list) (vec_capacity f.list) f.first f.room
+        f.farthest };
 }
 
 impl Fifo {
     /// No agent waits.
     pub fn new(alloc: Global) -> Fifo
-        ensures { result.list.items ≡ [] }
+        ensures { result.waiting ≡ [] }
     {
         Fifo {
-            list: VecDeque::new(alloc),
+            list: Vec::new(alloc),
+            first: 0,
+            room: 0,
+            farthest: 0,
         }
     }
 }
 
+/// How many places a list of agents has at least, once room was made.
+const FEWEST: usize = 64;
+
+/// Takes away the first `n`.
+#[inline(never)]
+fn drop_first(list: &mut Vec<usize>, n: usize)
+    requires { n ≤ vec_len list.old }
+    ensures items { list.new.items ≡ drop n list.old.items }
+    ensures len { vec_len list.new + n ≡ vec_len list.old }
+    ensures capacity { vec_capacity list.new ≡ vec_capacity list.old }
+{
+    let len = list.len();
+    list.copy_within(n..len, 0);
+    list.truncate(len - n);
+}
+
 impl Agenda for Fifo {
-    ghost agents = { λ f. f.list.items };
+    ghost agents = { λ f. f.waiting };
 
-    ghost spare = { λ f. deque_capacity f.list - deque_len f.list };
+    ghost spare = { λ f. f.spare };
 
-    // Room is made for twice as many, so that one more agent at each post doesn't ask for memory each time.
+    // Room is made for more than `n`, so that one more agent at each post doesn't ask for memory each time.
     fn reserve(&mut self, n: usize) -> Result<(), NoMemory> {
-        if self.list.capacity() - self.list.len() < n {
-            self.list.reserve(n.saturating_mul(2))?;
+        let waiting = self.list.len() - self.first;
+        if self.room - waiting < n {
+            drop_first(&mut self.list, self.first);
+            self.first = 0;
+            let more = n.saturating_mul(2).saturating_add(waiting);
+            self.list.reserve(more.max(FEWEST))?;
+            let places = self.list.capacity();
+            self.room = places / 2;
+            self.farthest = places - self.room;
         }
         Ok(())
     }
 
+    #[inline(always)]
     fn put(&mut self, agent: usize, _cost: usize)
-        requires { 0 < deque_capacity self.old.list - deque_len self.old.list }
-        ensures last { self.new.list.items ≡ self.old.list.items ++ agent ∷ [] }
-        ensures added { (k : ℕ) → times k self.new.list.items ≡ times k
-            (agent ∷ self.old.list.items) }
-        ensures len { length self.new.list.items ≡ length self.old.list.items + 1 }
-        ensures room { deque_capacity self.old.list - deque_len self.old.list
-            ≤ deque_capacity self.new.list - deque_len self.new.list + 1 }
+        requires { 0 < self.old.spare }
+        ensures last { self.new.waiting ≡ self.old.waiting ++ agent ∷ [] }
+        ensures added { (k : ℕ) → times k self.new.waiting ≡ times k (agent ∷ self.old.waiting) }
+        ensures len { length self.new.waiting ≡ length self.old.waiting + 1 }
+        ensures room { self.old.spare ≤ self.new.spare + 1 }
     {
-        self.list.push_back_reserved(agent);
+        self.list.push_reserved(agent);
     }
 
+    #[inline(always)]
     fn take(&mut self) -> Option<usize>
-        ensures first { MatchOption result (self.old.list.items ≡ [])
-            (λ a. self.old.list.items ≡ a ∷ self.new.list.items) }
-        ensures none { IfNone result (self.old.list.items ≡ []) }
-        ensures empty { IfNone result (self.new.list.items ≡ []) }
+        ensures first { MatchOption result (self.old.waiting ≡ [])
+            (λ a. self.old.waiting ≡ a ∷ self.new.waiting) }
+        ensures none { IfNone result (self.old.waiting ≡ []) }
+        ensures empty { IfNone result (self.new.waiting ≡ []) }
         ensures taken { IfSome result (λ a. (k : ℕ)
-            → times k self.old.list.items ≡ times k (a ∷ self.new.list.items)) }
+            → times k self.old.waiting ≡ times k (a ∷ self.new.waiting)) }
         ensures len { IfSome result (λ _.
-            length self.old.list.items ≡ length self.new.list.items + 1) }
-        ensures room { IfSome result
-            (λ _. deque_capacity self.old.list - deque_len self.old.list + 1
-            ≤ deque_capacity self.new.list - deque_len self.new.list) }
-        ensures kept { IfNone result (deque_capacity self.old.list - deque_len self.old.list
-            ≤ deque_capacity self.new.list - deque_len self.new.list) }
+            length self.old.waiting ≡ length self.new.waiting + 1) }
+        ensures room { IfSome result (λ _. self.old.spare + 1 ≤ self.new.spare) }
+        ensures kept { IfNone result (self.old.spare ≤ self.new.spare) }
     {
-        self.list.pop_front()
+        if self.first == self.list.len() {
+            self.list.clear();
+            self.first = 0;
+            return None;
+        }
+        let agent = self.list[self.first];
+        self.first += 1;
+        if self.first > self.farthest {
+            drop_first(&mut self.list, self.first);
+            self.first = 0;
+        }
+        Some(agent)
     }
 }
