@@ -4,11 +4,9 @@
 ghost use Rattle.std.specs.Prelude.{◌≡◌, ◌<◌, ◌≤◌, ◌+◌, ◌-◌, ◌^◌, ◌&&◌, ◌==◌, not, nat_lt, ℕ, zero, suc, List, [], ◌∷◌, ◌++◌, true, false, if◌then◌else◌, length, take, drop, filter, slice_index_or, vec_len, vec_capacity, IfOk, OnOk, OnErr, IsTrue, MatchOption, All};
 ghost use Rattle.std.specs.List.{list_any};
 ghost use Rattle.fd_language.specs.Family.{has};
-ghost use Rattle.fd_language.specs.Range.{least, greatest, is_none_left, is_several};
 ghost use Rattle.fd_language.specs.Features.{is_same_feature};
 ghost use Rattle.fd_language.specs.declared.range_node.Feature.{Feature as Told};
 
-use domain_ranges::Domain;
 use fd_language::{Feature, NoMemory};
 use std::alloc::Global;
 use std::marker::Model;
@@ -69,7 +67,7 @@ impl Model for Chains {
     ghost invariant = { λ c. AreChains c.links.items c.heads.items };
 }
 
-/// The agents that a change wakes, one after another. An agent may come more than once.
+/// The agents that a change wakes. An agent may come more than once.
 #[derive(Drop)]
 pub struct Woken<'c> {
     links: &'c [Link],
@@ -120,36 +118,18 @@ ghost use Rattle.dependency_chains.specs.Waking.{change_of, wakes};
 ghost use Rattle.dependency_chains.specs.Reading.{read_by};
 ghost use Rattle.dependency_chains.specs.Links.{agents_from, AreLinked, AreChains, reads_of, head_of};
 
-/// The least and the greatest value of a domain that isn't empty.
-#[inline(always)]
-fn ends(domain: &Domain) -> (u32, u32)
-    requires { is_none_left domain.now ≡ false }
-    ensures { AreEnds result domain.now }
-{
-    (domain.least(), domain.greatest())
-}
-
 impl Change {
-    /// How the old domain became the new one. Neither is empty. No memory is taken.
-    #[inline(always)]
-    pub fn between(old: &Domain, new: &Domain) -> Change
-        requires old { is_none_left old.now ≡ false }
-        requires new { is_none_left new.now ≡ false }
-        ensures { result ≡ change_of old.now new.now }
-    {
-        Change::of_ends(ends(old), ends(new))
-    }
-
-    /// The same by the least and the greatest value of the old domain, and those of the new one.
+    /// How a domain that lost values changed, by the least and the greatest value that it had and those that it has now.
+    /// Neither domain is empty.
     #[inline(always)]
     pub fn of_ends(before: (u32, u32), after: (u32, u32)) -> Change
         ensures { (old new : List ℕ) → AreEnds before old → AreEnds after new
-            → result ≡ change_of old new }
+            → length new < length old → result ≡ change_of old new }
     {
         Change {
             min: before.0 != after.0,
             max: before.1 != after.1,
-            fixed: before.0 != before.1 && after.0 == after.1,
+            fixed: after.0 == after.1,
         }
     }
 }
@@ -364,24 +344,5 @@ impl<'c> Woken<'c> {
                 place: self.val,
             },
         )
-    }
-}
-
-impl Woken<'_> {
-    /// The next agent.
-    pub fn next(&mut self) -> Option<usize>
-        ensures { MatchOption result (self.old ≡ []) (λ a. self.old ≡ a ∷ self.new) }
-    {
-        let links = self.links;
-        if let Some(agent) = step(links, &mut self.dom) {
-            return Some(agent);
-        }
-        if let Some(agent) = step(links, &mut self.min) {
-            return Some(agent);
-        }
-        if let Some(agent) = step(links, &mut self.max) {
-            return Some(agent);
-        }
-        step(links, &mut self.val)
     }
 }

@@ -1,5 +1,5 @@
 -- Propagation under way: each agent that isn't on the agenda is at rest.
-use Rattle.std.specs.Prelude.{◌≡◌, ℕ, ◌<◌, Bool, false, List, [], length, filter, slice_index_or, slice_set, IsTrue, ◌↔◌}
+use Rattle.std.specs.Prelude.{◌≡◌, ℕ, ◌<◌, Bool, false, List, [], length, filter, slice_index_or, IsTrue, ◌↔◌}
 use Rattle.fd_language.specs.declared.TheConstants.{INFINITY}
 use Rattle.fd_language.specs.Family.{has, IsFamily, IsSubset}
 use Rattle.fd_language.specs.Range.{Indexical, set_of, is_none_left}
@@ -7,10 +7,9 @@ use Rattle.fd_model.specs.Closed.{AllPosted}
 use Rattle.fd_model.specs.Domains.{Domains}
 use Rattle.fd_model.specs.Laws.{ContainsDomains}
 use Rattle.range_code.specs.Frames.{family_of}
-use Rattle.dependency_chains.specs.Waking.{change_of}
 use Rattle.domain_trail.specs.Stores.{Stores}
-use Rattle.propagate_queue.specs.declared.activation.Outcome.{Outcome}
-use Rattle.propagate_queue.specs.declared.activation.Outcome.TheVariants.{Same, Empty, Changed}
+use Rattle.domain_trail.specs.Cuts.{IsCut}
+use Rattle.domain_trail.specs.declared.Cut.{Cut}
 use Rattle.propagate_queue.specs.Queues.{flag_at}
 
 -- one more activation doesn't narrow the target
@@ -21,25 +20,9 @@ IsAtRest sets p = IsSubset (family_of sets p.target) (set_of INFINITY (family_of
 abbrev pub narrowed : Indexical → List (List ℕ) → List ℕ
 narrowed p sets = filter (has (set_of INFINITY (family_of sets) p.range)) (family_of sets p.target)
 
--- the set of x is intersected with a set
-abbrev pub IsCutTo : List ℕ → ℕ → Stores → Stores → Outcome → Type 0
-IsCutTo set x old new Same = (new ≡ old) × IsSubset (family_of old.current x) set
-IsCutTo set x old new Empty = (new ≡ old) × (filter (has set) (family_of old.current x) ≡ [])
-IsCutTo set x old new (Changed c) =
-    (new ≡ record old { current = slice_set old.current x (filter (has set) (family_of old.current x)) })
-    × (is_none_left (filter (has set) (family_of old.current x)) ≡ false)
-    × (length (filter (has set) (family_of old.current x)) < length (family_of old.current x))
-    × (c ≡ change_of (family_of old.current x) (filter (has set) (family_of old.current x)))
-
 -- the target's set is intersected with that of the range
-abbrev pub Activated : Indexical → Stores → Stores → Outcome → Type 0
-Activated p old new Same = (new ≡ old) × IsAtRest old.current p
-Activated p old new Empty = (new ≡ old) × (narrowed p old.current ≡ [])
-Activated p old new (Changed c) =
-    (new ≡ record old { current = slice_set old.current p.target (narrowed p old.current) })
-    × (is_none_left (narrowed p old.current) ≡ false)
-    × (length (narrowed p old.current) < length (family_of old.current p.target))
-    × (c ≡ change_of (family_of old.current p.target) (narrowed p old.current))
+abbrev pub Activated : Indexical → Stores → Stores → Cut → Type 0
+Activated p old new cut = IsCut (set_of INFINITY (family_of old.current) p.range) p.target old new cut
 
 pub record IsRunning (ps : List Indexical) (sets : List (List ℕ)) (flags : List Bool) : Type 0 where
   pub family : IsFamily INFINITY (family_of sets)

@@ -11,11 +11,11 @@ ghost use Rattle.propagate_queue.specs.Postings.{ranges_of, IsPosting, AreReader
 ghost use Rattle.propagate_queue.specs.Queues.{flag_at, flagged, AreQueued};
 ghost use Rattle.propagate_queue.specs.Running.{IsRunning, AreDomains, HasNone};
 
-use crate::activation::{Outcome, activate};
+use crate::activation::activate;
 use crate::agenda::Agenda;
 use crate::agents::Agents;
-use dependency_chains::{Chain, Chains, Woken};
-use domain_trail::Trail;
+use dependency_chains::{Chain, Chains, Change, Woken};
+use domain_trail::{Cut, Trail};
 use fd_language::NoMemory;
 use range_code::Activations;
 
@@ -85,12 +85,13 @@ pub fn propagate<A: Agenda>(
         queued[agent] = false;
         let target = agents.target(agent);
         match activate(trail, agents, agent, target, n)? {
-            Outcome::Same => {}
-            Outcome::Empty => {
+            Cut::Same => {}
+            Cut::Empty => {
                 clear(agenda, queued);
                 return Ok(false);
             }
-            Outcome::Changed(change) => {
+            Cut::Changed(before, after) => {
+                let change = Change::of_ends(before, after);
                 let woken = chains.woken(target, change);
                 wake(agenda, queued, agents, woken);
             }

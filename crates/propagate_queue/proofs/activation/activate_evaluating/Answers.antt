@@ -15,5 +15,5 @@ take_left-requires-clause-left c =
 pub returns-clause-done : goal.returns-clause-done
 returns-clause-done c =
     let set : List ℕ = set_of INFINITY (family_of c.args.trail.now.current) (ranged (posting_at c.args.agents.now c.args.agent)).range in
-    cut_activates c.take_left.result (ranged (posting_at c.args.agents.now c.args.agent)) c.args.target set c.args.trail.now c.take_left.new.trail c.requires.target refl
-    (c.take_left.ensures.done set (subst (λ (l : List ℕ). IsNarrowed l set c.in_ok-left.left) c.domain.ensures c.in_ok-left.ensures.narrowed))
+    cut_activates c.take_left.result (ranged (posting_at c.args.agents.now c.args.agent)) c.args.target set c.args.trail.now c.take_left.new.self c.requires.target refl
+    (c.take_left.ensures.cut set (subst (λ (l : List ℕ). IsNarrowed l set c.in_ok-left.left) c.domain.ensures c.in_ok-left.ensures.narrowed))

@@ -85,7 +85,7 @@ woken-woken-requires g c =
 
 pub wake-requires-clause-known : goal.wake-requires-clause-known
 wake-requires-clause-known g c a h =
-    let low = wakes_known (length (ranges_of c.args.agents.now)) a (λ r. (r.var == c.target-target.result) && wakes c.in-Changed.change r.feature) c.args.chains.now.reads c.requires.readers.known (sym (c.woken-woken.ensures a) ∙ h) in
+    let low = wakes_known (length (ranges_of c.args.agents.now)) a (λ r. (r.var == c.target-target.result) && wakes c.of_ends-change.result r.feature) c.args.chains.now.reads c.requires.readers.known (sym (c.woken-woken.ensures a) ∙ h) in
     omega (arith, low, length-map c.args.agents.now ranged, c.requires.agents, c.activating.auto.queued, length-set c.activating.queued c.in-Some.agent false)
 
 pub activating-smaller : goal.activating-smaller
@@ -93,7 +93,7 @@ activating-smaller g c =
     let there = was_there c.activating.queued (g.A.Agenda.agents c.activating.agenda) (g.A.Agenda.agents c.take.new.self) (g.A.Agenda.spare c.activating.agenda) c.in-Some.agent c.activating.invariant.queued c.in-Some.ensures.taken in
     let low : c.in-Some.agent < length c.args.agents.now = omega (arith, flag_within c.activating.queued c.in-Some.agent there, c.requires.agents, c.activating.auto.queued) in
     let i = instance_at (length c.args.trail.now.current) c.args.agents.now c.in-Some.agent (posting_at c.args.agents.now c.in-Some.agent) c.requires.postings low (posting_is c.args.agents.now c.in-Some.agent low) in
-    let fewer = moved_total (posting_at c.args.agents.now c.in-Some.agent) c.activating.trail c.activate.new.trail c.in_ok-activate.field-0 c.in-Changed.change (omega (arith, i.0, c.activating.invariant.vars)) c.in-Changed.is (subst (λ (l : List Posting). Activated (ranged (posting_at l c.in-Some.agent)) c.activating.trail c.activate.new.trail c.in_ok-activate.field-0) c.activating.invariant.agents c.in_ok-activate.ensures.done) in
+    let fewer = moved_total (posting_at c.args.agents.now c.in-Some.agent) c.activating.trail c.activate.new.trail c.in_ok-activate.field-0 c.in-Changed.before c.in-Changed.after (omega (arith, i.0, c.activating.invariant.vars)) c.in-Changed.is (subst (λ (l : List Posting). Activated (ranged (posting_at l c.in-Some.agent)) c.activating.trail c.activate.new.trail c.in_ok-activate.field-0) c.activating.invariant.agents c.in_ok-activate.ensures.done) in
     let size : length c.wake.new.queued ≡ length c.activating.queued = omega (arith, c.wake.auto.queued, length-set c.activating.queued c.in-Some.agent false) in
     let few : length (g.A.Agenda.agents c.wake.new.agenda) ≤ length c.activating.queued = omega (arith, c.wake.ensures.queued.all, flagged_below c.wake.new.queued, size) in
     subst (λ (n : ℕ). total c.activate.new.trail.current * (n + 1) + length (g.A.Agenda.agents c.wake.new.agenda) < total c.activating.trail.current * (length c.activating.queued + 1) + length (g.A.Agenda.agents c.activating.agenda)) (sym size)
@@ -112,9 +112,9 @@ activating-preserved g c =
       sizes = c.activating.invariant.sizes;
       count = c.activating.invariant.count;
     } in
-    let next = moved_turn c.args.agents.now c.args.chains.now.reads c.args.trail.now c.activating.trail c.activate.new.trail c.args.queued.now c.activating.queued c.wake.new.queued c.woken-woken.result c.args.n.now.count c.activating.n.count c.activate.new.n.count c.in-Some.agent (posting_at c.args.agents.now c.in-Some.agent) c.in_ok-activate.field-0 c.in-Changed.change
+    let next = moved_turn c.args.agents.now c.args.chains.now.reads c.args.trail.now c.activating.trail c.activate.new.trail c.args.queued.now c.activating.queued c.wake.new.queued c.woken-woken.result c.args.n.now.count c.activating.n.count c.activate.new.n.count c.in-Some.agent (posting_at c.args.agents.now c.in-Some.agent) c.in_ok-activate.field-0 c.in-Changed.before c.in-Changed.after c.of_ends-change.result
     c.requires.monotone c.requires.readers (omega (arith, c.requires.agents, c.activating.auto.queued)) (omega (arith, c.wake.auto.queued, length-set c.activating.queued c.in-Some.agent false))
-    low (posting_is c.args.agents.now c.in-Some.agent low) (omega (arith, i.0, c.activating.invariant.vars)) there c.in-Changed.is (subst (λ (l : List Posting). Activated (ranged (posting_at l c.in-Some.agent)) c.activating.trail c.activate.new.trail c.in_ok-activate.field-0) c.activating.invariant.agents c.in_ok-activate.ensures.done) c.wake.ensures.flags (λ k. subst (λ (v : ℕ). has c.woken-woken.result k ≡ list_any (λ (r : Reading). (r.agent == k) && ((r.var == v) && wakes c.in-Changed.change r.feature)) c.args.chains.now.reads) same (c.woken-woken.ensures k)) c.activate.ensures.count turn in
+    low (posting_is c.args.agents.now c.in-Some.agent low) (omega (arith, i.0, c.activating.invariant.vars)) there c.in-Changed.is (subst (λ (l : List Posting). Activated (ranged (posting_at l c.in-Some.agent)) c.activating.trail c.activate.new.trail c.in_ok-activate.field-0) c.activating.invariant.agents c.in_ok-activate.ensures.done) c.of_ends-change.ensures c.wake.ensures.flags (λ k. subst (λ (v : ℕ). has c.woken-woken.result k ≡ list_any (λ (r : Reading). (r.agent == k) && ((r.var == v) && wakes c.of_ends-change.result r.feature)) c.args.chains.now.reads) same (c.woken-woken.ensures k)) c.activate.ensures.count turn in
     record {
       agents = c.activate.ensures.agents ∙ c.activating.invariant.agents;
       below = next.below;
