@@ -1,5 +1,5 @@
 -- What is compiled is the range.
-use Rattle.std.proofs.Common.{◌≡◌, ℕ, suc, ◌+◌, ◌<◌, ◌≤◌, Bool, true, false, cond, not, ◌||◌, ◌==◌, nat_lt, nat_eq, List, [], ◌∷◌, ◌++◌, length, map, filter, fold, reverse, pos, take, get_or, Option, Some, None, IsTrue, refl, sym, ◌∙◌, ap, subst, arith}
+use Rattle.std.proofs.Common.{◌≡◌, ℕ, suc, ◌+◌, ◌<◌, ◌≤◌, Bool, true, false, cond, not, ◌||◌, ◌==◌, nat_lt, nat_eq, List, [], ◌∷◌, ◌++◌, length, map, filter, fold, reverse, pos, take, get_or, Option, Some, None, IsTrue, refl, sym, ◌∙◌, ap, subst, arith, eqb-true}
 use Rattle.std.specs.Prelude.{MatchOption}
 use Rattle.std.specs.List.{position, position_or_len, list_all}
 use Rattle.std.proofs.lemmas.List.{take_more}
@@ -34,7 +34,7 @@ use Rattle.fd_language.specs.Needs.{meets, meets_needs}
 use Rattle.range_code.proofs.Fits.{divides, fits}
 use Rattle.range_code.proofs.Posted.{fits_table}
 use Rattle.range_code.proofs.Folding.{pieces_are}
-use Rattle.range_code.specs.Forms.{IsForm}
+use Rattle.range_code.specs.Forms.{IsForm, IsShifted}
 use Rattle.range_code.specs.declared.form.Form.{Form}
 use Rattle.range_code.specs.declared.compile.ReadKind.{ReadKind}
 use Rattle.range_code.specs.declared.evaluate.Steps.{Steps}
@@ -117,12 +117,17 @@ pub record Gathers (q : Range) (ns : List RangeNode) (slots : List ℕ) (asked :
   pub vals : ys ≡ filter (λ s. has_pair fs (s, feature.Val)) (count_up 0 (length slots))
   pub needed : by_slot ≡ map (need_in asked) slots
 
+-- a list without elements
+pub none_there : (ys : List ℕ) (n : ℕ) → length ys ≡ n → (n == 0) ≡ true → ys ≡ []
+none_there [] n e h = refl
+none_there (y ∷ ys) n e h = absurd (let k : n ≡ 0 = eqb-true n 0 h in let z : ⊥ = omega (arith, e, k) in z)
+
 -- the whole
 pub compiled : (r q : Range) (ns : List RangeNode) (slots : List ℕ) (asked : List (ℕ × Need)) (ms : List RangeNode) (fs : List (ℕ × Feature)) (kinds : List (ℕ × ReadKind)) (ys : List ℕ) (by_slot : List (Option Need)) (pieces : List Piece) (steps : Steps) (form : Form) (high : ℕ) →
     IsTrue (is_accepted INFINITY r) → q ≡ r → asked ≡ needs r → Gathers q ns slots asked ms fs kinds ys by_slot →
-    reverse pieces ≡ fold taken [] ms → AreStepsOf by_slot ys (literals pieces) (map piece_node pieces) steps → ((x : Range) → ms ≡ nodes_of x → IsForm x form) → high ≡ tallest (map piece_node pieces) →
+    reverse pieces ≡ fold taken [] ms → AreStepsOf by_slot ys (literals pieces) (map piece_node pieces) steps → ((x : Range) → ms ≡ nodes_of x → IsForm x form) → (IsShifted form → ys ≡ []) → high ≡ tallest (map piece_node pieces) →
     IsCompiled q slots by_slot fs kinds ys ms steps form high
-compiled r q ns slots asked ms fs kinds ys by_slot pieces steps form high a e d g ps st fm hi =
+compiled r q ns slots asked ms fs kinds ys by_slot pieces steps form high a e d g ps st fm sh hi =
     let all : once (node_variables ns) ≡ slots_of q = ap once (ap node_variables g.nodes ∙ node_variables_of q) in
     let named : ms ≡ nodes_of (in_slots q) = g.named ∙ (ap (λ l. map (rename_node (λ y. position_or_len (nat_eq y) l)) ns) (g.keyed ∙ all) ∙ (ap (map (rename_node (slot_of q))) g.nodes ∙ names_of (slot_of q) q)) in
     let told : fs ≡ slot_features q = g.features ∙ (ap (λ l. each_once (node_features l)) named ∙ ap each_once (whole_nodes feature_at (in_slots q))) in
@@ -143,5 +148,6 @@ compiled r q ns slots asked ms fs kinds ys by_slot pieces steps form high a e d 
           (subst (λ l. AreStepsOf by_slot l (integers (folded_nodes q)) (folded_nodes q) steps) val
           (subst (λ l. AreStepsOf by_slot ys l (folded_nodes q) steps) folds.values (subst (λ l. AreStepsOf by_slot ys (literals pieces) l steps) folds.nodes st)));
       form = fm (in_slots q) named;
+      shifted = λ t. sym val ∙ sh t;
       height = hi ∙ ap tallest folds.nodes;
     }

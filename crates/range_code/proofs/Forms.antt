@@ -23,6 +23,7 @@ use Rattle.std.proofs.lemmas.List.{at_drop_more, take_all}
 use Rattle.domain_ranges.specs.Narrowing.{between, all_but, IsNarrowed}
 use Rattle.domain_ranges.specs.declared.Narrowed.{Narrowed}
 use Rattle.range_code.specs.declared.frame.Arg.{Arg}
+use Rattle.range_code.specs.declared.form.End.{End}
 use Rattle.range_code.specs.declared.form.End.TheVariants.{Least, Greatest}
 use Rattle.range_code.specs.declared.form.Product.{Product}
 use Rattle.range_code.specs.declared.form.Shift.{Shift}
@@ -446,7 +447,7 @@ only_product [] d e = absurd (let k : ⊥ = omega (arith, e) in k)
 only_product (m ∷ []) d e = refl
 only_product (m ∷ k ∷ ms) d e = absurd (let z : ⊥ = omega (arith, e) in z)
 
-shift_at : (b : Bound) (m : Product) → b.division ≡ Whole → b.products.items ≡ m ∷ [] → m.weight ≡ pos 1 → IsShiftOf b (record { constant = b.constant; slot = m.slot; end = m.end })
+shift_at : (b : Bound) (m : Product) → b.division ≡ Whole → b.products.items ≡ m ∷ [] → m.weight ≡ pos 1 → IsShiftOf b m.end (record { constant = b.constant; slot = m.slot })
 shift_at b m d e w = record {
   value = λ S. whole_value S b d ∙ (ap (λ ms. b.constant +ℤ sum_of S ms) e ∙ ap (λ z. b.constant +ℤ z) (plus_none (product_value S m) ∙ (ap (λ x. x *ℤ pos (end_of (S m.slot) m.end)) w ∙ sym (once_is (pos (end_of (S m.slot) m.end))))));
   width = λ h. narrow (subst (AreNarrow (nat_abs b.constant)) e h);
@@ -457,17 +458,17 @@ shift_at b m d e w = record {
     one : (n k : ℕ) → k ≡ 1 → n + (k * INFINITY + 0) ≤ 2 ^ 63 - 1 → n + INFINITY ≤ 2 ^ 63 - 1
     one n k e h = omega (arith, e, h)
 
-pub shift_is : (b : Bound) (ms : List Product) (k : Product) → b.division ≡ Whole → ms ≡ b.products.items → length ms ≡ 1 → (get_or ms 0 k).weight ≡ pos 1 → IsShiftOf b (record { constant = b.constant; slot = (get_or ms 0 k).slot; end = (get_or ms 0 k).end })
-shift_is b ms k d e l w = shift_at b (get_or ms 0 k) d (sym e ∙ only_product ms k l) w
+pub shift_is : (b : Bound) (ms : List Product) (k : Product) (end : End) → b.division ≡ Whole → ms ≡ b.products.items → length ms ≡ 1 → (get_or ms 0 k).weight ≡ pos 1 → (get_or ms 0 k).end ≡ end → IsShiftOf b end (record { constant = b.constant; slot = (get_or ms 0 k).slot })
+shift_is b ms k end d e l w o = subst (λ x. IsShiftOf b x (record { constant = b.constant; slot = (get_or ms 0 k).slot })) o (shift_at b (get_or ms 0 k) d (sym e ∙ only_product ms k l) w)
 
-shift_usable : (r : Range) (b : Bound) (s : Shift) → IsUsable r b → IsShiftOf b s → IsShiftUsable r s
-shift_usable r b s u h = record { width = h.width u.width; seen = λ count args g. h.seen count args (u.seen count args g) }
+shift_usable : (r : Range) (b : Bound) (end : End) (s : Shift) → IsUsable r b → IsShiftOf b end s → IsShiftUsable r s
+shift_usable r b end s u h = record { width = h.width u.width; seen = λ count args g. h.seen count args (u.seen count args g) }
 
-pub above_form : (r : Range) (a b : Bound) (s : Shift) (z : ℤ) → IsInterval r a b → IsShiftOf a s → ((S : Family) → bound_value S b ≡ z) → IsAbove r s z
-above_form r a b s z h e f = record { set = λ S p. h.set S p ∙ two between (e.value S) (f S); usable = shift_usable r a s h.low e }
+pub above_form : (r : Range) (a b : Bound) (s : Shift) (z : ℤ) → IsInterval r a b → IsShiftOf a Least s → ((S : Family) → bound_value S b ≡ z) → IsAbove r s z
+above_form r a b s z h e f = record { set = λ S p. h.set S p ∙ two between (e.value S) (f S); usable = shift_usable r a Least s h.low e }
 
-pub below_form : (r : Range) (a b : Bound) (s : Shift) (z : ℤ) → IsInterval r a b → ((S : Family) → bound_value S a ≡ z) → IsShiftOf b s → IsBelow r z s
-below_form r a b s z h f e = record { set = λ S p. h.set S p ∙ two between (f S) (e.value S); usable = shift_usable r b s h.high e }
+pub below_form : (r : Range) (a b : Bound) (s : Shift) (z : ℤ) → IsInterval r a b → ((S : Family) → bound_value S a ≡ z) → IsShiftOf b Greatest s → IsBelow r z s
+below_form r a b s z h f e = record { set = λ S p. h.set S p ∙ two between (f S) (e.value S); usable = shift_usable r b Greatest s h.high e }
 
 -- all numbers but the value of a variable
 pub differs_form : (ns : List RangeNode) (slot : ℕ) → ns ≡ nodes_of (all_but_val slot) → (r : Range) → ns ≡ nodes_of r → r ≡ all_but_val slot

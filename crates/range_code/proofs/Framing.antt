@@ -163,8 +163,8 @@ has_arg count need (x ∷ xs) (b ∷ bs) y a h = elim (cases_Bool (nat_eq y x)) 
   later : (x y : ℕ) (xs : List ℕ) → nat_eq y x ≡ false → ((x == y) || has xs y) ≡ true → has xs y ≡ true
   later x y xs e h = elim (or_cases (x == y) (has xs y) h) [ inl i ↦ absurd (true≢false (sym (eq-eqb y x (sym (eqb-true x y i))) ∙ e)) | inr i ↦ i ]
 
-seen_arg : (count : ℕ) (a : Arg) → IsArg count None a → variable_of a < count
-seen_arg count (Var k) h = h
+seen_arg : (count : ℕ) (a : Arg) → IsArg count None a → (variable_of a < count) × (a ≡ Var (variable_of a))
+seen_arg count (Var k) h = (h, refl)
 seen_arg count (Int z) h = absurd h
 
 -- a variable that is read is no parameter
@@ -194,7 +194,8 @@ module _ (count : ℕ) (r : Range) (args : List Arg) (fit : IsFrame count r args
   pub reads_seen : (y : ℕ) → has (reads r) y ≡ true → IsSeen count args (slot_of r y)
   reads_seen y h =
       let k = slotted y (reads_placed r y h) in
-      (k.within, seen_arg count (arg_at args (slot_of r y)) (subst (λ n. IsArg count n (arg_at args (slot_of r y))) (ap (λ b. cond b (Some (need_of r y)) None) (no_parameter (params r) (reads r) y one h)) k.fitting))
+      let s = seen_arg count (arg_at args (slot_of r y)) (subst (λ n. IsArg count n (arg_at args (slot_of r y))) (ap (λ b. cond b (Some (need_of r y)) None) (no_parameter (params r) (reads r) y one h)) k.fitting) in
+      (k.within, s.0, s.1)
 
   params_there : (x : ℕ) → has (params r) x ≡ true → slot_of r x < length args
   params_there x h = (slotted x (params_placed r x h)).within

@@ -250,6 +250,10 @@ module _ (sets : List (List ℕ)) (r : Range) (args : List Arg) (accepted : is_a
   pub settled_set : ((k : ℕ) → is_none_left (family_of sets k) ≡ false) → list_any (λ s. is_several (Sets sets r args s)) (val_slots r) ≡ false → set_of INFINITY (family_of sets) (posted r args) ≡ filled_set (Sets sets r args) (integers sets r args) (in_slots r)
   settled_set some f = sym (settled_by sets r args false false (none_empty (λ d. some (slot_variable args d.0)) (features_of (in_slots r))) (sym (opens_same (val_slots r) refl) ∙ f) refl)
 
+  -- where no set is empty and nothing is read by val
+  pub shifted_set : ((k : ℕ) → is_none_left (family_of sets k) ≡ false) → val_slots r ≡ [] → set_of INFINITY (family_of sets) (posted r args) ≡ filled_set (Sets sets r args) (integers sets r args) (in_slots r)
+  shifted_set some e = settled_set some (ap (list_any (λ s. is_several (Sets sets r args s))) e)
+
   -- where some val is open
   pub open_set : (ys : List ℕ) → ((k : ℕ) → is_none_left (family_of sets k) ≡ false) → ys ≡ val_slots r → true ≡ list_any (λ s. is_several (Sets sets r args s)) ys → set_of INFINITY (family_of sets) (posted r args) ≡ universe INFINITY
   open_set ys some e f = sym (open_by sets r args false true (none_empty (λ d. some (slot_variable args d.0)) (features_of (in_slots r))) (sym (opens_same ys e) ∙ sym f) refl)

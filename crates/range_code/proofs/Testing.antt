@@ -65,8 +65,9 @@ seen_from count all [] n (m ∷ ns) same l h = absurd h
 seen_from count all (a ∷ args) n (Some m ∷ ns) same l h = seen_from count all args (suc n) ns (λ i. ap (arg_at all) (let e : suc n + i ≡ n + suc i = omega arith in e) ∙ same (suc i)) (omega arith) h.1
 seen_from count all (Int z ∷ args) n (None ∷ ns) same l h = absurd h.0
 seen_from count all (Var k ∷ args) n (None ∷ ns) same l h =
+    let here : arg_at all n ≡ Var k = ap (arg_at all) (let e : n ≡ n + 0 = omega arith in e) ∙ same 0 in
     All-cons (IsSeen count all) n (without_need (suc n) ns)
-    (omega arith, subst (λ a. variable_of a < count) (sym (ap (arg_at all) (let e : n ≡ n + 0 = omega arith in e) ∙ same 0)) h.0)
+    (omega arith, subst (λ a. variable_of a < count) (sym here) h.0, subst (λ a. a ≡ Var (variable_of a)) (sym here) refl)
     (seen_from count all args (suc n) ns (λ i. ap (arg_at all) (let e : suc n + i ≡ n + suc i = omega arith in e) ∙ same (suc i)) (omega arith) h.1)
 
 pub some_seen : (count : ℕ) (args : List Arg) (ns : List (Option Need)) → AreArgs count ns args → All (IsSeen count args) (without_need 0 ns)

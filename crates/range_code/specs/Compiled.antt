@@ -1,5 +1,5 @@
 -- What is kept of an accepted range.
-use Rattle.std.specs.Prelude.{◌≡◌, ℕ, ℤ, IsTrue, List, ◌++◌, map, length, Option}
+use Rattle.std.specs.Prelude.{◌≡◌, ℕ, ℤ, IsTrue, List, [], ◌++◌, map, length, Option}
 use Rattle.fd_language.specs.declared.range_node.Need.{Need}
 use Rattle.fd_language.specs.declared.range_node.Feature.{Feature}
 use Rattle.fd_language.specs.declared.range_node.RangeNode.{RangeNode}
@@ -10,7 +10,7 @@ use Rattle.fd_language.specs.Flat.{nodes_of}
 use Rattle.range_code.specs.declared.compile.ReadKind.{ReadKind}
 use Rattle.range_code.specs.declared.evaluate.Steps.{Steps}
 use Rattle.range_code.specs.declared.form.Form.{Form}
-use Rattle.range_code.specs.Forms.{IsForm}
+use Rattle.range_code.specs.Forms.{IsForm, IsShifted}
 use Rattle.range_code.specs.Slots.{slots_of, slot_needs, slot_features, in_slots}
 use Rattle.range_code.specs.Kinds.{slot_kinds, val_slots}
 use Rattle.range_code.specs.Heights.{height}
@@ -33,4 +33,5 @@ pub record IsCompiled (r : Range) (vs : List ℕ) (ns : List (Option Need)) (fs 
   pub nodes : ms ≡ nodes_of (in_slots r)
   pub steps : AreStepsOf (slot_needs r) (val_slots r) (integers (folded_nodes r)) (folded_nodes r) s
   pub form : IsForm (in_slots r) way
+  pub shifted : IsShifted way → val_slots r ≡ []
   pub height : high ≡ height r

@@ -63,9 +63,9 @@ total_of S b = b.constant +ℤ sum_of S b.products.items
 abbrev pub bound_value : Family → Bound → ℤ
 bound_value S b = divided b.division (total_of S b)
 
--- the sum of a constant and one end of the set of a slot
-abbrev pub shift_value : Family → Shift → ℤ
-shift_value S s = s.constant +ℤ pos (end_of (S s.slot) s.end)
+-- the sum of a constant and that end of the set of a slot
+abbrev pub shift_value : Family → End → Shift → ℤ
+shift_value S end s = s.constant +ℤ pos (end_of (S s.slot) end)
 
 -- how far from 0 the sum of the products may be
 abbrev pub width_of : List Product → ℕ
@@ -96,18 +96,18 @@ pub record IsShiftUsable (r : Range) (s : Shift) : Type 0 where
   pub width : nat_abs s.constant + INFINITY ≤ 2 ^ 63 - 1
   pub seen : (count : ℕ) (args : List Arg) → All (IsReadable count args) (nodes_of r) → IsSeen count args s.slot
 
--- the range is the interval from a moved end to a number, and from a number to a moved end
+-- the range is the interval from a moved least member to a number, and from a number to a moved greatest one
 pub record IsAbove (r : Range) (s : Shift) (z : ℤ) : Type 0 where
-  pub set : (S : Family) (p : ℕ → ℤ) → filled_set S p r ≡ between (shift_value S s) z
+  pub set : (S : Family) (p : ℕ → ℤ) → filled_set S p r ≡ between (shift_value S Least s) z
   pub usable : IsShiftUsable r s
 
 pub record IsBelow (r : Range) (z : ℤ) (s : Shift) : Type 0 where
-  pub set : (S : Family) (p : ℕ → ℤ) → filled_set S p r ≡ between z (shift_value S s)
+  pub set : (S : Family) (p : ℕ → ℤ) → filled_set S p r ≡ between z (shift_value S Greatest s)
   pub usable : IsShiftUsable r s
 
 -- the moved end has the bound's value
-pub record IsShiftOf (b : Bound) (s : Shift) : Type 0 where
-  pub value : (S : Family) → bound_value S b ≡ shift_value S s
+pub record IsShiftOf (b : Bound) (end : End) (s : Shift) : Type 0 where
+  pub value : (S : Family) → bound_value S b ≡ shift_value S end s
   pub width : AreNarrow (nat_abs b.constant) b.products.items → nat_abs s.constant + INFINITY ≤ 2 ^ 63 - 1
   pub seen : (count : ℕ) (args : List Arg) → AreSeen count args b.products.items → IsSeen count args s.slot
 
@@ -142,6 +142,12 @@ IsForm r (Row a b) = IsInterval r a b × AreOpposite a.products.items b.products
 IsForm r (Without a b) = IsComplement r a b
 IsForm r (Except a) = IsException r a
 IsForm r (Chosen c) = IsChoice r c
+
+-- the form reads one end of one domain
+abbrev pub IsShifted : Form → Type 0
+IsShifted (Above s z) = Unit {0}
+IsShifted (Below z s) = Unit {0}
+IsShifted form = ⊥
 
 -- what a leaf adds
 abbrev pub leaf_amount : Family → Leaf → ℤ

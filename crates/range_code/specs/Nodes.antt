@@ -1,9 +1,10 @@
 -- The variables of nodes, and what nodes read of them.
-use Rattle.std.specs.Prelude.{ℕ, ◌<◌, List, [], ◌∷◌, ◌++◌, length, Option, Some, None}
+use Rattle.std.specs.Prelude.{◌≡◌, ℕ, ◌<◌, List, [], ◌∷◌, ◌++◌, length, Option, Some, None}
 use Rattle.fd_language.specs.declared.range_node.RangeNode.{RangeNode}
 use Rattle.fd_language.specs.declared.range_node.RangeNode.TheVariants as node
 use Rattle.range_code.specs.declared.frame.Arg.{Arg}
-use Rattle.range_code.specs.Frames.{slot_variable}
+use Rattle.range_code.specs.declared.frame.Arg.TheVariants.{Var}
+use Rattle.range_code.specs.Frames.{arg_at, slot_variable}
 
 -- the variable of a node
 abbrev pub node_variable : RangeNode → Option ℕ
@@ -31,9 +32,9 @@ rename_node f (node.Val y) = node.Val (f y)
 rename_node f (node.Dom y) = node.Dom (f y)
 rename_node f n = n
 
--- a slot that has an argument, and its variable is one of so many
+-- a slot that has an argument: a variable, which is one of so many
 abbrev pub IsSeen : ℕ → List Arg → ℕ → Type 0
-IsSeen count args slot = (slot < length args) × (slot_variable args slot < count)
+IsSeen count args slot = (slot < length args) × (slot_variable args slot < count) × (arg_at args slot ≡ Var (slot_variable args slot))
 
 -- what a node names is there
 abbrev pub IsReadable : ℕ → List Arg → RangeNode → Type 0

@@ -7,7 +7,7 @@ ghost use Rattle.fd_language.specs.Flat.{nodes_of};
 ghost use Rattle.fd_language.specs.Range.{Range};
 ghost use Rattle.range_code.specs.Frames.{slot_set};
 ghost use Rattle.range_code.specs.Nodes.{IsSeen};
-ghost use Rattle.range_code.specs.Forms.{end_of as end_of_set, sum_of, total_of, divided as divided_by, leaf_amount, amount, bound_value, shift_value, IsShiftOf, all_but_val, AreNarrow, AreSeen, IsPositive, IsUsable, IsLeaf, IsSigned, IsDivision, IsPart, IsAdded, IsBound, IsInterval, IsComplement, IsForm, other_end, IsOpposite, AreOpposite};
+ghost use Rattle.range_code.specs.Forms.{end_of as end_of_set, sum_of, total_of, divided as divided_by, leaf_amount, amount, bound_value, shift_value, IsShiftOf, all_but_val, AreNarrow, AreSeen, IsPositive, IsUsable, IsLeaf, IsSigned, IsDivision, IsPart, IsAdded, IsBound, IsInterval, IsComplement, IsForm, IsShifted, other_end, IsOpposite, AreOpposite};
 
 use crate::choice::{Choice, read_choice};
 use crate::frame::{Arg, slot_domain};
@@ -51,12 +51,11 @@ pub(crate) struct Bound {
 pub(crate) struct Shift {
     pub constant: i64,
     pub slot: usize,
-    pub end: End,
 }
 
-/// How a range is evaluated: by its nodes, as the complement of a variable's value, as an interval from a moved end up to a number
-/// or from a number up to a moved end, as any other interval, as one between bounds whose products are opposite, as the complement
-/// of an interval or of a single number, or by choosing numbers.
+/// How a range is evaluated: by its nodes, as the complement of a variable's value, as an interval from a moved least member up to a
+/// number or from a number up to a moved greatest member, as any other interval, as one between bounds whose products are opposite, as
+/// the complement of an interval or of a single number, or by choosing numbers.
 #[derive(Drop)]
 pub(crate) enum Form {
     Nodes,
@@ -107,17 +106,28 @@ fn add_end(constant: i64, end: u32) -> i64
 }
 
 impl Shift {
-    /// The value over the domains of a view.
+    /// The least member of the domain, moved.
     #[inline(always)]
-    pub fn value<V: View>(&self, args: &[Arg], view: &V) -> i64
+    pub fn least<V: View>(&self, args: &[Arg], view: &V) -> i64
         requires width { nat_abs self.now.constant + INFINITY ≤ 2 ^ 63 - 1 }
         requires seen { IsSeen (length (V.sets view.now)) args.now self.now.slot }
-        ensures { result ≡ shift_value (slot_set (V.sets view.now) args.now) self.now }
+        ensures { result
+            ≡ shift_value (slot_set (V.sets view.now) args.now) End.Least self.now }
     {
-        add_end(
-            self.constant,
-            end_of(slot_domain(args, self.slot, view), self.end),
-        )
+        let domain = slot_domain(args, self.slot, view);
+        add_end(self.constant, end_of(domain, End::Least))
+    }
+
+    /// The greatest member of the domain, moved.
+    #[inline(always)]
+    pub fn greatest<V: View>(&self, args: &[Arg], view: &V) -> i64
+        requires width { nat_abs self.now.constant + INFINITY ≤ 2 ^ 63 - 1 }
+        requires seen { IsSeen (length (V.sets view.now)) args.now self.now.slot }
+        ensures { result
+            ≡ shift_value (slot_set (V.sets view.now) args.now) End.Greatest self.now }
+    {
+        let domain = slot_domain(args, self.slot, view);
+        add_end(self.constant, end_of(domain, End::Greatest))
     }
 }
 
@@ -495,22 +505,26 @@ fn differing_slot(nodes: &[RangeNode]) -> Option<usize>
     Some(*slot as usize)
 }
 
-/// The form of the range that the nodes spell.
-pub(crate) fn form_of(alloc: Global, nodes: &[RangeNode]) -> Result<Form, NoMemory>
-    ensures { IfOk result (λ form. (r : Range) → nodes.now ≡ nodes_of r → IsForm r form) }
+/// The form of the range that the nodes spell. It is a moved end only where nothing is read by val.
+pub(crate) fn form_of(alloc: Global, nodes: &[RangeNode], no_val: bool) -> Result<Form, NoMemory>
+    ensures form { IfOk result
+        (λ form. (r : Range) → nodes.now ≡ nodes_of r → IsForm r form) }
+    ensures shifted { IfOk result (λ form. IsShifted form → IsTrue no_val) }
 {
     if let Some(slot) = differing_slot(nodes) {
         return Ok(Form::Differs(slot));
     }
     match read_choice(alloc, nodes)? {
         Some(choice) => Ok(Form::Chosen(choice)),
-        None => sums_form(alloc, nodes),
+        None => sums_form(alloc, nodes, no_val),
     }
 }
 
 /// Its form where it is made of sums.
-fn sums_form(alloc: Global, nodes: &[RangeNode]) -> Result<Form, NoMemory>
-    ensures { IfOk result (λ form. (r : Range) → nodes.now ≡ nodes_of r → IsForm r form) }
+fn sums_form(alloc: Global, nodes: &[RangeNode], no_val: bool) -> Result<Form, NoMemory>
+    ensures form { IfOk result
+        (λ form. (r : Range) → nodes.now ≡ nodes_of r → IsForm r form) }
+    ensures shifted { IfOk result (λ form. IsShifted form → IsTrue no_val) }
 {
     let Some((low, rest)) = read_bound(alloc, nodes)? else {
         return Ok(Form::Nodes);
@@ -524,7 +538,7 @@ fn sums_form(alloc: Global, nodes: &[RangeNode]) -> Result<Form, NoMemory>
         return Ok(Form::Nodes);
     };
     match rest {
-        [last] if is_span(*last) => Ok(between_form(low, high)),
+        [last] if is_span(*last) => Ok(between_form(low, high, no_val)),
         [span, last] if is_span(*span) && is_complement(*last) => Ok(outside_form(low, high)),
         _ => Ok(Form::Nodes),
     }
@@ -615,9 +629,9 @@ fn number_of(bound: &Bound) -> Option<i64>
     Some(bound.constant)
 }
 
-/// The moved end that a bound is, where it reads one and isn't divided.
-fn shift_of(bound: &Bound) -> Option<Shift>
-    ensures { IfSome result (IsShiftOf bound.now) }
+/// The moved end that a bound is, where it reads that one alone and isn't divided.
+fn shift_of(bound: &Bound, end: End) -> Option<Shift>
+    ensures { IfSome result (IsShiftOf bound.now end) }
 {
     if !is_whole(bound.division) {
         return None;
@@ -625,13 +639,12 @@ fn shift_of(bound: &Bound) -> Option<Shift>
     let [only] = bound.products.as_slice() else {
         return None;
     };
-    if only.weight != 1 {
+    if only.weight != 1 || !is_same_end(only.end, end) {
         return None;
     }
     Some(Shift {
         constant: bound.constant,
         slot: only.slot,
-        end: only.end,
     })
 }
 
@@ -640,20 +653,23 @@ fn shifted_form(low: &Bound, high: &Bound) -> Option<Form>
     ensures { IfSome result (λ form. (r : Range) → IsInterval r low.now high.now → IsForm r form) }
 {
     if let Some(number) = number_of(high) {
-        let shift = shift_of(low)?;
+        let shift = shift_of(low, End::Least)?;
         return Some(Form::Above(shift, number));
     }
     let number = number_of(low)?;
-    let shift = shift_of(high)?;
+    let shift = shift_of(high, End::Greatest)?;
     Some(Form::Below(number, shift))
 }
 
 /// The form of the interval between two bounds: where their products are opposite, one pass gives both.
-fn between_form(low: Bound, high: Bound) -> Form
-    ensures { (r : Range) → IsInterval r low high → IsForm r result }
+fn between_form(low: Bound, high: Bound, no_val: bool) -> Form
+    ensures form { (r : Range) → IsInterval r low high → IsForm r result }
+    ensures shifted { IsShifted result → IsTrue no_val }
 {
-    if let Some(form) = shifted_form(&low, &high) {
-        return form;
+    if no_val {
+        if let Some(form) = shifted_form(&low, &high) {
+            return form;
+        }
     }
     if are_opposite(&low.products, &high.products) {
         Form::Row(low, high)
@@ -674,7 +690,8 @@ fn is_one_sum(a: &Bound, b: &Bound) -> bool
 
 /// The form of the complement of the interval between two bounds: where they are one sum, a single number is left out.
 fn outside_form(low: Bound, high: Bound) -> Form
-    ensures { (r : Range) → IsComplement r low high → IsForm r result }
+    ensures form { (r : Range) → IsComplement r low high → IsForm r result }
+    ensures unshifted { IsShifted result → ⊥ }
 {
     if is_one_sum(&low, &high) {
         Form::Except(low)

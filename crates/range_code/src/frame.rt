@@ -29,14 +29,15 @@ pub(crate) enum Standing {
     Settled,
 }
 
-/// The variable, and 0 for an integer.
+/// The variable that the argument is.
 #[inline(always)]
 fn variable(arg: Arg) -> usize
+    requires { arg ≡ Arg.Var (variable_of arg) }
     ensures { result ≡ variable_of arg }
 {
     match arg {
         Arg::Var(number) => number,
-        Arg::Int(_) => 0,
+        Arg::Int(_) => unreachable!(),
     }
 }
 

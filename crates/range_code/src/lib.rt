@@ -1,7 +1,7 @@
 //! Ranges that are prepared once and evaluated often: the set of a range over the current domains (Codognet and Diaz 1996).
 #![tactic(auto)]
 
-ghost use Rattle.std.specs.Prelude.{◌≡◌, ◌≤◌, ◌+◌, ◌-◌, ◌^◌, ◌↔◌, min, ℕ, pos, List, true, false, length, IfOk, OnOk, IsTrue};
+ghost use Rattle.std.specs.Prelude.{◌≡◌, ◌≤◌, ◌+◌, ◌-◌, ◌^◌, ◌↔◌, min, ℕ, pos, List, [], true, false, length, IfOk, OnOk, IsTrue};
 ghost use Rattle.fd_language.specs.RangeVerdict.{is_accepted};
 ghost use Rattle.fd_language.specs.Family.{IsFamily};
 ghost use Rattle.fd_language.specs.Flat.{nodes_of};
@@ -13,7 +13,7 @@ ghost use Rattle.range_code.specs.Heights.{height};
 ghost use Rattle.range_code.specs.Folded.{folded_nodes};
 ghost use Rattle.range_code.specs.Instructions.{instructions_of, tests_of};
 ghost use Rattle.range_code.specs.Walked.{all_steps, ArePlaced};
-ghost use Rattle.range_code.specs.Forms.{IsForm};
+ghost use Rattle.range_code.specs.Forms.{IsForm, IsShifted};
 ghost use Rattle.range_code.specs.Reaching.{IsReach};
 ghost use Rattle.std.specs.List.{list_any};
 ghost use Rattle.range_code.specs.Frames.{IsFrame, posted, family_of, slot_set};
@@ -196,6 +196,7 @@ impl RangeCode {
     #[inline(always)]
     fn form(&self) -> &Form
         ensures form { IsForm (in_slots self.now) result.now }
+        ensures shifted { IsShifted result.now → val_slots self.now ≡ [] }
         ensures accepted { IsTrue (is_accepted INFINITY self.now) }
     {
         &self.form
@@ -225,7 +226,7 @@ pub fn compile_range(alloc: Global, c: &Checked) -> Result<RangeCode, NoMemory>
     let pieces = fold_literals(alloc, &nodes)?;
     let height = height_of(&pieces);
     let steps = steps_of(alloc, &needs, &vals, &pieces)?;
-    let form = form_of(alloc, &nodes)?;
+    let form = form_of(alloc, &nodes, vals.is_empty())?;
     Ok(RangeCode {
         range,
         slots: numbered.slots,
@@ -338,8 +339,6 @@ fn settled_reach<V: View>(code: &RangeCode, args: &[Arg], view: &V) -> Reach
         (set_of INFINITY (family_of (V.sets view.now)) (posted code.now args.now)) result }
 {
     match code.form() {
-        Form::Above(low, high) => Reach::Between(low.value(args, view), *high),
-        Form::Below(low, high) => Reach::Between(*low, high.value(args, view)),
         Form::Between(low, high) => {
             let low = low.value(args, view);
             Reach::Between(low, high.value(args, view))
@@ -364,13 +363,18 @@ fn reach_of<V: View>(code: &RangeCode, args: &[Arg], view: &V) -> Reach
         → list_any (λ s. is_several (slot_set (V.sets view.now) args.now s))
         (val_slots code.now) ≡ false }
 {
-    if let Form::Differs(slot) = code.form() {
-        return reach_without(slot_domain(args, *slot, view));
+    match code.form() {
+        Form::Above(low, high) => Reach::Between(low.least(args, view), *high),
+        Form::Below(low, high) => Reach::Between(*low, high.greatest(args, view)),
+        Form::Differs(slot) => reach_without(slot_domain(args, *slot, view)),
+        _ => {
+            if is_some_open(code.vals(), args, view) {
+                Reach::All
+            } else {
+                settled_reach(code, args, view)
+            }
+        }
     }
-    if is_some_open(code.vals(), args, view) {
-        return Reach::All;
-    }
-    settled_reach(code, args, view)
 }
 
 /// The set of the range over the domains of a view, as far as numbers tell it. No memory is taken.

@@ -7,7 +7,7 @@ use Rattle.range_code.specs.Heights.{tallest}
 use Rattle.range_code.specs.Kinds.{has_pair, all_told}
 use Rattle.range_code.specs.Pieces.{piece_node, taken, literals}
 use Rattle.range_code.specs.Compiled.{AreStepsOf}
-use Rattle.range_code.proofs.Compiling.{compiled}
+use Rattle.range_code.proofs.Compiling.{compiled, none_there}
 use Rattle.range_code.proofs.compile_range.Goals as goal
 
 pub invariant_of-result : goal.invariant_of-result
@@ -31,5 +31,6 @@ invariant_of-result c =
     (subst (λ l. AreStepsOf l c.in_ok-vals.vals.items (literals c.in_ok-pieces.pieces.items) (map piece_node c.in_ok-pieces.pieces.items) c.in_ok-steps.steps) c.deref-8.ensures.value
     (subst (λ l. AreStepsOf c.deref-8.result.now l (literals c.in_ok-pieces.pieces.items) (map piece_node c.in_ok-pieces.pieces.items) c.in_ok-steps.steps) c.deref-9.ensures.value
     (subst (λ l. AreStepsOf c.deref-8.result.now c.deref-9.result.now (literals l) (map piece_node l) c.in_ok-steps.steps) c.deref-10.ensures.value c.in_ok-steps.ensures)))
-    (λ x h. c.in_ok-form.ensures x (c.deref-11.ensures.value ∙ h))
+    (λ x h. c.in_ok-form.ensures.form x (c.deref-11.ensures.value ∙ h))
+    (λ t. none_there c.in_ok-vals.vals.items _ (sym (ap length c.deref-9.ensures.value) ∙ c.deref-9.ensures.len) (sym c.is_empty.ensures ∙ c.in_ok-form.ensures.shifted t))
     (c.height_of-height.ensures ∙ ap (λ l. tallest (map piece_node l)) c.deref-7.ensures.value)

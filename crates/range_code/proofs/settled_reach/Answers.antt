@@ -8,23 +8,13 @@ use Rattle.range_code.proofs.Forms.{except_one}
 use Rattle.range_code.proofs.Running.{read_nodes, settled_set}
 use Rattle.range_code.proofs.settled_reach.Goals as goal
 
-pub value-requires-clause-seen : goal.value-requires-clause-seen
-value-requires-clause-seen g c =
-    let k = rw (c.in-Above.is) at c.form.ensures.form in
-    k.usable.seen (length (g.V.View.sets c.args.view.now)) c.args.args.now (read_nodes (g.V.View.sets c.args.view.now) c.args.code.now c.args.args.now c.form.ensures.accepted c.requires.frame)
-
-pub value-requires-in-Below-clause-seen : goal.value-requires-in-Below-clause-seen
-value-requires-in-Below-clause-seen g c =
-    let k = rw (c.in-Below.is) at c.form.ensures.form in
-    k.usable.seen (length (g.V.View.sets c.args.view.now)) c.args.args.now (read_nodes (g.V.View.sets c.args.view.now) c.args.code.now c.args.args.now c.form.ensures.accepted c.requires.frame)
-
 pub value-low-requires-clause-seen : goal.value-low-requires-clause-seen
 value-low-requires-clause-seen g c =
     let k = rw (c.in-Between.is) at c.form.ensures.form in
     k.low.seen (length (g.V.View.sets c.args.view.now)) c.args.args.now (read_nodes (g.V.View.sets c.args.view.now) c.args.code.now c.args.args.now c.form.ensures.accepted c.requires.frame)
 
-pub value-requires-in-Between-clause-seen : goal.value-requires-in-Between-clause-seen
-value-requires-in-Between-clause-seen g c =
+pub value-requires-clause-seen : goal.value-requires-clause-seen
+value-requires-clause-seen g c =
     let k = rw (c.in-Between.is) at c.form.ensures.form in
     k.high.seen (length (g.V.View.sets c.args.view.now)) c.args.args.now (read_nodes (g.V.View.sets c.args.view.now) c.args.code.now c.args.args.now c.form.ensures.accepted c.requires.frame)
 
@@ -42,9 +32,9 @@ pub returns-in-Between : goal.returns-in-Between
 returns-in-Between g c =
     let k = rw (c.in-Between.is) at c.form.ensures.form in
     let a : SFits w64 c.value-low.result = search rules in
-    let b : SFits w64 c.value-in-Between.result = search rules in
+    let b : SFits w64 c.value.result = search rules in
     simp to_z-of_z (settled_set (g.V.View.sets c.args.view.now) c.args.code.now c.args.args.now c.form.ensures.accepted c.requires.frame c.requires.some c.requires.settled
-    ∙ (k.set (slot_set (g.V.View.sets c.args.view.now) c.args.args.now) (slot_integer c.args.args.now) ∙ sym (two between c.value-low.ensures c.value-in-Between.ensures)))
+    ∙ (k.set (slot_set (g.V.View.sets c.args.view.now) c.args.args.now) (slot_integer c.args.args.now) ∙ sym (two between c.value-low.ensures c.value.ensures)))
 
 pub returns-in-Row : goal.returns-in-Row
 returns-in-Row g c =
@@ -60,19 +50,3 @@ returns-in-Except g c =
     let a : SFits w64 c.value-in-Except.result = search rules in
     simp to_z-of_z (settled_set (g.V.View.sets c.args.view.now) c.args.code.now c.args.args.now c.form.ensures.accepted c.requires.frame c.requires.some c.requires.settled
     ∙ (k.set (slot_set (g.V.View.sets c.args.view.now) c.args.args.now) (slot_integer c.args.args.now) ∙ (sym (ap (λ z. outside (between z z)) c.value-in-Except.ensures) ∙ sym (except_one c.value-in-Except.result))))
-
-pub returns-in-Above : goal.returns-in-Above
-returns-in-Above g c =
-    let k = rw (c.in-Above.is) at c.form.ensures.form in
-    let a : SFits w64 c.value.result = search rules in
-    let b : SFits w64 c.in-Above.high = search rules in
-    simp to_z-of_z (settled_set (g.V.View.sets c.args.view.now) c.args.code.now c.args.args.now c.form.ensures.accepted c.requires.frame c.requires.some c.requires.settled
-    ∙ (k.set (slot_set (g.V.View.sets c.args.view.now) c.args.args.now) (slot_integer c.args.args.now) ∙ sym (ap (λ z. between z c.in-Above.high) c.value.ensures)))
-
-pub returns-in-Below : goal.returns-in-Below
-returns-in-Below g c =
-    let k = rw (c.in-Below.is) at c.form.ensures.form in
-    let a : SFits w64 c.value-in-Below.result = search rules in
-    let b : SFits w64 c.in-Below.low = search rules in
-    simp to_z-of_z (settled_set (g.V.View.sets c.args.view.now) c.args.code.now c.args.args.now c.form.ensures.accepted c.requires.frame c.requires.some c.requires.settled
-    ∙ (k.set (slot_set (g.V.View.sets c.args.view.now) c.args.args.now) (slot_integer c.args.args.now) ∙ sym (ap (between c.in-Below.low) c.value-in-Below.ensures)))

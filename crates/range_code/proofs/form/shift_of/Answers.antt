@@ -9,4 +9,4 @@ pub returns : goal.returns
 returns c =
     let f : SFits w64 c.args.bound.now.constant = search rules in
     let k : Product = record { weight = pos 0; slot = 0; end = Least } in
-    simp to_z-of_z (shift_is c.args.bound.now c.as_slice.result.now k (c.is_whole.ensures c.if-not-is_whole.false) (search rules) (omega arith) (search rules))
+    simp to_z-of_z (shift_is c.args.bound.now c.as_slice.result.now k c.args.end (c.is_whole.ensures c.if-not-is_whole.false) (search rules) (omega arith) (search rules) (search rules))
