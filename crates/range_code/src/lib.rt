@@ -363,18 +363,20 @@ fn reach_of<V: View>(code: &RangeCode, args: &[Arg], view: &V) -> Reach
         → list_any (λ s. is_several (slot_set (V.sets view.now) args.now s))
         (val_slots code.now) ≡ false }
 {
-    match code.form() {
-        Form::Above(low, high) => Reach::Between(low.least(args, view), *high),
-        Form::Below(low, high) => Reach::Between(*low, high.greatest(args, view)),
-        Form::Differs(slot) => reach_without(slot_domain(args, *slot, view)),
-        _ => {
-            if is_some_open(code.vals(), args, view) {
-                Reach::All
-            } else {
-                settled_reach(code, args, view)
-            }
-        }
+    let form = code.form();
+    if let Form::Above(low, high) = form {
+        return Reach::Between(low.least(args, view), *high);
     }
+    if let Form::Below(low, high) = form {
+        return Reach::Between(*low, high.greatest(args, view));
+    }
+    if let Form::Differs(slot) = form {
+        return reach_without(slot_domain(args, *slot, view));
+    }
+    if is_some_open(code.vals(), args, view) {
+        return Reach::All;
+    }
+    settled_reach(code, args, view)
 }
 
 /// The set of the range over the domains of a view, as far as numbers tell it. No memory is taken.
