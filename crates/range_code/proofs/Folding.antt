@@ -33,6 +33,10 @@ use Rattle.range_code.specs.declared.form.Bound.{Bound}
 use Rattle.range_code.specs.Forms.{IsShiftUsable, IsUsable, IsInterval, IsForm}
 use Rattle.range_code.proofs.Tables.{one_is, union_is, inter_is, outside_is, plus_is, minus_is, times_is, over_is}
 
+-- the last piece of a list is the first one of the list turned round
+pub last_first : (old front : List Piece) (p : Piece) → old ≡ front ++ p ∷ [] → reverse old ≡ p ∷ reverse front
+last_first old front p e = ap reverse e ∙ reverse-append front (p ∷ [])
+
 -- a term that is a literal, or none
 pub folds_to : (P : Expr → Type 0) (e other : Expr) → (is_literal e ≡ true → P (Number (literal_value INFINITY e))) → (is_literal e ≡ false → P other) → P (or_value e other)
 folds_to P e other h g = elim (cases_Bool (is_literal e)) [

@@ -33,8 +33,8 @@ fn pop_literal(pieces: &mut Vec<Piece>) -> Result<Option<i128>, NoMemory>
 {
     match pieces.pop() {
         Some(Piece::Literal(value)) => Ok(Some(value)),
-        Some(piece) => {
-            pieces.push(piece)?;
+        Some(Piece::Other(node)) => {
+            pieces.push(Piece::Other(node))?;
             Ok(None)
         }
         None => Ok(None),
