@@ -21,3 +21,4 @@ pub mod Forms
 pub mod Choices
 pub mod Choosing
 pub mod Renaming
+pub mod Stacking
