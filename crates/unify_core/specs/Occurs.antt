@@ -5,7 +5,7 @@ use Rattle.heap_cells.specs.declared.Cell.{Cell}
 use Rattle.heap_cells.specs.declared.Cell.TheVariants as cell
 use Rattle.heap_cells.specs.Cells.{Cells, IsOf}
 use Rattle.heap_cells.specs.Terms.{Naming, Same, term_of, terms_by, occurs_any}
-use Rattle.heap_cells.specs.Seen.{IsRoot}
+use Rattle.heap_cells.specs.Seen.{IsRoot, IsBoundToVariable, one_step}
 use Rattle.unify_core.specs.Effort.{unnamed}
 
 -- those ahead, and the last one, where there is one
@@ -46,3 +46,7 @@ pub record LeavesAhead (h : Cells) (var : ℕ) (cells : List Cell) (old new : Li
       ≡ occurs_any var (terms_by (term_of name h) cells)
   pub smaller : sizes (terms_by (term_of unnamed h) (compounds more)) ≤ sizes
       (terms_by (term_of unnamed h) cells)
+
+-- one look at the cell shows a constant, or a variable other than this one
+abbrev pub ShowsOther : Cells → ℕ → Cell → Type 0
+ShowsOther h var c = (IsBoundToVariable h c → ⊥) × IsOther var (one_step h c)

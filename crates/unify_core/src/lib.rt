@@ -1,7 +1,7 @@
 //! Unification of two cells of a heap.
 #![tactic(auto)]
 
-ghost use Rattle.std.specs.Prelude.{◌≡◌, ℕ, ◌<◌, ◌++◌, [], ◌∷◌, length, reverse, All, IfOk, OnOk, MatchOption, IsTrue};
+ghost use Rattle.std.specs.Prelude.{◌≡◌, ◌↔◌, ℕ, ◌<◌, ◌++◌, [], ◌∷◌, length, reverse, All, IfOk, OnOk, MatchOption, IsTrue};
 ghost use Rattle.heap_cells.specs.declared.Cell.TheVariants as cell;
 ghost use Rattle.heap_cells.specs.Cells.{free, linked, slot_at, IsOf};
 ghost use Rattle.heap_cells.specs.Seen.{IsRoot};
@@ -9,7 +9,7 @@ ghost use Rattle.heap_cells.specs.Terms.{IsAbsent};
 ghost use Rattle.heap_cells.specs.Valid.{IsHeap};
 ghost use Rattle.unify_core.specs.Reduces.{IsOwn, IsSameSize};
 ghost use Rattle.unify_core.specs.Outcome.{IfTrue, IfFalse, IfYes, IfNo, IsDone, IsHopeless, IsBinding, IsInfinite, IsSymbolicCell, TellsOccurs, TellsTouch, paired};
-ghost use Rattle.unify_core.specs.Occurs.{OccursAmong, LeavesAhead, IsOther, ComesToOther, IsAbsentAmong};
+ghost use Rattle.unify_core.specs.Occurs.{OccursAmong, LeavesAhead, IsOther, ComesToOther, ShowsOther, IsAbsentAmong};
 ghost use Rattle.unify_core.specs.Unified.{AreUnified, CannotUnify, KeepsAtoms, IsEqualled};
 
 use fd_language::NoMemory;
@@ -140,7 +140,7 @@ fn occurs_in(heap: &Heap, alloc: Global, var: usize, top: usize) -> Result<bool,
 /// Whether the end of a cell's bindings is a constant, or a variable other than this one.
 #[inline(always)]
 fn is_other(var: usize, root: Cell) -> bool
-    ensures { IsTrue result → IsOther var root }
+    ensures { IsTrue result ↔ IsOther var root }
 {
     match root {
         Cell::Ref(i) => i != var,
@@ -153,6 +153,7 @@ fn is_other(var: usize, root: Cell) -> bool
 #[inline(always)]
 fn is_soon_other(heap: &Heap, var: usize, c: Cell) -> bool
     requires { IsOf heap.now.now c }
+    ensures shows { IsTrue result ↔ ShowsOther heap.now.now var c }
     ensures other { IsTrue result → ComesToOther heap.now.now var c }
     ensures valid { IsHeap heap.now.now }
 {
@@ -167,7 +168,8 @@ fn is_soon_other(heap: &Heap, var: usize, c: Cell) -> bool
 #[inline(always)]
 pub fn are_others(heap: &Heap, var: usize, cells: &[Cell]) -> bool
     requires { All (IsOf heap.now.now) cells.now }
-    ensures { IsTrue result → IsAbsentAmong heap.now.now var cells.now }
+    ensures shows { IsTrue result ↔ All (ShowsOther heap.now.now var) cells.now }
+    ensures absent { IsTrue result → IsAbsentAmong heap.now.now var cells.now }
 {
     for c in cells {
         if !is_soon_other(heap, var, *c) {

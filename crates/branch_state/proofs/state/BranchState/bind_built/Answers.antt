@@ -13,7 +13,7 @@ pub bind-requires-clause-absent : goal.bind-requires-clause-absent
 bind-requires-clause-absent g c =
     let now : State = record { atoms = c.self.inside.atoms; heaps = c.self.inside.heap; levels = c.self.inside.store } in
     let made : IsCompoundOf now.heaps.now c.args.args.now c.args.built = subst (λ (s : State). IsCompoundOf s.heaps.now c.args.args.now c.args.built) (sym c.self.view_is) c.requires.compound in
-    compound_absent now.heaps.now c.args.var c.args.args.now c.args.built made (c.are_others.ensures c.if-not-are_others.false)
+    compound_absent now.heaps.now c.args.var c.args.args.now c.args.built made (c.are_others.ensures.absent c.if-not-are_others.false)
 
 bound : (g : _) → (c : goal.In_ok-bind g) → IsBehind c.self.inside.heap.now (cell.Ref c.args.var) c.args.built c.bind.new.self.now [] c.args.touches.now.items c.args.touches.now.items
 bound g c =
@@ -23,7 +23,7 @@ bound g c =
     let there : c.args.var < length now.heaps.now.slots = subst (λ (s : State). c.args.var < length s.heaps.now.slots) (sym c.self.view_is) c.requires.there in
     let open_now : slot_at now.heaps.now c.args.var ≡ free = subst (λ (s : State). slot_at s.heaps.now c.args.var ≡ free) (sym c.self.view_is) c.requires.«open» in
     let own : IsCell now c.args.built = subst (λ (s : State). IsCell s c.args.built) (sym c.self.view_is) c.requires.own in
-    compound_bound now.heaps.now c.bind.new.self.now o.now.valid c.args.var there open_now c.args.args.now c.args.built own.0 made (c.are_others.ensures c.if-not-are_others.false) (ap (λ (x : Heaps). x.now) c.in_ok-bind.ensures.bound) c.args.touches.now.items
+    compound_bound now.heaps.now c.bind.new.self.now o.now.valid c.args.var there open_now c.args.args.now c.args.built own.0 made (c.are_others.ensures.absent c.if-not-are_others.false) (ap (λ (x : Heaps). x.now) c.in_ok-bind.ensures.bound) c.args.touches.now.items
 
 pub returns-clause-equal : goal.returns-clause-equal
 returns-clause-equal g c =
