@@ -76,6 +76,7 @@ pub enum Cut {
 ///
 /// A domain changes in place. Between two marks the old one is saved at most once, unless marks were dropped there:
 /// a variable's stamp tells whether it was. A stamp is never handed out twice, and at the last one every change is saved.
+/// Cells that were written after the stamp `settled` change unsaved.
 ///
 /// A call that answers `NoMemory` leaves the trail as it was, and may be tried again.
 #[derive(Drop)]
@@ -85,6 +86,7 @@ pub struct Trail {
     saved: Vec<Saved>,
     marks: Vec<Mark>,
     stamp: u64,
+    settled: u64,
     last: u64,
     sifted: usize,
 }
@@ -95,7 +97,7 @@ impl Model for Trail {
     ghost Value = { Stores };
 
     ghost use Rattle.std.specs.Prelude.{reverse};
-    ghost use Rattle.domain_trail.specs.Trails.{sets_of, stores_below, IsTrail, AreOld};
+    ghost use Rattle.domain_trail.specs.Trails.{sets_of, stores_below, IsTrail, AreOld, AreUnsettled};
 
     ghost view = { λ t. record {
       current = sets_of t.cells.items;
@@ -103,7 +105,8 @@ impl Model for Trail {
     } };
 
     ghost invariant = { λ t. IsTrail (reverse t.marks.items) t.saved.items t.cells.items t.stamp
-        × AreOld t.last t.marks.items t.saved.items t.cells.items t.stamp };
+        × AreOld t.last t.marks.items t.saved.items t.cells.items t.stamp
+        × AreUnsettled t.marks.items t.stamp t.settled };
 }
 
 impl Trail {
@@ -116,8 +119,9 @@ impl Trail {
             cells: Vec::new(alloc),
             saved: Vec::new(alloc),
             marks: Vec::new(alloc),
-            stamp: 0,
-            last: 0,
+            stamp: 1,
+            settled: 0,
+            last: 1,
             sifted: 0,
         }
     }
@@ -162,7 +166,7 @@ impl Trail {
     {
         let stamp = self.stamp;
         let old = self.cells[k].stamp;
-        if needs_no_saving(&self.marks, old, stamp) {
+        if self.settled < old {
             self.cells[k] = Cell { domain, stamp };
             return Ok(());
         }
@@ -233,7 +237,7 @@ impl Trail {
     {
         let stamp = self.stamp;
         let old = self.cells[k].stamp;
-        if needs_no_saving(&self.marks, old, stamp) {
+        if self.settled < old {
             set_interval(&mut self.cells, k, span, stamp);
             return Ok(());
         }
@@ -277,7 +281,7 @@ impl Trail {
     {
         let stamp = self.stamp;
         let old = self.cells[k].stamp;
-        if needs_no_saving(&self.marks, old, stamp) {
+        if self.settled < old {
             self.cells[k].leave_out(n, stamp)?;
             return Ok(());
         }
@@ -338,6 +342,7 @@ impl Trail {
         })?;
         self.last = self.last.saturating_add(1);
         self.stamp = self.last;
+        self.settled = settled_at(self.stamp);
         Ok(())
     }
 
@@ -350,6 +355,11 @@ impl Trail {
         restore(&mut self.cells, &mut self.saved, mark.saved);
         self.cells.truncate(mark.vars);
         self.stamp = mark.stamp;
+        self.settled = if self.marks.is_empty() {
+            0
+        } else {
+            settled_at(mark.stamp)
+        };
         self.sifted = self.sifted.min(mark.saved);
     }
 
@@ -366,6 +376,7 @@ impl Trail {
         self.marks.truncate(left);
         if left == 0 {
             self.saved.clear();
+            self.settled = 0;
         } else if mark.stamp < u64::MAX {
             forget(&mut self.saved, self.sifted.max(mark.saved), mark.stamp);
         }
@@ -390,12 +401,15 @@ fn ends(domain: &Domain) -> (u32, u32)
     (domain.least(), domain.greatest())
 }
 
-/// Whether a cell that was written at the stamp `old` may change unsaved: there is no mark, or it was saved since the newest one.
-#[inline(always)]
-fn needs_no_saving(marks: &[Mark], old: u64, stamp: u64) -> bool
-    ensures { IsTrue result → MayChange marks.now old stamp }
+/// The stamp before that of a stretch. At the last stamp of all it is that one: no cell is written later.
+fn settled_at(stamp: u64) -> u64
+    ensures { (ms : List Mark) → AreUnsettled ms stamp result }
 {
-    marks.is_empty() || old == stamp && stamp < u64::MAX
+    if stamp == u64::MAX {
+        stamp
+    } else {
+        stamp.saturating_sub(1)
+    }
 }
 
 /// The domain of a cell becomes an interval, at a stamp.
@@ -413,7 +427,8 @@ fn set_interval(cells: &mut Vec<Cell>, k: usize, span: (u32, u32), stamp: u64)
 }
 
 ghost use Rattle.std.specs.Prelude.{All};
-ghost use Rattle.domain_trail.specs.Trails.{undo, sift, MayChange};
+ghost use Rattle.domain_trail.specs.Trails.{undo, sift, AreUnsettled};
+ghost use Rattle.domain_trail.specs.declared.Mark.{Mark};
 
 /// Forgets the saved cells from `from` on that were written at the stamp or later.
 fn forget(saved: &mut Vec<Saved>, from: usize, stamp: u64)

@@ -1,4 +1,5 @@
-use Rattle.std.proofs.Common.{◌<◌, ℕ, List, pos, filter, length, set, refl, ap, ◌∙◌, subst, arith}
+use mir.Syntax.{w64}
+use Rattle.std.proofs.Common.{rules, Fits, ◌<◌, ℕ, List, pos, filter, length, set, refl, ap, ◌∙◌, arith}
 use Rattle.fd_language.specs.Family.{has}
 use Rattle.domain_ranges.specs.Narrowing.{all_but}
 use Rattle.domain_trail.specs.Trails.{MayChange}
@@ -6,21 +7,24 @@ use Rattle.domain_trail.proofs.Steps.{written, same_length, old_set}
 use Rattle.domain_trail.proofs.Cutting.{set_of_cell, set_in_place}
 use Rattle.domain_trail.proofs.Trail.leave_out.Goals as goal
 
-pub invariant_of-self-then-needs_no_saving : goal.invariant_of-self-then-needs_no_saving
-invariant_of-self-then-needs_no_saving c =
+pub invariant_of-self-then-self-old : goal.invariant_of-self-then-self-old
+invariant_of-self-then-self-old c =
     let t = c.self.inside in
     let within : c.args.k < length t.cells.items = omega (arith, same_length t.cells.items c.args.self.now.current (ap (λ s. s.current) c.self.view_is), c.requires.var) in
-    let may = subst (λ ms. MayChange ms c.index.result.now.stamp t.stamp) c.deref.ensures.value (c.needs_no_saving.ensures c.if-needs_no_saving.true) in (
+    let fits : Fits w64 c.index.result.now.stamp = search rules in
+    let may : MayChange t.marks.items c.index.result.now.stamp t.stamp = c.self.invariant.2 c.index.result.now.stamp c.if-self-old.true (omega (arith, fits.fits)) in (
       (written t.marks.items t.saved.items t.cells.items t.stamp c.args.k c.index.result.now c.leave_out.new.self within c.index.ensures may c.self.invariant.0).trail,
       old_set t.last t.marks.items t.saved.items t.cells.items t.stamp c.args.k c.leave_out.new.self (ap (λ x. x.stamp) c.in_ok-leave_out.ensures.left) c.self.invariant.1,
+      c.self.invariant.2,
     )
 
-pub returns-then-needs_no_saving-clause-changed :
-    goal.returns-then-needs_no_saving-clause-changed
-returns-then-needs_no_saving-clause-changed c =
+pub returns-then-self-old-clause-changed :
+    goal.returns-then-self-old-clause-changed
+returns-then-self-old-clause-changed c =
     let t = c.self.inside in
     let within : c.args.k < length t.cells.items = omega (arith, same_length t.cells.items c.args.self.now.current (ap (λ s. s.current) c.self.view_is), c.requires.var) in
-    let may = subst (λ ms. MayChange ms c.index.result.now.stamp t.stamp) c.deref.ensures.value (c.needs_no_saving.ensures c.if-needs_no_saving.true) in
+    let fits : Fits w64 c.index.result.now.stamp = search rules in
+    let may : MayChange t.marks.items c.index.result.now.stamp t.stamp = c.self.invariant.2 c.index.result.now.stamp c.if-self-old.true (omega (arith, fits.fits)) in
     let is = set_of_cell t.cells.items c.args.self.now c.args.k c.index_mut.result.now (ap (λ s. s.current) c.self.view_is) c.requires.var c.index_mut.ensures.value in
     set_in_place t.marks.items t.saved.items t.cells.items (set t.cells.items c.args.k c.leave_out.new.self) t.stamp c.args.k c.index.result.now c.leave_out.new.self c.args.self.now c.self.view_is within c.index.ensures may c.self.invariant.0 refl
     ∙ ap (λ (l : List ℕ). record c.args.self.now { current = set c.args.self.now.current c.args.k l }) (ap (λ x. x.domain) c.in_ok-leave_out.ensures.left ∙ ap (filter (has (all_but (pos c.args.n)))) is)
