@@ -58,7 +58,7 @@ pub fn activate(
 }
 
 /// The same by evaluating the range.
-#[inline(never)]
+#[inline(always)]
 fn activate_evaluating(
     trail: &mut Trail,
     agents: &mut Agents,

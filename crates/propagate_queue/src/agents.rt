@@ -107,6 +107,7 @@ impl Agents {
     }
 
     /// What the range of an agent leaves of `target`, and one more activation in `n`. No set of the view is empty.
+    #[inline(never)]
     pub fn narrow<V: View>(
         &mut self,
         number: usize,
