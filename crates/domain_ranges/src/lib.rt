@@ -405,12 +405,35 @@ impl Domain {
         ensures narrowed { IfOk result (IsNarrowed self.now (all_but n)) }
         ensures no_memory { OnErr result (2 < interval_count (filter (has (all_but n)) self.now)) }
     {
-        let (least, greatest) = self.ends;
-        if n < least as i64 || n > greatest as i64 {
-            self.rises();
-            return Ok(Narrowed::Same);
+        match self.membership(n) {
+            Membership::Outside => Ok(Narrowed::Same),
+            Membership::Alone => Ok(Narrowed::Empty),
+            Membership::Among(member) => {
+                if self.is_interval() {
+                    return Ok(Narrowed::Changed(self.interval_without(member)));
+                }
+                self.left_without(n)
+            }
         }
-        self.left_without(n)
+    }
+
+    /// The interval without the member `n`, which isn't the only one.
+    #[inline(always)]
+    fn interval_without(&self, n: u32) -> Domain
+        requires interval { IsInterval self.now }
+        requires member { IsTrue (has self.now n) }
+        requires others { least self.now < greatest self.now }
+        ensures { result ≡ filter (has (all_but (pos n))) self.now }
+    {
+        let alloc = *self.list.allocator();
+        let (least, greatest) = self.ends;
+        if n == least {
+            Domain::of_span(alloc, (least + 1, greatest))
+        } else if n == greatest {
+            Domain::of_span(alloc, (least, greatest - 1))
+        } else {
+            Domain::of_pair(alloc, (least, n - 1), (n + 1, greatest))
+        }
     }
 
     /// The same, wherever the number stands.
