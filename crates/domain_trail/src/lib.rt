@@ -197,16 +197,21 @@ impl Trail {
         ensures cut { IfOk result (IsCut (between lo hi) k self.old self.new) }
         ensures unchanged { OnErr result (self.new ≡ self.old) }
     {
-        let domain = &self.cells[k].domain;
-        match domain.part_between(lo, hi) {
+        let cell = &self.cells[k];
+        match cell.domain.part_between(lo, hi) {
             Part::All => Ok(Cut::Same),
             Part::Nothing => Ok(Cut::Empty),
             Part::Within(low, high) => {
-                if !domain.is_interval() {
+                if !cell.domain.is_interval() {
                     return self.cut_apart(k, lo, hi);
                 }
-                let before = ends(domain);
-                self.set_interval(k, (low, high))?;
+                let before = ends(&cell.domain);
+                if self.settled < cell.stamp {
+                    let stamp = self.stamp;
+                    set_interval(&mut self.cells, k, (low, high), stamp);
+                    return Ok(Cut::Changed(before, (low, high)));
+                }
+                self.save_and_narrow(k, Domain::of_span(self.alloc, (low, high)))?;
                 Ok(Cut::Changed(before, (low, high)))
             }
         }
@@ -222,26 +227,6 @@ impl Trail {
     {
         let left = self.cells[k].domain.narrowed_to(lo as i128, hi as i128)?;
         self.take_left(k, left)
-    }
-
-    /// Gives the variable `k` the numbers of an interval as its domain. `NoMemory`: there is no room for the old one.
-    #[inline(always)]
-    fn set_interval(&mut self, k: usize, span: (u32, u32)) -> Result<(), NoMemory>
-        requires var { k < length self.old.current }
-        requires order { span.0 ≤ span.1 }
-        requires high { span.1 ≤ INFINITY }
-        ensures changed { OnOk result (self.new ≡ record self.old {
-          current = slice_set self.old.current k (members (span ∷ []));
-        }) }
-        ensures unchanged { OnErr result (self.new ≡ self.old) }
-    {
-        let stamp = self.stamp;
-        let old = self.cells[k].stamp;
-        if self.settled < old {
-            set_interval(&mut self.cells, k, span, stamp);
-            return Ok(());
-        }
-        self.save_and_narrow(k, Domain::of_span(self.alloc, span))
     }
 
     /// Takes the number from the domain of the variable `k`, which isn't empty. `NoMemory`: there is no room for the old
