@@ -1,5 +1,5 @@
 //! The arguments of a structure in code.
-ghost use Rattle.std.specs.Prelude.{◌<◌, length, IsTrue};
+ghost use Rattle.std.specs.Prelude.{◌↔◌, ◌<◌, length, IsTrue};
 ghost use Rattle.wam_code.specs.Area.{Holds};
 ghost use Rattle.term_instructions.specs.Arguments.{code_of, IsOne, IsUnifyAt};
 
@@ -36,7 +36,7 @@ pub(crate) fn argument_at(code: &CodeArea, at: usize) -> Argument
 /// Whether an instruction of the unify group gives one argument.
 #[inline(always)]
 pub(crate) fn is_one(argument: Argument) -> bool
-    ensures { IsTrue result → IsOne argument }
+    ensures { IsTrue result ↔ IsOne argument }
 {
     match argument {
         Argument::Void(n) => n == 1,

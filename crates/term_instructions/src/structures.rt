@@ -37,7 +37,10 @@ pub struct Scratch {
 
 impl Scratch {
     /// Nothing yet.
-    pub fn new(alloc: Global) -> Scratch {
+    pub fn new(alloc: Global) -> Scratch
+        ensures cells { result.cells.items ≡ [] }
+        ensures touches { result.touches.items ≡ [] }
+    {
         Scratch {
             cells: Vec::new(alloc),
             touches: Vec::new(alloc),
