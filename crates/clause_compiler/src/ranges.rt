@@ -1,5 +1,6 @@
 //! The ranges of a program, compiled: equal ones have one code.
-ghost use Rattle.std.specs.Prelude.{◌≡◌, ◌↔◌, IsTrue, map, IfOk};
+ghost use Rattle.std.specs.Prelude.{◌≡◌, ◌↔◌, IsTrue, map, nat_eq, option_map, IfOk, OnOk, Some};
+ghost use Rattle.indexmap.specs.IndexMap.{get};
 
 use clause_check::Program;
 use fd_language::{FlatRange, NoMemory, RangeNode};
@@ -72,21 +73,23 @@ fn are_same_nodes(a: &[RangeNode], b: &[RangeNode]) -> bool
 
 /// Whether the ranges are the same, with the same variables.
 fn are_same(a: &FlatRange, b: &FlatRange) -> bool
-    ensures { IsTrue result → a.now ≡ b.now }
+    ensures { IsTrue result ↔ (a.now ≡ b.now) }
 {
     are_same_nodes(a.nodes(), b.nodes())
 }
 
-/// The code of the range: that of an earlier one, if `known` has it by its hash. The error is want
-/// of memory.
+/// The code of the range: that of an earlier one, if `known` has it under the hash, and else a new
+/// one, which `known` has from now on. The error is want of memory.
 fn code_of(
     alloc: Global,
     range: &Checked,
+    hash: u64,
     known: &mut IndexMap<u64, Rc<RangeCode>>,
 ) -> Result<Rc<RangeCode>, NoMemory>
-    ensures { IfOk result (λ code. code.value ≡ range.now) }
+    ensures same { IfOk result (λ code. code.value ≡ range.now) }
+    ensures known { OnOk result (option_map (λ code. code.value) (get nat_eq known.new hash)
+        ≡ Some range.now) }
 {
-    let hash = hash_of(range.range().nodes());
     if let Some(code) = known.get(&hash) {
         if are_same(code.range(), range.range()) {
             return Ok(code.clone()?);
@@ -104,7 +107,9 @@ pub(crate) fn ranges_of(alloc: Global, program: &Program) -> Result<Vec<Rc<Range
     let mut known = IndexMap::new(alloc);
     let mut ranges = Vec::with_capacity(alloc, program.ranges())?;
     for range in 0..program.ranges() {
-        ranges.push(code_of(alloc, program.range(range), &mut known)?)?;
+        let checked = program.range(range);
+        let hash = hash_of(checked.range().nodes());
+        ranges.push(code_of(alloc, checked, hash, &mut known)?)?;
     }
     Ok(ranges)
 }

@@ -8,4 +8,5 @@ same_range : (q r : Range) → nodes_of q ≡ nodes_of r → q ≡ r
 same_range q r e = sym (spelled-nodes q) ∙ ap spelled e ∙ spelled-nodes r
 
 pub returns : goal.returns
-returns c = λ t. same_range c.args.a.now c.args.b.now (sym c.nodes.ensures ∙ c.are_same_nodes.ensures.0 t ∙ c.nodes-2.ensures)
+returns c =
+    (λ t. same_range c.args.a.now c.args.b.now (sym c.nodes.ensures ∙ c.are_same_nodes.ensures.0 t ∙ c.nodes-2.ensures), λ e. c.are_same_nodes.ensures.1 (c.nodes.ensures ∙ ap nodes_of e ∙ sym c.nodes-2.ensures))
