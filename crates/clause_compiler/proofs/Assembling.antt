@@ -1,9 +1,10 @@
 -- From the pieces of a program's code to all of it.
-use Rattle.std.proofs.Common.{◌≡◌, ◌⊎◌, ℕ, suc, ◌+◌, ◌<◌, Bool, true, false, ◌&&◌, List, [], ◌∷◌, ◌++◌, Some, option_map, map, filter, take, drop, length, get_or, slice_get, All, ◌≤◌, append_assoc, refl, ap, ap₂, sym, ◌∙◌, subst, inl, inr, arith}
-use Rattle.std.specs.List.{range_with_len}
+use Rattle.std.proofs.Common.{◌≡◌, ◌⊎◌, ℕ, suc, ◌+◌, ◌<◌, Bool, true, false, ◌&&◌, List, [], ◌∷◌, ◌++◌, Some, option_map, map, filter, take, drop, length, get_or, slice_get, is_some, All, ◌≤◌, append_assoc, refl, ap, ap₂, sym, ◌∙◌, subst, inl, inr, arith}
+use Rattle.std.specs.List.{list_any, range_with_len}
 use Rattle.std.proofs.lemmas.Bool.{true≢false, and_parts, and_cases}
 use Rattle.std.proofs.Math.Seq.{take-append_seam, drop-append_seam}
 use Rattle.std.proofs.lemmas.List.{length-append, length-map}
+use Rattle.std.proofs.lemmas.Map.Keys.{any_passes_from_place}
 use Rattle.std.proofs.lemmas.Option.{slice_get_within, slice_get-get_or, slice_get-map, get_or_from_slice_get}
 use Rattle.fd_language.specs.Range.{Range}
 use Rattle.fd_model.specs.Constraining.{arguments}
@@ -11,10 +12,14 @@ use Rattle.fd_model.specs.Goal.{Clause, Query, Program}
 use Rattle.fd_model.specs.Children.{fits_head}
 use Rattle.term_pool.specs.Contents.{atom_name, shape_at}
 use Rattle.term_pool.specs.Terms.{term_of}
+use Rattle.fd_language.specs.Term.{Terms}
+use Rattle.clause_check.specs.Codable.{IsNarrow}
 use Rattle.clause_check.specs.Programs.{FlatProgram, clause_at, query_at, clause_in, query_in, program_in, no_clause, no_query, IsProgram}
 use Rattle.wam_code.specs.declared.instruction.Code.{Code}
+use Rattle.wam_code.specs.declared.instruction.Code.TheVariants.{SwitchOnTerm}
 use Rattle.wam_code.specs.declared.parts.Entry.{Entry}
 use Rattle.wam_code.specs.Area.{Area, Span, Table, Holds, HasEntry, HasQuery, name_of}
+use Rattle.wam_code.specs.Keys.{Rises, HasRisingTables}
 use Rattle.wam_code.specs.Verified.{IsAtom, IsKey}
 use Rattle.wam_code.specs.Places.{count, made}
 use Rattle.wam_code.specs.Tries.{ClashFirst, IsNeedless, Thinned, Tries, IsPredicate}
@@ -23,7 +28,9 @@ use Rattle.clause_code.specs.Predicates.{ArePredicates, base_in, predicate_at, n
 use Rattle.clause_code.specs.Safe.{IsClauseCode, IsQueryPiece}
 use Rattle.clause_code.specs.Trying.{list_of}
 use Rattle.clause_code.proofs.Trying.{list_tries}
-use Rattle.clause_compiler.specs.Switching.{code_of, AreChoicesBy, AreKeysIn}
+use Rattle.clause_compiler.specs.Switching.{code_of, AreChoicesBy, AreKeysIn, AreRising}
+use Rattle.clause_compiler.specs.Keys.{key_of, argument_key, is_switched}
+use Rattle.clause_compiler.specs.Switched.{ShowsKind, IsClauseOf, AreToldApart, HasSwitches}
 use Rattle.clause_compiler.specs.Groups.{head_predicate, is_predicate, numbers_of}
 use Rattle.clause_compiler.specs.Layout.{joined, offset, AreChoicesOf, BeginsClause, IsSpanOf, IsLaidOut}
 use Rattle.clause_compiler.specs.Sections.{ArePut, its_place, IsClausePiece, its_span, IsQueryOf, its_entry, IsChoiceOf, place_in, placed_code, IsNumbered}
@@ -34,9 +41,10 @@ use Rattle.clause_compiler.proofs.Numbering.{placed_list, placed_segment, placed
 use Rattle.clause_compiler.proofs.Rows.{key_within}
 use Rattle.clause_compiler.proofs.Segments.{segment_choices}
 use Rattle.clause_compiler.proofs.Sifting.{sift_both, sift_all}
-use Rattle.clause_compiler.proofs.Switches.{each_segment, switch_safe, switch_chooses, choices_numbered}
+use Rattle.clause_compiler.proofs.Switched.{switched_some, switched_by, two_there, fits_itself, made_arguments, shown_some, narrow_head, shown_key}
+use Rattle.clause_compiler.proofs.Switches.{each_segment, begins_with, switch_safe, switch_chooses, choices_numbered}
 use Rattle.clause_compiler.proofs.Trying.{Enters, thinned_by, each_tries}
-use Rattle.clause_compiler.proofs.Fitting.{is_number, number_there, fits_predicate, head_arity}
+use Rattle.clause_compiler.proofs.Fitting.{is_number, number_there, fits_predicate, head_arity, head_shape}
 
 -- ---- lists
 same_lists : {X : Type 0} (xs ys : List X) → length xs ≡ length ys → ((k : ℕ) (x : X) → slice_get ys k ≡ Some x → slice_get xs k ≡ Some x) → xs ≡ ys
@@ -51,7 +59,7 @@ same_lists (x ∷ xs) (y ∷ ys) e h =
 same_some : {A : Type 0} (o : List A) (k : ℕ) (x y : A) → slice_get o k ≡ Some x → slice_get o k ≡ Some y → x ≡ y
 same_some o k x y e f = let g : Some x ≡ Some y = sym e ∙ f in cc
 
-module _ (p : FlatProgram) (v : IsProgram p) (ps : List Predicate) (w : ArePredicates p ps) (raw mid whole : List Code) (entries : List Entry) (places : List ℕ) (spans : List Span) (tables : List Table) (keys : AreKeysIn p tables)
+module _ (p : FlatProgram) (v : IsProgram p) (ps : List Predicate) (w : ArePredicates p ps) (raw mid whole : List Code) (entries : List Entry) (places : List ℕ) (spans : List Span) (tables : List Table) (keys : AreKeysIn p tables) (rises : AreRising tables)
     (hc : ArePut (its_entry ps) (IsChoiceOf p tables ps) (length ps) [] raw entries) (hl : ArePut its_place (IsClausePiece p ps) (length p.clauses) raw mid places) (hq : ArePut (its_span p) (IsQueryOf p ps) (length p.queries) mid whole spans) where
   -- ---- the code
   abbrev pub code : List Code
@@ -184,11 +192,11 @@ module _ (p : FlatProgram) (v : IsProgram p) (ps : List Predicate) (w : ArePredi
           (n, clause n, clause_there n num.0, head_arity p v ps w n num.0 (predicate_at ps k) num.1 ∙ sym arity_is, place_is n piece.0 piece.1)
 
       by : AreChoicesBy p tables (numbers k) (predicate_at ps k).arity (offset choices k) x.1 → AreChoicesOf area (Begins e.arity) e.at e.arity is
-      by (inl r) = subst (AreChoicesOf area (Begins e.arity) e.at e.arity) (sym (x.2 ∙ ap (map (placed_code places)) r ∙ placed_list places (numbers k))) (list_choices area (Begins e.arity) e.at e.arity (map (place_in places) (numbers k)) (each_of (Begins e.arity) (place_in places) (numbers k) begins))
+      by (inl r) = subst (AreChoicesOf area (Begins e.arity) e.at e.arity) (sym (x.2 ∙ ap (map (placed_code places)) r.1 ∙ placed_list places (numbers k))) (list_choices area (Begins e.arity) e.at e.arity (map (place_in places) (numbers k)) (each_of (Begins e.arity) (place_in places) (numbers k) begins))
       by (inr r) =
           subst (λ o. AreChoicesOf area (Begins e.arity) o e.arity is) (sym place_at)
           (subst (AreChoicesOf area (Begins e.arity) (offset choices k) e.arity) (sym (x.2 ∙ ap (map (placed_code places)) r.1.1 ∙ placed_segments places r.1.0 (each_segment p tables (numbers k) (offset choices k) r.1.0 r.1.2)))
-          (segment_choices area (Begins e.arity) (offset choices k) e.arity (map (placed_segment places) r.1.0) (switch_safe p tables (numbers k) (offset choices k) r.1.0 r.1.2 places area refl (Begins e.arity) e.arity (subst (λ m. 1 ≤ m) (sym arity_is) r.0) begins)))
+          (segment_choices area (Begins e.arity) (offset choices k) e.arity (map (placed_segment places) r.1.0) (switch_safe p tables (numbers k) (offset choices k) r.1.0 r.1.2 places area refl (Begins e.arity) e.arity (subst (λ m. 1 ≤ m) (sym arity_is) (switched_some p (predicate_at ps k).arity (numbers k) r.0)) begins)))
 
   choice_holds : (k n : ℕ) (is : List Code) (i : Code) → slice_get choices k ≡ Some is → slice_get is n ≡ Some i → Holds area (offset choices k + n) i
   choice_holds k n is i f g = ap (λ c. slice_get c (offset choices k + n)) code_is ∙ get_left (joined choices) (joined hl.pieces ++ joined hq.pieces) (offset choices k + n) i (get_joined choices k n is i f g)
@@ -248,7 +256,7 @@ module _ (p : FlatProgram) (v : IsProgram p) (ps : List Predicate) (w : ArePredi
 
       by : AreChoicesBy p tables (numbers k) (predicate_at ps k).arity (offset choices k) x.1 → (cs : List Clause) × Thinned s (made (name_of area e.name) ts) prog.clauses cs × Tries area s e.at cs
       by (inl r) =
-          let is : piece.0 ≡ list_of (map (place_in places) (numbers k)) = x.2 ∙ ap (map (placed_code places)) r ∙ placed_list places (numbers k) in
+          let is : piece.0 ≡ list_of (map (place_in places) (numbers k)) = x.2 ∙ ap (map (placed_code places)) r.1 ∙ placed_list places (numbers k) in
           let stand = subst (Stand area (offset choices k)) is (stand_at area (offset choices k) piece.0 holds) in (
             map clause (numbers k),
             subst (λ ms. Thinned s (made (name_of area e.name) ts) prog.clauses (map clause ms)) (sift_all (numbers k)) (thin (λ n. true) (λ j n l u. absurd (true≢false u))),
@@ -258,6 +266,60 @@ module _ (p : FlatProgram) (v : IsProgram p) (ps : List Predicate) (w : ArePredi
           let is : piece.0 ≡ code_of (map (placed_segment places) r.1.0) = x.2 ∙ ap (map (placed_code places)) r.1.1 ∙ placed_segments places r.1.0 (each_segment p tables (numbers k) (offset choices k) r.1.0 r.1.2) in
           let c = switch_chooses p tables (numbers k) (offset choices k) r.1.0 r.1.2 places area refl clause (λ n i g. holds n i (subst (λ l. slice_get l n ≡ Some i) (sym is) g)) enter v ps w refl (λ j n g. (is_number p (length p.clauses) j n (predicate_at ps k) g).0) s in
           (map clause (filter c.test (numbers k)), thin c.test c.clash, subst (λ o. Tries area s o (map clause (filter c.test (numbers k)))) (sym place) c.means)
+
+  -- a clause of the predicate has a number among the predicate's
+  own_number : (k : ℕ) (e : Entry) → HasEntry area k e → (n : ℕ) (ts : Terms) → IsClauseOf area prog e n ts → (n < length p.clauses) × (j : ℕ) × (slice_get (numbers k) j ≡ Some n) × (term_of p.pool (clause_at p n).head ≡ made (name_of area e.name) ts)
+  own_number k e h n ts is =
+      let piece = piece_there k e h in
+      let x = entry_is k e piece.0 h piece.1 in
+      let pred = predicate_at ps k in
+      let z = clause_is n is.clause is.there in
+      let name : name_of area e.name ≡ atom_name p.pool pred.name = ap (λ (y : Entry). atom_name p.pool y.name) x.0 in
+      let head : term_of p.pool (clause_at p n).head ≡ made (name_of area e.name) ts = sym (ap (λ (y : Clause). y.head) z.1) ∙ is.head in
+      let own = w.atoms k pred (slice_get-get_or ps k no_predicate (number_within k e h)) in
+      let fits = sym (fits_predicate p v ps w n z.0 pred ts own (is.arity ∙ ap (λ (y : Entry). y.arity) x.0)) ∙ ap (fits_head (made (atom_name p.pool pred.name) ts)) (head ∙ ap (λ y. made y ts) name) ∙ fits_itself (atom_name p.pool pred.name) ts in
+      let j = number_there p (length p.clauses) n pred z.0 fits in
+      (z.0, j.0, j.1, head)
+
+  -- and where its first argument is no variable, it has a key
+  own_key : (n : ℕ) (f : List ℕ) (ts : Terms) → n < length p.clauses → term_of p.pool (clause_at p n).head ≡ made f ts → ShowsKind ts → is_some (key_of p n) ≡ true
+  own_key n f ts l head shown =
+      let s = head_shape p v ps w n l in
+      let narrow : IsNarrow (term_of p.pool (clause_at p n).head) = narrow_head prog.clauses n (clause n) v.codable.clauses (clause_there n l) in
+      let args = ap arguments (sym s.2 ∙ head) ∙ made_arguments f ts in
+      ap (λ o. is_some (argument_key p.pool o)) s.1 ∙ shown_key p.pool v.pool (clause_at p n).head (v.clauses n no_clause l).head s.0 s.1 (subst IsNarrow s.2 narrow) (subst ShowsKind (sym args) shown)
+
+  -- A predicate whose clauses the first argument tells apart begins with a switch.
+  choice_switches : HasSwitches area prog
+  choice_switches k e h told = by x.3
+    where
+      piece : (is : List Code) × (slice_get choices k ≡ Some is)
+      piece = piece_there k e h
+
+      x : (e ≡ its_entry ps k (offset choices k) piece.0) × (xs : List Code) × (piece.0 ≡ map (placed_code places) xs) × IsChoiceOf p tables ps k (offset choices k) xs
+      x = entry_is k e piece.0 h piece.1
+
+      enter : (j n : ℕ) → slice_get (numbers k) j ≡ Some n → Enters area (place_in places n) (clause n)
+      enter j n g = enters n (is_number p (length p.clauses) j n (predicate_at ps k) g).0
+
+      yes : is_switched p (predicate_at ps k).arity (numbers k) ≡ true
+      yes =
+          let one = own_number k e h told.n told.ts told.one in
+          let other = own_number k e h told.m told.us told.other in
+          let some : 1 ≤ e.arity = subst (λ m. 1 ≤ m) told.one.arity (shown_some told.ts told.shown) in
+          let key = own_key told.n (name_of area e.name) told.ts one.0 one.3 told.shown in
+          switched_by p (predicate_at ps k).arity (numbers k) (subst (λ m. 1 ≤ m) (ap (λ (y : Entry). y.arity) x.0) some) (two_there (numbers k) one.1 other.1 told.n told.m one.2 other.2 told.two) (any_passes_from_place (λ n. is_some (key_of p n)) (numbers k) one.1 told.n one.2 key)
+
+      by : AreChoicesBy p tables (numbers k) (predicate_at ps k).arity (offset choices k) x.1 → (v : ℕ) × (c : ℕ) × (i : ℕ) × (s : ℕ) × Holds area e.at (SwitchOnTerm v c i s)
+      by (inl r) = absurd (true≢false (sym yes ∙ r.0))
+      by (inr r) =
+          let is : piece.0 ≡ code_of (map (placed_segment places) r.1.0) = x.2 ∙ ap (map (placed_code places)) r.1.1 ∙ placed_segments places r.1.0 (each_segment p tables (numbers k) (offset choices k) r.1.0 r.1.2) in
+          let y = r.1.2 in
+          let first = begins_with p tables (numbers k) (offset choices k) r.1.0 y places area refl clause (λ n i g. choice_holds k n piece.0 i piece.1 (subst (λ l. slice_get l n ≡ Some i) (sym is) g)) enter in
+          (y.v, y.c, y.i, y.s, subst (λ o. Holds area o (SwitchOnTerm y.v y.c y.i y.s)) (sym (ap (λ (z : Entry). z.at) x.0)) first)
+
+  tables_rise : HasRisingTables area
+  tables_rise t l = let x = get_there tables t l in subst Rises (sym (get_or_from_slice_get tables t x.0 [] x.1)) (rises t x.0 x.1)
 
   -- ---- queries
   abbrev query : ℕ → Query
@@ -329,13 +391,15 @@ module _ (p : FlatProgram) (v : IsProgram p) (ps : List Predicate) (w : ArePredi
     clause = λ k c is e f. let x = clause_is k c e in subst (IsClauseCode (base_of area) (length (joined choices) + offset hl.pieces k) is) (sym x.1) (clause_code k is f);
     query = query_span;
     predicates = choice_means;
+    switched = choice_switches;
     keys = keys_there;
+    rising = tables_rise;
     predicate_names = entry_names;
     query_names = span_names;
   }
 
 -- ---- as the compiler has them
-module _ (p : FlatProgram) (v : IsProgram p) (ps : List Predicate) (w : ArePredicates p ps) (start raw mid whole : List Code) (entries : List Entry) (places : List ℕ) (spans : List Span) (tables : List Table) (keys : AreKeysIn p tables) (none : start ≡ [])
+module _ (p : FlatProgram) (v : IsProgram p) (ps : List Predicate) (w : ArePredicates p ps) (start raw mid whole : List Code) (entries : List Entry) (places : List ℕ) (spans : List Span) (tables : List Table) (keys : AreKeysIn p tables) (rises : AreRising tables) (none : start ≡ [])
     (hc : ArePut (its_entry ps) (IsChoiceOf p tables ps) (length ps) start raw entries) (hl : ArePut its_place (IsClausePiece p ps) (length p.clauses) raw mid places) (hq : ArePut (its_span p) (IsQueryOf p ps) (length p.queries) mid whole spans) where
   whole_long : whole ≡ raw ++ (joined hl.pieces ++ joined hq.pieces)
   whole_long = hq.code ∙ ap (λ l. l ++ joined hq.pieces) hl.code ∙ append_assoc raw (joined hl.pieces) (joined hq.pieces)
@@ -362,4 +426,4 @@ module _ (p : FlatProgram) (v : IsProgram p) (ps : List Predicate) (w : ArePredi
       let is : code' ≡ map (placed_code places) (take (length raw) whole) ++ drop (length raw) whole = g ∙ ap (λ n. map (placed_code placed) (take n whole) ++ drop n whole) e ∙ ap (λ q. map (placed_code q) (take (length raw) whole) ++ drop (length raw) whole) f in
       subst (λ c. IsLaidOut (record { pool = p.pool; code = c; tables = tables; ranges = ranges; entries = entries; queries = spans }) (program_in p)) (sym is)
       (subst (λ r. IsLaidOut (record { pool = p.pool; code = map (placed_code places) (take (length raw) whole) ++ drop (length raw) whole; tables = tables; ranges = r; entries = entries; queries = spans }) (program_in p)) (sym h)
-      (laid_out p v ps w raw mid whole entries places spans tables keys own hl hq))
+      (laid_out p v ps w raw mid whole entries places spans tables keys rises own hl hq))

@@ -1,5 +1,5 @@
 -- The choices of a kind, put behind the segments before them.
-use Rattle.std.proofs.Common.{◌≡◌, ◌⊎◌, ℕ, zero, suc, pos, ◌+◌, ◌<◌, List, [], ◌∷◌, ◌++◌, map, option_map, get_or, Some, length, slice_get, refl, ap, ap₂, sym, ◌∙◌, subst, inl, inr, arith, append_assoc}
+use Rattle.std.proofs.Common.{◌≡◌, ◌⊎◌, ℕ, zero, suc, pos, ◌+◌, ◌<◌, true, false, List, [], ◌∷◌, ◌++◌, map, option_map, get_or, Some, length, slice_get, refl, ap, ap₂, sym, ◌∙◌, subst, inl, inr, arith, append_assoc}
 use Rattle.std.specs.List.Sorted.{IsPermutation}
 use Rattle.std.proofs.lemmas.List.{length-append, length-map}
 use Rattle.std.proofs.lemmas.List.Sorted.{IsPermutation-sym}
@@ -9,14 +9,15 @@ use Rattle.wam_code.specs.declared.instruction.Key.{Key}
 use Rattle.wam_code.specs.declared.instruction.Key.TheVariants as key
 use Rattle.wam_code.specs.declared.instruction.Code.{Code}
 use Rattle.wam_code.specs.Area.{Table}
+use Rattle.wam_code.specs.Keys.{Rises}
 use Rattle.clause_code.specs.Trying.{list_of}
 use Rattle.clause_compiler.specs.declared.keys.Kind.{Kind}
 use Rattle.clause_compiler.specs.declared.tables.Label.{Label}
-use Rattle.clause_compiler.specs.Keys.{key_of, may_be, kind_numbers}
+use Rattle.clause_compiler.specs.Keys.{key_of, may_be, kind_numbers, is_tabled}
 use Rattle.clause_compiler.specs.Keyed.{may_have, key_numbers, AreKeyedBy}
 use Rattle.clause_compiler.specs.Layout.{joined, offset}
 use Rattle.clause_compiler.specs.Sections.{ArePut, IsListIn, its_row}
-use Rattle.clause_compiler.specs.Switching.{Segment, listing, switch, segment_code, code_of, LeadsTo, switch_on, IsTableOf, IsKeySwitch, SwitchesTo, KindAt, IsBehind, AreKeysAmong, TablesGrow, PutsKind}
+use Rattle.clause_compiler.specs.Switching.{Segment, listing, switch, segment_code, code_of, LeadsTo, switch_on, IsTableOf, IsKeySwitch, SwitchesTo, KindAt, IsBehind, AreKeysAmong, AreRising, TablesGrow, PutsKind}
 use Rattle.clause_compiler.proofs.Lists.{get_there, split_get, get_left, get_right, got_map, moved_get}
 use Rattle.clause_compiler.proofs.Sifting.{sifted_one, among_sifted}
 
@@ -48,7 +49,7 @@ grown_keeps p ns old new g t table e = subst (λ l. slice_get l t ≡ Some table
 
 -- The same tables have grown by none.
 pub grown_none : (p : FlatProgram) (ns : List ℕ) (old new : List Table) → new ≡ old → TablesGrow p ns old new
-grown_none p ns old new e = ([], e ∙ sym (append_none old), λ t table h. absurd cc)
+grown_none p ns old new e = ([], e ∙ sym (append_none old), λ t table h. absurd cc, λ t table h. absurd cc)
   where
     append_none : (xs : List Table) → xs ++ [] ≡ xs
     append_none [] = refl
@@ -56,11 +57,15 @@ grown_none p ns old new e = ([], e ∙ sym (append_none old), λ t table h. absu
 
 -- Tables that grow twice have grown.
 pub grown_twice : (p : FlatProgram) (ns : List ℕ) (one two three : List Table) → TablesGrow p ns one two → TablesGrow p ns two three → TablesGrow p ns one three
-grown_twice p ns one two three g h = (g.0 ++ h.0, h.1 ∙ ap (λ l. l ++ h.0) g.1 ∙ append_assoc one g.0 h.0, λ t table e. by t table (split_get g.0 h.0 t table e))
+grown_twice p ns one two three g h = (g.0 ++ h.0, h.1 ∙ ap (λ l. l ++ h.0) g.1 ∙ append_assoc one g.0 h.0, λ t table e. by t table (split_get g.0 h.0 t table e), λ t table e. rise t table (split_get g.0 h.0 t table e))
   where
     by : (t : ℕ) (table : Table) → (slice_get g.0 t ≡ Some table) ⊎ ((m : ℕ) × (t ≡ length g.0 + m) × (slice_get h.0 m ≡ Some table)) → (r : ℕ) (x : Key) (to : ℕ) → slice_get table r ≡ Some (x, to) → (i : ℕ) × (n : ℕ) × (slice_get ns i ≡ Some n) × (key_of p n ≡ Some x)
     by t table (inl e) = g.2 t table e
     by t table (inr e) = h.2 e.0 table e.2
+
+    rise : (t : ℕ) (table : Table) → (slice_get g.0 t ≡ Some table) ⊎ ((m : ℕ) × (t ≡ length g.0 + m) × (slice_get h.0 m ≡ Some table)) → Rises table
+    rise t table (inl e) = g.3 t table e
+    rise t table (inr e) = h.3 e.0 table e.2
 
 -- ---- what is said of segments, with others behind them
 module _ (p : FlatProgram) (at : ℕ) (ss more : List Segment) where
@@ -71,7 +76,7 @@ module _ (p : FlatProgram) (at : ℕ) (ss more : List Segment) where
       (h.0, h.1, h.2 ∙ ap (λ n. at + n) (sym o), get_left ss more h.0 (listing ns) h.3)
 
   table_more : (table : Table) (ns : List ℕ) (j : ℕ) → IsTableOf p table ns at ss j → IsTableOf p table ns at (ss ++ more) j
-  table_more table ns j h = record { rows = λ r x to e. leads_more j to (key_numbers p x ns) (h.rows r x to e); own = h.own; each = h.each }
+  table_more table ns j h = record { rows = λ r x to e. leads_more j to (key_numbers p x ns) (h.rows r x to e); own = h.own; each = h.each; rising = h.rising }
 
   module _ (old new : List Table) (keeps : Keeps old new) (ns : List ℕ) where
     switch_more : (k : Kind) (j : ℕ) (i : Code) → IsKeySwitch p old k ns at ss j i → IsKeySwitch p new k ns at (ss ++ more) j i
@@ -79,15 +84,18 @@ module _ (p : FlatProgram) (at : ℕ) (ss more : List Segment) where
 
     -- The choices of a kind stay what they are when more segments and tables follow.
     pub kind_more : (k : Kind) (to : ℕ) → KindAt p old k ns at ss to → KindAt p new k ns at (ss ++ more) to
-    kind_more k to (inl h) = inl (leads_more 0 to (kind_numbers p k ns) h)
-    kind_more k to (inr h) = inr (record {
-      j = h.j;
-      i = h.i;
-      later = h.later;
-      place = h.place ∙ ap (λ n. at + n) (sym (offset_before ss more h.j (slice_get_within ss h.j (switch h.i) h.segment)));
-      segment = get_left ss more h.j (switch h.i) h.segment;
-      key_switch = switch_more k h.j h.i h.key_switch;
-    })
+    kind_more k to (inl h) = inl (h.0, leads_more 0 to (kind_numbers p k ns) h.1)
+    kind_more k to (inr h) = let w = h.1 in inr (
+      h.0,
+      record {
+        j = w.j;
+        i = w.i;
+        later = w.later;
+        place = w.place ∙ ap (λ n. at + n) (sym (offset_before ss more w.j (slice_get_within ss w.j (switch w.i) w.segment)));
+        segment = get_left ss more w.j (switch w.i) w.segment;
+        key_switch = switch_more k w.j w.i w.key_switch;
+      },
+    )
 
     -- So does a segment behind the first one.
     pub behind_more : (j : ℕ) (x : Segment) → IsBehind p old ns at ss j x → IsBehind p new ns at (ss ++ more) j x
@@ -95,12 +103,12 @@ module _ (p : FlatProgram) (at : ℕ) (ss more : List Segment) where
     behind_more j (switch i) h = (h.0, switch_more h.0 j i h.1)
 
 -- ---- a list
--- The choices of a kind in a list.
-pub list_put : (p : FlatProgram) (tables : List Table) (k : Kind) (ns : List ℕ) (old new : List Code) → new ≡ old ++ list_of (kind_numbers p k ns) → PutsKind p tables k ns old new
-list_put p tables k ns old new e ss at here some = (
+-- The choices of a kind in a list, where no key tells its clauses apart.
+pub list_put : (p : FlatProgram) (tables : List Table) (k : Kind) (ns : List ℕ) (old new : List Code) → is_tabled p (kind_numbers p k ns) ≡ false → new ≡ old ++ list_of (kind_numbers p k ns) → PutsKind p tables k ns old new
+list_put p tables k ns old new untold e ss at here some = (
   listing (kind_numbers p k ns) ∷ [],
   e ∙ ap (λ l. old ++ l) (sym (append_none (list_of (kind_numbers p k ns)))),
-  record { kind_at = inl (length ss + 0, (let z : 0 < length ss + 0 = omega (arith, some) in z), (let o = offset_behind ss (listing (kind_numbers p k ns) ∷ []) 0 in omega (arith, here, o)), get_right ss (listing (kind_numbers p k ns) ∷ []) 0); behind = behind },
+  record { kind_at = inl (untold, (length ss + 0, (let z : 0 < length ss + 0 = omega (arith, some) in z), (let o = offset_behind ss (listing (kind_numbers p k ns) ∷ []) 0 in omega (arith, here, o)), get_right ss (listing (kind_numbers p k ns) ∷ []) 0)); behind = behind },
 )
   where
     append_none : (xs : List Code) → xs ++ [] ≡ xs
@@ -132,7 +140,7 @@ abbrev row_by : Key → ℕ → Key × ℕ
 row_by x a = (x, a)
 
 module _ (p : FlatProgram) (k : Kind) (ns : List ℕ) (looked : List Label) (keys : List Key) (groups : List (List ℕ)) (w : AreKeyedBy p (kind_numbers p k ns) looked keys groups) (old mid new : List Code) (before after : List Table) (rows sorted : Table) (moved : IsPermutation rows sorted) (t : ℕ) (number : t ≡ length before)
-    (one : mid ≡ old ++ switch_on k t ∷ []) (put : ArePut (its_row keys) (IsListIn groups) (length keys) mid new rows) (tables : after ≡ before ++ sorted ∷ []) where
+    (one : mid ≡ old ++ switch_on k t ∷ []) (put : ArePut (its_row keys) (IsListIn groups) (length keys) mid new rows) (tables : after ≡ before ++ sorted ∷ []) (rises : Rises sorted) where
   abbrev more : List Segment
   more = switch (switch_on k t) ∷ map listing groups
 
@@ -173,10 +181,14 @@ module _ (p : FlatProgram) (k : Kind) (ns : List ℕ) (looked : List Label) (key
   row_before : (r : ℕ) (x : Key) (to : ℕ) → slice_get sorted r ≡ Some (x, to) → (m : ℕ) × (slice_get rows m ≡ Some (x, to))
   row_before r x to = moved_get rows sorted moved r (x, to)
 
-  -- The table has keys of these clauses alone.
+  -- The table has keys of these clauses alone, which rise.
   pub table_grows : TablesGrow p ns before after
-  table_grows = (sorted ∷ [], tables, among)
+  table_grows = (sorted ∷ [], tables, among, rise)
     where
+      rise : AreRising (sorted ∷ [])
+      rise zero table e = let s : sorted ≡ table = cc in subst Rises s rises
+      rise (suc i) table e = absurd cc
+
       among : AreKeysAmong p ns (sorted ∷ [])
       among zero table e r x to f =
           let s : sorted ≡ table = cc in
@@ -187,8 +199,8 @@ module _ (p : FlatProgram) (k : Kind) (ns : List ℕ) (looked : List Label) (key
       among (suc i) table e r x to f = absurd cc
 
   -- The choices of a kind by a table.
-  pub table_put : PutsKind p after k ns old new
-  table_put ss at here some = (more, whole, record { kind_at = inr switches; behind = behind })
+  pub table_put : is_tabled p (kind_numbers p k ns) ≡ true → PutsKind p after k ns old new
+  table_put told ss at here some = (more, whole, record { kind_at = inr (told, switches); behind = behind })
     where
       whole : new ≡ old ++ code_of more
       whole = put.code ∙ ap₂ (λ a b. a ++ joined b) one pieces_are ∙ append_assoc old (switch_on k t ∷ []) (joined (map segment_code (map listing groups)))
@@ -212,6 +224,7 @@ module _ (p : FlatProgram) (k : Kind) (ns : List ℕ) (looked : List Label) (key
             let y = row_there g.0 g.1 g.2 in
             let now = moved_get sorted rows (IsPermutation-sym rows sorted moved) g.0 (g.1, y.0) y.1 in
             (now.0, g.1, y.0, now.1, g.3);
+        rising = rises;
       }
 
       key_switch : IsKeySwitch p after k ns at (ss ++ more) (length ss + 0) (switch_on k t)

@@ -12,6 +12,7 @@ pub mod Numbering
 pub mod Placing
 pub mod Putting
 pub mod Regions
+pub mod Rising
 pub mod Rows
 pub mod Segments
 pub mod Sifting
@@ -19,6 +20,7 @@ pub mod Sorts
 pub mod Spots
 pub mod Standing
 pub mod SwitchPut
+pub mod Switched
 pub mod Switches
 pub mod TablesGrowing
 pub mod Trying

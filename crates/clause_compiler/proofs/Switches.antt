@@ -131,8 +131,8 @@ module _ (p : FlatProgram) (tables : List Table) (ns : List ℕ) (at : ℕ) (ss 
     lead j to ms h = ahead_at j to h.0 (listing ms) h.1 h.2 h.3
 
     lead_kind : (q : Kind) (to : ℕ) → KindAt p tables q ns at ss to → (m : ℕ) × (0 < m) × (m < length (map (placed_segment places) ss)) × (to ≡ place_of at (map (placed_segment places) ss) m)
-    lead_kind q to (inl h) = lead 0 to (kind_numbers p q ns) h
-    lead_kind q to (inr h) = ahead_at 0 to h.j (switch h.i) h.later h.place h.segment
+    lead_kind q to (inl h) = lead 0 to (kind_numbers p q ns) h.1
+    lead_kind q to (inr h) = let y = h.1 in ahead_at 0 to y.j (switch y.i) y.later y.place y.segment
 
     -- ---- where they lead
     module _ (a : Area) (same : a.tables ≡ tables) where
@@ -203,7 +203,8 @@ module _ (p : FlatProgram) (tables : List Table) (ns : List ℕ) (at : ℕ) (ss 
             subst (λ n. Holds a n x) (let z : at + (offset (map segment_code (map (placed_segment places) ss)) j + 0) ≡ place_of at ss j = omega (arith, o) in z)
             (stand (offset (map segment_code (map (placed_segment places) ss)) j + 0) x (from_segment (map (placed_segment places) ss) j (switch x) 0 x (placed_at j (switch x) h) refl))
 
-        begins_with : Holds a at (SwitchOnTerm w.v w.c w.i w.s)
+        -- The choices begin with the switch by the kind.
+        pub begins_with : Holds a at (SwitchOnTerm w.v w.c w.i w.s)
         begins_with =
             let none = offset_none (map segment_code ss) in
             subst (λ n. Holds a n (SwitchOnTerm w.v w.c w.i w.s)) (let z : place_of at ss 0 ≡ at = omega (arith, none) in z) (switch_holds 0 (SwitchOnTerm w.v w.c w.i w.s) w.first)
@@ -281,9 +282,9 @@ module _ (p : FlatProgram) (tables : List Table) (ns : List ℕ) (at : ℕ) (ss 
             by_kind (inl h) = record {
               test = λ n. may_be k (key_of p n);
               clash = λ j n g e. clash_by s (may_be k) refl clash_kind n (within j n g) e;
-              means = top (map clause (kind_numbers p k ns)) (list_tried s 0 to (kind_numbers p k ns) h);
+              means = top (map clause (kind_numbers p k ns)) (list_tried s 0 to (kind_numbers p k ns) h.1);
             }
-            by_kind (inr h) = by_key h (first_row a s (Tries a s) (table_at a h.key_switch.number))
+            by_kind (inr h) = let y = h.1 in by_key y (first_row a s (Tries a s) (table_at a y.key_switch.number))
 
           -- For each shape the place tries the clauses that pass a test, and the others clash.
           pub switch_chooses : (s : tries.Shape) → Chosen p a s at ns clause
@@ -300,7 +301,7 @@ module _ (p : FlatProgram) (tables : List Table) (ns : List ℕ) (at : ℕ) (ss 
 
 -- The choices of clauses name those alone.
 pub choices_numbered : (p : FlatProgram) (tables : List Table) (many : ℕ) (ns : List ℕ) (arity at : ℕ) (is : List Code) → ((k n : ℕ) → slice_get ns k ≡ Some n → n < many) → AreChoicesBy p tables ns arity at is → (n : ℕ) (i : Code) → slice_get is n ≡ Some i → IsNumbered many i
-choices_numbered p tables many ns arity at is below (inl h) n i e = list_numbered many ns below n i (subst (λ l. slice_get l n ≡ Some i) h e)
+choices_numbered p tables many ns arity at is below (inl h) n i e = list_numbered many ns below n i (subst (λ l. slice_get l n ≡ Some i) h.1 e)
 choices_numbered p tables many ns arity at is below (inr h) n i e =
     let x = spot h.1.0 n i (subst (λ l. slice_get l n ≡ Some i) h.1.1 e) in
     by x.k x.j x.s x.segment x.get

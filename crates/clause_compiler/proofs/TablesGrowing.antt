@@ -4,11 +4,12 @@ use Rattle.clause_check.specs.Programs.{FlatProgram}
 use Rattle.wam_code.specs.declared.instruction.Code.{Code}
 use Rattle.wam_code.specs.declared.instruction.Code.TheVariants.{SwitchOnTerm}
 use Rattle.wam_code.specs.Area.{Table}
+use Rattle.wam_code.specs.Keys.{Rises}
 use Rattle.clause_compiler.specs.declared.keys.Kind.TheVariants as kind
 use Rattle.clause_compiler.specs.Keys.{key_of}
 use Rattle.clause_compiler.specs.Layout.{offset}
 use Rattle.clause_compiler.specs.Sections.{ArePut}
-use Rattle.clause_compiler.specs.Switching.{Segment, switch, IsSwitching, AreChoicesBy, AreKeysIn, TablesGrow}
+use Rattle.clause_compiler.specs.Switching.{Segment, switch, IsSwitching, AreChoicesBy, AreKeysIn, AreRising, TablesGrow}
 use Rattle.clause_compiler.proofs.Lists.{split_get, get_left}
 use Rattle.clause_compiler.proofs.KindPut.{Keeps, leads_more, kind_more, behind_more}
 
@@ -51,3 +52,15 @@ keys_grow p ns one two inside g h t table e r x to f = by (split_get one g.0 t t
 -- Where there are no tables, there are no keys.
 pub keys_none : (p : FlatProgram) (tables : List Table) → tables ≡ [] → AreKeysIn p tables
 keys_none p tables e t table h r x to f = let g : slice_get [] t ≡ Some table = subst (λ l. slice_get l t ≡ Some table) e h in absurd cc
+
+-- Tables that rise come to tables that rise.
+pub rising_grow : (p : FlatProgram) (ns : List ℕ) (one two : List Table) → TablesGrow p ns one two → AreRising one → AreRising two
+rising_grow p ns one two g h t table e = by (split_get one g.0 t table (subst (λ l. slice_get l t ≡ Some table) g.1 e))
+  where
+    by : (slice_get one t ≡ Some table) ⊎ ((m : ℕ) × (t ≡ length one + m) × (slice_get g.0 m ≡ Some table)) → Rises table
+    by (inl k) = h t table k
+    by (inr k) = g.3 k.0 table k.2
+
+-- Where there are no tables, all rise.
+pub rising_none : (tables : List Table) → tables ≡ [] → AreRising tables
+rising_none tables e t table h = let g : slice_get [] t ≡ Some table = subst (λ l. slice_get l t ≡ Some table) e h in absurd cc

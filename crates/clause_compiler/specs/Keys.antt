@@ -1,5 +1,6 @@
 -- What the first argument of a clause's head shows.
-use Rattle.std.specs.Prelude.{ℕ, Bool, true, leb, if◌then◌else◌, List, ◌∷◌, filter, length, Option, Some, None}
+use Rattle.std.specs.Prelude.{ℕ, Bool, true, leb, ◌&&◌, if◌then◌else◌, List, ◌∷◌, filter, length, Option, Some, None, is_some}
+use Rattle.std.specs.List.{list_any, list_all}
 use Rattle.term_pool.specs.declared.TermId.{TermId}
 use Rattle.term_pool.specs.Contents.{Contents, Shape, var, int, atom, comp, shape_at}
 use Rattle.clause_check.specs.Programs.{FlatProgram, clause_at}
@@ -47,3 +48,13 @@ may_be k (Some x) = of_kind k x
 -- the clauses that it may fit, by their numbers
 abbrev pub kind_numbers : FlatProgram → Kind → List ℕ → List ℕ
 kind_numbers p k ns = filter (λ n. may_be k (key_of p n)) ns
+
+-- ---- what is told apart
+
+-- the first argument tells clauses of so many arguments apart: there are two or more, and in one of them it has a key
+abbrev pub is_switched : FlatProgram → ℕ → List ℕ → Bool
+is_switched p arity ns = leb 1 arity && (leb 2 (length ns) && list_any (λ n. is_some (key_of p n)) ns)
+
+-- its key does: there are two or more, and in each of them it has one
+abbrev pub is_tabled : FlatProgram → List ℕ → Bool
+is_tabled p ns = leb 2 (length ns) && list_all (λ n. is_some (key_of p n)) ns

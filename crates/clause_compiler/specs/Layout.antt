@@ -10,8 +10,10 @@ use Rattle.wam_code.specs.Area.{Area, Span, HasEntry, HasQuery, name_of}
 use Rattle.wam_code.specs.Verified.{named, is_before, is_behind, IsAtom, IsKey, IsThere}
 use Rattle.wam_code.specs.Places.{count}
 use Rattle.wam_code.specs.Tries.{IsPredicate}
+use Rattle.wam_code.specs.Keys.{HasRisingTables}
 use Rattle.clause_code.specs.Pieces.{base_of}
 use Rattle.clause_code.specs.Safe.{IsClauseCode, IsQueryPiece}
+use Rattle.clause_compiler.specs.Switched.{HasSwitches}
 
 -- ---- lists, one behind the other
 
@@ -96,6 +98,8 @@ pub record IsLaidOut (a : Area) (prog : Program) : Type 0 where
       → IsSpanOf a (length (joined choices) + (length (joined clauses) + offset queries k)) q s is
   -- The choices try the clauses.
   pub predicates : (k : ℕ) (e : Entry) → HasEntry a k e → IsPredicate a prog e
+  pub switched : HasSwitches a prog
   pub keys : All (λ table. All (λ row. IsKey a row.0) table) a.tables
+  pub rising : HasRisingTables a
   pub predicate_names : All (λ e. IsAtom a e.name) a.entries
   pub query_names : All (λ s. All (λ c. IsAtom a c) s.names) a.queries

@@ -6,4 +6,5 @@ pub mod Layout
 pub mod Listing
 pub mod Parts
 pub mod Sections
+pub mod Switched
 pub mod Switching

@@ -1,14 +1,15 @@
 -- The choices of a predicate, chosen by the first argument.
-use Rattle.std.specs.Prelude.{◌≡◌, ◌⊎◌, ℕ, suc, ◌+◌, ◌<◌, ◌≤◌, List, [], ◌∷◌, ◌++◌, map, length, slice_get, Some}
+use Rattle.std.specs.Prelude.{◌≡◌, ◌⊎◌, ℕ, suc, ◌+◌, ◌<◌, true, false, List, [], ◌∷◌, ◌++◌, map, length, slice_get, Some}
 use Rattle.clause_check.specs.Programs.{FlatProgram}
 use Rattle.wam_code.specs.declared.instruction.Code.{Code}
 use Rattle.wam_code.specs.declared.instruction.Code.TheVariants.{SwitchOnTerm, SwitchOnConstant, SwitchOnInteger, SwitchOnStructure}
 use Rattle.wam_code.specs.declared.instruction.Key.{Key}
 use Rattle.wam_code.specs.Area.{Table}
+use Rattle.wam_code.specs.Keys.{Rises}
 use Rattle.clause_code.specs.Trying.{list_of}
 use Rattle.clause_compiler.specs.declared.keys.Kind.{Kind}
 use Rattle.clause_compiler.specs.declared.keys.Kind.TheVariants as kind
-use Rattle.clause_compiler.specs.Keys.{key_of, kind_numbers}
+use Rattle.clause_compiler.specs.Keys.{key_of, kind_numbers, is_switched, is_tabled}
 use Rattle.clause_compiler.specs.Keyed.{key_numbers}
 use Rattle.clause_compiler.specs.Layout.{joined, offset}
 
@@ -41,11 +42,12 @@ switch_on kind.Atom t = SwitchOnConstant t
 switch_on kind.Integer t = SwitchOnInteger t
 switch_on kind.Structure t = SwitchOnStructure t
 
--- The segment j is a switch by this table among these clauses: each row leads to the clauses with its key, and each clause has a key with a row.
+-- The segment j is a switch by this table among these clauses: each row leads to the clauses with its key, each clause has a key with a row, and the keys rise.
 pub record IsTableOf (p : FlatProgram) (table : Table) (ns : List ℕ) (at : ℕ) (ss : List Segment) (j : ℕ) : Type 0 where
   pub rows : (r : ℕ) (x : Key) (to : ℕ) → slice_get table r ≡ Some (x, to) → LeadsTo at ss j to (key_numbers p x ns)
   pub own : (r : ℕ) (x : Key) (to : ℕ) → slice_get table r ≡ Some (x, to) → (i : ℕ) × (n : ℕ) × (slice_get ns i ≡ Some n) × (key_of p n ≡ Some x)
   pub each : (i n : ℕ) → slice_get ns i ≡ Some n → (r : ℕ) × (x : Key) × (to : ℕ) × (slice_get table r ≡ Some (x, to)) × (key_of p n ≡ Some x)
+  pub rising : Rises table
 
 -- the switch at the segment j is by a table among the clauses that may fit the kind
 pub record IsKeySwitch (p : FlatProgram) (tables : List Table) (k : Kind) (ns : List ℕ) (at : ℕ) (ss : List Segment) (j : ℕ) (i : Code) : Type 0 where
@@ -63,9 +65,9 @@ pub record SwitchesTo (p : FlatProgram) (tables : List Table) (k : Kind) (ns : L
   pub segment : slice_get ss j ≡ Some (switch i)
   pub key_switch : IsKeySwitch p tables k ns at ss j i
 
--- the place tries the clauses that may fit the kind, or chooses among them by the key
+-- the place chooses among the clauses that may fit the kind by the key, where that tells them apart, and else tries them all
 abbrev pub KindAt : FlatProgram → List Table → Kind → List ℕ → ℕ → List Segment → ℕ → Type 0
-KindAt p tables k ns at ss to = LeadsTo at ss 0 to (kind_numbers p k ns) ⊎ SwitchesTo p tables k ns at ss to
+KindAt p tables k ns at ss to = ((is_tabled p (kind_numbers p k ns) ≡ false) × LeadsTo at ss 0 to (kind_numbers p k ns)) ⊎ ((is_tabled p (kind_numbers p k ns) ≡ true) × SwitchesTo p tables k ns at ss to)
 
 -- a segment behind the first one
 abbrev pub IsBehind : FlatProgram → List Table → List ℕ → ℕ → List Segment → ℕ → Segment → Type 0
@@ -88,9 +90,9 @@ pub record IsSwitching (p : FlatProgram) (tables : List Table) (ns : List ℕ) (
 abbrev pub IsSwitchCode : FlatProgram → List Table → List ℕ → ℕ → List Code → Type 0
 IsSwitchCode p tables ns at is = (ss : List Segment) × (is ≡ code_of ss) × IsSwitching p tables ns at ss
 
--- the choices of a predicate with so many arguments: its clauses in a list, or chosen by the first argument
+-- the choices of a predicate with so many arguments: its clauses chosen by the first argument, where that tells them apart, and else in a list
 abbrev pub AreChoicesBy : FlatProgram → List Table → List ℕ → ℕ → ℕ → List Code → Type 0
-AreChoicesBy p tables ns arity at is = (is ≡ list_of ns) ⊎ ((1 ≤ arity) × IsSwitchCode p tables ns at is)
+AreChoicesBy p tables ns arity at is = ((is_switched p arity ns ≡ false) × (is ≡ list_of ns)) ⊎ ((is_switched p arity ns ≡ true) × IsSwitchCode p tables ns at is)
 
 -- each key of the tables is one of these clauses'
 abbrev pub AreKeysAmong : FlatProgram → List ℕ → List Table → Type 0
@@ -100,9 +102,13 @@ AreKeysAmong p ns tables = (t : ℕ) (table : Table) → slice_get tables t ≡ 
 abbrev pub AreKeysIn : FlatProgram → List Table → Type 0
 AreKeysIn p tables = (t : ℕ) (table : Table) → slice_get tables t ≡ Some table → (r : ℕ) (x : Key) (to : ℕ) → slice_get table r ≡ Some (x, to) → (n : ℕ) × (n < length p.clauses) × (key_of p n ≡ Some x)
 
--- more tables behind the old ones, with keys of these clauses
+-- the keys of each table rise
+abbrev pub AreRising : List Table → Type 0
+AreRising tables = (t : ℕ) (table : Table) → slice_get tables t ≡ Some table → Rises table
+
+-- more tables behind the old ones, with keys of these clauses, which rise
 abbrev pub TablesGrow : FlatProgram → List ℕ → List Table → List Table → Type 0
-TablesGrow p ns old new = (more : List Table) × (new ≡ old ++ more) × AreKeysAmong p ns more
+TablesGrow p ns old new = (more : List Table) × (new ≡ old ++ more) × AreKeysAmong p ns more × AreRising more
 
 -- what the choices of a kind are, behind the segments before them
 pub record AreKindPut (p : FlatProgram) (tables : List Table) (k : Kind) (ns : List ℕ) (at : ℕ) (ss : List Segment) (to : ℕ) (more : List Segment) : Type 0 where

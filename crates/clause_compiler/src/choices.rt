@@ -1,17 +1,17 @@
 //! The choices before the clauses of a predicate.
-ghost use Rattle.std.specs.Prelude.{◌≡◌, ℕ, List, [], ◌<◌, ◌≤◌, ◌++◌, length, map, take, drop, IfOk, OnOk, All};
+ghost use Rattle.std.specs.Prelude.{◌≡◌, ℕ, true, List, [], ◌<◌, ◌≤◌, ◌++◌, length, map, take, drop, IfOk, OnOk, All};
 ghost use Rattle.clause_code.specs.Predicates.{Appends, ArePredicates};
 ghost use Rattle.clause_code.specs.Trying.{list_of};
 ghost use Rattle.clause_compiler.specs.Groups.{AreGroups};
 ghost use Rattle.clause_compiler.specs.Sections.{ArePut, IsChoiceOf, IsListIn, IsNumbered, its_entry, its_row, placed_code};
-ghost use Rattle.clause_compiler.specs.Keys.{kind_numbers};
+ghost use Rattle.clause_compiler.specs.Keys.{is_tabled, kind_numbers};
 ghost use Rattle.clause_compiler.specs.Listing.{listed_at};
 ghost use Rattle.clause_check.specs.Programs.{FlatProgram};
 ghost use Rattle.clause_compiler.specs.Keyed.{AreKeyed};
 ghost use Rattle.clause_compiler.specs.Parts.{tables_in};
-ghost use Rattle.clause_compiler.specs.Switching.{AreChoicesBy, AreKeysIn, IsSwitchCode, PutsKind, switch_on, TablesGrow};
+ghost use Rattle.clause_compiler.specs.Switching.{AreChoicesBy, AreKeysIn, AreRising, IsSwitchCode, PutsKind, switch_on, TablesGrow};
 
-use crate::keys::{Kind, clauses_of_kind, has_key};
+use crate::keys::{Kind, are_told_apart, clauses_of_kind};
 use crate::tables::{Keyed, keyed_of, label_of};
 use clause_check::Program;
 use clause_code::Predicates;
@@ -92,6 +92,7 @@ fn put_table(
 ) -> Result<(), NoMemory>
     requires { length keyed.now.keys.items ≡ length keyed.now.lists.items }
     ensures { OnOk result ((p : FlatProgram) (ns : List ℕ)
+        → is_tabled p (kind_numbers p kind ns) ≡ true
         → AreKeyed p (kind_numbers p kind ns) keyed.now
         → PutsKind p (tables_in tables.new) kind ns code.old.items code.new.items
         × TablesGrow p ns (tables_in tables.old) (tables_in tables.new)) }
@@ -104,7 +105,7 @@ fn put_table(
 }
 
 /// Puts the choices of those clauses behind the code that may fit a first argument of the kind: by
-/// their keys, if each has one. The error is want of memory.
+/// their keys, where these tell them apart. The error is want of memory.
 fn put_kind(
     alloc: Global,
     program: &Program,
@@ -120,12 +121,10 @@ fn put_kind(
         (tables_in tables.old) (tables_in tables.new)) }
 {
     let own = clauses_of_kind(alloc, program, clauses, kind)?;
-    if own.len() >= 2 {
-        if let Some(keyed) = keyed_of(alloc, program, &own)? {
-            return put_table(alloc, kind, &keyed, code, tables);
-        }
+    match keyed_of(alloc, program, &own)? {
+        Some(keyed) => put_table(alloc, kind, &keyed, code, tables),
+        None => put_list(&own, code),
     }
-    put_list(&own, code)
 }
 
 /// Puts a switch by the first argument behind the code, and behind it the choices of all these
@@ -157,8 +156,8 @@ fn put_switch(
     Ok(())
 }
 
-/// Puts the choices of a predicate with so many arguments behind the code: a list, or a switch
-/// where one can tell its clauses apart. The error is want of memory.
+/// Puts the choices of a predicate with so many arguments behind the code: a switch, where the
+/// first argument tells its clauses apart, and else a list. The error is want of memory.
 fn put_predicate(
     alloc: Global,
     program: &Program,
@@ -174,7 +173,7 @@ fn put_predicate(
     ensures tables { OnOk result (TablesGrow program.now clauses.now
         (tables_in tables.old) (tables_in tables.new)) }
 {
-    if arity >= 1 && clauses.len() >= 2 && has_key(program, clauses) {
+    if are_told_apart(program, clauses, arity) {
         put_switch(alloc, program, clauses, code, tables)
     } else {
         put_list(clauses, code)
@@ -200,6 +199,7 @@ pub(crate) fn put_choices(
         (IsChoiceOf program.now (tables_in tables.new) predicates.now)
         (length predicates.now) code.old.items code.new.items v.items) }
     ensures keys { OnOk result (AreKeysIn program.now (tables_in tables.new)) }
+    ensures rising { OnOk result (AreRising (tables_in tables.new)) }
 {
     let mut entries = Vec::with_capacity(alloc, predicates.len())?;
     for n in 0..predicates.len() {

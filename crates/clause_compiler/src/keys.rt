@@ -1,7 +1,7 @@
 //! What the first argument of a clause's head shows.
 ghost use Rattle.std.specs.Prelude.{◌≡◌, ◌<◌, All, IfOk, is_some, length};
 ghost use Rattle.std.specs.List.{list_any};
-ghost use Rattle.clause_compiler.specs.Keys.{key_of, kind_numbers, may_be, term_key};
+ghost use Rattle.clause_compiler.specs.Keys.{is_switched, key_of, kind_numbers, may_be, term_key};
 
 use clause_check::Program;
 use fd_language::NoMemory;
@@ -76,7 +76,7 @@ pub(crate) fn clauses_of_kind(
 }
 
 /// Whether the first argument of one of the clauses has a key.
-pub(crate) fn has_key(program: &Program, clauses: &[usize]) -> bool
+fn has_key(program: &Program, clauses: &[usize]) -> bool
     requires clauses { All (λ c. c < length program.now.clauses) clauses.now }
     ensures { result ≡ list_any (λ n. is_some (key_of program.now n)) clauses.now }
 {
@@ -86,4 +86,13 @@ pub(crate) fn has_key(program: &Program, clauses: &[usize]) -> bool
         }
     }
     false
+}
+
+/// Whether the first argument tells clauses with so many arguments apart: there are two or more,
+/// and in one of them it has a key.
+pub(crate) fn are_told_apart(program: &Program, clauses: &[usize], arity: usize) -> bool
+    requires clauses { All (λ c. c < length program.now.clauses) clauses.now }
+    ensures { result ≡ is_switched program.now arity clauses.now }
+{
+    arity >= 1 && clauses.len() >= 2 && has_key(program, clauses)
 }

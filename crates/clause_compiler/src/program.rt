@@ -3,6 +3,8 @@ ghost use Rattle.std.specs.Prelude.{IfOk};
 ghost use Rattle.clause_check.specs.Programs.{program_in};
 ghost use Rattle.clause_compiler.specs.Layout.{IsLaidOut};
 ghost use Rattle.clause_compiler.specs.Parts.{area_with};
+ghost use Rattle.clause_compiler.specs.Switched.{HasSwitches};
+ghost use Rattle.wam_code.specs.Keys.{HasRisingTables};
 ghost use Rattle.wam_code.specs.Tries.{StandsForProgram};
 
 use crate::choices::{place_choices, put_choices};
@@ -52,9 +54,12 @@ fn parts_of(alloc: Global, program: &Program) -> Result<Parts, NoMemory>
     })
 }
 
-/// The code of a program. The error is want of memory.
+/// The code of a program: a predicate whose clauses the first argument tells apart begins with a
+/// switch by its kind, and the keys of each table rise. The error is want of memory.
 pub fn compile(alloc: Global, program: Program) -> Result<CodeArea, NoMemory>
-    ensures { IfOk result (λ a. StandsForProgram a (program_in program)) }
+    ensures stands { IfOk result (λ a. StandsForProgram a (program_in program)) }
+    ensures switches { IfOk result (λ a. HasSwitches a (program_in program)) }
+    ensures rising { IfOk result HasRisingTables }
 {
     let parts = parts_of(alloc, &program)?;
     Ok(CodeArea::from_verified(CodeParts {

@@ -1,7 +1,7 @@
 //! Clauses by the keys of their first arguments.
-ghost use Rattle.std.specs.Prelude.{◌≡◌, ◌++◌, ℕ, ◌<◌, ◌∷◌, [], All, IfOk, IfSome, List, OnOk, Some, length};
+ghost use Rattle.std.specs.Prelude.{◌≡◌, ◌++◌, ℕ, ◌<◌, ◌∷◌, [], All, IfOk, IfSome, List, OnOk, Some, is_some, length};
 ghost use Rattle.clause_check.specs.Programs.{FlatProgram};
-ghost use Rattle.clause_compiler.specs.Keys.{key_of};
+ghost use Rattle.clause_compiler.specs.Keys.{is_tabled, key_of};
 ghost use Rattle.clause_compiler.specs.Keyed.{AreKeyed, label};
 
 use crate::keys::first_key;
@@ -58,15 +58,20 @@ fn add(alloc: Global, keyed: &mut Keyed, key: Key, clause: usize) -> Result<(), 
     Ok(())
 }
 
-/// The clauses by their keys, if each of them has one. The error is want of memory.
+/// The clauses by their keys, if these tell them apart: there are two or more, and each has one.
+/// The error is want of memory.
 pub(crate) fn keyed_of(
     alloc: Global,
     program: &Program,
     clauses: &[usize],
 ) -> Result<Option<Keyed>, NoMemory>
     requires clauses { All (λ c. c < length program.now.clauses) clauses.now }
-    ensures { IfOk result (λ o. IfSome o (AreKeyed program.now clauses.now)) }
+    ensures keyed { IfOk result (λ o. IfSome o (AreKeyed program.now clauses.now)) }
+    ensures some { IfOk result (λ o. is_some o ≡ is_tabled program.now clauses.now) }
 {
+    if clauses.len() < 2 {
+        return Ok(None);
+    }
     let mut keyed = Keyed {
         labels: IndexSet::new(alloc),
         keys: Vec::new(alloc),

@@ -8,7 +8,7 @@ use Rattle.clause_compiler.specs.Sections.{ArePut, IsChoiceOf, its_entry}
 use Rattle.clause_compiler.specs.Parts.{tables_in}
 use Rattle.clause_compiler.specs.Switching.{AreChoicesBy, TablesGrow}
 use Rattle.clause_compiler.proofs.KindPut.{grown_keeps}
-use Rattle.clause_compiler.proofs.TablesGrowing.{put_lift, choices_keep, keys_grow, keys_none}
+use Rattle.clause_compiler.proofs.TablesGrowing.{put_lift, choices_keep, keys_grow, keys_none, rising_grow, rising_none}
 use Rattle.clause_compiler.proofs.Fitting.{is_number, numbers_within}
 use Rattle.clause_compiler.proofs.Putting.{put_none, put_one}
 use Rattle.clause_compiler.proofs.Vectors.{same_at}
@@ -51,10 +51,11 @@ loop-n-preserved c =
           w.1
           c.in_ok-push.ensures.items,
       keys_grow p (numbers_of p (length p.clauses) pred) one two (λ k n e. (is_number p (length p.clauses) k n pred e).0) grown c.loop-n.invariant.1,
+      rising_grow p (numbers_of p (length p.clauses) pred) one two grown c.loop-n.invariant.2,
     )
 
 pub loop-n-init : goal.loop-n-init
 loop-n-init c =
     let ps = c.args.predicates.now in
     let p = c.args.program.now in
-    (subst (ArePut (its_entry ps) (IsChoiceOf p (tables_in c.args.tables.now) ps) 0 c.args.code.now.items c.args.code.now.items) (sym c.in_ok-entries.ensures.items) (put_none (its_entry ps) (IsChoiceOf p (tables_in c.args.tables.now) ps) c.args.code.now.items), keys_none p (tables_in c.args.tables.now) (ap (map items) c.requires.tables))
+    (subst (ArePut (its_entry ps) (IsChoiceOf p (tables_in c.args.tables.now) ps) 0 c.args.code.now.items c.args.code.now.items) (sym c.in_ok-entries.ensures.items) (put_none (its_entry ps) (IsChoiceOf p (tables_in c.args.tables.now) ps) c.args.code.now.items), keys_none p (tables_in c.args.tables.now) (ap (map items) c.requires.tables), rising_none (tables_in c.args.tables.now) (ap (map items) c.requires.tables))

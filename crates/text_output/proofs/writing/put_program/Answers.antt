@@ -29,7 +29,7 @@ put_query-requires-clause-query g c =
     let size : i < length p.queries = search rules in
     let area : Area = c.in_ok-code.code in
     let shared : c.in_ok-shared.shared.value ≡ area = search rules in
-    subst (λ (a : Area). i < length a.queries) (sym shared) (has_query area p c.in_ok-code.ensures i size)
+    subst (λ (a : Area). i < length a.queries) (sym shared) (has_query area p c.in_ok-code.ensures.stands i size)
 
 pub returns-in_err-put_line-clause-wrote : goal.returns-in_err-put_line-clause-wrote
 returns-in_err-put_line-clause-wrote g c = λ out stop h.
@@ -56,7 +56,7 @@ returns-in_err-put_query-clause-wrote g c = λ out stop h.
     let area : Area = c.in_ok-code.code in
     let shared : c.in_ok-shared.shared.value ≡ area = search rules in
     let run = subst (λ (a : Area). IsRunBy a i c.args.options.steps c.args.options.answers k.events k.spent) (sym shared)
-    (run_by area p c.known.ensures c.in_ok-code.ensures i size c.args.options.steps c.args.options.answers k.events k.spent k.run) in
+    (run_by area p c.known.ensures c.in_ok-code.ensures.stands i size c.args.options.steps c.args.options.answers k.events k.spent k.run) in
     let mid : SinkState = sink_at (g.K.Sink.written c.put_line.new.sink) (g.K.Sink.faults c.put_line.new.sink) in
     let new : SinkState = sink_at (g.K.Sink.written c.put_query.new.sink) (g.K.Sink.faults c.put_query.new.sink) in
     events_cut c.args.options.steps c.args.options.answers (program_in p) (i + 1) (query_in p (query_at p i)) (drop (i + 1) (program_in p).queries) old now mid new c.loop-query.stopped out stop c.deref.result.now c.in_err-put_query.field-0.0 c.from_residual-in_err-put_query.result
@@ -74,7 +74,7 @@ loop-query-preserved g c = λ out stop h.
     let area : Area = c.in_ok-code.code in
     let shared : c.in_ok-shared.shared.value ≡ area = search rules in
     let run = subst (λ (a : Area). IsRunBy a i c.args.options.steps c.args.options.answers k.events k.spent) (sym shared)
-    (run_by area p c.known.ensures c.in_ok-code.ensures i size c.args.options.steps c.args.options.answers k.events k.spent k.run) in
+    (run_by area p c.known.ensures c.in_ok-code.ensures.stands i size c.args.options.steps c.args.options.answers k.events k.spent k.run) in
     let mid : SinkState = sink_at (g.K.Sink.written c.put_line.new.sink) (g.K.Sink.faults c.put_line.new.sink) in
     let new : SinkState = sink_at (g.K.Sink.written c.put_query.new.sink) (g.K.Sink.faults c.put_query.new.sink) in
     let before = c.loop-query.stopped in
