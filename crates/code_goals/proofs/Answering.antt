@@ -25,7 +25,8 @@ use Rattle.code_states.specs.Machine.{slot_cell, registers_of, stack_of}
 use Rattle.code_states.specs.Safety.{IsSafe}
 use Rattle.code_goals.specs.Answers.{AreSlots, IsAsked, ShowsAnswer}
 use Rattle.code_goals.specs.Tasks.{names_of}
-use Rattle.code_goals.proofs.Texts.{line_shown, shown_length}
+use Rattle.code_goals.specs.Written.{text_at, ShowsWritten}
+use Rattle.code_goals.proofs.Texts.{line_shown, shown_length, written_shown}
 
 -- ---- the cells of slots
 
@@ -100,3 +101,12 @@ module _ (area : Area) (s : branch.State) (at : ℕ) (c : Contents) (safe : IsSa
         let t = run_any INFINITY area prog q (names_of area) s.heaps.now pair.valid s.levels.current.posted G pair.settled.model pair.settled.most at (registers_of c) (stack_of c) (choices_in s c ls) n es r holds cells slots.1 (counted q asked) m in
         (t.0, t.1 ∙ ap (λ l. model.Answer l ∷ t.0) (sym (line_is q)), t.2));
   }
+
+-- ---- what a goal writes
+
+-- the term of the first register
+pub written_is : (area : Area) (s : branch.State) (c : Contents) (d : Cell) → cell_at c.registers 1 ≡ Some d → (x : Shown) → IsShown area.pool.names s.heaps.now s.levels.current.sets (d ∷ []) x → ShowsWritten area s c x
+written_is area s c d at_d x shown = record {
+  one = (shown_length area.pool.names s.heaps.now s.levels.current.sets (d ∷ []) x shown, shown.own);
+  text = written_shown area.pool.names s.heaps.now s.levels.current.sets s.levels.current.posted d x shown ∙ sym (ap (text_at area s) at_d);
+}

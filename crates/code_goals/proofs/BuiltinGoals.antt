@@ -25,8 +25,6 @@ use Rattle.term_pool.specs.Valid.{IsPool}
 use Rattle.machine_frames.specs.Frames.{store_touches, IsGrown}
 use Rattle.machine_frames.proofs.Naming.{full_one, full_own}
 use Rattle.range_code.specs.Frames.{family_of}
-use Rattle.machine_events.specs.declared.Shown.{Shown}
-use Rattle.branch_state.specs.Showing.{IsShown}
 use Rattle.branch_state.specs.States as branch
 use Rattle.branch_state.specs.States.{IsSound, IsSameBelow, IsCell, with_heap}
 use Rattle.branch_goals.specs.declared.finding.Found.{Found}
@@ -38,7 +36,7 @@ use Rattle.wam_code.specs.Arities.{builtin_arity}
 use Rattle.wam_code.specs.Area.{Area, Holds}
 use Rattle.wam_code.specs.Places.{Places}
 use Rattle.wam_code.specs.Means.{NamedRule, BuiltinRule}
-use Rattle.code_areas.specs.Areas.{cell_at, Contents}
+use Rattle.code_areas.specs.Areas.{cell_at, IsSet, Contents}
 use Rattle.code_steps.specs.Registers.{Registers, Saved}
 use Rattle.code_steps.specs.Trying.{IsFirst}
 use Rattle.code_steps.specs.Running.{Left, Choice, Runs, Returns}
@@ -55,10 +53,10 @@ use Rattle.code_goals.specs.declared.next.Next.{Next}
 use Rattle.code_goals.specs.declared.next.Next.TheVariants.{On, Back, Fault, Write, Newline}
 use Rattle.code_goals.specs.Builtins.{IsFound, IsSecond, ComesTo}
 use Rattle.code_goals.specs.Tasks.{names_of, task_of}
+use Rattle.code_goals.specs.Written.{text_at}
 use Rattle.code_goals.specs.Taking.{next_by, IsSafeNext, LeadsNext, RunsNext, Takes}
 use Rattle.code_goals.proofs.Moving.{runs_grown, runs_none}
-use Rattle.code_goals.proofs.Safe.{choices_same, sound_below, same_below, heap_below, grown_cells, moved_safe, on_safe, on_same, goes_back}
-use Rattle.code_goals.proofs.Texts.{written_shown, shown_length}
+use Rattle.code_goals.proofs.Safe.{choices_same, sound_below, same_below, heap_below, grown_cells, arguments_there, moved_safe, on_safe, on_same, goes_back}
 
 -- no two atoms have one name
 pub one_name : (area : Area) → IsPool area.pool → IsOneToOne (names_of area)
@@ -133,15 +131,21 @@ module _ (area : Area) (s : branch.State) (at : ℕ) (c : Contents) (safe : IsSa
   pub newline_taken : Holds area at (step.Builtin kind.Nl) → Takes area s at c s (Newline (suc at))
   newline_taken f prog q ls n k es r runnable m = run_newline INFINITY area prog q name h safe.sound.now.valid qs at regs stack (choices_in s c ls) k es r runnable n (G, known) m f
 
-  -- write, by what is shown
-  pub write_taken : Holds area at (step.Builtin kind.Write) → (d : Cell) → cell_at c.registers 1 ≡ Some d → (x : Shown) → IsShown area.pool.names h s.levels.current.sets (d ∷ []) x → Takes area s at c s (Write (suc at) x)
-  write_taken f d at_d x shown prog q ls n k es r runnable m =
-      subst (λ (text : List ℕ). Spends (λ later j. Runs INFINITY area prog q name h qs (suc at) regs stack (choices_in s c ls) n k later j) (model.Wrote text ∷ []) es r) (sym (written_shown area.pool.names h s.levels.current.sets qs d x shown))
+  -- its argument is in the first register
+  first_set : Holds area at (step.Builtin kind.Write) → IsSet c.registers 1
+  first_set f = arguments_there area s at c (step.Builtin kind.Write) 1 safe f (λ t. refl) 1 (omega arith) (omega arith)
+
+  -- write
+  pub write_taken : Holds area at (step.Builtin kind.Write) → Takes area s at c s (Write (suc at))
+  write_taken f prog q ls n k es r runnable m =
+      let d = (first_set f).0 in
+      let at_d = (first_set f).1 in
+      subst (λ (o : Option Cell). Spends (λ later j. Runs INFINITY area prog q name h qs (suc at) regs stack (choices_in s c ls) n k later j) (model.Wrote (text_at area s o) ∷ []) es r) (sym at_d)
       (run_write INFINITY area prog q name h safe.sound.now.valid qs at regs stack (choices_in s c ls) k es r runnable n G known most d at_d m f)
 
   -- and it is safe to go on
-  pub write_safe : Holds area at (step.Builtin kind.Write) → (d : Cell) (x : Shown) → IsShown area.pool.names h s.levels.current.sets (d ∷ []) x → IsSafeNext area s c (Write (suc at) x)
-  write_safe f d x shown = (on_same area s at c (step.Builtin kind.Write) 1 safe f (λ t. refl) refl, (shown_length area.pool.names h s.levels.current.sets (d ∷ []) x shown, shown.own))
+  pub write_safe : Holds area at (step.Builtin kind.Write) → IsSafeNext area s c (Write (suc at))
+  write_safe f = (on_same area s at c (step.Builtin kind.Write) 1 safe f (λ t. refl) refl, first_set f)
 
   -- two cells were made equal, or can't be
   pub unify_taken : IsPool area.pool → Holds area at (step.Builtin kind.Unify) → (d e : Cell) → cell_at c.registers 1 ≡ Some d → cell_at c.registers 2 ≡ Some e → (s' : branch.State) → IsSameBelow s s' → (equal : Bool) → Equates s d e s' equal → Takes area s at c s' (next_by at equal)

@@ -47,7 +47,7 @@ use Rattle.code_goals.specs.declared.labels.Tried.{Tried}
 use Rattle.code_goals.specs.declared.labels.Labelled.TheVariants.{Took, Tries}
 use Rattle.code_goals.specs.declared.next.Next.TheVariants.{On, Fault}
 use Rattle.code_goals.specs.Tasks.{names_of, task_of}
-use Rattle.code_goals.specs.Values.{numbers_left, IsOpen, left_of, lefts_of, pointed, with_point, with_mark, IsKept, KeepsValues, RunsWent, StaysAt, work_left, IsTried, Labels, BringsMost}
+use Rattle.code_goals.specs.Values.{numbers_left, HasValues, IsOpen, left_of, lefts_of, pointed, with_point, with_mark, IsKept, KeepsValues, RunsWent, StaysAt, work_left, IsTried, Labels, BringsMost}
 use Rattle.code_goals.proofs.Moving.{runs_none, runs_over}
 use Rattle.code_goals.proofs.Numbers.{filter_from_low, rising_length, can_be}
 use Rattle.code_goals.proofs.Safe.{choices_same, same_below, sound_below, moved_safe, marked_safe, goes_back}
@@ -103,14 +103,14 @@ module _ (area : Area) (prog : Program) (q : Query) (s : branch.State) (at : ℕ
   back_settled None e sound m =
       back_no_values INFINITY area prog q (names_of area) s.heaps.now sound.now.valid s.levels.current.posted at (registers_of c) (stack_of c) (choices_in s c ls) f.budget f.answers f.events f.reductions v.variable
       (subst (λ ns. Back (points ns)) e m)
-  back_settled (Some w) e sound m = subst (λ (x : ValuesLeft). Back (choices_in (with_pair s) (pointed c at) (left_of at x ∷ ls))) (sym e) m
+  back_settled (Some w) e sound m = subst (λ (x : ValuesLeft). Back (choices_in (with_pair s) (pointed c at) (left_of at x ∷ ls))) (sym e.0) m
 
   -- and one at work
   runs_settled : (o : Option ValuesLeft) → IsKept v o → (h : Cells) (qs : List Indexical) → Going h qs (points (numbers_left v)) → Going h qs (points_now o)
   runs_settled None e h qs m =
       runs_over INFINITY area prog q (names_of area) h qs at (registers_of c) (stack_of c) (choices_in s c ls) f.budget f.answers f.events f.reductions s.heaps.now s.levels.current.posted v.variable at (registers_of c) (stack_of c)
       (subst (λ ns. Going h qs (points ns)) e m)
-  runs_settled (Some w) e h qs m = subst (λ (x : ValuesLeft). Going h qs (choices_in (with_pair s) (pointed c at) (left_of at x ∷ ls))) (sym e) m
+  runs_settled (Some w) e h qs m = subst (λ (x : ValuesLeft). Going h qs (choices_in (with_pair s) (pointed c at) (left_of at x ∷ ls))) (sym e.0) m
 
 -- ---- a value is tried
 
@@ -139,6 +139,7 @@ module _ (area : Area) (pool : IsPool area.pool) (s : branch.State) (at : ℕ) (
     safe = goes_back area s at c safe s (same_below s) (sound_below s safe.sound);
     leads = tt;
     opened = λ w i. absurd (cc);
+    some = λ w i. absurd (cc);
     falls = λ ls. (let f = back_less area at c in omega (arith, f));
     runs = λ prog q ls f m. back_settled area prog q s at c ls f v None e safe.sound m;
   }
@@ -192,14 +193,20 @@ module _ (area : Area) (pool : IsPool area.pool) (s : branch.State) (at : ℕ) (
       opens w None k e = absurd (cc)
       opens w (Some u) k e =
           let same : u ≡ w = cc in
-          subst (IsOpen area s.heaps.now) (sym k ∙ same) (record { own = open_now.own; term = open_now.term })
+          subst (IsOpen area s.heaps.now) (sym k.0 ∙ same) (record { own = open_now.own; term = open_now.term })
+
+      has_values : (w : ValuesLeft) (o : Option ValuesLeft) → IsKept (later v m) o → o ≡ Some w → HasValues w
+      has_values w None k e = absurd (cc)
+      has_values w (Some u) k e =
+          let same : u ≡ w = cc in
+          subst HasValues (sym k.0 ∙ same) k.1
 
       -- the work falls where the value fits
       on_falls : (o : Option ValuesLeft) → IsKept (later v m) o → (ls : List Left) → work_left area (with_point c at o) (went.On at) (lefts_of at o ++ ls) < work_left area (pointed c at) went.Back (left_of at v ∷ ls)
       on_falls None k ls =
           subst (λ ks. work_left area c (went.On at) ls < work_left area (pointed c at) went.Back (values ks v.variable at ∷ ls)) (sym left) (last_value_falls area at c (point_of c at ∷ c.points) refl m ns v.variable ls)
       on_falls (Some w) k ls =
-          subst (λ (y : ValuesLeft). work_left area (pointed c at) (went.On at) (left_of at y ∷ ls) < work_left area (pointed c at) went.Back (left_of at v ∷ ls)) (sym k)
+          subst (λ (y : ValuesLeft). work_left area (pointed c at) (went.On at) (left_of at y ∷ ls) < work_left area (pointed c at) went.Back (left_of at v ∷ ls)) (sym k.0)
           (subst (λ ks. work_left area (pointed c at) (went.On at) (values ns v.variable at ∷ ls) < work_left area (pointed c at) went.Back (values ks v.variable at ∷ ls)) (sym left)
           (value_falls area at c (point_of c at ∷ c.points) refl m ns v.variable ls))
 
@@ -226,6 +233,7 @@ module _ (area : Area) (pool : IsPool area.pool) (s : branch.State) (at : ℕ) (
         safe = tried_safe equal e;
         leads = stays_at at equal;
         opened = λ w i. opens w o kept i;
+        some = λ w i. has_values w o kept i;
         falls = tried_falls equal;
         runs = tried_runs equal (marked_equates s o x z s' equal e);
       }
@@ -264,6 +272,7 @@ module _ (area : Area) (s : branch.State) (at : ℕ) (c : Contents) (safe : IsSa
     tried.kept,
     tried.below,
     tried.opened,
+    tried.some,
     λ prog q ls n k es r runnable m. (
         let pair = safe.sound.now in
         let all : numbers_left v ≡ values_of s i = left ∙ filter_from_low 0 0 INFINITY vs rising (omega arith) ∙ e in

@@ -5,29 +5,28 @@ use Rattle.fd_model.specs.Goal as model
 use Rattle.fd_model.specs.Goal.{Program, Query, Event}
 use Rattle.fd_model.specs.Sound.{IsRunnableProgram}
 use Rattle.machine_relation.specs.Ahead.{Spends}
-use Rattle.machine_events.specs.declared.MachineEvent.TheVariants as event
-use Rattle.machine_events.specs.Events.{event_of, ShowsTerms}
 use Rattle.branch_state.specs.States as branch
 use Rattle.wam_code.specs.Area.{Area}
-use Rattle.code_areas.specs.Areas.{Contents}
+use Rattle.code_areas.specs.Areas.{IsSet, Contents}
 use Rattle.code_steps.specs.Running.{Left}
 use Rattle.code_states.specs.Safety.{IsSafe, IsSafeBack}
 use Rattle.code_states.specs.Stages.{Task, Future, RunsAt, ReturnsTo}
 use Rattle.code_goals.specs.declared.next.Next.{Next}
 use Rattle.code_goals.specs.declared.next.Next.TheVariants.{On, Back, Fault, Write, Newline}
 use Rattle.code_goals.specs.Tasks.{task_of}
+use Rattle.code_goals.specs.Written.{first_written}
 
 -- on where a goal holds, and else back
 abbrev pub next_by : ℕ → Bool → Next
 next_by at true = On (suc at)
 next_by at false = Back
 
--- what the machine does next is safe
+-- What the machine does next is safe. What it writes is in the first register.
 abbrev pub IsSafeNext : Area → branch.State → Contents → Next → Type 0
 IsSafeNext area s c (On to) = IsSafe area s to 0 c
 IsSafeNext area s c Back = IsSafeBack area s c
 IsSafeNext area s c (Fault f) = Unit {0}
-IsSafeNext area s c (Write to x) = IsSafe area s to 0 c × ShowsTerms 1 x
+IsSafeNext area s c (Write to) = IsSafe area s to 0 c × IsSet c.registers 1
 IsSafeNext area s c (Newline to) = IsSafe area s to 0 c
 
 -- it goes on at the next place, if it goes on
@@ -35,7 +34,7 @@ abbrev pub LeadsNext : ℕ → Next → Type 0
 LeadsNext at (On to) = to ≡ suc at
 LeadsNext at Back = Unit {0}
 LeadsNext at (Fault f) = Unit {0}
-LeadsNext at (Write to x) = to ≡ suc at
+LeadsNext at (Write to) = to ≡ suc at
 LeadsNext at (Newline to) = to ≡ suc at
 
 -- One reduction is spent, these events are said, and then the rest is to come.
@@ -47,7 +46,7 @@ abbrev pub RunsNext : Area → Task → branch.State → Contents → List Left 
 RunsNext area t s c ls n k es r (On to) = SpendsTo (RunsAt area t s to c ls) [] n k es r
 RunsNext area t s c ls n k es r Back = SpendsTo (ReturnsTo area t s c ls) [] n k es r
 RunsNext area t s c ls n k es r (Fault f) = (es ≡ model.Fault f ∷ []) × (r ≡ 1)
-RunsNext area t s c ls n k es r (Write to x) = SpendsTo (RunsAt area t s to c ls) (event_of [] (event.Write x) ∷ []) n k es r
+RunsNext area t s c ls n k es r (Write to) = SpendsTo (RunsAt area t s to c ls) (model.Wrote (first_written area s c) ∷ []) n k es r
 RunsNext area t s c ls n k es r (Newline to) = SpendsTo (RunsAt area t s to c ls) (model.Newline ∷ []) n k es r
 
 -- Whatever was still to come at a place, where a reduction is left: the goal in front is taken.

@@ -28,6 +28,10 @@ use Rattle.code_goals.specs.Taking.{IsSafeNext, LeadsNext, RunsNext, SpendsTo, T
 abbrev pub numbers_left : ValuesLeft → List ℕ
 numbers_left v = filter (λ k. nat_le v.from k) v.values
 
+-- there are some
+abbrev pub HasValues : ValuesLeft → Type 0
+HasValues v = 0 < length (numbers_left v)
+
 -- a variable of the heap that is open
 abbrev pub IsOpenAt : Cells → ℕ → Type 0
 IsOpenAt h i = (name : Naming) × (term_of name h (cell.Ref i) ≡ Var i)
@@ -64,7 +68,7 @@ with_mark s (Some v) = with_pair s
 -- They are kept, if any is left.
 abbrev pub IsKept : ValuesLeft → Option ValuesLeft → Type 0
 IsKept v None = numbers_left v ≡ []
-IsKept v (Some w) = w ≡ v
+IsKept v (Some w) = (w ≡ v) × HasValues v
 
 -- in a new choice point
 pub record KeepsValues (s : branch.State) (at : ℕ) (c : Contents) (v : ValuesLeft) (s' : branch.State) (c' : Contents) (o : Option ValuesLeft) : Type 0 where
@@ -96,6 +100,7 @@ pub record IsTried (area : Area) (s : branch.State) (at : ℕ) (c : Contents) (v
   pub safe : IsSafeThen area s' c' t.went
   pub leads : StaysAt at t.went
   pub opened : (w : ValuesLeft) → t.left ≡ Some w → IsOpen area s.heaps.now w
+  pub some : (w : ValuesLeft) → t.left ≡ Some w → HasValues w
   pub falls : (ls : List Left) → work_left area c' t.went (lefts_of at t.left ++ ls) < work_left area (pointed c at) Back (left_of at v ∷ ls)
   pub runs : (prog : Program) (q : Query) (ls : List Left) (f : Future) → ReturnsTo area (task_of area prog q) (with_pair s) (pointed c at) (left_of at v ∷ ls) f
       → RunsWent area (task_of area prog q) s' c' (lefts_of at t.left ++ ls) t.went f
@@ -112,6 +117,7 @@ abbrev pub Labels : Area → branch.State → ℕ → Contents → branch.State 
 Labels area s at c s' c' (Took x) = (s' ≡ s) × (c' ≡ c) × TakesBy area s at c (λ t ls n k es r. RunsNext area t s c ls n k es r x)
 Labels area s at c s' c' (Tries t) =
     (c' ≡ with_point c at t.left) × IsSameBelow (with_mark s t.left) s' × ((w : ValuesLeft) → t.left ≡ Some w → IsOpen area s.heaps.now w)
+    × ((w : ValuesLeft) → t.left ≡ Some w → HasValues w)
     × TakesBy area s at c (λ task ls n k es r. SpendsTo (RunsWent area task s' c' (lefts_of at t.left ++ ls) t.went) [] n k es r)
 
 -- Where nothing is tried, the machine goes on at the next place, if it goes on, and else it stays at the same one.

@@ -1,11 +1,14 @@
-//! What an answer shows.
+//! What an answer shows, and what a goal writes.
 ghost use Rattle.std.specs.Prelude.{◌≡◌, ◌<◌, length, IfOk, OnOk};
 ghost use Rattle.wam_code.specs.declared.instruction.Code.TheVariants as step;
 ghost use Rattle.wam_code.specs.Area.{Span, Holds, HasQuery};
 ghost use Rattle.code_states.specs.Queries.{IsInQuery};
+ghost use Rattle.code_areas.specs.Areas.{IsSet};
 ghost use Rattle.code_states.specs.Safety.{IsSafe};
 ghost use Rattle.code_goals.specs.Answers.{AreSlots, HasFirstSlots, ShowsAnswer};
+ghost use Rattle.code_goals.specs.Written.{ShowsWritten};
 
+use crate::next::pool_of;
 use branch_state::BranchState;
 use code_areas::Areas;
 use fd_language::NoMemory;
@@ -51,4 +54,19 @@ pub fn show_answer<A: Agenda + Drop>(
 {
     let cells = slot_cells(alloc, areas, shown_count(code, query))?;
     branch.show(code.pool(), &cells)
+}
+
+/// The term that a goal writes which leads to the place: that of the first register. The error is want of memory.
+pub fn show_written<A: Agenda + Drop>(
+    code: &CodeArea,
+    to: usize,
+    branch: &BranchState<A>,
+    areas: &Areas,
+) -> Result<Shown, NoMemory>
+    requires safe { IsSafe code.now branch.now to 0 areas.now }
+    requires first { IsSet areas.now.registers 1 }
+    ensures { IfOk result (ShowsWritten code.now branch.now areas.now) }
+{
+    let cell = areas.register(1);
+    branch.show(pool_of(code), &[cell])
 }

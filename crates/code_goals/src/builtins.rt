@@ -46,24 +46,6 @@ fn take_unify<A: Agenda + Drop>(
     Ok(next_if(code, at, equal))
 }
 
-/// Takes `write(T)`, as `take_builtin` does.
-fn take_write<A: Agenda + Drop>(
-    code: &CodeArea,
-    at: usize,
-    branch: &BranchState<A>,
-    areas: &Areas,
-) -> Result<Next, NoMemory>
-    requires safe { IsSafe code.now branch.now at 0 areas.now }
-    requires holds { Holds code.now at (step.Builtin kinds.Write) }
-    ensures safe { IfOk result (IsSafeNext code.now branch.now areas.now) }
-    ensures takes { IfOk result (Takes code.now branch.now at areas.now branch.now) }
-    ensures leads { IfOk result (LeadsNext at) }
-{
-    let cell = areas.register(1);
-    let shown = branch.show(pool_of(code), &[cell])?;
-    Ok(Next::Write(behind(code, at), shown))
-}
-
 /// Whether a goal that is found has one argument.
 fn has_one(kind: BuiltinKind) -> bool
     ensures { result ≡ has_one_argument kind }
@@ -188,7 +170,7 @@ pub fn take_builtin<A: Agenda + Drop>(
         BuiltinKind::Fail | BuiltinKind::False => Ok(Next::Back),
         BuiltinKind::Nl => Ok(Next::Newline(behind(code, at))),
         BuiltinKind::Unify => take_unify(code, at, branch, areas, touches),
-        BuiltinKind::Write => take_write(code, at, branch, areas),
+        BuiltinKind::Write => Ok(Next::Write(behind(code, at))),
         _ => take_found(code, at, kind, branch, areas, touches),
     }
 }

@@ -1,4 +1,4 @@
-//! The goals of the language as instructions of a machine over code, and what an answer shows.
+//! The goals of the language as instructions of a machine over code, what an answer shows and what a goal writes.
 #![tactic(auto)]
 
 mod answers;
@@ -8,7 +8,7 @@ mod labels;
 mod next;
 mod ranges;
 
-pub use crate::answers::show_answer;
+pub use crate::answers::{show_answer, show_written};
 pub use crate::builtins::take_builtin;
 pub use crate::constraints::take_constraint;
 pub use crate::labels::{Labelled, Tried, ValuesLeft, take_label, try_value};

@@ -5,12 +5,11 @@ ghost use Rattle.code_goals.specs.Taking.{next_by};
 
 use code_states::behind;
 use fd_model::kinds::QueryFault;
-use machine_events::Shown;
 use term_pool::Pool;
 use wam_code::CodeArea;
 
 /// What a machine does next, where it has taken a goal.
-#[derive(Drop)]
+#[derive(Clone, Copy)]
 pub enum Next {
     /// It goes on at the place.
     On(usize),
@@ -18,8 +17,8 @@ pub enum Next {
     Back,
     /// The query ends with a fault.
     Fault(QueryFault),
-    /// It writes the one term that is shown, and goes on at the place.
-    Write(usize, Shown),
+    /// It writes the term of the first register, and goes on at the place. `show_written` shows the term.
+    Write(usize),
     /// It ends a line, and goes on at the place.
     Newline(usize),
 }

@@ -1,5 +1,5 @@
 -- Steps of a machine, and runs of steps up to an event.
-use Rattle.std.proofs.Common.{◌≡◌, ℕ, zero, suc, ◌+◌, ◌*◌, ◌<◌, ◌≤◌, Bool, true, false, cond, List, [], ◌∷◌, length, map, slice_get, slice_index_or, Option, Some, None, refl, ap, sym, ◌∙◌, subst, inl, inr, arith, ne_eqb}
+use Rattle.std.proofs.Common.{◌≡◌, ℕ, zero, suc, ◌+◌, ◌*◌, ◌<◌, ◌≤◌, Bool, true, false, cond, List, [], ◌∷◌, length, map, slice_get, slice_index_or, Option, Some, None, Result, Ok, Err, IfOk, refl, ap, sym, ◌∙◌, subst, inl, inr, arith, ne_eqb}
 use Rattle.std.proofs.lemmas.Bool.{true≢false}
 use Rattle.fd_model.specs.Goal as model
 use Rattle.fd_model.specs.Goal.{Program, Query, Event}
@@ -29,17 +29,20 @@ use Rattle.code_goals.specs.declared.next.Next.TheVariants as next
 use Rattle.code_goals.specs.Answers.{IsAsked, ShowsAnswer}
 use Rattle.code_goals.specs.Taking.{IsSafeNext, RunsNext}
 use Rattle.code_goals.specs.Tasks.{task_of}
+use Rattle.code_goals.specs.Written.{first_written}
 use Rattle.code_goals.specs.Values.{RunsWent}
 use Rattle.code_machine.specs.declared.run.Ending.{Ending}
 use Rattle.code_machine.specs.declared.run.Ending.TheVariants as ending
 use Rattle.code_machine.specs.declared.run.Label.{Label}
 use Rattle.code_machine.specs.declared.run.Run.{Run}
+use Rattle.code_machine.specs.declared.run.Saying.{Saying}
+use Rattle.code_machine.specs.declared.run.Saying.TheVariants as word
 use Rattle.code_machine.specs.declared.run.Stage.{Stage}
 use Rattle.code_machine.specs.declared.run.Stage.TheVariants.{Going, Returning, Ended}
 use Rattle.code_machine.specs.Instructions.{HasGoal}
 use Rattle.code_machine.specs.Labels.{lefts_by, labels_work, AreLabels, whole_at, whole_back}
-use Rattle.code_machine.specs.States.{State, state_of, state_within, names_in, names_of, no_limits, no_span, IsTask, last_event, StandsBy, StandsFor, most, left, left_at, IsEndedBy, IsReadyAt, PointsEndIn, IsInside, IsMachine, IsSame, IsPaced, Allows, ComesOf, IsQuiet, Says, IsStep, StillRuns, AreCounted, IsWithin, IsOfGoal, counted, behind_answer, one_fewer}
-use Rattle.code_machine.specs.Steps.{Keeps, Leaves, LeavesThen, Moves, Spends, ComesBack, NoMore, next_work, stage_of, stage_next, event_next}
+use Rattle.code_machine.specs.States.{State, state_of, state_within, names_in, names_of, no_limits, no_span, IsTask, last_event, StandsBy, StandsFor, most, left, left_at, IsEndedBy, IsReadyAt, PointsEndIn, IsInside, IsMachine, IsSame, IsPaced, Allows, ComesOf, IsQuiet, Says, IsEvent, Tells, IsStep, StillRuns, AreCounted, IsWithin, IsOfGoal, counted, behind_answer, one_fewer}
+use Rattle.code_machine.specs.Steps.{Keeps, Leaves, LeavesThen, Moves, Spends, ComesBack, NoMore, next_work, stage_of, stage_next, saying_next}
 use Rattle.code_machine.proofs.Labelling.{labels_more, lefts_more, no_newest}
 
 -- a machine for which memory wasn't wanting
@@ -103,6 +106,10 @@ ends_says old e s' c' ls' n' k' spent' paced limit ended stops =
       limit = allows_end e old.limit k' limit;
       comes = comes_of_end new e ended;
     }
+
+-- and tells it
+pub told_end : (old new : State) (f : Ending) → Says old (last_event f) new → Tells old (word.Ended f) new
+told_end old new f h = record { shows = tt; says = λ e is. subst (λ y. Says old y new) (sym is) h }
 
 -- ---- a step that says nothing
 
@@ -235,14 +242,14 @@ abbrev pub NeedsGoal : Area → Next → Type 0
 NeedsGoal area (next.On to) = Unit {0}
 NeedsGoal area next.Back = Unit {0}
 NeedsGoal area (next.Fault f) = HasGoal area
-NeedsGoal area (next.Write to x) = HasGoal area
+NeedsGoal area (next.Write to) = HasGoal area
 NeedsGoal area (next.Newline to) = HasGoal area
 
 pub needed_goal : (area : Area) (x : Next) → HasGoal area → NeedsGoal area x
 needed_goal area (next.On to) g = tt
 needed_goal area next.Back g = tt
 needed_goal area (next.Fault f) g = g
-needed_goal area (next.Write to x) g = g
+needed_goal area (next.Write to) g = g
 needed_goal area (next.Newline to) g = g
 
 module _ (area : Area) (query : ℕ) (s s' : branch.State) (at : ℕ) (c c' : Contents) (ls ls' : List Label) (n : ℕ) (k : Option ℕ) (spent : ℕ) (x : Next) (spends : Spends area s at c ls s' c' ls' x) (goal : NeedsGoal area x) (m : IsMachine (seen area query s c ls (Going at) (suc n) k spent)) where
@@ -256,7 +263,7 @@ module _ (area : Area) (query : ℕ) (s s' : branch.State) (at : ℕ) (c c' : Co
   ready_next (next.On to) safe g = (safe, spends.labels, m.ready.2)
   ready_next next.Back safe g = (safe, spends.labels, m.ready.2)
   ready_next (next.Fault f) safe g = g
-  ready_next (next.Write to y) safe g = (safe.0, spends.labels, m.ready.2)
+  ready_next (next.Write to) safe g = (safe.0, spends.labels, m.ready.2)
   ready_next (next.Newline to) safe g = (safe, spends.labels, m.ready.2)
 
   pub spent_machine : IsMachine (after (stage_next x))
@@ -339,14 +346,22 @@ module _ (area : Area) (query : ℕ) (s s' : branch.State) (at : ℕ) (c c' : Co
     comes = comes;
   }
 
-  next_step : (y : Next) → IsSafeNext area s' c' y → NeedsGoal area y → next_work area c' ls' y ≤ most area * suc (whole_at area at c ls) → Told y → IsStep before (event_next y) (after (stage_next y))
+  next_step : (y : Next) → IsSafeNext area s' c' y → NeedsGoal area y → next_work area c' ls' y ≤ most area * suc (whole_at area at c ls) → Told y → IsStep before (saying_next y) (after (stage_next y))
   next_step (next.On to) safe g l told = quiet_by to l told
   next_step next.Back safe g l told = gone_by l told
-  next_step (next.Fault f) safe g l told = ends_says before (ending.Fault f) s' c' ls' n k (spent + 1) one_spent refl g (λ es total h. (let w = told h.program h.query h.task es h.later h.stands in (w.0, (let a = h.all in let j = w.1 in omega (arith, a, j)))))
-  next_step (next.Write to y) safe g l told = saying to (event.Write y) (event_of [] (event.Write y)) (λ names. refl) refl (λ later. refl) safe.1 (λ j. refl) g l told
-  next_step (next.Newline to) safe g l told = saying to event.Newline model.Newline (λ names. refl) refl (λ later. refl) tt (λ j. refl) g l told
+  next_step (next.Fault f) safe g l told = told_end before (after (Ended (ending.Fault f))) (ending.Fault f) (ends_says before (ending.Fault f) s' c' ls' n k (spent + 1) one_spent refl g (λ es total h. (let w = told h.program h.query h.task es h.later h.stands in (w.0, (let a = h.all in let j = w.1 in omega (arith, a, j))))))
+  next_step (next.Write to) safe g l told = record {
+    shows = safe;
+    says = λ e is.
+        subst (λ y. Says before y (after (Going to))) (sym is.2)
+        (saying to (event.Write is.0) (model.Wrote (first_written area s' c')) (λ names. ap model.Wrote is.1.text) refl (λ later. refl) is.1.one (λ j. refl) g l told);
+  }
+  next_step (next.Newline to) safe g l told = record {
+    shows = tt;
+    says = λ e is. subst (λ y. Says before y (after (Going to))) (sym is) (saying to event.Newline model.Newline (λ names. refl) refl (λ later. refl) tt (λ j. refl) g l told);
+  }
 
-  pub spent_step : IsStep before (event_next x) (after (stage_next x))
+  pub spent_step : IsStep before (saying_next x) (after (stage_next x))
   spent_step = next_step x spends.safe goal spends.work (λ prog q task es r runs. spends.runs query prog q task n k es r runs)
 
 -- ---- an end that takes no reduction
@@ -396,33 +411,9 @@ fewer_left j = ap Some (omega arith)
 map_long : (area : Area) (p : Span) → length (map (name_of area) p.names) ≡ length p.names
 map_long area p = Rattle.std.proofs.lemmas.List.length-map p.names (name_of area)
 
-module _ (area : Area) (query : ℕ) (s : branch.State) (at : ℕ) (c : Contents) (ls : List Label) (n : ℕ) (spent : ℕ) (x : Shown) (shows : ShowsAnswer area s at c query x) where
+module _ (area : Area) (query : ℕ) (s : branch.State) (at : ℕ) (c : Contents) (ls : List Label) (n : ℕ) (spent : ℕ) where
   abbrev asked_at : Option ℕ → State
   asked_at k = seen area query s c ls (Going at) n k spent
-
-  abbrev line : List ℕ
-  line = shown_line (names_in area query) x
-
-  -- what is to come behind the answer
-  abbrev TellsAt : Option ℕ → Stage → Option ℕ → Type 0
-  TellsAt k st k' =
-      (prog : Program) (q : Query) → IsTask area query prog q → (es : List Event) (r : ℕ) → RunsAt area (task_of area prog q) s at c (lefts_by c.points ls) (record { budget = n; answers = k; events = es; reductions = r })
-      → (later : List Event) × (es ≡ model.Answer line ∷ later) × StandsBy area (task_of area prog q) s c (lefts_by c.points ls) st n k' later r
-
-  named : (q : Query) → IsAsked area query q → (es later : List Event) → es ≡ model.Answer (shown_line q.names x) ∷ later → es ≡ model.Answer line ∷ later
-  named q asked es later e = e ∙ ap (λ ns. model.Answer (shown_line ns x) ∷ later) (sym (names_asked area query q asked))
-
-  tells : (k : Option ℕ) → IsLimit k → TellsAt k (behind_answer k) (one_fewer k)
-  tells None l prog q task es r m = (let t = shows.any prog q (lefts_by c.points ls) n es r task.asked m in (t.0, named q task.asked es t.0 t.1, t.2))
-  tells (Some zero) l prog q task es r m = absurd l
-  tells (Some (suc zero)) l prog q task es r m = (let t = shows.last prog q (lefts_by c.points ls) n es r task.asked m in (model.Limit ∷ [], named q task.asked es (model.Limit ∷ []) t.0, (refl, t.1)))
-  tells (Some (suc (suc j))) l prog q task es r m =
-      let t = shows.fewer prog q (lefts_by c.points ls) n j es r task.asked m in (
-        t.0,
-        named q task.asked es t.0 t.1,
-        subst (λ st. StandsBy area (task_of area prog q) s c (lefts_by c.points ls) st n (one_fewer (Some (suc (suc j)))) t.0 r) (sym (goes_back j))
-            (subst (λ k'. StandsBy area (task_of area prog q) s c (lefts_by c.points ls) Returning n k' t.0 r) (sym (fewer_left j)) t.2),
-      )
 
   less : left_at area c ls n Returning < left_at area c ls n (Going at)
   less =
@@ -435,11 +426,6 @@ module _ (area : Area) (query : ℕ) (s : branch.State) (at : ℕ) (c : Contents
   less_by (Some zero) = less
   less_by (Some (suc zero)) = omega arith
   less_by (Some (suc (suc j))) = subst (λ st. left_at area c ls n st < left_at area c ls n (Going at)) (sym (goes_back j)) less
-
-  allowed : (k : Option ℕ) → IsLimit k → Allows (event.Answer x) k (one_fewer k)
-  allowed None l = refl
-  allowed (Some zero) l = absurd l
-  allowed (Some (suc j)) l = (j, refl, ap Some (omega arith))
 
   back_ready : IsSafe area s at 0 c → IsSafeBack area s c
   back_ready safe = record {
@@ -465,26 +451,56 @@ module _ (area : Area) (query : ℕ) (s : branch.State) (at : ℕ) (c : Contents
   inside_by (Some (suc zero)) i = tt
   inside_by (Some (suc (suc j))) i = subst (IsInside area query c) (sym (goes_back j)) i.1
 
-  module _ (k : Option ℕ) (m : IsMachine (asked_at k)) (span : Span) (has : HasQuery area query span) where
-    abbrev told_at : State
-    told_at = seen area query s c ls (behind_answer k) n (one_fewer k) spent
+  abbrev told_at : Option ℕ → State
+  told_at k = seen area query s c ls (behind_answer k) n (one_fewer k) spent
 
-    pub answer_machine : IsMachine told_at
-    answer_machine = record { query = m.query; ready = ready_by k m.ready; inside = inside_by k m.inside; steps = m.steps }
+  pub answer_machine : (k : Option ℕ) → IsMachine (asked_at k) → IsMachine (told_at k)
+  answer_machine k m = record { query = m.query; ready = ready_by k m.ready; inside = inside_by k m.inside; steps = m.steps }
 
-    pub answer_says : Says (asked_at k) (event.Answer x) told_at
-    answer_says = record {
-      next = λ es total h.
-          (let t = tells k m.ready.2 h.program h.query h.task es h.later h.stands in
-          (t.0, t.1, record { program = h.program; query = h.query; task = h.task; later = h.later; all = h.all; stands = t.2 }));
-      last = λ f es total h. absurd (true≢false (sym f));
-      falls = λ f. less_by k;
-      ends = λ f. absurd (true≢false (sym f));
-      shown = subst (λ j. Rattle.machine_events.specs.Events.ShowsTerms j x) (sym (map_long area (slice_index_or area.queries query no_span) ∙ ap (λ (p : Span). length p.names) (span_is area.queries query span has))) (shows.terms span has);
-      paced = refl;
-      limit = allowed k m.ready.2;
-      comes = tt;
-    }
+  module _ (x : Shown) (shows : ShowsAnswer area s at c query x) where
+    abbrev line : List ℕ
+    line = shown_line (names_in area query) x
+
+    -- what is to come behind the answer
+    abbrev TellsAt : Option ℕ → Stage → Option ℕ → Type 0
+    TellsAt k st k' =
+        (prog : Program) (q : Query) → IsTask area query prog q → (es : List Event) (r : ℕ) → RunsAt area (task_of area prog q) s at c (lefts_by c.points ls) (record { budget = n; answers = k; events = es; reductions = r })
+        → (later : List Event) × (es ≡ model.Answer line ∷ later) × StandsBy area (task_of area prog q) s c (lefts_by c.points ls) st n k' later r
+
+    named : (q : Query) → IsAsked area query q → (es later : List Event) → es ≡ model.Answer (shown_line q.names x) ∷ later → es ≡ model.Answer line ∷ later
+    named q asked es later e = e ∙ ap (λ ns. model.Answer (shown_line ns x) ∷ later) (sym (names_asked area query q asked))
+
+    tells : (k : Option ℕ) → IsLimit k → TellsAt k (behind_answer k) (one_fewer k)
+    tells None l prog q task es r m = (let t = shows.any prog q (lefts_by c.points ls) n es r task.asked m in (t.0, named q task.asked es t.0 t.1, t.2))
+    tells (Some zero) l prog q task es r m = absurd l
+    tells (Some (suc zero)) l prog q task es r m = (let t = shows.last prog q (lefts_by c.points ls) n es r task.asked m in (model.Limit ∷ [], named q task.asked es (model.Limit ∷ []) t.0, (refl, t.1)))
+    tells (Some (suc (suc j))) l prog q task es r m =
+        let t = shows.fewer prog q (lefts_by c.points ls) n j es r task.asked m in (
+          t.0,
+          named q task.asked es t.0 t.1,
+          subst (λ st. StandsBy area (task_of area prog q) s c (lefts_by c.points ls) st n (one_fewer (Some (suc (suc j)))) t.0 r) (sym (goes_back j))
+              (subst (λ k'. StandsBy area (task_of area prog q) s c (lefts_by c.points ls) Returning n k' t.0 r) (sym (fewer_left j)) t.2),
+        )
+
+    allowed : (k : Option ℕ) → IsLimit k → Allows (event.Answer x) k (one_fewer k)
+    allowed None l = refl
+    allowed (Some zero) l = absurd l
+    allowed (Some (suc j)) l = (j, refl, ap Some (omega arith))
+
+    module _ (k : Option ℕ) (m : IsMachine (asked_at k)) (span : Span) (has : HasQuery area query span) where
+      pub answer_says : Says (asked_at k) (event.Answer x) (told_at k)
+      answer_says = record {
+        next = λ es total h.
+            (let t = tells k m.ready.2 h.program h.query h.task es h.later h.stands in
+            (t.0, t.1, record { program = h.program; query = h.query; task = h.task; later = h.later; all = h.all; stands = t.2 }));
+        last = λ f es total h. absurd (true≢false (sym f));
+        falls = λ f. less_by k;
+        ends = λ f. absurd (true≢false (sym f));
+        shown = subst (λ j. Rattle.machine_events.specs.Events.ShowsTerms j x) (sym (map_long area (slice_index_or area.queries query no_span) ∙ ap (λ (p : Span). length p.names) (span_is area.queries query span has))) (shows.terms span has);
+        paced = refl;
+        limit = allowed k m.ready.2;
+        comes = tt;
+      }
 
 -- ---- runs of steps
 
@@ -535,6 +551,11 @@ says_from old s new e k h =
       limit = subst (λ j. Allows e j new.limit) k.limit h.limit;
       comes = h.comes;
     }
+
+-- so is the event that is made then
+pub told_from : {E : Type 0} (old s new : State) (w : Saying) → StillRuns old s → Tells s w new → (r : Result MachineEvent E) → IfOk r (IsEvent new w) → IfOk r (λ e. Says old e new)
+told_from old s new w k h (Ok e) is = says_from old s new e k (h.says e is)
+told_from old s new w k h (Err x) is = tt
 
 -- at the end all was spent
 total_at : (s : State) (st : Stage) → s.stage ≡ st → left_at s.area s.areas s.labels s.budget st ≡ 0 → (es : List Event) (total : ℕ) → StandsFor s es total → total ≡ s.spent

@@ -1,7 +1,6 @@
 -- The steps by the stages that they begin and end at.
 use Rattle.std.proofs.Common.{◌≡◌, ℕ, zero, suc, ◌+◌, ◌-◌, ◌<◌, List, [], ◌∷◌, length, Option, refl, sym, subst, arith}
 use Rattle.term_pool.proofs.Names.{slice_get_found}
-use Rattle.machine_events.specs.declared.MachineEvent.{MachineEvent}
 use Rattle.machine_events.specs.declared.MachineEvent.TheVariants as event
 use Rattle.machine_events.specs.declared.Shown.{Shown}
 use Rattle.branch_state.specs.States as branch
@@ -20,12 +19,14 @@ use Rattle.code_goals.specs.Answers.{ShowsAnswer}
 use Rattle.code_machine.specs.declared.run.Ending.{Ending}
 use Rattle.code_machine.specs.declared.run.Ending.TheVariants as ending
 use Rattle.code_machine.specs.declared.run.Label.{Label}
+use Rattle.code_machine.specs.declared.run.Saying.{Saying}
+use Rattle.code_machine.specs.declared.run.Saying.TheVariants as saying
 use Rattle.code_machine.specs.declared.run.Stage.{Stage}
 use Rattle.code_machine.specs.declared.run.Stage.TheVariants.{Going, Returning, Ended}
-use Rattle.code_machine.specs.States.{State, last_event, IsMachine, IsQuiet, IsStep, Says, behind_answer, one_fewer}
+use Rattle.code_machine.specs.States.{State, last_event, IsMachine, IsQuiet, IsStep, Says, Tells, behind_answer, one_fewer}
 use Rattle.code_machine.specs.Instructions.{IsCall, IsGoal}
-use Rattle.code_machine.specs.Steps.{Spends, ComesBack, stage_of, stage_next, event_next}
-use Rattle.code_machine.proofs.Running.{seen, NeedsGoal, back_machine, back_quiet, spent_machine, spent_step, budget_says, none_says, ended_says, answer_machine, answer_says}
+use Rattle.code_machine.specs.Steps.{Spends, ComesBack, stage_of, stage_next, saying_next}
+use Rattle.code_machine.proofs.Running.{seen, NeedsGoal, back_machine, back_quiet, spent_machine, spent_step, told_end, budget_says, none_says, ended_says, answer_machine, answer_says}
 
 -- a goal takes one of those still to come
 pub goal_takes : (i : Code) → IsGoal i → TakesGoal i
@@ -74,7 +75,7 @@ module _ (area : Area) (query : ℕ) (s : branch.State) (c : Contents) (ls : Lis
         pub spends_machine : IsMachine (seen area query s' c' ls' st' (n - 1) k (spent + 1))
         spends_machine = subst (λ y. IsMachine (seen area query s' c' ls' y (n - 1) k (spent + 1))) (sym is') (spent_machine area query s s' at c c' ls ls' (n - 1) k spent x spends goal before)
 
-        pub spends_step : (o : Option MachineEvent) → o ≡ event_next x → IsStep old o (seen area query s' c' ls' st' (n - 1) k (spent + 1))
+        pub spends_step : (o : Option Saying) → o ≡ saying_next x → IsStep old o (seen area query s' c' ls' st' (n - 1) k (spent + 1))
         spends_step o said =
             subst (λ y. IsStep (seen area query s c ls y n k spent) o (seen area query s' c' ls' st' (n - 1) k (spent + 1))) (sym is)
             (subst (λ j. IsStep (seen area query s c ls (Going at) j k spent) o (seen area query s' c' ls' st' (n - 1) k (spent + 1))) (sym one_less)
@@ -83,28 +84,11 @@ module _ (area : Area) (query : ℕ) (s : branch.State) (c : Contents) (ls : Lis
             (spent_step area query s s' at c c' ls ls' (n - 1) k spent x spends goal before))))
 
     -- no reduction is left for it
-    pub no_budget : (i : Code) → Holds area at i → TakesGoal i → n ≡ 0 → Says old event.Budget (seen area query s c ls (Ended ending.Budget) n k spent)
-    no_budget i holds takes none =
+    pub no_budget : (i : Code) → Holds area at i → TakesGoal i → n ≡ 0 → Tells old (saying.Ended ending.Budget) (seen area query s c ls (Ended ending.Budget) n k spent)
+    no_budget i holds takes none = told_end old (seen area query s c ls (Ended ending.Budget) n k spent) ending.Budget (
         subst (λ y. Says (seen area query s c ls y n k spent) event.Budget (seen area query s c ls (Ended ending.Budget) n k spent)) (sym is)
         (subst (λ j. Says (seen area query s c ls (Going at) j k spent) event.Budget (seen area query s c ls (Ended ending.Budget) j k spent)) (sym none)
-        (budget_says area query s c ls k spent at i takes holds (subst (λ j. IsMachine (seen area query s c ls (Going at) j k spent)) none going)))
-
-    -- an answer
-    module _ (x : Shown) (shows : ShowsAnswer area s at c query x) (st' : Stage) (is' : st' ≡ behind_answer k) (k' : Option ℕ) (limit : k' ≡ one_fewer k) where
-      query_there : (span : Span) × HasQuery area query span
-      query_there = slice_get_found area.queries query m.query
-
-      pub answers_machine : IsMachine (seen area query s c ls st' n k' spent)
-      answers_machine =
-          subst (λ y. IsMachine (seen area query s c ls y n k' spent)) (sym is')
-          (subst (λ j. IsMachine (seen area query s c ls (behind_answer k) n j spent)) (sym limit) (answer_machine area query s at c ls n spent x shows k going query_there.0 query_there.1))
-
-      pub answers_says : Says old (event.Answer x) (seen area query s c ls st' n k' spent)
-      answers_says =
-          subst (λ y. Says (seen area query s c ls y n k spent) (event.Answer x) (seen area query s c ls st' n k' spent)) (sym is)
-          (subst (λ y. Says (seen area query s c ls (Going at) n k spent) (event.Answer x) (seen area query s c ls y n k' spent)) (sym is')
-          (subst (λ j. Says (seen area query s c ls (Going at) n k spent) (event.Answer x) (seen area query s c ls (behind_answer k) n j spent)) (sym limit)
-          (answer_says area query s at c ls n spent x shows k going query_there.0 query_there.1)))
+        (budget_says area query s c ls k spent at i takes holds (subst (λ j. IsMachine (seen area query s c ls (Going at) j k spent)) none going))))
 
     -- An answer comes at a place of the run's query: no call is to return there, since no code outside of all queries answers.
     pub answer_inside : Holds area at step.AnswerNow → IsInQuery area query at
@@ -113,6 +97,29 @@ module _ (area : Area) (query : ℕ) (s : branch.State) (c : Contents) (ls : Lis
         by : (rs : List Return) → AreBehind area at rs → EndsIn area query at rs → IsInQuery area query at
         by [] behind ends = ends
         by (r ∷ rs) behind ends = absurd (no_answer_outside area going_safe.states going_safe.verified at behind.0 holds)
+
+    -- an answer
+    module _ (st' : Stage) (is' : st' ≡ behind_answer k) (k' : Option ℕ) (limit : k' ≡ one_fewer k) where
+      query_there : (span : Span) × HasQuery area query span
+      query_there = slice_get_found area.queries query m.query
+
+      pub answers_machine : IsMachine (seen area query s c ls st' n k' spent)
+      answers_machine =
+          subst (λ y. IsMachine (seen area query s c ls y n k' spent)) (sym is')
+          (subst (λ j. IsMachine (seen area query s c ls (behind_answer k) n j spent)) (sym limit) (answer_machine area query s at c ls n spent k going))
+
+      answers_says : (x : Shown) → ShowsAnswer area s at c query x → Says old (event.Answer x) (seen area query s c ls st' n k' spent)
+      answers_says x shows =
+          subst (λ y. Says (seen area query s c ls y n k spent) (event.Answer x) (seen area query s c ls st' n k' spent)) (sym is)
+          (subst (λ y. Says (seen area query s c ls (Going at) n k spent) (event.Answer x) (seen area query s c ls y n k' spent)) (sym is')
+          (subst (λ j. Says (seen area query s c ls (Going at) n k spent) (event.Answer x) (seen area query s c ls (behind_answer k) n j spent)) (sym limit)
+          (answer_says area query s at c ls n spent x shows k going query_there.0 query_there.1)))
+
+      pub answers_tells : Holds area at step.AnswerNow → Tells old (saying.Answer at) (seen area query s c ls st' n k' spent)
+      answers_tells holds = record {
+        shows = (going_safe, holds, answer_inside holds);
+        says = λ e is. subst (λ y. Says old y (seen area query s c ls st' n k' spent)) (sym is.2) (answers_says is.0 is.1);
+      }
 
   -- ---- on the way back
 
@@ -134,14 +141,15 @@ module _ (area : Area) (query : ℕ) (s : branch.State) (c : Contents) (ls : Lis
     no_points (p ∷ ps) e = absurd (omega (arith, e))
 
     -- no choice point is left
-    pub nothing_left : length c.points ≡ 0 → Says old event.End (seen area query s c ls (Ended ending.End) n k spent)
+    pub nothing_left : length c.points ≡ 0 → Tells old (saying.Ended ending.End) (seen area query s c ls (Ended ending.End) n k spent)
     nothing_left none =
-        subst (λ y. Says (seen area query s c ls y n k spent) event.End (seen area query s c ls (Ended ending.End) n k spent)) (sym is) (none_says area query s c ls k spent n (no_points c.points none))
+        told_end old (seen area query s c ls (Ended ending.End) n k spent) ending.End
+        (subst (λ y. Says (seen area query s c ls y n k spent) event.End (seen area query s c ls (Ended ending.End) n k spent)) (sym is) (none_says area query s c ls k spent n (no_points c.points none)))
 
   -- ---- at the end
 
   ended : (e : Ending) → st ≡ Ended e → IsMachine (seen area query s c ls (Ended e) n k spent)
   ended e is = subst (λ x. IsMachine (seen area query s c ls x n k spent)) is m
 
-  pub said_again : (e : Ending) → st ≡ Ended e → Says old (last_event e) old
-  said_again e is = subst (λ y. Says (seen area query s c ls y n k spent) (last_event e) (seen area query s c ls y n k spent)) (sym is) (ended_says area query s c ls k spent n e (ended e is).ready)
+  pub said_again : (e : Ending) → st ≡ Ended e → Tells old (saying.Ended e) old
+  said_again e is = told_end old old e (subst (λ y. Says (seen area query s c ls y n k spent) (last_event e) (seen area query s c ls y n k spent)) (sym is) (ended_says area query s c ls k spent n e (ended e is).ready))

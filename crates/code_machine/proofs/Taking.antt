@@ -77,7 +77,7 @@ module _ (area : Area) (s : branch.State) (at : ℕ) (c : Contents) (ls : List L
   goal_inside stays (next.On to) leads = on_inside stays to leads
   goal_inside stays next.Back leads = λ number i. i.1
   goal_inside stays (next.Fault f) leads = λ number i. tt
-  goal_inside stays (next.Write to x) leads = on_inside stays to leads
+  goal_inside stays (next.Write to) leads = on_inside stays to leads
   goal_inside stays (next.Newline to) leads = on_inside stays to leads
 
   -- a goal that leaves the areas as they are
@@ -148,7 +148,7 @@ module _ (area : Area) (s : branch.State) (at : ℕ) (c : Contents) (ls : List L
             went_next (task_of area prog q) s' c' (lefts_by c'.points new) n k es r t.went
             (subst (λ (a : Contents). SpendsTo (RunsWent area (task_of area prog q) s' c' (lefts_by a.points new) t.went) [] n k es r) (sym pointed)
             (subst (λ l. SpendsTo (RunsWent area (task_of area prog q) s' c' l t.went) [] n k es r) (sym (tried_lefts t.left))
-            (told.3 prog q (lefts_by c.points ls) n k es r task.ready.runnable m)));
+            (told.4 prog q (lefts_by c.points ls) n k es r task.ready.runnable m)));
         inside = λ number i. subst (IsInside area number c') (sym (stage_went t.went)) (subst (λ (a : Contents). IsInside area number a (stage_of t.went)) (sym pointed) (tried_inside t.left t.went leads number i));
         work = tried_most area at c ls new c' t.went
             (subst (λ (a : Contents). work_left area c' t.went (lefts_by a.points new) ≤ suc (suc INFINITY) * suc (whole_at area at c ls)) (sym pointed)

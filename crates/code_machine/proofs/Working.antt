@@ -87,7 +87,7 @@ module _ (area : Area) where
     next_most ls (next.On to) = goal_most ls to
     next_most ls next.Back = back_most ls
     next_most ls (next.Fault f) = omega arith
-    next_most ls (next.Write to x) = goal_most ls to
+    next_most ls (next.Write to) = goal_most ls to
     next_most ls (next.Newline to) = goal_most ls to
 
     -- ---- values of labellings

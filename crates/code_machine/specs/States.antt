@@ -10,6 +10,7 @@ use Rattle.machine_relation.specs.Next.{is_final, IsNext}
 use Rattle.machine_events.specs.declared.Limits.{Limits}
 use Rattle.machine_events.specs.declared.MachineEvent.{MachineEvent}
 use Rattle.machine_events.specs.declared.MachineEvent.TheVariants as event
+use Rattle.machine_events.specs.declared.Shown.{Shown}
 use Rattle.machine_events.specs.Events.{event_of, HasTerms}
 use Rattle.branch_state.specs.States as branch
 use Rattle.wam_code.specs.declared.instruction.Code.{Code}
@@ -17,21 +18,24 @@ use Rattle.wam_code.specs.declared.instruction.Code.TheVariants as step
 use Rattle.wam_code.specs.Area.{Area, Span, Holds, HasQuery, name_of}
 use Rattle.wam_code.specs.Ending.{weight}
 use Rattle.wam_code.specs.Tries.{IsQueryCode}
-use Rattle.code_areas.specs.Areas.{Point, Contents}
+use Rattle.code_areas.specs.Areas.{IsSet, Point, Contents}
 use Rattle.code_steps.specs.Running.{Left}
 use Rattle.code_states.specs.declared.went.Went.{Went}
-use Rattle.code_states.specs.Queries.{EndsIn}
+use Rattle.code_states.specs.Queries.{EndsIn, IsInQuery}
 use Rattle.code_states.specs.Safety.{IsSafe, IsSafeBack}
 use Rattle.code_states.specs.Stages.{Task, RunsAt, ReturnsTo, IsReadyToRun}
 use Rattle.code_states.specs.Standing.{IsNaming}
 use Rattle.code_states.specs.Work.{left_by}
-use Rattle.code_goals.specs.Answers.{IsAsked}
+use Rattle.code_goals.specs.Answers.{IsAsked, ShowsAnswer}
 use Rattle.code_goals.specs.Tasks as tasks
 use Rattle.code_goals.specs.Tasks.{task_of}
+use Rattle.code_goals.specs.Written.{ShowsWritten}
 use Rattle.code_machine.specs.declared.run.Ending.{Ending}
 use Rattle.code_machine.specs.declared.run.Ending.TheVariants as ending
 use Rattle.code_machine.specs.declared.run.Label.{Label}
 use Rattle.code_machine.specs.declared.run.Run.{Run}
+use Rattle.code_machine.specs.declared.run.Saying.{Saying}
+use Rattle.code_machine.specs.declared.run.Saying.TheVariants as saying
 use Rattle.code_machine.specs.declared.run.Stage.{Stage}
 use Rattle.code_machine.specs.declared.run.Stage.TheVariants.{Going, Returning, Ended}
 use Rattle.code_machine.specs.Instructions.{HasGoal}
@@ -219,9 +223,28 @@ pub record Says (old : State) (e : MachineEvent) (new : State) : Type 0 where
   pub limit : Allows e old.limit new.limit
   pub comes : ComesOf new e
 
+-- the event of what is said, with the terms that the machine shows there
+abbrev pub IsEvent : State → Saying → MachineEvent → Type 0
+IsEvent s (saying.Term to) e = (x : Shown) × ShowsWritten s.area s.branch s.areas x × (e ≡ event.Write x)
+IsEvent s saying.Newline e = e ≡ event.Newline
+IsEvent s (saying.Answer at) e = (x : Shown) × ShowsAnswer s.area s.branch at s.areas s.query x × (e ≡ event.Answer x)
+IsEvent s (saying.Ended f) e = e ≡ last_event f
+
+-- its terms are there
+abbrev pub MayShow : State → Saying → Type 0
+MayShow s (saying.Term to) = IsSafe s.area s.branch to 0 s.areas × IsSet s.areas.registers 1
+MayShow s saying.Newline = Unit {0}
+MayShow s (saying.Answer at) = IsSafe s.area s.branch at 0 s.areas × Holds s.area at step.AnswerNow × IsInQuery s.area s.query at
+MayShow s (saying.Ended f) = Unit {0}
+
+-- something is said: its event is the first of those still to come
+pub record Tells (old : State) (w : Saying) (new : State) : Type 0 where
+  pub shows : MayShow new w
+  pub says : (e : MachineEvent) → IsEvent new w e → Says old e new
+
 -- one step
-abbrev pub IsStep : State → Option MachineEvent → State → Type 0
-IsStep old o new = MatchOption o (IsQuiet old new) (λ e. Says old e new)
+abbrev pub IsStep : State → Option Saying → State → Type 0
+IsStep old o new = MatchOption o (IsQuiet old new) (λ w. Tells old w new)
 
 -- With this budget, an instruction that may say something: the answer, a goal that is no call, or any goal where no reduction is left.
 abbrev pub MaySay : ℕ → Code → Type 0

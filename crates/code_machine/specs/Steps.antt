@@ -1,8 +1,6 @@
 -- What the instructions do to a branch, the areas and the labels of a machine.
 use Rattle.std.specs.Prelude.{◌≡◌, ◌⊎◌, ℕ, suc, ◌*◌, ◌<◌, ◌≤◌, List, ◌∷◌, Option, Some, None}
 use Rattle.fd_model.specs.Goal.{Program, Query, Event}
-use Rattle.machine_events.specs.declared.MachineEvent.{MachineEvent}
-use Rattle.machine_events.specs.declared.MachineEvent.TheVariants as event
 use Rattle.branch_state.specs.States as branch
 use Rattle.branch_state.specs.States.{IsSameBelow, with_pair}
 use Rattle.wam_code.specs.Area.{Area}
@@ -24,6 +22,8 @@ use Rattle.code_goals.specs.Values.{RunsWent}
 use Rattle.code_machine.specs.declared.run.Ending.TheVariants as ending
 use Rattle.code_machine.specs.declared.run.Label.{Label}
 use Rattle.code_machine.specs.declared.run.Run.{Run}
+use Rattle.code_machine.specs.declared.run.Saying.{Saying}
+use Rattle.code_machine.specs.declared.run.Saying.TheVariants as saying
 use Rattle.code_machine.specs.declared.run.Stage.{Stage}
 use Rattle.code_machine.specs.declared.run.Stage.TheVariants.{Going, Returning, Ended}
 use Rattle.code_machine.specs.Instructions.{IsOther}
@@ -45,7 +45,7 @@ abbrev pub stage_next : Next → Stage
 stage_next (next.On to) = Going to
 stage_next next.Back = Returning
 stage_next (next.Fault f) = Ended (ending.Fault f)
-stage_next (next.Write to x) = Going to
+stage_next (next.Write to) = Going to
 stage_next (next.Newline to) = Going to
 
 -- The choice points are as they were, with their pairs, and what was still to come is to come.
@@ -98,7 +98,7 @@ abbrev pub next_work : Area → Contents → List Label → Next → ℕ
 next_work area c ls (next.On to) = whole_at area to c ls
 next_work area c ls next.Back = whole_back area c ls
 next_work area c ls (next.Fault f) = 0
-next_work area c ls (next.Write to x) = whole_at area to c ls
+next_work area c ls (next.Write to) = whole_at area to c ls
 next_work area c ls (next.Newline to) = whole_at area to c ls
 
 -- A reduction is spent on the goal at a place: what was still to come is that of what the machine does next.
@@ -121,12 +121,12 @@ next_of (On to) = next.On to
 next_of Back = next.Back
 
 -- what a goal says
-abbrev pub event_next : Next → Option MachineEvent
-event_next (next.On to) = None
-event_next next.Back = None
-event_next (next.Fault f) = Some (event.Fault f)
-event_next (next.Write to x) = Some (event.Write x)
-event_next (next.Newline to) = Some event.Newline
+abbrev pub saying_next : Next → Option Saying
+saying_next (next.On to) = None
+saying_next next.Back = None
+saying_next (next.Fault f) = Some (saying.Ended (ending.Fault f))
+saying_next (next.Write to) = Some (saying.Term to)
+saying_next (next.Newline to) = Some saying.Newline
 
 -- ---- the way back
 

@@ -87,6 +87,7 @@ impl<A: Agenda + Drop> Machine<A> {
         requires answers { IsLimit limits.answers }
         ensures code { IfOk result (λ m. (m.area ≡ code.value) × (m.query ≡ query)) }
         ensures limits { IfOk result (λ m. (m.limits ≡ limits) × (m.answers ≡ 0)) }
+        ensures whole { IfOk result (λ m. m.lost ≡ false) }
         ensures stands { IfOk result (λ m. (prog : Program) (q : Query) → MayRun m.area query prog q
             → (es : List Event) (r : ℕ)
             → Runs TOP prog q limits.steps limits.answers (start_of q ∷ []) es r
@@ -122,6 +123,7 @@ impl<A: Agenda + Drop> Machine<A> {
         ensures limit { IfOk result (λ e. e ≡ event.Limit
             → self.new.limits.answers ≡ Some self.new.answers) }
         ensures goals { IfOk result (λ e. IsOfGoal e → HasGoal self.new.area) }
+        ensures whole { OnOk result (self.new.lost ≡ false) }
         ensures lost { OnErr result (self.new.lost ≡ true) }
         ensures still_lost { self.old.lost ≡ true → IsErr result }
     {

@@ -28,6 +28,17 @@ pub(crate) enum Stage {
     Ended(Ending),
 }
 
+/// What a step says. The terms that it shows are read where the event is made.
+#[derive(Clone, Copy)]
+pub(crate) enum Saying {
+    /// The term in the first register, at the place behind a goal.
+    Term(usize),
+    Newline,
+    /// The answer at a place.
+    Answer(usize),
+    Ended(Ending),
+}
+
 /// A run without its code and its branch. `labels` has the newest last.
 #[derive(Drop)]
 pub(crate) struct Run {

@@ -3,15 +3,15 @@ ghost use Rattle.std.specs.Prelude.{◌≡◌, length, false, IfOk, OnOk};
 ghost use Rattle.wam_code.specs.Area.{Holds};
 ghost use Rattle.wam_code.specs.declared.instruction.Code.TheVariants as code_step;
 ghost use Rattle.code_machine.specs.declared.run.Stage.TheVariants as stage;
-ghost use Rattle.code_machine.specs.States.{state_of, behind_answer, last_event, one_fewer, IsMachine, IsStep, IsToSay, MaySay, Says};
+ghost use Rattle.code_machine.specs.States.{state_of, behind_answer, last_event, one_fewer, IsEvent, IsMachine, IsStep, IsToSay, MaySay, MayShow, Says, Tells};
 ghost use Rattle.code_machine.specs.Instructions.{IsCall, IsGoal};
-ghost use Rattle.code_machine.specs.Steps.{event_next, stage_next};
+ghost use Rattle.code_machine.specs.Steps.{saying_next, stage_next};
 
 use crate::goals::take_goal;
-use crate::run::{Ending, Run, Stage};
+use crate::run::{Ending, Run, Saying, Stage};
 use crate::walk::{code_at, walk};
 use branch_state::BranchState;
-use code_goals::{Next, show_answer};
+use code_goals::{Next, show_answer, show_written};
 use fd_language::NoMemory;
 use machine_events::MachineEvent;
 use propagate_queue::Agenda;
@@ -52,42 +52,40 @@ fn said(ending: Ending) -> MachineEvent
 }
 
 /// The stage behind a goal, and what the goal says.
-fn outcome(next: Next) -> (Stage, Option<MachineEvent>)
+fn outcome(next: Next) -> (Stage, Option<Saying>)
     ensures stage { result.0 ≡ stage_next next }
-    ensures event { result.1 ≡ event_next next }
+    ensures saying { result.1 ≡ saying_next next }
 {
     match next {
         Next::On(to) => (Stage::Going(to), None),
         Next::Back => (Stage::Returning, None),
-        Next::Fault(fault) => (
-            Stage::Ended(Ending::Fault(fault)),
-            Some(MachineEvent::Fault(fault)),
-        ),
-        Next::Write(to, shown) => (Stage::Going(to), Some(MachineEvent::Write(shown))),
-        Next::Newline(to) => (Stage::Going(to), Some(MachineEvent::Newline)),
+        Next::Fault(fault) => {
+            let ending = Ending::Fault(fault);
+            (Stage::Ended(ending), Some(Saying::Ended(ending)))
+        }
+        Next::Write(to) => (Stage::Going(to), Some(Saying::Term(to))),
+        Next::Newline(to) => (Stage::Going(to), Some(Saying::Newline)),
     }
 }
 
 /// The answer at a place, which is one of the run's query: no other query's code is reached.
 fn answer<A: Agenda + Drop>(
-    alloc: Global,
     code: &CodeArea,
     at: usize,
     branch: &BranchState<A>,
     run: &mut Run,
-) -> Result<MachineEvent, NoMemory>
+) -> Saying
     requires machine { IsMachine (state_of code.now branch.now run.old false) }
     requires stage { run.old.stage ≡ stage.Going at }
     requires holds { Holds code.now at code_step.AnswerNow }
-    ensures machine { OnOk result (IsMachine (state_of code.now branch.now run.new false)) }
-    ensures same { OnOk result (run.new.query ≡ run.old.query) }
-    ensures says { IfOk result (λ e. Says (state_of code.now branch.now run.old false) e
-        (state_of code.now branch.now run.new false)) }
+    ensures machine { IsMachine (state_of code.now branch.now run.new false) }
+    ensures same { run.new.query ≡ run.old.query }
+    ensures tells { Tells (state_of code.now branch.now run.old false) result
+        (state_of code.now branch.now run.new false) }
 {
-    let shown = show_answer(alloc, code, at, run.query, branch, &run.areas)?;
     run.stage = stage_behind(run.limit);
     run.limit = fewer(run.limit);
-    Ok(MachineEvent::Answer(shown))
+    Saying::Answer(at)
 }
 
 /// Takes the goal at a place, for a reduction, and gives what it says.
@@ -97,7 +95,7 @@ fn reduce<A: Agenda + Drop>(
     instruction: Code,
     branch: &mut BranchState<A>,
     run: &mut Run,
-) -> Result<Option<MachineEvent>, NoMemory>
+) -> Result<Option<Saying>, NoMemory>
     requires machine { IsMachine (state_of code.now branch.old run.old false) }
     requires stage { run.old.stage ≡ stage.Going at }
     requires holds { Holds code.now at instruction }
@@ -109,7 +107,7 @@ fn reduce<A: Agenda + Drop>(
 {
     if run.budget == 0 {
         run.stage = Stage::Ended(Ending::Budget);
-        return Ok(Some(MachineEvent::Budget));
+        return Ok(Some(Saying::Ended(Ending::Budget)));
     }
     run.budget -= 1;
     run.spent += 1;
@@ -122,9 +120,9 @@ fn reduce<A: Agenda + Drop>(
         &mut run.labels,
         &mut run.scratch,
     )?;
-    let (stage, event) = outcome(next);
+    let (stage, saying) = outcome(next);
     run.stage = stage;
-    Ok(event)
+    Ok(saying)
 }
 
 /// The end of a run that comes to a call with no reduction left.
@@ -134,7 +132,7 @@ fn stop<A: Agenda + Drop>(
     instruction: Code,
     branch: &BranchState<A>,
     run: &mut Run,
-) -> MachineEvent
+) -> Saying
     requires machine { IsMachine (state_of code.now branch.now run.old false) }
     requires stage { run.old.stage ≡ stage.Going at }
     requires holds { Holds code.now at instruction }
@@ -142,22 +140,21 @@ fn stop<A: Agenda + Drop>(
     requires none { run.old.budget ≡ 0 }
     ensures machine { IsMachine (state_of code.now branch.now run.new false) }
     ensures same { run.new.query ≡ run.old.query }
-    ensures says { Says (state_of code.now branch.now run.old false) result
+    ensures tells { Tells (state_of code.now branch.now run.old false) result
         (state_of code.now branch.now run.new false) }
 {
     run.stage = Stage::Ended(Ending::Budget);
-    MachineEvent::Budget
+    Saying::Ended(Ending::Budget)
 }
 
 /// Takes an instruction that may say something.
 fn speak<A: Agenda + Drop>(
-    alloc: Global,
     code: &CodeArea,
     at: usize,
     instruction: Code,
     branch: &mut BranchState<A>,
     run: &mut Run,
-) -> Result<Option<MachineEvent>, NoMemory>
+) -> Result<Option<Saying>, NoMemory>
     requires machine { IsMachine (state_of code.now branch.old run.old false) }
     requires stage { run.old.stage ≡ stage.Going at }
     requires holds { Holds code.now at instruction }
@@ -168,7 +165,7 @@ fn speak<A: Agenda + Drop>(
         (state_of code.now branch.new run.new false)) }
 {
     match instruction {
-        Code::AnswerNow => Ok(Some(answer(alloc, code, at, branch, run)?)),
+        Code::AnswerNow => Ok(Some(answer(code, at, branch, run))),
         Code::Call(_) | Code::Execute(_) | Code::Either(_) => {
             Ok(Some(stop(code, at, instruction, branch, run)))
         }
@@ -180,26 +177,25 @@ fn speak<A: Agenda + Drop>(
 }
 
 /// The end of a run that has no choice point left on its way back.
-fn end<A: Agenda + Drop>(code: &CodeArea, branch: &BranchState<A>, run: &mut Run) -> MachineEvent
+fn end<A: Agenda + Drop>(code: &CodeArea, branch: &BranchState<A>, run: &mut Run) -> Saying
     requires machine { IsMachine (state_of code.now branch.now run.old false) }
     requires stage { run.old.stage ≡ stage.Returning }
     requires none { length run.old.areas.points ≡ 0 }
     ensures machine { IsMachine (state_of code.now branch.now run.new false) }
     ensures same { run.new.query ≡ run.old.query }
-    ensures says { Says (state_of code.now branch.now run.old false) result
+    ensures tells { Tells (state_of code.now branch.now run.old false) result
         (state_of code.now branch.now run.new false) }
 {
     run.stage = Stage::Ended(Ending::End);
-    MachineEvent::End
+    Saying::Ended(Ending::End)
 }
 
 /// Takes a step where something may have to be said.
 fn step<A: Agenda + Drop>(
-    alloc: Global,
     code: &CodeArea,
     branch: &mut BranchState<A>,
     run: &mut Run,
-) -> Result<Option<MachineEvent>, NoMemory>
+) -> Result<Option<Saying>, NoMemory>
     requires machine { IsMachine (state_of code.now branch.old run.old false) }
     requires says { IsToSay (state_of code.now branch.old run.old false) }
     ensures machine { OnOk result (IsMachine (state_of code.now branch.new run.new false)) }
@@ -210,10 +206,35 @@ fn step<A: Agenda + Drop>(
     match run.stage {
         Stage::Going(at) => {
             let instruction = code_at(code, at);
-            speak(alloc, code, at, instruction, branch, run)
+            speak(code, at, instruction, branch, run)
         }
         Stage::Returning => Ok(Some(end(code, branch, run))),
-        Stage::Ended(ending) => Ok(Some(said(ending))),
+        Stage::Ended(ending) => Ok(Some(Saying::Ended(ending))),
+    }
+}
+
+/// The event of what was said. The error is want of memory.
+fn make_event<A: Agenda + Drop>(
+    alloc: Global,
+    code: &CodeArea,
+    saying: Saying,
+    branch: &BranchState<A>,
+    run: &Run,
+) -> Result<MachineEvent, NoMemory>
+    requires { MayShow (state_of code.now branch.now run.now false) saying }
+    ensures { IfOk result (IsEvent (state_of code.now branch.now run.now false) saying) }
+{
+    match saying {
+        Saying::Term(to) => {
+            let shown = show_written(code, to, branch, &run.areas)?;
+            Ok(MachineEvent::Write(shown))
+        }
+        Saying::Newline => Ok(MachineEvent::Newline),
+        Saying::Answer(at) => {
+            let shown = show_answer(alloc, code, at, run.query, branch, &run.areas)?;
+            Ok(MachineEvent::Answer(shown))
+        }
+        Saying::Ended(ending) => Ok(said(ending)),
     }
 }
 
@@ -232,8 +253,8 @@ pub(crate) fn run_on<A: Agenda + Drop>(
 {
     'going: loop {
         walk(code, branch, run)?;
-        if let Some(event) = step(alloc, code, branch, run)? {
-            return Ok(event);
+        if let Some(saying) = step(code, branch, run)? {
+            return make_event(alloc, code, saying, branch, run);
         }
     }
 }

@@ -19,4 +19,4 @@ returns-clause-step g c =
     let r = c.args.run.now in
     let n = c.take_goal.new in
     spends_step c.args.code.now r.query c.args.branch.now r.areas (reverse r.labels.items) r.stage r.budget r.limit r.spent c.requires.machine c.args.at c.requires.stage n.branch n.areas c.outcome-stage.result.0 c.if-run-eq0.false (reverse n.labels.items) c.in_ok-next.next c.in_ok-next.ensures (needed_goal c.args.code.now c.in_ok-next.next (c.args.at, c.args.instruction, c.requires.holds, c.requires.goal)) c.outcome-stage.ensures.stage
-    c.outcome-stage.result.1 c.outcome-stage.ensures.event
+    c.outcome-stage.result.1 c.outcome-stage.ensures.saying
