@@ -1,5 +1,5 @@
-use Rattle.std.proofs.Common.{false, subst}
-use Rattle.code_machine.specs.States.{State, state_of, state_within, IsWithin}
+use Rattle.std.proofs.Common.{false}
+use Rattle.code_machine.specs.States.{state_of, state_within}
 use Rattle.code_machine.proofs.Running.{all_given, all_spent, lost_machine, of_goal, seen_says, within_more}
 use Rattle.code_machine.proofs.machine.Machine.next.Goals as goal
 
