@@ -1,7 +1,8 @@
 -- Integers beside the numbers of U.
-use Rattle.std.proofs.Common.{◌≡◌, ℕ, true, false, arith, ℤ, pos, negsuc, int_le, ◌<ℤ◌, ◌≤◌, ◌≤ℤ◌, ◌∙◌, refl, sym, ap, subst, to_z, of_z, SFits, to_z-of_z}
+use Rattle.std.proofs.Common.{◌≡◌, ℕ, true, false, arith, ℤ, pos, negsuc, int_le, ◌<ℤ◌, ◌≤◌, ◌≤ℤ◌, ◌∙◌, refl, sym, ap, subst, to_z, of_z, Fits, SFits, to_z-of_z}
 use Rattle.std.proofs.lemmas.Bool.{true≢false}
-use mir.Syntax.{w64, w128}
+use mir.Syntax.{w32, w64, w128}
+use mir.ValLaws.{to_z_pos}
 use lib.Signed.{lt_z}
 use Rattle.std.proofs.lemmas.Int.{ints}
 use lib.IntN.{nat_abs}
@@ -44,3 +45,15 @@ not_below (negsuc n) k h = absurd (omega (arith, ints))
 -- the same where it is held in 64 bits
 pub held_number : (z : ℤ) (k : ℕ) → SFits w64 z → pos k ≤ℤ z → z ≡ pos (nat_abs (to_z w64 (of_z w64 z)))
 held_number z k f h = not_below z k h ∙ ap (λ y. pos (nat_abs y)) (sym (to_z-of_z f))
+
+-- a number of 32 bits in 64
+pub wide_number : (k : ℕ) → Fits w32 k → to_z w64 k ≡ pos k
+wide_number k f = to_z_pos w64 k (omega (arith, f.fits))
+
+-- an integer of 64 bits between two numbers
+pub held_between : (z : ℤ) (a b : ℕ) → SFits w64 z → lt_z z (pos a) ≡ false → lt_z (pos b) z ≡ false → (z ≡ pos (nat_abs (to_z w64 (of_z w64 z)))) × (a ≤ nat_abs (to_z w64 (of_z w64 z))) × (nat_abs (to_z w64 (of_z w64 z)) ≤ b)
+held_between z a b f g h =
+    let above : pos a ≤ℤ z = grind (arith, ints, g) in
+    let is = held_number z a f above in
+    let below : z ≤ℤ pos b = grind (arith, ints, h) in
+    (is, omega (arith, ints, above, is), omega (arith, ints, below, is))

@@ -16,6 +16,15 @@ use Rattle.domain_ranges.proofs.Excluding.{excluded}
 use Rattle.domain_ranges.proofs.Spans.{in_head}
 use Rattle.domain_ranges.proofs.Parts.{ordered}
 
+-- an interval of two ordered numbers has one
+pub span_some : (s : Span) → s.0 ≤ s.1 → s.1 ≤ INFINITY → is_none_left (members (s ∷ [])) ≡ false
+span_some s h g = not_empty (members (s ∷ [])) s.0 (has_members 0 INFINITY (s ∷ []) s.0 (omega arith, h, g, tt) ∙ in_head s [] s.0 (omega arith) h)
+
+-- a set that is an interval isn't empty
+pub interval_some : (xs : List ℕ) → IsInterval xs → is_none_left xs ≡ false
+interval_some [] i = absurd (true≢false (ap is_none_left i ∙ span_some (0, 0) (omega arith) (omega arith)))
+interval_some (x ∷ xs) i = refl
+
 -- another number is among all but one
 other_left : (n k : ℕ) → n ≤ INFINITY → (n ≡ k → ⊥) → has (all_but (pos k)) n ≡ true
 other_left n k l h = has_set INFINITY (λ m. not (int_eq (pos m) (pos k))) n l ∙ ap not (apart (int_eq (pos n) (pos k)) refl) where

@@ -117,6 +117,19 @@ module _ (ss : List Span) (xs : List ℕ) (ends : Span) (lo hi : ℤ) (held : Ar
         has_members 0 INFINITY ((a, b) ∷ []) n (omega arith, l, omega arith, tt) ∙ in_both a b n e f w.0 w.1 ∙ sym (between_is n w.2)) in
         (part.0, part.1, subst (λ q. length q < length xs) agree part.2, λ i. sym agree ∙ part.3 i)
 
+  -- by where the bounds lie
+  pub cut_below : pos ends.0 <ℤ lo → (high : ℤ) → high ≡ int_min hi (pos ends.1) → (a b : ℕ) → lo ≡ pos a → high ≡ pos b → a ≤ b → is_none_left xs ≡ false → IsPart xs (between lo hi) (Within a b)
+  cut_below less high to a b e f l some = some_between lo high (omega (arith, ints, clamps, less)) to a b e f l some (inr less)
+
+  pub cut_above : lo ≤ℤ pos ends.0 → pos ends.0 ≤ℤ hi → hi <ℤ pos ends.1 → (b : ℕ) → hi ≡ pos b → is_none_left xs ≡ false → IsPart xs (between lo hi) (Within ends.0 b)
+  cut_above h g less b f some = some_between (pos ends.0) hi (omega (arith, ints, clamps, h)) (omega (arith, ints, clamps, less)) ends.0 b refl f (omega (arith, ints, f, g)) some (inl (h, less))
+
+  pub none_above : pos ends.0 <ℤ lo → (high : ℤ) → high ≡ int_min hi (pos ends.1) → high <ℤ lo → filter (has (between lo hi)) xs ≡ []
+  none_above less high to h = none_between_ends lo high (omega (arith, ints, clamps, less)) to h
+
+  pub none_below : lo ≤ℤ pos ends.0 → hi <ℤ pos ends.0 → filter (has (between lo hi)) xs ≡ []
+  none_below h less = none_between_ends (pos ends.0) (int_min hi (pos ends.1)) (omega (arith, ints, clamps, h)) refl (omega (arith, ints, clamps, less))
+
 -- a set is an interval where one interval is all of it
 pub one_interval : (ss : List Span) (xs : List ℕ) (ends : Span) → AreWithEnds ss ends → members ss ≡ xs → length ss ≡ 1 → IsInterval xs
 one_interval [] xs ends held e h = absurd (omega (arith, h))

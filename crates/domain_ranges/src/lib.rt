@@ -284,6 +284,26 @@ impl Domain {
         }
     }
 
+    /// The same where 64 bits hold the bounds. Of an interval the ends alone are looked at.
+    #[inline(always)]
+    pub fn narrowed_between(&self, lo: i64, hi: i64) -> Result<Narrowed, NoMemory>
+        ensures narrowed { IfOk result (IsNarrowed self.now (between lo hi)) }
+        ensures no_memory { OnErr result
+            (2 < interval_count (filter (has (between lo hi)) self.now)) }
+    {
+        if !self.is_interval() {
+            return self.narrowed_to(lo as i128, hi as i128);
+        }
+        match self.part_between(lo, hi) {
+            Part::All => Ok(Narrowed::Same),
+            Part::Nothing => Ok(Narrowed::Empty),
+            Part::Within(low, high) => {
+                let left = Domain::of_span(*self.list.allocator(), (low, high));
+                Ok(Narrowed::Changed(left))
+            }
+        }
+    }
+
     /// What the numbers from `lo` to `hi`, both included, leave of the set, which isn't empty. Nothing is made.
     #[inline(always)]
     pub fn part_between(&self, lo: i64, hi: i64) -> Part
@@ -291,13 +311,17 @@ impl Domain {
         ensures { IsPart self.now (between lo hi) result }
     {
         let (least, greatest) = self.ends;
-        if lo <= least as i64 && hi >= greatest as i64 {
-            return Part::All;
-        }
-        let low = lo.max(least as i64);
-        let high = hi.min(greatest as i64);
-        if low <= high {
-            Part::Within(low as u32, high as u32)
+        if lo > least as i64 {
+            let high = hi.min(greatest as i64);
+            if lo <= high {
+                Part::Within(lo as u32, high as u32)
+            } else {
+                Part::Nothing
+            }
+        } else if hi >= greatest as i64 {
+            Part::All
+        } else if hi >= least as i64 {
+            Part::Within(least, hi as u32)
         } else {
             Part::Nothing
         }
@@ -326,19 +350,6 @@ impl Domain {
             let alloc = *self.list.allocator();
             *self = Domain::of_span(alloc, (low, high));
         }
-    }
-
-    /// The set becomes that of the numbers of two intervals.
-    #[inline(always)]
-    fn set_pair(&mut self, first: (u32, u32), second: (u32, u32))
-        requires first { first.0 ≤ first.1 }
-        requires apart { first.1 + 2 ≤ second.0 }
-        requires second { second.0 ≤ second.1 }
-        requires high { second.1 ≤ INFINITY }
-        ensures { self.new ≡ members (first ∷ second ∷ []) }
-    {
-        let alloc = *self.list.allocator();
-        *self = Domain::of_pair(alloc, first, second);
     }
 
     /// Whether `n` is a member, and the only one.
@@ -370,17 +381,11 @@ impl Domain {
         ensures some { OnOk result (is_none_left self.new ≡ false) }
         ensures unchanged { OnErr result (self.new ≡ self.old) }
     {
-        let (least, greatest) = self.ends;
         if !self.is_interval() {
             return self.leave_out_apart(n);
         }
-        if n == least {
-            self.set_interval(least + 1, greatest);
-        } else if n == greatest {
-            self.set_interval(least, greatest - 1);
-        } else {
-            self.set_pair((least, n - 1), (n + 1, greatest));
-        }
+        self.rises();
+        *self = self.interval_without(n);
         Ok(())
     }
 
@@ -405,15 +410,13 @@ impl Domain {
         ensures narrowed { IfOk result (IsNarrowed self.now (all_but n)) }
         ensures no_memory { OnErr result (2 < interval_count (filter (has (all_but n)) self.now)) }
     {
+        if !self.is_interval() {
+            return self.left_without(n);
+        }
         match self.membership(n) {
             Membership::Outside => Ok(Narrowed::Same),
             Membership::Alone => Ok(Narrowed::Empty),
-            Membership::Among(member) => {
-                if self.is_interval() {
-                    return Ok(Narrowed::Changed(self.interval_without(member)));
-                }
-                self.left_without(n)
-            }
+            Membership::Among(member) => Ok(Narrowed::Changed(self.interval_without(member))),
         }
     }
 
@@ -437,7 +440,7 @@ impl Domain {
     }
 
     /// The same, wherever the number stands.
-    #[inline(never)]
+    #[inline(always)]
     fn left_without(&self, n: i64) -> Result<Narrowed, NoMemory>
         ensures narrowed { IfOk result (IsNarrowed self.now (all_but n)) }
         ensures no_memory { OnErr result (2 < interval_count (filter (has (all_but n)) self.now)) }
@@ -603,12 +606,9 @@ impl Domain {
         requires high { second.1 ≤ INFINITY }
         ensures { result ≡ members (first ∷ second ∷ []) }
     {
-        let mut list = SmallVec::new(alloc);
-        list.push_reserved(first);
-        list.push_reserved(second);
         Domain {
             ends: (first.0, second.1),
-            list,
+            list: SmallVec::from_buf(alloc, [first, second]),
         }
     }
 

@@ -421,7 +421,7 @@ pub fn narrow<V: View>(
             target.rises();
             Ok(Narrowed::Same)
         }
-        Reach::Between(low, high) => target.narrowed_to(low as i128, high as i128),
+        Reach::Between(low, high) => target.narrowed_between(low, high),
         Reach::Except(number) => target.narrowed_without(number),
         Reach::Other => evaluate_narrowing(
             &mut stacks.work,

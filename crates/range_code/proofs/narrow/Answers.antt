@@ -1,11 +1,11 @@
 use Rattle.std.proofs.Common.{rules, refl, sym, subst, SFits, to_z-of_z}
-use mir.Syntax.{w64, w128}
+use mir.Syntax.{w64}
 use Rattle.fd_language.specs.declared.TheConstants.{INFINITY}
 use Rattle.fd_language.specs.Family.{IsSubset}
 use Rattle.fd_language.proofs.Lemmas.{rising_inside}
 use Rattle.domain_ranges.specs.Narrowing.{between, all_but}
 use Rattle.range_code.specs.Kinds.{val_slots}
-use Rattle.range_code.proofs.Forms.{wider, narrows_same}
+use Rattle.range_code.proofs.Forms.{narrows_same}
 use Rattle.range_code.proofs.Running.{nodes_readable, nodes_spelled, nodes_fit_family, table_narrows}
 use Rattle.range_code.specs.Slots.{in_slots}
 use Rattle.range_code.specs.Folded.{folded_range}
@@ -29,11 +29,9 @@ pub returns-in-Between-clause-narrowed : goal.returns-in-Between-clause-narrowed
 returns-in-Between-clause-narrowed g c =
     let a : SFits w64 c.in-Between.low = search rules in
     let b : SFits w64 c.in-Between.high = search rules in
-    let f : SFits w128 c.in-Between.low = wider c.in-Between.low a in
-    let h : SFits w128 c.in-Between.high = wider c.in-Between.high b in
     let k = rw (c.in-Between.is) at c.reach_of.ensures.reach in
-    let n = simp to_z-of_z at c.narrowed_to.ensures.narrowed in
-    narrows_same c.narrowed_to.result c.args.target.now (between c.in-Between.low c.in-Between.high) _ (sym k) n
+    let n = simp to_z-of_z at c.narrowed_between.ensures.narrowed in
+    narrows_same c.narrowed_between.result c.args.target.now (between c.in-Between.low c.in-Between.high) _ (sym k) n
 
 pub returns-in-Except-clause-narrowed : goal.returns-in-Except-clause-narrowed
 returns-in-Except-clause-narrowed g c =

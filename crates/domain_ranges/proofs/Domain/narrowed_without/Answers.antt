@@ -21,8 +21,8 @@ returns-in-Alone-clause-narrowed c =
     let m = simp to_z-of_z at c.in-Alone.ensures.membership in
     none_but c.args.self.now c.args.n m.0 m.1 m.2
 
-pub returns-then-is_interval-clause-narrowed : goal.returns-then-is_interval-clause-narrowed
-returns-then-is_interval-clause-narrowed c =
+pub returns-in-Among-clause-narrowed : goal.returns-in-Among-clause-narrowed
+returns-in-Among-clause-narrowed c =
     let a : SFits w64 c.args.n = c.ranges.n in
     let m = simp to_z-of_z at c.in-Among.ensures.membership in
     let rising = c.membership.ensures.rising in
@@ -32,12 +32,12 @@ returns-then-is_interval-clause-narrowed c =
       fewer_left c.args.self.now c.interval_without.result c.args.n c.in-Among.member made m.0 (has_high 0 INFINITY c.args.self.now c.in-Among.member rising m.1) m.1,
     )
 
-pub returns-else-is_interval-clause-narrowed : goal.returns-else-is_interval-clause-narrowed
-returns-else-is_interval-clause-narrowed c =
+pub returns-then-not-is_interval-clause-narrowed : goal.returns-then-not-is_interval-clause-narrowed
+returns-then-not-is_interval-clause-narrowed c =
     let a : SFits w64 c.args.n = c.ranges.n in
     simp to_z-of_z at c.left_without.ensures.narrowed
 
-pub returns-else-is_interval-clause-no_memory : goal.returns-else-is_interval-clause-no_memory
-returns-else-is_interval-clause-no_memory c =
+pub returns-then-not-is_interval-clause-no_memory : goal.returns-then-not-is_interval-clause-no_memory
+returns-then-not-is_interval-clause-no_memory c =
     let a : SFits w64 c.args.n = c.ranges.n in
     simp to_z-of_z at c.left_without.ensures.no_memory

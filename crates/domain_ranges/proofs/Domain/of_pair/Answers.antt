@@ -1,7 +1,5 @@
-use Rattle.std.proofs.Common.{◌∙◌, ap, ◌∷◌, [], ◌++◌}
 use Rattle.domain_ranges.proofs.Ends.{pair_ends}
 use Rattle.domain_ranges.proofs.Domain.of_pair.Goals as goal
 
 pub invariant_of-result : goal.invariant_of-result
-invariant_of-result c = pair_ends c.args.first c.args.second _ c.requires.first c.requires.apart c.requires.second c.requires.high
-    (c.push_reserved-2.ensures.items ∙ ap (λ l. l ++ c.args.second ∷ []) (c.push_reserved.ensures.items ∙ ap (λ l. l ++ c.args.first ∷ []) c.new-list.ensures.items))
+invariant_of-result c = pair_ends c.args.first c.args.second _ c.requires.first c.requires.apart c.requires.second c.requires.high c.from_buf.ensures.items
