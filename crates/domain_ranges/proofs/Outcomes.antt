@@ -1,5 +1,5 @@
 -- Outcomes of calls.
-use Rattle.std.proofs.Common.{ℕ, ◌<◌, ◌≤◌, Result, Ok, Err, OnOk, OnErr, IfOk, rules, arith}
+use Rattle.std.proofs.Common.{ℕ, ◌+◌, ◌<◌, ◌≤◌, Result, Ok, Err, OnOk, OnErr, IfOk, rules, arith}
 
 -- a fact that holds, where a call failed
 pub on_err : {A E : Type 0} (r : Result A E) (P : Type 0) → P → OnErr r P
@@ -14,6 +14,10 @@ on_ok (Err e) f p = search rules
 -- what can't fail with two intervals failed
 pub more_than_two : (n : ℕ) → (n ≤ 2 → ⊥) → 2 < n
 more_than_two n h = grind (arith, h)
+
+-- a list without room for one more, which has room for two
+pub full_of_two : (n room : ℕ) → (n + 1 ≤ room → ⊥) → 2 ≤ room → 2 ≤ n
+full_of_two n room h g = grind (arith, h, g)
 
 -- facts about outcomes, from others
 pub if_ok : {A E : Type 0} (P Q : A → Type 0) (r : Result A E) → IfOk r P → ((x : A) → P x → Q x) → IfOk r Q

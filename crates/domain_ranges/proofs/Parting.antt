@@ -129,6 +129,15 @@ module _ (n : ℕ) where
   pub two_left : (k : ℕ) (ss : List Span) (low high : ℕ) → k < length ss → low ≡ (get_or ss k (0, 0)).0 → high ≡ (get_or ss k (0, 0)).1 → low < n → n < high → set (take (k + 1) ss ++ (n + 1, high) ∷ drop (k + 1) ss) k (low, n - 1) ≡ parted ss k n
   two_left k ss low high h e f a b = rw (e, f, add-one) (inner_gone k ss h (omega arith) (omega arith))
 
+-- a number that is no end leaves one interval more
+pub inner_length : (k n : ℕ) (ss : List Span) → k < length ss → (get_or ss k (0, 0)).0 < n → n < (get_or ss k (0, 0)).1 → length (parted ss k n) ≡ suc (length ss)
+inner_length k n [] h a b = absurd (omega arith)
+inner_length zero n (s ∷ ss) h a b =
+    let t = is_less s.0 n (omega arith) in
+    let u = is_less (n + 1) (s.1 + 1) (omega arith) in
+    rw (t, u) refl
+inner_length (suc k) n (s ∷ ss) h a b = ap suc (inner_length k n ss (omega arith) a b)
+
 -- the place of the interval that has the number
 pub place_of : (high i n : ℕ) (ss qs : List Span) → qs ≡ ss → IsSpans 0 high ss → ((k : ℕ) (d : Span) → k < i → (get_or qs k d).1 < n) → ((k : ℕ) (d : Span) → i ≤ k → k < length qs → n ≤ (get_or qs k d).1) → i ≤ length qs → within ss n ≡ true → (i < length ss) × ((get_or ss i (0, 0)).0 ≤ n) × (n ≤ (get_or ss i (0, 0)).1)
 place_of high i n ss qs e r before after l m =

@@ -198,12 +198,14 @@ fn write(list: &mut SmallVec<(u32, u32), 2>, place: usize, span: (u32, u32))
 /// Parts the interval at a place by a number that it has: it loses an end, goes, or becomes two.
 /// After `NoMemory` the list is as it was.
 fn part(list: &mut SmallVec<(u32, u32), 2>, place: usize, n: u32) -> Result<(), NoMemory>
+    requires capacity { 2 ≤ list.old.capacity }
     requires place { place < length list.old.items }
     requires low { (slice_index_or list.old.items place (0, 0)).0 ≤ n }
     requires high { n ≤ (slice_index_or list.old.items place (0, 0)).1 }
     requires fits { n ≤ INFINITY }
     ensures parted { OnOk result (list.new.items ≡ parted list.old.items place n) }
     ensures unchanged { OnErr result (list.new.items ≡ list.old.items) }
+    ensures no_memory { OnErr result (2 < length (parted list.old.items place n)) }
 {
     let (low, high) = list.as_slice()[place];
     if low == high {
@@ -221,12 +223,15 @@ fn part(list: &mut SmallVec<(u32, u32), 2>, place: usize, n: u32) -> Result<(), 
 
 /// Takes a number out of the intervals, one of which has it. After `NoMemory` they are as they were.
 pub fn leave_out(list: &mut SmallVec<(u32, u32), 2>, n: u32) -> Result<(), NoMemory>
+    requires capacity { 2 ≤ list.old.capacity }
     requires spans { IsSpans 0 INFINITY list.old.items }
     requires member { IsTrue (within list.old.items n) }
     ensures spans { OnOk result (IsSpans 0 INFINITY list.new.items) }
     ensures set { OnOk result (members list.new.items
         ≡ filter (λ k. within list.old.items k && not (k == n)) (universe INFINITY)) }
     ensures unchanged { OnErr result (list.new.items ≡ list.old.items) }
+    ensures no_memory { OnErr result (2 < interval_count
+        (filter (λ k. within list.old.items k && not (k == n)) (universe INFINITY))) }
 {
     let place = place_from(list.as_slice(), n);
     part(list, place, n)

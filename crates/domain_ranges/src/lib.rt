@@ -141,6 +141,7 @@ impl Domain {
     #[inline]
     pub fn copy_with_room(&self) -> Result<Domain, NoMemory>
         ensures set { IfOk result (λ copy. copy ≡ self.now) }
+        ensures no_memory { OnErr result (2 < interval_count self.now) }
     {
         let spans = self.spans();
         if spans.len() <= 2 {
@@ -372,7 +373,8 @@ impl Domain {
         }
     }
 
-    /// Takes out the member `n`, which isn't the only one. After `NoMemory` the set is as it was.
+    /// Takes out the member `n`, which isn't the only one. After `NoMemory` the set is as it was; it comes only where the others stand
+    /// in more than two intervals.
     #[inline(always)]
     pub fn leave_out(&mut self, n: u32) -> Result<(), NoMemory>
         requires member { IsTrue (has self.old n) }
@@ -380,6 +382,8 @@ impl Domain {
         ensures left { OnOk result (self.new ≡ filter (has (all_but (pos n))) self.old) }
         ensures some { OnOk result (is_none_left self.new ≡ false) }
         ensures unchanged { OnErr result (self.new ≡ self.old) }
+        ensures no_memory { OnErr result
+            (2 < interval_count (filter (has (all_but (pos n))) self.old)) }
     {
         if !self.is_interval() {
             return self.leave_out_apart(n);
@@ -397,7 +401,10 @@ impl Domain {
         ensures left { OnOk result (self.new ≡ filter (has (all_but (pos n))) self.old) }
         ensures some { OnOk result (is_none_left self.new ≡ false) }
         ensures unchanged { OnErr result (self.new ≡ self.old) }
+        ensures no_memory { OnErr result
+            (2 < interval_count (filter (has (all_but (pos n))) self.old)) }
     {
+        self.list.capacity();
         intervals::leave_out(&mut self.list, n)?;
         self.ends = intervals::ends(self.list.as_slice());
         Ok(())

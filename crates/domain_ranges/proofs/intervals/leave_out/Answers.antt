@@ -2,8 +2,8 @@ use Rattle.std.proofs.Common.{◌∙◌, ap, sym, subst}
 use Rattle.fd_language.specs.declared.TheConstants.{INFINITY}
 use Rattle.domain_ranges.specs.Spans.{IsSpans, members}
 use Rattle.domain_ranges.proofs.Spans.{within_high}
-use Rattle.domain_ranges.proofs.Outcomes.{on_ok}
-use Rattle.domain_ranges.proofs.Members.{members_is}
+use Rattle.domain_ranges.proofs.Outcomes.{on_ok, on_err_both}
+use Rattle.domain_ranges.proofs.Members.{members_is, three_spans}
 use Rattle.domain_ranges.proofs.Cutting.{but}
 use Rattle.domain_ranges.proofs.Parting.{place_of, parted_spans, parted_within}
 use Rattle.domain_ranges.proofs.intervals.leave_out.Goals as goal
@@ -43,3 +43,11 @@ returns-clause-set c =
     let spans = parted_spans 0 INFINITY c.place_from-place.result c.args.n ss c.requires.spans at.0 at.1 at.2 in
     let set = members_is INFINITY _ (but ss c.args.n) spans (λ j l. parted_within 0 INFINITY c.place_from-place.result c.args.n ss c.requires.spans at.0 at.1 at.2 j) in
     on_ok c.part.result (λ e. ap members e ∙ set) c.part.ensures.parted
+
+pub returns-clause-no_memory : goal.returns-clause-no_memory
+returns-clause-no_memory c =
+    let ss = c.args.list.now.items in
+    let at = place_of INFINITY c.place_from-place.result c.args.n ss c.as_slice.result.now c.as_slice.ensures c.requires.spans c.place_from-place.ensures.before c.place_from-place.ensures.after c.place_from-place.ensures.place c.requires.member in
+    let spans = parted_spans 0 INFINITY c.place_from-place.result c.args.n ss c.requires.spans at.0 at.1 at.2 in
+    let set = members_is INFINITY _ (but ss c.args.n) spans (λ j l. parted_within 0 INFINITY c.place_from-place.result c.args.n ss c.requires.spans at.0 at.1 at.2 j) in
+    on_err_both _ _ _ c.part.result c.part.ensures.no_memory c.part.ensures.no_memory (λ more _. three_spans INFINITY _ _ spans set more)
