@@ -1,8 +1,9 @@
 -- A set of the current store intersected with another one.
-use Rattle.std.specs.Prelude.{◌≡◌, ℕ, ◌<◌, List, [], filter, length, slice_set, slice_index_or}
+use Rattle.std.specs.Prelude.{◌≡◌, ℕ, ◌<◌, false, pos, List, [], filter, length, slice_set, slice_index_or}
 use Rattle.fd_language.specs.declared.TheConstants.{INFINITY}
 use Rattle.fd_language.specs.Family.{has, universe, IsSubset}
-use Rattle.domain_ranges.specs.Narrowing.{AreEnds}
+use Rattle.fd_language.specs.Range.{is_none_left}
+use Rattle.domain_ranges.specs.Narrowing.{all_but, AreEnds}
 use Rattle.domain_trail.specs.Stores.{Stores}
 use Rattle.domain_trail.specs.declared.Cut.{Cut}
 use Rattle.domain_trail.specs.declared.Cut.TheVariants.{Same, Empty, Changed}
@@ -19,3 +20,9 @@ IsCut set k old new (Changed before after) =
     × (length (filter (has set) (set_at old k)) < length (set_at old k))
     × AreEnds before (set_at old k)
     × AreEnds after (filter (has set) (set_at old k))
+
+-- a set of the current store has lost a number, and isn't empty
+abbrev pub IsWithout : ℕ → ℕ → Stores → Stores → Type 0
+IsWithout k n old new =
+    (new ≡ record old { current = slice_set old.current k (filter (has (all_but (pos n))) (set_at old k)) })
+    × (is_none_left (filter (has (all_but (pos n))) (set_at old k)) ≡ false)

@@ -6,7 +6,7 @@ ghost use Rattle.fd_language.specs.Family.{has, universe};
 ghost use Rattle.fd_language.specs.Range.{least, greatest, is_none_left};
 ghost use Rattle.domain_ranges.specs.Spans.{members};
 ghost use Rattle.domain_ranges.specs.Narrowing.{between, all_but, AreEnds, IsNarrowed};
-ghost use Rattle.domain_trail.specs.Cuts.{set_at, IsCut};
+ghost use Rattle.domain_trail.specs.Cuts.{set_at, IsCut, IsWithout};
 
 use domain_ranges::{Domain, Membership, Narrowed, Part, View};
 use fd_language::{INFINITY, NoMemory};
@@ -257,11 +257,7 @@ impl Trail {
         requires var { k < length self.old.current }
         requires member { IsTrue (has (set_at self.old k) n) }
         requires others { least (set_at self.old k) < greatest (set_at self.old k) }
-        ensures changed { OnOk result (self.new ≡ record self.old {
-          current = slice_set self.old.current k (filter (has (all_but (pos n))) (set_at self.old k));
-        }) }
-        ensures some { OnOk result
-            (is_none_left (filter (has (all_but (pos n))) (set_at self.old k)) ≡ false) }
+        ensures without { OnOk result (IsWithout k n self.old self.new) }
         ensures unchanged { OnErr result (self.new ≡ self.old) }
     {
         let stamp = self.stamp;
@@ -279,11 +275,7 @@ impl Trail {
         requires var { k < length self.old.current }
         requires member { IsTrue (has (set_at self.old k) n) }
         requires others { least (set_at self.old k) < greatest (set_at self.old k) }
-        ensures changed { OnOk result (self.new ≡ record self.old {
-          current = slice_set self.old.current k (filter (has (all_but (pos n))) (set_at self.old k));
-        }) }
-        ensures some { OnOk result
-            (is_none_left (filter (has (all_but (pos n))) (set_at self.old k)) ≡ false) }
+        ensures without { OnOk result (IsWithout k n self.old self.new) }
         ensures unchanged { OnErr result (self.new ≡ self.old) }
     {
         let mut left = self.cells[k].domain.copy_with_room()?;
