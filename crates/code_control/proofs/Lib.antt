@@ -4,3 +4,6 @@ pub mod Working
 pub mod Stages
 pub mod Deciding
 pub mod Rising
+pub mod Needless
+pub mod Skipping
+pub mod Leading

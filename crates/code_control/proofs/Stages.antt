@@ -10,23 +10,23 @@ use Rattle.heap_cells.specs.Cells.{Cells}
 use Rattle.branch_state.specs.States as branch
 use Rattle.branch_state.specs.States.{IsSound, IsUndone, with_pair}
 use Rattle.wam_code.specs.declared.instruction.Code.{Code}
-use Rattle.wam_code.specs.declared.instruction.Code.TheVariants.{Allocate, Deallocate, Call, Execute, Proceed, Jump, FailNow, TryMeElse, RetryMeElse, TrustMe, Try, Retry, Trust, Either}
+use Rattle.wam_code.specs.declared.instruction.Code.TheVariants.{Allocate, Deallocate, Call, Execute, Proceed, Jump, FailNow, Either}
 use Rattle.wam_code.specs.declared.parts.Entry.{Entry}
 use Rattle.wam_code.specs.Area.{Area, Holds, HasEntry}
 use Rattle.code_areas.specs.Areas.{cell_at, Return, Point, Contents}
 use Rattle.code_steps.specs.Registers.{Registers, Saved, AreSameTo}
 use Rattle.code_steps.specs.Standing.{Stands}
-use Rattle.code_steps.specs.Trying.{IsTrying, TriesBoth, IsFirst, IsChoice}
+use Rattle.code_steps.specs.Trying.{IsTrying, IsFirst, IsChoice}
 use Rattle.code_steps.specs.Running.{Left, resume, Choice, Returns}
 use Rattle.code_steps.proofs.Calling.{run_call, run_execute}
 use Rattle.code_steps.proofs.Goals.{run_either}
-use Rattle.code_steps.proofs.Running.{runs_jump, runs_on, runs_tries, runs_over, runs_both, back_resumes}
+use Rattle.code_steps.proofs.Running.{runs_jump, runs_on, runs_tries, runs_over, back_resumes}
 use Rattle.code_steps.proofs.Stepping.{step_allocate, step_deallocate, step_proceed}
-use Rattle.code_steps.proofs.Trying.{step_try_me_else, step_retry_me_else, step_try, step_retry, step_trust_me, step_trust, step_fail}
+use Rattle.code_steps.proofs.Trying.{step_fail}
 use Rattle.code_states.specs.Machine.{slot_cell, registers_of, saved_of, stack_of}
 use Rattle.code_states.specs.Standing.{IsNaming}
 use Rattle.code_states.specs.Choices.{point_of, choice_of, choices_of, choices_in}
-use Rattle.code_states.specs.Stages.{Task, KeepsRunning, GoesBack, LeavesChoice, Resumes, Calls, SplitsAt}
+use Rattle.code_states.specs.Stages.{Task, KeepsRunning, GoesBack, Resumes, Calls, SplitsAt}
 use Rattle.code_states.proofs.Stages.{sound_model}
 
 module _ (area : Area) (s : branch.State) (at : ℕ) (c : Contents) where
@@ -85,12 +85,7 @@ module _ (area : Area) (s : branch.State) (at : ℕ) (c : Contents) where
     abbrev Trying : Task → ℕ → Entry → Branch → List Branch → Type 0
     Trying t to e b kids = IsTrying INFINITY area t.query.shown t.name h qs to e regs stack b kids
 
-    -- clauses at two places
-    both : (to other : ℕ) → ((t : Task) (e : Entry) (b : Branch) (kids : List Branch) → Trying t at e b kids → TriesBoth INFINITY area t.query.shown t.name h qs to other e regs stack b kids) → LeavesChoice area s at c (with_pair s) to (left other) other
-    both to other split t ls u naming m =
-        runs_both INFINITY area t.program t.query t.name u.budget u.answers u.events u.reductions h qs at regs stack (choices_in s c ls) m i choice f to other (λ e b k. split t e b m.first k)
-
-    -- and at one
+    -- clauses at one place
     pub tries : (to : ℕ) → ((t : Task) → IsNaming area t.name → (e : Entry) (b : Branch) (kids : List Branch) → Trying t at e b kids → Trying t to e b kids) → KeepsRunning area s at c s to c
     tries to step t ls u naming m =
         runs_tries INFINITY area t.program t.query t.name u.budget u.answers u.events u.reductions h qs at regs stack (choices_in s c ls) m i choice f to (λ e b k. step t naming e b m.first k)
@@ -99,24 +94,6 @@ module _ (area : Area) (s : branch.State) (at : ℕ) (c : Contents) where
     pub over : ((t : Task) → IsNaming area t.name → (e : Entry) (b : Branch) (kids : List Branch) → Trying t at e b kids → kids ≡ []) → GoesBack area s at c s c
     over none t ls u naming m =
         runs_over INFINITY area t.program t.query t.name u.budget u.answers u.events u.reductions h qs at regs stack (choices_in s c ls) m i choice f (λ e b k. none t naming e b m.first k)
-
-  pub try_me_else_runs : (to : ℕ) → Holds area at (TryMeElse to) → LeavesChoice area s at c (with_pair s) (suc at) (left to) to
-  try_me_else_runs to f = both (TryMeElse to) tt f (suc at) to (λ t e b kids m. step_try_me_else INFINITY area t.query.shown t.name h qs at e regs stack b kids m to f)
-
-  pub retry_me_else_runs : (to : ℕ) → Holds area at (RetryMeElse to) → LeavesChoice area s at c (with_pair s) (suc at) (left to) to
-  retry_me_else_runs to f = both (RetryMeElse to) tt f (suc at) to (λ t e b kids m. step_retry_me_else INFINITY area t.query.shown t.name h qs at e regs stack b kids m to f)
-
-  pub try_runs : (to : ℕ) → Holds area at (Try to) → LeavesChoice area s at c (with_pair s) to (left (suc at)) (suc at)
-  try_runs to f = both (Try to) tt f to (suc at) (λ t e b kids m. step_try INFINITY area t.query.shown t.name h qs at e regs stack b kids m to f)
-
-  pub retry_runs : (to : ℕ) → Holds area at (Retry to) → LeavesChoice area s at c (with_pair s) to (left (suc at)) (suc at)
-  retry_runs to f = both (Retry to) tt f to (suc at) (λ t e b kids m. step_retry INFINITY area t.query.shown t.name h qs at e regs stack b kids m to f)
-
-  pub trust_me_runs : Holds area at TrustMe → KeepsRunning area s at c s (suc at) c
-  trust_me_runs f = tries TrustMe tt f (suc at) (λ t naming e b kids m. step_trust_me INFINITY area t.query.shown t.name h qs at e regs stack b kids m f)
-
-  pub trust_runs : (to : ℕ) → Holds area at (Trust to) → KeepsRunning area s at c s to c
-  trust_runs to f = tries (Trust to) tt f to (λ t naming e b kids m. step_trust INFINITY area t.query.shown t.name h qs at e regs stack b kids m to f)
 
   pub fail_runs : Holds area at FailNow → GoesBack area s at c s c
   fail_runs f = over FailNow tt f (λ t naming e b kids m. step_fail INFINITY area t.query.shown t.name h qs at e regs stack b kids m f)

@@ -6,7 +6,7 @@ ghost use Rattle.branch_state.specs.States.{with_pair, IsSound, IsUndone};
 ghost use Rattle.code_states.specs.Queries.{KeepsQuery};
 ghost use Rattle.code_states.specs.Safety.{IsSafe, IsSafeBack};
 ghost use Rattle.code_states.specs.Choices.{point_of};
-ghost use Rattle.code_states.specs.Stages.{KeepsRunning, GoesBack, LeavesChoice, SplitsAt, Resumes};
+ghost use Rattle.code_states.specs.Stages.{KeepsRunning, GoesBack, SplitsAt, Resumes};
 ghost use Rattle.code_states.specs.Work.{work_at, work_back};
 
 use branch_state::BranchState;
@@ -17,7 +17,7 @@ use propagate_queue::Agenda;
 use wam_code::CodeArea;
 
 /// Leaves a choice point, to come back to at `place` with all that is current. The error is want of memory.
-fn leave_choice<A: Agenda + Drop>(
+pub(crate) fn leave_choice<A: Agenda + Drop>(
     place: usize,
     branch: &mut BranchState<A>,
     areas: &mut Areas,
@@ -30,114 +30,6 @@ fn leave_choice<A: Agenda + Drop>(
 {
     branch.mark()?;
     areas.push_point(place)
-}
-
-/// Tries the clauses behind, and later those at `to`. The result is the next place; the error is want of memory.
-#[inline]
-pub fn try_me_else<A: Agenda + Drop>(
-    code: &CodeArea,
-    at: usize,
-    to: usize,
-    branch: &mut BranchState<A>,
-    areas: &mut Areas,
-) -> Result<usize, NoMemory>
-    requires safe { IsSafe code.now branch.old at 0 areas.old }
-    requires holds { Holds code.now at (step.TryMeElse to) }
-    ensures safe { IfOk result (λ next. IsSafe code.now branch.new next 0 areas.new) }
-    ensures runs { IfOk result (λ next. LeavesChoice code.now branch.old at areas.old branch.new
-        next
-        areas.new to) }
-    ensures falls { IfOk result (λ next. work_at code.now next areas.new
-        < work_at code.now at areas.old) }
-    ensures query { IfOk result (λ next. KeepsQuery code.now at areas.old next areas.new) }
-    ensures other { OnOk result (KeepsQuery code.now at areas.old to areas.old) }
-    ensures pair { OnOk result (branch.new ≡ with_pair branch.old) }
-    ensures point { OnOk result (areas.new.points
-        ≡ point_of areas.old to ∷ areas.old.points) }
-{
-    leave_choice(to, branch, areas)?;
-    Ok(behind(code, at))
-}
-
-/// The same as `try_me_else`, where the choice point before is gone.
-#[inline]
-pub fn retry_me_else<A: Agenda + Drop>(
-    code: &CodeArea,
-    at: usize,
-    to: usize,
-    branch: &mut BranchState<A>,
-    areas: &mut Areas,
-) -> Result<usize, NoMemory>
-    requires safe { IsSafe code.now branch.old at 0 areas.old }
-    requires holds { Holds code.now at (step.RetryMeElse to) }
-    ensures safe { IfOk result (λ next. IsSafe code.now branch.new next 0 areas.new) }
-    ensures runs { IfOk result (λ next. LeavesChoice code.now branch.old at areas.old branch.new
-        next
-        areas.new to) }
-    ensures falls { IfOk result (λ next. work_at code.now next areas.new
-        < work_at code.now at areas.old) }
-    ensures query { IfOk result (λ next. KeepsQuery code.now at areas.old next areas.new) }
-    ensures other { OnOk result (KeepsQuery code.now at areas.old to areas.old) }
-    ensures pair { OnOk result (branch.new ≡ with_pair branch.old) }
-    ensures point { OnOk result (areas.new.points
-        ≡ point_of areas.old to ∷ areas.old.points) }
-{
-    leave_choice(to, branch, areas)?;
-    Ok(behind(code, at))
-}
-
-/// Tries the clauses at `to`, and later those behind. The result is the next place; the error is want of memory.
-#[inline]
-pub fn try_<A: Agenda + Drop>(
-    code: &CodeArea,
-    at: usize,
-    to: usize,
-    branch: &mut BranchState<A>,
-    areas: &mut Areas,
-) -> Result<usize, NoMemory>
-    requires safe { IsSafe code.now branch.old at 0 areas.old }
-    requires holds { Holds code.now at (step.Try to) }
-    ensures safe { IfOk result (λ next. IsSafe code.now branch.new next 0 areas.new) }
-    ensures runs { IfOk result (λ next. LeavesChoice code.now branch.old at areas.old branch.new
-        next
-        areas.new (suc at)) }
-    ensures falls { IfOk result (λ next. work_at code.now next areas.new
-        < work_at code.now at areas.old) }
-    ensures query { IfOk result (λ next. KeepsQuery code.now at areas.old next areas.new) }
-    ensures other { OnOk result (KeepsQuery code.now at areas.old (suc at) areas.old) }
-    ensures pair { OnOk result (branch.new ≡ with_pair branch.old) }
-    ensures point { OnOk result (areas.new.points
-        ≡ point_of areas.old (suc at) ∷ areas.old.points) }
-{
-    leave_choice(behind(code, at), branch, areas)?;
-    Ok(to)
-}
-
-/// The same as `try_`, where the choice point before is gone.
-#[inline]
-pub fn retry<A: Agenda + Drop>(
-    code: &CodeArea,
-    at: usize,
-    to: usize,
-    branch: &mut BranchState<A>,
-    areas: &mut Areas,
-) -> Result<usize, NoMemory>
-    requires safe { IsSafe code.now branch.old at 0 areas.old }
-    requires holds { Holds code.now at (step.Retry to) }
-    ensures safe { IfOk result (λ next. IsSafe code.now branch.new next 0 areas.new) }
-    ensures runs { IfOk result (λ next. LeavesChoice code.now branch.old at areas.old branch.new
-        next
-        areas.new (suc at)) }
-    ensures falls { IfOk result (λ next. work_at code.now next areas.new
-        < work_at code.now at areas.old) }
-    ensures query { IfOk result (λ next. KeepsQuery code.now at areas.old next areas.new) }
-    ensures other { OnOk result (KeepsQuery code.now at areas.old (suc at) areas.old) }
-    ensures pair { OnOk result (branch.new ≡ with_pair branch.old) }
-    ensures point { OnOk result (areas.new.points
-        ≡ point_of areas.old (suc at) ∷ areas.old.points) }
-{
-    leave_choice(behind(code, at), branch, areas)?;
-    Ok(to)
 }
 
 /// Takes the goals behind, and later those at `to`. The result is the next place; the error is want of memory.
@@ -163,43 +55,6 @@ pub fn either<A: Agenda + Drop>(
 {
     leave_choice(to, branch, areas)?;
     Ok(behind(code, at))
-}
-
-/// The last clauses of a choice are those behind. The result is the next place. No memory.
-#[inline]
-pub fn trust_me<A: Agenda + Drop>(
-    code: &CodeArea,
-    at: usize,
-    branch: &BranchState<A>,
-    areas: &Areas,
-) -> usize
-    requires safe { IsSafe code.now branch.now at 0 areas.now }
-    requires holds { Holds code.now at step.TrustMe }
-    ensures safe { IsSafe code.now branch.now result 0 areas.now }
-    ensures runs { KeepsRunning code.now branch.now at areas.now branch.now result areas.now }
-    ensures falls { work_at code.now result areas.now < work_at code.now at areas.now }
-    ensures query { KeepsQuery code.now at areas.now result areas.now }
-{
-    behind(code, at)
-}
-
-/// The last clauses of a choice are those at `to`, which is the next place. No memory.
-#[inline]
-pub fn trust<A: Agenda + Drop>(
-    code: &CodeArea,
-    at: usize,
-    to: usize,
-    branch: &BranchState<A>,
-    areas: &Areas,
-) -> usize
-    requires safe { IsSafe code.now branch.now at 0 areas.now }
-    requires holds { Holds code.now at (step.Trust to) }
-    ensures safe { IsSafe code.now branch.now result 0 areas.now }
-    ensures runs { KeepsRunning code.now branch.now at areas.now branch.now result areas.now }
-    ensures falls { work_at code.now result areas.now < work_at code.now at areas.now }
-    ensures query { KeepsQuery code.now at areas.now result areas.now }
-{
-    to
 }
 
 /// The next place is `to`. No memory.

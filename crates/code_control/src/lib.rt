@@ -3,15 +3,15 @@
 
 mod calls;
 mod choices;
+mod choosing;
 mod frames;
 mod places;
 mod rows;
 mod switches;
 
 pub use crate::calls::{call, execute, proceed};
-pub use crate::choices::{
-    either, fail_now, go_back, jump, retry, retry_me_else, trust, trust_me, try_, try_me_else,
-};
+pub use crate::choices::{either, fail_now, go_back, jump};
+pub use crate::choosing::choose;
 pub use crate::frames::{allocate, deallocate};
 pub use crate::switches::{
     switch_on_constant, switch_on_integer, switch_on_structure, switch_on_term,

@@ -10,7 +10,7 @@ use wam_code::{CodeArea, Key};
 
 /// Whether a key is what is seen at the top of a term.
 #[inline]
-fn is_key_of(seen: Seen<'_>, key: Key) -> bool
+pub(crate) fn is_key_of(seen: Seen<'_>, key: Key) -> bool
     ensures { IsTrue result ↔ IsKeyOf seen.entry key }
 {
     match (seen, key) {

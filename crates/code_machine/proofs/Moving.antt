@@ -1,5 +1,5 @@
 -- Instructions that spend nothing.
-use Rattle.std.proofs.Common.{◌≡◌, ℕ, ◌<◌, ◌∷◌, refl, sym, subst, inl, inr}
+use Rattle.std.proofs.Common.{◌≡◌, ℕ, ◌<◌, ◌∷◌, refl, ap, sym, subst, inl, inr}
 use Rattle.branch_state.specs.States as branch
 use Rattle.branch_state.specs.States.{IsSameBelow, with_pair}
 use Rattle.wam_code.specs.declared.instruction.Code.{Code}
@@ -16,6 +16,7 @@ use Rattle.code_states.specs.Standing.{KeepsStanding}
 use Rattle.code_states.specs.Queries.{EndsIn, KeepsQuery, KeepsQueryThen}
 use Rattle.code_states.specs.Work.{work_at, work_then, LeadsOn}
 use Rattle.code_states.proofs.Queries.{ends_on}
+use Rattle.code_control.specs.Choosing.{Chooses}
 use Rattle.code_states.proofs.Stages.{kept_runs, kept_falls}
 use Rattle.code_machine.specs.Steps.{Moves}
 
@@ -46,3 +47,13 @@ module _ (area : Area) (s : branch.State) (at : ℕ) (c : Contents) where
   -- one that leaves a new one
   pub choice_moves : (s' : branch.State) (c' : Contents) (to other : ℕ) → s' ≡ with_pair s → c'.points ≡ point_of c other ∷ c.points → IsSafe area s' to 0 c' → LeavesChoice area s at c s' to c' other → KeepsQuery area at c to c' → KeepsQuery area at c other c → work_at area to c' < work_at area at c → Moves area s at c s' c' (On to)
   choice_moves s' c' to other pair point safe runs query left falls = record { safe = safe; moves = inr (record { other = other; pair = pair; point = point; runs = runs; query = query; left = left }); falls = falls }
+
+  -- a choice among clauses
+  pub choice_taken : (s' : branch.State) (c' : Contents) (w : Went) → IsSafeThen area s' c' w → Chooses area s at c s' c' w → work_then area c' w < work_at area at c → Moves area s at c s' c' w
+  choice_taken s' c' w safe (inl k) falls =
+      other_moves s' c' w (subst (IsSameBelow s) (sym k.same) (same_branch s)) (ap (λ (a : Contents). a.points) k.areas) safe
+      (subst (λ t. RunsThen area s at c t c' w) (sym k.same) (subst (λ a. RunsThen area s at c s a w) (sym k.areas) k.runs))
+      (subst (λ a. KeepsQueryThen area at c a w) (sym k.areas) k.query) falls
+  choice_taken s' c' w safe (inr k) falls =
+      subst (Moves area s at c s' c') (sym k.on)
+      (choice_moves s' c' k.to k.other k.pair (ap (λ (a : Contents). a.points) k.areas) (subst (IsSafeThen area s' c') k.on safe) k.runs k.query k.left (subst (λ v. work_then area c' v < work_at area at c) k.on falls))

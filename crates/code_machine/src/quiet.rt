@@ -8,8 +8,8 @@ ghost use Rattle.code_machine.specs.Steps.{Moves, TakesTerm};
 use branch_state::BranchState;
 use code_areas::Areas;
 use code_control::{
-    allocate, deallocate, fail_now, jump, proceed, retry, retry_me_else, switch_on_constant,
-    switch_on_integer, switch_on_structure, switch_on_term, trust, trust_me, try_, try_me_else,
+    allocate, choose, deallocate, fail_now, jump, proceed, switch_on_constant, switch_on_integer,
+    switch_on_structure, switch_on_term,
 };
 use code_states::Went;
 use fd_language::NoMemory;
@@ -88,12 +88,12 @@ pub(crate) fn take_choice<A: Agenda + Drop>(
             fail_now(code, at, branch, areas);
             Ok(Went::Back)
         }
-        Code::TryMeElse(to) => Ok(Went::On(try_me_else(code, at, to, branch, areas)?)),
-        Code::RetryMeElse(to) => Ok(Went::On(retry_me_else(code, at, to, branch, areas)?)),
-        Code::TrustMe => Ok(Went::On(trust_me(code, at, branch, areas))),
-        Code::Try(to) => Ok(Went::On(try_(code, at, to, branch, areas)?)),
-        Code::Retry(to) => Ok(Went::On(retry(code, at, to, branch, areas)?)),
-        Code::Trust(to) => Ok(Went::On(trust(code, at, to, branch, areas))),
+        Code::TryMeElse(_)
+        | Code::RetryMeElse(_)
+        | Code::TrustMe
+        | Code::Try(_)
+        | Code::Retry(_)
+        | Code::Trust(_) => choose(code, at, instruction, branch, areas),
         Code::SwitchOnConstant(t) => Ok(switch_on_constant(code, at, t, branch, areas)),
         Code::SwitchOnInteger(t) => Ok(switch_on_integer(code, at, t, branch, areas)),
         Code::SwitchOnStructure(t) => Ok(switch_on_structure(code, at, t, branch, areas)),
