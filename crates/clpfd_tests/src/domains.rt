@@ -84,125 +84,98 @@ fn made(
     Ok(domain)
 }
 
-fn check(
-    rt: &impl Abort,
-    alloc: Global,
-    lo: i128,
-    hi: i128,
-    calls: &[Call],
-    want: &[(u32, u32)],
-) -> Result<(), NoMemory> {
-    let domain = made(rt, alloc, lo, hi, calls)?;
-    assert_eq!(rt; domain.spans(), want);
-    Ok(())
-}
-
 const TOP: i128 = INFINITY as i128;
+
+/// An interval, a number, and whether it is a member.
+const MEMBERS: &[(i128, i128, i128, bool)] = &[
+    (-9, 2, 0, true),
+    (-9, 2, -1, false),
+    (3, 5, 2, false),
+    (3, 5, 3, true),
+    (3, 5, 5, true),
+    (3, 5, 6, false),
+    (5, 4, 4, false),
+    (9, i128::MAX, 16_777_215, true),
+    (i128::MIN, i128::MAX, 16_777_216, false),
+];
 
 #[test]
 fn intervals_at_the_ends(rt: HostRuntime) {
     let alloc = rt.alloc();
-    for (lo, hi, n, want) in [
-        (-9, 2, 0, true),
-        (-9, 2, -1, false),
-        (3, 5, 2, false),
-        (3, 5, 3, true),
-        (3, 5, 5, true),
-        (3, 5, 6, false),
-        (5, 4, 4, false),
-        (9, i128::MAX, 16_777_215, true),
-        (i128::MIN, i128::MAX, 16_777_216, false),
-    ] {
-        let domain = Domain::interval(alloc, lo, hi);
-        assert_eq!(rt; domain.contains(n), want, "{n} in {lo} to {hi}");
+    for (lo, hi, n, want) in MEMBERS {
+        let domain = Domain::interval(alloc, *lo, *hi);
+        assert_eq!(rt; domain.contains(*n), *want, "{n} in {lo} to {hi}");
     }
 }
 
-/// The quotient of 0 to 10 by 3, (1 and 4) times 3 plus 1, and 0 to 3 without 2.
-#[test]
-fn examples(rt: HostRuntime) -> Result<(), NoMemory> {
-    let alloc = rt.alloc();
-    check(&rt, alloc, 0, 10, &[Call::Quotient(3)], &[(0, 3)])?;
-    check(
-        &rt,
-        alloc,
+/// An interval, the calls, and the intervals of the set that they make.
+type Row = (i128, i128, &'static [Call], &'static [(u32, u32)]);
+
+const ROWS: &[Row] = &[
+    // 0 to 10 by 3; 1 and 4, times 3, plus 1; 0 to 3 without 2
+    (0, 10, &[Call::Quotient(3)], &[(0, 3)]),
+    (
         1,
         1,
         &[Call::Union(4, 4), Call::Scale(3), Call::Shift(1)],
         &[(4, 4), (13, 13)],
-    )?;
-    check(
-        &rt,
-        alloc,
+    ),
+    (
         2,
         2,
         &[Call::Complement, Call::Intersect(0, 3)],
         &[(0, 1), (3, 3)],
-    )?;
+    ),
+    // moved
+    (0, TOP, &[Call::Shift(1)], &[(1, INFINITY)]),
+    (0, 5, &[Call::Shift(-3)], &[(0, 2)]),
+    (0, TOP, &[Call::Shift((1 << 126) - 1)], &[]),
+    (0, TOP, &[Call::Shift(1 - (1 << 126))], &[]),
+    (0, 3, &[Call::Scale(-(1 << 98))], &[(0, 0)]),
+    (0, 3, &[Call::Scale(1 << 98)], &[(0, 0)]),
+    (1, 0, &[Call::Scale(0)], &[]),
+    (5, TOP, &[Call::Scale(0)], &[(0, 0)]),
+    (5, TOP, &[Call::Scale(1)], &[(5, INFINITY)]),
+    // others
+    (0, TOP, &[Call::Quotient(1 << 98)], &[(0, 0)]),
+    (1, TOP, &[Call::Quotient(1 << 98)], &[]),
+    (7, 11, &[Call::Quotient(3)], &[(3, 3)]),
+    (3, 6, &[Call::Union(8, 9), Call::Quotient(3)], &[(1, 3)]),
+    (3, 3, &[Call::Union(4, 4), Call::Copy], &[(3, 4)]),
+    (0, TOP, &[Call::Complement], &[]),
+    (1, 0, &[Call::Complement], &[(0, INFINITY)]),
+    (TOP, TOP, &[Call::Complement], &[(0, INFINITY - 1)]),
+];
+
+#[test]
+fn calls_make_sets(rt: HostRuntime) -> Result<(), NoMemory> {
+    for (lo, hi, calls, want) in ROWS {
+        let domain = made(&rt, rt.alloc(), *lo, *hi, calls)?;
+        assert_eq!(rt; domain.spans(), *want);
+    }
     Ok(())
 }
 
 #[test]
-fn moved_sets(rt: HostRuntime) -> Result<(), NoMemory> {
-    let alloc = rt.alloc();
-    check(&rt, alloc, 0, TOP, &[Call::Shift(1)], &[(1, INFINITY)])?;
-    check(&rt, alloc, 0, 5, &[Call::Shift(-3)], &[(0, 2)])?;
-    check(&rt, alloc, 0, TOP, &[Call::Shift((1 << 126) - 1)], &[])?;
-    check(&rt, alloc, 0, TOP, &[Call::Shift(1 - (1 << 126))], &[])?;
-    check(&rt, alloc, 0, 3, &[Call::Scale(-(1 << 98))], &[(0, 0)])?;
-    check(&rt, alloc, 0, 3, &[Call::Scale(1 << 98)], &[(0, 0)])?;
-    check(&rt, alloc, 1, 0, &[Call::Scale(0)], &[])?;
-    check(&rt, alloc, 5, TOP, &[Call::Scale(0)], &[(0, 0)])?;
-    check(&rt, alloc, 5, TOP, &[Call::Scale(1)], &[(5, INFINITY)])?;
+fn ends_and_next_numbers(rt: HostRuntime) -> Result<(), NoMemory> {
+    let domain = made(&rt, rt.alloc(), 3, 5, &[Call::Union(9, 9)])?;
+    for (found, want) in [
+        (domain.min(), Some(3)),
+        (domain.max(), Some(9)),
+        (domain.next_from(6), Some(9)),
+        (domain.next_from(10), None),
+        (Domain::empty(rt.alloc()).max(), None),
+    ] {
+        assert_eq!(rt; found, want);
+    }
     Ok(())
 }
 
 #[test]
-fn other_sets(rt: HostRuntime) -> Result<(), NoMemory> {
-    let alloc = rt.alloc();
-    check(&rt, alloc, 0, TOP, &[Call::Quotient(1 << 98)], &[(0, 0)])?;
-    check(&rt, alloc, 1, TOP, &[Call::Quotient(1 << 98)], &[])?;
-    check(&rt, alloc, 7, 11, &[Call::Quotient(3)], &[(3, 3)])?;
-    check(
-        &rt,
-        alloc,
-        3,
-        6,
-        &[Call::Union(8, 9), Call::Quotient(3)],
-        &[(1, 3)],
-    )?;
-    check(
-        &rt,
-        alloc,
-        3,
-        3,
-        &[Call::Union(4, 4), Call::Copy],
-        &[(3, 4)],
-    )?;
-    check(&rt, alloc, 0, TOP, &[Call::Complement], &[])?;
-    check(&rt, alloc, 1, 0, &[Call::Complement], &[(0, INFINITY)])?;
-    check(
-        &rt,
-        alloc,
-        TOP,
-        TOP,
-        &[Call::Complement],
-        &[(0, INFINITY - 1)],
-    )?;
-    Ok(())
-}
-
-#[test]
-fn readers(rt: HostRuntime) -> Result<(), NoMemory> {
-    let alloc = rt.alloc();
-    let domain = made(&rt, alloc, 3, 5, &[Call::Union(9, 9)])?;
-    assert_eq!(rt; domain.min(), Some(3));
-    assert_eq!(rt; domain.max(), Some(9));
+fn sizes(rt: HostRuntime) -> Result<(), NoMemory> {
+    let domain = made(&rt, rt.alloc(), 3, 5, &[Call::Union(9, 9)])?;
     assert_eq!(rt; domain.size(), 4);
-    assert_eq!(rt; domain.next_from(6), Some(9));
-    assert_eq!(rt; domain.next_from(10), None);
-    assert_eq!(rt; Domain::empty(alloc).max(), None);
-    assert_eq!(rt; Domain::full(alloc).size(), 16_777_216);
+    assert_eq!(rt; Domain::full(rt.alloc()).size(), 16_777_216);
     Ok(())
 }
 

@@ -1,4 +1,4 @@
-//! Tests of the libraries, as tables of cases. What a case wants comes from the rules of the language, not from the program's output.
+//! Tests of the libraries of sets, ranges and ports, as tables of cases. What a case wants comes from the rules of the language, not from the program's output.
 //!
 //! A test stands here when it calls only what is public: so a library is proved once, without its tests.
 #![tactic(auto)]
@@ -6,16 +6,8 @@
 #[cfg(test)]
 mod domains;
 #[cfg(test)]
-mod pools;
-#[cfg(test)]
 mod ports;
 #[cfg(test)]
 mod ranges;
-#[cfg(test)]
-mod sentences;
-#[cfg(test)]
-mod term_texts;
-#[cfg(test)]
-mod tokens;
 #[cfg(test)]
 mod verdicts;

@@ -42,14 +42,16 @@ fn reads_a_text_from_each_source(rt: HostRuntime) -> Result<(), Fail> {
     Ok(())
 }
 
-/// Where the second call fails.
+/// What the calls give where the second fails.
+const READS: &[Result<usize, Failed>] = &[Ok(1), Err(Failed), Ok(1), Ok(1), Ok(0)];
+
 #[test]
 fn a_small_source_gives_a_byte_a_call(rt: HostRuntime) -> Result<(), Fail> {
     let text = Vec::from_slice(rt.alloc(), b"abc")?;
     let mut source = SmallSource::new(text, vec![in rt.alloc(); 2]?);
-    for want in [Ok(1), Err(Failed), Ok(1), Ok(1), Ok(0)] {
+    for want in READS {
         let found = source.read(&mut [0; 2]);
-        assert_eq!(rt; found, want);
+        assert_eq!(rt; found, *want);
     }
     Ok(())
 }
@@ -88,45 +90,55 @@ fn a_writer_that_takes_nothing_fails(rt: HostRuntime) {
     assert_eq!(rt; written, (false, true));
 }
 
-/// Where the third call fails, and then the room is too small.
+/// Pieces, whether each is written whole, and the sink's bytes behind it.
+type Writes = &'static [(&'static str, bool, &'static str)];
+
+/// The third call fails, and then the room of 6 is too small.
+const WRITES: Writes = &[
+    ("abc", true, "abc"),
+    ("de", true, "abcde"),
+    ("f", false, "abcde"),
+    ("fg", false, "abcde"),
+    ("f", true, "abcdef"),
+];
+
 #[test]
 fn a_failed_write_leaves_what_was_written(rt: HostRuntime) -> Result<(), Fail> {
     let mut sink = MemorySink::new(rt.alloc(), 6, vec![in rt.alloc(); 3]?)?;
-    for (piece, whole, after) in [
-        ("abc", true, "abc"),
-        ("de", true, "abcde"),
-        ("f", false, "abcde"),
-        ("fg", false, "abcde"),
-        ("f", true, "abcdef"),
-    ] {
+    for (piece, whole, after) in WRITES {
         let written = put(&mut sink, piece);
-        assert_eq!(rt; written, whole, "{piece}");
+        assert_eq!(rt; written, *whole, "{piece}");
         assert_eq!(rt; sink.bytes(), after.as_bytes(), "{piece}");
     }
     Ok(())
 }
 
-/// Where the fourth call fails, and then there is no room.
+/// The fourth call fails, and then there is no room behind 5 bytes.
+const SMALL_WRITES: Writes = &[
+    ("ab", true, "ab"),
+    ("cd", false, "abc"),
+    ("def", false, "abcde"),
+    ("", true, "abcde"),
+];
+
 #[test]
 fn a_small_sink_takes_a_byte_a_call(rt: HostRuntime) -> Result<(), Fail> {
     let mut sink = SmallSink::new(rt.alloc(), 5, vec![in rt.alloc(); 4]?)?;
-    for (piece, whole, after) in [
-        ("ab", true, "ab"),
-        ("cd", false, "abc"),
-        ("def", false, "abcde"),
-        ("", true, "abcde"),
-    ] {
+    for (piece, whole, after) in SMALL_WRITES {
         let written = put(&mut sink, piece);
-        assert_eq!(rt; written, whole, "{piece}");
+        assert_eq!(rt; written, *whole, "{piece}");
         assert_eq!(rt; sink.bytes(), after.as_bytes(), "{piece}");
     }
     Ok(())
 }
+
+/// Pieces, and the bytes that a sink of room 3 tells behind each.
+const SURE_WRITES: &[(&str, Option<&str>)] = &[("abc", Some("abc")), ("d", None), ("", None)];
 
 #[test]
 fn a_sure_sink_tells_nothing_past_its_room(rt: HostRuntime) -> Result<(), Fail> {
     let mut sink = SureSink::new(rt.alloc(), 3)?;
-    for (piece, after) in [("abc", Some("abc")), ("d", None), ("", None)] {
+    for (piece, after) in SURE_WRITES {
         let written = put(&mut sink, piece);
         assert!(rt; written, "{piece}");
         let told = sink.bytes();

@@ -2,8 +2,9 @@
 
 ghost use Rattle.std.specs.Prelude.{◌<◌, length};
 
+use crate::verdicts::told;
 use fd_language::{Feature, RangeNode};
-use monotone_check::{CheckFault, check};
+use monotone_check::check;
 use range_terms::{RangeFault, SourceRange, features, read_range};
 use std::alloc::{AllocError, Global};
 use std::process::Abort;
@@ -155,18 +156,10 @@ fn range_in(pool: &Pool, t: TermId) -> TermId
 fn said_of(alloc: Global, pool: &Pool, t: TermId) -> Result<String, AllocError>
     requires { t.number < length pool.now.entries }
 {
-    let SourceRange { range, places } = match read_range(alloc, pool, t) {
-        Ok(source) => source,
-        Err(RangeFault::NotARange { place }) => return format!(in alloc; "not a range {place}"),
-        Err(RangeFault::NoMemory) => return format!(in alloc; "out of memory"),
-    };
-    match check(alloc, range, &places) {
-        Ok(_) => format!(in alloc; "accepted"),
-        Err(CheckFault::NotMonotone { place }) => format!(in alloc; "not monotone {place}"),
-        Err(CheckFault::NotNatural { place }) => format!(in alloc; "not natural {place}"),
-        Err(CheckFault::BadDivisor { place }) => format!(in alloc; "bad divisor {place}"),
-        Err(CheckFault::TooWide { place }) => format!(in alloc; "too wide {place}"),
-        Err(CheckFault::NoMemory) => format!(in alloc; "out of memory"),
+    match read_range(alloc, pool, t) {
+        Ok(SourceRange { range, places }) => told(alloc, check(alloc, range, &places)),
+        Err(RangeFault::NotARange { place }) => format!(in alloc; "not a range {place}"),
+        Err(RangeFault::NoMemory) => String::from_str(alloc, "out of memory"),
     }
 }
 
@@ -203,41 +196,45 @@ fn source(rt: &impl Abort, alloc: Global, text: &str) -> Result<SourceRange, Fai
     panic!(rt; "no sentence in {text}")
 }
 
+/// A range of each kind of node.
+const ALL_NODES: &str = "(1+min(A)-max(B)*val(C)/<D/>E..infinity:{2}& -dom(F))*2/4+1-G.";
+
+/// Its nodes with their places.
+const NODES: &[(RangeNode, usize)] = &[
+    (RangeNode::Int(1), 1),
+    (RangeNode::Min(0), 3),
+    (RangeNode::Add, 2),
+    (RangeNode::Max(1), 10),
+    (RangeNode::Val(2), 17),
+    (RangeNode::Mul, 16),
+    (RangeNode::Param(3), 25),
+    (RangeNode::DivDown, 23),
+    (RangeNode::Param(4), 28),
+    (RangeNode::DivUp, 26),
+    (RangeNode::Sub, 9),
+    (RangeNode::Infinity, 31),
+    (RangeNode::Span, 29),
+    (RangeNode::Int(2), 41),
+    (RangeNode::One, 40),
+    (RangeNode::Dom(5), 46),
+    (RangeNode::Outside, 45),
+    (RangeNode::Inter, 43),
+    (RangeNode::Union, 39),
+    (RangeNode::Int(2), 54),
+    (RangeNode::Times, 53),
+    (RangeNode::Int(4), 56),
+    (RangeNode::Over, 55),
+    (RangeNode::Int(1), 58),
+    (RangeNode::Plus, 57),
+    (RangeNode::Param(6), 60),
+    (RangeNode::Minus, 59),
+];
+
 #[test]
 fn nodes_have_the_places_of_their_names(rt: HostRuntime) -> Result<(), Fail> {
-    let text = "(1+min(A)-max(B)*val(C)/<D/>E..infinity:{2}& -dom(F))*2/4+1-G.";
-    let nodes = [
-        (RangeNode::Int(1), 1),
-        (RangeNode::Min(0), 3),
-        (RangeNode::Add, 2),
-        (RangeNode::Max(1), 10),
-        (RangeNode::Val(2), 17),
-        (RangeNode::Mul, 16),
-        (RangeNode::Param(3), 25),
-        (RangeNode::DivDown, 23),
-        (RangeNode::Param(4), 28),
-        (RangeNode::DivUp, 26),
-        (RangeNode::Sub, 9),
-        (RangeNode::Infinity, 31),
-        (RangeNode::Span, 29),
-        (RangeNode::Int(2), 41),
-        (RangeNode::One, 40),
-        (RangeNode::Dom(5), 46),
-        (RangeNode::Outside, 45),
-        (RangeNode::Inter, 43),
-        (RangeNode::Union, 39),
-        (RangeNode::Int(2), 54),
-        (RangeNode::Times, 53),
-        (RangeNode::Int(4), 56),
-        (RangeNode::Over, 55),
-        (RangeNode::Int(1), 58),
-        (RangeNode::Plus, 57),
-        (RangeNode::Param(6), 60),
-        (RangeNode::Minus, 59),
-    ];
-    let found = source(&rt, rt.alloc(), text)?;
-    assert_eq!(rt; found.places.len(), nodes.len());
-    for ((node, place), (found_node, found_place)) in nodes
+    let found = source(&rt, rt.alloc(), ALL_NODES)?;
+    assert_eq!(rt; found.places.len(), NODES.len());
+    for ((node, place), (found_node, found_place)) in NODES
         .iter()
         .zip(found.range.nodes().iter().zip(&found.places))
     {
@@ -246,6 +243,15 @@ fn nodes_have_the_places_of_their_names(rt: HostRuntime) -> Result<(), Fail> {
     Ok(())
 }
 
+/// The features of the range below.
+const FEATURES: &[(u64, Feature)] = &[
+    (0, Feature::Max),
+    (1, Feature::Min),
+    (1, Feature::Max),
+    (1, Feature::Dom),
+    (0, Feature::Val),
+];
+
 #[test]
 fn each_feature_comes_once(rt: HostRuntime) -> Result<(), Fail> {
     let found = source(
@@ -253,28 +259,25 @@ fn each_feature_comes_once(rt: HostRuntime) -> Result<(), Fail> {
         rt.alloc(),
         "max(B)+min(A)..max(A)-min(A):dom(A)&{max(B)+val(B)+P}.",
     )?;
-    let pairs = [
-        (0, Feature::Max),
-        (1, Feature::Min),
-        (1, Feature::Max),
-        (1, Feature::Dom),
-        (0, Feature::Val),
-    ];
-    assert_eq!(rt;
-        features(rt.alloc(), &found.range)?.as_slice(),
-        pairs.as_slice()
-    );
+    let found = features(rt.alloc(), &found.range)?;
+    assert_eq!(rt; found.as_slice(), FEATURES);
     Ok(())
+}
+
+/// The part 100,000 times, and then the last part.
+fn repeated(alloc: Global, part: &str, last: &str) -> Result<String, AllocError> {
+    let mut text = String::new(alloc);
+    for _ in 0..100_000 {
+        text.push_str(part)?;
+    }
+    text.push_str(last)?;
+    Ok(text)
 }
 
 #[test]
 fn a_range_may_be_as_deep_as_it_is_long(rt: HostRuntime) -> Result<(), Fail> {
     for (part, last) in [("- ", "dom(X)."), ("1+", "1..9.")] {
-        let mut text = String::new(rt.alloc());
-        for _ in 0..100_000 {
-            text.push_str(part)?;
-        }
-        text.push_str(last)?;
+        let text = repeated(rt.alloc(), part, last)?;
         let found = source(&rt, rt.alloc(), &text)?;
         assert!(rt; found.places.len() > 100_000);
     }

@@ -1,8 +1,8 @@
 //! Ranges with their verdicts, as the rules of the check give them.
 
 use fd_language::{FlatRange, Need, RangeNode};
-use monotone_check::{CheckFault, check, needs};
-use std::alloc::Global;
+use monotone_check::{CheckFault, Checked, check, needs};
+use std::alloc::{AllocError, Global};
 use std::test::Fail;
 
 fn node_of(kind: &str, number: i64) -> Option<RangeNode> {
@@ -58,19 +58,33 @@ fn spelled(alloc: Global, spelling: &str) -> Result<(FlatRange, Vec<usize>), Fai
     }
 }
 
+fn cause_and_place(fault: CheckFault) -> (&'static str, usize) {
+    match fault {
+        CheckFault::NotMonotone { place } => ("not monotone", place),
+        CheckFault::NotNatural { place } => ("not natural", place),
+        CheckFault::BadDivisor { place } => ("bad divisor", place),
+        CheckFault::TooWide { place } => ("too wide", place),
+        CheckFault::NoMemory => ("out of memory", 0),
+    }
+}
+
+/// What the check of a range is told to have found.
+pub fn told(alloc: Global, checked: Result<Checked, CheckFault>) -> Result<String, AllocError> {
+    match checked {
+        Ok(_) => String::from_str(alloc, "accepted"),
+        Err(fault) => {
+            let (cause, place) = cause_and_place(fault);
+            format!(in alloc; "{cause} {place}")
+        }
+    }
+}
+
 fn verdict_of(alloc: Global, spelling: &str) -> Result<String, Fail> {
     let (range, places) = spelled(alloc, spelling)?;
     if places.len() != range.nodes().len() {
         return Err(Fail::new("no place for each node"));
     }
-    Ok(match check(alloc, range, &places) {
-        Ok(_) => String::from_str(alloc, "accepted")?,
-        Err(CheckFault::NotMonotone { place }) => format!(in alloc; "not monotone {place}")?,
-        Err(CheckFault::NotNatural { place }) => format!(in alloc; "not natural {place}")?,
-        Err(CheckFault::BadDivisor { place }) => format!(in alloc; "bad divisor {place}")?,
-        Err(CheckFault::TooWide { place }) => format!(in alloc; "too wide {place}")?,
-        Err(CheckFault::NoMemory) => String::from_str(alloc, "out of memory")?,
-    })
+    Ok(told(alloc, check(alloc, range, &places))?)
 }
 
 /// A range's text, its nodes in postfix order with their places, and what the check says of it.
@@ -169,21 +183,9 @@ fn verdicts(rt: HostRuntime) -> Result<(), Fail> {
 /// The strongest need holds: P is natural in a product, though it stands alone before, and R is a divisor.
 #[test]
 fn strongest_needs(rt: HostRuntime) -> Result<(), Fail> {
-    let nodes = [
-        RangeNode::Param(0),
-        RangeNode::Int(9),
-        RangeNode::Span,
-        RangeNode::Int(0),
-        RangeNode::Param(0),
-        RangeNode::Param(1),
-        RangeNode::Mul,
-        RangeNode::Span,
-        RangeNode::Union,
-        RangeNode::Param(2),
-        RangeNode::Over,
-    ];
-    let places = [0; 11];
-    let range = FlatRange::from_nodes(nodes.to_vec(rt.alloc())?).expect(&rt, "a range");
+    let spelling =
+        "param:0:0 int:9:0 span:0:0 int:0:0 param:0:0 param:1:0 mul:0:0 span:0:0 union:0:0 param:2:0 over:0:0";
+    let (range, places) = spelled(rt.alloc(), spelling)?;
     assert_eq!(rt; places.len(), range.nodes().len());
     let checked = check(rt.alloc(), range, &places)?;
     let found = needs(rt.alloc(), &checked)?;

@@ -22,7 +22,7 @@ use Step::{Atom, Comp, Int, Var};
 /// A term, a limit, and the texts in mode `Quoted` and in mode `Plain`.
 type Case = (&'static [Step], u32, &'static str, &'static str);
 
-const OPERATORS: [Case; 31] = [
+const OPERATORS: &[Case] = &[
     (&[Int(1), Int(-1), Comp("-", 2)], 1200, "1- -1", "1- -1"),
     (
         &[Int(1), Int(2), Int(3), Comp("-", 2), Comp("-", 2)],
@@ -167,7 +167,7 @@ const OPERATORS: [Case; 31] = [
     ),
 ];
 
-const OTHERS: [Case; 37] = [
+const OTHERS: &[Case] = &[
     (
         &[Atom("a"), Atom("b"), Comp(".", 2)],
         1200,
@@ -383,27 +383,30 @@ fn compare(rt: &HostRuntime, cases: &[Case]) -> Result<(), Fail> {
 
 #[test]
 fn writes_operators(rt: HostRuntime) -> Result<(), Fail> {
-    compare(&rt, &OPERATORS)
+    compare(&rt, OPERATORS)
 }
 
 #[test]
 fn writes_lists_calls_and_atoms(rt: HostRuntime) -> Result<(), Fail> {
-    compare(&rt, &OTHERS)
+    compare(&rt, OTHERS)
 }
+
+/// A name, and whether an operand may stand before it.
+const NAMES: &[(&str, bool)] = &[
+    ("foo", true),
+    ("!", true),
+    (",", true),
+    (",", false),
+    ("-", true),
+    ("-", false),
+    ("A b", true),
+];
 
 #[test]
 fn writes_names(rt: HostRuntime) -> Result<(), Fail> {
     let mut out = Vec::from_slice(rt.alloc(), b"unknown ")?;
-    for (name, before) in [
-        ("foo", true),
-        ("!", true),
-        (",", true),
-        (",", false),
-        ("-", true),
-        ("-", false),
-        ("A b", true),
-    ] {
-        write_atom(rt.alloc(), name, before, &mut out)?;
+    for (name, before) in NAMES {
+        write_atom(rt.alloc(), name, *before, &mut out)?;
     }
     assert!(rt; out.as_slice() == b"unknown foo!','','-'-''A b'".as_slice());
     Ok(())

@@ -183,14 +183,17 @@ fn texts_give_their_tokens_or_their_first_fault(rt: HostRuntime) -> Result<(), F
     Ok(())
 }
 
+/// The text, the place and the tightness of each token of `X% b`, a new line and ` in.`
+const SCANNED: &[(&str, usize, bool)] = &[("X", 0, true), ("in", 6, false), (".", 8, true)];
+
 #[test]
 fn a_scanner_gives_token_by_token(rt: HostRuntime) -> Result<(), Fail> {
     let mut scanner = Scanner::new("X% b\n in.");
-    for (text, place, tight) in [("X", 0, true), ("in", 6, false), (".", 8, true)] {
+    for (text, place, tight) in SCANNED {
         let next = scanner.next_token();
         assert!(rt;
-            matches!(&next, Ok(Some(token)) if token.text == text && token.place == place && token.tight == tight),
-            "{text} at {place}: {next:?}"
+            matches!(&next, Ok(Some(token)) if token.text == *text && token.place == *place && token.tight == *tight),
+            "{text} at {place}"
         );
     }
     assert!(rt; matches!(scanner.next_token(), Ok(None)));

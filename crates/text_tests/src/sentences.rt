@@ -246,20 +246,23 @@ fn nested(alloc: Global, count: usize, inner: &str) -> Result<String, AllocError
     Ok(text)
 }
 
+/// How many brackets stand around a text, and what that is.
+const NESTED: &[(usize, &str, &str)] = &[
+    (1000, "a", "a@1000"),
+    (1001, "a", "TooDeep 1000"),
+    (999, "[]", "[]@999"),
+    (1000, "[]", "TooDeep 1000"),
+    (1000, "-(a)", "TooDeep 1001"),
+    (1000, "b )", "Syntax 2002"),
+    (1001, ")", "TooDeep 1000"),
+];
+
 #[test]
 fn a_thousand_brackets_may_be_open(rt: HostRuntime) -> Result<(), Fail> {
-    for (count, inner, want) in [
-        (1000, "a", "a@1000"),
-        (1001, "a", "TooDeep 1000"),
-        (999, "[]", "[]@999"),
-        (1000, "[]", "TooDeep 1000"),
-        (1000, "-(a)", "TooDeep 1001"),
-        (1000, "b )", "Syntax 2002"),
-        (1001, ")", "TooDeep 1000"),
-    ] {
-        let text = nested(rt.alloc(), count, inner)?;
+    for (count, inner, want) in NESTED {
+        let text = nested(rt.alloc(), *count, inner)?;
         let found = shown(rt.alloc(), &text)?;
-        assert_eq!(rt; found.as_str(), want, "{count} around {inner}");
+        assert_eq!(rt; found.as_str(), *want, "{count} around {inner}");
     }
     Ok(())
 }
@@ -280,21 +283,22 @@ fn long(
     Ok(text)
 }
 
+/// How a text begins, what it goes on with and how often, and how it ends.
+const LONG: &[(&str, &str, usize, &str)] = &[
+    ("", "- ", 10_000, "a."),
+    ("", "a:-b. ", 10_000, "c."),
+    ("a", ",b", 100_000, "."),
+    ("a", "-b", 100_000, "."),
+    ("[a", ",b", 100_000, "]."),
+    ("f(A", ",B", 100_000, ")."),
+];
+
 #[test]
 fn what_is_no_bracket_may_be_as_deep_as_it_is_long(rt: HostRuntime) -> Result<(), Fail> {
-    for (first, rest, count, last) in [
-        ("", "- ", 10_000, "a."),
-        ("", "a:-b. ", 10_000, "c."),
-        ("a", ",b", 100_000, "."),
-        ("a", "-b", 100_000, "."),
-        ("[a", ",b", 100_000, "]."),
-        ("f(A", ",B", 100_000, ")."),
-    ] {
-        let text = long(rt.alloc(), first, rest, count, last)?;
-        assert!(rt;
-            read_sentences(rt.alloc(), &text).is_ok(),
-            "{first}{rest}..{last}"
-        );
+    for (first, rest, count, last) in LONG {
+        let text = long(rt.alloc(), first, rest, *count, last)?;
+        let is_read = read_sentences(rt.alloc(), &text).is_ok();
+        assert!(rt; is_read, "{first}{rest}..{last}");
     }
     Ok(())
 }

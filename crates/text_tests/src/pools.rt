@@ -1,0 +1,102 @@
+//! Atoms and terms of a pool by their numbers.
+
+ghost use Rattle.std.specs.Prelude.{◌≡◌, ◌<◌, ◌≤◌, length, IfOk};
+ghost use Rattle.term_pool.specs.Valid.{IsWithin, shape_of};
+
+use std::process::Abort;
+use std::test::Fail;
+use term_pool::{AtomId, CONS, NIL, Node, Pool, SPAN, TermId};
+
+/// The number of the atom with this name.
+fn number(pool: &mut Pool, name: &str) -> Result<usize, Fail> {
+    Ok(pool.atom(name)?.number)
+}
+
+/// The name of an atom, or nothing where the pool has no such atom.
+fn name(pool: &Pool, atom: AtomId) -> &str {
+    if atom.number < pool.atoms() {
+        pool.name_of(atom)
+    } else {
+        ""
+    }
+}
+
+/// Names, and the numbers that they get one after another.
+const NUMBERS: &[(&str, usize)] = &[
+    ("[]", 0),
+    (".", 1),
+    ("..", 2),
+    ("dig", 3),
+    ("Dig", 4),
+    ("dig", 3),
+    ("..", 2),
+];
+
+#[test]
+fn equal_texts_have_equal_numbers(rt: HostRuntime) -> Result<(), Fail> {
+    let mut pool = Pool::new(rt.alloc())?;
+    for (text, want) in NUMBERS {
+        let found = number(&mut pool, text)?;
+        assert_eq!(rt; found, *want, "{text}");
+    }
+    let count = pool.atoms();
+    assert_eq!(rt; count, 5);
+    Ok(())
+}
+
+#[test]
+fn three_atoms_have_constants(rt: HostRuntime) -> Result<(), Fail> {
+    let pool = Pool::new(rt.alloc())?;
+    assert_eq!(rt; name(&pool, NIL), "[]");
+    assert_eq!(rt; name(&pool, CONS), ".");
+    assert_eq!(rt; name(&pool, SPAN), "..");
+    Ok(())
+}
+
+/// What the top of a term is, with the numbers of its atom and of its parts.
+fn top(pool: &Pool, t: TermId) -> (i64, usize, usize)
+    requires { t.number < length pool.now.entries }
+{
+    match pool.view(t) {
+        Node::Var(_) => (-7, 0, 0),
+        Node::Int(integer) => (integer, 0, 0),
+        Node::Atom(atom) => (0, atom.number, 0),
+        Node::Comp(atom, []) => (0, atom.number, 0),
+        Node::Comp(atom, [only]) => (1, atom.number, only.number),
+        Node::Comp(atom, [.., last]) => (2, atom.number, last.number),
+    }
+}
+
+fn check_top(rt: &impl Abort, pool: &Pool, t: TermId, place: usize, want: (i64, usize, usize))
+    requires { t.number < length pool.now.entries }
+{
+    let found = (pool.place(t), top(pool, t));
+    assert_eq!(rt; found, (place, want));
+}
+
+/// A node put into the pool.
+fn added(pool: &mut Pool, node: Node<'_>, place: usize) -> Result<TermId, Fail>
+    requires { IsWithin (length pool.old.names) (length pool.old.entries) (shape_of node) }
+    ensures id { IfOk result (λ t. t.number < length pool.new.entries) }
+    ensures names { length pool.new.names ≡ length pool.old.names }
+    ensures entries { length pool.old.entries ≤ length pool.new.entries }
+{
+    Ok(pool.add(node, place)?)
+}
+
+#[test]
+fn shows_a_term_of_depth_two(rt: HostRuntime) -> Result<(), Fail> {
+    let mut pool = Pool::new(rt.alloc())?;
+    let name = pool.atom("f")?;
+    let variable = added(&mut pool, Node::Var(7), 2)?;
+    let integer = added(&mut pool, Node::Int(-1), 6)?;
+    let node = Node::Comp(name, &[integer]);
+    let inner = added(&mut pool, node, 4)?;
+    let node = Node::Comp(CONS, &[variable, inner]);
+    let outer = added(&mut pool, node, 0)?;
+    check_top(&rt, &pool, variable, 2, (-7, 0, 0));
+    check_top(&rt, &pool, integer, 6, (-1, 0, 0));
+    check_top(&rt, &pool, inner, 4, (1, 3, 1));
+    check_top(&rt, &pool, outer, 0, (2, 1, 2));
+    Ok(())
+}
