@@ -18,7 +18,7 @@ use Rattle.code_states.proofs.Queries.{query_kept}
 use Rattle.code_states.proofs.Safety.{place_within}
 use Rattle.code_control.specs.declared.choosing.Tried.{Tried}
 use Rattle.code_control.specs.declared.choosing.Tried.TheVariants.{Both, Last, Other}
-use Rattle.code_control.specs.Choosing.{tried_by, IsTried, IsChoice, MayMatchFrom, IsLater, LeavesOut, Chooses}
+use Rattle.code_control.specs.Choosing.{tried_by, IsTried, IsChoice, FirstMayMatch, MayMatchFrom, IsLater, LeavesOut, Chooses}
 use Rattle.code_control.proofs.Skipping.{Place, Places, places_of, choice_of, skipped_runs, skipped_back, left_runs, alone_runs, last_runs}
 use Rattle.code_control.proofs.Threads.{left_safe}
 use Rattle.code_control.proofs.Working.{moved_falls, left_falls}
@@ -40,9 +40,12 @@ module _ (area : Area) (s : branch.State) (from : ℕ) (c : Contents) (safe : Is
   led = subst (Places area s at c here) (sym is.2) (places_of area s at c here is.0 is.1)
 
 module _ (area : Area) (s : branch.State) (from : ℕ) (c : Contents) (safe : IsSafe area s from 0 c) (at : ℕ) (later : IsLater area s from at c) where
-  -- A later place is in the code,
+  -- A later place is safe to go on at, and in the code,
+  pub here_safe : IsSafe area s at 0 c
+  here_safe = safe_at area s from at c safe (later.goes safe)
+
   pub later_within : at < length area.code
-  later_within = place_within area s at 0 c (safe_at area s from at c safe (later.goes safe))
+  later_within = place_within area s at 0 c here_safe
 
   -- and the clause that the choice there tries first is safe to begin.
   pub first_safe : (to other : ℕ) → IsTried area at (Both to other) → IsSafe area s to 0 c
@@ -61,6 +64,12 @@ later_more area s from c safe at later to other is = record {
   near = (let near = (led area s from c safe at later (Both to other) is).1.1 in let less = later.near in omega (arith, near, less));
   inside = λ number k. (led area s from c safe at later (Both to other) is).1.2 number (later.inside number k);
 }
+
+-- What is tried at a place is one thing.
+pub may_match : (area : Area) (s : branch.State) (at : ℕ) (c : Contents) → MayMatchFrom area s at c → (t : Tried) → IsTried area at t → FirstMayMatch area s at c t
+may_match area s at c may t is =
+    let same = same_Some may.1.0 is.0 (sym may.1.1 ∙ is.1) in
+    subst (FirstMayMatch area s at c) (may.1.2 ∙ ap (λ j. tried_by j at) same ∙ sym is.2) may.2
 
 no_other : (to other : ℕ) → Both to other ≡ Other → ⊥
 no_other to other e = cc

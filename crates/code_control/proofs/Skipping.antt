@@ -227,3 +227,15 @@ module _ (area : Area) (s : branch.State) (from at : ℕ) (c : Contents) (sofar 
         none = gone_both k.gone k.kept k.none (ruled_out_gone area s to c safe out shown name naming e b k.kept one);
         tries = refl;
       }
+
+-- and where no choice stands
+pub leaves_here : (area : Area) (s : branch.State) (from at : ℕ) (c : Contents) → LeavesOut area s from c (Some at) → IsSafe area s at 0 c → IsRuledOut area s at c → LeavesOut area s from c None
+leaves_here area s from at c sofar safe out = λ shown name e b kids naming m.
+    let k = sofar shown name e b kids naming m in
+    record {
+      gone = k.gone ++ k.kept;
+      kept = [];
+      both = k.both ∙ sym (append-nil (k.gone ++ k.kept));
+      none = gone_both k.gone k.kept k.none (ruled_out_gone area s at c safe out shown name naming e b k.kept k.tries);
+      tries = refl;
+    }

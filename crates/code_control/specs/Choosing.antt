@@ -25,7 +25,7 @@ use Rattle.code_states.specs.Safety.{IsThread, IsSafe}
 use Rattle.code_states.specs.Stages.{LeavesChoice, RunsThen}
 use Rattle.code_states.specs.Standing.{IsNaming, HasNoModel}
 use Rattle.code_states.specs.declared.went.Went.{Went}
-use Rattle.code_states.specs.declared.went.Went.TheVariants.{On}
+use Rattle.code_states.specs.declared.went.Went.TheVariants.{On, Back}
 use Rattle.code_control.specs.declared.choosing.Tried.{Tried}
 use Rattle.code_control.specs.declared.choosing.Tried.TheVariants as tried
 use Rattle.code_control.specs.Rows.{IsKeyOf}
@@ -48,6 +48,12 @@ IsTried area at t = (i : Code) × Holds area at i × (t ≡ tried_by i at)
 -- the instruction is a choice
 abbrev pub IsChoice : Code → Type 0
 IsChoice i = tried_by i 0 ≡ tried.Other → ⊥
+
+-- and no choice point was left for it before
+abbrev pub IsNewChoice : Code → Type 0
+IsNewChoice (step.TryMeElse other) = Unit {0}
+IsNewChoice (step.Try to) = Unit {0}
+IsNewChoice _ = ⊥
 
 -- ---- what a head asks for
 
@@ -90,14 +96,18 @@ IsRuledOut area s at c = Shows area s at c (λ x k. Meets x k → ⊥)
 abbrev pub MayMatch : Area → branch.State → ℕ → Contents → Type 0
 MayMatch area s at c = Shows area s at c Meets ⊎ ((a : ℕ) (k : Key) → Asks area at a k → ⊥)
 
-abbrev pub FirstMayMatch : Area → branch.State → Contents → Tried → Type 0
-FirstMayMatch area s c (tried.Both to other) = MayMatch area s to c
-FirstMayMatch area s c (tried.Last to) = MayMatch area s to c
-FirstMayMatch area s c tried.Other = Unit {0}
+abbrev pub MayMatchThen : Area → branch.State → Contents → Went → Type 0
+MayMatchThen area s c (On to) = MayMatch area s to c
+MayMatchThen area s c Back = Unit {0}
 
--- at a place, the first clause that is tried may match
+abbrev pub FirstMayMatch : Area → branch.State → ℕ → Contents → Tried → Type 0
+FirstMayMatch area s at c (tried.Both to other) = MayMatch area s to c
+FirstMayMatch area s at c (tried.Last to) = MayMatch area s to c
+FirstMayMatch area s at c tried.Other = MayMatch area s at c
+
+-- The clause that is tried first at a place may match; where no choice stands there, the place is the clause's own.
 abbrev pub MayMatchFrom : Area → branch.State → ℕ → Contents → Type 0
-MayMatchFrom area s at c = (t : Tried) × IsTried area at t × FirstMayMatch area s c t
+MayMatchFrom area s at c = (t : Tried) × IsTried area at t × FirstMayMatch area s at c t
 
 -- ---- clauses left out
 

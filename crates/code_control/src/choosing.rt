@@ -3,7 +3,7 @@ ghost use Rattle.std.specs.Prelude.{◌≡◌, ◌↔◌, ◌<◌, length, true,
 ghost use Rattle.wam_code.specs.Area.{Holds};
 ghost use Rattle.code_states.specs.Safety.{IsSafe, IsSafeThen};
 ghost use Rattle.code_states.specs.Work.{work_at, work_then};
-ghost use Rattle.code_control.specs.Choosing.{IsTried, IsChoice, AsksFirst, Meets, IsRuledOut, MayMatch, MayMatchFrom, IsLater, LeavesOut, Chooses};
+ghost use Rattle.code_control.specs.Choosing.{IsTried, IsChoice, IsNewChoice, AsksFirst, Meets, IsRuledOut, MayMatch, MayMatchThen, MayMatchFrom, IsLater, LeavesOut, Chooses};
 
 use crate::choices::leave_choice;
 use crate::rows::is_key_of;
@@ -124,7 +124,13 @@ fn next_choice<A: Agenda + Drop>(
                     Some(at)
                 };
             }
-            Tried::Other => return Some(at),
+            Tried::Other => {
+                return if is_ruled_out(code, at, branch, areas) {
+                    None
+                } else {
+                    Some(at)
+                };
+            }
         }
     }
 }
@@ -141,6 +147,8 @@ fn first_choice<A: Agenda + Drop>(
 ) -> Option<usize>
     requires { IsSafe code.now branch.now at 0 areas.now }
     ensures out { LeavesOut code.now branch.now at areas.now result }
+    ensures may { IsNewChoice instruction
+        → IfSome result (λ first. MayMatchFrom code.now branch.now first areas.now) }
     ensures later { IfSome result (λ first. IsLater code.now branch.now at first areas.now) }
 {
     match instruction {
@@ -164,6 +172,8 @@ pub fn choose<A: Agenda + Drop>(
     requires choice { IsChoice instruction }
     ensures safe { IfOk result (IsSafeThen code.now branch.new areas.new) }
     ensures chooses { IfOk result (Chooses code.now branch.old at areas.old branch.new areas.new) }
+    ensures fits { IsNewChoice instruction
+        → IfOk result (MayMatchThen code.now branch.old areas.old) }
     ensures falls { IfOk result (λ went. work_then code.now areas.new went
         < work_at code.now at areas.old) }
 {

@@ -5,7 +5,8 @@ use Rattle.code_states.specs.Safety.{IsSafe}
 use Rattle.code_states.specs.Work.{work_at}
 use Rattle.code_states.specs.declared.went.Went.TheVariants.{On}
 use Rattle.code_control.specs.Choosing.{Chooses}
-use Rattle.code_control.proofs.Leading.{safe_at, later_within, place_safe, place_falls, both_places, last_place, chooses_none, chooses_last, chooses_other, other_falls, chooses_alone, both_safe, both_falls, chooses_both}
+use Rattle.code_control.specs.declared.choosing.Tried.TheVariants.{Both, Last, Other}
+use Rattle.code_control.proofs.Leading.{may_match, safe_at, later_within, place_safe, place_falls, both_places, last_place, chooses_none, chooses_last, chooses_other, other_falls, chooses_alone, both_safe, both_falls, chooses_both}
 use Rattle.code_control.proofs.Threads.{left_to}
 use Rattle.code_control.proofs.choosing.choose.Goals as goal
 
@@ -59,3 +60,15 @@ returns-in-Other-clause-chooses g c = chooses_other c.args.code.now c.args.branc
 
 pub returns-in-Other-clause-falls : goal.returns-in-Other-clause-falls
 returns-in-Other-clause-falls g c = other_falls c.args.code.now c.args.branch.now c.args.at c.args.areas.now c.requires.safe c.args.instruction c.requires.holds c.requires.choice c.in-Some.first c.in-Some.ensures.later c.in-Some.ensures.out c.in-Other.ensures
+
+pub returns-in_ok-leave_choice-in-Both-clause-fits : goal.returns-in_ok-leave_choice-in-Both-clause-fits
+returns-in_ok-leave_choice-in-Both-clause-fits g c = λ new. may_match c.args.code.now c.args.branch.now c.in-Some.first c.args.areas.now (c.in-Some.ensures.may new) (Both c.in-Both.to c.in-Both.other) c.in-Both.ensures
+
+pub returns-in_default-next_choice-clause-fits : goal.returns-in_default-next_choice-clause-fits
+returns-in_default-next_choice-clause-fits g c = λ new. may_match c.args.code.now c.args.branch.now c.in-Some.first c.args.areas.now (c.in-Some.ensures.may new) (Both c.in-Both.to c.in-Both.other) c.in-Both.ensures
+
+pub returns-in-Last-clause-fits : goal.returns-in-Last-clause-fits
+returns-in-Last-clause-fits g c = λ new. may_match c.args.code.now c.args.branch.now c.in-Some.first c.args.areas.now (c.in-Some.ensures.may new) (Last c.in-Last.to) c.in-Last.ensures
+
+pub returns-in-Other-clause-fits : goal.returns-in-Other-clause-fits
+returns-in-Other-clause-fits g c = λ new. may_match c.args.code.now c.args.branch.now c.in-Some.first c.args.areas.now (c.in-Some.ensures.may new) Other c.in-Other.ensures
