@@ -87,6 +87,7 @@ impl<A: Agenda + Drop> Machine<A> {
         requires answers { IsLimit limits.answers }
         ensures code { IfOk result (λ m. (m.area ≡ code.value) × (m.query ≡ query)) }
         ensures limits { IfOk result (λ m. (m.limits ≡ limits) × (m.answers ≡ 0)) }
+        ensures spent { IfOk result (λ m. m.spent ≡ 0) }
         ensures whole { IfOk result (λ m. m.lost ≡ false) }
         ensures stands { IfOk result (λ m. (prog : Program) (q : Query) → MayRun m.area query prog q
             → (es : List Event) (r : ℕ)

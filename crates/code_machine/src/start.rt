@@ -47,6 +47,7 @@ pub(crate) fn start<A: Agenda + Drop>(
     requires answers { IsLimit limits.answers }
     ensures machine { IfOk result (λ w. IsMachine (state_of code.now w.0 w.1 false)) }
     ensures query { IfOk result (λ w. w.1.query ≡ query) }
+    ensures spent { IfOk result (λ w. w.1.spent ≡ 0) }
     ensures within { IfOk result (λ w. IsWithin (state_within code.now w.0 w.1 false limits 0)) }
     ensures stands { IfOk result (λ w. (prog : Program) (q : Query) → MayRun code.now query prog q
         → (es : List Event) (r : ℕ)
