@@ -4,7 +4,6 @@ use Rattle.std.proofs.lemmas.Bool.{or_right}
 use Rattle.std.proofs.Math.Seq.{drop-cons}
 use Rattle.fd_language.specs.declared.TheConstants.{INFINITY}
 use Rattle.fd_language.specs.Family.{has}
-use Rattle.fd_language.specs.Term.{Term}
 use Rattle.fd_language.proofs.Lemmas.{first_member}
 use Rattle.fd_model.specs.Goal.{Branch}
 use Rattle.heap_cells.specs.declared.Cell.{Cell}
@@ -12,7 +11,7 @@ use Rattle.heap_cells.specs.declared.Seen.{Seen}
 use Rattle.heap_cells.specs.declared.Seen.TheVariants.{Open, Constrained, Int, Atom, Struct}
 use Rattle.heap_cells.specs.Cells.{Cells, IsOf}
 use Rattle.heap_cells.specs.Seen.{IsSeen}
-use Rattle.heap_cells.specs.Terms.{Naming, term_of, terms_by, slot_term, compound_term}
+use Rattle.heap_cells.specs.Terms.{Naming, term_of, slot_term, compound_term}
 use Rattle.heap_cells.specs.Valid.{IsHeap}
 use Rattle.heap_cells.proofs.Ranks.{term-Ref, term-Int, term-Atom, term-Struct}
 use Rattle.branch_state.specs.States as branch
@@ -23,11 +22,11 @@ use Rattle.wam_code.specs.declared.instruction.Key.TheVariants as key
 use Rattle.wam_code.specs.declared.parts.Entry.{Entry}
 use Rattle.wam_code.specs.Area.{Table, Area, Holds, table_at}
 use Rattle.wam_code.specs.Effect.{plain_effect, when}
-use Rattle.wam_code.specs.Places.{count}
 use Rattle.wam_code.specs.Tries.{Shape, is_open, is_atom, is_integer, is_structure, shape_of, by_shape, IsShape}
 use Rattle.wam_code.specs.Verified.{arms, named, IsKey}
 use Rattle.code_areas.specs.Areas.{cell_at, IsSet, Contents}
 use Rattle.code_steps.specs.Trying.{shape_in, HasNoRow, HasRow, IsTrying, IsChoice}
+use Rattle.code_steps.proofs.Opening.{count_terms}
 use Rattle.code_steps.proofs.Trying.{step_switch, step_constants, step_integers, step_structures}
 use Rattle.code_states.specs.Machine.{registers_of, stack_of}
 use Rattle.code_states.specs.Queries.{KeepsQuery, KeepsQueryThen}
@@ -51,10 +50,6 @@ seen_shape name (Constrained i k) = is_open
 seen_shape name (Int z) = is_integer z
 seen_shape name (Atom a) = is_atom (name a)
 seen_shape name (Struct f args) = is_structure (name f) (length args.now)
-
-count_terms : (by : Cell → Term) (ds : List Cell) → count (terms_by by ds) ≡ length ds
-count_terms by [] = refl
-count_terms by (d ∷ ds) = ap suc (count_terms by ds)
 
 shape_seen : (name : Naming) (h : Cells) → IsHeap h → (d : Cell) (x : Seen) → IsSeen h d x → shape_of (term_of name h d) ≡ seen_shape name x
 unfolding seen_shape

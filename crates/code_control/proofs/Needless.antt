@@ -1,8 +1,8 @@
 -- A clause whose head asks for another name, number or structure than is there has a branch without a model.
-use Rattle.std.proofs.Common.{◌≡◌, ℕ, suc, false, List, [], ◌∷◌, ℤ, Some, None, length, replicate, Bor, refl, ap, sym, ◌∙◌, subst, inl, inr}
+use Rattle.std.proofs.Common.{◌≡◌, ℕ, suc, false, List, ℤ, Some, None, replicate, Bor, refl, ap, sym, ◌∙◌, subst, inl, inr}
 use Rattle.std.proofs.lemmas.Option.{same_Some}
 use Rattle.fd_language.specs.declared.TheConstants.{INFINITY}
-use Rattle.fd_language.specs.Term.{Term, Terms, Int, Atom, Comp, Substitution, apply, apply_all, no_terms, term}
+use Rattle.fd_language.specs.Term.{Term, Terms, Int, Atom, Comp, Substitution, apply, apply_all}
 use Rattle.fd_model.specs.Goal.{Branch}
 use Rattle.term_pool.specs.declared.AtomId.{AtomId}
 use Rattle.heap_cells.specs.declared.Cell.{Cell}
@@ -23,7 +23,7 @@ use Rattle.wam_code.specs.Area.{Area, Holds, name_of}
 use Rattle.wam_code.specs.Places.{count}
 use Rattle.code_areas.specs.Areas.{cell_at, Contents}
 use Rattle.code_steps.specs.Trying.{IsFirst}
-use Rattle.code_steps.proofs.Opening.{step_get_structure}
+use Rattle.code_steps.proofs.Opening.{count_terms, count_applied, step_get_structure}
 use Rattle.code_steps.proofs.Stepping.{step_allocate}
 use Rattle.code_steps.proofs.Trying.{step_enter}
 use Rattle.code_states.specs.Machine.{registers_of, stack_of}
@@ -34,14 +34,6 @@ use Rattle.code_control.specs.Choosing.{AsksHere, Asks, Meets, IsRuledOut, AreGo
 use Rattle.code_control.proofs.Threads.{allocate_safe, sound_below}
 
 -- ---- terms that can't be equal
-
-count_applied : (s : Substitution) (ts : Terms) → count (apply_all s ts) ≡ count ts
-count_applied s no_terms = refl
-count_applied s (term t ts) = ap suc (count_applied s ts)
-
-pub count_terms : (by : Cell → Term) (ds : List Cell) → count (terms_by by ds) ≡ length ds
-count_terms by [] = refl
-count_terms by (d ∷ ds) = ap suc (count_terms by ds)
 
 module _ (name : Naming) (apart : IsOneToOne name) (h : Cells) (valid : IsHeap h) (d : Cell) (u : Substitution) where
   abbrev t : Term

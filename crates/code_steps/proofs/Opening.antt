@@ -125,7 +125,8 @@ or_true true y e = refl
 or_true false y (inl e) = absurd (true≢false (sym e))
 or_true false y (inr e) = e
 
-count_terms : (by : Cell → Term) (cs : List Cell) → count (terms_by by cs) ≡ length cs
+-- as many terms as cells
+pub count_terms : (by : Cell → Term) (cs : List Cell) → count (terms_by by cs) ≡ length cs
 count_terms by [] = refl
 count_terms by (c ∷ cs) = ap suc (count_terms by cs)
 
@@ -133,7 +134,8 @@ count_ghosts : (n : ℕ) (ss : Terms) → count (ghosts n ss) ≡ count ss
 count_ghosts n no_terms = refl
 count_ghosts n (term s ss) = ap suc (count_ghosts (suc n) ss)
 
-count_applied : (s : Substitution) (ts : Terms) → count (apply_all s ts) ≡ count ts
+-- a substitution leaves as many terms
+pub count_applied : (s : Substitution) (ts : Terms) → count (apply_all s ts) ≡ count ts
 count_applied s no_terms = refl
 count_applied s (term t ts) = ap suc (count_applied s ts)
 
