@@ -11,8 +11,8 @@ pub on_ok : {A E : Type 0} {P Q : Type 0} (r : Result A E) → (P → Q) → OnO
 on_ok (Ok x) f p = f p
 on_ok (Err e) f p = search rules
 
--- what can't fail with two intervals failed
-pub more_than_two : (n : ℕ) → (n ≤ 2 → ⊥) → 2 < n
+-- what can't fail with four intervals failed
+pub more_than_two : (n : ℕ) → (n ≤ 4 → ⊥) → 2 < n
 more_than_two n h = grind (arith, h)
 
 -- a list without room for one more, which has room for two

@@ -99,7 +99,7 @@ pub fn ends(spans: &[(u32, u32)]) -> (u32, u32)
 }
 
 /// Puts the interval behind the list.
-fn push(list: &mut SmallVec<(u32, u32), 2>, span: (u32, u32)) -> Result<(), NoMemory>
+fn push(list: &mut SmallVec<(u32, u32), 4>, span: (u32, u32)) -> Result<(), NoMemory>
     requires { 2 ≤ list.old.capacity }
     ensures ok { OnOk result (list.new.items ≡ list.old.items ++ span ∷ []) }
     ensures unchanged { OnErr result (list.new.items ≡ list.old.items) }
@@ -112,7 +112,7 @@ fn push(list: &mut SmallVec<(u32, u32), 2>, span: (u32, u32)) -> Result<(), NoMe
 
 /// Puts the numbers that are in both intervals behind the list.
 fn push_meet(
-    list: &mut SmallVec<(u32, u32), 2>,
+    list: &mut SmallVec<(u32, u32), 4>,
     a: (u32, u32),
     b: (u32, u32),
 ) -> Result<(), NoMemory>
@@ -135,7 +135,7 @@ pub fn meet_all(
     alloc: Global,
     a: &[(u32, u32)],
     b: &[(u32, u32)],
-) -> Result<SmallVec<(u32, u32), 2>, NoMemory>
+) -> Result<SmallVec<(u32, u32), 4>, NoMemory>
     requires first { IsSpans 0 INFINITY a.now }
     requires second { IsSpans 0 INFINITY b.now }
     ensures spans { IfOk result (λ list. IsSpans 0 INFINITY list.items) }
@@ -164,7 +164,7 @@ pub fn without(
     alloc: Global,
     spans: &[(u32, u32)],
     n: u32,
-) -> Result<SmallVec<(u32, u32), 2>, NoMemory>
+) -> Result<SmallVec<(u32, u32), 4>, NoMemory>
     requires list { IsSpans 0 INFINITY spans.now }
     requires number { n ≤ INFINITY }
     ensures spans { IfOk result (λ list. IsSpans 0 INFINITY list.items) }
@@ -187,7 +187,7 @@ pub fn without(
 
 /// Writes an interval at a place.
 #[inline(always)]
-fn write(list: &mut SmallVec<(u32, u32), 2>, place: usize, span: (u32, u32))
+fn write(list: &mut SmallVec<(u32, u32), 4>, place: usize, span: (u32, u32))
     requires { place < length list.old.items }
     ensures { list.new.items ≡ slice_set list.old.items place span }
 {
@@ -197,7 +197,7 @@ fn write(list: &mut SmallVec<(u32, u32), 2>, place: usize, span: (u32, u32))
 
 /// Parts the interval at a place by a number that it has: it loses an end, goes, or becomes two.
 /// After `NoMemory` the list is as it was.
-fn part(list: &mut SmallVec<(u32, u32), 2>, place: usize, n: u32) -> Result<(), NoMemory>
+fn part(list: &mut SmallVec<(u32, u32), 4>, place: usize, n: u32) -> Result<(), NoMemory>
     requires capacity { 2 ≤ list.old.capacity }
     requires place { place < length list.old.items }
     requires low { (slice_index_or list.old.items place (0, 0)).0 ≤ n }
@@ -222,7 +222,7 @@ fn part(list: &mut SmallVec<(u32, u32), 2>, place: usize, n: u32) -> Result<(), 
 }
 
 /// Takes a number out of the intervals, one of which has it. After `NoMemory` they are as they were.
-pub fn leave_out(list: &mut SmallVec<(u32, u32), 2>, n: u32) -> Result<(), NoMemory>
+pub fn leave_out(list: &mut SmallVec<(u32, u32), 4>, n: u32) -> Result<(), NoMemory>
     requires capacity { 2 ≤ list.old.capacity }
     requires spans { IsSpans 0 INFINITY list.old.items }
     requires member { IsTrue (within list.old.items n) }
@@ -239,7 +239,7 @@ pub fn leave_out(list: &mut SmallVec<(u32, u32), 2>, n: u32) -> Result<(), NoMem
 
 /// Puts `last` behind the list, unless `next`, which begins no earlier, touches it. What the list may then end with.
 fn join(
-    list: &mut SmallVec<(u32, u32), 2>,
+    list: &mut SmallVec<(u32, u32), 4>,
     last: Option<(u32, u32)>,
     next: (u32, u32),
 ) -> Result<(u32, u32), NoMemory>
@@ -265,9 +265,9 @@ fn join(
 
 /// The list with the interval that it may end with.
 fn close(
-    mut list: SmallVec<(u32, u32), 2>,
+    mut list: SmallVec<(u32, u32), 4>,
     last: Option<(u32, u32)>,
-) -> Result<SmallVec<(u32, u32), 2>, NoMemory>
+) -> Result<SmallVec<(u32, u32), 4>, NoMemory>
     requires capacity { 2 ≤ list.capacity }
     ensures all { IfOk result (λ whole. whole.items ≡ list.items ++ listed last) }
     ensures no_memory { OnErr result (2 ≤ length list.items) }
@@ -296,7 +296,7 @@ pub fn join_all(
     alloc: Global,
     a: &[(u32, u32)],
     b: &[(u32, u32)],
-) -> Result<SmallVec<(u32, u32), 2>, NoMemory>
+) -> Result<SmallVec<(u32, u32), 4>, NoMemory>
     requires first { IsSpans 0 INFINITY a.now }
     requires second { IsSpans 0 INFINITY b.now }
     ensures spans { IfOk result (λ list. IsSpans 0 INFINITY list.items) }
@@ -351,7 +351,7 @@ fn is_rising(spans: &[(u32, u32)]) -> bool
 }
 
 /// The numbers of intervals that begin in rising order.
-fn join_rising(alloc: Global, spans: &[(u32, u32)]) -> Result<SmallVec<(u32, u32), 2>, NoMemory>
+fn join_rising(alloc: Global, spans: &[(u32, u32)]) -> Result<SmallVec<(u32, u32), 4>, NoMemory>
     requires intervals { AreIntervals spans.now }
     requires rising { AreRising 0 spans.now }
     ensures spans { IfOk result (λ list. IsSpans 0 INFINITY list.items) }
@@ -366,7 +366,7 @@ fn join_rising(alloc: Global, spans: &[(u32, u32)]) -> Result<SmallVec<(u32, u32
 }
 
 /// The numbers of intervals that stand in any order. One pass is made where they begin in rising order.
-pub fn settled(alloc: Global, spans: &[(u32, u32)]) -> Result<SmallVec<(u32, u32), 2>, NoMemory>
+pub fn settled(alloc: Global, spans: &[(u32, u32)]) -> Result<SmallVec<(u32, u32), 4>, NoMemory>
     requires { AreIntervals spans.now }
     ensures spans { IfOk result (λ list. IsSpans 0 INFINITY list.items) }
     ensures set { IfOk result (λ list. members list.items ≡ numbers spans.now) }
@@ -383,7 +383,7 @@ pub fn settled(alloc: Global, spans: &[(u32, u32)]) -> Result<SmallVec<(u32, u32
 }
 
 /// Puts the numbers from `from` on and below `to` behind the list, if there are any.
-fn push_gap(list: &mut SmallVec<(u32, u32), 2>, from: u32, to: u32) -> Result<(), NoMemory>
+fn push_gap(list: &mut SmallVec<(u32, u32), 4>, from: u32, to: u32) -> Result<(), NoMemory>
     requires { 2 ≤ list.old.capacity }
     ensures ok { OnOk result (list.new.items ≡ list.old.items ++ gap from to) }
     ensures capacity { 2 ≤ list.new.capacity }
@@ -397,7 +397,7 @@ fn push_gap(list: &mut SmallVec<(u32, u32), 2>, from: u32, to: u32) -> Result<()
 }
 
 /// The numbers from 0 to `INFINITY` that are in none of the intervals.
-pub fn gaps(alloc: Global, spans: &[(u32, u32)]) -> Result<SmallVec<(u32, u32), 2>, NoMemory>
+pub fn gaps(alloc: Global, spans: &[(u32, u32)]) -> Result<SmallVec<(u32, u32), 4>, NoMemory>
     requires { IsSpans 0 INFINITY spans.now }
     ensures spans { IfOk result (λ list. IsSpans 0 INFINITY list.items) }
     ensures set { IfOk result (λ list. members list.items
@@ -420,7 +420,7 @@ pub fn shift_all(
     alloc: Global,
     spans: &[(u32, u32)],
     c: i128,
-) -> Result<SmallVec<(u32, u32), 2>, NoMemory>
+) -> Result<SmallVec<(u32, u32), 4>, NoMemory>
     requires list { IsSpans 0 INFINITY spans.now }
     requires low { neg_ℤ (pos (2 ^ 126)) <ℤ c }
     requires high { c <ℤ pos (2 ^ 126) }
@@ -444,7 +444,7 @@ pub fn scale_all(
     alloc: Global,
     spans: &[(u32, u32)],
     c: u32,
-) -> Result<SmallVec<(u32, u32), 2>, NoMemory>
+) -> Result<SmallVec<(u32, u32), 4>, NoMemory>
     requires list { IsSpans 0 INFINITY spans.now }
     requires factor { 2 ≤ c }
     ensures spans { IfOk result (λ list. IsSpans 0 INFINITY list.items) }
@@ -476,7 +476,7 @@ pub fn divide_all(
     alloc: Global,
     spans: &[(u32, u32)],
     c: u32,
-) -> Result<SmallVec<(u32, u32), 2>, NoMemory>
+) -> Result<SmallVec<(u32, u32), 4>, NoMemory>
     requires list { IsSpans 0 INFINITY spans.now }
     requires divisor { 1 ≤ c }
     ensures spans { IfOk result (λ list. IsSpans 0 INFINITY list.items) }

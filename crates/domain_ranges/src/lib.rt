@@ -19,12 +19,12 @@ use std::marker::Model;
 
 /// A set of numbers from 0 to `INFINITY`: the values that a variable may have.
 ///
-/// It is held as a strictly rising list of intervals that neither overlap nor touch, with the ends beside it. The first two
-/// intervals take no memory: a call that makes a set gives `NoMemory` only where the set has more than two intervals.
+/// It is held as a strictly rising list of intervals that neither overlap nor touch, with the ends beside it. The first four
+/// intervals take no memory of their own. A call that makes a set gives `NoMemory` only where the set has more than two intervals.
 #[derive(Drop)]
 pub struct Domain {
     ends: (u32, u32),
-    list: SmallVec<(u32, u32), 2>,
+    list: SmallVec<(u32, u32), 4>,
 }
 
 impl Model for Domain {
@@ -562,7 +562,7 @@ impl Domain {
     }
 
     /// The numbers of the intervals.
-    fn of_list(list: SmallVec<(u32, u32), 2>) -> Domain
+    fn of_list(list: SmallVec<(u32, u32), 4>) -> Domain
         requires { IsSpans 0 INFINITY list.items }
         ensures { result ≡ members list.items }
     {
@@ -615,7 +615,7 @@ impl Domain {
     {
         Domain {
             ends: (first.0, second.1),
-            list: SmallVec::from_buf(alloc, [first, second]),
+            list: SmallVec::from_buf_and_len(alloc, [first, second, (0, 0), (0, 0)], 2),
         }
     }
 

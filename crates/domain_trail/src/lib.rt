@@ -14,14 +14,14 @@ use std::alloc::Global;
 use std::marker::Model;
 use std::mem;
 
-/// A variable's domain, and the stamp of the stretch between two marks in which it last changed. It takes 48 bytes.
+/// A variable's domain, and the stamp of the stretch between two marks in which it last changed. It takes 64 bytes.
 #[derive(Drop)]
 struct Cell {
     domain: Domain,
     stamp: u64,
 }
 
-const _: () = prove!(size_of::<Cell>() == 48);
+const _: () = prove!(size_of::<Cell>() == 64);
 
 impl Cell {
     /// Takes a member out of the domain, which has others, at a stamp. After `NoMemory` the cell is as it was.
@@ -42,14 +42,14 @@ impl Cell {
     }
 }
 
-/// What the cell of a variable was. It takes 56 bytes.
+/// What the cell of a variable was. It takes 72 bytes.
 #[derive(Drop)]
 struct Saved {
     var: usize,
     cell: Cell,
 }
 
-const _: () = prove!(size_of::<Saved>() == 56);
+const _: () = prove!(size_of::<Saved>() == 72);
 
 /// How many cells were saved and how many variables there were, and the stamp before the mark. It takes 24 bytes.
 #[derive(Clone, Copy, Drop)]
