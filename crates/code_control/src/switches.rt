@@ -1,5 +1,5 @@
 //! Switches: what the first argument shows decides which clauses are tried.
-ghost use Rattle.std.specs.Prelude.{◌≡◌, ◌<◌};
+ghost use Rattle.std.specs.Prelude.{◌≡◌, ◌<◌, ◌≤◌};
 ghost use Rattle.wam_code.specs.declared.instruction.Code.TheVariants as step;
 ghost use Rattle.wam_code.specs.Area.{Holds};
 ghost use Rattle.code_states.specs.Queries.{KeepsQuery, KeepsQueryThen};
@@ -8,16 +8,59 @@ ghost use Rattle.code_control.specs.Rows.{place_for};
 ghost use Rattle.code_states.specs.Stages.{KeepsRunning, RunsThen};
 ghost use Rattle.code_states.specs.Work.{work_at, work_then};
 
+use crate::choices::jump;
 use crate::rows::find_row;
 use branch_state::BranchState;
 use code_areas::Areas;
 use code_states::Went;
 use heap_cells::Seen;
 use propagate_queue::Agenda;
-use wam_code::CodeArea;
+use wam_code::{Code, CodeArea};
+
+/// The place of the four that is for what the first argument shows. No memory.
+#[inline]
+fn arm_for<A: Agenda + Drop>(
+    code: &CodeArea,
+    at: usize,
+    v: usize,
+    c: usize,
+    i: usize,
+    s: usize,
+    branch: &BranchState<A>,
+    areas: &Areas,
+) -> usize
+    requires safe { IsSafe code.now branch.now at 0 areas.now }
+    requires holds { Holds code.now at (step.SwitchOnTerm v c i s) }
+    ensures safe { IsSafe code.now branch.now result 0 areas.now }
+    ensures runs { KeepsRunning code.now branch.now at areas.now branch.now result areas.now }
+    ensures falls { work_at code.now result areas.now < work_at code.now at areas.now }
+    ensures query { KeepsQuery code.now at areas.now result areas.now }
+{
+    place_for(branch.heap().deref(areas.register(1)), v, c, i, s)
+}
+
+/// Where the jump at a place leads, or the place where none stands there. No memory.
+#[inline]
+fn past_jump<A: Agenda + Drop>(
+    code: &CodeArea,
+    at: usize,
+    branch: &BranchState<A>,
+    areas: &Areas,
+) -> usize
+    requires { IsSafe code.now branch.now at 0 areas.now }
+    ensures safe { IsSafe code.now branch.now result 0 areas.now }
+    ensures runs { KeepsRunning code.now branch.now at areas.now branch.now result areas.now }
+    ensures stays { work_at code.now result areas.now ≤ work_at code.now at areas.now }
+    ensures query { KeepsQuery code.now at areas.now result areas.now }
+{
+    match code.code_at(at) {
+        Code::Jump(to) => jump(code, at, to, branch, areas),
+        _ => at,
+    }
+}
 
 /// Goes on at `v` where the first argument is a variable, at `c` where it is an atom, at `i` where it is an integer, and at `s` where it is
-/// a structure. No memory.
+/// a structure; where a jump stands there, where that leads. No memory.
 #[inline]
 pub fn switch_on_term<A: Agenda + Drop>(
     code: &CodeArea,
@@ -36,7 +79,8 @@ pub fn switch_on_term<A: Agenda + Drop>(
     ensures falls { work_at code.now result areas.now < work_at code.now at areas.now }
     ensures query { KeepsQuery code.now at areas.now result areas.now }
 {
-    place_for(branch.heap().deref(areas.register(1)), v, c, i, s)
+    let arm = arm_for(code, at, v, c, i, s, branch, areas);
+    past_jump(code, arm, branch, areas)
 }
 
 /// The place for a variable, an atom, an integer or a structure.
