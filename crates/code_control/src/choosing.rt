@@ -159,7 +159,7 @@ fn first_choice<A: Agenda + Drop>(
 
 /// Takes a choice: a clause is tried, at a new choice the first that may match, and later, from a new choice point, those behind it, if
 /// any of them may. The machine goes back where none may. The error is want of memory.
-#[inline(never)]
+#[inline]
 pub fn choose<A: Agenda + Drop>(
     code: &CodeArea,
     at: usize,
