@@ -11,7 +11,7 @@ use term_pool::{AtomId, Pool};
 use term_writer::write_atom;
 
 /// Why a text is refused.
-#[derive(Clone, Copy, Debug, PartialEq, Eq)]
+#[derive(Clone, Copy)]
 pub enum Reason {
     /// It has too many bytes.
     TooLarge,

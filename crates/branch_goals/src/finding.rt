@@ -23,7 +23,7 @@ use std::alloc::Global;
 use term_pool::Pool;
 
 /// What a built-in goal comes to.
-#[derive(Clone, Copy, Debug, PartialEq, Eq)]
+#[derive(Clone, Copy)]
 pub enum Found {
     /// It is an error.
     Fault(QueryFault),

@@ -17,7 +17,7 @@ use propagate_queue::Agenda;
 use std::alloc::Global;
 
 /// What a labelling does.
-#[derive(Clone, Copy, Debug, PartialEq, Eq)]
+#[derive(Clone, Copy)]
 pub enum Labelling {
     /// No member is open.
     Done,

@@ -6,7 +6,7 @@ ghost use Rattle.branch_state.specs.Ranges.{kept_step};
 use fd_model::kinds::QueryFault;
 
 /// How the posting of a range ended.
-#[derive(Clone, Copy, Debug, PartialEq, Eq)]
+#[derive(Clone, Copy)]
 pub enum Step {
     /// What is posted has a model.
     Kept,

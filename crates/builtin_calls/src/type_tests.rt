@@ -11,7 +11,7 @@ use domain_ranges::View;
 use heap_cells::{Cell, Heap, Seen};
 
 /// A test of what a term is.
-#[derive(Clone, Copy, Debug, PartialEq, Eq)]
+#[derive(Clone, Copy)]
 pub enum TypeTest {
     /// An open variable, also one of the store.
     Var,

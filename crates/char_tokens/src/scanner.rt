@@ -54,7 +54,7 @@ fn first_token(text: &str, from: usize) -> Result<Option<(Token<'_>, &str)>, Tok
 }
 
 /// Reads a text token by token, and takes no memory for it.
-#[derive(Debug, Drop)]
+#[derive(Drop)]
 pub struct Scanner<'t> {
     rest: &'t str,
     place: usize,

@@ -7,7 +7,7 @@ use std::alloc::AllocFailed;
 use thiserror::Error;
 
 /// The kind of a token.
-#[derive(Clone, Copy, Debug, PartialEq, Eq)]
+#[derive(Clone, Copy, PartialEq, Eq)]
 pub enum Kind {
     /// A word of letters, a word of symbol characters, `!` or `;`.
     Word,
@@ -24,7 +24,7 @@ pub enum Kind {
 }
 
 /// A token of a text.
-#[derive(Clone, Copy, Debug)]
+#[derive(Clone, Copy)]
 pub struct Token<'t> {
     /// What it is.
     pub kind: Kind,
@@ -37,7 +37,7 @@ pub struct Token<'t> {
 }
 
 /// Why a text has no tokens.
-#[derive(Clone, Copy, Debug, PartialEq, Eq)]
+#[derive(Clone, Copy, Debug)]
 pub enum TokenCause {
     /// No token can start with the character, or it is a quote directly behind the integer `0`.
     BadCharacter,

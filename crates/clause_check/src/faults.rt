@@ -13,7 +13,7 @@ use std::alloc::AllocFailed;
 use term_pool::{AtomId, Pool, TermId};
 
 /// Why a sentence is refused.
-#[derive(Debug, Drop)]
+#[derive(Drop)]
 pub enum Cause {
     /// A head is a variable, an integer, or has a name that no head may have; or a sentence `:- B` has none.
     BadHead,
@@ -47,7 +47,7 @@ pub enum ProgramFault {
 }
 
 /// The same without the pool.
-#[derive(Debug, Drop)]
+#[derive(Drop)]
 pub(crate) enum Fault {
     Refused { place: usize, cause: Cause },
     NoMemory,

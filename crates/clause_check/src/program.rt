@@ -10,14 +10,14 @@ use std::marker::Model;
 use term_pool::{AtomId, Pool, TermId};
 
 /// The goals with the numbers from `from` on, before `to`.
-#[derive(Clone, Copy, Debug)]
+#[derive(Clone, Copy)]
 pub struct Part {
     pub from: usize,
     pub to: usize,
 }
 
 /// A goal. Its terms are of the program's pool.
-#[derive(Clone, Copy, Debug)]
+#[derive(Clone, Copy)]
 pub enum FlatGoal {
     /// `true`.
     True,
@@ -40,7 +40,7 @@ pub enum FlatGoal {
 }
 
 /// A clause: how many variables it has, its head, and the goals of its body.
-#[derive(Clone, Copy, Debug)]
+#[derive(Clone, Copy)]
 pub struct FlatClause {
     pub variables: usize,
     pub head: TermId,

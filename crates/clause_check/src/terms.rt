@@ -10,7 +10,7 @@ ghost use Rattle.clause_check.specs.Terms.{IsBody, IsFunctorOf, IsPartOf, IsSeen
 use term_pool::{AtomId, Node, Pool, TermId};
 
 /// A name with a number of arguments.
-#[derive(Clone, Copy, Debug, PartialEq, Eq, Hash)]
+#[derive(Clone, Copy, PartialEq, Eq, Hash)]
 pub struct Functor {
     pub name: AtomId,
     pub arity: usize,

@@ -4,6 +4,7 @@ ghost use Rattle.std.specs.Prelude.{◌≡◌, ◌<◌, [], length, slice_index_
 ghost use Rattle.fd_language.specs.Family.{universe};
 ghost use Rattle.fd_language.specs.Range.{least};
 
+use crate::same::same;
 use domain_ranges::{Domain, View};
 use fd_language::{INFINITY, NoMemory};
 use std::alloc::Global;
@@ -104,7 +105,7 @@ fn intervals_at_the_ends(rt: HostRuntime) {
     let alloc = rt.alloc();
     for (lo, hi, n, want) in MEMBERS {
         let domain = Domain::interval(alloc, *lo, *hi);
-        assert_eq!(rt; domain.contains(*n), *want, "{n} in {lo} to {hi}");
+        same(&rt, (*n, domain.contains(*n)), (*n, *want), "a number");
     }
 }
 
@@ -151,7 +152,7 @@ const ROWS: &[Row] = &[
 fn calls_make_sets(rt: HostRuntime) -> Result<(), NoMemory> {
     for (lo, hi, calls, want) in ROWS {
         let domain = made(&rt, rt.alloc(), *lo, *hi, calls)?;
-        assert_eq!(rt; domain.spans(), *want);
+        same(&rt, domain.spans(), *want, "a set");
     }
     Ok(())
 }
@@ -166,7 +167,7 @@ fn ends_and_next_numbers(rt: HostRuntime) -> Result<(), NoMemory> {
         (domain.next_from(10), None),
         (Domain::empty(rt.alloc()).max(), None),
     ] {
-        assert_eq!(rt; found, want);
+        same(&rt, found, want, "an end or the next number");
     }
     Ok(())
 }
@@ -174,8 +175,9 @@ fn ends_and_next_numbers(rt: HostRuntime) -> Result<(), NoMemory> {
 #[test]
 fn sizes(rt: HostRuntime) -> Result<(), NoMemory> {
     let domain = made(&rt, rt.alloc(), 3, 5, &[Call::Union(9, 9)])?;
-    assert_eq!(rt; domain.size(), 4);
-    assert_eq!(rt; Domain::full(rt.alloc()).size(), 16_777_216);
+    same(&rt, domain.size(), 4, "the size");
+    let full = Domain::full(rt.alloc()).size();
+    same(&rt, full, 16_777_216, "the size");
     Ok(())
 }
 
@@ -186,6 +188,6 @@ fn a_view(rt: HostRuntime) -> Result<(), NoMemory> {
     list.push(Domain::interval(alloc, 3, 5))?;
     assert!(rt; list.len() == 1);
     let domains = Domains { list };
-    assert_eq!(rt; least_of(&domains, 0), Some(3));
+    same(&rt, least_of(&domains, 0), Some(3), "the least");
     Ok(())
 }

@@ -10,4 +10,6 @@ mod ports;
 #[cfg(test)]
 mod ranges;
 #[cfg(test)]
+mod same;
+#[cfg(test)]
 mod verdicts;

@@ -1,6 +1,7 @@
 //! What no clause says: that the calls succeed with ample memory, and how std's readers and writers are used.
 ghost use Rattle.std.specs.Prelude.{None};
 
+use crate::same::same;
 use byte_ports::{
     Failed, MemorySink, MemorySource, ReadTextFault, ReaderSource, Sink, SmallSink, SmallSource,
     Source, SureSink, SureSource, WriterSink, read_text, write_all,
@@ -8,6 +9,7 @@ use byte_ports::{
 use std::alloc::Global;
 use std::io;
 use std::io::{ErrorKind, Read, Write};
+use std::process::Abort;
 use std::test::Fail;
 
 /// The bytes that a source gives, or none where it fails.
@@ -25,20 +27,27 @@ fn put<S: Sink>(sink: &mut S, piece: &str) -> bool {
     write_all(sink, piece.as_bytes()).is_ok()
 }
 
+/// Refuses a source that doesn't give the text.
+fn gives<S: Source>(rt: &impl Abort, source: &mut S, text: &Vec<u8>) {
+    let found = taken(*text.allocator(), source);
+    same(rt, found.as_ref(), Some(text), "the text");
+}
+
 #[test]
 fn reads_a_text_from_each_source(rt: HostRuntime) -> Result<(), Fail> {
     let text = Vec::from_slice(rt.alloc(), b"?- X in 1..5.")?;
-    let mut reader = ReaderSource::new(text.as_slice());
-    let found = taken(rt.alloc(), &mut reader);
-    assert_eq!(rt; found.as_ref(), Some(&text));
-    let mut sure = SureSource::new(text.clone()?);
-    let found = taken(rt.alloc(), &mut sure);
-    assert_eq!(rt; found.as_ref(), Some(&text));
+    gives(&rt, &mut ReaderSource::new(text.as_slice()), &text);
+    gives(&rt, &mut SureSource::new(text.clone()?), &text);
+    Ok(())
+}
+
+#[test]
+fn a_source_in_memory_fails_once_and_then_ends(rt: HostRuntime) -> Result<(), Fail> {
+    let text = Vec::from_slice(rt.alloc(), b"?- X in 1..5.")?;
     let mut memory = MemorySource::new(text.clone()?, vec![in rt.alloc(); 3]?);
-    let found = taken(rt.alloc(), &mut memory);
-    assert_eq!(rt; found.as_ref(), Some(&text));
+    gives(&rt, &mut memory, &text);
     let next = (memory.read(&mut [0; 1]), memory.read(&mut [0; 1]));
-    assert_eq!(rt; next, (Err(Failed), Ok(0)));
+    same(&rt, next, (Err(Failed), Ok(0)), "the next two calls");
     Ok(())
 }
 
@@ -51,7 +60,7 @@ fn a_small_source_gives_a_byte_a_call(rt: HostRuntime) -> Result<(), Fail> {
     let mut source = SmallSource::new(text, vec![in rt.alloc(); 2]?);
     for want in READS {
         let found = source.read(&mut [0; 2]);
-        assert_eq!(rt; found, *want);
+        same(&rt, found, *want, "a call");
     }
     Ok(())
 }
@@ -60,17 +69,17 @@ fn a_small_source_gives_a_byte_a_call(rt: HostRuntime) -> Result<(), Fail> {
 fn a_failed_first_read_is_a_read_fault(rt: HostRuntime) -> Result<(), Fail> {
     let mut memory = MemorySource::new(vec![in rt.alloc(); b'a']?, vec![in rt.alloc(); 1]?);
     let found = fault(rt.alloc(), &mut memory);
-    assert_eq!(rt; found, Some(ReadTextFault::ReadFault));
+    same(&rt, found, Some(ReadTextFault::ReadFault), "the fault");
     let mut reader = ReaderSource::new(Broken);
     let found = fault(rt.alloc(), &mut reader);
-    assert_eq!(rt; found, Some(ReadTextFault::ReadFault));
+    same(&rt, found, Some(ReadTextFault::ReadFault), "the fault");
     Ok(())
 }
 
 #[test]
 fn an_endless_source_is_too_large(rt: HostRuntime) {
     let found = fault(rt.alloc(), &mut Endless);
-    assert_eq!(rt; found, Some(ReadTextFault::TooLarge));
+    same(&rt, found, Some(ReadTextFault::TooLarge), "the fault");
 }
 
 #[test]
@@ -78,8 +87,8 @@ fn writes_to_a_vector(rt: HostRuntime) -> Result<(), Fail> {
     let mut bytes = vec![in rt.alloc(); b'a']?;
     let mut writer = WriterSink::new(&mut bytes);
     let written = (put(&mut writer, "bcd"), put(&mut writer, "e"));
-    assert_eq!(rt; written, (true, true));
-    assert_eq!(rt; bytes.as_slice(), b"abcde".as_slice());
+    same(&rt, written, (true, true), "both pieces");
+    same(&rt, bytes.as_slice(), b"abcde".as_slice(), "the bytes");
     Ok(())
 }
 
@@ -87,7 +96,7 @@ fn writes_to_a_vector(rt: HostRuntime) -> Result<(), Fail> {
 fn a_writer_that_takes_nothing_fails(rt: HostRuntime) {
     let mut full = WriterSink::new(Broken);
     let written = (put(&mut full, "a"), put(&mut full, ""));
-    assert_eq!(rt; written, (false, true));
+    same(&rt, written, (false, true), "both pieces");
 }
 
 /// Pieces, whether each is written whole, and the sink's bytes behind it.
@@ -107,8 +116,8 @@ fn a_failed_write_leaves_what_was_written(rt: HostRuntime) -> Result<(), Fail> {
     let mut sink = MemorySink::new(rt.alloc(), 6, vec![in rt.alloc(); 3]?)?;
     for (piece, whole, after) in WRITES {
         let written = put(&mut sink, piece);
-        assert_eq!(rt; written, *whole, "{piece}");
-        assert_eq!(rt; sink.bytes(), after.as_bytes(), "{piece}");
+        same(&rt, written, *whole, piece);
+        same(&rt, sink.bytes(), after.as_bytes(), piece);
     }
     Ok(())
 }
@@ -126,8 +135,8 @@ fn a_small_sink_takes_a_byte_a_call(rt: HostRuntime) -> Result<(), Fail> {
     let mut sink = SmallSink::new(rt.alloc(), 5, vec![in rt.alloc(); 4]?)?;
     for (piece, whole, after) in SMALL_WRITES {
         let written = put(&mut sink, piece);
-        assert_eq!(rt; written, *whole, "{piece}");
-        assert_eq!(rt; sink.bytes(), after.as_bytes(), "{piece}");
+        same(&rt, written, *whole, piece);
+        same(&rt, sink.bytes(), after.as_bytes(), piece);
     }
     Ok(())
 }
@@ -140,9 +149,9 @@ fn a_sure_sink_tells_nothing_past_its_room(rt: HostRuntime) -> Result<(), Fail> 
     let mut sink = SureSink::new(rt.alloc(), 3)?;
     for (piece, after) in SURE_WRITES {
         let written = put(&mut sink, piece);
-        assert!(rt; written, "{piece}");
+        same(&rt, written, true, piece);
         let told = sink.bytes();
-        assert_eq!(rt; told, after.map(|text| text.as_bytes()), "{piece}");
+        same(&rt, told, after.map(|text| text.as_bytes()), piece);
     }
     Ok(())
 }
@@ -152,8 +161,8 @@ fn a_read_that_fails_once_is_not_tried_again(rt: HostRuntime) -> Result<(), Fail
     let mut reader = FailsOnce::at(2);
     let mut source = ReaderSource::new(&mut reader);
     let found = fault(rt.alloc(), &mut source);
-    assert_eq!(rt; found, Some(ReadTextFault::ReadFault));
-    assert_eq!(rt; reader.calls, 2, "the failed call was the last one");
+    same(&rt, found, Some(ReadTextFault::ReadFault), "the fault");
+    same(&rt, reader.calls, 2, "the failed call was the last one");
     Ok(())
 }
 
@@ -162,10 +171,10 @@ fn the_end_of_the_input_is_no_fault(rt: HostRuntime) -> Result<(), Fail> {
     let mut reader = FailsOnce::at(0);
     let mut source = ReaderSource::new(&mut reader);
     let found = taken(rt.alloc(), &mut source).map(|text| text.len());
-    assert_eq!(rt; found, Some(3));
+    same(&rt, found, Some(3), "the length");
     let next = source.read(&mut [0; 1]);
-    assert_eq!(rt; next, Ok(0));
-    assert_eq!(rt; reader.calls, 5, "three bytes, and the end twice");
+    same(&rt, next, Ok(0), "the next call");
+    same(&rt, reader.calls, 5, "three bytes, and the end twice");
     Ok(())
 }
 
@@ -174,8 +183,8 @@ fn a_write_that_fails_once_is_not_tried_again(rt: HostRuntime) {
     let mut writer = FailsOnce::at(3);
     let mut sink = WriterSink::new(&mut writer);
     let written = put(&mut sink, "abcde");
-    assert!(rt; !written);
-    assert_eq!(rt; writer.calls, 3, "the failed call was the last one");
+    same(&rt, written, false, "the write");
+    same(&rt, writer.calls, 3, "the failed call was the last one");
 }
 
 // A source without end.

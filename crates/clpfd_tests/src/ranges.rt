@@ -2,12 +2,12 @@
 
 ghost use Rattle.std.specs.Prelude.{◌<◌, length};
 
+use crate::same::same;
 use crate::verdicts::told;
 use fd_language::{Feature, RangeNode};
 use monotone_check::check;
 use range_terms::{RangeFault, SourceRange, features, read_range};
 use std::alloc::{AllocError, Global};
-use std::process::Abort;
 use std::test::Fail;
 use term_pool::{Node, Pool, TermId};
 use term_reader::read_sentences;
@@ -182,18 +182,18 @@ fn ranges_are_read_and_checked(rt: HostRuntime) -> Result<(), Fail> {
     for (range, want) in RANGES {
         let text = format!(in rt.alloc(); "{range}.")?;
         let found = said(rt.alloc(), &text)?;
-        assert_eq!(rt; found.as_str(), *want, "at {text}");
+        same(&rt, found.as_str(), *want, text.as_str());
     }
     Ok(())
 }
 
 /// The range that a text spells.
-fn source(rt: &impl Abort, alloc: Global, text: &str) -> Result<SourceRange, Fail> {
+fn source(alloc: Global, text: &str) -> Result<SourceRange, Fail> {
     let sentences = read_sentences(alloc, text)?;
     for sentence in &sentences.list {
         return Ok(read_range(alloc, &sentences.pool, sentence.term)?);
     }
-    panic!(rt; "no sentence in {text}")
+    Err(Fail::new("no sentence"))
 }
 
 /// A range of each kind of node.
@@ -232,13 +232,13 @@ const NODES: &[(RangeNode, usize)] = &[
 
 #[test]
 fn nodes_have_the_places_of_their_names(rt: HostRuntime) -> Result<(), Fail> {
-    let found = source(&rt, rt.alloc(), ALL_NODES)?;
-    assert_eq!(rt; found.places.len(), NODES.len());
+    let found = source(rt.alloc(), ALL_NODES)?;
+    same(&rt, found.places.len(), NODES.len(), "how many nodes");
     for ((node, place), (found_node, found_place)) in NODES
         .iter()
         .zip(found.range.nodes().iter().zip(&found.places))
     {
-        assert_eq!(rt; (found_node, found_place), (node, place));
+        same(&rt, (found_node, found_place), (node, place), "a node");
     }
     Ok(())
 }
@@ -255,12 +255,11 @@ const FEATURES: &[(u64, Feature)] = &[
 #[test]
 fn each_feature_comes_once(rt: HostRuntime) -> Result<(), Fail> {
     let found = source(
-        &rt,
         rt.alloc(),
         "max(B)+min(A)..max(A)-min(A):dom(A)&{max(B)+val(B)+P}.",
     )?;
     let found = features(rt.alloc(), &found.range)?;
-    assert_eq!(rt; found.as_slice(), FEATURES);
+    same(&rt, found.as_slice(), FEATURES, "the features");
     Ok(())
 }
 
@@ -278,7 +277,7 @@ fn repeated(alloc: Global, part: &str, last: &str) -> Result<String, AllocError>
 fn a_range_may_be_as_deep_as_it_is_long(rt: HostRuntime) -> Result<(), Fail> {
     for (part, last) in [("- ", "dom(X)."), ("1+", "1..9.")] {
         let text = repeated(rt.alloc(), part, last)?;
-        let found = source(&rt, rt.alloc(), &text)?;
+        let found = source(rt.alloc(), &text)?;
         assert!(rt; found.places.len() > 100_000);
     }
     Ok(())

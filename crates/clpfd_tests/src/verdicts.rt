@@ -1,5 +1,6 @@
 //! Ranges with their verdicts, as the rules of the check give them.
 
+use crate::same::same;
 use fd_language::{FlatRange, Need, RangeNode};
 use monotone_check::{CheckFault, Checked, check, needs};
 use std::alloc::{AllocError, Global};
@@ -175,7 +176,7 @@ fn verdicts(rt: HostRuntime) -> Result<(), Fail> {
         let (_, rest) = line.split_once(" | ").expect(&rt, line);
         let (spelling, verdict) = rest.split_once(" | ").expect(&rt, line);
         let found = verdict_of(rt.alloc(), spelling)?;
-        assert_eq!(rt; found.as_str(), verdict, "{spelling}");
+        same(&rt, found.as_str(), verdict, spelling);
     }
     Ok(())
 }
@@ -190,6 +191,6 @@ fn strongest_needs(rt: HostRuntime) -> Result<(), Fail> {
     let checked = check(rt.alloc(), range, &places)?;
     let found = needs(rt.alloc(), &checked)?;
     let expected = [(0, Need::Natural), (1, Need::Natural), (2, Need::Divisor)];
-    assert_eq!(rt; found.as_slice(), expected.as_slice());
+    same(&rt, found.as_slice(), expected.as_slice(), "the needs");
     Ok(())
 }

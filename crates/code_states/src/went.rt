@@ -5,7 +5,7 @@ ghost use Rattle.code_states.specs.Standing.{went_by, went_to};
 use wam_code::CodeArea;
 
 /// Where an instruction leads.
-#[derive(Clone, Copy, Debug, PartialEq, Eq)]
+#[derive(Clone, Copy)]
 pub enum Went {
     /// To the place to go on at.
     On(usize),

@@ -12,7 +12,7 @@ use std::alloc::Global;
 use std::marker::Model;
 
 /// How a domain changed.
-#[derive(Clone, Copy, Debug, PartialEq, Eq)]
+#[derive(Clone, Copy)]
 pub struct Change {
     /// Whether the least value is another one.
     pub min: bool,

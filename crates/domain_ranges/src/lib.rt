@@ -51,7 +51,7 @@ pub enum Narrowed {
 }
 
 /// What the numbers of an interval leave of a set that isn't empty, as far as its ends tell.
-#[derive(Clone, Copy, Debug, PartialEq, Eq)]
+#[derive(Clone, Copy)]
 pub enum Part {
     /// All of it.
     All,
@@ -62,7 +62,7 @@ pub enum Part {
 }
 
 /// How a number stands to a set.
-#[derive(Clone, Copy, Debug, PartialEq, Eq)]
+#[derive(Clone, Copy)]
 pub enum Membership {
     /// It is no member.
     Outside,

@@ -62,7 +62,7 @@ struct Mark {
 const _: () = prove!(size_of::<Mark>() == 24);
 
 /// What became of a domain of which some values were taken away.
-#[derive(Clone, Copy, Debug, PartialEq, Eq)]
+#[derive(Clone, Copy)]
 pub enum Cut {
     /// It is as it was.
     Same,

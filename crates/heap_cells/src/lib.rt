@@ -20,7 +20,7 @@ use std::marker::Model;
 use term_pool::AtomId;
 
 /// A term of a heap at its top: a variable or a compound term by its number, or a constant.
-#[derive(Clone, Copy, Debug, PartialEq, Eq)]
+#[derive(Clone, Copy, PartialEq, Eq)]
 pub enum Cell {
     Ref(usize),
     Int(i64),
@@ -31,7 +31,7 @@ pub enum Cell {
 const _: () = prove!(size_of::<Cell>() == 16);
 
 /// What a cell comes to once bindings are followed.
-#[derive(Clone, Copy, Debug)]
+#[derive(Clone, Copy)]
 pub enum Seen<'h> {
     /// A variable that is neither bound nor constrained, by its number.
     Open(usize),

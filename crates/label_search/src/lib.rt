@@ -10,7 +10,7 @@ use fd_language::INFINITY;
 use fd_model::kinds::Order;
 
 /// A member of a list that is labelled.
-#[derive(Clone, Copy, Debug, PartialEq, Eq)]
+#[derive(Clone, Copy)]
 pub enum Member {
     /// An integer, whatever its value.
     Fixed(i64),

@@ -29,7 +29,7 @@ pub enum MachineEvent {
 }
 
 /// The budget of a query in reductions, and how many answers it may give.
-#[derive(Clone, Copy, Debug)]
+#[derive(Clone, Copy)]
 pub struct Limits {
     pub steps: u64,
     pub answers: Option<u64>,

@@ -2,6 +2,7 @@
 
 ghost use Rattle.fd_model.specs.Run.{IsLimit};
 
+use crate::same::same;
 use clause_check::{Program, check_program};
 use clause_compiler::compile;
 use code_machine::Machine;
@@ -10,6 +11,7 @@ use fd_model::kinds::QueryFault;
 use machine_events::{Limits, MachineEvent};
 use propagate_queue::{Agenda, Cheapest, Fifo};
 use std::alloc::Global;
+use std::process::Abort;
 use std::rc::Rc;
 use std::test::Fail;
 use term_pool::Pool;
@@ -44,6 +46,36 @@ fn event_text(alloc: Global, event: &MachineEvent) -> Result<String, NoMemory> {
     }
 }
 
+/// Puts the next event behind the others, and says whether it was the end.
+fn put_event<A: Agenda + Drop>(
+    alloc: Global,
+    machine: &mut Machine<A>,
+    lines: &mut String,
+) -> Result<bool, Fail> {
+    let event = machine.next()?;
+    let text = event_text(alloc, &event)?;
+    lines.push_str(text.as_str())?;
+    lines.push_str("; ")?;
+    Ok(matches!(event, MachineEvent::End))
+}
+
+/// The machine's next events, and the reductions behind them.
+fn events_of<A: Agenda + Drop>(
+    alloc: Global,
+    machine: &mut Machine<A>,
+    events: usize,
+) -> Result<String, Fail> {
+    let mut lines = String::new(alloc);
+    for _ in 0..events {
+        if put_event(alloc, machine, &mut lines)? {
+            break;
+        }
+    }
+    let spent = machine.spent();
+    lines.push_str(format!(in alloc; "{spent}")?.as_str())?;
+    Ok(lines)
+}
+
 /// The first events of the code's first query, and the reductions behind them.
 fn run_code<A: Agenda + Drop>(
     alloc: Global,
@@ -58,18 +90,7 @@ fn run_code<A: Agenda + Drop>(
         return Err(Fail::new("no query"));
     }
     let mut machine = Machine::new(alloc, Rc::new(alloc, code)?, 0, limits, agenda)?;
-    let mut lines = String::new(alloc);
-    for _ in 0..events {
-        let event = machine.next()?;
-        lines.push_str(event_text(alloc, &event)?.as_str())?;
-        lines.push_str("; ")?;
-        if matches!(event, MachineEvent::End) {
-            break;
-        }
-    }
-    let spent = machine.spent();
-    lines.push_str(format!(in alloc; "{spent}")?.as_str())?;
-    Ok(lines)
+    events_of(alloc, &mut machine, events)
 }
 
 /// Those of the text's first query.
@@ -105,9 +126,26 @@ nrev wrong | app([],L,L). app([H|T],L,[H|R]) :- app(T,L,R). rev([],[]). rev([H|T
 renamed apart | p(X,Y) :- X = Y. ?- p(A,1), p(B,2), A = 1, B = 2. | answer 2; end; 6
 undone domains | p(X) :- X in 1..3. p(X) :- X in 5..9. ?- X in 0..9, p(X), X in 4..6. | answer 1; end; 6";
 
+/// Refuses a text whose first query runs otherwise with one of the agendas.
+fn gives(
+    rt: &impl Abort,
+    alloc: Global,
+    text: &str,
+    limits: Limits,
+    events: usize,
+    wanted: &str,
+) -> Result<(), Fail>
+    requires { IsLimit limits.answers }
+{
+    let first = run(alloc, text, limits, Fifo::new(alloc), events)?;
+    same(rt, first.as_str(), wanted, text);
+    let second = run(alloc, text, limits, Cheapest::new(alloc), events)?;
+    same(rt, second.as_str(), wanted, text);
+    Ok(())
+}
+
 #[test]
 fn runs_with_both_agendas(rt: HostRuntime) -> Result<(), Fail> {
-    let alloc = rt.alloc();
     let limits = Limits {
         steps: 1000,
         answers: None,
@@ -115,31 +153,26 @@ fn runs_with_both_agendas(rt: HostRuntime) -> Result<(), Fail> {
     for line in ROWS.lines() {
         let (_, rest) = line.split_once(" | ").expect(&rt, line);
         let (text, wanted) = rest.split_once(" | ").expect(&rt, line);
-        let first = run(alloc, text, limits, Fifo::new(alloc), 9)?;
-        assert_eq!(rt; first.as_str(), wanted, "{text}");
-        let second = run(alloc, text, limits, Cheapest::new(alloc), 9)?;
-        assert_eq!(rt; second.as_str(), wanted, "{text}");
+        gives(&rt, rt.alloc(), text, limits, 9, wanted)?;
     }
     Ok(())
 }
 
 #[test]
 fn limits_end_a_run(rt: HostRuntime) -> Result<(), Fail> {
-    let alloc = rt.alloc();
     let limits = Limits {
         steps: 5,
         answers: None,
     };
-    let lines = run(alloc, "loop :- loop. ?- loop.", limits, Fifo::new(alloc), 2)?;
-    assert_eq!(rt; lines.as_str(), "budget; budget; 5");
+    let text = "loop :- loop. ?- loop.";
+    gives(&rt, rt.alloc(), text, limits, 2, "budget; budget; 5")?;
     let limits = Limits {
         steps: 9,
         answers: Some(2),
     };
     let text = "p(1). p(2). p(3). ?- p(X).";
-    let lines = run(alloc, text, limits, Fifo::new(alloc), 4)?;
-    assert_eq!(rt; lines.as_str(), "answer 1; answer 1; limit; limit; 1");
-    Ok(())
+    let wanted = "answer 1; answer 1; limit; limit; 1";
+    gives(&rt, rt.alloc(), text, limits, 4, wanted)
 }
 
 /// A query that switches on a register into which it has just put an integer: no program has such
@@ -175,6 +208,6 @@ fn verified_code_of_no_program(rt: HostRuntime) -> Result<(), Fail> {
         answers: None,
     };
     let lines = run_code(alloc, unmeant_code(alloc)?, limits, Fifo::new(alloc), 2)?;
-    assert_eq!(rt; lines.as_str(), "answer 0; end; 0");
+    same(&rt, lines.as_str(), "answer 0; end; 0", "the code");
     Ok(())
 }

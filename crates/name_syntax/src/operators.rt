@@ -5,7 +5,7 @@ ghost use Rattle.fd_language.specs.Operators.{infix_of, prefix_of, is_operator, 
 ghost use Rattle.name_syntax.specs.Operators.{operator_of, nameless, AreRows};
 
 /// On which side an operand may have the operator's own priority.
-#[derive(Clone, Copy, Debug, PartialEq, Eq)]
+#[derive(Clone, Copy)]
 pub enum Fixity {
     /// xfx
     NotAssociative,
@@ -20,7 +20,7 @@ pub enum Fixity {
 }
 
 /// An operator, without its name.
-#[derive(Clone, Copy, Debug, PartialEq, Eq)]
+#[derive(Clone, Copy)]
 pub struct Operator {
     /// From 1 to 1200; the greatest binds least.
     pub priority: u32,
@@ -28,7 +28,7 @@ pub struct Operator {
 }
 
 /// What a name is as an operator.
-#[derive(Clone, Copy, Debug, PartialEq, Eq)]
+#[derive(Clone, Copy)]
 pub struct Roles {
     /// Between two operands.
     pub infix: Option<Operator>,

@@ -13,7 +13,7 @@ use domain_ranges::{Domain, View};
 use fd_language::INFINITY;
 
 /// What stands in a slot of a range.
-#[derive(Clone, Copy, Debug, PartialEq, Eq)]
+#[derive(Clone, Copy)]
 pub enum Arg {
     /// A variable, by its number in the view.
     Var(usize),

@@ -86,7 +86,7 @@ impl Model for RangeCode {
 }
 
 /// How many ranges were evaluated.
-#[derive(Clone, Copy, Debug, PartialEq, Eq)]
+#[derive(Clone, Copy)]
 pub struct Activations {
     /// Their number. It stands still at 2^64 - 1.
     pub count: u64,
@@ -302,7 +302,7 @@ impl Stacks {
 }
 
 /// The set of a range over the domains of a view, as far as numbers tell it.
-#[derive(Clone, Copy, Debug, PartialEq, Eq)]
+#[derive(Clone, Copy)]
 pub enum Reach {
     /// All numbers.
     All,

@@ -2,6 +2,10 @@
 #![tactic(auto)]
 
 #[cfg(test)]
+mod codes;
+#[cfg(test)]
 mod range_codes;
+#[cfg(test)]
+mod same;
 #[cfg(test)]
 mod stores;

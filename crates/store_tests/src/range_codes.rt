@@ -4,12 +4,13 @@ ghost use Rattle.std.specs.Prelude.{◌≡◌, ◌<◌, length, slice_index_or, 
 ghost use Rattle.fd_language.specs.Flat.{nodes_of};
 ghost use Rattle.range_code.specs.Frames.{IsArg, AreArgs, IsFrame};
 
+use crate::codes::code_of;
+use crate::same::same;
 use domain_ranges::{Domain, View};
-use fd_language::{Feature, FlatRange, Need, RangeNode};
-use monotone_check::check;
+use fd_language::{Feature, Need, RangeNode};
 use range_code::{
-    Activations, Arg, Narrowed, RangeCode, RangeInstr, ReadKind, Stacks, are_some, compile_range,
-    narrow, run_range,
+    Activations, Arg, Narrowed, RangeCode, RangeInstr, ReadKind, Stacks, are_some, narrow,
+    run_range,
 };
 use std::alloc::Global;
 use std::marker::Model;
@@ -44,14 +45,6 @@ fn domains_of(alloc: Global, spans: &[(i128, i128)]) -> Result<Domains, Fail> {
         list.push(Domain::interval(alloc, *low, *high))?;
     }
     Ok(Domains { list })
-}
-
-fn code_of(rt: &impl Abort, alloc: Global, nodes: &[RangeNode]) -> Result<RangeCode, Fail> {
-    let range = FlatRange::from_nodes(nodes.to_vec(alloc)?).expect(rt, "a range");
-    let places = vec![in alloc; 0; range.nodes().len()]?;
-    assert_eq!(rt; places.len(), range.nodes().len());
-    let checked = check(alloc, range, &places)?;
-    Ok(compile_range(alloc, &checked)?)
 }
 
 /// Whether an integer meets the need.
@@ -98,14 +91,14 @@ fn gives(
     spans: &[(i128, i128)],
     want: &[(u32, u32)],
 ) -> Result<(), Fail> {
-    let code = code_of(rt, alloc, nodes)?;
+    let code = code_of(alloc, nodes)?;
     let view = domains_of(alloc, spans)?;
     let fits = are_args(view.list.len(), code.needs(), args);
     assert!(rt; fits);
     let mut n = Activations::new();
     let set = run_range(alloc, &code, args, &view, &mut n)?;
-    assert_eq!(rt; set.spans(), want);
-    assert_eq!(rt; n.count, 1);
+    same(rt, set.spans(), want, "a set");
+    same(rt, n.count, 1, "activations");
     Ok(())
 }
 
@@ -119,7 +112,7 @@ fn leaves(
     target: (i128, i128),
     want: &[(u32, u32)],
 ) -> Result<(), Fail> {
-    let code = code_of(rt, alloc, nodes)?;
+    let code = code_of(alloc, nodes)?;
     let view = domains_of(alloc, spans)?;
     let fits = are_args(view.list.len(), code.needs(), args);
     assert!(rt; fits);
@@ -130,11 +123,11 @@ fn leaves(
     stacks.reserve(&code)?;
     let mut n = Activations::new();
     match narrow(&code, args, &view, &target, &mut stacks, &mut n)? {
-        Narrowed::Same => assert_eq!(rt; target.spans(), want),
-        Narrowed::Empty => assert_eq!(rt; Domain::empty(alloc).spans(), want),
-        Narrowed::Changed(domain) => assert_eq!(rt; domain.spans(), want),
+        Narrowed::Same => same(rt, target.spans(), want, "the same"),
+        Narrowed::Empty => same(rt, Domain::empty(alloc).spans(), want, "nothing"),
+        Narrowed::Changed(domain) => same(rt, domain.spans(), want, "what is left"),
     }
-    assert_eq!(rt; n.count, 1);
+    same(rt, n.count, 1, "activations");
     Ok(())
 }
 
@@ -168,39 +161,42 @@ fn set_of_an_intersection(rt: HostRuntime) -> Result<(), Fail> {
     gives(&rt, rt.alloc(), &nodes, &y, &[(1, 3)], &[(0, 1), (3, 3)])
 }
 
-/// The slots of `(Q*min(Y)..max(Y)):(P..9)&(0..max(Y)/<P)`, and what is told of them.
+/// `(Q*min(Y)..max(Y)):(P..9)&(0..max(Y)/<P)`
+const NODES: &[RangeNode] = &[
+    RangeNode::Param(8),
+    RangeNode::Min(5),
+    RangeNode::Mul,
+    RangeNode::Max(5),
+    RangeNode::Span,
+    RangeNode::Param(2),
+    RangeNode::Int(9),
+    RangeNode::Span,
+    RangeNode::Union,
+    RangeNode::Int(0),
+    RangeNode::Max(5),
+    RangeNode::Param(2),
+    RangeNode::DivDown,
+    RangeNode::Span,
+    RangeNode::Inter,
+];
+
+/// Its slots, what each needs, and what is read of them.
+const SLOTS: &[u64] = &[8, 5, 2];
+
+const NEEDS: &[Option<Need>] = &[Some(Need::Natural), None, Some(Need::Divisor)];
+
+const FEATURES: &[(usize, Feature)] = &[(1, Feature::Min), (1, Feature::Max)];
+
+const KINDS: &[(usize, ReadKind)] = &[(1, ReadKind::Both)];
+
 #[test]
 fn slots_needs_and_reads(rt: HostRuntime) -> Result<(), Fail> {
-    use RangeNode::*;
-    let nodes = [
-        Param(8),
-        Min(5),
-        Mul,
-        Max(5),
-        Span,
-        Param(2),
-        Int(9),
-        Span,
-        Union,
-        Int(0),
-        Max(5),
-        Param(2),
-        DivDown,
-        Span,
-        Inter,
-    ];
-    let code = code_of(&rt, rt.alloc(), &nodes)?;
-    assert_eq!(rt; code.slots(), [8, 5, 2].as_slice());
-    assert_eq!(rt;
-        code.needs(),
-        [Some(Need::Natural), None, Some(Need::Divisor)].as_slice()
-    );
-    assert_eq!(rt;
-        code.features(),
-        [(1, Feature::Min), (1, Feature::Max)].as_slice()
-    );
-    assert_eq!(rt; code.kinds(), [(1, ReadKind::Both)].as_slice());
-    assert_eq!(rt; code.range().nodes(), nodes.as_slice());
+    let code = code_of(rt.alloc(), NODES)?;
+    same(&rt, code.slots(), SLOTS, "the slots");
+    same(&rt, code.needs(), NEEDS, "the needs");
+    same(&rt, code.features(), FEATURES, "the features");
+    same(&rt, code.kinds(), KINDS, "the kinds");
+    same(&rt, code.range().nodes(), NODES, "the range");
     Ok(())
 }
 
@@ -208,32 +204,31 @@ fn slots_needs_and_reads(rt: HostRuntime) -> Result<(), Fail> {
 #[test]
 fn alike_but_for_names(rt: HostRuntime) -> Result<(), Fail> {
     use RangeNode::*;
-    let first = code_of(&rt, rt.alloc(), &[Min(3), Int(9), Span])?;
-    let second = code_of(&rt, rt.alloc(), &[Min(8), Int(9), Span])?;
-    let third = code_of(&rt, rt.alloc(), &[Val(3), Int(9), Span])?;
+    let first = code_of(rt.alloc(), &[Min(3), Int(9), Span])?;
+    let second = code_of(rt.alloc(), &[Min(8), Int(9), Span])?;
+    let third = code_of(rt.alloc(), &[Val(3), Int(9), Span])?;
     assert!(rt; first.is_alike(&second));
     assert!(rt; !first.is_alike(&third));
     Ok(())
 }
+
+/// The instructions of `min(Y)+2*3..9`.
+const INSTRUCTIONS: &[RangeInstr] = &[
+    RangeInstr::NeedSome(0),
+    RangeInstr::PushMin(0),
+    RangeInstr::PushConst(0),
+    RangeInstr::Add,
+    RangeInstr::PushConst(1),
+    RangeInstr::Span,
+];
 
 /// The instructions of `min(Y)+2*3..9`, and its set: so their constants are 6 and 9.
 #[test]
 fn instructions_with_folded_literals(rt: HostRuntime) -> Result<(), Fail> {
     use RangeNode::*;
     let nodes = [Min(7), Int(2), Int(3), Mul, Add, Int(9), Span];
-    let code = code_of(&rt, rt.alloc(), &nodes)?;
-    assert_eq!(rt;
-        code.instrs(),
-        [
-            RangeInstr::NeedSome(0),
-            RangeInstr::PushMin(0),
-            RangeInstr::PushConst(0),
-            RangeInstr::Add,
-            RangeInstr::PushConst(1),
-            RangeInstr::Span,
-        ]
-        .as_slice()
-    );
+    let code = code_of(rt.alloc(), &nodes)?;
+    same(&rt, code.instrs(), INSTRUCTIONS, "the instructions");
     let y = [Arg::Var(0)];
     gives(&rt, rt.alloc(), &nodes, &y, &[(1, 3)], &[(7, 9)])
 }

@@ -1,9 +1,10 @@
 //! Posts on a store, and how many activations they take.
 
-use fd_language::{FlatRange, RangeNode};
-use monotone_check::check;
+use crate::codes::code_of;
+use crate::same::same;
+use fd_language::RangeNode;
 use propagate_queue::{Agenda, Cheapest, Fifo, Instance, Posted, Store};
-use range_code::{Activations, Arg, RangeCode, compile_range};
+use range_code::{Activations, Arg, RangeCode};
 use std::alloc::Global;
 use std::process::Abort;
 use std::rc::Rc;
@@ -30,18 +31,11 @@ const ABOVE: [RangeNode; 5] = [
     RangeNode::Span,
 ];
 
-fn code_of(alloc: Global, nodes: &[RangeNode]) -> Result<Rc<RangeCode>, Fail> {
-    let Some(range) = FlatRange::from_nodes(nodes.to_vec(alloc)?) else {
-        return Err(Fail::new("no range"));
-    };
-    let places = vec![in alloc; 0; range.nodes().len()]?;
-    if places.len() != range.nodes().len() {
-        return Err(Fail::new("no places"));
-    }
-    match check(alloc, range, &places) {
-        Ok(checked) => Ok(Rc::new(alloc, compile_range(alloc, &checked)?)?),
-        Err(_) => Err(Fail::new("not accepted")),
-    }
+/// `{4}`
+const FOUR: [RangeNode; 2] = [RangeNode::Int(4), RangeNode::One];
+
+fn shared_code(alloc: Global, nodes: &[RangeNode]) -> Result<Rc<RangeCode>, Fail> {
+    Ok(Rc::new(alloc, code_of(alloc, nodes)?)?)
 }
 
 fn instance(
@@ -70,20 +64,6 @@ fn post_one<A: Agenda + Drop>(
     Ok(store.post(vec![in alloc; first]?, n)?)
 }
 
-fn post_two<A: Agenda + Drop>(
-    alloc: Global,
-    store: &mut Store<A>,
-    first: Instance,
-    second: Instance,
-    n: &mut Activations,
-) -> Result<Posted, Fail> {
-    let vars = store.vars();
-    if !first.fits(vars) || !second.fits(vars) {
-        return Err(Fail::new("no instances of the store"));
-    }
-    Ok(store.post(vec![in alloc; first, second]?, n)?)
-}
-
 fn post_four<A: Agenda + Drop>(
     alloc: Global,
     store: &mut Store<A>,
@@ -98,24 +78,35 @@ fn post_four<A: Agenda + Drop>(
     Ok(store.post(vec![in alloc; first, second, third, fourth]?, n)?)
 }
 
-/// Whether the variable's domain goes from `low` to `high`.
-fn spans<A: Agenda + Drop>(store: &Store<A>, k: usize, low: u32, high: u32) -> bool {
+/// The ends of the variable's domain.
+fn ends<A: Agenda + Drop>(store: &Store<A>, k: usize) -> Option<(u32, u32)> {
     if k >= store.vars() {
-        return false;
+        return None;
     }
     let domain = store.domain(k);
-    domain.min() == Some(low) && domain.max() == Some(high)
+    Some((domain.min()?, domain.max()?))
+}
+
+/// Posts a range without arguments.
+fn post_range<A: Agenda + Drop>(
+    alloc: Global,
+    store: &mut Store<A>,
+    nodes: &[RangeNode],
+    target: usize,
+    n: &mut Activations,
+) -> Result<Posted, Fail> {
+    let code = shared_code(alloc, nodes)?;
+    let range = instance(alloc, &code, target, &[])?;
+    post_one(alloc, store, range, n)
 }
 
 /// A store with so many variables from 0 to 9.
 fn digits<A: Agenda + Drop>(alloc: Global, agenda: A, count: usize) -> Result<Store<A>, Fail> {
     let mut store = Store::new(alloc, agenda);
-    let code = code_of(alloc, &DIGITS)?;
     let mut n = Activations::new();
     for _ in 0..count {
         let variable = store.new_var()?;
-        let range = instance(alloc, &code, variable, &[])?;
-        post_one(alloc, &mut store, range, &mut n)?;
+        post_range(alloc, &mut store, &DIGITS, variable, &mut n)?;
     }
     Ok(store)
 }
@@ -134,20 +125,35 @@ fn less(
     ))
 }
 
+/// Posts that the first of each pair is less than the second.
+fn post_less<A: Agenda + Drop>(
+    alloc: Global,
+    store: &mut Store<A>,
+    pairs: [(usize, usize); 2],
+    n: &mut Activations,
+) -> Result<Posted, Fail> {
+    let (below, above) = (shared_code(alloc, &BELOW)?, shared_code(alloc, &ABOVE)?);
+    let codes = (&below, &above);
+    let [(x, y), (z, w)] = pairs;
+    let pairs = [less(alloc, codes, x, y)?, less(alloc, codes, z, w)?];
+    post_four(alloc, store, pairs, n)
+}
+
 /// X is less than Y, and Y less than Z: four ranges whose variables lose two values each, so at most 4 + 8 activations. Then Y is 4.
 fn three_in_order<A: Agenda + Drop>(rt: &impl Abort, alloc: Global, agenda: A) -> Result<(), Fail> {
     let mut store = digits(alloc, agenda, 3)?;
-    let (below, above) = (code_of(alloc, &BELOW)?, code_of(alloc, &ABOVE)?);
-    let codes = (&below, &above);
-    let pairs = [less(alloc, codes, 0, 1)?, less(alloc, codes, 1, 2)?];
     let mut n = Activations::new();
-    assert_eq!(rt; post_four(alloc, &mut store, pairs, &mut n)?, Posted::Kept);
-    assert!(rt; spans(&store, 0, 0, 7) && spans(&store, 1, 1, 8) && spans(&store, 2, 2, 9));
-    assert!(rt; n.count <= 12, "{}", n.count);
-    let four = [RangeNode::Int(4), RangeNode::One];
-    let four = instance(alloc, &code_of(alloc, &four)?, 1, &[])?;
-    assert_eq!(rt; post_one(alloc, &mut store, four, &mut n)?, Posted::Kept);
-    assert!(rt; spans(&store, 0, 0, 3) && spans(&store, 1, 4, 4) && spans(&store, 2, 5, 9));
+    let posted = post_less(alloc, &mut store, [(0, 1), (1, 2)], &mut n)?;
+    same(rt, posted, Posted::Kept, "X #< Y, Y #< Z");
+    let found = [ends(&store, 0), ends(&store, 1), ends(&store, 2)];
+    let want = [Some((0, 7)), Some((1, 8)), Some((2, 9))];
+    same(rt, found, want, "X #< Y, Y #< Z");
+    same(rt, n.count <= 12, true, "at most 12 activations");
+    let posted = post_range(alloc, &mut store, &FOUR, 1, &mut n)?;
+    same(rt, posted, Posted::Kept, "Y = 4");
+    let found = [ends(&store, 0), ends(&store, 1), ends(&store, 2)];
+    let want = [Some((0, 3)), Some((4, 4)), Some((5, 9))];
+    same(rt, found, want, "Y = 4");
     Ok(())
 }
 
@@ -158,20 +164,15 @@ fn each_less_than_the_other<A: Agenda + Drop>(
     agenda: A,
 ) -> Result<(), Fail> {
     let mut store = digits(alloc, agenda, 2)?;
-    let (below, above) = (code_of(alloc, &BELOW)?, code_of(alloc, &ABOVE)?);
-    let codes = (&below, &above);
     if store.failed() {
         return Err(Fail::new("failed"));
     }
     store.push_mark()?;
-    let pairs = [less(alloc, codes, 0, 1)?, less(alloc, codes, 1, 0)?];
     let mut n = Activations::new();
-    assert_eq!(rt;
-        post_four(alloc, &mut store, pairs, &mut n)?,
-        Posted::Failed
-    );
-    let whole = instance(alloc, &code_of(alloc, &DIGITS)?, 0, &[])?;
-    assert_eq!(rt; post_one(alloc, &mut store, whole, &mut n)?, Posted::Failed);
+    let posted = post_less(alloc, &mut store, [(0, 1), (1, 0)], &mut n)?;
+    same(rt, posted, Posted::Failed, "X #< Y, Y #< X");
+    let posted = post_range(alloc, &mut store, &DIGITS, 0, &mut n)?;
+    same(rt, posted, Posted::Failed, "behind a failure");
     Ok(())
 }
 

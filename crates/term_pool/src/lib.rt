@@ -27,7 +27,7 @@ pub struct AtomId {
 }
 
 /// A term of a pool.
-#[derive(Clone, Copy, Debug, PartialEq, Eq, PartialOrd, Ord, Hash)]
+#[derive(Clone, Copy, PartialEq, Eq, Hash)]
 pub struct TermId {
     /// Its number, from 0 in the order in which the terms came.
     pub number: usize,
@@ -43,7 +43,7 @@ pub const CONS: AtomId = AtomId { number: 1 };
 pub const SPAN: AtomId = AtomId { number: 2 };
 
 /// What a term is at its top.
-#[derive(Clone, Copy, Debug)]
+#[derive(Clone, Copy)]
 pub enum Node<'p> {
     /// A variable, by its number.
     Var(u64),

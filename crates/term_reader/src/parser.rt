@@ -23,7 +23,7 @@ use std::alloc::Global;
 use term_pool::{AtomId, CONS, NIL, Node, Pool, TermId};
 
 /// A token as the grammar sees it. Stop isn't among them.
-#[derive(Clone, Copy, Debug)]
+#[derive(Clone, Copy)]
 pub(crate) enum Terminal {
     /// A word that is no operator, or what a quoted atom spells.
     Name(AtomId),
@@ -44,7 +44,7 @@ pub(crate) enum Terminal {
 /// What is begun: a bracket, or an operator that wants its right operand.
 ///
 /// Places are in bytes. A bracket of arguments keeps how many arguments of the brackets around it stand before its own.
-#[derive(Clone, Copy, Debug)]
+#[derive(Clone, Copy)]
 pub(crate) enum Item {
     Parenthesis,
     Curly {
@@ -78,7 +78,7 @@ pub(crate) enum Item {
 }
 
 /// What may come next.
-#[derive(Clone, Copy, Debug)]
+#[derive(Clone, Copy)]
 pub(crate) enum Expecting {
     Operand,
     BehindOpenList {
@@ -104,7 +104,7 @@ pub(crate) enum Expecting {
 }
 
 /// What a token ends.
-#[derive(Clone, Copy, Debug)]
+#[derive(Clone, Copy)]
 enum Closing {
     Nothing,
     Parenthesis,

@@ -17,7 +17,7 @@ use std::alloc::Global;
 use term_pool::{Pool, TermId};
 
 /// How atoms are written.
-#[derive(Clone, Copy, Debug, PartialEq, Eq)]
+#[derive(Clone, Copy)]
 pub enum Mode {
     /// In quotes where a bare one would not be read back as the same atom.
     Quoted,
@@ -26,7 +26,7 @@ pub enum Mode {
 }
 
 /// A variable's text.
-#[derive(Debug, Drop)]
+#[derive(Drop)]
 pub struct VarText {
     /// The variable's number.
     pub var: u64,

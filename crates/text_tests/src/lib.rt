@@ -6,6 +6,8 @@
 #[cfg(test)]
 mod pools;
 #[cfg(test)]
+mod same;
+#[cfg(test)]
 mod sentences;
 #[cfg(test)]
 mod term_texts;

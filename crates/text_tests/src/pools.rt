@@ -3,6 +3,7 @@
 ghost use Rattle.std.specs.Prelude.{◌≡◌, ◌<◌, ◌≤◌, length, IfOk};
 ghost use Rattle.term_pool.specs.Valid.{IsWithin, shape_of};
 
+use crate::same::same;
 use std::process::Abort;
 use std::test::Fail;
 use term_pool::{AtomId, CONS, NIL, Node, Pool, SPAN, TermId};
@@ -37,19 +38,19 @@ fn equal_texts_have_equal_numbers(rt: HostRuntime) -> Result<(), Fail> {
     let mut pool = Pool::new(rt.alloc())?;
     for (text, want) in NUMBERS {
         let found = number(&mut pool, text)?;
-        assert_eq!(rt; found, *want, "{text}");
+        same(&rt, found, *want, text);
     }
     let count = pool.atoms();
-    assert_eq!(rt; count, 5);
+    same(&rt, count, 5, "atoms");
     Ok(())
 }
 
 #[test]
 fn three_atoms_have_constants(rt: HostRuntime) -> Result<(), Fail> {
     let pool = Pool::new(rt.alloc())?;
-    assert_eq!(rt; name(&pool, NIL), "[]");
-    assert_eq!(rt; name(&pool, CONS), ".");
-    assert_eq!(rt; name(&pool, SPAN), "..");
+    same(&rt, name(&pool, NIL), "[]", "NIL");
+    same(&rt, name(&pool, CONS), ".", "CONS");
+    same(&rt, name(&pool, SPAN), "..", "SPAN");
     Ok(())
 }
 
@@ -71,7 +72,7 @@ fn check_top(rt: &impl Abort, pool: &Pool, t: TermId, place: usize, want: (i64, 
     requires { t.number < length pool.now.entries }
 {
     let found = (pool.place(t), top(pool, t));
-    assert_eq!(rt; found, (place, want));
+    same(rt, found, (place, want), "a term");
 }
 
 /// A node put into the pool.

@@ -2,11 +2,12 @@
 ghost use Rattle.std.specs.Prelude.{◌<◌, length, All, OnOk};
 ghost use Rattle.term_reader.specs.Sentences.{AreOwn};
 
+use crate::same::same;
 use char_tokens::TokenFault;
 use std::alloc::{AllocError, Global};
 use std::test::Fail;
 use term_pool::{AtomId, Node, Pool, TermId};
-use term_reader::{ReaderFault, read_sentences};
+use term_reader::{ReaderFault, Sentences, read_sentences};
 
 /// A text, and what it is: each term with its parts before it, as a variable, an integer, an atom or a name with its arity, each with its place behind `@`; then the names of the sentence's variables; or the fault and its place.
 const TEXTS: &[(&str, &str)] = &[
@@ -202,16 +203,21 @@ fn show_names(pool: &Pool, names: &[AtomId], out: &mut String) -> Result<(), All
     out.push(']')
 }
 
-fn shown(alloc: Global, text: &str) -> Result<String, AllocError> {
-    let sentences = match read_sentences(alloc, text) {
-        Ok(sentences) => sentences,
-        Err(ReaderFault::Token(TokenFault::At { place, cause })) => return format!(in alloc;
-            "Token {cause:?} {place}"
-        ),
-        Err(ReaderFault::Syntax { place }) => return format!(in alloc; "Syntax {place}"),
-        Err(ReaderFault::TooDeep { place }) => return format!(in alloc; "TooDeep {place}"),
-        Err(_) => return format!(in alloc; "no memory"),
-    };
+fn fault_text(alloc: Global, fault: ReaderFault) -> Result<String, AllocError> {
+    match fault {
+        ReaderFault::Token(TokenFault::At { place, cause }) => {
+            format!(in alloc; "Token {cause:?} {place}")
+        }
+        ReaderFault::Syntax { place } => format!(in alloc; "Syntax {place}"),
+        ReaderFault::TooDeep { place } => format!(in alloc; "TooDeep {place}"),
+        _ => format!(in alloc; "no memory"),
+    }
+}
+
+/// The terms of the sentences and the names of their variables.
+fn listed(alloc: Global, sentences: &Sentences) -> Result<String, AllocError>
+    requires { AreOwn sentences.now }
+{
     let mut out = String::new(alloc);
     for (k, sentence) in sentences.list.iter().enumerate() {
         if k > 0 {
@@ -223,11 +229,18 @@ fn shown(alloc: Global, text: &str) -> Result<String, AllocError> {
     Ok(out)
 }
 
+fn shown(alloc: Global, text: &str) -> Result<String, AllocError> {
+    match read_sentences(alloc, text) {
+        Ok(sentences) => listed(alloc, &sentences),
+        Err(fault) => fault_text(alloc, fault),
+    }
+}
+
 #[test]
 fn texts_are_sentences_or_have_a_fault(rt: HostRuntime) -> Result<(), Fail> {
     for (text, want) in TEXTS {
         let found = shown(rt.alloc(), text)?;
-        assert_eq!(rt; found.as_str(), *want, "at {text}");
+        same(&rt, found.as_str(), *want, text);
     }
     Ok(())
 }
@@ -262,7 +275,7 @@ fn a_thousand_brackets_may_be_open(rt: HostRuntime) -> Result<(), Fail> {
     for (count, inner, want) in NESTED {
         let text = nested(rt.alloc(), *count, inner)?;
         let found = shown(rt.alloc(), &text)?;
-        assert_eq!(rt; found.as_str(), *want, "{count} around {inner}");
+        same(&rt, found.as_str(), *want, inner);
     }
     Ok(())
 }

@@ -3,6 +3,8 @@
 ghost use Rattle.std.specs.Prelude.{◌<◌, length, All, OnOk, IfOk};
 ghost use Rattle.term_pool.specs.Valid.{IsWithin, shape_of};
 
+use crate::same::same;
+use std::alloc::Global;
 use std::test::Fail;
 use term_pool::{Node, Pool, TermId};
 use term_writer::{Mode, VarText, write_atom, write_term};
@@ -347,21 +349,26 @@ fn term(rt: &HostRuntime, pool: &mut Pool, steps: &[Step]) -> Result<TermId, Fai
     }
 }
 
-/// The text of a case's term.
-fn written(rt: &HostRuntime, case: Case, mode: Mode) -> Result<Vec<u8>, Fail> {
-    let (steps, limit, _, _) = case;
-    let mut pool = Pool::new(rt.alloc())?;
-    let t = term(rt, &mut pool, steps)?;
-    let vars = [
+/// The texts of two variables.
+fn variables(alloc: Global) -> Result<[VarText; 2], Fail> {
+    Ok([
         VarText {
             var: 2,
-            text: Vec::from_slice(rt.alloc(), b"_2(0..3)")?,
+            text: Vec::from_slice(alloc, b"_2(0..3)")?,
         },
         VarText {
             var: 1,
-            text: Vec::from_slice(rt.alloc(), b"_1")?,
+            text: Vec::from_slice(alloc, b"_1")?,
         },
-    ];
+    ])
+}
+
+/// The text of a case's term.
+fn written(rt: &HostRuntime, case: Case, mode: Mode) -> Result<Vec<u8>, Fail> {
+    let (steps, limit, _, _) = case;
+    let vars = variables(rt.alloc())?;
+    let mut pool = Pool::new(rt.alloc())?;
+    let t = term(rt, &mut pool, steps)?;
     let mut out = Vec::new(rt.alloc());
     write_term(rt.alloc(), &pool, t, mode, &vars, limit, &mut out)?;
     Ok(out)
@@ -408,6 +415,11 @@ fn writes_names(rt: HostRuntime) -> Result<(), Fail> {
     for (name, before) in NAMES {
         write_atom(rt.alloc(), name, *before, &mut out)?;
     }
-    assert!(rt; out.as_slice() == b"unknown foo!','','-'-''A b'".as_slice());
+    same(
+        &rt,
+        out.as_slice(),
+        b"unknown foo!','','-'-''A b'".as_slice(),
+        "names",
+    );
     Ok(())
 }

@@ -1,4 +1,5 @@
 //! Texts with their tokens or their fault, as the format states them.
+use crate::same::same;
 use char_tokens::{Kind, Scanner, Token, TokenFault, tokens, unquote};
 use std::alloc::{AllocError, Global};
 use std::test::Fail;
@@ -174,11 +175,11 @@ fn shown(alloc: Global, text: &str) -> Result<String, AllocError> {
 fn texts_give_their_tokens_or_their_first_fault(rt: HostRuntime) -> Result<(), Fail> {
     for (text, want) in TEXTS {
         let found = shown(rt.alloc(), text)?;
-        assert_eq!(rt; found.as_str(), *want, "at {text}");
+        same(&rt, found.as_str(), *want, text);
     }
     for (text, want) in SPELLINGS {
         let found = unquote(rt.alloc(), text)?;
-        assert_eq!(rt; found.as_str(), *want, "at {text}");
+        same(&rt, found.as_str(), *want, text);
     }
     Ok(())
 }

@@ -16,7 +16,7 @@ pub enum Register {
 
 /// What a switch looks for in the first argument: an atom, an integer, or a name with a number of
 /// arguments.
-#[derive(Clone, Copy, Debug, PartialEq, Eq)]
+#[derive(Clone, Copy, Debug)]
 pub enum Key {
     Atom(AtomId),
     Int(i64),

@@ -5,7 +5,7 @@ use std::rc::Rc;
 use term_pool::{AtomId, Pool};
 
 /// A predicate: its name, the number of its arguments, and the place of its code.
-#[derive(Clone, Copy, Debug)]
+#[derive(Clone, Copy)]
 pub struct Entry {
     pub name: AtomId,
     pub arity: u8,
