@@ -99,6 +99,9 @@ fn member_at<V: View>(heap: &Heap, view: &V, at: Cell) -> Option<Member>
     }
 }
 
+/// How many members take memory at once.
+const USUAL_LENGTH: usize = 16;
+
 /// The members of the list in a cell, or the first fault from the front on. The outer error is want of memory.
 pub(crate) fn read_members<V: View>(
     alloc: Global,
@@ -112,8 +115,8 @@ pub(crate) fn read_members<V: View>(
     ensures { IfOk result (λ r. (name : Naming) → IsListNaming name
         → IsListRead name heap.now.now (V.sets view.now) list r) }
 {
-    let mut cells = Vec::new(alloc);
-    let mut members = Vec::new(alloc);
+    let mut cells = Vec::with_capacity(alloc, USUAL_LENGTH)?;
+    let mut members = Vec::with_capacity(alloc, USUAL_LENGTH)?;
     let mut at = list;
     'walking: loop {
         match node_at(heap, view, at) {

@@ -1,4 +1,5 @@
 // What runs write, over ends in memory.
+use crate::same::same;
 use byte_ports::{MemorySink, MemorySource, SmallSink, SmallSource};
 use fd_model::Status;
 use std::alloc::Global;
@@ -31,8 +32,12 @@ fn give(
 ) -> Result<(), Fail> {
     for (text, output) in texts {
         let (ended, bytes) = answers(alloc, text.as_bytes())?;
-        assert_eq!(rt; bytes.as_slice(), output.as_bytes(), "at {text}");
-        assert_eq!(rt; ended, status);
+        same(
+            rt,
+            (ended, bytes.as_slice()),
+            (status, output.as_bytes()),
+            text,
+        );
     }
     Ok(())
 }
@@ -639,8 +644,12 @@ fn check(rt: &impl Abort, alloc: Global, words: &str, text: &str, lines: &str) -
             status = Status::Stopped;
         }
     }
-    assert_eq!(rt; bytes.as_slice(), output.as_bytes(), "at {words} {text}");
-    assert_eq!(rt; ended, status, "at {words} {text}");
+    same(
+        rt,
+        (ended, bytes.as_slice()),
+        (status, output.as_bytes()),
+        text,
+    );
     Ok(())
 }
 
@@ -787,8 +796,8 @@ fn bytes_that_are_no_text(rt: HostRuntime) -> Result<(), Fail> {
         ),
     ] {
         let (ended, bytes) = answers(rt.alloc(), text)?;
-        assert_eq!(rt; bytes.as_slice(), output.as_bytes());
-        assert_eq!(rt; ended, Status::Refused);
+        let want = (Status::Refused, output.as_bytes());
+        same(&rt, (ended, bytes.as_slice()), want, output);
     }
     Ok(())
 }
@@ -894,14 +903,8 @@ fn deep_and_long_texts(rt: HostRuntime) -> Result<(), Fail> {
         let text = nested(rt.alloc(), parts, count)?;
         let output = nested(rt.alloc(), lines, count)?;
         let (ended, bytes) = answers(rt.alloc(), text.as_bytes())?;
-        assert_eq!(rt;
-            bytes.as_slice(),
-            output.as_bytes(),
-            "at {} {}",
-            parts[0],
-            count
-        );
-        assert_eq!(rt; ended, status);
+        let want = (count, status, output.as_bytes());
+        same(&rt, (count, ended, bytes.as_slice()), want, parts[0]);
     }
     Ok(())
 }
@@ -937,8 +940,8 @@ fn each_front_of_a_text(rt: HostRuntime) -> Result<(), Fail> {
         } else {
             Status::Refused
         };
-        assert_eq!(rt; bytes.as_slice(), output.as_bytes(), "at {length}");
-        assert_eq!(rt; ended, status, "at {length}");
+        let want = (length, status, output.as_bytes());
+        same(&rt, (length, ended, bytes.as_slice()), want, "a front");
     }
     Ok(())
 }
@@ -958,8 +961,8 @@ fn each_read_fails_in_turn(rt: HostRuntime) -> Result<(), Fail> {
         );
         let mut sink = MemorySink::new(rt.alloc(), 1000, Vec::new(rt.alloc()))?;
         let ended = run(rt.alloc(), &[], &mut source, &mut sink);
-        assert_eq!(rt; sink.bytes().len(), 0, "at {failing}");
-        assert_eq!(rt; ended, Status::ReadFault, "at {failing}");
+        let want = (failing, Status::ReadFault, 0);
+        same(&rt, (failing, ended, sink.bytes().len()), want, "a read");
     }
     Ok(())
 }
@@ -971,14 +974,15 @@ fn each_write_fails_in_turn(rt: HostRuntime) -> Result<(), Fail> {
         let mut source = MemorySource::new(CHOICE.to_vec(rt.alloc())?, Vec::new(rt.alloc()));
         let mut sink = SmallSink::new(rt.alloc(), 31, vec![in rt.alloc(); failing]?)?;
         let ended = run(rt.alloc(), &[], &mut source, &mut sink);
-        assert_eq!(rt; sink.bytes().len() as u64, failing - 1, "at {failing}");
-        assert!(rt; CHOICE_OUTPUT.starts_with(sink.bytes()), "at {failing}");
+        let written = sink.bytes().len() as u64;
+        let is_front = CHOICE_OUTPUT.starts_with(sink.bytes());
         let status = if failing < 32 {
             Status::WriteFault
         } else {
             Status::Done
         };
-        assert_eq!(rt; ended, status, "at {failing}");
+        let want = (failing - 1, status, true);
+        same(&rt, (written, ended, is_front), want, "a write");
     }
     Ok(())
 }
@@ -993,8 +997,8 @@ fn texts_of_the_greatest_size_and_above(rt: HostRuntime) -> Result<(), Fail> {
     ] {
         let text = repeated(rt.alloc(), "", " ", size, "")?;
         let (ended, bytes) = answers(rt.alloc(), text.as_bytes())?;
-        assert_eq!(rt; bytes.as_slice(), output.as_bytes(), "at {size}");
-        assert_eq!(rt; ended, status);
+        let want = (size, status, output.as_bytes());
+        same(&rt, (size, ended, bytes.as_slice()), want, "blanks");
     }
     Ok(())
 }
@@ -1007,8 +1011,8 @@ fn a_query_of_a_million_goals_and_one(rt: HostRuntime) -> Result<(), Fail> {
     ] {
         let text = repeated(rt.alloc(), front, ",X in 0..1", 1_000_000, ".")?;
         let (ended, bytes) = answers(rt.alloc(), text.as_bytes())?;
-        assert_eq!(rt; bytes.as_slice(), output.as_bytes());
-        assert_eq!(rt; ended, status);
+        let want = (status, output.as_bytes());
+        same(&rt, (ended, bytes.as_slice()), want, front);
     }
     Ok(())
 }
@@ -1018,8 +1022,8 @@ fn a_failed_third_write(rt: HostRuntime) -> Result<(), Fail> {
     let failing = [3].to_vec(rt.alloc())?;
     let text = b"p(X) :- X in 1..2. p(X) :- X in 8..9. ?- X in 0..8, p(X).".as_slice();
     let (ended, bytes) = written(rt.alloc(), text, failing)?;
-    assert_eq!(rt; bytes.as_slice(), b"query 1\nX = _1(1..2)\n".as_slice());
-    assert_eq!(rt; ended, Status::WriteFault);
+    let want = (Status::WriteFault, b"query 1\nX = _1(1..2)\n".as_slice());
+    same(&rt, (ended, bytes.as_slice()), want, "the third write");
     Ok(())
 }
 
@@ -1057,8 +1061,8 @@ fn words_that_are_refused(rt: HostRuntime) -> Result<(), Fail> {
     ];
     for line in lines {
         let (ended, bytes) = asked(rt.alloc(), line, "?- p.")?;
-        assert_eq!(rt; bytes.as_slice(), usage.as_bytes(), "at {line}");
-        assert_eq!(rt; ended, Status::Usage, "at {line}");
+        let want = (Status::Usage, usage.as_bytes());
+        same(&rt, (ended, bytes.as_slice()), want, line);
     }
     Ok(())
 }
@@ -1088,8 +1092,8 @@ fn words_that_are_accepted(rt: HostRuntime) -> Result<(), Fail> {
     ];
     for (line, text, output, status) in rows {
         let (ended, bytes) = asked(rt.alloc(), line, text)?;
-        assert_eq!(rt; bytes.as_slice(), output.as_bytes(), "at {line}");
-        assert_eq!(rt; ended, status, "at {line}");
+        let want = (status, output.as_bytes());
+        same(&rt, (ended, bytes.as_slice()), want, line);
     }
     Ok(())
 }
@@ -1142,8 +1146,8 @@ const SUMMARIES: [(&str, &str, Status); 8] = [
 fn generated_texts_are_summed_up(rt: HostRuntime) -> Result<(), Fail> {
     for (line, output, status) in SUMMARIES {
         let (ended, bytes) = asked(rt.alloc(), line, "?- p.")?;
-        assert_eq!(rt; bytes.as_slice(), output.as_bytes(), "at {line}");
-        assert_eq!(rt; ended, status, "at {line}");
+        let want = (status, output.as_bytes());
+        same(&rt, (ended, bytes.as_slice()), want, line);
     }
     Ok(())
 }
@@ -1154,7 +1158,7 @@ fn a_summary_reads_nothing_and_is_written_by_lines(rt: HostRuntime) -> Result<()
     let mut source = MemorySource::new(Vec::new(rt.alloc()), [1].to_vec(rt.alloc())?);
     let mut sink = MemorySink::new(rt.alloc(), 1000, [3].to_vec(rt.alloc())?)?;
     let status = run(rt.alloc(), &words, &mut source, &mut sink);
-    assert_eq!(rt; sink.bytes(), b"gen 4\nanswers 2\n".as_slice());
-    assert_eq!(rt; status, Status::WriteFault);
+    let want = (Status::WriteFault, b"gen 4\nanswers 2\n".as_slice());
+    same(&rt, (status, sink.bytes()), want, "the third write");
     Ok(())
 }

@@ -6,8 +6,8 @@ use Rattle.branch_goals.proofs.lists.read_members.Goals as goal
 
 pub walking-init : goal.walking-init
 walking-init g c = λ name names.
-    subst (λ (xs : List Cell). IsWalked name c.args.heap.now.now (g.V.View.sets c.args.view.now) c.args.list xs c.new-members.result.items c.args.list) (sym c.new-cells.ensures.items)
-    (subst (λ (ms : List Member). IsWalked name c.args.heap.now.now (g.V.View.sets c.args.view.now) c.args.list [] ms c.args.list) (sym c.new-members.ensures.items)
+    subst (λ (xs : List Cell). IsWalked name c.args.heap.now.now (g.V.View.sets c.args.view.now) c.args.list xs c.in_ok-members.members.items c.args.list) (sym c.in_ok-cells.ensures.items)
+    (subst (λ (ms : List Member). IsWalked name c.args.heap.now.now (g.V.View.sets c.args.view.now) c.args.list [] ms c.args.list) (sym c.in_ok-members.ensures.items)
     (walk_start name c.args.heap.now.now (g.V.View.sets c.args.view.now) c.args.list c.requires.own))
 
 pub node_at-requires-clause-own : goal.node_at-requires-clause-own
