@@ -2,7 +2,10 @@
 ghost use Rattle.std.specs.Prelude.{◌≡◌, ◌<◌, ◌++◌, length, map, codes, All, IfOk, OnOk};
 ghost use Rattle.fd_model.specs.Lines.{as_terms, equals_text, joined, line};
 ghost use Rattle.machine_events.specs.Events.{ShowsTerms, shown_line, terms_in, variable_text, written_term};
+ghost use Rattle.fd_language.specs.Writing.{Plain, term_text};
 ghost use Rattle.term_pool.specs.Contents.{atom_name};
+ghost use Rattle.term_pool.specs.Terms.{term_of};
+ghost use Rattle.term_writer.specs.Views.{text_of};
 
 use crate::domains::put_separator;
 use crate::variables::{sets_of, texts_of};
@@ -10,8 +13,8 @@ use fd_language::NoMemory;
 use indexmap::IndexSet;
 use machine_events::Shown;
 use std::alloc::Global;
-use term_pool::{AtomId, Pool};
-use term_writer::{Mode, write_term};
+use term_pool::{AtomId, Pool, TermId};
+use term_writer::{Mode, VarText, write_term};
 
 /// Appends the entries `Name = Term` joined by `, `.
 fn put_entries(
@@ -60,6 +63,17 @@ pub(crate) fn answer_line(
     Ok(text)
 }
 
+/// The text of a term, not quoted, with these texts of its variables.
+fn plain_text(alloc: Global, pool: &Pool, t: TermId, texts: &[VarText]) -> Result<Vec<u8>, NoMemory>
+    requires { t.number < length pool.now.entries }
+    ensures { IfOk result (λ text. text.items
+        ≡ term_text Plain (text_of texts.now) 1200 (term_of pool.now t)) }
+{
+    let mut text = Vec::new(alloc);
+    write_term(alloc, pool, t, Mode::Plain, texts, 1200, &mut text)?;
+    Ok(text)
+}
+
 /// The text of a written term.
 pub(crate) fn written_text(alloc: Global, shown: &Shown) -> Result<Vec<u8>, NoMemory>
     requires { ShowsTerms 1 shown.now }
@@ -69,15 +83,6 @@ pub(crate) fn written_text(alloc: Global, shown: &Shown) -> Result<Vec<u8>, NoMe
     let sets = sets_of(alloc, &shown.sets)?;
     let mut numbers = IndexSet::new(alloc);
     let texts = texts_of(alloc, &shown.pool, term, &sets, &mut numbers)?;
-    let mut text = Vec::new(alloc);
-    write_term(
-        alloc,
-        &shown.pool,
-        term,
-        Mode::Plain,
-        &texts,
-        1200,
-        &mut text,
-    )?;
+    let text = plain_text(alloc, &shown.pool, term, &texts)?;
     Ok(text)
 }

@@ -68,36 +68,34 @@ fn top(pool: &Pool, t: TermId) -> (i64, usize, usize)
     }
 }
 
-fn check_top(rt: &impl Abort, pool: &Pool, t: TermId, place: usize, want: (i64, usize, usize))
-    requires { t.number < length pool.now.entries }
-{
-    let found = (pool.place(t), top(pool, t));
-    same(rt, found, (place, want), "a term");
-}
-
-/// A node put into the pool.
-fn added(pool: &mut Pool, node: Node<'_>, place: usize) -> Result<TermId, Fail>
+/// A node put into the pool, where it has to be at its place and show what is wanted.
+fn put(
+    rt: &impl Abort,
+    pool: &mut Pool,
+    node: Node<'_>,
+    place: usize,
+    want: (i64, usize, usize),
+) -> Result<TermId, Fail>
     requires { IsWithin (length pool.old.names) (length pool.old.entries) (shape_of node) }
     ensures id { IfOk result (λ t. t.number < length pool.new.entries) }
     ensures names { length pool.new.names ≡ length pool.old.names }
     ensures entries { length pool.old.entries ≤ length pool.new.entries }
 {
-    Ok(pool.add(node, place)?)
+    let t = pool.add(node, place)?;
+    let found = (pool.place(t), top(pool, t));
+    same(rt, found, (place, want), "a term");
+    Ok(t)
 }
 
 #[test]
 fn shows_a_term_of_depth_two(rt: HostRuntime) -> Result<(), Fail> {
     let mut pool = Pool::new(rt.alloc())?;
     let name = pool.atom("f")?;
-    let variable = added(&mut pool, Node::Var(7), 2)?;
-    let integer = added(&mut pool, Node::Int(-1), 6)?;
+    let variable = put(&rt, &mut pool, Node::Var(7), 2, (-7, 0, 0))?;
+    let integer = put(&rt, &mut pool, Node::Int(-1), 6, (-1, 0, 0))?;
     let node = Node::Comp(name, &[integer]);
-    let inner = added(&mut pool, node, 4)?;
+    let inner = put(&rt, &mut pool, node, 4, (1, 3, 1))?;
     let node = Node::Comp(CONS, &[variable, inner]);
-    let outer = added(&mut pool, node, 0)?;
-    check_top(&rt, &pool, variable, 2, (-7, 0, 0));
-    check_top(&rt, &pool, integer, 6, (-1, 0, 0));
-    check_top(&rt, &pool, inner, 4, (1, 3, 1));
-    check_top(&rt, &pool, outer, 0, (2, 1, 2));
+    put(&rt, &mut pool, node, 0, (2, 1, 2))?;
     Ok(())
 }

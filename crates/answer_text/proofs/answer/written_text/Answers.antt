@@ -33,8 +33,7 @@ returns c =
     let sets : HasSets shown.sets.items c.in_ok-sets.sets = subst (λ (l : List (ℕ × List ℕ)). HasSets l c.in_ok-sets.sets) c.deref.ensures.value c.in_ok-sets.ensures in
     let given : GiveTexts vars u texts =
     same_given (set_by c.in_ok-sets.sets) (set_in shown.sets.items) (keys ++ []) (distinct (variables_in (u ∷ []))) u texts sets whole (c.in_ok-texts.ensures.texts []) in
-    c.in_ok-write_term.ensures.text
-    ∙ ap (λ (l : List ℕ). l ++ term_text Plain (text_of c.deref-2.result.now) 1200 u) c.new-text.ensures.items
+    c.in_ok-text.ensures
     ∙ ap (λ (vs : List VarText). term_text Plain (text_of vs) 1200 u) c.deref-2.ensures.value
     ∙ own_texts vars Plain 1200 u texts given
     ∙ ap (λ (x : Term). term_text Plain (variable_text shown (term x no_terms)) 1200 x) (sym only)
