@@ -52,9 +52,9 @@ fn answers_in(event: &MachineEvent) -> u64
 }
 
 /// Runs a machine to its last event. More answers than can be counted are want of memory.
-fn count_events<A: Agenda + Drop>(mut machine: Machine<A>) -> Result<Tally, NoMemory>
+fn count_events<A: Agenda + Drop>(machine: &mut Machine<A>) -> Result<Tally, NoMemory>
     ensures last { IfOk result (λ t. is_fixed t.last ≡ true) }
-    ensures whole { (es : List Event) (r : ℕ) → StandsFor machine es r → IfOk result
+    ensures whole { (es : List Event) (r : ℕ) → StandsFor machine.old es r → IfOk result
         (IsTally es r) }
 {
     let mut answers: u64 = 0;
@@ -94,8 +94,8 @@ fn count_query<A: Agenda + Drop>(
     };
     program.known();
     let code = compile(alloc, program)?;
-    let machine = Machine::new(alloc, Rc::new(alloc, code)?, 0, limits, agenda)?;
-    count_events(machine)
+    let mut machine = Machine::new(alloc, Rc::new(alloc, code)?, 0, limits, agenda)?;
+    count_events(&mut machine)
 }
 
 /// Runs the first query of a program.

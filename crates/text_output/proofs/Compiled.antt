@@ -2,20 +2,18 @@
 use Rattle.std.proofs.Common.{◌≡◌, ℕ, zero, suc, ◌<◌, List, [], ◌∷◌, All, map, length, slice_get, slice_index_or, get_or, Some, Option, refl, ap, sym, ◌∙◌, subst, arith}
 use Rattle.std.proofs.lemmas.List.{length-map, get_or-map}
 use Rattle.std.proofs.lemmas.Option.{slice_get_within}
-use Rattle.fd_language.specs.Term.{Name}
 use Rattle.fd_language.specs.declared.TheConstants.{INFINITY}
-use Rattle.fd_model.specs.Goal.{Event, start_of}
-use Rattle.fd_model.specs.Run.{Run}
+use Rattle.fd_model.specs.Goal.{Event}
 use Rattle.fd_model.specs.Sound.{EachBelow, NumbersBelow, AreRunnable, QueriesScoped, QueriesRunnable}
 use Rattle.term_pool.specs.declared.AtomId.{AtomId}
 use Rattle.term_pool.specs.Contents.{atom_name}
 use Rattle.clause_check.specs.Programs.{FlatProgram, FlatQuery, IsProgram, no_query, query_at, query_in, program_in}
 use Rattle.wam_code.specs.declared.parts.QueryEntry.{QueryEntry}
 use Rattle.wam_code.specs.declared.parts.CodeParts.{CodeParts}
-use Rattle.wam_code.specs.Area.{Area, Span, span_of, area_of, name_of}
+use Rattle.wam_code.specs.Area.{Area, Span, span_of, area_of}
 use Rattle.wam_code.specs.Tries.{IsQueryCode, AreQueries, StandsForProgram}
 use Rattle.wam_code.specs.Verified.{IsAtom, IsVerified}
-use Rattle.code_machine.specs.States.{MayRun, StandsFor, State, no_span, names_in, names_of}
+use Rattle.code_machine.specs.States.{MayRun, no_span, names_in}
 use Rattle.text_output.specs.Endings.{IsRunOf, IsRunBy}
 
 -- the code of the query with a number

@@ -10,7 +10,7 @@ use Rattle.fd_model.specs.Output.{Queries, VerdictOutput, refusal, stop_status}
 use Rattle.byte_ports.proofs.Pieces.{wrote_no_part}
 use Rattle.text_output.specs.declared.fault.Fault.{Fault}
 use Rattle.text_output.specs.declared.fault.Fault.TheVariants as fault
-use Rattle.byte_ports.specs.Ends.{SinkState, WroteAll, WrotePart}
+use Rattle.byte_ports.specs.Ends.{SinkState, WroteAll}
 use Rattle.text_output.specs.Endings.{CutBy, Wrote, Ending, fault_status}
 
 -- memory was wanting before the first byte

@@ -3,7 +3,7 @@ use Rattle.std.proofs.Common.{◌≡◌, ℕ, List, ◌++◌, Result, Ok, Err, s
 use Rattle.byte_ports.proofs.Pieces.{all_then, front_then, part_then, longer_front, longer_part, all_front}
 use Rattle.text_output.specs.declared.fault.Fault.{Fault}
 use Rattle.text_output.specs.declared.fault.Fault.TheVariants as fault
-use Rattle.byte_ports.specs.Ends.{SinkState, WroteAll, WrotePart}
+use Rattle.byte_ports.specs.Ends.{SinkState, WroteAll}
 use Rattle.text_output.specs.Endings.{CutBy, Wrote}
 
 -- a front of a piece behind another

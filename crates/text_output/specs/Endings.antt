@@ -1,5 +1,5 @@
 -- What was written when a call ends.
-use Rattle.std.specs.Prelude.{◌≡◌, ◌≤◌, ◌⊎◌, ℕ, List, [], ◌∷◌, Bool, true, false, Option, Some, None, Result, MatchResult}
+use Rattle.std.specs.Prelude.{◌≡◌, ◌⊎◌, ℕ, List, [], ◌∷◌, Bool, true, false, Option, Some, None, Result, MatchResult}
 use Rattle.fd_language.specs.declared.TheConstants.{INFINITY}
 use Rattle.fd_model.specs.Goal.{Program, Query, Event, start_of}
 use Rattle.fd_model.specs.Output.{is_stop}

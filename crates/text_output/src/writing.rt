@@ -2,7 +2,8 @@
 ghost use Rattle.std.specs.Prelude.{◌≡◌, ◌<◌, ℕ, Bool, List, length, map, All, IfOk};
 ghost use Rattle.fd_model.specs.Goal.{Event};
 ghost use Rattle.fd_model.specs.Run.{IsLimit};
-ghost use Rattle.fd_model.specs.Lines.{events_bytes};
+ghost use Rattle.fd_model.specs.Lines.{event_bytes, events_bytes};
+ghost use Rattle.machine_events.specs.Events.{HasTerms, event_of};
 ghost use Rattle.fd_model.specs.Output.{Queries, VerdictOutput, is_stop};
 ghost use Rattle.term_pool.specs.Contents.{atom_name};
 ghost use Rattle.clause_check.specs.Programs.{program_in};
@@ -72,27 +73,46 @@ pub fn ending(event: &MachineEvent) -> Option<bool>
     }
 }
 
+/// Writes the line of an event, if it has one, and says how it ends a run, if it does.
+fn put_event<K: Sink>(
+    alloc: Global,
+    pool: &Pool,
+    names: &[AtomId],
+    event: MachineEvent,
+    sink: &mut K,
+) -> Result<Option<bool>, Fault>
+    requires names { All (λ a. a.number < length pool.now.names) names.now }
+    requires terms { HasTerms (length names.now) event }
+    ensures wrote { Wrote (sink_at (K.written sink.old) (K.faults sink.old)) (sink_at (K.written
+        sink.new) (K.faults sink.new)) result
+        (event_bytes (event_of (map (atom_name pool.now) names.now) event)) }
+    ensures ending { IfOk result (IsEnding event) }
+{
+    let text = event_text(alloc, pool, names, &event)?;
+    put_line(sink, &text)?;
+    Ok(ending(&event))
+}
+
 /// Writes the lines of the events of a machine, and tells whether its query was stopped. The names are those of the query's shown
 /// variables.
 fn put_events<A: Agenda + Drop, K: Sink>(
     alloc: Global,
     pool: &Pool,
     names: &[AtomId],
-    mut machine: Machine<A>,
+    machine: &mut Machine<A>,
     sink: &mut K,
 ) -> Result<bool, Fault>
     requires names { All (λ a. a.number < length pool.now.names) names.now }
-    requires own { map (atom_name pool.now) names.now ≡ names_of machine }
-    ensures wrote { (es : List Event) (r : ℕ) → StandsFor machine es r
+    requires own { map (atom_name pool.now) names.now ≡ names_of machine.old }
+    ensures wrote { (es : List Event) (r : ℕ) → StandsFor machine.old es r
         → Wrote (sink_at (K.written sink.old) (K.faults sink.old)) (sink_at (K.written sink.new)
         (K.faults sink.new)) result (events_bytes es) }
-    ensures stopped { (es : List Event) (r : ℕ) → StandsFor machine es r → IfOk result (λ stopped.
+    ensures stopped { (es : List Event) (r : ℕ) → StandsFor machine.old es r → IfOk result (λ stopped.
         stopped ≡ is_stop es) }
 {
     'events: loop {
         let event = machine.next()?;
-        put_line(sink, &event_text(alloc, pool, names, &event)?)?;
-        if let Some(stopped) = ending(&event) {
+        if let Some(stopped) = put_event(alloc, pool, names, event, sink)? {
             return Ok(stopped);
         }
     }
@@ -121,13 +141,13 @@ fn put_run<A: Agenda + Drop, K: Sink>(
         steps: options.steps,
         answers: options.answers,
     };
-    let machine = Machine::new(alloc, Rc::clone(code)?, query, limits, agenda)?;
+    let mut machine = Machine::new(alloc, Rc::clone(code)?, query, limits, agenda)?;
     let parts = code.parts();
     put_events(
         alloc,
         &parts.pool,
         &parts.queries[query].names,
-        machine,
+        &mut machine,
         sink,
     )
 }
