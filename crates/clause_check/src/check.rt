@@ -169,6 +169,28 @@ impl Parts {
         Ok(())
     }
 
+    /// Adds what the sentences give, up to the first that is refused. `ahead` is room for terms that wait.
+    fn add_sentences(
+        &mut self,
+        alloc: Global,
+        sentences: &Sentences,
+        heads: &IndexSet<Functor>,
+        ahead: &mut Vec<TermId>,
+    ) -> Result<(), Fault>
+        requires own { AreOwn sentences.now }
+        requires heads { AreHeads sentences.now heads.now.keys }
+        requires nothing { StandsFor sentences.now.pool self.old [] }
+        ensures accepted { OnOk result (AcceptsText sentences.now) }
+        ensures stands { OnOk result
+            (StandsFor sentences.now.pool self.new sentences.now.list.items) }
+        ensures fault { IfErr result (RefusesText sentences.now) }
+    {
+        for sentence in &sentences.list {
+            self.add_sentence(alloc, sentences, heads, sentence, ahead)?;
+        }
+        Ok(())
+    }
+
     /// Adds a sentence.
     fn add_sentence(
         &mut self,
@@ -211,8 +233,6 @@ pub(crate) fn check_sentences(alloc: Global, sentences: &Sentences) -> Result<Pa
     let heads = collect_heads(alloc, sentences)?;
     let mut parts = Parts::new(alloc);
     let mut ahead = Vec::new(alloc);
-    for sentence in &sentences.list {
-        parts.add_sentence(alloc, sentences, &heads, sentence, &mut ahead)?;
-    }
+    parts.add_sentences(alloc, sentences, &heads, &mut ahead)?;
     Ok(parts)
 }

@@ -4,11 +4,11 @@ use Rattle.fd_model.specs.Refusals.{first_refusal}
 use Rattle.clause_check.specs.Parts.{StandsFor}
 use Rattle.clause_check.specs.Terms.{terms_of}
 use Rattle.clause_check.proofs.SentenceLists.{front}
-use Rattle.clause_check.proofs.check.check_sentences.Given as goal
+use Rattle.clause_check.proofs.check.Parts.add_sentences.Given as goal
 
 abbrev pub invariant-loop-sentence : goal.invariant-loop-sentence
 invariant-loop-sentence l =
     record {
       accepted : first_refusal INFINITY (terms_of l.sentences) (front l.sentences l.sentence-index) ≡ None;
-      stands : StandsFor l.sentences.pool l.parts (take l.sentence-index l.sentences.list.items);
+      stands : StandsFor l.sentences.pool l.self (take l.sentence-index l.sentences.list.items);
     }
