@@ -25,7 +25,7 @@ use Rattle.term_reader.specs.declared.reader.Reader.{Reader}
 use Rattle.term_reader.specs.declared.reader.Sentence.{Sentence}
 use Rattle.term_reader.specs.declared.reader.Sentences.{Sentences}
 use Rattle.term_reader.specs.View.{state}
-use Rattle.term_reader.specs.Sentences.{sentence_of, sentences_of, AreOwn, IsSentence, names_after, read_of, done_of, HasRead, IsReader, Took, IsFaultOf, fault_of}
+use Rattle.term_reader.specs.Sentences.{sentence_of, sentences_of, AreOwn, IsSentence, names_after, read_of, done_of, HasRead, HasReadText, IsReader, Took, IsFaultOf, fault_of}
 use Rattle.term_reader.proofs.Sound.{sound}
 use Rattle.term_reader.proofs.Complete.{begins, begins_none}
 use Rattle.term_reader.proofs.Readers.{start, terminals-append}
@@ -143,24 +143,52 @@ deep ls more l depth next r r2 k took is lt =
 
 -- ---- the end of the tokens
 
-ended : (ls : List Lexeme) (depth : ℕ) (r : Reader) → ReadAll ls depth r → ((done : List PlacedTerm) → state r.parser done ≡ want (top done)) → IsRead (terminals [] ls) (done_of (read_of r))
-ended ls depth r k b = record {
-  text = sound (terminals [] ls) (done_of (read_of r)) (k.read.run ∙ ap (λ (st : State). Some st) (b (done_of (read_of r))));
-  shallow = subst (IsShallow (terminals [] ls)) (sym (length-terminals [] ls)) k.shallow;
+ended : (text : List ℕ) (r : Reader) (k : HasReadText text r) → ((done : List PlacedTerm) → state r.parser done ≡ want (top done)) → IsRead (terminals [] k.lexemes) (done_of (read_of r))
+ended text r k b = record {
+  text = sound (terminals [] k.lexemes) (done_of (read_of r)) (k.read.run ∙ ap (λ (st : State). Some st) (b (done_of (read_of r))));
+  shallow = subst (IsShallow (terminals [] k.lexemes)) (sym (length-terminals [] k.lexemes)) k.shallow;
 }
 
-unended : (ls : List Lexeme) (depth : ℕ) (r : Reader) → ReadAll ls depth r → ((done terms : List PlacedTerm) → state r.parser done ≡ want (top terms) → ⊥) → IsSyntaxFault (terminals [] ls) (length ls)
-unended ls depth r k open_still =
-    let ts = terminals [] ls in
+unended : (text : List ℕ) (r : Reader) (k : HasReadText text r) → ((done terms : List PlacedTerm) → state r.parser done ≡ want (top terms) → ⊥) → IsSyntaxFault (terminals [] k.lexemes) (length k.lexemes)
+unended text r k open_still =
+    let ts = terminals [] k.lexemes in
     let done = done_of (read_of r) in
-    let n = length-terminals [] ls in
+    let n = length-terminals [] k.lexemes in
     record {
       within = omega (arith, n);
-      fits = subst Begins (sym (take_all (length ls) ts (omega (arith, n)))) (begins ts (state r.parser done) k.read.run);
+      fits = subst Begins (sym (take_all (length k.lexemes) ts (omega (arith, n)))) (begins ts (state r.parser done) k.read.run);
       ends = λ b. sym n;
       whole = λ terms e. open_still done terms (let same : Some (state r.parser done) ≡ Some (want (top terms)) = sym k.read.run ∙ accepts ts terms e in cc);
       shallow = k.shallow;
     }
+
+-- what is read of a text is its sentences, where the reader is between two
+pub found : (text : List ℕ) (r : Reader) (s : Sentences) → HasReadText text r → ((done : List PlacedTerm) → state r.parser done ≡ want (top done)) → s.pool ≡ r.parser.pool → s.list.items ≡ r.list.items → IsSentences text (sentences_of s)
+found text r s k b e1 e2 =
+    let same : sentences_of s ≡ read_of r = ap (λ (c : Contents). map (sentence_of c) s.list.items) e1 ∙ ap (map (sentence_of r.parser.pool)) e2 in
+    record {
+      lexemes = k.lexemes;
+      tokens = k.tokens;
+      terms = subst (λ (ss : List model.Sentence). IsRead (terminals [] k.lexemes) (done_of ss)) (sym same) (ended text r k b);
+      names = ap (map (λ y. y.names)) same ∙ k.read.names;
+    }
+
+-- a sentence that isn't ended is a fault at the end of the text
+pub fault_unended : (text : List ℕ) (r : Reader) → HasReadText text r → ((done terms : List PlacedTerm) → state r.parser done ≡ want (top terms) → ⊥) → IsSyntaxPlace text (length text)
+fault_unended text r k b = record {
+  lexemes = k.lexemes;
+  tokens = k.tokens;
+  number = length k.lexemes;
+  fault = unended text r k b;
+  at = sym (place_at_end k.lexemes (length text));
+}
+
+-- what is read is of the reader's pool
+pub own : (text : List ℕ) (r : Reader) (s : Sentences) → HasReadText text r → s.pool ≡ r.parser.pool → s.list.items ≡ r.list.items → AreOwn s
+own text r s k e1 e2 = record {
+  pool = subst IsPool (sym e1) k.whole.parser.pool;
+  list = subst (λ (l : List Sentence). All (IsSentence s.pool) l) (sym e2) (subst (λ (c : Contents). All (IsSentence c) r.list.items) (sym e1) k.whole.list);
+}
 
 -- ---- by what is left of the text
 
@@ -217,30 +245,12 @@ pub fault_behind : (text : List ℕ) (old new : Left) (l : Lexeme) (depth : ℕ)
 fault_behind text old new l depth r (faults.At place cause) i k h = k.completes.faults (cause_of cause) place (next_fault old new l (cause_of cause) place i h)
 fault_behind text old new l depth r faults.NoMemory i k h = absurd h
 
-all_seen : (text : List ℕ) (left : Left) (seen : List Lexeme) → Completes text left seen → HasTokens left.place true left.bytes [] → TokensOf text seen
-all_seen text left seen c h = subst (TokensOf text) (append-nil seen) (c.tokens [] h)
-
-pub found : (text : List ℕ) (left : Left) (depth : ℕ) (r : Reader) (s : Sentences) → ReadUpTo text left depth r → HasTokens left.place true left.bytes [] → ((done : List PlacedTerm) → state r.parser done ≡ want (top done)) → s.pool ≡ r.parser.pool → s.list.items ≡ r.list.items → IsSentences text (sentences_of s)
-found text left depth r s k h b e1 e2 =
-    let same : sentences_of s ≡ read_of r = ap (λ (c : Contents). map (sentence_of c) s.list.items) e1 ∙ ap (map (sentence_of r.parser.pool)) e2 in
-    record {
-      lexemes = k.seen;
-      tokens = all_seen text left k.seen k.completes h;
-      terms = subst (λ (ss : List model.Sentence). IsRead (terminals [] k.seen) (done_of ss)) (sym same) (ended k.seen depth r k.all b);
-      names = ap (map (λ y. y.names)) same ∙ k.all.read.names;
-    }
-
-pub fault_unended : (text : List ℕ) (left : Left) (depth : ℕ) (r : Reader) → ReadUpTo text left depth r → HasTokens left.place true left.bytes [] → ((done terms : List PlacedTerm) → state r.parser done ≡ want (top terms) → ⊥) → IsSyntaxPlace text (length text)
-fault_unended text left depth r k h b = record {
+-- where no token is left, all are read
+pub read_whole : (text : List ℕ) (left : Left) (depth : ℕ) (r : Reader) → ReadUpTo text left depth r → HasTokens left.place true left.bytes [] → HasReadText text r
+read_whole text left depth r k h = record {
+  whole = k.all.whole;
   lexemes = k.seen;
-  tokens = all_seen text left k.seen k.completes h;
-  number = length k.seen;
-  fault = unended k.seen depth r k.all b;
-  at = sym (place_at_end k.seen (length text));
-}
-
-pub own : (text : List ℕ) (left : Left) (depth : ℕ) (r : Reader) (s : Sentences) → ReadUpTo text left depth r → s.pool ≡ r.parser.pool → s.list.items ≡ r.list.items → AreOwn s
-own text left depth r s k e1 e2 = record {
-  pool = subst IsPool (sym e1) k.all.whole.parser.pool;
-  list = subst (λ (l : List Sentence). All (IsSentence s.pool) l) (sym e2) (subst (λ (c : Contents). All (IsSentence c) r.list.items) (sym e1) k.all.whole.list);
+  tokens = subst (TokensOf text) (append-nil k.seen) (k.completes.tokens [] h);
+  read = k.all.read;
+  shallow = k.all.shallow;
 }

@@ -2,9 +2,10 @@
 use Rattle.std.specs.Prelude.{◌≡◌, ℕ, ◌<◌, List, [], ◌∷◌, ◌++◌, length, map, reverse, Some, None, Bool, true, false, All}
 use Rattle.fd_language.specs.Term.{Name}
 use Rattle.fd_language.specs.PlacedTerm.{PlacedTerm}
-use Rattle.fd_language.specs.Tokens.{Lexeme, Stop, FaultOf}
+use Rattle.fd_language.specs.Tokens.{Lexeme, Stop, FaultOf, TokensOf}
 use Rattle.fd_language.specs.Reading as model
 use Rattle.fd_language.specs.Reading.{terminals, names_behind, sentence_names, place_at, IsSyntaxPlace, IsDeepPlace, Reading, sentences, token_fault, syntax_fault, too_deep, IsReading}
+use Rattle.fd_language.specs.GrammarFaults.{IsShallow}
 use Rattle.fd_language.proofs.ReadingSteps.{want, top, run}
 use Rattle.char_tokens.specs.Views.{cause_of}
 use Rattle.char_tokens.specs.declared.token.TokenFault.{TokenFault}
@@ -55,6 +56,14 @@ pub record HasRead (ls : List Lexeme) (r : Reader) : Type 0 where
   pub run : run (terminals [] ls) (want (top [])) ≡ Some (state r.parser (done_of (read_of r)))
   pub names : map (λ s. s.names) (read_of r) ≡ sentence_names [] ls
   pub current : names_of r.parser.pool r.variables ≡ names_after [] ls
+
+-- all tokens of the text are read, and nowhere are more than 1,000 brackets open
+pub record HasReadText (text : List ℕ) (r : Reader) : Type 0 where
+  pub whole : IsReader r
+  pub lexemes : List Lexeme
+  pub tokens : TokensOf text lexemes
+  pub read : HasRead lexemes r
+  pub shallow : IsShallow (terminals [] lexemes) (length lexemes)
 
 abbrev pub IsStop : Lexeme → Type 0
 IsStop l = l.kind ≡ Stop

@@ -1,6 +1,6 @@
 //! Sentences read from a text, token by token.
 
-ghost use Rattle.std.specs.Prelude.{◌≡◌, ◌≤◌, [], List, IfOk, IfErr, IsTrue};
+ghost use Rattle.std.specs.Prelude.{◌≡◌, ◌≤◌, [], List, IfOk, IfErr, OnOk, IsTrue};
 ghost use Rattle.fd_language.specs.Tokens.{Lexeme};
 ghost use Rattle.fd_language.specs.Reading.{terminal_of, IsSentences};
 ghost use Rattle.fd_language.specs.GrammarFaults.{open_behind, deepest};
@@ -8,7 +8,7 @@ ghost use Rattle.fd_language.specs.Term.{Name};
 ghost use Rattle.char_tokens.specs.Views.{lexeme_of};
 ghost use Rattle.term_reader.specs.declared.reader.ReaderFault.TheVariants.{NoMemory};
 ghost use Rattle.term_reader.specs.GrammarTokens.{HasNatural};
-ghost use Rattle.term_reader.specs.Sentences.{HasRead, IsReader, IsStop, Took, AreOwn, IsFaultOf, fault_of, sentences_of};
+ghost use Rattle.term_reader.specs.Sentences.{HasRead, HasReadText, IsReader, IsStop, Took, AreOwn, IsFaultOf, fault_of, sentences_of};
 
 use crate::parser::Parser;
 use crate::terminals::terminal;
@@ -138,36 +138,56 @@ impl Reader {
             None => self.end(alloc),
         }
     }
+
+    /// Reads all tokens of a text. A fault of the tokens comes before those of the grammar, so behind one of these the tokens are read to the end.
+    fn read_all(&mut self, alloc: Global, text: &str) -> Result<(), ReaderFault>
+        requires whole { IsReader self.old }
+        requires begins { HasRead [] self.old }
+        ensures read { OnOk result (HasReadText text.now self.new) }
+        ensures fault { IfErr result (IsFaultOf text.now) }
+    {
+        let mut scanner = Scanner::new(text);
+        let mut depth = 0;
+        while let Some(token) = scanner.next_token()? {
+            if !self.read(alloc, token)? {
+                scanner.finish()?;
+                return Err(ReaderFault::Syntax { place: token.place });
+            }
+            depth = depth_behind(depth, token);
+            if depth > DEEPEST {
+                scanner.finish()?;
+                return Err(ReaderFault::TooDeep { place: token.place });
+            }
+        }
+        Ok(())
+    }
+
+    /// The sentences of a text of which all tokens are read, unless the last sentence isn't ended.
+    fn into_sentences(self, text: &str) -> Result<Sentences, ReaderFault>
+        requires { HasReadText text.now self }
+        ensures found { IfOk result (λ s. IsSentences text.now (sentences_of s)) }
+        ensures own { IfOk result AreOwn }
+        ensures fault { IfErr result (IsFaultOf text.now) }
+    {
+        if !self.parser.is_between() {
+            return Err(ReaderFault::Syntax { place: text.len() });
+        }
+        let parser = self.parser;
+        let list = self.list;
+        Ok(Sentences {
+            pool: parser.into_pool(),
+            list,
+        })
+    }
 }
 
-/// The sentences of a text, or its first fault. A fault of the tokens comes before those of the grammar, so behind one of these the tokens are read to the end.
+/// The sentences of a text, or its first fault.
 pub(crate) fn read_text(alloc: Global, text: &str) -> Result<Sentences, ReaderFault>
     ensures found { IfOk result (λ s. IsSentences text.now (sentences_of s)) }
     ensures own { IfOk result AreOwn }
     ensures fault { IfErr result (IsFaultOf text.now) }
 {
-    let mut scanner = Scanner::new(text);
     let mut reader = Reader::new(alloc)?;
-    let mut depth = 0;
-    while let Some(token) = scanner.next_token()? {
-        if !reader.read(alloc, token)? {
-            scanner.finish()?;
-            return Err(ReaderFault::Syntax { place: token.place });
-        }
-        depth = depth_behind(depth, token);
-        if depth > DEEPEST {
-            scanner.finish()?;
-            return Err(ReaderFault::TooDeep { place: token.place });
-        }
-    }
-    if reader.parser.is_between() {
-        let parser = reader.parser;
-        let list = reader.list;
-        Ok(Sentences {
-            pool: parser.into_pool(),
-            list,
-        })
-    } else {
-        Err(ReaderFault::Syntax { place: text.len() })
-    }
+    reader.read_all(alloc, text)?;
+    reader.into_sentences(text)
 }
