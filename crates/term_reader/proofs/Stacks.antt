@@ -16,10 +16,11 @@ use Rattle.term_pool.specs.declared.AtomId.{AtomId}
 use Rattle.name_syntax.specs.declared.operators.Operator.{Operator}
 use Rattle.name_syntax.specs.Operators.{operator_of, nameless}
 use Rattle.term_reader.specs.declared.parser.Item.{Item}
+use Rattle.term_reader.specs.declared.parser.Operation.{Operation}
 use Rattle.term_reader.specs.declared.parser.Item.TheVariants.{Parenthesis, Curly, Call, List as Listed, Tail, Prefix, Infix}
 use Rattle.term_pool.specs.PlacedTerms.{placed_of}
 use Rattle.term_reader.specs.PlacedTerms.{parts_of, Adds}
-use Rattle.term_reader.specs.View.{stack_of, HaveIds, HaveRoom, AreTerms, Steps, Stays, last_item}
+use Rattle.term_reader.specs.View.{stack_of, HaveIds, HaveRoom, AreTerms, Steps, Stays, IsNoOperation, item_of, operands, last_item}
 use Rattle.term_reader.proofs.PlacedLaws.{placed_kept, parts_kept, parts_of_one, parts_of_two, extends_length, extends_names}
 
 -- ---- the last element
@@ -87,7 +88,7 @@ stays_as : (below : Option ℕ) (c : Contents) (xs : List Item) (ys : List Item)
     → ((ts : List TermId) (done : List PlacedTerm) (q : ℕ) (t : PlacedTerm) → reduce below (stack_of c (top done) ts ys) q t ≡ record { stack = stack_of c (top done) ts ys; priority = q; term = t }) → Stays below c xs
 stays_as below c xs ys e h ts done q t = subst (λ (zs : List Item). reduce below (stack_of c (top done) ts zs) q t ≡ record { stack = stack_of c (top done) ts zs; priority = q; term = t }) (sym e) (h ts done q t)
 
-pub stays_none : (below : Option ℕ) (c : Contents) (xs : List Item) → xs ≡ [] → Stays below c xs
+stays_none : (below : Option ℕ) (c : Contents) (xs : List Item) → xs ≡ [] → Stays below c xs
 stays_none below c xs e = stays_as below c xs [] (ap reverse e) (λ ts done q t. refl)
 
 bracket_stays : (below : Option ℕ) (c : Contents) (x : Item) (ys : List Item) → is_bracket x ≡ true → (ts : List TermId) (done : List PlacedTerm) (q : ℕ) (t : PlacedTerm)
@@ -100,24 +101,43 @@ bracket_stays below c (Tail p from) ys e ts done q t = refl
 bracket_stays below c (Prefix p a f) ys e ts done q t = absurd cc
 bracket_stays below c (Infix p a f l) ys e ts done q t = absurd cc
 
-pub stays_bracket : (below : Option ℕ) (c : Contents) (xs : List Item) (x : Item) → last_item xs ≡ Some x → is_bracket x ≡ true → Stays below c xs
+stays_bracket : (below : Option ℕ) (c : Contents) (xs : List Item) (x : Item) → last_item xs ≡ Some x → is_bracket x ≡ true → Stays below c xs
 stays_bracket below c xs x e h = stays_as below c xs (x ∷ reverse (front xs)) (turned xs x e) (bracket_stays below c x (reverse (front xs)) h)
 
-pub stays_prefix : (below : Option ℕ) (c : Contents) (xs : List Item) (p : ℕ) (a : AtomId) (f : Operator) → last_item xs ≡ Some (Prefix p a f) → gives_way below (right_limit (nameless f)) ≡ false → Stays below c xs
+stays_prefix : (below : Option ℕ) (c : Contents) (xs : List Item) (p : ℕ) (a : AtomId) (f : Operator) → last_item xs ≡ Some (Prefix p a f) → gives_way below (right_limit (nameless f)) ≡ false → Stays below c xs
 stays_prefix below c xs p a f e h = stays_as below c xs (Prefix p a f ∷ reverse (front xs)) (turned xs (Prefix p a f) e) (λ ts done q t. rw h refl)
 
-pub stays_infix : (below : Option ℕ) (c : Contents) (xs : List Item) (p : ℕ) (a : AtomId) (f : Operator) (l : TermId) → last_item xs ≡ Some (Infix p a f l) → gives_way below (right_limit (nameless f)) ≡ false → Stays below c xs
+stays_infix : (below : Option ℕ) (c : Contents) (xs : List Item) (p : ℕ) (a : AtomId) (f : Operator) (l : TermId) → last_item xs ≡ Some (Infix p a f l) → gives_way below (right_limit (nameless f)) ≡ false → Stays below c xs
 stays_infix below c xs p a f l e h = stays_as below c xs (Infix p a f l ∷ reverse (front xs)) (turned xs (Infix p a f l) e) (λ ts done q t. rw h refl)
+
+-- nothing gives way where the last item is no operator
+pub stays_no_operation : (below : Option ℕ) (c : Contents) (xs : List Item) → IsNoOperation (last_item xs) → Stays below c xs
+stays_no_operation below c xs h = go (last_item xs) refl h
+  where
+    go : (o : Option Item) → last_item xs ≡ o → IsNoOperation o → Stays below c xs
+    go None e k = stays_none below c xs (last_none xs e)
+    go (Some Parenthesis) e k = stays_bracket below c xs Parenthesis e refl
+    go (Some (Curly p)) e k = stays_bracket below c xs (Curly p) e refl
+    go (Some (Call p a from)) e k = stays_bracket below c xs (Call p a from) e refl
+    go (Some (Listed p from)) e k = stays_bracket below c xs (Listed p from) e refl
+    go (Some (Tail p from)) e k = stays_bracket below c xs (Tail p from) e refl
+    go (Some (Prefix p a f)) e k = absurd k
+    go (Some (Infix p a f l)) e k = absurd k
+
+-- nothing gives way where the last operator doesn't
+pub stays_operation : (below : Option ℕ) (c : Contents) (xs : List Item) (o : Operation) (l : Option TermId) → last_item xs ≡ Some (item_of o l) → gives_way below (right_limit (nameless o.operator)) ≡ false → Stays below c xs
+stays_operation below c xs o None e h = stays_prefix below c xs o.place o.name o.operator e h
+stays_operation below c xs o (Some l) e h = stays_infix below c xs o.place o.name o.operator l e h
 
 -- ---- one operator gives way
 
-pub one_term : (c : Contents) (t : TermId) → t.number < length c.entries → AreTerms c (t ∷ [])
+one_term : (c : Contents) (t : TermId) → t.number < length c.entries → AreTerms c (t ∷ [])
 one_term c t h = All-from_recursion (λ u. u.number < length c.entries) (t ∷ []) (h, tt)
 
-pub two_terms : (c : Contents) (s t : TermId) → s.number < length c.entries → t.number < length c.entries → AreTerms c (s ∷ t ∷ [])
+two_terms : (c : Contents) (s t : TermId) → s.number < length c.entries → t.number < length c.entries → AreTerms c (s ∷ t ∷ [])
 two_terms c s t h k = All-from_recursion (λ u. u.number < length c.entries) (s ∷ t ∷ []) (h, (k, tt))
 
-pub steps_prefix : (below : Option ℕ) (c d : Contents) (xs : List Item) (p : ℕ) (n : AtomId) (f : Operator) (s t : TermId) (q : ℕ) → last_item xs ≡ Some (Prefix p n f) → gives_way below (right_limit (nameless f)) ≡ true
+steps_prefix : (below : Option ℕ) (c d : Contents) (xs : List Item) (p : ℕ) (n : AtomId) (f : Operator) (s t : TermId) (q : ℕ) → last_item xs ≡ Some (Prefix p n f) → gives_way below (right_limit (nameless f)) ≡ true
     → IsPool c → HaveIds c (reverse xs) → Adds c d (comp (atom_name c n) p (parts_of c (s ∷ []))) t → Steps below c d xs (front xs) q f.priority s t
 steps_prefix below c d xs p n f s t q e h v ids a =
     let ys = reverse (front xs) in
@@ -141,7 +161,7 @@ steps_prefix below c d xs p n f s t q e h v ids a =
       operand = a.within;
     }
 
-pub steps_infix : (below : Option ℕ) (c d : Contents) (xs : List Item) (p : ℕ) (n : AtomId) (f : Operator) (l s t : TermId) (q : ℕ) → last_item xs ≡ Some (Infix p n f l) → gives_way below (right_limit (nameless f)) ≡ true
+steps_infix : (below : Option ℕ) (c d : Contents) (xs : List Item) (p : ℕ) (n : AtomId) (f : Operator) (l s t : TermId) (q : ℕ) → last_item xs ≡ Some (Infix p n f l) → gives_way below (right_limit (nameless f)) ≡ true
     → IsPool c → HaveIds c (reverse xs) → Adds c d (comp (atom_name c n) p (parts_of c (l ∷ s ∷ []))) t → Steps below c d xs (front xs) q f.priority s t
 steps_infix below c d xs p n f l s t q e h v ids a =
     let ys = reverse (front xs) in
@@ -167,11 +187,23 @@ steps_infix below c d xs p n f l s t q e h v ids a =
     }
 
 -- the ids of the last item, where it is an operator
-pub prefix_ids : (c : Contents) (xs : List Item) (p : ℕ) (n : AtomId) (f : Operator) → last_item xs ≡ Some (Prefix p n f) → HaveIds c (reverse xs) → n.number < length c.names
+prefix_ids : (c : Contents) (xs : List Item) (p : ℕ) (n : AtomId) (f : Operator) → last_item xs ≡ Some (Prefix p n f) → HaveIds c (reverse xs) → n.number < length c.names
 prefix_ids c xs p n f e ids = let inner : HaveIds c (Prefix p n f ∷ reverse (front xs)) = subst (HaveIds c) (turned xs (Prefix p n f) e) ids in inner.0
 
-pub infix_ids : (c : Contents) (xs : List Item) (p : ℕ) (n : AtomId) (f : Operator) (l : TermId) → last_item xs ≡ Some (Infix p n f l) → HaveIds c (reverse xs) → (n.number < length c.names) × (l.number < length c.entries)
+infix_ids : (c : Contents) (xs : List Item) (p : ℕ) (n : AtomId) (f : Operator) (l : TermId) → last_item xs ≡ Some (Infix p n f l) → HaveIds c (reverse xs) → (n.number < length c.names) × (l.number < length c.entries)
 infix_ids c xs p n f l e ids = let inner : HaveIds c (Infix p n f l ∷ reverse (front xs)) = subst (HaveIds c) (turned xs (Infix p n f l) e) ids in (inner.0, inner.1)
+
+-- the name and the operands of the last operator are the pool's
+pub operation_ids : (c : Contents) (xs : List Item) (o : Operation) (l : Option TermId) (t : TermId) → last_item xs ≡ Some (item_of o l) → HaveIds c (reverse xs) → t.number < length c.entries
+    → (o.name.number < length c.names) × AreTerms c (operands l t)
+operation_ids c xs o None t e ids h = (prefix_ids c xs o.place o.name o.operator e ids, one_term c t h)
+operation_ids c xs o (Some l) t e ids h = let k = infix_ids c xs o.place o.name o.operator l e ids in (k.0, two_terms c l t k.1 h)
+
+-- the last operator takes its operand
+pub steps_operation : (below : Option ℕ) (c d : Contents) (xs : List Item) (o : Operation) (l : Option TermId) (s t : TermId) (q : ℕ) → last_item xs ≡ Some (item_of o l) → gives_way below (right_limit (nameless o.operator)) ≡ true
+    → IsPool c → HaveIds c (reverse xs) → Adds c d (comp (atom_name c o.name) o.place (parts_of c (operands l s))) t → Steps below c d xs (front xs) q o.operator.priority s t
+steps_operation below c d xs o None s t q e h v ids a = steps_prefix below c d xs o.place o.name o.operator s t q e h v ids a
+steps_operation below c d xs o (Some l) s t q e h v ids a = steps_infix below c d xs o.place o.name o.operator l s t q e h v ids a
 
 pub steps_as : {below : Option ℕ} {c d : Contents} {xs ys zs : List Item} {q p : ℕ} {s t : TermId} → Steps below c d xs ys q p s t → zs ≡ ys → Steps below c d xs zs q p s t
 steps_as {below = below} {c = c} {d = d} {xs = xs} {q = q} {p = p} {s = s} {t = t} h e = subst (λ (vs : List Item). Steps below c d xs vs q p s t) (sym e) h

@@ -18,6 +18,7 @@ use Rattle.term_reader.specs.declared.parser.Terminal.{Terminal}
 use Rattle.term_reader.specs.declared.parser.Terminal.TheVariants as terminals
 use Rattle.term_reader.specs.declared.parser.Item.{Item}
 use Rattle.term_reader.specs.declared.parser.Item.TheVariants as its
+use Rattle.term_reader.specs.declared.parser.Operation.{Operation}
 use Rattle.term_reader.specs.declared.parser.Expecting.{Expecting}
 use Rattle.term_reader.specs.declared.parser.Expecting.TheVariants as states
 use Rattle.term_reader.specs.declared.parser.Closing.{Closing}
@@ -175,6 +176,22 @@ item_limit (Some (its.List p from)) = 999
 item_limit (Some (its.Tail p from)) = 999
 item_limit (Some (its.Prefix p a f)) = right_limit (nameless f)
 item_limit (Some (its.Infix p a f l)) = right_limit (nameless f)
+
+-- nothing, or a bracket
+abbrev pub IsNoOperation : Option Item → Type 0
+IsNoOperation (Some (its.Prefix p a f)) = ⊥
+IsNoOperation (Some (its.Infix p a f l)) = ⊥
+IsNoOperation _ = Unit {0}
+
+-- the item that an operator is, by its left operand
+abbrev pub item_of : Operation → Option TermId → Item
+item_of o None = its.Prefix o.place o.name o.operator
+item_of o (Some l) = its.Infix o.place o.name o.operator l
+
+-- the operands from left to right
+abbrev pub operands : Option TermId → TermId → List TermId
+operands None t = t ∷ []
+operands (Some l) t = l ∷ t ∷ []
 
 -- the token ends what is begun there
 abbrev pub closing_of : Option Item → Terminal → Closing

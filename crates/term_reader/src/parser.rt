@@ -15,7 +15,7 @@ ghost use Rattle.term_pool.specs.Valid.{IsPool};
 ghost use Rattle.term_pool.specs.Terms.{Extends};
 ghost use Rattle.term_pool.specs.PlacedTerms.{placed_of};
 ghost use Rattle.term_reader.specs.PlacedTerms.{parts_of, Adds};
-ghost use Rattle.term_reader.specs.View.{AreTerms, HaveIds, HaveRoom, IsNamed, IsOperatorWord, IsTerminal, IsWhole, infix_name, Moves, Steps, Stays, item_limit, last_item, stack, state, terminal_at, closing_of, allows_lone, EndsWith, StandsAtStop, IsNegative, IsNatural, TakesArguments};
+ghost use Rattle.term_reader.specs.View.{AreTerms, IsNoOperation, item_of, operands, HaveIds, HaveRoom, IsNamed, IsOperatorWord, IsTerminal, IsWhole, infix_name, Moves, Steps, Stays, item_limit, last_item, stack, state, terminal_at, closing_of, allows_lone, EndsWith, StandsAtStop, IsNegative, IsNatural, TakesArguments};
 
 use fd_language::NoMemory;
 use name_syntax::operators::{COMMA, Operator, Roles};
@@ -255,6 +255,64 @@ fn limit(item: Option<Item>) -> u32
     }
 }
 
+/// An operator that wants its right operand, with its left one where it is infix.
+#[derive(Clone, Copy)]
+struct Operation {
+    place: usize,
+    name: AtomId,
+    operator: Operator,
+    left: Option<TermId>,
+}
+
+/// The operator that the last item is, if it is one.
+fn last_operation(items: &[Item]) -> Option<Operation>
+    ensures { MatchOption result (IsNoOperation (last_item items.now))
+        (λ o. last_item items.now ≡ Some (item_of o o.left)) }
+{
+    match top_item(items)? {
+        Item::Prefix {
+            place,
+            name,
+            operator,
+        } => Some(Operation {
+            place,
+            name,
+            operator,
+            left: None,
+        }),
+        Item::Infix {
+            place,
+            name,
+            operator,
+            left,
+        } => Some(Operation {
+            place,
+            name,
+            operator,
+            left: Some(left),
+        }),
+        _ => None,
+    }
+}
+
+/// The term of an operator and its operands.
+fn add_operation(
+    pool: &mut Pool,
+    operation: Operation,
+    right: TermId,
+) -> Result<TermId, NoMemory>
+    requires pool { IsPool pool.old }
+    requires name { operation.name.number < length pool.old.names }
+    requires operands { AreTerms pool.old (operands operation.left right) }
+    ensures { IfOk result (Adds pool.old pool.new (comp (atom_name pool.old operation.name)
+        operation.place (parts_of pool.old (operands operation.left right)))) }
+{
+    match operation.left {
+        None => add_compound(pool, operation.name, &[right], operation.place),
+        Some(left) => add_compound(pool, operation.name, &[left, right], operation.place),
+    }
+}
+
 /// Lets the last operator take its operand, if it gives way; then that is the operand, with its priority.
 fn reduce_once(
     pool: &mut Pool,
@@ -274,45 +332,15 @@ fn reduce_once(
     ensures less { IfOk result
         (λ o. IfSome o (λ r. length items.new.items < length items.old.items)) }
 {
-    let Some(item) = top_item(items) else {
+    let Some(operation) = last_operation(items) else {
         return Ok(None);
     };
-    match item {
-        Item::Prefix {
-            place,
-            name,
-            operator,
-        } => {
-            if !gives_way(below, operator.right_limit()) {
-                return Ok(None);
-            }
-            items.pop();
-            let term = add_compound(pool, name, &[operand], place)?;
-            Ok(Some((term, operator.priority)))
-        }
-        Item::Infix {
-            place,
-            name,
-            operator,
-            left,
-        } => {
-            if !gives_way(below, operator.right_limit()) {
-                return Ok(None);
-            }
-            items.pop();
-            let term = add_compound(pool, name, &[left, operand], place)?;
-            Ok(Some((term, operator.priority)))
-        }
-        Item::Parenthesis => Ok(None),
-        Item::Curly { place: _ } => Ok(None),
-        Item::Call {
-            place: _,
-            name: _,
-            from: _,
-        } => Ok(None),
-        Item::List { place: _, from: _ } => Ok(None),
-        Item::Tail { place: _, from: _ } => Ok(None),
+    if !gives_way(below, operation.operator.right_limit()) {
+        return Ok(None);
     }
+    items.pop();
+    let term = add_operation(pool, operation, operand)?;
+    Ok(Some((term, operation.operator.priority)))
 }
 
 /// Lets each operator that gives way take its operand.
