@@ -1,6 +1,6 @@
 -- From the pieces of a program's code to all of it.
 use Rattle.std.proofs.Common.{◌≡◌, ◌⊎◌, ℕ, suc, ◌+◌, ◌<◌, Bool, true, false, ◌&&◌, List, [], ◌∷◌, ◌++◌, Some, option_map, map, filter, take, drop, length, get_or, slice_get, is_some, All, ◌≤◌, append_assoc, refl, ap, ap₂, sym, ◌∙◌, subst, inl, inr, arith}
-use Rattle.std.specs.List.{list_any, range_with_len}
+use Rattle.std.specs.List.{range_with_len}
 use Rattle.std.proofs.lemmas.Bool.{true≢false, and_parts, and_cases}
 use Rattle.std.proofs.Math.Seq.{take-append_seam, drop-append_seam}
 use Rattle.std.proofs.lemmas.List.{length-append, length-map}
@@ -30,7 +30,7 @@ use Rattle.clause_code.specs.Trying.{list_of}
 use Rattle.clause_code.proofs.Trying.{list_tries}
 use Rattle.clause_compiler.specs.Switching.{code_of, AreChoicesBy, AreKeysIn, AreRising}
 use Rattle.clause_compiler.specs.Keys.{key_of, argument_key, is_switched}
-use Rattle.clause_compiler.specs.Switched.{ShowsKind, IsClauseOf, AreToldApart, HasSwitches}
+use Rattle.clause_compiler.specs.Switched.{ShowsKind, IsClauseOf, HasSwitches}
 use Rattle.clause_compiler.specs.Groups.{head_predicate, is_predicate, numbers_of}
 use Rattle.clause_compiler.specs.Layout.{joined, offset, AreChoicesOf, BeginsClause, IsSpanOf, IsLaidOut}
 use Rattle.clause_compiler.specs.Sections.{ArePut, its_place, IsClausePiece, its_span, IsQueryOf, its_entry, IsChoiceOf, place_in, placed_code, IsNumbered}

@@ -1,5 +1,5 @@
 -- Rows in the order of their keys.
-use Rattle.std.proofs.Common.{Ordering, Less, Equal, Greater, ◌≡◌, ◌⊎◌, ℕ, ℤ, suc, pos, ◌+◌, ◌<◌, ◌≤◌, ◌<ℤ◌, Bool, true, false, ◌&&◌, ◌==◌, IsTrue, List, [], get_or, Some, length, slice_get, refl, ap, ap₂, sym, ◌∙◌, subst, inl, inr, arith}
+use Rattle.std.proofs.Common.{Ordering, Less, Equal, Greater, ◌≡◌, ◌⊎◌, ℕ, ℤ, suc, pos, ◌+◌, ◌<◌, ◌<ℤ◌, Bool, true, false, ◌&&◌, IsTrue, List, get_or, Some, length, slice_get, refl, ap, ap₂, sym, ◌∙◌, inl, inr, arith}
 use Rattle.std.specs.List.{IsDistinct}
 use Rattle.std.specs.List.Sorted.{IsPermutation, IsSortedByKey}
 use Rattle.std.specs.Ordering.{MatchOrdering, nat_cmp, int_cmp, int_eq, is_lt, ordering_then}

@@ -1,11 +1,10 @@
 -- Which clauses the first argument tells apart.
-use Rattle.std.proofs.Common.{◌≡◌, ◌≢◌, ℕ, zero, suc, ◌<◌, ◌≤◌, Bool, true, false, ◌&&◌, leb, if◌then◌else◌, List, [], ◌∷◌, Option, Some, None, is_some, option_map, get_or, length, slice_get, refl, ap, ap₂, sym, ◌∙◌, subst, arith, bytes_eq}
+use Rattle.std.proofs.Common.{◌≡◌, ◌≢◌, ℕ, zero, suc, ◌<◌, ◌≤◌, Bool, true, ◌&&◌, leb, if◌then◌else◌, List, [], ◌∷◌, Some, None, is_some, option_map, length, slice_get, refl, ap, ap₂, sym, ◌∙◌, subst, arith, bytes_eq}
 use Rattle.std.specs.List.{list_any, list_all}
-use Rattle.std.proofs.lemmas.Bool.{true≢false, and_parts}
+use Rattle.std.proofs.lemmas.Bool.{and_parts}
 use Rattle.std.proofs.lemmas.Bool.Decides.{nat_tests}
 use Rattle.std.proofs.lemmas.Slice.Eq.{bytes_eq-Decides}
-use Rattle.std.proofs.lemmas.List.Folds.{list_all_at}
-use Rattle.fd_language.specs.Term.{Name, Term, Terms, Var, Int, Atom, Comp, no_terms, term}
+use Rattle.fd_language.specs.Term.{Name, Term, Terms, no_terms, term}
 use Rattle.fd_model.specs.Goal.{Clause}
 use Rattle.fd_model.specs.Children.{same_count, fits_head}
 use Rattle.fd_model.specs.Constraining.{arguments}
@@ -14,13 +13,13 @@ use Rattle.term_pool.specs.Contents.{Contents, Entry, Shape, var, int, atom, com
 use Rattle.term_pool.specs.Terms.{term_of, terms_by, shape_term}
 use Rattle.term_pool.specs.Valid.{IsPool}
 use Rattle.term_pool.proofs.Laws.{term_of_shape, shape_within}
-use Rattle.clause_check.specs.Codable.{IsNarrow, AreNarrow, ClausesCodable, arguments_in}
+use Rattle.clause_check.specs.Codable.{IsNarrow, ClausesCodable, arguments_in}
 use Rattle.clause_check.specs.Programs.{FlatProgram}
 use Rattle.wam_code.specs.Places.{count, made}
 use Rattle.wam_code.specs.declared.instruction.Key.{Key}
 use Rattle.wam_code.specs.declared.instruction.Key.TheVariants as key
 use Rattle.clause_compiler.specs.declared.tables.Label.{Label}
-use Rattle.clause_compiler.specs.Keys.{key_of, shape_key, some_key, argument_key, is_switched, is_tabled}
+use Rattle.clause_compiler.specs.Keys.{have_keys, key_of, shape_key, some_key, argument_key, is_switched}
 use Rattle.clause_compiler.specs.Keyed.{AreKeyedBy}
 use Rattle.clause_compiler.specs.Switched.{ShowsKind}
 use Rattle.clause_compiler.proofs.Lists.{get_there}
@@ -103,26 +102,10 @@ module _ (c : Contents) (v : IsPool c) where
 
 -- ---- keys of all
 
-and_none : (b d : Bool) → d ≡ false → (b && d) ≡ false
-and_none true d e = e
-and_none false d e = refl
-
--- Keys tell fewer than two clauses never apart,
-pub untabled_few : (p : FlatProgram) (ns : List ℕ) → length ns < 2 → is_tabled p ns ≡ false
-untabled_few p ns h =
-    let few : leb 2 (length ns) ≡ false = grind (arith, nat_tests, h) in
-    ap (λ (b : Bool). b && list_all (λ n. is_some (key_of p n)) ns) few
-
--- and none of which one has none;
-pub untabled_at : (p : FlatProgram) (ns : List ℕ) (i d : ℕ) → i < length ns → key_of p (get_or ns i d) ≡ None → is_tabled p ns ≡ false
-untabled_at p ns i d h e = and_none (leb 2 (length ns)) (list_all (λ n. is_some (key_of p n)) ns) (list_all_at (λ n. is_some (key_of p n)) ns i d h (ap is_some e))
-
 all_some : (p : FlatProgram) (ns : List ℕ) → ((i n : ℕ) → slice_get ns i ≡ Some n → is_some (key_of p n) ≡ true) → list_all (λ n. is_some (key_of p n)) ns ≡ true
 all_some p [] h = refl
 all_some p (n ∷ ns) h = ap₂ (λ (x y : Bool). x && y) (h 0 n refl) (all_some p ns (λ i. h (suc i)))
 
--- two or more they do, where each has one.
-pub tabled_by : (p : FlatProgram) (ns : List ℕ) (looked : List Label) (keys : List Key) (groups : List (List ℕ)) → AreKeyedBy p ns looked keys groups → 2 ≤ length ns → is_tabled p ns ≡ true
-tabled_by p ns looked keys groups w h =
-    let two : leb 2 (length ns) ≡ true = grind (arith, nat_tests, h) in
-    ap₂ (λ (x y : Bool). x && y) two (all_some p ns (λ i n e. ap is_some (w.each i n e).3))
+-- clauses that are told apart by their keys have keys
+pub keyed_all : (p : FlatProgram) (ns : List ℕ) (looked : List Label) (keys : List Key) (groups : List (List ℕ)) → AreKeyedBy p ns looked keys groups → have_keys p ns ≡ true
+keyed_all p ns looked keys groups w = all_some p ns (λ i n e. ap is_some (w.each i n e).3)

@@ -55,6 +55,10 @@ kind_numbers p k ns = filter (λ n. may_be k (key_of p n)) ns
 abbrev pub is_switched : FlatProgram → ℕ → List ℕ → Bool
 is_switched p arity ns = leb 1 arity && (leb 2 (length ns) && list_any (λ n. is_some (key_of p n)) ns)
 
--- its key does: there are two or more, and in each of them it has one
+-- in each of them it has a key
+abbrev pub have_keys : FlatProgram → List ℕ → Bool
+have_keys p ns = list_all (λ n. is_some (key_of p n)) ns
+
+-- its key tells them apart: there are two or more, and in each of them it has one
 abbrev pub is_tabled : FlatProgram → List ℕ → Bool
-is_tabled p ns = leb 2 (length ns) && list_all (λ n. is_some (key_of p n)) ns
+is_tabled p ns = leb 2 (length ns) && have_keys p ns

@@ -1,7 +1,7 @@
 //! Clauses by the keys of their first arguments.
-ghost use Rattle.std.specs.Prelude.{◌≡◌, ◌++◌, ℕ, ◌<◌, ◌∷◌, [], All, IfOk, IfSome, List, OnOk, Some, is_some, length};
+ghost use Rattle.std.specs.Prelude.{◌≡◌, ◌++◌, ℕ, ◌<◌, ◌∷◌, [], All, IfOk, IfSome, IsTrue, List, OnOk, Some, is_some, length};
 ghost use Rattle.clause_check.specs.Programs.{FlatProgram};
-ghost use Rattle.clause_compiler.specs.Keys.{is_tabled, key_of};
+ghost use Rattle.clause_compiler.specs.Keys.{have_keys, is_tabled, key_of};
 ghost use Rattle.clause_compiler.specs.Keyed.{AreKeyed, label};
 
 use crate::keys::first_key;
@@ -58,6 +58,28 @@ fn add(alloc: Global, keyed: &mut Keyed, key: Key, clause: usize) -> Result<(), 
     Ok(())
 }
 
+/// Adds the clauses by their keys, up to the first that has none; gives whether each has one. The
+/// error is want of memory.
+fn add_all(
+    alloc: Global,
+    program: &Program,
+    clauses: &[usize],
+    keyed: &mut Keyed,
+) -> Result<bool, NoMemory>
+    requires clauses { All (λ c. c < length program.now.clauses) clauses.now }
+    requires none { AreKeyed program.now [] keyed.old }
+    ensures each { IfOk result (λ b. b ≡ have_keys program.now clauses.now) }
+    ensures keyed { IfOk result (λ b. IsTrue b → AreKeyed program.now clauses.now keyed.new) }
+{
+    for i in 0..clauses.len() {
+        match first_key(program, clauses[i]) {
+            Some(key) => add(alloc, keyed, key, clauses[i])?,
+            None => return Ok(false),
+        }
+    }
+    Ok(true)
+}
+
 /// The clauses by their keys, if these tell them apart: there are two or more, and each has one.
 /// The error is want of memory.
 pub(crate) fn keyed_of(
@@ -77,11 +99,9 @@ pub(crate) fn keyed_of(
         keys: Vec::new(alloc),
         lists: Vec::new(alloc),
     };
-    for i in 0..clauses.len() {
-        match first_key(program, clauses[i]) {
-            Some(key) => add(alloc, &mut keyed, key, clauses[i])?,
-            None => return Ok(None),
-        }
+    if add_all(alloc, program, clauses, &mut keyed)? {
+        Ok(Some(keyed))
+    } else {
+        Ok(None)
     }
-    Ok(Some(keyed))
 }
