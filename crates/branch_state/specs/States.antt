@@ -60,13 +60,17 @@ pub record IsSound (s : State) : Type 0 where
 abbrev pub no_level : Level
 no_level = record { posted = []; sets = []; failed = false }
 
+-- an empty heap, with an equal one below it
+abbrev pub first_heaps : Heaps
+first_heaps = record { now = no_cells; below = no_cells ∷ [] }
+
+-- a level without variables, with an equal one below it
+abbrev pub first_levels : Levels
+first_levels = record { current = no_level; below = no_level ∷ []; spent = false }
+
 -- a new branch, with an empty pair below it
 abbrev pub first_state : ℕ → State
-first_state atoms = record {
-  atoms = atoms;
-  heaps = record { now = no_cells; below = no_cells ∷ [] };
-  levels = record { current = no_level; below = no_level ∷ []; spent = false };
-}
+first_state atoms = record { atoms = atoms; heaps = first_heaps; levels = first_levels }
 
 -- another current heap
 abbrev pub with_heap : State → Cells → State

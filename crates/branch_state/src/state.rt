@@ -5,7 +5,7 @@ ghost use Rattle.heap_cells.specs.declared.Cell.TheVariants as cell;
 ghost use Rattle.heap_cells.specs.Cells.{free, slot_at, with_new_slot};
 ghost use Rattle.unify_core.specs.Outcome.{IfTrue, IfFalse};
 ghost use Rattle.unify_core.specs.Unified.{CannotUnify, IsEqualled};
-ghost use Rattle.branch_state.specs.States.{first_state, with_heap, with_pair, HasNoModel, IsSound, IsSoundBelow, IsSameBelow, IsUndone, IsCell};
+ghost use Rattle.branch_state.specs.States.{first_heaps, first_levels, first_state, with_heap, with_pair, HasNoModel, IsSound, IsSoundBelow, IsSameBelow, IsUndone, IsCell};
 ghost use Rattle.branch_state.specs.Steps.{AreTouchesBelow, AreTouchesOf, posted_with};
 ghost use Rattle.branch_state.specs.Compounds.{IsMade, IsCompoundOf, BindsCompound};
 ghost use Rattle.branch_state.specs.Constraints.{Constrains};
@@ -66,6 +66,24 @@ impl<A: Agenda + Drop> Model for BranchState<A> {
     ghost invariant = { λ s. (s.exact.value ≡ exact_range) × (s.same.value ≡ same_range) };
 }
 
+/// An empty heap, and an equal one below it.
+fn first_heap(alloc: Global) -> Result<Heap, NoMemory>
+    ensures { IfOk result (λ h. h ≡ first_heaps) }
+{
+    let mut heap = Heap::new(alloc)?;
+    heap.mark()?;
+    Ok(heap)
+}
+
+/// A store with no variables, and an equal level below the current one.
+fn first_store<A: Agenda + Drop>(alloc: Global, agenda: A) -> Result<Store<A>, NoMemory>
+    ensures { IfOk result (λ s. s ≡ first_levels) }
+{
+    let mut store = Store::new(alloc, agenda);
+    store.push_mark()?;
+    Ok(store)
+}
+
 impl<A: Agenda + Drop> BranchState<A> {
     /// A branch with no variables, whose cells name the first `atoms` atoms of a pool, and an equal one below it. The error is want of
     /// memory; the agenda is gone then.
@@ -73,11 +91,9 @@ impl<A: Agenda + Drop> BranchState<A> {
         ensures first { IfOk result (λ s. s ≡ first_state atoms) }
         ensures sound { IfOk result IsSound }
     {
-        let mut heap = Heap::new(alloc)?;
-        heap.mark()?;
-        let mut store = Store::new(alloc, agenda);
+        let heap = first_heap(alloc)?;
+        let store = first_store(alloc, agenda)?;
         store.known();
-        store.push_mark()?;
         Ok(BranchState {
             alloc,
             atoms,

@@ -1,6 +1,7 @@
 //! Texts read as ranges and then checked, as the rules of ranges state it.
 
-ghost use Rattle.std.specs.Prelude.{◌<◌, length};
+ghost use Rattle.std.specs.Prelude.{◌<◌, All, length};
+ghost use Rattle.term_reader.specs.Sentences.{IsSentence};
 
 use crate::same::same;
 use crate::verdicts::told;
@@ -8,9 +9,10 @@ use fd_language::{Feature, RangeNode};
 use monotone_check::check;
 use range_terms::{RangeFault, SourceRange, features, read_range};
 use std::alloc::{AllocError, Global};
+use std::process::Abort;
 use std::test::Fail;
 use term_pool::{Node, Pool, TermId};
-use term_reader::read_sentences;
+use term_reader::{Sentence, read_sentences};
 
 /// A range, and what is said of it: it is accepted, it is no range, or the check refuses it, each with the place. Of a query the range is that of its last goal.
 const RANGES: &[(&str, &str)] = &[
@@ -163,26 +165,41 @@ fn said_of(alloc: Global, pool: &Pool, t: TermId) -> Result<String, AllocError>
     }
 }
 
-/// What is said of the range in each sentence of a text.
-fn said(alloc: Global, text: &str) -> Result<String, AllocError> {
-    let mut out = String::new(alloc);
-    let sentences = match read_sentences(alloc, text) {
-        Ok(sentences) => sentences,
-        Err(_) => return format!(in alloc; "no sentence"),
-    };
-    for sentence in &sentences.list {
-        let range = range_in(&sentences.pool, sentence.term);
-        out.push_str(said_of(alloc, &sentences.pool, range)?.as_str())?;
+/// Appends what is said of the range in each sentence.
+fn push_said(
+    alloc: Global,
+    pool: &Pool,
+    list: &[Sentence],
+    out: &mut String,
+) -> Result<(), AllocError>
+    requires { All (IsSentence pool.now) list.now }
+{
+    for sentence in list {
+        let range = range_in(pool, sentence.term);
+        out.push_str(said_of(alloc, pool, range)?.as_str())?;
     }
+    Ok(())
+}
+
+/// What is said of the range in each sentence of a text.
+fn said(alloc: Global, text: &str) -> Result<String, Fail> {
+    let sentences = read_sentences(alloc, text)?;
+    let mut out = String::new(alloc);
+    push_said(alloc, &sentences.pool, &sentences.list, &mut out)?;
     Ok(out)
+}
+
+fn expect_said(rt: &impl Abort, alloc: Global, range: &str, want: &str) -> Result<(), Fail> {
+    let text = format!(in alloc; "{range}.")?;
+    let found = said(alloc, &text)?;
+    same(rt, found.as_str(), want, text.as_str());
+    Ok(())
 }
 
 #[test]
 fn ranges_are_read_and_checked(rt: HostRuntime) -> Result<(), Fail> {
     for (range, want) in RANGES {
-        let text = format!(in rt.alloc(); "{range}.")?;
-        let found = said(rt.alloc(), &text)?;
-        same(&rt, found.as_str(), *want, text.as_str());
+        expect_said(&rt, rt.alloc(), range, want)?;
     }
     Ok(())
 }
@@ -190,8 +207,15 @@ fn ranges_are_read_and_checked(rt: HostRuntime) -> Result<(), Fail> {
 /// The range that a text spells.
 fn source(alloc: Global, text: &str) -> Result<SourceRange, Fail> {
     let sentences = read_sentences(alloc, text)?;
-    for sentence in &sentences.list {
-        return Ok(read_range(alloc, &sentences.pool, sentence.term)?);
+    first_range(alloc, &sentences.pool, &sentences.list)
+}
+
+/// The range of the first sentence.
+fn first_range(alloc: Global, pool: &Pool, list: &[Sentence]) -> Result<SourceRange, Fail>
+    requires { All (IsSentence pool.now) list.now }
+{
+    for sentence in list {
+        return Ok(read_range(alloc, pool, sentence.term)?);
     }
     Err(Fail::new("no sentence"))
 }

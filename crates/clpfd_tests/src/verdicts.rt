@@ -181,14 +181,21 @@ fn verdicts(rt: HostRuntime) -> Result<(), Fail> {
     Ok(())
 }
 
+/// The range that the tokens spell, which the check accepts.
+fn checked_of(alloc: Global, spelling: &str) -> Result<Checked, Fail> {
+    let (range, places) = spelled(alloc, spelling)?;
+    if places.len() != range.nodes().len() {
+        return Err(Fail::new("no place for each node"));
+    }
+    Ok(check(alloc, range, &places)?)
+}
+
 /// The strongest need holds: P is natural in a product, though it stands alone before, and R is a divisor.
 #[test]
 fn strongest_needs(rt: HostRuntime) -> Result<(), Fail> {
     let spelling =
         "param:0:0 int:9:0 span:0:0 int:0:0 param:0:0 param:1:0 mul:0:0 span:0:0 union:0:0 param:2:0 over:0:0";
-    let (range, places) = spelled(rt.alloc(), spelling)?;
-    assert_eq!(rt; places.len(), range.nodes().len());
-    let checked = check(rt.alloc(), range, &places)?;
+    let checked = checked_of(rt.alloc(), spelling)?;
     let found = needs(rt.alloc(), &checked)?;
     let expected = [(0, Need::Natural), (1, Need::Natural), (2, Need::Divisor)];
     same(&rt, found.as_slice(), expected.as_slice(), "the needs");

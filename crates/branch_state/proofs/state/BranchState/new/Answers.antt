@@ -1,6 +1,6 @@
-use Rattle.std.proofs.Common.{◌≡◌, false, ◌∙◌, ap, subst, refl, ◌∷◌}
+use Rattle.std.proofs.Common.{◌≡◌, false, ◌∙◌, ap, subst, refl}
 use Rattle.fd_model.specs.Levels.{Levels}
-use Rattle.heap_cells.specs.Cells.{Heaps, no_cells, with_mark}
+use Rattle.heap_cells.specs.Cells.{Heaps, no_cells}
 use Rattle.heap_cells.specs.Valid.{IsHeap}
 use Rattle.propagate_queue.specs.Running.{AreDomains}
 use Rattle.branch_state.proofs.Sound.{first_sound, same_sound}
@@ -8,8 +8,8 @@ use Rattle.branch_state.proofs.state.BranchState.new.Goals as goal
 
 pub returns-clause-sound : goal.returns-clause-sound
 returns-clause-sound g c =
-    let heaps = c.heap.view_is ∙ c.in_ok-mark.ensures.marked ∙ ap with_mark c.in_ok-heap.ensures.empty in
-    let levels = c.store.view_is ∙ c.in_ok-push_mark.ensures.marked ∙ ap (λ (l : Levels). record l { below = l.current ∷ l.below }) c.new-store.ensures in
+    let heaps = c.heap.view_is ∙ c.in_ok-heap.ensures in
+    let levels = c.store.view_is ∙ c.in_ok-store.ensures in
     let valid : IsHeap no_cells = subst IsHeap (ap (λ (h : Heaps). h.now) heaps) c.heap.invariant.now in
-    let domains = subst (λ (v : Levels). v.spent ≡ false → v.current.failed ≡ false → AreDomains v.current.posted v.current.sets) c.new-store.ensures c.known.ensures.kept in
+    let domains = subst (λ (v : Levels). v.spent ≡ false → v.current.failed ≡ false → AreDomains v.current.posted v.current.sets) c.in_ok-store.ensures c.known.ensures.kept in
     same_sound c.args.atoms _ _ _ _ heaps levels (first_sound c.args.atoms valid (domains refl refl))
