@@ -1,10 +1,10 @@
 -- Ends of texts, and tests of their characters.
-use Rattle.std.proofs.Common.{◌≡◌, ◌∙◌, ℕ, zero, suc, ◌<◌, ◌+◌, List, [], ◌∷◌, ◌++◌, length, drop, get_or, Bool, Some, sym, ap, arith, append_assoc}
+use Rattle.std.proofs.Common.{◌≡◌, ◌∙◌, ℕ, zero, suc, ◌<◌, ◌+◌, List, [], ◌∷◌, length, drop, get_or, Bool, Some, sym, ap, arith}
 use Rattle.std.specs.Prelude.{◌&&◌, ◌-◌, slice_get}
 use Rattle.std.specs.List.{list_all}
 use Rattle.std.proofs.lemmas.List.{at_drop_more}
 use Rattle.fd_language.specs.Characters.{is_symbol}
-use Rattle.fd_language.specs.Writing.{ends_with_symbol, quoted_byte, quoted_bytes}
+use Rattle.fd_language.specs.Writing.{ends_with_symbol}
 
 ends_at : (xs : List ℕ) (n y : ℕ) → length xs ≡ suc n → slice_get xs n ≡ Some y → is_symbol y ≡ ends_with_symbol xs
 ends_at [] n y e h = absurd cc

@@ -32,6 +32,10 @@ same_whole c mode vars p text text2 rest next r =
     ap (finished c mode vars text2) r.pushed ∙ finished-append c mode vars text2 rest r.more
     ∙ ap (λ (t : List ℕ). finished c mode vars t rest) r.whole ∙ sym (finished-push c mode vars text rest p)
 
+pub whole_kept : (c : Contents) (mode : Mode) (vars : ℕ → List ℕ) (p : Piece) (text text2 : List ℕ) (rest next ahead : List Piece) (whole : List ℕ)
+    → Replaces c mode vars (piece_text c mode vars p) (piece_weight c p) text rest text2 next → ahead ≡ rest ++ p ∷ [] → finished c mode vars text ahead ≡ whole → finished c mode vars text2 next ≡ whole
+whole_kept c mode vars p text text2 rest next ahead whole r e h = same_whole c mode vars p text text2 rest next r ∙ ap (finished c mode vars text) (sym e) ∙ h
+
 pub smaller_load : (c : Contents) (mode : Mode) (vars : ℕ → List ℕ) (p : Piece) (text text2 : List ℕ) (rest next : List Piece)
     → Replaces c mode vars (piece_text c mode vars p) (piece_weight c p) text rest text2 next → load c next < load c (rest ++ p ∷ [])
 smaller_load c mode vars p text text2 rest next r =

@@ -1,6 +1,6 @@
 //! Atoms, in quotes where they must be.
 
-ghost use Rattle.std.specs.Prelude.{false, ◌≡◌, ◌<◌, ◌++◌, ◌||◌, ◌&&◌, not, if◌then◌else◌, codes, OnOk};
+ghost use Rattle.std.specs.Prelude.{false, ◌≡◌, ◌<◌, [], ◌∷◌, ◌++◌, ◌||◌, ◌&&◌, not, nat_lt, nat_eq, if◌then◌else◌, codes, OnOk, IfSome, IfNone};
 ghost use Rattle.std.specs.Fmt.{digits, digit_glyph};
 ghost use Rattle.std.specs.List.{list_all};
 ghost use Rattle.std.specs.Str.{bytes_eq, chars};
@@ -149,18 +149,33 @@ fn append_code(byte: u8, text: &mut Vec<u8>) -> Result<(), NoMemory>
     Ok(())
 }
 
+/// The escape of a byte by one sign, if it has one.
+fn escape_of(byte: u8) -> Option<&'static [u8]>
+    ensures sign { IfSome result (λ escape. escape.now ≡ Writing.quoted_byte byte) }
+    ensures other { IfNone result (Writing.quoted_byte byte ≡ (if nat_lt byte 32 || nat_eq byte 127
+        then codes "\\x" ++ (digits 16 false byte ++ codes "\\") else byte ∷ [])) }
+{
+    match byte {
+        b'\\' => Some(b"\\\\"),
+        b'\'' => Some(b"\\'"),
+        b'\n' => Some(b"\\n"),
+        b'\t' => Some(b"\\t"),
+        b'\r' => Some(b"\\r"),
+        _ => None,
+    }
+}
+
 /// Appends a byte as it stands between quotes.
 fn append_escaped(byte: u8, text: &mut Vec<u8>) -> Result<(), NoMemory>
     ensures { OnOk result (text.new.items ≡ text.old.items ++ Writing.quoted_byte byte) }
 {
-    match byte {
-        b'\\' => text.extend_from_slice(b"\\\\")?,
-        b'\'' => text.extend_from_slice(b"\\'")?,
-        b'\n' => text.extend_from_slice(b"\\n")?,
-        b'\t' => text.extend_from_slice(b"\\t")?,
-        b'\r' => text.extend_from_slice(b"\\r")?,
-        0..=31 | 127 => append_code(byte, text)?,
-        _ => text.push(byte)?,
+    match escape_of(byte) {
+        Some(escape) => text.extend_from_slice(escape)?,
+        None => if byte < 32 || byte == 127 {
+            append_code(byte, text)?;
+        } else {
+            text.push(byte)?;
+        },
     }
     Ok(())
 }

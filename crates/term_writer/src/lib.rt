@@ -52,7 +52,8 @@ pub fn write_term(
         (text_of vars.now) limit (term_of pool.now t)) }
     ensures err { OnErr result (out.new.items ≡ out.old.items) }
 {
-    let text = terms::term_bytes(alloc, pool, t, mode, vars, limit)?;
+    let mut text = Vec::new(alloc);
+    terms::append_term(alloc, pool, t, mode, vars, limit, &mut text)?;
     out.extend_from_slice(&text)?;
     Ok(())
 }

@@ -1,12 +1,12 @@
 //! Terms, written piece by piece.
 
-ghost use Rattle.std.specs.Prelude.{◌≡◌, ℕ, ◌+◌, ◌<◌, List, [], ◌∷◌, Some, length, All, OnOk, IfOk, codes, nat_le, if◌then◌else◌};
+ghost use Rattle.std.specs.Prelude.{◌≡◌, ℕ, ◌+◌, ◌<◌, List, [], ◌∷◌, Some, length, All, OnOk, codes, nat_le, if◌then◌else◌};
 ghost use Rattle.std.specs.Fmt.{signed_decimal};
 ghost use Rattle.fd_language.specs.Operators.{infix_of};
 ghost use Rattle.fd_language.specs.Writing as Writing;
 ghost use Rattle.term_pool.specs.Contents.{Contents, atom_name};
 ghost use Rattle.term_pool.specs.Terms.{term_of, terms_by};
-ghost use Rattle.term_writer.specs.Pieces.{IsOf, IsRest, Replaces, piece_text, piece_weight, operator_text, joined, weight, weights};
+ghost use Rattle.term_writer.specs.Pieces.{IsOf, IsRest, Replaces, finished, piece_text, piece_weight, operator_text, joined, weight, weights};
 ghost use Rattle.term_writer.specs.Views.{mode_of, text_in, text_of};
 
 use crate::atoms::{append, append_name, is_letter_word};
@@ -218,25 +218,44 @@ fn write_piece<'p>(
     }
 }
 
-/// The text of a term.
-pub(crate) fn term_bytes(
+/// Writes a term, and then the pieces, the last of them first, until none is left.
+fn write_all<'p>(
+    pool: &'p Pool,
+    mode: Mode,
+    names: &Names<'_>,
+    t: TermId,
+    limit: u32,
+    text: &mut Vec<u8>,
+    ahead: &mut Vec<Piece<'p>>,
+) -> Result<(), NoMemory>
+    requires term { t.number < length pool.now.entries }
+    requires pieces { All (IsOf pool.now) ahead.old.items }
+    ensures { OnOk result (text.new.items ≡ finished pool.now (mode_of mode) (text_in names.now)
+        (joined text.old.items (Writing.term_text (mode_of mode) (text_in names.now) limit
+        (term_of pool.now t))) ahead.old.items) }
+{
+    open_term(pool, mode, names, t, limit, text, ahead)?;
+    while let Some(piece) = ahead.pop() {
+        write_piece(pool, mode, names, piece, text, ahead)?;
+    }
+    Ok(())
+}
+
+/// Appends a term.
+pub(crate) fn append_term(
     alloc: Global,
     pool: &Pool,
     t: TermId,
     mode: Mode,
     vars: &[VarText],
     limit: u32,
-) -> Result<Vec<u8>, NoMemory>
+    text: &mut Vec<u8>,
+) -> Result<(), NoMemory>
     requires { t.number < length pool.now.entries }
-    ensures { IfOk result (λ v. v.items ≡ Writing.term_text (mode_of mode) (text_of vars.now) limit
-        (term_of pool.now t)) }
+    ensures { OnOk result (text.new.items ≡ joined text.old.items
+        (Writing.term_text (mode_of mode) (text_of vars.now) limit (term_of pool.now t))) }
 {
     let names = Names::new(alloc, vars)?;
-    let mut text = Vec::new(alloc);
     let mut ahead = Vec::new(alloc);
-    ahead.push(Piece::Term(t, limit))?;
-    while let Some(piece) = ahead.pop() {
-        write_piece(pool, mode, &names, piece, &mut text, &mut ahead)?;
-    }
-    Ok(text)
+    write_all(pool, mode, &names, t, limit, text, &mut ahead)
 }
