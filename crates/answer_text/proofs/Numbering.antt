@@ -188,6 +188,10 @@ variables_append [] us = refl
 variables_append (t ∷ ts) us =
     ap (λ (l : List ℕ). variables_of t ++ l) (variables_append ts us) ∙ sym (append_assoc (variables_of t) (variables_in ts) (variables_in us))
 
+-- the numbers that a term's variables get where none was met before
+pub numbers_of : (t : Term) → inserted [] (variables_of t) ≡ distinct (variables_of t)
+numbers_of t = sym (distinct_append [] (variables_of t))
+
 -- one term
 pub numbers_one : (t : Term) → inserted [] (variables_of t) ≡ distinct (variables_in (t ∷ []))
 numbers_one t = sym (ap distinct (append-nil (variables_of t)) ∙ distinct_append [] (variables_of t))

@@ -64,6 +64,10 @@ texts_step set ks new more vars i old ts t h e before tv text items =
     let pushed = texts_push f (take i vars) old v t first tv (text ∙ ap (λ (n : ℕ). open_part n (set v)) (sym place)) in
     subst (λ (ys : List ℕ). AreTexts f ys ts) (sym (take_more vars i 0 h)) (subst (λ (us : List VarText). AreTexts f (take i vars ++ v ∷ []) us) (sym items) pushed)
 
--- texts by the same sets and the same numbers
-pub same_given : (set other : ℕ → Option (List ℕ)) (vs all : List ℕ) (t : Term) (ts : List VarText) → ((y : ℕ) → set y ≡ other y) → vs ≡ all → GiveTexts (open_by set vs) t ts → GiveTexts (open_by other all) t ts
-same_given set other vs all t ts e f h y c = h y c ∙ ap (λ (l : List ℕ). open_part (place_in l y) (set y)) f ∙ ap (open_part (place_in all y)) (e y)
+-- a term is written alike by the same sets and the same numbers
+pub text_by_same : (set other : ℕ → Option (List ℕ)) (vs all : List ℕ) (mode : Mode) (limit : ℕ) (t : Term) → ((y : ℕ) → set y ≡ other y) → vs ≡ all
+    → term_text mode (open_by set vs) limit t ≡ term_text mode (open_by other all) limit t
+text_by_same set other vs all mode limit t e f =
+    ap (λ (u : Term). term_text mode (open_by set vs) limit u) (sym (apply_vars t))
+    ∙ ap (λ (x : Spelling). x.at limit) (spelled_same Var (open_by other all) (open_by set vs) mode t
+      (λ y c. (y, refl, ap (λ (l : List ℕ). open_part (place_in l y) (other y)) (sym f) ∙ ap (open_part (place_in vs y)) (sym (e y)))))
