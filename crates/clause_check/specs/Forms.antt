@@ -1,6 +1,7 @@
 -- The forms of goals, as the code names them.
-use Rattle.fd_language.specs.Term.{Term}
-use Rattle.fd_model.specs.Forms.{GoalForm, truth, failure, unification, posting, constraint, labelling, builtin}
+use Rattle.std.specs.Prelude.{ℕ, Option, drop}
+use Rattle.fd_language.specs.Term.{Name, Term}
+use Rattle.fd_model.specs.Forms.{forms, form_in, GoalForm, truth, failure, unification, posting, constraint, labelling, builtin}
 use Rattle.clause_check.specs.declared.forms.Form.{Form}
 use Rattle.clause_check.specs.declared.forms.Form.TheVariants.{Truth, Failure, Unification, Posting, Constraint, Labelling, Builtin}
 use Rattle.clause_check.specs.Programs.{HasArguments, constraint_arity, builtin_arity}
@@ -13,6 +14,10 @@ form_seen Posting = posting
 form_seen (Constraint k) = constraint k
 form_seen (Labelling o) = labelling o
 form_seen (Builtin k) = builtin k
+
+-- the form of a name with two arguments, by the rows of the table behind the first n
+abbrev pub binary_from : ℕ → Name → Option GoalForm
+binary_from n a = form_in (drop n (forms 2)) a
 
 -- a constraint or a built-in predicate has as many arguments as its kind
 abbrev pub HasFormArity : Form → Term → Type 0

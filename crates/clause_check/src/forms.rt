@@ -1,7 +1,7 @@
 //! The names of the goals that belong to the language.
 ghost use Rattle.std.specs.Prelude.{◌≡◌, option_map};
 ghost use Rattle.fd_model.specs.Forms.{built_in_names, form_named as form_of_name, is_named, joining_names, not_yet_names, reserved_names};
-ghost use Rattle.clause_check.specs.Forms.{form_seen};
+ghost use Rattle.clause_check.specs.Forms.{binary_from, form_seen};
 
 use fd_model::kinds::{BuiltinKind, ConstraintKind, Order, Relation};
 
@@ -107,12 +107,30 @@ fn binary(name: &str) -> Option<Form>
         "==" => Some(Form::Builtin(BuiltinKind::Same)),
         "\\==" => Some(Form::Builtin(BuiltinKind::NotSame)),
         "is" => Some(Form::Builtin(BuiltinKind::Is)),
+        _ => binary_from_comparisons(name),
+    }
+}
+
+/// The form of the goals with the name and two arguments, by the rows from the comparisons of numbers on.
+fn binary_from_comparisons(name: &str) -> Option<Form>
+    ensures { option_map form_seen result ≡ binary_from 4 name.now }
+{
+    match name {
         "=:=" => Some(Form::Builtin(BuiltinKind::NumEqual)),
         "=\\=" => Some(Form::Builtin(BuiltinKind::NumDiffer)),
         "<" => Some(Form::Builtin(BuiltinKind::NumLess)),
         "=<" => Some(Form::Builtin(BuiltinKind::NumAtMost)),
         ">" => Some(Form::Builtin(BuiltinKind::NumGreater)),
         ">=" => Some(Form::Builtin(BuiltinKind::NumAtLeast)),
+        _ => binary_from_constraints(name),
+    }
+}
+
+/// The form of the goals with the name and two arguments, by the rows from the constraints on.
+fn binary_from_constraints(name: &str) -> Option<Form>
+    ensures { option_map form_seen result ≡ binary_from 10 name.now }
+{
+    match name {
         "in" => Some(Form::Posting),
         "#=" => Some(Form::Constraint(ConstraintKind::Compare(Relation::Equal))),
         "#\\=" => Some(Form::Constraint(ConstraintKind::Compare(Relation::Differ))),
@@ -120,6 +138,15 @@ fn binary(name: &str) -> Option<Form>
         "#=<" => Some(Form::Constraint(ConstraintKind::Compare(Relation::AtMost))),
         "#>" => Some(Form::Constraint(ConstraintKind::Compare(Relation::Greater))),
         "#>=" => Some(Form::Constraint(ConstraintKind::Compare(Relation::AtLeast))),
+        _ => domain_reader(name),
+    }
+}
+
+/// The form of the goals with the name and two arguments that read a domain, by the last rows.
+fn domain_reader(name: &str) -> Option<Form>
+    ensures { option_map form_seen result ≡ binary_from 17 name.now }
+{
+    match name {
         "fd_min" => Some(Form::Builtin(BuiltinKind::FdMin)),
         "fd_max" => Some(Form::Builtin(BuiltinKind::FdMax)),
         "fd_size" => Some(Form::Builtin(BuiltinKind::FdSize)),
