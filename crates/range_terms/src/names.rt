@@ -1,7 +1,7 @@
 //! The nodes that the names of operators spell.
 
 ghost use Rattle.std.specs.Prelude.{◌≡◌};
-ghost use Rattle.range_terms.specs.Names.{range_operator_of, term_operator_of, feature_of};
+ghost use Rattle.range_terms.specs.Names.{operator_with, range_operator_of, term_operator_of, feature_of};
 
 use crate::forms::Position;
 use fd_language::RangeNode;
@@ -18,23 +18,22 @@ pub(crate) struct RangeOperator {
 pub(crate) fn range_operator(name: &str) -> Option<RangeOperator>
     ensures { result ≡ range_operator_of name.now }
 {
-    let (node, left, right) = if name == ".." {
-        (RangeNode::Span, Position::Term, Position::Term)
-    } else if name == ":" {
-        (RangeNode::Union, Position::Range, Position::Range)
-    } else if name == "&" {
-        (RangeNode::Inter, Position::Range, Position::Range)
-    } else if name == "+" {
-        (RangeNode::Plus, Position::Range, Position::Constant)
-    } else if name == "-" {
-        (RangeNode::Minus, Position::Range, Position::Constant)
-    } else if name == "*" {
-        (RangeNode::Times, Position::Range, Position::Constant)
-    } else if name == "/" {
-        (RangeNode::Over, Position::Range, Position::Constant)
-    } else {
-        return None;
-    };
+    match name {
+        ".." => operator(RangeNode::Span, Position::Term, Position::Term),
+        ":" => operator(RangeNode::Union, Position::Range, Position::Range),
+        "&" => operator(RangeNode::Inter, Position::Range, Position::Range),
+        "+" => operator(RangeNode::Plus, Position::Range, Position::Constant),
+        "-" => operator(RangeNode::Minus, Position::Range, Position::Constant),
+        "*" => operator(RangeNode::Times, Position::Range, Position::Constant),
+        "/" => operator(RangeNode::Over, Position::Range, Position::Constant),
+        _ => None,
+    }
+}
+
+/// An operator with the positions of its operands.
+fn operator(node: RangeNode, left: Position, right: Position) -> Option<RangeOperator>
+    ensures { result ≡ operator_with node left right }
+{
     Some(RangeOperator { node, left, right })
 }
 
@@ -42,18 +41,13 @@ pub(crate) fn range_operator(name: &str) -> Option<RangeOperator>
 pub(crate) fn term_operator(name: &str) -> Option<RangeNode>
     ensures { result ≡ term_operator_of name.now }
 {
-    if name == "+" {
-        Some(RangeNode::Add)
-    } else if name == "-" {
-        Some(RangeNode::Sub)
-    } else if name == "*" {
-        Some(RangeNode::Mul)
-    } else if name == "/<" {
-        Some(RangeNode::DivDown)
-    } else if name == "/>" {
-        Some(RangeNode::DivUp)
-    } else {
-        None
+    match name {
+        "+" => Some(RangeNode::Add),
+        "-" => Some(RangeNode::Sub),
+        "*" => Some(RangeNode::Mul),
+        "/<" => Some(RangeNode::DivDown),
+        "/>" => Some(RangeNode::DivUp),
+        _ => None,
     }
 }
 
@@ -61,13 +55,10 @@ pub(crate) fn term_operator(name: &str) -> Option<RangeNode>
 pub(crate) fn feature(name: &str, variable: u64) -> Option<RangeNode>
     ensures { result ≡ feature_of name.now variable }
 {
-    if name == "min" {
-        Some(RangeNode::Min(variable))
-    } else if name == "max" {
-        Some(RangeNode::Max(variable))
-    } else if name == "val" {
-        Some(RangeNode::Val(variable))
-    } else {
-        None
+    match name {
+        "min" => Some(RangeNode::Min(variable)),
+        "max" => Some(RangeNode::Max(variable)),
+        "val" => Some(RangeNode::Val(variable)),
+        _ => None,
     }
 }
