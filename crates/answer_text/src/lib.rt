@@ -17,7 +17,7 @@ mod reason;
 mod variables;
 
 use crate::answer::{answer_line, written_text};
-use crate::numbers::put_number;
+use crate::numbers::{put_count, put_number};
 pub use crate::reason::Reason;
 use crate::reason::put_reason;
 use fd_language::NoMemory;
@@ -52,9 +52,8 @@ pub fn refusal_text(
 pub fn query_text(alloc: Global, n: usize) -> Result<Vec<u8>, NoMemory>
     ensures { IfOk result (λ text. text.items ≡ line (codes "query " ++ decimal n)) }
 {
-    let mut text = Vec::from_slice(alloc, b"query ")?;
-    put_number(&mut text, n as u64)?;
-    text.push(b'\n')?;
+    let mut text = Vec::new(alloc);
+    put_count(&mut text, b"query ", n as u64)?;
     Ok(text)
 }
 
@@ -123,13 +122,10 @@ pub fn summary_text(
         ++ (line (codes "reductions " ++ decimal spent)
         ++ event_bytes (event_of names last.now)))) }
 {
-    let mut text = Vec::from_slice(alloc, b"gen ")?;
-    put_number(&mut text, u64::from(size))?;
-    text.extend_from_slice(b"\nanswers ")?;
-    put_number(&mut text, answers)?;
-    text.extend_from_slice(b"\nreductions ")?;
-    put_number(&mut text, spent)?;
-    text.push(b'\n')?;
+    let mut text = Vec::new(alloc);
+    put_count(&mut text, b"gen ", u64::from(size))?;
+    put_count(&mut text, b"answers ", answers)?;
+    put_count(&mut text, b"reductions ", spent)?;
     text.extend_from_slice(fixed_text(last).unwrap())?;
     Ok(text)
 }
