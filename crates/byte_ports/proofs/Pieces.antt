@@ -25,6 +25,10 @@ took_more a b None p q h g = tt
 took_more a None (Some z) p q h g = absurd (cc (g))
 took_more a (Some y) (Some z) p q h g = took_ends a (Some y) y z p q h refl g
 
+-- a call that took nothing changes nothing of what was taken
+pub took_no_more : (a b c : Option (List ℕ)) (p : List ℕ) → Took a b p → Took b c [] → Took a c p
+took_no_more a b c p h g = subst (Took a c) (append-nil p) (took_more a b c p [] h g)
+
 -- what is told after a call was told before it
 pub told_before_took : (a b : Option (List ℕ)) (p : List ℕ) → Took a b p → IsSome b → IsSome a
 told_before_took a None p h t = absurd (cc (t))
