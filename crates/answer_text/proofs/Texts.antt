@@ -70,4 +70,4 @@ pub text_by_same : (set other : ℕ → Option (List ℕ)) (vs all : List ℕ) (
 text_by_same set other vs all mode limit t e f =
     ap (λ (u : Term). term_text mode (open_by set vs) limit u) (sym (apply_vars t))
     ∙ ap (λ (x : Spelling). x.at limit) (spelled_same Var (open_by other all) (open_by set vs) mode t
-      (λ y c. (y, refl, ap (λ (l : List ℕ). open_part (place_in l y) (other y)) (sym f) ∙ ap (open_part (place_in vs y)) (sym (e y)))))
+    (λ y c. (y, refl, ap (λ (l : List ℕ). open_part (place_in l y) (other y)) (sym f) ∙ ap (open_part (place_in vs y)) (sym (e y)))))

@@ -44,7 +44,7 @@ loop-index-preserved c =
     c.in_ok-put_term.ensures.text front.0
     ∙ ap (λ (u : TermId). before ++ term_text Quoted (open_by (set_by c.args.sets.now) (keys ++ front.0)) 699 (g u)) here
     ∙ ap (λ (l : List ℕ). before ++ l)
-      (text_by_same (set_by c.args.sets.now) (set_in shown.sets.items) (keys ++ front.0) (distinct (variables_in all)) Quoted 699 (g t) c.requires.sets whole) in
+    (text_by_same (set_by c.args.sets.now) (set_in shown.sets.items) (keys ++ front.0) (distinct (variables_in all)) Quoted 699 (g t) c.requires.sets whole) in
     let start = c.loop-index.text.items in
     let name = atom_name c.args.pool.now (slice_index_or ids i none) in
     let first = start ++ separator_at i (codes ", ") in
