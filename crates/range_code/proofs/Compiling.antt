@@ -2,7 +2,7 @@
 use Rattle.std.proofs.Common.{◌≡◌, ℕ, suc, ◌+◌, ◌<◌, ◌≤◌, Bool, true, false, cond, not, ◌||◌, ◌==◌, nat_lt, nat_eq, List, [], ◌∷◌, ◌++◌, length, map, filter, fold, reverse, pos, take, get_or, Option, Some, None, IsTrue, refl, sym, ◌∙◌, ap, subst, arith, eqb-true}
 use Rattle.std.specs.Prelude.{MatchOption}
 use Rattle.std.specs.List.{position, position_or_len, list_all}
-use Rattle.std.proofs.lemmas.List.{take_more}
+use Rattle.std.proofs.lemmas.List.{take_more, map-append}
 use Rattle.std.proofs.lemmas.List.Folds.{list_any-append}
 use Rattle.fd_language.specs.declared.TheConstants.{INFINITY}
 use Rattle.fd_language.specs.declared.range_node.Need.{Need}
@@ -15,7 +15,7 @@ use Rattle.fd_language.specs.Needs.{needs, once}
 use Rattle.fd_language.specs.declared.range_node.Feature.TheVariants as feature
 use Rattle.fd_language.specs.Family.{count_up}
 use Rattle.fd_language.specs.Features.{each_once, is_same_pair, feature_at, node_features}
-use Rattle.fd_language.proofs.Lemmas.{whole_nodes, bounded_values, needs_met}
+use Rattle.fd_language.proofs.Lemmas.{two, whole_nodes, bounded_values, needs_met}
 use Rattle.range_code.specs.Asked.{need_in}
 use Rattle.range_code.specs.Nodes.{node_variables, node_variable, listed, rename_node}
 use Rattle.range_code.specs.Slots.{slots_of, slot_of, slot_needs, in_slots, slot_features}
@@ -68,6 +68,10 @@ one_passes p xs n e = by_test (nat_lt (position_or_len p xs) (length xs)) e wher
   by_test : (c : Bool) → cond c (Some (position_or_len p xs)) None ≡ Some n → n ≡ position_or_len p xs
   by_test true f = cc
   by_test false f = absurd cc
+
+-- the image of one more element
+pub mapped_more : {X Y : Type 0} (f : X → Y) (xs : List X) (i : ℕ) (d : X) (old new : List Y) (y : Y) → i < length xs → old ≡ map f (take i xs) → new ≡ old ++ y ∷ [] → y ≡ f (get_or xs i d) → new ≡ map f (take (i + 1) xs)
+mapped_more f xs i d old new y l h e g = e ∙ (two (λ ys z. ys ++ z ∷ []) h g ∙ sym (ap (map f) (take_more xs i d l) ∙ map-append f (take i xs) (get_or xs i d ∷ [])))
 
 -- one more node
 pub numbered_more : (nodes : List RangeNode) (i : ℕ) (d : RangeNode) (old new : Numbered) → i < length nodes → IsNumbered (node_variables (take i nodes)) old →

@@ -1,5 +1,5 @@
 -- What becomes of nodes while literals are folded.
-use Rattle.std.specs.Prelude.{ℤ, pos, ◌+ℤ◌, ◌-ℤ◌, ◌*ℤ◌, List, [], ◌∷◌, Option, Some, None}
+use Rattle.std.specs.Prelude.{ℤ, pos, ◌+ℤ◌, ◌-ℤ◌, ◌*ℤ◌, List, [], ◌∷◌, reverse, fold, Option, Some, None}
 use mir.Syntax.{w128}
 use Rattle.std.specs.Int.{int_wrap}
 use Rattle.fd_language.specs.declared.range_node.RangeNode.{RangeNode}
@@ -39,6 +39,10 @@ taken ps node.Add = joined node.Add ps
 taken ps node.Sub = joined node.Sub ps
 taken ps node.Mul = joined node.Mul ps
 taken ps n = Other n ∷ ps
+
+-- the pieces of nodes, the first one first
+abbrev pub pieces_of : List RangeNode → List Piece
+pieces_of ns = reverse (fold taken [] ns)
 
 -- the integers of pieces
 abbrev pub literals : List Piece → List ℤ

@@ -12,10 +12,12 @@ ghost use Rattle.range_code.specs.Kinds.{has_pair, told_as as told_by, all_told}
 ghost use Rattle.range_code.specs.Heights.{values_after, sets_after, tallest};
 ghost use Rattle.range_code.specs.Pieces.{piece_node};
 ghost use Rattle.range_code.specs.Gathered.{IsNumbered};
+ghost use Rattle.fd_language.specs.Needs.{once, needs as asked_by};
 
 use crate::fold::Piece;
 use fd_language::{Feature, FlatRange, Need, NoMemory, RangeNode};
 use indexmap::{IndexMap, IndexSet};
+use monotone_check::{Checked, needs};
 use range_features::node_features;
 use std::alloc::Global;
 use std::collections::HashSet;
@@ -25,6 +27,21 @@ use std::collections::HashSet;
 pub(crate) struct Numbered {
     pub slots: Vec<u64>,
     pub numbers: IndexSet<u64>,
+}
+
+/// The variables of nodes by their slots, and the nodes with slots in place of variables.
+#[derive(Drop)]
+pub(crate) struct Slotted {
+    pub slots: Vec<u64>,
+    pub nodes: Vec<RangeNode>,
+}
+
+/// What nodes read of their slots: the pairs of a slot and a feature, their kinds, and the slots that are read by val.
+#[derive(Drop)]
+pub(crate) struct Reads {
+    pub features: Vec<(usize, Feature)>,
+    pub kinds: Vec<(usize, ReadKind)>,
+    pub vals: Vec<usize>,
 }
 
 /// The same range once more.
@@ -82,7 +99,7 @@ impl Numbered {
 }
 
 /// Gives each variable of the nodes a slot, in the order of first occurrence.
-pub(crate) fn number_variables(alloc: Global, nodes: &[RangeNode]) -> Result<Numbered, NoMemory>
+fn number_variables(alloc: Global, nodes: &[RangeNode]) -> Result<Numbered, NoMemory>
     ensures { IfOk result (IsNumbered (node_variables nodes.now)) }
 {
     let mut numbered = Numbered::new(alloc);
@@ -116,7 +133,7 @@ fn name_slot(node: RangeNode, numbers: &IndexSet<u64>) -> RangeNode
 }
 
 /// The nodes with slots in place of variables.
-pub(crate) fn name_slots(
+fn name_slots(
     alloc: Global,
     nodes: &[RangeNode],
     numbers: &IndexSet<u64>,
@@ -132,6 +149,20 @@ pub(crate) fn name_slots(
     Ok(named)
 }
 
+/// The nodes with slots in place of variables, and the variables of the slots.
+pub(crate) fn put_in_slots(alloc: Global, nodes: &[RangeNode]) -> Result<Slotted, NoMemory>
+    ensures slots { IfOk result (λ put. put.slots.items ≡ once (node_variables nodes.now)) }
+    ensures nodes { IfOk result (λ put. put.nodes.items
+        ≡ map (rename_node (λ y. position_or_len (nat_eq y) put.slots.items)) nodes.now) }
+{
+    let numbered = number_variables(alloc, nodes)?;
+    let named = name_slots(alloc, nodes, &numbered.numbers)?;
+    Ok(Slotted {
+        slots: numbered.slots,
+        nodes: named,
+    })
+}
+
 /// The pairs with slots as numbers of a list's places.
 fn by_slot(alloc: Global, pairs: &[(u64, Feature)]) -> Result<Vec<(usize, Feature)>, NoMemory>
     ensures { IfOk result (λ v. v.items ≡ pairs.now) }
@@ -144,10 +175,7 @@ fn by_slot(alloc: Global, pairs: &[(u64, Feature)]) -> Result<Vec<(usize, Featur
 }
 
 /// What the nodes read, each pair of a slot and a feature once, in the order of first occurrence.
-pub(crate) fn read_slots(
-    alloc: Global,
-    nodes: &[RangeNode],
-) -> Result<Vec<(usize, Feature)>, NoMemory>
+fn read_slots(alloc: Global, nodes: &[RangeNode]) -> Result<Vec<(usize, Feature)>, NoMemory>
     ensures { IfOk result (λ v. v.items ≡ each_once (read_by nodes.now)) }
 {
     let pairs = node_features(alloc, nodes)?;
@@ -276,7 +304,7 @@ fn vals_of(alloc: Global, val: &HashSet<usize>, count: usize) -> Result<Vec<usiz
 }
 
 /// The kinds of what is read.
-pub(crate) fn read_kinds(
+fn read_kinds(
     alloc: Global,
     features: &[(usize, Feature)],
 ) -> Result<Vec<(usize, ReadKind)>, NoMemory>
@@ -289,7 +317,7 @@ pub(crate) fn read_kinds(
 }
 
 /// The slots below the number that are read by val.
-pub(crate) fn read_vals(
+fn read_vals(
     alloc: Global,
     features: &[(usize, Feature)],
     count: usize,
@@ -299,6 +327,26 @@ pub(crate) fn read_vals(
 {
     let val = slots_with(alloc, features, Feature::Val)?;
     vals_of(alloc, &val, count)
+}
+
+/// What the nodes read of so many slots.
+pub(crate) fn reads_of(alloc: Global, nodes: &[RangeNode], count: usize) -> Result<Reads, NoMemory>
+    ensures features { IfOk result (λ reads. reads.features.items
+        ≡ each_once (read_by nodes.now)) }
+    ensures kinds { IfOk result (λ reads. reads.kinds.items
+        ≡ all_told (λ s. has_pair reads.features.items (s, Told.Min))
+        (λ s. has_pair reads.features.items (s, Told.Max)) reads.features.items) }
+    ensures vals { IfOk result (λ reads. reads.vals.items
+        ≡ filter (λ s. has_pair reads.features.items (s, Told.Val)) (count_up 0 count)) }
+{
+    let features = read_slots(alloc, nodes)?;
+    let kinds = read_kinds(alloc, &features)?;
+    let vals = read_vals(alloc, &features, count)?;
+    Ok(Reads {
+        features,
+        kinds,
+        vals,
+    })
 }
 
 /// How many values wait behind the piece, where so many wait before it.
@@ -361,8 +409,23 @@ fn needs_by_variable(alloc: Global, needs: &[(u64, Need)]) -> Result<IndexMap<u6
     Ok(found)
 }
 
+/// The need of each variable that the table has, in the order of the slots.
+fn needs_found(
+    alloc: Global,
+    slots: &[u64],
+    found: &IndexMap<u64, Need>,
+) -> Result<Vec<Option<Need>>, NoMemory>
+    ensures { IfOk result (λ v. v.items ≡ map (get nat_eq found.now) slots.now) }
+{
+    let mut by_slot = Vec::with_capacity(alloc, slots.len())?;
+    for variable in slots {
+        by_slot.push(found.get(variable).copied())?;
+    }
+    Ok(by_slot)
+}
+
 /// The need of each variable that has one.
-pub(crate) fn slot_needs_of(
+fn slot_needs_of(
     alloc: Global,
     slots: &[u64],
     needs: &[(u64, Need)],
@@ -370,9 +433,17 @@ pub(crate) fn slot_needs_of(
     ensures { IfOk result (λ v. v.items ≡ map (need_in needs.now) slots.now) }
 {
     let found = needs_by_variable(alloc, needs)?;
-    let mut by_slot = Vec::with_capacity(alloc, slots.len())?;
-    for variable in slots {
-        by_slot.push(found.get(variable).copied())?;
-    }
-    Ok(by_slot)
+    needs_found(alloc, slots, &found)
+}
+
+/// What the range needs of the variables of its slots.
+pub(crate) fn needs_of_slots(
+    alloc: Global,
+    c: &Checked,
+    slots: &[u64],
+) -> Result<Vec<Option<Need>>, NoMemory>
+    ensures { IfOk result (λ v. v.items ≡ map (need_in (asked_by c.now)) slots.now) }
+{
+    let asked = needs(alloc, c)?;
+    slot_needs_of(alloc, slots, &asked)
 }

@@ -1,7 +1,7 @@
 //! Ranges that are prepared once and evaluated often: the set of a range over the current domains (Codognet and Diaz 1996).
 #![tactic(auto)]
 
-ghost use Rattle.std.specs.Prelude.{◌≡◌, ◌≤◌, ◌+◌, ◌-◌, ◌^◌, ◌↔◌, min, ℕ, pos, List, [], true, false, length, IfOk, OnOk, IsTrue};
+ghost use Rattle.std.specs.Prelude.{◌≡◌, ◌≤◌, ◌+◌, ◌-◌, ◌^◌, ◌↔◌, min, ℕ, pos, List, [], true, false, length, map, IfOk, OnOk, IsTrue};
 ghost use Rattle.fd_language.specs.RangeVerdict.{is_accepted};
 ghost use Rattle.fd_language.specs.Family.{IsFamily};
 ghost use Rattle.fd_language.specs.Flat.{nodes_of};
@@ -9,8 +9,10 @@ ghost use Rattle.fd_language.specs.Range.{set_of, least, is_none_left, is_severa
 ghost use Rattle.domain_ranges.specs.Narrowing.{IsNarrowed};
 ghost use Rattle.range_code.specs.Slots.{slots_of, slot_needs, slot_features, in_slots, IsAlike};
 ghost use Rattle.range_code.specs.Kinds.{slot_kinds, val_slots};
-ghost use Rattle.range_code.specs.Heights.{height};
+ghost use Rattle.range_code.specs.Heights.{height, tallest};
 ghost use Rattle.range_code.specs.Folded.{folded_nodes};
+ghost use Rattle.range_code.specs.Pieces.{pieces_of, piece_node, literals};
+ghost use Rattle.range_code.specs.Compiled.{AreStepsOf};
 ghost use Rattle.range_code.specs.Instructions.{instructions_of, tests_of};
 ghost use Rattle.range_code.specs.Walked.{all_steps, ArePlaced};
 ghost use Rattle.range_code.specs.Forms.{IsForm, IsShifted};
@@ -31,10 +33,7 @@ mod work;
 
 use crate::alike::{are_same_needs, are_same_nodes};
 pub use crate::compile::ReadKind;
-use crate::compile::{
-    copy_range, height_of, name_slots, number_variables, read_kinds, read_slots, read_vals,
-    slot_needs_of,
-};
+use crate::compile::{copy_range, height_of, needs_of_slots, put_in_slots, reads_of};
 use crate::evaluate::{Steps, evaluate, evaluate_narrowing};
 use crate::fold::fold_literals;
 use crate::form::{Form, both_values, form_of};
@@ -46,7 +45,7 @@ use crate::work::Work;
 pub use domain_ranges::Narrowed;
 use domain_ranges::{Domain, View};
 use fd_language::{Feature, FlatRange, INFINITY, Need, NoMemory, RangeNode};
-use monotone_check::{Checked, needs};
+use monotone_check::Checked;
 use std::alloc::Global;
 use std::marker::Model;
 
@@ -210,31 +209,42 @@ impl RangeCode {
     }
 }
 
+/// What is evaluated for the nodes, and how many values or sets wait at most.
+fn steps_and_height(
+    alloc: Global,
+    nodes: &[RangeNode],
+    needs: &[Option<Need>],
+    vals: &[usize],
+) -> Result<(Steps, usize), NoMemory>
+    ensures steps { IfOk result (λ made. AreStepsOf needs.now vals.now
+        (literals (pieces_of nodes.now)) (map piece_node (pieces_of nodes.now)) made.0) }
+    ensures height { IfOk result (λ made. made.1
+        ≡ tallest (map piece_node (pieces_of nodes.now))) }
+{
+    let pieces = fold_literals(alloc, nodes)?;
+    let height = height_of(&pieces);
+    let steps = steps_of(alloc, needs, vals, &pieces)?;
+    Ok((steps, height))
+}
+
 /// Prepares an accepted range for `run_range` and `narrow`.
 pub fn compile_range(alloc: Global, c: &Checked) -> Result<RangeCode, NoMemory>
     ensures { IfOk result (λ code. code ≡ c.now) }
 {
     let range = copy_range(alloc, c.range())?;
-    let source = range.nodes();
-    let numbered = number_variables(alloc, source)?;
-    let nodes = name_slots(alloc, source, &numbered.numbers)?;
-    let features = read_slots(alloc, &nodes)?;
-    let kinds = read_kinds(alloc, &features)?;
-    let vals = read_vals(alloc, &features, numbered.slots.len())?;
-    let asked = needs(alloc, c)?;
-    let needs = slot_needs_of(alloc, &numbered.slots, &asked)?;
-    let pieces = fold_literals(alloc, &nodes)?;
-    let height = height_of(&pieces);
-    let steps = steps_of(alloc, &needs, &vals, &pieces)?;
-    let form = form_of(alloc, &nodes, vals.is_empty())?;
+    let put = put_in_slots(alloc, range.nodes())?;
+    let reads = reads_of(alloc, &put.nodes, put.slots.len())?;
+    let needs = needs_of_slots(alloc, c, &put.slots)?;
+    let (steps, height) = steps_and_height(alloc, &put.nodes, &needs, &reads.vals)?;
+    let form = form_of(alloc, &put.nodes, reads.vals.is_empty())?;
     Ok(RangeCode {
         range,
-        slots: numbered.slots,
+        slots: put.slots,
         needs,
-        features,
-        kinds,
-        vals,
-        nodes,
+        features: reads.features,
+        kinds: reads.kinds,
+        vals: reads.vals,
+        nodes: put.nodes,
         steps,
         form,
         height,

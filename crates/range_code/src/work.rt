@@ -1,7 +1,7 @@
 //! The values and sets that wait for their operators.
 
-ghost use Rattle.std.specs.Prelude.{◌≡◌, ◌<◌, ◌≤◌, ◌-◌, ℕ, ℤ, suc, List, [], ◌∷◌, ◌++◌, pos, ◌≤ℤ◌, length, IfOk, OnOk, vec_len, vec_capacity};
-ghost use Rattle.fd_language.specs.Family.{IsRising};
+ghost use Rattle.std.specs.Prelude.{◌≡◌, ◌<◌, ◌≤◌, ◌-◌, ℕ, ℤ, suc, List, [], ◌∷◌, ◌++◌, pos, ◌≤ℤ◌, length, filter, IfOk, OnOk, vec_len, vec_capacity};
+ghost use Rattle.fd_language.specs.Family.{has, IsRising};
 ghost use Rattle.fd_language.specs.Range.{div_down, div_up};
 ghost use Rattle.range_code.specs.Work.{IsLimited, operated, CanOperate, CanTakeTerms, CanMove, CanTakeRange, CanTake};
 ghost use Rattle.range_code.specs.Steps.{PushesValue, PushesSet, Operates, Spans, Singles, Joins, Meets, Complements, moved, Moves};
@@ -237,12 +237,29 @@ impl Work {
         ensures counted { OnOk result (Counts (λ n. n) (λ n. n - 1) self.old self.new) }
         ensures room { KeepsRoom self.old self.new }
     {
-        if let Some(q) = self.sets.pop()? {
-            if let Some(r) = self.sets.pop()? {
-                self.sets.push(&r.intersect(&q)?)?;
-            }
+        match self.sets.pop()? {
+            Some(q) => self.keep_shared(&q),
+            None => Ok(()),
         }
-        Ok(())
+    }
+
+    /// The last set keeps the members that the other set has too.
+    #[inline]
+    fn keep_shared(&mut self, q: &Domain) -> Result<(), NoMemory>
+        ensures kept { OnOk result ((rest : List (List ℕ)) (r : List ℕ)
+            → self.old.sets.sets ≡ r ∷ rest → self.new.sets.sets ≡ filter (has q.now) r ∷ rest) }
+        ensures values { self.new.values ≡ self.old.values }
+        ensures fewer { OnOk result
+            (length self.new.sets.sets ≤ length self.old.sets.sets) }
+        ensures room { self.new.sets.room ≡ self.old.sets.room }
+    {
+        match self.sets.pop()? {
+            Some(r) => {
+                let shared = r.intersect(q)?;
+                self.sets.push(&shared)
+            }
+            None => Ok(()),
+        }
     }
 
     /// The complement takes the last set.
@@ -252,10 +269,13 @@ impl Work {
         ensures counted { OnOk result (Counts (λ n. n) (λ n. n) self.old self.new) }
         ensures room { KeepsRoom self.old self.new }
     {
-        if let Some(r) = self.sets.pop()? {
-            self.sets.push(&r.complement()?)?;
+        match self.sets.pop()? {
+            Some(r) => {
+                let others = r.complement()?;
+                self.sets.push(&others)
+            }
+            None => Ok(()),
         }
-        Ok(())
     }
 
     /// A pointwise operator takes the last term and the last set.
@@ -266,11 +286,29 @@ impl Work {
         ensures counted { OnOk result (Counts (λ n. n - 1) (λ n. n) self.old self.new) }
         ensures room { KeepsRoom self.old self.new }
     {
-        if let Some(c) = self.values.pop() {
-            if let Some(r) = self.sets.pop()? {
-                self.sets.push(&move_set(self.alloc, instr, &r, c)?)?;
-            }
+        match self.values.pop() {
+            Some(c) => self.move_last(instr, c),
+            None => Ok(()),
         }
-        Ok(())
+    }
+
+    /// A pointwise operator of the last set and a number takes the set.
+    #[inline]
+    fn move_last(&mut self, instr: RangeInstr, c: i128) -> Result<(), NoMemory>
+        requires { CanMove (operator_of instr) c }
+        ensures moved { OnOk result ((rest : List (List ℕ)) (r : List ℕ) → self.old.sets.sets
+            ≡ r ∷ rest → self.new.sets.sets ≡ moved (operator_of instr) r c ∷ rest) }
+        ensures values { self.new.values ≡ self.old.values }
+        ensures fewer { OnOk result
+            (length self.new.sets.sets ≤ length self.old.sets.sets) }
+        ensures room { self.new.sets.room ≡ self.old.sets.room }
+    {
+        match self.sets.pop()? {
+            Some(r) => {
+                let moved = move_set(self.alloc, instr, &r, c)?;
+                self.sets.push(&moved)
+            }
+            None => Ok(()),
+        }
     }
 }

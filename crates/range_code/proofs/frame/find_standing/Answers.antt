@@ -1,0 +1,14 @@
+use Rattle.std.proofs.Common.{◌≡◌, ap, sym, ◌∙◌, subst, take, length, arith, drop_of_length-le}
+use Rattle.std.specs.List.{All}
+use Rattle.std.proofs.Math.Seq.{take-length}
+use Rattle.range_code.specs.Frames.{slot_set}
+use Rattle.range_code.specs.Standing.{tested, TestRises}
+use Rattle.range_code.proofs.frame.find_standing.Goals as goal
+
+pub returns-clause-value : goal.returns-clause-value
+returns-clause-value g c = sym (c.loop-test.invariant.same ∙ ap (tested (slot_set (g.V.View.sets c.args.view.now) c.args.args.now)) (drop_of_length-le c.args.tests.now c.loop-test-test.false))
+
+pub returns-clause-rising : goal.returns-clause-rising
+returns-clause-rising g c _ =
+    let all : c.loop-test.test-index ≡ length c.args.tests.now = omega arith in
+    subst (All (TestRises (slot_set (g.V.View.sets c.args.view.now) c.args.args.now))) (ap (λ n. take n c.args.tests.now) all ∙ take-length c.args.tests.now) c.loop-test.invariant.rising
