@@ -1,12 +1,11 @@
 -- A constraint's ranges, its variables and its touches, one after the other.
-use Rattle.std.proofs.Common.{◌≡◌, ℕ, zero, suc, ◌+◌, ◌-◌, ◌<◌, ◌≤◌, true, false, ◌==◌, nat_lt, ℤ, List, [], ◌∷◌, ◌++◌, length, map, take, get_or, Some, refl, ap, sym, ◌∙◌, subst, inl, inr, arith, eq-eqb}
+use Rattle.std.proofs.Common.{◌≡◌, ℕ, zero, suc, ◌+◌, ◌<◌, ◌≤◌, true, false, ◌==◌, nat_lt, ℤ, List, [], ◌∷◌, ◌++◌, length, map, take, get_or, Some, refl, ap, sym, ◌∙◌, subst, inl, inr, arith, eq-eqb}
 use Rattle.std.proofs.lemmas.Bool.{cases_Bool, or_left, or_right}
 use Rattle.std.proofs.lemmas.Bool.Decides.{nat_tests}
 use Rattle.fd_language.specs.Family.{has}
 use Rattle.fd_language.specs.Range.{Range, Indexical}
 use Rattle.fd_language.proofs.Lemmas.{in_left, only_member}
 use Rattle.heap_cells.specs.declared.Cell.TheVariants as cell
-use Rattle.heap_cells.specs.declared.Seen.TheVariants as seen
 use Rattle.heap_cells.specs.Cells.{Cells, Heaps, Slot, free, linked, bound, is_bound, slot_at, with_slot, with_now}
 use Rattle.heap_cells.specs.Seen.{IsRoot}
 use Rattle.constraint_expand.specs.Posts.{indexicals}

@@ -1,5 +1,5 @@
 -- Offences that there are not.
-use Rattle.std.proofs.Common.{◌≡◌, ℕ, ◌+◌, ◌-◌, ◌<◌, ◌≤◌, ◌==◌, [], ◌∷◌, ◌++◌, Option, Some, None, refl, ◌∙◌}
+use Rattle.std.proofs.Common.{◌≡◌, Option, Some, None, refl}
 use Rattle.fd_model.specs.declared.kinds.QueryFault.{QueryFault}
 
 pub is_none : (o : Option QueryFault) → ((f : QueryFault) → o ≡ Some f → ⊥) → o ≡ None

@@ -11,7 +11,6 @@ use Rattle.fd_language.specs.Term.{Name, Term, Terms, Var, term, apply}
 use Rattle.fd_language.specs.Variables.{variables_of, variables_of_all, distinct}
 use Rattle.fd_model.specs.Lines.{as_terms}
 use Rattle.heap_cells.specs.declared.Cell.{Cell}
-use Rattle.heap_cells.specs.declared.Cell.TheVariants as cell
 use Rattle.heap_cells.specs.Atoms.{IsAtomBelow, HasAtomsBelow}
 use Rattle.heap_cells.specs.Cells.{Cells, Slot, free, linked, bound, slot_at, IsOf}
 use Rattle.heap_cells.specs.Terms.{term_of}

@@ -1,5 +1,5 @@
 -- How the variables that a goal `T in r` names get variables of the store.
-use Rattle.std.specs.Prelude.{◌≡◌, ℕ, ◌-◌, ◌+◌, ◌<◌, ◌≤◌, true, false, ◌==◌, if◌then◌else◌, nat_lt, ℤ, List, [], ◌∷◌, ◌++◌, length, filter, slice_index_or, Option, Some, None}
+use Rattle.std.specs.Prelude.{◌≡◌, ℕ, ◌-◌, ◌<◌, ◌≤◌, true, false, ◌==◌, if◌then◌else◌, nat_lt, ℤ, List, [], ◌∷◌, ◌++◌, length, filter, slice_index_or, Option, Some, None}
 use Rattle.fd_language.specs.declared.TheConstants.{INFINITY}
 use Rattle.fd_language.specs.declared.range_node.Need.{Need}
 use Rattle.fd_language.specs.Family.{has, universe}

@@ -1,5 +1,5 @@
 -- What a goal `T in r` does to a branch.
-use Rattle.std.specs.Prelude.{◌≡◌, ℕ, ◌<◌, Bool, true, false, ℤ, [], ◌∷◌, ◌++◌}
+use Rattle.std.specs.Prelude.{Bool, true, false}
 use Rattle.branch_state.specs.declared.step.Step.{Step}
 use Rattle.branch_state.specs.declared.step.Step.TheVariants.{Kept, Failed}
 

@@ -1,5 +1,5 @@
 -- What calls do to a branch: cells that are unified, and touches that are posted.
-use Rattle.std.specs.Prelude.{◌≡◌, ℕ, ◌<◌, List, ◌++◌, length, All}
+use Rattle.std.specs.Prelude.{ℕ, ◌<◌, List, ◌++◌, length, All}
 use Rattle.fd_language.specs.Range.{Indexical}
 use Rattle.unify_core.specs.declared.Touch.{Touch}
 use Rattle.unify_core.specs.declared.Touch.TheVariants.{Value, Same}

@@ -1,8 +1,8 @@
 -- Rows in the order of their keys.
-use Rattle.std.proofs.Common.{Ordering, Less, Equal, Greater, ◌≡◌, ◌⊎◌, ℕ, ℤ, suc, pos, ◌+◌, ◌<◌, ◌<ℤ◌, Bool, true, false, ◌&&◌, IsTrue, List, get_or, Some, length, slice_get, refl, ap, ap₂, sym, ◌∙◌, inl, inr, arith}
+use Rattle.std.proofs.Common.{Ordering, Less, Equal, Greater, ◌≡◌, ◌⊎◌, ℕ, ℤ, suc, pos, ◌+◌, ◌<◌, ◌<ℤ◌, Bool, true, false, ◌&&◌, IsTrue, List, Some, length, slice_get, refl, ap, ap₂, sym, ◌∙◌, inl, inr, arith}
 use Rattle.std.specs.List.{IsDistinct}
 use Rattle.std.specs.List.Sorted.{IsPermutation, IsSortedByKey}
-use Rattle.std.specs.Ordering.{MatchOrdering, nat_cmp, int_cmp, int_eq, is_lt, ordering_then}
+use Rattle.std.specs.Ordering.{MatchOrdering, nat_cmp, int_cmp, is_lt, ordering_then}
 use Rattle.std.proofs.lemmas.Bool.{true≢false, eq-eqb}
 use Rattle.std.proofs.lemmas.Bool.Decides.{Decides-int_eq}
 use Rattle.std.proofs.lemmas.Cmp.{ranked, int_ranked}

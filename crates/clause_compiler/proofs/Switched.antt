@@ -1,5 +1,5 @@
 -- Which clauses the first argument tells apart.
-use Rattle.std.proofs.Common.{◌≡◌, ◌≢◌, ℕ, zero, suc, ◌<◌, ◌≤◌, Bool, true, ◌&&◌, leb, if◌then◌else◌, List, [], ◌∷◌, Some, None, is_some, option_map, length, slice_get, refl, ap, ap₂, sym, ◌∙◌, subst, arith, bytes_eq}
+use Rattle.std.proofs.Common.{◌≡◌, ◌≢◌, ℕ, zero, suc, ◌<◌, ◌≤◌, Bool, true, ◌&&◌, leb, if◌then◌else◌, List, [], ◌∷◌, Some, None, is_some, option_map, length, slice_get, refl, ap, ap₂, sym, ◌∙◌, subst, arith}
 use Rattle.std.specs.List.{list_any, list_all}
 use Rattle.std.proofs.lemmas.Bool.{and_parts}
 use Rattle.std.proofs.lemmas.Bool.Decides.{nat_tests}

@@ -1,4 +1,4 @@
-use Rattle.std.proofs.Common.{rules, ◌≡◌, ◌∷◌, [], ◌++◌, sym, ◌∙◌, ap, reverse, SFits, to_z-of_z}
+use Rattle.std.proofs.Common.{rules, ◌∷◌, [], ◌++◌, sym, ◌∙◌, ap, SFits, to_z-of_z}
 use mir.Syntax.{w128}
 use Rattle.range_code.specs.Pieces.{top_literal, under_literal}
 use Rattle.range_code.proofs.Folding.{last_first}
