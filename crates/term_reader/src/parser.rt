@@ -296,11 +296,7 @@ fn last_operation(items: &[Item]) -> Option<Operation>
 }
 
 /// The term of an operator and its operands.
-fn add_operation(
-    pool: &mut Pool,
-    operation: Operation,
-    right: TermId,
-) -> Result<TermId, NoMemory>
+fn add_operation(pool: &mut Pool, operation: Operation, right: TermId) -> Result<TermId, NoMemory>
     requires pool { IsPool pool.old }
     requires name { operation.name.number < length pool.old.names }
     requires operands { AreTerms pool.old (operands operation.left right) }
