@@ -8,7 +8,7 @@ use Rattle.domain_ranges.specs.Spans.{IsSpans, members}
 use Rattle.term_pool.specs.declared.AtomId.{AtomId}
 use Rattle.term_pool.specs.declared.TermId.{TermId}
 use Rattle.answer_text.specs.Pieces.{separator_at, spans_text, interval_of_span}
-use Rattle.machine_events.proofs.Intervals.{span_intervals}
+use Rattle.machine_events.proofs.Lemmas.{span_intervals}
 
 -- a text more, behind others
 joined_more : (between : List ℕ) (t : List ℕ) (ts : List (List ℕ)) (u : List ℕ) → joined between ((t ∷ ts) ++ u ∷ []) ≡ joined between (t ∷ ts) ++ (between ++ u)

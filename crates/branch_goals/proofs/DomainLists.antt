@@ -2,7 +2,7 @@
 use Rattle.std.proofs.Common.{◌≡◌, ℕ, ◌+◌, ◌<◌, ◌≤◌, ℤ, pos, List, [], ◌∷◌, ◌++◌, map, refl, ap, sym, ◌∙◌, arith}
 use Rattle.fd_language.specs.declared.TheConstants.{INFINITY}
 use Rattle.domain_ranges.specs.Spans.{IsSpans, members}
-use Rattle.machine_events.proofs.Intervals.{span_intervals}
+use Rattle.machine_events.proofs.Lemmas.{span_intervals}
 use Rattle.fd_language.specs.Term.{Int, Atom, Comp, term}
 use Rattle.fd_language.proofs.Lemmas.{two}
 use Rattle.fd_model.specs.Builtins.{those, two_terms, interval_terms}
@@ -12,7 +12,7 @@ use Rattle.heap_cells.specs.declared.Cell.{Cell}
 use Rattle.heap_cells.specs.declared.Cell.TheVariants as cell
 use Rattle.heap_cells.specs.Cells.{Cells, IsOf}
 use Rattle.heap_cells.specs.Terms.{Naming, term_of}
-use Rattle.heap_cells.proofs.Ranks.{term-Int, term-Atom}
+use Rattle.heap_cells.proofs.Lemmas.{term-Int, term-Atom}
 use Rattle.machine_frames.specs.Frames.{IsGrown}
 use Rattle.branch_state.specs.Compounds.{IsMade}
 use Rattle.branch_state.specs.States.{State, IsSound, with_heap}

@@ -22,8 +22,7 @@ use Rattle.heap_cells.specs.declared.Cell.TheVariants as cell
 use Rattle.heap_cells.specs.Cells.{Cells, Heaps, Slot, free, linked, bound, slot_at, compound_at}
 use Rattle.heap_cells.specs.Terms.{Naming, IsOneToOne, Same, term_of}
 use Rattle.heap_cells.specs.Valid.{IsHeap}
-use Rattle.heap_cells.proofs.Ranks.{term-Int}
-use Rattle.heap_cells.proofs.Substitutions.{same_apply}
+use Rattle.heap_cells.proofs.Lemmas.{term-Int, same_apply}
 use Rattle.range_code.specs.Frames.{family_of}
 use Rattle.builtin_calls.specs.Outcomes.{IsFault}
 use Rattle.builtin_calls.specs.declared.evaluation.EvalFault.{EvalFault}

@@ -18,18 +18,18 @@ use Rattle.heap_cells.specs.declared.Seen.{Seen}
 use Rattle.heap_cells.specs.declared.Seen.TheVariants as looks
 use Rattle.heap_cells.specs.Terms.{Naming, Same, term_of, terms_by}
 use Rattle.heap_cells.specs.Valid.{IsHeap}
-use Rattle.heap_cells.proofs.Ranks.{unbound_term, term-Int, term-Atom, term-Struct}
+use Rattle.heap_cells.proofs.Lemmas.{unbound_term, term-Int, term-Atom, term-Struct}
 use Rattle.range_code.specs.Frames.{family_of}
 use Rattle.machine_relation.specs.Held.{link_at, fixed_frame}
 use Rattle.machine_relation.specs.Held as held
 use Rattle.machine_relation.specs.Labelling.{labels, done, by_listing, by_picked}
 use Rattle.machine_relation.specs.Shown.{cell_set}
 use Rattle.machine_frames.specs.Frames.{frame_of, link_in}
-use Rattle.machine_frames.proofs.Ranging.{unsettled}
+use Rattle.machine_frames.proofs.Lemmas.{unsettled}
 use Rattle.label_search.specs.declared.Member.{Member}
 use Rattle.label_search.specs.declared.Member.TheVariants as member
 use Rattle.label_search.specs.Picks.{IsSeenAs, AreSeenAs, IsPlaceOf, IsPicked}
-use Rattle.label_search.proofs.Picks.{length-universe}
+use Rattle.label_search.proofs.Lemmas.{length-universe}
 use Rattle.branch_state.specs.States.{State}
 use Rattle.branch_goals.specs.declared.labelling.Labelling.TheVariants.{Done, Takes, Fault}
 use Rattle.branch_goals.specs.declared.lists.Members.{Members}

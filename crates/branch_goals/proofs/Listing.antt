@@ -24,14 +24,13 @@ use Rattle.heap_cells.specs.declared.Seen.{Seen}
 use Rattle.heap_cells.specs.declared.Seen.TheVariants as looks
 use Rattle.heap_cells.specs.Terms.{Naming, Same, term_of, terms_by}
 use Rattle.heap_cells.specs.Valid.{IsHeap}
-use Rattle.heap_cells.proofs.Ranks.{unbound_term, term-Int, term-Atom, term-Struct}
-use Rattle.heap_cells.proofs.Elements.{none_at_all, both_of}
+use Rattle.heap_cells.proofs.Lemmas.{unbound_term, term-Int, term-Atom, term-Struct, none_at_all, both_of}
 use Rattle.heap_terms.specs.Values.{only}
 use Rattle.range_code.specs.Frames.{family_of}
 use Rattle.machine_relation.specs.Held.{value_in, value_at}
 use Rattle.machine_frames.specs.Frames.{link_of, link_in}
 use Rattle.machine_frames.specs.Naming.{full}
-use Rattle.machine_frames.proofs.Naming.{full_one}
+use Rattle.machine_frames.proofs.Lemmas.{full_one}
 use Rattle.machine_frames.specs.Reading.{read_term}
 use Rattle.label_search.specs.declared.Member.{Member}
 use Rattle.label_search.specs.declared.Member.TheVariants as member

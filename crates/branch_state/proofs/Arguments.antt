@@ -17,7 +17,7 @@ use Rattle.fd_language.proofs.Lemmas.{each_before, each_after, two}
 use Rattle.range_code.specs.declared.frame.Arg.{Arg}
 use Rattle.range_code.specs.Slots.{slots_of, slot_of, slot_needs, need_at}
 use Rattle.range_code.specs.Frames.{IsArg, AreArgs, arg_at, variable_of, integer_of, slot_variable, slot_integer, posted}
-use Rattle.range_code.proofs.Once.{has_once}
+use Rattle.range_code.proofs.Lemmas.{has_once}
 use Rattle.fd_model.specs.Posting.{or_later}
 use Rattle.fd_model.specs.Posting as seen
 use Rattle.branch_state.specs.CellNaming.{slots_open}

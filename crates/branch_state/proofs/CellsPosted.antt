@@ -20,17 +20,16 @@ use Rattle.fd_model.specs.declared.kinds.QueryFault.{QueryFault}
 use Rattle.heap_cells.specs.declared.Cell.{Cell}
 use Rattle.heap_cells.specs.Cells.{Cells, Heaps, IsOf}
 use Rattle.heap_cells.specs.Terms.{Naming}
-use Rattle.heap_cells.proofs.Binding.{of_same}
+use Rattle.heap_cells.proofs.Lemmas.{of_same}
 use Rattle.range_code.specs.declared.frame.Arg.{Arg}
 use Rattle.range_code.specs.Frames.{posted, IsFrame}
 use Rattle.range_code.specs.Slots.{slots_of, slot_needs, need_at}
-use Rattle.range_code.proofs.Once.{has_once}
-use Rattle.range_code.proofs.Posted.{one_use}
+use Rattle.range_code.proofs.Lemmas.{has_once, one_use}
 use Rattle.unify_core.specs.declared.Touch.{Touch}
 use Rattle.unify_core.specs.declared.Touch.TheVariants as touch
 use Rattle.unify_core.specs.Outcome.{IfTrue, IfFalse}
 use Rattle.machine_relation.specs.Store.{posts, touched}
-use Rattle.machine_relation.proofs.RangeGoals.{plain, range_plain}
+use Rattle.machine_relation.proofs.Lemmas.{plain, range_plain}
 use Rattle.machine_frames.specs.CellRanges.{target_offence, cells_offence, filled, cells_range, Names, AreNumbers, IsTermsLinked}
 use Rattle.machine_frames.specs.Frames.{link_in, store_touches}
 use Rattle.branch_state.specs.declared.look.Look.{Look}

@@ -11,16 +11,14 @@ use Rattle.heap_cells.specs.Atoms.{IsAtomBelow, HasAtomsBelow}
 use Rattle.heap_cells.specs.Cells.{Cells, Slot, free, bound, Compound, Heaps, IsOf, slot_at, with_slot, compound_at, with_compound, AddsCompound}
 use Rattle.heap_cells.specs.Terms.{term_of, compound_term, KeepsTerms, IsAbsent, occurs}
 use Rattle.heap_cells.specs.Valid.{IsHeap}
-use Rattle.heap_cells.proofs.Atoms.{compound_below}
-use Rattle.heap_cells.proofs.Ranks.{terms_agree, term-Struct}
+use Rattle.heap_cells.proofs.Lemmas.{compound_below, terms_agree, term-Struct}
 use Rattle.machine_frames.specs.Frames.{link_of}
 use Rattle.unify_core.specs.declared.Touch.{Touch}
 use Rattle.unify_core.specs.Occurs.{IsAbsentAmong}
 use Rattle.unify_core.specs.Outcome.{IfTrue, IfFalse}
 use Rattle.unify_core.specs.Unified.{CannotUnify, IsEqualled}
-use Rattle.machine_frames.proofs.Continuing.{of_grown}
-use Rattle.unify_core.proofs.Whole.{IsBehind}
-use Rattle.unify_core.proofs.AtOnce.{left_bound}
+use Rattle.machine_frames.proofs.Lemmas.{of_grown}
+use Rattle.unify_core.proofs.Lemmas.{IsBehind, left_bound}
 use Rattle.branch_state.specs.Compounds.{IsMade, IsCompoundOf, BindsCompound}
 use Rattle.branch_state.specs.States.{State, IsSound, IsCell, with_heap}
 use Rattle.branch_state.proofs.Sound.{heaps_sound, pair_fewer}

@@ -9,7 +9,7 @@ use Rattle.fd_model.specs.Closed.{constrained}
 use Rattle.fd_model.proofs.Lemmas.{constrained_either, map_has}
 use Rattle.machine_relation.specs.Rows.{IsJoined, AreJoined}
 use Rattle.machine_relation.specs.Store.{names}
-use Rattle.machine_relation.proofs.PostRenaming.{functions}
+use Rattle.machine_relation.proofs.Lemmas.{functions}
 
 none_some : (k : ℕ) → None ≡ Some k → ⊥
 none_some k e = cc

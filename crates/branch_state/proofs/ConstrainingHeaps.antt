@@ -13,19 +13,12 @@ use Rattle.heap_cells.specs.Atoms.{HasAtomsBelow}
 use Rattle.heap_cells.specs.Cells.{Cells, Slot, free, linked, bound, is_bound, IsOf, slot_at, compound_at, with_slot, with_new_slot}
 use Rattle.heap_cells.specs.Terms.{Naming, term_of, within, slot_term, terms_by, IsAbsent, occurs, one}
 use Rattle.heap_cells.specs.Valid.{IsHeap}
-use Rattle.heap_cells.proofs.Atoms.{new_below, bound_below}
-use Rattle.heap_cells.proofs.Binding.{slot_there, slot_elsewhere, bind_valid, bind_terms}
-use Rattle.heap_cells.proofs.Elements.{head_of, tail_of}
-use Rattle.heap_cells.proofs.Growing.{var_valid}
-use Rattle.heap_cells.proofs.Ranks.{term-Int, unbound_term}
-use Rattle.heap_cells.proofs.Substitutions.{apply-Var}
+use Rattle.heap_cells.proofs.Lemmas.{new_below, bound_below, slot_there, slot_elsewhere, bind_valid, bind_terms, head_of, tail_of, var_valid, term-Int, unbound_term, apply-Var}
 use Rattle.machine_relation.specs.Held.{value_in, value_at}
-use Rattle.machine_relation.proofs.Growing.{after_is}
-use Rattle.machine_relation.proofs.Numbering.{bindings, without}
-use Rattle.machine_relation.proofs.PostRenaming.{functions}
+use Rattle.machine_relation.proofs.Lemmas.{after_is, bindings, without, functions}
 use Rattle.machine_frames.specs.Frames.{link_of, link_in, IsGrown}
 use Rattle.machine_frames.specs.Reading.{read_term}
-use Rattle.machine_frames.proofs.Growing.{grown_same, grown_both, grown_var}
+use Rattle.machine_frames.proofs.Lemmas.{grown_same, grown_both, grown_var}
 use Rattle.branch_state.specs.Constraints.{with_variables, with_integers, AreFrom, AreOpen, IsUnbound}
 
 -- ---- new variables

@@ -13,7 +13,7 @@ use Rattle.heap_cells.specs.Cells.{Cells, Compound, free, linked, is_bound, slot
 use Rattle.heap_cells.specs.Seen.{IsSeen}
 use Rattle.heap_cells.specs.Terms.{Naming, term_of, terms_by, Same}
 use Rattle.heap_cells.specs.Valid.{IsHeap}
-use Rattle.heap_cells.proofs.Ranks.{unbound_term, term-Int, term-Atom, term-Struct}
+use Rattle.heap_cells.proofs.Lemmas.{unbound_term, term-Int, term-Atom, term-Struct}
 use Rattle.machine_frames.specs.Frames.{link_of, link_in}
 use Rattle.branch_state.specs.Constraints.{IsUnbound}
 use Rattle.branch_state.specs.Listing.{LinksMore}

@@ -12,9 +12,7 @@ use Rattle.fd_language.specs.Places.{Place, range_places}
 use Rattle.fd_language.specs.Range.{Range, Indexical, reads, params}
 use Rattle.fd_language.specs.RangeRenaming.{rename_range, rename_indexical}
 use Rattle.fd_language.specs.Term.{Var, apply}
-use Rattle.fd_language.proofs.Leaves.{filled_as_is}
-use Rattle.fd_language.proofs.Lemmas.{has_either, in_left, in_right, two, map_has, reads_map}
-use Rattle.fd_language.proofs.RangePlaces.{none_placed, free_places_read}
+use Rattle.fd_language.proofs.Lemmas.{filled_as_is, has_either, in_left, in_right, two, map_has, reads_map, none_placed, free_places_read}
 use Rattle.fd_model.specs.Closed.{constrained, AllPosted}
 use Rattle.fd_model.specs.ConstraintLaws.{AllFresh}
 use Rattle.fd_model.specs.Constraining.{equations}
@@ -27,19 +25,18 @@ use Rattle.heap_cells.specs.Atoms.{HasAtomsBelow}
 use Rattle.heap_cells.specs.Cells.{Cells, IsOf, is_bound}
 use Rattle.heap_cells.specs.Terms.{Naming, term_of}
 use Rattle.heap_cells.specs.Valid.{IsHeap}
-use Rattle.heap_cells.proofs.Growing.{of_wider}
+use Rattle.heap_cells.proofs.Lemmas.{of_wider}
 use Rattle.machine_relation.specs.Rows.{AreJoined}
 use Rattle.machine_relation.specs.Store as store
 use Rattle.machine_relation.specs.Store.{IsUnified, posts}
-use Rattle.machine_relation.proofs.Numbering.{bindings, without, number_touches, AreConsecutive, each_found, numbered}
-use Rattle.machine_relation.proofs.PostRenaming.{functions}
+use Rattle.machine_relation.proofs.Lemmas.{bindings, without, number_touches, AreConsecutive, each_found, numbered, functions}
 use Rattle.machine_frames.specs.Frames.{link_of, link_in, store_touches, IsGrown}
 use Rattle.machine_frames.specs.Posting.{IsRowLinked}
-use Rattle.machine_frames.proofs.Linking.{slot_behind}
+use Rattle.machine_frames.proofs.Lemmas.{slot_behind}
 use Rattle.range_code.specs.declared.frame.Arg.TheVariants as arg
 use Rattle.range_code.specs.Frames.{AreArgs, IsArg, posted}
 use Rattle.range_code.specs.Slots.{slots_of, need_at}
-use Rattle.range_code.proofs.Once.{has_once}
+use Rattle.range_code.proofs.Lemmas.{has_once}
 use Rattle.propagate_queue.specs.declared.instance.Instance.{Instance}
 use Rattle.propagate_queue.specs.Instances.{posting, posted_by, IsInstance}
 use Rattle.propagate_queue.specs.Postings.{ranged}

@@ -14,9 +14,7 @@ use Rattle.fd_model.specs.Linear.{Comparison, IsAtMost, comparison, normal_form,
 use Rattle.fd_model.specs.LinearRows.{Expansion, linear_rows, compares, no_number}
 use Rattle.fd_model.specs.ListRows.{different_rows, units}
 use Rattle.fd_model.specs.Members.{Member, Open, Known, walk, as_member, prepend, after, placed, equated_from, fresh_after}
-use Rattle.fd_model.proofs.Collecting.{one_ok, both_ok, test_ok}
-use Rattle.fd_model.proofs.Choosing.{element_ok}
-use Rattle.fd_model.proofs.Counters.{atmost_ok}
+use Rattle.fd_model.proofs.Lemmas.{one_ok, both_ok, test_ok, element_ok, atmost_ok}
 use Rattle.std.proofs.lemmas.Option.{slice_get-get_or}
 use Rattle.term_pool.specs.declared.TermId.{TermId}
 use Rattle.term_pool.specs.Contents.{Contents, Entry, Shape, var, int, atom, comp, name_in}
@@ -25,7 +23,7 @@ use Rattle.term_pool.specs.Valid.{IsPool, IsWithin, IsStorable, AreStorable}
 use Rattle.term_pool.proofs.Lemmas.{term_of_shape, term_is_storable}
 use Rattle.constraint_expand.specs.declared.faults.ExpandFault.{ExpandFault}
 use Rattle.constraint_expand.specs.Views.{Expands}
-use Rattle.heap_cells.proofs.Elements.{head_of, tail_of}
+use Rattle.heap_cells.proofs.Lemmas.{head_of, tail_of}
 use Rattle.branch_state.specs.Constraints.{AreFrom, AreWords}
 
 -- the equated variables of members are the next ones

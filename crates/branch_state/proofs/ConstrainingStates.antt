@@ -11,8 +11,7 @@ use Rattle.fd_model.specs.Closed.{AllPosted}
 use Rattle.fd_model.specs.Constraining.{arguments, expand}
 use Rattle.fd_model.specs.Levels.{Level, Levels}
 use Rattle.fd_model.specs.LinearRows.{Expansion}
-use Rattle.fd_model.proofs.Lemmas.{scoped_rows}
-use Rattle.fd_model.proofs.RowDirections.{Fitting, expand_fitting}
+use Rattle.fd_model.proofs.Lemmas.{scoped_rows, Fitting, expand_fitting}
 use Rattle.heap_cells.specs.declared.Cell.{Cell}
 use Rattle.heap_cells.specs.Atoms.{IsAtomBelow, HasAtomsBelow}
 use Rattle.heap_cells.specs.Terms.{term_of}
@@ -23,7 +22,7 @@ use Rattle.constraint_expand.specs.declared.faults.ExpandFault.TheVariants.{NoMe
 use Rattle.constraint_expand.specs.Faults.{fault_of, IsFaultOf}
 use Rattle.heap_cells.specs.Cells.{Cells, Heaps}
 use Rattle.machine_relation.specs.Store.{posts}
-use Rattle.machine_relation.proofs.Numbering.{bindings}
+use Rattle.machine_relation.proofs.Lemmas.{bindings}
 use Rattle.machine_frames.specs.Frames.{store_touches}
 use Rattle.machine_frames.specs.Naming.{full}
 use Rattle.machine_frames.specs.Reading.{read_term}

@@ -13,7 +13,7 @@ use Rattle.range_code.specs.Slots.{slots_of}
 use Rattle.unify_core.specs.declared.Touch.{Touch}
 use Rattle.unify_core.specs.declared.Touch.TheVariants.{Value}
 use Rattle.machine_frames.specs.Frames.{link_of, link_in}
-use Rattle.machine_frames.proofs.Linking.{slot_behind}
+use Rattle.machine_frames.proofs.Lemmas.{slot_behind}
 use Rattle.branch_state.specs.Constraints.{variables_in, firsts, store_variable, row_touches, with_integers, AreFrom, AreOpen, AreLinked}
 use Rattle.branch_state.specs.Naming.{or_zero}
 use Rattle.branch_state.proofs.ConstrainingHeaps.{bound_size, bound_else}

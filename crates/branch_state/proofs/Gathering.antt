@@ -10,8 +10,8 @@ use Rattle.fd_language.specs.Places.{Place, range_places}
 use Rattle.fd_language.specs.RangeVerdict.{has_one_use}
 use Rattle.fd_model.specs.Posting.{offence_at, or_later, first_offence}
 use Rattle.fd_language.proofs.Lemmas.{two}
-use Rattle.machine_relation.proofs.RangeGoals.{plain}
-use Rattle.range_code.proofs.Once.{has_kept}
+use Rattle.machine_relation.proofs.Lemmas.{plain}
+use Rattle.range_code.proofs.Lemmas.{has_kept}
 use Rattle.range_code.specs.Slots.{slots_of, slot_needs, need_at}
 use Rattle.branch_state.specs.Naming.{offence, first_in, Apart}
 use Rattle.branch_state.proofs.Lists.{filter_agree, once_filter}

@@ -14,7 +14,7 @@ use Rattle.heap_cells.specs.declared.Seen.TheVariants as seen
 use Rattle.heap_cells.specs.Seen.{IsSeen}
 use Rattle.heap_cells.specs.Terms.{Naming, term_of, Same, terms_by}
 use Rattle.heap_cells.specs.Valid.{IsHeap}
-use Rattle.heap_cells.proofs.Ranks.{unbound_term, term-Int, term-Atom, term-Struct}
+use Rattle.heap_cells.proofs.Lemmas.{unbound_term, term-Int, term-Atom, term-Struct}
 use Rattle.term_pool.specs.declared.AtomId.{AtomId}
 use Rattle.unify_core.specs.Touches.{IsSymbolic}
 use Rattle.machine_relation.specs.Held.{value_in, value_at}

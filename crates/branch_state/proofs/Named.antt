@@ -10,16 +10,15 @@ use Rattle.fd_language.proofs.Lemmas.{has_either, in_left, in_right, in_universe
 use Rattle.fd_model.specs.Posting.{slot, is_integer, integer_of}
 use Rattle.fd_model.proofs.Lemmas.{slot_out, slot_low, slot_high}
 use Rattle.heap_cells.specs.Cells.{Cells, free, linked, slot_at, with_slot}
-use Rattle.heap_cells.proofs.Atoms.{linked_below}
-use Rattle.heap_cells.proofs.Binding.{slot_there, slot_elsewhere}
+use Rattle.heap_cells.proofs.Lemmas.{linked_below, slot_there, slot_elsewhere}
 use Rattle.range_code.specs.Frames.{family_of}
-use Rattle.range_code.proofs.Once.{has_kept}
+use Rattle.range_code.proofs.Lemmas.{has_kept}
 use Rattle.unify_core.specs.declared.Touch.{Touch}
 use Rattle.unify_core.specs.declared.Touch.TheVariants.{Value}
 use Rattle.machine_relation.specs.Held.{value_in, value_at}
 use Rattle.machine_frames.specs.Frames.{link_of, link_in}
 use Rattle.machine_frames.specs.Posting.{Listed, IsLinkedMore}
-use Rattle.machine_frames.proofs.Growing.{linked_none, linked_next}
+use Rattle.machine_frames.proofs.Lemmas.{linked_none, linked_next}
 use Rattle.branch_state.specs.declared.look.Look.{Look}
 use Rattle.branch_state.specs.declared.look.Look.TheVariants.{Open, Linked, Number, Symbol}
 use Rattle.branch_state.specs.Naming.{LooksAs, integers, or_zero, linked_to, variable_of, values, Apart, IsNaming, NameStep, OwnLinks}

@@ -8,8 +8,8 @@ use Rattle.fd_language.specs.Range.{Range, Span, One, Dom, Union, Inter, Outside
 use Rattle.fd_language.specs.Places.{Place, expr_places, range_places}
 use Rattle.fd_language.specs.RangeVerdict.{has_one_use}
 use Rattle.fd_language.proofs.Lemmas.{two}
-use Rattle.machine_relation.proofs.RangeGoals.{plain, range_plain}
-use Rattle.range_code.proofs.Standings.{reads_filled}
+use Rattle.machine_relation.proofs.Lemmas.{plain, range_plain}
+use Rattle.range_code.proofs.Lemmas.{reads_filled}
 
 -- the variables that stand as parameters
 abbrev pub as_parameters : List Place → List ℕ

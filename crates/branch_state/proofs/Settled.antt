@@ -10,7 +10,7 @@ use Rattle.fd_model.specs.Closed.{constrained}
 use Rattle.fd_model.specs.Domains.{Domains}
 use Rattle.fd_model.specs.Models.{IsModel}
 use Rattle.fd_model.proofs.Lemmas.{closed_without}
-use Rattle.machine_relation.proofs.Posting.{holds_agree}
+use Rattle.machine_relation.proofs.Lemmas.{holds_agree}
 use Rattle.range_code.specs.Frames.{family_of}
 use Rattle.fd_model.specs.Levels.{Level}
 use Rattle.propagate_queue.specs.Running.{AreDomains, HasNone}

@@ -15,8 +15,7 @@ use Rattle.heap_cells.specs.Atoms.{IsAtomBelow, HasAtomsBelow}
 use Rattle.heap_cells.specs.Cells.{Cells, Slot, free, linked, bound, slot_at, IsOf}
 use Rattle.heap_cells.specs.Terms.{term_of}
 use Rattle.heap_cells.specs.Valid.{IsHeap}
-use Rattle.heap_cells.proofs.Elements.{head_of, tail_of, none_at_all, both_of, all_front, last_of, all_reverse}
-use Rattle.heap_cells.proofs.Substitutions.{same_apply}
+use Rattle.heap_cells.proofs.Lemmas.{head_of, tail_of, none_at_all, both_of, all_front, last_of, all_reverse, same_apply}
 use Rattle.heap_terms.specs.Values.{only, set_in, value_of, shown_slot, shown, shown_term}
 use Rattle.term_pool.specs.declared.AtomId.{AtomId}
 use Rattle.term_pool.specs.declared.TermId.{TermId}
@@ -26,14 +25,14 @@ use Rattle.term_pool.specs.Contents.{Contents, comp, name_in}
 use Rattle.term_pool.specs.Terms as pool
 use Rattle.term_pool.specs.Terms.{KeepsTerms, Extends, total_size}
 use Rattle.term_pool.specs.Valid.{shape_of}
-use Rattle.term_pool.proofs.Walks.{rest_is_smaller, parts_are_smaller, total_size-append, total_size-cons, total_size-nil}
+use Rattle.term_pool.proofs.Lemmas.{rest_is_smaller, parts_are_smaller, total_size-append, total_size-cons, total_size-nil}
 use Rattle.machine_relation.specs.Held.{value_in, value_at}
 use Rattle.range_code.specs.Frames.{family_of}
-use Rattle.range_code.proofs.Once.{once_more, keys_more, has_once, any_has}
+use Rattle.range_code.proofs.Lemmas.{once_more, keys_more, has_once, any_has}
 use Rattle.machine_frames.specs.Frames.{link_of, link_in}
 use Rattle.machine_frames.specs.Naming.{full}
 use Rattle.machine_frames.specs.Reading.{read_term}
-use Rattle.machine_frames.proofs.Naming.{full_term}
+use Rattle.machine_frames.proofs.Lemmas.{full_term}
 use Rattle.branch_state.specs.Showing.{terms_read, with_set, with_sets, variables_at, AreShowable, AreGathered}
 use Rattle.branch_state.proofs.Lists.{same_test, filter_agree}
 

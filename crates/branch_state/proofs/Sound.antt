@@ -11,9 +11,7 @@ use Rattle.heap_cells.specs.declared.Cell.{Cell}
 use Rattle.heap_cells.specs.Atoms.{IsAtomBelow, HasAtomsBelow}
 use Rattle.heap_cells.specs.Cells.{Cells, Compound, Heaps, no_cells, with_new_slot, with_now}
 use Rattle.heap_cells.specs.Valid.{IsHeap}
-use Rattle.heap_cells.proofs.Atoms.{new_below}
-use Rattle.heap_cells.proofs.Elements.{none_at_all}
-use Rattle.heap_cells.proofs.Growing.{new_slot_at}
+use Rattle.heap_cells.proofs.Lemmas.{new_below, none_at_all, new_slot_at}
 use Rattle.term_pool.specs.declared.TheConstants.{NIL}
 use Rattle.unify_core.specs.declared.Touch.{Touch}
 use Rattle.unify_core.specs.declared.Touch.TheVariants.{Value, Same}
@@ -23,8 +21,7 @@ use Rattle.unify_core.specs.Touches.{NamesLinked}
 use Rattle.unify_core.specs.Unified.{AreUnified, IsEqualled, KeepsAtoms}
 use Rattle.propagate_queue.specs.Running.{AreDomains}
 use Rattle.machine_frames.specs.Frames.{link_in, link_of}
-use Rattle.machine_frames.proofs.Linking.{slot_behind}
-use Rattle.machine_frames.proofs.Unifying.{linked_at, link_at}
+use Rattle.machine_frames.proofs.Lemmas.{slot_behind, linked_at, link_at}
 use Rattle.branch_state.specs.States.{State, IsPair, ArePairs, IsSound, IsSettled, first_state, no_level, IsCell}
 use Rattle.branch_state.specs.Steps.{IsTouchBelow, AreTouchesBelow, posted_with}
 use Rattle.branch_state.proofs.Settled.{settled}

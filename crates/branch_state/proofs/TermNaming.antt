@@ -9,15 +9,13 @@ use Rattle.fd_language.specs.Term.{Term, Var, Int, Atom, Comp, apply}
 use Rattle.heap_cells.specs.declared.Cell.{Cell}
 use Rattle.heap_cells.specs.Cells.{Cells, IsOf, free, linked, slot_at, with_slot}
 use Rattle.heap_cells.specs.Terms.{Naming, term_of}
-use Rattle.heap_cells.proofs.Atoms.{linked_below}
-use Rattle.heap_cells.proofs.Binding.{of_same, slot_there, slot_elsewhere}
-use Rattle.heap_cells.proofs.Substitutions.{same_apply}
+use Rattle.heap_cells.proofs.Lemmas.{linked_below, of_same, slot_there, slot_elsewhere, same_apply}
 use Rattle.range_code.specs.Frames.{family_of}
 use Rattle.unify_core.specs.declared.Touch.{Touch}
 use Rattle.unify_core.specs.declared.Touch.TheVariants.{Value, Same}
 use Rattle.machine_relation.specs.Held.{value_at}
 use Rattle.machine_frames.specs.Frames.{link_of, link_in}
-use Rattle.machine_frames.proofs.Growing.{linked_none, linked_next}
+use Rattle.machine_frames.proofs.Lemmas.{linked_none, linked_next}
 use Rattle.branch_state.specs.declared.look.Look.{Look}
 use Rattle.branch_state.specs.declared.look.Look.TheVariants.{Open, Linked, Number, Symbol}
 use Rattle.branch_state.specs.CellNaming.{shown_as, slot_in, AreTold, IsTold, IsTermNaming, IsPut, TermStep}

@@ -16,17 +16,17 @@ use Rattle.fd_language.specs.RangeVerdict.{is_accepted}
 use Rattle.fd_language.proofs.Lemmas.{has_either, in_right}
 use Rattle.range_code.specs.declared.frame.Arg.{Arg}
 use Rattle.range_code.specs.Frames.{IsFrame, posted}
-use Rattle.range_code.proofs.Posted.{posted_below}
+use Rattle.range_code.proofs.Lemmas.{posted_below}
 use Rattle.fd_model.specs.Closed.{constrained}
 use Rattle.fd_model.proofs.Lemmas.{posted_right, constrained_either}
-use Rattle.heap_cells.proofs.Elements.{head_of, tail_of}
+use Rattle.heap_cells.proofs.Lemmas.{head_of, tail_of}
 use Rattle.unify_core.specs.declared.Touch.{Touch}
 use Rattle.unify_core.specs.declared.Touch.TheVariants.{Value, Same}
 use Rattle.propagate_queue.specs.declared.instance.Instance.{Instance}
 use Rattle.propagate_queue.specs.Instances.{posting, posted_by, IsInstance}
 use Rattle.propagate_queue.specs.Postings.{Posting, ranged, IsPosting}
 use Rattle.machine_relation.specs.Store.{posts, touched}
-use Rattle.machine_relation.proofs.Touching.{set_term, set_term_int, as_equations}
+use Rattle.machine_relation.proofs.Lemmas.{set_term, set_term_int, as_equations}
 use Rattle.machine_frames.specs.Frames.{store_touches}
 use Rattle.branch_state.specs.Naming.{goal_ranges}
 use Rattle.branch_state.specs.Posting.{is_natural, touch_postings, postings}

@@ -13,8 +13,7 @@ use Rattle.heap_cells.specs.declared.Seen.TheVariants as seen
 use Rattle.heap_cells.specs.Cells.{Cells, Compound, IsOf}
 use Rattle.heap_cells.specs.Terms.{Naming, terms_by, Same}
 use Rattle.heap_cells.specs.Valid.{IsHeap}
-use Rattle.heap_cells.proofs.Elements.{none_at_all, both_of, all_front, last_of, all_reverse, all_push, head_of, tail_of}
-use Rattle.heap_cells.proofs.Substitutions.{size_positive}
+use Rattle.heap_cells.proofs.Lemmas.{none_at_all, both_of, all_front, last_of, all_reverse, all_push, head_of, tail_of, size_positive}
 use Rattle.builtin_calls.specs.declared.identity.Pair.{Pair}
 use Rattle.builtin_calls.specs.Reading.{family_of, read_term, seen_term}
 use Rattle.builtin_calls.specs.Shown.{shown, IsHeld}

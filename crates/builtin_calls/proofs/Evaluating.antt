@@ -12,8 +12,7 @@ use Rattle.heap_cells.specs.Cells.{Cells, Compound, IsOf}
 use Rattle.heap_cells.specs.Terms.{Naming, terms_by}
 use Rattle.heap_cells.specs.Atoms.{HasAtomsBelow, IsAtomBelow}
 use Rattle.heap_cells.specs.Valid.{IsHeap}
-use Rattle.heap_cells.proofs.Elements.{none_at_all, all_front, last_of, all_push, head_of, tail_of}
-use Rattle.heap_cells.proofs.Substitutions.{size_positive}
+use Rattle.heap_cells.proofs.Lemmas.{none_at_all, all_front, last_of, all_push, head_of, tail_of, size_positive}
 use Rattle.builtin_calls.specs.declared.evaluation.EvalFault.{EvalFault}
 use Rattle.builtin_calls.specs.declared.evaluation.EvalFault.TheVariants as fault
 use Rattle.builtin_calls.specs.declared.waiting.Operation.{Operation}

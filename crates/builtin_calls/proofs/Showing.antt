@@ -13,7 +13,7 @@ use Rattle.heap_cells.specs.Cells.{Cells, is_bound, slot_at, Compound}
 use Rattle.heap_cells.specs.Terms.{Naming, terms_by, term_of}
 use Rattle.heap_cells.specs.Seen.{IsSeen}
 use Rattle.heap_cells.specs.Valid.{IsHeap}
-use Rattle.heap_cells.proofs.Ranks.{unbound_term, term-Int, term-Atom, term-Struct}
+use Rattle.heap_cells.proofs.Lemmas.{unbound_term, term-Int, term-Atom, term-Struct}
 use Rattle.builtin_calls.specs.Reading.{family_of, link_of, value_in, value_at, read_term, seen_term}
 use Rattle.builtin_calls.specs.Shown.{only, shown, IsHeld}
 

@@ -14,7 +14,7 @@ use Rattle.term_pool.specs.declared.TermId.{TermId}
 use Rattle.term_pool.specs.Contents.{Contents, atom_name}
 use Rattle.term_pool.specs.Terms.{term_of}
 use Rattle.term_pool.specs.PlacedTerms.{placed_of}
-use Rattle.term_reader.proofs.Plain.{plain_placed}
+use Rattle.term_reader.proofs.Lemmas.{plain_placed}
 use Rattle.term_reader.specs.declared.reader.Sentence.{Sentence}
 use Rattle.term_reader.specs.declared.reader.Sentences.{Sentences}
 use Rattle.clause_check.specs.declared.program.FlatClause.{FlatClause}

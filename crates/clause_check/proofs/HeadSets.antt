@@ -13,8 +13,8 @@ use Rattle.fd_model.specs.Refusals.{is_that, is_defined, head_in, form_of}
 use Rattle.term_pool.specs.declared.AtomId.{AtomId}
 use Rattle.term_pool.specs.Contents.{Contents, atom_name}
 use Rattle.term_pool.specs.Valid.{IsPool}
-use Rattle.term_pool.proofs.Names.{same_text}
-use Rattle.term_reader.proofs.Naming.{same_id}
+use Rattle.term_pool.proofs.Lemmas.{same_text}
+use Rattle.term_reader.proofs.Lemmas.{same_id}
 use Rattle.indexmap.specs.IndexSet.{insert_key}
 use Rattle.clause_check.specs.declared.terms.Functor.{Functor}
 use Rattle.clause_check.specs.Heads.{same_functor, AreHeadsOf}

@@ -21,7 +21,7 @@ use Rattle.term_pool.specs.declared.TermId.{TermId}
 use Rattle.term_pool.specs.Contents.{Contents}
 use Rattle.term_pool.specs.Terms.{term_of}
 use Rattle.term_pool.specs.PlacedTerms.{placed_of}
-use Rattle.term_reader.proofs.Plain.{plain_placed}
+use Rattle.term_reader.proofs.Lemmas.{plain_placed}
 use Rattle.clause_check.specs.declared.program.FlatGoal.{FlatGoal}
 use Rattle.clause_check.specs.declared.program.FlatGoal.TheVariants.{Unify, Post, Label, Call}
 use Rattle.clause_check.specs.Kept.{AreAccepted, KeepsGoal}

@@ -14,8 +14,7 @@ use Rattle.fd_model.specs.Goal as model
 use Rattle.fd_model.specs.Queries.{is_shown, shown_from, queries_by, queries_of, program_of}
 use Rattle.fd_model.specs.Refusals.{Form, query, clause, directive, fact, form_of, first_refusal}
 use Rattle.fd_model.specs.Sound.{NumbersBelow, QueriesScoped, IsScoped, IsRunnableProgram}
-use Rattle.fd_model.proofs.ProgramScopes.{clauses_scoped, queries_scoped}
-use Rattle.fd_model.proofs.Runnable.{accepted_runnable}
+use Rattle.fd_model.proofs.Lemmas.{clauses_scoped, queries_scoped, accepted_runnable}
 use Rattle.term_pool.specs.Contents.{Contents, atom_name}
 use Rattle.term_pool.specs.Terms.{term_of}
 use Rattle.term_pool.specs.PlacedTerms.{placed_of}
@@ -24,7 +23,7 @@ use Rattle.term_reader.specs.declared.reader.Sentences.{Sentences}
 use Rattle.term_reader.specs.Sentences.{sentence_of, sentences_of, AreOwn}
 use Rattle.term_reader.specs.GivenParts.{HasParts, HaveParts}
 use Rattle.term_reader.specs.Named.{VariablesBelow, AllVariablesBelow, HasNames, HaveNames}
-use Rattle.term_reader.proofs.Plain.{plain_placed}
+use Rattle.term_reader.proofs.Lemmas.{plain_placed}
 use Rattle.clause_check.specs.declared.check.Parts.{Parts}
 use Rattle.clause_check.specs.GoalStores.{stored}
 use Rattle.clause_check.specs.Parts.{IsQueryWithin, StandsFor, queries_kept}

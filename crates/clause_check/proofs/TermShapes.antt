@@ -9,7 +9,7 @@ use Rattle.fd_model.specs.Queries.{goal_of, body_goals}
 use Rattle.fd_model.specs.Refusals.{fact, form_of, goals_of, count}
 use Rattle.term_pool.specs.declared.TermId.{TermId}
 use Rattle.term_pool.specs.PlacedTerms.{parts_by}
-use Rattle.term_pool.proofs.Names.{same_text}
+use Rattle.term_pool.proofs.Lemmas.{same_text}
 
 pub count_parts : (by : TermId → PlacedTerm) (ts : List TermId) → count (parts_by by ts) ≡ length ts
 count_parts by [] = refl

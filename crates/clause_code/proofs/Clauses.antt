@@ -22,8 +22,8 @@ use Rattle.wam_code.specs.Verified.{goes_on, Covers, IsFirst}
 use Rattle.wam_code.specs.Places.{Places, read, no_slots, Hold, count, made}
 use Rattle.wam_code.specs.Means.{Caller, Shows, Means}
 use Rattle.wam_code.specs.Tries.{IsBefore}
-use Rattle.wam_code.proofs.Keeping.{covers_self}
-use Rattle.machine_relation.proofs.PostRenaming.{functions}
+use Rattle.wam_code.proofs.Lemmas.{covers_self}
+use Rattle.machine_relation.proofs.Lemmas.{functions}
 use Rattle.clause_code.specs.Pieces.{Base, Predicate, past, Does, Ends}
 use Rattle.clause_code.specs.Safe.{unplaced, aims, is_plain, IsThereIn, IsSafePiece, IsClauseCode, IsQueryPiece}
 use Rattle.clause_code.specs.Flowing.{is_inner, Runs, Flows, MayEnter}

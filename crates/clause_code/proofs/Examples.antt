@@ -9,7 +9,7 @@ use Rattle.fd_model.specs.Children.{paired}
 use Rattle.term_pool.specs.declared.AtomId.{AtomId}
 use Rattle.term_pool.specs.Contents.{atom_name}
 use Rattle.machine_relation.specs.Heap.{Of, AllOf, EquationsOf}
-use Rattle.machine_relation.proofs.Growing.{more_of}
+use Rattle.machine_relation.proofs.Lemmas.{more_of}
 use Rattle.wam_code.specs.declared.instruction.Register.TheVariants.{X}
 use Rattle.wam_code.specs.declared.instruction.Code.{Code}
 use Rattle.wam_code.specs.declared.instruction.Code.TheVariants.{GetStructure, UnifyVariable, UnifyValue, UnifyVoid, Execute}

@@ -4,7 +4,7 @@ use Rattle.std.proofs.lemmas.Bool.{cases_eq}
 use Rattle.std.proofs.lemmas.List.Elements.{All-append}
 use Rattle.fd_language.specs.Term.{Name, Term, Terms, Var, Comp, no_terms, term}
 use Rattle.machine_relation.specs.Heap.{Of, AllOf}
-use Rattle.machine_relation.proofs.Growing.{more_all}
+use Rattle.machine_relation.proofs.Lemmas.{more_all}
 use Rattle.term_pool.specs.declared.TermId.{TermId}
 use Rattle.term_pool.specs.Contents.{Contents, comp}
 use Rattle.term_pool.specs.Terms.{term_of, terms_by, shape_term, total_size}

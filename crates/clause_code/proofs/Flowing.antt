@@ -9,7 +9,7 @@ use Rattle.wam_code.specs.declared.instruction.Code.TheVariants.{Jump, Either, F
 use Rattle.wam_code.specs.Area.{State}
 use Rattle.wam_code.specs.Effect.{effect_by, effect}
 use Rattle.wam_code.specs.Verified.{goes_on, Covers}
-use Rattle.wam_code.proofs.Keeping.{covers_self}
+use Rattle.wam_code.proofs.Lemmas.{covers_self}
 use Rattle.clause_code.specs.Pieces.{Base, past}
 use Rattle.clause_code.specs.Laws.{other_side, sides}
 use Rattle.clause_code.specs.Safe.{unplaced, aims, is_plain, HandedIn, LeadsIn, IsThereIn, IsSafePiece, may_enter}

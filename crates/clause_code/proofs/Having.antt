@@ -5,7 +5,7 @@ use Rattle.fd_language.specs.Unifier.{Equation}
 use Rattle.fd_model.specs.Goal.{Goal}
 use Rattle.machine_relation.specs.Heap.{Below}
 use Rattle.machine_relation.specs.Says.{SaysSame}
-use Rattle.machine_relation.proofs.Growing.{more_each}
+use Rattle.machine_relation.proofs.Lemmas.{more_each}
 use Rattle.wam_code.specs.declared.instruction.Register.{Register}
 use Rattle.wam_code.specs.declared.instruction.Register.TheVariants.{X, Y}
 use Rattle.wam_code.specs.declared.instruction.Code.{Code}

@@ -29,3 +29,4 @@ pub mod Asking
 pub mod Sides
 pub mod Finding
 pub mod Short
+pub mod Lemmas

@@ -22,7 +22,7 @@ use Rattle.wam_code.specs.declared.parts.Entry.{Entry}
 use Rattle.wam_code.specs.Area.{Area, HasEntry, name_of, range_at}
 use Rattle.wam_code.specs.Places.{Places, read, write, learn, without, no_registers, no_slots, IsFresh, IsWhole, IsSettled, Hold, count, made}
 use Rattle.wam_code.specs.Means.{Owed, Caller, UnifyRule, BuiltinRule, ConstrainRule, LabelRule, CallRule, HoldVars, Shows, Rule, Restates, Means}
-use Rattle.wam_code.proofs.Steps.{from_rule, from_learning, from_restating}
+use Rattle.wam_code.proofs.Lemmas.{from_rule, from_learning, from_restating}
 use Rattle.clause_code.specs.Splitting.{joined}
 use Rattle.clause_code.specs.Pieces.{Predicate, predicate_of, Base, base_of, Stand, past, Does, Parts, Ends}
 

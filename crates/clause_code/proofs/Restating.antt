@@ -6,7 +6,7 @@ use Rattle.fd_language.specs.Unifier.{Equation, Unifies}
 use Rattle.fd_model.specs.Goal.{Goal}
 use Rattle.machine_relation.specs.Heap.{AllOf, EquationsOf}
 use Rattle.machine_relation.specs.Says.{SaysSame}
-use Rattle.machine_relation.proofs.Growing.{agree, agree_each, more_of, more_all, more_each}
+use Rattle.machine_relation.proofs.Lemmas.{agree, agree_each, more_of, more_all, more_each}
 use Rattle.wam_code.specs.Places.{Places, Has}
 use Rattle.clause_code.specs.Pieces.{Base, Does}
 use Rattle.clause_code.specs.Splitting.{joined, whole, apart}

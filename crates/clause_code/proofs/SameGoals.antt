@@ -5,7 +5,7 @@ use Rattle.fd_language.specs.RangeRenaming.{rename_expr, rename_range}
 use Rattle.fd_language.proofs.Lemmas.{two}
 use Rattle.fd_model.specs.Goal.{Goal, Goals, no_goals, goal, True, Fail, Unify, Post, Constrain, Label, Call, Either, Builtin}
 use Rattle.fd_model.specs.Renaming.{rename_goal, rename_goals}
-use Rattle.machine_relation.proofs.Growing.{same_term}
+use Rattle.machine_relation.proofs.Lemmas.{same_term}
 
 abbrev itself : ℕ → ℕ
 itself x = x

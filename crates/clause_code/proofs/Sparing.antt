@@ -3,7 +3,7 @@ use Rattle.std.proofs.Common.{◌≡◌, ℕ, suc, ◌+◌, ◌<◌, ◌≤◌, 
 use Rattle.std.proofs.lemmas.Bool.{cases_eq}
 use Rattle.fd_language.specs.Term.{Term, Terms, Var, Int, Atom, Comp, no_terms, term}
 use Rattle.machine_relation.specs.Heap.{Of, AllOf}
-use Rattle.machine_relation.proofs.Growing.{more_all}
+use Rattle.machine_relation.proofs.Lemmas.{more_all}
 use Rattle.term_pool.specs.Contents.{Contents}
 use Rattle.wam_code.specs.declared.instruction.Register.{Register}
 use Rattle.wam_code.specs.declared.instruction.Register.TheVariants.{X}

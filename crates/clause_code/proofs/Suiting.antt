@@ -8,7 +8,7 @@ use Rattle.term_pool.specs.declared.TermId.{TermId}
 use Rattle.term_pool.specs.Contents.{Contents, Shape, var, int, atom, comp, Entry, atom_name}
 use Rattle.term_pool.specs.Terms.{term_of, terms_by, shape_term}
 use Rattle.term_pool.specs.Valid.{IsPool, IsWithin}
-use Rattle.term_pool.proofs.Laws.{term_of_entry}
+use Rattle.term_pool.proofs.Lemmas.{term_of_entry}
 use Rattle.clause_check.specs.Codable.{arguments_in}
 use Rattle.wam_code.specs.Places.{count}
 use Rattle.clause_code.specs.Codable.{IsNarrow, AreNarrow}

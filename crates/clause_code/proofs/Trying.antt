@@ -4,7 +4,7 @@ use Rattle.fd_model.specs.Goal.{Clause}
 use Rattle.wam_code.specs.declared.instruction.Code.TheVariants.{Jump, FailNow, TryMeElse, RetryMeElse, TrustMe, Try, Retry, Trust}
 use Rattle.wam_code.specs.Area.{Area, Holds}
 use Rattle.wam_code.specs.Tries.{Shape, Tries}
-use Rattle.wam_code.proofs.Trying.{try_from_rule}
+use Rattle.wam_code.proofs.Lemmas.{try_from_rule}
 use Rattle.clause_code.specs.Pieces.{Stand}
 use Rattle.clause_code.specs.Trying.{EachTries, rest_of_list, list_of}
 

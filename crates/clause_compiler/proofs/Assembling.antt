@@ -27,7 +27,7 @@ use Rattle.clause_code.specs.Pieces.{Predicate, predicate_of, base_of, Stand}
 use Rattle.clause_code.specs.Predicates.{ArePredicates, base_in, predicate_at, no_predicate}
 use Rattle.clause_code.specs.Safe.{IsClauseCode, IsQueryPiece}
 use Rattle.clause_code.specs.Trying.{list_of}
-use Rattle.clause_code.proofs.Trying.{list_tries}
+use Rattle.clause_code.proofs.Lemmas.{list_tries}
 use Rattle.clause_compiler.specs.Switching.{code_of, AreChoicesBy, AreKeysIn, AreRising}
 use Rattle.clause_compiler.specs.Keys.{key_of, argument_key, is_switched}
 use Rattle.clause_compiler.specs.Switched.{ShowsKind, IsClauseOf, HasSwitches}

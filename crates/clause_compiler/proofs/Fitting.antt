@@ -14,7 +14,7 @@ use Rattle.term_pool.specs.declared.TermId.{TermId}
 use Rattle.term_pool.specs.Contents.{Contents, Entry, Shape, var, int, atom, comp, atom_name, shape_at}
 use Rattle.term_pool.specs.Terms.{term_of, shape_term, terms_by}
 use Rattle.term_pool.specs.Valid.{IsPool, IsWithin}
-use Rattle.term_pool.proofs.Laws.{term_of_shape}
+use Rattle.term_pool.proofs.Lemmas.{term_of_shape}
 use Rattle.clause_check.specs.Programs.{FlatProgram, clause_at, no_clause, IsProgram}
 use Rattle.wam_code.specs.Places.{count, made}
 use Rattle.clause_code.specs.Pieces.{Predicate}

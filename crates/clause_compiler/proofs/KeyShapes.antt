@@ -7,7 +7,7 @@ use Rattle.term_pool.specs.declared.TermId.{TermId}
 use Rattle.term_pool.specs.Contents.{Contents, Shape, var, int, atom, comp, shape_at}
 use Rattle.term_pool.specs.Terms.{shape_term}
 use Rattle.term_pool.specs.Valid.{IsPool}
-use Rattle.term_pool.proofs.Laws.{term_of_shape}
+use Rattle.term_pool.proofs.Lemmas.{term_of_shape}
 use Rattle.wam_code.specs.declared.instruction.Key.{Key}
 use Rattle.wam_code.specs.declared.instruction.Key.TheVariants as key
 use Rattle.wam_code.specs.Tries as tries

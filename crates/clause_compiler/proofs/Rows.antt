@@ -17,7 +17,7 @@ use Rattle.wam_code.specs.Area.{Area, Table, name_of}
 use Rattle.wam_code.specs.Verified.{arms, IsKey}
 use Rattle.wam_code.specs.Tries as tries
 use Rattle.wam_code.specs.Tries.{Clash, IsShape, Rows}
-use Rattle.clause_code.proofs.Rests.{count_terms}
+use Rattle.clause_code.proofs.Lemmas.{count_terms}
 use Rattle.clause_compiler.specs.Keys.{shape_key, some_key, term_key, argument_key}
 use Rattle.clause_compiler.specs.Keyed.{same_key, may_have}
 use Rattle.clause_compiler.proofs.Keying.{same_means, same_itself}

@@ -12,7 +12,7 @@ use Rattle.term_pool.specs.declared.TermId.{TermId}
 use Rattle.term_pool.specs.Contents.{Contents, Entry, Shape, var, int, atom, comp, shape_at}
 use Rattle.term_pool.specs.Terms.{term_of, terms_by, shape_term}
 use Rattle.term_pool.specs.Valid.{IsPool}
-use Rattle.term_pool.proofs.Laws.{term_of_shape, shape_within}
+use Rattle.term_pool.proofs.Lemmas.{term_of_shape, shape_within}
 use Rattle.clause_check.specs.Codable.{IsNarrow, ClausesCodable, arguments_in}
 use Rattle.clause_check.specs.Programs.{FlatProgram}
 use Rattle.wam_code.specs.Places.{count, made}

@@ -19,11 +19,11 @@ use Rattle.wam_code.specs.Area.{Area, Table, Holds, table_at}
 use Rattle.wam_code.specs.Verified.{arms, named, IsKey, IsThere}
 use Rattle.wam_code.specs.Tries as tries
 use Rattle.wam_code.specs.Tries.{Clash, ClashFirst, IsShape, Rows, TryRule, Tries}
-use Rattle.wam_code.proofs.Trying.{try_from_rule}
+use Rattle.wam_code.proofs.Lemmas.{try_from_rule}
 use Rattle.clause_code.specs.Pieces.{Predicate}
 use Rattle.clause_code.specs.Predicates.{ArePredicates}
 use Rattle.clause_code.specs.Trying.{list_of}
-use Rattle.clause_code.proofs.Trying.{list_tries}
+use Rattle.clause_code.proofs.Lemmas.{list_tries}
 use Rattle.clause_compiler.specs.declared.keys.Kind.{Kind}
 use Rattle.clause_compiler.specs.declared.keys.Kind.TheVariants as kind
 use Rattle.clause_compiler.specs.Keys.{shape_key, argument_key, key_of, of_kind, may_be, kind_numbers}

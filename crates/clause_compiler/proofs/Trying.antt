@@ -9,7 +9,7 @@ use Rattle.wam_code.specs.declared.instruction.Code.{Code}
 use Rattle.wam_code.specs.declared.instruction.Code.TheVariants.{Jump, FailNow, TryMeElse, RetryMeElse, TrustMe, Try, Retry, Trust, SwitchOnTerm, SwitchOnConstant, SwitchOnInteger, SwitchOnStructure}
 use Rattle.wam_code.specs.Area.{Area, Holds}
 use Rattle.wam_code.specs.Tries.{Shape, IsNeedless, Thinned, IsClause, TryRule, Tries}
-use Rattle.wam_code.proofs.Trying.{try_from_rule}
+use Rattle.wam_code.proofs.Lemmas.{try_from_rule}
 use Rattle.clause_code.specs.Trying.{EachTries}
 use Rattle.clause_code.specs.Safe.{may_enter}
 

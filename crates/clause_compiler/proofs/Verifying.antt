@@ -11,7 +11,7 @@ use Rattle.wam_code.specs.Area.{Area, Span, State, Holds, HasState, HasEntry, Ha
 use Rattle.wam_code.specs.Effect.{slot_at, is_cell}
 use Rattle.wam_code.specs.Verified.{Names, HandedTo, Leads, BeginsWith, IsIn, IsQuery, is_other, NamesOther, is_before, is_behind, HoldsOne, AreChoices, IsThere, IsVerifiedBy, IsVerified}
 use Rattle.wam_code.specs.Places.{count}
-use Rattle.wam_code.proofs.Keeping.{covers_self}
+use Rattle.wam_code.proofs.Lemmas.{covers_self}
 use Rattle.clause_code.specs.Safe.{is_plain}
 use Rattle.clause_compiler.specs.First.{given}
 use Rattle.clause_compiler.specs.Layout.{joined, offset, is_first, Passes, BeginsClause, IsLaidOut}

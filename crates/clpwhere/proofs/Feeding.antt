@@ -8,7 +8,7 @@ use Rattle.clpwhere.specs.Parts.{TextParts}
 use Rattle.clpwhere.specs.Marked.{is_refusal, is_refused, marked, marked_line}
 use Rattle.byte_ports.specs.Ends.{SinkState, WroteAll}
 use Rattle.clpwhere.specs.Endings.{CutBy, Wrote, Fed, IsOpen, GaveAll}
-use Rattle.byte_ports.proofs.Pieces.{wrote_no_part}
+use Rattle.byte_ports.proofs.Lemmas.{wrote_no_part}
 use Rattle.clpwhere.proofs.LineSteps.{byte_open, cut_line, cut_more, gave_cut, gave_line, gave_none, gave_then, marked-open, refused-open}
 
 -- ---- of a result

@@ -9,7 +9,7 @@ use Rattle.clpwhere.specs.Lines.{is_newline, lines_of}
 use Rattle.clpwhere.specs.Marked.{is_refusal, is_refused, marked, marked_line}
 use Rattle.byte_ports.specs.Ends.{SinkState, WroteAll, WrotePart}
 use Rattle.clpwhere.specs.Endings.{CutBy, IsOpen, GaveAll}
-use Rattle.byte_ports.proofs.Pieces.{wrote_nothing, all_then, all_front}
+use Rattle.byte_ports.proofs.Lemmas.{wrote_nothing, all_then, all_front}
 use Rattle.clpwhere.proofs.Pieces.{cut_then, cut_longer}
 
 -- ---- lines

@@ -1,7 +1,7 @@
 -- Pieces written one after another, until a fault.
 use Rattle.std.proofs.Common.{◌≡◌, ℕ, List, ◌++◌, Result, Err, refl, sym, subst}
 use Rattle.byte_ports.specs.Ports.{PutPart}
-use Rattle.byte_ports.proofs.Pieces.{front_then, part_then, longer_front, longer_part, wrote_no_part}
+use Rattle.byte_ports.proofs.Lemmas.{front_then, part_then, longer_front, longer_part, wrote_no_part}
 use Rattle.clpwhere.specs.declared.outcome.Fault.{Fault}
 use Rattle.clpwhere.specs.declared.outcome.Fault.TheVariants as fault
 use Rattle.byte_ports.specs.Ends.{SinkState, WroteAll, WrotePart}

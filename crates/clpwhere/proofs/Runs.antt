@@ -2,7 +2,7 @@
 use Rattle.std.proofs.Common.{◌≡◌, ℕ, ◌<◌, ◌≤◌, ◌⊎◌, inl, inr, Bool, true, false, List, [], ◌++◌, Option, Some, None, IsSome, Result, Err, refl, sym, ap, ◌∙◌, subst, arith, append-nil}
 use Rattle.std.specs.Prelude.{◌||◌}
 use Rattle.byte_ports.specs.Ports.{PutPart, Rose, Took, IsAtEnd}
-use Rattle.byte_ports.proofs.Pieces.{took_none, took_more, wrote_no_part}
+use Rattle.byte_ports.proofs.Lemmas.{took_none, took_more, wrote_no_part}
 use Rattle.clpwhere.specs.declared.outcome.Fault.{Fault}
 use Rattle.clpwhere.specs.declared.outcome.Fault.TheVariants as fault
 use Rattle.clpwhere.specs.declared.outcome.Status.{Status}

@@ -13,7 +13,7 @@ use Rattle.heap_cells.specs.Cells.{Cells, IsOf}
 use Rattle.heap_cells.specs.Seen.{IsSeen}
 use Rattle.heap_cells.specs.Terms.{Naming, term_of, slot_term, compound_term}
 use Rattle.heap_cells.specs.Valid.{IsHeap}
-use Rattle.heap_cells.proofs.Ranks.{term-Ref, term-Int, term-Atom, term-Struct}
+use Rattle.heap_cells.proofs.Lemmas.{term-Ref, term-Int, term-Atom, term-Struct}
 use Rattle.branch_state.specs.States as branch
 use Rattle.wam_code.specs.declared.instruction.Code.{Code}
 use Rattle.wam_code.specs.declared.instruction.Code.TheVariants.{SwitchOnTerm, SwitchOnConstant, SwitchOnInteger, SwitchOnStructure}
@@ -26,8 +26,7 @@ use Rattle.wam_code.specs.Tries.{Shape, is_open, is_atom, is_integer, is_structu
 use Rattle.wam_code.specs.Verified.{arms, named, IsKey}
 use Rattle.code_areas.specs.Areas.{cell_at, IsSet, Contents}
 use Rattle.code_steps.specs.Trying.{shape_in, HasNoRow, HasRow, IsTrying, IsChoice}
-use Rattle.code_steps.proofs.Opening.{count_terms}
-use Rattle.code_steps.proofs.Trying.{step_switch, step_constants, step_integers, step_structures}
+use Rattle.code_steps.proofs.Lemmas.{count_terms, step_switch, step_constants, step_integers, step_structures}
 use Rattle.code_states.specs.Machine.{registers_of, stack_of}
 use Rattle.code_states.specs.Queries.{KeepsQuery, KeepsQueryThen}
 use Rattle.code_states.specs.Safety.{IsSafe, IsSafeThen}

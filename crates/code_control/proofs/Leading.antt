@@ -14,8 +14,7 @@ use Rattle.code_states.specs.Safety.{IsThread, IsSafe}
 use Rattle.code_states.specs.Stages.{KeepsRunning}
 use Rattle.code_states.specs.Work.{work_at}
 use Rattle.code_states.specs.declared.went.Went.TheVariants.{On, Back}
-use Rattle.code_states.proofs.Queries.{query_kept}
-use Rattle.code_states.proofs.Safety.{place_within}
+use Rattle.code_states.proofs.Lemmas.{query_kept, place_within}
 use Rattle.code_control.specs.declared.choosing.Tried.{Tried}
 use Rattle.code_control.specs.declared.choosing.Tried.TheVariants.{Both, Last, Other}
 use Rattle.code_control.specs.Choosing.{tried_by, IsTried, IsChoice, FirstMayMatch, MayMatchFrom, IsLater, LeavesOut, Chooses}

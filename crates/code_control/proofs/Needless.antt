@@ -12,7 +12,7 @@ use Rattle.heap_cells.specs.Cells.{Cells}
 use Rattle.heap_cells.specs.Seen.{IsSeen}
 use Rattle.heap_cells.specs.Terms.{Naming, IsOneToOne, term_of, terms_by, compound_term}
 use Rattle.heap_cells.specs.Valid.{IsHeap}
-use Rattle.heap_cells.proofs.Ranks.{term-Int, term-Atom, term-Struct}
+use Rattle.heap_cells.proofs.Lemmas.{term-Int, term-Atom, term-Struct}
 use Rattle.branch_state.specs.States as branch
 use Rattle.wam_code.specs.declared.instruction.Code.{Code}
 use Rattle.wam_code.specs.declared.instruction.Code.TheVariants.{GetConstant, GetInteger, GetStructure, Allocate}
@@ -23,13 +23,11 @@ use Rattle.wam_code.specs.Area.{Area, Holds, name_of}
 use Rattle.wam_code.specs.Places.{count}
 use Rattle.code_areas.specs.Areas.{cell_at, Contents}
 use Rattle.code_steps.specs.Trying.{IsFirst}
-use Rattle.code_steps.proofs.Opening.{count_terms, count_applied, step_get_structure}
-use Rattle.code_steps.proofs.Stepping.{step_allocate}
-use Rattle.code_steps.proofs.Trying.{step_enter}
+use Rattle.code_steps.proofs.Lemmas.{count_terms, count_applied, step_get_structure, step_allocate, step_enter}
 use Rattle.code_states.specs.Machine.{registers_of, stack_of}
 use Rattle.code_states.specs.Safety.{IsSafe}
 use Rattle.code_states.specs.Standing.{IsNaming, HasNoModel, StandsFor}
-use Rattle.code_states.proofs.Standing.{get_constant_stands, get_integer_stands}
+use Rattle.code_states.proofs.Lemmas.{get_constant_stands, get_integer_stands}
 use Rattle.code_control.specs.Choosing.{AsksHere, Asks, Meets, IsRuledOut, AreGone, TriesAt}
 use Rattle.code_control.proofs.Threads.{allocate_safe, sound_below}
 

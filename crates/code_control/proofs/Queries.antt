@@ -6,11 +6,11 @@ use Rattle.wam_code.specs.declared.instruction.Code.{Code}
 use Rattle.wam_code.specs.declared.instruction.Code.TheVariants.{Call, Execute}
 use Rattle.wam_code.specs.Area.{Area, Holds}
 use Rattle.wam_code.specs.Verified.{named, goes_on}
-use Rattle.wam_code.proofs.Reaching.{executes_outside}
+use Rattle.wam_code.proofs.Lemmas.{executes_outside}
 use Rattle.code_areas.specs.Areas.{Places, Return, Contents}
 use Rattle.code_states.specs.Queries.{EndsIn, KeepsQuery}
 use Rattle.code_states.specs.Safety.{IsSafe}
-use Rattle.code_states.proofs.Queries.{next_inside, named_inside, query_kept}
+use Rattle.code_states.proofs.Lemmas.{next_inside, named_inside, query_kept}
 use Rattle.code_control.proofs.Threads.{continued}
 
 module _ (area : Area) (s : branch.State) (at : ℕ) (c : Contents) (safe : IsSafe area s at 0 c) where

@@ -9,7 +9,7 @@ use Rattle.fd_model.specs.Goal.{Branch, Program, Query, Event}
 use Rattle.heap_cells.specs.Cells.{Cells}
 use Rattle.heap_cells.specs.Terms.{Naming}
 use Rattle.machine_relation.specs.Ahead.{AreFit, Ahead}
-use Rattle.machine_relation.proofs.Walking.{gone_by}
+use Rattle.machine_relation.proofs.Lemmas.{gone_by}
 use Rattle.branch_state.specs.States as branch
 use Rattle.branch_state.specs.States.{with_pair}
 use Rattle.wam_code.specs.declared.instruction.Code.{Code}
@@ -23,14 +23,13 @@ use Rattle.code_areas.specs.Areas.{Contents}
 use Rattle.code_steps.specs.Registers.{Registers, Saved}
 use Rattle.code_steps.specs.Trying.{TriesBoth}
 use Rattle.code_steps.specs.Trying.{IsChoice as IsStep}
-use Rattle.code_steps.proofs.Running.{goes_before}
-use Rattle.code_steps.proofs.Trying.{step_try_me_else, step_retry_me_else, step_try, step_retry, step_trust_me, step_trust}
+use Rattle.code_steps.proofs.Lemmas.{goes_before, step_try_me_else, step_retry_me_else, step_try, step_retry, step_trust_me, step_trust}
 use Rattle.code_states.specs.Choices.{point_of}
 use Rattle.code_states.specs.Machine.{registers_of, stack_of}
 use Rattle.code_states.specs.Queries.{StaysInside}
 use Rattle.code_states.specs.Safety.{IsThread, IsSafe}
 use Rattle.code_states.specs.Stages.{KeepsRunning, GoesBack, LeavesChoice}
-use Rattle.code_states.proofs.Queries.{next_inside, named_inside}
+use Rattle.code_states.proofs.Lemmas.{next_inside, named_inside}
 use Rattle.code_control.specs.declared.choosing.Tried.{Tried}
 use Rattle.code_control.specs.declared.choosing.Tried.TheVariants.{Both, Last, Other}
 use Rattle.code_control.specs.Choosing.{tried_by, IsRuledOut, AreGone, TriesAt, LeavesOut}

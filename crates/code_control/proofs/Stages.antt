@@ -18,16 +18,12 @@ use Rattle.code_steps.specs.Registers.{Registers, Saved, AreSameTo}
 use Rattle.code_steps.specs.Standing.{Stands}
 use Rattle.code_steps.specs.Trying.{IsTrying, IsFirst, IsChoice}
 use Rattle.code_steps.specs.Running.{Left, resume, Choice, Returns}
-use Rattle.code_steps.proofs.Calling.{run_call, run_execute}
-use Rattle.code_steps.proofs.Goals.{run_either}
-use Rattle.code_steps.proofs.Running.{runs_jump, runs_on, runs_tries, runs_over, back_resumes}
-use Rattle.code_steps.proofs.Stepping.{step_allocate, step_deallocate, step_proceed}
-use Rattle.code_steps.proofs.Trying.{step_fail}
+use Rattle.code_steps.proofs.Lemmas.{run_call, run_execute, run_either, runs_jump, runs_on, runs_tries, runs_over, back_resumes, step_allocate, step_deallocate, step_proceed, step_fail}
 use Rattle.code_states.specs.Machine.{slot_cell, registers_of, saved_of, stack_of}
 use Rattle.code_states.specs.Standing.{IsNaming}
 use Rattle.code_states.specs.Choices.{point_of, choice_of, choices_of, choices_in}
 use Rattle.code_states.specs.Stages.{Task, KeepsRunning, GoesBack, Resumes, Calls, SplitsAt}
-use Rattle.code_states.proofs.Stages.{sound_model}
+use Rattle.code_states.proofs.Lemmas.{sound_model}
 
 module _ (area : Area) (s : branch.State) (at : ℕ) (c : Contents) where
   abbrev h : Cells

@@ -14,11 +14,11 @@ use Rattle.wam_code.specs.Area.{Slot, Unset, Cell, State, Area, Holds, HasEntry}
 use Rattle.wam_code.specs.Effect.{are_given, are_set, has_frame, no_frame, when, plain_effect, effect_by}
 use Rattle.wam_code.specs.Reaching.{IsOutside}
 use Rattle.wam_code.specs.Verified.{named, goes_on, Names, HandedTo, Leads, IsVerifiedBy}
-use Rattle.wam_code.proofs.Reaching.{names_outside, entry_outside, returns_outside, executes_outside, entry_covered}
+use Rattle.wam_code.proofs.Lemmas.{names_outside, entry_outside, returns_outside, executes_outside, entry_covered}
 use Rattle.code_areas.specs.Areas.{Places, cell_at, IsSet, Return, Point, Contents}
 use Rattle.code_states.specs.Safety.{HasSlots, Fits, IsReached, AreReturns, AreBehind, IsThread, ArePoints, IsSafe, IsSafeBack}
 use Rattle.code_states.specs.Choices.{point_of}
-use Rattle.code_states.proofs.Safety.{when_parts, some_is, fits_less, thread_kept, same_atoms, points_kept, behind_on as behind_next}
+use Rattle.code_states.proofs.Lemmas.{when_parts, some_is, fits_less, thread_kept, same_atoms, points_kept, behind_on as behind_next}
 
 -- ---- choice points
 

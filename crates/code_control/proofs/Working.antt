@@ -7,8 +7,7 @@ use Rattle.wam_code.specs.Area.{State, Area, Holds}
 use Rattle.wam_code.specs.Ending.{weight, return_work, Thread, work}
 use Rattle.wam_code.specs.Reaching.{distance}
 use Rattle.wam_code.specs.Verified.{named, goes_on, IsVerifiedBy}
-use Rattle.wam_code.proofs.Ending.{fork_falls, step_falls, proceed_falls, back_falls}
-use Rattle.wam_code.proofs.Reaching.{names_nearer, falls_nearer}
+use Rattle.wam_code.proofs.Lemmas.{fork_falls, step_falls, proceed_falls, back_falls, names_nearer, falls_nearer}
 use Rattle.code_areas.specs.Areas.{Places, Return, Contents}
 use Rattle.code_states.specs.Choices.{point_of}
 use Rattle.code_states.specs.Work.{thread_of, point_threads, work_at, work_back, most_work}

@@ -18,7 +18,7 @@ use Rattle.wam_code.specs.Area.{Area, Span, Holds, HasQuery, name_of}
 use Rattle.code_areas.specs.Areas.{cell_at, Contents}
 use Rattle.code_steps.specs.Registers.{AreIn}
 use Rattle.code_steps.specs.Answers.{slots_line}
-use Rattle.code_steps.proofs.Answering.{run_last, run_fewer, run_any}
+use Rattle.code_steps.proofs.Lemmas.{run_last, run_fewer, run_any}
 use Rattle.code_states.specs.Queries.{IsInQuery}
 use Rattle.code_states.specs.Choices.{choices_in}
 use Rattle.code_states.specs.Machine.{slot_cell, registers_of, stack_of}

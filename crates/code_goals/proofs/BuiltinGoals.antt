@@ -23,7 +23,7 @@ use Rattle.machine_relation.specs.Ahead.{Spends}
 use Rattle.machine_relation.specs.Store.{posts}
 use Rattle.term_pool.specs.Valid.{IsPool}
 use Rattle.machine_frames.specs.Frames.{store_touches, IsGrown}
-use Rattle.machine_frames.proofs.Naming.{full_one, full_own}
+use Rattle.machine_frames.proofs.Lemmas.{full_one, full_own}
 use Rattle.range_code.specs.Frames.{family_of}
 use Rattle.branch_state.specs.States as branch
 use Rattle.branch_state.specs.States.{IsSound, IsSameBelow, IsCell, with_heap}
@@ -40,15 +40,12 @@ use Rattle.code_areas.specs.Areas.{cell_at, IsSet, Contents}
 use Rattle.code_steps.specs.Registers.{Registers, Saved}
 use Rattle.code_steps.specs.Trying.{IsFirst}
 use Rattle.code_steps.specs.Running.{Left, Choice, Runs, Returns}
-use Rattle.code_steps.proofs.Running.{spends_more}
-use Rattle.code_steps.proofs.Goals.{run_true, run_fail, run_false, run_unify, run_refuted}
-use Rattle.code_steps.proofs.Finding.{run_found_fault, run_found_true, run_found_false, run_found_refuted, run_found_equated}
-use Rattle.code_steps.proofs.Writing.{run_newline, run_write}
+use Rattle.code_steps.proofs.Lemmas.{spends_more, run_true, run_fail, run_false, run_unify, run_refuted, run_found_fault, run_found_true, run_found_false, run_found_refuted, run_found_equated, run_newline, run_write}
 use Rattle.code_states.specs.Choices.{choices_in}
 use Rattle.code_states.specs.Machine.{registers_of, stack_of}
 use Rattle.code_states.specs.Safety.{IsSafe}
 use Rattle.code_states.specs.Equating.{Equates}
-use Rattle.code_states.proofs.Equal.{same_cells}
+use Rattle.code_states.proofs.Lemmas.{same_cells}
 use Rattle.code_goals.specs.declared.next.Next.{Next}
 use Rattle.code_goals.specs.declared.next.Next.TheVariants.{On, Back, Fault, Write, Newline}
 use Rattle.code_goals.specs.Builtins.{IsFound, IsSecond, ComesTo}

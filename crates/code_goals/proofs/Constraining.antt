@@ -28,7 +28,7 @@ use Rattle.wam_code.specs.Area.{Area, Holds}
 use Rattle.code_areas.specs.Areas.{cell_at, Contents}
 use Rattle.code_steps.specs.Registers.{AreIn}
 use Rattle.code_steps.specs.Running.{Runs, Returns}
-use Rattle.code_steps.proofs.Constraining.{run_constraint_fault, run_constraint, run_constraint_failed}
+use Rattle.code_steps.proofs.Lemmas.{run_constraint_fault, run_constraint, run_constraint_failed}
 use Rattle.code_states.specs.Choices.{choices_in}
 use Rattle.code_states.specs.Machine.{registers_of, stack_of}
 use Rattle.code_states.specs.Safety.{IsSafe}

@@ -16,7 +16,7 @@ use Rattle.machine_relation.specs.Store.{posts}
 use Rattle.term_pool.specs.declared.TheConstants.{NIL, CONS}
 use Rattle.term_pool.specs.Valid.{IsPool}
 use Rattle.machine_frames.specs.Frames.{store_touches}
-use Rattle.machine_frames.proofs.Naming.{full_one, full_own}
+use Rattle.machine_frames.proofs.Lemmas.{full_one, full_own}
 use Rattle.range_code.specs.Frames.{family_of}
 use Rattle.branch_state.specs.States as branch
 use Rattle.branch_state.specs.States.{IsSound, IsSameBelow, IsUndone, with_pair}
@@ -26,11 +26,10 @@ use Rattle.wam_code.specs.declared.instruction.Code.TheVariants as step
 use Rattle.wam_code.specs.Area.{Area, Holds}
 use Rattle.wam_code.specs.Reaching.{distance}
 use Rattle.wam_code.specs.Ending.{thread_work, work}
-use Rattle.wam_code.proofs.Ending.{back_falls}
+use Rattle.wam_code.proofs.Lemmas.{back_falls}
 use Rattle.code_areas.specs.Areas.{cell_at, Contents}
 use Rattle.code_steps.specs.Running.{Left, values, Choice, Runs, Returns}
-use Rattle.code_steps.proofs.Running.{spends_more}
-use Rattle.code_steps.proofs.Labelling.{run_label_fault, run_label_done, run_label, back_no_values, back_value}
+use Rattle.code_steps.proofs.Lemmas.{spends_more, run_label_fault, run_label_done, run_label, back_no_values, back_value}
 use Rattle.code_states.specs.Choices.{choices_of, choices_in, point_of}
 use Rattle.code_states.specs.Equating.{Equates, AreEquated, HasNoModelFor}
 use Rattle.code_states.specs.Machine.{registers_of, stack_of}
@@ -40,8 +39,7 @@ use Rattle.code_states.specs.Standing.{went_to}
 use Rattle.code_states.specs.Work.{thread_of, point_threads, work_at, work_back, values_work}
 use Rattle.code_states.specs.declared.went.Went.{Went}
 use Rattle.code_states.specs.declared.went.Went.TheVariants as went
-use Rattle.code_states.proofs.Equal.{same_cells}
-use Rattle.code_states.proofs.Left.{value_falls, last_value_falls}
+use Rattle.code_states.proofs.Lemmas.{same_cells, value_falls, last_value_falls}
 use Rattle.code_goals.specs.declared.labels.ValuesLeft.{ValuesLeft}
 use Rattle.code_goals.specs.declared.labels.Tried.{Tried}
 use Rattle.code_goals.specs.declared.labels.Labelled.TheVariants.{Took, Tries}

@@ -8,3 +8,4 @@ pub mod Constraining
 pub mod Posting
 pub mod Labelling
 pub mod Answering
+pub mod Lemmas

@@ -13,11 +13,9 @@ use Rattle.heap_cells.specs.declared.Cell.{Cell}
 use Rattle.heap_cells.specs.Cells.{Cells, IsOf}
 use Rattle.heap_cells.specs.Terms.{Naming, term_of}
 use Rattle.machine_relation.specs.Ahead.{Ahead}
-use Rattle.machine_relation.proofs.Ahead.{ahead_drop}
-use Rattle.machine_relation.proofs.Walking.{gone_by}
+use Rattle.machine_relation.proofs.Lemmas.{ahead_drop, gone_by}
 use Rattle.machine_frames.specs.Frames.{IsGrown}
-use Rattle.machine_frames.proofs.Continuing.{of_grown}
-use Rattle.machine_frames.proofs.Keeping.{kept_grown, kept_no_model}
+use Rattle.machine_frames.proofs.Lemmas.{of_grown, kept_grown, kept_no_model}
 use Rattle.wam_code.specs.declared.parts.Entry.{Entry}
 use Rattle.wam_code.specs.declared.instruction.Code.{Code}
 use Rattle.wam_code.specs.Area.{Area, Holds, name_of}
@@ -27,8 +25,7 @@ use Rattle.code_steps.specs.Registers.{Registers, Saved}
 use Rattle.code_steps.specs.Standing.{Made, IsOld, IsMade}
 use Rattle.code_steps.specs.Trying.{IsTrying, IsFirst}
 use Rattle.code_steps.specs.Running.{Choice, Runs, Returns, values}
-use Rattle.code_steps.proofs.Running.{stands_no_model, runs_on}
-use Rattle.code_steps.proofs.Shown.{shown_moved, all_moved}
+use Rattle.code_steps.proofs.Lemmas.{stands_no_model, runs_on, shown_moved, all_moved}
 
 -- ---- the heap grows
 

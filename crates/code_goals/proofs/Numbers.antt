@@ -13,7 +13,7 @@ use Rattle.heap_cells.specs.Cells.{Cells, slot_at, compound_at, is_bound}
 use Rattle.heap_cells.specs.Seen.{IsSeen}
 use Rattle.heap_cells.specs.Terms.{Naming, IsOneToOne, term_of, terms_by}
 use Rattle.heap_cells.specs.Valid.{IsHeap}
-use Rattle.heap_cells.proofs.Ranks.{unbound_term, term-Int, term-Atom, term-Struct}
+use Rattle.heap_cells.proofs.Lemmas.{unbound_term, term-Int, term-Atom, term-Struct}
 use Rattle.unify_core.specs.Unified.{CannotUnify}
 use Rattle.machine_relation.specs.Shown.{cell_set}
 use Rattle.machine_frames.specs.Frames.{link_of, link_in}

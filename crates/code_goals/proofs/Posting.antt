@@ -19,8 +19,7 @@ use Rattle.wam_code.specs.Area.{Area, Holds, range_at}
 use Rattle.code_areas.specs.Areas.{cell_at, Contents}
 use Rattle.code_steps.specs.Registers.{AreIn}
 use Rattle.code_steps.specs.Running.{Runs, Returns}
-use Rattle.code_steps.proofs.Running.{spends_more}
-use Rattle.code_steps.proofs.Ranging.{run_range_fault, run_range}
+use Rattle.code_steps.proofs.Lemmas.{spends_more, run_range_fault, run_range}
 use Rattle.code_states.specs.Choices.{choices_in}
 use Rattle.code_states.specs.Machine.{registers_of, stack_of}
 use Rattle.code_states.specs.Safety.{IsSafe}

@@ -5,7 +5,7 @@ use Rattle.fd_language.specs.Family.{has}
 use Rattle.heap_cells.specs.declared.Cell.{Cell}
 use Rattle.heap_cells.specs.Atoms.{IsAtomBelow}
 use Rattle.machine_frames.specs.Frames.{IsGrown}
-use Rattle.machine_frames.proofs.Continuing.{of_grown}
+use Rattle.machine_frames.proofs.Lemmas.{of_grown}
 use Rattle.branch_state.specs.States as branch
 use Rattle.branch_state.specs.States.{IsCell, AreCells, IsSound, IsSoundBelow, IsSameBelow, with_heap, with_pair}
 use Rattle.wam_code.specs.declared.instruction.Register.TheVariants.{Y}
@@ -14,14 +14,13 @@ use Rattle.wam_code.specs.declared.instruction.Code.TheVariants as step
 use Rattle.wam_code.specs.Area.{State, Span, Area, Holds, HasQuery}
 use Rattle.wam_code.specs.Effect.{are_set, when, plain_effect}
 use Rattle.wam_code.specs.Verified.{goes_on, IsIn}
-use Rattle.wam_code.proofs.Reaching.{shown_are_cells}
+use Rattle.wam_code.proofs.Lemmas.{shown_are_cells}
 use Rattle.code_areas.specs.Areas.{Places, Return, Contents}
 use Rattle.code_steps.specs.Running.{Left}
 use Rattle.code_states.specs.Choices.{choices_in}
 use Rattle.code_states.specs.Machine.{IsSameBehind}
 use Rattle.code_states.specs.Safety.{Fits, IsThread, ArePoints, IsSafe, IsSafeBack}
-use Rattle.code_states.proofs.Safety.{Finds, found, when_parts, set_holds, next_safe, back_safe, cells_kept, returns_kept, points_kept}
-use Rattle.code_states.proofs.Stages.{choices_kept}
+use Rattle.code_states.proofs.Lemmas.{Finds, found, when_parts, set_holds, next_safe, back_safe, cells_kept, returns_kept, points_kept, choices_kept}
 use Rattle.code_goals.specs.Arguments.{HasArguments}
 use Rattle.code_goals.specs.Answers.{HasFirstSlots}
 use Rattle.code_goals.specs.Values.{pointed}

@@ -1,6 +1,6 @@
 -- The names of the code's atoms.
 use Rattle.term_pool.specs.Valid.{IsPool}
-use Rattle.machine_frames.proofs.Naming.{full_one, full_own}
+use Rattle.machine_frames.proofs.Lemmas.{full_one, full_own}
 use Rattle.wam_code.specs.Area.{Area}
 use Rattle.code_states.specs.Standing.{IsNaming}
 use Rattle.code_goals.specs.Tasks.{names_of}

@@ -15,9 +15,8 @@ use Rattle.code_states.specs.Stages.{RunsThen, LeavesChoice}
 use Rattle.code_states.specs.Standing.{KeepsStanding}
 use Rattle.code_states.specs.Queries.{EndsIn, KeepsQuery, KeepsQueryThen}
 use Rattle.code_states.specs.Work.{work_at, work_then, LeadsOn}
-use Rattle.code_states.proofs.Queries.{ends_on}
+use Rattle.code_states.proofs.Lemmas.{ends_on, kept_runs, kept_falls}
 use Rattle.code_control.specs.Choosing.{Chooses}
-use Rattle.code_states.proofs.Stages.{kept_runs, kept_falls}
 use Rattle.code_machine.specs.Steps.{Moves}
 
 pub same_branch : (s : branch.State) → IsSameBelow s s

@@ -13,7 +13,7 @@ use Rattle.code_goals.specs.declared.labels.ValuesLeft.{ValuesLeft}
 use Rattle.code_goals.specs.declared.labels.Tried.{Tried}
 use Rattle.code_goals.specs.Tasks.{task_of}
 use Rattle.code_goals.specs.Values.{left_of, pointed, with_point, work_left, IsOpen, IsTried, RunsWent}
-use Rattle.code_goals.proofs.Labelling.{back_at}
+use Rattle.code_goals.proofs.Lemmas.{back_at}
 use Rattle.code_machine.specs.declared.run.Label.{Label}
 use Rattle.code_machine.specs.Labels.{lefts_by, AreLabels, whole_back}
 use Rattle.code_machine.specs.declared.run.Stage.TheVariants.{Going, Returning}

@@ -23,7 +23,7 @@ use Rattle.code_states.specs.Queries.{KeepsQueryThen}
 use Rattle.code_states.specs.Safety.{IsSafe, IsSafeBack, IsSafeThen}
 use Rattle.code_states.specs.Stages.{Task, RunsAt}
 use Rattle.code_states.specs.Work.{left_by, work_at, work_back, work_then, values_work}
-use Rattle.code_states.proofs.Left.{left_falls, left_spent, left_up}
+use Rattle.code_states.proofs.Lemmas.{left_falls, left_spent, left_up}
 use Rattle.code_goals.specs.declared.next.Next.{Next}
 use Rattle.code_goals.specs.declared.next.Next.TheVariants as next
 use Rattle.code_goals.specs.Answers.{IsAsked, ShowsAnswer}

@@ -9,8 +9,8 @@ use Rattle.branch_state.specs.States.{IsSound, first_state}
 use Rattle.wam_code.specs.Area.{Area, Span, HasQuery}
 use Rattle.wam_code.specs.Verified.{IsVerified}
 use Rattle.code_areas.specs.Areas.{Contents, nothing}
-use Rattle.code_states.proofs.Starting.{started_safe, started_runs}
-use Rattle.code_goals.proofs.Tasks.{own_naming}
+use Rattle.code_states.proofs.Lemmas.{started_safe, started_runs}
+use Rattle.code_goals.proofs.Lemmas.{own_naming}
 use Rattle.code_goals.specs.Tasks.{task_of}
 use Rattle.code_machine.specs.declared.run.Label.{Label}
 use Rattle.code_machine.specs.declared.run.Stage.TheVariants.{Going}

@@ -1,19 +1,19 @@
 -- The steps by the stages that they begin and end at.
 use Rattle.std.proofs.Common.{◌≡◌, ℕ, zero, suc, ◌+◌, ◌-◌, ◌<◌, List, [], ◌∷◌, length, Option, refl, sym, subst, arith}
-use Rattle.term_pool.proofs.Names.{slice_get_found}
+use Rattle.term_pool.proofs.Lemmas.{slice_get_found}
 use Rattle.machine_events.specs.declared.MachineEvent.TheVariants as event
 use Rattle.machine_events.specs.declared.Shown.{Shown}
 use Rattle.branch_state.specs.States as branch
 use Rattle.wam_code.specs.declared.instruction.Code.{Code}
 use Rattle.wam_code.specs.declared.instruction.Code.TheVariants as step
 use Rattle.wam_code.specs.Area.{Area, Span, Holds, HasQuery}
-use Rattle.wam_code.proofs.Reaching.{no_answer_outside}
+use Rattle.wam_code.proofs.Lemmas.{no_answer_outside}
 use Rattle.code_areas.specs.Areas.{Return, Point, Contents}
-use Rattle.code_steps.proofs.Goals.{TakesGoal}
+use Rattle.code_steps.proofs.Lemmas.{TakesGoal}
 use Rattle.code_states.specs.declared.went.Went.{Went}
 use Rattle.code_states.specs.Queries.{IsInQuery, EndsIn}
 use Rattle.code_states.specs.Safety.{AreBehind, IsSafe}
-use Rattle.code_states.proofs.Safety.{place_within}
+use Rattle.code_states.proofs.Lemmas.{place_within}
 use Rattle.code_goals.specs.declared.next.Next.{Next}
 use Rattle.code_goals.specs.Answers.{ShowsAnswer}
 use Rattle.code_machine.specs.declared.run.Ending.{Ending}

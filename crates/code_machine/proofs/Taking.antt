@@ -31,7 +31,7 @@ use Rattle.code_machine.specs.Labels.{lefts_by, labels_work, AreLabels, whole_at
 use Rattle.code_machine.specs.declared.run.Stage.TheVariants.{Going}
 use Rattle.code_machine.specs.States.{most, PointsEndIn, IsInside}
 use Rattle.code_machine.specs.Steps.{labelled, next_of, next_work, stage_of, stage_next, CallsTo, Spends}
-use Rattle.code_states.proofs.Queries.{ends_on}
+use Rattle.code_states.proofs.Lemmas.{ends_on}
 use Rattle.code_machine.proofs.Labelling.{labels_more, lefts_more, lefts_values, no_newest}
 use Rattle.code_machine.proofs.Working.{called_most, less_most, next_most, tried_most}
 

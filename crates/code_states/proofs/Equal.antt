@@ -5,7 +5,7 @@ use Rattle.fd_model.specs.Levels.{Levels}
 use Rattle.heap_cells.specs.declared.Cell.{Cell}
 use Rattle.heap_cells.specs.Atoms.{IsAtomBelow}
 use Rattle.heap_cells.specs.Cells.{Heaps}
-use Rattle.heap_cells.proofs.Binding.{of_same}
+use Rattle.heap_cells.proofs.Lemmas.{of_same}
 use Rattle.machine_relation.specs.Store.{posts}
 use Rattle.machine_frames.specs.Frames.{store_touches}
 use Rattle.unify_core.specs.declared.Touch.{Touch}

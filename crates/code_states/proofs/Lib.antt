@@ -5,3 +5,4 @@ pub mod Stages
 pub mod Starting
 pub mod Queries
 pub mod Left
+pub mod Lemmas

@@ -15,7 +15,7 @@ use Rattle.wam_code.specs.declared.instruction.Code.{Code}
 use Rattle.wam_code.specs.Area.{Slot, Unset, Cell, Level, State, Area, Holds}
 use Rattle.wam_code.specs.Effect.{slot_at, is_unset, is_cell, with_cell, is_set, is_free, with_set, when, plain_effect, effect_by}
 use Rattle.wam_code.specs.Verified.{goes_on, Falls, Covers, HandedTo, IsVerifiedBy}
-use Rattle.wam_code.proofs.Reaching.{falls_inside, falls_outside}
+use Rattle.wam_code.proofs.Lemmas.{falls_inside, falls_outside}
 use Rattle.code_areas.specs.Areas.{Places, cell_at, Return, Point, Contents}
 use Rattle.code_steps.specs.Registers.{IsPut, IsWritten}
 use Rattle.code_states.specs.Machine.{slot_cell, registers_of, HasCell, CanHold, IsSameBehind}

@@ -13,12 +13,11 @@ use Rattle.wam_code.specs.declared.instruction.Code.{Code}
 use Rattle.wam_code.specs.Area.{Area, Holds}
 use Rattle.wam_code.specs.Ending.{work}
 use Rattle.wam_code.specs.Reaching.{distance}
-use Rattle.wam_code.proofs.Ending.{step_falls, back_falls}
+use Rattle.wam_code.proofs.Lemmas.{step_falls, back_falls}
 use Rattle.code_areas.specs.Areas.{Point, Contents}
 use Rattle.code_steps.specs.Trying.{IsFirst}
 use Rattle.code_steps.specs.Running.{Left, Choice, Runs, Returns}
-use Rattle.code_steps.proofs.Goals.{TakesGoal, runs_spent}
-use Rattle.code_steps.proofs.Running.{runs_on, runs_gone, back_ends}
+use Rattle.code_steps.proofs.Lemmas.{TakesGoal, runs_spent, runs_on, runs_gone, back_ends}
 use Rattle.code_states.specs.declared.went.Went.{Went}
 use Rattle.code_states.specs.declared.went.Went.TheVariants.{On, Back}
 use Rattle.code_states.specs.Machine.{registers_of, stack_of, IsSameBehind}

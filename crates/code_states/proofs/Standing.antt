@@ -21,8 +21,7 @@ use Rattle.code_areas.specs.Areas.{cell_at, Contents}
 use Rattle.code_steps.specs.Registers.{cell_in, IsWritten}
 use Rattle.code_steps.specs.Standing.{Stands}
 use Rattle.code_steps.specs.Steps.{GoesOnEqual}
-use Rattle.code_steps.proofs.Running.{stands_no_model}
-use Rattle.code_steps.proofs.Stepping.{step_get_variable, step_get_value, step_get_constant, step_get_integer, step_put_variable, step_put_value, step_put_constant, step_put_integer}
+use Rattle.code_steps.proofs.Lemmas.{stands_no_model, step_get_variable, step_get_value, step_get_constant, step_get_integer, step_put_variable, step_put_value, step_put_constant, step_put_integer}
 use Rattle.code_states.specs.Machine.{saved_of, registers_of, stack_of, IsSameBehind}
 use Rattle.code_states.specs.Safety.{IsSafe}
 use Rattle.code_states.specs.Standing.{IsNaming, StandsFor, StandsThen, KeepsStanding, went_by}

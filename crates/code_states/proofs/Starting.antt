@@ -11,7 +11,7 @@ use Rattle.wam_code.specs.Area.{State, Span, Area, HasQuery}
 use Rattle.wam_code.specs.Tries.{IsQueryCode}
 use Rattle.wam_code.specs.Verified.{IsVerifiedBy}
 use Rattle.code_areas.specs.Areas.{cell_at, nothing}
-use Rattle.code_steps.proofs.Starting.{run_starts}
+use Rattle.code_steps.proofs.Lemmas.{run_starts}
 use Rattle.code_states.specs.Machine.{registers_of}
 use Rattle.code_states.specs.Safety.{HasSlots, IsSafe}
 use Rattle.code_states.specs.Stages.{Task, Future, RunsAt}

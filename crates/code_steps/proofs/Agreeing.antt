@@ -13,8 +13,7 @@ use Rattle.fd_language.specs.Term.{Term, Var, Int, Atom, Comp, Substitution}
 use Rattle.fd_language.proofs.Lemmas.{two}
 use Rattle.fd_model.specs.Posting.{or_later, first_offence, offence_at}
 use Rattle.fd_model.specs.declared.kinds.QueryFault.TheVariants.{Parameter}
-use Rattle.machine_relation.proofs.PostRenaming.{need_renamed, places_renamed}
-use Rattle.machine_relation.proofs.RangeGoals.{plain}
+use Rattle.machine_relation.proofs.Lemmas.{need_renamed, places_renamed, plain}
 
 abbrev rename_place : (ℕ → ℕ) → Place → Place
 rename_place g p = record { variable = g p.variable; parameter = p.parameter }

@@ -12,8 +12,7 @@ use Rattle.heap_cells.specs.Terms.{Naming, terms_by, term_of}
 use Rattle.heap_cells.specs.Valid.{IsHeap}
 use Rattle.machine_relation.specs.Ahead.{Ahead}
 use Rattle.machine_relation.specs.Store.{posts}
-use Rattle.machine_relation.proofs.Ahead.{ahead_drop}
-use Rattle.machine_relation.proofs.Walking.{gone_by}
+use Rattle.machine_relation.proofs.Lemmas.{ahead_drop, gone_by}
 use Rattle.machine_frames.specs.Environments.{AllOwn}
 use Rattle.machine_frames.specs.Frames.{IsGrown, store_touches}
 use Rattle.term_pool.specs.declared.AtomId.{AtomId}

@@ -8,14 +8,14 @@ use Rattle.heap_cells.specs.declared.Cell.TheVariants as cell
 use Rattle.heap_cells.specs.Cells.{Cells, IsOf, with_new_slot}
 use Rattle.heap_cells.specs.Terms.{Naming}
 use Rattle.heap_cells.specs.Valid.{IsHeap}
-use Rattle.heap_cells.proofs.Ranks.{term-Int, term-Atom}
+use Rattle.heap_cells.proofs.Lemmas.{term-Int, term-Atom}
 use Rattle.term_pool.specs.declared.AtomId.{AtomId}
 use Rattle.wam_code.specs.declared.instruction.Register.{Register}
 use Rattle.wam_code.specs.declared.instruction.Code.TheVariants.{UnifyVariable, UnifyValue, UnifyConstant, UnifyInteger, UnifyVoid}
 use Rattle.wam_code.specs.Area.{Area, Holds, name_of}
 use Rattle.wam_code.specs.Places.{Places, write, learn, count}
 use Rattle.wam_code.specs.Means.{Owed}
-use Rattle.wam_code.proofs.Unifying.{at_unify}
+use Rattle.wam_code.proofs.Lemmas.{at_unify}
 use Rattle.code_steps.specs.Registers.{Registers, Saved, cell_in, IsWritten, IsShown}
 use Rattle.code_steps.specs.Standing.{Made, IsMade}
 use Rattle.code_steps.specs.Reading.{AreCells}

@@ -10,8 +10,7 @@ use Rattle.heap_cells.specs.Cells.{Cells, IsOf}
 use Rattle.heap_cells.specs.Terms.{Naming, terms_by, term_of}
 use Rattle.machine_relation.specs.Heap.{AllOf}
 use Rattle.machine_frames.specs.Frames.{IsGrown}
-use Rattle.machine_frames.proofs.Continuing.{of_grown}
-use Rattle.machine_frames.proofs.Keeping.{kept_grown}
+use Rattle.machine_frames.proofs.Lemmas.{of_grown, kept_grown}
 use Rattle.term_pool.specs.declared.AtomId.{AtomId}
 use Rattle.wam_code.specs.declared.instruction.Register.TheVariants.{X}
 use Rattle.wam_code.specs.declared.instruction.Code.TheVariants.{GetStructure, PutStructure}

@@ -26,18 +26,10 @@ use Rattle.machine_relation.specs.Heap.{after, Of}
 use Rattle.machine_relation.specs.Held.{Frame, value_at, fixed_frame}
 use Rattle.machine_relation.specs.Rows.{rename_expansion, rename_row}
 use Rattle.machine_relation.specs.Store.{Touch, posts}
-use Rattle.machine_relation.proofs.Cells.{place_from}
-use Rattle.machine_relation.proofs.FrameTexts.{cell as cell_number, cell_from, row_same, row_cell}
-use Rattle.machine_relation.proofs.Growing.{after_is, after_are, agree}
-use Rattle.machine_relation.proofs.Renaming.{of_below}
-use Rattle.machine_relation.proofs.Scoping.{seen_of, variables_on, seen_by_variable}
-use Rattle.machine_relation.proofs.Steps.{GivesAll}
+use Rattle.machine_relation.proofs.Lemmas.{place_from, cell as cell_number, cell_from, row_same, row_cell, after_is, after_are, agree, of_below, seen_of, variables_on, seen_by_variable, GivesAll}
 use Rattle.machine_frames.specs.Frames.{link_in, frame_of, IsKept}
 use Rattle.machine_frames.specs.Posting.{IsRowLinked}
-use Rattle.machine_frames.proofs.Constraining.{look_old, row_look, kept_row}
-use Rattle.machine_frames.proofs.Keeping.{kept_no_model}
-use Rattle.machine_frames.proofs.Ranging.{unsettled}
-use Rattle.machine_frames.proofs.Settling.{settled_look, settled_held, settled_rest}
+use Rattle.machine_frames.proofs.Lemmas.{look_old, row_look, kept_row, kept_no_model, unsettled, settled_look, settled_held, settled_rest}
 use Rattle.wam_code.specs.declared.instruction.Code.TheVariants as code
 use Rattle.wam_code.specs.Arities.{constraint_arity}
 use Rattle.wam_code.specs.Area.{Area, Holds}

@@ -12,16 +12,14 @@ use Rattle.fd_model.specs.Constraining.{arguments}
 use Rattle.fd_model.specs.Goal.{Clause, Branch}
 use Rattle.fd_model.specs.Renaming.{rename_term, rename_goal}
 use Rattle.fd_model.specs.Sound.{EachBelow, NumbersBelow}
-use Rattle.fd_model.proofs.Lemmas.{join_both, split_both}
-use Rattle.fd_model.proofs.Scoping.{each_wider, each_both_below, body_renamed}
+use Rattle.fd_model.proofs.Lemmas.{join_both, split_both, each_wider, each_both_below, body_renamed}
 use Rattle.heap_cells.specs.declared.Cell.{Cell}
 use Rattle.heap_cells.specs.Cells.{Cells}
 use Rattle.heap_cells.specs.Terms.{Naming}
 use Rattle.machine_relation.specs.Heap.{AllOf, EquationsOf}
 use Rattle.machine_relation.specs.Says.{SaysSame}
-use Rattle.machine_relation.proofs.Growing.{more_all, more_each, below_both}
-use Rattle.machine_frames.proofs.Entering.{renamed_all}
-use Rattle.machine_frames.proofs.Keeping.{kept_known}
+use Rattle.machine_relation.proofs.Lemmas.{more_all, more_each, below_both}
+use Rattle.machine_frames.proofs.Lemmas.{renamed_all, kept_known}
 use Rattle.wam_code.specs.declared.parts.Entry.{Entry}
 use Rattle.wam_code.specs.Area.{Area, name_of}
 use Rattle.wam_code.specs.Places.{Places, put_at, Hold, count, made}

@@ -16,8 +16,7 @@ use Rattle.fd_model.specs.Lines.{says}
 use Rattle.fd_model.specs.Models.{IsModel}
 use Rattle.fd_model.specs.Seen.{IsConsistent, seen, set_at, IsView}
 use Rattle.fd_model.specs.Sound.{IsRunnableProgram, EachBelow}
-use Rattle.fd_model.proofs.Findings.{SameFinding, IsFindingBelow, found_below, first_below, second_below}
-use Rattle.fd_model.proofs.Lemmas.{has_view, one_view}
+use Rattle.fd_model.proofs.Lemmas.{SameFinding, IsFindingBelow, found_below, first_below, second_below, has_view, one_view}
 use Rattle.heap_cells.specs.declared.Cell.{Cell}
 use Rattle.heap_cells.specs.Cells.{Cells}
 use Rattle.heap_cells.specs.Terms.{Naming, term_of}
@@ -32,14 +31,10 @@ use Rattle.machine_relation.specs.Heap.{Of}
 use Rattle.machine_relation.specs.Held.{Frame, value_at, fixed_frame}
 use Rattle.machine_relation.specs.Shown.{cell_set}
 use Rattle.machine_relation.specs.Store.{posts}
-use Rattle.machine_relation.proofs.FrameTexts.{found_same}
-use Rattle.machine_relation.proofs.Growing.{after_is}
-use Rattle.machine_relation.proofs.Renaming.{of_below}
-use Rattle.machine_relation.proofs.Scoping.{seen_by_variable}
-use Rattle.machine_relation.proofs.Steps.{GivesAll}
+use Rattle.machine_relation.proofs.Lemmas.{found_same, after_is, of_below, seen_by_variable, GivesAll}
 use Rattle.machine_frames.specs.Frames.{link_in, store_touches, frame_of, IsKept}
 use Rattle.machine_frames.specs.Reading.{read_term, heap_finding}
-use Rattle.machine_frames.proofs.Settling.{settled_look, settled_held, settled_rest}
+use Rattle.machine_frames.proofs.Lemmas.{settled_look, settled_held, settled_rest}
 use Rattle.wam_code.specs.declared.instruction.Code.TheVariants as code
 use Rattle.wam_code.specs.Arities.{builtin_arity}
 use Rattle.wam_code.specs.Area.{Area, Holds}

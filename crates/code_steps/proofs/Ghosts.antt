@@ -5,9 +5,8 @@ use Rattle.fd_language.specs.Term.{Term, Terms, Var, no_terms, term, Substitutio
 use Rattle.fd_language.specs.Unifier.{Unifies}
 use Rattle.fd_model.specs.Children.{paired}
 use Rattle.machine_relation.specs.Heap.{Of, AllOf}
-use Rattle.machine_relation.proofs.Growing.{agree_all}
-use Rattle.machine_relation.proofs.Placing.{with_one}
-use Rattle.machine_frames.proofs.Matching.{one_here, one_else}
+use Rattle.machine_relation.proofs.Lemmas.{agree_all, with_one}
+use Rattle.machine_frames.proofs.Lemmas.{one_here, one_else}
 use Rattle.wam_code.specs.Places.{count}
 
 abbrev pub ghosts : ℕ → Terms → Terms

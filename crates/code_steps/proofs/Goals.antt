@@ -15,7 +15,7 @@ use Rattle.fd_model.specs.Sound.{EachBelow, IsRunnableProgram}
 use Rattle.heap_cells.specs.declared.Cell.{Cell}
 use Rattle.heap_cells.specs.Cells.{Cells}
 use Rattle.heap_cells.specs.Terms.{Naming, term_of}
-use Rattle.heap_cells.proofs.Binding.{of_same}
+use Rattle.heap_cells.proofs.Lemmas.{of_same}
 use Rattle.unify_core.specs.declared.Touch.{Touch}
 use Rattle.unify_core.specs.Reduces.{IsSameSize}
 use Rattle.unify_core.specs.Touches.{IsRefuted}
@@ -25,10 +25,9 @@ use Rattle.machine_relation.specs.Ahead.{offered, Spends}
 use Rattle.machine_relation.specs.Heap.{after, Below}
 use Rattle.machine_relation.specs.Models.{HasModel}
 use Rattle.machine_relation.specs.Store.{posts}
-use Rattle.machine_relation.proofs.Growing.{after_is}
-use Rattle.machine_relation.proofs.Renaming.{of_below}
+use Rattle.machine_relation.proofs.Lemmas.{after_is, of_below}
 use Rattle.machine_frames.specs.Frames.{store_touches, IsKept}
-use Rattle.machine_frames.proofs.Unifying.{kept_unified, kept_refuted}
+use Rattle.machine_frames.proofs.Lemmas.{kept_unified, kept_refuted}
 use Rattle.wam_code.specs.declared.instruction.Code.{Code}
 use Rattle.wam_code.specs.declared.instruction.Code.TheVariants as code
 use Rattle.wam_code.specs.Area.{Area, Holds}

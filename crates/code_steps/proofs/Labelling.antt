@@ -19,7 +19,7 @@ use Rattle.heap_cells.specs.declared.Cell.TheVariants as cell
 use Rattle.heap_cells.specs.Cells.{Cells}
 use Rattle.heap_cells.specs.Terms.{Naming, term_of}
 use Rattle.heap_cells.specs.Valid.{IsHeap}
-use Rattle.heap_cells.proofs.Ranks.{term-Int}
+use Rattle.heap_cells.proofs.Lemmas.{term-Int}
 use Rattle.unify_core.specs.declared.Touch.{Touch}
 use Rattle.unify_core.specs.Reduces.{IsSameSize}
 use Rattle.unify_core.specs.Unified as core
@@ -29,16 +29,10 @@ use Rattle.machine_relation.specs.Held.{Frame, value_at, fixed_frame}
 use Rattle.machine_relation.specs.Labelling.{Labelled, faults, done, labels, labelled, by_labelled}
 use Rattle.machine_relation.specs.Shown.{cell_set}
 use Rattle.machine_relation.specs.Store.{posts}
-use Rattle.machine_relation.proofs.FrameTexts.{label_there, label_done, label_faults}
-use Rattle.machine_relation.proofs.Growing.{after_is}
-use Rattle.machine_relation.proofs.Labels.{row_by}
-use Rattle.machine_relation.proofs.Listing.{label_in}
-use Rattle.machine_relation.proofs.Renaming.{of_below}
-use Rattle.machine_relation.proofs.Scoping.{seen_of, variables_on, seen_by_variable}
+use Rattle.machine_relation.proofs.Lemmas.{label_there, label_done, label_faults, after_is, row_by, label_in, of_below, seen_of, variables_on, seen_by_variable}
 use Rattle.machine_frames.specs.Frames.{link_in, store_touches, frame_of, IsKept}
 use Rattle.machine_frames.specs.Reading.{read_term, heap_label}
-use Rattle.machine_frames.proofs.Ranging.{unsettled}
-use Rattle.machine_frames.proofs.Settling.{settled_look, settled_held, settled_rest}
+use Rattle.machine_frames.proofs.Lemmas.{unsettled, settled_look, settled_held, settled_rest}
 use Rattle.wam_code.specs.declared.instruction.Code.TheVariants as code
 use Rattle.wam_code.specs.Area.{Area, Holds}
 use Rattle.wam_code.specs.Places.{Places}

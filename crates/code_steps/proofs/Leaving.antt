@@ -12,8 +12,8 @@ use Rattle.fd_model.proofs.Lemmas.{split_both, weaker}
 use Rattle.heap_cells.specs.Cells.{Cells}
 use Rattle.heap_cells.specs.Terms.{Naming, term_of}
 use Rattle.machine_relation.specs.Heap.{after}
-use Rattle.machine_relation.proofs.Growing.{after_is, agree}
-use Rattle.machine_frames.proofs.Unifying.{kept_barred}
+use Rattle.machine_relation.proofs.Lemmas.{after_is, agree}
+use Rattle.machine_frames.proofs.Lemmas.{kept_barred}
 use Rattle.wam_code.specs.declared.parts.Entry.{Entry}
 use Rattle.wam_code.specs.Area.{Area, name_of}
 use Rattle.wam_code.specs.Places.{count, made}

@@ -29,3 +29,4 @@ pub mod Posting
 pub mod Agreeing
 pub mod Numbering
 pub mod Ranging
+pub mod Lemmas

@@ -13,8 +13,7 @@ use Rattle.heap_cells.specs.declared.Cell.TheVariants as cell
 use Rattle.heap_cells.specs.Cells.{free, Cells, IsOf, with_new_slot}
 use Rattle.heap_cells.specs.Terms.{Naming, term_of}
 use Rattle.heap_cells.specs.Valid.{IsHeap}
-use Rattle.heap_cells.proofs.Binding.{of_same}
-use Rattle.heap_cells.proofs.Growing.{of_wider, var_kept}
+use Rattle.heap_cells.proofs.Lemmas.{of_same, of_wider, var_kept}
 use Rattle.unify_core.specs.declared.Touch.{Touch}
 use Rattle.unify_core.specs.Reduces.{IsSameSize}
 use Rattle.unify_core.specs.Touches.{IsRefuted}
@@ -23,14 +22,9 @@ use Rattle.unify_core.specs.Unified.{cells_equal}
 use Rattle.machine_relation.specs.Heap.{after, Of}
 use Rattle.machine_relation.specs.Says.{SaysSame}
 use Rattle.machine_relation.specs.Store.{posts}
-use Rattle.machine_relation.proofs.Forgetting.{same_model}
-use Rattle.machine_relation.proofs.Growing.{after_is, agree, more_of}
-use Rattle.machine_relation.proofs.Placing.{Or, with_one}
+use Rattle.machine_relation.proofs.Lemmas.{same_model, after_is, agree, more_of, Or, with_one}
 use Rattle.machine_frames.specs.Frames.{store_touches}
-use Rattle.machine_frames.proofs.Keeping.{kept_known, kept_cell, kept_place}
-use Rattle.machine_frames.proofs.Linking.{new_open}
-use Rattle.machine_frames.proofs.Matching.{one_here, one_else}
-use Rattle.machine_frames.proofs.Unifying.{kept_unified, kept_refuted}
+use Rattle.machine_frames.proofs.Lemmas.{kept_known, kept_cell, kept_place, new_open, one_here, one_else, kept_unified, kept_refuted}
 use Rattle.wam_code.specs.declared.instruction.Register.{Register}
 use Rattle.wam_code.specs.declared.instruction.Register.TheVariants.{X, Y}
 use Rattle.wam_code.specs.Places.{Places, write, learn, read, IsFresh}

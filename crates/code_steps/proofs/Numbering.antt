@@ -11,12 +11,9 @@ use Rattle.fd_model.proofs.Lemmas.{join_both, split_both}
 use Rattle.heap_cells.specs.Cells.{Cells}
 use Rattle.machine_relation.specs.Heap.{EquationsOf}
 use Rattle.machine_relation.specs.Rows.{slot_numbers}
-use Rattle.machine_relation.proofs.Growing.{more_each, below_both}
-use Rattle.machine_relation.proofs.Numbering.{AreConsecutive}
-use Rattle.machine_relation.proofs.Placing.{Or, with_one}
+use Rattle.machine_relation.proofs.Lemmas.{more_each, below_both, AreConsecutive, Or, with_one}
 use Rattle.machine_frames.specs.Frames.{IsKept}
-use Rattle.machine_frames.proofs.Keeping.{kept_known, kept_place, kept_forget}
-use Rattle.machine_frames.proofs.Matching.{one_here, one_else}
+use Rattle.machine_frames.proofs.Lemmas.{kept_known, kept_place, kept_forget, one_here, one_else}
 
 -- each of these variables as its integer
 abbrev pub numbered : List (ℕ × ℤ) → Substitution → Substitution

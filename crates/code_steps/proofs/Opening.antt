@@ -15,11 +15,9 @@ use Rattle.heap_cells.specs.Cells.{Cells, IsOf}
 use Rattle.heap_cells.specs.Terms.{Naming, terms_by, term_of}
 use Rattle.machine_relation.specs.Heap.{after, Of, AllOf, StandsFor}
 use Rattle.machine_relation.specs.Says.{SaysSame}
-use Rattle.machine_relation.proofs.Forgetting.{same_model}
-use Rattle.machine_relation.proofs.Growing.{after_are, after_is, agree, agree_all, agree_each, more_of, more_all, more_each, still_of}
+use Rattle.machine_relation.proofs.Lemmas.{same_model, after_are, after_is, agree, agree_all, agree_each, more_of, more_all, more_each, still_of}
 use Rattle.machine_frames.specs.Environments.{AllOwn}
-use Rattle.machine_frames.proofs.Keeping.{kept_more}
-use Rattle.machine_frames.proofs.Unifying.{kept_barred}
+use Rattle.machine_frames.proofs.Lemmas.{kept_more, kept_barred}
 use Rattle.term_pool.specs.declared.AtomId.{AtomId}
 use Rattle.unify_core.specs.Touches.{IsLinked, IsSymbolic}
 use Rattle.wam_code.specs.declared.instruction.Register.{Register}

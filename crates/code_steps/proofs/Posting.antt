@@ -11,10 +11,7 @@ use Rattle.fd_model.specs.Closed.{constrained}
 use Rattle.fd_model.specs.Models.{IsModel}
 use Rattle.fd_model.proofs.Lemmas.{closed_without, posted_right, named_left, named_right, constrained_either, has_map, map_has, one_term, single_from}
 use Rattle.machine_relation.specs.Store.{Touch, Value, Same, touched, posts, next_slot, IsStored, names, shown_set, linked_set}
-use Rattle.machine_relation.proofs.Models.{ungrown, front}
-use Rattle.machine_relation.proofs.Posting.{by_shown, holds_agree}
-use Rattle.machine_relation.proofs.Storing.{extended}
-use Rattle.machine_relation.proofs.Touching.{set_term, set_term_int, as_equations, as_posts}
+use Rattle.machine_relation.proofs.Lemmas.{ungrown, front, by_shown, holds_agree, extended, set_term, set_term_int, as_equations, as_posts}
 
 -- the sets of the named variables, where one of them has the slot k
 pick : (ℕ → ℕ) → Family → Family → List ℕ → ℕ → List ℕ

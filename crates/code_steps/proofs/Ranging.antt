@@ -32,21 +32,12 @@ use Rattle.machine_relation.specs.Ahead.{offered, Spends}
 use Rattle.machine_relation.specs.Held.{value_at, fixed_frame}
 use Rattle.machine_relation.specs.Rows.{slot_numbers, unless_fault, post_row}
 use Rattle.machine_relation.specs.Store.{Touch, Value, Same, posts, names, IsStored}
-use Rattle.machine_relation.proofs.Growing.{after_is, agree}
-use Rattle.machine_relation.proofs.Numbering.{AreConsecutive}
-use Rattle.machine_relation.proofs.PostGoals.{post_same}
-use Rattle.machine_relation.proofs.PostRenaming.{range_filled}
-use Rattle.machine_relation.proofs.RangeGoals.{range_plain, only_integers, post_as_row, IsRangeRow, range_row}
-use Rattle.machine_relation.proofs.Renaming.{range_twice}
-use Rattle.machine_relation.proofs.Views.{view_kind}
-use Rattle.machine_relation.proofs.Placing.{with_one}
-use Rattle.machine_frames.proofs.Matching.{one_here, one_else}
+use Rattle.machine_relation.proofs.Lemmas.{after_is, agree, AreConsecutive, post_same, range_filled, range_plain, only_integers, post_as_row, IsRangeRow, range_row, range_twice, view_kind, with_one}
+use Rattle.machine_frames.proofs.Lemmas.{one_here, one_else, unsettled, settled_look, settled_held, settled_rest}
 use Rattle.machine_frames.specs.Frames.{link_in, frame_of, IsKept}
 use Rattle.machine_frames.specs.Reading.{read_term}
-use Rattle.machine_frames.proofs.Ranging.{unsettled}
-use Rattle.machine_frames.proofs.Settling.{settled_look, settled_held, settled_rest}
 use Rattle.range_code.specs.Slots.{slots_of}
-use Rattle.range_code.proofs.Once.{has_once}
+use Rattle.range_code.proofs.Lemmas.{has_once}
 use Rattle.wam_code.specs.declared.instruction.Code.TheVariants as code
 use Rattle.wam_code.specs.Area.{Area, Holds, range_at}
 use Rattle.wam_code.specs.Means.{HoldVars, PostRule}

@@ -14,10 +14,10 @@ use Rattle.heap_cells.specs.declared.Cell.TheVariants as cell
 use Rattle.heap_cells.specs.Cells.{Cells, IsOf}
 use Rattle.heap_cells.specs.Terms.{Naming}
 use Rattle.heap_cells.specs.Valid.{IsHeap}
-use Rattle.heap_cells.proofs.Ranks.{term-Int, term-Atom}
+use Rattle.heap_cells.proofs.Lemmas.{term-Int, term-Atom}
 use Rattle.machine_relation.specs.Says.{SaysSame}
-use Rattle.machine_relation.proofs.Forgetting.{same_model}
-use Rattle.machine_frames.proofs.Keeping.{kept_forget}
+use Rattle.machine_relation.proofs.Lemmas.{same_model}
+use Rattle.machine_frames.proofs.Lemmas.{kept_forget}
 use Rattle.term_pool.specs.declared.AtomId.{AtomId}
 use Rattle.machine_relation.specs.Store.{posts}
 use Rattle.machine_frames.specs.Frames.{store_touches}
@@ -27,7 +27,7 @@ use Rattle.wam_code.specs.declared.instruction.Code.TheVariants.{UnifyVariable, 
 use Rattle.wam_code.specs.Area.{Area, Holds, name_of}
 use Rattle.wam_code.specs.Places.{Places, write, learn, read, IsFresh, count}
 use Rattle.wam_code.specs.Means.{Owed, Means, Return}
-use Rattle.wam_code.proofs.Unifying.{at_unify}
+use Rattle.wam_code.proofs.Lemmas.{at_unify}
 use Rattle.code_steps.specs.Registers.{Registers, Saved, cell_in, IsWritten, IsShown, AllShown}
 use Rattle.code_steps.specs.Standing.{Made, IsOld, IsMade, Stands}
 use Rattle.code_steps.specs.Reading.{AreCells, IsWider, local, ArePlain, Reads, ReadsOnEqual}

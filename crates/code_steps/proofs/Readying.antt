@@ -9,7 +9,7 @@ use Rattle.fd_model.specs.Children.{Faults}
 use Rattle.fd_model.specs.Models.{IsModel}
 use Rattle.fd_model.specs.declared.kinds.QueryFault.{QueryFault}
 use Rattle.fd_model.specs.Sound.{EachBelow, IsRunnableProgram}
-use Rattle.fd_model.proofs.Scoping.{each_wider}
+use Rattle.fd_model.proofs.Lemmas.{each_wider}
 use Rattle.fd_language.specs.Family.{Family}
 use Rattle.heap_cells.specs.declared.Cell.{Cell}
 use Rattle.heap_cells.specs.Cells.{Cells, IsOf}
@@ -17,17 +17,14 @@ use Rattle.heap_cells.specs.Terms.{Naming, term_of}
 use Rattle.machine_relation.specs.Ahead.{offered, Ahead, Spends}
 use Rattle.machine_relation.specs.Heap.{Below}
 use Rattle.machine_relation.specs.Models.{HasModel}
-use Rattle.machine_relation.proofs.Ahead.{ahead_drop, ahead_spent, ahead_taken, ahead_fault}
-use Rattle.machine_relation.proofs.Growing.{more_of}
-use Rattle.machine_relation.proofs.Steps.{GivesAll, Speaks}
-use Rattle.machine_relation.proofs.Walking.{gone_by}
+use Rattle.machine_relation.proofs.Lemmas.{ahead_drop, ahead_spent, ahead_taken, ahead_fault, more_of, GivesAll, Speaks, gone_by}
 use Rattle.machine_frames.specs.Frames.{IsKept}
-use Rattle.machine_frames.proofs.Keeping.{kept_known, kept_consistent}
+use Rattle.machine_frames.proofs.Lemmas.{kept_known, kept_consistent}
 use Rattle.wam_code.specs.declared.instruction.Code.{Code}
 use Rattle.wam_code.specs.Area.{Area, Holds}
 use Rattle.wam_code.specs.Places.{Places, IsWhole}
 use Rattle.wam_code.specs.Means.{Caller, Takes, Rule, Means}
-use Rattle.wam_code.proofs.Steps.{from_rule}
+use Rattle.wam_code.proofs.Lemmas.{from_rule}
 use Rattle.code_steps.specs.Registers.{Registers, Saved, IsShown}
 use Rattle.code_steps.specs.Standing.{Made, IsOld, IsMade, Stands}
 use Rattle.code_steps.specs.Running.{IsReady, Choice, Waits, Runs, Returns, IsTaking}

@@ -9,11 +9,8 @@ use Rattle.fd_model.proofs.Lemmas.{split_both, weaker}
 use Rattle.heap_cells.specs.Cells.{Cells}
 use Rattle.heap_cells.specs.Terms.{Naming}
 use Rattle.machine_relation.specs.Ahead.{Ahead, Spends}
-use Rattle.machine_relation.proofs.Ahead.{ahead_drop}
-use Rattle.machine_relation.proofs.Forgetting.{same_model}
-use Rattle.machine_relation.proofs.Steps.{back_none}
-use Rattle.machine_relation.proofs.Walking.{gone_by}
-use Rattle.machine_frames.proofs.Keeping.{kept_no_model}
+use Rattle.machine_relation.proofs.Lemmas.{ahead_drop, same_model, back_none, gone_by}
+use Rattle.machine_frames.proofs.Lemmas.{kept_no_model}
 use Rattle.wam_code.specs.declared.instruction.Code.{Code}
 use Rattle.wam_code.specs.declared.instruction.Code.TheVariants.{Jump, FailNow, TryMeElse, RetryMeElse, TrustMe, Try, Retry, Trust, SwitchOnTerm, SwitchOnConstant, SwitchOnInteger, SwitchOnStructure}
 use Rattle.wam_code.specs.declared.parts.Entry.{Entry}

@@ -9,13 +9,13 @@ use Rattle.heap_cells.specs.Cells.{Cells}
 use Rattle.heap_cells.specs.Terms.{Naming}
 use Rattle.machine_relation.specs.Heap.{EquationsOf}
 use Rattle.machine_relation.specs.Says.{SaysSame}
-use Rattle.machine_relation.proofs.Growing.{more_of, more_each}
+use Rattle.machine_relation.proofs.Lemmas.{more_of, more_each}
 use Rattle.machine_frames.specs.Frames.{IsKept}
-use Rattle.machine_frames.proofs.Keeping.{kept_known, kept_forget}
+use Rattle.machine_frames.proofs.Lemmas.{kept_known, kept_forget}
 use Rattle.wam_code.specs.declared.instruction.Register.TheVariants.{X}
 use Rattle.wam_code.specs.Places.{Places, write, learn, no_registers, no_slots, IsFresh, Has, IsWhole, IsSettled}
 use Rattle.wam_code.specs.Means.{Return, returned}
-use Rattle.wam_code.proofs.Restating.{still_says_same}
+use Rattle.wam_code.proofs.Lemmas.{still_says_same}
 use Rattle.code_steps.specs.Registers.{Registers, Saved, AreSame}
 use Rattle.code_steps.specs.Standing.{Made, IsOld, IsMade}
 use Rattle.code_steps.proofs.Shown.{no_term, shown_moved, all_moved, shown_same}

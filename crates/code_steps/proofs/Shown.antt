@@ -6,7 +6,7 @@ use Rattle.heap_cells.specs.declared.Cell.{Cell}
 use Rattle.heap_cells.specs.Cells.{Cells, IsOf}
 use Rattle.heap_cells.specs.Terms.{Naming, term_of}
 use Rattle.machine_relation.specs.Heap.{Of}
-use Rattle.machine_relation.proofs.Growing.{more_of}
+use Rattle.machine_relation.proofs.Lemmas.{more_of}
 use Rattle.wam_code.specs.Places.{put_at}
 use Rattle.wam_code.specs.Means.{Return}
 use Rattle.code_steps.specs.Registers.{Saved, IsPut, AreSame, IsShown, AreShown, AllShown}

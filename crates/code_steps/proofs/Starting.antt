@@ -15,13 +15,9 @@ use Rattle.heap_cells.specs.Cells.{Cells}
 use Rattle.heap_cells.specs.Terms.{Naming}
 use Rattle.machine_relation.specs.Ahead.{Ahead}
 use Rattle.machine_relation.specs.Store.{IsStored}
-use Rattle.machine_relation.proofs.Ahead.{ahead_drop}
-use Rattle.machine_relation.proofs.PostRenaming.{functions}
-use Rattle.machine_relation.proofs.Starting.{nothing_stored, first_model}
-use Rattle.machine_relation.proofs.Walking.{gone_by}
+use Rattle.machine_relation.proofs.Lemmas.{ahead_drop, functions, nothing_stored, first_model, gone_by}
 use Rattle.machine_frames.specs.Frames.{link_of, link_in, IsKept}
-use Rattle.machine_frames.proofs.Keeping.{kept_known, kept_no_model}
-use Rattle.machine_frames.proofs.Linking.{slot_behind}
+use Rattle.machine_frames.proofs.Lemmas.{kept_known, kept_no_model, slot_behind}
 use Rattle.wam_code.specs.Area.{Area, Span, name_of}
 use Rattle.wam_code.specs.Places.{Places, made}
 use Rattle.wam_code.specs.Tries.{IsQueryCode}

@@ -11,11 +11,9 @@ use Rattle.heap_cells.specs.declared.Cell.TheVariants as cell
 use Rattle.heap_cells.specs.Cells.{Cells, IsOf, with_new_slot}
 use Rattle.heap_cells.specs.Terms.{Naming}
 use Rattle.heap_cells.specs.Valid.{IsHeap}
-use Rattle.heap_cells.proofs.Ranks.{term-Int, term-Atom}
+use Rattle.heap_cells.proofs.Lemmas.{term-Int, term-Atom}
 use Rattle.machine_relation.specs.Heap.{AllOf}
-use Rattle.machine_relation.proofs.Growing.{more_of}
-use Rattle.machine_relation.proofs.PostRenaming.{functions}
-use Rattle.machine_relation.proofs.Renaming.{of_all}
+use Rattle.machine_relation.proofs.Lemmas.{more_of, functions, of_all}
 use Rattle.term_pool.specs.declared.AtomId.{AtomId}
 use Rattle.wam_code.specs.declared.instruction.Register.{Register}
 use Rattle.wam_code.specs.declared.instruction.Register.TheVariants.{X}
@@ -25,7 +23,7 @@ use Rattle.wam_code.specs.declared.parts.Entry.{Entry}
 use Rattle.wam_code.specs.Area.{Area, Holds, HasEntry, name_of}
 use Rattle.wam_code.specs.Places.{Places, write, learn, no_registers, no_slots, IsWhole, IsSettled, Hold, made}
 use Rattle.wam_code.specs.Means.{Caller, CallRule, Rule, Means, Return, returned, Continues}
-use Rattle.wam_code.proofs.Steps.{at_place, quietly_keeps}
+use Rattle.wam_code.proofs.Lemmas.{at_place, quietly_keeps}
 use Rattle.code_steps.specs.Registers.{Registers, Saved, cell_in, AreSame, IsWritten, IsShown, AreHeld, AllShown}
 use Rattle.code_steps.specs.Standing.{Made, IsOld, IsMade, Stands, IsCalling}
 use Rattle.code_steps.specs.Steps.{GoesOnEqual}

@@ -6,7 +6,7 @@ use Rattle.fd_model.specs.Children.{with_goals}
 use Rattle.fd_model.specs.Goal.{Goal, Goals, listed, Branch}
 use Rattle.fd_model.specs.Goal as goal
 use Rattle.fd_model.specs.Sound.{EachBelow}
-use Rattle.fd_model.proofs.Scoping.{each_both_below, listed_below}
+use Rattle.fd_model.proofs.Lemmas.{each_both_below, listed_below}
 use Rattle.heap_cells.specs.Cells.{Cells}
 use Rattle.heap_cells.specs.Terms.{Naming}
 use Rattle.wam_code.specs.declared.instruction.Code.TheVariants as code

@@ -14,7 +14,7 @@ use Rattle.wam_code.specs.declared.parts.Entry.{Entry}
 use Rattle.wam_code.specs.Area.{Area, Holds, Table, table_at, name_of}
 use Rattle.wam_code.specs.Places.{made}
 use Rattle.wam_code.specs.Tries.{Shape, by_shape, Rows, Both, TryRule, Tries, IsClause}
-use Rattle.wam_code.proofs.Trying.{at_try}
+use Rattle.wam_code.proofs.Lemmas.{at_try}
 use Rattle.code_steps.specs.Registers.{Registers, Saved, AreSame}
 use Rattle.code_steps.specs.Standing.{Stands}
 use Rattle.code_steps.specs.Trying.{IsTrying, TriesBoth, HasNoRow, HasRow, IsFirst}

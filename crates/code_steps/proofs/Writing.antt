@@ -15,7 +15,7 @@ use Rattle.fd_model.specs.Lines.{only_argument, written_text}
 use Rattle.fd_model.specs.Models.{IsModel}
 use Rattle.fd_model.specs.Seen.{seen}
 use Rattle.fd_model.specs.Sound.{IsRunnableProgram, EachBelow}
-use Rattle.fd_model.proofs.Findings.{first_below}
+use Rattle.fd_model.proofs.Lemmas.{first_below}
 use Rattle.heap_cells.specs.declared.Cell.{Cell}
 use Rattle.heap_cells.specs.Cells.{Cells}
 use Rattle.heap_cells.specs.Terms.{Naming, term_of}
@@ -25,12 +25,10 @@ use Rattle.machine_relation.specs.Heap.{Of}
 use Rattle.machine_relation.specs.Held.{Frame, value_at, fixed_frame}
 use Rattle.machine_relation.specs.Models.{HasModel}
 use Rattle.machine_relation.specs.Shown.{cell_text}
-use Rattle.machine_relation.proofs.FrameTexts.{written_same}
-use Rattle.machine_relation.proofs.Growing.{after_is}
-use Rattle.machine_relation.proofs.Renaming.{of_below}
+use Rattle.machine_relation.proofs.Lemmas.{written_same, after_is, of_below}
 use Rattle.machine_frames.specs.Frames.{link_in, frame_of}
 use Rattle.machine_frames.specs.Reading.{read_term}
-use Rattle.machine_frames.proofs.Settling.{settled_look, settled_held, settled_rest}
+use Rattle.machine_frames.proofs.Lemmas.{settled_look, settled_held, settled_rest}
 use Rattle.wam_code.specs.declared.instruction.Code.TheVariants as code
 use Rattle.wam_code.specs.Area.{Area, Holds}
 use Rattle.wam_code.specs.Places.{made}

@@ -1,3 +1,4 @@
 pub mod Pairs
 pub mod Numbers
 pub mod Law
+pub mod Lemmas

@@ -16,11 +16,7 @@ use Rattle.fd_model.specs.declared.kinds.Relation.{Relation}
 use Rattle.fd_model.specs.declared.kinds.ConstraintKind.TheVariants.{Compare, Atmost}
 use Rattle.fd_model.specs.Members.{Member, placed, fresh_after}
 use Rattle.fd_model.specs.Constraining.{compare, atmost}
-use Rattle.fd_model.proofs.Lemmas.{posted_right}
-use Rattle.fd_model.proofs.Counters.{units_nonzero}
-use Rattle.fd_model.proofs.RowWidths.{under, weight, AreNarrow}
-use Rattle.fd_model.proofs.CompareWidths.{Within, form_within, compare_within}
-use Rattle.fd_model.proofs.RowDirections.{IsFitting, Fitting, expand_fitting}
+use Rattle.fd_model.proofs.Lemmas.{posted_right, units_nonzero, under, weight, AreNarrow, Within, form_within, compare_within, IsFitting, Fitting, expand_fitting}
 use Rattle.constraint_expand.specs.Lists.{AreWords}
 use Rattle.constraint_expand.specs.Posts.{Accepted}
 

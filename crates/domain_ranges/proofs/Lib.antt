@@ -20,3 +20,4 @@ pub mod Images
 pub mod Union
 pub mod Inside
 pub mod Stacking
+pub mod Lemmas

@@ -11,9 +11,7 @@ use Rattle.domain_ranges.specs.declared.Narrowed.{Narrowed}
 use Rattle.domain_ranges.specs.declared.Narrowed.TheVariants as left
 use Rattle.domain_ranges.specs.declared.Part.TheVariants.{Within}
 use Rattle.domain_ranges.specs.declared.Membership.TheVariants.{Among}
-use Rattle.domain_ranges.proofs.Excluding.{fewer_left}
-use Rattle.domain_ranges.proofs.Members.{least_is, members_rising}
-use Rattle.domain_ranges.proofs.Ends.{own_ends}
+use Rattle.domain_ranges.proofs.Lemmas.{fewer_left, least_is, members_rising, own_ends}
 use Rattle.domain_trail.specs.declared.Cell.{Cell}
 use Rattle.domain_trail.specs.declared.Saved.{Saved}
 use Rattle.domain_trail.specs.declared.Mark.{Mark}

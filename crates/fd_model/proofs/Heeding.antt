@@ -9,7 +9,7 @@ use Rattle.fd_model.specs.Closed.{IsClosed, AllPosted, constrained}
 use Rattle.fd_model.specs.Goal.{Branch}
 use Rattle.fd_model.specs.Seen.{IsConsistent, IsView, is_variable, set_at, by_set}
 use Rattle.fd_model.specs.Children.{look_in}
-pub use Rattle.fd_language.proofs.Sets.{first_member, only_member}
+pub use Rattle.fd_language.proofs.Lemmas.{first_member, only_member}
 use Rattle.fd_language.proofs.Lemmas.{in_left, in_right, has_high, rising_same, solved, after, still_unifies, through_term}
 use Rattle.fd_model.specs.Satisfies.{Assignment, singles}
 use Rattle.fd_model.specs.Answers.{IsSolution}

@@ -23,3 +23,13 @@ pub use Rattle.fd_model.proofs.Models.{consistent_from, has_general, not_empty, 
 pub use Rattle.fd_model.proofs.Unique.{one_view, queries_once, run_once}
 -- Texts: the lines and values of a query.
 pub use Rattle.fd_model.proofs.Texts.{place_same, same_test, spelled_same, variables_apply_all}
+pub use Rattle.fd_model.proofs.Choosing.{element_ok}
+pub use Rattle.fd_model.proofs.Collecting.{both_ok, one_ok, test_ok}
+pub use Rattle.fd_model.proofs.CompareWidths.{Within, compare_within, form_within}
+pub use Rattle.fd_model.proofs.Counters.{atmost_ok, units_nonzero}
+pub use Rattle.fd_model.proofs.Existence.{one_run}
+pub use Rattle.fd_model.proofs.Findings.{IsFindingBelow, SameFinding, first_below, found_below, found_renamed, second_below}
+pub use Rattle.fd_model.proofs.ProgramScopes.{clauses_scoped}
+pub use Rattle.fd_model.proofs.RowDirections.{Fitting, IsFitting, expand_fitting}
+pub use Rattle.fd_model.proofs.RowWidths.{AreNarrow, under, weight}
+pub use Rattle.fd_model.proofs.Runnable.{accepted_runnable}

@@ -1,7 +1,7 @@
 -- Lemmas on what holds of each, of some and of each pair of a list.
 use Rattle.std.proofs.Common.{List, [], ◌∷◌, ◌++◌, inl, inr, ◌⊎◌}
 use Rattle.fd_language.specs.Lists.{Each}
-pub use Rattle.fd_language.proofs.Lists.{each_map, each_both, each_before, each_after}
+pub use Rattle.fd_language.proofs.Lemmas.{each_map, each_both, each_before, each_after}
 use Rattle.fd_model.specs.Answers.{Somewhere, InOrder}
 
 module _ {X : Type 0} where

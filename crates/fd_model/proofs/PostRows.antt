@@ -14,7 +14,7 @@ use Rattle.fd_model.specs.Posting.{is_integer, integer_of, integers_at, slot, sl
 use Rattle.fd_model.specs.Goal.{Goal, Post, Program, Branch}
 use Rattle.fd_model.specs.Sound.{PlacesBelow}
 use Rattle.fd_model.specs.Children.{Gives as GivesBranches, by_post, offer}
-pub use Rattle.fd_language.proofs.Sets.{map_has, has_map}
+pub use Rattle.fd_language.proofs.Lemmas.{map_has, has_map}
 use Rattle.fd_language.proofs.Lemmas.{has_high, has_either, universe_rising, has-filter_back, in_left, reads_map, set_same, filled_as_is, none_placed, free_places_read}
 use Rattle.fd_model.proofs.GoalRows.{Rewritten, with_ranges, numbers, Gives, FitsRow, IsPlain}
 use Rattle.fd_model.specs.Satisfies.{Assignment, singles}

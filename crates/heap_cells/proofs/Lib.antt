@@ -12,3 +12,4 @@ pub mod Levels
 pub mod Adding
 pub mod Undoing
 pub mod Atoms
+pub mod Lemmas

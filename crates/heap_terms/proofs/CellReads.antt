@@ -11,8 +11,7 @@ use Rattle.heap_cells.specs.Cells.{Cells, Compound, Slot, free, linked, is_bound
 use Rattle.heap_cells.specs.Terms.{Naming, term_of, terms_by, Same}
 use Rattle.heap_cells.specs.Atoms.{HasAtomsBelow, IsAtomBelow}
 use Rattle.heap_cells.specs.Valid.{IsHeap}
-use Rattle.heap_cells.proofs.Binding.{apply-terms_by}
-use Rattle.heap_cells.proofs.Ranks.{unbound_term, term-Int, term-Atom, term-Struct}
+use Rattle.heap_cells.proofs.Lemmas.{apply-terms_by, unbound_term, term-Int, term-Atom, term-Struct}
 use Rattle.heap_terms.specs.declared.Reading.{Reading}
 use Rattle.heap_terms.specs.declared.Reading.TheVariants.{Visit, Make}
 use Rattle.heap_terms.specs.Values.{only, set_in, value_of, shown_slot, shown, shown_term}

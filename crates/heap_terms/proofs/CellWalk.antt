@@ -9,12 +9,12 @@ use Rattle.term_pool.specs.declared.TermId.{TermId}
 use Rattle.term_pool.specs.Contents.{Contents, name_in}
 use Rattle.term_pool.specs.Terms.{Extends, KeepsTerms}
 use Rattle.term_pool.specs.Terms as pool
-use Rattle.term_pool.proofs.Laws.{extends_refl, extends_trans, terms_by_same}
+use Rattle.term_pool.proofs.Lemmas.{extends_refl, extends_trans, terms_by_same}
 use Rattle.heap_cells.specs.declared.Cell.{Cell}
 use Rattle.heap_cells.specs.Cells.{Cells, IsOf}
 use Rattle.heap_cells.specs.Terms.{terms_by}
 use Rattle.heap_cells.specs.Atoms.{IsAtomBelow}
-use Rattle.heap_cells.proofs.Elements.{head_of, tail_of, none_at_all, both_of, all_front, last_of, all_push, all_reverse}
+use Rattle.heap_cells.proofs.Lemmas.{head_of, tail_of, none_at_all, both_of, all_front, last_of, all_push, all_reverse}
 use Rattle.heap_terms.specs.declared.Reading.{Reading}
 use Rattle.heap_terms.specs.declared.Reading.TheVariants.{Visit, Make}
 use Rattle.heap_terms.specs.Values.{shown_term}

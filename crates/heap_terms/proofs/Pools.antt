@@ -8,9 +8,8 @@ use Rattle.term_pool.specs.declared.AtomId.{AtomId}
 use Rattle.term_pool.specs.declared.TermId.{TermId}
 use Rattle.term_pool.specs.Contents.{Shape, comp, Entry, Contents, name_in, place_at}
 use Rattle.term_pool.specs.Terms.{term_of, terms_by, shape_term, KeepsTerms, Extends}
-use Rattle.term_pool.proofs.Laws.{terms_by_same, place_kept}
-use Rattle.term_pool.proofs.Names.{slice_get_seam}
-use Rattle.heap_cells.proofs.Elements.{head_of, tail_of, both_of}
+use Rattle.term_pool.proofs.Lemmas.{terms_by_same, place_kept, slice_get_seam}
+use Rattle.heap_cells.proofs.Lemmas.{head_of, tail_of, both_of}
 use Rattle.heap_terms.specs.Reading.{PlacesAtZero}
 
 pub places_same : (old new : Contents) → new.entries ≡ old.entries → PlacesAtZero old new

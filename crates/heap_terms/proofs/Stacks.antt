@@ -3,8 +3,7 @@ use Rattle.std.proofs.Common.{◌≡◌, ℕ, ◌-◌, ◌<◌, ◌≤◌, refl,
 use Rattle.std.specs.Prelude.{map, reverse, All}
 use Rattle.std.proofs.lemmas.List.{map-append, take-map, drop-map, length-map}
 use Rattle.fd_language.specs.Term.{Name, Term, Comp}
-use Rattle.heap_cells.proofs.Elements.{head_of, tail_of}
-use Rattle.heap_cells.proofs.Substitutions.{size_positive}
+use Rattle.heap_cells.proofs.Lemmas.{head_of, tail_of, size_positive}
 use Rattle.heap_terms.specs.Tasks.{Task, visit, make, to_terms, ahead, Leaves}
 use Rattle.heap_terms.proofs.Tasks.{stack, stack_top, stack_parts, leaves_result, leaves_parts, leaves_compound, compound_ahead}
 

@@ -6,7 +6,7 @@ use Rattle.fd_language.specs.Unifier.{Equation}
 use Rattle.fd_language.specs.Range.{Indexical}
 use Rattle.machine_relation.specs.Heap.{Of}
 use Rattle.machine_relation.specs.Store.{IsStored, shown_set}
-use Rattle.machine_relation.proofs.Growing.{agree, agree_each, more_of, more_each}
+use Rattle.machine_relation.proofs.Lemmas.{agree, agree_each, more_of, more_each}
 
 -- b up to n, and from there on u of the variable that seek finds
 abbrev back : ℕ → (ℕ → ℕ) → Substitution → Substitution → Substitution

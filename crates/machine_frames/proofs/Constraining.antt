@@ -15,10 +15,7 @@ use Rattle.heap_cells.specs.Cells.{Cells}
 use Rattle.machine_relation.specs.Heap.{after, applied_each, EquationsOf}
 use Rattle.machine_relation.specs.Rows.{rename_products, rename_expansion}
 use Rattle.machine_relation.specs.Store.{Touch, posts, IsStored, IsUnified}
-use Rattle.machine_relation.proofs.Cells.{place_from, place_above}
-use Rattle.machine_relation.proofs.Holding.{stored_posts}
-use Rattle.machine_relation.proofs.Joining.{posted_each}
-use Rattle.machine_relation.proofs.Touching.{unified}
+use Rattle.machine_relation.proofs.Lemmas.{place_from, place_above, stored_posts, posted_each, unified}
 use Rattle.machine_frames.specs.Frames.{link_in, IsKept}
 use Rattle.machine_frames.proofs.Building.{stored_spread}
 use Rattle.machine_frames.specs.Posting.{IsRowLinked}

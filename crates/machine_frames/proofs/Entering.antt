@@ -5,7 +5,7 @@ use Rattle.fd_language.specs.Variables.{TermsBelow}
 use Rattle.fd_model.specs.Renaming.{rename_term}
 use Rattle.fd_model.proofs.Lemmas.{term_renamed}
 use Rattle.machine_relation.specs.Heap.{AllOf}
-use Rattle.machine_relation.proofs.Renaming.{of_below}
+use Rattle.machine_relation.proofs.Lemmas.{of_below}
 
 pub renamed_all : (n v : ℕ) (us : Terms) → TermsBelow v us → AllOf (λ x. x < n + v) (apply_all (λ x. Var (n + x)) us)
 renamed_all n v no_terms b = tt

@@ -4,8 +4,7 @@ use Rattle.std.proofs.lemmas.Bool.{cases_eq}
 use Rattle.heap_cells.specs.declared.Cell.{Cell}
 use Rattle.heap_cells.specs.Cells.{free, linked, Cells, slot_at, IsOf, with_slot, with_new_slot}
 use Rattle.heap_cells.specs.Valid.{IsHeap}
-use Rattle.heap_cells.proofs.Binding.{slot_there, slot_elsewhere, of_same}
-use Rattle.heap_cells.proofs.Growing.{new_slot_at, var_kept, link_valid, link_kept}
+use Rattle.heap_cells.proofs.Lemmas.{slot_there, slot_elsewhere, of_same, new_slot_at, var_kept, link_valid, link_kept}
 use Rattle.machine_frames.specs.Frames.{link_of, link_in, IsGrown}
 use Rattle.machine_frames.proofs.Continuing.{of_grown}
 use Rattle.machine_frames.specs.Posting.{IsLinkedMore}

@@ -9,15 +9,12 @@ use Rattle.fd_model.specs.Models.{IsModel}
 use Rattle.fd_model.specs.Seen.{IsConsistent}
 use Rattle.fd_model.proofs.Lemmas.{consistent_from}
 use Rattle.heap_cells.specs.Cells.{free, Cells, with_new_slot}
-use Rattle.heap_cells.proofs.Growing.{new_slot_at}
+use Rattle.heap_cells.proofs.Lemmas.{new_slot_at}
 use Rattle.machine_relation.specs.Heap.{Of, EquationsOf, StandsFor}
 use Rattle.machine_relation.specs.Models.{HasModel}
 use Rattle.machine_relation.specs.Says.{SaysSame}
 use Rattle.machine_relation.specs.Store.{IsStored}
-use Rattle.machine_relation.proofs.Forgetting.{stored_forget, stored_more}
-use Rattle.machine_relation.proofs.Growing.{more_of, more_each}
-use Rattle.machine_relation.proofs.Placing.{Or, with_one, other, stored_cell, stored_place}
-use Rattle.machine_relation.proofs.PostRenaming.{functions}
+use Rattle.machine_relation.proofs.Lemmas.{stored_forget, stored_more, more_of, more_each, Or, with_one, other, stored_cell, stored_place, functions}
 use Rattle.machine_frames.specs.Frames.{link_of, link_in, IsKept, IsGrown}
 
 module _ (M : ℕ) (h : Cells) (qs : List Indexical) (es : List Equation) (ps : List Indexical) (P : ℕ → Type 0) (look : Substitution) (s : IsKept M h qs es ps P look) where

@@ -10,3 +10,4 @@ pub mod Ranging
 pub mod Growing
 pub mod Naming
 pub mod Constraining
+pub mod Lemmas

@@ -6,8 +6,7 @@ use Rattle.heap_cells.specs.declared.Cell.TheVariants as cell
 use Rattle.heap_cells.specs.Cells.{free, is_bound, Cells, slot_at, with_new_slot}
 use Rattle.heap_cells.specs.Terms.{Naming, term_of}
 use Rattle.heap_cells.specs.Valid.{IsHeap}
-use Rattle.heap_cells.proofs.Growing.{new_slot_at, var_valid}
-use Rattle.heap_cells.proofs.Ranks.{unbound_term}
+use Rattle.heap_cells.proofs.Lemmas.{new_slot_at, var_valid, unbound_term}
 
 -- a variable that isn't there is free
 pub slot_behind : (h : Cells) (c : ℕ) → length h.slots ≤ c → slot_at h c ≡ free

@@ -1,7 +1,7 @@
 -- A variable that gets a value.
 use Rattle.std.proofs.Common.{◌≡◌, ℕ, refl, ap, cond, eq-eqb, ne_eqb}
 use Rattle.fd_language.specs.Term.{Term, Substitution}
-use Rattle.machine_relation.proofs.Placing.{with_one}
+use Rattle.machine_relation.proofs.Lemmas.{with_one}
 
 pub one_here : (v : ℕ) (t : Term) (s : Substitution) → with_one v t s v ≡ t
 one_here v t s = ap (λ b. cond b t (s v)) (eq-eqb v v refl)

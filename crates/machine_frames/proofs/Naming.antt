@@ -16,7 +16,7 @@ use Rattle.heap_cells.specs.Atoms.{IsAtomBelow, HasAtomsBelow}
 use Rattle.heap_cells.specs.Cells.{Cells, IsOf, slot_at, compound_at}
 use Rattle.heap_cells.specs.Terms.{IsOneToOne, within, depth, term_of}
 use Rattle.heap_cells.specs.Valid.{IsHeap}
-use Rattle.heap_cells.proofs.Ranks.{terms_agree, slot_agrees}
+use Rattle.heap_cells.proofs.Lemmas.{terms_agree, slot_agrees}
 use Rattle.machine_frames.specs.Naming.{zeros, full}
 
 length_zeros : (n : ℕ) → length (zeros n) ≡ n

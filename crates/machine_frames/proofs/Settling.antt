@@ -14,12 +14,7 @@ use Rattle.heap_cells.specs.Terms.{Naming}
 use Rattle.heap_cells.specs.Valid.{IsHeap}
 use Rattle.machine_relation.specs.Heap.{after, Below}
 use Rattle.machine_relation.specs.Held.{Frame, IsHeld, IsAtRest, value_in, value_at, link_in, link_at, fixed_frame}
-use Rattle.machine_relation.proofs.Growing.{after_is, same_term}
-use Rattle.machine_relation.proofs.Holding.{held_fix}
-use Rattle.machine_relation.proofs.Models.{number_for, number_at}
-use Rattle.machine_relation.proofs.PostRenaming.{functions}
-use Rattle.machine_relation.proofs.SingleValues.{fixed_rest}
-use Rattle.machine_relation.proofs.Storing.{sole_value, without_cell}
+use Rattle.machine_relation.proofs.Lemmas.{after_is, same_term, held_fix, number_for, number_at, functions, fixed_rest, sole_value, without_cell}
 use Rattle.machine_frames.specs.Frames.{frame_of, IsKept}
 use Rattle.machine_frames.proofs.Linking.{unused_cell}
 

@@ -12,7 +12,7 @@ use Rattle.fd_model.specs.Models.{IsModel}
 use Rattle.heap_cells.specs.declared.Cell.{Cell}
 use Rattle.heap_cells.specs.Cells.{Slot, free, linked, bound, Cells, slot_at}
 use Rattle.heap_cells.specs.Terms.{Naming, term_of}
-use Rattle.heap_cells.proofs.Elements.{head_of, tail_of}
+use Rattle.heap_cells.proofs.Lemmas.{head_of, tail_of}
 use Rattle.unify_core.specs.declared.Touch.{Touch}
 use Rattle.unify_core.specs.declared.Touch.TheVariants as touch
 use Rattle.unify_core.specs.Touches.{IsLinked, NamesLinked, IsPlain, IsSymbolic, IsRefuted}
@@ -22,9 +22,7 @@ use Rattle.unify_core.specs.Unified.{cells_equal}
 use Rattle.unify_core.specs.Unified as core
 use Rattle.machine_relation.specs.Heap.{after, applied_each, Of}
 use Rattle.machine_relation.specs.Store.{touched, posts, IsUnified, IsStored}
-use Rattle.machine_relation.proofs.Growing.{unify_applied}
-use Rattle.machine_relation.proofs.Renaming.{of_below}
-use Rattle.machine_relation.proofs.Touching.{unified}
+use Rattle.machine_relation.proofs.Lemmas.{unify_applied, of_below, unified}
 use Rattle.machine_frames.specs.Frames.{link_of, link_in, store_touches, IsKept}
 
 of_link : (s : Slot) (k : ℕ) → link_of s ≡ Some k → s ≡ linked k

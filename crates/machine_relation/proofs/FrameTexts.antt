@@ -1,7 +1,7 @@
 -- The texts, labellings and rows of constraints by a frame whose store is at rest are those by the branch's view.
 use Rattle.fd_model.specs.declared.kinds.BuiltinKind.{BuiltinKind}
 use Rattle.fd_model.specs.Builtins.{found}
-use Rattle.fd_model.proofs.Findings.{SameFinding, found_renamed}
+use Rattle.fd_model.proofs.Lemmas.{SameFinding, found_renamed, first_member, spelled_same, place_same, variables_apply_all}
 use Rattle.std.proofs.Common.{◌≡◌, ℕ, suc, ◌<◌, ◌≤◌, arith, true, List, [], ◌∷◌, ◌++◌, map, Option, Some, None, codes, refl, ap, sym, subst, ◌∙◌}
 use Rattle.std.proofs.lemmas.Bool.{true≢false}
 use Rattle.fd_model.specs.declared.kinds.ConstraintKind.{ConstraintKind}
@@ -18,7 +18,6 @@ use Rattle.fd_language.specs.Variables.{variables_of, variables_of_all, distinct
 use Rattle.fd_model.specs.Lines.{place_in, open_part, open_text, as_terms, joined, equals_text, line_of, written_text}
 use Rattle.fd_model.specs.Constraining.{arguments, expand}
 use Rattle.fd_language.proofs.Lemmas.{two, in_left, in_right}
-use Rattle.fd_model.proofs.Lemmas.{first_member, spelled_same, place_same, variables_apply_all}
 use Rattle.fd_model.specs.Labelling.{values_by}
 use Rattle.machine_relation.specs.Heap.{Of, AllOf}
 use Rattle.machine_relation.specs.Held.{Frame, IsHeld, IsAtRest}

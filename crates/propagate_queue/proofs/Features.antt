@@ -18,13 +18,11 @@ use Rattle.range_code.specs.declared.frame.Arg.{Arg}
 use Rattle.range_code.specs.Slots.{slot_of, in_slots, slot_features}
 use Rattle.range_code.specs.Frames.{IsFrame, slot_variable, slot_integer, posted}
 use Rattle.range_code.specs.Nodes.{IsSeen}
-use Rattle.range_code.proofs.Framing.{all_readable}
-use Rattle.range_code.proofs.Posted.{one_use, posted_monotone}
-use Rattle.range_code.proofs.Standings.{features_seen, all_once}
+use Rattle.range_code.proofs.Lemmas.{all_readable, one_use, posted_monotone, features_seen, all_once}
 use Rattle.fd_language.proofs.Lemmas.{whole_nodes}
 use Rattle.dependency_chains.specs.declared.Change.{Change}
 use Rattle.dependency_chains.specs.Waking.{wakes, is_woken}
-use Rattle.dependency_chains.proofs.Chaining.{same_feature}
+use Rattle.dependency_chains.proofs.Lemmas.{same_feature}
 
 abbrev Pair : Type 0
 Pair = ℕ × Feature

@@ -15,9 +15,7 @@ use Rattle.fd_language.specs.declared.range_node.RangeNode.TheVariants as node
 use Rattle.fd_language.specs.Family.{Family, has, universe}
 use Rattle.fd_language.specs.Range.{Range, Union, some_number}
 use Rattle.fd_language.specs.Flat.{nodes_of, range_nodes, built, builds_range}
-use Rattle.domain_ranges.proofs.Dividing.{same_bool}
-use Rattle.domain_ranges.proofs.Shifting.{not_true}
-use Rattle.domain_ranges.proofs.Images.{set_same, some_has, some_from}
+use Rattle.domain_ranges.proofs.Lemmas.{same_bool, not_true, set_same, some_has, some_from}
 use Rattle.range_code.specs.declared.frame.Arg.{Arg}
 use Rattle.range_code.specs.declared.choice.Choice.{Choice}
 use Rattle.range_code.specs.declared.choice.Part.{Part}

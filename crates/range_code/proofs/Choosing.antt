@@ -9,10 +9,7 @@ use Rattle.fd_language.specs.Family.{has, universe, IsRising, IsSubset}
 use Rattle.fd_language.specs.Range.{is_none_left}
 use Rattle.fd_language.proofs.Lemmas.{shorter_or_same}
 use Rattle.domain_ranges.specs.Spans.{Span, within, IsSpans, members}
-use Rattle.domain_ranges.proofs.Images.{has_set, set_same, set_is, set_rising}
-use Rattle.domain_ranges.proofs.Members.{filter_inside, has_within}
-use Rattle.domain_ranges.proofs.Inside.{loses}
-use Rattle.domain_ranges.proofs.Meeting.{below_first}
+use Rattle.domain_ranges.proofs.Lemmas.{has_set, set_same, set_is, set_rising, filter_inside, has_within, loses, below_first}
 use Rattle.range_code.specs.Choices.{is_chosen, left_chosen, AreRising, IsFromNumber}
 
 -- one more number behind a set

@@ -17,8 +17,7 @@ use Rattle.fd_language.specs.Range.{Range, Expr, least, greatest, down_by, Infin
 use Rattle.fd_language.specs.Range.{Number as Literal}
 use Rattle.fd_language.specs.Check.{fill_range}
 use Rattle.fd_language.specs.Flat.{nodes_of, built, built_behind, put, shape_of, term_alone, term_of_terms, builds_range, spelled, spelled-nodes, IsSpelled}
-use Rattle.fd_language.proofs.Lemmas.{two, greatest_in}
-use Rattle.fd_language.proofs.Limits.{abs_add, abs_mul, products}
+use Rattle.fd_language.proofs.Lemmas.{two, greatest_in, abs_add, abs_mul, products}
 use Rattle.std.proofs.lemmas.List.{at_drop_more, take_all}
 use Rattle.domain_ranges.specs.Narrowing.{between, all_but, IsNarrowed}
 use Rattle.domain_ranges.specs.declared.Narrowed.{Narrowed}

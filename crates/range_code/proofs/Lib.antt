@@ -22,3 +22,4 @@ pub mod Choices
 pub mod Choosing
 pub mod Renaming
 pub mod Stacking
+pub mod Lemmas

@@ -9,8 +9,7 @@ use Rattle.term_pool.specs.Contents as pool
 use Rattle.term_pool.specs.Contents.{Shape, Contents, shape_at, place_at, parts_of}
 use Rattle.term_pool.specs.Terms.{term_of, size, total_size}
 use Rattle.term_pool.specs.Valid.{IsPool, IsWithin}
-use Rattle.term_pool.proofs.Laws.{term_of_shape, shape_within}
-use Rattle.term_pool.proofs.Walks.{total_size-nil, total_size-cons, size_of_shape}
+use Rattle.term_pool.proofs.Lemmas.{term_of_shape, shape_within, total_size-nil, total_size-cons, size_of_shape, placed_of_shape, entry_of}
 use Rattle.range_terms.specs.declared.forms.Operand.{Operand}
 use Rattle.range_terms.specs.declared.forms.Form.{Form}
 use Rattle.range_terms.specs.declared.forms.Form.TheVariants as form
@@ -21,7 +20,6 @@ use Rattle.term_pool.specs.PlacedTerms.{placed_by, placed_of}
 use Rattle.range_terms.specs.Wanted.{Wanted, wanted}
 use Rattle.range_terms.specs.Forms.{of_operand, IsForm, IsNoVariable}
 use Rattle.range_terms.specs.Walk.{IsOf, Replaces}
-use Rattle.term_pool.proofs.PlacedShapes.{placed_of_shape, entry_of}
 use Rattle.range_terms.proofs.Walks.{load_two, load_three, step_open}
 
 same_some : (s u : Shape) → Some s ≡ Some u → s ≡ u

@@ -12,7 +12,7 @@ use Rattle.fd_model.specs.Run.{Run}
 use Rattle.fd_model.specs.Verdict.{Verdict, accepted, refused, IsVerdict}
 use Rattle.clause_check.specs.Programs.{FlatProgram, program_in, query_at, query_in}
 use Rattle.machine_relation.specs.Next.{is_final, IsNext}
-use Rattle.machine_relation.proofs.Next.{behind_other}
+use Rattle.machine_relation.proofs.Lemmas.{behind_other}
 use Rattle.machine_events.specs.declared.MachineEvent.{MachineEvent}
 use Rattle.machine_events.specs.declared.MachineEvent.TheVariants as events
 use Rattle.machine_events.specs.Events.{event_of}
@@ -23,7 +23,7 @@ use Rattle.run_summary.specs.Summaries.{IsTally}
 use Rattle.text_output.specs.Endings.{IsRunOf}
 use Rattle.text_output.proofs.Lemmas.{final_names, goes_on, queries_from}
 use Rattle.run_summary.proofs.Generated.{OneQuery}
-use Rattle.text_verdict.proofs.OneVerdict.{one_verdict}
+use Rattle.text_verdict.proofs.Lemmas.{one_verdict}
 
 -- of the events es, those that are still to come, behind others with n answers
 pub record Counted (m : State) (n : ℕ) (es : List Event) (r : ℕ) : Type 0 where

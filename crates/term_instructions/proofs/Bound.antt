@@ -9,7 +9,7 @@ use Rattle.heap_cells.specs.declared.Cell.TheVariants as cell
 use Rattle.heap_cells.specs.Cells.{Cells}
 use Rattle.heap_cells.specs.Terms.{Same, term_of}
 use Rattle.machine_frames.specs.Frames.{IsGrown}
-use Rattle.machine_frames.proofs.Growing.{grown_both}
+use Rattle.machine_frames.proofs.Lemmas.{grown_both}
 use Rattle.unify_core.specs.declared.Touch.{Touch}
 use Rattle.unify_core.specs.Outcome.{IfTrue, IfFalse}
 use Rattle.unify_core.specs.Touches.{IsRefuted}
@@ -24,7 +24,7 @@ use Rattle.code_areas.specs.Areas.{Contents}
 use Rattle.code_states.specs.Standing.{went_to}
 use Rattle.code_states.specs.declared.went.Went.{Went}
 use Rattle.code_states.specs.declared.went.Went.TheVariants.{Back}
-use Rattle.code_states.proofs.Equal.{equated}
+use Rattle.code_states.proofs.Lemmas.{equated}
 use Rattle.term_instructions.specs.Building.{IsGatheredTo, BuildsFor, BuildsOn}
 use Rattle.term_instructions.proofs.Steps.{below_heap, below_both}
 use Rattle.term_instructions.proofs.Head.{built_then}

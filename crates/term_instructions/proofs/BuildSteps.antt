@@ -14,9 +14,9 @@ use Rattle.heap_cells.specs.Atoms.{IsAtomBelow}
 use Rattle.heap_cells.specs.Cells.{free, Cells, IsOf, with_new_slot}
 use Rattle.heap_cells.specs.Terms.{Naming}
 use Rattle.heap_cells.specs.Valid.{IsHeap}
-use Rattle.heap_cells.proofs.Growing.{var_valid}
+use Rattle.heap_cells.proofs.Lemmas.{var_valid}
 use Rattle.machine_frames.specs.Frames.{IsGrown}
-use Rattle.machine_frames.proofs.Growing.{grown_same, grown_both, grown_var}
+use Rattle.machine_frames.proofs.Lemmas.{grown_same, grown_both, grown_var}
 use Rattle.branch_state.specs.States as branch
 use Rattle.branch_state.specs.States.{IsCell, AreCells, IsSound, IsSameBelow, with_heap}
 use Rattle.wam_code.specs.declared.instruction.Register.{Register}
@@ -28,12 +28,12 @@ use Rattle.wam_code.specs.Verified.{goes_on}
 use Rattle.code_areas.specs.Areas.{Contents}
 use Rattle.code_steps.specs.Registers.{Registers, Saved, cell_in, IsWritten}
 use Rattle.code_steps.specs.Building.{End, Builds}
-use Rattle.code_steps.proofs.Building.{build_variable, build_value, build_constant, build_integer, build_void, build_voids}
+use Rattle.code_steps.proofs.Lemmas.{build_variable, build_value, build_constant, build_integer, build_void, build_voids}
 use Rattle.code_states.specs.Machine.{saved_of, registers_of, stack_of, IsSameBehind}
 use Rattle.code_states.specs.Safety.{Fits, IsSafe}
 use Rattle.code_states.specs.Standing.{IsNaming}
 use Rattle.term_instructions.specs.Building.{Purpose, for_head, for_goal, end_of, gathered, IsGatheredTo, AddsVariables, AreVariablesAdded, GivesOne}
-use Rattle.code_states.proofs.Safety.{found, when_parts, some_is, written_fits, written_own, cells_kept, next_safe}
+use Rattle.code_states.proofs.Lemmas.{found, when_parts, some_is, written_fits, written_own, cells_kept, next_safe}
 use Rattle.term_instructions.proofs.Steps.{next_among, among_both, among_none, same_behind, behind_both, same_below, below_heap, below_both, owed_set, held_own, new_slot_own}
 use Rattle.term_instructions.proofs.Unify.{fits_owed, effect_owed, no_void}
 use Rattle.term_instructions.proofs.ReadSteps.{own_all}

@@ -16,7 +16,7 @@ use Rattle.heap_cells.specs.declared.Seen.TheVariants as seen
 use Rattle.heap_cells.specs.Cells.{Cells, IsOf, is_bound, compound_at}
 use Rattle.heap_cells.specs.Seen.{IsSeen}
 use Rattle.heap_cells.specs.Terms.{Naming, Same, term_of, terms_by, compound_term}
-use Rattle.heap_cells.proofs.Ranks.{term-Int, term-Atom, term-Struct, unbound_term}
+use Rattle.heap_cells.proofs.Lemmas.{term-Int, term-Atom, term-Struct, unbound_term}
 use Rattle.machine_relation.specs.Store.{posts}
 use Rattle.machine_frames.specs.Environments.{AllOwn}
 use Rattle.machine_frames.specs.Frames.{store_touches}
@@ -37,10 +37,7 @@ use Rattle.code_steps.specs.Building.{GetEnd, Builds}
 use Rattle.code_steps.specs.Reading.{Reads}
 use Rattle.code_steps.specs.Standing.{Stands}
 use Rattle.code_steps.specs.Steps.{GoesOnEqual}
-use Rattle.code_steps.proofs.Built.{start_get, end_get}
-use Rattle.code_steps.proofs.Opening.{IsNone, step_get_structure}
-use Rattle.code_steps.proofs.Reading.{read_end}
-use Rattle.code_steps.proofs.Running.{stands_no_model}
+use Rattle.code_steps.proofs.Lemmas.{start_get, end_get, IsNone, step_get_structure, read_end, stands_no_model}
 use Rattle.code_states.specs.Machine.{registers_of, stack_of, IsSameBehind}
 use Rattle.code_states.specs.Safety.{Fits, IsSafe, IsSafeBack, IsSafeThen}
 use Rattle.code_states.specs.Standing.{IsNaming, KeepsStanding, went_to}
@@ -52,8 +49,7 @@ use Rattle.term_instructions.specs.Building.{for_head, BuildsAt, IsGatheredTo, B
 use Rattle.term_instructions.specs.Reading.{ReadsAt, IsReadTo, IsRefused, ReadsThen}
 use Rattle.code_states.specs.declared.went.Went.{Went}
 use Rattle.code_states.specs.declared.went.Went.TheVariants.{On, Back}
-use Rattle.code_states.proofs.Equal.{same_cells}
-use Rattle.code_states.proofs.Safety.{found, when_parts, back_safe, next_safe}
+use Rattle.code_states.proofs.Lemmas.{same_cells, found, when_parts, back_safe, next_safe}
 use Rattle.term_instructions.proofs.Steps.{among_both, led_from, same_behind, behind_both, same_below, below_heap, below_both}
 use Rattle.term_instructions.proofs.Unify.{fits_owed}
 use Rattle.term_instructions.proofs.ReadSteps.{read_all}

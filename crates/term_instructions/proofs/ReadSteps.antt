@@ -20,7 +20,7 @@ use Rattle.unify_core.specs.declared.Touch.{Touch}
 use Rattle.unify_core.specs.declared.Touch.TheVariants as touch
 use Rattle.unify_core.specs.Outcome.{IfTrue, IfFalse}
 use Rattle.unify_core.specs.Unified.{IsEqualled, CannotUnify}
-use Rattle.unify_core.proofs.AtOnce.{integers_true, integers_false, atoms_true, atoms_false}
+use Rattle.unify_core.proofs.Lemmas.{integers_true, integers_false, atoms_true, atoms_false}
 use Rattle.branch_state.specs.States as branch
 use Rattle.branch_state.specs.States.{IsCell, AreCells, IsSound, IsSoundBelow, IsSameBelow, with_heap}
 use Rattle.branch_state.specs.Steps.{IsTouchBelow, posted_with}
@@ -35,7 +35,7 @@ use Rattle.code_areas.specs.Areas.{Contents}
 use Rattle.code_steps.specs.Registers.{Registers, Saved, cell_in, IsWritten}
 use Rattle.code_steps.specs.Standing.{Made}
 use Rattle.code_steps.specs.Reading.{AreCells as CellsShown, Reads, ReadsOnEqual}
-use Rattle.code_steps.proofs.Reading.{read_variable, read_value, read_constant, read_integer, read_void, read_voids}
+use Rattle.code_steps.proofs.Lemmas.{read_variable, read_value, read_constant, read_integer, read_void, read_voids}
 use Rattle.code_states.specs.Machine.{saved_of, registers_of, stack_of, IsSameBehind}
 use Rattle.code_states.specs.Safety.{Fits, IsSafe}
 use Rattle.code_states.specs.Standing.{IsNaming}
@@ -43,8 +43,7 @@ use Rattle.term_instructions.specs.Reading.{ReadsAt, AreTold, IsReadTo, IsRefuse
 use Rattle.term_instructions.specs.declared.reading.Reading.{Reading}
 use Rattle.term_instructions.specs.declared.reading.Look.{Look}
 use Rattle.term_instructions.specs.declared.reading.Look.TheVariants.{Read, Refused, Unclear}
-use Rattle.code_states.proofs.Equal.{same_cells}
-use Rattle.code_states.proofs.Safety.{found, when_parts, some_is, written_fits, written_own, cells_kept, back_safe, next_safe}
+use Rattle.code_states.proofs.Lemmas.{same_cells, found, when_parts, some_is, written_fits, written_own, cells_kept, back_safe, next_safe}
 use Rattle.term_instructions.proofs.Steps.{next_among, among_both, among_none, same_behind, behind_both, same_below, below_heap, below_both, owed_set}
 use Rattle.term_instructions.proofs.Unify.{fits_owed, effect_owed, no_void}
 

@@ -26,9 +26,7 @@ use Rattle.code_states.specs.declared.went.Went.{Went}
 use Rattle.code_states.specs.declared.went.Went.TheVariants.{On, Back}
 use Rattle.code_states.specs.Equating.{Equates}
 use Rattle.term_instructions.specs.Arguments.{LeadsAmong, LeadsFrom}
-use Rattle.code_states.proofs.Equal.{same_cells}
-use Rattle.code_states.proofs.Queries.{next_inside}
-use Rattle.code_states.proofs.Safety.{found, when_parts, some_is, free_holds, set_holds, written_fits, written_own, cells_kept, back_safe, next_safe}
+use Rattle.code_states.proofs.Lemmas.{same_cells, next_inside, found, when_parts, some_is, free_holds, set_holds, written_fits, written_own, cells_kept, back_safe, next_safe}
 
 pub same_behind : (c : Contents) → IsSameBehind c c
 same_behind c = record { returns = refl; points = refl }

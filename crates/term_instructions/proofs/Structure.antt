@@ -9,7 +9,7 @@ use Rattle.heap_cells.specs.declared.Cell.{Cell}
 use Rattle.heap_cells.specs.declared.Cell.TheVariants as cell
 use Rattle.heap_cells.specs.Cells.{Heaps, IsOf}
 use Rattle.heap_cells.specs.Atoms.{IsAtomBelow}
-use Rattle.machine_frames.proofs.Continuing.{of_grown}
+use Rattle.machine_frames.proofs.Lemmas.{of_grown}
 use Rattle.branch_state.specs.Compounds.{IsMade}
 use Rattle.branch_state.specs.States as branch
 use Rattle.branch_state.specs.States.{IsCell, AreCells, IsSound, IsSameBelow, with_heap}
@@ -22,7 +22,7 @@ use Rattle.code_areas.specs.Areas.{Contents}
 use Rattle.code_steps.specs.Registers.{IsWritten}
 use Rattle.code_steps.specs.Building.{PutEnd, Builds}
 use Rattle.code_steps.specs.Standing.{Stands}
-use Rattle.code_steps.proofs.Built.{start_put, end_put}
+use Rattle.code_steps.proofs.Lemmas.{start_put, end_put}
 use Rattle.code_states.specs.Machine.{saved_of, registers_of, stack_of, IsSameBehind}
 use Rattle.code_states.specs.Safety.{Fits, AreReturns, AreBehind, IsSafe, IsSafeThen}
 use Rattle.code_states.specs.Standing.{KeepsStanding}
@@ -30,7 +30,7 @@ use Rattle.code_states.specs.Work.{LeadsOn}
 use Rattle.term_instructions.specs.Building.{for_goal, BuildsAt, IsGatheredTo, IsPutAt, PutsOn}
 use Rattle.code_states.specs.declared.went.Went.{Went}
 use Rattle.code_states.specs.declared.went.Went.TheVariants.{On}
-use Rattle.code_states.proofs.Safety.{found, some_is, written_fits, written_own, cells_kept, returns_kept, points_then, next_safe}
+use Rattle.code_states.proofs.Lemmas.{found, some_is, written_fits, written_own, cells_kept, returns_kept, points_then, next_safe}
 use Rattle.term_instructions.proofs.Steps.{same_behind, behind_both, same_below, below_heap, below_both, led_from}
 use Rattle.term_instructions.proofs.Unify.{fits_owed}
 use Rattle.term_instructions.proofs.BuildSteps.{gathered_both}

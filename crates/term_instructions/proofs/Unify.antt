@@ -1,14 +1,14 @@
 -- The instructions of the unify group, where arguments are owed.
 use Rattle.std.proofs.Common.{◌≡◌, ℕ, zero, suc, ◌-◌, ◌<◌, ◌≤◌, nat_le, true, List, length, Some, None, refl, ap, sym, ◌∙◌, arith, ℤ}
 use Rattle.std.proofs.lemmas.Option.{slice_get_within}
-use Rattle.term_pool.proofs.Names.{slice_get_found}
+use Rattle.term_pool.proofs.Lemmas.{slice_get_found}
 use Rattle.std.proofs.lemmas.Bool.Decides.{nat_tests}
 use Rattle.term_pool.specs.declared.AtomId.{AtomId}
 use Rattle.fd_language.specs.Term.{Terms, no_terms, term}
 use Rattle.branch_state.specs.States as branch
 use Rattle.wam_code.specs.Places.{Places as CodePlaces, count}
 use Rattle.wam_code.specs.Means.{Owed}
-use Rattle.wam_code.proofs.Unifying.{at_unify}
+use Rattle.wam_code.proofs.Lemmas.{at_unify}
 use Rattle.wam_code.specs.declared.instruction.Register.{Register}
 use Rattle.wam_code.specs.declared.instruction.Code.{Code}
 use Rattle.wam_code.specs.declared.instruction.Code.TheVariants.{UnifyVariable, UnifyValue, UnifyConstant, UnifyInteger, UnifyVoid}
@@ -21,7 +21,7 @@ use Rattle.code_states.specs.Safety.{Fits, IsSafe}
 use Rattle.term_instructions.specs.declared.arguments.Argument.{Argument}
 use Rattle.term_instructions.specs.declared.arguments.Argument.TheVariants as argument
 use Rattle.term_instructions.specs.Arguments.{IsOne, IsUnifyAt}
-use Rattle.code_states.proofs.Safety.{Finds, found, when_parts, free_holds, set_holds}
+use Rattle.code_states.proofs.Lemmas.{Finds, found, when_parts, free_holds, set_holds}
 
 pub fits_owed : (t : State) (n : ℕ) (registers slots : Places) → Fits t registers slots → Fits (with_owed t n) registers slots
 fits_owed t n registers slots f = record { set = f.set; frame = f.frame }

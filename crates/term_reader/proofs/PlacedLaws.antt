@@ -9,9 +9,7 @@ use Rattle.term_pool.specs.Contents as pool
 use Rattle.term_pool.specs.Contents.{Shape, Entry, Contents, atom_name, name_in}
 use Rattle.term_pool.specs.Terms.{Extends}
 use Rattle.term_pool.specs.Valid.{IsPool, IsWithin}
-use Rattle.term_pool.proofs.Lemmas.{name_in-append}
-use Rattle.term_pool.proofs.Lemmas.{extends_trans}
-use Rattle.term_pool.proofs.Lemmas.{parts_by_same, numbered_seam, front_kept}
+use Rattle.term_pool.proofs.Lemmas.{name_in-append, extends_trans, parts_by_same, numbered_seam, front_kept}
 use Rattle.term_pool.specs.PlacedTerms.{parts_by, placed_by, numbered, placed_from, placed_of}
 use Rattle.term_reader.specs.PlacedTerms.{parts_of, Adds}
 

@@ -7,7 +7,7 @@ use Rattle.fd_model.specs.declared.Status.TheVariants.{Refused, NoMemory}
 use Rattle.fd_model.specs.Goal.{Program}
 use Rattle.fd_model.specs.Verdict as model
 use Rattle.fd_model.specs.Output.{Queries, VerdictOutput, refusal, stop_status}
-use Rattle.byte_ports.proofs.Pieces.{wrote_no_part}
+use Rattle.byte_ports.proofs.Lemmas.{wrote_no_part}
 use Rattle.text_output.specs.declared.fault.Fault.{Fault}
 use Rattle.text_output.specs.declared.fault.Fault.TheVariants as fault
 use Rattle.byte_ports.specs.Ends.{SinkState, WroteAll}

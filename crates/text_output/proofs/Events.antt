@@ -14,7 +14,7 @@ use Rattle.machine_relation.specs.Next.{is_final, IsNext}
 use Rattle.machine_events.specs.declared.MachineEvent.{MachineEvent}
 use Rattle.machine_events.specs.declared.MachineEvent.TheVariants as events
 use Rattle.machine_events.specs.Events.{event_of}
-use Rattle.machine_relation.proofs.Next.{behind_other}
+use Rattle.machine_relation.proofs.Lemmas.{behind_other}
 use Rattle.clause_check.specs.Programs.{FlatProgram, no_query, query_at, query_in, program_in}
 use Rattle.wam_code.specs.Area.{Area}
 use Rattle.code_machine.specs.States.{State, StandsFor, names_in, names_of}
@@ -22,7 +22,7 @@ use Rattle.text_output.specs.declared.fault.Fault.{Fault}
 use Rattle.text_output.specs.declared.fault.Fault.TheVariants as fault
 use Rattle.byte_ports.specs.Ends.{SinkState, WroteAll}
 use Rattle.text_output.specs.Endings.{CutBy, Wrote, IsEnding}
-use Rattle.byte_ports.proofs.Pieces.{all_then, wrote_nothing}
+use Rattle.byte_ports.proofs.Lemmas.{all_then, wrote_nothing}
 use Rattle.text_output.proofs.Written.{wrote_short, wrote_cut, cut_then, cut_longer}
 
 -- of the events es, those that are still to come

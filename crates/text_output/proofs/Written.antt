@@ -1,6 +1,6 @@
 -- Pieces written one after another, until a fault.
 use Rattle.std.proofs.Common.{◌≡◌, ℕ, List, ◌++◌, Result, Ok, Err, sym, ap, ◌∙◌, subst, append_assoc}
-use Rattle.byte_ports.proofs.Pieces.{all_then, front_then, part_then, longer_front, longer_part, all_front}
+use Rattle.byte_ports.proofs.Lemmas.{all_then, front_then, part_then, longer_front, longer_part, all_front}
 use Rattle.text_output.specs.declared.fault.Fault.{Fault}
 use Rattle.text_output.specs.declared.fault.Fault.TheVariants as fault
 use Rattle.byte_ports.specs.Ends.{SinkState, WroteAll}

@@ -1,2 +1,3 @@
 pub mod OneVerdict
 mod Judging
+pub mod Lemmas

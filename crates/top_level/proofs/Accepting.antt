@@ -5,7 +5,7 @@ use Rattle.fd_model.specs.Output.{Options}
 use Rattle.fd_model.specs.Run.{IsLimit}
 use Rattle.command_words.specs.Words.{options_of, has_form, options_by, value_behind}
 use Rattle.command_words.proofs.Law as law
-use Rattle.command_words.proofs.Numbers.{answers_within, generate_within}
+use Rattle.command_words.proofs.Lemmas.{answers_within, generate_within}
 
 -- a size of which there is a generated text
 abbrev pub IsSize : ℕ → Type 0

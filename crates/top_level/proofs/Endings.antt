@@ -13,7 +13,7 @@ use Rattle.command_words.specs.declared.Options as command
 use Rattle.command_words.specs.Words.{asked, options_of}
 use Rattle.byte_ports.specs.Ends.{Ends, SinkState, sink_of}
 use Rattle.byte_ports.specs.Ports.{Put, Took, IsAtEnd, ReadJust, ReadWithin, Rose}
-use Rattle.byte_ports.proofs.Pieces.{put_none}
+use Rattle.byte_ports.proofs.Lemmas.{put_none}
 use Rattle.term_pool.specs.Contents.{Contents}
 use Rattle.answer_text.specs.declared.reason.Reason.TheVariants.{TooLarge}
 use Rattle.text_verdict.specs.declared.judge.Verdict.{Verdict}
@@ -22,7 +22,7 @@ use Rattle.top_level.specs.Headline.{Headline, IsDecided, IsText, reads_source}
 use Rattle.text_output.specs.Endings.{Ending}
 use Rattle.text_output.proofs.Lemmas.{no_memory}
 use Rattle.text_verdict.specs.Verdicts.{verdict_of, HasNames, IsVerdictOn}
-use Rattle.text_verdict.proofs.OneVerdict.{large_verdict}
+use Rattle.text_verdict.proofs.Lemmas.{large_verdict}
 use Rattle.top_level.proofs.OneOutput.{one_output, verdict_output, large_output}
 
 -- ---- verdicts

@@ -20,12 +20,10 @@ use Rattle.fd_model.specs.Lines.{line, events_bytes}
 use Rattle.fd_model.specs.Goal.{Program, Query, Event, start_of}
 use Rattle.fd_model.specs.Run.{IsLimit, Run}
 use Rattle.fd_model.specs.Sound.{QueriesRunnable, IsRunnableProgram}
-use Rattle.fd_model.proofs.Lemmas.{queries_once, run_once}
-use Rattle.fd_model.proofs.Existence.{one_run}
-use Rattle.fd_model.proofs.Runnable.{accepted_runnable}
+use Rattle.fd_model.proofs.Lemmas.{queries_once, run_once, one_run, accepted_runnable}
 use Rattle.fd_language.proofs.Lemmas.{one_verdict_of_reading}
-use Rattle.term_reader.proofs.Readable.{each_is_read}
-use Rattle.text_verdict.proofs.OneVerdict.{large_verdict, bytes_verdict, read_verdict, one_verdict}
+use Rattle.term_reader.proofs.Lemmas.{each_is_read}
+use Rattle.text_verdict.proofs.Lemmas.{large_verdict, bytes_verdict, read_verdict, one_verdict}
 use Rattle.top_level.specs.OneOutput.{OneOutput}
 
 verdict_output_once : (M : ℕ) (o : Options) (v : Verdict) (out other : List ℕ) (st s : Status) → VerdictOutput M v o.steps o.answers out st → VerdictOutput M v o.steps o.answers other s → (other ≡ out) × (s ≡ st)

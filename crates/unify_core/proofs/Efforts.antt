@@ -11,8 +11,7 @@ use Rattle.heap_cells.specs.declared.Cell.{Cell}
 use Rattle.heap_cells.specs.Cells.{Cells, bound, is_bound, slot_at, with_slot}
 use Rattle.heap_cells.specs.Terms.{term_of, terms_by, one}
 use Rattle.heap_cells.specs.Valid.{bound_in}
-use Rattle.heap_cells.proofs.Substitutions.{size_positive, size_one}
-use Rattle.heap_cells.proofs.Binding.{bound_more}
+use Rattle.heap_cells.proofs.Lemmas.{size_positive, size_one, bound_more}
 use Rattle.unify_core.specs.declared.Pair.{Pair}
 use Rattle.unify_core.specs.Effort.{unnamed, weight, squared, effort}
 use Rattle.unify_core.specs.Outcome.{paired}

@@ -5,3 +5,4 @@ pub mod Occurring
 pub mod Stepping
 pub mod Whole
 pub mod AtOnce
+pub mod Lemmas

@@ -15,13 +15,12 @@ use Rattle.heap_cells.specs.declared.Seen.{Seen}
 use Rattle.heap_cells.specs.declared.Seen.TheVariants as seen
 use Rattle.heap_cells.specs.Seen.{IsSeen, IsTop, IsRoot}
 use Rattle.heap_cells.specs.Valid.{IsHeap}
-use Rattle.heap_cells.proofs.Ranks.{unbound_term, term-Int, term-Atom, term-Struct}
+use Rattle.heap_cells.proofs.Lemmas.{unbound_term, term-Int, term-Atom, term-Struct, none_at_all, both_of, all_front}
 use Rattle.unify_core.specs.Effort.{unnamed}
 use Rattle.unify_core.specs.Touches.{IsSymbolic}
 use Rattle.unify_core.specs.Occurs.{compounds, OccursAmong, LeavesAhead, IsOther, IsAbsentAmong}
 use Rattle.unify_core.specs.Outcome.{TellsOccurs, IsInfinite}
 use Rattle.unify_core.proofs.Reducing.{IsCompound, compound_term_is}
-use Rattle.heap_cells.proofs.Elements.{none_at_all, both_of, all_front}
 
 or_assoc : (a b c : Bool) → ((a || b) || c) ≡ (a || (b || c))
 or_assoc true b c = refl

@@ -15,9 +15,7 @@ use Rattle.heap_cells.specs.Cells.{Cells, Slot, Compound, free, linked, bound, i
 use Rattle.heap_cells.specs.Terms.{Naming, terms_by, within, depth, slot_term, term_of, one, after, occurs, Same}
 use Rattle.heap_cells.specs.Atoms.{IsAtomBelow, HasAtomsBelow}
 use Rattle.heap_cells.specs.Valid.{IsHeap}
-use Rattle.heap_cells.proofs.Ranks.{unbound_term, term-Struct}
-use Rattle.heap_cells.proofs.Binding.{bind_terms, of_same}
-use Rattle.heap_cells.proofs.Substitutions.{after_is, same_apply, apply-Var, one_self, one_other, through_one, through_all, join_both, split_both, size_positive}
+use Rattle.heap_cells.proofs.Lemmas.{unbound_term, term-Struct, bind_terms, of_same, after_is, same_apply, apply-Var, one_self, one_other, through_one, through_all, join_both, split_both, size_positive, head_of, tail_of, none_at_all, both_of, all_front, last_of, all_reverse, same_below, bound_below}
 use Rattle.unify_core.specs.declared.Pair.{Pair}
 use Rattle.unify_core.specs.declared.Touch.{Touch}
 use Rattle.unify_core.specs.Touches.{AreTouched, IsRefuted}
@@ -27,8 +25,6 @@ use Rattle.unify_core.specs.Effort.{unnamed, weight}
 use Rattle.unify_core.specs.Outcome.{IsDone, paired}
 use Rattle.unify_core.proofs.Touching.{touched_none, touched_both, one_else}
 use Rattle.unify_core.proofs.Efforts.{less_lighter, bind_lighter, parts_lighter}
-use Rattle.heap_cells.proofs.Elements.{head_of, tail_of, none_at_all, both_of, all_front, last_of, all_reverse}
-use Rattle.heap_cells.proofs.Atoms.{same_below, bound_below}
 
 pub equations-append : (name : Naming) (h : Cells) (ps qs : List Pair) → equations name h (ps ++ qs) ≡ equations name h ps ++ equations name h qs
 equations-append name h [] qs = refl

@@ -12,8 +12,7 @@ use Rattle.heap_cells.specs.Cells.{Cells, free, bound, is_bound, slot_at, IsOf, 
 use Rattle.heap_cells.specs.Terms.{Naming, IsOneToOne, terms_by, term_of, Same}
 use Rattle.heap_cells.specs.Seen.{IsSeen, IsTop}
 use Rattle.heap_cells.specs.Valid.{IsHeap}
-use Rattle.heap_cells.proofs.Ranks.{unbound_term, term-Int, term-Atom}
-use Rattle.heap_cells.proofs.Substitutions.{occurs_check}
+use Rattle.heap_cells.proofs.Lemmas.{unbound_term, term-Int, term-Atom, occurs_check}
 use Rattle.unify_core.specs.declared.Pair.{Pair}
 use Rattle.unify_core.specs.declared.Touch.{Touch}
 use Rattle.unify_core.specs.declared.Touch.TheVariants as touch

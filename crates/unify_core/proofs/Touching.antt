@@ -8,12 +8,10 @@ use Rattle.fd_language.specs.Unifier.{Unifies}
 use Rattle.heap_cells.specs.declared.Cell.{Cell}
 use Rattle.heap_cells.specs.Cells.{Cells, free, linked, bound, slot_at, with_slot}
 use Rattle.heap_cells.specs.Terms.{one, after}
-use Rattle.heap_cells.proofs.Binding.{slot_there, slot_elsewhere}
-use Rattle.heap_cells.proofs.Substitutions.{one_self, join_both, split_both}
+use Rattle.heap_cells.proofs.Lemmas.{slot_there, slot_elsewhere, one_self, join_both, split_both, both_of}
 use Rattle.unify_core.specs.declared.Touch.{Touch}
 use Rattle.unify_core.specs.declared.Touch.TheVariants.{Value, Same}
 use Rattle.unify_core.specs.Touches.{touch_equation, touched, IsLinked, NamesLinked, AreTouched}
-use Rattle.heap_cells.proofs.Elements.{both_of}
 
 pub one_else : (v : ℕ) (t : Term) (c : ℕ) → c ≢ v → one v t c ≡ Var c
 one_else v t c d = rw (ne_eqb c v d) refl

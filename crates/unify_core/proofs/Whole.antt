@@ -15,7 +15,7 @@ use Rattle.unify_core.specs.Reduces.{Reduces, IsOwn, HasAtoms, IsSameSize}
 use Rattle.unify_core.specs.Unified.{IsUnified, IsEqualled, KeepsAtoms, cells_equal}
 use Rattle.unify_core.specs.Outcome.{IsDone, IsHopeless, IfTrue, IfFalse}
 use Rattle.unify_core.proofs.Reducing.{reduces_none, reduces_both, refuted_both, unified}
-use Rattle.heap_cells.proofs.Elements.{none_at_all, both_of}
+use Rattle.heap_cells.proofs.Lemmas.{none_at_all, both_of}
 
 abbrev pub start : Cell → Cell → List Pair
 start a b = record { left = a; right = b } ∷ []

@@ -7,3 +7,4 @@ pub mod Ending
 pub mod Reaching
 pub mod Examples
 pub mod Shortest
+pub mod Lemmas

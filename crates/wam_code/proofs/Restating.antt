@@ -4,7 +4,7 @@ use Rattle.fd_language.specs.Term.{Substitution}
 use Rattle.fd_language.specs.Unifier.{Equation, Unifies}
 use Rattle.machine_relation.specs.Heap.{EquationsOf}
 use Rattle.machine_relation.specs.Says.{SaysSame}
-use Rattle.machine_relation.proofs.Growing.{agree_each}
+use Rattle.machine_relation.proofs.Lemmas.{agree_each}
 
 both : (u : Substitution) (ds es : List Equation) → Unifies u ds → Unifies u es → Unifies u (ds ++ es)
 both u [] es h g = g

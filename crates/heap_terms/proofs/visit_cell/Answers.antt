@@ -5,7 +5,7 @@ use Rattle.std.proofs.lemmas.Int.{to_z-of_z}
 use borrow.Author.Rules.{sfits_of}
 use Rattle.fd_language.specs.Term.{Int}
 use Rattle.term_pool.specs.Contents.{name_in}
-use Rattle.heap_cells.proofs.Atoms.{seen_atom}
+use Rattle.heap_cells.proofs.Lemmas.{seen_atom}
 use Rattle.heap_terms.specs.Values.{only}
 use Rattle.heap_terms.proofs.CellReads.{on_ok, read_var, read_linked, read_int, read_atom, read_compound}
 use Rattle.heap_terms.proofs.visit_cell.Goals as goal

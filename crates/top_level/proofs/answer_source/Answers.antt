@@ -2,7 +2,7 @@ use Rattle.std.proofs.Common.{refl, ap, subst, sym, Err}
 use Rattle.byte_ports.specs.Ports.{Took}
 use Rattle.command_words.specs.Words.{asked}
 use Rattle.top_level.proofs.Endings.{with_read, with_large, with_fault, with_memory, verdict_outputs, large_verdicts}
-use Rattle.byte_ports.proofs.Pieces.{stays}
+use Rattle.byte_ports.proofs.Lemmas.{stays}
 use Rattle.top_level.proofs.answer_source.Goals as goal
 
 pub returns-in-Ok : goal.returns-in-Ok

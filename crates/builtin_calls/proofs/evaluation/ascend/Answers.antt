@@ -1,7 +1,7 @@
 use Rattle.std.proofs.Common.{◌≡◌, [], ◌∷◌, refl, ap, sym, ◌∙◌, subst, FitsSigned, w64, to_z, of_z, rules, List}
 use Rattle.std.specs.Prelude.{All, Ok}
 use Rattle.std.proofs.lemmas.Result.{err_from_is_err_and}
-use Rattle.heap_cells.proofs.Elements.{all_front}
+use Rattle.heap_cells.proofs.Lemmas.{all_front}
 use Rattle.builtin_calls.specs.declared.evaluation.Step.TheVariants.{Enter, Leave}
 use Rattle.builtin_calls.specs.declared.waiting.Waiting.{Waiting}
 use Rattle.builtin_calls.specs.Outcomes.{IsFault}

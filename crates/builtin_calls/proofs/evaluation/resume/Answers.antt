@@ -1,6 +1,6 @@
 use Rattle.std.proofs.Common.{◌≡◌, ◌++◌, [], ◌∷◌, neg_ℤ, FitsSigned, refl, ap, sym, ◌∙◌, subst, w64, to_z, of_z, rules}
 use Rattle.std.specs.Prelude.{Ok, All}
-use Rattle.heap_cells.proofs.Elements.{all_push}
+use Rattle.heap_cells.proofs.Lemmas.{all_push}
 use Rattle.std.proofs.lemmas.Result.{err_from_is_err_and}
 use Rattle.builtin_calls.specs.declared.waiting.Waiting.TheVariants.{Right}
 use Rattle.fd_model.specs.Arithmetic.{opposite_of, of_both}

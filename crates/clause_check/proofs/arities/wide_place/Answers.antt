@@ -5,9 +5,9 @@ use Rattle.fd_language.specs.PlacedTerm.{place}
 use Rattle.term_pool.specs.declared.TermId.{TermId}
 use Rattle.term_pool.specs.Contents.{comp, atom_name}
 use Rattle.term_pool.specs.Terms.{total_size}
-use Rattle.term_pool.proofs.Walks.{rest_is_smaller, parts_are_smaller}
+use Rattle.term_pool.proofs.Lemmas.{rest_is_smaller, parts_are_smaller}
 use Rattle.term_pool.specs.PlacedTerms.{placed_of}
-use Rattle.term_reader.proofs.Plain.{place_placed}
+use Rattle.term_reader.proofs.Lemmas.{place_placed}
 use Rattle.clause_check.specs.Terms.{lesser}
 use Rattle.clause_check.proofs.WidePlaces.{lower, least_ahead, own_place, own_then, own_else, least_step, least_skip, flat}
 use Rattle.clause_check.proofs.arities.wide_place.Goals as goal

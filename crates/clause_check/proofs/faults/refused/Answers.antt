@@ -1,6 +1,6 @@
 use Rattle.std.proofs.Common.{ℕ, ap, Some, subst}
 use Rattle.fd_model.specs.Refusals.{refused_at}
-use Rattle.term_reader.proofs.Plain.{place_placed}
+use Rattle.term_reader.proofs.Lemmas.{place_placed}
 use Rattle.clause_check.specs.Causes.{cause_text, IsCauseAt}
 use Rattle.clause_check.proofs.faults.refused.Goals as goal
 

@@ -2,7 +2,7 @@ use Rattle.std.proofs.Common.{rules, sym, ap, subst}
 use Rattle.fd_model.specs.Goal as model
 use Rattle.fd_model.specs.Queries.{goal_by_form}
 use Rattle.term_pool.specs.PlacedTerms.{placed_of}
-use Rattle.term_reader.proofs.Plain.{plain_placed}
+use Rattle.term_reader.proofs.Lemmas.{plain_placed}
 use Rattle.clause_check.specs.declared.forms.Form.{Form}
 use Rattle.clause_check.specs.declared.forms.Form.TheVariants.{Constraint, Builtin}
 use Rattle.clause_check.specs.declared.program.FlatGoal.TheVariants as flat

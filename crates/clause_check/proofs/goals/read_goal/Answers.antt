@@ -2,7 +2,7 @@ use Rattle.std.proofs.Common.{◌≡◌, Some, None, sym, ap, ◌∙◌, subst}
 use Rattle.fd_language.specs.Term.{Name}
 use Rattle.fd_model.specs.Forms.{form_named}
 use Rattle.term_pool.specs.PlacedTerms.{placed_of}
-use Rattle.term_reader.proofs.Plain.{plain_placed}
+use Rattle.term_reader.proofs.Lemmas.{plain_placed}
 use Rattle.clause_check.specs.Forms.{form_seen, HasFormArity}
 use Rattle.clause_check.specs.Terms.{functor_in}
 use Rattle.clause_check.proofs.FormNames.{form_arguments}

@@ -3,7 +3,7 @@ use Rattle.wam_code.specs.declared.instruction.Code.TheVariants as step
 use Rattle.code_areas.specs.Areas.{Contents}
 use Rattle.code_states.specs.Safety.{IsSafe}
 use Rattle.code_states.specs.Stages.{Calls}
-use Rattle.code_states.proofs.Safety.{within_code}
+use Rattle.code_states.proofs.Lemmas.{within_code}
 use Rattle.code_control.proofs.Threads.{call_safe, moved_to}
 use Rattle.code_states.specs.Work.{work_at, most_work}
 use Rattle.code_control.proofs.Stages.{call_runs}

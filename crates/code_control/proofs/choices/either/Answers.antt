@@ -7,7 +7,7 @@ use Rattle.code_states.specs.Safety.{IsSafe}
 use Rattle.code_states.specs.Choices.{point_of}
 use Rattle.code_states.specs.Stages.{SplitsAt}
 use Rattle.code_states.specs.Work.{work_at}
-use Rattle.code_states.proofs.Safety.{within_code}
+use Rattle.code_states.proofs.Lemmas.{within_code}
 use Rattle.code_control.proofs.Threads.{next_thread, named_thread, left_safe, left_to, moved_to}
 use Rattle.code_control.proofs.Working.{named_near, next_near, left_falls}
 use Rattle.code_control.proofs.Stages.{either_runs}

@@ -4,7 +4,7 @@ use Rattle.code_areas.specs.Areas.{Contents}
 use Rattle.code_states.specs.Safety.{IsSafe}
 use Rattle.code_states.specs.Stages.{KeepsRunning}
 use Rattle.code_states.specs.Work.{work_at}
-use Rattle.code_states.proofs.Safety.{within_code}
+use Rattle.code_states.proofs.Lemmas.{within_code}
 use Rattle.code_control.proofs.Threads.{deallocate_safe, moved_to}
 use Rattle.code_control.proofs.Working.{next_near, moved_falls}
 use Rattle.code_control.proofs.Stages.{deallocate_runs}

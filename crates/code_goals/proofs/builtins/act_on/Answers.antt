@@ -1,6 +1,6 @@
 use Rattle.std.proofs.Common.{subst, sym}
 use Rattle.wam_code.specs.declared.instruction.Code.TheVariants as step
-use Rattle.code_states.proofs.Safety.{within_code}
+use Rattle.code_states.proofs.Lemmas.{within_code}
 use Rattle.code_goals.specs.Taking.{IsSafeNext, LeadsNext, Takes}
 use Rattle.code_goals.specs.declared.next.Next.{Next}
 use Rattle.code_goals.proofs.BuiltinGoals.{next_leads, found_fault, found_decided, found_cells, found_equal, decided_safe, equal_safe}

@@ -2,7 +2,7 @@ use Rattle.std.proofs.Common.{true, subst, sym, inl, inr}
 use Rattle.fd_model.specs.declared.kinds.BuiltinKind.{BuiltinKind}
 use Rattle.wam_code.specs.declared.instruction.Code.TheVariants as step
 use Rattle.wam_code.specs.Area.{Holds}
-use Rattle.code_states.proofs.Safety.{within_code}
+use Rattle.code_states.proofs.Lemmas.{within_code}
 use Rattle.code_goals.specs.Taking.{IsSafeNext, Takes}
 use Rattle.code_goals.specs.declared.next.Next.TheVariants.{On, Write, Newline}
 use Rattle.code_goals.proofs.BuiltinGoals.{true_taken, fail_taken, false_taken, newline_taken, write_safe, write_taken, decided_safe}

@@ -1,7 +1,7 @@
 use Rattle.std.proofs.Common.{subst, sym, refl, arith}
 use Rattle.fd_model.specs.declared.kinds.BuiltinKind.TheVariants as kind
 use Rattle.wam_code.specs.declared.instruction.Code.TheVariants as step
-use Rattle.code_states.proofs.Safety.{within_code}
+use Rattle.code_states.proofs.Lemmas.{within_code}
 use Rattle.code_goals.specs.Taking.{IsSafeNext, LeadsNext, Takes}
 use Rattle.code_goals.specs.declared.next.Next.{Next}
 use Rattle.code_goals.proofs.BuiltinGoals.{next_leads, unify_taken, equal_safe}

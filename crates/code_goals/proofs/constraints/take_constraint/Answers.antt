@@ -2,7 +2,7 @@ use Rattle.std.proofs.Common.{length, ap, sym, subst, ◌∙◌}
 use Rattle.term_pool.specs.Contents.{Contents}
 use Rattle.branch_state.specs.Constraints.{Constrains}
 use Rattle.wam_code.specs.declared.instruction.Code.TheVariants as step
-use Rattle.code_states.proofs.Safety.{within_code}
+use Rattle.code_states.proofs.Lemmas.{within_code}
 use Rattle.code_goals.specs.Taking.{Takes, IsSafeNext}
 use Rattle.code_goals.specs.declared.next.Next.TheVariants.{On, Back, Fault}
 use Rattle.code_goals.proofs.BuiltinGoals.{grown_taken}

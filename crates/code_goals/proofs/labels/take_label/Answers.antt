@@ -1,7 +1,7 @@
 use Rattle.std.proofs.Common.{subst, sym, refl, arith}
 use Rattle.branch_goals.specs.Labels as list
 use Rattle.wam_code.specs.declared.instruction.Code.TheVariants as step
-use Rattle.code_states.proofs.Safety.{within_code}
+use Rattle.code_states.proofs.Lemmas.{within_code}
 use Rattle.code_goals.specs.declared.next.Next.TheVariants.{On}
 use Rattle.code_goals.specs.declared.labels.Labelled.TheVariants.{Took}
 use Rattle.code_goals.specs.Tasks.{names_of}

@@ -1,7 +1,7 @@
 use Rattle.std.proofs.Common.{ap, length, List, refl, arith}
 use Rattle.heap_cells.specs.declared.Cell.{Cell}
 use Rattle.wam_code.specs.declared.instruction.Code.TheVariants as step
-use Rattle.code_states.proofs.Safety.{within_code}
+use Rattle.code_states.proofs.Lemmas.{within_code}
 use Rattle.code_goals.proofs.Posting.{registers_counted, rest_own, rest_counted, fault_takes, kept_takes, failed_takes, kept_next, failed_next}
 use Rattle.code_goals.proofs.Safe.{arguments_there}
 use Rattle.code_goals.proofs.ranges.take_post.Goals as goal

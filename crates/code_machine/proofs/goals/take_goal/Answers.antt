@@ -1,5 +1,5 @@
 use Rattle.std.proofs.Common.{reverse}
-use Rattle.code_states.proofs.Queries.{next_inside}
+use Rattle.code_states.proofs.Lemmas.{next_inside}
 use Rattle.code_machine.proofs.Taking.{goal_goes, goals_spend}
 use Rattle.code_machine.proofs.goals.take_goal.Goals as goal
 

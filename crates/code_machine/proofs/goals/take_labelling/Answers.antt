@@ -1,6 +1,6 @@
 use Rattle.std.proofs.Common.{◌≡◌, refl, reverse, subst, sym}
 use Rattle.wam_code.specs.declared.instruction.Code.TheVariants as step
-use Rattle.code_states.proofs.Queries.{next_inside}
+use Rattle.code_states.proofs.Lemmas.{next_inside}
 use Rattle.code_goals.specs.Values.{BringsMost, IsSafeLabelled, Labels, LeadsLabelled}
 use Rattle.code_machine.specs.Steps.{labelled, Spends}
 use Rattle.code_machine.proofs.Taking.{took_spends, tries_spends}

@@ -4,7 +4,7 @@ use Rattle.fd_language.specs.declared.TheConstants.{INFINITY}
 use Rattle.fd_model.specs.Goal.{start_of}
 use Rattle.fd_model.specs.Run.{Run, IsLimit}
 use Rattle.term_pool.specs.Valid.{IsPool}
-use Rattle.term_pool.proofs.Names.{slice_get_found}
+use Rattle.term_pool.proofs.Lemmas.{slice_get_found}
 use Rattle.code_machine.proofs.Starting.{new_machine, new_stands}
 
 pub returns-clause-machine : goal.returns-clause-machine

@@ -3,8 +3,7 @@ use mir.Syntax.{w64}
 use Rattle.fd_language.specs.Family.{has, IsSubset}
 use Rattle.fd_language.specs.Range.{is_none_left}
 use Rattle.domain_ranges.specs.Narrowing.{all_but, AreEnds}
-use Rattle.domain_ranges.proofs.Excluding.{keeps_all}
-use Rattle.domain_ranges.proofs.Leaving.{none_but}
+use Rattle.domain_ranges.proofs.Lemmas.{keeps_all, none_but}
 use Rattle.domain_trail.proofs.Cutting.{set_of_cell, set_there, number_cut}
 use Rattle.domain_trail.proofs.Trail.cut_out.Goals as goal
 

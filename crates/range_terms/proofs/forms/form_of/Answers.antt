@@ -3,7 +3,7 @@ use Rattle.std.specs.Prelude.{codes, ℤ, FitsSigned}
 use Rattle.std.specs.Int.{w64}
 use Rattle.std.proofs.lemmas.Int.{to_z-of_z}
 use Rattle.term_pool.specs.Valid.{IsStorable}
-use Rattle.term_pool.proofs.Laws.{term_is_storable}
+use Rattle.term_pool.proofs.Lemmas.{term_is_storable}
 use Rattle.fd_language.specs.declared.range_node.RangeNode.TheVariants as node
 use Rattle.std.specs.Str.{bytes_eq}
 use Rattle.fd_language.specs.Term.{Name}

@@ -4,9 +4,8 @@ use Rattle.code_states.specs.Safety.{IsSafeThen}
 use Rattle.code_states.specs.Standing.{KeepsStanding}
 use Rattle.code_states.specs.Work.{LeadsOn}
 use Rattle.code_states.specs.declared.went.Went.{Went}
-use Rattle.code_states.proofs.Safety.{within_code}
+use Rattle.code_states.proofs.Lemmas.{within_code, get_constant_stands}
 use Rattle.term_instructions.proofs.Steps.{led_by, get_constant_needs, get_constant_own, get_constant_safe}
-use Rattle.code_states.proofs.Standing.{get_constant_stands}
 use Rattle.term_instructions.proofs.gets.get_constant.Goals as goal
 use Rattle.heap_cells.specs.declared.Cell.TheVariants as cell
 

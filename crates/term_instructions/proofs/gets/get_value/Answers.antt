@@ -4,9 +4,8 @@ use Rattle.code_states.specs.Safety.{IsSafeThen}
 use Rattle.code_states.specs.Standing.{KeepsStanding}
 use Rattle.code_states.specs.Work.{LeadsOn}
 use Rattle.code_states.specs.declared.went.Went.{Went}
-use Rattle.code_states.proofs.Safety.{within_code}
+use Rattle.code_states.proofs.Lemmas.{within_code, get_value_stands}
 use Rattle.term_instructions.proofs.Steps.{led_by, held_own, get_value_needs, get_value_safe}
-use Rattle.code_states.proofs.Standing.{get_value_stands}
 use Rattle.term_instructions.proofs.gets.get_value.Goals as goal
 
 pub register-argument-requires : goal.register-argument-requires

@@ -3,9 +3,8 @@ use Rattle.code_states.specs.Standing.{KeepsStanding}
 use Rattle.code_states.specs.declared.went.Went.TheVariants.{On}
 use Rattle.std.proofs.Common.{subst, sym, refl}
 use Rattle.wam_code.specs.declared.instruction.Code.TheVariants.{GetVariable}
-use Rattle.code_states.proofs.Safety.{within_code}
+use Rattle.code_states.proofs.Lemmas.{within_code, get_variable_stands}
 use Rattle.term_instructions.proofs.Steps.{led_on, get_variable_needs, get_variable_safe}
-use Rattle.code_states.proofs.Standing.{get_variable_stands}
 use Rattle.term_instructions.proofs.gets.get_variable.Goals as goal
 
 pub register-cell-requires : goal.register-cell-requires

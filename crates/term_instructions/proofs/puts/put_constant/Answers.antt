@@ -3,9 +3,8 @@ use Rattle.wam_code.specs.declared.instruction.Code.TheVariants.{PutConstant}
 use Rattle.code_states.specs.Safety.{IsSafeThen}
 use Rattle.code_states.specs.Standing.{KeepsStanding}
 use Rattle.code_states.specs.declared.went.Went.TheVariants.{On}
-use Rattle.code_states.proofs.Safety.{within_code}
+use Rattle.code_states.proofs.Lemmas.{within_code, put_constant_stands}
 use Rattle.term_instructions.proofs.Steps.{led_on, put_constant_safe}
-use Rattle.code_states.proofs.Standing.{put_constant_stands}
 use Rattle.term_instructions.proofs.puts.put_constant.Goals as goal
 
 pub behind-requires : goal.behind-requires

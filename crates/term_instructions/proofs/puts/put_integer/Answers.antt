@@ -8,9 +8,8 @@ use Rattle.wam_code.specs.declared.instruction.Code.TheVariants.{PutInteger}
 use Rattle.code_states.specs.Safety.{IsSafeThen}
 use Rattle.code_states.specs.Standing.{KeepsStanding}
 use Rattle.code_states.specs.declared.went.Went.TheVariants.{On}
-use Rattle.code_states.proofs.Safety.{within_code}
+use Rattle.code_states.proofs.Lemmas.{within_code, put_integer_stands}
 use Rattle.term_instructions.proofs.Steps.{led_on, put_integer_safe}
-use Rattle.code_states.proofs.Standing.{put_integer_stands}
 use Rattle.term_instructions.proofs.puts.put_integer.Goals as goal
 
 pub behind-requires : goal.behind-requires

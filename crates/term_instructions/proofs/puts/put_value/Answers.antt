@@ -3,9 +3,8 @@ use Rattle.wam_code.specs.declared.instruction.Code.TheVariants.{PutValue}
 use Rattle.code_states.specs.Safety.{IsSafeThen}
 use Rattle.code_states.specs.Standing.{KeepsStanding}
 use Rattle.code_states.specs.declared.went.Went.TheVariants.{On}
-use Rattle.code_states.proofs.Safety.{within_code}
+use Rattle.code_states.proofs.Lemmas.{within_code, put_value_stands}
 use Rattle.term_instructions.proofs.Steps.{led_on, put_value_needs, put_value_safe}
-use Rattle.code_states.proofs.Standing.{put_value_stands}
 use Rattle.term_instructions.proofs.puts.put_value.Goals as goal
 
 pub read-cell-requires : goal.read-cell-requires

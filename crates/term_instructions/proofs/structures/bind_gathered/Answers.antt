@@ -1,6 +1,6 @@
 use Rattle.std.proofs.Common.{[], ◌<◌, refl, sym, subst}
 use Rattle.fd_language.specs.declared.NoMemory.{NoMemory}
-use Rattle.unify_core.proofs.Whole.{at_false}
+use Rattle.unify_core.proofs.Lemmas.{at_false}
 use Rattle.branch_state.specs.States.{IsSoundBelow}
 use Rattle.code_areas.specs.Areas.{Contents}
 use Rattle.code_states.specs.declared.went.Went.{Went}

@@ -5,7 +5,7 @@ use Rattle.heap_cells.specs.Seen.{IsSeen}
 use Rattle.heap_cells.specs.declared.Seen.TheVariants as seen
 use Rattle.wam_code.specs.declared.instruction.Code.TheVariants.{GetStructure}
 use Rattle.code_states.specs.Safety.{IsSafe}
-use Rattle.code_states.proofs.Safety.{within_code}
+use Rattle.code_states.proofs.Lemmas.{within_code}
 use Rattle.code_states.specs.declared.went.Went.TheVariants.{On, Back}
 use Rattle.term_instructions.specs.Reading.{ReadsOn}
 use Rattle.term_instructions.specs.declared.reading.Reading.{Reading}

@@ -1,7 +1,7 @@
 use Rattle.std.proofs.Common.{sym, subst}
 use Rattle.wam_code.specs.declared.instruction.Code.TheVariants.{PutStructure}
 use Rattle.code_states.specs.Safety.{IsSafe}
-use Rattle.code_states.proofs.Safety.{within_code}
+use Rattle.code_states.proofs.Lemmas.{within_code}
 use Rattle.term_instructions.proofs.Structure.{put_atom, put_started, put_done}
 use Rattle.term_instructions.proofs.structures.put_structure.Goals as goal
 

@@ -1,6 +1,6 @@
 use Rattle.std.proofs.Common.{rules, ◌++◌, refl, [], List, ℕ, arith}
 use Rattle.byte_ports.specs.Ends.{SinkState, sink_at}
-use Rattle.byte_ports.proofs.Pieces.{wrote_nothing}
+use Rattle.byte_ports.proofs.Lemmas.{wrote_nothing}
 use Rattle.text_output.proofs.Written.{line_more, line_short, line_last}
 use Rattle.text_output.proofs.writing.put_lines.Goals as goal
 

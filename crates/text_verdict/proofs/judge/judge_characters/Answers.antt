@@ -1,6 +1,6 @@
 use Rattle.fd_language.specs.Reading.{sentences}
 use Rattle.term_reader.specs.Sentences.{sentences_of}
-use Rattle.term_reader.proofs.Readable.{each_is_read}
+use Rattle.term_reader.proofs.Lemmas.{each_is_read}
 use Rattle.text_verdict.proofs.Judging.{judged_by}
 use Rattle.text_verdict.proofs.judge.judge_characters.Goals as goal
 

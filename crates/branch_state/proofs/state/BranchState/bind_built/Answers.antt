@@ -2,7 +2,7 @@ use Rattle.std.proofs.Common.{◌≡◌, ◌<◌, [], ap, refl, sym, subst, leng
 use Rattle.heap_cells.specs.declared.Cell.TheVariants as cell
 use Rattle.heap_cells.specs.Cells.{Heaps, free, slot_at}
 use Rattle.unify_core.specs.Unified.{IsEqualled}
-use Rattle.unify_core.proofs.Whole.{IsBehind, equalled, atoms_unified}
+use Rattle.unify_core.proofs.Lemmas.{IsBehind, equalled, atoms_unified}
 use Rattle.branch_state.specs.Compounds.{IsCompoundOf}
 use Rattle.branch_state.specs.States.{State, IsSound, IsCell}
 use Rattle.branch_state.proofs.Compounds.{compound_absent, compound_bound}

@@ -1,7 +1,7 @@
 use Rattle.std.proofs.Common.{◌*◌}
 use Rattle.range_terms.specs.Forms.{of_operand}
 use Rattle.term_pool.specs.Terms.{term_of, size}
-use Rattle.term_pool.proofs.PlacedShapes.{entry_of}
+use Rattle.term_pool.proofs.Lemmas.{entry_of}
 use Rattle.range_terms.proofs.Steps.{has_weight, step_unary, step_binary}
 use Rattle.range_terms.proofs.Walks.{step_put, step_refuse}
 use Rattle.range_terms.proofs.walk.Found.read.Goals as goal

@@ -1,0 +1,2 @@
+-- The lemmas that other crates may cite.
+pub use Rattle.byte_ports.proofs.Pieces.{all_front, all_then, front_then, longer_front, longer_part, part_then, put_none, stays, took_more, took_none, wrote_no_part, wrote_nothing}
