@@ -12,7 +12,7 @@ use Rattle.fd_model.specs.declared.kinds.QueryFault.TheVariants.{Instantiation, 
 use Rattle.fd_model.specs.Labelling.{read_list}
 use Rattle.fd_model.specs.Linear.{of_both}
 use Rattle.fd_model.specs.Members as seen
-use Rattle.fd_model.specs.Members.{as_member, prepend, walk}
+use Rattle.fd_model.specs.Members.{as_member, prepend}
 use Rattle.term_pool.specs.Terms.{size}
 use Rattle.term_pool.specs.declared.AtomId.{AtomId}
 use Rattle.term_pool.specs.declared.TheConstants.{NIL, CONS}

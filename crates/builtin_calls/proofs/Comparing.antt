@@ -18,7 +18,7 @@ use Rattle.builtin_calls.specs.declared.identity.Pair.{Pair}
 use Rattle.builtin_calls.specs.Reading.{family_of, read_term, seen_term}
 use Rattle.builtin_calls.specs.Shown.{shown, IsHeld}
 use Rattle.builtin_calls.specs.Waiting.{unnamed}
-use Rattle.builtin_calls.specs.Identical.{TellsIdentical, TellsShown, IsFlat, IsOwnPair, IsEqualPair, weight, paired, IsReduced, IsSettled}
+use Rattle.builtin_calls.specs.Identical.{TellsIdentical, TellsShown, IsOwnPair, IsEqualPair, weight, paired, IsReduced, IsSettled}
 
 -- cells with one term have one term as the sets show it
 pub same_seen : (h : Cells) (sets : List (List ℕ)) (c d : Cell) → Same h c d → (name : Naming) → seen_term name h sets c ≡ seen_term name h sets d
@@ -34,14 +34,6 @@ atom_same f g b e n = let q : f.number ≡ g.number = eqb-true f.number g.number
 
 pub atom_other : (f g : AtomId) (b : Bool) → b ≡ not (f.number == g.number) → b ≡ true → f ≡ g → ⊥
 atom_other f g b e t q = let s : (f.number == g.number) ≡ true = eq-eqb f.number g.number (ap (λ (a : AtomId). a.number) q) in false≢true (sym (ap not s) ∙ sym e ∙ t)
-
--- what is seen is flat where it is no compound term
-pub flat_unless : (y : Seen) → ((f : AtomId) (args : Bor (List Cell)) → y ≡ seen.Struct f args → ⊥) → IsFlat y
-flat_unless (seen.Open i) n = tt
-flat_unless (seen.Constrained i k) n = tt
-flat_unless (seen.Int z) n = tt
-flat_unless (seen.Atom a) n = tt
-flat_unless (seen.Struct f args) n = n f args refl
 
 -- lists of cells
 same_count : (by : Cell → Term) (cs ds : List Cell) → terms_by by cs ≡ terms_by by ds → length cs ≡ length ds
@@ -215,26 +207,10 @@ module _ (h : Cells) (sets : List (List ℕ)) where
       let j = sym (a name) ∙ e ∙ b name in
       n (o f g (let k : name f ≡ name g = cc in k)) (same_count (seen_term name h sets) cs ds (let k : terms_by (seen_term name h sets) cs ≡ terms_by (seen_term name h sets) ds = cc in k))
 
-  compound_apart : (name : Naming) (f : AtomId) (args : Bor (List Cell)) (y : Seen) (by : Cell → Term) → ((g : AtomId) (ds : Bor (List Cell)) → y ≡ seen.Struct g ds → ⊥) → shown name by (seen.Struct f args) ≡ shown name by y → ⊥
-  compound_apart name f args (seen.Open i) by n e = cc
-  compound_apart name f args (seen.Constrained i k) by n e = cc
-  compound_apart name f args (seen.Int z) by n e = cc
-  compound_apart name f args (seen.Atom a) by n e = cc
-  compound_apart name f args (seen.Struct g ds) by n e = n g ds refl
-
-  -- a compound term and another term
-  pub else_apart : (p : Pair) (f : AtomId) (args : Bor (List Cell)) (y : Seen) → ((name : Naming) → seen_term name h sets p.left ≡ shown name (seen_term name h sets) (seen.Struct f args)) → ((name : Naming) → seen_term name h sets p.right ≡ shown name (seen_term name h sets) y) → ((g : AtomId) (ds : Bor (List Cell)) → y ≡ seen.Struct g ds → ⊥)
-      → TellsIdentical h sets p.left p.right false
-  else_apart p f args y a b n name o e = compound_apart name f args y (seen_term name h sets) n (sym (a name) ∙ e ∙ b name)
-
   -- a term that is no compound term, and another one
   pub flat_alike : (ps : List Pair) (p : Pair) (x y : Seen) (b : Bool) → b ≡ true → ((name : Naming) → seen_term name h sets p.left ≡ shown name (seen_term name h sets) x) → ((name : Naming) → seen_term name h sets p.right ≡ shown name (seen_term name h sets) y) → TellsShown x y b → IsReduced h sets (ps ++ p ∷ []) ps
   flat_alike ps p x y true e l r t = reduced_same ps p (λ name. l name ∙ t name (seen_term name h sets) ∙ sym (r name))
   flat_alike ps p x y false e l r t = absurd (false≢true e)
-
-  pub flat_apart : (p : Pair) (x y : Seen) (b : Bool) → b ≡ false → ((name : Naming) → seen_term name h sets p.left ≡ shown name (seen_term name h sets) x) → ((name : Naming) → seen_term name h sets p.right ≡ shown name (seen_term name h sets) y) → TellsShown x y b → TellsIdentical h sets p.left p.right false
-  flat_apart p x y true q l r t = absurd (false≢true (sym q))
-  flat_apart p x y false q l r t = λ name o e. t name o (seen_term name h sets) (sym (l name) ∙ e ∙ r name)
 
   -- so far
   pub record IsComparing (a b : Cell) (work : List Pair) : Type 0 where
@@ -259,21 +235,6 @@ module _ (h : Cells) (sets : List (List ℕ)) where
         back = λ name w. same_seen h sets a x i name ∙ c.back name w ∙ sym (same_seen h sets b y j name);
         own = c.own;
       }
-
-  pub comparing_further : (a b : Cell) (old new : List Pair) → IsComparing a b old → IsReduced h sets old new → IsComparing a b new
-  comparing_further a b old new c r = record {
-    forth = λ name i. r.forth name (c.forth name i);
-    back = λ name i. c.back name (r.back name i);
-    own = r.own c.own;
-  }
-
-  -- all pairs are equal
-  pub compared : (a b : Cell) (work : List Pair) → IsComparing a b work → work ≡ [] → TellsIdentical h sets a b true
-  compared a b work c e name = c.back name (subst (All (IsEqualPair name h sets)) (sym e) (none_at_all (IsEqualPair name h sets)))
-
-  -- the last pair isn't
-  pub told_apart : (a b : Cell) (ps : List Pair) (p : Pair) → IsComparing a b (ps ++ p ∷ []) → TellsIdentical h sets p.left p.right false → TellsIdentical h sets a b false
-  told_apart a b ps p c n name o e = n name o (last_of (IsEqualPair name h sets) ps p (c.forth name e))
 
 -- the arguments of a compound term that is seen are of the heap
 pub held_parts : (h : Cells) → IsHeap h → (f : AtomId) (args : Bor (List Cell)) → IsHeld h (seen.Struct f args) → All (IsOf h) args.now

@@ -12,7 +12,7 @@ use Rattle.heap_cells.specs.Cells.{Cells, Compound, IsOf}
 use Rattle.heap_cells.specs.Terms.{Naming, terms_by}
 use Rattle.heap_cells.specs.Atoms.{HasAtomsBelow, IsAtomBelow}
 use Rattle.heap_cells.specs.Valid.{IsHeap}
-use Rattle.heap_cells.proofs.Lemmas.{none_at_all, all_front, last_of, all_push, head_of, tail_of, size_positive}
+use Rattle.heap_cells.proofs.Lemmas.{all_front, last_of, all_push, head_of, tail_of, size_positive}
 use Rattle.builtin_calls.specs.declared.evaluation.EvalFault.{EvalFault}
 use Rattle.builtin_calls.specs.declared.evaluation.EvalFault.TheVariants as fault
 use Rattle.builtin_calls.specs.declared.waiting.Operation.{Operation}
@@ -25,7 +25,7 @@ use Rattle.fd_model.specs.Arithmetic.{ValueFault, not_a_number, Value, value_of,
 use Rattle.builtin_calls.specs.Reading.{seen_term}
 use Rattle.builtin_calls.specs.Shown.{IsHeld}
 use Rattle.builtin_calls.specs.Outcomes.{IsFault, IsNamedBy, Tells, meaning, operation_of}
-use Rattle.builtin_calls.specs.Waiting.{after, resumed, step_value, TellsDescent, IsOwn, IsOwnWaiting, IsOfHeap, IsOwnStep, unnamed, burden, GoesOn, Leads, TellsAscent, IsEntered}
+use Rattle.builtin_calls.specs.Waiting.{after, resumed, step_value, TellsDescent, IsOwn, IsOwnWaiting, IsOwnStep, unnamed, burden, GoesOn, Leads, TellsAscent, IsEntered}
 
 -- the operation that a name means
 operation_by : (a b c d e : Bool) (l r : Value) (o : Operation) → cond a (Some Add) (cond b (Some Subtract) (cond c (Some Multiply) (cond d (Some Divide) (cond e (Some Modulo) None)))) ≡ Some o
@@ -182,10 +182,6 @@ module _ (names : List Name) (h : Cells) (sets : List (List ℕ)) where
         fault_through (seen_term name h sets) old e (value_of (seen_term name h sets c))
         (subst (λ y. IsFault e (value_of y)) (sym (is name ∙ ap (λ g. Comp g (terms_by (seen_term name h sets) args)) (n f there))) (k (seen_term name h sets)))
 
-  -- an evaluation that has gone on
-  pub leads_same : (ws : List Waiting) (s : Step) → Leads names h sets ws s ws s
-  leads_same ws s = record { value = λ name n. refl; own = λ o a. (o, a); lighter = omega arith }
-
   pub leads_further : (old mid new : List Waiting) (s t u : Step) → Leads names h sets old s mid t → GoesOn names h sets mid t new u → Leads names h sets old s new u
   leads_further old mid new s t u l g = record {
     value = λ name n. l.value name n ∙ g.value name n;
@@ -288,9 +284,6 @@ pub record IsUnderWay (names : List Name) (h : Cells) (sets : List (List ℕ)) (
   pub own : IsOwnStep (length names) h s
   pub waiting : All (IsOwnWaiting (length names) h) ws
 
-pub under_way_first : (names : List Name) (h : Cells) (sets : List (List ℕ)) (top : Cell) (ws : List Waiting) → ws ≡ [] → IsOwn (length names) h top → IsUnderWay names h sets top ws (Enter top)
-under_way_first names h sets top ws e o = subst (λ xs. IsUnderWay names h sets top xs (Enter top)) (sym e) record { value = λ name n. refl; own = o; waiting = none_at_all (IsOwnWaiting (length names) h) }
-
 pub under_way_further : (names : List Name) (h : Cells) (sets : List (List ℕ)) (top : Cell) (old new : List Waiting) (s t : Step) → IsUnderWay names h sets top old s → GoesOn names h sets old s new t → IsUnderWay names h sets top new t
 under_way_further names h sets top old new s t w g =
     let o = g.own w.own w.waiting in
@@ -304,12 +297,3 @@ way_fails names h sets top ws s e w f name n = subst (IsFault e) (sym (w.value n
 -- the last value is that of the whole
 pub way_ends : (names : List Name) (h : Cells) (sets : List (List ℕ)) (top : Cell) (ws : List Waiting) (s : Step) (z : ℤ) → IsUnderWay names h sets top ws s → ws ≡ [] → s ≡ Leave z → (name : Naming) → IsNamedBy names name → value_of (seen_term name h sets top) ≡ Ok z
 way_ends names h sets top ws s z w e f name n = w.value name n ∙ ap (λ xs. resumed (seen_term name h sets) xs (step_value (seen_term name h sets) s)) e ∙ ap (step_value (seen_term name h sets)) f
-
--- what waits is of the heap
-pub all_held : (n : ℕ) (h : Cells) (ws : List Waiting) → All (IsOwnWaiting n h) ws → All (IsOfHeap h) ws
-all_held n h ws a k d l = go (get_or ws k d) (a k d l)
-  where
-    go : (x : Waiting) → IsOwnWaiting n h x → IsOfHeap h x
-    go (Left o c) i = i.0
-    go (Right o z) i = tt
-    go Opposite i = tt

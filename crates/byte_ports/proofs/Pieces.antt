@@ -1,9 +1,7 @@
 -- One piece after another: what several calls of a source or of a sink come to.
-use Rattle.std.proofs.Common.{◌≡◌, ℕ, ◌+◌, ◌-◌, ◌<◌, ◌≤◌, List, [], ◌∷◌, ◌++◌, Option, Some, None, IsSome, refl, sym, ap, ◌∙◌, subst, append_assoc, append-nil, arith, take, drop, length, take_all, length-drop, length-append, length-take-le, take-add, take-append-drop}
-use Rattle.std.proofs.lemmas.List.Folds.{concat-append}
+use Rattle.std.proofs.Common.{◌≡◌, ℕ, ◌+◌, ◌-◌, ◌<◌, ◌≤◌, List, [], ◌∷◌, ◌++◌, Option, Some, None, refl, sym, ap, ◌∙◌, subst, append_assoc, append-nil, arith, take, drop, length, take_all, length-drop, length-append, length-take-le, take-add, take-append-drop}
 use Rattle.std.proofs.lemmas.List.{take-append-le, drop-drop}
-use Rattle.std.specs.List.{concat}
-use Rattle.byte_ports.specs.Ports.{Took, IsAtEnd, ReadJust, ReadWithin, Put, PutPart, Rose}
+use Rattle.byte_ports.specs.Ports.{Took, ReadJust, ReadWithin, Put, PutPart, Rose}
 use Rattle.byte_ports.specs.Ends.{SinkState, WroteAll, WroteFront, WrotePart}
 
 some_same : (x y : List ℕ) → Some x ≡ Some y → x ≡ y
@@ -28,33 +26,6 @@ took_more a (Some y) (Some z) p q h g = took_ends a (Some y) y z p q h refl g
 -- a call that took nothing changes nothing of what was taken
 pub took_no_more : (a b c : Option (List ℕ)) (p : List ℕ) → Took a b p → Took b c [] → Took a c p
 took_no_more a b c p h g = subst (Took a c) (append-nil p) (took_more a b c p [] h g)
-
--- what is told after a call was told before it
-pub told_before_took : (a b : Option (List ℕ)) (p : List ℕ) → Took a b p → IsSome b → IsSome a
-told_before_took a None p h t = absurd (cc (t))
-told_before_took None (Some y) p h t = absurd (cc (h))
-told_before_took (Some x) (Some y) p h t = refl
-
--- a text that was read to the end is what was left, where that is told at the start and at the end
-pub text_is_left : (a b : Option (List ℕ)) (bytes text : List ℕ) → a ≡ Some bytes → IsSome b → Took a b text → IsAtEnd b → text ≡ bytes
-text_is_left a None bytes text e t h end = absurd (cc (t))
-text_is_left a (Some rest) bytes text e t h end =
-    let whole : text ++ rest ≡ text ++ [] = ap (λ r. text ++ r) end in
-    let none : text ++ [] ≡ text = append-nil text in
-    let same : bytes ≡ text ++ rest = some_same bytes (text ++ rest) (sym e ∙ h) in
-    sym (same ∙ whole ∙ none)
-
--- a piece that was taken is a front of what was left
-pub took_is_front : (a b : Option (List ℕ)) (bytes piece : List ℕ) → a ≡ Some bytes → IsSome b → Took a b piece → (rest : List ℕ) × (b ≡ Some rest) × (bytes ≡ piece ++ rest)
-took_is_front a None bytes piece e t h = absurd (cc (t))
-took_is_front a (Some rest) bytes piece e t h = (rest, refl, some_same bytes (piece ++ rest) (sym e ∙ h))
-
--- where n bytes were taken, at least n were left
-pub just_was_left : (a b : Option (List ℕ)) (n : ℕ) (bytes : List ℕ) → a ≡ Some bytes → IsSome b → ReadJust a b n → n ≤ length bytes
-just_was_left a None n bytes e t h = absurd (cc (t))
-just_was_left a (Some rest) n bytes e t h =
-    let k : length bytes ≡ length h.0 + length rest = ap length (some_same bytes (h.0 ++ rest) (sym e ∙ h.2)) ∙ length-append h.0 rest in
-    omega (arith, k, h.1)
 
 -- after a text, one byte more than the limit leaves was taken
 pub just_after : (a b c : Option (List ℕ)) (text buf : List ℕ) (n limit : ℕ) → length text ≤ limit → Took a b text → n ≤ length buf → Took b c (take n buf) → limit - length text < n → n ≤ (limit + 1) - length text → ReadJust a c (limit + 1)
@@ -96,27 +67,6 @@ put_more a b None p q h g = tt
 put_more a None (Some z) p q h g = absurd (cc (g.1))
 put_more a (Some y) (Some z) p q h g = (h.0, h.1, put_ends h.0 y g.0 z p q h.2 (some_same y g.0 g.1) g.2)
 
--- what was written is what was written before, followed by the piece
-pub written_is : (a b : Option (List ℕ)) (before piece : List ℕ) → a ≡ Some before → IsSome b → Put a b piece → b ≡ Some (before ++ piece)
-written_is a None before piece e t h = absurd (cc (t))
-written_is a (Some after) before piece e t h =
-    let same : before ≡ h.0 = some_same before h.0 (sym e ∙ h.1) in
-    ap Some (h.2 ∙ ap (λ b. b ++ piece) (sym same))
-
--- what was written is what was written before, followed by a front of the piece
-pub written_part_is : (a b : Option (List ℕ)) (before piece : List ℕ) → a ≡ Some before → IsSome b → PutPart a b piece → (part : List ℕ) × (rest : List ℕ) × (piece ≡ part ++ rest) × (b ≡ Some (before ++ part))
-written_part_is a b before piece e t h = (h.0, h.1, h.2, written_is a b before h.0 e t h.3)
-
--- what is told after a call was told before it
-pub told_before_put : (a b : Option (List ℕ)) (p : List ℕ) → Put a b p → IsSome b → IsSome a
-told_before_put a None p h t = absurd (cc (t))
-told_before_put None (Some y) p h t = absurd (cc (h.1))
-told_before_put (Some x) (Some y) p h t = refl
-
--- a whole piece is a front of itself
-pub part_whole : (a b : Option (List ℕ)) (p : List ℕ) → Put a b p → PutPart a b p
-part_whole a b p h = (p, [], sym (append-nil p), h)
-
 -- no bytes are a front of each piece
 pub part_none : (a b : Option (List ℕ)) (p : List ℕ) → Put a b [] → PutPart a b p
 part_none a b p h = ([], p, refl, h)
@@ -134,18 +84,6 @@ part_more a b c p q h g =
 -- a whole piece is a front of what begins with it
 pub part_of_more : (a b : Option (List ℕ)) (p q : List ℕ) → Put a b p → PutPart a b (p ++ q)
 part_of_more a b p q h = (p, q, refl, h)
-
--- several pieces and then one more are all of them joined
-pub put_joined : (a b c : Option (List ℕ)) (ps : List (List ℕ)) (p : List ℕ) → Put a b (concat ps) → Put b c p → Put a c (concat (ps ++ p ∷ []))
-put_joined a b c ps p h g =
-    let e : concat (ps ++ p ∷ []) ≡ concat ps ++ (p ++ []) = concat-append ps (p ∷ []) in
-    subst (Put a c) (sym (e ∙ ap (λ r. concat ps ++ r) (append-nil p))) (put_more a b c (concat ps) p h g)
-
--- several pieces and then a front of one more are a front of all of them joined, whatever follows
-pub part_joined : (a b c : Option (List ℕ)) (ps : List (List ℕ)) (p : List ℕ) (qs : List (List ℕ)) → Put a b (concat ps) → PutPart b c p → PutPart a c (concat (ps ++ p ∷ qs))
-part_joined a b c ps p qs h g =
-    let e : concat (ps ++ p ∷ qs) ≡ concat ps ++ (p ++ concat qs) = concat-append ps (p ∷ qs) in
-    subst (PutPart a c) (sym e) (part_more a b c (concat ps) (p ++ concat qs) h (part_longer b c p (concat qs) g))
 
 rest_is : (d : ℕ) (p : List ℕ) → take (length p - d) (drop d p) ≡ drop d p
 rest_is d p = take_all (length p - d) (drop d p) (omega (arith, length-drop d p))

@@ -1,18 +1,16 @@
 -- The number that digits spell, from left to right.
 use Rattle.std.proofs.Common.{◌≡◌, ℕ, ◌+◌, ◌*◌, ◌<◌, ◌≤◌, List, [], ◌∷◌, ◌++◌, Option, Some, None, Bool, true, false, cond, refl, sym, ap, ◌∙◌, arith, length, drop, length-drop}
-use Rattle.std.specs.Prelude.{encode_utf8, nat_le, IfSome, ◌==◌, ◌&&◌, ℤ, pos}
+use Rattle.std.specs.Prelude.{nat_le, ◌==◌, ◌&&◌, ℤ, pos}
 use Rattle.std.specs.Char.{digit_value, len_utf8}
-use Rattle.std.specs.Str.{chars, IsUtf8}
-use Rattle.std.proofs.lemmas.Str.{chars_past_char, chars-nil}
 use Rattle.std.proofs.lemmas.List.{drop-drop}
-use Rattle.std.proofs.lemmas.Bool.{lt-leb, le-leb, leb-true, leb-false}
+use Rattle.std.proofs.lemmas.Bool.{leb-true, leb-false}
 use Rattle.std.proofs.Math.Nat.{mul-le-mul_left}
 use Rattle.fd_language.specs.Characters.{is_digit_of, starts_with, run_size, past_run, value}
 use Rattle.fd_language.specs.Tokens as model
 use Rattle.fd_language.specs.Tokens.{Gap, Token, Offends, Integer, FloatOut, IntegerTooWide, greatest, has_fraction, number_front, decimal_front}
 use Rattle.char_tokens.specs.declared.front.Front.{Front}
 use Rattle.char_tokens.specs.declared.front.Front.TheVariants as fronts
-use Rattle.char_tokens.specs.Views.{integer_of, next_integer, front_is, kind_of, cause_of, IsBehind}
+use Rattle.char_tokens.specs.Views.{next_integer, front_is, kind_of, cause_of, IsBehind}
 use Rattle.char_tokens.proofs.Runs.{IsAt}
 
 -- more digits make no smaller number
@@ -41,10 +39,6 @@ SoFarBy base (Some v) cs ds = (v ≤ greatest) × (value base v cs ≡ value bas
 pub record SoFar (base : ℕ) (o : Option ℕ) (cs ds : List ℕ) : Type 0 where
   pub by : SoFarBy base o cs ds
 
-pub so_far_small : (base : ℕ) (o : Option ℕ) (cs ds : List ℕ) → SoFar base o cs ds → IfSome o (λ v. v ≤ greatest)
-so_far_small base None cs ds h = tt
-so_far_small base (Some v) cs ds h = h.by.0
-
 picked : (base v : ℕ) (cs ds : List ℕ) → 1 ≤ base → value base v cs ≡ value base 0 ds → (b : Bool) → nat_le v greatest ≡ b → SoFar base (cond b (Some v) None) cs ds
 picked base v cs ds h e true l = record { by = (leb-true v greatest l, e) }
 picked base v cs ds h e false l = record { by = omega (arith, leb-false v greatest l, value_grows base v cs h, e) }
@@ -53,14 +47,6 @@ pub so_far_step : (base : ℕ) (o : Option ℕ) (c : ℕ) (cs ds : List ℕ) →
 so_far_step base None c cs ds h d s = record { by = s.by }
 so_far_step base (Some v) c cs ds h d s =
     picked base (v * base + digit_value c) cs ds h (sym (value_here base v c cs d) ∙ s.by.1) (nat_le (v * base + digit_value c) greatest) refl
-
--- nothing more is read
-pub so_far_end : (base : ℕ) (o : Option ℕ) (cs ds : List ℕ) → ((n : ℕ) → value base n cs ≡ n) → SoFar base o cs ds → o ≡ integer_of (value base 0 ds)
-so_far_end base None cs ds e s = sym (ap (λ (b : Bool). cond b (Some (value base 0 ds)) None) (lt-leb (value base 0 ds) greatest s.by))
-so_far_end base (Some v) cs ds e s =
-    let same : v ≡ value base 0 ds = sym (e v) ∙ s.by.1 in
-    let fits : nat_le v greatest ≡ true = le-leb v greatest s.by.0 in
-    sym (ap (λ (b : Bool). cond b (Some v) None) fits) ∙ ap integer_of same
 
 pub decimal_float : (c : ℕ) (cs : List ℕ) → has_fraction (past_run (is_digit_of 10) cs) ≡ true → decimal_front c cs ≡ Offends FloatOut 0
 decimal_float c cs h = rw h refl

@@ -62,12 +62,6 @@ pub record Completes (text : List ℕ) (left : Left) (found : List Lexeme) : Typ
   pub tokens : (ts : List Lexeme) → HasTokens left.place true left.bytes ts → HasTokens 0 true text (found ++ ts)
   pub faults : (cause : Cause) (at : ℕ) → HasFault left.place left.bytes cause at → HasFault 0 text cause at
 
-pub completes_all : (text : List ℕ) (left : Left) (found : List Lexeme) → left ≡ record { bytes = text; place = 0 } → found ≡ [] → Completes text left found
-completes_all text left found e k = record {
-  tokens = λ ts h. subst (λ (l : List Lexeme). HasTokens 0 true text (l ++ ts)) (sym k) (subst (λ (s : Left). HasTokens s.place true s.bytes ts) e h);
-  faults = λ cause at h. subst (λ (s : Left). HasFault s.place s.bytes cause at) e h;
-}
-
 pub completes_more : (text : List ℕ) (old new : Left) (found : List Lexeme) (l : Lexeme) → IsNext old new l → Completes text old found → Completes text new (found ++ l ∷ [])
 completes_more text old new found l i c = record {
   tokens = λ ts h. subst (λ (k : List Lexeme). HasTokens 0 true text k) (sym (append_assoc found (l ∷ []) ts)) (c.tokens (l ∷ ts) (next_tokens old new l ts i h));

@@ -38,9 +38,6 @@ run_none p bs e = ap (λ (l : List ℕ). run_size p (chars l)) e ∙ ap (λ (cs 
 pub past_here : (p : ℕ → Bool) (bs rest : List ℕ) (c : ℕ) → IsUtf8 bs → bs ≡ encode_utf8 c ++ rest → p c ≡ true → past_run p (chars bs) ≡ past_run p (chars rest)
 past_here p bs rest c u e h = ap (λ (cs : List ℕ). past_run p cs) (chars_past_char bs rest c u e) ∙ rw h refl
 
-pub past_none : (p : ℕ → Bool) (bs : List ℕ) → bs ≡ [] → past_run p (chars bs) ≡ chars bs
-past_none p bs e = rw (e, chars-nil) refl
-
 -- The text begins with the ASCII character c.
 pub record AsciiFirst (c : ℕ) (text : List ℕ) : Type 0 where
   pub within : 1 ≤ length text

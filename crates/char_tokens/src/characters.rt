@@ -1,7 +1,7 @@
 //! The longest run of characters of a class.
 
-ghost use Rattle.std.specs.Prelude.{◌≡◌, ◌<◌, ◌+◌, ◌≤◌, ◌∷◌, ◌++◌, [], length, drop, MatchOption, encode_utf8};
-ghost use Rattle.std.specs.Char.{IsScalar, len_utf8};
+ghost use Rattle.std.specs.Prelude.{◌≡◌, ◌<◌, ◌+◌, ◌≤◌, ◌∷◌, ◌++◌, [], length, drop, encode_utf8};
+ghost use Rattle.std.specs.Char.{len_utf8};
 ghost use Rattle.std.specs.Str.{chars, IsUtf8};
 ghost use Rattle.fd_language.specs.Characters as Characters;
 ghost use Rattle.fd_language.specs.Tokens as Tokens;

@@ -1,6 +1,6 @@
 //! What a text begins with.
 
-ghost use Rattle.std.specs.Prelude.{true, ◌≡◌, ◌++◌, encode_utf8};
+ghost use Rattle.std.specs.Prelude.{◌≡◌, ◌++◌, encode_utf8};
 ghost use Rattle.std.specs.Str.{chars, IsUtf8};
 ghost use Rattle.fd_language.specs.Tokens as Tokens;
 ghost use Rattle.char_tokens.specs.Views as Views;

@@ -8,8 +8,7 @@ use Rattle.fd_language.specs.declared.TheConstants.{INFINITY}
 use Rattle.fd_model.specs.Goal as model
 use Rattle.fd_model.specs.Queries.{body_of, is_shown, shown_from, queries_by, clause_of, clauses_by}
 use Rattle.fd_model.specs.Refusals as refusals
-use Rattle.fd_model.specs.Refusals.{functor_of, head_by_functor, head_refusal, or_later, goals_of, goals_refusal, clause_refusal, too_wide, wide_places, sentence_refusal, form_of}
-use Rattle.fd_language.specs.Spelling.{least_place}
+use Rattle.fd_model.specs.Refusals.{functor_of, head_by_functor, head_refusal, or_later, goals_of, goals_refusal, clause_refusal}
 use Rattle.term_pool.specs.declared.TermId.{TermId}
 use Rattle.term_pool.specs.Contents.{Contents, atom_name}
 use Rattle.term_pool.specs.Terms.{term_of}
@@ -22,7 +21,7 @@ use Rattle.clause_check.specs.declared.program.QueryParts.{QueryParts}
 use Rattle.clause_check.specs.declared.goals.GoalStore.{GoalStore}
 use Rattle.clause_check.specs.declared.check.Parts.{Parts}
 use Rattle.clause_check.specs.GoalStores.{stored, IsStore, IsGrown, IsRead}
-use Rattle.clause_check.specs.Parts.{AreShown, IsQueryWithin, AddsForm, AddsSentence, names_in}
+use Rattle.clause_check.specs.Parts.{AreShown, IsQueryWithin, AddsForm, names_in}
 use Rattle.clause_check.specs.Programs.{part_of, query_kept, IsNamed, IsPart, IsClause}
 use Rattle.clause_check.specs.Terms.{terms_of}
 use Rattle.clause_check.proofs.FormNames.{functor_arguments}
@@ -119,11 +118,3 @@ module _ (s : Sentences) (old new : Parts) (x : Sentence) (grown : IsGrown old.s
         (same_query q.variables (length names) (map (atom_name c) q.names.items) (filter is_shown names) q.shown.items (shown_from 0 names) (part_of trees q.goals) (body_of (placed_of c b))
         (counted q.variables count) shown.names_are shown.numbers_are read.goals);
   }
-
--- a sentence with no compound term of too many arguments
-pub sentence_added : (s : Sentences) (old new : Parts) (x : Sentence) (o : Option ℕ) (form : refusals.Form) → o ≡ least_place (wide_places (placed_of s.pool x.term)) → o ≡ None → form_of (placed_of s.pool x.term) ≡ form
-    → AddsForm s old new (names_in s.pool x) (placed_of s.pool x.term) form → AddsSentence s old new x
-sentence_added s old new x o form w none f a =
-    let t = placed_of s.pool x.term in
-    let mine = subst (λ (g : refusals.Form). AddsForm s old new (names_in s.pool x) t g) (sym f) a in
-    record { accepted = ap (λ (p : Option ℕ). or_later (too_wide p) (clause_refusal INFINITY (terms_of s) t (form_of t))) (sym w ∙ none) ∙ mine.accepted; adds = mine }

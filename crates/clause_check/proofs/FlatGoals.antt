@@ -5,7 +5,7 @@ use Rattle.std.specs.List.{AllByRecursion}
 use Rattle.std.proofs.lemmas.Bool.{cases_lt}
 use Rattle.std.proofs.lemmas.List.Elements.{All-weaker, All-from_get_or, recursion_from_All}
 use Rattle.fd_language.proofs.Lemmas.{two}
-use Rattle.std.proofs.lemmas.List.{length-take-le, drop_all, drop-take, drop-drop, take-take, take-append-drop, get_or-take, append_assoc, get_or_append_left, take-append-le, length-take, length-drop}
+use Rattle.std.proofs.lemmas.List.{length-take-le, drop_all, drop-take, drop-drop, take-take, take-append-drop, get_or-take, append_assoc, get_or_append_left, take-append-le, length-take}
 use Rattle.std.proofs.Math.Seq.{get_or-append_seam, get_or-append_right, drop-cons}
 use Rattle.fd_language.specs.Range.{Range}
 use Rattle.fd_language.specs.Spelling.{empty_range}
@@ -46,9 +46,6 @@ part_split goals i k j l u =
     sym (drop-take i n all) ∙ ap (λ (m : ℕ). drop i (take m all)) e ∙ ap (drop i) (take-take k j goals u) in
     let second : drop n (drop i all) ≡ between goals k j = drop-drop n i all ∙ ap (λ (m : ℕ). drop m all) e in
     sym (take-append-drop n (drop i all)) ∙ ap (λ (xs : List model.Goal). xs ++ drop n (drop i all)) first ∙ ap (λ (xs : List model.Goal). between goals i k ++ xs) second
-
-pub part_length : (goals : List model.Goal) (i j : ℕ) → j ≤ length goals → length (between goals i j) ≡ j - i
-part_length goals i j u = length-drop i (take j goals) ∙ ap (λ (n : ℕ). n - i) (length-take-le j goals u)
 
 -- more goals behind them
 pub part_more : (goals more : List model.Goal) (i j : ℕ) → j ≤ length goals → between (goals ++ more) i j ≡ between goals i j
@@ -239,7 +236,3 @@ between_first p h i j l u = between_next p i j l u ∙ ap (λ (g : model.Goal). 
 -- The goals between two numbers, parted at a third.
 pub between_split : (p : FlatProgram) (i k j : ℕ) → i ≤ k → k ≤ j → goals_between p i j ≡ goals_between p i k ++ goals_between p k j
 between_split p i k j l u = part_split (trees p.pool p.ranges p.goals) i k j l u
-
--- How many goals stand between two numbers.
-pub between_length : (p : FlatProgram) (i j : ℕ) → j ≤ length p.goals → length (goals_between p i j) ≡ j - i
-between_length p i j u = part_length (trees p.pool p.ranges p.goals) i j (omega (arith, u, trees_length p.pool p.ranges p.goals))

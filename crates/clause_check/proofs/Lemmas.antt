@@ -1,2 +1,2 @@
 -- The lemmas that other crates may cite. All else in proofs/ is this crate's own.
-pub use Rattle.clause_check.proofs.FlatGoals.{listed_unlisted, unlisted_listed, goal_tree_is, between_none, between_next, between_first, between_split, between_length}
+pub use Rattle.clause_check.proofs.FlatGoals.{listed_unlisted, unlisted_listed, goal_tree_is, between_none, between_next, between_first, between_split}

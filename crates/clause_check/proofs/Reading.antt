@@ -1,19 +1,16 @@
 -- A body while it is read.
-use Rattle.std.proofs.Common.{◌≡◌, ℕ, ◌<◌, ◌≤◌, List, [], ◌∷◌, ◌++◌, length, map, Option, Some, sym, ap, ◌∙◌, subst, arith, length-append, append-nil}
+use Rattle.std.proofs.Common.{◌≡◌, ℕ, ◌<◌, ◌≤◌, List, [], ◌∷◌, ◌++◌, length, Option, Some, sym, ap, ◌∙◌, subst, arith, length-append}
 use Rattle.std.specs.Prelude.{All}
-use Rattle.std.proofs.lemmas.List.Elements.{All-nil, All-cons, All-pop, All-append, All-weaker, recursion_from_All}
+use Rattle.std.proofs.lemmas.List.Elements.{All-pop, All-append, All-weaker, recursion_from_All}
 use Rattle.std.specs.List.{AllByRecursion}
 use Rattle.fd_language.specs.PlacedTerm.{PlacedTerm}
-use Rattle.fd_language.specs.Range.{Range}
 use Rattle.fd_language.specs.declared.TheConstants.{INFINITY}
 use Rattle.fd_language.proofs.Lemmas.{two}
 use Rattle.fd_model.specs.Goal as model
 use Rattle.fd_model.specs.Queries.{body_of}
 use Rattle.fd_model.specs.Refusals as refusals
 use Rattle.fd_model.specs.Refusals.{or_later, goals_of, goals_refusal}
-use Rattle.term_pool.specs.declared.TermId.{TermId}
 use Rattle.term_pool.specs.Contents.{Contents}
-use Rattle.term_pool.specs.PlacedTerms.{placed_of}
 use Rattle.term_reader.specs.declared.reader.Sentences.{Sentences}
 use Rattle.clause_check.specs.declared.faults.Fault.{Fault}
 use Rattle.clause_check.specs.declared.program.Part.{Part}
@@ -23,8 +20,7 @@ use Rattle.clause_check.specs.declared.goals.Task.TheVariants.{Visit, Turn, Join
 use Rattle.clause_check.specs.declared.goals.GoalStore.{GoalStore}
 use Rattle.clause_check.specs.Causes.{RefusedBy}
 use Rattle.clause_check.specs.GoalStores.{stored, pending_in, IsStore, IsGrown, IsClosed, start_in, IsTask, IsStack, done, all_done, ahead, all_ahead, total_weight, IsTaken, IsRead}
-use Rattle.clause_check.specs.Kept.{AreAccepted}
-use Rattle.clause_check.specs.Programs.{tree_of, trees, IsGoal, AreGoals}
+use Rattle.clause_check.specs.Programs.{trees}
 use Rattle.clause_check.specs.Terms.{terms_of}
 use Rattle.clause_check.proofs.Closing.{closed}
 use Rattle.clause_check.proofs.FlatGoals.{part_later, trees_length, trees_more, trees_ranges}
@@ -40,26 +36,6 @@ pub record IsReading (s : Sentences) (old : GoalStore) (body : PlacedTerm) (g : 
   pub stack : IsStack 0 g.tasks.items (length g.pending.items)
   pub goals : all_done s.pool (stored s.pool g) g.tasks.items (pending_in s.pool g) ≡ body_of body
   pub refusal : goals_refusal INFINITY (terms_of s) (goals_of body) ≡ goals_refusal INFINITY (terms_of s) (all_ahead s.pool g.tasks.items)
-
--- the body alone
-pub reading_first : (s : Sentences) (old g : GoalStore) (t : TermId) → t.number < length s.pool.entries → IsStore s.pool old → g.ranges.items ≡ old.ranges.items → g.goals.items ≡ old.goals.items → g.pending.items ≡ [] → g.tasks.items ≡ Visit t ∷ []
-    → IsReading s old (placed_of s.pool t) g
-reading_first s old g t l k ranges goals pending tasks =
-    let c = s.pool in
-    let IsMine : Task → Type 0 = λ x. IsTask c (length g.goals.items) x in
-    let none : pending_in c g ≡ [] = ap (map (tree_of c g.ranges.items (stored c g))) pending in
-    record {
-      store = record {
-        ranges = subst AreAccepted (sym ranges) k.ranges;
-        goals = subst (λ (rs : List Range). AreGoals c (length rs) g.goals.items) (sym ranges) (subst (AreGoals c (length old.ranges.items)) (sym goals) k.goals);
-        pending = subst (All (IsGoal c (length g.ranges.items) (length g.goals.items))) (sym pending) (All-nil (IsGoal c (length g.ranges.items) (length g.goals.items)));
-      };
-      grown = record { ranges = ([], ranges ∙ sym (append-nil old.ranges.items)); goals = ([], goals ∙ sym (append-nil old.goals.items)) };
-      own = subst (All IsMine) (sym tasks) (All-cons IsMine (Visit t) [] l (All-nil IsMine));
-      stack = subst (λ (ts : List Task). IsStack 0 ts (length g.pending.items)) (sym tasks) (omega arith);
-      goals = two (λ (ts : List Task) (gs : List model.Goal). all_done c (stored c g) ts gs) tasks none;
-      refusal = ap (λ (ts : List Task). goals_refusal INFINITY (terms_of s) (all_ahead c ts)) (sym tasks);
-    }
 
 -- more goals and ranges keep what the old ones stand for
 pub grown_stored : (c : Contents) (old new : GoalStore) → IsStore c old → IsGrown old new → (more : List model.Goal) × (stored c new ≡ stored c old ++ more)
@@ -113,9 +89,6 @@ module _ (s : Sentences) (old : GoalStore) (body : PlacedTerm) (g mid : GoalStor
 
   pub pop_start : start_in (length mid.pending.items) task ≤ length mid.pending.items
   pop_start = subst (λ (n : ℕ). start_in n task ≤ n) (sym same_count) stacked.1
-
-  pub pop_task : IsTask c (length mid.goals.items) task
-  pop_task = subst (λ (gs : List FlatGoal). IsTask c (length gs) task) (sym p.same.goals) popped.1
 
   looked : goals_refusal INFINITY (terms_of s) (goals_of body) ≡ or_later (goals_refusal INFINITY (terms_of s) (ahead c task)) (goals_refusal INFINITY (terms_of s) (all_ahead c rest))
   looked =

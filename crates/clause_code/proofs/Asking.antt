@@ -1,7 +1,7 @@
 -- The slots of a query's variables, and its code once all its parts are written.
-use Rattle.std.proofs.Common.{◌≡◌, ◌≢◌, ℕ, zero, suc, ◌+◌, ◌-◌, ◌<◌, true, List, [], ◌∷◌, ◌++◌, map, Some, length, get_or, set, replicate, All, ap, sym, ◌∙◌, subst, arith, inl, inr, append_assoc, length-set, get_or-set_same, get_or-set_other}
+use Rattle.std.proofs.Common.{◌≡◌, ◌≢◌, ℕ, zero, suc, ◌+◌, ◌-◌, ◌<◌, true, List, [], ◌∷◌, ◌++◌, map, Some, length, get_or, set, All, ap, sym, ◌∙◌, subst, arith, inl, inr, append_assoc, length-set, get_or-set_same, get_or-set_other}
 use Rattle.std.proofs.lemmas.Bool.{cases_eq, true≢false}
-use Rattle.std.proofs.lemmas.List.{get_or-map, get_or-replicate, length-map, length-replicate}
+use Rattle.std.proofs.lemmas.List.{get_or-map, length-map}
 use Rattle.std.proofs.lemmas.Option.{slice_get-get_or}
 use Rattle.fd_language.specs.Term.{no_terms}
 use Rattle.fd_model.specs.Goal as model
@@ -55,17 +55,6 @@ query_known p known q low =
     }
 
 -- ---- slots
-
-none_given : (v x : ℕ) (slots : List ℕ) → slots ≡ replicate v 0 → x < v → slot slots x ≡ 0
-none_given v x slots e l = ap (λ s. slot s x) e ∙ get_or-replicate v x 0 0 l
-
-pub given_first : (v : ℕ) (slots : List ℕ) → slots ≡ replicate v 0 → AreGiven v 1 slots
-given_first v slots e = record {
-  long = ap length e ∙ length-replicate v 0;
-  some = omega arith;
-  below = λ x l. let z = none_given v x slots e l in omega (arith, z);
-  apart = λ x y l m h s. let z = none_given v x slots e l in absurd (omega (arith, z, h));
-}
 
 -- one more slot
 pub given_next : (v next x : ℕ) (slots new : List ℕ) → AreGiven v next slots → x < v → new ≡ set slots x next → AreGiven v (next + 1) new

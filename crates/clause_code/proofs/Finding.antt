@@ -1,5 +1,5 @@
 -- Homes that suit a head and a goal, as they are found.
-use Rattle.std.proofs.Common.{◌≡◌, ◌⊎◌, ℕ, zero, suc, ◌+◌, ◌<◌, ◌≤◌, List, [], ◌∷◌, ◌++◌, Some, All, get_or, length, slice_set, refl, ap, sym, ◌∙◌, subst, arith, inl, inr, length-set, get_or-set_same, get_or-set_other}
+use Rattle.std.proofs.Common.{◌≡◌, ◌⊎◌, ℕ, zero, suc, ◌+◌, ◌<◌, ◌≤◌, List, [], ◌∷◌, ◌++◌, Some, All, get_or, length, refl, ap, sym, ◌∙◌, subst, arith, inl, inr, length-set, get_or-set_same, get_or-set_other}
 use Rattle.std.proofs.lemmas.Bool.{cases_eq}
 use Rattle.std.proofs.lemmas.List.Elements.{All-append}
 use Rattle.fd_language.specs.Term.{Name, Term, Terms, Var, Comp, no_terms, term}
@@ -16,7 +16,7 @@ use Rattle.clause_code.specs.Short.{InRegisters}
 use Rattle.clause_code.specs.Simple.{IsOwn}
 use Rattle.clause_code.specs.Steps.{home, Suits, AllSuit}
 use Rattle.clause_code.specs.Staying.{IsOutside, PartWaits, PartsWait, Waits, AllWait, Lands, AllLand, nth, MayStay, Stayed, MovedBack, Leaves, AreHomes}
-use Rattle.clause_code.proofs.Rests.{rest, rest_cons, rest_none}
+use Rattle.clause_code.proofs.Rests.{rest, rest_cons}
 
 -- ---- homes that move back
 
@@ -56,21 +56,6 @@ argument_still : (old new : List Register) (first j last : ℕ) → last < first
 argument_still old new first j last b m (Var x) h = outside_still old new first (suc j) last x b m h
 argument_still old new first j last b m (Comp f us) h = parts_still old new first j last b m us h
 argument_still old new first j last b m _ h = tt
-
--- ---- one home
-
-pub left : (old new : List Register) (x least last first : ℕ) → x < length old → last < first → new ≡ slice_set old x (X (first + x)) → MovedBack old new first × IsOutside new least last x
-left old new x least last first l b e =
-    let here : home new x ≡ X (first + x) = ap (λ h. home h x) e ∙ get_or-set_same old x (X (first + x)) (X 0) l in (
-      record {
-        long = ap length e ∙ length-set old x (X (first + x));
-        homes = λ y m. elim (cases_eq y x) [
-          | inl same ↦ inr (subst (λ z. home new z ≡ X (first + z)) (sym same) here)
-          | inr other ↦ inl (ap (λ h. home h y) e ∙ get_or-set_other old x y (X (first + x)) (X 0) other)
-        ];
-      },
-      λ i m k n f. let d : X (first + x) ≡ X i = sym here ∙ f in let z : first + x ≡ i = cc in omega (arith, z, n, b),
-    )
 
 -- ---- a walk
 
@@ -134,29 +119,11 @@ pub record Walking (c : Contents) (least last first : ℕ) (before : List Regist
   pub outside : (h : List Register) → MovedBack homes h first → AllOf (IsOutside h least last) (terms_by (term_of c) terms) → AllOf (IsOutside h least last) (terms_by (term_of c) all)
   pub own : All (IsOwn c (length homes)) terms
 
-pub walks_first : (c : Contents) (least last first : ℕ) (homes : List Register) (all : List TermId) → All (IsOwn c (length homes)) all → Walking c least last first homes all homes all
-walks_first c least last first homes all own = record { back = moved_self homes first; outside = λ h m a. a; own = own }
-
-pub walks_next : (c : Contents) (t : TermId) (least last first : ℕ) (before homes new : List Register) (all terms front rest : List TermId) → terms ≡ front ++ (t ∷ []) → Leaves c t least last first homes front new rest → Walking c least last first before all homes terms
-    → Walking c least last first before all new rest
-walks_next c t least last first before homes new all terms front rest e l w =
-    let m = l.back in record {
-      back = moved_both before homes new first w.back l.back;
-      outside = λ h n a. w.outside h (moved_both homes new h first l.back n) (subst (λ ts. AllOf (IsOutside h least last) (terms_by (term_of c) ts)) (sym e) (l.outside h n a));
-      own = subst (λ v. All (IsOwn c v) rest) (sym m.long) l.own;
-    }
-
-pub walks_last : (c : Contents) (least last first : ℕ) (before homes : List Register) (all terms : List TermId) → terms ≡ [] → Walking c least last first before all homes terms → AllOf (IsOutside homes least last) (terms_by (term_of c) all)
-walks_last c least last first before homes all terms e w = w.outside homes (moved_self homes first) (subst (λ ts. AllOf (IsOutside homes least last) (terms_by (term_of c) ts)) (sym e) tt)
-
 -- ---- the arguments of a structure, and of a head, one after the other
 
 pub record Waiting (c : Contents) (register last first : ℕ) (ids : List TermId) (before homes : List Register) (i : ℕ) : Type 0 where
   pub back : MovedBack before homes first
   pub waits : (h : List Register) → MovedBack homes h first → PartsWait h register last (rest c ids i) → PartsWait h register last (terms_by (term_of c) ids)
-
-pub waiting_first : (c : Contents) (register last first : ℕ) (ids : List TermId) (homes : List Register) → Waiting c register last first ids homes homes 0
-waiting_first c register last first ids homes = record { back = moved_self homes first; waits = λ h m w. w }
 
 pub waiting_next : (c : Contents) (register last first : ℕ) (ids : List TermId) (before homes new : List Register) (i : ℕ) (d : TermId) → last < first → i < length ids → MovedBack homes new first → PartWaits new register last (term_of c (get_or ids i d))
     → Waiting c register last first ids before homes i → Waiting c register last first ids before new (i + 1)
@@ -165,15 +132,9 @@ waiting_next c register last first ids before homes new i d b l m p w = record {
   waits = λ h n r. w.waits h (moved_both homes new h first m n) (subst (PartsWait h register last) (sym (rest_cons c ids i d l)) (part_still new h first register last b n (term_of c (get_or ids i d)) p, r));
 }
 
-pub waiting_last : (c : Contents) (register last first : ℕ) (ids : List TermId) (before homes : List Register) (i : ℕ) → length ids ≤ i → Waiting c register last first ids before homes i → PartsWait homes register last (terms_by (term_of c) ids)
-waiting_last c register last first ids before homes i l w = w.waits homes (moved_self homes first) (subst (PartsWait homes register last) (sym (rest_none c ids i l)) tt)
-
 pub record HeadWaiting (c : Contents) (last first : ℕ) (ids : List TermId) (before homes : List Register) (register i : ℕ) : Type 0 where
   pub back : MovedBack before homes first
   pub waits : (h : List Register) → MovedBack homes h first → AllWait h register last (rest c ids i) → AllWait h 1 last (terms_by (term_of c) ids)
-
-pub head_first : (c : Contents) (last first : ℕ) (ids : List TermId) (homes : List Register) → HeadWaiting c last first ids homes homes 1 0
-head_first c last first ids homes = record { back = moved_self homes first; waits = λ h m w. w }
 
 pub head_next : (c : Contents) (last first : ℕ) (ids : List TermId) (before homes new : List Register) (register next i : ℕ) (d : TermId) → last < first → i < length ids → next ≡ suc register → MovedBack homes new first → Waits new register last (term_of c (get_or ids i d))
     → HeadWaiting c last first ids before homes register i → HeadWaiting c last first ids before new next (i + 1)
@@ -183,9 +144,6 @@ head_next c last first ids before homes new register next i d b l e m p w = reco
       w.waits h (moved_both homes new h first m n)
       (subst (AllWait h register last) (sym (rest_cons c ids i d l)) (argument_still new h first register last b n (term_of c (get_or ids i d)) p, subst (λ k. AllWait h k last (rest c ids (i + 1))) e r));
 }
-
-pub head_last : (c : Contents) (last first : ℕ) (ids : List TermId) (before homes : List Register) (register i : ℕ) → length ids ≤ i → HeadWaiting c last first ids before homes register i → AllWait homes 1 last (terms_by (term_of c) ids)
-head_last c last first ids before homes register i l w = w.waits homes (moved_self homes first) (subst (AllWait homes register last) (sym (rest_none c ids i l)) tt)
 
 -- ---- homes that stay
 
@@ -198,9 +156,6 @@ pub nth_of : (g : TermId → Term) (ids : List TermId) (n : ℕ) (d : TermId) �
 nth_of g [] n d l = absurd (omega (arith, l))
 nth_of g (t ∷ ts) zero d l = refl
 nth_of g (t ∷ ts) (suc n) d l = nth_of g ts n d (omega (arith, l))
-
-pub stayed_self : (h : List Register) (ts : Terms) (from : ℕ) → Stayed h h ts from
-stayed_self h ts from = record { long = refl; homes = λ x l. inl refl }
 
 pub stayed_next : (before old new : List Register) (ts : Terms) (from i x : ℕ) → from ≤ i → nth ts i ≡ Some (Var x) → x < length old → MayStay x (suc i) old new → Stayed before old ts from → Stayed before new ts from
 stayed_next before old new ts from i x l n low (inl e) s = subst (λ h. Stayed before h ts from) (sym e) s

@@ -1,10 +1,10 @@
 -- The functors of a program, as they are gathered.
-use Rattle.std.proofs.Common.{◌≡◌, ℕ, zero, suc, ◌+◌, ◌<◌, ◌≤◌, Bool, true, false, if◌then◌else◌, ◌||◌, List, [], ◌∷◌, ◌++◌, map, Option, Some, None, option_map, length, slice_get, IfSome, refl, ap, ap₂, sym, ◌∙◌, subst, arith, inl, inr}
+use Rattle.std.proofs.Common.{◌≡◌, ℕ, zero, suc, ◌+◌, ◌<◌, ◌≤◌, Bool, true, false, if◌then◌else◌, ◌||◌, List, [], ◌∷◌, ◌++◌, map, Option, Some, None, option_map, length, slice_get, refl, ap, ap₂, sym, ◌∙◌, subst, arith, inl, inr}
 use Rattle.std.specs.Prelude.{Result, Ok, Err, OnOk}
 use Rattle.std.specs.List.{list_any}
 use Rattle.std.proofs.lemmas.Bool.{true≢false, cases_eq}
 use Rattle.std.proofs.lemmas.Option.{slice_get-map}
-use Rattle.fd_language.specs.Term.{Name, Term, Terms, Atom, Comp, no_terms, term}
+use Rattle.fd_language.specs.Term.{Name, Term, Terms, Comp, no_terms, term}
 use Rattle.fd_model.specs.Constraining.{arguments}
 use Rattle.term_pool.specs.declared.AtomId.{AtomId}
 use Rattle.term_pool.specs.declared.TermId.{TermId}
@@ -15,20 +15,13 @@ use Rattle.clause_check.specs.declared.program.FlatGoal.TheVariants.{Call}
 use Rattle.clause_check.specs.Programs.{FlatProgram, clause_at, goal_at}
 use Rattle.wam_code.specs.Places.{count, made}
 use Rattle.clause_code.specs.Pieces.{Predicate}
-use Rattle.clause_code.specs.Predicates.{predicate_in, IsOfOne, IsNumberOf, ArePredicates, HasFunctor, HasOne, AreFunctors, Gathers, Gathered}
+use Rattle.clause_code.specs.Predicates.{predicate_in, IsOfOne, ArePredicates, HasFunctor, HasOne, AreFunctors, Gathers, Gathered}
 use Rattle.clause_code.specs.declared.predicates.Functor.{Functor}
 use Rattle.clause_code.proofs.Numbers.{same_functor, same_means, functor_itself}
 use Rattle.clause_code.proofs.Flowing.{get_both}
 use Rattle.clause_code.proofs.Rests.{count_terms}
 
 -- ---- the functor of a term
-
-pub atom_functor : (c : Contents) (t : Term) (a : AtomId) → t ≡ Atom (atom_name c a) → a.number < length c.names → HasFunctor c t (record { name = a; arity = 0 })
-atom_functor c t a e l = record {
-  of = record { name = e ∙ ap (made (atom_name c a)) (sym (ap arguments e)); arity = ap (λ u. count (arguments u)) e };
-  own = l;
-  few = omega arith;
-}
 
 compound_made : (f : Name) (ts : Terms) → 1 ≤ count ts → Comp f ts ≡ made f ts
 compound_made f no_terms l = absurd (omega (arith, l))
@@ -122,13 +115,6 @@ gathers c t f old new h e = by (list_any (same_functor f) old) refl e
 still : (c : Contents) (t u : Term) (old new : List Functor) → Gathers c t old new → HasOne c old u → HasOne c new u
 still c t u old new g h = (h.0, h.1, g.kept h.0 h.1 h.2, h.3)
 
-pub gathered_none : (p : FlatProgram) (fs : List Functor) → fs ≡ [] → Gathered p 0 0 fs
-gathered_none p fs e = subst (Gathered p 0 0) (sym e) (record {
-  functors = record { apart = λ n m f a b. absurd (cc); own = λ n f a. absurd (cc); few = λ n f a. absurd (cc) };
-  of_heads = λ c l. absurd (omega (arith, l));
-  of_calls = λ i t l e. absurd (omega (arith, l));
-})
-
 pub one_head : (p : FlatProgram) (c : ℕ) (old new : List Functor) → Gathers p.pool (term_of p.pool (clause_at p c).head) old new → Gathered p c 0 old → Gathered p (c + 1) 0 new
 one_head p c old new g w = record {
   functors = g.functors w.functors;
@@ -146,16 +132,6 @@ one_call p heads i t old new is g w = record {
   of_calls = λ k u l e. elim (cases_eq k i) [
     | inl s ↦ let same : Call t ≡ Call u = sym is ∙ ap (goal_at p) (sym s) ∙ e in let one : t ≡ u = cc in subst (λ x. HasOne p.pool new (term_of p.pool x)) one g.one
     | inr d ↦ still p.pool (term_of p.pool t) (term_of p.pool u) old new g (w.of_calls k u (omega (arith, l, d)) e)
-  ];
-}
-
-pub no_call : (p : FlatProgram) (heads i : ℕ) (fs : List Functor) → ((t : TermId) → goal_at p i ≡ Call t → ⊥) → Gathered p heads i fs → Gathered p heads (i + 1) fs
-no_call p heads i fs none w = record {
-  functors = w.functors;
-  of_heads = w.of_heads;
-  of_calls = λ k u l e. elim (cases_eq k i) [
-    | inl s ↦ absurd (none u (ap (goal_at p) (sym s) ∙ e))
-    | inr d ↦ w.of_calls k u (omega (arith, l, d)) e
   ];
 }
 
@@ -193,10 +169,6 @@ predicates_gathered p fs ps e w = subst (ArePredicates p) (sym e) (record {
 })
 
 -- ---- numbers
-
-pub number_of_term : (r : Option ℕ) (c : Contents) (ps : List Predicate) (t : Term) (f : Functor) → HasFunctor c t f → IfSome r (λ n. slice_get ps n ≡ Some (predicate_in f)) → IfSome r (IsNumberOf c ps t)
-number_of_term None c ps t f h k = tt
-number_of_term (Some n) c ps t f h k = (predicate_in f, k, h.of)
 
 pub call_added : {A E : Type 0} (r : Result A E) (p : FlatProgram) (i : ℕ) (t : TermId) (old new : List Functor) → goal_at p i ≡ Call t → OnOk r (Gathers p.pool (term_of p.pool t) old new) → OnOk r ((heads : ℕ) → Gathered p heads i old → Gathered p heads (i + 1) new)
 call_added (Ok x) p i t old new is g = λ heads w. one_call p heads i t old new is g w

@@ -36,9 +36,6 @@ pub owed_of_set : (s : State) (r : Register) → (with_set s r).owed ≡ s.owed
 owed_of_set s (X i) = refl
 owed_of_set s (Y i) = refl
 
-pub frame_of_set : (s : State) (i : ℕ) → (with_set s (X i)).frame ≡ s.frame
-frame_of_set s i = refl
-
 pub x_of_written : (p : Places) (r : Register) (t : Term) (i : ℕ) → (r ≡ X i → ⊥) → (write p r t).x i ≡ p.x i
 x_of_written p (X j) t i d = put_else j t p.x i (λ e. d (ap X (sym e)))
 x_of_written p (Y j) t i d = refl

@@ -17,9 +17,6 @@ use Rattle.wam_code.specs.Places.{Places, put_at, drop_at, read, write, learn, w
 use Rattle.wam_code.specs.Means.{Rest, Caller, Owed, UnifyRule, BuiltinRule, HoldVars, Shows, Takes, Equates, Rule, Within, Means}
 use Rattle.clause_code.specs.Having.{HasMore}
 
-pub has_self : (p : Places) → HasMore p p
-has_self p = record { xs = λ n t h. h; ys = λ n t h. h; known = refl; own = refl; top = refl }
-
 fresh_more : (p q : Places) → HasMore p q → (v : ℕ) → IsFresh q v → IsFresh p v
 fresh_more p q m v f = (ap (λ k. k v) m.known ∙ f.0, subst (λ n. v < n) (sym m.top) f.1)
 

@@ -1,5 +1,5 @@
 -- What pieces of code do, one instruction after the other.
-use Rattle.std.proofs.Common.{◌≡◌, ℕ, zero, suc, ℤ, List, [], ◌∷◌, ◌++◌, Some, slice_get, slice_index_or, option_map, refl, ap, sym, ◌∙◌, subst, Option, None}
+use Rattle.std.proofs.Common.{◌≡◌, ℕ, suc, ℤ, List, [], ◌∷◌, ◌++◌, Some, slice_get, slice_index_or, option_map, refl, ap, sym, ◌∙◌, subst, Option, None}
 use Rattle.std.proofs.lemmas.Option.{slice_get-map}
 use Rattle.fd_language.specs.Term.{Term, Terms, Var, Int, Atom, Comp, no_terms, term}
 use Rattle.fd_language.specs.Unifier.{Equation}
@@ -21,9 +21,8 @@ use Rattle.wam_code.specs.declared.instruction.Code.TheVariants.{GetVariable, Ge
 use Rattle.wam_code.specs.declared.parts.Entry.{Entry}
 use Rattle.wam_code.specs.Area.{Area, HasEntry, name_of, range_at}
 use Rattle.wam_code.specs.Places.{Places, read, write, learn, without, no_registers, no_slots, IsFresh, IsWhole, IsSettled, Hold, count, made}
-use Rattle.wam_code.specs.Means.{Owed, Caller, UnifyRule, BuiltinRule, ConstrainRule, LabelRule, CallRule, HoldVars, Shows, Rule, Restates, Means}
+use Rattle.wam_code.specs.Means.{Caller, UnifyRule, BuiltinRule, ConstrainRule, LabelRule, CallRule, HoldVars, Shows, Rule, Restates, Means}
 use Rattle.wam_code.proofs.Lemmas.{from_rule, from_learning, from_restating}
-use Rattle.clause_code.specs.Splitting.{joined}
 use Rattle.clause_code.specs.Pieces.{Predicate, predicate_of, Base, base_of, Stand, past, Does, Parts, Ends}
 
 -- ---- one behind the other
@@ -106,18 +105,6 @@ part_integer b at z is ts p q g = part_by b at (UnifyInteger z) is (Int z) ts p 
 
 pub part_void : (b : Base) (at v : ℕ) (is : List Code) (ts : Terms) (p q : Places) → IsFresh p v → Parts b (suc at) is (learn p v) ts q → Parts b at (UnifyVoid 1 ∷ is) p (term (Var v) ts) q
 part_void b at v is ts p q f g = part_by b at (UnifyVoid 1) is (Var v) ts p _ q (λ area e. (v, f, refl, refl, refl)) g
-
-owed_both : (area : Area) (voids at mid next : ℕ) (p q r : Places) (ts us : Terms) → Owed area voids at p ts mid q → Owed area 0 mid q us next r → Owed area voids at p (joined ts us) next r
-owed_both area voids at mid next p q r no_terms us h g =
-    subst (λ n. Owed area n at p us next r) (sym h.0) (subst (λ n. Owed area 0 n p us next r) h.1 (subst (λ x. Owed area 0 mid x us next r) h.2 g))
-owed_both area zero at mid next p q r (term t ts) us h g = (h.0, h.1, h.2, h.3, h.4, owed_both area h.1 (suc at) mid next h.2 q r ts us h.5 g)
-owed_both area (suc n) at mid next p q r (term t ts) us h g = (h.0, h.1, h.2, owed_both area n at mid next (learn p h.0) q r ts us h.3 g)
-
--- The arguments of a structure, some behind others.
-pub parts_both : (b : Base) (at : ℕ) (is js : List Code) (p q r : Places) (ts us : Terms) → Parts b at is p ts q → Parts b (past at is) js q us r → Parts b at (is ++ js) p (joined ts us) r
-parts_both b at is js p q r ts us f g = λ area e s.
-    subst (λ n. Owed area 0 at p (joined ts us) n r) (sym (past_both at is js))
-    (owed_both area 0 at (past at is) (past (past at is) js) p q r ts us (f area e (stand_first area at is js s)) (g area e (stand_rest area at is js s)))
 
 -- The structure is equated with what a register holds.
 pub does_get_structure : (b : Base) (at : ℕ) (c : AtomId) (n a : ℕ) (is : List Code) (t : Term) (us : Terms) (p q : Places) (es : List Equation) (gs : List Goal) → p.x a ≡ Some t → count us ≡ n → Parts b (suc at) is p us q

@@ -31,16 +31,6 @@ rest_none c ids i l = ap (terms_by (term_of c)) (drop_of_length-le ids l)
 pub suits_next : (c : Contents) (v : ℕ) (ids : List TermId) (i : ℕ) (d : TermId) → i < length ids → AllSuit c v (rest c ids i) → Suits c v (term_of c (get_or ids i d)) × AllSuit c v (rest c ids (i + 1))
 suits_next c v ids i d l s = subst (AllSuit c v) (rest_cons c ids i d l) s
 
-compounds_next : (j : ℕ) (t : Term) (ts : Terms) → j + compounds (term t ts) ≡ behind j t + compounds ts
-compounds_next j (Var x) ts = refl
-compounds_next j (Int z) ts = refl
-compounds_next j (Atom a) ts = refl
-compounds_next j (Comp f us) ts = omega arith
-
-pub compounds_rest : (c : Contents) (ids : List TermId) (i j next : ℕ) (d : TermId) → i < length ids → next ≡ behind j (term_of c (get_or ids i d)) → next + compounds (rest c ids (i + 1)) ≡ j + compounds (rest c ids i)
-compounds_rest c ids i j next d l e =
-    ap (λ n. n + compounds (rest c ids (i + 1))) e ∙ sym (compounds_next j (term_of c (get_or ids i d)) (rest c ids (i + 1))) ∙ ap (λ ts. j + compounds ts) (sym (rest_cons c ids i d l))
-
 parts_next : (c : Contents) (j : ℕ) (t : Term) (ts : Terms) → parts c j (term t ts) ≡ (part c j t ∷ []) ++ parts c (behind j t) ts
 parts_next c j (Var x) ts = refl
 parts_next c j (Int z) ts = refl
@@ -71,9 +61,6 @@ pub record Pushing (c : Contents) (first free j i : ℕ) (ids : List TermId) (ol
   pub steps : builds c j free (rest c ids i) ++ stack_steps c now ≡ builds c first free (terms_by (term_of c) ids) ++ stack_steps c old
   pub weight : sizes (rest c ids i) + sizes (rest c ids i) + total_weight c now ≤ sizes (terms_by (term_of c) ids) + sizes (terms_by (term_of c) ids) + total_weight c old
   pub works : (v : ℕ) → AllSuit c v (terms_by (term_of c) ids) → All (IsWork c v) old → All (IsWork c v) now × AllSuit c v (rest c ids i)
-
-pub pushing_first : (c : Contents) (first free : ℕ) (ids : List TermId) (old : List Work) → Pushing c first free first 0 ids old old
-pushing_first c first free ids old = record { steps = refl; weight = omega arith; works = λ v s a. (a, s) }
 
 pub pushing_last : (c : Contents) (first free j i : ℕ) (ids : List TermId) (old now : List Work) → length ids ≤ i → Pushing c first free j i ids old now → Pushes c first free ids old now
 pushing_last c first free j i ids old now l p =

@@ -149,10 +149,6 @@ pub goal_suits : (c : Contents) (v : ℕ) (goal : Option TermId) → IfSome goal
 goal_suits c v None o = tt
 goal_suits c v (Some u) o = arguments_suit c v (term_of c u) o.1
 
-pub goal_there : (c : Contents) (v : ℕ) (goal : Option TermId) → IfSome goal (IsOwn c v) → IfSome goal (λ u. u.number < length c.entries)
-goal_there c v None o = tt
-goal_there c v (Some u) o = o.0
-
 pub goal_fewer : (c : Contents) (k : ℕ) (goal : Option TermId) → count (last_arguments c goal) ≤ k → IfSome goal (λ u. count (arguments (term_of c u)) ≤ k)
 goal_fewer c k None l = tt
 goal_fewer c k (Some u) l = l

@@ -1,23 +1,14 @@
 -- Lists of clauses, one choice after the other.
 use Rattle.std.proofs.Common.{ℕ, suc, List, [], ◌∷◌, refl}
 use Rattle.fd_model.specs.Goal.{Clause}
-use Rattle.wam_code.specs.declared.instruction.Code.TheVariants.{Jump, FailNow, TryMeElse, RetryMeElse, TrustMe, Try, Retry, Trust}
-use Rattle.wam_code.specs.Area.{Area, Holds}
+use Rattle.wam_code.specs.declared.instruction.Code.TheVariants.{Jump, FailNow, Try, Retry, Trust}
+use Rattle.wam_code.specs.Area.{Area}
 use Rattle.wam_code.specs.Tries.{Shape, Tries}
 use Rattle.wam_code.proofs.Lemmas.{try_from_rule}
 use Rattle.clause_code.specs.Pieces.{Stand}
 use Rattle.clause_code.specs.Trying.{EachTries, rest_of_list, list_of}
 
 module _ (area : Area) (s : Shape) where
-  -- A chain: the first clause stands behind the choice, and the others at the place that it names.
-  pub chain_tries : (at to : ℕ) (c : Clause) (cs : List Clause) → Holds area at (TryMeElse to) → Tries area s (suc at) (c ∷ []) → Tries area s to cs → Tries area s at (c ∷ cs)
-  chain_tries at to c cs h t u = try_from_rule area s (TryMeElse to) at (c ∷ cs) h (c ∷ [], cs, refl, t, u)
-
-  pub chain_tries_on : (at to : ℕ) (c : Clause) (cs : List Clause) → Holds area at (RetryMeElse to) → Tries area s (suc at) (c ∷ []) → Tries area s to cs → Tries area s at (c ∷ cs)
-  chain_tries_on at to c cs h t u = try_from_rule area s (RetryMeElse to) at (c ∷ cs) h (c ∷ [], cs, refl, t, u)
-
-  pub chain_tries_last : (at : ℕ) (c : Clause) → Holds area at TrustMe → Tries area s (suc at) (c ∷ []) → Tries area s at (c ∷ [])
-  chain_tries_last at c h t = try_from_rule area s TrustMe at (c ∷ []) h t
 
   rest_tries : (ls : List ℕ) (cs : List Clause) (at : ℕ) → EachTries area s ls cs → Stand area at (rest_of_list ls) → Tries area s at cs
   rest_tries [] [] at e h = try_from_rule area s FailNow at [] h.0 refl

@@ -1,5 +1,5 @@
 -- Steps that are written, one after the other.
-use Rattle.std.proofs.Common.{◌≡◌, ℕ, suc, ◌<◌, Bool, true, false, if◌then◌else◌, List, [], ◌∷◌, ◌++◌, Some, length, slice_get, slice_set, refl, ap, sym, ◌∙◌, append_assoc, append-nil, length-set, unwrap_or, zero}
+use Rattle.std.proofs.Common.{◌≡◌, ℕ, suc, ◌<◌, Bool, true, false, if◌then◌else◌, List, [], ◌∷◌, ◌++◌, Some, length, slice_get, slice_set, refl, ap, sym, ◌∙◌, append_assoc, length-set, unwrap_or, zero}
 use Rattle.std.proofs.lemmas.Bool.{true≢false}
 use Rattle.std.proofs.lemmas.Option.{slice_get-get_or, slice_get_within}
 use Rattle.std.proofs.lemmas.Slice.Eq.{bytes_eq-Decides}
@@ -10,7 +10,7 @@ use Rattle.term_pool.specs.Contents.{Contents, atom_name}
 use Rattle.term_pool.specs.Valid.{IsPool}
 use Rattle.wam_code.specs.declared.instruction.Register.{Register}
 use Rattle.wam_code.specs.declared.instruction.Code.{Code}
-use Rattle.clause_code.specs.Steps.{Step, get_variable, unify_variable, put_variable, is_made, marked, marked_by, marked_by_all, instructions, code_of, place_in, atom_of}
+use Rattle.clause_code.specs.Steps.{Step, get_variable, unify_variable, put_variable, is_made, marked, marked_by, marked_by_all, code_of, place_in, atom_of}
 use Rattle.clause_code.specs.Works.{Writes}
 use Rattle.clause_code.proofs.Going.{code_both, marked_both}
 
@@ -18,12 +18,6 @@ use Rattle.clause_code.proofs.Going.{code_both, marked_both}
 pub record Owes (homes : List Register) (code : List Code) (made : List Bool) (ss : List Step) (whole : List Code) (last : List Bool) : Type 0 where
   pub codes : code ++ code_of homes made ss ≡ whole
   pub marks : marked_by_all made ss ≡ last
-
-pub owes_all : (homes : List Register) (code : List Code) (made : List Bool) (ss : List Step) → Owes homes code made ss (code ++ code_of homes made ss) (marked_by_all made ss)
-owes_all homes code made ss = record { codes = refl; marks = refl }
-
-pub owes_nothing : (homes : List Register) (code : List Code) (made : List Bool) (old : List Code) (first : List Bool) (ss : List Step) → Owes homes code made [] (old ++ code_of homes first ss) (marked_by_all first ss) → Writes homes old first ss code made
-owes_nothing homes code made old first ss o = record { codes = sym (append-nil code) ∙ o.codes; marks = o.marks }
 
 -- Some of the steps are written.
 pub owes_less : (homes : List Register) (code new : List Code) (made later : List Bool) (ss ts : List Step) (whole : List Code) (last : List Bool) → Owes homes code made (ss ++ ts) whole last → Writes homes code made ss new later → Owes homes new later ts whole last
@@ -36,10 +30,6 @@ owes_less homes code new made later ss ts whole last o w = record {
       ∙ o.codes;
   marks = ap (λ m. marked_by_all m ts) w.marks ∙ sym (marked_both made ss ts) ∙ o.marks;
 }
-
--- One step that makes no variable.
-pub writes_one : (homes : List Register) (code new : List Code) (made : List Bool) (s : Step) → new ≡ code ++ instructions homes made s → marked_by made s ≡ made → Writes homes code made (s ∷ []) new made
-writes_one homes code new made s e m = record { codes = e ∙ ap (λ l. code ++ l) (sym (append-nil (instructions homes made s))); marks = sym m }
 
 pub marked_long : (made : List Bool) (x : ℕ) → length (marked made x) ≡ length made
 marked_long made x = by (is_made made x)

@@ -404,9 +404,6 @@ module _ (p : FlatProgram) (v : IsProgram p) (ps : List Predicate) (w : ArePredi
   whole_long : whole ≡ raw ++ (joined hl.pieces ++ joined hq.pieces)
   whole_long = hq.code ∙ ap (λ l. l ++ joined hq.pieces) hl.code ∙ append_assoc raw (joined hl.pieces) (joined hq.pieces)
 
-  pub raw_within : length raw ≤ length whole
-  raw_within = let e = ap length whole_long in let m = length-append raw (joined hl.pieces ++ joined hq.pieces) in omega (arith, e, m)
-
   -- the choices name clauses that are there
   pub raw_numbered : (count many : ℕ) → count ≡ length raw → many ≡ length places → All (IsNumbered many) (take count whole)
   raw_numbered count many e f k d l =

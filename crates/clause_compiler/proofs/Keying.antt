@@ -22,9 +22,6 @@ no h = absurd (true≢false h)
 never : {A : Type 0} → false ≡ true → A
 never h = absurd (true≢false (sym h))
 
-atom_by : ℕ → AtomId
-atom_by n = record { number = n }
-
 -- ---- keys
 -- Keys that are the same for a look-up are one key.
 pub same_means : (x y : Key) → same_key x y ≡ true → x ≡ y
@@ -192,14 +189,3 @@ module _ (p : FlatProgram) (ns : List ℕ) (n : ℕ) (x : Key) (own : key_of p n
         not_false : (b : Bool) → not b ≡ false → b ≡ true
         not_false true k = refl
         not_false false k = no k
-
--- Of no clauses there are no keys.
-pub keyed_none : (p : FlatProgram) (looked : List Label) (keys : List Key) (groups : List (List ℕ)) → looked ≡ [] → keys ≡ [] → groups ≡ [] → AreKeyedBy p [] looked keys groups
-keyed_none p looked keys groups e f g =
-    subst (λ l. AreKeyedBy p [] l keys groups) (sym e) (subst (λ l. AreKeyedBy p [] [] l groups) (sym f) (subst (AreKeyedBy p [] [] []) (sym g) (record {
-      labels = refl;
-      lists = refl;
-      each = λ i n h. absurd cc;
-      from = λ j x h. absurd cc;
-      apart = λ i j x h k. absurd cc;
-    })))

@@ -47,14 +47,6 @@ Keeps old new = (t : ℕ) (table : Table) → slice_get old t ≡ Some table →
 pub grown_keeps : (p : FlatProgram) (ns : List ℕ) (old new : List Table) → TablesGrow p ns old new → Keeps old new
 grown_keeps p ns old new g t table e = subst (λ l. slice_get l t ≡ Some table) (sym g.1) (get_left old g.0 t table e)
 
--- The same tables have grown by none.
-pub grown_none : (p : FlatProgram) (ns : List ℕ) (old new : List Table) → new ≡ old → TablesGrow p ns old new
-grown_none p ns old new e = ([], e ∙ sym (append_none old), λ t table h. absurd cc, λ t table h. absurd cc)
-  where
-    append_none : (xs : List Table) → xs ++ [] ≡ xs
-    append_none [] = refl
-    append_none (x ∷ xs) = ap (λ l. x ∷ l) (append_none xs)
-
 -- Tables that grow twice have grown.
 pub grown_twice : (p : FlatProgram) (ns : List ℕ) (one two three : List Table) → TablesGrow p ns one two → TablesGrow p ns two three → TablesGrow p ns one three
 grown_twice p ns one two three g h = (g.0 ++ h.0, h.1 ∙ ap (λ l. l ++ h.0) g.1 ∙ append_assoc one g.0 h.0, λ t table e. by t table (split_get g.0 h.0 t table e), λ t table e. rise t table (split_get g.0 h.0 t table e))

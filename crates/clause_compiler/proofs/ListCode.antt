@@ -12,10 +12,6 @@ if_no : {A : Type 0} (b : Bool) (x y : A) → b ≡ false → (if b then x else 
 if_no true x y e = absurd (true≢false e)
 if_no false x y e = refl
 
-if_yes : {A : Type 0} (b : Bool) (x y : A) → b ≡ true → (if b then x else y) ≡ x
-if_yes true x y e = refl
-if_yes false x y e = absurd (true≢false (sym e))
-
 rest_long : (l : ℕ) (ls : List ℕ) → length (rest_of_list (l ∷ ls)) ≡ suc (length ls)
 rest_long l [] = refl
 rest_long l (k ∷ ls) = ap suc (rest_long k ls)

@@ -55,12 +55,6 @@ module _ (a : Area) (begins : ℕ → Type 0) where
   fail_listed : IsListed FailNow
   fail_listed = record { listing = refl; leads = λ to h. never h; there = tt }
 
-  -- the choices behind the first one
-  rest_behind : (l : ℕ) (ls : List ℕ) (n : ℕ) (i : Code) → slice_get (rest_of_list (l ∷ ls)) n ≡ Some i → IsTrue (is_behind i)
-  rest_behind l [] n i e = subst (λ x. IsTrue (is_behind x)) (only_one (Trust l) n i e).1 refl
-  rest_behind l (k ∷ ls) zero i e = let s : Retry l ≡ i = cc in subst (λ x. IsTrue (is_behind x)) s refl
-  rest_behind l (k ∷ ls) (suc n) i e = rest_behind k ls n i e
-
   rest_listed : (l : ℕ) (ls : List ℕ) → Each begins (l ∷ ls) → (n : ℕ) (i : Code) → slice_get (rest_of_list (l ∷ ls)) n ≡ Some i → IsListed i
   rest_listed l [] b n i e = subst IsListed (only_one (Trust l) n i e).1 (trust_listed l b.0)
   rest_listed l (k ∷ ls) b zero i e = let s : Retry l ≡ i = cc in subst IsListed s (retry_listed l b.0)

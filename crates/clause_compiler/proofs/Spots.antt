@@ -1,5 +1,5 @@
 -- Where a place of laid out code is, and what is known there.
-use Rattle.std.proofs.Common.{◌≡◌, ◌⊎◌, ℕ, zero, suc, ◌+◌, ◌≤◌, List, ◌++◌, Some, replicate, length, slice_get, refl, ap, sym, ◌∙◌, subst, inl, inr, arith}
+use Rattle.std.proofs.Common.{◌≡◌, ◌⊎◌, ℕ, ◌+◌, ◌≤◌, List, ◌++◌, Some, replicate, length, slice_get, refl, ap, sym, ◌∙◌, subst, inl, inr, arith}
 use Rattle.std.proofs.lemmas.List.{length-append, length-replicate}
 use Rattle.std.proofs.lemmas.Option.{slice_get_within}
 use Rattle.fd_model.specs.Goal.{Clause, Query, Program}
@@ -11,14 +11,6 @@ use Rattle.clause_code.specs.Safe.{IsClauseCode}
 use Rattle.clause_compiler.specs.First.{given}
 use Rattle.clause_compiler.specs.Layout.{joined, offset, AreChoicesOf, BeginsClause, IsSpanOf, IsLaidOut}
 use Rattle.clause_compiler.proofs.Lists.{get_there, get_left, get_right, split_get, get_joined, Found, find_joined, offset_within, same_offset, same_length, Chosen, choose}
-
-same_some : {A : Type 0} (o : List A) (k : ℕ) (x y : A) → slice_get o k ≡ Some x → slice_get o k ≡ Some y → x ≡ y
-same_some o k x y e f = let g : Some x ≡ Some y = sym e ∙ f in cc
-
-get_replicate : {A : Type 0} (n : ℕ) (x : A) (k : ℕ) (y : A) → slice_get (replicate n x) k ≡ Some y → y ≡ x
-get_replicate zero x k y e = absurd cc
-get_replicate (suc n) x zero y e = cc
-get_replicate (suc n) x (suc k) y e = get_replicate n x k y e
 
 module _ (a : Area) (prog : Program) (l : IsLaidOut a prog) where
   -- where the clauses begin, and where the queries do
@@ -108,13 +100,6 @@ module _ (a : Area) (prog : Program) (l : IsLaidOut a prog) where
   pub holds_choice : (k n : ℕ) (is : List Code) (i : Code) → slice_get l.choices k ≡ Some is → slice_get is n ≡ Some i → Holds a (offset l.choices k + n) i
   holds_choice k n is i f g =
       ap (λ c. slice_get c (offset l.choices k + n)) l.code ∙ get_left (joined l.choices) (joined l.clauses ++ joined l.queries) (offset l.choices k + n) i (get_joined l.choices k n is i f g)
-
-  pub holds_clause : (k n : ℕ) (is : List Code) (i : Code) → slice_get l.clauses k ≡ Some is → slice_get is n ≡ Some i → Holds a ((from_clauses + offset l.clauses k) + n) i
-  holds_clause k n is i f g =
-      ap (λ c. slice_get c ((from_clauses + offset l.clauses k) + n)) l.code
-      ∙ ap (slice_get (joined l.choices ++ (joined l.clauses ++ joined l.queries))) (let e : (from_clauses + offset l.clauses k) + n ≡ length (joined l.choices) + (offset l.clauses k + n) = omega arith in e)
-      ∙ get_right (joined l.choices) (joined l.clauses ++ joined l.queries) (offset l.clauses k + n)
-      ∙ get_left (joined l.clauses) (joined l.queries) (offset l.clauses k + n) i (get_joined l.clauses k n is i f g)
 
   pub holds_query : (k n : ℕ) (is : List Code) (i : Code) → slice_get l.queries k ≡ Some is → slice_get is n ≡ Some i → Holds a ((from_clauses + (length (joined l.clauses) + offset l.queries k)) + n) i
   holds_query k n is i f g =

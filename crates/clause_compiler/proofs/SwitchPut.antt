@@ -67,9 +67,6 @@ module _ (p : FlatProgram) (ns : List ℕ) (old : List Code) (t1 t2 t3 : List Ta
   abbrev whole : List Segment
   whole = ((front ++ a1.0) ++ a2.0) ++ a3.0
 
-  keep : (t : List Table) → Keeps t t
-  keep t n table e = e
-
   behind_front : (j : ℕ) (y : Segment) → slice_get (front ++ a1.0) (suc j) ≡ Some y → IsBehind p t1 ns (length old) (front ++ a1.0) (suc j) y
   behind_front j y e = by (split_get front a1.0 (suc j) y e)
     where

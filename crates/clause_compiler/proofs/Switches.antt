@@ -42,9 +42,6 @@ use Rattle.clause_compiler.proofs.Rows.{row_of, FirstRow, NoRow, first_row, key_
 use Rattle.clause_compiler.proofs.KeyShapes.{atom_clash, integer_clash, structure_clash, first_clash}
 use Rattle.clause_compiler.proofs.Trying.{Enters, each_tries}
 
-never : {A : Type 0} → false ≡ true → A
-never h = absurd (true≢false (sym h))
-
 no : {A : Type 0} → true ≡ false → A
 no h = absurd (true≢false h)
 

@@ -1,5 +1,5 @@
 -- Bytes that are taken behind an open line.
-use Rattle.std.proofs.Common.{◌≡◌, ℕ, ◌+◌, ◌<◌, Bool, false, List, [], ◌∷◌, ◌++◌, length, take, drop, get_or, Result, Ok, Err, sym, ap, ◌∙◌, subst, append_assoc, append-nil, take-append-drop, take_all, arith}
+use Rattle.std.proofs.Common.{◌≡◌, ℕ, ◌+◌, ◌<◌, Bool, false, List, [], ◌∷◌, ◌++◌, length, take, drop, get_or, Result, Ok, Err, sym, ap, ◌∙◌, subst, append_assoc, take-append-drop}
 use Rattle.std.specs.Prelude.{◌||◌, IfOk}
 use Rattle.std.proofs.lemmas.List.{take_more}
 use Rattle.clpwhere.specs.declared.outcome.Fault.{Fault}
@@ -42,17 +42,11 @@ fed_ended text a b line piece next x e r ten same o is h =
 
 -- ---- more bytes
 
-pub gave_start : (text : TextParts) (a : SinkState) (line bytes : List ℕ) → IsOpen line → GaveAll text a a (line ++ take 0 bytes) line false
-gave_start text a line bytes o = subst (λ l. GaveAll text a a l line false) (sym (append-nil line)) (gave_none text a line o)
-
 pub gave_step : (text : TextParts) (a b c : SinkState) (first line next bytes : List ℕ) (i x : ℕ) (f g h : Bool) → i < length bytes → x ≡ get_or bytes i 0 → h ≡ (f || g)
     → GaveAll text a b (first ++ take i bytes) line f → GaveAll text b c (line ++ x ∷ []) next g → GaveAll text a c (first ++ take (i + 1) bytes) next h
 gave_step text a b c first line next bytes i x f g h l at told p q =
     let more : (first ++ take i bytes) ++ x ∷ [] ≡ first ++ take (i + 1) bytes = append_assoc first (take i bytes) (x ∷ []) ∙ ap (λ t. first ++ t) (sym (take_more bytes i 0 l ∙ ap (λ y. take i bytes ++ y ∷ []) (sym at))) in
     subst (GaveAll text a c (first ++ take (i + 1) bytes) next) (sym told) (subst (λ t. GaveAll text a c t next (f || g)) more (gave_then text a b c (first ++ take i bytes) line (x ∷ []) next f g p q))
-
-pub gave_end : (text : TextParts) (a b : SinkState) (first line bytes : List ℕ) (i : ℕ) (f : Bool) → i ≡ length bytes → GaveAll text a b (first ++ take i bytes) line f → GaveAll text a b (first ++ bytes) line f
-gave_end text a b first line bytes i f e p = subst (λ t. GaveAll text a b (first ++ t) line f) (take_all i bytes (omega (arith, e))) p
 
 pub fed_stop : (text : TextParts) (a b c : SinkState) (first line next bytes : List ℕ) (i x : ℕ) (f : Bool) (e : Fault) (r : Result Bool Fault) → i < length bytes → x ≡ get_or bytes i 0 → r ≡ Err e
     → GaveAll text a b (first ++ take i bytes) line f → ((rest : List ℕ) → CutBy b c e (marked text ((line ++ x ∷ []) ++ rest))) → Fed text a c (first ++ bytes) next r

@@ -4,7 +4,7 @@ use Rattle.byte_ports.specs.Ports.{PutPart}
 use Rattle.byte_ports.proofs.Lemmas.{front_then, part_then, longer_front, longer_part, wrote_no_part}
 use Rattle.clpwhere.specs.declared.outcome.Fault.{Fault}
 use Rattle.clpwhere.specs.declared.outcome.Fault.TheVariants as fault
-use Rattle.byte_ports.specs.Ends.{SinkState, WroteAll, WrotePart}
+use Rattle.byte_ports.specs.Ends.{SinkState, WroteAll}
 use Rattle.clpwhere.specs.Endings.{CutBy, Wrote}
 
 -- a front of a piece behind another

@@ -2,7 +2,7 @@
 use Rattle.std.proofs.Common.{◌≡◌, ℕ, ◌<◌, ◌≤◌, ◌⊎◌, inl, inr, Bool, true, false, List, [], ◌++◌, Option, Some, None, IsSome, Result, Err, refl, sym, ap, ◌∙◌, subst, arith, append-nil}
 use Rattle.std.specs.Prelude.{◌||◌}
 use Rattle.byte_ports.specs.Ports.{PutPart, Rose, Took, IsAtEnd}
-use Rattle.byte_ports.proofs.Lemmas.{took_none, took_more, wrote_no_part}
+use Rattle.byte_ports.proofs.Lemmas.{took_none, took_more}
 use Rattle.clpwhere.specs.declared.outcome.Fault.{Fault}
 use Rattle.clpwhere.specs.declared.outcome.Fault.TheVariants as fault
 use Rattle.clpwhere.specs.declared.outcome.Status.{Status}
@@ -12,7 +12,7 @@ use Rattle.clpwhere.specs.declared.command.Asked.TheVariants as asked
 use Rattle.clpwhere.specs.Parts.{TextParts}
 use Rattle.clpwhere.specs.Marked.{is_refused, marked}
 use Rattle.byte_ports.specs.Ends.{Ends, sink_of, WroteAll}
-use Rattle.clpwhere.specs.Endings.{CutBy, GaveAll, Copied, CutShort, CopyEnds, Counted, Ending, fault_status}
+use Rattle.clpwhere.specs.Endings.{CutBy, GaveAll, Copied, CutShort, CopyEnds, Counted, Ending}
 use Rattle.clpwhere.specs.Headline.{Headline, IsDecided, IsInput, NeedsNoInput, output, output_status, refused_status}
 use Rattle.clpwhere.proofs.Pieces.{cut_part}
 use Rattle.clpwhere.proofs.LineSteps.{gave_none, gave_then, gave_cut, gave_front, gave_last, cut_last}
@@ -153,70 +153,6 @@ decided_refused : (b : Bool) → IsDecided (refused_status b)
 decided_refused true = tt
 decided_refused false = tt
 
--- the input was copied
-pub run_copied : (text : TextParts) (old new : Ends) (b : Bool) (result : Status) → result ≡ refused_status b → Copied text old new b → Headline (asked.Text text) old new result
-run_copied text old new b result e h =
-    let decided : IsDecided result = subst IsDecided (sym e) (decided_refused b) in
-    record {
-      whole = λ d. (h.input, at_end old.left new.left h.input h.took h.end, ap refused_status (sym h.tells) ∙ sym e, h.wrote.put);
-      cut = λ n. absurd (n decided);
-      read_fault = λ f. absurd (subst IsDecided f decided);
-      read_told = λ l. absurd (rose_not old.source_faults new.source_faults h.source_faults l);
-      write_fault = λ f. absurd (subst IsDecided f decided);
-      write_told = λ l. absurd (rose_not old.sink_faults new.sink_faults h.wrote.faults l);
-      no_fault = λ a c. inl decided;
-      source_later = not_below old.source_faults new.source_faults h.source_faults;
-      sink_later = not_below old.sink_faults new.sink_faults h.wrote.faults;
-      rest = (h.input, h.took);
-      read_whole = λ c. h.end;
-    }
-  where
-    at_end : (a b : Option (List ℕ)) (front : List ℕ) → Took a b front → IsAtEnd b → IsSome b → a ≡ Some front
-    at_end a None front t end s = absurd (cc (s))
-    at_end a (Some after) front t end s = t ∙ ap (λ l. Some (front ++ l)) end ∙ ap Some (append-nil front)
-
--- or it was cut short
-pub run_cut : (text : TextParts) (old new : Ends) (e : Fault) (result : Status) → result ≡ fault_status e → CutShort text old new e → Headline (asked.Text text) old new result
-run_cut text old new fault.ReadFault result e h = record {
-  whole = λ d. absurd (subst IsDecided e d);
-  cut = λ n. (h.input, h.whole, h.wrote);
-  read_fault = λ f. h.counted.0;
-  read_told = λ l. e;
-  write_fault = λ f. absurd (cc (e, f));
-  write_told = λ l. absurd (rose_not old.sink_faults new.sink_faults h.counted.2 l);
-  no_fault = λ a c. absurd (a h.counted.0);
-  source_later = h.counted.1;
-  sink_later = not_below old.sink_faults new.sink_faults h.counted.2;
-  rest = (h.front, h.took);
-  read_whole = λ c. absurd (elim c [ inl f ↦ (let g : status.Done ≡ status.ReadFault = sym f ∙ e in cc) | inr f ↦ (let g : status.Refused ≡ status.ReadFault = sym f ∙ e in cc) ]);
-}
-run_cut text old new fault.WriteFault result e h = record {
-  whole = λ d. absurd (subst IsDecided e d);
-  cut = λ n. (h.input, h.whole, h.wrote);
-  read_fault = λ f. absurd (cc (e, f));
-  read_told = λ l. absurd (rose_not old.source_faults new.source_faults h.counted.0 l);
-  write_fault = λ f. h.counted.1;
-  write_told = λ l. e;
-  no_fault = λ a c. absurd (c h.counted.1);
-  source_later = not_below old.source_faults new.source_faults h.counted.0;
-  sink_later = h.counted.2;
-  rest = (h.front, h.took);
-  read_whole = λ c. absurd (elim c [ inl f ↦ (let g : status.Done ≡ status.WriteFault = sym f ∙ e in cc) | inr f ↦ (let g : status.Refused ≡ status.WriteFault = sym f ∙ e in cc) ]);
-}
-run_cut text old new fault.NoMemory result e h = record {
-  whole = λ d. absurd (subst IsDecided e d);
-  cut = λ n. (h.input, h.whole, h.wrote);
-  read_fault = λ f. absurd (cc (e, f));
-  read_told = λ l. absurd (rose_not old.source_faults new.source_faults h.counted.0 l);
-  write_fault = λ f. absurd (cc (e, f));
-  write_told = λ l. absurd (rose_not old.sink_faults new.sink_faults h.counted.1 l);
-  no_fault = λ a c. inr e;
-  source_later = not_below old.source_faults new.source_faults h.counted.0;
-  sink_later = not_below old.sink_faults new.sink_faults h.counted.1;
-  rest = (h.front, h.took);
-  read_whole = λ c. absurd (elim c [ inl f ↦ (let g : status.Done ≡ status.NoMemory = sym f ∙ e in cc) | inr f ↦ (let g : status.Refused ≡ status.NoMemory = sym f ∙ e in cc) ]);
-}
-
 -- a run that needs no input
 some_input : (a : Asked) (old new : Option (List ℕ)) → NeedsNoInput a → IsInput a old new []
 some_input asked.Usage old new n = tt
@@ -276,7 +212,3 @@ run_line a old new result n left same (inr (inr h)) = record {
   rest = ([], subst (λ l. Took old.left l []) (sym left) (took_none old.left));
   read_whole = λ c. absurd (elim c [ inl f ↦ (let g : status.Done ≡ status.NoMemory = sym f ∙ h.0 in cc) | inr f ↦ (let g : status.Refused ≡ status.NoMemory = sym f ∙ h.0 in cc) ]);
 }
-
--- memory was wanting before the line was made
-pub line_wanting : (a : Asked) (e : Ends) (result : Status) → NeedsNoInput a → result ≡ status.NoMemory → Headline a e e result
-line_wanting a e result n is = run_line a e e result n refl refl (inr (inr (is, wrote_no_part (sink_of e) (output a []))))

@@ -1,5 +1,5 @@
 -- What was read and written when a call ends.
-use Rattle.std.specs.Prelude.{◌≡◌, ◌≤◌, ◌⊎◌, ℕ, List, ◌++◌, Option, Some, IsSome, Bool, false, Result, MatchResult, ◌||◌}
+use Rattle.std.specs.Prelude.{◌≡◌, ◌≤◌, ◌⊎◌, ℕ, List, ◌++◌, Some, IsSome, Bool, false, Result, MatchResult, ◌||◌}
 use Rattle.std.specs.List.{list_any}
 use Rattle.byte_ports.specs.Ends.{Ends, SinkState, sink_of, WroteAll, WroteFront, WrotePart}
 use Rattle.byte_ports.specs.Ports.{PutPart, Rose, Took, IsAtEnd}

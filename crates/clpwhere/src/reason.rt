@@ -1,6 +1,6 @@
 //! The reasons of refusals.
 ghost use Rattle.std.specs.Prelude.{◌≡◌};
-ghost use Rattle.clpwhere.specs.Reasons.{all_reasons, is_told_by, reason_of, reason_sentence, reason_words};
+ghost use Rattle.clpwhere.specs.Reasons.{is_told_by, reason_of, reason_sentence, reason_words};
 
 /// Why a text is refused.
 #[derive(Clone, Copy, Debug, PartialEq, Eq)]

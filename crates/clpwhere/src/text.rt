@@ -1,7 +1,6 @@
 //! A text, and the places in it.
 ghost use Rattle.std.specs.Prelude.{◌≡◌, ◌==◌, take, string_bytes};
 ghost use Rattle.std.specs.List.{after_last, before_first};
-ghost use Rattle.clpwhere.specs.Lines.{is_newline};
 ghost use Rattle.clpwhere.specs.Places.{line_number, before_place, from_place};
 
 use memchr::{memchr, memrchr};

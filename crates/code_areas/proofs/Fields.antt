@@ -1,11 +1,10 @@
 -- The same by the lengths and the frame that the code reads.
 use Rattle.std.proofs.Common.{◌≡◌, ℕ, zero, suc, ◌+◌, ◌-◌, ◌<◌, ◌≤◌, List, [], ◌∷◌, ◌++◌, length, take, drop, slice_range, replicate, None, ap, sym, ◌∙◌, subst, arith, length-append, length-drop, get_or}
-use Rattle.std.proofs.lemmas.List.{get_or-drop, get_or_default}
+use Rattle.std.proofs.lemmas.List.{get_or_default}
 use Rattle.std.proofs.Math.Seq.{take-length, take-append_seam, drop-append_seam}
-use Rattle.heap_cells.specs.declared.Cell.{Cell}
 use Rattle.code_areas.specs.declared.Frame.{Frame}
 use Rattle.code_areas.specs.declared.Mark.{Mark}
-use Rattle.code_areas.specs.Areas.{Places, Contents, IsPut}
+use Rattle.code_areas.specs.Areas.{Places, Contents}
 use Rattle.code_areas.specs.Stored.{no_frame, frame_at, returns_of, points_of, frames_kept}
 use Rattle.code_areas.proofs.Levels.{slice_is}
 use Rattle.code_areas.proofs.Moving.{seen, Holds, slots_hold, slots_seen, call_holds, call_seen, returns_there, copy_holds, copy_seen, cut_holds, cut_seen, push_holds, push_seen}
@@ -13,13 +12,6 @@ use Rattle.code_areas.proofs.Moving.{seen, Holds, slots_hold, slots_seen, call_h
 pub some_newest : (slots : Places) (frames : List Frame) (newest : ℕ) → 0 < length (returns_of slots frames newest) → newest ≡ suc (newest - 1)
 some_newest slots frames zero l = absurd (omega (arith, l))
 some_newest slots frames (suc k) l = omega arith
-
--- a cell behind the first ones
-pub put_behind : (first n : ℕ) (d : Cell) (xs ys : Places) → IsPut xs (first + n) d ys → IsPut (drop first xs) n d (drop first ys)
-put_behind first n d xs ys p = record {
-  here = get_or-drop first ys n None ∙ p.here;
-  else = λ k e. get_or-drop first ys k None ∙ p.else (first + k) (λ i. e (omega (arith, i))) ∙ sym (get_or-drop first xs k None);
-}
 
 module _ (cells : Places) (first : ℕ) (slots : Places) (base : ℕ) (frames : List Frame) (newest : ℕ) (ms : List Mark) (s : Holds cells first slots base frames newest ms) where
   abbrev old : Contents

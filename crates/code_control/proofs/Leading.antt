@@ -26,10 +26,6 @@ use Rattle.code_control.proofs.Working.{moved_falls, left_falls}
 abbrev pub safe_at : (area : Area) (s : branch.State) (from at : ℕ) (c : Contents) (safe : IsSafe area s from 0 c) → IsThread area safe.states s at 0 c.registers c.slots c.returns → IsSafe area s at 0 c
 safe_at area s from at c safe here = record { states = safe.states; verified = safe.verified; atoms = safe.atoms; sound = safe.sound; here = here; points = safe.points }
 
--- the place itself
-pub later_here : (area : Area) (s : branch.State) (at : ℕ) (c : Contents) → IsLater area s at at c
-later_here area s at c = record { goes = λ safe. safe.here; near = omega arith; inside = λ number k. k }
-
 module _ (area : Area) (s : branch.State) (from : ℕ) (c : Contents) (safe : IsSafe area s from 0 c) (at : ℕ) (later : IsLater area s from at c) (t : Tried) (is : IsTried area at t) where
   abbrev here : IsSafe area s at 0 c
   here = safe_at area s from at c safe (later.goes safe)

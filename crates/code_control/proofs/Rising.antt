@@ -164,7 +164,3 @@ no_key x (row ∷ rows) none = (none 0 row refl, no_key x rows (λ i p f. none (
 -- Nothing lies between.
 pub found_nowhere : (x : Seen) (rows : Table) (low high : ℕ) → high ≤ low → LiesBetween x rows low high → Finds x rows Back
 found_nowhere x rows low high l between = no_key x rows (λ i p f k. (let b = between i p f k in let c = b.0 in let d = b.1 in omega (arith, c, d, l)))
-
--- All rows lie between the first and the last.
-pub all_between : (x : Seen) (rows : Table) → LiesBetween x rows 0 (length rows)
-all_between x rows i p f k = (omega arith, slice_get_within rows i p f)

@@ -196,10 +196,6 @@ module _ (area : Area) (s : branch.State) (at : ℕ) (c : Contents) where
 
 -- ---- one choice after another
 
--- nothing is left out yet
-pub leaves_none_yet : (area : Area) (s : branch.State) (at : ℕ) (c : Contents) → LeavesOut area s at c (Some at)
-leaves_none_yet area s at c = λ shown name e b kids naming m. record { gone = []; kept = kids; both = refl; none = tt; tries = m }
-
 module _ (area : Area) (s : branch.State) (from at : ℕ) (c : Contents) (sofar : LeavesOut area s from c (Some at)) (i : Code) (f : Holds area at i) (to : ℕ) (safe : IsSafe area s to 0 c) (out : IsRuledOut area s to c) where
   -- a clause that is ruled out, before others
   pub leaves_more : (other : ℕ) → Both to other ≡ tried_by i at → LeavesOut area s from c (Some other)

@@ -6,7 +6,7 @@ use Rattle.fd_language.specs.Family.{has}
 use Rattle.heap_cells.specs.declared.Cell.{Cell as HeapCell}
 use Rattle.heap_cells.specs.Cells.{Cells}
 use Rattle.branch_state.specs.States as branch
-use Rattle.branch_state.specs.States.{IsCell, AreCells, IsSound, IsSoundBelow, IsUndone, with_heap, with_pair}
+use Rattle.branch_state.specs.States.{AreCells, IsSound, IsSoundBelow, IsUndone, with_heap, with_pair}
 use Rattle.wam_code.specs.declared.instruction.Code.{Code}
 use Rattle.wam_code.specs.declared.instruction.Code.TheVariants.{Allocate, Deallocate, Call, Execute, Proceed}
 use Rattle.wam_code.specs.declared.parts.Entry.{Entry}

@@ -1,5 +1,5 @@
 //! Choices: places to come back to are left, and gone back to.
-ghost use Rattle.std.specs.Prelude.{◌≡◌, suc, ◌<◌, ◌∷◌, length, IfOk, OnOk};
+ghost use Rattle.std.specs.Prelude.{◌≡◌, ◌<◌, ◌∷◌, length, IfOk, OnOk};
 ghost use Rattle.wam_code.specs.declared.instruction.Code.TheVariants as step;
 ghost use Rattle.wam_code.specs.Area.{Holds};
 ghost use Rattle.branch_state.specs.States.{with_pair, IsSound, IsUndone};

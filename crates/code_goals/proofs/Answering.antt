@@ -5,7 +5,7 @@ use Rattle.std.proofs.lemmas.Option.{slice_get_within}
 use Rattle.fd_language.specs.declared.TheConstants.{INFINITY}
 use Rattle.fd_language.specs.Family.{Family}
 use Rattle.fd_model.specs.Goal as model
-use Rattle.fd_model.specs.Goal.{Program, Query, Event}
+use Rattle.fd_model.specs.Goal.{Query}
 use Rattle.heap_cells.specs.declared.Cell.{Cell}
 use Rattle.range_code.specs.Frames.{family_of}
 use Rattle.machine_events.specs.declared.Shown.{Shown}

@@ -18,7 +18,7 @@ use Rattle.range_code.specs.Frames.{family_of}
 use Rattle.term_pool.specs.declared.AtomId.{AtomId}
 use Rattle.machine_frames.specs.Frames.{link_in, IsGrown}
 use Rattle.branch_state.specs.States as branch
-use Rattle.branch_state.specs.States.{IsSound, IsSameBelow, IsCell, HasNoModel, with_heap}
+use Rattle.branch_state.specs.States.{IsSameBelow, IsCell, HasNoModel}
 use Rattle.branch_state.specs.Compounds.{IsMade}
 use Rattle.branch_state.specs.Constraints.{row_of, Constrains}
 use Rattle.branch_state.specs.declared.step.Step.TheVariants as outcome

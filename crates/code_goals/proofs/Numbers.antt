@@ -1,5 +1,5 @@
 -- The values of a variable of the heap that a labelling takes.
-use Rattle.std.proofs.Common.{◌≡◌, ℕ, suc, ◌+◌, ◌<◌, ◌≤◌, Bool, true, false, ◌==◌, ℤ, nat_le, List, [], ◌∷◌, length, filter, Some, None, refl, ap, sym, ◌∙◌, subst, arith, inl, inr, eqb-true}
+use Rattle.std.proofs.Common.{◌≡◌, ℕ, suc, ◌+◌, ◌<◌, ◌≤◌, Bool, true, false, ◌==◌, ℤ, nat_le, List, [], ◌∷◌, length, filter, Some, None, refl, ap, sym, ◌∙◌, arith, inl, inr, eqb-true}
 use Rattle.std.proofs.lemmas.Bool.{le-leb, lt-leb, leb-true, leb-false, or_cases, cases_Bool}
 use Rattle.fd_language.specs.declared.TheConstants.{INFINITY}
 use Rattle.fd_language.specs.Family.{has, IsRising, universe}
@@ -90,10 +90,6 @@ values_step low high n m (x ∷ xs) r h l e = elim (cases_Bool (nat_le n x)) [
       drops (λ k. nat_le n k) x xs y ∙ values_step (suc x) high n m xs r.2 there l (e ∙ ap least (drops (λ k. nat_le n k) x xs y))
       ∙ ap (λ ys. m ∷ ys) (sym (drops (λ k. nat_le (m + 1) k) x xs (lt-leb (m + 1) x (omega (arith, a, l))))))
 ]
-
--- so there are some
-pub values_some : (low high n m : ℕ) (xs : List ℕ) → IsRising low high xs → has xs m ≡ true → n ≤ m → m ≡ least (filter (λ k. nat_le n k) xs) → 0 < length (filter (λ k. nat_le n k) xs)
-values_some low high n m xs r h l e = subst (λ (ys : List ℕ). 0 < length ys) (sym (values_step low high n m xs r h l e)) (omega arith)
 
 -- a variable that stands for itself can be any integer
 pub can_be : (name : Naming) → IsOneToOne name → (h : Cells) → IsHeap h → (i : ℕ) (z : ℤ) → term_of name h (cell.Ref i) ≡ Var i → CannotUnify h (cell.Ref i) (cell.Int z) → ⊥

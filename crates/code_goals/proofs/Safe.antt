@@ -7,7 +7,7 @@ use Rattle.heap_cells.specs.Atoms.{IsAtomBelow}
 use Rattle.machine_frames.specs.Frames.{IsGrown}
 use Rattle.machine_frames.proofs.Lemmas.{of_grown}
 use Rattle.branch_state.specs.States as branch
-use Rattle.branch_state.specs.States.{IsCell, AreCells, IsSound, IsSoundBelow, IsSameBelow, with_heap, with_pair}
+use Rattle.branch_state.specs.States.{IsCell, IsSound, IsSoundBelow, IsSameBelow, with_heap, with_pair}
 use Rattle.wam_code.specs.declared.instruction.Register.TheVariants.{Y}
 use Rattle.wam_code.specs.declared.instruction.Code.{Code}
 use Rattle.wam_code.specs.declared.instruction.Code.TheVariants as step

@@ -1,5 +1,5 @@
 //! What an answer shows, and what a goal writes.
-ghost use Rattle.std.specs.Prelude.{◌≡◌, ◌<◌, length, IfOk, OnOk};
+ghost use Rattle.std.specs.Prelude.{◌≡◌, ◌<◌, length, IfOk};
 ghost use Rattle.wam_code.specs.declared.instruction.Code.TheVariants as step;
 ghost use Rattle.wam_code.specs.Area.{Span, Holds, HasQuery};
 ghost use Rattle.code_states.specs.Queries.{IsInQuery};

@@ -1,5 +1,5 @@
 //! Built-in goals.
-ghost use Rattle.std.specs.Prelude.{◌≡◌, length, IfOk, OnOk};
+ghost use Rattle.std.specs.Prelude.{◌≡◌, IfOk, OnOk};
 ghost use Rattle.fd_model.specs.declared.kinds.BuiltinKind.TheVariants as kinds;
 ghost use Rattle.machine_frames.specs.Frames.{IsGrown};
 ghost use Rattle.branch_state.specs.States.{IsSameBelow, with_heap};

@@ -1,9 +1,9 @@
 //! Labellings.
-ghost use Rattle.std.specs.Prelude.{◌≡◌, ◌<◌, length, IfOk, OnOk};
+ghost use Rattle.std.specs.Prelude.{◌≡◌, ◌<◌, length, IfOk};
 ghost use Rattle.fd_language.specs.declared.TheConstants.{INFINITY};
 ghost use Rattle.fd_language.specs.Family.{IsRising};
 ghost use Rattle.branch_goals.specs.Labels.{values_of};
-ghost use Rattle.branch_state.specs.States.{IsSameBelow, IsSound};
+ghost use Rattle.branch_state.specs.States.{IsSound};
 ghost use Rattle.wam_code.specs.declared.instruction.Code.TheVariants as step;
 ghost use Rattle.wam_code.specs.Area.{Holds};
 ghost use Rattle.code_states.specs.Safety.{IsSafe};

@@ -1,7 +1,7 @@
 -- The way back to the newest choice point.
 use Rattle.std.proofs.Common.{◌≡◌, ◌<◌, ℕ, List, ◌∷◌, length, Some, None, ap, sym, ◌∙◌, subst}
 use Rattle.branch_state.specs.States as branch
-use Rattle.branch_state.specs.States.{IsUndone, with_pair}
+use Rattle.branch_state.specs.States.{IsUndone}
 use Rattle.wam_code.specs.Area.{Area}
 use Rattle.code_areas.specs.Areas.{Contents}
 use Rattle.code_steps.specs.Running.{resume}
@@ -51,9 +51,6 @@ module _ (area : Area) (s : branch.State) (c : Contents) (ls : List Label) (own 
 
     gone : IsOpen area s1.heaps.now v × AreLabels area c1.points s1.heaps.below ls1
     gone = label_gone area (point_of c1 at) c1.points s1.heaps.now s1.heaps.below v ls1 (subst (λ l. AreLabels area (point_of c1 at ∷ c1.points) (s1.heaps.now ∷ s1.heaps.below) l) takes owned)
-
-    pub values_open : IsOpen area s1.heaps.now v
-    values_open = gone.0
 
     pub tried_back : (s' : branch.State) (c' : Contents) (t : Tried) → IsTried area s1 at c1 v s' c' t → (ls' : List Label) → ls' ≡ labelled (length c1.points) t.left ls1 → ComesBack area s c ls s' c' ls' t.went
     tried_back s' c' t tried ls' new_is =

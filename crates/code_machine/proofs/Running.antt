@@ -11,7 +11,6 @@ use Rattle.machine_events.specs.declared.MachineEvent.TheVariants as event
 use Rattle.machine_events.specs.declared.Shown.{Shown}
 use Rattle.machine_events.specs.Events.{event_of, shown_line, HasTerms}
 use Rattle.branch_state.specs.States as branch
-use Rattle.branch_state.specs.States.{IsSound, IsSoundBelow}
 use Rattle.wam_code.specs.declared.instruction.Code.{Code}
 use Rattle.wam_code.specs.Area.{Area, Span, Holds, HasQuery, name_of}
 use Rattle.code_areas.specs.Areas.{Point, Contents}
@@ -22,7 +21,7 @@ use Rattle.code_states.specs.Choices.{point_of}
 use Rattle.code_states.specs.Queries.{KeepsQueryThen}
 use Rattle.code_states.specs.Safety.{IsSafe, IsSafeBack, IsSafeThen}
 use Rattle.code_states.specs.Stages.{Task, RunsAt}
-use Rattle.code_states.specs.Work.{left_by, work_at, work_back, work_then, values_work}
+use Rattle.code_states.specs.Work.{work_at, work_then, values_work}
 use Rattle.code_states.proofs.Lemmas.{left_falls, left_spent, left_up}
 use Rattle.code_goals.specs.declared.next.Next.{Next}
 use Rattle.code_goals.specs.declared.next.Next.TheVariants as next
@@ -367,9 +366,6 @@ module _ (area : Area) (query : ℕ) (s s' : branch.State) (at : ℕ) (c c' : Co
 -- ---- an end that takes no reduction
 
 module _ (area : Area) (query : ℕ) (s : branch.State) (c : Contents) (ls : List Label) (k : Option ℕ) (spent : ℕ) where
-  -- no reduction is left
-  pub budget_machine : (n : ℕ) (st : Stage) (e : Ending) (s' : branch.State) (c' : Contents) (ls' : List Label) → IsEndedBy area n k e → IsMachine (seen area query s c ls st n k spent) → IsMachine (seen area query s' c' ls' (Ended e) n k spent)
-  budget_machine n st e s' c' ls' ended m = record { query = m.query; ready = ended; inside = tt; steps = m.steps }
 
   pub budget_says : (at : ℕ) (i : Code) → Rattle.code_steps.proofs.Goals.TakesGoal i → Holds area at i → IsMachine (seen area query s c ls (Going at) 0 k spent) → Says (seen area query s c ls (Going at) 0 k spent) event.Budget (seen area query s c ls (Ended ending.Budget) 0 k spent)
   budget_says at i takes holds m =
@@ -381,12 +377,6 @@ module _ (area : Area) (query : ℕ) (s : branch.State) (c : Contents) (ls : Lis
   none_says n none =
       ends_says (seen area query s c ls Returning n k spent) ending.End s c ls n k spent refl refl tt
       (λ es total h. (let z = Rattle.code_states.proofs.Stages.returned_ends area (task_of area h.program h.query) s c (lefts_by c.points ls) (record { budget = n; answers = k; events = es; reductions = h.later }) none h.stands in (z.0, (let a = h.all in let j = z.1 in omega (arith, a, j)))))
-
-  -- the end was reached before
-  pub ended_says : (n : ℕ) (e : Ending) → IsEndedBy area n k e → Says (seen area query s c ls (Ended e) n k spent) (last_event e) (seen area query s c ls (Ended e) n k spent)
-  ended_says n e ended =
-      ends_says (seen area query s c ls (Ended e) n k spent) e s c ls n k spent refl refl ended
-      (λ es total h. (h.stands.0, (let a = h.all in let j = h.stands.1 in omega (arith, a, j))))
 
 -- ---- an answer
 
@@ -504,23 +494,9 @@ module _ (area : Area) (query : ℕ) (s : branch.State) (at : ℕ) (c : Contents
 
 -- ---- runs of steps
 
-pub run_start : (s : State) → IsMachine s → StillRuns s s
-run_start s m = record { machine = m; same = (refl, refl, refl); stands = λ es total h. h; less = omega arith; paced = refl; limit = refl }
-
 -- the code and the query stay
 pub same_trans : (a b c : State) → IsSame a b → IsSame b c → IsSame a c
 same_trans a b c h k = (k.0 ∙ h.0, k.1 ∙ h.1, k.2 ∙ h.2)
-
--- one quiet step more
-pub run_more : (old s new : State) → StillRuns old s → IsMachine new → IsSame s new → IsQuiet s new → StillRuns old new
-run_more old s new k m same quiet = record {
-  machine = m;
-  same = same_trans old s new k.same same;
-  stands = λ es total h. quiet.stands es total (k.stands es total h);
-  less = (let a = quiet.falls in let b = k.less in omega (arith, a, b));
-  paced = quiet.paced ∙ k.paced;
-  limit = quiet.limit ∙ k.limit;
-}
 
 -- quiet steps behind others
 pub run_on_from : (old s new : State) → StillRuns old s → StillRuns s new → StillRuns old new

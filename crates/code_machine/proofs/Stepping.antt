@@ -13,20 +13,18 @@ use Rattle.code_steps.proofs.Lemmas.{TakesGoal}
 use Rattle.code_states.specs.declared.went.Went.{Went}
 use Rattle.code_states.specs.Queries.{IsInQuery, EndsIn}
 use Rattle.code_states.specs.Safety.{AreBehind, IsSafe}
-use Rattle.code_states.proofs.Lemmas.{place_within}
 use Rattle.code_goals.specs.declared.next.Next.{Next}
 use Rattle.code_goals.specs.Answers.{ShowsAnswer}
-use Rattle.code_machine.specs.declared.run.Ending.{Ending}
 use Rattle.code_machine.specs.declared.run.Ending.TheVariants as ending
 use Rattle.code_machine.specs.declared.run.Label.{Label}
 use Rattle.code_machine.specs.declared.run.Saying.{Saying}
 use Rattle.code_machine.specs.declared.run.Saying.TheVariants as saying
 use Rattle.code_machine.specs.declared.run.Stage.{Stage}
 use Rattle.code_machine.specs.declared.run.Stage.TheVariants.{Going, Returning, Ended}
-use Rattle.code_machine.specs.States.{State, last_event, IsMachine, IsQuiet, IsStep, Says, Tells, behind_answer, one_fewer}
+use Rattle.code_machine.specs.States.{State, IsMachine, IsQuiet, IsStep, Says, Tells, behind_answer, one_fewer}
 use Rattle.code_machine.specs.Instructions.{IsCall, IsGoal}
 use Rattle.code_machine.specs.Steps.{Spends, ComesBack, stage_of, stage_next, saying_next}
-use Rattle.code_machine.proofs.Running.{seen, NeedsGoal, back_machine, back_quiet, spent_machine, spent_step, told_end, budget_says, none_says, ended_says, answer_machine, answer_says}
+use Rattle.code_machine.proofs.Running.{seen, NeedsGoal, back_machine, back_quiet, spent_machine, spent_step, told_end, budget_says, none_says, answer_machine, answer_says}
 
 -- a goal takes one of those still to come
 pub goal_takes : (i : Code) → IsGoal i → TakesGoal i
@@ -55,9 +53,6 @@ module _ (area : Area) (query : ℕ) (s : branch.State) (c : Contents) (ls : Lis
 
     pub going_safe : IsSafe area s at 0 c
     going_safe = going.ready.0
-
-    pub going_within : at < length area.code
-    going_within = place_within area s at 0 c going_safe
 
     module _ (s' : branch.State) (c' : Contents) (st' : Stage) where
       -- a goal
@@ -145,11 +140,3 @@ module _ (area : Area) (query : ℕ) (s : branch.State) (c : Contents) (ls : Lis
     nothing_left none =
         told_end old (seen area query s c ls (Ended ending.End) n k spent) ending.End
         (subst (λ y. Says (seen area query s c ls y n k spent) event.End (seen area query s c ls (Ended ending.End) n k spent)) (sym is) (none_says area query s c ls k spent n (no_points c.points none)))
-
-  -- ---- at the end
-
-  ended : (e : Ending) → st ≡ Ended e → IsMachine (seen area query s c ls (Ended e) n k spent)
-  ended e is = subst (λ x. IsMachine (seen area query s c ls x n k spent)) is m
-
-  pub said_again : (e : Ending) → st ≡ Ended e → Tells old (saying.Ended e) old
-  said_again e is = told_end old old e (subst (λ y. Says (seen area query s c ls y n k spent) (last_event e) (seen area query s c ls y n k spent)) (sym is) (ended_says area query s c ls k spent n e (ended e is).ready))

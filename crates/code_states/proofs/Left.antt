@@ -33,9 +33,6 @@ module _ (area : Area) (at : ℕ) (c : Contents) (old : List Point) (is : old �
   abbrev point : ℕ
   point = thread_work (thread_of area at c.returns)
 
-  abbrev others : ℕ
-  others = work (point_threads area c.points)
-
   abbrev Before : List Point → ℕ
   Before ps = work (point_threads area ps) + values_work area ps (values (n ∷ ns) v at ∷ ls)
 

@@ -13,7 +13,7 @@ use Rattle.wam_code.specs.declared.instruction.Register.{Register}
 use Rattle.wam_code.specs.declared.instruction.Register.TheVariants.{X, Y}
 use Rattle.wam_code.specs.declared.instruction.Code.{Code}
 use Rattle.wam_code.specs.Area.{Slot, Unset, Cell, Level, State, Area, Holds}
-use Rattle.wam_code.specs.Effect.{slot_at, is_unset, is_cell, with_cell, is_set, is_free, with_set, when, plain_effect, effect_by}
+use Rattle.wam_code.specs.Effect.{slot_at, is_unset, is_cell, with_cell, is_set, is_free, with_set, when, effect_by}
 use Rattle.wam_code.specs.Verified.{goes_on, Falls, Covers, HandedTo, IsVerifiedBy}
 use Rattle.wam_code.proofs.Lemmas.{falls_inside, falls_outside}
 use Rattle.code_areas.specs.Areas.{Places, cell_at, Return, Point, Contents}
@@ -44,13 +44,6 @@ place_within area s at n c safe =
     let k = slice_get_within safe.states at safe.here.reached.state safe.here.reached.has in
     let e = safe.verified.states in
     omega (arith, k, e)
-
-none_is : (t : State) → None ≡ Some t → ⊥
-none_is t e = cc
-
--- No instruction is there that goes on from no state, as those of the unify group where nothing is owed.
-pub never_there : (area : Area) (s : branch.State) (at : ℕ) (c : Contents) → IsSafe area s at 0 c → (i : Code) → ((t : State) → plain_effect area.entries i t ≡ None) → Holds area at i → ⊥
-never_there area s at c safe i none holds = let f = found area s at 0 c i safe holds in none_is f.handed (sym (none f.state) ∙ f.effect_is)
 
 pub within_code : (area : Area) (at : ℕ) (i : Code) → Holds area at i → at < length area.code
 within_code area at i holds = slice_get_within area.code at i holds

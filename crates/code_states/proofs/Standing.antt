@@ -12,7 +12,7 @@ use Rattle.heap_cells.specs.Terms.{Naming}
 use Rattle.machine_relation.specs.Store.{posts}
 use Rattle.machine_frames.specs.Frames.{store_touches}
 use Rattle.branch_state.specs.States as branch
-use Rattle.branch_state.specs.States.{IsSound, with_heap}
+use Rattle.branch_state.specs.States.{with_heap}
 use Rattle.wam_code.specs.declared.instruction.Register.{Register}
 use Rattle.wam_code.specs.declared.instruction.Register.TheVariants.{X}
 use Rattle.wam_code.specs.declared.instruction.Code.TheVariants.{GetVariable, GetValue, GetConstant, GetInteger, PutVariable, PutValue, PutConstant, PutInteger}

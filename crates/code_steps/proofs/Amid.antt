@@ -1,5 +1,5 @@
 -- The arguments of a compound term, from the instruction that names it to the place behind them.
-use Rattle.std.proofs.Common.{◌≡◌, ℕ, suc, ℤ, List, [], ◌∷◌, ◌++◌, length, Option, Some, refl, ap, sym, ◌∙◌, subst, inl}
+use Rattle.std.proofs.Common.{◌≡◌, ℕ, suc, ℤ, List, [], ◌∷◌, ◌++◌, length, Option, Some, ap, sym, ◌∙◌, subst}
 use Rattle.fd_language.specs.Term.{Comp}
 use Rattle.fd_language.specs.Family.{Family}
 use Rattle.fd_language.specs.Range.{Indexical}
@@ -11,30 +11,22 @@ use Rattle.heap_cells.specs.Cells.{Cells, IsOf, with_new_slot}
 use Rattle.heap_cells.specs.Terms.{Naming, terms_by, term_of}
 use Rattle.heap_cells.specs.Valid.{IsHeap}
 use Rattle.machine_relation.specs.Ahead.{Ahead}
-use Rattle.machine_relation.specs.Store.{posts}
 use Rattle.machine_relation.proofs.Lemmas.{ahead_drop, gone_by}
 use Rattle.machine_frames.specs.Environments.{AllOwn}
-use Rattle.machine_frames.specs.Frames.{IsGrown, store_touches}
+use Rattle.machine_frames.specs.Frames.{IsGrown}
 use Rattle.term_pool.specs.declared.AtomId.{AtomId}
-use Rattle.unify_core.specs.declared.Touch.{Touch}
-use Rattle.unify_core.specs.Reduces.{IsSameSize}
-use Rattle.unify_core.specs.Touches.{IsRefuted}
 use Rattle.unify_core.specs.Unified as core
-use Rattle.unify_core.specs.Unified.{cells_equal}
 use Rattle.wam_code.specs.declared.instruction.Register.{Register}
-use Rattle.wam_code.specs.declared.instruction.Register.TheVariants.{X}
-use Rattle.wam_code.specs.declared.instruction.Code.TheVariants.{GetStructure, PutStructure, UnifyVariable, UnifyValue, UnifyConstant, UnifyInteger, UnifyVoid}
+use Rattle.wam_code.specs.declared.instruction.Code.TheVariants.{GetStructure, UnifyVariable, UnifyConstant, UnifyInteger, UnifyVoid}
 use Rattle.wam_code.specs.Area.{Area, Holds, name_of}
-use Rattle.code_steps.specs.Registers.{Registers, Saved, cell_in, AreSame, IsWritten}
+use Rattle.code_steps.specs.Registers.{Registers, Saved, IsWritten}
 use Rattle.code_steps.specs.Standing.{Stands}
-use Rattle.code_steps.specs.Reading.{ReadsOnEqual}
 use Rattle.code_steps.specs.Building.{GetEnd, PutEnd, Builds}
 use Rattle.code_steps.specs.Running.{Choice, Runs, Returns}
 use Rattle.code_steps.specs.Amid.{Part, reading, matching, building, gathered, Gathers, IsAmid, Amid}
-use Rattle.code_steps.proofs.Building.{build_value, build_constant, build_integer, build_variable, build_void, build_voids}
-use Rattle.code_steps.proofs.Built.{start_get, start_put, end_get, end_put}
+use Rattle.code_steps.proofs.Building.{build_constant, build_integer, build_variable, build_void, build_voids}
+use Rattle.code_steps.proofs.Built.{start_get}
 use Rattle.code_steps.proofs.Opening.{IsNone, step_get_structure}
-use Rattle.code_steps.proofs.Reading.{read_variable, read_void, read_voids, read_value, read_constant, read_integer, read_end}
 use Rattle.code_steps.proofs.Running.{goes_inside}
 
 same_cell : (d e : Cell) → Some d ≡ Some e → d ≡ e
@@ -89,12 +81,6 @@ module _ (M : ℕ) (area : Area) (prog : Program) (q : Query) (name : Naming) (s
           let same = same_cell g.0 d (sym g.1 ∙ at_d) in
           begins s.0 s.2 0 (suc at) c (matching (name_of area f) (d ∷ []) i) (subst (λ e. Builds M area q.shown name h qs 0 (suc at) c (e ∷ []) i stack s.0 (GetEnd area q.shown s.0 (name_of area f))) same g.3)
 
-    -- a term for a register, which may hold another cell meanwhile
-    pub run_builds : (a : ℕ) → Holds area at (PutStructure f i a) → (c' : Registers) → ((j : ℕ) → (j ≡ a → ⊥) → c'.x j ≡ c.x j) → AreSame c.y c'.y → In h qs 0 (suc at) c' (building (name_of area f) a [] i)
-    run_builds a holds c' xs ys =
-        let s = goes_inside M area q.shown name h qs at c stack m.first m.here (PutStructure f i a) tt holds in
-        begins s.0 s.2 0 (suc at) c' (building (name_of area f) a [] i) (start_put M area q.shown name h qs at c stack s.0 s.1 f i a holds c' xs ys)
-
   -- ---- the arguments
 
   module _ (h : Cells) (qs : List Indexical) (voids at : ℕ) (c : Registers) (part : Part) (m : In h qs voids at c part) where
@@ -104,53 +90,14 @@ module _ (M : ℕ) (area : Area) (prog : Program) (q : Query) (name : Naming) (s
     goes : (h' : Cells) (qs' : List Indexical) (voids' to : ℕ) (c' : Registers) (part' : Part) → IsAmid M area q.shown name h' qs' voids' to c' stack part' b → In h' qs' voids' to c' part'
     goes h' qs' voids' to c' part' s = record { branch = b; others = m.others; here = s; wait = m.wait; ahead = m.ahead }
 
-    stands : (h' : Cells) (qs' : List Indexical) (to : ℕ) (c' : Registers) → Stands M area q.shown name h' qs' to c' stack b → On h' qs' to c'
-    stands h' qs' to c' s = record { first = b ∷ []; others = m.others; here = inl (b, s, refl); wait = m.wait; ahead = m.ahead }
-
     gone : ((S : Family) → IsModel M b.equations b.posted S → ⊥) → Back
     gone none = record { others = m.others; wait = m.wait; ahead = ahead_drop M prog q n k b m.others es r (gone_by M b none m.ahead.fit.0) m.ahead }
 
   -- the first of the cells left is made equal to another one: the others are read next, or the branch has no model
   module _ (h : Cells) (qs : List Indexical) (at : ℕ) (c : Registers) (d : Cell) (ds : List Cell) (m : In h qs 0 at c (reading (d ∷ ds))) where
-    abbrev OnEqual : Cell → Type 0
-    OnEqual e = ((now : Cells) (ts : List Touch) → core.IsUnified name h d e now ts → IsSameSize h now → In now (qs ++ posts (store_touches ts)) 0 (suc at) c (reading ds)) × (IsRefuted h (cells_equal name h d e) → Back)
-
-    equals : (e : Cell) → ReadsOnEqual M area q.shown name h qs (suc at) c ds stack m.branch d e → OnEqual e
-    equals e g = (
-      λ now ts u size. goes h qs 0 at c (reading (d ∷ ds)) m now (qs ++ posts (store_touches ts)) 0 (suc at) c (reading ds) (g.unified now ts u size),
-      λ no_one. gone h qs 0 at c (reading (d ∷ ds)) m (g.refuted no_one),
-    )
-
-    pub amid_read_variable : (x : Register) → Holds area at (UnifyVariable x) → (c' : Registers) → IsWritten c x d c' → In h qs 0 (suc at) c' (reading ds)
-    amid_read_variable x f c' w = goes h qs 0 at c (reading (d ∷ ds)) m h qs 0 (suc at) c' (reading ds) (read_variable M area q.shown name h qs c d ds stack m.branch at m.here x f c' w)
-
-    pub amid_read_void : (i : ℕ) → Holds area at (UnifyVoid (suc i)) → In h qs i (suc at) c (reading ds)
-    amid_read_void i f = goes h qs 0 at c (reading (d ∷ ds)) m h qs i (suc at) c (reading ds) (read_void M area q.shown name h qs c d ds stack m.branch at i m.here f)
-
-    pub amid_read_value : (x : Register) → Holds area at (UnifyValue x) → (e : Cell) → cell_in c x ≡ Some e → OnEqual e
-    amid_read_value x f e at_e =
-        let g = read_value M area q.shown name h qs c d ds stack m.branch at m.here x f in
-        equals e (subst (λ y. ReadsOnEqual M area q.shown name h qs (suc at) c ds stack m.branch d y) (same_cell g.0 e (sym g.1 ∙ at_e)) g.3)
-
-    pub amid_read_constant : IsHeap h → (i : AtomId) → Holds area at (UnifyConstant i) → name i ≡ name_of area i → OnEqual (cell.Atom i)
-    amid_read_constant valid i f named = equals (cell.Atom i) (read_constant M area q.shown name h qs c d ds stack m.branch valid at m.here i f named)
-
-    pub amid_read_integer : IsHeap h → (z : ℤ) → Holds area at (UnifyInteger z) → OnEqual (cell.Int z)
-    amid_read_integer valid z f = equals (cell.Int z) (read_integer M area q.shown name h qs c d ds stack m.branch valid at m.here z f)
-
-  pub amid_read_voids : (h : Cells) (qs : List Indexical) (at : ℕ) (c : Registers) (d : Cell) (ds : List Cell) (i : ℕ) → In h qs (suc i) at c (reading (d ∷ ds)) → In h qs i at c (reading ds)
-  amid_read_voids h qs at c d ds i m = goes h qs (suc i) at c (reading (d ∷ ds)) m h qs i at c (reading ds) (read_voids M area q.shown name h qs c d ds stack m.branch at i m.here)
 
   -- a cell is gathered
   module _ (h : Cells) (qs : List Indexical) (at : ℕ) (c : Registers) where
-    pub amid_build_value : (part : Part) → Gathers part → In h qs 0 at c part → (x : Register) → Holds area at (UnifyValue x) → (e : Cell) → cell_in c x ≡ Some e → In h qs 0 (suc at) c (gathered part e)
-    amid_build_value (matching g ds (suc j)) t m x f e at_e =
-        let s = build_value M area q.shown name h qs c ds j stack m.branch (GetEnd area q.shown m.branch g) at m.here x f in
-        goes h qs 0 at c (matching g ds (suc j)) m h qs 0 (suc at) c (matching g (ds ++ e ∷ []) j) (subst (λ y. Builds M area q.shown name h qs 0 (suc at) c (ds ++ y ∷ []) j stack m.branch (GetEnd area q.shown m.branch g)) (same_cell s.0 e (sym s.1 ∙ at_e)) s.3)
-    amid_build_value (building g a ds (suc j)) t m x f e at_e =
-        let s = build_value M area q.shown name h qs c ds j stack m.branch (PutEnd area q.shown m.branch g a) at m.here x f in
-        goes h qs 0 at c (building g a ds (suc j)) m h qs 0 (suc at) c (building g a (ds ++ e ∷ []) j) (subst (λ y. Builds M area q.shown name h qs 0 (suc at) c (ds ++ y ∷ []) j stack m.branch (PutEnd area q.shown m.branch g a)) (same_cell s.0 e (sym s.1 ∙ at_e)) s.3)
-    amid_build_value _ t m x f e at_e = absurd t
 
     module _ (valid : IsHeap h) where
       pub amid_build_constant : (part : Part) → Gathers part → In h qs 0 at c part → (i : AtomId) → Holds area at (UnifyConstant i) → name i ≡ name_of area i → In h qs 0 (suc at) c (gathered part (cell.Atom i))
@@ -194,20 +141,5 @@ module _ (M : ℕ) (area : Area) (prog : Program) (q : Query) (name : Naming) (s
 
   -- ---- the place behind them
 
-  pub amid_read_end : (h : Cells) (qs : List Indexical) (at : ℕ) (c : Registers) → In h qs 0 at c (reading []) → On h qs at c
-  amid_read_end h qs at c m = stands h qs 0 at c (reading []) m h qs at c (read_end M area q.shown name h qs at c stack m.branch m.here)
-
   -- the cell whole of the heap now is the compound term of the cells ds
   module _ (h : Cells) (qs : List Indexical) (at : ℕ) (c : Registers) (f : AtomId) (named : name f ≡ name_of area f) (ds : List Cell) (now : Cells) (whole : Cell) (grown : IsGrown h now) (own : IsOf now whole) (is : term_of name now whole ≡ Comp (name f) (terms_by (term_of name h) ds)) where
-    -- the argument and the term are made equal
-    pub amid_match_end : (d : Cell) → In h qs 0 at c (matching (name_of area f) (d ∷ ds) 0)
-        → ((h' : Cells) (ts : List Touch) → core.IsUnified name now d whole h' ts → IsSameSize now h' → On h' (qs ++ posts (store_touches ts)) at c) × (IsRefuted now (cells_equal name now d whole) → Back)
-    amid_match_end d m =
-        let g = end_get M area q.shown name h qs at c stack m.branch f named ds now whole grown own is d m.here in (
-          λ h' ts u size. stands h qs 0 at c (matching (name_of area f) (d ∷ ds) 0) m h' (qs ++ posts (store_touches ts)) at c (g.unified h' ts u size),
-          λ no_one. gone h qs 0 at c (matching (name_of area f) (d ∷ ds) 0) m (g.refuted no_one),
-        )
-
-    -- the register takes the term
-    pub amid_build_end : (a : ℕ) → In h qs 0 at c (building (name_of area f) a ds 0) → (c' : Registers) → IsWritten c (X a) whole c' → On now qs at c'
-    amid_build_end a m c' w = stands h qs 0 at c (building (name_of area f) a ds 0) m now qs at c' (end_put M area q.shown name h qs at c stack m.branch f named ds now whole grown own is a m.here c' w)

@@ -1,7 +1,6 @@
 -- The arguments of a goal, by their registers' cells.
 use Rattle.std.proofs.Common.{◌≡◌, ℕ, suc, ◌⊎◌, List, [], ◌∷◌, length, Option, Some, refl, ap, sym, ◌∙◌, subst, inl, inr, arith}
 use Rattle.fd_language.specs.Term.{Name, Term, Terms, no_terms, term, Substitution, apply, apply_all}
-use Rattle.fd_language.specs.Variables.{TermBelow, TermsBelow}
 use Rattle.fd_model.specs.Builtins.{first_argument, second_argument}
 use Rattle.fd_model.specs.Constraining.{arguments}
 use Rattle.heap_cells.specs.declared.Cell.{Cell}
@@ -13,17 +12,9 @@ use Rattle.code_steps.specs.Registers.{AreIn, AreShown}
 same_cell : (d e : Cell) → Some d ≡ Some e → d ≡ e
 same_cell d e k = cc
 
-pub made_arguments : (f : Name) (ts : Terms) → arguments (made f ts) ≡ ts
-made_arguments f no_terms = refl
-made_arguments f (term t ts) = refl
-
 pub arguments_applied : (s : Substitution) (f : Name) (ts : Terms) → arguments (apply s (made f ts)) ≡ apply_all s ts
 arguments_applied s f no_terms = refl
 arguments_applied s f (term t ts) = refl
-
-pub made_low : (n : ℕ) (f : Name) (ts : Terms) → TermBelow n (made f ts) → TermsBelow n ts
-made_low n f no_terms b = tt
-made_low n f (term t ts) b = b
 
 module _ (name : Naming) (h : Cells) (look : Substitution) (P : ℕ → Type 0) (p : Places) (cells : ℕ → Option Cell) (shown : AreShown name h look P p.x cells) where
   -- the cell that a register holds is its term's

@@ -10,7 +10,7 @@ use Rattle.fd_model.specs.Children.{by_constraint, with_expansion}
 use Rattle.fd_model.specs.Closed.{constrained}
 use Rattle.fd_model.specs.ConstraintLaws.{AllFresh}
 use Rattle.fd_model.specs.Constraining.{arguments, expand}
-use Rattle.fd_model.specs.Goal.{Goal, Program, Query, Branch, Event, Fault}
+use Rattle.fd_model.specs.Goal.{Program, Query, Branch, Event, Fault}
 use Rattle.fd_model.specs.Goal as goal
 use Rattle.fd_model.specs.LinearRows.{Expansion}
 use Rattle.fd_model.specs.Models.{IsModel}

@@ -5,12 +5,12 @@ pub use Rattle.code_steps.proofs.Built.{end_get, end_put, start_get, start_put}
 pub use Rattle.code_steps.proofs.Calling.{run_call, run_execute}
 pub use Rattle.code_steps.proofs.Constraining.{run_constraint, run_constraint_failed, run_constraint_fault}
 pub use Rattle.code_steps.proofs.Finding.{run_found_equated, run_found_false, run_found_fault, run_found_refuted, run_found_true}
-pub use Rattle.code_steps.proofs.Goals.{TakesGoal, run_either, run_fail, run_false, run_refuted, run_true, run_unify, runs_spent}
+pub use Rattle.code_steps.proofs.Goals.{TakesGoal, run_either, run_fail, run_false, run_refuted, run_true, run_unify}
 pub use Rattle.code_steps.proofs.Labelling.{back_no_values, back_value, run_label, run_label_done, run_label_fault}
 pub use Rattle.code_steps.proofs.Opening.{IsNone, count_applied, count_terms, step_get_structure}
 pub use Rattle.code_steps.proofs.Ranging.{run_range, run_range_fault}
 pub use Rattle.code_steps.proofs.Reading.{read_constant, read_end, read_integer, read_value, read_variable, read_void, read_voids}
-pub use Rattle.code_steps.proofs.Running.{back_ends, back_resumes, goes_before, runs_gone, runs_jump, runs_on, runs_over, runs_tries, spends_more, stands_no_model}
+pub use Rattle.code_steps.proofs.Running.{back_resumes, goes_before, runs_gone, runs_jump, runs_on, runs_over, runs_tries, spends_more, stands_no_model}
 pub use Rattle.code_steps.proofs.Shown.{all_moved, shown_moved}
 pub use Rattle.code_steps.proofs.Starting.{run_starts}
 pub use Rattle.code_steps.proofs.Stepping.{step_allocate, step_deallocate, step_get_constant, step_get_integer, step_get_value, step_get_variable, step_proceed, step_put_constant, step_put_integer, step_put_value, step_put_variable}

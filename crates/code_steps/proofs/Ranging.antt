@@ -16,7 +16,7 @@ use Rattle.fd_language.proofs.Lemmas.{two, reads_map, has_either, in_left}
 use Rattle.fd_model.specs.Children.{by_post, by_constraint, look_in, with_expansion}
 use Rattle.fd_model.specs.Closed.{constrained}
 use Rattle.fd_model.specs.Constraining.{equations}
-use Rattle.fd_model.specs.Goal.{Goal, Program, Query, Branch, Event, Fault}
+use Rattle.fd_model.specs.Goal.{Program, Query, Branch, Event, Fault}
 use Rattle.fd_model.specs.Goal as goal
 use Rattle.fd_model.specs.LinearRows.{Expansion}
 use Rattle.fd_model.specs.Models.{IsModel}
@@ -59,10 +59,6 @@ target_offends need v (Var c) = refl
 target_offends need v (Int z) = refl
 target_offends need v (Atom a) = refl
 target_offends need v (Comp f ts) = refl
-
-none_both : (a b : Option QueryFault) → or_later a b ≡ None → (a ≡ None) × (b ≡ None)
-none_both (Some x) b h = absurd (cc)
-none_both None b h = (refl, h)
 
 row_err : (o : Option QueryFault) (x : Expansion) (e : QueryFault) → o ≡ Some e → unless_fault o x ≡ Err e
 row_err o x e i = ap (λ o. unless_fault o x) i
@@ -164,9 +160,6 @@ module _ (look : Substitution) (n : ℕ) (r : Range) (low : RangeBelow n r) wher
   post_ok (Comp f ts) b i = absurd (no_fault BadType i)
 
 -- ---- the goal
-
-some_same : (d e : Cell) → Some d ≡ Some e → d ≡ e
-some_same d e k = cc
 
 -- d is the cell of the target, and ds are those of the range's variables.
 module _ (M : ℕ) (area : Area) (prog : Program) (q : Query) (name : Naming) (h : Cells) (valid : IsHeap h) (qs : List Indexical) (at : ℕ) (c : Registers) (stack : List Saved) (cs : List Choice) (k : Option ℕ) (es : List Event) (r : ℕ)

@@ -13,7 +13,7 @@ use Rattle.machine_relation.proofs.Lemmas.{more_of, more_each}
 use Rattle.machine_frames.specs.Frames.{IsKept}
 use Rattle.machine_frames.proofs.Lemmas.{kept_known, kept_forget}
 use Rattle.wam_code.specs.declared.instruction.Register.TheVariants.{X}
-use Rattle.wam_code.specs.Places.{Places, write, learn, no_registers, no_slots, IsFresh, Has, IsWhole, IsSettled}
+use Rattle.wam_code.specs.Places.{Places, write, learn, no_slots, IsFresh, Has, IsWhole, IsSettled}
 use Rattle.wam_code.specs.Means.{Return, returned}
 use Rattle.wam_code.proofs.Lemmas.{still_says_same}
 use Rattle.code_steps.specs.Registers.{Registers, Saved, AreSame}
@@ -31,22 +31,6 @@ says_itself P es = subst (λ l. SaysSame P l es) (sym (append-nil es)) (record {
 module _ (M : ℕ) (name : Naming) (h : Cells) (qs : List Indexical) (returns : List Return) (stack : List Saved) (b : Branch) where
   abbrev Makes : Registers → Places → List Equation → Type 0
   Makes c p todo = IsMade M name h qs c returns stack b p todo
-
-  -- the registers are given up
-  pub made_no_registers : (c c' : Registers) (p : Places) (todo : List Equation) → AreSame c.y c'.y → Makes c p todo → Makes c' (no_registers p) todo
-  made_no_registers c c' p todo same m = record {
-    done = m.done;
-    look = m.look;
-    kept = m.kept;
-    same = m.same;
-    xs = λ n t e. absurd (no_term t e);
-    ys = shown_same name h m.look (Made p b.fresh) p.y c.y c'.y same m.ys;
-    saved = m.saved;
-    own = m.own;
-    covered = m.covered;
-    used = m.used;
-    scoped = m.scoped;
-  }
 
   -- and the slots
   pub made_no_slots : (c c' : Registers) (p : Places) (todo : List Equation) → AreSame c.x c'.x → Makes c p todo → Makes c' (no_slots p) todo

@@ -9,7 +9,7 @@ use Rattle.fd_language.specs.Writing.{Plain, term_text}
 use Rattle.fd_model.specs.Builtins.{first_argument}
 use Rattle.fd_model.specs.Children.{with_goals}
 use Rattle.fd_model.specs.Closed.{constrained}
-use Rattle.fd_model.specs.Goal.{Goal, Program, Query, Branch, Event, Wrote, Newline}
+use Rattle.fd_model.specs.Goal.{Program, Query, Event, Wrote, Newline}
 use Rattle.fd_model.specs.Goal as goal
 use Rattle.fd_model.specs.Lines.{only_argument, written_text}
 use Rattle.fd_model.specs.Models.{IsModel}

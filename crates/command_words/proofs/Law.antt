@@ -1,6 +1,6 @@
 -- Words of the form are words that clap takes, and it finds the values as they are written.
 use Rattle.std.proofs.Common.{◌≡◌, ◌∙◌, ◌<◌, ◌&&◌, ◌||◌, ℕ, Bool, cond, refl, sym, ap, subst, true, false, true≢false, not, is_some, List, [], ◌∷◌, ◌++◌, Option, Some, None, codes, append-nil, append_assoc, arith}
-use Rattle.std.specs.Prelude.{◌==◌, length, map, option_and_then, slice_get, unwrap_or}
+use Rattle.std.specs.Prelude.{◌==◌, length, map, option_and_then, slice_get}
 use Rattle.std.specs.List.{fold, list_all, find}
 use Rattle.std.specs.Str.{bytes_eq}
 use Rattle.std.proofs.lemmas.Bool.{eqb-true}
@@ -19,8 +19,7 @@ use Rattle.clap.specs.Words.{Row, Rule, Text, built, first_of, matches_of, takes
 use Rattle.clap.specs.declared.builder.value_parser.ValueParser.TheVariants as vp
 use Rattle.clap.specs.declared.parser.matches.ValueSource.TheVariants.{CommandLine}
 use Rattle.fd_model.specs.Output.{default_options}
-use Rattle.command_words.specs.declared.AgendaName.TheVariants.{Fifo}
-use Rattle.command_words.specs.Words.{agenda_by, agenda_in, agenda_of, command_app, found_value, has_form, is_choice, limit_in, options_by, options_of, size_in, value_behind}
+use Rattle.command_words.specs.Words.{agenda_in, command_app, found_value, has_form, is_choice, limit_in, options_by, options_of, size_in, value_behind}
 
 abbrev top : Shape
 top = (built command_app).top
@@ -336,9 +335,6 @@ asked_as_written words = go (has_form words) refl
     go false form = refl
     go true form = ap (λ b. cond b (Some (options_by (found_value words))) None) (form_is_taken words form)
         ∙ ap Some (options_same _ _ (value_as_written words form))
-
-pub agenda_as_written : (words : List Text) → has_form words ≡ true → agenda_of words ≡ agenda_by (λ id. value_behind (45 ∷ 45 ∷ id) words)
-agenda_as_written words form = ap (λ o. unwrap_or (option_and_then agenda_in o) Fifo) (value_as_written words form (codes "agenda"))
 
 -- words of the form are accepted, with the values that clap finds
 pub accepts : (words : List Text) → has_form words ≡ true → options_of words ≡ Some (options_by (found_value words))

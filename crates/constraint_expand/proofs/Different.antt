@@ -1,5 +1,5 @@
 -- The ranges of variables that differ.
-use Rattle.std.proofs.Common.{◌≡◌, ℕ, ◌+◌, ◌<◌, ◌-◌, ◌^◌, ℤ, take, length-drop, arith, List, [], ◌∷◌, ◌++◌, length, drop, get_or, drop-cons, add-one, Ok, refl, sym, ap, subst, ◌∙◌, append_assoc, append-nil}
+use Rattle.std.proofs.Common.{◌≡◌, ℕ, ◌+◌, ◌<◌, ◌-◌, ◌^◌, ℤ, take, length-drop, arith, List, [], ◌∷◌, ◌++◌, length, drop, get_or, drop-cons, add-one, Ok, refl, sym, ap, subst, ◌∙◌, append_assoc}
 use Rattle.std.specs.Prelude.{IfOk}
 use Rattle.std.proofs.lemmas.List.{take_all}
 use Rattle.fd_language.specs.Term.{Term}
@@ -27,12 +27,6 @@ pub record Posting (all : List Indexical) (start now : List (ℕ × Range)) (ahe
 
 pub posting_turns : (all : List Indexical) (start now new : List (ℕ × Range)) (ps ahead : List Indexical) → Posting all start now (ps ++ ahead) → Posts ps now new → Posting all start new ahead
 posting_turns all start now new ps ahead i p = record { is = ap (λ rs. rs ++ pairs_of ahead) p ∙ append_assoc now (pairs_of ps) (pairs_of ahead) ∙ ap (λ rs. now ++ rs) (sym (pairs_append ps ahead)) ∙ i.is }
-
-pub posting_ends : (all : List Indexical) (start now : List (ℕ × Range)) → Posting all start now [] → Posts all start now
-posting_ends all start now i = sym (append-nil now) ∙ i.is
-
-pub posts_both : (ps qs : List Indexical) (start middle new : List (ℕ × Range)) → Posts ps start middle → Posts qs middle new → Posts (ps ++ qs) start new
-posts_both ps qs start middle new p q = q ∙ ap (λ rs. rs ++ pairs_of qs) p ∙ append_assoc start (pairs_of ps) (pairs_of qs) ∙ ap (λ rs. start ++ rs) (sym (pairs_append ps qs))
 
 -- what is left of a list, from its next element on
 pub next_drop : {A : Type 0} (s : List A) (i : ℕ) (d : A) → i < length s → drop i s ≡ get_or s i d ∷ drop (i + 1) s

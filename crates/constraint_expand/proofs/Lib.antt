@@ -9,5 +9,3 @@ mod Widths
 mod Counting
 mod Pieces
 mod Arguments
-mod Endings
-pub mod Lemmas

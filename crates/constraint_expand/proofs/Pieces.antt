@@ -1,15 +1,11 @@
 -- Ranges that are given in pieces.
 use Rattle.std.proofs.Common.{◌≡◌, ℕ, zero, suc, ◌+◌, ◌-◌, ◌<◌, ◌≤◌, ℤ, List, [], ◌∷◌, ◌++◌, length, take, drop, get_or, refl, sym, ap, subst, ◌∙◌, arith, append-nil, length-append}
-use Rattle.std.proofs.lemmas.List.{drop_all}
 use Rattle.fd_language.specs.Range.{Range, Indexical}
-use Rattle.fd_model.specs.LinearRows.{rows_behind}
-use Rattle.fd_model.specs.ListRows.{counter, counted, against, pairwise, counts}
-use Rattle.constraint_expand.specs.declared.rows.Rows.{Rows}
-use Rattle.constraint_expand.specs.Nodes.{comparison_of, row_at}
-use Rattle.constraint_expand.specs.Pieces.{IsPiece, IsOver, rows_from, rows_ahead, AreReady}
-use Rattle.constraint_expand.specs.Posts.{indexicals, Posts, Accepted}
-use Rattle.constraint_expand.proofs.Different.{next_drop, whole_drop, posted_list, posts_both}
-use Rattle.constraint_expand.proofs.RowPosts.{next_row, other_default}
+use Rattle.fd_model.specs.ListRows.{against, pairwise}
+use Rattle.constraint_expand.specs.Pieces.{IsPiece, IsOver}
+use Rattle.constraint_expand.specs.Posts.{indexicals, Posts}
+use Rattle.constraint_expand.proofs.Different.{next_drop, whole_drop, posted_list}
+use Rattle.constraint_expand.proofs.RowPosts.{other_default}
 
 pub is_piece : (old new ps : List Indexical) (list : List (ℕ × Range)) → old ≡ ps ++ new → 0 < length ps → Posts ps [] list → IsPiece old new list
 is_piece old new ps list e some p = record {
@@ -40,37 +36,6 @@ pairs_piece xs i j e l list p =
     let x = get_or xs i 0 in
     let next : drop i xs ≡ x ∷ drop j xs = next_drop xs i 0 (omega (arith, e, l)) ∙ ap (λ k. x ∷ drop k xs) (sym e) in
     is_piece (pairwise (drop i xs)) (pairwise (drop j xs)) (against x (drop j xs)) list (ap pairwise next) (against_some x (drop j xs) (left_some xs j l)) p
-
--- ---- members that are counted
-
-pub counts_over : (v : ℤ) (xs : List ℕ) (n i : ℕ) → length xs ≤ i → counts v (drop i xs) n ≡ []
-counts_over v xs n i l = ap (λ ys. counts v ys n) (drop_all i xs l)
-
-pub counts_piece : (v : ℤ) (xs : List ℕ) (n i b : ℕ) → i < length xs → b ≡ n + i → (middle list : List (ℕ × Range)) → Posts (counter v (get_or xs i 0) b ∷ []) [] middle → Posts (counted v (get_or xs i 0) b ∷ []) middle list
-    → IsPiece (counts v (drop i xs) (n + i)) (counts v (drop (i + 1) xs) (n + (i + 1))) list
-counts_piece v xs n i b l e middle list p q =
-    let x = get_or xs i 0 in
-    let count : suc (n + i) ≡ n + (i + 1) = omega arith in
-    let ahead : counts v (drop i xs) (n + i) ≡ (counter v x b ∷ counted v x b ∷ []) ++ counts v (drop (i + 1) xs) (n + (i + 1)) =
-    ap (λ ys. counts v ys (n + i)) (next_drop xs i 0 l) ∙ ap (λ k. counter v x k ∷ counted v x k ∷ counts v (drop (i + 1) xs) (suc (n + i))) (sym e) ∙ ap (λ k. counter v x b ∷ counted v x b ∷ counts v (drop (i + 1) xs) k) count in
-    is_piece (counts v (drop i xs) (n + i)) (counts v (drop (i + 1) xs) (n + (i + 1))) (counter v x b ∷ counted v x b ∷ []) list ahead (omega arith)
-    (posts_both (counter v x b ∷ []) (counted v x b ∷ []) [] middle list p q)
-
--- ---- rows
-
-pub rows_over : (r : Rows) → length r.straight.terms.items ≤ r.next → rows_ahead r ≡ []
-rows_over r l = ap (rows_behind (comparison_of r.comparison) r.straight.constant (take r.next r.straight.terms.items)) (drop_all r.next r.straight.terms.items l)
-
-pub row_accepted : (r : Rows) → r.next < length r.straight.terms.items → AreReady r → Accepted (row_at r.comparison r.straight r.next ∷ [])
-row_accepted r l ready = let ok : Accepted (row_at r.comparison r.straight r.next ∷ rows_from r.comparison r.straight (r.next + 1)) = subst Accepted (next_row r.comparison r.straight r.next l) ready.accepted in (ok.0, tt)
-
-pub row_piece : (r : Rows) → r.next < length r.straight.terms.items → (list : List (ℕ × Range)) → Posts (row_at r.comparison r.straight r.next ∷ []) [] list → IsPiece (rows_ahead r) (rows_from r.comparison r.straight (r.next + 1)) list
-row_piece r l list p = is_piece (rows_ahead r) (rows_from r.comparison r.straight (r.next + 1)) (row_at r.comparison r.straight r.next ∷ []) list (next_row r.comparison r.straight r.next l) (omega arith) p
-
-pub rows_ready : (r : Rows) → r.next < length r.straight.terms.items → AreReady r → AreReady (record r { next = r.next + 1 })
-rows_ready r l ready =
-    let ok : Accepted (row_at r.comparison r.straight r.next ∷ rows_from r.comparison r.straight (r.next + 1)) = subst Accepted (next_row r.comparison r.straight r.next l) ready.accepted in
-    record { sides = ready.sides; accepted = ok.1 }
 
 -- ---- the ranges that were made at once
 

@@ -1,8 +1,8 @@
 -- The variables of members, one by one.
-use Rattle.std.proofs.Common.{◌≡◌, ℕ, suc, ◌≤◌, List, [], ◌∷◌, ◌++◌, refl, sym, ap, ◌∙◌, arith, append_assoc, append-nil}
+use Rattle.std.proofs.Common.{◌≡◌, ℕ, suc, ◌≤◌, List, [], ◌∷◌, ◌++◌, refl, sym, ap, ◌∙◌, arith, append_assoc}
 use Rattle.fd_model.specs.Members.{Member, Open, Known, place_of, after, placed, equated_from, fresh_after}
 use Rattle.constraint_expand.specs.declared.members.Placed.{Placed}
-use Rattle.constraint_expand.specs.Lists.{Places, AllPlaced, Placing}
+use Rattle.constraint_expand.specs.Lists.{Places, Placing}
 
 pub fresh_grows : (n : ℕ) (ms : List Member) → n ≤ fresh_after n ms
 fresh_grows n [] = omega arith
@@ -22,6 +22,3 @@ placing_turns n ms old new m ahead i p = record {
   equated = (λ j. p.equated j ++ equated_from (p.fresh j) ahead) ∙ append_assoc old.equated.items (equated_from old.fresh (m ∷ [])) (equated_from (after old.fresh m) ahead) ∙ ap (λ es. old.equated.items ++ es) (sym (one_equated old.fresh m ahead)) ∙ i.equated;
   fresh = ap (λ k. fresh_after k ahead) p.fresh ∙ i.fresh;
 }
-
-pub placing_ends : (n : ℕ) (ms : List Member) (p : Placed) → Placing n ms p [] → AllPlaced n ms p
-placing_ends n ms p i = record { variables = sym (append-nil p.variables.items) ∙ i.variables; equated = sym (append-nil p.equated.items) ∙ i.equated; fresh = i.fresh }

@@ -14,10 +14,9 @@ use Rattle.fd_model.specs.LinearRows.{row_by_sign, rows_behind}
 use Rattle.linear_forms.proofs.Lemmas.{neg_one, integer_fits, one_inside}
 use Rattle.constraint_expand.specs.declared.rows.Comparison.{Comparison}
 use Rattle.constraint_expand.specs.declared.rows.Form.{Form}
-use Rattle.std.proofs.lemmas.List.{take-append-drop, length-take-le, take_more}
+use Rattle.std.proofs.lemmas.List.{take-append-drop, length-take-le}
 use Rattle.constraint_expand.specs.Nodes.{AreIntegers, CanTurn, comparison_of, lower_reading, upper_reading, product_nodes, row_list, HasProduct, IsForm, AreSides, product_at, row_at, form_rows}
 use Rattle.constraint_expand.proofs.Different.{next_drop}
-use Rattle.constraint_expand.specs.Pieces.{rows_from}
 use Rattle.constraint_expand.proofs.RowNodes.{straight_row, turned_row, products_length, scaled_length}
 
 -- each coefficient is an integer of the language, and so is its negation
@@ -100,11 +99,6 @@ module _ (k : Comparison) (straight turned : Form) (i : ℕ) (s : AreSides k str
         turned_row k (take i straight.terms.items) (drop (i + 1) straight.terms.items) (product_at straight i).0 n straight.constant turned i (short straight.terms.items i s.within)
         (subst (λ ts. IsForm k true (scaled (negsuc 0) ts) (neg_ℤ straight.constant) turned) parts (s.turned_form h))
         ∙ ap (λ z. nodes_of (row_by_sign (comparison_of k) straight.constant (take i straight.terms.items ++ drop (i + 1) straight.terms.items) z)) (sym e)
-
-pub next_row : (k : Comparison) (form : Form) (i : ℕ) → i < length form.terms.items → rows_from k form i ≡ row_at k form i ∷ rows_from k form (i + 1)
-next_row k form i h =
-    ap (rows_behind (comparison_of k) form.constant (take i form.terms.items)) (next_drop form.terms.items i (0, pos 0) h)
-    ∙ ap (λ ts. row_at k form i ∷ rows_behind (comparison_of k) form.constant ts (drop (i + 1) form.terms.items)) (sym (take_more form.terms.items i (0, pos 0) h))
 
 -- the sides of a form that was made
 self_form : (k : Comparison) (b : Bool) (ts : List (ℕ × ℤ)) (c : ℤ) (form : Form) → IsForm k b ts c form → IsForm k b form.terms.items form.constant form

@@ -69,12 +69,6 @@ module _ {A : Type 0} (read : Term → Result A QueryFault) (c : Contents) (list
       by (Ok xs) = ap (λ ys. Ok ys) (append_assoc done (x ∷ []) xs)
       by (Err f) = refl
 
-pub walk_starts : {A : Type 0} (read : Term → Result A QueryFault) (c : Contents) (list : TermId) (done : List A) → done ≡ [] → list.number < length c.entries → Walking read c list list done
-walk_starts {A} read c list done e l = record { within = l; is = ap (λ ds. of_one (λ xs. Ok (ds ++ xs)) (walk read (term_of c list))) e ∙ by (walk read (term_of c list)) } where
-  by : (r : Result (List A) QueryFault) → of_one (λ xs. Ok ([] ++ xs)) r ≡ r
-  by (Ok xs) = refl
-  by (Err f) = refl
-
 mapped_push : {A B : Type 0} (f : A → B) (xs : List A) (x : A) → map f (xs ++ x ∷ []) ≡ map f xs ++ f x ∷ []
 mapped_push f [] x = refl
 mapped_push f (y ∷ ys) x = ap (λ zs. f y ∷ zs) (mapped_push f ys x)

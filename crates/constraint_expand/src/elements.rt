@@ -1,9 +1,9 @@
 //! An element of a list of integers by its number.
 
-ghost use Rattle.std.specs.Prelude.{◌≡◌, ◌+◌, ◌^◌, ◌<◌, ◌++◌, [], ◌∷◌, length, pos, IfOk, OnOk};
+ghost use Rattle.std.specs.Prelude.{◌≡◌, ◌+◌, ◌^◌, ◌<◌, ◌++◌, [], ◌∷◌, length, IfOk, OnOk};
 ghost use Rattle.fd_language.specs.Flat.{nodes_of};
 ghost use Rattle.fd_model.specs.Constraining.{element as element_of};
-ghost use Rattle.fd_model.specs.ListRows.{where_is, union_of, element_ranges as ranges_of};
+ghost use Rattle.fd_model.specs.ListRows.{where_is, element_ranges as ranges_of};
 ghost use Rattle.term_pool.specs.Terms.{term_of};
 ghost use Rattle.constraint_expand.specs.Lists.{AreWords};
 ghost use Rattle.constraint_expand.specs.Posts.{Posts, Accepted};

@@ -1,6 +1,6 @@
 //! The ranges of a linear form.
 
-ghost use Rattle.std.specs.Prelude.{◌≡◌, ℕ, ◌+◌, ◌*◌, ◌^◌, ◌<◌, ◌≤◌, ◌++◌, [], ◌∷◌, length, Bool, true, pos, negsuc, neg_ℤ, IsTrue, if◌then◌else◌, slice_get, IsSome, MatchOption, IfOk, OnOk, OnErr};
+ghost use Rattle.std.specs.Prelude.{◌≡◌, ℕ, ◌+◌, ◌*◌, ◌^◌, ◌<◌, ◌≤◌, ◌++◌, [], ◌∷◌, true, pos, negsuc, neg_ℤ, if◌then◌else◌, MatchOption, IfOk, OnOk, OnErr};
 ghost use Rattle.fd_model.specs.Linear.{in_integers, scaled};
 ghost use Rattle.fd_model.specs.LinearRows.{rows_behind, compares, linear_rows as rows_of};
 ghost use Rattle.constraint_expand.specs.Pieces.{IsPiece, IsOver, rows_ahead, AreReady};

@@ -1,7 +1,7 @@
 //! Which agents read what of which variables, in chains that are cut when agents go.
 #![tactic(auto)]
 
-ghost use Rattle.std.specs.Prelude.{◌≡◌, ◌<◌, ◌≤◌, ◌+◌, ◌-◌, ◌^◌, ◌&&◌, ◌==◌, not, nat_lt, ℕ, zero, suc, List, [], ◌∷◌, ◌++◌, true, false, if◌then◌else◌, length, take, drop, filter, slice_index_or, vec_len, vec_capacity, IfOk, OnOk, OnErr, IsTrue, MatchOption, All};
+ghost use Rattle.std.specs.Prelude.{◌≡◌, ◌<◌, ◌≤◌, ◌+◌, ◌-◌, ◌^◌, ◌&&◌, ◌==◌, nat_lt, ℕ, List, [], ◌∷◌, ◌++◌, if◌then◌else◌, length, filter, vec_len, vec_capacity, OnOk, OnErr, MatchOption, All};
 ghost use Rattle.std.specs.List.{list_any};
 ghost use Rattle.fd_language.specs.Family.{has};
 ghost use Rattle.fd_language.specs.Features.{is_same_feature};

@@ -1,11 +1,11 @@
 -- The loop that takes a number out of a list of intervals.
-use Rattle.std.proofs.Common.{◌≡◌, ℕ, suc, ◌+◌, ◌-◌, ◌<◌, ◌≤◌, ◌⊎◌, inl, inr, Bool, true, false, ◌&&◌, ◌==◌, not, ltb, List, [], ◌∷◌, ◌++◌, filter, refl, ap, ◌∙◌, subst, arith, length, get_or, drop, append-nil, drop_of_length-le}
+use Rattle.std.proofs.Common.{◌≡◌, ℕ, suc, ◌+◌, ◌-◌, ◌<◌, ◌≤◌, ◌⊎◌, inl, inr, Bool, true, false, ◌&&◌, ◌==◌, not, ltb, List, [], ◌∷◌, ◌++◌, filter, ap, ◌∙◌, subst, arith, length, get_or, drop, append-nil, drop_of_length-le}
 use Rattle.std.proofs.lemmas.Bool.{cases_Bool}
 use Rattle.std.proofs.lemmas.Bool.Decides.{nat_tests}
 use Rattle.fd_language.specs.Family.{universe}
 use Rattle.domain_ranges.specs.Spans.{Span, within, IsSpans, members, interval_count, gap}
 use Rattle.domain_ranges.proofs.Spans.{in_head, past_first, behind_first}
-use Rattle.domain_ranges.proofs.Made.{Made, made_none, made_skip, made_push, made_all, made_many}
+use Rattle.domain_ranges.proofs.Made.{Made, made_skip, made_push, made_all, made_many}
 use Rattle.domain_ranges.proofs.Meeting.{drop_next, below_first}
 use Rattle.domain_ranges.proofs.Places.{ltb_less, ltb_not}
 
@@ -20,9 +20,6 @@ pub record Cutting (M : ℕ) (ss : List Span) (z : ℕ) (out rest : List Span) :
   pub spans : IsSpans low M rest
   pub start : at ≤ low
   pub same : (n : ℕ) → n ≤ M → at ≤ n → within ss n ≡ within rest n
-
-pub cutting_start : (M : ℕ) (ss : List Span) (z : ℕ) → IsSpans 0 M ss → Cutting M ss z [] ss
-cutting_start M ss z r = record { at = 0; made = made_none M (but ss z); low = 0; spans = r; start = omega arith; same = λ n h g. refl }
 
 out_of : (a b : Bool) → a ≡ false → (a && b) ≡ false
 out_of a b h = grind arith

@@ -1,17 +1,16 @@
 -- A set without a number.
-use Rattle.std.proofs.Common.{◌≡◌, ℕ, ◌<◌, ◌≤◌, Bool, true, false, ◌&&◌, ◌==◌, not, List, filter, length, refl, ap, sym, ◌∙◌, subst, arith, ℤ, pos, negsuc, int_le, ◌⊎◌, inl, inr, SFits}
+use Rattle.std.proofs.Common.{◌≡◌, ℕ, ◌<◌, ◌≤◌, Bool, true, false, ◌&&◌, ◌==◌, not, List, filter, length, refl, ap, sym, ◌∙◌, subst, arith, ℤ, pos, negsuc, ◌⊎◌, inl, inr, SFits}
 use mir.Syntax.{w64, w128}
 use lib.Signed.{lt_z}
 use Rattle.std.specs.Ordering.{int_eq}
 use Rattle.std.proofs.lemmas.Bool.{true≢false, cases_Bool}
 use Rattle.std.proofs.lemmas.Bool.Decides.{Decides-int_eq, nat_tests}
-use Rattle.std.proofs.lemmas.Int.{ints}
 use Rattle.fd_language.specs.declared.TheConstants.{INFINITY}
 use Rattle.fd_language.specs.Family.{has, universe, IsRising, IsSubset}
 use Rattle.fd_language.specs.Range.{least, greatest}
 use Rattle.fd_language.proofs.Lemmas.{has-filter, in_universe, has_high, least_low, greatest_high}
 use Rattle.domain_ranges.specs.Spans.{Span, IsSpans, members, has_int}
-use Rattle.domain_ranges.specs.Narrowing.{between, all_but}
+use Rattle.domain_ranges.specs.Narrowing.{all_but}
 use Rattle.domain_ranges.proofs.Members.{has_within, filter_inside, members_rising}
 use Rattle.domain_ranges.proofs.Images.{has_set, set_same}
 use Rattle.domain_ranges.proofs.Inside.{left_of}
@@ -56,16 +55,6 @@ fewer_left xs new z k e f l h = left_of xs (all_but z) new e (
   h,
   has_set INFINITY (λ m. not (int_eq (pos m) z)) k l ∙ ap not ((Decides-int_eq (pos k) z).1 (sym f)),
 )
-
--- the numbers of U but one are those outside an interval of one
-between_one : (z : ℤ) (n : ℕ) → int_eq (pos n) z ≡ (int_le z (pos n) && int_le (pos n) z)
-between_one z n = same_bool (int_eq (pos n) z) (int_le z (pos n) && int_le (pos n) z)
-    (λ e. let f : pos n ≡ z = (Decides-int_eq (pos n) z).0 e in subst (λ y. (int_le y (pos n) && int_le (pos n) y) ≡ true) f (grind (arith, ints)))
-    (λ e. let f : pos n ≡ z = grind (arith, ints, e) in (Decides-int_eq (pos n) z).1 f)
-
-pub all_but_is : (z : ℤ) → all_but z ≡ filter (λ n. not (has (between z z) n)) (universe INFINITY)
-all_but_is z = set_same INFINITY (λ n. not (int_eq (pos n) z)) (λ n. not (has (between z z) n)) (λ n l.
-    ap not (between_one z n ∙ sym (has_set INFINITY (λ m. int_le z (pos m) && int_le (pos m) z) n l)))
 
 -- an integer below the least or above the greatest member is no member
 pub no_member : (xs : List ℕ) (z : ℤ) → IsRising 0 INFINITY xs → (lt_z z (pos (least xs)) ≡ true) ⊎ (lt_z (pos (greatest xs)) z ≡ true) → has_int xs z ≡ false

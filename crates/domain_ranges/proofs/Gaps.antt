@@ -1,10 +1,10 @@
 -- The loop of the complement of a list of intervals.
-use Rattle.std.proofs.Common.{◌≡◌, ℕ, ◌+◌, ◌-◌, ◌<◌, ◌≤◌, false, not, ltb, List, [], ◌∷◌, ◌++◌, filter, refl, ap, ◌∙◌, subst, inl, inr, arith, length, get_or, drop, append-nil, drop_of_length-le}
+use Rattle.std.proofs.Common.{◌≡◌, ℕ, ◌+◌, ◌-◌, ◌<◌, ◌≤◌, false, not, ltb, List, [], ◌∷◌, ◌++◌, filter, ap, ◌∙◌, subst, inl, inr, arith, length, get_or, drop, append-nil, drop_of_length-le}
 use Rattle.std.proofs.lemmas.Bool.{cases_Bool}
 use Rattle.fd_language.specs.Family.{universe}
 use Rattle.domain_ranges.specs.Spans.{Span, within, IsSpans, members, interval_count, gap}
 use Rattle.domain_ranges.proofs.Spans.{in_head, past_first}
-use Rattle.domain_ranges.proofs.Made.{Made, IsNext, made_none, made_skip, made_push, made_all, made_many}
+use Rattle.domain_ranges.proofs.Made.{Made, IsNext, made_skip, made_push, made_all, made_many}
 use Rattle.domain_ranges.proofs.Meeting.{drop_next, below_first}
 use Rattle.domain_ranges.proofs.Places.{ltb_less, ltb_not}
 
@@ -15,9 +15,6 @@ pub record Gapped (M : ℕ) (ss out : List Span) (next : ℕ) (rest : List Span)
   pub spans : IsSpans low M rest
   pub start : next ≤ low
   pub same : (n : ℕ) → n ≤ M → next ≤ n → within ss n ≡ within rest n
-
-pub gapped_start : (M : ℕ) (ss : List Span) → IsSpans 0 M ss → Gapped M ss [] 0 ss
-gapped_start M ss r = record { made = made_none M (λ n. not (within ss n)); low = 0; spans = r; start = omega arith; same = λ n h g. refl }
 
 next_gap : (M : ℕ) (ss out : List Span) (next : ℕ) (x : Span) (xs : List Span) → Gapped M ss out next (x ∷ xs) → next < x.0 → IsNext M (λ n. not (within ss n)) next (next, x.0 - 1)
 next_gap M ss out next x xs g h =

@@ -52,11 +52,6 @@ some_has M f e h g = any_has f (universe M) e (in_universe M e h) g
 pub some_from : (M : ℕ) (f : ℕ → Bool) → some_number M f ≡ true → (e : ℕ) × (e ≤ M) × (f e ≡ true)
 some_from M f h = let a = any_from f (universe M) h in (a.0, has_high 0 M (universe M) a.0 (universe_rising M) a.1, a.2)
 
-pub some_same : (M : ℕ) (f g : ℕ → Bool) → ((e : ℕ) → e ≤ M → f e ≡ g e) → some_number M f ≡ some_number M g
-some_same M f g h = same_bool (some_number M f) (some_number M g)
-    (λ t. let s = some_from M f t in some_has M g s.0 s.1 (sym (h s.0 s.1) ∙ s.2))
-    (λ t. let s = some_from M g t in some_has M f s.0 s.1 (h s.0 s.1 ∙ s.2))
-
 int_same : (x y : ℤ) → x ≡ y → int_eq x y ≡ true
 int_same x y e = (Decides-int_eq x y).1 e
 

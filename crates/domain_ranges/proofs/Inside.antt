@@ -27,9 +27,6 @@ pub record Comparing (a b ra rb : List Span) : Type 0 where
   pub inside : AllIn ra rb → AllIn a b
   pub outside : SomeOut ra rb → SomeOut a b
 
-pub comparing_start : (a b : List Span) → Comparing a b a b
-comparing_start a b = record { inside = λ f. f; outside = λ f. f }
-
 -- an interval that ends below the first number to look for
 pass_other : (low M : ℕ) (a b xs ys : List Span) (x y : Span) → IsSpans low M (x ∷ xs) → y.1 < x.0 → Comparing a b (x ∷ xs) (y ∷ ys) → Comparing a b (x ∷ xs) ys
 pass_other low M a b xs ys x y r h c = record {
@@ -77,9 +74,6 @@ module _ (M : ℕ) (a b : List Span) (i j : ℕ) (r : IsSpans 0 M a) (q : IsSpan
 
   pub one_missing : j < length b → x.0 ≤ y.1 → (x.0 < y.0) ⊎ (y.1 < x.1) → SomeOut a b
   one_missing g e f = (both g).outside (missing left.0 (right g).0 M (drop (i + 1) a) (drop (j + 1) b) x y left.1 (right g).1 e f)
-
-pub all_compared : (a b : List Span) (i j : ℕ) → length a ≤ i → Comparing a b (drop i a) (drop j b) → AllIn a b
-all_compared a b i j h c = c.inside (λ n g. absurd (true≢false (sym g ∙ ap (λ l. within l n) (drop_of_length-le a h))))
 
 -- a set that loses a member is shorter
 pub loses : (xs ys : List ℕ) (n : ℕ) → has xs n ≡ true → has ys n ≡ false → length (filter (has ys) xs) < length xs

@@ -1,10 +1,10 @@
 -- A list of intervals that is being made, with its last interval still open to what touches it.
-use Rattle.std.proofs.Common.{◌≡◌, ℕ, ◌+◌, ◌<◌, ◌≤◌, Bool, true, false, ◌||◌, ◌&&◌, leb, List, [], ◌∷◌, ◌++◌, filter, refl, ap, sym, ◌∙◌, inl, inr, arith, length, max, append-nil, Option, Some, None, IsSome, IfSome, rules}
+use Rattle.std.proofs.Common.{◌≡◌, ℕ, ◌+◌, ◌<◌, ◌≤◌, Bool, true, false, ◌||◌, ◌&&◌, leb, List, [], ◌∷◌, ◌++◌, filter, refl, ap, sym, ◌∙◌, inl, inr, arith, length, max, append-nil, Option, Some, None, IsSome, IfSome}
 use Rattle.std.proofs.lemmas.Bool.{cases_Bool, true≢false}
 use Rattle.std.proofs.lemmas.Bool.Decides.{nat_tests}
 use Rattle.fd_language.specs.Family.{universe}
 use Rattle.domain_ranges.specs.Spans.{Span, within, IsSpans, members, interval_count, listed, written, joined}
-use Rattle.domain_ranges.proofs.Made.{Made, IsNext, made_none, made_push, made_all, made_many, out_high, out_low}
+use Rattle.domain_ranges.proofs.Made.{Made, IsNext, made_push, made_all, made_many, out_high, out_low}
 
 -- the least number of the open interval, or else the end of what is made
 abbrev pub front : Option Span → ℕ → ℕ
@@ -18,9 +18,6 @@ pub record Joining (M : ℕ) (p : ℕ → Bool) (out : List Span) (last : Option
   pub open_span : IsSpans at M (listed last)
   pub start : (n : ℕ) → rest n ≡ true → front last at ≤ n
   pub same : (n : ℕ) → n ≤ M → at ≤ n → p n ≡ (within (listed last) n || rest n)
-
-pub joining_start : (M : ℕ) (p : ℕ → Bool) → Joining M p [] None p
-joining_start M p = record { at = 0; made = made_none M p; open_span = tt; start = λ n h. omega arith; same = λ n g h. refl }
 
 -- x is the first of what is to come
 pub record IsFirst (M : ℕ) (rest : ℕ → Bool) (x : Span) (rest' : ℕ → Bool) : Type 0 where
@@ -157,11 +154,6 @@ pub done_many : (M : ℕ) (p : ℕ → Bool) (out : List Span) (s : Span) (rest 
 done_many M p out s rest j none l =
     let next = last_next M p out rest s j none in
     made_many M p out j.at s.0 j.made l next.from (omega (arith, next.order, next.high)) (next.inside s.0 (omega arith) next.order)
-
--- what the calls need, and what their want of memory tells
-pub open_high : (M : ℕ) (p : ℕ → Bool) (out : List Span) (last : Option Span) (rest : ℕ → Bool) → Joining M p out last rest → IfSome last (λ s. s.1 ≤ M)
-open_high M p out None rest j = search rules
-open_high M p out (Some s) rest j = j.open_span.2
 
 pub join_many : (M : ℕ) (p : ℕ → Bool) (out : List Span) (last : Option Span) (rest rest' : ℕ → Bool) (x : Span) → Joining M p out last rest → IsFirst M rest x rest' → IsSome last → IfSome last (λ s. s.1 + 1 < x.0) → 2 ≤ length out → 2 < interval_count (filter p (universe M))
 join_many M p out None rest rest' x j f is_some t l = absurd (true≢false (sym is_some))

@@ -43,10 +43,6 @@ below_first M low n x xs r h = not_within x.0 M n (x ∷ xs) (within (x ∷ xs) 
 le_max : (n a b : ℕ) → n < max a b → (n < a) ⊎ (n < b)
 le_max n a b h = grind arith
 
-or_none : (a b : ℕ) (A B : Bool) → (a ≡ b) ⊎ (b < a) → (a ≡ b → A ≡ false) → (b < a → B ≡ false) → (A ≡ false) ⊎ (B ≡ false)
-or_none a b A B (inl e) f g = inl (f e)
-or_none a b A B (inr e) f g = inr (g e)
-
 -- the interval in both is the next one
 next_meet : (M : ℕ) (p : ℕ → Bool) (out ra rb : List Span) (x y : Span) (s : Meeting M p out (x ∷ ra) (y ∷ rb)) → x.1 ≤ y.1 → max x.0 y.0 ≤ min x.1 y.1 → IsNext M p s.at (max x.0 y.0, min x.1 y.1)
 next_meet M p out ra rb x y s h g =

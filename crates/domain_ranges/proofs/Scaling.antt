@@ -5,7 +5,7 @@ use Rattle.std.proofs.Math.Nat.{mul-le-mul_right, mul-div_cancel, div-mul-le_sel
 use Rattle.fd_language.specs.Family.{universe}
 use Rattle.domain_ranges.specs.Spans.{Span, within, IsSpans, members, interval_count, scaled}
 use Rattle.domain_ranges.proofs.Spans.{within_low, in_head, past_first}
-use Rattle.domain_ranges.proofs.Made.{Made, IsNext, made_none, made_push, made_all, made_many}
+use Rattle.domain_ranges.proofs.Made.{Made, IsNext, made_push, made_all, made_many}
 use Rattle.domain_ranges.proofs.Meeting.{drop_next}
 use Rattle.domain_ranges.proofs.Dividing.{less_or}
 use Rattle.domain_ranges.proofs.Shifting.{not_true}
@@ -20,9 +20,6 @@ pub record Scaling (M c : ℕ) (ss out : List Span) (next : ℕ) (rest : List Sp
   pub spans : IsSpans low M rest
   pub same : (e : ℕ) → next ≤ e → within ss e ≡ within rest e
   pub inside : (x : Span) (xs : List Span) → rest ≡ x ∷ xs → next ≤ x.1
-
-pub scaling_start : (M c : ℕ) (ss : List Span) → IsSpans 0 M ss → Scaling M c ss [] 0 ss
-scaling_start M c ss r = record { at = 0; made = made_none M (scaled ss c); before = omega arith; done = λ e h. absurd (omega arith); low = 0; spans = r; same = λ e h. refl; inside = λ x xs h. omega arith }
 
 -- what a multiple is of
 pub scaled_from : (ss : List Span) (c n : ℕ) → scaled ss c n ≡ true → (n / c * c ≡ n) × (within ss (n / c) ≡ true)

@@ -6,7 +6,7 @@ use Rattle.std.proofs.lemmas.Bool.Decides.{nat_tests}
 use Rattle.std.proofs.lemmas.Int.{ints}
 use Rattle.fd_language.specs.Family.{universe}
 use Rattle.domain_ranges.specs.Spans.{Span, IsSpans, members, interval_count, shifted}
-use Rattle.domain_ranges.proofs.Made.{Made, IsNext, made_none, made_push, made_all, made_many}
+use Rattle.domain_ranges.proofs.Made.{Made, IsNext, made_push, made_all, made_many}
 use Rattle.domain_ranges.proofs.Meeting.{drop_next}
 use Rattle.domain_ranges.proofs.Joining.{either_false, either_true}
 
@@ -21,9 +21,6 @@ pub record Shifting (M : ℕ) (c : ℤ) (ss out rest : List Span) : Type 0 where
   pub spans : IsSpans low M rest
   pub start : (at ≡ 0) ⊎ (pos at ≤ℤ (pos low +ℤ c))
   pub same : (n : ℕ) → n ≤ M → at ≤ n → shifted ss c n ≡ shifted rest c n
-
-pub shifting_start : (M : ℕ) (c : ℤ) (ss : List Span) → IsSpans 0 M ss → Shifting M c ss [] ss
-shifting_start M c ss r = record { at = 0; made = made_none M (shifted ss c); low = 0; spans = r; start = inl refl; same = λ n h g. refl }
 
 pub comes_parts : (x : Span) (c : ℤ) (n : ℕ) → comes x c n ≡ true → ((pos x.0 +ℤ c) ≤ℤ pos n) × (pos n ≤ℤ (pos x.1 +ℤ c))
 comes_parts x c n h = grind (arith, ints)

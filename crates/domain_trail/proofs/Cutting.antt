@@ -6,8 +6,7 @@ use Rattle.fd_language.specs.declared.TheConstants.{INFINITY}
 use Rattle.fd_language.specs.Family.{has, universe, IsRising}
 use Rattle.fd_language.proofs.Lemmas.{has_high}
 use Rattle.domain_ranges.specs.Spans.{members}
-use Rattle.domain_ranges.specs.Narrowing.{all_but, AreEnds, IsInterval, IsPart, IsNarrowed, IsMembership}
-use Rattle.domain_ranges.specs.declared.Narrowed.{Narrowed}
+use Rattle.domain_ranges.specs.Narrowing.{all_but, AreEnds, IsInterval, IsPart, IsMembership}
 use Rattle.domain_ranges.specs.declared.Narrowed.TheVariants as left
 use Rattle.domain_ranges.specs.declared.Part.TheVariants.{Within}
 use Rattle.domain_ranges.specs.declared.Membership.TheVariants.{Among}
@@ -26,20 +25,6 @@ pub set_of_cell : (cs : List Cell) (s : Stores) (k : ℕ) (x : Cell) → sets_of
 set_of_cell cs s k x e l h =
     let within : k < length cs = omega (arith, same_length cs s.current e, l) in
     ap (λ (c : Cell). c.domain) h ∙ sym (get_or-map (λ (c : Cell). c.domain) cs k x (universe INFINITY) within) ∙ ap (λ (q : List (List ℕ)). get_or q k (universe INFINITY)) e
-
-pub none_is_left : (set d : List ℕ) (r : Narrowed) → r ≡ left.Empty → IsNarrowed d set r → filter (has set) d ≡ []
-none_is_left set d r e h = let n : IsNarrowed d set left.Empty = subst (IsNarrowed d set) e h in n
-
--- fewer members are written
-pub narrowed_cut : (set d : List ℕ) (k : ℕ) (old new : Stores) (r : Narrowed) (fewer : List ℕ) (before after : ℕ × ℕ) → d ≡ set_at old k → r ≡ left.Changed fewer → IsNarrowed d set r → new ≡ record old { current = slice_set old.current k fewer } → AreEnds before (set_at old k) → AreEnds after fewer
-    → IsCut set k old new (Changed before after)
-narrowed_cut set d k old new r fewer before after e i h g b a =
-    let n : IsNarrowed (set_at old k) set (left.Changed fewer) = subst (λ (x : List ℕ). IsNarrowed x set (left.Changed fewer)) e (subst (IsNarrowed d set) i h) in (
-      g ∙ ap (λ (l : List ℕ). record old { current = slice_set old.current k l }) n.0,
-      subst (λ (l : List ℕ). length l < length (set_at old k)) n.0 n.2,
-      b,
-      subst (AreEnds after) n.0 a,
-    )
 
 own : (low high : ℕ) → low ≤ high → high ≤ INFINITY → AreEnds (low, high) (members ((low, high) ∷ []))
 own low high l h =

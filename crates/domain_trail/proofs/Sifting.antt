@@ -2,7 +2,7 @@
 use Rattle.std.proofs.Common.{◌≡◌, ℕ, ◌+◌, ◌<◌, ◌≤◌, ◌-◌, ◌^◌, true, false, ◌||◌, ◌==◌, cond, List, [], ◌∷◌, ◌++◌, length, get_or, set, take, drop, refl, ap, sym, ◌∙◌, subst, inl, inr, ◌⊎◌, arith, eqb-true, All, append_assoc, append-nil}
 use Rattle.std.specs.Prelude.{filter, nat_lt}
 use Rattle.std.proofs.lemmas.Bool.{or_cases, or_left, or_right, cases_Bool, eqb-false, ltb-false, true≢false, lt-ltb, le-ltb}
-use Rattle.std.proofs.lemmas.List.{length-set, length-append, length-take-le, take-set-le, take-append-le, drop-append-le, take-append-drop, drop-drop, get_or-set_other, get_or-set_same, get_or-take, get_or-drop, set-set, take_more_set, take_all, drop-set-lt, length-drop}
+use Rattle.std.proofs.lemmas.List.{length-set, length-append, length-take-le, take-set-le, take-append-le, drop-append-le, take-append-drop, drop-drop, get_or-set_other, get_or-set_same, get_or-take, get_or-drop, set-set, take_more_set, drop-set-lt, length-drop}
 use Rattle.std.specs.List.{SwappedAt}
 use Rattle.std.proofs.Math.Seq.{take-add}
 use Rattle.std.proofs.lemmas.List.Elements.{All-take, All-drop, All-filter, All-append, filter_more}
@@ -17,10 +17,6 @@ pub all_sifted : (P : Saved → Type 0) (from stamp : ℕ) (es : List Saved) →
 all_sifted P from stamp es h =
     All-append P (take from es) (filter (λ e. nat_lt e.cell.stamp stamp) (drop from es)) (All-take P from es h)
     (All-filter (λ e. nat_lt e.cell.stamp stamp) P (drop from es) (All-drop P from es h))
-
--- a cell of another variable is put back
-other_since : (cs : List Cell) (j k s : ℕ) (c : Cell) → (k ≡ j → ⊥) → IsSince (set cs j c) k s → IsSince cs k s
-other_since cs j k s c n h d = subst (λ x. s ≤ x.stamp) (get_or-set_other cs j k c d n) (h d)
 
 since_other : (cs : List Cell) (j k s : ℕ) (c : Cell) → (k ≡ j → ⊥) → IsSince cs k s → IsSince (set cs j c) k s
 since_other cs j k s c n h d = subst (λ x. s ≤ x.stamp) (sym (get_or-set_other cs j k c d n)) (h d)
@@ -226,6 +222,3 @@ sifting_in from stamp old now zs k i x s less h early w =
       | inr e ↦ let other : k ≡ i → ⊥ = eqb-false k i e in
           take-set-le (k + 1) (set now k x) i (get_or now k x) (omega (arith, s.behind, other)) ∙ take_more_set now k x (omega (arith, s.behind, less))
     ]
-
-pub sifting_done : (from stamp : ℕ) (old now : List Saved) (k i : ℕ) → IsSifting from stamp old now k i → length now ≤ i → take k now ≡ sift from stamp old
-sifting_done from stamp old now k i s le = s.front ∙ ap (λ q. take from old ++ filter (λ e. nat_lt e.cell.stamp stamp) q) (take_all (i - from) (drop from old) (omega (arith, length-drop from old, s.long, le)))

@@ -1,7 +1,7 @@
 //! Domains that are changed in place, with marks to which they go back.
 #![tactic(auto)]
 
-ghost use Rattle.std.specs.Prelude.{◌≡◌, ◌<◌, ◌≤◌, ℕ, List, pos, filter, [], ◌∷◌, ◌++◌, length, take, drop, slice_set, slice_index_or, IfOk, OnOk, OnErr, IsTrue, false};
+ghost use Rattle.std.specs.Prelude.{◌≡◌, ◌<◌, ◌≤◌, ℕ, List, pos, filter, [], ◌∷◌, ◌++◌, length, take, drop, slice_set, IfOk, OnOk, OnErr, IsTrue, false};
 ghost use Rattle.fd_language.specs.Family.{has, universe};
 ghost use Rattle.fd_language.specs.Range.{least, greatest, is_none_left};
 ghost use Rattle.domain_ranges.specs.Spans.{members};

@@ -3,9 +3,6 @@ use Rattle.std.proofs.Common.{◌≡◌, ℕ, Bool, true, false, cond, ◌||◌,
 use Rattle.fd_language.specs.declared.range_node.Offence.{Offence}
 use Rattle.fd_language.specs.RangeVerdict.{offence_place, offence_kind, is_before, earlier, first}
 
-before : ℕ → ℕ → ℕ → ℕ → Bool
-before p k q l = nat_lt p q || ((p == q) && nat_lt k l)
-
 both_before : (p k q l m n : ℕ) → (nat_lt p q || ((p == q) && nat_lt k l)) ≡ true → (nat_lt q m || ((q == m) && nat_lt l n)) ≡ true → (nat_lt p m || ((p == m) && nat_lt k n)) ≡ true
 both_before p k q l m n h g = grind (arith, eqb-true)
 
@@ -40,10 +37,6 @@ earlier_assoc (Some a) (Some b) (Some c) = regroup (is_before b a) (is_before c 
     (λ h g. both_before (offence_place c) (offence_kind c) (offence_place b) (offence_kind b) (offence_place a) (offence_kind a) g h)
     (λ h g. neither_before (offence_place c) (offence_kind c) (offence_place b) (offence_kind b) (offence_place a) (offence_kind a) g h)
     (split_left (is_before b a) a b c) (split_right (is_before c b) a b c)
-
-pub earlier_none : (a : Option Offence) → earlier a None ≡ a
-earlier_none None = refl
-earlier_none (Some a) = refl
 
 pub first-append : (xs ys : List Offence) → first (xs ++ ys) ≡ earlier (first xs) (first ys)
 first-append [] ys = refl

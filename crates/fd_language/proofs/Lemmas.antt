@@ -20,7 +20,7 @@ pub use Rattle.fd_language.proofs.AskedParameters.{Asked, asked_params, nothing_
 pub use Rattle.fd_language.proofs.PartNeeds.{expr_meets, over_meets, range_meets, needs_met}
 pub use Rattle.fd_language.proofs.Limits.{least_small, abs_add, abs_sub, abs_mul, sums, products, not_over, bounded_values}
 pub use Rattle.fd_language.proofs.NoOffences.{nil-first, nil-range}
-pub use Rattle.fd_language.proofs.FirstOffence.{first-append, first_two, first_three, earlier_assoc, earlier_none}
+pub use Rattle.fd_language.proofs.FirstOffence.{first-append, first_two, first_three, earlier_assoc}
 pub use Rattle.fd_language.proofs.VerdictLaw.{verdict_agrees}
 -- Tokens, the operators of the table, and readings.
 pub use Rattle.fd_language.proofs.TokenLaws.{front_empty, gap_grows, token_grows, one_list, one_fault, not_both, one_verdict}
@@ -29,7 +29,7 @@ pub use Rattle.fd_language.proofs.QuotedAtoms.{front_past, front_broken, spells_
 pub use Rattle.fd_language.proofs.OperatorLaws.{within_infix}
 pub use Rattle.fd_language.proofs.ReadingWhole.{accepts}
 pub use Rattle.fd_language.proofs.ReadingLaws.{one_verdict_of_reading}
-pub use Rattle.fd_language.proofs.SentenceVariables.{stands, below, each_below, as_many}
+pub use Rattle.fd_language.proofs.SentenceVariables.{each_below, as_many}
 -- Substitutions and most general unifiers.
 unfoldable pub use Rattle.fd_language.proofs.Substituting.{after, number_for}
 pub use Rattle.fd_language.proofs.Substituting.{after_is, identity, through_term, still_unifies, number_at, number_back}

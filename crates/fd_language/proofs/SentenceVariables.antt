@@ -1,11 +1,10 @@
 -- The variables of a sentence are those that its term has.
 use Rattle.std.proofs.Common.{◌≡◌, ℕ, suc, ◌+◌, ◌<◌, inl, inr, List, [], ◌∷◌, ◌++◌, length, map, Bool, true, false, Some, cond, refl, sym, ap, subst, ◌∙◌, arith, length-append, append_assoc, eq-eqb}
-use Rattle.std.specs.Prelude.{reverse, ◌==◌, ◌||◌, not, All}
+use Rattle.std.specs.Prelude.{reverse, ◌==◌, ◌||◌, not}
 use Rattle.std.specs.List.{position_or_len, list_any, AllByRecursion}
 use Rattle.std.specs.Str.{bytes_eq}
 use Rattle.std.proofs.lemmas.Bool.{or_left, true≢false, cases_lt}
 use Rattle.std.proofs.lemmas.List.{append-nil, map-append, reverse-append, reverse-reverse, length-map}
-use Rattle.std.proofs.lemmas.List.Elements.{All-from_recursion}
 use Rattle.fd_language.specs.Term.{Name}
 use Rattle.fd_language.specs.Family.{has}
 use Rattle.fd_language.specs.Variables.{variables_of, variables_of_all}
@@ -220,17 +219,6 @@ named_by_recursion text ss a =
     let fit = terms_fit a.lexemes (reverse terms) a.terms.text in
     each_named ss
     (subst (λ (ns : List (List Name)). Fit (map shown terms) ns) (sym a.names) (subst (λ (ts : List PlacedTerm). Fit (map shown ts) (sentence_names [] a.lexemes)) (reverse-reverse terms) fit))
-
-all_named : (text : List ℕ) (ss : List Sentence) → IsSentences text ss → All Named ss
-all_named text ss a = All-from_recursion Named ss (named_by_recursion text ss a)
-
--- each number below the number of names is a variable of the sentence
-pub stands : (text : List ℕ) (ss : List Sentence) → IsSentences text ss → All (λ s. (x : ℕ) → x < length s.names → has (variables_of (plain s.term)) x ≡ true) ss
-stands text ss a k d lt = (all_named text ss a k d lt).each
-
--- and there are no others
-pub below : (text : List ℕ) (ss : List Sentence) → IsSentences text ss → All (λ s. (x : ℕ) → has (variables_of (plain s.term)) x ≡ true → x < length s.names) ss
-below text ss a k d lt = (all_named text ss a k d lt).only
 
 only_below : (ss : List Sentence) → AllByRecursion Named ss → Each (λ s. (x : ℕ) → has (variables_of (plain s.term)) x ≡ true → x < length s.names) ss
 only_below [] h = tt

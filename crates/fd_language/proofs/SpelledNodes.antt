@@ -1,5 +1,5 @@
 -- A list of nodes spells a range where its counts come out even.
-use Rattle.std.proofs.Common.{◌≡◌, ◌↔◌, IsTrue, nat_eq, get_or, drop, ℕ, ◌+◌, ◌-◌, ◌<◌, ◌≤◌, Bool, true, false, not, List, [], ◌∷◌, length, Option, Some, None, refl, sym, ◌∙◌, ap, subst, inl, inr, arith, ◌⊎◌}
+use Rattle.std.proofs.Common.{◌≡◌, ◌↔◌, IsTrue, nat_eq, get_or, drop, ℕ, ◌+◌, ◌-◌, ◌<◌, ◌≤◌, Bool, true, false, not, List, [], ◌∷◌, length, Option, Some, None, refl, sym, ◌∙◌, ap, subst, arith, ◌⊎◌}
 use Rattle.std.proofs.lemmas.Bool.{true≢false, not-true, not-false}
 use Rattle.fd_language.specs.declared.range_node.RangeNode.{RangeNode}
 use Rattle.fd_language.specs.declared.range_node.RangeNode.TheVariants as node
@@ -29,45 +29,6 @@ range_put (range_of_range make) ns (r ∷ rs) [] g t h = (make r ∷ rs, [], ome
 range_put (range_of_ranges make) ns (q ∷ r ∷ rs) [] g t h = (make r q ∷ rs, [], omega arith, refl, refl)
 range_put (range_of_both make) ns (r ∷ rs) (c ∷ []) g t h = (make r c ∷ rs, [], omega arith, refl, refl)
 range_put s ns rs ts g t h = absurd (omega arith)
-
--- nothing is built where there are too few terms or ranges,
-few_terms : (s : Shape) (rs : List Range) (ts : List Expr) → length ts < (taken s).terms → put s rs ts ≡ None
-few_terms (term_of_terms make) rs (b ∷ a ∷ ts) h = absurd (omega arith)
-few_terms (range_of_term make) rs (b ∷ ts) h = absurd (omega arith)
-few_terms (range_of_terms make) rs (b ∷ a ∷ ts) h = absurd (omega arith)
-few_terms (range_of_both make) rs (b ∷ ts) h = absurd (omega arith)
-few_terms (term_alone e) rs ts h = absurd (omega arith)
-few_terms (range_alone r) rs ts h = absurd (omega arith)
-few_terms (range_of_range make) rs ts h = absurd (omega arith)
-few_terms (range_of_ranges make) rs ts h = absurd (omega arith)
-few_terms (range_of_both make) [] [] h = refl
-few_terms (range_of_both make) (r ∷ rs) [] h = refl
-few_terms s rs ts h = refl
-
-few_ranges : (s : Shape) (rs : List Range) (ts : List Expr) → length rs < (taken s).ranges → put s rs ts ≡ None
-few_ranges (range_of_range make) (r ∷ rs) ts h = absurd (omega arith)
-few_ranges (range_of_range make) [] ts h = refl
-few_ranges (range_of_ranges make) (q ∷ r ∷ rs) ts h = absurd (omega arith)
-few_ranges (range_of_ranges make) rs ts h = refl
-few_ranges (range_of_both make) (r ∷ rs) ts h = absurd (omega arith)
-few_ranges (range_of_both make) [] ts h = refl
-few_ranges s rs ts h = absurd (omega arith)
-
--- or terms over, under a range
-more_terms : (s : Shape) (rs : List Range) (ts : List Expr) → (taken s).gives_range ≡ true → (taken s).terms < length ts → put s rs ts ≡ None
-more_terms (term_alone e) rs ts g h = absurd (true≢false (sym g))
-more_terms (term_of_terms make) rs ts g h = absurd (true≢false (sym g))
-more_terms (range_alone r) rs (c ∷ ts) g h = refl
-more_terms (range_of_term make) rs (b ∷ c ∷ ts) g h = refl
-more_terms (range_of_terms make) rs (b ∷ a ∷ c ∷ ts) g h = refl
-more_terms (range_of_range make) [] (c ∷ ts) g h = refl
-more_terms (range_of_range make) (r ∷ rs) (c ∷ ts) g h = refl
-more_terms (range_of_ranges make) [] (c ∷ ts) g h = refl
-more_terms (range_of_ranges make) (q ∷ []) (c ∷ ts) g h = refl
-more_terms (range_of_ranges make) (q ∷ r ∷ rs) (c ∷ ts) g h = refl
-more_terms (range_of_both make) [] (c ∷ d ∷ ts) g h = refl
-more_terms (range_of_both make) (r ∷ rs) (c ∷ d ∷ ts) g h = refl
-more_terms s rs ts g h = absurd (omega arith)
 
 -- the nodes of what waits, from the bottom, and then the nodes that follow
 abbrev terms_then : List Expr → List RangeNode → List RangeNode
@@ -173,18 +134,6 @@ after_range n o ranges terms e f l i ns rs ts h g =
     (subst (λ q. IsReached (built (n ∷ ns) rs ts) ns (length rs - q.ranges + 1) 0) (sym e)
     (range_put (shape_of n) ns rs ts (ap (λ q. q.gives_range) (sym e) ∙ not-false o.gives_range f) (g ∙ (i ∙ ap (λ q. q.terms) e))
     (subst (λ q. q.ranges ≤ length rs) e (subst (λ k. o.ranges ≤ k) (sym h) l))))
-
-pub after_few : (n : RangeNode) (o : Operands) (ranges terms : ℕ) → o ≡ takes n → ranges < o.ranges ⊎ terms < o.terms →
-    (ns : List RangeNode) (rs : List Range) (ts : List Expr) → length rs ≡ ranges → length ts ≡ terms → built (n ∷ ns) rs ts ≡ None
-after_few n o ranges terms e l ns rs ts h g = elim l [
-  | inl k ↦ ap (built_behind ns) (few_ranges (shape_of n) rs ts (subst (λ q. length rs < q.ranges) e (subst (λ m. m < o.ranges) (sym h) k)))
-  | inr k ↦ ap (built_behind ns) (few_terms (shape_of n) rs ts (subst (λ q. length ts < q.terms) e (subst (λ m. m < o.terms) (sym g) k)))
-]
-
-pub after_more : (n : RangeNode) (o : Operands) (ranges terms : ℕ) → o ≡ takes n → not o.gives_range ≡ false → o.terms < terms →
-    (ns : List RangeNode) (rs : List Range) (ts : List Expr) → length rs ≡ ranges → length ts ≡ terms → built (n ∷ ns) rs ts ≡ None
-after_more n o ranges terms e f l ns rs ts h g =
-    ap (built_behind ns) (more_terms (shape_of n) rs ts (ap (λ q. q.gives_range) (sym e) ∙ not-false o.gives_range f) (subst (λ q. q.terms < length ts) e (subst (λ m. o.terms < m) (sym g) l)))
 
 pub ends_none : (ns : List RangeNode) (i : ℕ) (d : RangeNode) (ranges terms : ℕ) → i < length ns → IsReached (built ns [] []) (drop i ns) ranges terms →
     ((ms : List RangeNode) (rs : List Range) (ts : List Expr) → length rs ≡ ranges → length ts ≡ terms → built (get_or ns i d ∷ ms) rs ts ≡ None) →

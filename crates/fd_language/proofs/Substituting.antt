@@ -66,7 +66,3 @@ mutual
 
 pub identity : IsMostGeneral [] Var
 identity = record { unifies = tt; general = λ u x h. refl }
-
--- it is the only one
-pub only_identity : (s : Substitution) → IsMostGeneral [] s → (x : ℕ) → s x ≡ Var x
-only_identity s g x = sym (apply_vars (s x)) ∙ g.general Var x tt

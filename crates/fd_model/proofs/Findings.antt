@@ -163,9 +163,6 @@ list_stays : (look : Substitution) (ns : Numbers) → apply look (interval_list 
 list_stays look (one z) = refl
 list_stays look (those ns) = intervals_stay look (intervals ns)
 
-decided_same : (look : Substitution) (b c : Bool) → c ≡ b → SameFinding look (decided b) (decided c)
-decided_same look b c e = ap decided e
-
 compared_same : (look : Substitution) (holds : ℤ → ℤ → Bool) (l l' r r' : Result ℤ QueryFault) → l' ≡ l → r' ≡ r → SameFinding look (compared holds l r) (compared holds l' r')
 compared_same look holds (Err f) l' r r' e i = ap (λ x. compared holds x r') e
 compared_same look holds (Ok a) l' (Err f) r' e i = two (compared holds) e i

@@ -36,8 +36,6 @@ pub mod FlatSeen
 pub mod FlatExpanding
 pub mod PostingRanges
 pub mod FlatPosting
-pub mod CollectSteps
-pub mod BooleanRules
 pub mod Lists
 pub mod Searching
 pub mod Models

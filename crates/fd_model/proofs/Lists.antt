@@ -10,11 +10,6 @@ module _ {X : Type 0} where
   each_at H (x ∷ xs) G A h (inl g) f = f x h.0 g
   each_at H (x ∷ xs) G A h (inr g) f = each_at H xs G A h.1 g f
 
-  pub some_map : (H G : X → Type 0) → ((x : X) → H x → G x) → (xs : List X) → Somewhere H xs → Somewhere G xs
-  some_map H G f [] h = h
-  some_map H G f (x ∷ xs) (inl h) = inl (f x h)
-  some_map H G f (x ∷ xs) (inr h) = inr (some_map H G f xs h)
-
   pub some_left : (H : X → Type 0) (xs ys : List X) → Somewhere H xs → Somewhere H (xs ++ ys)
   some_left H [] ys h = absurd h
   some_left H (x ∷ xs) ys (inl h) = inl h

@@ -10,7 +10,7 @@ use Rattle.fd_language.specs.Range.{Range, One, Outside, Over, Expr, Infinity, V
 use Rattle.fd_language.specs.Places.{expr_places, range_places}
 use Rattle.fd_language.specs.Spelling.{Parsed, read, offends, expr_operator, expr_feature, read_feature, read_operator, read_expr, RangeForm, of_terms, of_ranges, pointwise, no_form, range_form, empty_range, read_form, read_dom, read_one, read_range}
 use Rattle.fd_language.specs.Variables.{variables_of, variables_of_all}
-use Rattle.fd_language.specs.Reading.{Sentence, sentences, token_fault, syntax_fault, too_deep}
+use Rattle.fd_language.specs.Reading.{Sentence, sentences}
 use Rattle.fd_language.specs.Reading as reading
 use Rattle.fd_model.specs.Forms.{GoalForm, truth, failure, unification, posting, constraint, labelling, builtin}
 use Rattle.fd_model.specs.Refusals.{Form, query, clause, directive, fact, form_of, functor_of, second_part, Refusal, first_refusal}

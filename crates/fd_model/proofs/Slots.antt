@@ -6,7 +6,7 @@ use Rattle.fd_language.specs.Unifier.{Unifies}
 use Rattle.fd_language.specs.Family.{has}
 use Rattle.fd_language.specs.Places.{Place}
 use Rattle.fd_model.specs.Posting.{is_integer, integers_at, slot, slot_equations}
-use Rattle.fd_language.proofs.Lemmas.{has_either, in_left, in_right}
+use Rattle.fd_language.proofs.Lemmas.{has_either}
 use Rattle.fd_model.specs.Satisfies.{Assignment}
 use Rattle.fd_language.specs.Lists.{Each}
 use Rattle.fd_model.specs.Answers.{Somewhere}
@@ -51,35 +51,12 @@ integers_are look (p ∷ ps) ys h = rw h.0 (two_ways (not (is_integer (look p.va
 not_or : (a b : Bool) → (not a || b) ≡ false → (a ≡ true) × (b ≡ false)
 not_or a b h = grind arith
 
-not_or_true : (a b : Bool) → (not a || b) ≡ true → a ≡ true → b ≡ true
-not_or_true a b h g = grind arith
-
 module _ (look : Substitution) where
   pub integers_apart : (xs ys : List ℕ) → Apart ys → Apart (integers look xs ys)
   integers_apart [] ys h = h
   integers_apart (x ∷ xs) ys h = elim (cases_Bool (not (is_integer (look x)) || has ys x)) [
     | inl e ↦ rw e (integers_apart xs ys h)
     | inr e ↦ rw e (integers_apart xs (ys ++ x ∷ []) (apart_more ys x h (not_or (is_integer (look x)) (has ys x) e).1))
-  ]
-
-  pub integers_keep : (xs ys : List ℕ) (y : ℕ) → has ys y ≡ true → has (integers look xs ys) y ≡ true
-  integers_keep [] ys y h = h
-  integers_keep (x ∷ xs) ys y h = elim (cases_Bool (not (is_integer (look x)) || has ys x)) [
-    | inl e ↦ rw e (integers_keep xs ys y h)
-    | inr e ↦ rw e (integers_keep xs (ys ++ x ∷ []) y (in_left ys (x ∷ []) y h))
-  ]
-
-  pub integers_there : (xs ys : List ℕ) (y : ℕ) → has xs y ≡ true → is_integer (look y) ≡ true → has (integers look xs ys) y ≡ true
-  integers_there [] ys y h i = absurd (true≢false (sym h))
-  integers_there (x ∷ xs) ys y h i = elim (cases_Bool (not (is_integer (look x)) || has ys x)) [
-    | inl e ↦ rw e (elim (or_cases (x == y) (has xs y) h) [
-      | inl k ↦ let same = eqb-true x y k in integers_keep xs ys y (subst (λ z. has ys z ≡ true) same (not_or_true (is_integer (look x)) (has ys x) e (subst (λ z. is_integer (look z) ≡ true) (sym same) i)))
-      | inr k ↦ integers_there xs ys y k i
-    ])
-    | inr e ↦ rw e (elim (or_cases (x == y) (has xs y) h) [
-      | inl k ↦ integers_keep xs (ys ++ x ∷ []) y (in_right ys (x ∷ []) y (or_left (x == y) false k))
-      | inr k ↦ integers_there xs (ys ++ x ∷ []) y k i
-    ])
   ]
 
   abbrev From : List ℕ → List ℕ → ℕ → Type 0

@@ -29,7 +29,6 @@ pub mod Satisfies
 pub mod ConstraintLaws
 pub mod FlatConstraints
 pub mod PostingLaws
-pub mod CollectTasks
 pub mod Answers
 pub mod LabellingLaws
 pub mod Ways
@@ -37,7 +36,6 @@ pub mod FlatQueries
 pub mod FlatLines
 pub mod FlatOutput
 pub mod ProgramLaws
-pub mod BooleanRows
 pub mod Changes
 pub mod Weights
 pub mod Levels

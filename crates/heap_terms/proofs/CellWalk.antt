@@ -9,20 +9,19 @@ use Rattle.term_pool.specs.declared.TermId.{TermId}
 use Rattle.term_pool.specs.Contents.{Contents, name_in}
 use Rattle.term_pool.specs.Terms.{Extends, KeepsTerms}
 use Rattle.term_pool.specs.Terms as pool
-use Rattle.term_pool.proofs.Lemmas.{extends_refl, extends_trans, terms_by_same}
+use Rattle.term_pool.proofs.Lemmas.{extends_trans, terms_by_same}
 use Rattle.heap_cells.specs.declared.Cell.{Cell}
 use Rattle.heap_cells.specs.Cells.{Cells, IsOf}
 use Rattle.heap_cells.specs.Terms.{terms_by}
 use Rattle.heap_cells.specs.Atoms.{IsAtomBelow}
-use Rattle.heap_cells.proofs.Lemmas.{head_of, tail_of, none_at_all, both_of, all_front, last_of, all_push, all_reverse}
+use Rattle.heap_cells.proofs.Lemmas.{head_of, tail_of, none_at_all, both_of, all_front, all_push, all_reverse}
 use Rattle.heap_terms.specs.declared.Reading.{Reading}
 use Rattle.heap_terms.specs.declared.Reading.TheVariants.{Visit, Make}
 use Rattle.heap_terms.specs.Values.{shown_term}
 use Rattle.heap_terms.specs.Tasks.{visit, make, to_terms, Leaves}
 use Rattle.heap_terms.specs.Reading.{PlacesAtZero, CanRead, VisitsCell, MakesTerm, task_of}
-use Rattle.heap_terms.proofs.Tasks.{leaves_first}
-use Rattle.heap_terms.proofs.Stacks.{map_agrees, map_map, Walks, effort, walks_result, result_smaller, walks_parts, parts_smaller, walks_few, walks_made, made_smaller, walks_end}
-use Rattle.heap_terms.proofs.Pools.{places_same, places_both, all_take, all_drop}
+use Rattle.heap_terms.proofs.Stacks.{map_agrees, map_map, Walks, effort, walks_result, result_smaller, walks_parts, parts_smaller, walks_made}
+use Rattle.heap_terms.proofs.Pools.{places_both, all_take, all_drop}
 
 -- the terms of cells, and of ids, as lists
 pub to_terms-cells : (by : Cell → Term) (cs : List Cell) → to_terms (map by cs) ≡ terms_by by cs
@@ -56,16 +55,6 @@ module _ (names : List Name) (h : Cells) (sets : List (List ℕ)) (c : Cell) (be
   abbrev pub ahead_of : List Reading → ℕ
   ahead_of ks = effort Reading TermId (task_of names h sets) (pool.term_of before) (shown_term (name_in names) h sets c) ks
 
-  pub reading_first : (ks : List Reading) (ds : List TermId) → ks ≡ Visit c ∷ [] → ds ≡ [] → IsOf h c → IsAtomBelow (length names) c → IsReading names h sets c before before ks ds
-  reading_first ks ds e f o a = subst (λ js. IsReading names h sets c before before js ds) (sym e) (subst (λ xs. IsReading names h sets c before before (Visit c ∷ []) xs) (sym f) (record {
-    tasks = both_of (CanRead names h) (Visit c) [] (o, a) (none_at_all (CanRead names h));
-    own = none_at_all (Own before);
-    leaves = leaves_first (shown_term (name_in names) h sets c);
-    extends = extends_refl before;
-    kept = λ t l. refl;
-    places = places_same before before refl;
-  }))
-
   more_ids : (p q : Contents) → Extends p q → length p.entries ≤ length q.entries
   more_ids p q x = omega (arith, ap (λ es. length es) x.entries.1, length-append p.entries x.entries.0)
 
@@ -85,8 +74,6 @@ module _ (names : List Name) (h : Cells) (sets : List (List ℕ)) (c : Cell) (be
 
   -- a cell was looked at
   module _ (p q : Contents) (ks rest ms : List Reading) (ds es : List TermId) (d : Cell) (split : ks ≡ rest ++ Visit d ∷ []) (extends : Extends p q) (kept : KeepsTerms p q) (places : PlacesAtZero p q) (w : IsReading names h sets c before p ks ds) where
-    pub next_can : IsOf h d × IsAtomBelow (length names) d
-    next_can = last_of (CanRead names h) rest (Visit d) (subst (All (CanRead names h)) split w.tasks)
 
     before_it : All (CanRead names h) rest
     before_it = all_front (CanRead names h) rest (Visit d ∷ []) (subst (All (CanRead names h)) split w.tasks)
@@ -136,14 +123,6 @@ module _ (names : List Name) (h : Cells) (sets : List (List ℕ)) (c : Cell) (be
 
   -- a compound term was made
   module _ (p q : Contents) (ks rest : List Reading) (ds es : List TermId) (f : AtomId) (n : ℕ) (split : ks ≡ rest ++ Make f n ∷ []) (w : IsReading names h sets c before p ks ds) where
-    pub name_can : f.number < length names
-    name_can = last_of (CanRead names h) rest (Make f n) (subst (All (CanRead names h)) split w.tasks)
-
-    pub count_can : n ≤ length ds
-    count_can = walks_few Reading TermId (task_of names h sets) (pool.term_of p) (shown_term (name_in names) h sets c) ks rest (Make f n) (name_in names f) n split refl ds w.leaves
-
-    pub made_smaller_on : ahead_of rest < ahead_of ks
-    made_smaller_on = made_smaller Reading TermId (task_of names h sets) (pool.term_of before) (shown_term (name_in names) h sets c) ks rest (Make f n) (name_in names f) n split refl
 
     pub made_on : Extends p q → KeepsTerms p q → PlacesAtZero p q → MakesTerm names f n p ds q es → IsReading names h sets c before q rest es
     made_on x k z (t, o, is, e) =
@@ -159,7 +138,3 @@ module _ (names : List Name) (h : Cells) (sets : List (List ℕ)) (c : Cell) (be
           kept = now.kept;
           places = now.places;
         }
-
-  -- no task is left
-  pub reading_last : (p : Contents) (ks : List Reading) (ds : List TermId) (d : TermId) → ks ≡ [] → IsReading names h sets c before p ks ds → (0 < length ds) × (pool.term_of p (get_or ds 0 d) ≡ shown_term (name_in names) h sets c)
-  reading_last p ks ds d e w = walks_end Reading TermId (task_of names h sets) (pool.term_of p) (shown_term (name_in names) h sets c) ks ds d e w.leaves

@@ -1,5 +1,5 @@
 -- A walk's tasks and results as the code keeps them: the next task and the newest result last.
-use Rattle.std.proofs.Common.{◌≡◌, ℕ, ◌-◌, ◌<◌, ◌≤◌, refl, ap, sym, ◌∙◌, subst, arith, List, [], ◌∷◌, ◌++◌, length, get_or, take, drop}
+use Rattle.std.proofs.Common.{◌≡◌, ℕ, ◌-◌, ◌<◌, ◌≤◌, refl, ap, sym, ◌∙◌, subst, arith, List, [], ◌∷◌, ◌++◌, length, take, drop}
 use Rattle.std.specs.Prelude.{map, reverse, All}
 use Rattle.std.proofs.lemmas.List.{map-append, take-map, drop-map, length-map}
 use Rattle.fd_language.specs.Term.{Name, Term, Comp}
@@ -54,8 +54,6 @@ module _ (A R : Type 0) (task : A → Task) (term : R → Term) (g : Term) where
 
   -- the last results become a compound term
   module _ (ks rest : List A) (k : A) (n : Name) (i : ℕ) (split : ks ≡ rest ++ k ∷ []) (is : task k ≡ make n i) where
-    pub walks_few : (ds : List R) → Walks ks ds → i ≤ length ds
-    walks_few ds w = let l : Leaves (make n i ∷ stack A task rest) (map term ds) g = subst (λ js. Leaves js (map term ds) g) (last_task ks rest k (make n i) split is) w in let q : i ≤ length (map term ds) = l.ready.0 in omega (arith, length-map ds term)
 
     pub walks_made : (ds es : List R) (r : R) → term r ≡ Comp n (to_terms (map term (drop (length ds - i) ds))) → es ≡ take (length ds - i) ds ++ r ∷ [] → Walks ks ds → Walks rest es
     walks_made ds es r q e w =
@@ -68,14 +66,3 @@ module _ (A R : Type 0) (task : A → Task) (term : R → Term) (g : Term) where
         ∙ ap (λ xs. map term (take (length ds - i) ds) ++ Comp n (to_terms xs) ∷ []) (drop-map term (length ds - i) ds)
         ∙ sym (pushed (take (length ds - i) ds) es r (Comp n (to_terms (map term (drop (length ds - i) ds)))) e q) in
         subst (λ xs. Leaves (stack A task rest) xs g) same now
-
-    pub made_smaller : effort rest < effort ks
-    made_smaller = let e = ap ahead (last_task ks rest k (make n i) split is) in omega arith
-
-  -- no task is left
-  one_result : (ds : List R) (d : R) → map term ds ≡ g ∷ [] → (0 < length ds) × (term (get_or ds 0 d) ≡ g)
-  one_result [] d e = cc
-  one_result (x ∷ xs) d e = (omega arith, let q : term x ≡ g = cc in q)
-
-  pub walks_end : (ks : List A) (ds : List R) (d : R) → ks ≡ [] → Walks ks ds → (0 < length ds) × (term (get_or ds 0 d) ≡ g)
-  walks_end ks ds d e w = let l : Leaves [] (map term ds) g = subst (λ js. Leaves (stack A task js) (map term ds) g) e w in one_result ds d l.ends

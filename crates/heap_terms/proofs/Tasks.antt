@@ -1,5 +1,5 @@
 -- A compound term is visited by visits of its parts and one task that makes it.
-use Rattle.std.proofs.Common.{◌≡◌, ℕ, suc, ◌+◌, ◌-◌, ◌*◌, ◌<◌, ◌≤◌, refl, ap, sym, ◌∙◌, subst, arith, List, [], ◌∷◌, ◌++◌, length, take, drop, append_assoc, length-append}
+use Rattle.std.proofs.Common.{◌≡◌, ℕ, suc, ◌+◌, ◌-◌, ◌*◌, ◌<◌, ◌≤◌, ap, sym, ◌∙◌, subst, arith, List, [], ◌∷◌, ◌++◌, length, take, drop, append_assoc, length-append}
 use Rattle.std.specs.Prelude.{map, reverse}
 use Rattle.std.proofs.lemmas.List.{append-nil, length-take-le, map-append, reverse-append, reverse-reverse}
 use Rattle.std.proofs.Math.Seq.{take-append_seam, drop-append_seam}
@@ -32,10 +32,6 @@ visits_ahead (t ∷ ts) ks = let e = visits_ahead ts ks in omega arith
 
 pub compound_ahead : (f : Name) (ts : List Term) (ks : List Task) → ahead (map visit ts ++ make f (length ts) ∷ ks) < ahead (visit (Comp f (to_terms ts)) ∷ ks)
 compound_ahead f ts ks = let e = visits_ahead ts (make f (length ts) ∷ ks) in omega arith
-
--- A walk's first step.
-pub leaves_first : (t : Term) → Leaves (visit t ∷ []) [] t
-leaves_first t = record { ends = refl; ready = refl }
 
 -- A term that is looked at becomes a result.
 pub leaves_result : (t : Term) (ks : List Task) (ds : List Term) (g : Term) → Leaves (visit t ∷ ks) ds g → Leaves ks (ds ++ t ∷ []) g

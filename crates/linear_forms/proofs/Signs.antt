@@ -24,9 +24,6 @@ neg_abs (negsuc n) = refl
 pub is_zero : (z : ℤ) → int_eq z (pos 0) ≡ true → z ≡ pos 0
 is_zero z h = grind (arith, ints)
 
-pub not_zero : (z : ℤ) → int_eq z (pos 0) ≡ false → (z ≡ pos 0 → ⊥)
-not_zero z h e = grind (arith, ints)
-
 neg_zero : (z : ℤ) → int_eq (neg_ℤ z) (pos 0) ≡ int_eq z (pos 0)
 neg_zero (pos zero) = refl
 neg_zero (pos (suc n)) = grind (arith, ints)

@@ -8,12 +8,8 @@ use Rattle.linear_forms.specs.declared.sums.Sum.{Sum}
 use Rattle.linear_forms.specs.declared.walk.Made.{Made}
 use Rattle.linear_forms.specs.Form.{IsFaultOf}
 use Rattle.linear_forms.specs.Sums.{IsSum, Gives}
-use Rattle.linear_forms.specs.Tasks.{before, on_two, AreSums, Makes, TakesTwo, HasNotTwo}
-use Rattle.linear_forms.proofs.Shares.{rise_ends}
+use Rattle.linear_forms.specs.Tasks.{before, on_two, AreSums, Makes, TakesTwo}
 use Rattle.linear_forms.proofs.Joining.{sum_wider}
-
-sum_ends : (t : Sum) (s : linear.Sum) (lo hi : ℕ) → IsSum t s lo hi → lo ≤ hi
-sum_ends t s lo hi i = rise_ends lo hi i.order i.rise
 
 stack_push : (lo m hi : ℕ) (ts : List Sum) (acc ss : List linear.Sum) (t : Sum) (s : linear.Sum) → AreSums lo ts acc ss m → IsSum t s m hi → AreSums lo (ts ++ t ∷ []) acc (s ∷ ss) hi
 stack_push lo m hi [] acc ss t s a i =
@@ -69,15 +65,6 @@ two_taken old new middle left right e f m ss a =
       others = q.others;
       met = m;
     }
-
-pub none_taken : (old : Made) → old.sums.items ≡ [] → (ss : List linear.Sum) → Makes old ss → HasNotTwo fault.NotANumber ss
-none_taken old e ss a op = ap (on_two op) (none_made ss old.met (subst (λ (ts : List Sum). AreSums 0 ts [] ss old.met) e a))
-
-pub one_taken : (old : Made) (middle : List Sum) (right : Sum) → old.sums.items ≡ middle ++ right ∷ [] → middle ≡ [] → (ss : List linear.Sum) → Makes old ss → HasNotTwo fault.NotANumber ss
-one_taken old middle right e f ss a op =
-    let p = stack_pop 0 old.met middle [] ss right (subst (λ (ts : List Sum). AreSums 0 ts [] ss old.met) e a) in
-    let none : p.rest ≡ [] = none_made p.rest p.middle (subst (λ (ts : List Sum). AreSums 0 ts [] p.rest p.middle) f p.others) in
-    ap (on_two op) (p.is ∙ ap (λ (rs : List linear.Sum). p.last ∷ rs) none)
 
 -- the last two sums are replaced by what the operation gives of them
 pub applied : (op : linear.Sum → linear.Sum → Result linear.Sum QueryFault) (old middle new : Made) (left right whole : Sum) → ((ss : List linear.Sum) → Makes old ss → TakesTwo old left right middle ss)

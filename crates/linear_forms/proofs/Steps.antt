@@ -11,7 +11,7 @@ use Rattle.fd_model.specs.Linear.{of_one, of_both, sum_of, difference_of, produc
 use Rattle.term_pool.specs.declared.AtomId.{AtomId}
 use Rattle.term_pool.specs.declared.TermId.{TermId}
 use Rattle.term_pool.specs.Contents as pool
-use Rattle.term_pool.specs.Contents.{Contents, Shape, shape_at, atom_name}
+use Rattle.term_pool.specs.Contents.{Contents, shape_at, atom_name}
 use Rattle.term_pool.specs.Terms.{term_of, terms_by, size, total_size}
 use Rattle.term_pool.specs.Valid.{IsPool}
 use Rattle.term_pool.proofs.Lemmas.{term_of_shape, shape_within, size_of_shape, total_size-nil, total_size-cons}

@@ -6,7 +6,7 @@ use Rattle.fd_language.specs.Term.{Term, Var, Int, Substitution, apply}
 use Rattle.fd_language.specs.Family.{Family, has}
 use Rattle.fd_language.specs.Range.{Indexical}
 use Rattle.fd_model.specs.Closed.{constrained}
-use Rattle.fd_model.specs.Goal.{Branch, Goal, True, Fail, Unify, Post, Constrain, Label, Call, Either, Builtin, Program, Query, Event, Fault}
+use Rattle.fd_model.specs.Goal.{Branch, Goal, True, Fail, Unify, Post, Constrain, Label, Call, Either, Builtin, Program, Query, Event}
 use Rattle.fd_language.specs.RangeRenaming.{rename_indexical}
 use Rattle.fd_model.specs.Renaming.{rename_term, rename_goal}
 use Rattle.fd_model.specs.Seen.{IsView, seen}
@@ -17,7 +17,6 @@ use Rattle.fd_model.specs.Sound.{IsRunnableProgram, EachBelow}
 use Rattle.fd_model.specs.LinearRows.{Expansion}
 use Rattle.fd_model.specs.Constraining.{arguments, expand, equations}
 use Rattle.fd_model.specs.ConstraintLaws.{AllFresh}
-use Rattle.fd_model.specs.Models.{IsModel}
 use Rattle.fd_model.proofs.Lemmas.{has_view, one_view, scoped_rows, each_wider}
 use Rattle.fd_language.proofs.Lemmas.{two}
 use Rattle.machine_relation.specs.Heap.{applied_each, Of, EquationsOf}
@@ -25,7 +24,7 @@ use Rattle.machine_relation.specs.Models.{HasModel, numbers}
 use Rattle.machine_relation.specs.Store.{Touch, posts, IsUnified}
 use Rattle.machine_relation.specs.Ahead.{offered, Spends}
 use Rattle.machine_relation.specs.Held.{Frame, IsAtRest, unified_frame}
-use Rattle.machine_relation.specs.Machine.{IsAt, Choice, Waits, Walks, Returns}
+use Rattle.machine_relation.specs.Machine.{IsAt, Choice, Waits, Walks}
 use Rattle.machine_relation.specs.Rows.{rename_products, rename_expansion, rename_row, frame_row, AreJoined, joined_frame}
 use Rattle.machine_relation.proofs.Growing.{after_is}
 use Rattle.machine_relation.proofs.Holding.{below_split}
@@ -35,8 +34,8 @@ use Rattle.machine_relation.proofs.Scoping.{seen_of, variables_on, seen_by_varia
 use Rattle.machine_relation.proofs.FrameTexts.{cell_from, row_same, row_cell}
 use Rattle.machine_relation.proofs.Joining.{posted_each}
 use Rattle.machine_relation.proofs.Steps.{GivesAll}
-use Rattle.machine_relation.proofs.Walking.{IsFront, renamed_each, at_no_model}
-use Rattle.machine_relation.proofs.Taking.{wide, at_row, front, walk_fault, walk_kid, walk_gone}
+use Rattle.machine_relation.proofs.Walking.{IsFront, renamed_each}
+use Rattle.machine_relation.proofs.Taking.{wide, at_row, front, walk_kid}
 
 is_constrain : (f : ℕ → ℕ) (g : Goal) (c : ConstraintKind) (l : Term) → Constrain c l ≡ rename_goal f g → (t : Term) × (g ≡ Constrain c t) × (l ≡ rename_term f t)
 is_constrain f True c l e = absurd (cc)
@@ -110,10 +109,6 @@ module _ (M : ℕ) (q : Query) (work : List Goal) (f : Frame) (b : Branch) (s : 
       let two = subst (λ h. IsAt M q (map (rename_goal s.place) gs) (unified_frame (record { heap = f.heap; cells = h; link = link'; store = qs' }) new link'' ts) (record { goals = gs; equations = equations x.equated ++ b.equations; posted = x.ranges ++ b.posted; fresh = b.fresh + more })) end one in
       subst (λ m. IsAt M q (map (rename_goal s.place) gs) (unified_frame (record { heap = f.heap; cells = on_cells x.fresh; link = link'; store = qs' }) new link'' ts) (record { goals = gs; equations = equations x.equated ++ b.equations; posted = x.ranges ++ b.posted; fresh = m })) top two
 
-was_fault : (f : ℕ → ℕ) (x : Result Expansion QueryFault) (e : QueryFault) → rename_row f x ≡ Err e → x ≡ Err e
-was_fault f (Err d) e h = let g : d ≡ e = cc in ap Err g
-was_fault f (Ok x) e h = absurd (cc)
-
 was_row : (f : ℕ → ℕ) (x : Result Expansion QueryFault) (y : Expansion) → rename_row f x ≡ Ok y → (z : Expansion) × (x ≡ Ok z) × (rename_expansion f z ≡ y)
 was_row f (Err d) y h = absurd (cc)
 was_row f (Ok z) y h = (z, refl, (cc))
@@ -163,10 +158,6 @@ module _ (M : ℕ) (prog : Program) (q : Query) (f : Frame) (cs : List Choice) (
       | inr a ↦ inr a
     ]
 
-  -- the row is a fault
-  pub walk_constraint_fault : (e : QueryFault) → frame_row f kind l ≡ Err e → (es ≡ Fault e ∷ []) × (r ≡ 1)
-  walk_constraint_fault e h = walk_fault M prog q f cs es r runnable n k (Constrain kind l) work m e (λ s D v. gives s D v ∙ ap (by_constraint m.branch t.rest) (was_fault (on_frame s D v) (seen_row s D v) e (sym (same s D v) ∙ h)))
-
   abbrev Joins : Expansion → Branch → Type 0
   Joins y kid =
       (link' : ℕ → Option ℕ) (qs' : List Indexical) → AreJoined f.link f.store y.ranges link' qs' → (new : Substitution) (link'' : ℕ → Option ℕ) (ts : List Touch)
@@ -202,9 +193,3 @@ module _ (M : ℕ) (prog : Program) (q : Query) (f : Frame) (cs : List Choice) (
     walk_constraint model =
         let o = child y is in
         walk_kid M prog q f cs es r runnable n k (Constrain kind l) work m o.0 [] work row_frame o.1 quiet (o.2 link' qs' joined new link'' ts unified outside) model
-
-    -- or it has none
-    pub walk_constraint_failed : ((S : Family) → IsModel M [] (qs' ++ posts ts) S → ⊥) → Spends (Returns M prog q cs n k) [] es r
-    walk_constraint_failed none =
-        let o = child y is in
-        walk_gone M prog q f cs es r runnable n k (Constrain kind l) work m o.0 [] o.1 quiet (at_no_model M q work row_frame o.0 (o.2 link' qs' joined new link'' ts unified outside) none)

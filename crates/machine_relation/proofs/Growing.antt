@@ -121,10 +121,3 @@ no_more es ds P h look st b none u k =
     let both = split_both u ds es k in
     let old = st.through u both.1 in
     none old.0 (unify_applied old.0 look u P ds old.1 b both.0)
-
--- what the heap shows of a variable is what any most general unifier shows, but for the names of variables
-pub shown : (es : List Equation) (P : ℕ → Type 0) (h : ℕ) (look s : Substitution) → StandsFor es P h look → IsMostGeneral es s → (x : ℕ) → apply look (s x) ≡ look x
-shown es P h look s st g x = g.general look x st.unifies
-
-pub shown_back : (es : List Equation) (P : ℕ → Type 0) (h : ℕ) (look s : Substitution) → StandsFor es P h look → IsMostGeneral es s → (back : Substitution) × ((x : ℕ) → P x → apply back (look x) ≡ s x)
-shown_back es P h look s st g = st.through s g.unifies

@@ -5,22 +5,21 @@ use Rattle.fd_language.specs.Term.{Term, Var, Int, Atom, Comp, Substitution, app
 use Rattle.fd_language.specs.Unifier.{Equation, IsMostGeneral, Unifies}
 use Rattle.fd_language.specs.Family.{Family, has, IsSubset}
 use Rattle.fd_language.specs.Range.{Indexical, set_of}
-use Rattle.fd_model.specs.Closed.{AllPosted, constrained}
-use Rattle.fd_language.specs.Monotonicity.{IsMonotone}
+use Rattle.fd_model.specs.Closed.{constrained}
 use Rattle.fd_language.specs.RangeRenaming.{rename_indexical}
 use Rattle.fd_model.specs.Seen.{IsConsistent}
 use Rattle.fd_model.specs.Models.{IsModel}
 use Rattle.fd_model.proofs.Lemmas.{posted_left, posted_right, named_left, named_right, posted_both, constrained_either, join_both, split_both, consistent_from, weaker as other_model}
-use Rattle.machine_relation.specs.Heap.{after, applied_each, Of, EquationsOf, Below}
+use Rattle.machine_relation.specs.Heap.{after, applied_each, EquationsOf, Below}
 use Rattle.machine_relation.specs.Models.{HasModel, numbers}
-use Rattle.machine_relation.specs.Store.{Touch, posts, IsUnified, IsStored, IsPosted, ArePosted}
+use Rattle.machine_relation.specs.Store.{Touch, posts, IsUnified, IsStored, ArePosted}
 use Rattle.machine_relation.specs.Held.{Frame, IsHeld, unified_frame}
 use Rattle.machine_relation.proofs.Growing.{more, no_more, below_both, more_each}
-use Rattle.machine_relation.proofs.Models.{weaker, model_from, sure_grown, with_numbers, without_numbers, number_for}
+use Rattle.machine_relation.proofs.Models.{weaker, sure_grown, with_numbers, without_numbers, number_for}
 use Rattle.machine_relation.proofs.Touching.{unified, Holds}
 use Rattle.machine_relation.proofs.Posting.{posted}
 use Rattle.machine_relation.proofs.Storing.{bound, without_cell, number_other}
-use Rattle.machine_relation.proofs.Placing.{Or, with_one, other, stored_cell, stored_place}
+use Rattle.machine_relation.proofs.Placing.{Or, with_one, other, stored_cell}
 
 swapped : (u : Substitution) (es ds fs : List Equation) → Unifies u (ds ++ (fs ++ es)) → Unifies u (fs ++ (ds ++ es))
 swapped u es ds fs h =
@@ -49,10 +48,6 @@ module _ (M : ℕ) (f : Frame) (es : List Equation) (ps : List Indexical) (P : �
   -- the store has a model: the branch is consistent
   pub held_consistent : HasModel M f.store → IsConsistent M es ps
   held_consistent m = consistent_from M es ps (λ v. m.0 (s.slot v)) (without_numbers M es ps s.fixed (λ v. m.0 (s.slot v)) (s.stored.down m.0 m.1))
-
-  -- and a consistent branch's store has one: so the store fails exactly where the branch is not consistent
-  pub held_model : AllPosted (λ p. IsMonotone M p.range) ps → IsConsistent M es ps → HasModel M f.store
-  held_model mono c = let m = model_from M es ps mono c in let t = s.stored.up m.0 (with_numbers M es ps s.fixed m.0 s.sure m.1) in (t.0, t.1)
 
   -- the store has none: neither has the branch
   pub no_model : ((T : Family) → IsModel M [] f.store T → ⊥) → (S : Family) → IsModel M es ps S → ⊥
@@ -101,17 +96,6 @@ module _ (M : ℕ) (f : Frame) (es : List Equation) (ps : List Indexical) (P : �
         by_kind v r h con at (Atom a) i = let w = h.full v con in empty (S v) w.0 (h.closed.atoms v a con (at ∙ ap (apply r) i)) w.1
         by_kind v r h con at (Comp a us) i = let w = h.full v con in empty (S v) w.0 (h.closed.compounds v a (apply_all r us) con (at ∙ ap (apply r) i)) w.1
 
-  -- one more range, on open cells
-  pub held_post : (p : Indexical) (of : ℕ → ℕ) (link' : ℕ → Option ℕ) (slot' : ℕ → ℕ) → IsPosted ps P look f.link s.slot f.store p of link' slot'
-      → IsHeld M (record { heap = f.heap; cells = f.cells; link = link'; store = f.store ++ rename_indexical of p ∷ [] }) es (p ∷ ps) P look
-  held_post p of link' slot' po = record {
-    slot = slot';
-    fixed = s.fixed;
-    unused = s.unused;
-    stored = posted M (numbers s.fixed ++ es) ps P f.cells look f.link s.slot f.store s.stored p of link' slot' po;
-    sure = sure_grown M [] es (p ∷ []) ps s.fixed s.sure;
-  }
-
   -- the machine binds a cell whose set has one value, and nothing is posted
   pub held_fix : (c k w : ℕ) → f.link c ≡ Some k → ((T : Family) → IsModel M [] f.store T → T k ≡ w ∷ []) → IsHeld M (record { heap = after (number_for c (pos w)) f.heap; cells = f.cells; link = without_cell c f.link; store = f.store }) es ps P (after (number_for c (pos w)) look)
   held_fix c k w e one =
@@ -147,21 +131,6 @@ module _ (M : ℕ) (f : Frame) (es : List Equation) (ps : List Indexical) (P : �
     stored = stored_cell M (numbers s.fixed ++ es) ps P f.cells look f.link s.slot f.store s.stored v new_one;
     sure = s.sure;
   }
-
-  -- such a variable takes a term that the heap has already
-  pub held_place : (v : ℕ) → (P v → ⊥) → (t : Term) → Of P t → IsHeld M f (record { left = t; right = Var v } ∷ es) ps (Or P v) (with_one v (apply look t) look)
-  held_place v new_one t o =
-      let e : Equation = record { left = t; right = Var v } in
-      let one = stored_place M (numbers s.fixed ++ es) ps P f.cells look f.link s.slot f.store s.stored v new_one t o in
-      let later = below_split (Or P v) (numbers s.fixed) es one.heap.scoped.1 in
-      record {
-        slot = s.slot;
-        fixed = s.fixed;
-        unused = s.unused;
-        stored = other_equations M (e ∷ (numbers s.fixed ++ es)) (numbers s.fixed ++ (e ∷ es)) ps (Or P v) f.cells (with_one v (apply look t) look) f.link s.slot f.store (λ u. swapped u es (e ∷ []) (numbers s.fixed)) (λ u. swapped u es (numbers s.fixed) (e ∷ []))
-            (below_both (Or P v) (numbers s.fixed) (e ∷ es) later.0 (one.heap.scoped.0, later.1)) one;
-        sure = sure_grown M (e ∷ []) es [] ps s.fixed s.sure;
-      }
 
   -- the same known variables by another predicate
   pub held_known : (Q : ℕ → Type 0) → ((x : ℕ) → P x → Q x) → ((x : ℕ) → Q x → P x) → IsHeld M f es ps Q look

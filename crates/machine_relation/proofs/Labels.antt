@@ -5,7 +5,7 @@ use Rattle.fd_model.specs.declared.kinds.Order.{Order}
 use Rattle.fd_language.specs.Term.{Term, Var, Substitution, apply}
 use Rattle.fd_language.specs.Family.{Family}
 use Rattle.fd_model.specs.Closed.{constrained}
-use Rattle.fd_model.specs.Goal.{Branch, Goal, True, Fail, Unify, Post, Constrain, Label, Call, Either, Builtin, Program, Query, Event, Fault}
+use Rattle.fd_model.specs.Goal.{Branch, Goal, True, Fail, Unify, Post, Constrain, Label, Call, Either, Builtin, Program, Query, Event}
 use Rattle.fd_model.specs.Renaming.{rename_term, rename_goal}
 use Rattle.fd_model.specs.Seen.{IsView, seen, set_at}
 use Rattle.fd_model.specs.Children.{by_listing as by_list, by_pick, look_in}
@@ -20,15 +20,15 @@ use Rattle.machine_relation.specs.Ahead.{offered, Spends}
 use Rattle.machine_relation.specs.Held.{Frame, IsAtRest}
 use Rattle.machine_relation.specs.Machine.{Choice, values, Walks, Returns}
 use Rattle.machine_relation.specs.Shown.{cell_set}
-use Rattle.machine_relation.specs.Labelling.{by_listing, by_picked, Labelled, faults, done, labels, labelled, by_labelled, frame_label}
+use Rattle.machine_relation.specs.Labelling.{by_listing, by_picked, Labelled, labels, labelled, by_labelled, frame_label}
 use Rattle.machine_relation.proofs.Growing.{after_is}
 use Rattle.machine_relation.proofs.Holding.{below_split}
 use Rattle.machine_relation.proofs.Renaming.{of_below}
 use Rattle.machine_relation.proofs.Listing.{label_in}
 use Rattle.machine_relation.proofs.Scoping.{seen_of, variables_on, seen_by_variable}
-use Rattle.machine_relation.proofs.FrameTexts.{label_there, label_done, label_faults}
+use Rattle.machine_relation.proofs.FrameTexts.{label_there}
 use Rattle.machine_relation.proofs.Walking.{IsFront}
-use Rattle.machine_relation.proofs.Taking.{front, walk_fault, walk_same, walk_values}
+use Rattle.machine_relation.proofs.Taking.{front, walk_values}
 
 is_label : (f : ℕ → ℕ) (g : Goal) (o : Order) (l : Term) → Label o l ≡ rename_goal f g → (t : Term) × (g ≡ Label o t) × (l ≡ rename_term f t)
 is_label f True o l e = absurd (cc)
@@ -79,16 +79,6 @@ module _ (M : ℕ) (prog : Program) (q : Query) (f : Frame) (cs : List Choice) (
 
   quiet : (s : Substitution) (D : Family) → IsView M m.branch.equations m.branch.posted s D → says s D m.branch t.head ≡ []
   quiet s D v = ap (says s D m.branch) one.1
-
-  -- no list of integers and variables
-  pub walk_label_fault : (e : QueryFault) → frame_label M f T o l ≡ faults e → (es ≡ Fault e ∷ []) × (r ≡ 1)
-  walk_label_fault e h = walk_fault M prog q f cs es r runnable n k (Label o l) work m e (λ s D v. gives s D (faults e) v
-      (label_faults M f m.branch.equations m.branch.posted (λ x. x < m.branch.fresh) look m.here.held T rest s D v m.consistent o one.0 known e (sym same_list ∙ h)))
-
-  -- no open member
-  pub walk_label_done : frame_label M f T o l ≡ done → Spends (Walks M prog q work f cs n k) [] es r
-  walk_label_done h = walk_same M prog q f cs es r runnable n k (Label o l) work m [] (λ s D v. gives s D done v
-      (label_done M f m.branch.equations m.branch.posted (λ x. x < m.branch.fresh) look m.here.held T rest s D v m.consistent o one.0 known (sym same_list ∙ h))) quiet
 
   -- the values of the cell d
   pub walk_label : (d : ℕ) (ns : List ℕ) → frame_label M f T o l ≡ labels d ns → Spends (Returns M prog q (record { left = values ns d (Label o l ∷ work); saved = f } ∷ cs) n k) [] es r

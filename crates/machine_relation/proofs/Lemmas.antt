@@ -1,5 +1,5 @@
 -- The lemmas that other crates may cite.
-pub use Rattle.machine_relation.proofs.Ahead.{ahead_any, ahead_drop, ahead_fault, ahead_fewer, ahead_last, ahead_spent, ahead_taken}
+pub use Rattle.machine_relation.proofs.Ahead.{ahead_any, ahead_drop, ahead_fault, ahead_fewer, ahead_last, ahead_taken}
 pub use Rattle.machine_relation.proofs.Cells.{place_above, place_from}
 pub use Rattle.machine_relation.proofs.Forgetting.{same_model, stored_forget, stored_more}
 pub use Rattle.machine_relation.proofs.FrameTexts.{Known, cell, cell_from, found_same, label_done, label_faults, label_there, line_same, row_cell, row_same, written_same}
@@ -21,7 +21,7 @@ pub use Rattle.machine_relation.proofs.Renaming.{of_all, of_below, range_twice}
 pub use Rattle.machine_relation.proofs.Scoping.{seen_by_variable, seen_of, variables_on}
 pub use Rattle.machine_relation.proofs.SingleValues.{fixed_rest}
 pub use Rattle.machine_relation.proofs.Starting.{first_model, nothing_stored}
-pub use Rattle.machine_relation.proofs.Steps.{GivesAll, Speaks, back_none}
+pub use Rattle.machine_relation.proofs.Steps.{GivesAll, Speaks}
 unfoldable pub use Rattle.machine_relation.proofs.Storing.{without_cell}
 pub use Rattle.machine_relation.proofs.Storing.{extended, sole_value}
 pub use Rattle.machine_relation.proofs.Touching.{as_equations, as_posts, set_term, set_term_int, unified}

@@ -1,5 +1,5 @@
 -- Linked cells that take integers, as one unification.
-use Rattle.std.proofs.Common.{◌≡◌, ℕ, suc, ◌<◌, ◌≤◌, Bool, true, false, cond, ◌==◌, ℤ, List, [], ◌∷◌, Option, Some, None, refl, ap, sym, ◌∙◌, subst, inl, inr, ◌⊎◌, ◌+◌, length, arith, eqb-true, eq-eqb, ne_eqb}
+use Rattle.std.proofs.Common.{◌≡◌, ℕ, suc, ◌<◌, ◌≤◌, Bool, true, false, cond, ◌==◌, ℤ, List, [], ◌∷◌, Option, Some, None, refl, ap, sym, ◌∙◌, subst, inl, inr, ◌⊎◌, ◌+◌, arith, eqb-true, eq-eqb, ne_eqb}
 use Rattle.std.proofs.lemmas.Bool.{or_cases, true≢false}
 use Rattle.fd_language.specs.Term.{Var, Int, Substitution, apply}
 use Rattle.fd_language.specs.Unifier.{Unifies}
@@ -27,9 +27,6 @@ number_touches g (d ∷ ds) = Value (g d.0) d.1 ∷ number_touches g ds
 
 some_same : (k j : ℕ) → Some k ≡ Some j → k ≡ j
 some_same k j e = cc
-
-same_int : (z w : ℤ) → Int z ≡ Int w → z ≡ w
-same_int z w e = cc
 
 same_var : (c d : ℕ) → Var c ≡ Var d → c ≡ d
 same_var c d e = cc
@@ -129,12 +126,3 @@ kept_behind n d all l (e ∷ ds) c h = (
 pub each_found : (n : ℕ) (ds : List (ℕ × ℤ)) → AreConsecutive n ds → Each (λ d. bindings ds d.0 ≡ Int d.1) ds
 each_found n [] c = tt
 each_found n (d ∷ ds) c = (ap (λ b. cond b (Int d.1) (bindings ds d.0)) (eq-eqb d.0 d.0 refl), kept_behind (suc n) d ds (let a = c.0 in omega (arith, a)) ds c.1 (each_found (suc n) ds c.1))
-
--- a cell below them, or past them, stays
-pub bindings_low : (n : ℕ) (ds : List (ℕ × ℤ)) (c : ℕ) → AreConsecutive n ds → c < n → bindings ds c ≡ Var c
-bindings_low n [] c a l = refl
-bindings_low n (d ∷ ds) c a l = ap (λ b. cond b (Int d.1) (bindings ds c)) (ne_eqb c d.0 (λ i. (let e = a.0 in omega (arith, i, e, l)))) ∙ bindings_low (suc n) ds c a.1 (omega (arith, l))
-
-pub bindings_high : (n : ℕ) (ds : List (ℕ × ℤ)) (c : ℕ) → AreConsecutive n ds → n + length ds ≤ c → bindings ds c ≡ Var c
-bindings_high n [] c a l = refl
-bindings_high n (d ∷ ds) c a l = ap (λ b. cond b (Int d.1) (bindings ds c)) (ne_eqb c d.0 (λ i. (let e = a.0 in omega (arith, i, e, l)))) ∙ bindings_high (suc n) ds c a.1 (omega (arith, l))

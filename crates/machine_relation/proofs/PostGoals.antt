@@ -14,7 +14,6 @@ use Rattle.fd_model.specs.Posting.{offence_at, or_later, first_offence, is_integ
 use Rattle.fd_language.specs.Variables.{TermBelow}
 use Rattle.fd_model.specs.Sound.{PlacesBelow, RangeBelow}
 use Rattle.fd_language.proofs.Lemmas.{two}
-use Rattle.machine_relation.specs.Rows.{slot_numbers, unless_fault, post_row_at, post_row}
 use Rattle.machine_relation.proofs.Renaming.{places_split}
 use Rattle.machine_relation.proofs.Views.{SameKind}
 
@@ -132,24 +131,6 @@ module _ (n : ℕ) (look other : ℕ → Term) (kinds : (v : ℕ) → v < n → 
       ap (λ o. unless_offence o (record { target = slot m (integers_at look ps []) x; range = rename_range (slot m (integers_at look ps [])) (fill_range here r) }) (m + length (integers_at look ps [])) (es ++ slot_equations look m (integers_at look ps []))) (same_first (need_of r) ps b)
       ∙ two (λ q l. unless_offence (first_offence (need_of r) other ps) (record { target = slot m (integers_at look ps []) x; range = rename_range (slot m (integers_at look ps [])) q }) (m + length (integers_at look ps [])) (es ++ l)) (same_range r c) es'
       ∙ ap (λ l. unless_offence (first_offence (need_of r) other ps) (record { target = slot m l x; range = rename_range (slot m l) (fill_range there r) }) (m + length l) (es ++ slot_equations other m l)) ys
-
-  same_numbers : (m : ℕ) (ys : List ℕ) → Agree ys → slot_numbers look m ys ≡ slot_numbers other m ys
-  same_numbers m [] a = refl
-  same_numbers m (y ∷ ys) a = two (λ t l. (m, integer_of t) ∷ l) a.0 (same_numbers (suc m) ys a.1)
-
-  same_row : (ps : List Place) (x : ℕ) (es : List (ℕ × ℤ)) (m : ℕ) (r : Range) → PlacesBelow n ps → RangeBelow n r → post_row_at look ps x es m r ≡ post_row_at other ps x es m r
-  same_row ps x es m r b c =
-      let ys = integers_at look ps [] in
-      two (λ o q. unless_fault o (record { equated = es ++ slot_numbers look m ys; ranges = record { target = slot m ys x; range = rename_range (slot m ys) q } ∷ []; fresh = m + length ys })) (same_first (need_of r) ps b) (same_range r c)
-      ∙ ap (λ l. unless_fault (first_offence (need_of r) other ps) (record { equated = es ++ l; ranges = record { target = slot m ys x; range = rename_range (slot m ys) (fill_range there r) } ∷ []; fresh = m + length ys })) (same_numbers m ys (agree_integers ps [] b tt))
-      ∙ ap (λ l. unless_fault (first_offence (need_of r) other ps) (record { equated = es ++ slot_numbers other m l; ranges = record { target = slot m l x; range = rename_range (slot m l) (fill_range there r) } ∷ []; fresh = m + length l })) (same_integers ps [] b)
-
-  -- the same as rows
-  pub row_same : (t : Term) (r : Range) (m : ℕ) → TermBelow n t → RangeBelow n r → post_row look t r m ≡ post_row other t r m
-  row_same (Var v) r m b c = same_row (one_place v false ++ range_places r) v [] m r (b, c) c
-  row_same (Int z) r m b c = same_row (range_places r) m ((m, z) ∷ []) (suc m) r c c
-  row_same (Atom a) r m b c = refl
-  row_same (Comp f ts) r m b c = refl
 
   -- what `T in r` posts by the heap's terms is what it posts by the seen terms, and its fault is the same
   pub post_same : (t : Term) (r : Range) (m : ℕ) → TermBelow n t → RangeBelow n r → post look t r m ≡ post other t r m

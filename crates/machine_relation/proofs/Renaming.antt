@@ -5,7 +5,7 @@ use Rattle.fd_language.specs.Range.{Range, Span, One, Dom, Union, Inter, Outside
 use Rattle.fd_language.specs.RangeRenaming.{rename_expr, rename_range}
 use Rattle.fd_model.specs.Renaming.{rename_term, rename_goal, rename_goals}
 use Rattle.fd_language.specs.Places.{Place, expr_places, range_places}
-use Rattle.fd_model.specs.Goal.{Goal, Goals, no_goals, goal, listed, True, Fail, Unify, Post, Constrain, Label, Call, Either, Builtin}
+use Rattle.fd_model.specs.Goal.{Goal, Goals, no_goals, goal, True, Fail, Unify, Post, Constrain, Label, Call, Either, Builtin}
 use Rattle.fd_language.specs.Variables.{TermBelow, TermsBelow}
 use Rattle.fd_model.specs.Sound.{PlacesBelow, GoalBelow, GoalsBelow, EachBelow}
 use Rattle.fd_language.proofs.Lemmas.{two}
@@ -134,7 +134,3 @@ module _ (n : ℕ) (f g : ℕ → ℕ) (h : (x : ℕ) → x < n → f x ≡ g x)
 pub list_both : (f : Goal → Goal) (xs ys : List Goal) → map f (xs ++ ys) ≡ map f xs ++ map f ys
 list_both f [] ys = refl
 list_both f (x ∷ xs) ys = ap (λ l. f x ∷ l) (list_both f xs ys)
-
-pub listed_map : (f : ℕ → ℕ) (gs : Goals) → listed (rename_goals f gs) ≡ map (rename_goal f) (listed gs)
-listed_map f no_goals = refl
-listed_map f (goal g gs) = ap (λ l. rename_goal f g ∷ l) (listed_map f gs)

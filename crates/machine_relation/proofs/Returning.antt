@@ -19,10 +19,10 @@ use Rattle.machine_relation.specs.Models.{HasModel}
 use Rattle.machine_relation.specs.Store.{Touch, posts, IsUnified}
 use Rattle.machine_relation.specs.Ahead.{IsFit}
 use Rattle.machine_relation.specs.Held.{Frame, unified_frame}
-use Rattle.machine_relation.specs.Machine.{IsAt, clauses, others, values, Choice, Waits, Walks, Returns}
+use Rattle.machine_relation.specs.Machine.{IsAt, clauses, values, Choice, Waits, Walks, Returns}
 use Rattle.machine_relation.proofs.Renaming.{of_below, list_both, list_twice, list_agree, term_twice, term_agree}
 use Rattle.machine_relation.proofs.Cells.{place_from, place_old, place_new, more_cells, more_fresh, at_more}
-use Rattle.machine_relation.proofs.Steps.{back_over, back_same, back_first, back_gone, back_only}
+use Rattle.machine_relation.proofs.Steps.{back_same, back_first, back_gone}
 use Rattle.machine_relation.proofs.Walking.{renamed_each, gone_by, at_consistent, at_no_model, at_unify, at_no_unifier, at_no_atom}
 
 same_count_all : (s : Substitution) (ts us : Terms) → same_count (apply_all s ts) us ≡ same_count ts us
@@ -158,10 +158,6 @@ module _ (M : ℕ) (prog : Program) (q : Query) (n : ℕ) (k : Option ℕ) (f : 
     abbrev by : List Clause → Choice
     by ds = record { left = clauses ds t work; saved = f }
 
-    -- none is left
-    pub back_no_clauses : Back (by [] ∷ cs) → Back cs
-    back_no_clauses m = back_over M prog q Choice (Waits M q) n k es r (by []) cs m (λ raw w. w.6)
-
     module _ (c : Clause) (ds : List Clause) (m : Back (by (c ∷ ds) ∷ cs)) where
       abbrev asks : List Equation
       asks = applied_each f.heap (argument_equations t (rename_term (λ x. f.cells + x) c.head))
@@ -216,17 +212,10 @@ module _ (M : ℕ) (prog : Program) (q : Query) (n : ℕ) (k : Option ℕ) (f : 
               (by_kid (λ b. IsFit M b → IsConsistent M b.equations b.posted → ⊥) (λ b a rest s e w.
               gone_by M (by_clause b a rest c) (at_no_model M q goals (unified_frame wide new link' ts) (by_clause b a rest c) (at_clause M q c w.0 t work f b a rest s e new link' ts u outside) none)))
 
-  -- the other goals of `;`
-  pub back_others : (work : List Goal) → HasModel M f.store → Back (record { left = others work; saved = f } ∷ cs) → Walks M prog q work f cs n k es r
-  back_others work model m = back_only M prog q Choice (Waits M q) n k es r (record { left = others work; saved = f }) cs m (IsAt M q work f) (λ raw w. (w.0, w.2, (w.1, at_consistent M q work f w.0 w.1 model)))
-
   -- values of a cell
   module _ (d : ℕ) (work : List Goal) where
     abbrev of : List ℕ → Choice
     of ns = record { left = values ns d work; saved = f }
-
-    pub back_no_values : Back (of [] ∷ cs) → Back cs
-    back_no_values m = back_over M prog q Choice (Waits M q) n k es r (of []) cs m (λ raw w. w.5)
 
     module _ (v : ℕ) (ns : List ℕ) (m : Back (of (v ∷ ns) ∷ cs)) where
       abbrev asked : List Equation

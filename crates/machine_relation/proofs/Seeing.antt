@@ -8,7 +8,7 @@ use Rattle.fd_language.specs.Range.{Indexical}
 use Rattle.fd_model.specs.Closed.{constrained}
 use Rattle.fd_model.specs.Seen.{IsView, seen, set_at, by_set, is_variable}
 use Rattle.fd_model.specs.Models.{IsModel}
-use Rattle.fd_model.proofs.Lemmas.{var_from, join_both, split_both, single_from}
+use Rattle.fd_model.proofs.Lemmas.{join_both, split_both, single_from}
 use Rattle.machine_relation.specs.Heap.{after, StandsFor}
 use Rattle.machine_relation.specs.Models.{Fix, numbers, Sure}
 use Rattle.machine_relation.specs.Store.{IsStored, shown_set, linked_set}
@@ -112,10 +112,3 @@ module _ (M : ℕ) (es : List Equation) (ps : List Indexical) (s : Substitution)
 
     pub look_from_seen : (x : ℕ) → apply look (seen s D (constrained ps) (Var x)) ≡ look x
     look_from_seen x = through_at (s x) ∙ look_at_s x
-
--- So both have one kind.
-pub same_int : (look back : Substitution) (t u : Term) (z : ℤ) → apply look t ≡ u → t ≡ Int z → u ≡ Int z
-same_int look back t u z e f = sym e ∙ ap (apply look) f
-
-pub same_var : (look back : Substitution) (t u : Term) (y : ℕ) → apply back u ≡ t → t ≡ Var y → (c : ℕ) × (u ≡ Var c)
-same_var look back t u y e f = var_from back u y (e ∙ f)

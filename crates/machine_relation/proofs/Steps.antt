@@ -1,15 +1,15 @@
 -- The steps of any machine over what is still to come: from a goal, from an answer, and back to a choice point.
-use Rattle.std.proofs.Common.{◌≡◌, ℕ, suc, List, [], ◌∷◌, ◌++◌, Option, Some, None, refl, subst}
+use Rattle.std.proofs.Common.{◌≡◌, ℕ, suc, List, [], ◌∷◌, ◌++◌, Option, refl, subst}
 use Rattle.fd_language.specs.Term.{Substitution}
 use Rattle.fd_language.specs.Family.{Family}
 use Rattle.fd_model.specs.declared.kinds.QueryFault.{QueryFault}
-use Rattle.fd_model.specs.Goal.{Goal, Branch, Program, Query, Event, End, Budget, Limit, Fault}
+use Rattle.fd_model.specs.Goal.{Goal, Branch, Program, Query, Event, Fault}
 use Rattle.fd_model.specs.Seen.{IsConsistent, IsView}
 use Rattle.fd_model.specs.Children.{Faults, Gives}
 use Rattle.fd_model.specs.Lines.{says}
 use Rattle.fd_model.specs.Sound.{IsRunnableProgram}
 use Rattle.machine_relation.specs.Ahead.{offered, IsFit, Ahead, IsLive, IsBack, Spends}
-use Rattle.machine_relation.proofs.Ahead.{ahead_none, ahead_drop, ahead_spent, ahead_taken, ahead_fault, IsTold, ahead_last, ahead_fewer, ahead_any}
+use Rattle.machine_relation.proofs.Ahead.{ahead_drop, ahead_taken, ahead_fault}
 
 module _ (M : ℕ) (prog : Program) (q : Query) (C : Type 0) (Waits : C → List Branch → Type 0) where
   abbrev pub Live : (Branch → Type 0) → List C → ℕ → Option ℕ → List Event → ℕ → Type 0
@@ -25,9 +25,6 @@ module _ (M : ℕ) (prog : Program) (q : Query) (C : Type 0) (Waits : C → List
   Speaks b g said = (s : Substitution) (D : Family) → IsView M b.equations b.posted s D → says s D b g ≡ said
 
   module _ (Here : Branch → Type 0) (cs : List C) (k : Option ℕ) (es : List Event) (r : ℕ) where
-    -- no budget is left
-    pub live_spent : (m : Live Here cs 0 k es r) (g : Goal) (rest : List Goal) → m.branch.goals ≡ g ∷ rest → (es ≡ Budget ∷ []) × (r ≡ 0)
-    live_spent m g rest e = ahead_spent M prog q k m.branch g rest m.others es r m.consistent e m.ahead
 
     module _ (runnable : IsRunnableProgram M prog) (n : ℕ) (m : Live Here cs (suc n) k es r) (g : Goal) (rest : List Goal) (goals : m.branch.goals ≡ g ∷ rest) where
       pub live_fault : (f : QueryFault) → ((s : Substitution) (D : Family) → IsView M m.branch.equations m.branch.posted s D → offered M prog m.branch g rest s D ≡ Faults f) → (es ≡ Fault f ∷ []) × (r ≡ 1)
@@ -63,21 +60,7 @@ module _ (M : ℕ) (prog : Program) (q : Query) (C : Type 0) (Waits : C → List
           let t = ahead_taken M prog q runnable n k m.branch g rest m.others es r m.consistent goals m.ahead kids said h i in
           (t.0, t.1, t.2, t.3, record { others = kids ++ m.others; wait = (kids, m.others, w, m.wait, refl); ahead = t.4 })
 
-  -- the last answer that is allowed
-  pub live_last : (Here : Branch → Type 0) (cs : List C) (n : ℕ) (es : List Event) (r : ℕ) (m : Live Here cs n (Some 1) es r) (goals : m.branch.goals ≡ []) → IsTold M prog q n m.branch m.others es r m.consistent goals (Limit ∷ []) × (r ≡ 0)
-  live_last Here cs n es r m goals = ahead_last M prog q n m.branch m.others es r m.consistent goals m.ahead
-
-  -- an answer, with more to come
-  pub live_fewer : (Here : Branch → Type 0) (cs : List C) (n j : ℕ) (es : List Event) (r : ℕ) (m : Live Here cs n (Some (suc (suc j))) es r) (goals : m.branch.goals ≡ []) → (later : List Event) × IsTold M prog q n m.branch m.others es r m.consistent goals later × Back cs n (Some (suc j)) later r
-  live_fewer Here cs n j es r m goals = let t = ahead_fewer M prog q n m.branch m.others es r m.consistent goals j m.ahead in (t.0, t.1, record { others = m.others; wait = m.wait; ahead = t.2 })
-
-  pub live_any : (Here : Branch → Type 0) (cs : List C) (n : ℕ) (es : List Event) (r : ℕ) (m : Live Here cs n None es r) (goals : m.branch.goals ≡ []) → (later : List Event) × IsTold M prog q n m.branch m.others es r m.consistent goals later × Back cs n None later r
-  live_any Here cs n es r m goals = let t = ahead_any M prog q n m.branch m.others es r m.consistent goals m.ahead in (t.0, t.1, record { others = m.others; wait = m.wait; ahead = t.2 })
-
   module _ (n : ℕ) (k : Option ℕ) (es : List Event) (r : ℕ) where
-    -- no choice point is left
-    pub back_none : Back [] n k es r → (es ≡ End ∷ []) × (r ≡ 0)
-    back_none m = ahead_none M prog q n k es r (subst (λ l. Ahead M prog q n k l es r) m.wait m.ahead)
 
     module _ (c : C) (cs : List C) (m : Back (c ∷ cs) n k es r) where
       there : Ahead M prog q n k (m.wait.0 ++ m.wait.1) es r

@@ -5,26 +5,18 @@ use Rattle.fd_language.specs.Term.{Var, Int, Substitution}
 use Rattle.fd_language.specs.Unifier.{Equation, IsMostGeneral}
 use Rattle.fd_language.specs.Family.{Family, has, IsSubset, IsInside}
 use Rattle.fd_language.specs.Range.{Indexical, set_of}
-use Rattle.fd_model.specs.Closed.{AllPosted, constrained}
-use Rattle.fd_model.specs.Seen.{IsConsistent}
-use Rattle.fd_language.specs.Monotonicity.{IsMonotone}
+use Rattle.fd_model.specs.Closed.{constrained}
 use Rattle.fd_language.proofs.Lemmas.{rising_same, identity}
-use Rattle.fd_model.proofs.Lemmas.{closed_without, posted_both, constrained_either, single_from, only_member, consistent_from}
+use Rattle.fd_model.proofs.Lemmas.{closed_without, posted_both, constrained_either, single_from, only_member}
 use Rattle.fd_model.specs.Children.{is_number}
 use Rattle.fd_model.specs.Models.{IsModel}
 use Rattle.machine_relation.specs.Heap.{after, applied_each, Below, EquationsOf}
 use Rattle.machine_relation.specs.Models.{Sure}
 use Rattle.machine_relation.specs.Store.{Value, posts, IsUnified, IsStored}
-use Rattle.machine_relation.proofs.Models.{front, model_from, number_for, number_at, number_general}
+use Rattle.machine_relation.proofs.Models.{front, number_for, number_at, number_general}
 use Rattle.machine_relation.proofs.Touching.{unified, Holds, as_posts, set_term}
 
 module _ (M : ℕ) (es : List Equation) (ps : List Indexical) (P : ℕ → Type 0) (h : ℕ) (look : Substitution) (link : ℕ → Option ℕ) (slot : ℕ → ℕ) (qs : List Indexical) (st : IsStored M es ps P h look link slot qs) where
-  -- Failed comes exactly where the branch isn't consistent
-  pub store_consistent : AllPosted (λ p. IsMonotone M p.range) ps → IsConsistent M es ps → IsConsistent M [] qs
-  store_consistent mono c = let s = model_from M es ps mono c in let t = st.up s.0 s.1 in consistent_from M [] qs t.0 t.1
-
-  pub branch_consistent : AllPosted (λ p. IsMonotone M p.range) qs → IsConsistent M [] qs → IsConsistent M es ps
-  branch_consistent mono c = let t = model_from M [] qs mono c in consistent_from M es ps (λ v. t.0 (slot v)) (st.down t.0 t.1)
 
   -- and the sets are the same
   pub same_sets : (S T : Family) → IsModel M es ps S → ((R : Family) → IsModel M es ps R → IsInside R S) → IsModel M [] qs T → ((R : Family) → IsModel M [] qs R → IsInside R T) → (v : ℕ) → has (constrained ps) v ≡ true → S v ≡ T (slot v)

@@ -1,37 +1,31 @@
 -- The steps of a machine that walks over goals, where what a goal gives depends on what is seen; answers; and a spent budget.
-use Rattle.std.proofs.Common.{pos, ◌≡◌, ℕ, suc, ◌+◌, ◌<◌, ◌≤◌, ℤ, List, [], ◌∷◌, ◌++◌, Option, Some, None, map, refl, ap, sym, ◌∙◌, subst}
-use Rattle.fd_model.specs.declared.kinds.QueryFault.{QueryFault}
+use Rattle.std.proofs.Common.{◌≡◌, ℕ, suc, ◌+◌, ◌<◌, ◌≤◌, ℤ, List, [], ◌∷◌, ◌++◌, Option, Some, map, refl, ap, sym, ◌∙◌, subst}
 use Rattle.fd_language.specs.Term.{Term, Var, Int, Substitution}
 use Rattle.fd_language.specs.Unifier.{Equation, IsMostGeneral, Unifies}
 use Rattle.fd_language.specs.Family.{Family}
 use Rattle.fd_language.specs.Range.{Range, Indexical}
-use Rattle.fd_model.specs.Goal.{Goal, True, Fail, Unify, Post, Constrain, Label, Call, Either, Builtin, Program, Query, Branch, Event, Budget, Limit, Fault}
+use Rattle.fd_model.specs.Goal.{Goal, True, Fail, Unify, Post, Constrain, Label, Call, Either, Builtin, Program, Query, Branch, Event}
 use Rattle.fd_language.specs.RangeRenaming.{rename_range}
 use Rattle.fd_model.specs.Renaming.{rename_term, rename_goal}
 use Rattle.fd_model.specs.Seen.{IsView}
-use Rattle.fd_model.specs.Posting.{post, Found, offends, posts}
-use Rattle.fd_model.specs.Children.{Faults, with_goals, with_equations, with_range, by_post, look_in, by_value}
+use Rattle.fd_model.specs.Posting.{post, Found, posts}
+use Rattle.fd_model.specs.Children.{with_equations, with_range, by_post, look_in, by_value}
 use Rattle.fd_model.specs.Lines.{says}
 use Rattle.fd_language.specs.Variables.{TermBelow}
 use Rattle.fd_model.specs.Sound.{IsRunnableProgram, EachBelow, RangeBelow}
 use Rattle.fd_model.specs.Models.{IsModel}
-use Rattle.fd_language.proofs.Lemmas.{two}
-use Rattle.machine_relation.specs.Heap.{after, applied_each, EquationsOf, Below}
+use Rattle.machine_relation.specs.Heap.{applied_each, EquationsOf, Below}
 use Rattle.machine_relation.specs.Models.{HasModel}
 use Rattle.machine_relation.specs.Store.{Touch, posts as touch_posts, IsUnified, ArePosted}
 use Rattle.machine_relation.specs.Ahead.{offered, Spends}
 use Rattle.machine_relation.specs.Held.{Frame, IsAtRest, unified_frame}
 use Rattle.machine_relation.specs.Machine.{IsAt, values, Choice, Waits, Walks, Returns}
-use Rattle.machine_relation.proofs.Renaming.{of_below}
 use Rattle.machine_relation.proofs.Cells.{place_from, more_cells, more_fresh, at_more}
-use Rattle.machine_relation.proofs.Models.{number_for}
-use Rattle.machine_relation.proofs.Storing.{without_cell}
-use Rattle.machine_relation.proofs.Ahead.{IsTold}
-use Rattle.machine_relation.proofs.Steps.{GivesAll, Speaks, live_spent, live_fault, live_none, live_one, live_gone, live_choice, live_last, live_fewer, live_any}
+use Rattle.machine_relation.proofs.Steps.{GivesAll, Speaks, live_one, live_gone, live_choice}
 use Rattle.machine_relation.proofs.Holding.{held_posts, held_unify}
 use Rattle.machine_relation.proofs.Views.{view_kind}
 use Rattle.machine_relation.proofs.PostGoals.{post_same}
-use Rattle.machine_relation.proofs.Walking.{at_fix, renamed_each, applied_renamed, gone_by, at_goals, at_consistent, at_no_model, at_no_unifier, at_no_atom, at_unify, IsFront, front_goal, no_goals_left}
+use Rattle.machine_relation.proofs.Walking.{renamed_each, applied_renamed, gone_by, at_consistent, at_no_model, at_no_unifier, at_no_atom, at_unify, IsFront, front_goal}
 
 -- More ranges with fresh variables: new cells for these, the ranges on open cells, and then the equations that give fresh variables their integers.
 module _ (M : ℕ) (q : Query) (work : List Goal) (f : Frame) (b : Branch) (s : IsAt M q work f b) (j : ℕ) where
@@ -57,17 +51,6 @@ module _ (M : ℕ) (q : Query) (work : List Goal) (f : Frame) (b : Branch) (s : 
           held = held_unify M row_frame b.equations (ws ++ b.posted) (λ v. v < b.fresh + j) (λ v. f.heap (wide.0.place v)) held es below new link'' ts (subst (λ l. IsUnified (f.cells + j) link' l new link'' ts) (sym (applied_renamed f.heap wide.0.place es)) u) outside;
         }
 
-is_unify : (f : ℕ → ℕ) (g : Goal) (l r : Term) → Unify l r ≡ rename_goal f g → (a : Term) × (b : Term) × (g ≡ Unify a b) × (l ≡ rename_term f a) × (r ≡ rename_term f b)
-is_unify f True l r e = absurd (cc)
-is_unify f Fail l r e = absurd (cc)
-is_unify f (Unify a b) l r e = (a, b, refl, (cc), (cc))
-is_unify f (Post t q) l r e = absurd (cc)
-is_unify f (Constrain c t) l r e = absurd (cc)
-is_unify f (Label o t) l r e = absurd (cc)
-is_unify f (Call t) l r e = absurd (cc)
-is_unify f (Either a b) l r e = absurd (cc)
-is_unify f (Builtin c t) l r e = absurd (cc)
-
 is_post : (f : ℕ → ℕ) (g : Goal) (l : Term) (x : Range) → Post l x ≡ rename_goal f g → (t : Term) × (r : Range) × (g ≡ Post t r) × (l ≡ rename_term f t) × (x ≡ rename_range f r)
 is_post f True l x e = absurd (cc)
 is_post f Fail l x e = absurd (cc)
@@ -80,27 +63,9 @@ is_post f (Either a b) l x e = absurd (cc)
 is_post f (Builtin c t) l x e = absurd (cc)
 
 module _ (M : ℕ) (prog : Program) (q : Query) (f : Frame) (cs : List Choice) (es : List Event) (r : ℕ) where
-  -- no budget is left for the goal in front
-  pub walk_spent : (k : Option ℕ) (g : Goal) (work : List Goal) → Walks M prog q (g ∷ work) f cs 0 k es r → (es ≡ Budget ∷ []) × (r ≡ 0)
-  walk_spent k g work m = let t = front_goal M q g work f m.branch m.here in live_spent M prog q Choice (Waits M q) (IsAt M q (g ∷ work) f) cs k es r m t.head t.rest t.goals
-
-  -- a cell whose set has one value is bound to it, which spends and says nothing
-  pub walk_fix : (n : ℕ) (k : Option ℕ) (work : List Goal) (c j w : ℕ) → f.link c ≡ Some j → ((T : Family) → IsModel M [] f.store T → T j ≡ w ∷ []) → Walks M prog q work f cs n k es r → Walks M prog q work (record { heap = after (number_for c (pos w)) f.heap; cells = f.cells; link = without_cell c f.link; store = f.store }) cs n k es r
-  walk_fix n k work c j w e one m = record { branch = m.branch; others = m.others; here = at_fix M q work f m.branch m.here c j w e one; consistent = m.consistent; wait = m.wait; ahead = m.ahead }
 
   -- no goal is left: the last allowed answer, or one with more to come
   module _ (n : ℕ) where
-    pub answered : (k : Option ℕ) (m : Walks M prog q [] f cs n k es r) → m.branch.goals ≡ []
-    answered k m = no_goals_left (rename_goal m.here.place) m.branch.goals m.here.goals
-
-    pub walk_last : (m : Walks M prog q [] f cs n (Some 1) es r) → IsTold M prog q n m.branch m.others es r m.consistent (answered (Some 1) m) (Limit ∷ []) × (r ≡ 0)
-    walk_last m = live_last M prog q Choice (Waits M q) (IsAt M q [] f) cs n es r m (answered (Some 1) m)
-
-    pub walk_fewer : (j : ℕ) (m : Walks M prog q [] f cs n (Some (suc (suc j))) es r) → (later : List Event) × IsTold M prog q n m.branch m.others es r m.consistent (answered (Some (suc (suc j))) m) later × Returns M prog q cs n (Some (suc j)) later r
-    walk_fewer j m = live_fewer M prog q Choice (Waits M q) (IsAt M q [] f) cs n j es r m (answered (Some (suc (suc j))) m)
-
-    pub walk_any : (m : Walks M prog q [] f cs n None es r) → (later : List Event) × IsTold M prog q n m.branch m.others es r m.consistent (answered None m) later × Returns M prog q cs n None later r
-    walk_any m = live_any M prog q Choice (Waits M q) (IsAt M q [] f) cs n es r m (answered None m)
 
   module _ (runnable : IsRunnableProgram M prog) (n : ℕ) (k : Option ℕ) (g : Goal) (work : List Goal) (m : Walks M prog q (g ∷ work) f cs (suc n) k es r) where
     pub front : IsFront g work m.here.place m.branch
@@ -114,19 +79,6 @@ module _ (M : ℕ) (prog : Program) (q : Query) (f : Frame) (cs : List Choice) (
     -- it has no model
     pub walk_gone : (kid : Branch) (said : List Event) → GivesAll M prog q Choice (Waits M q) m.branch front.head front.rest (kid ∷ []) → Speaks M prog q Choice (Waits M q) m.branch front.head said → ((S : Family) → IsModel M kid.equations kid.posted S → ⊥) → Spends (Returns M prog q cs n k) said es r
     walk_gone kid said gives speaks none = live_gone M prog q Choice (Waits M q) (IsAt M q (g ∷ work) f) cs k es r runnable n m front.head front.rest front.goals kid said gives speaks (gone_by M kid none)
-
-    -- nothing changes
-    pub walk_same : (said : List Event) → GivesAll M prog q Choice (Waits M q) m.branch front.head front.rest (with_goals m.branch front.rest ∷ []) → Speaks M prog q Choice (Waits M q) m.branch front.head said → Spends (Walks M prog q work f cs n k) said es r
-    walk_same said gives speaks =
-        live_one M prog q Choice (Waits M q) (IsAt M q (g ∷ work) f) cs k es r runnable n m front.head front.rest front.goals (IsAt M q work f) (with_goals m.branch front.rest) said gives speaks
-        (subst (λ w. IsAt M q w f (with_goals m.branch front.rest)) (sym front.others) (at_goals M q (g ∷ work) f m.branch m.here front.rest front.below.1)) m.consistent
-
-    -- it has no child
-    pub walk_none : (said : List Event) → GivesAll M prog q Choice (Waits M q) m.branch front.head front.rest [] → Speaks M prog q Choice (Waits M q) m.branch front.head said → Spends (Returns M prog q cs n k) said es r
-    walk_none said gives speaks = live_none M prog q Choice (Waits M q) (IsAt M q (g ∷ work) f) cs k es r runnable n m front.head front.rest front.goals said gives speaks
-
-    pub walk_fault : (e : QueryFault) → ((s : Substitution) (D : Family) → IsView M m.branch.equations m.branch.posted s D → offered M prog m.branch front.head front.rest s D ≡ Faults e) → (es ≡ Fault e ∷ []) × (r ≡ 1)
-    walk_fault e faulting = live_fault M prog q Choice (Waits M q) (IsAt M q (g ∷ work) f) cs k es r runnable n m front.head front.rest front.goals e faulting
 
     -- one child with new equations ds
     module _ (ds : List Equation) (said : List Event) (below : EquationsOf (λ v. v < m.branch.fresh) ds)
@@ -168,28 +120,6 @@ module _ (M : ℕ) (prog : Program) (q : Query) (f : Frame) (cs : List Choice) (
     abbrev at : IsFront (Unify l r') work m.here.place m.branch
     at = front runnable n k (Unify l r') work m
 
-    pub sides : (a : Term) × (b : Term) × (at.head ≡ Unify a b) × (l ≡ rename_term m.here.place a) × (r' ≡ rename_term m.here.place b)
-    sides = is_unify m.here.place at.head l r' at.is
-
-    abbrev pub equation : List Equation
-    equation = record { left = sides.0; right = sides.1 } ∷ []
-
-    pub unify_below : EquationsOf (λ v. v < m.branch.fresh) equation
-    unify_below = let h = subst (λ g. EachBelow m.branch.fresh (g ∷ at.rest)) sides.2 at.below in ((of_below m.branch.fresh sides.0 h.0.0, of_below m.branch.fresh sides.1 h.0.1), tt)
-
-    pub unify_gives : GivesAll M prog q Choice (Waits M q) m.branch at.head at.rest (with_equations m.branch at.rest equation m.branch.fresh ∷ [])
-    unify_gives s D v = ap (λ g. offered M prog m.branch g at.rest s D) sides.2
-
-    pub unify_quiet : Speaks M prog q Choice (Waits M q) m.branch at.head []
-    unify_quiet s D v = ap (says s D m.branch) sides.2
-
-    -- on the heap it is the goal's own equation
-    pub unify_asks : applied_each f.heap (record { left = l; right = r' } ∷ []) ≡ applied_each f.heap (renamed_each m.here.place equation)
-    unify_asks = ap (λ e. applied_each f.heap (e ∷ [])) (two (λ x y. record { left = x; right = y }) sides.3 sides.4)
-
-    pub walk_unify : (new : Substitution) (link' : ℕ → Option ℕ) (ts : List Touch) → IsUnified f.cells f.link (applied_each f.heap (record { left = l; right = r' } ∷ [])) new link' ts → ((c : ℕ) → f.cells ≤ c → new c ≡ Var c) → HasModel M (f.store ++ touch_posts ts) → Spends (Walks M prog q work (unified_frame f new link' ts) cs n k) [] es r
-    walk_unify new link' ts u outside model = walk_equations runnable n k (Unify l r') work m equation [] unify_below unify_gives unify_quiet new link' ts (subst (λ x. IsUnified f.cells f.link x new link' ts) unify_asks u) outside model
-
   -- `T in R`, where the store is at rest
   module _ (runnable : IsRunnableProgram M prog) (n : ℕ) (k : Option ℕ) (l : Term) (x : Range) (work : List Goal) (m : Walks M prog q (Post l x ∷ work) f cs (suc n) k es r) (T : Family) (rest : IsAtRest M f T) where
     abbrev pub ahead : IsFront (Post l x) work m.here.place m.branch
@@ -212,9 +142,6 @@ module _ (M : ℕ) (prog : Program) (q : Query) (f : Frame) (cs : List Choice) (
 
     pub quiet : (s : Substitution) (D : Family) → IsView M m.branch.equations m.branch.posted s D → says s D m.branch ahead.head ≡ []
     quiet s D v = ap (says s D m.branch) asked.2
-
-    pub walk_post_fault : (e : QueryFault) → found ≡ offends e → (es ≡ Fault e ∷ []) × (r ≡ 1)
-    walk_post_fault e h = walk_fault runnable n k (Post l x) work m e (λ s D v. gives_found s D v ∙ ap (by_post m.branch ahead.rest) h)
 
     module _ (p : Indexical) (j : ℕ) (ds : List Equation) (is : found ≡ posts p j ds) where
       abbrev pub child : Branch

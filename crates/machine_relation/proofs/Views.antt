@@ -1,5 +1,5 @@
 -- A frame whose store is at rest shows what is seen in the branch.
-use Rattle.std.proofs.Common.{◌≡◌, ℕ, true, List, ◌++◌, Some, refl}
+use Rattle.std.proofs.Common.{◌≡◌, ℕ, true, List, ◌++◌, Some}
 use Rattle.fd_language.specs.Term.{Term, Var, Int, Atom, Comp, Substitution, apply}
 use Rattle.fd_language.specs.Unifier.{Equation}
 use Rattle.fd_language.specs.Family.{Family, has}
@@ -22,12 +22,6 @@ SameKind (Int z) (Int w) = z ≡ w
 SameKind (Atom a) (Atom b) = a ≡ b
 SameKind (Comp f ts) (Comp g us) = Unit {0}
 SameKind _ _ = ⊥
-
-pub kind_same : (t : Term) → SameKind t t
-kind_same (Var x) = tt
-kind_same (Int z) = refl
-kind_same (Atom a) = refl
-kind_same (Comp f ts) = tt
 
 pub kind_both : (look back : Substitution) (t u : Term) → apply look t ≡ u → apply back u ≡ t → SameKind t u
 kind_both look back (Var x) (Var y) e f = tt

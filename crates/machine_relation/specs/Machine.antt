@@ -1,5 +1,5 @@
 -- What the state of a machine that walks over goals stands for.
-use Rattle.std.specs.Prelude.{◌≡◌, ℕ, suc, ◌+◌, ◌*◌, ◌<◌, ◌≤◌, IsTrue, List, [], ◌∷◌, length, Option, None, map}
+use Rattle.std.specs.Prelude.{◌≡◌, ℕ, ◌+◌, ◌*◌, ◌<◌, ◌≤◌, IsTrue, List, [], ◌∷◌, Option, None, map}
 use Rattle.fd_language.specs.Term.{Term, Var}
 use Rattle.fd_model.specs.Goal.{Goal, Call, Clause, Program, Query, Branch, Event}
 use Rattle.fd_model.specs.Renaming.{rename_goal}
@@ -84,17 +84,3 @@ StandsBy M prog q (ended e) m es r = IsTrue (is_final e) × (es ≡ e ∷ []) ×
 -- the events still to come, and the reductions of the whole run
 abbrev pub Stands : ℕ → Program → Query → Machine → List Event → ℕ → Type 0
 Stands M prog q m es total = (r : ℕ) × (total ≡ m.spent + r) × StandsBy M prog q m.current m es r
-
--- how many alternatives are left, each with one more for its end
-abbrev pub left_of : Alternative → ℕ
-left_of (clauses cs t work) = suc (length cs)
-left_of (others work) = 1
-left_of (values ns c work) = suc (length ns)
-
-abbrev pub all_left : List Choice → ℕ
-all_left [] = 0
-all_left (c ∷ cs) = left_of c.left + all_left cs
-
--- What falls with each step that says nothing: most is the greatest number of alternatives that a goal can bring.
-abbrev pub work_left : ℕ → ℕ → List Choice → ℕ
-work_left most n cs = n * suc (suc most) + all_left cs

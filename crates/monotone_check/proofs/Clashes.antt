@@ -1,8 +1,8 @@
 -- What the nodes' variables find.
 use Rattle.std.proofs.Common.{◌≡◌, ℕ, suc, ◌+◌, ◌≤◌, ◌<◌, List, ◌∷◌, ◌++◌, length, drop, get_or, Option, None, refl, sym, ◌∙◌, ap, subst, inl, inr, ◌⊎◌, arith}
-use Rattle.fd_language.proofs.Lemmas.{first-append, earlier_assoc, earlier_none}
+use Rattle.fd_language.proofs.Lemmas.{first-append, earlier_assoc}
 use Rattle.std.specs.Prelude.{Result, Ok, Err, IfOk, OnOk}
-use Rattle.std.proofs.lemmas.List.{at_drop_more, drop_all}
+use Rattle.std.proofs.lemmas.List.{at_drop_more}
 use Rattle.fd_language.specs.declared.range_node.RangeNode.{RangeNode}
 use Rattle.fd_language.specs.declared.range_node.RangeNode.TheVariants as node
 use Rattle.fd_language.specs.declared.range_node.Offence.{Offence}
@@ -55,9 +55,6 @@ loop_step at i nodes d place clash found next whole old_ps old_ys new_ps new_ys 
   where
     one_more : (n : ℕ) → n + 1 ≡ suc n
     one_more n = omega arith
-
-pub loop_end : (at : ℕ → ℕ) (i : ℕ) (nodes : List RangeNode) (clash whole : Option Offence) (ps ys : List ℕ) → length nodes ≤ i → earlier clash (first (clashes at i ps ys (drop i nodes))) ≡ whole → clash ≡ whole
-loop_end at i nodes clash whole ps ys l h = sym (earlier_none clash) ∙ (ap (λ ns. earlier clash (first (clashes at i ps ys ns))) (sym (drop_all i nodes l)) ∙ h)
 
 pub ok_both : {A E : Type 0} (r : Result A E) (P : A → Type 0) (Q : Type 0) (R : A → Type 0) → IfOk r P → OnOk r Q → ((o : A) → P o → Q → R o) → IfOk r R
 ok_both (Ok o) P Q R h g f = f o h g

@@ -5,7 +5,7 @@ use Rattle.std.proofs.lemmas.Result.{IfOk-weaker}
 use Rattle.fd_language.specs.declared.TheConstants.{INFINITY}
 use Rattle.fd_language.specs.declared.range_node.RangeNode.{RangeNode}
 use Rattle.fd_language.specs.declared.range_node.RangeNode.TheVariants as node
-use Rattle.fd_language.specs.Range.{Range, Span, One, Dom, Union, Inter, Outside, Plus, Minus, Times, Over, Expr, Number, Infinity, Param, Min, Max, Val, Add, Sub, Mul, DivDown, DivUp}
+use Rattle.fd_language.specs.Range.{Range, Span, One, Union, Inter, Outside, Plus, Minus, Times, Over, Expr, Number, Infinity, Param, Min, Max, Val, Add, Sub, Mul, DivDown, DivUp}
 use Rattle.fd_language.specs.Flat.{term_alone, term_of_terms, range_of_ranges, range_of_both, put, built, built_behind}
 use Rattle.fd_language.specs.RangeVerdict.{expr_size, range_size}
 use Rattle.monotone_check.specs.declared.summary.TermCheck.{TermCheck}
@@ -13,9 +13,9 @@ use Rattle.monotone_check.specs.declared.summary.RangeCheck.{RangeCheck}
 use Rattle.monotone_check.specs.declared.pending.Pending.{Pending}
 use Rattle.monotone_check.specs.Summary.{IsTerm, IsRange, IsLeaf, IsOperated, IsCombined, IsPointwise}
 use Rattle.monotone_check.specs.PendingChecks.{AreTerms, AreRanges, before_terms, IsPending, Follows}
-use Rattle.monotone_check.specs.Steps.{PushesLeaf, PushesOperated, PushesSpan, PushesSingle, PushesDomain, PushesCombined, PushesComplement, PushesPointwise}
+use Rattle.monotone_check.specs.Steps.{PushesLeaf, PushesOperated, PushesSpan, PushesSingle, PushesCombined, PushesComplement, PushesPointwise}
 use Rattle.monotone_check.proofs.Operators.{add_is, sub_is, mul_is, div_down_is, div_up_is}
-use Rattle.monotone_check.proofs.Ranges.{span_is, one_is, dom_is, union_is, inter_is, outside_is, plus_is, minus_is, times_is, over_is}
+use Rattle.monotone_check.proofs.Ranges.{span_is, one_is, union_is, inter_is, outside_is, plus_is, minus_is, times_is, over_is}
 
 pub follows : (M : ℕ) (at : ℕ → ℕ) (n : ℕ) (ns : List RangeNode) (rs : List Range) (ts : List Expr) (o : Option Range) (p : Pending) → o ≡ built ns rs ts → IsPending M at (suc n) rs ts p → Follows M at n ns o p
 follows M at n ns rs ts None p e i = tt
@@ -97,15 +97,6 @@ module _ (at : ℕ → ℕ) (n : ℕ) (ns : List RangeNode) (old new : Pending) 
       follows INFINITY at n ns (One a ∷ rs) [] (built ns (One a ∷ rs) []) new refl
       (put_range rs old.ranges.items (One a) made.0 (n - expr_size a) (made.1 ∙ rest) made.2 (one_is INFINITY at n a s made.0 i made.3) (less n (expr_size a)) r)
 
-  pub read_dom : (y : ℕ) (rs : List Range) (ts : List Expr) → IsPending INFINITY at n rs ts old → PushesDomain (at n) old new → Follows INFINITY at n ns (built (node.Dom y ∷ ns) rs ts) new
-  read_dom y rs (a ∷ ts) p f = tt
-  read_dom y rs [] p f =
-      follows INFINITY at n ns (Dom y ∷ rs) [] (built ns (Dom y ∷ rs) []) new refl
-      (put_range rs old.ranges.items (Dom y) f.0 n (f.1 ∙ p.terms) f.2 (dom_is INFINITY at n y f.0 f.3) (same n) p.ranges)
-    where
-      same : (m : ℕ) → m ≡ suc m - 1
-      same m = omega arith
-
   -- an operator of two ranges
   read_combined : (make : Range → Range → Range) → ((r q : Range) → range_size (make r q) ≡ suc (range_size r + range_size q))
       → ((r q : Range) (s t u : RangeCheck) → IsRange INFINITY at (n - 1 - range_size q) r s → IsRange INFINITY at (n - 1) q t → IsCombined s t u → IsRange INFINITY at n (make r q) u)
@@ -175,9 +166,6 @@ span_taken m place old new is f = placed node.Span place old new (λ _ _ o k. Pu
 
 pub one_taken : (m : RangeNode) (place : ℕ) (old new : Pending) → m ≡ node.One → PushesSingle old new → Taken m place old new
 one_taken m place old new is f = placed node.One place old new (λ _ _ o k. PushesSingle o k) (λ at n ns rs ts. read_one at n ns old new rs ts) m is f
-
-pub dom_taken : (m : RangeNode) (place y : ℕ) (old new : Pending) → m ≡ node.Dom y → PushesDomain place old new → Taken m place old new
-dom_taken m place y old new is f = placed (node.Dom y) place old new (λ _ p o k. PushesDomain p o k) (λ at n ns rs ts. read_dom at n ns old new y rs ts) m is f
 
 pub outside_taken : (m : RangeNode) (place : ℕ) (old new : Pending) → m ≡ node.Outside → PushesComplement old new → Taken m place old new
 outside_taken m place old new is f = placed node.Outside place old new (λ _ _ o k. PushesComplement o k) (λ at n ns rs ts. read_outside at n ns old new rs ts) m is f

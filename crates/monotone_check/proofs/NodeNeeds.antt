@@ -6,22 +6,19 @@ use Rattle.fd_language.specs.declared.range_node.Need.{Need}
 use Rattle.fd_language.specs.declared.range_node.Need.TheVariants.{Whole, Natural, Divisor}
 use Rattle.fd_language.specs.declared.range_node.RangeNode.{RangeNode}
 use Rattle.fd_language.specs.declared.range_node.RangeNode.TheVariants as node
-use Rattle.fd_language.specs.Range.{Range, Span, One, Dom, Union, Inter, Outside, Plus, Minus, Times, Over, Expr, Number, Infinity, Param, Min, Max, Val, Add, Sub, Mul, DivDown, DivUp}
-use Rattle.fd_language.specs.Needs.{is_literal, quotient_asks, expr_asks, over_asks, asks}
+use Rattle.fd_language.specs.Range.{Range, Expr, Number, Infinity, Param, Min, Max, Val, Add, Sub, Mul, DivDown, DivUp}
+use Rattle.fd_language.specs.Needs.{is_literal, quotient_asks, expr_asks}
 use Rattle.fd_language.specs.Check.{is_parameter}
-use Rattle.fd_language.specs.Flat.{term_alone, term_of_terms, range_of_ranges, range_of_both, put, built, built_behind, spelled, IsSpelled}
+use Rattle.fd_language.specs.Flat.{term_alone, term_of_terms, put, built, built_behind, spelled, IsSpelled}
 use Rattle.std.proofs.Common.{get_or, drop}
-use Rattle.std.proofs.lemmas.List.{at_drop_more, drop_all, append-nil, append_assoc}
+use Rattle.std.proofs.lemmas.List.{at_drop_more, append-nil, append_assoc}
 use Rattle.std.specs.Prelude.{Ok, Err}
 use Rattle.monotone_check.specs.declared.asking.Asked.{Asked}
 use Rattle.monotone_check.specs.declared.asks.OpenTerm.{OpenTerm}
 use Rattle.monotone_check.specs.declared.asks.AskReader.{AskReader}
-use Rattle.monotone_check.specs.PlaceNeeds.{joins, AsksOf, raise, raise_all, told, raised, asks_now, Opens, OpensParameter, Operates, Closes, ClosesQuotient}
-use Rattle.monotone_check.specs.OpenTerms.{all_asks, IsAsking, FollowsAsking, TakesAsks, IsAskedSoFar}
-use Rattle.monotone_check.proofs.NodeWalk.{builds_all, some_same}
-
-Asks : Type 0
-Asks = List (ℕ × Need)
+use Rattle.monotone_check.specs.PlaceNeeds.{joins, AsksOf, raise, raise_all, told, raised, asks_now, Opens, OpensParameter, Operates}
+use Rattle.monotone_check.specs.OpenTerms.{IsAsking, FollowsAsking, TakesAsks, IsAskedSoFar}
+use Rattle.monotone_check.proofs.NodeWalk.{builds_all}
 
 length-told : (i : ℕ) (es : List Asked) → length (told i es) ≡ length es
 length-told i [] = refl
@@ -132,11 +129,6 @@ follows : (ns : List RangeNode) (rs : List Range) (ts : List Expr) (o : Option R
 follows ns rs ts None q e i = tt
 follows ns rs ts (Some r) q e i = (rs, ts, e, i)
 
-over_now : (c : Expr) (par : Bool) (before mid now new : List (ℕ × Need)) → now ≡ (before ++ mid) ++ expr_asks c false → par ≡ is_parameter c →
-    (par ≡ true → (ds : List (ℕ × Need)) (x : ℕ) (n : Need) → now ≡ ds ++ (x, n) ∷ [] → new ≡ ds ++ (x, Divisor) ∷ []) → (par ≡ false → new ≡ now) → new ≡ before ++ (mid ++ over_asks c)
-over_now (Param x) par before mid now new e q g k = g q (before ++ mid) x Whole e ∙ append_assoc before mid ((x, Divisor) ∷ [])
-over_now b par before mid now new e q g k = k q ∙ (e ∙ append_assoc before mid (expr_asks b false))
-
 both_same : (s t a b : Bool) → s ≡ a → t ≡ b → (true && (s && t)) ≡ (a && b)
 both_same s t a b e f = cc
 
@@ -189,65 +181,6 @@ module _ (ns : List RangeNode) (old new : AskReader) where
   ask_div_up : (rs : List Range) (ts : List Expr) → IsAsking rs ts old → Operates node.DivUp old new → FollowsAsking ns (built (node.DivUp ∷ ns) rs ts) new
   ask_div_up rs ts i f = ask_operator node.DivUp DivUp (λ a b s t mid now later h e k l q g. quotient_now b t.literal t.parameter mid now later s.from a h e l q g.0 g.1) (λ a b k l e g. refl) (λ a b. refl) rs ts i f
 
-  ask_span : (rs : List Range) (ts : List Expr) → IsAsking rs ts old → Closes old new → FollowsAsking ns (built (node.Span ∷ ns) rs ts) new
-  ask_span rs [] i f = tt
-  ask_span rs (b ∷ []) i f = tt
-  ask_span rs (b ∷ a ∷ c ∷ ts) i f = tt
-  ask_span rs (b ∷ a ∷ []) i f =
-      let (front, t, mid, terms, now, tf, tl, tp, more) = i in
-      let (front2, s, mid2, terms2, now2, sf, sl, sp, rest) = more in
-      follows ns (Span a b ∷ rs) [] (built ns (Span a b ∷ rs) []) new refl
-      (f.0, f.1 ∙ (now ∙ (ap (λ l. l ++ expr_asks b false) (now2 ∙ ap (λ l. l ++ expr_asks a false) rest.1) ∙ append_assoc (all_asks rs) (expr_asks a false) (expr_asks b false))))
-
-  ask_one : (rs : List Range) (ts : List Expr) → IsAsking rs ts old → Closes old new → FollowsAsking ns (built (node.One ∷ ns) rs ts) new
-  ask_one rs [] i f = tt
-  ask_one rs (a ∷ b ∷ ts) i f = tt
-  ask_one rs (a ∷ []) i f =
-      let (front, t, mid, terms, now, tf, tl, tp, rest) = i in
-      follows ns (One a ∷ rs) [] (built ns (One a ∷ rs) []) new refl (f.0, f.1 ∙ (now ∙ ap (λ l. l ++ expr_asks a false) rest.1))
-
-  ask_dom : (y : ℕ) (rs : List Range) (ts : List Expr) → IsAsking rs ts old → Closes old new → FollowsAsking ns (built (node.Dom y ∷ ns) rs ts) new
-  ask_dom y rs (a ∷ ts) i f = tt
-  ask_dom y rs [] i f = follows ns (Dom y ∷ rs) [] (built ns (Dom y ∷ rs) []) new refl (f.0, f.1 ∙ (i.1 ∙ sym (append-nil (all_asks rs))))
-
-  ask_ranges : (make : Range → Range → Range) → ((r q : Range) → asks r ++ asks q ≡ asks (make r q)) → (rs : List Range) (ts : List Expr) → IsAsking rs ts old → Closes old new → FollowsAsking ns (built_behind ns (put (range_of_ranges make) rs ts)) new
-  ask_ranges make all [] [] i f = tt
-  ask_ranges make all (q ∷ []) [] i f = tt
-  ask_ranges make all [] (a ∷ ts) i f = tt
-  ask_ranges make all (q ∷ []) (a ∷ ts) i f = tt
-  ask_ranges make all (q ∷ r ∷ rs) (a ∷ ts) i f = tt
-  ask_ranges make all (q ∷ r ∷ rs) [] i f = follows ns (make r q ∷ rs) [] (built ns (make r q ∷ rs) []) new refl (f.0, f.1 ∙ (i.1 ∙ (append_assoc (all_asks rs) (asks r) (asks q) ∙ ap (λ l. all_asks rs ++ l) (all r q))))
-
-  ask_outside : (rs : List Range) (ts : List Expr) → IsAsking rs ts old → Closes old new → FollowsAsking ns (built (node.Outside ∷ ns) rs ts) new
-  ask_outside [] [] i f = tt
-  ask_outside [] (a ∷ ts) i f = tt
-  ask_outside (r ∷ rs) (a ∷ ts) i f = tt
-  ask_outside (r ∷ rs) [] i f = follows ns (Outside r ∷ rs) [] (built ns (Outside r ∷ rs) []) new refl (f.0, f.1 ∙ i.1)
-
-  ask_pointwise : (make : Range → Expr → Range) → ((r : Range) (c : Expr) → asks r ++ expr_asks c false ≡ asks (make r c)) → (rs : List Range) (ts : List Expr) → IsAsking rs ts old → Closes old new
-      → FollowsAsking ns (built_behind ns (put (range_of_both make) rs ts)) new
-  ask_pointwise make all [] [] i f = tt
-  ask_pointwise make all [] (a ∷ []) i f = tt
-  ask_pointwise make all [] (b ∷ a ∷ ts) i f = tt
-  ask_pointwise make all (r ∷ rs) [] i f = tt
-  ask_pointwise make all (r ∷ rs) (b ∷ a ∷ ts) i f = tt
-  ask_pointwise make all (r ∷ rs) (c ∷ []) i f =
-      let (front, t, mid, terms, now, tf, tl, tp, rest) = i in
-      follows ns (make r c ∷ rs) [] (built ns (make r c ∷ rs) []) new refl
-      (f.0, f.1 ∙ (now ∙ (ap (λ l. l ++ expr_asks c false) rest.1 ∙ (append_assoc (all_asks rs) (asks r) (expr_asks c false) ∙ ap (λ l. all_asks rs ++ l) (all r c)))))
-
-  ask_over : (rs : List Range) (ts : List Expr) → IsAsking rs ts old → ClosesQuotient old new → FollowsAsking ns (built (node.Over ∷ ns) rs ts) new
-  ask_over [] [] i f = tt
-  ask_over [] (a ∷ []) i f = tt
-  ask_over [] (b ∷ a ∷ ts) i f = tt
-  ask_over (r ∷ rs) [] i f = tt
-  ask_over (r ∷ rs) (b ∷ a ∷ ts) i f = tt
-  ask_over (r ∷ rs) (c ∷ []) i f =
-      let (front, t, mid, terms, now, tf, tl, tp, rest) = i in
-      let made = f front t terms in
-      follows ns (Over r c ∷ rs) [] (built ns (Over r c ∷ rs) []) new refl
-      (made.0, over_now c t.parameter (all_asks rs) (asks r) (asks_now old) (asks_now new) (now ∙ ap (λ l. l ++ expr_asks c false) rest.1) tp made.1 made.2)
-
 via : (m k : RangeNode) (old new : AskReader) → k ≡ m → TakesAsks m old new → TakesAsks k old new
 via m k old new e f = subst (λ j. TakesAsks j old new) (sym e) f
 
@@ -264,14 +197,8 @@ open_false_takes m old new is f = elim is [ inl e0 ↦ via (node.Min e0.0) m old
 pub operate_takes : (m : RangeNode) (old new : AskReader) → ((m ≡ node.Add) ⊎ ((m ≡ node.Sub) ⊎ ((m ≡ node.Mul) ⊎ ((m ≡ node.DivDown) ⊎ (m ≡ node.DivUp))))) → Operates m old new → TakesAsks m old new
 operate_takes m old new is f = elim is [ inl e0 ↦ via node.Add m old new e0 (λ ns rs ts i. ask_add ns old new rs ts i (subst (λ j. Operates j old new) e0 f)) | inr h0 ↦ elim h0 [ inl e1 ↦ via node.Sub m old new e1 (λ ns rs ts i. ask_sub ns old new rs ts i (subst (λ j. Operates j old new) e1 f)) | inr h1 ↦ elim h1 [ inl e2 ↦ via node.Mul m old new e2 (λ ns rs ts i. ask_mul ns old new rs ts i (subst (λ j. Operates j old new) e2 f)) | inr h2 ↦ elim h2 [ inl e3 ↦ via node.DivDown m old new e3 (λ ns rs ts i. ask_div_down ns old new rs ts i (subst (λ j. Operates j old new) e3 f)) | inr h3 ↦ via node.DivUp m old new h3 (λ ns rs ts i. ask_div_up ns old new rs ts i (subst (λ j. Operates j old new) h3 f)) ] ] ] ]
 
-pub close_takes : (m : RangeNode) (old new : AskReader) → ((m ≡ node.Span) ⊎ ((m ≡ node.One) ⊎ (((y : ℕ) × (m ≡ node.Dom y)) ⊎ ((m ≡ node.Union) ⊎ ((m ≡ node.Inter) ⊎ ((m ≡ node.Outside) ⊎ ((m ≡ node.Plus) ⊎ ((m ≡ node.Minus) ⊎ (m ≡ node.Times))))))))) → Closes old new → TakesAsks m old new
-close_takes m old new is f = elim is [ inl e0 ↦ via node.Span m old new e0 (λ ns rs ts i. ask_span ns old new rs ts i f) | inr h0 ↦ elim h0 [ inl e1 ↦ via node.One m old new e1 (λ ns rs ts i. ask_one ns old new rs ts i f) | inr h1 ↦ elim h1 [ inl e2 ↦ via (node.Dom e2.0) m old new e2.1 (λ ns rs ts i. ask_dom ns old new e2.0 rs ts i f) | inr h2 ↦ elim h2 [ inl e3 ↦ via node.Union m old new e3 (λ ns rs ts i. ask_ranges ns old new Union (λ r q. refl) rs ts i f) | inr h3 ↦ elim h3 [ inl e4 ↦ via node.Inter m old new e4 (λ ns rs ts i. ask_ranges ns old new Inter (λ r q. refl) rs ts i f) | inr h4 ↦ elim h4 [ inl e5 ↦ via node.Outside m old new e5 (λ ns rs ts i. ask_outside ns old new rs ts i f) | inr h5 ↦ elim h5 [ inl e6 ↦ via node.Plus m old new e6 (λ ns rs ts i. ask_pointwise ns old new Plus (λ r c. refl) rs ts i f) | inr h6 ↦ elim h6 [ inl e7 ↦ via node.Minus m old new e7 (λ ns rs ts i. ask_pointwise ns old new Minus (λ r c. refl) rs ts i f) | inr h7 ↦ via node.Times m old new h7 (λ ns rs ts i. ask_pointwise ns old new Times (λ r c. refl) rs ts i f) ] ] ] ] ] ] ] ]
-
 pub param_takes : (m : RangeNode) (x : ℕ) (old new : AskReader) → m ≡ node.Param x → OpensParameter x old new → TakesAsks m old new
 param_takes m x old new e f = via (node.Param x) m old new e (λ ns rs ts i. ask_param ns old new x rs ts i f)
-
-pub over_takes : (m : RangeNode) (old new : AskReader) → m ≡ node.Over → ClosesQuotient old new → TakesAsks m old new
-over_takes m old new e f = via node.Over m old new e (λ ns rs ts i. ask_over ns old new rs ts i f)
 
 pub asks_start : (nodes : List RangeNode) (q : AskReader) → IsSpelled nodes → q.terms.items ≡ [] → q.asking.places.items ≡ [] → IsAskedSoFar 0 nodes q
 asks_start nodes q s t p = ([], [], builds_all nodes s, (t, ap (λ l. told 0 l) p))
@@ -283,14 +210,3 @@ pub asks_step : (i : ℕ) (nodes : List RangeNode) (d : RangeNode) (old new : As
 asks_step i nodes d old new l (rs, ts, e, p) f =
     let g : Some (spelled nodes) ≡ built (get_or nodes i d ∷ drop (i + 1) nodes) rs ts = e ∙ at_drop_more (λ ns. built ns rs ts) nodes i d l in
     from_follows (drop (i + 1) nodes) (spelled nodes) _ new g (f (drop (i + 1) nodes) rs ts p)
-
-alone : (r : Range) (rs : List Range) (ts : List Expr) (q : AskReader) → Some r ≡ built [] rs ts → IsAsking rs ts q → asks_now q ≡ asks r
-alone r [] [] q e h = absurd cc
-alone r [] (t ∷ ts) q e h = absurd cc
-alone r (x ∷ []) (t ∷ ts) q e h = absurd cc
-alone r (x ∷ y ∷ rs) [] q e h = absurd cc
-alone r (x ∷ y ∷ rs) (t ∷ ts) q e h = absurd cc
-alone r (x ∷ []) [] q e h = h.1 ∙ ap asks (sym (some_same r x e))
-
-pub asks_end : (i : ℕ) (nodes : List RangeNode) (q : AskReader) → length nodes ≤ i → IsAskedSoFar i nodes q → told 0 q.asking.places.items ≡ asks (spelled nodes)
-asks_end i nodes q h (rs, ts, e, p) = alone (spelled nodes) rs ts q (e ∙ ap (λ ns. built ns rs ts) (drop_all i nodes h)) p

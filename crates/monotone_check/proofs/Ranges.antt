@@ -5,13 +5,13 @@ use Rattle.std.proofs.lemmas.Bool.{true≢false, and_parts}
 use Rattle.fd_language.specs.declared.range_node.RangeNode.{RangeNode}
 use Rattle.fd_language.specs.declared.range_node.RangeNode.TheVariants as node
 use Rattle.fd_language.specs.declared.range_node.Offence.{Offence}
-use Rattle.fd_language.specs.Range.{Range, Span, One, Dom, Union, Inter, Outside, Plus, Minus, Times, Over, Expr, Param}
+use Rattle.fd_language.specs.Range.{Range, Span, One, Union, Inter, Outside, Plus, Minus, Times, Over, Expr, Param}
 use Rattle.fd_language.specs.Needs.{is_literal}
 use Rattle.fd_language.specs.Check.{Rising, Falling, Constant, literal_value, is_parameter}
 use Rattle.fd_language.specs.RangeVerdict.{expr_size, range_size, bound, earlier, wide_in_expr, wide_in_range, where_too_wide, unless_divides, expr_offences, range_offences, expr_within, range_within, first}
 use Rattle.monotone_check.specs.declared.summary.TermCheck.{TermCheck}
 use Rattle.monotone_check.specs.declared.summary.RangeCheck.{RangeCheck}
-use Rattle.monotone_check.specs.Summary.{IsTerm, IsRange, by_growth, pointwise_over, pointwise_first, divisor_first, IsSpan, IsSingle, IsDomain, IsCombined, IsComplement, IsPointwise}
+use Rattle.monotone_check.specs.Summary.{IsTerm, IsRange, by_growth, pointwise_over, pointwise_first, divisor_first, IsSpan, IsSingle, IsCombined, IsComplement, IsPointwise}
 use Rattle.monotone_check.proofs.Operators.{within_left, within_right}
 
 no_parameter : (c : Expr) → is_literal c ≡ true → is_parameter c ≡ false
@@ -46,9 +46,6 @@ module _ (M : ℕ) (at : ℕ → ℕ) (n : ℕ) where
     wide = o.wide ∙ i.wide;
     offences = λ h. growth u _ _ (λ w. range_offences M at n (One a) w) o.shrinking o.growing (i.offences h Constant false) (i.offences h Constant false);
   }
-
-  pub dom_is : (y : ℕ) (u : RangeCheck) → IsDomain (at n) u → IsRange M at n (Dom y) u
-  dom_is y u o = record { wide = o.wide; offences = λ h. growth u _ _ (λ w. range_offences M at n (Dom y) w) o.shrinking o.growing refl refl }
 
   -- the range g of an operator of two ranges
   combined_is : (g r q : Range) (s t u : RangeCheck) → wide_in_range M at (n - 1 - range_size q) r ++ wide_in_range M at (n - 1) q ≡ wide_in_range M at n g → range_within M g ≡ (range_within M r && range_within M q)

@@ -1,7 +1,6 @@
 //! What is asked of each parameter, from left to right.
 
-ghost use Rattle.std.specs.Prelude.{◌≡◌, ℕ, suc, ◌+◌, List, [], ◌∷◌, ◌++◌, length, Some, None, IfOk, OnOk, OnErr};
-ghost use Rattle.fd_language.specs.Needs.{expr_asks};
+ghost use Rattle.std.specs.Prelude.{◌≡◌, ℕ, ◌+◌, List, [], ◌∷◌, ◌++◌, length, OnOk};
 ghost use Rattle.fd_language.specs.declared.range_node.Need.{Need as Asks};
 ghost use Rattle.fd_language.specs.declared.range_node.Need.TheVariants.{Whole, Divisor};
 ghost use Rattle.monotone_check.specs.PlaceNeeds.{told, raised};

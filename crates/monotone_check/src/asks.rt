@@ -1,6 +1,6 @@
 //! What is asked of the parameters, node by node.
 
-ghost use Rattle.std.specs.Prelude.{◌≡◌, ℕ, suc, List, [], ◌∷◌, ◌++◌, IsTrue, IfOk, OnOk};
+ghost use Rattle.std.specs.Prelude.{◌≡◌, ℕ, [], ◌∷◌, ◌++◌, IfOk, OnOk};
 ghost use Rattle.fd_language.specs.Needs.{asks};
 ghost use Rattle.fd_language.specs.Flat.{spelled, IsSpelled};
 ghost use Rattle.monotone_check.specs.OpenTerms.{TakesAsks};

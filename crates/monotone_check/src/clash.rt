@@ -1,8 +1,7 @@
 //! Variables with two uses: as a parameter, and in min, max, val or dom.
 
-ghost use Rattle.std.specs.Prelude.{◌≡◌, ℕ, suc, List, [], ◌∷◌, length, slice_index, Option, IfOk, OnOk, IsTrue};
-ghost use Rattle.fd_language.specs.declared.range_node.RangeNode.{RangeNode as Spelled};
-ghost use Rattle.fd_language.specs.RangeVerdict.{clashes, first, where_first_clash, earlier as earlier_of};
+ghost use Rattle.std.specs.Prelude.{◌≡◌, ℕ, List, [], ◌∷◌, length, slice_index, Option, IfOk, OnOk};
+ghost use Rattle.fd_language.specs.RangeVerdict.{clashes, first, where_first_clash};
 ghost use Rattle.fd_language.specs.Family.{has};
 ghost use Rattle.monotone_check.specs.MetVariables.{AreSeen, FindsAt};
 

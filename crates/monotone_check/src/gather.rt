@@ -1,9 +1,8 @@
 //! Each parameter with its strongest need.
 
-ghost use Rattle.std.specs.Prelude.{◌≡◌, ℕ, List, [], ◌∷◌, ◌++◌, length, reverse, IfOk, OnOk, map, nat_eq, nat_lt, if◌then◌else◌};
+ghost use Rattle.std.specs.Prelude.{◌≡◌, ℕ, [], ◌∷◌, ◌++◌, reverse, IfOk, OnOk, map, nat_eq, nat_lt, if◌then◌else◌};
 ghost use Rattle.std.specs.List.{position_or_len};
 ghost use Rattle.fd_language.specs.Needs.{stronger as stronger_of};
-ghost use Rattle.fd_language.specs.declared.range_node.Need.{Need as Asks};
 ghost use Rattle.monotone_check.specs.PlaceNeeds.{told, raise};
 ghost use Rattle.monotone_check.specs.JoinedNeeds.{put, put_all};
 

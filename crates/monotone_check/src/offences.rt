@@ -1,6 +1,6 @@
 //! Offences, and which of them comes first.
 
-ghost use Rattle.std.specs.Prelude.{◌≡◌, ℕ, ◌<◌, IsTrue, Option};
+ghost use Rattle.std.specs.Prelude.{◌≡◌, ℕ, ◌<◌, Option};
 ghost use Rattle.fd_language.specs.RangeVerdict.{is_before, earlier as earlier_of, offence_place, offence_kind};
 ghost use Rattle.fd_language.specs.Check.{Wish, turn};
 ghost use Rattle.monotone_check.specs.Wishes.{by_wish};

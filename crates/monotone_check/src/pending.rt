@@ -1,6 +1,6 @@
 //! The terms and ranges that wait for their operators.
 
-ghost use Rattle.std.specs.Prelude.{◌≡◌, ℕ, suc, List, [], ◌∷◌, ◌++◌, Some, None, IfOk};
+ghost use Rattle.std.specs.Prelude.{◌≡◌, ℕ, List, [], ◌∷◌, ◌++◌, Some, IfOk};
 ghost use Rattle.fd_language.specs.declared.range_node.RangeNode.{RangeNode as Spelled};
 ghost use Rattle.fd_language.specs.Range.{Range, Expr};
 ghost use Rattle.fd_language.specs.Flat.{built};

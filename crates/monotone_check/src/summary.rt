@@ -1,12 +1,11 @@
 //! What is kept of a term and of a range while the nodes above it are still to come.
 
-ghost use Rattle.std.specs.Prelude.{◌≡◌, ℕ, ◌+◌, ◌-◌, ◌*◌, ◌^◌, ◌≤◌, ◌<◌, min, max, ℤ, FitsSigned, Bool, true, false, Option, Some, None, IfSome, IsTrue, pos, int_le, nat_lt, nat_abs};
+ghost use Rattle.std.specs.Prelude.{◌≡◌, ℕ, ◌+◌, ◌-◌, ◌*◌, ◌^◌, ◌≤◌, ◌<◌, min, max, ℤ, FitsSigned, true, false, Option, Some, None, IfSome, pos, int_le, nat_abs};
 ghost use Rattle.std.specs.Int.{w128};
-ghost use Rattle.fd_language.specs.Check.{Wish, turn};
-ghost use Rattle.fd_language.specs.Range.{Expr, Range};
-ghost use Rattle.fd_language.specs.RangeVerdict.{first, where_below_zero, where_too_wide, over_limit, unless_divides, scaled, earlier as earlier_of, expr_size};
+ghost use Rattle.fd_language.specs.Check.{Wish};
+ghost use Rattle.fd_language.specs.RangeVerdict.{first, where_below_zero, where_too_wide, over_limit, unless_divides, scaled};
 ghost use Rattle.monotone_check.specs.Wishes.{by_wish};
-ghost use Rattle.monotone_check.specs.Summary.{capped, operator_bound, operator_literal, product_first, quotient_first, operands_first, operator_first, kept, leaf_expr, IsTerm, pointwise_over, pointwise_first, IsLeaf, IsOperated, IsSpan, IsSingle, IsDomain, IsCombined, IsComplement, IsPointwise};
+ghost use Rattle.monotone_check.specs.Summary.{capped, operator_bound, operator_literal, product_first, quotient_first, operands_first, kept, pointwise_over, pointwise_first, IsLeaf, IsOperated, IsSpan, IsSingle, IsDomain, IsCombined, IsComplement, IsPointwise};
 
 use crate::offences::{Wishes, earlier};
 use fd_language::{INFINITY, Offence, RangeNode};

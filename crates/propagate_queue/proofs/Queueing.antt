@@ -5,9 +5,6 @@ use Rattle.std.proofs.lemmas.List.{length-set, get_or-set_same, get_or-set_other
 use Rattle.fd_language.specs.Family.{has}
 use Rattle.propagate_queue.specs.Queues.{times, flag_at, flagged, AreQueued}
 
-one : Bool → ℕ
-one b = cond b 1 0
-
 pub flag_within : (flags : List Bool) (a : ℕ) → flag_at flags a ≡ true → a < length flags
 flag_within [] a h = absurd (true≢false (sym h))
 flag_within (b ∷ bs) zero h = omega arith

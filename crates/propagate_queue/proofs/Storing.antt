@@ -54,9 +54,6 @@ no_domains = record {
   everything : IsFamily INFINITY (family_of [])
   everything = record { rising = λ x. universe_rising INFINITY }
 
-no_flag_there : (a : ℕ) → flag_at [] a ≡ false
-no_flag_there a = refl
-
 -- no agents, no flags
 pub empty_queue : (spare : ℕ) → AreQueued [] [] spare
 empty_queue spare = record { once = λ k. refl; all = refl; room = omega arith }
@@ -325,22 +322,6 @@ popped_store is is' flags flags' agenda spare readings readings' trail trail' m 
 
 pub same_levels : {ps : List Indexical} {a b : List (List ℕ)} {c d : List Level} {f s : Bool} → a ≡ b → c ≡ d → ◌≡◌ {A = Levels} (record { current = record { posted = ps; sets = a; failed = f }; below = c; spent = s }) (record { current = record { posted = ps; sets = b; failed = f }; below = d; spent = s })
 same_levels e f = cc
-
--- memory was wanting
-pub spent_now : (is : List Posting) (flags : List Bool) (agenda : List ℕ) (spare : ℕ) (readings : Readings) (trail : Stores) (ms : List ℕ) (lost spent : Bool) → IsStore is flags agenda spare readings trail ms lost spent → (flags' : List Bool) (agenda' : List ℕ) (spare' : ℕ) → length flags' ≡ length flags → IsStore is flags' agenda' spare' readings trail ms lost true
-spent_now is flags agenda spare readings trail ms lost spent s flags' agenda' spare' e = record {
-  instances = s.instances;
-  monotone = s.monotone;
-  readers = s.readers;
-  vars = s.vars;
-  same_vars = λ h. absurd (true≢false h);
-  within = s.within;
-  flagged = e ∙ s.flagged;
-  quiet = λ h. absurd (true≢false h);
-  settled = λ h. absurd (true≢false h);
-  failed = λ h. absurd (true≢false h);
-  below = s.below;
-}
 
 -- one more variable
 args_more : (n m : ℕ) → n ≤ m → (ns : List (Option Need)) (as' : List Arg) → AreArgs n ns as' → AreArgs m ns as'

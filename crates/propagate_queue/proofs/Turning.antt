@@ -77,9 +77,6 @@ moved_total i old new o before after h f done =
     let d : Activated p old new (Changed before after) = subst (Activated p old new) f done in
     omega (arith, ap (λ s. total s.current) d.0, total_less old.current p.target (narrowed p old.current) h d.1)
 
-pub moved_below : (i : Posting) (old new : Stores) (o : Cut) (before after : ℕ × ℕ) → o ≡ Changed before after → Activated (ranged i) old new o → new.below ≡ old.below
-moved_below i old new o before after f done = let d : Activated (ranged i) old new (Changed before after) = subst (Activated (ranged i) old new) f done in ap (λ s. s.below) d.0
-
 pub empty_turn : (is : List Posting) (old new : Stores) (flags : List Bool) (a : ℕ) (i : Posting) (o : Cut) → AllPosted (λ q. IsMonotone INFINITY q.range) (ranges_of is) → a < length is → i ≡ get_or is a i → i.target < length old.current → o ≡ Empty → Activated (ranged i) old new o
     → IsRunning (ranges_of is) old.current flags → HasNone (ranges_of is) (length old.current)
 empty_turn is old new flags a i o m l e h f done r = let d : Activated (ranged i) old new Empty = subst (Activated (ranged i) old new) f done in none_left_at (ranges_of is) (ranged i) old.current flags m (posted_there is a i l e) h d.1 r

@@ -1,8 +1,8 @@
 -- How the members of a target that are chosen are gathered.
-use Rattle.std.proofs.Common.{◌≡◌, ℕ, zero, suc, ◌+◌, ◌<◌, ◌≤◌, ◌-◌, length, take, drop, get_or, Bool, true, false, ◌&&◌, ◌||◌, ◌==◌, eqb-true, eq-eqb, List, [], ◌∷◌, ◌++◌, filter, refl, sym, ◌∙◌, ap, subst, arith, ◌⊎◌, inl, inr, leb}
+use Rattle.std.proofs.Common.{◌≡◌, ℕ, zero, suc, ◌+◌, ◌<◌, ◌≤◌, ◌-◌, length, take, get_or, Bool, true, false, ◌&&◌, ◌||◌, ◌==◌, eqb-true, eq-eqb, List, [], ◌∷◌, ◌++◌, filter, refl, sym, ◌∙◌, ap, subst, arith, ◌⊎◌, inl, inr, leb}
 use Rattle.std.proofs.lemmas.Bool.{true≢false, or_cases, and_parts, cases_Bool}
 use Rattle.std.proofs.lemmas.Bool.Decides.{nat_tests}
-use Rattle.std.proofs.lemmas.List.{get_or-take, get_or_default, length-append, length-take-le, take_all}
+use Rattle.std.proofs.lemmas.List.{get_or-take, get_or_default, length-append, length-take-le}
 use Rattle.std.proofs.lemmas.List.Folds.{list_any_more}
 use Rattle.fd_language.specs.declared.TheConstants.{INFINITY}
 use Rattle.fd_language.specs.Family.{has, universe, IsRising, IsSubset}
@@ -208,41 +208,6 @@ pub gathering_same : (t s : List ℕ) (ds : List (ℕ × ℕ)) (i : ℕ) (rest :
 gathering_same t s ds i rest from count sets old_from old_count old_sets e f g h =
     subst (λ n. Gathering t s ds i rest n count sets) (sym e) (subst (λ n. Gathering t s ds i rest old_from n sets) (sym f) (subst (Gathering t s ds i rest old_from old_count) (sym g) h))
 
--- all pairs
-pub gathered_all : (t s : List ℕ) (ds : List (ℕ × ℕ)) (i : ℕ) (rest : List Span) (from count : ℕ) (sets : List (List ℕ)) → length ds ≤ i → Gathering t s ds i rest from count sets → sets ≡ left_chosen t s ds ∷ []
-gathered_all t s ds i rest from count sets l h = h.top ∙ ap (λ xs. xs ∷ []) (h.are ∙ ap (left_chosen t s) (take_all i ds l))
-
-pub gathered_count : (t s : List ℕ) (ds : List (ℕ × ℕ)) (i : ℕ) (rest : List Span) (from count : ℕ) (sets : List (List ℕ)) → length ds ≤ i → Gathering t s ds i rest from count sets → count ≡ length (left_chosen t s ds)
-gathered_count t s ds i rest from count sets l h = h.counted ∙ ap length (h.are ∙ ap (left_chosen t s) (take_all i ds l))
-
--- the intervals from the first one on that doesn't end below a number
-behind_is : (x : Span) (xs : List Span) → take (length (x ∷ xs) - 1) (drop 1 (x ∷ xs)) ≡ xs
-behind_is x xs = take_all (length (x ∷ xs) - 1) xs (omega arith)
-
-lower : (x : Span) (xs : List Span) → IsSpans 0 INFINITY (x ∷ xs) → IsSpans 0 INFINITY xs
-lower x [] h = tt
-lower x (y ∷ ys) h = let r = h.3 in (omega arith, r.1, r.2, r.3)
-
-pub behind_spans : (ss : List Span) → 1 ≤ length ss → IsSpans 0 INFINITY ss → IsSpans 0 INFINITY (take (length ss - 1) (drop 1 ss))
-behind_spans [] l h = absurd (let z : ⊥ = omega (arith, l) in z)
-behind_spans (x ∷ xs) l h = subst (IsSpans 0 INFINITY) (sym (behind_is x xs)) (lower x xs h)
-
-passed : (x : Span) (xs : List Span) (n : ℕ) → x.1 < n → within (x ∷ xs) n ≡ within xs n
-passed x xs n h = past (leb x.0 n) (leb n x.1) (within xs n) (beyond x.1 n h) where
-  beyond : (a b : ℕ) → a < b → leb b a ≡ false
-  beyond a b h = grind (arith, nat_tests)
-
-  past : (a b w : Bool) → b ≡ false → ((a && b) || w) ≡ w
-  past a b w g = grind (arith, g)
-
-pub behind_within : (number : ℕ) (ss : List Span) (d : Span) → 1 ≤ length ss → (get_or ss 0 d).1 < number → (n : ℕ) → number ≤ n → within (take (length ss - 1) (drop 1 ss)) n ≡ within ss n
-behind_within number [] d l h n g = absurd (let z : ⊥ = omega (arith, l) in z)
-behind_within number (x ∷ xs) d l h n g = ap (λ ys. within ys n) (behind_is x xs) ∙ sym (passed x xs n (omega (arith, h, g)))
-
-pub from_front : (number : ℕ) (ss : List Span) (d : Span) → (1 ≤ length ss → number ≤ (get_or ss 0 d).1) → IsFromNumber number ss
-from_front number [] d h = tt
-from_front number (x ∷ xs) d h = h (omega arith)
-
 -- whether the number is in the first interval
 pub in_first : (number : ℕ) (ss : List Span) (d : Span) → 1 ≤ length ss → IsSpans 0 INFINITY ss → IsFromNumber number ss → leb (get_or ss 0 d).0 number ≡ within ss number
 in_first number [] d l r h = absurd (let z : ⊥ = omega (arith, l) in z)
@@ -258,10 +223,6 @@ in_first number (x ∷ xs) d l r h = elim (cases_Bool (leb x.0 number)) [
 
   beyond : (a b : ℕ) → leb a b ≡ false → b < a
   beyond a b e = grind (arith, nat_tests)
-
-pub none_first : (number : ℕ) (ss : List Span) → length ss < 1 → within ss number ≡ false
-none_first number [] l = refl
-none_first number (x ∷ xs) l = absurd (let z : ⊥ = omega (arith, l) in z)
 
 -- whether the number is in a set of one interval
 only_has : (ss : List Span) (d : Span) (xs : List ℕ) (n : ℕ) → length ss ≡ 1 → IsSpans 0 INFINITY ss → members ss ≡ xs → (leb (get_or ss 0 d).0 n && leb n (get_or ss 0 d).1) ≡ has xs n

@@ -81,13 +81,6 @@ numbered_more nodes i d old new l h f = subst (λ xs. IsNumbered xs new) (sym (a
 pub needs_more : (ds : List (ℕ × Need)) (i : ℕ) (d : ℕ × Need) (old new : Option Need) (y : ℕ) → i < length ds → new ≡ cond ((get_or ds i d).0 == y) (Some (get_or ds i d).1) old → old ≡ need_in (take i ds) y → new ≡ need_in (take (i + 1) ds) y
 needs_more ds i d old new y l e h = e ∙ (ap (λ o. cond ((get_or ds i d).0 == y) (Some (get_or ds i d).1) o) h ∙ (sym (need_more (take i ds) (get_or ds i d) y) ∙ ap (λ k. need_in k y) (sym (take_more ds i d l))))
 
--- which slots were met, as pairs that were read
-pub same_told : (min min' max max' : ℕ → Bool) (fs fs' : List (ℕ × Feature)) → ((s : ℕ) → min s ≡ min' s) → ((s : ℕ) → max s ≡ max' s) → fs ≡ fs' → all_told min max fs ≡ all_told min' max' fs'
-same_told min min' max max' fs fs' h g e = ap (λ f. all_told f max fs) (λ i s. h s i) ∙ (ap (λ f. all_told min' f fs) (λ i s. g s i) ∙ ap (all_told min' max') e)
-
-pub kept_same : (p q : ℕ → Bool) (xs : List ℕ) → ((n : ℕ) → p n ≡ q n) → filter p xs ≡ filter q xs
-kept_same p q xs h = ap (λ f. filter f xs) (λ i n. h n i)
-
 -- one more pair
 pub met_more : (ds : List (ℕ × Feature)) (i : ℕ) (d : ℕ × Feature) (wanted : ℕ × Feature) (old new : Bool) → i < length ds → old ≡ has_pair (take i ds) wanted → new ≡ (is_same_pair wanted (get_or ds i d) || old) → new ≡ has_pair (take (i + 1) ds) wanted
 met_more ds i d wanted old new l h f = f ∙ (ap (λ b. is_same_pair wanted (get_or ds i d) || b) h ∙ (swapped (is_same_pair wanted (get_or ds i d)) (has_pair (take i ds) wanted)

@@ -1,5 +1,5 @@
 -- There is room for what waits, node by node.
-use Rattle.std.proofs.Common.{◌≡◌, ℕ, suc, ◌+◌, ◌<◌, ◌≤◌, List, [], ◌∷◌, length, max, map, get_or, sym, ◌∙◌, subst, arith, vec_len, vec_capacity}
+use Rattle.std.proofs.Common.{◌≡◌, ℕ, suc, ◌+◌, ◌<◌, ◌≤◌, List, [], ◌∷◌, length, map, get_or, sym, ◌∙◌, subst, arith, vec_len, vec_capacity}
 use Rattle.std.proofs.lemmas.List.{at_drop_more}
 use Rattle.fd_language.specs.declared.range_node.RangeNode.{RangeNode}
 use Rattle.fd_language.specs.declared.range_node.RangeNode.TheVariants as node
@@ -103,13 +103,6 @@ room_next s i d old new l h c k = room_more (node_of s.constants.items (get_or s
 
 pub keeps_on : (a b c : Work) → KeepsRoom a b → KeepsRoom b c → KeepsRoom a c
 keeps_on a b c h g = record { values = g.values ∙ h.values; sets = g.sets ∙ h.sets }
-
--- empty stacks with room for the height
-pub room_start : (ms : List RangeNode) (w : Work) (high : ℕ) → vec_len w.values ≡ 0 → w.sets.sets ≡ [] → high ≡ max (peak values_after ms 0) (peak sets_after ms 0) → high ≤ vec_capacity w.values → high ≤ w.sets.room → HasRoom ms w
-room_start ms w high v s e a b = record {
-  values = subst (λ n. peak values_after ms n ≤ vec_capacity w.values) (sym v) (omega arith);
-  sets = subst (λ l. peak sets_after ms (length l) ≤ w.sets.room) (sym s) (omega arith);
-}
 
 -- some set waits while a range is evaluated
 expr_keeps : (e : Expr) (rest : List RangeNode) (n : ℕ) → peak sets_after rest n ≤ peak sets_after (expr_nodes e rest) n

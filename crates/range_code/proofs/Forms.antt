@@ -86,12 +86,6 @@ once_is : (z : ℤ) → z ≡ pos 1 *ℤ z
 once_is (pos n) = let e : 1 * n ≡ n = omega arith in rw e refl
 once_is (negsuc n) = let e : 1 * suc n ≡ suc n = omega arith in rw e refl
 
-pub times_first : (z : ℤ) (k : Leaf) (S : Family) → leaf_amount S (Number z) *ℤ leaf_amount S k ≡ amount S (record { weight = z; leaf = k })
-times_first z k S = refl
-
-pub times_second : (l : Leaf) (z : ℤ) (S : Family) → leaf_amount S l *ℤ leaf_amount S (Number z) ≡ amount S (record { weight = z; leaf = l })
-times_second l z S = *ℤ_comm (leaf_amount S l) z
-
 -- the first nodes of what follows a term
 module _ (first last : RangeNode) (rest : List RangeNode) where
   pub part_alone : (l : Leaf) (a : Addend) → IsLeaf first l → IsSigned last (record { weight = pos 1; leaf = l }) a → IsPart (first ∷ last ∷ rest) a rest
@@ -128,16 +122,6 @@ module _ (first last : RangeNode) (rest : List RangeNode) where
 sum_append : (S : Family) (ms : List Product) (m : Product) → sum_of S (ms ++ m ∷ []) ≡ sum_of S ms +ℤ product_value S m
 sum_append S [] m = let z = product_value S m in grind (arith, ints)
 sum_append S (k ∷ ms) m = ap (λ z. product_value S k +ℤ z) (sum_append S ms m) ∙ sym (+ℤ_assoc (product_value S k) (sum_of S ms) (product_value S m))
-
-swapped : (a b c : ℤ) → (a +ℤ b) +ℤ c ≡ (a +ℤ c) +ℤ b
-swapped a b c = +ℤ_assoc a b c ∙ (ap (λ z. a +ℤ z) (+ℤ_comm b c) ∙ sym (+ℤ_assoc a c b))
-
-pub added_number : (old new : Bound) (w z : ℤ) → new.constant ≡ old.constant +ℤ w *ℤ z → new.products ≡ old.products → new.division ≡ old.division → IsAdded old (record { weight = w; leaf = Number z }) new
-added_number old new w z c p d = record {
-  value = λ S. two (λ x ms. x +ℤ sum_of S ms) c (ap (λ v. v.items) p) ∙ swapped old.constant (w *ℤ z) (sum_of S old.products.items);
-  seen = λ count args h g. subst (λ v. AreSeen count args v.items) (sym p) h;
-  division = d;
-}
 
 none_seen : (count : ℕ) (args : List Arg) → AreSeen count args []
 none_seen count args k d h = absurd (nothing k h) where
@@ -254,9 +238,6 @@ module _ (S : Family) (ms ks : List Product) (i : ℕ) (a b low high : ℤ) (opp
     pub high_small : nat_abs b ≤ 2 ^ 63 - 1
     high_small = let g = h.high_width in omega (arith, g)
 
-pub seen_at : (count : ℕ) (args : List Arg) (ms : List Product) (i : ℕ) (d : Product) → i < length ms → AreSeen count args ms → IsSeen count args (get_or ms i d).slot
-seen_at count args ms i d l h = h i d l
-
 pub has_limit : (M : ℕ) (xs : List ℕ) (n : ℕ) → IsRising 0 M xs → IsTrue (has xs n) → n ≤ M
 has_limit M xs n r h = within 0 M xs n r h where
   within : (low M : ℕ) (xs : List ℕ) (n : ℕ) → IsRising low M xs → has xs n ≡ true → n ≤ M
@@ -309,13 +290,6 @@ pub front_two : (ns : List RangeNode) (d : RangeNode) → 2 ≤ length ns → ns
 front_two [] d h = absurd (let k : ⊥ = omega (arith, h) in k)
 front_two (a ∷ []) d h = absurd (let k : ⊥ = omega (arith, h) in k)
 front_two (a ∷ b ∷ ns) d h = ap (λ l. a ∷ b ∷ l) (sym (take_all (length (a ∷ b ∷ ns) - 2) ns (omega arith)))
-
-pub front_four : (ns : List RangeNode) (d : RangeNode) → 4 ≤ length ns → ns ≡ get_or ns 0 d ∷ get_or ns 1 d ∷ get_or ns 2 d ∷ get_or ns 3 d ∷ take (length ns - 4) (drop 4 ns)
-front_four [] d h = absurd (let k : ⊥ = omega (arith, h) in k)
-front_four (a ∷ []) d h = absurd (let k : ⊥ = omega (arith, h) in k)
-front_four (a ∷ b ∷ []) d h = absurd (let k : ⊥ = omega (arith, h) in k)
-front_four (a ∷ b ∷ c ∷ []) d h = absurd (let k : ⊥ = omega (arith, h) in k)
-front_four (a ∷ b ∷ c ∷ e ∷ ns) d h = ap (λ l. a ∷ b ∷ c ∷ e ∷ l) (sym (take_all (length (a ∷ b ∷ c ∷ e ∷ ns) - 4) ns (omega arith)))
 
 pub front_one : (ns : List RangeNode) (d : RangeNode) → 1 ≤ length ns → ns ≡ get_or ns 0 d ∷ take (length ns - 1) (drop 1 ns)
 front_one [] d h = absurd (let k : ⊥ = omega (arith, h) in k)
@@ -422,10 +396,6 @@ undivided_down n m e f = record { term = Literal (pos 1); make = DivDown; diviso
 
 pub undivided_up : (n m : RangeNode) → n ≡ node.Int (pos 1) → m ≡ node.DivUp → IsDivision n m Whole
 undivided_up n m e f = record { term = Literal (pos 1); make = DivUp; divisor = ap shape_of e; shape = ap shape_of f; value = λ S p t. up_one (filled_value S p t); positive = tt }
-
--- two bounds that are one sum
-pub one_sum : (a b : Bound) → a.constant ≡ b.constant → a.division ≡ Whole → b.division ≡ Whole → a.products.items ≡ b.products.items → (S : Family) → bound_value S a ≡ bound_value S b
-one_sum a b c d e p S = two divided (d ∙ sym e) (two (λ x ms. x +ℤ sum_of S ms) c p)
 
 pub one_outside : (r : Range) (a b : Bound) → IsComplement r a b → ((S : Family) → bound_value S a ≡ bound_value S b) → IsException r a
 one_outside r a b h e = record { set = λ S p. h.set S p ∙ ap (λ z. outside (between (bound_value S a) z)) (sym (e S)); value = h.low }

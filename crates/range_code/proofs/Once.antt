@@ -3,12 +3,8 @@ use Rattle.std.proofs.Common.{◌≡◌, ℕ, Bool, true, false, cond, not, ◌|
 use Rattle.std.specs.List.{list_any}
 use Rattle.std.proofs.lemmas.Bool.{cases_Bool}
 use Rattle.std.proofs.lemmas.List.Elements.{filter-append}
-use Rattle.std.proofs.lemmas.List.Folds.{list_any-append}
-use Rattle.fd_language.specs.declared.range_node.Feature.{Feature}
 use Rattle.fd_language.specs.Family.{has}
 use Rattle.fd_language.specs.Needs.{once}
-use Rattle.fd_language.specs.Features.{is_same_pair, is_same_feature, each_once}
-use Rattle.range_code.specs.Kinds.{has_pair}
 use Rattle.range_code.proofs.Variables.{nothing_behind}
 
 eq_sym : (x y : ℕ) → (x == y) ≡ (y == x)
@@ -90,46 +86,3 @@ put_new xs keys slots new x b e f t s n =
 
 pub put_old : (xs keys slots : List ℕ) (x : ℕ) (b : Bool) → b ≡ not (list_any (nat_eq x) keys) → keys ≡ once xs → b ≡ false → slots ≡ once xs → slots ≡ once (xs ++ x ∷ [])
 put_old xs keys slots x b e f t s = s ∙ sym (once_more xs x ∙ ap (λ c. cond c (once xs) (once xs ++ x ∷ [])) (from_not (has xs x) b false (is_new xs keys x b e f) t))
-
--- pairs
-abbrev Pair : Type 0
-Pair = ℕ × Feature
-
-pub each_more : (ds : List Pair) (d : Pair) → each_once (ds ++ d ∷ []) ≡ cond (has_pair ds d) (each_once ds) (each_once ds ++ d ∷ [])
-each_more [] d = refl
-each_more (e ∷ es) d = elim (cases_Bool (has_pair es d)) [
-  | inl i ↦
-      ap (λ l. e ∷ filter (λ z. not (is_same_pair z e)) l) (each_more es d ∙ ap (λ b. cond b (each_once es) (each_once es ++ d ∷ [])) i)
-      ∙ sym (ap (λ b. cond (is_same_pair d e || b) (each_once (e ∷ es)) (each_once (e ∷ es) ++ d ∷ [])) i ∙ ap (λ b. cond b (each_once (e ∷ es)) (each_once (e ∷ es) ++ d ∷ [])) (or_true (is_same_pair d e)))
-  | inr i ↦
-      ap (λ l. e ∷ filter (λ z. not (is_same_pair z e)) l) (each_more es d ∙ ap (λ b. cond b (each_once es) (each_once es ++ d ∷ [])) i)
-      ∙ (ap (λ l. e ∷ l) (filter-append (λ z. not (is_same_pair z e)) (each_once es) (d ∷ []))
-      ∙ (last (is_same_pair d e)
-      ∙ sym (ap (λ b. cond (is_same_pair d e || b) (each_once (e ∷ es)) (each_once (e ∷ es) ++ d ∷ [])) i ∙ ap (λ b. cond b (each_once (e ∷ es)) (each_once (e ∷ es) ++ d ∷ [])) (or_false (is_same_pair d e)))))
-] where
-  last : (c : Bool) → e ∷ (filter (λ z. not (is_same_pair z e)) (each_once es) ++ cond (not c) (d ∷ []) []) ≡ cond c (each_once (e ∷ es)) (each_once (e ∷ es) ++ d ∷ [])
-  last true = ap (λ l. e ∷ l) (nothing_behind (filter (λ z. not (is_same_pair z e)) (each_once es)))
-  last false = refl
-
-pub put_pair : (ds features new : List Pair) (d : Pair) (b : Bool) → b ≡ not (has_pair ds d) → b ≡ true → features ≡ each_once ds → new ≡ features ++ d ∷ [] → new ≡ each_once (ds ++ d ∷ [])
-put_pair ds features new d b e t s n = n ∙ (ap (λ l. l ++ d ∷ []) s ∙ sym (each_more ds d ∙ ap (λ c. cond c (each_once ds) (each_once ds ++ d ∷ [])) (from_not (has_pair ds d) b true e t)))
-
-pub keep_pairs : (ds features : List Pair) (d : Pair) (b : Bool) → b ≡ not (has_pair ds d) → b ≡ false → features ≡ each_once ds → features ≡ each_once (ds ++ d ∷ [])
-keep_pairs ds features d b e t s = s ∙ sym (each_more ds d ∙ ap (λ c. cond c (each_once ds) (each_once ds ++ d ∷ [])) (from_not (has_pair ds d) b false e t))
-
-either_way : (a b c : Bool) → a ≡ b → (c || a) ≡ (b || ((c && true) || false))
-either_way true b true e = sym (or_true b)
-either_way false b true e = sym (or_true b)
-either_way true b false e = e ∙ sym (or_false b)
-either_way false b false e = e ∙ sym (or_false b)
-
-stays : (a b c : Bool) → a ≡ b → a ≡ (b || ((c && false) || false))
-stays a b true e = e ∙ sym (or_false b)
-stays a b false e = e ∙ sym (or_false b)
-
-pub met_here : (ds : List Pair) (old new : List ℕ) (s : ℕ) (f : Feature) → is_same_feature f f ≡ true → ((z : ℕ) → list_any (nat_eq z) new ≡ (nat_eq z s || list_any (nat_eq z) old)) → ((z : ℕ) → list_any (nat_eq z) old ≡ has_pair ds (z, f)) →
-    (z : ℕ) → list_any (nat_eq z) new ≡ has_pair (ds ++ (s, f) ∷ []) (z, f)
-met_here ds old new s f t h g z = h z ∙ (either_way (list_any (nat_eq z) old) (has_pair ds (z, f)) (z == s) (g z) ∙ (ap (λ b. has_pair ds (z, f) || (((z == s) && b) || false)) (sym t) ∙ sym (list_any-append (is_same_pair (z, f)) ds ((s, f) ∷ []))))
-
-pub met_else : (ds : List Pair) (keys : List ℕ) (s : ℕ) (f g : Feature) → is_same_feature g f ≡ false → ((z : ℕ) → list_any (nat_eq z) keys ≡ has_pair ds (z, g)) → (z : ℕ) → list_any (nat_eq z) keys ≡ has_pair (ds ++ (s, f) ∷ []) (z, g)
-met_else ds keys s f g t h z = stays (list_any (nat_eq z) keys) (has_pair ds (z, g)) (z == s) (h z) ∙ (ap (λ b. has_pair ds (z, g) || (((z == s) && b) || false)) (sym t) ∙ sym (list_any-append (is_same_pair (z, g)) ds ((s, f) ∷ [])))

@@ -4,7 +4,7 @@ use Rattle.fd_language.specs.declared.TheConstants.{INFINITY}
 use Rattle.fd_language.specs.declared.range_node.RangeNode.{RangeNode}
 use Rattle.fd_language.specs.declared.range_node.RangeNode.TheVariants as node
 use Rattle.fd_language.specs.Family.{Family, has, IsRising}
-use Rattle.fd_language.specs.Range.{Range, Span, One, Dom, Union, Inter, Outside, Plus, Minus, Times, Over, Expr, Number, Infinity, Param, Min, Max, Val, Add, Sub, Mul, DivDown, DivUp, in_range}
+use Rattle.fd_language.specs.Range.{Range, Span, One, Dom, Union, Inter, Outside, Plus, Minus, Times, Over, Expr, Number, Param, Min, Max, Val, Add, Sub, Mul, DivDown, DivUp, in_range}
 use Rattle.fd_language.specs.Check.{fill_range}
 use Rattle.fd_language.specs.Flat.{built}
 use Rattle.range_code.specs.declared.work.Work.{Work}
@@ -30,9 +30,6 @@ module _ (S : Family) (p : ℕ → ℤ) (ns : List RangeNode) (old new : Work) w
 
   pub read_int : (z : ℤ) (rs : List Range) (ts : List Expr) → IsPending S p rs ts old → PushesValue (leaf_value S p (node.Int z)) old new → Follows S p ns (built (node.Int z ∷ ns) rs ts) new
   read_int z rs ts w f = follows S p ns rs (Number z ∷ ts) (built ns rs (Number z ∷ ts)) new refl (put_term rs ts old.values.items (Number z) w.values f.0 f.1 w.sets)
-
-  pub read_infinity : (rs : List Range) (ts : List Expr) → IsPending S p rs ts old → PushesValue (leaf_value S p node.Infinity) old new → Follows S p ns (built (node.Infinity ∷ ns) rs ts) new
-  read_infinity rs ts w f = follows S p ns rs (Infinity ∷ ts) (built ns rs (Infinity ∷ ts)) new refl (put_term rs ts old.values.items Infinity w.values f.0 f.1 w.sets)
 
   pub read_param : (x : ℕ) (rs : List Range) (ts : List Expr) → IsPending S p rs ts old → PushesValue (leaf_value S p (node.Param x)) old new → Follows S p ns (built (node.Param x ∷ ns) rs ts) new
   read_param x rs ts w f = follows S p ns rs (Param x ∷ ts) (built ns rs (Param x ∷ ts)) new refl (put_term rs ts old.values.items (Param x) w.values f.0 f.1 w.sets)
@@ -188,31 +185,6 @@ IsTermOperator i = (i ≡ instr.Add) ⊎ ((i ≡ instr.Sub) ⊎ ((i ≡ instr.Mu
 
 abbrev IsMove : RangeInstr → Type 0
 IsMove i = (i ≡ instr.Plus) ⊎ ((i ≡ instr.Minus) ⊎ ((i ≡ instr.Times) ⊎ (i ≡ instr.Over)))
-
--- the node of an operator is the same for each table
-pub term_node : (k : List ℤ) (i : RangeInstr) → IsTermOperator i → node_of k i ≡ operator_of i
-term_node k i is = elim is [
-  | inl e ↦ at_instr (λ j. node_of k j ≡ operator_of j) instr.Add i e refl
-  | inr a ↦ elim a [
-    | inl e ↦ at_instr (λ j. node_of k j ≡ operator_of j) instr.Sub i e refl
-    | inr b ↦ elim b [
-      | inl e ↦ at_instr (λ j. node_of k j ≡ operator_of j) instr.Mul i e refl
-      | inr c ↦ elim c [ inl e ↦ at_instr (λ j. node_of k j ≡ operator_of j) instr.DivDown i e refl | inr e ↦ at_instr (λ j. node_of k j ≡ operator_of j) instr.DivUp i e refl ]
-    ]
-  ]
-]
-
-pub move_node : (k : List ℤ) (i : RangeInstr) → IsMove i → node_of k i ≡ operator_of i
-move_node k i is = elim is [
-  | inl e ↦ at_instr (λ j. node_of k j ≡ operator_of j) instr.Plus i e refl
-  | inr a ↦ elim a [
-    | inl e ↦ at_instr (λ j. node_of k j ≡ operator_of j) instr.Minus i e refl
-    | inr b ↦ elim b [
-      | inl e ↦ at_instr (λ j. node_of k j ≡ operator_of j) instr.Times i e refl
-      | inr e ↦ at_instr (λ j. node_of k j ≡ operator_of j) instr.Over i e refl
-    ]
-  ]
-]
 
 module _ (S : Family) (p : ℕ → ℤ) (k : List ℤ) (old new : Work) where
   abbrev Pushes : RangeInstr → Type 0

@@ -1,6 +1,5 @@
 -- Ranges that are the same in slots are posted as the same range.
-use Rattle.std.proofs.Common.{◌≡◌, ℕ, ◌+◌, ◌<◌, ◌≤◌, List, ◌∷◌, length, drop, get_or, refl, sym, ◌∙◌, ap, arith}
-use Rattle.std.proofs.lemmas.List.{at_drop_more, drop_all}
+use Rattle.std.proofs.Common.{◌≡◌, ℕ, ◌+◌, ◌<◌, ◌≤◌, List, ◌∷◌, length, refl, sym, ◌∙◌, ap}
 use Rattle.fd_language.specs.declared.range_node.RangeNode.{RangeNode}
 use Rattle.fd_language.specs.Range.{Range, Span, One, Dom, Union, Inter, Outside, Plus, Minus, Times, Over, Expr, Number, Infinity, Param, Min, Max, Val, Add, Sub, Mul, DivDown, DivUp}
 use Rattle.fd_language.specs.Check.{fill_range}
@@ -52,15 +51,6 @@ alike r q e args = sym (by_slots r args) ∙ (ap (λ x. rename_range (slot_varia
 
 pub same_slots : (ns ms : List RangeNode) (r q : Range) → ns ≡ nodes_of (in_slots r) → ms ≡ nodes_of (in_slots q) → ns ≡ ms → in_slots r ≡ in_slots q
 same_slots ns ms r q e f h = sym (spelled-nodes (in_slots r)) ∙ (ap spelled (sym e ∙ (h ∙ f)) ∙ spelled-nodes (in_slots q))
-
--- lists compared place by place
-pub same_more : {X : Type 0} (xs ys : List X) (i : ℕ) (d : X) → i < length xs → length xs ≡ length ys → get_or xs i d ≡ get_or ys i d → (drop i xs ≡ drop i ys → xs ≡ ys) → drop (i + 1) xs ≡ drop (i + 1) ys → xs ≡ ys
-same_more xs ys i d l n e h g =
-    let k : i < length ys = omega arith in
-    h (at_drop_more (λ zs. zs) xs i d l ∙ (two (λ x zs. x ∷ zs) e g ∙ sym (at_drop_more (λ zs. zs) ys i d k)))
-
-pub same_done : {X : Type 0} (xs ys : List X) (i : ℕ) → length xs ≤ i → length xs ≡ length ys → (drop i xs ≡ drop i ys → xs ≡ ys) → xs ≡ ys
-same_done xs ys i l n h = let k : length ys ≤ i = omega arith in h (drop_all i xs l ∙ sym (drop_all i ys k))
 
 pub slots_keep : (r : Range) → length (nodes_of (in_slots r)) ≡ length (nodes_of r)
 slots_keep r = ap length (sym (names_of (slot_of r) r)) ∙ length_map (rename_node (slot_of r)) (nodes_of r)

@@ -1,10 +1,8 @@
 -- A run gives the set of the range that is posted.
-use Rattle.std.proofs.Common.{◌≡◌, ℕ, ℤ, pos, arith, Bool, true, false, cond, ◌||◌, ◌==◌, List, [], ◌∷◌, map, filter, length, refl, sym, ◌∙◌, ap, subst, inl, inr, eqb-true, eq-eqb}
+use Rattle.std.proofs.Common.{◌≡◌, ℕ, ℤ, pos, arith, Bool, true, false, cond, ◌||◌, ◌==◌, List, [], ◌∷◌, filter, length, refl, sym, ◌∙◌, ap, subst}
 use Rattle.std.specs.Prelude.{Result, IfOk}
 use Rattle.std.specs.List.{All, list_any}
-use Rattle.std.proofs.lemmas.Bool.{true≢false, or_left, or_right, or_cases}
 use Rattle.std.proofs.lemmas.Result.{IfOk-weaker}
-use Rattle.std.proofs.lemmas.List.Elements.{All-head, All-tail}
 use Rattle.fd_language.specs.declared.TheConstants.{INFINITY}
 use Rattle.fd_language.specs.declared.range_node.Feature.{Feature}
 use Rattle.fd_language.specs.declared.range_node.RangeNode.{RangeNode}
@@ -72,25 +70,6 @@ range_named f p (Over r c) = two Over (range_named f p r) (fill_named f p c)
 range_named f p (One t) = ap One (fill_named f p t)
 range_named f p (Dom y) = refl
 range_named f p (Outside r) = ap Outside (range_named f p r)
-
--- what a list has
-has_map : (f : ℕ → ℕ) (xs : List ℕ) (y : ℕ) → has xs y ≡ true → has (map f xs) (f y) ≡ true
-has_map f [] y h = absurd (true≢false (sym h))
-has_map f (x ∷ xs) y h = elim (or_cases (x == y) (has xs y) h) [
-  | inl e ↦ or_left (f x == f y) (has (map f xs) (f y)) (eq-eqb (f x) (f y) (ap f (eqb-true x y e)))
-  | inr e ↦ or_right (f x == f y) (has (map f xs) (f y)) (has_map f xs y e)
-]
-
-has_any : (xs : List ℕ) (y : ℕ) → list_any (λ z. z == y) xs ≡ has xs y
-has_any [] y = refl
-has_any (x ∷ xs) y = ap (λ b. (x == y) || b) (has_any xs y)
-
-one_of : (P : ℕ → Type 0) (ds : List (ℕ × Feature)) (y : ℕ) → All (λ d. P d.0) ds → list_any (λ d. d.0 == y) ds ≡ true → P y
-one_of P [] y h g = absurd (true≢false (sym g))
-one_of P (d ∷ ds) y h g = elim (or_cases (d.0 == y) (list_any (λ e. e.0 == y) ds) g) [
-  | inl e ↦ subst P (eqb-true d.0 y e) (All-head (λ e. P e.0) d ds h)
-  | inr e ↦ one_of P ds y (All-tail (λ e. P e.0) d ds h) e
-]
 
 empty_rises : (c : Bool) (xs : List ℕ) → (c ≡ true → IsRising 0 INFINITY xs) → IsRising 0 INFINITY (cond c xs [])
 empty_rises true xs h = h refl

@@ -1,6 +1,6 @@
 -- What is told of slots, one more pair or slot at a time.
 use Rattle.std.proofs.Common.{◌≡◌, ℕ, zero, suc, ◌+◌, ◌<◌, ◌≤◌, Bool, true, false, cond, List, [], ◌∷◌, ◌++◌, length, filter, take, drop, get_or, max, Option, Some, None, refl, sym, ◌∙◌, ap, arith, zero-add, add-zero, map, subst}
-use Rattle.std.proofs.lemmas.List.{take_more, at_drop_more, drop_all, get_or-map}
+use Rattle.std.proofs.lemmas.List.{take_more, at_drop_more, get_or-map}
 use Rattle.std.proofs.lemmas.List.Elements.{filter-append}
 use Rattle.fd_language.specs.declared.range_node.Feature.{Feature}
 use Rattle.fd_language.specs.declared.range_node.RangeNode.{RangeNode}
@@ -106,9 +106,6 @@ one_set node.Minus n = omega arith
 one_set node.Times n = omega arith
 one_set node.Over n = omega arith
 
-pub high_start : (ms : List RangeNode) → IsHigh ms 0 0 0 0 (max (peak values_after ms 0) (peak sets_after ms 0))
-high_start ms = record { value_count = omega arith; set_count = omega arith; value_high = omega arith; set_high = omega arith; all = omega arith }
-
 pub high_more : (ms : List RangeNode) (i v s h w v' s' h' : ℕ) (d : RangeNode) → i < length ms → IsHigh ms i v s h w → v' ≡ values_after (get_or ms i d) v → s' ≡ sets_after (get_or ms i d) s → h' ≡ max (max h v') s' → IsHigh ms (i + 1) v' s' h' w
 high_more ms i v s h w v' s' h' d l k a b e =
     let p = one_value (get_or ms i d) v in
@@ -125,11 +122,6 @@ high_more ms i v s h w v' s' h' d l k a b e =
       set_high = omega arith;
       all = omega (arith, k.all, k.value_high, k.set_high);
     }
-
-pub high_end : (ms : List RangeNode) (i v s h w : ℕ) → length ms ≤ i → IsHigh ms i v s h w → h ≡ w
-high_end ms i v s h w l k =
-    let e = ap (λ ns. max h (max (peak values_after ns v) (peak sets_after ns s))) (drop_all i ms l) in
-    omega (arith, k.all, k.value_high, k.set_high)
 
 -- the same of pieces
 pub high_piece : (ps : List Piece) (i v s h w v' s' h' : ℕ) (d : Piece) → i < length ps → IsHigh (map piece_node ps) i v s h w → v' ≡ values_after (piece_node (get_or ps i d)) v → s' ≡ sets_after (piece_node (get_or ps i d)) s → h' ≡ max (max h v') s' → IsHigh (map piece_node ps) (i + 1) v' s' h' w

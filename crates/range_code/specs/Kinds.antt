@@ -1,5 +1,5 @@
 -- What a range reads of its slots, the least and the greatest member of one slot together, and which slots it reads by val.
-use Rattle.std.specs.Prelude.{ℕ, Bool, true, ◌||◌, if◌then◌else◌, List, [], ◌∷◌, ◌++◌, length, filter, Option, Some, None}
+use Rattle.std.specs.Prelude.{ℕ, Bool, ◌||◌, if◌then◌else◌, List, [], ◌∷◌, ◌++◌, length, filter, Option, Some, None}
 use Rattle.std.specs.List.{list_any}
 use Rattle.fd_language.specs.declared.range_node.Feature.{Feature}
 use Rattle.fd_language.specs.declared.range_node.Feature.TheVariants as feature
@@ -32,17 +32,3 @@ slot_kinds r = all_told (λ s. has_pair (slot_features r) (s, feature.Min)) (λ 
 -- the slots that the range reads by val, rising
 abbrev pub val_slots : Range → List ℕ
 val_slots r = filter (λ s. has_pair (slot_features r) (s, feature.Val)) (count_up 0 (length (slots_of r)))
-
--- whether a change of the least member, of the greatest, or to a single value, concerns who reads the feature, and who reads the kind
-abbrev pub concerns : Bool → Bool → Bool → Feature → Bool
-concerns min max fixed feature.Min = min
-concerns min max fixed feature.Max = max
-concerns min max fixed feature.Val = fixed
-concerns min max fixed feature.Dom = true
-
-abbrev pub concerns_kind : Bool → Bool → Bool → ReadKind → Bool
-concerns_kind min max fixed kind.Min = min
-concerns_kind min max fixed kind.Max = max
-concerns_kind min max fixed kind.Both = min || max
-concerns_kind min max fixed kind.Val = fixed
-concerns_kind min max fixed kind.Dom = true

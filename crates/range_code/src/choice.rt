@@ -2,7 +2,6 @@
 
 ghost use Rattle.std.specs.Prelude.{◌≡◌, ◌<◌, ◌≤◌, [], ◌∷◌, ℕ, pos, IsTrue, length, IfSome, IfNone, IfOk, OnOk};
 ghost use Rattle.std.specs.List.{All};
-ghost use Rattle.fd_language.specs.declared.range_node.RangeNode.{RangeNode as Spelled};
 ghost use Rattle.domain_ranges.specs.Spans.{within, IsSpans};
 ghost use Rattle.fd_language.specs.Family.{has};
 ghost use Rattle.fd_language.specs.Flat.{nodes_of, range_nodes};

@@ -1,6 +1,6 @@
 //! Ranges made ready: slots in place of variables, what is read of them, and what they need.
 
-ghost use Rattle.std.specs.Prelude.{◌≡◌, ◌<◌, ◌-◌, ◌^◌, ◌||◌, not, ℕ, nat_eq, List, [], ◌∷◌, ◌++◌, map, filter, IfOk, OnOk};
+ghost use Rattle.std.specs.Prelude.{◌≡◌, ◌<◌, ◌-◌, ◌^◌, ◌||◌, ℕ, nat_eq, List, [], ◌∷◌, ◌++◌, map, filter, IfOk, OnOk};
 ghost use Rattle.std.specs.List.{list_any, position_or_len};
 ghost use Rattle.indexmap.specs.IndexMap.{get};
 ghost use Rattle.fd_language.specs.declared.range_node.Feature.TheVariants as Told;

@@ -1,6 +1,6 @@
 //! A range evaluated, instruction by instruction.
 
-ghost use Rattle.std.specs.Prelude.{◌≡◌, ◌≤◌, ℕ, ℤ, pos, List, [], ◌∷◌, length, filter, vec_capacity, IfOk, OnOk};
+ghost use Rattle.std.specs.Prelude.{◌≡◌, ◌≤◌, ℕ, ℤ, pos, [], ◌∷◌, length, filter, vec_capacity, IfOk, OnOk};
 ghost use Rattle.std.specs.List.{All};
 ghost use Rattle.fd_language.specs.Range.{least as least_of, greatest as greatest_of};
 ghost use Rattle.fd_language.specs.Flat.{spelled, IsSpelled};

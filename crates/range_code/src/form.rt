@@ -7,7 +7,7 @@ ghost use Rattle.fd_language.specs.Flat.{nodes_of};
 ghost use Rattle.fd_language.specs.Range.{Range};
 ghost use Rattle.range_code.specs.Frames.{slot_set};
 ghost use Rattle.range_code.specs.Nodes.{IsSeen};
-ghost use Rattle.range_code.specs.Forms.{end_of as end_of_set, sum_of, total_of, divided as divided_by, leaf_amount, amount, bound_value, shift_value, IsShiftOf, all_but_val, AreNarrow, AreSeen, IsPositive, IsUsable, IsLeaf, IsSigned, IsDivision, IsPart, IsAdded, IsBound, IsInterval, IsComplement, IsForm, IsShifted, other_end, IsOpposite, AreOpposite};
+ghost use Rattle.range_code.specs.Forms.{end_of as end_of_set, sum_of, total_of, divided as divided_by, leaf_amount, amount, bound_value, shift_value, IsShiftOf, all_but_val, AreNarrow, AreSeen, IsPositive, IsLeaf, IsSigned, IsDivision, IsPart, IsAdded, IsBound, IsInterval, IsComplement, IsForm, IsShifted, other_end, IsOpposite, AreOpposite};
 
 use crate::choice::{Choice, read_choice};
 use crate::frame::{Arg, slot_domain};

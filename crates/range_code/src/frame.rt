@@ -1,10 +1,10 @@
 //! The arguments of a range, and what they give.
 
-ghost use Rattle.std.specs.Prelude.{◌≡◌, ◌<◌, ◌↔◌, ℕ, IsTrue, false, length, slice_index_or};
+ghost use Rattle.std.specs.Prelude.{◌≡◌, ◌<◌, ◌↔◌, ℕ, IsTrue, false, length};
 ghost use Rattle.std.specs.List.{All, list_any};
-ghost use Rattle.fd_language.specs.Family.{IsRising, IsFamily};
+ghost use Rattle.fd_language.specs.Family.{IsFamily};
 ghost use Rattle.range_code.specs.Frames.{variable_of, integer_of, slot_integer, slot_set, family_of};
-ghost use Rattle.range_code.specs.Nodes.{IsSeen, IsReadable};
+ghost use Rattle.range_code.specs.Nodes.{IsSeen};
 ghost use Rattle.range_code.specs.Standing.{tested, IsTestSeen, TestRises};
 ghost use Rattle.fd_language.specs.Range.{is_several, is_none_left};
 

@@ -3,7 +3,7 @@
 ghost use Rattle.std.specs.Prelude.{◌≡◌, ◌<◌, ◌≤◌, ◌-◌, ℕ, ℤ, suc, List, [], ◌∷◌, ◌++◌, pos, ◌≤ℤ◌, length, filter, IfOk, OnOk, vec_len, vec_capacity};
 ghost use Rattle.fd_language.specs.Family.{has, IsRising};
 ghost use Rattle.fd_language.specs.Range.{div_down, div_up};
-ghost use Rattle.range_code.specs.Work.{IsLimited, operated, CanOperate, CanTakeTerms, CanMove, CanTakeRange, CanTake};
+ghost use Rattle.range_code.specs.Work.{IsLimited, operated, CanOperate, CanTakeTerms, CanMove, CanTakeRange};
 ghost use Rattle.range_code.specs.Steps.{PushesValue, PushesSet, Operates, Spans, Singles, Joins, Meets, Complements, moved, Moves};
 ghost use Rattle.range_code.specs.Heights.{Counts, KeepsRoom};
 ghost use Rattle.range_code.specs.Instructions.{operator_of};

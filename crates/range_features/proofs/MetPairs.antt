@@ -1,5 +1,5 @@
 -- What is met, and what is still to come.
-use Rattle.std.proofs.Common.{◌≡◌, ℕ, Bool, true, false, cond, not, ◌||◌, ◌&&◌, List, [], ◌∷◌, ◌++◌, filter, Option, Some, None, refl, sym, ap, ◌∙◌, append_assoc}
+use Rattle.std.proofs.Common.{◌≡◌, ℕ, Bool, true, false, cond, not, ◌||◌, ◌&&◌, List, [], ◌∷◌, ◌++◌, filter, Option, Some, refl, sym, ap, ◌∙◌, append_assoc}
 use Rattle.std.specs.Prelude.{nat_eq}
 use Rattle.std.specs.List.{list_any}
 use Rattle.std.specs.Option.{option_to_list}
@@ -39,9 +39,6 @@ later old new d h ns = filter_both (λ e. not (sees old e)) (λ e. not (is_same_
 
 opened : (n : RangeNode) (o : Option (ℕ × Feature)) (s : Seen) (ns : List RangeNode) → option_to_list o ≡ from_node feature_at n → unseen s (n ∷ ns) ≡ filter (λ e. not (sees s e)) (each_once (option_to_list o ++ node_features ns))
 opened n o s ns e = ap (λ (l : List (ℕ × Feature)). filter (λ e. not (sees s e)) (each_once (l ++ node_features ns))) (sym e)
-
-pub met_none : (n : RangeNode) (s : Seen) (found : List (ℕ × Feature)) → option_to_list None ≡ from_node feature_at n → Meets n s found s found
-met_none n s found e ns = ap (λ (l : List (ℕ × Feature)). found ++ l) (sym (opened n None s ns e))
 
 pub met_again : (n : RangeNode) (d : ℕ × Feature) (old new : Seen) (found : List (ℕ × Feature)) → option_to_list (Some d) ≡ from_node feature_at n → sees old d ≡ true → ((e : ℕ × Feature) → sees new e ≡ (sees old e || is_same_pair e d)) → Meets n old found new found
 met_again n d old new found e h g ns =

@@ -93,15 +93,6 @@ pub no_single : (f : Name) (x : PlacedTerm) (p : ℕ) → bytes_eq f (codes "{}"
 no_single f x p h k d =
     nowhere_same (wanted position.Range (comp f p (one x))) (of_range (offends empty_range p)) p (single_other f x p h k ∙ ap (λ (b : Bool). of_range (cond b (read_dom x p) (offends empty_range p))) d) (refl, refl)
 
-pub dom_of_variable : (x : PlacedTerm) (y q p : ℕ) → x ≡ var y q → of_range (read_dom x p) ≡ one_node (node.Dom y) p
-dom_of_variable x y q p e = ap (λ (t : PlacedTerm). of_range (read_dom t p)) e
-
-pub dom_of_other : (x : PlacedTerm) (p : ℕ) → IsNoVariable x → FitsNowhere (of_range (read_dom x p)) p
-dom_of_other (var y q) p h = absurd h
-dom_of_other (int z q) p h = (refl, refl)
-dom_of_other (atom a q) p h = (refl, refl)
-dom_of_other (comp f q ts) p h = (refl, refl)
-
 -- one part where a number is wanted
 abbrev IsFeature : Option RangeNode → ℕ → Wanted → Type 0
 IsFeature (Some n) p w = w ≡ one_node n p

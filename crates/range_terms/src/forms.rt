@@ -1,6 +1,6 @@
 //! What a term is read as in its position.
 
-ghost use Rattle.std.specs.Prelude.{◌≡◌, ℕ, ◌<◌, List, [], ◌∷◌, length, All, Some, MatchOption};
+ghost use Rattle.std.specs.Prelude.{◌≡◌, ℕ, ◌<◌, [], ◌∷◌, length, All, Some, MatchOption};
 ghost use Rattle.fd_language.specs.PlacedTerm.{var, comp, one, two};
 ghost use Rattle.fd_language.specs.Spelling.{read_dom};
 ghost use Rattle.term_pool.specs.Contents.{Contents, Shape, shape_at, place_at, parts_of};

@@ -16,7 +16,6 @@ use Rattle.machine_relation.proofs.Lemmas.{behind_other}
 use Rattle.machine_events.specs.declared.MachineEvent.{MachineEvent}
 use Rattle.machine_events.specs.declared.MachineEvent.TheVariants as events
 use Rattle.machine_events.specs.Events.{event_of}
-use Rattle.answer_text.specs.Events.{is_fixed}
 use Rattle.code_machine.specs.States.{State, StandsFor}
 use Rattle.run_summary.specs.declared.summary.Tally.{Tally}
 use Rattle.run_summary.specs.Summaries.{IsTally}
@@ -33,10 +32,6 @@ pub record Counted (m : State) (n : ℕ) (es : List Event) (r : ℕ) : Type 0 wh
   pub count : n ≡ count_answers front
   pub stands : StandsFor m later r
   pub stops : is_stop es ≡ is_stop later
-
--- at the start
-pub counted_none : (m : State) (n : ℕ) (es : List Event) (r : ℕ) → n ≡ 0 → StandsFor m es r → Counted m n es r
-counted_none m n es r e h = record { front = []; later = es; is = refl; count = e; stands = h; stops = refl }
 
 count_first : (e : Event) (es : List Event) → count_answers (e ∷ es) ≡ count_answers (e ∷ []) + count_answers es
 count_first (model.Wrote t) es = omega arith
@@ -105,16 +100,6 @@ counted_all m n a es r names ev t final k one h whole answers stopped last =
       stopped = stopped ∙ sym (k.stops ∙ ap is_stop only);
       last = ap (event_of []) last ∙ sym (ap (last_event End) all ∙ last_append End k.front e);
     }
-
--- a final event shows no term
-pub final_fixed : (ev : MachineEvent) → is_final (event_of [] ev) ≡ true → is_fixed ev ≡ true
-final_fixed (events.Write s) h = absurd (cc)
-final_fixed events.Newline h = refl
-final_fixed (events.Answer s) h = absurd (cc)
-final_fixed events.End h = refl
-final_fixed events.Budget h = refl
-final_fixed events.Limit h = refl
-final_fixed (events.Fault f) h = refl
 
 -- ---- the query of a program that has one
 

@@ -5,7 +5,7 @@ ghost use Rattle.fd_language.specs.declared.TheConstants.{INFINITY as TOP};
 ghost use Rattle.fd_model.specs.Generator.{count_answers, queens_text as queens_bytes};
 ghost use Rattle.fd_model.specs.Goal.{Event, Query, start_of};
 ghost use Rattle.fd_model.specs.Goal as model;
-ghost use Rattle.fd_model.specs.Output.{IsSummary, stop_status};
+ghost use Rattle.fd_model.specs.Output.{IsSummary};
 ghost use Rattle.fd_model.specs.Run.{IsLimit, Run};
 ghost use Rattle.fd_model.specs.Verdict.{IsVerdict, accepted};
 ghost use Rattle.answer_text.specs.Events.{is_fixed};

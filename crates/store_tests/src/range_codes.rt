@@ -1,8 +1,7 @@
 //! Codes of ranges: their sets over given domains, as the table of ranges has them, and what they tell.
 
-ghost use Rattle.std.specs.Prelude.{◌≡◌, ◌<◌, length, slice_index_or, MatchOption, IsTrue};
-ghost use Rattle.fd_language.specs.Flat.{nodes_of};
-ghost use Rattle.range_code.specs.Frames.{IsArg, AreArgs, IsFrame};
+ghost use Rattle.std.specs.Prelude.{◌≡◌, ◌<◌, IsTrue};
+ghost use Rattle.range_code.specs.Frames.{IsArg, AreArgs};
 
 use crate::codes::code_of;
 use crate::same::same;

@@ -18,7 +18,7 @@ use Rattle.heap_cells.proofs.Lemmas.{var_valid}
 use Rattle.machine_frames.specs.Frames.{IsGrown}
 use Rattle.machine_frames.proofs.Lemmas.{grown_same, grown_both, grown_var}
 use Rattle.branch_state.specs.States as branch
-use Rattle.branch_state.specs.States.{IsCell, AreCells, IsSound, IsSameBelow, with_heap}
+use Rattle.branch_state.specs.States.{IsCell, IsSound, with_heap}
 use Rattle.wam_code.specs.declared.instruction.Register.{Register}
 use Rattle.wam_code.specs.declared.instruction.Code.{Code}
 use Rattle.wam_code.specs.declared.instruction.Code.TheVariants.{UnifyVariable, UnifyValue, UnifyConstant, UnifyInteger, UnifyVoid}

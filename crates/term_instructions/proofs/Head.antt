@@ -123,17 +123,12 @@ module _ (area : Area) (cells : List Cell) (s : branch.State) (from : Reading) (
 
 module _ (area : Area) (f : AtomId) (n : ℕ) (d : Cell) (atom : IsAtom area f) (s : branch.State) (from : ℕ) (c : Contents) (d_own : IsCell s d) (empty : List Cell) (none : empty ≡ []) (s2 : branch.State) (next : ℕ) (c2 : Contents) (cells : List Cell) (g : IsGatheredTo area n s from c empty s2 next c2 cells) (all : length cells ≡ n)
     (s3 : branch.State) (new : Cell) (given : List Cell) (given_is : given ≡ cells) (made : IsMade f given s2 s3 new) (heap : s3 ≡ with_heap s2 s3.heaps.now) (sound : IsSound s3) where
-  pub head_name : f.number < s2.atoms
-  head_name = subst (λ k. f.number < k) (sym g.safe.atoms) atom
 
   none_left : n - length cells ≡ 0
   none_left = omega (arith, all)
 
   grown : IsSafe area s3 next 0 c2
   grown = grown_safe area s2 s3 next 0 c2 (subst (λ k. IsSafe area s2 next k c2) none_left g.safe) heap sound (made_keeps f given s2 s3 new made heap)
-
-  pub argument_own : IsCell s3 d
-  argument_own = made_keeps f given s2 s3 new made heap d (g.stays d d_own)
 
   goes : (shown : List ℕ) (name : Naming) (b : Branch) → IsNaming area name → BuildsAt area shown name (name_of area f) (for_head d) s from c [] n b → GoesOnEqual INFINITY area shown name s3.heaps.now s3.levels.current.posted next (registers_of c2) (stack_of c2) b d new
   goes shown name b m v =

@@ -22,7 +22,7 @@ use Rattle.unify_core.specs.Outcome.{IfTrue, IfFalse}
 use Rattle.unify_core.specs.Unified.{IsEqualled, CannotUnify}
 use Rattle.unify_core.proofs.Lemmas.{integers_true, integers_false, atoms_true, atoms_false}
 use Rattle.branch_state.specs.States as branch
-use Rattle.branch_state.specs.States.{IsCell, AreCells, IsSound, IsSoundBelow, IsSameBelow, with_heap}
+use Rattle.branch_state.specs.States.{IsCell, IsSound, IsSoundBelow, with_heap}
 use Rattle.branch_state.specs.Steps.{IsTouchBelow, posted_with}
 use Rattle.wam_code.specs.declared.instruction.Register.{Register}
 use Rattle.wam_code.specs.declared.instruction.Code.{Code}
@@ -39,7 +39,7 @@ use Rattle.code_steps.proofs.Lemmas.{read_variable, read_value, read_constant, r
 use Rattle.code_states.specs.Machine.{saved_of, registers_of, stack_of, IsSameBehind}
 use Rattle.code_states.specs.Safety.{Fits, IsSafe}
 use Rattle.code_states.specs.Standing.{IsNaming}
-use Rattle.term_instructions.specs.Reading.{ReadsAt, AreTold, IsReadTo, IsRefused, ReadsOn, IsNextPlace, TellsEqual, LooksOn, IsNextLook}
+use Rattle.term_instructions.specs.Reading.{ReadsAt, AreTold, IsReadTo, IsRefused, ReadsOn, IsNextPlace, TellsEqual, LooksOn}
 use Rattle.term_instructions.specs.declared.reading.Reading.{Reading}
 use Rattle.term_instructions.specs.declared.reading.Look.{Look}
 use Rattle.term_instructions.specs.declared.reading.Look.TheVariants.{Read, Refused, Unclear}
@@ -256,12 +256,6 @@ module _ (area : Area) (cells : List Cell) (s : branch.State) (at i : ℕ) (c : 
   looked_integer z holds (cell.Atom a) same to Refused t at_is next_is = absurd t
   looked_integer z holds (cell.Struct j) same to Refused t at_is next_is = absurd t
   looked_integer z holds root same to Unclear t at_is next_is = refl
-
--- where constants are seen, the next place is the one behind
-pub next_looked : (at : ℕ) (root e : Cell) (to : Reading) (l : Look) → TellsEqual root e to l → to.at ≡ suc at → IsNextLook at l
-next_looked at root e to (Read there) t at_is = ap (λ (r : Reading). r.at) t.1 ∙ at_is
-next_looked at root e to Refused t at_is = tt
-next_looked at root e to Unclear t at_is = tt
 
 -- ---- many arguments
 

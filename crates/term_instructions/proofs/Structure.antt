@@ -12,7 +12,7 @@ use Rattle.heap_cells.specs.Atoms.{IsAtomBelow}
 use Rattle.machine_frames.proofs.Lemmas.{of_grown}
 use Rattle.branch_state.specs.Compounds.{IsMade}
 use Rattle.branch_state.specs.States as branch
-use Rattle.branch_state.specs.States.{IsCell, AreCells, IsSound, IsSameBelow, with_heap}
+use Rattle.branch_state.specs.States.{IsCell, IsSound, IsSameBelow, with_heap}
 use Rattle.wam_code.specs.declared.instruction.Register.TheVariants.{X}
 use Rattle.wam_code.specs.declared.instruction.Code.TheVariants.{PutStructure}
 use Rattle.wam_code.specs.Area.{State, Area, Holds, name_of}

@@ -117,12 +117,6 @@ terms_kept old new p x t h =
 pub name_kept : (old new : Contents) → Extends old new → (a : AtomId) → a.number < length old.names → atom_name new a ≡ atom_name old a
 name_kept old new x a h = ap (λ (ns : List Name). name_in ns a) x.names.1 ∙ name_in-append old.names x.names.0 a h
 
--- A pool that grows keeps the shape and the place of each term.
-pub shape_kept : (old new : Contents) → Extends old new → (t : TermId) → t.number < length old.entries → shape_at new t ≡ shape_at old t
-shape_kept old new x t h =
-    ap (λ (es : List Entry). option_map (λ e. e.shape) (slice_get es t.number)) x.entries.1
-    ∙ ap (option_map (λ (e : Entry). e.shape)) (slice_get-append old.entries x.entries.0 t.number h)
-
 -- The place that an id had in the old pool it has in the new one.
 pub place_kept : (old new : Contents) → Extends old new → (t : TermId) → t.number < length old.entries → place_at new t ≡ place_at old t
 place_kept old new x t h =
@@ -149,10 +143,6 @@ extends_trans a b c x y = record {
 -- One more entry behind the others.
 pub extends_push : (c : Contents) (e : Entry) → Extends c (record c { entries = c.entries ++ e ∷ [] })
 extends_push c e = record { names = ([], sym (append-nil c.names)); entries = (e ∷ [], refl) }
-
--- Equal names have equal ids.
-pub same_atom : (c : Contents) → IsPool c → (a b : AtomId) → a.number < length c.names → b.number < length c.names → atom_name c a ≡ atom_name c b → a ≡ b
-same_atom c p a b la lb e = p.distinct a b la lb e
 
 -- A name is a text.
 pub name_is_text : (c : Contents) → IsPool c → (a : AtomId) → IsUtf8 (atom_name c a)

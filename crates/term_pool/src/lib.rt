@@ -4,10 +4,9 @@
 //! its parts ends.
 #![tactic(auto)]
 
-ghost use Rattle.std.specs.Prelude.{◌≡◌, ◌<◌, ◌++◌, [], ◌∷◌, List, length, map, string_bytes, slice_get, Some, Ok, IsTrue, IsOk, IfOk, OnOk, OnErr};
+ghost use Rattle.std.specs.Prelude.{◌≡◌, ◌<◌, ◌++◌, [], ◌∷◌, length, map, string_bytes, slice_get, Some, Ok, IsTrue, IsOk, IfOk, OnOk, OnErr};
 ghost use Rattle.std.specs.List.{list_any};
 ghost use Rattle.std.specs.Str.{bytes_eq};
-ghost use Rattle.fd_language.specs.Term.{Name};
 ghost use Rattle.term_pool.specs.declared.AtomId.{AtomId as AtomNumber};
 ghost use Rattle.term_pool.specs.Contents.{Contents, first_names, atom_name, shape_at, place_at, interned};
 ghost use Rattle.term_pool.specs.Terms.{term_of, shape_term, KeepsTerms, Extends};

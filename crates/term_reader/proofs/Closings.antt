@@ -3,8 +3,7 @@ use Rattle.std.proofs.Common.{◌≡◌, ℕ, List, ◌∷◌, Option, Some, Non
 use Rattle.std.specs.Prelude.{reverse}
 use Rattle.fd_language.specs.PlacedTerm.{PlacedTerm}
 use Rattle.fd_language.proofs.ReadingSteps as machine
-use Rattle.fd_language.proofs.ReadingSteps.{Stack, top, paren, args, items, tail, curly, before, between, State, want, at_list, at_curly_bracket, at_operator, after, Reduced, reduce, gives_way, limit, closed, lone, placed, attach, or_else, ended, behind_operand, called, wanted, begun, number_of, step}
-use Rattle.term_pool.specs.declared.AtomId.{AtomId}
+use Rattle.fd_language.proofs.ReadingSteps.{top, items, want, closed}
 use Rattle.term_pool.specs.declared.TermId.{TermId}
 use Rattle.term_pool.specs.Contents.{Contents}
 use Rattle.term_reader.specs.declared.parser.Terminal.{Terminal}
@@ -28,22 +27,6 @@ closing_parenthesis (Some (Listed q n)) tokens.CloseList e = absurd cc
 closing_parenthesis (Some (Tail q n)) tokens.CloseList e = absurd cc
 closing_parenthesis _ _ e = absurd cc
 
-pub closing_curly : (o : Option Item) (x : Terminal) (p : ℕ) → closing_of o x ≡ closings.Curly p → (o ≡ Some (Curly p)) × (x ≡ tokens.CloseCurly)
-closing_curly (Some (Curly q)) tokens.CloseCurly p e = (cc, refl)
-closing_curly (Some Parenthesis) tokens.Close p e = absurd cc
-closing_curly (Some (Call q b n)) tokens.Close p e = absurd cc
-closing_curly (Some (Listed q n)) tokens.CloseList p e = absurd cc
-closing_curly (Some (Tail q n)) tokens.CloseList p e = absurd cc
-closing_curly _ _ p e = absurd cc
-
-pub closing_call : (o : Option Item) (x : Terminal) (p : ℕ) (a : AtomId) (from : ℕ) → closing_of o x ≡ closings.Call p a from → (o ≡ Some (Call p a from)) × (x ≡ tokens.Close)
-closing_call (Some (Call q b n)) tokens.Close p a from e = (cc, refl)
-closing_call (Some Parenthesis) tokens.Close p a from e = absurd cc
-closing_call (Some (Curly q)) tokens.CloseCurly p a from e = absurd cc
-closing_call (Some (Listed q n)) tokens.CloseList p a from e = absurd cc
-closing_call (Some (Tail q n)) tokens.CloseList p a from e = absurd cc
-closing_call _ _ p a from e = absurd cc
-
 pub closing_argument : (o : Option Item) (x : Terminal) → closing_of o x ≡ closings.Argument → TakesArguments o × (x ≡ tokens.Comma)
 closing_argument (Some (Call q b n)) tokens.Comma e = (tt, refl)
 closing_argument (Some (Listed q n)) tokens.Comma e = (tt, refl)
@@ -51,30 +34,6 @@ closing_argument (Some Parenthesis) tokens.Close e = absurd cc
 closing_argument (Some (Curly q)) tokens.CloseCurly e = absurd cc
 closing_argument (Some (Tail q n)) tokens.CloseList e = absurd cc
 closing_argument _ _ e = absurd cc
-
-pub closing_list : (o : Option Item) (x : Terminal) (p from : ℕ) → closing_of o x ≡ closings.List p from → (o ≡ Some (Listed p from)) × (x ≡ tokens.CloseList)
-closing_list (Some (Listed q n)) tokens.CloseList p from e = (cc, refl)
-closing_list (Some Parenthesis) tokens.Close p from e = absurd cc
-closing_list (Some (Curly q)) tokens.CloseCurly p from e = absurd cc
-closing_list (Some (Call q b n)) tokens.Close p from e = absurd cc
-closing_list (Some (Tail q n)) tokens.CloseList p from e = absurd cc
-closing_list _ _ p from e = absurd cc
-
-pub closing_bar : (o : Option Item) (x : Terminal) (p from : ℕ) → closing_of o x ≡ closings.Bar p from → (o ≡ Some (Listed p from)) × (x ≡ tokens.Bar)
-closing_bar (Some (Listed q n)) tokens.Bar p from e = (cc, refl)
-closing_bar (Some Parenthesis) tokens.Close p from e = absurd cc
-closing_bar (Some (Curly q)) tokens.CloseCurly p from e = absurd cc
-closing_bar (Some (Call q b n)) tokens.Close p from e = absurd cc
-closing_bar (Some (Tail q n)) tokens.CloseList p from e = absurd cc
-closing_bar _ _ p from e = absurd cc
-
-pub closing_tail : (o : Option Item) (x : Terminal) (p from : ℕ) → closing_of o x ≡ closings.Tail p from → (o ≡ Some (Tail p from)) × (x ≡ tokens.CloseList)
-closing_tail (Some (Tail q n)) tokens.CloseList p from e = (cc, refl)
-closing_tail (Some Parenthesis) tokens.Close p from e = absurd cc
-closing_tail (Some (Curly q)) tokens.CloseCurly p from e = absurd cc
-closing_tail (Some (Call q b n)) tokens.Close p from e = absurd cc
-closing_tail (Some (Listed q n)) tokens.CloseList p from e = absurd cc
-closing_tail _ _ p from e = absurd cc
 
 pub no_stop : (c : Contents) (p : ℕ) (x : Terminal) → machine.is_stop (terminal_at c p x) ≡ false
 no_stop c p (tokens.Name a) = refl

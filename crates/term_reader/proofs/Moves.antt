@@ -1,12 +1,10 @@
 -- The parser's steps are the machine's.
-use Rattle.std.proofs.Common.{◌≡◌, ℕ, ℤ, List, Option, Some, None, Bool, true, false, refl, sym, ap, subst, ◌∙◌, ◌⊎◌, inl, inr, arith, w64, SFits}
+use Rattle.std.proofs.Common.{◌≡◌, ℕ, ℤ, List, Option, Some, None, Bool, true, false, refl, sym, ap, subst, ◌∙◌, ◌⊎◌, arith, w64, SFits}
 use Rattle.std.specs.Prelude.{reverse, neg_ℤ, ◌&&◌}
 use Rattle.fd_language.specs.PlacedTerm.{PlacedTerm}
-use Rattle.fd_language.specs.Terminals.{is_minus, is_negated}
-use Rattle.fd_language.proofs.ReadingSteps.{Stack, top, State, after, wanted, number_of}
-use Rattle.term_pool.specs.declared.AtomId.{AtomId}
+use Rattle.fd_language.proofs.ReadingSteps.{Stack, top, State, after, wanted}
 use Rattle.term_pool.specs.declared.TermId.{TermId}
-use Rattle.term_pool.specs.Contents.{Contents, atom_name}
+use Rattle.term_pool.specs.Contents.{Contents}
 use Rattle.term_pool.specs.Terms.{Extends}
 use Rattle.term_pool.specs.Valid.{IsPool}
 use Rattle.term_pool.proofs.Lemmas.{extends_refl}
@@ -17,7 +15,7 @@ use Rattle.term_reader.specs.declared.parser.Expecting.{Expecting}
 use Rattle.term_reader.specs.declared.parser.Expecting.TheVariants as expect
 use Rattle.term_reader.specs.declared.parser.Parser.{Parser}
 use Rattle.term_reader.specs.PlacedTerms.{Adds}
-use Rattle.term_reader.specs.View.{terminal_at, IsTerminal, stack_of, stack, state, state_by, HaveIds, HaveRoom, AreTerms, IsWhole, IsExpecting, Moves, IsNegative, IsNatural}
+use Rattle.term_reader.specs.View.{terminal_at, IsTerminal, stack_of, stack, state, state_by, HaveIds, HaveRoom, AreTerms, IsWhole, IsExpecting, Moves, IsNatural}
 use Rattle.term_reader.proofs.Stacks.{terms_more, ids_more, stack_kept}
 
 -- ---- the state that is reached
@@ -97,24 +95,6 @@ pub operand_term : (r r2 : Parser) (t : TermId) (x : PlacedTerm) (token : Termin
 operand_term r r2 t x token place w a e1 e2 e3 is =
     moves_term r.pool r2 r.arguments.items (reverse r.items.items) t x (λ done. wanted (stack r done) (terminal_at r.pool place token)) w.pool a w.arguments w.ids w.room
     (rw e1 refl) (rw e2 refl) e3 (λ done. is (stack r done))
-
--- ---- the sign of a number
-
-pub no_number : (c : Contents) (a : AtomId) (token : Terminal) (tight : Bool) (z : ℤ) (m : Bool) → token ≡ tokens.Integer tight z → m ≡ is_minus (atom_name c a) → (tight ≡ false) ⊎ (m ≡ false)
-    → (p : ℕ) → is_negated (atom_name c a) (terminal_at c p token) ≡ false
-no_number c a token tight z m e f (inl h) p = ap (λ (x : Terminal). is_negated (atom_name c a) (terminal_at c p x)) e ∙ ap (λ (b : Bool). b && is_minus (atom_name c a)) h
-no_number c a token tight z m e f (inr h) p = ap (λ (x : Terminal). is_negated (atom_name c a) (terminal_at c p x)) e ∙ ap (λ (b : Bool). tight && b) (sym f ∙ h) ∙ none tight
-  where
-    none : (b : Bool) → (b && false) ≡ false
-    none true = refl
-    none false = refl
-
-pub a_number : (c : Contents) (a : AtomId) (token : Terminal) (tight : Bool) (z v : ℤ) (m : Bool) → token ≡ tokens.Integer tight z → m ≡ is_minus (atom_name c a) → tight ≡ true → m ≡ true → v ≡ neg_ℤ z
-    → (p : ℕ) → IsNegative (is_negated (atom_name c a) (terminal_at c p token)) (number_of (terminal_at c p token)) (Some v)
-a_number c a token tight z v m e f h k is p = (
-  ap (λ (x : Terminal). is_negated (atom_name c a) (terminal_at c p x)) e ∙ ap (λ (b : Bool). b && is_minus (atom_name c a)) h ∙ sym f ∙ k,
-  is ∙ ap (λ (x : Terminal). neg_ℤ (number_of (terminal_at c p x))) (sym e),
-)
 
 -- ---- integers
 

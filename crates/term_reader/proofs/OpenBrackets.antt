@@ -6,7 +6,6 @@ use Rattle.std.proofs.lemmas.List.Elements.{All-drop, All-take, All-push}
 use Rattle.fd_language.specs.Term.{Name}
 use Rattle.fd_language.specs.PlacedTerm.{PlacedTerm, PlacedTerms, atom, comp, one, with_last}
 use Rattle.fd_language.specs.Terminals as terminals
-use Rattle.fd_language.specs.Terminals.{infix_operator, is_minus, is_negated, is_tight_open, token_place}
 use Rattle.fd_language.specs.Grammar.{list_of, nil_name, curly_name}
 use Rattle.fd_language.proofs.ReadingSteps.{Stack, top, args, items, tail, want, closed}
 use Rattle.term_pool.specs.declared.AtomId.{AtomId}

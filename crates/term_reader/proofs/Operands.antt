@@ -9,7 +9,7 @@ use Rattle.fd_language.specs.PlacedTerm.{PlacedTerm, PlacedTerms, int, atom, com
 use Rattle.fd_language.specs.Operators.{right_limit, left_limit, infix_of, prefix_of}
 use Rattle.fd_language.specs.Operators as model
 use Rattle.fd_language.specs.Terminals as terminals
-use Rattle.fd_language.specs.Terminals.{infix_operator, is_minus, is_negated, is_tight_open, token_place}
+use Rattle.fd_language.specs.Terminals.{infix_operator, is_negated, is_tight_open, token_place}
 use Rattle.fd_language.specs.Grammar.{nil_name, curly_name}
 use Rattle.fd_language.proofs.ReadingSteps as machine
 use Rattle.fd_language.proofs.ReadingSteps.{Stack, top, paren, args, items, tail, curly, before, between, State, want, at_list, at_curly_bracket, at_operator, after, Reduced, reduce, gives_way, limit, closed, lone, placed, attach, or_else, ended, behind_operand, called, wanted, begun, number_of, step}
@@ -74,12 +74,6 @@ word_more c d e a r h =
       between = subst (λ (n : Name). option_map (operator_of n) r.infix ≡ infix_of n) same h.between;
       before = subst (λ (n : Name). option_map (operator_of n) r.prefix ≡ prefix_of n) same h.before;
     }
-
-pub terminal_more : (c d : Contents) → Extends c d → (x : Terminal) → IsTerminal c x → IsTerminal d x
-terminal_more c d e (tokens.Name a) h = omega (arith, h, extends_names c d e)
-terminal_more c d e (tokens.OperatorWord a r) h = word_more c d e a r h
-terminal_more c d e (tokens.Integer b z) h = h
-terminal_more c d e _ h = tt
 
 expecting_more : (c d : Contents) → Extends c d → (e : Expecting) → IsExpecting c e → IsExpecting d e
 expecting_more c d x expect.Operand h = tt

@@ -6,7 +6,7 @@ use Rattle.fd_language.specs.PlacedTerm.{PlacedTerm, atom, comp, no_parts, one, 
 use Rattle.term_pool.specs.declared.AtomId.{AtomId}
 use Rattle.term_pool.specs.declared.TermId.{TermId}
 use Rattle.term_pool.specs.Contents as pool
-use Rattle.term_pool.specs.Contents.{Shape, Entry, Contents, atom_name, name_in}
+use Rattle.term_pool.specs.Contents.{Shape, Entry, Contents, atom_name}
 use Rattle.term_pool.specs.Terms.{Extends}
 use Rattle.term_pool.specs.Valid.{IsPool, IsWithin}
 use Rattle.term_pool.proofs.Lemmas.{name_in-append, extends_trans, parts_by_same, numbered_seam, front_kept}

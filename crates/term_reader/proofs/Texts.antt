@@ -80,13 +80,6 @@ pub record ReadAll (ls : List Lexeme) (depth : ℕ) (r : Reader) : Type 0 where
   pub brackets_open : depth ≡ brackets 0 (terminals [] ls)
   pub shallow : IsShallow (terminals [] ls) (length ls)
 
-read_none : (r : Reader) → IsReader r → HasRead [] r → ReadAll [] 0 r
-read_none r w h = record { whole = w; read = h; brackets_open = refl; shallow = λ j le. shallow j le }
-  where
-    shallow : (j : ℕ) → j ≤ 0 → brackets 0 (take j (terminals [] [])) ≤ deepest
-    shallow zero le = omega arith
-    shallow (suc j) le = absurd (omega (arith, le))
-
 -- the depth behind one more token
 depth_next : (ls : List Lexeme) (l : Lexeme) (depth : ℕ) (r : Reader) → ReadAll ls depth r → brackets 0 (terminals [] (ls ++ l ∷ [])) ≡ open_behind depth (terminal_of (names_after [] ls) l)
 depth_next ls l depth r k =

@@ -4,7 +4,7 @@ use Rattle.fd_language.specs.Term.{Name}
 use Rattle.fd_language.specs.PlacedTerm.{PlacedTerm}
 use Rattle.fd_language.specs.Tokens.{Lexeme, Stop, FaultOf, TokensOf}
 use Rattle.fd_language.specs.Reading as model
-use Rattle.fd_language.specs.Reading.{terminals, names_behind, sentence_names, place_at, IsSyntaxPlace, IsDeepPlace, Reading, sentences, token_fault, syntax_fault, too_deep, IsReading}
+use Rattle.fd_language.specs.Reading.{terminals, names_behind, sentence_names, IsSyntaxPlace, IsDeepPlace, Reading, token_fault, syntax_fault, too_deep}
 use Rattle.fd_language.specs.GrammarFaults.{IsShallow}
 use Rattle.fd_language.proofs.ReadingSteps.{want, top, run}
 use Rattle.char_tokens.specs.Views.{cause_of}

@@ -1,7 +1,7 @@
 //! Terms read from text: sentences in the grammar of ISO/IEC 13211-1, with this project's operators.
 #![tactic(auto)]
 
-ghost use Rattle.std.specs.Prelude.{◌≡◌, List, ℕ, IfOk, IfErr, MatchResult};
+ghost use Rattle.std.specs.Prelude.{◌≡◌, ℕ, IfOk, IfErr, MatchResult};
 ghost use Rattle.fd_language.specs.Reading.{Reading, IsReading, sentences};
 ghost use Rattle.term_reader.specs.GivenParts.{HaveParts};
 ghost use Rattle.term_reader.specs.Named.{HaveNames};

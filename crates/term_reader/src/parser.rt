@@ -1,6 +1,6 @@
 //! Terms read from the tokens of the grammar, from left to right, with a stack of what is begun.
 
-ghost use Rattle.std.specs.Prelude.{◌≡◌, ◌<◌, ◌≤◌, neg_ℤ, ℕ, List, [], ◌∷◌, ◌++◌, length, reverse, take, drop, slice_get, Option, Some, None, IfOk, IfSome, IfNone, MatchOption, IsTrue, IsFalse, IfErr, option_map, true, false, ◌⊎◌};
+ghost use Rattle.std.specs.Prelude.{◌≡◌, ◌<◌, ◌≤◌, neg_ℤ, ℕ, List, [], ◌∷◌, ◌++◌, length, reverse, take, drop, Option, Some, None, IfOk, IfSome, IfNone, MatchOption, IsTrue, IsFalse, option_map, true, false, ◌⊎◌};
 ghost use Rattle.fd_language.specs.PlacedTerm.{PlacedTerm, var, int, atom, comp, no_parts};
 ghost use Rattle.fd_language.specs.Operators.{prefix_of};
 ghost use Rattle.fd_language.specs.Grammar.{list_of};
@@ -8,14 +8,12 @@ ghost use Rattle.fd_language.specs.Terminals as Terminals;
 ghost use Rattle.fd_language.specs.Terminals.{infix_operator, is_minus, is_negated, is_tight_open};
 ghost use Rattle.name_syntax.specs.Operators.{operator_of};
 ghost use Rattle.fd_language.proofs.ReadingSteps as Machine;
-ghost use Rattle.term_pool.specs.declared.TermId.{TermId as Id};
 ghost use Rattle.term_pool.specs.declared.AtomId.{AtomId as Atom};
 ghost use Rattle.term_pool.specs.Contents.{Contents, atom_name};
 ghost use Rattle.term_pool.specs.Valid.{IsPool};
-ghost use Rattle.term_pool.specs.Terms.{Extends};
 ghost use Rattle.term_pool.specs.PlacedTerms.{placed_of};
 ghost use Rattle.term_reader.specs.PlacedTerms.{parts_of, Adds};
-ghost use Rattle.term_reader.specs.View.{AreTerms, IsNoOperation, item_of, operands, HaveIds, HaveRoom, IsNamed, IsOperatorWord, IsTerminal, IsWhole, infix_name, Moves, Steps, Stays, item_limit, last_item, stack, state, terminal_at, closing_of, allows_lone, EndsWith, StandsAtStop, IsNegative, IsNatural, TakesArguments};
+ghost use Rattle.term_reader.specs.View.{AreTerms, IsNoOperation, item_of, operands, HaveIds, IsNamed, IsOperatorWord, IsTerminal, IsWhole, infix_name, Moves, Steps, Stays, item_limit, last_item, stack, state, terminal_at, closing_of, allows_lone, EndsWith, StandsAtStop, IsNegative, IsNatural, TakesArguments};
 
 use fd_language::NoMemory;
 use name_syntax::operators::{COMMA, Operator, Roles};

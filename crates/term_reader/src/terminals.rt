@@ -1,12 +1,11 @@
 //! The tokens of the grammar, from those of the text.
 
-ghost use Rattle.std.specs.Prelude.{◌≡◌, ◌<◌, ℕ, List, [], ◌∷◌, length, Option, IfOk, map, All, string_bytes};
+ghost use Rattle.std.specs.Prelude.{◌≡◌, ◌<◌, ℕ, [], ◌∷◌, Option, IfOk};
 ghost use Rattle.fd_language.specs.Tokens as Tokens;
 ghost use Rattle.fd_language.specs.Terminals as Terminals;
 ghost use Rattle.fd_language.specs.Reading.{punct_terminal, word_terminal};
-ghost use Rattle.term_pool.specs.Contents.{Contents, atom_name};
+ghost use Rattle.term_pool.specs.Contents.{Contents};
 ghost use Rattle.term_pool.specs.Valid.{IsPool};
-ghost use Rattle.term_pool.specs.Terms.{Extends};
 ghost use Rattle.char_tokens.specs.Views.{lexeme_of};
 ghost use Rattle.term_reader.specs.View.{terminal_at, IsTerminal};
 ghost use Rattle.term_reader.specs.GrammarTokens.{AreVariables, HasNatural, Sees, Knows};

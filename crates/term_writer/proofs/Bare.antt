@@ -14,7 +14,7 @@ use Rattle.fd_language.specs.Characters.{is_symbol, is_layout, starts_with, star
 use Rattle.fd_language.specs.Operators.{Operator, infix_operators, prefix_operators, infix_of, prefix_of, is_operator}
 use Rattle.fd_language.specs.Tokens.{Word, Token, ends_stop, front_of}
 use Rattle.fd_language.specs.Writing as writing
-use Rattle.fd_language.specs.Writing.{is_letter_word_of, is_letter_word, is_comment_start, is_symbol_word, is_bare, quoted_name, starts_with_symbol, ends_with_symbol}
+use Rattle.fd_language.specs.Writing.{is_letter_word_of, is_letter_word, is_comment_start, is_symbol_word, starts_with_symbol, ends_with_symbol}
 use Rattle.term_writer.proofs.Derivations.{infix_stands, row_named, text_is}
 use Rattle.term_writer.proofs.Classes.{symbol_is, symbol_low}
 use Rattle.term_writer.proofs.Fronts.{stops, letters_front, symbols_front}

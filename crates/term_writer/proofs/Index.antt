@@ -1,9 +1,9 @@
 -- The places of variables' first entries.
-use Rattle.std.proofs.Common.{◌≡◌, ◌∙◌, ℕ, ◌<◌, ◌+◌, List, ◌∷◌, length, drop, get_or, Bool, true, false, cond, Option, Some, None, refl, sym, ap, subst, arith, Bor}
+use Rattle.std.proofs.Common.{◌≡◌, ◌∙◌, ℕ, ◌<◌, ◌+◌, List, ◌∷◌, length, drop, get_or, Bool, true, false, cond, Option, Some, None, refl, sym, ap, subst, Bor}
 use Rattle.std.specs.Prelude.{slice_get, nat_eq, is_some, not, option_copied}
 use Rattle.std.proofs.lemmas.Bool.{eqb-true}
 use Rattle.std.proofs.lemmas.Option.{slice_get-get_or}
-use Rattle.std.proofs.lemmas.List.{at_drop_more, at_drop_all}
+use Rattle.std.proofs.lemmas.List.{at_drop_more}
 use Rattle.term_writer.specs.declared.VarText.{VarText}
 use Rattle.term_writer.specs.Views.{text_of, text_by, text_at}
 
@@ -11,10 +11,6 @@ use Rattle.term_writer.specs.Views.{text_of, text_by, text_at}
 abbrev pub IsIndexed : List VarText → ℕ → ℕ → Option ℕ → Type 0
 IsIndexed vars n x None = text_of vars x ≡ text_of (drop n vars) x
 IsIndexed vars n x (Some place) = text_by vars (Some place) ≡ text_of vars x
-
-pub indexed_all : (vars : List VarText) (n x : ℕ) (o : Option ℕ) → length vars < n + 1 → IsIndexed vars n x o → text_by vars o ≡ text_of vars x
-indexed_all vars n x None l h = sym (h ∙ at_drop_all (λ (vs : List VarText). text_of vs x) vars n (omega arith))
-indexed_all vars n x (Some place) l h = h
 
 -- an entry of another variable
 pub indexed_other : (vars : List VarText) (n x : ℕ) (v : VarText) (o : Option ℕ) → n < length vars → v ≡ get_or vars n v → nat_eq v.var x ≡ false → IsIndexed vars n x o → IsIndexed vars (n + 1) x o

@@ -2,7 +2,6 @@
 
 ghost use Rattle.std.specs.Prelude.{◌≡◌, ℕ, ◌+◌, ◌<◌, List, [], ◌∷◌, Some, length, All, OnOk, codes, nat_le, if◌then◌else◌};
 ghost use Rattle.std.specs.Fmt.{signed_decimal};
-ghost use Rattle.fd_language.specs.Operators.{infix_of};
 ghost use Rattle.fd_language.specs.Writing as Writing;
 ghost use Rattle.term_pool.specs.Contents.{Contents, atom_name};
 ghost use Rattle.term_pool.specs.Terms.{term_of, terms_by};

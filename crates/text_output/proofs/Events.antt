@@ -105,10 +105,6 @@ pub record Behind (steps : ℕ) (answers : Option ℕ) (prog : Program) (n : ℕ
   pub queries : Queries INFINITY prog steps answers n qs rest later
   pub stops : stop ≡ or_stop stopped later
 
--- at the start
-pub behind_none : (steps : ℕ) (answers : Option ℕ) (prog : Program) (qs : List Query) (s : SinkState) (out : List ℕ) (stop : Bool) → Queries INFINITY prog steps answers 1 qs out stop → Behind steps answers prog 1 qs s s false out stop
-behind_none steps answers prog qs s out stop h = record { done = []; rest = out; later = stop; is = refl; wrote = wrote_nothing s; queries = h; stops = refl }
-
 -- at the end
 pub behind_all : (steps : ℕ) (answers : Option ℕ) (prog : Program) (n : ℕ) (old now : SinkState) (stopped : Bool) (out : List ℕ) (stop : Bool) → Behind steps answers prog n [] old now stopped out stop → WroteAll old now out × (stopped ≡ stop)
 behind_all steps answers prog n old now stopped out stop k =
@@ -225,10 +221,6 @@ pub program_written : (steps : ℕ) (answers : Option ℕ) (p : FlatProgram) (i 
 program_written steps answers p i old now stopped out stop e k =
     behind_all steps answers (program_in p) (i + 1) old now stopped out stop
     (subst (λ (qs : List Query). Behind steps answers (program_in p) (i + 1) qs old now stopped out stop) (drop_all i (program_in p).queries (e ∙ sym (length-map p.queries (query_in p)))) k)
-
--- memory was wanting
-pub behind_short : {A : Type 0} (steps : ℕ) (answers : Option ℕ) (prog : Program) (n : ℕ) (qs : List Query) (old now : SinkState) (stopped : Bool) (out : List ℕ) (stop : Bool) (result : Result A Fault) → Behind steps answers prog n qs old now stopped out stop → result ≡ Err fault.NoMemory → Wrote old now result out
-behind_short {A} steps answers prog n qs old now stopped out stop result k e = subst (Wrote old now result) (sym k.is) (wrote_short old now result k.done k.rest e k.wrote)
 
 -- the first line of a query was cut short
 pub line_cut : {A : Type 0} (steps : ℕ) (answers : Option ℕ) (prog : Program) (n : ℕ) (q : Query) (qs : List Query) (old now new : SinkState) (stopped : Bool) (out : List ℕ) (stop : Bool) (bytes : List ℕ) (f : Fault) (result : Result A Fault) → Next steps answers prog n q qs old now stopped out stop

@@ -1,7 +1,6 @@
 //! What a text is: a program, or refused at a place for a reason.
 ghost use Rattle.std.specs.Prelude.{◌≡◌, ◌≤◌, ℕ, length, IfOk};
 ghost use Rattle.fd_language.specs.Reading as Reading;
-ghost use Rattle.fd_language.specs.Reading.{IsReading};
 ghost use Rattle.fd_model.specs.Verdict as Verdicts;
 ghost use Rattle.fd_model.specs.Verdict.{reading_verdict};
 ghost use Rattle.answer_text.specs.Reasons.{reason_text, IsReasonIn};

@@ -32,6 +32,3 @@ accepted_words words = subst (λ (a : Option Options). IfSome a IsAccepted) (sym
     go : (b : Bool) → IfSome (cond b (Some (options_by given)) None) IsAccepted
     go true = record { limit = limit_from_one _ (answers_within (options_by given) given refl); size = generate_within (options_by given) given refl }
     go false = tt
-
-pub accepted_options : (words : List (List ℕ)) (o : Options) → options_of words ≡ Some o → IsAccepted o
-accepted_options words o e = subst (λ (a : Option Options). IfSome a IsAccepted) e (accepted_words words)

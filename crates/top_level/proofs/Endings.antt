@@ -5,10 +5,9 @@ use Rattle.fd_language.specs.declared.NoMemory.{NoMemory as OutOfMemory}
 use Rattle.fd_language.specs.declared.TheConstants.{INFINITY}
 use Rattle.fd_model.specs.declared.Status.{Status}
 use Rattle.fd_model.specs.declared.Status.TheVariants.{Done, Usage, Refused, Stopped, ReadFault, WriteFault, NoMemory}
-use Rattle.fd_model.specs.Goal.{Program}
 use Rattle.fd_model.specs.Verdict as model
 use Rattle.fd_model.specs.Verdict.{max_text}
-use Rattle.fd_model.specs.Output.{Options, Output, Queries, TextOutput, VerdictOutput, IsSummary, refusal, usage, is_stop, stop_status}
+use Rattle.fd_model.specs.Output.{Options, Output, TextOutput, VerdictOutput, IsSummary, refusal, usage, is_stop, stop_status}
 use Rattle.command_words.specs.declared.Options as command
 use Rattle.command_words.specs.Words.{asked, options_of}
 use Rattle.byte_ports.specs.Ends.{Ends, SinkState, sink_of}
@@ -21,25 +20,17 @@ use Rattle.text_verdict.specs.declared.judge.Verdict.TheVariants as verdict
 use Rattle.top_level.specs.Headline.{Headline, IsDecided, IsText, reads_source}
 use Rattle.text_output.specs.Endings.{Ending}
 use Rattle.text_output.proofs.Lemmas.{no_memory}
-use Rattle.text_verdict.specs.Verdicts.{verdict_of, HasNames, IsVerdictOn}
+use Rattle.text_verdict.specs.Verdicts.{verdict_of, IsVerdictOn}
 use Rattle.text_verdict.proofs.Lemmas.{large_verdict}
 use Rattle.top_level.proofs.OneOutput.{one_output, verdict_output, large_output}
 
 -- ---- verdicts
-
-pub verdict_names : (text : List ℕ) (v : Result Verdict OutOfMemory) → IfOk v (IsVerdictOn text) → IfOk v HasNames
-verdict_names text (Ok v) h = h.names
-verdict_names text (Err e) h = tt
 
 pub verdict_outputs : (words : List (List ℕ)) (o : command.Options) (text : List ℕ) (v : Result Verdict OutOfMemory) (out : List ℕ) (st : Status) → options_of words ≡ Some (asked o) → o.generate ≡ None
     → IfOk v (IsVerdictOn text) → Output INFINITY (options_of words) text out st → IfOk v (λ v. VerdictOutput INFINITY (verdict_of v) o.steps o.answers out st)
 verdict_outputs words o text (Ok v) out st e read h p =
     verdict_output INFINITY (asked o) text (verdict_of v) out st read h.verdict (subst (λ (a : Option Options). Output INFINITY a text out st) e p)
 verdict_outputs words o text (Err f) out st e read h p = tt
-
-pub large_names : (v : Result Verdict OutOfMemory) → IfOk v (λ v. (pool : Contents) × (v ≡ verdict.Refused max_text TooLarge pool)) → IfOk v HasNames
-large_names (Ok v) h = subst HasNames (sym h.1) tt
-large_names (Err e) h = tt
 
 pub large_verdicts : (text : List ℕ) (v : Result Verdict OutOfMemory) → max_text < length text → IfOk v (λ v. (pool : Contents) × (v ≡ verdict.Refused max_text TooLarge pool)) → IfOk v (IsVerdictOn text)
 large_verdicts text (Ok v) l h = subst (IsVerdictOn text) (sym h.1) (record { names = tt; verdict = large_verdict INFINITY text l })

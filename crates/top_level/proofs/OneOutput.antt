@@ -1,5 +1,5 @@
 -- There is exactly one output for words and a text.
-use Rattle.std.proofs.Common.{◌≡◌, ℕ, ◌+◌, ◌<◌, ◌≤◌, Bool, List, [], ◌∷◌, ◌++◌, length, map, false, Option, Some, None, refl, ap, sym, ◌∙◌, subst, inl, inr, ◌⊎◌, arith, codes, decimal}
+use Rattle.std.proofs.Common.{◌≡◌, ℕ, ◌+◌, ◌<◌, ◌≤◌, Bool, List, [], ◌∷◌, ◌++◌, length, map, false, Option, Some, None, refl, ap, sym, ◌∙◌, subst, inl, inr, ◌⊎◌, codes, decimal}
 use Rattle.std.specs.Str.{IsUtf8, is_utf8}
 use Rattle.std.specs.Str.Lossy.{utf8_valid_len}
 use Rattle.std.proofs.lemmas.Bool.{cases_Bool, cases_lt, true≢false}
@@ -21,7 +21,6 @@ use Rattle.fd_model.specs.Goal.{Program, Query, Event, start_of}
 use Rattle.fd_model.specs.Run.{IsLimit, Run}
 use Rattle.fd_model.specs.Sound.{QueriesRunnable, IsRunnableProgram}
 use Rattle.fd_model.proofs.Lemmas.{queries_once, run_once, one_run, accepted_runnable}
-use Rattle.fd_language.proofs.Lemmas.{one_verdict_of_reading}
 use Rattle.term_reader.proofs.Lemmas.{each_is_read}
 use Rattle.text_verdict.proofs.Lemmas.{large_verdict, bytes_verdict, read_verdict, one_verdict}
 use Rattle.top_level.specs.OneOutput.{OneOutput}

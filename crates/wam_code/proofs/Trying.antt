@@ -1,13 +1,10 @@
 -- Choices and switches without the bound, and the clauses that a goal needn't try.
-use Rattle.std.proofs.Common.{◌≡◌, ℕ, zero, suc, ◌+◌, Bool, false, List, [], ◌∷◌, Some, refl, sym, ◌∙◌, subst, inl, inr, arith}
-use Rattle.std.proofs.lemmas.Bool.{cases_Bool}
-use Rattle.fd_language.specs.Term.{Term}
-use Rattle.fd_model.specs.Children.{fits_head}
+use Rattle.std.proofs.Common.{◌≡◌, ℕ, zero, suc, ◌+◌, List, [], ◌∷◌, Some, sym, ◌∙◌, subst, inl, inr, arith}
 use Rattle.fd_model.specs.Goal.{Clause}
 use Rattle.wam_code.specs.declared.instruction.Code.{Code}
 use Rattle.wam_code.specs.declared.instruction.Code.TheVariants.{Jump, FailNow, TryMeElse, RetryMeElse, TrustMe, Try, Retry, Trust, SwitchOnTerm, SwitchOnConstant, SwitchOnInteger, SwitchOnStructure}
 use Rattle.wam_code.specs.Area.{Area, Table, Holds, table_at}
-use Rattle.wam_code.specs.Tries.{Shape, IsNeedless, Thinned, Rows, Both, TryRule, TriesWithin, Tries}
+use Rattle.wam_code.specs.Tries.{Shape, Rows, Both, TryRule, TriesWithin, Tries}
 
 module _ (area : Area) (s : Shape) where
   rows_grow : (R S : ℕ → List Clause → Type 0) → ((at : ℕ) (cs : List Clause) → R at cs → S at cs) → (table : Table) (cs : List Clause) → Rows area R s table cs → Rows area S s table cs
@@ -73,18 +70,3 @@ at_try area s i at cs f (zero, w) = absurd w
 at_try area s i at cs f (suc n, w) =
     let same : w.0 ≡ i = let e : Some w.0 ≡ Some i = sym w.1 ∙ f in cc in
     subst (λ j. TryRule area (Tries area s) s j at cs) same (grow area s (TriesWithin area s n) (Tries area s) (λ a ds h. (n, h)) w.0 at cs w.2)
-
--- A list of the program's clauses by any test that keeps each clause that the goal needs; those that don't fit it go too.
-pub sifted : (s : Shape) (t : Term) (keep : Clause → Bool) → ((c : Clause) → keep c ≡ false → IsNeedless s t c) → (cs : List Clause) → (ds : List Clause) × Thinned s t cs ds
-sifted s t keep says [] = ([], refl)
-sifted s t keep says (c ∷ cs) = let r = sifted s t keep says cs in elim (cases_Bool (keep c)) [
-  | inl e ↦ elim (cases_Bool (fits_head t c.head)) [
-    | inl f ↦ (c ∷ r.0, inl (refl, f, r.1))
-    | inr f ↦ (r.0, skipped s t c cs r.0 (inl f) r.1)
-  ]
-  | inr e ↦ (r.0, skipped s t c cs r.0 (says c e) r.1)
-]
-  where
-    skipped : (s : Shape) (t : Term) (c : Clause) (cs ds : List Clause) → IsNeedless s t c → Thinned s t cs ds → Thinned s t (c ∷ cs) ds
-    skipped s t c cs [] w h = (w, h)
-    skipped s t c cs (d ∷ ds) w h = inr (w, h)

@@ -1,6 +1,6 @@
 use Rattle.std.proofs.Common.{◌+◌, List, map, drop, get_or, ap, sym, subst, ◌∙◌, arith}
 use Rattle.fd_model.specs.Members as def
-use Rattle.fd_model.specs.Members.{after, fresh_after}
+use Rattle.fd_model.specs.Members.{fresh_after}
 use Rattle.constraint_expand.specs.declared.members.Member.TheVariants.{Open}
 use Rattle.constraint_expand.specs.Lists.{member_of, Placing}
 use Rattle.constraint_expand.proofs.Different.{next_drop}
