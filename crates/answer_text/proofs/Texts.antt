@@ -5,7 +5,7 @@ use Rattle.std.proofs.lemmas.Bool.{true≢false}
 use Rattle.std.proofs.lemmas.Bool.Decides.{eqb_tells}
 use Rattle.fd_language.specs.Family.{has}
 use Rattle.fd_language.specs.Term.{Term, Terms, Var, Comp, no_terms, term, apply, apply_all}
-use Rattle.fd_language.specs.Writing.{Mode, Spelling, term_text}
+use Rattle.fd_language.specs.Writing.{Mode, TermText, term_text}
 use Rattle.fd_model.proofs.Lemmas.{spelled_same}
 use Rattle.term_writer.specs.declared.VarText.{VarText}
 use Rattle.term_writer.specs.Views.{text_of}
@@ -47,7 +47,7 @@ mutual
 pub own_texts : (f : ℕ → List ℕ) (mode : Mode) (limit : ℕ) (t : Term) (ts : List VarText) → GiveTexts f t ts → term_text mode (text_of ts) limit t ≡ term_text mode f limit t
 own_texts f mode limit t ts h =
     ap (λ (u : Term). term_text mode (text_of ts) limit u) (sym (apply_vars t))
-    ∙ ap (λ (x : Spelling). x.at limit) (spelled_same Var f (text_of ts) mode t (λ y c. (y, refl, sym (h y c))))
+    ∙ ap (λ (x : TermText). x.at limit) (spelled_same Var f (text_of ts) mode t (λ y c. (y, refl, sym (h y c))))
 
 -- the next variable's text, where its number is its place among those that are met
 pub texts_step : (set : ℕ → Option (List ℕ)) (ks new more vars : List ℕ) (i : ℕ) (old ts : List VarText) (t : VarText) → i < length vars → new ≡ with_number ks (slice_index_or vars i 0)
@@ -69,5 +69,5 @@ pub text_by_same : (set other : ℕ → Option (List ℕ)) (vs all : List ℕ) (
     → term_text mode (open_by set vs) limit t ≡ term_text mode (open_by other all) limit t
 text_by_same set other vs all mode limit t e f =
     ap (λ (u : Term). term_text mode (open_by set vs) limit u) (sym (apply_vars t))
-    ∙ ap (λ (x : Spelling). x.at limit) (spelled_same Var (open_by other all) (open_by set vs) mode t
+    ∙ ap (λ (x : TermText). x.at limit) (spelled_same Var (open_by other all) (open_by set vs) mode t
     (λ y c. (y, refl, ap (λ (l : List ℕ). open_part (place_in l y) (other y)) (sym f) ∙ ap (open_part (place_in vs y)) (sym (e y)))))

@@ -11,7 +11,7 @@ use Rattle.fd_language.specs.Range.{greatest as greatest_of}
 use Rattle.fd_language.specs.Term.{Term, Terms, Var, Int, Atom, Comp, no_terms, term}
 use Rattle.fd_language.proofs.Lemmas.{two}
 use Rattle.fd_model.specs.Arithmetic.{Value, value_of}
-use Rattle.fd_model.specs.Builtins.{decided, equated, evaluated, by_value, compared, found, is_same, are_same, is_integer, is_atom, is_atomic, those, numbers_of, equals_number, equals_value, greatest, last_of}
+use Rattle.fd_model.specs.Builtins.{decided, equated, evaluated, by_value, compared, found, is_same, are_same, is_integer, is_atom, is_atomic, those, numbers_of, equals_number, equals_value, greatest_number, last_of}
 use Rattle.fd_model.specs.Levels.{Levels}
 use Rattle.fd_model.specs.declared.kinds.BuiltinKind.{BuiltinKind}
 use Rattle.fd_model.specs.declared.kinds.BuiltinKind.TheVariants as kind
@@ -28,7 +28,7 @@ use Rattle.builtin_calls.specs.Outcomes.{IsFault}
 use Rattle.builtin_calls.specs.declared.evaluation.EvalFault.{EvalFault}
 use Rattle.builtin_calls.specs.declared.evaluation.EvalFault.TheVariants as eval
 use Rattle.builtin_calls.specs.Identical.{TellsIdentical}
-use Rattle.builtin_calls.specs.Reading as calls
+use Rattle.builtin_calls.specs.SeenTerms as calls
 use Rattle.machine_relation.specs.Held.{value_in, value_at, link_at}
 use Rattle.machine_relation.specs.Held as held
 use Rattle.machine_relation.specs.Shown.{cell_set}
@@ -261,7 +261,7 @@ pub last_is : (n : ℕ) (ns : List ℕ) → last_of n ns ≡ greatest_of (n ∷ 
 last_is n [] = refl
 last_is n (m ∷ ms) = last_is m ms
 
-pub greatest_is : (xs : List ℕ) → greatest (those xs) ≡ pos (greatest_of xs)
+pub greatest_is : (xs : List ℕ) → greatest_number (those xs) ≡ pos (greatest_of xs)
 greatest_is [] = refl
 greatest_is (x ∷ xs) = ap pos (last_is x xs)
 

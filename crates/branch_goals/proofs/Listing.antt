@@ -31,7 +31,7 @@ use Rattle.machine_relation.specs.Held.{value_in, value_at}
 use Rattle.machine_frames.specs.Frames.{link_of, link_in}
 use Rattle.machine_frames.specs.Naming.{full}
 use Rattle.machine_frames.proofs.Lemmas.{full_one}
-use Rattle.machine_frames.specs.Reading.{read_term}
+use Rattle.machine_frames.specs.SeenHeap.{read_term}
 use Rattle.label_search.specs.declared.Member.{Member}
 use Rattle.label_search.specs.declared.Member.TheVariants as member
 use Rattle.label_search.specs.Picks.{IsThere, AreThere}

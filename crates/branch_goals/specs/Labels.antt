@@ -12,7 +12,7 @@ use Rattle.machine_relation.specs.Labelling.{Labelled, labels, done, faults}
 use Rattle.machine_relation.specs.Shown.{cell_set}
 use Rattle.range_code.specs.Frames.{family_of}
 use Rattle.machine_frames.specs.Frames.{link_in}
-use Rattle.machine_frames.specs.Reading.{read_term, heap_label}
+use Rattle.machine_frames.specs.SeenHeap.{read_term, heap_label}
 use Rattle.branch_goals.specs.declared.labelling.Labelling.{Labelling}
 use Rattle.branch_goals.specs.declared.labelling.Labelling.TheVariants.{Done, Takes, Fault}
 use Rattle.branch_state.specs.States.{State}

@@ -15,7 +15,7 @@ use Rattle.heap_cells.specs.Terms.{Naming, IsOneToOne, term_of, terms_by}
 use Rattle.range_code.specs.Frames.{family_of}
 use Rattle.machine_relation.specs.Held.{value_in}
 use Rattle.machine_frames.specs.Frames.{link_in}
-use Rattle.machine_frames.specs.Reading.{read_term}
+use Rattle.machine_frames.specs.SeenHeap.{read_term}
 use Rattle.label_search.specs.declared.Member.{Member}
 use Rattle.label_search.specs.declared.Member.TheVariants.{Fixed, Var, Free}
 use Rattle.label_search.specs.Picks.{AreThere}

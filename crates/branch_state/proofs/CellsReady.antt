@@ -17,7 +17,7 @@ use Rattle.range_code.specs.Frames.{family_of}
 use Rattle.range_code.specs.Slots.{slots_of}
 use Rattle.unify_core.specs.declared.Touch.{Touch}
 use Rattle.machine_frames.specs.CellRanges.{slot_terms}
-use Rattle.machine_frames.specs.Reading.{read_term}
+use Rattle.machine_frames.specs.SeenHeap.{read_term}
 use Rattle.branch_state.specs.declared.look.Look.{Look}
 use Rattle.branch_state.specs.CellNaming.{shown_as, shown_slots, slots_open, NamedBy, slot_in, IsTermNaming, TermStep, SlotStep, AreCellsReady}
 use Rattle.branch_state.specs.Naming.{LooksAs, IsKind, IsInteger, offence, first_in, Apart, StandsIn, AllStand, OwnLinks}

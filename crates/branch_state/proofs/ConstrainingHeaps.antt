@@ -17,7 +17,7 @@ use Rattle.heap_cells.proofs.Lemmas.{new_below, bound_below, slot_there, slot_el
 use Rattle.machine_relation.specs.Held.{value_in, value_at}
 use Rattle.machine_relation.proofs.Lemmas.{after_is, bindings, without, functions}
 use Rattle.machine_frames.specs.Frames.{link_of, link_in, IsGrown}
-use Rattle.machine_frames.specs.Reading.{read_term}
+use Rattle.machine_frames.specs.SeenHeap.{read_term}
 use Rattle.machine_frames.proofs.Lemmas.{grown_same, grown_both, grown_var}
 use Rattle.branch_state.specs.Constraints.{with_variables, with_integers, AreFrom, AreOpen, IsUnbound}
 

@@ -25,7 +25,7 @@ use Rattle.machine_relation.specs.Store.{posts}
 use Rattle.machine_relation.proofs.Lemmas.{bindings}
 use Rattle.machine_frames.specs.Frames.{store_touches}
 use Rattle.machine_frames.specs.Naming.{full}
-use Rattle.machine_frames.specs.Reading.{read_term}
+use Rattle.machine_frames.specs.SeenHeap.{read_term}
 use Rattle.range_code.specs.Frames.{family_of}
 use Rattle.propagate_queue.specs.declared.instance.Instance.{Instance}
 use Rattle.propagate_queue.specs.Instances.{posted_by, IsInstance}

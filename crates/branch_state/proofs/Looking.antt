@@ -20,7 +20,7 @@ use Rattle.unify_core.specs.Touches.{IsSymbolic}
 use Rattle.machine_relation.specs.Held.{value_in, value_at}
 use Rattle.machine_frames.specs.Environments.{cell_at, cell_look}
 use Rattle.machine_frames.specs.Frames.{link_of, link_in}
-use Rattle.machine_frames.specs.Reading.{seen_env}
+use Rattle.machine_frames.specs.SeenHeap.{seen_env}
 use Rattle.heap_terms.specs.Values.{only}
 use Rattle.branch_state.specs.declared.look.Look.{Look}
 use Rattle.branch_state.specs.declared.look.Look.TheVariants as look

@@ -31,7 +31,7 @@ use Rattle.range_code.specs.Frames.{family_of}
 use Rattle.range_code.proofs.Lemmas.{once_more, keys_more, has_once, any_has}
 use Rattle.machine_frames.specs.Frames.{link_of, link_in}
 use Rattle.machine_frames.specs.Naming.{full}
-use Rattle.machine_frames.specs.Reading.{read_term}
+use Rattle.machine_frames.specs.SeenHeap.{read_term}
 use Rattle.machine_frames.proofs.Lemmas.{full_term}
 use Rattle.branch_state.specs.Showing.{terms_read, with_set, with_sets, variables_at, AreShowable, AreGathered}
 use Rattle.branch_state.proofs.Lists.{same_test, filter_agree}
@@ -182,8 +182,6 @@ gathered_more set xs keys new ps qs x b w e f g = record {
 
 pub gathered_all : (set : ℕ → Option (List ℕ)) (xs keys : List ℕ) (ps : List (ℕ × List ℕ)) → AreGathered set xs keys ps → ps ≡ with_sets set (distinct xs)
 gathered_all set xs keys ps w = w.sets_are ∙ ap (with_sets set) (sym (distinct_once xs))
-
--- ---- the set of one variable
 
 -- ---- a variable that is added
 

@@ -19,7 +19,7 @@ use Rattle.unify_core.specs.declared.Touch.TheVariants.{Value, Same}
 use Rattle.machine_frames.specs.CellRanges.{slot_terms}
 use Rattle.machine_frames.specs.Frames.{link_in}
 use Rattle.machine_frames.specs.Posting.{Listed, IsLinkedMore}
-use Rattle.machine_frames.specs.Reading.{read_term}
+use Rattle.machine_frames.specs.SeenHeap.{read_term}
 use Rattle.branch_state.specs.declared.look.Look.{Look}
 use Rattle.branch_state.specs.declared.look.Look.TheVariants.{Number}
 use Rattle.branch_state.specs.Naming.{offence, first_in, or_zero, LooksAs, NameStep, AllStand}

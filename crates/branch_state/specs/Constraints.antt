@@ -24,7 +24,7 @@ use Rattle.unify_core.specs.declared.Touch.TheVariants.{Value}
 use Rattle.machine_frames.specs.Frames.{link_in}
 use Rattle.machine_frames.specs.Naming.{full}
 use Rattle.machine_frames.specs.Posting.{IsRowLinked}
-use Rattle.machine_frames.specs.Reading.{heap_row}
+use Rattle.machine_frames.specs.SeenHeap.{heap_row}
 use Rattle.branch_state.specs.declared.step.Step.{Step}
 use Rattle.branch_state.specs.declared.step.Step.TheVariants.{Kept, Failed, Fault}
 use Rattle.branch_state.specs.Naming.{or_zero}

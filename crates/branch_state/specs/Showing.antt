@@ -16,7 +16,7 @@ use Rattle.term_pool.specs.Contents.{Contents}
 use Rattle.term_pool.specs.Terms.{term_of as pool_term}
 use Rattle.machine_frames.specs.Frames.{link_in}
 use Rattle.machine_frames.specs.Naming.{full}
-use Rattle.machine_frames.specs.Reading.{read_term}
+use Rattle.machine_frames.specs.SeenHeap.{read_term}
 use Rattle.machine_events.specs.declared.Shown.{Shown}
 
 -- the cells as they are read

@@ -22,10 +22,10 @@ use Rattle.builtin_calls.specs.declared.waiting.Waiting.TheVariants.{Left, Right
 use Rattle.builtin_calls.specs.declared.evaluation.Step.{Step}
 use Rattle.builtin_calls.specs.declared.evaluation.Step.TheVariants.{Enter, Leave}
 use Rattle.fd_model.specs.Arithmetic.{ValueFault, not_a_number, Value, value_of, by_name, of_both, of_one, opposite_of, sum_of, difference_of, product_of, quotient_of, modulo_of}
-use Rattle.builtin_calls.specs.Reading.{seen_term}
+use Rattle.builtin_calls.specs.SeenTerms.{seen_term}
 use Rattle.builtin_calls.specs.Shown.{IsHeld}
 use Rattle.builtin_calls.specs.Outcomes.{IsFault, IsNamedBy, Tells, meaning, operation_of}
-use Rattle.builtin_calls.specs.Waiting.{after, resumed, step_value, TellsDescent, IsOwn, IsOwnWaiting, IsOwnStep, unnamed, burden, GoesOn, Leads, TellsAscent, IsEntered}
+use Rattle.builtin_calls.specs.Evaluations.{after, resumed, step_value, TellsDescent, IsOwn, IsOwnWaiting, IsOwnStep, unnamed, burden, GoesOn, Leads, TellsAscent, IsEntered}
 
 -- the operation that a name means
 operation_by : (a b c d e : Bool) (l r : Value) (o : Operation) → cond a (Some Add) (cond b (Some Subtract) (cond c (Some Multiply) (cond d (Some Divide) (cond e (Some Modulo) None)))) ≡ Some o

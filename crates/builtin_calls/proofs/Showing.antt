@@ -14,7 +14,7 @@ use Rattle.heap_cells.specs.Terms.{Naming, terms_by, term_of}
 use Rattle.heap_cells.specs.Seen.{IsSeen}
 use Rattle.heap_cells.specs.Valid.{IsHeap}
 use Rattle.heap_cells.proofs.Lemmas.{unbound_term, term-Int, term-Atom, term-Struct}
-use Rattle.builtin_calls.specs.Reading.{family_of, link_of, value_in, value_at, read_term, seen_term}
+use Rattle.builtin_calls.specs.SeenTerms.{family_of, link_of, value_in, value_at, read_term, seen_term}
 use Rattle.builtin_calls.specs.Shown.{only, shown, IsHeld}
 
 above : (low M y : ℕ) (ys : List ℕ) → IsRising low M (y ∷ ys) → low ≤ greatest (y ∷ ys)

@@ -10,9 +10,9 @@ use Rattle.heap_cells.specs.Terms.{Naming, IsOneToOne}
 use Rattle.builtin_calls.specs.declared.identity.Pair.{Pair}
 use Rattle.builtin_calls.specs.declared.identity.Told.{Told}
 use Rattle.builtin_calls.specs.declared.identity.Told.TheVariants.{Apart, Alike, Next}
-use Rattle.builtin_calls.specs.Reading.{seen_term}
+use Rattle.builtin_calls.specs.SeenTerms.{seen_term}
 use Rattle.builtin_calls.specs.Shown.{shown}
-use Rattle.builtin_calls.specs.Waiting.{unnamed}
+use Rattle.builtin_calls.specs.Evaluations.{unnamed}
 
 -- the answer tells whether the terms of two cells are identical, where no two atoms have one name
 abbrev pub TellsIdentical : Cells → List (List ℕ) → Cell → Cell → Bool → Type 0

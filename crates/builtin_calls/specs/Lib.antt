@@ -1,7 +1,7 @@
-pub mod Reading
+pub mod SeenTerms
 pub mod Shown
 pub mod Passing
 pub mod Outcomes
-pub mod Waiting
+pub mod Evaluations
 pub mod Identical
 pub mod Waiters

@@ -6,7 +6,7 @@ use Rattle.heap_cells.specs.declared.Seen.{Seen}
 use Rattle.heap_cells.specs.declared.Seen.TheVariants as seen
 use Rattle.heap_cells.specs.Cells.{Cells, compound_at}
 use Rattle.heap_cells.specs.Terms.{Naming, terms_by}
-use Rattle.builtin_calls.specs.Reading.{seen_term}
+use Rattle.builtin_calls.specs.SeenTerms.{seen_term}
 
 -- the only member
 abbrev pub only : List ℕ → Option ℕ

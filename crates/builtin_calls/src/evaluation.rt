@@ -13,9 +13,9 @@ ghost use Rattle.builtin_calls.specs.declared.evaluation.EvalFault.TheVariants a
 ghost use Rattle.builtin_calls.specs.declared.evaluation.Step.TheVariants as step;
 ghost use Rattle.fd_model.specs.Arithmetic.{integer, modulo, value_of};
 ghost use Rattle.builtin_calls.specs.Outcomes.{Tells, IsMeant, IsMeaning, IsNamedBy, meaning, operation_of};
-ghost use Rattle.builtin_calls.specs.Reading.{seen_term, HasLinksBelow};
+ghost use Rattle.builtin_calls.specs.SeenTerms.{seen_term, HasLinksBelow};
 ghost use Rattle.builtin_calls.specs.Shown.{IsSimple};
-ghost use Rattle.builtin_calls.specs.Waiting.{IsEntered, IsOfHeap, IsOwn, IsOwnWaiting, TellsStep, TellsDescent, TellsAscent};
+ghost use Rattle.builtin_calls.specs.Evaluations.{IsEntered, IsOfHeap, IsOwn, IsOwnWaiting, TellsStep, TellsDescent, TellsAscent};
 
 use crate::reading::{glance, look};
 use crate::waiting::{Operation, Waiters, Waiting};

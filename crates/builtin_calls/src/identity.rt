@@ -2,7 +2,7 @@
 
 ghost use Rattle.std.specs.Prelude.{◌≡◌, ◌++◌, ℕ, List, length, reverse, option_to_list, All, IfOk, OnOk};
 ghost use Rattle.heap_cells.specs.Cells.{IsOf};
-ghost use Rattle.builtin_calls.specs.Reading.{HasLinksBelow};
+ghost use Rattle.builtin_calls.specs.SeenTerms.{HasLinksBelow};
 ghost use Rattle.builtin_calls.specs.Identical.{TellsIdentical, TellsShown, TellsPair, IsFlat, IsOwnPair, IsSettled, paired};
 
 use crate::reading::look;

@@ -5,7 +5,7 @@ ghost use Rattle.fd_language.specs.Term.{Int};
 ghost use Rattle.heap_cells.specs.Cells.{IsOf};
 ghost use Rattle.heap_cells.specs.Terms.{Naming};
 ghost use Rattle.heap_cells.specs.Valid.{IsHeap};
-ghost use Rattle.builtin_calls.specs.Reading.{seen_term, HasLinksBelow};
+ghost use Rattle.builtin_calls.specs.SeenTerms.{seen_term, HasLinksBelow};
 ghost use Rattle.builtin_calls.specs.Shown.{only, shown, IsHeld};
 
 use domain_ranges::{Domain, View};

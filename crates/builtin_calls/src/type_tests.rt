@@ -3,7 +3,7 @@
 ghost use Rattle.std.specs.Prelude.{◌≡◌, length};
 ghost use Rattle.heap_cells.specs.Cells.{IsOf};
 ghost use Rattle.heap_cells.specs.Terms.{Naming};
-ghost use Rattle.builtin_calls.specs.Reading.{seen_term, HasLinksBelow};
+ghost use Rattle.builtin_calls.specs.SeenTerms.{seen_term, HasLinksBelow};
 ghost use Rattle.builtin_calls.specs.Passing.{passes};
 
 use crate::reading::look;

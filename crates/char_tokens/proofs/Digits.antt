@@ -5,9 +5,9 @@ use Rattle.std.specs.Char.{digit_value, len_utf8}
 use Rattle.std.proofs.lemmas.List.{drop-drop}
 use Rattle.std.proofs.lemmas.Bool.{leb-true, leb-false}
 use Rattle.std.proofs.Math.Nat.{mul-le-mul_left}
-use Rattle.fd_language.specs.Characters.{is_digit_of, starts_with, run_size, past_run, value}
+use Rattle.fd_language.specs.Characters.{is_digit_of, starts_with, run_size, past_run, digits_value}
 use Rattle.fd_language.specs.Tokens as model
-use Rattle.fd_language.specs.Tokens.{Gap, Token, Offends, Integer, FloatOut, IntegerTooWide, greatest, has_fraction, number_front, decimal_front}
+use Rattle.fd_language.specs.Tokens.{Gap, Token, Offends, Integer, FloatOut, IntegerTooWide, greatest_integer, has_fraction, number_front, decimal_front}
 use Rattle.char_tokens.specs.declared.front.Front.{Front}
 use Rattle.char_tokens.specs.declared.front.Front.TheVariants as fronts
 use Rattle.char_tokens.specs.Views.{next_integer, front_is, kind_of, cause_of, IsBehind}
@@ -21,38 +21,38 @@ either : (b : Bool) (n x y : ℕ) → n ≤ x → n ≤ y → n ≤ cond b x y
 either true n x y h k = h
 either false n x y h k = k
 
-pub value_grows : (base n : ℕ) (cs : List ℕ) → 1 ≤ base → n ≤ value base n cs
+pub value_grows : (base n : ℕ) (cs : List ℕ) → 1 ≤ base → n ≤ digits_value base n cs
 value_grows base n [] h = omega arith
 value_grows base n (c ∷ cs) h =
     let here = bigger base n (digit_value c) h in
     let later = value_grows base (n * base + digit_value c) cs h in
-    either (is_digit_of base c) n (value base (n * base + digit_value c) cs) n (omega arith) (omega arith)
+    either (is_digit_of base c) n (digits_value base (n * base + digit_value c) cs) n (omega arith) (omega arith)
 
-pub value_here : (base n c : ℕ) (cs : List ℕ) → is_digit_of base c ≡ true → value base n (c ∷ cs) ≡ value base (n * base + digit_value c) cs
+pub value_here : (base n c : ℕ) (cs : List ℕ) → is_digit_of base c ≡ true → digits_value base n (c ∷ cs) ≡ digits_value base (n * base + digit_value c) cs
 value_here base n c cs h = rw h refl
 
 -- what a reader knows of the number: it is too great already, or the digits cs that follow complete it
 abbrev pub SoFarBy : ℕ → Option ℕ → List ℕ → List ℕ → Type 0
-SoFarBy base None cs ds = greatest < value base 0 ds
-SoFarBy base (Some v) cs ds = (v ≤ greatest) × (value base v cs ≡ value base 0 ds)
+SoFarBy base None cs ds = greatest_integer < digits_value base 0 ds
+SoFarBy base (Some v) cs ds = (v ≤ greatest_integer) × (digits_value base v cs ≡ digits_value base 0 ds)
 
 pub record SoFar (base : ℕ) (o : Option ℕ) (cs ds : List ℕ) : Type 0 where
   pub by : SoFarBy base o cs ds
 
-picked : (base v : ℕ) (cs ds : List ℕ) → 1 ≤ base → value base v cs ≡ value base 0 ds → (b : Bool) → nat_le v greatest ≡ b → SoFar base (cond b (Some v) None) cs ds
-picked base v cs ds h e true l = record { by = (leb-true v greatest l, e) }
-picked base v cs ds h e false l = record { by = omega (arith, leb-false v greatest l, value_grows base v cs h, e) }
+picked : (base v : ℕ) (cs ds : List ℕ) → 1 ≤ base → digits_value base v cs ≡ digits_value base 0 ds → (b : Bool) → nat_le v greatest_integer ≡ b → SoFar base (cond b (Some v) None) cs ds
+picked base v cs ds h e true l = record { by = (leb-true v greatest_integer l, e) }
+picked base v cs ds h e false l = record { by = omega (arith, leb-false v greatest_integer l, value_grows base v cs h, e) }
 
 pub so_far_step : (base : ℕ) (o : Option ℕ) (c : ℕ) (cs ds : List ℕ) → 1 ≤ base → is_digit_of base c ≡ true → SoFar base o (c ∷ cs) ds → SoFar base (next_integer base o (digit_value c)) cs ds
 so_far_step base None c cs ds h d s = record { by = s.by }
 so_far_step base (Some v) c cs ds h d s =
-    picked base (v * base + digit_value c) cs ds h (sym (value_here base v c cs d) ∙ s.by.1) (nat_le (v * base + digit_value c) greatest) refl
+    picked base (v * base + digit_value c) cs ds h (sym (value_here base v c cs d) ∙ s.by.1) (nat_le (v * base + digit_value c) greatest_integer) refl
 
 pub decimal_float : (c : ℕ) (cs : List ℕ) → has_fraction (past_run (is_digit_of 10) cs) ≡ true → decimal_front c cs ≡ Offends FloatOut 0
 decimal_float c cs h = rw h refl
 
 pub decimal_number : (c : ℕ) (cs : List ℕ) → has_fraction (past_run (is_digit_of 10) cs) ≡ false → (c == 48 && starts_with 39 cs) ≡ false
-    → decimal_front c cs ≡ number_front (value 10 0 (c ∷ cs)) (len_utf8 c + run_size (is_digit_of 10) cs)
+    → decimal_front c cs ≡ number_front (digits_value 10 0 (c ∷ cs)) (len_utf8 c + run_size (is_digit_of 10) cs)
 decimal_number c cs h k = rw (h, k) refl
 
 -- a number's front has its size, where it is an integer
@@ -66,15 +66,15 @@ place_is k z n size false e = cc
 
 pub behind_number : (text rest : List ℕ) (f : Front) (v size : ℕ) → front_is f ≡ number_front v size → size ≤ length text → rest ≡ drop size text → IsBehind text f rest
 behind_number text rest fronts.Ends v size e l r = tt
-behind_number text rest (fronts.Gap n) v size e l r = not_gap n (nat_le v greatest) e
+behind_number text rest (fronts.Gap n) v size e l r = not_gap n (nat_le v greatest_integer) e
   where
     not_gap : (n : ℕ) (b : Bool) → Gap n ≡ cond b (Token (Integer (pos v)) size) (Offends IntegerTooWide 0) → IsBehind text (fronts.Gap n) rest
     not_gap n true h = absurd (cc)
     not_gap n false h = absurd (cc)
 behind_number text rest (fronts.Token k n) v size e l r =
-    let same : n ≡ size = size_is (kind_of k) (pos v) n size (nat_le v greatest) e in
+    let same : n ≡ size = size_is (kind_of k) (pos v) n size (nat_le v greatest_integer) e in
     (omega arith, r ∙ ap (λ (m : ℕ). drop m text) (sym same))
-behind_number text rest (fronts.Offends cause n) v size e l r = omega (arith, place_is (cause_of cause) (pos v) n size (nat_le v greatest) e)
+behind_number text rest (fronts.Offends cause n) v size e l r = omega (arith, place_is (cause_of cause) (pos v) n size (nat_le v greatest_integer) e)
 
 -- past two characters and a number
 pub past_two : (text behind rest last : List ℕ) (size : ℕ) → IsAt text 1 behind → rest ≡ drop 1 behind → 1 ≤ length behind → last ≡ drop size rest → size ≤ length rest → (2 + size ≤ length text) × (last ≡ drop (2 + size) text)

@@ -87,7 +87,7 @@ step_is n (steps.Offends cause at) = model.Broken (cause_of cause) at
 
 -- the number, where it is an integer
 abbrev pub integer_of : ℕ → Option ℕ
-integer_of v = if nat_le v model.greatest then Some v else None
+integer_of v = if nat_le v model.greatest_integer then Some v else None
 
 -- one more digit
 abbrev pub next_integer : ℕ → Option ℕ → ℕ → Option ℕ

@@ -15,7 +15,7 @@ use name_syntax::characters::{first_char, starts_with};
 fn next_integer(value: Option<u64>, base: u32, digit: u32) -> Option<u64>
     requires base { base ≤ 16 }
     requires digit { digit < 16 }
-    requires value { IfSome value (λ v. v ≤ Tokens.greatest) }
+    requires value { IfSome value (λ v. v ≤ Tokens.greatest_integer) }
     ensures { result ≡ Views.next_integer base value digit }
 {
     let value = value?;
@@ -31,7 +31,7 @@ fn digits(base: u32, text: &str) -> (usize, Option<u64>, &str)
     requires low { 2 ≤ base }
     requires high { base ≤ 16 }
     ensures size { result.0 ≡ Characters.run_size (Characters.is_digit_of base) (chars text.now) }
-    ensures value { result.1 ≡ Views.integer_of (Characters.value base 0 (chars text.now)) }
+    ensures value { result.1 ≡ Views.integer_of (Characters.digits_value base 0 (chars text.now)) }
     ensures past { chars result.2.now ≡ Characters.past_run (Characters.is_digit_of base)
         (chars text.now) }
     ensures rest { result.2.now ≡ drop result.0 text.now }
@@ -102,7 +102,7 @@ fn has_fraction(text: &str) -> bool
 
 /// An integer of so many bytes, or that its number is too wide.
 fn number(value: Option<u64>, size: usize) -> Front
-    requires { IfSome value (λ v. v ≤ Tokens.greatest) }
+    requires { IfSome value (λ v. v ≤ Tokens.greatest_integer) }
     ensures { (v : ℕ) → value ≡ Views.integer_of v → Views.front_is result
         ≡ Tokens.number_front v size }
 {

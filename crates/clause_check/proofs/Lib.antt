@@ -9,7 +9,7 @@ mod KeptParts
 mod KeptQueries
 mod SentenceLists
 mod Programs
-mod Reading
+mod BodyWalk
 mod ShownVariables
 mod Taking
 mod Tasks

@@ -22,7 +22,7 @@ use Rattle.term_reader.specs.declared.reader.Sentence.{Sentence}
 use Rattle.term_reader.specs.declared.reader.Sentences.{Sentences}
 use Rattle.term_reader.specs.Sentences.{sentence_of, sentences_of, AreOwn}
 use Rattle.term_reader.specs.GivenParts.{HasParts, HaveParts}
-use Rattle.term_reader.specs.Named.{VariablesBelow, AllVariablesBelow, HasNames, HaveNames}
+use Rattle.term_reader.specs.VariableNames.{VariablesBelow, AllVariablesBelow, HasNames, HaveNames}
 use Rattle.term_reader.proofs.Lemmas.{plain_placed}
 use Rattle.clause_check.specs.declared.check.Parts.{Parts}
 use Rattle.clause_check.specs.GoalStores.{stored}

@@ -5,7 +5,7 @@ ghost use Rattle.std.specs.Prelude.{◌≡◌, None, IfOk, IfErr};
 ghost use Rattle.fd_model.specs.Queries.{program_of};
 ghost use Rattle.fd_model.specs.Refusals.{first_refusal};
 ghost use Rattle.term_reader.specs.GivenParts.{HaveParts};
-ghost use Rattle.term_reader.specs.Named.{HaveNames};
+ghost use Rattle.term_reader.specs.VariableNames.{HaveNames};
 ghost use Rattle.term_reader.specs.Sentences.{sentences_of, AreOwn};
 ghost use Rattle.clause_check.specs.Causes.{Refuses};
 ghost use Rattle.clause_check.specs.Programs.{program_in};

@@ -21,7 +21,7 @@ use Rattle.clause_code.specs.Laws.{other_side, sides}
 use Rattle.clause_code.specs.Safe.{unplaced, IsThereIn, may_enter}
 use Rattle.clause_code.specs.Flowing.{is_simple, MayEnter}
 use Rattle.clause_code.specs.Steps.{Step, get_variable, get_constant, get_integer, get_structure, unify_variable, unify_register, unify_constant, unify_integer, put_variable, put_constant, put_integer, put_structure, home, is_made, is_register, marked_by, marked_by_all, instructions, code_of, puts, AllSuit}
-use Rattle.clause_code.specs.Staying.{AllLand}
+use Rattle.clause_code.specs.ArgumentHomes.{AllLand}
 use Rattle.clause_code.specs.Bodies.{is_x, is_y, found_home, between_goals, InBody, IsRest, IsGoalsCode}
 use Rattle.clause_code.proofs.Pieces.{does_nothing, does_both, does_either}
 use Rattle.clause_code.proofs.Making.{Clear, AreApart, fits_whole}

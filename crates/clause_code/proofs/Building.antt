@@ -16,7 +16,7 @@ use Rattle.wam_code.specs.Effect.{with_set, with_owed}
 use Rattle.wam_code.specs.Places.{Places, write, without, Hold, count}
 use Rattle.clause_code.specs.Pieces.{Base, past, Does}
 use Rattle.clause_code.specs.Steps.{Step, put_structure, get_structure, marked_by_all, code_of, atom_of, compounds, parts, build, builds, put, puts, get, gets, HasAtom, Suits, AllSuit}
-use Rattle.clause_code.specs.Staying.{Waits, AllWait, Lands, AllLand}
+use Rattle.clause_code.specs.ArgumentHomes.{Waits, AllWait, Lands, AllLand}
 use Rattle.clause_code.proofs.Homes.{put_here, put_else}
 use Rattle.clause_code.proofs.Pieces.{equation, does_get_structure, does_put_structure}
 use Rattle.clause_code.proofs.Making.{drop_else, has_first, has_more, Clear, Spared, clear_spared, AreApart}

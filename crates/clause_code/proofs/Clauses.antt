@@ -30,7 +30,7 @@ use Rattle.clause_code.specs.Flowing.{is_inner, Runs, Flows, MayEnter}
 use Rattle.clause_code.specs.Steps.{home, is_made, marked_by_all, code_of, gets, puts, fills, filled, AllSuit}
 use Rattle.clause_code.specs.Bodies.{between_goals, InBody, IsRest, IsGoalsCode}
 use Rattle.clause_code.specs.Whole.{front, back, unmade, head_code, IsHoused}
-use Rattle.clause_code.specs.Staying.{AllWait}
+use Rattle.clause_code.specs.ArgumentHomes.{AllWait}
 use Rattle.clause_code.proofs.Pieces.{does_both, does_allocate, ends_behind, ends_proceed, ends_execute, ends_answer, does_deallocate}
 use Rattle.clause_code.proofs.Making.{AreApart}
 use Rattle.clause_code.proofs.Going.{when_true, both, plain_of, moved, moved_all, count_moved, AllMade, At, Went, went_both}

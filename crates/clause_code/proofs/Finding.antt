@@ -15,7 +15,7 @@ use Rattle.wam_code.specs.Places.{count}
 use Rattle.clause_code.specs.Short.{InRegisters}
 use Rattle.clause_code.specs.Simple.{IsOwn}
 use Rattle.clause_code.specs.Steps.{home, Suits, AllSuit}
-use Rattle.clause_code.specs.Staying.{IsOutside, PartWaits, PartsWait, Waits, AllWait, Lands, AllLand, nth, MayStay, Stayed, MovedBack, Leaves, AreHomes}
+use Rattle.clause_code.specs.ArgumentHomes.{IsOutside, PartWaits, PartsWait, Waits, AllWait, Lands, AllLand, nth, MayStay, Stayed, MovedBack, Leaves, AreHomes}
 use Rattle.clause_code.proofs.Rests.{rest, rest_cons}
 
 -- ---- homes that move back

@@ -1,5 +1,5 @@
 pub mod Pieces
-pub mod Having
+pub mod MoreRegisters
 pub mod Restating
 pub mod Trying
 pub mod Laying

@@ -22,7 +22,7 @@ use Rattle.clause_code.specs.Safe.{IsClauseCode}
 use Rattle.clause_code.specs.Short.{IsShortBody, last_arguments, ShortCall, IsShort}
 use Rattle.clause_code.specs.Simple.{IsOwn}
 use Rattle.clause_code.specs.Steps.{code_of, puts, AllSuit, Suits}
-use Rattle.clause_code.specs.Staying.{AllWait, AllLand, AreHomes}
+use Rattle.clause_code.specs.ArgumentHomes.{AllWait, AllLand, AreHomes}
 use Rattle.clause_code.specs.Whole.{head_code, IsHoused}
 use Rattle.clause_code.proofs.Assembling.{Known}
 use Rattle.clause_code.proofs.Bodies.{Fine, goals_nothing}

@@ -9,7 +9,7 @@ use Rattle.wam_code.specs.declared.instruction.Register.{Register}
 use Rattle.wam_code.specs.declared.instruction.Register.TheVariants.{X}
 use Rattle.wam_code.specs.Places.{count}
 use Rattle.clause_code.specs.Steps.{Step, put_structure, get_structure, home, is_made, marked, marked_by_all, atom_of, compounds, parts, build, builds, get}
-use Rattle.clause_code.specs.Staying.{IsOutside, PartsWait, Waits, AllWait, AllLand}
+use Rattle.clause_code.specs.ArgumentHomes.{IsOutside, PartsWait, Waits, AllWait, AllLand}
 use Rattle.clause_code.proofs.Making.{Spared, spared_both, made_else}
 use Rattle.clause_code.proofs.Going.{marked_both}
 

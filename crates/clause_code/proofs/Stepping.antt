@@ -18,7 +18,7 @@ use Rattle.clause_code.specs.Pieces.{Base, Does, Parts}
 use Rattle.clause_code.specs.Safe.{unplaced, IsThereIn}
 use Rattle.clause_code.specs.Flowing.{is_simple}
 use Rattle.clause_code.specs.Steps.{Step, get_variable, unify_variable, put_variable, home, is_made, marked, marked_by_all, is_register, move_in, move_out, code_of, atom_of, compounds, parts, HasAtom, AllSuit}
-use Rattle.clause_code.specs.Staying.{Lands}
+use Rattle.clause_code.specs.ArgumentHomes.{Lands}
 use Rattle.clause_code.proofs.Homes.{put_here, put_else}
 use Rattle.clause_code.proofs.Pieces.{equation, does_nothing, does_learn, does_get_variable, does_get_value, does_get_constant, does_get_integer, no_parts, part_variable, part_value, part_constant, part_integer, does_put_variable, does_put_value, does_put_constant, does_put_integer}
 use Rattle.clause_code.proofs.Making.{has_first, has_more, regs_more, made_here, made_still, Clear, Spared, Grows, clear_spared, AreApart, fits_made, fits_wrote, fits_without, tracks_made, tracks_stays, tracks_set, tracks_owed}

@@ -12,7 +12,7 @@ use Rattle.wam_code.specs.Places.{Places, Has, IsSettled}
 use Rattle.wam_code.specs.Means.{Caller, Means}
 use Rattle.wam_code.specs.Tries.{Shape, Tries}
 use Rattle.clause_code.specs.Pieces.{Base, Stand, past, Does}
-use Rattle.clause_code.specs.Having.{HasMore}
+use Rattle.clause_code.specs.MoreRegisters.{HasMore}
 use Rattle.clause_code.specs.Splitting.{whole, apart}
 use Rattle.clause_code.specs.Trying.{EachTries, list_of}
 

@@ -1,5 +1,5 @@
 pub mod Pieces
-pub mod Having
+pub mod MoreRegisters
 pub mod Splitting
 pub mod Trying
 pub mod Laws
@@ -16,4 +16,4 @@ pub mod Simple
 pub mod Slots
 pub mod Sides
 pub mod Short
-pub mod Staying
+pub mod ArgumentHomes

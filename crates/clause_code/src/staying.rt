@@ -5,7 +5,7 @@ ghost use Rattle.machine_relation.specs.Heap.{AllOf};
 ghost use Rattle.term_pool.specs.Terms.{term_of, terms_by};
 ghost use Rattle.clause_code.specs.Short.{InRegisters};
 ghost use Rattle.clause_code.specs.Simple.{IsOwn};
-ghost use Rattle.clause_code.specs.Staying.{AllWait, AreHomes, IsOutside, Leaves, MayStay, MovedBack, PartWaits, PartsWait, Stayed, Waits};
+ghost use Rattle.clause_code.specs.ArgumentHomes.{AllWait, AreHomes, IsOutside, Leaves, MayStay, MovedBack, PartWaits, PartsWait, Stayed, Waits};
 ghost use Rattle.clause_code.specs.Steps.{AllSuit};
 
 use fd_language::NoMemory;

@@ -5,7 +5,7 @@ use Rattle.std.proofs.lemmas.List.{take_more}
 use Rattle.clpwhere.specs.declared.outcome.Fault.{Fault}
 use Rattle.clpwhere.specs.declared.outcome.Fault.TheVariants as fault
 use Rattle.clpwhere.specs.Parts.{TextParts}
-use Rattle.clpwhere.specs.Marked.{is_refusal, is_refused, marked, marked_line}
+use Rattle.clpwhere.specs.MarkedLines.{is_refusal, is_refused, marked, marked_line}
 use Rattle.byte_ports.specs.Ends.{SinkState, WroteAll}
 use Rattle.clpwhere.specs.Endings.{CutBy, Wrote, Fed, IsOpen, GaveAll}
 use Rattle.byte_ports.proofs.Lemmas.{wrote_no_part}

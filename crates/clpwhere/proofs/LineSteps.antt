@@ -6,7 +6,7 @@ use Rattle.std.proofs.lemmas.List.Folds.{list_any-append}
 use Rattle.clpwhere.specs.declared.outcome.Fault.{Fault}
 use Rattle.clpwhere.specs.Parts.{TextParts}
 use Rattle.clpwhere.specs.Lines.{is_newline, lines_of}
-use Rattle.clpwhere.specs.Marked.{is_refusal, is_refused, marked, marked_line}
+use Rattle.clpwhere.specs.MarkedLines.{is_refusal, is_refused, marked, marked_line}
 use Rattle.byte_ports.specs.Ends.{SinkState, WroteAll, WrotePart}
 use Rattle.clpwhere.specs.Endings.{CutBy, IsOpen, GaveAll}
 use Rattle.byte_ports.proofs.Lemmas.{wrote_nothing, all_then, all_front}

@@ -10,7 +10,7 @@ use Rattle.clpwhere.specs.declared.outcome.Status.TheVariants as status
 use Rattle.clpwhere.specs.declared.command.Asked.{Asked}
 use Rattle.clpwhere.specs.declared.command.Asked.TheVariants as asked
 use Rattle.clpwhere.specs.Parts.{TextParts}
-use Rattle.clpwhere.specs.Marked.{is_refused, marked}
+use Rattle.clpwhere.specs.MarkedLines.{is_refused, marked}
 use Rattle.byte_ports.specs.Ends.{Ends, sink_of, WroteAll}
 use Rattle.clpwhere.specs.Endings.{CutBy, GaveAll, Copied, CutShort, CopyEnds, Counted, Ending}
 use Rattle.clpwhere.specs.Headline.{Headline, IsDecided, IsInput, NeedsNoInput, output, output_status, refused_status}
@@ -19,13 +19,13 @@ use Rattle.clpwhere.proofs.LineSteps.{gave_none, gave_then, gave_cut, gave_front
 
 -- ---- the input so far
 
-pub record Reading (text : TextParts) (old now : Ends) (line : List ℕ) (told : Bool) : Type 0 where
+pub record HasCopied (text : TextParts) (old now : Ends) (line : List ℕ) (told : Bool) : Type 0 where
   pub front : List ℕ
   pub took : Took old.left now.left front
   pub faults : now.source_faults ≡ old.source_faults
   pub gave : GaveAll text (sink_of old) (sink_of now) front line told
 
-pub none_read : (text : TextParts) (e : Ends) → Reading text e e [] false
+pub none_read : (text : TextParts) (e : Ends) → HasCopied text e e [] false
 none_read text e = record { front = []; took = took_none e.left; faults = refl; gave = gave_none text (sink_of e) [] refl }
 
 -- an input that begins with what was read
@@ -39,7 +39,7 @@ whole_of old (Some after) front t = record { after = after; is = λ s. t }
 
 -- ---- a copy
 
-pub copied : (text : TextParts) (old now new : Ends) (line piece : List ℕ) (f g : Bool) → Reading text old now line f
+pub copied : (text : TextParts) (old now new : Ends) (line piece : List ℕ) (f g : Bool) → HasCopied text old now line f
     → Took now.left new.left piece → piece ≡ [] → IsAtEnd new.left → new.source_faults ≡ now.source_faults
     → WroteAll (sink_of now) (sink_of new) (marked text line) → g ≡ is_refused line → Copied text old new (f || g)
 copied text old now new line piece f g r t none end same w e =
@@ -60,7 +60,7 @@ sink_counted a b fault.WriteFault p s c = (s, c.rose, c.later)
 sink_counted a b fault.NoMemory p s c = (s, c.faults)
 
 -- a write failed, or memory was wanting, in the last line
-pub last_cut : (text : TextParts) (old now new : Ends) (line piece : List ℕ) (f : Bool) (e : Fault) → Reading text old now line f
+pub last_cut : (text : TextParts) (old now new : Ends) (line piece : List ℕ) (f : Bool) (e : Fault) → HasCopied text old now line f
     → Took now.left new.left piece → piece ≡ [] → IsAtEnd new.left → new.source_faults ≡ now.source_faults
     → CutBy (sink_of now) (sink_of new) e (marked text line) → CutShort text old new e
 last_cut text old now new line piece f e r t none end same c =
@@ -80,8 +80,8 @@ last_cut text old now new line piece f e r t none end same c =
     at_end a (Some after) front t end s = t ∙ ap (λ l. Some (front ++ l)) end ∙ ap Some (append-nil front)
 
 -- the lines of one more piece
-pub more_read : (text : TextParts) (old now new : Ends) (line next piece : List ℕ) (f g : Bool) → Reading text old now line f
-    → Took now.left new.left piece → new.source_faults ≡ now.source_faults → GaveAll text (sink_of now) (sink_of new) (line ++ piece) next g → Reading text old new next (f || g)
+pub more_read : (text : TextParts) (old now new : Ends) (line next piece : List ℕ) (f g : Bool) → HasCopied text old now line f
+    → Took now.left new.left piece → new.source_faults ≡ now.source_faults → GaveAll text (sink_of now) (sink_of new) (line ++ piece) next g → HasCopied text old new next (f || g)
 more_read text old now new line next piece f g r t same h = record {
   front = r.front ++ piece;
   took = took_more old.left now.left new.left r.front piece r.took t;
@@ -90,7 +90,7 @@ more_read text old now new line next piece f g r t same h = record {
 }
 
 -- or a fault in them
-pub more_cut : (text : TextParts) (old now new : Ends) (line piece : List ℕ) (f : Bool) (e : Fault) → Reading text old now line f
+pub more_cut : (text : TextParts) (old now new : Ends) (line piece : List ℕ) (f : Bool) (e : Fault) → HasCopied text old now line f
     → Took now.left new.left piece → new.source_faults ≡ now.source_faults → ((rest : List ℕ) → CutBy (sink_of now) (sink_of new) e (marked text ((line ++ piece) ++ rest))) → CutShort text old new e
 more_cut text old now new line piece f e r t same c =
     let took = took_more old.left now.left new.left r.front piece r.took t in
@@ -106,7 +106,7 @@ more_cut text old now new line piece f e r t same c =
     }
 
 -- a read failed
-pub read_cut : (text : TextParts) (old now new : Ends) (line : List ℕ) (f : Bool) → Reading text old now line f
+pub read_cut : (text : TextParts) (old now new : Ends) (line : List ℕ) (f : Bool) → HasCopied text old now line f
     → Took now.left new.left [] → now.source_faults ≤ new.source_faults → Rose now.source_faults new.source_faults → new.written ≡ now.written → new.sink_faults ≡ now.sink_faults → CutShort text old new fault.ReadFault
 read_cut text old now new line f r t later rose written faults =
     let took = subst (Took old.left new.left) (append-nil r.front) (took_more old.left now.left new.left r.front [] r.took t) in
@@ -122,7 +122,7 @@ read_cut text old now new line f r t later rose written faults =
     }
 
 -- memory was wanting between two pieces
-pub memory_cut : (text : TextParts) (old now : Ends) (line : List ℕ) (f : Bool) → Reading text old now line f → CutShort text old now fault.NoMemory
+pub memory_cut : (text : TextParts) (old now : Ends) (line : List ℕ) (f : Bool) → HasCopied text old now line f → CutShort text old now fault.NoMemory
 memory_cut text old now line f r =
     let whole = whole_of old.left now.left r.front r.took in
     let part = gave_front text (sink_of old) (sink_of now) r.front line f r.gave whole.after in

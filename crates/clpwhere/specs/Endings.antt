@@ -8,7 +8,7 @@ use Rattle.clpwhere.specs.declared.outcome.Fault.TheVariants as fault
 use Rattle.clpwhere.specs.declared.outcome.Status.{Status}
 use Rattle.clpwhere.specs.declared.outcome.Status.TheVariants as status
 use Rattle.clpwhere.specs.Lines.{is_newline}
-use Rattle.clpwhere.specs.Marked.{marked, is_refused}
+use Rattle.clpwhere.specs.MarkedLines.{marked, is_refused}
 use Rattle.clpwhere.specs.Parts.{TextParts}
 
 -- what a fault leaves of a piece; writing has no fault of reading

@@ -5,7 +5,7 @@ use Rattle.clpwhere.specs.declared.outcome.Status.{Status}
 use Rattle.clpwhere.specs.declared.outcome.Status.TheVariants.{Done, Usage, Refused, Unreadable, ReadFault, WriteFault, NoMemory}
 use Rattle.clpwhere.specs.declared.command.Asked.{Asked}
 use Rattle.clpwhere.specs.declared.command.Asked.TheVariants as asked
-use Rattle.clpwhere.specs.Marked.{marked, is_refused}
+use Rattle.clpwhere.specs.MarkedLines.{marked, is_refused}
 use Rattle.byte_ports.specs.Ends.{Ends}
 
 -- the statuses of an output

@@ -3,7 +3,7 @@ pub mod Lines
 pub mod Places
 pub mod Reasons
 pub mod Refusals
-pub mod Marked
+pub mod MarkedLines
 pub mod Endings
 pub mod Words
 pub mod Headline

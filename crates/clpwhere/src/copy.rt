@@ -2,7 +2,7 @@
 ghost use Rattle.std.specs.Prelude.{◌≡◌, ◌<◌, [], ◌∷◌, ◌++◌, length, IfOk};
 ghost use Rattle.byte_ports.specs.Ends.{ends, sink_at};
 ghost use Rattle.clpwhere.specs.Endings.{CopyEnds, Fed, IsOpen, Wrote};
-ghost use Rattle.clpwhere.specs.Marked.{is_refused, marked};
+ghost use Rattle.clpwhere.specs.MarkedLines.{is_refused, marked};
 
 use crate::explain::put_line;
 use crate::outcome::Fault;

@@ -2,7 +2,7 @@
 ghost use Rattle.std.specs.Prelude.{◌≡◌, ◌++◌, IfOk, OnOk, string_bytes};
 ghost use Rattle.byte_ports.specs.Ends.{sink_at};
 ghost use Rattle.clpwhere.specs.Endings.{Wrote};
-ghost use Rattle.clpwhere.specs.Marked.{caret_lines, explained, is_refusal, marked_line, place_line};
+ghost use Rattle.clpwhere.specs.MarkedLines.{caret_lines, explained, is_refusal, marked_line, place_line};
 ghost use Rattle.clpwhere.specs.Places.{characters, column_number, cut_mark, shown_before, shown_character, shown_characters, shown_from};
 ghost use Rattle.clpwhere.specs.Refusals.{seen};
 

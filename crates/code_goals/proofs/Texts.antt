@@ -7,7 +7,7 @@ use Rattle.fd_language.specs.Family.{Family, has}
 use Rattle.fd_language.specs.Range.{Indexical}
 use Rattle.fd_language.specs.Term.{Name, Term, Terms, Var, Int, Atom, Comp, no_terms, term}
 use Rattle.fd_language.specs.Variables.{variables_of, variables_of_all, distinct}
-use Rattle.fd_language.specs.Writing.{Mode, Quoted, Plain, Spelling, spelled, spelled_each, spelled_compound, spelled_alone, term_text}
+use Rattle.fd_language.specs.Writing.{Mode, Quoted, Plain, TermText, spelled, spelled_each, spelled_compound, spelled_alone, term_text}
 use Rattle.fd_model.specs.Lines.{place_in, open_part, as_terms, joined, equals_text, line_of}
 use Rattle.heap_cells.specs.declared.Cell.{Cell}
 use Rattle.heap_cells.specs.Cells.{Cells}
@@ -18,7 +18,7 @@ use Rattle.machine_relation.specs.Held.{Frame, fixed_frame}
 use Rattle.machine_relation.specs.Shown.{cell_text}
 use Rattle.machine_frames.specs.Frames.{frame_of}
 use Rattle.machine_frames.specs.Naming.{full}
-use Rattle.machine_frames.specs.Reading.{read_term}
+use Rattle.machine_frames.specs.SeenHeap.{read_term}
 use Rattle.machine_events.specs.declared.Shown.{Shown}
 use Rattle.machine_events.specs.Events.{set_in, variable_text, shown_line, first_term, written_term}
 use Rattle.branch_state.specs.Showing.{open_set, with_set, with_sets, terms_read, IsShown}
@@ -42,7 +42,7 @@ module _ (here there : ℕ → List ℕ) where
 
   -- the text of a term
   pub text_agree : (mode : Mode) (limit : ℕ) (t : Term) → ((y : ℕ) → has (variables_of t) y ≡ true → here y ≡ there y) → term_text mode here limit t ≡ term_text mode there limit t
-  text_agree mode limit t h = ap (λ (x : Spelling). x.at limit) (spelled_agree mode t h)
+  text_agree mode limit t h = ap (λ (x : TermText). x.at limit) (spelled_agree mode t h)
 
   equals_agree : (names : List Name) (ts : List Term) → ((y : ℕ) → has (variables_of_all (as_terms ts)) y ≡ true → here y ≡ there y) → equals_text here names ts ≡ equals_text there names ts
   equals_agree [] ts h = refl

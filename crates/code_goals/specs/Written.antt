@@ -8,7 +8,7 @@ use Rattle.heap_cells.specs.Terms.{term_of}
 use Rattle.machine_events.specs.declared.Shown.{Shown}
 use Rattle.machine_events.specs.Events.{written_term, ShowsTerms}
 use Rattle.machine_frames.specs.Frames.{frame_of}
-use Rattle.machine_frames.specs.Reading.{read_term}
+use Rattle.machine_frames.specs.SeenHeap.{read_term}
 use Rattle.machine_relation.specs.Held.{Frame, fixed_frame}
 use Rattle.machine_relation.specs.Shown.{cell_text}
 use Rattle.range_code.specs.Frames.{family_of}

@@ -5,5 +5,4 @@ pub mod Taking
 pub mod Returning
 pub mod Running
 pub mod Stepping
-pub mod Walking
 pub mod Starting

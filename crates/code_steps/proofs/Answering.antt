@@ -17,7 +17,7 @@ use Rattle.machine_relation.specs.Held.{value_at, fixed_frame}
 use Rattle.machine_relation.specs.Shown.{cell_text}
 use Rattle.machine_relation.proofs.Lemmas.{ahead_last, ahead_fewer, ahead_any, line_same, Known}
 use Rattle.machine_frames.specs.Frames.{link_in, frame_of}
-use Rattle.machine_frames.specs.Reading.{read_term}
+use Rattle.machine_frames.specs.SeenHeap.{read_term}
 use Rattle.machine_frames.proofs.Lemmas.{settled_look, settled_held, settled_rest}
 use Rattle.wam_code.specs.declared.instruction.Code.TheVariants.{AnswerNow}
 use Rattle.wam_code.specs.Area.{Area, Holds}

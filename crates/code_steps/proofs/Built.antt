@@ -20,11 +20,11 @@ use Rattle.wam_code.specs.Means.{Means, Owed, Return}
 use Rattle.code_steps.specs.Registers.{Registers, Saved, AreSame, IsWritten, IsShown}
 use Rattle.code_steps.specs.Standing.{Made, IsOld, IsMade, Stands}
 use Rattle.code_steps.specs.Steps.{GoesOnEqual}
-use Rattle.code_steps.specs.Reading.{AreCells}
-use Rattle.code_steps.specs.Building.{joined, End, GetEnd, PutEnd, Builds}
+use Rattle.code_steps.specs.ReadMode.{AreCells}
+use Rattle.code_steps.specs.WriteMode.{joined, End, GetEnd, PutEnd, Builds}
 use Rattle.code_steps.proofs.Shown.{one_moved, shown_moved, all_moved, shown_same, no_term}
 use Rattle.code_steps.proofs.Making.{made_write, made_unified, made_refuted}
-use Rattle.code_steps.proofs.Reading.{cells_keep}
+use Rattle.code_steps.proofs.ReadMode.{cells_keep}
 use Rattle.code_steps.proofs.Stepping.{here}
 
 drop_here : (i : ℕ) (r : ℕ → Option Term) → drop_at i r i ≡ None

@@ -14,7 +14,7 @@ use Rattle.heap_cells.specs.Terms.{Naming}
 use Rattle.machine_relation.specs.Ahead.{IsFit, AreFit, Spends}
 use Rattle.machine_relation.specs.Models.{HasModel}
 use Rattle.machine_relation.proofs.Lemmas.{gone_by}
-use Rattle.machine_frames.specs.Walking.{AllFit}
+use Rattle.machine_frames.specs.FittingClauses.{AllFit}
 use Rattle.machine_frames.proofs.Lemmas.{kept_consistent}
 use Rattle.wam_code.specs.declared.instruction.Code.TheVariants as code
 use Rattle.wam_code.specs.declared.parts.Entry.{Entry}

@@ -1,19 +1,16 @@
 -- The steps of choices and switches, by the whole state.
-use Rattle.std.proofs.Common.{◌≡◌, ℕ, suc, List, [], ◌∷◌, Option, Some, ap, sym, ◌∙◌, subst}
+use Rattle.std.proofs.Common.{◌≡◌, ℕ, suc, List, [], ◌∷◌, Option, Some, ◌∙◌}
 use Rattle.fd_language.specs.Range.{Indexical}
-use Rattle.fd_model.specs.Goal.{Branch, Program, Query, Event}
+use Rattle.fd_model.specs.Goal.{Program, Query, Event}
 use Rattle.heap_cells.specs.declared.Cell.{Cell}
 use Rattle.heap_cells.specs.Cells.{Cells}
 use Rattle.heap_cells.specs.Terms.{Naming, term_of}
-use Rattle.wam_code.specs.declared.instruction.Code.{Code}
-use Rattle.wam_code.specs.declared.parts.Entry.{Entry}
 use Rattle.wam_code.specs.declared.instruction.Code.TheVariants.{TryMeElse}
-use Rattle.wam_code.specs.Area.{Area, Holds, Table}
+use Rattle.wam_code.specs.Area.{Area, Holds}
 use Rattle.wam_code.specs.Tries.{Shape, shape_of}
 use Rattle.code_steps.specs.Registers.{Registers, Saved}
-use Rattle.code_steps.specs.Trying.{IsTrying, ShowsFirst, shape_in, HasNoRow, HasRow, IsChoice}
-use Rattle.code_steps.specs.Running.{resume, Choice, Runs, Returns}
-use Rattle.code_steps.proofs.Running.{runs_tries, runs_over, runs_both}
+use Rattle.code_steps.specs.Running.{resume, Choice, Runs}
+use Rattle.code_steps.proofs.Running.{runs_both}
 use Rattle.code_steps.proofs.Trying.{step_try_me_else}
 
 module _ (M : ℕ) (area : Area) (prog : Program) (q : Query) (name : Naming) (cs : List Choice) (n : ℕ) (k : Option ℕ) (es : List Event) (r : ℕ) (h : Cells) (qs : List Indexical) (at : ℕ) (c : Registers) (stack : List Saved) (m : Runs M area prog q name h qs at c stack cs n k es r) where
@@ -31,14 +28,3 @@ module _ (M : ℕ) (area : Area) (prog : Program) (q : Query) (name : Naming) (c
   module _ (d : Cell) (at_d : c.x 1 ≡ Some d) where
     abbrev pub shown : Shape
     shown = shape_of (term_of name h d)
-
-    shows_is : (s : Shape) → ShowsFirst name h c.x s → s ≡ shown
-    shows_is s shows = shows ∙ ap (shape_in name h) at_d
-
-    module _ (i : Code) (choice : IsChoice i) (f : Holds area at i) (table : Table)
-        (step : (e : Entry) (b : Branch) (t : IsTrying M area q.shown name h qs at e c stack b m.first) → ((to : ℕ) → HasRow area t.shape table to → IsTrying M area q.shown name h qs to e c stack b m.first) × (HasNoRow area t.shape table → m.first ≡ [])) where
-      rows : ((to : ℕ) → HasRow area shown table to → On to cs) × (HasNoRow area shown table → Returns M area prog q name cs n k es r)
-      rows = (
-        λ to w. runs_tries M area prog q name n k es r h qs at c stack cs m i choice f to (λ e b t. (step e b t).0 to (subst (λ s. HasRow area s table to) (sym (shows_is t.shape t.shows)) w)),
-        λ w. runs_over M area prog q name n k es r h qs at c stack cs m i choice f (λ e b t. (step e b t).1 (subst (λ s. HasNoRow area s table) (sym (shows_is t.shape t.shows)) w)),
-      )

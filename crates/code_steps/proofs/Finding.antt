@@ -33,7 +33,7 @@ use Rattle.machine_relation.specs.Shown.{cell_set}
 use Rattle.machine_relation.specs.Store.{posts}
 use Rattle.machine_relation.proofs.Lemmas.{found_same, after_is, of_below, seen_by_variable, GivesAll}
 use Rattle.machine_frames.specs.Frames.{link_in, store_touches, frame_of, IsKept}
-use Rattle.machine_frames.specs.Reading.{read_term, heap_finding}
+use Rattle.machine_frames.specs.SeenHeap.{read_term, heap_finding}
 use Rattle.machine_frames.proofs.Lemmas.{settled_look, settled_held, settled_rest}
 use Rattle.wam_code.specs.declared.instruction.Code.TheVariants as code
 use Rattle.wam_code.specs.Arities.{builtin_arity}

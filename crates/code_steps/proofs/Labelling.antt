@@ -31,7 +31,7 @@ use Rattle.machine_relation.specs.Shown.{cell_set}
 use Rattle.machine_relation.specs.Store.{posts}
 use Rattle.machine_relation.proofs.Lemmas.{label_there, label_done, label_faults, after_is, row_by, label_in, of_below, seen_of, variables_on, seen_by_variable}
 use Rattle.machine_frames.specs.Frames.{link_in, store_touches, frame_of, IsKept}
-use Rattle.machine_frames.specs.Reading.{read_term, heap_label}
+use Rattle.machine_frames.specs.SeenHeap.{read_term, heap_label}
 use Rattle.machine_frames.proofs.Lemmas.{unsettled, settled_look, settled_held, settled_rest}
 use Rattle.wam_code.specs.declared.instruction.Code.TheVariants as code
 use Rattle.wam_code.specs.Area.{Area, Holds}

@@ -1,6 +1,6 @@
 -- The lemmas that other crates may cite.
 pub use Rattle.code_steps.proofs.Answering.{run_any, run_fewer, run_last}
-pub use Rattle.code_steps.proofs.Building.{build_constant, build_integer, build_value, build_variable, build_void, build_voids}
+pub use Rattle.code_steps.proofs.WriteMode.{build_constant, build_integer, build_value, build_variable, build_void, build_voids}
 pub use Rattle.code_steps.proofs.Built.{end_get, end_put, start_get, start_put}
 pub use Rattle.code_steps.proofs.Calling.{run_call, run_execute}
 pub use Rattle.code_steps.proofs.Constraining.{run_constraint, run_constraint_failed, run_constraint_fault}
@@ -9,7 +9,7 @@ pub use Rattle.code_steps.proofs.Goals.{TakesGoal, run_either, run_fail, run_fal
 pub use Rattle.code_steps.proofs.Labelling.{back_no_values, back_value, run_label, run_label_done, run_label_fault}
 pub use Rattle.code_steps.proofs.Opening.{IsNone, count_applied, count_terms, step_get_structure}
 pub use Rattle.code_steps.proofs.Ranging.{run_range, run_range_fault}
-pub use Rattle.code_steps.proofs.Reading.{read_constant, read_end, read_integer, read_value, read_variable, read_void, read_voids}
+pub use Rattle.code_steps.proofs.ReadMode.{read_constant, read_end, read_integer, read_value, read_variable, read_void, read_voids}
 pub use Rattle.code_steps.proofs.Running.{back_resumes, goes_before, runs_gone, runs_jump, runs_on, runs_over, runs_tries, spends_more, stands_no_model}
 pub use Rattle.code_steps.proofs.Shown.{all_moved, shown_moved}
 pub use Rattle.code_steps.proofs.Starting.{run_starts}

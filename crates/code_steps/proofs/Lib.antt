@@ -8,8 +8,8 @@ pub mod Taking
 pub mod Leaving
 pub mod Ghosts
 pub mod Opening
-pub mod Reading
-pub mod Building
+pub mod ReadMode
+pub mod WriteMode
 pub mod Built
 pub mod Running
 pub mod Readying
@@ -22,8 +22,6 @@ pub mod Finding
 pub mod Labelling
 pub mod Writing
 pub mod Starting
-pub mod Amid
-pub mod Moving
 pub mod Choosing
 pub mod Posting
 pub mod Agreeing

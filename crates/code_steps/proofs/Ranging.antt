@@ -35,7 +35,7 @@ use Rattle.machine_relation.specs.Store.{Touch, Value, Same, posts, names, IsSto
 use Rattle.machine_relation.proofs.Lemmas.{after_is, agree, AreConsecutive, post_same, range_filled, range_plain, only_integers, post_as_row, IsRangeRow, range_row, range_twice, view_kind, with_one}
 use Rattle.machine_frames.proofs.Lemmas.{one_here, one_else, unsettled, settled_look, settled_held, settled_rest}
 use Rattle.machine_frames.specs.Frames.{link_in, frame_of, IsKept}
-use Rattle.machine_frames.specs.Reading.{read_term}
+use Rattle.machine_frames.specs.SeenHeap.{read_term}
 use Rattle.range_code.specs.Slots.{slots_of}
 use Rattle.range_code.proofs.Lemmas.{has_once}
 use Rattle.wam_code.specs.declared.instruction.Code.TheVariants as code

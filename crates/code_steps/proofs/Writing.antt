@@ -27,7 +27,7 @@ use Rattle.machine_relation.specs.Models.{HasModel}
 use Rattle.machine_relation.specs.Shown.{cell_text}
 use Rattle.machine_relation.proofs.Lemmas.{written_same, after_is, of_below}
 use Rattle.machine_frames.specs.Frames.{link_in, frame_of}
-use Rattle.machine_frames.specs.Reading.{read_term}
+use Rattle.machine_frames.specs.SeenHeap.{read_term}
 use Rattle.machine_frames.proofs.Lemmas.{settled_look, settled_held, settled_rest}
 use Rattle.wam_code.specs.declared.instruction.Code.TheVariants as code
 use Rattle.wam_code.specs.Area.{Area, Holds}

@@ -11,7 +11,7 @@ use Rattle.heap_cells.specs.Terms.{Naming, term_of}
 use Rattle.machine_relation.specs.Held.{fixed_frame}
 use Rattle.machine_relation.specs.Shown.{cell_text}
 use Rattle.machine_frames.specs.Frames.{frame_of}
-use Rattle.machine_frames.specs.Reading.{read_term}
+use Rattle.machine_frames.specs.SeenHeap.{read_term}
 
 -- each term of the heap as the store's sets show it
 abbrev pub answer_terms : Naming → Cells → Family → List Cell → List Term

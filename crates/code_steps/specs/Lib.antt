@@ -2,10 +2,9 @@ pub mod Registers
 pub mod Standing
 pub mod Steps
 pub mod Trying
-pub mod Reading
-pub mod Building
+pub mod ReadMode
+pub mod WriteMode
 pub mod Running
-pub mod Amid
 pub mod Answers
 pub mod Ranging
 pub mod Laws

@@ -7,7 +7,7 @@ use Rattle.fd_model.specs.Sound.{ClausesScoped}
 use Rattle.heap_cells.specs.declared.Cell.{Cell}
 use Rattle.heap_cells.specs.Cells.{Cells}
 use Rattle.heap_cells.specs.Terms.{Naming, term_of}
-use Rattle.machine_frames.specs.Walking.{AllFit}
+use Rattle.machine_frames.specs.FittingClauses.{AllFit}
 use Rattle.wam_code.specs.declared.instruction.Code.{Code}
 use Rattle.wam_code.specs.declared.instruction.Code.TheVariants.{Jump, FailNow, TryMeElse, RetryMeElse, TrustMe, Try, Retry, Trust, SwitchOnTerm, SwitchOnConstant, SwitchOnInteger, SwitchOnStructure}
 use Rattle.wam_code.specs.declared.parts.Entry.{Entry}

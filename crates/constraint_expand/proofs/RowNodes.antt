@@ -8,26 +8,26 @@ use Rattle.fd_model.specs.Linear.{scaled}
 use Rattle.fd_model.specs.LinearRows.{by_sign, minus_products, row, row_by_sign}
 use Rattle.constraint_expand.specs.declared.rows.Comparison.{Comparison}
 use Rattle.constraint_expand.specs.declared.rows.Comparison.TheVariants as comparison
-use Rattle.constraint_expand.specs.declared.rows.Reading.{Reading}
-use Rattle.constraint_expand.specs.declared.rows.Reading.TheVariants as reading
+use Rattle.constraint_expand.specs.declared.rows.BoundReading.{BoundReading}
+use Rattle.constraint_expand.specs.declared.rows.BoundReading.TheVariants as reading
 use Rattle.constraint_expand.specs.declared.rows.Form.{Form}
 use Rattle.constraint_expand.specs.Nodes.{comparison_of, feature_of, product_nodes, divisor, bound_nodes, upper_nodes, last_nodes, row_list, IsForm}
 
 -- the readings of a bound, by the sign of the coefficient
-abbrev at_pos : Reading → ℕ → Expr
+abbrev at_pos : BoundReading → ℕ → Expr
 at_pos reading.Low = Max
 at_pos reading.High = Min
 at_pos reading.Exact = Val
 
-abbrev at_neg : Reading → ℕ → Expr
+abbrev at_neg : BoundReading → ℕ → Expr
 at_neg reading.Low = Min
 at_neg reading.High = Max
 at_neg reading.Exact = Val
 
-abbrev reads : Reading → ℤ → List (ℕ × ℤ) → Expr
+abbrev reads : BoundReading → ℤ → List (ℕ × ℤ) → Expr
 reads r c ts = minus_products (at_pos r) (at_neg r) (Number c) ts
 
-feature_nodes : (r : Reading) (x : ℕ) (z : ℤ) (rest : List RangeNode) → expr_nodes (by_sign (at_pos r) (at_neg r) x z) rest ≡ feature_of r x z ∷ rest
+feature_nodes : (r : BoundReading) (x : ℕ) (z : ℤ) (rest : List RangeNode) → expr_nodes (by_sign (at_pos r) (at_neg r) x z) rest ≡ feature_of r x z ∷ rest
 feature_nodes reading.Low x (pos n) rest = refl
 feature_nodes reading.Low x (negsuc n) rest = refl
 feature_nodes reading.High x (pos n) rest = refl
@@ -35,17 +35,17 @@ feature_nodes reading.High x (negsuc n) rest = refl
 feature_nodes reading.Exact x (pos n) rest = refl
 feature_nodes reading.Exact x (negsuc n) rest = refl
 
-products_spelled : (r : Reading) (e : Expr) (ts : List (ℕ × ℤ)) (rest : List RangeNode) → expr_nodes (minus_products (at_pos r) (at_neg r) e ts) rest ≡ expr_nodes e (product_nodes r ts ++ rest)
+products_spelled : (r : BoundReading) (e : Expr) (ts : List (ℕ × ℤ)) (rest : List RangeNode) → expr_nodes (minus_products (at_pos r) (at_neg r) e ts) rest ≡ expr_nodes e (product_nodes r ts ++ rest)
 products_spelled r e [] rest = refl
 products_spelled r e (t ∷ ts) rest =
     products_spelled r (Sub e (Mul (Number t.1) (by_sign (at_pos r) (at_neg r) t.0 t.1))) ts rest
     ∙ ap (λ ns. expr_nodes e (node.Int t.1 ∷ ns)) (feature_nodes r t.0 t.1 (node.Mul ∷ node.Sub ∷ (product_nodes r ts ++ rest)))
 
-pub products_append : (r : Reading) (ts us : List (ℕ × ℤ)) → product_nodes r (ts ++ us) ≡ product_nodes r ts ++ product_nodes r us
+pub products_append : (r : BoundReading) (ts us : List (ℕ × ℤ)) → product_nodes r (ts ++ us) ≡ product_nodes r ts ++ product_nodes r us
 products_append r [] us = refl
 products_append r (t ∷ ts) us = ap (λ (ns : List RangeNode). node.Int t.1 ∷ feature_of r t.0 t.1 ∷ node.Mul ∷ node.Sub ∷ ns) (products_append r ts us)
 
-pub products_length : (r : Reading) (ts : List (ℕ × ℤ)) → length (product_nodes r ts) ≡ 4 * length ts
+pub products_length : (r : BoundReading) (ts : List (ℕ × ℤ)) → length (product_nodes r ts) ≡ 4 * length ts
 products_length r [] = refl
 products_length r (t ∷ ts) = omega (arith, products_length r ts)
 
@@ -68,11 +68,11 @@ at_front : {A : Type 0} (xs ys : List A) (y d : A) → get_or (xs ++ y ∷ ys) (
 at_front [] ys y d = refl
 at_front (x ∷ xs) ys y d = at_front xs ys y d
 
-products_before : (r : Reading) (before after : List (ℕ × ℤ)) (t : ℕ × ℤ) (i : ℕ) → i ≡ length before → take (4 * i) (product_nodes r (before ++ t ∷ after)) ≡ product_nodes r before
+products_before : (r : BoundReading) (before after : List (ℕ × ℤ)) (t : ℕ × ℤ) (i : ℕ) → i ≡ length before → take (4 * i) (product_nodes r (before ++ t ∷ after)) ≡ product_nodes r before
 products_before r before after t i h =
     ap (take (4 * i)) (products_append r before (t ∷ after)) ∙ take_exact (product_nodes r before) (product_nodes r (t ∷ after)) (4 * i) (omega (arith, products_length r before))
 
-products_behind : (r : Reading) (before after : List (ℕ × ℤ)) (t : ℕ × ℤ) (i : ℕ) → i ≡ length before → drop (4 * i + 4) (product_nodes r (before ++ t ∷ after)) ≡ product_nodes r after
+products_behind : (r : BoundReading) (before after : List (ℕ × ℤ)) (t : ℕ × ℤ) (i : ℕ) → i ≡ length before → drop (4 * i + 4) (product_nodes r (before ++ t ∷ after)) ≡ product_nodes r after
 products_behind r before after t i h =
     ap (drop (4 * i + 4)) (products_append r before (t ∷ after) ∙ sym (append_assoc (product_nodes r before) (product_nodes r (t ∷ [])) (product_nodes r after)))
     ∙ drop_exact (product_nodes r before ++ product_nodes r (t ∷ [])) (product_nodes r after) (4 * i + 4) (omega (arith, products_length r before, length-append (product_nodes r before) (product_nodes r (t ∷ []))))
@@ -82,7 +82,7 @@ module _ (before after : List (ℕ × ℤ)) (x a : ℕ) (c : ℤ) (form : Form) 
   divisor_is : divisor form i ≡ pos a
   divisor_is = (λ j. (get_or (e j) (h j) (0, pos 0)).1) ∙ ap (λ (t : ℕ × ℤ). t.1) (at_front before after (x, pos a) (0, pos 0))
 
-  bound_spelled : (r : Reading) (products : List RangeNode) (d : RangeNode) (rest : List RangeNode) → products ≡ product_nodes r (before ++ (x, pos a) ∷ after)
+  bound_spelled : (r : BoundReading) (products : List RangeNode) (d : RangeNode) (rest : List RangeNode) → products ≡ product_nodes r (before ++ (x, pos a) ∷ after)
       → bound_nodes form i products d ++ rest ≡ expr_nodes (reads r c (before ++ after)) (node.Int (pos a) ∷ d ∷ rest)
   bound_spelled r products d rest p =
       let front : take (4 * i) products ≡ product_nodes r before = ap (take (4 * i)) p ∙ products_before r before after (x, pos a) i h in

@@ -11,8 +11,8 @@ use Rattle.fd_model.specs.Linear as linear
 use Rattle.fd_model.specs.Linear.{in_integers}
 use Rattle.constraint_expand.specs.declared.rows.Comparison.{Comparison}
 use Rattle.constraint_expand.specs.declared.rows.Comparison.TheVariants as comparison
-use Rattle.constraint_expand.specs.declared.rows.Reading.{Reading}
-use Rattle.constraint_expand.specs.declared.rows.Reading.TheVariants as reading
+use Rattle.constraint_expand.specs.declared.rows.BoundReading.{BoundReading}
+use Rattle.constraint_expand.specs.declared.rows.BoundReading.TheVariants as reading
 use Rattle.constraint_expand.specs.declared.rows.Form.{Form}
 
 -- the coefficients are integers of the language
@@ -37,18 +37,18 @@ comparison_of comparison.Other = linear.IsOther
 comparison_of comparison.AtMost = linear.IsAtMost
 
 -- how the ends of rows are read
-abbrev pub lower_reading : Comparison → Reading
+abbrev pub lower_reading : Comparison → BoundReading
 lower_reading comparison.Equal = reading.Low
 lower_reading comparison.Other = reading.Exact
 lower_reading comparison.AtMost = reading.Low
 
-abbrev pub upper_reading : Comparison → Reading
+abbrev pub upper_reading : Comparison → BoundReading
 upper_reading comparison.Equal = reading.High
 upper_reading comparison.Other = reading.Exact
 upper_reading comparison.AtMost = reading.High
 
 -- what is read of a variable with a coefficient
-abbrev pub feature_of : Reading → ℕ → ℤ → RangeNode
+abbrev pub feature_of : BoundReading → ℕ → ℤ → RangeNode
 feature_of reading.Low x (pos n) = node.Max x
 feature_of reading.Low x (negsuc n) = node.Min x
 feature_of reading.High x (pos n) = node.Min x
@@ -56,7 +56,7 @@ feature_of reading.High x (negsuc n) = node.Max x
 feature_of reading.Exact x z = node.Val x
 
 -- products that are taken away from what is before them
-abbrev pub product_nodes : Reading → List (ℕ × ℤ) → List RangeNode
+abbrev pub product_nodes : BoundReading → List (ℕ × ℤ) → List RangeNode
 product_nodes r [] = []
 product_nodes r (t ∷ ts) = node.Int t.1 ∷ feature_of r t.0 t.1 ∷ node.Mul ∷ node.Sub ∷ product_nodes r ts
 

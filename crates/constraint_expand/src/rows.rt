@@ -22,7 +22,7 @@ pub(crate) enum Comparison {
 
 /// How the variables of a bound are read: for its least, its greatest or its known value.
 #[derive(Clone, Copy)]
-pub(crate) enum Reading {
+pub(crate) enum BoundReading {
     Low,
     High,
     Exact,
@@ -40,29 +40,29 @@ pub(crate) struct Form {
 }
 
 /// What is read of a product's variable.
-fn feature(reading: Reading, term: (u64, i64)) -> RangeNode
+fn feature(reading: BoundReading, term: (u64, i64)) -> RangeNode
     ensures { result ≡ feature_of reading term.0 term.1 }
 {
     let (variable, coefficient) = term;
     match reading {
-        Reading::Low => if coefficient < 0 {
+        BoundReading::Low => if coefficient < 0 {
             RangeNode::Min(variable)
         } else {
             RangeNode::Max(variable)
         },
-        Reading::High => if coefficient < 0 {
+        BoundReading::High => if coefficient < 0 {
             RangeNode::Max(variable)
         } else {
             RangeNode::Min(variable)
         },
-        Reading::Exact => RangeNode::Val(variable),
+        BoundReading::Exact => RangeNode::Val(variable),
     }
 }
 
 /// Writes a product that is taken away.
 fn write_product(
     nodes: &mut Vec<RangeNode>,
-    reading: Reading,
+    reading: BoundReading,
     term: (u64, i64),
 ) -> Result<(), NoMemory>
     ensures { OnOk result
@@ -81,7 +81,7 @@ fn write_product(
 fn write_products(
     alloc: Global,
     terms: &[(u64, i64)],
-    reading: Reading,
+    reading: BoundReading,
 ) -> Result<Vec<RangeNode>, NoMemory>
     ensures { IfOk result (λ nodes. nodes.items ≡ product_nodes reading terms.now) }
 {
@@ -105,24 +105,24 @@ pub(crate) fn negated(alloc: Global, terms: &[(u64, i64)]) -> Result<Vec<(u64, i
 }
 
 /// How the lower ends of rows are read.
-fn lower_of(comparison: Comparison) -> Reading
+fn lower_of(comparison: Comparison) -> BoundReading
     ensures { result ≡ lower_reading comparison }
 {
     match comparison {
-        Comparison::Equal => Reading::Low,
-        Comparison::Other => Reading::Exact,
-        Comparison::AtMost => Reading::Low,
+        Comparison::Equal => BoundReading::Low,
+        Comparison::Other => BoundReading::Exact,
+        Comparison::AtMost => BoundReading::Low,
     }
 }
 
 /// How the upper ends of rows are read.
-fn upper_of(comparison: Comparison) -> Reading
+fn upper_of(comparison: Comparison) -> BoundReading
     ensures { result ≡ upper_reading comparison }
 {
     match comparison {
-        Comparison::Equal => Reading::High,
-        Comparison::Other => Reading::Exact,
-        Comparison::AtMost => Reading::High,
+        Comparison::Equal => BoundReading::High,
+        Comparison::Other => BoundReading::Exact,
+        Comparison::AtMost => BoundReading::High,
     }
 }
 

@@ -8,7 +8,7 @@ use Rattle.fd_language.specs.declared.range_node.Feature.TheVariants as feature
 use Rattle.fd_language.specs.Features.{is_same_feature}
 use Rattle.dependency_chains.specs.declared.Link.{Link}
 use Rattle.dependency_chains.specs.declared.Heads.{Heads}
-use Rattle.dependency_chains.specs.Reading.{Reading}
+use Rattle.dependency_chains.specs.AgentReads.{AgentRead}
 use Rattle.dependency_chains.specs.Links.{reading, reads_of, link_at, is_in, latest, head_of, AreChains}
 use Rattle.dependency_chains.proofs.Chaining.{latest_out, same_latest, in_var, in_feature}
 
@@ -152,10 +152,10 @@ chains_cut ls hs ks vars c e le stay = subst (AreChains ls) (sym e) (record {
   heads = λ k d f less. let low : k < vars = omega (arith, less, length-take-le vars hs le) in ap (λ x. head_of x f) (get_or-take vars hs k d low) ∙ c.heads k d f (omega (arith, low, le));
 })
 
-pub links_all : (P : Reading → Type 0) (ls : List Link) → All P (reads_of ls) → All (λ l. P (reading l)) ls
+pub links_all : (P : AgentRead → Type 0) (ls : List Link) → All P (reads_of ls) → All (λ l. P (reading l)) ls
 links_all P ls h k d l = subst P (get_or-map reading ls k d (reading d) l) (h k (reading d) (omega (arith, l, length-map ls reading)))
 
-pub all_filtered : (P Q : Reading → Type 0) (p : Reading → Bool) → ((x : Reading) → p x ≡ true → P x → Q x) → (xs : List Reading) → All P xs → All Q (filter p xs)
+pub all_filtered : (P Q : AgentRead → Type 0) (p : AgentRead → Bool) → ((x : AgentRead) → p x ≡ true → P x → Q x) → (xs : List AgentRead) → All P xs → All Q (filter p xs)
 all_filtered P Q p go [] h = All-nil Q
 all_filtered P Q p go (x ∷ xs) h =
     let later = all_filtered P Q p go xs (All-tail P x xs h) in
@@ -164,15 +164,15 @@ all_filtered P Q p go (x ∷ xs) h =
       | inr e ↦ subst (λ b. All Q (cond b (x ∷ filter p xs) (filter p xs))) (sym e) later
     ]
 
-pub filter_whole : (p : Reading → Bool) (xs : List Reading) → All (λ x. p x ≡ true) xs → filter p xs ≡ xs
+pub filter_whole : (p : AgentRead → Bool) (xs : List AgentRead) → All (λ x. p x ≡ true) xs → filter p xs ≡ xs
 filter_whole p [] h = refl
 filter_whole p (x ∷ xs) h = ap (λ b. cond b (x ∷ filter p xs) (filter p xs)) (All-head (λ y. p y ≡ true) x xs h) ∙ ap (λ l. x ∷ l) (filter_whole p xs (All-tail (λ y. p y ≡ true) x xs h))
 
-filter-append : (p : Reading → Bool) (xs ys : List Reading) → filter p (xs ++ ys) ≡ filter p xs ++ filter p ys
+filter-append : (p : AgentRead → Bool) (xs ys : List AgentRead) → filter p (xs ++ ys) ≡ filter p xs ++ filter p ys
 filter-append p [] ys = refl
 filter-append p (x ∷ xs) ys = elim (p x) as (λ b. cond b (x ∷ filter p (xs ++ ys)) (filter p (xs ++ ys)) ≡ cond b (x ∷ filter p xs) (filter p xs) ++ filter p ys) [ true ↦ ap (λ l. x ∷ l) (filter-append p xs ys) | false ↦ filter-append p xs ys ]
 
-nothing_more : (xs : List Reading) → xs ++ [] ≡ xs
+nothing_more : (xs : List AgentRead) → xs ++ [] ≡ xs
 nothing_more [] = refl
 nothing_more (x ∷ xs) = ap (λ l. x ∷ l) (nothing_more xs)
 

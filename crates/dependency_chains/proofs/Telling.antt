@@ -11,7 +11,7 @@ use Rattle.fd_language.specs.Features.{is_same_feature}
 use Rattle.dependency_chains.specs.declared.Change.{Change}
 use Rattle.dependency_chains.specs.declared.Link.{Link}
 use Rattle.dependency_chains.specs.declared.Heads.{Heads}
-use Rattle.dependency_chains.specs.Reading.{Reading}
+use Rattle.dependency_chains.specs.AgentReads.{AgentRead}
 use Rattle.dependency_chains.specs.Waking.{wakes}
 use Rattle.dependency_chains.specs.Links.{reading, reads_of, link_at, is_in, latest, agents_in, agents_from, head_of, AreChains}
 use Rattle.dependency_chains.proofs.Chaining.{from_latest}
@@ -62,7 +62,7 @@ any_listed ls (suc n) p h =
     turned : (a b : Bool) → (a || b) ≡ (b || (a || false))
     turned a b = grind arith
 
-any_mapped : (ls : List Link) (p : Reading → Bool) → list_any p (reads_of ls) ≡ list_any (λ l. p (reading l)) ls
+any_mapped : (ls : List Link) (p : AgentRead → Bool) → list_any p (reads_of ls) ≡ list_any (λ l. p (reading l)) ls
 any_mapped [] p = refl
 any_mapped (l ∷ ls) p = ap (λ b. p (reading l) || b) (any_mapped ls p)
 

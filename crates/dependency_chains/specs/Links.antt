@@ -5,12 +5,12 @@ use Rattle.fd_language.specs.declared.range_node.Feature.TheVariants as feature
 use Rattle.fd_language.specs.Features.{is_same_feature}
 use Rattle.dependency_chains.specs.declared.Link.{Link}
 use Rattle.dependency_chains.specs.declared.Heads.{Heads}
-use Rattle.dependency_chains.specs.Reading.{Reading}
+use Rattle.dependency_chains.specs.AgentReads.{AgentRead}
 
-abbrev pub reading : Link → Reading
+abbrev pub reading : Link → AgentRead
 reading l = record { agent = l.agent; var = l.var; feature = l.feature }
 
-abbrev pub reads_of : List Link → List Reading
+abbrev pub reads_of : List Link → List AgentRead
 reads_of ls = map reading ls
 
 abbrev pub link_at : List Link → ℕ → Link

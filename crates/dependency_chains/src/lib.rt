@@ -55,9 +55,9 @@ pub struct Chains {
 }
 
 impl Model for Chains {
-    ghost use Rattle.dependency_chains.specs.Reading.{Readings};
+    ghost use Rattle.dependency_chains.specs.AgentReads.{AgentReads};
 
-    ghost Value = { Readings };
+    ghost Value = { AgentReads };
 
     ghost use Rattle.std.specs.Prelude.{length};
     ghost use Rattle.dependency_chains.specs.Links.{reads_of, AreChains};
@@ -115,7 +115,7 @@ impl<'c> Model for Chain<'c> {
 
 ghost use Rattle.domain_ranges.specs.Narrowing.{AreEnds};
 ghost use Rattle.dependency_chains.specs.Waking.{change_of, wakes};
-ghost use Rattle.dependency_chains.specs.Reading.{read_by};
+ghost use Rattle.dependency_chains.specs.AgentReads.{read_by};
 ghost use Rattle.dependency_chains.specs.Links.{agents_from, AreLinked, AreChains, reads_of, head_of};
 
 impl Change {

@@ -13,7 +13,7 @@ use Rattle.fd_language.specs.declared.TheConstants.{INFINITY}
 use Rattle.fd_language.specs.Family.{has, universe}
 use Rattle.domain_ranges.specs.Spans.{Span, within, IsSpans, members}
 use Rattle.domain_ranges.specs.Narrowing.{between}
-use Rattle.domain_ranges.specs.Waiting.{numbers, stacked, AreStarts, AreIntervals, AreRising}
+use Rattle.domain_ranges.specs.StackedSets.{numbers, stacked, AreStarts, AreIntervals, AreRising}
 use Rattle.domain_ranges.proofs.Spans.{within_append, head_or_later}
 use Rattle.domain_ranges.proofs.Members.{members_is, filter_same}
 use Rattle.domain_ranges.proofs.Images.{has_set, set_same}

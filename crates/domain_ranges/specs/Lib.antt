@@ -1,4 +1,4 @@
 pub mod Spans
 pub mod Sets
 pub mod Narrowing
-pub mod Waiting
+pub mod StackedSets

@@ -3,7 +3,7 @@
 ghost use Rattle.std.specs.Prelude.{◌≡◌, ◌<◌, ◌≤◌, ◌+◌, ◌&&◌, ◌||◌, not, ◌==◌, ◌*◌, ◌^◌, ◌<ℤ◌, neg_ℤ, IsTrue, IsSome, ℕ, false, [], ◌∷◌, ◌++◌, length, pos, int_le, nat_le, slice_index_or, slice_set, max, min, filter, IfSome, IfNone, IfOk, OnOk, OnErr};
 ghost use Rattle.domain_ranges.specs.Spans.{Span, within, IsSpans, AreWithEnds, members, interval_count, meet, listed, written, joined, gap, parted, shifted, scaled};
 ghost use Rattle.fd_language.specs.Family.{universe};
-ghost use Rattle.domain_ranges.specs.Waiting.{numbers, AreIntervals, AreRising};
+ghost use Rattle.domain_ranges.specs.StackedSets.{numbers, AreIntervals, AreRising};
 
 use fd_language::{INFINITY, NoMemory};
 use smallvec::SmallVec;

@@ -4,7 +4,7 @@ ghost use Rattle.std.specs.Prelude.{◌≡◌, ◌<◌, ◌≤◌, ◌+◌, ◌-
 ghost use Rattle.fd_language.specs.Family.{has, universe, IsRising};
 ghost use Rattle.domain_ranges.specs.Spans.{IsSpans};
 ghost use Rattle.domain_ranges.specs.Narrowing.{between};
-ghost use Rattle.domain_ranges.specs.Waiting.{numbers};
+ghost use Rattle.domain_ranges.specs.StackedSets.{numbers};
 
 use crate::{Domain, intervals};
 use fd_language::{INFINITY, NoMemory};
@@ -24,9 +24,9 @@ pub struct SetStack {
 
 impl Model for SetStack {
     ghost use Rattle.std.specs.Prelude.{reverse, length, vec_capacity};
-    ghost use Rattle.domain_ranges.specs.Waiting.{Waiting, stacked, AreStarts, AreIntervals};
+    ghost use Rattle.domain_ranges.specs.StackedSets.{StackedSets, stacked, AreStarts, AreIntervals};
 
-    ghost Value = { Waiting };
+    ghost Value = { StackedSets };
 
     ghost view = { λ s. record {
       sets = stacked (reverse s.starts.items) s.spans.items;

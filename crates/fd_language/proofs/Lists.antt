@@ -30,5 +30,3 @@ module _ {X : Type 0} where
   pub each_either : (H : X → Type 0) (b : Bool) (xs ys : List X) → Each H xs → Each H ys → Each H (cond b xs ys)
   each_either H true xs ys h g = h
   each_either H false xs ys h g = g
-
--- what each element gives, put together

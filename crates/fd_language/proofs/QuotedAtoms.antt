@@ -7,10 +7,10 @@ use Rattle.std.proofs.lemmas.List.{take_at}
 use Rattle.std.proofs.lemmas.Str.{chars-encodes, encodes-append, encodes-chars, scalars-chars, length-encode}
 use Rattle.std.proofs.lemmas.Bool.{and_parts, lt-ltb, ltb-true, ne_eqb, and_from}
 use lib.Utf8.{scalar}
-use Rattle.fd_language.specs.Characters.{is_layout, is_symbol, is_solo, is_punct, begins_variable, not_newline, is_digit_of, starts_with, tail, run_size, past_run, value}
+use Rattle.fd_language.specs.Characters.{is_layout, is_symbol, is_solo, is_punct, begins_variable, not_newline, is_digit_of, starts_with, tail, run_size, past_run, digits_value}
 use Rattle.unicode_ident.specs.Ident.{is_xid_start, is_xid_continue}
 use Rattle.unicode_ident.proofs.IdentLemmas.{is_xid_start-ascii}
-use Rattle.fd_language.specs.Tokens.{Front, Gap, Token, Quoted, Variable, Word, Punct, Stop, Integer, BadCharacter, FloatOut, StringOut, OpenComment, IntegerTooWide, greatest, number_front, decimal_front, based_front, integer_front, comment_front, has_base, base_at, has_fraction, ends_stop, front_at, front_by, front_of, unquoted, Offends, Cause, OpenQuote, BadEscape, Inside, Between, AfterQuote, AfterBackslash, AfterDigits, Past, Broken, is_escape, escaped, names_character, inside, spells, quoted_front, quoted_spells}
+use Rattle.fd_language.specs.Tokens.{Front, Gap, Token, Quoted, Variable, Word, Punct, Stop, Integer, BadCharacter, FloatOut, StringOut, OpenComment, IntegerTooWide, greatest_integer, number_front, decimal_front, based_front, integer_front, comment_front, has_base, base_at, has_fraction, ends_stop, front_at, front_by, front_of, unquoted, Offends, Cause, OpenQuote, BadEscape, Inside, Between, AfterQuote, AfterBackslash, AfterDigits, Past, Broken, is_escape, escaped, names_character, inside, spells, quoted_front, quoted_spells}
 use Rattle.fd_language.specs.QuotedAtoms.{BeginsQuoted, QuotedAtoms, is_itself, are_hexadecimal, hexadecimal, SpelledBy, nothing, itself, doubled, escape, numbered}
 
 -- the bytes of characters
@@ -314,18 +314,18 @@ either true x y h k = h
 either false x y h k = k
 
 a_number : (v m : ℕ) → NotQuoted (number_front v m)
-a_number v m = either (nat_le v greatest) (Token (Integer (pos v)) m) (Offends IntegerTooWide 0) (an_integer (pos v) m) (a_fault IntegerTooWide 0)
+a_number v m = either (nat_le v greatest_integer) (Token (Integer (pos v)) m) (Offends IntegerTooWide 0) (an_integer (pos v) m) (a_fault IntegerTooWide 0)
 
 a_decimal : (c : ℕ) (cs : List ℕ) → NotQuoted (decimal_front c cs)
 a_decimal c cs =
     either (has_fraction (past_run (is_digit_of 10) cs)) (Offends FloatOut 0) _ (a_fault FloatOut 0)
     (either (c == 48 && starts_with 39 cs) (Offends BadCharacter 1) _ (a_fault BadCharacter 1)
-    (a_number (value 10 0 (c ∷ cs)) (len_utf8 c + run_size (is_digit_of 10) cs)))
+    (a_number (digits_value 10 0 (c ∷ cs)) (len_utf8 c + run_size (is_digit_of 10) cs)))
 
 digits_here : (c : ℕ) (cs : List ℕ) → NotQuoted (integer_front c cs)
 digits_here c cs =
     either (c == 48 && has_base cs) (based_front cs) (decimal_front c cs)
-    (a_number (value (base_at cs) 0 (tail cs)) (2 + run_size (is_digit_of (base_at cs)) (tail cs))) (a_decimal c cs)
+    (a_number (digits_value (base_at cs) 0 (tail cs)) (2 + run_size (is_digit_of (base_at cs)) (tail cs))) (a_decimal c cs)
 
 a_comment : (n : ℕ) (cs : List ℕ) → NotQuoted (comment_front n cs)
 a_comment n [] = a_fault OpenComment 0

@@ -5,8 +5,8 @@ use Rattle.std.specs.Str.{chars}
 use Rattle.std.specs.Char.{len_utf8, digit_value}
 use Rattle.std.proofs.lemmas.Str.{chars-nil, len_utf8_bounds}
 use Rattle.unicode_ident.specs.Ident.{is_xid_start, is_xid_continue}
-use Rattle.fd_language.specs.Characters.{is_layout, is_symbol, is_solo, is_punct, begins_variable, not_newline, is_digit_of, starts_with, tail, run_size, past_run, value}
-use Rattle.fd_language.specs.Tokens.{Kind, Word, Variable, Punct, Stop, Cause, BadCharacter, FloatOut, StringOut, base_at, has_base, has_fraction, ends_stop, Lexeme, Front, Ends, Gap, Token, Offends, greatest, number_front, based_front, decimal_front, integer_front, comment_front, Inside, Between, AfterQuote, AfterBackslash, AfterDigits, Past, Broken, OpenQuote, BadEscape, is_escape, names_character, inside, quoted_end, quoted_front, front_at, front_by, front_of, HasTokens, ended, after_gap, after_token, HasFault, here, past_gap, past_token, OneVerdict}
+use Rattle.fd_language.specs.Characters.{is_layout, is_symbol, is_solo, is_punct, begins_variable, not_newline, is_digit_of, starts_with, tail, run_size, past_run, digits_value}
+use Rattle.fd_language.specs.Tokens.{Kind, Word, Variable, Punct, Stop, Cause, BadCharacter, FloatOut, StringOut, base_at, has_base, has_fraction, ends_stop, Lexeme, Front, Ends, Gap, Token, Offends, greatest_integer, number_front, based_front, decimal_front, integer_front, comment_front, Inside, Between, AfterQuote, AfterBackslash, AfterDigits, Past, Broken, OpenQuote, BadEscape, is_escape, names_character, inside, quoted_end, quoted_front, front_at, front_by, front_of, HasTokens, ended, after_gap, after_token, HasFault, here, past_gap, past_token, OneVerdict}
 
 -- ---- what is at the front has at least one byte
 
@@ -33,7 +33,7 @@ either true x y h k = h
 either false x y h k = k
 
 number_grows : (v n : ℕ) → 0 < n → Grows (number_front v n)
-number_grows v n h = either (nat_le v greatest) _ _ (a_token _ n h) (a_fault _ _)
+number_grows v n h = either (nat_le v greatest_integer) _ _ (a_token _ n h) (a_fault _ _)
 
 comment_grows : (n : ℕ) (cs : List ℕ) → 0 < n → Grows (comment_front n cs)
 comment_grows n [] h = a_fault _ _
@@ -93,13 +93,13 @@ a_character : (c n : ℕ) → 0 < len_utf8 c + n
 a_character c n = omega (arith, (len_utf8_bounds c).0)
 
 based_grows : (cs : List ℕ) → Grows (based_front cs)
-based_grows cs = number_grows (value (base_at cs) 0 (tail cs)) (2 + run_size (is_digit_of (base_at cs)) (tail cs)) (two_more (run_size (is_digit_of (base_at cs)) (tail cs)))
+based_grows cs = number_grows (digits_value (base_at cs) 0 (tail cs)) (2 + run_size (is_digit_of (base_at cs)) (tail cs)) (two_more (run_size (is_digit_of (base_at cs)) (tail cs)))
 
 decimal_grows : (c : ℕ) (cs : List ℕ) → Grows (decimal_front c cs)
 decimal_grows c cs =
     either (has_fraction (past_run (is_digit_of 10) cs)) (Offends FloatOut 0) _ (a_fault FloatOut 0)
     (either (c == 48 && starts_with 39 cs) (Offends BadCharacter 1) _ (a_fault BadCharacter 1)
-    (number_grows (value 10 0 (c ∷ cs)) (len_utf8 c + run_size (is_digit_of 10) cs) (a_character c (run_size (is_digit_of 10) cs))))
+    (number_grows (digits_value 10 0 (c ∷ cs)) (len_utf8 c + run_size (is_digit_of 10) cs) (a_character c (run_size (is_digit_of 10) cs))))
 
 integer_grows : (c : ℕ) (cs : List ℕ) → Grows (integer_front c cs)
 integer_grows c cs = either (c == 48 && has_base cs) (based_front cs) (decimal_front c cs) (based_grows cs) (decimal_grows c cs)

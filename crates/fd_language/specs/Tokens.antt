@@ -4,7 +4,7 @@ use Rattle.std.specs.Char.{len_utf8, digit_value}
 use Rattle.std.specs.Str.{chars, encode_utf8_all}
 use lib.Utf8.{scalar}
 use Rattle.unicode_ident.specs.Ident.{is_xid_start, is_xid_continue}
-use Rattle.fd_language.specs.Characters.{is_layout, is_among, is_symbol, is_solo, is_punct, begins_variable, not_newline, is_digit_of, starts_with, starts_with_digit_of, tail, run_size, past_run, value}
+use Rattle.fd_language.specs.Characters.{is_layout, is_among, is_symbol, is_solo, is_punct, begins_variable, not_newline, is_digit_of, starts_with, starts_with_digit_of, tail, run_size, past_run, digits_value}
 
 pub data Kind : Type 0 where
   Word : Kind
@@ -40,12 +40,12 @@ pub data Front : Type 0 where
 -- ---- integers
 
 -- the greatest integer
-abbrev pub greatest : ℕ
-greatest = 9223372036854775807
+abbrev pub greatest_integer : ℕ
+greatest_integer = 9223372036854775807
 
 -- digits of n bytes that spell the number v
 abbrev pub number_front : ℕ → ℕ → Front
-number_front v n = if nat_le v greatest then Token (Integer (pos v)) n else Offends IntegerTooWide 0
+number_front v n = if nat_le v greatest_integer then Token (Integer (pos v)) n else Offends IntegerTooWide 0
 
 -- the base that a letter behind 0 names: x, o and b
 abbrev pub base_of : ℕ → ℕ
@@ -67,14 +67,14 @@ has_fraction (c ∷ cs) = c == 46 && starts_with_digit_of 10 cs
 
 -- behind 0, which is followed by a base's letter and digits
 abbrev pub based_front : List ℕ → Front
-based_front cs = number_front (value (base_at cs) 0 (tail cs)) (2 + run_size (is_digit_of (base_at cs)) (tail cs))
+based_front cs = number_front (digits_value (base_at cs) 0 (tail cs)) (2 + run_size (is_digit_of (base_at cs)) (tail cs))
 
 -- c is a decimal digit, and cs what follows it
 abbrev pub decimal_front : ℕ → List ℕ → Front
 decimal_front c cs =
     if has_fraction (past_run (is_digit_of 10) cs) then Offends FloatOut 0
     else if c == 48 && starts_with 39 cs then Offends BadCharacter 1
-    else number_front (value 10 0 (c ∷ cs)) (len_utf8 c + run_size (is_digit_of 10) cs)
+    else number_front (digits_value 10 0 (c ∷ cs)) (len_utf8 c + run_size (is_digit_of 10) cs)
 
 abbrev pub integer_front : ℕ → List ℕ → Front
 integer_front c cs = if c == 48 && has_base cs then based_front cs else decimal_front c cs

@@ -88,62 +88,62 @@ abbrev pub in_parentheses : List ℕ → List ℕ
 in_parentheses t = codes "(" ++ (t ++ codes ")")
 
 -- A term's text at a limit, the greatest priority that stands without parentheses; and its text as what follows an element of a list.
-pub record Spelling : Type 0 where
+pub record TermText : Type 0 where
   pub at : ℕ → List ℕ
   pub rest : List ℕ
 
-abbrev pub spelled_alone : List ℕ → Spelling
+abbrev pub spelled_alone : List ℕ → TermText
 spelled_alone t = record { at = λ limit. t; rest = codes "|" ++ t }
 
-abbrev pub spelled_by : (ℕ → List ℕ) → Spelling
+abbrev pub spelled_by : (ℕ → List ℕ) → TermText
 spelled_by at = record { at = at; rest = codes "|" ++ at 999 }
 
 -- the arguments, each at limit 999, joined by commas
-abbrev pub arguments_text : List Spelling → List ℕ
+abbrev pub arguments_text : List TermText → List ℕ
 arguments_text [] = []
 arguments_text (x ∷ []) = x.at 999
 arguments_text (x ∷ y ∷ ys) = x.at 999 ++ (codes "," ++ arguments_text (y ∷ ys))
 
-abbrev pub call_text : Mode → Name → List Spelling → List ℕ
+abbrev pub call_text : Mode → Name → List TermText → List ℕ
 call_text mode f xs = functor_text mode f ++ in_parentheses (arguments_text xs)
 
-abbrev pub infix_text : Operator → Spelling → Spelling → ℕ → List ℕ
+abbrev pub infix_text : Operator → TermText → TermText → ℕ → List ℕ
 infix_text o a b limit =
     if nat_le o.priority limit then between (a.at (left_limit o)) o.name (b.at (right_limit o)) else
     in_parentheses (between (a.at (left_limit o)) o.name (b.at (right_limit o)))
 
-abbrev pub spelled_infix : Mode → Name → Option Operator → Spelling → Spelling → Spelling
+abbrev pub spelled_infix : Mode → Name → Option Operator → TermText → TermText → TermText
 spelled_infix mode f (Some o) a b = spelled_by (infix_text o a b)
 spelled_infix mode f None a b = spelled_alone (call_text mode f (a ∷ b ∷ []))
 
 -- a cell of a list; or an infix operator; or a call
-abbrev pub spelled_two : Mode → Name → Spelling → Spelling → Spelling
+abbrev pub spelled_two : Mode → Name → TermText → TermText → TermText
 spelled_two mode f a b =
     if bytes_eq f (codes ".")
     then record { at = λ limit. codes "[" ++ (a.at 999 ++ (b.rest ++ codes "]")); rest = codes "," ++ (a.at 999 ++ b.rest) }
     else spelled_infix mode f (infix_of f) a b
 
-abbrev pub spelled_one : Mode → Name → Spelling → Spelling
+abbrev pub spelled_one : Mode → Name → TermText → TermText
 spelled_one mode f a =
     if bytes_eq f (codes "{}") then spelled_alone (codes "{" ++ (a.at 1200 ++ codes "}")) else spelled_alone (call_text mode f (a ∷ []))
 
-abbrev pub spelled_compound : Mode → Name → List Spelling → Spelling
+abbrev pub spelled_compound : Mode → Name → List TermText → TermText
 spelled_compound mode f (a ∷ []) = spelled_one mode f a
 spelled_compound mode f (a ∷ b ∷ []) = spelled_two mode f a b
 spelled_compound mode f xs = spelled_alone (call_text mode f xs)
 
 -- nothing follows the last element of a list that ends with `[]`
-abbrev pub spelled_atom : Mode → Name → Spelling
+abbrev pub spelled_atom : Mode → Name → TermText
 spelled_atom mode a = record { at = λ limit. atom_text mode a; rest = if bytes_eq a (codes "[]") then [] else codes "|" ++ atom_text mode a }
 
 abbrev mutual
-  pub spelled : Mode → (ℕ → List ℕ) → Term → Spelling
+  pub spelled : Mode → (ℕ → List ℕ) → Term → TermText
   spelled mode vars (Var x) = spelled_alone (vars x)
   spelled mode vars (Int z) = spelled_alone (signed_decimal z)
   spelled mode vars (Atom a) = spelled_atom mode a
   spelled mode vars (Comp f ts) = spelled_compound mode f (spelled_each mode vars ts)
 
-  pub spelled_each : Mode → (ℕ → List ℕ) → Terms → List Spelling
+  pub spelled_each : Mode → (ℕ → List ℕ) → Terms → List TermText
   spelled_each mode vars no_terms = []
   spelled_each mode vars (term t ts) = spelled mode vars t ∷ spelled_each mode vars ts
 

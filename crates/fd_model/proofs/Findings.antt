@@ -12,7 +12,7 @@ use Rattle.fd_model.specs.declared.kinds.QueryFault.{QueryFault}
 use Rattle.fd_model.specs.declared.kinds.BuiltinKind.{BuiltinKind}
 use Rattle.fd_model.specs.declared.kinds.BuiltinKind.TheVariants as kind
 use Rattle.fd_model.specs.Arithmetic.{Value, not_a_number, of_one, opposite_of, by_name, value_of}
-use Rattle.fd_model.specs.Builtins.{evaluated, by_value, is_same, are_same, is_open, is_integer, is_atom, is_atomic, is_compound, Numbers, one, those, set_numbers, least, greatest, count, two_terms, interval_term, interval_terms, interval_list, first_argument, second_argument, Finding, faulted, decided, equated, equals_value, equals_number, compared, numbers_of, found, finding}
+use Rattle.fd_model.specs.Builtins.{evaluated, by_value, is_same, are_same, is_open, is_integer, is_atom, is_atomic, is_compound, Numbers, one, those, set_numbers, least_number, greatest_number, count, two_terms, interval_term, interval_terms, interval_list, first_argument, second_argument, Finding, faulted, decided, equated, equals_value, equals_number, compared, numbers_of, found, finding}
 use Rattle.fd_model.specs.Lines.{Interval, intervals}
 
 abbrev pub IsFindingBelow : ℕ → Finding → Type 0
@@ -66,8 +66,8 @@ found_below n kind.NumLess sets a b u v h i = compared_below n _ (evaluated u) (
 found_below n kind.NumAtMost sets a b u v h i = compared_below n _ (evaluated u) (evaluated v)
 found_below n kind.NumGreater sets a b u v h i = compared_below n _ (evaluated u) (evaluated v)
 found_below n kind.NumAtLeast sets a b u v h i = compared_below n _ (evaluated u) (evaluated v)
-found_below n kind.FdMin sets a b u v h i = number_below n (λ ns. Int (least ns)) (λ ns. tt) b (numbers_of sets u) i
-found_below n kind.FdMax sets a b u v h i = number_below n (λ ns. Int (greatest ns)) (λ ns. tt) b (numbers_of sets u) i
+found_below n kind.FdMin sets a b u v h i = number_below n (λ ns. Int (least_number ns)) (λ ns. tt) b (numbers_of sets u) i
+found_below n kind.FdMax sets a b u v h i = number_below n (λ ns. Int (greatest_number ns)) (λ ns. tt) b (numbers_of sets u) i
 found_below n kind.FdSize sets a b u v h i = number_below n (λ ns. Int (count ns)) (λ ns. tt) b (numbers_of sets u) i
 found_below n kind.FdDom sets a b u v h i = number_below n interval_list (list_below n) b (numbers_of sets u) i
 found_below n _ sets a b u v h i = tt
@@ -216,7 +216,7 @@ module _ (look settled : Substitution) (cell : ℕ → ℕ) (sets sets' : ℕ �
   found_renamed kind.Compound = ap decided (kind_renamed is_compound false (λ x. refl) (λ f ts us. refl) settled cell u named_u)
   found_renamed kind.Write = refl
   found_renamed kind.Nl = refl
-  found_renamed kind.FdMin = numbers (λ ns. Int (least ns)) (λ ns. refl)
-  found_renamed kind.FdMax = numbers (λ ns. Int (greatest ns)) (λ ns. refl)
+  found_renamed kind.FdMin = numbers (λ ns. Int (least_number ns)) (λ ns. refl)
+  found_renamed kind.FdMax = numbers (λ ns. Int (greatest_number ns)) (λ ns. refl)
   found_renamed kind.FdSize = numbers (λ ns. Int (count ns)) (λ ns. refl)
   found_renamed kind.FdDom = numbers interval_list (list_stays look)

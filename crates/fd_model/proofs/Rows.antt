@@ -3,7 +3,6 @@ use Rattle.std.proofs.Common.{◌≡◌, ℕ, zero, suc, ◌*◌, ◌/◌, ◌�
 use Rattle.std.proofs.Math.Nat.{le-div_iff_mul-le, div-lt_iff_lt-mul, mul_comm}
 use Rattle.std.specs.Ordering.{int_eq}
 use Rattle.std.proofs.lemmas.Int.{ints}
-use Rattle.fd_language.specs.Family.{Family}
 use Rattle.fd_language.specs.Range.{Expr, Number, Min, Max, Val, Sub, Mul, value, in_range, down_by}
 use Rattle.fd_model.specs.Linear.{scaled, Comparison, IsEqual, IsOther, IsAtMost}
 use Rattle.fd_model.specs.LinearRows.{by_sign, minus_products, low, high, exact, row, row_by_sign, compares}
@@ -13,8 +12,6 @@ use Rattle.fd_model.proofs.Integers.{turned_once}
 use Rattle.fd_model.proofs.Sums.{total-scaled}
 
 module _ (M : ℕ) (b : Assignment) where
-  S : Family
-  S = singles b
 
   abbrev Reads : (ℕ → Expr) → Type 0
   Reads f = (x : ℕ) → value M (singles b) (f x) ≡ pos (b x)

@@ -81,14 +81,14 @@ abbrev pub last_of : ℕ → List ℕ → ℕ
 last_of n [] = n
 last_of n (m ∷ ms) = last_of m ms
 
-abbrev pub least : Numbers → ℤ
-least (one z) = z
-least (those []) = pos 0
-least (those (n ∷ ns)) = pos n
+abbrev pub least_number : Numbers → ℤ
+least_number (one z) = z
+least_number (those []) = pos 0
+least_number (those (n ∷ ns)) = pos n
 
-abbrev pub greatest : Numbers → ℤ
-greatest (one z) = z
-greatest (those ns) = pos (last_of 0 ns)
+abbrev pub greatest_number : Numbers → ℤ
+greatest_number (one z) = z
+greatest_number (those ns) = pos (last_of 0 ns)
 
 abbrev pub count : Numbers → ℤ
 count (one z) = pos 1
@@ -165,8 +165,8 @@ found kind.Atomic sets a b u v = decided (is_atomic u)
 found kind.Compound sets a b u v = decided (is_compound u)
 found kind.Write sets a b u v = decided true
 found kind.Nl sets a b u v = decided true
-found kind.FdMin sets a b u v = equals_number (λ ns. Int (least ns)) b (numbers_of sets u)
-found kind.FdMax sets a b u v = equals_number (λ ns. Int (greatest ns)) b (numbers_of sets u)
+found kind.FdMin sets a b u v = equals_number (λ ns. Int (least_number ns)) b (numbers_of sets u)
+found kind.FdMax sets a b u v = equals_number (λ ns. Int (greatest_number ns)) b (numbers_of sets u)
 found kind.FdSize sets a b u v = equals_number (λ ns. Int (count ns)) b (numbers_of sets u)
 found kind.FdDom sets a b u v = equals_number interval_list b (numbers_of sets u)
 

@@ -12,16 +12,16 @@ use Rattle.heap_cells.specs.Terms.{Naming, term_of, terms_by, Same}
 use Rattle.heap_cells.specs.Atoms.{HasAtomsBelow, IsAtomBelow}
 use Rattle.heap_cells.specs.Valid.{IsHeap}
 use Rattle.heap_cells.proofs.Lemmas.{apply-terms_by, unbound_term, term-Int, term-Atom, term-Struct}
-use Rattle.heap_terms.specs.declared.Reading.{Reading}
-use Rattle.heap_terms.specs.declared.Reading.TheVariants.{Visit, Make}
+use Rattle.heap_terms.specs.declared.ReadTask.{ReadTask}
+use Rattle.heap_terms.specs.declared.ReadTask.TheVariants.{Visit, Make}
 use Rattle.heap_terms.specs.Values.{only, set_in, value_of, shown_slot, shown, shown_term}
-use Rattle.heap_terms.specs.Reading.{AddsTerm, VisitsCell}
+use Rattle.heap_terms.specs.ReadBack.{AddsTerm, VisitsCell}
 
 pub on_ok : {A E : Type 0} (r : Result A E) (P Q : Type 0) → (P → Q) → OnOk r P → OnOk r Q
 on_ok (Ok a) P Q f p = f p
 on_ok (Err e) P Q f p = tt
 
-module _ (names : List Name) (h : Cells) (valid : IsHeap h) (sets : List (List ℕ)) (c : Cell) (ks : List Reading) (ds : List TermId) where
+module _ (names : List Name) (h : Cells) (valid : IsHeap h) (sets : List (List ℕ)) (c : Cell) (ks : List ReadTask) (ds : List TermId) where
   abbrev name : Naming
   name = name_in names
 
@@ -45,7 +45,7 @@ module _ (names : List Name) (h : Cells) (valid : IsHeap h) (sets : List (List �
   pub read_atom : (p : Contents) (es : List TermId) (a : AtomId) (n : Name) → n ≡ name_in names a → Same h c (cell.Atom a) → AddsTerm (Atom n) ds p es → VisitsCell names h sets c ks ds p ks es
   read_atom p es a n e s x = read_leaf p es (Atom n) (ap Atom e ∙ sym (ap (apply (shown h sets)) (s name ∙ term-Atom name h valid a))) x
 
-  pub read_compound : HasAtomsBelow (length names) h → (p : Contents) (ms : List Reading) (f : AtomId) (args : List Cell) (j : ℕ) → j < length h.compounds → compound_at h j ≡ record { name = f; args = args } → Same h c (cell.Struct j) → ms ≡ (ks ++ Make f (length args) ∷ []) ++ reverse (map Visit args) → VisitsCell names h sets c ks ds p ms ds
+  pub read_compound : HasAtomsBelow (length names) h → (p : Contents) (ms : List ReadTask) (f : AtomId) (args : List Cell) (j : ℕ) → j < length h.compounds → compound_at h j ≡ record { name = f; args = args } → Same h c (cell.Struct j) → ms ≡ (ks ++ Make f (length args) ∷ []) ++ reverse (map Visit args) → VisitsCell names h sets c ks ds p ms ds
   read_compound a p ms f args j l e s m = inr (
     f,
     args,

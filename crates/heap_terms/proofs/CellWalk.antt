@@ -15,11 +15,11 @@ use Rattle.heap_cells.specs.Cells.{Cells, IsOf}
 use Rattle.heap_cells.specs.Terms.{terms_by}
 use Rattle.heap_cells.specs.Atoms.{IsAtomBelow}
 use Rattle.heap_cells.proofs.Lemmas.{head_of, tail_of, none_at_all, both_of, all_front, all_push, all_reverse}
-use Rattle.heap_terms.specs.declared.Reading.{Reading}
-use Rattle.heap_terms.specs.declared.Reading.TheVariants.{Visit, Make}
+use Rattle.heap_terms.specs.declared.ReadTask.{ReadTask}
+use Rattle.heap_terms.specs.declared.ReadTask.TheVariants.{Visit, Make}
 use Rattle.heap_terms.specs.Values.{shown_term}
 use Rattle.heap_terms.specs.Tasks.{visit, make, to_terms, Leaves}
-use Rattle.heap_terms.specs.Reading.{PlacesAtZero, CanRead, VisitsCell, MakesTerm, task_of}
+use Rattle.heap_terms.specs.ReadBack.{PlacesAtZero, CanRead, VisitsCell, MakesTerm, task_of}
 use Rattle.heap_terms.proofs.Stacks.{map_agrees, map_map, Walks, effort, walks_result, result_smaller, walks_parts, parts_smaller, walks_made}
 use Rattle.heap_terms.proofs.Pools.{places_both, all_take, all_drop}
 
@@ -43,17 +43,17 @@ abbrev pub Own : Contents → TermId → Type 0
 Own p t = t.number < length p.entries
 
 -- so far
-pub record IsReading (names : List Name) (h : Cells) (sets : List (List ℕ)) (c : Cell) (before p : Contents) (ks : List Reading) (ds : List TermId) : Type 0 where
+pub record IsReading (names : List Name) (h : Cells) (sets : List (List ℕ)) (c : Cell) (before p : Contents) (ks : List ReadTask) (ds : List TermId) : Type 0 where
   pub tasks : All (CanRead names h) ks
   pub own : All (Own p) ds
-  pub leaves : Walks Reading TermId (task_of names h sets) (pool.term_of p) (shown_term (name_in names) h sets c) ks ds
+  pub leaves : Walks ReadTask TermId (task_of names h sets) (pool.term_of p) (shown_term (name_in names) h sets c) ks ds
   pub extends : Extends before p
   pub kept : KeepsTerms before p
   pub places : PlacesAtZero before p
 
 module _ (names : List Name) (h : Cells) (sets : List (List ℕ)) (c : Cell) (before : Contents) where
-  abbrev pub ahead_of : List Reading → ℕ
-  ahead_of ks = effort Reading TermId (task_of names h sets) (pool.term_of before) (shown_term (name_in names) h sets c) ks
+  abbrev pub ahead_of : List ReadTask → ℕ
+  ahead_of ks = effort ReadTask TermId (task_of names h sets) (pool.term_of before) (shown_term (name_in names) h sets c) ks
 
   more_ids : (p q : Contents) → Extends p q → length p.entries ≤ length q.entries
   more_ids p q x = omega (arith, ap (λ es. length es) x.entries.1, length-append p.entries x.entries.0)
@@ -62,7 +62,7 @@ module _ (names : List Name) (h : Cells) (sets : List (List ℕ)) (c : Cell) (be
   wider p q x ds a = λ k d l. (let o : Own p (get_or ds k d) = a k d l in omega (arith, more_ids p q x))
 
   -- the pool has grown
-  pub grown : (p q : Contents) (ks : List Reading) (ds : List TermId) → Extends p q → KeepsTerms p q → PlacesAtZero p q → IsReading names h sets c before p ks ds → IsReading names h sets c before q ks ds
+  pub grown : (p q : Contents) (ks : List ReadTask) (ds : List TermId) → Extends p q → KeepsTerms p q → PlacesAtZero p q → IsReading names h sets c before p ks ds → IsReading names h sets c before q ks ds
   grown p q ks ds x k z w = record {
     tasks = w.tasks;
     own = wider p q x ds w.own;
@@ -73,7 +73,7 @@ module _ (names : List Name) (h : Cells) (sets : List (List ℕ)) (c : Cell) (be
   }
 
   -- a cell was looked at
-  module _ (p q : Contents) (ks rest ms : List Reading) (ds es : List TermId) (d : Cell) (split : ks ≡ rest ++ Visit d ∷ []) (extends : Extends p q) (kept : KeepsTerms p q) (places : PlacesAtZero p q) (w : IsReading names h sets c before p ks ds) where
+  module _ (p q : Contents) (ks rest ms : List ReadTask) (ds es : List TermId) (d : Cell) (split : ks ≡ rest ++ Visit d ∷ []) (extends : Extends p q) (kept : KeepsTerms p q) (places : PlacesAtZero p q) (w : IsReading names h sets c before p ks ds) where
 
     before_it : All (CanRead names h) rest
     before_it = all_front (CanRead names h) rest (Visit d ∷ []) (subst (All (CanRead names h)) split w.tasks)
@@ -86,13 +86,13 @@ module _ (names : List Name) (h : Cells) (sets : List (List ℕ)) (c : Cell) (be
       record {
         tasks = subst (All (CanRead names h)) (sym e) before_it;
         own = subst (All (Own q)) (sym f) (all_push (Own q) ds t now.own o);
-        leaves = subst (λ js. Walks Reading TermId (task_of names h sets) (pool.term_of q) (shown_term (name_in names) h sets c) js es) (sym e)
-            (walks_result Reading TermId (task_of names h sets) (pool.term_of q) (shown_term (name_in names) h sets c) ks rest (Visit d) (shown_term (name_in names) h sets d) split refl ds es t is f now.leaves);
+        leaves = subst (λ js. Walks ReadTask TermId (task_of names h sets) (pool.term_of q) (shown_term (name_in names) h sets c) js es) (sym e)
+            (walks_result ReadTask TermId (task_of names h sets) (pool.term_of q) (shown_term (name_in names) h sets c) ks rest (Visit d) (shown_term (name_in names) h sets d) split refl ds es t is f now.leaves);
         extends = now.extends;
         kept = now.kept;
         places = now.places;
       },
-      subst (λ js. ahead_of js < ahead_of ks) (sym e) (result_smaller Reading TermId (task_of names h sets) (pool.term_of before) (shown_term (name_in names) h sets c) ks rest (Visit d) (shown_term (name_in names) h sets d) split refl),
+      subst (λ js. ahead_of js < ahead_of ks) (sym e) (result_smaller ReadTask TermId (task_of names h sets) (pool.term_of before) (shown_term (name_in names) h sets c) ks rest (Visit d) (shown_term (name_in names) h sets d) split refl),
     )
     visited (inr (f, args, is, below, o, a, more, e)) =
         let name = name_in names in
@@ -106,13 +106,13 @@ module _ (names : List Name) (h : Cells) (sets : List (List ℕ)) (c : Cell) (be
                 (All-append (CanRead names h) (rest ++ Make f (length args) ∷ []) (reverse (map Visit args)) (all_push (CanRead names h) rest (Make f (length args)) before_it below)
                 (all_reverse (CanRead names h) (map Visit args) (all_map (λ x. IsOf h x × IsAtomBelow (length names) x) (CanRead names h) Visit (λ x y. y) args (both_all (IsOf h) (IsAtomBelow (length names)) args o a))));
             own = subst (All (Own q)) (sym e) now.own;
-            leaves = subst (λ xs. Walks Reading TermId (task_of names h sets) (pool.term_of q) (T c) ms xs) (sym e)
-                (walks_parts Reading TermId (task_of names h sets) (pool.term_of q) (T c) ks rest (Visit d) (Make f (length args)) (map Visit args) ms (name f) ts split top long all more ds now.leaves);
+            leaves = subst (λ xs. Walks ReadTask TermId (task_of names h sets) (pool.term_of q) (T c) ms xs) (sym e)
+                (walks_parts ReadTask TermId (task_of names h sets) (pool.term_of q) (T c) ks rest (Visit d) (Make f (length args)) (map Visit args) ms (name f) ts split top long all more ds now.leaves);
             extends = now.extends;
             kept = now.kept;
             places = now.places;
           },
-          parts_smaller Reading TermId (task_of names h sets) (pool.term_of before) (T c) ks rest (Visit d) (Make f (length args)) (map Visit args) ms (name f) ts split top long all more,
+          parts_smaller ReadTask TermId (task_of names h sets) (pool.term_of before) (T c) ks rest (Visit d) (Make f (length args)) (map Visit args) ms (name f) ts split top long all more,
         )
 
     pub visited_on : VisitsCell names h sets d rest ds q ms es → IsReading names h sets c before q ms es
@@ -122,7 +122,7 @@ module _ (names : List Name) (h : Cells) (sets : List (List ℕ)) (c : Cell) (be
     visited_smaller v = (visited v).1
 
   -- a compound term was made
-  module _ (p q : Contents) (ks rest : List Reading) (ds es : List TermId) (f : AtomId) (n : ℕ) (split : ks ≡ rest ++ Make f n ∷ []) (w : IsReading names h sets c before p ks ds) where
+  module _ (p q : Contents) (ks rest : List ReadTask) (ds es : List TermId) (f : AtomId) (n : ℕ) (split : ks ≡ rest ++ Make f n ∷ []) (w : IsReading names h sets c before p ks ds) where
 
     pub made_on : Extends p q → KeepsTerms p q → PlacesAtZero p q → MakesTerm names f n p ds q es → IsReading names h sets c before q rest es
     made_on x k z (t, o, is, e) =
@@ -133,7 +133,7 @@ module _ (names : List Name) (h : Cells) (sets : List (List ℕ)) (c : Cell) (be
         record {
           tasks = all_front (CanRead names h) rest (Make f n ∷ []) (subst (All (CanRead names h)) split w.tasks);
           own = subst (All (Own q)) (sym e) (all_push (Own q) (take (length ds - n) ds) t (all_take (Own q) (length ds - n) ds now.own) o);
-          leaves = walks_made Reading TermId (task_of names h sets) (pool.term_of q) (shown_term (name_in names) h sets c) ks rest (Make f n) (name_in names f) n split refl ds es t (is ∙ ap (Comp (name_in names f)) same) e now.leaves;
+          leaves = walks_made ReadTask TermId (task_of names h sets) (pool.term_of q) (shown_term (name_in names) h sets c) ks rest (Make f n) (name_in names f) n split refl ds es t (is ∙ ap (Comp (name_in names f)) same) e now.leaves;
           extends = now.extends;
           kept = now.kept;
           places = now.places;

@@ -10,7 +10,7 @@ use Rattle.term_pool.specs.Contents.{Shape, comp, Entry, Contents, name_in, plac
 use Rattle.term_pool.specs.Terms.{term_of, terms_by, shape_term, KeepsTerms, Extends}
 use Rattle.term_pool.proofs.Lemmas.{terms_by_same, place_kept, slice_get_seam}
 use Rattle.heap_cells.proofs.Lemmas.{head_of, tail_of, both_of}
-use Rattle.heap_terms.specs.Reading.{PlacesAtZero}
+use Rattle.heap_terms.specs.ReadBack.{PlacesAtZero}
 
 pub places_same : (old new : Contents) → new.entries ≡ old.entries → PlacesAtZero old new
 places_same old new e t l m = absurd (omega (arith, ap (λ (es : List Entry). length es) e))

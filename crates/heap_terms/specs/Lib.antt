@@ -1,3 +1,3 @@
 pub mod Tasks
-pub mod Reading
+pub mod ReadBack
 pub mod Values

@@ -10,9 +10,9 @@ ghost use Rattle.term_pool.specs.Terms.{term_of as pool_term, shape_term, Extend
 ghost use Rattle.term_pool.specs.Valid.{IsWithin, shape_of};
 ghost use Rattle.heap_cells.specs.Cells.{IsOf};
 ghost use Rattle.heap_cells.specs.Atoms.{HasAtomsBelow, IsAtomBelow};
-ghost use Rattle.heap_terms.specs.declared.Reading.TheVariants as reading;
+ghost use Rattle.heap_terms.specs.declared.ReadTask.TheVariants as reading;
 ghost use Rattle.heap_terms.specs.Values.{only, value_of, shown_term, LinksBelow};
-ghost use Rattle.heap_terms.specs.Reading.{VisitsCell, AddsTerm, MakesTerm, PlacesAtZero};
+ghost use Rattle.heap_terms.specs.ReadBack.{VisitsCell, AddsTerm, MakesTerm, PlacesAtZero};
 
 use domain_ranges::{Domain, View};
 use fd_language::NoMemory;
@@ -22,18 +22,18 @@ use term_pool::{AtomId, Node, Pool, TermId};
 
 /// What is still to be done for a term: a cell to be looked at, or a compound term to be made of the last terms.
 #[derive(Clone, Copy)]
-enum Reading {
+enum ReadTask {
     Visit(Cell),
     Make(AtomId, usize),
 }
 
 /// Puts cells to be looked at behind the tasks, so that the first of them is the next. The error is want of memory.
-fn visit_cells(tasks: &mut Vec<Reading>, cells: &[Cell]) -> Result<(), AllocError>
+fn visit_cells(tasks: &mut Vec<ReadTask>, cells: &[Cell]) -> Result<(), AllocError>
     ensures { OnOk result (tasks.new.items
         ≡ tasks.old.items ++ reverse (map reading.Visit cells.now)) }
 {
     for i in (0..cells.len()).rev() {
-        tasks.push(Reading::Visit(cells[i]))?;
+        tasks.push(ReadTask::Visit(cells[i]))?;
     }
     Ok(())
 }
@@ -87,7 +87,7 @@ fn visit_cell<V: View>(
     c: Cell,
     view: &V,
     pool: &mut Pool,
-    tasks: &mut Vec<Reading>,
+    tasks: &mut Vec<ReadTask>,
     done: &mut Vec<TermId>,
 ) -> Result<(), NoMemory>
     requires own { IsOf heap.now.now c }
@@ -109,7 +109,7 @@ fn visit_cell<V: View>(
             add_leaf(pool, Node::Atom(a), done)
         }
         Seen::Struct(f, args) => {
-            tasks.push(Reading::Make(f, args.len()))?;
+            tasks.push(ReadTask::Make(f, args.len()))?;
             visit_cells(tasks, args)?;
             Ok(())
         }
@@ -166,13 +166,13 @@ pub fn read_back<V: View>(
 {
     let mut tasks = Vec::new(alloc);
     let mut done = Vec::new(alloc);
-    tasks.push(Reading::Visit(c))?;
+    tasks.push(ReadTask::Visit(c))?;
     while let Some(task) = tasks.pop() {
         match task {
-            Reading::Visit(next) => {
+            ReadTask::Visit(next) => {
                 visit_cell(heap, from, next, view, pool, &mut tasks, &mut done)?
             }
-            Reading::Make(f, count) => make_term(from, f, count, pool, &mut done)?,
+            ReadTask::Make(f, count) => make_term(from, f, count, pool, &mut done)?,
         }
     }
     Ok(done[0])

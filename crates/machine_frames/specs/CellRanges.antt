@@ -17,7 +17,7 @@ use Rattle.heap_cells.specs.Cells.{Cells, IsOf}
 use Rattle.heap_cells.specs.Terms.{Naming, term_of}
 use Rattle.machine_relation.specs.Store.{Touch, Value, Same, touched}
 use Rattle.machine_frames.specs.Frames.{link_in}
-use Rattle.machine_frames.specs.Reading.{read_term}
+use Rattle.machine_frames.specs.SeenHeap.{read_term}
 
 -- each variable of the list as its cell shows it by the store's sets
 abbrev pub slot_terms : Naming → Cells → Family → List ℕ → List Cell → Substitution

@@ -1,8 +1,8 @@
 pub mod Frames
 pub mod Environments
-pub mod Walking
+pub mod FittingClauses
 pub mod Naming
-pub mod Reading
+pub mod SeenHeap
 pub mod Posting
 pub mod CellRanges
 pub mod Laws

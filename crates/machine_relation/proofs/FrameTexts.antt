@@ -13,7 +13,7 @@ use Rattle.fd_language.specs.Family.{Family, has}
 use Rattle.fd_language.specs.Range.{Indexical}
 use Rattle.fd_model.specs.Closed.{constrained}
 use Rattle.fd_model.specs.Seen.{IsConsistent, IsView, seen, set_at, by_set}
-use Rattle.fd_language.specs.Writing.{Mode, Quoted, Plain, Spelling, term_text}
+use Rattle.fd_language.specs.Writing.{Mode, Quoted, Plain, TermText, term_text}
 use Rattle.fd_language.specs.Variables.{variables_of, variables_of_all, distinct}
 use Rattle.fd_model.specs.Lines.{place_in, open_part, open_text, as_terms, joined, equals_text, line_of, written_text}
 use Rattle.fd_model.specs.Constraining.{arguments, expand}
@@ -105,7 +105,7 @@ module _ (M : ℕ) (f : Frame) (es : List Equation) (ps : List Indexical) (P : �
     pub text_same : (mode : Mode) (limit : ℕ) (t : Term) → ((y : ℕ) → has (variables_of t) y ≡ true → has (variables_of_all ts) y ≡ true)
         → term_text mode (cell_text f T (apply_all look ts)) limit (apply look t) ≡ term_text mode (open_text s D (constrained ps) ts) limit t
     text_same mode limit t i =
-        ap (λ (x : Spelling). x.at limit) (spelled_same look (open_text s D (constrained ps) ts) (cell_text f T (apply_all look ts)) mode t (λ y k. (cell y, (pair y (i y k)).0, open_same y (i y k))))
+        ap (λ (x : TermText). x.at limit) (spelled_same look (open_text s D (constrained ps) ts) (cell_text f T (apply_all look ts)) mode t (λ y k. (cell y, (pair y (i y k)).0, open_same y (i y k))))
 
   -- a written term
   pub written_same : (t : Term) → Of P t → term_text Plain (cell_text f T (term (apply look t) no_terms)) 1200 (apply look t) ≡ written_text (constrained ps) s D (sees t)

@@ -114,10 +114,3 @@ more es ds P h look new st b g cells = record {
       (old.0, λ x l. on_terms (applied_each look ds) new old.0 g (unify_applied old.0 look u P ds old.1 b both.0) (look x) ∙ old.1 x l);
   cells = λ x l. still_of (λ c. c < h) (λ c. c < h) new cells (look x) (st.cells x l);
 }
-
--- Where these have no unifier, all of them have none
-pub no_more : (es ds : List Equation) (P : ℕ → Type 0) (h : ℕ) (look : Substitution) → StandsFor es P h look → EquationsOf P ds → ((r : Substitution) → Unifies r (applied_each look ds) → ⊥) → (u : Substitution) → Unifies u (ds ++ es) → ⊥
-no_more es ds P h look st b none u k =
-    let both = split_both u ds es k in
-    let old = st.through u both.1 in
-    none old.0 (unify_applied old.0 look u P ds old.1 b both.0)

@@ -1,8 +1,7 @@
 -- The steps of a frame that stands for equations and ranges.
-use Rattle.std.proofs.Common.{◌≡◌, ℕ, suc, ◌<◌, ◌≤◌, true, ℤ, pos, List, [], ◌∷◌, ◌++◌, Option, Some, refl, ap, sym, ◌∙◌, subst, inl, inr, arith}
-use Rattle.std.proofs.lemmas.Bool.{true≢false}
-use Rattle.fd_language.specs.Term.{Term, Var, Int, Atom, Comp, Substitution, apply, apply_all}
-use Rattle.fd_language.specs.Unifier.{Equation, IsMostGeneral, Unifies}
+use Rattle.std.proofs.Common.{◌≡◌, ℕ, suc, ◌<◌, ◌≤◌, true, ℤ, pos, List, [], ◌∷◌, ◌++◌, Option, Some, ap, ◌∙◌, subst, inl, inr, arith}
+use Rattle.fd_language.specs.Term.{Var, Substitution, apply}
+use Rattle.fd_language.specs.Unifier.{Equation, Unifies}
 use Rattle.fd_language.specs.Family.{Family, has, IsSubset}
 use Rattle.fd_language.specs.Range.{Indexical, set_of}
 use Rattle.fd_model.specs.Closed.{constrained}
@@ -14,7 +13,7 @@ use Rattle.machine_relation.specs.Heap.{after, applied_each, EquationsOf, Below}
 use Rattle.machine_relation.specs.Models.{HasModel, numbers}
 use Rattle.machine_relation.specs.Store.{Touch, posts, IsUnified, IsStored, ArePosted}
 use Rattle.machine_relation.specs.Held.{Frame, IsHeld, unified_frame}
-use Rattle.machine_relation.proofs.Growing.{more, no_more, below_both, more_each}
+use Rattle.machine_relation.proofs.Growing.{more, below_both, more_each}
 use Rattle.machine_relation.proofs.Models.{weaker, sure_grown, with_numbers, without_numbers, number_for}
 use Rattle.machine_relation.proofs.Touching.{unified, Holds}
 use Rattle.machine_relation.proofs.Posting.{posted}
@@ -49,14 +48,8 @@ module _ (M : ℕ) (f : Frame) (es : List Equation) (ps : List Indexical) (P : �
   pub held_consistent : HasModel M f.store → IsConsistent M es ps
   held_consistent m = consistent_from M es ps (λ v. m.0 (s.slot v)) (without_numbers M es ps s.fixed (λ v. m.0 (s.slot v)) (s.stored.down m.0 m.1))
 
-  -- the store has none: neither has the branch
-  pub no_model : ((T : Family) → IsModel M [] f.store T → ⊥) → (S : Family) → IsModel M es ps S → ⊥
-  no_model none S m = let t = s.stored.up S (with_numbers M es ps s.fixed S s.sure m) in none t.0 t.1
-
   -- new equations
   module _ (ds : List Equation) (below : EquationsOf P ds) where
-    grown_model : (S : Family) → IsModel M (ds ++ es) ps S → IsModel M (ds ++ (numbers s.fixed ++ es)) ps S
-    grown_model S m = other_model M (numbers s.fixed ++ (ds ++ es)) (ds ++ (numbers s.fixed ++ es)) ps S (λ u. swapped u es (numbers s.fixed) ds) (with_numbers M (ds ++ es) ps s.fixed S (sure_grown M ds es [] ps s.fixed s.sure) m)
 
     -- they have a unifier on the heap, and the touches are posted
     pub held_unify : (new : Substitution) (link' : ℕ → Option ℕ) (ts : List Touch) → IsUnified f.cells f.link (applied_each look ds) new link' ts → ((c : ℕ) → f.cells ≤ c → new c ≡ Var c) → IsHeld M (unified_frame f new link' ts) (ds ++ es) ps P (after new look)
@@ -72,29 +65,6 @@ module _ (M : ℕ) (f : Frame) (es : List Equation) (ps : List Indexical) (P : �
               (below_both P (numbers s.fixed) (ds ++ es) later.0 (below_both P ds es first.0 later.1)) one;
           sure = sure_grown M ds es [] ps s.fixed s.sure;
         }
-
-    -- they have none
-    pub no_unifier : ((r : Substitution) → Unifies r (applied_each look ds) → ⊥) → (S : Family) → IsModel M (ds ++ es) ps S → ⊥
-    no_unifier none S m = let here = grown_model S m in no_more (numbers s.fixed ++ es) ds P f.cells look s.stored.heap below none here.unifier here.general.unifies
-
-    -- a linked cell would be an atom or a compound term
-    pub no_atom : (new : Substitution) → IsMostGeneral (applied_each look ds) new → ((c : ℕ) → c < f.cells → Below f.cells (new c)) → (c k : ℕ) (t : Term) → f.link c ≡ Some k → new c ≡ t → ((x : ℕ) → t ≡ Var x → ⊥) → ((z : ℤ) → t ≡ Int z → ⊥)
-        → (S : Family) → IsModel M (ds ++ es) ps S → ⊥
-    no_atom new g cells c k t e is no_var no_int S m =
-        let here = grown_model S m in
-        let heap = more (numbers s.fixed ++ es) ds P f.cells look new s.stored.heap below g cells in
-        let back = heap.through here.unifier here.general.unifies in
-        let v = s.stored.from c k e in
-        by_kind v.0 back.0 here v.1 (sym (back.1 v.0 (s.stored.used v.0 v.1)) ∙ ap (λ r. apply back.0 (apply new r)) v.2 ∙ ap (apply back.0) is) t refl
-      where
-        empty : (xs : List ℕ) (i : ℕ) → xs ≡ [] → has xs i ≡ true → ⊥
-        empty xs i h j = true≢false (sym (subst (λ l. has l i ≡ true) h j))
-
-        by_kind : (v : ℕ) (r : Substitution) (h : IsModel M (ds ++ (numbers s.fixed ++ es)) ps S) → has (constrained ps) v ≡ true → h.unifier v ≡ apply r t → (t' : Term) → t ≡ t' → ⊥
-        by_kind v r h con at (Var x) i = no_var x i
-        by_kind v r h con at (Int z) i = no_int z i
-        by_kind v r h con at (Atom a) i = let w = h.full v con in empty (S v) w.0 (h.closed.atoms v a con (at ∙ ap (apply r) i)) w.1
-        by_kind v r h con at (Comp a us) i = let w = h.full v con in empty (S v) w.0 (h.closed.compounds v a (apply_all r us) con (at ∙ ap (apply r) i)) w.1
 
   -- the machine binds a cell whose set has one value, and nothing is posted
   pub held_fix : (c k w : ℕ) → f.link c ≡ Some k → ((T : Family) → IsModel M [] f.store T → T k ≡ w ∷ []) → IsHeld M (record { heap = after (number_for c (pos w)) f.heap; cells = f.cells; link = without_cell c f.link; store = f.store }) es ps P (after (number_for c (pos w)) look)

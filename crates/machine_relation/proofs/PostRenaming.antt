@@ -1,24 +1,15 @@
 -- Rows of goals `T in r` under other names of their variables.
-use Rattle.std.proofs.Common.{◌≡◌, ℕ, suc, ◌+◌, ◌≤◌, Bool, true, false, cond, not, ◌||◌, ◌&&◌, ◌==◌, ℤ, List, [], ◌∷◌, ◌++◌, length, map, Option, Some, None, refl, ap, sym, ◌∙◌, inl, inr, arith, eqb-true, eq-eqb, Ok}
+use Rattle.std.proofs.Common.{◌≡◌, ℕ, ◌+◌, ◌≤◌, Bool, true, false, cond, ◌||◌, ◌&&◌, ◌==◌, ℤ, List, [], ◌∷◌, ◌++◌, map, refl, ap, sym, ◌∙◌, inl, inr, eqb-true, eq-eqb}
 use Rattle.std.proofs.lemmas.Bool.{cases_Bool, true≢false}
 use Rattle.std.proofs.lemmas.List.{map-append}
-use Rattle.fd_model.specs.declared.kinds.QueryFault.{QueryFault}
-use Rattle.fd_model.specs.declared.kinds.QueryFault.TheVariants.{Parameter}
 use Rattle.fd_language.specs.declared.range_node.Need.{Need}
 use Rattle.fd_language.specs.declared.range_node.Need.TheVariants.{Divisor}
-use Rattle.fd_language.specs.Term.{Term, Var, Int, Atom, Comp, Substitution}
-use Rattle.fd_language.specs.Family.{has}
 use Rattle.fd_language.specs.Range.{Range, Span, One, Dom, Union, Inter, Outside, Plus, Minus, Times, Over, Expr, Number, Infinity, Param, Min, Max, Val, Add, Sub, Mul, DivDown, DivUp}
-use Rattle.fd_language.specs.RangeRenaming.{rename_expr, rename_range, rename_indexical}
+use Rattle.fd_language.specs.RangeRenaming.{rename_expr, rename_range}
 use Rattle.fd_language.specs.Check.{fill, fill_range}
-use Rattle.fd_language.specs.Needs.{is_literal, quotient_asks, expr_asks, over_asks, asks, stronger, strongest, need_of, meets}
-use Rattle.fd_language.specs.Places.{Place, one_place, expr_places, range_places}
-use Rattle.fd_model.specs.Posting.{offence_at, or_later, first_offence, is_integer, integers_at, slot, integer_of}
-use Rattle.fd_model.specs.Renaming.{rename_term}
-use Rattle.fd_model.specs.LinearRows.{Expansion}
+use Rattle.fd_language.specs.Needs.{is_literal, quotient_asks, expr_asks, over_asks, asks, stronger, strongest, need_of}
+use Rattle.fd_language.specs.Places.{Place, expr_places, range_places}
 use Rattle.fd_language.proofs.Lemmas.{two}
-use Rattle.machine_relation.specs.Rows.{rename_products, rename_expansion, rename_row, slot_numbers, unless_fault, post_row_at, post_row}
-use Rattle.machine_relation.proofs.Renaming.{range_twice}
 
 -- functions that agree everywhere are one
 pub functions : {A B : Type 0} {f g : A → B} → ((x : A) → f x ≡ g x) → f ≡ g
@@ -37,10 +28,6 @@ module _ (g : ℕ → ℕ) (apart : (v w : ℕ) → g v ≡ g w → v ≡ w) whe
     | inl e ↦ eq-eqb (g v) (g w) (ap g (eqb-true v w e)) ∙ sym e
     | inr e ↦ elim (cases_Bool (g v == g w)) [ inl k ↦ absurd (true≢false (sym (eq-eqb v w (apart v w (eqb-true (g v) (g w) k))) ∙ e)) | inr k ↦ k ∙ sym e ]
   ]
-
-  has_test : (ys : List ℕ) (v : ℕ) → has (map g ys) (g v) ≡ has ys v
-  has_test [] v = refl
-  has_test (y ∷ ys) v = two (λ a b. a || b) (same_test y v) (has_test ys v)
 
   -- places
   both_places : (xs ys : List Place) {xs' ys' : List Place} → xs' ≡ map (rename_place g) xs → ys' ≡ map (rename_place g) ys → xs' ++ ys' ≡ map (rename_place g) (xs ++ ys)
@@ -186,81 +173,3 @@ module _ (g : ℕ → ℕ) (apart : (v w : ℕ) → g v ≡ g w → v ≡ w) whe
     range_filled (Minus r c) = two Minus (range_filled r) (fill_renamed c)
     range_filled (Times r c) = two Times (range_filled r) (fill_renamed c)
     range_filled (Over r c) = two Over (range_filled r) (fill_renamed c)
-
-  module _ (heap : Substitution) where
-    abbrev look : Substitution
-    look v = heap (g v)
-
-    first_renamed : (need' need : ℕ → Need) → ((x : ℕ) → need' (g x) ≡ need x) → (ps : List Place) → first_offence need' heap (map (rename_place g) ps) ≡ first_offence need look ps
-    first_renamed need' need h [] = refl
-    first_renamed need' need h (p ∷ ps) = two or_later (one (look p.variable)) (first_renamed need' need h ps) where
-      one : (t : Term) → offence_at need' (rename_place g p) t ≡ offence_at need p t
-      one (Var y) = refl
-      one (Int z) = ap (λ n. cond (not p.parameter || meets n z) None (Some Parameter)) (h p.variable)
-      one (Atom a) = refl
-      one (Comp f ts) = refl
-
-    integers_renamed : (ps : List Place) (ys : List ℕ) → integers_at heap (map (rename_place g) ps) (map g ys) ≡ map g (integers_at look ps ys)
-    integers_renamed [] ys = refl
-    integers_renamed (p ∷ ps) ys =
-        two (λ b l. cond (p.parameter || (not (is_integer (look p.variable)) || b)) (integers_at heap (map (rename_place g) ps) (map g ys)) (integers_at heap (map (rename_place g) ps) l)) (has_test ys p.variable) (sym (map-append g ys (p.variable ∷ [])))
-        ∙ pushed (p.parameter || (not (is_integer (look p.variable)) || has ys p.variable)) (integers_at look ps ys) (integers_at look ps (ys ++ p.variable ∷ [])) (integers_renamed ps ys) (integers_renamed ps (ys ++ p.variable ∷ []))
-      where
-        pushed : (b : Bool) (xs zs : List ℕ) {xs' zs' : List ℕ} → xs' ≡ map g xs → zs' ≡ map g zs → cond b xs' zs' ≡ map g (cond b xs zs)
-        pushed true xs zs e k = e
-        pushed false xs zs e k = k
-
-    -- the fresh variables of both sides are the next ones
-    module _ (n : ℕ) (follows : (m : ℕ) → n ≤ m → g (suc m) ≡ suc (g m)) where
-      slot_renamed : (m : ℕ) → n ≤ m → (ys : List ℕ) (y : ℕ) → slot (g m) (map g ys) (g y) ≡ g (slot m ys y)
-      slot_renamed m l [] y = refl
-      slot_renamed m l (x ∷ xs) y =
-          two (λ b s. cond b (g m) (slot s (map g xs) (g y))) (same_test x y) (sym (follows m l))
-          ∙ pushed (x == y) (slot_renamed (suc m) (omega (arith, l)) xs y)
-        where
-          pushed : (b : Bool) {s s' : ℕ} → s' ≡ g s → cond b (g m) s' ≡ g (cond b m s)
-          pushed true e = refl
-          pushed false e = e
-
-      numbers_renamed : (m : ℕ) → n ≤ m → (ys : List ℕ) → slot_numbers heap (g m) (map g ys) ≡ rename_products g (slot_numbers look m ys)
-      numbers_renamed m l [] = refl
-      numbers_renamed m l (x ∷ xs) = ap (λ t. (g m, integer_of (look x)) ∷ t) (ap (λ s. slot_numbers heap s (map g xs)) (sym (follows m l)) ∙ numbers_renamed (suc m) (omega (arith, l)) xs)
-
-      after_all : (m : ℕ) → n ≤ m → (ys : List ℕ) → g m + length (map g ys) ≡ g (m + length ys)
-      after_all m l [] = (let a : g m + 0 ≡ g m = omega arith in let b : m ≡ m + 0 = omega arith in a ∙ ap g b)
-      after_all m l (x ∷ xs) =
-          let a : g m + suc (length (map g xs)) ≡ suc (g m) + length (map g xs) = omega arith in
-          let b : suc m + length xs ≡ m + suc (length xs) = omega arith in
-          a ∙ ap (λ s. s + length (map g xs)) (sym (follows m l)) ∙ after_all (suc m) (omega (arith, l)) xs ∙ ap g b
-
-      products_both : (xs ys : List (ℕ × ℤ)) → rename_products g xs ++ rename_products g ys ≡ rename_products g (xs ++ ys)
-      products_both [] ys = refl
-      products_both (x ∷ xs) ys = ap (λ l. (g x.0, x.1) ∷ l) (products_both xs ys)
-
-      unless_renamed : (o : Option QueryFault) (y : Expansion) {x : Expansion} → x ≡ rename_expansion g y → unless_fault o x ≡ rename_row g (unless_fault o y)
-      unless_renamed (Some f) y e = refl
-      unless_renamed None y e = ap Ok e
-
-      at_renamed : (m : ℕ) → n ≤ m → (ps : List Place) (x : ℕ) (es : List (ℕ × ℤ)) (r : Range) → post_row_at heap (map (rename_place g) ps) (g x) (rename_products g es) (g m) (rename_range g r) ≡ rename_row g (post_row_at look ps x es m r)
-      at_renamed m l ps x es r =
-          let ys = integers_at look ps [] in
-          let filled = fill_range (λ y. integer_of (look y)) r in
-          let equated = two (λ a b. a ++ b) {a = rename_products g es} refl (numbers_renamed m l ys) ∙ products_both es (slot_numbers look m ys) in
-          let range : rename_range (slot (g m) (map g ys)) (fill_range (λ y. integer_of (heap y)) (rename_range g r)) ≡ rename_range g (rename_range (slot m ys) filled) =
-          ap (rename_range (slot (g m) (map g ys))) (range_filled (λ y. integer_of (heap y)) r) ∙ range_twice (slot (g m) (map g ys)) g filled
-          ∙ ap (λ s. rename_range s filled) (functions (slot_renamed m l ys)) ∙ sym (range_twice g (slot m ys) filled) in
-          let target = slot_renamed m l ys x in
-          let row : (zs : List ℕ) → Expansion = λ zs. record { equated = rename_products g es ++ slot_numbers heap (g m) zs; ranges = record { target = slot (g m) zs (g x); range = rename_range (slot (g m) zs) (fill_range (λ y. integer_of (heap y)) (rename_range g r)) } ∷ []; fresh = g m + length zs } in
-          two (λ o zs. unless_fault o (row zs)) (first_renamed (need_of (rename_range g r)) (need_of r) (need_renamed r) ps) (integers_renamed ps [])
-          ∙ unless_renamed (first_offence (need_of r) look ps) (record { equated = es ++ slot_numbers look m ys; ranges = record { target = slot m ys x; range = rename_range (slot m ys) filled } ∷ []; fresh = m + length ys })
-          (two (λ e q. record { equated = e; ranges = q ∷ []; fresh = g m + length (map g ys) }) equated (two (λ t q. record { target = t; range = q }) target range)
-          ∙ ap (λ k. record { equated = rename_products g (es ++ slot_numbers look m ys); ranges = rename_indexical g (record { target = slot m ys x; range = rename_range (slot m ys) filled }) ∷ []; fresh = k }) (after_all m l ys))
-
-      -- a renamed goal's row is the row, renamed
-      pub post_renamed : (t : Term) (r : Range) → post_row heap (rename_term g t) (rename_range g r) (g n) ≡ rename_row g (post_row look t r n)
-      post_renamed (Var v) r = ap (λ ps. post_row_at heap (one_place (g v) false ++ ps) (g v) [] (g n) (rename_range g r)) (places_renamed r) ∙ at_renamed n (omega arith) (one_place v false ++ range_places r) v [] r
-      post_renamed (Int z) r =
-          two (λ ps m. post_row_at heap ps (g n) ((g n, z) ∷ []) m (rename_range g r)) (places_renamed r) (sym (follows n (omega arith)))
-          ∙ at_renamed (suc n) (omega arith) (range_places r) n ((n, z) ∷ []) r
-      post_renamed (Atom a) r = refl
-      post_renamed (Comp f ts) r = refl

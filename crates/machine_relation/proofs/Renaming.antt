@@ -74,10 +74,6 @@ module _ (f g : ℕ → ℕ) where
     goals_twice no_goals = refl
     goals_twice (goal a as') = two goal (goal_twice a) (goals_twice as')
 
-  pub list_twice : (gs : List Goal) → map (rename_goal f) (map (rename_goal g) gs) ≡ map (rename_goal (λ x. f (g x))) gs
-  list_twice [] = refl
-  list_twice (a ∷ gs) = two (λ x y. x ∷ y) (goal_twice a) (list_twice gs)
-
 -- renamings that agree on the variables
 module _ (n : ℕ) (f g : ℕ → ℕ) (h : (x : ℕ) → x < n → f x ≡ g x) where
   pub term_agree : (t : Term) → TermBelow n t → rename_term f t ≡ rename_term g t
@@ -130,7 +126,3 @@ module _ (n : ℕ) (f g : ℕ → ℕ) (h : (x : ℕ) → x < n → f x ≡ g x)
   pub list_agree : (as' : List Goal) → EachBelow n as' → map (rename_goal f) as' ≡ map (rename_goal g) as'
   list_agree [] b = refl
   list_agree (a ∷ as') b = two (λ x y. x ∷ y) (goal_agree a b.0) (list_agree as' b.1)
-
-pub list_both : (f : Goal → Goal) (xs ys : List Goal) → map f (xs ++ ys) ≡ map f xs ++ map f ys
-list_both f [] ys = refl
-list_both f (x ∷ xs) ys = ap (λ l. f x ∷ l) (list_both f xs ys)

@@ -2,15 +2,11 @@
 use Rattle.std.proofs.Common.{◌≡◌, ℕ, ◌<◌, ◌≤◌, ◌≢◌, ℤ, List, [], ◌∷◌, Option, Some, None, ap, sym, ◌∙◌, subst}
 use Rattle.fd_language.specs.Family.{Family, IsInside}
 use Rattle.fd_model.specs.Models.{IsModel}
-use Rattle.fd_model.specs.Goal.{Goal, Query, Branch}
+use Rattle.fd_model.specs.Goal.{Query}
 use Rattle.machine_relation.specs.Held.{Frame, IsAtRest, link_in, link_at, fixed_frame}
 
 none_some : (k : ℕ) → None ≡ Some k → ⊥
 none_some k e = cc
-
-module _ (f : Frame) (G : Family) where
-
-  module _ (M : ℕ) (q : Query) (work : List Goal) (b : Branch) (sole : (c k w : ℕ) → f.link c ≡ Some k → G k ≡ w ∷ [] → (T : Family) → IsModel M [] f.store T → T k ≡ w ∷ []) where
 
 module _ (M : ℕ) (q : Query) (f : Frame) (G : Family) (most : (R : Family) → IsModel M [] f.store R → IsInside R G) where
 

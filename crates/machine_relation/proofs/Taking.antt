@@ -1,31 +1,25 @@
 -- The steps of a machine that walks over goals, where what a goal gives depends on what is seen; answers; and a spent budget.
-use Rattle.std.proofs.Common.{◌≡◌, ℕ, suc, ◌+◌, ◌<◌, ◌≤◌, ℤ, List, [], ◌∷◌, ◌++◌, Option, Some, map, refl, ap, sym, ◌∙◌, subst}
-use Rattle.fd_language.specs.Term.{Term, Var, Int, Substitution}
-use Rattle.fd_language.specs.Unifier.{Equation, IsMostGeneral, Unifies}
+use Rattle.std.proofs.Common.{◌≡◌, ℕ, suc, ◌+◌, ◌<◌, ◌≤◌, ℤ, List, [], ◌∷◌, ◌++◌, Option, map, refl, ap, sym, ◌∙◌, subst}
+use Rattle.fd_language.specs.Term.{Term, Var, Substitution}
+use Rattle.fd_language.specs.Unifier.{Equation}
 use Rattle.fd_language.specs.Family.{Family}
 use Rattle.fd_language.specs.Range.{Range, Indexical}
 use Rattle.fd_model.specs.Goal.{Goal, True, Fail, Unify, Post, Constrain, Label, Call, Either, Builtin, Program, Query, Branch, Event}
 use Rattle.fd_language.specs.RangeRenaming.{rename_range}
 use Rattle.fd_model.specs.Renaming.{rename_term, rename_goal}
-use Rattle.fd_model.specs.Seen.{IsView}
-use Rattle.fd_model.specs.Posting.{post, Found, posts}
-use Rattle.fd_model.specs.Children.{with_equations, with_range, by_post, look_in, by_value}
-use Rattle.fd_model.specs.Lines.{says}
+use Rattle.fd_model.specs.Children.{with_equations, by_value}
 use Rattle.fd_language.specs.Variables.{TermBelow}
 use Rattle.fd_model.specs.Sound.{IsRunnableProgram, EachBelow, RangeBelow}
-use Rattle.fd_model.specs.Models.{IsModel}
-use Rattle.machine_relation.specs.Heap.{applied_each, EquationsOf, Below}
+use Rattle.machine_relation.specs.Heap.{applied_each, EquationsOf}
 use Rattle.machine_relation.specs.Models.{HasModel}
-use Rattle.machine_relation.specs.Store.{Touch, posts as touch_posts, IsUnified, ArePosted}
-use Rattle.machine_relation.specs.Ahead.{offered, Spends}
+use Rattle.machine_relation.specs.Store.{Touch, IsUnified, ArePosted}
+use Rattle.machine_relation.specs.Ahead.{Spends}
 use Rattle.machine_relation.specs.Held.{Frame, IsAtRest, unified_frame}
 use Rattle.machine_relation.specs.Machine.{IsAt, values, Choice, Waits, Walks, Returns}
 use Rattle.machine_relation.proofs.Cells.{place_from, more_cells, more_fresh, at_more}
-use Rattle.machine_relation.proofs.Steps.{GivesAll, Speaks, live_one, live_gone, live_choice}
+use Rattle.machine_relation.proofs.Steps.{GivesAll, Speaks, live_one, live_choice}
 use Rattle.machine_relation.proofs.Holding.{held_posts, held_unify}
-use Rattle.machine_relation.proofs.Views.{view_kind}
-use Rattle.machine_relation.proofs.PostGoals.{post_same}
-use Rattle.machine_relation.proofs.Walking.{renamed_each, applied_renamed, gone_by, at_consistent, at_no_model, at_no_unifier, at_no_atom, at_unify, IsFront, front_goal}
+use Rattle.machine_relation.proofs.Walking.{renamed_each, applied_renamed, at_consistent, at_unify, IsFront, front_goal}
 
 -- More ranges with fresh variables: new cells for these, the ranges on open cells, and then the equations that give fresh variables their integers.
 module _ (M : ℕ) (q : Query) (work : List Goal) (f : Frame) (b : Branch) (s : IsAt M q work f b) (j : ℕ) where
@@ -64,9 +58,6 @@ is_post f (Builtin c t) l x e = absurd (cc)
 
 module _ (M : ℕ) (prog : Program) (q : Query) (f : Frame) (cs : List Choice) (es : List Event) (r : ℕ) where
 
-  -- no goal is left: the last allowed answer, or one with more to come
-  module _ (n : ℕ) where
-
   module _ (runnable : IsRunnableProgram M prog) (n : ℕ) (k : Option ℕ) (g : Goal) (work : List Goal) (m : Walks M prog q (g ∷ work) f cs (suc n) k es r) where
     pub front : IsFront g work m.here.place m.branch
     front = front_goal M q g work f m.branch m.here
@@ -75,10 +66,6 @@ module _ (M : ℕ) (prog : Program) (q : Query) (f : Frame) (cs : List Choice) (
     pub walk_kid : (kid : Branch) (said : List Event) (work' : List Goal) (f' : Frame) → GivesAll M prog q Choice (Waits M q) m.branch front.head front.rest (kid ∷ []) → Speaks M prog q Choice (Waits M q) m.branch front.head said → IsAt M q work' f' kid → HasModel M f'.store → Spends (Walks M prog q work' f' cs n k) said es r
     walk_kid kid said work' f' gives speaks there model =
         live_one M prog q Choice (Waits M q) (IsAt M q (g ∷ work) f) cs k es r runnable n m front.head front.rest front.goals (IsAt M q work' f') kid said gives speaks there (at_consistent M q work' f' kid there model)
-
-    -- it has no model
-    pub walk_gone : (kid : Branch) (said : List Event) → GivesAll M prog q Choice (Waits M q) m.branch front.head front.rest (kid ∷ []) → Speaks M prog q Choice (Waits M q) m.branch front.head said → ((S : Family) → IsModel M kid.equations kid.posted S → ⊥) → Spends (Returns M prog q cs n k) said es r
-    walk_gone kid said gives speaks none = live_gone M prog q Choice (Waits M q) (IsAt M q (g ∷ work) f) cs k es r runnable n m front.head front.rest front.goals kid said gives speaks (gone_by M kid none)
 
     -- one child with new equations ds
     module _ (ds : List Equation) (said : List Event) (below : EquationsOf (λ v. v < m.branch.fresh) ds)
@@ -91,22 +78,6 @@ module _ (M : ℕ) (prog : Program) (q : Query) (f : Frame) (cs : List Choice) (
 
       there : (new : Substitution) (link' : ℕ → Option ℕ) (ts : List Touch) → IsUnified f.cells f.link asks new link' ts → ((c : ℕ) → f.cells ≤ c → new c ≡ Var c) → IsAt M q work (unified_frame f new link' ts) kid
       there new link' ts u outside = subst (λ w. IsAt M q w (unified_frame f new link' ts) kid) (sym front.others) (at_unify M q (g ∷ work) f m.branch m.here front.rest front.below.1 ds below new link' ts u outside)
-
-      -- they unify, and the store has a model with the posts for what was touched
-      pub walk_equations : (new : Substitution) (link' : ℕ → Option ℕ) (ts : List Touch) → IsUnified f.cells f.link asks new link' ts → ((c : ℕ) → f.cells ≤ c → new c ≡ Var c) → HasModel M (f.store ++ touch_posts ts) → Spends (Walks M prog q work (unified_frame f new link' ts) cs n k) said es r
-      walk_equations new link' ts u outside model = walk_kid kid said work (unified_frame f new link' ts) gives speaks (there new link' ts u outside) model
-
-      -- they don't unify
-      pub walk_no_unifier : ((u : Substitution) → Unifies u asks → ⊥) → Spends (Returns M prog q cs n k) said es r
-      walk_no_unifier none = walk_gone kid said gives speaks (at_no_unifier M q (g ∷ work) f m.branch m.here front.rest front.below.1 ds below none)
-
-      -- a constrained variable meets an atom or a compound term
-      pub walk_atom : (new : Substitution) → IsMostGeneral asks new → ((c : ℕ) → c < f.cells → Below f.cells (new c)) → (c j : ℕ) (w : Term) → f.link c ≡ Some j → new c ≡ w → ((x : ℕ) → w ≡ Var x → ⊥) → ((z : ℤ) → w ≡ Int z → ⊥) → Spends (Returns M prog q cs n k) said es r
-      walk_atom new a cells c j w e h no_var no_int = walk_gone kid said gives speaks (at_no_atom M q (g ∷ work) f m.branch m.here front.rest front.below.1 ds below new a cells c j w e h no_var no_int)
-
-      -- they unify, and the store fails
-      pub walk_failed : (new : Substitution) (link' : ℕ → Option ℕ) (ts : List Touch) → IsUnified f.cells f.link asks new link' ts → ((c : ℕ) → f.cells ≤ c → new c ≡ Var c) → ((T : Family) → IsModel M [] (f.store ++ touch_posts ts) T → ⊥) → Spends (Returns M prog q cs n k) said es r
-      walk_failed new link' ts u outside none = walk_gone kid said gives speaks (at_no_model M q work (unified_frame f new link' ts) kid (there new link' ts u outside) none)
 
     -- a child for each value of an open variable, whose cell is d, with the goal still in front
     pub walk_values : (x d : ℕ) (ns : List ℕ) (said : List Event) → x < m.branch.fresh → f.heap (m.here.place x) ≡ Var d → GivesAll M prog q Choice (Waits M q) m.branch front.head front.rest (map (by_value m.branch (front.head ∷ front.rest) x) ns) → Speaks M prog q Choice (Waits M q) m.branch front.head said
@@ -128,27 +99,5 @@ module _ (M : ℕ) (prog : Program) (q : Query) (f : Frame) (cs : List Choice) (
     pub asked : (t : Term) × (y : Range) × (ahead.head ≡ Post t y) × (l ≡ rename_term m.here.place t) × (x ≡ rename_range m.here.place y)
     asked = is_post m.here.place ahead.head l x ahead.is
 
-    -- what the heap's terms give
-    abbrev pub found : Found
-    found = post (λ v. f.heap (m.here.place v)) asked.0 asked.1 m.branch.fresh
-
     pub below : TermBelow m.branch.fresh asked.0 × RangeBelow m.branch.fresh asked.1
     below = let h = subst (λ g. EachBelow m.branch.fresh (g ∷ ahead.rest)) asked.2 ahead.below in (h.0.0, h.0.1)
-
-    pub gives_found : (s : Substitution) (D : Family) → IsView M m.branch.equations m.branch.posted s D → offered M prog m.branch ahead.head ahead.rest s D ≡ by_post m.branch ahead.rest found
-    gives_found s D v =
-        ap (λ g. offered M prog m.branch g ahead.rest s D) asked.2
-        ∙ ap (by_post m.branch ahead.rest) (post_same m.branch.fresh (look_in m.branch s D) (λ w. f.heap (m.here.place w)) (λ w low. view_kind M f m.branch.equations m.branch.posted (λ u. u < m.branch.fresh) (λ u. f.heap (m.here.place u)) m.here.held T rest s D v m.consistent w low) asked.0 asked.1 m.branch.fresh below.0 below.1)
-
-    pub quiet : (s : Substitution) (D : Family) → IsView M m.branch.equations m.branch.posted s D → says s D m.branch ahead.head ≡ []
-    quiet s D v = ap (says s D m.branch) asked.2
-
-    module _ (p : Indexical) (j : ℕ) (ds : List Equation) (is : found ≡ posts p j ds) where
-      abbrev pub child : Branch
-      child = with_range m.branch ahead.rest p ds j
-
-      pub walk_post : (work' : List Goal) (f' : Frame) → IsAt M q work' f' child → HasModel M f'.store → Spends (Walks M prog q work' f' cs n k) [] es r
-      walk_post work' f' there model = walk_kid runnable n k (Post l x) work m child [] work' f' (λ s D v. gives_found s D v ∙ ap (by_post m.branch ahead.rest) is) quiet there model
-
-      pub walk_post_failed : (work' : List Goal) (f' : Frame) → IsAt M q work' f' child → ((T' : Family) → IsModel M [] f'.store T' → ⊥) → Spends (Returns M prog q cs n k) [] es r
-      walk_post_failed work' f' there none = walk_gone runnable n k (Post l x) work m child [] (λ s D v. gives_found s D v ∙ ap (by_post m.branch ahead.rest) is) quiet (at_no_model M q work' f' child there none)

@@ -1,23 +1,23 @@
 -- The steps of a machine that walks over goals.
-use Rattle.std.proofs.Common.{◌≡◌, ℕ, ◌<◌, ◌≤◌, ℤ, List, [], ◌∷◌, ◌++◌, Option, Some, map, refl, sym, ◌∙◌, subst}
-use Rattle.fd_language.specs.Term.{Term, Var, Int, Substitution, apply}
-use Rattle.fd_language.specs.Unifier.{Equation, IsMostGeneral, Unifies}
+use Rattle.std.proofs.Common.{◌≡◌, ℕ, ◌<◌, ◌≤◌, ℤ, List, [], ◌∷◌, ◌++◌, Option, map, refl, sym, ◌∙◌, subst}
+use Rattle.fd_language.specs.Term.{Var, Substitution, apply}
+use Rattle.fd_language.specs.Unifier.{Equation}
 use Rattle.fd_language.specs.Family.{Family}
-use Rattle.fd_model.specs.Goal.{Goal, Program, Query, Branch, Event}
+use Rattle.fd_model.specs.Goal.{Goal, Query, Branch}
 use Rattle.fd_model.specs.Renaming.{rename_term, rename_goal}
 use Rattle.fd_model.specs.Seen.{IsConsistent}
 use Rattle.fd_model.specs.Children.{with_equations}
-use Rattle.fd_model.specs.Sound.{IsRunnableProgram, EachBelow}
+use Rattle.fd_model.specs.Sound.{EachBelow}
 use Rattle.fd_model.specs.Models.{IsModel}
-use Rattle.machine_relation.specs.Heap.{applied_each, EquationsOf, Below}
+use Rattle.machine_relation.specs.Heap.{applied_each, EquationsOf}
 use Rattle.machine_relation.specs.Models.{HasModel}
 use Rattle.machine_relation.specs.Store.{Touch, IsUnified}
 use Rattle.machine_relation.specs.Ahead.{IsFit}
 use Rattle.machine_relation.specs.Held.{Frame, unified_frame}
-use Rattle.machine_relation.specs.Machine.{IsAt, others, Choice}
+use Rattle.machine_relation.specs.Machine.{IsAt, others}
 use Rattle.machine_relation.proofs.Growing.{after_is}
 use Rattle.machine_relation.proofs.Models.{model_from}
-use Rattle.machine_relation.proofs.Holding.{held_consistent, no_model, no_unifier, no_atom, held_unify}
+use Rattle.machine_relation.proofs.Holding.{held_consistent, held_unify}
 
 abbrev pub renamed_each : (ℕ → ℕ) → List Equation → List Equation
 renamed_each f [] = []
@@ -41,9 +41,6 @@ module _ (M : ℕ) (q : Query) (work : List Goal) (f : Frame) (b : Branch) (s : 
   pub at_consistent : HasModel M f.store → IsConsistent M b.equations b.posted
   at_consistent m = held_consistent M f b.equations b.posted (λ v. v < b.fresh) (λ v. f.heap (s.place v)) s.held m
 
-  pub at_no_model : ((T : Family) → IsModel M [] f.store T → ⊥) → (S : Family) → IsModel M b.equations b.posted S → ⊥
-  at_no_model none S m = no_model M f b.equations b.posted (λ v. v < b.fresh) (λ v. f.heap (s.place v)) s.held none S m
-
   -- new equations, and the goals gs
   module _ (gs : List Goal) (scoped : EachBelow b.fresh gs) (ds : List Equation) (below : EquationsOf (λ v. v < b.fresh) ds) where
     abbrev on_heap : List Equation
@@ -60,15 +57,6 @@ module _ (M : ℕ) (q : Query) (work : List Goal) (f : Frame) (b : Branch) (s : 
       first = s.first;
       held = held_unify M f b.equations b.posted (λ v. v < b.fresh) (λ v. f.heap (s.place v)) s.held ds below new link' ts (subst (λ es. IsUnified f.cells f.link es new link' ts) (sym (applied_renamed f.heap s.place ds)) u) outside;
     }
-
-    -- they have no unifier
-    pub at_no_unifier : ((r : Substitution) → Unifies r on_heap → ⊥) → (S : Family) → IsModel M (ds ++ b.equations) b.posted S → ⊥
-    at_no_unifier none = no_unifier M f b.equations b.posted (λ v. v < b.fresh) (λ v. f.heap (s.place v)) s.held ds below (λ r h. none r (subst (Unifies r) (applied_renamed f.heap s.place ds) h))
-
-    -- a constrained variable would be an atom or a compound term
-    pub at_no_atom : (new : Substitution) → IsMostGeneral on_heap new → ((c : ℕ) → c < f.cells → Below f.cells (new c)) → (c k : ℕ) (t : Term) → f.link c ≡ Some k → new c ≡ t → ((x : ℕ) → t ≡ Var x → ⊥) → ((z : ℤ) → t ≡ Int z → ⊥)
-        → (S : Family) → IsModel M (ds ++ b.equations) b.posted S → ⊥
-    at_no_atom new g = no_atom M f b.equations b.posted (λ v. v < b.fresh) (λ v. f.heap (s.place v)) s.held ds below new (subst (λ es. IsMostGeneral es new) (sym (applied_renamed f.heap s.place ds)) g)
 
 -- the goal in front
 pub record IsFront (g : Goal) (work : List Goal) (place : ℕ → ℕ) (b : Branch) : Type 0 where
@@ -87,6 +75,3 @@ pub front_goal : (M : ℕ) (q : Query) (g : Goal) (work : List Goal) (f : Frame)
 front_goal M q g work f b s =
     let h = map_cons (rename_goal s.place) b.goals g work s.goals in
     record { head = h.0; rest = h.1; goals = h.2; is = h.3; others = h.4; below = subst (EachBelow b.fresh) h.2 s.scoped }
-
-module _ (M : ℕ) (prog : Program) (q : Query) (runnable : IsRunnableProgram M prog) where
-  module _ (n : ℕ) (k : Option ℕ) (work : List Goal) (f : Frame) (cs : List Choice) (es : List Event) (r : ℕ) where

@@ -56,25 +56,6 @@ post_row look (Int z) r n = post_row_at look (range_places r) n ((n, z) ∷ []) 
 post_row look (Atom a) r n = Err BadType
 post_row look (Comp f ts) r n = Err BadType
 
--- the cell that a cell was bound to
-abbrev pub root_in : Term → ℕ → ℕ
-root_in (Var d) c = d
-root_in _ c = c
-
-abbrev pub root : Substitution → ℕ → ℕ
-root heap c = root_in (heap c) c
-
-abbrev pub on_roots : Substitution → Expansion → Expansion
-on_roots heap x = record { equated = x.equated; ranges = map (rename_indexical (root heap)) x.ranges; fresh = x.fresh }
-
-abbrev pub roots_of : Substitution → Result Expansion QueryFault → Result Expansion QueryFault
-roots_of heap (Err e) = Err e
-roots_of heap (Ok x) = Ok (on_roots heap x)
-
--- the row of a goal `T in r` over cells, by a heap
-abbrev pub frame_post : Frame → Term → Range → Result Expansion QueryFault
-frame_post f t r = roots_of f.heap (post_row f.heap t r f.cells)
-
 -- What a store supplies for a range on cells: each cell that it names is linked now, g gives its variable of the store; older links stay, and new ones go to variables that no posted range names.
 pub record IsJoined (link : ℕ → Option ℕ) (qs : List Indexical) (p : Indexical) (g : ℕ → ℕ) (link' : ℕ → Option ℕ) : Type 0 where
   pub cell : (c : ℕ) → has (names p) c ≡ true → link' c ≡ Some (g c)

@@ -14,8 +14,8 @@ use Rattle.std.proofs.lemmas.List.Elements.{All-cons, All-nil, All-tail, All-map
 use Rattle.std.proofs.lemmas.List.Sums.{sum_by-cons}
 use Rattle.std.proofs.lemmas.List.Sorted.{sum_by-IsPermutation, IsPermutation-map, All-permutation, length_permutation}
 use Rattle.propagate_queue.specs.Queues.{times}
-use Rattle.propagate_queue.specs.Waiting.{Waiting, agents_of, IsBefore, IsCheapest}
-use Rattle.propagate_queue.specs.Heaped.{Entry, waiting, entry_cmp, AreHeaped}
+use Rattle.propagate_queue.specs.AgendaEntries.{AgendaEntry, agents_of, IsBefore, IsCheapest}
+use Rattle.propagate_queue.specs.AgendaHeap.{Entry, waiting, entry_cmp, AreHeaped}
 
 -- what holds on success, of a call that succeeded
 pub was_ok : {T E P : Type 0} (r : Result T E) → is_ok r ≡ true → OnOk r P → P
@@ -74,13 +74,13 @@ pub cheapest : (es es' : List Entry) (e : Entry) (puts : ℕ) → AreHeaped es p
 cheapest es es' e puts h p k = (waiting e, refl, IsPermutation-map waiting es (e ∷ es') p, All-map (IsBefore (waiting e)) waiting es (all_before e es (k h.heap).1))
 
 pub times_of : (k : ℕ) (es es' : List Entry) (e : Entry) → IsPermutation es (e ∷ es') → times k (agents_of (map waiting es)) ≡ times k (e.0.2 ∷ agents_of (map waiting es'))
-times_of k es es' e p = sym (times_permutation k (agents_of (map waiting es)) (e.0.2 ∷ agents_of (map waiting es')) (IsPermutation-map (λ (w : Waiting). w.agent) (map waiting es) (waiting e ∷ map waiting es') (IsPermutation-map waiting es (e ∷ es') p)))
+times_of k es es' e p = sym (times_permutation k (agents_of (map waiting es)) (e.0.2 ∷ agents_of (map waiting es')) (IsPermutation-map (λ (w : AgendaEntry). w.agent) (map waiting es) (waiting e ∷ map waiting es') (IsPermutation-map waiting es (e ∷ es') p)))
 
 pub length_of : (es : List Entry) → length (agents_of (map waiting es)) ≡ length es
-length_of es = length-map (map waiting es) (λ (w : Waiting). w.agent) ∙ length-map es waiting
+length_of es = length-map (map waiting es) (λ (w : AgendaEntry). w.agent) ∙ length-map es waiting
 
 pub times_more : (k : ℕ) (es es' : List Entry) (e : Entry) → IsPermutation (e ∷ es) es' → times k (agents_of (map waiting es')) ≡ times k (e.0.2 ∷ agents_of (map waiting es))
-times_more k es es' e p = times_permutation k (e.0.2 ∷ agents_of (map waiting es)) (agents_of (map waiting es')) (IsPermutation-map (λ (w : Waiting). w.agent) (waiting e ∷ map waiting es) (map waiting es') (IsPermutation-map waiting (e ∷ es) es' p))
+times_more k es es' e p = times_permutation k (e.0.2 ∷ agents_of (map waiting es)) (agents_of (map waiting es')) (IsPermutation-map (λ (w : AgendaEntry). w.agent) (waiting e ∷ map waiting es) (map waiting es') (IsPermutation-map waiting (e ∷ es) es' p))
 
 pub length_more : (es es' : List Entry) (e : Entry) → IsPermutation (e ∷ es) es' → length (agents_of (map waiting es')) ≡ length (agents_of (map waiting es)) + 1
 length_more es es' e p = omega (arith, length_of es, length_of es', length_permutation (e ∷ es) es' p)

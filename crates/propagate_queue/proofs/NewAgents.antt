@@ -13,7 +13,7 @@ use Rattle.fd_language.specs.Range.{Indexical}
 use Rattle.fd_model.specs.Closed.{AllPosted}
 use Rattle.fd_language.specs.Features.{range_features}
 use Rattle.dependency_chains.specs.declared.Change.{Change}
-use Rattle.dependency_chains.specs.Reading.{Reading, read_by}
+use Rattle.dependency_chains.specs.AgentReads.{AgentRead, read_by}
 use Rattle.dependency_chains.specs.Waking.{wakes, is_woken}
 use Rattle.propagate_queue.specs.Postings.{Posting, ranged, ranges_of, AreReaders}
 use Rattle.propagate_queue.specs.declared.instance.Instance.{Instance}
@@ -53,7 +53,7 @@ was_added flags flags' agents agents' spare spare' a q e f room counts len spare
   step true false n e g = ap suc e
   step false f n e g = e
 
-any_other : (n a : ℕ) (p : Reading → Bool) (fs : List (ℕ × Feature)) → (n ≡ a → ⊥) → list_any (λ r. (r.agent == a) && p r) (read_by n fs) ≡ false
+any_other : (n a : ℕ) (p : AgentRead → Bool) (fs : List (ℕ × Feature)) → (n ≡ a → ⊥) → list_any (λ r. (r.agent == a) && p r) (read_by n fs) ≡ false
 any_other n a p [] h = refl
 any_other n a p (d ∷ ds) h = step (n == a) (p (record { agent = n; var = d.0; feature = d.1 })) _ (λ e. h (eqb-true n a e)) (any_other n a p ds h) where
   step : (b c d : Bool) → (b ≡ true → ⊥) → d ≡ false → ((b && c) || d) ≡ false
@@ -66,14 +66,14 @@ any_own n x c (d ∷ ds) = step (n == n) ((d.0 == x) && wakes c d.1) _ _ (eq-eqb
   step : (b p d e : Bool) → b ≡ true → d ≡ e → ((b && p) || d) ≡ (p || e)
   step b p d e h g = grind (arith, h, g)
 
-any_none : (n a : ℕ) (p : Reading → Bool) (rs : List Reading) → All (λ r. r.agent < n) rs → n ≤ a → list_any (λ r. (r.agent == a) && p r) rs ≡ false
+any_none : (n a : ℕ) (p : AgentRead → Bool) (rs : List AgentRead) → All (λ r. r.agent < n) rs → n ≤ a → list_any (λ r. (r.agent == a) && p r) rs ≡ false
 any_none n a p [] h l = refl
 any_none n a p (r ∷ rs) h l = step (r.agent == a) (p r) _ (λ e. omega (arith, eqb-true r.agent a e, h zero r (omega arith), l)) (any_none n a p rs (All-tail (λ q. q.agent < n) r rs h) l) where
   step : (b c d : Bool) → (b ≡ true → ⊥) → d ≡ false → ((b && c) || d) ≡ false
   step true c d h e = absurd (h refl)
   step false c d h e = e
 
-readers_more : (ps : List Indexical) (p : Indexical) (reads : List Reading) (fs : List (ℕ × Feature)) → AreReaders ps reads → ((x : ℕ) (c : Change) → is_woken c x fs ≡ is_woken c x (range_features p.range)) → AreReaders (ps ++ p ∷ []) (reads ++ read_by (length ps) fs)
+readers_more : (ps : List Indexical) (p : Indexical) (reads : List AgentRead) (fs : List (ℕ × Feature)) → AreReaders ps reads → ((x : ℕ) (c : Change) → is_woken c x fs ≡ is_woken c x (range_features p.range)) → AreReaders (ps ++ p ∷ []) (reads ++ read_by (length ps) fs)
 readers_more ps p reads fs r w =
     let size : length (ps ++ p ∷ []) ≡ suc (length ps) = omega (arith, length-append ps (p ∷ [])) in
     record {
@@ -93,15 +93,15 @@ readers_more ps p reads fs r w =
     nothing : (b : Bool) → (b || false) ≡ b
     nothing b = grind arith
 
-pub agent_readers : (is is' : List Posting) (i : Posting) (a : ℕ) (reads reads' : List Reading) (fs : List (ℕ × Feature)) → AreReaders (ranges_of is) reads → is' ≡ is ++ i ∷ [] → a ≡ length is → reads' ≡ reads ++ read_by a fs → ((x : ℕ) (c : Change) → is_woken c x fs ≡ is_woken c x (range_features (ranged i).range)) → AreReaders (ranges_of is') reads'
+pub agent_readers : (is is' : List Posting) (i : Posting) (a : ℕ) (reads reads' : List AgentRead) (fs : List (ℕ × Feature)) → AreReaders (ranges_of is) reads → is' ≡ is ++ i ∷ [] → a ≡ length is → reads' ≡ reads ++ read_by a fs → ((x : ℕ) (c : Change) → is_woken c x fs ≡ is_woken c x (range_features (ranged i).range)) → AreReaders (ranges_of is') reads'
 agent_readers is is' i a reads reads' fs r e n f w =
     subst (λ l. AreReaders l reads') (sym (ap ranges_of e ∙ map-append ranged is (i ∷ [])))
     (subst (AreReaders (ranges_of is ++ ranged i ∷ [])) (sym (f ∙ ap (λ j. reads ++ read_by j fs) (n ∙ sym (length-map is ranged)))) (readers_more (ranges_of is) (ranged i) reads fs r w))
 
-pub agent_within : (vars a : ℕ) (reads reads' : List Reading) (fs : List (ℕ × Feature)) → All (λ r. r.var < vars) reads → All (λ d. d.0 < vars) fs → reads' ≡ reads ++ read_by a fs → All (λ r. r.var < vars) reads'
-agent_within vars a reads reads' fs h k e = subst (λ (l : List Reading). All (λ r. r.var < vars) l) (sym e) (All-append (λ r. r.var < vars) reads (read_by a fs) h (All-map (λ r. r.var < vars) (λ (d : ℕ × Feature). record { agent = a; var = d.0; feature = d.1 }) fs k))
+pub agent_within : (vars a : ℕ) (reads reads' : List AgentRead) (fs : List (ℕ × Feature)) → All (λ r. r.var < vars) reads → All (λ d. d.0 < vars) fs → reads' ≡ reads ++ read_by a fs → All (λ r. r.var < vars) reads'
+agent_within vars a reads reads' fs h k e = subst (λ (l : List AgentRead). All (λ r. r.var < vars) l) (sym e) (All-append (λ r. r.var < vars) reads (read_by a fs) h (All-map (λ r. r.var < vars) (λ (d : ℕ × Feature). record { agent = a; var = d.0; feature = d.1 }) fs k))
 
-filter-append : (p : Reading → Bool) (xs ys : List Reading) → filter p (xs ++ ys) ≡ filter p xs ++ filter p ys
+filter-append : (p : AgentRead → Bool) (xs ys : List AgentRead) → filter p (xs ++ ys) ≡ filter p xs ++ filter p ys
 filter-append p [] ys = refl
 filter-append p (x ∷ xs) ys = elim (p x) as (λ b. cond b (x ∷ filter p (xs ++ ys)) (filter p (xs ++ ys)) ≡ cond b (x ∷ filter p xs) (filter p xs) ++ filter p ys) [ true ↦ ap (λ l. x ∷ l) (filter-append p xs ys) | false ↦ filter-append p xs ys ]
 
@@ -109,11 +109,11 @@ filter_later : (m a : ℕ) (fs : List (ℕ × Feature)) → m ≤ a → filter (
 filter_later m a [] h = refl
 filter_later m a (d ∷ ds) h = ap (λ b. cond b (record { agent = a; var = d.0; feature = d.1 } ∷ filter (λ r. nat_lt r.agent m) (read_by a ds)) (filter (λ r. nat_lt r.agent m) (read_by a ds))) (le-ltb a m h) ∙ filter_later m a ds h
 
-nothing_more : (xs : List Reading) → xs ++ [] ≡ xs
+nothing_more : (xs : List AgentRead) → xs ++ [] ≡ xs
 nothing_more [] = refl
 nothing_more (x ∷ xs) = ap (λ l. x ∷ l) (nothing_more xs)
 
-pub agent_kept : (m a n : ℕ) (reads reads' : List Reading) (fs : List (ℕ × Feature)) → m ≤ n → a ≡ n → reads' ≡ reads ++ read_by a fs → filter (λ r. nat_lt r.agent m) reads' ≡ filter (λ r. nat_lt r.agent m) reads
+pub agent_kept : (m a n : ℕ) (reads reads' : List AgentRead) (fs : List (ℕ × Feature)) → m ≤ n → a ≡ n → reads' ≡ reads ++ read_by a fs → filter (λ r. nat_lt r.agent m) reads' ≡ filter (λ r. nat_lt r.agent m) reads
 agent_kept m a n reads reads' fs h e f =
     ap (filter (λ r. nat_lt r.agent m)) f ∙ filter-append (λ r. nat_lt r.agent m) reads (read_by a fs) ∙ ap (λ l. filter (λ r. nat_lt r.agent m) reads ++ l) (filter_later m a fs (omega (arith, h, e))) ∙ nothing_more (filter (λ r. nat_lt r.agent m) reads)
 

@@ -16,7 +16,7 @@ use Rattle.fd_language.specs.Monotonicity.{IsMonotone}
 use Rattle.fd_language.proofs.Lemmas.{has-filter_back, identity}
 use Rattle.fd_model.proofs.Lemmas.{all_keep, closed_without, unread}
 use Rattle.range_code.specs.Frames.{family_of}
-use Rattle.dependency_chains.specs.Reading.{Reading}
+use Rattle.dependency_chains.specs.AgentReads.{AgentRead}
 use Rattle.dependency_chains.specs.Waking.{change_of, is_woken}
 use Rattle.propagate_queue.specs.Postings.{Posting, ranged, ranges_of}
 use Rattle.propagate_queue.specs.Queues.{flag_at}
@@ -149,7 +149,7 @@ pub posted_there : (is : List Posting) (a : ℕ) (i : Posting) → a < length is
 posted_there is a i l e = (a, omega (arith, l, length-map is ranged), posted_at is a i l e (ranged i))
 
 -- only agents that are there wake
-pub wakes_known : (n a : ℕ) (p : Reading → Bool) (reads : List Reading) → All (λ r. r.agent < n) reads → list_any (λ r. (r.agent == a) && p r) reads ≡ true → a < n
+pub wakes_known : (n a : ℕ) (p : AgentRead → Bool) (reads : List AgentRead) → All (λ r. r.agent < n) reads → list_any (λ r. (r.agent == a) && p r) reads ≡ true → a < n
 wakes_known n a p [] h e = absurd (true≢false (sym e))
 wakes_known n a p (r ∷ rs) h e = elim (or_cases ((r.agent == a) && p r) (list_any (λ q. (q.agent == a) && p q) rs) e) [
   | inl f ↦ omega (arith, h zero r (omega arith), eqb-true r.agent a (left (r.agent == a) (p r) f))

@@ -24,7 +24,7 @@ use Rattle.fd_language.specs.Monotonicity.{IsMonotone}
 use Rattle.fd_language.proofs.Lemmas.{universe_rising, rising_inside, identity}
 use Rattle.fd_model.proofs.Lemmas.{closed_without}
 use Rattle.range_code.specs.Frames.{family_of}
-use Rattle.dependency_chains.specs.Reading.{Reading, Readings}
+use Rattle.dependency_chains.specs.AgentReads.{AgentRead, AgentReads}
 use Rattle.dependency_chains.specs.Waking.{wakes, is_woken}
 use Rattle.domain_trail.specs.Stores.{Stores}
 use Rattle.propagate_queue.specs.declared.instance.Instance.{Instance}
@@ -58,7 +58,7 @@ no_domains = record {
 pub empty_queue : (spare : ℕ) → AreQueued [] [] spare
 empty_queue spare = record { once = λ k. refl; all = refl; room = omega arith }
 
-pub new_store : (is : List Posting) (flags : List Bool) (agenda : List ℕ) (spare : ℕ) (readings : Readings) (trail : Stores) (ms : List ℕ) → is ≡ [] → flags ≡ [] → agenda ≡ [] → readings ≡ record { vars = 0; reads = [] } → trail ≡ record { current = []; below = [] } → ms ≡ []
+pub new_store : (is : List Posting) (flags : List Bool) (agenda : List ℕ) (spare : ℕ) (readings : AgentReads) (trail : Stores) (ms : List ℕ) → is ≡ [] → flags ≡ [] → agenda ≡ [] → readings ≡ record { vars = 0; reads = [] } → trail ≡ record { current = []; below = [] } → ms ≡ []
     → IsStore is flags agenda spare readings trail (reverse ms) false false
 new_store is flags agenda spare readings trail ms e f g h i j =
     subst (λ x. IsStore x flags agenda spare readings trail (reverse ms) false false) (sym e)
@@ -81,33 +81,33 @@ new_store is flags agenda spare readings trail ms e f g h i j =
     }))))))
 
 -- as many levels as marks
-pub same_marks : (is : List Posting) (reads : List Reading) (posted vars : ℕ) (ms : List ℕ) (ss : List (List (List ℕ))) → AreBelow is reads posted vars ms ss → length ms ≡ length ss
+pub same_marks : (is : List Posting) (reads : List AgentRead) (posted vars : ℕ) (ms : List ℕ) (ss : List (List (List ℕ))) → AreBelow is reads posted vars ms ss → length ms ≡ length ss
 same_marks is reads posted vars [] [] b = refl
 same_marks is reads posted vars [] (s ∷ ss) b = absurd b
 same_marks is reads posted vars (m ∷ ms) [] b = absurd b
 same_marks is reads posted vars (m ∷ ms) (s ∷ ss) b = ap suc (same_marks is reads m (length s) ms ss b.5)
 
-pub length-levels : (is : List Posting) (reads : List Reading) (posted vars : ℕ) (ms : List ℕ) (ss : List (List (List ℕ))) (ps : List Indexical) → AreBelow is reads posted vars ms ss → length (levels_below ms ss ps) ≡ length ms
+pub length-levels : (is : List Posting) (reads : List AgentRead) (posted vars : ℕ) (ms : List ℕ) (ss : List (List (List ℕ))) (ps : List Indexical) → AreBelow is reads posted vars ms ss → length (levels_below ms ss ps) ≡ length ms
 length-levels is reads posted vars [] [] ps b = refl
 length-levels is reads posted vars [] (s ∷ ss) ps b = absurd b
 length-levels is reads posted vars (m ∷ ms) [] ps b = absurd b
 length-levels is reads posted vars (m ∷ ms) (s ∷ ss) ps b = ap suc (length-levels is reads m (length s) ms ss ps b.5)
 
 -- more may be posted, and there may be more variables
-pub below_more : (is : List Posting) (reads : List Reading) (k n k' n' : ℕ) (ms : List ℕ) (ss : List (List (List ℕ))) → k ≤ k' → n ≤ n' → AreBelow is reads k n ms ss → AreBelow is reads k' n' ms ss
+pub below_more : (is : List Posting) (reads : List AgentRead) (k n k' n' : ℕ) (ms : List ℕ) (ss : List (List (List ℕ))) → k ≤ k' → n ≤ n' → AreBelow is reads k n ms ss → AreBelow is reads k' n' ms ss
 below_more is reads k n k' n' [] [] h l b = tt
 below_more is reads k n k' n' [] (s ∷ ss) h l b = absurd b
 below_more is reads k n k' n' (m ∷ ms) [] h l b = absurd b
 below_more is reads k n k' n' (m ∷ ms) (s ∷ ss) h l b = (omega (arith, b.0, h), omega (arith, b.1, l), b.2, b.3, b.4, b.5)
 
-pub below_dropped : (n : ℕ) (is : List Posting) (reads : List Reading) (k v : ℕ) (ms : List ℕ) (ss : List (List (List ℕ))) → AreBelow is reads k v ms ss → AreBelow is reads k v (drop n ms) (drop n ss)
+pub below_dropped : (n : ℕ) (is : List Posting) (reads : List AgentRead) (k v : ℕ) (ms : List ℕ) (ss : List (List (List ℕ))) → AreBelow is reads k v ms ss → AreBelow is reads k v (drop n ms) (drop n ss)
 below_dropped zero is reads k v ms ss b = b
 below_dropped (suc n) is reads k v [] [] b = tt
 below_dropped (suc n) is reads k v [] (s ∷ ss) b = absurd b
 below_dropped (suc n) is reads k v (m ∷ ms) [] b = absurd b
 below_dropped (suc n) is reads k v (m ∷ ms) (s ∷ ss) b = below_more is reads m (length s) k v (drop n ms) (drop n ss) b.0 b.1 (below_dropped n is reads m (length s) ms ss b.5)
 
-pub levels_dropped : (n : ℕ) (is : List Posting) (reads : List Reading) (k v : ℕ) (ms : List ℕ) (ss : List (List (List ℕ))) (ps : List Indexical) → AreBelow is reads k v ms ss → levels_below (drop n ms) (drop n ss) ps ≡ drop n (levels_below ms ss ps)
+pub levels_dropped : (n : ℕ) (is : List Posting) (reads : List AgentRead) (k v : ℕ) (ms : List ℕ) (ss : List (List (List ℕ))) (ps : List Indexical) → AreBelow is reads k v ms ss → levels_below (drop n ms) (drop n ss) ps ≡ drop n (levels_below ms ss ps)
 levels_dropped zero is reads k v ms ss ps b = refl
 levels_dropped (suc n) is reads k v [] [] ps b = refl
 levels_dropped (suc n) is reads k v [] (s ∷ ss) ps b = absurd b
@@ -115,7 +115,7 @@ levels_dropped (suc n) is reads k v (m ∷ ms) [] ps b = absurd b
 levels_dropped (suc n) is reads k v (m ∷ ms) (s ∷ ss) ps b = levels_dropped n is reads m (length s) ms ss ps b.5
 
 -- the agents that stay, and what they read
-filter_filter : (m k : ℕ) (rs : List Reading) → m ≤ k → filter (λ r. nat_lt r.agent m) (filter (λ r. nat_lt r.agent k) rs) ≡ filter (λ r. nat_lt r.agent m) rs
+filter_filter : (m k : ℕ) (rs : List AgentRead) → m ≤ k → filter (λ r. nat_lt r.agent m) (filter (λ r. nat_lt r.agent k) rs) ≡ filter (λ r. nat_lt r.agent m) rs
 filter_filter m k [] h = refl
 filter_filter m k (r ∷ rs) h = elim (cases_Bool (nat_lt r.agent k)) [
   | inl e ↦ ap (λ b. filter (λ q. nat_lt q.agent m) (cond b (r ∷ filter (λ q. nat_lt q.agent k) rs) (filter (λ q. nat_lt q.agent k) rs))) e ∙ ap (λ l. cond (nat_lt r.agent m) (r ∷ l) l) (filter_filter m k rs h)
@@ -126,7 +126,7 @@ filter_filter m k (r ∷ rs) h = elim (cases_Bool (nat_lt r.agent k)) [
   out (inl q) e = absurd (true≢false (sym (lt-ltb r.agent k (omega (arith, ltb-true r.agent m q, h))) ∙ e))
   out (inr q) e = q
 
-pub below_cut : (is : List Posting) (reads : List Reading) (j k v : ℕ) (ms : List ℕ) (ss : List (List (List ℕ))) → k ≤ j → AreBelow is reads k v ms ss → AreBelow (take j is) (filter (λ r. nat_lt r.agent j) reads) k v ms ss
+pub below_cut : (is : List Posting) (reads : List AgentRead) (j k v : ℕ) (ms : List ℕ) (ss : List (List (List ℕ))) → k ≤ j → AreBelow is reads k v ms ss → AreBelow (take j is) (filter (λ r. nat_lt r.agent j) reads) k v ms ss
 below_cut is reads j k v [] [] h b = tt
 below_cut is reads j k v [] (s ∷ ss) h b = absurd b
 below_cut is reads j k v (m ∷ ms) [] h b = absurd b
@@ -135,12 +135,12 @@ below_cut is reads j k v (m ∷ ms) (s ∷ ss) h b =
       b.0,
       b.1,
       subst (λ (l : List Posting). All (IsPosting (length s)) l) (sym same) b.2,
-      subst (λ (l : List Reading). All (λ r. r.var < length s) l) (sym (filter_filter m j reads (omega (arith, b.0, h)))) b.3,
+      subst (λ (l : List AgentRead). All (λ r. r.var < length s) l) (sym (filter_filter m j reads (omega (arith, b.0, h)))) b.3,
       subst (λ (l : List Posting). AreDomains (ranges_of l) s) (sym same) b.4,
       below_cut is reads j m (length s) ms ss (omega (arith, b.0, h)) b.5,
     )
 
-pub levels_cut : (is : List Posting) (reads : List Reading) (j k v : ℕ) (ms : List ℕ) (ss : List (List (List ℕ))) (ps : List Indexical) → k ≤ j → AreBelow is reads k v ms ss → levels_below ms ss (take j ps) ≡ levels_below ms ss ps
+pub levels_cut : (is : List Posting) (reads : List AgentRead) (j k v : ℕ) (ms : List ℕ) (ss : List (List (List ℕ))) (ps : List Indexical) → k ≤ j → AreBelow is reads k v ms ss → levels_below ms ss (take j ps) ≡ levels_below ms ss ps
 levels_cut is reads j k v [] [] ps h b = refl
 levels_cut is reads j k v [] (s ∷ ss) ps h b = absurd b
 levels_cut is reads j k v (m ∷ ms) [] ps h b = absurd b
@@ -153,7 +153,7 @@ levels_cut is reads j k v (m ∷ ms) (s ∷ ss) ps h b =
     both e f = cc
 
 -- what stays of the readings
-pub stays : (m v : ℕ) (rs : List Reading) → All (λ r. r.var < v) (filter (λ r. nat_lt r.agent m) rs) → All (λ r. r.agent < m → r.var < v) rs
+pub stays : (m v : ℕ) (rs : List AgentRead) → All (λ r. r.var < v) (filter (λ r. nat_lt r.agent m) rs) → All (λ r. r.agent < m → r.var < v) rs
 stays m v [] h = All-nil (λ r. r.agent < m → r.var < v)
 stays m v (r ∷ rs) h = elim (cases_Bool (nat_lt r.agent m)) [
   | inl e ↦ let k : All (λ q. q.var < v) (r ∷ filter (λ q. nat_lt q.agent m) rs) = subst (λ b. All (λ q. q.var < v) (cond b (r ∷ filter (λ q. nat_lt q.agent m) rs) (filter (λ q. nat_lt q.agent m) rs))) e h in
@@ -162,14 +162,14 @@ stays m v (r ∷ rs) h = elim (cases_Bool (nat_lt r.agent m)) [
       All-cons (λ q. q.agent < m → q.var < v) r rs (λ l. absurd (true≢false (sym (lt-ltb r.agent m l) ∙ e))) (stays m v rs k)
 ]
 
-filter_below : (m : ℕ) (rs : List Reading) → All (λ r. r.agent < m) (filter (λ r. nat_lt r.agent m) rs)
+filter_below : (m : ℕ) (rs : List AgentRead) → All (λ r. r.agent < m) (filter (λ r. nat_lt r.agent m) rs)
 filter_below m [] = All-nil (λ r. r.agent < m)
 filter_below m (r ∷ rs) = elim (cases_Bool (nat_lt r.agent m)) [
   | inl e ↦ subst (λ b. All (λ q. q.agent < m) (cond b (r ∷ filter (λ q. nat_lt q.agent m) rs) (filter (λ q. nat_lt q.agent m) rs))) (sym e) (All-cons (λ q. q.agent < m) r (filter (λ q. nat_lt q.agent m) rs) (ltb-true r.agent m e) (filter_below m rs))
   | inr e ↦ subst (λ b. All (λ q. q.agent < m) (cond b (r ∷ filter (λ q. nat_lt q.agent m) rs) (filter (λ q. nat_lt q.agent m) rs))) (sym e) (filter_below m rs)
 ]
 
-any_filtered : (m a : ℕ) (p : Reading → Bool) (rs : List Reading) → a < m → list_any (λ r. (r.agent == a) && p r) (filter (λ r. nat_lt r.agent m) rs) ≡ list_any (λ r. (r.agent == a) && p r) rs
+any_filtered : (m a : ℕ) (p : AgentRead → Bool) (rs : List AgentRead) → a < m → list_any (λ r. (r.agent == a) && p r) (filter (λ r. nat_lt r.agent m) rs) ≡ list_any (λ r. (r.agent == a) && p r) rs
 any_filtered m a p [] h = refl
 any_filtered m a p (r ∷ rs) h = elim (cases_Bool (nat_lt r.agent m)) [
   | inl e ↦ ap (λ b. list_any (λ q. (q.agent == a) && p q) (cond b (r ∷ filter (λ q. nat_lt q.agent m) rs) (filter (λ q. nat_lt q.agent m) rs))) e ∙ ap (λ b. ((r.agent == a) && p r) || b) (any_filtered m a p rs h)
@@ -179,7 +179,7 @@ any_filtered m a p (r ∷ rs) h = elim (cases_Bool (nat_lt r.agent m)) [
   off true c d h = absurd (h refl)
   off false c d h = refl
 
-pub readers_cut : (m : ℕ) (is : List Posting) (reads : List Reading) → m ≤ length is → AreReaders (ranges_of is) reads → AreReaders (ranges_of (take m is)) (filter (λ r. nat_lt r.agent m) reads)
+pub readers_cut : (m : ℕ) (is : List Posting) (reads : List AgentRead) → m ≤ length is → AreReaders (ranges_of is) reads → AreReaders (ranges_of (take m is)) (filter (λ r. nat_lt r.agent m) reads)
 readers_cut m is reads h r =
     let size : length (ranges_of (take m is)) ≡ m = length-map (take m is) ranged ∙ length-take-le m is h in
     let same : ranges_of (take m is) ≡ take m (ranges_of is) = sym (take-map ranged m is) in
@@ -215,7 +215,7 @@ queue_cut m flags agenda spare l q e =
     }
 
 -- the store at the newest mark
-pub popped : (is : List Posting) (flags : List Bool) (agenda : List ℕ) (spare : ℕ) (readings : Readings) (trail trail' : Stores) (m : ℕ) (ms : List ℕ) (lost spent : Bool) → IsStore is flags agenda spare readings trail (m ∷ ms) lost spent → trail.below ≡ trail'.current ∷ trail'.below
+pub popped : (is : List Posting) (flags : List Bool) (agenda : List ℕ) (spare : ℕ) (readings : AgentReads) (trail trail' : Stores) (m : ℕ) (ms : List ℕ) (lost spent : Bool) → IsStore is flags agenda spare readings trail (m ∷ ms) lost spent → trail.below ≡ trail'.current ∷ trail'.below
     → IsStore (take m is) (take m flags) agenda spare (record { vars = length trail'.current; reads = filter (λ r. nat_lt r.agent m) readings.reads }) trail' ms false spent
 popped is flags agenda spare readings trail trail' m ms lost spent s e =
     let b : AreBelow is readings.reads (length is) (length trail.current) (m ∷ ms) (trail'.current ∷ trail'.below) = subst (AreBelow is readings.reads (length is) (length trail.current) (m ∷ ms)) e s.below in
@@ -234,7 +234,7 @@ popped is flags agenda spare readings trail trail' m ms lost spent s e =
           (below_cut is readings.reads m m (length trail'.current) ms trail'.below (omega arith) b.5);
     }
 
-pub popped_levels : (is : List Posting) (flags : List Bool) (agenda : List ℕ) (spare : ℕ) (readings : Readings) (trail trail' : Stores) (m : ℕ) (ms : List ℕ) (lost spent : Bool) → IsStore is flags agenda spare readings trail (m ∷ ms) lost spent → trail.below ≡ trail'.current ∷ trail'.below
+pub popped_levels : (is : List Posting) (flags : List Bool) (agenda : List ℕ) (spare : ℕ) (readings : AgentReads) (trail trail' : Stores) (m : ℕ) (ms : List ℕ) (lost spent : Bool) → IsStore is flags agenda spare readings trail (m ∷ ms) lost spent → trail.below ≡ trail'.current ∷ trail'.below
     → levels_below (m ∷ ms) trail.below (ranges_of is) ≡ record { posted = ranges_of (take m is); sets = trail'.current; failed = false } ∷ levels_below ms trail'.below (ranges_of (take m is))
 popped_levels is flags agenda spare readings trail trail' m ms lost spent s e =
     let b : AreBelow is readings.reads (length is) (length trail.current) (m ∷ ms) (trail'.current ∷ trail'.below) = subst (AreBelow is readings.reads (length is) (length trail.current) (m ∷ ms)) e s.below in
@@ -243,11 +243,11 @@ popped_levels is flags agenda spare readings trail trail' m ms lost spent s e =
     ∙ ap (λ (ps : List Indexical). record { posted = ps; sets = trail'.current; failed = false } ∷ levels_below ms trail'.below ps) (take-map ranged m is)
 
 -- one more mark
-filter_all : (m : ℕ) (rs : List Reading) → All (λ r. r.agent < m) rs → filter (λ r. nat_lt r.agent m) rs ≡ rs
+filter_all : (m : ℕ) (rs : List AgentRead) → All (λ r. r.agent < m) rs → filter (λ r. nat_lt r.agent m) rs ≡ rs
 filter_all m [] h = refl
 filter_all m (r ∷ rs) h = ap (λ b. cond b (r ∷ filter (λ q. nat_lt q.agent m) rs) (filter (λ q. nat_lt q.agent m) rs)) (lt-ltb r.agent m (All-head (λ q. q.agent < m) r rs h)) ∙ ap (λ l. r ∷ l) (filter_all m rs (All-tail (λ q. q.agent < m) r rs h))
 
-pub pushed : (is : List Posting) (flags : List Bool) (agenda : List ℕ) (spare : ℕ) (readings : Readings) (trail trail' : Stores) (m : ℕ) (ms : List ℕ) → IsStore is flags agenda spare readings trail ms false false → m ≡ length is → trail' ≡ record trail { below = trail.current ∷ trail.below }
+pub pushed : (is : List Posting) (flags : List Bool) (agenda : List ℕ) (spare : ℕ) (readings : AgentReads) (trail trail' : Stores) (m : ℕ) (ms : List ℕ) → IsStore is flags agenda spare readings trail ms false false → m ≡ length is → trail' ≡ record trail { below = trail.current ∷ trail.below }
     → IsStore is flags agenda spare readings trail' (m ∷ ms) false false
 pushed is flags agenda spare readings trail trail' m ms s e f = subst (λ t. IsStore is flags agenda spare readings t (m ∷ ms) false false) (sym f) (subst (λ k. IsStore is flags agenda spare readings (record trail { below = trail.current ∷ trail.below }) (k ∷ ms) false false) (sym e) (record {
   instances = s.instances;
@@ -264,7 +264,7 @@ pushed is flags agenda spare readings trail trail' m ms s e f = subst (λ t. IsS
     omega arith,
     omega arith,
     subst (λ (l : List Posting). All (IsPosting (length trail.current)) l) (sym (take_all (length is) is (omega arith))) s.instances,
-    subst (λ (l : List Reading). All (λ r. r.var < length trail.current) l) (sym (filter_all (length is) readings.reads (λ k d l. omega (arith, s.readers.known k d l, length-map is ranged)))) s.within,
+    subst (λ (l : List AgentRead). All (λ r. r.var < length trail.current) l) (sym (filter_all (length is) readings.reads (λ k d l. omega (arith, s.readers.known k d l, length-map is ranged)))) s.within,
     subst (λ (l : List Posting). AreDomains (ranges_of l) trail.current) (sym (take_all (length is) is (omega arith))) (s.settled refl refl),
     s.below,
   );
@@ -282,7 +282,7 @@ reverse-take n ms l =
 pub fewer_marks : (n left : ℕ) (ms ms' : List ℕ) → n ≤ length ms → left ≡ length ms - n → ms' ≡ take left ms → reverse ms' ≡ drop n (reverse ms)
 fewer_marks n left ms ms' l e f = ap reverse (f ∙ ap (λ k. take k ms) e) ∙ reverse-take n ms l
 
-pub without_marks : (n : ℕ) (is : List Posting) (flags : List Bool) (agenda : List ℕ) (spare : ℕ) (readings : Readings) (trail trail' : Stores) (ms ms' : List ℕ) (lost spent : Bool) → IsStore is flags agenda spare readings trail ms lost spent → ms' ≡ drop n ms → trail' ≡ record trail { below = drop n trail.below }
+pub without_marks : (n : ℕ) (is : List Posting) (flags : List Bool) (agenda : List ℕ) (spare : ℕ) (readings : AgentReads) (trail trail' : Stores) (ms ms' : List ℕ) (lost spent : Bool) → IsStore is flags agenda spare readings trail ms lost spent → ms' ≡ drop n ms → trail' ≡ record trail { below = drop n trail.below }
     → IsStore is flags agenda spare readings trail' ms' lost spent × (levels_below ms' trail'.below (ranges_of is) ≡ drop n (levels_below ms trail.below (ranges_of is)))
 without_marks n is flags agenda spare readings trail trail' ms ms' lost spent s e f =
     subst (λ t. IsStore is flags agenda spare readings t ms' lost spent × (levels_below ms' t.below (ranges_of is) ≡ drop n (levels_below ms trail.below (ranges_of is)))) (sym f)
@@ -303,13 +303,13 @@ without_marks n is flags agenda spare readings trail trail' ms ms' lost spent s 
       levels_dropped n is readings.reads (length is) (length trail.current) ms trail.below (ranges_of is) s.below,
     ))
 
-pub popped_stay : (is : List Posting) (flags : List Bool) (agenda : List ℕ) (spare : ℕ) (readings : Readings) (trail trail' : Stores) (m : ℕ) (ms : List ℕ) (lost spent : Bool) (vars : ℕ) → IsStore is flags agenda spare readings trail (m ∷ ms) lost spent → trail.below ≡ trail'.current ∷ trail'.below → vars ≡ length trail'.current
+pub popped_stay : (is : List Posting) (flags : List Bool) (agenda : List ℕ) (spare : ℕ) (readings : AgentReads) (trail trail' : Stores) (m : ℕ) (ms : List ℕ) (lost spent : Bool) (vars : ℕ) → IsStore is flags agenda spare readings trail (m ∷ ms) lost spent → trail.below ≡ trail'.current ∷ trail'.below → vars ≡ length trail'.current
     → All (λ r. r.agent < m → r.var < vars) readings.reads × (vars ≤ readings.vars)
 popped_stay is flags agenda spare readings trail trail' m ms lost spent vars s e v =
     let b : AreBelow is readings.reads (length is) (length trail.current) (m ∷ ms) (trail'.current ∷ trail'.below) = subst (AreBelow is readings.reads (length is) (length trail.current) (m ∷ ms)) e s.below in
     (subst (λ n. All (λ r. r.agent < m → r.var < n) readings.reads) (sym v) (stays m (length trail'.current) readings.reads b.3), omega (arith, v, b.1, s.vars))
 
-pub popped_store : (is is' : List Posting) (flags flags' : List Bool) (agenda : List ℕ) (spare : ℕ) (readings readings' : Readings) (trail trail' : Stores) (m vars : ℕ) (ms : List ℕ) (lost spent : Bool) → IsStore is flags agenda spare readings trail (m ∷ ms) lost spent → trail.below ≡ trail'.current ∷ trail'.below
+pub popped_store : (is is' : List Posting) (flags flags' : List Bool) (agenda : List ℕ) (spare : ℕ) (readings readings' : AgentReads) (trail trail' : Stores) (m vars : ℕ) (ms : List ℕ) (lost spent : Bool) → IsStore is flags agenda spare readings trail (m ∷ ms) lost spent → trail.below ≡ trail'.current ∷ trail'.below
     → is' ≡ take m is → flags' ≡ take m flags → readings' ≡ record { vars = vars; reads = filter (λ r. nat_lt r.agent m) readings.reads } → vars ≡ length trail'.current
     → IsStore is' flags' agenda spare readings' trail' ms false spent × (levels_below (m ∷ ms) trail.below (ranges_of is) ≡ record { posted = ranges_of is'; sets = trail'.current; failed = false } ∷ levels_below ms trail'.below (ranges_of is'))
 popped_store is is' flags flags' agenda spare readings readings' trail trail' m vars ms lost spent s e f g h v =
@@ -352,7 +352,7 @@ domains_more ps sets d =
       some = subst (λ (S : Family). (x : ℕ) → is_none_left (S x) ≡ false) same d.some;
     }
 
-pub with_var : (is : List Posting) (flags : List Bool) (agenda : List ℕ) (spare : ℕ) (readings readings' : Readings) (trail trail' : Stores) (ms : List ℕ) (lost : Bool) → IsStore is flags agenda spare readings trail ms lost false → readings' ≡ record readings { vars = readings.vars + 1 } → trail' ≡ record trail { current = trail.current ++ universe INFINITY ∷ [] }
+pub with_var : (is : List Posting) (flags : List Bool) (agenda : List ℕ) (spare : ℕ) (readings readings' : AgentReads) (trail trail' : Stores) (ms : List ℕ) (lost : Bool) → IsStore is flags agenda spare readings trail ms lost false → readings' ≡ record readings { vars = readings.vars + 1 } → trail' ≡ record trail { current = trail.current ++ universe INFINITY ∷ [] }
     → IsStore is flags agenda spare readings' trail' ms lost false
 with_var is flags agenda spare readings readings' trail trail' ms lost s e f =
     let n : ℕ = length trail.current in
@@ -418,7 +418,7 @@ flagged_all (false ∷ bs) list = omega (arith, flagged_all bs list)
 pub flagged_new : (flags flags' : List Bool) (list : List Posting) (agenda : List ℕ) (spare : ℕ) → AreQueued flags agenda spare → agenda ≡ [] → flags' ≡ flags ++ map (λ _. true) list → flagged flags' ≡ length list
 flagged_new flags flags' list agenda spare q e f = ap flagged f ∙ flagged_all flags list ∙ omega (arith, q.all, ap length e)
 
-pub below_added : (is is' : List Posting) (reads reads' : List Reading) (k v : ℕ) (ms : List ℕ) (ss : List (List (List ℕ))) → k ≤ length is → take (length is) is' ≡ is → ((m : ℕ) → m ≤ length is → filter (λ r. nat_lt r.agent m) reads' ≡ filter (λ r. nat_lt r.agent m) reads) → AreBelow is reads k v ms ss → AreBelow is' reads' k v ms ss
+pub below_added : (is is' : List Posting) (reads reads' : List AgentRead) (k v : ℕ) (ms : List ℕ) (ss : List (List (List ℕ))) → k ≤ length is → take (length is) is' ≡ is → ((m : ℕ) → m ≤ length is → filter (λ r. nat_lt r.agent m) reads' ≡ filter (λ r. nat_lt r.agent m) reads) → AreBelow is reads k v ms ss → AreBelow is' reads' k v ms ss
 below_added is is' reads reads' k v [] [] h e f b = tt
 below_added is is' reads reads' k v [] (s ∷ ss) h e f b = absurd b
 below_added is is' reads reads' k v (m ∷ ms) [] h e f b = absurd b
@@ -428,12 +428,12 @@ below_added is is' reads reads' k v (m ∷ ms) (s ∷ ss) h e f b =
       b.0,
       b.1,
       subst (λ (l : List Posting). All (IsPosting (length s)) l) (sym same) b.2,
-      subst (λ (l : List Reading). All (λ r. r.var < length s) l) (sym (f m low)) b.3,
+      subst (λ (l : List AgentRead). All (λ r. r.var < length s) l) (sym (f m low)) b.3,
       subst (λ (l : List Posting). AreDomains (ranges_of l) s) (sym same) b.4,
       below_added is is' reads reads' m (length s) ms ss low e f b.5,
     )
 
-pub levels_added : (is is' : List Posting) (reads : List Reading) (v : ℕ) (ms : List ℕ) (ss : List (List (List ℕ))) → take (length is) is' ≡ is → AreBelow is reads (length is) v ms ss → levels_below ms ss (ranges_of is') ≡ levels_below ms ss (ranges_of is)
+pub levels_added : (is is' : List Posting) (reads : List AgentRead) (v : ℕ) (ms : List ℕ) (ss : List (List (List ℕ))) → take (length is) is' ≡ is → AreBelow is reads (length is) v ms ss → levels_below ms ss (ranges_of is') ≡ levels_below ms ss (ranges_of is)
 levels_added is is' reads v ms ss e b = sym (levels_cut is reads (length is) (length is) v ms ss (ranges_of is') (omega arith) b) ∙ ap (levels_below ms ss) (take-map ranged (length is) is' ∙ ap ranges_of e)
 
 -- the weights are never more than the whole
@@ -466,7 +466,7 @@ whole_of_part old is' rest list S T e =
     omega arith
 
 -- the store once more is posted
-pub posted_store : (is is' : List Posting) (flags flags' : List Bool) (agenda agenda' : List ℕ) (spare spare' : ℕ) (readings readings' : Readings) (trail trail' : Stores) (ms : List ℕ) (lost lost' spent spent' : Bool) → IsStore is flags agenda spare readings trail ms lost spent
+pub posted_store : (is is' : List Posting) (flags flags' : List Bool) (agenda agenda' : List ℕ) (spare spare' : ℕ) (readings readings' : AgentReads) (trail trail' : Stores) (ms : List ℕ) (lost lost' spent spent' : Bool) → IsStore is flags agenda spare readings trail ms lost spent
     → All (IsPosting (length trail.current)) is' → AllPosted (λ p. IsMonotone INFINITY p.range) (ranges_of is') → AreReaders (ranges_of is') readings'.reads → readings'.vars ≡ length trail.current → All (λ r. r.var < length trail.current) readings'.reads → length flags' ≡ length is'
     → length is ≤ length is' → take (length is) is' ≡ is → ((m : ℕ) → m ≤ length is → filter (λ r. nat_lt r.agent m) readings'.reads ≡ filter (λ r. nat_lt r.agent m) readings.reads) → trail'.below ≡ trail.below → length trail'.current ≡ length trail.current
     → (spent' ≡ false → AreQueued flags' agenda' spare' × (agenda' ≡ [])) → (spent' ≡ false → lost' ≡ false → AreDomains (ranges_of is') trail'.current) → (spent' ≡ false → lost' ≡ true → HasNone (ranges_of is') (length trail'.current))

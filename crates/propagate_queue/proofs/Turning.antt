@@ -10,7 +10,7 @@ use Rattle.fd_model.specs.Closed.{AllPosted}
 use Rattle.fd_language.specs.Monotonicity.{IsMonotone}
 use Rattle.range_code.specs.Frames.{family_of}
 use Rattle.dependency_chains.specs.declared.Change.{Change}
-use Rattle.dependency_chains.specs.Reading.{Reading}
+use Rattle.dependency_chains.specs.AgentReads.{AgentRead}
 use Rattle.dependency_chains.specs.Waking.{change_of, wakes, is_woken}
 use Rattle.domain_trail.specs.Stores.{Stores}
 use Rattle.domain_ranges.specs.Narrowing.{AreEnds}
@@ -44,7 +44,7 @@ same_turn is start old new flags0 flags n0 n n' a i o l e there f done c t =
       count = omega (arith, t.count, c, flagged_off flags a there);
     })
 
-pub moved_turn : (is : List Posting) (reads : List Reading) (start old new : Stores) (flags0 flags flags' : List Bool) (woken : List ℕ) (n0 n n' a : ℕ) (i : Posting) (o : Cut) (before after : ℕ × ℕ) (c : Change) → AllPosted (λ q. IsMonotone INFINITY q.range) (ranges_of is) → AreReaders (ranges_of is) reads → length is ≡ length flags → length flags' ≡ length flags
+pub moved_turn : (is : List Posting) (reads : List AgentRead) (start old new : Stores) (flags0 flags flags' : List Bool) (woken : List ℕ) (n0 n n' a : ℕ) (i : Posting) (o : Cut) (before after : ℕ × ℕ) (c : Change) → AllPosted (λ q. IsMonotone INFINITY q.range) (ranges_of is) → AreReaders (ranges_of is) reads → length is ≡ length flags → length flags' ≡ length flags
     → a < length is → i ≡ get_or is a i → i.target < length old.current → flag_at flags a ≡ true → o ≡ Changed before after → Activated (ranged i) old new o
     → ((xs ys : List ℕ) → AreEnds before xs → AreEnds after ys → length ys < length xs → c ≡ change_of xs ys)
     → ((k : ℕ) → flag_at flags' k ≡ (flag_at (set flags a false) k || has woken k)) → ((k : ℕ) → has woken k ≡ list_any (λ r. (r.agent == k) && ((r.var == i.target) && wakes c r.feature)) reads)

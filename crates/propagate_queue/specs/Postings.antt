@@ -9,7 +9,7 @@ use Rattle.range_code.specs.declared.frame.Arg.{Arg}
 use Rattle.range_code.specs.contracts.frame.Arg as arg
 use Rattle.range_code.specs.Frames.{IsFrame, posted}
 use Rattle.dependency_chains.specs.declared.Change.{Change}
-use Rattle.dependency_chains.specs.Reading.{Reading}
+use Rattle.dependency_chains.specs.AgentReads.{AgentRead}
 use Rattle.dependency_chains.specs.Waking.{wakes, is_woken}
 
 pub record Posting : Type 0 where
@@ -40,6 +40,6 @@ abbrev pub IsPosting : ℕ → Posting → Type 0
 IsPosting count p = (p.target < count) × IsFrame count p.range p.args
 
 -- the agents that a change of x wakes are those that read what changed
-pub record AreReaders (ps : List Indexical) (reads : List Reading) : Type 0 where
+pub record AreReaders (ps : List Indexical) (reads : List AgentRead) : Type 0 where
   pub known : All (λ r. r.agent < length ps) reads
   pub same : (a : ℕ) (d : Indexical) (x : ℕ) (c : Change) → a < length ps → list_any (λ r. (r.agent == a) && ((r.var == x) && wakes c r.feature)) reads ≡ is_woken c x (range_features (slice_index_or ps a d).range)

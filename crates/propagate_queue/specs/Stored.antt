@@ -7,7 +7,7 @@ use Rattle.fd_model.specs.Weights.{weights, whole_weights}
 use Rattle.range_code.specs.Frames.{family_of}
 use Rattle.fd_model.specs.Closed.{AllPosted}
 use Rattle.fd_language.specs.Monotonicity.{IsMonotone}
-use Rattle.dependency_chains.specs.Reading.{Reading, Readings}
+use Rattle.dependency_chains.specs.AgentReads.{AgentRead, AgentReads}
 use Rattle.domain_trail.specs.Stores.{Stores}
 use Rattle.propagate_queue.specs.declared.store.Posted.{Posted}
 use Rattle.propagate_queue.specs.declared.store.Posted.TheVariants.{Kept, Failed}
@@ -22,7 +22,7 @@ levels_below (m ∷ ms) (s ∷ ss) ps = record { posted = take m ps; sets = s; f
 levels_below _ _ ps = []
 
 -- each level below is settled, and its ranges speak of its own variables
-abbrev pub AreBelow : List Posting → List Reading → ℕ → ℕ → List ℕ → List (List (List ℕ)) → Type 0
+abbrev pub AreBelow : List Posting → List AgentRead → ℕ → ℕ → List ℕ → List (List (List ℕ)) → Type 0
 AreBelow is reads posted vars [] [] = Unit {0}
 AreBelow is reads posted vars (m ∷ ms) (s ∷ ss) =
     (m ≤ posted)
@@ -34,7 +34,7 @@ AreBelow is reads posted vars (m ∷ ms) (s ∷ ss) =
 AreBelow is reads posted vars [] (s ∷ ss) = ⊥
 AreBelow is reads posted vars (m ∷ ms) [] = ⊥
 
-pub record IsStore (is : List Posting) (flags : List Bool) (agenda : List ℕ) (spare : ℕ) (readings : Readings) (trail : Stores) (ms : List ℕ) (lost spent : Bool) : Type 0 where
+pub record IsStore (is : List Posting) (flags : List Bool) (agenda : List ℕ) (spare : ℕ) (readings : AgentReads) (trail : Stores) (ms : List ℕ) (lost spent : Bool) : Type 0 where
   pub instances : All (IsPosting (length trail.current)) is
   pub monotone : AllPosted (λ p. IsMonotone INFINITY p.range) (ranges_of is)
   pub readers : AreReaders (ranges_of is) readings.reads

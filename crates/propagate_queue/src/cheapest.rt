@@ -3,7 +3,7 @@
 ghost use Rattle.std.specs.Prelude.{◌≡◌, ◌<◌, ◌≤◌, ◌+◌, ◌-◌, ◌^◌, min, ℕ, [], ◌∷◌, length, All, IfSome, IfNone};
 ghost use Rattle.std.specs.List.Sorted.{IsPermutation};
 ghost use Rattle.propagate_queue.specs.Queues.{times};
-ghost use Rattle.propagate_queue.specs.Waiting.{agents_of, IsCheapest};
+ghost use Rattle.propagate_queue.specs.AgendaEntries.{agents_of, IsCheapest};
 
 use crate::agenda::Agenda;
 use fd_language::NoMemory;
@@ -23,13 +23,13 @@ pub struct Cheapest {
 }
 
 impl Model for Cheapest {
-    ghost use Rattle.propagate_queue.specs.Waiting.{Waitings};
+    ghost use Rattle.propagate_queue.specs.AgendaEntries.{AgendaEntries};
 
-    ghost Value = { Waitings };
+    ghost Value = { AgendaEntries };
 
     ghost use Rattle.std.specs.Prelude.{◌-◌, map};
     ghost use Rattle.std.specs.BinaryHeap.{heap_items, heap_len, heap_capacity};
-    ghost use Rattle.propagate_queue.specs.Heaped.{waiting, AreHeaped};
+    ghost use Rattle.propagate_queue.specs.AgendaHeap.{waiting, AreHeaped};
 
     ghost view = { λ c. record {
       waiting = map waiting (heap_items c.heap);

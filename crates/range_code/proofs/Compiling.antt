@@ -16,7 +16,7 @@ use Rattle.fd_language.specs.declared.range_node.Feature.TheVariants as feature
 use Rattle.fd_language.specs.Family.{count_up}
 use Rattle.fd_language.specs.Features.{each_once, is_same_pair, feature_at, node_features}
 use Rattle.fd_language.proofs.Lemmas.{two, whole_nodes, bounded_values, needs_met}
-use Rattle.range_code.specs.Asked.{need_in}
+use Rattle.range_code.specs.ParameterNeeds.{need_in}
 use Rattle.range_code.specs.Nodes.{node_variables, node_variable, listed, rename_node}
 use Rattle.range_code.specs.Slots.{slots_of, slot_of, slot_needs, in_slots, slot_features}
 use Rattle.range_code.specs.Kinds.{has_pair, all_told, val_slots}
@@ -38,10 +38,10 @@ use Rattle.range_code.specs.Forms.{IsForm, IsShifted}
 use Rattle.range_code.specs.declared.form.Form.{Form}
 use Rattle.range_code.specs.declared.compile.ReadKind.{ReadKind}
 use Rattle.range_code.specs.declared.evaluate.Steps.{Steps}
-use Rattle.range_code.specs.Gathered.{IsNumbered}
+use Rattle.range_code.specs.SlotNumbering.{IsNumbered}
 use Rattle.range_code.specs.declared.compile.Numbered.{Numbered}
 use Rattle.range_code.proofs.Variables.{node_variables_of, names_of, one_more}
-use Rattle.range_code.proofs.Asking.{need_more, needs_found}
+use Rattle.range_code.proofs.SlotNeeds.{need_more, needs_found}
 
 pub copied : (o : Option Range) (x r : Range) (P : Type 0) (items ns : List RangeNode) → o ≡ Some x → MatchOption o P (λ f. nodes_of f ≡ items) → items ≡ ns → ns ≡ nodes_of r → x ≡ r
 copied o x r P items ns e h f g =

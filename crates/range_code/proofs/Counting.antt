@@ -7,7 +7,7 @@ use Rattle.range_code.specs.declared.work.Work.{Work}
 use Rattle.range_code.specs.declared.evaluate.Steps.{Steps}
 use Rattle.range_code.specs.declared.instr.RangeInstr.{RangeInstr}
 use Rattle.range_code.specs.Instructions.{node_of}
-use Rattle.range_code.specs.Walked.{steps_from}
+use Rattle.range_code.specs.StepNodes.{steps_from}
 use Rattle.fd_language.specs.Range.{Range, Span, One, Dom, Union, Inter, Outside, Plus, Minus, Times, Over, Expr, Number, Infinity, Param, Min, Max, Val, Add, Sub, Mul, DivDown, DivUp}
 use Rattle.fd_language.specs.Flat.{range_nodes, expr_nodes, IsSpelled}
 use Rattle.range_code.specs.Heights.{values_after, sets_after, peak, tallest, HasRoom, IsCounted, KeepsRoom}

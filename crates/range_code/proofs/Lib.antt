@@ -1,12 +1,12 @@
 pub mod Tables
-pub mod Reading
+pub mod TakenNodes
 pub mod Variables
 pub mod Once
 pub mod Fits
 pub mod Framing
 pub mod Standings
 pub mod Walks
-pub mod Asking
+pub mod SlotNeeds
 pub mod Opened
 pub mod Compiling
 pub mod Opening

@@ -26,7 +26,7 @@ use Rattle.fd_language.specs.Check.{literal_value}
 use Rattle.range_code.proofs.Folding.{folds_to}
 use Rattle.range_code.specs.Instructions.{integers, table_of, tests_for, instr_of, node_of, IsPlaced}
 use Rattle.range_code.specs.Compiled.{AreStepsOf}
-use Rattle.range_code.specs.Walked.{all_steps, ArePlaced}
+use Rattle.range_code.specs.StepNodes.{all_steps, ArePlaced}
 
 -- an integer that is in a list has a place there
 equal_refl : (z : ℤ) → int_eq z z ≡ true

@@ -18,7 +18,7 @@ use Rattle.range_code.specs.declared.frame.Arg.TheVariants.{Var, Int}
 use Rattle.range_code.specs.Slots.{slot_of}
 use Rattle.range_code.specs.Frames.{IsArg, IsFrame, integer_of, arg_at, slot_variable, slot_integer, posted}
 use Rattle.range_code.proofs.Once.{has_once}
-use Rattle.range_code.proofs.Asking.{of_asks, range_asked}
+use Rattle.range_code.proofs.SlotNeeds.{of_asks, range_asked}
 use Rattle.range_code.proofs.Framing.{params_placed, slotted, reads_seen}
 use Rattle.range_code.proofs.Standings.{reads_filled}
 

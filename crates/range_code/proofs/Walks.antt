@@ -21,7 +21,7 @@ use Rattle.range_code.specs.declared.evaluate.Steps.{Steps}
 use Rattle.range_code.specs.declared.instr.RangeInstr.{RangeInstr}
 use Rattle.range_code.specs.declared.instr.RangeInstr.TheVariants as instr
 use Rattle.range_code.specs.Instructions.{node_of}
-use Rattle.range_code.specs.Walked.{steps_from, all_steps, IsAt}
+use Rattle.range_code.specs.StepNodes.{steps_from, all_steps, IsAt}
 use Rattle.domain_ranges.specs.Narrowing.{between}
 use Rattle.range_code.specs.Work.{filled_value, filled_set, Fits, RangeFits, CanOperate, CanMove, CanTake, stacked_values, stacked_sets, IsPending, Follows, IsTaken}
 

@@ -9,9 +9,9 @@ pub mod Work
 pub mod Pieces
 pub mod Steps
 pub mod Heights
-pub mod Walked
-pub mod Asked
-pub mod Gathered
+pub mod StepNodes
+pub mod ParameterNeeds
+pub mod SlotNumbering
 pub mod Compiled
 pub mod Choices
 pub mod Forms

@@ -6,12 +6,12 @@ ghost use Rattle.indexmap.specs.IndexMap.{get};
 ghost use Rattle.fd_language.specs.declared.range_node.Feature.TheVariants as Told;
 ghost use Rattle.fd_language.specs.Features.{each_once, is_same_feature, is_same_pair, node_features as read_by};
 ghost use Rattle.range_code.specs.Nodes.{node_variable, listed, node_variables, rename_node};
-ghost use Rattle.range_code.specs.Asked.{need_in};
+ghost use Rattle.range_code.specs.ParameterNeeds.{need_in};
 ghost use Rattle.fd_language.specs.Family.{count_up};
 ghost use Rattle.range_code.specs.Kinds.{has_pair, told_as as told_by, all_told};
 ghost use Rattle.range_code.specs.Heights.{values_after, sets_after, tallest};
 ghost use Rattle.range_code.specs.Pieces.{piece_node};
-ghost use Rattle.range_code.specs.Gathered.{IsNumbered};
+ghost use Rattle.range_code.specs.SlotNumbering.{IsNumbered};
 ghost use Rattle.fd_language.specs.Needs.{once, needs as asked_by};
 
 use crate::fold::Piece;

@@ -14,7 +14,7 @@ ghost use Rattle.fd_language.specs.Family.{universe};
 ghost use Rattle.range_code.specs.Choices.{is_chosen, AreRising};
 ghost use Rattle.range_code.specs.Forms.{IsForm};
 ghost use Rattle.range_code.specs.Instructions.{node_of, IsPlaced};
-ghost use Rattle.range_code.specs.Walked.{steps_from, all_steps, ArePlaced, IsAt};
+ghost use Rattle.range_code.specs.StepNodes.{steps_from, all_steps, ArePlaced, IsAt};
 ghost use Rattle.domain_ranges.specs.Narrowing.{between, IsNarrowed};
 
 use crate::choice::gather;

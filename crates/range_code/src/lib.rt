@@ -14,7 +14,7 @@ ghost use Rattle.range_code.specs.Folded.{folded_nodes};
 ghost use Rattle.range_code.specs.Pieces.{pieces_of, piece_node, literals};
 ghost use Rattle.range_code.specs.Compiled.{AreStepsOf};
 ghost use Rattle.range_code.specs.Instructions.{instructions_of, tests_of};
-ghost use Rattle.range_code.specs.Walked.{all_steps, ArePlaced};
+ghost use Rattle.range_code.specs.StepNodes.{all_steps, ArePlaced};
 ghost use Rattle.range_code.specs.Forms.{IsForm, IsShifted};
 ghost use Rattle.range_code.specs.Reaching.{IsReach};
 ghost use Rattle.std.specs.List.{list_any};

@@ -1,4 +1,4 @@
-mod Wanted
+mod TermNodes
 mod Rows
 mod Positions
 mod Walks

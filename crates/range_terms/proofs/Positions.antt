@@ -15,11 +15,11 @@ use Rattle.range_terms.specs.declared.names.RangeOperator.{RangeOperator}
 use Rattle.range_terms.specs.declared.forms.Position.{Position}
 use Rattle.range_terms.specs.declared.forms.Position.TheVariants as position
 use Rattle.term_pool.specs.PlacedTerms.{parts_by}
-use Rattle.range_terms.specs.Wanted.{Wanted, wanted, one_node, joined, of_expr, of_range}
+use Rattle.range_terms.specs.TermNodes.{Wanted, wanted, one_node, joined, of_expr, of_range}
 use Rattle.range_terms.specs.Forms.{IsNoVariable, IsNumber, IsOfTerms}
 use Rattle.range_terms.specs.Names.{range_operator_of, term_operator_of, feature_of}
 use Rattle.fd_language.proofs.Lemmas.{expr_append, range_append}
-use Rattle.range_terms.proofs.Wanted.{two_exprs, two_ranges, range_and_expr, behind_one, behind_two}
+use Rattle.range_terms.proofs.TermNodes.{two_exprs, two_ranges, range_and_expr, behind_one, behind_two}
 use Rattle.range_terms.proofs.Rows.{IsRangeRow, range_row, IsTermRow, term_row, IsFeatureRow, feature_row}
 
 -- it fits nowhere

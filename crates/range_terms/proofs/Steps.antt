@@ -17,7 +17,7 @@ use Rattle.range_terms.specs.declared.walk.Task.{Task}
 use Rattle.range_terms.specs.declared.walk.Task.TheVariants as task
 use Rattle.range_terms.specs.declared.walk.Found.{Found}
 use Rattle.term_pool.specs.PlacedTerms.{placed_by, placed_of}
-use Rattle.range_terms.specs.Wanted.{Wanted, wanted}
+use Rattle.range_terms.specs.TermNodes.{Wanted, wanted}
 use Rattle.range_terms.specs.Forms.{of_operand, IsForm, IsNoVariable}
 use Rattle.range_terms.specs.Walk.{IsOf, Replaces}
 use Rattle.range_terms.proofs.Walks.{load_two, load_three, step_open}

@@ -9,9 +9,9 @@ use Rattle.fd_language.specs.Spelling.{least_place}
 use Rattle.term_pool.specs.Contents.{Contents}
 use Rattle.range_terms.specs.declared.walk.Task.{Task}
 use Rattle.range_terms.specs.declared.walk.Found.{Found}
-use Rattle.range_terms.specs.Wanted.{Wanted, one_node, joined}
+use Rattle.range_terms.specs.TermNodes.{Wanted, one_node, joined}
 use Rattle.range_terms.specs.Walk.{of_task, left, task_weight, load, IsOf, Puts, Refuses, Replaces, IsLeft}
-use Rattle.range_terms.proofs.Wanted.{joined-nil, joined_assoc}
+use Rattle.range_terms.proofs.TermNodes.{joined-nil, joined_assoc}
 
 pub left_append : (c : Contents) (ps qs : List Task) → left c (ps ++ qs) ≡ joined (left c qs) (left c ps)
 left_append c [] qs = sym (joined-nil (left c qs))

@@ -11,7 +11,7 @@ use Rattle.fd_language.specs.Spelling.{read_range, not_a_range, least_place}
 use Rattle.term_pool.specs.Contents.{Contents}
 use Rattle.range_terms.specs.declared.walk.Found.{Found}
 use Rattle.range_terms.specs.declared.forms.Position.TheVariants as position
-use Rattle.range_terms.specs.Wanted.{wanted}
+use Rattle.range_terms.specs.TermNodes.{wanted}
 use Rattle.range_terms.specs.Walk.{IsLeft}
 use Rattle.range_terms.proofs.Walks.{least_none}
 

@@ -10,7 +10,7 @@ use Rattle.range_terms.specs.declared.forms.Operand.{Operand}
 use Rattle.range_terms.specs.declared.forms.Form.{Form}
 use Rattle.range_terms.specs.declared.forms.Form.TheVariants as form
 use Rattle.term_pool.specs.PlacedTerms.{placed_of}
-use Rattle.range_terms.specs.Wanted.{Wanted, wanted, one_node, joined}
+use Rattle.range_terms.specs.TermNodes.{Wanted, wanted, one_node, joined}
 
 -- what is wanted of an operand
 abbrev pub of_operand : Contents → Operand → Wanted

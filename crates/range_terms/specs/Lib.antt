@@ -1,4 +1,4 @@
-pub mod Wanted
+pub mod TermNodes
 pub mod Forms
 pub mod Names
 pub mod Walk

@@ -8,7 +8,7 @@ use Rattle.term_pool.specs.Terms.{term_of, size}
 use Rattle.range_terms.specs.declared.walk.Task.{Task}
 use Rattle.range_terms.specs.declared.walk.Task.TheVariants as task
 use Rattle.range_terms.specs.declared.walk.Found.{Found}
-use Rattle.range_terms.specs.Wanted.{Wanted, nothing, one_node, joined}
+use Rattle.range_terms.specs.TermNodes.{Wanted, nothing, one_node, joined}
 use Rattle.range_terms.specs.Forms.{of_operand}
 
 -- what is to come of a task

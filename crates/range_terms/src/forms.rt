@@ -5,7 +5,7 @@ ghost use Rattle.fd_language.specs.PlacedTerm.{var, comp, one, two};
 ghost use Rattle.fd_language.specs.Spelling.{read_dom};
 ghost use Rattle.term_pool.specs.Contents.{Contents, Shape, shape_at, place_at, parts_of};
 ghost use Rattle.term_pool.specs.PlacedTerms.{placed_of, parts_by};
-ghost use Rattle.range_terms.specs.Wanted.{Wanted, wanted, of_range};
+ghost use Rattle.range_terms.specs.TermNodes.{Wanted, wanted, of_range};
 ghost use Rattle.range_terms.specs.Forms.{IsForm, IsNoVariable, IsOfTerms, IsNumber, of_operand};
 ghost use Rattle.range_terms.specs.declared.forms.Position.TheVariants as place_in;
 

@@ -3,7 +3,7 @@
 ghost use Rattle.std.specs.Prelude.{◌≡◌, ◌<◌, ◌*◌, [], length, IfOk, OnOk};
 ghost use Rattle.term_pool.specs.Terms.{term_of, size};
 ghost use Rattle.term_pool.specs.PlacedTerms.{placed_of};
-ghost use Rattle.range_terms.specs.Wanted.{wanted};
+ghost use Rattle.range_terms.specs.TermNodes.{wanted};
 ghost use Rattle.range_terms.specs.Walk.{of_task, task_weight, IsOf, Puts, Refuses, Replaces, IsLeft};
 ghost use Rattle.range_terms.specs.Forms.{of_operand};
 ghost use Rattle.range_terms.specs.declared.forms.Position.TheVariants as place_in;

@@ -27,12 +27,12 @@ use Rattle.wam_code.specs.Effect.{is_set, is_free, with_set, with_owed, unify_ef
 use Rattle.wam_code.specs.Verified.{goes_on}
 use Rattle.code_areas.specs.Areas.{Contents}
 use Rattle.code_steps.specs.Registers.{Registers, Saved, cell_in, IsWritten}
-use Rattle.code_steps.specs.Building.{End, Builds}
+use Rattle.code_steps.specs.WriteMode.{End, Builds}
 use Rattle.code_steps.proofs.Lemmas.{build_variable, build_value, build_constant, build_integer, build_void, build_voids}
 use Rattle.code_states.specs.Machine.{saved_of, registers_of, stack_of, IsSameBehind}
 use Rattle.code_states.specs.Safety.{Fits, IsSafe}
 use Rattle.code_states.specs.Standing.{IsNaming}
-use Rattle.term_instructions.specs.Building.{Purpose, for_head, for_goal, end_of, gathered, IsGatheredTo, AddsVariables, AreVariablesAdded, GivesOne}
+use Rattle.term_instructions.specs.WriteMode.{Purpose, for_head, for_goal, end_of, gathered, IsGatheredTo, AddsVariables, AreVariablesAdded, GivesOne}
 use Rattle.code_states.proofs.Lemmas.{found, when_parts, some_is, written_fits, written_own, cells_kept, next_safe}
 use Rattle.term_instructions.proofs.Steps.{next_among, among_both, among_none, same_behind, behind_both, same_below, below_heap, below_both, owed_set, held_own, new_slot_own}
 use Rattle.term_instructions.proofs.Unify.{fits_owed, effect_owed, no_void}

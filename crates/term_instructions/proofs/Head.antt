@@ -33,8 +33,8 @@ use Rattle.wam_code.specs.Places.{count}
 use Rattle.wam_code.specs.Effect.{with_owed}
 use Rattle.wam_code.specs.Verified.{IsAtom}
 use Rattle.code_areas.specs.Areas.{cell_at, IsSet, Contents}
-use Rattle.code_steps.specs.Building.{GetEnd, Builds}
-use Rattle.code_steps.specs.Reading.{Reads}
+use Rattle.code_steps.specs.WriteMode.{GetEnd, Builds}
+use Rattle.code_steps.specs.ReadMode.{Reads}
 use Rattle.code_steps.specs.Standing.{Stands}
 use Rattle.code_steps.specs.Steps.{GoesOnEqual}
 use Rattle.code_steps.proofs.Lemmas.{start_get, end_get, IsNone, step_get_structure, read_end, stands_no_model}
@@ -44,9 +44,9 @@ use Rattle.code_states.specs.Standing.{IsNaming, KeepsStanding, went_to}
 use Rattle.code_states.specs.Work.{LeadsOn}
 use Rattle.code_states.specs.Equating.{Equates}
 use Rattle.term_instructions.specs.Arguments.{LeadsAmong, LeadsFrom}
-use Rattle.term_instructions.specs.declared.reading.Reading.{Reading}
-use Rattle.term_instructions.specs.Building.{for_head, BuildsAt, IsGatheredTo, BuildsThen, BuildsFor}
-use Rattle.term_instructions.specs.Reading.{ReadsAt, IsReadTo, IsRefused, ReadsThen}
+use Rattle.term_instructions.specs.declared.reading.ReadPosition.{ReadPosition}
+use Rattle.term_instructions.specs.WriteMode.{for_head, BuildsAt, IsGatheredTo, BuildsThen, BuildsFor}
+use Rattle.term_instructions.specs.ReadMode.{ReadsAt, IsReadTo, IsRefused, ReadsThen}
 use Rattle.code_states.specs.declared.went.Went.{Went}
 use Rattle.code_states.specs.declared.went.Went.TheVariants.{On, Back}
 use Rattle.code_states.proofs.Lemmas.{same_cells, found, when_parts, back_safe, next_safe}
@@ -62,7 +62,7 @@ drop_all (x ∷ xs) = drop_all xs
 -- ---- the arguments of one that is there
 
 -- what was touched is posted, or has no model
-pub read_then : (area : Area) (cells : List Cell) (s : branch.State) (told : List Touch) (from : Reading) (c : Contents) (s1 : branch.State) (told1 : List Touch) (at : ℕ) (c1 : Contents) → IsReadTo area cells s told from c s1 told1 (record { at = at; next = length cells }) c1
+pub read_then : (area : Area) (cells : List Cell) (s : branch.State) (told : List Touch) (from : ReadPosition) (c : Contents) (s1 : branch.State) (told1 : List Touch) (at : ℕ) (c1 : Contents) → IsReadTo area cells s told from c s1 told1 (record { at = at; next = length cells }) c1
     → (s2 : branch.State) (given : List Touch) → given ≡ told1 → (posted : Bool) → (E : Type 0) → s2.heaps ≡ s1.heaps → IsSameBelow s1 s2 → IfTrue {E = E} (Ok posted) (s2.levels.current.posted ≡ posted_with s1 given) → IfFalse {E = E} (Ok posted) (branch.HasNoModel (posted_with s1 given)) → IfTrue {E = E} (Ok posted) (IsSound s2) → IfFalse {E = E} (Ok posted) (IsSoundBelow s2) → ReadsThen area (drop from.next cells) s told from.at c s2 c1 (went_to at posted)
 read_then area cells s told from c s1 told1 at c1 g s2 given is true E heap below all none sound back =
     let none_left : length cells - length cells ≡ 0 = omega arith in
@@ -91,7 +91,7 @@ read_then area cells s told from c s1 told1 at c1 g s2 given is false E heap bel
           stands_no_model INFINITY area shown name s1.heaps.now (posted_with s1 told1) at (registers_of c1) (stack_of c1) b st (subst branch.HasNoModel (ap (posted_with s1) is) none);
     }
 
-pub refused_then : (area : Area) (cells : List Cell) (s : branch.State) (told : List Touch) (from : Reading) (c : Contents) (s1 : branch.State) (c1 : Contents) → IsRefused area cells s told from c s1 c1 → ReadsThen area (drop from.next cells) s told from.at c s1 c1 Back
+pub refused_then : (area : Area) (cells : List Cell) (s : branch.State) (told : List Touch) (from : ReadPosition) (c : Contents) (s1 : branch.State) (c1 : Contents) → IsRefused area cells s told from c s1 c1 → ReadsThen area (drop from.next cells) s told from.at c s1 c1 Back
 refused_then area cells s told from c s1 c1 r = record { safe = r.safe; leads = tt; behind = r.behind; below = r.below; stands = r.none }
 
 led_both : (area : Area) (a b : ℕ) → LeadsAmong area a b → (w : Went) → LeadsFrom area b w → LeadsFrom area a w
@@ -99,7 +99,7 @@ led_both area a b some (On to) more = among_both area a b to some more
 led_both area a b some Back more = tt
 
 -- Some of them were read by a look.
-module _ (area : Area) (cells : List Cell) (s : branch.State) (from : Reading) (c : Contents) (to : Reading) (c1 : Contents) (g : IsReadTo area cells s [] from c s [] to c1) where
+module _ (area : Area) (cells : List Cell) (s : branch.State) (from : ReadPosition) (c : Contents) (to : ReadPosition) (c1 : Contents) (g : IsReadTo area cells s [] from c s [] to c1) where
   -- and these were all
   pub looked_all : to.next ≡ length cells → ReadsThen area (drop from.next cells) s [] from.at c s c1 (On to.at)
   looked_all all =

@@ -34,13 +34,13 @@ use Rattle.wam_code.specs.Places.{count}
 use Rattle.code_areas.specs.Areas.{Contents}
 use Rattle.code_steps.specs.Registers.{Registers, Saved, cell_in, IsWritten}
 use Rattle.code_steps.specs.Standing.{Made}
-use Rattle.code_steps.specs.Reading.{AreCells as CellsShown, Reads, ReadsOnEqual}
+use Rattle.code_steps.specs.ReadMode.{AreCells as CellsShown, Reads, ReadsOnEqual}
 use Rattle.code_steps.proofs.Lemmas.{read_variable, read_value, read_constant, read_integer, read_void, read_voids}
 use Rattle.code_states.specs.Machine.{saved_of, registers_of, stack_of, IsSameBehind}
 use Rattle.code_states.specs.Safety.{Fits, IsSafe}
 use Rattle.code_states.specs.Standing.{IsNaming}
-use Rattle.term_instructions.specs.Reading.{ReadsAt, AreTold, IsReadTo, IsRefused, ReadsOn, IsNextPlace, TellsEqual, LooksOn}
-use Rattle.term_instructions.specs.declared.reading.Reading.{Reading}
+use Rattle.term_instructions.specs.ReadMode.{ReadsAt, AreTold, IsReadTo, IsRefused, ReadsOn, IsNextPlace, TellsEqual, LooksOn}
+use Rattle.term_instructions.specs.declared.reading.ReadPosition.{ReadPosition}
 use Rattle.term_instructions.specs.declared.reading.Look.{Look}
 use Rattle.term_instructions.specs.declared.reading.Look.TheVariants.{Read, Refused, Unclear}
 use Rattle.code_states.proofs.Lemmas.{same_cells, found, when_parts, some_is, written_fits, written_own, cells_kept, back_safe, next_safe}
@@ -78,7 +78,7 @@ module _ (area : Area) (cells : List Cell) (s : branch.State) (told : List Touch
   abbrev qs : List Indexical
   qs = posted_with s told
 
-  abbrev from : Reading
+  abbrev from : ReadPosition
   from = record { at = at; next = i }
 
   abbrev left : List Cell
@@ -88,7 +88,7 @@ module _ (area : Area) (cells : List Cell) (s : branch.State) (told : List Touch
   opened shown name b m = subst (λ l. ReadsAt area shown name s told at c l b) first m
 
   -- the register takes the argument
-  pub reads_variable : (r : Register) → Holds area at (UnifyVariable r) → IsCell s d → (c' : Contents) → IsWritten (registers_of c) r d (registers_of c') → IsSameBehind c c' → length c'.slots ≡ length c.slots → (to : Reading) → to.at ≡ suc at → to.next ≡ suc i → IsReadTo area cells s told from c s told to c'
+  pub reads_variable : (r : Register) → Holds area at (UnifyVariable r) → IsCell s d → (c' : Contents) → IsWritten (registers_of c) r d (registers_of c') → IsSameBehind c c' → length c'.slots ≡ length c.slots → (to : ReadPosition) → to.at ≡ suc at → to.next ≡ suc i → IsReadTo area cells s told from c s told to c'
   reads_variable r holds d_own c' w same size to at_is next_is =
       let e = found area s at (length cells - i) c (UnifyVariable r) safe holds in
       let u = when_parts (is_free e.state r) (with_set (with_owed e.state (e.state.owed - 1)) r) e.handed (effect_owed (length cells - i) area.entries (UnifyVariable r) e.state e.handed (omega (arith, more)) e.effect_is) in
@@ -111,7 +111,7 @@ module _ (area : Area) (cells : List Cell) (s : branch.State) (told : List Touch
       }
 
   -- so many arguments are passed over
-  pub reads_void : (k : ℕ) → Holds area at (UnifyVoid k) → k ≤ length cells - i → (to : Reading) → to.at ≡ suc at → to.next ≡ i + k → IsReadTo area cells s told from c s told to c
+  pub reads_void : (k : ℕ) → Holds area at (UnifyVoid k) → k ≤ length cells - i → (to : ReadPosition) → to.at ≡ suc at → to.next ≡ i + k → IsReadTo area cells s told from c s told to c
   reads_void k holds low to at_is next_is =
       let e = found area s at (length cells - i) c (UnifyVoid k) safe holds in
       let u = when_parts (nat_le k e.state.owed) (with_owed e.state (e.state.owed - k)) e.handed (effect_owed (length cells - i) area.entries (UnifyVoid k) e.state e.handed (omega (arith, more)) e.effect_is) in
@@ -144,7 +144,7 @@ module _ (area : Area) (cells : List Cell) (s : branch.State) (told : List Touch
   pub reads_equal : (step : Code) → Holds area at step → goes_on step ≡ true → ((t u : State) → unify_effect step t ≡ Some u → u ≡ with_owed t (t.owed - 1)) → (e : Cell)
       → ((shown : List ℕ) (name : Naming) (b : Branch) → IsNaming area name → Reads INFINITY area shown name h qs 0 at (registers_of c) (d ∷ left) (stack_of c) b → ReadsOnEqual INFINITY area shown name h qs (suc at) (registers_of c) left (stack_of c) b d e)
       → (E : Type 0) → (s' : branch.State) (told' : List Touch) (equal : Bool) → IfTrue {E = E} (Ok equal) (IsEqualled h d e s'.heaps.now told told') → IfFalse {E = E} (Ok equal) (CannotUnify h d e) → (AreTold s told → IfTrue {E = E} (Ok equal) (AreTold s' told')) → s' ≡ with_heap s s'.heaps.now
-      → IfTrue {E = E} (Ok equal) (IsSound s') → IfFalse {E = E} (Ok equal) (IsSoundBelow s') → (to : Reading) → to.at ≡ suc at → to.next ≡ suc i → ReadsOn area cells s told from c s' told' c (if equal then Some to else None)
+      → IfTrue {E = E} (Ok equal) (IsSound s') → IfFalse {E = E} (Ok equal) (IsSoundBelow s') → (to : ReadPosition) → to.at ≡ suc at → to.next ≡ suc i → ReadsOn area cells s told from c s' told' c (if equal then Some to else None)
   reads_equal step holds on stays e ons E s' told' true done un told_then heap sound back to at_is next_is =
       let f = found area s at (length cells - i) c step safe holds in
       let k = stays f.state f.handed (effect_owed (length cells - i) area.entries step f.state f.handed (omega (arith, more)) f.effect_is) in
@@ -202,7 +202,7 @@ constant_stays i t u e = some_is (with_owed t (t.owed - 1)) u e
 pub integer_stays : (z : ℤ) (t u : State) → unify_effect (UnifyInteger z) t ≡ Some u → u ≡ with_owed t (t.owed - 1)
 integer_stays z t u e = some_is (with_owed t (t.owed - 1)) u e
 
-pub next_place : (equal : Bool) (at : ℕ) (to : Reading) → to.at ≡ suc at → IsNextPlace at (if equal then Some to else None)
+pub next_place : (equal : Bool) (at : ℕ) (to : ReadPosition) → to.at ≡ suc at → IsNextPlace at (if equal then Some to else None)
 next_place true at to e = e
 next_place false at to e = tt
 
@@ -213,7 +213,7 @@ module _ (area : Area) (cells : List Cell) (s : branch.State) (at i : ℕ) (c : 
   untold = All-nil (IsTouchBelow (length s.levels.current.sets))
 
   -- The code gives a cell that the argument is equal to.
-  same_looked : (step : Code) → Holds area at step → goes_on step ≡ true → ((t u : State) → unify_effect step t ≡ Some u → u ≡ with_owed t (t.owed - 1)) → (e : Cell) → OnsEqual area cells s [] at i c safe more own untold d first e → IsEqualled s.heaps.now d e s.heaps.now [] [] → (to : Reading) → to.at ≡ suc at → to.next ≡ suc i
+  same_looked : (step : Code) → Holds area at step → goes_on step ≡ true → ((t u : State) → unify_effect step t ≡ Some u → u ≡ with_owed t (t.owed - 1)) → (e : Cell) → OnsEqual area cells s [] at i c safe more own untold d first e → IsEqualled s.heaps.now d e s.heaps.now [] [] → (to : ReadPosition) → to.at ≡ suc at → to.next ≡ suc i
       → IsReadTo area cells s [] (record { at = at; next = i }) c s [] to c
   same_looked step holds on stays e ons same = reads_equal area cells s [] at i c safe more own untold d first step holds on stays e ons NoMemory s [] true same tt (λ a. a) refl safe.sound tt
 
@@ -222,11 +222,11 @@ module _ (area : Area) (cells : List Cell) (s : branch.State) (at i : ℕ) (c : 
   other_looked step holds on stays e ons un =
       reads_equal area cells s [] at i c safe more own untold d first step holds on stays e ons NoMemory s [] false tt un (λ a. tt) refl tt (record { unspent = safe.sound.unspent; marked = safe.sound.marked; below = safe.sound.below }) (record { at = suc at; next = suc i }) refl refl
 
-  abbrev Looks : Reading → Look → Type 0
+  abbrev Looks : ReadPosition → Look → Type 0
   Looks to l = to.at ≡ suc at → to.next ≡ suc i → LooksOn area cells s (record { at = at; next = i }) c c l
 
   -- what a look tells, where the code gives an atom
-  pub looked_atom : (k : AtomId) → Holds area at (UnifyConstant k) → (root : Cell) → Same s.heaps.now d root → (to : Reading) (l : Look) → TellsEqual root (cell.Atom k) to l → Looks to l
+  pub looked_atom : (k : AtomId) → Holds area at (UnifyConstant k) → (root : Cell) → Same s.heaps.now d root → (to : ReadPosition) (l : Look) → TellsEqual root (cell.Atom k) to l → Looks to l
   looked_atom k holds root same to (Read there) t at_is next_is =
       let h = s.heaps.now in
       let equal = atoms_true h safe.sound.now.valid d (cell.Atom k) d_own tt k k true [] (sym (eq-eqb k.number k.number refl)) (λ name. same name ∙ ap (term_of name h) t.0) (λ name. refl) in
@@ -242,7 +242,7 @@ module _ (area : Area) (cells : List Cell) (s : branch.State) (at i : ℕ) (c : 
   looked_atom k holds root same to Unclear t at_is next_is = refl
 
   -- and where it gives an integer
-  pub looked_integer : (z : ℤ) → Holds area at (UnifyInteger z) → (root : Cell) → Same s.heaps.now d root → (to : Reading) (l : Look) → TellsEqual root (cell.Int z) to l → Looks to l
+  pub looked_integer : (z : ℤ) → Holds area at (UnifyInteger z) → (root : Cell) → Same s.heaps.now d root → (to : ReadPosition) (l : Look) → TellsEqual root (cell.Int z) to l → Looks to l
   looked_integer z holds root same to (Read there) t at_is next_is =
       let h = s.heaps.now in
       let equal = integers_true h safe.sound.now.valid d (cell.Int z) d_own tt z z true [] (λ e. refl) (λ name. same name ∙ ap (term_of name h) t.0) (λ name. refl) in
@@ -259,11 +259,11 @@ module _ (area : Area) (cells : List Cell) (s : branch.State) (at i : ℕ) (c : 
 
 -- ---- many arguments
 
-pub read_start : (area : Area) (cells : List Cell) (s : branch.State) (told : List Touch) (from : Reading) (c : Contents) → IsSafe area s from.at (length cells - from.next) c → from.next ≤ length cells → All (IsCell s) cells → AreTold s told → IsReadTo area cells s told from c s told from c
+pub read_start : (area : Area) (cells : List Cell) (s : branch.State) (told : List Touch) (from : ReadPosition) (c : Contents) → IsSafe area s from.at (length cells - from.next) c → from.next ≤ length cells → All (IsCell s) cells → AreTold s told → IsReadTo area cells s told from c s told from c
 read_start area cells s told from c safe within own are = record { safe = safe; within = within; leads = among_none area from.at; own = own; are_told = are; behind = same_behind c; below = same_below s; keeps = λ shown name b n m. m }
 
-module _ (area : Area) (cells : List Cell) (s : branch.State) (told : List Touch) (from : Reading) (c : Contents) (s1 : branch.State) (told1 : List Touch) (to : Reading) (c1 : Contents) (g : IsReadTo area cells s told from c s1 told1 to c1) where
-  pub read_both : (s2 : branch.State) (told2 : List Touch) (to2 : Reading) (c2 : Contents) → IsReadTo area cells s1 told1 to c1 s2 told2 to2 c2 → IsReadTo area cells s told from c s2 told2 to2 c2
+module _ (area : Area) (cells : List Cell) (s : branch.State) (told : List Touch) (from : ReadPosition) (c : Contents) (s1 : branch.State) (told1 : List Touch) (to : ReadPosition) (c1 : Contents) (g : IsReadTo area cells s told from c s1 told1 to c1) where
+  pub read_both : (s2 : branch.State) (told2 : List Touch) (to2 : ReadPosition) (c2 : Contents) → IsReadTo area cells s1 told1 to c1 s2 told2 to2 c2 → IsReadTo area cells s told from c s2 told2 to2 c2
   read_both s2 told2 to2 c2 k = record {
     safe = k.safe;
     within = k.within;

@@ -20,14 +20,14 @@ use Rattle.wam_code.specs.Verified.{IsAtom}
 use Rattle.wam_code.specs.Effect.{with_set, with_owed}
 use Rattle.code_areas.specs.Areas.{Contents}
 use Rattle.code_steps.specs.Registers.{IsWritten}
-use Rattle.code_steps.specs.Building.{PutEnd, Builds}
+use Rattle.code_steps.specs.WriteMode.{PutEnd, Builds}
 use Rattle.code_steps.specs.Standing.{Stands}
 use Rattle.code_steps.proofs.Lemmas.{start_put, end_put}
 use Rattle.code_states.specs.Machine.{saved_of, registers_of, stack_of, IsSameBehind}
 use Rattle.code_states.specs.Safety.{Fits, AreReturns, AreBehind, IsSafe, IsSafeThen}
 use Rattle.code_states.specs.Standing.{KeepsStanding}
 use Rattle.code_states.specs.Work.{LeadsOn}
-use Rattle.term_instructions.specs.Building.{for_goal, BuildsAt, IsGatheredTo, IsPutAt, PutsOn}
+use Rattle.term_instructions.specs.WriteMode.{for_goal, BuildsAt, IsGatheredTo, IsPutAt, PutsOn}
 use Rattle.code_states.specs.declared.went.Went.{Went}
 use Rattle.code_states.specs.declared.went.Went.TheVariants.{On}
 use Rattle.code_states.proofs.Lemmas.{found, some_is, written_fits, written_own, cells_kept, returns_kept, points_then, next_safe}

@@ -1,3 +1,3 @@
 pub mod Arguments
-pub mod Reading
-pub mod Building
+pub mod ReadMode
+pub mod WriteMode

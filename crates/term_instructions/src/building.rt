@@ -4,7 +4,7 @@ ghost use Rattle.branch_state.specs.States.{IsCell, IsSound};
 ghost use Rattle.wam_code.specs.Area.{Holds};
 ghost use Rattle.code_states.specs.Safety.{IsSafe};
 ghost use Rattle.term_instructions.specs.Arguments.{code_of, IsOne};
-ghost use Rattle.term_instructions.specs.Building.{IsGatheredTo, AreVariablesAdded, GivesOne, GathersTwo};
+ghost use Rattle.term_instructions.specs.WriteMode.{IsGatheredTo, AreVariablesAdded, GivesOne, GathersTwo};
 
 use crate::arguments::{Argument, argument_at, is_one};
 use crate::registers::{read, write};

@@ -4,7 +4,7 @@ ghost use Rattle.heap_cells.specs.declared.Cell.TheVariants as cell;
 ghost use Rattle.branch_state.specs.States.{IsCell};
 ghost use Rattle.code_states.specs.Safety.{IsSafe};
 ghost use Rattle.term_instructions.specs.declared.reading.Look.TheVariants as look;
-ghost use Rattle.term_instructions.specs.Reading.{AreTold, IsNextPlace, ReadsOn, ReadsAll, TellsEqual, LooksOn, IsNextLook};
+ghost use Rattle.term_instructions.specs.ReadMode.{AreTold, IsNextPlace, ReadsOn, ReadsAll, TellsEqual, LooksOn, IsNextLook};
 
 use crate::arguments::{Argument, argument_at};
 use crate::registers::{read, write};
@@ -20,7 +20,7 @@ use wam_code::CodeArea;
 
 /// The place of the next instruction, and the number of the next argument.
 #[derive(Clone, Copy)]
-pub(crate) struct Reading {
+pub(crate) struct ReadPosition {
     pub at: usize,
     pub next: usize,
 }
@@ -29,7 +29,7 @@ pub(crate) struct Reading {
 #[derive(Clone, Copy)]
 pub(crate) enum Look {
     /// It is what the code gives.
-    Read(Reading),
+    Read(ReadPosition),
     /// It can't be what the code gives.
     Refused,
     /// A look doesn't tell.
@@ -38,7 +38,7 @@ pub(crate) enum Look {
 
 /// What it comes to that an argument and what the code gives are constants of one kind.
 #[inline(always)]
-fn look_if(equal: bool, to: Reading) -> Look
+fn look_if(equal: bool, to: ReadPosition) -> Look
     ensures { result ≡ (if equal then look.Read to else look.Refused) }
 {
     if equal { Look::Read(to) } else { Look::Refused }
@@ -46,7 +46,7 @@ fn look_if(equal: bool, to: Reading) -> Look
 
 /// Whether the end of an argument's bindings is an atom.
 #[inline(always)]
-fn look_at_atom(root: Cell, c: AtomId, to: Reading) -> Look
+fn look_at_atom(root: Cell, c: AtomId, to: ReadPosition) -> Look
     ensures { TellsEqual root (cell.Atom c) to result }
 {
     match root {
@@ -57,7 +57,7 @@ fn look_at_atom(root: Cell, c: AtomId, to: Reading) -> Look
 
 /// Whether the end of an argument's bindings is an integer.
 #[inline(always)]
-fn look_at_integer(root: Cell, z: i64, to: Reading) -> Look
+fn look_at_integer(root: Cell, z: i64, to: ReadPosition) -> Look
     ensures { TellsEqual root (cell.Int z) to result }
 {
     match root {
@@ -71,7 +71,7 @@ fn look_at_integer(root: Cell, z: i64, to: Reading) -> Look
 #[inline(always)]
 fn look_at_argument<A: Agenda + Drop>(
     code: &CodeArea,
-    from: Reading,
+    from: ReadPosition,
     branch: &BranchState<A>,
     areas: &mut Areas,
     cells: &[Cell],
@@ -85,7 +85,7 @@ fn look_at_argument<A: Agenda + Drop>(
     let next = from.next;
     let cell = cells[next];
     let at = behind(code, from.at);
-    let to = Reading { at, next: next + 1 };
+    let to = ReadPosition { at, next: next + 1 };
     match argument_at(code, from.at) {
         Argument::Variable(r) => {
             write(areas, r, cell)?;
@@ -94,7 +94,7 @@ fn look_at_argument<A: Agenda + Drop>(
         Argument::Value(_) => Ok(Look::Unclear),
         Argument::Constant(c) => Ok(look_at_atom(branch.heap().root(cell), c, to)),
         Argument::Integer(z) => Ok(look_at_integer(branch.heap().root(cell), z, to)),
-        Argument::Void(n) => Ok(Look::Read(Reading { at, next: next + n })),
+        Argument::Void(n) => Ok(Look::Read(ReadPosition { at, next: next + n })),
     }
 }
 
@@ -104,11 +104,11 @@ fn look_at_argument<A: Agenda + Drop>(
 #[inline(always)]
 pub(crate) fn look_at_arguments<A: Agenda + Drop>(
     code: &CodeArea,
-    from: Reading,
+    from: ReadPosition,
     branch: &BranchState<A>,
     areas: &mut Areas,
     cells: &[Cell],
-) -> Result<Option<Reading>, NoMemory>
+) -> Result<Option<ReadPosition>, NoMemory>
     requires safe { IsSafe code.now branch.now from.at (length cells.now - from.next) areas.old }
     requires within { from.next ≤ length cells.now }
     requires own { All (IsCell branch.now) cells.now }
@@ -128,7 +128,7 @@ pub(crate) fn look_at_arguments<A: Agenda + Drop>(
 
 /// Where reading goes on, if two cells were equal.
 #[inline]
-fn reading_if(equal: bool, to: Reading) -> Option<Reading>
+fn reading_if(equal: bool, to: ReadPosition) -> Option<ReadPosition>
     ensures { result ≡ (if equal then Some to else None) }
 {
     if equal { Some(to) } else { None }
@@ -139,12 +139,12 @@ fn reading_if(equal: bool, to: Reading) -> Option<Reading>
 #[inline]
 fn read_argument<A: Agenda + Drop>(
     code: &CodeArea,
-    from: Reading,
+    from: ReadPosition,
     branch: &mut BranchState<A>,
     areas: &mut Areas,
     cells: &[Cell],
     touches: &mut Vec<Touch>,
-) -> Result<Option<Reading>, NoMemory>
+) -> Result<Option<ReadPosition>, NoMemory>
     requires safe { IsSafe code.now branch.old from.at (length cells.now - from.next) areas.old }
     requires more { from.next < length cells.now }
     requires own { All (IsCell branch.old) cells.now }
@@ -155,7 +155,7 @@ fn read_argument<A: Agenda + Drop>(
 {
     let cell = cells[from.next];
     let at = behind(code, from.at);
-    let to = Reading {
+    let to = ReadPosition {
         at,
         next: from.next + 1,
     };
@@ -177,7 +177,7 @@ fn read_argument<A: Agenda + Drop>(
             let equal = branch.unify(cell, Cell::Int(z), touches)?;
             Ok(reading_if(equal, to))
         }
-        Argument::Void(n) => Ok(Some(Reading {
+        Argument::Void(n) => Ok(Some(ReadPosition {
             at,
             next: from.next + n,
         })),
@@ -188,7 +188,7 @@ fn read_argument<A: Agenda + Drop>(
 /// can't be what the code gives. The error is want of memory.
 pub(crate) fn read_arguments<A: Agenda + Drop>(
     code: &CodeArea,
-    from: Reading,
+    from: ReadPosition,
     branch: &mut BranchState<A>,
     areas: &mut Areas,
     cells: &[Cell],

@@ -10,11 +10,11 @@ ghost use Rattle.code_states.specs.Machine.{IsSameBehind};
 ghost use Rattle.code_states.specs.Safety.{IsSafe, IsSafeThen};
 ghost use Rattle.code_states.specs.Standing.{KeepsStanding};
 ghost use Rattle.code_states.specs.Work.{LeadsOn};
-ghost use Rattle.term_instructions.specs.Reading.{AreTold, ReadsThen};
-ghost use Rattle.term_instructions.specs.Building.{BuildsFor, BuildsOn, IsPutAt, PutsOn};
+ghost use Rattle.term_instructions.specs.ReadMode.{AreTold, ReadsThen};
+ghost use Rattle.term_instructions.specs.WriteMode.{BuildsFor, BuildsOn, IsPutAt, PutsOn};
 
 use crate::building::{Gathered, gather_arguments, gather_two};
-use crate::reading::{Reading, look_at_arguments, read_arguments};
+use crate::reading::{ReadPosition, look_at_arguments, read_arguments};
 use crate::registers::write;
 use branch_state::BranchState;
 use code_areas::Areas;
@@ -64,7 +64,7 @@ fn push_copies(cells: &mut Vec<Cell>, more: &[Cell]) -> Result<(), NoMemory>
 #[inline(never)]
 fn match_arguments<A: Agenda + Drop>(
     code: &CodeArea,
-    from: Reading,
+    from: ReadPosition,
     branch: &mut BranchState<A>,
     areas: &mut Areas,
     cells: &[Cell],
@@ -248,7 +248,7 @@ pub fn get_structure<A: Agenda + Drop>(
             if name != functor.0 || args.len() != functor.1 as usize {
                 return Ok(Went::Back);
             }
-            let start = Reading { at: from, next: 0 };
+            let start = ReadPosition { at: from, next: 0 };
             let Some(read) = look_at_arguments(code, start, branch, areas, args)? else {
                 return Ok(Went::Back);
             };

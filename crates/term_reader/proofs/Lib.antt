@@ -15,6 +15,6 @@ mod Naturals
 mod Verdicts
 pub mod Readable
 pub mod Plain
-mod Named
+mod VariableNames
 pub mod Lemmas
 mod GivenParts

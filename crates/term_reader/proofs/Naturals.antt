@@ -4,8 +4,8 @@ use Rattle.std.specs.Prelude.{pos, nat_le, ◌==◌, ◌&&◌}
 use Rattle.std.specs.Str.{chars}
 use Rattle.std.specs.Char.{len_utf8}
 use Rattle.std.proofs.lemmas.Bool.{leb-true}
-use Rattle.fd_language.specs.Characters.{is_layout, is_symbol, is_solo, is_punct, begins_variable, not_newline, is_digit_of, starts_with, tail, run_size, past_run, value}
-use Rattle.fd_language.specs.Tokens.{Word, Variable, Integer, Punct, Stop, BadCharacter, FloatOut, StringOut, IntegerTooWide, base_at, has_base, has_fraction, ends_stop, Lexeme, Front, Gap, Token, Offends, greatest, number_front, based_front, decimal_front, integer_front, comment_front, Inside, Between, AfterQuote, AfterBackslash, AfterDigits, Past, Broken, inside, quoted_end, quoted_front, front_at, front_by, front_of}
+use Rattle.fd_language.specs.Characters.{is_layout, is_symbol, is_solo, is_punct, begins_variable, not_newline, is_digit_of, starts_with, tail, run_size, past_run, digits_value}
+use Rattle.fd_language.specs.Tokens.{Word, Variable, Integer, Punct, Stop, BadCharacter, FloatOut, StringOut, IntegerTooWide, base_at, has_base, has_fraction, ends_stop, Lexeme, Front, Gap, Token, Offends, greatest_integer, number_front, based_front, decimal_front, integer_front, comment_front, Inside, Between, AfterQuote, AfterBackslash, AfterDigits, Past, Broken, inside, quoted_end, quoted_front, front_at, front_by, front_of}
 use Rattle.char_tokens.specs.Left.{Left}
 use Rattle.char_tokens.specs.Scanning.{IsNext}
 use Rattle.term_reader.specs.GrammarTokens.{KindIsNatural, HasNatural}
@@ -22,10 +22,10 @@ either true x y h k = h
 either false x y h k = k
 
 number_plain : (v n : ℕ) → IsPlain (number_front v n)
-number_plain v n = go (nat_le v greatest) refl
+number_plain v n = go (nat_le v greatest_integer) refl
   where
-    go : (b : Bool) → nat_le v greatest ≡ b → IsPlain (cond b (Token (Integer (pos v)) n) (Offends IntegerTooWide 0))
-    go true e = record { by = record { value = v; is = refl; within = leb-true v greatest e } }
+    go : (b : Bool) → nat_le v greatest_integer ≡ b → IsPlain (cond b (Token (Integer (pos v)) n) (Offends IntegerTooWide 0))
+    go true e = record { by = record { value = v; is = refl; within = leb-true v greatest_integer e } }
     go false e = record { by = tt }
 
 comment_plain : (n : ℕ) (cs : List ℕ) → IsPlain (comment_front n cs)
@@ -46,10 +46,10 @@ quoted_plain place n (c ∷ cs) = quoted_plain (inside place n c) (n + len_utf8 
 
 integer_plain : (c : ℕ) (cs : List ℕ) → IsPlain (integer_front c cs)
 integer_plain c cs =
-    either (c == 48 && has_base cs) (based_front cs) (decimal_front c cs) (number_plain (value (base_at cs) 0 (tail cs)) (2 + run_size (is_digit_of (base_at cs)) (tail cs)))
+    either (c == 48 && has_base cs) (based_front cs) (decimal_front c cs) (number_plain (digits_value (base_at cs) 0 (tail cs)) (2 + run_size (is_digit_of (base_at cs)) (tail cs)))
     (either (has_fraction (past_run (is_digit_of 10) cs)) (Offends FloatOut 0) _ (record { by = tt })
     (either (c == 48 && starts_with 39 cs) (Offends BadCharacter 1) _ (record { by = tt })
-    (number_plain (value 10 0 (c ∷ cs)) (len_utf8 c + run_size (is_digit_of 10) cs))))
+    (number_plain (digits_value 10 0 (c ∷ cs)) (len_utf8 c + run_size (is_digit_of 10) cs))))
 
 at_plain : (c : ℕ) (cs : List ℕ) → IsPlain (front_at c cs)
 at_plain c cs =

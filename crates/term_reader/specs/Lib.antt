@@ -3,6 +3,6 @@ pub mod View
 pub mod Numbering
 pub mod GrammarTokens
 pub mod Sentences
-pub mod Named
+pub mod VariableNames
 pub mod Laws
 pub mod GivenParts

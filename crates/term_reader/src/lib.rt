@@ -4,7 +4,7 @@
 ghost use Rattle.std.specs.Prelude.{◌≡◌, ℕ, IfOk, IfErr, MatchResult};
 ghost use Rattle.fd_language.specs.Reading.{Reading, IsReading, sentences};
 ghost use Rattle.term_reader.specs.GivenParts.{HaveParts};
-ghost use Rattle.term_reader.specs.Named.{HaveNames};
+ghost use Rattle.term_reader.specs.VariableNames.{HaveNames};
 ghost use Rattle.term_reader.specs.Sentences.{sentences_of, AreOwn, IsFaultOf, IsFaultFor};
 
 pub mod laws;

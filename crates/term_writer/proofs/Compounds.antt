@@ -8,10 +8,10 @@ use Rattle.std.proofs.lemmas.Str.{IsUtf8-from_ascii}
 use Rattle.std.proofs.lemmas.Fmt.{IsAscii-decimal, decimal_nonempty}
 use Rattle.fd_language.specs.Term.{Name, Term, Terms, Var, Int, Atom, Comp, no_terms, term}
 use Rattle.fd_language.specs.Operators.{Operator, infix_of}
-use Rattle.fd_language.specs.Tokens.{greatest}
+use Rattle.fd_language.specs.Tokens.{greatest_integer}
 use Rattle.fd_language.specs.Terminals.{Terminal, variable, integer, opens, closes, open_list, close_list, open_curly, close_curly, comma, bar}
-use Rattle.fd_language.specs.Writing.{Quoted, is_empty_name, in_parentheses, Spelling, spelled_alone, spelled_atom, spelled_one, spelled_two, spelled_infix, infix_text, call_text, arguments_text, functor_text, atom_text, spelled, spelled_each}
-use Rattle.term_writer.specs.Spelled.{InTokens, called, after_bar, atom_tokens, atom_rest, one_tokens, operands, infix_tokens, two_tokens, two_rest, integer_tokens, tokens_of, further}
+use Rattle.fd_language.specs.Writing.{Quoted, is_empty_name, in_parentheses, TermText, spelled_alone, spelled_atom, spelled_one, spelled_two, spelled_infix, infix_text, call_text, arguments_text, functor_text, atom_text, spelled, spelled_each}
+use Rattle.term_writer.specs.SpelledTerms.{InTokens, called, after_bar, atom_tokens, atom_rest, one_tokens, operands, infix_tokens, two_tokens, two_rest, integer_tokens, tokens_of, further}
 use Rattle.term_writer.specs.Written.{IsVariable, IsFunctor, IsReadable, AllReadable}
 use Rattle.term_writer.proofs.TextTokens.{Lexes, open_bracket, close_bracket, list_opens, list_closes, curly_opens, curly_closes, comma_first, before_close, before_list_end, before_curly_end, before_comma, before_bar}
 use Rattle.term_writer.proofs.Variables.{Parts, variable_parts}
@@ -21,16 +21,16 @@ use Rattle.term_writer.proofs.TermTokens.{Agrees, agrees_same, Apart, apart_from
 use Rattle.term_writer.proofs.Derivations.{text_is}
 
 -- the arguments behind the first
-abbrev pub further_text : List Spelling → List ℕ
+abbrev pub further_text : List TermText → List ℕ
 further_text [] = []
 further_text (x ∷ xs) = 44 ∷ (x.at 999 ++ further_text xs)
 
-arguments_split : (x : Spelling) (xs : List Spelling) → arguments_text (x ∷ xs) ≡ x.at 999 ++ further_text xs
+arguments_split : (x : TermText) (xs : List TermText) → arguments_text (x ∷ xs) ≡ x.at 999 ++ further_text xs
 arguments_split x [] = sym (append-nil (x.at 999))
 arguments_split x (y ∷ ys) = ap (λ (w : List ℕ). x.at 999 ++ (44 ∷ w)) (arguments_split y ys)
 
 module _ (vars : ℕ → List ℕ) (stopped : Bool) where
-  pub record Furthers (xs : List Spelling) (tokens : List Terminal → List Terminal) : Type 0 where
+  pub record Furthers (xs : List TermText) (tokens : List Terminal → List Terminal) : Type 0 where
     pub lexes : (r : List ℕ) (ts : List Terminal) → Lexes vars stopped true (41 ∷ r) ts → Lexes vars stopped true (further_text xs ++ 41 ∷ r) (tokens ts)
     pub behind : (r : List ℕ) → Behind (further_text xs ++ 41 ∷ r)
 
@@ -38,14 +38,14 @@ module _ (vars : ℕ → List ℕ) (stopped : Bool) where
   no_further = record { lexes = λ r ts h. h; behind = λ r. record { follows = before_close r; apart = close_symbol } }
 
   -- an argument with those behind it
-  first_of : (a : Spelling) (ta : InTokens) (xs : List Spelling) (tokens : List Terminal → List Terminal) → Lexed vars stopped a ta → Furthers xs tokens → (r : List ℕ) (ts : List Terminal) → Lexes vars stopped true (41 ∷ r) ts
+  first_of : (a : TermText) (ta : InTokens) (xs : List TermText) (tokens : List Terminal → List Terminal) → Lexed vars stopped a ta → Furthers xs tokens → (r : List ℕ) (ts : List Terminal) → Lexes vars stopped true (41 ∷ r) ts
       → Lexes vars stopped true ((a.at 999 ++ further_text xs) ++ 41 ∷ r) (ta.at true 999 (tokens ts))
   first_of a ta xs tokens l f r ts h =
       let b = f.behind r in
       subst (λ (w : List ℕ). Lexes vars stopped true w (ta.at true 999 (tokens ts))) (sym (append_assoc (a.at 999) (further_text xs) (41 ∷ r)))
       (l.at true true 999 (further_text xs ++ 41 ∷ r) (tokens ts) (inl refl) b.follows (apart_from (a.at 999) (further_text xs ++ 41 ∷ r) b.apart) (f.lexes r ts h))
 
-  one_further : (a : Spelling) (ta : InTokens) (xs : List Spelling) (tokens : List Terminal → List Terminal) → Lexed vars stopped a ta → Furthers xs tokens → Furthers (a ∷ xs) (λ ts. comma 0 ∷ ta.at true 999 (tokens ts))
+  one_further : (a : TermText) (ta : InTokens) (xs : List TermText) (tokens : List Terminal → List Terminal) → Lexed vars stopped a ta → Furthers xs tokens → Furthers (a ∷ xs) (λ ts. comma 0 ∷ ta.at true 999 (tokens ts))
   one_further a ta xs tokens l f = record {
     lexes = λ r ts h. comma_first vars stopped true ((a.at 999 ++ further_text xs) ++ 41 ∷ r) (ta.at true 999 (tokens ts)) (first_of a ta xs tokens l f r ts h);
     behind = λ r. record { follows = before_comma ((a.at 999 ++ further_text xs) ++ 41 ∷ r); apart = comma_symbol };
@@ -58,7 +58,7 @@ module _ (vars : ℕ → List ℕ) (stopped : Bool) where
     pub no_list : bytes_eq f (codes "[]") ≡ false
     pub no_curly : bytes_eq f (codes "{}") ≡ false
 
-  call_lexed : (f : Name) → Callable f → (a : Spelling) (ta : InTokens) (xs : List Spelling) (tokens : List Terminal → List Terminal) → Lexed vars stopped a ta → Furthers xs tokens
+  call_lexed : (f : Name) → Callable f → (a : TermText) (ta : InTokens) (xs : List TermText) (tokens : List Terminal → List Terminal) → Lexed vars stopped a ta → Furthers xs tokens
       → LexedAt vars stopped (λ limit. call_text Quoted f (a ∷ xs)) (λ tight limit ts. called f (ta.at true 999 (tokens (closes ∷ ts))))
   call_lexed f c a ta xs tokens l g tight flag limit r ts e f2 t h =
       let inner : List ℕ = arguments_text (a ∷ xs) in
@@ -70,28 +70,28 @@ module _ (vars : ℕ → List ℕ) (stopped : Bool) where
       subst (λ (w : List ℕ). Lexes vars stopped tight w (called f (ta.at true 999 (tokens (closes ∷ ts))))) (sym text)
       (functor_lexes vars stopped tight f (inner ++ 41 ∷ r) (opens 0 true ∷ ta.at true 999 (tokens (closes ∷ ts))) c.utf8 c.no_list c.no_curly opened)
 
-  call_begins : (f : Name) → IsUtf8 f → (xs : List Spelling) → Begins (call_text Quoted f xs)
+  call_begins : (f : Name) → IsUtf8 f → (xs : List TermText) → Begins (call_text Quoted f xs)
   call_begins f u xs = begins_before (functor_text Quoted f) (in_parentheses (arguments_text xs)) (functor_begins f u)
 
-  call : (f : Name) → Callable f → (a : Spelling) (ta : InTokens) (xs : List Spelling) (tokens : List Terminal → List Terminal) → Lexed vars stopped a ta → Furthers xs tokens
+  call : (f : Name) → Callable f → (a : TermText) (ta : InTokens) (xs : List TermText) (tokens : List Terminal → List Terminal) → Lexed vars stopped a ta → Furthers xs tokens
       → Lexed vars stopped (spelled_alone (call_text Quoted f (a ∷ xs))) (record { at = λ tight limit ts. called f (ta.at true 999 (tokens (closes ∷ ts))); rest = after_bar (λ tight limit ts. called f (ta.at true 999 (tokens (closes ∷ ts)))) })
   call f c a ta xs tokens l g =
       barred vars stopped (λ limit. call_text Quoted f (a ∷ xs)) (λ tight limit ts. called f (ta.at true 999 (tokens (closes ∷ ts)))) (λ limit. call_begins f c.utf8 (a ∷ xs)) (call_lexed f c a ta xs tokens l g)
 
   -- ---- terms in braces
 
-  braces_at : (a : Spelling) (ta : InTokens) → Lexed vars stopped a ta → LexedAt vars stopped (λ limit. 123 ∷ (a.at 1200 ++ 125 ∷ [])) (λ tight limit ts. open_curly 0 ∷ ta.at true 1200 (close_curly ∷ ts))
+  braces_at : (a : TermText) (ta : InTokens) → Lexed vars stopped a ta → LexedAt vars stopped (λ limit. 123 ∷ (a.at 1200 ++ 125 ∷ [])) (λ tight limit ts. open_curly 0 ∷ ta.at true 1200 (close_curly ∷ ts))
   braces_at a ta l tight flag limit r ts e f t h =
       subst (λ (w : List ℕ). Lexes vars stopped tight (123 ∷ w) (open_curly 0 ∷ ta.at true 1200 (close_curly ∷ ts))) (sym (append_assoc (a.at 1200) (125 ∷ []) r))
       (curly_opens vars stopped tight (a.at 1200 ++ 125 ∷ r) (ta.at true 1200 (close_curly ∷ ts))
       (l.at true true 1200 (125 ∷ r) (close_curly ∷ ts) (inl refl) (before_curly_end r) (no_symbol 125 curly_symbol (a.at 1200) r) (curly_closes vars stopped true r ts h)))
 
-  braces : (a : Spelling) (ta : InTokens) → Lexed vars stopped a ta
+  braces : (a : TermText) (ta : InTokens) → Lexed vars stopped a ta
       → Lexed vars stopped (spelled_alone (123 ∷ (a.at 1200 ++ 125 ∷ []))) (record { at = λ tight limit ts. open_curly 0 ∷ ta.at true 1200 (close_curly ∷ ts); rest = after_bar (λ tight limit ts. open_curly 0 ∷ ta.at true 1200 (close_curly ∷ ts)) })
   braces a ta l =
       barred vars stopped (λ limit. 123 ∷ (a.at 1200 ++ 125 ∷ [])) (λ tight limit ts. open_curly 0 ∷ ta.at true 1200 (close_curly ∷ ts)) (λ limit. begins_ascii 123 (a.at 1200 ++ 125 ∷ []) (omega arith)) (braces_at a ta l)
 
-  one_lexed : (f : Name) → (bytes_eq f (codes "{}") ≡ false → Callable f) → (a : Spelling) (ta : InTokens) → Lexed vars stopped a ta
+  one_lexed : (f : Name) → (bytes_eq f (codes "{}") ≡ false → Callable f) → (a : TermText) (ta : InTokens) → Lexed vars stopped a ta
       → Lexed vars stopped (spelled_one Quoted f a) (record { at = λ tight limit. one_tokens f ta; rest = after_bar (λ tight limit. one_tokens f ta) })
   one_lexed f c a ta l = go (bytes_eq f (codes "{}")) refl
     where
@@ -103,7 +103,7 @@ module _ (vars : ℕ → List ℕ) (stopped : Bool) where
 
   -- ---- infix terms
 
-  infix_at : (f : Name) (o : Operator) → infix_of f ≡ Some o → (a b : Spelling) (ta tb : InTokens) → Lexed vars stopped a ta → Lexed vars stopped b tb → LexedAt vars stopped (infix_text o a b) (infix_tokens f (Some o) ta tb)
+  infix_at : (f : Name) (o : Operator) → infix_of f ≡ Some o → (a b : TermText) (ta tb : InTokens) → Lexed vars stopped a ta → Lexed vars stopped b tb → LexedAt vars stopped (infix_text o a b) (infix_tokens f (Some o) ta tb)
   infix_at f o e a b ta tb la lb tight flag limit r ts g f2 t h = go (nat_le o.priority limit) g t
     where
       go : (d : Bool) → Agrees (cond d (joint vars stopped a b ta tb la lb o) (in_parentheses (joint vars stopped a b ta tb la lb o))) tight flag → Apart (cond d (joint vars stopped a b ta tb la lb o) (in_parentheses (joint vars stopped a b ta tb la lb o))) r
@@ -117,32 +117,32 @@ module _ (vars : ℕ → List ℕ) (stopped : Bool) where
           (subst (λ (x : List ℕ). Lexes vars stopped tight (40 ∷ x) (opens 0 tight ∷ operands f o ta tb true (closes ∷ ts))) (sym (append_assoc w (41 ∷ []) r))
           (open_bracket vars stopped tight (w ++ 41 ∷ r) (operands f o ta tb true (closes ∷ ts)) inner))
 
-  infix_begins : (o : Operator) (a b : Spelling) (ta tb : InTokens) → Lexed vars stopped a ta → Lexed vars stopped b tb → (limit : ℕ) → Begins (infix_text o a b limit)
+  infix_begins : (o : Operator) (a b : TermText) (ta tb : InTokens) → Lexed vars stopped a ta → Lexed vars stopped b tb → (limit : ℕ) → Begins (infix_text o a b limit)
   infix_begins o a b ta tb la lb limit = go (nat_le o.priority limit)
     where
       go : (d : Bool) → Begins (cond d (joint vars stopped a b ta tb la lb o) (in_parentheses (joint vars stopped a b ta tb la lb o)))
       go true = joint_begins vars stopped a b ta tb la lb o
       go false = begins_ascii 40 (joint vars stopped a b ta tb la lb o ++ 41 ∷ []) (omega arith)
 
-  infix_lexed : (f : Name) → Callable f → (found : Option Operator) → infix_of f ≡ found → (a b : Spelling) (ta tb : InTokens) → Lexed vars stopped a ta → Lexed vars stopped b tb
+  infix_lexed : (f : Name) → Callable f → (found : Option Operator) → infix_of f ≡ found → (a b : TermText) (ta tb : InTokens) → Lexed vars stopped a ta → Lexed vars stopped b tb
       → Lexed vars stopped (spelled_infix Quoted f found a b) (record { at = infix_tokens f found ta tb; rest = after_bar (infix_tokens f found ta tb) })
   infix_lexed f c None e a b ta tb la lb = call f c a ta (b ∷ []) (λ ts. comma 0 ∷ tb.at true 999 ts) la (one_further b tb [] (λ ts. ts) lb no_further)
   infix_lexed f c (Some o) e a b ta tb la lb = barred vars stopped (infix_text o a b) (infix_tokens f (Some o) ta tb) (infix_begins o a b ta tb la lb) (infix_at f o e a b ta tb la lb)
 
   -- ---- lists
 
-  abbrev list_spelling : Spelling → Spelling → Spelling
+  abbrev list_spelling : TermText → TermText → TermText
   list_spelling a b = record { at = λ limit. codes "[" ++ (a.at 999 ++ (b.rest ++ codes "]")); rest = codes "," ++ (a.at 999 ++ b.rest) }
 
   abbrev list_tokens : InTokens → InTokens → InTokens
   list_tokens ta tb = record { at = λ tight limit ts. open_list 0 ∷ ta.at true 999 (tb.rest ts); rest = λ ts. comma 0 ∷ ta.at true 999 (tb.rest ts) }
 
-  element : (a b : Spelling) (ta tb : InTokens) → Lexed vars stopped a ta → Lexed vars stopped b tb → (r : List ℕ) (ts : List Terminal) → Lexes vars stopped true r ts → Lexes vars stopped true (a.at 999 ++ (b.rest ++ 93 ∷ r)) (ta.at true 999 (tb.rest ts))
+  element : (a b : TermText) (ta tb : InTokens) → Lexed vars stopped a ta → Lexed vars stopped b tb → (r : List ℕ) (ts : List Terminal) → Lexes vars stopped true r ts → Lexes vars stopped true (a.at 999 ++ (b.rest ++ 93 ∷ r)) (ta.at true 999 (tb.rest ts))
   element a b ta tb la lb r ts h =
       let k = lb.behind r in
       la.at true true 999 (b.rest ++ 93 ∷ r) (tb.rest ts) (inl refl) k.follows (apart_from (a.at 999) (b.rest ++ 93 ∷ r) k.apart) (lb.rest r ts h)
 
-  list_lexed : (a b : Spelling) (ta tb : InTokens) → Lexed vars stopped a ta → Lexed vars stopped b tb → Lexed vars stopped (list_spelling a b) (list_tokens ta tb)
+  list_lexed : (a b : TermText) (ta tb : InTokens) → Lexed vars stopped a ta → Lexed vars stopped b tb → Lexed vars stopped (list_spelling a b) (list_tokens ta tb)
   list_lexed a b ta tb la lb = record {
     begins = λ limit. begins_ascii 91 (a.at 999 ++ (b.rest ++ 93 ∷ [])) (omega arith);
     at = λ tight flag limit r ts e f t h.
@@ -155,7 +155,7 @@ module _ (vars : ℕ → List ℕ) (stopped : Bool) where
     behind = λ r. record { follows = before_comma ((a.at 999 ++ b.rest) ++ 93 ∷ r); apart = comma_symbol };
   }
 
-  two_lexed : (f : Name) → Callable f → (a b : Spelling) (ta tb : InTokens) → Lexed vars stopped a ta → Lexed vars stopped b tb → Lexed vars stopped (spelled_two Quoted f a b) (record { at = two_tokens f ta tb; rest = two_rest f ta tb })
+  two_lexed : (f : Name) → Callable f → (a b : TermText) (ta tb : InTokens) → Lexed vars stopped a ta → Lexed vars stopped b tb → Lexed vars stopped (spelled_two Quoted f a b) (record { at = two_tokens f ta tb; rest = two_rest f ta tb })
   two_lexed f c a b ta tb la lb = go (bytes_eq f (codes ".")) refl
     where
       go : (d : Bool) → bytes_eq f (codes ".") ≡ d → Lexed vars stopped (cond d (list_spelling a b) (spelled_infix Quoted f (infix_of f) a b)) (record { at = two_tokens f ta tb; rest = two_rest f ta tb })
@@ -185,16 +185,16 @@ module _ (vars : ℕ → List ℕ) (stopped : Bool) where
   some_decimal [] h = absurd (omega arith)
   some_decimal (c ∷ cs) h = refl
 
-  integer_begins : (z : ℤ) → nat_abs z ≤ greatest → Begins (signed_decimal z)
+  integer_begins : (z : ℤ) → nat_abs z ≤ greatest_integer → Begins (signed_decimal z)
   integer_begins (pos n) h = begins_utf8 (decimal n) (IsUtf8-from_ascii (decimal n) (IsAscii-decimal n (omega arith))) (some_decimal (decimal n) (decimal_nonempty n (omega arith)))
   integer_begins (negsuc n) h = begins_ascii 45 (decimal (suc n)) (omega arith)
 
-  integer_at : (z : ℤ) → nat_abs z ≤ greatest → LexedAt vars stopped (λ limit. signed_decimal z) (λ tight limit. integer_tokens z tight)
+  integer_at : (z : ℤ) → nat_abs z ≤ greatest_integer → LexedAt vars stopped (λ limit. signed_decimal z) (λ tight limit. integer_tokens z tight)
   integer_at (pos n) h tight flag limit r ts e f t l =
       subst (λ (x : Bool). Lexes vars stopped tight (decimal n ++ r) (integer 0 x (pos n) ∷ ts)) (agrees_same (decimal n) tight flag (decimal_first n h) e) (decimal_lexes vars stopped tight n r ts h f l)
   integer_at (negsuc n) h tight flag limit r ts e f t l = negative_lexes vars stopped tight (suc n) r ts h f l
 
-  integer_lexed : (z : ℤ) → nat_abs z ≤ greatest → Lexed vars stopped (spelled_alone (signed_decimal z)) (record { at = λ tight limit. integer_tokens z tight; rest = after_bar (λ tight limit. integer_tokens z tight) })
+  integer_lexed : (z : ℤ) → nat_abs z ≤ greatest_integer → Lexed vars stopped (spelled_alone (signed_decimal z)) (record { at = λ tight limit. integer_tokens z tight; rest = after_bar (λ tight limit. integer_tokens z tight) })
   integer_lexed z h = barred vars stopped (λ limit. signed_decimal z) (λ tight limit. integer_tokens z tight) (λ limit. integer_begins z h) (integer_at z h)
 
   atom_at : (a : Name) → IsUtf8 a → LexedAt vars stopped (λ limit. atom_text Quoted a) (λ tight limit. atom_tokens a)

@@ -11,7 +11,7 @@ use Rattle.fd_language.specs.Terminals.{Terminal, name, operator_word, variable,
 use Rattle.fd_language.specs.Writing.{is_letter_word}
 use Rattle.fd_language.specs.Grammar.{Reads, an_integer, a_negative, a_variable, an_atom, empty_list, empty_curly, named_call, operator_call, in_parens, a_list, a_list_tail, in_curly, an_infix, Arg, a_term, Args, last, more, list_of}
 use Rattle.fd_language.proofs.Lemmas.{within_infix}
-use Rattle.term_writer.specs.Spelled.{placed, all_placed, operator_terminal, call_terminal, InTokens, called, after_bar, atom_tokens, one_tokens, operands, infix_tokens, two_tokens, two_rest, atom_rest, integer_tokens, tokens_of, further, HasArguments, AllHaveArguments, Within, SpelledIsRead}
+use Rattle.term_writer.specs.SpelledTerms.{placed, all_placed, operator_terminal, call_terminal, InTokens, called, after_bar, atom_tokens, one_tokens, operands, infix_tokens, two_tokens, two_rest, atom_rest, integer_tokens, tokens_of, further, HasArguments, AllHaveArguments, Within, SpelledIsRead}
 
 pub text_is : (a b : Name) → bytes_eq a b ≡ true → a ≡ b
 text_is a b e = (bytes_eq-Decides a b).0 e

@@ -6,8 +6,8 @@ use Rattle.std.specs.List.{list_all}
 use Rattle.std.specs.Str.Parse.{AllDigits, digits_value_after}
 use Rattle.std.proofs.lemmas.Bool.{le-leb, lt-ltb, le-ltb, and_parts, and_right}
 use Rattle.unicode_ident.specs.Ident.{is_xid_start, is_xid_continue}
-use Rattle.fd_language.specs.Characters.{is_symbol, begins_variable, is_digit_of, starts_with, starts_with_digit_of, run_size, past_run, value}
-use Rattle.fd_language.specs.Tokens.{Token, Offends, Word, Variable, Integer, IntegerTooWide, greatest, base_of, has_base, has_fraction, number_front, integer_front, ends_stop, front_at}
+use Rattle.fd_language.specs.Characters.{is_symbol, begins_variable, is_digit_of, starts_with, starts_with_digit_of, run_size, past_run, digits_value}
+use Rattle.fd_language.specs.Tokens.{Token, Offends, Word, Variable, Integer, IntegerTooWide, greatest_integer, base_of, has_base, has_fraction, number_front, integer_front, ends_stop, front_at}
 use Rattle.term_writer.proofs.Quoting.{size}
 use Rattle.term_writer.proofs.Classes.{variable_plain, letter_is, symbol_is, Digit, digit_is, no_base, no_digit}
 
@@ -70,11 +70,11 @@ pub digits_here : (ds : List ℕ) → AllDigits 10 ds → list_all (is_digit_of 
 digits_here [] h = refl
 digits_here (d ∷ ds) h = rw (lt-ltb (digit_value d) 10 h.0, digits_here ds h.1) refl
 
-value_stops : (n : ℕ) (ds : List ℕ) → stops (is_digit_of 10) ds → value 10 n ds ≡ n
+value_stops : (n : ℕ) (ds : List ℕ) → stops (is_digit_of 10) ds → digits_value 10 n ds ≡ n
 value_stops n [] h = refl
 value_stops n (d ∷ ds) h = rw h refl
 
-value_whole : (n : ℕ) (cs ds : List ℕ) → AllDigits 10 cs → stops (is_digit_of 10) ds → value 10 n (cs ++ ds) ≡ digits_value_after 10 n cs
+value_whole : (n : ℕ) (cs ds : List ℕ) → AllDigits 10 cs → stops (is_digit_of 10) ds → digits_value 10 n (cs ++ ds) ≡ digits_value_after 10 n cs
 value_whole n [] ds h k = value_stops n ds k
 value_whole n (c ∷ cs) ds h k = rw (lt-ltb (digit_value c) 10 h.0) (value_whole (n * 10 + digit_value c) cs ds h.1 k)
 
@@ -97,17 +97,17 @@ no_quote_behind : (cs ds : List ℕ) → list_all (is_digit_of 10) cs ≡ true �
 no_quote_behind [] ds h k = k
 no_quote_behind (c ∷ cs) ds h k = (digit_is c (and_parts (is_digit_of 10 c) (list_all (is_digit_of 10) cs) h).0).quote
 
-number_fits : (v n : ℕ) → v ≤ greatest → number_front v n ≡ Token (Integer (pos v)) n
-number_fits v n h = ap (λ (b : Bool). cond b (Token (Integer (pos v)) n) (Offends IntegerTooWide 0)) (le-leb v greatest h)
+number_fits : (v n : ℕ) → v ≤ greatest_integer → number_front v n ≡ Token (Integer (pos v)) n
+number_fits v n h = ap (λ (b : Bool). cond b (Token (Integer (pos v)) n) (Offends IntegerTooWide 0)) (le-leb v greatest_integer h)
 
 digit_first : (c : ℕ) (es : List ℕ) → Digit c → is_digit_of 10 c ≡ true → front_at c es ≡ integer_front c es
 digit_first c es l h = rw (l.layout, l.percent, h) refl
 
 number_first : (c : ℕ) (es : List ℕ) → (c == 48 && has_base es) ≡ false → has_fraction (past_run (is_digit_of 10) es) ≡ false → (c == 48 && starts_with 39 es) ≡ false
-    → integer_front c es ≡ number_front (value 10 0 (c ∷ es)) (len_utf8 c + run_size (is_digit_of 10) es)
+    → integer_front c es ≡ number_front (digits_value 10 0 (c ∷ es)) (len_utf8 c + run_size (is_digit_of 10) es)
 number_first c es a b d = rw (a, b, d) refl
 
-pub integer_front_is : (c : ℕ) (cs ds : List ℕ) → AllDigits 10 (c ∷ cs) → digits_value_after 10 0 (c ∷ cs) ≤ greatest → Ends ds
+pub integer_front_is : (c : ℕ) (cs ds : List ℕ) → AllDigits 10 (c ∷ cs) → digits_value_after 10 0 (c ∷ cs) ≤ greatest_integer → Ends ds
     → front_at c (cs ++ ds) ≡ Token (Integer (pos (digits_value_after 10 0 (c ∷ cs)))) (size (c ∷ cs))
 integer_front_is c cs ds h le e =
     let all : list_all (is_digit_of 10) cs ≡ true = digits_here cs h.1 in

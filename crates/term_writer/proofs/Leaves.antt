@@ -10,11 +10,11 @@ use Rattle.std.proofs.lemmas.Str.{chars-IsAscii, IsUtf8-from_ascii}
 use Rattle.fd_language.specs.Term.{Name}
 use Rattle.fd_language.specs.Characters.{is_symbol}
 use Rattle.fd_language.specs.Operators.{infix_of, prefix_of, is_operator}
-use Rattle.fd_language.specs.Tokens.{Word, Quoted, Variable, Integer, Token, greatest, front_of}
+use Rattle.fd_language.specs.Tokens.{Word, Quoted, Variable, Integer, Token, greatest_integer, front_of}
 use Rattle.fd_language.specs.Terminals.{Terminal, name, operator_word, variable, integer, open_list, close_list, open_curly, close_curly}
 use Rattle.fd_language.specs.Writing as writing
 use Rattle.fd_language.specs.Writing.{is_letter_word, is_symbol_word, is_bare, quoted_name, starts_with_symbol, ends_with_symbol, atom_text, functor_text}
-use Rattle.term_writer.specs.Spelled.{call_terminal, atom_tokens}
+use Rattle.term_writer.specs.SpelledTerms.{call_terminal, atom_tokens}
 use Rattle.term_writer.specs.Written.{IsVariable}
 use Rattle.term_writer.proofs.QuotedNames.{name_of, token_of}
 use Rattle.term_writer.proofs.Classes.{digit_is}
@@ -124,16 +124,16 @@ module _ (vars : ℕ → List ℕ) (stopped : Bool) (tight : Bool) where
 
   -- ---- integers and variables
 
-  decimal_from : (n : ℕ) (ds r : List ℕ) (ts : List Terminal) → decimal n ≡ ds → IsUtf8 ds → chars ds ≡ ds → 0 < length ds → AllDigits 10 ds → digits_value 10 ds ≡ n → n ≤ greatest → Follows r → Lexes vars stopped true r ts
+  decimal_from : (n : ℕ) (ds r : List ℕ) (ts : List Terminal) → decimal n ≡ ds → IsUtf8 ds → chars ds ≡ ds → 0 < length ds → AllDigits 10 ds → digits_value 10 ds ≡ n → n ≤ greatest_integer → Follows r → Lexes vars stopped true r ts
       → Lexes vars stopped tight (ds ++ r) (integer 0 tight (pos n) ∷ ts)
   decimal_from n [] r ts e u same some all value le f h = absurd (omega arith)
   decimal_from n (d ∷ ds) r ts e u same some all value le f h =
-      let within : digits_value_after 10 0 (d ∷ ds) ≤ greatest = subst (λ (v : ℕ). v ≤ greatest) (sym value) le in
+      let within : digits_value_after 10 0 (d ∷ ds) ≤ greatest_integer = subst (λ (v : ℕ). v ≤ greatest_integer) (sym value) le in
       let front = token_front (Integer (pos (digits_value_after 10 0 (d ∷ ds)))) (d ∷ ds) r d ds u same (integer_front_is d ds (chars r) all within f.ends) in
       let here : front_of ((d ∷ ds) ++ r) ≡ Token (Integer (pos n)) (length (d ∷ ds)) = subst (λ (v : ℕ). front_of ((d ∷ ds) ++ r) ≡ Token (Integer (pos v)) (length (d ∷ ds))) value front in
       other_first vars stopped tight (Integer (pos n)) (d ∷ ds) r (integer 0 tight (pos n)) ts here (λ p. integer_other (d ∷ ds) (pos n) p tight) h
 
-  pub decimal_lexes : (n : ℕ) (r : List ℕ) (ts : List Terminal) → n ≤ greatest → Follows r → Lexes vars stopped true r ts → Lexes vars stopped tight (decimal n ++ r) (integer 0 tight (pos n) ∷ ts)
+  pub decimal_lexes : (n : ℕ) (r : List ℕ) (ts : List Terminal) → n ≤ greatest_integer → Follows r → Lexes vars stopped true r ts → Lexes vars stopped tight (decimal n ++ r) (integer 0 tight (pos n) ∷ ts)
   decimal_lexes n r ts le f h =
       let small : n < 2 ^ 64 = omega arith in
       let num = decimal_is_IsNumeral n small in
@@ -144,7 +144,7 @@ digits_first : (ds : List ℕ) → AllDigits 10 ds → starts_with_symbol ds ≡
 digits_first [] h = refl
 digits_first (d ∷ ds) h = (digit_is d (lt-ltb (digit_value d) 10 h.0)).symbol
 
-pub decimal_first : (n : ℕ) → n ≤ greatest → starts_with_symbol (decimal n) ≡ false
+pub decimal_first : (n : ℕ) → n ≤ greatest_integer → starts_with_symbol (decimal n) ≡ false
 decimal_first n le = digits_first (decimal n) (decimal_is_IsNumeral n (omega arith)).0.1
 
 digit_stops : (ds r : List ℕ) → AllDigits 10 ds → 0 < length ds → chars ds ≡ ds → IsUtf8 ds → stops is_symbol (chars (ds ++ r))
@@ -153,7 +153,7 @@ digit_stops (d ∷ ds) r h some e u =
     subst (stops is_symbol) (sym (chars_ascii d (ds ++ r) (digit_is d (lt-ltb (digit_value d) 10 h.0)).low)) (digit_is d (lt-ltb (digit_value d) 10 h.0)).symbol
 
 module _ (vars : ℕ → List ℕ) (stopped : Bool) (tight : Bool) where
-  pub negative_lexes : (n : ℕ) (r : List ℕ) (ts : List Terminal) → n ≤ greatest → Follows r → Lexes vars stopped true r ts → Lexes vars stopped tight (45 ∷ (decimal n ++ r)) (operator_word 0 (codes "-") ∷ integer 0 true (pos n) ∷ ts)
+  pub negative_lexes : (n : ℕ) (r : List ℕ) (ts : List Terminal) → n ≤ greatest_integer → Follows r → Lexes vars stopped true r ts → Lexes vars stopped tight (45 ∷ (decimal n ++ r)) (operator_word 0 (codes "-") ∷ integer 0 true (pos n) ∷ ts)
   negative_lexes n r ts le f h =
       let small : n < 2 ^ 64 = omega arith in
       let num = decimal_is_IsNumeral n small in

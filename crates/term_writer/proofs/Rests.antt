@@ -4,7 +4,7 @@ use Rattle.std.specs.Prelude.{All, codes}
 use Rattle.std.specs.Str.{bytes_eq}
 use Rattle.fd_language.specs.Term.{Name, Term, Var, Int, Atom, Comp}
 use Rattle.fd_language.specs.Operators.{Operator, infix_of}
-use Rattle.fd_language.specs.Writing.{Mode, Spelling, spelled, spelled_alone, spelled_infix, atom_text, call_text}
+use Rattle.fd_language.specs.Writing.{Mode, TermText, spelled, spelled_alone, spelled_infix, atom_text, call_text}
 use Rattle.term_pool.specs.declared.TermId.{TermId}
 use Rattle.term_pool.specs.Contents.{Contents}
 use Rattle.term_pool.specs.Terms.{terms_by, term_of}
@@ -14,7 +14,7 @@ use Rattle.term_writer.specs.declared.pieces.Rest.TheVariants as rest
 use Rattle.term_writer.specs.Pieces.{IsForm, IsRest, weight}
 use Rattle.term_writer.proofs.Steps.{first_within, second_within}
 
-abbrev IsTail : Spelling → Type 0
+abbrev IsTail : TermText → Type 0
 IsTail s = s.rest ≡ codes "|" ++ s.at 999
 
 module _ (c : Contents) (t : TermId) where

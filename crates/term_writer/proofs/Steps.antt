@@ -9,7 +9,7 @@ use Rattle.std.proofs.lemmas.Bool.{and_parts, not-true}
 use Rattle.fd_language.specs.Characters.{is_symbol}
 use Rattle.fd_language.specs.Term.{Name, Term, Var, Int, Atom, Comp}
 use Rattle.fd_language.specs.Operators.{Operator, infix_operators, infix_of, left_limit, right_limit}
-use Rattle.fd_language.specs.Writing.{Mode, Spelling, spelled, spelled_each, spelled_alone, spelled_compound, spelled_two, spelled_infix, spelled_atom, infix_text, call_text, functor_text, arguments_text, starts_with_symbol, is_empty_name, between}
+use Rattle.fd_language.specs.Writing.{Mode, TermText, spelled, spelled_each, spelled_alone, spelled_compound, spelled_two, spelled_infix, spelled_atom, infix_text, call_text, functor_text, arguments_text, starts_with_symbol, is_empty_name, between}
 use Rattle.term_pool.specs.declared.TermId.{TermId}
 use Rattle.term_pool.specs.Contents.{Contents}
 use Rattle.term_pool.specs.Terms.{terms_by, term_of}
@@ -81,7 +81,7 @@ unfolding infix_of has_name
 infix_name f o h = not-true (is_empty_name o.name) (found_has_name (λ g. bytes_eq g.name f) infix_operators o h all_have_names)
 
 -- what follows an element of a list starts with no symbol character
-compound_rest : (mode : Mode) (f : Name) (xs : List Spelling) → starts_with_symbol (spelled_compound mode f xs).rest ≡ false
+compound_rest : (mode : Mode) (f : Name) (xs : List TermText) → starts_with_symbol (spelled_compound mode f xs).rest ≡ false
 compound_rest mode f [] = plain_bar
 compound_rest mode f (x ∷ []) = go (bytes_eq f (codes "{}"))
   where
@@ -243,7 +243,7 @@ module _ (c : Contents) (mode : Mode) (vars : ℕ → List ℕ) where
             ∙ bracketed (joined text name) a 40 41 plain_open plain_close
             ∙ joined-assoc text name (codes "(" ++ (a ++ codes ")"))
             ∙ ap (joined text) (join_right name (codes "(" ++ (a ++ codes ")")) plain_open)
-            ∙ ap (λ (s : Spelling). joined text (s.at limit)) (sym form);
+            ∙ ap (λ (s : TermText). joined text (s.at limit)) (sym form);
         lighter = omega (arith, k.light, o.light, heavy);
         within = within_three c closing arguments opening k.within within o.within;
       }

@@ -11,8 +11,8 @@ use Rattle.fd_language.specs.Characters.{is_symbol}
 use Rattle.fd_language.specs.Operators.{Operator, infix_of, prefix_of, is_operator, left_limit, right_limit}
 use Rattle.fd_language.specs.Tokens.{Word}
 use Rattle.fd_language.specs.Terminals.{Terminal, operator_word, close_list, comma}
-use Rattle.fd_language.specs.Writing.{is_letter_word, is_symbol_word, is_empty_name, starts_with_symbol, ends_with_symbol, gap_between, between, Spelling, spelled_by}
-use Rattle.term_writer.specs.Spelled.{InTokens, after_bar, operands, operator_terminal}
+use Rattle.fd_language.specs.Writing.{is_letter_word, is_symbol_word, is_empty_name, starts_with_symbol, ends_with_symbol, gap_between, between, TermText, spelled_by}
+use Rattle.term_writer.specs.SpelledTerms.{InTokens, after_bar, operands, operator_terminal}
 use Rattle.term_writer.proofs.Derivations.{infix_stands, text_is}
 use Rattle.term_writer.proofs.Joins.{symbol_space}
 use Rattle.term_writer.proofs.TextTokens.{Lexes, other_first, space, list_closes, comma_first, bar_first, word_token, word_other, Follows, before_space, before_list_end, before_comma, before_bar}
@@ -72,7 +72,7 @@ comma_no_letter = rw (is_xid_start-ascii 44 (omega arith)) refl
 
 module _ (vars : ℕ → List ℕ) (stopped : Bool) where
   -- a term's text has its tokens, alone and as what follows an element of a list
-  pub record Lexed (sp : Spelling) (tk : InTokens) : Type 0 where
+  pub record Lexed (sp : TermText) (tk : InTokens) : Type 0 where
     pub begins : (limit : ℕ) → Begins (sp.at limit)
     pub at : (tight flag : Bool) (limit : ℕ) (r : List ℕ) (ts : List Terminal) → Agrees (sp.at limit) tight flag → Follows r → Apart (sp.at limit) r → Lexes vars stopped true r ts → Lexes vars stopped tight (sp.at limit ++ r) (tk.at flag limit ts)
     pub rest : (r : List ℕ) (ts : List Terminal) → Lexes vars stopped true r ts → Lexes vars stopped true (sp.rest ++ 93 ∷ r) (tk.rest ts)
@@ -91,7 +91,7 @@ module _ (vars : ℕ → List ℕ) (stopped : Bool) where
   }
 
   -- the same tokens in other words
-  pub relabel : (sp : Spelling) (tk us : InTokens) → ((tight : Bool) (limit : ℕ) (ts : List Terminal) → tk.at tight limit ts ≡ us.at tight limit ts) → ((ts : List Terminal) → tk.rest ts ≡ us.rest ts) → Lexed sp tk → Lexed sp us
+  pub relabel : (sp : TermText) (tk us : InTokens) → ((tight : Bool) (limit : ℕ) (ts : List Terminal) → tk.at tight limit ts ≡ us.at tight limit ts) → ((ts : List Terminal) → tk.rest ts ≡ us.rest ts) → Lexed sp tk → Lexed sp us
   relabel sp tk us e k l = record {
     begins = l.begins;
     at = λ tight flag limit r ts a f t h. subst (Lexes vars stopped tight (sp.at limit ++ r)) (e flag limit ts) (l.at tight flag limit r ts a f t h);
@@ -125,7 +125,7 @@ module _ (vars : ℕ → List ℕ) (stopped : Bool) where
 
   -- ---- two operands
 
-  module _ (a b : Spelling) (ta tb : InTokens) (la : Lexed a ta) (lb : Lexed b tb) (o : Operator) where
+  module _ (a b : TermText) (ta tb : InTokens) (la : Lexed a ta) (lb : Lexed b tb) (o : Operator) where
     abbrev left : List ℕ
     left = a.at (left_limit o)
 

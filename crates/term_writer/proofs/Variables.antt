@@ -6,14 +6,14 @@ use Rattle.std.specs.List.{list_all}
 use Rattle.std.specs.Str.{chars}
 use Rattle.std.proofs.lemmas.Str.{encodes-chars, len_utf8_bounds}
 use Rattle.unicode_ident.specs.Ident.{is_xid_start, is_xid_continue}
-use Rattle.fd_language.specs.Characters.{is_layout, is_symbol, is_solo, is_punct, begins_variable, not_newline, is_digit_of, starts_with, tail, run_size, past_run, value}
-use Rattle.fd_language.specs.Tokens.{BadCharacter, StringOut, FloatOut, IntegerTooWide, Front, Gap, Token, Offends, Word, Variable, Integer, Punct, Stop, greatest, number_front, has_base, base_at, has_fraction, based_front, decimal_front, integer_front, comment_front, Inside, Between, AfterQuote, AfterBackslash, AfterDigits, Past, Broken, inside, quoted_end, quoted_front, ends_stop, front_of, front_by, front_at}
+use Rattle.fd_language.specs.Characters.{is_layout, is_symbol, is_solo, is_punct, begins_variable, not_newline, is_digit_of, starts_with, tail, run_size, past_run, digits_value}
+use Rattle.fd_language.specs.Tokens.{BadCharacter, StringOut, FloatOut, IntegerTooWide, Front, Gap, Token, Offends, Word, Variable, Integer, Punct, Stop, greatest_integer, number_front, has_base, base_at, has_fraction, based_front, decimal_front, integer_front, comment_front, Inside, Between, AfterQuote, AfterBackslash, AfterDigits, Past, Broken, inside, quoted_end, quoted_front, ends_stop, front_of, front_by, front_at}
 use Rattle.term_writer.specs.Written.{IsVariable}
 use Rattle.term_writer.proofs.Quoting.{size}
 use Rattle.term_writer.proofs.QuotedNames.{sizes}
 
 number_no : (v m n : ℕ) → number_front v m ≡ Token Variable n → ⊥
-number_no v m n = go (nat_le v greatest)
+number_no v m n = go (nat_le v greatest_integer)
   where
     go : (b : Bool) → cond b (Token (Integer (pos v)) m) (Offends IntegerTooWide 0) ≡ Token Variable n → ⊥
     go true e = cc
@@ -22,16 +22,16 @@ number_no v m n = go (nat_le v greatest)
 decimal_no : (c n : ℕ) (cs : List ℕ) → decimal_front c cs ≡ Token Variable n → ⊥
 decimal_no c n cs = go (has_fraction (past_run (is_digit_of 10) cs)) (c == 48 && starts_with 39 cs)
   where
-    go : (a b : Bool) → cond a (Offends FloatOut 0) (cond b (Offends BadCharacter 1) (number_front (value 10 0 (c ∷ cs)) (len_utf8 c + run_size (is_digit_of 10) cs))) ≡ Token Variable n → ⊥
+    go : (a b : Bool) → cond a (Offends FloatOut 0) (cond b (Offends BadCharacter 1) (number_front (digits_value 10 0 (c ∷ cs)) (len_utf8 c + run_size (is_digit_of 10) cs))) ≡ Token Variable n → ⊥
     go true b e = cc
     go false true e = cc
-    go false false e = number_no (value 10 0 (c ∷ cs)) (len_utf8 c + run_size (is_digit_of 10) cs) n e
+    go false false e = number_no (digits_value 10 0 (c ∷ cs)) (len_utf8 c + run_size (is_digit_of 10) cs) n e
 
 integer_no : (c n : ℕ) (cs : List ℕ) → integer_front c cs ≡ Token Variable n → ⊥
 integer_no c n cs = go (c == 48 && has_base cs)
   where
     go : (b : Bool) → cond b (based_front cs) (decimal_front c cs) ≡ Token Variable n → ⊥
-    go true e = number_no (value (base_at cs) 0 (tail cs)) (2 + run_size (is_digit_of (base_at cs)) (tail cs)) n e
+    go true e = number_no (digits_value (base_at cs) 0 (tail cs)) (2 + run_size (is_digit_of (base_at cs)) (tail cs)) n e
     go false e = decimal_no c n cs e
 
 comment_no : (m n : ℕ) (cs : List ℕ) → comment_front m cs ≡ Token Variable n → ⊥

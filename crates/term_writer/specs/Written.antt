@@ -7,11 +7,11 @@ use Rattle.fd_language.specs.Family.{has}
 use Rattle.fd_language.specs.Variables.{variables_of}
 use Rattle.fd_language.specs.Writing.{Quoted, term_text}
 use Rattle.fd_language.specs.PlacedTerm.{plain}
-use Rattle.fd_language.specs.Tokens.{greatest, Variable, Token, front_of, Lexeme, TokensOf}
+use Rattle.fd_language.specs.Tokens.{greatest_integer, Variable, Token, front_of, Lexeme, TokensOf}
 use Rattle.fd_language.specs.Terminals.{Terminal, stop}
 use Rattle.fd_language.specs.GrammarFaults.{IsShallow}
 use Rattle.fd_language.specs.Reading.{is_anonymous, terminals, Sentence, sentences, IsReading}
-use Rattle.term_writer.specs.Spelled.{Within}
+use Rattle.term_writer.specs.SpelledTerms.{Within}
 
 -- ---- what can be read back
 
@@ -31,7 +31,7 @@ pub record IsFunctor (f : Name) (ts : Terms) : Type 0 where
 abbrev mutual
   pub IsReadable : (ℕ → List ℕ) → Term → Type 0
   IsReadable vars (Var x) = IsVariable (vars x)
-  IsReadable vars (Int z) = nat_abs z ≤ greatest
+  IsReadable vars (Int z) = nat_abs z ≤ greatest_integer
   IsReadable vars (Atom a) = IsUtf8 a
   IsReadable vars (Comp f no_terms) = ⊥
   IsReadable vars (Comp f (term t ts)) = IsFunctor f ts × IsReadable vars t × AllReadable vars ts

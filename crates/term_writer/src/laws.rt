@@ -1,7 +1,7 @@
 //! Laws of what is written.
 
 ghost use Rattle.term_writer.specs.ReadBack.{QuotedIsRead};
-ghost use Rattle.term_writer.specs.Spelled.{SpelledIsRead};
+ghost use Rattle.term_writer.specs.SpelledTerms.{SpelledIsRead};
 ghost use Rattle.term_writer.specs.Written.{WrittenIsRead};
 
 /// The tokens that spell a term derive it again, where each compound has an argument.

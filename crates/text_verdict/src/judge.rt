@@ -8,7 +8,7 @@ ghost use Rattle.char_tokens.specs.Views.{cause_of};
 ghost use Rattle.clause_check.specs.Causes.{cause_text, check_text, IsCauseAt, IsCheckedAt};
 ghost use Rattle.term_pool.specs.Contents.{Contents};
 ghost use Rattle.term_reader.specs.GivenParts.{HaveParts};
-ghost use Rattle.term_reader.specs.Named.{HaveNames};
+ghost use Rattle.term_reader.specs.VariableNames.{HaveNames};
 ghost use Rattle.term_reader.specs.Sentences.{sentences_of, AreOwn, IsFaultFor};
 ghost use Rattle.text_verdict.specs.Verdicts.{Is, IsVerdictOn};
 

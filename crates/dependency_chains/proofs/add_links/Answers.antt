@@ -4,7 +4,7 @@ use Rattle.std.proofs.lemmas.List.Elements.{All-push}
 use Rattle.fd_language.specs.declared.range_node.Feature.{Feature}
 use Rattle.fd_language.specs.declared.range_node.Feature.TheVariants as feature
 use Rattle.dependency_chains.specs.declared.Link.{Link}
-use Rattle.dependency_chains.specs.Reading.{read_by}
+use Rattle.dependency_chains.specs.AgentReads.{read_by}
 use Rattle.dependency_chains.specs.Links.{reading, reads_of, head_of}
 use Rattle.fd_language.specs.Features.{is_same_feature}
 use Rattle.dependency_chains.proofs.Changing.{chains_more}

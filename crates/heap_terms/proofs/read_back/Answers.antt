@@ -1,6 +1,6 @@
 use Rattle.std.proofs.Common.{◌≡◌, ◌∙◌, ap, [], ◌∷◌, ◌++◌}
-use Rattle.heap_terms.specs.declared.Reading.{Reading}
-use Rattle.heap_terms.specs.declared.Reading.TheVariants.{Visit, Make}
+use Rattle.heap_terms.specs.declared.ReadTask.{ReadTask}
+use Rattle.heap_terms.specs.declared.ReadTask.TheVariants.{Visit, Make}
 use Rattle.heap_terms.proofs.Pools.{places_both}
 use Rattle.heap_terms.proofs.CellWalk.{visited_on, visited_smaller, made_on}
 use Rattle.heap_terms.proofs.read_back.Given as given
@@ -8,7 +8,7 @@ use Rattle.heap_terms.proofs.read_back.Goals as goal
 
 -- a cell
 next : (g : given.Over) (c : goal.In_ok-visit_cell-in-Visit g) → c.loop-task.tasks.items ≡ c.pop.new.self.items ++ Visit c.in-Visit.next ∷ []
-next g c = c.in-Some.ensures.items ∙ ap (λ (k : Reading). c.pop.new.self.items ++ k ∷ []) c.in-Visit.is
+next g c = c.in-Some.ensures.items ∙ ap (λ (k : ReadTask). c.pop.new.self.items ++ k ∷ []) c.in-Visit.is
 
 pub loop-task-smaller-in-Continue-branch-2 : goal.loop-task-smaller-in-Continue-branch-2
 loop-task-smaller-in-Continue-branch-2 g c =
@@ -26,7 +26,7 @@ returns-in_err-visit_cell-in-Visit-clause-places g c =
 
 -- a compound term
 last : (g : given.Over) (c : goal.In_ok-make_term-in-Make g) → c.loop-task.tasks.items ≡ c.pop.new.self.items ++ Make c.in-Make.f c.in-Make.count ∷ []
-last g c = c.in-Some.ensures.items ∙ ap (λ (k : Reading). c.pop.new.self.items ++ k ∷ []) c.in-Make.is
+last g c = c.in-Some.ensures.items ∙ ap (λ (k : ReadTask). c.pop.new.self.items ++ k ∷ []) c.in-Make.is
 
 pub loop-task-preserved : goal.loop-task-preserved
 loop-task-preserved g c =

@@ -1,6 +1,6 @@
 use Rattle.std.proofs.Common.{◌∙◌, ap, subst, rules, w64}
 use Rattle.std.specs.Prelude.{OnOk}
-use Rattle.heap_terms.specs.Reading.{AddsTerm}
+use Rattle.heap_terms.specs.ReadBack.{AddsTerm}
 use Rattle.std.proofs.lemmas.Int.{to_z-of_z}
 use borrow.Author.Rules.{sfits_of}
 use Rattle.fd_language.specs.Term.{Int}

@@ -1,6 +1,6 @@
 use Rattle.std.proofs.Common.{◌≡◌, ◌++◌, drop}
 use Rattle.std.specs.Prelude.{map, reverse}
-use Rattle.heap_terms.specs.declared.Reading.TheVariants.{Visit}
+use Rattle.heap_terms.specs.declared.ReadTask.TheVariants.{Visit}
 use Rattle.heap_terms.proofs.visit_cells.Given as goal
 
 abbrev pub invariant-loop-i : goal.invariant-loop-i

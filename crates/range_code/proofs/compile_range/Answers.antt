@@ -4,7 +4,7 @@ use Rattle.fd_language.specs.declared.range_node.Feature.TheVariants as feature
 use Rattle.fd_language.specs.Family.{count_up}
 use Rattle.fd_language.specs.Features.{each_once, node_features}
 use Rattle.fd_language.specs.Needs.{needs}
-use Rattle.range_code.specs.Asked.{need_in}
+use Rattle.range_code.specs.ParameterNeeds.{need_in}
 use Rattle.range_code.specs.Heights.{tallest}
 use Rattle.range_code.specs.Kinds.{has_pair}
 use Rattle.range_code.specs.Pieces.{piece_node, pieces_of, taken, literals}

@@ -1,5 +1,5 @@
 use Rattle.term_reader.proofs.Verdicts.{only}
-use Rattle.term_reader.proofs.Named.{if_named}
+use Rattle.term_reader.proofs.VariableNames.{if_named}
 use Rattle.term_reader.proofs.GivenParts.{if_parts}
 use Rattle.term_reader.proofs.read_sentences.Goals as goal
 

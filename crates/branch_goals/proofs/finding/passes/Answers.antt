@@ -2,7 +2,7 @@ use Rattle.std.proofs.Common.{◌≡◌, subst}
 use Rattle.fd_model.specs.Levels.{Levels}
 use Rattle.heap_cells.specs.Cells.{Heaps}
 use Rattle.builtin_calls.specs.Passing.{passes}
-use Rattle.builtin_calls.specs.Reading as calls
+use Rattle.builtin_calls.specs.SeenTerms as calls
 use Rattle.branch_goals.proofs.Findings.{is_passed, links_below}
 use Rattle.branch_goals.proofs.finding.passes.Goals as goal
 

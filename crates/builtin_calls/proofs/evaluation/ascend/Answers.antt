@@ -5,8 +5,8 @@ use Rattle.heap_cells.proofs.Lemmas.{all_front}
 use Rattle.builtin_calls.specs.declared.evaluation.Step.TheVariants.{Enter, Leave}
 use Rattle.builtin_calls.specs.declared.waiting.Waiting.{Waiting}
 use Rattle.builtin_calls.specs.Outcomes.{IsFault}
-use Rattle.builtin_calls.specs.Reading.{seen_term}
-use Rattle.builtin_calls.specs.Waiting.{IsOfHeap, Leads, resumed}
+use Rattle.builtin_calls.specs.SeenTerms.{seen_term}
+use Rattle.builtin_calls.specs.Evaluations.{IsOfHeap, Leads, resumed}
 use Rattle.builtin_calls.proofs.Remainders.{read_back}
 use Rattle.builtin_calls.proofs.Evaluating.{leads_popped, popped_falls, popped_fails}
 use Rattle.builtin_calls.proofs.evaluation.ascend.Goals as goal

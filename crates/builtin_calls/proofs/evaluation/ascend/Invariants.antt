@@ -2,8 +2,8 @@ use Rattle.std.proofs.Common.{ℕ, List, []}
 use Rattle.std.specs.Prelude.{All}
 use Rattle.fd_language.specs.Term.{Name}
 use Rattle.builtin_calls.specs.declared.evaluation.Step.TheVariants.{Leave}
-use Rattle.builtin_calls.specs.Reading.{seen_term}
-use Rattle.builtin_calls.specs.Waiting.{IsOfHeap, Leads, load, unnamed}
+use Rattle.builtin_calls.specs.SeenTerms.{seen_term}
+use Rattle.builtin_calls.specs.Evaluations.{IsOfHeap, Leads, load, unnamed}
 use Rattle.builtin_calls.proofs.evaluation.ascend.Given as goal
 
 abbrev pub invariant-loop-waits : goal.invariant-loop-waits

@@ -1,7 +1,7 @@
 use Rattle.std.proofs.lemmas.Result.{err_from_is_err_and}
 use Rattle.heap_cells.specs.declared.Seen.TheVariants as seen
 use Rattle.builtin_calls.specs.declared.evaluation.Step.TheVariants.{Enter}
-use Rattle.builtin_calls.specs.Waiting.{GoesOn}
+use Rattle.builtin_calls.specs.Evaluations.{GoesOn}
 use Rattle.builtin_calls.proofs.Showing.{shown_else, simple_seen, held_seen}
 use Rattle.builtin_calls.proofs.Evaluating.{entered, enter_fails, descended, descent_fails, leads_further, held_own, held_name}
 use Rattle.builtin_calls.proofs.evaluation.descend.Given as given

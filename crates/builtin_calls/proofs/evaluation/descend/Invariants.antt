@@ -1,8 +1,8 @@
 use Rattle.std.proofs.Common.{IfSome}
 use Rattle.builtin_calls.specs.Outcomes.{IsMeant}
 use Rattle.builtin_calls.specs.declared.evaluation.Step.TheVariants.{Enter}
-use Rattle.builtin_calls.specs.Reading.{seen_term}
-use Rattle.builtin_calls.specs.Waiting.{Leads, load, unnamed}
+use Rattle.builtin_calls.specs.SeenTerms.{seen_term}
+use Rattle.builtin_calls.specs.Evaluations.{Leads, load, unnamed}
 use Rattle.builtin_calls.proofs.evaluation.descend.Given as goal
 
 abbrev pub invariant-down : goal.invariant-down

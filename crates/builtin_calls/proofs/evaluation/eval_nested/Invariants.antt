@@ -1,6 +1,6 @@
 use Rattle.builtin_calls.specs.declared.evaluation.Step.TheVariants.{Enter}
-use Rattle.builtin_calls.specs.Reading.{seen_term}
-use Rattle.builtin_calls.specs.Waiting.{load, unnamed}
+use Rattle.builtin_calls.specs.SeenTerms.{seen_term}
+use Rattle.builtin_calls.specs.Evaluations.{load, unnamed}
 use Rattle.builtin_calls.proofs.Evaluating.{IsUnderWay}
 use Rattle.builtin_calls.proofs.evaluation.eval_nested.Given as goal
 

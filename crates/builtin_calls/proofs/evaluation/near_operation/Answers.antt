@@ -5,7 +5,7 @@ use Rattle.heap_cells.specs.declared.Seen.TheVariants as seen
 use Rattle.heap_cells.specs.Cells.{Cells}
 use Rattle.heap_cells.specs.Terms.{Naming}
 use Rattle.fd_model.specs.Arithmetic.{value_of}
-use Rattle.builtin_calls.specs.Reading.{seen_term}
+use Rattle.builtin_calls.specs.SeenTerms.{seen_term}
 use Rattle.builtin_calls.specs.Outcomes.{IsMeaning, IsNamedBy, Tells, meaning}
 use Rattle.builtin_calls.specs.declared.evaluation.EvalFault.{EvalFault}
 use Rattle.builtin_calls.specs.declared.waiting.Operation.{Operation}

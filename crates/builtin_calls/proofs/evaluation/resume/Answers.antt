@@ -5,8 +5,8 @@ use Rattle.std.proofs.lemmas.Result.{err_from_is_err_and}
 use Rattle.builtin_calls.specs.declared.waiting.Waiting.TheVariants.{Right}
 use Rattle.fd_model.specs.Arithmetic.{opposite_of, of_both}
 use Rattle.builtin_calls.specs.Outcomes.{IsFault, meaning}
-use Rattle.builtin_calls.specs.Reading.{seen_term}
-use Rattle.builtin_calls.specs.Waiting.{after, IsOfHeap}
+use Rattle.builtin_calls.specs.SeenTerms.{seen_term}
+use Rattle.builtin_calls.specs.Evaluations.{after, IsOfHeap}
 use Rattle.builtin_calls.proofs.Remainders.{read_back}
 use Rattle.builtin_calls.proofs.Evaluating.{left_goes, value_goes, value_fails}
 use Rattle.builtin_calls.proofs.evaluation.resume.Goals as goal

@@ -1,6 +1,6 @@
 use Rattle.std.proofs.Common.{◌≡◌, ◌++◌, [], ◌∷◌, ap, sym, ◌∙◌, List, rules}
 use Rattle.builtin_calls.specs.declared.identity.Pair.{Pair}
-use Rattle.builtin_calls.specs.Reading.{seen_term}
+use Rattle.builtin_calls.specs.SeenTerms.{seen_term}
 use Rattle.builtin_calls.proofs.Comparing.{same_seen, comparing_roots}
 use Rattle.builtin_calls.proofs.identity.same.Goals as goal
 

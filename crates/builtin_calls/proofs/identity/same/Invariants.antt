@@ -1,7 +1,7 @@
 use Rattle.std.proofs.Common.{◌++◌, [], ◌∷◌}
 use Rattle.builtin_calls.specs.Identical.{weight}
-use Rattle.builtin_calls.specs.Reading.{seen_term}
-use Rattle.builtin_calls.specs.Waiting.{unnamed}
+use Rattle.builtin_calls.specs.SeenTerms.{seen_term}
+use Rattle.builtin_calls.specs.Evaluations.{unnamed}
 use Rattle.builtin_calls.proofs.Comparing.{IsComparing}
 use Rattle.builtin_calls.proofs.identity.same.Given as goal
 

@@ -3,7 +3,7 @@ use Rattle.fd_language.specs.Term.{Int}
 use Rattle.heap_cells.specs.declared.Cell.TheVariants as cell
 use Rattle.heap_cells.specs.declared.Seen.TheVariants as seen
 use Rattle.heap_cells.specs.Terms.{Naming, Same}
-use Rattle.builtin_calls.specs.Reading.{seen_term}
+use Rattle.builtin_calls.specs.SeenTerms.{seen_term}
 use Rattle.builtin_calls.proofs.Showing.{shown_else}
 use Rattle.builtin_calls.proofs.reading.glance.Goals as goal
 

@@ -3,7 +3,7 @@ use Rattle.std.specs.Prelude.{◌==◌, ◌&&◌}
 use Rattle.std.specs.Char.{len_utf8}
 use Rattle.std.specs.Str.{chars}
 use Rattle.std.proofs.lemmas.Str.{chars_past_char}
-use Rattle.fd_language.specs.Characters.{is_digit_of, past_run, run_size, value, starts_with}
+use Rattle.fd_language.specs.Characters.{is_digit_of, past_run, run_size, digits_value, starts_with}
 use Rattle.fd_language.specs.Tokens.{has_fraction, number_front}
 use Rattle.char_tokens.specs.Views.{integer_of}
 use Rattle.char_tokens.proofs.Runs.{run_here, past_here}
@@ -28,6 +28,6 @@ returns-clause-front c =
     let characters : chars c.args.text.now ≡ c.args.c ∷ later = chars_past_char c.args.text.now c.args.behind.now c.args.c c.utf8.text c.requires.split in
     let size : c.digits-size.result.0 ≡ len_utf8 c.args.c + run_size (is_digit_of 10) later =
     c.digits-size.ensures.size ∙ run_here (is_digit_of 10) c.args.text.now c.args.behind.now c.args.c c.utf8.text c.requires.split c.requires.digit in
-    c.number.ensures (value 10 0 (c.args.c ∷ later)) (c.digits-size.ensures.value ∙ ap (λ (cs : List ℕ). integer_of (value 10 0 cs)) characters)
-    ∙ ap (λ (n : ℕ). number_front (value 10 0 (c.args.c ∷ later)) n) size
+    c.number.ensures (digits_value 10 0 (c.args.c ∷ later)) (c.digits-size.ensures.value ∙ ap (λ (cs : List ℕ). integer_of (digits_value 10 0 cs)) characters)
+    ∙ ap (λ (n : ℕ). number_front (digits_value 10 0 (c.args.c ∷ later)) n) size
     ∙ sym (decimal_number c.args.c later h k)

@@ -7,7 +7,7 @@ use Rattle.clause_check.specs.Programs.{clause_at}
 use Rattle.wam_code.specs.Places.{count}
 use Rattle.clause_code.specs.Short.{last_arguments, IsShort}
 use Rattle.clause_code.specs.Simple.{IsOwn}
-use Rattle.clause_code.specs.Staying.{AreHomes}
+use Rattle.clause_code.specs.ArgumentHomes.{AreHomes}
 use Rattle.clause_code.specs.Steps.{AllSuit}
 use Rattle.clause_code.proofs.Rests.{count_terms}
 use Rattle.clause_code.proofs.Short.{short_housed, head_here, goals_here, goal_suits, goal_fewer, few_arguments, short_written}

@@ -1,7 +1,7 @@
 use Rattle.std.proofs.Common.{sym, subst, arith}
 use Rattle.term_pool.specs.Terms.{term_of, terms_by}
 use Rattle.wam_code.specs.Places.{count}
-use Rattle.clause_code.specs.Staying.{AllWait, Stayed}
+use Rattle.clause_code.specs.ArgumentHomes.{AllWait, Stayed}
 use Rattle.clause_code.proofs.Finding.{homes_found}
 use Rattle.clause_code.proofs.Rests.{count_terms}
 use Rattle.clause_code.proofs.staying.find_homes.Goals as goal

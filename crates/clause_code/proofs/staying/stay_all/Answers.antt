@@ -1,7 +1,7 @@
 use Rattle.std.proofs.Common.{◌<◌, ◌∙◌, ap, length, sym, subst, Some, add-one}
 use Rattle.term_pool.specs.Terms.{term_of, terms_by}
 use Rattle.clause_code.specs.Steps.{Suits}
-use Rattle.clause_code.specs.Staying.{MayStay, Stayed}
+use Rattle.clause_code.specs.ArgumentHomes.{MayStay, Stayed}
 use Rattle.clause_code.proofs.Finding.{all_own, nth_of, stayed_next}
 use Rattle.clause_code.proofs.staying.stay_all.Goals as goal
 use Rattle.clause_code.proofs.staying.stay_all.Goals.{in-Var, in_default}

@@ -1,5 +1,5 @@
 use Rattle.term_pool.specs.Terms.{term_of, terms_by}
-use Rattle.clause_code.specs.Staying.{Stayed}
+use Rattle.clause_code.specs.ArgumentHomes.{Stayed}
 use Rattle.clause_code.proofs.staying.stay_all.Given as goal
 
 abbrev pub invariant-loop-i : goal.invariant-loop-i

@@ -1,6 +1,6 @@
 use Rattle.std.proofs.Common.{rules, ◌≡◌, ◌<◌, [], length, take, refl, sym, ap, subst}
 use Rattle.byte_ports.specs.Ends.{Ends}
-use Rattle.clpwhere.proofs.Runs.{Reading, copied, copy_cut, last_cut, memory_cut, more_cut, more_read, read_cut}
+use Rattle.clpwhere.proofs.Runs.{HasCopied, copied, copy_cut, last_cut, memory_cut, more_cut, more_read, read_cut}
 use Rattle.clpwhere.proofs.copy.copy_through.Goals as goal
 
 pub returns-in_err-finish-in-Ok-eq0 : goal.returns-in_err-finish-in-Ok-eq0
@@ -11,7 +11,7 @@ returns-in_err-finish-in-Ok-eq0 g c =
     let zero : c.in-Ok-eq0.field-0 ≡ 0 = search rules in
     let none : take c.in-Ok-eq0.field-0 c.read.new.buf ≡ [] = ap (λ k. take k c.read.new.buf) zero in
     let some : 0 < length c.read.new.buf = search rules in
-    let read : Reading c.args.text.now old now c.deref.result.now c.reading.is_told = subst (λ l. Reading c.args.text.now old now l c.reading.is_told) (sym c.deref.ensures.value) c.reading.invariant in
+    let read : HasCopied c.args.text.now old now c.deref.result.now c.reading.is_told = subst (λ l. HasCopied c.args.text.now old now l c.reading.is_told) (sym c.deref.ensures.value) c.reading.invariant in
     let cut = last_cut c.args.text.now old now new c.deref.result.now (take c.in-Ok-eq0.field-0 c.read.new.buf) c.reading.is_told c.in_err-finish-in-Ok-eq0.field-0.0 read
     c.in-Ok-eq0.ensures.bytes none (c.in-Ok-eq0.ensures.end zero some) c.in-Ok-eq0.ensures.ok c.in_err-finish-in-Ok-eq0.ensures.wrote in
     copy_cut c.args.text.now old new c.in_err-finish-in-Ok-eq0.field-0.0 c.from_residual.result (search rules) cut
@@ -24,7 +24,7 @@ returns-in-Ok-eq0 g c =
     let zero : c.in-Ok-eq0.field-0 ≡ 0 = search rules in
     let none : take c.in-Ok-eq0.field-0 c.read.new.buf ≡ [] = ap (λ k. take k c.read.new.buf) zero in
     let some : 0 < length c.read.new.buf = search rules in
-    let read : Reading c.args.text.now old now c.deref.result.now c.reading.is_told = subst (λ l. Reading c.args.text.now old now l c.reading.is_told) (sym c.deref.ensures.value) c.reading.invariant in
+    let read : HasCopied c.args.text.now old now c.deref.result.now c.reading.is_told = subst (λ l. HasCopied c.args.text.now old now l c.reading.is_told) (sym c.deref.ensures.value) c.reading.invariant in
     copied c.args.text.now old now new c.deref.result.now (take c.in-Ok-eq0.field-0 c.read.new.buf) c.reading.is_told c.in_ok-finish-in-Ok-eq0.field-0 read
     c.in-Ok-eq0.ensures.bytes none (c.in-Ok-eq0.ensures.end zero some) c.in-Ok-eq0.ensures.ok c.in_ok-finish-in-Ok-eq0.ensures.wrote c.in_ok-finish-in-Ok-eq0.ensures.told
 

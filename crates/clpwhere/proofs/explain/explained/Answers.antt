@@ -1,5 +1,5 @@
 use Rattle.std.proofs.Common.{rules, ◌≡◌, ◌++◌, ◌∙◌, codes}
-use Rattle.clpwhere.specs.Marked.{place_line, shown_lines}
+use Rattle.clpwhere.specs.MarkedLines.{place_line, shown_lines}
 use Rattle.clpwhere.specs.Reasons.{reason_sentence}
 use Rattle.clpwhere.specs.Refusals.{seen}
 use Rattle.clpwhere.proofs.Shown.{four_joined}

@@ -1,6 +1,6 @@
 use Rattle.std.proofs.Common.{rules}
 use Rattle.byte_ports.specs.Ends.{SinkState, sink_at}
-use Rattle.clpwhere.specs.Marked.{marked_line}
+use Rattle.clpwhere.specs.MarkedLines.{marked_line}
 use Rattle.clpwhere.proofs.Pieces.{wrote_short}
 use Rattle.clpwhere.proofs.explain.put_line.Goals as goal
 

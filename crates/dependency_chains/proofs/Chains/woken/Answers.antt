@@ -3,7 +3,7 @@ use Rattle.std.specs.List.{list_any}
 use Rattle.fd_language.specs.Family.{has}
 use Rattle.fd_language.specs.declared.range_node.Feature.TheVariants as feature
 use Rattle.dependency_chains.specs.declared.Link.{Link}
-use Rattle.dependency_chains.specs.Reading.{Reading}
+use Rattle.dependency_chains.specs.AgentReads.{AgentRead}
 use Rattle.dependency_chains.specs.Waking.{wakes}
 use Rattle.dependency_chains.specs.Links.{AreLinked, agents_from, head_of}
 use Rattle.dependency_chains.proofs.Chaining.{latest_below}
@@ -22,7 +22,7 @@ returns c a =
     (λ e. c.place_if.ensures ∙ ap (λ b. cond b h.min 0) e) (λ e. c.place_if.ensures ∙ ap (λ b. cond b h.min 0) e)
     (λ e. c.place_if-2.ensures ∙ ap (λ b. cond b h.max 0) e) (λ e. c.place_if-2.ensures ∙ ap (λ b. cond b h.max 0) e)
     (λ e. c.place_if-3.ensures ∙ ap (λ b. cond b h.val 0) e) (λ e. c.place_if-3.ensures ∙ ap (λ b. cond b h.val 0) e)
-    ∙ ap (λ v. list_any (λ (r : Reading). (r.agent == a) && ((r.var == k) && wakes g r.feature)) v.reads) c.self.view_is
+    ∙ ap (λ v. list_any (λ (r : AgentRead). (r.agent == a) && ((r.var == k) && wakes g r.feature)) v.reads) c.self.view_is
 
 pub invariant_of-result : goal.invariant_of-result
 invariant_of-result c =

@@ -1,5 +1,5 @@
 use Rattle.std.proofs.Common.{subst, sym, drop_of_length-le}
-use Rattle.domain_ranges.specs.Waiting.{AreRising}
+use Rattle.domain_ranges.specs.StackedSets.{AreRising}
 use Rattle.domain_ranges.proofs.Stacking.{rising_more}
 use Rattle.domain_ranges.proofs.intervals.is_rising.Goals as goal
 

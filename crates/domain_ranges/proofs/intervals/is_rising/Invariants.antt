@@ -1,5 +1,5 @@
 use Rattle.std.proofs.Common.{drop}
-use Rattle.domain_ranges.specs.Waiting.{AreRising}
+use Rattle.domain_ranges.specs.StackedSets.{AreRising}
 use Rattle.domain_ranges.proofs.intervals.is_rising.Given as goal
 
 abbrev pub invariant-loop-span : goal.invariant-loop-span

@@ -1,7 +1,7 @@
 use Rattle.std.proofs.Common.{rules, subst, sym, ap, ◌∙◌, drop, ◌+◌, ◌≡◌, ◌++◌, Some, get_or}
 use Rattle.fd_language.specs.declared.TheConstants.{INFINITY}
 use Rattle.domain_ranges.specs.Spans.{within, IsSpans, members, listed, joined}
-use Rattle.domain_ranges.specs.Waiting.{numbers}
+use Rattle.domain_ranges.specs.StackedSets.{numbers}
 use Rattle.domain_ranges.proofs.Joining.{Joining, join_more, join_done, close_spans}
 use Rattle.domain_ranges.proofs.Stacking.{first_at, no_more}
 use Rattle.domain_ranges.proofs.Outcomes.{if_ok}

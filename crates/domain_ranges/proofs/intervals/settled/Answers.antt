@@ -2,7 +2,7 @@ use Rattle.std.proofs.Common.{rules, ap, sym, subst, ◌∙◌, ◌≡◌}
 use Rattle.std.specs.List.Sorted.{IsPermutation}
 use Rattle.std.proofs.lemmas.List.Sorted.{IsNonDecreasingBy-from_sort_by_key}
 use Rattle.domain_ranges.specs.Spans.{Span, members}
-use Rattle.domain_ranges.specs.Waiting.{numbers, AreIntervals, AreRising}
+use Rattle.domain_ranges.specs.StackedSets.{numbers, AreIntervals, AreRising}
 use Rattle.domain_ranges.proofs.Stacking.{numbers_of, sorted_rises, permuted_numbers, permuted_intervals}
 use Rattle.domain_ranges.proofs.Outcomes.{if_ok}
 use Rattle.domain_ranges.proofs.intervals.settled.Goals as goal

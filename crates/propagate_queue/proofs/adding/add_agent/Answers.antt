@@ -1,5 +1,5 @@
 use Rattle.std.proofs.Common.{◌++◌, ◌∷◌, [], ◌∙◌, length, ap, arith, true}
-use Rattle.dependency_chains.specs.Reading.{read_by}
+use Rattle.dependency_chains.specs.AgentReads.{read_by}
 use Rattle.propagate_queue.specs.Instances.{posting}
 use Rattle.propagate_queue.proofs.Queueing.{flagged_below}
 use Rattle.propagate_queue.proofs.NewAgents.{was_added, agent_readers, agent_within, agent_kept}

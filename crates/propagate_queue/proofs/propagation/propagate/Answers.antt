@@ -6,7 +6,7 @@ use Rattle.propagate_queue.specs.Postings.{Posting, ranged, ranges_of, posting_a
 use Rattle.propagate_queue.proofs.Queueing.{was_there, was_taken, no_flags, flag_within, flagged_below}
 use Rattle.propagate_queue.proofs.Settling.{ended, total, measure_less, wakes_known}
 use Rattle.std.specs.List.{list_any}
-use Rattle.dependency_chains.specs.Reading.{Reading}
+use Rattle.dependency_chains.specs.AgentReads.{AgentRead}
 use Rattle.propagate_queue.specs.Running.{Activated}
 use Rattle.propagate_queue.proofs.Turning.{posting_is, IsTurn, same_turn, moved_turn, moved_total, empty_turn, instance_at}
 use Rattle.propagate_queue.proofs.propagation.propagate.Goals as goal
@@ -114,7 +114,7 @@ activating-preserved g c =
     } in
     let next = moved_turn c.args.agents.now c.args.chains.now.reads c.args.trail.now c.activating.trail c.activate.new.trail c.args.queued.now c.activating.queued c.wake.new.queued c.woken-woken.result c.args.n.now.count c.activating.n.count c.activate.new.n.count c.in-Some.agent (posting_at c.args.agents.now c.in-Some.agent) c.in_ok-activate.field-0 c.in-Changed.before c.in-Changed.after c.of_ends-change.result
     c.requires.monotone c.requires.readers (omega (arith, c.requires.agents, c.activating.auto.queued)) (omega (arith, c.wake.auto.queued, length-set c.activating.queued c.in-Some.agent false))
-    low (posting_is c.args.agents.now c.in-Some.agent low) (omega (arith, i.0, c.activating.invariant.vars)) there c.in-Changed.is (subst (λ (l : List Posting). Activated (ranged (posting_at l c.in-Some.agent)) c.activating.trail c.activate.new.trail c.in_ok-activate.field-0) c.activating.invariant.agents c.in_ok-activate.ensures.done) c.of_ends-change.ensures c.wake.ensures.flags (λ k. subst (λ (v : ℕ). has c.woken-woken.result k ≡ list_any (λ (r : Reading). (r.agent == k) && ((r.var == v) && wakes c.of_ends-change.result r.feature)) c.args.chains.now.reads) same (c.woken-woken.ensures k)) c.activate.ensures.count turn in
+    low (posting_is c.args.agents.now c.in-Some.agent low) (omega (arith, i.0, c.activating.invariant.vars)) there c.in-Changed.is (subst (λ (l : List Posting). Activated (ranged (posting_at l c.in-Some.agent)) c.activating.trail c.activate.new.trail c.in_ok-activate.field-0) c.activating.invariant.agents c.in_ok-activate.ensures.done) c.of_ends-change.ensures c.wake.ensures.flags (λ k. subst (λ (v : ℕ). has c.woken-woken.result k ≡ list_any (λ (r : AgentRead). (r.agent == k) && ((r.var == v) && wakes c.of_ends-change.result r.feature)) c.args.chains.now.reads) same (c.woken-woken.ensures k)) c.activate.ensures.count turn in
     record {
       agents = c.activate.ensures.agents ∙ c.activating.invariant.agents;
       below = next.below;

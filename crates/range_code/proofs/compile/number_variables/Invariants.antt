@@ -1,6 +1,6 @@
 use Rattle.std.proofs.Common.{take}
 use Rattle.range_code.specs.Nodes.{node_variables}
-use Rattle.range_code.specs.Gathered.{IsNumbered}
+use Rattle.range_code.specs.SlotNumbering.{IsNumbered}
 use Rattle.range_code.proofs.compile.number_variables.Given as goal
 
 abbrev pub invariant-loop-node : goal.invariant-loop-node

@@ -3,7 +3,7 @@ use Rattle.std.proofs.lemmas.Result.{IfOk-weaker}
 use Rattle.fd_language.specs.Flat.{spelled}
 use Rattle.range_code.specs.Frames.{slot_set, slot_integer}
 use Rattle.range_code.specs.Work.{filled_set}
-use Rattle.range_code.specs.Walked.{all_steps}
+use Rattle.range_code.specs.StepNodes.{all_steps}
 use Rattle.range_code.proofs.Walks.{some_step, set_alone}
 use Rattle.range_code.proofs.evaluate.evaluate.Goals as goal
 

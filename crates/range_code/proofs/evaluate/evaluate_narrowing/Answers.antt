@@ -9,7 +9,7 @@ use Rattle.range_code.specs.Choices.{is_chosen}
 use Rattle.range_code.specs.Frames.{slot_set, slot_integer}
 use Rattle.range_code.specs.Nodes.{IsReadable}
 use Rattle.range_code.specs.Steps.{outside}
-use Rattle.range_code.specs.Walked.{all_steps}
+use Rattle.range_code.specs.StepNodes.{all_steps}
 use Rattle.range_code.proofs.Counting.{some_height}
 use Rattle.range_code.proofs.Forms.{narrows_same, spells_itself}
 use Rattle.range_code.proofs.evaluate.evaluate_narrowing.Goals as goal

@@ -6,7 +6,7 @@ use Rattle.range_code.specs.Heights.{HasRoom}
 use Rattle.range_code.specs.Instructions.{node_of, IsPlaced}
 use Rattle.range_code.specs.Nodes.{IsReadable}
 use Rattle.range_code.specs.Work.{filled_set, CanTake, IsTaken}
-use Rattle.range_code.specs.Walked.{all_steps}
+use Rattle.range_code.specs.StepNodes.{all_steps}
 use mir.Syntax.{w128}
 use Rattle.std.proofs.Common.{rules, SFits, to_z-of_z, ◌≤◌, ◌-◌, ◌+◌, ◌∙◌, sym, ap, subst, get_or, ◌∷◌, ◌++◌, [], length, arith}
 use Rattle.range_code.specs.Steps.{outside}

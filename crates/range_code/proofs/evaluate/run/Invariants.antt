@@ -1,7 +1,7 @@
 use Rattle.std.proofs.Common.{◌≤◌}
 use Rattle.range_code.specs.Frames.{slot_set, slot_integer}
 use Rattle.range_code.specs.Heights.{HasRoom, KeepsRoom}
-use Rattle.range_code.specs.Walked.{steps_from, IsAt}
+use Rattle.range_code.specs.StepNodes.{steps_from, IsAt}
 use Rattle.range_code.proofs.evaluate.run.Given as goal
 
 abbrev pub invariant-loop-place : goal.invariant-loop-place

@@ -5,7 +5,7 @@ use Rattle.fd_language.specs.declared.TheConstants.{INFINITY}
 use Rattle.fd_language.specs.Family.{IsRising}
 use Rattle.range_code.specs.Frames.{slot_set, slot_integer}
 use Rattle.range_code.specs.Steps.{PushesValue, PushesSet}
-use Rattle.range_code.proofs.Reading.{push_taken, operator_taken, span_taken, one_taken, dom_taken, union_taken, inter_taken, outside_taken, moved_taken}
+use Rattle.range_code.proofs.TakenNodes.{push_taken, operator_taken, span_taken, one_taken, dom_taken, union_taken, inter_taken, outside_taken, moved_taken}
 use Rattle.range_code.proofs.evaluate.take.Goals as goal
 
 pub returns-in-PushConst-clause-taken : goal.returns-in-PushConst-clause-taken

@@ -1,7 +1,7 @@
 use Rattle.std.proofs.Common.{sym, subst}
 use Rattle.fd_language.specs.PlacedTerm.{comp}
 use Rattle.term_pool.specs.PlacedTerms.{placed_of, parts_by}
-use Rattle.range_terms.specs.Wanted.{wanted}
+use Rattle.range_terms.specs.TermNodes.{wanted}
 use Rattle.range_terms.specs.Forms.{IsForm}
 use Rattle.range_terms.specs.declared.forms.Position.{Position}
 use Rattle.range_terms.proofs.forms.compound_form.Goals as goal

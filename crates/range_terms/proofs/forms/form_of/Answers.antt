@@ -11,7 +11,7 @@ use Rattle.fd_language.specs.PlacedTerm.{var, int, atom, comp}
 use Rattle.term_pool.specs.Contents as pool
 use Rattle.term_pool.specs.Contents.{Contents, atom_name}
 use Rattle.term_pool.specs.PlacedTerms.{placed_of, parts_by}
-use Rattle.range_terms.specs.Wanted.{Wanted, wanted}
+use Rattle.range_terms.specs.TermNodes.{Wanted, wanted}
 use Rattle.range_terms.specs.Forms.{IsForm, IsNumber}
 use Rattle.range_terms.specs.declared.forms.Form.TheVariants as form
 use Rattle.range_terms.proofs.Steps.{at_shape}

@@ -2,7 +2,7 @@ use Rattle.std.proofs.Common.{List, sym, subst}
 use Rattle.fd_language.specs.PlacedTerm.{comp}
 use Rattle.term_pool.specs.declared.TermId.{TermId}
 use Rattle.term_pool.specs.PlacedTerms.{placed_of, parts_by}
-use Rattle.range_terms.specs.Wanted.{wanted}
+use Rattle.range_terms.specs.TermNodes.{wanted}
 use Rattle.range_terms.specs.Forms.{IsForm}
 use Rattle.range_terms.specs.declared.forms.Position.TheVariants as place_in
 use Rattle.range_terms.proofs.Positions.{one_part, two_parts, empty_nowhere, several_nowhere}

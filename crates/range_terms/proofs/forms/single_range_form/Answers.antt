@@ -1,7 +1,7 @@
 use Rattle.std.proofs.Common.{refl, sym, subst, ◌∙◌, []}
 use Rattle.std.proofs.Common.{◌∷◌}
 use Rattle.term_pool.specs.PlacedTerms.{placed_of}
-use Rattle.range_terms.specs.Wanted.{Wanted}
+use Rattle.range_terms.specs.TermNodes.{Wanted}
 use Rattle.range_terms.specs.Forms.{IsForm}
 use Rattle.range_terms.proofs.Positions.{single_one, single_outside, single_dom, no_single}
 use Rattle.range_terms.proofs.forms.single_range_form.Goals as goal

@@ -4,7 +4,7 @@ use Rattle.std.proofs.lemmas.List.Elements.{All-pop}
 use Rattle.range_terms.specs.declared.walk.Task.{Task}
 use Rattle.range_terms.specs.declared.forms.Position.TheVariants as place_in
 use Rattle.term_pool.specs.PlacedTerms.{placed_of}
-use Rattle.range_terms.specs.Wanted.{wanted}
+use Rattle.range_terms.specs.TermNodes.{wanted}
 use Rattle.range_terms.specs.Walk.{load, IsOf, IsLeft}
 use Rattle.range_terms.proofs.Walks.{still_left, smaller_load}
 use Rattle.range_terms.proofs.walk.read_term.Goals as goal

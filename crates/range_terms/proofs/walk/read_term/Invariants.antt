@@ -1,5 +1,5 @@
 use Rattle.term_pool.specs.PlacedTerms.{placed_of}
-use Rattle.range_terms.specs.Wanted.{wanted}
+use Rattle.range_terms.specs.TermNodes.{wanted}
 use Rattle.range_terms.specs.Walk.{load, IsLeft}
 use Rattle.range_terms.specs.declared.forms.Position.TheVariants as place_in
 use Rattle.range_terms.proofs.walk.read_term.Given as goal

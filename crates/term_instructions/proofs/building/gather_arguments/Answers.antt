@@ -1,5 +1,5 @@
 use Rattle.std.proofs.Common.{subst, sym, suc, arith}
-use Rattle.term_instructions.specs.Building.{IsGatheredTo}
+use Rattle.term_instructions.specs.WriteMode.{IsGatheredTo}
 use Rattle.term_instructions.proofs.BuildSteps.{gathered_start, gathered_both}
 use Rattle.term_instructions.proofs.Unify.{place_within}
 use Rattle.term_instructions.proofs.building.gather_arguments.Goals as goal

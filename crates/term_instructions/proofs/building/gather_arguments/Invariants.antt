@@ -1,5 +1,5 @@
 use Rattle.std.proofs.Common.{◌-◌, length}
-use Rattle.term_instructions.specs.Building.{IsGatheredTo}
+use Rattle.term_instructions.specs.WriteMode.{IsGatheredTo}
 use Rattle.term_instructions.proofs.building.gather_arguments.Given as goal
 
 abbrev pub invariant-arguments : goal.invariant-arguments

@@ -2,7 +2,7 @@ use Rattle.std.proofs.Common.{[], ◌∷◌, ◌++◌, suc, subst, sym, ap, arit
 use Rattle.std.proofs.lemmas.List.Elements.{All-nil}
 use Rattle.branch_state.specs.States.{IsCell}
 use Rattle.code_states.specs.Safety.{IsSafe}
-use Rattle.term_instructions.specs.Building.{IsGatheredTo, GivesOne}
+use Rattle.term_instructions.specs.WriteMode.{IsGatheredTo, GivesOne}
 use Rattle.term_instructions.proofs.BuildSteps.{gathered_start, one_given, two_given}
 use Rattle.term_instructions.proofs.Unify.{place_within, unify_there}
 use Rattle.term_instructions.proofs.building.gather_two.Goals as goal

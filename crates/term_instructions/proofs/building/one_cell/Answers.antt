@@ -5,7 +5,7 @@ use Rattle.wam_code.specs.declared.instruction.Code.TheVariants.{UnifyVoid}
 use Rattle.wam_code.specs.Area.{Holds}
 use Rattle.term_instructions.specs.declared.arguments.Argument.{Argument}
 use Rattle.term_instructions.specs.Arguments.{IsOne, code_of}
-use Rattle.term_instructions.specs.Building.{GivesOne}
+use Rattle.term_instructions.specs.WriteMode.{GivesOne}
 use Rattle.term_instructions.proofs.BuildSteps.{give_value, give_constant, give_integer, give_variable, give_void}
 use Rattle.term_instructions.proofs.Unify.{variable_needs, value_needs}
 use Rattle.term_instructions.proofs.building.one_cell.Goals as goal

@@ -1,7 +1,7 @@
 use Rattle.std.proofs.Common.{◌≡◌, ◌-◌, suc, length, subst, sym, arith}
 use Rattle.std.proofs.lemmas.Result.{on_ok_weaker}
 use Rattle.code_states.specs.Safety.{IsSafe}
-use Rattle.term_instructions.specs.Building.{IsGatheredTo}
+use Rattle.term_instructions.specs.WriteMode.{IsGatheredTo}
 use Rattle.term_instructions.proofs.BuildSteps.{gather_void}
 use Rattle.term_instructions.proofs.Unify.{place_within, unify_there, void_needs, one_unless}
 use Rattle.term_instructions.proofs.building.push_argument.Goals as goal

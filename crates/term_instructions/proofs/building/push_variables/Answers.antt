@@ -1,5 +1,5 @@
 use Rattle.std.proofs.Common.{refl, sym, subst, add-one}
-use Rattle.term_instructions.specs.Building.{AreVariablesAdded}
+use Rattle.term_instructions.specs.WriteMode.{AreVariablesAdded}
 use Rattle.term_instructions.proofs.BuildSteps.{variables_more}
 use Rattle.term_instructions.proofs.building.push_variables.Goals as goal
 

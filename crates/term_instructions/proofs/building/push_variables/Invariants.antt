@@ -1,4 +1,4 @@
-use Rattle.term_instructions.specs.Building.{AreVariablesAdded}
+use Rattle.term_instructions.specs.WriteMode.{AreVariablesAdded}
 use Rattle.term_instructions.proofs.building.push_variables.Given as goal
 
 abbrev pub invariant-loop-i : goal.invariant-loop-i

@@ -6,7 +6,7 @@ use Rattle.heap_cells.specs.declared.Cell.TheVariants as cell
 use Rattle.heap_cells.specs.Cells.{Heaps}
 use Rattle.heap_cells.specs.Terms.{Same}
 use Rattle.branch_state.specs.Steps.{IsTouchBelow}
-use Rattle.term_instructions.specs.declared.reading.Reading.{Reading}
+use Rattle.term_instructions.specs.declared.reading.ReadPosition.{ReadPosition}
 use Rattle.term_instructions.proofs.ReadSteps.{reads_variable, reads_void, looked_atom, looked_integer}
 use Rattle.term_instructions.proofs.Unify.{place_within, unify_there, variable_needs, void_needs}
 use Rattle.term_instructions.proofs.reading.look_at_argument.Goals as goal
@@ -44,7 +44,7 @@ returns-in-Integer-clause-looks g c =
     let fits : FitsSigned w64 c.in-Integer.z = search rules in
     let z_is = to_z-of_z w64 c.in-Integer.z fits in
     let d = get_or c.args.cells.now c.args.from.next (cell.Ref 0) in
-    let to : Reading = record { at = c.behind-at.result; next = c.args.from.next + 1 } in
+    let to : ReadPosition = record { at = c.behind-at.result; next = c.args.from.next + 1 } in
     let same : Same c.args.branch.now.heaps.now d c.root-in-Integer.result = subst (λ (hs : Heaps). Same hs.now d c.root-in-Integer.result) c.heap-in-Integer.ensures c.root-in-Integer.ensures.same in
     looked_integer c.args.code.now c.args.cells.now c.args.branch.now c.args.from.at c.args.from.next c.args.areas.now c.requires.safe c.requires.more c.requires.own d (c.requires.own c.args.from.next (cell.Ref 0) c.requires.more).0 (drop-cons c.args.cells.now c.args.from.next (cell.Ref 0) c.requires.more)
     c.in-Integer.z c.in-Integer.ensures c.root-in-Integer.result same to c.look_at_integer.result (rw z_is at c.look_at_integer.ensures) c.behind-at.ensures (add-one c.args.from.next)

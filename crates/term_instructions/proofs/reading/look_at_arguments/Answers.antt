@@ -1,7 +1,7 @@
 use Rattle.std.proofs.Common.{[], subst, arith}
 use Rattle.std.proofs.lemmas.List.Elements.{All-nil}
 use Rattle.branch_state.specs.Steps.{IsTouchBelow}
-use Rattle.term_instructions.specs.Reading.{LooksOn}
+use Rattle.term_instructions.specs.ReadMode.{LooksOn}
 use Rattle.term_instructions.proofs.ReadSteps.{read_start, read_both, read_refused}
 use Rattle.term_instructions.proofs.reading.look_at_arguments.Goals as goal
 

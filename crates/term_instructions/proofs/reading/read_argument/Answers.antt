@@ -4,7 +4,7 @@ use Rattle.std.proofs.lemmas.Int.{to_z-of_z}
 use Rattle.fd_language.specs.declared.NoMemory.{NoMemory}
 use Rattle.heap_cells.specs.declared.Cell.TheVariants as cell
 use Rattle.wam_code.specs.declared.instruction.Code.TheVariants.{UnifyValue, UnifyConstant, UnifyInteger}
-use Rattle.term_instructions.specs.Reading.{IsNextPlace, ReadsOn}
+use Rattle.term_instructions.specs.ReadMode.{IsNextPlace, ReadsOn}
 use Rattle.term_instructions.proofs.Steps.{held_own}
 use Rattle.term_instructions.proofs.ReadSteps.{reads_variable, reads_void, reads_equal, value_equal, constant_equal, integer_equal, constant_own, value_stays, constant_stays, integer_stays, next_place}
 use Rattle.term_instructions.proofs.Unify.{place_within, unify_there, variable_needs, value_needs, void_needs}

@@ -1,5 +1,5 @@
 use Rattle.std.proofs.Common.{Some, subst, arith}
-use Rattle.term_instructions.specs.Reading.{IsNextPlace, ReadsOn}
+use Rattle.term_instructions.specs.ReadMode.{IsNextPlace, ReadsOn}
 use Rattle.term_instructions.proofs.ReadSteps.{read_start, read_both, read_refused, read_all}
 use Rattle.term_instructions.proofs.Unify.{place_within}
 use Rattle.term_instructions.proofs.reading.read_arguments.Goals as goal

@@ -1,5 +1,5 @@
 use Rattle.std.proofs.Common.{◌-◌, length}
-use Rattle.term_instructions.specs.Reading.{IsReadTo}
+use Rattle.term_instructions.specs.ReadMode.{IsReadTo}
 use Rattle.term_instructions.proofs.reading.read_arguments.Given as goal
 
 abbrev pub invariant-arguments : goal.invariant-arguments

@@ -4,7 +4,7 @@ use Rattle.unify_core.proofs.Lemmas.{at_false}
 use Rattle.branch_state.specs.States.{IsSoundBelow}
 use Rattle.code_areas.specs.Areas.{Contents}
 use Rattle.code_states.specs.declared.went.Went.{Went}
-use Rattle.term_instructions.specs.Building.{BuildsOn}
+use Rattle.term_instructions.specs.WriteMode.{BuildsOn}
 use Rattle.term_instructions.proofs.Bound.{bound_then, unbound_then}
 use Rattle.term_instructions.proofs.structures.bind_gathered.Goals as goal
 

@@ -2,7 +2,7 @@ use Rattle.std.proofs.Common.{◌≡◌, ◌-◌, ◌≤◌, [], length, All, sy
 use Rattle.std.proofs.lemmas.List.Elements.{All-nil}
 use Rattle.branch_state.specs.States.{IsCell}
 use Rattle.code_states.specs.Safety.{IsSafe}
-use Rattle.term_instructions.specs.Building.{IsGatheredTo}
+use Rattle.term_instructions.specs.WriteMode.{IsGatheredTo}
 use Rattle.term_instructions.proofs.Bound.{built_from}
 use Rattle.term_instructions.proofs.BuildSteps.{gathered_start}
 use Rattle.term_instructions.proofs.structures.build_argument.Goals as goal

@@ -1,6 +1,6 @@
 use Rattle.std.proofs.Common.{[], ◌∷◌, ◌∙◌, sym, subst, arith}
 use Rattle.code_states.specs.Safety.{IsSafe}
-use Rattle.term_instructions.specs.Building.{IsGatheredTo, GathersTwo}
+use Rattle.term_instructions.specs.WriteMode.{IsGatheredTo, GathersTwo}
 use Rattle.term_instructions.proofs.Bound.{built_from}
 use Rattle.term_instructions.proofs.structures.build_two.Goals as goal
 

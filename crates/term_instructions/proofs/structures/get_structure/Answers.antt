@@ -7,8 +7,8 @@ use Rattle.wam_code.specs.declared.instruction.Code.TheVariants.{GetStructure}
 use Rattle.code_states.specs.Safety.{IsSafe}
 use Rattle.code_states.proofs.Lemmas.{within_code}
 use Rattle.code_states.specs.declared.went.Went.TheVariants.{On, Back}
-use Rattle.term_instructions.specs.Reading.{ReadsOn}
-use Rattle.term_instructions.specs.declared.reading.Reading.{Reading}
+use Rattle.term_instructions.specs.ReadMode.{ReadsOn}
+use Rattle.term_instructions.specs.declared.reading.ReadPosition.{ReadPosition}
 use Rattle.term_instructions.proofs.Steps.{same_behind, same_below}
 use Rattle.term_instructions.proofs.Head.{if_ok_at, get_needs, get_started, get_atom, get_back_safe, args_own, get_other, get_constant_seen, get_built, get_read, refused_then, looked_all, looked_first, other_atom, same_atom}
 use Rattle.term_instructions.proofs.structures.get_structure.Goals as goal
@@ -65,7 +65,7 @@ look_at_arguments-requires g c =
 pub returns-in_default-2-clause-stands : goal.returns-in_default-2-clause-stands
 returns-in_default-2-clause-stands g c =
     let k = subst (λ (hs : Heaps). IsSeen hs.now c.register-argument.result (seen.Struct c.in-Struct.name c.in-Struct.args)) c.heap.ensures c.in-Struct.ensures.seen in
-    let start : Reading = record { at = c.behind-from.result; next = 0 } in
+    let start : ReadPosition = record { at = c.behind-from.result; next = 0 } in
     (get_read c.args.code.now c.args.branch.now c.args.at c.args.areas.now c.requires.safe c.args.functor.0 c.args.functor.1 c.args.a c.requires.holds c.register-argument.result c.register-argument.ensures c.behind-from.result c.behind-from.ensures
     c.args.branch.now c.look_at_arguments.new.areas c.in-Struct.name c.in-Struct.args.now k.0 k.1 k.2 k.3 (same_atom c.in-Struct.name c.args.functor.0 c.if-ne.ensures) c.if-args-functor.false
     c.in-Struct.args.now refl [] refl {E = NoMemory} (Ok Back)
@@ -75,7 +75,7 @@ returns-in_default-2-clause-stands g c =
 pub returns-then-read-args-clause-stands : goal.returns-then-read-args-clause-stands
 returns-then-read-args-clause-stands g c =
     let k = subst (λ (hs : Heaps). IsSeen hs.now c.register-argument.result (seen.Struct c.in-Struct.name c.in-Struct.args)) c.heap.ensures c.in-Struct.ensures.seen in
-    let start : Reading = record { at = c.behind-from.result; next = 0 } in
+    let start : ReadPosition = record { at = c.behind-from.result; next = 0 } in
     (get_read c.args.code.now c.args.branch.now c.args.at c.args.areas.now c.requires.safe c.args.functor.0 c.args.functor.1 c.args.a c.requires.holds c.register-argument.result c.register-argument.ensures c.behind-from.result c.behind-from.ensures
     c.args.branch.now c.look_at_arguments.new.areas c.in-Struct.name c.in-Struct.args.now k.0 k.1 k.2 k.3 (same_atom c.in-Struct.name c.args.functor.0 c.if-ne.ensures) c.if-args-functor.false
     c.in-Struct.args.now refl [] refl {E = NoMemory} (Ok (On c.in-Some.read.at))
@@ -85,7 +85,7 @@ returns-then-read-args-clause-stands g c =
 pub returns-in_ok-push_copies-in-Struct-clause-stands : goal.returns-in_ok-push_copies-in-Struct-clause-stands
 returns-in_ok-push_copies-in-Struct-clause-stands g c =
     let k = subst (λ (hs : Heaps). IsSeen hs.now c.register-argument.result (seen.Struct c.in-Struct.name c.in-Struct.args)) c.heap.ensures c.in-Struct.ensures.seen in
-    let start : Reading = record { at = c.behind-from.result; next = 0 } in
+    let start : ReadPosition = record { at = c.behind-from.result; next = 0 } in
     let all : c.deref-in-Struct.result.now ≡ c.in-Struct.args.now = c.deref-in-Struct.ensures.value ∙ c.in_ok-push_copies-in-Struct.ensures ∙ ap (λ l. l ++ c.in-Struct.args.now) c.clear-in-Struct.ensures.items in
     (get_read c.args.code.now c.args.branch.now c.args.at c.args.areas.now c.requires.safe c.args.functor.0 c.args.functor.1 c.args.a c.requires.holds c.register-argument.result c.register-argument.ensures c.behind-from.result c.behind-from.ensures
     c.match_arguments.new.branch c.match_arguments.new.areas c.in-Struct.name c.in-Struct.args.now k.0 k.1 k.2 k.3 (same_atom c.in-Struct.name c.args.functor.0 c.if-ne.ensures) c.if-args-functor.false

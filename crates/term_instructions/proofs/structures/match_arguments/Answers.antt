@@ -1,7 +1,7 @@
 use Rattle.std.proofs.Common.{drop, subst, sym}
 use Rattle.fd_language.specs.declared.NoMemory.{NoMemory}
 use Rattle.code_states.specs.declared.went.Went.{Went}
-use Rattle.term_instructions.specs.Reading.{AreTold, IsReadTo, ReadsAll, ReadsThen}
+use Rattle.term_instructions.specs.ReadMode.{AreTold, IsReadTo, ReadsAll, ReadsThen}
 use Rattle.term_instructions.proofs.Head.{read_then, refused_then}
 use Rattle.term_instructions.proofs.structures.match_arguments.Goals as goal
 

@@ -3,7 +3,7 @@ use Rattle.std.proofs.lemmas.List.Elements.{All-nil}
 use Rattle.std.specs.Prelude.{IfOk}
 use Rattle.branch_state.specs.States.{IsCell}
 use Rattle.code_states.specs.Safety.{IsSafe}
-use Rattle.term_instructions.specs.Building.{PutsOn}
+use Rattle.term_instructions.specs.WriteMode.{PutsOn}
 use Rattle.term_instructions.proofs.structures.put_arguments.Goals as goal
 
 pub put_rest-requires-clause-safe : goal.put_rest-requires-clause-safe

@@ -1,6 +1,6 @@
 use Rattle.std.proofs.Common.{[], ◌∷◌, ◌<◌, refl, sym, subst}
 use Rattle.code_states.specs.Safety.{IsSafe}
-use Rattle.term_instructions.specs.Building.{IsGatheredTo, GathersTwo}
+use Rattle.term_instructions.specs.WriteMode.{IsGatheredTo, GathersTwo}
 use Rattle.term_instructions.proofs.Structure.{puts_on, puts_from}
 use Rattle.term_instructions.proofs.structures.put_two.Goals as goal
 

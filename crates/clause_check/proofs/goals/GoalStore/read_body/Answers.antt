@@ -3,7 +3,7 @@ use Rattle.std.proofs.lemmas.Result.{err_from_is_err_and}
 use Rattle.term_pool.specs.PlacedTerms.{placed_of}
 use Rattle.clause_check.specs.declared.goals.Task.{Task}
 use Rattle.clause_check.specs.declared.goals.GoalStore.{GoalStore}
-use Rattle.clause_check.proofs.Reading.{pop_start, pop_refused, step, step_smaller, read_whole}
+use Rattle.clause_check.proofs.BodyWalk.{pop_start, pop_refused, step, step_smaller, read_whole}
 use Rattle.clause_check.proofs.goals.GoalStore.read_body.Goals as goal
 
 empty : (ts : List Task) → length ts ≡ 0 → ts ≡ []

@@ -1,6 +1,6 @@
 use Rattle.term_pool.specs.PlacedTerms.{placed_of}
 use Rattle.clause_check.specs.GoalStores.{total_weight}
-use Rattle.clause_check.proofs.Reading.{IsReading}
+use Rattle.clause_check.proofs.BodyWalk.{IsReading}
 use Rattle.clause_check.proofs.goals.GoalStore.read_body.Given as goal
 
 abbrev pub invariant-loop-task : goal.invariant-loop-task

@@ -1,6 +1,6 @@
 use Rattle.std.proofs.Common.{ap, subst, sym, ◌∙◌, ◌≡◌, length, arith}
 use Rattle.std.specs.Prelude.{reverse}
-use Rattle.domain_ranges.specs.Waiting.{stacked, AreStarts}
+use Rattle.domain_ranges.specs.StackedSets.{stacked, AreStarts}
 use Rattle.domain_ranges.proofs.Stacking.{room_behind}
 use Rattle.domain_ranges.proofs.set_stack.SetStack.pop.Goals as goal
 

@@ -1,5 +1,5 @@
 use Rattle.std.proofs.Common.{ap, ◌∙◌, ◌++◌, ◌∷◌, []}
-use Rattle.domain_ranges.specs.Waiting.{numbers}
+use Rattle.domain_ranges.specs.StackedSets.{numbers}
 use Rattle.domain_ranges.proofs.Stacking.{room_left, push_starts, push_view, intervals_all}
 use Rattle.domain_ranges.proofs.set_stack.SetStack.put.Goals as goal
 

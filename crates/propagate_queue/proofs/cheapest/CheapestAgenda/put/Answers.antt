@@ -3,8 +3,8 @@ use Rattle.std.specs.BinaryHeap.{heap_items}
 use Rattle.std.specs.Result.{is_ok}
 use Rattle.std.proofs.lemmas.List.Elements.{All-map}
 use Rattle.std.proofs.lemmas.List.Sorted.{IsPermutation-map}
-use Rattle.propagate_queue.specs.Waiting.{Waiting}
-use Rattle.propagate_queue.specs.Heaped.{Entry, waiting, AreHeaped}
+use Rattle.propagate_queue.specs.AgendaEntries.{AgendaEntry}
+use Rattle.propagate_queue.specs.AgendaHeap.{Entry, waiting, AreHeaped}
 use Rattle.propagate_queue.proofs.Costs.{was_ok, heaped_more, times_more, length_more}
 use Rattle.propagate_queue.proofs.cheapest.CheapestAgenda.put.Goals as goal
 
@@ -26,7 +26,7 @@ returns-clause-waits c =
 pub returns-clause-later : goal.returns-clause-later
 returns-clause-later c =
     let t = c.self.inside in
-    rw (← c.self.view_is) (λ low. All-map (λ (w : Waiting). w.turn < t.puts) waiting (heap_items t.heap) (c.self.invariant.earlier low))
+    rw (← c.self.view_is) (λ low. All-map (λ (w : AgendaEntry). w.turn < t.puts) waiting (heap_items t.heap) (c.self.invariant.earlier low))
 
 pub returns-clause-added : goal.returns-clause-added
 returns-clause-added c k =

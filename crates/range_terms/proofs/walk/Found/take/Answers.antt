@@ -2,7 +2,7 @@ use Rattle.std.proofs.Common.{refl, sym, subst, arith}
 use Rattle.std.specs.Prelude.{OnOk}
 use Rattle.std.proofs.lemmas.Result.{on_ok_weaker}
 use Rattle.range_terms.specs.declared.walk.Task.{Task}
-use Rattle.range_terms.specs.Wanted.{one_node}
+use Rattle.range_terms.specs.TermNodes.{one_node}
 use Rattle.range_terms.specs.Walk.{of_task, task_weight, Replaces}
 use Rattle.range_terms.proofs.Walks.{step_put}
 use Rattle.range_terms.proofs.walk.Found.take.Goals as goal

@@ -21,7 +21,7 @@ use Rattle.term_reader.specs.declared.reader.Sentences.{Sentences}
 use Rattle.term_reader.specs.declared.reader.ReaderFault.{ReaderFault}
 use Rattle.term_pool.specs.PlacedTerms.{placed_of}
 use Rattle.term_reader.specs.Sentences.{sentence_of, sentences_of}
-use Rattle.term_reader.specs.Named.{VariablesBelow, AllVariablesBelow, HasNames, HaveNames}
+use Rattle.term_reader.specs.VariableNames.{VariablesBelow, AllVariablesBelow, HasNames, HaveNames}
 use Rattle.term_reader.proofs.Plain.{plain_placed}
 
 abbrev mutual

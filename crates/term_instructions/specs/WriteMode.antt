@@ -16,7 +16,7 @@ use Rattle.wam_code.specs.declared.instruction.Register.TheVariants.{X}
 use Rattle.wam_code.specs.Area.{Area, name_of}
 use Rattle.code_areas.specs.Areas.{Contents}
 use Rattle.code_steps.specs.Registers.{IsWritten}
-use Rattle.code_steps.specs.Building.{End, GetEnd, PutEnd, Builds}
+use Rattle.code_steps.specs.WriteMode.{End, GetEnd, PutEnd, Builds}
 use Rattle.code_states.specs.Machine.{registers_of, stack_of, IsSameBehind}
 use Rattle.code_states.specs.Safety.{IsSafe, IsSafeThen}
 use Rattle.code_states.specs.Standing.{IsNaming, StandsThen}

@@ -5,7 +5,7 @@ use Rattle.fd_language.specs.declared.range_node.RangeNode.{RangeNode}
 use Rattle.fd_language.specs.Range.{Range, Expr}
 use Rattle.fd_language.specs.Flat.{expr_nodes, range_nodes, nodes_of}
 use Rattle.fd_language.proofs.Lemmas.{expr_append, range_append}
-use Rattle.range_terms.specs.Wanted.{Wanted, nothing, one_node, joined}
+use Rattle.range_terms.specs.TermNodes.{Wanted, nothing, one_node, joined}
 
 -- a node behind those of two terms, of two ranges, of a range and a term
 pub two_exprs : (a b : Expr) (n : RangeNode) → expr_nodes a (expr_nodes b (n ∷ [])) ≡ (expr_nodes a [] ++ expr_nodes b []) ++ n ∷ []

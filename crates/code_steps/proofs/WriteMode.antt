@@ -18,10 +18,10 @@ use Rattle.wam_code.specs.Means.{Owed}
 use Rattle.wam_code.proofs.Lemmas.{at_unify}
 use Rattle.code_steps.specs.Registers.{Registers, Saved, cell_in, IsWritten, IsShown}
 use Rattle.code_steps.specs.Standing.{Made, IsMade}
-use Rattle.code_steps.specs.Reading.{AreCells}
-use Rattle.code_steps.specs.Building.{joined, End, Builds}
+use Rattle.code_steps.specs.ReadMode.{AreCells}
+use Rattle.code_steps.specs.WriteMode.{joined, End, Builds}
 use Rattle.code_steps.proofs.Making.{made_read, made_write, made_cell}
-use Rattle.code_steps.proofs.Reading.{cells_keep}
+use Rattle.code_steps.proofs.ReadMode.{cells_keep}
 
 joined_next : (ss : Terms) (t : Term) (ts : Terms) → joined (joined ss (term t no_terms)) ts ≡ joined ss (term t ts)
 joined_next no_terms t ts = refl

@@ -14,7 +14,7 @@ use Rattle.builtin_calls.specs.declared.waiting.Waiting.TheVariants.{Left, Right
 use Rattle.builtin_calls.specs.declared.evaluation.Step.{Step}
 use Rattle.builtin_calls.specs.declared.evaluation.Step.TheVariants.{Enter, Leave}
 use Rattle.fd_model.specs.Arithmetic.{Value, value_of, of_both, of_one, opposite_of}
-use Rattle.builtin_calls.specs.Reading.{seen_term}
+use Rattle.builtin_calls.specs.SeenTerms.{seen_term}
 use Rattle.builtin_calls.specs.Outcomes.{IsFault, IsNamedBy, meaning, operation_of}
 
 -- the value once the value that is waited for is there, where each cell's term is given

@@ -11,11 +11,11 @@ use Rattle.branch_state.specs.States.{IsCell, IsSameBelow}
 use Rattle.branch_state.specs.Steps.{AreTouchesBelow, posted_with}
 use Rattle.wam_code.specs.Area.{Area}
 use Rattle.code_areas.specs.Areas.{Contents}
-use Rattle.code_steps.specs.Reading.{Reads}
+use Rattle.code_steps.specs.ReadMode.{Reads}
 use Rattle.code_states.specs.Machine.{registers_of, stack_of, IsSameBehind}
 use Rattle.code_states.specs.Safety.{IsSafe, IsSafeBack, IsSafeThen}
 use Rattle.code_states.specs.Standing.{IsNaming, HasNoModel, StandsThen}
-use Rattle.term_instructions.specs.declared.reading.Reading.{Reading}
+use Rattle.term_instructions.specs.declared.reading.ReadPosition.{ReadPosition}
 use Rattle.term_instructions.specs.declared.reading.Look.{Look}
 use Rattle.term_instructions.specs.declared.reading.Look.TheVariants.{Read, Refused, Unclear}
 use Rattle.code_states.specs.declared.went.Went.{Went}
@@ -31,7 +31,7 @@ abbrev pub AreTold : branch.State → List Touch → Type 0
 AreTold s told = AreTouchesBelow (length s.levels.current.sets) told
 
 -- It is safe to read on, and the machine stands for the same branches.
-pub record IsReadTo (area : Area) (cells : List Cell) (s : branch.State) (told : List Touch) (from : Reading) (c : Contents) (s' : branch.State) (told' : List Touch) (to : Reading) (c' : Contents) : Type 0 where
+pub record IsReadTo (area : Area) (cells : List Cell) (s : branch.State) (told : List Touch) (from : ReadPosition) (c : Contents) (s' : branch.State) (told' : List Touch) (to : ReadPosition) (c' : Contents) : Type 0 where
   pub safe : IsSafe area s' to.at (length cells - to.next) c'
   pub within : to.next ≤ length cells
   pub leads : LeadsAmong area from.at to.at
@@ -42,27 +42,27 @@ pub record IsReadTo (area : Area) (cells : List Cell) (s : branch.State) (told :
   pub keeps : (shown : List ℕ) (name : Naming) (b : Branch) → IsNaming area name → ReadsAt area shown name s told from.at c (drop from.next cells) b → ReadsAt area shown name s' told' to.at c' (drop to.next cells) b
 
 -- It is safe to go back, and no such branch has a model.
-pub record IsRefused (area : Area) (cells : List Cell) (s : branch.State) (told : List Touch) (from : Reading) (c : Contents) (s' : branch.State) (c' : Contents) : Type 0 where
+pub record IsRefused (area : Area) (cells : List Cell) (s : branch.State) (told : List Touch) (from : ReadPosition) (c : Contents) (s' : branch.State) (c' : Contents) : Type 0 where
   pub safe : IsSafeBack area s' c'
   pub behind : IsSameBehind c c'
   pub below : IsSameBelow s s'
   pub none : (shown : List ℕ) (name : Naming) (b : Branch) → IsNaming area name → ReadsAt area shown name s told from.at c (drop from.next cells) b → HasNoModel b
 
-abbrev pub ReadsOn : Area → List Cell → branch.State → List Touch → Reading → Contents → branch.State → List Touch → Contents → Option Reading → Type 0
+abbrev pub ReadsOn : Area → List Cell → branch.State → List Touch → ReadPosition → Contents → branch.State → List Touch → Contents → Option ReadPosition → Type 0
 ReadsOn area cells s told from c s' told' c' (Some to) = IsReadTo area cells s told from c s' told' to c'
 ReadsOn area cells s told from c s' told' c' None = IsRefused area cells s told from c s' c'
 
 -- the instruction behind is the next one
-abbrev pub IsNextPlace : ℕ → Option Reading → Type 0
+abbrev pub IsNextPlace : ℕ → Option ReadPosition → Type 0
 IsNextPlace at (Some to) = to.at ≡ suc at
 IsNextPlace at None = Unit {0}
 
 -- all of them are read
-abbrev pub ReadsAll : Area → List Cell → branch.State → List Touch → Reading → Contents → branch.State → List Touch → Contents → Option ℕ → Type 0
+abbrev pub ReadsAll : Area → List Cell → branch.State → List Touch → ReadPosition → Contents → branch.State → List Touch → Contents → Option ℕ → Type 0
 ReadsAll area cells s told from c s' told' c' (Some at) = IsReadTo area cells s told from c s' told' (record { at = at; next = length cells }) c'
 ReadsAll area cells s told from c s' told' c' None = IsRefused area cells s told from c s' c'
 
--- Reading has ended where this leads, and the machine stands for the same branches.
+-- ReadPosition has ended where this leads, and the machine stands for the same branches.
 pub record ReadsThen (area : Area) (cells : List Cell) (s : branch.State) (told : List Touch) (at : ℕ) (c : Contents) (s' : branch.State) (c' : Contents) (w : Went) : Type 0 where
   pub safe : IsSafeThen area s' c' w
   pub leads : LeadsFrom area at w
@@ -77,13 +77,13 @@ AreOther (cell.Int x) (cell.Int z) = x ≢ z
 AreOther _ _ = ⊥
 
 -- what a look at the end of an argument's bindings tells, where the code gives a constant
-abbrev pub TellsEqual : Cell → Cell → Reading → Look → Type 0
+abbrev pub TellsEqual : Cell → Cell → ReadPosition → Look → Type 0
 TellsEqual root constant to (Read there) = (root ≡ constant) × (there ≡ to)
 TellsEqual root constant to Refused = AreOther root constant
 TellsEqual root constant to Unclear = Unit {0}
 
 -- what a look at an argument comes to: nothing has changed but a register
-abbrev pub LooksOn : Area → List Cell → branch.State → Reading → Contents → Contents → Look
+abbrev pub LooksOn : Area → List Cell → branch.State → ReadPosition → Contents → Contents → Look
     → Type 0
 LooksOn area cells s from c c' (Read to) = IsReadTo area cells s [] from c s [] to c'
 LooksOn area cells s from c c' Refused = IsRefused area cells s [] from c s c'

@@ -4,12 +4,12 @@ use Rattle.std.specs.Ordering.{nat_cmp, ordering_then}
 use Rattle.std.specs.declared.cmp.Ordering.{Ordering}
 use Rattle.std.specs.BinaryHeap.{IsHeap}
 use Rattle.std.specs.declared.cmp.Reverse.{Reverse}
-use Rattle.propagate_queue.specs.Waiting.{Waiting}
+use Rattle.propagate_queue.specs.AgendaEntries.{AgendaEntry}
 
 abbrev pub Entry : Type 0
 Entry = Reverse (ℕ × ℕ × ℕ)
 
-abbrev pub waiting : Entry → Waiting
+abbrev pub waiting : Entry → AgendaEntry
 waiting e = record { agent = e.0.2; cost = e.0.0; turn = e.0.1 }
 
 abbrev pub entry_cmp : Entry → Entry → Ordering

@@ -30,7 +30,7 @@ use Rattle.wam_code.specs.Means.{Owed, Means, Return}
 use Rattle.wam_code.proofs.Lemmas.{at_unify}
 use Rattle.code_steps.specs.Registers.{Registers, Saved, cell_in, IsWritten, IsShown, AllShown}
 use Rattle.code_steps.specs.Standing.{Made, IsOld, IsMade, Stands}
-use Rattle.code_steps.specs.Reading.{AreCells, IsWider, local, ArePlain, Reads, ReadsOnEqual}
+use Rattle.code_steps.specs.ReadMode.{AreCells, IsWider, local, ArePlain, Reads, ReadsOnEqual}
 use Rattle.code_steps.proofs.Making.{made_read, made_write, made_place, made_unified, unified_keeps, made_refuted, learnt_here, learnt_else, learnt_more}
 use Rattle.code_steps.proofs.Settling.{says_alone}
 

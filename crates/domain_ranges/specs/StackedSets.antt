@@ -6,7 +6,7 @@ use Rattle.fd_language.specs.Family.{universe}
 use Rattle.domain_ranges.specs.Spans.{Span, within}
 
 -- the sets, the one on top first, and how many there may be before their number takes memory
-pub record Waiting : Type 0 where
+pub record StackedSets : Type 0 where
   pub sets : List (List ℕ)
   pub room : ℕ
 

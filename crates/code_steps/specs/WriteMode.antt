@@ -14,7 +14,7 @@ use Rattle.wam_code.specs.Places.{Places, write, count}
 use Rattle.wam_code.specs.Means.{Owed, Means, Return, Continues}
 use Rattle.code_steps.specs.Registers.{Registers, Saved}
 use Rattle.code_steps.specs.Standing.{Made, IsMade}
-use Rattle.code_steps.specs.Reading.{AreCells}
+use Rattle.code_steps.specs.ReadMode.{AreCells}
 
 -- the terms of the one list before those of the other
 abbrev pub joined : Terms → Terms → Terms

@@ -9,7 +9,7 @@ use Rattle.fd_language.specs.Range.{Range, Span, One, Dom, Union, Inter, Outside
 use Rattle.fd_language.specs.Needs.{is_literal, quotient_asks, expr_asks, over_asks, asks, parameters, need_of, needs}
 use Rattle.fd_language.specs.Range.{params, expr_params}
 use Rattle.fd_language.proofs.Lemmas.{two}
-use Rattle.range_code.specs.Asked.{unless_found, need_in}
+use Rattle.range_code.specs.ParameterNeeds.{unless_found, need_in}
 use Rattle.range_code.specs.Slots.{slots_of, need_at, slot_needs}
 use Rattle.range_code.proofs.Once.{has_once}
 use Rattle.range_code.proofs.Variables.{nothing_behind}

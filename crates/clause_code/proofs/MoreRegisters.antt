@@ -15,7 +15,7 @@ use Rattle.fd_model.specs.declared.kinds.BuiltinKind.TheVariants as kind
 use Rattle.wam_code.specs.Area.{Area}
 use Rattle.wam_code.specs.Places.{Places, put_at, drop_at, read, write, learn, without, no_registers, no_slots, IsFresh, Has, IsWhole, IsSettled, Hold}
 use Rattle.wam_code.specs.Means.{Rest, Caller, Owed, UnifyRule, BuiltinRule, HoldVars, Shows, Takes, Equates, Rule, Within, Means}
-use Rattle.clause_code.specs.Having.{HasMore}
+use Rattle.clause_code.specs.MoreRegisters.{HasMore}
 
 fresh_more : (p q : Places) → HasMore p q → (v : ℕ) → IsFresh q v → IsFresh p v
 fresh_more p q m v f = (ap (λ k. k v) m.known ∙ f.0, subst (λ n. v < n) (sym m.top) f.1)
