@@ -1,2 +1,3 @@
--- The lemmas that other crates may cite.
+-- The lemmas that other crates may cite, by their subjects. All else in proofs/ is this crate's own.
+-- The numbers that words mean: std's `parse` reads them, and they lie in their ranges.
 pub use Rattle.command_words.proofs.Numbers.{answers_within, generate_within}

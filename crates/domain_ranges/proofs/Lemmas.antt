@@ -1,10 +1,19 @@
--- The lemmas that other crates may cite.
+-- The lemmas that other crates may cite, by their subjects. All else in proofs/ is this crate's own.
+-- The loop of the quotient of a list of intervals.
 pub use Rattle.domain_ranges.proofs.Dividing.{same_bool}
+-- A set and its ends.
 pub use Rattle.domain_ranges.proofs.Ends.{own_ends}
+-- A set without a number.
 pub use Rattle.domain_ranges.proofs.Excluding.{fewer_left, keeps_all, wider}
+-- What the loops make, as the sets that it is.
 pub use Rattle.domain_ranges.proofs.Images.{has_set, set_is, set_rising, set_same, some_from, some_has}
+-- Whether the numbers of a list of intervals are all in another one.
 pub use Rattle.domain_ranges.proofs.Inside.{loses}
+-- A member of a set, and the others.
 pub use Rattle.domain_ranges.proofs.Leaving.{none_but}
+-- The loop of the intersection of two lists of intervals.
 pub use Rattle.domain_ranges.proofs.Meeting.{below_first}
+-- The numbers of a list of intervals.
 pub use Rattle.domain_ranges.proofs.Members.{filter_inside, has_within, least_is, members_rising}
+-- The loop of a list of intervals that are moved by an integer.
 pub use Rattle.domain_ranges.proofs.Shifting.{not_true}

@@ -14,22 +14,21 @@ pub use Rattle.fd_model.proofs.PostRows.{has_map, map_has}
 pub use Rattle.fd_model.proofs.Slots.{Apart, slot_high, slot_low, slot_out}
 pub use Rattle.fd_model.proofs.Scoping.{term_renamed, body_renamed, each_wider, each_both_below, listed_below}
 pub use Rattle.fd_model.proofs.Seeing.{wider}
-pub use Rattle.fd_model.proofs.ProgramScopes.{queries_scoped}
+pub use Rattle.fd_model.proofs.ProgramScopes.{queries_scoped, clauses_scoped}
 -- Branches: what is seen of them, their models, and one run of a program.
-pub use Rattle.fd_model.proofs.Existence.{AllSound, has_view, offer_sound}
+pub use Rattle.fd_model.proofs.Existence.{AllSound, has_view, offer_sound, one_run}
 pub use Rattle.fd_model.proofs.Growing.{constrained_either, join_both, split_both, posted_both}
 pub use Rattle.fd_model.proofs.Heeding.{first_member, only_member}
 pub use Rattle.fd_model.proofs.Models.{consistent_from, has_general, not_empty, one_term, weaker}
 pub use Rattle.fd_model.proofs.Unique.{one_view, queries_once, run_once}
--- Texts: the lines and values of a query.
-pub use Rattle.fd_model.proofs.Texts.{place_same, same_test, spelled_same, variables_apply_all}
-pub use Rattle.fd_model.proofs.Choosing.{element_ok}
+pub use Rattle.fd_model.proofs.Runnable.{accepted_runnable}
+-- Constraints and built-in goals: what each gives, with values and weights in range.
 pub use Rattle.fd_model.proofs.Collecting.{both_ok, one_ok, test_ok}
 pub use Rattle.fd_model.proofs.CompareWidths.{Within, compare_within, form_within}
-pub use Rattle.fd_model.proofs.Counters.{atmost_ok, units_nonzero}
-pub use Rattle.fd_model.proofs.Existence.{one_run}
-pub use Rattle.fd_model.proofs.Findings.{IsFindingBelow, SameFinding, first_below, found_below, found_renamed, second_below}
-pub use Rattle.fd_model.proofs.ProgramScopes.{clauses_scoped}
-pub use Rattle.fd_model.proofs.RowDirections.{Fitting, IsFitting, expand_fitting}
 pub use Rattle.fd_model.proofs.RowWidths.{AreNarrow, under, weight}
-pub use Rattle.fd_model.proofs.Runnable.{accepted_runnable}
+pub use Rattle.fd_model.proofs.RowDirections.{Fitting, IsFitting, expand_fitting}
+pub use Rattle.fd_model.proofs.Choosing.{element_ok}
+pub use Rattle.fd_model.proofs.Counters.{atmost_ok, units_nonzero}
+pub use Rattle.fd_model.proofs.Findings.{IsFindingBelow, SameFinding, first_below, found_below, found_renamed, second_below}
+-- Texts: the lines and values of a query.
+pub use Rattle.fd_model.proofs.Texts.{place_same, same_test, spelled_same, variables_apply_all}

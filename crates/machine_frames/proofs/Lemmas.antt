@@ -1,12 +1,23 @@
--- The lemmas that other crates may cite.
+-- The lemmas that other crates may cite, by their subjects. All else in proofs/ is this crate's own.
+-- The steps from a constraint: its row by the heap and the store's sets, whose fresh variables are the next variables of the heap.
 pub use Rattle.machine_frames.proofs.Constraining.{kept_row, look_old, row_look}
+-- The cells of a heap that grows.
 pub use Rattle.machine_frames.proofs.Continuing.{of_grown}
+-- Terms of a clause, whose variables stand behind a branch's.
 pub use Rattle.machine_frames.proofs.Entering.{renamed_all}
+-- Heaps that grow while terms are built, and heaps whose variables become variables of the store.
 pub use Rattle.machine_frames.proofs.Growing.{grown_both, grown_same, grown_var, linked_next, linked_none}
+-- What is kept in a frame: known variables come in and are forgotten, and the heap grows.
 pub use Rattle.machine_frames.proofs.Keeping.{kept_cell, kept_consistent, kept_forget, kept_grown, kept_known, kept_more, kept_no_model, kept_place}
+-- Heaps that grow, and variables behind the last one.
 pub use Rattle.machine_frames.proofs.Linking.{new_open, slot_behind}
+-- A variable that gets a value.
 pub use Rattle.machine_frames.proofs.Matching.{one_else, one_here}
+-- The names of a pool, with others for the atoms that aren't there, are one to one; and a heap with atoms of the pool alone has the same terms by both.
 pub use Rattle.machine_frames.proofs.Naming.{full_one, full_own, full_term}
+-- A term that is read as an open variable is one.
 pub use Rattle.machine_frames.proofs.Ranging.{unsettled}
+-- A kept frame with each variable bound whose set has one value: the store is at rest then, and what is seen in the branch is what the frame shows.
 pub use Rattle.machine_frames.proofs.Settling.{settled_held, settled_look, settled_rest}
+-- A unification of two cells, as the machine relation has it.
 pub use Rattle.machine_frames.proofs.Unifying.{kept_barred, kept_refuted, kept_unified, link_at, linked_at}

@@ -1,29 +1,55 @@
--- The lemmas that other crates may cite.
+-- The lemmas that other crates may cite, by their subjects. All else in proofs/ is this crate's own.
+-- What is ahead of branches of which some may not be consistent, goal by goal.
 pub use Rattle.machine_relation.proofs.Ahead.{ahead_any, ahead_drop, ahead_fault, ahead_fewer, ahead_last, ahead_taken}
+-- New cells for new variables, and a clause's instance on them.
 pub use Rattle.machine_relation.proofs.Cells.{place_above, place_from}
+-- Variables that are forgotten: other equations that say the same of those that stay.
 pub use Rattle.machine_relation.proofs.Forgetting.{same_model, stored_forget, stored_more}
+-- The texts, labellings and rows of constraints by a frame whose store is at rest are those by the branch's view.
 pub use Rattle.machine_relation.proofs.FrameTexts.{Known, cell, cell_from, found_same, label_done, label_faults, label_there, line_same, row_cell, row_same, written_same}
+-- One more equation, and one more variable, on a heap.
 pub use Rattle.machine_relation.proofs.Growing.{after_are, after_is, agree, agree_all, agree_each, below_both, more_all, more_each, more_of, same_term, still_of, unify_applied}
+-- The steps of a frame that stands for equations and ranges.
 pub use Rattle.machine_relation.proofs.Holding.{held_fix, stored_posts}
+-- Ranges on cells that a store links, as ranges of a branch that are posted.
 pub use Rattle.machine_relation.proofs.Joining.{posted_each}
+-- A labelling by the heap's list and the store's sets.
 pub use Rattle.machine_relation.proofs.Labels.{row_by}
+-- A labelling by other names of the open variables, which have the same values.
 pub use Rattle.machine_relation.proofs.Listing.{label_in}
+-- Models under fewer equations, and under the integers that they give.
 unfoldable pub use Rattle.machine_relation.proofs.Models.{number_for}
 pub use Rattle.machine_relation.proofs.Models.{front, number_at, ungrown}
+-- From the machine's steps to its events, and what falls with each step.
 pub use Rattle.machine_relation.proofs.Next.{behind_other}
+-- Linked cells that take integers, as one unification.
 pub use Rattle.machine_relation.proofs.Numbering.{AreConsecutive, bindings, each_found, number_touches, numbered, without}
+-- A variable takes a term that the heap has already: no cell is made and nothing is posted.
 pub use Rattle.machine_relation.proofs.Placing.{Or, other, stored_cell, stored_place, with_one}
+-- `T in r` on a machine: what is posted, or the fault, depends on the kinds of terms alone.
 pub use Rattle.machine_relation.proofs.PostGoals.{post_same}
+-- Rows of goals `T in r` under other names of their variables.
 pub use Rattle.machine_relation.proofs.PostRenaming.{functions, need_renamed, places_renamed, range_filled}
+-- One more range on a branch and on the store.
 pub use Rattle.machine_relation.proofs.Posting.{by_shown, holds_agree}
+-- The steps of goals `T in r` over cells: the machine reads its own terms, links the range's cells, and binds the fresh cells to their integers.
 pub use Rattle.machine_relation.proofs.RangeGoals.{IsRangeRow, only_integers, plain, post_as_row, range_plain, range_row}
+-- Goals under renamings, and the variables that stand in them.
 pub use Rattle.machine_relation.proofs.Renaming.{of_all, of_below, range_twice}
+-- What is seen of known variables has known variables alone.
 pub use Rattle.machine_relation.proofs.Scoping.{seen_by_variable, seen_of, variables_on}
+-- Each linked cell whose set has one value is bound to it, and then the store is at rest.
 pub use Rattle.machine_relation.proofs.SingleValues.{fixed_rest}
+-- A new machine stands for the run of its query.
 pub use Rattle.machine_relation.proofs.Starting.{first_model, nothing_stored}
+-- The steps of any machine over what is still to come: from a goal, from an answer, and back to a choice point.
 pub use Rattle.machine_relation.proofs.Steps.{GivesAll, Speaks}
+-- What follows for a heap and a store that stand for a branch.
 unfoldable pub use Rattle.machine_relation.proofs.Storing.{without_cell}
 pub use Rattle.machine_relation.proofs.Storing.{extended, sole_value}
+-- The law on touched values and pairs.
 pub use Rattle.machine_relation.proofs.Touching.{as_equations, as_posts, set_term, set_term_int, unified}
+-- A frame whose store is at rest shows what is seen in the branch.
 pub use Rattle.machine_relation.proofs.Views.{view_kind}
+-- The steps of a machine that walks over goals.
 pub use Rattle.machine_relation.proofs.Walking.{gone_by}

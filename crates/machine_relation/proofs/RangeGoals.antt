@@ -1,4 +1,4 @@
--- The steps of goals `T in r` over cells: the machine reads its own terms, links the range's cells, and binds the fresh cells to their integers.
+-- A goal `T in r` as a row: its range on plain variables, and the fresh variables of the integers that it names.
 use Rattle.std.proofs.Common.{◌≡◌, ℕ, suc, ◌+◌, ◌<◌, ◌≤◌, Bool, true, false, cond, not, ◌||◌, ◌==◌, ℤ, List, [], ◌∷◌, ◌++◌, length, map, Option, Some, None, refl, ap, sym, ◌∙◌, subst, inl, inr, ◌⊎◌, arith, eqb-true, eq-eqb, Result, Ok, Err}
 use Rattle.std.proofs.lemmas.Bool.{cases_Bool, or_cases, or_left, or_right, true≢false}
 use Rattle.fd_model.specs.declared.kinds.QueryFault.{QueryFault}

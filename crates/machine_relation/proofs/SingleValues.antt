@@ -1,4 +1,4 @@
--- Each linked cell whose set has one value is bound to it, and then the store is at rest.
+-- A frame is at rest once each linked cell whose set has one value is bound to it.
 use Rattle.std.proofs.Common.{◌≡◌, ℕ, ◌<◌, ◌≤◌, ◌≢◌, ℤ, List, [], ◌∷◌, Option, Some, None, ap, sym, ◌∙◌, subst}
 use Rattle.fd_language.specs.Family.{Family, IsInside}
 use Rattle.fd_model.specs.Models.{IsModel}

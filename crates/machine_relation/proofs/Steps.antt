@@ -1,4 +1,4 @@
--- The steps of any machine over what is still to come: from a goal, from an answer, and back to a choice point.
+-- The steps of any machine over what is still to come, from a goal.
 use Rattle.std.proofs.Common.{◌≡◌, ℕ, suc, List, [], ◌∷◌, ◌++◌, Option, refl, subst}
 use Rattle.fd_language.specs.Term.{Substitution}
 use Rattle.fd_language.specs.Family.{Family}
