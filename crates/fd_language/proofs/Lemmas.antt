@@ -1,4 +1,4 @@
--- The lemmas that other crates may cite, by their subjects. All else in proofs/ is this crate's own, but for the steps of the reader (ReadingSteps).
+-- The lemmas that other crates may cite, by their subjects. All else in proofs/ is this crate's own.
 
 -- Sets of numbers as lists, and the greatest family that passes a test.
 pub use Rattle.fd_language.proofs.Sets.{has-filter, has-filter_back, has_low, has_high, rising_same, universe_rising, in_count_up, in_universe, rising_inside, has_either, in_left, in_right, alone_in, in_flat, first_member, only_member, map_has, has_map, any_from, any_to}

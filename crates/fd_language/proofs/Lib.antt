@@ -14,7 +14,6 @@ pub mod RangeRenaming
 pub mod Fitting
 mod OperatorTable
 pub mod OperatorLaws
-pub mod ReadingSteps
 pub mod ReadingWhole
 pub mod GrammarVerdict
 pub mod TokenLaws

@@ -7,7 +7,7 @@ use Rattle.fd_language.specs.PlacedTerm.{PlacedTerm, PlacedTerms, var, int, atom
 use Rattle.fd_language.specs.Operators.{Operator, left_limit, right_limit, prefix_of}
 use Rattle.fd_language.specs.Terminals.{Terminal, name, operator_word, variable, integer, opens, closes, open_list, close_list, open_curly, close_curly, comma, bar, stop, comma_operator, infix_operator, token_place, is_tight_open, is_negated, may_follow}
 use Rattle.fd_language.specs.Grammar.{nil_name, curly_name, list_of, Reads, an_integer, a_negative, a_variable, an_atom, empty_list, empty_curly, named_call, operator_call, in_parens, operator_in_parens, a_list, a_list_tail, in_curly, a_prefix, an_infix, Arg, a_term, an_operator, Args, last, more, Sentences, none, next, IsText}
-use Rattle.fd_language.proofs.ReadingSteps.{Stack, top, paren, args, items, tail, curly, before, between, State, want, at_list, at_curly_bracket, at_operator, after, limit, reduce, Reduced, closed, lone, placed, attach, or_else, ended, behind_operand, called, wanted, begun, step, run, is_close_list, is_close_curly}
+use Rattle.fd_language.specs.ReadingSteps.{Stack, top, paren, args, items, tail, curly, before, between, State, want, at_list, at_curly_bracket, at_operator, after, limit, reduce, Reduced, closed, lone, placed, attach, or_else, ended, behind_operand, called, wanted, begun, step, run, is_close_list, is_close_curly}
 use Rattle.fd_language.proofs.OperatorLaws.{bounds_infix, bounds_prefix, apart_infix, apart_prefix}
 
 -- Spine s s2 x t q: the stack s2 over s, with the operand x, stands over s for the term t of priority q.

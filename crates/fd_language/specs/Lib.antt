@@ -23,6 +23,7 @@ pub mod Tokens
 pub mod QuotedAtoms
 pub mod TokenSlices
 pub mod Reading
+pub mod ReadingSteps
 pub mod Lists
 pub mod Variables
 pub mod Places

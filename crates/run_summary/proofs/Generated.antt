@@ -13,7 +13,7 @@ use Rattle.fd_language.specs.Tokens.{Lexeme, Front, Ends, Gap, Token, Offends, f
 use Rattle.fd_language.specs.GrammarFaults.{deepest, brackets, open_behind, IsShallow, IsRead}
 use Rattle.fd_language.specs.PlacedTerm.{PlacedTerm}
 use Rattle.fd_language.specs.Reading.{terminals, Sentence, sentences, sentence_names, IsSentences}
-use Rattle.fd_language.proofs.ReadingSteps.{State, want, top, run}
+use Rattle.fd_language.specs.ReadingSteps.{State, want, top, run}
 use Rattle.fd_model.specs.Generator.{queens_text}
 use Rattle.fd_model.specs.Goal.{Program, Query}
 use Rattle.fd_model.specs.Queries.{program_of}

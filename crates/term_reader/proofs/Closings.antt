@@ -2,8 +2,8 @@
 use Rattle.std.proofs.Common.{◌≡◌, ℕ, List, ◌∷◌, Option, Some, None, Bool, true, false, cond, refl, sym, ap, subst, ◌∙◌}
 use Rattle.std.specs.Prelude.{reverse}
 use Rattle.fd_language.specs.PlacedTerm.{PlacedTerm}
-use Rattle.fd_language.proofs.ReadingSteps as machine
-use Rattle.fd_language.proofs.ReadingSteps.{top, items, want, closed}
+use Rattle.fd_language.specs.ReadingSteps as machine
+use Rattle.fd_language.specs.ReadingSteps.{top, items, want, closed}
 use Rattle.term_pool.specs.declared.TermId.{TermId}
 use Rattle.term_pool.specs.Contents.{Contents}
 use Rattle.term_reader.specs.declared.parser.Terminal.{Terminal}

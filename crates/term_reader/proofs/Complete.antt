@@ -5,7 +5,7 @@ use Rattle.fd_language.specs.Term.{Name}
 use Rattle.fd_language.specs.PlacedTerm.{PlacedTerm, atom, comp, one, two, with_last}
 use Rattle.fd_language.specs.Terminals.{Terminal, closes, close_list, close_curly, stop}
 use Rattle.fd_language.specs.Grammar.{nil_name, curly_name, list_of, Begins}
-use Rattle.fd_language.proofs.ReadingSteps.{Stack, top, paren, args, items, tail, curly, before, between, State, want, at_list, at_curly_bracket, at_operator, after, reduce, ended, step, run, closing, completion, filler}
+use Rattle.fd_language.specs.ReadingSteps.{Stack, top, paren, args, items, tail, curly, before, between, State, want, at_list, at_curly_bracket, at_operator, after, reduce, ended, step, run, closing, completion, filler}
 use Rattle.fd_language.proofs.Lemmas.{accepts}
 use Rattle.term_reader.proofs.Sound.{sound}
 

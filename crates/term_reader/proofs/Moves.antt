@@ -2,7 +2,7 @@
 use Rattle.std.proofs.Common.{◌≡◌, ℕ, ℤ, List, Option, Some, None, Bool, true, false, refl, sym, ap, subst, ◌∙◌, ◌⊎◌, arith, w64, SFits}
 use Rattle.std.specs.Prelude.{reverse, neg_ℤ, ◌&&◌}
 use Rattle.fd_language.specs.PlacedTerm.{PlacedTerm}
-use Rattle.fd_language.proofs.ReadingSteps.{Stack, top, State, after, wanted}
+use Rattle.fd_language.specs.ReadingSteps.{Stack, top, State, after, wanted}
 use Rattle.term_pool.specs.declared.TermId.{TermId}
 use Rattle.term_pool.specs.Contents.{Contents}
 use Rattle.term_pool.specs.Terms.{Extends}

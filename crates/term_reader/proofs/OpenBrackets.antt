@@ -7,7 +7,7 @@ use Rattle.fd_language.specs.Term.{Name}
 use Rattle.fd_language.specs.PlacedTerm.{PlacedTerm, PlacedTerms, atom, comp, one, with_last}
 use Rattle.fd_language.specs.Terminals as terminals
 use Rattle.fd_language.specs.Grammar.{list_of, nil_name, curly_name}
-use Rattle.fd_language.proofs.ReadingSteps.{Stack, top, args, items, tail, want, closed}
+use Rattle.fd_language.specs.ReadingSteps.{Stack, top, args, items, tail, want, closed}
 use Rattle.term_pool.specs.declared.AtomId.{AtomId}
 use Rattle.term_pool.specs.declared.TermId.{TermId}
 use Rattle.term_pool.specs.declared.TheConstants.{NIL}

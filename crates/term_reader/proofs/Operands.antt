@@ -11,8 +11,8 @@ use Rattle.fd_language.specs.Operators as model
 use Rattle.fd_language.specs.Terminals as terminals
 use Rattle.fd_language.specs.Terminals.{infix_operator, is_negated, is_tight_open, token_place}
 use Rattle.fd_language.specs.Grammar.{nil_name, curly_name}
-use Rattle.fd_language.proofs.ReadingSteps as machine
-use Rattle.fd_language.proofs.ReadingSteps.{Stack, top, paren, args, items, tail, curly, before, between, State, want, at_list, at_curly_bracket, at_operator, after, Reduced, reduce, gives_way, limit, closed, lone, placed, attach, or_else, ended, behind_operand, called, wanted, begun, number_of, step}
+use Rattle.fd_language.specs.ReadingSteps as machine
+use Rattle.fd_language.specs.ReadingSteps.{Stack, top, paren, args, items, tail, curly, before, between, State, want, at_list, at_curly_bracket, at_operator, after, Reduced, reduce, gives_way, limit, closed, lone, placed, attach, or_else, ended, behind_operand, called, wanted, begun, number_of, step}
 use Rattle.term_pool.specs.declared.AtomId.{AtomId}
 use Rattle.term_pool.specs.declared.TermId.{TermId}
 use Rattle.term_pool.specs.declared.TheConstants.{NIL}

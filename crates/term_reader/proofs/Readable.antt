@@ -10,7 +10,7 @@ use Rattle.fd_language.specs.Tokens.{Lexeme, Cause, TokensOf, FaultOf}
 use Rattle.fd_language.specs.Grammar.{IsText, Begins}
 use Rattle.fd_language.specs.GrammarFaults.{deepest, brackets, IsShallow, IsRead, IsSyntaxFault, IsTooDeep}
 use Rattle.fd_language.specs.Reading.{terminals, sentence_names, place_at, Sentence, Reading, sentences, token_fault, syntax_fault, too_deep, IsReading}
-use Rattle.fd_language.proofs.ReadingSteps.{top, paren, args, items, tail, curly, before, between, State, want, at_list, at_curly_bracket, at_operator, after, run}
+use Rattle.fd_language.specs.ReadingSteps.{top, paren, args, items, tail, curly, before, between, State, want, at_list, at_curly_bracket, at_operator, after, run}
 use Rattle.fd_language.proofs.Lemmas.{accepts, as_many, one_verdict}
 use Rattle.term_reader.specs.Laws.{EachIsRead}
 use Rattle.term_reader.proofs.Sound.{sound}

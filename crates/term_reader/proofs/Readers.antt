@@ -9,7 +9,7 @@ use Rattle.fd_language.specs.Terminals as grammar
 use Rattle.fd_language.specs.Tokens.{Kind, Stop, Lexeme}
 use Rattle.fd_language.specs.Reading as model
 use Rattle.fd_language.specs.Reading.{terminals, terminal_of, terminal_by, names_behind, names_by, sentence_names, ended_by}
-use Rattle.fd_language.proofs.ReadingSteps.{State, want, top, step, run, is_stop}
+use Rattle.fd_language.specs.ReadingSteps.{State, want, top, step, run, is_stop}
 use Rattle.term_pool.specs.declared.AtomId.{AtomId}
 use Rattle.term_pool.specs.declared.TermId.{TermId}
 use Rattle.term_pool.specs.Contents.{Contents, atom_name}

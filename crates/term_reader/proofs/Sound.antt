@@ -7,7 +7,7 @@ use Rattle.fd_language.specs.PlacedTerm.{PlacedTerm, PlacedTerms, int, atom, com
 use Rattle.fd_language.specs.Operators.{Operator, left_limit, right_limit, prefix_of}
 use Rattle.fd_language.specs.Terminals.{Terminal, name, operator_word, variable, integer, opens, closes, open_list, close_list, open_curly, close_curly, comma, bar, stop, infix_operator, token_place, is_minus, is_tight_open, is_negated, may_follow}
 use Rattle.fd_language.specs.Grammar.{nil_name, curly_name, list_of, Reads, an_integer, a_negative, a_variable, an_atom, empty_list, empty_curly, named_call, operator_call, in_parens, operator_in_parens, a_list, a_list_tail, in_curly, a_prefix, an_infix, Arg, a_term, an_operator, Args, last, more, Sentences, none, next, IsText}
-use Rattle.fd_language.proofs.ReadingSteps.{Stack, top, paren, args, items, tail, curly, before, between, State, want, at_list, at_curly_bracket, at_operator, after, limit, reduce, Reduced, gives_way, closed, lone, placed, attach, or_else, ended, behind_operand, called, wanted, begun, number_of, step, run, is_close, is_close_list, is_close_curly, is_comma, is_bar, is_stop}
+use Rattle.fd_language.specs.ReadingSteps.{Stack, top, paren, args, items, tail, curly, before, between, State, want, at_list, at_curly_bracket, at_operator, after, limit, reduce, Reduced, gives_way, closed, lone, placed, attach, or_else, ended, behind_operand, called, wanted, begun, number_of, step, run, is_close, is_close_list, is_close_curly, is_comma, is_bar, is_stop}
 
 -- arguments read so far, each with the comma behind it
 pub data SoFar (ts : List Terminal) : PlacedTerms → List Terminal → Type 0 where

@@ -6,7 +6,7 @@ use Rattle.std.proofs.lemmas.List.Elements.{All-from_recursion, All-drop, All-ta
 use Rattle.std.proofs.lemmas.Option.{slice_get_within, slice_get-get_or}
 use Rattle.fd_language.specs.PlacedTerm.{PlacedTerm, comp, one, two}
 use Rattle.fd_language.specs.Operators.{right_limit}
-use Rattle.fd_language.proofs.ReadingSteps.{Stack, top, paren, curly, before, between, reduce, gives_way}
+use Rattle.fd_language.specs.ReadingSteps.{Stack, top, paren, curly, before, between, reduce, gives_way}
 use Rattle.term_pool.specs.declared.TermId.{TermId}
 use Rattle.term_pool.specs.Contents.{Contents, atom_name}
 use Rattle.term_pool.specs.Terms.{Extends}

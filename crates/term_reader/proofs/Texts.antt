@@ -11,7 +11,7 @@ use Rattle.fd_language.specs.Reading as model
 use Rattle.fd_language.specs.Reading.{terminals, terminal_of, names_behind, place_at, IsSentences, IsSyntaxPlace, IsDeepPlace}
 use Rattle.fd_language.specs.Grammar.{IsText, Begins}
 use Rattle.fd_language.specs.GrammarFaults.{deepest, open_behind, brackets, IsShallow, IsRead, IsSyntaxFault, IsTooDeep}
-use Rattle.fd_language.proofs.ReadingSteps.{State, want, top, run}
+use Rattle.fd_language.specs.ReadingSteps.{State, want, top, run}
 use Rattle.fd_language.proofs.Lemmas.{accepts}
 use Rattle.char_tokens.specs.declared.token.TokenFault.{TokenFault}
 use Rattle.char_tokens.specs.declared.token.TokenFault.TheVariants as faults

@@ -13,7 +13,7 @@ use Rattle.fd_language.specs.Grammar.{list_of}
 use Rattle.fd_language.specs.Tokens.{Kind, Word, Quoted, Variable, Integer, Punct, Stop, Lexeme}
 use Rattle.fd_language.specs.Reading as model
 use Rattle.fd_language.specs.Reading.{is_anonymous, variable_number, with_variable, terminals, terminal_of, terminal_by, punct_terminal, names_behind, names_by, sentence_names, ended_by, IsSentences}
-use Rattle.fd_language.proofs.ReadingSteps.{Stack, top, paren, args, items, tail, curly, before, between, State, want, at_list, at_curly_bracket, at_operator, after, Reduced, reduce, gives_way, limit, is_close, is_close_list, is_close_curly, is_comma, is_bar, is_stop, closed, lone, placed, attach, or_else, ended, behind_operand, called, wanted, begun, step, run}
+use Rattle.fd_language.specs.ReadingSteps.{Stack, top, paren, args, items, tail, curly, before, between, State, want, at_list, at_curly_bracket, at_operator, after, Reduced, reduce, gives_way, limit, is_close, is_close_list, is_close_curly, is_comma, is_bar, is_stop, closed, lone, placed, attach, or_else, ended, behind_operand, called, wanted, begun, step, run}
 use Rattle.fd_language.proofs.Lemmas.{accepts}
 use Rattle.term_pool.specs.Contents.{Contents, atom_name}
 use Rattle.term_reader.specs.declared.reader.Sentence.{Sentence}

@@ -6,7 +6,7 @@ use Rattle.fd_language.specs.Tokens.{Lexeme, Stop, FaultOf, TokensOf}
 use Rattle.fd_language.specs.Reading as model
 use Rattle.fd_language.specs.Reading.{terminals, names_behind, sentence_names, IsSyntaxPlace, IsDeepPlace, Reading, token_fault, syntax_fault, too_deep}
 use Rattle.fd_language.specs.GrammarFaults.{IsShallow}
-use Rattle.fd_language.proofs.ReadingSteps.{want, top, run}
+use Rattle.fd_language.specs.ReadingSteps.{want, top, run}
 use Rattle.char_tokens.specs.Views.{cause_of}
 use Rattle.char_tokens.specs.declared.token.TokenFault.{TokenFault}
 use Rattle.char_tokens.specs.declared.token.TokenFault.TheVariants as faults

@@ -4,7 +4,7 @@ use Rattle.fd_language.specs.PlacedTerm.{PlacedTerm, atom}
 use Rattle.fd_language.specs.Term.{Name}
 use Rattle.fd_language.specs.Operators.{right_limit, infix_of, prefix_of}
 use Rattle.fd_language.specs.Terminals as model
-use Rattle.fd_language.proofs.ReadingSteps.{Stack, top, paren, args, items, tail, curly, before, between, State, want, at_list, at_curly_bracket, at_operator, after, reduce, ended, step}
+use Rattle.fd_language.specs.ReadingSteps.{Stack, top, paren, args, items, tail, curly, before, between, State, want, at_list, at_curly_bracket, at_operator, after, reduce, ended, step}
 use Rattle.term_pool.specs.declared.AtomId.{AtomId}
 use Rattle.term_pool.specs.declared.TermId.{TermId}
 use Rattle.term_pool.specs.Contents.{Contents, atom_name}

@@ -7,7 +7,7 @@ ghost use Rattle.fd_language.specs.Grammar.{list_of};
 ghost use Rattle.fd_language.specs.Terminals as Terminals;
 ghost use Rattle.fd_language.specs.Terminals.{infix_operator, is_minus, is_negated, is_tight_open};
 ghost use Rattle.name_syntax.specs.Operators.{operator_of};
-ghost use Rattle.fd_language.proofs.ReadingSteps as Machine;
+ghost use Rattle.fd_language.specs.ReadingSteps as Machine;
 ghost use Rattle.term_pool.specs.declared.AtomId.{AtomId as Atom};
 ghost use Rattle.term_pool.specs.Contents.{Contents, atom_name};
 ghost use Rattle.term_pool.specs.Valid.{IsPool};

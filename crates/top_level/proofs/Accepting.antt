@@ -4,8 +4,7 @@ use Rattle.std.specs.Prelude.{IfSome, zero, suc}
 use Rattle.fd_model.specs.Output.{Options}
 use Rattle.fd_model.specs.Run.{IsLimit}
 use Rattle.command_words.specs.Words.{options_of, has_form, options_by, value_behind}
-use Rattle.command_words.proofs.Law as law
-use Rattle.command_words.proofs.Lemmas.{answers_within, generate_within}
+use Rattle.command_words.proofs.Lemmas.{answers_within, generate_within, asked_as_written}
 
 -- a size of which there is a generated text
 abbrev pub IsSize : ℕ → Type 0
@@ -24,7 +23,7 @@ limit_from_one (Some (suc j)) h = tt
 
 -- of all that words ask for
 pub accepted_words : (words : List (List ℕ)) → IfSome (options_of words) IsAccepted
-accepted_words words = subst (λ (a : Option Options). IfSome a IsAccepted) (sym (law.asked_as_written words)) (go (has_form words))
+accepted_words words = subst (λ (a : Option Options). IfSome a IsAccepted) (sym (asked_as_written words)) (go (has_form words))
   where
     given : List ℕ → Option (List ℕ)
     given = λ id. value_behind (45 ∷ 45 ∷ id) words

@@ -1,6 +1,6 @@
 use Rattle.std.proofs.Common.{◌≡◌, ℕ, ◌-◌, ◌∙◌, sym, ap, take, true, false}
 use Rattle.fd_language.specs.Operators.{right_limit}
-use Rattle.fd_language.proofs.ReadingSteps.{gives_way}
+use Rattle.fd_language.specs.ReadingSteps.{gives_way}
 use Rattle.name_syntax.specs.Operators.{nameless}
 use Rattle.term_reader.proofs.Stacks.{stays_no_operation, stays_operation, operation_ids, steps_operation, steps_as}
 use Rattle.term_reader.proofs.parser.reduce_once.Goals as goal

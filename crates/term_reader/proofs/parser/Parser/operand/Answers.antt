@@ -1,7 +1,7 @@
 use Rattle.std.proofs.Common.{refl, ap, w64}
 use Rattle.std.proofs.lemmas.Int.{to_z-of_z}
 use Rattle.fd_language.specs.PlacedTerm.{var, int}
-use Rattle.fd_language.proofs.ReadingSteps.{wanted}
+use Rattle.fd_language.specs.ReadingSteps.{wanted}
 use Rattle.term_reader.specs.declared.parser.Terminal.{Terminal}
 use Rattle.term_reader.specs.View.{terminal_at}
 use Rattle.term_reader.proofs.Moves.{operand_term, fits_natural, token_natural}

@@ -1,4 +1,4 @@
--- The reader's steps: a stack of what is begun, and what may come next.
+-- A text read from left to right: a stack of what is begun, what may come next, and the step that each token makes. Grammar says what a text is; these steps decide it.
 use Rattle.std.specs.Prelude.{ℕ, ℤ, pos, neg_ℤ, List, [], ◌∷◌, Bool, true, false, Option, Some, None, ◌||◌, nat_le, nat_lt, if◌then◌else◌, option_and_then}
 use Rattle.fd_language.specs.Grammar.{nil_name, curly_name, list_of}
 use Rattle.fd_language.specs.Term.{Name}
