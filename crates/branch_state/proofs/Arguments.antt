@@ -2,6 +2,7 @@
 use Rattle.std.proofs.Common.{◌≡◌, ℕ, zero, suc, ◌+◌, ◌<◌, Bool, true, false, cond, not, ◌||◌, ◌==◌, nat_eq, ℤ, List, [], ◌∷◌, ◌++◌, length, map, get_or, Option, Some, None, refl, ap, sym, ◌∙◌, subst, inl, inr, arith, eqb-true, eq-eqb, IsTrue}
 use Rattle.std.specs.List.{position_or_len}
 use Rattle.std.proofs.lemmas.Bool.{cases_Bool, or_cases, or_left, or_right, true≢false}
+use Rattle.std.proofs.Math.Numerals.{one-add}
 use Rattle.fd_model.specs.declared.kinds.QueryFault.{QueryFault}
 use Rattle.fd_model.specs.declared.kinds.QueryFault.TheVariants.{Parameter}
 use Rattle.fd_language.specs.declared.range_node.Need.{Need}
@@ -69,12 +70,10 @@ first_place (x ∷ xs) y d h = elim (cases_Bool (nat_eq y x)) [
       let i : position_or_len (nat_eq y) (x ∷ xs) ≡ 0 = ap (λ c. cond (not c) (1 + position_or_len (nat_eq y) xs) 0) e in
       (subst (λ n. n < suc (length xs)) (sym i) (omega arith), ap (λ n. get_or (x ∷ xs) n d) i ∙ sym (eqb-true y x e))
   | inr e ↦
-      let i : position_or_len (nat_eq y) (x ∷ xs) ≡ suc (position_or_len (nat_eq y) xs) = ap (λ c. cond (not c) (1 + position_or_len (nat_eq y) xs) 0) e ∙ one_up (position_or_len (nat_eq y) xs) in
+      let i : position_or_len (nat_eq y) (x ∷ xs) ≡ suc (position_or_len (nat_eq y) xs) = ap (λ c. cond (not c) (1 + position_or_len (nat_eq y) xs) 0) e ∙ one-add (position_or_len (nat_eq y) xs) in
       let k = first_place xs y d (later x y xs e h) in
       (subst (λ n. n < suc (length xs)) (sym i) (let l = k.0 in omega (arith, l)), ap (λ n. get_or (x ∷ xs) n d) i ∙ k.1)
 ] where
-  one_up : (n : ℕ) → 1 + n ≡ suc n
-  one_up n = omega arith
 
   later : (x y : ℕ) (xs : List ℕ) → nat_eq y x ≡ false → ((x == y) || has xs y) ≡ true → has xs y ≡ true
   later x y xs e h = elim (or_cases (x == y) (has xs y) h) [ inl i ↦ absurd (true≢false (sym (eq-eqb y x (sym (eqb-true x y i))) ∙ e)) | inr i ↦ i ]

@@ -1,6 +1,7 @@
 -- The cells of a goal are made ready: its target, and behind it slot by slot.
 use Rattle.std.proofs.Common.{◌≡◌, ℕ, zero, suc, ◌+◌, ◌<◌, true, false, cond, ◌==◌, ℤ, List, [], ◌∷◌, ◌++◌, length, map, take, get_or, Option, Some, None, is_some, refl, ap, sym, ◌∙◌, subst, inl, inr, ◌⊎◌, arith, append-nil, eq-eqb, ne_eqb}
 use Rattle.std.proofs.lemmas.Bool.{or_left, or_right, true≢false}
+use Rattle.std.proofs.lemmas.List.{length-map}
 use Rattle.fd_language.specs.declared.range_node.Need.{Need}
 use Rattle.fd_language.specs.Family.{Family, has}
 use Rattle.fd_language.specs.Places.{range_places}
@@ -24,7 +25,7 @@ use Rattle.branch_state.specs.Naming.{LooksAs, IsKind, IsInteger, offence, first
 use Rattle.branch_state.proofs.Gathering.{apart_once}
 use Rattle.branch_state.proofs.Looking.{look_kind, number_is}
 use Rattle.branch_state.proofs.Places.{variables}
-use Rattle.branch_state.proofs.Preparing.{fine_at, take_lengths, take_next, map_length, stand_more}
+use Rattle.branch_state.proofs.Preparing.{fine_at, take_lengths, take_next, stand_more}
 use Rattle.branch_state.proofs.TermNaming.{IsNextTerm, terms_start, terms_same, term_next}
 
 -- ---- a slot's cell
@@ -157,7 +158,7 @@ pub cells_more : (t : Term) (see : Substitution) (h : Cells) (sets : List (List 
     → (now' : Cells) (S' : List (List ℕ)) (fs' : List Touch) (of' : ℤ → Option ℕ) (a : Arg) → SlotStep (see (get_or slots i 0)) (get_or (map need slots) i None) now S fs of now' S' fs' of' a
     → (as'' : List Arg) → as'' ≡ as' ++ a ∷ [] → AreCellsReady t see h sets (take (i + 1) slots) (take (i + 1) (map need slots)) now' S' fs' of' k as''
 cells_more t see h sets slots need fine i l now S fs of k as' r now' S' fs' of' a step as'' e =
-    let nl : i < length (map need slots) = (let m = map_length need slots in omega (arith, l, m)) in
+    let nl : i < length (map need slots) = (let m = length-map slots need in omega (arith, l, m)) in
     let next = cells_next t see h sets (take i slots) (take i (map need slots)) (take_lengths need slots i) now S fs of k as' r (get_or slots i 0) (get_or (map need slots) i None) now' S' fs' of' a step (fine_at see slots (map need slots) i 0 None l nl fine) in
     let more : suc i ≡ i + 1 = omega arith in
     let one = subst (λ ys. AreCellsReady t see h sets ys (take i (map need slots) ++ get_or (map need slots) i None ∷ []) now' S' fs' of' k (as' ++ a ∷ [])) (sym (take_next slots i 0 l)) next in

@@ -1,6 +1,7 @@
 -- Ranges that are joined one after the other, where each variable that they name is linked in the end.
 use Rattle.std.proofs.Common.{◌≡◌, ℕ, Bool, true, false, cond, List, [], ◌∷◌, ◌++◌, map, Option, Some, None, refl, ap, sym, ◌∙◌, subst, inl, inr, ◌⊎◌, append-nil, append_assoc}
 use Rattle.std.proofs.lemmas.Bool.{cases_Bool, true≢false}
+use Rattle.std.proofs.lemmas.Option.{none-some, same_Some}
 use Rattle.fd_language.specs.Family.{has}
 use Rattle.fd_language.specs.Range.{Indexical}
 use Rattle.fd_language.specs.RangeRenaming.{rename_indexical}
@@ -10,9 +11,6 @@ use Rattle.fd_model.proofs.Lemmas.{constrained_either, map_has}
 use Rattle.machine_relation.specs.Rows.{IsJoined, AreJoined}
 use Rattle.machine_relation.specs.Store.{names}
 use Rattle.machine_relation.proofs.Lemmas.{functions}
-
-none_some : (k : ℕ) → None ≡ Some k → ⊥
-none_some k e = cc
 
 module _ (link last : ℕ → Option ℕ) (g : ℕ → ℕ) (keep : (c k : ℕ) → link c ≡ Some k → last c ≡ Some k) (one : (c d k : ℕ) → last c ≡ Some k → last d ≡ Some k → c ≡ d) where
   -- what is linked once these are named
@@ -73,8 +71,6 @@ module _ (link last : ℕ → Option ℕ) (g : ℕ → ℕ) (keep : (c k : ℕ) 
       ]
     ]
   ] where
-    some_same : (k j : ℕ) → Some k ≡ Some j → k ≡ j
-    some_same k j e = cc
 
     renamed : (k : ℕ) → has (constrained (rename_indexical g p ∷ [])) k ≡ true → (d : ℕ) × (has (names p) d ≡ true) × (g d ≡ k)
     renamed k e = map_has g (names p) k (subst (λ l. has l k ≡ true) (append-nil (names (rename_indexical g p)) ∙ ap (λ l. g p.target ∷ l) (reads_map g p.range)) e)
@@ -124,7 +120,7 @@ module _ (link last : ℕ → Option ℕ) (g : ℕ → ℕ) (keep : (c k : ℕ) 
       none : (c : ℕ) → last c ≡ None → (b : Bool) (o : Option ℕ) → link c ≡ o → cond b (last c) (link c) ≡ None
       none c e true o f = e
       none c e false None f = f
-      none c e false (Some k) f = absurd (none_some k (sym e ∙ keep c k f))
+      none c e false (Some k) f = absurd (none-some k (sym e ∙ keep c k f))
 
       at_end : (c : ℕ) (o : Option ℕ) → last c ≡ o → upto (gathered [] ps) c ≡ last c
       at_end c None e = none c e (has (gathered [] ps) c) (link c) refl ∙ sym e

@@ -1,6 +1,8 @@
 -- Variables of the heap that become variables of the store, one after the other.
 use Rattle.std.proofs.Common.{◌≡◌, ℕ, suc, ◌+◌, ◌<◌, true, false, List, [], ◌∷◌, ◌++◌, length, take, get_or, None, Some, refl, ap, sym, ◌∙◌, subst, inl, inr, arith, append-nil, append_assoc, eqb-true, ◌==◌}
 use Rattle.std.proofs.lemmas.Bool.{cases_Bool, or_cases, true≢false}
+use Rattle.std.proofs.lemmas.List.{take_more, nil_from_length}
+use Rattle.std.proofs.lemmas.Option.{none-some}
 use Rattle.fd_language.specs.declared.TheConstants.{INFINITY}
 use Rattle.fd_language.specs.Family.{has, universe}
 use Rattle.fd_language.specs.Term.{Term, Var, Int, Atom, Comp}
@@ -21,7 +23,6 @@ use Rattle.branch_state.specs.declared.look.Look.{Look}
 use Rattle.branch_state.specs.declared.look.Look.TheVariants.{Open, Linked}
 use Rattle.branch_state.specs.Naming.{LooksAs, integers, IsNaming, NameStep, OwnLinks}
 use Rattle.branch_state.proofs.ConstrainingHeaps.{unbound_kept}
-use Rattle.branch_state.proofs.ConstrainingSteps.{take_more}
 use Rattle.branch_state.proofs.Named.{naming_start, naming_next}
 
 no_name : Naming
@@ -76,20 +77,14 @@ module _ (h : Cells) (sets : List (List ℕ)) (xs : List ℕ) (now : Cells) (S :
   named_now : has xs x ≡ false → (l : Look) → LooksAs now (Var x) l → (now' : Cells) (S' : List (List ℕ)) (k : ℕ) → NameStep l now S [] now' S' [] k → Next now' S'
   named_now new_one l looks now' S' k step =
       let t = naming_next Var (above (xs ++ x ∷ [])) h sets xs now S [] [] w x new_one (λ z i e. below_all (xs ++ x ∷ []) z i) l looks now' S' [] k step in
-      subst (λ ks. IsNaming Var h sets (xs ++ x ∷ []) now' S' ks []) (none t.ks' (t.naming.count ∙ ap length (no_integers (xs ++ x ∷ [])))) t.naming
-    where
-      none : (ks : List ℕ) → length ks ≡ 0 → ks ≡ []
-      none [] e = refl
-      none (k ∷ ks) e = absurd (omega (arith, e))
+      subst (λ ks. IsNaming Var h sets (xs ++ x ∷ []) now' S' ks []) (nil_from_length t.ks' (t.naming.count ∙ ap length (no_integers (xs ++ x ∷ [])))) t.naming
 
   -- an open one
   pub open_named : (i : ℕ) → x ≡ i → i < length now.slots → slot_at now i ≡ free → (now' : Cells) (S' : List (List ℕ)) → now' ≡ with_slot now i (linked (length S)) → S' ≡ S ++ universe INFINITY ∷ [] → Next now' S'
   open_named i same own e now' S' f g = elim (cases_Bool (has xs x)) [
-    | inl a ↦ absurd (let k = w.named x x a refl in none_some k.0 (sym (ap link_of (ap (slot_at now) same ∙ e)) ∙ k.1))
+    | inl a ↦ absurd (let k = w.named x x a refl in none-some k.0 (sym (ap link_of (ap (slot_at now) same ∙ e)) ∙ k.1))
     | inr a ↦ named_now a (Open i) (ap Var same, own, e) now' S' (length S) (refl, f, g, refl)
-  ] where
-    none_some : (k : ℕ) → None ≡ Some k → ⊥
-    none_some k e = cc
+  ]
 
   -- a linked one
   pub linked_named : (i k : ℕ) → x ≡ i → slot_at now i ≡ linked k → Next now S

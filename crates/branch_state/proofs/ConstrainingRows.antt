@@ -15,7 +15,7 @@ use Rattle.fd_model.specs.LinearRows.{Expansion, linear_rows, compares, no_numbe
 use Rattle.fd_model.specs.ListRows.{different_rows, units}
 use Rattle.fd_model.specs.Members.{Member, Open, Known, walk, as_member, prepend, after, placed, equated_from, fresh_after}
 use Rattle.fd_model.proofs.Lemmas.{one_ok, both_ok, test_ok, element_ok, atmost_ok}
-use Rattle.std.proofs.lemmas.Option.{slice_get-get_or}
+use Rattle.std.proofs.lemmas.Option.{slice_get-get_or, none-some}
 use Rattle.term_pool.specs.declared.TermId.{TermId}
 use Rattle.term_pool.specs.Contents.{Contents, Entry, Shape, var, int, atom, comp, name_in}
 use Rattle.term_pool.specs.Terms.{term_of, terms_by, shape_term}
@@ -127,9 +127,6 @@ row_end m _ _ n x short h = absurd (cc)
 
 -- ---- terms of a pool
 
-none_some : (e : Entry) → None ≡ Some e → ⊥
-none_some e f = cc
-
 module _ (c : Contents) (pool : IsPool c) where
   abbrev LowTo : ℕ → Type 0
   LowTo n = (t : TermId) → t.number < n → t.number < length c.entries → cells (term_of c t) ≤ t.number
@@ -155,7 +152,7 @@ module _ (c : Contents) (pool : IsPool c) where
     by_entry low (Some e) i =
         subst (λ u. cells u ≤ t.number) (sym (term_of_shape c pool t e.shape (ap (option_map (λ e. e.shape)) i)))
         (low_shape t.number low own e.shape (pool.within t.number e i))
-    by_entry low None i = absurd (none_some (get_or c.entries t.number (record { shape = var 0; place = 0 })) (sym i ∙ slice_get-get_or c.entries t.number (record { shape = var 0; place = 0 }) own))
+    by_entry low None i = absurd (none-some (get_or c.entries t.number (record { shape = var 0; place = 0 })) (sym i ∙ slice_get-get_or c.entries t.number (record { shape = var 0; place = 0 }) own))
 
   -- a list of a pool has no more cells than there are terms before it
   pub cells_low : (t : TermId) → t.number < length c.entries → cells (term_of c t) ≤ t.number

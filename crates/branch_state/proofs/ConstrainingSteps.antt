@@ -2,6 +2,7 @@
 use Rattle.std.proofs.Common.{◌≡◌, ℕ, zero, suc, ◌+◌, ◌<◌, ◌≤◌, true, false, ◌==◌, nat_lt, ℤ, List, [], ◌∷◌, ◌++◌, length, map, take, get_or, Some, refl, ap, sym, ◌∙◌, subst, inl, inr, arith, eq-eqb}
 use Rattle.std.proofs.lemmas.Bool.{cases_Bool, or_left, or_right}
 use Rattle.std.proofs.lemmas.Bool.Decides.{nat_tests}
+use Rattle.std.proofs.lemmas.List.{take_more}
 use Rattle.fd_language.specs.Family.{has}
 use Rattle.fd_language.specs.Range.{Range, Indexical}
 use Rattle.fd_language.proofs.Lemmas.{in_left, only_member}
@@ -19,13 +20,6 @@ use Rattle.branch_state.specs.Naming.{or_zero}
 use Rattle.branch_state.proofs.ConstrainingHeaps.{bound_size, bound_else}
 
 -- ---- lists
-
-pub take_more : {X : Type 0} (xs : List X) (i : ℕ) (d : X) → i < length xs → take (i + 1) xs ≡ take i xs ++ get_or xs i d ∷ []
-take_more xs i d l = ap (λ n. take n xs) (let e : i + 1 ≡ suc i = omega arith in e) ∙ by_suc xs i l where
-  by_suc : (xs : List _) (i : ℕ) → i < length xs → take (suc i) xs ≡ take i xs ++ get_or xs i d ∷ []
-  by_suc [] i l = absurd (omega (arith, l))
-  by_suc (x ∷ xs) zero l = refl
-  by_suc (x ∷ xs) (suc i) l = ap (λ ys. x ∷ ys) (by_suc xs i (omega (arith, l)))
 
 -- ---- ranges
 

@@ -1,5 +1,6 @@
 -- What is gathered of a range place by place is what is gathered slot by slot.
 use Rattle.std.proofs.Common.{◌≡◌, ℕ, Bool, true, false, cond, not, ◌&&◌, ◌==◌, List, [], ◌∷◌, map, filter, Option, Some, None, refl, ap, sym, ◌∙◌, eqb-true, eq-eqb}
+use Rattle.std.proofs.lemmas.Bool.{and_left}
 use Rattle.fd_model.specs.declared.kinds.QueryFault.{QueryFault}
 use Rattle.fd_language.specs.declared.range_node.Need.{Need}
 use Rattle.fd_language.specs.Family.{has}
@@ -86,11 +87,9 @@ plain_slots r one =
 apart_filter : (p : ℕ → Bool) (xs : List ℕ) → Apart xs → Apart (filter p xs)
 apart_filter p [] h = tt
 apart_filter p (x ∷ xs) h = by_test (p x) (apart_filter p xs h.1) where
-  out : (a b : Bool) → a ≡ false → (a && b) ≡ false
-  out a b e = ap (λ c. c && b) e
 
   by_test : (b : Bool) → Apart (filter p xs) → Apart (cond b (x ∷ filter p xs) (filter p xs))
-  by_test true k = (has_kept p xs x ∙ out (has xs x) (p x) h.0, k)
+  by_test true k = (has_kept p xs x ∙ and_left (has xs x) (p x) h.0, k)
   by_test false k = k
 
 pub apart_once : (xs : List ℕ) → Apart (once xs)

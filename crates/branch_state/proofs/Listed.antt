@@ -2,6 +2,7 @@
 use Rattle.std.proofs.Common.{◌≡◌, ℕ, zero, suc, ◌+◌, ◌<◌, true, ◌==◌, List, [], ◌∷◌, ◌++◌, length, map, take, get_or, refl, ap, sym, ◌∙◌, subst, arith, append-nil, append_assoc, eq-eqb}
 use Rattle.std.specs.Prelude.{All}
 use Rattle.std.proofs.lemmas.Bool.{or_left, or_right}
+use Rattle.std.proofs.lemmas.List.{take_more}
 use Rattle.fd_language.specs.Family.{has}
 use Rattle.fd_language.specs.Range.{Range, Indexical}
 use Rattle.fd_language.specs.Term.{Var}
@@ -20,7 +21,7 @@ use Rattle.branch_state.specs.Constraints.{variables_in, store_variable, row_pos
 use Rattle.branch_state.specs.Listing.{IsSamePosting, AreSamePostings, AreListed, LinksMore}
 use Rattle.branch_state.specs.Naming.{or_zero, IsNaming, OwnLinks}
 use Rattle.branch_state.proofs.ConstrainingLinks.{links_none, links_both, links_named, links_unbound, links_keep}
-use Rattle.branch_state.proofs.ConstrainingSteps.{take_more, of_pair, indexicals_map}
+use Rattle.branch_state.proofs.ConstrainingSteps.{of_pair, indexicals_map}
 use Rattle.branch_state.proofs.Touches.{EachPosting, all_instances}
 
 -- ---- postings that are the same

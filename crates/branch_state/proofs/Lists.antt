@@ -1,6 +1,7 @@
 -- Lists of variables, each once.
 use Rattle.std.proofs.Common.{◌≡◌, ℕ, Bool, true, false, cond, not, ◌&&◌, ◌==◌, List, [], ◌∷◌, filter, refl, ap, sym, ◌∙◌, inl, inr, eqb-true, eq-eqb}
 use Rattle.std.proofs.lemmas.Bool.{cases_Bool, true≢false}
+use Rattle.std.proofs.Math.Bool.{and_comm}
 use Rattle.fd_language.specs.Needs.{once}
 
 pub same_test : (x y : ℕ) → (x == y) ≡ (y == x)
@@ -33,11 +34,6 @@ filter_without p x xs h = filter_twice p (λ y. not (y == x)) xs ∙ filter_agre
 pub once_filter : (p : ℕ → Bool) (xs : List ℕ) → filter p (once xs) ≡ once (filter p xs)
 once_filter p [] = refl
 once_filter p (x ∷ xs) = elim (cases_Bool (p x)) [
-  | inl e ↦ rw e (ap (λ l. x ∷ l) (filter_twice p (λ y. not (y == x)) (once xs) ∙ filter_agree (λ y. not (y == x) && p y) (λ y. p y && not (y == x)) (once xs) (λ y. swap (not (y == x)) (p y)) ∙ sym (filter_twice (λ y. not (y == x)) p (once xs)) ∙ ap (filter (λ y. not (y == x))) (once_filter p xs)))
+  | inl e ↦ rw e (ap (λ l. x ∷ l) (filter_twice p (λ y. not (y == x)) (once xs) ∙ filter_agree (λ y. not (y == x) && p y) (λ y. p y && not (y == x)) (once xs) (λ y. and_comm (not (y == x)) (p y)) ∙ sym (filter_twice (λ y. not (y == x)) p (once xs)) ∙ ap (filter (λ y. not (y == x))) (once_filter p xs)))
   | inr e ↦ rw e (filter_without p x (once xs) e ∙ once_filter p xs)
-] where
-  swap : (a b : Bool) → (a && b) ≡ (b && a)
-  swap true true = refl
-  swap true false = refl
-  swap false true = refl
-  swap false false = refl
+]

@@ -1,8 +1,9 @@
 -- Variables of a clause that are named by variables of the store, one after the other.
 use Rattle.std.proofs.Common.{◌≡◌, ℕ, zero, suc, ◌+◌, ◌-◌, ◌<◌, ◌≤◌, ◌≢◌, Bool, true, false, cond, nat_lt, ◌||◌, ◌&&◌, ◌==◌, ℤ, List, [], ◌∷◌, ◌++◌, length, get_or, Option, Some, None, refl, ap, sym, ◌∙◌, subst, inl, inr, ◌⊎◌, arith, append-nil, length-append, eqb-true, eq-eqb, ne_eqb}
-use Rattle.std.proofs.lemmas.Bool.{cases_Bool, cases_eq, or_cases, or_left, true≢false}
+use Rattle.std.proofs.lemmas.Bool.{cases_Bool, cases_eq, or_cases, or_left, true≢false, and_parts, or_parts}
 use Rattle.std.proofs.lemmas.Bool.Decides.{nat_tests}
 use Rattle.std.proofs.lemmas.List.{get_or_append_left, get_or-append_right, get_or_past}
+use Rattle.std.proofs.lemmas.Option.{none-some, same_Some}
 use Rattle.fd_language.specs.declared.TheConstants.{INFINITY}
 use Rattle.fd_language.specs.Family.{has, universe}
 use Rattle.fd_language.specs.Term.{Term, Var, Int, Substitution}
@@ -22,12 +23,6 @@ use Rattle.machine_frames.proofs.Lemmas.{linked_none, linked_next}
 use Rattle.branch_state.specs.declared.look.Look.{Look}
 use Rattle.branch_state.specs.declared.look.Look.TheVariants.{Open, Linked, Number, Symbol}
 use Rattle.branch_state.specs.Naming.{LooksAs, integers, or_zero, linked_to, variable_of, values, Apart, IsNaming, NameStep, OwnLinks}
-
-some_same : (k j : ℕ) → Some k ≡ Some j → k ≡ j
-some_same k j e = cc
-
-none_some : (k : ℕ) → None ≡ Some k → ⊥
-none_some k e = cc
 
 -- ---- sets of a longer list
 
@@ -61,10 +56,6 @@ integers_more s (x ∷ xs) y = by_test (is_integer (s x)) (integers_more s xs y)
   by_test : (b : Bool) → integers s (xs ++ y ∷ []) ≡ integers s xs ++ cond (is_integer (s y)) (y ∷ []) [] → cond b (x ∷ integers s (xs ++ y ∷ [])) (integers s (xs ++ y ∷ [])) ≡ cond b (x ∷ integers s xs) (integers s xs) ++ cond (is_integer (s y)) (y ∷ []) []
   by_test true e = ap (λ l. x ∷ l) e
   by_test false e = e
-
-and_parts : (a b : Bool) → (a && b) ≡ true → (a ≡ true) × (b ≡ true)
-and_parts true b h = (refl, h)
-and_parts false b h = absurd (true≢false (sym h))
 
 pub integer_there : (s : Substitution) (xs : List ℕ) (y : ℕ) → has (integers s xs) y ≡ true → (has xs y ≡ true) × (is_integer (s y) ≡ true)
 integer_there s xs y h = and_parts (has xs y) (is_integer (s y)) (sym (has_kept (λ z. is_integer (s z)) xs y) ∙ h)
@@ -103,16 +94,12 @@ values_more s [] (x ∷ ys) k y l = absurd (omega (arith, l))
 values_more s (j ∷ ks) [] k y l = absurd (omega (arith, l))
 values_more s (j ∷ ks) (x ∷ ys) k y l = ap (λ (ts : List Touch). Value j (integer_of (s x)) ∷ ts) (values_more s ks ys k y (omega (arith, l)))
 
-or_none : (a b : Bool) → (a || b) ≡ false → (a ≡ false) × (b ≡ false)
-or_none true b h = absurd (true≢false h)
-or_none false b h = (refl, h)
-
 apart_more : (ks : List ℕ) (k : ℕ) → Apart ks → has ks k ≡ false → Apart (ks ++ k ∷ [])
 apart_more [] k a h = (refl, tt)
-apart_more (j ∷ ks) k a h = (not_in a.0, apart_more ks k a.1 (or_none (j == k) (has ks k) h).1) where
+apart_more (j ∷ ks) k a h = (not_in a.0, apart_more ks k a.1 (or_parts (j == k) (has ks k) h).1) where
   not_in : has ks j ≡ false → has (ks ++ k ∷ []) j ≡ false
   not_in out = elim (cases_Bool (has (ks ++ k ∷ []) j)) [
-    | inl i ↦ absurd (elim (has_last ks k j i) [ inl m ↦ true≢false (sym m ∙ out) | inr m ↦ true≢false (sym (eq-eqb j k m) ∙ (or_none (j == k) (has ks k) h).0) ])
+    | inl i ↦ absurd (elim (has_last ks k j i) [ inl m ↦ true≢false (sym m ∙ out) | inr m ↦ true≢false (sym (eq-eqb j k m) ∙ (or_parts (j == k) (has ks k) h).0) ])
     | inr i ↦ i
   ]
 
@@ -233,10 +220,10 @@ module _ (s : Substitution) (n : ℕ) (h : Cells) (sets : List (List ℕ)) (xs :
       else c i = ap link_of (slot_elsewhere now d c (linked K) i)
 
       keep : (c k : ℕ) → link_in now c ≡ Some k → link_in next c ≡ Some k
-      keep c k e = elim (cases_eq c d) [ inl i ↦ absurd (none_some k (sym (ap link_of (ap (slot_at now) i ∙ open_now)) ∙ e)) | inr i ↦ else c i ∙ e ]
+      keep c k e = elim (cases_eq c d) [ inl i ↦ absurd (none-some k (sym (ap link_of (ap (slot_at now) i ∙ open_now)) ∙ e)) | inr i ↦ else c i ∙ e ]
 
       back : (c k : ℕ) → link_in next c ≡ Some k → (link_in now c ≡ Some k) ⊎ ((c ≡ d) × (k ≡ K))
-      back c k e = elim (cases_eq c d) [ inl i ↦ inr (i, some_same k K (sym e ∙ ap (link_in next) i ∙ here)) | inr i ↦ inl (sym (else c i) ∙ e) ]
+      back c k e = elim (cases_eq c d) [ inl i ↦ inr (i, same_Some k K (sym e ∙ ap (link_in next) i ∙ here)) | inr i ↦ inl (sym (else c i) ∙ e) ]
 
       wide : length (S ++ U ∷ []) ≡ suc K
       wide = length-append S (U ∷ []) ∙ (let a : K + 1 ≡ suc K = omega arith in a)
@@ -344,7 +331,7 @@ still_valued h sets now S more links listed same d = by_old (link_in h d) refl w
   by_new : (o : Option ℕ) → link_in h d ≡ None → link_in now d ≡ o → value_at o (family_of S) d ≡ Var d
   by_new None e f = refl
   by_new (Some k) e f = elim (links.new d k f) [
-    | inl a ↦ absurd (none_some k (sym e ∙ a))
+    | inl a ↦ absurd (none-some k (sym e ∙ a))
     | inr a ↦ ap (λ xs. value_in xs d) (same k) ∙ new_value sets k d (listed d k a)
   ]
 

@@ -1,5 +1,6 @@
 -- A goal's range is made ready slot by slot.
 use Rattle.std.proofs.Common.{◌≡◌, ℕ, zero, suc, ◌<◌, ◌≤◌, true, false, List, [], ◌∷◌, ◌++◌, length, take, get_or, map, Option, None, refl, ap, arith}
+use Rattle.std.proofs.lemmas.List.{length-map, take_all}
 use Rattle.fd_language.specs.declared.range_node.Need.{Need}
 use Rattle.fd_language.specs.Family.{has}
 use Rattle.fd_language.specs.Term.{Substitution}
@@ -47,13 +48,3 @@ pub take_next : {X : Type 0} (xs : List X) (i : ℕ) (d : X) → i < length xs �
 take_next [] i d l = absurd (omega (arith, l))
 take_next (x ∷ xs) zero d l = refl
 take_next (x ∷ xs) (suc i) d l = ap (λ ys. x ∷ ys) (take_next xs i d (omega (arith, l)))
-
-pub map_length : {X Y : Type 0} (f : X → Y) (xs : List X) → length (map f xs) ≡ length xs
-map_length f [] = refl
-map_length f (x ∷ xs) = ap suc (map_length f xs)
-
-pub take_all : {X : Type 0} (xs : List X) (i : ℕ) → length xs ≤ i → take i xs ≡ xs
-take_all [] zero l = refl
-take_all [] (suc i) l = refl
-take_all (x ∷ xs) zero l = absurd (omega (arith, l))
-take_all (x ∷ xs) (suc i) l = ap (λ ys. x ∷ ys) (take_all xs i (omega (arith, l)))

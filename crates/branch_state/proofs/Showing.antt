@@ -3,7 +3,7 @@ use Rattle.std.proofs.Common.{◌≡◌, ℕ, zero, suc, ◌+◌, ◌<◌, ◌�
 use Rattle.std.specs.Prelude.{All}
 use Rattle.std.specs.List.{list_any}
 use Rattle.std.proofs.lemmas.Bool.{true≢false}
-use Rattle.std.proofs.lemmas.List.{reverse-append}
+use Rattle.std.proofs.lemmas.List.{reverse-append, map_push, reverse-reverse, take_all}
 use Rattle.std.proofs.lemmas.List.Elements.{All-append}
 use Rattle.fd_language.specs.Family.{has}
 use Rattle.fd_language.specs.Needs.{once}
@@ -67,10 +67,6 @@ map_kept : (p q : Contents) (ts : List TermId) → KeepsTerms p q → All (Own p
 map_kept p q [] k a = refl
 map_kept p q (t ∷ ts) k a = ap (λ (u : Term). u ∷ map (pool.term_of q) ts) (k t (head_of (Own p) t ts a)) ∙ ap (λ (l : List Term). pool.term_of p t ∷ l) (map_kept p q ts k (tail_of (Own p) t ts a))
 
-map_append : {X Y : Type 0} (f : X → Y) (xs : List X) (x : X) → map f (xs ++ x ∷ []) ≡ map f xs ++ f x ∷ []
-map_append f [] x = refl
-map_append f (y ∷ xs) x = ap (λ l. f y ∷ l) (map_append f xs x)
-
 take_next : {X : Type 0} (xs : List X) (i : ℕ) (d : X) → i < length xs → take (suc i) xs ≡ take i xs ++ get_or xs i d ∷ []
 take_next [] i d l = absurd (omega (arith, l))
 take_next (x ∷ xs) zero d l = refl
@@ -83,8 +79,8 @@ pub read_more : (f : Cell → Term) (cs : List Cell) (i : ℕ) (d : Cell) → i 
     → All (Own q) new × (map (pool.term_of q) new ≡ map f (take (i + 1) cs))
 read_more f cs i d l p q ts new t k x own e o is n = (
   subst (All (Own q)) (sym n) (All-append (Own q) ts (t ∷ []) (λ j u m. wider p q x (get_or ts j u) (own j u m)) (both_of (Own q) t [] o (none_at_all (Own q)))),
-  ap (map (pool.term_of q)) n ∙ map_append (pool.term_of q) ts t ∙ ap (λ (l : List Term). l ++ pool.term_of q t ∷ []) (map_kept p q ts k own ∙ e) ∙ ap (λ (u : Term). map f (take i cs) ++ u ∷ []) is
-      ∙ sym (ap (map f) (ap (λ m. take m cs) (let g : i + 1 ≡ suc i = omega arith in g) ∙ take_next cs i d l) ∙ map_append f (take i cs) (get_or cs i d)),
+  ap (map (pool.term_of q)) n ∙ map_push (pool.term_of q) ts t ∙ ap (λ (l : List Term). l ++ pool.term_of q t ∷ []) (map_kept p q ts k own ∙ e) ∙ ap (λ (u : Term). map f (take i cs) ++ u ∷ []) is
+      ∙ sym (ap (map f) (ap (λ m. take m cs) (let g : i + 1 ≡ suc i = omega arith in g) ∙ take_next cs i d l) ∙ map_push f (take i cs) (get_or cs i d)),
 )
 
 -- ---- the variables of terms
@@ -102,12 +98,8 @@ pub record IsFinding (p : Contents) (all : List ℕ) (found : List ℕ) (ahead :
   pub own : All (Own p) ahead
   pub rest : all ≡ found ++ variables_at p (reverse ahead)
 
-twice : {X : Type 0} (xs : List X) → reverse (reverse xs) ≡ xs
-twice [] = refl
-twice (x ∷ xs) = ap reverse (reverse-append (x ∷ []) xs) ∙ reverse-append (reverse xs) (x ∷ []) ∙ ap (λ l. x ∷ l) (twice xs)
-
 pub finding_first : (p : Contents) (ts ahead : List TermId) → All (Own p) ts → ahead ≡ reverse ts → IsFinding p (variables_at p ts) [] ahead
-finding_first p ts ahead a e = subst (IsFinding p (variables_at p ts) []) (sym e) (record { own = all_reverse (Own p) ts a; rest = ap (variables_at p) (sym (twice ts)) })
+finding_first p ts ahead a e = subst (IsFinding p (variables_at p ts) []) (sym e) (record { own = all_reverse (Own p) ts a; rest = ap (variables_at p) (sym (reverse-reverse ts)) })
 
 module _ (p : Contents) (all found : List ℕ) (ahead rest : List TermId) (t : TermId) (split : ahead ≡ rest ++ t ∷ []) (w : IsFinding p all found ahead) where
   pub next_own : Own p t
@@ -129,7 +121,7 @@ module _ (p : Contents) (all found : List ℕ) (ahead rest : List TermId) (t : T
   finding_parts f parts now is low e = subst (IsFinding p all found) (sym e) (record {
     own = All-append (Own p) rest (reverse parts) rest_own (all_reverse (Own p) parts (λ k d l. (let a : (get_or parts k d).number < t.number = low k d l in let b = next_own in omega (arith, a, b))));
     rest = turned ∙ ap (λ u. found ++ (variables_of u ++ variables_at p (reverse rest))) is ∙ ap (λ (u : Terms). found ++ (variables_of_all u ++ variables_at p (reverse rest))) (sym (terms_same (pool.term_of p) parts))
-        ∙ ap (λ l. found ++ l) (sym (at_append p parts (reverse rest))) ∙ ap (λ l. found ++ variables_at p l) (sym (reverse-append rest (reverse parts) ∙ ap (λ l. l ++ reverse rest) (twice parts)));
+        ∙ ap (λ l. found ++ l) (sym (at_append p parts (reverse rest))) ∙ ap (λ l. found ++ variables_at p l) (sym (reverse-append rest (reverse parts) ∙ ap (λ l. l ++ reverse rest) (reverse-reverse parts)));
   })
 
   pub finding_leaf : (y : Node) → pool.term_of p t ≡ pool.shape_term p (shape_of y) → ((x : ℕ) → y ≡ node.Var x → ⊥) → ((f : _) (ts : _) → y ≡ node.Comp f ts → ⊥) → IsFinding p all found rest
@@ -197,9 +189,3 @@ set_before set x ps b t = ap (λ c. cond c (ps ++ with_set x (set x) []) ps) (sy
 pub none_there : {X : Type 0} (o : Option X) (s : Option (List ℕ)) (f : X → List ℕ) → MatchOption o (s ≡ None) (λ d. s ≡ Some (f d)) → ((d : X) → o ≡ Some d → ⊥) → s ≡ None
 none_there None s f m n = m
 none_there (Some d) s f m n = absurd (n d refl)
-
-pub take_all : {X : Type 0} (xs : List X) (i : ℕ) → length xs ≤ i → take i xs ≡ xs
-take_all [] zero l = refl
-take_all [] (suc i) l = refl
-take_all (x ∷ xs) zero l = absurd (omega (arith, l))
-take_all (x ∷ xs) (suc i) l = ap (λ ys. x ∷ ys) (take_all xs i (omega (arith, l)))

@@ -4,6 +4,7 @@ use Rattle.std.specs.Prelude.{All, Result, Ok, Err, OnOk}
 use Rattle.std.proofs.lemmas.Bool.{true≢false}
 use Rattle.std.proofs.lemmas.List.{get_or_past}
 use Rattle.std.proofs.lemmas.List.Elements.{All-append}
+use Rattle.std.proofs.lemmas.Option.{none-some}
 use Rattle.fd_language.specs.Family.{has}
 use Rattle.fd_model.specs.Closed.{constrained}
 use Rattle.fd_model.specs.Levels.{Level, Levels}
@@ -27,11 +28,8 @@ use Rattle.branch_state.specs.Steps.{IsTouchBelow, AreTouchesBelow, posted_with}
 use Rattle.branch_state.proofs.Settled.{settled}
 use Rattle.branch_state.proofs.Touches.{posted_low}
 
-none_some : {X : Type 0} (k : X) → None ≡ Some k → ⊥
-none_some k e = cc
-
 no_links : (c k : ℕ) → link_in no_cells c ≡ Some k → ⊥
-no_links c k e = none_some k (sym (ap link_of (slot_behind no_cells c (omega arith))) ∙ e)
+no_links c k e = none-some k (sym (ap link_of (slot_behind no_cells c (omega arith))) ∙ e)
 
 no_atoms : (n : ℕ) → HasAtomsBelow n no_cells
 no_atoms n = record {

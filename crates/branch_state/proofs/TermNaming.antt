@@ -3,6 +3,7 @@ use Rattle.std.proofs.Common.{◌≡◌, ℕ, suc, ◌+◌, ◌<◌, ◌≢◌, 
 use Rattle.std.specs.Ordering.{int_eq}
 use Rattle.std.proofs.lemmas.Bool.{cases_Bool, cases_eq, true≢false}
 use Rattle.std.proofs.lemmas.Bool.Decides.{Decides-int_eq}
+use Rattle.std.proofs.lemmas.Option.{none-some, same_Some}
 use Rattle.fd_language.specs.declared.TheConstants.{INFINITY}
 use Rattle.fd_language.specs.Family.{universe}
 use Rattle.fd_language.specs.Term.{Term, Var, Int, Atom, Comp, apply}
@@ -21,12 +22,6 @@ use Rattle.branch_state.specs.declared.look.Look.TheVariants.{Open, Linked, Numb
 use Rattle.branch_state.specs.CellNaming.{shown_as, slot_in, AreTold, IsTold, IsTermNaming, IsPut, TermStep}
 use Rattle.branch_state.specs.Naming.{LooksAs, offence, or_zero, OwnLinks}
 use Rattle.branch_state.proofs.Named.{family_more, still_valued}
-
-some_same : (k j : ℕ) → Some k ≡ Some j → k ≡ j
-some_same k j e = cc
-
-none_some : (k : ℕ) → None ≡ Some k → ⊥
-none_some k e = cc
 
 var_same : (a b : ℕ) → Var a ≡ Var b → a ≡ b
 var_same a b e = cc
@@ -75,10 +70,10 @@ terms_start h sets of none o = record {
   plain = λ u e. absurd e;
   named = λ c e. absurd e;
   numbered = λ z e. absurd e;
-  fresh = λ z k e. absurd (none_some k (sym (none z) ∙ e));
-  apart = λ z w k e f. absurd (none_some k (sym (none z) ∙ e));
+  fresh = λ z k e. absurd (none-some k (sym (none z) ∙ e));
+  apart = λ z w k e f. absurd (none-some k (sym (none z) ∙ e));
   told = tt;
-  all = λ z k e. absurd (none_some k (sym (none z) ∙ e));
+  all = λ z k e. absurd (none-some k (sym (none z) ∙ e));
 }
 
 -- the same terms in other words
@@ -163,10 +158,10 @@ module _ (h : Cells) (sets : List (List ℕ)) (N : Term → Type 0) (now : Cells
     else c i = ap link_of (slot_elsewhere now d c (linked K) i)
 
     keep : (c k : ℕ) → link_in now c ≡ Some k → link_in next c ≡ Some k
-    keep c k e = elim (cases_eq c d) [ inl i ↦ absurd (none_some k (sym (ap link_of (ap (slot_at now) i ∙ open_now)) ∙ e)) | inr i ↦ else c i ∙ e ]
+    keep c k e = elim (cases_eq c d) [ inl i ↦ absurd (none-some k (sym (ap link_of (ap (slot_at now) i ∙ open_now)) ∙ e)) | inr i ↦ else c i ∙ e ]
 
     back : (c k : ℕ) → link_in next c ≡ Some k → (link_in now c ≡ Some k) ⊎ ((c ≡ d) × (k ≡ K))
-    back c k e = elim (cases_eq c d) [ inl i ↦ inr (i, some_same k K (sym e ∙ ap (link_in next) i ∙ here)) | inr i ↦ inl (sym (else c i) ∙ e) ]
+    back c k e = elim (cases_eq c d) [ inl i ↦ inr (i, same_Some k K (sym e ∙ ap (link_in next) i ∙ here)) | inr i ↦ inl (sym (else c i) ∙ e) ]
 
     linked_now : IsNextTerm next (S ++ U ∷ []) fs of K
     linked_now = record {
@@ -230,10 +225,10 @@ module _ (h : Cells) (sets : List (List ℕ)) (N : Term → Type 0) (now : Cells
     J = length S
 
     keeps : (y : ℤ) (k : ℕ) → of y ≡ Some k → of' y ≡ Some k
-    keeps y k e = put.1 y (λ i. none_some k (sym none ∙ ap of (sym i) ∙ e)) ∙ e
+    keeps y k e = put.1 y (λ i. none-some k (sym none ∙ ap of (sym i) ∙ e)) ∙ e
 
     was : (y : ℤ) (k : ℕ) → of' y ≡ Some k → (of y ≡ Some k) ⊎ ((y ≡ z) × (k ≡ J))
-    was y k e = elim (int_cases y z) [ inl i ↦ inr (i, some_same k J (sym e ∙ ap of' i ∙ put.0)) | inr i ↦ inl (sym (put.1 y i) ∙ e) ]
+    was y k e = elim (int_cases y z) [ inl i ↦ inr (i, same_Some k J (sym e ∙ ap of' i ∙ put.0)) | inr i ↦ inl (sym (put.1 y i) ∙ e) ]
 
     old : (y : ℤ) (k : ℕ) → of y ≡ Some k → k < J
     old y k e = (w.fresh y k e).2

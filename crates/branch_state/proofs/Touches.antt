@@ -2,9 +2,9 @@
 use Rattle.std.proofs.Common.{◌≡◌, ℕ, zero, suc, ◌+◌, ◌<◌, ◌≤◌, Bool, true, false, ◌==◌, ◌&&◌, ◌||◌, ℤ, pos, List, [], ◌∷◌, ◌++◌, length, map, take, get_or, IsTrue, refl, ap, sym, ◌∙◌, subst, inl, inr, arith, eqb-true}
 use Rattle.std.specs.Prelude.{All}
 use Rattle.std.specs.List.{list_all}
-use Rattle.std.proofs.lemmas.Bool.{or_cases, or_right, true≢false}
+use Rattle.std.proofs.lemmas.Bool.{or_cases, or_right, true≢false, and_parts}
 use Rattle.std.proofs.lemmas.Bool.Decides.{nat_tests}
-use Rattle.std.proofs.lemmas.List.{append-nil, append_assoc}
+use Rattle.std.proofs.lemmas.List.{append-nil, append_assoc, take_more}
 use Rattle.std.proofs.lemmas.List.Elements.{All-cons, All-nil}
 use Rattle.fd_language.specs.declared.TheConstants.{INFINITY}
 use Rattle.fd_language.specs.declared.range_node.Need.TheVariants.{Whole, Natural}
@@ -62,21 +62,17 @@ all_instances count [] ps e a = All-nil (IsInstance count)
 all_instances count (i ∷ is) [] e a = absurd (cc)
 all_instances count (i ∷ is) (p ∷ ps) e a = All-cons (IsInstance count) i is (subst (IsPosting count) (sym (cons_head (posting i) p (map posting is) ps e)) a.0) (all_instances count is ps (cons_tail (posting i) p (map posting is) ps e) a.1)
 
-both_true : (a b : Bool) → (a && b) ≡ true → (a ≡ true) × (b ≡ true)
-both_true true b e = (refl, e)
-both_true false b e = absurd (true≢false (sym e))
-
 natural_whole : (z : ℤ) → meets Natural z ≡ true → IsTrue (meets Whole z)
-natural_whole z e = (both_true _ _ e).0
+natural_whole z e = (and_parts _ _ e).0
 
 each_fits : (count : ℕ) (ts : List Touch) → AreTouchesBelow count ts → list_all is_natural ts ≡ true → EachPosting count (postings ts)
 each_fits count [] low natural = tt
 each_fits count (Value k z ∷ ts) low natural =
-    let both = both_true (is_natural (Value k z)) (list_all is_natural ts) natural in
+    let both = and_parts (is_natural (Value k z)) (list_all is_natural ts) natural in
     ((head_of (IsTouchBelow count) (Value k z) ts low, (natural_whole z both.0, tt)), each_fits count ts (tail_of (IsTouchBelow count) (Value k z) ts low) both.1)
 each_fits count (Same k j ∷ ts) low natural =
     let here = head_of (IsTouchBelow count) (Same k j) ts low in
-    ((here.0, (here.1, tt)), ((here.1, (here.0, tt)), each_fits count ts (tail_of (IsTouchBelow count) (Same k j) ts low) (both_true true (list_all is_natural ts) natural).1))
+    ((here.0, (here.1, tt)), ((here.1, (here.0, tt)), each_fits count ts (tail_of (IsTouchBelow count) (Same k j) ts low) (and_parts true (list_all is_natural ts) natural).1))
 
 pub touches_fit : (count : ℕ) (is : List Instance) (ts : List Touch) → map posting is ≡ postings ts → AreTouchesBelow count ts → list_all is_natural ts ≡ true → All (IsInstance count) is
 touches_fit count is ts e low natural = all_instances count is (postings ts) e (each_fits count ts low natural)
@@ -137,15 +133,8 @@ postings_more : (ts : List Touch) (t : Touch) → postings (ts ++ t ∷ []) ≡ 
 postings_more [] t = append-nil (touch_postings t)
 postings_more (u ∷ ts) t = ap (λ l. touch_postings u ++ l) (postings_more ts t) ∙ sym (append_assoc (touch_postings u) (postings ts) (touch_postings t))
 
-take_next : (xs : List Touch) (i : ℕ) (d : Touch) → i < length xs → take (i + 1) xs ≡ take i xs ++ get_or xs i d ∷ []
-take_next xs i d l = ap (λ n. take n xs) (let e : i + 1 ≡ suc i = omega arith in e) ∙ by_suc xs i l where
-  by_suc : (xs : List Touch) (i : ℕ) → i < length xs → take (suc i) xs ≡ take i xs ++ get_or xs i d ∷ []
-  by_suc [] i l = absurd (omega (arith, l))
-  by_suc (x ∷ xs) zero l = refl
-  by_suc (x ∷ xs) (suc i) l = ap (λ ys. x ∷ ys) (by_suc xs i (omega (arith, l)))
-
 pub postings_next : (ts : List Touch) (i : ℕ) (d : Touch) → i < length ts → postings (take i ts) ++ touch_postings (get_or ts i d) ≡ postings (take (i + 1) ts)
-postings_next ts i d l = sym (ap postings (take_next ts i d l) ∙ postings_more (take i ts) (get_or ts i d))
+postings_next ts i d l = sym (ap postings (take_more ts i d l) ∙ postings_more (take i ts) (get_or ts i d))
 
 pub postings_step : (first is new : List Instance) (ts : List Touch) (i : ℕ) (d : Touch) → i < length ts → map posting is ≡ map posting first ++ postings (take i ts) → map posting new ≡ map posting is ++ touch_postings (get_or ts i d) → map posting new ≡ map posting first ++ postings (take (i + 1) ts)
 postings_step first is new ts i d l e f =

@@ -1,7 +1,7 @@
 -- A comparison of two terms, pair by pair.
 use Rattle.std.proofs.Common.{◌≡◌, ℕ, zero, suc, ◌+◌, ◌<◌, ◌≤◌, Bool, true, false, not, ◌==◌, refl, ap, sym, ◌∙◌, subst, arith, List, [], ◌∷◌, ◌++◌, length, get_or, drop, Bor, eqb-true, eq-eqb, append_assoc, append-nil}
 use Rattle.std.specs.Prelude.{All, reverse}
-use Rattle.std.proofs.lemmas.Bool.{false≢true}
+use Rattle.std.proofs.lemmas.Bool.{false≢true, not-false}
 use Rattle.std.proofs.lemmas.List.{reverse-append, reverse-reverse}
 use Rattle.std.proofs.lemmas.List.Elements.{All-append}
 use Rattle.term_pool.specs.declared.AtomId.{AtomId}
@@ -26,11 +26,7 @@ same_seen h sets c d s name = ap (read_term h (family_of sets)) (s name)
 
 -- whether two atoms are one, as a comparison of them tells
 pub atom_same : (f g : AtomId) (b : Bool) → b ≡ not (f.number == g.number) → b ≡ false → f ≡ g
-atom_same f g b e n = let q : f.number ≡ g.number = eqb-true f.number g.number (not_false (f.number == g.number) (sym e ∙ n)) in ap (λ k. let a : AtomId = record { number = k } in a) q
-  where
-    not_false : (c : Bool) → not c ≡ false → c ≡ true
-    not_false true h = refl
-    not_false false h = sym h
+atom_same f g b e n = let q : f.number ≡ g.number = eqb-true f.number g.number (not-false (f.number == g.number) (sym e ∙ n)) in ap (λ k. let a : AtomId = record { number = k } in a) q
 
 pub atom_other : (f g : AtomId) (b : Bool) → b ≡ not (f.number == g.number) → b ≡ true → f ≡ g → ⊥
 atom_other f g b e t q = let s : (f.number == g.number) ≡ true = eq-eqb f.number g.number (ap (λ (a : AtomId). a.number) q) in false≢true (sym (ap not s) ∙ sym e ∙ t)

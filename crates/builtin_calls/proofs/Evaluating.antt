@@ -2,6 +2,7 @@
 use Rattle.std.proofs.Common.{◌≡◌, ℕ, ◌+◌, ◌<◌, ◌≤◌, ℤ, Bool, true, false, not, cond, refl, ap, sym, ◌∙◌, subst, arith, inl, inr, List, [], ◌∷◌, ◌++◌, length, get_or, Some, None, Bor}
 use Rattle.std.specs.Prelude.{All, Result, Ok, Err, codes}
 use Rattle.std.specs.Str.{bytes_eq}
+use Rattle.std.proofs.lemmas.Bool.{not-true}
 use Rattle.term_pool.specs.declared.AtomId.{AtomId}
 use Rattle.term_pool.specs.Contents.{name_in}
 use Rattle.term_pool.specs.Terms.{size}
@@ -261,14 +262,10 @@ one_of (x ∷ y ∷ ys) a b = absurd (omega arith)
 pub operation_at : (text bytes : Name) (o : Operation) → bytes ≡ text → 1 ≤ length bytes → length bytes < 2 → operation_of (get_or bytes 0 0 ∷ []) ≡ Some o → operation_of text ≡ Some o
 operation_at text bytes o e a b m = ap operation_of (sym e ∙ one_of bytes a b) ∙ m
 
-not_so : (b : Bool) → not b ≡ true → b ≡ false
-not_so true e = sym e
-not_so false e = refl
-
 -- a compound term with one argument and another name is no operation
 pub no_opposite : (f : Name) (args : List Cell) → 1 ≤ length args → length args < 2 → not (bytes_eq f (codes "-")) ≡ true → (by : Cell → Term) → value_of (Comp f (terms_by by args)) ≡ Err not_a_number
 no_opposite f [] a b e by = absurd (omega arith)
-no_opposite f (c ∷ []) a b e by = ap (λ x. cond x (of_one opposite_of (value_of (by c))) (Err not_a_number)) (not_so (bytes_eq f (codes "-")) e)
+no_opposite f (c ∷ []) a b e by = ap (λ x. cond x (of_one opposite_of (value_of (by c))) (Err not_a_number)) (not-true (bytes_eq f (codes "-")) e)
 no_opposite f (c ∷ d ∷ cs) a b e by = absurd (omega arith)
 
 -- nor is one with three or more

@@ -1,11 +1,9 @@
 -- One piece after another: what several calls of a source or of a sink come to.
 use Rattle.std.proofs.Common.{◌≡◌, ℕ, ◌+◌, ◌-◌, ◌<◌, ◌≤◌, List, [], ◌∷◌, ◌++◌, Option, Some, None, refl, sym, ap, ◌∙◌, subst, append_assoc, append-nil, arith, take, drop, length, take_all, length-drop, length-append, length-take-le, take-add, take-append-drop}
-use Rattle.std.proofs.lemmas.List.{take-append-le, drop-drop}
+use Rattle.std.proofs.lemmas.List.{take-append-le, drop-drop, take_rest}
+use Rattle.std.proofs.lemmas.Option.{same_Some}
 use Rattle.byte_ports.specs.Ports.{Took, ReadJust, ReadWithin, Put, PutPart, Rose}
 use Rattle.byte_ports.specs.Ends.{SinkState, WroteAll, WroteFront, WrotePart}
-
-some_same : (x y : List ℕ) → Some x ≡ Some y → x ≡ y
-some_same x y e = cc
 
 -- A source.
 
@@ -65,7 +63,7 @@ put_ends x y y' z p q e f g = let h : z ≡ (x ++ p) ++ q = cc in h ∙ append_a
 pub put_more : (a b c : Option (List ℕ)) (p q : List ℕ) → Put a b p → Put b c q → Put a c (p ++ q)
 put_more a b None p q h g = tt
 put_more a None (Some z) p q h g = absurd (cc (g.1))
-put_more a (Some y) (Some z) p q h g = (h.0, h.1, put_ends h.0 y g.0 z p q h.2 (some_same y g.0 g.1) g.2)
+put_more a (Some y) (Some z) p q h g = (h.0, h.1, put_ends h.0 y g.0 z p q h.2 (same_Some y g.0 g.1) g.2)
 
 -- no bytes are a front of each piece
 pub part_none : (a b : Option (List ℕ)) (p : List ℕ) → Put a b [] → PutPart a b p
@@ -85,13 +83,10 @@ part_more a b c p q h g =
 pub part_of_more : (a b : Option (List ℕ)) (p q : List ℕ) → Put a b p → PutPart a b (p ++ q)
 part_of_more a b p q h = (p, q, refl, h)
 
-rest_is : (d : ℕ) (p : List ℕ) → take (length p - d) (drop d p) ≡ drop d p
-rest_is d p = take_all (length p - d) (drop d p) (omega (arith, length-drop d p))
-
 -- d bytes of a piece and then n of its rest are its first d + n
 pub put_rest : (a b c : Option (List ℕ)) (d n : ℕ) (p : List ℕ) → Put a b (take d p) → Put b c (take n (take (length p - d) (drop d p))) → Put a c (take (d + n) p)
 put_rest a b c d n p h g =
-    subst (Put a c) (sym (take-add d n p)) (put_more a b c (take d p) (take n (drop d p)) h (subst (λ q. Put b c (take n q)) (rest_is d p) g))
+    subst (Put a c) (sym (take-add d n p)) (put_more a b c (take d p) (take n (drop d p)) h (subst (λ q. Put b c (take n q)) (take_rest p d) g))
 
 -- d bytes of a piece and then none are a front of it
 pub put_stop : (a b c : Option (List ℕ)) (d : ℕ) (p : List ℕ) → Put a b (take d p) → Put b c [] → PutPart a c p

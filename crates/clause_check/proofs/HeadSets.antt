@@ -7,6 +7,7 @@ use Rattle.std.proofs.lemmas.Bool.{and_parts}
 use Rattle.std.proofs.lemmas.Bool.Decides.{eqb_tells, nat_tests}
 use Rattle.std.proofs.lemmas.Slice.Eq.{bytes_eq-Decides}
 use Rattle.std.proofs.lemmas.List.Folds.{list_any-append}
+use Rattle.std.proofs.Math.Bool.{or-false}
 use Rattle.fd_language.specs.PlacedTerm.{PlacedTerm}
 use Rattle.fd_model.specs.Refusals as refusals
 use Rattle.fd_model.specs.Refusals.{is_that, is_defined, head_in, form_of}
@@ -41,21 +42,17 @@ equal f g e =
     let arities : f.arity ≡ g.arity = (let t = (and_parts (f.name.number == g.name.number) (f.arity == g.arity) e).1 in grind (arith, nat_tests)) in
     ap (λ (a : AtomId). let made : Functor = record { name = a; arity = f.arity } in made) (same_id f.name g.name names) ∙ ap (λ (n : ℕ). let made : Functor = record { name = g.name; arity = n } in made) arities
 
-or_none : (b : Bool) → (b || false) ≡ b
-or_none true = refl
-or_none false = refl
-
 -- what is among them when one more is put to them
 any_insert : (heads : List Functor) (f g : Functor) → list_any (same_functor f) (insert_key same_functor heads g) ≡ (list_any (same_functor f) heads || same_functor f g)
 any_insert heads f g = pick (list_any (same_functor g) heads) refl
   where
     among : list_any (same_functor g) heads ≡ true → (b : Bool) → same_functor f g ≡ b → list_any (same_functor f) heads ≡ (list_any (same_functor f) heads || b)
     among h true e = let t : list_any (same_functor f) heads ≡ true = ap (λ (x : Functor). list_any (same_functor x) heads) (equal f g e) ∙ h in t ∙ sym (ap (λ (b : Bool). b || true) t)
-    among h false e = sym (or_none (list_any (same_functor f) heads))
+    among h false e = sym (or-false (list_any (same_functor f) heads))
 
     pick : (b : Bool) → list_any (same_functor g) heads ≡ b → list_any (same_functor f) (cond b heads (heads ++ g ∷ [])) ≡ (list_any (same_functor f) heads || same_functor f g)
     pick true e = among e (same_functor f g) refl
-    pick false e = list_any-append (same_functor f) heads (g ∷ []) ∙ ap (λ (b : Bool). list_any (same_functor f) heads || b) (or_none (same_functor f g))
+    pick false e = list_any-append (same_functor f) heads (g ∷ []) ∙ ap (λ (b : Bool). list_any (same_functor f) heads || b) (or-false (same_functor f g))
 
 -- one sentence more
 module _ (c : Contents) (terms : List PlacedTerm) (heads : List Functor) (x : PlacedTerm) (h : AreHeadsOf c terms heads) where
@@ -63,11 +60,11 @@ module _ (c : Contents) (terms : List PlacedTerm) (heads : List Functor) (x : Pl
   head = head_in (form_of x)
 
   defined_more : (f : refusals.Functor) → is_defined (terms ++ x ∷ []) f ≡ (is_defined terms f || is_that f head)
-  defined_more f = list_any-append (λ t. is_that f (head_in (form_of t))) terms (x ∷ []) ∙ ap (λ (b : Bool). is_defined terms f || b) (or_none (is_that f head))
+  defined_more f = list_any-append (λ t. is_that f (head_in (form_of t))) terms (x ∷ []) ∙ ap (λ (b : Bool). is_defined terms f || b) (or-false (is_that f head))
 
   -- that has no head
   pub heads_same : IsFunctor c head None → AreHeadsOf c (terms ++ x ∷ []) heads
-  heads_same e f l = h f l ∙ sym (defined_more (functor_in c f) ∙ ap (λ (o : Option refusals.Functor). is_defined terms (functor_in c f) || is_that (functor_in c f) o) e ∙ or_none (is_defined terms (functor_in c f)))
+  heads_same e f l = h f l ∙ sym (defined_more (functor_in c f) ∙ ap (λ (o : Option refusals.Functor). is_defined terms (functor_in c f) || is_that (functor_in c f) o) e ∙ or-false (is_defined terms (functor_in c f)))
 
   -- whose head has a functor
   pub heads_more : IsPool c → (g : Functor) → IsFunctor c head (Some g) → AreHeadsOf c (terms ++ x ∷ []) (insert_key same_functor heads g)

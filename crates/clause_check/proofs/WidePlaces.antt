@@ -7,6 +7,7 @@ use Rattle.term_pool.specs.declared.TermId.{TermId}
 use Rattle.term_pool.specs.Contents.{Contents}
 use Rattle.term_pool.specs.PlacedTerms.{placed_of, parts_by}
 use Rattle.std.proofs.lemmas.Bool.{lt-ltb, ltb-true}
+use Rattle.std.proofs.Math.Nat.{min_comm}
 use Rattle.term_pool.specs.declared.AtomId.{AtomId}
 use Rattle.term_pool.specs.declared.Node.{Node}
 use Rattle.term_pool.specs.declared.Node.TheVariants as nodes
@@ -26,9 +27,6 @@ lower-none (Some p) = refl
 
 min_assoc : (p q r : ℕ) → min (min p q) r ≡ min p (min q r)
 min_assoc p q r = omega arith
-
-min_comm : (p q : ℕ) → min p q ≡ min q p
-min_comm p q = omega arith
 
 lower-assoc : (a b c : Option ℕ) → lower (lower a b) c ≡ lower a (lower b c)
 lower-assoc None b c = refl

@@ -1,7 +1,7 @@
 -- Which clauses fit a goal of a predicate.
 use Rattle.std.proofs.Common.{◌≡◌, ℕ, zero, suc, ◌+◌, ◌<◌, Bool, true, false, cond, ◌&&◌, ◌==◌, List, [], ◌∷◌, filter, Some, option_map, length, get_or, slice_get, refl, ap, ap₂, sym, ◌∙◌, subst, arith, bytes_eq, All}
 use Rattle.std.specs.List.{range_with_len}
-use Rattle.std.proofs.lemmas.Bool.{true≢false, eqb-true, eq-eqb, and_parts}
+use Rattle.std.proofs.lemmas.Bool.{true≢false, eqb-true, eq-eqb, and_parts, and_right}
 use Rattle.std.proofs.lemmas.Bool.Decides.{nat_tests}
 use Rattle.std.proofs.lemmas.Slice.Eq.{bytes_eq-Decides}
 use Rattle.std.proofs.lemmas.List.FromFn.{get_or-range_with_len, length-range_with_len}
@@ -68,10 +68,6 @@ module _ (c : Contents) (v : IsPool c) where
   same_counts (term t ts) part [] = grind (arith, nat_tests)
   same_counts (term t ts) part (u ∷ us) = same_counts ts part us ∙ grind (arith, nat_tests)
 
-  and_none : (b d : Bool) → d ≡ false → (b && d) ≡ false
-  and_none true d e = e
-  and_none false d e = refl
-
   and_all : (b d : Bool) → d ≡ true → (b && d) ≡ b
   and_all true d e = e
   and_all false d e = refl
@@ -90,8 +86,8 @@ module _ (c : Contents) (v : IsPool c) where
   fits_shape s no_terms h size m (int x) w full = refl
   fits_shape s (term t ts) h size m (int x) w full = refl
   fits_shape s no_terms h size m (atom b) w full = same_names s.name b h w ∙ sym (and_all (s.name.number == b.number) (s.arity == 0) (grind (arith, nat_tests)))
-  fits_shape s (term t ts) h size m (atom b) w full = sym (and_none (s.name.number == b.number) (s.arity == 0) (grind (arith, nat_tests)))
-  fits_shape s no_terms h size m (comp g us) w full = sym (and_none (s.name.number == g.number) (s.arity == length us) (grind (arith, nat_tests)))
+  fits_shape s (term t ts) h size m (atom b) w full = sym (and_right (s.name.number == b.number) (s.arity == 0) (grind (arith, nat_tests)))
+  fits_shape s no_terms h size m (comp g us) w full = sym (and_right (s.name.number == g.number) (s.arity == length us) (grind (arith, nat_tests)))
   fits_shape s (term t ts) h size m (comp g us) w full = ap₂ (λ (x y : Bool). x && y) (same_names s.name g h w.0) (same_counts (term t ts) (term_of c) us ∙ ap (λ n. n == length us) size)
 
   counted : (part : TermId → Term) (us : List TermId) → count (terms_by part us) ≡ length us

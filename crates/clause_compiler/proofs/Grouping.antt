@@ -2,7 +2,7 @@
 use Rattle.std.proofs.Common.{◌≡◌, ◌≢◌, ℕ, zero, suc, ◌+◌, ◌<◌, Bool, true, false, cond, ◌&&◌, ◌==◌, List, [], ◌∷◌, ◌++◌, map, set, get_or, take, filter, Option, Some, None, option_map, length, slice_get, refl, ap, ap₂, sym, ◌∙◌, arith, map-id}
 use Rattle.std.specs.List.{range_with_len}
 use Rattle.std.proofs.lemmas.Bool.{eqb-true, eq-eqb, and_parts}
-use Rattle.std.proofs.lemmas.List.{map_push, take_more}
+use Rattle.std.proofs.lemmas.List.{map_push, take_more, append-nil}
 use Rattle.std.proofs.lemmas.List.FromFn.{map-range_with_len_more}
 use Rattle.std.proofs.lemmas.List.Elements.{filter-append}
 use Rattle.std.proofs.lemmas.Option.{get_or_from_slice_get, slice_get-map}
@@ -15,16 +15,12 @@ use Rattle.clause_compiler.specs.Groups.{head_predicate, same_predicate, is_pred
 one_more : (n : ℕ) → range_with_len 0 (n + 1) ≡ range_with_len 0 n ++ n ∷ []
 one_more n = sym (map-id (range_with_len 0 (n + 1))) ∙ map-range_with_len_more (λ x. x) 0 n n (omega arith) ∙ ap (λ (l : List ℕ). l ++ n ∷ []) (map-id (range_with_len 0 n))
 
-append_none : (xs : List ℕ) → xs ++ [] ≡ xs
-append_none [] = refl
-append_none (x ∷ xs) = ap (λ (l : List ℕ). x ∷ l) (append_none xs)
-
 pub filter_more : (p : ℕ → Bool) (n : ℕ) → filter p (range_with_len 0 (n + 1)) ≡ cond (p n) (filter p (range_with_len 0 n) ++ n ∷ []) (filter p (range_with_len 0 n))
 filter_more p n = ap (filter p) (one_more n) ∙ filter-append p (range_with_len 0 n) (n ∷ []) ∙ by (p n)
   where
     by : (b : Bool) → filter p (range_with_len 0 n) ++ cond b (n ∷ []) [] ≡ cond b (filter p (range_with_len 0 n) ++ n ∷ []) (filter p (range_with_len 0 n))
     by true = refl
-    by false = append_none (filter p (range_with_len 0 n))
+    by false = append-nil (filter p (range_with_len 0 n))
 
 module _ {X Y : Type 0} (f g : X → Y) where
   pub map_same : (xs : List X) → ((j : ℕ) (x : X) → slice_get xs j ≡ Some x → g x ≡ f x) → map f xs ≡ map g xs

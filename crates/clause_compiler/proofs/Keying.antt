@@ -1,9 +1,9 @@
 -- Clauses by their keys, one more at a time.
 use Rattle.std.proofs.Common.{◌≡◌, ◌≢◌, ◌⊎◌, ℕ, ℤ, zero, suc, ◌+◌, Bool, true, false, cond, not, ◌&&◌, ◌||◌, ◌==◌, if◌then◌else◌, List, [], ◌∷◌, ◌++◌, map, set, get_or, filter, option_map, Some, length, slice_get, refl, ap, ap₂, sym, ◌∙◌, subst, inl, inr, arith}
 use Rattle.std.specs.List.{list_any}
-use Rattle.std.proofs.lemmas.Bool.{true≢false, eqb-true, eq-eqb, and_parts}
+use Rattle.std.proofs.lemmas.Bool.{true≢false, eqb-true, eq-eqb, and_parts, not-false, not-true}
 use Rattle.std.proofs.lemmas.Bool.Decides.{Decides-int_eq}
-use Rattle.std.proofs.lemmas.List.{map_push}
+use Rattle.std.proofs.lemmas.List.{map_push, append-nil}
 use Rattle.std.proofs.lemmas.List.Elements.{filter-append}
 use Rattle.std.proofs.lemmas.Option.{get_or_from_slice_get, slice_get-map}
 use Rattle.term_pool.specs.declared.AtomId.{AtomId}
@@ -81,16 +81,12 @@ none_pass : (t : ℕ → Bool) (xs : List ℕ) → ((k n : ℕ) → slice_get xs
 none_pass t [] h = refl
 none_pass t (x ∷ xs) h = ap (λ b. cond b (x ∷ filter t xs) (filter t xs)) (h 0 x refl) ∙ none_pass t xs (λ k. h (suc k))
 
-append_none : (xs : List ℕ) → xs ++ [] ≡ xs
-append_none [] = refl
-append_none (x ∷ xs) = ap (λ (l : List ℕ). x ∷ l) (append_none xs)
-
 module _ (p : FlatProgram) (ns : List ℕ) (n : ℕ) (x : Key) (own : key_of p n ≡ Some x) (looked : List Label) (keys : List Key) (groups : List (List ℕ)) (w : AreKeyedBy p ns looked keys groups) where
   passes : (y : Key) (b : Bool) → same_key y x ≡ b → key_numbers p y (ns ++ n ∷ []) ≡ key_numbers p y ns ++ cond b (n ∷ []) []
   passes y b e = filter-append (λ m. may_have y (key_of p m)) ns (n ∷ []) ∙ ap (λ c. key_numbers p y ns ++ cond c (n ∷ []) []) (ap (may_have y) own ∙ e)
 
   as_before : (y : Key) → same_key y x ≡ false → key_numbers p y (ns ++ n ∷ []) ≡ key_numbers p y ns
-  as_before y e = passes y false e ∙ append_none (key_numbers p y ns)
+  as_before y e = passes y false e ∙ append-nil (key_numbers p y ns)
 
   at_last : {X : Type 0} (xs : List X) (z : X) → slice_get (xs ++ z ∷ []) (length xs) ≡ Some z
   at_last xs z = ap (slice_get (xs ++ z ∷ [])) (let e : length xs ≡ length xs + 0 = omega arith in e) ∙ get_right xs (z ∷ []) 0
@@ -166,26 +162,18 @@ module _ (p : FlatProgram) (ns : List ℕ) (n : ℕ) (x : Key) (own : key_of p n
     pub insert_new : (it : Label) (more : List Label) (keys' : List Key) (groups' : List (List ℕ)) (list : List ℕ) → it ≡ label x → not (list_any (eq it) looked) ≡ true → more ≡ (if list_any (eq it) looked then looked else looked ++ it ∷ []) → keys' ≡ keys ++ x ∷ [] → list ≡ n ∷ [] → groups' ≡ groups ++ list ∷ []
         → AreKeyedBy p (ns ++ n ∷ []) more keys' groups'
     insert_new it more keys' groups' list e fresh f g h i =
-        let none : list_any (eq (label x)) looked ≡ false = ap (λ l. list_any (eq l) looked) (sym e) ∙ not_true (list_any (eq it) looked) fresh in
-        let grown : more ≡ looked ++ label x ∷ [] = f ∙ ap (λ b. if b then looked else looked ++ it ∷ []) (not_true (list_any (eq it) looked) fresh) ∙ ap (λ l. looked ++ l ∷ []) e in
+        let none : list_any (eq (label x)) looked ≡ false = ap (λ l. list_any (eq l) looked) (sym e) ∙ not-true (list_any (eq it) looked) fresh in
+        let grown : more ≡ looked ++ label x ∷ [] = f ∙ ap (λ b. if b then looked else looked ++ it ∷ []) (not-true (list_any (eq it) looked) fresh) ∙ ap (λ l. looked ++ l ∷ []) e in
         subst (λ l. AreKeyedBy p (ns ++ n ∷ []) l keys' groups') (sym grown)
         (subst (λ l. AreKeyedBy p (ns ++ n ∷ []) (looked ++ label x ∷ []) l groups') (sym g)
         (subst (AreKeyedBy p (ns ++ n ∷ []) (looked ++ label x ∷ []) (keys ++ x ∷ [])) (sym (i ∙ ap (λ l. groups ++ l ∷ []) h))
         (new_key (λ j y k. sym (alike x y) ∙ any_false (eq (label x)) looked none j (label y) (labelled j y k)))))
-      where
-        not_true : (b : Bool) → not b ≡ true → b ≡ false
-        not_true true k = never k
-        not_true false k = refl
 
     -- One that was among them is that of an earlier key.
     pub insert_old : (it : Label) (more : List Label) (groups' : List (List ℕ)) (j : ℕ) → it ≡ label x → not (list_any (eq it) looked) ≡ false → more ≡ (if list_any (eq it) looked then looked else looked ++ it ∷ []) → (k : Label) × (slice_get more j ≡ Some k) × (eq it k ≡ true) → groups' ≡ set groups j (get_or groups j [] ++ n ∷ []) → AreKeyedBy p (ns ++ n ∷ []) more keys groups'
     insert_old it more groups' j e known f stored g =
-        let same : more ≡ looked = f ∙ ap (λ b. if b then looked else looked ++ it ∷ []) (not_false (list_any (eq it) looked) known) in
+        let same : more ≡ looked = f ∙ ap (λ b. if b then looked else looked ++ it ∷ []) (not-false (list_any (eq it) looked) known) in
         let there = got_map label keys j stored.0 (ap (λ l. slice_get l j) (sym (same ∙ w.labels)) ∙ stored.1) in
         let test : same_key x there.0 ≡ true = sym (alike x there.0) ∙ ap₂ (λ a b. eq a b) (sym e) (sym there.2) ∙ stored.2 in
         let here : slice_get keys j ≡ Some x = there.1 ∙ ap (λ z. Some z) (sym (same_means x there.0 test)) in
         subst (λ l. AreKeyedBy p (ns ++ n ∷ []) l keys groups') (sym same) (subst (AreKeyedBy p (ns ++ n ∷ []) looked keys) (sym g) (old_key j here))
-      where
-        not_false : (b : Bool) → not b ≡ false → b ≡ true
-        not_false true k = refl
-        not_false false k = no k

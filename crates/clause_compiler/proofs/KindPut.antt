@@ -1,7 +1,7 @@
 -- The choices of a kind, put behind the segments before them.
 use Rattle.std.proofs.Common.{◌≡◌, ◌⊎◌, ℕ, zero, suc, pos, ◌+◌, ◌<◌, true, false, List, [], ◌∷◌, ◌++◌, map, option_map, get_or, Some, length, slice_get, refl, ap, ap₂, sym, ◌∙◌, subst, inl, inr, arith, append_assoc}
 use Rattle.std.specs.List.Sorted.{IsPermutation}
-use Rattle.std.proofs.lemmas.List.{length-append, length-map}
+use Rattle.std.proofs.lemmas.List.{length-append, length-map, append-nil}
 use Rattle.std.proofs.lemmas.List.Sorted.{IsPermutation-sym}
 use Rattle.std.proofs.lemmas.Option.{slice_get-map, slice_get_within, get_or_from_slice_get}
 use Rattle.clause_check.specs.Programs.{FlatProgram}
@@ -99,13 +99,10 @@ module _ (p : FlatProgram) (at : ℕ) (ss more : List Segment) where
 pub list_put : (p : FlatProgram) (tables : List Table) (k : Kind) (ns : List ℕ) (old new : List Code) → is_tabled p (kind_numbers p k ns) ≡ false → new ≡ old ++ list_of (kind_numbers p k ns) → PutsKind p tables k ns old new
 list_put p tables k ns old new untold e ss at here some = (
   listing (kind_numbers p k ns) ∷ [],
-  e ∙ ap (λ l. old ++ l) (sym (append_none (list_of (kind_numbers p k ns)))),
+  e ∙ ap (λ l. old ++ l) (sym (append-nil (list_of (kind_numbers p k ns)))),
   record { kind_at = inl (untold, (length ss + 0, (let z : 0 < length ss + 0 = omega (arith, some) in z), (let o = offset_behind ss (listing (kind_numbers p k ns) ∷ []) 0 in omega (arith, here, o)), get_right ss (listing (kind_numbers p k ns) ∷ []) 0)); behind = behind },
 )
   where
-    append_none : (xs : List Code) → xs ++ [] ≡ xs
-    append_none [] = refl
-    append_none (x ∷ xs) = ap (λ l. x ∷ l) (append_none xs)
 
     behind : (j : ℕ) (x : Segment) → slice_get (listing (kind_numbers p k ns) ∷ []) j ≡ Some x → IsBehind p tables ns at (ss ++ listing (kind_numbers p k ns) ∷ []) (length ss + j) x
     behind zero x f = let s : listing (kind_numbers p k ns) ≡ x = cc in subst (IsBehind p tables ns at (ss ++ listing (kind_numbers p k ns) ∷ []) (length ss + 0)) s (among_sifted (λ n. may_be k (key_of p n)) ns)

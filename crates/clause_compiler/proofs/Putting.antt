@@ -1,15 +1,11 @@
 -- One piece more.
 use Rattle.std.proofs.Common.{◌≡◌, ℕ, zero, suc, ◌+◌, ◌<◌, List, [], ◌∷◌, ◌++◌, length, slice_get, Some, refl, ap, sym, ◌∙◌, subst, inl, inr, ◌⊎◌, arith, append_assoc}
-use Rattle.std.proofs.lemmas.List.{length-append}
+use Rattle.std.proofs.lemmas.List.{length-append, append-nil}
 use Rattle.std.proofs.lemmas.Option.{slice_get_within}
 use Rattle.wam_code.specs.declared.instruction.Code.{Code}
 use Rattle.clause_compiler.specs.Layout.{joined, offset}
 use Rattle.clause_compiler.specs.Sections.{ArePut}
 use Rattle.clause_compiler.proofs.Lists.{split_get, get_left, get_right}
-
-append_none : {X : Type 0} (xs : List X) → xs ++ [] ≡ xs
-append_none [] = refl
-append_none (x ∷ xs) = ap (λ l. x ∷ l) (append_none xs)
 
 pub joined_append : {X : Type 0} (xss yss : List (List X)) → joined (xss ++ yss) ≡ joined xss ++ joined yss
 joined_append [] yss = refl
@@ -27,7 +23,7 @@ offset_last (ys ∷ xss) xs = let r = offset_last xss xs in let m = length-appen
 module _ {X : Type 0} (item : ℕ → ℕ → List Code → X) (P : ℕ → ℕ → List Code → Type 0) where
   -- none
   pub put_none : (old : List Code) → ArePut item P 0 old old []
-  put_none old = record { pieces = []; code = sym (append_none old); many = refl; size = refl; each = λ k is e. absurd cc; piece = λ k is e. absurd cc }
+  put_none old = record { pieces = []; code = sym (append-nil old); many = refl; size = refl; each = λ k is e. absurd cc; piece = λ k is e. absurd cc }
 
   module _ (n : ℕ) (old new : List Code) (items : List X) (h : ArePut item P n old new items) (is : List Code) (x : X) (p : P n (length new) is) (e : x ≡ item n (length new) is) where
     abbrev pieces : List (List Code)
@@ -74,7 +70,7 @@ module _ {X : Type 0} (item : ℕ → ℕ → List Code → X) (P : ℕ → ℕ 
     pub put_more : ArePut item P (n + 1) old (new ++ is) (items ++ x ∷ [])
     put_more = record {
       pieces = pieces;
-      code = ap (λ c. c ++ is) h.code ∙ append_assoc old (joined h.pieces) is ∙ ap (λ c. old ++ c) (sym (joined_append h.pieces (is ∷ []) ∙ ap (λ c. joined h.pieces ++ c) (append_none is)));
+      code = ap (λ c. c ++ is) h.code ∙ append_assoc old (joined h.pieces) is ∙ ap (λ c. old ++ c) (sym (joined_append h.pieces (is ∷ []) ∙ ap (λ c. joined h.pieces ++ c) (append-nil is)));
       many = (let l = length-append h.pieces (is ∷ []) in let m = h.many in omega (arith, l, m));
       size = (let l = length-append items (x ∷ []) in let s = h.size in omega (arith, l, s));
       each = each;

@@ -1,6 +1,6 @@
 -- Rows of a table: the first one whose key is a shape, and the terms that clash with it.
 use Rattle.std.proofs.Common.{◌≡◌, ◌⊎◌, ℕ, ℤ, zero, suc, ◌<◌, Bool, true, false, not, ◌||◌, ◌==◌, leb, if◌then◌else◌, IsTrue, List, [], ◌∷◌, option_map, Option, Some, None, length, slice_get, refl, ap, ap₂, sym, ◌∙◌, subst, inl, inr, bytes_eq}
-use Rattle.std.proofs.lemmas.Bool.{true≢false, eqb-true, eq-eqb}
+use Rattle.std.proofs.lemmas.Bool.{true≢false, eqb-true, eq-eqb, cases_eq, not-false}
 use Rattle.std.proofs.lemmas.Bool.Decides.{Decides-int_eq}
 use Rattle.std.proofs.lemmas.Slice.Eq.{bytes_eq-Decides}
 use Rattle.std.specs.Ordering.{int_eq}
@@ -54,13 +54,6 @@ same_integer x y = by (int_eq x y) refl
     by true e = inl ((Decides-int_eq x y).0 e)
     by false e = inr (λ f. no (sym ((Decides-int_eq x y).1 f) ∙ e))
 
-same_number : (m n : ℕ) → (m ≡ n) ⊎ (m ≡ n → ⊥)
-same_number m n = by (m == n) refl
-  where
-    by : (b : Bool) → (m == n) ≡ b → (m ≡ n) ⊎ (m ≡ n → ⊥)
-    by true e = inl (eqb-true m n e)
-    by false e = inr (λ f. no (sym (eq-eqb m n f) ∙ e))
-
 both : {A B : Type 0} → A ⊎ (A → ⊥) → B ⊎ (B → ⊥) → (A × B) ⊎ (A × B → ⊥)
 both (inl x) (inl y) = inl (x, y)
 both (inl x) (inr h) = inr (λ z. h z.1)
@@ -72,15 +65,11 @@ abbrev pub may_be_other : Key → Option Key → Bool
 may_be_other x None = true
 may_be_other x (Some y) = not (same_key x y)
 
-was_same : (b : Bool) → not b ≡ false → b ≡ true
-was_same true e = refl
-was_same false e = no e
-
 module _ (a : Area) where
   is_shape : (x : Key) (s : tries.Shape) → IsShape a x s ⊎ (IsShape a x s → ⊥)
   is_shape (key.Atom b) (tries.is_atom n) = same_name (name_of a b) n
   is_shape (key.Int y) (tries.is_integer z) = same_integer y z
-  is_shape (key.Struct f n) (tries.is_structure g m) = both (same_name (name_of a f) g) (same_number n m)
+  is_shape (key.Struct f n) (tries.is_structure g m) = both (same_name (name_of a f) g) (cases_eq n m)
   is_shape (key.Atom b) tries.is_open = inr (λ h. h)
   is_shape (key.Atom b) (tries.is_integer z) = inr (λ h. h)
   is_shape (key.Atom b) (tries.is_structure g m) = inr (λ h. h)
@@ -188,7 +177,7 @@ module _ (a : Area) where
         by (tries.is_structure g m) same (var y) e = absurd cc
         by (tries.is_structure g m) same (int z) e = tt
         by (tries.is_structure g m) same (atom b) e = tt
-        by (tries.is_structure g m) same (comp f ts) e = on (leb (length ts) 255) e (same_number (length ts) m)
+        by (tries.is_structure g m) same (comp f ts) e = on (leb (length ts) 255) e (cases_eq (length ts) m)
           where
             on : (b : Bool) → (if b then Some (key.Struct f (length ts)) else None) ≡ Some x → (length ts ≡ m) ⊎ (length ts ≡ m → ⊥) → Clash (tries.is_structure g m) (shape_term a.pool (comp f ts))
             on true d (inl l) = inl (λ i. let k : key.Struct f (length ts) ≡ x = cc in h (subst (λ y. IsShape a y s) k (subst (IsShape a (key.Struct f (length ts))) (sym same) (sym i, l))))
@@ -213,4 +202,4 @@ module _ (a : Area) where
         where
           by : (o : Option Key) → shape_key r ≡ o → may_be_other x o ≡ false → Clash s (shape_term a.pool r)
           by None f g = no g
-          by (Some y) f g = key_clash x r (f ∙ ap (λ z. Some z) (sym (same_means x y (was_same (same_key x y) g)))) not_is
+          by (Some y) f g = key_clash x r (f ∙ ap (λ z. Some z) (sym (same_means x y (not-false (same_key x y) g)))) not_is

@@ -1,6 +1,7 @@
 -- A switch with its lists, as they are put behind code.
 use Rattle.std.proofs.Common.{◌≡◌, ◌⊎◌, ℕ, zero, suc, ◌+◌, ◌<◌, List, [], ◌∷◌, ◌++◌, set, slice_set, length, slice_get, Some, refl, ap, ap₂, sym, ◌∙◌, subst, inl, inr, arith, append_assoc}
-use Rattle.std.proofs.lemmas.List.{length-append}
+use Rattle.std.proofs.lemmas.List.{length-append, append-nil}
+use Rattle.std.proofs.Math.Seq.{set-append_seam}
 use Rattle.clause_check.specs.Programs.{FlatProgram}
 use Rattle.wam_code.specs.declared.instruction.Code.{Code}
 use Rattle.wam_code.specs.declared.instruction.Code.TheVariants.{SwitchOnTerm}
@@ -11,10 +12,6 @@ use Rattle.clause_compiler.specs.declared.keys.Kind.TheVariants as kind
 use Rattle.clause_compiler.specs.Switching.{Segment, listing, switch, code_of, LeadsTo, IsBehind, KindAt, AreKindPut, PutsKind, IsSwitchCode}
 use Rattle.clause_compiler.proofs.Lists.{split_get}
 use Rattle.clause_compiler.proofs.KindPut.{code_append, Keeps, leads_more, kind_more, behind_more}
-
-set_here : (old rest : List Code) (x y : Code) → set (old ++ x ∷ rest) (length old) y ≡ old ++ y ∷ rest
-set_here [] rest x y = refl
-set_here (z ∷ old) rest x y = ap (λ l. z ∷ l) (set_here old rest x y)
 
 four : (a b c d : List Code) → ((a ++ b) ++ c) ++ d ≡ a ++ (b ++ (c ++ d))
 four a b c d = append_assoc (a ++ b) c d ∙ append_assoc a b (c ++ d)
@@ -105,9 +102,9 @@ module _ (p : FlatProgram) (ns : List ℕ) (old : List Code) (t1 t2 t3 : List Ta
       let code : last ≡ old ++ x ∷ (all ++ (m1 ++ (m2 ++ m3))) =
       a3.1 ∙ ap (λ l. l ++ m3) (a2.1 ∙ ap (λ l. l ++ m2) (a1.1 ∙ ap (λ l. l ++ m1) (e2 ∙ ap (λ l. l ++ all) e1))) ∙ five old x all m1 m2 m3 in
       let total : code_of whole ≡ SwitchOnTerm v c i s ∷ (all ++ (m1 ++ (m2 ++ m3))) =
-      code_append ((front ++ a1.0) ++ a2.0) a3.0 ∙ ap (λ l. l ++ m3) (code_append (front ++ a1.0) a2.0 ∙ ap (λ l. l ++ m2) (code_append front a1.0)) ∙ ap (λ l. SwitchOnTerm v c i s ∷ l) (ap (λ l. ((l ++ m1) ++ m2) ++ m3) (append_none all) ∙ four all m1 m2 m3) in (
+      code_append ((front ++ a1.0) ++ a2.0) a3.0 ∙ ap (λ l. l ++ m3) (code_append (front ++ a1.0) a2.0 ∙ ap (λ l. l ++ m2) (code_append front a1.0)) ∙ ap (λ l. SwitchOnTerm v c i s ∷ l) (ap (λ l. ((l ++ m1) ++ m2) ++ m3) (append-nil all) ∙ four all m1 m2 m3) in (
         code_of whole,
-        ap₂ (λ l n. set l n (SwitchOnTerm v c i s)) code here ∙ set_here old (all ++ (m1 ++ (m2 ++ m3))) x (SwitchOnTerm v c i s) ∙ ap (λ l. old ++ l) (sym total),
+        ap₂ (λ l n. set l n (SwitchOnTerm v c i s)) code here ∙ set-append_seam old x (all ++ (m1 ++ (m2 ++ m3))) (SwitchOnTerm v c i s) ∙ ap (λ l. old ++ l) (sym total),
         (
           whole,
           refl,
@@ -125,7 +122,3 @@ module _ (p : FlatProgram) (ns : List ℕ) (old : List Code) (t1 t2 t3 : List Ta
           },
         ),
       )
-    where
-      append_none : (xs : List Code) → xs ++ [] ≡ xs
-      append_none [] = refl
-      append_none (y ∷ xs) = ap (λ l. y ∷ l) (append_none xs)

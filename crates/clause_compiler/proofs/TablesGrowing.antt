@@ -1,5 +1,6 @@
 -- Choices, where more tables come behind theirs.
 use Rattle.std.proofs.Common.{◌≡◌, ◌⊎◌, ℕ, suc, ◌+◌, ◌<◌, List, [], ◌∷◌, ◌++◌, Some, length, slice_get, refl, ap, subst, inl, inr}
+use Rattle.std.proofs.lemmas.List.{append-nil}
 use Rattle.clause_check.specs.Programs.{FlatProgram}
 use Rattle.wam_code.specs.declared.instruction.Code.{Code}
 use Rattle.wam_code.specs.declared.instruction.Code.TheVariants.{SwitchOnTerm}
@@ -13,17 +14,13 @@ use Rattle.clause_compiler.specs.Switching.{Segment, switch, IsSwitching, AreCho
 use Rattle.clause_compiler.proofs.Lists.{split_get, get_left}
 use Rattle.clause_compiler.proofs.KindPut.{Keeps, leads_more, kind_more, behind_more}
 
-append_none : {X : Type 0} (xs : List X) → xs ++ [] ≡ xs
-append_none [] = refl
-append_none (x ∷ xs) = ap (λ l. x ∷ l) (append_none xs)
-
 -- Of the same pieces another thing is true.
 pub put_lift : {X : Type 0} (item : ℕ → ℕ → List Code → X) (P Q : ℕ → ℕ → List Code → Type 0) → ((k at : ℕ) (is : List Code) → P k at is → Q k at is) → (n : ℕ) (old new : List Code) (items : List X) → ArePut item P n old new items → ArePut item Q n old new items
 put_lift item P Q f n old new items h = record { pieces = h.pieces; code = h.code; many = h.many; size = h.size; each = h.each; piece = λ k is e. f k (length old + offset h.pieces k) is (h.piece k is e) }
 
 module _ (p : FlatProgram) (one two : List Table) (keeps : Keeps one two) (ns : List ℕ) (at : ℕ) where
   switching_keeps : (ss : List Segment) → IsSwitching p one ns at ss → IsSwitching p two ns at ss
-  switching_keeps ss w = subst (IsSwitching p two ns at) (append_none ss) (record {
+  switching_keeps ss w = subst (IsSwitching p two ns at) (append-nil ss) (record {
     v = w.v;
     c = w.c;
     i = w.i;
@@ -33,7 +30,7 @@ module _ (p : FlatProgram) (one two : List Table) (keeps : Keeps one two) (ns : 
     atoms = kind_more p at ss [] one two keeps ns kind.Atom w.c w.atoms;
     integers = kind_more p at ss [] one two keeps ns kind.Integer w.i w.integers;
     structures = kind_more p at ss [] one two keeps ns kind.Structure w.s w.structures;
-    others = λ k x e. behind_more p at ss [] one two keeps ns (suc k) x (w.others k x (subst (λ l. slice_get l (suc k) ≡ Some x) (append_none ss) e));
+    others = λ k x e. behind_more p at ss [] one two keeps ns (suc k) x (w.others k x (subst (λ l. slice_get l (suc k) ≡ Some x) (append-nil ss) e));
   })
 
   -- Choices stay what they are.

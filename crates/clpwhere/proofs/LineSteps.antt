@@ -3,6 +3,8 @@ use Rattle.std.proofs.Common.{◌≡◌, ℕ, ◌<◌, Bool, true, false, cond, 
 use Rattle.std.specs.Prelude.{◌||◌}
 use Rattle.std.specs.List.{flat_map, list_any, onto_first}
 use Rattle.std.proofs.lemmas.List.Folds.{list_any-append}
+use Rattle.std.proofs.lemmas.Bool.{or_parts}
+use Rattle.std.proofs.Math.Bool.{or-false}
 use Rattle.clpwhere.specs.declared.outcome.Fault.{Fault}
 use Rattle.clpwhere.specs.Parts.{TextParts}
 use Rattle.clpwhere.specs.Lines.{is_newline, lines_of}
@@ -14,10 +16,6 @@ use Rattle.clpwhere.proofs.Pieces.{cut_then, cut_longer}
 
 -- ---- lines
 
-none_of : (a b : Bool) → (a || b) ≡ false → (a ≡ false) × (b ≡ false)
-none_of true b h = let f : true ≡ false = h in absurd (cc (f))
-none_of false b h = (refl, h)
-
 other_byte : (b : ℕ) (bs : List ℕ) (ls : List (List ℕ)) → is_newline b ≡ false → lines_of bs ≡ ls → lines_of (b ∷ bs) ≡ onto_first b ls
 other_byte b bs ls e h = ap (λ t. cond t ((b ∷ []) ∷ lines_of bs) (onto_first b (lines_of bs))) e ∙ ap (onto_first b) h
 
@@ -25,14 +23,14 @@ other_byte b bs ls e h = ap (λ t. cond t ((b ∷ []) ∷ lines_of bs) (onto_fir
 pub lines-whole : (line rest : List ℕ) → IsOpen line → lines_of ((line ++ 10 ∷ []) ++ rest) ≡ (line ++ 10 ∷ []) ∷ lines_of rest
 lines-whole [] rest o = refl
 lines-whole (b ∷ bs) rest o =
-    let parts = none_of (is_newline b) (list_any is_newline bs) o in
+    let parts = or_parts (is_newline b) (list_any is_newline bs) o in
     other_byte b ((bs ++ 10 ∷ []) ++ rest) ((bs ++ 10 ∷ []) ∷ lines_of rest) parts.0 (lines-whole bs rest parts.1)
 
 -- an open line that isn't empty is one line
 pub lines-open : (b : ℕ) (bs : List ℕ) → IsOpen (b ∷ bs) → lines_of (b ∷ bs) ≡ (b ∷ bs) ∷ []
-lines-open b [] o = let parts = none_of (is_newline b) false o in other_byte b [] [] parts.0 refl
+lines-open b [] o = let parts = or_parts (is_newline b) false o in other_byte b [] [] parts.0 refl
 lines-open b (d ∷ ds) o =
-    let parts = none_of (is_newline b) (list_any is_newline (d ∷ ds)) o in
+    let parts = or_parts (is_newline b) (list_any is_newline (d ∷ ds)) o in
     other_byte b (d ∷ ds) ((d ∷ ds) ∷ []) parts.0 (lines-open d ds parts.1)
 
 pub marked-whole : (text : TextParts) (line rest : List ℕ) → IsOpen line → marked text ((line ++ 10 ∷ []) ++ rest) ≡ marked_line text (line ++ 10 ∷ []) ++ marked text rest
@@ -45,19 +43,15 @@ pub marked-open : (text : TextParts) (line : List ℕ) → IsOpen line → 0 < l
 marked-open text [] o l = absurd (omega arith)
 marked-open text (b ∷ bs) o l = ap (flat_map (marked_line text)) (lines-open b bs o) ∙ append-nil (marked_line text (b ∷ bs))
 
-or_false : (b : Bool) → (b || false) ≡ b
-or_false true = refl
-or_false false = refl
-
 pub refused-open : (line : List ℕ) → IsOpen line → 0 < length line → is_refused line ≡ is_refusal line
 refused-open [] o l = absurd (omega arith)
-refused-open (b ∷ bs) o l = ap (list_any is_refusal) (lines-open b bs o) ∙ or_false (is_refusal (b ∷ bs))
+refused-open (b ∷ bs) o l = ap (list_any is_refusal) (lines-open b bs o) ∙ or-false (is_refusal (b ∷ bs))
 
 -- ---- one byte
 
 -- another byte than a newline leaves the line open
 pub byte_open : (line : List ℕ) (b : ℕ) → IsOpen line → (b ≡ 10 → ⊥) → IsOpen (line ++ b ∷ [])
-byte_open line b o n = list_any-append is_newline line (b ∷ []) ∙ ap (λ t. t || (is_newline b || false)) o ∙ or_false (is_newline b) ∙ not_ten b n
+byte_open line b o n = list_any-append is_newline line (b ∷ []) ∙ ap (λ t. t || (is_newline b || false)) o ∙ or-false (is_newline b) ∙ not_ten b n
   where
     not_ten : (b : ℕ) → (b ≡ 10 → ⊥) → is_newline b ≡ false
     not_ten b n = grind arith

@@ -12,6 +12,7 @@ use Rattle.std.proofs.lemmas.List.{get_or_append_left, length-append}
 use Rattle.std.proofs.lemmas.List.Sums.{position_or_len_is, prefix_len-le-length}
 use Rattle.std.proofs.lemmas.Slice.Eq.{bytes_eq-Decides}
 use Rattle.std.proofs.lemmas.Str.Parse.{digit_at}
+use Rattle.std.proofs.lemmas.Option.{same_Some}
 use Rattle.clpwhere.specs.declared.reason.Reason.{Reason}
 use Rattle.clpwhere.specs.Reasons.{reason_of}
 use Rattle.clpwhere.specs.Refusals.{Refusal, Tells, behind, last_place, place_in, refusal_by, refusal_in, refusal_line, refusal_of}
@@ -22,12 +23,9 @@ then_is : {A B : Type 0} (f : A → Option B) (o : Option A) (y : B) → option_
 then_is f None y e = absurd (cc (e))
 then_is f (Some x) y e = (x, refl, e)
 
-some_same : {A : Type 0} (x y : A) → Some x ≡ Some y → x ≡ y
-some_same x y e = cc
-
 map_is : {A B : Type 0} (f : A → B) (o : Option A) (y : B) → option_map f o ≡ Some y → (x : A) × (o ≡ Some x) × (f x ≡ y)
 map_is f None y e = absurd (cc (e))
-map_is f (Some x) y e = (x, refl, some_same (f x) y e)
+map_is f (Some x) y e = (x, refl, same_Some (f x) y e)
 
 -- ---- what stands behind a front
 
@@ -37,7 +35,7 @@ behind_is front bytes rest e = go (starts_with nat_eq bytes front) refl e
     go : (t : Bool) → starts_with nat_eq bytes front ≡ t → cond t (Some (drop (length front) bytes)) None ≡ Some rest → bytes ≡ front ++ rest
     go true s f =
         let head : take (length front) bytes ≡ front = sym ((bytes_eq-Decides front (take (length front) bytes)).0 s) in
-        sym (take-append-drop (length front) bytes) ∙ ap (λ t. t ++ drop (length front) bytes) head ∙ ap (λ t. front ++ t) (some_same (drop (length front) bytes) rest f)
+        sym (take-append-drop (length front) bytes) ∙ ap (λ t. t ++ drop (length front) bytes) head ∙ ap (λ t. front ++ t) (same_Some (drop (length front) bytes) rest f)
     go false s f = absurd (cc (f))
 
 behind_of : (front rest : List ℕ) → behind front (front ++ rest) ≡ Some rest
@@ -60,7 +58,7 @@ place_is bs n e = go (bytes_eq (decimal v) bs) (nat_le v last_place) refl refl e
     go false b s l f = absurd (cc (f))
     go true false s l f = absurd (cc (f))
     go true true s l f =
-        let same : v ≡ n = some_same v n f in
+        let same : v ≡ n = same_Some v n f in
         (sym ((bytes_eq-Decides (decimal v) bs).0 s) ∙ ap decimal same, subst (λ k. k ≤ last_place) same (leb-true v last_place l))
 
 within : (n : ℕ) → n ≤ last_place → nat_le n last_place ≡ true

@@ -1,6 +1,6 @@
 -- Search by halves in a table whose keys rise.
 use Rattle.std.proofs.Common.{◌≡◌, ◌⊎◌, ℕ, zero, suc, ◌+◌, ◌<◌, ◌≤◌, [], ◌∷◌, length, Some, slice_get, slice_index_or, ◌-◌, ◌/◌, refl, ap, sym, ◌∙◌, subst, inl, inr, arith}
-use Rattle.std.proofs.lemmas.Option.{slice_get_within}
+use Rattle.std.proofs.lemmas.Option.{slice_get_within, same_Some}
 use Rattle.std.specs.Cmp.{int_chain}
 use Rattle.std.specs.Int.Signed.{<ℤ_irrefl}
 use Rattle.term_pool.proofs.Lemmas.{slice_get_found}
@@ -109,12 +109,9 @@ order (suc i) (suc j) = elim (order i j) [
   | inr (inr l) ↦ inr (inr (omega (arith, l)))
 ]
 
-same_row : (p q : Key × ℕ) → Some p ≡ Some q → p ≡ q
-same_row p q e = cc
-
 module _ (x : Seen) (rows : Table) (rises : Rises rows) (m : ℕ) (r : Key × ℕ) (there : slice_get rows m ≡ Some r) where
   row_at : (i : ℕ) (p : Key × ℕ) → slice_get rows i ≡ Some p → i ≡ m → p ≡ r
-  row_at i p f e = same_row p r (sym f ∙ ap (slice_get rows) e ∙ there)
+  row_at i p f e = same_Some p r (sym f ∙ ap (slice_get rows) e ∙ there)
 
   module _ (q : Key) (like : IsSeenAs x q) where
     not_under : IsKeyBelow x r.0 → (i : ℕ) (p : Key × ℕ) → slice_get rows i ≡ Some p → IsKeyOf x p.0 → m < i
@@ -148,7 +145,7 @@ module _ (x : Seen) (rows : Table) (rises : Rises rows) (m : ℕ) (r : Key × �
 
   first_row : (rows : Table) (m : ℕ) → slice_get rows m ≡ Some r → IsKeyOf x r.0 → ((i : ℕ) (p : Key × ℕ) → i < m → slice_get rows i ≡ Some p → IsKeyOf x p.0 → ⊥) → IsFirstRow x rows r.1
   first_row [] m e k none = absurd (cc)
-  first_row (row ∷ rows) zero e k none = let same = same_row row r e in inl (subst (λ (z : Key × ℕ). IsKeyOf x z.0) (sym same) k, ap (λ (z : Key × ℕ). z.1) same)
+  first_row (row ∷ rows) zero e k none = let same = same_Some row r e in inl (subst (λ (z : Key × ℕ). IsKeyOf x z.0) (sym same) k, ap (λ (z : Key × ℕ). z.1) same)
   first_row (row ∷ rows) (suc m) e k none = inr (none 0 row (omega arith) refl, first_row rows m e k (λ i p l f. none (suc i) p (omega (arith, l)) f))
 
   pub found_here : IsKeyOf x r.0 → Finds x rows (On r.1)

@@ -2,6 +2,7 @@
 use Rattle.std.proofs.Common.{◌≡◌, ℕ, zero, suc, ◌+◌, ◌<◌, Bool, true, ◌&&◌, IsTrue, List, [], ◌∷◌, length, take, Option, Some, None, Result, Ok, Err, IfOk, slice_get, replicate, refl, ap, sym, ◌∙◌, subst, arith}
 use Rattle.std.proofs.lemmas.Bool.{true≢false, and_parts}
 use Rattle.std.proofs.lemmas.List.{length-replicate, get_or-take}
+use Rattle.std.proofs.lemmas.Option.{none-some}
 use Rattle.fd_language.specs.Family.{has}
 use Rattle.heap_cells.specs.declared.Cell.{Cell as HeapCell}
 use Rattle.heap_cells.specs.Cells.{Cells}
@@ -40,23 +41,20 @@ behind_named area ss v at to n (r ∷ rs) b = (names_outside area ss v at to b.0
 reached_by : (ss : List State) (handed : State) (to : ℕ) (registers slots : Places) → HandedTo ss handed to → handed.owed ≡ 0 → Fits handed registers slots → IsReached ss to 0 registers slots
 reached_by ss handed to registers slots h owes f = record { state = h.0; has = h.1; owes = sym h.2.owed ∙ owes; fits = fits_less handed h.0 registers slots h.2 f }
 
-none_some : {A : Type 0} → (d : A) → None ≡ Some d → ⊥
-none_some d e = cc
-
 unset : (n k : ℕ) → cell_at (replicate n None) k ≡ None
 unset zero k = refl
 unset (suc n) zero = refl
 unset (suc n) (suc k) = unset n k
 
 no_slot : (n k : ℕ) → slice_get (replicate n Unset) k ≡ Some Cell → ⊥
-no_slot zero k e = none_some Cell e
+no_slot zero k e = none-some Cell e
 no_slot (suc n) zero e = cc
 no_slot (suc n) (suc k) e = no_slot n k e
 
 -- what is set among the first cells
 taken : (k : ℕ) (cells : Places) (n : ℕ) (d : HeapCell) → cell_at (take k cells) n ≡ Some d → cell_at cells n ≡ Some d
-taken zero [] n d e = absurd (none_some d e)
-taken zero (x ∷ xs) n d e = absurd (none_some d e)
+taken zero [] n d e = absurd (none-some d e)
+taken zero (x ∷ xs) n d e = absurd (none-some d e)
 taken (suc k) [] n d e = e
 taken (suc k) (x ∷ xs) zero d e = e
 taken (suc k) (x ∷ xs) (suc n) d e = taken k xs n d e
@@ -67,7 +65,7 @@ no_slots_are (Some f) slots e h = absurd (true≢false (sym e))
 
 -- a place that needs no register
 without_registers : (t : State) (registers slots : Places) → Fits t [] slots → Fits t registers slots
-without_registers t registers slots f = record { set = λ n e. (let k = f.set n e in absurd (none_some k.0 k.1)); frame = f.frame }
+without_registers t registers slots f = record { set = λ n e. (let k = f.set n e in absurd (none-some k.0 k.1)); frame = f.frame }
 
 module _ (area : Area) (s : branch.State) (at : ℕ) (c : Contents) (safe : IsSafe area s at 0 c) where
   abbrev state : State
@@ -103,7 +101,7 @@ module _ (area : Area) (s : branch.State) (at : ℕ) (c : Contents) (safe : IsSa
   other_safe to c' same t = record { states = safe.states; verified = safe.verified; atoms = safe.atoms; sound = safe.sound; here = t; points = subst (λ ps. ArePoints area safe.states s ps s.heaps.below) (sym same) safe.points }
 
   no_cells : AreCells s []
-  no_cells n d e = absurd (none_some d e)
+  no_cells n d e = absurd (none-some d e)
 
   module _ (i : Code) (holds : Holds area at i) where
     leads : Leads area safe.states at i state
@@ -173,7 +171,7 @@ module _ (area : Area) (s : branch.State) (at : ℕ) (c : Contents) (safe : IsSa
     allocate_safe =
         slots_safe (Allocate n) holds framed (handed_on (Allocate n) holds (no_frame state.frame) framed refl refl) safe.here.reached.owes refl (replicate n None)
         (record { set = fits.set; frame = (length-replicate n None ∙ sym (length-replicate n Unset), λ k e. absurd (no_slot n k e)) })
-        (λ k d e. absurd (none_some d (sym (unset n k) ∙ e)))
+        (λ k d e. absurd (none-some d (sym (unset n k) ∙ e)))
 
   pub deallocate_safe : Holds area at Deallocate → IsSafe area s (suc at) 0 (record c { slots = [] })
   deallocate_safe holds =

@@ -1,7 +1,7 @@
 -- What an answer shows.
 use Rattle.std.proofs.Common.{◌≡◌, ℕ, zero, suc, ◌+◌, ◌<◌, List, [], ◌∷◌, ◌++◌, length, All, Option, Some, refl, ap, sym, ◌∙◌, subst, arith}
 use Rattle.std.proofs.lemmas.List.{length-map}
-use Rattle.std.proofs.lemmas.Option.{slice_get_within}
+use Rattle.std.proofs.lemmas.Option.{slice_get_within, same_Some}
 use Rattle.fd_language.specs.declared.TheConstants.{INFINITY}
 use Rattle.fd_language.specs.Family.{Family}
 use Rattle.fd_model.specs.Goal as model
@@ -57,9 +57,6 @@ slots_own s c own i (d ∷ ds) g (suc k) e l = slots_own s c own (suc i) ds g.1 
 
 -- ---- the query
 
-same_span : (p q : Span) → Some p ≡ Some q → p ≡ q
-same_span p q e = cc
-
 -- its number is one of the code
 pub query_within : (area : Area) (n at : ℕ) → IsInQuery area n at → n < length area.queries
 query_within area n at i = slice_get_within area.queries n i.0 i.1
@@ -67,7 +64,7 @@ query_within area n at i = slice_get_within area.queries n i.0 i.1
 module _ (area : Area) (number : ℕ) (a b : Span) (one : HasQuery area number a) (other : HasQuery area number b) where
   -- a number has one span
   pub one_query : a ≡ b
-  one_query = same_span a b (sym one ∙ other)
+  one_query = same_Some a b (sym one ∙ other)
 
 -- ---- what is shown
 

@@ -1,6 +1,7 @@
 -- Steps of a machine, and runs of steps up to an event.
 use Rattle.std.proofs.Common.{◌≡◌, ℕ, zero, suc, ◌+◌, ◌*◌, ◌<◌, ◌≤◌, Bool, true, false, cond, List, [], ◌∷◌, length, map, slice_get, slice_index_or, Option, Some, None, Result, Ok, Err, IfOk, refl, ap, sym, ◌∙◌, subst, inl, inr, arith, ne_eqb}
 use Rattle.std.proofs.lemmas.Bool.{true≢false}
+use Rattle.std.proofs.lemmas.Option.{same_Some}
 use Rattle.fd_model.specs.Goal as model
 use Rattle.fd_model.specs.Goal.{Program, Query, Event}
 use Rattle.fd_model.specs.Run.{IsLimit}
@@ -380,12 +381,9 @@ module _ (area : Area) (query : ℕ) (s : branch.State) (c : Contents) (ls : Lis
 
 -- ---- an answer
 
-same_span : (p q : Span) → Some p ≡ Some q → p ≡ q
-same_span p q e = cc
-
 span_is : (qs : List Span) (n : ℕ) (span : Span) → slice_get qs n ≡ Some span → slice_index_or qs n no_span ≡ span
 span_is [] n span e = absurd (cc)
-span_is (q ∷ qs) zero span e = same_span q span e
+span_is (q ∷ qs) zero span e = same_Some q span e
 span_is (q ∷ qs) (suc n) span e = span_is qs n span e
 
 -- the names are those of the query that is asked

@@ -1,5 +1,6 @@
 -- A new machine.
 use Rattle.std.proofs.Common.{◌≡◌, ℕ, ◌<◌, ◌^◌, List, [], ◌∷◌, length, reverse, Option, Some, sym, ◌∙◌, subst, arith}
+use Rattle.std.proofs.lemmas.Option.{same_Some}
 use Rattle.fd_language.specs.declared.TheConstants.{INFINITY}
 use Rattle.fd_model.specs.Goal.{Program, Query, Event, start_of}
 use Rattle.fd_model.specs.Run.{Run, IsLimit}
@@ -17,9 +18,6 @@ use Rattle.code_machine.specs.declared.run.Stage.TheVariants.{Going}
 use Rattle.code_machine.specs.States.{State, MayRun, StandsFor, IsMachine}
 use Rattle.code_machine.proofs.Running.{seen}
 
-same_span : (p q : Span) → Some p ≡ Some q → p ≡ q
-same_span p q e = cc
-
 module _ (area : Area) (verified : IsVerified area) (pool : IsPool area.pool) (query : ℕ) (span : Span) (has : HasQuery area query span) (atoms : ℕ) (named : atoms ≡ length area.pool.names) (n : ℕ) (k : Option ℕ) where
   abbrev first : State
   first = seen area query (first_state atoms) nothing [] (Going span.at) n k 0
@@ -34,7 +32,7 @@ module _ (area : Area) (verified : IsVerified area) (pool : IsPool area.pool) (q
 
   pub first_stands : (prog : Program) (q : Query) → MayRun area query prog q → (es : List Event) (r : ℕ) → Run INFINITY prog q n k (start_of q ∷ []) es r → StandsFor first es r
   first_stands prog q may es r run =
-      let one : may.span ≡ span = same_span may.span span (sym may.has ∙ has) in
+      let one : may.span ≡ span = same_Some may.span span (sym may.has ∙ has) in
       record {
         program = prog;
         query = q;

@@ -1,5 +1,6 @@
 -- The steps by the stages that they begin and end at.
 use Rattle.std.proofs.Common.{◌≡◌, ℕ, zero, suc, ◌+◌, ◌-◌, ◌<◌, List, [], ◌∷◌, length, Option, refl, sym, subst, arith}
+use Rattle.std.proofs.lemmas.List.{nil_from_length}
 use Rattle.term_pool.proofs.Lemmas.{slice_get_found}
 use Rattle.machine_events.specs.declared.MachineEvent.TheVariants as event
 use Rattle.machine_events.specs.declared.Shown.{Shown}
@@ -131,12 +132,8 @@ module _ (area : Area) (query : ℕ) (s : branch.State) (c : Contents) (ls : Lis
           subst (λ x. IsQuiet (seen area query s c ls x n k spent) (seen area query s' c' ls' st' n k spent)) (sym is)
           (subst (λ x. IsQuiet (seen area query s c ls Returning n k spent) (seen area query s' c' ls' x n k spent)) (sym is') (back_quiet area query s s' c c' ls n k spent ls' w back returning))
 
-    no_points : (ps : List Point) → length ps ≡ 0 → ps ≡ []
-    no_points [] e = refl
-    no_points (p ∷ ps) e = absurd (omega (arith, e))
-
     -- no choice point is left
     pub nothing_left : length c.points ≡ 0 → Tells old (saying.Ended ending.End) (seen area query s c ls (Ended ending.End) n k spent)
     nothing_left none =
         told_end old (seen area query s c ls (Ended ending.End) n k spent) ending.End
-        (subst (λ y. Says (seen area query s c ls y n k spent) event.End (seen area query s c ls (Ended ending.End) n k spent)) (sym is) (none_says area query s c ls k spent n (no_points c.points none)))
+        (subst (λ y. Says (seen area query s c ls y n k spent) event.End (seen area query s c ls (Ended ending.End) n k spent)) (sym is) (none_says area query s c ls k spent n (nil_from_length c.points none)))

@@ -1,6 +1,7 @@
 -- What is left to be done, where a goal was taken or a choice point come back to.
 use Rattle.std.proofs.Common.{◌≡◌, ℕ, zero, suc, ◌+◌, ◌*◌, ◌<◌, ◌≤◌, List, ◌∷◌, length, map, ap, ◌∙◌, arith}
 use Rattle.std.proofs.lemmas.Nat.{mul-le}
+use Rattle.std.proofs.Math.Nat.{add-mul}
 use Rattle.fd_language.specs.declared.TheConstants.{INFINITY}
 use Rattle.wam_code.specs.Area.{Area}
 use Rattle.wam_code.specs.Ending.{weight, return_work, thread_work, work}
@@ -30,9 +31,6 @@ weight_up (suc d) (suc e) l = let w = weight_up d e (omega (arith, l)) in omega 
 weight_some : (d : ℕ) → 1 ≤ weight d
 weight_some d = weight_up zero d (omega arith)
 
-split_most : (w n x : ℕ) → (w + n) * x ≡ w * x + n * x
-split_most w n x = grind arith
-
 module _ (area : Area) where
   abbrev all : ℕ
   all = weight (length area.code)
@@ -53,7 +51,7 @@ module _ (area : Area) where
 
   -- what a reduction brings at most
   most_is : (x : ℕ) → most area * x ≡ all * x + (INFINITY + 3) * x
-  most_is x = split_most all (INFINITY + 3) x
+  most_is x = add-mul all (INFINITY + 3) x
 
   -- a call
   pub called_most : (w v x : ℕ) → w ≤ most_work area x → w + v ≤ most area * suc (x + v)

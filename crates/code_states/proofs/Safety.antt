@@ -1,6 +1,6 @@
 -- What is safe stays so.
 use Rattle.std.proofs.Common.{◌≡◌, ℕ, zero, suc, ◌<◌, Bool, true, false, ◌||◌, IsTrue, List, [], ◌∷◌, length, Option, Some, None, option_map, slice_get, slice_set, refl, ap, sym, ◌∙◌, subst, inl, inr, arith, ne_eqb}
-use Rattle.std.proofs.lemmas.List.{length-set}
+use Rattle.std.proofs.lemmas.List.{length-set, nil_from_length}
 use Rattle.std.proofs.lemmas.Bool.{cases_eq, true≢false}
 use Rattle.std.proofs.lemmas.Option.{slice_get_within, same_Some}
 use Rattle.fd_language.specs.Family.{has}
@@ -101,13 +101,9 @@ set_now zero (suc k) (s ∷ ss) e d = e
 set_now (suc n) zero (s ∷ ss) e d = e
 set_now (suc n) (suc k) (s ∷ ss) e d = set_now n k ss e (λ i. d (ap suc i))
 
-none_left : (cells : Places) → length cells ≡ 0 → cells ≡ []
-none_left [] e = refl
-none_left (c ∷ cs) e = absurd (omega (arith, e))
-
 -- the same slots but for one that is a cell now
 slots_fit : (frame : Option (List Slot)) (n : ℕ) (d : HeapCell) (old new : Places) → length new ≡ length old → IsPut (slot_cell old) n d (slot_cell new) → HasSlots frame old → HasSlots (option_map (with_cell n) frame) new
-slots_fit None n d old new size put h = none_left new (size ∙ ap length h)
+slots_fit None n d old new size put h = nil_from_length new (size ∙ ap length h)
 slots_fit (Some ss) zero d old new size put h = (size ∙ h.0, λ k e. (let one = h.1 k e in (one.0, put.else (suc k) (λ i. absurd (omega (arith, i))) ∙ one.1)))
 slots_fit (Some ss) (suc n) d old new size put h = (
   size ∙ h.0 ∙ sym (length-set ss n Cell),
@@ -118,7 +114,7 @@ slots_fit (Some ss) (suc n) d old new size put h = (
 )
 
 same_slots : (frame : Option (List Slot)) (old new : Places) → length new ≡ length old → ((k : ℕ) → cell_at new k ≡ cell_at old k) → HasSlots frame old → HasSlots frame new
-same_slots None old new size same h = none_left new (size ∙ ap length h)
+same_slots None old new size same h = nil_from_length new (size ∙ ap length h)
 same_slots (Some ss) old new size same h = (size ∙ h.0, λ k e. (let one = h.1 k e in (one.0, same k ∙ one.1)))
 
 pub written_fits : (t : State) (c c' : Contents) (r : Register) (d : HeapCell) → Fits t c.registers c.slots → IsWritten (registers_of c) r d (registers_of c') → length c'.slots ≡ length c.slots → Fits (with_set t r) c'.registers c'.slots

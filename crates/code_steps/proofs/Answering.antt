@@ -1,5 +1,6 @@
 -- The end of a query: the answer's line is read off the slots' cells.
 use Rattle.std.proofs.Common.{◌≡◌, ℕ, suc, ◌<◌, List, [], ◌∷◌, ◌++◌, length, map, Option, Some, None, refl, ap, sym, ◌∙◌, subst, arith}
+use Rattle.std.proofs.lemmas.Option.{same_Some}
 use Rattle.fd_language.specs.Term.{Var, Substitution, apply}
 use Rattle.fd_language.specs.Family.{Family, IsInside}
 use Rattle.fd_language.specs.Range.{Indexical}
@@ -30,9 +31,6 @@ use Rattle.code_steps.specs.Running.{Choice, IsReady, Runs, Returns}
 use Rattle.code_steps.proofs.Readying.{ready_at, ready_kept, ready_consistent}
 use Rattle.code_steps.proofs.Running.{goes_inside}
 
-same_cell : (d e : Cell) → Some d ≡ Some e → d ≡ e
-same_cell d e k = cc
-
 known : (n : ℕ) (vs : List ℕ) → NumbersBelow n vs → Known (λ v. v < n) vs
 known n [] b = tt
 known n (v ∷ vs) b = (b.0, known n vs b.1)
@@ -44,7 +42,7 @@ slots_show name h look P G p cells s i [] (d ∷ ds) v k e = absurd (omega (arit
 slots_show name h look P G p cells s i (v ∷ vs) [] k d e = absurd (omega (arith, e))
 slots_show name h look P G p cells s i (v ∷ vs) (d ∷ ds) k f e =
     let w = s i (Var v) k.0 in
-    let one : look v ≡ term_of name h d = w.2.value ∙ ap (term_of name h) (same_cell w.0 d (sym w.1 ∙ f.0)) in
+    let one : look v ≡ term_of name h d = w.2.value ∙ ap (term_of name h) (same_Some w.0 d (sym w.1 ∙ f.0)) in
     let more = slots_show name h look P G p cells s (suc i) vs ds k.1 f.1 (omega (arith, e)) in
     ap (λ t. apply (λ c. value_at (link_in h c) G c) t ∷ map (λ v. apply (λ c. value_at (link_in h c) G c) (look v)) vs) one ∙ ap (λ l. read_term h G (term_of name h d) ∷ l) more
 

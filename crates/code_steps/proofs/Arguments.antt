@@ -1,5 +1,6 @@
 -- The arguments of a goal, by their registers' cells.
 use Rattle.std.proofs.Common.{◌≡◌, ℕ, suc, ◌⊎◌, List, [], ◌∷◌, length, Option, Some, refl, ap, sym, ◌∙◌, subst, inl, inr, arith}
+use Rattle.std.proofs.lemmas.Option.{same_Some}
 use Rattle.fd_language.specs.Term.{Name, Term, Terms, no_terms, term, Substitution, apply, apply_all}
 use Rattle.fd_model.specs.Builtins.{first_argument, second_argument}
 use Rattle.fd_model.specs.Constraining.{arguments}
@@ -8,9 +9,6 @@ use Rattle.heap_cells.specs.Cells.{Cells, IsOf}
 use Rattle.heap_cells.specs.Terms.{Naming, terms_by, term_of}
 use Rattle.wam_code.specs.Places.{Places, Hold, count, made}
 use Rattle.code_steps.specs.Registers.{AreIn, AreShown}
-
-same_cell : (d e : Cell) → Some d ≡ Some e → d ≡ e
-same_cell d e k = cc
 
 pub arguments_applied : (s : Substitution) (f : Name) (ts : Terms) → arguments (apply s (made f ts)) ≡ apply_all s ts
 arguments_applied s f no_terms = refl
@@ -21,7 +19,7 @@ module _ (name : Naming) (h : Cells) (look : Substitution) (P : ℕ → Type 0) 
   pub cell_shows : (i : ℕ) (t : Term) (d : Cell) → p.x i ≡ Some t → cells i ≡ Some d → IsOf h d × (apply look t ≡ term_of name h d)
   cell_shows i t d e k =
       let w = shown i t e in
-      let same = same_cell w.0 d (sym w.1 ∙ k) in
+      let same = same_Some w.0 d (sym w.1 ∙ k) in
       (subst (IsOf h) same w.2.own, w.2.value ∙ ap (term_of name h) same)
 
   pub cells_show : (i : ℕ) (ts : Terms) (ds : List Cell) → Hold p i ts → AreIn cells i ds → count ts ≡ length ds → apply_all look ts ≡ terms_by (term_of name h) ds

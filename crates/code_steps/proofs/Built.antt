@@ -1,6 +1,7 @@
 -- Where a compound term begins to be built, and where it is built.
 use Rattle.std.proofs.Common.{◌≡◌, ℕ, suc, List, [], ◌∷◌, Option, Some, None, cond, refl, ap, sym, ◌∙◌, subst, inl, inr, arith, eq-eqb, ne_eqb}
 use Rattle.std.proofs.lemmas.Bool.{cases_eq}
+use Rattle.std.proofs.lemmas.Option.{none-some}
 use Rattle.fd_language.specs.Term.{Name, Term, Terms, Comp, no_terms, term, Substitution, apply, apply_all}
 use Rattle.fd_language.specs.Unifier.{Equation}
 use Rattle.fd_language.specs.Range.{Indexical}
@@ -22,7 +23,7 @@ use Rattle.code_steps.specs.Standing.{Made, IsOld, IsMade, Stands}
 use Rattle.code_steps.specs.Steps.{GoesOnEqual}
 use Rattle.code_steps.specs.ReadMode.{AreCells}
 use Rattle.code_steps.specs.WriteMode.{joined, End, GetEnd, PutEnd, Builds}
-use Rattle.code_steps.proofs.Shown.{one_moved, shown_moved, all_moved, shown_same, no_term}
+use Rattle.code_steps.proofs.Shown.{one_moved, shown_moved, all_moved, shown_same}
 use Rattle.code_steps.proofs.Making.{made_write, made_unified, made_refuted}
 use Rattle.code_steps.proofs.ReadMode.{cells_keep}
 use Rattle.code_steps.proofs.Stepping.{here}
@@ -46,7 +47,7 @@ module _ (M : ℕ) (name : Naming) (qs : List Indexical) (returns : List Return)
     kept = m.kept;
     same = m.same;
     xs = λ n t e. elim (cases_eq n a) [
-      | inl i ↦ absurd (no_term t (sym (drop_here a p.x) ∙ ap (drop_at a p.x) (sym i) ∙ e))
+      | inl i ↦ absurd (none-some t (sym (drop_here a p.x) ∙ ap (drop_at a p.x) (sym i) ∙ e))
       | inr d ↦ let w = m.xs n t (sym (drop_else a p.x n d) ∙ e) in (w.0, xs n d ∙ w.1, w.2)
     ];
     ys = shown_same name h m.look (Made p b.fresh) p.y c.y c'.y ys m.ys;

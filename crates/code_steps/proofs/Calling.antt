@@ -1,6 +1,7 @@
 -- A goal is called: the branches of the clauses that its predicate's code tries are those that are still to come.
 use Rattle.std.proofs.Common.{◌≡◌, ℕ, suc, ◌+◌, ◌<◌, ◌≤◌, Bool, true, false, cond, List, [], ◌∷◌, ◌++◌, map, Option, Some, refl, ap, sym, ◌∙◌, subst, inl, inr, arith}
 use Rattle.std.proofs.lemmas.Bool.{true≢false}
+use Rattle.std.proofs.lemmas.Option.{same_Some}
 use Rattle.fd_language.specs.Term.{Term, Terms, no_terms, term, Substitution}
 use Rattle.fd_language.specs.Range.{Indexical}
 use Rattle.fd_model.specs.Children.{by_clause, by_clauses, fits_head, Kept}
@@ -141,15 +142,12 @@ module _ (M : ℕ) (area : Area) (prog : Program) (q : Query) (name : Naming) (h
         },
       )
 
-  same_entry : (e d : Entry) → Some e ≡ Some d → e ≡ d
-  same_entry e d k = cc
-
   -- The code behind the call is the newest continuation, and the predicate's code begins with its arguments.
   pub run_call : (number : ℕ) → Holds area at (code.Call number) → (e : Entry) → HasEntry area number e → (c' : Registers) → AreSameTo e.arity c.x c'.x → (slots : ℕ → Option Cell) → AreSame c.y slots → Spends (Begins e c' (record { to = suc at; slots = slots } ∷ stack)) [] es r
   run_call number f e there c' given slots same =
       let s = goes_inside M area q.shown name h qs at c stack m.first m.here (code.Call number) tt f in
       let i = step_call M area q.shown name h qs at c stack s.0 s.1 number f slots same in
-      let is = same_entry i.0 e (sym i.1 ∙ there) in
+      let is = same_Some i.0 e (sym i.1 ∙ there) in
       let stack' = record { to = suc at; slots = slots } ∷ stack in
       calls s.0 s.2 number e there c' stack' (calling_moved M area q.shown name h qs e c c' stack' s.0 given (subst (λ d. IsCalling M area q.shown name h qs d c stack' s.0) is i.2))
 
@@ -158,5 +156,5 @@ module _ (M : ℕ) (area : Area) (prog : Program) (q : Query) (name : Naming) (h
   run_execute number f e there c' given =
       let s = goes_inside M area q.shown name h qs at c stack m.first m.here (code.Execute number) tt f in
       let i = step_execute M area q.shown name h qs at c stack s.0 s.1 number f in
-      let is = same_entry i.0 e (sym i.1 ∙ there) in
+      let is = same_Some i.0 e (sym i.1 ∙ there) in
       calls s.0 s.2 number e there c' stack (calling_moved M area q.shown name h qs e c c' stack s.0 given (subst (λ d. IsCalling M area q.shown name h qs d c stack s.0) is i.2))

@@ -3,6 +3,7 @@ use Rattle.std.proofs.Common.{◌≡◌, ℕ, suc, ◌+◌, ◌<◌, ◌≤◌, 
 use Rattle.std.proofs.lemmas.Bool.{cases_eq, true≢false, and_parts}
 use Rattle.std.proofs.lemmas.Bool.Decides.{nat_tests}
 use Rattle.std.specs.Str.{bytes_eq}
+use Rattle.std.proofs.lemmas.Option.{none-some, same_Some}
 use Rattle.fd_language.specs.Term.{Name, Term, Terms, Var, Int, Atom, Comp, no_terms, term, Substitution, apply_all}
 use Rattle.fd_language.specs.Unifier.{Equation}
 use Rattle.fd_language.specs.Range.{Indexical}
@@ -26,7 +27,7 @@ use Rattle.wam_code.specs.Places.{Places, put_at, Hold, count, made}
 use Rattle.wam_code.specs.Tries.{IsClause}
 use Rattle.code_steps.specs.Registers.{Registers, Saved, AreSame, IsShown, AreShown, AreHeld}
 use Rattle.code_steps.specs.Standing.{Made, IsOld, Stands, IsCalling}
-use Rattle.code_steps.proofs.Shown.{put_here, put_else, no_term, all_moved, shown_same, shown_moved}
+use Rattle.code_steps.proofs.Shown.{put_here, put_else, all_moved, shown_same, shown_moved}
 
 -- the terms in registers from i on
 abbrev pub args_at : ℕ → Terms → ℕ → Option Term
@@ -37,14 +38,11 @@ hold_args : (p : Places) (i : ℕ) (ts : Terms) → ((n : ℕ) → i ≤ n → p
 hold_args p i no_terms h = tt
 hold_args p i (term t ts) h = (h i (omega arith) ∙ put_here i t (args_at (suc i) ts), hold_args p (suc i) ts (λ n l. h n (omega (arith, l)) ∙ put_else i t (args_at (suc i) ts) n (λ e. omega (arith, e, l))))
 
-same_term : (s t : Term) → Some s ≡ Some t → s ≡ t
-same_term s t e = cc
-
 shown_args : (name : Naming) (h : Cells) (look : Substitution) (P : ℕ → Type 0) (i : ℕ) (cells : ℕ → Option Cell) (ts : Terms) → AreHeld name h look P i cells ts → AreShown name h look P (args_at i ts) cells
-shown_args name h look P i cells no_terms a n t e = absurd (no_term t e)
+shown_args name h look P i cells no_terms a n t e = absurd (none-some t e)
 shown_args name h look P i cells (term s ts) a n t e = elim (cases_eq n i) [
   | inl k ↦
-      let same : s ≡ t = same_term s t (sym (put_here i s (args_at (suc i) ts)) ∙ ap (put_at i s (args_at (suc i) ts)) (sym k) ∙ e) in
+      let same : s ≡ t = same_Some s t (sym (put_here i s (args_at (suc i) ts)) ∙ ap (put_at i s (args_at (suc i) ts)) (sym k) ∙ e) in
       (a.0.0, ap cells k ∙ a.0.1, subst (λ u. IsShown name h look P u a.0.0) same a.0.2)
   | inr k ↦ shown_args name h look P (suc i) cells ts a.1 n t (sym (put_else i s (args_at (suc i) ts) n k) ∙ e)
 ]
@@ -130,7 +128,7 @@ module _ (M : ℕ) (area : Area) (shown : List ℕ) (name : Naming) (h : Cells) 
           kept = kept_known M h qs b.equations b.posted P m.look m.kept (Made p fresh) there back;
           same = subst (λ l. SaysSame F (b.equations ++ todo) (l ++ b.equations)) (sym is) says;
           xs = shown_same name h m.look (Made p fresh) p.x c.x c'.x same (shown_moved name h h m.look m.look P (Made p fresh) there (λ t d o i j. (i, j)) p.x c.x (shown_args name h m.look P 1 c.x m.ts m.held));
-          ys = λ i t j. absurd (no_term t j);
+          ys = λ i t j. absurd (none-some t j);
           saved = all_moved name h h m.look m.look P (IsOld p fresh) (λ v l. ((there v l).0, wide v l)) (λ t d o i j. (i, j)) n fresh (omega arith) m.returns stack m.saved;
           own = omega arith;
           covered = λ v l t. absurd (omega (arith, l, t));

@@ -1,5 +1,6 @@
 -- The steps from `true`, `fail`, `=` and `;`, and from any goal where the budget is spent.
 use Rattle.std.proofs.Common.{◌≡◌, ℕ, suc, ◌<◌, List, [], ◌∷◌, ◌++◌, length, Option, Some, refl, ap, sym, ◌∙◌, subst, inl, arith}
+use Rattle.std.proofs.lemmas.Option.{same_Some}
 use Rattle.fd_language.specs.Term.{Term, apply}
 use Rattle.fd_language.specs.Family.{Family}
 use Rattle.fd_language.specs.Range.{Indexical}
@@ -49,9 +50,6 @@ TakesGoal (code.Constrain k) = Unit {0}
 TakesGoal (code.Label o) = Unit {0}
 TakesGoal (code.PostRange r n) = Unit {0}
 TakesGoal _ = ⊥
-
-same_cell : (d e : Cell) → Some d ≡ Some e → d ≡ e
-same_cell d e k = cc
 
 -- Two terms whose cells are known are equated by a goal.
 module _ (M : ℕ) (area : Area) (shown : List ℕ) (name : Naming) (h : Cells) (qs : List Indexical) (at : ℕ) (c : Registers) (stack : List Saved) (b : Branch) (taken : Places → Goal → Type 0) (m : IsTaking M area shown name h qs at c stack b taken)
@@ -129,7 +127,7 @@ module _ (M : ℕ) (area : Area) (prog : Program) (q : Query) (name : Naming) (h
     low = let i = (subst (EachBelow b.fresh) (t.goals ∙ ap (λ g. g ∷ t.later) t.is.4) t.ready.below).0 in (of_below b.fresh left i.0, of_below b.fresh right i.1)
 
     held : (i : ℕ) (x : Term) (a : Cell) → t.ready.p.x i ≡ Some x → Below b.fresh x → c.x i ≡ Some a → apply t.ready.made.look x ≡ term_of name h a
-    held i x a e l o = let w = ready_held M area q.shown name h qs at c stack b t.ready i x e l in w.2.value ∙ ap (term_of name h) (same_cell w.0 a (sym w.1 ∙ o))
+    held i x a e l o = let w = ready_held M area q.shown name h qs at c stack b t.ready i x e l in w.2.value ∙ ap (term_of name h) (same_Some w.0 a (sym w.1 ∙ o))
 
     on_left : apply t.ready.made.look left ≡ term_of name h d
     on_left = held 1 left d t.is.2 low.0 at_d

@@ -1,7 +1,8 @@
 -- A compound term of a clause's head, where the argument is one of its name and arity: its arguments are read one by one.
 use Rattle.std.proofs.Common.{◌≡◌, ℕ, zero, suc, ◌+◌, ◌<◌, ◌≤◌, Bool, true, false, cond, ◌&&◌, ◌||◌, List, [], ◌∷◌, ◌++◌, length, Option, Some, refl, ap, sym, ◌∙◌, subst, inl, inr, ◌⊎◌, arith, nat_lt}
-use Rattle.std.proofs.lemmas.Bool.{cases_Bool, cases_eq, true≢false, and_parts, or_cases}
+use Rattle.std.proofs.lemmas.Bool.{cases_Bool, cases_eq, true≢false, and_parts, or_cases, and_from}
 use Rattle.std.proofs.lemmas.Bool.Decides.{nat_tests}
+use Rattle.std.proofs.lemmas.Option.{same_Some}
 use Rattle.fd_language.specs.Term.{Name, Term, Terms, Var, Comp, no_terms, term, Substitution, apply, apply_all}
 use Rattle.fd_language.specs.Unifier.{Equation}
 use Rattle.fd_language.specs.Family.{Family}
@@ -63,12 +64,9 @@ after_learn p fresh v k =
       plain = (λ n t e. more_of (Made p fresh) (Made (learn p v) fresh) more t (k.0 n t e), λ n t e. more_of (Made p fresh) (Made (learn p v) fresh) more t (k.1 n t e));
     }
 
-same_term : (s t : Term) → Some s ≡ Some t → s ≡ t
-same_term s t e = cc
-
 put_plain : (P : ℕ → Type 0) (r : ℕ → Option Term) (i : ℕ) (t : Term) → Of P t → ((n : ℕ) (u : Term) → r n ≡ Some u → Of P u) → (n : ℕ) (u : Term) → put_at i t r n ≡ Some u → Of P u
 put_plain P r i t o k n u e = elim (cases_eq n i) [
-  | inl j ↦ subst (Of P) (same_term t u (sym (put_here i t r) ∙ ap (put_at i t r) (sym j) ∙ e)) o
+  | inl j ↦ subst (Of P) (same_Some t u (sym (put_here i t r) ∙ ap (put_at i t r) (sym j) ∙ e)) o
   | inr d ↦ k n u (sym (put_else i t r n d) ∙ e)
 ]
 
@@ -113,10 +111,6 @@ module _ (area : Area) (fresh : ℕ) where
       ((more_of (Made (learn p o.0) fresh) (Made q fresh) (made_after (learn p o.0) q fresh rest.1) t one.0, rest.0), after_then p (learn p o.0) q fresh one.1 rest.1)
 
 -- ---- ghosts of the arguments
-
-and_true : (x y : Bool) → x ≡ true → y ≡ true → (x && y) ≡ true
-and_true true y e f = f
-and_true false y e f = absurd (true≢false (sym e))
 
 or_true : (x y : Bool) → (x ≡ true) ⊎ (y ≡ true) → (x || y) ≡ true
 or_true true y e = refl
@@ -199,7 +193,7 @@ module _ (M : ℕ) (name : Naming) (h : Cells) (qs : List Indexical) (returns : 
   low v k = elim k.1 [ inl l ↦ omega (arith, l) | inr l ↦ omega (arith, l) ]
 
   inner_true : (v : ℕ) → P v → inner v ≡ true
-  inner_true v k = and_true (p.known v) (nat_lt v b.fresh || nat_lt v p.top) k.0 (or_true (nat_lt v b.fresh) (nat_lt v p.top) (elim k.1 [ inl l ↦ inl (grind (arith, nat_tests)) | inr l ↦ inr (grind (arith, nat_tests)) ]))
+  inner_true v k = and_from (p.known v) (nat_lt v b.fresh || nat_lt v p.top) k.0 (or_true (nat_lt v b.fresh) (nat_lt v p.top) (elim k.1 [ inl l ↦ inl (grind (arith, nat_tests)) | inr l ↦ inr (grind (arith, nat_tests)) ]))
 
   inner_back : (v : ℕ) → inner v ≡ true → P v
   inner_back v e =

@@ -1,6 +1,7 @@
 -- One more range on a branch and on the store, where variables that it names may be integers: the store has a variable for each integer too.
 use Rattle.std.proofs.Common.{◌≡◌, ℕ, Bool, true, false, cond, ◌==◌, ℤ, pos, negsuc, List, [], ◌∷◌, ◌++◌, Option, Some, map, refl, ap, sym, ◌∙◌, subst, inl, inr, ◌⊎◌, eqb-true, eq-eqb}
 use Rattle.std.proofs.lemmas.Bool.{cases_Bool, or_cases, or_left, or_right, true≢false}
+use Rattle.std.proofs.lemmas.Option.{same_Some}
 use Rattle.fd_language.specs.Term.{Term, Var, Int, Atom, Comp, Substitution, apply}
 use Rattle.fd_language.specs.Unifier.{Equation, Unifies}
 use Rattle.fd_language.specs.Family.{Family, has, IsFamily, IsSubset, IsRising}
@@ -63,9 +64,6 @@ slot_there f p v h = one_left (rename_indexical f p) (f v) (subst (λ l. has l (
 
 slot_back : (f : ℕ → ℕ) (p : Indexical) (k : ℕ) → has (constrained (rename_indexical f p ∷ [])) k ≡ true → (v : ℕ) × (has (names p) v ≡ true) × (f v ≡ k)
 slot_back f p k h = map_has f (names p) k (subst (λ l. has l k ≡ true) (names_renamed f p) (one_back (rename_indexical f p) k h))
-
-some_same : (k j : ℕ) → Some k ≡ Some j → k ≡ j
-some_same k j e = cc
 
 -- each touch says of a named variable's slot which integer the variable is
 abbrev pub AreTold : Indexical → Substitution → (ℕ → ℕ) → List Touch → Type 0
@@ -130,7 +128,7 @@ module _ (M : ℕ) (es : List Equation) (ps : List Indexical) (P : ℕ → Type 
       | inl d ↦ elim (po.kind v c) [
         | inl w ↦
             let l = st.linked v w.0 d w.1 in
-            let same : l.0 ≡ f v = some_same l.0 (f v) (sym (po.keep w.0 l.0 l.1) ∙ w.2) in
+            let same : l.0 ≡ f v = same_Some l.0 (f v) (sym (po.keep w.0 l.0 l.1) ∙ w.2) in
             ap T (slot_old v d) ∙ sym (st.agrees T before v d) ∙ ap (shown_set link T) w.1 ∙ ap (λ o. linked_set o T) l.1 ∙ ap T same
         | inr w ↦ ap T (slot_old v d) ∙ sym (st.agrees T before v d) ∙ ap (shown_set link T) w.1 ∙ number_set link v w.0 c w.1
       ]
@@ -276,12 +274,12 @@ module _ (M : ℕ) (es : List Equation) (ps : List Indexical) (P : ℕ → Type 
         | inl w ↦
             let a : Var w.0 ≡ Var c = sym w.1 ∙ l.2 in
             let b : w.0 ≡ c = cc in
-            let g : f l.0 ≡ k = some_same (f l.0) k (sym w.2 ∙ ap link' b ∙ e) in
+            let g : f l.0 ≡ k = same_Some (f l.0) k (sym w.2 ∙ ap link' b ∙ e) in
             elim (cases_Bool (has (constrained ps) l.0)) [
               | inl d ↦
                   let o = st.linked l.0 c d l.2 in
                   let u = st.from c o.0 o.1 in
-                  let same : o.0 ≡ k = some_same o.0 k (sym (po.keep c o.0 o.1) ∙ e) in
+                  let same : o.0 ≡ k = same_Some o.0 k (sym (po.keep c o.0 o.1) ∙ e) in
                   (u.0, named_right (p ∷ []) ps u.0 u.1, u.2, slot_old u.0 u.1 ∙ u.3 ∙ same)
               | inr d ↦ (l.0, named_in l.0 l.1, l.2, slot_new l.0 d ∙ g)
             ]

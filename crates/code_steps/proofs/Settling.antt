@@ -1,6 +1,7 @@
 -- Equations that are restated, goals that are reached, and frames that come and go.
 use Rattle.std.proofs.Common.{◌≡◌, ℕ, ◌<◌, ◌≤◌, false, List, [], ◌∷◌, ◌++◌, Some, refl, ap, sym, ◌∙◌, subst, inl, inr, arith, append-nil}
 use Rattle.std.proofs.lemmas.Bool.{cases_lt, true≢false}
+use Rattle.std.proofs.lemmas.Option.{none-some}
 use Rattle.fd_language.specs.Term.{Term, Var}
 use Rattle.fd_language.specs.Unifier.{Equation}
 use Rattle.fd_language.specs.Range.{Indexical}
@@ -18,7 +19,7 @@ use Rattle.wam_code.specs.Means.{Return, returned}
 use Rattle.wam_code.proofs.Lemmas.{still_says_same}
 use Rattle.code_steps.specs.Registers.{Registers, Saved, AreSame}
 use Rattle.code_steps.specs.Standing.{Made, IsOld, IsMade}
-use Rattle.code_steps.proofs.Shown.{no_term, shown_moved, all_moved, shown_same}
+use Rattle.code_steps.proofs.Shown.{shown_moved, all_moved, shown_same}
 use Rattle.code_steps.proofs.Making.{made_write, made_place}
 
 -- equations with none behind them
@@ -40,7 +41,7 @@ module _ (M : ℕ) (name : Naming) (h : Cells) (qs : List Indexical) (returns : 
     kept = m.kept;
     same = m.same;
     xs = shown_same name h m.look (Made p b.fresh) p.x c.x c'.x same m.xs;
-    ys = λ n t e. absurd (no_term t e);
+    ys = λ n t e. absurd (none-some t e);
     saved = m.saved;
     own = m.own;
     covered = m.covered;
@@ -120,7 +121,7 @@ module _ (M : ℕ) (name : Naming) (h : Cells) (qs : List Indexical) (r : Return
           kept = kept_known M h qs b.equations b.posted P m.look (settled_kept M name h qs (r ∷ returns) (s ∷ stack) b c p todo m whole is)
               (Made q b.fresh) (λ v l. (refl, inl l)) (λ v k. elim k.1 [ inl l ↦ l | inr l ↦ absurd (omega (arith, l)) ]);
           same = says_itself P b.equations;
-          xs = λ n t e. absurd (no_term t e);
+          xs = λ n t e. absurd (none-some t e);
           ys = shown_same name h m.look (Made q b.fresh) r.slots s.slots c'.y same (shown_moved name h h m.look m.look (IsOld p b.fresh) (Made q b.fresh) wider (λ t d o i e. (i, e)) r.slots s.slots of.2);
           saved = all_moved name h h m.look m.look (IsOld p b.fresh) (IsOld q b.fresh) (λ v k. (refl, k.1)) (λ t d o i e. (i, e)) b.fresh b.fresh (omega arith) returns stack of.3;
           own = of.1;

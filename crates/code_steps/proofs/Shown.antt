@@ -1,6 +1,7 @@
 -- Registers and continuations on a heap that changes.
 use Rattle.std.proofs.Common.{◌≡◌, ℕ, ◌≤◌, cond, List, [], ◌∷◌, Option, Some, None, refl, ap, sym, ◌∙◌, subst, inl, inr, arith, eq-eqb, ne_eqb}
 use Rattle.std.proofs.lemmas.Bool.{cases_eq}
+use Rattle.std.proofs.lemmas.Option.{none-some, same_Some}
 use Rattle.fd_language.specs.Term.{Term, Substitution, apply}
 use Rattle.heap_cells.specs.declared.Cell.{Cell}
 use Rattle.heap_cells.specs.Cells.{Cells, IsOf}
@@ -16,12 +17,6 @@ put_here i t r = ap (λ b. cond b (Some t) (r i)) (eq-eqb i i refl)
 
 pub put_else : (i : ℕ) (t : Term) (r : ℕ → Option Term) (n : ℕ) → (n ≡ i → ⊥) → put_at i t r n ≡ r n
 put_else i t r n d = ap (λ b. cond b (Some t) (r n)) (ne_eqb n i d)
-
-same_term : (s t : Term) → Some s ≡ Some t → s ≡ t
-same_term s t e = cc
-
-pub no_term : (t : Term) → None ≡ Some t → ⊥
-no_term t e = cc
 
 -- the cells of known terms stay, or move with the heap
 module _ (name : Naming) (h now : Cells) (look look' : Substitution) (P Q : ℕ → Type 0) (wider : (x : ℕ) → P x → Q x)
@@ -47,7 +42,7 @@ module _ (name : Naming) (h : Cells) (look : Substitution) (P : ℕ → Type 0) 
   pub shown_put : (r : ℕ → Option Term) (c c' : ℕ → Option Cell) (i : ℕ) (t : Term) (d : Cell) → IsShown name h look P t d → IsPut c i d c' → AreShown name h look P r c → AreShown name h look P (put_at i t r) c'
   shown_put r c c' i t d one put s n u e = elim (cases_eq n i) [
     | inl k ↦
-        let same : t ≡ u = same_term t u (sym (put_here i t r) ∙ ap (put_at i t r) (sym k) ∙ e) in
+        let same : t ≡ u = same_Some t u (sym (put_here i t r) ∙ ap (put_at i t r) (sym k) ∙ e) in
         (d, ap c' k ∙ put.here, subst (λ v. IsShown name h look P v d) same one)
     | inr k ↦ let w = s n u (sym (put_else i t r n k) ∙ e) in (w.0, put.else n k ∙ w.1, w.2)
   ]

@@ -1,6 +1,7 @@
 -- A new machine at a query's code, and a store without a model.
 use Rattle.std.proofs.Common.{◌≡◌, ℕ, ◌+◌, ◌<◌, false, List, [], ◌∷◌, ◌++◌, length, map, Option, None, refl, ap, sym, subst, inl, inr, arith}
 use Rattle.std.proofs.lemmas.Bool.{true≢false}
+use Rattle.std.proofs.lemmas.Option.{none-some}
 use Rattle.fd_language.specs.Term.{Term, Var}
 use Rattle.fd_language.specs.Family.{Family}
 use Rattle.fd_language.specs.Range.{Indexical}
@@ -25,7 +26,6 @@ use Rattle.code_steps.specs.Registers.{Registers, Saved}
 use Rattle.code_steps.specs.Standing.{Made, Stands}
 use Rattle.code_steps.specs.Running.{Goes, Choice, Runs, Returns}
 use Rattle.code_steps.proofs.Running.{stands_no_model}
-use Rattle.code_steps.proofs.Shown.{no_term}
 
 -- Whatever the registers hold, a machine with an empty heap and an empty store stands for the run of the query.
 pub run_starts : (M : ℕ) (area : Area) (prog : Program) (q : Query) (name : Naming) (h : Cells) → length h.slots ≡ 0 → (s : Span) → IsQueryCode area q s → EachBelow q.variables q.goals → NumbersBelow q.variables q.shown → AreRunnable M q.goals
@@ -46,8 +46,8 @@ run_starts M area prog q name h size s code below asked fit c n k es r run =
         look = Var;
         kept = kept_known M h [] [] [] (λ v. v < 0) Var kept (Made p q.variables) (λ v l. absurd (omega (arith, l))) (λ v m. absurd (true≢false (sym m.0)));
         same = record { there = λ u i. i; back = λ u i. (u, i, λ x l. refl) };
-        xs = λ i t e. absurd (no_term t e);
-        ys = λ i t e. absurd (no_term t e);
+        xs = λ i t e. absurd (none-some t e);
+        ys = λ i t e. absurd (none-some t e);
         saved = tt;
         own = omega arith;
         covered = λ v l i. absurd (omega (arith, l, i));

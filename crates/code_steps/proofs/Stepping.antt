@@ -1,5 +1,6 @@
 -- The machine's step at each instruction.
 use Rattle.std.proofs.Common.{◌≡◌, ℕ, suc, ◌<◌, ℤ, true, List, [], ◌∷◌, length, Option, Some, None, refl, ap, sym, ◌∙◌, subst, arith}
+use Rattle.std.proofs.lemmas.Option.{none-some}
 use Rattle.fd_language.specs.Term.{Name, Term, Terms, Var, Int, Atom, no_terms, term, Substitution}
 use Rattle.fd_language.specs.Unifier.{Equation}
 use Rattle.fd_language.specs.Range.{Indexical}
@@ -27,7 +28,7 @@ use Rattle.wam_code.proofs.Lemmas.{at_place, quietly_keeps}
 use Rattle.code_steps.specs.Registers.{Registers, Saved, cell_in, AreSame, IsWritten, IsShown, AreHeld, AllShown}
 use Rattle.code_steps.specs.Standing.{Made, IsOld, IsMade, Stands, IsCalling}
 use Rattle.code_steps.specs.Steps.{GoesOnEqual}
-use Rattle.code_steps.proofs.Shown.{no_term, all_moved}
+use Rattle.code_steps.proofs.Shown.{all_moved}
 use Rattle.code_steps.proofs.Making.{made_read, made_write, made_place, made_cell, made_unified, made_refuted}
 use Rattle.code_steps.proofs.Settling.{made_no_slots, made_learnt, made_restated, made_returned, settled_kept}
 
@@ -202,7 +203,7 @@ module _ (M : ℕ) (area : Area) (shown : List ℕ) (name : Naming) (h : Cells) 
   -- what a continuation goes on with
   returned_is : (p q : Places) → IsSettled (no_registers p) q → (to : ℕ) (gs : List Goal) → Means area w to q [] gs → Means area w to (returned (record { to = to; slots = q.y; own = q.own })) [] gs
   returned_is p q s to gs k =
-      let xs : q.x ≡ (λ n. None) = functions (λ n. nothing (q.x n) (λ t e. no_term t (s.xs n t e).0)) in
+      let xs : q.x ≡ (λ n. None) = functions (λ n. nothing (q.x n) (λ t e. none-some t (s.xs n t e).0)) in
       let known : q.known ≡ (λ v. true) = functions s.known in
       subst (λ t. Means area w to (record { x = λ n. None; y = q.y; known = λ v. true; own = q.own; top = t }) [] gs) s.top
       (subst (λ l. Means area w to (record { x = λ n. None; y = q.y; known = l; own = q.own; top = q.top }) [] gs) known

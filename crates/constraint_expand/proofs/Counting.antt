@@ -2,7 +2,7 @@
 use Rattle.std.proofs.Common.{◌≡◌, ℕ, zero, suc, ◌+◌, ◌<◌, ◌≤◌, ◌^◌, Bool, true, false, cond, ℤ, pos, ◌<ℤ◌, List, [], ◌∷◌, ◌++◌, length, drop, get_or, refl, sym, ap, subst, ◌∙◌, arith, append_assoc, append-nil, Ok}
 use Rattle.std.specs.Prelude.{IfOk}
 use Rattle.std.proofs.lemmas.Int.{ints}
-use Rattle.std.proofs.lemmas.List.{drop_all}
+use Rattle.std.proofs.lemmas.List.{drop_all, drop_more}
 use Rattle.fd_language.specs.Term.{Term}
 use Rattle.fd_language.specs.Range.{Indexical}
 use Rattle.fd_model.specs.Linear.{Comparison, IsAtMost, of_both}
@@ -13,14 +13,14 @@ use Rattle.fd_model.specs.Constraining.{pair, atmost}
 use Rattle.constraint_expand.specs.declared.members.Placed.{Placed}
 use Rattle.constraint_expand.specs.Lists.{AllPlaced}
 use Rattle.constraint_expand.specs.Nodes.{AreIntegers, CanTurn}
-use Rattle.constraint_expand.proofs.Different.{made, next_drop}
+use Rattle.constraint_expand.proofs.Different.{made}
 
 -- a counter more in the sum
 pub sum_turns : (xs : List ℕ) (n : ℕ) (made more : List (ℕ × ℤ)) (i : ℕ) → i < length xs → made ++ units (drop i xs) (n + i) ≡ units xs n → more ≡ made ++ (n + i, pos 1) ∷ [] → more ++ units (drop (i + 1) xs) (n + (i + 1)) ≡ units xs n
 sum_turns xs n made more i h f e =
     let rest = units (drop (i + 1) xs) (n + (i + 1)) in
     let count : suc (n + i) ≡ n + (i + 1) = omega arith in
-    let terms : units (drop i xs) (n + i) ≡ (n + i, pos 1) ∷ rest = ap (λ ys. units ys (n + i)) (next_drop xs i 0 h) ∙ ap (λ k. (n + i, pos 1) ∷ units (drop (i + 1) xs) k) count in
+    let terms : units (drop i xs) (n + i) ≡ (n + i, pos 1) ∷ rest = ap (λ ys. units ys (n + i)) (drop_more xs i 0 h) ∙ ap (λ k. (n + i, pos 1) ∷ units (drop (i + 1) xs) k) count in
     ap (λ ts. ts ++ rest) e ∙ append_assoc made ((n + i, pos 1) ∷ []) rest ∙ ap (λ ts. made ++ ts) (sym terms) ∙ f
 
 pub sum_ends : (xs : List ℕ) (n : ℕ) (made : List (ℕ × ℤ)) (i : ℕ) → length xs ≤ i → made ++ units (drop i xs) (n + i) ≡ units xs n → made ≡ units xs n

@@ -1,7 +1,7 @@
 -- The ranges of variables that differ.
 use Rattle.std.proofs.Common.{◌≡◌, ℕ, ◌+◌, ◌<◌, ◌-◌, ◌^◌, ℤ, take, length-drop, arith, List, [], ◌∷◌, ◌++◌, length, drop, get_or, drop-cons, add-one, Ok, refl, sym, ap, subst, ◌∙◌, append_assoc}
 use Rattle.std.specs.Prelude.{IfOk}
-use Rattle.std.proofs.lemmas.List.{take_all}
+use Rattle.std.proofs.lemmas.List.{take_all, take_rest, drop_more}
 use Rattle.fd_language.specs.Term.{Term}
 use Rattle.fd_model.specs.Linear.{of_one}
 use Rattle.fd_model.specs.LinearRows.{Expansion}
@@ -27,14 +27,6 @@ pub record Posting (all : List Indexical) (start now : List (ℕ × Range)) (ahe
 
 pub posting_turns : (all : List Indexical) (start now new : List (ℕ × Range)) (ps ahead : List Indexical) → Posting all start now (ps ++ ahead) → Posts ps now new → Posting all start new ahead
 posting_turns all start now new ps ahead i p = record { is = ap (λ rs. rs ++ pairs_of ahead) p ∙ append_assoc now (pairs_of ps) (pairs_of ahead) ∙ ap (λ rs. now ++ rs) (sym (pairs_append ps ahead)) ∙ i.is }
-
--- what is left of a list, from its next element on
-pub next_drop : {A : Type 0} (s : List A) (i : ℕ) (d : A) → i < length s → drop i s ≡ get_or s i d ∷ drop (i + 1) s
-next_drop s i d h = rw (add-one, drop-cons s i d) refl
-
--- a slice to the end
-pub whole_drop : {A : Type 0} (s : List A) (k : ℕ) → take (length s - k) (drop k s) ≡ drop k s
-whole_drop s k = take_all (length s - k) (drop k s) (omega (arith, length-drop k s))
 
 pub posted_list : (ps : List Indexical) (list : List (ℕ × Range)) → Posts ps [] list → indexicals list ≡ ps
 posted_list ps list p = ap indexicals p ∙ pairs_back ps

@@ -1,11 +1,11 @@
 -- Ranges that are given in pieces.
 use Rattle.std.proofs.Common.{◌≡◌, ℕ, zero, suc, ◌+◌, ◌-◌, ◌<◌, ◌≤◌, ℤ, List, [], ◌∷◌, ◌++◌, length, take, drop, get_or, refl, sym, ap, subst, ◌∙◌, arith, append-nil, length-append}
+use Rattle.std.proofs.lemmas.List.{take_rest, drop_more, get_or_default}
 use Rattle.fd_language.specs.Range.{Range, Indexical}
 use Rattle.fd_model.specs.ListRows.{against, pairwise}
 use Rattle.constraint_expand.specs.Pieces.{IsPiece, IsOver}
 use Rattle.constraint_expand.specs.Posts.{indexicals, Posts}
-use Rattle.constraint_expand.proofs.Different.{next_drop, whole_drop, posted_list}
-use Rattle.constraint_expand.proofs.RowPosts.{other_default}
+use Rattle.constraint_expand.proofs.Different.{posted_list}
 
 pub is_piece : (old new ps : List Indexical) (list : List (ℕ × Range)) → old ≡ ps ++ new → 0 < length ps → Posts ps [] list → IsPiece old new list
 is_piece old new ps list e some p = record {
@@ -34,7 +34,7 @@ left_some (x ∷ xs) (suc j) l = left_some xs j (omega (arith, l))
 pub pairs_piece : (xs : List ℕ) (i j : ℕ) → j ≡ i + 1 → j < length xs → (list : List (ℕ × Range)) → Posts (against (get_or xs i 0) (drop j xs)) [] list → IsPiece (pairwise (drop i xs)) (pairwise (drop j xs)) list
 pairs_piece xs i j e l list p =
     let x = get_or xs i 0 in
-    let next : drop i xs ≡ x ∷ drop j xs = next_drop xs i 0 (omega (arith, e, l)) ∙ ap (λ k. x ∷ drop k xs) (sym e) in
+    let next : drop i xs ≡ x ∷ drop j xs = drop_more xs i 0 (omega (arith, e, l)) ∙ ap (λ k. x ∷ drop k xs) (sym e) in
     is_piece (pairwise (drop i xs)) (pairwise (drop j xs)) (against x (drop j xs)) list (ap pairwise next) (against_some x (drop j xs) (left_some xs j l)) p
 
 -- ---- the ranges that were made at once
@@ -56,6 +56,6 @@ last_piece a a' b b' d d' rest now list all u v w e f g l =
 pub against_posts : (xs slice : List ℕ) (i j v : ℕ) (start list : List (ℕ × Range)) → slice ≡ xs → i < length xs → v ≡ get_or xs i v → start ≡ [] → Posts (against v (take (length slice - j) (drop j slice))) start list → Posts (against (get_or xs i 0) (drop j xs)) [] list
 against_posts xs slice i j v start list s l e n p =
     let rest = take (length slice - j) (drop j slice) in
-    subst (λ (ys : List ℕ). Posts (against (get_or xs i 0) ys) [] list) (ap (λ zs. take (length zs - j) (drop j zs)) s ∙ whole_drop xs j)
-    (subst (λ (k : ℕ). Posts (against k rest) [] list) (e ∙ other_default xs i v 0 l)
+    subst (λ (ys : List ℕ). Posts (against (get_or xs i 0) ys) [] list) (ap (λ zs. take (length zs - j) (drop j zs)) s ∙ take_rest xs j)
+    (subst (λ (k : ℕ). Posts (against k rest) [] list) (e ∙ get_or_default xs i v 0 l)
     (subst (λ (rs : List (ℕ × Range)). Posts (against v rest) rs list) n p))

@@ -1,5 +1,6 @@
 -- The nodes of a row spell the row.
 use Rattle.std.proofs.Common.{◌≡◌, ℕ, suc, ◌+◌, ◌*◌, Bool, true, false, cond, ℤ, pos, negsuc, neg_ℤ, ◌*ℤ◌, List, [], ◌∷◌, ◌++◌, length, take, drop, get_or, refl, sym, ap, subst, ◌∙◌, arith, append_assoc, length-append}
+use Rattle.std.proofs.Math.Seq.{take-append_seam, drop-append_seam, get_or-append_seam}
 use Rattle.fd_language.specs.declared.range_node.RangeNode.{RangeNode}
 use Rattle.fd_language.specs.declared.range_node.RangeNode.TheVariants as node
 use Rattle.fd_language.specs.Range.{Expr, Number, Min, Max, Val, Sub, Mul}
@@ -49,24 +50,11 @@ pub products_length : (r : BoundReading) (ts : List (ℕ × ℤ)) → length (pr
 products_length r [] = refl
 products_length r (t ∷ ts) = omega (arith, products_length r ts)
 
--- the products before and behind one
-take_front : {A : Type 0} (xs ys : List A) → take (length xs) (xs ++ ys) ≡ xs
-take_front [] ys = refl
-take_front (x ∷ xs) ys = ap (λ zs. x ∷ zs) (take_front xs ys)
-
-drop_front : {A : Type 0} (xs ys : List A) → drop (length xs) (xs ++ ys) ≡ ys
-drop_front [] ys = refl
-drop_front (x ∷ xs) ys = drop_front xs ys
-
 take_exact : {A : Type 0} (xs ys : List A) (n : ℕ) → n ≡ length xs → take n (xs ++ ys) ≡ xs
-take_exact xs ys n h = ap (λ k. take k (xs ++ ys)) h ∙ take_front xs ys
+take_exact xs ys n h = ap (λ k. take k (xs ++ ys)) h ∙ take-append_seam xs ys
 
 drop_exact : {A : Type 0} (xs ys : List A) (n : ℕ) → n ≡ length xs → drop n (xs ++ ys) ≡ ys
-drop_exact xs ys n h = ap (λ k. drop k (xs ++ ys)) h ∙ drop_front xs ys
-
-at_front : {A : Type 0} (xs ys : List A) (y d : A) → get_or (xs ++ y ∷ ys) (length xs) d ≡ y
-at_front [] ys y d = refl
-at_front (x ∷ xs) ys y d = at_front xs ys y d
+drop_exact xs ys n h = ap (λ k. drop k (xs ++ ys)) h ∙ drop-append_seam xs ys
 
 products_before : (r : BoundReading) (before after : List (ℕ × ℤ)) (t : ℕ × ℤ) (i : ℕ) → i ≡ length before → take (4 * i) (product_nodes r (before ++ t ∷ after)) ≡ product_nodes r before
 products_before r before after t i h =
@@ -80,7 +68,7 @@ products_behind r before after t i h =
 -- a bound of a row
 module _ (before after : List (ℕ × ℤ)) (x a : ℕ) (c : ℤ) (form : Form) (i : ℕ) (h : i ≡ length before) (e : form.terms.items ≡ before ++ (x, pos a) ∷ after) (k : form.constant ≡ c) where
   divisor_is : divisor form i ≡ pos a
-  divisor_is = (λ j. (get_or (e j) (h j) (0, pos 0)).1) ∙ ap (λ (t : ℕ × ℤ). t.1) (at_front before after (x, pos a) (0, pos 0))
+  divisor_is = (λ j. (get_or (e j) (h j) (0, pos 0)).1) ∙ ap (λ (t : ℕ × ℤ). t.1) (get_or-append_seam before (x, pos a) after (0, pos 0))
 
   bound_spelled : (r : BoundReading) (products : List RangeNode) (d : RangeNode) (rest : List RangeNode) → products ≡ product_nodes r (before ++ (x, pos a) ∷ after)
       → bound_nodes form i products d ++ rest ≡ expr_nodes (reads r c (before ++ after)) (node.Int (pos a) ∷ d ∷ rest)

@@ -14,9 +14,8 @@ use Rattle.fd_model.specs.LinearRows.{row_by_sign, rows_behind}
 use Rattle.linear_forms.proofs.Lemmas.{neg_one, integer_fits, one_inside}
 use Rattle.constraint_expand.specs.declared.rows.Comparison.{Comparison}
 use Rattle.constraint_expand.specs.declared.rows.Form.{Form}
-use Rattle.std.proofs.lemmas.List.{take-append-drop, length-take-le}
+use Rattle.std.proofs.lemmas.List.{take-append-drop, length-take-le, drop_more, get_or_default}
 use Rattle.constraint_expand.specs.Nodes.{AreIntegers, CanTurn, comparison_of, lower_reading, upper_reading, product_nodes, row_list, HasProduct, IsForm, AreSides, product_at, row_at, form_rows}
-use Rattle.constraint_expand.proofs.Different.{next_drop}
 use Rattle.constraint_expand.proofs.RowNodes.{straight_row, turned_row, products_length, scaled_length}
 
 -- each coefficient is an integer of the language, and so is its negation
@@ -48,7 +47,7 @@ negated_turns ts now new i z h f e p =
     let rest : List (ℕ × ℤ) = scaled (negsuc 0) (drop (i + 1) ts) in
     let same : z ≡ negsuc 0 *ℤ t.1 = e ∙ sym (neg_one t.1) in
     ap (λ (us : List (ℕ × ℤ)). us ++ rest) p ∙ append_assoc now ((t.0, z) ∷ []) rest ∙ (λ j. now ++ (t.0, same j) ∷ rest)
-    ∙ ap (λ (us : List (ℕ × ℤ)). now ++ scaled (negsuc 0) us) (sym (next_drop ts i (0, pos 0) h)) ∙ f
+    ∙ ap (λ (us : List (ℕ × ℤ)). now ++ scaled (negsuc 0) us) (sym (drop_more ts i (0, pos 0) h)) ∙ f
 
 -- nodes that spell a range
 pub spelled_back : (ns : List RangeNode) (r : Range) → ns ≡ nodes_of r → (nodes_of (spelled ns) ≡ ns) × (spelled ns ≡ r)
@@ -58,7 +57,7 @@ spelled_back ns r e =
 
 -- a list around its element at i
 around : (ts : List (ℕ × ℤ)) (i : ℕ) (d : ℕ × ℤ) → i < length ts → ts ≡ take i ts ++ get_or ts i d ∷ drop (i + 1) ts
-around ts i d h = sym (take-append-drop i ts) ∙ ap (λ us. take i ts ++ us) (next_drop ts i d h)
+around ts i d h = sym (take-append-drop i ts) ∙ ap (λ us. take i ts ++ us) (drop_more ts i d h)
 
 short : (ts : List (ℕ × ℤ)) (i : ℕ) → i < length ts → i ≡ length (take i ts)
 short ts i h = sym (length-take-le i ts (omega arith))
@@ -120,11 +119,6 @@ sign_below z y f h e = subst (λ x. x <ℤ pos 0) e (let k : lt_z z (pos 0) ≡ 
 
 pub sign_above : (z y : ℤ) → FitsSigned w64 z → lt_z (to_z w64 (of_z w64 z)) (pos 0) ≡ false → z ≡ y → pos 0 ≤ℤ y
 sign_above z y f h e = subst (λ x. pos 0 ≤ℤ x) e (let k : lt_z z (pos 0) ≡ false = ap (λ x. lt_z x (pos 0)) (sym (to_z-of_z w64 z f)) ∙ h in grind (arith, ints))
-
-pub other_default : {A : Type 0} (s : List A) (i : ℕ) (d e : A) → i < length s → get_or s i d ≡ get_or s i e
-other_default [] i d e h = absurd (omega arith)
-other_default (x ∷ xs) zero d e h = refl
-other_default (x ∷ xs) (suc i) d e h = other_default xs i d e (omega arith)
 
 pub made_form : (k : Comparison) (b : Bool) (us ts : List (ℕ × ℤ)) (d c : ℤ) (form : Form) → IsForm k b us d form → us ≡ ts → d ≡ c → IsForm k b ts c form
 made_form k b us ts d c form f e m = subst (λ z. IsForm k b ts z form) m (subst (λ vs. IsForm k b vs d form) e f)

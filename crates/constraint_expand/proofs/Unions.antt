@@ -1,5 +1,6 @@
 -- Unions over the elements of a list.
 use Rattle.std.proofs.Common.{◌≡◌, ℕ, suc, ◌+◌, ◌-◌, ◌<◌, ◌≤◌, take, ℤ, pos, List, [], ◌∷◌, ◌++◌, length, drop, get_or, refl, sym, ap, ◌∙◌, arith, append_assoc, append-nil}
+use Rattle.std.proofs.lemmas.List.{take_rest, drop_more}
 use Rattle.fd_language.specs.Flat.{nodes_of, range_nodes}
 use Rattle.fd_language.specs.Range.{Range, Union}
 use Rattle.fd_language.specs.declared.range_node.RangeNode.{RangeNode}
@@ -8,7 +9,6 @@ use Rattle.fd_model.specs.ListRows.{joined, union_of}
 use Rattle.constraint_expand.specs.declared.elements.Direction.{Direction}
 use Rattle.constraint_expand.specs.declared.elements.Direction.TheVariants as direction
 use Rattle.constraint_expand.specs.Unions.{given_at, given_from, joined_nodes}
-use Rattle.constraint_expand.proofs.Different.{next_drop, whole_drop}
 
 given_nodes : (d : Direction) (y k : ℕ) (z : ℤ) (rest : List RangeNode) → range_nodes (given_at d y k z) rest ≡ nodes_of (given_at d y k z) ++ rest
 given_nodes direction.ElementAt y k z rest = refl
@@ -45,7 +45,7 @@ writing_turns d y all now middle new zs i e h w p q =
     let r : Range = given_at d y (i + 2) (get_or zs i e) in
     let count : suc (i + 2) ≡ (i + 1) + 2 = omega arith in
     let next : given_from d y (i + 2) (drop i zs) ≡ r ∷ given_from d y ((i + 1) + 2) (drop (i + 1) zs) =
-    ap (given_from d y (i + 2)) (next_drop zs i e h) ∙ given_cons d y (i + 2) (get_or zs i e) (drop (i + 1) zs) ∙ ap (λ k. r ∷ given_from d y k (drop (i + 1) zs)) count in
+    ap (given_from d y (i + 2)) (drop_more zs i e h) ∙ given_cons d y (i + 2) (get_or zs i e) (drop (i + 1) zs) ∙ ap (λ k. r ∷ given_from d y k (drop (i + 1) zs)) count in
     let rest : List RangeNode = joined_nodes (given_from d y ((i + 1) + 2) (drop (i + 1) zs)) in
     record {
       is =
@@ -61,4 +61,4 @@ pub union_written : (d : Direction) (y : ℕ) (zs : List ℤ) (ns : List RangeNo
     → ns ≡ nodes_of (union_of (given_from d y 1 zs))
 union_written d y [] ns z h e w = absurd (omega arith)
 union_written d y (x ∷ xs) ns z h e w =
-    w ∙ (λ i. nodes_of (given_at d y 1 (e i)) ++ joined_nodes (given_from d y 2 (whole_drop (x ∷ xs) 1 i))) ∙ union_spelled d y x xs
+    w ∙ (λ i. nodes_of (given_at d y 1 (e i)) ++ joined_nodes (given_from d y 2 (take_rest (x ∷ xs) 1 i))) ∙ union_spelled d y x xs

@@ -4,6 +4,7 @@ use Rattle.std.specs.Prelude.{codes}
 use Rattle.std.specs.Int.{w64}
 use Rattle.std.specs.Str.{bytes_eq}
 use Rattle.std.proofs.lemmas.Int.{fits_signed_from_abs}
+use Rattle.std.proofs.lemmas.List.{map_push as mapped_push}
 use Rattle.fd_language.specs.Term.{Term, Var, Int, Atom, Comp, no_terms, term, Name}
 use Rattle.fd_model.specs.declared.kinds.QueryFault.{QueryFault}
 use Rattle.fd_model.specs.declared.kinds.QueryFault.TheVariants.{BadType}
@@ -68,10 +69,6 @@ module _ {A : Type 0} (read : Term → Result A QueryFault) (c : Contents) (list
       by : (r : Result (List A) QueryFault) → of_one (λ xs. Ok ((done ++ x ∷ []) ++ xs)) r ≡ of_one (λ xs. Ok (done ++ xs)) (of_both prepend (Ok x) r)
       by (Ok xs) = ap (λ ys. Ok ys) (append_assoc done (x ∷ []) xs)
       by (Err f) = refl
-
-mapped_push : {A B : Type 0} (f : A → B) (xs : List A) (x : A) → map f (xs ++ x ∷ []) ≡ map f xs ++ f x ∷ []
-mapped_push f [] x = refl
-mapped_push f (y ∷ ys) x = ap (λ zs. f y ∷ zs) (mapped_push f ys x)
 
 pub map_push : {A B : Type 0} (f : A → B) (xs ys : List A) (x : A) → ys ≡ xs ++ x ∷ [] → map f ys ≡ map f xs ++ f x ∷ []
 map_push f xs ys x e = ap (map f) e ∙ mapped_push f xs x

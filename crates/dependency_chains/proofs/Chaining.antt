@@ -1,6 +1,6 @@
 -- Steps along a chain.
 use Rattle.std.proofs.Common.{◌≡◌, ℕ, zero, suc, ◌<◌, ◌≤◌, ◌-◌, Bool, true, false, cond, ◌&&◌, ◌==◌, List, ◌∷◌, length, refl, ap, sym, ◌∙◌, subst, inl, inr, arith, eqb-true, eq-eqb}
-use Rattle.std.proofs.lemmas.Bool.{cases_Bool, true≢false}
+use Rattle.std.proofs.lemmas.Bool.{cases_Bool, true≢false, and_parts, and_from}
 use Rattle.fd_language.specs.declared.range_node.Feature.{Feature}
 use Rattle.fd_language.specs.declared.range_node.Feature.TheVariants as feature
 use Rattle.fd_language.specs.Features.{is_same_feature}
@@ -31,20 +31,14 @@ feature_itself feature.Max = refl
 feature_itself feature.Val = refl
 feature_itself feature.Dom = refl
 
-both : (a b : Bool) → (a && b) ≡ true → (a ≡ true) × (b ≡ true)
-both a b h = grind arith
-
-both_true : (a b : Bool) → a ≡ true → b ≡ true → (a && b) ≡ true
-both_true a b h k = grind arith
-
 pub in_var : (l : Link) (k : ℕ) (f : Feature) → is_in l k f ≡ true → l.var ≡ k
-in_var l k f h = eqb-true l.var k (both (l.var == k) (is_same_feature l.feature f) h).0
+in_var l k f h = eqb-true l.var k (and_parts (l.var == k) (is_same_feature l.feature f) h).0
 
 pub in_feature : (l : Link) (k : ℕ) (f : Feature) → is_in l k f ≡ true → l.feature ≡ f
-in_feature l k f h = same_feature l.feature f (both (l.var == k) (is_same_feature l.feature f) h).1
+in_feature l k f h = same_feature l.feature f (and_parts (l.var == k) (is_same_feature l.feature f) h).1
 
 pub in_own : (l : Link) → is_in l l.var l.feature ≡ true
-in_own l = both_true (l.var == l.var) (is_same_feature l.feature l.feature) (eq-eqb l.var l.var refl) (feature_itself l.feature)
+in_own l = and_from (l.var == l.var) (is_same_feature l.feature l.feature) (eq-eqb l.var l.var refl) (feature_itself l.feature)
 
 pub latest_below : (ls : List Link) (n k : ℕ) (f : Feature) → latest ls n k f ≤ n
 latest_below ls zero k f = omega arith

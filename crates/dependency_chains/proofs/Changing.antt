@@ -1,8 +1,8 @@
 -- Links come and go at the newest end.
 use Rattle.std.proofs.Common.{◌≡◌, ℕ, zero, suc, ◌+◌, ◌<◌, ◌≤◌, ◌-◌, Bool, true, false, cond, ◌&&◌, ◌==◌, List, [], ◌∷◌, ◌++◌, length, get_or, set, take, filter, refl, ap, sym, ◌∙◌, subst, inl, inr, ◌⊎◌, arith, eqb-true, eq-eqb, All, nat_lt, lt-ltb, le-ltb}
 use Rattle.std.proofs.lemmas.Bool.{cases_Bool, eqb-false}
-use Rattle.std.proofs.lemmas.List.{length-append, length-set, length-map, length-take-le, get_or_append_left, get_or_at, get_or-set_same, get_or-set_other, get_or-take, get_or-map, get_or_default, map-append, take_all, take_more}
-use Rattle.std.proofs.lemmas.List.Elements.{All-push, All-head, All-tail, All-cons, All-nil}
+use Rattle.std.proofs.lemmas.List.{length-append, length-set, length-map, length-take-le, get_or_append_left, get_or_at, get_or-set_same, get_or-set_other, get_or-take, get_or-map, get_or_default, map-append, take_all, take_more, append-nil}
+use Rattle.std.proofs.lemmas.List.Elements.{All-push, All-head, All-tail, All-cons, All-nil, filter-append}
 use Rattle.fd_language.specs.declared.range_node.Feature.{Feature}
 use Rattle.fd_language.specs.declared.range_node.Feature.TheVariants as feature
 use Rattle.fd_language.specs.Features.{is_same_feature}
@@ -168,19 +168,11 @@ pub filter_whole : (p : AgentRead → Bool) (xs : List AgentRead) → All (λ x.
 filter_whole p [] h = refl
 filter_whole p (x ∷ xs) h = ap (λ b. cond b (x ∷ filter p xs) (filter p xs)) (All-head (λ y. p y ≡ true) x xs h) ∙ ap (λ l. x ∷ l) (filter_whole p xs (All-tail (λ y. p y ≡ true) x xs h))
 
-filter-append : (p : AgentRead → Bool) (xs ys : List AgentRead) → filter p (xs ++ ys) ≡ filter p xs ++ filter p ys
-filter-append p [] ys = refl
-filter-append p (x ∷ xs) ys = elim (p x) as (λ b. cond b (x ∷ filter p (xs ++ ys)) (filter p (xs ++ ys)) ≡ cond b (x ∷ filter p xs) (filter p xs) ++ filter p ys) [ true ↦ ap (λ l. x ∷ l) (filter-append p xs ys) | false ↦ filter-append p xs ys ]
-
-nothing_more : (xs : List AgentRead) → xs ++ [] ≡ xs
-nothing_more [] = refl
-nothing_more (x ∷ xs) = ap (λ l. x ∷ l) (nothing_more xs)
-
 -- a link of an agent that goes
 pub filter_less : (agents : ℕ) (ls ks : List Link) (l : Link) → ks ≡ ls ++ l ∷ [] → agents ≤ l.agent → filter (λ r. nat_lt r.agent agents) (reads_of ls) ≡ filter (λ r. nat_lt r.agent agents) (reads_of ks)
 filter_less agents ls ks l e h =
     sym (ap (λ q. filter (λ r. nat_lt r.agent agents) (reads_of q)) e ∙ ap (filter (λ r. nat_lt r.agent agents)) (map-append reading ls (l ∷ [])) ∙ filter-append (λ r. nat_lt r.agent agents) (reads_of ls) (reading l ∷ [])
-    ∙ ap (λ b. filter (λ r. nat_lt r.agent agents) (reads_of ls) ++ cond b (reading l ∷ []) []) (le-ltb l.agent agents h) ∙ nothing_more (filter (λ r. nat_lt r.agent agents) (reads_of ls)))
+    ∙ ap (λ b. filter (λ r. nat_lt r.agent agents) (reads_of ls) ++ cond b (reading l ∷ []) []) (le-ltb l.agent agents h) ∙ append-nil (filter (λ r. nat_lt r.agent agents) (reads_of ls)))
 
 -- where the newest link stays, all stay
 pub all_stay : (agents : ℕ) (ls : List Link) (hs : List Heads) (l : Link) → AreChains ls hs → 0 < length ls → l ≡ get_or ls (length ls - 1) l → l.agent < agents → filter (λ r. nat_lt r.agent agents) (reads_of ls) ≡ reads_of ls

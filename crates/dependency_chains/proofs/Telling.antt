@@ -4,6 +4,7 @@ use mathlib.Core.Path.{fun_ext}
 use Rattle.std.specs.List.{list_any}
 use Rattle.std.proofs.lemmas.List.{take_more, take_all}
 use Rattle.std.proofs.lemmas.List.Folds.{list_any-append}
+use Rattle.std.proofs.Math.Bool.{and-false}
 use Rattle.fd_language.specs.Family.{has}
 use Rattle.fd_language.specs.declared.range_node.Feature.{Feature}
 use Rattle.fd_language.specs.declared.range_node.Feature.TheVariants as feature
@@ -45,9 +46,7 @@ any_either ls (suc n) p q = four (p (link_at ls n)) (any_link ls n p) (q (link_a
   four a b c d e h = grind (arith, h)
 
 any_gated : (ls : List Link) (n : ℕ) (b : Bool) (p : Link → Bool) → (b && any_link ls n p) ≡ any_link ls n (λ l. b && p l)
-any_gated ls zero b p = none b where
-  none : (b : Bool) → (b && false) ≡ false
-  none b = grind arith
+any_gated ls zero b p = and-false b
 any_gated ls (suc n) b p = three b (p (link_at ls n)) (any_link ls n p) (any_link ls n (λ l. b && p l)) (any_gated ls n b p) where
   three : (a b c d : Bool) → (a && c) ≡ d → (a && (b || c)) ≡ ((a && b) || d)
   three a b c d h = grind (arith, h)

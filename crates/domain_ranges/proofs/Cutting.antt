@@ -1,13 +1,13 @@
 -- The loop that takes a number out of a list of intervals.
 use Rattle.std.proofs.Common.{◌≡◌, ℕ, suc, ◌+◌, ◌-◌, ◌<◌, ◌≤◌, ◌⊎◌, inl, inr, Bool, true, false, ◌&&◌, ◌==◌, not, ltb, List, [], ◌∷◌, ◌++◌, filter, ap, ◌∙◌, subst, arith, length, get_or, drop, append-nil, drop_of_length-le}
-use Rattle.std.proofs.lemmas.Bool.{cases_Bool}
+use Rattle.std.proofs.lemmas.Bool.{cases_Bool, and_left, ltb-true, ltb-false}
 use Rattle.std.proofs.lemmas.Bool.Decides.{nat_tests}
+use Rattle.std.proofs.lemmas.List.{drop_more}
 use Rattle.fd_language.specs.Family.{universe}
 use Rattle.domain_ranges.specs.Spans.{Span, within, IsSpans, members, interval_count, gap}
 use Rattle.domain_ranges.proofs.Spans.{in_head, past_first, behind_first}
 use Rattle.domain_ranges.proofs.Made.{Made, made_skip, made_push, made_all, made_many}
-use Rattle.domain_ranges.proofs.Meeting.{drop_next, below_first}
-use Rattle.domain_ranges.proofs.Places.{ltb_less, ltb_not}
+use Rattle.domain_ranges.proofs.Meeting.{below_first}
 
 abbrev pub but : List Span → ℕ → ℕ → Bool
 but ss z n = within ss n && not (n == z)
@@ -21,9 +21,6 @@ pub record Cutting (M : ℕ) (ss : List Span) (z : ℕ) (out rest : List Span) :
   pub start : at ≤ low
   pub same : (n : ℕ) → n ≤ M → at ≤ n → within ss n ≡ within rest n
 
-out_of : (a b : Bool) → a ≡ false → (a && b) ≡ false
-out_of a b h = grind arith
-
 not_it : (a : Bool) (n z : ℕ) → n ≡ z → (a && not (n == z)) ≡ false
 not_it a n z h = grind (arith, nat_tests)
 
@@ -33,13 +30,13 @@ still_in a n z h (inr g) = grind (arith, nat_tests)
 
 module _ (M : ℕ) (ss : List Span) (z : ℕ) (out : List Span) (x : Span) (xs : List Span) (c : Cutting M ss z out (x ∷ xs)) where
   before : (n : ℕ) → n ≤ M → c.at ≤ n → n < x.0 → but ss z n ≡ false
-  before n h g l = out_of (within ss n) (not (n == z)) (c.same n h g ∙ below_first M c.low n x xs c.spans l)
+  before n h g l = and_left (within ss n) (not (n == z)) (c.same n h g ∙ below_first M c.low n x xs c.spans l)
 
   in_x : (n : ℕ) → x.0 ≤ n → n ≤ x.1 → within ss n ≡ true
   in_x n h g = let r = c.spans in c.same n (omega (arith, r.2)) (omega (arith, c.start, r.0)) ∙ in_head x xs n h g
 
   behind : x.1 + 1 ≤ M → but ss z (x.1 + 1) ≡ false
-  behind h = let r = c.spans in out_of (within ss (x.1 + 1)) (not (x.1 + 1 == z)) (c.same (x.1 + 1) h (omega (arith, c.start, r.0, r.1)) ∙ (let e : x.1 + 1 ≡ suc x.1 = omega arith in ap (within (x ∷ xs)) e ∙ behind_first c.low M x xs r))
+  behind h = let r = c.spans in and_left (within ss (x.1 + 1)) (not (x.1 + 1 == z)) (c.same (x.1 + 1) h (omega (arith, c.start, r.0, r.1)) ∙ (let e : x.1 + 1 ≡ suc x.1 = omega arith in ap (within (x ∷ xs)) e ∙ behind_first c.low M x xs r))
 
   later : (list : List Span) → Made M (but ss z) list (x.1 + 2) → Cutting M ss z list xs
   later list m = let r = c.spans in record {
@@ -69,7 +66,7 @@ module _ (M : ℕ) (ss : List Span) (z : ℕ) (out : List Span) (x : Span) (xs :
   first_part : x.0 ≤ z → z ≤ x.1 → Made M (but ss z) (out ++ gap x.0 z) (z + 1)
   first_part h g = let r = c.spans in elim (cases_Bool (ltb x.0 z)) [
     | inl t ↦
-        let l : x.0 < z = ltb_less x.0 z t in
+        let l : x.0 < z = ltb-true x.0 z t in
         let e : z - 1 + 2 ≡ z + 1 = omega arith in
         let f : z - 1 + 1 ≡ z = omega arith in
         rw t (subst (Made M (but ss z) (out ++ (x.0, z - 1) ∷ [])) e (made_push M (but ss z) out c.at (x.0, z - 1) c.made (record {
@@ -81,11 +78,11 @@ module _ (M : ℕ) (ss : List Span) (z : ℕ) (out : List Span) (x : Span) (xs :
           after = λ k. not_it (within ss (z - 1 + 1)) (z - 1 + 1) z f;
         })))
     | inr t ↦
-        let l : z ≤ x.0 = ltb_not x.0 z t in
+        let l : z ≤ x.0 = ltb-false x.0 z t in
         rw t (rw append-nil (made_skip M (but ss z) out c.at (z + 1) c.made (omega (arith, c.start, r.0))
         (λ n k j i. elim (cases_Bool (ltb n x.0)) [
-          | inl b ↦ before n k j (ltb_less n x.0 b)
-          | inr b ↦ not_it (within ss n) n z (let q : x.0 ≤ n = ltb_not n x.0 b in omega arith)
+          | inl b ↦ before n k j (ltb-true n x.0 b)
+          | inr b ↦ not_it (within ss n) n z (let q : x.0 ≤ n = ltb-false n x.0 b in omega arith)
         ])))
   ]
 
@@ -93,7 +90,7 @@ module _ (M : ℕ) (ss : List Span) (z : ℕ) (out : List Span) (x : Span) (xs :
   pub parted : x.0 ≤ z → z ≤ x.1 → Cutting M ss z ((out ++ gap x.0 z) ++ gap (z + 1) (x.1 + 1)) xs
   parted h g = let r = c.spans in let front = first_part h g in later ((out ++ gap x.0 z) ++ gap (z + 1) (x.1 + 1)) (elim (cases_Bool (ltb (z + 1) (x.1 + 1))) [
     | inl t ↦
-        let l : z + 1 < x.1 + 1 = ltb_less (z + 1) (x.1 + 1) t in
+        let l : z + 1 < x.1 + 1 = ltb-true (z + 1) (x.1 + 1) t in
         let e : x.1 + 1 - 1 ≡ x.1 = omega arith in
         rw (t, e) (made_push M (but ss z) (out ++ gap x.0 z) (z + 1) (z + 1, x.1) front (record {
           from = omega arith;
@@ -104,7 +101,7 @@ module _ (M : ℕ) (ss : List Span) (z : ℕ) (out : List Span) (x : Span) (xs :
           after = behind;
         }))
     | inr t ↦
-        let l : x.1 + 1 ≤ z + 1 = ltb_not (z + 1) (x.1 + 1) t in
+        let l : x.1 + 1 ≤ z + 1 = ltb-false (z + 1) (x.1 + 1) t in
         rw t (rw append-nil (made_skip M (but ss z) (out ++ gap x.0 z) (z + 1) (x.1 + 2) front (omega arith)
         (λ n k j i. (let e : n ≡ x.1 + 1 = omega arith in ap (but ss z) e ∙ behind (omega arith)))))
   ])
@@ -121,7 +118,7 @@ module _ (M : ℕ) (ss : List Span) (z : ℕ) (out : List Span) (x : Span) (xs :
 
 -- at places
 pub cutting_next : (M : ℕ) (ss : List Span) (z : ℕ) (out : List Span) (i : ℕ) → Cutting M ss z out (drop i ss) → i < length ss → Cutting M ss z out (get_or ss i (0, 0) ∷ drop (i + 1) ss)
-cutting_next M ss z out i c h = subst (Cutting M ss z out) (drop_next i ss (0, 0) h) c
+cutting_next M ss z out i c h = subst (Cutting M ss z out) (drop_more ss i (0, 0) h) c
 
 pub cutting_set : (M : ℕ) (ss : List Span) (z : ℕ) (out : List Span) (i : ℕ) → Cutting M ss z out (drop i ss) → length ss ≤ i → members out ≡ filter (but ss z) (universe M)
-cutting_set M ss z out i c h = made_all M (but ss z) out c.at c.made (λ n l k. out_of (within ss n) (not (n == z)) (c.same n l k ∙ ap (λ r. within r n) (drop_of_length-le ss h)))
+cutting_set M ss z out i c h = made_all M (but ss z) out c.at c.made (λ n l k. and_left (within ss n) (not (n == z)) (c.same n l k ∙ ap (λ r. within r n) (drop_of_length-le ss h)))

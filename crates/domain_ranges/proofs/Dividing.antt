@@ -3,52 +3,34 @@ use Rattle.std.proofs.Common.{◌≡◌, ℕ, suc, ◌+◌, ◌*◌, ◌/◌, �
 use Rattle.std.specs.Int.{div_ceil}
 use Rattle.std.proofs.lemmas.Bool.Decides.{nat_tests}
 use Rattle.std.proofs.lemmas.Grind.{div_ceil_times}
-use Rattle.std.proofs.Math.Nat.{mul-le-mul_right, div-mul-le_self, lt-div-mul-add, le-mul_of_pos_right}
+use Rattle.std.proofs.Math.Nat.{mul-le-mul_right, div-mul-le_self, lt-div-mul-add, le-mul_of_pos_right, suc-mul}
+use Rattle.std.specs.Cmp.{both_ways}
+use Rattle.std.proofs.lemmas.Bool.{le-leb, leb-true, cases_lt}
+use Rattle.std.proofs.lemmas.Nat.{le-div}
+use Rattle.std.proofs.lemmas.List.{drop_more}
 use Rattle.domain_ranges.specs.Spans.{Span, within, IsSpans, listed}
 use Rattle.domain_ranges.proofs.Spans.{within_low}
-use Rattle.domain_ranges.proofs.Meeting.{drop_next}
 use Rattle.domain_ranges.proofs.Places.{drop_spans}
 use Rattle.domain_ranges.proofs.Joining.{Joining, IsFirst}
-
-pub same_bool : (a b : Bool) → (a ≡ true → b ≡ true) → (b ≡ true → a ≡ true) → a ≡ b
-same_bool a b f g = grind (arith, f, g)
-
-leb_of : (a b : ℕ) → a ≤ b → leb a b ≡ true
-leb_of a b h = grind (arith, nat_tests)
-
-of_leb : (a b : ℕ) → leb a b ≡ true → a ≤ b
-of_leb a b h = grind (arith, nat_tests)
-
-pub less_or : (n m : ℕ) → (n < m) ⊎ (m ≤ n)
-less_or n m = grind arith
-
-pub suc_times : (n b : ℕ) → suc n * b ≡ n * b + b
-suc_times n b = omega arith
 
 -- a quotient rounded up, and one rounded down
 up_fwd : (a b n : ℕ) → 0 < b → div_ceil a b ≤ n → a ≤ n * b
 up_fwd a b n h g = let t = div_ceil_times a b h in let m : div_ceil a b * b ≤ n * b = mul-le-mul_right b g in omega (arith, t.0)
 
 up_back : (a b n : ℕ) → 0 < b → a ≤ n * b → div_ceil a b ≤ n
-up_back a b n h g = elim (less_or n (div_ceil a b)) [
-  | inl l ↦ let t = div_ceil_times a b h in let m : suc n * b ≤ div_ceil a b * b = mul-le-mul_right b l in let e = suc_times n b in absurd (omega (arith, t.1))
+up_back a b n h g = elim (cases_lt n (div_ceil a b)) [
+  | inl l ↦ let t = div_ceil_times a b h in let m : suc n * b ≤ div_ceil a b * b = mul-le-mul_right b l in let e = suc-mul n b in absurd (omega (arith, t.1))
   | inr l ↦ l
 ]
 
 pub up_is : (a b n : ℕ) → 0 < b → leb a (n * b) ≡ leb (div_ceil a b) n
-up_is a b n h = same_bool (leb a (n * b)) (leb (div_ceil a b) n) (λ e. leb_of (div_ceil a b) n (up_back a b n h (of_leb a (n * b) e))) (λ e. leb_of a (n * b) (up_fwd a b n h (of_leb (div_ceil a b) n e)))
+up_is a b n h = both_ways (leb a (n * b)) (leb (div_ceil a b) n) (λ e. le-leb (div_ceil a b) n (up_back a b n h (leb-true a (n * b) e))) (λ e. le-leb a (n * b) (up_fwd a b n h (leb-true (div_ceil a b) n e)))
 
 down_fwd : (a b n : ℕ) → n ≤ a / b → n * b ≤ a
 down_fwd a b n g = let t = div-mul-le_self a b in let m : n * b ≤ a / b * b = mul-le-mul_right b g in omega arith
 
-down_back : (a b n : ℕ) → 0 < b → n * b ≤ a → n ≤ a / b
-down_back a b n h g = elim (less_or (a / b) n) [
-  | inl l ↦ let t : a < a / b * b + b = lt-div-mul-add h in let m : suc (a / b) * b ≤ n * b = mul-le-mul_right b l in let e = suc_times (a / b) b in absurd (omega arith)
-  | inr l ↦ l
-]
-
 pub down_is : (a b n : ℕ) → 0 < b → leb (n * b) a ≡ leb n (a / b)
-down_is a b n h = same_bool (leb (n * b) a) (leb n (a / b)) (λ e. leb_of n (a / b) (down_back a b n h (of_leb (n * b) a e))) (λ e. leb_of (n * b) a (down_fwd a b n (of_leb n (a / b) e)))
+down_is a b n h = both_ways (leb (n * b) a) (leb n (a / b)) (λ e. le-leb n (a / b) (le-div n a b h (leb-true (n * b) a e))) (λ e. le-leb (n * b) a (down_fwd a b n (leb-true n (a / b) e)))
 
 down_low : (a b : ℕ) → 0 < b → a / b ≤ a
 down_low a b h = let t = div-mul-le_self a b in let m : a / b ≤ a / b * b = le-mul_of_pos_right (a / b) h in omega arith
@@ -74,13 +56,13 @@ no_quotient c x xs h g n = ap (λ t. t || within xs (n * c)) (both_are c x n h �
 pub quotient_at : (M c i : ℕ) (ss : List Span) → 0 < c → IsSpans 0 M ss → i < length ss → div_ceil (get_or ss i (0, 0)).0 c ≤ (get_or ss i (0, 0)).1 / c → IsFirst M (λ n. within (drop i ss) (n * c)) (div_ceil (get_or ss i (0, 0)).0 c, (get_or ss i (0, 0)).1 / c) (λ n. within (drop (i + 1) ss) (n * c))
 quotient_at M c i ss h r l g =
     let rest = drop_spans 0 M i ss r in
-    subst (λ ts. IsFirst M (λ n. within ts (n * c)) (div_ceil (get_or ss i (0, 0)).0 c, (get_or ss i (0, 0)).1 / c) (λ n. within (drop (i + 1) ss) (n * c))) (sym (drop_next i ss (0, 0) l))
-    (first_quotient M c rest.0 (get_or ss i (0, 0)) (drop (i + 1) ss) h (subst (IsSpans rest.0 M) (drop_next i ss (0, 0) l) rest.1) g)
+    subst (λ ts. IsFirst M (λ n. within ts (n * c)) (div_ceil (get_or ss i (0, 0)).0 c, (get_or ss i (0, 0)).1 / c) (λ n. within (drop (i + 1) ss) (n * c))) (sym (drop_more ss i (0, 0) l))
+    (first_quotient M c rest.0 (get_or ss i (0, 0)) (drop (i + 1) ss) h (subst (IsSpans rest.0 M) (drop_more ss i (0, 0) l) rest.1) g)
 
 -- where nothing comes of an interval
 pub quotient_skip : (M c i : ℕ) (p : ℕ → Bool) (out : List Span) (last : Option Span) (ss : List Span) → 0 < c → i < length ss → (get_or ss i (0, 0)).1 / c < div_ceil (get_or ss i (0, 0)).0 c → Joining M p out last (λ n. within (drop i ss) (n * c)) → Joining M p out last (λ n. within (drop (i + 1) ss) (n * c))
 quotient_skip M c i p out last ss h l g j =
-    let same : (n : ℕ) → within (drop i ss) (n * c) ≡ within (drop (i + 1) ss) (n * c) = λ n. ap (λ ts. within ts (n * c)) (drop_next i ss (0, 0) l) ∙ no_quotient c (get_or ss i (0, 0)) (drop (i + 1) ss) h g n in
+    let same : (n : ℕ) → within (drop i ss) (n * c) ≡ within (drop (i + 1) ss) (n * c) = λ n. ap (λ ts. within ts (n * c)) (drop_more ss i (0, 0) l) ∙ no_quotient c (get_or ss i (0, 0)) (drop (i + 1) ss) h g n in
     record {
       at = j.at;
       made = j.made;

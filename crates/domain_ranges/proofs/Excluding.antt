@@ -3,8 +3,9 @@ use Rattle.std.proofs.Common.{◌≡◌, ℕ, ◌<◌, ◌≤◌, Bool, true, fa
 use mir.Syntax.{w64, w128}
 use lib.Signed.{lt_z}
 use Rattle.std.specs.Ordering.{int_eq}
-use Rattle.std.proofs.lemmas.Bool.{true≢false, cases_Bool}
+use Rattle.std.proofs.lemmas.Bool.{true≢false, cases_Bool, ltb-true}
 use Rattle.std.proofs.lemmas.Bool.Decides.{Decides-int_eq, nat_tests}
+use Rattle.std.specs.Cmp.{both_ways}
 use Rattle.fd_language.specs.declared.TheConstants.{INFINITY}
 use Rattle.fd_language.specs.Family.{has, universe, IsRising, IsSubset}
 use Rattle.fd_language.specs.Range.{least, greatest}
@@ -14,9 +15,7 @@ use Rattle.domain_ranges.specs.Narrowing.{all_but}
 use Rattle.domain_ranges.proofs.Members.{has_within, filter_inside, members_rising}
 use Rattle.domain_ranges.proofs.Images.{has_set, set_same}
 use Rattle.domain_ranges.proofs.Inside.{left_of}
-use Rattle.domain_ranges.proofs.Dividing.{same_bool}
 use Rattle.domain_ranges.proofs.Cutting.{but}
-use Rattle.domain_ranges.proofs.Places.{ltb_less}
 
 pub wider : (z : ℤ) → SFits w64 z → SFits w128 z
 wider z h = record { sfits = omega (arith, h.sfits) }
@@ -27,7 +26,7 @@ member_number xs (pos n) r h = (n, refl, has_high 0 INFINITY xs n r h, h)
 member_number xs (negsuc n) r h = absurd (true≢false (sym h))
 
 same_int : (n k : ℕ) → int_eq (pos n) (pos k) ≡ (n == k)
-same_int n k = same_bool (int_eq (pos n) (pos k)) (n == k)
+same_int n k = both_ways (int_eq (pos n) (pos k)) (n == k)
     (λ e. let f : pos n ≡ pos k = (Decides-int_eq (pos n) (pos k)).0 e in let g : n ≡ k = cc in grind (arith, nat_tests))
     (λ e. let g : n ≡ k = grind (arith, nat_tests) in (Decides-int_eq (pos n) (pos k)).1 (ap pos g))
 
@@ -64,5 +63,5 @@ no_member xs (pos n) r h = elim (cases_Bool (has xs n)) [
   | inr f ↦ f
 ] where
   outside : (n low high : ℕ) → low ≤ n → n ≤ high → (lt_z (pos n) (pos low) ≡ true) ⊎ (lt_z (pos high) (pos n) ≡ true) → ⊥
-  outside n low high a b (inl g) = let k = ltb_less n low g in omega arith
-  outside n low high a b (inr g) = let k = ltb_less high n g in omega arith
+  outside n low high a b (inl g) = let k = ltb-true n low g in omega arith
+  outside n low high a b (inr g) = let k = ltb-true high n g in omega arith

@@ -1,12 +1,12 @@
 -- The loop of the complement of a list of intervals.
 use Rattle.std.proofs.Common.{◌≡◌, ℕ, ◌+◌, ◌-◌, ◌<◌, ◌≤◌, false, not, ltb, List, [], ◌∷◌, ◌++◌, filter, ap, ◌∙◌, subst, inl, inr, arith, length, get_or, drop, append-nil, drop_of_length-le}
-use Rattle.std.proofs.lemmas.Bool.{cases_Bool}
+use Rattle.std.proofs.lemmas.Bool.{cases_Bool, ltb-true, ltb-false}
+use Rattle.std.proofs.lemmas.List.{drop_more}
 use Rattle.fd_language.specs.Family.{universe}
 use Rattle.domain_ranges.specs.Spans.{Span, within, IsSpans, members, interval_count, gap}
 use Rattle.domain_ranges.proofs.Spans.{in_head, past_first}
 use Rattle.domain_ranges.proofs.Made.{Made, IsNext, made_skip, made_push, made_all, made_many}
-use Rattle.domain_ranges.proofs.Meeting.{drop_next, below_first}
-use Rattle.domain_ranges.proofs.Places.{ltb_less, ltb_not}
+use Rattle.domain_ranges.proofs.Meeting.{below_first}
 
 -- out is made below next, and from there on the intervals to come tell
 pub record Gapped (M : ℕ) (ss out : List Span) (next : ℕ) (rest : List Span) : Type 0 where
@@ -38,12 +38,12 @@ made_gap M ss out next x xs g =
     let start : next ≤ x.0 = omega (arith, g.start, r.0) in
     elim (cases_Bool (ltb next x.0)) [
       | inl t ↦
-          let h : next < x.0 = ltb_less next x.0 t in
+          let h : next < x.0 = ltb-true next x.0 t in
           let e : x.0 - 1 + 2 ≡ x.0 + 1 = omega arith in
           rw t (made_skip M (λ n. not (within ss n)) (out ++ (next, x.0 - 1) ∷ []) (x.0 + 1) (x.1 + 1) (subst (Made M (λ n. not (within ss n)) (out ++ (next, x.0 - 1) ∷ [])) e (made_push M (λ n. not (within ss n)) out next (next, x.0 - 1) g.made (next_gap M ss out next x xs g h))) (omega (arith, r.1))
           (λ n l k j. in_first M ss out next x xs g n l (omega arith) (omega arith) (omega arith)))
       | inr t ↦
-          let h : x.0 ≤ next = ltb_not next x.0 t in
+          let h : x.0 ≤ next = ltb-false next x.0 t in
           rw t (rw append-nil (made_skip M (λ n. not (within ss n)) out next (x.1 + 1) g.made (omega (arith, r.1)) (λ n l k j. in_first M ss out next x xs g n l k (omega arith) (omega arith))))
     ]
 
@@ -77,11 +77,11 @@ last_gap M ss out next g h = record {
 pub gapped_done : (M : ℕ) (ss out : List Span) (next : ℕ) → Gapped M ss out next [] → (end : ℕ) × (M < end) × Made M (λ n. not (within ss n)) (out ++ gap next (M + 1)) end
 gapped_done M ss out next g = elim (cases_Bool (ltb next (M + 1))) [
   | inl t ↦
-      let h : next < M + 1 = ltb_less next (M + 1) t in
+      let h : next < M + 1 = ltb-true next (M + 1) t in
       let e : M + 1 - 1 ≡ M = omega arith in
       rw (t, e) (M + 2, omega arith, made_push M (λ n. not (within ss n)) out next (next, M) g.made (last_gap M ss out next g (omega arith)))
   | inr t ↦
-      let h : M + 1 ≤ next = ltb_not next (M + 1) t in
+      let h : M + 1 ≤ next = ltb-false next (M + 1) t in
       rw t (rw append-nil (next, omega arith, g.made))
 ]
 
@@ -96,7 +96,7 @@ gapped_spans M ss out next g = (gapped_done M ss out next g).2.spans
 
 -- at places
 pub gapped_next : (M : ℕ) (ss out : List Span) (next i : ℕ) → Gapped M ss out next (drop i ss) → i < length ss → Gapped M ss out next (get_or ss i (0, 0) ∷ drop (i + 1) ss)
-gapped_next M ss out next i g h = subst (Gapped M ss out next) (drop_next i ss (0, 0) h) g
+gapped_next M ss out next i g h = subst (Gapped M ss out next) (drop_more ss i (0, 0) h) g
 
 pub gapped_end : (M : ℕ) (ss out : List Span) (next i : ℕ) → Gapped M ss out next (drop i ss) → length ss ≤ i → Gapped M ss out next []
 gapped_end M ss out next i g h = subst (Gapped M ss out next) (drop_of_length-le ss h) g

@@ -2,9 +2,11 @@
 use Rattle.std.proofs.Common.{◌≡◌, ℕ, zero, suc, ◌+◌, ◌-◌, ◌*◌, ◌/◌, ◌<◌, ◌≤◌, Bool, true, false, not, cond, ◌||◌, ◌&&◌, ◌==◌, leb, List, [], ◌∷◌, filter, refl, ap, sym, ◌∙◌, subst, inl, inr, ◌⊎◌, arith, length, ℤ, pos, negsuc, ◌+ℤ◌, ◌*ℤ◌, ◌≤ℤ◌, ◌<ℤ◌, neg_ℤ, eqb-true, eq-eqb, Option, Some, None, IfSome, IfNone, MatchOption, IsTrue, leb-true, le-leb}
 use Rattle.std.specs.List.{list_any}
 use Rattle.std.specs.Ordering.{int_eq}
-use Rattle.std.proofs.lemmas.Bool.{true≢false, or_cases, or_left, or_right, and_parts, and_from}
+use Rattle.std.proofs.lemmas.Bool.{true≢false, or_cases, or_left, or_right, and_parts, and_from, false_from_ne_true}
 use Rattle.std.proofs.lemmas.Bool.Decides.{Decides-int_eq, nat_tests}
 use Rattle.std.proofs.lemmas.Int.{ints}
+use Rattle.std.specs.Cmp.{both_ways}
+use Rattle.std.proofs.Math.Nat.{suc-mul}
 use Rattle.fd_language.specs.Family.{has, universe, IsRising}
 use Rattle.fd_language.specs.Range.{some_number, is_none_left, least}
 use Rattle.fd_language.proofs.Lemmas.{rising_same, has-filter, has-filter_back, universe_rising, in_universe, has_high, rising-filter, not_empty}
@@ -12,8 +14,7 @@ use Rattle.domain_ranges.specs.Spans.{Span, within, IsSpans, members, shifted, s
 use Rattle.domain_ranges.specs.Sets.{is_shifted, is_scaled, is_quotient}
 use Rattle.domain_ranges.proofs.Spans.{within_high, in_head, in_later, head_or_later}
 use Rattle.domain_ranges.proofs.Members.{has_within, members_is, members_none, least_once}
-use Rattle.domain_ranges.proofs.Dividing.{same_bool, suc_times}
-use Rattle.domain_ranges.proofs.Shifting.{comes, comes_parts, not_true}
+use Rattle.domain_ranges.proofs.Shifting.{comes, comes_parts}
 use Rattle.domain_ranges.proofs.Scaling.{scaled_from, scaled_at}
 
 -- a set by its test
@@ -25,7 +26,7 @@ set_is M p ns r h =
 
 -- a member of a set by its test
 pub has_set : (M : ℕ) (p : ℕ → Bool) (n : ℕ) → n ≤ M → has (filter p (universe M)) n ≡ p n
-has_set M p n h = same_bool (has (filter p (universe M)) n) (p n) (λ e. (has-filter_back p (universe M) n e).1) (λ e. has-filter p (universe M) n (in_universe M n h) e)
+has_set M p n h = both_ways (has (filter p (universe M)) n) (p n) (λ e. (has-filter_back p (universe M) n e).1) (λ e. has-filter p (universe M) n (in_universe M n h) e)
 
 -- a set by its test rises
 pub set_rising : (M : ℕ) (p : ℕ → Bool) → IsRising 0 M (filter p (universe M))
@@ -87,7 +88,7 @@ shifted_of (s ∷ ss) c e n h f = elim (in_part s ss e h) [
 ]
 
 pub shift_is : (M : ℕ) (ss : List Span) (ns : List ℕ) (c : ℤ) (n : ℕ) → IsSpans 0 M ss → members ss ≡ ns → shifted ss c n ≡ is_shifted M ns c n
-shift_is M ss ns c n r e = same_bool (shifted ss c n) (is_shifted M ns c n)
+shift_is M ss ns c n r e = both_ways (shifted ss c n) (is_shifted M ns c n)
     (λ t. let f = shifted_from ss c n t in some_has M (λ k. has ns k && int_eq (pos k +ℤ c) (pos n)) f.0 (within_high 0 M ss f.0 r f.1) (and_from (has ns f.0) (int_eq (pos f.0 +ℤ c) (pos n)) (sym (has_within M ss ns f.0 r e) ∙ f.1) (int_same (pos f.0 +ℤ c) (pos n) f.2)))
     (λ t. let f = some_from M (λ k. has ns k && int_eq (pos k +ℤ c) (pos n)) t in let both = and_parts (has ns f.0) (int_eq (pos f.0 +ℤ c) (pos n)) f.2 in shifted_of ss c f.0 n (has_within M ss ns f.0 r e ∙ both.0) (same_int (pos f.0 +ℤ c) (pos n) both.1))
 
@@ -97,14 +98,14 @@ zero_times b = omega arith
 clamped : (M k c e n : ℕ) → (k ≡ c) ⊎ ((M < k) × (M < c)) → n ≤ M → e * k ≡ n → e * c ≡ n
 clamped M k c e n (inl q) h f = ap (λ j. e * j) (sym q) ∙ f
 clamped M k c zero n (inr q) h f = zero_times c ∙ sym (zero_times k) ∙ f
-clamped M k c (suc e) n (inr q) h f = let s = suc_times e k in absurd (omega (arith, q.0))
+clamped M k c (suc e) n (inr q) h f = let s = suc-mul e k in absurd (omega (arith, q.0))
 
 clamp_flip : (M k c : ℕ) → (k ≡ c) ⊎ ((M < k) × (M < c)) → (c ≡ k) ⊎ ((M < c) × (M < k))
 clamp_flip M k c (inl q) = inl (sym q)
 clamp_flip M k c (inr q) = inr (q.1, q.0)
 
 pub scale_is : (M k c : ℕ) (ss : List Span) (ns : List ℕ) (n : ℕ) → IsSpans 0 M ss → members ss ≡ ns → 0 < c → (k ≡ c) ⊎ ((M < k) × (M < c)) → n ≤ M → scaled ss c n ≡ is_scaled M ns (pos k) n
-scale_is M k c ss ns n r e p q h = same_bool (scaled ss c n) (is_scaled M ns (pos k) n)
+scale_is M k c ss ns n r e p q h = both_ways (scaled ss c n) (is_scaled M ns (pos k) n)
     (λ t. let f = scaled_from ss c n t in let g = clamped M c k (n / c) n (clamp_flip M k c q) h f.0 in
     some_has M (λ j. has ns j && int_eq (pos j *ℤ pos k) (pos n)) (n / c) (within_high 0 M ss (n / c) r f.1) (and_from (has ns (n / c)) (int_eq (pos (n / c * k)) (pos n)) (sym (has_within M ss ns (n / c) r e) ∙ f.1) (int_same (pos (n / c * k)) (pos n) (ap pos g))))
     (λ t. let f = some_from M (λ j. has ns j && int_eq (pos j *ℤ pos k) (pos n)) t in let both = and_parts (has ns f.0) (int_eq (pos (f.0 * k)) (pos n)) f.2 in
@@ -112,7 +113,7 @@ scale_is M k c ss ns n r e p q h = same_bool (scaled ss c n) (is_scaled M ns (po
     subst (λ j. scaled ss c j ≡ true) g (scaled_at ss c f.0 p (has_within M ss ns f.0 r e ∙ both.0)))
 
 pub quotient_is : (M k c : ℕ) (ss : List Span) (ns : List ℕ) (n : ℕ) → IsSpans 0 M ss → members ss ≡ ns → (k ≡ c) ⊎ ((M < k) × (M < c)) → within ss (n * c) ≡ is_quotient M ns (pos k) n
-quotient_is M k c ss ns n r e q = same_bool (within ss (n * c)) (is_quotient M ns (pos k) n)
+quotient_is M k c ss ns n r e q = both_ways (within ss (n * c)) (is_quotient M ns (pos k) n)
     (λ t. let low = within_high 0 M ss (n * c) r t in let g = clamped M c k n (n * c) (clamp_flip M k c q) low refl in
     some_has M (λ j. has ns j && int_eq (pos n *ℤ pos k) (pos j)) (n * c) low (and_from (has ns (n * c)) (int_eq (pos (n * k)) (pos (n * c))) (sym (has_within M ss ns (n * c) r e) ∙ t) (int_same (pos (n * k)) (pos (n * c)) (ap pos g))))
     (λ t. let f = some_from M (λ j. has ns j && int_eq (pos n *ℤ pos k) (pos j)) t in let both = and_parts (has ns f.0) (int_eq (pos (n * k)) (pos f.0)) f.2 in
@@ -148,7 +149,7 @@ neg_none (suc a) b e = absurd (neg_apart a b e)
 
 no_product : (e k : ℕ) → e * suc k ≡ 0 → e ≡ 0
 no_product zero k h = refl
-no_product (suc e) k h = let s = suc_times e (suc k) in absurd (omega arith)
+no_product (suc e) k h = let s = suc-mul e (suc k) in absurd (omega arith)
 
 neg_zero : (k : ℕ) → neg_ℤ (pos (0 * suc k)) ≡ pos 0
 neg_zero k = ap (λ j. neg_ℤ (pos j)) (zero_times (suc k))
@@ -156,7 +157,7 @@ neg_zero k = ap (λ j. neg_ℤ (pos j)) (zero_times (suc k))
 -- times a number below 0
 pub negative_zero : (M : ℕ) (ns : List ℕ) (c : ℤ) → c <ℤ pos 0 → has ns 0 ≡ is_scaled M ns c 0
 negative_zero M ns (pos k) h = absurd (omega (arith, ints))
-negative_zero M ns (negsuc k) h = same_bool (has ns 0) (is_scaled M ns (negsuc k) 0)
+negative_zero M ns (negsuc k) h = both_ways (has ns 0) (is_scaled M ns (negsuc k) 0)
     (λ t. some_has M (λ e. has ns e && int_eq (pos e *ℤ negsuc k) (pos 0)) 0 (omega arith) (and_from (has ns 0) (int_eq (neg_ℤ (pos (0 * suc k))) (pos 0)) t (int_same (neg_ℤ (pos (0 * suc k))) (pos 0) (neg_zero k))))
     (λ t. let f = some_from M (λ e. has ns e && int_eq (pos e *ℤ negsuc k) (pos 0)) t in let both = and_parts (has ns f.0) (int_eq (neg_ℤ (pos (f.0 * suc k))) (pos 0)) f.2 in
     let z = neg_none (f.0 * suc k) 0 (same_int (neg_ℤ (pos (f.0 * suc k))) (pos 0) both.1) in
@@ -168,7 +169,7 @@ no_members (x ∷ xs) h = absurd (true≢false (sym (or_left (x == x) (has xs x)
 
 pub negative_none : (M : ℕ) (ns : List ℕ) (c : ℤ) (n : ℕ) → c <ℤ pos 0 → 0 < n → is_scaled M ns c n ≡ false
 negative_none M ns (pos k) n h g = absurd (omega (arith, ints))
-negative_none M ns (negsuc k) n h g = not_true (is_scaled M ns (negsuc k) n) (λ t.
+negative_none M ns (negsuc k) n h g = false_from_ne_true (is_scaled M ns (negsuc k) n) (λ t.
     let f = some_from M (λ e. has ns e && int_eq (pos e *ℤ negsuc k) (pos n)) t in let both = and_parts (has ns f.0) (int_eq (neg_ℤ (pos (f.0 * suc k))) (pos n)) f.2 in
     let z = neg_none (f.0 * suc k) n (same_int (neg_ℤ (pos (f.0 * suc k))) (pos n) both.1) in
     omega (arith, z.1))
@@ -178,12 +179,12 @@ times_zero e = omega arith
 
 -- times 0
 pub zero_zero : (M : ℕ) (ns : List ℕ) → IsRising 0 M ns → not (is_none_left ns) ≡ is_scaled M ns (pos 0) 0
-zero_zero M [] r = same_bool false (is_scaled M [] (pos 0) 0) (λ t. absurd (true≢false (sym t)))
+zero_zero M [] r = both_ways false (is_scaled M [] (pos 0) 0) (λ t. absurd (true≢false (sym t)))
     (λ t. let f = some_from M (λ e. has [] e && int_eq (pos e *ℤ pos 0) (pos 0)) t in absurd (true≢false (sym f.2)))
 zero_zero M (x ∷ xs) r = sym (some_has M (λ e. has (x ∷ xs) e && int_eq (pos e *ℤ pos 0) (pos 0)) x r.1 (and_from (has (x ∷ xs) x) (int_eq (pos (x * 0)) (pos 0)) (or_left (x == x) (has xs x) (eq-eqb x x refl)) (int_same (pos (x * 0)) (pos 0) (ap pos (times_zero x)))))
 
 pub zero_none : (M : ℕ) (ns : List ℕ) (n : ℕ) → 0 < n → is_scaled M ns (pos 0) n ≡ false
-zero_none M ns n g = not_true (is_scaled M ns (pos 0) n) (λ t.
+zero_none M ns n g = false_from_ne_true (is_scaled M ns (pos 0) n) (λ t.
     let f = some_from M (λ e. has ns e && int_eq (pos e *ℤ pos 0) (pos n)) t in let both = and_parts (has ns f.0) (int_eq (pos (f.0 * 0)) (pos n)) f.2 in
     let z = pos_same (f.0 * 0) n (same_int (pos (f.0 * 0)) (pos n) both.1) in let y = times_zero f.0 in
     omega arith)
@@ -193,7 +194,7 @@ times_one e = omega arith
 
 -- times 1
 pub one_same : (M : ℕ) (ns : List ℕ) → IsRising 0 M ns → ns ≡ filter (is_scaled M ns (pos 1)) (universe M)
-one_same M ns r = set_is M (is_scaled M ns (pos 1)) ns r (λ n l. same_bool (has ns n) (is_scaled M ns (pos 1) n)
+one_same M ns r = set_is M (is_scaled M ns (pos 1)) ns r (λ n l. both_ways (has ns n) (is_scaled M ns (pos 1) n)
     (λ t. some_has M (λ e. has ns e && int_eq (pos e *ℤ pos 1) (pos n)) n l (and_from (has ns n) (int_eq (pos (n * 1)) (pos n)) t (int_same (pos (n * 1)) (pos n) (ap pos (times_one n)))))
     (λ t. let f = some_from M (λ e. has ns e && int_eq (pos e *ℤ pos 1) (pos n)) t in let both = and_parts (has ns f.0) (int_eq (pos (f.0 * 1)) (pos n)) f.2 in
     ap (has ns) (sym (pos_same (f.0 * 1) n (same_int (pos (f.0 * 1)) (pos n) both.1)) ∙ times_one f.0) ∙ both.0))
@@ -230,7 +231,7 @@ spans_none M (s ∷ ss) xs r e b h = ap not (h ∙ some_length (length ss) ∙ s
 
 -- the least member from a number on
 pub next_none : (M : ℕ) (a : List Span) (xs : List ℕ) (n : ℕ) → IsSpans 0 M a → members a ≡ xs → ((k : ℕ) → n ≤ k → within a k ≡ false) → filter (λ k. leb n k) xs ≡ []
-next_none M a xs n r e h = no_members (filter (λ k. leb n k) xs) (λ k. not_true (has (filter (λ k. leb n k) xs) k) (λ t.
+next_none M a xs n r e h = no_members (filter (λ k. leb n k) xs) (λ k. false_from_ne_true (has (filter (λ k. leb n k) xs) k) (λ t.
     let both = has-filter_back (λ j. leb n j) xs k t in true≢false (sym (has_within M a xs k r e ∙ both.0) ∙ h k (leb-true n k both.1))))
 
 pub next_is : (M : ℕ) (a : List Span) (xs : List ℕ) (n m : ℕ) → IsSpans 0 M a → members a ≡ xs → IsRising 0 M xs → n ≤ m → within a m ≡ true → ((k : ℕ) → n ≤ k → within a k ≡ true → m ≤ k) → m ≡ least (filter (λ k. leb n k) xs)

@@ -9,11 +9,11 @@ use Rattle.domain_ranges.specs.declared.Narrowed.TheVariants.{Same, Empty, Chang
 use Rattle.std.proofs.lemmas.Bool.{cases_Bool}
 use Rattle.std.proofs.lemmas.Bool.Decides.{nat_tests}
 use Rattle.std.proofs.Common.{leb, leb-true, max, min}
+use Rattle.std.proofs.lemmas.List.{drop_more}
 use Rattle.domain_ranges.specs.Narrowing.{between, IsNarrowed, IsLeft}
 use Rattle.domain_ranges.proofs.Members.{has_within, interval_none, members_none, least_is}
 use Rattle.fd_language.specs.declared.TheConstants.{INFINITY}
 use Rattle.domain_ranges.proofs.Spans.{head_or_later, in_head, in_later, within_low, past_first, behind_first, not_within}
-use Rattle.domain_ranges.proofs.Meeting.{drop_next}
 use Rattle.domain_ranges.proofs.Places.{drop_spans}
 
 abbrev pub AllIn : List Span → List Span → Type 0
@@ -55,22 +55,22 @@ module _ (M : ℕ) (a b : List Span) (i j : ℕ) (r : IsSpans 0 M a) (q : IsSpan
   y = get_or b j (0, 0)
 
   left : (low : ℕ) × IsSpans low M (x ∷ drop (i + 1) a)
-  left = let d = drop_spans 0 M i a r in (d.0, subst (IsSpans d.0 M) (drop_next i a (0, 0) h) d.1)
+  left = let d = drop_spans 0 M i a r in (d.0, subst (IsSpans d.0 M) (drop_more a i (0, 0) h) d.1)
 
   right : j < length b → (low : ℕ) × IsSpans low M (y ∷ drop (j + 1) b)
-  right g = let d = drop_spans 0 M j b q in (d.0, subst (IsSpans d.0 M) (drop_next j b (0, 0) g) d.1)
+  right g = let d = drop_spans 0 M j b q in (d.0, subst (IsSpans d.0 M) (drop_more b j (0, 0) g) d.1)
 
   both : j < length b → Comparing a b (x ∷ drop (i + 1) a) (y ∷ drop (j + 1) b)
-  both g = subst (λ l. Comparing a b l (y ∷ drop (j + 1) b)) (drop_next i a (0, 0) h) (subst (λ l. Comparing a b (drop i a) l) (drop_next j b (0, 0) g) c)
+  both g = subst (λ l. Comparing a b l (y ∷ drop (j + 1) b)) (drop_more a i (0, 0) h) (subst (λ l. Comparing a b (drop i a) l) (drop_more b j (0, 0) g) c)
 
   pub other_passed : j < length b → y.1 < x.0 → Comparing a b (drop i a) (drop (j + 1) b)
-  other_passed g e = subst (λ l. Comparing a b l (drop (j + 1) b)) (sym (drop_next i a (0, 0) h)) (pass_other left.0 M a b (drop (i + 1) a) (drop (j + 1) b) x y left.1 e (both g))
+  other_passed g e = subst (λ l. Comparing a b l (drop (j + 1) b)) (sym (drop_more a i (0, 0) h)) (pass_other left.0 M a b (drop (i + 1) a) (drop (j + 1) b) x y left.1 e (both g))
 
   pub one_passed : j < length b → y.0 ≤ x.0 → x.1 ≤ y.1 → Comparing a b (drop (i + 1) a) (drop j b)
-  one_passed g e f = subst (λ l. Comparing a b (drop (i + 1) a) l) (sym (drop_next j b (0, 0) g)) (pass_one a b (drop (i + 1) a) (drop (j + 1) b) x y e f (both g))
+  one_passed g e f = subst (λ l. Comparing a b (drop (i + 1) a) l) (sym (drop_more b j (0, 0) g)) (pass_one a b (drop (i + 1) a) (drop (j + 1) b) x y e f (both g))
 
   pub none_there : length b ≤ j → SomeOut a b
-  none_there g = c.outside (x.0, subst (λ l. within l x.0 ≡ true) (sym (drop_next i a (0, 0) h)) (in_head x (drop (i + 1) a) x.0 (omega arith) left.1.1), ap (λ l. within l x.0) (drop_of_length-le b g))
+  none_there g = c.outside (x.0, subst (λ l. within l x.0 ≡ true) (sym (drop_more a i (0, 0) h)) (in_head x (drop (i + 1) a) x.0 (omega arith) left.1.1), ap (λ l. within l x.0) (drop_of_length-le b g))
 
   pub one_missing : j < length b → x.0 ≤ y.1 → (x.0 < y.0) ⊎ (y.1 < x.1) → SomeOut a b
   one_missing g e f = (both g).outside (missing left.0 (right g).0 M (drop (i + 1) a) (drop (j + 1) b) x y left.1 (right g).1 e f)

@@ -1,6 +1,6 @@
 -- A list of intervals that is being made, with its last interval still open to what touches it.
 use Rattle.std.proofs.Common.{◌≡◌, ℕ, ◌+◌, ◌<◌, ◌≤◌, Bool, true, false, ◌||◌, ◌&&◌, leb, List, [], ◌∷◌, ◌++◌, filter, refl, ap, sym, ◌∙◌, inl, inr, arith, length, max, append-nil, Option, Some, None, IsSome, IfSome}
-use Rattle.std.proofs.lemmas.Bool.{cases_Bool, true≢false}
+use Rattle.std.proofs.lemmas.Bool.{cases_Bool, true≢false, leb-true, leb-false}
 use Rattle.std.proofs.lemmas.Bool.Decides.{nat_tests}
 use Rattle.fd_language.specs.Family.{universe}
 use Rattle.domain_ranges.specs.Spans.{Span, within, IsSpans, members, interval_count, listed, written, joined}
@@ -117,18 +117,12 @@ apart_many M p out rest rest' s x j f t l =
     let next = apart M p out rest rest' s x j f t in
     made_many M p out j.at s.0 j.made l next.from (omega (arith, next.order, next.high)) (next.inside s.0 (omega arith) next.order)
 
-leb_le : (a b : ℕ) → leb a b ≡ true → a ≤ b
-leb_le a b h = grind (arith, nat_tests)
-
-leb_gt : (a b : ℕ) → leb a b ≡ false → b < a
-leb_gt a b h = grind (arith, nat_tests)
-
 -- one interval more
 pub join_more : (M : ℕ) (p : ℕ → Bool) (out : List Span) (last : Option Span) (rest rest' : ℕ → Bool) (x : Span) → Joining M p out last rest → IsFirst M rest x rest' → Joining M p (out ++ written last x) (Some (joined last x)) rest'
 join_more M p out None rest rest' x j f = rw append-nil (join_first M p out rest rest' x j f)
 join_more M p out (Some s) rest rest' x j f = elim (cases_Bool (leb x.0 (s.1 + 1))) [
-  | inl t ↦ rw (t, append-nil) (join_longer M p out rest rest' s x j f (leb_le x.0 (s.1 + 1) t))
-  | inr t ↦ rw t (join_apart M p out rest rest' s x j f (leb_gt x.0 (s.1 + 1) t))
+  | inl t ↦ rw (t, append-nil) (join_longer M p out rest rest' s x j f (leb-true x.0 (s.1 + 1) t))
+  | inr t ↦ rw t (join_apart M p out rest rest' s x j f (leb-false x.0 (s.1 + 1) t))
 ]
 
 -- the open interval is the last one, where nothing is to come

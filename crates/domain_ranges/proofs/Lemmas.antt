@@ -1,6 +1,5 @@
 -- The lemmas that other crates may cite, by their subjects. All else in proofs/ is this crate's own.
 -- The loop of the quotient of a list of intervals.
-pub use Rattle.domain_ranges.proofs.Dividing.{same_bool}
 -- A set and its ends.
 pub use Rattle.domain_ranges.proofs.Ends.{own_ends}
 -- A set without a number.
@@ -16,4 +15,3 @@ pub use Rattle.domain_ranges.proofs.Meeting.{below_first}
 -- The numbers of a list of intervals.
 pub use Rattle.domain_ranges.proofs.Members.{filter_inside, has_within, least_is, members_rising}
 -- The loop of a list of intervals that are moved by an integer.
-pub use Rattle.domain_ranges.proofs.Shifting.{not_true}

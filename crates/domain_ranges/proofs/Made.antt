@@ -1,6 +1,6 @@
 -- A set that is being made, from its least number on.
 use Rattle.std.proofs.Common.{◌≡◌, ℕ, suc, ◌+◌, ◌<◌, ◌≤◌, Bool, true, false, ◌||◌, List, [], ◌∷◌, ◌++◌, filter, refl, ap, sym, ◌∙◌, inl, inr, ◌⊎◌, arith, length}
-use Rattle.std.proofs.lemmas.Bool.{true≢false}
+use Rattle.std.proofs.lemmas.Bool.{true≢false, cases_lt}
 use Rattle.std.proofs.lemmas.Bool.Decides.{nat_tests}
 use Rattle.fd_language.specs.Family.{has, universe}
 use Rattle.fd_language.proofs.Lemmas.{has-filter, has-filter_back, universe_rising, in_universe, rising-filter}
@@ -26,14 +26,11 @@ pub record IsNext (M : ℕ) (p : ℕ → Bool) (k : ℕ) (s : Span) : Type 0 whe
 pub made_none : (M : ℕ) (p : ℕ → Bool) → Made M p [] 0
 made_none M p = record { spans = tt; ends = tt; same = λ n h g. absurd (omega arith) }
 
-le_or : (a b : ℕ) → (a < b) ⊎ (b ≤ a)
-le_or a b = grind arith
-
 pub made_skip : (M : ℕ) (p : ℕ → Bool) (out : List Span) (k j : ℕ) → Made M p out k → k ≤ j → ((n : ℕ) → n ≤ M → k ≤ n → n < j → p n ≡ false) → Made M p out j
 made_skip M p out k j m h f = record {
   spans = m.spans;
   ends = ends_more out k j m.ends h;
-  same = λ n g l. elim (le_or n k) [ inl a ↦ m.same n g a | inr a ↦ ends_none out k n m.ends a ∙ sym (f n g a l) ];
+  same = λ n g l. elim (cases_lt n k) [ inl a ↦ m.same n g a | inr a ↦ ends_none out k n m.ends a ∙ sym (f n g a l) ];
 }
 
 -- where a number lies, beside an interval
@@ -68,7 +65,7 @@ made_push M p out k s m x = record {
 }
 
 pub made_all : (M : ℕ) (p : ℕ → Bool) (out : List Span) (k : ℕ) → Made M p out k → ((n : ℕ) → n ≤ M → k ≤ n → p n ≡ false) → members out ≡ filter p (universe M)
-made_all M p out k m f = members_is M out p m.spans (λ n g. elim (le_or n k) [ inl a ↦ m.same n g a | inr a ↦ ends_none out k n m.ends a ∙ sym (f n g a) ])
+made_all M p out k m f = members_is M out p m.spans (λ n g. elim (cases_lt n k) [ inl a ↦ m.same n g a | inr a ↦ ends_none out k n m.ends a ∙ sym (f n g a) ])
 
 has_not : (M : ℕ) (p : ℕ → Bool) (n : ℕ) (b : Bool) → p n ≡ false → has (filter p (universe M)) n ≡ b → b ≡ false
 has_not M p n false h e = refl

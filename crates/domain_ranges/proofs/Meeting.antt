@@ -3,6 +3,8 @@ use Rattle.std.proofs.Common.{◌≡◌, ℕ, suc, ◌+◌, ◌<◌, ◌≤◌, 
 use Rattle.std.proofs.lemmas.Bool.{cases_Bool}
 use Rattle.std.proofs.lemmas.Bool.Decides.{nat_tests}
 use Rattle.std.proofs.Math.Seq.{drop-cons}
+use Rattle.std.proofs.Math.Bool.{and_comm}
+use Rattle.std.proofs.lemmas.List.{drop_more}
 use Rattle.fd_language.specs.Family.{universe}
 use Rattle.domain_ranges.specs.Spans.{Span, within, IsSpans, members, interval_count, meet}
 use Rattle.domain_ranges.proofs.Spans.{not_within, in_head, past_first, behind_first}
@@ -20,15 +22,12 @@ pub record Meeting (M : ℕ) (p : ℕ → Bool) (out ra rb : List Span) : Type 0
 pub meeting_start : (M : ℕ) (a b : List Span) → IsSpans 0 M a → IsSpans 0 M b → Meeting M (λ n. within a n && within b n) [] a b
 meeting_start M a b r q = record { at = 0; made = made_none M (λ n. within a n && within b n); left = (0, r); right = (0, q); start = inl (omega arith); same = λ n g h. refl }
 
-and_flip : (a b : Bool) → (a && b) ≡ (b && a)
-and_flip a b = grind arith
-
 flip_start : (a b c : ℕ) → (a ≤ b) ⊎ (a ≤ c) → (a ≤ c) ⊎ (a ≤ b)
 flip_start a b c (inl h) = inr h
 flip_start a b c (inr h) = inl h
 
 flip_over : (M : ℕ) (p : ℕ → Bool) (out ra rb : List Span) → Meeting M p out ra rb → Meeting M p out rb ra
-flip_over M p out ra rb s = record { at = s.at; made = s.made; left = s.right; right = s.left; start = flip_start s.at s.left.0 s.right.0 s.start; same = λ n g h. s.same n g h ∙ and_flip (within ra n) (within rb n) }
+flip_over M p out ra rb s = record { at = s.at; made = s.made; left = s.right; right = s.left; start = flip_start s.at s.left.0 s.right.0 s.start; same = λ n g h. s.same n g h ∙ and_comm (within ra n) (within rb n) }
 
 both_false : (a b c : Bool) → c ≡ (a && b) → (a ≡ false) ⊎ (b ≡ false) → c ≡ false
 both_false a b c e h = grind (arith, h)
@@ -129,22 +128,18 @@ pub meeting_done : (M : ℕ) (p : ℕ → Bool) (out ra rb : List Span) → Meet
 meeting_done M p out ra rb s h = made_all M p out s.at s.made
     (λ n l k. both_false (within ra n) (within rb n) (p n) (s.same n l k) (elim h [ inl e ↦ inl (ap (λ l. within l n) e) | inr e ↦ inr (ap (λ l. within l n) e) ]))
 
--- the same at places
-pub drop_next : (i : ℕ) (ss : List Span) (d : Span) → i < length ss → drop i ss ≡ get_or ss i d ∷ drop (i + 1) ss
-drop_next i ss d h = rw (add-one, drop-cons ss i d) refl
-
 at_places : (M : ℕ) (p : ℕ → Bool) (a b out : List Span) (i j : ℕ) → Meeting M p out (drop i a) (drop j b) → i < length a → j < length b → Meeting M p out (get_or a i (0, 0) ∷ drop (i + 1) a) (get_or b j (0, 0) ∷ drop (j + 1) b)
 at_places M p a b out i j s h g =
-    subst (λ t. Meeting M p out t (get_or b j (0, 0) ∷ drop (j + 1) b)) (drop_next i a (0, 0) h) (subst (λ t. Meeting M p out (drop i a) t) (drop_next j b (0, 0) g) s)
+    subst (λ t. Meeting M p out t (get_or b j (0, 0) ∷ drop (j + 1) b)) (drop_more a i (0, 0) h) (subst (λ t. Meeting M p out (drop i a) t) (drop_more b j (0, 0) g) s)
 
 pub left_at : (M : ℕ) (p : ℕ → Bool) (a b out : List Span) (i j : ℕ) → Meeting M p out (drop i a) (drop j b) → i < length a → j < length b → (get_or a i (0, 0)).1 < (get_or b j (0, 0)).1 → Meeting M p (out ++ meet (get_or a i (0, 0)) (get_or b j (0, 0))) (drop (i + 1) a) (drop j b)
 left_at M p a b out i j s h g l =
-    subst (λ t. Meeting M p (out ++ meet (get_or a i (0, 0)) (get_or b j (0, 0))) (drop (i + 1) a) t) (sym (drop_next j b (0, 0) g))
+    subst (λ t. Meeting M p (out ++ meet (get_or a i (0, 0)) (get_or b j (0, 0))) (drop (i + 1) a) t) (sym (drop_more b j (0, 0) g))
     (pass_left M p out (drop (i + 1) a) (drop (j + 1) b) (get_or a i (0, 0)) (get_or b j (0, 0)) (at_places M p a b out i j s h g) (omega arith))
 
 pub right_at : (M : ℕ) (p : ℕ → Bool) (a b out : List Span) (i j : ℕ) → Meeting M p out (drop i a) (drop j b) → i < length a → j < length b → (get_or b j (0, 0)).1 ≤ (get_or a i (0, 0)).1 → Meeting M p (out ++ meet (get_or a i (0, 0)) (get_or b j (0, 0))) (drop i a) (drop (j + 1) b)
 right_at M p a b out i j s h g l =
-    subst (λ t. Meeting M p (out ++ meet (get_or a i (0, 0)) (get_or b j (0, 0))) t (drop (j + 1) b)) (sym (drop_next i a (0, 0) h))
+    subst (λ t. Meeting M p (out ++ meet (get_or a i (0, 0)) (get_or b j (0, 0))) t (drop (j + 1) b)) (sym (drop_more a i (0, 0) h))
     (pass_right M p out (drop (i + 1) a) (drop (j + 1) b) (get_or a i (0, 0)) (get_or b j (0, 0)) (at_places M p a b out i j s h g) l)
 
 pub more_at : (M : ℕ) (p : ℕ → Bool) (a b out : List Span) (i j : ℕ) → Meeting M p out (drop i a) (drop j b) → i < length a → j < length b → 2 ≤ length out → max (get_or a i (0, 0)).0 (get_or b j (0, 0)).0 ≤ min (get_or a i (0, 0)).1 (get_or b j (0, 0)).1 → 2 < interval_count (filter p (universe M))

@@ -1,8 +1,9 @@
 -- The numbers of a list of intervals.
 use Rattle.std.proofs.Common.{◌≡◌, ℕ, zero, suc, ◌+◌, ◌-◌, ◌<◌, ◌≤◌, Bool, true, false, ◌||◌, ◌&&◌, ◌==◌, not, leb, List, [], ◌∷◌, ◌++◌, filter, refl, ap, sym, ◌∙◌, subst, inl, inr, arith, length, get_or, length-append, ℤ, pos, negsuc, int_le, ◌<ℤ◌, ◌⊎◌, append-nil, eqb-true}
-use Rattle.std.proofs.lemmas.Bool.{and_parts, and_from, or_cases, true≢false}
+use Rattle.std.proofs.lemmas.Bool.{and_parts, and_from, or_cases, true≢false, cases_lt}
 use Rattle.std.proofs.lemmas.Bool.Decides.{nat_tests}
 use Rattle.std.proofs.lemmas.Int.{ints}
+use Rattle.std.proofs.Math.Bool.{or-false}
 use Rattle.fd_language.specs.Family.{has, universe, IsRising, count_up}
 use Rattle.fd_language.specs.Range.{least, greatest, is_none_left}
 use Rattle.fd_language.proofs.Lemmas.{rising_same, has-filter, has-filter_back, universe_rising, in_universe, has_high, has_low, rising-filter, least_low, least_in, greatest_in, greatest_high, not_empty}
@@ -106,9 +107,6 @@ no_spans (s ∷ ss) h = absurd (omega arith)
 pub none_is : (ss : List Span) (xs : List ℕ) → members ss ≡ xs → length ss < 1 → xs ≡ []
 none_is ss xs e h = sym e ∙ no_spans ss h
 
-or_false : (a : Bool) → (a || false) ≡ a
-or_false a = grind arith
-
 -- three members, and at least three places
 one_place : (xs : List ℕ) (c : ℕ) → has xs c ≡ true → 1 ≤ length xs
 one_place [] c h = absurd (true≢false (sym h))
@@ -192,7 +190,7 @@ outside M xs (pos n) r (inr h) = has_above M xs n (has xs n) r (omega (arith, in
 outside M xs (negsuc n) r h = refl
 
 pub interval_some : (M : ℕ) (s : Span) (lo hi : ℤ) → s.0 ≤ s.1 → s.1 ≤ M → ((n : ℕ) → n ≤ M → (leb s.0 n && leb n s.1) ≡ (int_le lo (pos n) && int_le (pos n) hi)) → members (s ∷ []) ≡ filter (λ n. int_le lo (pos n) && int_le (pos n) hi) (universe M)
-interval_some M s lo hi h g f = members_is M (s ∷ []) (λ n. int_le lo (pos n) && int_le (pos n) hi) (omega arith, h, g, tt) (λ n l. or_false (leb s.0 n && leb n s.1) ∙ f n l)
+interval_some M s lo hi h g f = members_is M (s ∷ []) (λ n. int_le lo (pos n) && int_le (pos n) hi) (omega arith, h, g, tt) (λ n l. or-false (leb s.0 n && leb n s.1) ∙ f n l)
 
 pub interval_none : (M : ℕ) (lo hi : ℤ) → ((n : ℕ) → n ≤ M → (int_le lo (pos n) && int_le (pos n) hi) ≡ false) → members [] ≡ filter (λ n. int_le lo (pos n) && int_le (pos n) hi) (universe M)
 interval_none M lo hi f = members_is M [] (λ n. int_le lo (pos n) && int_le (pos n) hi) tt (λ n l. sym (f n l))
@@ -215,11 +213,8 @@ low_bit : (low n : ℕ) (b : Bool) → (b ≡ true → low ≤ n) → n < low �
 low_bit low n false f h = refl
 low_bit low n true f h = absurd (omega (arith, f refl))
 
-past_or : (k n : ℕ) → (k < n) ⊎ (n ≤ k)
-past_or k n = grind arith
-
 rest_same : (low high : ℕ) (s t : Span) (ss ts : List Span) → IsSpans low high (s ∷ ss) → IsSpans low high (t ∷ ts) → s ≡ t → ((n : ℕ) → within (s ∷ ss) n ≡ within (t ∷ ts) n) → (n : ℕ) → within ss n ≡ within ts n
-rest_same low high s t ss ts r q e h n = elim (past_or s.1 n) [
+rest_same low high s t ss ts r q e h n = elim (cases_lt s.1 n) [
   | inl l ↦ sym (past_first s ss n l) ∙ h n ∙ past_first t ts n (subst (λ (u : Span). u.1 < n) e l)
   | inr l ↦ low_bit (s.1 + 2) n (within ss n) (within_low (s.1 + 2) high ss n r.3) (omega arith) ∙ sym (low_bit (t.1 + 2) n (within ts n) (within_low (t.1 + 2) high ts n q.3) (let g : n ≤ t.1 = subst (λ (u : Span). n ≤ u.1) e l in omega arith))
 ]

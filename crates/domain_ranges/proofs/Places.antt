@@ -1,9 +1,10 @@
 -- The first interval that doesn't end below a number.
 use Rattle.std.proofs.Common.{◌≡◌, ℕ, zero, suc, ◌+◌, ◌<◌, ◌≤◌, Bool, true, false, leb, ltb, List, [], ◌∷◌, refl, ap, sym, ◌∙◌, subst, arith, length, get_or, drop, drop_of_length-le, max, le-leb}
 use Rattle.std.proofs.lemmas.Bool.Decides.{nat_tests}
+use Rattle.std.proofs.lemmas.Bool.{ltb-true, ltb-false}
+use Rattle.std.proofs.lemmas.List.{drop_more}
 use Rattle.domain_ranges.specs.Spans.{Span, within, IsSpans}
 use Rattle.domain_ranges.proofs.Spans.{not_within, past_first, within_low, spans_at}
-use Rattle.domain_ranges.proofs.Meeting.{drop_next}
 
 end_low : (low high j : ℕ) (ss : List Span) (d : Span) → IsSpans low high ss → j < length ss → low ≤ (get_or ss j d).1
 end_low low high j [] d r h = absurd (omega arith)
@@ -36,17 +37,11 @@ drop_spans low high (suc i) (s ∷ ss) r = drop_spans (s.1 + 2) high i ss r.3
 pub there : (high i n : ℕ) (ss : List Span) → IsSpans 0 high ss → ((k : ℕ) (d : Span) → k < i → (get_or ss k d).1 < n) → i < length ss → n ≤ (get_or ss i (0, 0)).1 → within ss n ≡ leb (get_or ss i (0, 0)).0 n
 there high i n ss r h g l =
     let rest = drop_spans 0 high i ss r in
-    passed i n ss h (omega arith) ∙ ap (λ t. within t n) (drop_next i ss (0, 0) g)
-    ∙ at_first rest.0 high n (get_or ss i (0, 0)) (drop (i + 1) ss) (subst (IsSpans rest.0 high) (drop_next i ss (0, 0) g) rest.1) l
+    passed i n ss h (omega arith) ∙ ap (λ t. within t n) (drop_more ss i (0, 0) g)
+    ∙ at_first rest.0 high n (get_or ss i (0, 0)) (drop (i + 1) ss) (subst (IsSpans rest.0 high) (drop_more ss i (0, 0) g) rest.1) l
 
 pub not_there : (i n : ℕ) (ss : List Span) → ((k : ℕ) (d : Span) → k < i → (get_or ss k d).1 < n) → i ≤ length ss → length ss ≤ i → within ss n ≡ false
 not_there i n ss h g l = passed i n ss h g ∙ ap (λ t. within t n) (drop_of_length-le ss l)
-
-pub ltb_less : (a b : ℕ) → ltb a b ≡ true → a < b
-ltb_less a b h = grind (arith, nat_tests)
-
-pub ltb_not : (a b : ℕ) → ltb a b ≡ false → b ≤ a
-ltb_not a b h = grind (arith, nat_tests)
 
 pub no_less : (a b : ℕ) (c : Bool) → b ≤ a → c ≡ false → ltb a b ≡ c
 no_less a b c h e = grind (arith, nat_tests)
@@ -58,8 +53,8 @@ first_low low high n s ss k r h = within_low s.0 high (s ∷ ss) k (omega arith,
 pub next_least : (high i n k : ℕ) (ss : List Span) → IsSpans 0 high ss → ((j : ℕ) (d : Span) → j < i → (get_or ss j d).1 < n) → i < length ss → n ≤ k → within ss k ≡ true → max (get_or ss i (0, 0)).0 n ≤ k
 next_least high i n k ss r h g l t =
     let rest = drop_spans 0 high i ss r in
-    let low : (get_or ss i (0, 0)).0 ≤ k = first_low rest.0 high n (get_or ss i (0, 0)) (drop (i + 1) ss) k (subst (IsSpans rest.0 high) (drop_next i ss (0, 0) g) rest.1)
-    (sym (ap (λ t. within t k) (drop_next i ss (0, 0) g)) ∙ sym (passed i k ss (λ j d m. (let e = h j d m in omega arith)) (omega arith)) ∙ t) in
+    let low : (get_or ss i (0, 0)).0 ≤ k = first_low rest.0 high n (get_or ss i (0, 0)) (drop (i + 1) ss) k (subst (IsSpans rest.0 high) (drop_more ss i (0, 0) g) rest.1)
+    (sym (ap (λ t. within t k) (drop_more ss i (0, 0) g)) ∙ sym (passed i k ss (λ j d m. (let e = h j d m in omega arith)) (omega arith)) ∙ t) in
     omega arith
 
 pub next_there : (high i n : ℕ) (ss : List Span) → IsSpans 0 high ss → ((j : ℕ) (d : Span) → j < i → (get_or ss j d).1 < n) → i < length ss → n ≤ (get_or ss i (0, 0)).1 → within ss (max (get_or ss i (0, 0)).0 n) ≡ true

@@ -1,14 +1,12 @@
 -- The loop of the multiples of the members of a list of intervals.
 use Rattle.std.proofs.Common.{◌≡◌, ℕ, suc, ◌+◌, ◌*◌, ◌/◌, ◌<◌, ◌≤◌, true, ◌==◌, List, [], ◌∷◌, ◌++◌, filter, refl, ap, sym, ◌∙◌, subst, inl, inr, arith, length, get_or, drop, drop_of_length-le, max, eqb-true, eq-eqb}
-use Rattle.std.proofs.lemmas.Bool.{true≢false, and_parts, and_from}
-use Rattle.std.proofs.Math.Nat.{mul-le-mul_right, mul-div_cancel, div-mul-le_self, lt-div-mul-add}
+use Rattle.std.proofs.lemmas.Bool.{true≢false, and_parts, and_from, false_from_ne_true, cases_lt}
+use Rattle.std.proofs.Math.Nat.{mul-le-mul_right, mul-div_cancel, div-mul-le_self, lt-div-mul-add, suc-mul}
+use Rattle.std.proofs.lemmas.List.{drop_more}
 use Rattle.fd_language.specs.Family.{universe}
 use Rattle.domain_ranges.specs.Spans.{Span, within, IsSpans, members, interval_count, scaled}
 use Rattle.domain_ranges.proofs.Spans.{within_low, in_head, past_first}
 use Rattle.domain_ranges.proofs.Made.{Made, IsNext, made_push, made_all, made_many}
-use Rattle.domain_ranges.proofs.Meeting.{drop_next}
-use Rattle.domain_ranges.proofs.Dividing.{less_or}
-use Rattle.domain_ranges.proofs.Shifting.{not_true}
 
 -- the members below next are done with
 pub record Scaling (M c : ℕ) (ss out : List Span) (next : ℕ) (rest : List Span) : Type 0 where
@@ -30,12 +28,9 @@ scaled_at ss c e h g =
     let q : e * c / c ≡ e = mul-div_cancel e h in
     and_from (e * c / c * c == e * c) (within ss (e * c / c)) (eq-eqb (e * c / c * c) (e * c) (ap (λ k. k * c) q)) (ap (within ss) q ∙ g)
 
-suc_times : (n c : ℕ) → suc n * c ≡ n * c + c
-suc_times n c = omega arith
-
 -- a multiple from at on is of a member from the next one on
 from_next : (M c : ℕ) (ss out rest : List Span) (next : ℕ) (s : Scaling M c ss out next rest) (n : ℕ) → s.at ≤ n → n / c * c ≡ n → next ≤ n / c
-from_next M c ss out rest next s n h e = elim (less_or (n / c) next) [ inl l ↦ (let d : n / c * c < s.at = s.done (n / c) l in absurd (omega arith)) | inr l ↦ l ]
+from_next M c ss out rest next s n h e = elim (cases_lt (n / c) next) [ inl l ↦ (let d : n / c * c < s.at = s.done (n / c) l in absurd (omega arith)) | inr l ↦ l ]
 
 -- it is no less than the next member
 no_less : (M c : ℕ) (ss out xs : List Span) (next : ℕ) (x : Span) (s : Scaling M c ss out next (x ∷ xs)) (n : ℕ) → s.at ≤ n → scaled ss c n ≡ true → (n / c * c ≡ n) × (max x.0 next ≤ n / c)
@@ -55,16 +50,16 @@ next_member M c ss out xs next x s h g =
       from = omega (arith, s.before);
       order = omega arith;
       high = g;
-      before = λ n k l. not_true (scaled ss c n) (λ t.
+      before = λ n k l. false_from_ne_true (scaled ss c n) (λ t.
           (let q = no_less M c ss out xs next x s n k t in
           let m : max x.0 next * c ≤ n / c * c = mul-le-mul_right c q.1 in
           omega (arith, q.0)));
       inside = λ n k l. (let e : n ≡ max x.0 next * c = omega arith in
           ap (scaled ss c) e ∙ scaled_at ss c (max x.0 next) (omega arith) (s.same (max x.0 next) (omega arith) ∙ in_head x xs (max x.0 next) (omega arith) (omega (arith, r.1))));
-      after = λ k. not_true (scaled ss c (max x.0 next * c + 1)) (λ t.
+      after = λ k. false_from_ne_true (scaled ss c (max x.0 next * c + 1)) (λ t.
           (let q = scaled_from ss c (max x.0 next * c + 1) t in
-          elim (less_or (max x.0 next) ((max x.0 next * c + 1) / c)) [
-            | inl l ↦ let m : suc (max x.0 next) * c ≤ (max x.0 next * c + 1) / c * c = mul-le-mul_right c l in let e = suc_times (max x.0 next) c in omega (arith, q.0)
+          elim (cases_lt (max x.0 next) ((max x.0 next * c + 1) / c)) [
+            | inl l ↦ let m : suc (max x.0 next) * c ≤ (max x.0 next * c + 1) / c * c = mul-le-mul_right c l in let e = suc-mul (max x.0 next) c in omega (arith, q.0)
             | inr l ↦ let m : (max x.0 next * c + 1) / c * c ≤ max x.0 next * c = mul-le-mul_right c l in omega (arith, q.0)
           ]));
     }
@@ -108,10 +103,10 @@ scaling_out M c ss out xs next x s h g e =
 
 -- at places
 at_place : (M c : ℕ) (ss out : List Span) (next i : ℕ) → Scaling M c ss out next (drop i ss) → i < length ss → Scaling M c ss out next (get_or ss i (0, 0) ∷ drop (i + 1) ss)
-at_place M c ss out next i s h = subst (Scaling M c ss out next) (drop_next i ss (0, 0) h) s
+at_place M c ss out next i s h = subst (Scaling M c ss out next) (drop_more ss i (0, 0) h) s
 
 pub scale_in : (M c : ℕ) (ss out : List Span) (next i : ℕ) → Scaling M c ss out next (drop i ss) → i < length ss → 2 ≤ c → max (get_or ss i (0, 0)).0 next * c ≤ M → (max (get_or ss i (0, 0)).0 next ≡ (get_or ss i (0, 0)).1 → ⊥) → Scaling M c ss (out ++ (max (get_or ss i (0, 0)).0 next * c, max (get_or ss i (0, 0)).0 next * c) ∷ []) (max (get_or ss i (0, 0)).0 next + 1) (drop i ss)
-scale_in M c ss out next i s l h g e = subst (Scaling M c ss (out ++ (max (get_or ss i (0, 0)).0 next * c, max (get_or ss i (0, 0)).0 next * c) ∷ []) (max (get_or ss i (0, 0)).0 next + 1)) (sym (drop_next i ss (0, 0) l)) (scaling_in M c ss out (drop (i + 1) ss) next (get_or ss i (0, 0)) (at_place M c ss out next i s l) h g e)
+scale_in M c ss out next i s l h g e = subst (Scaling M c ss (out ++ (max (get_or ss i (0, 0)).0 next * c, max (get_or ss i (0, 0)).0 next * c) ∷ []) (max (get_or ss i (0, 0)).0 next + 1)) (sym (drop_more ss i (0, 0) l)) (scaling_in M c ss out (drop (i + 1) ss) next (get_or ss i (0, 0)) (at_place M c ss out next i s l) h g e)
 
 pub scale_out : (M c : ℕ) (ss out : List Span) (next i : ℕ) → Scaling M c ss out next (drop i ss) → i < length ss → 2 ≤ c → max (get_or ss i (0, 0)).0 next * c ≤ M → max (get_or ss i (0, 0)).0 next ≡ (get_or ss i (0, 0)).1 → Scaling M c ss (out ++ (max (get_or ss i (0, 0)).0 next * c, max (get_or ss i (0, 0)).0 next * c) ∷ []) (max (get_or ss i (0, 0)).0 next + 1) (drop (i + 1) ss)
 scale_out M c ss out next i s l h g e = scaling_out M c ss out (drop (i + 1) ss) next (get_or ss i (0, 0)) (at_place M c ss out next i s l) h g e
@@ -124,7 +119,7 @@ scale_many M c ss out next i s l h g k =
 
 -- nothing is left, or only what is past the end of U
 pub scale_end : (M c : ℕ) (ss out : List Span) (next i : ℕ) → Scaling M c ss out next (drop i ss) → length ss ≤ i → members out ≡ filter (scaled ss c) (universe M)
-scale_end M c ss out next i s h = made_all M (scaled ss c) out s.at s.made (λ n l k. not_true (scaled ss c n) (λ t.
+scale_end M c ss out next i s h = made_all M (scaled ss c) out s.at s.made (λ n l k. false_from_ne_true (scaled ss c n) (λ t.
     (let parts = scaled_from ss c n t in
     let up = from_next M c ss out (drop i ss) next s n k parts.0 in
     true≢false (sym parts.1 ∙ s.same (n / c) up ∙ ap (λ ts. within ts (n / c)) (drop_of_length-le ss h)))))
@@ -132,11 +127,11 @@ scale_end M c ss out next i s h = made_all M (scaled ss c) out s.at s.made (λ n
 pub scale_past : (M c : ℕ) (ss out : List Span) (next i : ℕ) → Scaling M c ss out next (drop i ss) → i < length ss → 0 < c → M / c < max (get_or ss i (0, 0)).0 next → members out ≡ filter (scaled ss c) (universe M)
 scale_past M c ss out next i s l h g =
     let t = at_place M c ss out next i s l in
-    made_all M (scaled ss c) out t.at t.made (λ n k j. not_true (scaled ss c n) (λ e.
+    made_all M (scaled ss c) out t.at t.made (λ n k j. false_from_ne_true (scaled ss c n) (λ e.
     (let q = no_less M c ss out (drop (i + 1) ss) next (get_or ss i (0, 0)) t n j e in
     let m : suc (M / c) * c ≤ n / c * c = mul-le-mul_right c (omega (arith, q.1)) in
     let u : M < M / c * c + c = lt-div-mul-add h in
-    let v = suc_times (M / c) c in
+    let v = suc-mul (M / c) c in
     omega (arith, q.0))))
 
 pub scale_fits : (M c e : ℕ) → e ≤ M / c → e * c ≤ M

@@ -1,13 +1,13 @@
 -- The loop of a list of intervals that are moved by an integer.
 use Rattle.std.proofs.Common.{◌≡◌, ℕ, ◌+◌, ◌<◌, ◌≤◌, Bool, true, false, ◌||◌, ◌&&◌, leb, List, [], ◌∷◌, ◌++◌, filter, refl, ap, sym, ◌∙◌, subst, inl, inr, ◌⊎◌, arith, length, get_or, drop, drop_of_length-le, ℤ, pos, ◌+ℤ◌, ◌≤ℤ◌, ◌<ℤ◌, int_le, neg_ℤ, to_z, of_z, ◌^◌}
 use mir.Syntax.{w128}
-use Rattle.std.proofs.lemmas.Bool.{true≢false, or_cases}
+use Rattle.std.proofs.lemmas.Bool.{true≢false, or_cases, false_from_ne_true}
 use Rattle.std.proofs.lemmas.Bool.Decides.{nat_tests}
 use Rattle.std.proofs.lemmas.Int.{ints}
+use Rattle.std.proofs.lemmas.List.{drop_more}
 use Rattle.fd_language.specs.Family.{universe}
 use Rattle.domain_ranges.specs.Spans.{Span, IsSpans, members, interval_count, shifted}
 use Rattle.domain_ranges.proofs.Made.{Made, IsNext, made_push, made_all, made_many}
-use Rattle.domain_ranges.proofs.Meeting.{drop_next}
 use Rattle.domain_ranges.proofs.Joining.{either_false, either_true}
 
 -- whether n comes of the interval
@@ -50,16 +50,12 @@ leb_low s n h = grind (arith, nat_tests)
 leb_high : (s : Span) (n : ℕ) → s.1 < n → (leb s.0 n && leb n s.1) ≡ false
 leb_high s n h = grind (arith, nat_tests)
 
-pub not_true : (b : Bool) → (b ≡ true → ⊥) → b ≡ false
-not_true false f = refl
-not_true true f = absurd (f refl)
-
 beyond : (s1 x1 : ℕ) (c : ℤ) (n : ℕ) → pos s1 ≤ℤ (pos x1 +ℤ c) → (pos (x1 + 2) +ℤ c) ≤ℤ pos n → s1 + 2 ≤ n
 beyond s1 x1 c n h g = omega (arith, ints)
 
 -- nothing of later intervals up to one behind the end
 late : (M : ℕ) (c : ℤ) (x s : Span) (xs : List Span) → IsSpans (x.1 + 2) M xs → IsMoved M c x s → (n : ℕ) → n < s.1 + 2 → shifted xs c n ≡ false
-late M c x s xs r m n h = not_true (shifted xs c n) (λ e.
+late M c x s xs r m n h = false_from_ne_true (shifted xs c n) (λ e.
     let at_end = comes_parts x c s.1 (sym (m.same s.1 m.high) ∙ leb_both s s.1 m.order (omega arith)) in
     let far : s.1 + 2 ≤ n = beyond s.1 x.1 c n at_end.1 (shifted_low (x.1 + 2) M c xs n r e) in omega arith)
 
@@ -116,14 +112,14 @@ shifting_skip M c ss out xs x t none = record {
 
 -- at places
 pub shift_some : (M : ℕ) (c : ℤ) (ss out : List Span) (i : ℕ) (s : Span) → Shifting M c ss out (drop i ss) → i < length ss → IsMoved M c (get_or ss i (0, 0)) s → Shifting M c ss (out ++ s ∷ []) (drop (i + 1) ss)
-shift_some M c ss out i s t h m = shifting_push M c ss out (drop (i + 1) ss) (get_or ss i (0, 0)) s (subst (Shifting M c ss out) (drop_next i ss (0, 0) h) t) m
+shift_some M c ss out i s t h m = shifting_push M c ss out (drop (i + 1) ss) (get_or ss i (0, 0)) s (subst (Shifting M c ss out) (drop_more ss i (0, 0) h) t) m
 
 pub shift_none : (M : ℕ) (c : ℤ) (ss out : List Span) (i : ℕ) → Shifting M c ss out (drop i ss) → i < length ss → ((n : ℕ) → n ≤ M → comes (get_or ss i (0, 0)) c n ≡ false) → Shifting M c ss out (drop (i + 1) ss)
-shift_none M c ss out i t h none = shifting_skip M c ss out (drop (i + 1) ss) (get_or ss i (0, 0)) (subst (Shifting M c ss out) (drop_next i ss (0, 0) h) t) none
+shift_none M c ss out i t h none = shifting_skip M c ss out (drop (i + 1) ss) (get_or ss i (0, 0)) (subst (Shifting M c ss out) (drop_more ss i (0, 0) h) t) none
 
 pub shift_many : (M : ℕ) (c : ℤ) (ss out : List Span) (i : ℕ) (s : Span) → Shifting M c ss out (drop i ss) → i < length ss → IsMoved M c (get_or ss i (0, 0)) s → 2 ≤ length out → 2 < interval_count (filter (shifted ss c) (universe M))
 shift_many M c ss out i s t h m l =
-    let u = subst (Shifting M c ss out) (drop_next i ss (0, 0) h) t in
+    let u = subst (Shifting M c ss out) (drop_more ss i (0, 0) h) t in
     let next = next_moved M c ss out (drop (i + 1) ss) (get_or ss i (0, 0)) s u m in
     made_many M (shifted ss c) out u.at s.0 u.made l next.from (omega (arith, next.order, next.high)) (next.inside s.0 (omega arith) next.order)
 

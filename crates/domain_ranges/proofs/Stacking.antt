@@ -6,9 +6,10 @@ use Rattle.std.specs.List.Sorted.{IsNonDecreasingBy, IsPermutation}
 use Rattle.std.proofs.lemmas.Bool.{true≢false}
 use Rattle.std.proofs.lemmas.Bool.Decides.{nat_tests}
 use Rattle.std.proofs.Math.Seq.{take-append_seam, drop-append_seam}
-use Rattle.std.proofs.lemmas.List.{reverse-append, length-reverse, take-append-le, drop-append-le, take-append-drop, length-take-le}
+use Rattle.std.proofs.lemmas.List.{reverse-append, length-reverse, take-append-le, drop-append-le, take-append-drop, length-take-le, drop_more}
 use Rattle.std.proofs.lemmas.List.Elements.{All-nil, All-cons, All-head, All-tail, All-append}
 use Rattle.std.proofs.lemmas.List.Sorted.{list_any-IsPermutation, All-permutation}
+use Rattle.std.proofs.Math.Bool.{or-false}
 use Rattle.fd_language.specs.declared.TheConstants.{INFINITY}
 use Rattle.fd_language.specs.Family.{has, universe}
 use Rattle.domain_ranges.specs.Spans.{Span, within, IsSpans, members}
@@ -18,7 +19,6 @@ use Rattle.domain_ranges.proofs.Spans.{within_append, head_or_later}
 use Rattle.domain_ranges.proofs.Members.{members_is, filter_same}
 use Rattle.domain_ranges.proofs.Images.{has_set, set_same}
 use Rattle.domain_ranges.proofs.Joining.{IsFirst}
-use Rattle.domain_ranges.proofs.Meeting.{drop_next}
 
 pub length_stacked : (ks : List ℕ) (ss : List Span) → length (stacked ks ss) ≡ length ks
 length_stacked [] ss = refl
@@ -68,12 +68,9 @@ are_intervals low (s ∷ ss) r = All-cons (λ t. (t.0 ≤ t.1) × (t.1 ≤ INFIN
 pub intervals_all : (ss ts all : List Span) → all ≡ ss ++ ts → AreIntervals ss → IsSpans 0 INFINITY ts → AreIntervals all
 intervals_all ss ts all e h r = subst AreIntervals (sym e) (All-append (λ t. (t.0 ≤ t.1) × (t.1 ≤ INFINITY)) ss ts h (are_intervals 0 ts r))
 
-or_false : (a : Bool) → (a || false) ≡ a
-or_false a = grind arith
-
 -- the numbers of one interval, and of none
 pub numbers_one : (s : Span) (lo hi : ℤ) → ((n : ℕ) → n ≤ INFINITY → (leb s.0 n && leb n s.1) ≡ (int_le lo (pos n) && int_le (pos n) hi)) → numbers (s ∷ []) ≡ between lo hi
-numbers_one s lo hi f = set_same INFINITY (within (s ∷ [])) (λ n. int_le lo (pos n) && int_le (pos n) hi) (λ n l. or_false (leb s.0 n && leb n s.1) ∙ f n l)
+numbers_one s lo hi f = set_same INFINITY (within (s ∷ [])) (λ n. int_le lo (pos n) && int_le (pos n) hi) (λ n l. or-false (leb s.0 n && leb n s.1) ∙ f n l)
 
 pub numbers_none : (lo hi : ℤ) → ((n : ℕ) → n ≤ INFINITY → (int_le lo (pos n) && int_le (pos n) hi) ≡ false) → numbers [] ≡ between lo hi
 numbers_none lo hi f = set_same INFINITY (within []) (λ n. int_le lo (pos n) && int_le (pos n) hi) (λ n l. sym (f n l))
@@ -156,23 +153,23 @@ drop_rising low (suc i) (s ∷ ss) h = drop_rising s.0 i ss h.1
 
 pub first_at : (i : ℕ) (ss : List Span) → i < length ss → AreIntervals ss → AreRising 0 ss → IsFirst INFINITY (within (drop i ss)) (get_or ss i (0, 0)) (within (drop (i + 1) ss))
 first_at i ss l h r =
-    let e = drop_next i ss (0, 0) l in
+    let e = drop_more ss i (0, 0) l in
     let d = drop_rising 0 i ss r in
     subst (λ k. IsFirst INFINITY (within k) (get_or ss i (0, 0)) (within (drop (i + 1) ss))) (sym e)
     (first_rising d.0 (get_or ss i (0, 0)) (drop (i + 1) ss) (subst AreIntervals e (drop_intervals i ss h)) (subst (AreRising d.0) e d.1))
 
 -- one more interval that begins no earlier, and one that is apart
 pub rising_more : (i from : ℕ) (ss : List Span) → i < length ss → from ≤ (get_or ss i (0, 0)).0 → (AreRising from (drop i ss) → AreRising 0 ss) → AreRising (get_or ss i (0, 0)).0 (drop (i + 1) ss) → AreRising 0 ss
-rising_more i from ss l g f h = f (subst (AreRising from) (sym (drop_next i ss (0, 0) l)) (g, h))
+rising_more i from ss l g f h = f (subst (AreRising from) (sym (drop_more ss i (0, 0) l)) (g, h))
 
 pub apart_more : (i from : ℕ) (ss : List Span) → i < length ss → AreIntervals ss → from ≤ (get_or ss i (0, 0)).0 → (IsSpans from INFINITY (drop i ss) → IsSpans 0 INFINITY ss) → IsSpans ((get_or ss i (0, 0)).1 + 2) INFINITY (drop (i + 1) ss) → IsSpans 0 INFINITY ss
 apart_more i from ss l a g f h =
-    let e = drop_next i ss (0, 0) l in
+    let e = drop_more ss i (0, 0) l in
     let own = All-head (λ t. (t.0 ≤ t.1) × (t.1 ≤ INFINITY)) (get_or ss i (0, 0)) (drop (i + 1) ss) (subst AreIntervals e (drop_intervals i ss a)) in
     f (subst (IsSpans from INFINITY) (sym e) (g, own.0, own.1, h))
 
 pub interval_high : (i : ℕ) (ss : List Span) → i < length ss → AreIntervals ss → (get_or ss i (0, 0)).1 ≤ INFINITY
-interval_high i ss l a = (All-head (λ t. (t.0 ≤ t.1) × (t.1 ≤ INFINITY)) (get_or ss i (0, 0)) (drop (i + 1) ss) (subst AreIntervals (drop_next i ss (0, 0) l) (drop_intervals i ss a))).1
+interval_high i ss l a = (All-head (λ t. (t.0 ≤ t.1) × (t.1 ≤ INFINITY)) (get_or ss i (0, 0)) (drop (i + 1) ss) (subst AreIntervals (drop_more ss i (0, 0) l) (drop_intervals i ss a))).1
 
 -- after a sort
 rises : (ss : List Span) (low : ℕ) → ((d : Span) → 0 < length ss → low ≤ (get_or ss 0 d).0) → ((i j : ℕ) (d : Span) → i ≤ j → j < length ss → (get_or ss i d).0 ≤ (get_or ss j d).0) → AreRising low ss

@@ -1,9 +1,10 @@
 -- The loop of the union of two lists of intervals.
 use Rattle.std.proofs.Common.{◌≡◌, ℕ, ◌+◌, ◌<◌, ◌≤◌, Bool, true, false, ◌||◌, ◌&&◌, leb, List, [], ◌∷◌, refl, ap, sym, ◌∙◌, subst, inl, inr, ◌⊎◌, arith, length, get_or, drop, drop_of_length-le}
-use Rattle.std.proofs.lemmas.Bool.{true≢false, or_cases}
+use Rattle.std.proofs.lemmas.Bool.{true≢false, or_cases, cases_lt}
+use Rattle.std.proofs.Math.Bool.{or_comm}
+use Rattle.std.proofs.lemmas.List.{drop_more}
 use Rattle.domain_ranges.specs.Spans.{Span, within, IsSpans}
 use Rattle.domain_ranges.proofs.Spans.{within_low}
-use Rattle.domain_ranges.proofs.Meeting.{drop_next}
 use Rattle.domain_ranges.proofs.Places.{drop_spans}
 use Rattle.domain_ranges.proofs.Joining.{IsFirst}
 
@@ -13,9 +14,6 @@ in_either xs ys n = within xs n || within ys n
 
 or_assoc : (a b c : Bool) → ((a || b) || c) ≡ (a || (b || c))
 or_assoc a b c = grind arith
-
-or_flip : (a b : Bool) → (a || b) ≡ (b || a)
-or_flip a b = grind arith
 
 later_low : (M low n : ℕ) (x : Span) (ys : List Span) → IsSpans low M ys → ((y : Span) (zs : List Span) → ys ≡ y ∷ zs → x.0 ≤ y.0) → within ys n ≡ true → x.0 ≤ n
 later_low M low n x [] r f h = absurd (true≢false (sym h))
@@ -33,17 +31,14 @@ flip_first : (M : ℕ) (x : Span) (xs ys xs' ys' : List Span) → IsFirst M (in_
 flip_first M x xs ys xs' ys' f = record {
   order = f.order;
   high = f.high;
-  later = λ n h. f.later n (or_flip (within xs' n) (within ys' n) ∙ h);
-  same = λ n h. or_flip (within ys n) (within xs n) ∙ f.same n h ∙ ap (λ t. (leb x.0 n && leb n x.1) || t) (or_flip (within xs' n) (within ys' n));
+  later = λ n h. f.later n (or_comm (within xs' n) (within ys' n) ∙ h);
+  same = λ n h. or_comm (within ys n) (within xs n) ∙ f.same n h ∙ ap (λ t. (leb x.0 n && leb n x.1) || t) (or_comm (within xs' n) (within ys' n));
 }
-
-less_or : (j n : ℕ) → (j < n) ⊎ (n ≤ j)
-less_or j n = grind arith
 
 -- the interval at a place, where the other list has none there that begins before
 begins : (b : List Span) (j k : ℕ) → (j < length b → k ≤ (get_or b j (0, 0)).0) → (y : Span) (zs : List Span) → drop j b ≡ y ∷ zs → k ≤ y.0
-begins b j k f y zs e = elim (less_or j (length b)) [
-  | inl l ↦ let same : get_or b j (0, 0) ∷ drop (j + 1) b ≡ y ∷ zs = sym (drop_next j b (0, 0) l) ∙ e in
+begins b j k f y zs e = elim (cases_lt j (length b)) [
+  | inl l ↦ let same : get_or b j (0, 0) ∷ drop (j + 1) b ≡ y ∷ zs = sym (drop_more b j (0, 0) l) ∙ e in
       let heads : get_or b j (0, 0) ≡ y = cc in subst (λ (s : Span). k ≤ s.0) heads (f l)
   | inr l ↦ let none : [] ≡ y ∷ zs = sym (drop_of_length-le b l) ∙ e in cc
 ]
@@ -51,8 +46,8 @@ begins b j k f y zs e = elim (less_or j (length b)) [
 pub first_left : (M : ℕ) (a b : List Span) (i j : ℕ) → IsSpans 0 M a → IsSpans 0 M b → i < length a → (j < length b → (get_or a i (0, 0)).0 ≤ (get_or b j (0, 0)).0) → IsFirst M (in_either (drop i a) (drop j b)) (get_or a i (0, 0)) (in_either (drop (i + 1) a) (drop j b))
 first_left M a b i j r q h f =
     let left = drop_spans 0 M i a r in let right = drop_spans 0 M j b q in
-    subst (λ l. IsFirst M (in_either l (drop j b)) (get_or a i (0, 0)) (in_either (drop (i + 1) a) (drop j b))) (sym (drop_next i a (0, 0) h))
-    (first_of_two M left.0 right.0 (get_or a i (0, 0)) (drop (i + 1) a) (drop j b) (subst (IsSpans left.0 M) (drop_next i a (0, 0) h) left.1) right.1 (begins b j (get_or a i (0, 0)).0 f))
+    subst (λ l. IsFirst M (in_either l (drop j b)) (get_or a i (0, 0)) (in_either (drop (i + 1) a) (drop j b))) (sym (drop_more a i (0, 0) h))
+    (first_of_two M left.0 right.0 (get_or a i (0, 0)) (drop (i + 1) a) (drop j b) (subst (IsSpans left.0 M) (drop_more a i (0, 0) h) left.1) right.1 (begins b j (get_or a i (0, 0)).0 f))
 
 pub first_right : (M : ℕ) (a b : List Span) (i j : ℕ) → IsSpans 0 M a → IsSpans 0 M b → j < length b → (i < length a → (get_or b j (0, 0)).0 ≤ (get_or a i (0, 0)).0) → IsFirst M (in_either (drop i a) (drop j b)) (get_or b j (0, 0)) (in_either (drop i a) (drop (j + 1) b))
 first_right M a b i j r q h f = flip_first M (get_or b j (0, 0)) (drop j b) (drop i a) (drop (j + 1) b) (drop i a) (first_left M b a j i q r h f)

@@ -1,17 +1,17 @@
 -- Saved cells that are forgotten when marks are dropped, since an older one of the same variable stays.
 use Rattle.std.proofs.Common.{◌≡◌, ℕ, ◌+◌, ◌<◌, ◌≤◌, ◌-◌, ◌^◌, true, false, ◌||◌, ◌==◌, cond, List, [], ◌∷◌, ◌++◌, length, get_or, set, take, drop, refl, ap, sym, ◌∙◌, subst, inl, inr, ◌⊎◌, arith, eqb-true, All, append_assoc, append-nil}
 use Rattle.std.specs.Prelude.{filter, nat_lt}
-use Rattle.std.proofs.lemmas.Bool.{or_cases, or_left, or_right, cases_Bool, eqb-false, ltb-false, true≢false, lt-ltb, le-ltb}
+use Rattle.std.proofs.lemmas.Bool.{or_cases, or_left, or_right, cases_Bool, eqb-false, ltb-false, true≢false, lt-ltb, le-ltb, cases_lt}
 use Rattle.std.proofs.lemmas.List.{length-set, length-append, length-take-le, take-set-le, take-append-le, drop-append-le, take-append-drop, drop-drop, get_or-set_other, get_or-set_same, get_or-take, get_or-drop, set-set, take_more_set, drop-set-lt, length-drop}
 use Rattle.std.specs.List.{SwappedAt}
 use Rattle.std.proofs.Math.Seq.{take-add}
 use Rattle.std.proofs.lemmas.List.Elements.{All-take, All-drop, All-filter, All-append, filter_more}
+use Rattle.std.proofs.lemmas.Grind.{drop_more_same}
 use Rattle.domain_trail.specs.declared.Cell.{Cell}
 use Rattle.domain_trail.specs.declared.Saved.{Saved}
 use Rattle.domain_trail.specs.declared.Mark.{Mark}
 use Rattle.domain_trail.specs.Trails.{sets_of, undo, sift, at_mark, stores_below, is_saved, IsSince, IsTrail}
 use Rattle.domain_trail.proofs.Undoing.{undo-append, length-undo, take-undo, undo_over, is_saved-append}
-use Rattle.domain_trail.proofs.Keeping.{lt_or_le}
 
 pub all_sifted : (P : Saved → Type 0) (from stamp : ℕ) (es : List Saved) → All P es → All P (sift from stamp es)
 all_sifted P from stamp es h =
@@ -37,7 +37,7 @@ forgotten vars s P G e cs h = record {
   saved = λ k l g. is_saved-append k P G ∙ still k l (or_cases (is_saved k P) ((e.var == k) || is_saved k G) (sym (is_saved-append k P (e ∷ G)) ∙ g));
 } where
   over : take vars (undo P (set (undo G cs) e.var e.cell)) ≡ take vars (undo P (undo G cs))
-  over = elim (lt_or_le e.var vars) [
+  over = elim (cases_lt e.var vars) [
     | inl l ↦ ap (take vars) (undo_over P (undo G cs) e.var e.cell (h l))
     | inr r ↦ take-undo vars P (set (undo G cs) e.var e.cell) ∙ ap (undo P) (take-set-le vars (undo G cs) e.var e.cell r) ∙ sym (take-undo vars P (undo G cs))
   ]
@@ -184,16 +184,13 @@ sifted_more from stamp old now i x e le long less h =
     ∙ filter_more (λ e. nat_lt e.cell.stamp stamp) (drop from old) (i - from) x (omega (arith, length-drop from old, le, long, less))
     ∙ ap (λ y. filter (λ e. nat_lt e.cell.stamp stamp) (take (i - from) (drop from old)) ++ cond (nat_lt y.cell.stamp stamp) (y ∷ []) []) (same_place from old now i x e le h)
 
-drop_next : (now old : List Saved) (i : ℕ) → drop i now ≡ drop i old → drop (i + 1) now ≡ drop (i + 1) old
-drop_next now old i e = sym (drop-drop 1 i now) ∙ ap (drop 1) e ∙ drop-drop 1 i old
-
 -- the element at the place is forgotten
 pub sifting_out : (from stamp : ℕ) (old now : List Saved) (k i : ℕ) (x : Saved) → IsSifting from stamp old now k i → i < length now → x ≡ get_or now i x → stamp ≤ x.cell.stamp → IsSifting from stamp old now k (i + 1)
 sifting_out from stamp old now k i x s less h late = record {
   front = s.front ∙ ap (λ q. take from old ++ q) (sym (append-nil (filter (λ e. nat_lt e.cell.stamp stamp) (take (i - from) (drop from old))))
       ∙ ap (λ b. filter (λ e. nat_lt e.cell.stamp stamp) (take (i - from) (drop from old)) ++ cond b (x ∷ []) []) (sym (le-ltb x.cell.stamp stamp late))
       ∙ sym (sifted_more from stamp old now i x s.rest s.after s.long less h));
-  rest = drop_next now old i s.rest;
+  rest = drop_more_same now old i s.rest;
   behind = omega (arith, s.behind);
   after = omega (arith, s.after);
   long = s.long;
@@ -206,7 +203,7 @@ sifting_in from stamp old now zs k i x s less h early w =
     record {
       front = ap (take (k + 1)) is ∙ moved ∙ ap (λ q. q ++ x ∷ []) s.front ∙ append_assoc (take from old) (filter (λ e. nat_lt e.cell.stamp stamp) (take (i - from) (drop from old))) (x ∷ [])
           ∙ ap (λ q. take from old ++ q) (ap (λ b. filter (λ e. nat_lt e.cell.stamp stamp) (take (i - from) (drop from old)) ++ cond b (x ∷ []) []) (sym (lt-ltb x.cell.stamp stamp early)) ∙ sym (sifted_more from stamp old now i x s.rest s.after s.long less h));
-      rest = ap (drop (i + 1)) is ∙ drop-set-lt (i + 1) (set now k x) i (get_or now k x) (omega arith) ∙ drop-set-lt (i + 1) now k x (omega (arith, s.behind)) ∙ drop_next now old i s.rest;
+      rest = ap (drop (i + 1)) is ∙ drop-set-lt (i + 1) (set now k x) i (get_or now k x) (omega arith) ∙ drop-set-lt (i + 1) now k x (omega (arith, s.behind)) ∙ drop_more_same now old i s.rest;
       behind = omega (arith, s.behind);
       after = omega (arith, s.after);
       long = ap length is ∙ length-set (set now k x) i (get_or now k x) ∙ length-set now k x ∙ s.long;

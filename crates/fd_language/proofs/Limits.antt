@@ -4,6 +4,7 @@ use Rattle.std.specs.List.{All}
 use Rattle.std.proofs.lemmas.List.Elements.{All-append, All-cons, All-map}
 use Rattle.std.proofs.lemmas.Int.{ints}
 use Rattle.std.proofs.lemmas.Bool.{cases_Bool, true≢false, and_parts}
+use Rattle.std.proofs.Math.Nat.{le_trans}
 use Rattle.fd_language.specs.declared.range_node.Need.{Need}
 use Rattle.fd_language.specs.declared.range_node.Need.TheVariants.{Divisor}
 use Rattle.fd_language.specs.Family.{Family, IsFamily, IsRising, count_up, universe}
@@ -41,9 +42,6 @@ sums a b c d e h g i = omega arith
 pub products : (a b c d e : ℕ) → a ≤ b * c → b ≤ d → c ≤ e → a ≤ d * e
 products a b c d e h g i = let k = mul-le-mul g i in omega (arith, k)
 
-through : (a b c : ℕ) → a ≤ b → b ≤ c → a ≤ c
-through a b c h g = omega arith
-
 greater : (a b c m : ℕ) → a ≤ max b m → b ≤ c → a ≤ max c m
 greater a b c m h g = omega arith
 
@@ -63,7 +61,7 @@ abs_div_down M (negsuc a) (pos zero) = omega arith
 abs_div_down M a (negsuc n) = omega arith
 
 abs_div_up : (M : ℕ) (a b : ℤ) → nat_abs (div_up M a b) ≤ max (nat_abs a) M
-abs_div_up M a (pos (suc n)) = left_max _ _ M (through _ _ _ (abs_turned (down_by (neg_ℤ a) n)) (through _ _ _ (abs_down (neg_ℤ a) n) (abs_turned a)))
+abs_div_up M a (pos (suc n)) = left_max _ _ M (le_trans (abs_turned (down_by (neg_ℤ a) n)) (le_trans (abs_down (neg_ℤ a) n) (abs_turned a)))
 abs_div_up M (pos zero) (pos zero) = omega arith
 abs_div_up M (pos (suc a)) (pos zero) = omega arith
 abs_div_up M (negsuc a) (pos zero) = omega arith
@@ -212,7 +210,7 @@ module _ (M : ℕ) (p : ℕ → ℤ) (S : Family) (family : IsFamily M S) where
     none k l = omega arith
 
   node_kept : (e : Expr) → SmallParams p e → not (over_limit (bound M e)) ≡ true → Kept (value M S (fill p e))
-  node_kept e s h = through _ _ _ (value_bound e s) (not_over (bound M e) h)
+  node_kept e s h = le_trans (value_bound e s) (not_over (bound M e) h)
 
   values_kept : (e : Expr) → SmallParams p e → expr_within M e ≡ true → All Kept (expr_values M S (fill p e))
   values_kept (Add a b) s h = All-cons Kept (value M S (fill p (Add a b))) (expr_values M S (fill p a) ++ expr_values M S (fill p b)) (node_kept (Add a b) s (within_here (expr_within M a) (expr_within M b) (not (over_limit (bound M (Add a b)))) h))
@@ -240,19 +238,19 @@ module _ (M : ℕ) (p : ℕ → ℤ) (S : Family) (family : IsFamily M S) where
   ranges_kept (Plus r c) s h =
       let f : ℕ → ℤ = λ e. pos e +ℤ value M S (fill p c) in
       All-append Kept (range_values M S (fill_range p r)) (expr_values M S (fill p c) ++ map f (universe M)) (ranges_kept r s.0 (within_left (range_within M r) (expr_within M c) (not (over_limit (M + bound M c))) h))
-      (All-append Kept (expr_values M S (fill p c)) (map f (universe M)) (values_kept c s.1 (within_right (range_within M r) (expr_within M c) (not (over_limit (M + bound M c))) h)) (each_kept f (λ e l. through _ _ _ (sums _ _ _ _ _ (abs_add (pos e) (value M S (fill p c))) l (value_bound c s.1)) (not_over (M + bound M c) (within_here (range_within M r) (expr_within M c) (not (over_limit (M + bound M c))) h)))))
+      (All-append Kept (expr_values M S (fill p c)) (map f (universe M)) (values_kept c s.1 (within_right (range_within M r) (expr_within M c) (not (over_limit (M + bound M c))) h)) (each_kept f (λ e l. le_trans (sums _ _ _ _ _ (abs_add (pos e) (value M S (fill p c))) l (value_bound c s.1)) (not_over (M + bound M c) (within_here (range_within M r) (expr_within M c) (not (over_limit (M + bound M c))) h)))))
   ranges_kept (Minus r c) s h =
       let f : ℕ → ℤ = λ e. pos e -ℤ value M S (fill p c) in
       All-append Kept (range_values M S (fill_range p r)) (expr_values M S (fill p c) ++ map f (universe M)) (ranges_kept r s.0 (within_left (range_within M r) (expr_within M c) (not (over_limit (M + bound M c))) h))
-      (All-append Kept (expr_values M S (fill p c)) (map f (universe M)) (values_kept c s.1 (within_right (range_within M r) (expr_within M c) (not (over_limit (M + bound M c))) h)) (each_kept f (λ e l. through _ _ _ (sums _ _ _ _ _ (abs_sub (pos e) (value M S (fill p c))) l (value_bound c s.1)) (not_over (M + bound M c) (within_here (range_within M r) (expr_within M c) (not (over_limit (M + bound M c))) h)))))
+      (All-append Kept (expr_values M S (fill p c)) (map f (universe M)) (values_kept c s.1 (within_right (range_within M r) (expr_within M c) (not (over_limit (M + bound M c))) h)) (each_kept f (λ e l. le_trans (sums _ _ _ _ _ (abs_sub (pos e) (value M S (fill p c))) l (value_bound c s.1)) (not_over (M + bound M c) (within_here (range_within M r) (expr_within M c) (not (over_limit (M + bound M c))) h)))))
   ranges_kept (Times r c) s h =
       let f : ℕ → ℤ = λ e. pos e *ℤ value M S (fill p c) in
       All-append Kept (range_values M S (fill_range p r)) (expr_values M S (fill p c) ++ map f (universe M)) (ranges_kept r s.0 (within_left (range_within M r) (expr_within M c) (not (factor_over_limit M (bound M c))) h))
-      (All-append Kept (expr_values M S (fill p c)) (map f (universe M)) (values_kept c s.1 (within_right (range_within M r) (expr_within M c) (not (factor_over_limit M (bound M c))) h)) (each_kept f (λ e l. through _ _ _ (products _ _ _ _ _ (abs_mul (pos e) (value M S (fill p c))) l (value_bound c s.1)) (factor_not_over M (bound M c) (within_here (range_within M r) (expr_within M c) (not (factor_over_limit M (bound M c))) h)))))
+      (All-append Kept (expr_values M S (fill p c)) (map f (universe M)) (values_kept c s.1 (within_right (range_within M r) (expr_within M c) (not (factor_over_limit M (bound M c))) h)) (each_kept f (λ e l. le_trans (products _ _ _ _ _ (abs_mul (pos e) (value M S (fill p c))) l (value_bound c s.1)) (factor_not_over M (bound M c) (within_here (range_within M r) (expr_within M c) (not (factor_over_limit M (bound M c))) h)))))
   ranges_kept (Over r c) s h =
       let f : ℕ → ℤ = λ e. pos e *ℤ value M S (fill p c) in
       All-append Kept (range_values M S (fill_range p r)) (expr_values M S (fill p c) ++ map f (universe M)) (ranges_kept r s.0 (within_left (range_within M r) (expr_within M c) (not (factor_over_limit M (bound M c))) h))
-      (All-append Kept (expr_values M S (fill p c)) (map f (universe M)) (values_kept c s.1 (within_right (range_within M r) (expr_within M c) (not (factor_over_limit M (bound M c))) h)) (each_kept f (λ e l. through _ _ _ (products _ _ _ _ _ (abs_mul (pos e) (value M S (fill p c))) l (value_bound c s.1)) (factor_not_over M (bound M c) (within_here (range_within M r) (expr_within M c) (not (factor_over_limit M (bound M c))) h)))))
+      (All-append Kept (expr_values M S (fill p c)) (map f (universe M)) (values_kept c s.1 (within_right (range_within M r) (expr_within M c) (not (factor_over_limit M (bound M c))) h)) (each_kept f (λ e l. le_trans (products _ _ _ _ _ (abs_mul (pos e) (value M S (fill p c))) l (value_bound c s.1)) (factor_not_over M (bound M c) (within_here (range_within M r) (expr_within M c) (not (factor_over_limit M (bound M c))) h)))))
 
   no_divisor : All NotNegative []
   no_divisor = λ k d l. absurd (none k l) where

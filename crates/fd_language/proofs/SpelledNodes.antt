@@ -142,9 +142,6 @@ ends_none ns i d ranges terms l (rs, ts, h, g, o) f =
     let e : built ns [] [] ≡ None = o ∙ (at_drop_more (λ ms. built ms rs ts) ns i d l ∙ f (drop (i + 1) ns) rs ts h g) in
     ((λ k. absurd (true≢false (sym k))), (λ s. absurd (not_spelled ns e s)))
 
-is_end : (ns : List RangeNode) (i : ℕ) → length ns ≤ i → drop i ns ≡ []
-is_end ns i h = drop_all i ns h
-
 at_end : (ns : List RangeNode) (rs : List Range) (ts : List Expr) (b : Bool) → built ns [] [] ≡ built [] rs ts → (b ≡ true → (length rs ≡ 1) × (length ts ≡ 0)) → (length rs ≡ 1 → length ts ≡ 0 → b ≡ true) → IsTrue b ↔ IsSpelled ns
 at_end ns rs ts true o f g = let k = f refl in let e = ends_even rs ts k.0 k.1 in ((λ h. is_spelled ns e.0 (o ∙ e.1)), (λ s. refl))
 at_end ns rs ts false o f g = ((λ h. absurd (true≢false (sym h))), (λ s. absurd (not_spelled ns (o ∙ ends_odd rs ts (λ h k. true≢false (sym (g h k)))) s)))
@@ -154,7 +151,7 @@ two_tests r t ranges terms b h g f k = (h ∙ (f k).0, g ∙ (f k).1)
 
 pub ends_all : (ns : List RangeNode) (i : ℕ) (ranges terms : ℕ) (b : Bool) → length ns ≤ i → IsReached (built ns [] []) (drop i ns) ranges terms → (b ≡ true → (ranges ≡ 1) × (terms ≡ 0)) → (ranges ≡ 1 → terms ≡ 0 → b ≡ true) → IsTrue b ↔ IsSpelled ns
 ends_all ns i ranges terms b l (rs, ts, h, g, o) f k =
-    at_end ns rs ts b (o ∙ ap (λ ms. built ms rs ts) (is_end ns i l)) (two_tests (length rs) (length ts) ranges terms b h g f) (λ x y. k (sym h ∙ x) (sym g ∙ y))
+    at_end ns rs ts b (o ∙ ap (λ ms. built ms rs ts) (drop_all i ns l)) (two_tests (length rs) (length ts) ranges terms b h g f) (λ x y. k (sym h ∙ x) (sym g ∙ y))
 
 pub spells_back : (ns : List RangeNode) → IsSpelled ns → nodes_of (spelled ns) ≡ ns
 spells_back ns (r, e) = subst (λ m. nodes_of (spelled m) ≡ m) e (ap nodes_of (spelled-nodes r))

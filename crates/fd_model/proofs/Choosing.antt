@@ -4,6 +4,7 @@ use Rattle.std.specs.List.{list_any}
 use Rattle.std.specs.Ordering.{int_eq}
 use Rattle.std.proofs.lemmas.Int.{ints}
 use Rattle.std.proofs.lemmas.Bool.{or_cases, or_left, or_right, true≢false}
+use Rattle.std.specs.Cmp.{both_ways, first_so}
 use Rattle.fd_language.specs.Family.{has, universe}
 use Rattle.fd_language.specs.Term.{Term, no_terms, term}
 use Rattle.fd_language.specs.Variables.{TermBelow}
@@ -17,7 +18,6 @@ use Rattle.fd_model.specs.ListRows.{where_is, where_other, joined, union_of, ele
 use Rattle.fd_model.specs.Constraining.{pair, element}
 use Rattle.fd_model.specs.Satisfies.{Assignment, singles, worth, IsNumber, IsElement}
 use Rattle.fd_model.specs.ConstraintLaws.{IsRewritten}
-use Rattle.fd_model.proofs.Rows.{same_test}
 use Rattle.fd_model.proofs.Collecting.{both_ok}
 use Rattle.fd_model.proofs.Singles.{up_to, set_singles, Inside}
 use Rattle.fd_model.proofs.Placing.{member_read, integers_read, MembersBelow, known_numbers, placed_worths, filled, filled_below, filled_small, filled_equated}
@@ -36,16 +36,14 @@ product_zero e = ap pos (omega arith)
 module _ (M : ℕ) (b : Assignment) (small : (v : ℕ) → b v ≤ M) where
   -- a pointwise product by 0 is 0 alone, where the range has the number of y and no other
   times_zero : (r : Range) (y v : ℕ) → ((e : ℕ) → in_range M (singles b) r e ≡ true → e ≡ b y) → in_range M (singles b) (Times r (Number (pos 0))) v ≡ (in_range M (singles b) r (b y) && int_eq (pos 0) (pos v))
-  times_zero r y v only = same_test (in_range M (singles b) (Times r (Number (pos 0))) v) (in_range M (singles b) r (b y) && int_eq (pos 0) (pos v))
+  times_zero r y v only = both_ways (in_range M (singles b) (Times r (Number (pos 0))) v) (in_range M (singles b) r (b y) && int_eq (pos 0) (pos v))
       (λ h. let k = some_from M (λ e. in_range M (singles b) r e && int_eq (pos e *ℤ pos 0) (pos v)) h in
       there k.0 k.2)
       (λ h. some_to M (λ e. in_range M (singles b) r e && int_eq (pos e *ℤ pos 0) (pos v)) (b y) (small y) (subst (λ z. (in_range M (singles b) r (b y) && int_eq z (pos v)) ≡ true) (sym (product_zero (b y))) h)) where
-        left : (p q : Bool) → (p && q) ≡ true → p ≡ true
-        left p q h = grind arith
 
         there : (e : ℕ) → (in_range M (singles b) r e && int_eq (pos e *ℤ pos 0) (pos v)) ≡ true → (in_range M (singles b) r (b y) && int_eq (pos 0) (pos v)) ≡ true
         there e h =
-            let o : e ≡ b y = only e (left (in_range M (singles b) r e) _ h) in
+            let o : e ≡ b y = only e (first_so (in_range M (singles b) r e) _ h) in
             subst (λ z. (in_range M (singles b) r (b y) && int_eq z (pos v)) ≡ true) (product_zero e) (subst (λ u. (in_range M (singles b) r u && int_eq (pos e *ℤ pos 0) (pos v)) ≡ true) o h)
 
   in_one : (y : ℕ) → has (b y ∷ []) (b y) ≡ true
@@ -72,7 +70,7 @@ module _ (M : ℕ) (b : Assignment) (small : (v : ℕ) → b v ≤ M) where
   pub where_is_test : (a : ℤ) (y : ℕ) (c : ℤ) (v : ℕ) → in_range M (singles b) (where_is a y c) v ≡ (int_eq a (pos (b y)) && int_eq c (pos v))
   where_is_test a y c v =
       let f : ℕ → Bool = λ e. in_range M (singles b) (Times (Inter (One (Number a)) (Dom y)) (Number (pos 0))) e && int_eq (pos e +ℤ c) (pos v) in
-      same_test (some_number M f) (int_eq a (pos (b y)) && int_eq c (pos v))
+      both_ways (some_number M f) (int_eq a (pos (b y)) && int_eq c (pos v))
       (λ h. let k = some_from M f h in forth (int_eq a (pos (b y))) k.0 (subst (λ p. (p && int_eq (pos k.0 +ℤ c) (pos v)) ≡ true) (zero_where a y k.0) k.2))
       (λ h. some_to M f 0 (omega arith) (subst (λ p. (p && int_eq (pos 0 +ℤ c) (pos v)) ≡ true) (sym (zero_where a y 0)) (back (int_eq a (pos (b y))) h))) where
         forth : (p : Bool) (e : ℕ) → ((p && int_eq (pos 0) (pos e)) && int_eq (pos e +ℤ c) (pos v)) ≡ true → (p && int_eq c (pos v)) ≡ true

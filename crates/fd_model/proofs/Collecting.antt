@@ -5,6 +5,7 @@ use Rattle.std.specs.Ordering.{int_eq}
 use Rattle.std.specs.Str.{bytes_eq}
 use Rattle.std.proofs.lemmas.Int.{ints}
 use Rattle.std.proofs.Math.IntN.{*ℤ_comm}
+use Rattle.std.specs.Cmp.{second_so}
 use Rattle.fd_model.specs.declared.kinds.QueryFault.{QueryFault}
 use Rattle.fd_model.specs.declared.kinds.QueryFault.TheVariants.{BadType}
 use Rattle.fd_language.specs.Term.{Term, Var, Int, Comp, no_terms, term}
@@ -55,12 +56,9 @@ module _ (b : Assignment) where
 
   none_total : (ts : List (ℕ × ℤ)) → list_all (λ t. int_eq t.1 (pos 0)) ts ≡ true → total b ts ≡ pos 0
   none_total [] h = refl
-  none_total (t ∷ ts) h = let e : t.1 ≡ pos 0 = first t.1 (list_all (λ t. int_eq t.1 (pos 0)) ts) h in let f : t.1 *ℤ pos (b t.0) ≡ pos 0 *ℤ pos (b t.0) = ap (λ z. z *ℤ pos (b t.0)) e in let g = none_total ts (second (int_eq t.1 (pos 0)) (list_all (λ t. int_eq t.1 (pos 0)) ts) h) in omega (arith, ints) where
+  none_total (t ∷ ts) h = let e : t.1 ≡ pos 0 = first t.1 (list_all (λ t. int_eq t.1 (pos 0)) ts) h in let f : t.1 *ℤ pos (b t.0) ≡ pos 0 *ℤ pos (b t.0) = ap (λ z. z *ℤ pos (b t.0)) e in let g = none_total ts (second_so (int_eq t.1 (pos 0)) (list_all (λ t. int_eq t.1 (pos 0)) ts) h) in omega (arith, ints) where
     first : (z : ℤ) (c : Bool) → (int_eq z (pos 0) && c) ≡ true → z ≡ pos 0
     first z c h = grind (arith, ints)
-
-    second : (a c : Bool) → (a && c) ≡ true → c ≡ true
-    second a c h = grind arith
 
   constant_is : (s : Sum) (x : ℤ) → Is s x → is_constant s ≡ true → x ≡ s.constant
   constant_is s x h e = let f = none_total s.products e in omega (arith, ints)

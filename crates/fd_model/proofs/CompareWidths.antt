@@ -2,6 +2,7 @@
 use Rattle.std.proofs.Common.{◌≡◌, ℕ, suc, ◌+◌, ◌*◌, ◌^◌, ◌≤◌, ◌<◌, Bool, true, false, cond, not, ◌&&◌, ℤ, pos, negsuc, neg_ℤ, nat_abs, nat_lt, List, [], ◌∷◌, length, refl, ap, sym, subst, arith, Ok, mul-le-mul, mul-le-mul_left}
 use Rattle.std.specs.List.{list_all}
 use Rattle.std.specs.Ordering.{int_eq}
+use Rattle.std.specs.Cmp.{second_so, first_so}
 use Rattle.fd_model.specs.declared.kinds.Relation.{Relation}
 use Rattle.fd_model.specs.declared.kinds.Relation.TheVariants.{Greater, AtLeast}
 use Rattle.fd_language.specs.Term.{Term}
@@ -27,12 +28,7 @@ integer_size z h = grind arith
 
 nonzero_integers : (ts : List (ℕ × ℤ)) → list_all (λ t. in_integers t.1) ts ≡ true → AreIntegers (nonzero ts)
 nonzero_integers [] h = tt
-nonzero_integers (t ∷ ts) h = by_test (int_eq t.1 (pos 0)) t (nonzero ts) (integer_size t.1 (left (in_integers t.1) _ h)) (nonzero_integers ts (right (in_integers t.1) _ h)) where
-  left : (a c : Bool) → (a && c) ≡ true → a ≡ true
-  left a c h = grind arith
-
-  right : (a c : Bool) → (a && c) ≡ true → c ≡ true
-  right a c h = grind arith
+nonzero_integers (t ∷ ts) h = by_test (int_eq t.1 (pos 0)) t (nonzero ts) (integer_size t.1 (first_so (in_integers t.1) _ h)) (nonzero_integers ts (second_so (in_integers t.1) _ h)) where
 
   by_test : (c : Bool) (t : ℕ × ℤ) (us : List (ℕ × ℤ)) → nat_abs t.1 < 2 ^ 63 → AreIntegers us → AreIntegers (cond c us (t ∷ us))
   by_test true t us s h = h

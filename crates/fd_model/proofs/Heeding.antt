@@ -1,6 +1,7 @@
 -- Solutions, seen terms, and substitutions that heed what the models of a branch leave no choice in.
 use Rattle.std.proofs.Common.{◌≡◌, ℕ, ◌≤◌, Bool, true, false, ◌==◌, ℤ, pos, IsTrue, List, [], ◌∷◌, Option, Some, ◌⊎◌, refl, ap, sym, ◌∙◌, subst, inl, inr, arith, eqb-true, eq-eqb}
 use Rattle.std.proofs.lemmas.Bool.{or_cases, or_right, true≢false}
+use Rattle.std.proofs.Math.Nat.{le_trans}
 use Rattle.fd_language.specs.Term.{Term, Var, Int, Atom, Comp, Substitution, apply}
 use Rattle.fd_language.specs.Unifier.{Equation, IsMostGeneral, Unifies}
 use Rattle.fd_language.specs.Family.{Family, has, IsSubset}

@@ -3,6 +3,7 @@ use Rattle.std.proofs.Common.{◌≡◌, ℕ, zero, suc, ◌*◌, ◌/◌, ◌�
 use Rattle.std.proofs.Math.Nat.{le-div_iff_mul-le, div-lt_iff_lt-mul, mul_comm}
 use Rattle.std.specs.Ordering.{int_eq}
 use Rattle.std.proofs.lemmas.Int.{ints}
+use Rattle.std.specs.Cmp.{both_ways}
 use Rattle.fd_language.specs.Range.{Expr, Number, Min, Max, Val, Sub, Mul, value, in_range, down_by}
 use Rattle.fd_model.specs.Linear.{scaled, Comparison, IsEqual, IsOther, IsAtMost}
 use Rattle.fd_model.specs.LinearRows.{by_sign, minus_products, low, high, exact, row, row_by_sign, compares}
@@ -36,12 +37,6 @@ module _ (M : ℕ) (b : Assignment) where
   pub exact_value : (c : ℤ) (ts : List (ℕ × ℤ)) → value M (singles b) (exact c ts) ≡ c -ℤ total b ts
   exact_value c ts = less_value Val Val (λ x. refl) (λ x. refl) (Number c) ts
 
-pub same_test : (p q : Bool) → (p ≡ true → q ≡ true) → (q ≡ true → p ≡ true) → p ≡ q
-same_test true true f g = refl
-same_test true false f g = sym (f refl)
-same_test false true f g = g refl
-same_test false false f g = refl
-
 to_le : (a b : ℤ) → int_le a b ≡ true → a ≤ℤ b
 to_le a b h = grind (arith, ints)
 
@@ -55,10 +50,10 @@ from_eq : (a b : ℤ) → a ≡ b → int_eq a b ≡ true
 from_eq a b h = grind (arith, ints)
 
 same_le : (a b c d : ℤ) → (a ≤ℤ b → c ≤ℤ d) → (c ≤ℤ d → a ≤ℤ b) → int_le a b ≡ int_le c d
-same_le a b c d f g = same_test (int_le a b) (int_le c d) (λ h. from_le c d (f (to_le a b h))) (λ h. from_le a b (g (to_le c d h)))
+same_le a b c d f g = both_ways (int_le a b) (int_le c d) (λ h. from_le c d (f (to_le a b h))) (λ h. from_le a b (g (to_le c d h)))
 
 pub same_eq : (a b c d : ℤ) → (a ≡ b → c ≡ d) → (c ≡ d → a ≡ b) → int_eq a b ≡ int_eq c d
-same_eq a b c d f g = same_test (int_eq a b) (int_eq c d) (λ h. from_eq c d (f (to_eq a b h))) (λ h. from_eq a b (g (to_eq c d h)))
+same_eq a b c d f g = both_ways (int_eq a b) (int_eq c d) (λ h. from_eq c d (f (to_eq a b h))) (λ h. from_eq a b (g (to_eq c d h)))
 
 -- quotients against a number
 nat_down : (n m k : ℕ) → n ≤ m / suc k → suc k * n ≤ m

@@ -1,12 +1,12 @@
 -- Ranges where each variable has its one value.
 use Rattle.std.proofs.Common.{◌≡◌, ℕ, ◌≤◌, Bool, true, false, List, [], ◌∷◌, ◌++◌, refl, sym, ◌∙◌, arith}
 use Rattle.std.specs.List.{list_any}
+use Rattle.std.specs.Cmp.{both_ways}
 use Rattle.fd_language.specs.Family.{has, universe}
 use Rattle.fd_language.specs.Range.{Range, Indexical, in_range, in_set, set_of, reads, vals, is_none_left, is_several}
 use Rattle.fd_model.specs.Closed.{AllPosted}
 use Rattle.fd_language.proofs.Lemmas.{has-filter, has-filter_back, in_universe}
 use Rattle.fd_model.specs.Satisfies.{Assignment, singles}
-use Rattle.fd_model.proofs.Rows.{same_test}
 
 -- numbers up to N are in the universe
 pub up_to : (M N : ℕ) → N ≤ M → (b : Assignment) → ((v : ℕ) → b v ≤ N) → (v : ℕ) → b v ≤ M
@@ -22,7 +22,7 @@ module _ (M : ℕ) (b : Assignment) where
 
   -- where nothing else than the range itself decides
   pub set_singles : (r : Range) (n : ℕ) → n ≤ M → has (set_of M (singles b) r) n ≡ in_range M (singles b) r n
-  set_singles r n h = same_test (has (set_of M (singles b) r) n) (in_range M (singles b) r n)
+  set_singles r n h = both_ways (has (set_of M (singles b) r) n) (in_range M (singles b) r n)
       (λ e. sym (in_singles r n) ∙ (has-filter_back (in_set M (singles b) r) (universe M) n e).1)
       (λ e. has-filter (in_set M (singles b) r) (universe M) n (in_universe M n h) (in_singles r n ∙ e))
 

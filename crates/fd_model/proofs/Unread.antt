@@ -1,6 +1,6 @@
 -- A change of a set that a range doesn't read leaves the range's set.
 use Rattle.std.proofs.Common.{◌≡◌, ℕ, ◌≤◌, Bool, true, false, cond, ◌||◌, ◌&&◌, not, ◌==◌, List, [], ◌∷◌, ◌++◌, filter, length, refl, ap, sym, ◌∙◌, subst, inl, inr, arith, eqb-true, eq-eqb, pos, ℤ, ◌+ℤ◌, ◌-ℤ◌, ◌*ℤ◌}
-use Rattle.std.proofs.lemmas.Bool.{or_cases, or_left, or_right, cases_Bool, eqb-false, true≢false}
+use Rattle.std.proofs.lemmas.Bool.{or_cases, or_left, or_right, cases_Bool, eqb-false, true≢false, or_parts, not-false}
 use mathlib.Core.Path.{fun_ext}
 use Rattle.std.specs.List.{list_any}
 use Rattle.std.specs.Ordering.{int_eq}
@@ -138,19 +138,15 @@ open_set M S T r x empty v s t =
 
 -- what doesn't change is read alike
 alike_at : (f : Feature) (old new : List ℕ) → is_changed old new f ≡ false → (f ≡ feature.Val → ⊥) → Same f old new
-alike_at feature.Min old new h n = eqb-true (least old) (least new) (unsaid (least old == least new) h) where
-  unsaid : (b : Bool) → not b ≡ false → b ≡ true
-  unsaid b h = grind arith
-alike_at feature.Max old new h n = eqb-true (greatest old) (greatest new) (unsaid (greatest old == greatest new) h) where
-  unsaid : (b : Bool) → not b ≡ false → b ≡ true
-  unsaid b h = grind arith
+alike_at feature.Min old new h n = eqb-true (least old) (least new) (not-false (least old == least new) h)
+alike_at feature.Max old new h n = eqb-true (greatest old) (greatest new) (not-false (greatest old == greatest new) h)
 alike_at feature.Val old new h n = absurd (n refl)
 alike_at feature.Dom old new h n = absurd (true≢false h)
 
 alike : (S T : Family) (x : ℕ) (ds : List (ℕ × Feature)) → ((y : ℕ) → (y ≡ x → ⊥) → S y ≡ T y) → sees_change (S x) (T x) x ds ≡ false → has (vals_of ds) x ≡ false → AllSame S T ds
 alike S T x [] others h v = tt
 alike S T x ((y, f) ∷ ds) others h v =
-    let tests = neither _ _ h in (
+    let tests = or_parts _ _ h in (
       elim (cases_Bool (y == x)) [
         | inl e ↦ let here : y ≡ x = eqb-true y x e in
             subst (λ z. Same f (S z) (T z)) (sym here) (alike_at f (S x) (T x) (second _ _ e tests.0) (λ q. no_val f y ds v q e))
@@ -159,8 +155,6 @@ alike S T x ((y, f) ∷ ds) others h v =
       alike S T x ds others tests.1 (rest f y ds v),
     )
   where
-    neither : (a b : Bool) → (a || b) ≡ false → (a ≡ false) × (b ≡ false)
-    neither a b h = grind arith
 
     second : (a b : Bool) → a ≡ true → (a && b) ≡ false → b ≡ false
     second a b h k = grind arith
@@ -172,13 +166,13 @@ alike S T x ((y, f) ∷ ds) others h v =
     same_all feature.Dom e = e
 
     no_val : (f : Feature) (y : ℕ) (ds : List (ℕ × Feature)) → has (vals_of ((y, f) ∷ ds)) x ≡ false → f ≡ feature.Val → (y == x) ≡ true → ⊥
-    no_val feature.Val y ds v q e = true≢false (sym e ∙ (neither (y == x) (has (vals_of ds) x) v).0)
+    no_val feature.Val y ds v q e = true≢false (sym e ∙ (or_parts (y == x) (has (vals_of ds) x) v).0)
     no_val feature.Min y ds v q e = cc
     no_val feature.Max y ds v q e = cc
     no_val feature.Dom y ds v q e = cc
 
     rest : (f : Feature) (y : ℕ) (ds : List (ℕ × Feature)) → has (vals_of ((y, f) ∷ ds)) x ≡ false → has (vals_of ds) x ≡ false
-    rest feature.Val y ds v = (neither (y == x) (has (vals_of ds) x) v).1
+    rest feature.Val y ds v = (or_parts (y == x) (has (vals_of ds) x) v).1
     rest feature.Min y ds v = v
     rest feature.Max y ds v = v
     rest feature.Dom y ds v = v

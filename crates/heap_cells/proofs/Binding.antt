@@ -1,7 +1,7 @@
 -- A variable bound to a cell that it doesn't occur in.
 use Rattle.std.proofs.Common.{◌≡◌, ◌≢◌, ℕ, zero, suc, ◌+◌, ◌^◌, ◌<◌, ◌≤◌, Bool, true, false, cond, ◌||◌, refl, ap, sym, ◌∙◌, subst, arith, inl, inr, List, [], ◌∷◌, length, get_or, set, eq-eqb, ne_eqb, get_or-set_other, get_or-set_same}
 use Rattle.std.specs.Prelude.{All}
-use Rattle.std.proofs.lemmas.Bool.{cases_eq}
+use Rattle.std.proofs.lemmas.Bool.{cases_eq, or_parts}
 use Rattle.std.proofs.lemmas.List.Sums.{sum_by-set}
 use Rattle.std.proofs.Math.ListN.{length-set}
 use Rattle.std.proofs.Math.Nat.{pow-suc}
@@ -29,14 +29,10 @@ bound_more xs i s l u b =
     let is : one_of s ≡ 1 = ap (λ (c : Bool). cond c 1 0) b in
     omega arith
 
-none_of : (a b : Bool) → (a || b) ≡ false → (a ≡ false) × (b ≡ false)
-none_of true b h = cc
-none_of false b h = (refl, h)
-
 -- a variable that isn't in a compound term is in none of its parts
 pub occurs_parts : (x : ℕ) (by : Cell → Term) (cs : List Cell) → occurs_any x (terms_by by cs) ≡ false → All (λ c. occurs x (by c) ≡ false) cs
 occurs_parts x by [] h = λ k d l. absurd (omega arith)
-occurs_parts x by (c ∷ cs) h = let two = none_of (occurs x (by c)) (occurs_any x (terms_by by cs)) h in both_of (λ e. occurs x (by e) ≡ false) c cs two.0 (occurs_parts x by cs two.1)
+occurs_parts x by (c ∷ cs) h = let two = or_parts (occurs x (by c)) (occurs_any x (terms_by by cs)) h in both_of (λ e. occurs x (by e) ≡ false) c cs two.0 (occurs_parts x by cs two.1)
 
 pub apply-terms_by : (s : Substitution) (by : Cell → Term) (cs : List Cell) → apply_all s (terms_by by cs) ≡ terms_by (λ c. apply s (by c)) cs
 apply-terms_by s by [] = refl

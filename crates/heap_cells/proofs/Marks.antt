@@ -2,7 +2,7 @@
 use Rattle.std.proofs.Common.{◌≡◌, ℕ, zero, suc, ◌≤◌, Bool, true, false, cond, refl, ap, sym, ◌∙◌, subst, arith, List, [], ◌∷◌, ◌++◌, length, map, get_or, set, take, drop, reverse, length-append, length-set}
 use Rattle.std.specs.Prelude.{All, nat_lt}
 use Rattle.std.proofs.lemmas.Bool.Decides.{nat_tests}
-use Rattle.std.proofs.lemmas.List.{map-set, set-get_or, drop-append-le, take-set-le}
+use Rattle.std.proofs.lemmas.List.{map-set, set-get_or, drop-append-le, take-set-le, set-set}
 use Rattle.heap_cells.specs.declared.Cell.{Cell}
 use Rattle.heap_cells.specs.declared.Variable.{Variable}
 use Rattle.heap_cells.specs.declared.Variable.TheVariants as variable
@@ -37,12 +37,6 @@ pub below_newest : (n : Mark) (ms : List Mark) → Fall n ms → All (λ m. m.va
 below_newest n [] f = λ k d l. absurd (omega arith)
 below_newest n (m ∷ ms) f = both_of (λ (k : Mark). k.variables ≤ m.variables) m ms (omega arith) (λ k d l. (each_up_to m ms f.1 k d l).variables)
 
--- the trail
-pub set_twice : {X : Type 0} (xs : List X) (i : ℕ) (x y : X) → set (set xs i x) i y ≡ set xs i y
-set_twice [] i x y = refl
-set_twice (z ∷ zs) zero x y = refl
-set_twice (z ∷ zs) (suc i) x y = ap (λ l. z ∷ l) (set_twice zs i x y)
-
 pub take_set : {X : Type 0} (n : ℕ) (xs : List X) (i : ℕ) (x : X) → take n (set xs i x) ≡ set (take n xs) i x
 take_set zero xs i x = refl
 take_set (suc n) [] i x = refl
@@ -64,7 +58,7 @@ length-restored (e ∷ es) vs = length-set (restored es vs) e.at e.was ∙ lengt
 -- a change that is saved where it is older than the newest mark
 module _ (vs : List Variable) (args : List Cell) (ss : List Structure) (trail : List Saved) (ms : List Mark) (i : ℕ) (to : Variable) (falls : Fall (lengths vs args ss trail) ms) where
   undone : set (set vs i to) i (get_or vs i variable.Open) ≡ vs
-  undone = set_twice vs i to (get_or vs i variable.Open) ∙ set-get_or vs i variable.Open
+  undone = set-set vs i to (get_or vs i variable.Open) ∙ set-get_or vs i variable.Open
 
   marked_saved : (m : Mark) → m.trail ≤ length trail → take m.variables (restored (drop m.trail (trail ++ saved_at vs i ∷ [])) (set vs i to)) ≡ take m.variables (restored (drop m.trail trail) vs)
   marked_saved m l =

@@ -1,7 +1,7 @@
 -- The heap at the newest mark given back, and marks dropped.
 use Rattle.std.proofs.Common.{◌≡◌, ℕ, zero, suc, ◌+◌, ◌-◌, ◌<◌, ◌≤◌, refl, ap, sym, ◌∙◌, subst, arith, List, [], ◌∷◌, ◌++◌, length, map, get_or, set, take, drop, reverse, length-append}
 use Rattle.std.specs.Prelude.{All}
-use Rattle.std.proofs.lemmas.List.{reverse-append, drop-map, drop-append-le, take-append-le, length-take-le, take-append-drop, length-drop, length-reverse}
+use Rattle.std.proofs.lemmas.List.{reverse-append, drop-map, drop-append-le, take-append-le, length-take-le, take-append-drop, length-drop, length-reverse, take-take, set_past}
 use Rattle.std.proofs.Math.Seq.{drop-append_seam}
 use Rattle.heap_cells.specs.declared.Cell.{Cell}
 use Rattle.heap_cells.specs.declared.Variable.{Variable}
@@ -14,12 +14,6 @@ use Rattle.heap_cells.specs.Stored.{slot_of, compound_of, cells_of, heaps_of, Ar
 use Rattle.heap_cells.proofs.Marks.{map_same, fall_more, each_up_to, restored-take, restored-append, length-restored}
 use Rattle.heap_cells.proofs.Levels.{compounds_kept, some_args}
 use Rattle.heap_cells.proofs.Elements.{head_of, tail_of}
-
-pub take_take : {X : Type 0} (a b : ℕ) (xs : List X) → a ≤ b → take a (take b xs) ≡ take a xs
-take_take zero b xs l = refl
-take_take (suc a) zero xs l = absurd (omega arith)
-take_take (suc a) (suc b) [] l = refl
-take_take (suc a) (suc b) (x ∷ xs) l = ap (λ ys. x ∷ ys) (take_take a b xs (omega arith))
 
 pub drop_rest : {X : Type 0} (a b : ℕ) (xs : List X) → a ≤ b → drop a (take b xs) ++ drop b xs ≡ drop a xs
 drop_rest zero b xs l = take-append-drop b xs
@@ -91,14 +85,14 @@ module _ (vs : List Variable) (args : List Cell) (ss : List Structure) (trail : 
       let a = drop k.trail trail' in
       let b = drop m.trail trail in
       restored-take k.variables a vs'
-      ∙ ap (restored a) (take_take k.variables m.variables (restored b vs) u.variables)
+      ∙ ap (restored a) (take-take k.variables m.variables (restored b vs) u.variables)
       ∙ sym (restored-take k.variables a (restored b vs))
       ∙ ap (take k.variables) (sym (restored-append a b vs) ∙ ap (λ es. restored es vs) (drop_rest k.trail m.trail trail u.trail))
 
   mark_undone : (k : Mark) → IsUpTo m k → All (HasArgs k.args) (take k.structures ss) → marked vs' args' ss' trail' k ≡ marked vs args ss trail k
   mark_undone k u h =
       ap (λ (l : List Variable). cells_of l args' (take k.structures ss')) (vars_undone k u)
-      ∙ ap (cells_of (take k.variables (restored (drop k.trail trail) vs)) args') (take_take k.structures m.structures ss u.structures)
+      ∙ ap (cells_of (take k.variables (restored (drop k.trail trail) vs)) args') (take-take k.structures m.structures ss u.structures)
       ∙ ap (λ (l : List Compound). let g : Cells = record { slots = map slot_of (take k.variables (restored (drop k.trail trail) vs)); compounds = l } in g) (fewer_args (take k.structures ss) (some_args k.args m.args u.args (take k.structures ss) h))
 
   each_undone : All (λ k. marked vs' args' ss' trail' k ≡ marked vs args ss trail k) ms
@@ -121,7 +115,7 @@ module _ (vs : List Variable) (args : List Cell) (ss : List Structure) (trail : 
     below = subst (All (λ k. IsHeap (marked vs' args' ss' trail' k))) (sym e) (λ n d l. subst IsHeap (sym (each_undone n d l)) (below n d l));
     held = subst (λ n. All (HasArgs n) ss') (sym args_length) held;
     held_below = subst (All (λ (k : Mark). All (HasArgs k.args) (take k.structures ss'))) (sym e)
-        (λ n d l. subst (All (HasArgs (get_or ms n d).args)) (sym (take_take (get_or ms n d).structures m.structures ss (each_up_to m ms falls n d l).structures)) (held_below n d l));
+        (λ n d l. subst (All (HasArgs (get_or ms n d).args)) (sym (take-take (get_or ms n d).structures m.structures ss (each_up_to m ms falls n d l).structures)) (held_below n d l));
     falls = subst (Fall (lengths vs' args' ss' trail')) (sym e) (fall_more (lengths vs' args' ss' trail') m ms lengths_undone falls);
   }
 
@@ -156,11 +150,6 @@ module _ (vs : List Variable) (args : List Cell) (ss : List Structure) (trail : 
       ap (map (marked vs args ss trail)) order
       ∙ ap (λ (c : Cells). c ∷ map (marked vs args ss trail) (reverse front)) (sym (now_undone vs args ss trail m (reverse front) all_falls.0 all_falls.1 h t))
       ∙ ap (λ (l : List Cells). undone.now ∷ l) (sym (below_undone vs args ss trail m (reverse front) all_falls.0 all_falls.1 h t))
-
-set_past : {X : Type 0} (xs : List X) (i : ℕ) (x : X) → length xs ≤ i → set xs i x ≡ xs
-set_past [] i x l = refl
-set_past (y ∷ ys) zero x l = absurd (omega arith)
-set_past (y ∷ ys) (suc i) x l = ap (λ zs. y ∷ zs) (set_past ys i x (omega arith))
 
 -- one entry of the trail given back
 pub one_restored : (n : ℕ) (trail rest whole : List Saved) (s : Saved) (vs first : List Variable) → trail ≡ rest ++ s ∷ [] → n < length trail

@@ -3,6 +3,7 @@ use Rattle.std.proofs.Common.{◌≡◌, ℕ, ◌-◌, ◌<◌, ◌≤◌, refl,
 use Rattle.std.specs.Prelude.{map, reverse, All}
 use Rattle.std.proofs.lemmas.List.{length-map}
 use Rattle.std.proofs.lemmas.List.Elements.{All-append}
+use Rattle.std.proofs.lemmas.Simd.{map-map}
 use Rattle.fd_language.specs.Term.{Name, Term, Comp, term}
 use Rattle.term_pool.specs.declared.AtomId.{AtomId}
 use Rattle.term_pool.specs.declared.TermId.{TermId}
@@ -20,7 +21,7 @@ use Rattle.heap_terms.specs.declared.ReadTask.TheVariants.{Visit, Make}
 use Rattle.heap_terms.specs.Values.{shown_term}
 use Rattle.heap_terms.specs.Tasks.{visit, make, to_terms, Leaves}
 use Rattle.heap_terms.specs.ReadBack.{PlacesAtZero, CanRead, VisitsCell, MakesTerm, task_of}
-use Rattle.heap_terms.proofs.Stacks.{map_agrees, map_map, Walks, effort, walks_result, result_smaller, walks_parts, parts_smaller, walks_made}
+use Rattle.heap_terms.proofs.Stacks.{map_agrees, Walks, effort, walks_result, result_smaller, walks_parts, parts_smaller, walks_made}
 use Rattle.heap_terms.proofs.Pools.{places_both, all_take, all_drop}
 
 -- the terms of cells, and of ids, as lists
@@ -100,7 +101,7 @@ module _ (names : List Name) (h : Cells) (sets : List (List ℕ)) (c : Cell) (be
         let ts = map T args in
         let top : task_of names h sets (Visit d) ≡ visit (Comp (name f) (to_terms ts)) = ap visit (is ∙ ap (Comp (name f)) (sym (to_terms-cells T args))) in
         let long : task_of names h sets (Make f (length args)) ≡ make (name f) (length ts) = ap (make (name f)) (sym (length-map args T)) in
-        let all : map (task_of names h sets) (map Visit args) ≡ map visit ts = map_map (task_of names h sets) Visit args ∙ sym (map_map visit T args) in (
+        let all : map (task_of names h sets) (map Visit args) ≡ map visit ts = map-map (task_of names h sets) Visit args ∙ sym (map-map visit T args) in (
           record {
             tasks = subst (All (CanRead names h)) (sym more)
                 (All-append (CanRead names h) (rest ++ Make f (length args) ∷ []) (reverse (map Visit args)) (all_push (CanRead names h) rest (Make f (length args)) before_it below)

@@ -2,6 +2,7 @@
 use Rattle.std.proofs.Common.{◌≡◌, ℕ, ◌-◌, ◌<◌, ◌≤◌, refl, ap, sym, ◌∙◌, subst, arith, List, [], ◌∷◌, ◌++◌, length, take, drop}
 use Rattle.std.specs.Prelude.{map, reverse, All}
 use Rattle.std.proofs.lemmas.List.{map-append, take-map, drop-map, length-map}
+use Rattle.std.proofs.lemmas.Simd.{map-map}
 use Rattle.fd_language.specs.Term.{Name, Term, Comp}
 use Rattle.heap_cells.proofs.Lemmas.{head_of, tail_of, size_positive}
 use Rattle.heap_terms.specs.Tasks.{Task, visit, make, to_terms, ahead, Leaves}
@@ -10,10 +11,6 @@ use Rattle.heap_terms.proofs.Tasks.{stack, stack_top, stack_parts, leaves_result
 pub map_agrees : {X Y : Type 0} (P : X → Type 0) (f g : X → Y) → ((x : X) → P x → f x ≡ g x) → (xs : List X) → All P xs → map f xs ≡ map g xs
 map_agrees P f g e [] a = refl
 map_agrees P f g e (x ∷ xs) a = let first = e x (head_of P x xs a) in let rest = map_agrees P f g e xs (tail_of P x xs a) in cc
-
-pub map_map : {X Y Z : Type 0} (f : Y → Z) (g : X → Y) (xs : List X) → map f (map g xs) ≡ map (λ x. f (g x)) xs
-map_map f g [] = refl
-map_map f g (x ∷ xs) = ap (λ ys. f (g x) ∷ ys) (map_map f g xs)
 
 module _ (A R : Type 0) (task : A → Task) (term : R → Term) (g : Term) where
   -- the tasks leave the term g

@@ -2,6 +2,7 @@
 use Rattle.std.proofs.Common.{◌≡◌, ℕ, zero, suc, ◌<◌, ◌≤◌, Bool, true, false, cond, ltb, pos, List, [], ◌∷◌, length, get_or, drop, refl, ap, sym, ◌∙◌, subst, arith, inl, inr, ◌⊎◌}
 use Rattle.std.proofs.lemmas.Bool.{ltb-true, ltb-false, lt-ltb, le-ltb}
 use Rattle.std.specs.Prelude.{Option, Some, None, slice_get}
+use Rattle.std.proofs.lemmas.List.{get_or_default}
 use Rattle.fd_language.specs.Family.{universe, count_up}
 use Rattle.fd_model.specs.declared.kinds.Order.TheVariants.{Leftmost, FirstFail}
 use Rattle.fd_model.specs.Members as seen
@@ -46,11 +47,6 @@ module _ (sets : List (List ℕ)) (values : ℕ → List ℕ) where
   none_first (m ∷ ms) (seen.Known z ∷ ss) a p = none_first ms ss a.1 (passed_further sets m ms (length ms) p)
   none_first (m ∷ ms) (seen.Open x ∷ ss) a p = absurd (let q = p 0 (omega arith) in let r = a.0.0 in omega arith)
 
-same_in : (list : List Member) (k : ℕ) (d e : Member) → k < length list → get_or list k d ≡ get_or list k e
-same_in [] k d e l = absurd (omega arith)
-same_in (m ∷ ms) zero d e l = refl
-same_in (m ∷ ms) (suc k) d e l = same_in ms k d e (omega arith)
-
 from_cases : (i k : ℕ) → i ≤ k → (i ≡ k) ⊎ (suc i ≤ k)
 from_cases i k l = go (ltb i k) refl
   where
@@ -60,7 +56,7 @@ from_cases i k l = go (ltb i k) refl
 
 -- where all members are passed, none has more than one value
 pub several_none : (sets : List (List ℕ)) (list : List Member) → ArePassed sets list (length list) → HasSeveral sets list None
-several_none sets list p k d l = subst (λ m. value_count sets m ≤ 1) (same_in list k (Fixed (pos 0)) d l) (p k l)
+several_none sets list p k d l = subst (λ m. value_count sets m ≤ 1) (get_or_default list k (Fixed (pos 0)) d l) (p k l)
 
 -- the first member with more than one value is picked
 pub picked_first : (sets : List (List ℕ)) (list : List Member) (i : ℕ) → i < length list → 1 < value_count sets (member_at list i) → ArePassed sets list i → IsPicked Leftmost sets list (Some i)
@@ -182,5 +178,5 @@ module _ (most : ℕ) (sets : List (List ℕ)) (list : List Member) where
 
   -- the best of all members has more than one value, and none has where there is no best one
   pub several_best : (count : ℕ) (best : Option ℕ) → IsBest most sets list 0 count best → HasSeveral sets list best
-  several_best count None b = λ k d l. subst (λ m. value_count sets m ≤ 1) (same_in list k (Fixed (pos 0)) d l) (b.taken k (omega arith) l)
+  several_best count None b = λ k d l. subst (λ m. value_count sets m ≤ 1) (get_or_default list k (Fixed (pos 0)) d l) (b.taken k (omega arith) l)
   several_best count (Some i) b = (b.taken.0, subst (λ n. 1 < n) b.taken.1 b.taken.2)

@@ -5,6 +5,7 @@ use Rattle.std.specs.Prelude.{nat_eq}
 use Rattle.std.specs.Ordering.{int_eq}
 use Rattle.std.specs.List.{IsDistinct}
 use Rattle.std.specs.Map.{keys_of}
+use Rattle.std.proofs.lemmas.Option.{same_Some}
 use Rattle.fd_model.specs.Linear.{in_integers}
 use Rattle.linear_forms.specs.declared.sums.Share.{Share}
 use Rattle.linear_forms.specs.Shares.{both, scaled_share, share_at, together, open_count, IsShare, IsWhole}
@@ -18,9 +19,6 @@ flip x y = grind (arith, nat_tests)
 together_none : (r : Option Share) → together r None ≡ r
 together_none None = refl
 together_none (Some s) = refl
-
-same_some : (s t : Share) → Some s ≡ Some t → s ≡ t
-same_some s t h = cc
 
 pub count_short : (ss : List Share) → open_count ss ≤ length ss
 count_short [] = omega arith
@@ -59,7 +57,7 @@ module _ (old other now ahead : List (ℕ × Share)) (e : ℕ × Share) (a : Add
   whole_inside : (w : Share) → IsWhole (share_at now e.0) e.1 (Some w) → (u v : Share) → share_at old e.0 ≡ Some u → share_at other e.0 ≡ Some v → in_integers (u.coefficient +ℤ v.coefficient) ≡ true
   whole_inside w h u v p q =
       let f : IsWhole (Some u) e.1 (Some w) = subst (λ r. IsWhole r e.1 (Some w)) (here_now ∙ p) h in
-      let same : e.1 ≡ v = same_some e.1 v (sym here_other ∙ q) in
+      let same : e.1 ≡ v = same_Some e.1 v (sym here_other ∙ q) in
       subst (λ (t : Share). in_integers (u.coefficient +ℤ t.coefficient) ≡ true) same f.1
 
   pub whole_over : IsWhole (share_at now e.0) e.1 None → Exceeds old other

@@ -7,6 +7,7 @@ use Rattle.std.specs.List.{IsDistinct}
 use Rattle.std.specs.List.Sorted.{IsNonDecreasingBy}
 use Rattle.std.specs.Map.{keys_of}
 use Rattle.std.proofs.lemmas.List.Sorted.{IsNonDecreasingBy-from_sort}
+use Rattle.std.proofs.lemmas.Option.{same_Some}
 use Rattle.linear_forms.specs.declared.sums.Share.{Share}
 use Rattle.fd_model.specs.Linear as linear
 use Rattle.fd_model.specs.Linear.{nonzero, linear_of}
@@ -55,12 +56,9 @@ same_ascending lo hi (e ∷ es) (q ∷ qs) a d f r h = by (nat_eq e.0 q.0) refl 
   by true k g =
       let key : e.0 ≡ q.0 = same_key e.0 q.0 k in
       let value : Some e.1 ≡ Some q.1 = sym (at_head e es) ∙ h e.0 ∙ ap (share_at (q ∷ qs)) key ∙ at_head q qs in
-      let share : e.1 ≡ q.1 = same_some e.1 q.1 value in
+      let share : e.1 ≡ q.1 = same_Some e.1 q.1 value in
       let head : e ≡ q = λ i. (key i, share i) in
       λ i. head i ∷ g (rest key) i
-    where
-      same_some : (s t : Share) → Some s ≡ Some t → s ≡ t
-      same_some s t z = cc
   by false k g =
       let later : share_at qs e.0 ≡ Some e.1 = sym (past_head q qs e.0 k) ∙ sym (h e.0) ∙ at_head e es in
       let sooner : share_at es q.0 ≡ Some q.1 = sym (past_head e es q.0 (flip q.0 e.0 ∙ k)) ∙ h q.0 ∙ at_head q qs in

@@ -1,6 +1,6 @@
 -- A negated sum: its parts are the parts negated, and it is within the limits where the sum is.
 use Rattle.std.proofs.Common.{◌≡◌, ℕ, zero, suc, ◌^◌, Bool, true, false, cond, ℤ, pos, negsuc, ◌+ℤ◌, ◌*ℤ◌, neg_ℤ, List, [], ◌∷◌, refl, sym, ap, ◌∙◌, arith, Result, Ok, Err, mul-zero}
-use Rattle.std.proofs.Math.IntN.{*ℤ_comm, *ℤ-negsuc}
+use Rattle.std.proofs.Math.IntN.{*ℤ_comm, *ℤ-negsuc, neg_ℤ-neg_ℤ}
 use Rattle.std.proofs.lemmas.Int.{ints}
 use Rattle.std.specs.Prelude.{nat_abs, nat_lt, ◌==◌, ◌&&◌, not, length, codes}
 use Rattle.std.specs.Ordering.{int_eq}
@@ -32,13 +32,8 @@ neg_zero (negsuc n) = grind (arith, ints)
 pub one_zero : (z : ℤ) → int_eq (negsuc 0 *ℤ z) (pos 0) ≡ int_eq z (pos 0)
 one_zero z = ap (λ y. int_eq y (pos 0)) (neg_one z) ∙ neg_zero z
 
-neg_twice : (z : ℤ) → neg_ℤ (neg_ℤ z) ≡ z
-neg_twice (pos zero) = refl
-neg_twice (pos (suc n)) = refl
-neg_twice (negsuc n) = refl
-
 pub one_twice : (z : ℤ) → negsuc 0 *ℤ (negsuc 0 *ℤ z) ≡ z
-one_twice z = neg_one (negsuc 0 *ℤ z) ∙ ap neg_ℤ (neg_one z) ∙ neg_twice z
+one_twice z = neg_one (negsuc 0 *ℤ z) ∙ ap neg_ℤ (neg_one z) ∙ neg_ℤ-neg_ℤ z
 
 pub one_added : (a b : ℤ) → negsuc 0 *ℤ (a +ℤ b) ≡ (negsuc 0 *ℤ a) +ℤ (negsuc 0 *ℤ b)
 one_added a b = let e = neg_one (a +ℤ b) in let f = neg_one a in let g = neg_one b in omega (arith, ints)
@@ -54,7 +49,7 @@ neg_right k (suc n) = *ℤ-negsuc k n
 
 neg_factor : (k z : ℤ) → k *ℤ neg_ℤ z ≡ neg_ℤ (k *ℤ z)
 neg_factor k (pos n) = neg_right k n
-neg_factor k (negsuc n) = sym (neg_twice (k *ℤ pos (suc n))) ∙ ap neg_ℤ (sym (*ℤ-negsuc k n))
+neg_factor k (negsuc n) = sym (neg_ℤ-neg_ℤ (k *ℤ pos (suc n))) ∙ ap neg_ℤ (sym (*ℤ-negsuc k n))
 
 pub one_factor : (k z : ℤ) → k *ℤ (negsuc 0 *ℤ z) ≡ negsuc 0 *ℤ (k *ℤ z)
 one_factor k z = ap (λ y. k *ℤ y) (neg_one z) ∙ neg_factor k z ∙ sym (neg_one (k *ℤ z))

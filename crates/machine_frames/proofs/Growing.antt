@@ -1,6 +1,7 @@
 -- Heaps that grow while terms are built, and heaps whose variables become variables of the store.
 use Rattle.std.proofs.Common.{◌≡◌, ◌≢◌, ℕ, ◌<◌, List, [], ◌∷◌, length, Some, None, refl, ap, sym, ◌∙◌, inl, inr, arith, length-append, length-set}
 use Rattle.std.proofs.lemmas.Bool.{cases_eq}
+use Rattle.std.proofs.lemmas.Option.{none-some, same_Some}
 use Rattle.heap_cells.specs.declared.Cell.{Cell}
 use Rattle.heap_cells.specs.Cells.{free, linked, Cells, slot_at, IsOf, with_slot, with_new_slot}
 use Rattle.heap_cells.specs.Valid.{IsHeap}
@@ -29,12 +30,6 @@ grown_var h valid = record {
   terms = var_kept h valid;
 }
 
-some_same : (k j : ℕ) → Some k ≡ Some j → k ≡ j
-some_same k j e = cc
-
-none_some : (k : ℕ) → None ≡ Some k → ⊥
-none_some k e = cc
-
 pub linked_none : (h : Cells) → IsHeap h → ((c d k : ℕ) → link_in h c ≡ Some k → link_in h d ≡ Some k → c ≡ d) → IsLinkedMore h h []
 linked_none h valid one = record { valid = valid; size = refl; parts = refl; terms = λ name c o. refl; keep = λ c k e. e; new = λ c k e. inl e; one = one }
 
@@ -52,20 +47,20 @@ linked_next h now more l i k there open_now unused =
       parts = l.parts;
       terms = λ name c o. link_kept now l.valid i k there open_now name c (own c o) ∙ l.terms name c o;
       keep = λ c j e. elim (cases_eq c i) [
-        | inl s ↦ absurd (none_some j (sym (ap link_of (ap (slot_at now) s ∙ open_now)) ∙ l.keep c j e))
+        | inl s ↦ absurd (none-some j (sym (ap link_of (ap (slot_at now) s ∙ open_now)) ∙ l.keep c j e))
         | inr d ↦ else c d ∙ l.keep c j e
       ];
       new = λ c j e. elim (cases_eq c i) [
-        | inl s ↦ inr (inl (s, some_same j k (sym e ∙ ap (link_in next) s ∙ here)))
+        | inl s ↦ inr (inl (s, same_Some j k (sym e ∙ ap (link_in next) s ∙ here)))
         | inr d ↦ elim (l.new c j (sym (else c d) ∙ e)) [ inl a ↦ inl a | inr a ↦ inr (inr a) ]
       ];
       one = λ c d j e f. elim (cases_eq c i) [
         | inl s ↦ elim (cases_eq d i) [
           | inl t ↦ s ∙ sym t
-          | inr t ↦ absurd (unused d (sym (else d t) ∙ f ∙ ap Some (some_same j k (sym e ∙ ap (link_in next) s ∙ here))))
+          | inr t ↦ absurd (unused d (sym (else d t) ∙ f ∙ ap Some (same_Some j k (sym e ∙ ap (link_in next) s ∙ here))))
         ]
         | inr s ↦ elim (cases_eq d i) [
-          | inl t ↦ absurd (unused c (sym (else c s) ∙ e ∙ ap Some (some_same j k (sym f ∙ ap (link_in next) t ∙ here))))
+          | inl t ↦ absurd (unused c (sym (else c s) ∙ e ∙ ap Some (same_Some j k (sym f ∙ ap (link_in next) t ∙ here))))
           | inr t ↦ l.one c d j (sym (else c s) ∙ e) (sym (else d t) ∙ f)
         ]
       ];

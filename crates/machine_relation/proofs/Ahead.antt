@@ -1,5 +1,6 @@
 -- What is ahead of branches of which some may not be consistent, goal by goal.
 use Rattle.std.proofs.Common.{◌≡◌, ℕ, suc, List, [], ◌∷◌, ◌++◌, Option, Some, None, refl, ap, sym, ◌∙◌, subst, inl, inr}
+use Rattle.std.proofs.Math.Nat.{suc_inj}
 use Rattle.fd_language.specs.Term.{Substitution}
 use Rattle.fd_language.specs.Family.{Family}
 use Rattle.fd_model.specs.declared.kinds.QueryFault.{QueryFault}
@@ -56,9 +57,6 @@ fault_from M (Gives cs) f h = absurd h
 gives_from : (M : ℕ) (o : Offer) (cs : List Branch) → KeptOffer M o (Gives cs) → (ds : List Branch) × (o ≡ Gives ds) × Kept M ds cs
 gives_from M (Faults g) cs h = absurd h
 gives_from M (Gives ds) cs h = (ds, refl, h)
-
-same_number : (n m : ℕ) → suc n ≡ suc m → n ≡ m
-same_number n m e = cc
 
 module _ (M : ℕ) (prog : Program) (q : Query) where
   -- what a run does with the goal of its first branch
@@ -133,7 +131,7 @@ module _ (M : ℕ) (prog : Program) (q : Query) where
         by_turn (faults m f s D e c i j) = absurd (let w : Gives kids ≡ Faults f = sym (gives s D c.view) ∙ fault_from M _ f c.kept in cc)
         by_turn (goes_on m xs later j s D e c i l more) =
             let o = gives_from M _ xs c.kept in
-            let same : n ≡ m = same_number n m e in
+            let same : n ≡ m = suc_inj e in
             let one : o.0 ≡ kids = same_kids o.0 kids (sym o.1 ∙ gives s D c.view) in
             let sound = offer_sound M b rest a.fit.0.1 runnable_goals.1 prog (Rattle.fd_model.specs.Children.look_in b s D) (Rattle.fd_model.specs.Children.sets_in b s D) g runnable runnable_goals.0 kids (gives s D c.view) in (
               later,

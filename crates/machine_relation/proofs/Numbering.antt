@@ -1,6 +1,7 @@
 -- Linked cells that take integers, as one unification.
 use Rattle.std.proofs.Common.{◌≡◌, ℕ, suc, ◌<◌, ◌≤◌, Bool, true, false, cond, ◌==◌, ℤ, List, [], ◌∷◌, Option, Some, None, refl, ap, sym, ◌∙◌, subst, inl, inr, ◌⊎◌, ◌+◌, arith, eqb-true, eq-eqb, ne_eqb}
 use Rattle.std.proofs.lemmas.Bool.{or_cases, true≢false}
+use Rattle.std.proofs.lemmas.Option.{none-some, same_Some}
 use Rattle.fd_language.specs.Term.{Var, Int, Substitution, apply}
 use Rattle.fd_language.specs.Unifier.{Unifies}
 use Rattle.fd_language.specs.Family.{has}
@@ -25,17 +26,11 @@ abbrev pub number_touches : (ℕ → ℕ) → List (ℕ × ℤ) → List Touch
 number_touches g [] = []
 number_touches g (d ∷ ds) = Value (g d.0) d.1 ∷ number_touches g ds
 
-some_same : (k j : ℕ) → Some k ≡ Some j → k ≡ j
-some_same k j e = cc
-
 same_var : (c d : ℕ) → Var c ≡ Var d → c ≡ d
 same_var c d e = cc
 
 int_no_var : (z : ℤ) (c : ℕ) → Int z ≡ Var c → ⊥
 int_no_var z c e = cc
-
-none_no_some : (k : ℕ) → None ≡ Some k → ⊥
-none_no_some k e = cc
 
 module _ (link : ℕ → Option ℕ) where
   -- a cell has its integer, or nothing changes at it
@@ -80,7 +75,7 @@ module _ (link : ℕ → Option ℕ) where
   number_values g (d ∷ ds) l a u c k z e i = by_test (c == d.0) refl (number_values g ds l.1 a u.1 c k z e) i where
     by_test : (b : Bool) → (c == d.0) ≡ b → (bindings ds c ≡ Int z → a k ≡ Int z) → cond b (Int d.1) (bindings ds c) ≡ Int z → a k ≡ Int z
     by_test true t later h =
-        let same : k ≡ g d.0 = some_same k (g d.0) (sym e ∙ ap link (eqb-true c d.0 t) ∙ l.0) in
+        let same : k ≡ g d.0 = same_Some k (g d.0) (sym e ∙ ap link (eqb-true c d.0 t) ∙ l.0) in
         ap a same ∙ u.0 ∙ h
     by_test false t later h = later h
 
@@ -89,7 +84,7 @@ module _ (link : ℕ → Option ℕ) where
     | inl b ↦ absurd (int_no_var b.0 d (sym b.1 ∙ i))
     | inr b ↦
         let same : c ≡ d = same_var c d (sym b.0 ∙ i) in
-        ap a (some_same k j (sym e ∙ sym b.1 ∙ ap (without ds link) same ∙ f))
+        ap a (same_Some k j (sym e ∙ sym b.1 ∙ ap (without ds link) same ∙ f))
   ]
 
   -- Each listed cell is listed with one integer, and linked: then the cells take their integers, and their variables are touched by these.
@@ -98,7 +93,7 @@ module _ (link : ℕ → Option ℕ) where
     general = record { unifies = number_unifies ds ds found; general = number_most ds };
     cells = number_cells h ds;
     still = λ c k e. elim (bound_or_not ds c) [
-      | inl b ↦ absurd (none_no_some k (sym b.2 ∙ e))
+      | inl b ↦ absurd (none-some k (sym b.2 ∙ e))
       | inr b ↦ (sym b.1 ∙ e, b.0)
     ];
     plain = λ c k e. elim (bound_or_not ds c) [

@@ -1,6 +1,7 @@
 -- One more range on a branch and on the store.
 use Rattle.std.proofs.Common.{◌≡◌, ℕ, Bool, true, false, cond, ◌==◌, ℤ, pos, negsuc, List, [], ◌∷◌, ◌++◌, Option, Some, map, refl, ap, sym, ◌∙◌, subst, inl, inr, ◌⊎◌, eqb-true, eq-eqb}
 use Rattle.std.proofs.lemmas.Bool.{cases_Bool, or_cases, or_left, or_right, true≢false}
+use Rattle.std.proofs.lemmas.Option.{same_Some}
 use Rattle.fd_language.specs.Term.{Term, Var, Int, Atom, Comp, Substitution, apply}
 use Rattle.fd_language.specs.Unifier.{Equation}
 use Rattle.fd_language.specs.Family.{Family, has, IsFamily, IsSubset, IsRising}
@@ -102,9 +103,6 @@ slot_there f p v h = one_left (rename_indexical f p) (f v) (subst (λ l. has l (
 slot_back : (f : ℕ → ℕ) (p : Indexical) (k : ℕ) → has (constrained (rename_indexical f p ∷ [])) k ≡ true → (v : ℕ) × (has (names p) v ≡ true) × (f v ≡ k)
 slot_back f p k h = map_has f (names p) k (subst (λ l. has l k ≡ true) (names_renamed f p) (one_back (rename_indexical f p) k h))
 
-some_same : (k j : ℕ) → Some k ≡ Some j → k ≡ j
-some_same k j e = cc
-
 module _ (M : ℕ) (es : List Equation) (ps : List Indexical) (P : ℕ → Type 0) (h : ℕ) (look : Substitution) (link : ℕ → Option ℕ) (slot : ℕ → ℕ) (qs : List Indexical) (st : IsStored M es ps P h look link slot qs)
     (p : Indexical) (f : ℕ → ℕ) (link' : ℕ → Option ℕ) (slot' : ℕ → ℕ) (po : IsPosted ps P look link slot qs p f link' slot') where
   module _ (T : Family) (m : IsModel M [] (qs ++ rename_indexical f p ∷ []) T) where
@@ -116,7 +114,7 @@ module _ (M : ℕ) (es : List Equation) (ps : List Indexical) (P : ℕ → Type 
       | inl d ↦
           let w = po.cell v c in
           let l = st.linked v w.0 d w.1 in
-          let same : l.0 ≡ f v = some_same l.0 (f v) (sym (po.keep w.0 l.0 l.1) ∙ w.2) in
+          let same : l.0 ≡ f v = same_Some l.0 (f v) (sym (po.keep w.0 l.0 l.1) ∙ w.2) in
           ap T (po.old v d) ∙ sym (st.agrees T before v d) ∙ ap (shown_set link T) w.1 ∙ ap (λ o. linked_set o T) l.1 ∙ ap T same
       | inr d ↦ ap T (po.new v c d)
     ]
@@ -234,7 +232,7 @@ module _ (M : ℕ) (es : List Equation) (ps : List Indexical) (P : ℕ → Type 
           let w = po.cell l.0 l.1 in
           let a : Var w.0 ≡ Var c = sym w.1 ∙ l.2 in
           let b : w.0 ≡ c = cc in
-          let g : f l.0 ≡ k = some_same (f l.0) k (sym w.2 ∙ ap link' b ∙ e) in
+          let g : f l.0 ≡ k = same_Some (f l.0) k (sym w.2 ∙ ap link' b ∙ e) in
           (l.0, named_left (p ∷ []) ps l.0 (one_left p l.0 l.1), l.2, po.new l.0 l.1 l.3 ∙ g)
     ];
   }
@@ -251,7 +249,7 @@ posted_by M es ps P h look link slot qs st p f link' l = record {
   fresh = λ c k e. elim (l.fresh c k e) [
     | inl a ↦ inl a
     | inr a ↦ elim (cases_Bool (has (constrained ps) a.0)) [
-      | inl d ↦ let o = st.linked a.0 c d a.2 in let same : o.0 ≡ k = some_same o.0 k (sym (l.keep c o.0 o.1) ∙ e) in inl (o.1 ∙ ap Some same)
+      | inl d ↦ let o = st.linked a.0 c d a.2 in let same : o.0 ≡ k = same_Some o.0 k (sym (l.keep c o.0 o.1) ∙ e) in inl (o.1 ∙ ap Some same)
       | inr d ↦ inr (a.0, a.1, a.2, d, a.3)
     ]
   ];

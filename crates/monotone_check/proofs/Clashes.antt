@@ -3,6 +3,7 @@ use Rattle.std.proofs.Common.{◌≡◌, ℕ, suc, ◌+◌, ◌≤◌, ◌<◌, 
 use Rattle.fd_language.proofs.Lemmas.{first-append, earlier_assoc}
 use Rattle.std.specs.Prelude.{Result, Ok, Err, IfOk, OnOk}
 use Rattle.std.proofs.lemmas.List.{at_drop_more}
+use Rattle.std.proofs.Math.Numerals.{add-one}
 use Rattle.fd_language.specs.declared.range_node.RangeNode.{RangeNode}
 use Rattle.fd_language.specs.declared.range_node.RangeNode.TheVariants as node
 use Rattle.fd_language.specs.declared.range_node.Offence.{Offence}
@@ -49,12 +50,9 @@ loop_step at i nodes d place clash found next whole old_ps old_ys new_ps new_ys 
       t,
       ap (λ o. earlier o (first (clashes at (i + 1) qs zs (drop (i + 1) nodes)))) g
           ∙ (earlier_assoc clash found (first (clashes at (i + 1) qs zs (drop (i + 1) nodes)))
-          ∙ (ap (λ m. earlier clash (earlier found (first (clashes at m qs zs (drop (i + 1) nodes))))) (one_more i)
+          ∙ (ap (λ m. earlier clash (earlier found (first (clashes at m qs zs (drop (i + 1) nodes))))) (add-one i)
           ∙ (ap (λ o. earlier clash o) (k ∙ sym (at_drop_more (λ ns. first (clashes at i ps ys ns)) nodes i d l)) ∙ h))),
     )
-  where
-    one_more : (n : ℕ) → n + 1 ≡ suc n
-    one_more n = omega arith
 
 pub ok_both : {A E : Type 0} (r : Result A E) (P : A → Type 0) (Q : Type 0) (R : A → Type 0) → IfOk r P → OnOk r Q → ((o : A) → P o → Q → R o) → IfOk r R
 ok_both (Ok o) P Q R h g f = f o h g

@@ -4,8 +4,10 @@ use Rattle.std.specs.Prelude.{Result, IfOk}
 use Rattle.std.proofs.lemmas.Result.{IfOk-weaker}
 use Rattle.fd_language.specs.declared.range_node.RangeNode.{RangeNode}
 use Rattle.fd_language.specs.Flat.{nodes_of, spelled, spelled-nodes}
-use Rattle.std.proofs.lemmas.Bool.{cases_Bool, true≢false}
+use Rattle.std.proofs.lemmas.Bool.{cases_Bool, true≢false, or_from}
 use Rattle.std.proofs.Common.{◌⊎◌, inl, inr}
+use Rattle.std.proofs.lemmas.List.{map_push}
+use Rattle.std.proofs.Math.Bool.{or-false, and-false}
 use Rattle.fd_language.specs.declared.range_node.Need.{Need}
 use Rattle.fd_language.specs.declared.range_node.Need.TheVariants.{Whole, Natural, Divisor}
 use Rattle.fd_language.specs.Family.{has}
@@ -95,15 +97,8 @@ put_new : (x : ℕ) (n : Need) (es : List (ℕ × Need)) → has (keys es) x ≡
 put_new x n [] h = refl
 put_new x n (e ∷ es) h = ap (λ b. cond b ((e.0, stronger e.1 n) ∷ es) (e ∷ put es x n)) (left_false (e.0 == x) (has (keys es) x) h) ∙ ap (λ l. e ∷ l) (put_new x n es (right_false (e.0 == x) (has (keys es) x) h))
 
-map_snoc : {A B : Type 0} (f : A → B) (xs : List A) (x : A) → map f (xs ++ x ∷ []) ≡ map f xs ++ f x ∷ []
-map_snoc f [] x = refl
-map_snoc f (y ∷ ys) x = ap (λ l. f y ∷ l) (map_snoc f ys x)
-
 has_snoc : (xs : List ℕ) (x z : ℕ) → has (xs ++ x ∷ []) z ≡ (has xs z || (x == z))
-has_snoc [] x z = or_false (x == z) where
-  or_false : (b : Bool) → (b || false) ≡ b
-  or_false true = refl
-  or_false false = refl
+has_snoc [] x z = or-false (x == z)
 has_snoc (y ∷ ys) x z = ap (λ b. (y == z) || b) (has_snoc ys x z) ∙ group (y == z) (has ys z) (x == z) where
   group : (a b c : Bool) → (a || (b || c)) ≡ ((a || b) || c)
   group true b c = refl
@@ -117,20 +112,14 @@ put_distinct x n (e ∷ es) d = elim (cases_Bool (e.0 == x)) [
 ] where
   stays : (has (keys es) x ≡ true) ⊎ (has (keys es) x ≡ false) → (e.0 == x) ≡ false → has (keys (put es x n)) e.0 ≡ false
   stays (inl h) i = ap (λ l. has l e.0) (put_keys x n es h) ∙ d.0
-  stays (inr h) i = ap (λ l. has (keys l) e.0) (put_new x n es h) ∙ (ap (λ l. has l e.0) (map_snoc (λ c. c.0) es (x, n)) ∙ (has_snoc (keys es) x e.0 ∙ both (has (keys es) e.0) (x == e.0) d.0 (eq_sym x e.0 ∙ i)))
-    where
-      both : (a b : Bool) → a ≡ false → b ≡ false → (a || b) ≡ false
-      both a b h g = grind arith
+  stays (inr h) i = ap (λ l. has (keys l) e.0) (put_new x n es h) ∙ (ap (λ l. has l e.0) (map_push (λ c. c.0) es (x, n)) ∙ (has_snoc (keys es) x e.0 ∙ or_from (has (keys es) e.0) (x == e.0) d.0 (eq_sym x e.0 ∙ i)))
 
 filter_two : (p q r : ℕ → Bool) → ((z : ℕ) → r z ≡ (p z && q z)) → (l : List ℕ) → filter p (filter q l) ≡ filter r l
 filter_two p q r f [] = refl
 filter_two p q r f (z ∷ l) = elim (cases_Bool (q z)) [
   | inl i ↦ ap (λ b. filter p (cond b (z ∷ filter q l) (filter q l))) i ∙ (inner (p z) (r z) (f z ∙ ap (λ b. p z && b) i) (filter_two p q r f l))
-  | inr i ↦ ap (λ b. filter p (cond b (z ∷ filter q l) (filter q l))) i ∙ (filter_two p q r f l ∙ ap (λ b. cond b (z ∷ filter r l) (filter r l)) (sym (f z ∙ (ap (λ b. p z && b) i ∙ and_false (p z)))))
+  | inr i ↦ ap (λ b. filter p (cond b (z ∷ filter q l) (filter q l))) i ∙ (filter_two p q r f l ∙ ap (λ b. cond b (z ∷ filter r l) (filter r l)) (sym (f z ∙ (ap (λ b. p z && b) i ∙ and-false (p z)))))
 ] where
-  and_false : (b : Bool) → (b && false) ≡ false
-  and_false true = refl
-  and_false false = refl
 
   inner : (a b : Bool) → b ≡ (a && true) → filter p (filter q l) ≡ filter r l → cond a (z ∷ filter p (filter q l)) (filter p (filter q l)) ≡ cond b (z ∷ filter r l) (filter r l)
   inner true b h e = ap (λ k. z ∷ k) e ∙ ap (λ c. cond c (z ∷ filter r l) (filter r l)) (sym h)
@@ -169,8 +158,8 @@ put_step x n cs es d = elim (cases_Bool (has (keys es) x)) [
       let l : List ℕ = once (keys cs) in
       let split : (z : ℕ) → r z ≡ (p z && q z) = λ z. ap not (has_snoc (keys es) x z) ∙ (neither (has (keys es) z) (x == z) ∙ ap (λ b. p z && not b) (eq_sym x z)) in
       ap (λ k. together k cs) (put_new x n es h)
-      ∙ (ap (λ k. k ++ map (fresh cs) (filter (λ z. not (has (keys (es ++ (x, n) ∷ [])) z)) l)) (map_snoc (with_later cs) es (x, n))
-      ∙ (ap (λ k. (map (with_later cs) es ++ with_later cs (x, n) ∷ []) ++ map (fresh cs) (filter (λ z. not (has k z)) l)) (map_snoc (λ c. c.0) es (x, n))
+      ∙ (ap (λ k. k ++ map (fresh cs) (filter (λ z. not (has (keys (es ++ (x, n) ∷ [])) z)) l)) (map_push (with_later cs) es (x, n))
+      ∙ (ap (λ k. (map (with_later cs) es ++ with_later cs (x, n) ∷ []) ++ map (fresh cs) (filter (λ z. not (has k z)) l)) (map_push (λ c. c.0) es (x, n))
       ∙ (regroup (map (with_later cs) es) (with_later cs (x, n)) (map (fresh cs) (filter r l))
       ∙ (ap (λ k. k ++ with_later cs (x, n) ∷ map (fresh cs) (filter r l)) (sym (unaffected x n cs es h))
       ∙ ap (λ k. map (with_later ((x, n) ∷ cs)) es ++ k)

@@ -4,6 +4,7 @@ use Rattle.std.specs.Prelude.{slice_set}
 use Rattle.std.specs.List.{list_any, position_or_len}
 use Rattle.std.proofs.lemmas.Bool.{cases_Bool}
 use Rattle.std.proofs.lemmas.List.{take_more, reverse-append}
+use Rattle.std.proofs.Math.Numerals.{add-one}
 use Rattle.fd_language.specs.declared.range_node.Need.{Need}
 use Rattle.fd_language.specs.Needs.{stronger}
 use Rattle.monotone_check.specs.JoinedNeeds.{put, put_all}
@@ -48,7 +49,7 @@ pub gather_step : (asked : List (ℕ × Need)) (d c : ℕ × Need) (left : ℕ) 
 gather_step asked d c zero ds new whole h l e f g = absurd (omega arith)
 gather_step asked d c (suc k) ds new whole h l e f g =
     let i : suc k - 1 ≡ k = less k in
-    let front : take (suc k) asked ≡ take k asked ++ c ∷ [] = ap (λ n. take n asked) (sym (one_more k)) ∙ (take_more asked k d (below k (length asked) l) ∙ ap (λ w. take k asked ++ w ∷ []) (sym (e ∙ ap (λ n. get_or asked n d) i))) in
+    let front : take (suc k) asked ≡ take k asked ++ c ∷ [] = ap (λ n. take n asked) (sym (add-one k)) ∙ (take_more asked k d (below k (length asked) l) ∙ ap (λ w. take k asked ++ w ∷ []) (sym (e ∙ ap (λ n. get_or asked n d) i))) in
     let turn : reverse (take (suc k) asked) ≡ c ∷ reverse (take k asked) = ap reverse front ∙ reverse-append (take k asked) (c ∷ []) in
     ap (λ m. put_all m (reverse (take (suc k - 1) asked))) f ∙ (ap (λ n. put_all (put ds c.0 c.1) (reverse (take n asked))) i ∙ (sym (ap (put_all ds) turn) ∙ g))
   where
@@ -57,9 +58,6 @@ gather_step asked d c (suc k) ds new whole h l e f g =
 
     below : (n m : ℕ) → suc n ≤ m → n < m
     below n m h = omega arith
-
-    one_more : (n : ℕ) → n + 1 ≡ suc n
-    one_more n = omega arith
 
 pub put_keys : (es : List (ℕ × Need)) (x : ℕ) (n : Need) → keys (put es x n) ≡ cond (list_any (nat_eq x) (keys es)) (keys es) (keys es ++ x ∷ [])
 put_keys [] x n = refl

@@ -2,6 +2,8 @@
 use Rattle.std.proofs.Common.{◌≡◌, ℕ, suc, ◌+◌, ◌-◌, ◌<◌, ◌≤◌, List, [], ◌∷◌, ◌++◌, length, drop, get_or, Option, Some, sym, ◌∙◌, ap, subst, arith}
 use Rattle.std.specs.Option.{option_to_list}
 use Rattle.std.proofs.lemmas.List.{at_drop_more, drop_all}
+use Rattle.std.proofs.lemmas.Option.{same_Some}
+use Rattle.std.proofs.Math.Numerals.{suc-eq-add-one}
 use Rattle.fd_language.specs.declared.range_node.RangeNode.{RangeNode}
 use Rattle.fd_language.specs.declared.TheConstants.{INFINITY}
 use Rattle.fd_language.specs.Range.{Range, Expr}
@@ -27,20 +29,14 @@ pub walk_step : (at : ℕ → ℕ) (i : ℕ) (nodes : List RangeNode) (d : Range
     ((ns : List RangeNode) (rs : List Range) (ts : List Expr) → IsPending INFINITY at i rs ts old → Follows INFINITY at i ns (built (get_or nodes i d ∷ ns) rs ts) new) → IsWalked at (i + 1) nodes new
 walk_step at i nodes d old new l (rs, ts, e, p) f =
     let g : Some (spelled nodes) ≡ built (get_or nodes i d ∷ drop (i + 1) nodes) rs ts = e ∙ at_drop_more (λ ns. built ns rs ts) nodes i d l in
-    subst (λ k. (qs : List Range) × (us : List Expr) × (Some (spelled nodes) ≡ built (drop (i + 1) nodes) qs us) × IsPending INFINITY at k qs us new) (one_more i)
+    subst (λ k. (qs : List Range) × (us : List Expr) × (Some (spelled nodes) ≡ built (drop (i + 1) nodes) qs us) × IsPending INFINITY at k qs us new) (suc-eq-add-one i)
     (from_follows at i (drop (i + 1) nodes) (spelled nodes) _ new g (f (drop (i + 1) nodes) rs ts p))
-  where
-    one_more : (n : ℕ) → suc n ≡ n + 1
-    one_more n = omega arith
 
 -- at the end there is the range alone
 record IsAlone (at : ℕ → ℕ) (i : ℕ) (r : Range) (p : Pending) : Type 0 where
   kept : RangeCheck
   items : p.ranges.items ≡ kept ∷ []
   whole : IsRange INFINITY at (i - 1) r kept
-
-pub some_same : (r q : Range) → Some r ≡ Some q → r ≡ q
-some_same r q e = cc
 
 alone : (at : ℕ → ℕ) (i : ℕ) (r : Range) (rs : List Range) (ts : List Expr) (p : Pending) → Some r ≡ built [] rs ts → IsPending INFINITY at i rs ts p → IsAlone at i r p
 alone at i r [] [] p e h = absurd cc
@@ -50,7 +46,7 @@ alone at i r (q ∷ x ∷ rs) [] p e h = absurd cc
 alone at i r (q ∷ x ∷ rs) (t ∷ ts) p e h = absurd cc
 alone at i r (q ∷ []) [] p e h =
     let (front, s, j, k, none) = h.ranges in
-    record { kept = s; items = j ∙ ap (λ l. l ++ s ∷ []) none; whole = subst (λ m. IsRange INFINITY at (i - 1) m s) (sym (some_same r q e)) k }
+    record { kept = s; items = j ∙ ap (λ l. l ++ s ∷ []) none; whole = subst (λ m. IsRange INFINITY at (i - 1) m s) (sym (same_Some r q e)) k }
 
 pub walk_end : (at : ℕ → ℕ) (i : ℕ) (nodes : List RangeNode) (p : Pending) → length nodes ≤ i → i ≤ length nodes → IsSpelled nodes → IsWalked at i nodes p →
     (s : RangeCheck) × (p.ranges.items ≡ s ∷ []) × IsRange INFINITY at (range_size (spelled nodes) - 1) (spelled nodes) s

@@ -1,6 +1,6 @@
 -- What a posted range reads, by its code's slots.
 use Rattle.std.proofs.Common.{◌≡◌, ℕ, ℤ, ◌<◌, ◌+◌, Bool, true, false, cond, ◌||◌, ◌&&◌, not, ◌==◌, List, [], ◌∷◌, ◌++◌, map, take, filter, length, get_or, refl, ap, sym, ◌∙◌, subst, inl, inr, arith, eqb-true, All}
-use Rattle.std.proofs.lemmas.Bool.{cases_Bool}
+use Rattle.std.proofs.lemmas.Bool.{cases_Bool, and_parts}
 use Rattle.std.proofs.lemmas.List.{map-append, take_more}
 use Rattle.std.proofs.lemmas.List.Elements.{All-map}
 use Rattle.std.specs.List.{list_any}
@@ -85,9 +85,7 @@ range_slots f (Over r c) = both f (range_features r) (expr_features c) _ _ (rang
 
 -- a test of pairs finds the same where each stands once
 same_pair : (d e : Pair) → is_same_pair e d ≡ true → e ≡ d
-same_pair d e h = let k = split (e.0 == d.0) (is_same_feature e.1 d.1) h in let i : e.0 ≡ d.0 = eqb-true e.0 d.0 k.0 in let j : e.1 ≡ d.1 = same_feature e.1 d.1 k.1 in pairs i j where
-  split : (a b : Bool) → (a && b) ≡ true → (a ≡ true) × (b ≡ true)
-  split a b h = grind arith
+same_pair d e h = let k = and_parts (e.0 == d.0) (is_same_feature e.1 d.1) h in let i : e.0 ≡ d.0 = eqb-true e.0 d.0 k.0 in let j : e.1 ≡ d.1 = same_feature e.1 d.1 k.1 in pairs i j where
 
   pairs : {a b : ℕ} {f g : Feature} → a ≡ b → f ≡ g → ◌≡◌ {A = Pair} (a, f) (b, g)
   pairs e f = cc

@@ -1,10 +1,11 @@
 -- One more agent.
 use Rattle.std.proofs.Common.{◌≡◌, ℕ, zero, suc, ◌+◌, ◌<◌, ◌≤◌, Bool, true, false, cond, ◌||◌, ◌&&◌, ◌==◌, List, [], ◌∷◌, ◌++◌, map, filter, take, length, get_or, Option, refl, ap, sym, ◌∙◌, subst, inl, inr, ◌⊎◌, arith, eqb-true, eq-eqb, All, nat_lt, le-ltb}
 use Rattle.std.proofs.lemmas.Bool.{cases_Bool, true≢false, eqb-false}
-use Rattle.std.proofs.lemmas.List.{length-append, length-map, get_or_append_left, get_or_at, get_or_past, map-append, take_more}
-use Rattle.std.proofs.lemmas.List.Elements.{All-append, All-map, All-tail}
+use Rattle.std.proofs.lemmas.List.{length-append, length-map, get_or_append_left, get_or_at, get_or_past, map-append, take_more, append-nil}
+use Rattle.std.proofs.lemmas.List.Elements.{All-append, All-map, All-tail, filter-append}
 use Rattle.std.proofs.lemmas.List.Folds.{list_any-append}
 use Rattle.std.specs.List.{list_any}
+use Rattle.std.proofs.Math.Bool.{or-false}
 use Rattle.fd_language.specs.declared.range_node.Feature.{Feature}
 use Rattle.fd_language.specs.declared.range_node.Need.{Need}
 use Rattle.range_code.specs.declared.frame.Arg.{Arg}
@@ -83,15 +84,12 @@ readers_more ps p reads fs r w =
       same = λ a d x c less. list_any-append (λ q. (q.agent == a) && ((q.var == x) && wakes c q.feature)) reads (read_by (length ps) fs) ∙
           elim (last_or_older a (length ps) (omega (arith, less, size))) [
             | inl o ↦ ap (λ b. list_any (λ q. (q.agent == a) && ((q.var == x) && wakes c q.feature)) reads || b) (any_other (length ps) a (λ q. (q.var == x) && wakes c q.feature) fs (λ e. omega (arith, e, o)))
-                ∙ nothing _ ∙ r.same a d x c o ∙ ap (λ q. is_woken c x (range_features q.range)) (sym (get_or_append_left ps (p ∷ []) d a o))
+                ∙ or-false _ ∙ r.same a d x c o ∙ ap (λ q. is_woken c x (range_features q.range)) (sym (get_or_append_left ps (p ∷ []) d a o))
             | inr o ↦ ap (λ b. b || list_any (λ q. (q.agent == a) && ((q.var == x) && wakes c q.feature)) (read_by (length ps) fs)) (any_none (length ps) a (λ q. (q.var == x) && wakes c q.feature) reads r.known (omega (arith, o)))
                 ∙ ap (λ j. list_any (λ q. (q.agent == a) && ((q.var == x) && wakes c q.feature)) (read_by j fs)) (sym o) ∙ any_own a x c fs ∙ w x c
                 ∙ ap (λ q. is_woken c x (range_features q.range)) (sym (ap (λ j. get_or (ps ++ p ∷ []) j d) o ∙ get_or_at ps p [] d (length ps) refl))
           ];
     }
-  where
-    nothing : (b : Bool) → (b || false) ≡ b
-    nothing b = grind arith
 
 pub agent_readers : (is is' : List Posting) (i : Posting) (a : ℕ) (reads reads' : List AgentRead) (fs : List (ℕ × Feature)) → AreReaders (ranges_of is) reads → is' ≡ is ++ i ∷ [] → a ≡ length is → reads' ≡ reads ++ read_by a fs → ((x : ℕ) (c : Change) → is_woken c x fs ≡ is_woken c x (range_features (ranged i).range)) → AreReaders (ranges_of is') reads'
 agent_readers is is' i a reads reads' fs r e n f w =
@@ -101,21 +99,13 @@ agent_readers is is' i a reads reads' fs r e n f w =
 pub agent_within : (vars a : ℕ) (reads reads' : List AgentRead) (fs : List (ℕ × Feature)) → All (λ r. r.var < vars) reads → All (λ d. d.0 < vars) fs → reads' ≡ reads ++ read_by a fs → All (λ r. r.var < vars) reads'
 agent_within vars a reads reads' fs h k e = subst (λ (l : List AgentRead). All (λ r. r.var < vars) l) (sym e) (All-append (λ r. r.var < vars) reads (read_by a fs) h (All-map (λ r. r.var < vars) (λ (d : ℕ × Feature). record { agent = a; var = d.0; feature = d.1 }) fs k))
 
-filter-append : (p : AgentRead → Bool) (xs ys : List AgentRead) → filter p (xs ++ ys) ≡ filter p xs ++ filter p ys
-filter-append p [] ys = refl
-filter-append p (x ∷ xs) ys = elim (p x) as (λ b. cond b (x ∷ filter p (xs ++ ys)) (filter p (xs ++ ys)) ≡ cond b (x ∷ filter p xs) (filter p xs) ++ filter p ys) [ true ↦ ap (λ l. x ∷ l) (filter-append p xs ys) | false ↦ filter-append p xs ys ]
-
 filter_later : (m a : ℕ) (fs : List (ℕ × Feature)) → m ≤ a → filter (λ r. nat_lt r.agent m) (read_by a fs) ≡ []
 filter_later m a [] h = refl
 filter_later m a (d ∷ ds) h = ap (λ b. cond b (record { agent = a; var = d.0; feature = d.1 } ∷ filter (λ r. nat_lt r.agent m) (read_by a ds)) (filter (λ r. nat_lt r.agent m) (read_by a ds))) (le-ltb a m h) ∙ filter_later m a ds h
 
-nothing_more : (xs : List AgentRead) → xs ++ [] ≡ xs
-nothing_more [] = refl
-nothing_more (x ∷ xs) = ap (λ l. x ∷ l) (nothing_more xs)
-
 pub agent_kept : (m a n : ℕ) (reads reads' : List AgentRead) (fs : List (ℕ × Feature)) → m ≤ n → a ≡ n → reads' ≡ reads ++ read_by a fs → filter (λ r. nat_lt r.agent m) reads' ≡ filter (λ r. nat_lt r.agent m) reads
 agent_kept m a n reads reads' fs h e f =
-    ap (filter (λ r. nat_lt r.agent m)) f ∙ filter-append (λ r. nat_lt r.agent m) reads (read_by a fs) ∙ ap (λ l. filter (λ r. nat_lt r.agent m) reads ++ l) (filter_later m a fs (omega (arith, h, e))) ∙ nothing_more (filter (λ r. nat_lt r.agent m) reads)
+    ap (filter (λ r. nat_lt r.agent m)) f ∙ filter-append (λ r. nat_lt r.agent m) reads (read_by a fs) ∙ ap (λ l. filter (λ r. nat_lt r.agent m) reads ++ l) (filter_later m a fs (omega (arith, h, e))) ∙ append-nil (filter (λ r. nat_lt r.agent m) reads)
 
 pub posted_more : (H : Indexical → Type 0) (is is' : List Posting) (i : Posting) → is' ≡ is ++ i ∷ [] → AllPosted H (ranges_of is) → H (ranged i) → AllPosted H (ranges_of is')
 posted_more H is is' i e h k = subst (λ l. AllPosted H l) (sym (ap ranges_of e ∙ map-append ranged is (i ∷ []))) (more (ranges_of is) h) where

@@ -1,9 +1,10 @@
 -- What holds while agents are activated.
 use Rattle.std.proofs.Common.{◌≡◌, ℕ, zero, suc, ◌+◌, ◌*◌, ◌<◌, ◌≤◌, Bool, true, false, cond, ◌||◌, ◌&&◌, ◌==◌, List, [], ◌∷◌, filter, length, get_or, set, refl, ap, sym, ◌∙◌, subst, inl, inr, arith, eqb-true, Contains, All, mul-le-mul}
 use mathlib.Core.Path.{fun_ext}
-use Rattle.std.proofs.lemmas.Bool.{cases_Bool, true≢false, eqb-false, or_cases}
+use Rattle.std.proofs.lemmas.Bool.{cases_Bool, true≢false, eqb-false, or_cases, or_parts}
 use Rattle.std.proofs.lemmas.List.{length-map, get_or-set_same, get_or-set_other, get_or-map}
 use Rattle.std.specs.List.{list_any}
+use Rattle.std.specs.Cmp.{first_so}
 use Rattle.fd_language.specs.declared.TheConstants.{INFINITY}
 use Rattle.fd_language.specs.Term.{Var}
 use Rattle.fd_language.specs.Family.{has, IsFamily, universe}
@@ -97,7 +98,7 @@ moves ps sets flags flags' woken a p m here h at some less f w r =
         | inr e ↦ ap is_none_left (sym (unwritten sets x (narrowed p sets) y (eqb-false y x e))) ∙ r.some y
       ];
       rest = λ k d low e.
-          let parts = neither (cond (a == k) false (flag_at flags k)) (woken k) (sym (f k) ∙ e) in
+          let parts = or_parts (cond (a == k) false (flag_at flags k)) (woken k) (sym (f k) ∙ e) in
           let q : Indexical = get_or ps k d in
           let alike = same_sets q (sym (w k d low) ∙ parts.1) in
           elim (cases_Bool (a == k)) [
@@ -110,9 +111,6 @@ moves ps sets flags flags' woken a p m here h at some less f w r =
                 record { each = λ n g. subst (λ l. has l n ≡ true) alike (old.each n (inside p sets h q.target n g)) }
           ];
     }
-  where
-    neither : (b c : Bool) → (b || c) ≡ false → (b ≡ false) × (c ≡ false)
-    neither b c h = grind arith
 
 -- all are at rest
 all_rest : (ps : List Indexical) (sets : List (List ℕ)) → ((a : ℕ) (d : Indexical) → a < length ps → IsAtRest sets (get_or ps a d)) → AllPosted (IsAtRest sets) ps
@@ -152,11 +150,9 @@ posted_there is a i l e = (a, omega (arith, l, length-map is ranged), posted_at 
 pub wakes_known : (n a : ℕ) (p : AgentRead → Bool) (reads : List AgentRead) → All (λ r. r.agent < n) reads → list_any (λ r. (r.agent == a) && p r) reads ≡ true → a < n
 wakes_known n a p [] h e = absurd (true≢false (sym e))
 wakes_known n a p (r ∷ rs) h e = elim (or_cases ((r.agent == a) && p r) (list_any (λ q. (q.agent == a) && p q) rs) e) [
-  | inl f ↦ omega (arith, h zero r (omega arith), eqb-true r.agent a (left (r.agent == a) (p r) f))
+  | inl f ↦ omega (arith, h zero r (omega arith), eqb-true r.agent a (first_so (r.agent == a) (p r) f))
   | inr f ↦ wakes_known n a p rs (λ k d l. h (suc k) d (omega (arith, l))) f
-] where
-  left : (b c : Bool) → (b && c) ≡ true → b ≡ true
-  left b c h = grind arith
+]
 
 -- how many values the sets have together
 abbrev pub total : List (List ℕ) → ℕ

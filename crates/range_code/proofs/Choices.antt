@@ -3,19 +3,23 @@ use Rattle.std.proofs.Common.{◌≡◌, ℕ, ◌*◌, ◌≤◌, length, Bool, 
 use Rattle.std.specs.List.{All}
 use Rattle.std.specs.List.Sorted.{IsPermutation}
 use Rattle.std.specs.Ordering.{int_eq}
-use Rattle.std.proofs.lemmas.Bool.{and_parts, and_from}
+use Rattle.std.proofs.lemmas.Bool.{and_parts, and_from, false_from_ne_true}
 use Rattle.std.proofs.lemmas.Bool.Decides.{Decides-int_eq}
 use Rattle.std.proofs.Math.IntN.{+ℤ_idl}
 use Rattle.std.proofs.lemmas.List.Elements.{All-nil, All-cons, All-append}
 use Rattle.std.proofs.lemmas.List.Folds.{list_any-append}
 use Rattle.std.proofs.lemmas.List.Sorted.{list_any-IsPermutation, All-permutation}
+use Rattle.std.proofs.lemmas.Option.{same_Some}
+use Rattle.std.proofs.lemmas.List.{nil_from_length}
+use Rattle.std.proofs.Math.Bool.{or-false}
+use Rattle.std.specs.Cmp.{both_ways}
 use Rattle.fd_language.specs.declared.TheConstants.{INFINITY}
 use Rattle.fd_language.specs.declared.range_node.RangeNode.{RangeNode}
 use Rattle.fd_language.specs.declared.range_node.RangeNode.TheVariants as node
 use Rattle.fd_language.specs.Family.{Family, has, universe}
 use Rattle.fd_language.specs.Range.{Range, Union, some_number}
 use Rattle.fd_language.specs.Flat.{nodes_of, range_nodes, built, builds_range}
-use Rattle.domain_ranges.proofs.Lemmas.{same_bool, not_true, set_same, some_has, some_from}
+use Rattle.domain_ranges.proofs.Lemmas.{set_same, some_has, some_from}
 use Rattle.range_code.specs.declared.frame.Arg.{Arg}
 use Rattle.range_code.specs.declared.choice.Choice.{Choice}
 use Rattle.range_code.specs.declared.choice.Part.{Part}
@@ -30,9 +34,6 @@ same_int x y e = (Decides-int_eq x y).0 e
 
 pos_same : (a b : ℕ) → pos a ≡ pos b → a ≡ b
 pos_same a b e = cc
-
-or_false : (a : Bool) → (a || false) ≡ a
-or_false a = grind arith
 
 times_zero : (k : ℕ) → k * 0 ≡ 0
 times_zero k = omega arith
@@ -80,10 +81,10 @@ module _ (S : Family) (p : ℕ → ℤ) (m : Part) (n : ℕ) (low : n ≤ INFINI
       (int_same (pos 0 +ℤ m.number) (pos n) number))
 
   none_there : ((k j : ℕ) → k ≤ INFINITY → j ≤ INFINITY → m.key ≡ pos k → m.number ≡ pos j → ⊥) → is_in S p (part_range m) n ≡ false
-  none_there h = not_true (is_in S p (part_range m) n) (λ t. let f = found t in h f.key n f.high low f.is (sym (+ℤ_idl m.number) ∙ f.number))
+  none_there h = false_from_ne_true (is_in S p (part_range m) n) (λ t. let f = found t in h f.key n f.high low f.is (sym (+ℤ_idl m.number) ∙ f.number))
 
   pair_there : (d : ℕ × ℕ) → m.key ≡ pos d.0 → m.number ≡ pos d.1 → d.0 ≤ INFINITY → (has (S m.slot) d.0 && (d.1 == n)) ≡ is_in S p (part_range m) n
-  pair_there d key number high = same_bool (has (S m.slot) d.0 && (d.1 == n)) (is_in S p (part_range m) n)
+  pair_there d key number high = both_ways (has (S m.slot) d.0 && (d.1 == n)) (is_in S p (part_range m) n)
       (λ t. let both = and_parts (has (S m.slot) d.0) (d.1 == n) t in there d.0 high key both.0 (+ℤ_idl m.number ∙ (number ∙ ap pos (eqb-true d.1 n both.1))))
       (λ t. let f = found t in
       let at : f.key ≡ d.0 = pos_same f.key d.0 (sym f.is ∙ key) in
@@ -96,13 +97,13 @@ IsHigh d = d.1 ≤ INFINITY
 pub pair_added : (m : Part) (old new : List (ℕ × ℕ)) (d : ℕ × ℕ) → new ≡ old ++ d ∷ [] → m.key ≡ pos d.0 → m.number ≡ pos d.1 → d.0 ≤ INFINITY → d.1 ≤ INFINITY → IsPairAdded m old new
 pair_added m old new d e key number high top = record {
   same = λ S p n low. ap (λ l. is_chosen (S m.slot) l n) e ∙ (list_any-append (λ c. has (S m.slot) c.0 && (c.1 == n)) old (d ∷ [])
-      ∙ ap (λ b. is_chosen (S m.slot) old n || b) (or_false (has (S m.slot) d.0 && (d.1 == n)) ∙ pair_there S p m n low d key number high));
+      ∙ ap (λ b. is_chosen (S m.slot) old n || b) (or-false (has (S m.slot) d.0 && (d.1 == n)) ∙ pair_there S p m n low d key number high));
   high = λ h. subst (All IsHigh) (sym e) (All-append IsHigh old (d ∷ []) h (All-cons IsHigh d [] top (All-nil IsHigh)));
 }
 
 pub none_added : (m : Part) (old new : List (ℕ × ℕ)) → new ≡ old → ((k j : ℕ) → k ≤ INFINITY → j ≤ INFINITY → m.key ≡ pos k → m.number ≡ pos j → ⊥) → IsPairAdded m old new
 none_added m old new e none = record {
-  same = λ S p n low. ap (λ l. is_chosen (S m.slot) l n) e ∙ sym (ap (λ b. is_chosen (S m.slot) old n || b) (none_there S p m n low none) ∙ or_false (is_chosen (S m.slot) old n));
+  same = λ S p n low. ap (λ l. is_chosen (S m.slot) l n) e ∙ sym (ap (λ b. is_chosen (S m.slot) old n || b) (none_there S p m n low none) ∙ or-false (is_chosen (S m.slot) old n));
   high = λ h. subst (All IsHigh) (sym e) h;
 }
 
@@ -128,16 +129,9 @@ choosing_more ns rest behind slot m old new f e s a = record {
   seen = f.seen;
 }
 
-some_same : (r q : Range) → Some r ≡ Some q → r ≡ q
-some_same r q e = cc
-
-no_rest : (rest : List RangeNode) → length rest ≡ 0 → rest ≡ []
-no_rest [] e = refl
-no_rest (n ∷ ns) e = absurd (let k : ⊥ = omega (arith, e) in k)
-
 pub choosing_whole : (ns rest : List RangeNode) (ds : List (ℕ × ℕ)) (c : Choice) → IsChoosing ns c.slot ds rest → length rest ≡ 0 → IsPermutation ds c.pairs.items → AreRising c.pairs.items → (r : Range) → ns ≡ nodes_of r → IsChoice r c
 choosing_whole ns rest ds c f none perm rise r e =
-    let is : r ≡ f.range = some_same r f.range (sym (ap (λ l. built l [] []) e ∙ builds_range r [] []) ∙ (f.nodes ∙ ap (λ l. built l (f.range ∷ []) []) (no_rest rest none))) in
+    let is : r ≡ f.range = same_Some r f.range (sym (ap (λ l. built l [] []) e ∙ builds_range r [] []) ∙ (f.nodes ∙ ap (λ l. built l (f.range ∷ []) []) (nil_from_length rest none))) in
     record {
       set = λ S p. ap (λ q. filter (is_in S p q) (universe INFINITY)) is
           ∙ set_same INFINITY (is_in S p f.range) (is_chosen (S c.slot) c.pairs.items) (λ n low. f.same S p n low ∙ list_any-IsPermutation (λ d. has (S c.slot) d.0 && (d.1 == n)) ds c.pairs.items perm);

@@ -1,9 +1,10 @@
 -- How the members of a target that are chosen are gathered.
 use Rattle.std.proofs.Common.{◌≡◌, ℕ, zero, suc, ◌+◌, ◌<◌, ◌≤◌, ◌-◌, length, take, get_or, Bool, true, false, ◌&&◌, ◌||◌, ◌==◌, eqb-true, eq-eqb, List, [], ◌∷◌, ◌++◌, filter, refl, sym, ◌∙◌, ap, subst, arith, ◌⊎◌, inl, inr, leb}
-use Rattle.std.proofs.lemmas.Bool.{true≢false, or_cases, and_parts, cases_Bool}
+use Rattle.std.proofs.lemmas.Bool.{true≢false, or_cases, and_parts, cases_Bool, le-leb, lt-leb, or_right, or_left, leb-false}
 use Rattle.std.proofs.lemmas.Bool.Decides.{nat_tests}
 use Rattle.std.proofs.lemmas.List.{get_or-take, get_or_default, length-append, length-take-le}
 use Rattle.std.proofs.lemmas.List.Folds.{list_any_more}
+use Rattle.std.proofs.Math.Bool.{or-false, and-false}
 use Rattle.fd_language.specs.declared.TheConstants.{INFINITY}
 use Rattle.fd_language.specs.Family.{has, universe, IsRising, IsSubset}
 use Rattle.fd_language.specs.Range.{is_none_left}
@@ -18,22 +19,14 @@ snoc_rises low M n [] r below l h = (l, h, tt)
 snoc_rises low M n (x ∷ xs) r below l h = (
   r.0,
   r.1,
-  snoc_rises (suc x) M n xs r.2 (λ k g. below k (later (x == k) (has xs k) g)) (let b = below x (first (x == x) (has xs x) (eq-eqb x x refl)) in omega (arith, b)) h,
-) where
-  later : (a b : Bool) → b ≡ true → (a || b) ≡ true
-  later a b g = grind (arith, g)
-
-  first : (a b : Bool) → a ≡ true → (a || b) ≡ true
-  first a b g = grind (arith, g)
+  snoc_rises (suc x) M n xs r.2 (λ k g. below k (or_right (x == k) (has xs k) g)) (let b = below x (or_left (x == x) (has xs x) (eq-eqb x x refl)) in omega (arith, b)) h,
+)
 
 other_way : (a b : ℕ) → (a == b) ≡ (b == a)
 other_way a b = grind (arith, nat_tests)
 
-or_false : (a : Bool) → (a || false) ≡ a
-or_false a = grind arith
-
 has_snoc : (xs : List ℕ) (n k : ℕ) → has (xs ++ n ∷ []) k ≡ (has xs k || (k == n))
-has_snoc [] n k = or_false (n == k) ∙ other_way n k
+has_snoc [] n k = or-false (n == k) ∙ other_way n k
 has_snoc (x ∷ xs) n k = ap (λ b. (x == k) || b) (has_snoc xs n k) ∙ regroup (x == k) (has xs k) (k == n) where
   regroup : (a b c : Bool) → (a || (b || c)) ≡ ((a || b) || c)
   regroup a b c = grind arith
@@ -58,14 +51,11 @@ keeps_none : (xs : List ℕ) → filter (λ n. false) xs ≡ []
 keeps_none [] = refl
 keeps_none (x ∷ xs) = keeps_none xs
 
-none_chosen : (b : Bool) → (b && false) ≡ false
-none_chosen b = grind arith
-
 pub gathering_start : (t s : List ℕ) (ds : List (ℕ × ℕ)) (rest : List Span) (sets : List (List ℕ)) → sets ≡ [] ∷ [] → IsSpans 0 INFINITY rest → members rest ≡ t → Gathering t s ds 0 rest 0 0 sets
 gathering_start t s ds rest sets e r m = record {
   numbers = [];
   top = e;
-  are = sym (set_same INFINITY (λ n. has t n && is_chosen s [] n) (λ n. false) (λ n l. none_chosen (has t n)) ∙ keeps_none (universe INFINITY));
+  are = sym (set_same INFINITY (λ n. has t n && is_chosen s [] n) (λ n. false) (λ n l. and-false (has t n)) ∙ keeps_none (universe INFINITY));
   below = λ n h. absurd (true≢false (sym h));
   last = λ k h. absurd (nothing k h);
   counted = refl;
@@ -187,7 +177,7 @@ module _ (t s : List ℕ) (ds : List (ℕ × ℕ)) (i : ℕ) (rest : List Span) 
         ∙ (taken_test (has t k) (is_chosen s (take i ds) k) (is_next k) (k == c.1) (λ e. ap (has t) (eqb-true k c.1 e) ∙ (sym next_there ∙ inside)) (ap (λ b. b && (c.1 == k)) key ∙ other_way c.1 k)
         ∙ sym (ap (λ b. has t k && b) (list_any_more (λ x. has s x.0 && (x.1 == k)) ds i d l))));
     below = λ n g. bounded n (or_cases (has h.numbers n) (n == c.1) (sym (has_snoc h.numbers c.1 n) ∙ (ap (λ xs. has xs n) is ∙ g)));
-    last = λ k e. let at : c.1 ≡ k = omega (arith, e) in subst (λ m. has (with_next h.numbers) m ≡ true) at (ap (λ xs. has xs c.1) (sym is) ∙ (has_snoc h.numbers c.1 c.1 ∙ last_there (has h.numbers c.1) (c.1 == c.1) (eq-eqb c.1 c.1 refl)));
+    last = λ k e. let at : c.1 ≡ k = omega (arith, e) in subst (λ m. has (with_next h.numbers) m ≡ true) at (ap (λ xs. has xs c.1) (sym is) ∙ (has_snoc h.numbers c.1 c.1 ∙ or_right (has h.numbers c.1) (c.1 == c.1) (eq-eqb c.1 c.1 refl)));
     counted = let e : length (h.numbers ++ c.1 ∷ []) ≡ length h.numbers + 1 = length-append h.numbers (c.1 ∷ []) in let f : length (with_next h.numbers) ≡ length (h.numbers ++ c.1 ∷ []) = ap length (sym is) in omega (arith, e, f, h.counted);
     few = omega (arith, h.few, low);
     high = omega (arith, high);
@@ -201,9 +191,6 @@ module _ (t s : List ℕ) (ds : List (ℕ × ℕ)) (i : ℕ) (rest : List Span) 
     bounded n (inl g) = let b = h.below n g in omega (arith, b, low)
     bounded n (inr g) = let e = eqb-true n c.1 g in omega (arith, e)
 
-    last_there : (a b : Bool) → b ≡ true → (a || b) ≡ true
-    last_there a b g = grind (arith, g)
-
 pub gathering_same : (t s : List ℕ) (ds : List (ℕ × ℕ)) (i : ℕ) (rest : List Span) (from count : ℕ) (sets : List (List ℕ)) (old_from old_count : ℕ) (old_sets : List (List ℕ)) → from ≡ old_from → count ≡ old_count → sets ≡ old_sets → Gathering t s ds i rest old_from old_count old_sets → Gathering t s ds i rest from count sets
 gathering_same t s ds i rest from count sets old_from old_count old_sets e f g h =
     subst (λ n. Gathering t s ds i rest n count sets) (sym e) (subst (λ n. Gathering t s ds i rest old_from n sets) (sym f) (subst (Gathering t s ds i rest old_from old_count) (sym g) h))
@@ -212,29 +199,17 @@ gathering_same t s ds i rest from count sets old_from old_count old_sets e f g h
 pub in_first : (number : ℕ) (ss : List Span) (d : Span) → 1 ≤ length ss → IsSpans 0 INFINITY ss → IsFromNumber number ss → leb (get_or ss 0 d).0 number ≡ within ss number
 in_first number [] d l r h = absurd (let z : ⊥ = omega (arith, l) in z)
 in_first number (x ∷ xs) d l r h = elim (cases_Bool (leb x.0 number)) [
-  | inl e ↦ e ∙ sym (here (leb x.0 number) (leb number x.1) (within xs number) e (not_over number x.1 h))
-  | inr e ↦ e ∙ sym (below_first INFINITY 0 number x xs r (beyond x.0 number e))
+  | inl e ↦ e ∙ sym (here (leb x.0 number) (leb number x.1) (within xs number) e (le-leb number x.1 h))
+  | inr e ↦ e ∙ sym (below_first INFINITY 0 number x xs r (leb-false x.0 number e))
 ] where
   here : (a b w : Bool) → a ≡ true → b ≡ true → ((a && b) || w) ≡ true
   here a b w e f = grind (arith, e, f)
 
-  not_over : (a b : ℕ) → a ≤ b → leb a b ≡ true
-  not_over a b l = grind (arith, nat_tests)
-
-  beyond : (a b : ℕ) → leb a b ≡ false → b < a
-  beyond a b e = grind (arith, nat_tests)
-
 -- whether the number is in a set of one interval
 only_has : (ss : List Span) (d : Span) (xs : List ℕ) (n : ℕ) → length ss ≡ 1 → IsSpans 0 INFINITY ss → members ss ≡ xs → (leb (get_or ss 0 d).0 n && leb n (get_or ss 0 d).1) ≡ has xs n
 only_has [] d xs n l r e = absurd (let z : ⊥ = omega (arith, l) in z)
-only_has (x ∷ []) d xs n l r e = sym (or_false (leb x.0 n && leb n x.1)) ∙ has_within INFINITY (x ∷ []) xs n r e
+only_has (x ∷ []) d xs n l r e = sym (or-false (leb x.0 n && leb n x.1)) ∙ has_within INFINITY (x ∷ []) xs n r e
 only_has (x ∷ y ∷ ys) d xs n l r e = absurd (let z : ⊥ = omega (arith, l) in z)
-
-over : (a b : ℕ) → a ≤ b → leb a b ≡ true
-over a b l = grind (arith, nat_tests)
-
-under : (a b : ℕ) → b < a → leb a b ≡ false
-under a b l = grind (arith, nat_tests)
 
 second : (a b : Bool) → a ≡ true → b ≡ (a && b)
 second a b e = grind (arith, e)
@@ -243,10 +218,10 @@ neither : (a b : Bool) → a ≡ false → a ≡ (a && b)
 neither a b e = grind (arith, e)
 
 pub only_above : (ss : List Span) (d : Span) (xs : List ℕ) (n : ℕ) → length ss ≡ 1 → IsSpans 0 INFINITY ss → members ss ≡ xs → (get_or ss 0 d).0 ≤ n → leb n (get_or ss 0 d).1 ≡ has xs n
-only_above ss d xs n l r e h = second (leb (get_or ss 0 d).0 n) (leb n (get_or ss 0 d).1) (over (get_or ss 0 d).0 n h) ∙ only_has ss d xs n l r e
+only_above ss d xs n l r e h = second (leb (get_or ss 0 d).0 n) (leb n (get_or ss 0 d).1) (le-leb (get_or ss 0 d).0 n h) ∙ only_has ss d xs n l r e
 
 pub only_below : (ss : List Span) (d : Span) (xs : List ℕ) (n : ℕ) → length ss ≡ 1 → IsSpans 0 INFINITY ss → members ss ≡ xs → n < (get_or ss 0 d).0 → leb (get_or ss 0 d).0 n ≡ has xs n
-only_below ss d xs n l r e h = neither (leb (get_or ss 0 d).0 n) (leb n (get_or ss 0 d).1) (under (get_or ss 0 d).0 n h) ∙ only_has ss d xs n l r e
+only_below ss d xs n l r e h = neither (leb (get_or ss 0 d).0 n) (leb n (get_or ss 0 d).1) (lt-leb (get_or ss 0 d).0 n h) ∙ only_has ss d xs n l r e
 
 -- what is left of a target
 module _ (t s : List ℕ) (ds : List (ℕ × ℕ)) (rise : IsRising 0 INFINITY t) where

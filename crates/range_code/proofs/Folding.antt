@@ -7,6 +7,7 @@ use Rattle.std.proofs.lemmas.Int.{int_wrap_fits, fits_signed_from_abs}
 use Rattle.std.proofs.lemmas.List.{append-nil, append_assoc, reverse-append, reverse-reverse}
 use Rattle.std.proofs.lemmas.Bool.{cases_Bool, true≢false}
 use Rattle.std.proofs.lemmas.List.Elements.{All-head, All-tail, All-cons}
+use Rattle.std.specs.Cmp.{second_so, first_so}
 use Rattle.fd_language.specs.declared.TheConstants.{INFINITY}
 use Rattle.fd_language.specs.declared.range_node.RangeNode.{RangeNode}
 use Rattle.fd_language.specs.declared.range_node.RangeNode.TheVariants as node
@@ -43,14 +44,6 @@ folds_to P e other h g = elim (cases_Bool (is_literal e)) [
   | inl i ↦ subst (λ b. P (cond b (Number (literal_value INFINITY e)) other)) (sym i) (h i)
   | inr i ↦ subst (λ b. P (cond b (Number (literal_value INFINITY e)) other)) (sym i) (g i)
 ]
-
-left_of : (a b : Bool) → (a && b) ≡ true → a ≡ true
-left_of true b h = refl
-left_of false b h = h
-
-right_of : (a b : Bool) → (a && b) ≡ true → b ≡ true
-right_of true b h = h
-right_of false b h = absurd (true≢false (sym h))
 
 module _ (S : Family) (p : ℕ → ℤ) where
   literal_filled : (e : Expr) → is_literal e ≡ true → literal_value INFINITY e ≡ filled_value S p e
@@ -214,9 +207,9 @@ module _ (count : ℕ) (args : List Arg) where
   literal_reads : (e : Expr) → is_literal e ≡ true → TermReads e
   literal_reads (Number z) i = tt
   literal_reads Infinity i = tt
-  literal_reads (Add a b) i = (literal_reads a (left_of (is_literal a) (is_literal b) i), literal_reads b (right_of (is_literal a) (is_literal b) i))
-  literal_reads (Sub a b) i = (literal_reads a (left_of (is_literal a) (is_literal b) i), literal_reads b (right_of (is_literal a) (is_literal b) i))
-  literal_reads (Mul a b) i = (literal_reads a (left_of (is_literal a) (is_literal b) i), literal_reads b (right_of (is_literal a) (is_literal b) i))
+  literal_reads (Add a b) i = (literal_reads a (first_so (is_literal a) (is_literal b) i), literal_reads b (second_so (is_literal a) (is_literal b) i))
+  literal_reads (Sub a b) i = (literal_reads a (first_so (is_literal a) (is_literal b) i), literal_reads b (second_so (is_literal a) (is_literal b) i))
+  literal_reads (Mul a b) i = (literal_reads a (first_so (is_literal a) (is_literal b) i), literal_reads b (second_so (is_literal a) (is_literal b) i))
   literal_reads e i = absurd (true≢false (sym i))
 
   term_folded : (e : Expr) → TermReads e → TermReads (folded e)
@@ -386,17 +379,17 @@ module _ (S : Family) (p : ℕ → ℤ) where
 
   joined_add : (a b : Expr) (ps : List Piece) → IsLimited (operated node.Add (filled_value S p a) (filled_value S p b)) → joined node.Add (pieces b (pieces a ps)) ≡ pieces (Add a b) ps
   joined_add a b ps h = folds_to (λ f. joined node.Add (pieces b (pieces a ps)) ≡ walked ps (expr_nodes f [])) (Add a b) (Add (folded a) (folded b))
-      (λ i. are_joined node.Add a b ps (λ x y. refl) (left_of (is_literal a) (is_literal b) i) (right_of (is_literal a) (is_literal b) i) h)
+      (λ i. are_joined node.Add a b ps (λ x y. refl) (first_so (is_literal a) (is_literal b) i) (second_so (is_literal a) (is_literal b) i) h)
       (λ i. not_joined node.Add a b ps i ∙ sym (two_terms a b node.Add ps))
 
   joined_sub : (a b : Expr) (ps : List Piece) → IsLimited (operated node.Sub (filled_value S p a) (filled_value S p b)) → joined node.Sub (pieces b (pieces a ps)) ≡ pieces (Sub a b) ps
   joined_sub a b ps h = folds_to (λ f. joined node.Sub (pieces b (pieces a ps)) ≡ walked ps (expr_nodes f [])) (Sub a b) (Sub (folded a) (folded b))
-      (λ i. are_joined node.Sub a b ps (λ x y. refl) (left_of (is_literal a) (is_literal b) i) (right_of (is_literal a) (is_literal b) i) h)
+      (λ i. are_joined node.Sub a b ps (λ x y. refl) (first_so (is_literal a) (is_literal b) i) (second_so (is_literal a) (is_literal b) i) h)
       (λ i. not_joined node.Sub a b ps i ∙ sym (two_terms a b node.Sub ps))
 
   joined_mul : (a b : Expr) (ps : List Piece) → IsLimited (operated node.Mul (filled_value S p a) (filled_value S p b)) → joined node.Mul (pieces b (pieces a ps)) ≡ pieces (Mul a b) ps
   joined_mul a b ps h = folds_to (λ f. joined node.Mul (pieces b (pieces a ps)) ≡ walked ps (expr_nodes f [])) (Mul a b) (Mul (folded a) (folded b))
-      (λ i. are_joined node.Mul a b ps (λ x y. refl) (left_of (is_literal a) (is_literal b) i) (right_of (is_literal a) (is_literal b) i) h)
+      (λ i. are_joined node.Mul a b ps (λ x y. refl) (first_so (is_literal a) (is_literal b) i) (second_so (is_literal a) (is_literal b) i) h)
       (λ i. not_joined node.Mul a b ps i ∙ sym (two_terms a b node.Mul ps))
 
   term_walk : (e : Expr) (ps : List Piece) (rest : List RangeNode) → Fits S p e → fold taken ps (expr_nodes e rest) ≡ fold taken (pieces e ps) rest

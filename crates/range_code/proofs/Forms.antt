@@ -18,7 +18,8 @@ use Rattle.fd_language.specs.Range.{Number as Literal}
 use Rattle.fd_language.specs.Check.{fill_range}
 use Rattle.fd_language.specs.Flat.{nodes_of, built, built_behind, put, shape_of, term_alone, term_of_terms, builds_range, spelled, spelled-nodes, IsSpelled}
 use Rattle.fd_language.proofs.Lemmas.{two, greatest_in, abs_add, abs_mul, products}
-use Rattle.std.proofs.lemmas.List.{at_drop_more, take_all}
+use Rattle.std.proofs.lemmas.List.{at_drop_more, take_all, nil_from_length}
+use Rattle.std.proofs.lemmas.Option.{same_Some}
 use Rattle.domain_ranges.specs.Narrowing.{between, all_but, IsNarrowed}
 use Rattle.domain_ranges.specs.declared.Narrowed.{Narrowed}
 use Rattle.range_code.specs.declared.frame.Arg.{Arg}
@@ -306,10 +307,6 @@ only_two (a ∷ []) d h = absurd (let k : ⊥ = omega (arith, h) in k)
 only_two (a ∷ b ∷ []) d h = refl
 only_two (a ∷ b ∷ c ∷ ns) d h = absurd (let k : ⊥ = omega (arith, h) in k)
 
--- the whole
-some_same : (r q : Range) → Some r ≡ Some q → r ≡ q
-some_same r q e = cc
-
 module _ (ns : List RangeNode) (r : Range) (are : ns ≡ nodes_of r) where
   whole_built : Some r ≡ built ns [] []
   whole_built = sym (ap (λ l. built l [] []) are ∙ builds_range r [] [])
@@ -329,7 +326,7 @@ module _ (ns : List RangeNode) (r : Range) (are : ns ≡ nodes_of r) where
 
   pub interval_form : (middle : List RangeNode) (m : RangeNode) (a b : Bound) → IsBound ns a middle → IsBound middle b (m ∷ []) → m ≡ node.Span → AreNarrow (nat_abs a.constant) a.products.items → AreNarrow (nat_abs b.constant) b.products.items → IsInterval r a b
   interval_form middle m a b f g e v w =
-      let is : r ≡ Span f.term g.term = some_same r (Span f.term g.term) (two_ends middle (m ∷ []) a b f g ∙ ap (λ k. built (k ∷ []) [] (g.term ∷ f.term ∷ [])) e) in
+      let is : r ≡ Span f.term g.term = same_Some r (Span f.term g.term) (two_ends middle (m ∷ []) a b f g ∙ ap (λ k. built (k ∷ []) [] (g.term ∷ f.term ∷ [])) e) in
       record {
         set = λ S p. ap (filled_set S p) is ∙ two between (f.value S p) (g.value S p);
         low = low_usable middle a f v;
@@ -338,7 +335,7 @@ module _ (ns : List RangeNode) (r : Range) (are : ns ≡ nodes_of r) where
 
   pub complement_form : (middle : List RangeNode) (m n : RangeNode) (a b : Bound) → IsBound ns a middle → IsBound middle b (m ∷ n ∷ []) → m ≡ node.Span → n ≡ node.Outside → AreNarrow (nat_abs a.constant) a.products.items → AreNarrow (nat_abs b.constant) b.products.items → IsComplement r a b
   complement_form middle m n a b f g e i v w =
-      let is : r ≡ Outside (Span f.term g.term) = some_same r (Outside (Span f.term g.term)) (two_ends middle (m ∷ n ∷ []) a b f g ∙ two (λ k j. built (k ∷ j ∷ []) [] (g.term ∷ f.term ∷ [])) e i) in
+      let is : r ≡ Outside (Span f.term g.term) = same_Some r (Outside (Span f.term g.term)) (two_ends middle (m ∷ n ∷ []) a b f g ∙ two (λ k j. built (k ∷ j ∷ []) [] (g.term ∷ f.term ∷ [])) e i) in
       record {
         set = λ S p. ap (filled_set S p) is ∙ (sym (outside_is INFINITY (in_range INFINITY S (fill_range p (Span f.term g.term)))) ∙ ap outside (two between (f.value S p) (g.value S p)));
         low = low_usable middle a f v;
@@ -347,7 +344,7 @@ module _ (ns : List RangeNode) (r : Range) (are : ns ≡ nodes_of r) where
 
   pub exception_form : (m n : RangeNode) (a : Bound) → IsBound ns a (m ∷ n ∷ []) → m ≡ node.One → n ≡ node.Outside → AreNarrow (nat_abs a.constant) a.products.items → IsException r a
   exception_form m n a f e i v =
-      let is : r ≡ Outside (One f.term) = some_same r (Outside (One f.term)) (whole_built ∙ (f.nodes [] [] ∙ two (λ k j. built (k ∷ j ∷ []) [] (f.term ∷ [])) e i)) in
+      let is : r ≡ Outside (One f.term) = same_Some r (Outside (One f.term)) (whole_built ∙ (f.nodes [] [] ∙ two (λ k j. built (k ∷ j ∷ []) [] (f.term ∷ [])) e i)) in
       record {
         set = λ S p. ap (filled_set S p) is ∙ (sym (outside_is INFINITY (in_range INFINITY S (fill_range p (One f.term)))) ∙ ap outside (sym (one_is INFINITY (filled_value S p f.term)) ∙ ap (λ z. between z z) (f.value S p)));
         value = low_usable (m ∷ n ∷ []) a f v;
@@ -404,12 +401,8 @@ one_outside r a b h e = record { set = λ S p. h.set S p ∙ ap (λ z. outside (
 plus_none : (z : ℤ) → z +ℤ pos 0 ≡ z
 plus_none z = +ℤ_comm z (pos 0) ∙ +ℤ_idl z
 
-no_products : (ms : List Product) → length ms ≡ 0 → ms ≡ []
-no_products [] e = refl
-no_products (m ∷ ms) e = absurd (let k : ⊥ = omega (arith, e) in k)
-
 pub number_is : (b : Bound) → b.division ≡ Whole → length b.products.items ≡ 0 → (S : Family) → bound_value S b ≡ b.constant
-number_is b d e S = whole_value S b d ∙ (ap (λ ms. b.constant +ℤ sum_of S ms) (no_products b.products.items e) ∙ plus_none b.constant)
+number_is b d e S = whole_value S b d ∙ (ap (λ ms. b.constant +ℤ sum_of S ms) (nil_from_length b.products.items e) ∙ plus_none b.constant)
 
 only_product : (ms : List Product) (d : Product) → length ms ≡ 1 → ms ≡ get_or ms 0 d ∷ []
 only_product [] d e = absurd (let k : ⊥ = omega (arith, e) in k)

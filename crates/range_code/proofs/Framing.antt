@@ -1,8 +1,10 @@
 -- Each node of a range finds its argument.
 use Rattle.std.proofs.Common.{◌≡◌, ℕ, suc, ◌+◌, ◌<◌, Bool, true, false, cond, not, ◌||◌, ◌&&◌, ◌==◌, nat_eq, List, [], ◌∷◌, ◌++◌, map, length, Option, Some, None, refl, sym, ◌∙◌, ap, subst, ◌⊎◌, inl, inr, arith, eqb-true, eq-eqb}
 use Rattle.std.specs.List.{All, list_all, position_or_len}
-use Rattle.std.proofs.lemmas.Bool.{cases_Bool, true≢false, or_left, or_cases}
+use Rattle.std.proofs.lemmas.Bool.{cases_Bool, true≢false, or_left, or_cases, or_from}
 use Rattle.std.proofs.lemmas.List.Elements.{All-nil, All-cons}
+use Rattle.std.proofs.Math.Numerals.{one-add}
+use Rattle.std.specs.Cmp.{second_so, first_so}
 use Rattle.fd_language.specs.declared.range_node.Need.{Need}
 use Rattle.fd_language.specs.declared.range_node.RangeNode.{RangeNode}
 use Rattle.fd_language.specs.declared.range_node.RangeNode.TheVariants as node
@@ -150,12 +152,10 @@ has_arg count need (x ∷ xs) (b ∷ bs) y a h = elim (cases_Bool (nat_eq y x)) 
       let i : position_or_len (nat_eq y) (x ∷ xs) ≡ 0 = ap (λ c. cond (not c) (1 + position_or_len (nat_eq y) xs) 0) e in
       record { within = subst (λ n. n < suc (length bs)) (sym i) (omega arith); fitting = subst (λ n. IsArg count (need y) (arg_at (b ∷ bs) n)) (sym i) (subst (λ z. IsArg count (need z) b) (sym (eqb-true y x e)) a.0) }
   | inr e ↦
-      let i : position_or_len (nat_eq y) (x ∷ xs) ≡ suc (position_or_len (nat_eq y) xs) = ap (λ c. cond (not c) (1 + position_or_len (nat_eq y) xs) 0) e ∙ one_up (position_or_len (nat_eq y) xs) in
+      let i : position_or_len (nat_eq y) (x ∷ xs) ≡ suc (position_or_len (nat_eq y) xs) = ap (λ c. cond (not c) (1 + position_or_len (nat_eq y) xs) 0) e ∙ one-add (position_or_len (nat_eq y) xs) in
       let k = has_arg count need xs bs y a.1 (later x y xs e h) in
       record { within = subst (λ n. n < suc (length bs)) (sym i) (up (position_or_len (nat_eq y) xs) (length bs) k.within); fitting = subst (λ n. IsArg count (need y) (arg_at (b ∷ bs) n)) (sym i) k.fitting }
 ] where
-  one_up : (n : ℕ) → 1 + n ≡ suc n
-  one_up n = omega arith
 
   up : (m n : ℕ) → m < n → suc m < suc n
   up m n h = omega arith
@@ -170,21 +170,13 @@ seen_arg count (Int z) h = absurd h
 -- a variable that is read is no parameter
 pub no_parameter : (xs ys : List ℕ) (y : ℕ) → list_all (λ x. not (has ys x)) xs ≡ true → has ys y ≡ true → has xs y ≡ false
 no_parameter [] ys y h g = refl
-no_parameter (x ∷ xs) ys y h g = both (x == y) (has xs y) (apart (cases_Bool (x == y))) (no_parameter xs ys y (right (not (has ys x)) (list_all (λ z. not (has ys z)) xs) h) g) where
-  right : (a b : Bool) → (a && b) ≡ true → b ≡ true
-  right a b h = grind arith
-
-  left : (a b : Bool) → (a && b) ≡ true → a ≡ true
-  left a b h = grind arith
-
-  both : (a b : Bool) → a ≡ false → b ≡ false → (a || b) ≡ false
-  both a b h g = grind arith
+no_parameter (x ∷ xs) ys y h g = or_from (x == y) (has xs y) (apart (cases_Bool (x == y))) (no_parameter xs ys y (second_so (not (has ys x)) (list_all (λ z. not (has ys z)) xs) h) g) where
 
   flip : (a : Bool) → not a ≡ true → a ≡ true → ⊥
   flip a h g = grind arith
 
   apart : ((x == y) ≡ true) ⊎ ((x == y) ≡ false) → (x == y) ≡ false
-  apart (inl e) = absurd (flip (has ys x) (left (not (has ys x)) (list_all (λ z. not (has ys z)) xs) h) (subst (λ z. has ys z ≡ true) (sym (eqb-true x y e)) g))
+  apart (inl e) = absurd (flip (has ys x) (first_so (not (has ys x)) (list_all (λ z. not (has ys z)) xs) h) (subst (λ z. has ys z ≡ true) (sym (eqb-true x y e)) g))
   apart (inr e) = e
 
 module _ (count : ℕ) (r : Range) (args : List Arg) (fit : IsFrame count r args) (one : has_one_use r ≡ true) where

@@ -3,31 +3,20 @@ use Rattle.std.proofs.Common.{◌≡◌, ℕ, Bool, true, false, cond, not, ◌|
 use Rattle.std.specs.List.{list_any}
 use Rattle.std.proofs.lemmas.Bool.{cases_Bool}
 use Rattle.std.proofs.lemmas.List.Elements.{filter-append}
+use Rattle.std.proofs.Math.Bool.{or-false, and-false, or-true, and-true}
+use Rattle.std.proofs.lemmas.List.{append-nil}
 use Rattle.fd_language.specs.Family.{has}
 use Rattle.fd_language.specs.Needs.{once}
-use Rattle.range_code.proofs.Variables.{nothing_behind}
 
 eq_sym : (x y : ℕ) → (x == y) ≡ (y == x)
 eq_sym x y = grind arith
-
-and_false : (b : Bool) → (b && false) ≡ false
-and_false true = refl
-and_false false = refl
-
-or_true : (b : Bool) → (b || true) ≡ true
-or_true true = refl
-or_true false = refl
-
-or_false : (b : Bool) → (b || false) ≡ b
-or_false true = refl
-or_false false = refl
 
 keeps_here : (c k h b : Bool) → (c ≡ true → b ≡ true) → k ≡ (h && b) → (c || k) ≡ ((c || h) && b)
 keeps_here true k h b f e = sym (f refl)
 keeps_here false k h b f e = e
 
 drops_here : (c k h b : Bool) → (c ≡ true → b ≡ false) → k ≡ (h && b) → k ≡ ((c || h) && b)
-drops_here true k h b f e = e ∙ (ap (λ x. h && x) (f refl) ∙ (and_false h ∙ sym (f refl)))
+drops_here true k h b f e = e ∙ (ap (λ x. h && x) (f refl) ∙ (and-false h ∙ sym (f refl)))
 drops_here false k h b f e = e
 
 pub has_kept : (q : ℕ → Bool) (xs : List ℕ) (y : ℕ) → has (filter q xs) y ≡ (has xs y && q y)
@@ -42,10 +31,7 @@ has_once [] y = refl
 has_once (x ∷ xs) y = ap (λ b. (x == y) || b) (has_kept (λ z. not (z == x)) (once xs) y ∙ ap (λ b. b && not (y == x)) (has_once xs y)) ∙ others (x == y) (y == x) (has xs y) (eq_sym y x) where
   others : (c d h : Bool) → d ≡ c → (c || (h && not d)) ≡ (c || h)
   others true d h e = refl
-  others false d h e = ap (λ x. h && not x) e ∙ and_true h where
-    and_true : (b : Bool) → (b && true) ≡ b
-    and_true true = refl
-    and_true false = refl
+  others false d h e = ap (λ x. h && not x) e ∙ and-true h
 
 -- one more element
 pub once_more : (xs : List ℕ) (x : ℕ) → once (xs ++ x ∷ []) ≡ cond (has xs x) (once xs) (once xs ++ x ∷ [])
@@ -53,15 +39,15 @@ once_more [] x = refl
 once_more (y ∷ ys) x = elim (cases_Bool (has ys x)) [
   | inl i ↦
       ap (λ l. y ∷ filter (λ z. not (z == y)) l) (once_more ys x ∙ ap (λ b. cond b (once ys) (once ys ++ x ∷ [])) i)
-      ∙ sym (ap (λ b. cond ((y == x) || b) (once (y ∷ ys)) (once (y ∷ ys) ++ x ∷ [])) i ∙ ap (λ b. cond b (once (y ∷ ys)) (once (y ∷ ys) ++ x ∷ [])) (or_true (y == x)))
+      ∙ sym (ap (λ b. cond ((y == x) || b) (once (y ∷ ys)) (once (y ∷ ys) ++ x ∷ [])) i ∙ ap (λ b. cond b (once (y ∷ ys)) (once (y ∷ ys) ++ x ∷ [])) (or-true (y == x)))
   | inr i ↦
       ap (λ l. y ∷ filter (λ z. not (z == y)) l) (once_more ys x ∙ ap (λ b. cond b (once ys) (once ys ++ x ∷ [])) i)
       ∙ (ap (λ l. y ∷ l) (filter-append (λ z. not (z == y)) (once ys) (x ∷ []))
       ∙ (last (x == y) (y == x) (eq_sym y x)
-      ∙ sym (ap (λ b. cond ((y == x) || b) (once (y ∷ ys)) (once (y ∷ ys) ++ x ∷ [])) i ∙ ap (λ b. cond b (once (y ∷ ys)) (once (y ∷ ys) ++ x ∷ [])) (or_false (y == x)))))
+      ∙ sym (ap (λ b. cond ((y == x) || b) (once (y ∷ ys)) (once (y ∷ ys) ++ x ∷ [])) i ∙ ap (λ b. cond b (once (y ∷ ys)) (once (y ∷ ys) ++ x ∷ [])) (or-false (y == x)))))
 ] where
   last : (c d : Bool) → d ≡ c → y ∷ (filter (λ z. not (z == y)) (once ys) ++ cond (not c) (x ∷ []) []) ≡ cond d (once (y ∷ ys)) (once (y ∷ ys) ++ x ∷ [])
-  last true d e = ap (λ l. y ∷ l) (nothing_behind (filter (λ z. not (z == y)) (once ys))) ∙ sym (ap (λ b. cond b (once (y ∷ ys)) (once (y ∷ ys) ++ x ∷ [])) e)
+  last true d e = ap (λ l. y ∷ l) (append-nil (filter (λ z. not (z == y)) (once ys))) ∙ sym (ap (λ b. cond b (once (y ∷ ys)) (once (y ∷ ys) ++ x ∷ [])) e)
   last false d e = sym (ap (λ b. cond b (once (y ∷ ys)) (once (y ∷ ys) ++ x ∷ [])) e)
 
 pub any_has : (keys : List ℕ) (x : ℕ) → list_any (nat_eq x) keys ≡ has keys x

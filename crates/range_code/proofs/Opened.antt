@@ -3,6 +3,8 @@ use Rattle.std.proofs.Common.{◌≡◌, ℕ, suc, ◌<◌, Bool, true, false, c
 use Rattle.std.specs.List.{All, list_any}
 use Rattle.std.proofs.lemmas.Bool.{cases_Bool, true≢false, or_left, or_right, or_cases}
 use Rattle.std.proofs.lemmas.List.Elements.{All-nil, All-cons, All-head, All-tail}
+use Rattle.std.specs.Cmp.{both_ways}
+use Rattle.std.proofs.lemmas.List.{length-map}
 use Rattle.fd_language.specs.declared.range_node.Feature.{Feature}
 use Rattle.fd_language.specs.declared.range_node.Feature.TheVariants as feature
 use Rattle.fd_language.specs.declared.range_node.Need.{Need}
@@ -70,21 +72,12 @@ module _ (S : Family) where
     | inr e ↦ let k = opener n ds (All-tail (λ q. q.0 < n) d ds h) e in (k.0, k.1, or_right (is_same_pair (k.0, feature.Val) d) (has_pair ds (k.0, feature.Val)) k.2, k.3)
   ]
 
-  same_bool : (a b : Bool) → (a ≡ true → b ≡ true) → (b ≡ true → a ≡ true) → a ≡ b
-  same_bool true b f g = sym (f refl)
-  same_bool false true f g = g refl
-  same_bool false false f g = refl
-
   -- some slot that is read by val has several members exactly where some pair says so
   pub vals_open : (ds : List (ℕ × Feature)) (n : ℕ) → All (λ d. d.0 < n) ds → list_any (λ s. is_several (S s)) (filter (λ s. has_pair ds (s, feature.Val)) (count_up 0 n)) ≡ list_any (opens S) ds
-  vals_open ds n h = same_bool (list_any (λ s. is_several (S s)) (filter (λ s. has_pair ds (s, feature.Val)) (count_up 0 n))) (list_any (opens S) ds)
+  vals_open ds n h = both_ways (list_any (λ s. is_several (S s)) (filter (λ s. has_pair ds (s, feature.Val)) (count_up 0 n))) (list_any (opens S) ds)
       (λ g. let k = any_kept (λ s. has_pair ds (s, feature.Val)) (λ s. is_several (S s)) (count_up 0 n) g in opened_by ds k.0 k.1 k.2)
       (λ g. let k = opener n ds h g in any_at (λ s. is_several (S s)) (filter (λ s. has_pair ds (s, feature.Val)) (count_up 0 n)) k.0
       (has-filter (λ s. has_pair ds (s, feature.Val)) (count_up 0 n) k.0 (in_count_up 0 n k.0 (omega arith) (let l : k.0 < n = k.1 in omega arith)) k.2) k.3)
-
-pub length_map : {A B : Type 0} (f : A → B) (xs : List A) → length (map f xs) ≡ length xs
-length_map f [] = refl
-length_map f (x ∷ xs) = ap suc (length_map f xs)
 
 args_length : (count : ℕ) (ns : List (Option Need)) (args : List Arg) → AreArgs count ns args → length args ≡ length ns
 args_length count [] [] h = refl

@@ -9,6 +9,7 @@ use Rattle.std.proofs.lemmas.List.Elements.{All-nil, All-cons, All-head, All-tai
 use Rattle.std.proofs.lemmas.List.Folds.{list_any-append}
 use Rattle.std.proofs.lemmas.List.Sums.{fold-append}
 use Rattle.std.proofs.Math.Seq.{drop-append_seam, take-append_seam}
+use Rattle.std.proofs.Math.Numerals.{one-add}
 use Rattle.indexmap.specs.IndexSet.{insert_key, insert_all}
 use Rattle.fd_language.specs.declared.range_node.Need.{Need}
 use Rattle.fd_language.specs.declared.range_node.RangeNode.{RangeNode}
@@ -46,12 +47,10 @@ has_place z (y ∷ ys) h = elim (cases_Bool (int_eq z y)) [
       let i : position_or_len (int_eq z) (y ∷ ys) ≡ 0 = ap (λ c. cond (not c) (1 + position_or_len (int_eq z) ys) 0) e in
       record { within = subst (λ n. n < suc (length ys)) (sym i) (omega arith); there = ap (λ n. get_or (y ∷ ys) n (pos 0)) i ∙ sym (equal_same z y e) }
   | inr e ↦
-      let i : position_or_len (int_eq z) (y ∷ ys) ≡ suc (position_or_len (int_eq z) ys) = ap (λ c. cond (not c) (1 + position_or_len (int_eq z) ys) 0) e ∙ one_up (position_or_len (int_eq z) ys) in
+      let i : position_or_len (int_eq z) (y ∷ ys) ≡ suc (position_or_len (int_eq z) ys) = ap (λ c. cond (not c) (1 + position_or_len (int_eq z) ys) 0) e ∙ one-add (position_or_len (int_eq z) ys) in
       let k = has_place z ys (sym (ap (λ b. b || list_any (int_eq z) ys) e) ∙ h) in
       record { within = subst (λ n. n < suc (length ys)) (sym i) (up (position_or_len (int_eq z) ys) (length ys) k.within); there = ap (λ n. get_or (y ∷ ys) n (pos 0)) i ∙ k.there }
 ] where
-  one_up : (n : ℕ) → 1 + n ≡ suc n
-  one_up n = omega arith
 
   up : (m n : ℕ) → m < n → suc m < suc n
   up m n h = omega arith

@@ -1,5 +1,6 @@
 -- Ranges that are the same in slots are posted as the same range.
 use Rattle.std.proofs.Common.{◌≡◌, ℕ, ◌+◌, ◌<◌, ◌≤◌, List, ◌∷◌, length, refl, sym, ◌∙◌, ap}
+use Rattle.std.proofs.lemmas.List.{length-map}
 use Rattle.fd_language.specs.declared.range_node.RangeNode.{RangeNode}
 use Rattle.fd_language.specs.Range.{Range, Span, One, Dom, Union, Inter, Outside, Plus, Minus, Times, Over, Expr, Number, Infinity, Param, Min, Max, Val, Add, Sub, Mul, DivDown, DivUp}
 use Rattle.fd_language.specs.Check.{fill_range}
@@ -10,7 +11,6 @@ use Rattle.range_code.specs.declared.frame.Arg.{Arg}
 use Rattle.range_code.specs.Slots.{slot_of, in_slots}
 use Rattle.range_code.specs.Frames.{slot_variable, slot_integer, posted}
 use Rattle.range_code.specs.Nodes.{rename_node}
-use Rattle.range_code.proofs.Opened.{length_map}
 use Rattle.range_code.proofs.Variables.{names_of}
 use Rattle.range_code.proofs.Running.{range_named}
 
@@ -53,7 +53,7 @@ pub same_slots : (ns ms : List RangeNode) (r q : Range) → ns ≡ nodes_of (in_
 same_slots ns ms r q e f h = sym (spelled-nodes (in_slots r)) ∙ (ap spelled (sym e ∙ (h ∙ f)) ∙ spelled-nodes (in_slots q))
 
 pub slots_keep : (r : Range) → length (nodes_of (in_slots r)) ≡ length (nodes_of r)
-slots_keep r = ap length (sym (names_of (slot_of r) r)) ∙ length_map (rename_node (slot_of r)) (nodes_of r)
+slots_keep r = ap length (sym (names_of (slot_of r) r)) ∙ length-map (nodes_of r) (rename_node (slot_of r))
 
 -- as many nodes
 pub same_length : (r q : Range) → in_slots r ≡ in_slots q → length (nodes_of r) ≡ length (nodes_of q)

@@ -3,6 +3,8 @@ use Rattle.std.proofs.Common.{◌≡◌, ℕ, ℤ, pos, arith, Bool, true, false
 use Rattle.std.specs.Prelude.{Result, IfOk}
 use Rattle.std.specs.List.{All, list_any}
 use Rattle.std.proofs.lemmas.Result.{IfOk-weaker}
+use Rattle.std.proofs.Math.Bool.{or-false}
+use Rattle.std.proofs.lemmas.List.{length-map}
 use Rattle.fd_language.specs.declared.TheConstants.{INFINITY}
 use Rattle.fd_language.specs.declared.range_node.Feature.{Feature}
 use Rattle.fd_language.specs.declared.range_node.RangeNode.{RangeNode}
@@ -42,7 +44,7 @@ use Rattle.fd_language.specs.Features.{feature_at}
 use Rattle.range_code.proofs.Fits.{divides, fits}
 use Rattle.range_code.proofs.Framing.{all_readable}
 use Rattle.range_code.proofs.Posted.{fits_table, one_use, frame_meets}
-use Rattle.range_code.proofs.Opened.{all_kept, one_pair, vals_open, all_below, length_map}
+use Rattle.range_code.proofs.Opened.{all_kept, one_pair, vals_open, all_below}
 use Rattle.range_code.proofs.Standings.{features_seen, all_once, any_read, any_val, reads_filled, vals_filled}
 
 -- integers filled in before or after the variables are named anew
@@ -169,7 +171,7 @@ module _ (sets : List (List ℕ)) (r : Range) (args : List Arg) (accepted : is_a
   opens_same : (ys : List ℕ) → ys ≡ val_slots r → list_any (λ s. is_several (Sets sets r args s)) ys ≡ list_any (opens (Sets sets r args)) (features_of (in_slots r))
   opens_same ys e =
       ap (list_any (λ s. is_several (Sets sets r args s))) e
-      ∙ vals_open (Sets sets r args) (features_of (in_slots r)) (length (slots_of r)) (all_below (length sets) (slot_needs r) args (length (slots_of r)) (features_of (in_slots r)) fit (length_map (need_at r) (slots_of r)) features_seen_all)
+      ∙ vals_open (Sets sets r args) (features_of (in_slots r)) (length (slots_of r)) (all_below (length sets) (slot_needs r) args (length (slots_of r)) (features_of (in_slots r)) fit (length-map (slots_of r) (need_at r)) features_seen_all)
 
   none_empty : ((d : ℕ × Feature) → is_none_left (Sets sets r args d.0) ≡ false) → (ds : List (ℕ × Feature)) → list_any (λ d. is_none_left (Sets sets r args d.0)) ds ≡ false
   none_empty h [] = refl
@@ -240,11 +242,7 @@ module _ (sets : List (List ℕ)) (r : Range) (args : List Arg) (accepted : is_a
   -- where all numbers but one value are meant
   module _ (slot : ℕ) (differs : in_slots r ≡ all_but_val slot) (some : (k : ℕ) → is_none_left (family_of sets k) ≡ false) where
     one_open : list_any (λ s. is_several (Sets sets r args s)) (val_slots r) ≡ is_several (Sets sets r args slot)
-    one_open = opens_same (val_slots r) refl ∙ (ap (λ q. list_any (opens (Sets sets r args)) (features_of q)) differs ∙ alone (is_several (Sets sets r args slot)))
-      where
-        alone : (b : Bool) → (b || false) ≡ b
-        alone true = refl
-        alone false = refl
+    one_open = opens_same (val_slots r) refl ∙ (ap (λ q. list_any (opens (Sets sets r args)) (features_of q)) differs ∙ or-false (is_several (Sets sets r args slot)))
 
     differs_open : is_several (Sets sets r args slot) ≡ true → set_of INFINITY (family_of sets) (posted r args) ≡ universe INFINITY
     differs_open e = open_set (val_slots r) some refl (sym (one_open ∙ e))

@@ -1,7 +1,7 @@
 -- The needs of a range's slots.
 use Rattle.std.proofs.Common.{◌≡◌, ℕ, Bool, true, false, cond, ◌||◌, ◌==◌, List, [], ◌∷◌, ◌++◌, map, Option, Some, None, refl, sym, ◌∙◌, ap, eqb-true, inl, inr}
 use Rattle.std.proofs.lemmas.Bool.{cases_Bool, true≢false, and_parts}
-use Rattle.std.proofs.lemmas.List.{map-append}
+use Rattle.std.proofs.lemmas.List.{map-append, append-nil}
 use Rattle.fd_language.specs.declared.range_node.Need.{Need}
 use Rattle.fd_language.specs.declared.range_node.Need.TheVariants.{Divisor}
 use Rattle.fd_language.specs.Family.{has}
@@ -12,7 +12,6 @@ use Rattle.fd_language.proofs.Lemmas.{two}
 use Rattle.range_code.specs.ParameterNeeds.{unless_found, need_in}
 use Rattle.range_code.specs.Slots.{slots_of, need_at, slot_needs}
 use Rattle.range_code.proofs.Once.{has_once}
-use Rattle.range_code.proofs.Variables.{nothing_behind}
 
 abbrev pub of_asks : List (ℕ × Need) → List ℕ
 of_asks ds = map (λ d. d.0) ds
@@ -39,7 +38,7 @@ either false xs ys us h g = g
 
 plain_or_both : (b : Expr) (plain left right : List (ℕ × Need)) (us : List ℕ) → of_asks plain ≡ us → of_asks left ≡ us → of_asks right ≡ expr_params b → of_asks (cond (is_literal b) plain (left ++ right)) ≡ us ++ expr_params b
 plain_or_both b plain left right us h g k = elim (cases_Bool (is_literal b)) [
-  | inl i ↦ ap (λ c. of_asks (cond c plain (left ++ right))) i ∙ (h ∙ sym (ap (λ l. us ++ l) (no_params b i) ∙ nothing_behind us))
+  | inl i ↦ ap (λ c. of_asks (cond c plain (left ++ right))) i ∙ (h ∙ sym (ap (λ l. us ++ l) (no_params b i) ∙ append-nil us))
   | inr i ↦ ap (λ c. of_asks (cond c plain (left ++ right))) i ∙ both left right us (expr_params b) g k
 ]
 

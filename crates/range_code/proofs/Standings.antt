@@ -4,6 +4,7 @@ use Rattle.std.specs.List.{All, list_any}
 use Rattle.std.proofs.lemmas.Bool.{cases_Bool, true≢false}
 use Rattle.std.proofs.lemmas.List.Elements.{All-nil, All-cons, All-head, All-tail, All-filter}
 use Rattle.std.proofs.lemmas.List.Folds.{list_any-append}
+use Rattle.std.specs.Cmp.{second_so, first_so}
 use Rattle.fd_language.specs.declared.range_node.Feature.{Feature}
 use Rattle.fd_language.specs.declared.range_node.Feature.TheVariants as feature
 use Rattle.fd_language.specs.declared.range_node.RangeNode.{RangeNode}
@@ -55,14 +56,6 @@ pub all_once : (P : ℕ × Feature → Type 0) (ds : List (ℕ × Feature)) → 
 all_once P [] h = All-nil P
 all_once P (d ∷ ds) h = All-cons P d (filter (λ e. not (is_same_pair e d)) (each_once ds)) (All-head P d ds h) (All-filter (λ e. not (is_same_pair e d)) P (each_once ds) (all_once P ds (All-tail P d ds h)))
 
-left : (a b : Bool) → (a && b) ≡ true → a ≡ true
-left true b h = refl
-left false b h = h
-
-right : (a b : Bool) → (a && b) ≡ true → b ≡ true
-right true b h = h
-right false b h = absurd (true≢false (sym h))
-
 same_name : (f g : Feature) → is_same_feature f g ≡ true → f ≡ g
 same_name feature.Min feature.Min h = refl
 same_name feature.Min feature.Max h = absurd (true≢false (sym h))
@@ -82,7 +75,7 @@ same_name feature.Dom feature.Val h = absurd (true≢false (sym h))
 same_name feature.Dom feature.Dom h = refl
 
 pub same_is : (d e : ℕ × Feature) → is_same_pair d e ≡ true → d ≡ e
-same_is d e h = two (λ x f. (x, f)) (eqb-true d.0 e.0 (left (d.0 == e.0) (is_same_feature d.1 e.1) h)) (same_name d.1 e.1 (right (d.0 == e.0) (is_same_feature d.1 e.1) h))
+same_is d e h = two (λ x f. (x, f)) (eqb-true d.0 e.0 (first_so (d.0 == e.0) (is_same_feature d.1 e.1) h)) (same_name d.1 e.1 (second_so (d.0 == e.0) (is_same_feature d.1 e.1) h))
 
 without : (t : ℕ × Feature → Bool) (d : ℕ × Feature) (l : List (ℕ × Feature)) → (t d || list_any t (filter (λ e. not (is_same_pair e d)) l)) ≡ (t d || list_any t l)
 without t d [] = refl

@@ -1,6 +1,6 @@
 -- What is told of slots, one more pair or slot at a time.
 use Rattle.std.proofs.Common.{◌≡◌, ℕ, zero, suc, ◌+◌, ◌<◌, ◌≤◌, Bool, true, false, cond, List, [], ◌∷◌, ◌++◌, length, filter, take, drop, get_or, max, Option, Some, None, refl, sym, ◌∙◌, ap, arith, zero-add, add-zero, map, subst}
-use Rattle.std.proofs.lemmas.List.{take_more, at_drop_more, get_or-map}
+use Rattle.std.proofs.lemmas.List.{take_more, at_drop_more, get_or-map, append-nil, length-map}
 use Rattle.std.proofs.lemmas.List.Elements.{filter-append}
 use Rattle.fd_language.specs.declared.range_node.Feature.{Feature}
 use Rattle.fd_language.specs.declared.range_node.RangeNode.{RangeNode}
@@ -12,8 +12,7 @@ use Rattle.range_code.specs.Kinds.{told_as, all_told}
 use Rattle.range_code.specs.declared.fold.Piece.{Piece}
 use Rattle.range_code.specs.Pieces.{piece_node}
 use Rattle.range_code.specs.Heights.{values_after, sets_after, peak}
-use Rattle.range_code.proofs.Opened.{length_map}
-use Rattle.range_code.proofs.Variables.{nothing_behind, regroup}
+use Rattle.range_code.proofs.Variables.{regroup}
 
 module _ (min most : ℕ → Bool) where
   told_append : (ds es : List (ℕ × Feature)) → all_told min most (ds ++ es) ≡ all_told min most ds ++ all_told min most es
@@ -23,13 +22,13 @@ module _ (min most : ℕ → Bool) where
   -- one more pair
   pub told_more : (ds : List (ℕ × Feature)) (i : ℕ) (d : ℕ × Feature) (old new : List (ℕ × ReadKind)) → i < length ds → old ≡ all_told min most (take i ds) → new ≡ old ++ listed (told_as min most (get_or ds i d)) → new ≡ all_told min most (take (i + 1) ds)
   told_more ds i d old new l e f =
-      f ∙ (ap (λ k. k ++ listed (told_as min most (get_or ds i d))) e ∙ sym (ap (all_told min most) (take_more ds i d l) ∙ (told_append (take i ds) (get_or ds i d ∷ []) ∙ ap (λ k. all_told min most (take i ds) ++ k) (nothing_behind (listed (told_as min most (get_or ds i d)))))))
+      f ∙ (ap (λ k. k ++ listed (told_as min most (get_or ds i d))) e ∙ sym (ap (all_told min most) (take_more ds i d l) ∙ (told_append (take i ds) (get_or ds i d ∷ []) ∙ ap (λ k. all_told min most (take i ds) ++ k) (append-nil (listed (told_as min most (get_or ds i d)))))))
 
 pub told_put : (min most : ℕ → Bool) (ds : List (ℕ × Feature)) (i : ℕ) (d : ℕ × Feature) (old new : List (ℕ × ReadKind)) (o : Option (ℕ × ReadKind)) (k : ℕ × ReadKind) → i < length ds → old ≡ all_told min most (take i ds) → o ≡ told_as min most (get_or ds i d) → o ≡ Some k → new ≡ old ++ k ∷ [] → new ≡ all_told min most (take (i + 1) ds)
 told_put min most ds i d old new o k l e t s f = told_more min most ds i d old new l e (f ∙ ap (λ q. old ++ listed q) (sym s ∙ t))
 
 pub told_left : (min most : ℕ → Bool) (ds : List (ℕ × Feature)) (i : ℕ) (d : ℕ × Feature) (old : List (ℕ × ReadKind)) (o : Option (ℕ × ReadKind)) → i < length ds → old ≡ all_told min most (take i ds) → o ≡ told_as min most (get_or ds i d) → o ≡ None → old ≡ all_told min most (take (i + 1) ds)
-told_left min most ds i d old o l e t s = told_more min most ds i d old old l e (sym (nothing_behind old) ∙ ap (λ q. old ++ listed q) (sym s ∙ t))
+told_left min most ds i d old o l e t s = told_more min most ds i d old old l e (sym (append-nil old) ∙ ap (λ q. old ++ listed q) (sym s ∙ t))
 
 up_append : (low n : ℕ) → count_up low (suc n) ≡ count_up low n ++ (low + n) ∷ []
 up_append low zero = ap (λ k. k ∷ []) (sym (add-zero low))
@@ -46,7 +45,7 @@ pub kept_put : (p : ℕ → Bool) (n : ℕ) (old new : List ℕ) → old ≡ fil
 kept_put p n old new e t f = kept_more p n old new e (f ∙ ap (λ b. old ++ cond b (n ∷ []) []) (sym t))
 
 pub kept_left : (p : ℕ → Bool) (n : ℕ) (old : List ℕ) → old ≡ filter p (count_up 0 n) → p n ≡ false → old ≡ filter p (count_up 0 (n + 1))
-kept_left p n old e t = kept_more p n old old e (sym (nothing_behind old) ∙ ap (λ b. old ++ cond b (n ∷ []) []) (sym t))
+kept_left p n old e t = kept_more p n old old e (sym (append-nil old) ∙ ap (λ b. old ++ cond b (n ∷ []) []) (sym t))
 
 -- the greatest numbers so far and those of the nodes to come
 pub record IsHigh (ms : List RangeNode) (i values sets height whole : ℕ) : Type 0 where
@@ -127,4 +126,4 @@ high_more ms i v s h w v' s' h' d l k a b e =
 pub high_piece : (ps : List Piece) (i v s h w v' s' h' : ℕ) (d : Piece) → i < length ps → IsHigh (map piece_node ps) i v s h w → v' ≡ values_after (piece_node (get_or ps i d)) v → s' ≡ sets_after (piece_node (get_or ps i d)) s → h' ≡ max (max h v') s' → IsHigh (map piece_node ps) (i + 1) v' s' h' w
 high_piece ps i v s h w v' s' h' d l k a b e =
     let same : get_or (map piece_node ps) i node.Infinity ≡ piece_node (get_or ps i d) = get_or-map piece_node ps i d node.Infinity l in
-    high_more (map piece_node ps) i v s h w v' s' h' node.Infinity (subst (λ n. i < n) (sym (length_map piece_node ps)) l) k (a ∙ ap (λ m. values_after m v) (sym same)) (b ∙ ap (λ m. sets_after m s) (sym same)) e
+    high_more (map piece_node ps) i v s h w v' s' h' node.Infinity (subst (λ n. i < n) (sym (length-map ps piece_node)) l) k (a ∙ ap (λ m. values_after m v) (sym same)) (b ∙ ap (λ m. sets_after m s) (sym same)) e

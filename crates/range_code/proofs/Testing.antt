@@ -3,6 +3,7 @@ use Rattle.std.proofs.Common.{◌≡◌, ℕ, suc, ◌+◌, ◌<◌, ◌≤◌, 
 use Rattle.std.specs.List.{All, list_any, position_or_len}
 use Rattle.std.proofs.lemmas.Bool.{cases_Bool, true≢false, or_left, or_right, or_cases}
 use Rattle.std.proofs.lemmas.List.Elements.{All-nil, All-cons, All-head, All-tail}
+use Rattle.std.specs.Cmp.{both_ways}
 use Rattle.fd_language.specs.declared.range_node.Need.{Need}
 use Rattle.fd_language.specs.declared.TheConstants.{INFINITY}
 use Rattle.fd_language.specs.Family.{Family, IsRising, has}
@@ -190,16 +191,12 @@ module _ (r : Range) (one : has_one_use r ≡ true) where
 
   -- some slot of a test passes where some variable that is read does
   pub any_tested : (t : ℕ → Bool) → list_any t (without_need 0 (slot_needs r)) ≡ list_any (λ d. t d.0) (features_of (in_slots r))
-  any_tested t = same_bool (list_any t some_slots) (list_any (λ d. t d.0) (features_of (in_slots r)))
+  any_tested t = both_ways (list_any t some_slots) (list_any (λ d. t d.0) (features_of (in_slots r)))
       (λ g. let k = any_from t some_slots g in any_read t (in_slots r) ∙ any_to t (reads (in_slots r)) k.0 (tested_read k.0 k.1) k.2)
       (λ g.
       let k = any_from t (reads (in_slots r)) (sym (any_read t (in_slots r)) ∙ g) in
       let j = map_has (slot_of r) (reads r) k.0 (sym (ap (λ xs. has xs k.0) (reads_map (slot_of r) r)) ∙ k.1) in
-      any_to t some_slots k.0 (ap (has some_slots) (sym j.2) ∙ read_tested j.0 j.1) k.2) where
-        same_bool : (a b : Bool) → (a ≡ true → b ≡ true) → (b ≡ true → a ≡ true) → a ≡ b
-        same_bool true b f g = sym (f refl)
-        same_bool false true f g = g refl
-        same_bool false false f g = refl
+      any_to t some_slots k.0 (ap (has some_slots) (sym j.2) ∙ read_tested j.0 j.1) k.2)
 
 -- what rises where all tests pass
 rises_at : (S : Family) (some : List ℕ) (is : List RangeInstr) (s : ℕ) → All (TestRises S) (map instr.NeedSome some ++ is) → has some s ≡ true → IsRising 0 INFINITY (S s)

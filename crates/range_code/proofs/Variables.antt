@@ -1,5 +1,6 @@
 -- The variables of a range's nodes are those of its places.
 use Rattle.std.proofs.Common.{◌≡◌, ℕ, List, [], ◌∷◌, ◌++◌, map, refl, ◌∙◌, ap}
+use Rattle.std.proofs.lemmas.List.{append-nil}
 use Rattle.fd_language.specs.declared.range_node.RangeNode.{RangeNode}
 use Rattle.fd_language.specs.declared.range_node.RangeNode.TheVariants as node
 use Rattle.fd_language.specs.Range.{Range, Span, One, Dom, Union, Inter, Outside, Plus, Minus, Times, Over, Expr, Number, Infinity, Param, Min, Max, Val, Add, Sub, Mul, DivDown, DivUp}
@@ -14,10 +15,6 @@ of_places ps = map (λ q. q.variable) ps
 of_both : (ps qs : List Place) (rest : List ℕ) → of_places ps ++ (of_places qs ++ rest) ≡ of_places (ps ++ qs) ++ rest
 of_both [] qs rest = refl
 of_both (q ∷ ps) qs rest = ap (λ l. q.variable ∷ l) (of_both ps qs rest)
-
-pub nothing_behind : {A : Type 0} (xs : List A) → xs ++ [] ≡ xs
-nothing_behind [] = refl
-nothing_behind (x ∷ xs) = ap (λ l. x ∷ l) (nothing_behind xs)
 
 pub regroup : {A : Type 0} (xs ys zs : List A) → xs ++ (ys ++ zs) ≡ (xs ++ ys) ++ zs
 regroup [] ys zs = refl
@@ -49,11 +46,11 @@ range_variables (Dom y) rest = refl
 range_variables (Outside r) rest = range_variables r (node.Outside ∷ rest)
 
 pub node_variables_of : (r : Range) → node_variables (nodes_of r) ≡ map (λ q. q.variable) (range_places r)
-node_variables_of r = range_variables r [] ∙ nothing_behind (of_places (range_places r))
+node_variables_of r = range_variables r [] ∙ append-nil (of_places (range_places r))
 
 -- the variables of one more node
 pub one_more : (ms : List RangeNode) (m : RangeNode) → node_variables (ms ++ m ∷ []) ≡ node_variables ms ++ listed (node_variable m)
-one_more [] m = nothing_behind (listed (node_variable m))
+one_more [] m = append-nil (listed (node_variable m))
 one_more (n ∷ ms) m = ap (λ l. listed (node_variable n) ++ l) (one_more ms m) ∙ regroup (listed (node_variable n)) (node_variables ms) (listed (node_variable m))
 
 expr_names : (f : ℕ → ℕ) (e : Expr) (rest : List RangeNode) → map (rename_node f) (expr_nodes e rest) ≡ expr_nodes (rename_expr f e) (map (rename_node f) rest)

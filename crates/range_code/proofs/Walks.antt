@@ -6,6 +6,7 @@ use Rattle.range_code.specs.declared.frame.Arg.{Arg}
 use Rattle.range_code.specs.Nodes.{IsReadable}
 use Rattle.range_code.proofs.Placing.{at_drop, all_back}
 use Rattle.std.proofs.lemmas.List.{at_drop_more, drop_all}
+use Rattle.std.proofs.lemmas.Option.{same_Some}
 use Rattle.fd_language.specs.declared.range_node.RangeNode.{RangeNode}
 use Rattle.fd_language.specs.declared.range_node.RangeNode.TheVariants as node
 use Rattle.fd_language.specs.Family.{Family}
@@ -24,9 +25,6 @@ use Rattle.range_code.specs.Instructions.{node_of}
 use Rattle.range_code.specs.StepNodes.{steps_from, all_steps, IsAt}
 use Rattle.domain_ranges.specs.Narrowing.{between}
 use Rattle.range_code.specs.Work.{filled_value, filled_set, Fits, RangeFits, CanOperate, CanMove, CanTake, stacked_values, stacked_sets, IsPending, Follows, IsTaken}
-
-some_same : (r q : Range) → Some r ≡ Some q → r ≡ q
-some_same r q e = cc
 
 -- the last of two equal lists
 record SameEnds (A : Type 0) (xs ys : List A) (x y : A) : Type 0 where
@@ -64,7 +62,7 @@ module _ (S : Family) (p : ℕ → ℤ) where
   all_fit : (ns : List RangeNode) (rs : List Range) (ts : List Expr) (r : Range) → Some r ≡ built ns rs ts → RangeFits S p r → Fit rs ts
   all_fit [] [] [] r e h = absurd cc
   all_fit [] [] (t ∷ ts) r e h = absurd cc
-  all_fit [] (q ∷ []) [] r e h = record { ranges = (subst (RangeFits S p) (some_same r q e) h, tt); terms = tt }
+  all_fit [] (q ∷ []) [] r e h = record { ranges = (subst (RangeFits S p) (same_Some r q e) h, tt); terms = tt }
   all_fit [] (q ∷ []) (t ∷ ts) r e h = absurd cc
   all_fit [] (q ∷ x ∷ rs) [] r e h = absurd cc
   all_fit [] (q ∷ x ∷ rs) (t ∷ ts) r e h = absurd cc
@@ -248,7 +246,7 @@ alone S p r [] (t ∷ ts) w e h = absurd cc
 alone S p r (q ∷ []) (t ∷ ts) w e h = absurd cc
 alone S p r (q ∷ x ∷ rs) [] w e h = absurd cc
 alone S p r (q ∷ x ∷ rs) (t ∷ ts) w e h = absurd cc
-alone S p r (q ∷ []) [] w e h = h.sets ∙ ap (λ k. filled_set S p k ∷ []) (sym (some_same r q e))
+alone S p r (q ∷ []) [] w e h = h.sets ∙ ap (λ k. filled_set S p k ∷ []) (sym (same_Some r q e))
 
 -- behind the last instruction there is the set of the range alone
 pub set_alone : (S : Family) (p : ℕ → ℤ) (s : Steps) (i : ℕ) (w : Work) → length s.instrs.items ≤ i → IsAt S p s i w → w.sets.sets ≡ filled_set S p (spelled (all_steps s)) ∷ []
@@ -266,7 +264,7 @@ ends_of S p r rs [] items e h = absurd cc
 ends_of S p r rs (b ∷ []) items e h = absurd cc
 ends_of S p r rs (b ∷ a ∷ c ∷ ts) items e h = absurd cc
 ends_of S p r (q ∷ rs) (b ∷ a ∷ []) items e h = absurd cc
-ends_of S p r [] (b ∷ a ∷ []) items e h = (filled_value S p a, filled_value S p b, h, ap (filled_set S p) (some_same r (Span a b) e))
+ends_of S p r [] (b ∷ a ∷ []) items e h = (filled_value S p a, filled_value S p b, h, ap (filled_set S p) (same_Some r (Span a b) e))
 
 pub last_ends : (S : Family) (p : ℕ → ℤ) (s : Steps) (i : ℕ) (d : RangeInstr) (w : Work) → IsLast s i → get_or s.instrs.items i d ≡ instr.Span → IsAt S p s i w → Ends S p s w
 last_ends S p s i d w l is (rs, ts, e, k) =
@@ -285,7 +283,7 @@ inner_of S p r [] [] sets e h = absurd cc
 inner_of S p r [] (t ∷ ts) sets e h = absurd cc
 inner_of S p r (q ∷ x ∷ rs) [] sets e h = absurd cc
 inner_of S p r (q ∷ rs) (t ∷ ts) sets e h = absurd cc
-inner_of S p r (q ∷ []) [] sets e h = (q, [], h, ap (filled_set S p) (some_same r (Outside q) e) ∙ sym (outside_is INFINITY (in_range INFINITY S (fill_range p q))))
+inner_of S p r (q ∷ []) [] sets e h = (q, [], h, ap (filled_set S p) (same_Some r (Outside q) e) ∙ sym (outside_is INFINITY (in_range INFINITY S (fill_range p q))))
 
 pub last_inner : (S : Family) (p : ℕ → ℤ) (s : Steps) (i : ℕ) (d : RangeInstr) (w : Work) → IsLast s i → get_or s.instrs.items i d ≡ instr.Outside → IsAt S p s i w → Inner S p s w
 last_inner S p s i d w l is (rs, ts, e, k) =

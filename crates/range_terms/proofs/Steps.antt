@@ -2,6 +2,7 @@
 use Rattle.std.proofs.Common.{◌≡◌, ℕ, ◌<◌, ◌+◌, ◌*◌, List, [], ◌∷◌, ◌++◌, length, Some, sym, ap, subst, ◌∙◌, arith}
 use Rattle.std.specs.Prelude.{All}
 use Rattle.std.proofs.lemmas.List.Elements.{All-nil, All-cons, All-head, All-tail, All-weaker}
+use Rattle.std.proofs.lemmas.Option.{same_Some}
 use Rattle.fd_language.specs.declared.range_node.RangeNode.{RangeNode}
 use Rattle.fd_language.specs.PlacedTerm.{PlacedTerm, var}
 use Rattle.term_pool.specs.declared.TermId.{TermId}
@@ -22,14 +23,11 @@ use Rattle.range_terms.specs.Forms.{of_operand, IsForm, IsNoVariable}
 use Rattle.range_terms.specs.Walk.{IsOf, Replaces}
 use Rattle.range_terms.proofs.Walks.{load_two, load_three, step_open}
 
-same_some : (s u : Shape) → Some s ≡ Some u → s ≡ u
-same_some s u e = cc
-
 -- the form of a term is that of its shape
 pub at_shape : (c : Contents) → IsPool c → (o : Operand) (s u : Shape) (p : ℕ) (f : Form) → shape_at c o.term ≡ Some u → shape_at c o.term ≡ Some s → place_at c o.term ≡ Some p
     → IsForm c (wanted o.position (placed_by c.names (placed_of c) p u)) p (parts_of u) f → IsForm c (of_operand c o) p (parts_of s) f
 at_shape c v o s u p f hu hs hp h =
-    let same : u ≡ s = same_some u s (sym hu ∙ hs) in
+    let same : u ≡ s = same_Some u s (sym hu ∙ hs) in
     let placed : placed_of c o.term ≡ placed_by c.names (placed_of c) p u = placed_of_shape c v o.term u p hu hp in
     subst (λ (x : PlacedTerm). IsForm c (wanted o.position x) p (parts_of s) f) (sym placed) (subst (λ (r : Shape). IsForm c (wanted o.position (placed_by c.names (placed_of c) p u)) p (parts_of r) f) same h)
 

@@ -3,7 +3,7 @@ use Rattle.std.proofs.Common.{◌≡◌, ◌≤◌, ℕ, zero, suc, ◌+◌, Boo
 use Rattle.std.specs.Prelude.{reverse, nat_lt, ◌&&◌}
 use Rattle.std.specs.Fmt.{digits}
 use Rattle.std.specs.Str.{chars, IsAscii}
-use Rattle.std.proofs.lemmas.Bool.{ltb-true}
+use Rattle.std.proofs.lemmas.Bool.{ltb-true, and_parts}
 use Rattle.std.proofs.lemmas.Str.{IsUtf8-from_ascii}
 use Rattle.fd_language.specs.Characters.{is_symbol, is_punct, begins_variable}
 use Rattle.fd_language.specs.Operators.{is_operator, infix_of, prefix_of}
@@ -184,15 +184,10 @@ each_passes (suc (suc (suc (suc (suc (suc (suc (suc (suc (suc (suc (suc (suc n))
 pub queens_short : (n : ℕ) → 4 ≤ n → n ≤ 12 → length (queens_text n) ≤ max_text
 queens_short n least most = (each_passes n least most).size
 
-both_true : (a b : Bool) → (a && b) ≡ true → (a ≡ true) × (b ≡ true)
-both_true true true h = (refl, refl)
-both_true true false h = absurd (cc)
-both_true false b h = absurd (cc)
-
 ascii_at : (bs : List ℕ) → all_ascii bs ≡ true → IsAscii bs
 ascii_at [] h i = omega arith
-ascii_at (b ∷ bs) h zero = ltb-true b 128 (both_true (nat_lt b 128) (all_ascii bs) h).0
-ascii_at (b ∷ bs) h (suc i) = ascii_at bs (both_true (nat_lt b 128) (all_ascii bs) h).1 i
+ascii_at (b ∷ bs) h zero = ltb-true b 128 (and_parts (nat_lt b 128) (all_ascii bs) h).0
+ascii_at (b ∷ bs) h (suc i) = ascii_at bs (and_parts (nat_lt b 128) (all_ascii bs) h).1 i
 
 -- a program with one query
 pub record OneQuery (text : List ℕ) : Type 0 where

@@ -3,6 +3,7 @@ use Rattle.std.proofs.Common.{◌≡◌, ℕ, suc, ◌-◌, ◌<◌, ◌==◌, B
 use Rattle.std.proofs.lemmas.Bool.{cases_Bool, true≢false}
 use Rattle.std.specs.Result.{IfOk, OnOk}
 use Rattle.std.proofs.lemmas.Option.{same_Some}
+use Rattle.std.proofs.Math.Seq.{drop-length}
 use Rattle.fd_language.specs.declared.NoMemory.{NoMemory}
 use Rattle.fd_language.specs.declared.TheConstants.{INFINITY}
 use Rattle.fd_language.specs.Family.{has}
@@ -55,10 +56,6 @@ use Rattle.term_instructions.proofs.Unify.{fits_owed}
 use Rattle.term_instructions.proofs.ReadSteps.{read_all}
 use Rattle.term_instructions.proofs.Structure.{grown_safe, sound_safe, equated_safe, made_keeps}
 
-drop_all : {X : Type 0} (xs : List X) → drop (length xs) xs ≡ []
-drop_all [] = refl
-drop_all (x ∷ xs) = drop_all xs
-
 -- ---- the arguments of one that is there
 
 -- what was touched is posted, or has no model
@@ -74,7 +71,7 @@ read_then area cells s told from c s1 told1 at c1 g s2 given is true E heap belo
       below = below_both s s1 s2 g.below below;
       stands = λ shown name b n m.
           let k = g.keeps shown name b n m in
-          let ended : Reads INFINITY area shown name s1.heaps.now (posted_with s1 told1) 0 at (registers_of c1) [] (stack_of c1) b = subst (λ l. Reads INFINITY area shown name s1.heaps.now (posted_with s1 told1) 0 at (registers_of c1) l (stack_of c1) b) (drop_all cells) k in
+          let ended : Reads INFINITY area shown name s1.heaps.now (posted_with s1 told1) 0 at (registers_of c1) [] (stack_of c1) b = subst (λ l. Reads INFINITY area shown name s1.heaps.now (posted_with s1 told1) 0 at (registers_of c1) l (stack_of c1) b) (drop-length cells) k in
           let st = read_end INFINITY area shown name s1.heaps.now (posted_with s1 told1) at (registers_of c1) (stack_of c1) b ended in
           subst (λ ps. Stands INFINITY area shown name s2.heaps.now ps at (registers_of c1) (stack_of c1) b) ps (subst (λ h. Stands INFINITY area shown name h.now (posted_with s1 told1) at (registers_of c1) (stack_of c1) b) (sym heap) st);
     }
@@ -86,7 +83,7 @@ read_then area cells s told from c s1 told1 at c1 g s2 given is false E heap bel
       below = below_both s s1 s2 g.below below;
       stands = λ shown name b n m.
           let k = g.keeps shown name b n m in
-          let ended : Reads INFINITY area shown name s1.heaps.now (posted_with s1 told1) 0 at (registers_of c1) [] (stack_of c1) b = subst (λ l. Reads INFINITY area shown name s1.heaps.now (posted_with s1 told1) 0 at (registers_of c1) l (stack_of c1) b) (drop_all cells) k in
+          let ended : Reads INFINITY area shown name s1.heaps.now (posted_with s1 told1) 0 at (registers_of c1) [] (stack_of c1) b = subst (λ l. Reads INFINITY area shown name s1.heaps.now (posted_with s1 told1) 0 at (registers_of c1) l (stack_of c1) b) (drop-length cells) k in
           let st = read_end INFINITY area shown name s1.heaps.now (posted_with s1 told1) at (registers_of c1) (stack_of c1) b ended in
           stands_no_model INFINITY area shown name s1.heaps.now (posted_with s1 told1) at (registers_of c1) (stack_of c1) b st (subst branch.HasNoModel (ap (posted_with s1) is) none);
     }

@@ -1,6 +1,6 @@
 -- The instructions of the unify group, where arguments are owed.
 use Rattle.std.proofs.Common.{◌≡◌, ℕ, zero, suc, ◌-◌, ◌<◌, ◌≤◌, nat_le, true, List, length, Some, None, refl, ap, sym, ◌∙◌, arith, ℤ}
-use Rattle.std.proofs.lemmas.Option.{slice_get_within}
+use Rattle.std.proofs.lemmas.Option.{slice_get_within, none-some}
 use Rattle.term_pool.proofs.Lemmas.{slice_get_found}
 use Rattle.std.proofs.lemmas.Bool.Decides.{nat_tests}
 use Rattle.term_pool.specs.declared.AtomId.{AtomId}
@@ -78,11 +78,8 @@ no_void area at p (term t ts) next q some f o = (at_unify area at p t ts next q 
 same_code : (area : Area) (at : ℕ) (i j : Code) → Holds area at i → Holds area at j → i ≡ j
 same_code area at i j f g = let e : Some i ≡ Some j = sym f ∙ g in cc
 
-none_some : (t : State) → None ≡ Some t → ⊥
-none_some t e = cc
-
 no_unify : (area : Area) (at : ℕ) (i : Code) → Holds area at i → ((s : State) → unify_effect i s ≡ None) → IsUnifyAt area at → ⊥
-no_unify area at i f none u = none_some u.2 (sym (none u.1) ∙ ap (λ j. unify_effect j u.1) (same_code area at i u.0 f u.3) ∙ u.4)
+no_unify area at i f none u = none-some u.2 (sym (none u.1) ∙ ap (λ j. unify_effect j u.1) (same_code area at i u.0 f u.3) ∙ u.4)
 
 pub only_unify : (area : Area) (at : ℕ) (i : Code) → Holds area at i → IsUnifyAt area at → ((r : Register) → i ≡ UnifyVariable r → ⊥) → ((r : Register) → i ≡ UnifyValue r → ⊥) → ((c : AtomId) → i ≡ UnifyConstant c → ⊥) → ((z : ℤ) → i ≡ UnifyInteger z → ⊥) → ((n : ℕ) → i ≡ UnifyVoid n → ⊥) → ⊥
 only_unify area at (UnifyVariable r) h u no1 no2 no3 no4 no5 = no1 r refl

@@ -1,7 +1,7 @@
 -- A placed term without its places is the pool's term, and has the pool's place.
 use Rattle.std.proofs.Common.{◌≡◌, ℕ, List, [], ◌∷◌, ◌++◌, Option, Some, None, refl, sym, ap, ◌∙◌, map}
 use Rattle.std.specs.Prelude.{slice_get, unwrap_or, option_map}
-use Rattle.std.proofs.lemmas.List.{map-append, append_assoc}
+use Rattle.std.proofs.lemmas.List.{map-append, append_assoc, append-nil}
 use Rattle.std.proofs.lemmas.Option.{slice_get-map}
 use Rattle.fd_language.specs.Term.{Name, Term, Atom, Comp, term}
 use Rattle.fd_language.specs.PlacedTerm.{PlacedTerm, atom, plain, all_plain, place}
@@ -49,11 +49,7 @@ by_place names p at (pool.atom a) = refl
 by_place names p at (pool.comp f ts) = refl
 
 from_places : (names : List Name) (ts : List PlacedTerm) (es : List Entry) → map place (placed_from names ts es) ≡ map place ts ++ map (λ e. e.place) es
-from_places names ts [] = sym (append_nil (map place ts))
-  where
-    append_nil : (xs : List ℕ) → xs ++ [] ≡ xs
-    append_nil [] = refl
-    append_nil (x ∷ xs) = ap (λ (ys : List ℕ). x ∷ ys) (append_nil xs)
+from_places names ts [] = sym (append-nil (map place ts))
 from_places names ts (e ∷ es) =
     let x = placed_by names (numbered ts) e.place e.shape in
     from_places names (ts ++ x ∷ []) es

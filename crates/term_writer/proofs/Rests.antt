@@ -40,7 +40,7 @@ module _ (c : Contents) (t : TermId) where
     pub rest_curly : (u : TermId) → IsForm f ts (form.Curly u) → IsRest c t rest.Tail
     rest_curly u h =
         tail_as (Comp f (terms_by (term_of c) (u ∷ []))) (as_parts (u ∷ []) h.0) (λ mode vars.
-        let x : Spelling = spelled mode vars (term_of c u) in
+        let x : TermText = spelled mode vars (term_of c u) in
         either (bytes_eq f (codes "{}")) (codes "{" ++ (x.at 1200 ++ codes "}")) (call_text mode f (x ∷ [])))
       where
         either : (b : Bool) (v w : List ℕ) → IsTail (cond b (spelled_alone v) (spelled_alone w))
@@ -50,8 +50,8 @@ module _ (c : Contents) (t : TermId) where
     pub rest_operation : (r : CodeOperator) (u v : TermId) → IsForm f ts (form.Infix r u v) → IsRest c t rest.Tail
     rest_operation r u v h =
         tail_as (Comp f (terms_by (term_of c) (u ∷ v ∷ []))) (as_parts (u ∷ v ∷ []) h.0) (λ mode vars.
-        let x : Spelling = spelled mode vars (term_of c u) in
-        let y : Spelling = spelled mode vars (term_of c v) in
+        let x : TermText = spelled mode vars (term_of c u) in
+        let y : TermText = spelled mode vars (term_of c v) in
         subst (λ (b : Bool). IsTail (cond b (record { at = λ limit. codes "[" ++ (x.at 999 ++ (y.rest ++ codes "]")); rest = codes "," ++ (x.at 999 ++ y.rest) }) (spelled_infix mode f (infix_of f) x y))) (sym h.1)
         (subst (λ (o : Option Operator). IsTail (spelled_infix mode f o x y)) (sym h.2) refl))
 
@@ -66,8 +66,8 @@ module _ (c : Contents) (t : TermId) where
           first_within = first_within (length c.entries) u (v ∷ []) both;
           more_within = second_within (length c.entries) u v [] both;
           text = λ mode vars.
-              let x : Spelling = spelled mode vars (term_of c u) in
-              let y : Spelling = spelled mode vars (term_of c v) in
+              let x : TermText = spelled mode vars (term_of c u) in
+              let y : TermText = spelled mode vars (term_of c v) in
               ap (λ (z : Term). (spelled mode vars z).rest) is
               ∙ ap (λ (b : Bool). (cond b (record { at = λ limit. codes "[" ++ (x.at 999 ++ (y.rest ++ codes "]")); rest = codes "," ++ (x.at 999 ++ y.rest) }) (spelled_infix mode f (infix_of f) x y)).rest) h.1;
           lighter = omega (arith, ap weight is);

@@ -164,8 +164,8 @@ module _ (c : Contents) (mode : Mode) (vars : ℕ → List ℕ) where
       → Replaces c mode vars ((spelled_compound mode f (spelled_each mode vars (terms_by (term_of c) ts))).at limit) (8 + weights (terms_by (term_of c) ts)) text old text new
   unfolding finished piece_text load piece_weight
   cell f ts t u limit text old new closing opening pushed k o all e is =
-      let x : Spelling = spelled mode vars (term_of c t) in
-      let y : Spelling = spelled mode vars (term_of c u) in
+      let x : TermText = spelled mode vars (term_of c t) in
+      let y : TermText = spelled mode vars (term_of c u) in
       let both = subst (All (λ t. t.number < length c.entries)) e all in
       let front : joined (x.at 999) y.rest ≡ x.at 999 ++ y.rest = join_right (x.at 999) y.rest (rest_plain mode vars (term_of c u)) in
       subst (λ (us : List TermId). Replaces c mode vars ((spelled_compound mode f (spelled_each mode vars (terms_by (term_of c) us))).at limit) (8 + weights (terms_by (term_of c) us)) text old text new) (sym e)
@@ -193,8 +193,8 @@ module _ (c : Contents) (mode : Mode) (vars : ℕ → List ℕ) where
       → Replaces c mode vars ((spelled_compound mode f (spelled_each mode vars (terms_by (term_of c) ts))).at limit) (8 + weights (terms_by (term_of c) ts)) text old text new
   unfolding finished piece_text load piece_weight
   operation f ts r t u limit low high text before behind old new closing op opening pushed k p o behind_is before_is low_is high_is all e is found =
-      let x : Spelling = spelled mode vars (term_of c t) in
-      let y : Spelling = spelled mode vars (term_of c u) in
+      let x : TermText = spelled mode vars (term_of c t) in
+      let y : TermText = spelled mode vars (term_of c u) in
       let q : Operator = operator_of f r in
       let both = subst (All (λ t. t.number < length c.entries)) e all in
       let a : List ℕ = x.at low in
@@ -269,8 +269,8 @@ module _ (c : Contents) (mode : Mode) (vars : ℕ → List ℕ) where
       → Replaces c mode vars (spelled mode vars (term_of c t)).rest (weight (term_of c t) + 2) text old text new
   unfolding finished piece_text load piece_weight
   rest_cell t first more text old new comma pushed k is =
-      let x : Spelling = spelled mode vars (term_of c first) in
-      let y : Spelling = spelled mode vars (term_of c more) in
+      let x : TermText = spelled mode vars (term_of c first) in
+      let y : TermText = spelled mode vars (term_of c more) in
       record {
         more = piece.Rest more ∷ piece.Term first 999 ∷ comma ∷ [];
         pushed = pushed;

@@ -4,6 +4,8 @@ use Rattle.std.specs.Prelude.{All}
 use Rattle.std.proofs.Math.Seq.{take-suc}
 use Rattle.std.proofs.lemmas.List.{map-append, take-append-drop}
 use Rattle.std.proofs.lemmas.List.Elements.{All-append}
+use Rattle.std.proofs.Math.Bool.{or-false}
+use Rattle.std.proofs.lemmas.Bool.{or_right}
 use Rattle.term_pool.specs.declared.AtomId.{AtomId}
 use Rattle.term_pool.specs.Terms.{size, sizes}
 use Rattle.fd_language.specs.Term.{Term, Comp}
@@ -25,10 +27,6 @@ use Rattle.unify_core.proofs.Reducing.{IsCompound, compound_term_is}
 or_assoc : (a b c : Bool) → ((a || b) || c) ≡ (a || (b || c))
 or_assoc true b c = refl
 or_assoc false b c = refl
-
-or_nothing : (a : Bool) → (a || false) ≡ a
-or_nothing true = refl
-or_nothing false = refl
 
 occurs_any-append : (v : ℕ) (by : Cell → Term) (cs ds : List Cell) → occurs_any v (terms_by by (cs ++ ds)) ≡ (occurs_any v (terms_by by cs) || occurs_any v (terms_by by ds))
 occurs_any-append v by [] ds = refl
@@ -66,7 +64,7 @@ module _ (h : Cells) (v : ℕ) (cs : List Cell) (c : Cell) (old now : List ℕ) 
     own = l.own;
     same = λ name.
         let T = term_of name h in
-        l.same name ∙ sym (occurs_any-append v T cs (c ∷ []) ∙ ap (λ b. occurs_any v (terms_by T cs) || (b || false)) (absent name) ∙ or_nothing (occurs_any v (terms_by T cs)));
+        l.same name ∙ sym (occurs_any-append v T cs (c ∷ []) ∙ ap (λ b. occurs_any v (terms_by T cs) || (b || false)) (absent name) ∙ or-false (occurs_any v (terms_by T cs)));
     smaller = let e = sizes-append (term_of unnamed h) cs (c ∷ []) in let s = l.smaller in omega arith;
   }
 
@@ -114,12 +112,8 @@ module _ (h : Cells) (valid : IsHeap h) (v : ℕ) (ahead : List ℕ) (at : ℕ) 
   last_is name =
       let T = term_of name h in
       let a = occurs_any v (terms_by T (compounds ahead)) in
-      sym (ap (λ b. a || b) (or_nothing (occurs v (T (cell.Struct at))) ∙ ap (occurs v) (compound_term_is name h valid (cell.Struct at) f args compound)))
+      sym (ap (λ b. a || b) (or-false (occurs v (T (cell.Struct at))) ∙ ap (occurs v) (compound_term_is name h valid (cell.Struct at) f args compound)))
       ∙ sym (any_compounds-append v T ahead (at ∷ [])) ∙ looks.same name
-
-  or_right : (a b : Bool) → b ≡ true → (a || b) ≡ true
-  or_right true b e = refl
-  or_right false b e = e
 
   pub found_there : OccursAmong h v args → TellsOccurs h v top true
   found_there there name = sym (sym (last_is name) ∙ or_right (occurs_any v (terms_by (term_of name h) (compounds ahead))) (occurs_any v (terms_by (term_of name h) args)) (there name))

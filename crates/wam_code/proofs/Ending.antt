@@ -1,6 +1,7 @@
 -- Steps without a reduction come to an end.
 use Rattle.std.proofs.Common.{◌≡◌, ℕ, zero, suc, ◌+◌, ◌*◌, ◌<◌, ◌≤◌, List, ◌∷◌, arith}
 use Rattle.std.proofs.lemmas.Nat.{mul-le}
+use Rattle.std.proofs.Math.Nat.{mul-le-mul_right}
 use Rattle.wam_code.specs.Ending.{weight, return_work, Thread, work}
 
 weight_up : (d e : ℕ) → d ≤ e → weight d ≤ weight e
@@ -12,9 +13,6 @@ weight_up (suc d) (suc e) l = let w = weight_up d e (omega (arith, l)) in omega 
 weight_some : (d : ℕ) → 1 ≤ weight d
 weight_some d = weight_up zero d (omega arith)
 
-times_up : (a b k : ℕ) → a ≤ b → a * k ≤ b * k
-times_up a b k l = mul-le a k b k l (omega arith)
-
 times_split : (a b k : ℕ) → suc (a + b) * k ≡ a * k + b * k + k
 times_split a b k = grind arith
 
@@ -24,8 +22,8 @@ pub fork_falls : (d e f : ℕ) (ds : List ℕ) (ts : List Thread) → e < d → 
 fork_falls zero e f ds ts l m = absurd (omega (arith, l))
 fork_falls (suc d) e f ds ts l m =
     let k : ℕ = suc (return_work ds) in
-    let a = times_up (weight e) (weight d) k (weight_up e d (omega (arith, l))) in
-    let b = times_up (weight f) (weight d) k (weight_up f d (omega (arith, m))) in
+    let a = mul-le-mul_right k (weight_up e d (omega (arith, l))) in
+    let b = mul-le-mul_right k (weight_up f d (omega (arith, m))) in
     let c = times_split (weight d) (weight d) k in
     omega (arith, a, b, c)
 
@@ -37,7 +35,7 @@ step_falls d e ds ts l = let f = fork_falls d e e ds ts l l in omega (arith, f)
 pub proceed_falls : (d e : ℕ) (ds : List ℕ) (ts : List Thread) → work (record { distance = e; returns = ds } ∷ ts) < work (record { distance = d; returns = e ∷ ds } ∷ ts)
 proceed_falls d e ds ts =
     let k : ℕ = suc (weight e * suc (return_work ds)) in
-    let a = times_up 1 (weight d) k (weight_some d) in
+    let a = mul-le-mul_right k (weight_some d) in
     let b : 1 * k ≡ k = omega arith in
     omega (arith, a, b)
 
@@ -45,6 +43,6 @@ proceed_falls d e ds ts =
 pub back_falls : (d : ℕ) (ds : List ℕ) (ts : List Thread) → work ts < work (record { distance = d; returns = ds } ∷ ts)
 back_falls d ds ts =
     let k : ℕ = suc (return_work ds) in
-    let a = times_up 1 (weight d) k (weight_some d) in
+    let a = mul-le-mul_right k (weight_some d) in
     let b : 1 * k ≡ k = omega arith in
     omega (arith, a, b)

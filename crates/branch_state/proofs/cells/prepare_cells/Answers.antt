@@ -1,7 +1,7 @@
 use Rattle.std.specs.Map.{lookup}
 use Rattle.std.specs.Ordering.{int_eq}
 use Rattle.std.proofs.Common.{◌≡◌, ◌∙◌, ◌<◌, ℕ, ℤ, List, Option, None, [], length, take, get_or, ap, sym, subst, arith}
-use Rattle.std.proofs.lemmas.List.{length-map}
+use Rattle.std.proofs.lemmas.List.{length-map, take_all}
 use Rattle.std.proofs.lemmas.List.Elements.{All-get_or}
 use Rattle.fd_language.specs.declared.range_node.Need.{Need}
 use Rattle.heap_cells.specs.declared.Cell.TheVariants.{Ref}
@@ -15,7 +15,7 @@ use Rattle.branch_state.specs.CellNaming.{shown_as, shown_slots, slots_open, Nam
 use Rattle.branch_state.specs.Naming.{offence, first_in, with_sets}
 use Rattle.branch_state.proofs.CellsReady.{cell_shown, cells_start, cells_more}
 use Rattle.branch_state.proofs.Looking.{can_name, none_first}
-use Rattle.branch_state.proofs.Preparing.{fine_at, take_all}
+use Rattle.branch_state.proofs.Preparing.{fine_at}
 use Rattle.branch_state.proofs.TermNaming.{still_of, still_shown}
 use Rattle.branch_state.proofs.cells.prepare_cells.Goals as goal
 
@@ -112,7 +112,7 @@ returns-clause-ready g c = λ name t looks.
     let see = shown_slots name c.args.heap.now.now c.args.store.now.current.sets c.args.code.now c.args.cells.now in
     let of = get int_eq c.loop-index.numbers.variables in (
       of,
-      subst (λ (ns : List (Option Need)). AreCellsReady t see c.args.heap.now.now c.args.store.now.current.sets slots ns c.loop-index.heap.now c.loop-index.store.current.sets c.loop-index.numbers.told.items of c.in_ok-target.target c.loop-index.args.items) (take_all needs i (omega (arith, past, len)))
-          (subst (λ (ys : List ℕ). AreCellsReady t see c.args.heap.now.now c.args.store.now.current.sets ys (take i needs) c.loop-index.heap.now c.loop-index.store.current.sets c.loop-index.numbers.told.items of c.in_ok-target.target c.loop-index.args.items) (take_all slots i (omega (arith, past, len, same)))
+      subst (λ (ns : List (Option Need)). AreCellsReady t see c.args.heap.now.now c.args.store.now.current.sets slots ns c.loop-index.heap.now c.loop-index.store.current.sets c.loop-index.numbers.told.items of c.in_ok-target.target c.loop-index.args.items) (take_all i needs (omega (arith, past, len)))
+          (subst (λ (ys : List ℕ). AreCellsReady t see c.args.heap.now.now c.args.store.now.current.sets ys (take i needs) c.loop-index.heap.now c.loop-index.store.current.sets c.loop-index.numbers.told.items of c.in_ok-target.target c.loop-index.args.items) (take_all i slots (omega (arith, past, len, same)))
           (c.loop-index.invariant.ready name t looks)),
     )

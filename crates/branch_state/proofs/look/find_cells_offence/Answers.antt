@@ -1,5 +1,5 @@
 use Rattle.std.proofs.Common.{◌≡◌, ◌∙◌, ◌+◌, ◌<◌, suc, ℕ, List, Option, None, length, take, get_or, ap, sym, subst, arith}
-use Rattle.std.proofs.lemmas.List.{length-map}
+use Rattle.std.proofs.lemmas.List.{length-map, take_all}
 use Rattle.fd_language.specs.declared.range_node.Need.{Need}
 use Rattle.fd_language.specs.Term.{Term}
 use Rattle.fd_model.specs.declared.kinds.QueryFault.{QueryFault}
@@ -9,7 +9,6 @@ use Rattle.branch_state.specs.CellNaming.{shown_slots}
 use Rattle.branch_state.specs.Naming.{IsKind, offence, first_in}
 use Rattle.branch_state.proofs.CellsReady.{cell_offence}
 use Rattle.branch_state.proofs.Looking.{first_there, first_none_yet, some_offence, no_offence}
-use Rattle.branch_state.proofs.Preparing.{take_all}
 use Rattle.branch_state.proofs.look.find_cells_offence.Goals as goal
 
 pub returns-then-is_some-2 : goal.returns-then-is_some-2
@@ -56,6 +55,6 @@ returns g c = λ name t kind.
     let len = ap (λ (xs : List (Option Need)). length xs) c.needs-needs.ensures in
     let same = length-map slots (need_at r) in
     let inv = c.loop-index.invariant name t kind in
-    let all = subst (λ (ns : List (Option Need)). first_in see slots ns ≡ None) (take_all needs i (omega (arith, past, len)))
-    (subst (λ (ys : List ℕ). first_in see ys (take i needs) ≡ None) (take_all slots i (omega (arith, past, len, same))) inv.1) in
+    let all = subst (λ (ns : List (Option Need)). first_in see slots ns ≡ None) (take_all i needs (omega (arith, past, len)))
+    (subst (λ (ys : List ℕ). first_in see ys (take i needs) ≡ None) (take_all i slots (omega (arith, past, len, same))) inv.1) in
     sym (ap (λ (o : Option QueryFault). or_later o (first_in see slots needs)) inv.0 ∙ all)

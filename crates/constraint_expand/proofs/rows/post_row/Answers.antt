@@ -1,18 +1,19 @@
 use Rattle.std.proofs.Common.{◌≡◌, ℕ, ℤ, ap, rules, FitsSigned, ◌++◌, [], ◌∷◌, pos, sym, subst, ◌∙◌}
 use Rattle.std.specs.Prelude.{IsTrue, OnOk}
 use Rattle.std.specs.Int.{w64}
+use Rattle.std.proofs.lemmas.List.{get_or_default}
 use Rattle.fd_language.specs.Range.{Range}
 use Rattle.fd_language.specs.RangeVerdict.{is_accepted}
 use Rattle.fd_language.specs.declared.TheConstants.{INFINITY}
 use Rattle.constraint_expand.specs.Nodes.{product_at, row_at}
-use Rattle.constraint_expand.proofs.RowPosts.{spelled_back, has_straight, has_turned, straight_nodes, turned_nodes, sign_below, sign_above, other_default}
+use Rattle.constraint_expand.proofs.RowPosts.{spelled_back, has_straight, has_turned, straight_nodes, turned_nodes, sign_below, sign_above}
 use Rattle.constraint_expand.proofs.rows.post_row.Goals as goal
 
 pub row_nodes-requires-clause-lower : goal.row_nodes-requires-clause-lower
 row_nodes-requires-clause-lower c =
     let s = c.args.straight.now in
     let i = c.args.index in
-    let same : c.index.result.now ≡ product_at s i = c.index.ensures ∙ other_default s.terms.items i c.index.result.now (0, pos 0) c.requires.sides.within in
+    let same : c.index.result.now ≡ product_at s i = c.index.ensures ∙ get_or_default s.terms.items i c.index.result.now (0, pos 0) c.requires.sides.within in
     let fits : FitsSigned w64 c.index.result.now.1 = search rules in
     let h = sign_below c.index.result.now.1 (product_at s i).1 fits c.if-coefficient-lt0.true (ap (λ (t : ℕ × ℤ). t.1) same) in
     (has_turned c.args.comparison s c.args.turned.now i c.requires.sides h).0
@@ -21,7 +22,7 @@ pub row_nodes-requires-clause-upper : goal.row_nodes-requires-clause-upper
 row_nodes-requires-clause-upper c =
     let s = c.args.straight.now in
     let i = c.args.index in
-    let same : c.index.result.now ≡ product_at s i = c.index.ensures ∙ other_default s.terms.items i c.index.result.now (0, pos 0) c.requires.sides.within in
+    let same : c.index.result.now ≡ product_at s i = c.index.ensures ∙ get_or_default s.terms.items i c.index.result.now (0, pos 0) c.requires.sides.within in
     let fits : FitsSigned w64 c.index.result.now.1 = search rules in
     let h = sign_below c.index.result.now.1 (product_at s i).1 fits c.if-coefficient-lt0.true (ap (λ (t : ℕ × ℤ). t.1) same) in
     (has_turned c.args.comparison s c.args.turned.now i c.requires.sides h).1
@@ -31,7 +32,7 @@ post-requires-clause-spelled c =
     let k = c.args.comparison in
     let s = c.args.straight.now in
     let i = c.args.index in
-    let same : c.index.result.now ≡ product_at s i = c.index.ensures ∙ other_default s.terms.items i c.index.result.now (0, pos 0) c.requires.sides.within in
+    let same : c.index.result.now ≡ product_at s i = c.index.ensures ∙ get_or_default s.terms.items i c.index.result.now (0, pos 0) c.requires.sides.within in
     let fits : FitsSigned w64 c.index.result.now.1 = search rules in
     let h = sign_below c.index.result.now.1 (product_at s i).1 fits c.if-coefficient-lt0.true (ap (λ (t : ℕ × ℤ). t.1) same) in
     (spelled_back c.in_ok-nodes.nodes.items (row_at k s i).range (c.in_ok-nodes.ensures ∙ turned_nodes k s c.args.turned.now i c.requires.sides h)).0
@@ -41,7 +42,7 @@ post-requires-clause-accepted c =
     let k = c.args.comparison in
     let s = c.args.straight.now in
     let i = c.args.index in
-    let same : c.index.result.now ≡ product_at s i = c.index.ensures ∙ other_default s.terms.items i c.index.result.now (0, pos 0) c.requires.sides.within in
+    let same : c.index.result.now ≡ product_at s i = c.index.ensures ∙ get_or_default s.terms.items i c.index.result.now (0, pos 0) c.requires.sides.within in
     let fits : FitsSigned w64 c.index.result.now.1 = search rules in
     let h = sign_below c.index.result.now.1 (product_at s i).1 fits c.if-coefficient-lt0.true (ap (λ (t : ℕ × ℤ). t.1) same) in
     let b = spelled_back c.in_ok-nodes.nodes.items (row_at k s i).range (c.in_ok-nodes.ensures ∙ turned_nodes k s c.args.turned.now i c.requires.sides h) in
@@ -52,7 +53,7 @@ returns-in_ok-nodes c =
     let k = c.args.comparison in
     let s = c.args.straight.now in
     let i = c.args.index in
-    let same : c.index.result.now ≡ product_at s i = c.index.ensures ∙ other_default s.terms.items i c.index.result.now (0, pos 0) c.requires.sides.within in
+    let same : c.index.result.now ≡ product_at s i = c.index.ensures ∙ get_or_default s.terms.items i c.index.result.now (0, pos 0) c.requires.sides.within in
     let fits : FitsSigned w64 c.index.result.now.1 = search rules in
     let h = sign_below c.index.result.now.1 (product_at s i).1 fits c.if-coefficient-lt0.true (ap (λ (t : ℕ × ℤ). t.1) same) in
     let b = spelled_back c.in_ok-nodes.nodes.items (row_at k s i).range (c.in_ok-nodes.ensures ∙ turned_nodes k s c.args.turned.now i c.requires.sides h) in
@@ -70,7 +71,7 @@ post-requires-else-coefficient-lt0-clause-spelled c =
     let k = c.args.comparison in
     let s = c.args.straight.now in
     let i = c.args.index in
-    let same : c.index.result.now ≡ product_at s i = c.index.ensures ∙ other_default s.terms.items i c.index.result.now (0, pos 0) c.requires.sides.within in
+    let same : c.index.result.now ≡ product_at s i = c.index.ensures ∙ get_or_default s.terms.items i c.index.result.now (0, pos 0) c.requires.sides.within in
     let fits : FitsSigned w64 c.index.result.now.1 = search rules in
     let h = sign_above c.index.result.now.1 (product_at s i).1 fits c.if-coefficient-lt0.false (ap (λ (t : ℕ × ℤ). t.1) same) in
     (spelled_back c.in_ok-nodes-2.nodes.items (row_at k s i).range (c.in_ok-nodes-2.ensures ∙ straight_nodes k s c.args.turned.now i c.requires.sides h)).0
@@ -80,7 +81,7 @@ post-requires-else-coefficient-lt0-clause-accepted c =
     let k = c.args.comparison in
     let s = c.args.straight.now in
     let i = c.args.index in
-    let same : c.index.result.now ≡ product_at s i = c.index.ensures ∙ other_default s.terms.items i c.index.result.now (0, pos 0) c.requires.sides.within in
+    let same : c.index.result.now ≡ product_at s i = c.index.ensures ∙ get_or_default s.terms.items i c.index.result.now (0, pos 0) c.requires.sides.within in
     let fits : FitsSigned w64 c.index.result.now.1 = search rules in
     let h = sign_above c.index.result.now.1 (product_at s i).1 fits c.if-coefficient-lt0.false (ap (λ (t : ℕ × ℤ). t.1) same) in
     let b = spelled_back c.in_ok-nodes-2.nodes.items (row_at k s i).range (c.in_ok-nodes-2.ensures ∙ straight_nodes k s c.args.turned.now i c.requires.sides h) in
@@ -91,7 +92,7 @@ returns-in_ok-nodes-2 c =
     let k = c.args.comparison in
     let s = c.args.straight.now in
     let i = c.args.index in
-    let same : c.index.result.now ≡ product_at s i = c.index.ensures ∙ other_default s.terms.items i c.index.result.now (0, pos 0) c.requires.sides.within in
+    let same : c.index.result.now ≡ product_at s i = c.index.ensures ∙ get_or_default s.terms.items i c.index.result.now (0, pos 0) c.requires.sides.within in
     let fits : FitsSigned w64 c.index.result.now.1 = search rules in
     let h = sign_above c.index.result.now.1 (product_at s i).1 fits c.if-coefficient-lt0.false (ap (λ (t : ℕ × ℤ). t.1) same) in
     let b = spelled_back c.in_ok-nodes-2.nodes.items (row_at k s i).range (c.in_ok-nodes-2.ensures ∙ straight_nodes k s c.args.turned.now i c.requires.sides h) in

@@ -1,8 +1,8 @@
 use Rattle.std.proofs.Common.{subst, sym, ap, ◌∙◌, ◌≤◌, ◌<◌, ◌⊎◌, inl, inr, ◌+◌, ◌++◌, drop, get_or, length, arith}
+use Rattle.std.proofs.lemmas.Bool.{ltb-true, ltb-false}
 use Rattle.fd_language.specs.declared.TheConstants.{INFINITY}
 use Rattle.domain_ranges.specs.Spans.{gap}
 use Rattle.domain_ranges.proofs.Cutting.{Cutting, kept_whole, parted, whole_many, first_many, last_many, cutting_next, cutting_set}
-use Rattle.domain_ranges.proofs.Places.{ltb_less, ltb_not}
 use Rattle.domain_ranges.proofs.Outcomes.{on_err}
 use Rattle.domain_ranges.proofs.intervals.without.Goals.{then-n-span, else-n-span, then-span-n+in_ok-push, else-span-n+in_ok-push_gap+in_ok-push_gap-2}
 use Rattle.domain_ranges.proofs.intervals.without.Goals as goal
@@ -12,7 +12,7 @@ returns-in_err-push-clause-no_memory c =
     let x = get_or c.args.spans.now c.loop-span.span-index (0, 0) in
     let beside : (c.args.n < x.0) ⊎ (x.1 < c.args.n) = elim c.if-n-span.branch [
       | then-n-span w ↦ inl w.if-n-span.true
-      | else-n-span w ↦ inr (ltb_less _ _ (sym w.value-is ∙ c.if-span-n.true))
+      | else-n-span w ↦ inr (ltb-true _ _ (sym w.value-is ∙ c.if-span-n.true))
     ] in
     on_err c.from_residual.result _ (whole_many INFINITY c.args.spans.now c.args.n c.loop-span.list.items x (drop (c.loop-span.span-index + 1) c.args.spans.now)
     (cutting_next INFINITY c.args.spans.now c.args.n c.loop-span.list.items c.loop-span.span-index c.loop-span.invariant.state c.loop-span-test.true) beside c.in_err-push.ensures.no_memory)
@@ -21,8 +21,8 @@ pub returns-in_err-push_gap-clause-no_memory : goal.returns-in_err-push_gap-clau
 returns-in_err-push_gap-clause-no_memory c =
     let x = get_or c.args.spans.now c.loop-span.span-index (0, 0) in
     let high : c.args.n ≤ x.1 = elim c.if-n-span.branch [
-      | then-n-span w ↦ absurd (let l = ltb_not _ _ (sym w.value-is ∙ c.if-span-n.false) in let g = w.if-n-span.true in omega arith)
-      | else-n-span w ↦ ltb_not _ _ (sym w.value-is ∙ c.if-span-n.false)
+      | then-n-span w ↦ absurd (let l = ltb-false _ _ (sym w.value-is ∙ c.if-span-n.false) in let g = w.if-n-span.true in omega arith)
+      | else-n-span w ↦ ltb-false _ _ (sym w.value-is ∙ c.if-span-n.false)
     ] in
     on_err c.from_residual-in_err-push_gap.result _ (first_many INFINITY c.args.spans.now c.args.n c.loop-span.list.items x (drop (c.loop-span.span-index + 1) c.args.spans.now)
     (cutting_next INFINITY c.args.spans.now c.args.n c.loop-span.list.items c.loop-span.span-index c.loop-span.invariant.state c.loop-span-test.true) c.in_err-push_gap.ensures.some high c.in_err-push_gap.ensures.no_memory)
@@ -31,7 +31,7 @@ pub returns-in_err-push_gap-2-clause-no_memory : goal.returns-in_err-push_gap-2-
 returns-in_err-push_gap-2-clause-no_memory c =
     let x = get_or c.args.spans.now c.loop-span.span-index (0, 0) in
     let low : x.0 ≤ c.args.n = elim c.if-n-span.branch [
-      | then-n-span w ↦ absurd (let l = ltb_not _ _ (sym w.value-is ∙ c.if-span-n.false) in let g = w.if-n-span.true in omega arith)
+      | then-n-span w ↦ absurd (let l = ltb-false _ _ (sym w.value-is ∙ c.if-span-n.false) in let g = w.if-n-span.true in omega arith)
       | else-n-span w ↦ w.if-n-span.false
     ] in
     on_err c.from_residual-in_err-push_gap-2.result _ (last_many INFINITY c.args.spans.now c.args.n c.loop-span.list.items x (drop (c.loop-span.span-index + 1) c.args.spans.now)
@@ -52,14 +52,14 @@ loop-span-preserved c =
         | then-span-n+in_ok-push w ↦
             let beside : (c.args.n < x.0) ⊎ (x.1 < c.args.n) = elim c.if-n-span.branch [
               | then-n-span v ↦ inl v.if-n-span.true
-              | else-n-span v ↦ inr (ltb_less _ _ (sym v.value-is ∙ w.if-span-n.true))
+              | else-n-span v ↦ inr (ltb-true _ _ (sym v.value-is ∙ w.if-span-n.true))
             ] in
             subst (λ l. Cutting INFINITY c.args.spans.now c.args.n l rest) (sym (ap (λ l. l.items) w.list-is ∙ w.in_ok-push.ensures.ok))
             (kept_whole INFINITY c.args.spans.now c.args.n c.loop-span.list.items x rest here beside)
         | else-span-n+in_ok-push_gap+in_ok-push_gap-2 w ↦
             let inside : (x.0 ≤ c.args.n) × (c.args.n ≤ x.1) = elim c.if-n-span.branch [
-              | then-n-span v ↦ absurd (let l = ltb_not _ _ (sym v.value-is ∙ w.if-span-n.false) in let g = v.if-n-span.true in omega arith)
-              | else-n-span v ↦ (v.if-n-span.false, ltb_not _ _ (sym v.value-is ∙ w.if-span-n.false))
+              | then-n-span v ↦ absurd (let l = ltb-false _ _ (sym v.value-is ∙ w.if-span-n.false) in let g = v.if-n-span.true in omega arith)
+              | else-n-span v ↦ (v.if-n-span.false, ltb-false _ _ (sym v.value-is ∙ w.if-span-n.false))
             ] in
             subst (λ l. Cutting INFINITY c.args.spans.now c.args.n l rest) (sym (ap (λ l. l.items) w.list-is ∙ (w.in_ok-push_gap-2.ensures.ok ∙ ap (λ l. l ++ gap (c.args.n + 1) (x.1 + 1)) w.in_ok-push_gap.ensures.ok)))
             (parted INFINITY c.args.spans.now c.args.n c.loop-span.list.items x rest here inside.0 inside.1)
