@@ -11,6 +11,7 @@ use Rattle.term_writer.specs.declared.VarText.{VarText}
 use Rattle.term_writer.specs.Views.{text_of}
 use Rattle.std.specs.List.{position_or_len}
 use Rattle.std.proofs.lemmas.List.{take_more}
+use Rattle.fd_language.proofs.Lemmas.{apply_vars}
 use Rattle.fd_model.specs.Lines.{open_part, place_in}
 use Rattle.answer_text.specs.Pieces.{with_number}
 use Rattle.answer_text.specs.Variables.{AreTexts, GiveTexts, open_by}
@@ -33,15 +34,6 @@ texts_found f (x ∷ ys) (t ∷ ts) y h e =
     pick : ((x == y) ≡ true × (x ≡ y)) ⊎ ((x == y) ≡ false × (x ≢ y)) → (has ys y ≡ true → text_of ts y ≡ f y) → cond (x == y) t.text.items (text_of ts y) ≡ f y
     pick (inl w) later = ap (λ (b : Bool). cond b t.text.items (text_of ts y)) w.0 ∙ h.1 ∙ ap f w.1
     pick (inr w) later = ap (λ (b : Bool). cond b t.text.items (text_of ts y)) w.0 ∙ later (sym (ap (λ (b : Bool). b || has ys y) w.0) ∙ e)
-
-mutual
-  apply_vars : (t : Term) → apply Var t ≡ t
-  apply_vars (Comp f ts) = ap (Comp f) (apply_all_vars ts)
-  apply_vars _ = refl
-
-  apply_all_vars : (ts : Terms) → apply_all Var ts ≡ ts
-  apply_all_vars no_terms = refl
-  apply_all_vars (term t ts) = let first = apply_vars t in let rest = apply_all_vars ts in cc
 
 -- a term is written alike with the texts of its own variables alone
 pub own_texts : (f : ℕ → List ℕ) (mode : Mode) (limit : ℕ) (t : Term) (ts : List VarText) → GiveTexts f t ts → term_text mode (text_of ts) limit t ≡ term_text mode f limit t

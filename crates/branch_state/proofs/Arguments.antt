@@ -25,7 +25,7 @@ use Rattle.branch_state.specs.CellNaming.{slots_open}
 use Rattle.branch_state.specs.Naming.{offence, first_in, StandsIn, AllStand}
 use Rattle.branch_state.proofs.Places.{AreSettled, variables}
 
-none_both : (a b : Option QueryFault) → or_later a b ≡ None → (a ≡ None) × (b ≡ None)
+pub none_both : (a b : Option QueryFault) → or_later a b ≡ None → (a ≡ None) × (b ≡ None)
 none_both (Some x) b h = absurd (cc)
 none_both None b h = (refl, h)
 

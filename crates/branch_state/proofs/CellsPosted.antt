@@ -39,9 +39,9 @@ use Rattle.branch_state.specs.Naming.{LooksAs, IsKind, offence, first_in, goal_r
 use Rattle.branch_state.specs.Ranges.{kept_step}
 use Rattle.branch_state.specs.States.{State, IsPair, ArePairs, IsSound, IsSettled, HasNoModel, IsCell}
 use Rattle.branch_state.specs.Steps.{IsTouchBelow, AreTouchesBelow}
-use Rattle.branch_state.proofs.Arguments.{posted_is, are_args}
+use Rattle.branch_state.proofs.Arguments.{posted_is, are_args, none_both}
 use Rattle.branch_state.proofs.Gathering.{is_open, plain_slots, offence_of_range}
-use Rattle.branch_state.proofs.Looking.{look_kind, none_first}
+use Rattle.branch_state.proofs.Looking.{look_kind}
 use Rattle.branch_state.proofs.Places.{settled}
 use Rattle.branch_state.proofs.Ranged.{is_none}
 use Rattle.branch_state.proofs.Touches.{goal_low}
@@ -121,7 +121,7 @@ module _ (name : Naming) (old : State) (pair : IsPair old.atoms old.heaps.now ol
     slot u = slot_in now of u
 
     fines : (offence None t ≡ None) × (first_in see (slots_of r) (slot_needs r) ≡ None)
-    fines = none_first (offence None t) (first_in see (slots_of r) (slot_needs r)) fine
+    fines = none_both (offence None t) (first_in see (slots_of r) (slot_needs r)) fine
 
     from : (u : Term) → Names t see r u → N u
     from u n = elim n [ inl a ↦ inl a | inr a ↦ inr (a.0, sym (reads_open see r one a.0) ∙ a.1, a.2) ]

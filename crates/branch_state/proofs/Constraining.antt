@@ -1,7 +1,7 @@
 -- Ranges that are joined one after the other, where each variable that they name is linked in the end.
 use Rattle.std.proofs.Common.{◌≡◌, ℕ, Bool, true, false, cond, List, [], ◌∷◌, ◌++◌, map, Option, Some, None, refl, ap, sym, ◌∙◌, subst, inl, inr, ◌⊎◌, append-nil, append_assoc}
 use Rattle.std.proofs.lemmas.Bool.{cases_Bool, true≢false}
-use Rattle.std.proofs.lemmas.Option.{none-some, same_Some}
+use Rattle.std.proofs.lemmas.Option.{none-some}
 use Rattle.fd_language.specs.Family.{has}
 use Rattle.fd_language.specs.Range.{Indexical}
 use Rattle.fd_language.specs.RangeRenaming.{rename_indexical}

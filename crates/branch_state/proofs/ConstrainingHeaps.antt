@@ -5,7 +5,7 @@ use Rattle.std.proofs.lemmas.Bool.{cases_Bool, true≢false}
 use Rattle.fd_language.specs.Family.{Family, has}
 use Rattle.fd_language.specs.Term.{Term, Terms, Var, Int, Atom, Comp, no_terms, term, apply, apply_all}
 use Rattle.fd_language.specs.Variables.{variables_of, variables_of_all}
-use Rattle.fd_language.proofs.Lemmas.{has_either, in_left, in_right, only_member}
+use Rattle.fd_language.proofs.Lemmas.{has_either, in_left, in_right, only_member, apply_vars}
 use Rattle.fd_model.specs.Constraining.{arguments}
 use Rattle.heap_cells.specs.declared.Cell.{Cell}
 use Rattle.heap_cells.specs.declared.Cell.TheVariants as cell
@@ -13,7 +13,7 @@ use Rattle.heap_cells.specs.Atoms.{HasAtomsBelow}
 use Rattle.heap_cells.specs.Cells.{Cells, Slot, free, linked, bound, is_bound, IsOf, slot_at, compound_at, with_slot, with_new_slot}
 use Rattle.heap_cells.specs.Terms.{Naming, term_of, within, slot_term, terms_by, IsAbsent, occurs, one}
 use Rattle.heap_cells.specs.Valid.{IsHeap}
-use Rattle.heap_cells.proofs.Lemmas.{new_below, bound_below, slot_there, slot_elsewhere, bind_valid, bind_terms, head_of, tail_of, var_valid, term-Int, unbound_term, apply-Var}
+use Rattle.heap_cells.proofs.Lemmas.{new_below, bound_below, slot_there, slot_elsewhere, bind_valid, bind_terms, head_of, tail_of, var_valid, term-Int, unbound_term}
 use Rattle.machine_relation.specs.Held.{value_in, value_at}
 use Rattle.machine_relation.proofs.Lemmas.{after_is, bindings, without, functions}
 use Rattle.machine_frames.specs.Frames.{link_of, link_in, IsGrown}
@@ -158,7 +158,7 @@ same_after d ds u e c = by_test (c == d.0) where
 
 -- The terms then.
 pub bound_terms : (n : ℕ) (ds : List (ℕ × ℤ)) (h : Cells) → IsHeap h → AreFrom n ds → AreOpen n ds h → (name : Naming) (c : Cell) → term_of name (with_integers ds h) c ≡ apply (bindings ds) (term_of name h c)
-bound_terms n [] h valid f o name c = sym (apply-Var (term_of name h c))
+bound_terms n [] h valid f o name c = sym (apply_vars (term_of name h c))
 bound_terms n (d ∷ ds) h valid f o name c =
     let u = o d.0 (let e = f.0 in omega (arith, e)) (let e = f.0 in omega (arith, e)) in
     let i = term_of name h (cell.Int d.1) in

@@ -1,8 +1,9 @@
 -- Variables of the heap that become variables of the store, one after the other.
-use Rattle.std.proofs.Common.{◌≡◌, ℕ, suc, ◌+◌, ◌<◌, true, false, List, [], ◌∷◌, ◌++◌, length, take, get_or, None, Some, refl, ap, sym, ◌∙◌, subst, inl, inr, arith, append-nil, append_assoc, eqb-true, ◌==◌}
+use Rattle.std.proofs.Common.{◌≡◌, ℕ, suc, ◌+◌, ◌<◌, true, false, List, [], ◌∷◌, ◌++◌, length, take, get_or, Some, refl, ap, sym, ◌∙◌, subst, inl, inr, arith, append-nil, append_assoc, eqb-true, ◌==◌}
 use Rattle.std.proofs.lemmas.Bool.{cases_Bool, or_cases, true≢false}
 use Rattle.std.proofs.lemmas.List.{take_more, nil_from_length}
 use Rattle.std.proofs.lemmas.Option.{none-some}
+use Rattle.machine_relation.proofs.Lemmas.{same_var}
 use Rattle.fd_language.specs.declared.TheConstants.{INFINITY}
 use Rattle.fd_language.specs.Family.{has, universe}
 use Rattle.fd_language.specs.Term.{Term, Var, Int, Atom, Comp}
@@ -27,9 +28,6 @@ use Rattle.branch_state.proofs.Named.{naming_start, naming_next}
 
 no_name : Naming
 no_name a = []
-
-same_var : (x y : ℕ) → Var x ≡ Var y → x ≡ y
-same_var x y e = cc
 
 -- no variable is an integer
 no_integers : (xs : List ℕ) → integers Var xs ≡ []

@@ -14,7 +14,7 @@ use Rattle.fd_model.specs.Linear.{Comparison, IsAtMost, comparison, normal_form,
 use Rattle.fd_model.specs.LinearRows.{Expansion, linear_rows, compares, no_number}
 use Rattle.fd_model.specs.ListRows.{different_rows, units}
 use Rattle.fd_model.specs.Members.{Member, Open, Known, walk, as_member, prepend, after, placed, equated_from, fresh_after}
-use Rattle.fd_model.proofs.Lemmas.{one_ok, both_ok, test_ok, element_ok, atmost_ok}
+use Rattle.fd_model.proofs.Lemmas.{one_ok, both_ok, test_ok, element_ok, atmost_ok, members_count}
 use Rattle.std.proofs.lemmas.Option.{slice_get-get_or, none-some}
 use Rattle.term_pool.specs.declared.TermId.{TermId}
 use Rattle.term_pool.specs.Contents.{Contents, Entry, Shape, var, int, atom, comp, name_in}
@@ -74,17 +74,6 @@ after_end n (Known z ∷ ms) = let l = after_end (suc n) ms in omega (arith, l)
 length_placed : (n : ℕ) (ms : List Member) → length (placed n ms) ≡ length ms
 length_placed n [] = refl
 length_placed n (m ∷ ms) = ap suc (length_placed (after n m) ms)
-
-members_count : (t : Term) (ms : List Member) → walk as_member t ≡ Ok ms → length ms ≡ cells t
-members_count (Atom f) ms h = test_ok (bytes_eq f (codes "[]")) (Ok []) (Err _) ms (length ms ≡ 0) h (λ c e. let k : [] ≡ ms = cc in ap length (sym k)) (λ c e. absurd (cc))
-members_count (Comp f (term x (term t no_terms))) ms h =
-    test_ok (bytes_eq f (codes ".")) _ (Err _) ms (length ms ≡ suc (cells t)) h
-    (λ c e.
-    let k = both_ok prepend (as_member x) (walk as_member t) ms e in
-    let g : k.left ∷ k.right ≡ ms = cc (k.both) in
-    ap length (sym g) ∙ ap suc (members_count t k.right k.from_right))
-    (λ c e. absurd (cc))
-members_count _ ms h = absurd (cc)
 
 -- no argument has more cells
 abbrev pub AllShort : ℕ → Terms → Type 0

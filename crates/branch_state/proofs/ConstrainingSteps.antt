@@ -3,6 +3,7 @@ use Rattle.std.proofs.Common.{◌≡◌, ℕ, zero, suc, ◌+◌, ◌<◌, ◌�
 use Rattle.std.proofs.lemmas.Bool.{cases_Bool, or_left, or_right}
 use Rattle.std.proofs.lemmas.Bool.Decides.{nat_tests}
 use Rattle.std.proofs.lemmas.List.{take_more}
+use Rattle.heap_cells.proofs.Lemmas.{number_of}
 use Rattle.fd_language.specs.Family.{has}
 use Rattle.fd_language.specs.Range.{Range, Indexical}
 use Rattle.fd_language.proofs.Lemmas.{in_left, only_member}
@@ -67,14 +68,11 @@ linked_own h x k e = elim (cases_Bool (nat_lt x (length h.slots))) [
 linked_root : (h : Cells) (x k : ℕ) → link_in h x ≡ Some k → IsRoot h (cell.Ref x)
 linked_root h x k e = ap is_bound (linked_slot h x k e)
 
-same_ref : (x i : ℕ) → cell.Ref x ≡ cell.Ref i → x ≡ i
-same_ref x i e = cc
-
 -- what a linked variable is seen as
 pub seen_linked : (h : Cells) (x : ℕ) → AreLinked h (x ∷ []) → (i k : ℕ) → slot_at h i ≡ linked k → (IsRoot h (cell.Ref x) → cell.Ref x ≡ cell.Ref i) → k ≡ store_variable h x
 seen_linked h x a i k s top =
     let l = a x (or_left (x == x) false (eq-eqb x x refl)) in
-    sym (ap or_zero (ap (link_in h) (same_ref x i (top (linked_root h x l.0 l.1))) ∙ ap link_of s))
+    sym (ap or_zero (ap (link_in h) (number_of x i (top (linked_root h x l.0 l.1))) ∙ ap link_of s))
 
 -- variables of a list that are linked
 pub one_linked : (h : Cells) (xs : List ℕ) (x : ℕ) → has xs x ≡ true → AreLinked h xs → AreLinked h (x ∷ [])

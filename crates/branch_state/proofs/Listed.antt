@@ -2,7 +2,7 @@
 use Rattle.std.proofs.Common.{◌≡◌, ℕ, zero, suc, ◌+◌, ◌<◌, true, ◌==◌, List, [], ◌∷◌, ◌++◌, length, map, take, get_or, refl, ap, sym, ◌∙◌, subst, arith, append-nil, append_assoc, eq-eqb}
 use Rattle.std.specs.Prelude.{All}
 use Rattle.std.proofs.lemmas.Bool.{or_left, or_right}
-use Rattle.std.proofs.lemmas.List.{take_more}
+use Rattle.std.proofs.lemmas.List.{take_more, map-append}
 use Rattle.fd_language.specs.Family.{has}
 use Rattle.fd_language.specs.Range.{Range, Indexical}
 use Rattle.fd_language.specs.Term.{Var}
@@ -64,10 +64,6 @@ pub variables_both : (ps qs : List Indexical) → variables_in (ps ++ qs) ≡ va
 variables_both [] qs = refl
 variables_both (p ∷ ps) qs = ap (λ l. (p.target ∷ slots_of p.range) ++ l) (variables_both ps qs) ∙ sym (append_assoc (p.target ∷ slots_of p.range) (variables_in ps) (variables_in qs))
 
-map_both : {X Y : Type 0} (f : X → Y) (xs ys : List X) → map f (xs ++ ys) ≡ map f xs ++ map f ys
-map_both f [] ys = refl
-map_both f (x ∷ xs) ys = ap (λ l. f x ∷ l) (map_both f xs ys)
-
 pub variables_one : (p : Indexical) → variables_in (p ∷ []) ≡ p.target ∷ slots_of p.range
 variables_one p = append-nil (p.target ∷ slots_of p.range)
 
@@ -99,8 +95,8 @@ both_listed first sets own ps qs middle now S T a links b old next new x y = rec
   more = x.more ++ y.more;
   behind = y.behind ∙ ap (λ l. l ++ y.more) x.behind ∙ append_assoc old x.more y.more;
   same =
-      subst (λ l. AreSamePostings l (map (row_posting (store_variable now)) (ps ++ qs))) (sym (map_both posting x.more y.more))
-      (subst (AreSamePostings (map posting x.more ++ map posting y.more)) (sym (map_both (row_posting (store_variable now)) ps qs))
+      subst (λ l. AreSamePostings l (map (row_posting (store_variable now)) (ps ++ qs))) (sym (map-append posting x.more y.more))
+      (subst (AreSamePostings (map posting x.more ++ map posting y.more)) (sym (map-append (row_posting (store_variable now)) ps qs))
       (same_both (map posting x.more) (map (row_posting (store_variable now)) ps) (map posting y.more) (map (row_posting (store_variable now)) qs) moved y.same));
 } where
   kept : (z : ℕ) → has (variables_in ps) z ≡ true → store_variable middle z ≡ store_variable now z
@@ -126,7 +122,7 @@ range_linked h sets own xs now S m x i = (links_named h sets own xs now S m).nam
 -- ---- a piece
 
 piece_next : (ps : List (ℕ × Range)) (i : ℕ) (d : ℕ × Range) → i < length ps → indexicals (take (i + 1) ps) ≡ indexicals (take i ps) ++ of_pair (get_or ps i d) ∷ []
-piece_next ps i d l = ap indexicals (take_more ps i d l) ∙ indexicals_map (take i ps ++ get_or ps i d ∷ []) ∙ map_both of_pair (take i ps) (get_or ps i d ∷ []) ∙ ap (λ l. l ++ of_pair (get_or ps i d) ∷ []) (sym (indexicals_map (take i ps)))
+piece_next ps i d l = ap indexicals (take_more ps i d l) ∙ indexicals_map (take i ps ++ get_or ps i d ∷ []) ∙ map-append of_pair (take i ps) (get_or ps i d ∷ []) ∙ ap (λ l. l ++ of_pair (get_or ps i d) ∷ []) (sym (indexicals_map (take i ps)))
 
 piece_has : (ps : List (ℕ × Range)) (i : ℕ) (d : ℕ × Range) → i < length ps → (x : ℕ) → has (variables_in (of_pair (get_or ps i d) ∷ [])) x ≡ true → has (variables_in (indexicals ps)) x ≡ true
 piece_has [] i d l x e = absurd (omega (arith, l))

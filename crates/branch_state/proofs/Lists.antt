@@ -1,14 +1,8 @@
 -- Lists of variables, each once.
-use Rattle.std.proofs.Common.{◌≡◌, ℕ, Bool, true, false, cond, not, ◌&&◌, ◌==◌, List, [], ◌∷◌, filter, refl, ap, sym, ◌∙◌, inl, inr, eqb-true, eq-eqb}
-use Rattle.std.proofs.lemmas.Bool.{cases_Bool, true≢false}
+use Rattle.std.proofs.Common.{◌≡◌, ℕ, Bool, true, false, cond, not, ◌&&◌, ◌==◌, List, [], ◌∷◌, filter, refl, ap, sym, ◌∙◌, inl, inr, eqb-true}
+use Rattle.std.proofs.lemmas.Bool.{cases_Bool}
 use Rattle.std.proofs.Math.Bool.{and_comm}
 use Rattle.fd_language.specs.Needs.{once}
-
-pub same_test : (x y : ℕ) → (x == y) ≡ (y == x)
-same_test x y = elim (cases_Bool (y == x)) [
-  | inl e ↦ eq-eqb x y (sym (eqb-true y x e)) ∙ sym e
-  | inr e ↦ elim (cases_Bool (x == y)) [ inl k ↦ absurd (true≢false (sym (eq-eqb y x (sym (eqb-true x y k))) ∙ e)) | inr k ↦ k ∙ sym e ]
-]
 
 pub filter_agree : (p q : ℕ → Bool) (xs : List ℕ) → ((x : ℕ) → p x ≡ q x) → filter p xs ≡ filter q xs
 filter_agree p q [] h = refl

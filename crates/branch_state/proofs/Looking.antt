@@ -127,13 +127,9 @@ can_name h (Atom a) look.Symbol (Some n) k o = absurd (cc)
 can_name h (Comp f ts) look.Symbol None k o = absurd (cc)
 can_name h (Comp f ts) look.Symbol (Some n) k o = absurd (cc)
 
-pub none_first : (a b : Option QueryFault) → or_later a b ≡ None → (a ≡ None) × (b ≡ None)
-none_first (Some x) b h = absurd (cc)
-none_first None b h = (refl, h)
-
 -- ---- one argument more
 
-same_int : (a b : ℤ) → Int a ≡ Int b → a ≡ b
+pub same_int : (a b : ℤ) → Int a ≡ Int b → a ≡ b
 same_int a b e = cc
 
 pub number_is : (h : Cells) (t : Term) (l : Look) (w z : ℤ) → LooksAs h t l → IsInteger l w → t ≡ Int z → w ≡ z

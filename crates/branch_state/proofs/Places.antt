@@ -1,8 +1,6 @@
 -- The places of an accepted range: each variable is a parameter everywhere or nowhere.
-use Rattle.std.proofs.Common.{◌≡◌, ℕ, Bool, true, false, cond, not, ◌||◌, ◌&&◌, ◌==◌, List, [], ◌∷◌, ◌++◌, map, filter, refl, ap, sym, ◌∙◌, subst, inl, inr, eqb-true, eq-eqb, arith, pos, ◌⊎◌}
-use Rattle.std.specs.List.{list_all}
-use Rattle.std.proofs.lemmas.Bool.{cases_Bool, or_left, or_right, or_from}
-use Rattle.std.specs.Cmp.{second_so, first_so}
+use Rattle.std.proofs.Common.{◌≡◌, ℕ, Bool, true, false, cond, not, ◌||◌, ◌&&◌, ◌==◌, List, [], ◌∷◌, ◌++◌, map, filter, refl, ap, sym, ◌∙◌, subst, eq-eqb, pos, ◌⊎◌}
+use Rattle.std.proofs.lemmas.Bool.{or_left, or_right}
 use Rattle.fd_language.specs.Family.{has}
 use Rattle.fd_language.specs.Lists.{Each}
 use Rattle.fd_language.specs.Range.{Range, Span, One, Dom, Union, Inter, Outside, Plus, Minus, Times, Over, Expr, Number, Infinity, Param, Min, Max, Val, Add, Sub, Mul, DivDown, DivUp, params, expr_params, reads}
@@ -10,7 +8,7 @@ use Rattle.fd_language.specs.Places.{Place, expr_places, range_places}
 use Rattle.fd_language.specs.RangeVerdict.{has_one_use}
 use Rattle.fd_language.proofs.Lemmas.{two}
 use Rattle.machine_relation.proofs.Lemmas.{plain, range_plain}
-use Rattle.range_code.proofs.Lemmas.{reads_filled}
+use Rattle.range_code.proofs.Lemmas.{reads_filled, no_parameter}
 
 -- the variables that stand as parameters
 abbrev pub as_parameters : List Place → List ℕ
@@ -51,18 +49,6 @@ range_parameters (Plus r c) = both (range_places r) (expr_places c) (range_param
 range_parameters (Minus r c) = both (range_places r) (expr_places c) (range_parameters r) (expr_parameters c)
 range_parameters (Times r c) = both (range_places r) (expr_places c) (range_parameters r) (expr_parameters c)
 range_parameters (Over r c) = both (range_places r) (expr_places c) (range_parameters r) (expr_parameters c)
-
--- a variable that is read is no parameter
-no_parameter : (xs ys : List ℕ) (y : ℕ) → list_all (λ x. not (has ys x)) xs ≡ true → has ys y ≡ true → has xs y ≡ false
-no_parameter [] ys y h g = refl
-no_parameter (x ∷ xs) ys y h g = or_from (x == y) (has xs y) (apart (cases_Bool (x == y))) (no_parameter xs ys y (second_so (not (has ys x)) (list_all (λ z. not (has ys z)) xs) h) g) where
-
-  flip : (a : Bool) → not a ≡ true → a ≡ true → ⊥
-  flip a h g = grind arith
-
-  apart : ((x == y) ≡ true) ⊎ ((x == y) ≡ false) → (x == y) ≡ false
-  apart (inl e) = absurd (flip (has ys x) (first_so (not (has ys x)) (list_all (λ z. not (has ys z)) xs) h) (subst (λ z. has ys z ≡ true) (sym (eqb-true x y e)) g))
-  apart (inr e) = e
 
 -- each place says whether its variable is a parameter
 abbrev pub AreSettled : List ℕ → List Place → Type 0

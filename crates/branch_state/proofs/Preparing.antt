@@ -1,6 +1,6 @@
 -- A goal's range is made ready slot by slot.
 use Rattle.std.proofs.Common.{◌≡◌, ℕ, zero, suc, ◌<◌, ◌≤◌, true, false, List, [], ◌∷◌, ◌++◌, length, take, get_or, map, Option, None, refl, ap, arith}
-use Rattle.std.proofs.lemmas.List.{length-map, take_all}
+use Rattle.branch_state.proofs.Arguments.{none_both}
 use Rattle.fd_language.specs.declared.range_node.Need.{Need}
 use Rattle.fd_language.specs.Family.{has}
 use Rattle.fd_language.specs.Term.{Substitution}
@@ -9,7 +9,6 @@ use Rattle.heap_cells.specs.Cells.{Cells}
 use Rattle.range_code.specs.declared.frame.Arg.{Arg}
 use Rattle.unify_core.specs.declared.Touch.{Touch}
 use Rattle.branch_state.specs.Naming.{offence, first_in, named_behind, integers, variable_of, StandsIn, AllStand, IsReady}
-use Rattle.branch_state.proofs.Looking.{none_first}
 
 pub stand_more : (s : Substitution) (of : ℕ → ℕ) (ys : List ℕ) (ns : List (Option Need)) (as' : List Arg) (y : ℕ) (n : Option Need) (a : Arg) → AllStand s of ys ns as' → StandsIn s of y n a → AllStand s of (ys ++ y ∷ []) (ns ++ n ∷ []) (as' ++ a ∷ [])
 stand_more s of [] [] [] y n a t u = (u, tt)
@@ -35,8 +34,8 @@ module _ (s : Substitution) (n : ℕ) (h : Cells) (sets : List (List ℕ)) (x : 
 pub fine_at : (s : Substitution) (ys : List ℕ) (ns : List (Option Need)) (i d : ℕ) (e : Option Need) → i < length ys → i < length ns → first_in s ys ns ≡ None → offence (get_or ns i e) (s (get_or ys i d)) ≡ None
 fine_at s [] ns i d e l k h = absurd (omega (arith, l))
 fine_at s (y ∷ ys) [] i d e l k h = absurd (omega (arith, k))
-fine_at s (y ∷ ys) (n ∷ ns) zero d e l k h = (none_first (offence n (s y)) (first_in s ys ns) h).0
-fine_at s (y ∷ ys) (n ∷ ns) (suc i) d e l k h = fine_at s ys ns i d e (omega (arith, l)) (omega (arith, k)) (none_first (offence n (s y)) (first_in s ys ns) h).1
+fine_at s (y ∷ ys) (n ∷ ns) zero d e l k h = (none_both (offence n (s y)) (first_in s ys ns) h).0
+fine_at s (y ∷ ys) (n ∷ ns) (suc i) d e l k h = fine_at s ys ns i d e (omega (arith, l)) (omega (arith, k)) (none_both (offence n (s y)) (first_in s ys ns) h).1
 
 pub take_lengths : {X Y : Type 0} (f : X → Y) (zs : List X) (i : ℕ) → length (take i zs) ≡ length (take i (map f zs))
 take_lengths f [] zero = refl

@@ -1,10 +1,12 @@
 -- What is shown of cells.
-use Rattle.std.proofs.Common.{◌≡◌, ℕ, zero, suc, ◌+◌, ◌<◌, ◌≤◌, ◌==◌, nat_eq, Bool, true, false, cond, not, List, [], ◌∷◌, ◌++◌, length, length-append, filter, map, reverse, take, get_or, Option, Some, None, MatchOption, refl, ap, sym, ◌∙◌, subst, arith, append-nil, append_assoc}
+use Rattle.std.proofs.Common.{◌≡◌, ℕ, suc, ◌+◌, ◌<◌, ◌≤◌, ◌==◌, nat_eq, Bool, true, false, cond, not, List, [], ◌∷◌, ◌++◌, length, length-append, filter, map, reverse, take, get_or, Option, Some, None, MatchOption, refl, ap, sym, ◌∙◌, subst, arith, append-nil, append_assoc}
 use Rattle.std.specs.Prelude.{All}
 use Rattle.std.specs.List.{list_any}
 use Rattle.std.proofs.lemmas.Bool.{true≢false}
-use Rattle.std.proofs.lemmas.List.{reverse-append, map_push, reverse-reverse, take_all}
+use Rattle.std.proofs.lemmas.List.{reverse-append, map_push, reverse-reverse}
 use Rattle.std.proofs.lemmas.List.Elements.{All-append}
+use Rattle.branch_state.proofs.Preparing.{take_next}
+use Rattle.monotone_check.proofs.Lemmas.{eq_sym}
 use Rattle.fd_language.specs.Family.{has}
 use Rattle.fd_language.specs.Needs.{once}
 use Rattle.fd_language.specs.Term.{Name, Term, Terms, Var, term, apply}
@@ -34,7 +36,7 @@ use Rattle.machine_frames.specs.Naming.{full}
 use Rattle.machine_frames.specs.SeenHeap.{read_term}
 use Rattle.machine_frames.proofs.Lemmas.{full_term}
 use Rattle.branch_state.specs.Showing.{terms_read, with_set, with_sets, variables_at, AreShowable, AreGathered}
-use Rattle.branch_state.proofs.Lists.{same_test, filter_agree}
+use Rattle.branch_state.proofs.Lists.{filter_agree}
 
 -- ---- a cell as it is read
 
@@ -66,11 +68,6 @@ Own p t = t.number < length p.entries
 map_kept : (p q : Contents) (ts : List TermId) → KeepsTerms p q → All (Own p) ts → map (pool.term_of q) ts ≡ map (pool.term_of p) ts
 map_kept p q [] k a = refl
 map_kept p q (t ∷ ts) k a = ap (λ (u : Term). u ∷ map (pool.term_of q) ts) (k t (head_of (Own p) t ts a)) ∙ ap (λ (l : List Term). pool.term_of p t ∷ l) (map_kept p q ts k (tail_of (Own p) t ts a))
-
-take_next : {X : Type 0} (xs : List X) (i : ℕ) (d : X) → i < length xs → take (suc i) xs ≡ take i xs ++ get_or xs i d ∷ []
-take_next [] i d l = absurd (omega (arith, l))
-take_next (x ∷ xs) zero d l = refl
-take_next (x ∷ xs) (suc i) d l = ap (λ ys. x ∷ ys) (take_next xs i d (omega (arith, l)))
 
 wider : (p q : Contents) → Extends p q → (t : TermId) → Own p t → Own q t
 wider p q x t o = let e = ap length x.entries.1 in let l = length-append p.entries x.entries.0 in omega (arith, e, l, o)
@@ -150,7 +147,7 @@ finding_last p all found ahead e w = sym (w.rest ∙ ap (λ l. found ++ variable
 
 distinct_once : (xs : List ℕ) → distinct xs ≡ once xs
 distinct_once [] = refl
-distinct_once (x ∷ xs) = ap (λ l. x ∷ l) (ap (filter (λ y. not (x == y))) (distinct_once xs) ∙ filter_agree (λ y. not (x == y)) (λ y. not (y == x)) (once xs) (λ y. ap not (same_test x y)))
+distinct_once (x ∷ xs) = ap (λ l. x ∷ l) (ap (filter (λ y. not (x == y))) (distinct_once xs) ∙ filter_agree (λ y. not (x == y)) (λ y. not (y == x)) (once xs) (λ y. ap not (eq_sym x y)))
 
 sets_more : (set : ℕ → Option (List ℕ)) (xs : List ℕ) (x : ℕ) → with_sets set (xs ++ x ∷ []) ≡ with_sets set xs ++ with_set x (set x) []
 sets_more set [] x = refl

@@ -4,6 +4,9 @@ use Rattle.std.specs.Ordering.{int_eq}
 use Rattle.std.proofs.lemmas.Bool.{cases_Bool, cases_eq, true≢false}
 use Rattle.std.proofs.lemmas.Bool.Decides.{Decides-int_eq}
 use Rattle.std.proofs.lemmas.Option.{none-some, same_Some}
+use Rattle.fd_language.proofs.Lemmas.{decide_int}
+use Rattle.branch_state.proofs.Looking.{same_int}
+use Rattle.machine_relation.proofs.Lemmas.{same_var, int_no_var}
 use Rattle.fd_language.specs.declared.TheConstants.{INFINITY}
 use Rattle.fd_language.specs.Family.{universe}
 use Rattle.fd_language.specs.Term.{Term, Var, Int, Atom, Comp, apply}
@@ -22,18 +25,6 @@ use Rattle.branch_state.specs.declared.look.Look.TheVariants.{Open, Linked, Numb
 use Rattle.branch_state.specs.CellNaming.{shown_as, slot_in, AreTold, IsTold, IsTermNaming, IsPut, TermStep}
 use Rattle.branch_state.specs.Naming.{LooksAs, offence, or_zero, OwnLinks}
 use Rattle.branch_state.proofs.Named.{family_more, still_valued}
-
-var_same : (a b : ℕ) → Var a ≡ Var b → a ≡ b
-var_same a b e = cc
-
-int_same : (a b : ℤ) → Int a ≡ Int b → a ≡ b
-int_same a b e = cc
-
-int_var : (z : ℤ) (c : ℕ) → Int z ≡ Var c → ⊥
-int_var z c e = cc
-
-int_cases : (w z : ℤ) → (w ≡ z) ⊎ (w ≡ z → ⊥)
-int_cases w z = elim (cases_Bool (int_eq w z)) [ inl e ↦ inl ((Decides-int_eq w z).0 e) | inr e ↦ inr (λ i. true≢false (sym ((Decides-int_eq w z).1 i) ∙ e)) ]
 
 -- ---- touches that are told
 
@@ -132,8 +123,8 @@ module _ (h : Cells) (sets : List (List ℕ)) (N : Term → Type 0) (now : Cells
       longer = w.longer;
       same = w.same;
       plain = λ v n. elim n [ inl a ↦ w.plain v a | inr a ↦ ap (offence None) (a ∙ is) ];
-      named = λ c n. elim n [ inl a ↦ w.named c a | inr a ↦ (k, ap (link_in now) (var_same c d (a ∙ is)) ∙ e) ];
-      numbered = λ z n. elim n [ inl a ↦ w.numbered z a | inr a ↦ absurd (int_var z d (a ∙ is)) ];
+      named = λ c n. elim n [ inl a ↦ w.named c a | inr a ↦ (k, ap (link_in now) (same_var c d (a ∙ is)) ∙ e) ];
+      numbered = λ z n. elim n [ inl a ↦ w.numbered z a | inr a ↦ absurd (int_no_var z d (a ∙ is)) ];
       fresh = λ z j i. (let t = w.fresh z j i in (inl t.0, t.1, t.2, t.3));
       apart = w.apart;
       told = w.told;
@@ -179,9 +170,9 @@ module _ (h : Cells) (sets : List (List ℕ)) (N : Term → Type 0) (now : Cells
         plain = λ v n. elim n [ inl a ↦ w.plain v a | inr a ↦ ap (offence None) (a ∙ is) ];
         named = λ c n. elim n [
           | inl a ↦ (let k = w.named c a in (k.0, keep c k.0 k.1))
-          | inr a ↦ (K, ap (link_in next) (var_same c d (a ∙ is)) ∙ here)
+          | inr a ↦ (K, ap (link_in next) (same_var c d (a ∙ is)) ∙ here)
         ];
-        numbered = λ z n. elim n [ inl a ↦ w.numbered z a | inr a ↦ absurd (int_var z d (a ∙ is)) ];
+        numbered = λ z n. elim n [ inl a ↦ w.numbered z a | inr a ↦ absurd (int_no_var z d (a ∙ is)) ];
         fresh = λ z k i. (let t = w.fresh z k i in (
           inl t.0,
           t.1,
@@ -208,8 +199,8 @@ module _ (h : Cells) (sets : List (List ℕ)) (N : Term → Type 0) (now : Cells
       longer = w.longer;
       same = w.same;
       plain = λ v n. elim n [ inl a ↦ w.plain v a | inr a ↦ ap (offence None) (a ∙ is) ];
-      named = λ c n. elim n [ inl a ↦ w.named c a | inr a ↦ absurd (int_var z c (sym is ∙ sym a)) ];
-      numbered = λ y n. elim n [ inl a ↦ w.numbered y a | inr a ↦ (k, ap of (int_same y z (a ∙ is)) ∙ e) ];
+      named = λ c n. elim n [ inl a ↦ w.named c a | inr a ↦ absurd (int_no_var z c (sym is ∙ sym a)) ];
+      numbered = λ y n. elim n [ inl a ↦ w.numbered y a | inr a ↦ (k, ap of (same_int y z (a ∙ is)) ∙ e) ];
       fresh = λ y j i. (let t = w.fresh y j i in (inl t.0, t.1, t.2, t.3));
       apart = w.apart;
       told = w.told;
@@ -228,7 +219,7 @@ module _ (h : Cells) (sets : List (List ℕ)) (N : Term → Type 0) (now : Cells
     keeps y k e = put.1 y (λ i. none-some k (sym none ∙ ap of (sym i) ∙ e)) ∙ e
 
     was : (y : ℤ) (k : ℕ) → of' y ≡ Some k → (of y ≡ Some k) ⊎ ((y ≡ z) × (k ≡ J))
-    was y k e = elim (int_cases y z) [ inl i ↦ inr (i, same_Some k J (sym e ∙ ap of' i ∙ put.0)) | inr i ↦ inl (sym (put.1 y i) ∙ e) ]
+    was y k e = elim (decide_int y z) [ inl i ↦ inr (i, same_Some k J (sym e ∙ ap of' i ∙ put.0)) | inr i ↦ inl (sym (put.1 y i) ∙ e) ]
 
     old : (y : ℤ) (k : ℕ) → of y ≡ Some k → k < J
     old y k e = (w.fresh y k e).2
@@ -244,10 +235,10 @@ module _ (h : Cells) (sets : List (List ℕ)) (N : Term → Type 0) (now : Cells
         longer = (let l = w.longer in let v = wide in omega (arith, l, v));
         same = λ k. family_more S k ∙ w.same k;
         plain = λ v n. elim n [ inl a ↦ w.plain v a | inr a ↦ ap (offence None) (a ∙ is) ];
-        named = λ c n. elim n [ inl a ↦ w.named c a | inr a ↦ absurd (int_var z c (sym is ∙ sym a)) ];
+        named = λ c n. elim n [ inl a ↦ w.named c a | inr a ↦ absurd (int_no_var z c (sym is ∙ sym a)) ];
         numbered = λ y n. elim n [
           | inl a ↦ (let k = w.numbered y a in (k.0, keeps y k.0 k.1))
-          | inr a ↦ (J, ap of' (int_same y z (a ∙ is)) ∙ put.0)
+          | inr a ↦ (J, ap of' (same_int y z (a ∙ is)) ∙ put.0)
         ];
         fresh = λ y k e. elim (was y k e) [
           | inl a ↦ (let t = w.fresh y k a in (inl t.0, t.1, (let l = t.2 in let v = wide in omega (arith, l, v)), t.3))

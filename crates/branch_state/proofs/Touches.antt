@@ -1,10 +1,10 @@
 -- What is posted for touches: the ranges, that they may be posted, and which variables they name.
-use Rattle.std.proofs.Common.{◌≡◌, ℕ, zero, suc, ◌+◌, ◌<◌, ◌≤◌, Bool, true, false, ◌==◌, ◌&&◌, ◌||◌, ℤ, pos, List, [], ◌∷◌, ◌++◌, length, map, take, get_or, IsTrue, refl, ap, sym, ◌∙◌, subst, inl, inr, arith, eqb-true}
+use Rattle.std.proofs.Common.{◌≡◌, ℕ, ◌+◌, ◌<◌, ◌≤◌, true, false, ◌==◌, ◌&&◌, ◌||◌, ℤ, pos, List, [], ◌∷◌, ◌++◌, length, map, take, get_or, IsTrue, refl, ap, sym, ◌∙◌, subst, inl, inr, arith, eqb-true}
 use Rattle.std.specs.Prelude.{All}
 use Rattle.std.specs.List.{list_all}
-use Rattle.std.proofs.lemmas.Bool.{or_cases, or_right, true≢false, and_parts}
+use Rattle.std.proofs.lemmas.Bool.{or_cases, true≢false, and_parts}
 use Rattle.std.proofs.lemmas.Bool.Decides.{nat_tests}
-use Rattle.std.proofs.lemmas.List.{append-nil, append_assoc, take_more}
+use Rattle.std.proofs.lemmas.List.{append-nil, append_assoc, take_more, map-append}
 use Rattle.std.proofs.lemmas.List.Elements.{All-cons, All-nil}
 use Rattle.fd_language.specs.declared.TheConstants.{INFINITY}
 use Rattle.fd_language.specs.declared.range_node.Need.TheVariants.{Whole, Natural}
@@ -13,12 +13,12 @@ use Rattle.fd_language.specs.Needs.{meets}
 use Rattle.fd_language.specs.Range.{Range, Indexical, Span, Dom, Number, set_of, reads}
 use Rattle.fd_language.specs.Unifier.{Unifies}
 use Rattle.fd_language.specs.RangeVerdict.{is_accepted}
-use Rattle.fd_language.proofs.Lemmas.{has_either, in_right}
+use Rattle.fd_language.proofs.Lemmas.{has_either}
 use Rattle.range_code.specs.declared.frame.Arg.{Arg}
 use Rattle.range_code.specs.Frames.{IsFrame, posted}
 use Rattle.range_code.proofs.Lemmas.{posted_below}
 use Rattle.fd_model.specs.Closed.{constrained}
-use Rattle.fd_model.proofs.Lemmas.{posted_right, constrained_either}
+use Rattle.fd_model.proofs.Lemmas.{posted_right, constrained_either, named_right}
 use Rattle.heap_cells.proofs.Lemmas.{head_of, tail_of}
 use Rattle.unify_core.specs.declared.Touch.{Touch}
 use Rattle.unify_core.specs.declared.Touch.TheVariants.{Value, Same}
@@ -119,14 +119,10 @@ some_outside T rising (Value k z ∷ ts) e u =
     some_outside T rising ts (sym (ap (λ b. b && list_all is_natural ts) fits) ∙ e) u.1
 some_outside T rising (Same k j ∷ ts) e u = some_outside T rising ts e u.1
 
-constrained_behind : (ps qs : List Indexical) (k : ℕ) → has (constrained qs) k ≡ true → has (constrained (ps ++ qs)) k ≡ true
-constrained_behind [] qs k h = h
-constrained_behind (p ∷ ps) qs k h = or_right (p.target == k) (has (reads p.range ++ constrained (ps ++ qs)) k) (in_right (reads p.range) (constrained (ps ++ qs)) k (constrained_behind ps qs k h))
-
 pub outside_none : (qs : List Indexical) (ts : List Touch) → list_all is_natural ts ≡ false → HasNoModel (qs ++ posts (store_touches ts))
 outside_none qs ts e T m =
     some_outside T m.closed.family.rising ts e
-    (as_equations INFINITY T m.closed.family (store_touches ts) (λ k c. m.full k (constrained_behind qs (posts (store_touches ts)) k c)) (posted_right (λ p. IsSubset (T p.target) (set_of INFINITY T p.range)) qs (posts (store_touches ts)) m.closed.posted))
+    (as_equations INFINITY T m.closed.family (store_touches ts) (λ k c. m.full k (named_right qs (posts (store_touches ts)) k c)) (posted_right (λ p. IsSubset (T p.target) (set_of INFINITY T p.range)) qs (posts (store_touches ts)) m.closed.posted))
 
 -- one touch more
 postings_more : (ts : List Touch) (t : Touch) → postings (ts ++ t ∷ []) ≡ postings ts ++ touch_postings t
@@ -167,13 +163,9 @@ goal_low count qs r v as' ts known low accepted frame touches k e = elim (constr
 
 -- ---- a constraint's ranges before the touches
 
-map_both : {X Y : Type 0} (f : X → Y) (xs ys : List X) → map f (xs ++ ys) ≡ map f xs ++ map f ys
-map_both f [] ys = refl
-map_both f (x ∷ xs) ys = ap (λ l. f x ∷ l) (map_both f xs ys)
-
 -- the ranges
 pub rows_posted : (is list : List Instance) (ts : List Touch) → map posting is ≡ map posting list ++ postings ts → posted_by is ≡ posted_by list ++ posts (store_touches ts)
-rows_posted is list ts e = map_twice is ∙ ap (map ranged) e ∙ map_both ranged (map posting list) (postings ts) ∙ ap (λ l. l ++ map ranged (postings ts)) (sym (map_twice list)) ∙ ap (λ l. posted_by list ++ l) (ranges_are ts)
+rows_posted is list ts e = map_twice is ∙ ap (map ranged) e ∙ map-append ranged (map posting list) (postings ts) ∙ ap (λ l. l ++ map ranged (postings ts)) (sym (map_twice list)) ∙ ap (λ l. posted_by list ++ l) (ranges_are ts)
 
 each_both : (count : ℕ) (ps qs : List Posting) → EachPosting count ps → EachPosting count qs → EachPosting count (ps ++ qs)
 each_both count [] qs a b = b

@@ -4,6 +4,7 @@ use Rattle.std.specs.Prelude.{All, reverse}
 use Rattle.std.proofs.lemmas.Bool.{false≢true, not-false}
 use Rattle.std.proofs.lemmas.List.{reverse-append, reverse-reverse}
 use Rattle.std.proofs.lemmas.List.Elements.{All-append}
+use Rattle.term_pool.proofs.Lemmas.{size_above_zero}
 use Rattle.term_pool.specs.declared.AtomId.{AtomId}
 use Rattle.term_pool.specs.Terms.{size, sizes}
 use Rattle.fd_language.specs.Term.{Term, Comp}
@@ -13,7 +14,7 @@ use Rattle.heap_cells.specs.declared.Seen.TheVariants as seen
 use Rattle.heap_cells.specs.Cells.{Cells, Compound, IsOf}
 use Rattle.heap_cells.specs.Terms.{Naming, terms_by, Same}
 use Rattle.heap_cells.specs.Valid.{IsHeap}
-use Rattle.heap_cells.proofs.Lemmas.{none_at_all, both_of, all_front, last_of, all_reverse, all_push, head_of, tail_of, size_positive}
+use Rattle.heap_cells.proofs.Lemmas.{none_at_all, both_of, all_front, last_of, all_reverse, all_push, head_of, tail_of}
 use Rattle.builtin_calls.specs.declared.identity.Pair.{Pair}
 use Rattle.builtin_calls.specs.SeenTerms.{family_of, read_term, seen_term}
 use Rattle.builtin_calls.specs.Shown.{shown, IsHeld}
@@ -103,7 +104,7 @@ module _ (h : Cells) (sets : List (List ℕ)) where
     forth = λ name a. all_front (IsEqualPair name h sets) ps (p ∷ []) a;
     back = λ name a. all_push (IsEqualPair name h sets) ps p a (e name);
     own = λ a. all_front (IsOwnPair h) ps (p ∷ []) a;
-    falls = let q = weight-append (seen_term unnamed h sets) ps (p ∷ []) in let r = size_positive (seen_term unnamed h sets p.left) in omega arith;
+    falls = let q = weight-append (seen_term unnamed h sets) ps (p ∷ []) in let r = size_above_zero (seen_term unnamed h sets p.left) in omega arith;
   }
 
   -- pairs that are settled one by one

@@ -3,6 +3,7 @@ use Rattle.std.proofs.Common.{◌≡◌, ℕ, ◌+◌, ◌<◌, ◌≤◌, ℤ, 
 use Rattle.std.specs.Prelude.{All, Result, Ok, Err, codes}
 use Rattle.std.specs.Str.{bytes_eq}
 use Rattle.std.proofs.lemmas.Bool.{not-true}
+use Rattle.term_pool.proofs.Lemmas.{size_above_zero}
 use Rattle.term_pool.specs.declared.AtomId.{AtomId}
 use Rattle.term_pool.specs.Contents.{name_in}
 use Rattle.term_pool.specs.Terms.{size}
@@ -13,7 +14,7 @@ use Rattle.heap_cells.specs.Cells.{Cells, Compound, IsOf}
 use Rattle.heap_cells.specs.Terms.{Naming, terms_by}
 use Rattle.heap_cells.specs.Atoms.{HasAtomsBelow, IsAtomBelow}
 use Rattle.heap_cells.specs.Valid.{IsHeap}
-use Rattle.heap_cells.proofs.Lemmas.{all_front, last_of, all_push, head_of, tail_of, size_positive}
+use Rattle.heap_cells.proofs.Lemmas.{all_front, last_of, all_push, head_of, tail_of}
 use Rattle.builtin_calls.specs.declared.evaluation.EvalFault.{EvalFault}
 use Rattle.builtin_calls.specs.declared.evaluation.EvalFault.TheVariants as fault
 use Rattle.builtin_calls.specs.declared.waiting.Operation.{Operation}
@@ -113,7 +114,7 @@ module _ (names : List Name) (h : Cells) (sets : List (List ℕ)) where
   integer_goes ws c y v = record {
     value = λ name n. ap (resumed (seen_term name h sets) ws) (v name);
     own = λ s a. (tt, a);
-    falls = let p = size_positive (seen_term unnamed h sets c) in omega arith;
+    falls = let p = size_above_zero (seen_term unnamed h sets c) in omega arith;
   }
 
   -- a term that has a fault

@@ -2,7 +2,7 @@
 use Rattle.std.proofs.Common.{◌≡◌, ℕ, suc, pos, ◌≤◌, true, false, eqb, List, [], ◌∷◌, Option, Some, None, MatchOption, OnSome, refl, ap, sym, ◌∙◌, arith, eq-eqb, eqb-true, Bor}
 use Rattle.std.specs.Option.{option_eq}
 use Rattle.std.proofs.lemmas.Bool.{true≢false}
-use Rattle.fd_language.specs.Term.{Name, Term, Terms, Var, Int, Comp, term, Substitution, apply, apply_all}
+use Rattle.fd_language.specs.Term.{Name, Terms, Var, Int, Comp}
 use Rattle.fd_language.specs.Family.{IsRising}
 use Rattle.fd_language.specs.Range.{least, greatest, is_none_left}
 use Rattle.term_pool.specs.declared.AtomId.{AtomId}
@@ -13,7 +13,7 @@ use Rattle.heap_cells.specs.Cells.{Cells, is_bound, slot_at, Compound}
 use Rattle.heap_cells.specs.Terms.{Naming, terms_by, term_of}
 use Rattle.heap_cells.specs.Seen.{IsSeen}
 use Rattle.heap_cells.specs.Valid.{IsHeap}
-use Rattle.heap_cells.proofs.Lemmas.{unbound_term, term-Int, term-Atom, term-Struct}
+use Rattle.heap_cells.proofs.Lemmas.{unbound_term, term-Int, term-Atom, term-Struct, apply-terms_by}
 use Rattle.builtin_calls.specs.SeenTerms.{family_of, link_of, value_in, value_at, read_term, seen_term}
 use Rattle.builtin_calls.specs.Shown.{only, shown, IsHeld}
 
@@ -64,11 +64,6 @@ value_of_none [] c e = refl
 value_of_none (v ∷ []) c e = absurd (let f : ⊥ = cc in f)
 value_of_none (v ∷ x ∷ xs) c e = refl
 
--- each of some terms under a substitution
-pub applied_each : (s : Substitution) (by : Cell → Term) (cs : List Cell) → apply_all s (terms_by by cs) ≡ terms_by (λ c. apply s (by c)) cs
-applied_each s by [] = refl
-applied_each s by (c ∷ cs) = ap (term (apply s (by c))) (applied_each s by cs)
-
 module _ (name : Naming) (h : Cells) (sets : List (List ℕ)) (valid : IsHeap h) (c : Cell) where
   linked_term : (i k : ℕ) → IsSeen h c (seen.Constrained i k) → seen_term name h sets c ≡ value_in (family_of sets k) i
   linked_term i k s = ap (read_term h (family_of sets)) (s.2 name ∙ unbound_term name h valid i (ap is_bound s.1)) ∙ ap (λ l. value_at (link_of l) (family_of sets) i) s.1
@@ -85,7 +80,7 @@ module _ (name : Naming) (h : Cells) (sets : List (List ℕ)) (valid : IsHeap h)
   shown_else (seen.Atom a) s n = ap (read_term h (family_of sets)) (s name ∙ term-Atom name h valid a)
   shown_else (seen.Struct f args) s n =
       ap (read_term h (family_of sets)) (s.3 name ∙ term-Struct name h valid s.0 ∙ ap (λ (d : Compound). Comp (name d.name) (terms_by (term_of name h) d.args)) s.2)
-      ∙ ap (Comp (name f)) (applied_each (λ i. value_at (link_of (slot_at h i)) (family_of sets) i) (term_of name h) args.now)
+      ∙ ap (Comp (name f)) (apply-terms_by (λ i. value_at (link_of (slot_at h i)) (family_of sets) i) (term_of name h) args.now)
 
   simple_value : (xs : List ℕ) (i : ℕ) (f : Name) (ts : Terms) → value_in xs i ≡ Comp f ts → ⊥
   simple_value [] i f ts e = cc

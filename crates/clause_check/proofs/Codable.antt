@@ -1,15 +1,18 @@
 -- There is code for the program of accepted sentences.
-use Rattle.std.proofs.Common.{◌≡◌, ℕ, zero, suc, ◌≤◌, Bool, true, false, cond, nat_lt, min, List, [], ◌∷◌, ◌++◌, map, Option, Some, None, refl, sym, ap, subst, arith}
+use Rattle.std.proofs.Common.{◌≡◌, ℕ, zero, suc, ◌≤◌, Bool, true, false, cond, nat_lt, List, [], ◌∷◌, ◌++◌, map, Option, Some, None, refl, sym, ap, subst, arith}
 use Rattle.fd_language.specs.Term.{Name}
 use Rattle.std.proofs.lemmas.Bool.{ltb-false}
 use Rattle.std.specs.Str.{bytes_eq}
 use Rattle.std.specs.Prelude.{codes, IsTrue, slice_get}
+use Rattle.fd_model.proofs.Lemmas.{first_none, later_none}
+use Rattle.range_terms.proofs.Lemmas.{least_none}
+use Rattle.fd_language.proofs.Lemmas.{first_nil, second_nil}
 use Rattle.fd_language.specs.PlacedTerm.{PlacedTerm, PlacedTerms, var, int, atom, comp, no_parts, part, plain, all_plain}
 use Rattle.fd_language.specs.Lists.{Each}
 use Rattle.fd_language.specs.Reading.{Sentence}
 use Rattle.fd_language.specs.Spelling.{least_place}
 use Rattle.fd_model.specs.Forms.{GoalForm, truth, failure, unification, posting, constraint, labelling, builtin, forms, form_in}
-use Rattle.fd_model.specs.Refusals.{Form, query, clause, directive, fact, form_of, Functor, functor_of, second_part, Refusal, or_later, count, most_arguments, wide_places, wide_places_of, too_wide, clause_refusal, sentence_refusal, first_refusal}
+use Rattle.fd_model.specs.Refusals.{Form, query, clause, directive, fact, form_of, Functor, functor_of, second_part, count, most_arguments, wide_places, wide_places_of, too_wide, clause_refusal, sentence_refusal, first_refusal}
 use Rattle.fd_model.specs.Queries.{first_part, goal_by_form, goal_named, form_of_functor, goal_of, followed, body_goals, is_shown, shown_from, queries_by, queries_of, clauses_by, clauses_of, program_of}
 use Rattle.fd_model.specs.Goal.{Goals, no_goals, goal, listed, Either, Clause, Query}
 use Rattle.term_reader.specs.GivenParts.{AreSome, HasParts, EachHasParts}
@@ -23,14 +26,6 @@ either P false x y h g = g
 
 abbrev AsTerm : PlacedTerm → Type 0
 AsTerm t = IsNarrow (plain t)
-
-first_empty : (xs ys : List ℕ) → xs ++ ys ≡ [] → xs ≡ []
-first_empty [] ys e = refl
-first_empty (x ∷ xs) ys e = absurd cc
-
-later_empty : (xs ys : List ℕ) → xs ++ ys ≡ [] → ys ≡ []
-later_empty [] ys e = e
-later_empty (x ∷ xs) ys e = absurd cc
 
 counted : (ts : PlacedTerms) → arguments_in (all_plain ts) ≡ count ts
 counted no_parts = refl
@@ -56,7 +51,7 @@ mutual
   terms_narrow : (ts : PlacedTerms) → wide_places_of ts ≡ [] → EachHasParts ts → AreNarrow (all_plain ts)
   terms_narrow no_parts e k = tt
   terms_narrow (part t ts) e k =
-      (term_narrow t (first_empty (wide_places t) (wide_places_of ts) e) k.0, terms_narrow ts (later_empty (wide_places t) (wide_places_of ts) e) k.1)
+      (term_narrow t (first_nil (wide_places t) (wide_places_of ts) e) k.0, terms_narrow ts (second_nil (wide_places t) (wide_places_of ts) e) k.1)
 
 -- ---- goals
 
@@ -195,36 +190,16 @@ clause_codable s (fact t) later h g = ((h, tt), g)
 
 -- ---- the text
 
-no_place : (ps : List ℕ) → least_place ps ≡ None → ps ≡ []
-no_place [] e = refl
-no_place (p ∷ ps) e = some p ps e
-  where
-    some : (q : ℕ) (qs : List ℕ) → least_place (q ∷ qs) ≡ None → q ∷ qs ≡ []
-    some q [] k = absurd cc
-    some q (r ∷ qs) k = absurd (never (min q r) qs k)
-      where
-        never : (n : ℕ) (ns : List ℕ) → least_place (n ∷ ns) ≡ None → ⊥
-        never n [] k = cc
-        never n (m ∷ ns) k = never (min n m) ns k
-
 not_wide : (o : Option ℕ) → too_wide o ≡ None → o ≡ None
 not_wide None e = refl
 not_wide (Some p) e = absurd cc
-
-first_none : (a b : Option Refusal) → or_later a b ≡ None → a ≡ None
-first_none None b e = refl
-first_none (Some r) b e = e
-
-later_none : (a b : Option Refusal) → or_later a b ≡ None → b ≡ None
-later_none None b e = e
-later_none (Some r) b e = absurd cc
 
 sentences_codable : (M : ℕ) (all : List PlacedTerm) (ss : List Sentence) → first_refusal M all (map (λ s. s.term) ss) ≡ None → Each (λ s. HasParts s.term) ss → ClausesCodable (clauses_of ss) × QueriesCodable (queries_of ss)
 sentences_codable M all [] h k = (tt, tt)
 sentences_codable M all (s ∷ ss) h k =
     let here = first_none (sentence_refusal M all s.term) (first_refusal M all (map (λ s. s.term) ss)) h in
     let mine = first_none (too_wide (least_place (wide_places s.term))) (clause_refusal M all s.term (form_of s.term)) here in
-    let narrow : AsTerm s.term = term_narrow s.term (no_place (wide_places s.term) (not_wide (least_place (wide_places s.term)) mine)) k.0 in
+    let narrow : AsTerm s.term = term_narrow s.term (least_none (wide_places s.term) (not_wide (least_place (wide_places s.term)) mine)) k.0 in
     let form = sentence_form_codable s.term narrow in
     let others = sentences_codable M all ss (later_none (sentence_refusal M all s.term) (first_refusal M all (map (λ s. s.term) ss)) h) k.1 in
     (clause_codable s (form_of s.term) (clauses_of ss) form others.0, query_codable s (form_of s.term) (queries_of ss) form others.1)

@@ -1,14 +1,13 @@
 -- What is kept of a goal.
-use Rattle.std.proofs.Common.{◌≡◌, ℕ, ◌+◌, ◌<◌, List, [], ◌∷◌, ◌++◌, Option, Some, None, length, refl, sym, ap, ◌∙◌, subst, arith, length-append, append-nil, IsTrue}
+use Rattle.std.proofs.Common.{◌≡◌, ℕ, ◌+◌, ◌<◌, List, [], ◌∷◌, ◌++◌, Option, Some, None, length, sym, ap, ◌∙◌, subst, arith, length-append, append-nil, IsTrue}
 use Rattle.std.proofs.lemmas.List.Elements.{All-push}
 use Rattle.std.proofs.Math.Seq.{get_or-append_seam}
+use Rattle.fd_model.proofs.Lemmas.{later_none, unoffended}
 use Rattle.fd_language.specs.Term.{Term}
 use Rattle.fd_language.specs.PlacedTerm.{PlacedTerm, plain}
 use Rattle.fd_language.specs.Range.{Range}
 use Rattle.fd_language.specs.RangeVerdict.{verdict, is_accepted}
 use Rattle.fd_language.specs.Spelling.{read_range, not_a_range, empty_range}
-use Rattle.fd_language.specs.declared.range_node.Offence.{Offence}
-use Rattle.fd_language.specs.declared.range_node.Offence.TheVariants.{NotMonotone, NotNatural, BadDivisor, TooWide}
 use Rattle.fd_language.specs.declared.TheConstants.{INFINITY}
 use Rattle.fd_language.proofs.Lemmas.{verdict_agrees}
 use Rattle.fd_model.specs.declared.kinds.Order.{Order}
@@ -16,7 +15,7 @@ use Rattle.fd_model.specs.Forms.{GoalForm, unification, posting, labelling, form
 use Rattle.fd_model.specs.Goal as model
 use Rattle.fd_model.specs.Queries.{first_part, goal_by_form, goal_named, form_of_functor, goal_of}
 use Rattle.fd_model.specs.Refusals as refusals
-use Rattle.fd_model.specs.Refusals.{Refusal, or_later, unspelled, offence_refusal, range_refusal, second_part, functor_of}
+use Rattle.fd_model.specs.Refusals.{unspelled, offence_refusal, range_refusal, second_part, functor_of}
 use Rattle.term_pool.specs.declared.TermId.{TermId}
 use Rattle.term_pool.specs.Contents.{Contents}
 use Rattle.term_pool.specs.Terms.{term_of}
@@ -28,17 +27,6 @@ use Rattle.clause_check.specs.Kept.{AreAccepted, KeepsGoal}
 use Rattle.clause_check.specs.Programs.{tree_of, range_in, HasArguments, IsGoal}
 use Rattle.clause_check.specs.Terms.{IsPartOf}
 use Rattle.clause_check.proofs.FormNames.{functor_arguments}
-
-later_none : (a b : Option Refusal) → or_later a b ≡ None → b ≡ None
-later_none None b e = e
-later_none (Some r) b e = absurd (cc)
-
-unoffended : (o : Option Offence) → offence_refusal o ≡ None → o ≡ None
-unoffended None e = refl
-unoffended (Some (NotMonotone p)) e = absurd (cc)
-unoffended (Some (NotNatural p)) e = absurd (cc)
-unoffended (Some (BadDivisor p)) e = absurd (cc)
-unoffended (Some (TooWide p)) e = absurd (cc)
 
 -- a range that isn't refused is accepted
 range_accepted : (M : ℕ) (r : PlacedTerm) (range : Range) → range_refusal M r ≡ None → range ≡ (read_range r).tree → IsTrue (is_accepted M range)

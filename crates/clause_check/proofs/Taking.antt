@@ -4,8 +4,8 @@ use Rattle.std.specs.Prelude.{All}
 use Rattle.std.proofs.lemmas.List.{append_assoc, map-append, length-map, length-take-le}
 use Rattle.std.proofs.lemmas.List.Elements.{All-nil, All-cons, All-push}
 use Rattle.std.proofs.Math.Seq.{take-append_seam, drop-append_seam}
+use Rattle.term_pool.proofs.Lemmas.{size_above_zero}
 use Rattle.fd_language.specs.Range.{Range}
-use Rattle.fd_language.specs.Term.{Term, Var, Int, Atom, Comp}
 use Rattle.fd_language.specs.declared.TheConstants.{INFINITY}
 use Rattle.fd_language.proofs.Lemmas.{two}
 use Rattle.fd_model.specs.Goal as model
@@ -36,12 +36,6 @@ use Rattle.clause_check.proofs.Tasks.{stack_push, stack_grow, weight-nil, weight
 listed_followed : (gs hs : Goals) → listed (followed gs hs) ≡ listed gs ++ listed hs
 listed_followed no_goals hs = refl
 listed_followed (goal g gs) hs = ap (λ (xs : List model.Goal). g ∷ xs) (listed_followed gs hs)
-
-size_above_zero : (x : Term) → 0 < size x
-size_above_zero (Var n) = omega arith
-size_above_zero (Int z) = omega arith
-size_above_zero (Atom a) = omega arith
-size_above_zero (Comp f ts) = omega arith
 
 pub grown_trans : (a b d : GoalStore) → IsGrown a b → IsGrown b d → IsGrown a d
 grown_trans a b d g h = record {

@@ -199,7 +199,7 @@ one_goal b homes apart framed made free at ts i g all long f simple there takes 
 
 -- ---- goals, one behind the other
 
-renamed_both : (f : ℕ → ℕ) (gs hs : List Goal) (later : List Goal) → map (rename_goal f) (gs ++ hs) ++ later ≡ map (rename_goal f) gs ++ (map (rename_goal f) hs ++ later)
+pub renamed_both : (f : ℕ → ℕ) (gs hs : List Goal) (later : List Goal) → map (rename_goal f) (gs ++ hs) ++ later ≡ map (rename_goal f) gs ++ (map (rename_goal f) hs ++ later)
 renamed_both f [] hs later = refl
 renamed_both f (g ∷ gs) hs later = ap (λ l. rename_goal f g ∷ l) (renamed_both f gs hs later)
 

@@ -1,6 +1,7 @@
 -- Terms that are built, and the arguments of goals and heads.
 use Rattle.std.proofs.Common.{◌≡◌, ℕ, suc, ◌+◌, ◌<◌, ◌≤◌, Bool, true, List, ◌∷◌, ◌++◌, Some, length, refl, ap, sym, ◌∙◌, subst, arith, inl, inr}
 use Rattle.std.proofs.lemmas.Bool.{cases_eq}
+use Rattle.fd_language.proofs.Lemmas.{first_member}
 use Rattle.fd_language.specs.Family.{has}
 use Rattle.fd_language.specs.Term.{Name, Term, Terms, Var, Int, Atom, Comp, no_terms, term}
 use Rattle.fd_language.specs.Unifier.{Equation}
@@ -19,7 +20,7 @@ use Rattle.clause_code.specs.Steps.{Step, put_structure, get_structure, marked_b
 use Rattle.clause_code.specs.ArgumentHomes.{Waits, AllWait, Lands, AllLand}
 use Rattle.clause_code.proofs.Homes.{put_here, put_else}
 use Rattle.clause_code.proofs.Pieces.{equation, does_get_structure, does_put_structure}
-use Rattle.clause_code.proofs.Making.{drop_else, has_first, has_more, Clear, Spared, clear_spared, AreApart}
+use Rattle.clause_code.proofs.Making.{drop_else, has_more, Clear, Spared, clear_spared, AreApart}
 use Rattle.clause_code.proofs.Going.{when_true, plain_of, moved, moved_all, count_moved, AllMade, At, Went, WentBy, went_nothing, went_steps}
 use Rattle.clause_code.proofs.Sparing.{get_spared, inner_spared}
 use Rattle.clause_code.proofs.Stepping.{at_wrote, at_owed, at_without, went_get_variable, went_get_constant, went_get_integer, Put, put_variable_step, put_constant_step, put_integer_step, InRegisters, registers_kept, parts_gave}
@@ -65,7 +66,7 @@ module _ (b : Base) (n : ℕ) (homes : List Register) (apart : AreApart homes) w
           };
         };
         here = put_here r t v.q.x ∙ ap (λ x. Some (Comp x (moved_all n us))) h.name;
-        set = v.regs r (has_first r s.regs);
+        set = v.regs r (first_member r s.regs);
       }
 
   -- and its compound arguments before it

@@ -37,7 +37,7 @@ use Rattle.clause_code.proofs.Going.{when_true, both, plain_of, moved, moved_all
 use Rattle.clause_code.proofs.Building.{gets_went, PutAllBy, puts_put}
 use Rattle.clause_code.proofs.Filling.{filled_made, fills_went}
 use Rattle.clause_code.proofs.Flowing.{flows_both, flows_runs, flows_simple, flows_runs_less, enters_runs, enters_both, safe_ends, get_both}
-use Rattle.clause_code.proofs.Bodies.{between_in, at_body, body_at, Fine, single_enters, steps_enter}
+use Rattle.clause_code.proofs.Bodies.{between_in, at_body, body_at, Fine, single_enters, steps_enter, renamed_both}
 use Rattle.clause_code.proofs.GoalKinds.{given_cells, moved_made}
 use Rattle.clause_code.proofs.SameGoals.{goals_identity}
 
@@ -366,10 +366,6 @@ tail_execute b homes apart framed made_now free at all long e s us h ar le fine 
     back_enters true i e = single_enters Deallocate refl i e
 
 -- ---- a whole clause
-
-renamed_both : (f : ℕ → ℕ) (gs hs : List Goal) (later : List Goal) → map (rename_goal f) (gs ++ hs) ++ later ≡ map (rename_goal f) gs ++ (map (rename_goal f) hs ++ later)
-renamed_both f [] hs later = refl
-renamed_both f (g ∷ gs) hs later = ap (λ l. rename_goal f g ∷ l) (renamed_both f gs hs later)
 
 inner_answers : (i : Code) → IsTrue (is_inner i) → i ≡ AnswerNow → ⊥
 inner_answers i h e = true≢false (sym h ∙ ap is_inner e)

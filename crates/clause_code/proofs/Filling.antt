@@ -14,7 +14,7 @@ use Rattle.clause_code.proofs.Stepping.{put_new_step}
 
 -- ---- which are made
 
-marked_long : (made : List Bool) (x : ℕ) → length (marked made x) ≡ length made
+pub marked_long : (made : List Bool) (x : ℕ) → length (marked made x) ≡ length made
 marked_long made x = by (is_made made x)
   where
     by : (c : Bool) → length (if c then made else slice_set made x true) ≡ length made

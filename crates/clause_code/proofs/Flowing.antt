@@ -24,7 +24,7 @@ get_left [] ys n y l e = absurd (omega (arith, l))
 get_left (x ∷ xs) ys zero y l e = e
 get_left (x ∷ xs) ys (suc n) y l e = get_left xs ys n y (omega (arith, l)) e
 
-into_left : {A : Type 0} (xs ys : List A) (n : ℕ) (y : A) → slice_get xs n ≡ Some y → slice_get (xs ++ ys) n ≡ Some y
+pub into_left : {A : Type 0} (xs ys : List A) (n : ℕ) (y : A) → slice_get xs n ≡ Some y → slice_get (xs ++ ys) n ≡ Some y
 into_left [] ys n y e = absurd (cc)
 into_left (x ∷ xs) ys zero y e = e
 into_left (x ∷ xs) ys (suc n) y e = into_left xs ys n y e

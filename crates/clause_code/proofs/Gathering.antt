@@ -18,7 +18,7 @@ use Rattle.clause_code.specs.Pieces.{Predicate}
 use Rattle.clause_code.specs.Predicates.{predicate_in, IsOfOne, ArePredicates, HasFunctor, HasOne, AreFunctors, Gathers, Gathered}
 use Rattle.clause_code.specs.declared.predicates.Functor.{Functor}
 use Rattle.clause_code.proofs.Numbers.{same_functor, same_means, functor_itself}
-use Rattle.clause_code.proofs.Flowing.{get_both}
+use Rattle.clause_code.proofs.Flowing.{get_both, into_left}
 use Rattle.clause_code.proofs.Rests.{count_terms}
 
 -- ---- the functor of a term
@@ -37,11 +37,6 @@ compound_functor c t a ids n e l k low high =
     }
 
 -- ---- one more functor
-
-into_left : {A : Type 0} (xs ys : List A) (n : ℕ) (x : A) → slice_get xs n ≡ Some x → slice_get (xs ++ ys) n ≡ Some x
-into_left [] ys n x e = absurd (cc)
-into_left (y ∷ xs) ys zero x e = e
-into_left (y ∷ xs) ys (suc n) x e = into_left xs ys n x e
 
 at_end : {A : Type 0} (xs : List A) (x : A) → slice_get (xs ++ (x ∷ [])) (length xs) ≡ Some x
 at_end [] x = refl

@@ -1,7 +1,7 @@
 -- The registers of a clause's variables, one instruction after the other.
-use Rattle.std.proofs.Common.{◌≡◌, ℕ, ◌+◌, ◌-◌, ◌<◌, ◌≤◌, nat_lt, Bool, true, false, ◌&&◌, if◌then◌else◌, Option, Some, refl, ap, sym, ◌∙◌, arith, eq-eqb, ne_eqb}
+use Rattle.std.proofs.Common.{◌≡◌, ℕ, ◌+◌, ◌-◌, ◌<◌, ◌≤◌, Bool, true, false, ◌&&◌, if◌then◌else◌, Option, Some, refl, ap, sym, ◌∙◌, eq-eqb, ne_eqb}
 use Rattle.std.proofs.lemmas.Bool.{true≢false}
-use Rattle.std.proofs.lemmas.Bool.Decides.{nat_tests}
+use Rattle.fd_model.proofs.Lemmas.{below_test}
 use Rattle.fd_language.specs.Term.{Term, Terms, Var, Int, Atom, Comp, no_terms, term}
 use Rattle.machine_relation.specs.Heap.{Of, AllOf}
 use Rattle.wam_code.specs.declared.instruction.Register.{Register}
@@ -47,9 +47,6 @@ pub write_top : (p : Places) (r : Register) (t : Term) → (write p r t).top ≡
 write_top p (X i) t = refl
 write_top p (Y i) t = refl
 
-pub lower : (x n : ℕ) → nat_lt x n ≡ true → x < n
-lower x n e = grind (arith, nat_tests)
-
 -- ---- from a goal on
 
 both_true : (a b : Bool) → a && b ≡ true → (a ≡ true) × (b ≡ true)
@@ -58,7 +55,7 @@ both_true false b e = absurd (true≢false (sym e))
 
 mutual
   below_holds : (n : ℕ) (t : Term) → is_below n t ≡ true → Of (λ x. x < n) t
-  below_holds n (Var x) e = lower x n e
+  below_holds n (Var x) e = below_test x n e
   below_holds n (Int z) e = tt
   below_holds n (Atom a) e = tt
   below_holds n (Comp f ts) e = all_below n ts e

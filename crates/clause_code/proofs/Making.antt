@@ -1,7 +1,8 @@
 -- Variables that are made one after the other, in registers of their own: what is kept of the places and of the states.
-use Rattle.std.proofs.Common.{◌≡◌, ℕ, zero, suc, ◌+◌, ◌<◌, Bool, true, false, ◌||◌, ◌==◌, List, [], ◌∷◌, Option, Some, None, option_map, length, slice_get, slice_set, refl, ap, sym, ◌∙◌, subst, arith, eq-eqb, ne_eqb, if◌then◌else◌, inl, inr, length-set, get_or-set_same, get_or-set_other}
+use Rattle.std.proofs.Common.{◌≡◌, ℕ, zero, suc, ◌+◌, ◌<◌, Bool, true, false, ◌||◌, ◌==◌, List, [], ◌∷◌, Option, Some, None, option_map, length, slice_get, slice_set, refl, ap, sym, ◌∙◌, subst, arith, ne_eqb, if◌then◌else◌, inl, inr, length-set, get_or-set_same, get_or-set_other}
 use Rattle.std.proofs.lemmas.Bool.{cases_eq, true≢false}
 use Rattle.std.proofs.lemmas.Option.{slice_get-get_or, slice_get_within}
+use Rattle.fd_language.proofs.Lemmas.{first_member}
 use Rattle.fd_language.specs.Family.{has}
 use Rattle.fd_language.specs.Term.{Term, Var}
 use Rattle.wam_code.specs.declared.instruction.Register.{Register}
@@ -23,9 +24,6 @@ get_set_else (x ∷ xs) zero zero y h = absurd (h refl)
 get_set_else (x ∷ xs) zero (suc j) y h = refl
 get_set_else (x ∷ xs) (suc i) zero y h = refl
 get_set_else (x ∷ xs) (suc i) (suc j) y h = get_set_else xs i j y (λ e. h (ap suc e))
-
-pub has_first : (n : ℕ) (rs : List ℕ) → has (n ∷ rs) n ≡ true
-has_first n rs = ap (λ b. b || has rs n) (eq-eqb n n refl)
 
 pub has_more : (m n : ℕ) (rs : List ℕ) → has rs n ≡ true → has (m ∷ rs) n ≡ true
 has_more m n rs e = by (m == n)
@@ -56,7 +54,7 @@ drop_else i r j h = ap (λ c. if c then None else r j) (ne_eqb j i h)
 
 -- What becomes a cell is one.
 pub set_here : (s : State) (r : Register) → is_free s r ≡ true → is_set (with_set s r) r ≡ true
-set_here s (X n) h = has_first n s.regs
+set_here s (X n) h = first_member n s.regs
 set_here s (Y n) h = cell_here s.frame n h
 
 -- And other registers are as before.

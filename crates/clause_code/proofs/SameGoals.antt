@@ -2,10 +2,9 @@
 use Rattle.std.proofs.Common.{◌≡◌, ℕ, List, [], ◌∷◌, map, refl, ap}
 use Rattle.fd_language.specs.Range.{Range, Span, One, Dom, Union, Inter, Outside, Plus, Minus, Times, Over, Expr, Number, Infinity, Param, Min, Max, Val, Add, Sub, Mul, DivDown, DivUp}
 use Rattle.fd_language.specs.RangeRenaming.{rename_expr, rename_range}
-use Rattle.fd_language.proofs.Lemmas.{two}
+use Rattle.fd_language.proofs.Lemmas.{two, apply_vars}
 use Rattle.fd_model.specs.Goal.{Goal, Goals, no_goals, goal, True, Fail, Unify, Post, Constrain, Label, Call, Either, Builtin}
 use Rattle.fd_model.specs.Renaming.{rename_goal, rename_goals}
-use Rattle.machine_relation.proofs.Lemmas.{same_term}
 
 abbrev itself : ℕ → ℕ
 itself x = x
@@ -39,13 +38,13 @@ mutual
   same_goal : (g : Goal) → rename_goal itself g ≡ g
   same_goal True = refl
   same_goal Fail = refl
-  same_goal (Unify a b) = two Unify (same_term a) (same_term b)
-  same_goal (Post t r) = two Post (same_term t) (same_range r)
-  same_goal (Constrain c t) = ap (Constrain c) (same_term t)
-  same_goal (Label o t) = ap (Label o) (same_term t)
-  same_goal (Call t) = ap Call (same_term t)
+  same_goal (Unify a b) = two Unify (apply_vars a) (apply_vars b)
+  same_goal (Post t r) = two Post (apply_vars t) (same_range r)
+  same_goal (Constrain c t) = ap (Constrain c) (apply_vars t)
+  same_goal (Label o t) = ap (Label o) (apply_vars t)
+  same_goal (Call t) = ap Call (apply_vars t)
   same_goal (Either a b) = two Either (same_goals a) (same_goals b)
-  same_goal (Builtin b t) = ap (Builtin b) (same_term t)
+  same_goal (Builtin b t) = ap (Builtin b) (apply_vars t)
 
   same_goals : (gs : Goals) → rename_goals itself gs ≡ gs
   same_goals no_goals = refl

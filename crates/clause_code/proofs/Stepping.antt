@@ -2,6 +2,7 @@
 use Rattle.std.proofs.Common.{◌≡◌, ℕ, suc, ℤ, ◌+◌, ◌-◌, ◌<◌, ◌≤◌, Bool, true, false, IsTrue, if◌then◌else◌, List, [], ◌∷◌, ◌++◌, Option, Some, None, option_map, length, slice_set, refl, ap, sym, ◌∙◌, subst, arith, eq-eqb, length-set}
 use Rattle.std.proofs.lemmas.Bool.{true≢false}
 use Rattle.std.proofs.lemmas.Bool.Decides.{nat_tests}
+use Rattle.fd_language.proofs.Lemmas.{first_member}
 use Rattle.fd_language.specs.Family.{has}
 use Rattle.fd_language.specs.Term.{Term, Terms, Var, Int, Atom, Comp, no_terms, term}
 use Rattle.fd_language.specs.Unifier.{Equation}
@@ -21,7 +22,7 @@ use Rattle.clause_code.specs.Steps.{Step, get_variable, unify_variable, put_vari
 use Rattle.clause_code.specs.ArgumentHomes.{Lands}
 use Rattle.clause_code.proofs.Homes.{put_here, put_else}
 use Rattle.clause_code.proofs.Pieces.{equation, does_nothing, does_learn, does_get_variable, does_get_value, does_get_constant, does_get_integer, no_parts, part_variable, part_value, part_constant, part_integer, does_put_variable, does_put_value, does_put_constant, does_put_integer}
-use Rattle.clause_code.proofs.Making.{has_first, has_more, regs_more, made_here, made_still, Clear, Spared, Grows, clear_spared, AreApart, fits_made, fits_wrote, fits_without, tracks_made, tracks_stays, tracks_set, tracks_owed}
+use Rattle.clause_code.proofs.Making.{has_more, regs_more, made_here, made_still, Clear, Spared, Grows, clear_spared, AreApart, fits_made, fits_wrote, fits_without, tracks_made, tracks_stays, tracks_set, tracks_owed}
 use Rattle.clause_code.proofs.Going.{when_true, both, plain_of, owing_of, owed_of_set, x_of_written, moved_all, AllMade, At, Keeps, Went, Gave}
 
 pub register_is : (r : Register) (a : ℕ) → is_register r a ≡ true → r ≡ X a
@@ -183,7 +184,7 @@ module _ (b : Base) (n : ℕ) (homes : List Register) (apart : AreApart homes) w
           keeps = wrote_keeps made p s r free (Var (n + x));
         };
         here = put_here r (Var (n + x)) p.x;
-        set = has_first r s.regs;
+        set = first_member r s.regs;
       }
 
   -- a variable is made
@@ -208,7 +209,7 @@ module _ (b : Base) (n : ℕ) (homes : List Register) (apart : AreApart homes) w
           };
         };
         here = put_here r (Var (n + x)) mid.x;
-        set = has_first r u.regs;
+        set = first_member r u.regs;
       }
 
   pub put_constant_step : (made : List Bool) (at : ℕ) (k : AtomId) (r free : ℕ) (p : Places) (s : State) (es : List Equation) → At n homes made p s → s.owed ≡ 0 → k.number < length b.pool.names → Clear homes r
@@ -224,7 +225,7 @@ module _ (b : Base) (n : ℕ) (homes : List Register) (apart : AreApart homes) w
       keeps = wrote_keeps made p s r free (Atom (atom_name b.pool k));
     };
     here = put_here r (Atom (atom_name b.pool k)) p.x;
-    set = has_first r s.regs;
+    set = first_member r s.regs;
   }
 
   pub put_integer_step : (made : List Bool) (at : ℕ) (z : ℤ) (r free : ℕ) (p : Places) (s : State) (es : List Equation) → At n homes made p s → s.owed ≡ 0 → Clear homes r
@@ -240,7 +241,7 @@ module _ (b : Base) (n : ℕ) (homes : List Register) (apart : AreApart homes) w
       keeps = wrote_keeps made p s r free (Int z);
     };
     here = put_here r (Int z) p.x;
-    set = has_first r s.regs;
+    set = first_member r s.regs;
   }
 
   -- ---- the arguments of a structure

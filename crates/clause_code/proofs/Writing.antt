@@ -1,16 +1,17 @@
 -- Steps that are written, one after the other.
-use Rattle.std.proofs.Common.{◌≡◌, ℕ, suc, ◌<◌, Bool, true, false, if◌then◌else◌, List, [], ◌∷◌, ◌++◌, Some, length, slice_get, slice_set, refl, ap, sym, ◌∙◌, append_assoc, length-set, unwrap_or, zero}
+use Rattle.std.proofs.Common.{◌≡◌, ℕ, suc, ◌<◌, Bool, true, false, if◌then◌else◌, List, [], ◌∷◌, ◌++◌, Some, length, slice_get, refl, ap, sym, ◌∙◌, append_assoc, unwrap_or, zero}
 use Rattle.std.proofs.lemmas.Bool.{true≢false}
 use Rattle.std.proofs.lemmas.Option.{slice_get-get_or, slice_get_within}
 use Rattle.std.proofs.lemmas.Slice.Eq.{bytes_eq-Decides}
 use Rattle.std.specs.Str.{bytes_eq}
+use Rattle.clause_code.proofs.Filling.{marked_long}
 use Rattle.fd_language.specs.Term.{Name}
 use Rattle.term_pool.specs.declared.AtomId.{AtomId}
 use Rattle.term_pool.specs.Contents.{Contents, atom_name}
 use Rattle.term_pool.specs.Valid.{IsPool}
 use Rattle.wam_code.specs.declared.instruction.Register.{Register}
 use Rattle.wam_code.specs.declared.instruction.Code.{Code}
-use Rattle.clause_code.specs.Steps.{Step, get_variable, unify_variable, put_variable, is_made, marked, marked_by, marked_by_all, code_of, place_in, atom_of}
+use Rattle.clause_code.specs.Steps.{Step, get_variable, unify_variable, put_variable, marked_by, marked_by_all, code_of, place_in, atom_of}
 use Rattle.clause_code.specs.Works.{Writes}
 use Rattle.clause_code.proofs.Going.{code_both, marked_both}
 
@@ -30,13 +31,6 @@ owes_less homes code new made later ss ts whole last o w = record {
       ∙ o.codes;
   marks = ap (λ m. marked_by_all m ts) w.marks ∙ sym (marked_both made ss ts) ∙ o.marks;
 }
-
-pub marked_long : (made : List Bool) (x : ℕ) → length (marked made x) ≡ length made
-marked_long made x = by (is_made made x)
-  where
-    by : (c : Bool) → length (if c then made else slice_set made x true) ≡ length made
-    by true = refl
-    by false = length-set made x true
 
 pub marked_by_long : (made : List Bool) (s : Step) → length (marked_by made s) ≡ length made
 marked_by_long made (get_variable x a) = marked_long made x

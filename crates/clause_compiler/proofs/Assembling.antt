@@ -34,7 +34,7 @@ use Rattle.clause_compiler.specs.Switched.{ShowsKind, IsClauseOf, HasSwitches}
 use Rattle.clause_compiler.specs.Groups.{head_predicate, is_predicate, numbers_of}
 use Rattle.clause_compiler.specs.Layout.{joined, offset, AreChoicesOf, BeginsClause, IsSpanOf, IsLaidOut}
 use Rattle.clause_compiler.specs.Sections.{ArePut, its_place, IsClausePiece, its_span, IsQueryOf, its_entry, IsChoiceOf, place_in, placed_code, IsNumbered}
-use Rattle.clause_compiler.proofs.Lists.{get_there, got_map, map_joined, find_joined, get_left, get_right, get_joined, same_offset, same_length}
+use Rattle.clause_compiler.proofs.Lists.{get_there, got_map, map_joined, find_joined, get_left, get_right, get_joined, same_offset, same_length, same_some}
 use Rattle.clause_compiler.proofs.Placing.{piece_some}
 use Rattle.clause_compiler.proofs.Listing.{each_of, list_choices, stand_at}
 use Rattle.clause_compiler.proofs.Numbering.{placed_list, placed_segment, placed_segments}
@@ -47,7 +47,7 @@ use Rattle.clause_compiler.proofs.Trying.{Enters, thinned_by, each_tries}
 use Rattle.clause_compiler.proofs.Fitting.{is_number, number_there, fits_predicate, head_arity, head_shape}
 
 -- ---- lists
-same_lists : {X : Type 0} (xs ys : List X) → length xs ≡ length ys → ((k : ℕ) (x : X) → slice_get ys k ≡ Some x → slice_get xs k ≡ Some x) → xs ≡ ys
+pub same_lists : {X : Type 0} (xs ys : List X) → length xs ≡ length ys → ((k : ℕ) (x : X) → slice_get ys k ≡ Some x → slice_get xs k ≡ Some x) → xs ≡ ys
 same_lists [] [] e h = refl
 same_lists [] (y ∷ ys) e h = absurd (omega (arith, e))
 same_lists (x ∷ xs) [] e h = absurd (omega (arith, e))
@@ -55,9 +55,6 @@ same_lists (x ∷ xs) (y ∷ ys) e h =
     let f : Some x ≡ Some y = h 0 y refl in
     let one : x ≡ y = cc in
     ap₂ (λ z zs. z ∷ zs) one (same_lists xs ys (omega (arith, e)) (λ k. h (suc k)))
-
-same_some : {A : Type 0} (o : List A) (k : ℕ) (x y : A) → slice_get o k ≡ Some x → slice_get o k ≡ Some y → x ≡ y
-same_some o k x y e f = let g : Some x ≡ Some y = sym e ∙ f in cc
 
 module _ (p : FlatProgram) (v : IsProgram p) (ps : List Predicate) (w : ArePredicates p ps) (raw mid whole : List Code) (entries : List Entry) (places : List ℕ) (spans : List Span) (tables : List Table) (keys : AreKeysIn p tables) (rises : AreRising tables)
     (hc : ArePut (its_entry ps) (IsChoiceOf p tables ps) (length ps) [] raw entries) (hl : ArePut its_place (IsClausePiece p ps) (length p.clauses) raw mid places) (hq : ArePut (its_span p) (IsQueryOf p ps) (length p.queries) mid whole spans) where

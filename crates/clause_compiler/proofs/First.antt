@@ -2,6 +2,7 @@
 use Rattle.std.proofs.Common.{◌≡◌, ◌≢◌, ℕ, zero, suc, ◌≤◌, Bool, true, false, ◌||◌, ◌==◌, IsTrue, List, Some, refl, ap, sym, inl, inr, ◌⊎◌, arith}
 use Rattle.std.proofs.lemmas.Bool.{true≢false}
 use Rattle.std.proofs.lemmas.Bool.Decides.{nat_tests}
+use Rattle.clause_compiler.proofs.Lists.{never}
 use Rattle.fd_language.specs.Family.{has}
 use Rattle.wam_code.specs.declared.instruction.Code.{Code}
 use Rattle.wam_code.specs.declared.instruction.Code.TheVariants.{Jump, FailNow, Try, Retry, Trust, SwitchOnTerm, SwitchOnConstant, SwitchOnInteger, SwitchOnStructure}
@@ -11,9 +12,6 @@ use Rattle.wam_code.specs.Effect.{when, effect}
 use Rattle.wam_code.specs.Verified.{Covers, IsFirst}
 use Rattle.clause_compiler.specs.First.{up_to, given}
 use Rattle.clause_compiler.specs.Layout.{is_switch, is_listing}
-
-never : {A : Type 0} → false ≡ true → A
-never h = absurd (true≢false (sym h))
 
 pub up_to_has : (k n : ℕ) → 1 ≤ n → n ≤ k → has (up_to k) n ≡ true
 up_to_has zero n low high = absurd (omega (arith, low, high))

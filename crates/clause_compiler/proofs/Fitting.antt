@@ -20,11 +20,8 @@ use Rattle.wam_code.specs.Places.{count, made}
 use Rattle.clause_code.specs.Pieces.{Predicate}
 use Rattle.clause_code.specs.Predicates.{ArePredicates}
 use Rattle.clause_compiler.specs.Groups.{shape_predicate, some_predicate, head_predicate, is_predicate, numbers_of}
-use Rattle.clause_compiler.proofs.Lists.{get_there}
+use Rattle.clause_compiler.proofs.Lists.{get_there, never}
 use Rattle.clause_compiler.proofs.Sifting.{sifted_in}
-
-never : {A : Type 0} → false ≡ true → A
-never h = absurd (true≢false (sym h))
 
 -- ---- numbers that pass a test
 filtered : (t : ℕ → Bool) (a n k x : ℕ) → slice_get (filter t (range_with_len a n)) k ≡ Some x → (x < a + n) × (t x ≡ true)

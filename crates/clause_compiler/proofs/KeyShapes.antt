@@ -1,6 +1,7 @@
 -- First arguments that clash with what a key shows.
 use Rattle.std.proofs.Common.{◌≡◌, ℕ, ℤ, Bool, true, false, leb, if◌then◌else◌, [], ◌∷◌, length, Option, Some, None, refl, sym, ◌∙◌, subst}
 use Rattle.std.proofs.lemmas.Bool.{true≢false}
+use Rattle.clause_compiler.proofs.Lists.{no}
 use Rattle.fd_language.specs.Term.{Name}
 use Rattle.fd_model.specs.Constraining.{arguments}
 use Rattle.term_pool.specs.declared.TermId.{TermId}
@@ -14,9 +15,6 @@ use Rattle.wam_code.specs.Tries as tries
 use Rattle.wam_code.specs.Tries.{Clash, ClashFirst}
 use Rattle.clause_compiler.specs.declared.keys.Kind.TheVariants as kind
 use Rattle.clause_compiler.specs.Keys.{shape_key, some_key, argument_key, may_be}
-
-no : {A : Type 0} → true ≡ false → A
-no h = absurd (true≢false h)
 
 module _ (c : Contents) where
   -- An atom may fit what is of the kind alone.

@@ -14,13 +14,7 @@ use Rattle.clause_compiler.specs.declared.tables.Label.{Label}
 use Rattle.clause_compiler.specs.Keys.{key_of}
 use Rattle.clause_compiler.specs.Keyed.{label, same_key, may_have, key_numbers, AreKeyedBy}
 use Rattle.clause_compiler.proofs.Grouping.{map_same, map_set}
-use Rattle.clause_compiler.proofs.Lists.{got_map, split_get, get_left, get_right}
-
-no : {A : Type 0} → true ≡ false → A
-no h = absurd (true≢false h)
-
-never : {A : Type 0} → false ≡ true → A
-never h = absurd (true≢false (sym h))
+use Rattle.clause_compiler.proofs.Lists.{got_map, split_get, get_left, get_right, never, no}
 
 -- ---- keys
 -- Keys that are the same for a look-up are one key.

@@ -4,6 +4,7 @@ use Rattle.std.specs.List.Sorted.{IsPermutation}
 use Rattle.std.proofs.lemmas.List.{length-append, length-map, append-nil}
 use Rattle.std.proofs.lemmas.List.Sorted.{IsPermutation-sym}
 use Rattle.std.proofs.lemmas.Option.{slice_get-map, slice_get_within, get_or_from_slice_get}
+use Rattle.clause_compiler.proofs.Assembling.{same_lists}
 use Rattle.clause_check.specs.Programs.{FlatProgram}
 use Rattle.wam_code.specs.declared.instruction.Key.{Key}
 use Rattle.wam_code.specs.declared.instruction.Key.TheVariants as key
@@ -18,7 +19,7 @@ use Rattle.clause_compiler.specs.Keyed.{may_have, key_numbers, AreKeyedBy}
 use Rattle.clause_compiler.specs.Layout.{joined, offset}
 use Rattle.clause_compiler.specs.Sections.{ArePut, IsListIn, its_row}
 use Rattle.clause_compiler.specs.Switching.{Segment, listing, switch, segment_code, code_of, LeadsTo, switch_on, IsTableOf, IsKeySwitch, SwitchesTo, KindAt, IsBehind, AreKeysAmong, AreRising, TablesGrow, PutsKind}
-use Rattle.clause_compiler.proofs.Lists.{get_there, split_get, get_left, get_right, got_map, moved_get}
+use Rattle.clause_compiler.proofs.Lists.{get_there, split_get, get_left, get_right, got_map, moved_get, same_some}
 use Rattle.clause_compiler.proofs.Sifting.{sifted_one, among_sifted}
 
 -- ---- segments behind others
@@ -112,18 +113,6 @@ list_put p tables k ns old new untold e ss at here some = (
 listings_code : (groups : List (List ℕ)) → map segment_code (map listing groups) ≡ map list_of groups
 listings_code [] = refl
 listings_code (g ∷ gs) = ap (λ l. list_of g ∷ l) (listings_code gs)
-
-same_lists : {X : Type 0} (xs ys : List X) → length xs ≡ length ys → ((k : ℕ) (x : X) → slice_get ys k ≡ Some x → slice_get xs k ≡ Some x) → xs ≡ ys
-same_lists [] [] e h = refl
-same_lists [] (y ∷ ys) e h = absurd (omega (arith, e))
-same_lists (x ∷ xs) [] e h = absurd (omega (arith, e))
-same_lists (x ∷ xs) (y ∷ ys) e h =
-    let f : Some x ≡ Some y = h 0 y refl in
-    let one : x ≡ y = cc in
-    ap₂ (λ z zs. z ∷ zs) one (same_lists xs ys (omega (arith, e)) (λ k. h (suc k)))
-
-same_some : {A : Type 0} (o : List A) (k : ℕ) (x y : A) → slice_get o k ≡ Some x → slice_get o k ≡ Some y → x ≡ y
-same_some o k x y e f = let g : Some x ≡ Some y = sym e ∙ f in cc
 
 abbrev row_by : Key → ℕ → Key × ℕ
 row_by x a = (x, a)

@@ -2,6 +2,7 @@
 use Rattle.std.proofs.Common.{◌≡◌, ℕ, zero, suc, ◌+◌, map, Bool, true, false, ◌||◌, ◌==◌, IsTrue, List, [], ◌∷◌, Some, slice_get, refl, sym, subst, inl, inr, arith}
 use Rattle.std.proofs.lemmas.Bool.{true≢false}
 use Rattle.std.proofs.lemmas.Bool.Decides.{nat_tests}
+use Rattle.clause_compiler.proofs.Lists.{never}
 use Rattle.fd_language.specs.Family.{has}
 use Rattle.wam_code.specs.declared.instruction.Code.{Code}
 use Rattle.wam_code.specs.declared.instruction.Code.TheVariants.{Jump, FailNow, Try, Retry, Trust}
@@ -10,9 +11,6 @@ use Rattle.wam_code.specs.Verified.{named, is_before, is_behind, IsThere}
 use Rattle.clause_code.specs.Pieces.{Stand}
 use Rattle.clause_code.specs.Trying.{rest_of_list, list_of}
 use Rattle.clause_compiler.specs.Layout.{is_switch, is_listing, is_first, Passes, AreChoicesOf}
-
-never : {A : Type 0} → false ≡ true → A
-never h = absurd (true≢false (sym h))
 
 pub only_one : (is : Code) (n : ℕ) (i : Code) → slice_get (is ∷ []) n ≡ Some i → (n ≡ 0) × (is ≡ i)
 only_one is zero i e = (refl, (let s : is ≡ i = cc in s))

@@ -1,10 +1,22 @@
 -- Lists, one behind the other.
-use Rattle.std.proofs.Common.{◌≡◌, ◌⊎◌, ℕ, zero, suc, ◌+◌, ◌<◌, ◌≤◌, List, [], ◌∷◌, ◌++◌, map, Some, length, slice_get, refl, ap, sym, ◌∙◌, subst, inl, inr, arith}
-use Rattle.std.proofs.lemmas.List.{length-append}
+use Rattle.std.proofs.Common.{◌≡◌, ◌⊎◌, ℕ, zero, suc, ◌+◌, ◌<◌, ◌≤◌, true, false, List, [], ◌∷◌, ◌++◌, map, Some, length, slice_get, refl, ap, sym, ◌∙◌, subst, inl, inr, arith}
+use Rattle.std.proofs.lemmas.List.{length-append, map-append}
+use Rattle.std.proofs.lemmas.Bool.{true≢false}
 use Rattle.std.specs.List.Sorted.{IsPermutation}
 use Rattle.std.proofs.lemmas.List.Sorted.{Contains-permutation, IsPermutation-sym}
-use Rattle.std.proofs.lemmas.Option.{slice_get_within, get_or_from_slice_get}
+use Rattle.std.proofs.lemmas.Option.{slice_get_within, get_or_from_slice_get, same_Some}
 use Rattle.clause_compiler.specs.Layout.{joined, offset}
+
+-- what never comes
+pub never : {A : Type 0} → false ≡ true → A
+never h = absurd (true≢false (sym h))
+
+pub no : {A : Type 0} → true ≡ false → A
+no h = absurd (true≢false h)
+
+-- a list has one element at a place
+pub same_some : {A : Type 0} (o : List A) (k : ℕ) (x y : A) → slice_get o k ≡ Some x → slice_get o k ≡ Some y → x ≡ y
+same_some o k x y e f = same_Some x y (sym e ∙ f)
 
 module _ {X : Type 0} where
   pub get_there : (xs : List X) (k : ℕ) → k < length xs → (x : X) × (slice_get xs k ≡ Some x)
@@ -128,11 +140,7 @@ module _ {X Y : Type 0} where
 -- The images of lists, one behind the other.
 pub map_joined : {X Y : Type 0} (f : X → Y) (xss : List (List X)) → map f (joined xss) ≡ joined (map (map f) xss)
 map_joined f [] = refl
-map_joined f (xs ∷ xss) = map_two f xs (joined xss) ∙ ap (λ l. map f xs ++ l) (map_joined f xss)
-  where
-    map_two : {X Y : Type 0} (f : X → Y) (xs ys : List X) → map f (xs ++ ys) ≡ map f xs ++ map f ys
-    map_two f [] ys = refl
-    map_two f (x ∷ xs) ys = ap (λ l. f x ∷ l) (map_two f xs ys)
+map_joined f (xs ∷ xss) = map-append f xs (joined xss) ∙ ap (λ l. map f xs ++ l) (map_joined f xss)
 
 -- An image is that of an element.
 pub got_map : {X Y : Type 0} (f : X → Y) (xs : List X) (k : ℕ) (y : Y) → slice_get (map f xs) k ≡ Some y → (x : X) × (slice_get xs k ≡ Some x) × (y ≡ f x)

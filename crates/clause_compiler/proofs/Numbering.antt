@@ -8,10 +8,7 @@ use Rattle.clause_code.specs.Trying.{rest_of_list, list_of}
 use Rattle.clause_compiler.specs.Layout.{joined, offset, is_switch}
 use Rattle.clause_compiler.specs.Sections.{place_in, placed_code, IsNumbered}
 use Rattle.clause_compiler.specs.Switching.{Segment, listing, switch, segment_code, code_of}
-use Rattle.clause_compiler.proofs.Lists.{map_joined}
-
-never : {A : Type 0} → false ≡ true → A
-never h = absurd (true≢false (sym h))
+use Rattle.clause_compiler.proofs.Lists.{map_joined, never}
 
 -- the places in place of the numbers
 module _ (places : List ℕ) where

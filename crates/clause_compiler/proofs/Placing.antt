@@ -12,7 +12,7 @@ use Rattle.wam_code.specs.Effect.{are_given, has_frame, no_frame, when, plain_ef
 use Rattle.wam_code.specs.Verified.{named, goes_on, Leads, IsThere}
 use Rattle.clause_code.specs.Pieces.{Predicate, predicate_of, base_of}
 use Rattle.clause_code.specs.Safe.{unplaced, is_plain, aims, IsThereIn, IsSafePiece}
-use Rattle.clause_compiler.proofs.Lists.{get_there}
+use Rattle.clause_compiler.proofs.Lists.{get_there, never}
 
 -- ---- predicates without their places
 
@@ -38,9 +38,6 @@ effect_alike a i s = by s.owed
     by (suc n) = refl
 
 -- ---- plain instructions
-
-never : {A : Type 0} → false ≡ true → A
-never h = absurd (true≢false (sym h))
 
 pub named_plain : (a : Area) (i : Code) → IsTrue (is_plain i) → named a i ≡ aims i
 named_plain a (TryMeElse to) h = never h

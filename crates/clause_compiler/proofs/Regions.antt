@@ -7,13 +7,10 @@ use Rattle.wam_code.specs.declared.instruction.Code.{Code}
 use Rattle.wam_code.specs.Area.{Area, Span, HasQuery}
 use Rattle.wam_code.specs.Verified.{named, goes_on, Names, Falls, IsIn}
 use Rattle.clause_compiler.specs.Layout.{joined, offset, is_first, IsSpanOf, Passes, IsLaidOut, BeginsClause}
-use Rattle.clause_compiler.proofs.Lists.{get_there, offset_within, one_list}
+use Rattle.clause_compiler.proofs.Lists.{get_there, offset_within, one_list, same_some}
 use Rattle.clause_compiler.proofs.Placing.{piece_some, piece_names, piece_falls}
 use Rattle.clause_compiler.proofs.Sorts.{listing_falls}
 use Rattle.clause_compiler.proofs.Spots.{from_clauses, from_queries, code_long, InChoice, InClause, InQuery, locate}
-
-same_some : {A : Type 0} (o : List A) (k : ℕ) (x y : A) → slice_get o k ≡ Some x → slice_get o k ≡ Some y → x ≡ y
-same_some o k x y e f = let g : Some x ≡ Some y = sym e ∙ f in cc
 
 module _ (a : Area) (prog : Program) (l : IsLaidOut a prog) where
   -- ---- queries

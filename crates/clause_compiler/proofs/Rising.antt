@@ -22,18 +22,9 @@ use Rattle.clause_compiler.specs.declared.tables.Label.TheVariants as labels
 use Rattle.clause_compiler.specs.Keys.{key_of, of_kind, may_be, kind_numbers}
 use Rattle.clause_compiler.specs.Keyed.{label, same_key, AreKeyedBy}
 use Rattle.clause_compiler.specs.Sections.{ArePut, IsListIn, its_row}
-use Rattle.clause_compiler.proofs.Lists.{get_there, moved_get}
+use Rattle.clause_compiler.proofs.Lists.{get_there, moved_get, never, no, same_some}
 use Rattle.clause_compiler.proofs.Keying.{same_means, same_itself}
 use Rattle.clause_compiler.proofs.Sifting.{sifted_one}
-
-never : {A : Type 0} → false ≡ true → A
-never h = absurd (true≢false (sym h))
-
-no : {A : Type 0} → true ≡ false → A
-no h = absurd (true≢false h)
-
-same_some : {A : Type 0} (o : List A) (k : ℕ) (x y : A) → slice_get o k ≡ Some x → slice_get o k ≡ Some y → x ≡ y
-same_some o k x y e f = let g : Some x ≡ Some y = sym e ∙ f in cc
 
 -- ---- numbers
 next_number : (x y : ℕ) → is_lt (nat_cmp y x) ≡ false → (x ≡ y → ⊥) → x < y

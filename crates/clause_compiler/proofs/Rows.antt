@@ -1,9 +1,11 @@
 -- Rows of a table: the first one whose key is a shape, and the terms that clash with it.
 use Rattle.std.proofs.Common.{◌≡◌, ◌⊎◌, ℕ, ℤ, zero, suc, ◌<◌, Bool, true, false, not, ◌||◌, ◌==◌, leb, if◌then◌else◌, IsTrue, List, [], ◌∷◌, option_map, Option, Some, None, length, slice_get, refl, ap, ap₂, sym, ◌∙◌, subst, inl, inr, bytes_eq}
-use Rattle.std.proofs.lemmas.Bool.{true≢false, eqb-true, eq-eqb, cases_eq, not-false}
+use Rattle.std.proofs.lemmas.Bool.{true≢false, eqb-true, cases_eq, not-false}
 use Rattle.std.proofs.lemmas.Bool.Decides.{Decides-int_eq}
 use Rattle.std.proofs.lemmas.Slice.Eq.{bytes_eq-Decides}
 use Rattle.std.specs.Ordering.{int_eq}
+use Rattle.fd_language.proofs.Lemmas.{decide_name, decide_int}
+use Rattle.clause_compiler.proofs.Lists.{never, no}
 use Rattle.fd_language.specs.Family.{has}
 use Rattle.fd_language.specs.Term.{Name}
 use Rattle.fd_model.specs.Goal.{Clause}
@@ -22,12 +24,6 @@ use Rattle.clause_compiler.specs.Keys.{shape_key, some_key, term_key, argument_k
 use Rattle.clause_compiler.specs.Keyed.{same_key, may_have}
 use Rattle.clause_compiler.proofs.Keying.{same_means, same_itself}
 
-never : {A : Type 0} → false ≡ true → A
-never h = absurd (true≢false (sym h))
-
-no : {A : Type 0} → true ≡ false → A
-no h = absurd (true≢false h)
-
 -- ---- where a table leads
 
 -- A place that a table names is that of a row.
@@ -40,19 +36,6 @@ row_of ((x, n) ∷ rows) to h = by (n == to) refl h (row_of rows to)
     by false e g rest = let w = rest g in (suc w.0, w.1, w.2)
 
 -- ---- the first row with a key
-same_name : (x y : Name) → (x ≡ y) ⊎ (x ≡ y → ⊥)
-same_name x y = by (bytes_eq x y) refl
-  where
-    by : (b : Bool) → bytes_eq x y ≡ b → (x ≡ y) ⊎ (x ≡ y → ⊥)
-    by true e = inl ((bytes_eq-Decides x y).0 e)
-    by false e = inr (λ f. no (sym ((bytes_eq-Decides x y).1 f) ∙ e))
-
-same_integer : (x y : ℤ) → (x ≡ y) ⊎ (x ≡ y → ⊥)
-same_integer x y = by (int_eq x y) refl
-  where
-    by : (b : Bool) → int_eq x y ≡ b → (x ≡ y) ⊎ (x ≡ y → ⊥)
-    by true e = inl ((Decides-int_eq x y).0 e)
-    by false e = inr (λ f. no (sym ((Decides-int_eq x y).1 f) ∙ e))
 
 both : {A B : Type 0} → A ⊎ (A → ⊥) → B ⊎ (B → ⊥) → (A × B) ⊎ (A × B → ⊥)
 both (inl x) (inl y) = inl (x, y)
@@ -67,9 +50,9 @@ may_be_other x (Some y) = not (same_key x y)
 
 module _ (a : Area) where
   is_shape : (x : Key) (s : tries.Shape) → IsShape a x s ⊎ (IsShape a x s → ⊥)
-  is_shape (key.Atom b) (tries.is_atom n) = same_name (name_of a b) n
-  is_shape (key.Int y) (tries.is_integer z) = same_integer y z
-  is_shape (key.Struct f n) (tries.is_structure g m) = both (same_name (name_of a f) g) (cases_eq n m)
+  is_shape (key.Atom b) (tries.is_atom n) = decide_name (name_of a b) n
+  is_shape (key.Int y) (tries.is_integer z) = decide_int y z
+  is_shape (key.Struct f n) (tries.is_structure g m) = both (decide_name (name_of a f) g) (cases_eq n m)
   is_shape (key.Atom b) tries.is_open = inr (λ h. h)
   is_shape (key.Atom b) (tries.is_integer z) = inr (λ h. h)
   is_shape (key.Atom b) (tries.is_structure g m) = inr (λ h. h)

@@ -10,11 +10,8 @@ use Rattle.wam_code.specs.Area.{Area}
 use Rattle.wam_code.specs.Verified.{named, is_before, is_behind, IsThere}
 use Rattle.clause_compiler.specs.Layout.{offset, is_switch, is_listing, is_first, Passes, AreChoicesOf}
 use Rattle.clause_compiler.specs.Switching.{Segment, listing, switch, segment_code, code_of, place_of}
-use Rattle.clause_compiler.proofs.Lists.{get_there, get_joined, find_joined, offset_order, got_map}
+use Rattle.clause_compiler.proofs.Lists.{get_there, get_joined, find_joined, offset_order, got_map, never}
 use Rattle.clause_compiler.proofs.Listing.{Each, only_one, list_listed, list_first, list_next, list_previous, not_switch}
-
-never : {A : Type 0} → false ≡ true → A
-never h = absurd (true≢false (sym h))
 
 switch_first : (i : Code) → IsTrue (is_switch i) → IsTrue (is_first i)
 switch_first (SwitchOnTerm v c i s) h = refl

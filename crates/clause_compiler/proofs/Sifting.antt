@@ -39,8 +39,3 @@ sift_both s t (x ∷ xs) = by (s x) (sift_both s t xs)
 pub sift_all : (xs : List ℕ) → filter (λ n. true) xs ≡ xs
 sift_all [] = refl
 sift_all (x ∷ xs) = ap (λ l. x ∷ l) (sift_all xs)
-
--- One that none passes.
-pub sift_none : (xs : List ℕ) → filter (λ n. false) xs ≡ []
-sift_none [] = refl
-sift_none (x ∷ xs) = sift_none xs

@@ -1,14 +1,12 @@
 -- What instructions of choices and of pieces are not.
 use Rattle.std.proofs.Common.{◌≡◌, ◌⊎◌, ℕ, true, false, IsTrue, refl, sym, inl, inr}
 use Rattle.std.proofs.lemmas.Bool.{true≢false}
+use Rattle.clause_compiler.proofs.Lists.{never}
 use Rattle.wam_code.specs.declared.instruction.Code.{Code}
 use Rattle.wam_code.specs.declared.instruction.Code.TheVariants.{Jump, FailNow, AnswerNow, TryMeElse, RetryMeElse, TrustMe, Try, Retry, Trust, SwitchOnTerm, SwitchOnConstant, SwitchOnInteger, SwitchOnStructure}
 use Rattle.wam_code.specs.Verified.{goes_on, is_other, is_before, is_behind}
 use Rattle.clause_code.specs.Safe.{is_plain}
 use Rattle.clause_compiler.specs.Layout.{is_switch, is_listing, is_first}
-
-never : {A : Type 0} → false ≡ true → A
-never h = absurd (true≢false (sym h))
 
 -- a choice or a switch
 abbrev pub Chooses : Code → Type 0

@@ -4,6 +4,7 @@ use Rattle.std.proofs.lemmas.Bool.{true≢false, and_cases}
 use Rattle.std.proofs.lemmas.Bool.Decides.{nat_tests}
 use Rattle.std.proofs.lemmas.List.{length-map}
 use Rattle.std.proofs.lemmas.Option.{slice_get-map, slice_get_within, get_or_from_slice_get}
+use Rattle.range_code.proofs.Lemmas.{keeps_none}
 use Rattle.fd_language.specs.Family.{has}
 use Rattle.fd_model.specs.Goal.{Clause}
 use Rattle.fd_model.specs.Constraining.{arguments}
@@ -31,22 +32,16 @@ use Rattle.clause_compiler.specs.Keyed.{may_have, key_numbers}
 use Rattle.clause_compiler.specs.Layout.{offset, is_switch}
 use Rattle.clause_compiler.specs.Sections.{place_in, IsNumbered}
 use Rattle.clause_compiler.specs.Switching.{Segment, listing, switch, segment_code, code_of, place_of, LeadsTo, AreAmong, switch_on, IsTableOf, IsKeySwitch, SwitchesTo, KindAt, IsBehind, IsSwitching, AreChoicesBy}
-use Rattle.clause_compiler.proofs.Lists.{get_there, got_map}
+use Rattle.clause_compiler.proofs.Lists.{get_there, got_map, no, same_some}
 use Rattle.clause_compiler.proofs.Listing.{Each, only_one, each_of, stand_at}
 use Rattle.clause_compiler.proofs.Numbering.{list_numbered, placed_segment, IsSegment, placed_offset, switch_numbered}
 use Rattle.clause_compiler.proofs.Segments.{AreSafe, spot, from_segment, offset_none}
-use Rattle.clause_compiler.proofs.Sifting.{sifted_one, sifted_in, sift_both, sift_all, sift_none}
+use Rattle.clause_compiler.proofs.Sifting.{sifted_one, sifted_in, sift_both, sift_all}
 use Rattle.clause_compiler.proofs.Keying.{same_itself}
 use Rattle.clause_compiler.proofs.Fitting.{head_shape}
 use Rattle.clause_compiler.proofs.Rows.{row_of, FirstRow, NoRow, first_row, key_within, row_clash, may_be_other, other_clash}
 use Rattle.clause_compiler.proofs.KeyShapes.{atom_clash, integer_clash, structure_clash, first_clash}
 use Rattle.clause_compiler.proofs.Trying.{Enters, each_tries}
-
-no : {A : Type 0} → true ≡ false → A
-no h = absurd (true≢false h)
-
-same_some : {A : Type 0} (o : List A) (k : ℕ) (x y : A) → slice_get o k ≡ Some x → slice_get o k ≡ Some y → x ≡ y
-same_some o k x y e f = let g : Some x ≡ Some y = sym e ∙ f in cc
 
 -- one of four
 one_of : (v c i s to : ℕ) → IsTrue (has (v ∷ c ∷ i ∷ s ∷ []) to) → (to ≡ v) ⊎ ((to ≡ c) ⊎ ((to ≡ i) ⊎ (to ≡ s)))
@@ -256,7 +251,7 @@ module _ (p : FlatProgram) (tables : List Table) (ns : List ℕ) (at : ℕ) (ss 
                   let x = h.key_switch in
                   let holds = subst (λ i. Holds a to i) x.code (subst (λ n. Holds a n h.i) (sym h.place) (switch_holds h.j h.i h.segment)) in
                   let tried = try_from_rule a s (switch_on k x.number) to [] holds (rule_rows a s k x.number to [] f.rows) in
-                  subst (λ l. Tries a s at (map clause l)) (sym (sift_none ns)) (top [] tried);
+                  subst (λ l. Tries a s at (map clause l)) (sym (keeps_none ns)) (top [] tried);
             }
               where
                 clash_other : (x : Key) → (IsShape a x s → ⊥) → (t : TermId) (r : Shape) → shape_at p.pool t ≡ Some r → may_be_other x (shape_key r) ≡ false → Clash s (shape_term p.pool r)

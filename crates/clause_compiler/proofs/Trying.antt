@@ -2,6 +2,7 @@
 use Rattle.std.proofs.Common.{◌≡◌, ℕ, suc, ◌+◌, Bool, true, false, cond, IsTrue, List, [], ◌∷◌, Some, map, filter, length, slice_get, refl, ap, sym, ◌∙◌, inl, inr, arith}
 use Rattle.std.proofs.lemmas.Bool.{true≢false}
 use Rattle.std.specs.List.{range_with_len}
+use Rattle.clause_compiler.proofs.Lists.{never}
 use Rattle.fd_language.specs.Term.{Term}
 use Rattle.fd_model.specs.Goal.{Clause}
 use Rattle.fd_model.specs.Children.{fits_head}
@@ -12,9 +13,6 @@ use Rattle.wam_code.specs.Tries.{Shape, IsNeedless, Thinned, IsClause, TryRule, 
 use Rattle.wam_code.proofs.Lemmas.{try_from_rule}
 use Rattle.clause_code.specs.Trying.{EachTries}
 use Rattle.clause_code.specs.Safe.{may_enter}
-
-never : {A : Type 0} → false ≡ true → A
-never h = absurd (true≢false (sym h))
 
 -- ---- which clauses
 

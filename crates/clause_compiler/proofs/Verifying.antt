@@ -15,15 +15,12 @@ use Rattle.wam_code.proofs.Lemmas.{covers_self}
 use Rattle.clause_code.specs.Safe.{is_plain}
 use Rattle.clause_compiler.specs.First.{given}
 use Rattle.clause_compiler.specs.Layout.{joined, offset, is_first, Passes, BeginsClause, IsLaidOut}
-use Rattle.clause_compiler.proofs.Lists.{get_there, offset_within}
+use Rattle.clause_compiler.proofs.Lists.{get_there, offset_within, same_some}
 use Rattle.clause_compiler.proofs.First.{given_first, given_covers, choice_keeps}
 use Rattle.clause_compiler.proofs.Placing.{piece_some, piece_there, piece_leads}
 use Rattle.clause_compiler.proofs.Sorts.{Chooses, listing_falls, choice_no_other, plain_no_other, no_try_me, no_retry_me, plain_not_before, plain_not_behind, choice_no_answer, first_not_behind}
 use Rattle.clause_compiler.proofs.Spots.{from_clauses, choice_states, clause_states, query_states, all_states, all_long, holds_choice, state_choice, state_clause, state_query, InChoice, InClause, InQuery, locate}
 use Rattle.clause_compiler.proofs.Regions.{span_at, in_span, one_query, clause_begins, names_lead, falls_lead, stays_in, stays_out}
-
-same_some : {A : Type 0} (o : List A) (k : ℕ) (x y : A) → slice_get o k ≡ Some x → slice_get o k ≡ Some y → x ≡ y
-same_some o k x y e f = let g : Some x ≡ Some y = sym e ∙ f in cc
 
 get_replicate : {A : Type 0} (n : ℕ) (x : A) (k : ℕ) → k < n → slice_get (replicate n x) k ≡ Some x
 get_replicate zero x k l = absurd (omega (arith, l))

@@ -1,5 +1,5 @@
 -- What stands before the first byte of a value, and behind the last.
-use Rattle.std.proofs.Common.{◌≡◌, ℕ, ◌+◌, ◌-◌, ◌≤◌, Bool, true, false, not, List, length, take, drop, get_or, refl, sym, ap, ◌∙◌, subst, arith, take_all, length-drop}
+use Rattle.std.proofs.Common.{◌≡◌, ℕ, ◌+◌, ◌-◌, ◌≤◌, false, not, List, length, take, drop, get_or, sym, ap, ◌∙◌, subst, arith, take_all, length-drop}
 use Rattle.std.specs.Prelude.{◌==◌}
 use Rattle.std.specs.List.{before_first, after_last, suffix_len}
 use Rattle.std.proofs.lemmas.List.Sums.{position_or_len_is, suffix_len_is}

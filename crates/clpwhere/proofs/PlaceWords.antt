@@ -22,7 +22,7 @@ no_place bs h = go (bytes_eq (decimal (digits_value 10 bs)) bs) (nat_le (digits_
     go true false e f = refl
     go true true e f = absurd (h v (leb-true v last_place f) (sym ((bytes_eq-Decides (decimal v) bs).0 e)))
 
-small : (n : ℕ) → n ≤ last_place → n < 2 ^ 64
+pub small : (n : ℕ) → n ≤ last_place → n < 2 ^ 64
 small n l = omega arith
 
 -- bytes that aren't text write none

@@ -13,6 +13,7 @@ use Rattle.std.proofs.lemmas.List.Sums.{position_or_len_is, prefix_len-le-length
 use Rattle.std.proofs.lemmas.Slice.Eq.{bytes_eq-Decides}
 use Rattle.std.proofs.lemmas.Str.Parse.{digit_at}
 use Rattle.std.proofs.lemmas.Option.{same_Some}
+use Rattle.clpwhere.proofs.PlaceWords.{small}
 use Rattle.clpwhere.specs.declared.reason.Reason.{Reason}
 use Rattle.clpwhere.specs.Reasons.{reason_of}
 use Rattle.clpwhere.specs.Refusals.{Refusal, Tells, behind, last_place, place_in, refusal_by, refusal_in, refusal_line, refusal_of}
@@ -44,9 +45,6 @@ behind_of front rest =
     ap (λ b. cond b (Some (drop (length front) (front ++ rest))) None) t ∙ ap Some (drop-append_seam front rest)
 
 -- ---- places
-
-small : (n : ℕ) → n ≤ last_place → n < 2 ^ 64
-small n l = omega arith
 
 place_is : (bs : List ℕ) (n : ℕ) → place_in bs ≡ Some n → (bs ≡ decimal n) × (n ≤ last_place)
 place_is bs n e = go (bytes_eq (decimal v) bs) (nat_le v last_place) refl refl e

@@ -1,5 +1,5 @@
 -- The work that is left falls.
-use Rattle.std.proofs.Common.{◌≡◌, ℕ, zero, suc, ◌+◌, ◌*◌, ◌<◌, ◌≤◌, IsTrue, List, [], ◌∷◌, length, map, refl, sym, subst, arith}
+use Rattle.std.proofs.Common.{◌≡◌, ℕ, suc, ◌+◌, ◌*◌, ◌<◌, ◌≤◌, IsTrue, List, [], ◌∷◌, length, map, refl, sym, subst, arith}
 use Rattle.std.proofs.lemmas.Nat.{mul-le}
 use Rattle.fd_language.specs.Family.{has}
 use Rattle.wam_code.specs.declared.instruction.Code.{Code}
@@ -7,19 +7,10 @@ use Rattle.wam_code.specs.Area.{State, Area, Holds}
 use Rattle.wam_code.specs.Ending.{weight, return_work, Thread, work}
 use Rattle.wam_code.specs.Reaching.{distance}
 use Rattle.wam_code.specs.Verified.{named, goes_on, IsVerifiedBy}
-use Rattle.wam_code.proofs.Lemmas.{fork_falls, step_falls, proceed_falls, back_falls, names_nearer, falls_nearer}
+use Rattle.wam_code.proofs.Lemmas.{fork_falls, step_falls, proceed_falls, back_falls, names_nearer, falls_nearer, weight_up, weight_some}
 use Rattle.code_areas.specs.Areas.{Places, Return, Contents}
 use Rattle.code_states.specs.Choices.{point_of}
 use Rattle.code_states.specs.Work.{thread_of, point_threads, work_at, work_back, most_work}
-
-weight_up : (d e : ℕ) → d ≤ e → weight d ≤ weight e
-weight_up zero zero l = omega arith
-weight_up zero (suc e) l = let w = weight_up zero e (omega arith) in omega (arith, w)
-weight_up (suc d) zero l = absurd (omega (arith, l))
-weight_up (suc d) (suc e) l = let w = weight_up d e (omega (arith, l)) in omega (arith, w)
-
-weight_some : (d : ℕ) → 1 ≤ weight d
-weight_some d = weight_up zero d (omega arith)
 
 -- twice as much of the most
 most_split : (m x t : ℕ) → m * suc (x + t) ≡ m * suc x + m * t

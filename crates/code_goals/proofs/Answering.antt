@@ -30,7 +30,7 @@ use Rattle.code_goals.proofs.Texts.{line_shown, shown_length, written_shown}
 
 -- ---- the cells of slots
 
-put_last : (cells : ℕ → Option Cell) (i : ℕ) (ds : List Cell) (d : Cell) → AreIn cells i ds → cells (i + length ds) ≡ Some d → AreIn cells i (ds ++ d ∷ [])
+pub put_last : (cells : ℕ → Option Cell) (i : ℕ) (ds : List Cell) (d : Cell) → AreIn cells i ds → cells (i + length ds) ≡ Some d → AreIn cells i (ds ++ d ∷ [])
 put_last cells i [] d e k = (subst (λ n. cells n ≡ Some d) (omega arith) k, tt)
 put_last cells i (x ∷ ds) d e k = (e.0, put_last cells (suc i) ds d e.1 (subst (λ n. cells n ≡ Some d) (omega arith) k))
 

@@ -1,5 +1,6 @@
 -- Constraints, taken.
-use Rattle.std.proofs.Common.{◌≡◌, ℕ, suc, ◌+◌, zero, List, [], ◌∷◌, ◌++◌, length, All, Option, Some, Result, Ok, Err, IfOk, OnOk, refl, ap, sym, ◌∙◌, subst, arith}
+use Rattle.std.proofs.Common.{◌≡◌, ℕ, suc, ◌+◌, zero, List, [], ◌∷◌, ◌++◌, length, All, Some, Result, Ok, Err, IfOk, OnOk, refl, ap, sym, ◌∙◌, subst, arith}
+use Rattle.code_goals.proofs.Answering.{put_last}
 use Rattle.fd_language.specs.declared.TheConstants.{INFINITY}
 use Rattle.fd_language.specs.Family.{Family}
 use Rattle.fd_language.specs.Range.{Indexical}
@@ -39,10 +40,6 @@ use Rattle.code_goals.specs.Taking.{IsSafeNext, Takes}
 use Rattle.code_goals.proofs.Safe.{choices_same, on_safe, goes_back}
 
 -- ---- the cells of registers
-
-put_last : (cells : ℕ → Option Cell) (i : ℕ) (ds : List Cell) (d : Cell) → AreIn cells i ds → cells (i + length ds) ≡ Some d → AreIn cells i (ds ++ d ∷ [])
-put_last cells i [] d e k = (subst (λ n. cells n ≡ Some d) (omega arith) k, tt)
-put_last cells i (x ∷ ds) d e k = (e.0, put_last cells (suc i) ds d e.1 (subst (λ n. cells n ≡ Some d) (omega arith) k))
 
 -- none so far
 pub gathered_none : (c : Contents) (cells : List Cell) → cells ≡ [] → IsGathered c 0 cells

@@ -39,7 +39,7 @@ use Rattle.code_states.specs.Standing.{went_to}
 use Rattle.code_states.specs.Work.{thread_of, point_threads, work_at, work_back, values_work}
 use Rattle.code_states.specs.declared.went.Went.{Went}
 use Rattle.code_states.specs.declared.went.Went.TheVariants as went
-use Rattle.code_states.proofs.Lemmas.{same_cells, value_falls, last_value_falls}
+use Rattle.code_states.proofs.Lemmas.{same_cells, value_falls, last_value_falls, one_more}
 use Rattle.code_goals.specs.declared.labels.ValuesLeft.{ValuesLeft}
 use Rattle.code_goals.specs.declared.labels.Tried.{Tried}
 use Rattle.code_goals.specs.declared.labels.Labelled.TheVariants.{Took, Tries}
@@ -282,9 +282,6 @@ module _ (area : Area) (s : branch.State) (at : ℕ) (c : Contents) (safe : IsSa
   )
 
 -- ---- the work that the values bring
-
-one_more : (k x : ℕ) → suc k * suc x ≡ suc x + k * suc x
-one_more k x = grind arith
 
 -- so many values at most of a point, beside others
 most_of : (x p others n v m : ℕ) → x < (p + others) + (n * suc p + v) → n ≤ suc m → x ≤ suc (suc m) * suc ((p + others) + v)

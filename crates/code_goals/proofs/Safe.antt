@@ -1,6 +1,5 @@
 -- What is safe stays so where a goal is taken.
-use Rattle.std.proofs.Common.{◌≡◌, ℕ, zero, suc, ◌≤◌, true, IsTrue, List, length, refl, ap, sym, ◌∙◌, subst, inl, inr, arith}
-use Rattle.std.proofs.lemmas.Bool.{cases_eq, and_parts}
+use Rattle.std.proofs.Common.{◌≡◌, ℕ, suc, ◌≤◌, true, IsTrue, List, length, refl, ap, sym, ◌∙◌, subst, arith}
 use Rattle.fd_language.specs.Family.{has}
 use Rattle.heap_cells.specs.declared.Cell.{Cell}
 use Rattle.heap_cells.specs.Atoms.{IsAtomBelow}
@@ -14,7 +13,7 @@ use Rattle.wam_code.specs.declared.instruction.Code.TheVariants as step
 use Rattle.wam_code.specs.Area.{State, Span, Area, Holds, HasQuery}
 use Rattle.wam_code.specs.Effect.{are_set, when, plain_effect}
 use Rattle.wam_code.specs.Verified.{goes_on, IsIn}
-use Rattle.wam_code.proofs.Lemmas.{shown_are_cells}
+use Rattle.wam_code.proofs.Lemmas.{shown_are_cells, set_below}
 use Rattle.code_areas.specs.Areas.{Places, Return, Contents}
 use Rattle.code_steps.specs.Running.{Left}
 use Rattle.code_states.specs.Choices.{choices_in}
@@ -54,15 +53,6 @@ pub grown_cells : (s s' : branch.State) → s'.atoms ≡ s.atoms → IsGrown s.h
 grown_cells s s' e g d o = (of_grown s.heaps.now s'.heaps.now g d o.0, subst (λ n. IsAtomBelow n d) (sym e) o.1)
 
 -- ---- what a goal finds
-
-set_below : (rs : List ℕ) (k n : ℕ) → are_set rs k ≡ true → 1 ≤ n → n ≤ k → has rs n ≡ true
-set_below rs zero n h low high = absurd (omega (arith, low, high))
-set_below rs (suc k) n h low high =
-    let p = and_parts (has rs (suc k)) (are_set rs k) h in
-    elim (cases_eq n (suc k)) [
-      | inl i ↦ subst (λ m. has rs m ≡ true) (sym i) p.0
-      | inr i ↦ set_below rs k n p.1 low (omega (arith, i, high))
-    ]
 
 -- An instruction that needs its arguments alone and changes nothing of the state.
 module _ (area : Area) (s : branch.State) (at : ℕ) (c : Contents) (i : Code) (k : ℕ) (safe : IsSafe area s at 0 c) (holds : Holds area at i) (needs : (t : State) → plain_effect area.entries i t ≡ when (are_set t.regs k) t) where

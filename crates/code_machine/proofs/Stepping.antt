@@ -9,7 +9,7 @@ use Rattle.wam_code.specs.declared.instruction.Code.{Code}
 use Rattle.wam_code.specs.declared.instruction.Code.TheVariants as step
 use Rattle.wam_code.specs.Area.{Area, Span, Holds, HasQuery}
 use Rattle.wam_code.proofs.Lemmas.{no_answer_outside}
-use Rattle.code_areas.specs.Areas.{Return, Point, Contents}
+use Rattle.code_areas.specs.Areas.{Return, Contents}
 use Rattle.code_steps.proofs.Lemmas.{TakesGoal}
 use Rattle.code_states.specs.declared.went.Went.{Went}
 use Rattle.code_states.specs.Queries.{IsInQuery, EndsIn}

@@ -1,7 +1,8 @@
 -- What is left to be done, where a goal was taken or a choice point come back to.
-use Rattle.std.proofs.Common.{◌≡◌, ℕ, zero, suc, ◌+◌, ◌*◌, ◌<◌, ◌≤◌, List, ◌∷◌, length, map, ap, ◌∙◌, arith}
+use Rattle.std.proofs.Common.{◌≡◌, ℕ, suc, ◌+◌, ◌*◌, ◌<◌, ◌≤◌, List, ◌∷◌, length, map, ap, ◌∙◌, arith}
 use Rattle.std.proofs.lemmas.Nat.{mul-le}
 use Rattle.std.proofs.Math.Nat.{add-mul}
+use Rattle.wam_code.proofs.Lemmas.{weight_up, weight_some}
 use Rattle.fd_language.specs.declared.TheConstants.{INFINITY}
 use Rattle.wam_code.specs.Area.{Area}
 use Rattle.wam_code.specs.Ending.{weight, return_work, thread_work, work}
@@ -21,15 +22,6 @@ use Rattle.code_machine.specs.Labels.{lefts_by, labels_work, whole_at, whole_bac
 use Rattle.code_machine.specs.States.{most}
 use Rattle.code_machine.specs.Steps.{next_work, next_of, NoMore}
 use Rattle.code_machine.proofs.Labelling.{lefts_values}
-
-weight_up : (d e : ℕ) → d ≤ e → weight d ≤ weight e
-weight_up zero zero l = omega arith
-weight_up zero (suc e) l = let w = weight_up zero e (omega arith) in omega (arith, w)
-weight_up (suc d) zero l = absurd (omega (arith, l))
-weight_up (suc d) (suc e) l = let w = weight_up d e (omega (arith, l)) in omega (arith, w)
-
-weight_some : (d : ℕ) → 1 ≤ weight d
-weight_some d = weight_up zero d (omega arith)
 
 module _ (area : Area) where
   abbrev all : ℕ

@@ -26,7 +26,7 @@ left_falls m (suc n) w v l =
 pub left_spent : (m n w v : ℕ) → v ≤ m * suc w → left_by m n v < left_by m (suc n) w
 left_spent m n w v l = let k = left_up m n v (m * suc w) l in omega (arith, k)
 
-one_more : (k x : ℕ) → suc k * suc x ≡ suc x + k * suc x
+pub one_more : (k x : ℕ) → suc k * suc x ≡ suc x + k * suc x
 one_more k x = grind arith
 
 module _ (area : Area) (at : ℕ) (c : Contents) (old : List Point) (is : old ≡ point_of c at ∷ c.points) (n : ℕ) (ns : List ℕ) (v : ℕ) (ls : List Left) where

@@ -26,7 +26,7 @@ use Rattle.machine_relation.specs.Heap.{after, Of}
 use Rattle.machine_relation.specs.Held.{Frame, value_at, fixed_frame}
 use Rattle.machine_relation.specs.Rows.{rename_expansion, rename_row}
 use Rattle.machine_relation.specs.Store.{Touch, posts}
-use Rattle.machine_relation.proofs.Lemmas.{place_from, cell as cell_number, cell_from, row_same, row_cell, after_is, after_are, agree, of_below, seen_of, variables_on, seen_by_variable, GivesAll}
+use Rattle.machine_relation.proofs.Lemmas.{place_from, cell as cell_number, cell_from, row_same, row_cell, after_is, after_are, agree, of_below, seen_of, variables_on, seen_by_variable, GivesAll, was_row}
 use Rattle.machine_frames.specs.Frames.{link_in, frame_of, IsKept}
 use Rattle.machine_frames.specs.Posting.{IsRowLinked}
 use Rattle.machine_frames.proofs.Lemmas.{look_old, row_look, kept_row, kept_no_model, unsettled, settled_look, settled_held, settled_rest}
@@ -45,10 +45,6 @@ use Rattle.code_steps.proofs.Running.{goes_inside}
 row_fault : (f : ℕ → ℕ) (x : Result Expansion QueryFault) (e : QueryFault) → rename_row f x ≡ Err e → x ≡ Err e
 row_fault f (Err d) e h = let g : d ≡ e = cc in ap Err g
 row_fault f (Ok x) e h = absurd (cc)
-
-row_there : (f : ℕ → ℕ) (x : Result Expansion QueryFault) (y : Expansion) → rename_row f x ≡ Ok y → (z : Expansion) × (x ≡ Ok z) × (rename_expansion f z ≡ y)
-row_there f (Err d) y h = absurd (cc)
-row_there f (Ok z) y h = (z, refl, (cc))
 
 -- ds are the arguments' cells.
 module _ (M : ℕ) (area : Area) (prog : Program) (q : Query) (name : Naming) (h : Cells) (valid : IsHeap h) (qs : List Indexical) (at : ℕ) (c : Registers) (stack : List Saved) (cs : List Choice) (k : Option ℕ) (es : List Event) (r : ℕ)
@@ -136,7 +132,7 @@ module _ (M : ℕ) (area : Area) (prog : Program) (q : Query) (name : Naming) (h
           let s = view.0 in
           let D = view.1 in
           let v = view.2 in
-          let x = row_there (on_frame s D v) (seen_row s D v) y (sym (same s D v) ∙ row) in
+          let x = was_row (on_frame s D v) (seen_row s D v) y (sym (same s D v) ∙ row) in
           let scoped = scoped_rows kind (arguments (seen_term s D v)) b.fresh x.0 x.1 in
           let kid = with_expansion b t.later x.0 in
           let offers : offered M prog b (goal.Constrain kind u) t.later s D ≡ by_constraint b t.later (Ok x.0) = gives s D v ∙ ap (by_constraint b t.later) x.1 in

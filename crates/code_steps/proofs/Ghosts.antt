@@ -26,10 +26,10 @@ pub ghosts_in : (P : ℕ → Type 0) (n : ℕ) (ss : Terms) → ((v : ℕ) → n
 ghosts_in P n no_terms h = tt
 ghosts_in P n (term s ss) h = (h n (omega arith) (omega arith), ghosts_in P (suc n) ss (λ v l k. h v (omega (arith, l)) (omega (arith, k))))
 
-same_tail : (a b : Term) (as' bs : Terms) → term a as' ≡ term b bs → as' ≡ bs
+pub same_tail : (a b : Term) (as' bs : Terms) → term a as' ≡ term b bs → as' ≡ bs
 same_tail a b as' bs e = cc
 
-same_head : (a b : Term) (as' bs : Terms) → term a as' ≡ term b bs → a ≡ b
+pub same_head : (a b : Term) (as' bs : Terms) → term a as' ≡ term b bs → a ≡ b
 same_head a b as' bs e = cc
 
 pub ghost_each : (w u : Substitution) (n : ℕ) (ss : Terms) → apply_all w (ghosts n ss) ≡ apply_all u (ghosts n ss) → (v : ℕ) → n ≤ v → v < n + count ss → w v ≡ u v

@@ -23,7 +23,7 @@ use Rattle.code_steps.specs.Standing.{IsCalling}
 use Rattle.code_steps.specs.Trying.{shape_in, ShowsFirst}
 use Rattle.code_steps.proofs.Entering.{fits_count, fits_equations}
 
-count_applied : (s : Substitution) (ts : Terms) → count (apply_all s ts) ≡ count ts
+pub count_applied : (s : Substitution) (ts : Terms) → count (apply_all s ts) ≡ count ts
 count_applied s no_terms = refl
 count_applied s (term t ts) = ap suc (count_applied s ts)
 

@@ -16,7 +16,7 @@ pub use Rattle.code_steps.proofs.Goals.{TakesGoal, run_either, run_fail, run_fal
 -- The steps from a labelling, and back to one.
 pub use Rattle.code_steps.proofs.Labelling.{back_no_values, back_value, run_label, run_label_done, run_label_fault}
 -- A compound term of a clause's head, where the argument is one of its name and arity: its arguments are read one by one.
-pub use Rattle.code_steps.proofs.Opening.{IsNone, count_applied, count_terms, step_get_structure}
+pub use Rattle.code_steps.proofs.Opening.{IsNone, count_terms, step_get_structure}
 -- The steps from a goal `T in R`, by the cells of its target and of the range's variables.
 pub use Rattle.code_steps.proofs.Ranging.{run_range, run_range_fault}
 -- The unify instructions on a compound term that is there.

@@ -3,6 +3,7 @@ use Rattle.std.proofs.Common.{◌≡◌, ℕ, zero, suc, ◌+◌, ◌<◌, ◌�
 use Rattle.std.proofs.lemmas.Bool.{cases_Bool, cases_eq, true≢false, and_parts, or_cases, and_from}
 use Rattle.std.proofs.lemmas.Bool.Decides.{nat_tests}
 use Rattle.std.proofs.lemmas.Option.{same_Some}
+use Rattle.code_steps.proofs.Leaving.{count_applied}
 use Rattle.fd_language.specs.Term.{Name, Term, Terms, Var, Comp, no_terms, term, Substitution, apply, apply_all}
 use Rattle.fd_language.specs.Unifier.{Equation}
 use Rattle.fd_language.specs.Family.{Family}
@@ -34,7 +35,7 @@ use Rattle.code_steps.specs.ReadMode.{AreCells, IsWider, local, IsPlain, ArePlai
 use Rattle.code_steps.proofs.Shown.{put_here, put_else, shown_moved, all_moved}
 use Rattle.code_steps.proofs.Making.{moved_over, learnt_here, learnt_more}
 use Rattle.code_steps.proofs.Stepping.{here}
-use Rattle.code_steps.proofs.Ghosts.{ghosts, assign, assign_below, ghosts_in, ghost_each, ghost_of, assign_ghosts, unify_ghosts, ghosts_unify}
+use Rattle.code_steps.proofs.Ghosts.{ghosts, assign, assign_below, ghosts_in, ghost_each, ghost_of, assign_ghosts, unify_ghosts, ghosts_unify, same_tail, same_head}
 
 -- ---- the terms that unify instructions give
 
@@ -126,26 +127,15 @@ count_ghosts : (n : ℕ) (ss : Terms) → count (ghosts n ss) ≡ count ss
 count_ghosts n no_terms = refl
 count_ghosts n (term s ss) = ap suc (count_ghosts (suc n) ss)
 
--- a substitution leaves as many terms
-pub count_applied : (s : Substitution) (ts : Terms) → count (apply_all s ts) ≡ count ts
-count_applied s no_terms = refl
-count_applied s (term t ts) = ap suc (count_applied s ts)
-
 same_parts : (f : Name) (ts us : Terms) → Comp f ts ≡ Comp f us → ts ≡ us
 same_parts f ts us e = cc
-
-first_same : (a b : Term) (as' bs : Terms) → term a as' ≡ term b bs → a ≡ b
-first_same a b as' bs e = cc
-
-rest_same : (a b : Term) (as' bs : Terms) → term a as' ≡ term b bs → as' ≡ bs
-rest_same a b as' bs e = cc
 
 cells_are : (name : Naming) (h : Cells) (look : Substitution) (Q : ℕ → Type 0) (n : ℕ) (cs : List Cell) → AllOwn h cs → AllOf Q (ghosts n (terms_by (term_of name h) cs)) → apply_all look (ghosts n (terms_by (term_of name h) cs)) ≡ terms_by (term_of name h) cs → AreCells name h look Q cs (ghosts n (terms_by (term_of name h) cs))
 cells_are name h look Q n [] o k e = tt
 cells_are name h look Q n (c ∷ cs) o k e =
     let by = term_of name h in
     let rest = terms_by by cs in
-    (record { known = k.0; own = o.0; value = first_same (look n) (by c) (apply_all look (ghosts (suc n) rest)) rest e }, cells_are name h look Q (suc n) cs o.1 k.1 (rest_same (look n) (by c) (apply_all look (ghosts (suc n) rest)) rest e))
+    (record { known = k.0; own = o.0; value = same_head (look n) (by c) (apply_all look (ghosts (suc n) rest)) rest e }, cells_are name h look Q (suc n) cs o.1 k.1 (same_tail (look n) (by c) (apply_all look (ghosts (suc n) rest)) rest e))
 
 all_plain : (name : Naming) (h : Cells) (look : Substitution) (P Q : ℕ → Type 0) → ((x : ℕ) → P x → Q x) → (fresh : ℕ) (rs : List Return) (ss : List Saved) → AllShown name h look P fresh rs ss → ArePlain Q fresh rs
 all_plain name h look P Q more fresh [] [] a = tt

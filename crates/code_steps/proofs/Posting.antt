@@ -1,5 +1,5 @@
 -- One more range on a branch and on the store, where variables that it names may be integers: the store has a variable for each integer too.
-use Rattle.std.proofs.Common.{◌≡◌, ℕ, Bool, true, false, cond, ◌==◌, ℤ, pos, negsuc, List, [], ◌∷◌, ◌++◌, Option, Some, map, refl, ap, sym, ◌∙◌, subst, inl, inr, ◌⊎◌, eqb-true, eq-eqb}
+use Rattle.std.proofs.Common.{◌≡◌, ℕ, Bool, true, false, cond, ◌==◌, ℤ, pos, negsuc, List, [], ◌∷◌, ◌++◌, Option, Some, refl, ap, sym, ◌∙◌, subst, inl, inr, ◌⊎◌, eqb-true, eq-eqb}
 use Rattle.std.proofs.lemmas.Bool.{cases_Bool, or_cases, or_left, or_right, true≢false}
 use Rattle.std.proofs.lemmas.Option.{same_Some}
 use Rattle.fd_language.specs.Term.{Term, Var, Int, Atom, Comp, Substitution, apply}
@@ -7,12 +7,12 @@ use Rattle.fd_language.specs.Unifier.{Equation, Unifies}
 use Rattle.fd_language.specs.Family.{Family, has, IsFamily, IsSubset, IsRising}
 use Rattle.fd_language.specs.Range.{Indexical, set_of, reads}
 use Rattle.fd_language.specs.RangeRenaming.{rename_range, rename_indexical}
-use Rattle.fd_language.proofs.Lemmas.{has_either, identity, in_left, set_same, reads_map}
+use Rattle.fd_language.proofs.Lemmas.{identity, set_same}
 use Rattle.fd_model.specs.Closed.{constrained}
 use Rattle.fd_model.specs.Models.{IsModel}
-use Rattle.fd_model.proofs.Lemmas.{closed_without, posted_right, named_left, named_right, constrained_either, has_map, map_has, one_term, single_from}
+use Rattle.fd_model.proofs.Lemmas.{closed_without, posted_right, named_left, named_right, one_term, single_from}
 use Rattle.machine_relation.specs.Store.{Touch, Value, Same, touched, posts, next_slot, IsStored, names, shown_set, linked_set}
-use Rattle.machine_relation.proofs.Lemmas.{ungrown, front, by_shown, holds_agree, extended, set_term, set_term_int, as_equations, as_posts}
+use Rattle.machine_relation.proofs.Lemmas.{ungrown, front, by_shown, holds_agree, extended, set_term, set_term_int, as_equations, as_posts, new_or_old, one_left, one_back, slot_there, slot_back}
 
 -- the sets of the named variables, where one of them has the slot k
 pick : (ℕ → ℕ) → Family → Family → List ℕ → ℕ → List ℕ
@@ -43,27 +43,6 @@ pick_rising M f S T (v ∷ vs) a b = let later = pick_rising M f S T vs a b in r
     either : (c : Bool) (xs ys : List ℕ) → IsRising 0 M xs → IsRising 0 M ys → IsRising 0 M (cond c xs ys)
     either true xs ys g h = g
     either false xs ys g h = h
-
-new_or_old : (p : Indexical) (ps : List Indexical) (v : ℕ) → has (constrained (p ∷ ps)) v ≡ true → (has (constrained ps) v ≡ true) ⊎ (has (constrained (p ∷ [])) v ≡ true)
-new_or_old p ps v c = elim (constrained_either (p ∷ []) ps v c) [ inl d ↦ inr d | inr d ↦ inl d ]
-
-one_left : (p : Indexical) (v : ℕ) → has (names p) v ≡ true → has (constrained (p ∷ [])) v ≡ true
-one_left p v h = elim (or_cases (p.target == v) (has (reads p.range) v) h) [ inl e ↦ or_left (p.target == v) (has (reads p.range ++ []) v) e | inr e ↦ or_right (p.target == v) (has (reads p.range ++ []) v) (in_left (reads p.range) [] v e) ]
-
-one_back : (p : Indexical) (v : ℕ) → has (constrained (p ∷ [])) v ≡ true → has (names p) v ≡ true
-one_back p v h = elim (or_cases (p.target == v) (has (reads p.range ++ []) v) h) [
-  | inl e ↦ or_left (p.target == v) (has (reads p.range) v) e
-  | inr e ↦ or_right (p.target == v) (has (reads p.range) v) (elim (has_either (reads p.range) [] v e) [ inl g ↦ g | inr g ↦ absurd (true≢false (sym g)) ])
-]
-
-names_renamed : (f : ℕ → ℕ) (p : Indexical) → names (rename_indexical f p) ≡ map f (names p)
-names_renamed f p = ap (λ l. f p.target ∷ l) (reads_map f p.range)
-
-slot_there : (f : ℕ → ℕ) (p : Indexical) (v : ℕ) → has (names p) v ≡ true → has (constrained (rename_indexical f p ∷ [])) (f v) ≡ true
-slot_there f p v h = one_left (rename_indexical f p) (f v) (subst (λ l. has l (f v) ≡ true) (sym (names_renamed f p)) (has_map f (names p) v h))
-
-slot_back : (f : ℕ → ℕ) (p : Indexical) (k : ℕ) → has (constrained (rename_indexical f p ∷ [])) k ≡ true → (v : ℕ) × (has (names p) v ≡ true) × (f v ≡ k)
-slot_back f p k h = map_has f (names p) k (subst (λ l. has l k ≡ true) (names_renamed f p) (one_back (rename_indexical f p) k h))
 
 -- each touch says of a named variable's slot which integer the variable is
 abbrev pub AreTold : Indexical → Substitution → (ℕ → ℕ) → List Touch → Type 0

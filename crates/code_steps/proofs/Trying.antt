@@ -1,5 +1,6 @@
 -- The machine's step at each choice and switch, and clauses that may be left out.
 use Rattle.std.proofs.Common.{◌≡◌, ℕ, suc, List, [], ◌∷◌, ◌++◌, map, refl, ap, ◌∙◌, subst, inl, inr}
+use Rattle.std.proofs.lemmas.List.{map-append}
 use Rattle.fd_language.specs.Term.{Term}
 use Rattle.fd_language.specs.Range.{Indexical}
 use Rattle.fd_model.specs.Children.{by_clause}
@@ -19,10 +20,6 @@ use Rattle.code_steps.specs.Registers.{Registers, Saved, AreSame}
 use Rattle.code_steps.specs.Standing.{Stands}
 use Rattle.code_steps.specs.Trying.{IsTrying, TriesBoth, HasNoRow, HasRow, IsFirst}
 use Rattle.code_steps.proofs.Entering.{enter_clause}
-
-map_both : (f : Clause → Branch) (xs ys : List Clause) → map f (xs ++ ys) ≡ map f xs ++ map f ys
-map_both f [] ys = refl
-map_both f (x ∷ xs) ys = ap (λ l. f x ∷ l) (map_both f xs ys)
 
 fit_split : (t : Term) (xs ys : List Clause) → AllFit t (xs ++ ys) → AllFit t xs × AllFit t ys
 fit_split t [] ys a = (tt, a)
@@ -64,7 +61,7 @@ module _ (M : ℕ) (area : Area) (shown : List ℕ) (name : Naming) (h : Cells) 
         behind = map kid k.1;
         now = record { calling = m.calling; shape = m.shape; shows = m.shows; clauses = k.0; tries = k.3; fit = fit.0; scoped = scoped.0; kids_are = refl };
         later = record { calling = m.calling; shape = m.shape; shows = m.shows; clauses = k.1; tries = k.4; fit = fit.1; scoped = scoped.1; kids_are = refl };
-        both = m.kids_are ∙ ap (map kid) k.2 ∙ map_both kid k.0 k.1;
+        both = m.kids_are ∙ ap (map kid) k.2 ∙ map-append kid k.0 k.1;
       }
 
   pub step_try_me_else : (to : ℕ) → Holds area at (TryMeElse to) → TriesBoth M area shown name h qs (suc at) to e c stack b kids

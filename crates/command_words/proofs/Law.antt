@@ -6,6 +6,7 @@ use Rattle.std.specs.Str.{bytes_eq}
 use Rattle.std.proofs.lemmas.Bool.{eqb-true}
 use Rattle.std.proofs.lemmas.List.Folds.{list_any-append}
 use Rattle.std.proofs.lemmas.Slice.Eq.{bytes_eq-Decides}
+use Rattle.fd_language.proofs.Lemmas.{all_three}
 use Rattle.clap.proofs.OnLiterals.{clap_on_literals}
 use Rattle.clap.proofs.TakesLemmas.{leaf_takes}
 use Rattle.clap.proofs.SimpleLemmas.{is_nil}
@@ -221,9 +222,6 @@ record IsTaken (h : Held) (words : List Text) : Type 0 where
   passes : walk_passes top [] (walk_from h) words ≡ true
   settles : settle_passes top.rules false end ≡ true
   rows : rows_at end ≡ rows_at h ++ rows_behind words
-
-all_three : (a b c : Bool) → a ≡ true → b ≡ true → c ≡ true → (a && (b && c)) ≡ true
-all_three a b c p q r = rw (p, q, r) refl
 
 next_rows : (h : Held) (id v : Text) → IsRead id → has_row id (rows_at h) ≡ false → rows_at (next_held h id v) ≡ rows_at h ++ row id v ∷ []
 next_rows h id v read e = read.keeps (rows_at h) v ∙ one_more id v (rows_at h) e

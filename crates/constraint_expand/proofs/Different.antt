@@ -1,7 +1,6 @@
 -- The ranges of variables that differ.
-use Rattle.std.proofs.Common.{◌≡◌, ℕ, ◌+◌, ◌<◌, ◌-◌, ◌^◌, ℤ, take, length-drop, arith, List, [], ◌∷◌, ◌++◌, length, drop, get_or, drop-cons, add-one, Ok, refl, sym, ap, subst, ◌∙◌, append_assoc}
+use Rattle.std.proofs.Common.{◌≡◌, ℕ, ◌+◌, ◌<◌, ◌-◌, ◌^◌, ℤ, List, [], ◌∷◌, ◌++◌, Ok, refl, sym, ap, subst, ◌∙◌, append_assoc}
 use Rattle.std.specs.Prelude.{IfOk}
-use Rattle.std.proofs.lemmas.List.{take_all, take_rest, drop_more}
 use Rattle.fd_language.specs.Term.{Term}
 use Rattle.fd_model.specs.Linear.{of_one}
 use Rattle.fd_model.specs.LinearRows.{Expansion}

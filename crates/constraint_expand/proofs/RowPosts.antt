@@ -14,7 +14,7 @@ use Rattle.fd_model.specs.LinearRows.{row_by_sign, rows_behind}
 use Rattle.linear_forms.proofs.Lemmas.{neg_one, integer_fits, one_inside}
 use Rattle.constraint_expand.specs.declared.rows.Comparison.{Comparison}
 use Rattle.constraint_expand.specs.declared.rows.Form.{Form}
-use Rattle.std.proofs.lemmas.List.{take-append-drop, length-take-le, drop_more, get_or_default}
+use Rattle.std.proofs.lemmas.List.{take-append-drop, length-take-le, drop_more}
 use Rattle.constraint_expand.specs.Nodes.{AreIntegers, CanTurn, comparison_of, lower_reading, upper_reading, product_nodes, row_list, HasProduct, IsForm, AreSides, product_at, row_at, form_rows}
 use Rattle.constraint_expand.proofs.RowNodes.{straight_row, turned_row, products_length, scaled_length}
 

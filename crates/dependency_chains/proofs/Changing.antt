@@ -21,7 +21,7 @@ older ls l n h = get_or_append_left ls (l ∷ []) none n h
 newest : (ls : List Link) (l : Link) → link_at (ls ++ l ∷ []) (length ls) ≡ l
 newest ls l = get_or_at ls l [] none (length ls) refl
 
-last_or_older : (n m : ℕ) → n < suc m → (n < m) ⊎ (n ≡ m)
+pub last_or_older : (n m : ℕ) → n < suc m → (n < m) ⊎ (n ≡ m)
 last_or_older n m h = elim (cases_Bool (n == m)) [ inl e ↦ inr (eqb-true n m e) | inr e ↦ inl (let d : n ≡ m → ⊥ = eqb-false n m e in omega (arith, h, d)) ]
 
 latest_older : (ls : List Link) (l : Link) (n k : ℕ) (f : Feature) → n ≤ length ls → latest (ls ++ l ∷ []) n k f ≡ latest ls n k f

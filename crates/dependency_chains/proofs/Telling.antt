@@ -5,6 +5,7 @@ use Rattle.std.specs.List.{list_any}
 use Rattle.std.proofs.lemmas.List.{take_more, take_all}
 use Rattle.std.proofs.lemmas.List.Folds.{list_any-append}
 use Rattle.std.proofs.Math.Bool.{and-false}
+use Rattle.domain_ranges.proofs.Lemmas.{has_append as has-append}
 use Rattle.fd_language.specs.Family.{has}
 use Rattle.fd_language.specs.declared.range_node.Feature.{Feature}
 use Rattle.fd_language.specs.declared.range_node.Feature.TheVariants as feature
@@ -21,12 +22,6 @@ use Rattle.dependency_chains.proofs.Chaining.{from_latest}
 abbrev any_link : List Link → ℕ → (Link → Bool) → Bool
 any_link ls zero p = false
 any_link ls (suc n) p = p (link_at ls n) || any_link ls n p
-
-has-append : (xs ys : List ℕ) (a : ℕ) → has (xs ++ ys) a ≡ (has xs a || has ys a)
-has-append [] ys a = refl
-has-append (x ∷ xs) ys a = either (x == a) (has xs a) (has ys a) (has (xs ++ ys) a) (has-append xs ys a) where
-  either : (p q r s : Bool) → s ≡ (q || r) → (p || s) ≡ ((p || q) || r)
-  either p q r s h = grind (arith, h)
 
 in_chain : (ls : List Link) (n k a : ℕ) (f : Feature) → has (agents_in ls n k f) a ≡ any_link ls n (λ l. (l.agent == a) && is_in l k f)
 in_chain ls zero k a f = refl

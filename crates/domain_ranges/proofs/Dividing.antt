@@ -1,9 +1,9 @@
 -- The loop of the quotient of a list of intervals.
-use Rattle.std.proofs.Common.{◌≡◌, ℕ, suc, ◌+◌, ◌*◌, ◌/◌, ◌<◌, ◌≤◌, Bool, true, false, ◌||◌, ◌&&◌, leb, List, ◌∷◌, ap, sym, ◌∙◌, subst, arith, length, get_or, drop, drop_of_length-le, Option, inl, inr, ◌⊎◌}
+use Rattle.std.proofs.Common.{◌≡◌, ℕ, suc, ◌+◌, ◌*◌, ◌/◌, ◌<◌, ◌≤◌, Bool, false, ◌||◌, ◌&&◌, leb, List, ◌∷◌, ap, sym, ◌∙◌, subst, arith, length, get_or, drop, drop_of_length-le, Option, inl, inr, ◌⊎◌}
 use Rattle.std.specs.Int.{div_ceil}
 use Rattle.std.proofs.lemmas.Bool.Decides.{nat_tests}
 use Rattle.std.proofs.lemmas.Grind.{div_ceil_times}
-use Rattle.std.proofs.Math.Nat.{mul-le-mul_right, div-mul-le_self, lt-div-mul-add, le-mul_of_pos_right, suc-mul}
+use Rattle.std.proofs.Math.Nat.{mul-le-mul_right, div-mul-le_self, le-mul_of_pos_right, suc-mul}
 use Rattle.std.specs.Cmp.{both_ways}
 use Rattle.std.proofs.lemmas.Bool.{le-leb, leb-true, cases_lt}
 use Rattle.std.proofs.lemmas.Nat.{le-div}
@@ -26,7 +26,7 @@ up_back a b n h g = elim (cases_lt n (div_ceil a b)) [
 pub up_is : (a b n : ℕ) → 0 < b → leb a (n * b) ≡ leb (div_ceil a b) n
 up_is a b n h = both_ways (leb a (n * b)) (leb (div_ceil a b) n) (λ e. le-leb (div_ceil a b) n (up_back a b n h (leb-true a (n * b) e))) (λ e. le-leb a (n * b) (up_fwd a b n h (leb-true (div_ceil a b) n e)))
 
-down_fwd : (a b n : ℕ) → n ≤ a / b → n * b ≤ a
+pub down_fwd : (a b n : ℕ) → n ≤ a / b → n * b ≤ a
 down_fwd a b n g = let t = div-mul-le_self a b in let m : n * b ≤ a / b * b = mul-le-mul_right b g in omega arith
 
 pub down_is : (a b n : ℕ) → 0 < b → leb (n * b) a ≡ leb n (a / b)

@@ -1,6 +1,5 @@
 -- What the loops make, as the sets that it is.
-use Rattle.std.proofs.Common.{◌≡◌, ℕ, zero, suc, ◌+◌, ◌-◌, ◌*◌, ◌/◌, ◌<◌, ◌≤◌, Bool, true, false, not, cond, ◌||◌, ◌&&◌, ◌==◌, leb, List, [], ◌∷◌, filter, refl, ap, sym, ◌∙◌, subst, inl, inr, ◌⊎◌, arith, length, ℤ, pos, negsuc, ◌+ℤ◌, ◌*ℤ◌, ◌≤ℤ◌, ◌<ℤ◌, neg_ℤ, eqb-true, eq-eqb, Option, Some, None, IfSome, IfNone, MatchOption, IsTrue, leb-true, le-leb}
-use Rattle.std.specs.List.{list_any}
+use Rattle.std.proofs.Common.{◌≡◌, ℕ, zero, suc, ◌+◌, ◌-◌, ◌*◌, ◌/◌, ◌<◌, ◌≤◌, Bool, true, false, not, cond, ◌||◌, ◌&&◌, ◌==◌, leb, List, [], ◌∷◌, filter, refl, ap, sym, ◌∙◌, subst, inl, inr, ◌⊎◌, arith, length, ℤ, pos, negsuc, ◌+ℤ◌, ◌*ℤ◌, ◌≤ℤ◌, ◌<ℤ◌, neg_ℤ, eq-eqb, Option, Some, None, IfSome, IfNone, MatchOption, IsTrue, leb-true, le-leb}
 use Rattle.std.specs.Ordering.{int_eq}
 use Rattle.std.proofs.lemmas.Bool.{true≢false, or_cases, or_left, or_right, and_parts, and_from, false_from_ne_true}
 use Rattle.std.proofs.lemmas.Bool.Decides.{Decides-int_eq, nat_tests}
@@ -9,7 +8,7 @@ use Rattle.std.specs.Cmp.{both_ways}
 use Rattle.std.proofs.Math.Nat.{suc-mul}
 use Rattle.fd_language.specs.Family.{has, universe, IsRising}
 use Rattle.fd_language.specs.Range.{some_number, is_none_left, least}
-use Rattle.fd_language.proofs.Lemmas.{rising_same, has-filter, has-filter_back, universe_rising, in_universe, has_high, rising-filter, not_empty}
+use Rattle.fd_language.proofs.Lemmas.{rising_same, has-filter, has-filter_back, universe_rising, in_universe, has_high, rising-filter, not_empty, any_to, any_from}
 use Rattle.domain_ranges.specs.Spans.{Span, within, IsSpans, members, shifted, scaled}
 use Rattle.domain_ranges.specs.Sets.{is_shifted, is_scaled, is_quotient}
 use Rattle.domain_ranges.proofs.Spans.{within_high, in_head, in_later, head_or_later}
@@ -36,30 +35,19 @@ set_rising M p = rising-filter p 0 M (universe M) (universe_rising M)
 pub set_same : (M : ℕ) (p q : ℕ → Bool) → ((n : ℕ) → n ≤ M → p n ≡ q n) → filter p (universe M) ≡ filter q (universe M)
 set_same M p q h = set_is M q (filter p (universe M)) (set_rising M p) (λ n l. has_set M p n l ∙ h n l)
 
-any_has : (f : ℕ → Bool) (xs : List ℕ) (e : ℕ) → has xs e ≡ true → f e ≡ true → list_any f xs ≡ true
-any_has f [] e h g = absurd (true≢false (sym h))
-any_has f (x ∷ xs) e h g = elim (or_cases (x == e) (has xs e) h) [ inl a ↦ or_left (f x) (list_any f xs) (ap f (eqb-true x e a) ∙ g) | inr a ↦ or_right (f x) (list_any f xs) (any_has f xs e a g) ]
-
-any_from : (f : ℕ → Bool) (xs : List ℕ) → list_any f xs ≡ true → (e : ℕ) × (has xs e ≡ true) × (f e ≡ true)
-any_from f [] h = absurd (true≢false (sym h))
-any_from f (x ∷ xs) h = elim (or_cases (f x) (list_any f xs) h) [
-  | inl a ↦ (x, or_left (x == x) (has xs x) (eq-eqb x x refl), a)
-  | inr a ↦ let later = any_from f xs a in (later.0, or_right (x == later.0) (has xs later.0) later.1, later.2)
-]
-
 pub some_has : (M : ℕ) (f : ℕ → Bool) (e : ℕ) → e ≤ M → f e ≡ true → some_number M f ≡ true
-some_has M f e h g = any_has f (universe M) e (in_universe M e h) g
+some_has M f e h g = any_to f (universe M) e (in_universe M e h) g
 
 pub some_from : (M : ℕ) (f : ℕ → Bool) → some_number M f ≡ true → (e : ℕ) × (e ≤ M) × (f e ≡ true)
 some_from M f h = let a = any_from f (universe M) h in (a.0, has_high 0 M (universe M) a.0 (universe_rising M) a.1, a.2)
 
-int_same : (x y : ℤ) → x ≡ y → int_eq x y ≡ true
+pub int_same : (x y : ℤ) → x ≡ y → int_eq x y ≡ true
 int_same x y e = (Decides-int_eq x y).1 e
 
-same_int : (x y : ℤ) → int_eq x y ≡ true → x ≡ y
+pub same_int : (x y : ℤ) → int_eq x y ≡ true → x ≡ y
 same_int x y e = (Decides-int_eq x y).0 e
 
-pos_same : (a b : ℕ) → pos a ≡ pos b → a ≡ b
+pub pos_same : (a b : ℕ) → pos a ≡ pos b → a ≡ b
 pos_same a b e = cc
 
 -- what a moved number comes of
@@ -174,7 +162,7 @@ negative_none M ns (negsuc k) n h g = false_from_ne_true (is_scaled M ns (negsuc
     let z = neg_none (f.0 * suc k) n (same_int (neg_ℤ (pos (f.0 * suc k))) (pos n) both.1) in
     omega (arith, z.1))
 
-times_zero : (e : ℕ) → e * 0 ≡ 0
+pub times_zero : (e : ℕ) → e * 0 ≡ 0
 times_zero e = omega arith
 
 -- times 0

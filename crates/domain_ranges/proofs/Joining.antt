@@ -91,7 +91,7 @@ next_open M p out rest s j e =
       after = λ k. either_false (within (s ∷ []) (s.1 + 1)) (rest (s.1 + 1)) (p (s.1 + 1)) (j.same (s.1 + 1) k (omega (arith, open_.0, open_.1))) (out_high s (s.1 + 1) (omega arith)) e;
     }
 
-not_low : (x : Span) (n : ℕ) → n < x.0 → (leb x.0 n && leb n x.1) ≡ false
+pub not_low : (x : Span) (n : ℕ) → n < x.0 → (leb x.0 n && leb n x.1) ≡ false
 not_low x n h = grind (arith, nat_tests)
 
 no_rest : (M : ℕ) (rest rest' : ℕ → Bool) (x : Span) (n : ℕ) → IsFirst M rest x rest' → n ≤ M → n < x.0 → rest n ≡ false

@@ -1,12 +1,12 @@
 -- The numbers of a list of intervals.
-use Rattle.std.proofs.Common.{◌≡◌, ℕ, zero, suc, ◌+◌, ◌-◌, ◌<◌, ◌≤◌, Bool, true, false, ◌||◌, ◌&&◌, ◌==◌, not, leb, List, [], ◌∷◌, ◌++◌, filter, refl, ap, sym, ◌∙◌, subst, inl, inr, arith, length, get_or, length-append, ℤ, pos, negsuc, int_le, ◌<ℤ◌, ◌⊎◌, append-nil, eqb-true}
-use Rattle.std.proofs.lemmas.Bool.{and_parts, and_from, or_cases, true≢false, cases_lt}
+use Rattle.std.proofs.Common.{◌≡◌, ℕ, zero, suc, ◌+◌, ◌-◌, ◌<◌, ◌≤◌, Bool, true, false, ◌||◌, ◌&&◌, ◌==◌, not, leb, List, [], ◌∷◌, ◌++◌, filter, refl, ap, sym, ◌∙◌, subst, inl, inr, arith, length, get_or, length-append, ℤ, pos, negsuc, int_le, ◌<ℤ◌, ◌⊎◌, append-nil}
+use Rattle.std.proofs.lemmas.Bool.{and_parts, and_from, true≢false, cases_lt}
 use Rattle.std.proofs.lemmas.Bool.Decides.{nat_tests}
 use Rattle.std.proofs.lemmas.Int.{ints}
 use Rattle.std.proofs.Math.Bool.{or-false}
 use Rattle.fd_language.specs.Family.{has, universe, IsRising, count_up}
 use Rattle.fd_language.specs.Range.{least, greatest, is_none_left}
-use Rattle.fd_language.proofs.Lemmas.{rising_same, has-filter, has-filter_back, universe_rising, in_universe, has_high, has_low, rising-filter, least_low, least_in, greatest_in, greatest_high, not_empty}
+use Rattle.fd_language.proofs.Lemmas.{rising_same, has-filter, has-filter_back, universe_rising, in_universe, has_high, has_low, rising-filter, least_low, least_in, greatest_in, greatest_high, not_empty, rising_later as rising_from, later_in}
 use Rattle.domain_ranges.proofs.Spans.{within_low, least_first, greatest_end, count, in_head, past_first, behind_first}
 use Rattle.domain_ranges.specs.Spans.{Span, within, IsSpans, members, interval_count, has_int}
 
@@ -17,7 +17,7 @@ has_up : (low n k : ℕ) → has (count_up low n) k ≡ (leb low k && leb (suc k
 has_up low zero k = grind (arith, nat_tests)
 has_up low (suc n) k = up_step low n k (has_up (suc low) n k)
 
-has_append : (xs ys : List ℕ) (n : ℕ) → has (xs ++ ys) n ≡ (has xs n || has ys n)
+pub has_append : (xs ys : List ℕ) (n : ℕ) → has (xs ++ ys) n ≡ (has xs n || has ys n)
 has_append [] ys n = refl
 has_append (x ∷ xs) ys n = let h = has_append xs ys n in grind (arith, h)
 
@@ -31,13 +31,9 @@ has_members low high (s ∷ ss) n r =
     has_append (count_up s.0 (suc s.1 - s.0)) (members ss) n
     ∙ span_step s.0 s.1 n (within ss n) (has (members ss) n) (has (count_up s.0 (suc s.1 - s.0)) n) r.1 (has_members (s.1 + 2) high ss n r.3) (has_up s.0 (suc s.1 - s.0) n)
 
-up_append : (low n high : ℕ) (xs : List ℕ) → low + n ≤ suc high → IsRising (low + n) high xs → IsRising low high (count_up low n ++ xs)
+pub up_append : (low n high : ℕ) (xs : List ℕ) → low + n ≤ suc high → IsRising (low + n) high xs → IsRising low high (count_up low n ++ xs)
 up_append low zero high xs h r = subst (λ k. IsRising k high xs) (omega arith) r
 up_append low (suc n) high xs h r = (omega arith, omega arith, up_append (suc low) n high xs (omega arith) (let e : low + suc n ≡ suc low + n = omega arith in subst (λ k. IsRising k high xs) e r))
-
-rising_from : (low high m : ℕ) (xs : List ℕ) → low ≤ m → IsRising m high xs → IsRising low high xs
-rising_from low high m [] h r = tt
-rising_from low high m (x ∷ xs) h r = (omega arith, r.1, r.2)
 
 pub members_rising : (low high : ℕ) (ss : List Span) → IsSpans low high ss → IsRising low high (members ss)
 unfolding members
@@ -62,7 +58,7 @@ filter_inside M xs ys r =
     (record { each = λ n m. let both = and_parts (has xs n) (has ys n) (has-filter_back (λ k. has xs k && has ys k) (universe M) n m).1 in has-filter (has ys) xs n both.0 both.1 })
     (record { each = λ n m. let both = has-filter_back (has ys) xs n m in has-filter (λ k. has xs k && has ys k) (universe M) n (in_universe M n (has_high 0 M xs n r both.0)) (and_from (has xs n) (has ys n) both.0 both.1) })
 
-length_up : (low n : ℕ) → length (count_up low n) ≡ n
+pub length_up : (low n : ℕ) → length (count_up low n) ≡ n
 length_up low zero = refl
 length_up low (suc n) = ap suc (length_up (suc low) n)
 
@@ -112,18 +108,15 @@ one_place : (xs : List ℕ) (c : ℕ) → has xs c ≡ true → 1 ≤ length xs
 one_place [] c h = absurd (true≢false (sym h))
 one_place (x ∷ xs) c h = omega arith
 
-rest_of : (low high x n : ℕ) (xs : List ℕ) → has (x ∷ xs) n ≡ true → x < n → has xs n ≡ true
-rest_of low high x n xs h l = elim (or_cases (x == n) (has xs n) h) [ inl e ↦ absurd (omega (arith, eqb-true x n e)) | inr e ↦ e ]
-
 two_places : (low high b c : ℕ) (xs : List ℕ) → IsRising low high xs → has xs b ≡ true → has xs c ≡ true → b < c → 2 ≤ length xs
 two_places low high b c [] r h g l = absurd (true≢false (sym h))
-two_places low high b c (x ∷ xs) r h g l = let first = has_low x high (x ∷ xs) b (omega arith, r.1, r.2) h in omega (arith, one_place xs c (rest_of low high x c xs g (omega arith)))
+two_places low high b c (x ∷ xs) r h g l = let first = has_low x high (x ∷ xs) b (omega arith, r.1, r.2) h in omega (arith, one_place xs c (later_in low high x c xs g (omega arith)))
 
 three_places : (low high a b c : ℕ) (xs : List ℕ) → IsRising low high xs → has xs a ≡ true → has xs b ≡ true → has xs c ≡ true → a < b → b < c → 3 ≤ length xs
 three_places low high a b c [] r f h g k l = absurd (true≢false (sym h))
 three_places low high a b c (x ∷ xs) r f h g k l =
     let first = has_low x high (x ∷ xs) a (omega arith, r.1, r.2) f in
-    omega (arith, two_places (suc x) high b c xs r.2 (rest_of low high x b xs h (omega arith)) (rest_of low high x c xs g (omega arith)) l)
+    omega (arith, two_places (suc x) high b c xs r.2 (later_in low high x b xs h (omega arith)) (later_in low high x c xs g (omega arith)) l)
 
 ends_here : (xs : List ℕ) (n : ℕ) → has xs n ≡ true → has xs (suc n) ≡ false → has (filter (λ k. not (has xs (suc k))) xs) n ≡ true
 ends_here xs n h g = has-filter (λ k. not (has xs (suc k))) xs n h (ap not g)

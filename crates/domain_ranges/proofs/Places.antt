@@ -1,7 +1,6 @@
 -- The first interval that doesn't end below a number.
 use Rattle.std.proofs.Common.{◌≡◌, ℕ, zero, suc, ◌+◌, ◌<◌, ◌≤◌, Bool, true, false, leb, ltb, List, [], ◌∷◌, refl, ap, sym, ◌∙◌, subst, arith, length, get_or, drop, drop_of_length-le, max, le-leb}
 use Rattle.std.proofs.lemmas.Bool.Decides.{nat_tests}
-use Rattle.std.proofs.lemmas.Bool.{ltb-true, ltb-false}
 use Rattle.std.proofs.lemmas.List.{drop_more}
 use Rattle.domain_ranges.specs.Spans.{Span, within, IsSpans}
 use Rattle.domain_ranges.proofs.Spans.{not_within, past_first, within_low, spans_at}

@@ -1,8 +1,9 @@
 -- The loop of the multiples of the members of a list of intervals.
 use Rattle.std.proofs.Common.{◌≡◌, ℕ, suc, ◌+◌, ◌*◌, ◌/◌, ◌<◌, ◌≤◌, true, ◌==◌, List, [], ◌∷◌, ◌++◌, filter, refl, ap, sym, ◌∙◌, subst, inl, inr, arith, length, get_or, drop, drop_of_length-le, max, eqb-true, eq-eqb}
 use Rattle.std.proofs.lemmas.Bool.{true≢false, and_parts, and_from, false_from_ne_true, cases_lt}
-use Rattle.std.proofs.Math.Nat.{mul-le-mul_right, mul-div_cancel, div-mul-le_self, lt-div-mul-add, suc-mul}
+use Rattle.std.proofs.Math.Nat.{mul-le-mul_right, mul-div_cancel, lt-div-mul-add, suc-mul}
 use Rattle.std.proofs.lemmas.List.{drop_more}
+use Rattle.domain_ranges.proofs.Dividing.{down_fwd}
 use Rattle.fd_language.specs.Family.{universe}
 use Rattle.domain_ranges.specs.Spans.{Span, within, IsSpans, members, interval_count, scaled}
 use Rattle.domain_ranges.proofs.Spans.{within_low, in_head, past_first}
@@ -134,18 +135,15 @@ scale_past M c ss out next i s l h g =
     let v = suc-mul (M / c) c in
     omega (arith, q.0))))
 
-pub scale_fits : (M c e : ℕ) → e ≤ M / c → e * c ≤ M
-scale_fits M c e h = let m : e * c ≤ M / c * c = mul-le-mul_right c h in let u = div-mul-le_self M c in omega arith
-
 -- where the code has the next member
 pub member_in : (M c : ℕ) (ss out : List Span) (next i m : ℕ) → Scaling M c ss out next (drop i ss) → i < length ss → 2 ≤ c → m ≡ max (get_or ss i (0, 0)).0 next → m ≤ M / c → (m ≡ (get_or ss i (0, 0)).1 → ⊥) → Scaling M c ss (out ++ (m * c, m * c) ∷ []) (m + 1) (drop i ss)
-member_in M c ss out next i m s l h e g ne = subst (λ k. Scaling M c ss (out ++ (k * c, k * c) ∷ []) (k + 1) (drop i ss)) (sym e) (scale_in M c ss out next i s l h (scale_fits M c (max (get_or ss i (0, 0)).0 next) (subst (λ k. k ≤ M / c) e g)) (λ f. ne (e ∙ f)))
+member_in M c ss out next i m s l h e g ne = subst (λ k. Scaling M c ss (out ++ (k * c, k * c) ∷ []) (k + 1) (drop i ss)) (sym e) (scale_in M c ss out next i s l h (down_fwd M c (max (get_or ss i (0, 0)).0 next) (subst (λ k. k ≤ M / c) e g)) (λ f. ne (e ∙ f)))
 
 pub member_out : (M c : ℕ) (ss out : List Span) (next i m : ℕ) → Scaling M c ss out next (drop i ss) → i < length ss → 2 ≤ c → m ≡ max (get_or ss i (0, 0)).0 next → m ≤ M / c → m ≡ (get_or ss i (0, 0)).1 → Scaling M c ss (out ++ (m * c, m * c) ∷ []) (m + 1) (drop (i + 1) ss)
-member_out M c ss out next i m s l h e g f = subst (λ k. Scaling M c ss (out ++ (k * c, k * c) ∷ []) (k + 1) (drop (i + 1) ss)) (sym e) (scale_out M c ss out next i s l h (scale_fits M c (max (get_or ss i (0, 0)).0 next) (subst (λ k. k ≤ M / c) e g)) (sym e ∙ f))
+member_out M c ss out next i m s l h e g f = subst (λ k. Scaling M c ss (out ++ (k * c, k * c) ∷ []) (k + 1) (drop (i + 1) ss)) (sym e) (scale_out M c ss out next i s l h (down_fwd M c (max (get_or ss i (0, 0)).0 next) (subst (λ k. k ≤ M / c) e g)) (sym e ∙ f))
 
 pub member_many : (M c : ℕ) (ss out : List Span) (next i m : ℕ) → Scaling M c ss out next (drop i ss) → i < length ss → 2 ≤ c → m ≡ max (get_or ss i (0, 0)).0 next → m ≤ M / c → 2 ≤ length out → 2 < interval_count (filter (scaled ss c) (universe M))
-member_many M c ss out next i m s l h e g k = scale_many M c ss out next i s l h (scale_fits M c (max (get_or ss i (0, 0)).0 next) (subst (λ j. j ≤ M / c) e g)) k
+member_many M c ss out next i m s l h e g k = scale_many M c ss out next i s l h (down_fwd M c (max (get_or ss i (0, 0)).0 next) (subst (λ j. j ≤ M / c) e g)) k
 
 pub member_past : (M c : ℕ) (ss out : List Span) (next i m : ℕ) → Scaling M c ss out next (drop i ss) → i < length ss → 0 < c → m ≡ max (get_or ss i (0, 0)).0 next → M / c < m → members out ≡ filter (scaled ss c) (universe M)
 member_past M c ss out next i m s l h e g = scale_past M c ss out next i s l h (subst (λ j. M / c < j) e g)

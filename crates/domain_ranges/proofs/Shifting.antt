@@ -1,5 +1,5 @@
 -- The loop of a list of intervals that are moved by an integer.
-use Rattle.std.proofs.Common.{◌≡◌, ℕ, ◌+◌, ◌<◌, ◌≤◌, Bool, true, false, ◌||◌, ◌&&◌, leb, List, [], ◌∷◌, ◌++◌, filter, refl, ap, sym, ◌∙◌, subst, inl, inr, ◌⊎◌, arith, length, get_or, drop, drop_of_length-le, ℤ, pos, ◌+ℤ◌, ◌≤ℤ◌, ◌<ℤ◌, int_le, neg_ℤ, to_z, of_z, ◌^◌}
+use Rattle.std.proofs.Common.{◌≡◌, ℕ, ◌+◌, ◌<◌, ◌≤◌, Bool, true, false, ◌||◌, ◌&&◌, leb, List, [], ◌∷◌, ◌++◌, filter, ap, sym, ◌∙◌, subst, inl, inr, ◌⊎◌, arith, length, get_or, drop, drop_of_length-le, ℤ, pos, ◌+ℤ◌, ◌≤ℤ◌, ◌<ℤ◌, int_le, neg_ℤ, to_z, of_z, ◌^◌}
 use mir.Syntax.{w128}
 use Rattle.std.proofs.lemmas.Bool.{true≢false, or_cases, false_from_ne_true}
 use Rattle.std.proofs.lemmas.Bool.Decides.{nat_tests}
@@ -8,7 +8,7 @@ use Rattle.std.proofs.lemmas.List.{drop_more}
 use Rattle.fd_language.specs.Family.{universe}
 use Rattle.domain_ranges.specs.Spans.{Span, IsSpans, members, interval_count, shifted}
 use Rattle.domain_ranges.proofs.Made.{Made, IsNext, made_push, made_all, made_many}
-use Rattle.domain_ranges.proofs.Joining.{either_false, either_true}
+use Rattle.domain_ranges.proofs.Joining.{either_false, either_true, not_low}
 
 -- whether n comes of the interval
 abbrev pub comes : Span → ℤ → ℕ → Bool
@@ -44,9 +44,6 @@ pub record IsMoved (M : ℕ) (c : ℤ) (x s : Span) : Type 0 where
 leb_both : (s : Span) (n : ℕ) → s.0 ≤ n → n ≤ s.1 → (leb s.0 n && leb n s.1) ≡ true
 leb_both s n h g = grind (arith, nat_tests)
 
-leb_low : (s : Span) (n : ℕ) → n < s.0 → (leb s.0 n && leb n s.1) ≡ false
-leb_low s n h = grind (arith, nat_tests)
-
 leb_high : (s : Span) (n : ℕ) → s.1 < n → (leb s.0 n && leb n s.1) ≡ false
 leb_high s n h = grind (arith, nat_tests)
 
@@ -72,7 +69,7 @@ next_moved M c ss out xs x s t m =
       from = from;
       order = m.order;
       high = m.high;
-      before = λ n k l. either_false (comes x c n) (shifted xs c n) (shifted ss c n) (t.same n (omega (arith, m.order, m.high)) k) (sym (m.same n (omega (arith, m.order, m.high))) ∙ leb_low s n l) (late M c x s xs r.3 m n (omega (arith, m.order)));
+      before = λ n k l. either_false (comes x c n) (shifted xs c n) (shifted ss c n) (t.same n (omega (arith, m.order, m.high)) k) (sym (m.same n (omega (arith, m.order, m.high))) ∙ not_low s n l) (late M c x s xs r.3 m n (omega (arith, m.order)));
       inside = λ n k l. either_true (comes x c n) (shifted xs c n) (shifted ss c n) (t.same n (omega (arith, m.high)) (omega arith)) (sym (m.same n (omega (arith, m.high))) ∙ leb_both s n k l);
       after = λ k. either_false (comes x c (s.1 + 1)) (shifted xs c (s.1 + 1)) (shifted ss c (s.1 + 1)) (t.same (s.1 + 1) k (omega (arith, m.order))) (sym (m.same (s.1 + 1) k) ∙ leb_high s (s.1 + 1) (omega arith)) (late M c x s xs r.3 m (s.1 + 1) (omega arith));
     }

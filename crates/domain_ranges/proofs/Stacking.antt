@@ -1,5 +1,5 @@
 -- Sets one behind another in one list of intervals.
-use Rattle.std.proofs.Common.{◌≡◌, ℕ, zero, suc, ◌+◌, ◌-◌, ◌<◌, ◌≤◌, Bool, true, false, ◌||◌, ◌&&◌, ◌==◌, leb, List, [], ◌∷◌, ◌++◌, filter, length, take, drop, get_or, drop_of_length-le, refl, sym, ◌∙◌, ap, subst, inl, inr, arith, Option, Some, None, append-nil, ℤ, pos, int_le}
+use Rattle.std.proofs.Common.{◌≡◌, ℕ, zero, suc, ◌+◌, ◌-◌, ◌<◌, ◌≤◌, true, false, ◌||◌, ◌&&◌, ◌==◌, leb, List, [], ◌∷◌, ◌++◌, filter, length, take, drop, get_or, drop_of_length-le, refl, sym, ◌∙◌, ap, subst, inl, inr, arith, Option, Some, None, append-nil, ℤ, pos, int_le}
 use Rattle.std.specs.Prelude.{reverse, MatchOption}
 use Rattle.std.specs.Option.{option_to_list}
 use Rattle.std.specs.List.Sorted.{IsNonDecreasingBy, IsPermutation}

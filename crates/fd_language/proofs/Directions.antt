@@ -75,7 +75,7 @@ if_yes c x y h e = grind arith
 if_no : (c x y : Bool) → cond c x y ≡ true → c ≡ false → y ≡ true
 if_no c x y h e = grind arith
 
-int_le_true : (a b : ℤ) → int_le a b ≡ true → a ≤ℤ b
+pub int_le_true : (a b : ℤ) → int_le a b ≡ true → a ≤ℤ b
 int_le_true a b h = grind (arith, ints)
 
 positive_natural : (z : ℤ) → int_le (pos 1) z ≡ true → int_le (pos 0) z ≡ true

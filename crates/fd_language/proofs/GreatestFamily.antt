@@ -12,7 +12,7 @@ pub shorter_or_same : (p : ℕ → Bool) (xs : List ℕ) → (length (filter p x
 shorter_or_same p [] = inr refl
 shorter_or_same p (x ∷ xs) = step_or_same p x xs (shorter_or_same p xs)
 
-rising_later : (low high m : ℕ) (xs : List ℕ) → low ≤ m → IsRising m high xs → IsRising low high xs
+pub rising_later : (low high m : ℕ) (xs : List ℕ) → low ≤ m → IsRising m high xs → IsRising low high xs
 rising_later low high m [] h r = tt
 rising_later low high m (x ∷ xs) h r = (omega arith, r.1, r.2)
 

@@ -1,9 +1,9 @@
 -- The lemmas that other crates may cite, by their subjects. All else in proofs/ is this crate's own.
 
 -- Sets of numbers as lists, and the greatest family that passes a test.
-pub use Rattle.fd_language.proofs.Sets.{has-filter, has-filter_back, has_low, has_high, rising_same, universe_rising, in_count_up, in_universe, rising_inside, has_either, in_left, in_right, alone_in, in_flat, first_member, only_member, map_has, has_map, any_from, any_to}
+pub use Rattle.fd_language.proofs.Sets.{has-filter, has-filter_back, has_low, has_high, rising_same, universe_rising, in_count_up, in_universe, rising_inside, has_either, in_left, in_right, alone_in, in_flat, first_member, only_member, map_has, has_map, any_from, any_to, later_in}
 pub use Rattle.fd_language.proofs.Monotone.{least_low, least_in, greatest_in, greatest_high, not_empty}
-pub use Rattle.fd_language.proofs.GreatestFamily.{IsGreatest, greatest_there, rising-filter, shorter_or_same}
+pub use Rattle.fd_language.proofs.GreatestFamily.{IsGreatest, greatest_there, rising-filter, shorter_or_same, rising_later}
 -- What holds of each element of a list.
 pub use Rattle.fd_language.proofs.Lists.{each_map, each_all, each_both, each_before, each_after, each_either}
 -- Walks over ranges: what is collected of their leaves, their nodes, and what becomes of them with other leaves.
@@ -14,23 +14,23 @@ pub use Rattle.fd_language.proofs.SpelledNodes.{spells_back}
 pub use Rattle.fd_language.proofs.RangeRenaming.{reads_map, set_same, set_agree, monotone_renamed}
 pub use Rattle.fd_language.proofs.Fitting.{range_fits_same}
 pub use Rattle.fd_language.proofs.Monotone.{accepted_is_monotone}
-pub use Rattle.fd_language.proofs.Directions.{literal_is}
+pub use Rattle.fd_language.proofs.Directions.{literal_is, int_le_true}
 -- Needs, the limits of values, and the verdict.
 pub use Rattle.fd_language.proofs.AskedParameters.{Asked, asked_params, nothing_asked}
 pub use Rattle.fd_language.proofs.PartNeeds.{expr_meets, over_meets, range_meets, needs_met}
-pub use Rattle.fd_language.proofs.Limits.{least_small, abs_add, abs_sub, abs_mul, sums, products, not_over, bounded_values}
+pub use Rattle.fd_language.proofs.Limits.{least_small, abs_add, abs_sub, abs_mul, sums, products, not_over, bounded_values, within_left, within_right, within_here}
 pub use Rattle.fd_language.proofs.NoOffences.{nil-first, nil-range}
 pub use Rattle.fd_language.proofs.FirstOffence.{first-append, first_two, first_three, earlier_assoc}
-pub use Rattle.fd_language.proofs.VerdictLaw.{verdict_agrees}
+pub use Rattle.fd_language.proofs.VerdictLaw.{verdict_agrees, all_three}
 -- Tokens, the operators of the table, and readings.
 pub use Rattle.fd_language.proofs.TokenLaws.{front_empty, gap_grows, token_grows, one_list, one_fault, not_both, one_verdict}
 pub use Rattle.fd_language.proofs.TokenSlices.{tokens_are_slices}
-pub use Rattle.fd_language.proofs.QuotedAtoms.{front_past, front_broken, spells_past, spells_broken, quoted_atoms}
+pub use Rattle.fd_language.proofs.QuotedAtoms.{front_past, front_broken, spells_past, spells_broken, quoted_atoms, ends_here, quote_front}
 pub use Rattle.fd_language.proofs.OperatorLaws.{within_infix}
-pub use Rattle.fd_language.proofs.ReadingWhole.{accepts}
+pub use Rattle.fd_language.proofs.ReadingWhole.{accepts, append-with_last}
 pub use Rattle.fd_language.proofs.ReadingLaws.{one_verdict_of_reading}
-pub use Rattle.fd_language.proofs.SentenceVariables.{each_below, as_many}
+pub use Rattle.fd_language.proofs.SentenceVariables.{each_below, as_many, position_within}
 -- Substitutions and most general unifiers.
 unfoldable pub use Rattle.fd_language.proofs.Substituting.{after, number_for}
-pub use Rattle.fd_language.proofs.Substituting.{after_is, identity, through_term, still_unifies, number_at, number_back}
-pub use Rattle.fd_language.proofs.Solving.{Solved, solved}
+pub use Rattle.fd_language.proofs.Substituting.{after_is, identity, through_term, still_unifies, number_at, number_back, apply_vars, apply_all_vars}
+pub use Rattle.fd_language.proofs.Solving.{Solved, solved, bound_at, decide_name, decide_int}

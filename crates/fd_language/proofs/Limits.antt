@@ -171,13 +171,13 @@ factor_not_over M c h = not_over (M * c) (part (over_limit (M * c)) _ h) where
   part : (a b : Bool) → not (a || b) ≡ true → not a ≡ true
   part a b h = grind arith
 
-within_left : (a b c : Bool) → ((a && b) && c) ≡ true → a ≡ true
+pub within_left : (a b c : Bool) → ((a && b) && c) ≡ true → a ≡ true
 within_left a b c h = grind arith
 
-within_right : (a b c : Bool) → ((a && b) && c) ≡ true → b ≡ true
+pub within_right : (a b c : Bool) → ((a && b) && c) ≡ true → b ≡ true
 within_right a b c h = grind arith
 
-within_here : (a b c : Bool) → ((a && b) && c) ≡ true → c ≡ true
+pub within_here : (a b c : Bool) → ((a && b) && c) ≡ true → c ≡ true
 within_here a b c h = grind arith
 
 count_all : (low n high : ℕ) → low + n ≤ suc high → All (λ e. e ≤ high) (count_up low n)

@@ -37,7 +37,7 @@ spells_broken cause m (c ∷ cs) = spells_broken cause m cs
 -- ---- what is spelled is read
 
 -- the quote that ends an atom
-ends_here : (n : ℕ) (rest : List ℕ) → starts_with 39 rest ≡ false → quoted_front AfterQuote n rest ≡ Token Quoted n
+pub ends_here : (n : ℕ) (rest : List ℕ) → starts_with 39 rest ≡ false → quoted_front AfterQuote n rest ≡ Token Quoted n
 ends_here n [] h = refl
 ends_here n (r ∷ rs) h = rw h (front_past n (n + len_utf8 r) rs)
 
@@ -362,7 +362,7 @@ only_quote n c cs =
 no_letter : is_xid_start 39 ≡ false
 no_letter = is_xid_start-ascii 39 (omega arith)
 
-quote_front : (cs : List ℕ) → front_at 39 cs ≡ quoted_front Between 1 cs
+pub quote_front : (cs : List ℕ) → front_at 39 cs ≡ quoted_front Between 1 cs
 unfolding begins_variable is_symbol is_punct
 quote_front cs = rw no_letter refl
 

@@ -208,7 +208,7 @@ behind_argument s s2 x y t q c e d le =
     ∙ ap (λ (o : Option State). or_else o (ended (reduce None s2 0 y) x)) (no_attach s s2 x y t q e d le)
     ∙ ap (λ (r : Reduced). ended r x) (reduce_all-Spine d ∙ e.bracket None q t)
 
-append-with_last : (xs ys : PlacedTerms) (t : PlacedTerm) → append (with_last xs t) ys ≡ append xs (part t ys)
+pub append-with_last : (xs ys : PlacedTerms) (t : PlacedTerm) → append (with_last xs t) ys ≡ append xs (part t ys)
 append-with_last no_parts ys t = refl
 append-with_last (part x xs) ys t = ap (part x) (append-with_last xs ys t)
 

@@ -128,7 +128,7 @@ next_below n m vs b e = record {
   only = λ x h. elim (has_either vs (n ∷ []) x h) [ inl old ↦ omega (arith, e, b.only x old) | inr new ↦ omega (arith, e, only_member n x new) ];
 }
 
-position_within : (p : Name → Bool) (xs : List Name) → list_any p xs ≡ true → position_or_len p xs < length xs
+pub position_within : (p : Name → Bool) (xs : List Name) → list_any p xs ≡ true → position_or_len p xs < length xs
 position_within p [] e = absurd (true≢false (sym e))
 position_within p (x ∷ xs) e = go (p x) e (λ k. position_within p xs k)
   where

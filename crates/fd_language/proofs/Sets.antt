@@ -35,7 +35,7 @@ pub first_member : (x : ℕ) (xs : List ℕ) → has (x ∷ xs) x ≡ true
 first_member x xs = or_left _ _ (eq-eqb x x refl)
 
 -- what is in a rising list after its first element is past it
-later_in : (low high x n : ℕ) (xs : List ℕ) → has (x ∷ xs) n ≡ true → x < n → has xs n ≡ true
+pub later_in : (low high x n : ℕ) (xs : List ℕ) → has (x ∷ xs) n ≡ true → x < n → has xs n ≡ true
 later_in low high x n xs h l = elim (or_cases (x == n) (has xs n) h) [ inl e ↦ absurd (omega (arith, eqb-true x n e)) | inr e ↦ e ]
 
 pub rising_same : (low high : ℕ) (xs ys : List ℕ) → IsRising low high xs → IsRising low high ys → IsSubset xs ys → IsSubset ys xs → xs ≡ ys

@@ -49,7 +49,7 @@ mutual
   bind_others x t no_terms h = refl
   bind_others x t (term u us) h = let a = bind_other x t u ((or_parts (occurs x u) (occurs_any x us) h).0) in let b = bind_others x t us ((or_parts (occurs x u) (occurs_any x us) h).1) in cc
 
-bound_at : (b : Bool) (u : Substitution) (x y : ℕ) (t : Term) → u x ≡ apply u t → (b ≡ true → y ≡ x) → apply u (cond b t (Var y)) ≡ u y
+pub bound_at : (b : Bool) (u : Substitution) (x y : ℕ) (t : Term) → u x ≡ apply u t → (b ≡ true → y ≡ x) → apply u (cond b t (Var y)) ≡ u y
 bound_at true u x y t e f = sym e ∙ ap u (sym (f refl))
 bound_at false u x y t e f = refl
 
@@ -146,7 +146,7 @@ unfolding size
 occurs_check u x f ts h e = let l = occurs_sizes u x ts h in let k : size (u x) ≡ suc (sizes (apply_all u ts)) = ap size e in omega arith
 
 -- names and integers are equal or not
-decide_name : (a b : Name) → (a ≡ b) ⊎ (a ≡ b → ⊥)
+pub decide_name : (a b : Name) → (a ≡ b) ⊎ (a ≡ b → ⊥)
 decide_name [] [] = inl refl
 decide_name [] (b ∷ bs) = inr (λ e. cc)
 decide_name (a ∷ as') [] = inr (λ e. cc)
@@ -155,7 +155,7 @@ decide_name (a ∷ as') (b ∷ bs) = elim (cases_eq a b) [
   | inr e ↦ inr (λ g. e (cc))
 ]
 
-decide_int : (y z : ℤ) → (y ≡ z) ⊎ (y ≡ z → ⊥)
+pub decide_int : (y z : ℤ) → (y ≡ z) ⊎ (y ≡ z → ⊥)
 decide_int (pos m) (pos n) = elim (cases_eq m n) [ inl e ↦ inl (ap pos e) | inr e ↦ inr (λ g. e (cc)) ]
 decide_int (pos m) (negsuc n) = inr (λ g. cc)
 decide_int (negsuc m) (pos n) = inr (λ g. cc)

@@ -56,11 +56,11 @@ number_back y z k (Comp f ts) e = absurd (cc)
 
 -- no equations: the identity is a most general unifier
 mutual
-  apply_vars : (t : Term) → apply Var t ≡ t
+  pub apply_vars : (t : Term) → apply Var t ≡ t
   apply_vars (Comp f ts) = ap (Comp f) (apply_all_vars ts)
   apply_vars _ = refl
 
-  apply_all_vars : (ts : Terms) → apply_all Var ts ≡ ts
+  pub apply_all_vars : (ts : Terms) → apply_all Var ts ≡ ts
   apply_all_vars no_terms = refl
   apply_all_vars (term t ts) = let first = apply_vars t in let rest = apply_all_vars ts in cc
 

@@ -15,7 +15,7 @@ both_none : (a b : Option Offence) → width_first a b ≡ None → (a ≡ None)
 both_none None b h = (refl, h)
 both_none (Some o) b h = absurd cc
 
-all_three : (a b c : Bool) → a ≡ true → b ≡ true → c ≡ true → (a && (b && c)) ≡ true
+pub all_three : (a b c : Bool) → a ≡ true → b ≡ true → c ≡ true → (a && (b && c)) ≡ true
 all_three a b c e f g = grind arith
 
 accepted_from : (M : ℕ) (places : List ℕ) (r : Range) → verdict M places r ≡ None → is_accepted M r ≡ true

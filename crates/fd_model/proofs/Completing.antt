@@ -1,7 +1,6 @@
 -- The answers of a labelling are what its branch allows.
 use Rattle.std.proofs.Common.{◌≡◌, ℕ, pos, true, ◌==◌, List, [], ◌∷◌, refl, ap, sym, ◌∙◌, subst, inl, inr, eqb-true, Ok}
 use Rattle.std.proofs.lemmas.Bool.{or_cases, true≢false}
-use Rattle.std.proofs.Math.Nat.{le_trans}
 use Rattle.fd_model.specs.declared.kinds.Order.{Order}
 use Rattle.fd_language.specs.Term.{Term, Var, Int, Atom, Comp, Substitution, apply}
 use Rattle.fd_language.specs.Family.{has}

@@ -4,6 +4,7 @@ use Rattle.std.specs.Ordering.{int_eq}
 use Rattle.std.proofs.Math.IntN.{zero-*ℤ}
 use Rattle.std.proofs.lemmas.Int.{ints}
 use Rattle.std.proofs.lemmas.Bool.{cases_Bool}
+use Rattle.fd_language.proofs.Lemmas.{int_le_true}
 use Rattle.fd_language.specs.Family.{has}
 use Rattle.fd_language.specs.Term.{Term, Int, no_terms, term}
 use Rattle.fd_language.specs.Variables.{TermBelow}
@@ -242,9 +243,6 @@ integer_worth a _ z h = absurd (cc)
 to_le : (a b : ℤ) → a ≤ℤ b → int_le a b ≡ true
 to_le a b h = grind (arith, ints)
 
-from_le : (a b : ℤ) → int_le a b ≡ true → a ≤ℤ b
-from_le a b h = grind (arith, ints)
-
 pub at_most : (M N : ℕ) → N ≤ M → (m l v : Term) (n : ℕ) (x : Expansion) (a : Assignment) → 0 < N → TermBelow n l → ((w : ℕ) → a w ≤ N) → atmost m l v n ≡ Ok x → IsRewritten M N Atmost (term m (term l (term v no_terms))) n x a
 at_most M N up m l v n x a p bl small h =
     let g = atmost_ok m l v n x h in
@@ -289,6 +287,6 @@ at_most M N up m l v n x a p bl small h =
           let within = up_to M N up b e.within in
           let all = inside_counts M b within g.value xs k left in
           let t : total b (units xs k) ≡ pos (occurrences (worths a l) (worth a v)) = total_units b g.value xs k all ∙ (ap (λ zs. pos (occurrences zs g.value)) w ∙ ap (λ z. pos (occurrences (worths a l) z)) (sym wv)) in
-          let s = from_le (total b (units xs k)) g.limit (form_holds M (k + length xs) IsAtMost (units xs k) g.limit b within (units_nonzero xs k) right) in
+          let s = int_le_true (total b (units xs k)) g.limit (form_holds M (k + length xs) IsAtMost (units xs k) g.limit b within (units_nonzero xs k) right) in
           (subst (AreNumbers N) w (are_numbers N b e.within xs), subst (λ z. z ≤ℤ worth a m) t (subst (λ z. total b (units xs k) ≤ℤ z) (sym wm) s));
     })

@@ -58,10 +58,10 @@ valued n a S v = cond (nat_lt v n) (a v) (least (S v))
 abbrev pub IsOne : Family → ℕ → Type 0
 IsOne S v = (k : ℕ) × (S v ≡ k ∷ [])
 
-below_test : (v n : ℕ) → nat_lt v n ≡ true → v < n
+pub below_test : (v n : ℕ) → nat_lt v n ≡ true → v < n
 below_test v n h = grind arith
 
-test_below : (v n : ℕ) → v < n → nat_lt v n ≡ true
+pub test_below : (v n : ℕ) → v < n → nat_lt v n ≡ true
 test_below v n h = grind arith
 
 from_test : (v n : ℕ) → nat_lt v n ≡ false → n ≤ v

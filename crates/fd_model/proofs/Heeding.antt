@@ -1,7 +1,7 @@
 -- Solutions, seen terms, and substitutions that heed what the models of a branch leave no choice in.
 use Rattle.std.proofs.Common.{◌≡◌, ℕ, ◌≤◌, Bool, true, false, ◌==◌, ℤ, pos, IsTrue, List, [], ◌∷◌, Option, Some, ◌⊎◌, refl, ap, sym, ◌∙◌, subst, inl, inr, arith, eqb-true, eq-eqb}
 use Rattle.std.proofs.lemmas.Bool.{or_cases, or_right, true≢false}
-use Rattle.std.proofs.Math.Nat.{le_trans}
+use Rattle.fd_model.proofs.Canonical.{is_variable_true}
 use Rattle.fd_language.specs.Term.{Term, Var, Int, Atom, Comp, Substitution, apply}
 use Rattle.fd_language.specs.Unifier.{Equation, IsMostGeneral, Unifies}
 use Rattle.fd_language.specs.Family.{Family, has, IsSubset}
@@ -19,10 +19,6 @@ use Rattle.fd_model.proofs.Models.{consistent_from, view_model, in_view, not_emp
 
 pub pos_same : (n k : ℕ) → pos n ≡ pos k → n ≡ k
 pos_same n k e = cc
-
-pub is_variable_true : (t : Term) (y : ℕ) → is_variable t y ≡ true → t ≡ Var y
-is_variable_true (Var x) y h = ap Var (eqb-true x y h)
-is_variable_true _ y h = absurd (true≢false (sym h))
 
 -- the set of a seen variable
 pub record SetFrom (s : Substitution) (D : Family) (ws : List ℕ) (y : ℕ) (xs : List ℕ) : Type 0 where

@@ -2,7 +2,6 @@
 use Rattle.std.proofs.Common.{◌≡◌, ℕ, ◌<◌, ◌≤◌, true, false, cond, ◌==◌, ℤ, pos, IsTrue, List, [], ◌∷◌, ◌++◌, map, Option, Some, None, ◌⊎◌, refl, ap, sym, ◌∙◌, subst, inl, inr, arith, eqb-true, eq-eqb, Result, Err, Ok}
 use Rattle.fd_model.proofs.Slots.{int_number}
 use Rattle.std.proofs.lemmas.Bool.{or_cases, or_right, cases_Bool, true≢false}
-use Rattle.std.proofs.Math.Nat.{le_trans}
 use Rattle.fd_model.specs.declared.kinds.QueryFault.{QueryFault}
 use Rattle.fd_model.specs.declared.kinds.Order.{Order}
 use Rattle.fd_model.specs.declared.kinds.Order.TheVariants.{Leftmost, FirstFail}

@@ -1,10 +1,10 @@
 -- The lemmas that other crates may cite, by their subjects. All else in proofs/ is this crate's own.
 
 -- Closed families: their numbers, sets, orders and constants.
-pub use Rattle.fd_model.proofs.Closing.{build_one, closed_either, first_passes, later_passes, outside_one, greatest_for, var_from}
+pub use Rattle.fd_model.proofs.Closing.{build_one, closed_either, first_passes, later_passes, outside_one, greatest_for, var_from, not_in_empty}
 pub use Rattle.fd_model.proofs.Constants.{from_span, in_span}
 pub use Rattle.fd_model.proofs.Orders.{all_keep, closed_without}
-pub use Rattle.fd_model.proofs.Determining.{single_from}
+pub use Rattle.fd_model.proofs.Determining.{single_from, below_test, test_below}
 pub use Rattle.fd_model.proofs.Unread.{unread}
 -- What is posted, named and renamed, and the variables below a number.
 pub use Rattle.fd_model.proofs.ListNames.{named_left, named_right, posted_left, posted_right}
@@ -21,10 +21,10 @@ pub use Rattle.fd_model.proofs.Growing.{constrained_either, join_both, split_bot
 pub use Rattle.fd_model.proofs.Heeding.{first_member, only_member}
 pub use Rattle.fd_model.proofs.Models.{consistent_from, has_general, not_empty, one_term, weaker}
 pub use Rattle.fd_model.proofs.Unique.{one_view, queries_once, run_once}
-pub use Rattle.fd_model.proofs.Runnable.{accepted_runnable}
+pub use Rattle.fd_model.proofs.Runnable.{accepted_runnable, first_none, later_none, unoffended}
 -- Constraints and built-in goals: what each gives, with values and weights in range.
 pub use Rattle.fd_model.proofs.Collecting.{both_ok, one_ok, test_ok}
-pub use Rattle.fd_model.proofs.CompareWidths.{Within, compare_within, form_within}
+pub use Rattle.fd_model.proofs.CompareWidths.{Within, compare_within, form_within, integer_size}
 pub use Rattle.fd_model.proofs.RowWidths.{AreNarrow, under, weight}
 pub use Rattle.fd_model.proofs.RowDirections.{Fitting, IsFitting, expand_fitting}
 pub use Rattle.fd_model.proofs.Choosing.{element_ok}
@@ -32,3 +32,9 @@ pub use Rattle.fd_model.proofs.Counters.{atmost_ok, units_nonzero}
 pub use Rattle.fd_model.proofs.Findings.{IsFindingBelow, SameFinding, first_below, found_below, found_renamed, second_below}
 -- Texts: the lines and values of a query.
 pub use Rattle.fd_model.proofs.Texts.{place_same, same_test, spelled_same, variables_apply_all}
+-- The rows of the constraints on lists keep the limit of width, and all rows are accepted.
+pub use Rattle.fd_model.proofs.ListWidths.{members_count}
+-- Each solvable list of equations has the most general unifier that takes equal variables to the least of them.
+pub use Rattle.fd_model.proofs.Canonical.{is_variable_true}
+-- Products of integers, and quotients that are exact.
+pub use Rattle.fd_model.proofs.Integers.{mul_none}

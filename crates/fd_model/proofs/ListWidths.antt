@@ -160,7 +160,7 @@ elements_small M small (Comp f (term x (term t no_terms))) zs i h =
     (λ c e. absurd (cc))
 elements_small _ small _ zs i h = absurd (cc)
 
-members_count : (t : Term) (ms : List Member) → walk as_member t ≡ Ok ms → length ms ≡ cells t
+pub members_count : (t : Term) (ms : List Member) → walk as_member t ≡ Ok ms → length ms ≡ cells t
 members_count (Atom f) ms h = test_ok (bytes_eq f (codes "[]")) (Ok []) (Err _) ms (length ms ≡ 0) h (λ c e. let k : [] ≡ ms = cc in ap length (sym k)) (λ c e. absurd (cc))
 members_count (Comp f (term x (term t no_terms))) ms h =
     test_ok (bytes_eq f (codes ".")) _ (Err _) ms (length ms ≡ suc (cells t)) h

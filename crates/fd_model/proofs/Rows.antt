@@ -1,9 +1,10 @@
 -- The linear rows where each variable has its one value.
-use Rattle.std.proofs.Common.{◌≡◌, ℕ, zero, suc, ◌*◌, ◌/◌, ◌≤◌, ◌<◌, Bool, true, false, not, ◌&&◌, ℤ, pos, negsuc, ◌+ℤ◌, ◌-ℤ◌, ◌*ℤ◌, neg_ℤ, ◌≤ℤ◌, int_le, List, [], ◌∷◌, refl, ap, sym, ◌∙◌, arith}
+use Rattle.std.proofs.Common.{◌≡◌, ℕ, zero, suc, ◌*◌, ◌/◌, ◌≤◌, ◌<◌, Bool, true, false, not, ◌&&◌, ℤ, pos, negsuc, ◌+ℤ◌, ◌-ℤ◌, ◌*ℤ◌, neg_ℤ, ◌≤ℤ◌, int_le, List, [], ◌∷◌, refl, ap, ◌∙◌, arith}
 use Rattle.std.proofs.Math.Nat.{le-div_iff_mul-le, div-lt_iff_lt-mul, mul_comm}
 use Rattle.std.specs.Ordering.{int_eq}
 use Rattle.std.proofs.lemmas.Int.{ints}
 use Rattle.std.specs.Cmp.{both_ways}
+use Rattle.fd_language.proofs.Lemmas.{int_le_true}
 use Rattle.fd_language.specs.Range.{Expr, Number, Min, Max, Val, Sub, Mul, value, in_range, down_by}
 use Rattle.fd_model.specs.Linear.{scaled, Comparison, IsEqual, IsOther, IsAtMost}
 use Rattle.fd_model.specs.LinearRows.{by_sign, minus_products, low, high, exact, row, row_by_sign, compares}
@@ -37,9 +38,6 @@ module _ (M : ℕ) (b : Assignment) where
   pub exact_value : (c : ℤ) (ts : List (ℕ × ℤ)) → value M (singles b) (exact c ts) ≡ c -ℤ total b ts
   exact_value c ts = less_value Val Val (λ x. refl) (λ x. refl) (Number c) ts
 
-to_le : (a b : ℤ) → int_le a b ≡ true → a ≤ℤ b
-to_le a b h = grind (arith, ints)
-
 from_le : (a b : ℤ) → a ≤ℤ b → int_le a b ≡ true
 from_le a b h = grind (arith, ints)
 
@@ -50,7 +48,7 @@ from_eq : (a b : ℤ) → a ≡ b → int_eq a b ≡ true
 from_eq a b h = grind (arith, ints)
 
 same_le : (a b c d : ℤ) → (a ≤ℤ b → c ≤ℤ d) → (c ≤ℤ d → a ≤ℤ b) → int_le a b ≡ int_le c d
-same_le a b c d f g = both_ways (int_le a b) (int_le c d) (λ h. from_le c d (f (to_le a b h))) (λ h. from_le a b (g (to_le c d h)))
+same_le a b c d f g = both_ways (int_le a b) (int_le c d) (λ h. from_le c d (f (int_le_true a b h))) (λ h. from_le a b (g (int_le_true c d h)))
 
 pub same_eq : (a b c d : ℤ) → (a ≡ b → c ≡ d) → (c ≡ d → a ≡ b) → int_eq a b ≡ int_eq c d
 same_eq a b c d f g = both_ways (int_eq a b) (int_eq c d) (λ h. from_eq c d (f (to_eq a b h))) (λ h. from_eq a b (g (to_eq c d h)))

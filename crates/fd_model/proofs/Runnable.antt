@@ -16,15 +16,15 @@ use Rattle.fd_model.specs.Queries.{goal_by_form, goal_named, form_of_functor, go
 use Rattle.fd_model.specs.Refusals.{Refusal, Functor, Form, query, clause, directive, fact, form_of, functor_of, goals_of, second_part, or_later, unspelled, offence_refusal, range_refusal, form_refusal, by_form, by_functor, goal_refusal, goals_refusal, head_refusal, wide_places, too_wide, clause_refusal, sentence_refusal, first_refusal}
 use Rattle.fd_model.specs.Sound.{IsRunnable, AllRunnable, AreRunnable, ClausesRunnable, QueriesRunnable, IsRunnableProgram}
 
-first_none : (a b : Option Refusal) → or_later a b ≡ None → a ≡ None
+pub first_none : (a b : Option Refusal) → or_later a b ≡ None → a ≡ None
 first_none None b e = refl
 first_none (Some r) b e = e
 
-later_none : (a b : Option Refusal) → or_later a b ≡ None → b ≡ None
+pub later_none : (a b : Option Refusal) → or_later a b ≡ None → b ≡ None
 later_none None b e = e
 later_none (Some r) b e = absurd cc
 
-unoffended : (o : Option Offence) → offence_refusal o ≡ None → o ≡ None
+pub unoffended : (o : Option Offence) → offence_refusal o ≡ None → o ≡ None
 unoffended None e = refl
 unoffended (Some (NotMonotone p)) e = absurd cc
 unoffended (Some (NotNatural p)) e = absurd cc

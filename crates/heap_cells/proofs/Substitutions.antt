@@ -1,6 +1,8 @@
 -- What substitutions do to terms.
 use Rattle.std.proofs.Common.{◌≡◌, ℕ, ◌+◌, ◌*◌, ◌<◌, ◌≤◌, Bool, true, false, cond, ◌||◌, ◌==◌, refl, ap, sym, ◌∙◌, inl, inr, arith, eqb-true, eq-eqb, List, [], ◌∷◌, ◌++◌}
 use Rattle.std.proofs.lemmas.Bool.{or_cases, true≢false}
+use Rattle.fd_language.proofs.Lemmas.{bound_at}
+use Rattle.term_pool.proofs.Lemmas.{size_above_zero}
 use Rattle.fd_language.specs.Term.{Term, Terms, Var, Int, Atom, Comp, Name, Substitution, apply, apply_all, no_terms, term}
 use Rattle.fd_language.specs.Unifier.{Equation, Unifies}
 use Rattle.term_pool.specs.Terms.{size, sizes}
@@ -29,17 +31,6 @@ mutual
   same_apply_all r s h no_terms = refl
   same_apply_all r s h (term t ts) = let a = same_apply r s h t in let b = same_apply_all r s h ts in cc
 
-mutual
-  pub apply-Var : (t : Term) → apply Var t ≡ t
-  apply-Var (Var x) = refl
-  apply-Var (Int z) = refl
-  apply-Var (Atom a) = refl
-  apply-Var (Comp f ts) = ap (Comp f) (apply_all-Var ts)
-
-  pub apply_all-Var : (ts : Terms) → apply_all Var ts ≡ ts
-  apply_all-Var no_terms = refl
-  apply_all-Var (term t ts) = let a = apply-Var t in let b = apply_all-Var ts in cc
-
 left_false : (a b : Bool) → (a || b) ≡ false → a ≡ false
 left_false a b h = grind arith
 
@@ -61,14 +52,10 @@ mutual
 pub one_self : (x : ℕ) (t : Term) → one x t x ≡ t
 one_self x t = rw (eq-eqb x x refl) refl
 
-through_var : (b : Bool) (u : Substitution) (x y : ℕ) (t : Term) → u x ≡ apply u t → (b ≡ true → y ≡ x) → apply u (cond b t (Var y)) ≡ u y
-through_var true u x y t e f = sym e ∙ ap u (sym (f refl))
-through_var false u x y t e f = refl
-
 -- a substitution that gives x and t the same term
 mutual
   pub through_one : (u : Substitution) (x : ℕ) (t : Term) → u x ≡ apply u t → (r : Term) → apply u (apply (one x t) r) ≡ apply u r
-  through_one u x t e (Var y) = through_var (y == x) u x y t e (eqb-true y x)
+  through_one u x t e (Var y) = bound_at (y == x) u x y t e (eqb-true y x)
   through_one u x t e (Int z) = refl
   through_one u x t e (Atom a) = refl
   through_one u x t e (Comp f rs) = ap (Comp f) (through_ones u x t e rs)
@@ -89,23 +76,17 @@ mutual
   through_every u s h no_terms = refl
   through_every u s h (term t ts) = let a = through_all u s h t in let b = through_every u s h ts in cc
 
-pub size_positive : (t : Term) → 0 < size t
-size_positive (Var x) = omega arith
-size_positive (Int z) = omega arith
-size_positive (Atom a) = omega arith
-size_positive (Comp f ts) = omega arith
-
 size_choice : (b : Bool) (t : Term) (y : ℕ) → size (cond b t (Var y)) ≤ 1 * size t
 size_choice true t y = omega arith
-size_choice false t y = let h = size_positive t in omega arith
+size_choice false t y = let h = size_above_zero t in omega arith
 
 -- a term grows by no more than the size of what is put in
 mutual
   pub size_one : (x : ℕ) (t r : Term) → size (apply (one x t) r) ≤ size r * size t
   size_one x t (Var y) = size_choice (y == x) t y
-  size_one x t (Int z) = let h = size_positive t in omega arith
-  size_one x t (Atom a) = let h = size_positive t in omega arith
-  size_one x t (Comp f rs) = let h = sizes_one x t rs in let p = size_positive t in omega arith
+  size_one x t (Int z) = let h = size_above_zero t in omega arith
+  size_one x t (Atom a) = let h = size_above_zero t in omega arith
+  size_one x t (Comp f rs) = let h = sizes_one x t rs in let p = size_above_zero t in omega arith
 
   pub sizes_one : (x : ℕ) (t : Term) (rs : Terms) → sizes (apply_all (one x t) rs) ≤ sizes rs * size t
   sizes_one x t no_terms = omega arith

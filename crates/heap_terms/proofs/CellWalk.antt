@@ -15,13 +15,13 @@ use Rattle.heap_cells.specs.declared.Cell.{Cell}
 use Rattle.heap_cells.specs.Cells.{Cells, IsOf}
 use Rattle.heap_cells.specs.Terms.{terms_by}
 use Rattle.heap_cells.specs.Atoms.{IsAtomBelow}
-use Rattle.heap_cells.proofs.Lemmas.{head_of, tail_of, none_at_all, both_of, all_front, all_push, all_reverse}
+use Rattle.heap_cells.proofs.Lemmas.{head_of, tail_of, none_at_all, both_of, all_front, all_push, all_reverse, map_same}
 use Rattle.heap_terms.specs.declared.ReadTask.{ReadTask}
 use Rattle.heap_terms.specs.declared.ReadTask.TheVariants.{Visit, Make}
 use Rattle.heap_terms.specs.Values.{shown_term}
 use Rattle.heap_terms.specs.Tasks.{visit, make, to_terms, Leaves}
 use Rattle.heap_terms.specs.ReadBack.{PlacesAtZero, CanRead, VisitsCell, MakesTerm, task_of}
-use Rattle.heap_terms.proofs.Stacks.{map_agrees, Walks, effort, walks_result, result_smaller, walks_parts, parts_smaller, walks_made}
+use Rattle.heap_terms.proofs.Stacks.{Walks, effort, walks_result, result_smaller, walks_parts, parts_smaller, walks_made}
 use Rattle.heap_terms.proofs.Pools.{places_both, all_take, all_drop}
 
 -- the terms of cells, and of ids, as lists
@@ -67,7 +67,7 @@ module _ (names : List Name) (h : Cells) (sets : List (List ℕ)) (c : Cell) (be
   grown p q ks ds x k z w = record {
     tasks = w.tasks;
     own = wider p q x ds w.own;
-    leaves = subst (λ ts. Leaves (map (task_of names h sets) (reverse ks)) ts (shown_term (name_in names) h sets c)) (map_agrees (Own p) (pool.term_of p) (pool.term_of q) (λ t o. sym (k t o)) ds w.own) w.leaves;
+    leaves = subst (λ ts. Leaves (map (task_of names h sets) (reverse ks)) ts (shown_term (name_in names) h sets c)) (map_same (Own p) (pool.term_of p) (pool.term_of q) (λ t o. sym (k t o)) ds w.own) w.leaves;
     extends = extends_trans before p q w.extends x;
     kept = λ t l. k t (let m = more_ids before p w.extends in omega arith) ∙ w.kept t l;
     places = places_both before p q w.places z x;

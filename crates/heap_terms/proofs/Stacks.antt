@@ -1,16 +1,11 @@
 -- A walk's tasks and results as the code keeps them: the next task and the newest result last.
-use Rattle.std.proofs.Common.{◌≡◌, ℕ, ◌-◌, ◌<◌, ◌≤◌, refl, ap, sym, ◌∙◌, subst, arith, List, [], ◌∷◌, ◌++◌, length, take, drop}
-use Rattle.std.specs.Prelude.{map, reverse, All}
+use Rattle.std.proofs.Common.{◌≡◌, ℕ, ◌-◌, ◌<◌, ◌≤◌, ap, sym, ◌∙◌, subst, arith, List, [], ◌∷◌, ◌++◌, length, take, drop}
+use Rattle.std.specs.Prelude.{map, reverse}
 use Rattle.std.proofs.lemmas.List.{map-append, take-map, drop-map, length-map}
-use Rattle.std.proofs.lemmas.Simd.{map-map}
+use Rattle.term_pool.proofs.Lemmas.{size_above_zero}
 use Rattle.fd_language.specs.Term.{Name, Term, Comp}
-use Rattle.heap_cells.proofs.Lemmas.{head_of, tail_of, size_positive}
 use Rattle.heap_terms.specs.Tasks.{Task, visit, make, to_terms, ahead, Leaves}
 use Rattle.heap_terms.proofs.Tasks.{stack, stack_top, stack_parts, leaves_result, leaves_parts, leaves_compound, compound_ahead}
-
-pub map_agrees : {X Y : Type 0} (P : X → Type 0) (f g : X → Y) → ((x : X) → P x → f x ≡ g x) → (xs : List X) → All P xs → map f xs ≡ map g xs
-map_agrees P f g e [] a = refl
-map_agrees P f g e (x ∷ xs) a = let first = e x (head_of P x xs a) in let rest = map_agrees P f g e xs (tail_of P x xs a) in cc
 
 module _ (A R : Type 0) (task : A → Task) (term : R → Term) (g : Term) where
   -- the tasks leave the term g
@@ -34,7 +29,7 @@ module _ (A R : Type 0) (task : A → Task) (term : R → Term) (g : Term) where
         (leaves_result t (stack A task rest) (map term ds) g (subst (λ js. Leaves js (map term ds) g) (last_task ks rest k (visit t) split is) w))
 
     pub result_smaller : effort rest < effort ks
-    result_smaller = let e = ap ahead (last_task ks rest k (visit t) split is) in let p = size_positive t in omega arith
+    result_smaller = let e = ap ahead (last_task ks rest k (visit t) split is) in let p = size_above_zero t in omega arith
 
   -- a compound term becomes the visits of its parts and a task that makes it
   module _ (ks rest : List A) (k m : A) (vs ms : List A) (n : Name) (ts : List Term) (split : ks ≡ rest ++ k ∷ []) (is : task k ≡ visit (Comp n (to_terms ts))) (makes : task m ≡ make n (length ts)) (visits : map task vs ≡ map visit ts) (more : ms ≡ (rest ++ m ∷ []) ++ reverse vs) where

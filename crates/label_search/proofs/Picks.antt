@@ -3,17 +3,14 @@ use Rattle.std.proofs.Common.{◌≡◌, ℕ, zero, suc, ◌<◌, ◌≤◌, Boo
 use Rattle.std.proofs.lemmas.Bool.{ltb-true, ltb-false, lt-ltb, le-ltb}
 use Rattle.std.specs.Prelude.{Option, Some, None, slice_get}
 use Rattle.std.proofs.lemmas.List.{get_or_default}
-use Rattle.fd_language.specs.Family.{universe, count_up}
+use Rattle.domain_ranges.proofs.Lemmas.{length_up}
+use Rattle.fd_language.specs.Family.{universe}
 use Rattle.fd_model.specs.declared.kinds.Order.TheVariants.{Leftmost, FirstFail}
 use Rattle.fd_model.specs.Members as seen
 use Rattle.fd_model.specs.Labelling.{first_open, fewest, unless_fewer}
 use Rattle.label_search.specs.declared.Member.{Member}
 use Rattle.label_search.specs.declared.Member.TheVariants.{Fixed}
 use Rattle.label_search.specs.Picks.{value_count, member_at, IsSeenAs, AreSeenAs, IsPlaceOf, IsPicked, HasSeveral}
-
-length_up : (low n : ℕ) → length (count_up low n) ≡ n
-length_up low zero = refl
-length_up low (suc n) = ap suc (length_up (suc low) n)
 
 -- U has one number more than the greatest one says
 pub length-universe : (M : ℕ) → length (universe M) ≡ suc M

@@ -12,6 +12,8 @@ use Rattle.std.proofs.lemmas.List.Sorted.{sum_by-IsPermutation}
 use Rattle.std.proofs.lemmas.List.Sums.{sum_by-cons}
 use Rattle.std.proofs.lemmas.Map.Keys.{IsDistinct-cons}
 use Rattle.std.proofs.lemmas.Map.Lookups.{hash_map_IsPermutation_from_get, map_keys}
+use Rattle.fd_model.proofs.Lemmas.{mul_none}
+use Rattle.fd_language.proofs.Lemmas.{all_three as and_three}
 use Rattle.indexmap.specs.Layout.{hash_map}
 use Rattle.fd_model.specs.declared.kinds.QueryFault.{QueryFault}
 use Rattle.fd_model.specs.declared.kinds.QueryFault.TheVariants.{Evaluation, Nonlinear}
@@ -24,7 +26,7 @@ use Rattle.linear_forms.specs.declared.sums.Sum.{Sum}
 use Rattle.linear_forms.specs.Form.{IsFaultOf}
 use Rattle.linear_forms.specs.Shares.{both, scaled_share, share_at, together, open_count, coefficients, Rise, OverflowsBy}
 use Rattle.linear_forms.specs.Sums.{IsSum, Gives, Adds, AddsSum, ExceedsSum, over_terms, over_constant, over_many, Multiplies, ExceedsTimes, over_term, over_constant_times}
-use Rattle.linear_forms.proofs.Signs.{within_checked, outside_checked, is_zero, mul_none}
+use Rattle.linear_forms.proofs.Signs.{within_checked, outside_checked, is_zero}
 use Rattle.linear_forms.proofs.Shares.{Lacks, kept, merged, merged_coefficients, merged_share, merged_rises, merged_distinct, share_between, all_from, all_at, rise_ends, rise_later, rise_sooner, head_lacks, tail_distinct}
 
 -- ---- how many coefficients aren't 0
@@ -68,8 +70,6 @@ pub kept_constant : (t : Sum) (s : linear.Sum) (lo hi : ℕ) → IsSum t s lo hi
 kept_constant t s lo hi i = ap (λ n. n == 0) (kept_count t s lo hi i) ∙ zero_count s.products
 
 -- ---- two sums
-and_three : (a b c : Bool) → a ≡ true → b ≡ true → c ≡ true → (a && (b && c)) ≡ true
-and_three a b c p q r = λ i. p i && (q i && r i)
 
 and_first : (a b c : Bool) → a ≡ false → (a && (b && c)) ≡ false
 and_first a b c p = ap (λ d. d && (b && c)) p

@@ -1,11 +1,12 @@
 -- A negated sum: its parts are the parts negated, and it is within the limits where the sum is.
-use Rattle.std.proofs.Common.{◌≡◌, ℕ, zero, suc, ◌^◌, Bool, true, false, cond, ℤ, pos, negsuc, ◌+ℤ◌, ◌*ℤ◌, neg_ℤ, List, [], ◌∷◌, refl, sym, ap, ◌∙◌, arith, Result, Ok, Err, mul-zero}
+use Rattle.std.proofs.Common.{◌≡◌, ℕ, zero, suc, ◌^◌, Bool, true, false, cond, ℤ, pos, negsuc, ◌+ℤ◌, ◌*ℤ◌, neg_ℤ, List, [], ◌∷◌, refl, sym, ap, ◌∙◌, arith, Result, Ok, Err}
 use Rattle.std.proofs.Math.IntN.{*ℤ_comm, *ℤ-negsuc, neg_ℤ-neg_ℤ}
 use Rattle.std.proofs.lemmas.Int.{ints}
 use Rattle.std.specs.Prelude.{nat_abs, nat_lt, ◌==◌, ◌&&◌, not, length, codes}
 use Rattle.std.specs.Ordering.{int_eq}
 use Rattle.std.specs.List.{list_all}
 use Rattle.std.specs.Str.{bytes_eq}
+use Rattle.fd_model.proofs.Lemmas.{mul_none}
 use Rattle.fd_model.specs.declared.kinds.QueryFault.{QueryFault}
 use Rattle.fd_model.specs.declared.kinds.QueryFault.TheVariants.{Evaluation, Nonlinear, BadType}
 use Rattle.fd_language.specs.Term.{Term, Var, Int, Atom, Comp, no_terms, term, Name}
@@ -37,10 +38,6 @@ one_twice z = neg_one (negsuc 0 *ℤ z) ∙ ap neg_ℤ (neg_one z) ∙ neg_ℤ-n
 
 pub one_added : (a b : ℤ) → negsuc 0 *ℤ (a +ℤ b) ≡ (negsuc 0 *ℤ a) +ℤ (negsuc 0 *ℤ b)
 one_added a b = let e = neg_one (a +ℤ b) in let f = neg_one a in let g = neg_one b in omega (arith, ints)
-
-pub mul_none : (z : ℤ) → z *ℤ pos 0 ≡ pos 0
-mul_none (pos a) = ap pos (omega arith)
-mul_none (negsuc a) = ap (λ n. neg_ℤ (pos n)) (mul-zero (suc a))
 
 -- a negated factor
 neg_right : (k : ℤ) (n : ℕ) → k *ℤ neg_ℤ (pos n) ≡ neg_ℤ (k *ℤ pos n)

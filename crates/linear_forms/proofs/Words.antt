@@ -1,19 +1,15 @@
 -- Integers of the language have 64 bits.
 use Rattle.std.proofs.Common.{◌≡◌, subst, ◌<◌, ◌^◌, Bool, true, false, not, ap, refl, ◌+ℤ◌, ◌*ℤ◌, ℤ, pos, negsuc, neg_ℤ, ◌-ℤ◌, sym, ◌∙◌, arith, FitsSigned, to_z, of_z}
-use Rattle.std.specs.Prelude.{nat_abs}
 use Rattle.std.specs.Int.{w64}
 use Rattle.std.proofs.lemmas.Int.{ints, to_z-of_z, fits_signed_from_abs}
-use Rattle.std.proofs.lemmas.Bool.Decides.{nat_tests}
+use Rattle.fd_model.proofs.Lemmas.{integer_size}
 use Rattle.fd_model.specs.Linear.{in_integers}
 use Rattle.linear_forms.specs.Shares.{sign_of}
 use Rattle.linear_forms.proofs.Signs.{neg_one, one_inside}
 
-abs_below : (z : ℤ) → in_integers z ≡ true → nat_abs z < 2 ^ 63
-abs_below z h = grind (arith, nat_tests)
-
 pub integer_fits : (z : ℤ) → in_integers z ≡ true → FitsSigned w64 z
-integer_fits (pos n) h = let k = abs_below (pos n) h in fits_signed_from_abs w64 (pos n) (omega arith)
-integer_fits (negsuc n) h = let k = abs_below (negsuc n) h in fits_signed_from_abs w64 (negsuc n) (omega arith)
+integer_fits (pos n) h = let k = integer_size (pos n) h in fits_signed_from_abs w64 (pos n) (omega arith)
+integer_fits (negsuc n) h = let k = integer_size (negsuc n) h in fits_signed_from_abs w64 (negsuc n) (omega arith)
 
 -- an integer of the language that is passed on
 pub passed : (z y : ℤ) → (y ≡ z) × (in_integers z ≡ true) → to_z w64 (of_z w64 y) ≡ z

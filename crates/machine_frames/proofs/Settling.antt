@@ -2,6 +2,8 @@
 use Rattle.std.proofs.Common.{◌≡◌, ◌≢◌, ℕ, zero, suc, ◌<◌, ◌≤◌, true, false, cond, nat_lt, ℤ, pos, List, [], ◌∷◌, Option, Some, None, refl, ap, sym, ◌∙◌, subst, inl, inr, arith, eq-eqb, ne_eqb}
 use Rattle.std.proofs.lemmas.Bool.{cases_Bool, cases_eq}
 use Rattle.std.proofs.lemmas.Bool.Decides.{nat_tests}
+use Rattle.fd_language.proofs.Lemmas.{apply_vars}
+use Rattle.fd_model.proofs.Lemmas.{test_below}
 use Rattle.fd_language.specs.Term.{Var, Substitution, apply}
 use Rattle.fd_language.specs.Unifier.{Equation}
 use Rattle.fd_language.specs.Family.{Family, has, IsInside}
@@ -14,7 +16,7 @@ use Rattle.heap_cells.specs.Terms.{Naming}
 use Rattle.heap_cells.specs.Valid.{IsHeap}
 use Rattle.machine_relation.specs.Heap.{after, Below}
 use Rattle.machine_relation.specs.Held.{Frame, IsHeld, IsAtRest, value_in, value_at, link_in, link_at, fixed_frame}
-use Rattle.machine_relation.proofs.Lemmas.{after_is, same_term, held_fix, number_for, number_at, functions, fixed_rest, sole_value, without_cell}
+use Rattle.machine_relation.proofs.Lemmas.{after_is, held_fix, number_for, number_at, functions, fixed_rest, sole_value, without_cell}
 use Rattle.machine_frames.specs.Frames.{frame_of, IsKept}
 use Rattle.machine_frames.proofs.Linking.{unused_cell}
 
@@ -39,9 +41,6 @@ kept_at : (i : ℕ) (z : ℤ) (c : ℕ) → c ≢ i → (o : Option ℕ) (G : Fa
 kept_at i z c d None G = number_else i z c d
 kept_at i z c d (Some k) G = kept_value i z c d (G k)
 
-below_test : (c i : ℕ) → c < i → nat_lt c i ≡ true
-below_test c i l = grind (arith, nat_tests)
-
 above_test : (c i : ℕ) → i ≤ c → nat_lt c i ≡ false
 above_test c i l = grind (arith, nat_tests)
 
@@ -51,7 +50,7 @@ module _ {A : Type 0} (new old : ℕ → A) where
   to i c = cond (nat_lt c i) (new c) (old c)
 
   to_low : (i c : ℕ) → c < i → to i c ≡ new c
-  to_low i c l = ap (λ b. cond b (new c) (old c)) (below_test c i l)
+  to_low i c l = ap (λ b. cond b (new c) (old c)) (test_below c i l)
 
   to_high : (i c : ℕ) → i ≤ c → to i c ≡ old c
   to_high i c l = ap (λ b. cond b (new c) (old c)) (above_test c i l)
@@ -174,8 +173,8 @@ module _ (M : ℕ) (name : Naming) (h : Cells) (valid : IsHeap h) (qs : List Ind
     none_behind c l = no_link (f.link c) (λ k e. (let v = s.stored.from c k e in let low : c < f.cells = subst (Below f.cells) v.2 (s.stored.heap.cells v.0 (s.stored.used v.0 v.1)) in omega (arith, l, low)))
 
     start : Holds Var f.link
-    start = subst (λ u. IsHeld M (record { heap = u; cells = f.cells; link = f.link; store = f.store }) es ps P (after Var look)) (functions (λ c. sym (same_term (f.heap c))))
-        (subst (IsHeld M f es ps P) (functions (λ v. sym (same_term (look v)))) kept_held)
+    start = subst (λ u. IsHeld M (record { heap = u; cells = f.cells; link = f.link; store = f.store }) es ps P (after Var look)) (functions (λ c. sym (apply_vars (f.heap c))))
+        (subst (IsHeld M f es ps P) (functions (λ v. sym (apply_vars (look v)))) kept_held)
 
     -- The frame with these variables bound stands for the same branch.
     pub settled_held : IsHeld M (fixed_frame f G) es ps P settled_look

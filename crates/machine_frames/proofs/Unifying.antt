@@ -2,6 +2,7 @@
 use Rattle.std.proofs.Common.{◌≡◌, ℕ, ◌==◌, ◌||◌, true, eqb-true, ℤ, List, [], ◌∷◌, ◌++◌, length, Some, refl, ap, sym, ◌∙◌, subst, inl, inr, ◌⊎◌}
 use Rattle.std.specs.Prelude.{All}
 use Rattle.std.proofs.lemmas.Bool.{or_cases, true≢false}
+use Rattle.fd_model.proofs.Lemmas.{not_in_empty}
 use Rattle.fd_language.specs.Term.{Term, Var, Int, Atom, Comp, Substitution, apply}
 use Rattle.fd_language.specs.Unifier.{Equation, Unifies}
 use Rattle.fd_language.specs.Family.{Family, has}
@@ -84,9 +85,6 @@ unified_is_general name old now a b ts u = record {
   pairs = λ v k c d i j e f. u.touches.pairs v (subst (Unifies v) (touched_same ts) k) c d i j (linked_at old c i e) (linked_at now d j f);
 }
 
-no_member : (xs : List ℕ) (i : ℕ) → xs ≡ [] → has xs i ≡ true → ⊥
-no_member xs i e h = true≢false (sym (subst (λ l. has l i ≡ true) e h))
-
 -- Two known terms, which each way to make them equal can make equal only where a variable of the store becomes an atom or a compound term: no family is a model with their equation.
 pub kept_barred : (M : ℕ) (h : Cells) (qs : List Indexical) (es : List Equation) (ps : List Indexical) (P : ℕ → Type 0) (look : Substitution) → IsKept M h qs es ps P look → (l r : Term)
     → ((back v : Substitution) → ((x : ℕ) → P x → apply back (look x) ≡ v x) → apply v l ≡ apply v r → (c : ℕ) × (k : ℕ) × IsLinked h c k × IsSymbolic (back c)) → (S : Family) → IsModel M (record { left = l; right = r } ∷ es) ps S → ⊥
@@ -99,8 +97,8 @@ kept_barred M h qs es ps P look s l r no_one S m =
     by_term : (v : ℕ) → has (constrained ps) v ≡ true → (t : Term) → IsSymbolic t → m.unifier v ≡ t → ⊥
     by_term v c (Var x) k e = k
     by_term v c (Int z) k e = k
-    by_term v c (Atom x) k e = let w = m.full v c in no_member (S v) w.0 (m.closed.atoms v x c e) w.1
-    by_term v c (Comp f us) k e = let w = m.full v c in no_member (S v) w.0 (m.closed.compounds v f us c e) w.1
+    by_term v c (Atom x) k e = let w = m.full v c in not_in_empty (S v) w.0 (m.closed.atoms v x c e) w.1
+    by_term v c (Comp f us) k e = let w = m.full v c in not_in_empty (S v) w.0 (m.closed.compounds v f us c e) w.1
 
 -- Two known terms, whose cells a and b are.
 module _ (M : ℕ) (name : Naming) (h : Cells) (qs : List Indexical) (es : List Equation) (ps : List Indexical) (P : ℕ → Type 0) (look : Substitution) (s : IsKept M h qs es ps P look)

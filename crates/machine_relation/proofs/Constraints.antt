@@ -109,7 +109,7 @@ module _ (M : ℕ) (q : Query) (work : List Goal) (f : Frame) (b : Branch) (s : 
       let two = subst (λ h. IsAt M q (map (rename_goal s.place) gs) (unified_frame (record { heap = f.heap; cells = h; link = link'; store = qs' }) new link'' ts) (record { goals = gs; equations = equations x.equated ++ b.equations; posted = x.ranges ++ b.posted; fresh = b.fresh + more })) end one in
       subst (λ m. IsAt M q (map (rename_goal s.place) gs) (unified_frame (record { heap = f.heap; cells = on_cells x.fresh; link = link'; store = qs' }) new link'' ts) (record { goals = gs; equations = equations x.equated ++ b.equations; posted = x.ranges ++ b.posted; fresh = m })) top two
 
-was_row : (f : ℕ → ℕ) (x : Result Expansion QueryFault) (y : Expansion) → rename_row f x ≡ Ok y → (z : Expansion) × (x ≡ Ok z) × (rename_expansion f z ≡ y)
+pub was_row : (f : ℕ → ℕ) (x : Result Expansion QueryFault) (y : Expansion) → rename_row f x ≡ Ok y → (z : Expansion) × (x ≡ Ok z) × (rename_expansion f z ≡ y)
 was_row f (Err d) y h = absurd (cc)
 was_row f (Ok z) y h = (z, refl, (cc))
 

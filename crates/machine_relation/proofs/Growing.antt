@@ -76,18 +76,6 @@ pub more_each : (P Q : ℕ → Type 0) → ((x : ℕ) → P x → Q x) → (es :
 more_each P Q h [] o = tt
 more_each P Q h (e ∷ es) o = ((more_of P Q h e.left o.0.0, more_of P Q h e.right o.0.1), more_each P Q h es o.1)
 
--- the substitution that changes nothing
-mutual
-  pub same_term : (t : Term) → apply Var t ≡ t
-  same_term (Var x) = refl
-  same_term (Int z) = refl
-  same_term (Atom a) = refl
-  same_term (Comp f ts) = ap (Comp f) (same_terms ts)
-
-  pub same_terms : (ts : Terms) → apply_all Var ts ≡ ts
-  same_terms no_terms = refl
-  same_terms (term t ts) = let a = same_term t in let b = same_terms ts in cc
-
 pub below_both : (P : ℕ → Type 0) (ds es : List Equation) → EquationsOf P ds → EquationsOf P es → EquationsOf P (ds ++ es)
 below_both P [] es h g = g
 below_both P (d ∷ ds) es h g = (h.0, below_both P ds es h.1 g)

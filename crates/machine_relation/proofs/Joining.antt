@@ -13,7 +13,7 @@ use Rattle.machine_relation.specs.Rows.{IsJoined, AreJoined}
 use Rattle.machine_relation.proofs.Renaming.{range_twice}
 use Rattle.machine_relation.proofs.Posting.{posted, posted_by}
 
-names_map : (f : ℕ → ℕ) (p : Indexical) → names (rename_indexical f p) ≡ map f (names p)
+pub names_map : (f : ℕ → ℕ) (p : Indexical) → names (rename_indexical f p) ≡ map f (names p)
 names_map f p = ap (λ l. f p.target ∷ l) (reads_map f p.range)
 
 module _ (M : ℕ) (es : List Equation) (P : ℕ → Type 0) (h : ℕ) (look : Substitution) (f : ℕ → ℕ) where

@@ -8,11 +8,11 @@ pub use Rattle.machine_relation.proofs.Forgetting.{same_model, stored_forget, st
 -- The texts, labellings and rows of constraints by a frame whose store is at rest are those by the branch's view.
 pub use Rattle.machine_relation.proofs.FrameTexts.{Known, cell, cell_from, found_same, label_done, label_faults, label_there, line_same, row_cell, row_same, written_same}
 -- One more equation, and one more variable, on a heap.
-pub use Rattle.machine_relation.proofs.Growing.{after_are, after_is, agree, agree_all, agree_each, below_both, more_all, more_each, more_of, same_term, still_of, unify_applied}
+pub use Rattle.machine_relation.proofs.Growing.{after_are, after_is, agree, agree_all, agree_each, below_both, more_all, more_each, more_of, still_of, unify_applied}
 -- The steps of a frame that stands for equations and ranges.
 pub use Rattle.machine_relation.proofs.Holding.{held_fix, stored_posts}
 -- Ranges on cells that a store links, as ranges of a branch that are posted.
-pub use Rattle.machine_relation.proofs.Joining.{posted_each}
+pub use Rattle.machine_relation.proofs.Joining.{posted_each, names_map}
 -- A labelling by the heap's list and the store's sets.
 pub use Rattle.machine_relation.proofs.Labels.{row_by}
 -- A labelling by other names of the open variables, which have the same values.
@@ -23,7 +23,7 @@ pub use Rattle.machine_relation.proofs.Models.{front, number_at, ungrown}
 -- From the machine's steps to its events, and what falls with each step.
 pub use Rattle.machine_relation.proofs.Next.{behind_other}
 -- Linked cells that take integers, as one unification.
-pub use Rattle.machine_relation.proofs.Numbering.{AreConsecutive, bindings, each_found, number_touches, numbered, without}
+pub use Rattle.machine_relation.proofs.Numbering.{AreConsecutive, bindings, each_found, number_touches, numbered, without, same_var, int_no_var}
 -- A variable takes a term that the heap has already: no cell is made and nothing is posted.
 pub use Rattle.machine_relation.proofs.Placing.{Or, other, stored_cell, stored_place, with_one}
 -- `T in r` on a machine: what is posted, or the fault, depends on the kinds of terms alone.
@@ -31,7 +31,7 @@ pub use Rattle.machine_relation.proofs.PostGoals.{post_same}
 -- Rows of goals `T in r` under other names of their variables.
 pub use Rattle.machine_relation.proofs.PostRenaming.{functions, need_renamed, places_renamed, range_filled}
 -- One more range on a branch and on the store.
-pub use Rattle.machine_relation.proofs.Posting.{by_shown, holds_agree}
+pub use Rattle.machine_relation.proofs.Posting.{by_shown, holds_agree, new_or_old, one_left, one_back, slot_there, slot_back}
 -- The steps of goals `T in r` over cells: the machine reads its own terms, links the range's cells, and binds the fresh cells to their integers.
 pub use Rattle.machine_relation.proofs.RangeGoals.{IsRangeRow, only_integers, plain, post_as_row, range_plain, range_row}
 -- Goals under renamings, and the variables that stand in them.
@@ -53,3 +53,5 @@ pub use Rattle.machine_relation.proofs.Touching.{as_equations, as_posts, set_ter
 pub use Rattle.machine_relation.proofs.Views.{view_kind}
 -- The steps of a machine that walks over goals.
 pub use Rattle.machine_relation.proofs.Walking.{gone_by}
+-- A constraint by the heap's terms and the store's links.
+pub use Rattle.machine_relation.proofs.Constraints.{was_row}

@@ -26,10 +26,10 @@ abbrev pub number_touches : (ℕ → ℕ) → List (ℕ × ℤ) → List Touch
 number_touches g [] = []
 number_touches g (d ∷ ds) = Value (g d.0) d.1 ∷ number_touches g ds
 
-same_var : (c d : ℕ) → Var c ≡ Var d → c ≡ d
+pub same_var : (c d : ℕ) → Var c ≡ Var d → c ≡ d
 same_var c d e = cc
 
-int_no_var : (z : ℤ) (c : ℕ) → Int z ≡ Var c → ⊥
+pub int_no_var : (z : ℤ) (c : ℕ) → Int z ≡ Var c → ⊥
 int_no_var z c e = cc
 
 module _ (link : ℕ → Option ℕ) where

@@ -1,12 +1,13 @@
 -- A variable takes a term that the heap has already: no cell is made and nothing is posted.
 use Rattle.std.proofs.Common.{◌≡◌, ℕ, suc, ◌<◌, cond, ◌==◌, List, [], ◌∷◌, ◌++◌, Option, Some, refl, ap, sym, ◌∙◌, subst, inl, inr, ◌⊎◌, arith, eq-eqb, ne_eqb, append-nil}
 use Rattle.std.proofs.lemmas.Bool.{cases_eq, true≢false}
+use Rattle.fd_language.proofs.Lemmas.{apply_vars}
 use Rattle.fd_language.specs.Term.{Term, Var, Int, Substitution, apply}
 use Rattle.fd_language.specs.Unifier.{Equation}
 use Rattle.fd_language.specs.Range.{Indexical}
 use Rattle.machine_relation.specs.Heap.{after, applied_each, Of}
 use Rattle.machine_relation.specs.Store.{IsUnified, IsStored, shown_set}
-use Rattle.machine_relation.proofs.Growing.{agree, agree_each, still_of, more_of, more_each, same_term}
+use Rattle.machine_relation.proofs.Growing.{agree, agree_each, still_of, more_of, more_each}
 use Rattle.machine_relation.proofs.Touching.{unified}
 
 abbrev pub Or : (ℕ → Type 0) → ℕ → ℕ → Type 0
@@ -84,7 +85,7 @@ module _ (M : ℕ) (es : List Equation) (ps : List Indexical) (P : ℕ → Type 
       new = with_one h (apply look t) Var
 
       kept : apply new (apply look t) ≡ apply look t
-      kept = sym (agree (λ c. c < h) Var new (λ c l. sym (else h (apply look t) Var c (λ e. omega (arith, e, l)))) (apply look t) low) ∙ same_term (apply look t)
+      kept = sym (agree (λ c. c < h) Var new (λ c l. sym (else h (apply look t) Var c (λ e. omega (arith, e, l)))) (apply look t) low) ∙ apply_vars (apply look t)
 
       abbrev cell_look : Substitution
       cell_look = with_one v (Var h) look
@@ -124,7 +125,7 @@ module _ (M : ℕ) (es : List Equation) (ps : List Indexical) (P : ℕ → Type 
 
       final : (x : ℕ) → Or P v x → after new cell_look x ≡ with_one v (apply look t) look x
       final x (inl e) = ap (λ y. apply new (cell_look y)) e ∙ ap (apply new) (here v (Var h) look) ∙ here h (apply look t) Var ∙ sym (here v (apply look t) look) ∙ ap (with_one v (apply look t) look) (sym e)
-      final x (inr p) = ap (apply new) (sym (other_old x p)) ∙ sym (agree (λ c. c < h) Var new (λ c l. sym (else h (apply look t) Var c (λ e. omega (arith, e, l)))) (look x) (st.heap.cells x p)) ∙ same_term (look x) ∙ sym (else v (apply look t) look x (λ e. new_one (subst P e p)))
+      final x (inr p) = ap (apply new) (sym (other_old x p)) ∙ sym (agree (λ c. c < h) Var new (λ c l. sym (else h (apply look t) Var c (λ e. omega (arith, e, l)))) (look x) (st.heap.cells x p)) ∙ apply_vars (look x) ∙ sym (else v (apply look t) look x (λ e. new_one (subst P e p)))
 
       cells_now : (x : ℕ) → Or P v x → Of (λ c. c < h) (with_one v (apply look t) look x)
       cells_now x (inl e) = subst (Of (λ c. c < h)) (sym (here v (apply look t) look) ∙ ap (with_one v (apply look t) look) (sym e)) low

@@ -81,14 +81,14 @@ pick_rising M f S T (v ∷ vs) a b = let later = pick_rising M f S T vs a b in r
     either true xs ys g h = g
     either false xs ys g h = h
 
-new_or_old : (p : Indexical) (ps : List Indexical) (v : ℕ) → has (constrained (p ∷ ps)) v ≡ true → (has (constrained ps) v ≡ true) ⊎ (has (constrained (p ∷ [])) v ≡ true)
+pub new_or_old : (p : Indexical) (ps : List Indexical) (v : ℕ) → has (constrained (p ∷ ps)) v ≡ true → (has (constrained ps) v ≡ true) ⊎ (has (constrained (p ∷ [])) v ≡ true)
 new_or_old p ps v c = elim (constrained_either (p ∷ []) ps v c) [ inl d ↦ inr d | inr d ↦ inl d ]
 
 -- the variables of one range
-one_left : (p : Indexical) (v : ℕ) → has (names p) v ≡ true → has (constrained (p ∷ [])) v ≡ true
+pub one_left : (p : Indexical) (v : ℕ) → has (names p) v ≡ true → has (constrained (p ∷ [])) v ≡ true
 one_left p v h = elim (or_cases (p.target == v) (has (reads p.range) v) h) [ inl e ↦ or_left (p.target == v) (has (reads p.range ++ []) v) e | inr e ↦ or_right (p.target == v) (has (reads p.range ++ []) v) (in_left (reads p.range) [] v e) ]
 
-one_back : (p : Indexical) (v : ℕ) → has (constrained (p ∷ [])) v ≡ true → has (names p) v ≡ true
+pub one_back : (p : Indexical) (v : ℕ) → has (constrained (p ∷ [])) v ≡ true → has (names p) v ≡ true
 one_back p v h = elim (or_cases (p.target == v) (has (reads p.range ++ []) v) h) [
   | inl e ↦ or_left (p.target == v) (has (reads p.range) v) e
   | inr e ↦ or_right (p.target == v) (has (reads p.range) v) (elim (has_either (reads p.range) [] v e) [ inl g ↦ g | inr g ↦ absurd (true≢false (sym g)) ])
@@ -97,10 +97,10 @@ one_back p v h = elim (or_cases (p.target == v) (has (reads p.range ++ []) v) h)
 names_renamed : (f : ℕ → ℕ) (p : Indexical) → names (rename_indexical f p) ≡ map f (names p)
 names_renamed f p = ap (λ l. f p.target ∷ l) (reads_map f p.range)
 
-slot_there : (f : ℕ → ℕ) (p : Indexical) (v : ℕ) → has (names p) v ≡ true → has (constrained (rename_indexical f p ∷ [])) (f v) ≡ true
+pub slot_there : (f : ℕ → ℕ) (p : Indexical) (v : ℕ) → has (names p) v ≡ true → has (constrained (rename_indexical f p ∷ [])) (f v) ≡ true
 slot_there f p v h = one_left (rename_indexical f p) (f v) (subst (λ l. has l (f v) ≡ true) (sym (names_renamed f p)) (has_map f (names p) v h))
 
-slot_back : (f : ℕ → ℕ) (p : Indexical) (k : ℕ) → has (constrained (rename_indexical f p ∷ [])) k ≡ true → (v : ℕ) × (has (names p) v ≡ true) × (f v ≡ k)
+pub slot_back : (f : ℕ → ℕ) (p : Indexical) (k : ℕ) → has (constrained (rename_indexical f p ∷ [])) k ≡ true → (v : ℕ) × (has (names p) v ≡ true) × (f v ≡ k)
 slot_back f p k h = map_has f (names p) k (subst (λ l. has l k ≡ true) (names_renamed f p) (one_back (rename_indexical f p) k h))
 
 module _ (M : ℕ) (es : List Equation) (ps : List Indexical) (P : ℕ → Type 0) (h : ℕ) (look : Substitution) (link : ℕ → Option ℕ) (slot : ℕ → ℕ) (qs : List Indexical) (st : IsStored M es ps P h look link slot qs)

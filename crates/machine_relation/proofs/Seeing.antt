@@ -8,17 +8,11 @@ use Rattle.fd_language.specs.Range.{Indexical}
 use Rattle.fd_model.specs.Closed.{constrained}
 use Rattle.fd_model.specs.Seen.{IsView, seen, set_at, by_set, is_variable}
 use Rattle.fd_model.specs.Models.{IsModel}
-use Rattle.fd_model.proofs.Lemmas.{join_both, split_both, single_from}
+use Rattle.fd_model.proofs.Lemmas.{join_both, split_both, single_from, is_variable_true}
 use Rattle.machine_relation.specs.Heap.{after, StandsFor}
 use Rattle.machine_relation.specs.Models.{Fix, numbers, Sure}
 use Rattle.machine_relation.specs.Store.{IsStored, shown_set, linked_set}
 use Rattle.machine_relation.proofs.Growing.{still_unifies}
-
-is_var_true : (t : Term) (y : ℕ) → is_variable t y ≡ true → t ≡ Var y
-is_var_true (Var x) y h = ap Var (eqb-true x y h)
-is_var_true (Int z) y h = absurd (true≢false (sym h))
-is_var_true (Atom a) y h = absurd (true≢false (sym h))
-is_var_true (Comp f ts) y h = absurd (true≢false (sym h))
 
 -- the first of the constrained variables that s takes to y
 pub record Found (s : Substitution) (D : Family) (ws : List ℕ) (y : ℕ) (o : Option (List ℕ)) : Type 0 where
@@ -36,7 +30,7 @@ by_first false s D w ws y h g = further s D w ws y (set_at s D ws y) (g refl)
 
 pub found : (s : Substitution) (D : Family) (ws : List ℕ) (x y : ℕ) → has ws x ≡ true → s x ≡ Var y → Found s D ws y (set_at s D ws y)
 found s D [] x y c e = absurd (true≢false (sym c))
-found s D (w ∷ ws) x y c e = by_first (is_variable (s w) y) s D w ws y (is_var_true (s w) y) (λ q. elim (or_cases (w == x) (has ws x) c) [
+found s D (w ∷ ws) x y c e = by_first (is_variable (s w) y) s D w ws y (is_variable_true (s w) y) (λ q. elim (or_cases (w == x) (has ws x) c) [
   | inl g ↦ absurd (true≢false (sym (subst (λ t. is_variable t y ≡ true) (sym (ap s (eqb-true w x g) ∙ e)) (eq-eqb y y refl)) ∙ q))
   | inr g ↦ found s D ws x y g e
 ])
@@ -46,7 +40,7 @@ some_found s D [] y xs e = absurd (cc)
 some_found s D (w ∷ ws) y xs e = by_test (is_variable (s w) y) refl e (some_found s D ws y xs)
   where
     by_test : (b : Bool) → is_variable (s w) y ≡ b → cond b (Some (D w)) (set_at s D ws y) ≡ Some xs → (set_at s D ws y ≡ Some xs → Found s D ws y (Some xs)) → Found s D (w ∷ ws) y (Some xs)
-    by_test true h g later = record { variable = w; there = or_left (w == w) (has ws w) (eq-eqb w w refl); goes = is_var_true (s w) y h; is = sym g }
+    by_test true h g later = record { variable = w; there = or_left (w == w) (has ws w) (eq-eqb w w refl); goes = is_variable_true (s w) y h; is = sym g }
     by_test false h g later = further s D w ws y (Some xs) (later g)
 
 module _ (M : ℕ) (es : List Equation) (ps : List Indexical) (s : Substitution) (D : Family) (v : IsView M es ps s D) (full : (x : ℕ) → has (constrained ps) x ≡ true → (n : ℕ) × (has (D x) n ≡ true)) where

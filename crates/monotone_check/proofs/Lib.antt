@@ -10,3 +10,4 @@ pub mod PlaceNeeds
 pub mod NodeNeeds
 pub mod JoinedNeeds
 pub mod NeedLoops
+pub mod Lemmas

@@ -12,7 +12,7 @@ use Rattle.fd_language.specs.Check.{Wish, turn, literal_value, is_parameter}
 use Rattle.fd_language.specs.RangeVerdict.{expr_size, bound, wide_in_expr, where_too_wide, over_limit, where_below_zero, where_natural, unless_divides, scaled, expr_offences, quotient_offences, expr_within, earlier, first}
 use Rattle.monotone_check.specs.declared.summary.TermCheck.{TermCheck}
 use Rattle.monotone_check.specs.Summary.{capped, literal_of, IsTerm, operator_bound, both_literal, operator_literal, kept, product_first, quotient_first, operands_first, operator_first, IsOperated}
-use Rattle.fd_language.proofs.Lemmas.{abs_add, abs_mul, abs_sub, not_over, products, sums, first_two, first_three}
+use Rattle.fd_language.proofs.Lemmas.{abs_add, abs_mul, abs_sub, not_over, products, sums, first_two, first_three, within_left, within_right, within_here}
 
 pub literal_bound : (M : ℕ) (e : Expr) → is_literal e ≡ true → nat_abs (literal_value M e) ≤ bound M e
 literal_bound M (Number z) h = omega arith
@@ -63,15 +63,6 @@ by_divisor false false vb y a b place w natural A B e f i g h = ap (λ o. quotie
 either : (M : ℕ) (n : RangeNode) (a b : TermCheck) (p : ℕ) (r : TermCheck) → IsOperated M n a b p r → (w : Wish) (natural : Bool) → kept natural r w ≡ operator_first r.literal n a b p w natural
 either M n a b p r o w true = o.natural w
 either M n a b p r o w false = o.plain w
-
-pub within_left : (a b c : Bool) → ((a && b) && c) ≡ true → a ≡ true
-within_left a b c h = grind arith
-
-pub within_right : (a b c : Bool) → ((a && b) && c) ≡ true → b ≡ true
-within_right a b c h = grind arith
-
-within_here : (a b c : Bool) → ((a && b) && c) ≡ true → c ≡ true
-within_here a b c h = grind arith
 
 module _ (M : ℕ) (at : ℕ → ℕ) (n : ℕ) (a b : Expr) (s t r : TermCheck) (i : IsTerm M at (n - 1 - expr_size b) a s) (j : IsTerm M at (n - 1) b t) where
   -- The term e of the operator m: it is a literal of the value v where c says so, and else it offends as xs, which its operands give.

@@ -1,6 +1,6 @@
 -- What is kept of a range follows from what is kept of its operands.
 use Rattle.std.proofs.Common.{◌≡◌, ℕ, ◌-◌, Bool, true, false, cond, not, ◌||◌, ◌&&◌, ℤ, pos, int_le, List, ◌++◌, Option, Some, None, refl, sym, ◌∙◌, ap}
-use Rattle.fd_language.proofs.Lemmas.{first_two, first_three}
+use Rattle.fd_language.proofs.Lemmas.{first_two, first_three, within_left, within_right}
 use Rattle.std.proofs.lemmas.Bool.{true≢false, and_parts}
 use Rattle.fd_language.specs.declared.range_node.RangeNode.{RangeNode}
 use Rattle.fd_language.specs.declared.range_node.RangeNode.TheVariants as node
@@ -12,7 +12,6 @@ use Rattle.fd_language.specs.RangeVerdict.{expr_size, range_size, bound, earlier
 use Rattle.monotone_check.specs.declared.summary.TermCheck.{TermCheck}
 use Rattle.monotone_check.specs.declared.summary.RangeCheck.{RangeCheck}
 use Rattle.monotone_check.specs.Summary.{IsTerm, IsRange, by_growth, pointwise_over, pointwise_first, divisor_first, IsSpan, IsSingle, IsCombined, IsComplement, IsPointwise}
-use Rattle.monotone_check.proofs.Operators.{within_left, within_right}
 
 no_parameter : (c : Expr) → is_literal c ≡ true → is_parameter c ≡ false
 no_parameter (Param x) h = absurd (true≢false (sym h))

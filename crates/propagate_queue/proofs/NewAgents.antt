@@ -1,11 +1,12 @@
 -- One more agent.
 use Rattle.std.proofs.Common.{◌≡◌, ℕ, zero, suc, ◌+◌, ◌<◌, ◌≤◌, Bool, true, false, cond, ◌||◌, ◌&&◌, ◌==◌, List, [], ◌∷◌, ◌++◌, map, filter, take, length, get_or, Option, refl, ap, sym, ◌∙◌, subst, inl, inr, ◌⊎◌, arith, eqb-true, eq-eqb, All, nat_lt, le-ltb}
-use Rattle.std.proofs.lemmas.Bool.{cases_Bool, true≢false, eqb-false}
+use Rattle.std.proofs.lemmas.Bool.{true≢false}
 use Rattle.std.proofs.lemmas.List.{length-append, length-map, get_or_append_left, get_or_at, get_or_past, map-append, take_more, append-nil}
 use Rattle.std.proofs.lemmas.List.Elements.{All-append, All-map, All-tail, filter-append}
 use Rattle.std.proofs.lemmas.List.Folds.{list_any-append}
 use Rattle.std.specs.List.{list_any}
 use Rattle.std.proofs.Math.Bool.{or-false}
+use Rattle.dependency_chains.proofs.Lemmas.{last_or_older}
 use Rattle.fd_language.specs.declared.range_node.Feature.{Feature}
 use Rattle.fd_language.specs.declared.range_node.Need.{Need}
 use Rattle.range_code.specs.declared.frame.Arg.{Arg}
@@ -20,9 +21,6 @@ use Rattle.propagate_queue.specs.Postings.{Posting, ranged, ranges_of, AreReader
 use Rattle.propagate_queue.specs.declared.instance.Instance.{Instance}
 use Rattle.propagate_queue.specs.Instances.{posting}
 use Rattle.propagate_queue.specs.Queues.{times, flag_at, flagged, AreQueued}
-
-last_or_older : (n m : ℕ) → n < suc m → (n < m) ⊎ (n ≡ m)
-last_or_older n m h = elim (cases_Bool (n == m)) [ inl e ↦ inr (eqb-true n m e) | inr e ↦ inl (let d : n ≡ m → ⊥ = eqb-false n m e in omega (arith, h, d)) ]
 
 flag_more : (flags : List Bool) (k : ℕ) → flag_at (flags ++ true ∷ []) k ≡ cond (length flags == k) true (flag_at flags k)
 flag_more [] zero = refl

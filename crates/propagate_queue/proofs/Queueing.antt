@@ -2,6 +2,7 @@
 use Rattle.std.proofs.Common.{◌≡◌, ℕ, zero, suc, ◌+◌, ◌<◌, ◌≤◌, Bool, true, false, cond, ◌||◌, ◌==◌, List, [], ◌∷◌, ◌++◌, length, set, refl, ap, sym, ◌∙◌, inl, inr, arith, eqb-true, eq-eqb}
 use Rattle.std.proofs.lemmas.Bool.{cases_Bool, true≢false, eqb-false, or_left, or_right}
 use Rattle.std.proofs.lemmas.List.{length-set, get_or-set_same, get_or-set_other}
+use Rattle.domain_ranges.proofs.Lemmas.{has_append}
 use Rattle.fd_language.specs.Family.{has}
 use Rattle.propagate_queue.specs.Queues.{times, flag_at, flagged, AreQueued}
 
@@ -112,19 +113,13 @@ in_rest a k rest woken e h = ap (λ l. has l k) e ∙ or_right (a == k) (has res
 pub in_first : (a : ℕ) (rest woken : List ℕ) → woken ≡ a ∷ rest → has woken a ≡ true
 in_first a rest woken e = ap (λ l. has l a) e ∙ or_left (a == a) (has rest a) (eq-eqb a a refl)
 
-has_both : (xs ys : List ℕ) (k : ℕ) → has (xs ++ ys) k ≡ (has xs k || has ys k)
-has_both [] ys k = refl
-has_both (x ∷ xs) ys k = ap (λ b. (x == k) || b) (has_both xs ys k) ∙ regroup (x == k) (has xs k) (has ys k) where
-  regroup : (a b c : Bool) → (a || (b || c)) ≡ ((a || b) || c)
-  regroup a b c = grind arith
-
 -- the agents of four chains
 pub record AreFour (woken dom min max val : List ℕ) : Type 0 where
   pub each : (k : ℕ) → has woken k ≡ (has dom k || (has min k || (has max k || has val k)))
 
 pub four_chains : (woken dom min max val : List ℕ) → woken ≡ dom ++ (min ++ (max ++ val)) → AreFour woken dom min max val
 four_chains woken dom min max val e = record {
-  each = λ k. ap (λ l. has l k) e ∙ has_both dom (min ++ (max ++ val)) k ∙ ap (λ b. has dom k || b) (has_both min (max ++ val) k ∙ ap (λ b. has min k || b) (has_both max val k));
+  each = λ k. ap (λ l. has l k) e ∙ has_append dom (min ++ (max ++ val)) k ∙ ap (λ b. has dom k || b) (has_append min (max ++ val) k ∙ ap (λ b. has min k || b) (has_append max val k));
 }
 
 module _ (woken dom min max val : List ℕ) (f : AreFour woken dom min max val) (k : ℕ) where

@@ -5,6 +5,7 @@ use Rattle.std.proofs.lemmas.List.{length-append, length-map, length-reverse, le
 use Rattle.std.proofs.lemmas.Simd.{map-map}
 use Rattle.std.proofs.lemmas.List.Elements.{All-head, All-tail, All-cons, All-nil}
 use Rattle.std.specs.List.{list_any}
+use Rattle.range_code.proofs.Lemmas.{universe_some}
 use Rattle.fd_language.specs.declared.TheConstants.{INFINITY}
 use Rattle.fd_language.specs.Term.{Var}
 use Rattle.fd_language.specs.Family.{Family, has, IsFamily, IsSubset, universe}
@@ -36,10 +37,6 @@ use Rattle.fd_model.specs.Levels.{Level, Levels}
 use Rattle.propagate_queue.specs.Stored.{levels_below, AreBelow, IsStore}
 use Rattle.propagate_queue.proofs.Queueing.{no_flags}
 
-pub some_universe : (M : ℕ) → is_none_left (universe M) ≡ false
-unfolding universe
-some_universe M = refl
-
 -- nothing posted, and no variables
 pub no_domains : AreDomains [] []
 no_domains = record {
@@ -49,7 +46,7 @@ no_domains = record {
     (λ d. (rising_inside INFINITY (d.family x) (d.closed.family.rising x)).each n d.member),
   );
   closed = tt;
-  some = λ x. some_universe INFINITY;
+  some = λ x. universe_some INFINITY;
 } where
   everything : IsFamily INFINITY (family_of [])
   everything = record { rising = λ x. universe_rising INFINITY }
@@ -443,7 +440,7 @@ weight_whole false true true n0 n = omega arith
 weight_whole false true false n0 n = omega arith
 weight_whole false false s n0 n = omega arith
 
-sum_whole : (ys : List ℕ) (f g : ℕ → ℕ) → ((y : ℕ) → f y ≤ g y) → sum_over ys f ≤ sum_over ys g
+pub sum_whole : (ys : List ℕ) (f g : ℕ → ℕ) → ((y : ℕ) → f y ≤ g y) → sum_over ys f ≤ sum_over ys g
 sum_whole [] f g h = omega arith
 sum_whole (y ∷ ys) f g h = omega (arith, h y, sum_whole ys f g h)
 

@@ -3,6 +3,7 @@ use Rattle.std.proofs.Common.{◌≡◌, ℕ, zero, suc, ◌+◌, ◌-◌, ◌<�
 use Rattle.std.proofs.lemmas.Bool.{cases_Bool, true≢false, eqb-false, or_cases, or_left, or_right}
 use Rattle.std.proofs.lemmas.List.{map-append}
 use Rattle.std.specs.List.{list_any}
+use Rattle.propagate_queue.proofs.Storing.{sum_whole}
 use Rattle.fd_language.specs.declared.range_node.Feature.{Feature}
 use Rattle.fd_language.specs.declared.range_node.Feature.TheVariants as feature
 use Rattle.fd_language.specs.Family.{Family, has}
@@ -118,14 +119,10 @@ weight_jumps false true false s' n0 n n' h l k m = absurd (true≢false (sym (k 
 weight_jumps false false true s' n0 n n' h l k m = absurd (true≢false (sym (m refl)))
 weight_jumps false false false s' n0 n n' h l k m = absurd (true≢false (sym (k refl).0))
 
-sum_grows : (ys : List ℕ) (f g : ℕ → ℕ) → ((y : ℕ) → f y ≤ g y) → sum_over ys f ≤ sum_over ys g
-sum_grows [] f g h = omega arith
-sum_grows (y ∷ ys) f g h = omega (arith, h y, sum_grows ys f g h)
-
 sum_jumps : (ys : List ℕ) (f g : ℕ → ℕ) (x : ℕ) → ((y : ℕ) → f y ≤ g y) → has ys x ≡ true → f x < g x → sum_over ys f < sum_over ys g
 sum_jumps [] f g x h i l = absurd (true≢false (sym i))
 sum_jumps (y ∷ ys) f g x h i l = elim (or_cases (y == x) (has ys x) i) [
-  | inl e ↦ let here : f y < g y = subst (λ z. f z < g z) (sym (eqb-true y x e)) l in omega (arith, here, sum_grows ys f g h)
+  | inl e ↦ let here : f y < g y = subst (λ z. f z < g z) (sym (eqb-true y x e)) l in omega (arith, here, sum_whole ys f g h)
   | inr e ↦ omega (arith, h y, sum_jumps ys f g x h e l)
 ]
 
@@ -154,7 +151,7 @@ module _ (start S T : Family) (x : ℕ) (shorter : (y : ℕ) → length (S y) �
   paid (p ∷ ps) (b ∷ bs) [] woken l m f w = absurd (omega (arith, m))
   paid (p ∷ ps) (b ∷ bs) (c ∷ cs) woken l m f w =
       let later = paid ps bs cs (λ k. woken (suc k)) (omega (arith, l)) (omega (arith, m)) (λ k. f (suc k)) (λ k d h e. w (suc k) d (omega (arith, h)) e) in
-      let grows : sum_over (once (reads p.range)) (weight p.range start S) ≤ sum_over (once (reads p.range)) (weight p.range start T) = sum_grows (once (reads p.range)) (weight p.range start S) (weight p.range start T) (each_grows p.range) in
+      let grows : sum_over (once (reads p.range)) (weight p.range start S) ≤ sum_over (once (reads p.range)) (weight p.range start T) = sum_whole (once (reads p.range)) (weight p.range start S) (weight p.range start T) (each_grows p.range) in
       first b c (woken zero) (sum_over (once (reads p.range)) (weight p.range start S)) (sum_over (once (reads p.range)) (weight p.range start T)) (flagged bs) (flagged cs) (weights ps start S) (weights ps start T) (f zero) later grows (λ e. woken_jumps p.range (w zero p (omega arith) e))
     where
       first : (b c w : Bool) (s t n m u v : ℕ) → c ≡ (b || w) → m + u ≤ n + v → s ≤ t → (w ≡ true → s < t) → (cond c 1 0 + m) + (s + u) ≤ (cond b 1 0 + n) + (t + v)

@@ -1,10 +1,9 @@
 -- How the nodes of a range are read as a choice, and how numbers are chosen.
-use Rattle.std.proofs.Common.{◌≡◌, ℕ, ◌*◌, ◌≤◌, length, Bool, true, false, ◌&&◌, ◌||◌, ◌==◌, eqb-true, eq-eqb, ℤ, pos, ◌+ℤ◌, ◌*ℤ◌, List, [], ◌∷◌, ◌++◌, filter, Some, refl, sym, ◌∙◌, ap, subst, arith}
+use Rattle.std.proofs.Common.{◌≡◌, ℕ, ◌*◌, ◌≤◌, length, Bool, true, false, ◌&&◌, ◌||◌, ◌==◌, eqb-true, eq-eqb, ℤ, pos, ◌+ℤ◌, ◌*ℤ◌, List, [], ◌∷◌, ◌++◌, filter, sym, ◌∙◌, ap, subst, arith}
 use Rattle.std.specs.List.{All}
 use Rattle.std.specs.List.Sorted.{IsPermutation}
 use Rattle.std.specs.Ordering.{int_eq}
 use Rattle.std.proofs.lemmas.Bool.{and_parts, and_from, false_from_ne_true}
-use Rattle.std.proofs.lemmas.Bool.Decides.{Decides-int_eq}
 use Rattle.std.proofs.Math.IntN.{+ℤ_idl}
 use Rattle.std.proofs.lemmas.List.Elements.{All-nil, All-cons, All-append}
 use Rattle.std.proofs.lemmas.List.Folds.{list_any-append}
@@ -19,24 +18,12 @@ use Rattle.fd_language.specs.declared.range_node.RangeNode.TheVariants as node
 use Rattle.fd_language.specs.Family.{Family, has, universe}
 use Rattle.fd_language.specs.Range.{Range, Union, some_number}
 use Rattle.fd_language.specs.Flat.{nodes_of, range_nodes, built, builds_range}
-use Rattle.domain_ranges.proofs.Lemmas.{set_same, some_has, some_from}
+use Rattle.domain_ranges.proofs.Lemmas.{set_same, some_has, some_from, int_same, same_int, pos_same, times_zero}
 use Rattle.range_code.specs.declared.frame.Arg.{Arg}
 use Rattle.range_code.specs.declared.choice.Choice.{Choice}
 use Rattle.range_code.specs.declared.choice.Part.{Part}
 use Rattle.range_code.specs.Nodes.{IsReadable, IsSeen}
 use Rattle.range_code.specs.Choices.{part_range, is_chosen, is_in, AreRising, IsChoice, IsPairAdded, IsChoosing}
-
-int_same : (x y : ℤ) → x ≡ y → int_eq x y ≡ true
-int_same x y e = (Decides-int_eq x y).1 e
-
-same_int : (x y : ℤ) → int_eq x y ≡ true → x ≡ y
-same_int x y e = (Decides-int_eq x y).0 e
-
-pos_same : (a b : ℕ) → pos a ≡ pos b → a ≡ b
-pos_same a b e = cc
-
-times_zero : (k : ℕ) → k * 0 ≡ 0
-times_zero k = omega arith
 
 -- the number of a part is in its range where its key is in the set
 module _ (S : Family) (p : ℕ → ℤ) (m : Part) (n : ℕ) (low : n ≤ INFINITY) where

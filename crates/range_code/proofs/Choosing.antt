@@ -1,10 +1,10 @@
 -- How the members of a target that are chosen are gathered.
 use Rattle.std.proofs.Common.{◌≡◌, ℕ, zero, suc, ◌+◌, ◌<◌, ◌≤◌, ◌-◌, length, take, get_or, Bool, true, false, ◌&&◌, ◌||◌, ◌==◌, eqb-true, eq-eqb, List, [], ◌∷◌, ◌++◌, filter, refl, sym, ◌∙◌, ap, subst, arith, ◌⊎◌, inl, inr, leb}
 use Rattle.std.proofs.lemmas.Bool.{true≢false, or_cases, and_parts, cases_Bool, le-leb, lt-leb, or_right, or_left, leb-false}
-use Rattle.std.proofs.lemmas.Bool.Decides.{nat_tests}
 use Rattle.std.proofs.lemmas.List.{get_or-take, get_or_default, length-append, length-take-le}
 use Rattle.std.proofs.lemmas.List.Folds.{list_any_more}
 use Rattle.std.proofs.Math.Bool.{or-false, and-false}
+use Rattle.monotone_check.proofs.Lemmas.{eq_sym}
 use Rattle.fd_language.specs.declared.TheConstants.{INFINITY}
 use Rattle.fd_language.specs.Family.{has, universe, IsRising, IsSubset}
 use Rattle.fd_language.specs.Range.{is_none_left}
@@ -22,11 +22,8 @@ snoc_rises low M n (x ∷ xs) r below l h = (
   snoc_rises (suc x) M n xs r.2 (λ k g. below k (or_right (x == k) (has xs k) g)) (let b = below x (or_left (x == x) (has xs x) (eq-eqb x x refl)) in omega (arith, b)) h,
 )
 
-other_way : (a b : ℕ) → (a == b) ≡ (b == a)
-other_way a b = grind (arith, nat_tests)
-
 has_snoc : (xs : List ℕ) (n k : ℕ) → has (xs ++ n ∷ []) k ≡ (has xs k || (k == n))
-has_snoc [] n k = or-false (n == k) ∙ other_way n k
+has_snoc [] n k = or-false (n == k) ∙ eq_sym n k
 has_snoc (x ∷ xs) n k = ap (λ b. (x == k) || b) (has_snoc xs n k) ∙ regroup (x == k) (has xs k) (k == n) where
   regroup : (a b c : Bool) → (a || (b || c)) ≡ ((a || b) || c)
   regroup a b c = grind arith
@@ -47,7 +44,7 @@ pub record Gathering (t s : List ℕ) (ds : List (ℕ × ℕ)) (i : ℕ) (rest :
   pub spans : IsSpans 0 INFINITY rest
   pub same : (j n : ℕ) (d : ℕ × ℕ) → i ≤ j → j < length ds → (get_or ds j d).1 ≤ n → within rest n ≡ has t n
 
-keeps_none : (xs : List ℕ) → filter (λ n. false) xs ≡ []
+pub keeps_none : (xs : List ℕ) → filter (λ n. false) xs ≡ []
 keeps_none [] = refl
 keeps_none (x ∷ xs) = keeps_none xs
 
@@ -174,7 +171,7 @@ module _ (t s : List ℕ) (ds : List (ℕ × ℕ)) (i : ℕ) (rest : List Span) 
     top = added h.numbers [] h.top;
     are = set_same INFINITY (λ k. has h.numbers k || (k == c.1)) (λ k. has t k && is_chosen s (take (i + 1) ds) k)
         (λ k l'. ap (λ a. a || (k == c.1)) (ap (λ xs. has xs k) h.are ∙ has_set INFINITY (λ m. has t m && is_chosen s (take i ds) m) k l')
-        ∙ (taken_test (has t k) (is_chosen s (take i ds) k) (is_next k) (k == c.1) (λ e. ap (has t) (eqb-true k c.1 e) ∙ (sym next_there ∙ inside)) (ap (λ b. b && (c.1 == k)) key ∙ other_way c.1 k)
+        ∙ (taken_test (has t k) (is_chosen s (take i ds) k) (is_next k) (k == c.1) (λ e. ap (has t) (eqb-true k c.1 e) ∙ (sym next_there ∙ inside)) (ap (λ b. b && (c.1 == k)) key ∙ eq_sym c.1 k)
         ∙ sym (ap (λ b. has t k && b) (list_any_more (λ x. has s x.0 && (x.1 == k)) ds i d l))));
     below = λ n g. bounded n (or_cases (has h.numbers n) (n == c.1) (sym (has_snoc h.numbers c.1 n) ∙ (ap (λ xs. has xs n) is ∙ g)));
     last = λ k e. let at : c.1 ≡ k = omega (arith, e) in subst (λ m. has (with_next h.numbers) m ≡ true) at (ap (λ xs. has xs c.1) (sym is) ∙ (has_snoc h.numbers c.1 c.1 ∙ or_right (has h.numbers c.1) (c.1 == c.1) (eq-eqb c.1 c.1 refl)));

@@ -1,9 +1,11 @@
 -- The lemmas that other crates may cite, by their subjects. All else in proofs/ is this crate's own.
 -- Each node of a range finds its argument.
-pub use Rattle.range_code.proofs.Framing.{all_readable}
+pub use Rattle.range_code.proofs.Framing.{all_readable, no_parameter}
 -- Lists with each element once, as they grow.
 pub use Rattle.range_code.proofs.Once.{any_has, has_kept, has_once, keys_more, once_more}
 -- The range that is posted, where its arguments fit.
 pub use Rattle.range_code.proofs.Posted.{one_use, posted_below, posted_monotone}
 -- How the variables of a range stand, told from what it reads.
-pub use Rattle.range_code.proofs.Standings.{all_once, features_seen, reads_filled}
+pub use Rattle.range_code.proofs.Standings.{all_once, features_seen, reads_filled, universe_some}
+-- How the members of a target that are chosen are gathered.
+pub use Rattle.range_code.proofs.Choosing.{keeps_none}

@@ -1,15 +1,13 @@
 -- Lists with each element once, as they grow.
-use Rattle.std.proofs.Common.{◌≡◌, ℕ, Bool, true, false, cond, not, ◌||◌, ◌&&◌, ◌==◌, nat_eq, List, [], ◌∷◌, ◌++◌, filter, refl, sym, ◌∙◌, ap, arith, eqb-true, inl, inr}
+use Rattle.std.proofs.Common.{◌≡◌, ℕ, Bool, true, false, cond, not, ◌||◌, ◌&&◌, ◌==◌, nat_eq, List, [], ◌∷◌, ◌++◌, filter, refl, sym, ◌∙◌, ap, eqb-true, inl, inr}
 use Rattle.std.specs.List.{list_any}
 use Rattle.std.proofs.lemmas.Bool.{cases_Bool}
 use Rattle.std.proofs.lemmas.List.Elements.{filter-append}
 use Rattle.std.proofs.Math.Bool.{or-false, and-false, or-true, and-true}
 use Rattle.std.proofs.lemmas.List.{append-nil}
+use Rattle.monotone_check.proofs.Lemmas.{eq_sym}
 use Rattle.fd_language.specs.Family.{has}
 use Rattle.fd_language.specs.Needs.{once}
-
-eq_sym : (x y : ℕ) → (x == y) ≡ (y == x)
-eq_sym x y = grind arith
 
 keeps_here : (c k h b : Bool) → (c ≡ true → b ≡ true) → k ≡ (h && b) → (c || k) ≡ ((c || h) && b)
 keeps_here true k h b f e = sym (f refl)

@@ -1,17 +1,16 @@
 -- Whether a val is open, told from the slots that are read by val.
-use Rattle.std.proofs.Common.{◌≡◌, ℕ, suc, ◌<◌, Bool, true, false, cond, ◌&&◌, ◌==◌, List, [], ◌∷◌, map, filter, length, Option, refl, sym, ◌∙◌, ap, subst, inl, inr, arith, eqb-true, eq-eqb}
+use Rattle.std.proofs.Common.{◌≡◌, ℕ, suc, ◌<◌, Bool, true, cond, ◌&&◌, ◌==◌, List, [], ◌∷◌, filter, length, Option, refl, sym, ◌∙◌, ap, subst, inl, inr, arith, eq-eqb}
 use Rattle.std.specs.List.{All, list_any}
 use Rattle.std.proofs.lemmas.Bool.{cases_Bool, true≢false, or_left, or_right, or_cases}
 use Rattle.std.proofs.lemmas.List.Elements.{All-nil, All-cons, All-head, All-tail}
 use Rattle.std.specs.Cmp.{both_ways}
-use Rattle.std.proofs.lemmas.List.{length-map}
 use Rattle.fd_language.specs.declared.range_node.Feature.{Feature}
 use Rattle.fd_language.specs.declared.range_node.Feature.TheVariants as feature
 use Rattle.fd_language.specs.declared.range_node.Need.{Need}
-use Rattle.fd_language.specs.Family.{Family, has, count_up}
+use Rattle.fd_language.specs.Family.{Family, count_up}
 use Rattle.fd_language.specs.Range.{is_several}
 use Rattle.fd_language.specs.Features.{is_same_pair}
-use Rattle.fd_language.proofs.Lemmas.{in_count_up, has-filter}
+use Rattle.fd_language.proofs.Lemmas.{in_count_up, has-filter, any_to}
 use Rattle.range_code.specs.declared.frame.Arg.{Arg}
 use Rattle.range_code.specs.Frames.{AreArgs}
 use Rattle.range_code.specs.Kinds.{has_pair}
@@ -44,13 +43,6 @@ any_kept p t (x ∷ xs) h = elim (cases_Bool (p x)) [
   | inr e ↦ any_kept p t xs (sym (ap (λ b. list_any t (cond b (x ∷ filter p xs) (filter p xs))) e) ∙ h)
 ]
 
-any_at : (t : ℕ → Bool) (xs : List ℕ) (s : ℕ) → has xs s ≡ true → t s ≡ true → list_any t xs ≡ true
-any_at t [] s h g = absurd (true≢false (sym h))
-any_at t (x ∷ xs) s h g = elim (or_cases (x == s) (has xs s) h) [
-  | inl e ↦ or_left (t x) (list_any t xs) (ap t (eqb-true x s e) ∙ g)
-  | inr e ↦ or_right (t x) (list_any t xs) (any_at t xs s e g)
-]
-
 module _ (S : Family) where
   opened_by : (ds : List (ℕ × Feature)) (s : ℕ) → has_pair ds (s, feature.Val) ≡ true → is_several (S s) ≡ true → list_any (opens S) ds ≡ true
   opened_by [] s h g = absurd (true≢false (sym h))
@@ -76,7 +68,7 @@ module _ (S : Family) where
   pub vals_open : (ds : List (ℕ × Feature)) (n : ℕ) → All (λ d. d.0 < n) ds → list_any (λ s. is_several (S s)) (filter (λ s. has_pair ds (s, feature.Val)) (count_up 0 n)) ≡ list_any (opens S) ds
   vals_open ds n h = both_ways (list_any (λ s. is_several (S s)) (filter (λ s. has_pair ds (s, feature.Val)) (count_up 0 n))) (list_any (opens S) ds)
       (λ g. let k = any_kept (λ s. has_pair ds (s, feature.Val)) (λ s. is_several (S s)) (count_up 0 n) g in opened_by ds k.0 k.1 k.2)
-      (λ g. let k = opener n ds h g in any_at (λ s. is_several (S s)) (filter (λ s. has_pair ds (s, feature.Val)) (count_up 0 n)) k.0
+      (λ g. let k = opener n ds h g in any_to (λ s. is_several (S s)) (filter (λ s. has_pair ds (s, feature.Val)) (count_up 0 n)) k.0
       (has-filter (λ s. has_pair ds (s, feature.Val)) (count_up 0 n) k.0 (in_count_up 0 n k.0 (omega arith) (let l : k.0 < n = k.1 in omega arith)) k.2) k.3)
 
 args_length : (count : ℕ) (ns : List (Option Need)) (args : List Arg) → AreArgs count ns args → length args ≡ length ns

@@ -10,6 +10,7 @@ use Rattle.std.proofs.lemmas.List.Folds.{list_any-append}
 use Rattle.std.proofs.lemmas.List.Sums.{fold-append}
 use Rattle.std.proofs.Math.Seq.{drop-append_seam, take-append_seam}
 use Rattle.std.proofs.Math.Numerals.{one-add}
+use Rattle.domain_ranges.proofs.Lemmas.{same_int}
 use Rattle.indexmap.specs.IndexSet.{insert_key, insert_all}
 use Rattle.fd_language.specs.declared.range_node.Need.{Need}
 use Rattle.fd_language.specs.declared.range_node.RangeNode.{RangeNode}
@@ -33,9 +34,6 @@ use Rattle.range_code.specs.StepNodes.{all_steps, ArePlaced}
 equal_refl : (z : ℤ) → int_eq z z ≡ true
 equal_refl z = (Decides-int_eq z z).1 refl
 
-equal_same : (z y : ℤ) → int_eq z y ≡ true → z ≡ y
-equal_same z y h = (Decides-int_eq z y).0 h
-
 record HasPlace (z : ℤ) (table : List ℤ) : Type 0 where
   within : position_or_len (int_eq z) table < length table
   there : get_or table (position_or_len (int_eq z) table) (pos 0) ≡ z
@@ -45,7 +43,7 @@ has_place z [] h = absurd (true≢false (sym h))
 has_place z (y ∷ ys) h = elim (cases_Bool (int_eq z y)) [
   | inl e ↦
       let i : position_or_len (int_eq z) (y ∷ ys) ≡ 0 = ap (λ c. cond (not c) (1 + position_or_len (int_eq z) ys) 0) e in
-      record { within = subst (λ n. n < suc (length ys)) (sym i) (omega arith); there = ap (λ n. get_or (y ∷ ys) n (pos 0)) i ∙ sym (equal_same z y e) }
+      record { within = subst (λ n. n < suc (length ys)) (sym i) (omega arith); there = ap (λ n. get_or (y ∷ ys) n (pos 0)) i ∙ sym (same_int z y e) }
   | inr e ↦
       let i : position_or_len (int_eq z) (y ∷ ys) ≡ suc (position_or_len (int_eq z) ys) = ap (λ c. cond (not c) (1 + position_or_len (int_eq z) ys) 0) e ∙ one-add (position_or_len (int_eq z) ys) in
       let k = has_place z ys (sym (ap (λ b. b || list_any (int_eq z) ys) e) ∙ h) in

@@ -211,7 +211,7 @@ at_or_past [] k = inr refl
 at_or_past (d ∷ ds) zero = inl (omega arith)
 at_or_past (d ∷ ds) (suc k) = elim (at_or_past ds k) [ inl h ↦ inl (omega arith) | inr h ↦ inr h ]
 
-universe_some : (M : ℕ) → is_none_left (universe M) ≡ false
+pub universe_some : (M : ℕ) → is_none_left (universe M) ≡ false
 unfolding universe
 universe_some M = refl
 

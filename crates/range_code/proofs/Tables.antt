@@ -6,19 +6,11 @@ use Rattle.std.specs.Ordering.{int_eq}
 use Rattle.std.proofs.lemmas.Int.{ints}
 use Rattle.std.proofs.lemmas.Bool.{cases_Bool, true≢false}
 use Rattle.std.proofs.lemmas.List.Elements.{filter_agree}
+use Rattle.domain_ranges.proofs.Lemmas.{set_same}
 use Rattle.fd_language.specs.Family.{has, universe, count_up, IsRising}
 use Rattle.fd_language.specs.Range.{some_number}
 use Rattle.fd_language.proofs.Lemmas.{has-filter, has-filter_back, universe_rising, in_universe, rising_same, rising_inside, rising-filter}
 use Rattle.domain_ranges.specs.Sets.{is_shifted, is_scaled, is_quotient}
-
-keeps_up : (p q : ℕ → Bool) (low k : ℕ) → ((n : ℕ) → n < low + k → p n ≡ q n) → filter p (count_up low k) ≡ filter q (count_up low k)
-keeps_up p q low zero h = refl
-keeps_up p q low (suc k) h = let here : p low ≡ q low = h low (omega arith) in let rest = keeps_up p q (suc low) k (λ n l. h n (omega arith)) in rw (here, rest) refl
-
--- tests that agree on U keep the same numbers of it
-filter_within : (M : ℕ) (p q : ℕ → Bool) → ((n : ℕ) → n ≤ M → p n ≡ q n) → filter p (universe M) ≡ filter q (universe M)
-unfolding universe
-filter_within M p q h = keeps_up p q 0 (suc M) (λ n l. h n (omega arith))
 
 any_up : (p q : ℕ → Bool) (low k : ℕ) → ((n : ℕ) → n < low + k → p n ≡ q n) → list_any p (count_up low k) ≡ list_any q (count_up low k)
 any_up p q low zero h = refl
@@ -52,7 +44,7 @@ dom_is M xs r = rising_same 0 M xs (table M (has xs)) r (rising-filter (has xs) 
     (record { each = λ n h. (has-filter_back (has xs) (universe M) n h).1 })
 
 pub union_is : (M : ℕ) (f g : ℕ → Bool) → filter (λ n. has (table M f) n || has (table M g) n) (universe M) ≡ table M (λ n. f n || g n)
-union_is M f g = filter_within M (λ n. has (table M f) n || has (table M g) n) (λ n. f n || g n) (λ n h. rw (has_table M f n h, has_table M g n h) refl)
+union_is M f g = set_same M (λ n. has (table M f) n || has (table M g) n) (λ n. f n || g n) (λ n h. rw (has_table M f n h, has_table M g n h) refl)
 
 filter_two : (p q : ℕ → Bool) (l : List ℕ) → filter p (filter q l) ≡ filter (λ z. q z && p z) l
 filter_two p q [] = refl
@@ -62,10 +54,10 @@ filter_two p q (z ∷ l) = elim (cases_Bool (q z)) [
 ]
 
 pub inter_is : (M : ℕ) (f g : ℕ → Bool) → filter (has (table M g)) (table M f) ≡ table M (λ n. f n && g n)
-inter_is M f g = filter_two (has (table M g)) f (universe M) ∙ filter_within M (λ n. f n && has (table M g) n) (λ n. f n && g n) (λ n h. rw (has_table M g n h) refl)
+inter_is M f g = filter_two (has (table M g)) f (universe M) ∙ set_same M (λ n. f n && has (table M g) n) (λ n. f n && g n) (λ n h. rw (has_table M g n h) refl)
 
 pub outside_is : (M : ℕ) (f : ℕ → Bool) → filter (λ n. not (has (table M f) n)) (universe M) ≡ table M (λ n. not (f n))
-outside_is M f = filter_within M (λ n. not (has (table M f) n)) (λ n. not (f n)) (λ n h. rw (has_table M f n h) refl)
+outside_is M f = set_same M (λ n. not (has (table M f) n)) (λ n. not (f n)) (λ n h. rw (has_table M f n h) refl)
 
 -- a pointwise form, by the test of an operand and a number
 moved_is : (M : ℕ) (f : ℕ → Bool) (test : ℕ → ℕ → Bool) → filter (λ n. some_number M (λ e. has (table M f) e && test e n)) (universe M) ≡ table M (λ n. some_number M (λ e. f e && test e n))

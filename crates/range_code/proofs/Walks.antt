@@ -7,11 +7,12 @@ use Rattle.range_code.specs.Nodes.{IsReadable}
 use Rattle.range_code.proofs.Placing.{at_drop, all_back}
 use Rattle.std.proofs.lemmas.List.{at_drop_more, drop_all}
 use Rattle.std.proofs.lemmas.Option.{same_Some}
+use Rattle.monotone_check.proofs.Lemmas.{builds_all}
 use Rattle.fd_language.specs.declared.range_node.RangeNode.{RangeNode}
 use Rattle.fd_language.specs.declared.range_node.RangeNode.TheVariants as node
 use Rattle.fd_language.specs.Family.{Family}
 use Rattle.fd_language.specs.Range.{Range, Span, One, Dom, Union, Inter, Outside, Plus, Minus, Times, Over, Expr, Number, Infinity, Param, Min, Max, Val, Add, Sub, Mul, DivDown, DivUp}
-use Rattle.fd_language.specs.Flat.{built, spelled, IsSpelled, builds_range, spelled-nodes}
+use Rattle.fd_language.specs.Flat.{built, spelled, IsSpelled}
 use Rattle.fd_language.specs.declared.TheConstants.{INFINITY}
 use Rattle.fd_language.specs.Check.{fill_range}
 use Rattle.fd_language.specs.Range.{in_range}
@@ -202,9 +203,6 @@ module _ (S : Family) (p : ℕ → ℤ) where
   can_take node.Over ns (q ∷ rs) (b ∷ a ∷ ts) r w e h k = absurd cc
   can_take node.Over ns (q ∷ rs) (c ∷ []) r w e h k =
       let f = all_fit ns (Over q c ∷ rs) [] r e h in (λ front a b i. tt, λ front x i. one_on_top [] c w.values.items front x node.Over k.values f.ranges.0.2 i)
-
-builds_all : (nodes : List RangeNode) → IsSpelled nodes → Some (spelled nodes) ≡ built nodes [] []
-builds_all nodes (r, e) = subst (λ ns. Some (spelled ns) ≡ built ns [] []) e (ap Some (spelled-nodes r) ∙ sym (builds_range r [] []))
 
 pub walk_start : (S : Family) (p : ℕ → ℤ) (s : Steps) (w : Work) → IsSpelled (all_steps s) → w.values.items ≡ [] → w.sets.sets ≡ [] → IsAt S p s s.tests w
 walk_start S p s w h v i = ([], [], builds_all (all_steps s) h, record { values = v; sets = i })

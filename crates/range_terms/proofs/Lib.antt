@@ -4,3 +4,4 @@ mod Positions
 mod Walks
 mod Steps
 mod Whole
+pub mod Lemmas

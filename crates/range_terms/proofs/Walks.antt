@@ -4,6 +4,7 @@ use Rattle.std.specs.Prelude.{All, min}
 use Rattle.std.specs.Option.{option_to_list}
 use Rattle.std.proofs.lemmas.List.{append-nil, append_assoc}
 use Rattle.std.proofs.lemmas.List.Elements.{All-append, All-nil}
+use Rattle.fd_language.proofs.Lemmas.{first_nil, second_nil}
 use Rattle.fd_language.specs.declared.range_node.RangeNode.{RangeNode}
 use Rattle.fd_language.specs.Spelling.{least_place}
 use Rattle.term_pool.specs.Contents.{Contents}
@@ -89,15 +90,6 @@ pub least_none : (ps : List ℕ) → least_place ps ≡ None → ps ≡ []
 least_none [] h = refl
 least_none (p ∷ ps) h = let s = some_least p ps in let wrong : Some s.0 ≡ None = sym s.1 ∙ h in absurd cc
 
--- nothing in front, nothing in the middle
-front_nil : (xs ys : List ℕ) → xs ++ ys ≡ [] → xs ≡ []
-front_nil [] ys h = refl
-front_nil (x ∷ xs) ys h = absurd cc
-
-back_nil : (xs ys : List ℕ) → xs ++ ys ≡ [] → ys ≡ []
-back_nil [] ys h = h
-back_nil (x ∷ xs) ys h = absurd cc
-
 -- the step keeps what is found and what is left
 pub still_left : (c : Contents) (w : Wanted) (t : Task) (old new : Found) (rest next : List Task) → Replaces c (of_task c t) (task_weight c t) old rest new next → IsLeft c w old (rest ++ t ∷ []) → All (IsOf c) rest → IsLeft c w new next
 still_left c w t old new rest next s i a =
@@ -108,7 +100,7 @@ still_left c w t old new rest next s i a =
     record {
       nodes = λ none.
           let nil : option_to_list old.offender ++ (u.offenders ++ (left c rest).offenders) ≡ [] = least_none (option_to_list old.offender ++ (u.offenders ++ (left c rest).offenders)) (offenders ∙ ap least_place none) in
-          let mine : u.offenders ≡ [] = front_nil u.offenders (left c rest).offenders (back_nil (option_to_list old.offender) (u.offenders ++ (left c rest).offenders) nil) in
+          let mine : u.offenders ≡ [] = first_nil u.offenders (left c rest).offenders (second_nil (option_to_list old.offender) (u.offenders ++ (left c rest).offenders) nil) in
           ap (λ (v : Wanted). new.nodes.items ++ v.nodes) after ∙ sym (append_assoc new.nodes.items (left c s.more).nodes (left c rest).nodes)
           ∙ ap (λ (ns : List RangeNode). ns ++ (left c rest).nodes) (s.nodes mine) ∙ append_assoc old.nodes.items u.nodes (left c rest).nodes ∙ ap (λ (v : Wanted). old.nodes.items ++ v.nodes) (sym before) ∙ i.nodes none;
       places =

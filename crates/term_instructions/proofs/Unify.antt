@@ -8,7 +8,7 @@ use Rattle.fd_language.specs.Term.{Terms, no_terms, term}
 use Rattle.branch_state.specs.States as branch
 use Rattle.wam_code.specs.Places.{Places as CodePlaces, count}
 use Rattle.wam_code.specs.Means.{Owed}
-use Rattle.wam_code.proofs.Lemmas.{at_unify}
+use Rattle.wam_code.proofs.Lemmas.{at_unify, same_code}
 use Rattle.wam_code.specs.declared.instruction.Register.{Register}
 use Rattle.wam_code.specs.declared.instruction.Code.{Code}
 use Rattle.wam_code.specs.declared.instruction.Code.TheVariants.{UnifyVariable, UnifyValue, UnifyConstant, UnifyInteger, UnifyVoid}
@@ -74,9 +74,6 @@ no_void area at p no_terms next q some f o = absurd (omega (arith, some))
 no_void area at p (term t ts) next q some f o = (at_unify area at p t ts next q (UnifyVoid 0) f o).2
 
 -- ---- no other instruction is of the group
-
-same_code : (area : Area) (at : ℕ) (i j : Code) → Holds area at i → Holds area at j → i ≡ j
-same_code area at i j f g = let e : Some i ≡ Some j = sym f ∙ g in cc
 
 no_unify : (area : Area) (at : ℕ) (i : Code) → Holds area at i → ((s : State) → unify_effect i s ≡ None) → IsUnifyAt area at → ⊥
 no_unify area at i f none u = none-some u.2 (sym (none u.1) ∙ ap (λ j. unify_effect j u.1) (same_code area at i u.0 f u.3) ∙ u.4)

@@ -28,7 +28,7 @@ size_of_shape c t (int z) e = ap size e ∙ omega (arith, total_size-nil c)
 size_of_shape c t (atom a) e = ap size e ∙ omega (arith, total_size-nil c)
 size_of_shape c t (comp f ts) e = ap size e ∙ omega (arith, sizes-terms_by c ts)
 
-size_above_zero : (x : Term) → 0 < size x
+pub size_above_zero : (x : Term) → 0 < size x
 size_above_zero (Var n) = omega arith
 size_above_zero (Int z) = omega arith
 size_above_zero (Atom a) = omega arith

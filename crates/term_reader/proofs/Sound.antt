@@ -2,8 +2,9 @@
 use Rattle.std.proofs.Common.{◌≡◌, ℕ, ◌≤◌, List, [], ◌∷◌, Option, Some, None, Bool, true, false, cond, refl, sym, ap, subst, ◌∙◌, arith}
 use Rattle.std.specs.Prelude.{neg_ℤ, nat_le, option_and_then}
 use Rattle.std.proofs.lemmas.Bool.{leb-true, and_parts}
+use Rattle.fd_language.proofs.Lemmas.{append-with_last}
 use Rattle.fd_language.specs.Term.{Name}
-use Rattle.fd_language.specs.PlacedTerm.{PlacedTerm, PlacedTerms, int, atom, comp, no_parts, part, one, two, with_last, append}
+use Rattle.fd_language.specs.PlacedTerm.{PlacedTerm, PlacedTerms, int, atom, comp, no_parts, one, two, with_last, append}
 use Rattle.fd_language.specs.Operators.{Operator, left_limit, right_limit, prefix_of}
 use Rattle.fd_language.specs.Terminals.{Terminal, name, operator_word, variable, integer, opens, closes, open_list, close_list, open_curly, close_curly, comma, bar, stop, infix_operator, token_place, is_minus, is_tight_open, is_negated, may_follow}
 use Rattle.fd_language.specs.Grammar.{nil_name, curly_name, list_of, Reads, an_integer, a_negative, a_variable, an_atom, empty_list, empty_curly, named_call, operator_call, in_parens, operator_in_parens, a_list, a_list_tail, in_curly, a_prefix, an_infix, Arg, a_term, an_operator, Args, last, more, Sentences, none, next, IsText}
@@ -13,10 +14,6 @@ use Rattle.fd_language.specs.ReadingSteps.{Stack, top, paren, args, items, tail,
 pub data SoFar (ts : List Terminal) : PlacedTerms → List Terminal → Type 0 where
   nothing : SoFar ts no_parts ts
   another : {p : ℕ} {us rest : List Terminal} {xs : PlacedTerms} {t : PlacedTerm} → SoFar ts xs us → Arg us (comma p ∷ rest) t → SoFar ts (with_last xs t) rest
-
-append-with_last : (xs ys : PlacedTerms) (t : PlacedTerm) → append (with_last xs t) ys ≡ append xs (part t ys)
-append-with_last no_parts ys t = refl
-append-with_last (part x xs) ys t = ap (part x) (append-with_last xs ys t)
 
 all_args : {ts us rest : List Terminal} {xs ys : PlacedTerms} → SoFar ts xs us → Args us rest ys → Args ts rest (append xs ys)
 all_args nothing d = d

@@ -14,7 +14,7 @@ use Rattle.fd_language.specs.Tokens.{Kind, Word, Quoted, Variable, Integer, Punc
 use Rattle.fd_language.specs.Reading as model
 use Rattle.fd_language.specs.Reading.{is_anonymous, variable_number, with_variable, terminals, terminal_of, terminal_by, punct_terminal, names_behind, names_by, sentence_names, ended_by, IsSentences}
 use Rattle.fd_language.specs.ReadingSteps.{Stack, top, paren, args, items, tail, curly, before, between, State, want, at_list, at_curly_bracket, at_operator, after, Reduced, reduce, gives_way, limit, is_close, is_close_list, is_close_curly, is_comma, is_bar, is_stop, closed, lone, placed, attach, or_else, ended, behind_operand, called, wanted, begun, step, run}
-use Rattle.fd_language.proofs.Lemmas.{accepts}
+use Rattle.fd_language.proofs.Lemmas.{accepts, position_within}
 use Rattle.term_pool.specs.Contents.{Contents, atom_name}
 use Rattle.term_reader.specs.declared.reader.Sentence.{Sentence}
 use Rattle.term_reader.specs.declared.reader.Sentences.{Sentences}
@@ -277,14 +277,6 @@ step_by n (after c s t) x h k =
     by_test n (base s) (is_stop x) (is_tight_open x) (called c s) (behind_operand s t x) (λ e. called_by n c s x (open_no x e) h.0) (λ _. behind_by n s t x h.0 h.1)
 
 -- ---- the numbers of variables
-
-position_within : (p : Name → Bool) (xs : List Name) → list_any p xs ≡ true → position_or_len p xs < length xs
-position_within p [] e = absurd cc
-position_within p (x ∷ xs) e = go (p x) e (λ k. position_within p xs k)
-  where
-    go : (b : Bool) → (b || list_any p xs) ≡ true → (list_any p xs ≡ true → position_or_len p xs < length xs) → cond (not b) (1 + position_or_len p xs) 0 < suc (length xs)
-    go true k l = omega arith
-    go false k l = omega (arith, l k)
 
 position_bounded : (p : Name → Bool) (xs : List Name) → position_or_len p xs ≤ length xs
 position_bounded p [] = omega arith

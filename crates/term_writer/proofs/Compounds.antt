@@ -6,6 +6,7 @@ use Rattle.std.specs.Str.{bytes_eq, chars}
 use Rattle.std.proofs.lemmas.Bool.{false_from_ne_true}
 use Rattle.std.proofs.lemmas.Str.{IsUtf8-from_ascii}
 use Rattle.std.proofs.lemmas.Fmt.{IsAscii-decimal, decimal_nonempty}
+use Rattle.term_writer.proofs.Steps.{plain_open, plain_close, plain_comma, plain_close_list, plain_bar, plain_close_curly}
 use Rattle.fd_language.specs.Term.{Name, Term, Terms, Var, Int, Atom, Comp, no_terms, term}
 use Rattle.fd_language.specs.Operators.{Operator, infix_of}
 use Rattle.fd_language.specs.Tokens.{greatest_integer}
@@ -17,7 +18,7 @@ use Rattle.term_writer.proofs.TextTokens.{Lexes, open_bracket, close_bracket, li
 use Rattle.term_writer.proofs.Variables.{Parts, variable_parts}
 use Rattle.term_writer.proofs.Leaves.{atom_lexes, functor_lexes, decimal_lexes, decimal_first, negative_lexes, variable_lexes}
 use Rattle.term_writer.proofs.Beginnings.{Begins, begins_before, begins_ascii, begins_utf8, atom_begins, functor_begins}
-use Rattle.term_writer.proofs.TermTokens.{Agrees, agrees_same, Apart, apart_from, no_symbol, close_symbol, open_symbol, list_symbol, curly_symbol, comma_symbol, bar_symbol, Behind, Lexed, LexedAt, barred, relabel, joint, joint_begins, joint_lexes}
+use Rattle.term_writer.proofs.TermTokens.{Agrees, agrees_same, Apart, apart_from, no_symbol, Behind, Lexed, LexedAt, barred, relabel, joint, joint_begins, joint_lexes}
 use Rattle.term_writer.proofs.Derivations.{text_is}
 
 -- the arguments behind the first
@@ -35,7 +36,7 @@ module _ (vars : ℕ → List ℕ) (stopped : Bool) where
     pub behind : (r : List ℕ) → Behind (further_text xs ++ 41 ∷ r)
 
   no_further : Furthers [] (λ ts. ts)
-  no_further = record { lexes = λ r ts h. h; behind = λ r. record { follows = before_close r; apart = close_symbol } }
+  no_further = record { lexes = λ r ts h. h; behind = λ r. record { follows = before_close r; apart = plain_close } }
 
   -- an argument with those behind it
   first_of : (a : TermText) (ta : InTokens) (xs : List TermText) (tokens : List Terminal → List Terminal) → Lexed vars stopped a ta → Furthers xs tokens → (r : List ℕ) (ts : List Terminal) → Lexes vars stopped true (41 ∷ r) ts
@@ -48,7 +49,7 @@ module _ (vars : ℕ → List ℕ) (stopped : Bool) where
   one_further : (a : TermText) (ta : InTokens) (xs : List TermText) (tokens : List Terminal → List Terminal) → Lexed vars stopped a ta → Furthers xs tokens → Furthers (a ∷ xs) (λ ts. comma 0 ∷ ta.at true 999 (tokens ts))
   one_further a ta xs tokens l f = record {
     lexes = λ r ts h. comma_first vars stopped true ((a.at 999 ++ further_text xs) ++ 41 ∷ r) (ta.at true 999 (tokens ts)) (first_of a ta xs tokens l f r ts h);
-    behind = λ r. record { follows = before_comma ((a.at 999 ++ further_text xs) ++ 41 ∷ r); apart = comma_symbol };
+    behind = λ r. record { follows = before_comma ((a.at 999 ++ further_text xs) ++ 41 ∷ r); apart = plain_comma };
   }
 
   -- ---- calls
@@ -84,7 +85,7 @@ module _ (vars : ℕ → List ℕ) (stopped : Bool) where
   braces_at a ta l tight flag limit r ts e f t h =
       subst (λ (w : List ℕ). Lexes vars stopped tight (123 ∷ w) (open_curly 0 ∷ ta.at true 1200 (close_curly ∷ ts))) (sym (append_assoc (a.at 1200) (125 ∷ []) r))
       (curly_opens vars stopped tight (a.at 1200 ++ 125 ∷ r) (ta.at true 1200 (close_curly ∷ ts))
-      (l.at true true 1200 (125 ∷ r) (close_curly ∷ ts) (inl refl) (before_curly_end r) (no_symbol 125 curly_symbol (a.at 1200) r) (curly_closes vars stopped true r ts h)))
+      (l.at true true 1200 (125 ∷ r) (close_curly ∷ ts) (inl refl) (before_curly_end r) (no_symbol 125 plain_close_curly (a.at 1200) r) (curly_closes vars stopped true r ts h)))
 
   braces : (a : TermText) (ta : InTokens) → Lexed vars stopped a ta
       → Lexed vars stopped (spelled_alone (123 ∷ (a.at 1200 ++ 125 ∷ []))) (record { at = λ tight limit ts. open_curly 0 ∷ ta.at true 1200 (close_curly ∷ ts); rest = after_bar (λ tight limit ts. open_curly 0 ∷ ta.at true 1200 (close_curly ∷ ts)) })
@@ -111,8 +112,8 @@ module _ (vars : ℕ → List ℕ) (stopped : Bool) where
       go true g t = joint_lexes vars stopped a b ta tb la lb o f e tight flag r ts g f2 t h
       go false g t =
           let w : List ℕ = joint vars stopped a b ta tb la lb o in
-          let inner = joint_lexes vars stopped a b ta tb la lb o f e true true (41 ∷ r) (closes ∷ ts) (inl refl) (before_close r) (no_symbol 41 close_symbol w r) (close_bracket vars stopped true r ts h) in
-          let same : tight ≡ flag = agrees_same (40 ∷ (w ++ 41 ∷ [])) tight flag open_symbol g in
+          let inner = joint_lexes vars stopped a b ta tb la lb o f e true true (41 ∷ r) (closes ∷ ts) (inl refl) (before_close r) (no_symbol 41 plain_close w r) (close_bracket vars stopped true r ts h) in
+          let same : tight ≡ flag = agrees_same (40 ∷ (w ++ 41 ∷ [])) tight flag plain_open g in
           subst (λ (x : Bool). Lexes vars stopped tight ((40 ∷ (w ++ 41 ∷ [])) ++ r) (opens 0 x ∷ operands f o ta tb true (closes ∷ ts))) same
           (subst (λ (x : List ℕ). Lexes vars stopped tight (40 ∷ x) (opens 0 tight ∷ operands f o ta tb true (closes ∷ ts))) (sym (append_assoc w (41 ∷ []) r))
           (open_bracket vars stopped tight (w ++ 41 ∷ r) (operands f o ta tb true (closes ∷ ts)) inner))
@@ -152,7 +153,7 @@ module _ (vars : ℕ → List ℕ) (stopped : Bool) where
     rest = λ r ts h.
         subst (λ (w : List ℕ). Lexes vars stopped true (44 ∷ w) (comma 0 ∷ ta.at true 999 (tb.rest ts))) (sym (append_assoc (a.at 999) b.rest (93 ∷ r)))
         (comma_first vars stopped true (a.at 999 ++ (b.rest ++ 93 ∷ r)) (ta.at true 999 (tb.rest ts)) (element a b ta tb la lb r ts h));
-    behind = λ r. record { follows = before_comma ((a.at 999 ++ b.rest) ++ 93 ∷ r); apart = comma_symbol };
+    behind = λ r. record { follows = before_comma ((a.at 999 ++ b.rest) ++ 93 ∷ r); apart = plain_comma };
   }
 
   two_lexed : (f : Name) → Callable f → (a b : TermText) (ta tb : InTokens) → Lexed vars stopped a ta → Lexed vars stopped b tb → Lexed vars stopped (spelled_two Quoted f a b) (record { at = two_tokens f ta tb; rest = two_rest f ta tb })
@@ -208,8 +209,8 @@ module _ (vars : ℕ → List ℕ) (stopped : Bool) where
       rest r ts h false = (barred vars stopped (λ limit. atom_text Quoted a) (λ tight limit. atom_tokens a) (λ limit. atom_begins a u) (atom_at a u)).rest r ts h
 
       behind : (r : List ℕ) (b : Bool) → Behind (cond b [] (124 ∷ atom_text Quoted a) ++ 93 ∷ r)
-      behind r true = record { follows = before_list_end r; apart = list_symbol }
-      behind r false = record { follows = before_bar (atom_text Quoted a ++ 93 ∷ r); apart = bar_symbol }
+      behind r true = record { follows = before_list_end r; apart = plain_close_list }
+      behind r false = record { follows = before_bar (atom_text Quoted a ++ 93 ∷ r); apart = plain_bar }
 
   -- ---- all terms
 

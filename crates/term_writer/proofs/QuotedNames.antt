@@ -1,7 +1,6 @@
 -- Names in quotes, from their bytes to the names.
 use Rattle.std.proofs.Common.{◌≡◌, ◌∙◌, ℕ, suc, ◌+◌, ◌<◌, ◌≤◌, ◌⊎◌, inl, inr, List, [], ◌∷◌, ◌++◌, Bool, true, false, refl, sym, ap, arith, append_assoc, length, get_or, length-append}
 use Rattle.std.specs.Prelude.{◌==◌, nat_lt, IsUtf8}
-use Rattle.std.specs.Char.{len_utf8}
 use Rattle.std.specs.Fmt.{digits}
 use Rattle.std.specs.List.{list_all}
 use Rattle.std.specs.Str.{chars}
@@ -10,13 +9,12 @@ use Rattle.std.proofs.lemmas.List.{append-nil}
 use Rattle.std.proofs.lemmas.Str.{chars-append, chars-encodes, encodes-chars, scalars-chars, encodes-append, encode_ascii, inside_one, length-encode}
 use Rattle.std.proofs.Math.Utf8.{scalar, scalars, low_scalar}
 use lib.Utf8.{encode, encodes}
-use Rattle.unicode_ident.proofs.IdentLemmas.{is_xid_start-ascii}
 use Rattle.fd_language.specs.Term.{Name}
-use Rattle.fd_language.specs.Characters.{starts_with, is_symbol, is_punct, begins_variable, tail}
-use Rattle.fd_language.specs.Tokens.{Token, Quoted, Between, AfterQuote, quoted_front, quoted_spells, front_of, front_by, front_at, unquoted}
+use Rattle.fd_language.specs.Characters.{starts_with, tail}
+use Rattle.fd_language.specs.Tokens.{Token, Quoted, Between, quoted_spells, front_of, front_by, unquoted}
 use Rattle.fd_language.specs.Writing.{quoted_byte, quoted_bytes, quoted_name}
 use Rattle.term_writer.proofs.Quoting.{size, size-append, stands, all_front, all_spells}
-use Rattle.fd_language.proofs.Lemmas.{front_past}
+use Rattle.fd_language.proofs.Lemmas.{ends_here, quote_front}
 
 is_low : ℕ → Bool
 is_low b = nat_lt b 128
@@ -140,14 +138,6 @@ pub sizes : (cs : List ℕ) → size cs ≡ length (encodes cs)
 sizes [] = refl
 sizes (c ∷ cs) = omega (arith, sizes cs, length-append (encode c) (encodes cs), length-encode c)
 
-ends_quote : (m : ℕ) (ds : List ℕ) → starts_with 39 ds ≡ false → quoted_front AfterQuote m ds ≡ Token Quoted m
-ends_quote m [] h = refl
-ends_quote m (d ∷ ds) h = rw h (front_past m (m + len_utf8 d) ds)
-
-quote_front : (cs : List ℕ) → front_at 39 cs ≡ quoted_front Between 1 cs
-unfolding is_symbol is_punct begins_variable
-quote_front cs = rw (is_xid_start-ascii 39 (omega arith)) refl
-
 pub token_of : (a : Name) (r : List ℕ) → IsUtf8 a → starts_with 39 (chars r) ≡ false → front_of (quoted_name a ++ r) ≡ Token Quoted (length (quoted_name a))
 unfolding front_of spelled
 token_of a r u h =
@@ -156,5 +146,5 @@ token_of a r u h =
     chars-append (quoted_name a) r (quoted_utf8 a u) ∙ ap (λ (w : List ℕ). w ++ chars r) (quoted_chars a u) ∙ ap (λ (w : List ℕ). 39 ∷ w) (append_assoc inner (39 ∷ []) (chars r)) in
     let count : 1 + size inner + 1 ≡ length (quoted_name a) =
     omega (arith, size-append inner (39 ∷ []), sizes (39 ∷ (inner ++ 39 ∷ [])), ap length (spelled_bytes a u)) in
-    ap front_by whole ∙ quote_front (inner ++ 39 ∷ chars r) ∙ all_front (chars a) 1 (39 ∷ chars r) ∙ ends_quote (1 + size inner + 1) (chars r) h
+    ap front_by whole ∙ quote_front (inner ++ 39 ∷ chars r) ∙ all_front (chars a) 1 (39 ∷ chars r) ∙ ends_here (1 + size inner + 1) (chars r) h
     ∙ ap (λ (n : ℕ). Token Quoted n) count

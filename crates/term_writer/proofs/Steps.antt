@@ -26,15 +26,15 @@ pub record IsText (c : Contents) (mode : Mode) (vars : ℕ → List ℕ) (p : Pi
   pub light : piece_weight c p ≡ 1
   pub within : IsOf c p
 
-plain_open : is_symbol 40 ≡ false
+pub plain_open : is_symbol 40 ≡ false
 unfolding is_symbol
 plain_open = refl
 
-plain_close : is_symbol 41 ≡ false
+pub plain_close : is_symbol 41 ≡ false
 unfolding is_symbol
 plain_close = refl
 
-plain_comma : is_symbol 44 ≡ false
+pub plain_comma : is_symbol 44 ≡ false
 unfolding is_symbol
 plain_comma = refl
 
@@ -42,7 +42,7 @@ plain_open_list : is_symbol 91 ≡ false
 unfolding is_symbol
 plain_open_list = refl
 
-plain_close_list : is_symbol 93 ≡ false
+pub plain_close_list : is_symbol 93 ≡ false
 unfolding is_symbol
 plain_close_list = refl
 
@@ -50,11 +50,11 @@ plain_open_curly : is_symbol 123 ≡ false
 unfolding is_symbol
 plain_open_curly = refl
 
-plain_bar : is_symbol 124 ≡ false
+pub plain_bar : is_symbol 124 ≡ false
 unfolding is_symbol
 plain_bar = refl
 
-plain_close_curly : is_symbol 125 ≡ false
+pub plain_close_curly : is_symbol 125 ≡ false
 unfolding is_symbol
 plain_close_curly = refl
 

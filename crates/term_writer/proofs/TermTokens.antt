@@ -5,6 +5,7 @@ use Rattle.std.specs.Cmp.{second_so}
 use Rattle.std.specs.Str.{bytes_eq, chars}
 use Rattle.std.proofs.lemmas.Bool.{true≢false, and_right, false_from_ne_true, cases_Bool}
 use Rattle.std.proofs.lemmas.Slice.Eq.{bytes_eq-Decides}
+use Rattle.term_writer.proofs.Steps.{plain_close_list, plain_bar}
 use Rattle.unicode_ident.proofs.IdentLemmas.{is_xid_start-ascii}
 use Rattle.fd_language.specs.Term.{Name}
 use Rattle.fd_language.specs.Characters.{is_symbol}
@@ -37,30 +38,6 @@ apart_from w r h = and_right (ends_with_symbol w) (starts_with_symbol r) h
 pub no_symbol : (c : ℕ) → is_symbol c ≡ false → (w r : List ℕ) → Apart w (c ∷ r)
 no_symbol c h w r = apart_from w (c ∷ r) h
 
-pub close_symbol : is_symbol 41 ≡ false
-unfolding is_symbol
-close_symbol = refl
-
-pub open_symbol : is_symbol 40 ≡ false
-unfolding is_symbol
-open_symbol = refl
-
-pub list_symbol : is_symbol 93 ≡ false
-unfolding is_symbol
-list_symbol = refl
-
-pub curly_symbol : is_symbol 125 ≡ false
-unfolding is_symbol
-curly_symbol = refl
-
-pub comma_symbol : is_symbol 44 ≡ false
-unfolding is_symbol
-comma_symbol = refl
-
-pub bar_symbol : is_symbol 124 ≡ false
-unfolding is_symbol
-bar_symbol = refl
-
 -- the text r may follow a term, and begins with no symbol
 pub record Behind (r : List ℕ) : Type 0 where
   pub follows : Follows r
@@ -86,8 +63,8 @@ module _ (vars : ℕ → List ℕ) (stopped : Bool) where
   barred text tokens b h = record {
     begins = b;
     at = h;
-    rest = λ r ts l. bar_first vars stopped true (text 999 ++ 93 ∷ r) (tokens true 999 (close_list ∷ ts)) (h true true 999 (93 ∷ r) (close_list ∷ ts) (inl refl) (before_list_end r) (no_symbol 93 list_symbol (text 999) r) (list_closes vars stopped true r ts l));
-    behind = λ r. record { follows = before_bar (text 999 ++ 93 ∷ r); apart = bar_symbol };
+    rest = λ r ts l. bar_first vars stopped true (text 999 ++ 93 ∷ r) (tokens true 999 (close_list ∷ ts)) (h true true 999 (93 ∷ r) (close_list ∷ ts) (inl refl) (before_list_end r) (no_symbol 93 plain_close_list (text 999) r) (list_closes vars stopped true r ts l));
+    behind = λ r. record { follows = before_bar (text 999 ++ 93 ∷ r); apart = plain_bar };
   }
 
   -- the same tokens in other words

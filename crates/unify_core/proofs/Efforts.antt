@@ -5,13 +5,14 @@ use Rattle.std.proofs.Math.ListN.{length-set}
 use Rattle.std.proofs.lemmas.List.{reverse-append}
 use Rattle.std.proofs.lemmas.List.Sums.{count_by-le-length}
 use Rattle.std.proofs.Math.Nat.{mul-le-mul_left, mul-le-mul_right, mul-le-mul}
+use Rattle.term_pool.proofs.Lemmas.{size_above_zero}
 use Rattle.fd_language.specs.Term.{Term, Comp, apply}
 use Rattle.term_pool.specs.Terms.{size, sizes}
 use Rattle.heap_cells.specs.declared.Cell.{Cell}
 use Rattle.heap_cells.specs.Cells.{Cells, bound, is_bound, slot_at, with_slot}
 use Rattle.heap_cells.specs.Terms.{term_of, terms_by, one}
 use Rattle.heap_cells.specs.Valid.{bound_in}
-use Rattle.heap_cells.proofs.Lemmas.{size_positive, size_one, bound_more}
+use Rattle.heap_cells.proofs.Lemmas.{size_one, bound_more}
 use Rattle.unify_core.specs.declared.Pair.{Pair}
 use Rattle.unify_core.specs.Effort.{unnamed, weight, squared, effort}
 use Rattle.unify_core.specs.Outcome.{paired}
@@ -84,4 +85,4 @@ parts_lighter h ps p f g cs ds a b = lighter h (ps ++ p ∷ []) (ps ++ reverse (
     let r : size (term_of unnamed h p.right) ≡ 1 + sizes (terms_by (term_of unnamed h) ds) = ap size b in omega arith)
 
 pub less_lighter : (h : Cells) (ps : List Pair) (p : Pair) → effort h ps < effort h (ps ++ p ∷ [])
-less_lighter h ps p = lighter h (ps ++ p ∷ []) ps (let x = weight-append h ps (p ∷ []) in let a = size_positive (term_of unnamed h p.left) in omega arith)
+less_lighter h ps p = lighter h (ps ++ p ∷ []) ps (let x = weight-append h ps (p ∷ []) in let a = size_above_zero (term_of unnamed h p.left) in omega arith)

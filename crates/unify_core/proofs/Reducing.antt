@@ -4,6 +4,8 @@ use Rattle.std.specs.Prelude.{All, reverse}
 use Rattle.std.proofs.lemmas.Bool.{cases_eq}
 use Rattle.std.proofs.lemmas.List.{append-nil, get_or_append_left, reverse-append, reverse-reverse}
 use Rattle.std.proofs.lemmas.List.Elements.{All-append}
+use Rattle.fd_language.proofs.Lemmas.{apply_vars}
+use Rattle.term_pool.proofs.Lemmas.{size_above_zero}
 use Rattle.term_pool.specs.Terms.{size}
 use Rattle.term_pool.specs.declared.AtomId.{AtomId}
 use Rattle.fd_language.specs.Term.{Term, Terms, Var, Int, Atom, Comp, no_terms, term, Substitution, apply, apply_all}
@@ -15,7 +17,7 @@ use Rattle.heap_cells.specs.Cells.{Cells, Slot, Compound, free, linked, bound, i
 use Rattle.heap_cells.specs.Terms.{Naming, terms_by, within, depth, slot_term, term_of, one, after, occurs, Same}
 use Rattle.heap_cells.specs.Atoms.{IsAtomBelow, HasAtomsBelow}
 use Rattle.heap_cells.specs.Valid.{IsHeap}
-use Rattle.heap_cells.proofs.Lemmas.{unbound_term, term-Struct, bind_terms, of_same, after_is, same_apply, apply-Var, one_self, one_other, through_one, through_all, join_both, split_both, size_positive, head_of, tail_of, none_at_all, both_of, all_front, last_of, all_reverse, same_below, bound_below}
+use Rattle.heap_cells.proofs.Lemmas.{unbound_term, term-Struct, bind_terms, of_same, after_is, same_apply, one_self, one_other, through_one, through_all, join_both, split_both, head_of, tail_of, none_at_all, both_of, all_front, last_of, all_reverse, same_below, bound_below}
 use Rattle.unify_core.specs.declared.Pair.{Pair}
 use Rattle.unify_core.specs.declared.Touch.{Touch}
 use Rattle.unify_core.specs.Touches.{AreTouched, IsRefuted}
@@ -91,7 +93,7 @@ unifies_same r s e (q ∷ es) f = (sym (same_apply r s e q.left) ∙ f.0 ∙ sam
 pub reduces_none : (name : Naming) (h : Cells) (ps : List Pair) → Reduces name h ps h ps []
 reduces_none name h ps = record {
   new = Var;
-  terms = λ c. sym (apply-Var (term_of name h c));
+  terms = λ c. sym (apply_vars (term_of name h c));
   forth = λ u f. (λ x. refl, f);
   back = λ r f. f;
   cells = λ c l. l;
@@ -104,7 +106,7 @@ pub reduces_pair : (name : Naming) (h : Cells) (ps : List Pair) (p : Pair) (qs :
     → Reduces name h (ps ++ p ∷ []) h (ps ++ qs) []
 reduces_pair name h ps p qs there back = record {
   new = Var;
-  terms = λ c. sym (apply-Var (term_of name h c));
+  terms = λ c. sym (apply_vars (term_of name h c));
   forth = λ u f. (λ x. refl, let both = split_work u name h ps (p ∷ []) f in join_work u name h ps qs both.0 (there u both.1));
   back = λ r f. (let both = split_work r name h ps qs f in join_work r name h ps (p ∷ []) both.0 (back r both.1));
   cells = λ c l. l;
@@ -185,8 +187,8 @@ module _ (h : Cells) (valid : IsHeap h) (v : ℕ) (to : Cell) (there : v < lengt
   small = go says
     where
       go : Says h p v to → size (term_of unnamed h to) < weight h (p ∷ [])
-      go (inl s) = let a : size (term_of unnamed h p.right) ≡ size (term_of unnamed h to) = ap size (s.1 unnamed) in let b = size_positive (term_of unnamed h p.left) in omega arith
-      go (inr s) = let a : size (term_of unnamed h p.left) ≡ size (term_of unnamed h to) = ap size (s.1 unnamed) in let b = size_positive (term_of unnamed h p.right) in omega arith
+      go (inl s) = let a : size (term_of unnamed h p.right) ≡ size (term_of unnamed h to) = ap size (s.1 unnamed) in let b = size_above_zero (term_of unnamed h p.left) in omega arith
+      go (inr s) = let a : size (term_of unnamed h p.left) ≡ size (term_of unnamed h to) = ap size (s.1 unnamed) in let b = size_above_zero (term_of unnamed h p.right) in omega arith
 
   pub done_bind : (ps : List Pair) (before ts more : List Touch) → ts ≡ before ++ more → ((name : Naming) → AreTouched h now (one v (term_of name h to)) more) → IsDone h (ps ++ p ∷ []) before now ps ts
   done_bind ps before ts more e touches = record {
@@ -298,7 +300,7 @@ pub unified : (name : Naming) (old last : Cells) (a b : Cell) (ts : List Touch) 
 unified name old last a b ts r = record {
   unifier = r.new;
   general = record {
-    unifies = unifies_same (after Var r.new) r.new (λ x. apply-Var (r.new x)) (cells_equal name old a b) (r.back Var tt);
+    unifies = unifies_same (after Var r.new) r.new (λ x. apply_vars (r.new x)) (cells_equal name old a b) (r.back Var tt);
     general = λ u x f. (r.forth u f).0 x;
   };
   terms = r.terms;

@@ -1,16 +1,15 @@
 -- Steps without a reduction come to an end.
 use Rattle.std.proofs.Common.{◌≡◌, ℕ, zero, suc, ◌+◌, ◌*◌, ◌<◌, ◌≤◌, List, ◌∷◌, arith}
-use Rattle.std.proofs.lemmas.Nat.{mul-le}
 use Rattle.std.proofs.Math.Nat.{mul-le-mul_right}
 use Rattle.wam_code.specs.Ending.{weight, return_work, Thread, work}
 
-weight_up : (d e : ℕ) → d ≤ e → weight d ≤ weight e
+pub weight_up : (d e : ℕ) → d ≤ e → weight d ≤ weight e
 weight_up zero zero l = omega arith
 weight_up zero (suc e) l = let w = weight_up zero e (omega arith) in omega (arith, w)
 weight_up (suc d) zero l = absurd (omega (arith, l))
 weight_up (suc d) (suc e) l = let w = weight_up d e (omega (arith, l)) in omega (arith, w)
 
-weight_some : (d : ℕ) → 1 ≤ weight d
+pub weight_some : (d : ℕ) → 1 ≤ weight d
 weight_some d = weight_up zero d (omega arith)
 
 times_split : (a b k : ℕ) → suc (a + b) * k ≡ a * k + b * k + k

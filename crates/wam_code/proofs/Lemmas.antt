@@ -1,10 +1,10 @@
 -- The lemmas that other crates may cite, by their subjects. All else in proofs/ is this crate's own.
 -- Steps without a reduction come to an end.
-pub use Rattle.wam_code.proofs.Ending.{back_falls, fork_falls, proceed_falls, step_falls}
+pub use Rattle.wam_code.proofs.Ending.{back_falls, fork_falls, proceed_falls, step_falls, weight_up, weight_some}
 -- What a place needs is there, and what it hands on covers the next place's state.
 pub use Rattle.wam_code.proofs.Keeping.{covers_self}
 -- Where code is reached from: queries keep to themselves, and places lie ahead.
-pub use Rattle.wam_code.proofs.Reaching.{entry_covered, entry_outside, executes_outside, falls_inside, falls_nearer, falls_outside, names_nearer, names_outside, no_answer_outside, returns_outside, shown_are_cells}
+pub use Rattle.wam_code.proofs.Reaching.{entry_covered, entry_outside, executes_outside, falls_inside, falls_nearer, falls_outside, names_nearer, names_outside, no_answer_outside, returns_outside, shown_are_cells, set_below, same_code}
 -- Equations that are restated, beside those that are made already.
 pub use Rattle.wam_code.proofs.Restating.{still_says_same}
 -- Places and rules without the bound.

@@ -12,7 +12,7 @@ use Rattle.wam_code.specs.Effect.{are_set, slot_at, is_cell}
 use Rattle.wam_code.specs.Verified.{Names, Falls, Covers, HandedTo, IsIn, IsQuery, IsVerifiedBy, goes_on}
 use Rattle.wam_code.specs.Reaching.{IsOutside, distance, begun}
 
-same_code : (a : Area) (at : ℕ) (i j : Code) → Holds a at i → Holds a at j → i ≡ j
+pub same_code : (a : Area) (at : ℕ) (i j : Code) → Holds a at i → Holds a at j → i ≡ j
 same_code a at i j f g = let e : Some i ≡ Some j = sym f ∙ g in cc
 
 -- ---- queries
@@ -66,7 +66,7 @@ shown_are_cells a ss v n at q h b f s actual g c k low high =
 
 -- ---- the first states
 
-set_below : (rs : List ℕ) (k n : ℕ) → are_set rs k ≡ true → 1 ≤ n → n ≤ k → has rs n ≡ true
+pub set_below : (rs : List ℕ) (k n : ℕ) → are_set rs k ≡ true → 1 ≤ n → n ≤ k → has rs n ≡ true
 set_below rs zero n h low high = absurd (omega (arith, low, high))
 set_below rs (suc k) n h low high = by (has rs (suc k)) refl h (λ g l. set_below rs k n g low l)
   where

@@ -3,6 +3,7 @@ use Rattle.std.specs.Ordering.{int_eq}
 use Rattle.std.proofs.Common.{◌≡◌, ◌∙◌, ◌<◌, ℕ, ℤ, List, Option, None, [], length, take, get_or, ap, sym, subst, arith}
 use Rattle.std.proofs.lemmas.List.{length-map, take_all}
 use Rattle.std.proofs.lemmas.List.Elements.{All-get_or}
+use Rattle.branch_state.proofs.Arguments.{none_both}
 use Rattle.fd_language.specs.declared.range_node.Need.{Need}
 use Rattle.heap_cells.specs.declared.Cell.TheVariants.{Ref}
 use Rattle.heap_cells.specs.Cells.{IsOf}
@@ -14,7 +15,7 @@ use Rattle.unify_core.specs.Effort.{unnamed}
 use Rattle.branch_state.specs.CellNaming.{shown_as, shown_slots, slots_open, NamedBy, TermStep, SlotStep, AreCellsReady}
 use Rattle.branch_state.specs.Naming.{offence, first_in, with_sets}
 use Rattle.branch_state.proofs.CellsReady.{cell_shown, cells_start, cells_more}
-use Rattle.branch_state.proofs.Looking.{can_name, none_first}
+use Rattle.branch_state.proofs.Looking.{can_name}
 use Rattle.branch_state.proofs.Preparing.{fine_at}
 use Rattle.branch_state.proofs.TermNaming.{still_of, still_shown}
 use Rattle.branch_state.proofs.cells.prepare_cells.Goals as goal
@@ -23,7 +24,7 @@ pub name_term-requires : goal.name_term-requires
 name_term-requires g c =
     let t = c.requires.looks.0 in
     let see = shown_slots unnamed c.args.heap.now.now c.args.store.now.current.sets c.args.code.now c.args.cells.now in
-    let fine = none_first (offence None t) (first_in see (slots_of c.args.code.now) (slot_needs c.args.code.now)) (c.requires.fine unnamed t c.requires.looks.1) in
+    let fine = none_both (offence None t) (first_in see (slots_of c.args.code.now) (slot_needs c.args.code.now)) (c.requires.fine unnamed t c.requires.looks.1) in
     can_name c.args.heap.now.now t c.args.target None c.requires.looks.1 fine.0
 
 pub loop-index-init : goal.loop-index-init
@@ -72,7 +73,7 @@ slot_argument-requires-clause-fine g c = λ name.
     let t = c.requires.looks.0 in
     let see = shown_slots name h S c.args.code.now c.args.cells.now in
     let r = c.loop-index.invariant.ready name t c.requires.looks.1 in
-    let fine = none_first (offence None t) (first_in see slots needs) (c.requires.fine name t c.requires.looks.1) in
+    let fine = none_both (offence None t) (first_in see slots needs) (c.requires.fine name t c.requires.looks.1) in
     let shown = still_shown h S (NamedBy t (shown_slots name h S c.args.code.now c.args.cells.now) (slots_open (take i slots) (take i needs))) c.loop-index.heap.now c.loop-index.store.current.sets c.loop-index.numbers.told.items (get int_eq c.loop-index.numbers.variables) r.naming cell there name ∙ sym (cell_shown name h S c.args.code.now c.args.cells.now (Ref 0) c.requires.counted i k) in
     subst (λ (xs : List (Option Need)). offence (get_or xs i None) (shown_as name c.loop-index.heap.now c.loop-index.store.current.sets cell) ≡ None) (sym c.needs-needs.ensures)
     (ap (offence (get_or needs i None)) shown ∙ fine_at see slots needs i 0 None k l fine.1)
@@ -93,7 +94,7 @@ loop-index-preserved g c = record {
       let there : IsOf h cell = All-get_or (IsOf h) c.args.cells.now i (Ref 0) (let e = c.requires.counted in omega (arith, e, k)) c.requires.cells in
       let see = shown_slots name h S c.args.code.now c.args.cells.now in
       let r = c.loop-index.invariant.ready name t looks in
-      let fine = none_first (offence None t) (first_in see slots needs) (c.requires.fine name t looks) in
+      let fine = none_both (offence None t) (first_in see slots needs) (c.requires.fine name t looks) in
       let shown = still_shown h S (NamedBy t (shown_slots name h S c.args.code.now c.args.cells.now) (slots_open (take i slots) (take i needs))) c.loop-index.heap.now c.loop-index.store.current.sets c.loop-index.numbers.told.items (get int_eq c.loop-index.numbers.variables) r.naming cell there name ∙ sym (cell_shown name h S c.args.code.now c.args.cells.now (Ref 0) c.requires.counted i k) in
       let first = subst (λ (xs : List (Option Need)). SlotStep (shown_as name c.loop-index.heap.now c.loop-index.store.current.sets cell) (get_or xs i None) c.loop-index.heap.now c.loop-index.store.current.sets c.loop-index.numbers.told.items (get int_eq c.loop-index.numbers.variables) c.slot_argument.new.heap.now c.slot_argument.new.store.current.sets c.slot_argument.new.numbers.told.items (get int_eq c.slot_argument.new.numbers.variables) c.in_ok-arg.arg) c.needs-needs.ensures (c.in_ok-arg.ensures.step name) in
       let step = subst (λ u. SlotStep u (get_or needs i None) c.loop-index.heap.now c.loop-index.store.current.sets c.loop-index.numbers.told.items (get int_eq c.loop-index.numbers.variables) c.slot_argument.new.heap.now c.slot_argument.new.store.current.sets c.slot_argument.new.numbers.told.items (get int_eq c.slot_argument.new.numbers.variables) c.in_ok-arg.arg) shown first in

@@ -1,6 +1,6 @@
 use Rattle.std.proofs.Common.{◌∙◌, ap, length}
+use Rattle.clause_code.proofs.Filling.{marked_long}
 use Rattle.clause_code.proofs.Rests.{fills_next, filled_next}
-use Rattle.clause_code.proofs.Writing.{marked_long}
 use Rattle.clause_code.proofs.terms.fill_all.Goals as goal
 
 pub loop-x-preserved : goal.loop-x-preserved
