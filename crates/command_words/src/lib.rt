@@ -137,6 +137,3 @@ pub fn read_words(alloc: Global, words: &[String]) -> Result<Options, WordsFault
     let matches = command(alloc)?.try_get_matches_from(words)?;
     Ok(found_options(&matches))
 }
-
-#[cfg(test)]
-mod tests;

@@ -435,6 +435,3 @@ fn restore(cells: &mut Vec<Cell>, saved: &mut Vec<Saved>, from: usize)
         cells[entry.var] = entry.cell;
     }
 }
-
-#[cfg(test)]
-mod tests;

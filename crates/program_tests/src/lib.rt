@@ -1,7 +1,9 @@
-//! Tables of texts, each with all that a run writes for it.
+//! Tables of texts, each with all that a run writes for it, and of words, with what they ask for.
 #![tactic(auto)]
 
 #[cfg(test)]
 mod runs;
 #[cfg(test)]
 mod same;
+#[cfg(test)]
+mod words;

@@ -9,3 +9,5 @@ mod range_codes;
 mod same;
 #[cfg(test)]
 mod stores;
+#[cfg(test)]
+mod trails;

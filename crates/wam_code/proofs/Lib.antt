@@ -6,5 +6,4 @@ pub mod Keeping
 pub mod Ending
 pub mod Reaching
 pub mod Examples
-pub mod Shortest
 pub mod Lemmas

@@ -11,6 +11,3 @@ mod rising;
 pub use crate::area::CodeArea;
 pub use crate::instruction::{Code, Instr, Key, Register};
 pub use crate::parts::{CodeParts, Entry, QueryEntry};
-
-#[cfg(test)]
-mod tests;

@@ -1,5 +1,6 @@
-// Words that are accepted, and words that aren't.
-use crate::{AgendaName, Options, USUAL, WordsFault, read_words};
+//! Words that are accepted, and words that aren't.
+
+use command_words::{AgendaName, Options, WordsFault, read_words};
 use std::alloc::Global;
 use std::test::Fail;
 
@@ -20,8 +21,14 @@ fn options_in_any_order(rt: HostRuntime) -> Result<(), Fail> {
         agenda: AgendaName::Cheapest,
         generate: Some(4),
     };
+    let none = Options {
+        steps: 1_000_000,
+        answers: None,
+        agenda: AgendaName::Fifo,
+        generate: None,
+    };
     let lines = [
-        ("", USUAL),
+        ("", none),
         (
             "--gen 4 --steps 10 --answers 1000000000000 --agenda cheapest",
             all,

@@ -1,5 +1,5 @@
-use Rattle.wam_code.proofs.Shortest.{shortest_verified}
-use Rattle.wam_code.proofs.tests.answer.Goals as goal
+use Rattle.compiler_tests.proofs.Shortest.{shortest_verified}
+use Rattle.compiler_tests.proofs.shortest.answer.Goals as goal
 
 pub from_verified-requires : goal.from_verified-requires
 from_verified-requires c =

@@ -1,8 +1,9 @@
 //! The shortest code: a query that is answered at once.
-use crate::{Code, CodeArea, CodeParts, Instr, QueryEntry};
+
 use std::alloc::Global;
 use std::test::Fail;
 use term_pool::Pool;
+use wam_code::{Code, CodeArea, CodeParts, Instr, QueryEntry};
 
 fn answer(alloc: Global) -> Result<CodeArea, Fail> {
     let pool = Pool::new(alloc)?;
