@@ -74,7 +74,6 @@ first_place (x ∷ xs) y d h = elim (cases_Bool (nat_eq y x)) [
       let k = first_place xs y d (later x y xs e h) in
       (subst (λ n. n < suc (length xs)) (sym i) (let l = k.0 in omega (arith, l)), ap (λ n. get_or (x ∷ xs) n d) i ∙ k.1)
 ] where
-
   later : (x y : ℕ) (xs : List ℕ) → nat_eq y x ≡ false → ((x == y) || has xs y) ≡ true → has xs y ≡ true
   later x y xs e h = elim (or_cases (x == y) (has xs y) h) [ inl i ↦ absurd (true≢false (sym (eq-eqb y x (sym (eqb-true x y i))) ∙ e)) | inr i ↦ i ]
 

@@ -71,7 +71,6 @@ module _ (link last : ℕ → Option ℕ) (g : ℕ → ℕ) (keep : (c k : ℕ) 
       ]
     ]
   ] where
-
     renamed : (k : ℕ) → has (constrained (rename_indexical g p ∷ [])) k ≡ true → (d : ℕ) × (has (names p) d ≡ true) × (g d ≡ k)
     renamed k e = map_has g (names p) k (subst (λ l. has l k ≡ true) (append-nil (names (rename_indexical g p)) ∙ ap (λ l. g p.target ∷ l) (reads_map g p.range)) e)
 

@@ -87,7 +87,6 @@ plain_slots r one =
 apart_filter : (p : ℕ → Bool) (xs : List ℕ) → Apart xs → Apart (filter p xs)
 apart_filter p [] h = tt
 apart_filter p (x ∷ xs) h = by_test (p x) (apart_filter p xs h.1) where
-
   by_test : (b : Bool) → Apart (filter p xs) → Apart (cond b (x ∷ filter p xs) (filter p xs))
   by_test true k = (has_kept p xs x ∙ and_left (has xs x) (p x) h.0, k)
   by_test false k = k

@@ -1,6 +1,6 @@
-pub mod Spelling
-pub mod Settled
-pub mod Sound
+mod Spelling
+mod Settled
+mod Sound
 mod Compounds
 mod Constraining
 mod ConstrainingRows
@@ -10,7 +10,7 @@ mod ConstrainingLinks
 mod Listed
 mod ConstrainingPosts
 mod ConstrainingStates
-pub mod Touches
+mod Touches
 mod Lists
 mod Places
 mod Gathering

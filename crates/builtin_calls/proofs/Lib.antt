@@ -1,4 +1,4 @@
-pub mod Showing
-pub mod Remainders
-pub mod Evaluating
-pub mod Comparing
+mod Showing
+mod Remainders
+mod Evaluating
+mod Comparing

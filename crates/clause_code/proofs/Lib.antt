@@ -1,32 +1,32 @@
-pub mod Pieces
-pub mod MoreRegisters
-pub mod Restating
-pub mod Trying
-pub mod Laying
-pub mod Examples
-pub mod Homes
-pub mod Making
-pub mod Numbers
-pub mod Going
-pub mod Sparing
-pub mod Stepping
-pub mod Building
-pub mod Flowing
-pub mod Filling
-pub mod Bodies
-pub mod GoalKinds
-pub mod SameGoals
-pub mod Clauses
-pub mod Writing
-pub mod Rests
-pub mod Suiting
-pub mod Loading
-pub mod Simples
-pub mod Assembling
-pub mod Gathering
-pub mod Ending
-pub mod Asking
-pub mod Sides
-pub mod Finding
-pub mod Short
+mod Pieces
+mod MoreRegisters
+mod Restating
+mod Trying
+mod Laying
+mod Examples
+mod Homes
+mod Making
+mod Numbers
+mod Going
+mod Sparing
+mod Stepping
+mod Building
+mod Flowing
+mod Filling
+mod Bodies
+mod GoalKinds
+mod SameGoals
+mod Clauses
+mod Writing
+mod Rests
+mod Suiting
+mod Loading
+mod Simples
+mod Assembling
+mod Gathering
+mod Ending
+mod Asking
+mod Sides
+mod Finding
+mod Short
 pub mod Lemmas

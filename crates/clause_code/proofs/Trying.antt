@@ -9,7 +9,6 @@ use Rattle.clause_code.specs.Pieces.{Stand}
 use Rattle.clause_code.specs.Trying.{EachTries, rest_of_list, list_of}
 
 module _ (area : Area) (s : Shape) where
-
   rest_tries : (ls : List ℕ) (cs : List Clause) (at : ℕ) → EachTries area s ls cs → Stand area at (rest_of_list ls) → Tries area s at cs
   rest_tries [] [] at e h = try_from_rule area s FailNow at [] h.0 refl
   rest_tries [] (c ∷ cs) at e h = absurd e

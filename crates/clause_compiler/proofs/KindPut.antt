@@ -104,7 +104,6 @@ list_put p tables k ns old new untold e ss at here some = (
   record { kind_at = inl (untold, (length ss + 0, (let z : 0 < length ss + 0 = omega (arith, some) in z), (let o = offset_behind ss (listing (kind_numbers p k ns) ∷ []) 0 in omega (arith, here, o)), get_right ss (listing (kind_numbers p k ns) ∷ []) 0)); behind = behind },
 )
   where
-
     behind : (j : ℕ) (x : Segment) → slice_get (listing (kind_numbers p k ns) ∷ []) j ≡ Some x → IsBehind p tables ns at (ss ++ listing (kind_numbers p k ns) ∷ []) (length ss + j) x
     behind zero x f = let s : listing (kind_numbers p k ns) ≡ x = cc in subst (IsBehind p tables ns at (ss ++ listing (kind_numbers p k ns) ∷ []) (length ss + 0)) s (among_sifted (λ n. may_be k (key_of p n)) ns)
     behind (suc j) x f = absurd cc

@@ -1,28 +1,28 @@
-pub mod Assembling
-pub mod First
-pub mod Fitting
-pub mod Grouping
-pub mod KeyShapes
-pub mod Keying
-pub mod KindPut
-pub mod ListCode
-pub mod Listing
-pub mod Lists
-pub mod Numbering
-pub mod Placing
-pub mod Putting
-pub mod Regions
-pub mod Rising
-pub mod Rows
-pub mod Segments
-pub mod Sifting
-pub mod Sorts
-pub mod Spots
-pub mod Standing
-pub mod SwitchPut
-pub mod Switched
-pub mod Switches
-pub mod TablesGrowing
-pub mod Trying
-pub mod Vectors
-pub mod Verifying
+mod Assembling
+mod First
+mod Fitting
+mod Grouping
+mod KeyShapes
+mod Keying
+mod KindPut
+mod ListCode
+mod Listing
+mod Lists
+mod Numbering
+mod Placing
+mod Putting
+mod Regions
+mod Rising
+mod Rows
+mod Segments
+mod Sifting
+mod Sorts
+mod Spots
+mod Standing
+mod SwitchPut
+mod Switched
+mod Switches
+mod TablesGrowing
+mod Trying
+mod Vectors
+mod Verifying

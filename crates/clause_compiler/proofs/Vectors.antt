@@ -9,7 +9,6 @@ same_at f g xs ys n x y e h is =
     ap f is ∙ sym (get_or-map f xs n x (f x) (omega (arith, h, long))) ∙ ap (λ zs. get_or zs n (f x)) e ∙ get_or-map g ys n y (f x) h
 
 module _ {X : Type 0} (f : X → X) where
-
   change_next : (xs : List X) (i : ℕ) (d : X) → i < length xs → set (map f (take i xs) ++ drop i xs) i (f (get_or xs i d)) ≡ map f (take (suc i) xs) ++ drop (suc i) xs
   change_next [] i d h = absurd (omega (arith, h))
   change_next (x ∷ xs) zero d h = refl

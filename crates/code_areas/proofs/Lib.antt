@@ -1,4 +1,4 @@
-pub mod Levels
-pub mod Moving
-pub mod Fields
-pub mod Copying
+mod Levels
+mod Moving
+mod Fields
+mod Copying

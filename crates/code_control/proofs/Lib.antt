@@ -1,9 +1,9 @@
-pub mod Threads
-pub mod Queries
-pub mod Working
-pub mod Stages
-pub mod Deciding
-pub mod Rising
-pub mod Needless
-pub mod Skipping
-pub mod Leading
+mod Threads
+mod Queries
+mod Working
+mod Stages
+mod Deciding
+mod Rising
+mod Needless
+mod Skipping
+mod Leading

@@ -1,11 +1,11 @@
-pub mod Tasks
-pub mod Moving
-pub mod Safe
-pub mod Texts
-pub mod Numbers
-pub mod BuiltinGoals
-pub mod Constraining
-pub mod Posting
-pub mod Labelling
-pub mod Answering
+mod Tasks
+mod Moving
+mod Safe
+mod Texts
+mod Numbers
+mod BuiltinGoals
+mod Constraining
+mod Posting
+mod Labelling
+mod Answering
 pub mod Lemmas

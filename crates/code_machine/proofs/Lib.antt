@@ -1,8 +1,8 @@
-pub mod Labelling
-pub mod Moving
-pub mod Working
-pub mod Taking
-pub mod Returning
-pub mod Running
-pub mod Stepping
-pub mod Starting
+mod Labelling
+mod Moving
+mod Working
+mod Taking
+mod Returning
+mod Running
+mod Stepping
+mod Starting

@@ -367,7 +367,6 @@ module _ (area : Area) (query : ℕ) (s s' : branch.State) (at : ℕ) (c c' : Co
 -- ---- an end that takes no reduction
 
 module _ (area : Area) (query : ℕ) (s : branch.State) (c : Contents) (ls : List Label) (k : Option ℕ) (spent : ℕ) where
-
   pub budget_says : (at : ℕ) (i : Code) → Rattle.code_steps.proofs.Goals.TakesGoal i → Holds area at i → IsMachine (seen area query s c ls (Going at) 0 k spent) → Says (seen area query s c ls (Going at) 0 k spent) event.Budget (seen area query s c ls (Ended ending.Budget) 0 k spent)
   budget_says at i takes holds m =
       ends_says (seen area query s c ls (Going at) 0 k spent) ending.Budget s c ls 0 k spent refl refl refl

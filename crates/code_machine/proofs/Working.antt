@@ -57,7 +57,6 @@ module _ (area : Area) where
   less_most w x l = let m = most_is (suc x) in omega (arith, l, m)
 
   module _ (at : ℕ) (c : Contents) where
-
     -- some place
     pub goal_most : (ls : List Label) (to : ℕ) → whole_at area to c ls ≤ most area * suc (whole_at area at c ls)
     goal_most ls to =

@@ -1,8 +1,8 @@
-pub mod Equal
-pub mod Safety
-pub mod Standing
-pub mod Stages
-pub mod Starting
-pub mod Queries
-pub mod Left
+mod Equal
+mod Safety
+mod Standing
+mod Stages
+mod Starting
+mod Queries
+mod Left
 pub mod Lemmas

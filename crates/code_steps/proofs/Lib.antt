@@ -1,30 +1,30 @@
-pub mod Shown
-pub mod Making
-pub mod Settling
-pub mod Stepping
-pub mod Entering
-pub mod Trying
-pub mod Taking
-pub mod Leaving
-pub mod Ghosts
-pub mod Opening
-pub mod ReadMode
-pub mod WriteMode
-pub mod Built
-pub mod Running
-pub mod Readying
-pub mod Goals
-pub mod Calling
-pub mod Answering
-pub mod Arguments
-pub mod Constraining
-pub mod Finding
-pub mod Labelling
-pub mod Writing
-pub mod Starting
-pub mod Choosing
-pub mod Posting
-pub mod Agreeing
-pub mod Numbering
-pub mod Ranging
+mod Shown
+mod Making
+mod Settling
+mod Stepping
+mod Entering
+mod Trying
+mod Taking
+mod Leaving
+mod Ghosts
+mod Opening
+mod ReadMode
+mod WriteMode
+mod Built
+mod Running
+mod Readying
+mod Goals
+mod Calling
+mod Answering
+mod Arguments
+mod Constraining
+mod Finding
+mod Labelling
+mod Writing
+mod Starting
+mod Choosing
+mod Posting
+mod Agreeing
+mod Numbering
+mod Ranging
 pub mod Lemmas

@@ -33,7 +33,7 @@ module _ (M : ℕ) (name : Naming) (h : Cells) (qs : List Indexical) (returns : 
   abbrev Makes : Registers → Places → List Equation → Type 0
   Makes c p todo = IsMade M name h qs c returns stack b p todo
 
-  -- and the slots
+  -- the slots may be anything, where none is known
   pub made_no_slots : (c c' : Registers) (p : Places) (todo : List Equation) → AreSame c.x c'.x → Makes c p todo → Makes c' (no_slots p) todo
   made_no_slots c c' p todo same m = record {
     done = m.done;

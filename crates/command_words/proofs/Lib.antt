@@ -1,4 +1,4 @@
-pub mod Pairs
-pub mod Numbers
-pub mod Law
+mod Pairs
+mod Numbers
+mod Law
 pub mod Lemmas

@@ -1,1 +1,1 @@
-pub mod Shortest
+mod Shortest

@@ -33,7 +33,6 @@ sound_accepted : (M : ℕ) (r : Range) → IsSound M r → IsTrue (is_accepted M
 sound_accepted M r s = let a = s.within in let b = s.fits in let c = s.params in rw (a, b, c) refl
 
 module _ (M : ℕ) (small : M < 2 ^ 24) where
-
   zero_factor : not (factor_over_limit M 0) ≡ true
   zero_factor = none (M * 0) (omega arith) where
     none : (n : ℕ) → n ≡ 0 → not (over_limit n || nat_lt (2 ^ 98) 0) ≡ true

@@ -14,4 +14,5 @@ pub use Rattle.domain_ranges.proofs.Leaving.{none_but}
 pub use Rattle.domain_ranges.proofs.Meeting.{below_first}
 -- The numbers of a list of intervals.
 pub use Rattle.domain_ranges.proofs.Members.{filter_inside, has_within, least_is, members_rising, has_append, up_append, length_up}
+
 -- The loop of a list of intervals that are moved by an integer.

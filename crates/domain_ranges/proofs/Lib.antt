@@ -1,23 +1,23 @@
-pub mod Spans
-pub mod Members
-pub mod Made
-pub mod Meeting
-pub mod Integers
-pub mod Joining
-pub mod Outcomes
-pub mod Ends
-pub mod Parts
-pub mod Places
-pub mod Gaps
-pub mod Cutting
-pub mod Excluding
-pub mod Leaving
-pub mod Parting
-pub mod Dividing
-pub mod Shifting
-pub mod Scaling
-pub mod Images
-pub mod Union
-pub mod Inside
-pub mod Stacking
+mod Spans
+mod Members
+mod Made
+mod Meeting
+mod Integers
+mod Joining
+mod Outcomes
+mod Ends
+mod Parts
+mod Places
+mod Gaps
+mod Cutting
+mod Excluding
+mod Leaving
+mod Parting
+mod Dividing
+mod Shifting
+mod Scaling
+mod Images
+mod Union
+mod Inside
+mod Stacking
 pub mod Lemmas

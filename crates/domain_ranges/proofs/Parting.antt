@@ -137,7 +137,6 @@ pub place_of : (high i n : ℕ) (ss qs : List Span) → qs ≡ ss → IsSpans 0 
 place_of high i n ss qs e r before after l m =
     subst (λ (q : List Span). ((k : ℕ) (d : Span) → k < i → (get_or q k d).1 < n) → ((k : ℕ) (d : Span) → i ≤ k → k < length q → n ≤ (get_or q k d).1) → i ≤ length q → (i < length ss) × ((get_or ss i (0, 0)).0 ≤ n) × (n ≤ (get_or ss i (0, 0)).1)) (sym e) found before after l
   where
-
     found : ((k : ℕ) (d : Span) → k < i → (get_or ss k d).1 < n) → ((k : ℕ) (d : Span) → i ≤ k → k < length ss → n ≤ (get_or ss k d).1) → i ≤ length ss → (i < length ss) × ((get_or ss i (0, 0)).0 ≤ n) × (n ≤ (get_or ss i (0, 0)).1)
     found f g h = elim (cases_lt i (length ss)) [
       | inl b ↦ let up = g i (0, 0) (omega arith) b in (b, leb-true (get_or ss i (0, 0)).0 n (sym (there high i n ss r f b up) ∙ m), up)

@@ -1,30 +1,30 @@
 pub mod Lemmas
-pub mod Sets
-pub mod Lists
-pub mod Leaves
-pub mod RangePlaces
-pub mod AskedParameters
-pub mod GreatestFamily
-pub mod Arithmetic
-pub mod PartNeeds
-pub mod Directions
-pub mod Monotone
-pub mod Solving
-pub mod RangeRenaming
-pub mod Fitting
+mod Sets
+mod Lists
+mod Leaves
+mod RangePlaces
+mod AskedParameters
+mod GreatestFamily
+mod Arithmetic
+mod PartNeeds
+mod Directions
+mod Monotone
+mod Solving
+mod RangeRenaming
+mod Fitting
 mod OperatorTable
-pub mod OperatorLaws
-pub mod ReadingWhole
-pub mod GrammarVerdict
-pub mod TokenLaws
-pub mod QuotedAtoms
-pub mod TokenSlices
-pub mod ReadingLaws
-pub mod SentenceVariables
-pub mod SpelledNodes
-pub mod FirstOffence
-pub mod NoOffences
-pub mod Uses
-pub mod VerdictLaw
-pub mod Limits
-pub mod Substituting
+mod OperatorLaws
+mod ReadingWhole
+mod GrammarVerdict
+mod TokenLaws
+mod QuotedAtoms
+mod TokenSlices
+mod ReadingLaws
+mod SentenceVariables
+mod SpelledNodes
+mod FirstOffence
+mod NoOffences
+mod Uses
+mod VerdictLaw
+mod Limits
+mod Substituting

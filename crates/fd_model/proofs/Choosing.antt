@@ -40,7 +40,6 @@ module _ (M : ℕ) (b : Assignment) (small : (v : ℕ) → b v ≤ M) where
       (λ h. let k = some_from M (λ e. in_range M (singles b) r e && int_eq (pos e *ℤ pos 0) (pos v)) h in
       there k.0 k.2)
       (λ h. some_to M (λ e. in_range M (singles b) r e && int_eq (pos e *ℤ pos 0) (pos v)) (b y) (small y) (subst (λ z. (in_range M (singles b) r (b y) && int_eq z (pos v)) ≡ true) (sym (product_zero (b y))) h)) where
-
         there : (e : ℕ) → (in_range M (singles b) r e && int_eq (pos e *ℤ pos 0) (pos v)) ≡ true → (in_range M (singles b) r (b y) && int_eq (pos 0) (pos v)) ≡ true
         there e h =
             let o : e ≡ b y = only e (first_so (in_range M (singles b) r e) _ h) in

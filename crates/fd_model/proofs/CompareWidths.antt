@@ -29,7 +29,6 @@ integer_size z h = grind arith
 nonzero_integers : (ts : List (ℕ × ℤ)) → list_all (λ t. in_integers t.1) ts ≡ true → AreIntegers (nonzero ts)
 nonzero_integers [] h = tt
 nonzero_integers (t ∷ ts) h = by_test (int_eq t.1 (pos 0)) t (nonzero ts) (integer_size t.1 (first_so (in_integers t.1) _ h)) (nonzero_integers ts (second_so (in_integers t.1) _ h)) where
-
   by_test : (c : Bool) (t : ℕ × ℤ) (us : List (ℕ × ℤ)) → nat_abs t.1 < 2 ^ 63 → AreIntegers us → AreIntegers (cond c us (t ∷ us))
   by_test true t us s h = h
   by_test false t us s h = (s, h)

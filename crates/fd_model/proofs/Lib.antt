@@ -1,70 +1,70 @@
 pub mod Lemmas
-pub mod Closing
-pub mod Orders
-pub mod Constants
-pub mod Canonical
-pub mod Unique
-pub mod Accepting
-pub mod Findings
-pub mod Existence
-pub mod Texts
-pub mod Integers
-pub mod Sums
-pub mod Collecting
-pub mod NormalForms
-pub mod Rows
-pub mod Singles
-pub mod LinearForms
-pub mod Comparing
-pub mod RowWidths
-pub mod CompareWidths
-pub mod Determining
-pub mod RowNames
-pub mod Placing
-pub mod Differing
-pub mod Choosing
-pub mod Counters
-pub mod RewritingLaw
-pub mod RowDirections
-pub mod ListWidths
-pub mod ListNames
-pub mod RowsMonotone
-pub mod RowScopes
-pub mod Settling
-pub mod FlatSums
-pub mod FlatSeen
-pub mod FlatExpanding
-pub mod PostingRanges
-pub mod FlatPosting
-pub mod Lists
-pub mod Searching
-pub mod Models
-pub mod Heeding
-pub mod Listing
-pub mod Picking
-pub mod Keeping
-pub mod Labels
-pub mod Completing
-pub mod Growing
-pub mod GoalRows
-pub mod Staging
-pub mod Flattening
-pub mod Seeing
-pub mod OneValues
-pub mod ExactRows
-pub mod ConstrainRows
-pub mod Slots
-pub mod PostRows
-pub mod Scoping
-pub mod Wayfaring
-pub mod ProgramScopes
-pub mod FlatQueries
-pub mod Events
-pub mod FlatLines
-pub mod FlatParts
-pub mod Free
-pub mod Preceding
-pub mod Fewest
+mod Closing
+mod Orders
+mod Constants
+mod Canonical
+mod Unique
+mod Accepting
+mod Findings
+mod Existence
+mod Texts
+mod Integers
+mod Sums
+mod Collecting
+mod NormalForms
+mod Rows
+mod Singles
+mod LinearForms
+mod Comparing
+mod RowWidths
+mod CompareWidths
+mod Determining
+mod RowNames
+mod Placing
+mod Differing
+mod Choosing
+mod Counters
+mod RewritingLaw
+mod RowDirections
+mod ListWidths
+mod ListNames
+mod RowsMonotone
+mod RowScopes
+mod Settling
+mod FlatSums
+mod FlatSeen
+mod FlatExpanding
+mod PostingRanges
+mod FlatPosting
+mod Lists
+mod Searching
+mod Models
+mod Heeding
+mod Listing
+mod Picking
+mod Keeping
+mod Labels
+mod Completing
+mod Growing
+mod GoalRows
+mod Staging
+mod Flattening
+mod Seeing
+mod OneValues
+mod ExactRows
+mod ConstrainRows
+mod Slots
+mod PostRows
+mod Scoping
+mod Wayfaring
+mod ProgramScopes
+mod FlatQueries
+mod Events
+mod FlatLines
+mod FlatParts
+mod Free
+mod Preceding
+mod Fewest
 mod Examples
-pub mod Unread
-pub mod Runnable
+mod Unread
+mod Runnable

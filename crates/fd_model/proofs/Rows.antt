@@ -14,7 +14,6 @@ use Rattle.fd_model.proofs.Integers.{turned_once}
 use Rattle.fd_model.proofs.Sums.{total-scaled}
 
 module _ (M : ℕ) (b : Assignment) where
-
   abbrev Reads : (ℕ → Expr) → Type 0
   Reads f = (x : ℕ) → value M (singles b) (f x) ≡ pos (b x)
 

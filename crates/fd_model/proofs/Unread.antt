@@ -155,7 +155,6 @@ alike S T x ((y, f) ∷ ds) others h v =
       alike S T x ds others tests.1 (rest f y ds v),
     )
   where
-
     second : (a b : Bool) → a ≡ true → (a && b) ≡ false → b ≡ false
     second a b h k = grind arith
 

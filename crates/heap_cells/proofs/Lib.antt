@@ -1,15 +1,15 @@
-pub mod Elements
-pub mod Substitutions
-pub mod Ranks
-pub mod Binding
-pub mod Chains
-pub mod Looking
-pub mod Fields
-pub mod Marks
-pub mod Changing
-pub mod Growing
-pub mod Levels
-pub mod Adding
-pub mod Undoing
-pub mod Atoms
+mod Elements
+mod Substitutions
+mod Ranks
+mod Binding
+mod Chains
+mod Looking
+mod Fields
+mod Marks
+mod Changing
+mod Growing
+mod Levels
+mod Adding
+mod Undoing
+mod Atoms
 pub mod Lemmas

@@ -75,7 +75,6 @@ module _ (names : List Name) (h : Cells) (sets : List (List ℕ)) (c : Cell) (be
 
   -- a cell was looked at
   module _ (p q : Contents) (ks rest ms : List ReadTask) (ds es : List TermId) (d : Cell) (split : ks ≡ rest ++ Visit d ∷ []) (extends : Extends p q) (kept : KeepsTerms p q) (places : PlacesAtZero p q) (w : IsReading names h sets c before p ks ds) where
-
     before_it : All (CanRead names h) rest
     before_it = all_front (CanRead names h) rest (Visit d ∷ []) (subst (All (CanRead names h)) split w.tasks)
 
@@ -124,7 +123,6 @@ module _ (names : List Name) (h : Cells) (sets : List (List ℕ)) (c : Cell) (be
 
   -- a compound term was made
   module _ (p q : Contents) (ks rest : List ReadTask) (ds es : List TermId) (f : AtomId) (n : ℕ) (split : ks ≡ rest ++ Make f n ∷ []) (w : IsReading names h sets c before p ks ds) where
-
     pub made_on : Extends p q → KeepsTerms p q → PlacesAtZero p q → MakesTerm names f n p ds q es → IsReading names h sets c before q rest es
     made_on x k z (t, o, is, e) =
         let now = grown p q ks ds x k z w in

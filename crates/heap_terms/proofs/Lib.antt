@@ -1,6 +1,6 @@
-pub mod Tasks
-pub mod Stacks
-pub mod Pools
-pub mod CellReads
-pub mod CellWalk
-pub mod Values
+mod Tasks
+mod Stacks
+mod Pools
+mod CellReads
+mod CellWalk
+mod Values

@@ -46,7 +46,6 @@ module _ (A R : Type 0) (task : A → Task) (term : R → Term) (g : Term) where
 
   -- the last results become a compound term
   module _ (ks rest : List A) (k : A) (n : Name) (i : ℕ) (split : ks ≡ rest ++ k ∷ []) (is : task k ≡ make n i) where
-
     pub walks_made : (ds es : List R) (r : R) → term r ≡ Comp n (to_terms (map term (drop (length ds - i) ds))) → es ≡ take (length ds - i) ds ++ r ∷ [] → Walks ks ds → Walks rest es
     walks_made ds es r q e w =
         let l : Leaves (make n i ∷ stack A task rest) (map term ds) g = subst (λ js. Leaves js (map term ds) g) (last_task ks rest k (make n i) split is) w in

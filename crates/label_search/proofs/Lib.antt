@@ -1,2 +1,2 @@
-pub mod Picks
+mod Picks
 pub mod Lemmas

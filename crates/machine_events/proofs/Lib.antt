@@ -1,2 +1,2 @@
-pub mod Intervals
+mod Intervals
 pub mod Lemmas

@@ -1,13 +1,13 @@
-pub mod Linking
-pub mod Unifying
-pub mod Settling
-pub mod Keeping
-pub mod Continuing
-pub mod Matching
-pub mod Entering
-pub mod Building
-pub mod Ranging
-pub mod Growing
-pub mod Naming
-pub mod Constraining
+mod Linking
+mod Unifying
+mod Settling
+mod Keeping
+mod Continuing
+mod Matching
+mod Entering
+mod Building
+mod Ranging
+mod Growing
+mod Naming
+mod Constraining
 pub mod Lemmas

@@ -50,7 +50,6 @@ module _ (M : ℕ) (f : Frame) (es : List Equation) (ps : List Indexical) (P : �
 
   -- new equations
   module _ (ds : List Equation) (below : EquationsOf P ds) where
-
     -- they have a unifier on the heap, and the touches are posted
     pub held_unify : (new : Substitution) (link' : ℕ → Option ℕ) (ts : List Touch) → IsUnified f.cells f.link (applied_each look ds) new link' ts → ((c : ℕ) → f.cells ≤ c → new c ≡ Var c) → IsHeld M (unified_frame f new link' ts) (ds ++ es) ps P (after new look)
     held_unify new link' ts u outside =

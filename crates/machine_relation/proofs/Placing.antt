@@ -77,7 +77,6 @@ module _ (M : ℕ) (es : List Equation) (ps : List Indexical) (P : ℕ → Type 
     }
 
     module _ (t : Term) (o : Of P t) where
-
       low : Of (λ c. c < h) (apply look t)
       low = still_of P (λ c. c < h) look st.heap.cells t o
 

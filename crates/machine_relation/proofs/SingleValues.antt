@@ -7,14 +7,12 @@ use Rattle.fd_model.specs.Goal.{Query}
 use Rattle.machine_relation.specs.Held.{Frame, IsAtRest, link_in, link_at, fixed_frame}
 
 module _ (M : ℕ) (q : Query) (f : Frame) (G : Family) (most : (R : Family) → IsModel M [] f.store R → IsInside R G) where
-
   pub fixed_rest : IsModel M [] f.store G → IsAtRest M (fixed_frame f G) G
   fixed_rest model = record {
     model = model;
     most = most;
     several = λ c k n e g. (let l = linked_still (f.link c) k e in none-some k (sym (ap (λ xs. link_in xs k) g) ∙ l));
   } where
-
     link_still : (xs : List ℕ) (k j : ℕ) → link_in xs k ≡ Some j → k ≡ j
     link_still [] k j e = same_Some k j e
     link_still (w ∷ []) k j e = absurd (none-some j e)

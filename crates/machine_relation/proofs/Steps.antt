@@ -24,9 +24,7 @@ module _ (M : ℕ) (prog : Program) (q : Query) (C : Type 0) (Waits : C → List
   Speaks b g said = (s : Substitution) (D : Family) → IsView M b.equations b.posted s D → says s D b g ≡ said
 
   module _ (Here : Branch → Type 0) (cs : List C) (k : Option ℕ) (es : List Event) (r : ℕ) where
-
     module _ (runnable : IsRunnableProgram M prog) (n : ℕ) (m : Live Here cs (suc n) k es r) (g : Goal) (rest : List Goal) (goals : m.branch.goals ≡ g ∷ rest) where
-
       -- one child, and the machine goes on with it
       pub live_one : (Then : Branch → Type 0) (kid : Branch) (said : List Event) → GivesAll m.branch g rest (kid ∷ []) → Speaks m.branch g said → Then kid → IsConsistent M kid.equations kid.posted → Spends (Live Then cs n k) said es r
       live_one Then kid said h i there c =
@@ -40,7 +38,6 @@ module _ (M : ℕ) (prog : Program) (q : Query) (C : Type 0) (Waits : C → List
           (t.0, t.1, t.2, t.3, record { others = kids ++ m.others; wait = (kids, m.others, w, m.wait, refl); ahead = t.4 })
 
   module _ (n : ℕ) (k : Option ℕ) (es : List Event) (r : ℕ) where
-
     module _ (c : C) (cs : List C) (m : Back (c ∷ cs) n k es r) where
       there : Ahead M prog q n k (m.wait.0 ++ m.wait.1) es r
       there = subst (λ l. Ahead M prog q n k l es r) m.wait.4 m.ahead

@@ -17,8 +17,7 @@ use Rattle.machine_relation.proofs.Models.{front, number_for, number_at, number_
 use Rattle.machine_relation.proofs.Touching.{unified, Holds, as_posts, set_term}
 
 module _ (M : ℕ) (es : List Equation) (ps : List Indexical) (P : ℕ → Type 0) (h : ℕ) (look : Substitution) (link : ℕ → Option ℕ) (slot : ℕ → ℕ) (qs : List Indexical) (st : IsStored M es ps P h look link slot qs) where
-
-  -- and the sets are the same
+  -- the greatest families of both have the same sets
   pub same_sets : (S T : Family) → IsModel M es ps S → ((R : Family) → IsModel M es ps R → IsInside R S) → IsModel M [] qs T → ((R : Family) → IsModel M [] qs R → IsInside R T) → (v : ℕ) → has (constrained ps) v ≡ true → S v ≡ T (slot v)
   same_sets S T a most b largest v c =
       let up = st.up S a in

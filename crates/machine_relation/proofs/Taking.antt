@@ -57,7 +57,6 @@ is_post f (Either a b) l x e = absurd (cc)
 is_post f (Builtin c t) l x e = absurd (cc)
 
 module _ (M : ℕ) (prog : Program) (q : Query) (f : Frame) (cs : List Choice) (es : List Event) (r : ℕ) where
-
   module _ (runnable : IsRunnableProgram M prog) (n : ℕ) (k : Option ℕ) (g : Goal) (work : List Goal) (m : Walks M prog q (g ∷ work) f cs (suc n) k es r) where
     pub front : IsFront g work m.here.place m.branch
     front = front_goal M q g work f m.branch m.here

@@ -37,7 +37,6 @@ pub gone_by : (M : ℕ) (b : Branch) → ((S : Family) → IsModel M b.equations
 gone_by M b none fit c = let m = model_from M b.equations b.posted fit.1 c in none m.0 m.1
 
 module _ (M : ℕ) (q : Query) (work : List Goal) (f : Frame) (b : Branch) (s : IsAt M q work f b) where
-
   pub at_consistent : HasModel M f.store → IsConsistent M b.equations b.posted
   at_consistent m = held_consistent M f b.equations b.posted (λ v. v < b.fresh) (λ v. f.heap (s.place v)) s.held m
 

@@ -1,1 +1,1 @@
-pub mod Unmeant
+mod Unmeant

@@ -120,7 +120,6 @@ filter_two p q r f (z ∷ l) = elim (cases_Bool (q z)) [
   | inl i ↦ ap (λ b. filter p (cond b (z ∷ filter q l) (filter q l))) i ∙ (inner (p z) (r z) (f z ∙ ap (λ b. p z && b) i) (filter_two p q r f l))
   | inr i ↦ ap (λ b. filter p (cond b (z ∷ filter q l) (filter q l))) i ∙ (filter_two p q r f l ∙ ap (λ b. cond b (z ∷ filter r l) (filter r l)) (sym (f z ∙ (ap (λ b. p z && b) i ∙ and-false (p z)))))
 ] where
-
   inner : (a b : Bool) → b ≡ (a && true) → filter p (filter q l) ≡ filter r l → cond a (z ∷ filter p (filter q l)) (filter p (filter q l)) ≡ cond b (z ∷ filter r l) (filter r l)
   inner true b h e = ap (λ k. z ∷ k) e ∙ ap (λ c. cond c (z ∷ filter r l) (filter r l)) (sym h)
   inner false b h e = e ∙ ap (λ c. cond c (z ∷ filter r l) (filter r l)) (sym h)

@@ -1,13 +1,13 @@
-pub mod Bounds
-pub mod Leaves
-pub mod Operators
-pub mod Ranges
-pub mod NodeChecks
-pub mod NodeWalk
-pub mod Clashes
-pub mod Whole
-pub mod PlaceNeeds
-pub mod NodeNeeds
-pub mod JoinedNeeds
-pub mod NeedLoops
+mod Bounds
+mod Leaves
+mod Operators
+mod Ranges
+mod NodeChecks
+mod NodeWalk
+mod Clashes
+mod Whole
+mod PlaceNeeds
+mod NodeNeeds
+mod JoinedNeeds
+mod NeedLoops
 pub mod Lemmas

@@ -86,7 +86,6 @@ range_slots f (Over r c) = both f (range_features r) (expr_features c) _ _ (rang
 -- a test of pairs finds the same where each stands once
 same_pair : (d e : Pair) → is_same_pair e d ≡ true → e ≡ d
 same_pair d e h = let k = and_parts (e.0 == d.0) (is_same_feature e.1 d.1) h in let i : e.0 ≡ d.0 = eqb-true e.0 d.0 k.0 in let j : e.1 ≡ d.1 = same_feature e.1 d.1 k.1 in pairs i j where
-
   pairs : {a b : ℕ} {f g : Feature} → a ≡ b → f ≡ g → ◌≡◌ {A = Pair} (a, f) (b, g)
   pairs e f = cc
 

@@ -156,7 +156,6 @@ has_arg count need (x ∷ xs) (b ∷ bs) y a h = elim (cases_Bool (nat_eq y x)) 
       let k = has_arg count need xs bs y a.1 (later x y xs e h) in
       record { within = subst (λ n. n < suc (length bs)) (sym i) (up (position_or_len (nat_eq y) xs) (length bs) k.within); fitting = subst (λ n. IsArg count (need y) (arg_at (b ∷ bs) n)) (sym i) k.fitting }
 ] where
-
   up : (m n : ℕ) → m < n → suc m < suc n
   up m n h = omega arith
 
@@ -171,7 +170,6 @@ seen_arg count (Int z) h = absurd h
 pub no_parameter : (xs ys : List ℕ) (y : ℕ) → list_all (λ x. not (has ys x)) xs ≡ true → has ys y ≡ true → has xs y ≡ false
 no_parameter [] ys y h g = refl
 no_parameter (x ∷ xs) ys y h g = or_from (x == y) (has xs y) (apart (cases_Bool (x == y))) (no_parameter xs ys y (second_so (not (has ys x)) (list_all (λ z. not (has ys z)) xs) h) g) where
-
   flip : (a : Bool) → not a ≡ true → a ≡ true → ⊥
   flip a h g = grind arith
 

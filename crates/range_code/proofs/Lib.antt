@@ -1,25 +1,25 @@
-pub mod Tables
-pub mod TakenNodes
-pub mod Variables
-pub mod Once
-pub mod Fits
-pub mod Framing
-pub mod Standings
-pub mod Walks
-pub mod SlotNeeds
-pub mod Opened
-pub mod Compiling
-pub mod Opening
-pub mod Counting
-pub mod Telling
-pub mod Posted
-pub mod Folding
-pub mod Placing
-pub mod Testing
-pub mod Running
-pub mod Forms
-pub mod Choices
-pub mod Choosing
-pub mod Renaming
-pub mod Stacking
+mod Tables
+mod TakenNodes
+mod Variables
+mod Once
+mod Fits
+mod Framing
+mod Standings
+mod Walks
+mod SlotNeeds
+mod Opened
+mod Compiling
+mod Opening
+mod Counting
+mod Telling
+mod Posted
+mod Folding
+mod Placing
+mod Testing
+mod Running
+mod Forms
+mod Choices
+mod Choosing
+mod Renaming
+mod Stacking
 pub mod Lemmas

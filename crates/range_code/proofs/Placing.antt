@@ -49,7 +49,6 @@ has_place z (y ∷ ys) h = elim (cases_Bool (int_eq z y)) [
       let k = has_place z ys (sym (ap (λ b. b || list_any (int_eq z) ys) e) ∙ h) in
       record { within = subst (λ n. n < suc (length ys)) (sym i) (up (position_or_len (int_eq z) ys) (length ys) k.within); there = ap (λ n. get_or (y ∷ ys) n (pos 0)) i ∙ k.there }
 ] where
-
   up : (m n : ℕ) → m < n → suc m < suc n
   up m n h = omega arith
 

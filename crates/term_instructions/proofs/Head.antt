@@ -120,7 +120,6 @@ module _ (area : Area) (cells : List Cell) (s : branch.State) (from : ReadPositi
 
 module _ (area : Area) (f : AtomId) (n : ℕ) (d : Cell) (atom : IsAtom area f) (s : branch.State) (from : ℕ) (c : Contents) (d_own : IsCell s d) (empty : List Cell) (none : empty ≡ []) (s2 : branch.State) (next : ℕ) (c2 : Contents) (cells : List Cell) (g : IsGatheredTo area n s from c empty s2 next c2 cells) (all : length cells ≡ n)
     (s3 : branch.State) (new : Cell) (given : List Cell) (given_is : given ≡ cells) (made : IsMade f given s2 s3 new) (heap : s3 ≡ with_heap s2 s3.heaps.now) (sound : IsSound s3) where
-
   none_left : n - length cells ≡ 0
   none_left = omega (arith, all)
 

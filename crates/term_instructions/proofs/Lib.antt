@@ -1,7 +1,7 @@
-pub mod Steps
-pub mod Unify
-pub mod ReadSteps
-pub mod BuildSteps
-pub mod Structure
-pub mod Head
-pub mod Bound
+mod Steps
+mod Unify
+mod ReadSteps
+mod BuildSteps
+mod Structure
+mod Head
+mod Bound

@@ -1,6 +1,6 @@
-pub mod Names
-pub mod Laws
-pub mod Walks
+mod Names
+mod Laws
+mod Walks
 mod Growth
-pub mod PlacedShapes
+mod PlacedShapes
 pub mod Lemmas

@@ -1,4 +1,4 @@
-pub mod Sound
+mod Sound
 mod Complete
 mod PlacedLaws
 mod Stacks
@@ -7,14 +7,14 @@ mod Lists
 mod OpenBrackets
 mod Closings
 mod Operands
-pub mod Naming
+mod Naming
 mod GrammarTokens
 mod Readers
 mod Texts
 mod Naturals
 mod Verdicts
-pub mod Readable
-pub mod Plain
+mod Readable
+mod Plain
 mod VariableNames
 pub mod Lemmas
 mod GivenParts

@@ -2,7 +2,7 @@ mod Joins
 mod Steps
 mod Work
 mod Words
-pub mod Index
+mod Index
 mod Forms
 mod Rests
 mod Derivations

@@ -1,3 +1,3 @@
-pub mod OneVerdict
+mod OneVerdict
 mod Judging
 pub mod Lemmas

@@ -1,8 +1,8 @@
-pub mod Touching
-pub mod Reducing
-pub mod Efforts
-pub mod Occurring
-pub mod Stepping
-pub mod Whole
-pub mod AtOnce
+mod Touching
+mod Reducing
+mod Efforts
+mod Occurring
+mod Stepping
+mod Whole
+mod AtOnce
 pub mod Lemmas

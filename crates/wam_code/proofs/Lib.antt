@@ -1,9 +1,9 @@
-pub mod Steps
-pub mod Trying
-pub mod Unifying
-pub mod Restating
-pub mod Keeping
-pub mod Ending
-pub mod Reaching
-pub mod Examples
+mod Steps
+mod Trying
+mod Unifying
+mod Restating
+mod Keeping
+mod Ending
+mod Reaching
+mod Examples
 pub mod Lemmas
