@@ -17,6 +17,7 @@ use Rattle.machine_frames.specs.Frames.{IsGrown}
 use Rattle.branch_state.specs.Compounds.{IsMade}
 use Rattle.branch_state.specs.States.{State, IsSound, with_heap}
 use Rattle.branch_goals.specs.Domains.{AreSpans, AreSpansOf, IsSpanList, IsSpanNaming, span_of, spans_term}
+use Rattle.std.proofs.lemmas.List.{append-nil, append_assoc}
 
 -- ---- a heap that has grown
 
@@ -48,7 +49,7 @@ pub record IsListing (old : State) (spans left : List (ℤ × ℤ)) (now : State
 pub listing_start : (old : State) (spans : List (ℤ × ℤ)) → IsSound old → 2 < old.atoms → IsListing old spans spans old (cell.Atom NIL)
 listing_start old spans sound atoms = record {
   done = [];
-  all = sym (Rattle.std.proofs.lemmas.List.append-nil spans);
+  all = sym (append-nil spans);
   list = record {
     own = (tt, omega (arith, atoms));
     term = λ name. term-Atom name old.heaps.now sound.now.valid NIL;
@@ -72,7 +73,7 @@ listing_more old spans left rest s now list l e mid interval m mid_is mid_sound 
     λ name. m.term name ∙ two (λ x y. Comp (name SPAN) (two_terms x y)) (term-Int name now.heaps.now by.sound.now.valid s.0) (term-Int name now.heaps.now by.sound.now.valid s.1) in
     record {
       done = s ∷ l.done;
-      all = l.all ∙ ap (λ xs. xs ++ l.done) e ∙ Rattle.std.proofs.lemmas.List.append_assoc rest (s ∷ []) l.done;
+      all = l.all ∙ ap (λ xs. xs ++ l.done) e ∙ append_assoc rest (s ∷ []) l.done;
       list = record {
         own = n.own;
         term = λ name. n.term name ∙ two (λ x y. Comp (name CONS) (two_terms x y)) (span name) (kept name);

@@ -11,7 +11,7 @@ use Rattle.fd_language.specs.Range.{greatest as greatest_of}
 use Rattle.fd_language.specs.Term.{Term, Terms, Var, Int, Atom, Comp, no_terms, term}
 use Rattle.fd_language.proofs.Lemmas.{two}
 use Rattle.fd_model.specs.Arithmetic.{Value, value_of}
-use Rattle.fd_model.specs.Builtins.{decided, equated, evaluated, by_value, compared, found, is_same, are_same, is_integer, is_atom, is_atomic, those, numbers_of, equals_number, equals_value, greatest_number, last_of}
+use Rattle.fd_model.specs.Builtins.{decided, equated, evaluated, by_value, compared, found, is_same, are_same, is_integer, is_atom, is_atomic, those, numbers_of, equals_number, equals_value, greatest_number, last_of, set_numbers}
 use Rattle.fd_model.specs.Levels.{Levels}
 use Rattle.fd_model.specs.declared.kinds.BuiltinKind.{BuiltinKind}
 use Rattle.fd_model.specs.declared.kinds.BuiltinKind.TheVariants as kind
@@ -40,6 +40,7 @@ use Rattle.branch_goals.specs.declared.finding.Numbers.TheVariants.{One}
 use Rattle.branch_goals.specs.Lists.{shown_at}
 use Rattle.branch_goals.specs.Findings.{Finds, IsValueAt, AreValuesAt, AreNumbersAt, IsComparison, IsQuestion, fault_is, holds_by, seen_at, the_numbers, told_by, numbers_in_set, passes_by}
 use Rattle.branch_goals.proofs.Listing.{shown_free, shown_linked, shown_int, shown_atom, shown_compound}
+use Rattle.term_pool.specs.declared.AtomId.{AtomId}
 
 -- ---- a cell, by the two ways to read it
 
@@ -135,12 +136,12 @@ module _ (name : Naming) (h : Cells) (valid : IsHeap h) (all : List (List ℕ)) 
   given d = cell_set G (link_at (link_in h d) G)
 
   pub numbers_free : (i : ℕ) → slot_at h i ≡ free → Same h c (cell.Ref i) → AreNumbersAt name h all c (Err Instantiation)
-  numbers_free i e s = ap (numbers_of given) (shown_free name h valid all c i e s) ∙ ap (λ o. Rattle.fd_model.specs.Builtins.set_numbers (cell_set G (link_at o G))) (ap link_of e)
+  numbers_free i e s = ap (numbers_of given) (shown_free name h valid all c i e s) ∙ ap (λ o. set_numbers (cell_set G (link_at o G))) (ap link_of e)
 
   in_set : (xs : List ℕ) (k i : ℕ) → G k ≡ xs → link_in h i ≡ Some k → numbers_of given (value_in xs i) ≡ Ok (numbers_in_set xs)
-  in_set [] k i g e = ap (λ o. Rattle.fd_model.specs.Builtins.set_numbers (cell_set G (link_at o G))) e ∙ ap (λ ys. Rattle.fd_model.specs.Builtins.set_numbers (cell_set G (held.link_in ys k))) g ∙ ap (λ ys. Ok (those ys)) g
+  in_set [] k i g e = ap (λ o. set_numbers (cell_set G (link_at o G))) e ∙ ap (λ ys. set_numbers (cell_set G (held.link_in ys k))) g ∙ ap (λ ys. Ok (those ys)) g
   in_set (w ∷ []) k i g e = refl
-  in_set (x ∷ y ∷ ys) k i g e = ap (λ o. Rattle.fd_model.specs.Builtins.set_numbers (cell_set G (link_at o G))) e ∙ ap (λ zs. Rattle.fd_model.specs.Builtins.set_numbers (cell_set G (held.link_in zs k))) g ∙ ap (λ zs. Ok (those zs)) g
+  in_set (x ∷ y ∷ ys) k i g e = ap (λ o. set_numbers (cell_set G (link_at o G))) e ∙ ap (λ zs. set_numbers (cell_set G (held.link_in zs k))) g ∙ ap (λ zs. Ok (those zs)) g
 
   pub numbers_linked : (i k : ℕ) (n : Held) → slot_at h i ≡ linked k → Same h c (cell.Ref i) → the_numbers n ≡ numbers_in_set (G k) → AreNumbersAt name h all c (Ok n)
   numbers_linked i k n e s g = ap (numbers_of given) (shown_linked name h valid all c i k e s) ∙ in_set (G k) k i refl (ap link_of e) ∙ ap Ok (sym g)
@@ -148,10 +149,10 @@ module _ (name : Naming) (h : Cells) (valid : IsHeap h) (all : List (List ℕ)) 
   pub numbers_int : (z : ℤ) → Same h c (cell.Int z) → AreNumbersAt name h all c (Ok (One z))
   numbers_int z s = ap (numbers_of given) (shown_int name h valid all c z s)
 
-  pub numbers_atom : (a : Rattle.term_pool.specs.declared.AtomId.AtomId) → Same h c (cell.Atom a) → AreNumbersAt name h all c (Err BadType)
+  pub numbers_atom : (a : AtomId) → Same h c (cell.Atom a) → AreNumbersAt name h all c (Err BadType)
   numbers_atom a s = ap (numbers_of given) (shown_atom name h valid all c a s)
 
-  pub numbers_compound : (f : Rattle.term_pool.specs.declared.AtomId.AtomId) (args : List Cell) (j : ℕ) → compound_at h j ≡ record { name = f; args = args } → Same h c (cell.Struct j) → AreNumbersAt name h all c (Err BadType)
+  pub numbers_compound : (f : AtomId) (args : List Cell) (j : ℕ) → compound_at h j ≡ record { name = f; args = args } → Same h c (cell.Struct j) → AreNumbersAt name h all c (Err BadType)
   numbers_compound f args j e s = ap (numbers_of given) (shown_compound name h valid all c f args j e s)
 
 asked : (k : BuiltinKind) → IsQuestion k → (sets : ℕ → Option (List ℕ)) (a b u v : Term) → found k sets a b u v ≡ equals_number (λ ns. Int (told_by k ns)) b (numbers_of sets u)

@@ -6,7 +6,7 @@ use Rattle.std.proofs.lemmas.Option.{unwrap_or-slice_get}
 use Rattle.std.proofs.lemmas.Slice.Eq.{bytes_eq-Decides}
 use Rattle.fd_language.specs.Family.{Family}
 use Rattle.fd_language.specs.Range.{is_none_left}
-use Rattle.fd_language.specs.Term.{Term, Var, Int, Atom, Comp, no_terms, term}
+use Rattle.fd_language.specs.Term.{Term, Var, Int, Atom, Comp, no_terms, term, apply_all}
 use Rattle.fd_model.specs.declared.kinds.QueryFault.{QueryFault}
 use Rattle.fd_model.specs.declared.kinds.QueryFault.TheVariants.{Instantiation, BadType}
 use Rattle.fd_model.specs.Labelling.{read_list}
@@ -38,6 +38,7 @@ use Rattle.label_search.specs.Picks.{IsThere, AreThere}
 use Rattle.branch_goals.specs.declared.lists.ListNode.{ListNode}
 use Rattle.branch_goals.specs.declared.lists.ListNode.TheVariants.{Pair, Empty, Broken}
 use Rattle.branch_goals.specs.Lists.{IsListNaming, HasNoEmpty, IsNode, IsVariableNode, IsAtomNode, IsCompoundNode, IsSeenMember, IsMemberAt, IsMemberOf, AreMembersAt, shown_at}
+use Rattle.std.proofs.lemmas.List.{append-nil, append_assoc}
 
 -- ---- some names
 
@@ -117,7 +118,7 @@ module _ (name : Naming) (h : Cells) (valid : IsHeap h) (sets : List (List ℕ))
   pub shown_atom : (a : AtomId) → Same h c (cell.Atom a) → shown_at name h sets c ≡ Atom (name a)
   shown_atom a s = ap (read_term h G) (s name ∙ term-Atom name h valid a)
 
-  each_read : (cs : List Cell) → Rattle.fd_language.specs.Term.apply_all (λ d. value_at (link_in h d) G d) (terms_by (term_of name h) cs) ≡ terms_by (shown_at name h sets) cs
+  each_read : (cs : List Cell) → apply_all (λ d. value_at (link_in h d) G d) (terms_by (term_of name h) cs) ≡ terms_by (shown_at name h sets) cs
   each_read [] = refl
   each_read (d ∷ ds) = ap (term (shown_at name h sets d)) (each_read ds)
 
@@ -202,7 +203,7 @@ joined ss (Ok more) = Ok (ss ++ more)
 
 joined_more : (ss : List seen.Member) (s : seen.Member) (r : Result (List seen.Member) QueryFault) → joined ss (of_both prepend (Ok s) r) ≡ joined (ss ++ s ∷ []) r
 joined_more ss s (Err f) = refl
-joined_more ss s (Ok more) = ap Ok (sym (Rattle.std.proofs.lemmas.List.append_assoc ss (s ∷ []) more))
+joined_more ss s (Ok more) = ap Ok (sym (append_assoc ss (s ∷ []) more))
 
 -- Of the list in a cell the front was walked: its members, and the cell of the rest.
 pub record IsWalked (name : Naming) (h : Cells) (sets : List (List ℕ)) (list : Cell) (cells : List Cell) (members : List Member) (at : Cell) : Type 0 where
@@ -265,7 +266,7 @@ walk_bad name h sets list cells members at a b names w n i =
 
 pub walk_end : (name : Naming) (h : Cells) (sets : List (List ℕ)) (list : Cell) (cells : List Cell) (members : List Member) (at : Cell) → IsListNaming name → (w : IsWalked name h sets list cells members at) → IsNode name h sets at Empty → read_list (shown_at name h sets list) ≡ Ok w.front
 walk_end name h sets list cells members at names w n =
-    w.rest ∙ ap (λ t. joined w.front (read_list t)) n ∙ ap (joined w.front) (read_empty name names) ∙ ap Ok (Rattle.std.proofs.lemmas.List.append-nil w.front)
+    w.rest ∙ ap (λ t. joined w.front (read_list t)) n ∙ ap (joined w.front) (read_empty name names) ∙ ap Ok (append-nil w.front)
 
 -- the variables of the store among them are there
 pub members_there : (name : Naming) (h : Cells) (sets : List (List ℕ)) (cs : List Cell) (ms : List Member) (ss : List seen.Member) → AreMembersAt name h sets cs ms ss → AreThere (length sets) ms

@@ -32,7 +32,7 @@ use Rattle.clause_code.specs.Bodies.{between_goals, InBody, IsRest, IsGoalsCode}
 use Rattle.clause_code.specs.Whole.{front, back, unmade, head_code, IsHoused}
 use Rattle.clause_code.specs.ArgumentHomes.{AllWait}
 use Rattle.clause_code.proofs.Pieces.{does_both, does_allocate, ends_behind, ends_proceed, ends_execute, ends_answer, does_deallocate}
-use Rattle.clause_code.proofs.Making.{AreApart}
+use Rattle.clause_code.proofs.Making.{AreApart, has_more}
 use Rattle.clause_code.proofs.Going.{when_true, both, plain_of, moved, moved_all, count_moved, AllMade, At, Went, went_both}
 use Rattle.clause_code.proofs.Building.{gets_went, PutAllBy, puts_put}
 use Rattle.clause_code.proofs.Filling.{filled_made, fills_went}
@@ -56,13 +56,6 @@ has_split m rs n h = elim (cases_eq n m) [
 has_here : (m n : ℕ) (rs : List ℕ) → n ≡ m → has (m ∷ rs) n ≡ true
 has_here m n rs e = ap (λ c. c || has rs n) (eq-eqb m n (sym e))
 
-has_there : (m n : ℕ) (rs : List ℕ) → has rs n ≡ true → has (m ∷ rs) n ≡ true
-has_there m n rs h = by (m == n)
-  where
-    by : (c : Bool) → c || has rs n ≡ true
-    by true = refl
-    by false = h
-
 firsts_are : (k n : ℕ) → has (firsts k) n ≡ true → (1 ≤ n) × (n ≤ k)
 unfolding firsts
 firsts_are zero n h = absurd (true≢false (sym h))
@@ -76,7 +69,7 @@ unfolding firsts
 firsts_have zero n l m = absurd (omega (arith, l, m))
 firsts_have (suc k) n l m = elim (cases_eq n (suc k)) [
   | inl e ↦ has_here (suc k) n (firsts k) e
-  | inr d ↦ has_there (suc k) n (firsts k) (firsts_have k n l (omega (arith, m, d)))
+  | inr d ↦ has_more (suc k) n (firsts k) (firsts_have k n l (omega (arith, m, d)))
 ]
 
 abbrev first_frame : Bool → ℕ → Option (List Slot)

@@ -1,6 +1,7 @@
 -- Two clauses by short code without a frame: append([H|T],L,[H|R]) :- append(T,L,R) with seven instructions, and skip([X,Y|T]) :- skip(T), whose inner list is read in place.
 use Rattle.std.proofs.Common.{◌≡◌, ℕ, suc, ◌+◌, ◌<◌, Bool, true, false, ◌==◌, if◌then◌else◌, List, [], ◌∷◌, ◌++◌, Some, slice_get, refl, ap, sym, ◌∙◌, subst, arith, eq-eqb, ne_eqb, inl, inr}
 use Rattle.std.proofs.lemmas.Bool.{cases_eq}
+use Rattle.clause_code.proofs.Homes.{learnt_here, learnt_else}
 use Rattle.fd_language.specs.Term.{Term, Terms, Var, Comp, no_terms, term}
 use Rattle.fd_language.specs.Unifier.{Equation}
 use Rattle.fd_model.specs.Goal as goal
@@ -21,12 +22,6 @@ use Rattle.clause_code.specs.Pieces.{Base, base_of, Stand, past, Does, Ends}
 use Rattle.clause_code.specs.Splitting.{whole, apart}
 use Rattle.clause_code.proofs.Restating.{does_split}
 use Rattle.clause_code.proofs.Pieces.{ends_behind, no_parts, part_variable, part_value, part_void, does_get_structure, does_learn, ends_execute, equation}
-
-learnt_here : (v : ℕ) (known : ℕ → Bool) → learnt v known v ≡ true
-learnt_here v known = ap (λ c. if c then true else known v) (eq-eqb v v refl)
-
-learnt_else : (u v : ℕ) (known : ℕ → Bool) → (v ≡ u → ⊥) → learnt u known v ≡ known v
-learnt_else u v known h = ap (λ c. if c then true else known v) (ne_eqb v u h)
 
 learnt_still : (u v : ℕ) (known : ℕ → Bool) → known v ≡ true → learnt u known v ≡ true
 learnt_still u v known h = by (v == u)

@@ -223,7 +223,7 @@ safe_ends b at is i s t u f e none last plain there =
 
 -- ---- both ways of A ; B
 
-one_aim : (a to : ℕ) → IsTrue (has (a ∷ []) to) → to ≡ a
+pub one_aim : (a to : ℕ) → IsTrue (has (a ∷ []) to) → to ≡ a
 one_aim a to h = elim (cases_eq to a) [
   | inl e ↦ e
   | inr d ↦ absurd (true≢false (sym h ∙ ap (λ c. c || false) (ne_eqb a to (λ e. d (sym e)))))

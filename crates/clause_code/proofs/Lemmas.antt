@@ -3,3 +3,5 @@
 pub use Rattle.clause_code.proofs.Rests.{count_terms}
 -- Lists of clauses, one choice after the other.
 pub use Rattle.clause_code.proofs.Trying.{list_tries}
+-- Pieces that flow, one behind the other.
+pub use Rattle.clause_code.proofs.Flowing.{one_aim}

@@ -2,6 +2,7 @@
 use Rattle.std.proofs.Common.{◌≡◌, ℕ, zero, suc, ◌+◌, map, Bool, true, false, ◌||◌, ◌==◌, IsTrue, List, [], ◌∷◌, Some, slice_get, refl, sym, subst, inl, inr, arith}
 use Rattle.std.proofs.lemmas.Bool.{true≢false}
 use Rattle.std.proofs.lemmas.Bool.Decides.{nat_tests}
+use Rattle.clause_code.proofs.Lemmas.{one_aim}
 use Rattle.clause_compiler.proofs.Lists.{never}
 use Rattle.fd_language.specs.Family.{has}
 use Rattle.wam_code.specs.declared.instruction.Code.{Code}
@@ -16,13 +17,6 @@ pub only_one : (is : Code) (n : ℕ) (i : Code) → slice_get (is ∷ []) n ≡ 
 only_one is zero i e = (refl, (let s : is ≡ i = cc in s))
 only_one is (suc n) i e = absurd cc
 
-one_named : (n to : ℕ) → IsTrue (has (n ∷ []) to) → to ≡ n
-one_named n to h = by (n == to) refl h
-  where
-    by : (b : Bool) → n == to ≡ b → b || false ≡ true → to ≡ n
-    by true e g = grind (arith, nat_tests)
-    by false e g = never g
-
 -- each of the places is fine
 abbrev pub Each : (ℕ → Type 0) → List ℕ → Type 0
 Each P [] = Unit {0}
@@ -36,7 +30,7 @@ module _ (a : Area) (begins : ℕ → Type 0) where
     pub there : IsThere a i
 
   to_one : (l to : ℕ) → begins l → IsTrue (has (l ∷ []) to) → begins to
-  to_one l to b h = subst begins (sym (one_named l to h)) b
+  to_one l to b h = subst begins (sym (one_aim l to h)) b
 
   jump_listed : (l : ℕ) → begins l → IsListed (Jump l)
   jump_listed l b = record { listing = refl; leads = λ to h. to_one l to b h; there = tt }

@@ -1,7 +1,6 @@
 -- A clause whose head asks for another name, number or structure than is there has a branch without a model.
 use Rattle.std.proofs.Common.{◌≡◌, ℕ, suc, false, List, ℤ, Some, None, replicate, Bor, refl, ap, sym, ◌∙◌, subst, inl, inr}
 use Rattle.std.proofs.lemmas.Option.{same_Some}
-use Rattle.code_steps.proofs.Leaving.{count_applied}
 use Rattle.fd_language.specs.declared.TheConstants.{INFINITY}
 use Rattle.fd_language.specs.Term.{Term, Terms, Int, Atom, Comp, Substitution, apply, apply_all}
 use Rattle.fd_model.specs.Goal.{Branch}
@@ -24,7 +23,7 @@ use Rattle.wam_code.specs.Area.{Area, Holds, name_of}
 use Rattle.wam_code.specs.Places.{count}
 use Rattle.code_areas.specs.Areas.{cell_at, Contents}
 use Rattle.code_steps.specs.Trying.{IsFirst}
-use Rattle.code_steps.proofs.Lemmas.{count_terms, step_get_structure, step_allocate, step_enter}
+use Rattle.code_steps.proofs.Lemmas.{count_terms, step_get_structure, step_allocate, step_enter, count_applied}
 use Rattle.code_states.specs.Machine.{registers_of, stack_of}
 use Rattle.code_states.specs.Safety.{IsSafe}
 use Rattle.code_states.specs.Standing.{IsNaming, HasNoModel, StandsFor}

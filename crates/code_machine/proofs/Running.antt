@@ -10,11 +10,11 @@ use Rattle.machine_events.specs.declared.Limits.{Limits}
 use Rattle.machine_events.specs.declared.MachineEvent.{MachineEvent}
 use Rattle.machine_events.specs.declared.MachineEvent.TheVariants as event
 use Rattle.machine_events.specs.declared.Shown.{Shown}
-use Rattle.machine_events.specs.Events.{event_of, shown_line, HasTerms}
+use Rattle.machine_events.specs.Events.{event_of, shown_line, HasTerms, ShowsTerms}
 use Rattle.branch_state.specs.States as branch
 use Rattle.wam_code.specs.declared.instruction.Code.{Code}
 use Rattle.wam_code.specs.Area.{Area, Span, Holds, HasQuery, name_of}
-use Rattle.code_areas.specs.Areas.{Point, Contents}
+use Rattle.code_areas.specs.Areas.{Point, Contents, Return}
 use Rattle.code_steps.specs.Running.{Left, resume}
 use Rattle.code_states.specs.declared.went.Went.{Went}
 use Rattle.code_states.specs.declared.went.Went.TheVariants.{On, Back}
@@ -22,8 +22,8 @@ use Rattle.code_states.specs.Choices.{point_of}
 use Rattle.code_states.specs.Queries.{KeepsQueryThen}
 use Rattle.code_states.specs.Safety.{IsSafe, IsSafeBack, IsSafeThen}
 use Rattle.code_states.specs.Stages.{Task, RunsAt}
-use Rattle.code_states.specs.Work.{work_at, work_then, values_work}
-use Rattle.code_states.proofs.Lemmas.{left_falls, left_spent, left_up}
+use Rattle.code_states.specs.Work.{work_at, work_then, values_work, point_threads}
+use Rattle.code_states.proofs.Lemmas.{left_falls, left_spent, left_up, budget_ends, returned_ends}
 use Rattle.code_goals.specs.declared.next.Next.{Next}
 use Rattle.code_goals.specs.declared.next.Next.TheVariants as next
 use Rattle.code_goals.specs.Answers.{IsAsked, ShowsAnswer}
@@ -44,6 +44,12 @@ use Rattle.code_machine.specs.Labels.{lefts_by, labels_work, AreLabels, whole_at
 use Rattle.code_machine.specs.States.{State, state_of, state_within, names_in, names_of, no_limits, no_span, IsTask, last_event, StandsBy, StandsFor, most, left, left_at, IsEndedBy, IsReadyAt, PointsEndIn, IsInside, IsMachine, IsSame, IsPaced, Allows, ComesOf, IsQuiet, Says, IsEvent, Tells, IsStep, StillRuns, AreCounted, IsWithin, IsOfGoal, counted, behind_answer, one_fewer}
 use Rattle.code_machine.specs.Steps.{Keeps, Leaves, LeavesThen, Moves, Spends, ComesBack, NoMore, next_work, stage_of, stage_next, saying_next}
 use Rattle.code_machine.proofs.Labelling.{labels_more, lefts_more, no_newest}
+use Rattle.code_states.specs.Standing.{IsNaming}
+use Rattle.code_steps.proofs.Lemmas.{TakesGoal}
+use Rattle.std.proofs.lemmas.List.{length-map}
+use Rattle.wam_code.proofs.Lemmas.{back_falls}
+use Rattle.wam_code.specs.Reaching.{distance}
+use Rattle.std.proofs.Math.Nat.{min-eq_left}
 
 -- a machine for which memory wasn't wanting
 abbrev pub seen : Area → ℕ → branch.State → Contents → List Label → Stage → ℕ → Option ℕ → ℕ → State
@@ -152,11 +158,11 @@ module _ (area : Area) (query : ℕ) (s s' : branch.State) (c c' : Contents) (ls
     lefts_new : (l : Leaves area s at c s' c' w) → lefts_by c'.points ls ≡ resume l.other ∷ lefts_by c.points ls
     lefts_new l = ap (λ ps. lefts_by ps ls) l.point ∙ lefts_more (point_of c l.other) c.points ls (no_newest area c.points s.heaps.below ls owned)
 
-    kept_stands : (t : Task) (es : List Event) (r : ℕ) → Rattle.code_states.specs.Standing.IsNaming area t.name → (w : Went) → Keeps area s at c s' c' w → RunsAt area t s at c (lefts_by c.points ls) (record { budget = n; answers = k; events = es; reductions = r }) → StandsBy area t s' c' (lefts_by c'.points ls) (stage_of w) n k es r
+    kept_stands : (t : Task) (es : List Event) (r : ℕ) → IsNaming area t.name → (w : Went) → Keeps area s at c s' c' w → RunsAt area t s at c (lefts_by c.points ls) (record { budget = n; answers = k; events = es; reductions = r }) → StandsBy area t s' c' (lefts_by c'.points ls) (stage_of w) n k es r
     kept_stands t es r naming (On to) keep runs = subst (λ ps. StandsBy area t s' c' (lefts_by ps ls) (Going to) n k es r) (sym keep.points) (keep.runs t (lefts_by c.points ls) (record { budget = n; answers = k; events = es; reductions = r }) naming runs)
     kept_stands t es r naming Back keep runs = subst (λ ps. StandsBy area t s' c' (lefts_by ps ls) Returning n k es r) (sym keep.points) (keep.runs t (lefts_by c.points ls) (record { budget = n; answers = k; events = es; reductions = r }) naming runs)
 
-    left_stands : (t : Task) (es : List Event) (r : ℕ) → Rattle.code_states.specs.Standing.IsNaming area t.name → (v : Went) (other : ℕ) → LeavesThen area s at c s' c' other v → RunsAt area t s at c (lefts_by c.points ls) (record { budget = n; answers = k; events = es; reductions = r }) → StandsBy area t s' c' (resume other ∷ lefts_by c.points ls) (stage_of v) n k es r
+    left_stands : (t : Task) (es : List Event) (r : ℕ) → IsNaming area t.name → (v : Went) (other : ℕ) → LeavesThen area s at c s' c' other v → RunsAt area t s at c (lefts_by c.points ls) (record { budget = n; answers = k; events = es; reductions = r }) → StandsBy area t s' c' (resume other ∷ lefts_by c.points ls) (stage_of v) n k es r
     left_stands t es r naming (On to) other l runs = l t (lefts_by c.points ls) (record { budget = n; answers = k; events = es; reductions = r }) naming runs
     left_stands t es r naming Back other l runs = absurd l
 
@@ -367,16 +373,16 @@ module _ (area : Area) (query : ℕ) (s s' : branch.State) (at : ℕ) (c c' : Co
 -- ---- an end that takes no reduction
 
 module _ (area : Area) (query : ℕ) (s : branch.State) (c : Contents) (ls : List Label) (k : Option ℕ) (spent : ℕ) where
-  pub budget_says : (at : ℕ) (i : Code) → Rattle.code_steps.proofs.Goals.TakesGoal i → Holds area at i → IsMachine (seen area query s c ls (Going at) 0 k spent) → Says (seen area query s c ls (Going at) 0 k spent) event.Budget (seen area query s c ls (Ended ending.Budget) 0 k spent)
+  pub budget_says : (at : ℕ) (i : Code) → TakesGoal i → Holds area at i → IsMachine (seen area query s c ls (Going at) 0 k spent) → Says (seen area query s c ls (Going at) 0 k spent) event.Budget (seen area query s c ls (Ended ending.Budget) 0 k spent)
   budget_says at i takes holds m =
       ends_says (seen area query s c ls (Going at) 0 k spent) ending.Budget s c ls 0 k spent refl refl refl
-      (λ es total h. (let z = Rattle.code_states.proofs.Stages.budget_ends area (task_of area h.program h.query) s m.ready.0.sound at i takes holds c (lefts_by c.points ls) k es h.later h.stands in (z.0, (let a = h.all in let j = z.1 in omega (arith, a, j)))))
+      (λ es total h. (let z = budget_ends area (task_of area h.program h.query) s m.ready.0.sound at i takes holds c (lefts_by c.points ls) k es h.later h.stands in (z.0, (let a = h.all in let j = z.1 in omega (arith, a, j)))))
 
   -- no choice point is left
   pub none_says : (n : ℕ) → c.points ≡ [] → Says (seen area query s c ls Returning n k spent) event.End (seen area query s c ls (Ended ending.End) n k spent)
   none_says n none =
       ends_says (seen area query s c ls Returning n k spent) ending.End s c ls n k spent refl refl tt
-      (λ es total h. (let z = Rattle.code_states.proofs.Stages.returned_ends area (task_of area h.program h.query) s c (lefts_by c.points ls) (record { budget = n; answers = k; events = es; reductions = h.later }) none h.stands in (z.0, (let a = h.all in let j = z.1 in omega (arith, a, j)))))
+      (λ es total h. (let z = returned_ends area (task_of area h.program h.query) s c (lefts_by c.points ls) (record { budget = n; answers = k; events = es; reductions = h.later }) none h.stands in (z.0, (let a = h.all in let j = z.1 in omega (arith, a, j)))))
 
 -- ---- an answer
 
@@ -396,7 +402,7 @@ fewer_left : (j : ℕ) → one_fewer (Some (suc (suc j))) ≡ Some (suc j)
 fewer_left j = ap Some (omega arith)
 
 map_long : (area : Area) (p : Span) → length (map (name_of area) p.names) ≡ length p.names
-map_long area p = Rattle.std.proofs.lemmas.List.length-map p.names (name_of area)
+map_long area p = length-map p.names (name_of area)
 
 module _ (area : Area) (query : ℕ) (s : branch.State) (at : ℕ) (c : Contents) (ls : List Label) (n : ℕ) (spent : ℕ) where
   abbrev asked_at : Option ℕ → State
@@ -404,7 +410,7 @@ module _ (area : Area) (query : ℕ) (s : branch.State) (at : ℕ) (c : Contents
 
   less : left_at area c ls n Returning < left_at area c ls n (Going at)
   less =
-      let b = Rattle.wam_code.proofs.Ending.back_falls (Rattle.wam_code.specs.Reaching.distance area at) (map (λ (r : Rattle.code_areas.specs.Areas.Return). Rattle.wam_code.specs.Reaching.distance area r.to) c.returns) (Rattle.code_states.specs.Work.point_threads area c.points) in
+      let b = back_falls (distance area at) (map (λ (r : Return). distance area r.to) c.returns) (point_threads area c.points) in
       let f = left_falls (most area) n (whole_back area c ls) (whole_at area at c ls) (omega (arith, b)) in
       omega (arith, f)
 
@@ -483,7 +489,7 @@ module _ (area : Area) (query : ℕ) (s : branch.State) (at : ℕ) (c : Contents
         last = λ f es total h. absurd (true≢false (sym f));
         falls = λ f. less_by k;
         ends = λ f. absurd (true≢false (sym f));
-        shown = subst (λ j. Rattle.machine_events.specs.Events.ShowsTerms j x) (sym (map_long area (slice_index_or area.queries query no_span) ∙ ap (λ (p : Span). length p.names) (span_is area.queries query span has))) (shows.terms span has);
+        shown = subst (λ j. ShowsTerms j x) (sym (map_long area (slice_index_or area.queries query no_span) ∙ ap (λ (p : Span). length p.names) (span_is area.queries query span has))) (shows.terms span has);
         paced = refl;
         limit = allowed k m.ready.2;
         comes = tt;
@@ -585,7 +591,7 @@ module _ (limits : Limits) (answers : ℕ) (old new : State) (e : MachineEvent) 
       let low = a.1 in
       let sum = a.0 in
       let one = f.1 in
-      let least : counted (event.Answer x) answers ≡ answers + 1 = Rattle.std.proofs.Math.Nat.min-eq_left (omega (arith, low, sum, one)) in
+      let least : counted (event.Answer x) answers ≡ answers + 1 = min-eq_left (omega (arith, low, sum, one)) in
       subst (AreCounted (Some m) (counted (event.Answer x) answers)) (sym f.2) (omega (arith, least, sum, one), low)
   counted_by (event.Answer x) None (Some k) k' f a = absurd a
   counted_by (event.Answer x) (Some m) None k' f a = absurd a

@@ -17,6 +17,7 @@ use Rattle.code_machine.specs.declared.run.Label.{Label}
 use Rattle.code_machine.specs.declared.run.Stage.TheVariants.{Going}
 use Rattle.code_machine.specs.States.{State, MayRun, StandsFor, IsMachine}
 use Rattle.code_machine.proofs.Running.{seen}
+use Rattle.wam_code.specs.Tries.{IsQueryCode}
 
 module _ (area : Area) (verified : IsVerified area) (pool : IsPool area.pool) (query : ℕ) (span : Span) (has : HasQuery area query span) (atoms : ℕ) (named : atoms ≡ length area.pool.names) (n : ℕ) (k : Option ℕ) where
   abbrev first : State
@@ -39,7 +40,7 @@ module _ (area : Area) (verified : IsVerified area) (pool : IsPool area.pool) (q
         task = record { ready = may.ready; asked = record { span = may.span; has = may.has; names = may.code.names; shown = may.code.shown }; naming = own_naming area pool };
         later = r;
         all = omega arith;
-        stands = started_runs area (task_of area prog q) span (subst (λ (p : Span). Rattle.wam_code.specs.Tries.IsQueryCode area q p) one may.code) may.below may.shown may.runnable atoms (record { budget = n; answers = k; events = es; reductions = r }) run;
+        stands = started_runs area (task_of area prog q) span (subst (λ (p : Span). IsQueryCode area q p) one may.code) may.below may.shown may.runnable atoms (record { budget = n; answers = k; events = es; reductions = r }) run;
       }
 
   -- by what the machine is made of

@@ -8,7 +8,7 @@ pub use Rattle.code_states.proofs.Queries.{ends_on, named_inside, next_inside, q
 -- What is safe stays so.
 pub use Rattle.code_states.proofs.Safety.{Finds, back_safe, behind_on, cells_kept, fits_less, found, free_holds, next_safe, place_within, points_kept, points_then, returns_kept, same_atoms, set_holds, some_is, thread_kept, when_parts, within_code, written_fits, written_own}
 -- What is still to come for a machine, and the work that is left, where an instruction keeps what the machine stands for.
-pub use Rattle.code_states.proofs.Stages.{choices_kept, kept_falls, kept_runs, sound_model}
+pub use Rattle.code_states.proofs.Stages.{choices_kept, kept_falls, kept_runs, sound_model, budget_ends, returned_ends}
 -- What a machine stands for is kept by the get and put groups.
 pub use Rattle.code_states.proofs.Standing.{get_constant_stands, get_integer_stands, get_value_stands, get_variable_stands, put_constant_stands, put_integer_stands, put_value_stands, put_variable_stands}
 -- A new machine at a query's code: it is safe there, and stands for the query's run.

@@ -1,5 +1,5 @@
 -- What is still to come for a machine, and the work that is left, where an instruction keeps what the machine stands for.
-use Rattle.std.proofs.Common.{◌≡◌, ℕ, ◌<◌, List, [], ◌∷◌, map, ap, sym, ◌∙◌, subst, arith}
+use Rattle.std.proofs.Common.{◌≡◌, ℕ, ◌<◌, List, [], ◌∷◌, map, ap, sym, ◌∙◌, subst, arith, Option}
 use Rattle.std.proofs.lemmas.Option.{slice_get_within}
 use Rattle.fd_language.specs.declared.TheConstants.{INFINITY}
 use Rattle.fd_model.specs.Levels.{Level}
@@ -16,14 +16,15 @@ use Rattle.wam_code.proofs.Lemmas.{step_falls, back_falls}
 use Rattle.code_areas.specs.Areas.{Point, Contents}
 use Rattle.code_steps.specs.Trying.{IsFirst}
 use Rattle.code_steps.specs.Running.{Left, Choice, Runs, Returns}
-use Rattle.code_steps.proofs.Lemmas.{runs_on, runs_gone}
+use Rattle.code_steps.proofs.Lemmas.{runs_on, runs_gone, TakesGoal, runs_spent, back_ends}
 use Rattle.code_states.specs.declared.went.Went.{Went}
 use Rattle.code_states.specs.declared.went.Went.TheVariants.{On, Back}
 use Rattle.code_states.specs.Machine.{registers_of, stack_of, IsSameBehind}
 use Rattle.code_states.specs.Standing.{KeepsStanding}
 use Rattle.code_states.specs.Choices.{choices_of, choices_in}
-use Rattle.code_states.specs.Stages.{RunsThen}
+use Rattle.code_states.specs.Stages.{RunsThen, Task, Future, RunsAt, ReturnsTo}
 use Rattle.code_states.specs.Work.{thread_of, point_threads, work_at, work_then, LeadsOn}
+use Rattle.fd_model.specs.Goal.{Event, Budget, End}
 
 -- the same points, with the same pairs below
 pub choices_kept : (s s' : branch.State) (c c' : Contents) → IsSameBelow s s' → IsSameBehind c c' → (ls : List Left) → choices_in s c ls ≡ choices_in s' c' ls
@@ -58,3 +59,15 @@ kept_falls area at c i holds c' behind w leads = subst (λ rs. work_then area c'
 -- what is posted has a model
 pub sound_model : (s : branch.State) → IsSound s → HasModel INFINITY s.levels.current.posted
 sound_model s sound = (family_of s.levels.current.sets, sound.now.settled.model)
+
+-- no choice point is left to go back to
+pub returned_ends : (area : Area) (t : Task) (s : branch.State) (c : Contents) (ls : List Left) (f : Future) → c.points ≡ [] → ReturnsTo area t s c ls f → (f.events ≡ End ∷ []) × (f.reductions ≡ 0)
+returned_ends area t s c ls f none m =
+    back_ends INFINITY area t.program t.query t.name f.budget f.answers f.events f.reductions
+    (subst (λ ps. Returns INFINITY area t.program t.query t.name (choices_of ps s.heaps.below s.levels.below ls) f.budget f.answers f.events f.reductions) none m)
+
+-- no reduction is left for the goal at a place
+pub budget_ends : (area : Area) (t : Task) (s : branch.State) → IsSound s → (at : ℕ) (i : Code) → TakesGoal i → Holds area at i → (c : Contents) (ls : List Left) (k : Option ℕ) (es : List Event) (r : ℕ)
+    → RunsAt area t s at c ls (record { budget = 0; answers = k; events = es; reductions = r }) → (es ≡ Budget ∷ []) × (r ≡ 0)
+budget_ends area t s sound at i takes holds c ls k es r m =
+    runs_spent INFINITY area t.program t.query t.name s.heaps.now s.levels.current.posted at (registers_of c) (stack_of c) (choices_in s c ls) k es r (sound_model s sound) i takes holds m

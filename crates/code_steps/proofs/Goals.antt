@@ -6,7 +6,7 @@ use Rattle.fd_language.specs.Family.{Family}
 use Rattle.fd_language.specs.Range.{Indexical}
 use Rattle.fd_model.specs.declared.kinds.BuiltinKind.{BuiltinKind}
 use Rattle.fd_model.specs.declared.kinds.BuiltinKind.TheVariants as kind
-use Rattle.fd_model.specs.Goal.{Goal, listed, Branch, Program, Query, Event}
+use Rattle.fd_model.specs.Goal.{Goal, listed, Branch, Program, Query, Event, Budget}
 use Rattle.fd_model.specs.Goal as goal
 use Rattle.fd_model.specs.Children.{with_goals, with_equations}
 use Rattle.fd_model.specs.Lines.{says}
@@ -31,14 +31,16 @@ use Rattle.machine_frames.proofs.Lemmas.{kept_unified, kept_refuted}
 use Rattle.wam_code.specs.declared.instruction.Code.{Code}
 use Rattle.wam_code.specs.declared.instruction.Code.TheVariants as code
 use Rattle.wam_code.specs.Area.{Area, Holds}
-use Rattle.wam_code.specs.Places.{Places}
-use Rattle.wam_code.specs.Means.{BuiltinRule}
+use Rattle.wam_code.specs.Places.{Places, IsWhole}
+use Rattle.wam_code.specs.Means.{BuiltinRule, Caller, Rule, Means}
 use Rattle.code_steps.specs.Registers.{Registers, Saved}
 use Rattle.code_steps.specs.Standing.{Stands}
 use Rattle.code_steps.specs.Running.{Choice, resume, Runs, Returns, IsTaking}
-use Rattle.code_steps.proofs.Readying.{ready_at, ready_kept, ready_consistent, ready_held, taking, taken_on, taken_same, goal_gives, goal_one, goal_gone, goal_none}
+use Rattle.code_steps.proofs.Readying.{ready_at, ready_kept, ready_consistent, ready_held, taking, taken_on, taken_same, goal_gives, goal_one, goal_gone, goal_none, goal_spent}
 use Rattle.code_steps.proofs.Running.{goes_inside}
 use Rattle.code_steps.proofs.Taking.{step_either}
+use Rattle.fd_language.specs.Unifier.{Equation}
+use Rattle.code_steps.specs.Trying.{IsFirst}
 
 -- instructions that take a goal
 abbrev pub TakesGoal : Code → Type 0
@@ -50,6 +52,35 @@ TakesGoal (code.Constrain k) = Unit {0}
 TakesGoal (code.Label o) = Unit {0}
 TakesGoal (code.PostRange r n) = Unit {0}
 TakesGoal _ = ⊥
+
+takes_first : (i : Code) → TakesGoal i → IsFirst i
+takes_first (code.Call e) t = tt
+takes_first (code.Execute e) t = tt
+takes_first (code.Either to) t = tt
+takes_first (code.Builtin k) t = tt
+takes_first (code.Constrain k) t = tt
+takes_first (code.Label o) t = tt
+takes_first (code.PostRange r n) t = tt
+takes_first _ t = absurd t
+
+takes_one : (area : Area) (i : Code) → TakesGoal i → (w : Caller) (at : ℕ) (p : Places) (es : List Equation) (gs : List Goal) → Rule area w (Means area w) i at p es gs → (IsWhole p × (es ≡ [])) × ((g : Goal) × (later : List Goal) × (gs ≡ g ∷ later))
+takes_one area (code.Call e) t w at p es gs r = ((r.4.whole, r.5), (r.0, r.1, r.6))
+takes_one area (code.Execute e) t w at p es gs r = ((r.2, r.3), (r.0, w.goals, r.4))
+takes_one area (code.Either to) t w at p es gs r = ((r.4.whole, r.5), (goal.Either r.0 r.1, r.2, r.6))
+takes_one area (code.Builtin k) t w at p es gs r = ((r.4.whole, r.5), (r.0, r.1, r.6))
+takes_one area (code.Constrain k) t w at p es gs r = ((r.4.whole, r.5), (r.0, r.1, r.6))
+takes_one area (code.Label o) t w at p es gs r = ((r.4.whole, r.5), (r.0, r.1, r.6))
+takes_one area (code.PostRange n k) t w at p es gs r = ((r.4.whole, r.5), (r.0, r.1, r.6))
+takes_one area _ t w at p es gs r = absurd t
+
+-- no budget is left for a goal
+pub runs_spent : (M : ℕ) (area : Area) (prog : Program) (q : Query) (name : Naming) (h : Cells) (qs : List Indexical) (at : ℕ) (c : Registers) (stack : List Saved) (cs : List Choice) (k : Option ℕ) (es : List Event) (r : ℕ)
+    → HasModel M qs → (i : Code) → TakesGoal i → Holds area at i → Runs M area prog q name h qs at c stack cs 0 k es r → (es ≡ Budget ∷ []) × (r ≡ 0)
+runs_spent M area prog q name h qs at c stack cs k es r model i t f m =
+    let s = goes_inside M area q.shown name h qs at c stack m.first m.here i (takes_first i t) f in
+    let d = ready_at M area q.shown name h qs at c stack s.0 s.1 i f (λ w p es g. (takes_one area i t w at p es s.0.goals g).0) in
+    let g = (takes_one area i t _ at d.0.p [] s.0.goals d.1).1 in
+    goal_spent M area prog q name h qs at c stack cs k es r s.0 (ready_consistent M area q.shown name h qs at c stack s.0 d.0 model) g.0 g.1 g.2 m s.2
 
 -- Two terms whose cells are known are equated by a goal.
 module _ (M : ℕ) (area : Area) (shown : List ℕ) (name : Naming) (h : Cells) (qs : List Indexical) (at : ℕ) (c : Registers) (stack : List Saved) (b : Branch) (taken : Places → Goal → Type 0) (m : IsTaking M area shown name h qs at c stack b taken)

@@ -12,7 +12,7 @@ pub use Rattle.code_steps.proofs.Constraining.{run_constraint, run_constraint_fa
 -- The steps from a built-in goal, by what it comes to on the heap and the store's sets.
 pub use Rattle.code_steps.proofs.Finding.{run_found_equated, run_found_false, run_found_fault, run_found_refuted, run_found_true}
 -- The steps from `true`, `fail`, `=` and `;`, and from any goal where the budget is spent.
-pub use Rattle.code_steps.proofs.Goals.{TakesGoal, run_either, run_fail, run_false, run_refuted, run_true, run_unify}
+pub use Rattle.code_steps.proofs.Goals.{TakesGoal, run_either, run_fail, run_false, run_refuted, run_true, run_unify, runs_spent}
 -- The steps from a labelling, and back to one.
 pub use Rattle.code_steps.proofs.Labelling.{back_no_values, back_value, run_label, run_label_done, run_label_fault}
 -- A compound term of a clause's head, where the argument is one of its name and arity: its arguments are read one by one.
@@ -22,7 +22,7 @@ pub use Rattle.code_steps.proofs.Ranging.{run_range, run_range_fault}
 -- The unify instructions on a compound term that is there.
 pub use Rattle.code_steps.proofs.ReadMode.{read_constant, read_end, read_integer, read_value, read_variable, read_void, read_voids}
 -- Steps of the whole state: on in a clause, before a clause, to a choice point and back to it.
-pub use Rattle.code_steps.proofs.Running.{back_resumes, goes_before, runs_gone, runs_jump, runs_on, runs_over, runs_tries, spends_more, stands_no_model}
+pub use Rattle.code_steps.proofs.Running.{back_resumes, goes_before, runs_gone, runs_jump, runs_on, runs_over, runs_tries, spends_more, stands_no_model, back_ends}
 -- Registers and continuations on a heap that changes.
 pub use Rattle.code_steps.proofs.Shown.{all_moved, shown_moved}
 -- A new machine at a query's code, and a store without a model.
@@ -33,3 +33,5 @@ pub use Rattle.code_steps.proofs.Stepping.{step_allocate, step_deallocate, step_
 pub use Rattle.code_steps.proofs.Trying.{step_constants, step_enter, step_fail, step_integers, step_retry, step_retry_me_else, step_structures, step_switch, step_trust, step_trust_me, step_try, step_try_me_else}
 -- The steps from `write` and `nl`.
 pub use Rattle.code_steps.proofs.Writing.{run_newline, run_write}
+-- A clause whose first argument clashes with what the goal's first cell shows may be left out: its branch has no model.
+pub use Rattle.code_steps.proofs.Leaving.{count_applied}

@@ -3,7 +3,7 @@ use Rattle.std.proofs.Common.{◌≡◌, ℕ, suc, ◌<◌, ◌≤◌, List, [],
 use Rattle.fd_language.specs.Term.{Term, Substitution, apply}
 use Rattle.fd_language.specs.Unifier.{Equation}
 use Rattle.fd_language.specs.Range.{Indexical}
-use Rattle.fd_model.specs.Goal.{Goal, Branch, Program, Query, Event, Fault}
+use Rattle.fd_model.specs.Goal.{Goal, Branch, Program, Query, Event, Fault, Budget}
 use Rattle.fd_model.specs.Seen.{IsConsistent, IsView}
 use Rattle.fd_model.specs.Children.{Faults}
 use Rattle.fd_model.specs.Models.{IsModel}
@@ -17,7 +17,7 @@ use Rattle.heap_cells.specs.Terms.{Naming, term_of}
 use Rattle.machine_relation.specs.Ahead.{offered, Ahead, Spends}
 use Rattle.machine_relation.specs.Heap.{Below}
 use Rattle.machine_relation.specs.Models.{HasModel}
-use Rattle.machine_relation.proofs.Lemmas.{ahead_drop, ahead_taken, ahead_fault, more_of, GivesAll, Speaks, gone_by}
+use Rattle.machine_relation.proofs.Lemmas.{ahead_drop, ahead_taken, ahead_fault, more_of, GivesAll, Speaks, gone_by, ahead_spent}
 use Rattle.machine_frames.specs.Frames.{IsKept}
 use Rattle.machine_frames.proofs.Lemmas.{kept_known, kept_consistent}
 use Rattle.wam_code.specs.declared.instruction.Code.{Code}
@@ -139,6 +139,10 @@ module _ (M : ℕ) (area : Area) (prog : Program) (q : Query) (name : Naming) (h
     (b : Branch) (consistent : IsConsistent M b.equations b.posted) (goal : Goal) (later : List Goal) (goals : b.goals ≡ goal ∷ later) where
   ahead_of : (n : ℕ) (m : Runs M area prog q name h qs at c stack cs n k es r) → m.first ≡ b ∷ [] → Ahead M prog q n k (b ∷ m.others) es r
   ahead_of n m one = subst (λ l. Ahead M prog q n k (l ++ m.others) es r) one m.ahead
+
+  -- no budget is left for it
+  pub goal_spent : (m : Runs M area prog q name h qs at c stack cs 0 k es r) → m.first ≡ b ∷ [] → (es ≡ Budget ∷ []) × (r ≡ 0)
+  goal_spent m one = ahead_spent M prog q k b goal later m.others es r consistent goals (ahead_of 0 m one)
 
   module _ (runnable : IsRunnableProgram M prog) (n : ℕ) (m : Runs M area prog q name h qs at c stack cs (suc n) k es r) (one : m.first ≡ b ∷ []) where
     -- it is a fault

@@ -3,13 +3,13 @@ use Rattle.std.proofs.Common.{◌≡◌, ℕ, ◌<◌, List, [], ◌∷◌, ◌+
 use Rattle.fd_language.specs.Family.{Family}
 use Rattle.fd_language.specs.Range.{Indexical}
 use Rattle.fd_language.specs.Unifier.{Equation}
-use Rattle.fd_model.specs.Goal.{Goal, Branch, Program, Query, Event}
+use Rattle.fd_model.specs.Goal.{Goal, Branch, Program, Query, Event, End}
 use Rattle.fd_model.specs.Models.{IsModel}
 use Rattle.fd_model.proofs.Lemmas.{split_both, weaker}
 use Rattle.heap_cells.specs.Cells.{Cells}
 use Rattle.heap_cells.specs.Terms.{Naming}
 use Rattle.machine_relation.specs.Ahead.{Ahead, Spends}
-use Rattle.machine_relation.proofs.Lemmas.{ahead_drop, same_model, gone_by}
+use Rattle.machine_relation.proofs.Lemmas.{ahead_drop, same_model, gone_by, ahead_none}
 use Rattle.machine_frames.proofs.Lemmas.{kept_no_model}
 use Rattle.wam_code.specs.declared.instruction.Code.{Code}
 use Rattle.wam_code.specs.declared.instruction.Code.TheVariants.{Jump, FailNow, TryMeElse, RetryMeElse, TrustMe, Try, Retry, Trust, SwitchOnTerm, SwitchOnConstant, SwitchOnInteger, SwitchOnStructure}
@@ -127,3 +127,7 @@ module _ (M : ℕ) (area : Area) (prog : Program) (q : Query) (name : Naming) (n
   -- Back to the newest choice point: the machine goes on at its place, with what it has saved.
   pub back_resumes : (at : ℕ) (h : Cells) (qs : List Indexical) (c : Registers) (stack : List Saved) (cs : List Choice) → Returns M area prog q name (record { left = resume at; registers = c; stack = stack; heap = h; store = qs } ∷ cs) n k es r → Runs M area prog q name h qs at c stack cs n k es r
   back_resumes at h qs c stack cs m = record { first = m.wait.0; others = m.wait.1; here = m.wait.2; wait = m.wait.3; ahead = subst (λ l. Ahead M prog q n k l es r) m.wait.4 m.ahead }
+
+  -- No choice point is left.
+  pub back_ends : Returns M area prog q name [] n k es r → (es ≡ End ∷ []) × (r ≡ 0)
+  back_ends m = ahead_none M prog q n k es r (subst (λ l. Ahead M prog q n k l es r) m.wait m.ahead)

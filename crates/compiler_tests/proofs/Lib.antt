@@ -1,1 +1,1 @@
-mod Shortest
+mod ShortestCode

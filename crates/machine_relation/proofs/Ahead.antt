@@ -4,9 +4,9 @@ use Rattle.std.proofs.Math.Nat.{suc_inj}
 use Rattle.fd_language.specs.Term.{Substitution}
 use Rattle.fd_language.specs.Family.{Family}
 use Rattle.fd_model.specs.declared.kinds.QueryFault.{QueryFault}
-use Rattle.fd_model.specs.Goal.{Goal, Branch, Program, Query, Event, Answer, Budget, Limit, Fault}
+use Rattle.fd_model.specs.Goal.{Goal, Branch, Program, Query, Event, Answer, Budget, Limit, Fault, End}
 use Rattle.fd_model.specs.Seen.{IsConsistent, IsView}
-use Rattle.fd_model.specs.Children.{Children, Offer, Faults, Gives, Kept, KeptOffer}
+use Rattle.fd_model.specs.Children.{Children, Offer, Faults, Gives, Kept, KeptOffer, look_in, sets_in}
 use Rattle.fd_model.specs.Lines.{answer_line, says}
 use Rattle.fd_model.specs.Sound.{AreRunnable, IsRunnableProgram}
 use Rattle.fd_model.specs.Run.{Run, over, last, fewer, any, spent, faulty, taken}
@@ -106,9 +106,31 @@ module _ (M : ℕ) (prog : Program) (q : Query) where
   answered (faulty {b = c} {bs = ds} h others s D i kids) b cs e f = absurd (some_goal c b ds cs h others i e f)
   answered (taken {b = c} {bs = ds} h others s D xs i kids more) b cs e f = absurd (some_goal c b ds cs h others i e f)
 
+  ended : {n : ℕ} {k : Option ℕ} {bs : List Branch} {es : List Event} {r : ℕ} → Run M prog q n k bs es r → bs ≡ [] → (es ≡ End ∷ []) × (r ≡ 0)
+  ended over e = (refl, refl)
+  ended (last s D h v) e = absurd (cc)
+  ended (fewer s D h v more) e = absurd (cc)
+  ended (any s D h v more) e = absurd (cc)
+  ended (spent h others i) e = absurd (cc)
+  ended (faulty h others s D i kids) e = absurd (cc)
+  ended (taken h others s D xs i kids more) e = absurd (cc)
+
+  -- no branch is left
+  pub ahead_none : (n : ℕ) (k : Option ℕ) (es : List Event) (r : ℕ) → Ahead M prog q n k [] es r → (es ≡ End ∷ []) × (r ≡ 0)
+  ahead_none n k es r a = ended a.run a.kept
+
   -- a branch that is not consistent is dropped, which costs nothing and says nothing
   pub ahead_drop : (n : ℕ) (k : Option ℕ) (b : Branch) (bs : List Branch) (es : List Event) (r : ℕ) → (IsConsistent M b.equations b.posted → ⊥) → Ahead M prog q n k (b ∷ bs) es r → Ahead M prog q n k bs es r
   ahead_drop n k b bs es r gone a = record { fit = a.fit.1; branches = a.branches; kept = kept_later M b bs a.branches gone a.kept; run = a.run }
+
+  -- a goal of a consistent branch, where the budget is spent
+  pub ahead_spent : (k : Option ℕ) (b : Branch) (g : Goal) (rest : List Goal) (bs : List Branch) (es : List Event) (r : ℕ) → IsConsistent M b.equations b.posted → b.goals ≡ g ∷ rest → Ahead M prog q 0 k (b ∷ bs) es r → (es ≡ Budget ∷ []) × (r ≡ 0)
+  ahead_spent k b g rest bs es r c e a = let h = kept_first M b bs a.branches c a.kept in by_turn (turned a.run b h.0 g rest h.1 e)
+    where
+      by_turn : {cs : List Branch} → Turned 0 k b g rest cs es r → (es ≡ Budget ∷ []) × (r ≡ 0)
+      by_turn (ran_out f i j) = (i, j)
+      by_turn (faults m f s D e kids i j) = absurd (cc)
+      by_turn (goes_on m xs later j s D e kids i l more) = absurd (cc)
 
   module _ (runnable : IsRunnableProgram M prog) (n : ℕ) (k : Option ℕ) (b : Branch) (g : Goal) (rest : List Goal) (bs : List Branch) (es : List Event) (r : ℕ)
       (consistent : IsConsistent M b.equations b.posted) (goals : b.goals ≡ g ∷ rest) (a : Ahead M prog q (suc n) k (b ∷ bs) es r) where
@@ -133,7 +155,7 @@ module _ (M : ℕ) (prog : Program) (q : Query) where
             let o = gives_from M _ xs c.kept in
             let same : n ≡ m = suc_inj e in
             let one : o.0 ≡ kids = same_kids o.0 kids (sym o.1 ∙ gives s D c.view) in
-            let sound = offer_sound M b rest a.fit.0.1 runnable_goals.1 prog (Rattle.fd_model.specs.Children.look_in b s D) (Rattle.fd_model.specs.Children.sets_in b s D) g runnable runnable_goals.0 kids (gives s D c.view) in (
+            let sound = offer_sound M b rest a.fit.0.1 runnable_goals.1 prog (look_in b s D) (sets_in b s D) g runnable runnable_goals.0 kids (gives s D c.view) in (
               later,
               j,
               i ∙ ap (λ l. l ++ later) (speaks s D c.view),

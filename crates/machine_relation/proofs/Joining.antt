@@ -11,10 +11,7 @@ use Rattle.fd_model.proofs.Lemmas.{map_has, has_map}
 use Rattle.machine_relation.specs.Store.{IsLinked, next_slot, IsStored, ArePosted, names}
 use Rattle.machine_relation.specs.Rows.{IsJoined, AreJoined}
 use Rattle.machine_relation.proofs.Renaming.{range_twice}
-use Rattle.machine_relation.proofs.Posting.{posted, posted_by}
-
-pub names_map : (f : ℕ → ℕ) (p : Indexical) → names (rename_indexical f p) ≡ map f (names p)
-names_map f p = ap (λ l. f p.target ∷ l) (reads_map f p.range)
+use Rattle.machine_relation.proofs.Posting.{posted, posted_by, names_renamed}
 
 module _ (M : ℕ) (es : List Equation) (P : ℕ → Type 0) (h : ℕ) (look : Substitution) (f : ℕ → ℕ) where
   abbrev Placed : List ℕ → Type 0
@@ -23,11 +20,11 @@ module _ (M : ℕ) (es : List Equation) (P : ℕ → Type 0) (h : ℕ) (look : S
   linked_by : (p : Indexical) → Placed (names p) → (link : ℕ → Option ℕ) (qs : List Indexical) (g : ℕ → ℕ) (link' : ℕ → Option ℕ) → IsJoined link qs (rename_indexical f p) g link' → IsLinked P look link qs p (λ v. g (f v)) link'
   linked_by p i link qs g link' j = record {
     used = λ v c. (i v c).0;
-    cell = λ v c. (f v, (i v c).1, j.cell (f v) (subst (λ l. has l (f v) ≡ true) (sym (names_map f p)) (has_map f (names p) v c)));
+    cell = λ v c. (f v, (i v c).1, j.cell (f v) (subst (λ l. has l (f v) ≡ true) (sym (names_renamed f p)) (has_map f (names p) v c)));
     keep = j.keep;
     fresh = λ c k e. elim (j.fresh c k e) [
       | inl a ↦ inl a
-      | inr a ↦ let z = map_has f (names p) c (subst (λ l. has l c ≡ true) (names_map f p) a.0) in inr (z.0, z.1, (i z.0 z.1).1 ∙ ap Var z.2, a.1)
+      | inr a ↦ let z = map_has f (names p) c (subst (λ l. has l c ≡ true) (names_renamed f p) a.0) in inr (z.0, z.1, (i z.0 z.1).1 ∙ ap Var z.2, a.1)
     ];
     one = j.one;
   }

@@ -1,6 +1,6 @@
 -- The lemmas that other crates may cite, by their subjects. All else in proofs/ is this crate's own.
 -- What is ahead of branches of which some may not be consistent, goal by goal.
-pub use Rattle.machine_relation.proofs.Ahead.{ahead_any, ahead_drop, ahead_fault, ahead_fewer, ahead_last, ahead_taken}
+pub use Rattle.machine_relation.proofs.Ahead.{ahead_any, ahead_drop, ahead_fault, ahead_fewer, ahead_last, ahead_taken, ahead_none, ahead_spent}
 -- New cells for new variables, and a clause's instance on them.
 pub use Rattle.machine_relation.proofs.Cells.{place_above, place_from}
 -- Variables that are forgotten: other equations that say the same of those that stay.
@@ -12,7 +12,7 @@ pub use Rattle.machine_relation.proofs.Growing.{after_are, after_is, agree, agre
 -- The steps of a frame that stands for equations and ranges.
 pub use Rattle.machine_relation.proofs.Holding.{held_fix, stored_posts}
 -- Ranges on cells that a store links, as ranges of a branch that are posted.
-pub use Rattle.machine_relation.proofs.Joining.{posted_each, names_map}
+pub use Rattle.machine_relation.proofs.Joining.{posted_each}
 -- A labelling by the heap's list and the store's sets.
 pub use Rattle.machine_relation.proofs.Labels.{row_by}
 -- A labelling by other names of the open variables, which have the same values.

@@ -94,7 +94,7 @@ one_back p v h = elim (or_cases (p.target == v) (has (reads p.range ++ []) v) h)
   | inr e ↦ or_right (p.target == v) (has (reads p.range) v) (elim (has_either (reads p.range) [] v e) [ inl g ↦ g | inr g ↦ absurd (true≢false (sym g)) ])
 ]
 
-names_renamed : (f : ℕ → ℕ) (p : Indexical) → names (rename_indexical f p) ≡ map f (names p)
+pub names_renamed : (f : ℕ → ℕ) (p : Indexical) → names (rename_indexical f p) ≡ map f (names p)
 names_renamed f p = ap (λ l. f p.target ∷ l) (reads_map f p.range)
 
 pub slot_there : (f : ℕ → ℕ) (p : Indexical) (v : ℕ) → has (names p) v ≡ true → has (constrained (rename_indexical f p ∷ [])) (f v) ≡ true

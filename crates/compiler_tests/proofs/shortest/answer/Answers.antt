@@ -1,4 +1,4 @@
-use Rattle.compiler_tests.proofs.Shortest.{shortest_verified}
+use Rattle.compiler_tests.proofs.ShortestCode.{shortest_verified}
 use Rattle.compiler_tests.proofs.shortest.answer.Goals as goal
 
 pub from_verified-requires : goal.from_verified-requires
