@@ -6,7 +6,7 @@ use monotone_check::{CheckFault, Checked, check, needs};
 use std::alloc::{AllocError, Global};
 use std::test::Fail;
 
-fn node_of(kind: &str, number: i64) -> Option<RangeNode> {
+fn leaf_of(kind: &str, number: i64) -> Option<RangeNode> {
     let variable = number.unsigned_abs();
     match kind {
         "int" => Some(RangeNode::Int(number)),
@@ -15,6 +15,13 @@ fn node_of(kind: &str, number: i64) -> Option<RangeNode> {
         "min" => Some(RangeNode::Min(variable)),
         "max" => Some(RangeNode::Max(variable)),
         "val" => Some(RangeNode::Val(variable)),
+        "dom" => Some(RangeNode::Dom(variable)),
+        _ => None,
+    }
+}
+
+fn operator_of(kind: &str) -> Option<RangeNode> {
+    match kind {
         "add" => Some(RangeNode::Add),
         "sub" => Some(RangeNode::Sub),
         "mul" => Some(RangeNode::Mul),
@@ -22,7 +29,6 @@ fn node_of(kind: &str, number: i64) -> Option<RangeNode> {
         "divup" => Some(RangeNode::DivUp),
         "span" => Some(RangeNode::Span),
         "one" => Some(RangeNode::One),
-        "dom" => Some(RangeNode::Dom(variable)),
         "union" => Some(RangeNode::Union),
         "inter" => Some(RangeNode::Inter),
         "outside" => Some(RangeNode::Outside),
@@ -38,8 +44,18 @@ fn node_of(kind: &str, number: i64) -> Option<RangeNode> {
 fn node_at(token: &str) -> Option<(RangeNode, usize)> {
     let (kind, rest) = token.split_once(':')?;
     let (number, place) = rest.split_once(':')?;
-    let node = node_of(kind, number.parse().ok()?)?;
+    let node = leaf_of(kind, number.parse().ok()?).or(operator_of(kind))?;
     Some((node, place.parse().ok()?))
+}
+
+/// Puts the node and the place of a token behind the others.
+fn push_node(token: &str, nodes: &mut Vec<RangeNode>, places: &mut Vec<usize>) -> Result<(), Fail> {
+    let Some((node, place)) = node_at(token) else {
+        return Err(Fail::new("no node"));
+    };
+    nodes.push(node)?;
+    places.push(place)?;
+    Ok(())
 }
 
 /// The range that the tokens spell, and the places of its nodes.
@@ -47,15 +63,21 @@ fn spelled(alloc: Global, spelling: &str) -> Result<(FlatRange, Vec<usize>), Fai
     let mut nodes = Vec::new(alloc);
     let mut places = Vec::new(alloc);
     for token in spelling.split(' ') {
-        let Some((node, place)) = node_at(token) else {
-            return Err(Fail::new("no node"));
-        };
-        nodes.push(node)?;
-        places.push(place)?;
+        push_node(token, &mut nodes, &mut places)?;
     }
     match FlatRange::from_nodes(nodes) {
         Some(range) => Ok((range, places)),
         None => Err(Fail::new("no range")),
+    }
+}
+
+/// What the check finds of the range that the tokens spell.
+fn found_of(alloc: Global, spelling: &str) -> Result<Result<Checked, CheckFault>, Fail> {
+    let (range, places) = spelled(alloc, spelling)?;
+    if places.len() == range.nodes().len() {
+        Ok(check(alloc, range, &places))
+    } else {
+        Err(Fail::new("no place for each node"))
     }
 }
 
@@ -81,11 +103,7 @@ pub fn told(alloc: Global, checked: Result<Checked, CheckFault>) -> Result<Strin
 }
 
 fn verdict_of(alloc: Global, spelling: &str) -> Result<String, Fail> {
-    let (range, places) = spelled(alloc, spelling)?;
-    if places.len() != range.nodes().len() {
-        return Err(Fail::new("no place for each node"));
-    }
-    Ok(told(alloc, check(alloc, range, &places))?)
+    Ok(told(alloc, found_of(alloc, spelling)?)?)
 }
 
 /// A range's text, its nodes in postfix order with their places, and what the check says of it.
@@ -181,21 +199,12 @@ fn verdicts(rt: HostRuntime) -> Result<(), Fail> {
     Ok(())
 }
 
-/// The range that the tokens spell, which the check accepts.
-fn checked_of(alloc: Global, spelling: &str) -> Result<Checked, Fail> {
-    let (range, places) = spelled(alloc, spelling)?;
-    if places.len() != range.nodes().len() {
-        return Err(Fail::new("no place for each node"));
-    }
-    Ok(check(alloc, range, &places)?)
-}
-
 /// The strongest need holds: P is natural in a product, though it stands alone before, and R is a divisor.
 #[test]
 fn strongest_needs(rt: HostRuntime) -> Result<(), Fail> {
     let spelling =
         "param:0:0 int:9:0 span:0:0 int:0:0 param:0:0 param:1:0 mul:0:0 span:0:0 union:0:0 param:2:0 over:0:0";
-    let checked = checked_of(rt.alloc(), spelling)?;
+    let checked = found_of(rt.alloc(), spelling)??;
     let found = needs(rt.alloc(), &checked)?;
     let expected = [(0, Need::Natural), (1, Need::Natural), (2, Need::Divisor)];
     same(&rt, found.as_slice(), expected.as_slice(), "the needs");

@@ -1,7 +1,5 @@
-//! The code of small texts against listings made by hand, and the shortest code.
+//! The code of small texts against listings made by hand.
 #![tactic(auto)]
 
 #[cfg(test)]
 mod listings;
-#[cfg(test)]
-mod shortest;

@@ -16,7 +16,7 @@ use std::rc::Rc;
 use std::test::Fail;
 use term_pool::Pool;
 use term_reader::read_sentences;
-use wam_code::{Code, CodeArea, CodeParts, QueryEntry};
+use wam_code::{Code, CodeArea, CodeParts, Instr, QueryEntry};
 
 /// The program of a text.
 fn program_of(alloc: Global, text: &str) -> Result<Program, Fail> {
@@ -216,7 +216,11 @@ fn verified_code_of_no_program(rt: HostRuntime) -> Result<(), Fail> {
         steps: 9,
         answers: None,
     };
-    let lines = run_code(alloc, unmeant_code(alloc)?, limits, Fifo::new(alloc), 2)?;
+    let code = unmeant_code(alloc)?;
+    assert_eq!(rt; code.queries(), 1);
+    assert_eq!(rt; code.pool().atoms(), 3);
+    assert!(rt; code.parts().code.len() > 3 && matches!(code.instr(3), Instr::AnswerNow));
+    let lines = run_code(alloc, code, limits, Fifo::new(alloc), 2)?;
     same(&rt, lines.as_str(), "answer 0; end; 0", "the code");
     Ok(())
 }

@@ -62,9 +62,8 @@ fn top(pool: &Pool, t: TermId) -> (i64, usize, usize)
         Node::Var(_) => (-7, 0, 0),
         Node::Int(integer) => (integer, 0, 0),
         Node::Atom(atom) => (0, atom.number, 0),
-        Node::Comp(atom, []) => (0, atom.number, 0),
-        Node::Comp(atom, [only]) => (1, atom.number, only.number),
-        Node::Comp(atom, [.., last]) => (2, atom.number, last.number),
+        Node::Comp(atom, [.., last]) => (1, atom.number, last.number),
+        Node::Comp(atom, []) => (2, atom.number, 0),
     }
 }
 
@@ -88,14 +87,11 @@ fn put(
 }
 
 #[test]
-fn shows_a_term_of_depth_two(rt: HostRuntime) -> Result<(), Fail> {
+fn shows_a_term_with_its_parts(rt: HostRuntime) -> Result<(), Fail> {
     let mut pool = Pool::new(rt.alloc())?;
-    let name = pool.atom("f")?;
     let variable = put(&rt, &mut pool, Node::Var(7), 2, (-7, 0, 0))?;
     let integer = put(&rt, &mut pool, Node::Int(-1), 6, (-1, 0, 0))?;
-    let node = Node::Comp(name, &[integer]);
-    let inner = put(&rt, &mut pool, node, 4, (1, 3, 1))?;
-    let node = Node::Comp(CONS, &[variable, inner]);
-    put(&rt, &mut pool, node, 0, (2, 1, 2))?;
+    let node = Node::Comp(CONS, &[variable, integer]);
+    put(&rt, &mut pool, node, 0, (1, 1, 1))?;
     Ok(())
 }

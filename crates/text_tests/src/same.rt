@@ -7,3 +7,8 @@ use std::process::Abort;
 pub fn same<T: PartialEq + Debug + Copy>(rt: &impl Abort, found: T, want: T, at: &str) {
     assert!(rt; found == want, "{found:?} is not {want:?}, at {at}");
 }
+
+/// The first column of a row, and those behind it.
+pub fn columns<'r>(rt: &impl Abort, row: &'r str) -> (&'r str, &'r str) {
+    row.split_once(" | ").expect(rt, row)
+}

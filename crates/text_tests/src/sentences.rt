@@ -2,131 +2,131 @@
 ghost use Rattle.std.specs.Prelude.{◌<◌, length, All, OnOk};
 ghost use Rattle.term_reader.specs.Sentences.{AreOwn};
 
-use crate::same::same;
+use crate::same::{columns, same};
 use char_tokens::TokenFault;
 use std::alloc::{AllocError, Global};
+use std::process::Abort;
 use std::test::Fail;
 use term_pool::{AtomId, Node, Pool, TermId};
 use term_reader::{ReaderFault, Sentences, read_sentences};
 
-/// A text, and what it is: each term with its parts before it, as a variable, an integer, an atom or a name with its arity, each with its place behind `@`; then the names of the sentence's variables; or the fault and its place.
-const TEXTS: &[(&str, &str)] = &[
-    // sentences and their variables
-    ("", ""),
-    ("% nothing", ""),
-    ("a.", "a@0"),
-    ("a. b.", "a@0; b@3"),
-    ("foo(a,B).", "a@4 V0@6 foo/2@0 [B]"),
-    ("f(X,_,Y,X,_).", "V0@2 V1@4 V2@6 V0@8 V3@10 f/5@0 [X,_,Y,_]"),
-    ("p(X). q(X,Y).", "V0@2 p/1@0 [X]; V0@8 V1@10 q/2@6 [X,Y]"),
-    ("__ = __.", "V0@0 V0@5 =/2@3 [__]"),
-    ("!.", "!@0"),
-    ("'a b'.", "a b@0"),
-    ("9223372036854775807.", "9223372036854775807@0"),
-    // a minus and a tight integer are a number
-    ("-1.", "-1@0"),
-    ("- 1.", "1@2 -/1@0"),
-    ("a-1.", "a@0 1@2 -/2@1"),
-    ("a -1.", "a@0 1@3 -/2@2"),
-    ("- -1.", "-1@2 -/1@0"),
-    ("-9223372036854775807.", "-9223372036854775807@0"),
-    ("-1*b.", "-1@0 b@3 */2@2"),
-    ("--1.", "Syntax 2"),
-    ("'-' 1.", "Syntax 4"),
-    ("'-'(1).", "1@4 -/1@0"),
-    ("-(1).", "1@2 -/1@0"),
-    // prefix operators
-    ("-a.", "a@1 -/1@0"),
-    ("- (a).", "a@3 -/1@0"),
-    ("-(3)*2.", "3@2 -/1@0 2@5 */2@4"),
-    ("- (3)*2.", "3@3 -/1@0 2@6 */2@5"),
-    ("-(a,b).", "a@2 b@4 -/2@0"),
-    ("\\+(a,b).", "a@3 b@5 \\+/2@0"),
-    ("\\+ - a.", "a@5 -/1@3 \\+/1@0"),
-    ("\\+a = b.", "a@2 b@6 =/2@4 \\+/1@0"),
-    ("-a*b.", "a@1 -/1@0 b@3 */2@2"),
-    ("a- - -b.", "a@0 b@6 -/1@5 -/1@3 -/2@1"),
-    ("- \\+ a.", "Syntax 5"),
-    ("a = \\+b.", "Syntax 6"),
-    ("- .", "Syntax 2"),
-    ("= .", "Syntax 2"),
-    (":- .", "Syntax 3"),
-    ("a :- :- b.", "Syntax 8"),
-    ("X = - .", "Syntax 6"),
-    ("X = mod.", "Syntax 7"),
-    // operator words alone
-    ("f(= a).", "Syntax 4"),
-    ("[-].", "-@1 []@0 ./2@0"),
-    ("[-|T].", "-@1 V0@3 ./2@0 [T]"),
-    ("[a|-].", "a@1 -@3 ./2@0"),
-    ("f(+).", "+@2 f/1@0"),
-    ("f(- , 1).", "-@2 1@6 f/2@0"),
-    ("(-).", "-@1"),
-    ("{-}.", "Syntax 2"),
-    ("(- -).", "Syntax 4"),
-    ("(,).", "Syntax 1"),
-    ("f(,).", "Syntax 2"),
-    ("[,].", "Syntax 1"),
-    // arguments are below the comma
-    ("f(:- a).", "Syntax 5"),
-    ("f((:- a)).", "a@6 :-/1@3 f/1@0"),
-    ("f(a :- b).", "Syntax 4"),
-    ("f(a;b).", "Syntax 3"),
-    ("f(a , b).", "a@2 b@6 f/2@0"),
-    ("f((a , b)).", "a@3 b@7 ,/2@5 f/1@0"),
-    ("f().", "Syntax 2"),
-    // a tight parenthesis makes a call behind a word or a quoted atom alone
-    ("X(a).", "Syntax 1"),
-    ("1(a).", "Syntax 1"),
-    ("[](a).", "Syntax 2"),
-    ("{}(a).", "Syntax 2"),
-    ("(a)(b).", "Syntax 3"),
-    ("f (x).", "Syntax 2"),
-    ("'[]'(a).", "a@5 []/1@0"),
-    ("mod(7,2).", "7@4 2@6 mod/2@0"),
-    // lists and curly terms
-    ("[].", "[]@0"),
-    ("[ ].", "[]@0"),
-    ("{}.", "{}@0"),
-    ("{ a }.", "a@2 {}/1@0"),
-    ("{a:-b}.", "a@1 b@4 :-/2@2 {}/1@0"),
-    ("[a,b].", "a@1 b@3 []@0 ./2@0 ./2@0"),
-    ("[a|(b:-c)].", "a@1 b@4 c@7 :-/2@5 ./2@0"),
-    ("[a|b:-c].", "Syntax 4"),
-    ("[a|b,c].", "Syntax 4"),
-    ("[a|b|c].", "Syntax 4"),
-    ("[|a].", "Syntax 1"),
-    ("[a,].", "Syntax 3"),
-    // operators between operands
-    ("a \\+ b.", "Syntax 2"),
-    ("a ?- b.", "Syntax 2"),
-    ("a = b = c.", "Syntax 6"),
-    ("a :- b :- c.", "Syntax 7"),
-    ("1 .. 2 .. 3.", "Syntax 7"),
-    ("1-2-3.", "1@0 2@2 -/2@1 3@4 -/2@3"),
-    ("1+2*3.", "1@0 2@2 3@4 */2@3 +/2@1"),
-    ("a&b:c.", "a@0 b@2 &/2@1 c@4 :/2@3"),
-    ("a:-b,c,d.", "a@0 b@3 c@5 d@7 ,/2@6 ,/2@4 :-/2@1"),
-    ("a;b->c.", "a@0 b@2 c@5 ->/2@3 ;/2@1"),
-    ("X in 0..5.", "V0@0 0@5 5@8 ../2@6 in/2@2 [X]"),
-    ("7 mod 2.", "7@0 2@6 mod/2@2"),
-    ("X#=-1.", "Syntax 1"),
-    ("?- X in 1..3:-{2}.", "Syntax 12"),
-    (
-        "?- X in 1..3: -{2}.",
-        "V0@3 1@8 3@11 ../2@9 2@16 {}/1@15 -/1@14 :/2@12 in/2@5 ?-/1@0 [X]",
-    ),
-    // a sentence that isn't ended
-    ("?- X in 1..3", "Syntax 12"),
-    ("a :- b", "Syntax 6"),
-    ("f(a.", "Syntax 3"),
-    (").", "Syntax 0"),
-    (".", "Syntax 0"),
-    ("a b.", "Syntax 2"),
-    // tokens come first
-    ("?- X = 'ab.", "Token OpenQuote 7"),
-    (") \"", "Token StringOut 2"),
-];
+/// Sentences and their variables, each text with what it is: each term with its parts before it, as a variable, an integer, an atom or a name with its arity, each with its place behind `@`; then the names of the sentence's variables; or the fault and its place.
+const SENTENCES: &str = "\
+a. | a@0
+a. b. | a@0; b@3
+foo(a,B). | a@4 V0@6 foo/2@0 [B]
+f(X,_,Y,X,_). | V0@2 V1@4 V2@6 V0@8 V3@10 f/5@0 [X,_,Y,_]
+p(X). q(X,Y). | V0@2 p/1@0 [X]; V0@8 V1@10 q/2@6 [X,Y]
+__ = __. | V0@0 V0@5 =/2@3 [__]
+!. | !@0
+'a b'. | a b@0
+9223372036854775807. | 9223372036854775807@0";
+
+/// A minus and a tight integer are a number; prefix operators.
+const PREFIX: &str = "\
+-1. | -1@0
+- 1. | 1@2 -/1@0
+a-1. | a@0 1@2 -/2@1
+a -1. | a@0 1@3 -/2@2
+- -1. | -1@2 -/1@0
+-9223372036854775807. | -9223372036854775807@0
+-1*b. | -1@0 b@3 */2@2
+--1. | Syntax 2
+'-' 1. | Syntax 4
+'-'(1). | 1@4 -/1@0
+-(1). | 1@2 -/1@0
+-a. | a@1 -/1@0
+- (a). | a@3 -/1@0
+-(3)*2. | 3@2 -/1@0 2@5 */2@4
+- (3)*2. | 3@3 -/1@0 2@6 */2@5
+-(a,b). | a@2 b@4 -/2@0
+\\+(a,b). | a@3 b@5 \\+/2@0
+\\+ - a. | a@5 -/1@3 \\+/1@0
+\\+a = b. | a@2 b@6 =/2@4 \\+/1@0
+-a*b. | a@1 -/1@0 b@3 */2@2
+a- - -b. | a@0 b@6 -/1@5 -/1@3 -/2@1
+- \\+ a. | Syntax 5
+a = \\+b. | Syntax 6
+- . | Syntax 2
+= . | Syntax 2
+:- . | Syntax 3
+a :- :- b. | Syntax 8
+X = - . | Syntax 6
+X = mod. | Syntax 7";
+
+/// Operator words alone; arguments, which are below the comma.
+const ALONE: &str = "\
+f(= a). | Syntax 4
+[-]. | -@1 []@0 ./2@0
+[-|T]. | -@1 V0@3 ./2@0 [T]
+[a|-]. | a@1 -@3 ./2@0
+f(+). | +@2 f/1@0
+f(- , 1). | -@2 1@6 f/2@0
+(-). | -@1
+{-}. | Syntax 2
+(- -). | Syntax 4
+(,). | Syntax 1
+f(,). | Syntax 2
+[,]. | Syntax 1
+f(:- a). | Syntax 5
+f((:- a)). | a@6 :-/1@3 f/1@0
+f(a :- b). | Syntax 4
+f(a;b). | Syntax 3
+f(a , b). | a@2 b@6 f/2@0
+f((a , b)). | a@3 b@7 ,/2@5 f/1@0
+f(). | Syntax 2";
+
+/// A tight parenthesis makes a call behind a word or a quoted atom alone; lists and curly terms.
+const BRACKETS: &str = "\
+X(a). | Syntax 1
+1(a). | Syntax 1
+[](a). | Syntax 2
+{}(a). | Syntax 2
+(a)(b). | Syntax 3
+f (x). | Syntax 2
+'[]'(a). | a@5 []/1@0
+mod(7,2). | 7@4 2@6 mod/2@0
+[]. | []@0
+[ ]. | []@0
+{}. | {}@0
+{ a }. | a@2 {}/1@0
+{a:-b}. | a@1 b@4 :-/2@2 {}/1@0
+[a,b]. | a@1 b@3 []@0 ./2@0 ./2@0
+[a|(b:-c)]. | a@1 b@4 c@7 :-/2@5 ./2@0
+[a|b:-c]. | Syntax 4
+[a|b,c]. | Syntax 4
+[a|b|c]. | Syntax 4
+[|a]. | Syntax 1
+[a,]. | Syntax 3";
+
+/// Operators between operands.
+const INFIX: &str = "\
+a \\+ b. | Syntax 2
+a ?- b. | Syntax 2
+a = b = c. | Syntax 6
+a :- b :- c. | Syntax 7
+1 .. 2 .. 3. | Syntax 7
+1-2-3. | 1@0 2@2 -/2@1 3@4 -/2@3
+1+2*3. | 1@0 2@2 3@4 */2@3 +/2@1
+a&b:c. | a@0 b@2 &/2@1 c@4 :/2@3
+a:-b,c,d. | a@0 b@3 c@5 d@7 ,/2@6 ,/2@4 :-/2@1
+a;b->c. | a@0 b@2 c@5 ->/2@3 ;/2@1
+X in 0..5. | V0@0 0@5 5@8 ../2@6 in/2@2 [X]
+7 mod 2. | 7@0 2@6 mod/2@2
+X#=-1. | Syntax 1
+?- X in 1..3:-{2}. | Syntax 12
+?- X in 1..3: -{2}. | V0@3 1@8 3@11 ../2@9 2@16 {}/1@15 -/1@14 :/2@12 in/2@5 ?-/1@0 [X]";
+
+/// Sentences that aren't ended; the fault of a token comes first.
+const UNENDED: &str = "\
+?- X in 1..3 | Syntax 12
+a :- b | Syntax 6
+f(a. | Syntax 3
+). | Syntax 0
+. | Syntax 0
+a b. | Syntax 2
+?- X = 'ab. | Token OpenQuote 7
+) \" | Token StringOut 2";
 
 /// A term's top, with its place.
 fn piece(alloc: Global, pool: &Pool, t: TermId) -> Result<String, AllocError>
@@ -168,6 +168,22 @@ fn join(pieces: &[String], out: &mut String) -> Result<(), AllocError> {
     Ok(())
 }
 
+/// The piece of the last term ahead, in whose place its parts are put.
+fn next_piece(
+    alloc: Global,
+    pool: &Pool,
+    ahead: &mut Vec<TermId>,
+) -> Result<Option<String>, AllocError>
+    requires { All (λ u. u.number < length pool.now.entries) ahead.old.items }
+    ensures { OnOk result (All (λ u. u.number < length pool.now.entries) ahead.new.items) }
+{
+    let Some(t) = ahead.pop() else {
+        return Ok(None);
+    };
+    push_parts(pool, t, ahead)?;
+    Ok(Some(piece(alloc, pool, t)?))
+}
+
 /// The pieces of a term of at most a hundred, each behind those of its parts.
 fn show_term(alloc: Global, pool: &Pool, top: TermId, out: &mut String) -> Result<(), AllocError>
     requires { top.number < length pool.now.entries }
@@ -176,11 +192,10 @@ fn show_term(alloc: Global, pool: &Pool, top: TermId, out: &mut String) -> Resul
     let mut ahead = Vec::new(alloc);
     ahead.push(top)?;
     for _ in 0..100 {
-        let Some(t) = ahead.pop() else {
+        let Some(piece) = next_piece(alloc, pool, &mut ahead)? else {
             break;
         };
-        pieces.push(piece(alloc, pool, t)?)?;
-        push_parts(pool, t, &mut ahead)?;
+        pieces.push(piece)?;
     }
     pieces.reverse();
     join(&pieces, out)
@@ -236,11 +251,28 @@ fn shown(alloc: Global, text: &str) -> Result<String, AllocError> {
     }
 }
 
+/// Refuses a text that is something else than is wanted.
+fn compare(rt: &impl Abort, alloc: Global, text: &str, want: &str) -> Result<(), Fail> {
+    let found = shown(alloc, text)?;
+    same(rt, found.as_str(), want, text);
+    Ok(())
+}
+
+fn compare_rows(rt: &impl Abort, alloc: Global, rows: &str) -> Result<(), Fail> {
+    for row in rows.lines() {
+        let (text, want) = columns(rt, row);
+        compare(rt, alloc, text, want)?;
+    }
+    Ok(())
+}
+
 #[test]
 fn texts_are_sentences_or_have_a_fault(rt: HostRuntime) -> Result<(), Fail> {
-    for (text, want) in TEXTS {
-        let found = shown(rt.alloc(), text)?;
-        same(&rt, found.as_str(), *want, text);
+    for table in &[SENTENCES, PREFIX, ALONE, BRACKETS, INFIX, UNENDED] {
+        compare_rows(&rt, rt.alloc(), table)?;
+    }
+    for text in &["", "% nothing"] {
+        compare(&rt, rt.alloc(), text, "")?;
     }
     Ok(())
 }
@@ -274,8 +306,7 @@ const NESTED: &[(usize, &str, &str)] = &[
 fn a_thousand_brackets_may_be_open(rt: HostRuntime) -> Result<(), Fail> {
     for (count, inner, want) in NESTED {
         let text = nested(rt.alloc(), *count, inner)?;
-        let found = shown(rt.alloc(), &text)?;
-        same(&rt, found.as_str(), *want, inner);
+        compare(&rt, rt.alloc(), &text, want)?;
     }
     Ok(())
 }
@@ -296,6 +327,10 @@ fn long(
     Ok(text)
 }
 
+fn is_read(alloc: Global, text: &str) -> bool {
+    read_sentences(alloc, text).is_ok()
+}
+
 /// How a text begins, what it goes on with and how often, and how it ends.
 const LONG: &[(&str, &str, usize, &str)] = &[
     ("", "- ", 10_000, "a."),
@@ -310,8 +345,7 @@ const LONG: &[(&str, &str, usize, &str)] = &[
 fn what_is_no_bracket_may_be_as_deep_as_it_is_long(rt: HostRuntime) -> Result<(), Fail> {
     for (first, rest, count, last) in LONG {
         let text = long(rt.alloc(), first, rest, *count, last)?;
-        let is_read = read_sentences(rt.alloc(), &text).is_ok();
-        assert!(rt; is_read, "{first}{rest}..{last}");
+        same(&rt, is_read(rt.alloc(), &text), true, rest);
     }
     Ok(())
 }
