@@ -4,7 +4,7 @@ use Rattle.std.specs.Prelude.{◌≢◌}
 use Rattle.std.proofs.lemmas.Bool.{true≢false}
 use Rattle.std.proofs.lemmas.Bool.Decides.{eqb_tells}
 use Rattle.fd_language.specs.Family.{has}
-use Rattle.fd_language.specs.Term.{Term, Terms, Var, Comp, no_terms, term, apply, apply_all}
+use Rattle.fd_language.specs.Term.{Term, Var}
 use Rattle.fd_language.specs.Writing.{Mode, TermText, term_text}
 use Rattle.fd_model.proofs.Lemmas.{spelled_same}
 use Rattle.term_writer.specs.declared.VarText.{VarText}

@@ -4,13 +4,13 @@ use Rattle.std.specs.Prelude.{reverse, All}
 use Rattle.std.proofs.lemmas.List.Elements.{All-push}
 use Rattle.std.proofs.lemmas.List.{append-nil, reverse-append}
 use Rattle.fd_language.specs.Term.{Name, Term, Comp}
-use Rattle.fd_language.specs.Variables.{variables_of, variables_of_all, distinct}
+use Rattle.fd_language.specs.Variables.{variables_of, variables_of_all}
 use Rattle.term_pool.specs.declared.TermId.{TermId}
 use Rattle.term_pool.specs.Contents.{Contents, Shape, parts_of}
 use Rattle.term_pool.specs.Terms.{term_of, terms_by, shape_term, total_size}
 use Rattle.term_pool.proofs.Lemmas.{total_size-append, total_size-cons, total_size-nil, size_of_shape}
 use Rattle.answer_text.specs.Pieces.{inserted}
-use Rattle.answer_text.proofs.Numbering.{distinct_append, inserted_append}
+use Rattle.answer_text.proofs.Numbering.{inserted_append}
 
 -- the variables of the terms of these ids, the last of which is looked at first
 abbrev pub variables_ahead : Contents → List TermId → List ℕ
@@ -27,10 +27,6 @@ pub ahead-reverse : (c : Contents) (ts : List TermId) → variables_ahead c (rev
 ahead-reverse c [] = refl
 ahead-reverse c (t ∷ ts) =
     ap (variables_ahead c) (reverse-append (t ∷ []) ts) ∙ ahead-append c (reverse ts) (t ∷ []) ∙ ap (λ (l : List ℕ). variables_of (term_of c t) ++ l) (ahead-reverse c ts)
-
--- at the start
-pub walk_starts : (c : Contents) (t : TermId) → inserted [] (variables_ahead c (t ∷ [])) ≡ distinct (variables_of (term_of c t))
-walk_starts c t = sym (distinct_append [] (variables_of (term_of c t)))
 
 -- the last term is looked at: its variables are taken
 pub walk_takes : (c : Contents) (ks new : List ℕ) (ahead rest : List TermId) (t : TermId) (u : Term) (all : List ℕ) → ahead ≡ rest ++ t ∷ [] → term_of c t ≡ u → new ≡ inserted ks (variables_of u)

@@ -1,5 +1,5 @@
 //! The line of an answer, and the text of a written term.
-ghost use Rattle.std.specs.Prelude.{◌≡◌, ◌<◌, ◌++◌, ℕ, List, length, map, codes, All, IfOk, OnOk};
+ghost use Rattle.std.specs.Prelude.{◌≡◌, ◌<◌, ◌++◌, ℕ, List, [], length, map, codes, All, IfOk, OnOk};
 ghost use Rattle.fd_model.specs.Lines.{as_terms, equals_text, joined, line};
 ghost use Rattle.machine_events.specs.Events.{ShowsTerms, shown_line, terms_in, variable_text, written_term};
 ghost use Rattle.fd_language.specs.Variables.{variables_of, distinct};
@@ -47,11 +47,10 @@ fn put_term(
         (term_of pool.now t)) }
 {
     let texts = texts_of(alloc, pool, t, sets, numbers)?;
-    write_term(alloc, pool, t, Mode::Quoted, &texts, 699, text)?;
-    Ok(())
+    write_term(alloc, pool, t, Mode::Quoted, &texts, 699, text)
 }
 
-/// Appends the entries `Name = Term` joined by `, `, where the map has the sets of the variables.
+/// Appends the entries `Name = Term` joined by `, `, where the map has the sets of the variables and no variable was met.
 fn put_entries_by(
     alloc: Global,
     text: &mut Vec<u8>,
@@ -59,18 +58,19 @@ fn put_entries_by(
     names: &[AtomId],
     shown: &Shown,
     sets: &IndexMap<u64, &Domain>,
+    numbers: &mut IndexSet<u64>,
 ) -> Result<(), NoMemory>
     requires names { All (λ a. a.number < length pool.now.names) names.now }
     requires terms { ShowsTerms (length names.now) shown.now }
     requires sets { HasSets shown.now.sets.items sets.now }
+    requires numbers { numbers.now.keys ≡ [] }
     ensures { let ts = terms_in shown.now in OnOk result (text.new.items ≡ text.old.items
         ++ joined (codes ", ") (equals_text (variable_text shown.now (as_terms ts))
         (map (atom_name pool.now) names.now) ts)) }
 {
-    let mut numbers = IndexSet::new(alloc);
     for (index, term) in shown.terms.iter().enumerate() {
         put_name(text, index, pool.name_of(names[index]))?;
-        put_term(alloc, text, &shown.pool, *term, sets, &mut numbers)?;
+        put_term(alloc, text, &shown.pool, *term, sets, numbers)?;
     }
     Ok(())
 }
@@ -90,8 +90,8 @@ fn put_entries(
         (map (atom_name pool.now) names.now) ts)) }
 {
     let sets = sets_of(alloc, &shown.sets)?;
-    put_entries_by(alloc, text, pool, names, shown, &sets)?;
-    Ok(())
+    let mut numbers = IndexSet::new(alloc);
+    put_entries_by(alloc, text, pool, names, shown, &sets, &mut numbers)
 }
 
 /// The line of an answer.
@@ -115,19 +115,20 @@ pub(crate) fn answer_line(
     Ok(text)
 }
 
-/// The text of a term, not quoted, where the map has the sets of its variables.
+/// The text of a term, not quoted, where the map has the sets of its variables and none of them was met.
 fn plain_text(
     alloc: Global,
     pool: &Pool,
     t: TermId,
     sets: &IndexMap<u64, &Domain>,
+    numbers: &mut IndexSet<u64>,
 ) -> Result<Vec<u8>, NoMemory>
-    requires { t.number < length pool.now.entries }
+    requires term { t.number < length pool.now.entries }
+    requires numbers { numbers.now.keys ≡ [] }
     ensures { let u = term_of pool.now t in IfOk result (λ text. text.items
         ≡ term_text Plain (open_by (set_by sets.now) (distinct (variables_of u))) 1200 u) }
 {
-    let mut numbers = IndexSet::new(alloc);
-    let texts = texts_of(alloc, pool, t, sets, &mut numbers)?;
+    let texts = texts_of(alloc, pool, t, sets, numbers)?;
     let mut text = Vec::new(alloc);
     write_term(alloc, pool, t, Mode::Plain, &texts, 1200, &mut text)?;
     Ok(text)
@@ -139,6 +140,6 @@ pub(crate) fn written_text(alloc: Global, shown: &Shown) -> Result<Vec<u8>, NoMe
     ensures { IfOk result (λ text. text.items ≡ written_term shown.now) }
 {
     let sets = sets_of(alloc, &shown.sets)?;
-    let text = plain_text(alloc, &shown.pool, shown.terms[0], &sets)?;
-    Ok(text)
+    let mut numbers = IndexSet::new(alloc);
+    plain_text(alloc, &shown.pool, shown.terms[0], &sets, &mut numbers)
 }

@@ -1,6 +1,6 @@
 //! The open variables of a text: their numbers, their sets and their texts.
 ghost use Rattle.std.specs.Prelude.{◌≡◌, ◌<◌, ◌++◌, ℕ, List, length, reverse, Option, option_copied, IfOk, OnOk};
-ghost use Rattle.fd_language.specs.Variables.{variables_of, distinct};
+ghost use Rattle.fd_language.specs.Variables.{variables_of};
 ghost use Rattle.fd_model.specs.Lines.{open_part};
 ghost use Rattle.term_pool.specs.Terms.{term_of};
 ghost use Rattle.answer_text.specs.Pieces.{inserted};
@@ -41,12 +41,17 @@ fn put_ahead(ahead: &mut Vec<TermId>, terms: &[TermId]) -> Result<(), NoMemory>
     Ok(())
 }
 
-/// The variables of a term, each once, by first occurrence.
-fn own_variables(alloc: Global, pool: &Pool, t: TermId) -> Result<IndexSet<u64>, NoMemory>
+/// Puts the variables of a term behind those that were met, each once, by first occurrence.
+fn put_variables(
+    alloc: Global,
+    pool: &Pool,
+    t: TermId,
+    own: &mut IndexSet<u64>,
+) -> Result<(), NoMemory>
     requires { t.number < length pool.now.entries }
-    ensures { IfOk result (λ own. own.keys ≡ distinct (variables_of (term_of pool.now t))) }
+    ensures { OnOk result (own.new.keys
+        ≡ inserted own.old.keys (variables_of (term_of pool.now t))) }
 {
-    let mut own = IndexSet::new(alloc);
     let mut ahead = Vec::new(alloc);
     ahead.push(t)?;
     while let Some(next) = ahead.pop() {
@@ -59,7 +64,7 @@ fn own_variables(alloc: Global, pool: &Pool, t: TermId) -> Result<IndexSet<u64>,
             Node::Comp(_, parts) => put_ahead(&mut ahead, parts)?,
         }
     }
-    Ok(own)
+    Ok(())
 }
 
 /// The text of an open variable with this number: where it is constrained its set follows.
@@ -116,7 +121,7 @@ pub(crate) fn texts_of(
     ensures texts { IfOk result (λ texts. (more : List ℕ) → GiveTexts
         (open_by (set_by sets.now) (numbers.new.keys ++ more)) (term_of pool.now t) texts.items) }
 {
-    let own = own_variables(alloc, pool, t)?;
-    let texts = variable_texts(alloc, own.as_slice(), sets, numbers)?;
-    Ok(texts)
+    let mut own = IndexSet::new(alloc);
+    put_variables(alloc, pool, t, &mut own)?;
+    variable_texts(alloc, own.as_slice(), sets, numbers)
 }

@@ -1,5 +1,5 @@
 -- One piece after another: what several calls of a source or of a sink come to.
-use Rattle.std.proofs.Common.{◌≡◌, ℕ, ◌+◌, ◌-◌, ◌<◌, ◌≤◌, List, [], ◌∷◌, ◌++◌, Option, Some, None, refl, sym, ap, ◌∙◌, subst, append_assoc, append-nil, arith, take, drop, length, take_all, length-append, length-take-le, take-add, take-append-drop}
+use Rattle.std.proofs.Common.{◌≡◌, ℕ, ◌+◌, ◌-◌, ◌<◌, ◌≤◌, List, [], ◌++◌, Option, Some, None, refl, sym, ap, ◌∙◌, subst, append_assoc, append-nil, arith, take, drop, length, take_all, length-append, length-take-le, take-add, take-append-drop}
 use Rattle.std.proofs.lemmas.List.{take-append-le, drop-drop, take_rest}
 use Rattle.std.proofs.lemmas.Option.{same_Some}
 use Rattle.byte_ports.specs.Ports.{Took, ReadJust, ReadWithin, Put, PutPart, Rose}

@@ -8,6 +8,7 @@ mod KeptGoals
 mod KeptParts
 mod KeptQueries
 mod SentenceLists
+mod SentenceForms
 mod Programs
 mod BodyWalk
 mod ShownVariables

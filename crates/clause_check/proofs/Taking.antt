@@ -15,7 +15,7 @@ use Rattle.fd_model.specs.Refusals as refusals
 use Rattle.fd_model.specs.Refusals.{or_later, goals_of, goal_refusal, goals_refusal}
 use Rattle.term_pool.specs.declared.TermId.{TermId}
 use Rattle.term_pool.specs.Contents.{Contents}
-use Rattle.term_pool.specs.Terms.{term_of, size}
+use Rattle.term_pool.specs.Terms.{term_of}
 use Rattle.term_pool.specs.PlacedTerms.{placed_of}
 use Rattle.term_reader.specs.declared.reader.Sentences.{Sentences}
 use Rattle.clause_check.specs.declared.program.Part.{Part}

@@ -15,6 +15,13 @@ pub count_parts : (by : TermId → PlacedTerm) (ts : List TermId) → count (par
 count_parts by [] = refl
 count_parts by (t ∷ ts) = ap suc (count_parts by ts)
 
+other_name : (f g : Name) → (f ≡ g → ⊥) → bytes_eq f g ≡ false
+other_name f g h = go (bytes_eq f g) refl
+  where
+    go : (b : Bool) → bytes_eq f g ≡ b → b ≡ false
+    go true e = absurd (h (same_text f g e))
+    go false e = refl
+
 -- ---- terms of three parts and more
 
 -- are one goal
@@ -30,7 +37,26 @@ one_of_three f p by (a ∷ b ∷ d ∷ ts) h = (refl, refl)
 pub many_joined : (x : PlacedTerm) (f : Name) (p : ℕ) (by : TermId → PlacedTerm) (ts : List TermId) → x ≡ comp f p (parts_by by ts) → 3 ≤ length ts → IsOneGoal x
 many_joined x f p by ts e h = subst IsOneGoal (sym e) (one_of_three f p by ts h)
 
--- and facts
+-- as are those of two parts with another name than `,` and `;`
+one_of_two : (f : Name) (p : ℕ) (by : TermId → PlacedTerm) (ts : List TermId) → 2 ≤ length ts → length ts < 3 → bytes_eq f (codes ",") ≡ false → bytes_eq f (codes ";") ≡ false → IsOneGoal (comp f p (parts_by by ts))
+one_of_two f p by [] h k e g = absurd (omega arith)
+one_of_two f p by (a ∷ []) h k e g = absurd (omega arith)
+one_of_two f p by (a ∷ b ∷ []) h k e g = (rw (e, g), rw (e, g))
+one_of_two f p by (a ∷ b ∷ d ∷ ts) h k e g = absurd (omega arith)
+
+pub two_joined : (x : PlacedTerm) (f : Name) (p : ℕ) (by : TermId → PlacedTerm) (ts : List TermId) → x ≡ comp f p (parts_by by ts) → 2 ≤ length ts → length ts < 3 → (f ≡ codes "," → ⊥) → (f ≡ codes ";" → ⊥) → IsOneGoal x
+two_joined x f p by ts e h k m n = subst IsOneGoal (sym e) (one_of_two f p by ts h k (other_name f (codes ",") m) (other_name f (codes ";") n))
+
+-- and those of fewer
+one_of_few : (f : Name) (p : ℕ) (by : TermId → PlacedTerm) (ts : List TermId) → length ts < 2 → IsOneGoal (comp f p (parts_by by ts))
+one_of_few f p by [] h = (refl, refl)
+one_of_few f p by (a ∷ []) h = (refl, refl)
+one_of_few f p by (a ∷ b ∷ ts) h = absurd (omega arith)
+
+pub few_joined : (x : PlacedTerm) (f : Name) (p : ℕ) (by : TermId → PlacedTerm) (ts : List TermId) → x ≡ comp f p (parts_by by ts) → length ts < 2 → IsOneGoal x
+few_joined x f p by ts e h = subst IsOneGoal (sym e) (one_of_few f p by ts h)
+
+-- those of three parts and more are facts
 fact_of_three : (f : Name) (p : ℕ) (by : TermId → PlacedTerm) (ts : List TermId) → 3 ≤ length ts → form_of (comp f p (parts_by by ts)) ≡ fact (comp f p (parts_by by ts))
 fact_of_three f p by [] h = absurd (omega arith)
 fact_of_three f p by (a ∷ []) h = absurd (omega arith)
@@ -47,12 +73,23 @@ fact_of_two f p by (a ∷ []) h k e = absurd (omega arith)
 fact_of_two f p by (a ∷ b ∷ []) h k e = rw e
 fact_of_two f p by (a ∷ b ∷ d ∷ ts) h k e = absurd (omega arith)
 
-other_name : (f : Name) → (f ≡ codes ":-" → ⊥) → bytes_eq f (codes ":-") ≡ false
-other_name f h = go (bytes_eq f (codes ":-")) refl
-  where
-    go : (b : Bool) → bytes_eq f (codes ":-") ≡ b → b ≡ false
-    go true e = absurd (h (same_text f (codes ":-") e))
-    go false e = refl
-
 pub two_formed : (x : PlacedTerm) (f : Name) (p : ℕ) (by : TermId → PlacedTerm) (ts : List TermId) → x ≡ comp f p (parts_by by ts) → 2 ≤ length ts → length ts < 3 → (f ≡ codes ":-" → ⊥) → form_of x ≡ fact x
-two_formed x f p by ts e h k n = subst (λ (y : PlacedTerm). form_of y ≡ fact y) (sym e) (fact_of_two f p by ts h k (other_name f n))
+two_formed x f p by ts e h k n = subst (λ (y : PlacedTerm). form_of y ≡ fact y) (sym e) (fact_of_two f p by ts h k (other_name f (codes ":-") n))
+
+-- and those of one part, with another name than `?-` and `:-`
+fact_of_one : (f : Name) (p : ℕ) (by : TermId → PlacedTerm) (ts : List TermId) → 1 ≤ length ts → length ts < 2 → bytes_eq f (codes "?-") ≡ false → bytes_eq f (codes ":-") ≡ false
+    → form_of (comp f p (parts_by by ts)) ≡ fact (comp f p (parts_by by ts))
+fact_of_one f p by [] h k e g = absurd (omega arith)
+fact_of_one f p by (a ∷ []) h k e g = rw (e, g)
+fact_of_one f p by (a ∷ b ∷ ts) h k e g = absurd (omega arith)
+
+pub one_formed : (x : PlacedTerm) (f : Name) (p : ℕ) (by : TermId → PlacedTerm) (ts : List TermId) → x ≡ comp f p (parts_by by ts) → 1 ≤ length ts → length ts < 2 → (f ≡ codes "?-" → ⊥) → (f ≡ codes ":-" → ⊥) → form_of x ≡ fact x
+one_formed x f p by ts e h k m n = subst (λ (y : PlacedTerm). form_of y ≡ fact y) (sym e) (fact_of_one f p by ts h k (other_name f (codes "?-") m) (other_name f (codes ":-") n))
+
+-- and those of none
+fact_of_none : (f : Name) (p : ℕ) (by : TermId → PlacedTerm) (ts : List TermId) → length ts < 1 → form_of (comp f p (parts_by by ts)) ≡ fact (comp f p (parts_by by ts))
+fact_of_none f p by [] h = refl
+fact_of_none f p by (a ∷ ts) h = absurd (omega arith)
+
+pub bare_formed : (x : PlacedTerm) (f : Name) (p : ℕ) (by : TermId → PlacedTerm) (ts : List TermId) → x ≡ comp f p (parts_by by ts) → length ts < 1 → form_of x ≡ fact x
+bare_formed x f p by ts e h = subst (λ (y : PlacedTerm). form_of y ≡ fact y) (sym e) (fact_of_none f p by ts h)

@@ -1,5 +1,5 @@
 //! The sentences of a text, checked from the first to the last.
-ghost use Rattle.std.specs.Prelude.{◌<◌, [], length, All, IfOk, IfErr, OnOk};
+ghost use Rattle.std.specs.Prelude.{◌≡◌, ◌<◌, [], length, All, IfOk, IfErr, OnOk};
 ghost use Rattle.term_pool.specs.Contents.{Contents};
 ghost use Rattle.term_reader.specs.Sentences.{AreOwn, IsSentence};
 ghost use Rattle.clause_check.specs.GoalStores.{IsStore};
@@ -223,6 +223,25 @@ impl Parts {
     }
 }
 
+/// The clauses and the queries of a text, or the first refusal in it. `heads` is the empty set: room for the functors of the heads.
+fn check_by(
+    alloc: Global,
+    sentences: &Sentences,
+    heads: &mut IndexSet<Functor>,
+) -> Result<Parts, Fault>
+    requires own { AreOwn sentences.now }
+    requires none { heads.now.keys ≡ [] }
+    ensures accepted { IfOk result (λ p. AcceptsText sentences.now) }
+    ensures stands { IfOk result (λ p. StandsFor sentences.now.pool p sentences.now.list.items) }
+    ensures fault { IfErr result (RefusesText sentences.now) }
+{
+    collect_heads(sentences, heads)?;
+    let mut parts = Parts::new(alloc);
+    let mut ahead = Vec::new(alloc);
+    parts.add_sentences(alloc, sentences, heads, &mut ahead)?;
+    Ok(parts)
+}
+
 /// The clauses and the queries of a text, or the first refusal in it.
 pub(crate) fn check_sentences(alloc: Global, sentences: &Sentences) -> Result<Parts, Fault>
     requires { AreOwn sentences.now }
@@ -230,9 +249,6 @@ pub(crate) fn check_sentences(alloc: Global, sentences: &Sentences) -> Result<Pa
     ensures stands { IfOk result (λ p. StandsFor sentences.now.pool p sentences.now.list.items) }
     ensures fault { IfErr result (RefusesText sentences.now) }
 {
-    let heads = collect_heads(alloc, sentences)?;
-    let mut parts = Parts::new(alloc);
-    let mut ahead = Vec::new(alloc);
-    parts.add_sentences(alloc, sentences, &heads, &mut ahead)?;
-    Ok(parts)
+    let mut heads = IndexSet::new(alloc);
+    check_by(alloc, sentences, &mut heads)
 }

@@ -1,5 +1,5 @@
 //! The functors that the heads of a text have.
-ghost use Rattle.std.specs.Prelude.{◌<◌, length, IfOk};
+ghost use Rattle.std.specs.Prelude.{◌≡◌, ◌<◌, [], length, OnOk};
 ghost use Rattle.fd_model.specs.Refusals.{form_of, head_in};
 ghost use Rattle.term_pool.specs.PlacedTerms.{placed_of};
 ghost use Rattle.term_reader.specs.Sentences.{AreOwn};
@@ -9,7 +9,6 @@ ghost use Rattle.clause_check.specs.Terms.{IsFunctor};
 use crate::terms::{Functor, SentenceForm, functor_of, sentence_form};
 use fd_language::NoMemory;
 use indexmap::IndexSet;
-use std::alloc::Global;
 use term_pool::{Pool, TermId};
 use term_reader::Sentences;
 
@@ -24,19 +23,19 @@ fn head_functor(pool: &Pool, t: TermId) -> Option<Functor>
     }
 }
 
-/// The functors of the heads of all sentences.
+/// Puts the functors of the heads of all sentences into the empty set.
 pub(crate) fn collect_heads(
-    alloc: Global,
     sentences: &Sentences,
-) -> Result<IndexSet<Functor>, NoMemory>
-    requires { AreOwn sentences.now }
-    ensures { IfOk result (λ heads. AreHeads sentences.now heads.keys) }
+    heads: &mut IndexSet<Functor>,
+) -> Result<(), NoMemory>
+    requires own { AreOwn sentences.now }
+    requires none { heads.now.keys ≡ [] }
+    ensures { OnOk result (AreHeads sentences.now heads.new.keys) }
 {
-    let mut heads = IndexSet::new(alloc);
     for sentence in &sentences.list {
         if let Some(functor) = head_functor(&sentences.pool, sentence.term) {
             heads.insert(functor)?;
         }
     }
-    Ok(heads)
+    Ok(())
 }

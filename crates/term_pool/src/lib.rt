@@ -114,6 +114,17 @@ fn intern(atoms: &mut IndexSet<String>, text: &str) -> Result<AtomId, NoMemory>
     Ok(AtomId { number })
 }
 
+/// Puts the names of `NIL`, `CONS` and `SPAN` into the empty set.
+fn intern_first(atoms: &mut IndexSet<String>) -> Result<(), NoMemory>
+    requires { atoms.now.keys ≡ [] }
+    ensures { OnOk result (map string_bytes atoms.new.keys ≡ first_names) }
+{
+    intern(atoms, "[]")?;
+    intern(atoms, ".")?;
+    intern(atoms, "..")?;
+    Ok(())
+}
+
 /// Puts a node's parts behind the others.
 fn store(parts: &mut Vec<TermId>, node: Node<'_>) -> Result<Stored, AllocError>
     ensures grows { Grows parts.old.items parts.new.items }
@@ -153,9 +164,7 @@ impl Pool {
         ensures valid { IfOk result IsPool }
     {
         let mut atoms = IndexSet::new(alloc);
-        intern(&mut atoms, "[]")?;
-        intern(&mut atoms, ".")?;
-        intern(&mut atoms, "..")?;
+        intern_first(&mut atoms)?;
         Ok(Pool {
             atoms,
             nodes: Vec::new(alloc),

@@ -18,7 +18,7 @@ returns c =
     let texts = c.in_ok-texts.texts.items in
     let own = distinct (variables_of u) in
     let vars = open_by (set_by c.args.sets.now) own in
-    let none : c.new-numbers.result.keys ≡ [] = search rules in
+    let none : c.args.numbers.now.keys ≡ [] = c.requires.numbers in
     let whole : keys ++ [] ≡ own =
     append-nil keys ∙ c.in_ok-texts.ensures.numbers ∙ ap (λ (ks : List ℕ). inserted ks (variables_of u)) none ∙ numbers_of u in
     let given : GiveTexts vars u texts = subst (λ (ks : List ℕ). GiveTexts (open_by (set_by c.args.sets.now) ks) u texts) whole (c.in_ok-texts.ensures.texts []) in

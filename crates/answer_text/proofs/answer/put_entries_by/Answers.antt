@@ -1,7 +1,9 @@
-use Rattle.std.proofs.Common.{rules, ◌≡◌, ◌+◌, ◌<◌, ◌++◌, ◌∙◌, ℕ, List, length, take, codes, append_assoc, refl, sym, ap, subst, arith, slice_index_or}
+use Rattle.std.proofs.Common.{rules, ◌≡◌, ◌+◌, ◌<◌, ◌≤◌, ◌++◌, ◌∙◌, ℕ, List, length, map, take, codes, append_assoc, refl, sym, ap, subst, arith, slice_index_or}
+use Rattle.std.proofs.lemmas.List.{length-map, take_all}
+use Rattle.fd_language.specs.Term.{Name, Term}
 use Rattle.fd_language.specs.Variables.{variables_of, distinct}
 use Rattle.fd_language.specs.Writing.{Quoted, term_text}
-use Rattle.fd_model.specs.Lines.{as_terms}
+use Rattle.fd_model.specs.Lines.{as_terms, equals_text, joined}
 use Rattle.machine_events.specs.Events.{set_in, terms_in, variable_text}
 use Rattle.term_pool.specs.declared.AtomId.{AtomId}
 use Rattle.term_pool.specs.declared.TermId.{TermId}
@@ -13,6 +15,22 @@ use Rattle.answer_text.proofs.Joining.{entry_step, one_more}
 use Rattle.answer_text.proofs.Numbering.{variables_in, numbers_more, numbers_front}
 use Rattle.answer_text.proofs.Texts.{text_by_same}
 use Rattle.answer_text.proofs.answer.put_entries_by.Goals as goal
+
+pub returns : goal.returns
+returns c =
+    let shown = c.args.shown.now in
+    let ids = c.args.names.now in
+    let ts = shown.terms.items in
+    let i = c.loop-index.index in
+    let f = atom_name c.args.pool.now in
+    let g = term_of shown.pool in
+    let vars = variable_text shown (as_terms (terms_in shown)) in
+    let size : length ts ≤ i = subst (λ (l : List TermId). length l ≤ i) c.deref-term-items.ensures.value c.loop-index-test.false in
+    let names : take i (map f ids) ≡ map f ids = take_all i (map f ids) (omega (arith, length-map ids f, size, c.requires.terms.0)) in
+    let terms : take i (map g ts) ≡ map g ts = take_all i (map g ts) (omega (arith, length-map ts g, size)) in
+    c.loop-index.invariant.text
+    ∙ ap (λ (l : List Name). c.args.text.now.items ++ joined (codes ", ") (equals_text vars l (take i (map g ts)))) names
+    ∙ ap (λ (l : List Term). c.args.text.now.items ++ joined (codes ", ") (equals_text vars (map f ids) l)) terms
 
 pub loop-index-preserved : goal.loop-index-preserved
 loop-index-preserved c =

@@ -1,4 +1,5 @@
 use Rattle.std.proofs.Common.{◌≡◌, ◌∙◌, ℕ, [], ◌∷◌, List, length, map, arith, sym, ap, subst, slice_index_or}
+use Rattle.std.proofs.lemmas.Result.{IfOk-weaker}
 use Rattle.fd_language.specs.Term.{Term, no_terms, term}
 use Rattle.fd_language.specs.Variables.{variables_of, distinct}
 use Rattle.fd_language.specs.Writing.{Plain, term_text}
@@ -22,6 +23,8 @@ returns c =
     let only = only_term (term_of shown.pool) shown.terms.items t c.requires.0 c.index.ensures in
     let sets : HasSets shown.sets.items c.in_ok-sets.sets = subst (λ (l : List (ℕ × List ℕ)). HasSets l c.in_ok-sets.sets) c.deref.ensures.value c.in_ok-sets.ensures in
     let own : distinct (variables_of u) ≡ distinct (variables_in (u ∷ [])) = sym (numbers_of u) ∙ numbers_one u in
-    c.in_ok-text.ensures
+    IfOk-weaker c.plain_text.result _ _
+    (λ text e. e
     ∙ text_by_same (set_by c.in_ok-sets.sets) (set_in shown.sets.items) (distinct (variables_of u)) (distinct (variables_in (u ∷ []))) Plain 1200 u sets own
-    ∙ ap (λ (x : Term). term_text Plain (variable_text shown (term x no_terms)) 1200 x) (sym only)
+    ∙ ap (λ (x : Term). term_text Plain (variable_text shown (term x no_terms)) 1200 x) (sym only))
+    c.plain_text.ensures

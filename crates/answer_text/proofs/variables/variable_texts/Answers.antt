@@ -1,12 +1,21 @@
-use Rattle.std.proofs.Common.{◌≡◌, ◌+◌, ◌∙◌, ℕ, [], ◌∷◌, List, Option, take, slice_index_or, refl, sym, ap, Bor}
+use Rattle.std.proofs.Common.{◌≡◌, ◌+◌, ◌++◌, ◌∙◌, ℕ, [], ◌∷◌, List, Option, take, slice_index_or, refl, sym, ap, subst, Bor}
 use Rattle.std.specs.Prelude.{option_copied}
-use Rattle.std.proofs.lemmas.List.{take_more}
+use Rattle.std.proofs.lemmas.List.{take_all, take_more}
 use Rattle.fd_model.specs.Lines.{open_part}
 use Rattle.answer_text.specs.Pieces.{inserted, with_number}
-use Rattle.answer_text.specs.Variables.{set_by}
+use Rattle.answer_text.specs.Variables.{AreTexts, open_by, set_by}
 use Rattle.answer_text.proofs.Numbering.{inserted_append}
 use Rattle.answer_text.proofs.Texts.{texts_step}
 use Rattle.answer_text.proofs.variables.variable_texts.Goals as goal
+
+pub returns-clause-numbers : goal.returns-clause-numbers
+returns-clause-numbers c =
+    c.loop-variable.invariant.numbers ∙ ap (inserted c.args.numbers.now.keys) (take_all c.loop-variable.variable-index c.args.variables.now c.loop-variable-test.false)
+
+pub returns-clause-texts : goal.returns-clause-texts
+returns-clause-texts c = λ more.
+    subst (λ (vs : List ℕ). AreTexts (open_by (set_by c.args.sets.now) (c.loop-variable.numbers.keys ++ more)) vs c.loop-variable.texts.items)
+    (take_all c.loop-variable.variable-index c.args.variables.now c.loop-variable-test.false) (c.loop-variable.invariant.texts more)
 
 pub loop-variable-preserved : goal.loop-variable-preserved
 loop-variable-preserved c =

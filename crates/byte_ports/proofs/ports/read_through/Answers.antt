@@ -1,9 +1,9 @@
-use Rattle.std.proofs.Common.{rules, ◌≡◌, ◌<◌, ◌≤◌, ◌∙◌, ℕ, [], arith, length, length-take, refl, subst, take}
+use Rattle.std.proofs.Common.{rules, ◌≡◌, ◌<◌, ◌≤◌, ◌++◌, ◌∙◌, ℕ, [], arith, length, length-take, refl, sym, subst, take}
 use Rattle.std.specs.Prelude.{Result, Ok, Err}
 use Rattle.byte_ports.specs.declared.ports.ReadTextFault.{ReadTextFault}
 use Rattle.byte_ports.specs.Ports.{Rose, Took}
 use Rattle.byte_ports.specs.declared.ports.ReadTextFault.TheVariants.{ReadFault, TooLarge, NoMemory}
-use Rattle.byte_ports.proofs.Pieces.{just_after, within_after, took_no_more}
+use Rattle.byte_ports.proofs.Pieces.{just_after, within_after, took_more, took_no_more}
 use Rattle.byte_ports.proofs.ports.read_through.Goals as goal
 
 -- a text is no fault, and one fault is no other
@@ -62,3 +62,18 @@ returns-in-Ok-clause-large g c _ =
 pub returns-in_err-extend_from_slice-in-Ok-2-clause-memory : goal.returns-in_err-extend_from_slice-in-Ok-2-clause-memory
 returns-in_err-extend_from_slice-in-Ok-2-clause-memory g c _ =
     within_after (g.S.Source.left c.args.src.now) (g.S.Source.left c.reading.src) (g.S.Source.left c.read.new.self) c.reading.text.items c.read.new.buf c.in-Ok-2.n 16777216 (search rules) c.reading.invariant.took c.in-Ok-2.ensures.within c.in-Ok-2.ensures.bytes (search rules)
+
+-- a piece behind the others
+pub reading-preserved : goal.reading-preserved
+reading-preserved g c =
+    let first = g.S.Source.left c.args.src.now in
+    let last = g.S.Source.left c.read.new.self in
+    let old = c.reading.text.items in
+    let piece = take c.in-Ok.n c.read.new.buf in
+    record {
+      took = subst (Took first last) {x = old ++ piece} (sym c.in_ok-extend_from_slice-in-Ok-2.ensures.items)
+          (took_more first (g.S.Source.left c.reading.src) last old piece c.reading.invariant.took c.in-Ok.ensures.bytes);
+      size = search rules;
+      room = search rules;
+      kept = c.in-Ok-2.ensures.ok ∙ c.reading.invariant.kept;
+    }

@@ -1,0 +1,42 @@
+-- A sentence without a wide term, by its form.
+use Rattle.std.proofs.Common.{◌≡◌, ℕ, Option, Some, None, refl, sym, ap, ◌∙◌, subst}
+use Rattle.fd_language.specs.PlacedTerm.{PlacedTerm}
+use Rattle.fd_language.specs.declared.TheConstants.{INFINITY}
+use Rattle.fd_model.specs.Refusals as model
+use Rattle.fd_model.specs.Refusals.{or_later, too_wide, form_of, clause_refusal, sentence_refusal, wide_places}
+use Rattle.term_pool.specs.PlacedTerms.{placed_of}
+use Rattle.term_reader.specs.declared.reader.Sentence.{Sentence}
+use Rattle.term_reader.specs.declared.reader.Sentences.{Sentences}
+use Rattle.clause_check.specs.declared.check.Parts.{Parts}
+use Rattle.clause_check.specs.declared.faults.Fault.{Fault}
+use Rattle.clause_check.specs.declared.terms.SentenceForm.{SentenceForm}
+use Rattle.clause_check.specs.Causes.{RefusedBy}
+use Rattle.clause_check.specs.Parts.{AddsForm, AddsAs, AddsSentence, names_in}
+use Rattle.clause_check.specs.Refused.{RefusesAs, RefusesSentence}
+use Rattle.clause_check.specs.Terms.{terms_of, form_in, IsWidePlace}
+
+no_place : (o : Option ℕ) → ((p : ℕ) → o ≡ Some p → ⊥) → o ≡ None
+no_place None h = refl
+no_place (Some p) h = absurd (h p refl)
+
+module _ (s : Sentences) (x : Sentence) (o : Option ℕ) (found form : SentenceForm) (wide : IsWidePlace (placed_of s.pool x.term) o) (none : (p : ℕ) → o ≡ Some p → ⊥) (is : form_of (placed_of s.pool x.term) ≡ form_in s.pool found) (same : found ≡ form) where
+  abbrev t : PlacedTerm
+  t = placed_of s.pool x.term
+
+  formed : form_of t ≡ form_in s.pool form
+  formed = is ∙ ap (form_in s.pool) same
+
+  -- its form decides
+  by_form : sentence_refusal INFINITY (terms_of s) t ≡ clause_refusal INFINITY (terms_of s) t (form_in s.pool form)
+  by_form =
+      ap (λ (p : Option ℕ). or_later (too_wide p) (clause_refusal INFINITY (terms_of s) t (form_of t))) (sym wide ∙ no_place o none)
+      ∙ ap (clause_refusal INFINITY (terms_of s) t) formed
+
+  pub added_as : (old new : Parts) → AddsAs s old new x form → AddsSentence s old new x
+  added_as old new h = record {
+    accepted = by_form ∙ h.accepted;
+    adds = subst (AddsForm s old new (names_in s.pool x) t) (sym formed) h;
+  }
+
+  pub refused_as : (e : Fault) → RefusesAs s x form e → RefusesSentence s x e
+  refused_as e h = subst (λ (r : Option model.Refusal). RefusedBy s.pool r e) (sym by_form) h
