@@ -1,6 +1,6 @@
 -- Which bracket a token ends.
 use Rattle.std.proofs.Common.{◌≡◌, ℕ, List, ◌∷◌, Option, Some, None, Bool, true, false, cond, refl, sym, ap, subst, ◌∙◌}
-use Rattle.std.specs.Prelude.{reverse}
+use Rattle.std.specs.Prelude.{reverse, Result, IfOk}
 use Rattle.fd_language.specs.PlacedTerm.{PlacedTerm}
 use Rattle.fd_language.specs.ReadingSteps as machine
 use Rattle.fd_language.specs.ReadingSteps.{top, items, want, closed}
@@ -64,3 +64,6 @@ moves_nothing r r2 t x h p = moves_not r.pool (λ done. closed (stack r done) (p
 -- the token is this one
 pub moves_token : (r r2 : Parser) (t : TermId) (x y : Terminal) (p : ℕ) → x ≡ y → Moves r.pool (λ done. closed (stack r done) (placed_of r.pool t) (terminal_at r.pool p y)) r2 true → Moves r.pool (λ done. closed (stack r done) (placed_of r.pool t) (terminal_at r.pool p x)) r2 true
 moves_token r r2 t x y p e m = subst (λ (z : Terminal). Moves r.pool (λ done. closed (stack r done) (placed_of r.pool t) (terminal_at r.pool p z)) r2 true) (sym e) m
+
+pub if_token : {E : Type 0} (res : Result Bool E) (r r2 : Parser) (t : TermId) (x y : Terminal) → x ≡ y → IfOk res (λ b. (p : ℕ) → Moves r.pool (λ done. closed (stack r done) (placed_of r.pool t) (terminal_at r.pool p y)) r2 b) → IfOk res (λ b. (p : ℕ) → Moves r.pool (λ done. closed (stack r done) (placed_of r.pool t) (terminal_at r.pool p x)) r2 b)
+if_token res r r2 t x y e m = subst (λ (z : Terminal). IfOk res (λ b. (p : ℕ) → Moves r.pool (λ done. closed (stack r done) (placed_of r.pool t) (terminal_at r.pool p z)) r2 b)) (sym e) m

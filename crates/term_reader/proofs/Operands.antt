@@ -75,6 +75,12 @@ word_more c d e a r h =
       before = subst (λ (n : Name). option_map (operator_of n) r.prefix ≡ prefix_of n) same h.before;
     }
 
+pub is_terminal_more : (c d : Contents) → Extends c d → (x : Terminal) → IsTerminal c x → IsTerminal d x
+is_terminal_more c d e (tokens.Name a) h = omega (arith, h, extends_names c d e)
+is_terminal_more c d e (tokens.OperatorWord a r) h = word_more c d e a r h
+is_terminal_more c d e (tokens.Integer tight z) h = h
+is_terminal_more c d e _ h = tt
+
 expecting_more : (c d : Contents) → Extends c d → (e : Expecting) → IsExpecting c e → IsExpecting d e
 expecting_more c d x expect.Operand h = tt
 expecting_more c d x (expect.BehindOpenList p) h = tt
