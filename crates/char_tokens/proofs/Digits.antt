@@ -9,7 +9,7 @@ use Rattle.std.proofs.lemmas.Str.{chars_past_char, chars-nil}
 use Rattle.std.proofs.Math.Nat.{mul-le-mul_left}
 use Rattle.fd_language.specs.Characters.{is_digit_of, starts_with, run_size, past_run, digits_value}
 use Rattle.fd_language.specs.Tokens as model
-use Rattle.fd_language.specs.Tokens.{Gap, Token, Offends, Integer, FloatOut, IntegerTooWide, greatest_integer, has_fraction, number_front, decimal_front}
+use Rattle.fd_language.specs.Tokens.{Gap, Token, Offends, Integer, FloatOut, BadCharacter, IntegerTooWide, greatest_integer, has_fraction, number_front, decimal_front}
 use Rattle.char_tokens.specs.declared.front.Front.{Front}
 use Rattle.char_tokens.specs.declared.front.Front.TheVariants as fronts
 use Rattle.char_tokens.specs.Views.{next_integer, integer_of, front_is, kind_of, cause_of, IsBehind}
@@ -74,6 +74,9 @@ decimal_float c cs h = rw h refl
 pub decimal_number : (c : ℕ) (cs : List ℕ) → has_fraction (past_run (is_digit_of 10) cs) ≡ false → (c == 48 && starts_with 39 cs) ≡ false
     → decimal_front c cs ≡ number_front (digits_value 10 0 (c ∷ cs)) (len_utf8 c + run_size (is_digit_of 10) cs)
 decimal_number c cs h k = rw (h, k) refl
+
+pub decimal_code : (c : ℕ) (cs : List ℕ) → has_fraction (past_run (is_digit_of 10) cs) ≡ false → (c == 48 && starts_with 39 cs) ≡ true → decimal_front c cs ≡ Offends BadCharacter 1
+decimal_code c cs h k = rw (h, k) refl
 
 -- a number's front has its size, where it is an integer
 size_is : (k : model.Kind) (z : ℤ) (n size : ℕ) (b : Bool) → Token k n ≡ cond b (Token (Integer z) size) (Offends IntegerTooWide 0) → n ≡ size
