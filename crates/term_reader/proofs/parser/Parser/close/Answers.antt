@@ -3,7 +3,7 @@ use Rattle.term_reader.specs.View.{closing_of, last_item}
 use Rattle.term_reader.specs.declared.parser.Item.TheVariants as its
 use Rattle.term_reader.specs.declared.parser.Terminal.TheVariants as tokens
 use Rattle.term_reader.proofs.OpenBrackets.{on_top, moves_parenthesis}
-use Rattle.term_reader.proofs.Closings.{Ends, ends, moves_nothing, moves_token, if_token, if_closed}
+use Rattle.term_reader.proofs.Closings.{ends, moves_nothing, moves_token, if_token, if_closed}
 use Rattle.term_reader.proofs.parser.Parser.close.Goals as goal
 
 pub returns-in-Nothing : goal.returns-in-Nothing
