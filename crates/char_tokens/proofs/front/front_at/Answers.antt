@@ -1,4 +1,4 @@
-use Rattle.std.proofs.Common.{◌∙◌, ◌+◌, ℕ, sym, ap, arith}
+use Rattle.std.proofs.Common.{◌∙◌, sym, ap, arith}
 use Rattle.std.specs.Str.{chars}
 use Rattle.fd_language.specs.Tokens as model
 use Rattle.char_tokens.specs.Views.{kind_of}
