@@ -1,16 +1,18 @@
 -- The number that digits spell, from left to right.
-use Rattle.std.proofs.Common.{◌≡◌, ℕ, ◌+◌, ◌*◌, ◌<◌, ◌≤◌, List, [], ◌∷◌, ◌++◌, Option, Some, None, Bool, true, false, cond, refl, sym, ap, ◌∙◌, arith, length, drop, length-drop}
-use Rattle.std.specs.Prelude.{nat_le, ◌==◌, ◌&&◌, ℤ, pos}
+use Rattle.std.proofs.Common.{◌≡◌, ℕ, ◌+◌, ◌*◌, ◌<◌, ◌≤◌, List, [], ◌∷◌, ◌++◌, Option, Some, None, Bool, true, false, cond, refl, sym, ap, subst, ◌∙◌, arith, length, drop, length-drop}
+use Rattle.std.specs.Prelude.{encode_utf8, nat_le, ◌==◌, ◌&&◌, ℤ, pos}
 use Rattle.std.specs.Char.{digit_value, len_utf8}
+use Rattle.std.specs.Str.{chars, IsUtf8}
 use Rattle.std.proofs.lemmas.List.{drop-drop}
-use Rattle.std.proofs.lemmas.Bool.{leb-true, leb-false}
+use Rattle.std.proofs.lemmas.Bool.{leb-true, leb-false, le-leb, lt-leb, le-ltb}
+use Rattle.std.proofs.lemmas.Str.{chars_past_char, chars-nil}
 use Rattle.std.proofs.Math.Nat.{mul-le-mul_left}
 use Rattle.fd_language.specs.Characters.{is_digit_of, starts_with, run_size, past_run, digits_value}
 use Rattle.fd_language.specs.Tokens as model
-use Rattle.fd_language.specs.Tokens.{Gap, Token, Offends, Integer, FloatOut, IntegerTooWide, greatest_integer, has_fraction, number_front, decimal_front}
+use Rattle.fd_language.specs.Tokens.{Gap, Token, Offends, Integer, FloatOut, BadCharacter, IntegerTooWide, greatest_integer, has_fraction, number_front, decimal_front}
 use Rattle.char_tokens.specs.declared.front.Front.{Front}
 use Rattle.char_tokens.specs.declared.front.Front.TheVariants as fronts
-use Rattle.char_tokens.specs.Views.{next_integer, front_is, kind_of, cause_of, IsBehind}
+use Rattle.char_tokens.specs.Views.{next_integer, integer_of, front_is, kind_of, cause_of, IsBehind}
 use Rattle.char_tokens.proofs.Runs.{IsAt}
 
 -- more digits make no smaller number
@@ -48,12 +50,33 @@ so_far_step base None c cs ds h d s = record { by = s.by }
 so_far_step base (Some v) c cs ds h d s =
     picked base (v * base + digit_value c) cs ds h (sym (value_here base v c cs d) ∙ s.by.1) (nat_le (v * base + digit_value c) greatest_integer) refl
 
+-- no digit stands at the front
+pub record NoDigit (base : ℕ) (cs : List ℕ) : Type 0 where
+  pub size : run_size (is_digit_of base) cs ≡ 0
+  pub past : past_run (is_digit_of base) cs ≡ cs
+  pub value : (n : ℕ) → digits_value base n cs ≡ n
+
+pub no_digit_none : (base : ℕ) (bs : List ℕ) → bs ≡ [] → NoDigit base (chars bs)
+no_digit_none base bs e = subst (λ (cs : List ℕ). NoDigit base cs) (sym (ap chars e ∙ chars-nil)) (record { size = refl; past = refl; value = λ n. refl })
+
+pub no_digit_other : (base : ℕ) (bs rest : List ℕ) (c : ℕ) → IsUtf8 bs → bs ≡ encode_utf8 c ++ rest → base ≤ digit_value c → NoDigit base (chars bs)
+no_digit_other base bs rest c u e h =
+    let no : is_digit_of base c ≡ false = le-ltb (digit_value c) base h in
+    subst (λ (cs : List ℕ). NoDigit base cs) (sym (chars_past_char bs rest c u e)) (record { size = rw no refl; past = rw no refl; value = λ n. rw no refl })
+
+pub value_read : (base : ℕ) (o : Option ℕ) (cs ds : List ℕ) → NoDigit base cs → SoFar base o cs ds → o ≡ integer_of (digits_value base 0 ds)
+value_read base None cs ds n s = rw (lt-leb (digits_value base 0 ds) greatest_integer s.by) refl
+value_read base (Some v) cs ds n s = subst (λ (m : ℕ). Some v ≡ integer_of m) (sym (n.value v) ∙ s.by.1) (rw (le-leb v greatest_integer s.by.0) refl)
+
 pub decimal_float : (c : ℕ) (cs : List ℕ) → has_fraction (past_run (is_digit_of 10) cs) ≡ true → decimal_front c cs ≡ Offends FloatOut 0
 decimal_float c cs h = rw h refl
 
 pub decimal_number : (c : ℕ) (cs : List ℕ) → has_fraction (past_run (is_digit_of 10) cs) ≡ false → (c == 48 && starts_with 39 cs) ≡ false
     → decimal_front c cs ≡ number_front (digits_value 10 0 (c ∷ cs)) (len_utf8 c + run_size (is_digit_of 10) cs)
 decimal_number c cs h k = rw (h, k) refl
+
+pub decimal_code : (c : ℕ) (cs : List ℕ) → has_fraction (past_run (is_digit_of 10) cs) ≡ false → (c == 48 && starts_with 39 cs) ≡ true → decimal_front c cs ≡ Offends BadCharacter 1
+decimal_code c cs h k = rw (h, k) refl
 
 -- a number's front has its size, where it is an integer
 size_is : (k : model.Kind) (z : ℤ) (n size : ℕ) (b : Bool) → Token k n ≡ cond b (Token (Integer z) size) (Offends IntegerTooWide 0) → n ≡ size

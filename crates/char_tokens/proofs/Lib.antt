@@ -1,4 +1,5 @@
 mod Runs
+mod Leads
 mod Digits
 mod Quoting
 mod NextTokens

@@ -45,7 +45,7 @@ pub record AsciiFirst (c : ℕ) (text : List ℕ) : Type 0 where
   pub utf8 : IsUtf8 (drop 1 text)
   pub characters : chars text ≡ c ∷ chars (drop 1 text)
 
-first_is : (c : ℕ) (text rest : List ℕ) → c < 128 → IsUtf8 text → text ≡ encode_utf8 c ++ rest → AsciiFirst c text
+pub first_is : (c : ℕ) (text rest : List ℕ) → c < 128 → IsUtf8 text → text ≡ encode_utf8 c ++ rest → AsciiFirst c text
 first_is c text rest low u e =
     let behind : text ≡ c ∷ rest = e ∙ ap (λ (l : List ℕ). l ++ rest) (encode_ascii c low) in
     let same : rest ≡ drop 1 text = sym (ap (λ (l : List ℕ). drop 1 l) behind) in

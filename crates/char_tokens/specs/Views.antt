@@ -1,8 +1,8 @@
 -- What the crate's types stand for.
-use Rattle.std.specs.Prelude.{◌≡◌, ℕ, ◌+◌, ◌*◌, ◌^◌, ◌<◌, ◌≤◌, List, [], ◌∷◌, Bool, true, map, Option, Some, None, nat_le, if◌then◌else◌, length, drop}
+use Rattle.std.specs.Prelude.{◌≡◌, ◌==◌, ◌&&◌, ℕ, ◌+◌, ◌*◌, ◌^◌, ◌<◌, ◌≤◌, List, [], ◌∷◌, Bool, true, map, Option, Some, None, nat_le, if◌then◌else◌, length, drop}
 use Rattle.std.specs.Str.{chars, IsUtf8}
-use Rattle.unicode_ident.specs.Ident.{is_xid_continue}
-use Rattle.fd_language.specs.Characters.{is_symbol, not_newline, tail}
+use Rattle.unicode_ident.specs.Ident.{is_xid_start, is_xid_continue}
+use Rattle.fd_language.specs.Characters.{is_layout, is_symbol, is_solo, is_punct, begins_variable, not_newline, is_digit_of, starts_with, tail}
 use Rattle.fd_language.specs.Tokens as model
 use Rattle.char_tokens.specs.declared.characters.Class.{Class}
 use Rattle.char_tokens.specs.declared.characters.Class.TheVariants as classes
@@ -15,6 +15,8 @@ use Rattle.char_tokens.specs.declared.token.TokenFault.{TokenFault}
 use Rattle.char_tokens.specs.declared.token.TokenFault.TheVariants as faults
 use Rattle.char_tokens.specs.declared.front.Front.{Front}
 use Rattle.char_tokens.specs.declared.front.Front.TheVariants as fronts
+use Rattle.char_tokens.specs.declared.front.Lead.{Lead}
+use Rattle.char_tokens.specs.declared.front.Lead.TheVariants as leads
 use Rattle.char_tokens.specs.declared.quoted.Inside.{Inside}
 use Rattle.char_tokens.specs.declared.quoted.Inside.TheVariants as places
 use Rattle.char_tokens.specs.declared.quoted.Step.{Step}
@@ -73,6 +75,23 @@ IsBehind text fronts.Ends rest = Unit {0}
 IsBehind text (fronts.Gap n) rest = (n ≤ length text) × (rest ≡ drop n text)
 IsBehind text (fronts.Token k n) rest = (n ≤ length text) × (rest ≡ drop n text)
 IsBehind text (fronts.Offends cause n) rest = n ≤ length text
+
+-- how a text of this first character, with these behind it, is read
+abbrev pub lead_of : ℕ → List ℕ → Lead
+lead_of c cs =
+    if is_layout c then leads.Layout
+    else if c == 37 then leads.Line
+    else if is_digit_of 10 c then leads.Digit
+    else if begins_variable c then leads.Run kinds.Variable classes.Continue
+    else if is_xid_start c then leads.Run kinds.Word classes.Continue
+    else if c == 47 && starts_with 42 cs then leads.Comment
+    else if c == 46 && model.ends_stop cs then leads.Alone kinds.Stop
+    else if is_symbol c then leads.Run kinds.Word classes.Symbol
+    else if is_solo c then leads.Alone kinds.Word
+    else if is_punct c then leads.Alone kinds.Punct
+    else if c == 39 then leads.Quote
+    else if c == 34 then leads.Offends causes.StringOut
+    else leads.Offends causes.BadCharacter
 
 abbrev pub inside_of : Inside → model.Inside
 inside_of places.Between = model.Between

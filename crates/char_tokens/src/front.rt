@@ -36,6 +36,64 @@ pub(crate) fn front_of(text: &str) -> (Front, &str)
     }
 }
 
+/// How a text is read whose first character is known.
+#[derive(Clone, Copy)]
+enum Lead {
+    /// A layout character.
+    Layout,
+    /// A comment up to the end of the line.
+    Line,
+    Digit,
+    /// A token of the character and the run of the class behind it.
+    Run(Kind, Class),
+    Comment,
+    /// A token of the character alone.
+    Alone(Kind),
+    Quote,
+    Offends(TokenCause),
+}
+
+/// How a text of this first character, with this text behind it, is read.
+fn lead_of(c: char, behind: &str) -> Lead
+    ensures { result ≡ Views.lead_of c (chars behind.now) }
+{
+    if is_layout(c) {
+        return Lead::Layout;
+    }
+    if c == '%' {
+        return Lead::Line;
+    }
+    if c.is_digit(10) {
+        return Lead::Digit;
+    }
+    if begins_variable(c) {
+        return Lead::Run(Kind::Variable, Class::Continue);
+    }
+    if unicode_ident::is_xid_start(c) {
+        return Lead::Run(Kind::Word, Class::Continue);
+    }
+    if c == '/' && starts_with('*', behind) {
+        return Lead::Comment;
+    }
+    if c == '.' && ends_stop(behind) {
+        return Lead::Alone(Kind::Stop);
+    }
+    if is_symbol(c) {
+        return Lead::Run(Kind::Word, Class::Symbol);
+    }
+    if is_solo(c) {
+        return Lead::Alone(Kind::Word);
+    }
+    if is_punct(c) {
+        return Lead::Alone(Kind::Punct);
+    }
+    match c {
+        '\'' => Lead::Quote,
+        '"' => Lead::Offends(TokenCause::StringOut),
+        _ => Lead::Offends(TokenCause::BadCharacter),
+    }
+}
+
 /// What a text of this first character begins with, and the text behind it.
 fn front_at<'t>(text: &'t str, c: char, behind: &'t str) -> (Front, &'t str)
     requires { text.now ≡ encode_utf8 c ++ behind.now }
@@ -43,45 +101,20 @@ fn front_at<'t>(text: &'t str, c: char, behind: &'t str) -> (Front, &'t str)
     ensures behind { Views.IsBehind text.now result.0 result.1.now }
     ensures text { IsUtf8 result.1.now }
 {
-    if is_layout(c) {
-        return (Front::Gap(c.len_utf8()), behind);
+    match lead_of(c, behind) {
+        Lead::Layout => (Front::Gap(c.len_utf8()), behind),
+        Lead::Line => {
+            let (size, rest) = run_behind(Class::Line, text, c, behind);
+            (Front::Gap(size), rest)
+        }
+        Lead::Digit => integer(text, c, behind),
+        Lead::Run(kind, class) => {
+            let (size, rest) = run_behind(class, text, c, behind);
+            (Front::Token(kind, size), rest)
+        }
+        Lead::Comment => comment(text, behind),
+        Lead::Alone(kind) => (Front::Token(kind, c.len_utf8()), behind),
+        Lead::Quote => quoted(text, behind),
+        Lead::Offends(cause) => (Front::Offends(cause, 0), behind),
     }
-    if c == '%' {
-        let (size, rest) = run_behind(Class::Line, text, c, behind);
-        return (Front::Gap(size), rest);
-    }
-    if c.is_digit(10) {
-        return integer(text, c, behind);
-    }
-    if begins_variable(c) {
-        let (size, rest) = run_behind(Class::Continue, text, c, behind);
-        return (Front::Token(Kind::Variable, size), rest);
-    }
-    if unicode_ident::is_xid_start(c) {
-        let (size, rest) = run_behind(Class::Continue, text, c, behind);
-        return (Front::Token(Kind::Word, size), rest);
-    }
-    if c == '/' && starts_with('*', behind) {
-        return comment(text, behind);
-    }
-    if c == '.' && ends_stop(behind) {
-        return (Front::Token(Kind::Stop, c.len_utf8()), behind);
-    }
-    if is_symbol(c) {
-        let (size, rest) = run_behind(Class::Symbol, text, c, behind);
-        return (Front::Token(Kind::Word, size), rest);
-    }
-    if is_solo(c) {
-        return (Front::Token(Kind::Word, c.len_utf8()), behind);
-    }
-    if is_punct(c) {
-        return (Front::Token(Kind::Punct, c.len_utf8()), behind);
-    }
-    if c == '\'' {
-        return quoted(text, behind);
-    }
-    if c == '"' {
-        return (Front::Offends(TokenCause::StringOut, 0), behind);
-    }
-    (Front::Offends(TokenCause::BadCharacter, 0), behind)
 }

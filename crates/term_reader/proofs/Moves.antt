@@ -1,6 +1,6 @@
 -- The parser's steps are the machine's.
-use Rattle.std.proofs.Common.{◌≡◌, ℕ, ℤ, List, Option, Some, None, Bool, true, false, refl, sym, ap, subst, ◌∙◌, ◌⊎◌, arith, w64, SFits}
-use Rattle.std.specs.Prelude.{reverse, neg_ℤ, ◌&&◌}
+use Rattle.std.proofs.Common.{◌≡◌, ℕ, ℤ, List, Option, Some, None, Bool, true, false, refl, sym, ap, subst, ◌∙◌, arith, w64, SFits}
+use Rattle.std.specs.Prelude.{reverse}
 use Rattle.fd_language.specs.PlacedTerm.{PlacedTerm}
 use Rattle.fd_language.specs.ReadingSteps.{Stack, top, State, after, wanted}
 use Rattle.term_pool.specs.declared.TermId.{TermId}

@@ -75,6 +75,12 @@ word_more c d e a r h =
       before = subst (λ (n : Name). option_map (operator_of n) r.prefix ≡ prefix_of n) same h.before;
     }
 
+pub is_terminal_more : (c d : Contents) → Extends c d → (x : Terminal) → IsTerminal c x → IsTerminal d x
+is_terminal_more c d e (tokens.Name a) h = omega (arith, h, extends_names c d e)
+is_terminal_more c d e (tokens.OperatorWord a r) h = word_more c d e a r h
+is_terminal_more c d e (tokens.Integer tight z) h = h
+is_terminal_more c d e _ h = tt
+
 expecting_more : (c d : Contents) → Extends c d → (e : Expecting) → IsExpecting c e → IsExpecting d e
 expecting_more c d x expect.Operand h = tt
 expecting_more c d x (expect.BehindOpenList p) h = tt
@@ -284,6 +290,12 @@ stack_begins_list r r1 p from e e0 e1 e2 done =
     ∙ ap (λ (xs : PlacedTerms). items p xs (stack_of r.pool (top done) (take from ts) ys)) (ap (parts_of r.pool) (drop_all from ts (omega (arith, e))) ∙ parts_of_none r.pool)
     ∙ ap (λ (us : List TermId). items p no_parts (stack_of r.pool (top done) us ys)) (take_all from ts (omega (arith, e)))
 
+pub stack_begins_curly : (r r1 : Parser) (p : ℕ) → r1.pool ≡ r.pool → r1.arguments.items ≡ r.arguments.items → r1.items.items ≡ r.items.items ++ Curly p ∷ [] → (done : List PlacedTerm) → stack r1 done ≡ curly p (stack r done)
+stack_begins_curly r r1 p e0 e1 e2 done =
+    ap (λ (us : List TermId). stack_of r1.pool (top done) us (reverse r1.items.items)) e1
+    ∙ ap (λ (zs : List Item). stack_of r1.pool (top done) r.arguments.items zs) (ap reverse e2 ∙ turned_push r.items.items (Curly p))
+    ∙ ap (λ (c : Contents). stack_of c (top done) r.arguments.items (Curly p ∷ reverse r.items.items)) e0
+
 pub stack_prefixed : (r r1 : Parser) (p : ℕ) (a : AtomId) (f : Operator) → r1.pool ≡ r.pool → r1.arguments.items ≡ r.arguments.items → r1.items.items ≡ r.items.items ++ Prefix p a f ∷ [] → (done : List PlacedTerm)
     → stack r1 done ≡ before p (atom_name r.pool a) (operator_of (atom_name r.pool a) f) (stack r done)
 stack_prefixed r r1 p a f e0 e1 e2 done =
@@ -410,6 +422,16 @@ moves_empty_curly r r2 at place x t w e k e1 e2 e3 =
     moves_term r.pool r2 r.arguments.items (reverse r.items.items) t (atom curly_name at) (λ done. step (at_curly_bracket at (stack r done)) tok) w.pool k w.arguments w.ids w.room
     (rw e1 refl) (rw e2 refl) e3
     (λ done. ap (λ (b : Bool). cond b (Some (after None (stack r done) (atom curly_name at))) (wanted (curly at (stack r done)) tok)) e)
+
+pub moves_begin_curly : {E : Type 0} (res : Result Bool E) (r r1 r2 : Parser) (at place : ℕ) (x : Terminal) → machine.is_close_curly (terminal_at r.pool place x) ≡ false → r1.pool ≡ r.pool → r1.arguments.items ≡ r.arguments.items → r1.items.items ≡ r.items.items ++ Curly at ∷ []
+    → IfOk res (Moves r.pool (λ done. wanted (stack r1 done) (terminal_at r.pool place x)) r2)
+    → IfOk res (Moves r.pool (λ done. step (at_curly_bracket at (stack r done)) (terminal_at r.pool place x)) r2)
+moves_begin_curly res r r1 r2 at place x e e0 e1 e2 m =
+    let tok = terminal_at r.pool place x in
+    if_moves res r.pool (λ done. wanted (stack r1 done) tok) (λ done. step (at_curly_bracket at (stack r done)) tok) r2
+    (λ done. ap (λ (b : Bool). cond b (Some (after None (stack r done) (atom curly_name at))) (wanted (curly at (stack r done)) tok)) e
+    ∙ ap (λ (s : Stack). wanted s tok) (sym (stack_begins_curly r r1 at e0 e1 e2 done)))
+    m
 
 pub named_atom : {E : Type 0} (res : Result TermId E) (c m d : Contents) (a : AtomId) (n : Name) (at : ℕ) → Extends c m → atom_name m a ≡ n → IfOk res (Adds m d (atom (atom_name m a) at)) → IfOk res (Adds c d (atom n at))
 named_atom (Ok t) c m d a n at x e k = record { grows = extends_trans c m d x k.grows; valid = k.valid; within = k.within; is = k.is ∙ ap (λ (y : Name). atom y at) e }

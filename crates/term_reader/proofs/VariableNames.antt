@@ -1,6 +1,6 @@
 -- The variables of a sentence have names.
 use Rattle.std.proofs.Common.{◌≡◌, ℕ, ℤ, suc, ◌+◌, ◌<◌, ◌≤◌, List, [], ◌∷◌, ◌++◌, length, map, Option, Some, None, Bool, true, false, cond, refl, sym, ap, subst, ◌∙◌, arith, length-append}
-use Rattle.std.specs.Prelude.{Result, Ok, Err, IfOk, reverse, option_and_then, nat_le, ◌==◌, ◌||◌, not}
+use Rattle.std.specs.Prelude.{Result, Ok, Err, IfOk, reverse, option_and_then, nat_le, ◌==◌, not}
 use Rattle.std.specs.List.{position_or_len, list_any, AllByRecursion}
 use Rattle.std.specs.Str.{bytes_eq}
 use Rattle.std.proofs.lemmas.List.{append-nil, append_assoc, reverse-append, reverse-reverse, length-map}

@@ -591,44 +591,42 @@ impl Parser {
         place: usize,
         name: AtomId,
         from: usize,
-    ) -> Result<(), NoMemory>
+    ) -> Result<bool, NoMemory>
         requires whole { IsWhole self.old }
         requires last { last.number < length self.old.pool.entries }
         requires top { last_item self.old.items.items ≡ Some (Item.Call place name from) }
-        ensures { IfOk result (λ _. Moves self.old.pool
-            (λ done. Machine.closed (stack self.old done) (placed_of self.old.pool last)
-            Terminals.closes) self.new true) }
+        ensures { IfOk result (Moves self.old.pool (λ done. Machine.closed (stack self.old done)
+            (placed_of self.old.pool last) Terminals.closes) self.new) }
     {
         self.arguments.push(last)?;
         let term = add_compound(&mut self.pool, name, ids_from(&self.arguments, from), place)?;
         self.arguments.truncate(from);
         self.items.pop();
         self.expecting = Expecting::BehindOperand { term };
-        Ok(())
+        Ok(true)
     }
 
     /// An argument or an element, behind which another one follows.
-    fn next_argument(&mut self, term: TermId) -> Result<(), NoMemory>
+    fn next_argument(&mut self, term: TermId) -> Result<bool, NoMemory>
         requires whole { IsWhole self.old }
         requires term { term.number < length self.old.pool.entries }
         requires top { TakesArguments (last_item self.old.items.items) }
-        ensures { IfOk result (λ _. (p : ℕ) → Moves self.old.pool
+        ensures { IfOk result (λ b. (p : ℕ) → Moves self.old.pool
             (λ done. Machine.closed (stack self.old done) (placed_of self.old.pool term)
-            (Terminals.comma p)) self.new true) }
+            (Terminals.comma p)) self.new b) }
     {
         self.arguments.push(term)?;
         self.expecting = Expecting::Operand;
-        Ok(())
+        Ok(true)
     }
 
     /// The end of a list behind its last element.
-    fn end_list(&mut self, last: TermId, place: usize, from: usize) -> Result<(), NoMemory>
+    fn end_list(&mut self, last: TermId, place: usize, from: usize) -> Result<bool, NoMemory>
         requires whole { IsWhole self.old }
         requires last { last.number < length self.old.pool.entries }
         requires top { last_item self.old.items.items ≡ Some (Item.List place from) }
-        ensures { IfOk result (λ _. Moves self.old.pool
-            (λ done. Machine.closed (stack self.old done) (placed_of self.old.pool last)
-            Terminals.close_list) self.new true) }
+        ensures { IfOk result (Moves self.old.pool (λ done. Machine.closed (stack self.old done)
+            (placed_of self.old.pool last) Terminals.close_list) self.new) }
     {
         self.arguments.push(last)?;
         let nil = add_atom(&mut self.pool, NIL, place)?;
@@ -636,54 +634,51 @@ impl Parser {
         self.arguments.truncate(from);
         self.items.pop();
         self.expecting = Expecting::BehindOperand { term };
-        Ok(())
+        Ok(true)
     }
 
     /// The end of a list behind its tail.
-    fn end_tail(&mut self, tail: TermId, place: usize, from: usize) -> Result<(), NoMemory>
+    fn end_tail(&mut self, tail: TermId, place: usize, from: usize) -> Result<bool, NoMemory>
         requires whole { IsWhole self.old }
         requires tail { tail.number < length self.old.pool.entries }
         requires top { last_item self.old.items.items ≡ Some (Item.Tail place from) }
-        ensures { IfOk result (λ _. Moves self.old.pool
-            (λ done. Machine.closed (stack self.old done) (placed_of self.old.pool tail)
-            Terminals.close_list) self.new true) }
+        ensures { IfOk result (Moves self.old.pool (λ done. Machine.closed (stack self.old done)
+            (placed_of self.old.pool tail) Terminals.close_list) self.new) }
     {
         let term = add_list(&mut self.pool, ids_from(&self.arguments, from), place, tail)?;
         self.arguments.truncate(from);
         self.items.pop();
         self.expecting = Expecting::BehindOperand { term };
-        Ok(())
+        Ok(true)
     }
 
     /// The bar behind a list's last element before its tail.
-    fn begin_tail(&mut self, last: TermId, place: usize, from: usize) -> Result<(), NoMemory>
+    fn begin_tail(&mut self, last: TermId, place: usize, from: usize) -> Result<bool, NoMemory>
         requires whole { IsWhole self.old }
         requires last { last.number < length self.old.pool.entries }
         requires top { last_item self.old.items.items ≡ Some (Item.List place from) }
-        ensures { IfOk result (λ _. Moves self.old.pool
-            (λ done. Machine.closed (stack self.old done) (placed_of self.old.pool last)
-            Terminals.bar) self.new true) }
+        ensures { IfOk result (Moves self.old.pool (λ done. Machine.closed (stack self.old done)
+            (placed_of self.old.pool last) Terminals.bar) self.new) }
     {
         self.arguments.push(last)?;
         self.items.pop();
         self.items.push(Item::Tail { place, from })?;
         self.expecting = Expecting::Operand;
-        Ok(())
+        Ok(true)
     }
 
     /// The end of a curly term.
-    fn end_curly(&mut self, inner: TermId, place: usize) -> Result<(), NoMemory>
+    fn end_curly(&mut self, inner: TermId, place: usize) -> Result<bool, NoMemory>
         requires whole { IsWhole self.old }
         requires inner { inner.number < length self.old.pool.entries }
         requires top { last_item self.old.items.items ≡ Some (Item.Curly place) }
-        ensures { IfOk result (λ _. Moves self.old.pool
-            (λ done. Machine.closed (stack self.old done) (placed_of self.old.pool inner)
-            Terminals.close_curly) self.new true) }
+        ensures { IfOk result (Moves self.old.pool (λ done. Machine.closed (stack self.old done)
+            (placed_of self.old.pool inner) Terminals.close_curly) self.new) }
     {
         let term = add_named(&mut self.pool, "{}", &[inner], place)?;
         self.items.pop();
         self.expecting = Expecting::BehindOperand { term };
-        Ok(())
+        Ok(true)
     }
 
     /// A token behind a whole operand, to which no operator is left; false where it can't stand there.
@@ -695,19 +690,19 @@ impl Parser {
             (terminal_at self.old.pool p token)) self.new b) }
     {
         match closing_of(top_item(&self.items), token) {
-            Closing::Nothing => return Ok(false),
+            Closing::Nothing => Ok(false),
             Closing::Parenthesis => {
                 self.items.pop();
                 self.expecting = Expecting::BehindOperand { term };
+                Ok(true)
             }
-            Closing::Curly { place } => self.end_curly(term, place)?,
-            Closing::Call { place, name, from } => self.end_call(term, place, name, from)?,
-            Closing::Argument => self.next_argument(term)?,
-            Closing::List { place, from } => self.end_list(term, place, from)?,
-            Closing::Bar { place, from } => self.begin_tail(term, place, from)?,
-            Closing::Tail { place, from } => self.end_tail(term, place, from)?,
+            Closing::Curly { place } => self.end_curly(term, place),
+            Closing::Call { place, name, from } => self.end_call(term, place, name, from),
+            Closing::Argument => self.next_argument(term),
+            Closing::List { place, from } => self.end_list(term, place, from),
+            Closing::Bar { place, from } => self.begin_tail(term, place, from),
+            Closing::Tail { place, from } => self.end_tail(term, place, from),
         }
-        Ok(true)
     }
 
     /// A token behind an operand of this priority, where no operator takes it; false where it can't stand there.
@@ -783,17 +778,16 @@ impl Parser {
     }
 
     /// The parenthesis of a call.
-    fn begin_call(&mut self, place: usize, name: AtomId) -> Result<(), NoMemory>
+    fn begin_call(&mut self, place: usize, name: AtomId) -> Result<bool, NoMemory>
         requires whole { IsWhole self.old }
         requires name { name.number < length self.old.pool.names }
-        ensures { IfOk result (λ _. Moves self.old.pool
-            (λ done. Some (Machine.want (Machine.args place (atom_name self.old.pool name) no_parts
-            (stack self.old done)))) self.new true) }
+        ensures { IfOk result (Moves self.old.pool (λ done. Some (Machine.want (Machine.args place
+            (atom_name self.old.pool name) no_parts (stack self.old done)))) self.new) }
     {
         let from = self.arguments.len();
         self.items.push(Item::Call { place, name, from })?;
         self.expecting = Expecting::Operand;
-        Ok(())
+        Ok(true)
     }
 
     /// A token behind a prefix operator; false where the word is none, or it or the token can't stand there.
@@ -848,8 +842,7 @@ impl Parser {
             (terminal_at self.old.pool place token)) self.new) }
     {
         if is_tight_open(token) {
-            self.begin_call(at, name)?;
-            Ok(true)
+            self.begin_call(at, name)
         } else if let Some(value) = negative(&self.pool, name, token) {
             let term = add_integer(&mut self.pool, value, at)?;
             self.expecting = Expecting::BehindOperand { term };
@@ -880,8 +873,7 @@ impl Parser {
             self.new) }
     {
         if is_tight_open(token) {
-            self.begin_call(at, name)?;
-            Ok(true)
+            self.begin_call(at, name)
         } else {
             let term = add_atom(&mut self.pool, name, at)?;
             self.follow(term, token, place)

@@ -6,8 +6,16 @@ use Rattle.std.proofs.lemmas.Bool.{lt-ltb}
 use Rattle.fd_language.specs.Characters.{is_digit_of}
 use Rattle.char_tokens.specs.Views.{next_integer}
 use Rattle.char_tokens.proofs.Runs.{IsAt, at_next, run_here, past_here}
-use Rattle.char_tokens.proofs.Digits.{SoFar, so_far_step}
+use Rattle.char_tokens.proofs.Digits.{SoFar, so_far_step, NoDigit, no_digit_none, no_digit_other, value_read}
 use Rattle.char_tokens.proofs.number.digits.Goals as goal
+use Rattle.char_tokens.proofs.number.digits.Goals.{in-Some+in_default-to_digit, in_default}
+
+no_digit : (c : goal.After-rest-1) → NoDigit c.args.base (chars c.loop-c.rest.now)
+no_digit c =
+    elim c.match-first_char.branch [
+      | in-Some+in_default-to_digit w ↦ no_digit_other c.args.base c.loop-c.rest.now w.in-Some.behind.now w.in-Some.c c.loop-c.invariant.utf8 w.in-Some.ensures.split.1 (omega (arith, w.in_default-to_digit.ensures.value))
+      | in_default w ↦ no_digit_none c.args.base c.loop-c.rest.now w.in_default.ensures.split
+    ]
 
 pub loop-c-preserved : goal.loop-c-preserved
 loop-c-preserved c =
@@ -28,3 +36,12 @@ loop-c-preserved c =
       past = sym (past_here (is_digit_of base) c.loop-c.rest.now c.in-Some.behind.now c.in-Some.c i.utf8 split h) ∙ i.past;
       value = subst (λ (o : Option ℕ). SoFar base o (chars c.in-Some.behind.now) (chars c.args.text.now)) (sym (c.next_integer-value.ensures ∙ ap (λ (d : ℕ). next_integer base c.loop-c.value d) digit)) after;
     }
+
+pub returns-clause-size : goal.returns-clause-size
+returns-clause-size c = let n = no_digit c in omega (arith, c.loop-c.invariant.size, n.size)
+
+pub returns-clause-value : goal.returns-clause-value
+returns-clause-value c = value_read c.args.base c.loop-c.value (chars c.loop-c.rest.now) (chars c.args.text.now) (no_digit c) c.loop-c.invariant.value
+
+pub returns-clause-past : goal.returns-clause-past
+returns-clause-past c = let n = no_digit c in sym n.past ∙ c.loop-c.invariant.past

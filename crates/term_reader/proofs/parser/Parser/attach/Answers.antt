@@ -2,9 +2,18 @@ use Rattle.std.proofs.Common.{◌≡◌, ◌<◌, ◌⊎◌, inl, inr, refl, ari
 use Rattle.fd_language.specs.Operators.{left_limit}
 use Rattle.name_syntax.specs.Operators.{nameless}
 use Rattle.term_reader.specs.View.{item_limit, last_item}
-use Rattle.term_reader.proofs.Operands.{named_from, moves_attach, moves_attach_not}
+use Rattle.term_reader.proofs.Operands.{whole_reduced, is_terminal_more, named_from, moves_attach, moves_attach_not}
 use Rattle.term_reader.proofs.parser.Parser.attach.Goals as goal
 use Rattle.term_reader.proofs.parser.Parser.attach.Goals.{else-operator-limit-via-then-operator-limit+else-priority-left_limit, else-operator-limit-via-else-operator-limit}
+
+pub infix_atom-requires-clause-token : goal.infix_atom-requires-clause-token
+infix_atom-requires-clause-token c = is_terminal_more c.args.self.now.pool c.reduce.new.pool c.in_ok-left.ensures.steps.grows c.args.token c.requires.token
+
+pub end_operand-requires-clause-whole : goal.end_operand-requires-clause-whole
+end_operand-requires-clause-whole c = whole_reduced c.args.self.now _ c.requires.whole c.in_ok-left.ensures.steps refl refl
+
+pub end_operand-requires-clause-token : goal.end_operand-requires-clause-token
+end_operand-requires-clause-token c = is_terminal_more c.args.self.now.pool c.reduce.new.pool c.in_ok-left.ensures.steps.grows c.args.token c.requires.token
 
 pub returns-in_ok-push : goal.returns-in_ok-push
 returns-in_ok-push c =

@@ -1,6 +1,9 @@
 use Rattle.std.proofs.Common.{◌∙◌, refl, sym}
-use Rattle.term_reader.proofs.Operands.{whole_grown, moves_name}
+use Rattle.term_reader.proofs.Operands.{is_terminal_more, whole_grown, moves_name}
 use Rattle.term_reader.proofs.parser.Parser.behind_name.Goals as goal
+
+pub follow-requires-clause-token : goal.follow-requires-clause-token
+follow-requires-clause-token c = is_terminal_more c.args.self.now.pool c.add_atom.new.pool c.in_ok-term.ensures.grows c.args.token c.requires.token
 
 pub follow-requires-clause-whole : goal.follow-requires-clause-whole
 follow-requires-clause-whole c = whole_grown c.args.self.now _ c.requires.whole c.in_ok-term.ensures.grows c.in_ok-term.ensures.valid refl refl refl
