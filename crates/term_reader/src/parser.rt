@@ -584,7 +584,7 @@ impl Parser {
         }
     }
 
-    /// The end of a call's arguments, behind the last one.
+    /// The end of a call's arguments, behind the last one. True: the token can stand there.
     fn end_call(
         &mut self,
         last: TermId,
@@ -606,7 +606,7 @@ impl Parser {
         Ok(true)
     }
 
-    /// An argument or an element, behind which another one follows.
+    /// An argument or an element, behind which another one follows. True: the token can stand there.
     fn next_argument(&mut self, term: TermId) -> Result<bool, NoMemory>
         requires whole { IsWhole self.old }
         requires term { term.number < length self.old.pool.entries }
@@ -620,7 +620,7 @@ impl Parser {
         Ok(true)
     }
 
-    /// The end of a list behind its last element.
+    /// The end of a list behind its last element. True: the token can stand there.
     fn end_list(&mut self, last: TermId, place: usize, from: usize) -> Result<bool, NoMemory>
         requires whole { IsWhole self.old }
         requires last { last.number < length self.old.pool.entries }
@@ -637,7 +637,7 @@ impl Parser {
         Ok(true)
     }
 
-    /// The end of a list behind its tail.
+    /// The end of a list behind its tail. True: the token can stand there.
     fn end_tail(&mut self, tail: TermId, place: usize, from: usize) -> Result<bool, NoMemory>
         requires whole { IsWhole self.old }
         requires tail { tail.number < length self.old.pool.entries }
@@ -652,7 +652,7 @@ impl Parser {
         Ok(true)
     }
 
-    /// The bar behind a list's last element before its tail.
+    /// The bar behind a list's last element before its tail. True: the token can stand there.
     fn begin_tail(&mut self, last: TermId, place: usize, from: usize) -> Result<bool, NoMemory>
         requires whole { IsWhole self.old }
         requires last { last.number < length self.old.pool.entries }
@@ -667,7 +667,7 @@ impl Parser {
         Ok(true)
     }
 
-    /// The end of a curly term.
+    /// The end of a curly term. True: the token can stand there.
     fn end_curly(&mut self, inner: TermId, place: usize) -> Result<bool, NoMemory>
         requires whole { IsWhole self.old }
         requires inner { inner.number < length self.old.pool.entries }
@@ -777,7 +777,7 @@ impl Parser {
         }
     }
 
-    /// The parenthesis of a call.
+    /// The parenthesis of a call. True: the token can stand there.
     fn begin_call(&mut self, place: usize, name: AtomId) -> Result<bool, NoMemory>
         requires whole { IsWhole self.old }
         requires name { name.number < length self.old.pool.names }
