@@ -10,6 +10,7 @@ mod SlotNeeds
 mod Opened
 mod Compiling
 mod Opening
+mod Operators
 mod Counting
 mod Telling
 mod Posted
