@@ -11,6 +11,7 @@ mod Opened
 mod Compiling
 mod Opening
 mod Operators
+mod SameNodes
 mod Counting
 mod Telling
 mod Posted
