@@ -1,4 +1,4 @@
-use Rattle.std.proofs.Common.{◌≡◌, ◌∙◌, sym, ap, subst, true}
+use Rattle.std.proofs.Common.{◌≡◌, ◌∙◌, sym, subst, true}
 use Rattle.fd_language.specs.contracts.range_node.RangeNodePartialEq.TheImpl.{ghosts}
 use Rattle.range_code.proofs.SameNodes.{node_same, node_alike}
 use Rattle.range_code.proofs.alike.is_same_node.Goals as goal
