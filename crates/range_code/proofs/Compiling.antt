@@ -2,7 +2,7 @@
 use Rattle.std.proofs.Common.{◌≡◌, ℕ, suc, ◌+◌, ◌<◌, ◌≤◌, Bool, true, false, cond, not, ◌||◌, ◌==◌, nat_lt, nat_eq, List, [], ◌∷◌, ◌++◌, length, map, filter, fold, reverse, pos, take, get_or, Option, Some, None, IsTrue, refl, sym, ◌∙◌, ap, subst, arith, eqb-true}
 use Rattle.std.specs.Prelude.{MatchOption}
 use Rattle.std.specs.List.{position, position_or_len, list_all}
-use Rattle.std.proofs.lemmas.List.{take_more, map-append}
+use Rattle.std.proofs.lemmas.List.{take_more, map-append, append_assoc}
 use Rattle.std.proofs.lemmas.List.Folds.{list_any-append}
 use Rattle.fd_language.specs.declared.TheConstants.{INFINITY}
 use Rattle.fd_language.specs.declared.range_node.Need.{Need}
@@ -72,6 +72,15 @@ one_passes p xs n e = by_test (nat_lt (position_or_len p xs) (length xs)) e wher
 -- the image of one more element
 pub mapped_more : {X Y : Type 0} (f : X → Y) (xs : List X) (i : ℕ) (d : X) (old new : List Y) (y : Y) → i < length xs → old ≡ map f (take i xs) → new ≡ old ++ y ∷ [] → y ≡ f (get_or xs i d) → new ≡ map f (take (i + 1) xs)
 mapped_more f xs i d old new y l h e g = e ∙ (two (λ ys z. ys ++ z ∷ []) h g ∙ sym (ap (map f) (take_more xs i d l) ∙ map-append f (take i xs) (get_or xs i d ∷ [])))
+
+-- what is put behind others grows by one more
+pub mapped_onto : {X Y : Type 0} (front : List Y) (f : X → Y) (xs : List X) (i : ℕ) (d : X) (old new : List Y) (y : Y) → i < length xs → old ≡ front ++ map f (take i xs) → new ≡ old ++ y ∷ [] → y ≡ f (get_or xs i d) → new ≡ front ++ map f (take (i + 1) xs)
+mapped_onto front f xs i d old new y l h e g = e ∙ (ap (λ ys. ys ++ y ∷ []) h ∙ (append_assoc front (map f (take i xs)) (y ∷ []) ∙ ap (λ ys. front ++ ys) (mapped_more f xs i d (map f (take i xs)) (map f (take i xs) ++ y ∷ []) y l refl refl g)))
+
+pub mapped_twice : {X Y Z : Type 0} (front : List Z) (f : X → Y) (g : Y → Z) (xs : List X) (i : ℕ) (d : X) (old new : List Z) (z : Z) → i < length xs → old ≡ front ++ map g (map f (take i xs)) → new ≡ old ++ z ∷ [] → z ≡ g (f (get_or xs i d)) → new ≡ front ++ map g (map f (take (i + 1) xs))
+mapped_twice front f g xs i d old new z l h e s =
+    e ∙ (two (λ zs y. zs ++ y ∷ []) h s ∙ (append_assoc front (map g (map f (take i xs))) (g (f (get_or xs i d)) ∷ []) ∙ ap (λ zs. front ++ zs)
+    (sym (ap (λ l. map g (map f l)) (take_more xs i d l) ∙ (ap (map g) (map-append f (take i xs) (get_or xs i d ∷ [])) ∙ map-append g (map f (take i xs)) (f (get_or xs i d) ∷ []))))))
 
 -- one more node
 pub numbered_more : (nodes : List RangeNode) (i : ℕ) (d : RangeNode) (old new : Numbered) → i < length nodes → IsNumbered (node_variables (take i nodes)) old →

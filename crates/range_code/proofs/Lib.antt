@@ -10,6 +10,8 @@ mod SlotNeeds
 mod Opened
 mod Compiling
 mod Opening
+mod Operators
+mod SameNodes
 mod Counting
 mod Telling
 mod Posted

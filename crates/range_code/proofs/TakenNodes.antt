@@ -1,5 +1,5 @@
 -- Each node that is read leaves the values and sets that wait those of the terms and ranges that wait.
-use Rattle.std.proofs.Common.{◌≡◌, ℕ, ℤ, pos, get_or, List, [], ◌∷◌, ◌++◌, filter, Option, Some, None, refl, sym, ◌∙◌, ap, subst, ◌⊎◌, inl, inr}
+use Rattle.std.proofs.Common.{◌≡◌, ℕ, suc, ◌-◌, ℤ, pos, get_or, List, [], ◌∷◌, ◌++◌, filter, Option, Some, None, refl, sym, ◌∙◌, ap, subst, ◌⊎◌, inl, inr}
 use Rattle.fd_language.specs.declared.TheConstants.{INFINITY}
 use Rattle.fd_language.specs.declared.range_node.RangeNode.{RangeNode}
 use Rattle.fd_language.specs.declared.range_node.RangeNode.TheVariants as node
@@ -8,7 +8,8 @@ use Rattle.fd_language.specs.Range.{Range, Span, One, Dom, Union, Inter, Outside
 use Rattle.fd_language.specs.Check.{fill_range}
 use Rattle.fd_language.specs.Flat.{built}
 use Rattle.range_code.specs.declared.work.Work.{Work}
-use Rattle.range_code.specs.Work.{leaf_value, filled_value, filled_set, stacked_values, stacked_sets, IsPending, Follows, IsTaken}
+use Rattle.range_code.specs.Work.{leaf_value, filled_value, filled_set, stacked_values, stacked_sets, IsPending, Follows, IsTaken, CanTake, CanTakeTerms, CanTakeRange}
+use Rattle.range_code.specs.Heights.{Counts, IsCounted}
 use Rattle.domain_ranges.specs.Narrowing.{between}
 use Rattle.range_code.specs.Steps.{PushesValue, PushesSet, Operates, Spans, Singles, either, Joins, Meets, outside, Complements, moved, Moves}
 use Rattle.range_code.specs.declared.instr.RangeInstr.{RangeInstr}
@@ -186,51 +187,77 @@ IsTermOperator i = (i ≡ instr.Add) ⊎ ((i ≡ instr.Sub) ⊎ ((i ≡ instr.Mu
 abbrev IsMove : RangeInstr → Type 0
 IsMove i = (i ≡ instr.Plus) ⊎ ((i ≡ instr.Minus) ⊎ ((i ≡ instr.Times) ⊎ (i ≡ instr.Over)))
 
+push_case : (P : RangeInstr → Type 0) (i : RangeInstr) → IsPush i → ((c : ℕ) → P (instr.PushConst c)) → ((x : ℕ) → P (instr.PushArg x)) → ((y : ℕ) → P (instr.PushMin y)) → ((y : ℕ) → P (instr.PushMax y)) → ((y : ℕ) → P (instr.PushVal y)) → P i
+push_case P i is h f g u v = elim is [
+  | inl e ↦ at_instr P (instr.PushConst e.0) i e.1 (h e.0)
+  | inr a ↦ elim a [
+    | inl e ↦ at_instr P (instr.PushArg e.0) i e.1 (f e.0)
+    | inr b ↦ elim b [
+      | inl e ↦ at_instr P (instr.PushMin e.0) i e.1 (g e.0)
+      | inr c ↦ elim c [ inl e ↦ at_instr P (instr.PushMax e.0) i e.1 (u e.0) | inr e ↦ at_instr P (instr.PushVal e.0) i e.1 (v e.0) ]
+    ]
+  ]
+]
+
+term_case : (P : RangeInstr → Type 0) (i : RangeInstr) → IsTermOperator i → P instr.Add → P instr.Sub → P instr.Mul → P instr.DivDown → P instr.DivUp → P i
+term_case P i is h f g u v = elim is [
+  | inl e ↦ at_instr P instr.Add i e h
+  | inr a ↦ elim a [
+    | inl e ↦ at_instr P instr.Sub i e f
+    | inr b ↦ elim b [
+      | inl e ↦ at_instr P instr.Mul i e g
+      | inr c ↦ elim c [ inl e ↦ at_instr P instr.DivDown i e u | inr e ↦ at_instr P instr.DivUp i e v ]
+    ]
+  ]
+]
+
+move_case : (P : RangeInstr → Type 0) (i : RangeInstr) → IsMove i → P instr.Plus → P instr.Minus → P instr.Times → P instr.Over → P i
+move_case P i is h f g u = elim is [
+  | inl e ↦ at_instr P instr.Plus i e h
+  | inr a ↦ elim a [
+    | inl e ↦ at_instr P instr.Minus i e f
+    | inr b ↦ elim b [ inl e ↦ at_instr P instr.Times i e g | inr e ↦ at_instr P instr.Over i e u ]
+  ]
+]
+
+-- how many wait behind it, and what it needs
+module _ (k : List ℤ) (old new : Work) (i : RangeInstr) where
+  pub push_counted : IsPush i → Counts suc (λ n. n) old new → IsCounted (node_of k i) old new
+  push_counted is h = push_case (λ j. IsCounted (node_of k j) old new) i is (λ c. h) (λ x. h) (λ y. h) (λ y. h) (λ y. h)
+
+  pub terms_counted : IsTermOperator i → Counts (λ n. n - 1) (λ n. n) old new → IsCounted (node_of k i) old new
+  terms_counted is h = term_case (λ j. IsCounted (node_of k j) old new) i is h h h h h
+
+  pub move_counted : IsMove i → Counts (λ n. n - 1) (λ n. n) old new → IsCounted (node_of k i) old new
+  move_counted is h = move_case (λ j. IsCounted (node_of k j) old new) i is h h h h
+
+  pub terms_there : IsTermOperator i → CanTake (node_of k i) old → CanTakeTerms (operator_of i) old
+  terms_there is h = term_case (λ j. CanTake (node_of k j) old → CanTakeTerms (operator_of j) old) i is (λ t. t.0) (λ t. t.0) (λ t. t.0) (λ t. t.0) (λ t. t.0) h
+
+  pub moves_there : IsMove i → CanTake (node_of k i) old → CanTakeRange (operator_of i) old
+  moves_there is h = move_case (λ j. CanTake (node_of k j) old → CanTakeRange (operator_of j) old) i is (λ t. t.1) (λ t. t.1) (λ t. t.1) (λ t. t.1) h
+
 module _ (S : Family) (p : ℕ → ℤ) (k : List ℤ) (old new : Work) where
   abbrev Pushes : RangeInstr → Type 0
   Pushes i = PushesValue (leaf_value S p (node_of k i)) old new → IsTaken S p (node_of k i) old new
 
   pub push_taken : (i : RangeInstr) → IsPush i → PushesValue (leaf_value S p (node_of k i)) old new → IsTaken S p (node_of k i) old new
-  push_taken i is = elim is [
-    | inl e ↦ at_instr Pushes (instr.PushConst e.0) i e.1 (λ f ns rs ts w. read_int S p ns old new (get_or k e.0 (pos 0)) rs ts w f)
-    | inr a ↦ elim a [
-      | inl e ↦ at_instr Pushes (instr.PushArg e.0) i e.1 (λ f ns rs ts w. read_param S p ns old new e.0 rs ts w f)
-      | inr b ↦ elim b [
-        | inl e ↦ at_instr Pushes (instr.PushMin e.0) i e.1 (λ f ns rs ts w. read_min S p ns old new e.0 rs ts w f)
-        | inr c ↦ elim c [ inl e ↦ at_instr Pushes (instr.PushMax e.0) i e.1 (λ f ns rs ts w. read_max S p ns old new e.0 rs ts w f) | inr e ↦ at_instr Pushes (instr.PushVal e.0) i e.1 (λ f ns rs ts w. read_val S p ns old new e.0 rs ts w f) ]
-      ]
-    ]
-  ]
+  push_taken i is = push_case Pushes i is (λ c f ns rs ts w. read_int S p ns old new (get_or k c (pos 0)) rs ts w f) (λ x f ns rs ts w. read_param S p ns old new x rs ts w f) (λ y f ns rs ts w. read_min S p ns old new y rs ts w f)
+      (λ y f ns rs ts w. read_max S p ns old new y rs ts w f) (λ y f ns rs ts w. read_val S p ns old new y rs ts w f)
 
   abbrev Operating : RangeInstr → Type 0
   Operating i = Operates (operator_of i) old new → IsTaken S p (node_of k i) old new
 
   pub operator_taken : (i : RangeInstr) → IsTermOperator i → Operates (operator_of i) old new → IsTaken S p (node_of k i) old new
-  operator_taken i is = elim is [
-    | inl e ↦ at_instr Operating instr.Add i e (λ f ns rs ts w. read_add S p ns old new rs ts w f)
-    | inr a ↦ elim a [
-      | inl e ↦ at_instr Operating instr.Sub i e (λ f ns rs ts w. read_sub S p ns old new rs ts w f)
-      | inr b ↦ elim b [
-        | inl e ↦ at_instr Operating instr.Mul i e (λ f ns rs ts w. read_mul S p ns old new rs ts w f)
-        | inr c ↦ elim c [
-          | inl e ↦ at_instr Operating instr.DivDown i e (λ f ns rs ts w. read_div_down S p ns old new rs ts w f)
-          | inr e ↦ at_instr Operating instr.DivUp i e (λ f ns rs ts w. read_div_up S p ns old new rs ts w f)
-        ]
-      ]
-    ]
-  ]
+  operator_taken i is = term_case Operating i is (λ f ns rs ts w. read_add S p ns old new rs ts w f) (λ f ns rs ts w. read_sub S p ns old new rs ts w f) (λ f ns rs ts w. read_mul S p ns old new rs ts w f)
+      (λ f ns rs ts w. read_div_down S p ns old new rs ts w f) (λ f ns rs ts w. read_div_up S p ns old new rs ts w f)
 
   abbrev Moving : RangeInstr → Type 0
   Moving i = Moves (operator_of i) old new → IsTaken S p (node_of k i) old new
 
   pub moved_taken : (i : RangeInstr) → IsMove i → Moves (operator_of i) old new → IsTaken S p (node_of k i) old new
-  moved_taken i is = elim is [
-    | inl e ↦ at_instr Moving instr.Plus i e (λ f ns rs ts w. read_plus S p ns old new rs ts w f)
-    | inr a ↦ elim a [
-      | inl e ↦ at_instr Moving instr.Minus i e (λ f ns rs ts w. read_minus S p ns old new rs ts w f)
-      | inr b ↦ elim b [ inl e ↦ at_instr Moving instr.Times i e (λ f ns rs ts w. read_times S p ns old new rs ts w f) | inr e ↦ at_instr Moving instr.Over i e (λ f ns rs ts w. read_over S p ns old new rs ts w f) ]
-    ]
-  ]
+  moved_taken i is = move_case Moving i is (λ f ns rs ts w. read_plus S p ns old new rs ts w f) (λ f ns rs ts w. read_minus S p ns old new rs ts w f) (λ f ns rs ts w. read_times S p ns old new rs ts w f)
+      (λ f ns rs ts w. read_over S p ns old new rs ts w f)
 
   pub span_taken : (i : RangeInstr) → i ≡ instr.Span → Spans old new → IsTaken S p (node_of k i) old new
   span_taken i is f = at_instr (λ j. IsTaken S p (node_of k j) old new) instr.Span i is (λ ns rs ts w. read_span S p ns old new rs ts w f)

@@ -1,6 +1,6 @@
 //! A range evaluated, instruction by instruction.
 
-ghost use Rattle.std.specs.Prelude.{◌≡◌, ◌≤◌, ℕ, ℤ, pos, [], ◌∷◌, length, filter, vec_capacity, IfOk, OnOk};
+ghost use Rattle.std.specs.Prelude.{◌≡◌, ◌≤◌, ℕ, ℤ, pos, List, [], ◌∷◌, ◌++◌, length, filter, vec_capacity, IfOk, OnOk};
 ghost use Rattle.std.specs.List.{All};
 ghost use Rattle.fd_language.specs.Range.{least as least_of, greatest as greatest_of};
 ghost use Rattle.fd_language.specs.Flat.{spelled, IsSpelled};
@@ -174,6 +174,49 @@ pub(crate) fn evaluate<V: View>(
     work.pop_set()
 }
 
+/// What the last two values leave of the domain, which are the ends of an interval.
+#[inline(always)]
+fn narrow_to_ends(work: &mut Work, target: &Domain) -> Result<Narrowed, NoMemory>
+    ensures narrowed { (a b : ℤ) → work.old.values.items ≡ ([] ++ a ∷ []) ++ b ∷ []
+        → IfOk result (IsNarrowed target.now (between a b)) }
+    ensures kept { KeepsRoom work.old work.new }
+{
+    let high = work.pop_value();
+    let low = work.pop_value();
+    target.narrowed_to(low, high)
+}
+
+/// What the last set leaves of the domain.
+#[inline(always)]
+fn narrow_to_set(work: &mut Work, target: &Domain) -> Result<Narrowed, NoMemory>
+    ensures narrowed { (r : List ℕ) (rest : List (List ℕ)) → work.old.sets.sets ≡ r ∷ rest
+        → IfOk result (IsNarrowed target.now r) }
+    ensures kept { KeepsRoom work.old work.new }
+{
+    let set = work.pop_set()?;
+    target.narrowed_by(&set)
+}
+
+/// What the complement of the set leaves of the domain.
+#[inline(always)]
+fn narrow_to_others(inner: &Domain, target: &Domain) -> Result<Narrowed, NoMemory>
+    ensures { IfOk result (IsNarrowed target.now (outside inner.now)) }
+{
+    let others = inner.complement()?;
+    target.narrowed_by(&others)
+}
+
+/// What the complement of the last set leaves of the domain.
+#[inline(always)]
+fn narrow_to_outside(work: &mut Work, target: &Domain) -> Result<Narrowed, NoMemory>
+    ensures narrowed { (r : List ℕ) (rest : List (List ℕ)) → work.old.sets.sets ≡ r ∷ rest
+        → IfOk result (IsNarrowed target.now (outside r)) }
+    ensures kept { KeepsRoom work.old work.new }
+{
+    let inner = work.pop_set()?;
+    narrow_to_others(&inner, target)
+}
+
 /// What the range leaves of the domain, by the table of ranges alone. Where it is an interval, no set is made, and the complement of a
 /// set doesn't wait on the stack.
 #[inline(never)]
@@ -200,20 +243,11 @@ fn narrow_by_steps<V: View>(
     let last = steps.instrs.len() - 1;
     run(work, steps, last, args, view)?;
     match steps.instrs[last] {
-        RangeInstr::Span => {
-            let high = work.pop_value();
-            let low = work.pop_value();
-            target.narrowed_to(low, high)
-        }
-        RangeInstr::Outside => {
-            let inner = work.pop_set()?;
-            let others = inner.complement()?;
-            target.narrowed_by(&others)
-        }
+        RangeInstr::Span => narrow_to_ends(work, target),
+        RangeInstr::Outside => narrow_to_outside(work, target),
         instr => {
             take(work, instr, steps, args, view)?;
-            let set = work.pop_set()?;
-            target.narrowed_by(&set)
+            narrow_to_set(work, target)
         }
     }
 }
@@ -224,8 +258,7 @@ fn narrow_outside(alloc: Global, target: &Domain, low: i64, high: i64) -> Result
     ensures { IfOk result (IsNarrowed target.now (outside (between low high))) }
 {
     let inner = Domain::interval(alloc, low as i128, high as i128);
-    let others = inner.complement()?;
-    target.narrowed_by(&others)
+    narrow_to_others(&inner, target)
 }
 
 /// What is left of the domain among the numbers that are chosen.

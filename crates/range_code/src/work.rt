@@ -1,6 +1,6 @@
 //! The values and sets that wait for their operators.
 
-ghost use Rattle.std.specs.Prelude.{◌≡◌, ◌<◌, ◌≤◌, ◌-◌, ℕ, ℤ, suc, List, [], ◌∷◌, ◌++◌, pos, ◌≤ℤ◌, length, filter, IfOk, OnOk, vec_len, vec_capacity};
+ghost use Rattle.std.specs.Prelude.{◌≡◌, ◌<◌, ◌≤◌, ◌-◌, ℕ, ℤ, suc, List, [], ◌∷◌, ◌++◌, pos, ◌≤ℤ◌, length, filter, IfOk, IsOkAnd, OnOk, vec_len, vec_capacity};
 ghost use Rattle.fd_language.specs.Family.{has, IsRising};
 ghost use Rattle.fd_language.specs.Range.{div_down, div_up};
 ghost use Rattle.range_code.specs.Work.{IsLimited, operated, CanOperate, CanTakeTerms, CanMove, CanTakeRange};
@@ -79,6 +79,16 @@ fn move_set(alloc: Global, instr: RangeInstr, r: &Domain, c: i128) -> Result<Dom
         RangeInstr::Over => r.quotient(c),
         _ => Ok(Domain::empty(alloc)),
     }
+}
+
+/// A set waits, if it could be made. There is room.
+#[inline(always)]
+fn push_made(sets: &mut SetStack, made: Result<Domain, NoMemory>) -> Result<(), NoMemory>
+    requires { length sets.old.sets < sets.old.room }
+    ensures pushed { OnOk result (IsOkAnd made (λ d. sets.new.sets ≡ d ∷ sets.old.sets)) }
+    ensures room { sets.new.room ≡ sets.old.room }
+{
+    sets.push(&made?)
 }
 
 impl Work {
@@ -254,10 +264,7 @@ impl Work {
         ensures room { self.new.sets.room ≡ self.old.sets.room }
     {
         match self.sets.pop()? {
-            Some(r) => {
-                let shared = r.intersect(q)?;
-                self.sets.push(&shared)
-            }
+            Some(r) => push_made(&mut self.sets, r.intersect(q)),
             None => Ok(()),
         }
     }
@@ -270,10 +277,7 @@ impl Work {
         ensures room { KeepsRoom self.old self.new }
     {
         match self.sets.pop()? {
-            Some(r) => {
-                let others = r.complement()?;
-                self.sets.push(&others)
-            }
+            Some(r) => push_made(&mut self.sets, r.complement()),
             None => Ok(()),
         }
     }
@@ -304,10 +308,7 @@ impl Work {
         ensures room { self.new.sets.room ≡ self.old.sets.room }
     {
         match self.sets.pop()? {
-            Some(r) => {
-                let moved = move_set(self.alloc, instr, &r, c)?;
-                self.sets.push(&moved)
-            }
+            Some(r) => push_made(&mut self.sets, move_set(self.alloc, instr, &r, c)),
             None => Ok(()),
         }
     }

@@ -7,6 +7,12 @@ use Rattle.range_code.specs.Frames.{slot_set, slot_integer}
 use Rattle.range_code.proofs.Running.{vals_there, open_set, differs_seen, differs_reach, read_nodes, shifted_set}
 use Rattle.range_code.proofs.reach_of.Goals as goal
 
+pub least-requires-clause-width : goal.least-requires-clause-width
+least-requires-clause-width g c = let k = rw (c.in-Above.is) at c.form-form.ensures.form in k.usable.width
+
+pub greatest-requires-clause-width : goal.greatest-requires-clause-width
+greatest-requires-clause-width g c = let k = rw (c.in-Below.is) at c.form-form.ensures.form in k.usable.width
+
 pub least-requires-clause-seen : goal.least-requires-clause-seen
 least-requires-clause-seen g c =
     let k = rw (c.in-Above.is) at c.form-form.ensures.form in

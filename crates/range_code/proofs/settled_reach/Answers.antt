@@ -8,6 +8,39 @@ use Rattle.range_code.proofs.Forms.{except_one}
 use Rattle.range_code.proofs.Running.{read_nodes, settled_set}
 use Rattle.range_code.proofs.settled_reach.Goals as goal
 
+pub value-low-requires-clause-width : goal.value-low-requires-clause-width
+value-low-requires-clause-width g c = let k = rw (c.in-Between.is) at c.form.ensures.form in k.low.width
+
+pub value-low-requires-clause-division : goal.value-low-requires-clause-division
+value-low-requires-clause-division g c = let k = rw (c.in-Between.is) at c.form.ensures.form in k.low.division
+
+pub value-requires-clause-width : goal.value-requires-clause-width
+value-requires-clause-width g c = let k = rw (c.in-Between.is) at c.form.ensures.form in k.high.width
+
+pub value-requires-clause-division : goal.value-requires-clause-division
+value-requires-clause-division g c = let k = rw (c.in-Between.is) at c.form.ensures.form in k.high.division
+
+pub value-requires-in-Except-clause-width : goal.value-requires-in-Except-clause-width
+value-requires-in-Except-clause-width g c = let k = rw (c.in-Except.is) at c.form.ensures.form in k.value.width
+
+pub value-requires-in-Except-clause-division : goal.value-requires-in-Except-clause-division
+value-requires-in-Except-clause-division g c = let k = rw (c.in-Except.is) at c.form.ensures.form in k.value.division
+
+pub both_values-ends-requires-clause-opposite : goal.both_values-ends-requires-clause-opposite
+both_values-ends-requires-clause-opposite g c = let k = rw (c.in-Row.is) at c.form.ensures.form in k.1
+
+pub both_values-ends-requires-clause-low_width : goal.both_values-ends-requires-clause-low_width
+both_values-ends-requires-clause-low_width g c = let k = rw (c.in-Row.is) at c.form.ensures.form in k.0.low.width
+
+pub both_values-ends-requires-clause-high_width : goal.both_values-ends-requires-clause-high_width
+both_values-ends-requires-clause-high_width g c = let k = rw (c.in-Row.is) at c.form.ensures.form in k.0.high.width
+
+pub both_values-ends-requires-clause-low_division : goal.both_values-ends-requires-clause-low_division
+both_values-ends-requires-clause-low_division g c = let k = rw (c.in-Row.is) at c.form.ensures.form in k.0.low.division
+
+pub both_values-ends-requires-clause-high_division : goal.both_values-ends-requires-clause-high_division
+both_values-ends-requires-clause-high_division g c = let k = rw (c.in-Row.is) at c.form.ensures.form in k.0.high.division
+
 pub value-low-requires-clause-seen : goal.value-low-requires-clause-seen
 value-low-requires-clause-seen g c =
     let k = rw (c.in-Between.is) at c.form.ensures.form in

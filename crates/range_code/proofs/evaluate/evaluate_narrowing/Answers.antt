@@ -1,11 +1,11 @@
-use Rattle.std.proofs.Common.{rules, arith, ◌∙◌, sym, ap, subst, filter, length, SFits, to_z-of_z}
+use Rattle.std.proofs.Common.{rules, arith, ◌∙◌, sym, ap, subst, filter, ◌≤◌, length, SFits, to_z-of_z}
 use mir.Syntax.{w64}
 use Rattle.std.specs.List.{All}
 use Rattle.fd_language.specs.declared.TheConstants.{INFINITY}
 use Rattle.fd_language.specs.Family.{universe}
 use Rattle.fd_language.proofs.Lemmas.{two}
 use Rattle.domain_ranges.specs.Narrowing.{between}
-use Rattle.range_code.specs.Choices.{is_chosen}
+use Rattle.range_code.specs.Choices.{is_chosen, AreRising}
 use Rattle.range_code.specs.Frames.{slot_set, slot_integer}
 use Rattle.range_code.specs.Nodes.{IsReadable}
 use Rattle.range_code.specs.Steps.{outside}
@@ -14,10 +14,22 @@ use Rattle.range_code.proofs.Counting.{some_height}
 use Rattle.range_code.proofs.Forms.{narrows_same, spells_itself}
 use Rattle.range_code.proofs.evaluate.evaluate_narrowing.Goals as goal
 
+pub value-low-requires-clause-width : goal.value-low-requires-clause-width
+value-low-requires-clause-width g c = let k = rw (c.in-Without.is) at c.requires.form in k.low.width
+
+pub value-low-requires-clause-division : goal.value-low-requires-clause-division
+value-low-requires-clause-division g c = let k = rw (c.in-Without.is) at c.requires.form in k.low.division
+
 pub value-low-requires-clause-seen : goal.value-low-requires-clause-seen
 value-low-requires-clause-seen g c =
     let k = rw (c.in-Without.is) at c.requires.form in
     k.low.seen (length (g.V.View.sets c.args.view.now)) c.args.args.now (subst (All (IsReadable (length (g.V.View.sets c.args.view.now)) c.args.args.now)) (spells_itself (all_steps c.args.steps.now) c.requires.spelled) c.requires.readable)
+
+pub value-requires-clause-width : goal.value-requires-clause-width
+value-requires-clause-width g c = let k = rw (c.in-Without.is) at c.requires.form in k.high.width
+
+pub value-requires-clause-division : goal.value-requires-clause-division
+value-requires-clause-division g c = let k = rw (c.in-Without.is) at c.requires.form in k.high.division
 
 pub value-requires-clause-seen : goal.value-requires-clause-seen
 value-requires-clause-seen g c =
@@ -46,3 +58,13 @@ returns-in-Chosen-clause-narrowed g c =
 
 pub narrow_to_chosen-requires-clause-room : goal.narrow_to_chosen-requires-clause-room
 narrow_to_chosen-requires-clause-room g c = let h = some_height (all_steps c.args.steps.now) c.requires.spelled in omega (arith, h, c.requires.sets)
+
+pub narrow_to_chosen-requires-clause-high : goal.narrow_to_chosen-requires-clause-high
+narrow_to_chosen-requires-clause-high g c =
+    let k = rw (c.in-Chosen.is) at c.requires.form in
+    subst (All (λ pair. pair.1 ≤ INFINITY)) (sym c.deref.ensures.value) k.high
+
+pub narrow_to_chosen-requires-clause-rising : goal.narrow_to_chosen-requires-clause-rising
+narrow_to_chosen-requires-clause-rising g c =
+    let k = rw (c.in-Chosen.is) at c.requires.form in
+    subst AreRising (sym c.deref.ensures.value) k.rising

@@ -1,16 +1,15 @@
-use Rattle.std.proofs.lemmas.Result.{IfOk-weaker}
 use Rattle.fd_language.specs.Flat.{spelled}
-use Rattle.domain_ranges.specs.Narrowing.{between, IsNarrowed}
+use Rattle.domain_ranges.specs.Narrowing.{between}
 use Rattle.range_code.specs.Frames.{slot_set, slot_integer}
 use Rattle.range_code.specs.Heights.{HasRoom}
 use Rattle.range_code.specs.Instructions.{node_of, IsPlaced}
 use Rattle.range_code.specs.Nodes.{IsReadable}
 use Rattle.range_code.specs.Work.{filled_set, CanTake, IsTaken}
 use Rattle.range_code.specs.StepNodes.{all_steps}
-use mir.Syntax.{w128}
-use Rattle.std.proofs.Common.{rules, SFits, to_z-of_z, ◌≤◌, ◌-◌, ◌+◌, ◌∙◌, sym, ap, subst, get_or, ◌∷◌, ◌++◌, [], length, arith}
+use Rattle.std.proofs.Common.{◌≤◌, ◌-◌, ◌+◌, ◌∙◌, sym, subst, get_or, ◌∷◌, [], length, arith}
 use Rattle.range_code.specs.Steps.{outside}
 use Rattle.range_code.proofs.Counting.{room_there}
+use Rattle.range_code.proofs.Forms.{narrows_same}
 use Rattle.range_code.proofs.Placing.{at_drop}
 use Rattle.range_code.proofs.Walks.{IsLast, some_step, walk_takes, walk_step, readable_at, set_alone, last_ends, last_inner}
 use Rattle.range_code.proofs.evaluate.narrow_by_steps.Goals as goal
@@ -38,33 +37,24 @@ take-requires g c =
 
 pub returns-in-Span-clause-narrowed : goal.returns-in-Span-clause-narrowed
 returns-in-Span-clause-narrowed g c =
-    let f : SFits w128 c.pop_value-low.result = search rules in
-    let h : SFits w128 c.pop_value-high.result = search rules in
     let t = some_step c.args.steps.now c.requires.spelled in
     let l : IsLast c.args.steps.now (c.len-last.result - 1) = record { there = omega (arith, t, c.len-last.ensures, c.args.steps.now.instrs.ok.0); last = omega (arith, t, c.len-last.ensures, c.args.steps.now.instrs.ok.0) } in
     let ends = last_ends (slot_set (g.V.View.sets c.args.view.now) c.args.args.now) (slot_integer c.args.args.now) c.args.steps.now (c.len-last.result - 1) c.index.result.now c.run.new.work l (sym c.index.ensures ∙ c.in-Span.is) c.in_ok-run.ensures.walked in
-    let high = c.pop_value-high.ensures.taken ([] ++ ends.low ∷ []) ends.high ends.values in
-    let low = c.pop_value-low.ensures.taken [] ends.low high.1 in
-    IfOk-weaker c.narrowed_to.result (IsNarrowed c.args.target.now (between c.pop_value-low.result c.pop_value-high.result)) (IsNarrowed c.args.target.now (filled_set (slot_set (g.V.View.sets c.args.view.now) c.args.args.now) (slot_integer c.args.args.now) (spelled (all_steps c.args.steps.now))))
-    (λ o. subst (λ q. IsNarrowed c.args.target.now q o) (ap (λ z. between z c.pop_value-high.result) low.0 ∙ (ap (between ends.low) high.0 ∙ sym ends.set))) (simp to_z-of_z at c.narrowed_to.ensures.narrowed)
+    narrows_same c.narrow_to_ends.result c.args.target.now (between ends.low ends.high) (filled_set (slot_set (g.V.View.sets c.args.view.now) c.args.args.now) (slot_integer c.args.args.now) (spelled (all_steps c.args.steps.now)))
+    (sym ends.set) (c.narrow_to_ends.ensures.narrowed ends.low ends.high ends.values)
 
-pub returns-in_ok-set-in_default : goal.returns-in_ok-set-in_default
-returns-in_ok-set-in_default g c =
+pub returns-in-Outside-clause-narrowed : goal.returns-in-Outside-clause-narrowed
+returns-in-Outside-clause-narrowed g c =
+    let t = some_step c.args.steps.now c.requires.spelled in
+    let l : IsLast c.args.steps.now (c.len-last.result - 1) = record { there = omega (arith, t, c.len-last.ensures, c.args.steps.now.instrs.ok.0); last = omega (arith, t, c.len-last.ensures, c.args.steps.now.instrs.ok.0) } in
+    let inner = last_inner (slot_set (g.V.View.sets c.args.view.now) c.args.args.now) (slot_integer c.args.args.now) c.args.steps.now (c.len-last.result - 1) c.index.result.now c.run.new.work l (sym c.index.ensures ∙ c.in-Outside.is) c.in_ok-run.ensures.walked in
+    narrows_same c.narrow_to_outside.result c.args.target.now (outside inner.inner) (filled_set (slot_set (g.V.View.sets c.args.view.now) c.args.args.now) (slot_integer c.args.args.now) (spelled (all_steps c.args.steps.now)))
+    (sym inner.set) (c.narrow_to_outside.ensures.narrowed inner.inner inner.rest inner.sets)
+
+pub returns-in_ok-take-in_default-clause-narrowed : goal.returns-in_ok-take-in_default-clause-narrowed
+returns-in_ok-take-in_default-clause-narrowed g c =
     let t = some_step c.args.steps.now c.requires.spelled in
     let l : IsLast c.args.steps.now (c.len-last.result - 1) = record { there = omega (arith, t, c.len-last.ensures, c.args.steps.now.instrs.ok.0); last = omega (arith, t, c.len-last.ensures, c.args.steps.now.instrs.ok.0) } in
     let taken : IsTaken (slot_set (g.V.View.sets c.args.view.now) c.args.args.now) (slot_integer c.args.args.now) (node_of c.args.steps.now.constants.items (get_or c.args.steps.now.instrs.items (c.len-last.result - 1) c.index.result.now)) c.run.new.work c.take.new.work = subst (λ j. IsTaken (slot_set (g.V.View.sets c.args.view.now) c.args.args.now) (slot_integer c.args.args.now) (node_of c.args.steps.now.constants.items j) c.run.new.work c.take.new.work) c.index.ensures c.in_ok-take-in_default.ensures.taken in
     let gives = set_alone (slot_set (g.V.View.sets c.args.view.now) c.args.args.now) (slot_integer c.args.args.now) c.args.steps.now ((c.len-last.result - 1) + 1) c.take.new.work l.last (walk_step (slot_set (g.V.View.sets c.args.view.now) c.args.args.now) (slot_integer c.args.args.now) (c.len-last.result - 1) c.args.steps.now c.index.result.now c.run.new.work c.take.new.work l.there c.in_ok-run.ensures.walked taken) in
-    record {
-      narrowed = IfOk-weaker c.narrowed_by-in_default.result (IsNarrowed c.args.target.now c.in_ok-set-in_default.set) (IsNarrowed c.args.target.now (filled_set (slot_set (g.V.View.sets c.args.view.now) c.args.args.now) (slot_integer c.args.args.now) (spelled (all_steps c.args.steps.now))))
-          (λ o. subst (λ q. IsNarrowed c.args.target.now q o) (c.in_ok-set-in_default.ensures.taken _ [] gives)) c.narrowed_by-in_default.ensures.narrowed;
-      kept = search rules;
-    }
-
-pub returns-in_ok-others-in-Outside-clause-narrowed : goal.returns-in_ok-others-in-Outside-clause-narrowed
-returns-in_ok-others-in-Outside-clause-narrowed g c =
-    let t = some_step c.args.steps.now c.requires.spelled in
-    let l : IsLast c.args.steps.now (c.len-last.result - 1) = record { there = omega (arith, t, c.len-last.ensures, c.args.steps.now.instrs.ok.0); last = omega (arith, t, c.len-last.ensures, c.args.steps.now.instrs.ok.0) } in
-    let inner = last_inner (slot_set (g.V.View.sets c.args.view.now) c.args.args.now) (slot_integer c.args.args.now) c.args.steps.now (c.len-last.result - 1) c.index.result.now c.run.new.work l (sym c.index.ensures ∙ c.in-Outside.is) c.in_ok-run.ensures.walked in
-    let whole = ap outside (c.in_ok-inner-in-Outside.ensures.taken inner.inner inner.rest inner.sets) in
-    IfOk-weaker c.narrowed_by.result (IsNarrowed c.args.target.now c.in_ok-others-in-Outside.others) (IsNarrowed c.args.target.now (filled_set (slot_set (g.V.View.sets c.args.view.now) c.args.args.now) (slot_integer c.args.args.now) (spelled (all_steps c.args.steps.now))))
-    (λ o. subst (λ q. IsNarrowed c.args.target.now q o) (c.in_ok-others-in-Outside.ensures.set ∙ (whole ∙ sym inner.set))) c.narrowed_by.ensures.narrowed
+    c.narrow_to_set.ensures.narrowed _ [] gives

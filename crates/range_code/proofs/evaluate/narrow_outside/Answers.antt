@@ -1,4 +1,4 @@
-use Rattle.std.proofs.Common.{◌∙◌, ap, SFits, to_z-of_z}
+use Rattle.std.proofs.Common.{ap, SFits, to_z-of_z}
 use mir.Syntax.{w64, w128}
 use Rattle.domain_ranges.specs.Narrowing.{between}
 use Rattle.range_code.specs.Steps.{outside}
@@ -12,4 +12,4 @@ returns c =
     let f : SFits w128 c.args.low = wider c.args.low a in
     let h : SFits w128 c.args.high = wider c.args.high b in
     let i = simp to_z-of_z at c.interval-inner.ensures in
-    narrows_same c.narrowed_by.result c.args.target.now c.in_ok-others.others (outside (between c.args.low c.args.high)) (c.in_ok-others.ensures.set ∙ ap outside i) c.narrowed_by.ensures.narrowed
+    narrows_same c.narrow_to_others.result c.args.target.now (outside c.interval-inner.result) (outside (between c.args.low c.args.high)) (ap outside i) c.narrow_to_others.ensures

@@ -1,12 +1,32 @@
-use Rattle.std.proofs.Common.{rules, SFits, to_z-of_z, subst}
+use Rattle.std.proofs.Common.{rules, SFits, to_z-of_z, subst, length}
 use mir.Syntax.{w128}
 use Rattle.std.proofs.lemmas.Result.{on_ok_weaker}
 use Rattle.fd_language.specs.declared.TheConstants.{INFINITY}
 use Rattle.fd_language.specs.Family.{IsRising}
 use Rattle.range_code.specs.Frames.{slot_set, slot_integer}
+use Rattle.range_code.specs.Instructions.{node_of}
+use Rattle.range_code.specs.Nodes.{IsReadable}
 use Rattle.range_code.specs.Steps.{PushesValue, PushesSet}
-use Rattle.range_code.proofs.TakenNodes.{push_taken, operator_taken, span_taken, one_taken, dom_taken, union_taken, inter_taken, outside_taken, moved_taken}
+use Rattle.range_code.proofs.TakenNodes.{push_counted, terms_counted, move_counted, terms_there, moves_there, push_taken, operator_taken, span_taken, one_taken, dom_taken, union_taken, inter_taken, outside_taken, moved_taken}
 use Rattle.range_code.proofs.evaluate.take.Goals as goal
+
+pub take_terms-requires : goal.take_terms-requires
+take_terms-requires g c = terms_there c.args.steps.now.constants.items c.args.work.now c.args.work.now c.args.instr c.in-Add.is c.requires.fits
+
+pub take_range-requires : goal.take_range-requires
+take_range-requires g c = moves_there c.args.steps.now.constants.items c.args.work.now c.args.work.now c.args.instr c.in-Plus.is c.requires.fits
+
+pub slot_domain-requires : goal.slot_domain-requires
+slot_domain-requires g c = subst (λ i. IsReadable (length (g.V.View.sets c.args.view.now)) c.args.args.now (node_of c.args.steps.now.constants.items i)) c.in-PushDom.is c.requires.readable
+
+pub returns-in-PushConst-clause-counted : goal.returns-in-PushConst-clause-counted
+returns-in-PushConst-clause-counted g c = push_counted c.args.steps.now.constants.items c.args.work.now c.push_value.new.self c.args.instr c.in-PushConst.is c.push_value.ensures.counted
+
+pub returns-in-Add-clause-counted : goal.returns-in-Add-clause-counted
+returns-in-Add-clause-counted g c = terms_counted c.args.steps.now.constants.items c.args.work.now c.take_terms.new.self c.args.instr c.in-Add.is c.take_terms.ensures.counted
+
+pub returns-in-Plus-clause-counted : goal.returns-in-Plus-clause-counted
+returns-in-Plus-clause-counted g c = on_ok_weaker c.take_range.result (move_counted c.args.steps.now.constants.items c.args.work.now c.take_range.new.self c.args.instr c.in-Plus.is) c.take_range.ensures.counted
 
 pub returns-in-PushConst-clause-taken : goal.returns-in-PushConst-clause-taken
 returns-in-PushConst-clause-taken g c =

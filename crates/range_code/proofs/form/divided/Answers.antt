@@ -1,21 +1,8 @@
-use Rattle.std.proofs.Common.{rules, arith, ◌≡◌, ◌∙◌, ap, sym, subst, ℕ, ℤ, pos, negsuc, suc, zero, neg_ℤ, ◌-ℤ◌, ◌≤ℤ◌, refl, SFits, to_z-of_z}
-use Rattle.std.proofs.Math.IntN.{+ℤ_idl}
-use Rattle.std.proofs.lemmas.Int.{ints}
+use Rattle.std.proofs.Common.{rules, ◌∙◌, ap, sym, subst, pos, ◌-ℤ◌, SFits, to_z-of_z}
 use mir.Syntax.{w64}
-use Rattle.std.specs.Int.{int_div_euclid}
-use Rattle.fd_language.specs.declared.TheConstants.{INFINITY}
-use Rattle.fd_language.specs.Range.{div_up, down_by}
 use Rattle.range_code.specs.Forms.{divided, IsPositive}
+use Rattle.range_code.proofs.Operators.{up_is}
 use Rattle.range_code.proofs.form.divided.Goals as goal
-
-down_is : (z : ℤ) (n : ℕ) → int_div_euclid z (pos (suc n)) ≡ down_by z n
-down_is (pos a) n = refl
-down_is (negsuc a) n = refl
-
-up_is : (a b : ℤ) → pos 1 ≤ℤ b → pos 0 -ℤ int_div_euclid (pos 0 -ℤ a) b ≡ div_up INFINITY a b
-up_is a (pos (suc n)) h = +ℤ_idl (neg_ℤ (int_div_euclid (pos 0 -ℤ a) (pos (suc n)))) ∙ ap neg_ℤ (ap (λ z. int_div_euclid z (pos (suc n))) (+ℤ_idl (neg_ℤ a)) ∙ down_is (neg_ℤ a) n)
-up_is a (pos zero) h = absurd (omega (arith, ints, h))
-up_is a (negsuc n) h = absurd (omega (arith, ints, h))
 
 pub returns-in-Up : goal.returns-in-Up
 returns-in-Up c =

@@ -9,6 +9,9 @@ use Rattle.range_code.proofs.form.sum.Goals as goal
 at_end : (r : ℕ) (s t : List ℕ) (x : End) → r ≡ end_of s x → s ≡ t → r ≡ end_of t x
 at_end r s t x e h = e ∙ ap (λ l. end_of l x) h
 
+pub slot_domain-requires : goal.slot_domain-requires
+slot_domain-requires g c = c.requires.seen c.loop-product.product-index _ c.loop-product-test.true
+
 pub loop-product-preserved : goal.loop-product-preserved
 loop-product-preserved g c =
     let f : SFits w64 c.add_product-sum.result = search rules in
