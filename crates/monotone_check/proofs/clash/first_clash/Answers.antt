@@ -1,6 +1,11 @@
 use Rattle.std.proofs.Common.{get_or, refl}
-use Rattle.monotone_check.proofs.Clashes.{loop_step}
+use Rattle.monotone_check.proofs.Clashes.{loop_step, loop_end}
 use Rattle.monotone_check.proofs.clash.first_clash.Goals as goal
+
+pub returns : goal.returns
+returns c =
+    loop_end (λ n. get_or c.args.places.now n 0) c.loop-number.number c.args.nodes.now c.loop-number.clash _
+    c.loop-number.uses.parameters.keys c.loop-number.uses.named.keys c.loop-number-test.false c.loop-number.invariant
 
 pub loop-number-preserved : goal.loop-number-preserved
 loop-number-preserved c =
