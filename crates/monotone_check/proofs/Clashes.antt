@@ -1,8 +1,8 @@
 -- What the nodes' variables find.
-use Rattle.std.proofs.Common.{◌≡◌, ℕ, suc, ◌+◌, ◌≤◌, ◌<◌, List, ◌∷◌, ◌++◌, length, drop, get_or, Option, None, refl, sym, ◌∙◌, ap, subst, inl, inr, ◌⊎◌}
+use Rattle.std.proofs.Common.{◌≡◌, ℕ, suc, ◌+◌, ◌≤◌, ◌<◌, List, ◌∷◌, ◌++◌, length, drop, get_or, Option, Some, None, refl, sym, ◌∙◌, ap, subst, inl, inr, ◌⊎◌}
 use Rattle.fd_language.proofs.Lemmas.{first-append, earlier_assoc}
 use Rattle.std.specs.Prelude.{Result, Ok, Err, IfOk, OnOk}
-use Rattle.std.proofs.lemmas.List.{at_drop_more}
+use Rattle.std.proofs.lemmas.List.{at_drop_all, at_drop_more}
 use Rattle.std.proofs.Math.Numerals.{add-one}
 use Rattle.fd_language.specs.declared.range_node.RangeNode.{RangeNode}
 use Rattle.fd_language.specs.declared.range_node.RangeNode.TheVariants as node
@@ -53,6 +53,15 @@ loop_step at i nodes d place clash found next whole old_ps old_ys new_ps new_ys 
           ∙ (ap (λ m. earlier clash (earlier found (first (clashes at m qs zs (drop (i + 1) nodes))))) (add-one i)
           ∙ (ap (λ o. earlier clash o) (k ∙ sym (at_drop_more (λ ns. first (clashes at i ps ys ns)) nodes i d l)) ∙ h))),
     )
+
+nothing_behind : (o : Option Offence) → earlier o None ≡ o
+nothing_behind None = refl
+nothing_behind (Some o) = refl
+
+pub loop_end : (at : ℕ → ℕ) (i : ℕ) (nodes : List RangeNode) (clash whole : Option Offence) (old_ps old_ys : List ℕ) → length nodes ≤ i →
+    ((ps : List ℕ) × (ys : List ℕ) × AreSeen ps old_ps × AreSeen ys old_ys × (earlier clash (first (clashes at i ps ys (drop i nodes))) ≡ whole)) → clash ≡ whole
+loop_end at i nodes clash whole old_ps old_ys l (ps, ys, a, b, h) =
+    sym (nothing_behind clash) ∙ (sym (at_drop_all (λ ns. earlier clash (first (clashes at i ps ys ns))) nodes i l) ∙ h)
 
 pub ok_both : {A E : Type 0} (r : Result A E) (P : A → Type 0) (Q : Type 0) (R : A → Type 0) → IfOk r P → OnOk r Q → ((o : A) → P o → Q → R o) → IfOk r R
 ok_both (Ok o) P Q R h g f = f o h g

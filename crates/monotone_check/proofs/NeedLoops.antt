@@ -3,7 +3,7 @@ use Rattle.std.proofs.Common.{◌≡◌, ℕ, zero, suc, ◌+◌, ◌-◌, ◌<�
 use Rattle.std.specs.Prelude.{slice_set}
 use Rattle.std.specs.List.{list_any, position_or_len}
 use Rattle.std.proofs.lemmas.Bool.{cases_Bool}
-use Rattle.std.proofs.lemmas.List.{take_more, reverse-append}
+use Rattle.std.proofs.lemmas.List.{take_all, take_more, reverse-append, reverse-reverse}
 use Rattle.std.proofs.Math.Numerals.{add-one}
 use Rattle.fd_language.specs.declared.range_node.Need.{Need}
 use Rattle.fd_language.specs.Needs.{stronger}
@@ -58,6 +58,15 @@ gather_step asked d c (suc k) ds new whole h l e f g =
 
     below : (n m : ℕ) → suc n ≤ m → n < m
     below n m h = omega arith
+
+pub gather_start : (asked : List (ℕ × Need)) (left : ℕ) (told : List (ℕ × Need)) (ks : List ℕ) (ds : List (ℕ × Need)) → left ≡ length asked → ks ≡ [] → ds ≡ [] → asked ≡ reverse told →
+    (left ≤ length asked) × (ks ≡ keys ds) × (put_all ds (reverse (take left asked)) ≡ put_all [] told)
+gather_start asked left told ks ds l k d a = (
+  omega (arith, l),
+  k ∙ ap keys (sym d),
+  ap (λ es. put_all es (reverse (take left asked))) d
+      ∙ ap (λ es. put_all [] (reverse es)) (take_all left asked (omega (arith, l)) ∙ a) ∙ ap (put_all []) (reverse-reverse told),
+)
 
 pub put_keys : (es : List (ℕ × Need)) (x : ℕ) (n : Need) → keys (put es x n) ≡ cond (list_any (nat_eq x) (keys es)) (keys es) (keys es ++ x ∷ [])
 put_keys [] x n = refl

@@ -1,4 +1,4 @@
-use Rattle.monotone_check.proofs.NodeNeeds.{asks_start, asks_step}
+use Rattle.monotone_check.proofs.NodeNeeds.{asks_start, asks_step, asks_end}
 use Rattle.monotone_check.proofs.asks.read_asks.Goals as goal
 
 pub loop-node-init : goal.loop-node-init
@@ -6,3 +6,6 @@ loop-node-init c = asks_start c.args.nodes.now c.new-reading.result c.requires c
 
 pub loop-node-preserved : goal.loop-node-preserved
 loop-node-preserved c = asks_step c.loop-node.node-index c.args.nodes.now _ c.loop-node.reading _ c.loop-node-test.true c.loop-node.invariant c.in_ok-take.ensures
+
+pub returns : goal.returns
+returns c = asks_end c.loop-node.node-index c.args.nodes.now c.loop-node.reading c.loop-node-test.false c.loop-node.invariant

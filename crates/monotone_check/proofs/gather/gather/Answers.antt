@@ -1,8 +1,12 @@
-use Rattle.std.proofs.Common.{◌≡◌, ap, nat_eq, ◌∙◌}
+use Rattle.std.proofs.Common.{◌≡◌, ap, nat_eq, ◌∙◌, arith}
 use Rattle.std.specs.List.{position_or_len}
+use Rattle.monotone_check.specs.PlaceNeeds.{told}
 use Rattle.monotone_check.specs.JoinedNeeds.{put}
-use Rattle.monotone_check.proofs.NeedLoops.{gather_step, gathered_keys, one_less}
+use Rattle.monotone_check.proofs.NeedLoops.{gather_start, gather_step, gathered_keys, one_less}
 use Rattle.monotone_check.proofs.gather.gather.Goals as goal
+
+pub loop-left-init : goal.loop-left-init
+loop-left-init c = gather_start c.in_ok-asked.asked.items c.len-left.result (told 0 c.args.places.now) c.new-variables.result.keys c.new-needs.result.items (omega (arith, c.len-left.ensures)) c.new-variables.ensures.empty c.new-needs.ensures.items c.in_ok-asked.ensures
 
 pub loop-left-preserved : goal.loop-left-preserved
 loop-left-preserved c =
