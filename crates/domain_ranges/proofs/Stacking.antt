@@ -244,3 +244,9 @@ none_there (Some k) old n m h e f = absurd (let z : Some k ≡ None = f in cc)
 pub unite_is : (old new : List ℕ) (o : Option ℕ) (ss : List Span) (n m : ℕ) → AreStarts (reverse old) (length ss) → old ≡ new ++ option_to_list o → MatchOption o ((n ≡ 0) × (m ≡ 0)) (λ _. m + 1 ≡ n) → n ≡ length old → (r q : List ℕ) (rest : List (List ℕ)) → stacked (reverse old) ss ≡ q ∷ r ∷ rest →
     stacked (reverse new) ss ≡ filter (λ n. has r n || has q n) (universe INFINITY) ∷ rest
 unite_is old new o ss n m h e c l r q rest f = unite_view (reverse old) (reverse new) o ss h (none_there o old n m c l) (rev_popped old new o e) r q rest f
+
+pub same_waiting : (starts new : List ℕ) (ss all : List Span) → new ≡ starts → all ≡ ss → AreStarts (reverse starts) (length ss) × AreIntervals ss → AreStarts (reverse new) (length all) × AreIntervals all
+same_waiting starts new ss all e f h = subst (λ l. AreStarts (reverse l) (length all) × AreIntervals all) (sym e) (subst (λ l. AreStarts (reverse starts) (length l) × AreIntervals l) (sym f) h)
+
+pub same_sets : (starts new : List ℕ) (ss all : List Span) (sets : List (List ℕ)) → new ≡ starts → all ≡ ss → stacked (reverse starts) ss ≡ sets → stacked (reverse new) all ≡ sets
+same_sets starts new ss all sets e f g = ap (λ l. stacked (reverse l) all) e ∙ (ap (stacked (reverse starts)) f ∙ g)
