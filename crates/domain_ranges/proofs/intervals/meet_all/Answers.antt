@@ -1,4 +1,4 @@
-use Rattle.std.proofs.Common.{rules, subst, sym, drop, ◌+◌, ◌&&◌, inl, inr, arith}
+use Rattle.std.proofs.Common.{rules, subst, sym, drop, ◌+◌, ◌&&◌, inl, inr}
 use Rattle.domain_ranges.specs.Spans.{within}
 use Rattle.domain_ranges.proofs.Meeting.{Meeting, left_at, right_at, more_at, done_at}
 use Rattle.fd_language.specs.declared.TheConstants.{INFINITY}
@@ -30,15 +30,3 @@ meeting-preserved c = record {
 pub returns-clause-set : goal.returns-clause-set
 returns-clause-set c = done_at INFINITY (λ n. within c.args.a.now n && within c.args.b.now n) c.args.a.now c.args.b.now c.meeting.list.items c.meeting.i c.meeting.j c.meeting.invariant.state
     (elim c.meeting-test.branch [ then-meeting-test+else-j-b w ↦ inr w.if-j-b.false | else-meeting-test w ↦ inl w.meeting-test.false ])
-
-pub meeting-smaller-then-a-i : goal.meeting-smaller-then-a-i
-meeting-smaller-then-a-i c = let l = c.meeting-test.true in omega arith
-
-pub meeting-smaller : goal.meeting-smaller
-meeting-smaller c = let l = c.if-j-b.true in omega arith
-
-pub push_meet-requires : goal.push_meet-requires
-push_meet-requires c = c.meeting.invariant.capacity
-
-pub returns-clause-spans : goal.returns-clause-spans
-returns-clause-spans c = c.meeting.invariant.state.made.spans
