@@ -68,15 +68,3 @@ loop-span-preserved c =
 
 pub returns-clause-set : goal.returns-clause-set
 returns-clause-set c = cutting_set INFINITY c.args.spans.now c.args.n c.loop-span.list.items c.loop-span.span-index c.loop-span.invariant.state c.loop-span-test.false
-
-pub returns-clause-spans : goal.returns-clause-spans
-returns-clause-spans c = c.loop-span.invariant.state.made.spans
-
-pub push-requires : goal.push-requires
-push-requires c = c.loop-span.invariant.capacity
-
-pub push_gap-requires : goal.push_gap-requires
-push_gap-requires c = c.loop-span.invariant.capacity
-
-pub push_gap-requires-else-span-n : goal.push_gap-requires-else-span-n
-push_gap-requires-else-span-n c = c.in_ok-push_gap.ensures.capacity
