@@ -1,10 +1,12 @@
 -- Integers beside the numbers of U.
-use Rattle.std.proofs.Common.{◌≡◌, ℕ, true, false, arith, ℤ, pos, negsuc, int_le, ◌<ℤ◌, ◌≤◌, ◌≤ℤ◌, ◌∙◌, refl, sym, ap, subst, to_z, of_z, Fits, SFits, to_z-of_z}
+use Rattle.std.proofs.Common.{◌≡◌, ℕ, true, false, arith, ℤ, pos, negsuc, int_le, ◌<ℤ◌, ◌≤◌, ◌≤ℤ◌, ◌∙◌, refl, sym, ap, subst, to_z, of_z, leb, ◌&&◌, Fits, SFits, to_z-of_z}
 use Rattle.std.proofs.lemmas.Bool.{true≢false}
 use mir.Syntax.{w32, w64, w128}
 use mir.ValLaws.{to_z_pos}
 use lib.Signed.{lt_z}
 use Rattle.std.proofs.lemmas.Int.{ints}
+use Rattle.std.specs.Int.{int_max, int_min}
+use Rattle.std.proofs.lemmas.Bool.Decides.{nat_tests}
 use lib.IntN.{nat_abs}
 
 -- v is z, as the code holds it
@@ -57,3 +59,22 @@ held_between z a b f g h =
     let is = held_number z a f above in
     let below : z ≤ℤ pos b = grind (arith, ints, h) in
     (is, omega (arith, ints, above, is), omega (arith, ints, below, is))
+
+-- an interval of integers, cut by the bounds of U
+low_cut : (lo l : ℤ) (n : ℕ) → l ≡ int_max lo (pos 0) → leb (nat_abs l) n ≡ int_le lo (pos n)
+low_cut (pos a) l n e = grind (arith, ints, nat_tests)
+low_cut (negsuc a) l n e = grind (arith, ints, nat_tests)
+
+high_cut : (M : ℕ) (hi h : ℤ) (n : ℕ) → h ≡ int_min hi (pos M) → pos 0 ≤ℤ h → n ≤ M → leb n (nat_abs h) ≡ int_le (pos n) hi
+high_cut M hi (pos b) n e g l = grind (arith, ints, nat_tests)
+high_cut M hi (negsuc b) n e g l = absurd (omega (arith, ints))
+
+pub cut_same : (M : ℕ) (lo hi l h : ℤ) → l ≡ int_max lo (pos 0) → h ≡ int_min hi (pos M) → pos 0 ≤ℤ l → int_le l h ≡ true → (n : ℕ) → n ≤ M → (leb (nat_abs l) n && leb n (nat_abs h)) ≡ (int_le lo (pos n) && int_le (pos n) hi)
+cut_same M lo hi l h e f g k n m =
+    let above : pos 0 ≤ℤ h = (let o : l ≤ℤ h = grind (arith, ints, k) in omega (arith, ints, o, g)) in
+    ap (λ b. b && leb n (nat_abs h)) (low_cut lo l n e) ∙ ap (λ b. int_le lo (pos n) && b) (high_cut M hi h n f above m)
+
+-- the same, as the code holds them
+pub cut_held : (M : ℕ) (lo hi l h u v x y : ℤ) → x ≡ l → y ≡ h → u ≡ lo → v ≡ hi → l ≡ int_max u (pos 0) → h ≡ int_min v (pos M) → pos 0 ≤ℤ l → int_le x y ≡ true → (n : ℕ) → n ≤ M → (leb (nat_abs x) n && leb n (nat_abs y)) ≡ (int_le lo (pos n) && int_le (pos n) hi)
+cut_held M lo hi l h u v x y a b c d e f g k n m =
+    cut_same M lo hi x y (a ∙ (e ∙ ap (λ z. int_max z (pos 0)) c)) (b ∙ (f ∙ ap (λ z. int_min z (pos M)) d)) (subst (λ z. pos 0 ≤ℤ z) (sym a) g) k n m

@@ -6,8 +6,8 @@ use Rattle.std.specs.List.Sorted.{IsNonDecreasingBy, IsPermutation}
 use Rattle.std.proofs.lemmas.Bool.{true≢false}
 use Rattle.std.proofs.lemmas.Bool.Decides.{nat_tests}
 use Rattle.std.proofs.Math.Seq.{take-append_seam, drop-append_seam}
-use Rattle.std.proofs.lemmas.List.{reverse-append, length-reverse, take-append-le, drop-append-le, take-append-drop, length-take-le, drop_more}
-use Rattle.std.proofs.lemmas.List.Elements.{All-nil, All-cons, All-head, All-tail, All-append}
+use Rattle.std.proofs.lemmas.List.{reverse-append, length-reverse, take-append-le, drop-append-le, take-append-drop, length-take-le, length-drop, take_all, drop_more}
+use Rattle.std.proofs.lemmas.List.Elements.{All-nil, All-cons, All-head, All-tail, All-append, All-take}
 use Rattle.std.proofs.lemmas.List.Sorted.{list_any-IsPermutation, All-permutation}
 use Rattle.std.proofs.Math.Bool.{or-false}
 use Rattle.fd_language.specs.declared.TheConstants.{INFINITY}
@@ -79,6 +79,24 @@ numbers_none lo hi f = set_same INFINITY (within []) (λ n. int_le lo (pos n) &&
 rev_popped : (old new : List ℕ) (o : Option ℕ) → old ≡ new ++ option_to_list o → reverse old ≡ option_to_list o ++ reverse new
 rev_popped old new None e = ap reverse (e ∙ append-nil new)
 rev_popped old new (Some k) e = ap reverse e ∙ reverse_push new k
+
+-- the set on top, as it is taken away
+module _ (old new : List ℕ) (k : ℕ) (ss ts : List Span) where
+  pub top_starts : old ≡ new ++ k ∷ [] → ts ≡ take k ss → AreStarts (reverse old) (length ss) → AreStarts (reverse new) (length ts)
+  top_starts e f h =
+      let a = subst (λ l. AreStarts l (length ss)) (ap reverse e ∙ reverse_push new k) h in
+      subst (AreStarts (reverse new)) (sym (ap length f ∙ length-take-le k ss a.0)) a.1
+
+  pub top_intervals : ts ≡ take k ss → AreIntervals ss → AreIntervals ts
+  top_intervals f h = subst AreIntervals (sym f) (All-take (λ t. (t.0 ≤ t.1) × (t.1 ≤ INFINITY)) k ss h)
+
+  pub top_view : (sets : List (List ℕ)) (d : List ℕ) → old ≡ new ++ k ∷ [] → ts ≡ take k ss → stacked (reverse old) ss ≡ sets → d ≡ numbers (drop k ss) → sets ≡ d ∷ stacked (reverse new) ts
+  top_view sets d e f g h =
+      sym g ∙ (ap (λ l. stacked (reverse l) ss) e ∙ (ap (λ l. stacked l ss) (reverse_push new k)
+      ∙ (ap (λ l. l ∷ stacked (reverse new) (take k ss)) (sym h) ∙ ap (λ l. d ∷ stacked (reverse new) l) (sym f))))
+
+pub top_numbers : (k : ℕ) (ss all : List Span) → all ≡ ss → numbers (take (length all - k) (drop k all)) ≡ numbers (drop k ss)
+top_numbers k ss all e = ap numbers (take_all (length all - k) (drop k all) (let l = length-drop k all in omega arith) ∙ ap (drop k) e)
 
 -- places behind one another
 lower : (k j : ℕ) (ss : List Span) → j ≤ k → k ≤ length ss → take j (take k ss) ≡ take j ss
@@ -226,3 +244,9 @@ none_there (Some k) old n m h e f = absurd (let z : Some k ≡ None = f in cc)
 pub unite_is : (old new : List ℕ) (o : Option ℕ) (ss : List Span) (n m : ℕ) → AreStarts (reverse old) (length ss) → old ≡ new ++ option_to_list o → MatchOption o ((n ≡ 0) × (m ≡ 0)) (λ _. m + 1 ≡ n) → n ≡ length old → (r q : List ℕ) (rest : List (List ℕ)) → stacked (reverse old) ss ≡ q ∷ r ∷ rest →
     stacked (reverse new) ss ≡ filter (λ n. has r n || has q n) (universe INFINITY) ∷ rest
 unite_is old new o ss n m h e c l r q rest f = unite_view (reverse old) (reverse new) o ss h (none_there o old n m c l) (rev_popped old new o e) r q rest f
+
+pub same_waiting : (starts new : List ℕ) (ss all : List Span) → new ≡ starts → all ≡ ss → AreStarts (reverse starts) (length ss) × AreIntervals ss → AreStarts (reverse new) (length all) × AreIntervals all
+same_waiting starts new ss all e f h = subst (λ l. AreStarts (reverse l) (length all) × AreIntervals all) (sym e) (subst (λ l. AreStarts (reverse starts) (length l) × AreIntervals l) (sym f) h)
+
+pub same_sets : (starts new : List ℕ) (ss all : List Span) (sets : List (List ℕ)) → new ≡ starts → all ≡ ss → stacked (reverse starts) ss ≡ sets → stacked (reverse new) all ≡ sets
+same_sets starts new ss all sets e f g = ap (λ l. stacked (reverse l) all) e ∙ (ap (stacked (reverse starts)) f ∙ g)

@@ -61,3 +61,15 @@ returns-then-spans-eq1-clause-narrowed c =
     let set = one_set INFINITY ss c.in-Some.bounds c.spans-spans.ensures.spans bounds (sym c.if-spans-eq1.true) (meet x c.in-Some.bounds) refl ∙ meet_is INFINITY ss (c.in-Some.bounds ∷ []) c.args.self.now (between c.args.lo c.args.hi) c.spans-spans.ensures.spans bounds c.spans-spans.ensures.members same in
     left_one c.args.self.now (between c.args.lo c.args.hi) (meet x c.in-Some.bounds) c.narrow_one.result set (met_spans x c.in-Some.bounds (spans_at 0 INFINITY 0 ss (0, 0) c.spans-spans.ensures.spans (omega arith)).1)
     (subst (HasOther c.args.self.now) same (c.is_cut.ensures.yes c.if-not-is_cut.false)) c.narrow_one.ensures
+
+pub of_list-left-requires : goal.of_list-left-requires
+of_list-left-requires c = c.in_ok-list.ensures.spans
+
+pub meet_all-requires-clause-first : goal.meet_all-requires-clause-first
+meet_all-requires-clause-first c = c.spans-spans.ensures.spans
+
+pub meet_all-requires-clause-second : goal.meet_all-requires-clause-second
+meet_all-requires-clause-second c = (omega arith, c.in-Some.ensures.order, c.in-Some.ensures.high, tt)
+
+pub bounds-spans-0 : goal.bounds-spans-0
+bounds-spans-0 c = let one = c.if-spans-eq1.true in omega arith

@@ -57,3 +57,15 @@ returns-clause-set c = if_ok (λ w. w.items ≡ c.joining.list.items ++ listed c
 pub returns-clause-no_memory : goal.returns-clause-no_memory
 returns-clause-no_memory c = on_err_both (IsSome c.joining.last) (2 ≤ length c.joining.list.items) (2 < interval_count (filter (λ n. within c.args.a.now n || within c.args.b.now n) (universe INFINITY))) c.close.result c.close.ensures.open c.close.ensures.no_memory
     (λ h g. close_many INFINITY (λ n. within c.args.a.now n || within c.args.b.now n) c.joining.list.items c.joining.last _ c.joining.invariant.state (λ n k. none_left c.args.a.now c.args.b.now c.joining.i c.joining.j n c.if-i-a.false c.if-j-b.false) h g)
+
+pub joining-smaller-then-is_first : goal.joining-smaller-then-is_first
+joining-smaller-then-is_first c = let l = c.is_first.ensures.yes c.if-is_first.true in omega arith
+
+pub join-requires-clause-capacity : goal.join-requires-clause-capacity
+join-requires-clause-capacity c = c.joining.invariant.capacity
+
+pub join-requires-else-is_first-clause-capacity : goal.join-requires-else-is_first-clause-capacity
+join-requires-else-is_first-clause-capacity c = c.joining.invariant.capacity
+
+pub close-requires : goal.close-requires
+close-requires c = record { capacity = c.joining.invariant.capacity }

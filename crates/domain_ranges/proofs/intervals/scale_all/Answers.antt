@@ -32,3 +32,9 @@ returns-clause-set c = elim c.scaling-test.branch [
   | else-scaling-test w ↦ scale_end INFINITY c.args.c c.args.spans.now c.scaling.list.items c.scaling.next c.scaling.i c.scaling.invariant.state w.scaling-test.false
   | then-scaling-test+then-member-limit w ↦ member_past INFINITY c.args.c c.args.spans.now c.scaling.list.items c.scaling.next c.scaling.i w.max-member.result c.scaling.invariant.state w.scaling-test.true (let f = c.requires.factor in omega arith) w.max-member.ensures w.if-member-limit.true
 ]
+
+pub push-requires : goal.push-requires
+push-requires c = c.scaling.invariant.capacity
+
+pub returns-clause-spans : goal.returns-clause-spans
+returns-clause-spans c = c.scaling.invariant.state.made.spans

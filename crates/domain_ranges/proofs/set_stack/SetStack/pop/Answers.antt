@@ -1,7 +1,7 @@
 use Rattle.std.proofs.Common.{ap, subst, sym, ◌∙◌, ◌≡◌, length, arith}
 use Rattle.std.specs.Prelude.{reverse}
 use Rattle.domain_ranges.specs.StackedSets.{stacked, AreStarts}
-use Rattle.domain_ranges.proofs.Stacking.{room_behind}
+use Rattle.domain_ranges.proofs.Stacking.{room_behind, top_starts, top_intervals, top_view, top_numbers, fewer_sets}
 use Rattle.domain_ranges.proofs.set_stack.SetStack.pop.Goals as goal
 
 pub push_reserved-requires : goal.push_reserved-requires
@@ -19,3 +19,16 @@ returns-in-Err-clause-unchanged c =
 
 pub returns-in-Ok-clause-left : goal.returns-in-Ok-clause-left
 returns-in-Ok-clause-left c = room_behind c.pop.new.self.items c.truncate.new.self.items _ _ _ _ c.pop.new.self.ok.0 c.in-Some.ensures.cases c.self.inside.starts.ok.1 c.pop.ensures.capacity
+
+pub invariant_of-self-in-Ok : goal.invariant_of-self-in-Ok
+invariant_of-self-in-Ok c = (
+  top_starts c.self.inside.starts.items c.pop.new.self.items c.in-Some.from c.self.inside.spans.items c.truncate.new.self.items c.in-Some.ensures.items c.truncate.ensures.items c.self.invariant.0,
+  top_intervals c.self.inside.starts.items c.pop.new.self.items c.in-Some.from c.self.inside.spans.items c.truncate.new.self.items c.truncate.ensures.items c.self.invariant.1,
+)
+
+pub returns-in-Ok-clause-popped : goal.returns-in-Ok-clause-popped
+returns-in-Ok-clause-popped c = top_view c.self.inside.starts.items c.pop.new.self.items c.in-Some.from c.self.inside.spans.items c.truncate.new.self.items c.args.self.now.sets c.of_list.result c.in-Some.ensures.items c.truncate.ensures.items (ap (λ w. w.sets) c.self.view_is) (c.of_list.ensures ∙ (c.in-Ok.ensures.set ∙ top_numbers c.in-Some.from c.self.inside.spans.items c.deref.result.now c.deref.ensures.value))
+
+pub returns-in-Ok-clause-fewer : goal.returns-in-Ok-clause-fewer
+returns-in-Ok-clause-fewer c =
+    fewer_sets c.self.inside.starts.items c.pop.new.self.items c.self.inside.spans.items c.truncate.new.self.items c.args.self.now.sets _ _ c.self.inside.starts.ok.0 c.pop.new.self.ok.0 (ap (λ w. w.sets) c.self.view_is) (let e = c.in-Some.ensures.cases in omega arith)
