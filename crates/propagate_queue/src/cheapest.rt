@@ -1,6 +1,6 @@
 //! An agenda that gives the cheapest agent.
 
-ghost use Rattle.std.specs.Prelude.{◌≡◌, ◌<◌, ◌≤◌, ◌+◌, ◌-◌, ◌^◌, min, ℕ, [], ◌∷◌, length, All, IfSome, IfNone};
+ghost use Rattle.std.specs.Prelude.{◌≡◌, ◌<◌, ◌≤◌, ◌+◌, ◌-◌, ◌^◌, min, ℕ, [], ◌∷◌, length, All, OnOk, IfSome, IfNone};
 ghost use Rattle.std.specs.List.Sorted.{IsPermutation};
 ghost use Rattle.propagate_queue.specs.Queues.{times};
 ghost use Rattle.propagate_queue.specs.AgendaEntries.{agents_of, IsCheapest};
@@ -58,7 +58,13 @@ impl Agenda for Cheapest {
 
     ghost spare = { λ c. c.spare };
 
-    fn reserve(&mut self, n: usize) -> Result<(), NoMemory> {
+    fn reserve(&mut self, n: usize) -> Result<(), NoMemory>
+        ensures waiting { self.new.waiting ≡ self.old.waiting }
+        ensures puts { self.new.puts ≡ self.old.puts }
+        ensures list { agents_of self.new.waiting ≡ agents_of self.old.waiting }
+        ensures kept { self.old.spare ≤ self.new.spare }
+        ensures room { OnOk result (n ≤ self.new.spare) }
+    {
         self.heap.reserve(n)?;
         Ok(())
     }
@@ -83,6 +89,7 @@ impl Agenda for Cheapest {
 
     fn take(&mut self) -> Option<usize>
         ensures cheapest { IfSome result (IsCheapest self.old.waiting self.new.waiting) }
+        ensures puts { self.new.puts ≡ self.old.puts }
         ensures none { IfNone result (agents_of self.old.waiting ≡ []) }
         ensures empty { IfNone result (agents_of self.new.waiting ≡ []) }
         ensures taken { IfSome result (λ a. (k : ℕ)
