@@ -12,7 +12,7 @@ use Rattle.fd_language.specs.Flat.{term_alone, term_of_terms, put, built, built_
 use Rattle.std.proofs.Common.{get_or, drop}
 use Rattle.std.proofs.lemmas.List.{at_drop_more, drop_all, append-nil, append_assoc}
 use Rattle.std.proofs.lemmas.Option.{same_Some}
-use Rattle.monotone_check.specs.declared.asking.Asked.{Asked}
+use Rattle.monotone_check.specs.declared.parameter_places.Asked.{Asked}
 use Rattle.monotone_check.specs.declared.asks.OpenTerm.{OpenTerm}
 use Rattle.monotone_check.specs.declared.asks.AskReader.{AskReader}
 use Rattle.monotone_check.specs.PlaceNeeds.{joins, AsksOf, raise, raise_all, told, raised, asks_now, Opens, OpensParameter, Operates}

@@ -6,7 +6,7 @@ ghost use Rattle.fd_language.specs.Flat.{spelled, IsSpelled};
 ghost use Rattle.monotone_check.specs.OpenTerms.{TakesAsks};
 ghost use Rattle.monotone_check.specs.PlaceNeeds.{told, AsksOf, joins, Opens, OpensParameter, Operates, Closes, ClosesQuotient};
 
-use crate::asking::Asking;
+use crate::parameter_places::Asking;
 use fd_language::{NoMemory, RangeNode};
 use std::alloc::Global;
 
