@@ -10,33 +10,13 @@ use Rattle.fd_model.specs.Lines.{Interval, intervals}
 use Rattle.term_pool.specs.declared.TheConstants.{NIL, CONS, SPAN}
 use Rattle.heap_cells.specs.declared.Cell.{Cell}
 use Rattle.heap_cells.specs.declared.Cell.TheVariants as cell
-use Rattle.heap_cells.specs.Cells.{Cells, IsOf}
 use Rattle.heap_cells.specs.Terms.{Naming, term_of}
 use Rattle.heap_cells.proofs.Lemmas.{term-Int, term-Atom}
-use Rattle.machine_frames.specs.Frames.{IsGrown}
+use Rattle.machine_frames.proofs.Lemmas.{grown_both, grown_same}
 use Rattle.branch_state.specs.Compounds.{IsMade}
 use Rattle.branch_state.specs.States.{State, IsSound, with_heap}
 use Rattle.branch_goals.specs.Domains.{AreSpans, AreSpansOf, IsSpanList, IsSpanNaming, span_of, spans_term}
 use Rattle.std.proofs.lemmas.List.{append-nil, append_assoc}
-
--- ---- a heap that has grown
-
-grown_self : (h : Cells) → IsGrown h h
-grown_self h = record { slots = λ i. refl; longer = omega arith; parts = omega arith; terms = λ name c own. refl }
-
-own_grown : (old now : Cells) → IsGrown old now → (c : Cell) → IsOf old c → IsOf now c
-own_grown old now g (cell.Ref i) o = let l = g.longer in omega (arith, l, o)
-own_grown old now g (cell.Int z) o = tt
-own_grown old now g (cell.Atom a) o = tt
-own_grown old now g (cell.Struct j) o = let l = g.parts in omega (arith, l, o)
-
-grown_twice : (a b c : Cells) → IsGrown a b → IsGrown b c → IsGrown a c
-grown_twice a b c g k = record {
-  slots = λ i. k.slots i ∙ g.slots i;
-  longer = (let x = g.longer in let y = k.longer in omega (arith, x, y));
-  parts = (let x = g.parts in let y = k.parts in omega (arith, x, y));
-  terms = λ name d own. k.terms name d (own_grown a b g d own) ∙ g.terms name d own;
-}
 
 -- ---- lists of spans
 
@@ -53,7 +33,7 @@ listing_start old spans sound atoms = record {
   list = record {
     own = (tt, omega (arith, atoms));
     term = λ name. term-Atom name old.heaps.now sound.now.valid NIL;
-    grown = grown_self old.heaps.now;
+    grown = grown_same old.heaps.now;
     heap = refl;
     sound = sound;
   };
@@ -77,7 +57,7 @@ listing_more old spans left rest s now list l e mid interval m mid_is mid_sound 
       list = record {
         own = n.own;
         term = λ name. n.term name ∙ two (λ x y. Comp (name CONS) (two_terms x y)) (span name) (kept name);
-        grown = grown_twice old.heaps.now mid.heaps.now end.heaps.now (grown_twice old.heaps.now now.heaps.now mid.heaps.now by.grown m.grown) n.grown;
+        grown = grown_both old.heaps.now mid.heaps.now end.heaps.now (grown_both old.heaps.now now.heaps.now mid.heaps.now by.grown m.grown) n.grown;
         heap = heap_twice old mid end (heap_twice old now mid by.heap mid_is) end_is;
         sound = end_sound;
       };

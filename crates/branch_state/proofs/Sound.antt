@@ -110,10 +110,6 @@ if_both (Ok true) P Q p q = (p, q)
 if_both (Ok false) P Q p q = tt
 if_both (Err e) P Q p q = tt
 
-pub on_ok : {A E : Type 0} (r : Result A E) (P Q : Type 0) → (P → Q) → OnOk r P → OnOk r Q
-on_ok (Ok a) P Q f p = f p
-on_ok (Err e) P Q f p = tt
-
 -- cells that are equal now
 pub unified_sound : (s : State) → IsSound s → (h : Heaps) (a b : Cell) (before after : List Touch) → h.below ≡ s.heaps.below → IsCell s a → IsCell s b → IsEqualled s.heaps.now a b h.now before after → KeepsAtoms s.heaps.now a b h.now → IsHeap h.now → IsSound (record s { heaps = h })
 unified_sound s o h a b before after e own_a own_b u atoms valid = heaps_sound s o h e (unified_pair s.atoms s.heaps.now h.now a b before after s.levels.current o.now u valid (atoms s.atoms o.now.names own_a.1 own_b.1))

@@ -1,6 +1,6 @@
 -- What the steps of the walk that reads a cell back come to.
 use Rattle.std.proofs.Common.{◌≡◌, ℕ, ℤ, ◌<◌, false, refl, ap, sym, ◌∙◌, subst, inl, inr, List, [], ◌∷◌, ◌++◌, length}
-use Rattle.std.specs.Prelude.{Option, Result, Ok, Err, OnOk, All, map, reverse}
+use Rattle.std.specs.Prelude.{Option, All, map, reverse}
 use Rattle.fd_language.specs.Term.{Name, Term, Var, Int, Atom, Comp, apply}
 use Rattle.term_pool.specs.declared.AtomId.{AtomId}
 use Rattle.term_pool.specs.declared.TermId.{TermId}
@@ -16,10 +16,6 @@ use Rattle.heap_terms.specs.declared.ReadTask.{ReadTask}
 use Rattle.heap_terms.specs.declared.ReadTask.TheVariants.{Visit, Make}
 use Rattle.heap_terms.specs.Values.{only, set_in, value_of, shown_slot, shown, shown_term}
 use Rattle.heap_terms.specs.ReadBack.{AddsTerm, VisitsCell}
-
-pub on_ok : {A E : Type 0} (r : Result A E) (P Q : Type 0) → (P → Q) → OnOk r P → OnOk r Q
-on_ok (Ok a) P Q f p = f p
-on_ok (Err e) P Q f p = tt
 
 module _ (names : List Name) (h : Cells) (valid : IsHeap h) (sets : List (List ℕ)) (c : Cell) (ks : List ReadTask) (ds : List TermId) where
   abbrev name : Naming

@@ -2,7 +2,7 @@
 use Rattle.std.proofs.Common.{◌≡◌, ℕ, ◌-◌, ◌<◌, ◌≤◌, refl, ap, sym, ◌∙◌, subst, arith, inl, inr, List, [], ◌∷◌, ◌++◌, length, get_or, take, drop, length-append}
 use Rattle.std.specs.Prelude.{map, reverse, All}
 use Rattle.std.proofs.lemmas.List.{length-map}
-use Rattle.std.proofs.lemmas.List.Elements.{All-append}
+use Rattle.std.proofs.lemmas.List.Elements.{All-append, All-take, All-drop}
 use Rattle.std.proofs.lemmas.Simd.{map-map}
 use Rattle.fd_language.specs.Term.{Name, Term, Comp, term}
 use Rattle.term_pool.specs.declared.AtomId.{AtomId}
@@ -22,7 +22,7 @@ use Rattle.heap_terms.specs.Values.{shown_term}
 use Rattle.heap_terms.specs.Tasks.{visit, make, to_terms, Leaves}
 use Rattle.heap_terms.specs.ReadBack.{PlacesAtZero, CanRead, VisitsCell, MakesTerm, task_of}
 use Rattle.heap_terms.proofs.Stacks.{Walks, effort, walks_result, result_smaller, walks_parts, parts_smaller, walks_made}
-use Rattle.heap_terms.proofs.Pools.{places_both, all_take, all_drop}
+use Rattle.heap_terms.proofs.Pools.{places_both}
 
 -- the terms of cells, and of ids, as lists
 pub to_terms-cells : (by : Cell → Term) (cs : List Cell) → to_terms (map by cs) ≡ terms_by by cs
@@ -128,10 +128,10 @@ module _ (names : List Name) (h : Cells) (sets : List (List ℕ)) (c : Cell) (be
         let now = grown p q ks ds x k z w in
         let last = drop (length ds - n) ds in
         let same : pool.terms_by (pool.term_of p) last ≡ to_terms (map (pool.term_of q) last) =
-        terms_by_same (pool.term_of p) (pool.term_of q) (length p.entries) last (all_drop (Own p) (length ds - n) ds w.own) (λ r l. sym (k r l)) ∙ sym (to_terms-ids (pool.term_of q) last) in
+        terms_by_same (pool.term_of p) (pool.term_of q) (length p.entries) last (All-drop (Own p) (length ds - n) ds w.own) (λ r l. sym (k r l)) ∙ sym (to_terms-ids (pool.term_of q) last) in
         record {
           tasks = all_front (CanRead names h) rest (Make f n ∷ []) (subst (All (CanRead names h)) split w.tasks);
-          own = subst (All (Own q)) (sym e) (all_push (Own q) (take (length ds - n) ds) t (all_take (Own q) (length ds - n) ds now.own) o);
+          own = subst (All (Own q)) (sym e) (all_push (Own q) (take (length ds - n) ds) t (All-take (Own q) (length ds - n) ds now.own) o);
           leaves = walks_made ReadTask TermId (task_of names h sets) (pool.term_of q) (shown_term (name_in names) h sets c) ks rest (Make f n) (name_in names f) n split refl ds es t (is ∙ ap (Comp (name_in names f)) same) e now.leaves;
           extends = now.extends;
           kept = now.kept;

@@ -1,6 +1,6 @@
 -- A pool that new terms are read into.
 use Rattle.std.proofs.Math.Seq.{take-length}
-use Rattle.std.proofs.Common.{◌≡◌, ℕ, zero, suc, take, drop, length-drop, ◌-◌, ◌<◌, ap, sym, ◌∙◌, arith, inl, inr, List, [], ◌∷◌, ◌++◌, length, length-append}
+use Rattle.std.proofs.Common.{◌≡◌, ℕ, take, drop, length-drop, ◌-◌, ◌<◌, ap, sym, ◌∙◌, arith, inl, inr, List, [], ◌∷◌, ◌++◌, length, length-append}
 use Rattle.std.specs.Prelude.{option_map, All}
 use Rattle.std.proofs.lemmas.Bool.{cases_lt}
 use Rattle.fd_language.specs.Term.{Name, Comp}
@@ -9,7 +9,6 @@ use Rattle.term_pool.specs.declared.TermId.{TermId}
 use Rattle.term_pool.specs.Contents.{Shape, comp, Entry, Contents, name_in, place_at}
 use Rattle.term_pool.specs.Terms.{term_of, terms_by, shape_term, KeepsTerms, Extends}
 use Rattle.term_pool.proofs.Lemmas.{terms_by_same, place_kept, slice_get_seam}
-use Rattle.heap_cells.proofs.Lemmas.{head_of, tail_of, both_of}
 use Rattle.heap_terms.specs.ReadBack.{PlacesAtZero}
 
 pub places_same : (old new : Contents) → new.entries ≡ old.entries → PlacesAtZero old new
@@ -37,16 +36,6 @@ made_term p mid q names f a t parts given k own n e same =
 -- a new term is of the pool
 pub added_own : (old new : Contents) (e : Entry) (t : TermId) → new ≡ record old { entries = old.entries ++ e ∷ [] } → t.number ≡ length old.entries → t.number < length new.entries
 added_own old new e t q n = omega (arith, length-append old.entries (e ∷ []), ap (λ (c : Contents). length c.entries) q)
-
-pub all_drop : {X : Type 0} (P : X → Type 0) (n : ℕ) (xs : List X) → All P xs → All P (drop n xs)
-all_drop P zero xs a = a
-all_drop P (suc n) [] a = a
-all_drop P (suc n) (x ∷ xs) a = all_drop P n xs (λ k d l. a (suc k) d (omega arith))
-
-pub all_take : {X : Type 0} (P : X → Type 0) (n : ℕ) (xs : List X) → All P xs → All P (take n xs)
-all_take P zero xs a = λ k d l. absurd (omega arith)
-all_take P (suc n) [] a = a
-all_take P (suc n) (x ∷ xs) a = both_of P x (take n xs) (head_of P x xs a) (all_take P n xs (tail_of P x xs a))
 
 -- the last elements of a list
 pub last_part : {X : Type 0} (xs ys : List X) (m n : ℕ) → ys ≡ xs → m ≡ length xs → take (length ys - (m - n)) (drop (m - n) ys) ≡ drop (length xs - n) xs

@@ -13,7 +13,7 @@ use Rattle.fd_language.specs.declared.range_node.Need.TheVariants.{Whole, Natura
 use Rattle.fd_language.specs.Family.{has}
 use Rattle.fd_language.specs.Range.{Range}
 use Rattle.fd_language.specs.Needs.{stronger, strongest, once, asks, needs}
-use Rattle.monotone_check.specs.declared.asking.Asked.{Asked}
+use Rattle.monotone_check.specs.declared.parameter_places.Asked.{Asked}
 use Rattle.monotone_check.specs.PlaceNeeds.{told}
 use Rattle.monotone_check.specs.JoinedNeeds.{put, put_all}
 

@@ -1,6 +1,5 @@
 -- What is asked stays told as nodes are read.
 use Rattle.std.proofs.Common.{◌≡◌, ℕ, ℤ, suc, ◌+◌, ◌<◌, ◌≤◌, Bool, true, false, cond, ◌||◌, ◌&&◌, nat_lt, List, [], ◌∷◌, ◌++◌, length, Option, Some, None, refl, sym, ◌∙◌, ap, subst, arith, ◌⊎◌, inl, inr}
-use Rattle.std.specs.Prelude.{Result, OnOk}
 use Rattle.std.proofs.lemmas.Bool.{true≢false, and_parts}
 use Rattle.fd_language.specs.declared.range_node.Need.{Need}
 use Rattle.fd_language.specs.declared.range_node.Need.TheVariants.{Whole, Natural, Divisor}
@@ -13,8 +12,7 @@ use Rattle.fd_language.specs.Flat.{term_alone, term_of_terms, put, built, built_
 use Rattle.std.proofs.Common.{get_or, drop}
 use Rattle.std.proofs.lemmas.List.{at_drop_more, drop_all, append-nil, append_assoc}
 use Rattle.std.proofs.lemmas.Option.{same_Some}
-use Rattle.std.specs.Prelude.{Ok, Err}
-use Rattle.monotone_check.specs.declared.asking.Asked.{Asked}
+use Rattle.monotone_check.specs.declared.parameter_places.Asked.{Asked}
 use Rattle.monotone_check.specs.declared.asks.OpenTerm.{OpenTerm}
 use Rattle.monotone_check.specs.declared.asks.AskReader.{AskReader}
 use Rattle.monotone_check.specs.PlaceNeeds.{joins, AsksOf, raise, raise_all, told, raised, asks_now, Opens, OpensParameter, Operates}
@@ -184,10 +182,6 @@ module _ (ns : List RangeNode) (old new : AskReader) where
 
 via : (m k : RangeNode) (old new : AskReader) → k ≡ m → TakesAsks m old new → TakesAsks k old new
 via m k old new e f = subst (λ j. TakesAsks j old new) (sym e) f
-
-pub ok_asks : {A E : Type 0} (r : Result A E) (P Q : Type 0) → (P → Q) → OnOk r P → OnOk r Q
-ok_asks (Ok x) P Q f h = f h
-ok_asks (Err e) P Q f h = tt
 
 pub open_true_takes : (m : RangeNode) (old new : AskReader) → (((z : ℤ) × (m ≡ node.Int z)) ⊎ (m ≡ node.Infinity)) → Opens true old new → TakesAsks m old new
 open_true_takes m old new is f = elim is [ inl e0 ↦ via (node.Int e0.0) m old new e0.1 (λ ns rs ts i. ask_leaf ns old new (Number e0.0) true refl refl refl rs ts i f) | inr h0 ↦ via node.Infinity m old new h0 (λ ns rs ts i. ask_leaf ns old new Infinity true refl refl refl rs ts i f) ]

@@ -4,7 +4,7 @@ use Rattle.std.specs.Prelude.{slice_set}
 use Rattle.std.proofs.lemmas.Bool.{true≢false}
 use Rattle.fd_language.specs.declared.range_node.Need.{Need}
 use Rattle.fd_language.specs.declared.range_node.Need.TheVariants.{Whole, Natural, Divisor}
-use Rattle.monotone_check.specs.declared.asking.Asked.{Asked}
+use Rattle.monotone_check.specs.declared.parameter_places.Asked.{Asked}
 use Rattle.monotone_check.specs.PlaceNeeds.{raise, reaches, told, raised}
 
 -- the last place with another floor, or made a divisor

@@ -6,7 +6,7 @@ use Rattle.fd_language.specs.declared.range_node.Need.TheVariants.{Whole, Natura
 use Rattle.fd_language.specs.Needs.{stronger}
 use Rattle.fd_language.specs.declared.range_node.RangeNode.{RangeNode}
 use Rattle.fd_language.specs.declared.range_node.RangeNode.TheVariants as node
-use Rattle.monotone_check.specs.declared.asking.Asked.{Asked}
+use Rattle.monotone_check.specs.declared.parameter_places.Asked.{Asked}
 use Rattle.monotone_check.specs.declared.asks.OpenTerm.{OpenTerm}
 use Rattle.monotone_check.specs.declared.asks.AskReader.{AskReader}
 

@@ -6,7 +6,7 @@ ghost use Rattle.fd_language.specs.Flat.{spelled, IsSpelled};
 ghost use Rattle.monotone_check.specs.OpenTerms.{TakesAsks};
 ghost use Rattle.monotone_check.specs.PlaceNeeds.{told, AsksOf, joins, Opens, OpensParameter, Operates, Closes, ClosesQuotient};
 
-use crate::asking::Asking;
+use crate::parameter_places::Asking;
 use fd_language::{NoMemory, RangeNode};
 use std::alloc::Global;
 
@@ -56,7 +56,8 @@ fn ask(asking: &mut Asking, node: RangeNode, a: OpenTerm, b: OpenTerm)
 }
 
 impl AskReader {
-    pub fn new(alloc: Global) -> AskReader
+    /// Nothing is asked, and no term waits. The allocator gives memory for what is to come.
+    pub(crate) fn new(alloc: Global) -> AskReader
         ensures terms { result.terms.items ≡ [] }
         ensures places { result.asking.places.items ≡ [] }
     {
@@ -125,7 +126,7 @@ impl AskReader {
     }
 
     /// Takes the node's operands and notes what is asked of them.
-    pub fn take(&mut self, node: RangeNode) -> Result<(), NoMemory>
+    pub(crate) fn take(&mut self, node: RangeNode) -> Result<(), NoMemory>
         ensures { OnOk result (TakesAsks node self.old self.new) }
     {
         match node {

@@ -6,7 +6,7 @@ ghost use Rattle.fd_language.specs.Needs.{stronger as stronger_of};
 ghost use Rattle.monotone_check.specs.PlaceNeeds.{told, raise};
 ghost use Rattle.monotone_check.specs.JoinedNeeds.{put, put_all};
 
-use crate::asking::Asked;
+use crate::parameter_places::Asked;
 use fd_language::{Need, NoMemory};
 use indexmap::IndexSet;
 use std::alloc::Global;

@@ -8,11 +8,11 @@ ghost use Rattle.fd_language.specs.Needs.{needs as needs_of};
 ghost use Rattle.fd_language.specs.RangeVerdict.{verdict, is_accepted};
 ghost use Rattle.monotone_check.specs.Faults.{IsFaultOf};
 
-mod asking;
 mod asks;
 mod clash;
 mod gather;
 mod offences;
+mod parameter_places;
 mod pending;
 mod summary;
 mod walk;

@@ -55,7 +55,7 @@ pub(crate) struct Wishes {
 
 impl Wishes {
     /// The same offence for each wish.
-    pub fn all(offence: Option<Offence>) -> Wishes
+    pub(crate) fn all(offence: Option<Offence>) -> Wishes
         ensures { (w : Wish) → by_wish result w ≡ offence }
     {
         Wishes {
@@ -65,7 +65,8 @@ impl Wishes {
         }
     }
 
-    pub fn and(self, other: Wishes) -> Wishes
+    /// The first of both offences for each wish: this one's and the other's.
+    pub(crate) fn and(self, other: Wishes) -> Wishes
         ensures { (w : Wish) → by_wish result w ≡ earlier_of (by_wish self w) (by_wish other w) }
     {
         Wishes {
@@ -76,7 +77,7 @@ impl Wishes {
     }
 
     /// The offences where the opposite is wished.
-    pub fn turned(self) -> Wishes
+    pub(crate) fn turned(self) -> Wishes
         ensures { (w : Wish) → by_wish result w ≡ by_wish self (turn w) }
     {
         Wishes {

@@ -22,7 +22,8 @@ pub(crate) struct Pending {
 }
 
 impl Pending {
-    pub fn new(alloc: Global) -> Pending
+    /// Neither a range nor a term waits. The allocator gives memory for those to come.
+    pub(crate) fn new(alloc: Global) -> Pending
         ensures ranges { result.ranges.items ≡ [] }
         ensures terms { result.terms.items ≡ [] }
     {
@@ -109,7 +110,7 @@ impl Pending {
     }
 
     /// Takes the node's operands and puts what is kept of its term or range.
-    pub fn take(&mut self, node: RangeNode, place: usize) -> Result<(), NoMemory>
+    pub(crate) fn take(&mut self, node: RangeNode, place: usize) -> Result<(), NoMemory>
         ensures { IfOk result (λ _. (at : ℕ → ℕ) (n : ℕ) (ns : List Spelled) (rs : List Range)
             (ts : List Expr) → at n ≡ place → IsPending INFINITY at n rs ts self.old
             → Follows INFINITY at n ns (built (node ∷ ns) rs ts) self.new) }

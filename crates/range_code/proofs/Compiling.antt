@@ -32,7 +32,7 @@ use Rattle.fd_language.specs.CheckLaws.{AreBounded}
 use Rattle.fd_language.specs.Check.{fill_range}
 use Rattle.fd_language.specs.Needs.{meets, meets_needs}
 use Rattle.range_code.proofs.Fits.{divides, fits}
-use Rattle.range_code.proofs.Posted.{fits_table}
+use Rattle.range_code.proofs.PostedRanges.{fits_table}
 use Rattle.range_code.proofs.Folding.{pieces_are}
 use Rattle.range_code.specs.Forms.{IsForm, IsShifted}
 use Rattle.range_code.specs.declared.form.Form.{Form}

@@ -4,7 +4,7 @@ pub use Rattle.range_code.proofs.Framing.{all_readable, no_parameter}
 -- Lists with each element once, as they grow.
 pub use Rattle.range_code.proofs.Once.{any_has, has_kept, has_once, keys_more, once_more}
 -- The range that is posted, where its arguments fit.
-pub use Rattle.range_code.proofs.Posted.{one_use, posted_below, posted_monotone}
+pub use Rattle.range_code.proofs.PostedRanges.{one_use, posted_below, posted_monotone}
 -- How the variables of a range stand, told from what it reads.
 pub use Rattle.range_code.proofs.Standings.{all_once, features_seen, reads_filled, universe_some}
 -- How the members of a target that are chosen are gathered.

@@ -7,14 +7,14 @@ mod Framing
 mod Standings
 mod Walks
 mod SlotNeeds
-mod Opened
+mod OpenVals
 mod Compiling
 mod Opening
 mod Operators
 mod SameNodes
 mod Counting
 mod Telling
-mod Posted
+mod PostedRanges
 mod Folding
 mod Placing
 mod Testing

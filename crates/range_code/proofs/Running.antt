@@ -43,8 +43,8 @@ use Rattle.range_code.specs.Work.{RangeFits, filled_set}
 use Rattle.fd_language.specs.Features.{feature_at}
 use Rattle.range_code.proofs.Fits.{divides, fits}
 use Rattle.range_code.proofs.Framing.{all_readable}
-use Rattle.range_code.proofs.Posted.{fits_table, one_use, frame_meets}
-use Rattle.range_code.proofs.Opened.{all_kept, one_pair, vals_open, all_below}
+use Rattle.range_code.proofs.PostedRanges.{fits_table, one_use, frame_meets}
+use Rattle.range_code.proofs.OpenVals.{all_kept, one_pair, vals_open, all_below}
 use Rattle.range_code.proofs.Standings.{features_seen, all_once, any_read, any_val, reads_filled, vals_filled}
 
 -- integers filled in before or after the variables are named anew

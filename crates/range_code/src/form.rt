@@ -108,7 +108,7 @@ fn add_end(constant: i64, end: u32) -> i64
 impl Shift {
     /// The least member of the domain, moved.
     #[inline(always)]
-    pub fn least<V: View>(&self, args: &[Arg], view: &V) -> i64
+    pub(crate) fn least<V: View>(&self, args: &[Arg], view: &V) -> i64
         requires width { nat_abs self.now.constant + INFINITY ≤ 2 ^ 63 - 1 }
         requires seen { IsSeen (length (V.sets view.now)) args.now self.now.slot }
         ensures { result
@@ -120,7 +120,7 @@ impl Shift {
 
     /// The greatest member of the domain, moved.
     #[inline(always)]
-    pub fn greatest<V: View>(&self, args: &[Arg], view: &V) -> i64
+    pub(crate) fn greatest<V: View>(&self, args: &[Arg], view: &V) -> i64
         requires width { nat_abs self.now.constant + INFINITY ≤ 2 ^ 63 - 1 }
         requires seen { IsSeen (length (V.sets view.now)) args.now self.now.slot }
         ensures { result
@@ -230,7 +230,7 @@ fn divided(sum: i64, division: Division) -> i64
 impl Bound {
     /// The value over the domains of a view.
     #[inline(always)]
-    pub fn value<V: View>(&self, args: &[Arg], view: &V) -> i64
+    pub(crate) fn value<V: View>(&self, args: &[Arg], view: &V) -> i64
         requires width { AreNarrow (nat_abs self.now.constant) self.now.products.items }
         requires division { IsPositive self.now.division }
         requires seen { AreSeen (length (V.sets view.now)) args.now self.now.products.items }

@@ -93,7 +93,7 @@ fn push_made(sets: &mut SetStack, made: Result<Domain, NoMemory>) -> Result<(), 
 
 impl Work {
     /// Nothing that waits.
-    pub fn new(alloc: Global) -> Work
+    pub(crate) fn new(alloc: Global) -> Work
         ensures values { result.values.items ≡ [] }
         ensures sets { result.sets.sets ≡ [] }
     {
@@ -105,7 +105,7 @@ impl Work {
     }
 
     /// Takes away all that waits.
-    pub fn clear(&mut self)
+    pub(crate) fn clear(&mut self)
         ensures values { self.new.values.items ≡ [] }
         ensures len { vec_len self.new.values ≡ 0 }
         ensures sets { self.new.sets.sets ≡ [] }
@@ -116,7 +116,7 @@ impl Work {
     }
 
     /// Takes away all that waits, and makes room for so many values and sets.
-    pub fn reserve(&mut self, height: usize) -> Result<(), NoMemory>
+    pub(crate) fn reserve(&mut self, height: usize) -> Result<(), NoMemory>
         ensures values { self.new.values.items ≡ [] }
         ensures len { vec_len self.new.values ≡ 0 }
         ensures sets { self.new.sets.sets ≡ [] }
@@ -132,7 +132,7 @@ impl Work {
     }
 
     /// An empty set waits, and nothing else does. There is room.
-    pub fn begin_set(&mut self) -> Result<(), NoMemory>
+    pub(crate) fn begin_set(&mut self) -> Result<(), NoMemory>
         requires { 1 ≤ self.old.sets.room }
         ensures begun { OnOk result (self.new.sets.sets ≡ [] ∷ []) }
         ensures room { KeepsRoom self.old self.new }
@@ -143,7 +143,7 @@ impl Work {
 
     /// A term waits. There is room.
     #[inline(always)]
-    pub fn push_value(&mut self, value: i128)
+    pub(crate) fn push_value(&mut self, value: i128)
         requires { vec_len self.old.values < vec_capacity self.old.values }
         ensures pushed { PushesValue value self.old self.new }
         ensures counted { Counts suc (λ n. n) self.old self.new }
@@ -154,7 +154,7 @@ impl Work {
 
     /// The domain of a variable waits. There is room.
     #[inline(never)]
-    pub fn push_domain(&mut self, domain: &Domain) -> Result<(), NoMemory>
+    pub(crate) fn push_domain(&mut self, domain: &Domain) -> Result<(), NoMemory>
         requires { length self.old.sets.sets < self.old.sets.room }
         ensures pushed { OnOk result (PushesSet domain.now self.old self.new) }
         ensures rising { IsRising 0 INFINITY domain.now }
@@ -166,7 +166,7 @@ impl Work {
 
     /// Takes the last term away, if there is one.
     #[inline(always)]
-    pub fn pop_value(&mut self) -> i128
+    pub(crate) fn pop_value(&mut self) -> i128
         ensures taken { (front : List ℤ) (a : ℤ) → self.old.values.items ≡ front ++ a ∷ []
             → (result ≡ a) × (self.new.values.items ≡ front) }
         ensures room { KeepsRoom self.old self.new }
@@ -175,7 +175,7 @@ impl Work {
     }
 
     /// Takes the last set away, if there is one.
-    pub fn pop_set(&mut self) -> Result<Domain, NoMemory>
+    pub(crate) fn pop_set(&mut self) -> Result<Domain, NoMemory>
         ensures taken { IfOk result (λ d. (r : List ℕ) (rest : List (List ℕ)) → self.old.sets.sets
             ≡ r ∷ rest → d ≡ r) }
         ensures room { KeepsRoom self.old self.new }
@@ -188,7 +188,7 @@ impl Work {
 
     /// An operator of terms takes the last two.
     #[inline(always)]
-    pub fn take_terms(&mut self, instr: RangeInstr)
+    pub(crate) fn take_terms(&mut self, instr: RangeInstr)
         requires { CanTakeTerms (operator_of instr) self.old }
         ensures taken { Operates (operator_of instr) self.old self.new }
         ensures counted { Counts (λ n. n - 1) (λ n. n) self.old self.new }
@@ -203,7 +203,7 @@ impl Work {
 
     /// An interval takes the last two terms. There is room.
     #[inline(never)]
-    pub fn take_span(&mut self) -> Result<(), NoMemory>
+    pub(crate) fn take_span(&mut self) -> Result<(), NoMemory>
         requires { length self.old.sets.sets < self.old.sets.room }
         ensures taken { OnOk result (Spans self.old self.new) }
         ensures counted { OnOk result (Counts (λ n. n - 2) suc self.old self.new) }
@@ -219,7 +219,7 @@ impl Work {
 
     /// A single number takes the last term. There is room.
     #[inline(never)]
-    pub fn take_single(&mut self) -> Result<(), NoMemory>
+    pub(crate) fn take_single(&mut self) -> Result<(), NoMemory>
         requires { length self.old.sets.sets < self.old.sets.room }
         ensures taken { OnOk result (Singles self.old self.new) }
         ensures counted { OnOk result (Counts (λ n. n - 1) suc self.old self.new) }
@@ -232,7 +232,7 @@ impl Work {
     }
 
     /// The union takes the last two sets.
-    pub fn take_union(&mut self)
+    pub(crate) fn take_union(&mut self)
         ensures taken { Joins self.old self.new }
         ensures counted { Counts (λ n. n) (λ n. n - 1) self.old self.new }
         ensures room { KeepsRoom self.old self.new }
@@ -242,7 +242,7 @@ impl Work {
 
     /// The intersection takes the last two sets.
     #[inline(never)]
-    pub fn take_both(&mut self) -> Result<(), NoMemory>
+    pub(crate) fn take_both(&mut self) -> Result<(), NoMemory>
         ensures taken { OnOk result (Meets self.old self.new) }
         ensures counted { OnOk result (Counts (λ n. n) (λ n. n - 1) self.old self.new) }
         ensures room { KeepsRoom self.old self.new }
@@ -271,7 +271,7 @@ impl Work {
 
     /// The complement takes the last set.
     #[inline(never)]
-    pub fn take_outside(&mut self) -> Result<(), NoMemory>
+    pub(crate) fn take_outside(&mut self) -> Result<(), NoMemory>
         ensures taken { OnOk result (Complements self.old self.new) }
         ensures counted { OnOk result (Counts (λ n. n) (λ n. n) self.old self.new) }
         ensures room { KeepsRoom self.old self.new }
@@ -284,7 +284,7 @@ impl Work {
 
     /// A pointwise operator takes the last term and the last set.
     #[inline(never)]
-    pub fn take_range(&mut self, instr: RangeInstr) -> Result<(), NoMemory>
+    pub(crate) fn take_range(&mut self, instr: RangeInstr) -> Result<(), NoMemory>
         requires { CanTakeRange (operator_of instr) self.old }
         ensures taken { OnOk result (Moves (operator_of instr) self.old self.new) }
         ensures counted { OnOk result (Counts (λ n. n - 1) (λ n. n) self.old self.new) }

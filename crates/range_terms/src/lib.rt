@@ -1,4 +1,4 @@
-//! Terms read as ranges, and what a range reads of its variables.
+//! Terms of a pool read as ranges, with the place of each node, and the place of a term that is no range.
 #![tactic(auto)]
 
 ghost use Rattle.std.specs.Prelude.{◌≡◌, ◌<◌, length, None, MatchResult, IfOk};

@@ -1,4 +1,5 @@
 use Rattle.std.proofs.Common.{subst, sym, ap, ◌∙◌, ◌<◌, ◌≤◌, ◌≡◌, to_z-of_z, filter, not, pos, arith, OnErr}
+use Rattle.std.proofs.lemmas.Result.{IfOk-weaker}
 use Rattle.fd_language.specs.Family.{universe}
 use Rattle.fd_language.specs.declared.TheConstants.{INFINITY}
 use Rattle.domain_ranges.specs.Spans.{interval_count}
@@ -6,7 +7,7 @@ use Rattle.domain_ranges.specs.Sets.{is_scaled}
 use Rattle.domain_ranges.proofs.Members.{has_within}
 use Rattle.domain_ranges.proofs.Images.{zero_set, negative_zero, negative_none, zero_zero, zero_none, one_same, scale_set, code_factor, spans_none}
 use Rattle.domain_ranges.proofs.Integers.{code_negative, code_is, code_two, code_low, one_low}
-use Rattle.domain_ranges.proofs.Outcomes.{on_err, if_ok}
+use Rattle.domain_ranges.proofs.Outcomes.{on_err}
 use Rattle.domain_ranges.proofs.Domain.scale.Goals as goal
 
 pub returns-then-c-lt0-clause-set : goal.returns-then-c-lt0-clause-set
@@ -24,8 +25,9 @@ returns-then-c-eq0-clause-set c =
 pub returns-then-c-eq1-clause-set : goal.returns-then-c-eq1-clause-set
 returns-then-c-eq1-clause-set c =
     let one : c.args.c ≡ pos 1 = code_is c.args.c 1 c.ranges.c c.if-c-eq1.true in
-    if_ok (λ copy. copy ≡ c.args.self.now) (λ copy. copy ≡ filter (is_scaled INFINITY c.args.self.now c.args.c) (universe INFINITY)) c.copy.result c.copy.ensures.set
+    IfOk-weaker c.copy.result (λ copy. copy ≡ c.args.self.now) (λ copy. copy ≡ filter (is_scaled INFINITY c.args.self.now c.args.c) (universe INFINITY))
     (λ copy e. e ∙ one_same INFINITY c.args.self.now c.spans-spans.ensures.rising ∙ ap (λ z. filter (is_scaled INFINITY c.args.self.now z) (universe INFINITY)) (sym one))
+    c.copy.ensures.set
 
 pub returns-then-c-eq1-clause-no_memory : goal.returns-then-c-eq1-clause-no_memory
 returns-then-c-eq1-clause-no_memory c =

@@ -1,10 +1,11 @@
 use Rattle.std.proofs.Common.{subst, sym, ap, ◌∙◌, drop, ◌+◌, ◌*◌, ◌/◌, ◌<◌, ◌≤◌, ◌≡◌, ◌++◌, Some, filter, length, IsSome, get_or}
+use Rattle.std.proofs.lemmas.Result.{IfOk-weaker}
 use Rattle.fd_language.specs.Family.{universe}
 use Rattle.fd_language.specs.declared.TheConstants.{INFINITY}
 use Rattle.domain_ranges.specs.Spans.{within, IsSpans, members, interval_count, listed, written, joined}
 use Rattle.domain_ranges.proofs.Joining.{Joining, join_more, join_many, join_done, close_many, close_spans}
 use Rattle.domain_ranges.proofs.Dividing.{low_at, low_skip, quotient_end}
-use Rattle.domain_ranges.proofs.Outcomes.{on_err, if_ok, on_err_both}
+use Rattle.domain_ranges.proofs.Outcomes.{on_err, on_err_both}
 use Rattle.domain_ranges.proofs.intervals.divide_all.Goals.{then-low-high+in_ok-join, else-low-high}
 use Rattle.domain_ranges.proofs.intervals.divide_all.Goals as goal
 
@@ -36,12 +37,14 @@ loop-span-preserved c = record {
 }
 
 pub returns-clause-spans : goal.returns-clause-spans
-returns-clause-spans c = if_ok (λ w. w.items ≡ c.loop-span.list.items ++ listed c.loop-span.last) (λ w. IsSpans 0 INFINITY w.items) c.close.result c.close.ensures.all
+returns-clause-spans c = IfOk-weaker c.close.result (λ w. w.items ≡ c.loop-span.list.items ++ listed c.loop-span.last) (λ w. IsSpans 0 INFINITY w.items)
     (λ w e. subst (IsSpans 0 INFINITY) (sym e) (close_spans INFINITY (λ n. within c.args.spans.now (n * c.args.c)) c.loop-span.list.items c.loop-span.last _ c.loop-span.invariant.state (λ n h. quotient_end c.args.c c.loop-span.span-index n c.args.spans.now c.loop-span-test.false)))
+    c.close.ensures.all
 
 pub returns-clause-set : goal.returns-clause-set
-returns-clause-set c = if_ok (λ w. w.items ≡ c.loop-span.list.items ++ listed c.loop-span.last) (λ w. members w.items ≡ filter (λ n. within c.args.spans.now (n * c.args.c)) (universe INFINITY)) c.close.result c.close.ensures.all
+returns-clause-set c = IfOk-weaker c.close.result (λ w. w.items ≡ c.loop-span.list.items ++ listed c.loop-span.last) (λ w. members w.items ≡ filter (λ n. within c.args.spans.now (n * c.args.c)) (universe INFINITY))
     (λ w e. ap members e ∙ join_done INFINITY (λ n. within c.args.spans.now (n * c.args.c)) c.loop-span.list.items c.loop-span.last _ c.loop-span.invariant.state (λ n h. quotient_end c.args.c c.loop-span.span-index n c.args.spans.now c.loop-span-test.false))
+    c.close.ensures.all
 
 pub returns-clause-no_memory : goal.returns-clause-no_memory
 returns-clause-no_memory c = on_err_both (IsSome c.loop-span.last) (2 ≤ length c.loop-span.list.items) (2 < interval_count (filter (λ n. within c.args.spans.now (n * c.args.c)) (universe INFINITY))) c.close.result c.close.ensures.open c.close.ensures.no_memory

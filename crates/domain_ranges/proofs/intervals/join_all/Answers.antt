@@ -1,10 +1,11 @@
 use Rattle.std.proofs.Common.{rules, subst, sym, ap, ◌∙◌, drop, ◌+◌, ◌<◌, ◌≤◌, ◌≡◌, ◌||◌, ◌++◌, Some, filter, length, IsSome, arith, get_or}
+use Rattle.std.proofs.lemmas.Result.{IfOk-weaker}
 use Rattle.fd_language.specs.Family.{universe}
 use Rattle.fd_language.specs.declared.TheConstants.{INFINITY}
 use Rattle.domain_ranges.specs.Spans.{within, IsSpans, members, interval_count, listed, joined}
 use Rattle.domain_ranges.proofs.Joining.{Joining, join_more, join_many, join_done, close_many, close_spans}
 use Rattle.domain_ranges.proofs.Union.{in_either, first_left, first_right, none_left}
-use Rattle.domain_ranges.proofs.Outcomes.{on_err, if_ok, on_err_both}
+use Rattle.domain_ranges.proofs.Outcomes.{on_err, on_err_both}
 use Rattle.domain_ranges.proofs.intervals.join_all.Goals.{then-i-a, else-i-a+then-j-b}
 use Rattle.domain_ranges.proofs.intervals.join_all.Goals as goal
 
@@ -47,12 +48,14 @@ joining-preserved c =
     }
 
 pub returns-clause-spans : goal.returns-clause-spans
-returns-clause-spans c = if_ok (λ w. w.items ≡ c.joining.list.items ++ listed c.joining.last) (λ w. IsSpans 0 INFINITY w.items) c.close.result c.close.ensures.all
+returns-clause-spans c = IfOk-weaker c.close.result (λ w. w.items ≡ c.joining.list.items ++ listed c.joining.last) (λ w. IsSpans 0 INFINITY w.items)
     (λ w e. subst (IsSpans 0 INFINITY) (sym e) (close_spans INFINITY (λ n. within c.args.a.now n || within c.args.b.now n) c.joining.list.items c.joining.last _ c.joining.invariant.state (λ n h. none_left c.args.a.now c.args.b.now c.joining.i c.joining.j n c.if-i-a.false c.if-j-b.false)))
+    c.close.ensures.all
 
 pub returns-clause-set : goal.returns-clause-set
-returns-clause-set c = if_ok (λ w. w.items ≡ c.joining.list.items ++ listed c.joining.last) (λ w. members w.items ≡ filter (λ n. within c.args.a.now n || within c.args.b.now n) (universe INFINITY)) c.close.result c.close.ensures.all
+returns-clause-set c = IfOk-weaker c.close.result (λ w. w.items ≡ c.joining.list.items ++ listed c.joining.last) (λ w. members w.items ≡ filter (λ n. within c.args.a.now n || within c.args.b.now n) (universe INFINITY))
     (λ w e. ap members e ∙ join_done INFINITY (λ n. within c.args.a.now n || within c.args.b.now n) c.joining.list.items c.joining.last _ c.joining.invariant.state (λ n h. none_left c.args.a.now c.args.b.now c.joining.i c.joining.j n c.if-i-a.false c.if-j-b.false))
+    c.close.ensures.all
 
 pub returns-clause-no_memory : goal.returns-clause-no_memory
 returns-clause-no_memory c = on_err_both (IsSome c.joining.last) (2 ≤ length c.joining.list.items) (2 < interval_count (filter (λ n. within c.args.a.now n || within c.args.b.now n) (universe INFINITY))) c.close.result c.close.ensures.open c.close.ensures.no_memory

@@ -1,10 +1,10 @@
 use Rattle.std.proofs.Common.{rules, subst, sym, ap, ◌∙◌, drop, ◌+◌, ◌≡◌, ◌++◌, Some, get_or}
+use Rattle.std.proofs.lemmas.Result.{IfOk-weaker}
 use Rattle.fd_language.specs.declared.TheConstants.{INFINITY}
 use Rattle.domain_ranges.specs.Spans.{within, IsSpans, members, listed, joined}
 use Rattle.domain_ranges.specs.StackedSets.{numbers}
 use Rattle.domain_ranges.proofs.Joining.{Joining, join_more, join_done, close_spans}
 use Rattle.domain_ranges.proofs.Stacking.{first_at, no_more}
-use Rattle.domain_ranges.proofs.Outcomes.{if_ok}
 use Rattle.domain_ranges.proofs.intervals.join_rising.Goals as goal
 
 pub loop-span-preserved : goal.loop-span-preserved
@@ -17,9 +17,11 @@ loop-span-preserved c = record {
 }
 
 pub returns-clause-spans : goal.returns-clause-spans
-returns-clause-spans c = if_ok (λ w. w.items ≡ c.loop-span.list.items ++ listed c.loop-span.last) (λ w. IsSpans 0 INFINITY w.items) c.close.result c.close.ensures.all
+returns-clause-spans c = IfOk-weaker c.close.result (λ w. w.items ≡ c.loop-span.list.items ++ listed c.loop-span.last) (λ w. IsSpans 0 INFINITY w.items)
     (λ w e. subst (IsSpans 0 INFINITY) (sym e) (close_spans INFINITY (within c.args.spans.now) c.loop-span.list.items c.loop-span.last _ c.loop-span.invariant.state (λ n h. no_more c.loop-span.span-index n c.args.spans.now c.loop-span-test.false)))
+    c.close.ensures.all
 
 pub returns-clause-set : goal.returns-clause-set
-returns-clause-set c = if_ok (λ w. w.items ≡ c.loop-span.list.items ++ listed c.loop-span.last) (λ w. members w.items ≡ numbers c.args.spans.now) c.close.result c.close.ensures.all
+returns-clause-set c = IfOk-weaker c.close.result (λ w. w.items ≡ c.loop-span.list.items ++ listed c.loop-span.last) (λ w. members w.items ≡ numbers c.args.spans.now)
     (λ w e. ap members e ∙ join_done INFINITY (within c.args.spans.now) c.loop-span.list.items c.loop-span.last _ c.loop-span.invariant.state (λ n h. no_more c.loop-span.span-index n c.args.spans.now c.loop-span-test.false))
+    c.close.ensures.all

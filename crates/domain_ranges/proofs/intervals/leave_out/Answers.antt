@@ -1,8 +1,9 @@
 use Rattle.std.proofs.Common.{◌∙◌, ap, sym, subst}
+use Rattle.std.proofs.lemmas.Result.{on_ok_weaker}
 use Rattle.fd_language.specs.declared.TheConstants.{INFINITY}
 use Rattle.domain_ranges.specs.Spans.{IsSpans, members}
 use Rattle.domain_ranges.proofs.Spans.{within_high}
-use Rattle.domain_ranges.proofs.Outcomes.{on_ok, on_err_both}
+use Rattle.domain_ranges.proofs.Outcomes.{on_err_both}
 use Rattle.domain_ranges.proofs.Members.{members_is, three_spans}
 use Rattle.domain_ranges.proofs.Cutting.{but}
 use Rattle.domain_ranges.proofs.Parting.{place_of, parted_spans, parted_within}
@@ -34,7 +35,7 @@ returns-clause-spans c =
     let ss = c.args.list.now.items in
     let at = place_of INFINITY c.place_from-place.result c.args.n ss c.as_slice.result.now c.as_slice.ensures c.requires.spans c.place_from-place.ensures.before c.place_from-place.ensures.after c.place_from-place.ensures.place c.requires.member in
     let spans = parted_spans 0 INFINITY c.place_from-place.result c.args.n ss c.requires.spans at.0 at.1 at.2 in
-    on_ok c.part.result (λ e. subst (IsSpans 0 INFINITY) (sym e) spans) c.part.ensures.parted
+    on_ok_weaker c.part.result (λ e. subst (IsSpans 0 INFINITY) (sym e) spans) c.part.ensures.parted
 
 pub returns-clause-set : goal.returns-clause-set
 returns-clause-set c =
@@ -42,7 +43,7 @@ returns-clause-set c =
     let at = place_of INFINITY c.place_from-place.result c.args.n ss c.as_slice.result.now c.as_slice.ensures c.requires.spans c.place_from-place.ensures.before c.place_from-place.ensures.after c.place_from-place.ensures.place c.requires.member in
     let spans = parted_spans 0 INFINITY c.place_from-place.result c.args.n ss c.requires.spans at.0 at.1 at.2 in
     let set = members_is INFINITY _ (but ss c.args.n) spans (λ j l. parted_within 0 INFINITY c.place_from-place.result c.args.n ss c.requires.spans at.0 at.1 at.2 j) in
-    on_ok c.part.result (λ e. ap members e ∙ set) c.part.ensures.parted
+    on_ok_weaker c.part.result (λ e. ap members e ∙ set) c.part.ensures.parted
 
 pub returns-clause-no_memory : goal.returns-clause-no_memory
 returns-clause-no_memory c =

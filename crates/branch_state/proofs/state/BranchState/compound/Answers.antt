@@ -1,9 +1,9 @@
 use Rattle.std.proofs.Common.{◌<◌, sym, subst}
 use Rattle.std.specs.Prelude.{All, IfOk}
+use Rattle.std.proofs.lemmas.Result.{on_ok_weaker}
 use Rattle.branch_state.specs.Compounds.{IsMade}
 use Rattle.branch_state.specs.States.{State, IsSound, IsCell}
 use Rattle.branch_state.proofs.Compounds.{made_cell, made_sound, if_ok_with}
-use Rattle.branch_state.proofs.Sound.{on_ok}
 use Rattle.branch_state.proofs.state.BranchState.compound.Goals as goal
 
 pub returns-clause-made : goal.returns-clause-made
@@ -22,4 +22,4 @@ returns-clause-sound g c =
     let o : IsSound now = subst IsSound (sym c.self.view_is) c.requires.sound in
     let low : c.args.f.number < now.atoms = subst (λ (s : State). c.args.f.number < s.atoms) (sym c.self.view_is) c.requires.name in
     let cells : All (IsCell now) c.args.args.now = subst (λ (s : State). All (IsCell s) c.args.args.now) (sym c.self.view_is) c.requires.cells in
-    on_ok c.new_struct.result _ _ (λ added. made_sound now o c.args.f c.args.args.now low cells c.new_struct.new.self added c.new_struct.ensures.kept c.new_struct.ensures.valid) c.new_struct.ensures.added
+    on_ok_weaker c.new_struct.result (λ added. made_sound now o c.args.f c.args.args.now low cells c.new_struct.new.self added c.new_struct.ensures.kept c.new_struct.ensures.valid) c.new_struct.ensures.added

@@ -23,7 +23,8 @@ pub(crate) struct Asking {
 }
 
 impl Asking {
-    pub fn new(alloc: Global) -> Asking
+    /// No places. The allocator gives memory for those to come.
+    pub(crate) fn new(alloc: Global) -> Asking
         ensures { result.places.items ≡ [] }
     {
         Asking {
@@ -31,14 +32,15 @@ impl Asking {
         }
     }
 
-    pub fn len(&self) -> usize
+    /// The number of places so far.
+    pub(crate) fn len(&self) -> usize
         ensures { result ≡ length self.now.places.items }
     {
         self.places.len()
     }
 
     /// One more place, which asks for any integer.
-    pub fn add(&mut self, variable: u64) -> Result<(), NoMemory>
+    pub(crate) fn add(&mut self, variable: u64) -> Result<(), NoMemory>
         ensures { OnOk result (told 0 self.new.places.items ≡ told 0 self.old.places.items ++
             (variable, Whole) ∷ []) }
     {
@@ -52,7 +54,7 @@ impl Asking {
     }
 
     /// The places from this number on stand in a natural term.
-    pub fn raise_from(&mut self, from: usize)
+    pub(crate) fn raise_from(&mut self, from: usize)
         ensures { told 0 self.new.places.items ≡ raised from 0 (told 0 self.old.places.items) }
     {
         let count = self.len();
@@ -63,7 +65,7 @@ impl Asking {
     }
 
     /// The last place stands alone as a divisor.
-    pub fn divide(&mut self)
+    pub(crate) fn divide(&mut self)
         ensures { (front : List (ℕ × Asks)) (x : ℕ) (n : Asks) → told 0 self.old.places.items
             ≡ front ++ (x, n) ∷ [] → told 0 self.new.places.items ≡ front ++ (x, Divisor) ∷ [] }
     {
