@@ -89,7 +89,6 @@ module _ (M : ℕ) (b : Branch) (o : Order) (ms : List Member) (ws : List ℕ) (
   covered_by w (Comp f ts) e h u i ints = absurd h
 
   zero_given : AllInts (after (λ x. Int (pos 0)) l.unifier) (open_ones ms)
-  unfolding after
   zero_given y h = (pos 0, ap (apply (λ x. Int (pos 0))) (open_var y h))
 
   pub ready : (prog : Program) → Settles M b.posted ws → IsReady M prog o l.list ms look ws l.read b

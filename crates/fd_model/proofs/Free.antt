@@ -75,7 +75,6 @@ module _ (M : ℕ) (b : Branch) (o : Order) (ms : List Member) (ws : List ℕ) (
   ]
 
   put_solution : n ≤ M → IsSolution M b.equations b.posted vs (put y n a)
-  unfolding after
   put_solution low = record {
     bounded = put_low y n M a low f.bounded;
     unifier = after (put_term y n f.unifier) l.unifier;

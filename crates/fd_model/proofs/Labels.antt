@@ -257,7 +257,6 @@ module _ (M : ℕ) (prog : Program) (o : Order) (t : Term) (ms : List Member) (b
 
       -- the unifier that gives x the number
       inside_by : (n : ℕ) (y : ℕ) (z : ℤ) → has values n ≡ true → has vs y ≡ true → ((u : Substitution) → Unifies u (child n).equations → u y ≡ Int z) → (m : ℕ) × (m ≤ M) × (z ≡ pos m)
-      unfolding after
       inside_by n y z i h all =
           let u = after (number_for x (pos n)) s in
           let e : apply (number_for x (pos n)) (s y) ≡ Int z = all u (ap (apply (number_for x (pos n))) open_self ∙ number_at x (pos n), still_unifies (number_for x (pos n)) s b.equations v.general.unifies) in
@@ -285,7 +284,6 @@ module _ (M : ℕ) (prog : Program) (o : Order) (t : Term) (ms : List Member) (b
       ground_term n (Comp f ts) h = absurd (let e = h.1 in cc)
 
       child_ground : (n : ℕ) → (u : Substitution) × Unifies u (child n).equations × AllInts u vs
-      unfolding after
       child_ground n = (
         after (ground_at n) s,
         (ap (apply (ground_at n)) open_self ∙ ground_here n, still_unifies (ground_at n) s b.equations v.general.unifies),

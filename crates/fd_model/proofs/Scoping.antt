@@ -63,7 +63,6 @@ module _ (n : ℕ) (es : List Equation) (s : Substitution) (g : IsMostGeneral es
   ground_high x h = rw (le-ltb x n h) refl
 
   grounded_term : (t : Term) → TermBelow n t → apply grounded t ≡ apply ground (apply s t)
-  unfolding after
   grounded_term t b = agree n grounded (after ground s) (λ x h. grounded_low x h) t b ∙ after_is ground s t
 
   grounded_unifies : (ds : List Equation) → EquationsBelow n ds → Unifies s ds → Unifies grounded ds
