@@ -2,7 +2,7 @@
 use Rattle.std.proofs.Common.{◌≡◌, ℕ, pos, true, ◌==◌, List, [], ◌∷◌, refl, ap, sym, ◌∙◌, subst, inl, inr, eqb-true, Ok}
 use Rattle.std.proofs.lemmas.Bool.{or_cases, true≢false}
 use Rattle.fd_model.specs.declared.kinds.Order.{Order}
-use Rattle.fd_language.specs.Term.{Term, Var, Int, Atom, Comp, Substitution, apply}
+use Rattle.fd_language.specs.Term.{Term, Var, Int, Atom, Comp, Substitution, apply, after}
 use Rattle.fd_language.specs.Family.{has}
 use Rattle.fd_model.specs.Goal.{Program, Branch, End}
 use Rattle.fd_model.specs.Seen.{IsConsistent}
@@ -14,7 +14,7 @@ use Rattle.fd_model.specs.Answers.{answers, EndsWith, Somewhere, Comes, Settles,
 use Rattle.fd_model.specs.LabellingLaws.{IsListed, IsLabelled, LabellingAnswers}
 use Rattle.fd_model.proofs.Lists.{each_map, each_at}
 use Rattle.fd_model.proofs.Searching.{searched, IsFound, found_by}
-use Rattle.fd_language.proofs.Lemmas.{after, still_unifies, through_term}
+use Rattle.fd_language.proofs.Lemmas.{still_unifies, through_term}
 use Rattle.fd_model.proofs.Heeding.{Heeds, look_heeds, look_open, through_look}
 use Rattle.fd_model.proofs.Listing.{read_members, with_member_back, list_under}
 use Rattle.fd_model.proofs.Picking.{IsInt, AllInts, Element, element_of}

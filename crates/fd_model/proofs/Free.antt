@@ -2,11 +2,11 @@
 use Rattle.std.proofs.Common.{◌≡◌, ◌≢◌, ℕ, ◌≤◌, true, cond, ◌==◌, pos, List, refl, ap, sym, ◌∙◌, subst, inl, inr, eqb-true, eq-eqb}
 use Rattle.std.proofs.lemmas.Bool.{cases_Bool, true≢false}
 use Rattle.fd_model.specs.declared.kinds.Order.{Order}
-use Rattle.fd_language.specs.Term.{Term, Var, Int, Atom, Comp, Substitution, apply}
+use Rattle.fd_language.specs.Term.{Term, Var, Int, Atom, Comp, Substitution, apply, after}
 use Rattle.fd_language.specs.Family.{has}
 use Rattle.fd_model.specs.Closed.{constrained}
 use Rattle.fd_model.specs.Goal.{Branch}
-use Rattle.fd_language.proofs.Lemmas.{has_either, after, still_unifies}
+use Rattle.fd_language.proofs.Lemmas.{has_either, still_unifies}
 use Rattle.fd_model.specs.Labelling.{open_ones}
 use Rattle.fd_model.specs.Members.{Member}
 use Rattle.fd_model.specs.Satisfies.{Assignment}

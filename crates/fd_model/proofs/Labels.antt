@@ -5,7 +5,7 @@ use Rattle.std.proofs.lemmas.Bool.{or_cases, or_right, cases_Bool, true≢false}
 use Rattle.fd_model.specs.declared.kinds.QueryFault.{QueryFault}
 use Rattle.fd_model.specs.declared.kinds.Order.{Order}
 use Rattle.fd_model.specs.declared.kinds.Order.TheVariants.{Leftmost, FirstFail}
-use Rattle.fd_language.specs.Term.{Term, Var, Int, Atom, Comp, Substitution, apply}
+use Rattle.fd_language.specs.Term.{Term, Var, Int, Atom, Comp, Substitution, apply, after}
 use Rattle.fd_language.specs.Unifier.{Unifies}
 use Rattle.fd_language.specs.Family.{Family, has, IsSubset, IsRising}
 use Rattle.fd_language.specs.Range.{Indexical, set_of, reads}
@@ -13,7 +13,7 @@ use Rattle.fd_model.specs.Closed.{AllPosted, constrained}
 use Rattle.fd_model.specs.Goal.{Goal, Label, Program, Branch}
 use Rattle.fd_model.specs.Seen.{IsConsistent, IsView, set_at, by_set}
 use Rattle.fd_model.specs.Children.{Gives, Faults, with_goals, Kept, KeptOffer, look_in, Children, offer, by_value, by_pick, by_listing, sets_in}
-use Rattle.fd_language.proofs.Lemmas.{has_high, has_either, in_universe, universe_rising, in_left, in_right, set_agree, after, still_unifies, through_term, number_for, number_at, number_back}
+use Rattle.fd_language.proofs.Lemmas.{has_high, has_either, in_universe, universe_rising, in_left, in_right, set_agree, still_unifies, through_term, number_for, number_at, number_back}
 use Rattle.fd_model.proofs.Unique.{one_view}
 use Rattle.fd_model.specs.Labelling.{read_list, values_by, pick, open_ones}
 use Rattle.fd_model.specs.Members.{Member}

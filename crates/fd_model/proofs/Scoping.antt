@@ -1,7 +1,7 @@
 -- The variables of a branch stay below its next fresh number.
 use Rattle.std.proofs.Common.{◌≡◌, ℕ, ◌<◌, ◌≤◌, cond, ltb, pos, List, [], ◌∷◌, ◌++◌, map, Option, Some, refl, ap, sym, ◌∙◌, inl, inr, arith, ltb-true, ltb-false, lt-ltb, le-ltb}
 use Rattle.std.proofs.lemmas.Bool.{cases_Bool}
-use Rattle.fd_language.specs.Term.{Term, Terms, Var, Int, Atom, Comp, Substitution, apply, apply_all, no_terms, term}
+use Rattle.fd_language.specs.Term.{Term, Terms, Var, Int, Atom, Comp, Substitution, apply, apply_all, no_terms, term, after}
 use Rattle.fd_language.specs.Unifier.{Equation, IsMostGeneral, Unifies}
 use Rattle.fd_language.specs.Family.{Family}
 use Rattle.fd_model.specs.Closed.{constrained}
@@ -14,7 +14,7 @@ use Rattle.fd_model.specs.Seen.{by_set, set_at}
 use Rattle.fd_model.specs.Children.{look_in}
 use Rattle.fd_model.proofs.GoalRows.{EquationsBelow}
 use Rattle.fd_model.proofs.Lists.{each_map}
-use Rattle.fd_language.proofs.Lemmas.{after, after_is, renamed_places}
+use Rattle.fd_language.proofs.Lemmas.{after_is, renamed_places}
 use Rattle.fd_model.proofs.Seeing.{wider}
 
 -- terms under substitutions
