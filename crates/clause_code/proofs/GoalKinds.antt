@@ -18,7 +18,7 @@ use Rattle.wam_code.specs.declared.instruction.Code.{Code}
 use Rattle.wam_code.specs.declared.instruction.Code.TheVariants.{Call, Builtin, Constrain, Label, PostRange}
 use Rattle.wam_code.specs.declared.parts.Entry.{Entry}
 use Rattle.wam_code.specs.Area.{State}
-use Rattle.wam_code.specs.Arities.{constraint_arity, builtin_arity}
+use Rattle.fd_model.specs.Arities.{constraint_arity, builtin_arity}
 use Rattle.wam_code.specs.Effect.{are_set, are_given, has_frame}
 use Rattle.wam_code.specs.Verified.{Covers}
 use Rattle.wam_code.specs.Places.{Places, read, no_registers, Hold, count, made}

@@ -24,7 +24,7 @@ use Rattle.clause_check.specs.Programs.{FlatProgram, range_at, goal_in, HasArgum
 use Rattle.wam_code.specs.declared.instruction.Register.{Register}
 use Rattle.wam_code.specs.declared.instruction.Code.{Code}
 use Rattle.wam_code.specs.declared.instruction.Code.TheVariants.{Call, Builtin, Constrain}
-use Rattle.wam_code.specs.Arities.{constraint_arity, builtin_arity}
+use Rattle.fd_model.specs.Arities.{constraint_arity, builtin_arity}
 use Rattle.wam_code.specs.Places.{count, made}
 use Rattle.clause_code.specs.Pieces.{Base, Predicate}
 use Rattle.clause_code.specs.Codable.{IsNarrow, IsCodableGoal}

@@ -31,7 +31,7 @@ use Rattle.machine_frames.specs.Frames.{link_in, frame_of, IsKept}
 use Rattle.machine_frames.specs.Posting.{IsRowLinked}
 use Rattle.machine_frames.proofs.Lemmas.{look_old, row_look, kept_row, kept_no_model, unsettled, settled_look, settled_held, settled_rest}
 use Rattle.wam_code.specs.declared.instruction.Code.TheVariants as code
-use Rattle.wam_code.specs.Arities.{constraint_arity}
+use Rattle.fd_model.specs.Arities.{constraint_arity}
 use Rattle.wam_code.specs.Area.{Area, Holds}
 use Rattle.wam_code.specs.Places.{made}
 use Rattle.wam_code.specs.Means.{ConstrainRule}

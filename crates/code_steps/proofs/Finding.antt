@@ -36,7 +36,7 @@ use Rattle.machine_frames.specs.Frames.{link_in, store_touches, frame_of, IsKept
 use Rattle.machine_frames.specs.SeenHeap.{read_term, heap_finding}
 use Rattle.machine_frames.proofs.Lemmas.{settled_look, settled_held, settled_rest}
 use Rattle.wam_code.specs.declared.instruction.Code.TheVariants as code
-use Rattle.wam_code.specs.Arities.{builtin_arity}
+use Rattle.fd_model.specs.Arities.{builtin_arity}
 use Rattle.wam_code.specs.Area.{Area, Holds}
 use Rattle.wam_code.specs.Places.{Places, made}
 use Rattle.wam_code.specs.Means.{NamedRule, BuiltinRule}

@@ -1,10 +1,10 @@
 -- One more range on a branch and on the store, where variables that it names may be integers: the store has a variable for each integer too.
-use Rattle.std.proofs.Common.{◌≡◌, ℕ, Bool, true, false, cond, ◌==◌, ℤ, pos, negsuc, List, [], ◌∷◌, ◌++◌, Option, Some, refl, ap, sym, ◌∙◌, subst, inl, inr, ◌⊎◌, eqb-true, eq-eqb}
+use Rattle.std.proofs.Common.{◌≡◌, ℕ, true, false, cond, ◌==◌, ℤ, pos, negsuc, List, [], ◌∷◌, ◌++◌, Option, Some, refl, ap, sym, ◌∙◌, subst, inl, inr, ◌⊎◌, eqb-true, eq-eqb}
 use Rattle.std.proofs.lemmas.Bool.{cases_Bool, or_cases, or_left, or_right, true≢false}
 use Rattle.std.proofs.lemmas.Option.{same_Some}
 use Rattle.fd_language.specs.Term.{Term, Var, Int, Atom, Comp, Substitution, apply}
 use Rattle.fd_language.specs.Unifier.{Equation, Unifies}
-use Rattle.fd_language.specs.Family.{Family, has, IsFamily, IsSubset, IsRising}
+use Rattle.fd_language.specs.Family.{Family, has, IsFamily, IsSubset}
 use Rattle.fd_language.specs.Range.{Indexical, set_of, reads}
 use Rattle.fd_language.specs.RangeRenaming.{rename_range, rename_indexical}
 use Rattle.fd_language.proofs.Lemmas.{identity, set_same}
@@ -12,37 +12,7 @@ use Rattle.fd_model.specs.Closed.{constrained}
 use Rattle.fd_model.specs.Models.{IsModel}
 use Rattle.fd_model.proofs.Lemmas.{closed_without, posted_right, named_left, named_right, one_term, single_from}
 use Rattle.machine_relation.specs.Store.{Touch, Value, Same, touched, posts, next_slot, IsStored, names, shown_set, linked_set}
-use Rattle.machine_relation.proofs.Lemmas.{ungrown, front, by_shown, holds_agree, extended, set_term, set_term_int, as_equations, as_posts, new_or_old, one_left, one_back, slot_there, slot_back}
-
--- the sets of the named variables, where one of them has the slot k
-pick : (ℕ → ℕ) → Family → Family → List ℕ → ℕ → List ℕ
-pick f S T [] k = T k
-pick f S T (v ∷ vs) k = cond (f v == k) (S v) (pick f S T vs k)
-
-pick_named : (f : ℕ → ℕ) (S T : Family) (vs : List ℕ) (v : ℕ) → ((w : ℕ) → has vs w ≡ true → f w ≡ f v → S w ≡ S v) → has vs v ≡ true → pick f S T vs (f v) ≡ S v
-unfolding pick
-pick_named f S T [] v one c = absurd (true≢false (sym c))
-pick_named f S T (w ∷ vs) v one c = elim (cases_Bool (f w == f v)) [
-  | inl e ↦ rw e (one w (or_left (w == w) (has vs w) (eq-eqb w w refl)) (eqb-true (f w) (f v) e))
-  | inr e ↦ rw e (pick_named f S T vs v (λ u d. one u (or_right (w == u) (has vs u) d)) (elim (or_cases (w == v) (has vs v) c) [ inl g ↦ absurd (true≢false (sym (eq-eqb (f w) (f v) (ap f (eqb-true w v g))) ∙ e)) | inr g ↦ g ]))
-]
-
-pick_other : (f : ℕ → ℕ) (S T : Family) (vs : List ℕ) (k : ℕ) → ((w : ℕ) → has vs w ≡ true → f w ≡ k → S w ≡ T k) → pick f S T vs k ≡ T k
-unfolding pick
-pick_other f S T [] k one = refl
-pick_other f S T (w ∷ vs) k one = elim (cases_Bool (f w == k)) [
-  | inl e ↦ rw e (one w (or_left (w == w) (has vs w) (eq-eqb w w refl)) (eqb-true (f w) k e))
-  | inr e ↦ rw e (pick_other f S T vs k (λ u d. one u (or_right (w == u) (has vs u) d)))
-]
-
-pick_rising : (M : ℕ) (f : ℕ → ℕ) (S T : Family) (vs : List ℕ) → IsFamily M S → IsFamily M T → IsFamily M (pick f S T vs)
-unfolding pick
-pick_rising M f S T [] a b = b
-pick_rising M f S T (v ∷ vs) a b = let later = pick_rising M f S T vs a b in record { rising = λ k. either (f v == k) (S v) (pick f S T vs k) (a.rising v) (later.rising k) }
-  where
-    either : (c : Bool) (xs ys : List ℕ) → IsRising 0 M xs → IsRising 0 M ys → IsRising 0 M (cond c xs ys)
-    either true xs ys g h = g
-    either false xs ys g h = h
+use Rattle.machine_relation.proofs.Lemmas.{ungrown, front, by_shown, holds_agree, extended, set_term, set_term_int, as_equations, as_posts, pick, pick_named, pick_other, pick_rising, new_or_old, one_left, one_back, slot_there, slot_back}
 
 -- each touch says of a named variable's slot which integer the variable is
 abbrev pub AreTold : Indexical → Substitution → (ℕ → ℕ) → List Touch → Type 0

@@ -12,7 +12,7 @@ use Rattle.fd_language.specs.Range.{Range, Indexical, reads}
 use Rattle.fd_language.specs.RangeRenaming.{rename_range, rename_indexical}
 use Rattle.fd_language.specs.Term.{Term, Var, Int, Atom, Comp, Substitution, apply}
 use Rattle.fd_language.specs.Variables.{TermBelow}
-use Rattle.fd_language.proofs.Lemmas.{two, reads_map, has_either, in_left}
+use Rattle.fd_language.proofs.Lemmas.{two, reads_map, has_either, in_left, renamed_agree, filled_agree}
 use Rattle.fd_model.specs.Children.{by_post, by_constraint, look_in, with_expansion}
 use Rattle.fd_model.specs.Closed.{constrained}
 use Rattle.fd_model.specs.Constraining.{equations}
@@ -45,7 +45,7 @@ use Rattle.code_steps.specs.Registers.{Registers, Saved, AreIn}
 use Rattle.code_steps.specs.Standing.{Made}
 use Rattle.code_steps.specs.Ranging.{slot_terms, target_offence, cells_offence, filled, cells_range, Names, AreNumbers, IsTermsLinked}
 use Rattle.code_steps.specs.Running.{Choice, IsTaking, Runs}
-use Rattle.code_steps.proofs.Agreeing.{EachAt, each_at, each_both, each_renamed, each_filled, plain_at, range_same, filled_same, range_offence}
+use Rattle.code_steps.proofs.Agreeing.{EachAt, each_at, each_both, each_renamed, each_filled, plain_at, range_offence}
 use Rattle.code_steps.proofs.Arguments.{cell_shows}
 use Rattle.code_steps.proofs.Numbering.{numbered, numbered_low, numbered_high, slot_seen, kept_numbered}
 use Rattle.code_steps.proofs.Posting.{AreTold, IsSeenPosted, seen_posted, seen_slot}
@@ -278,7 +278,7 @@ module _ (M : ℕ) (area : Area) (prog : Program) (q : Query) (name : Naming) (h
       body_is : p.range ≡ rename_range inner (filled see R)
       body_is =
           row.body
-          ∙ ap (rename_range row.place) (range_filled f t.is.2 (λ y. integer_of (look y)) R ∙ ap (rename_range f) (filled_same (λ y. integer_of (look (f y))) (λ y. integer_of (see y)) R (each_both (λ y. look (f y) ≡ see y) (λ y. look (f y) ≡ see y) (λ y. integer_of (look (f y)) ≡ integer_of (see y)) (λ y e g. ap integer_of e) (range_places R) each each)))
+          ∙ ap (rename_range row.place) (range_filled f t.is.2 (λ y. integer_of (look y)) R ∙ ap (rename_range f) (filled_agree (λ y. integer_of (look (f y))) (λ y. integer_of (see y)) R (each_both (λ y. look (f y) ≡ see y) (λ y. look (f y) ≡ see y) (λ y. integer_of (look (f y)) ≡ integer_of (see y)) (λ y e g. ap integer_of e) (range_places R) each each)))
           ∙ range_twice row.place f (filled see R)
 
       abbrev Named : Term → Type 0
@@ -323,7 +323,7 @@ module _ (M : ℕ) (area : Area) (prog : Program) (q : Query) (name : Naming) (h
         posted_is : rename_indexical F p ≡ cells_range slot_of target_term see R
         posted_is = two (λ a q. record { target = a; range = q }) (ap slot_of target_seen) (
             ap (rename_range F) body_is ∙ range_twice F inner (filled see R)
-            ∙ range_same (λ y. F (inner y)) (λ y. slot_of (see y)) (filled see R) (each_filled (λ y. F (inner y) ≡ slot_of (see y)) (λ y. integer_of (see y)) R
+            ∙ renamed_agree (λ y. F (inner y)) (λ y. slot_of (see y)) (filled see R) (each_filled (λ y. F (inner y) ≡ slot_of (see y)) (λ y. integer_of (see y)) R
             (each_both (λ y. seen' (inner y) ≡ see y) (λ y. seen' (inner y) ≡ see y) (λ y. F (inner y) ≡ slot_of (see y)) (λ y e g. ap slot_of e) (range_places R) inner_seen inner_seen))
             )
 

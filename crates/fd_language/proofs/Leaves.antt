@@ -8,19 +8,19 @@ use Rattle.std.proofs.lemmas.List.Concat.{flat_map-append}
 use mathlib.Core.Path.{fun_ext}
 use Rattle.fd_language.specs.declared.range_node.RangeNode.{RangeNode}
 use Rattle.fd_language.specs.declared.range_node.RangeNode.TheVariants as node
-use Rattle.fd_language.specs.Range.{Range, Span, One, Dom, Union, Inter, Outside, Plus, Minus, Times, Over, Expr, Number, Infinity, Param, Min, Max, Val, Add, Sub, Mul, DivDown, DivUp, Leaf, Role, leaf, a_parameter, a_min, a_max, a_val, a_dom, Walk, walk_expr, walk_range, leaf_of, from_leaf, from_node, collecting, from_expr, from_range, expr_leaves, leaves, reads, read_by, read_at, vals, val_by, val_at, params, param_by, param_at}
-use Rattle.fd_language.specs.Places.{place_at}
+use Rattle.fd_language.specs.Range.{Range, Span, One, Dom, Union, Inter, Outside, Plus, Minus, Times, Over, Expr, Number, Infinity, Param, Min, Max, Val, Add, Sub, Mul, DivDown, DivUp, Leaf, Role, leaf, a_parameter, a_min, a_max, a_val, a_dom, is_parameter_role, Walk, walk_expr, walk_range, leaf_of, from_leaf, from_node, collecting, from_expr, from_range, expr_leaves, leaves, reads, read_by, read_at, vals, val_by, val_at, params, param_by, param_at}
+use Rattle.fd_language.specs.Places.{Place, place_at, range_places}
 use Rattle.fd_language.specs.Features.{feature_at}
 use Rattle.fd_language.specs.Lists.{Each}
 use Rattle.fd_language.specs.NewLeaves.{NewLeaves, new_expr, new_range}
-use Rattle.fd_language.specs.RangeRenaming.{rename_range, renaming}
+use Rattle.fd_language.specs.RangeRenaming.{rename_expr, rename_range, renaming}
 use Rattle.fd_language.specs.Check.{fill_range, filling}
 use Rattle.fd_language.specs.Flat.{InFront, postfix, expr_nodes, range_nodes, nodes_of}
 use Rattle.fd_language.specs.RangeVerdict.{counting, range_size}
 use Rattle.fd_language.specs.RangeLaws.{LeavesTell}
 use Rattle.fd_language.specs.Family.{has}
 use Rattle.fd_language.proofs.Sets.{in_flat}
-use Rattle.fd_language.proofs.Lists.{each_all, each_before, each_after}
+use Rattle.fd_language.proofs.Lists.{each_before, each_after}
 
 -- how many operands a node has
 abbrev pub operands : RangeNode → ℕ
@@ -200,52 +200,125 @@ filled_leaves f none p r = new_leaves f (filling p) r ∙ same_leaves (λ l. fro
   by_role a_val y = refl
   by_role a_dom y = refl
 
--- a leaf that stays as it is
-abbrev pub Stays : NewLeaves → Role → ℕ → Type 0
-Stays h a_parameter x = h.param x ≡ Param x
-Stays h a_min y = h.least y ≡ Min y
-Stays h a_max y = h.greatest y ≡ Max y
-Stays h a_val y = h.one_value y ≡ Val y
-Stays h a_dom y = h.domain y ≡ y
+-- two ways to replace a leaf that do the same
+abbrev pub Agree : NewLeaves → NewLeaves → Role → ℕ → Type 0
+Agree h g a_parameter x = h.param x ≡ g.param x
+Agree h g a_min y = h.least y ≡ g.least y
+Agree h g a_max y = h.greatest y ≡ g.greatest y
+Agree h g a_val y = h.one_value y ≡ g.one_value y
+Agree h g a_dom y = h.domain y ≡ g.domain y
 
--- Where each leaf stays as it is, so does all.
-module _ (h : NewLeaves) where
-  abbrev AllStay : List Leaf → Type 0
-  AllStay ls = Each (λ l. Stays h l.role l.variable) ls
+-- Where they do so at each leaf, they give the same range.
+module _ (h g : NewLeaves) where
+  abbrev AllAgree : List Leaf → Type 0
+  AllAgree ls = Each (λ l. Agree h g l.role l.variable) ls
 
-  both_stay : {A B C : Type 0} (op : A → B → C) {a a' : A} {b b' : B} (xs ys : List Leaf) → (AllStay xs → a ≡ a') → (AllStay ys → b ≡ b') → AllStay (xs ++ ys) → op a b ≡ op a' b'
-  both_stay op xs ys f g s = two op (f (each_before (λ l. Stays h l.role l.variable) xs ys s)) (g (each_after (λ l. Stays h l.role l.variable) xs ys s))
+  both_agree : {A B C : Type 0} (op : A → B → C) {a a' : A} {b b' : B} (xs ys : List Leaf) → (AllAgree xs → a ≡ a') → (AllAgree ys → b ≡ b') → AllAgree (xs ++ ys) → op a b ≡ op a' b'
+  both_agree op xs ys i j s = two op (i (each_before (λ l. Agree h g l.role l.variable) xs ys s)) (j (each_after (λ l. Agree h g l.role l.variable) xs ys s))
 
-  expr_stays : (e : Expr) → AllStay (expr_leaves e) → new_expr h e ≡ e
-  expr_stays (Number z) s = refl
-  expr_stays Infinity s = refl
-  expr_stays (Add a b) s = both_stay Add (expr_leaves a) (expr_leaves b) (expr_stays a) (expr_stays b) s
-  expr_stays (Sub a b) s = both_stay Sub (expr_leaves a) (expr_leaves b) (expr_stays a) (expr_stays b) s
-  expr_stays (Mul a b) s = both_stay Mul (expr_leaves a) (expr_leaves b) (expr_stays a) (expr_stays b) s
-  expr_stays (DivDown a b) s = both_stay DivDown (expr_leaves a) (expr_leaves b) (expr_stays a) (expr_stays b) s
-  expr_stays (DivUp a b) s = both_stay DivUp (expr_leaves a) (expr_leaves b) (expr_stays a) (expr_stays b) s
-  expr_stays e s = s.0
+  expr_agrees : (e : Expr) → AllAgree (expr_leaves e) → new_expr h e ≡ new_expr g e
+  expr_agrees (Number z) s = refl
+  expr_agrees Infinity s = refl
+  expr_agrees (Add a b) s = both_agree Add (expr_leaves a) (expr_leaves b) (expr_agrees a) (expr_agrees b) s
+  expr_agrees (Sub a b) s = both_agree Sub (expr_leaves a) (expr_leaves b) (expr_agrees a) (expr_agrees b) s
+  expr_agrees (Mul a b) s = both_agree Mul (expr_leaves a) (expr_leaves b) (expr_agrees a) (expr_agrees b) s
+  expr_agrees (DivDown a b) s = both_agree DivDown (expr_leaves a) (expr_leaves b) (expr_agrees a) (expr_agrees b) s
+  expr_agrees (DivUp a b) s = both_agree DivUp (expr_leaves a) (expr_leaves b) (expr_agrees a) (expr_agrees b) s
+  expr_agrees e s = s.0
 
-  pub range_stays : (r : Range) → AllStay (leaves r) → new_range h r ≡ r
-  range_stays (Span a b) s = both_stay Span (expr_leaves a) (expr_leaves b) (expr_stays a) (expr_stays b) s
-  range_stays (One e) s = ap One (expr_stays e s)
-  range_stays (Dom y) s = ap Dom s.0
-  range_stays (Union r q) s = both_stay Union (leaves r) (leaves q) (range_stays r) (range_stays q) s
-  range_stays (Inter r q) s = both_stay Inter (leaves r) (leaves q) (range_stays r) (range_stays q) s
-  range_stays (Outside r) s = ap Outside (range_stays r s)
-  range_stays (Plus r c) s = both_stay Plus (leaves r) (expr_leaves c) (range_stays r) (expr_stays c) s
-  range_stays (Minus r c) s = both_stay Minus (leaves r) (expr_leaves c) (range_stays r) (expr_stays c) s
-  range_stays (Times r c) s = both_stay Times (leaves r) (expr_leaves c) (range_stays r) (expr_stays c) s
-  range_stays (Over r c) s = both_stay Over (leaves r) (expr_leaves c) (range_stays r) (expr_stays c) s
+  range_agrees : (r : Range) → AllAgree (leaves r) → new_range h r ≡ new_range g r
+  range_agrees (Span a b) s = both_agree Span (expr_leaves a) (expr_leaves b) (expr_agrees a) (expr_agrees b) s
+  range_agrees (One e) s = ap One (expr_agrees e s)
+  range_agrees (Dom y) s = ap Dom s.0
+  range_agrees (Union r q) s = both_agree Union (leaves r) (leaves q) (range_agrees r) (range_agrees q) s
+  range_agrees (Inter r q) s = both_agree Inter (leaves r) (leaves q) (range_agrees r) (range_agrees q) s
+  range_agrees (Outside r) s = ap Outside (range_agrees r s)
+  range_agrees (Plus r c) s = both_agree Plus (leaves r) (expr_leaves c) (range_agrees r) (expr_agrees c) s
+  range_agrees (Minus r c) s = both_agree Minus (leaves r) (expr_leaves c) (range_agrees r) (expr_agrees c) s
+  range_agrees (Times r c) s = both_agree Times (leaves r) (expr_leaves c) (range_agrees r) (expr_agrees c) s
+  range_agrees (Over r c) s = both_agree Over (leaves r) (expr_leaves c) (range_agrees r) (expr_agrees c) s
+
+-- Where a fact that makes them agree holds of each place, they give the same range.
+pub places_agree : (h g : NewLeaves) (P : Place → Type 0) → ((k : Role) (y : ℕ) → P (record { variable = y; parameter = is_parameter_role k }) → Agree h g k y) → (r : Range) → Each P (range_places r) → new_range h r ≡ new_range g r
+places_agree h g P by r s = range_agrees h g r (at_leaves (leaves r) (subst (λ ps. Each P ps) (range_leaves place_at r) s)) where
+  at_leaves : (ls : List Leaf) → Each P (flat_map place_at ls) → Each (λ l. Agree h g l.role l.variable) ls
+  at_leaves [] e = tt
+  at_leaves (l ∷ ls) e = (by l.role l.variable e.0, at_leaves ls e.1)
+
+-- Renamings that agree at each place give the same range.
+pub renamed_agree : (f g : ℕ → ℕ) (r : Range) → Each (λ p. f p.variable ≡ g p.variable) (range_places r) → rename_range f r ≡ rename_range g r
+renamed_agree f g r s = places_agree (renaming f) (renaming g) (λ p. f p.variable ≡ g p.variable) by_role r s where
+  by_role : (k : Role) (y : ℕ) → f y ≡ g y → Agree (renaming f) (renaming g) k y
+  by_role a_parameter y e = ap Param e
+  by_role a_min y e = ap Min e
+  by_role a_max y e = ap Max e
+  by_role a_val y e = ap Val e
+  by_role a_dom y e = e
+
+-- And so do parameters that agree at each place.
+pub filled_agree : (p q : ℕ → ℤ) (r : Range) → Each (λ x. p x.variable ≡ q x.variable) (range_places r) → fill_range p r ≡ fill_range q r
+filled_agree p q r s = places_agree (filling p) (filling q) (λ x. p x.variable ≡ q x.variable) by_role r s where
+  by_role : (k : Role) (y : ℕ) → p y ≡ q y → Agree (filling p) (filling q) k y
+  by_role a_parameter y e = ap Number e
+  by_role a_min y e = refl
+  by_role a_max y e = refl
+  by_role a_val y e = refl
+  by_role a_dom y e = refl
+
+-- what becomes of leaves that are replaced by g and then by h
+abbrev pub both_new : NewLeaves → NewLeaves → NewLeaves
+both_new h g = record { param = λ x. new_expr h (g.param x); least = λ y. new_expr h (g.least y); greatest = λ y. new_expr h (g.greatest y); one_value = λ y. new_expr h (g.one_value y); domain = λ y. h.domain (g.domain y) }
+
+-- Leaves that are replaced twice are replaced at once so.
+module _ (h g : NewLeaves) where
+  expr_twice : (e : Expr) → new_expr h (new_expr g e) ≡ new_expr (both_new h g) e
+  expr_twice (Add a b) = two Add (expr_twice a) (expr_twice b)
+  expr_twice (Sub a b) = two Sub (expr_twice a) (expr_twice b)
+  expr_twice (Mul a b) = two Mul (expr_twice a) (expr_twice b)
+  expr_twice (DivDown a b) = two DivDown (expr_twice a) (expr_twice b)
+  expr_twice (DivUp a b) = two DivUp (expr_twice a) (expr_twice b)
+  expr_twice e = refl
+
+  pub new_twice : (r : Range) → new_range h (new_range g r) ≡ new_range (both_new h g) r
+  new_twice (Span a b) = two Span (expr_twice a) (expr_twice b)
+  new_twice (One e) = ap One (expr_twice e)
+  new_twice (Dom y) = refl
+  new_twice (Union r q) = two Union (new_twice r) (new_twice q)
+  new_twice (Inter r q) = two Inter (new_twice r) (new_twice q)
+  new_twice (Outside r) = ap Outside (new_twice r)
+  new_twice (Plus r c) = two Plus (new_twice r) (expr_twice c)
+  new_twice (Minus r c) = two Minus (new_twice r) (expr_twice c)
+  new_twice (Times r c) = two Times (new_twice r) (expr_twice c)
+  new_twice (Over r c) = two Over (new_twice r) (expr_twice c)
+
+-- A range whose variables keep their names is as it was.
+expr_as_is : (e : Expr) → rename_expr (λ y. y) e ≡ e
+expr_as_is (Add a b) = two Add (expr_as_is a) (expr_as_is b)
+expr_as_is (Sub a b) = two Sub (expr_as_is a) (expr_as_is b)
+expr_as_is (Mul a b) = two Mul (expr_as_is a) (expr_as_is b)
+expr_as_is (DivDown a b) = two DivDown (expr_as_is a) (expr_as_is b)
+expr_as_is (DivUp a b) = two DivUp (expr_as_is a) (expr_as_is b)
+expr_as_is e = refl
 
 pub renamed_as_is : (r : Range) → rename_range (λ y. y) r ≡ r
-renamed_as_is r = range_stays (renaming (λ y. y)) r (each_all _ (λ l. by_role l.role l.variable) (leaves r)) where
-  by_role : (k : Role) (y : ℕ) → Stays (renaming (λ y. y)) k y
-  by_role a_parameter y = refl
-  by_role a_min y = refl
-  by_role a_max y = refl
-  by_role a_val y = refl
-  by_role a_dom y = refl
+renamed_as_is (Span a b) = two Span (expr_as_is a) (expr_as_is b)
+renamed_as_is (One e) = ap One (expr_as_is e)
+renamed_as_is (Dom y) = refl
+renamed_as_is (Union r q) = two Union (renamed_as_is r) (renamed_as_is q)
+renamed_as_is (Inter r q) = two Inter (renamed_as_is r) (renamed_as_is q)
+renamed_as_is (Outside r) = ap Outside (renamed_as_is r)
+renamed_as_is (Plus r c) = two Plus (renamed_as_is r) (expr_as_is c)
+renamed_as_is (Minus r c) = two Minus (renamed_as_is r) (expr_as_is c)
+renamed_as_is (Times r c) = two Times (renamed_as_is r) (expr_as_is c)
+renamed_as_is (Over r c) = two Over (renamed_as_is r) (expr_as_is c)
+
+-- a leaf that stays as it is
+abbrev pub Stays : NewLeaves → Role → ℕ → Type 0
+Stays h k y = Agree h (renaming (λ y. y)) k y
+
+-- Where each leaf stays as it is, so does all.
+pub range_stays : (h : NewLeaves) (r : Range) → Each (λ l. Stays h l.role l.variable) (leaves r) → new_range h r ≡ r
+range_stays h r s = range_agrees h (renaming (λ y. y)) r s ∙ renamed_as_is r
 
 -- Without parameters nothing is filled in.
 pub filled_as_is : (p : ℕ → ℤ) (r : Range) → params r ≡ [] → fill_range p r ≡ r

@@ -5,9 +5,9 @@ pub use Rattle.fd_language.proofs.Sets.{has-filter, has-filter_back, has_low, ha
 pub use Rattle.fd_language.proofs.Monotone.{least_low, least_in, greatest_in, greatest_high, not_empty}
 pub use Rattle.fd_language.proofs.GreatestFamily.{IsGreatest, greatest_there, rising-filter, shorter_or_same, rising_later}
 -- What holds of each element of a list.
-pub use Rattle.fd_language.proofs.Lists.{each_map, each_all, each_both, each_before, each_after, each_either}
+pub use Rattle.fd_language.proofs.Lists.{each_map, each_both, each_before, each_after, each_either}
 -- Walks over ranges: what is collected of their leaves, their nodes, and what becomes of them with other leaves.
-pub use Rattle.fd_language.proofs.Leaves.{operands, exprs_related, ranges_related, range_leaves, nodes_leaves, whole_nodes, expr_append, range_append, count_nodes, new_leaves, same_leaves, renamed_leaves, filled_leaves, range_stays, renamed_as_is, filled_as_is, vals_read, two, first_nil, second_nil}
+pub use Rattle.fd_language.proofs.Leaves.{operands, exprs_related, ranges_related, range_leaves, nodes_leaves, whole_nodes, expr_append, range_append, count_nodes, from_new, new_leaves, same_leaves, renamed_leaves, filled_leaves, places_agree, renamed_agree, filled_agree, new_twice, range_stays, renamed_as_is, filled_as_is, vals_read, two, first_nil, second_nil}
 pub use Rattle.fd_language.proofs.RangePlaces.{OfParameter, reads_placed, params_placed, none_placed, free_places_read, renamed_places}
 pub use Rattle.fd_language.proofs.SpelledNodes.{spells_back}
 -- The set of a range under other variables, and of one that the table accepts.
@@ -31,6 +31,6 @@ pub use Rattle.fd_language.proofs.ReadingWhole.{accepts, append-with_last}
 pub use Rattle.fd_language.proofs.ReadingLaws.{one_verdict_of_reading}
 pub use Rattle.fd_language.proofs.SentenceVariables.{each_below, as_many, position_within}
 -- Substitutions and most general unifiers.
-unfoldable pub use Rattle.fd_language.proofs.Substituting.{after, number_for}
-pub use Rattle.fd_language.proofs.Substituting.{after_is, identity, through_term, still_unifies, number_at, number_back, apply_vars, apply_all_vars}
-pub use Rattle.fd_language.proofs.Solving.{Solved, solved, bound_at, decide_name, decide_int}
+unfoldable pub use Rattle.fd_language.proofs.Substituting.{number_for}
+pub use Rattle.fd_language.proofs.Substituting.{after_is, after_are, identity, through_term, still_unifies, number_at, number_back, apply_vars, apply_all_vars}
+pub use Rattle.fd_language.proofs.Solving.{Solved, solved, bound_at, join_both, split_both, decide_name, decide_int}

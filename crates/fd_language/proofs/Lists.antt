@@ -8,11 +8,6 @@ module _ {X : Type 0} where
   each_map H G f [] h = tt
   each_map H G f (x ∷ xs) h = (f x h.0, each_map H G f xs h.1)
 
-  -- what holds of all
-  pub each_all : (H : X → Type 0) → ((x : X) → H x) → (xs : List X) → Each H xs
-  each_all H f [] = tt
-  each_all H f (x ∷ xs) = (f x, each_all H f xs)
-
   -- of two lists, and of the first and the second of two
   pub each_both : (H : X → Type 0) (xs ys : List X) → Each H xs → Each H ys → Each H (xs ++ ys)
   each_both H [] ys h g = g

@@ -1,25 +1,14 @@
 -- Each list of equations has a most general unifier, or none unifies it.
 use Rattle.std.proofs.Common.{◌≡◌, ℕ, zero, suc, ◌+◌, ◌<◌, ◌≤◌, Bool, true, false, cond, ◌||◌, ◌==◌, not, filter, ℤ, pos, negsuc, List, [], ◌∷◌, ◌++◌, length, refl, ap, sym, ◌∙◌, subst, inl, inr, ◌⊎◌, arith, eqb-true, eq-eqb, ne_eqb}
 use Rattle.std.proofs.lemmas.Bool.{cases_Bool, or_cases, true≢false, cases_eq, eqb-false, not_from_true, not_from_false, or_parts, or_left, or_right}
-use Rattle.fd_language.specs.Term.{Term, Terms, Var, Int, Atom, Comp, Name, Substitution, apply, apply_all, no_terms, term}
+use Rattle.fd_language.specs.Term.{Term, Terms, Var, Int, Atom, Comp, Name, Substitution, apply, apply_all, after, no_terms, term}
+use Rattle.fd_language.specs.Variables.{variables_of, variables_of_all, occurs, occurs_any}
 use Rattle.fd_language.specs.Unifier.{Equation, IsMostGeneral, Unifies}
 use Rattle.fd_language.specs.Family.{has}
-use Rattle.fd_language.proofs.Substituting.{identity}
+use Rattle.fd_language.proofs.Substituting.{after_is, identity, through_term}
 use Rattle.fd_language.proofs.Sets.{has-filter, has-filter_back}
 use Rattle.fd_language.proofs.GreatestFamily.{shorter_or_same}
 use Rattle.fd_language.proofs.Monotone.{in_left, in_right}
-
--- whether a variable occurs in a term
-mutual
-  occurs : ℕ → Term → Bool
-  occurs x (Var y) = y == x
-  occurs x (Int z) = false
-  occurs x (Atom a) = false
-  occurs x (Comp f ts) = occurs_any x ts
-
-  occurs_any : ℕ → Terms → Bool
-  occurs_any x no_terms = false
-  occurs_any x (term t ts) = occurs x t || occurs_any x ts
 
 -- the size of a term, at least 1
 mutual
@@ -37,7 +26,7 @@ bind x t y = cond (y == x) t (Var y)
 
 -- a term without x is left as it is
 mutual
-  unfolding bind occurs
+  unfolding bind
 
   bind_other : (x : ℕ) (t u : Term) → occurs x u ≡ false → apply (bind x t) u ≡ u
   bind_other x t (Var y) h = rw h refl
@@ -54,18 +43,9 @@ bound_at true u x y t e f = sym e ∙ ap u (sym (f refl))
 bound_at false u x y t e f = refl
 
 -- a unifier of x and t goes through the binding
-mutual
-  unfolding bind
-
-  through_bind : (u : Substitution) (x : ℕ) (t : Term) → u x ≡ apply u t → (r : Term) → apply u (apply (bind x t) r) ≡ apply u r
-  through_bind u x t e (Var y) = bound_at (y == x) u x y t e (eqb-true y x)
-  through_bind u x t e (Int z) = refl
-  through_bind u x t e (Atom a) = refl
-  through_bind u x t e (Comp f rs) = ap (Comp f) (through_binds u x t e rs)
-
-  through_binds : (u : Substitution) (x : ℕ) (t : Term) → u x ≡ apply u t → (rs : Terms) → apply_all u (apply_all (bind x t) rs) ≡ apply_all u rs
-  through_binds u x t e no_terms = refl
-  through_binds u x t e (term r rs) = let a = through_bind u x t e r in let b = through_binds u x t e rs in cc
+through_bind : (u : Substitution) (x : ℕ) (t : Term) → u x ≡ apply u t → (r : Term) → apply u (apply (bind x t) r) ≡ apply u r
+unfolding bind
+through_bind u x t e r = through_term (bind x t) u (λ y. bound_at (y == x) u x y t e (eqb-true y x)) r
 
 -- the equations with the binding applied
 bind_all : ℕ → Term → List Equation → List Equation
@@ -77,48 +57,20 @@ unfolding bind_all
 bound_to u x t [] e h = tt
 bound_to u x t (q ∷ es) e h = (through_bind u x t e q.left ∙ h.0 ∙ sym (through_bind u x t e q.right), bound_to u x t es e h.1)
 
--- s after the binding
-after : Substitution → ℕ → Term → Substitution
-after s x t y = apply s (bind x t y)
-
-mutual
-  unfolding after
-
-  after_is : (s : Substitution) (x : ℕ) (t r : Term) → apply (after s x t) r ≡ apply s (apply (bind x t) r)
-  after_is s x t (Comp f rs) = ap (Comp f) (after_are s x t rs)
-  after_is s x t _ = refl
-
-  after_are : (s : Substitution) (x : ℕ) (t : Term) (rs : Terms) → apply_all (after s x t) rs ≡ apply_all s (apply_all (bind x t) rs)
-  after_are s x t no_terms = refl
-  after_are s x t (term r rs) = let a = after_is s x t r in let b = after_are s x t rs in cc
-
-after_unifies : (s : Substitution) (x : ℕ) (t : Term) (es : List Equation) → Unifies s (bind_all x t es) → Unifies (after s x t) es
+after_unifies : (s : Substitution) (x : ℕ) (t : Term) (es : List Equation) → Unifies s (bind_all x t es) → Unifies (after s (bind x t)) es
 unfolding bind_all
 after_unifies s x t [] h = tt
-after_unifies s x t (q ∷ es) h = (after_is s x t q.left ∙ h.0 ∙ sym (after_is s x t q.right), after_unifies s x t es h.1)
-
--- a most general unifier on whole terms
-mutual
-  on_terms : (es : List Equation) (s u : Substitution) → IsMostGeneral es s → Unifies u es → (r : Term) → apply u (apply s r) ≡ apply u r
-  on_terms es s u g h (Var y) = g.general u y h
-  on_terms es s u g h (Int z) = refl
-  on_terms es s u g h (Atom a) = refl
-  on_terms es s u g h (Comp f rs) = ap (Comp f) (on_lists es s u g h rs)
-
-  on_lists : (es : List Equation) (s u : Substitution) → IsMostGeneral es s → Unifies u es → (rs : Terms) → apply_all u (apply_all s rs) ≡ apply_all u rs
-  on_lists es s u g h no_terms = refl
-  on_lists es s u g h (term r rs) = let a = on_terms es s u g h r in let b = on_lists es s u g h rs in cc
+after_unifies s x t (q ∷ es) h = (after_is s (bind x t) q.left ∙ h.0 ∙ sym (after_is s (bind x t) q.right), after_unifies s x t es h.1)
 
 bind_self : (x : ℕ) (t : Term) → bind x t x ≡ t
 unfolding bind
 bind_self x t = rw (eq-eqb x x refl) refl
 
 -- the equation of a variable with a term without it, in front
-eliminate : (x : ℕ) (t : Term) (es : List Equation) (s : Substitution) → occurs x t ≡ false → IsMostGeneral (bind_all x t es) s → IsMostGeneral (record { left = Var x; right = t } ∷ es) (after s x t)
-unfolding after
+eliminate : (x : ℕ) (t : Term) (es : List Equation) (s : Substitution) → occurs x t ≡ false → IsMostGeneral (bind_all x t es) s → IsMostGeneral (record { left = Var x; right = t } ∷ es) (after s (bind x t))
 eliminate x t es s o g = record {
-  unifies = (ap (apply s) (bind_self x t) ∙ sym (after_is s x t t ∙ ap (apply s) (bind_other x t t o)), after_unifies s x t es g.unifies);
-  general = λ u y h. on_terms (bind_all x t es) s u g (bound_to u x t es h.0 h.1) (bind x t y) ∙ through_bind u x t h.0 (Var y);
+  unifies = (ap (apply s) (bind_self x t) ∙ sym (after_is s (bind x t) t ∙ ap (apply s) (bind_other x t t o)), after_unifies s x t es g.unifies);
+  general = λ u y h. through_term s u (λ z. g.general u z (bound_to u x t es h.0 h.1)) (bind x t y) ∙ through_bind u x t h.0 (Var y);
 }
 
 eliminate_none : (x : ℕ) (t : Term) (es : List Equation) → ((u : Substitution) → Unifies u (bind_all x t es) → ⊥) → (u : Substitution) → Unifies u (record { left = Var x; right = t } ∷ es) → ⊥
@@ -126,7 +78,7 @@ eliminate_none x t es n u h = n u (bound_to u x t es h.0 h.1)
 
 -- a variable's term is no larger than a term that the variable occurs in, and smaller than a compound
 mutual
-  unfolding occurs size
+  unfolding size
 
   occurs_size : (u : Substitution) (x : ℕ) (t : Term) → occurs x t ≡ true → size (u x) ≤ size (apply u t)
   occurs_size u x (Var y) h = let e : y ≡ x = eqb-true y x h in omega (arith, ap (λ z. size (u z)) e)
@@ -194,7 +146,7 @@ four : (a b c d e f : Bool) → (e ≡ true → (c || d) ≡ true) → ((a || b)
 four a b c d e f h g = grind (arith, h)
 
 pairs : (ts us : Terms) → ((ds : List Equation) × Pairs ts us ds) ⊎ ((u : Substitution) → apply_all u ts ≡ apply_all u us → ⊥)
-unfolding sizes occurs_any size_of occurs_in
+unfolding sizes size_of occurs_in
 pairs no_terms no_terms = inl ([], record { there = λ u e. tt; back = λ u h. refl; smaller = omega arith; fewer = λ x h. absurd (true≢false (sym h)) })
 pairs no_terms (term r rs) = inr (λ u e. cc)
 pairs (term t ts) no_terms = inr (λ u e. cc)
@@ -231,11 +183,10 @@ swapped l r (simpler ds s) = simpler ds (record { there = λ u e. s.there u (sym
 swapped l r (binds x t o i j f g) = binds x t o (swap_or (occurs x l) (occurs x r) i) (λ y h. swap_or (occurs y l) (occurs y r) (j y h)) (λ u e. f u (sym e)) (λ u e. sym (g u e))
 
 bind_to : (x : ℕ) (r : Term) → occurs x r ≡ false → Turn (Var x) r
-unfolding occurs
 bind_to x r o = binds x r o (or_left (x == x) (occurs x r) (eq-eqb x x refl)) (λ y h. or_right (x == y) (occurs y r) h) (λ u e. e) (λ u e. e)
 
 turn : (l r : Term) → Turn l r
-unfolding occurs size
+unfolding size
 turn (Var x) (Var y) = elim (cases_eq y x) [
   | inl e ↦ nothing (Var x) (Var y) (λ u. ap u (sym e)) (omega arith)
   | inr n ↦ bind_to x (Var y) (ne_eqb y x n)
@@ -266,13 +217,15 @@ turn _ _ = fails (λ u e. cc)
 abbrev pub Solved : List Equation → Type 0
 Solved es = ((s : Substitution) × IsMostGeneral es s) ⊎ ((u : Substitution) → Unifies u es → ⊥)
 
-join_both : (u : Substitution) (ds es : List Equation) → Unifies u ds → Unifies u es → Unifies u (ds ++ es)
+-- What unifies two lists of equations unifies both together.
+pub join_both : (u : Substitution) (ds es : List Equation) → Unifies u ds → Unifies u es → Unifies u (ds ++ es)
 join_both u [] es h g = g
 join_both u (d ∷ ds) es h g = (h.0, join_both u ds es h.1 g)
 
-split_first : (u : Substitution) (ds es : List Equation) → Unifies u (ds ++ es) → Unifies u ds × Unifies u es
-split_first u [] es h = (tt, h)
-split_first u (d ∷ ds) es h = let later = split_first u ds es h.1 in ((h.0, later.0), later.1)
+-- What unifies two lists together unifies each of them.
+pub split_both : (u : Substitution) (ds es : List Equation) → Unifies u (ds ++ es) → Unifies u ds × Unifies u es
+split_both u [] es h = (tt, h)
+split_both u (d ∷ ds) es h = let later = split_both u ds es h.1 in ((h.0, later.0), later.1)
 
 size_append : (ds es : List Equation) → size_of (ds ++ es) ≡ size_of ds + size_of es
 unfolding size_of
@@ -292,7 +245,7 @@ Left : ℕ → Term → ℕ → Bool → Type 0
 Left x t y old = (y ≡ x → ⊥) × ((occurs y t || old) ≡ true)
 
 left_var : (b : Bool) (x : ℕ) (t : Term) (z y : ℕ) → occurs x t ≡ false → (b ≡ false → z ≡ x → ⊥) → occurs y (cond b t (Var z)) ≡ true → Left x t y (z == y)
-unfolding Left occurs
+unfolding Left
 left_var true x t z y o f h = ((λ e. true≢false (sym h ∙ ap (λ k. occurs k t) e ∙ o)), or_left (occurs y t) (z == y) h)
 left_var false x t z y o f h = ((λ e. f refl (eqb-true z y h ∙ e)), or_right (occurs y t) (z == y) h)
 
@@ -307,7 +260,7 @@ unfolding Left
 left_two x t y a b c d f g h = elim (or_cases c d h) [ inl e ↦ ((f e).0, widen (occurs y t) a b (f e).1) | inr e ↦ ((g e).0, widen_right (occurs y t) a b (g e).1) ]
 
 mutual
-  unfolding bind occurs
+  unfolding bind
 
   left_in : (x : ℕ) (t : Term) (y : ℕ) (r : Term) → occurs x t ≡ false → occurs y (apply (bind x t) r) ≡ true → Left x t y (occurs y r)
   left_in x t y (Var z) o h = left_var (z == x) x t z y o (λ e f. eqb-false z x e f) h
@@ -353,7 +306,7 @@ by_simpler : (l r : Term) (ds es : List Equation) → Simpler l r ds → Solved 
 by_simpler l r ds es s (inl g) = inl (
   g.0,
   record {
-    unifies = (let both = split_first g.0 ds es g.1.unifies in (s.back g.0 both.0, both.1));
+    unifies = (let both = split_both g.0 ds es g.1.unifies in (s.back g.0 both.0, both.1));
     general = λ u x h. g.1.general u x (join_both u ds es (s.there u h.0) h.1);
   },
 )
@@ -363,7 +316,7 @@ by_simpler l r ds es s (inr n) = inr (λ u h. n u (join_both u ds es (s.there u 
 by_binding : (l r : Term) (x : ℕ) (t : Term) (es : List Equation) → occurs x t ≡ false → ((u : Substitution) → apply u l ≡ apply u r → u x ≡ apply u t) → ((u : Substitution) → u x ≡ apply u t → apply u l ≡ apply u r) → Solved (bind_all x t es) → Solved (record { left = l; right = r } ∷ es)
 by_binding l r x t es o f g (inl s) =
     let h = eliminate x t es s.0 o s.1 in
-    inl (after s.0 x t, record { unifies = (g (after s.0 x t) h.unifies.0, h.unifies.1); general = λ u y k. h.general u y (f u k.0, k.1) })
+    inl (after s.0 (bind x t), record { unifies = (g (after s.0 (bind x t)) h.unifies.0, h.unifies.1); general = λ u y k. h.general u y (f u k.0, k.1) })
 by_binding l r x t es o f g (inr n) = inr (λ u h. eliminate_none x t es n u (f u h.0, h.1))
 
 covers_simpler : (vs : List ℕ) (l r : Term) (ds es : List Equation) → Simpler l r ds → Covers vs (record { left = l; right = r } ∷ es) → Covers vs (ds ++ es)
@@ -398,42 +351,29 @@ solve zero vs es h c = absurd (omega arith)
 solve (suc n) vs es h c = inside n (solve n) vs h (suc (size_of es)) es (omega arith) c
 
 -- the variables of a list of equations
-mutual
-  term_vars : Term → List ℕ
-  term_vars (Var x) = x ∷ []
-  term_vars (Int z) = []
-  term_vars (Atom a) = []
-  term_vars (Comp f ts) = terms_vars ts
-
-  terms_vars : Terms → List ℕ
-  terms_vars no_terms = []
-  terms_vars (term t ts) = term_vars t ++ terms_vars ts
-
 all_vars : List Equation → List ℕ
 all_vars [] = []
-all_vars (e ∷ es) = (term_vars e.left ++ term_vars e.right) ++ all_vars es
+all_vars (e ∷ es) = (variables_of e.left ++ variables_of e.right) ++ all_vars es
 
 in_both : (xs ys : List ℕ) (n : ℕ) (a b : Bool) → (a ≡ true → has xs n ≡ true) → (b ≡ true → has ys n ≡ true) → (a || b) ≡ true → has (xs ++ ys) n ≡ true
 in_both xs ys n a b f g h = elim (or_cases a b h) [ inl e ↦ in_left xs ys n (f e) | inr e ↦ in_right xs ys n (g e) ]
 
 mutual
-  unfolding occurs term_vars
-
-  var_there : (t : Term) (x : ℕ) → occurs x t ≡ true → has (term_vars t) x ≡ true
+  var_there : (t : Term) (x : ℕ) → occurs x t ≡ true → has (variables_of t) x ≡ true
   var_there (Var y) x h = or_left (y == x) false h
   var_there (Int z) x h = h
   var_there (Atom a) x h = h
   var_there (Comp f ts) x h = vars_there ts x h
 
-  vars_there : (ts : Terms) (x : ℕ) → occurs_any x ts ≡ true → has (terms_vars ts) x ≡ true
+  vars_there : (ts : Terms) (x : ℕ) → occurs_any x ts ≡ true → has (variables_of_all ts) x ≡ true
   vars_there no_terms x h = h
-  vars_there (term t ts) x h = in_both (term_vars t) (terms_vars ts) x (occurs x t) (occurs_any x ts) (var_there t x) (vars_there ts x) h
+  vars_there (term t ts) x h = in_both (variables_of t) (variables_of_all ts) x (occurs x t) (occurs_any x ts) (var_there t x) (vars_there ts x) h
 
 all_covered : (es : List Equation) → Covers (all_vars es) es
 unfolding Covers occurs_in all_vars
 all_covered [] x h = absurd (true≢false (sym h))
-all_covered (e ∷ es) x h = in_both (term_vars e.left ++ term_vars e.right) (all_vars es) x (occurs x e.left || occurs x e.right) (occurs_in x es)
-    (in_both (term_vars e.left) (term_vars e.right) x (occurs x e.left) (occurs x e.right) (var_there e.left x) (var_there e.right x)) (all_covered es x) h
+all_covered (e ∷ es) x h = in_both (variables_of e.left ++ variables_of e.right) (all_vars es) x (occurs x e.left || occurs x e.right) (occurs_in x es)
+    (in_both (variables_of e.left) (variables_of e.right) x (occurs x e.left) (occurs x e.right) (var_there e.left x) (var_there e.right x)) (all_covered es x) h
 
 pub solved : (es : List Equation) → Solved es
 solved es = solve (suc (length (all_vars es))) (all_vars es) es (omega arith) (all_covered es)

@@ -1,15 +1,10 @@
 -- Substitutions one after the other, and a variable that becomes an integer.
 use Rattle.std.proofs.Common.{◌≡◌, ℕ, Bool, true, false, cond, ◌==◌, ℤ, List, [], ◌∷◌, ◌⊎◌, refl, ap, sym, ◌∙◌, inl, inr, eqb-true, eq-eqb}
-use Rattle.fd_language.specs.Term.{Term, Terms, Var, Int, Atom, Comp, Substitution, apply, apply_all, no_terms, term}
+use Rattle.fd_language.specs.Term.{Term, Terms, Var, Int, Atom, Comp, Substitution, apply, apply_all, after, no_terms, term}
 use Rattle.fd_language.specs.Unifier.{Equation, IsMostGeneral, Unifies}
 
--- r after s
-unfoldable pub after : Substitution → Substitution → Substitution
-after r s x = apply r (s x)
-
+-- A term under r after s is what r makes of it under s.
 mutual
-  unfolding after
-
   pub after_is : (r s : Substitution) (t : Term) → apply (after r s) t ≡ apply r (apply s t)
   after_is r s (Comp f ts) = ap (Comp f) (after_are r s ts)
   after_is r s _ = refl
@@ -18,6 +13,7 @@ mutual
   after_are r s no_terms = refl
   after_are r s (term t ts) = let a = after_is r s t in let b = after_are r s ts in cc
 
+-- A unifier is still one with another substitution after it.
 pub still_unifies : (r s : Substitution) (es : List Equation) → Unifies s es → Unifies (after r s) es
 still_unifies r s [] h = tt
 still_unifies r s (e ∷ es) h = (after_is r s e.left ∙ ap (apply r) h.0 ∙ sym (after_is r s e.right), still_unifies r s es h.1)
@@ -38,6 +34,7 @@ mutual
 unfoldable pub number_for : ℕ → ℤ → Substitution
 number_for y z x = cond (x == y) (Int z) (Var x)
 
+-- y itself is the integer then
 pub number_at : (y : ℕ) (z : ℤ) → number_for y z y ≡ Int z
 unfolding number_for
 number_at y z = rw (eq-eqb y y refl) refl

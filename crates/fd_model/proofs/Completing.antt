@@ -2,7 +2,7 @@
 use Rattle.std.proofs.Common.{◌≡◌, ℕ, pos, true, ◌==◌, List, [], ◌∷◌, refl, ap, sym, ◌∙◌, subst, inl, inr, eqb-true, Ok}
 use Rattle.std.proofs.lemmas.Bool.{or_cases, true≢false}
 use Rattle.fd_model.specs.declared.kinds.Order.{Order}
-use Rattle.fd_language.specs.Term.{Term, Var, Int, Atom, Comp, Substitution, apply}
+use Rattle.fd_language.specs.Term.{Term, Var, Int, Atom, Comp, Substitution, apply, after}
 use Rattle.fd_language.specs.Family.{has}
 use Rattle.fd_model.specs.Goal.{Program, Branch, End}
 use Rattle.fd_model.specs.Seen.{IsConsistent}
@@ -14,7 +14,7 @@ use Rattle.fd_model.specs.Answers.{answers, EndsWith, Somewhere, Comes, Settles,
 use Rattle.fd_model.specs.LabellingLaws.{IsListed, IsLabelled, LabellingAnswers}
 use Rattle.fd_model.proofs.Lists.{each_map, each_at}
 use Rattle.fd_model.proofs.Searching.{searched, IsFound, found_by}
-use Rattle.fd_language.proofs.Lemmas.{after, still_unifies, through_term}
+use Rattle.fd_language.proofs.Lemmas.{still_unifies, through_term}
 use Rattle.fd_model.proofs.Heeding.{Heeds, look_heeds, look_open, through_look}
 use Rattle.fd_model.proofs.Listing.{read_members, with_member_back, list_under}
 use Rattle.fd_model.proofs.Picking.{IsInt, AllInts, Element, element_of}
@@ -89,7 +89,6 @@ module _ (M : ℕ) (b : Branch) (o : Order) (ms : List Member) (ws : List ℕ) (
   covered_by w (Comp f ts) e h u i ints = absurd h
 
   zero_given : AllInts (after (λ x. Int (pos 0)) l.unifier) (open_ones ms)
-  unfolding after
   zero_given y h = (pos 0, ap (apply (λ x. Int (pos 0))) (open_var y h))
 
   pub ready : (prog : Program) → Settles M b.posted ws → IsReady M prog o l.list ms look ws l.read b

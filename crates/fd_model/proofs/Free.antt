@@ -2,11 +2,11 @@
 use Rattle.std.proofs.Common.{◌≡◌, ◌≢◌, ℕ, ◌≤◌, true, cond, ◌==◌, pos, List, refl, ap, sym, ◌∙◌, subst, inl, inr, eqb-true, eq-eqb}
 use Rattle.std.proofs.lemmas.Bool.{cases_Bool, true≢false}
 use Rattle.fd_model.specs.declared.kinds.Order.{Order}
-use Rattle.fd_language.specs.Term.{Term, Var, Int, Atom, Comp, Substitution, apply}
+use Rattle.fd_language.specs.Term.{Term, Var, Int, Atom, Comp, Substitution, apply, after}
 use Rattle.fd_language.specs.Family.{has}
 use Rattle.fd_model.specs.Closed.{constrained}
 use Rattle.fd_model.specs.Goal.{Branch}
-use Rattle.fd_language.proofs.Lemmas.{has_either, after, still_unifies}
+use Rattle.fd_language.proofs.Lemmas.{has_either, still_unifies}
 use Rattle.fd_model.specs.Labelling.{open_ones}
 use Rattle.fd_model.specs.Members.{Member}
 use Rattle.fd_model.specs.Satisfies.{Assignment}
@@ -75,7 +75,6 @@ module _ (M : ℕ) (b : Branch) (o : Order) (ms : List Member) (ws : List ℕ) (
   ]
 
   put_solution : n ≤ M → IsSolution M b.equations b.posted vs (put y n a)
-  unfolding after
   put_solution low = record {
     bounded = put_low y n M a low f.bounded;
     unifier = after (put_term y n f.unifier) l.unifier;

@@ -1,8 +1,6 @@
--- More equations and more posted ranges.
+-- More posted ranges.
 use Rattle.std.proofs.Common.{◌≡◌, ℕ, true, false, ◌==◌, List, [], ◌∷◌, ◌++◌, ◌⊎◌, IsTrue, ap, sym, ◌∙◌, subst, inl, inr}
 use Rattle.std.proofs.lemmas.Bool.{or_cases, or_left, or_right, cases_Bool, true≢false}
-use Rattle.fd_language.specs.Term.{Substitution}
-use Rattle.fd_language.specs.Unifier.{Equation, Unifies}
 use Rattle.fd_language.specs.Family.{has, IsSubset}
 use Rattle.fd_language.specs.Range.{Indexical, reads, set_of}
 use Rattle.fd_model.specs.Closed.{AllPosted, constrained}
@@ -11,14 +9,6 @@ use Rattle.fd_model.proofs.ListNames.{named_left, named_right, posted_left, post
 use Rattle.fd_model.specs.Satisfies.{Assignment, singles}
 use Rattle.fd_model.specs.Answers.{OneValue, Settles}
 use Rattle.fd_model.proofs.Heeding.{first_member}
-
-pub join_both : (u : Substitution) (ds es : List Equation) → Unifies u ds → Unifies u es → Unifies u (ds ++ es)
-join_both u [] es h g = g
-join_both u (d ∷ ds) es h g = (h.0, join_both u ds es h.1 g)
-
-pub split_both : (u : Substitution) (ds es : List Equation) → Unifies u (ds ++ es) → Unifies u ds × Unifies u es
-split_both u [] es h = (tt, h)
-split_both u (d ∷ ds) es h = let later = split_both u ds es h.1 in ((h.0, later.0), later.1)
 
 pub posted_both : (H : Indexical → Type 0) (ps qs : List Indexical) → AllPosted H ps → AllPosted H qs → AllPosted H (ps ++ qs)
 posted_both H [] qs h g = g

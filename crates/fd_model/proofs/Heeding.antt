@@ -11,7 +11,7 @@ use Rattle.fd_model.specs.Goal.{Branch}
 use Rattle.fd_model.specs.Seen.{IsConsistent, IsView, is_variable, set_at, by_set}
 use Rattle.fd_model.specs.Children.{look_in}
 pub use Rattle.fd_language.proofs.Lemmas.{first_member, only_member}
-use Rattle.fd_language.proofs.Lemmas.{in_left, in_right, has_high, rising_same, solved, after, still_unifies, through_term}
+use Rattle.fd_language.proofs.Lemmas.{in_left, in_right, has_high, rising_same, solved, still_unifies, through_term}
 use Rattle.fd_model.specs.Satisfies.{Assignment, singles}
 use Rattle.fd_model.specs.Answers.{IsSolution}
 use Rattle.fd_model.specs.Models.{IsModel}
@@ -126,7 +126,6 @@ module _ (M : ℕ) (b : Branch) (s : Substitution) (D : Family) (v : IsView M b.
   model = view_model M b.equations b.posted s D v ok
 
   pub look_unifies : Unifies (look_in b s D) b.equations
-  unfolding after
   look_unifies = still_unifies single s b.equations v.general.unifies
 
   pub single_set : (w n : ℕ) → has ws w ≡ true → ((k : ℕ) → has (D w) k ≡ true → k ≡ n) → D w ≡ n ∷ []

@@ -5,7 +5,7 @@ use Rattle.std.proofs.lemmas.Bool.{or_cases, or_right, cases_Bool, true≢false}
 use Rattle.fd_model.specs.declared.kinds.QueryFault.{QueryFault}
 use Rattle.fd_model.specs.declared.kinds.Order.{Order}
 use Rattle.fd_model.specs.declared.kinds.Order.TheVariants.{Leftmost, FirstFail}
-use Rattle.fd_language.specs.Term.{Term, Var, Int, Atom, Comp, Substitution, apply}
+use Rattle.fd_language.specs.Term.{Term, Var, Int, Atom, Comp, Substitution, apply, after}
 use Rattle.fd_language.specs.Unifier.{Unifies}
 use Rattle.fd_language.specs.Family.{Family, has, IsSubset, IsRising}
 use Rattle.fd_language.specs.Range.{Indexical, set_of, reads}
@@ -13,7 +13,7 @@ use Rattle.fd_model.specs.Closed.{AllPosted, constrained}
 use Rattle.fd_model.specs.Goal.{Goal, Label, Program, Branch}
 use Rattle.fd_model.specs.Seen.{IsConsistent, IsView, set_at, by_set}
 use Rattle.fd_model.specs.Children.{Gives, Faults, with_goals, Kept, KeptOffer, look_in, Children, offer, by_value, by_pick, by_listing, sets_in}
-use Rattle.fd_language.proofs.Lemmas.{has_high, has_either, in_universe, universe_rising, in_left, in_right, set_agree, after, still_unifies, through_term, number_for, number_at, number_back}
+use Rattle.fd_language.proofs.Lemmas.{has_high, has_either, in_universe, universe_rising, in_left, in_right, set_agree, still_unifies, through_term, number_for, number_at, number_back}
 use Rattle.fd_model.proofs.Unique.{one_view}
 use Rattle.fd_model.specs.Labelling.{read_list, values_by, pick, open_ones}
 use Rattle.fd_model.specs.Members.{Member}
@@ -257,7 +257,6 @@ module _ (M : ℕ) (prog : Program) (o : Order) (t : Term) (ms : List Member) (b
 
       -- the unifier that gives x the number
       inside_by : (n : ℕ) (y : ℕ) (z : ℤ) → has values n ≡ true → has vs y ≡ true → ((u : Substitution) → Unifies u (child n).equations → u y ≡ Int z) → (m : ℕ) × (m ≤ M) × (z ≡ pos m)
-      unfolding after
       inside_by n y z i h all =
           let u = after (number_for x (pos n)) s in
           let e : apply (number_for x (pos n)) (s y) ≡ Int z = all u (ap (apply (number_for x (pos n))) open_self ∙ number_at x (pos n), still_unifies (number_for x (pos n)) s b.equations v.general.unifies) in
@@ -285,7 +284,6 @@ module _ (M : ℕ) (prog : Program) (o : Order) (t : Term) (ms : List Member) (b
       ground_term n (Comp f ts) h = absurd (let e = h.1 in cc)
 
       child_ground : (n : ℕ) → (u : Substitution) × Unifies u (child n).equations × AllInts u vs
-      unfolding after
       child_ground n = (
         after (ground_at n) s,
         (ap (apply (ground_at n)) open_self ∙ ground_here n, still_unifies (ground_at n) s b.equations v.general.unifies),

@@ -12,12 +12,13 @@ pub use Rattle.fd_model.proofs.RowNames.{AllVars, collected_vars, vars_product, 
 pub use Rattle.fd_model.proofs.RowScopes.{scoped_rows}
 pub use Rattle.fd_model.proofs.PostRows.{has_map, map_has}
 pub use Rattle.fd_model.proofs.Slots.{Apart, slot_high, slot_low, slot_out}
-pub use Rattle.fd_model.proofs.Scoping.{term_renamed, body_renamed, each_wider, each_both_below, listed_below}
+pub use Rattle.fd_model.proofs.Scoping.{term_renamed, body_renamed, each_wider, each_both_below, listed_below, unifier_below}
 pub use Rattle.fd_model.proofs.Seeing.{wider}
 pub use Rattle.fd_model.proofs.ProgramScopes.{queries_scoped, clauses_scoped}
 -- Branches: what is seen of them, their models, and one run of a program.
 pub use Rattle.fd_model.proofs.Existence.{AllSound, has_view, offer_sound, one_run}
-pub use Rattle.fd_model.proofs.Growing.{constrained_either, join_both, split_both, posted_both}
+pub use Rattle.fd_language.proofs.Lemmas.{join_both, split_both}
+pub use Rattle.fd_model.proofs.Growing.{constrained_either, posted_both}
 pub use Rattle.fd_model.proofs.Heeding.{first_member, only_member}
 pub use Rattle.fd_model.proofs.Models.{consistent_from, has_general, not_empty, one_term, weaker}
 pub use Rattle.fd_model.proofs.Unique.{one_view, queries_once, run_once}

@@ -1,7 +1,7 @@
 -- The variables of a branch stay below its next fresh number.
 use Rattle.std.proofs.Common.{◌≡◌, ℕ, ◌<◌, ◌≤◌, cond, ltb, pos, List, [], ◌∷◌, ◌++◌, map, Option, Some, refl, ap, sym, ◌∙◌, inl, inr, arith, ltb-true, ltb-false, lt-ltb, le-ltb}
 use Rattle.std.proofs.lemmas.Bool.{cases_Bool}
-use Rattle.fd_language.specs.Term.{Term, Terms, Var, Int, Atom, Comp, Substitution, apply, apply_all, no_terms, term}
+use Rattle.fd_language.specs.Term.{Term, Terms, Var, Int, Atom, Comp, Substitution, apply, apply_all, no_terms, term, after}
 use Rattle.fd_language.specs.Unifier.{Equation, IsMostGeneral, Unifies}
 use Rattle.fd_language.specs.Family.{Family}
 use Rattle.fd_model.specs.Closed.{constrained}
@@ -14,7 +14,7 @@ use Rattle.fd_model.specs.Seen.{by_set, set_at}
 use Rattle.fd_model.specs.Children.{look_in}
 use Rattle.fd_model.proofs.GoalRows.{EquationsBelow}
 use Rattle.fd_model.proofs.Lists.{each_map}
-use Rattle.fd_language.proofs.Lemmas.{after, after_is, renamed_places}
+use Rattle.fd_language.proofs.Lemmas.{after_is, renamed_places}
 use Rattle.fd_model.proofs.Seeing.{wider}
 
 -- terms under substitutions
@@ -63,7 +63,6 @@ module _ (n : ℕ) (es : List Equation) (s : Substitution) (g : IsMostGeneral es
   ground_high x h = rw (le-ltb x n h) refl
 
   grounded_term : (t : Term) → TermBelow n t → apply grounded t ≡ apply ground (apply s t)
-  unfolding after
   grounded_term t b = agree n grounded (after ground s) (λ x h. grounded_low x h) t b ∙ after_is ground s t
 
   grounded_unifies : (ds : List Equation) → EquationsBelow n ds → Unifies s ds → Unifies grounded ds

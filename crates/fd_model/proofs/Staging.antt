@@ -10,7 +10,7 @@ use Rattle.fd_model.specs.Closed.{constrained}
 use Rattle.fd_model.specs.Goal.{Goal, Label, Program, Branch}
 use Rattle.fd_model.specs.Seen.{IsConsistent, IsView, set_at, by_set}
 use Rattle.fd_model.specs.Children.{look_in}
-use Rattle.fd_language.proofs.Lemmas.{has_high, has_either, in_left, in_right}
+use Rattle.fd_language.proofs.Lemmas.{has_high, has_either, in_left, in_right, join_both, split_both}
 use Rattle.fd_model.proofs.GoalRows.{Rewritten, with_ranges, numbers, Gives, FitsRow, IsPlain}
 use Rattle.fd_model.specs.Satisfies.{Assignment, singles}
 use Rattle.fd_language.specs.Lists.{Each}
@@ -18,7 +18,7 @@ use Rattle.fd_model.specs.Answers.{IsSolution, Somewhere, Settles}
 use Rattle.fd_model.proofs.Lists.{each_map, each_both, some_left, some_right}
 use Rattle.fd_model.proofs.Heeding.{solution_heeds, solution_consistent, given_listed, given_constrained, set_found, through_look, first_member}
 use Rattle.fd_model.proofs.Labels.{map_same}
-use Rattle.fd_model.proofs.Growing.{join_both, split_both, posted_both, constrained_either, settles_both, posted_moved}
+use Rattle.fd_model.proofs.Growing.{posted_both, constrained_either, settles_both, posted_moved}
 use Rattle.fd_model.proofs.ListNames.{posted_left, posted_right, named_left, named_right}
 
 -- What a goal of a flat query became, where its variables are seen by look.

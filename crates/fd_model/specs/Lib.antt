@@ -10,6 +10,7 @@ pub mod Posting
 pub mod Labelling
 pub mod Arithmetic
 pub mod Builtins
+pub mod Arities
 pub mod Children
 pub mod Lines
 pub mod Sound

@@ -2,6 +2,7 @@
 use Rattle.std.proofs.Common.{◌≡◌, ℕ, zero, suc, ◌+◌, ◌-◌, ◌<◌, ◌≤◌, refl, ap, sym, ◌∙◌, subst, arith, List, [], ◌∷◌, ◌++◌, length, map, get_or, set, take, drop, reverse, length-append}
 use Rattle.std.specs.Prelude.{All}
 use Rattle.std.proofs.lemmas.List.{reverse-append, drop-map, drop-append-le, take-append-le, length-take-le, take-append-drop, length-drop, length-reverse, take-take, set_past}
+use Rattle.std.proofs.lemmas.List.Elements.{All-drop}
 use Rattle.std.proofs.Math.Seq.{drop-append_seam}
 use Rattle.heap_cells.specs.declared.Cell.{Cell}
 use Rattle.heap_cells.specs.declared.Variable.{Variable}
@@ -21,11 +22,6 @@ drop_rest (suc a) zero xs l = absurd (omega arith)
 drop_rest (suc a) (suc b) [] l = refl
 drop_rest (suc a) (suc b) (x ∷ xs) l = drop_rest a b xs (omega arith)
 
-pub all_drop : {X : Type 0} (P : X → Type 0) (n : ℕ) (xs : List X) → All P xs → All P (drop n xs)
-all_drop P zero xs h = h
-all_drop P (suc n) [] h = h
-all_drop P (suc n) (x ∷ xs) h = all_drop P n xs (tail_of P x xs h)
-
 pub fall_drop : (top : Mark) (n : ℕ) (ms : List Mark) → Fall top ms → Fall top (drop n ms)
 fall_drop top zero ms f = f
 fall_drop top (suc n) [] f = f
@@ -44,9 +40,9 @@ reverse_front n xs l =
 pub dropped_stored : (vs : List Variable) (args : List Cell) (ss : List Structure) (trail : List Saved) (marks left : List Mark) (n : ℕ) → reverse left ≡ drop n (reverse marks) → AreStored vs args ss trail marks → AreStored vs args ss trail left
 dropped_stored vs args ss trail marks left n e k = record {
   now = k.now;
-  below = subst (All (λ m. IsHeap (marked vs args ss trail m))) (sym e) (all_drop (λ m. IsHeap (marked vs args ss trail m)) n (reverse marks) k.below);
+  below = subst (All (λ m. IsHeap (marked vs args ss trail m))) (sym e) (All-drop (λ m. IsHeap (marked vs args ss trail m)) n (reverse marks) k.below);
   held = k.held;
-  held_below = subst (All (λ (m : Mark). All (HasArgs m.args) (take m.structures ss))) (sym e) (all_drop (λ (m : Mark). All (HasArgs m.args) (take m.structures ss)) n (reverse marks) k.held_below);
+  held_below = subst (All (λ (m : Mark). All (HasArgs m.args) (take m.structures ss))) (sym e) (All-drop (λ (m : Mark). All (HasArgs m.args) (take m.structures ss)) n (reverse marks) k.held_below);
   falls = subst (Fall (lengths vs args ss trail)) (sym e) (fall_drop (lengths vs args ss trail) n (reverse marks) k.falls);
 }
 

@@ -1,6 +1,8 @@
 -- The term that each cell of a heap stands for.
-use Rattle.std.specs.Prelude.{◌≡◌, ℕ, zero, suc, ◌+◌, ◌^◌, ◌==◌, Bool, false, ◌||◌, if◌then◌else◌, List, [], ◌∷◌, length}
+use Rattle.std.specs.Prelude.{◌≡◌, ℕ, zero, suc, ◌+◌, ◌^◌, ◌==◌, false, if◌then◌else◌, List, [], ◌∷◌, length}
 use Rattle.fd_language.specs.Term.{Name, Term, Terms, Var, Int, Atom, Comp, no_terms, term, Substitution, apply}
+pub use Rattle.fd_language.specs.Term.{after}
+pub use Rattle.fd_language.specs.Variables.{occurs, occurs_any}
 use Rattle.term_pool.specs.declared.AtomId.{AtomId}
 use Rattle.heap_cells.specs.declared.Cell.{Cell}
 use Rattle.heap_cells.specs.declared.Cell.TheVariants as cell
@@ -51,25 +53,9 @@ abbrev pub KeepsTerms : Cells → Cells → Type 0
 KeepsTerms old new = (name : Naming) (c : Cell) → IsOf old c
     → term_of name new c ≡ term_of name old c
 
--- whether a variable occurs in a term
-abbrev mutual
-  pub occurs : ℕ → Term → Bool
-  occurs x (Var y) = y == x
-  occurs x (Int z) = false
-  occurs x (Atom a) = false
-  occurs x (Comp f ts) = occurs_any x ts
-
-  pub occurs_any : ℕ → Terms → Bool
-  occurs_any x no_terms = false
-  occurs_any x (term t ts) = occurs x t || occurs_any x ts
-
 -- x goes to t, and each other variable to itself
 abbrev pub one : ℕ → Term → Substitution
 one x t y = if y == x then t else Var y
-
--- r after s
-abbrev pub after : Substitution → Substitution → Substitution
-after r s x = apply r (s x)
 
 -- the variable isn't in the cell's term, under whatever names
 abbrev pub IsAbsent : Cells → ℕ → Cell → Type 0

@@ -1,7 +1,7 @@
 -- The intervals of a set are the spans that it is made of.
 use Rattle.std.proofs.Common.{◌≡◌, ℕ, zero, suc, ◌+◌, ◌-◌, ◌≤◌, Bool, true, false, ◌==◌, List, [], ◌∷◌, ◌++◌, refl, ap, sym, ◌∙◌, subst, arith, eq-eqb, ne_eqb}
 use Rattle.std.specs.Prelude.{map}
-use Rattle.domain_ranges.proofs.Lemmas.{up_append}
+use Rattle.domain_ranges.proofs.Lemmas.{members_rising}
 use Rattle.fd_language.specs.Family.{IsRising, count_up}
 use Rattle.fd_model.specs.Lines.{Interval, intervals, with_first}
 use Rattle.domain_ranges.specs.Spans.{Span, IsSpans, members}
@@ -31,17 +31,6 @@ intervals_run low (suc n) high rest r =
     let next : low + suc n + 2 ≡ suc low + n + 2 = omega arith in
     ap (with_first low) (intervals_run (suc low) n high rest (subst (λ k. IsRising k high rest) next r)) ∙ run_step low n (intervals rest)
 
-rising_from : (low m high : ℕ) (xs : List ℕ) → low ≤ m → IsRising m high xs → IsRising low high xs
-rising_from low m high [] h r = tt
-rising_from low m high (x ∷ xs) h r = (omega arith, r.1, r.2)
-
-spans_rising : (low high : ℕ) (ss : List Span) → IsSpans low high ss → IsRising low high (members ss)
-unfolding members
-spans_rising low high [] h = tt
-spans_rising low high (s ∷ ss) h =
-    rising_from low s.0 high (members (s ∷ ss)) h.0
-    (up_append s.0 (suc s.1 - s.0) high (members ss) (omega arith) (rising_from (s.0 + (suc s.1 - s.0)) (s.1 + 2) high (members ss) (omega arith) (spans_rising (s.1 + 2) high ss h.3)))
-
 pub span_intervals : (low high : ℕ) (ss : List Span) → IsSpans low high ss → intervals (members ss) ≡ map (λ s. record { low = s.0; high = s.1 }) ss
 unfolding members
 span_intervals low high [] h = refl
@@ -49,6 +38,6 @@ span_intervals low high (s ∷ ss) h =
     let one : suc s.1 - s.0 ≡ suc (s.1 - s.0) = omega arith in
     let last : s.0 + (s.1 - s.0) ≡ s.1 = omega arith in
     ap (λ n. intervals (count_up s.0 n ++ members ss)) one
-    ∙ intervals_run s.0 (s.1 - s.0) high (members ss) (subst (λ k. IsRising (k + 2) high (members ss)) (sym last) (spans_rising (s.1 + 2) high ss h.3))
+    ∙ intervals_run s.0 (s.1 - s.0) high (members ss) (subst (λ k. IsRising (k + 2) high (members ss)) (sym last) (members_rising (s.1 + 2) high ss h.3))
     ∙ ap (λ (k : ℕ). record { low = s.0; high = k } ∷ intervals (members ss)) last
     ∙ ap (λ l. record { low = s.0; high = s.1 } ∷ l) (span_intervals (s.1 + 2) high ss h.3)

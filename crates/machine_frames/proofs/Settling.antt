@@ -2,7 +2,7 @@
 use Rattle.std.proofs.Common.{◌≡◌, ◌≢◌, ℕ, zero, suc, ◌<◌, ◌≤◌, true, false, cond, nat_lt, ℤ, pos, List, [], ◌∷◌, Option, Some, None, refl, ap, sym, ◌∙◌, subst, inl, inr, arith, eq-eqb, ne_eqb}
 use Rattle.std.proofs.lemmas.Bool.{cases_Bool, cases_eq}
 use Rattle.std.proofs.lemmas.Bool.Decides.{nat_tests}
-use Rattle.fd_language.proofs.Lemmas.{apply_vars}
+use Rattle.fd_language.proofs.Lemmas.{apply_vars, after_is, number_for, number_at}
 use Rattle.fd_model.proofs.Lemmas.{test_below}
 use Rattle.fd_language.specs.Term.{Var, Substitution, apply}
 use Rattle.fd_language.specs.Unifier.{Equation}
@@ -16,7 +16,7 @@ use Rattle.heap_cells.specs.Terms.{Naming}
 use Rattle.heap_cells.specs.Valid.{IsHeap}
 use Rattle.machine_relation.specs.Heap.{after, Below}
 use Rattle.machine_relation.specs.Held.{Frame, IsHeld, IsAtRest, value_in, value_at, link_in, link_at, fixed_frame}
-use Rattle.machine_relation.proofs.Lemmas.{after_is, held_fix, number_for, number_at, functions, fixed_rest, sole_value, without_cell}
+use Rattle.machine_relation.proofs.Lemmas.{held_fix, functions, fixed_rest, sole_value, without_cell}
 use Rattle.machine_frames.specs.Frames.{frame_of, IsKept}
 use Rattle.machine_frames.proofs.Linking.{unused_cell}
 

@@ -18,7 +18,7 @@ use Rattle.fd_model.specs.LinearRows.{Expansion}
 use Rattle.fd_model.specs.Constraining.{arguments, expand, equations}
 use Rattle.fd_model.specs.ConstraintLaws.{AllFresh}
 use Rattle.fd_model.proofs.Lemmas.{has_view, one_view, scoped_rows, each_wider}
-use Rattle.fd_language.proofs.Lemmas.{two}
+use Rattle.fd_language.proofs.Lemmas.{two, after_is}
 use Rattle.machine_relation.specs.Heap.{applied_each, Of, EquationsOf}
 use Rattle.machine_relation.specs.Models.{HasModel, numbers}
 use Rattle.machine_relation.specs.Store.{Touch, posts, IsUnified}
@@ -26,7 +26,6 @@ use Rattle.machine_relation.specs.Ahead.{offered, Spends}
 use Rattle.machine_relation.specs.Held.{Frame, IsAtRest, unified_frame}
 use Rattle.machine_relation.specs.Machine.{IsAt, Choice, Waits, Walks}
 use Rattle.machine_relation.specs.Rows.{rename_products, rename_expansion, rename_row, frame_row, AreJoined, joined_frame}
-use Rattle.machine_relation.proofs.Growing.{after_is}
 use Rattle.machine_relation.proofs.Holding.{below_split}
 use Rattle.machine_relation.proofs.Renaming.{of_below, list_agree}
 use Rattle.machine_relation.proofs.Cells.{place_from, place_old, place_above}

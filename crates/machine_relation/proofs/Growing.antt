@@ -2,23 +2,8 @@
 use Rattle.std.proofs.Common.{◌≡◌, ℕ, ◌<◌, List, [], ◌∷◌, ◌++◌, refl, ap, sym, ◌∙◌}
 use Rattle.fd_language.specs.Term.{Term, Terms, Var, Int, Atom, Comp, Substitution, apply, apply_all, no_terms, term}
 use Rattle.fd_language.specs.Unifier.{Equation, IsMostGeneral, Unifies}
-use Rattle.fd_model.proofs.Lemmas.{join_both, split_both}
+use Rattle.fd_language.proofs.Lemmas.{after_is, still_unifies, through_term, join_both, split_both}
 use Rattle.machine_relation.specs.Heap.{after, applied_each, Of, AllOf, EquationsOf, Below, StandsFor}
-
-mutual
-  pub after_is : (r s : Substitution) (t : Term) → apply (after r s) t ≡ apply r (apply s t)
-  after_is r s (Var x) = refl
-  after_is r s (Int z) = refl
-  after_is r s (Atom a) = refl
-  after_is r s (Comp f ts) = ap (Comp f) (after_are r s ts)
-
-  pub after_are : (r s : Substitution) (ts : Terms) → apply_all (after r s) ts ≡ apply_all r (apply_all s ts)
-  after_are r s no_terms = refl
-  after_are r s (term t ts) = let a = after_is r s t in let b = after_are r s ts in cc
-
-pub still_unifies : (r s : Substitution) (es : List Equation) → Unifies s es → Unifies (after r s) es
-still_unifies r s [] h = tt
-still_unifies r s (e ∷ es) h = (after_is r s e.left ∙ ap (apply r) h.0 ∙ sym (after_is r s e.right), still_unifies r s es h.1)
 
 -- two substitutions that agree on P
 mutual
@@ -35,18 +20,6 @@ mutual
 pub agree_each : (P : ℕ → Type 0) (s u : Substitution) → ((x : ℕ) → P x → s x ≡ u x) → (es : List Equation) → EquationsOf P es → Unifies s es → Unifies u es
 agree_each P s u h [] b g = tt
 agree_each P s u h (e ∷ es) b g = (sym (agree P s u h e.left b.0.0) ∙ g.0 ∙ agree P s u h e.right b.0.1, agree_each P s u h es b.1 g.1)
-
--- a most general unifier on whole terms
-mutual
-  pub on_terms : (es : List Equation) (s u : Substitution) → IsMostGeneral es s → Unifies u es → (r : Term) → apply u (apply s r) ≡ apply u r
-  on_terms es s u g h (Var y) = g.general u y h
-  on_terms es s u g h (Int z) = refl
-  on_terms es s u g h (Atom a) = refl
-  on_terms es s u g h (Comp f rs) = ap (Comp f) (on_lists es s u g h rs)
-
-  pub on_lists : (es : List Equation) (s u : Substitution) → IsMostGeneral es s → Unifies u es → (rs : Terms) → apply_all u (apply_all s rs) ≡ apply_all u rs
-  on_lists es s u g h no_terms = refl
-  on_lists es s u g h (term r rs) = let a = on_terms es s u g h r in let b = on_lists es s u g h rs in cc
 
 -- terms under substitutions
 mutual
@@ -99,6 +72,6 @@ more es ds P h look new st b g cells = record {
   through = λ u k.
       let both = split_both u ds es k in
       let old = st.through u both.1 in
-      (old.0, λ x l. on_terms (applied_each look ds) new old.0 g (unify_applied old.0 look u P ds old.1 b both.0) (look x) ∙ old.1 x l);
+      (old.0, λ x l. through_term new old.0 (λ y. g.general old.0 y (unify_applied old.0 look u P ds old.1 b both.0)) (look x) ∙ old.1 x l);
   cells = λ x l. still_of (λ c. c < h) (λ c. c < h) new cells (look x) (st.cells x l);
 }

@@ -13,8 +13,9 @@ use Rattle.machine_relation.specs.Heap.{after, applied_each, EquationsOf, Below}
 use Rattle.machine_relation.specs.Models.{HasModel, numbers}
 use Rattle.machine_relation.specs.Store.{Touch, posts, IsUnified, IsStored, ArePosted}
 use Rattle.machine_relation.specs.Held.{Frame, IsHeld, unified_frame}
+use Rattle.fd_language.proofs.Lemmas.{number_for}
 use Rattle.machine_relation.proofs.Growing.{more, below_both, more_each}
-use Rattle.machine_relation.proofs.Models.{weaker, sure_grown, with_numbers, without_numbers, number_for}
+use Rattle.machine_relation.proofs.Models.{weaker, sure_grown, with_numbers, without_numbers}
 use Rattle.machine_relation.proofs.Touching.{unified, Holds}
 use Rattle.machine_relation.proofs.Posting.{posted}
 use Rattle.machine_relation.proofs.Storing.{bound, without_cell, number_other}

@@ -21,7 +21,7 @@ use Rattle.machine_relation.specs.Held.{Frame, IsAtRest}
 use Rattle.machine_relation.specs.Machine.{Choice, values, Walks, Returns}
 use Rattle.machine_relation.specs.Shown.{cell_set}
 use Rattle.machine_relation.specs.Labelling.{by_listing, by_picked, Labelled, labels, labelled, by_labelled, frame_label}
-use Rattle.machine_relation.proofs.Growing.{after_is}
+use Rattle.fd_language.proofs.Lemmas.{after_is}
 use Rattle.machine_relation.proofs.Holding.{below_split}
 use Rattle.machine_relation.proofs.Renaming.{of_below}
 use Rattle.machine_relation.proofs.Listing.{label_in}

@@ -8,7 +8,8 @@ pub use Rattle.machine_relation.proofs.Forgetting.{same_model, stored_forget, st
 -- The texts, labellings and rows of constraints by a frame whose store is at rest are those by the branch's view.
 pub use Rattle.machine_relation.proofs.FrameTexts.{Known, cell, cell_from, found_same, label_done, label_faults, label_there, line_same, row_cell, row_same, written_same}
 -- One more equation, and one more variable, on a heap.
-pub use Rattle.machine_relation.proofs.Growing.{after_are, after_is, agree, agree_all, agree_each, below_both, more_all, more_each, more_of, still_of, unify_applied}
+pub use Rattle.fd_language.proofs.Lemmas.{after_are, after_is}
+pub use Rattle.machine_relation.proofs.Growing.{agree, agree_all, agree_each, below_both, more_all, more_each, more_of, still_of, unify_applied}
 -- The steps of a frame that stands for equations and ranges.
 pub use Rattle.machine_relation.proofs.Holding.{held_fix, stored_posts}
 -- Ranges on cells that a store links, as ranges of a branch that are posted.
@@ -18,8 +19,7 @@ pub use Rattle.machine_relation.proofs.Labels.{row_by}
 -- A labelling by other names of the open variables, which have the same values.
 pub use Rattle.machine_relation.proofs.Listing.{label_in}
 -- Models under fewer equations, and under the integers that they give.
-unfoldable pub use Rattle.machine_relation.proofs.Models.{number_for}
-pub use Rattle.machine_relation.proofs.Models.{front, number_at, ungrown}
+pub use Rattle.machine_relation.proofs.Models.{front, ungrown}
 -- From the machine's steps to its events, and what falls with each step.
 pub use Rattle.machine_relation.proofs.Next.{behind_other}
 -- Linked cells that take integers, as one unification.
@@ -31,7 +31,7 @@ pub use Rattle.machine_relation.proofs.PostGoals.{post_same}
 -- Rows of goals `T in r` under other names of their variables.
 pub use Rattle.machine_relation.proofs.PostRenaming.{functions, need_renamed, places_renamed, range_filled}
 -- One more range on a branch and on the store.
-pub use Rattle.machine_relation.proofs.Posting.{by_shown, holds_agree, new_or_old, one_left, one_back, slot_there, slot_back}
+pub use Rattle.machine_relation.proofs.Posting.{by_shown, holds_agree, pick, pick_named, pick_other, pick_rising, new_or_old, one_left, one_back, slot_there, slot_back}
 -- The steps of goals `T in r` over cells: the machine reads its own terms, links the range's cells, and binds the fresh cells to their integers.
 pub use Rattle.machine_relation.proofs.RangeGoals.{IsRangeRow, only_integers, plain, post_as_row, range_plain, range_row}
 -- Goals under renamings, and the variables that stand in them.
@@ -51,7 +51,7 @@ pub use Rattle.machine_relation.proofs.Storing.{extended, sole_value}
 pub use Rattle.machine_relation.proofs.Touching.{as_equations, as_posts, set_term, set_term_int, unified}
 -- A frame whose store is at rest shows what is seen in the branch.
 pub use Rattle.machine_relation.proofs.Views.{view_kind}
--- The steps of a machine that walks over goals.
+-- A fit branch without a model is not consistent.
 pub use Rattle.machine_relation.proofs.Walking.{gone_by}
 -- A constraint by the heap's terms and the store's links.
 pub use Rattle.machine_relation.proofs.Constraints.{was_row}

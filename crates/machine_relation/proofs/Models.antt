@@ -1,5 +1,5 @@
 -- Models under fewer equations, and under the integers that they give.
-use Rattle.std.proofs.Common.{◌≡◌, ℕ, Bool, true, false, cond, ◌==◌, ℤ, pos, List, [], ◌∷◌, ◌++◌, refl, ap, sym, ◌∙◌, subst, inl, inr, ◌⊎◌, eqb-true, eq-eqb}
+use Rattle.std.proofs.Common.{◌≡◌, ℕ, Bool, true, false, cond, ◌==◌, ℤ, pos, List, [], ◌∷◌, ◌++◌, refl, ap, sym, ◌∙◌, subst, inl, inr, ◌⊎◌, eqb-true}
 use Rattle.fd_language.specs.Term.{Term, Terms, Var, Int, Atom, Comp, Name, Substitution, apply, apply_all}
 use Rattle.fd_language.specs.Unifier.{Equation, IsMostGeneral, Unifies}
 use Rattle.fd_language.specs.Family.{Family, has, IsSubset, IsInside}
@@ -7,13 +7,13 @@ use Rattle.fd_language.specs.Range.{Indexical, set_of}
 use Rattle.fd_model.specs.Closed.{AllPosted, constrained}
 use Rattle.fd_model.specs.Seen.{IsConsistent}
 use Rattle.fd_language.specs.Monotonicity.{IsMonotone}
-use Rattle.fd_model.proofs.Lemmas.{greatest_for, closed_either, posted_left, posted_right, named_left, named_right, join_both, split_both, one_term, not_empty, has_general}
-use Rattle.fd_language.proofs.Lemmas.{solved}
+use Rattle.fd_model.proofs.Lemmas.{greatest_for, closed_either, posted_left, posted_right, named_left, named_right, one_term, not_empty, has_general}
+use Rattle.fd_language.proofs.Lemmas.{solved, bound_at, join_both, split_both, still_unifies, through_term, number_for, number_at, number_back}
 use Rattle.fd_model.specs.Children.{is_number}
 use Rattle.fd_model.specs.Models.{IsModel}
 use Rattle.machine_relation.specs.Heap.{after, applied_each}
 use Rattle.machine_relation.specs.Models.{Fix, numbers, Sure}
-use Rattle.machine_relation.proofs.Growing.{still_unifies, applied_back, on_terms}
+use Rattle.machine_relation.proofs.Growing.{applied_back}
 
 -- consistent branches have models, and the greatest of them
 pub model_from : (M : ℕ) (es : List Equation) (ps : List Indexical) → AllPosted (λ p. IsMonotone M p.range) ps → IsConsistent M es ps → (S : Family) × IsModel M es ps S × ((T : Family) → IsModel M es ps T → IsInside T S)
@@ -59,46 +59,28 @@ front M qs rs T m = weaker M [] [] (qs ++ rs) qs T (λ u h. h) (posted_left (λ 
 
 pub apply_general : (es ds : List Equation) (s u : Substitution) → IsMostGeneral es s → Unifies u es → Unifies u ds → Unifies u (applied_each s ds)
 apply_general es [] s u g h k = tt
-apply_general es (d ∷ ds) s u g h k = (on_terms es s u g h d.left ∙ k.0 ∙ sym (on_terms es s u g h d.right), apply_general es ds s u g h k.1)
+apply_general es (d ∷ ds) s u g h k = let through = through_term s u (λ y. g.general u y h) in (through d.left ∙ k.0 ∙ sym (through d.right), apply_general es ds s u g h k.1)
 
 -- most general unifiers of a list that grows
 pub grown_general : (es ds : List Equation) (s t : Substitution) → IsMostGeneral es s → IsMostGeneral (applied_each s ds) t → IsMostGeneral (ds ++ es) (after t s)
 grown_general es ds s t g h = record {
   unifies = join_both (after t s) ds es (applied_back t s ds h.unifies) (still_unifies t s es g.unifies);
-  general = λ u x k. (let both = split_both u ds es k in on_terms (applied_each s ds) t u h (apply_general es ds s u g both.1 both.0) (s x) ∙ g.general u x both.1);
+  general = λ u x k. (let both = split_both u ds es k in through_term t u (λ y. h.general u y (apply_general es ds s u g both.1 both.0)) (s x) ∙ g.general u x both.1);
 }
 
--- y goes to the integer
-unfoldable pub number_for : ℕ → ℤ → Substitution
-number_for y z x = cond (x == y) (Int z) (Var x)
-
-pub number_at : (y : ℕ) (z : ℤ) → number_for y z y ≡ Int z
-unfolding number_for
-number_at y z = rw (eq-eqb y y refl) refl
-
-number_case : (b : Bool) (u : Substitution) (x y : ℕ) (z : ℤ) → u y ≡ Int z → (b ≡ true → x ≡ y) → apply u (cond b (Int z) (Var x)) ≡ u x
-number_case true u x y z e f = sym e ∙ ap u (sym (f refl))
-number_case false u x y z e f = refl
-
+-- a variable that becomes an integer
 pub number_general : (y : ℕ) (z : ℤ) → IsMostGeneral (record { left = Var y; right = Int z } ∷ []) (number_for y z)
 unfolding number_for
 number_general y z = record {
   unifies = (number_at y z, tt);
-  general = λ u x h. number_case (x == y) u x y z h.0 (eqb-true x y);
+  general = λ u x h. bound_at (x == y) u y x (Int z) h.0 (eqb-true x y);
 }
 
-pub number_cases : (b : Bool) (x : ℕ) (z : ℤ) (t : Term) → cond b (Int z) (Var x) ≡ t → ((b ≡ true) × (t ≡ Int z)) ⊎ ((b ≡ false) × (t ≡ Var x))
+number_cases : (b : Bool) (x : ℕ) (z : ℤ) (t : Term) → cond b (Int z) (Var x) ≡ t → ((b ≡ true) × (t ≡ Int z)) ⊎ ((b ≡ false) × (t ≡ Var x))
 number_cases true x z t e = inl (refl, sym e)
 number_cases false x z t e = inr (refl, sym e)
 
 -- what the integer changes in a term
-int_back : (y : ℕ) (z k : ℤ) (t : Term) → apply (number_for y z) t ≡ Int k → ((t ≡ Var y) × (z ≡ k)) ⊎ (t ≡ Int k)
-unfolding number_for
-int_back y z k (Var x) e = elim (number_cases (x == y) x z (Int k) e) [ inl h ↦ inl (ap Var (eqb-true x y h.0), let f : z ≡ k = (let g = h.1 in cc) in f) | inr h ↦ absurd (let g = h.1 in cc) ]
-int_back y z k (Int j) e = inr e
-int_back y z k (Atom a) e = absurd (cc)
-int_back y z k (Comp f ts) e = absurd (cc)
-
 var_back : (y : ℕ) (z : ℤ) (w : ℕ) (t : Term) → apply (number_for y z) t ≡ Var w → t ≡ Var w
 unfolding number_for
 var_back y z w (Var x) e = elim (number_cases (x == y) x z (Var w) e) [ inl h ↦ absurd (let g = h.1 in cc) | inr h ↦ sym h.1 ]
@@ -146,7 +128,7 @@ module _ (M : ℕ) (es : List Equation) (ps : List Indexical) (S : Family) (m : 
         closed = record {
           family = m.closed.family;
           posted = m.closed.posted;
-          values = λ v z k d h i. elim (int_back y (pos n) z (m.unifier v) h) [
+          values = λ v z k d h i. elim (number_back y (pos n) z (m.unifier v) h) [
             | inl j ↦ ap pos (only k (subst (λ l. has l k ≡ true) (m.closed.same v x y d c j.0 e) i)) ∙ j.1
             | inr j ↦ m.closed.values v z k d j i
           ];

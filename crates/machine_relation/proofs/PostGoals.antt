@@ -5,16 +5,15 @@ use Rattle.fd_language.specs.declared.range_node.Need.{Need}
 use Rattle.fd_language.specs.Term.{Term, Var, Int, Atom, Comp}
 use Rattle.fd_language.specs.Unifier.{Equation}
 use Rattle.fd_language.specs.Family.{has}
-use Rattle.fd_language.specs.Range.{Range, Span, One, Dom, Union, Inter, Outside, Plus, Minus, Times, Over, Expr, Number, Infinity, Param, Min, Max, Val, Add, Sub, Mul, DivDown, DivUp}
+use Rattle.fd_language.specs.Range.{Range}
 use Rattle.fd_language.specs.RangeRenaming.{rename_range}
-use Rattle.fd_language.specs.Check.{fill, fill_range}
+use Rattle.fd_language.specs.Check.{fill_range}
 use Rattle.fd_language.specs.Needs.{need_of}
-use Rattle.fd_language.specs.Places.{Place, one_place, expr_places, range_places}
+use Rattle.fd_language.specs.Places.{Place, one_place, range_places}
 use Rattle.fd_model.specs.Posting.{offence_at, or_later, first_offence, is_integer, integers_at, slot, slot_equations, integer_of, unless_offence, post_at, post}
 use Rattle.fd_language.specs.Variables.{TermBelow}
 use Rattle.fd_model.specs.Sound.{PlacesBelow, RangeBelow}
-use Rattle.fd_language.proofs.Lemmas.{two}
-use Rattle.machine_relation.proofs.Renaming.{places_split}
+use Rattle.fd_language.proofs.Lemmas.{two, each_map, filled_agree}
 use Rattle.machine_relation.proofs.Views.{SameKind}
 
 same_offence : (need : ℕ → Need) (p : Place) (t u : Term) → SameKind t u → offence_at need p t ≡ offence_at need p u
@@ -90,39 +89,14 @@ module _ (n : ℕ) (look other : ℕ → Term) (kinds : (v : ℕ) → v < n → 
   same_value : (v : ℕ) → v < n → integer_of (look v) ≡ integer_of (other v)
   same_value v l = (same_integer (look v) (other v) (kinds v l)).1
 
-  both : {A B C : Type 0} (op : A → B → C) {a a' : A} {b b' : B} (ps qs : List Place) → (PlacesBelow n ps → a ≡ a') → (PlacesBelow n qs → b ≡ b') → PlacesBelow n (ps ++ qs) → op a b ≡ op a' b'
-  both op ps qs i j k = let h = places_split n ps qs k in two op (i h.0) (j h.1)
-
   abbrev here : ℕ → ℤ
   here y = integer_of (look y)
 
   abbrev there : ℕ → ℤ
   there y = integer_of (other y)
 
-  same_fill : (e : Expr) → PlacesBelow n (expr_places e) → fill here e ≡ fill there e
-  same_fill (Number z) b = refl
-  same_fill Infinity b = refl
-  same_fill (Param x) b = ap Number (same_value x b.0)
-  same_fill (Min y) b = refl
-  same_fill (Max y) b = refl
-  same_fill (Val y) b = refl
-  same_fill (Add a c) b = both Add (expr_places a) (expr_places c) (same_fill a) (same_fill c) b
-  same_fill (Sub a c) b = both Sub (expr_places a) (expr_places c) (same_fill a) (same_fill c) b
-  same_fill (Mul a c) b = both Mul (expr_places a) (expr_places c) (same_fill a) (same_fill c) b
-  same_fill (DivDown a c) b = both DivDown (expr_places a) (expr_places c) (same_fill a) (same_fill c) b
-  same_fill (DivUp a c) b = both DivUp (expr_places a) (expr_places c) (same_fill a) (same_fill c) b
-
   same_range : (r : Range) → PlacesBelow n (range_places r) → fill_range here r ≡ fill_range there r
-  same_range (Span a c) b = both Span (expr_places a) (expr_places c) (same_fill a) (same_fill c) b
-  same_range (One t) b = ap One (same_fill t b)
-  same_range (Dom y) b = refl
-  same_range (Union r q) b = both Union (range_places r) (range_places q) (same_range r) (same_range q) b
-  same_range (Inter r q) b = both Inter (range_places r) (range_places q) (same_range r) (same_range q) b
-  same_range (Outside r) b = ap Outside (same_range r b)
-  same_range (Plus r c) b = both Plus (range_places r) (expr_places c) (same_range r) (same_fill c) b
-  same_range (Minus r c) b = both Minus (range_places r) (expr_places c) (same_range r) (same_fill c) b
-  same_range (Times r c) b = both Times (range_places r) (expr_places c) (same_range r) (same_fill c) b
-  same_range (Over r c) b = both Over (range_places r) (expr_places c) (same_range r) (same_fill c) b
+  same_range r b = filled_agree here there r (each_map (λ (p : Place). p.variable < n) (λ p. here p.variable ≡ there p.variable) (λ p l. same_value p.variable l) (range_places r) b)
 
   same_at : (ps : List Place) (x : ℕ) (es : List Equation) (m : ℕ) (r : Range) → PlacesBelow n ps → RangeBelow n r → post_at look ps x es m r ≡ post_at other ps x es m r
   same_at ps x es m r b c =

@@ -1,15 +1,16 @@
 -- Rows of goals `T in r` under other names of their variables.
 use Rattle.std.proofs.Common.{◌≡◌, ℕ, ◌+◌, ◌≤◌, Bool, true, false, cond, ◌||◌, ◌&&◌, ◌==◌, ℤ, List, [], ◌∷◌, ◌++◌, map, refl, ap, sym, ◌∙◌, inl, inr, eqb-true, eq-eqb}
+use Rattle.std.specs.Prelude.{flat_map}
 use Rattle.std.proofs.lemmas.Bool.{cases_Bool, true≢false}
 use Rattle.std.proofs.lemmas.List.{map-append}
 use Rattle.fd_language.specs.declared.range_node.Need.{Need}
 use Rattle.fd_language.specs.declared.range_node.Need.TheVariants.{Divisor}
-use Rattle.fd_language.specs.Range.{Range, Span, One, Dom, Union, Inter, Outside, Plus, Minus, Times, Over, Expr, Number, Infinity, Param, Min, Max, Val, Add, Sub, Mul, DivDown, DivUp}
-use Rattle.fd_language.specs.RangeRenaming.{rename_expr, rename_range}
-use Rattle.fd_language.specs.Check.{fill, fill_range}
+use Rattle.fd_language.specs.Range.{Range, Span, One, Dom, Union, Inter, Outside, Plus, Minus, Times, Over, Expr, Number, Infinity, Param, Min, Max, Val, Add, Sub, Mul, DivDown, DivUp, Leaf, leaf, leaves}
+use Rattle.fd_language.specs.RangeRenaming.{rename_expr, rename_range, renaming}
+use Rattle.fd_language.specs.Check.{fill_range, filling}
 use Rattle.fd_language.specs.Needs.{is_literal, quotient_asks, expr_asks, over_asks, asks, stronger, strongest, need_of}
-use Rattle.fd_language.specs.Places.{Place, expr_places, range_places}
-use Rattle.fd_language.proofs.Lemmas.{two}
+use Rattle.fd_language.specs.Places.{Place, place_at, range_places}
+use Rattle.fd_language.proofs.Lemmas.{two, range_leaves, renamed_leaves, new_twice}
 
 -- functions that agree everywhere are one
 pub functions : {A B : Type 0} {f g : A → B} → ((x : A) → f x ≡ g x) → f ≡ g
@@ -30,33 +31,11 @@ module _ (g : ℕ → ℕ) (apart : (v w : ℕ) → g v ≡ g w → v ≡ w) whe
   ]
 
   -- places
-  both_places : (xs ys : List Place) {xs' ys' : List Place} → xs' ≡ map (rename_place g) xs → ys' ≡ map (rename_place g) ys → xs' ++ ys' ≡ map (rename_place g) (xs ++ ys)
-  both_places xs ys e k = two (λ a b. a ++ b) e k ∙ sym (map-append (rename_place g) xs ys)
-
-  expr_places_renamed : (e : Expr) → expr_places (rename_expr g e) ≡ map (rename_place g) (expr_places e)
-  expr_places_renamed (Number z) = refl
-  expr_places_renamed Infinity = refl
-  expr_places_renamed (Param x) = refl
-  expr_places_renamed (Min y) = refl
-  expr_places_renamed (Max y) = refl
-  expr_places_renamed (Val y) = refl
-  expr_places_renamed (Add a b) = both_places (expr_places a) (expr_places b) (expr_places_renamed a) (expr_places_renamed b)
-  expr_places_renamed (Sub a b) = both_places (expr_places a) (expr_places b) (expr_places_renamed a) (expr_places_renamed b)
-  expr_places_renamed (Mul a b) = both_places (expr_places a) (expr_places b) (expr_places_renamed a) (expr_places_renamed b)
-  expr_places_renamed (DivDown a b) = both_places (expr_places a) (expr_places b) (expr_places_renamed a) (expr_places_renamed b)
-  expr_places_renamed (DivUp a b) = both_places (expr_places a) (expr_places b) (expr_places_renamed a) (expr_places_renamed b)
-
   pub places_renamed : (r : Range) → range_places (rename_range g r) ≡ map (rename_place g) (range_places r)
-  places_renamed (Span a b) = both_places (expr_places a) (expr_places b) (expr_places_renamed a) (expr_places_renamed b)
-  places_renamed (One t) = expr_places_renamed t
-  places_renamed (Dom y) = refl
-  places_renamed (Union r q) = both_places (range_places r) (range_places q) (places_renamed r) (places_renamed q)
-  places_renamed (Inter r q) = both_places (range_places r) (range_places q) (places_renamed r) (places_renamed q)
-  places_renamed (Outside r) = places_renamed r
-  places_renamed (Plus r c) = both_places (range_places r) (expr_places c) (places_renamed r) (expr_places_renamed c)
-  places_renamed (Minus r c) = both_places (range_places r) (expr_places c) (places_renamed r) (expr_places_renamed c)
-  places_renamed (Times r c) = both_places (range_places r) (expr_places c) (places_renamed r) (expr_places_renamed c)
-  places_renamed (Over r c) = both_places (range_places r) (expr_places c) (places_renamed r) (expr_places_renamed c)
+  places_renamed r = renamed_leaves place_at g r ∙ range_leaves (λ l. place_at (leaf l.role (g l.variable))) r ∙ of_leaves (leaves r) ∙ ap (map (rename_place g)) (sym (range_leaves place_at r)) where
+    of_leaves : (ls : List Leaf) → flat_map (λ l. place_at (leaf l.role (g l.variable))) ls ≡ map (rename_place g) (flat_map place_at ls)
+    of_leaves [] = refl
+    of_leaves (l ∷ ls) = ap (λ ps. place_at (leaf l.role (g l.variable)) ++ ps) (of_leaves ls)
 
   -- needs
   literal_renamed : (e : Expr) → is_literal (rename_expr g e) ≡ is_literal e
@@ -149,27 +128,5 @@ module _ (g : ℕ → ℕ) (apart : (v w : ℕ) → g v ≡ g w → v ≡ w) whe
 
   -- parameters
   module _ (p : ℕ → ℤ) where
-    fill_renamed : (e : Expr) → fill p (rename_expr g e) ≡ rename_expr g (fill (λ y. p (g y)) e)
-    fill_renamed (Number z) = refl
-    fill_renamed Infinity = refl
-    fill_renamed (Param x) = refl
-    fill_renamed (Min y) = refl
-    fill_renamed (Max y) = refl
-    fill_renamed (Val y) = refl
-    fill_renamed (Add a b) = two Add (fill_renamed a) (fill_renamed b)
-    fill_renamed (Sub a b) = two Sub (fill_renamed a) (fill_renamed b)
-    fill_renamed (Mul a b) = two Mul (fill_renamed a) (fill_renamed b)
-    fill_renamed (DivDown a b) = two DivDown (fill_renamed a) (fill_renamed b)
-    fill_renamed (DivUp a b) = two DivUp (fill_renamed a) (fill_renamed b)
-
     pub range_filled : (r : Range) → fill_range p (rename_range g r) ≡ rename_range g (fill_range (λ y. p (g y)) r)
-    range_filled (Span a b) = two Span (fill_renamed a) (fill_renamed b)
-    range_filled (One t) = ap One (fill_renamed t)
-    range_filled (Dom y) = refl
-    range_filled (Union r q) = two Union (range_filled r) (range_filled q)
-    range_filled (Inter r q) = two Inter (range_filled r) (range_filled q)
-    range_filled (Outside r) = ap Outside (range_filled r)
-    range_filled (Plus r c) = two Plus (range_filled r) (fill_renamed c)
-    range_filled (Minus r c) = two Minus (range_filled r) (fill_renamed c)
-    range_filled (Times r c) = two Times (range_filled r) (fill_renamed c)
-    range_filled (Over r c) = two Over (range_filled r) (fill_renamed c)
+    range_filled r = new_twice (filling p) (renaming g) r ∙ sym (new_twice (renaming g) (filling (λ y. p (g y))) r)

@@ -52,11 +52,12 @@ holds_agree M T S (p ∷ ps) h g = (
 )
 
 -- the sets of the named variables, where one of them has the slot k
-pick : (ℕ → ℕ) → Family → Family → List ℕ → ℕ → List ℕ
+pub pick : (ℕ → ℕ) → Family → Family → List ℕ → ℕ → List ℕ
 pick f S T [] k = T k
 pick f S T (v ∷ vs) k = cond (f v == k) (S v) (pick f S T vs k)
 
-pick_named : (f : ℕ → ℕ) (S T : Family) (vs : List ℕ) (v : ℕ) → ((w : ℕ) → has vs w ≡ true → f w ≡ f v → S w ≡ S v) → has vs v ≡ true → pick f S T vs (f v) ≡ S v
+-- a named variable has its own set at its slot, where all that have the slot have one set
+pub pick_named : (f : ℕ → ℕ) (S T : Family) (vs : List ℕ) (v : ℕ) → ((w : ℕ) → has vs w ≡ true → f w ≡ f v → S w ≡ S v) → has vs v ≡ true → pick f S T vs (f v) ≡ S v
 unfolding pick
 pick_named f S T [] v one c = absurd (true≢false (sym c))
 pick_named f S T (w ∷ vs) v one c = elim (cases_Bool (f w == f v)) [
@@ -64,7 +65,8 @@ pick_named f S T (w ∷ vs) v one c = elim (cases_Bool (f w == f v)) [
   | inr e ↦ rw e (pick_named f S T vs v (λ u d. one u (or_right (w == u) (has vs u) d)) (elim (or_cases (w == v) (has vs v) c) [ inl g ↦ absurd (true≢false (sym (eq-eqb (f w) (f v) (ap f (eqb-true w v g))) ∙ e)) | inr g ↦ g ]))
 ]
 
-pick_other : (f : ℕ → ℕ) (S T : Family) (vs : List ℕ) (k : ℕ) → ((w : ℕ) → has vs w ≡ true → f w ≡ k → S w ≡ T k) → pick f S T vs k ≡ T k
+-- a slot whose named variables have its old set keeps it
+pub pick_other : (f : ℕ → ℕ) (S T : Family) (vs : List ℕ) (k : ℕ) → ((w : ℕ) → has vs w ≡ true → f w ≡ k → S w ≡ T k) → pick f S T vs k ≡ T k
 unfolding pick
 pick_other f S T [] k one = refl
 pick_other f S T (w ∷ vs) k one = elim (cases_Bool (f w == k)) [
@@ -72,7 +74,8 @@ pick_other f S T (w ∷ vs) k one = elim (cases_Bool (f w == k)) [
   | inr e ↦ rw e (pick_other f S T vs k (λ u d. one u (or_right (w == u) (has vs u) d)))
 ]
 
-pick_rising : (M : ℕ) (f : ℕ → ℕ) (S T : Family) (vs : List ℕ) → IsFamily M S → IsFamily M T → IsFamily M (pick f S T vs)
+-- the sets so picked are a family
+pub pick_rising : (M : ℕ) (f : ℕ → ℕ) (S T : Family) (vs : List ℕ) → IsFamily M S → IsFamily M T → IsFamily M (pick f S T vs)
 unfolding pick
 pick_rising M f S T [] a b = b
 pick_rising M f S T (v ∷ vs) a b = let later = pick_rising M f S T vs a b in record { rising = λ k. either (f v == k) (S v) (pick f S T vs k) (a.rising v) (later.rising k) }

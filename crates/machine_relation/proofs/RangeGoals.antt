@@ -1,16 +1,17 @@
 -- A goal `T in r` as a row: its range on plain variables, and the fresh variables of the integers that it names.
 use Rattle.std.proofs.Common.{◌≡◌, ℕ, suc, ◌+◌, ◌<◌, ◌≤◌, Bool, true, false, cond, not, ◌||◌, ◌==◌, ℤ, List, [], ◌∷◌, ◌++◌, length, map, Option, Some, None, refl, ap, sym, ◌∙◌, subst, inl, inr, ◌⊎◌, arith, eqb-true, eq-eqb, Result, Ok, Err}
+use Rattle.std.specs.Prelude.{flat_map}
 use Rattle.std.proofs.lemmas.Bool.{cases_Bool, or_cases, or_left, or_right, true≢false}
 use Rattle.fd_model.specs.declared.kinds.QueryFault.{QueryFault}
 use Rattle.fd_language.specs.declared.range_node.Need.{Need}
 use Rattle.fd_language.specs.Term.{Term, Var, Int, Atom, Comp, Substitution}
 use Rattle.fd_language.specs.Unifier.{Equation}
 use Rattle.fd_language.specs.Family.{has}
-use Rattle.fd_language.specs.Range.{Range, Span, One, Dom, Union, Inter, Outside, Plus, Minus, Times, Over, Expr, Number, Infinity, Param, Min, Max, Val, Add, Sub, Mul, DivDown, DivUp, Indexical, reads, expr_reads}
+use Rattle.fd_language.specs.Range.{Range, Indexical, Leaf, Role, leaf, a_parameter, a_min, a_max, a_val, a_dom, leaves, reads, read_at}
 use Rattle.fd_language.specs.RangeRenaming.{rename_range}
-use Rattle.fd_language.specs.Check.{fill, fill_range}
+use Rattle.fd_language.specs.Check.{fill_range, filling}
 use Rattle.fd_language.specs.Needs.{need_of}
-use Rattle.fd_language.specs.Places.{Place, one_place, expr_places, range_places}
+use Rattle.fd_language.specs.Places.{Place, one_place, place_at, range_places}
 use Rattle.fd_model.specs.Posting.{offence_at, or_later, first_offence, is_integer, integers_at, slot, slot_equations, integer_of, unless_offence, post_at, post, posts}
 use Rattle.fd_model.specs.LinearRows.{Expansion}
 use Rattle.fd_model.specs.Constraining.{equations}
@@ -19,7 +20,7 @@ use Rattle.fd_model.specs.Children.{by_post, by_constraint}
 use Rattle.fd_model.specs.Closed.{constrained}
 use Rattle.fd_language.specs.Variables.{TermBelow}
 use Rattle.fd_model.specs.Sound.{PlacesBelow, RangeBelow}
-use Rattle.fd_language.proofs.Lemmas.{two, has_either, in_left, in_right, reads_map}
+use Rattle.fd_language.proofs.Lemmas.{two, has_either, in_left, in_right, reads_map, range_leaves, from_new, new_leaves, same_leaves}
 use Rattle.fd_model.proofs.Lemmas.{slot_out, slot_low, slot_high, map_has}
 use Rattle.machine_relation.proofs.Numbering.{AreConsecutive}
 use Rattle.machine_relation.specs.Rows.{slot_numbers, unless_fault, post_row_at, post_row}
@@ -47,35 +48,25 @@ plain_first p ps y h = by_test p.parameter refl h where
   by_test true e h = inr h
   by_test false e h = elim (or_cases (p.variable == y) (has (plain ps) y) h) [ inl i ↦ inl (eqb-true p.variable y i, e) | inr i ↦ inr i ]
 
-module _ (f : ℕ → ℤ) where
-  sum_plain : (a b : Expr) → expr_reads (fill f a) ≡ plain (expr_places a) → expr_reads (fill f b) ≡ plain (expr_places b) → expr_reads (fill f a) ++ expr_reads (fill f b) ≡ plain (expr_places a ++ expr_places b)
-  sum_plain a b e h = two (λ x y. x ++ y) e h ∙ sym (plain_both (expr_places a) (expr_places b))
+plain_leaves : (ls : List Leaf) → plain (flat_map place_at ls) ≡ flat_map (λ l. plain (place_at l)) ls
+plain_leaves [] = refl
+plain_leaves (l ∷ ls) = plain_both (place_at l) (flat_map place_at ls) ∙ ap (λ ys. plain (place_at l) ++ ys) (plain_leaves ls)
 
-  expr_plain : (e : Expr) → expr_reads (fill f e) ≡ plain (expr_places e)
-  expr_plain (Number z) = refl
-  expr_plain Infinity = refl
-  expr_plain (Param x) = refl
-  expr_plain (Min y) = refl
-  expr_plain (Max y) = refl
-  expr_plain (Val y) = refl
-  expr_plain (Add a b) = sum_plain a b (expr_plain a) (expr_plain b)
-  expr_plain (Sub a b) = sum_plain a b (expr_plain a) (expr_plain b)
-  expr_plain (Mul a b) = sum_plain a b (expr_plain a) (expr_plain b)
-  expr_plain (DivDown a b) = sum_plain a b (expr_plain a) (expr_plain b)
-  expr_plain (DivUp a b) = sum_plain a b (expr_plain a) (expr_plain b)
-
-  -- they are what a filled range reads
-  pub range_plain : (r : Range) → reads (fill_range f r) ≡ plain (range_places r)
-  range_plain (Span a b) = sum_plain a b (expr_plain a) (expr_plain b)
-  range_plain (One t) = expr_plain t
-  range_plain (Dom y) = refl
-  range_plain (Union r q) = two (λ x y. x ++ y) (range_plain r) (range_plain q) ∙ sym (plain_both (range_places r) (range_places q))
-  range_plain (Inter r q) = two (λ x y. x ++ y) (range_plain r) (range_plain q) ∙ sym (plain_both (range_places r) (range_places q))
-  range_plain (Outside r) = range_plain r
-  range_plain (Plus r c) = two (λ x y. x ++ y) (range_plain r) (expr_plain c) ∙ sym (plain_both (range_places r) (expr_places c))
-  range_plain (Minus r c) = two (λ x y. x ++ y) (range_plain r) (expr_plain c) ∙ sym (plain_both (range_places r) (expr_places c))
-  range_plain (Times r c) = two (λ x y. x ++ y) (range_plain r) (expr_plain c) ∙ sym (plain_both (range_places r) (expr_places c))
-  range_plain (Over r c) = two (λ x y. x ++ y) (range_plain r) (expr_plain c) ∙ sym (plain_both (range_places r) (expr_places c))
+-- they are what a filled range reads
+pub range_plain : (f : ℕ → ℤ) (r : Range) → reads (fill_range f r) ≡ plain (range_places r)
+range_plain f r =
+    new_leaves read_at (filling f) r
+    ∙ same_leaves (λ l. from_new read_at (filling f) l.role l.variable) (λ l. plain (place_at l)) by_role r
+    ∙ range_leaves (λ l. plain (place_at l)) r
+    ∙ sym (plain_leaves (leaves r))
+    ∙ ap plain (sym (range_leaves place_at r))
+  where
+    by_role : (k : Role) (y : ℕ) → from_new read_at (filling f) k y ≡ plain (place_at (leaf k y))
+    by_role a_parameter y = refl
+    by_role a_min y = refl
+    by_role a_max y = refl
+    by_role a_val y = refl
+    by_role a_dom y = refl
 
 module _ (look : Substitution) where
   abbrev pub Integers : List ℕ → Type 0

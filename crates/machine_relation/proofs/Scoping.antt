@@ -1,58 +1,26 @@
 -- What is seen of known variables has known variables alone.
-use Rattle.std.proofs.Common.{◌≡◌, ℕ, ◌<◌, ◌≤◌, true, false, cond, ltb, ◌==◌, pos, List, [], ◌∷◌, Option, Some, None, refl, ap, sym, ◌∙◌, subst, inl, inr, ltb-true, ltb-false, lt-ltb, le-ltb, eqb-true}
-use Rattle.std.proofs.lemmas.Bool.{cases_Bool, or_cases, true≢false}
-use Rattle.fd_language.specs.Term.{Term, Terms, Var, Int, Atom, Comp, Substitution, apply, apply_all, no_terms, term}
-use Rattle.fd_language.specs.Unifier.{Equation, IsMostGeneral, Unifies}
+use Rattle.std.proofs.Common.{◌≡◌, ℕ, ◌<◌, true, false, ◌==◌, List, [], ◌∷◌, Option, Some, None, sym, subst, inl, inr, eqb-true}
+use Rattle.std.proofs.lemmas.Bool.{or_cases, true≢false}
+use Rattle.fd_language.specs.Term.{Term, Terms, Var, Int, Atom, Comp, Substitution, apply, no_terms, term}
+use Rattle.fd_language.specs.Unifier.{Equation, IsMostGeneral}
 use Rattle.fd_language.specs.Family.{Family, has}
 use Rattle.fd_model.specs.Seen.{seen, by_set, set_at}
-use Rattle.fd_language.specs.Variables.{variables_of, variables_of_all}
-use Rattle.fd_language.proofs.Lemmas.{has_either}
-use Rattle.machine_relation.specs.Heap.{after, Of, AllOf, EquationsOf}
-use Rattle.machine_relation.proofs.Growing.{after_is, agree, still_of}
+use Rattle.fd_language.specs.Lists.{Each}
+use Rattle.fd_language.specs.Variables.{variables_of, variables_of_all, TermBelow}
+use Rattle.fd_language.proofs.Lemmas.{has_either, after_is}
+use Rattle.machine_relation.specs.Heap.{Of, AllOf, EquationsOf}
+use Rattle.fd_model.proofs.Lemmas.{unifier_below}
+use Rattle.machine_relation.proofs.Growing.{still_of}
+use Rattle.machine_relation.proofs.Renaming.{of_below, below_of}
 
--- a most general unifier brings no new variables
+equations_below : (n : ℕ) (es : List Equation) → EquationsOf (λ x. x < n) es → Each (λ e. TermBelow n e.left × TermBelow n e.right) es
+equations_below n [] b = tt
+equations_below n (e ∷ es) b = ((below_of n e.left b.0.0, below_of n e.right b.0.1), equations_below n es b.1)
+
 module _ (n : ℕ) (es : List Equation) (s : Substitution) (g : IsMostGeneral es s) (below : EquationsOf (λ x. x < n) es) where
-  unfoldable ground : Substitution
-  ground x = cond (ltb x n) (Var x) (Int (pos 0))
-
-  unfoldable grounded : Substitution
-  grounded x = cond (ltb x n) (apply ground (s x)) (Var x)
-
-  grounded_low : (x : ℕ) → x < n → grounded x ≡ apply ground (s x)
-  unfolding grounded
-  grounded_low x h = rw (lt-ltb x n h) refl
-
-  grounded_high : (x : ℕ) → n ≤ x → grounded x ≡ Var x
-  unfolding grounded
-  grounded_high x h = rw (le-ltb x n h) refl
-
-  ground_high : (x : ℕ) → n ≤ x → ground x ≡ Int (pos 0)
-  unfolding ground
-  ground_high x h = rw (le-ltb x n h) refl
-
-  grounded_term : (t : Term) → Of (λ x. x < n) t → apply grounded t ≡ apply ground (apply s t)
-  grounded_term t b = agree (λ x. x < n) grounded (after ground s) (λ x h. grounded_low x h) t b ∙ after_is ground s t
-
-  grounded_unifies : (ds : List Equation) → EquationsOf (λ x. x < n) ds → Unifies s ds → Unifies grounded ds
-  grounded_unifies [] b h = tt
-  grounded_unifies (d ∷ ds) b h = (grounded_term d.left b.0.0 ∙ ap (apply ground) h.0 ∙ sym (grounded_term d.right b.0.1), grounded_unifies ds b.1 h.1)
-
-  mutual
-    below_from : (t : Term) → apply grounded t ≡ apply ground t → Of (λ x. x < n) t
-    below_from (Var x) e = elim (cases_Bool (ltb x n)) [
-      | inl k ↦ ltb-true x n k
-      | inr k ↦ let l = ltb-false x n k in absurd (let i = sym (grounded_high x l) ∙ e ∙ ground_high x l in cc)
-    ]
-    below_from (Int z) e = tt
-    below_from (Atom a) e = tt
-    below_from (Comp f ts) e = all_below_from ts (let k : apply_all grounded ts ≡ apply_all ground ts = cc in k)
-
-    all_below_from : (ts : Terms) → apply_all grounded ts ≡ apply_all ground ts → AllOf (λ x. x < n) ts
-    all_below_from no_terms e = tt
-    all_below_from (term t ts) e = (below_from t (let k : apply grounded t ≡ apply ground t = cc in k), all_below_from ts (let k : apply_all grounded ts ≡ apply_all ground ts = cc in k))
-
+  -- a most general unifier brings no new variables
   unifier_of : (x : ℕ) → x < n → Of (λ y. y < n) (s x)
-  unifier_of x h = below_from (s x) (g.general grounded x (grounded_unifies es below g.unifies) ∙ grounded_low x h)
+  unifier_of x h = of_below n (s x) (unifier_below n es s g (equations_below n es below) x h)
 
   module _ (D : Family) (ws : List ℕ) where
     set_of : (o : Option (List ℕ)) (x : ℕ) → x < n → Of (λ y. y < n) (by_set o x)

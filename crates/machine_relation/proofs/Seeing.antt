@@ -12,7 +12,7 @@ use Rattle.fd_model.proofs.Lemmas.{join_both, split_both, single_from, is_variab
 use Rattle.machine_relation.specs.Heap.{after, StandsFor}
 use Rattle.machine_relation.specs.Models.{Fix, numbers, Sure}
 use Rattle.machine_relation.specs.Store.{IsStored, shown_set, linked_set}
-use Rattle.machine_relation.proofs.Growing.{still_unifies}
+use Rattle.fd_language.proofs.Lemmas.{still_unifies}
 
 -- the first of the constrained variables that s takes to y
 pub record Found (s : Substitution) (D : Family) (ws : List ℕ) (y : ℕ) (o : Option (List ℕ)) : Type 0 where

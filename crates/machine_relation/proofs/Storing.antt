@@ -6,14 +6,14 @@ use Rattle.fd_language.specs.Unifier.{Equation, IsMostGeneral}
 use Rattle.fd_language.specs.Family.{Family, has, IsSubset, IsInside}
 use Rattle.fd_language.specs.Range.{Indexical, set_of}
 use Rattle.fd_model.specs.Closed.{constrained}
-use Rattle.fd_language.proofs.Lemmas.{rising_same, identity}
+use Rattle.fd_language.proofs.Lemmas.{rising_same, identity, number_for, number_at}
 use Rattle.fd_model.proofs.Lemmas.{closed_without, posted_both, constrained_either, single_from, only_member}
 use Rattle.fd_model.specs.Children.{is_number}
 use Rattle.fd_model.specs.Models.{IsModel}
 use Rattle.machine_relation.specs.Heap.{after, applied_each, Below, EquationsOf}
 use Rattle.machine_relation.specs.Models.{Sure}
 use Rattle.machine_relation.specs.Store.{Value, posts, IsUnified, IsStored}
-use Rattle.machine_relation.proofs.Models.{front, number_for, number_at, number_general}
+use Rattle.machine_relation.proofs.Models.{front, number_general}
 use Rattle.machine_relation.proofs.Touching.{unified, Holds, as_posts, set_term}
 
 module _ (M : ℕ) (es : List Equation) (ps : List Indexical) (P : ℕ → Type 0) (h : ℕ) (look : Substitution) (link : ℕ → Option ℕ) (slot : ℕ → ℕ) (qs : List Indexical) (st : IsStored M es ps P h look link slot qs) where

@@ -1,4 +1,4 @@
--- The steps of a machine that walks over goals, where what a goal gives depends on what is seen.
+-- The goal in front is taken: what is left of it is one branch, or one for each value, or what `T in R` posts.
 use Rattle.std.proofs.Common.{◌≡◌, ℕ, suc, ◌+◌, ◌<◌, ◌≤◌, ℤ, List, [], ◌∷◌, ◌++◌, Option, map, refl, ap, sym, ◌∙◌, subst}
 use Rattle.fd_language.specs.Term.{Term, Var, Substitution}
 use Rattle.fd_language.specs.Unifier.{Equation}

@@ -1,4 +1,4 @@
--- The steps of a machine that walks over goals.
+-- Goals over cells with new equations on the heap, and the goal in front.
 use Rattle.std.proofs.Common.{◌≡◌, ℕ, ◌<◌, ◌≤◌, ℤ, List, [], ◌∷◌, ◌++◌, Option, map, refl, sym, ◌∙◌, subst}
 use Rattle.fd_language.specs.Term.{Var, Substitution, apply}
 use Rattle.fd_language.specs.Unifier.{Equation}
@@ -15,7 +15,7 @@ use Rattle.machine_relation.specs.Store.{Touch, IsUnified}
 use Rattle.machine_relation.specs.Ahead.{IsFit}
 use Rattle.machine_relation.specs.Held.{Frame, unified_frame}
 use Rattle.machine_relation.specs.Machine.{IsAt, others}
-use Rattle.machine_relation.proofs.Growing.{after_is}
+use Rattle.fd_language.proofs.Lemmas.{after_is}
 use Rattle.machine_relation.proofs.Models.{model_from}
 use Rattle.machine_relation.proofs.Holding.{held_consistent, held_unify}
 

@@ -1,11 +1,8 @@
 -- What a heap stands for: a most general unifier of a branch's equations, in the heap's own cells.
 use Rattle.std.specs.Prelude.{◌≡◌, ℕ, ◌<◌, List, [], ◌∷◌}
 use Rattle.fd_language.specs.Term.{Term, Terms, Var, Int, Atom, Comp, no_terms, term, Substitution, apply}
+pub use Rattle.fd_language.specs.Term.{after}
 use Rattle.fd_language.specs.Unifier.{Equation, Unifies}
-
--- r after s
-abbrev pub after : Substitution → Substitution → Substitution
-after r s x = apply r (s x)
 
 -- the equation with s applied
 abbrev pub applied : Substitution → Equation → Equation

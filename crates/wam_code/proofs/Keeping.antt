@@ -8,7 +8,7 @@ use Rattle.wam_code.specs.declared.instruction.Code.{Code}
 use Rattle.wam_code.specs.declared.instruction.Code.TheVariants.{GetVariable, GetValue, GetConstant, GetInteger, GetStructure, UnifyVariable, UnifyValue, UnifyConstant, UnifyInteger, UnifyVoid, PutVariable, PutValue, PutConstant, PutInteger, PutStructure, Allocate, Deallocate, Call, Execute, Proceed, SwitchOnTerm, SwitchOnConstant, SwitchOnInteger, SwitchOnStructure, Builtin, Constrain, Label, PostRange}
 use Rattle.wam_code.specs.declared.parts.Entry.{Entry}
 use Rattle.wam_code.specs.Area.{State, Area, Holds, HasState}
-use Rattle.wam_code.specs.Arities.{builtin_arity, constraint_arity}
+use Rattle.fd_model.specs.Arities.{builtin_arity, constraint_arity}
 use Rattle.wam_code.specs.Effect.{slot_at, is_unset, is_cell, with_cell, is_set, is_free, with_set, with_owed, are_set, are_given, has_frame, no_frame, when, plain_effect, unify_effect, effect_by, effect}
 use Rattle.wam_code.specs.Verified.{named, goes_on, Covers, HandedTo, Leads, IsVerifiedBy}
 

@@ -7,7 +7,7 @@ use Rattle.wam_code.specs.declared.instruction.Code.{Code}
 use Rattle.wam_code.specs.declared.instruction.Code.TheVariants.{GetVariable, GetValue, GetConstant, GetInteger, GetStructure, UnifyVariable, UnifyValue, UnifyConstant, UnifyInteger, UnifyVoid, PutVariable, PutValue, PutConstant, PutInteger, PutStructure, Allocate, Deallocate, Call, Execute, Proceed, SwitchOnTerm, SwitchOnConstant, SwitchOnInteger, SwitchOnStructure, Builtin, Constrain, Label, PostRange}
 use Rattle.wam_code.specs.declared.parts.Entry.{Entry}
 use Rattle.wam_code.specs.Area.{Slot, Unset, Cell, State}
-use Rattle.wam_code.specs.Arities.{constraint_arity, builtin_arity}
+use Rattle.fd_model.specs.Arities.{constraint_arity, builtin_arity}
 
 -- ---- registers and frames
 

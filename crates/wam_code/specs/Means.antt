@@ -15,7 +15,7 @@ use Rattle.wam_code.specs.declared.instruction.Register.TheVariants.{X}
 use Rattle.wam_code.specs.declared.instruction.Code.{Code}
 use Rattle.wam_code.specs.declared.instruction.Code.TheVariants as code
 use Rattle.wam_code.specs.declared.parts.Entry.{Entry}
-use Rattle.wam_code.specs.Arities.{constraint_arity, builtin_arity}
+use Rattle.fd_model.specs.Arities.{constraint_arity, builtin_arity}
 use Rattle.wam_code.specs.Area.{Area, Holds, HasEntry, name_of, range_at}
 use Rattle.wam_code.specs.Places.{Places, read, write, without, learn, no_registers, no_slots, IsFresh, Has, IsWhole, IsSettled, Hold, count, made}
 
