@@ -7,7 +7,7 @@ ghost use Rattle.fd_language.specs.Characters as Characters;
 ghost use Rattle.fd_language.specs.Tokens as Tokens;
 ghost use Rattle.char_tokens.specs.Views as Views;
 
-use name_syntax::characters::{first_char, is_layout, is_symbol};
+use name_syntax::characters::{continues_word, first_char, is_layout, is_symbol};
 
 /// Whether a dot that stands before the text is a stop.
 pub(crate) fn ends_stop(text: &str) -> bool
@@ -34,7 +34,7 @@ fn passes(class: Class, c: char) -> bool
     ensures { result ≡ Views.passes class c }
 {
     match class {
-        Class::Continue => unicode_ident::is_xid_continue(c),
+        Class::Continue => continues_word(c),
         Class::Symbol => is_symbol(c),
         Class::Line => c != '\n',
     }

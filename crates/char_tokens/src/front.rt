@@ -11,7 +11,7 @@ use crate::number::integer;
 use crate::quoted::quoted;
 use crate::token::{Kind, TokenCause};
 use name_syntax::characters::{
-    begins_variable, first_char, is_layout, is_punct, is_solo, is_symbol, starts_with,
+    begins_variable, begins_word, first_char, is_layout, is_punct, is_solo, is_symbol, starts_with,
 };
 
 /// What a text begins with: nothing, layout or a comment, a token, or a fault. Sizes are in bytes; a fault is placed so many bytes behind the beginning.
@@ -69,7 +69,7 @@ fn lead_of(c: char, behind: &str) -> Lead
     if begins_variable(c) {
         return Lead::Run(Kind::Variable, Class::Continue);
     }
-    if unicode_ident::is_xid_start(c) {
+    if begins_word(c) {
         return Lead::Run(Kind::Word, Class::Continue);
     }
     if c == '/' && starts_with('*', behind) {

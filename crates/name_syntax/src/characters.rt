@@ -1,9 +1,10 @@
 //! Characters by what they may begin.
 
-ghost use Rattle.std.specs.Prelude.{◌≡◌, ◌∷◌, ◌++◌, [], MatchOption, encode_utf8};
+ghost use Rattle.std.specs.Prelude.{◌≡◌, ◌∷◌, ◌++◌, ◌&&◌, not, [], MatchOption, encode_utf8};
 ghost use Rattle.std.specs.Char.{IsScalar};
 ghost use Rattle.std.specs.Str.{chars};
 ghost use Rattle.fd_language.specs.Characters as Characters;
+ghost use Rattle.unicode_ident.specs.Ident as Ident;
 
 /// The first character, and the text behind it.
 pub fn first_char(text: &str) -> Option<(char, &str)>
@@ -82,9 +83,26 @@ pub fn is_punct(c: char) -> bool
 }
 
 /// Whether it begins a variable: `_`, or a letter from `A` to `Z`.
+#[inline]
 #[tactic(auto, unfolding(fd_language::specs::Characters::begins_variable))]
 pub fn begins_variable(c: char) -> bool
     ensures { result ≡ Characters.begins_variable c }
 {
     c == '_' || c.is_ascii_uppercase()
+}
+
+/// Whether it begins a word of letters: a letter that begins no variable.
+#[inline]
+pub fn begins_word(c: char) -> bool
+    ensures { result ≡ (not (Characters.begins_variable c) && Ident.is_xid_start c) }
+{
+    !begins_variable(c) && unicode_ident::is_xid_start(c)
+}
+
+/// Whether it continues a word of letters or a variable.
+#[inline]
+pub fn continues_word(c: char) -> bool
+    ensures { result ≡ Ident.is_xid_continue c }
+{
+    unicode_ident::is_xid_continue(c)
 }

@@ -13,7 +13,7 @@ ghost use Rattle.term_writer.specs.Views.{mode_of, name_text};
 
 use crate::Mode;
 use fd_language::NoMemory;
-use name_syntax::characters::{first_char, is_symbol};
+use name_syntax::characters::{begins_word, continues_word, first_char, is_symbol};
 use name_syntax::operators::is_operator;
 
 fn ends_with_symbol(text: &[u8]) -> bool
@@ -49,7 +49,7 @@ fn continues(text: &str) -> bool
     ensures { result ≡ list_all Ident.is_xid_continue (chars text.now) }
 {
     for c in text.chars() {
-        if !unicode_ident::is_xid_continue(c) {
+        if !continues_word(c) {
             return false;
         }
     }
@@ -57,14 +57,13 @@ fn continues(text: &str) -> bool
 }
 
 /// Whether it is a word of letters.
+#[tactic(auto, using(crate::proofs::Words::word_begins))]
 pub(crate) fn is_letter_word(name: &str) -> bool
     ensures { result ≡ Writing.is_letter_word name.now }
 {
     match first_char(name) {
         None => false,
-        Some((first, behind)) => unicode_ident::is_xid_start(first)
-            && !first.is_ascii_uppercase()
-            && continues(behind),
+        Some((first, behind)) => begins_word(first) && continues(behind),
     }
 }
 
