@@ -150,8 +150,8 @@ count_nodes r = count_nodes_then r [] ∙ size_more (range_size r)
 -- What is collected of a range with new leaves is what is collected of what each leaf became.
 abbrev pub from_new : {X : Type 0} → (Leaf → List X) → NewLeaves → Role → ℕ → List X
 from_new f h a_parameter x = from_expr f (h.param x)
-from_new f h a_min y = from_expr f (h.least y)
-from_new f h a_max y = from_expr f (h.greatest y)
+from_new f h a_min y = from_expr f (h.for_min y)
+from_new f h a_max y = from_expr f (h.for_max y)
 from_new f h a_val y = from_expr f (h.one_value y)
 from_new f h a_dom y = f (leaf a_dom (h.domain y))
 
@@ -203,8 +203,8 @@ filled_leaves f none p r = new_leaves f (filling p) r ∙ same_leaves (λ l. fro
 -- two ways to replace a leaf that do the same
 abbrev pub Agree : NewLeaves → NewLeaves → Role → ℕ → Type 0
 Agree h g a_parameter x = h.param x ≡ g.param x
-Agree h g a_min y = h.least y ≡ g.least y
-Agree h g a_max y = h.greatest y ≡ g.greatest y
+Agree h g a_min y = h.for_min y ≡ g.for_min y
+Agree h g a_max y = h.for_max y ≡ g.for_max y
 Agree h g a_val y = h.one_value y ≡ g.one_value y
 Agree h g a_dom y = h.domain y ≡ g.domain y
 
@@ -267,7 +267,7 @@ filled_agree p q r s = places_agree (filling p) (filling q) (λ x. p x.variable 
 
 -- what becomes of leaves that are replaced by g and then by h
 abbrev pub both_new : NewLeaves → NewLeaves → NewLeaves
-both_new h g = record { param = λ x. new_expr h (g.param x); least = λ y. new_expr h (g.least y); greatest = λ y. new_expr h (g.greatest y); one_value = λ y. new_expr h (g.one_value y); domain = λ y. h.domain (g.domain y) }
+both_new h g = record { param = λ x. new_expr h (g.param x); for_min = λ y. new_expr h (g.for_min y); for_max = λ y. new_expr h (g.for_max y); one_value = λ y. new_expr h (g.one_value y); domain = λ y. h.domain (g.domain y) }
 
 -- Leaves that are replaced twice are replaced at once so.
 module _ (h g : NewLeaves) where

@@ -77,7 +77,7 @@ range_fits M (Over r c) w = range_fits M r w && (is_parameter c || (is_literal c
 
 -- each parameter replaced by its integer
 abbrev pub filling : (ℕ → ℤ) → NewLeaves
-filling p = record { param = λ x. Number (p x); least = λ y. Min y; greatest = λ y. Max y; one_value = λ y. Val y; domain = λ y. y }
+filling p = record { param = λ x. Number (p x); for_min = λ y. Min y; for_max = λ y. Max y; one_value = λ y. Val y; domain = λ y. y }
 
 abbrev pub fill : (ℕ → ℤ) → Expr → Expr
 fill p e = new_expr (filling p) e

@@ -5,8 +5,8 @@ use Rattle.fd_language.specs.Range.{Range, Span, One, Dom, Union, Inter, Outside
 -- what becomes of a parameter, of min, max and val, and of the variable of dom
 pub record NewLeaves : Type 0 where
   pub param : ℕ → Expr
-  pub least : ℕ → Expr
-  pub greatest : ℕ → Expr
+  pub for_min : ℕ → Expr
+  pub for_max : ℕ → Expr
   pub one_value : ℕ → Expr
   pub domain : ℕ → ℕ
 
@@ -14,8 +14,8 @@ abbrev pub new_expr : NewLeaves → Expr → Expr
 new_expr h (Number z) = Number z
 new_expr h Infinity = Infinity
 new_expr h (Param x) = h.param x
-new_expr h (Min y) = h.least y
-new_expr h (Max y) = h.greatest y
+new_expr h (Min y) = h.for_min y
+new_expr h (Max y) = h.for_max y
 new_expr h (Val y) = h.one_value y
 new_expr h (Add a b) = Add (new_expr h a) (new_expr h b)
 new_expr h (Sub a b) = Sub (new_expr h a) (new_expr h b)

@@ -5,7 +5,7 @@ use Rattle.fd_language.specs.NewLeaves.{NewLeaves, new_expr, new_range}
 
 -- each leaf names the variable that f gives
 abbrev pub renaming : (ℕ → ℕ) → NewLeaves
-renaming f = record { param = λ x. Param (f x); least = λ y. Min (f y); greatest = λ y. Max (f y); one_value = λ y. Val (f y); domain = λ y. f y }
+renaming f = record { param = λ x. Param (f x); for_min = λ y. Min (f y); for_max = λ y. Max (f y); one_value = λ y. Val (f y); domain = λ y. f y }
 
 abbrev pub rename_expr : (ℕ → ℕ) → Expr → Expr
 rename_expr f e = new_expr (renaming f) e
