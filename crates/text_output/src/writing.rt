@@ -107,8 +107,8 @@ fn put_events<A: Agenda + Drop, K: Sink>(
     ensures wrote { (es : List Event) (r : ℕ) → StandsFor machine.old es r
         → Wrote (sink_at (K.written sink.old) (K.faults sink.old)) (sink_at (K.written sink.new)
         (K.faults sink.new)) result (events_bytes es) }
-    ensures stopped { (es : List Event) (r : ℕ) → StandsFor machine.old es r → IfOk result (λ stopped.
-        stopped ≡ is_stop es) }
+    ensures stopped { (es : List Event) (r : ℕ) → StandsFor machine.old es r → IfOk result
+        (λ stopped. stopped ≡ is_stop es) }
 {
     'events: loop {
         let event = machine.next()?;
