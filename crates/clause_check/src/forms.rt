@@ -18,14 +18,14 @@ pub enum Form {
 }
 
 /// Whether neither heads nor goals may have the name.
-pub fn is_reserved(name: &str) -> bool
+pub(crate) fn is_reserved(name: &str) -> bool
     ensures { result ≡ is_named reserved_names name.now }
 {
     matches!(name, "[]" | "{}" | ".")
 }
 
 /// Whether the name with so many arguments is that of a form that the language doesn't have yet.
-pub fn is_not_yet(name: &str, arity: usize) -> bool
+pub(crate) fn is_not_yet(name: &str, arity: usize) -> bool
     ensures { result ≡ is_named (not_yet_names arity) name.now }
 {
     match arity {
@@ -51,14 +51,14 @@ fn is_joining(name: &str, arity: usize) -> bool
 }
 
 /// Whether the name with so many arguments is that of a control or a built-in form.
-pub fn is_built_in(name: &str, arity: usize) -> bool
+pub(crate) fn is_built_in(name: &str, arity: usize) -> bool
     ensures { result ≡ is_named (built_in_names arity) name.now }
 {
     is_joining(name, arity) || form_named(name, arity).is_some()
 }
 
 /// The form of the goals with the name and so many arguments, if they belong to the language.
-pub fn form_named(name: &str, arity: usize) -> Option<Form>
+pub(crate) fn form_named(name: &str, arity: usize) -> Option<Form>
     ensures { option_map form_seen result ≡ form_of_name name.now arity }
 {
     match arity {

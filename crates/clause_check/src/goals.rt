@@ -111,7 +111,7 @@ fn read_goal(
 
 impl GoalStore {
     /// The empty store.
-    pub fn new(alloc: Global) -> GoalStore
+    pub(crate) fn new(alloc: Global) -> GoalStore
         ensures { (c : Contents) → IsStore c result }
     {
         GoalStore {
@@ -213,7 +213,7 @@ impl GoalStore {
     }
 
     /// Reads a body. Its goals are put behind the others, those of the sides of a `;` before it.
-    pub fn read_body(
+    pub(crate) fn read_body(
         &mut self,
         alloc: Global,
         sentences: &Sentences,

@@ -41,7 +41,7 @@ pub enum Body {
 }
 
 /// What a term is at its top. Its parts have smaller numbers.
-pub fn look(pool: &Pool, t: TermId) -> Node<'_>
+pub(crate) fn look(pool: &Pool, t: TermId) -> Node<'_>
     requires { t.number < length pool.now.entries }
     ensures placed { IsSeen pool.now t (shape_of result) }
     ensures within { IsWithin (length pool.now.names) t.number (shape_of result) }
@@ -52,7 +52,7 @@ pub fn look(pool: &Pool, t: TermId) -> Node<'_>
 }
 
 /// The name and the number of arguments of an atom or a compound term.
-pub fn functor_of(pool: &Pool, t: TermId) -> Option<Functor>
+pub(crate) fn functor_of(pool: &Pool, t: TermId) -> Option<Functor>
     requires { t.number < length pool.now.entries }
     ensures functor { IsFunctorOf pool.now (placed_of pool.now t) result }
     ensures valid { IsPool pool.now }
@@ -68,7 +68,7 @@ pub fn functor_of(pool: &Pool, t: TermId) -> Option<Functor>
 }
 
 /// What the sentence is.
-pub fn sentence_form(pool: &Pool, t: TermId) -> SentenceForm
+pub(crate) fn sentence_form(pool: &Pool, t: TermId) -> SentenceForm
     requires { t.number < length pool.now.entries }
     ensures { IsSentenceForm pool.now t result }
 {
@@ -87,7 +87,7 @@ pub fn sentence_form(pool: &Pool, t: TermId) -> SentenceForm
 }
 
 /// What the body is.
-pub fn body_form(pool: &Pool, t: TermId) -> Body
+pub(crate) fn body_form(pool: &Pool, t: TermId) -> Body
     requires { t.number < length pool.now.entries }
     ensures { IsBody pool.now t result }
 {
@@ -102,7 +102,7 @@ pub fn body_form(pool: &Pool, t: TermId) -> Body
 }
 
 /// The first part of a term, or the term where it has none.
-pub fn first_part(pool: &Pool, t: TermId) -> TermId
+pub(crate) fn first_part(pool: &Pool, t: TermId) -> TermId
     requires { t.number < length pool.now.entries }
     ensures { IsPartOf pool.now (first_of (placed_of pool.now t)) result }
 {
@@ -113,7 +113,7 @@ pub fn first_part(pool: &Pool, t: TermId) -> TermId
 }
 
 /// The second part of a term, or the term where it has fewer.
-pub fn second_part(pool: &Pool, t: TermId) -> TermId
+pub(crate) fn second_part(pool: &Pool, t: TermId) -> TermId
     requires { t.number < length pool.now.entries }
     ensures { IsPartOf pool.now (second_of (placed_of pool.now t)) result }
 {
