@@ -13,7 +13,8 @@ use Rattle.fd_model.specs.Refusals as refusals
 use Rattle.fd_model.specs.Refusals.{functor, functor_of}
 use Rattle.clause_check.specs.declared.forms.Form.{Form}
 use Rattle.clause_check.specs.declared.forms.Form.TheVariants.{Truth, Failure, Unification, Posting, Constraint, Labelling, Builtin}
-use Rattle.clause_check.specs.Programs.{count, HasArguments, constraint_arity, builtin_arity}
+use Rattle.fd_model.specs.Arities.{constraint_arity, builtin_arity}
+use Rattle.clause_check.specs.Programs.{count, HasArguments}
 use Rattle.clause_check.specs.Forms.{form_seen, HasFormArity}
 
 -- ---- the names of a table

@@ -4,7 +4,8 @@ use Rattle.fd_language.specs.Term.{Name, Term}
 use Rattle.fd_model.specs.Forms.{forms, form_in, GoalForm, truth, failure, unification, posting, constraint, labelling, builtin}
 use Rattle.clause_check.specs.declared.forms.Form.{Form}
 use Rattle.clause_check.specs.declared.forms.Form.TheVariants.{Truth, Failure, Unification, Posting, Constraint, Labelling, Builtin}
-use Rattle.clause_check.specs.Programs.{HasArguments, constraint_arity, builtin_arity}
+use Rattle.fd_model.specs.Arities.{constraint_arity, builtin_arity}
+use Rattle.clause_check.specs.Programs.{HasArguments}
 
 abbrev pub form_seen : Form → GoalForm
 form_seen Truth = truth

@@ -8,10 +8,7 @@ use Rattle.fd_language.specs.contracts.range_node.RangeNode as node
 use Rattle.fd_language.specs.Flat.{nodes_of, spelled, spelled-nodes}
 use Rattle.fd_language.specs.Spelling.{empty_range}
 use Rattle.fd_language.specs.declared.TheConstants.{INFINITY}
-use Rattle.fd_model.specs.declared.kinds.ConstraintKind.{ConstraintKind}
-use Rattle.fd_model.specs.declared.kinds.ConstraintKind.TheVariants.{Compare, AllDifferent, Element, Atmost}
-use Rattle.fd_model.specs.declared.kinds.BuiltinKind.{BuiltinKind}
-use Rattle.fd_model.specs.declared.kinds.BuiltinKind.TheVariants as builtin_kind
+use Rattle.fd_model.specs.Arities.{constraint_arity, builtin_arity}
 use Rattle.fd_model.specs.Goal as model
 use Rattle.fd_model.specs.Goal.{Goals, no_goals, goal}
 use Rattle.fd_model.specs.Sound.{IsRunnableProgram, IsScoped}
@@ -153,26 +150,6 @@ HasArguments n (Comp f ts) = count ts ≡ n
 -- an atom or a compound term
 abbrev pub IsNamed : Term → Type 0
 IsNamed t = (n : ℕ) × HasArguments n t
-
-abbrev pub constraint_arity : ConstraintKind → ℕ
-constraint_arity (Compare r) = 2
-constraint_arity AllDifferent = 1
-constraint_arity Element = 3
-constraint_arity Atmost = 3
-
-abbrev pub builtin_arity : BuiltinKind → ℕ
-builtin_arity builtin_kind.True = 0
-builtin_arity builtin_kind.Fail = 0
-builtin_arity builtin_kind.False = 0
-builtin_arity builtin_kind.Nl = 0
-builtin_arity builtin_kind.Var = 1
-builtin_arity builtin_kind.Nonvar = 1
-builtin_arity builtin_kind.Integer = 1
-builtin_arity builtin_kind.Atom = 1
-builtin_arity builtin_kind.Atomic = 1
-builtin_arity builtin_kind.Compound = 1
-builtin_arity builtin_kind.Write = 1
-builtin_arity _ = 2
 
 -- of the first n goals
 pub record IsPart (n : ℕ) (a : Part) : Type 0 where

@@ -1,5 +1,5 @@
 -- What substitutions do to terms.
-use Rattle.std.proofs.Common.{◌≡◌, ℕ, ◌+◌, ◌*◌, ◌<◌, ◌≤◌, Bool, true, false, cond, ◌==◌, refl, ap, sym, inl, inr, arith, eqb-true, eq-eqb}
+use Rattle.std.proofs.Common.{◌≡◌, ℕ, ◌+◌, ◌*◌, ◌≤◌, Bool, true, false, cond, ◌==◌, refl, ap, sym, inl, inr, arith, eqb-true, eq-eqb}
 use Rattle.std.proofs.lemmas.Bool.{or_cases, or_parts, true≢false}
 use Rattle.fd_language.proofs.Lemmas.{bound_at, through_term}
 use Rattle.term_pool.proofs.Lemmas.{size_above_zero}

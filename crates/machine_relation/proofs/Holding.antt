@@ -1,5 +1,5 @@
 -- The steps of a frame that stands for equations and ranges.
-use Rattle.std.proofs.Common.{◌≡◌, ℕ, suc, ◌<◌, ◌≤◌, true, ℤ, pos, List, [], ◌∷◌, ◌++◌, Option, Some, ap, ◌∙◌, subst, inl, inr, arith}
+use Rattle.std.proofs.Common.{◌≡◌, ℕ, suc, ◌<◌, ◌≤◌, true, pos, List, [], ◌∷◌, ◌++◌, Option, Some, ap, ◌∙◌, subst, inl, inr, arith}
 use Rattle.fd_language.specs.Term.{Var, Substitution, apply}
 use Rattle.fd_language.specs.Unifier.{Equation, Unifies}
 use Rattle.fd_language.specs.Family.{Family, has, IsSubset}
@@ -14,7 +14,7 @@ use Rattle.machine_relation.specs.Models.{HasModel, numbers}
 use Rattle.machine_relation.specs.Store.{Touch, posts, IsUnified, IsStored, ArePosted}
 use Rattle.machine_relation.specs.Held.{Frame, IsHeld, unified_frame}
 use Rattle.fd_language.proofs.Lemmas.{number_for}
-use Rattle.machine_relation.proofs.Growing.{more, below_both, more_each}
+use Rattle.machine_relation.proofs.Growing.{below_both, more_each}
 use Rattle.machine_relation.proofs.Models.{weaker, sure_grown, with_numbers, without_numbers}
 use Rattle.machine_relation.proofs.Touching.{unified, Holds}
 use Rattle.machine_relation.proofs.Posting.{posted}

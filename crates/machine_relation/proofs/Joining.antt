@@ -6,7 +6,7 @@ use Rattle.fd_language.specs.Family.{has}
 use Rattle.fd_language.specs.Range.{Indexical}
 use Rattle.fd_model.specs.Closed.{constrained}
 use Rattle.fd_language.specs.RangeRenaming.{rename_indexical}
-use Rattle.fd_language.proofs.Lemmas.{in_left, in_right, reads_map}
+use Rattle.fd_language.proofs.Lemmas.{in_left, in_right}
 use Rattle.fd_model.proofs.Lemmas.{map_has, has_map}
 use Rattle.machine_relation.specs.Store.{IsLinked, next_slot, IsStored, ArePosted, names}
 use Rattle.machine_relation.specs.Rows.{IsJoined, AreJoined}

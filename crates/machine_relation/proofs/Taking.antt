@@ -1,5 +1,5 @@
 -- The goal in front is taken: what is left of it is one branch, or one for each value, or what `T in R` posts.
-use Rattle.std.proofs.Common.{◌≡◌, ℕ, suc, ◌+◌, ◌<◌, ◌≤◌, ℤ, List, [], ◌∷◌, ◌++◌, Option, map, refl, ap, sym, ◌∙◌, subst}
+use Rattle.std.proofs.Common.{◌≡◌, ℕ, suc, ◌+◌, ◌<◌, ◌≤◌, List, [], ◌∷◌, ◌++◌, Option, map, refl, ap, sym, subst}
 use Rattle.fd_language.specs.Term.{Term, Var, Substitution}
 use Rattle.fd_language.specs.Unifier.{Equation}
 use Rattle.fd_language.specs.Family.{Family}

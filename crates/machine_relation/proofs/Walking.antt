@@ -1,5 +1,5 @@
 -- Goals over cells with new equations on the heap, and the goal in front.
-use Rattle.std.proofs.Common.{◌≡◌, ℕ, ◌<◌, ◌≤◌, ℤ, List, [], ◌∷◌, ◌++◌, Option, map, refl, sym, ◌∙◌, subst}
+use Rattle.std.proofs.Common.{◌≡◌, ℕ, ◌<◌, ◌≤◌, List, [], ◌∷◌, Option, map, refl, sym, subst}
 use Rattle.fd_language.specs.Term.{Var, Substitution, apply}
 use Rattle.fd_language.specs.Unifier.{Equation}
 use Rattle.fd_language.specs.Family.{Family}
@@ -14,7 +14,7 @@ use Rattle.machine_relation.specs.Models.{HasModel}
 use Rattle.machine_relation.specs.Store.{Touch, IsUnified}
 use Rattle.machine_relation.specs.Ahead.{IsFit}
 use Rattle.machine_relation.specs.Held.{Frame, unified_frame}
-use Rattle.machine_relation.specs.Machine.{IsAt, others}
+use Rattle.machine_relation.specs.Machine.{IsAt}
 use Rattle.fd_language.proofs.Lemmas.{after_is}
 use Rattle.machine_relation.proofs.Models.{model_from}
 use Rattle.machine_relation.proofs.Holding.{held_consistent, held_unify}

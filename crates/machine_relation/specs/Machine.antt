@@ -1,5 +1,5 @@
 -- What goals over cells, the choices that are left and a whole machine stand for: branches, and the events still to come.
-use Rattle.std.specs.Prelude.{◌≡◌, ℕ, ◌+◌, ◌*◌, ◌<◌, ◌≤◌, IsTrue, List, [], ◌∷◌, Option, None, map}
+use Rattle.std.specs.Prelude.{◌≡◌, ℕ, ◌+◌, ◌<◌, ◌≤◌, IsTrue, List, [], ◌∷◌, Option, None, map}
 use Rattle.fd_language.specs.Term.{Term, Var}
 use Rattle.fd_model.specs.Goal.{Goal, Call, Clause, Program, Query, Branch, Event}
 use Rattle.fd_model.specs.Renaming.{rename_goal}

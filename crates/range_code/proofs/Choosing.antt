@@ -1,5 +1,5 @@
 -- How the members of a target that are chosen are gathered.
-use Rattle.std.proofs.Common.{◌≡◌, ℕ, zero, suc, ◌+◌, ◌<◌, ◌≤◌, ◌-◌, length, take, get_or, Bool, true, false, ◌&&◌, ◌||◌, ◌==◌, eqb-true, eq-eqb, List, [], ◌∷◌, ◌++◌, filter, refl, sym, ◌∙◌, ap, subst, arith, ◌⊎◌, inl, inr, leb}
+use Rattle.std.proofs.Common.{◌≡◌, ℕ, zero, suc, ◌+◌, ◌<◌, ◌≤◌, length, take, get_or, Bool, true, false, ◌&&◌, ◌||◌, ◌==◌, eqb-true, eq-eqb, List, [], ◌∷◌, ◌++◌, filter, refl, sym, ◌∙◌, ap, subst, arith, ◌⊎◌, inl, inr, leb}
 use Rattle.std.proofs.lemmas.Bool.{true≢false, or_cases, and_parts, cases_Bool, le-leb, lt-leb, or_right, or_left, leb-false}
 use Rattle.std.proofs.lemmas.List.{get_or-take, get_or_default, length-append, length-take-le}
 use Rattle.std.proofs.lemmas.List.Folds.{list_any_more}

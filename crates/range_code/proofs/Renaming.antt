@@ -1,12 +1,12 @@
 -- Ranges that are the same in slots are posted as the same range.
-use Rattle.std.proofs.Common.{◌≡◌, ℕ, ◌+◌, ◌<◌, ◌≤◌, List, ◌∷◌, length, refl, sym, ◌∙◌, ap}
+use Rattle.std.proofs.Common.{◌≡◌, ℕ, List, length, refl, sym, ◌∙◌, ap}
 use Rattle.std.proofs.lemmas.List.{length-map}
 use Rattle.fd_language.specs.declared.range_node.RangeNode.{RangeNode}
-use Rattle.fd_language.specs.Range.{Range, Span, One, Dom, Union, Inter, Outside, Plus, Minus, Times, Over, Expr, Number, Infinity, Param, Min, Max, Val, Add, Sub, Mul, DivDown, DivUp}
+use Rattle.fd_language.specs.Range.{Range}
 use Rattle.fd_language.specs.Check.{fill_range}
 use Rattle.fd_language.specs.Flat.{nodes_of, spelled, spelled-nodes}
-use Rattle.fd_language.specs.RangeRenaming.{rename_expr, rename_range}
-use Rattle.fd_language.proofs.Lemmas.{two}
+use Rattle.fd_language.specs.RangeRenaming.{renaming, rename_range}
+use Rattle.fd_language.proofs.Lemmas.{new_twice}
 use Rattle.range_code.specs.declared.frame.Arg.{Arg}
 use Rattle.range_code.specs.Slots.{slot_of, in_slots}
 use Rattle.range_code.specs.Frames.{slot_variable, slot_integer, posted}
@@ -15,30 +15,8 @@ use Rattle.range_code.proofs.Variables.{names_of}
 use Rattle.range_code.proofs.Running.{range_named}
 
 -- variables that are named anew twice
-expr_twice : (f g : ℕ → ℕ) (e : Expr) → rename_expr f (rename_expr g e) ≡ rename_expr (λ y. f (g y)) e
-expr_twice f g (Number z) = refl
-expr_twice f g Infinity = refl
-expr_twice f g (Param x) = refl
-expr_twice f g (Min y) = refl
-expr_twice f g (Max y) = refl
-expr_twice f g (Val y) = refl
-expr_twice f g (Add a b) = two Add (expr_twice f g a) (expr_twice f g b)
-expr_twice f g (Sub a b) = two Sub (expr_twice f g a) (expr_twice f g b)
-expr_twice f g (Mul a b) = two Mul (expr_twice f g a) (expr_twice f g b)
-expr_twice f g (DivDown a b) = two DivDown (expr_twice f g a) (expr_twice f g b)
-expr_twice f g (DivUp a b) = two DivUp (expr_twice f g a) (expr_twice f g b)
-
 range_twice : (f g : ℕ → ℕ) (r : Range) → rename_range f (rename_range g r) ≡ rename_range (λ y. f (g y)) r
-range_twice f g (Span a b) = two Span (expr_twice f g a) (expr_twice f g b)
-range_twice f g (One t) = ap One (expr_twice f g t)
-range_twice f g (Dom y) = refl
-range_twice f g (Union r q) = two Union (range_twice f g r) (range_twice f g q)
-range_twice f g (Inter r q) = two Inter (range_twice f g r) (range_twice f g q)
-range_twice f g (Outside r) = ap Outside (range_twice f g r)
-range_twice f g (Plus r c) = two Plus (range_twice f g r) (expr_twice f g c)
-range_twice f g (Minus r c) = two Minus (range_twice f g r) (expr_twice f g c)
-range_twice f g (Times r c) = two Times (range_twice f g r) (expr_twice f g c)
-range_twice f g (Over r c) = two Over (range_twice f g r) (expr_twice f g c)
+range_twice f g r = new_twice (renaming f) (renaming g) r
 
 -- Filling in integers and naming anew commute, so what is posted depends on the slots alone.
 by_slots : (r : Range) (args : List Arg) → rename_range (slot_variable args) (fill_range (slot_integer args) (in_slots r)) ≡ posted r args

@@ -1,5 +1,5 @@
 -- A run gives the set of the range that is posted.
-use Rattle.std.proofs.Common.{◌≡◌, ℕ, ℤ, pos, arith, Bool, true, false, cond, ◌||◌, ◌==◌, List, [], ◌∷◌, filter, length, refl, sym, ◌∙◌, ap, subst}
+use Rattle.std.proofs.Common.{◌≡◌, ℕ, ℤ, pos, arith, Bool, true, false, cond, ◌||◌, List, [], ◌∷◌, filter, length, refl, sym, ◌∙◌, ap, subst}
 use Rattle.std.specs.Prelude.{Result, IfOk}
 use Rattle.std.specs.List.{All, list_any}
 use Rattle.std.proofs.lemmas.Result.{IfOk-weaker}
