@@ -8,9 +8,9 @@ use Rattle.heap_cells.specs.Cells.{Cells, IsOf}
 use Rattle.heap_cells.specs.Terms.{Naming, terms_by}
 use Rattle.heap_cells.specs.Atoms.{IsAtomBelow}
 use Rattle.builtin_calls.specs.declared.evaluation.EvalFault.{EvalFault}
-use Rattle.builtin_calls.specs.declared.waiting.Operation.{Operation}
-use Rattle.builtin_calls.specs.declared.waiting.Waiting.{Waiting}
-use Rattle.builtin_calls.specs.declared.waiting.Waiting.TheVariants.{Left, Right, Opposite}
+use Rattle.builtin_calls.specs.declared.operations.Operation.{Operation}
+use Rattle.builtin_calls.specs.declared.operations.OpenOperation.{OpenOperation}
+use Rattle.builtin_calls.specs.declared.operations.OpenOperation.TheVariants.{Left, Right, Opposite}
 use Rattle.builtin_calls.specs.declared.evaluation.Step.{Step}
 use Rattle.builtin_calls.specs.declared.evaluation.Step.TheVariants.{Enter, Leave}
 use Rattle.fd_model.specs.Arithmetic.{Value, value_of, of_both, of_one, opposite_of}
@@ -18,12 +18,12 @@ use Rattle.builtin_calls.specs.SeenTerms.{seen_term}
 use Rattle.builtin_calls.specs.Outcomes.{IsFault, IsNamedBy, meaning, operation_of}
 
 -- the value once the value that is waited for is there, where each cell's term is given
-abbrev pub after : (Cell → Term) → Waiting → Value → Value
+abbrev pub after : (Cell → Term) → OpenOperation → Value → Value
 after by (Left o c) v = of_both (meaning o) v (value_of (by c))
 after by (Right o z) v = of_both (meaning o) (Ok z) v
 after by Opposite v = of_one opposite_of v
 
-abbrev pub resumed : (Cell → Term) → List Waiting → Value → Value
+abbrev pub resumed : (Cell → Term) → List OpenOperation → Value → Value
 resumed by [] v = v
 resumed by (w ∷ ws) v = after by w (resumed by ws v)
 
@@ -36,13 +36,13 @@ step_value by (Leave z) = Ok z
 abbrev pub IsOwn : ℕ → Cells → Cell → Type 0
 IsOwn n h c = IsOf h c × IsAtomBelow n c
 
-abbrev pub IsOwnWaiting : ℕ → Cells → Waiting → Type 0
-IsOwnWaiting n h (Left o c) = IsOwn n h c
-IsOwnWaiting n h (Right o z) = Unit {0}
-IsOwnWaiting n h Opposite = Unit {0}
+abbrev pub IsOwnOperation : ℕ → Cells → OpenOperation → Type 0
+IsOwnOperation n h (Left o c) = IsOwn n h c
+IsOwnOperation n h (Right o z) = Unit {0}
+IsOwnOperation n h Opposite = Unit {0}
 
 -- a cell that waits is of the heap
-abbrev pub IsOfHeap : Cells → Waiting → Type 0
+abbrev pub IsOfHeap : Cells → OpenOperation → Type 0
 IsOfHeap h (Left o c) = IsOf h c
 IsOfHeap h (Right o z) = Unit {0}
 IsOfHeap h Opposite = Unit {0}
@@ -56,46 +56,46 @@ abbrev pub unnamed : Naming
 unnamed a = []
 
 -- how much is left to do
-abbrev pub burden : (Cell → Term) → List Waiting → ℕ
+abbrev pub burden : (Cell → Term) → List OpenOperation → ℕ
 burden by [] = 0
 burden by (Left o c ∷ ws) = 2 * size (by c) + 1 + burden by ws
 burden by (Right o z ∷ ws) = 1 + burden by ws
 burden by (Opposite ∷ ws) = 1 + burden by ws
 
-abbrev pub load : (Cell → Term) → List Waiting → Step → ℕ
+abbrev pub load : (Cell → Term) → List OpenOperation → Step → ℕ
 load by ws (Enter c) = 2 * size (by c) + burden by ws
 load by ws (Leave z) = 1 + burden by ws
 
 -- one evaluation goes on as the other, and has less left to do
-pub record GoesOn (names : List Name) (h : Cells) (sets : List (List ℕ)) (old : List Waiting) (s : Step) (new : List Waiting) (t : Step) : Type 0 where
+pub record GoesOn (names : List Name) (h : Cells) (sets : List (List ℕ)) (old : List OpenOperation) (s : Step) (new : List OpenOperation) (t : Step) : Type 0 where
   pub value : (name : Naming) → IsNamedBy names name → resumed (seen_term name h sets) old (step_value (seen_term name h sets) s) ≡ resumed (seen_term name h sets) new (step_value (seen_term name h sets) t)
-  pub own : IsOwnStep (length names) h s → All (IsOwnWaiting (length names) h) old → IsOwnStep (length names) h t × All (IsOwnWaiting (length names) h) new
+  pub own : IsOwnStep (length names) h s → All (IsOwnOperation (length names) h) old → IsOwnStep (length names) h t × All (IsOwnOperation (length names) h) new
   pub falls : load (seen_term unnamed h sets) new t < load (seen_term unnamed h sets) old s
 
 -- an evaluation goes on, or its fault is told
-abbrev pub TellsStep : List Name → Cells → List (List ℕ) → List Waiting → Step → Result Step EvalFault → List Waiting → Type 0
+abbrev pub TellsStep : List Name → Cells → List (List ℕ) → List OpenOperation → Step → Result Step EvalFault → List OpenOperation → Type 0
 TellsStep names h sets old s (Ok t) new = GoesOn names h sets old s new t
 TellsStep names h sets old s (Err e) new = (name : Naming) → IsNamedBy names name → IsFault e (resumed (seen_term name h sets) old (step_value (seen_term name h sets) s))
 
 -- one evaluation goes on as the other, or is the other
-pub record Leads (names : List Name) (h : Cells) (sets : List (List ℕ)) (old : List Waiting) (s : Step) (new : List Waiting) (t : Step) : Type 0 where
+pub record Leads (names : List Name) (h : Cells) (sets : List (List ℕ)) (old : List OpenOperation) (s : Step) (new : List OpenOperation) (t : Step) : Type 0 where
   pub value : (name : Naming) → IsNamedBy names name → resumed (seen_term name h sets) old (step_value (seen_term name h sets) s) ≡ resumed (seen_term name h sets) new (step_value (seen_term name h sets) t)
-  pub own : IsOwnStep (length names) h s → All (IsOwnWaiting (length names) h) old → IsOwnStep (length names) h t × All (IsOwnWaiting (length names) h) new
+  pub own : IsOwnStep (length names) h s → All (IsOwnOperation (length names) h) old → IsOwnStep (length names) h t × All (IsOwnOperation (length names) h) new
   pub lighter : load (seen_term unnamed h sets) new t ≤ load (seen_term unnamed h sets) old s
 
 -- the way down to an integer, or its fault
-abbrev pub TellsDescent : List Name → Cells → List (List ℕ) → List Waiting → Cell → Result ℤ EvalFault → List Waiting → Type 0
+abbrev pub TellsDescent : List Name → Cells → List (List ℕ) → List OpenOperation → Cell → Result ℤ EvalFault → List OpenOperation → Type 0
 TellsDescent names h sets old c (Ok z) new = GoesOn names h sets old (Enter c) new (Leave z)
 TellsDescent names h sets old c (Err e) new = (name : Naming) → IsNamedBy names name → IsFault e (resumed (seen_term name h sets) old (value_of (seen_term name h sets c)))
 
 -- the way up with a value: to an operand, or to the end, where nothing waits; or its fault
-abbrev pub TellsAscent : List Name → Cells → List (List ℕ) → List Waiting → ℤ → Result Step EvalFault → List Waiting → Type 0
+abbrev pub TellsAscent : List Name → Cells → List (List ℕ) → List OpenOperation → ℤ → Result Step EvalFault → List OpenOperation → Type 0
 TellsAscent names h sets old z (Ok (Enter c)) new = Leads names h sets old (Leave z) new (Enter c)
 TellsAscent names h sets old z (Ok (Leave y)) new = Leads names h sets old (Leave z) [] (Leave y)
 TellsAscent names h sets old z (Err e) new = (name : Naming) → IsNamedBy names name → IsFault e (resumed (seen_term name h sets) old (Ok z))
 
 -- a compound term is entered at its first operand, or at the second one where the first has a value; or its fault is told
-abbrev pub IsEntered : Cells → List (List ℕ) → Name → List Cell → List Waiting → Result Cell EvalFault → List Waiting → Type 0
+abbrev pub IsEntered : Cells → List (List ℕ) → Name → List Cell → List OpenOperation → Result Cell EvalFault → List OpenOperation → Type 0
 IsEntered h sets f args old (Ok t) new =
     ((c : Cell) × (args ≡ c ∷ []) × (bytes_eq f (codes "-") ≡ true) × (new ≡ old ++ Opposite ∷ []) × (t ≡ c))
     ⊎ (((c : Cell) × (d : Cell) × (o : Operation) × (args ≡ c ∷ d ∷ []) × (operation_of f ≡ Some o) × (new ≡ old ++ Left o d ∷ []) × (t ≡ c))

@@ -4,4 +4,4 @@ pub mod Passing
 pub mod Outcomes
 pub mod Evaluations
 pub mod Identical
-pub mod Waiters
+pub mod OpenOperations

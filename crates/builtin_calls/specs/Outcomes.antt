@@ -8,8 +8,8 @@ use Rattle.heap_cells.specs.Terms.{Naming}
 use Rattle.builtin_calls.specs.declared.evaluation.EvalFault.{EvalFault}
 use Rattle.builtin_calls.specs.declared.evaluation.EvalFault.TheVariants.{Unbound, NotANumber, Overflow, ZeroDivisor, NoMemory}
 use Rattle.builtin_calls.specs.declared.evaluation.Named.{Named}
-use Rattle.builtin_calls.specs.declared.waiting.Operation.{Operation}
-use Rattle.builtin_calls.specs.declared.waiting.Operation.TheVariants.{Add, Subtract, Multiply, Divide, Modulo}
+use Rattle.builtin_calls.specs.declared.operations.Operation.{Operation}
+use Rattle.builtin_calls.specs.declared.operations.Operation.TheVariants.{Add, Subtract, Multiply, Divide, Modulo}
 use Rattle.fd_model.specs.Arithmetic.{unbound, not_a_number, overflow, zero_divisor, Value, sum_of, difference_of, product_of, quotient_of, modulo_of}
 
 -- the fault is that of the value; want of memory may come at any

@@ -15,10 +15,10 @@ ghost use Rattle.fd_model.specs.Arithmetic.{integer, modulo, value_of};
 ghost use Rattle.builtin_calls.specs.Outcomes.{Tells, IsMeant, IsMeaning, IsNamedBy, meaning, operation_of};
 ghost use Rattle.builtin_calls.specs.SeenTerms.{seen_term, HasLinksBelow};
 ghost use Rattle.builtin_calls.specs.Shown.{IsSimple};
-ghost use Rattle.builtin_calls.specs.Evaluations.{IsEntered, IsOfHeap, IsOwn, IsOwnWaiting, TellsStep, TellsDescent, TellsAscent};
+ghost use Rattle.builtin_calls.specs.Evaluations.{IsEntered, IsOfHeap, IsOwn, IsOwnOperation, TellsStep, TellsDescent, TellsAscent};
 
+use crate::operations::{OpenOperation, OpenOperations, Operation};
 use crate::reading::{glance, look};
-use crate::waiting::{Operation, Waiters, Waiting};
 use domain_ranges::View;
 use heap_cells::{Cell, Heap, Seen};
 use std::alloc::{AllocError, Global};
@@ -194,7 +194,11 @@ fn value_of_simple<V: View>(heap: &Heap, view: &V, c: Cell) -> Result<i64, EvalF
 
 /// Enters a compound term that hasn't two arguments.
 #[inline(always)]
-fn enter_opposite(name: &str, args: &[Cell], waiting: &mut Waiters) -> Result<Cell, EvalFault>
+fn enter_opposite(
+    name: &str,
+    args: &[Cell],
+    waiting: &mut OpenOperations,
+) -> Result<Cell, EvalFault>
     requires { length args.now ≡ 2 → ⊥ }
     ensures { (h : Cells) (sets : List (List ℕ)) → IsEntered h sets name.now args.now waiting.old
         result waiting.new }
@@ -204,7 +208,7 @@ fn enter_opposite(name: &str, args: &[Cell], waiting: &mut Waiters) -> Result<Ce
             if !is_minus(name) {
                 return Err(EvalFault::NotANumber);
             }
-            waiting.push(Waiting::Opposite)?;
+            waiting.push(OpenOperation::Opposite)?;
             Ok(only)
         }
         _ => Err(EvalFault::NotANumber),
@@ -219,7 +223,7 @@ fn enter_compound(
     pool: &Pool,
     name: AtomId,
     args: &[Cell],
-    waiting: &mut Waiters,
+    waiting: &mut OpenOperations,
     latest: &mut Option<Named>,
 ) -> Result<Cell, EvalFault>
     requires own { name.number < length pool.now.names }
@@ -236,16 +240,21 @@ fn enter_compound(
         return Err(EvalFault::NotANumber);
     };
     if let Some(value) = constant(heap, left) {
-        waiting.push(Waiting::Right(operation, value))?;
+        waiting.push(OpenOperation::Right(operation, value))?;
         return Ok(right);
     }
-    waiting.push(Waiting::Left(operation, right))?;
+    waiting.push(OpenOperation::Left(operation, right))?;
     Ok(left)
 }
 
 /// Goes on with a value that was waited for.
 #[inline(always)]
-fn resume(heap: &Heap, waits: Waiting, value: i64, waiting: &mut Waiters) -> Result<Step, EvalFault>
+fn resume(
+    heap: &Heap,
+    waits: OpenOperation,
+    value: i64,
+    waiting: &mut OpenOperations,
+) -> Result<Step, EvalFault>
     requires own { IsOfHeap heap.now.now waits }
     ensures goes { (names : List Name) (sets : List (List ℕ)) → TellsStep names heap.now.now sets
         (waiting.old ++ waits ∷ []) (step.Leave value) result waiting.new }
@@ -253,15 +262,15 @@ fn resume(heap: &Heap, waits: Waiting, value: i64, waiting: &mut Waiters) -> Res
         → All (IsOfHeap heap.now.now) waiting.new) }
 {
     match waits {
-        Waiting::Left(operation, right) => {
+        OpenOperation::Left(operation, right) => {
             if let Some(operand) = constant(heap, right) {
                 return Ok(Step::Leave(apply(operation, value, operand)?));
             }
-            waiting.push(Waiting::Right(operation, value))?;
+            waiting.push(OpenOperation::Right(operation, value))?;
             Ok(Step::Enter(right))
         }
-        Waiting::Right(operation, left) => Ok(Step::Leave(apply(operation, left, value)?)),
-        Waiting::Opposite => Ok(Step::Leave(checked(value.checked_neg())?)),
+        OpenOperation::Right(operation, left) => Ok(Step::Leave(apply(operation, left, value)?)),
+        OpenOperation::Opposite => Ok(Step::Leave(checked(value.checked_neg())?)),
     }
 }
 
@@ -320,10 +329,10 @@ fn descend<V: View>(
     pool: &Pool,
     view: &V,
     c: Cell,
-    waiting: &mut Waiters,
+    waiting: &mut OpenOperations,
 ) -> Result<i64, EvalFault>
     requires own { IsOwn (length pool.now.names) heap.now.now c }
-    requires waiting { All (IsOwnWaiting (length pool.now.names) heap.now.now) waiting.old }
+    requires waiting { All (IsOwnOperation (length pool.now.names) heap.now.now) waiting.old }
     requires atoms { HasAtomsBelow (length pool.now.names) heap.now.now }
     requires links { HasLinksBelow (length (V.sets view.now)) heap.now.now }
     ensures { TellsDescent pool.now.names heap.now.now (V.sets view.now) waiting.old c result
@@ -341,7 +350,7 @@ fn descend<V: View>(
 
 /// Goes up with a value, to the next operand that is to be entered, or to the end.
 #[inline(always)]
-fn ascend(heap: &Heap, value: i64, waiting: &mut Waiters) -> Result<Step, EvalFault>
+fn ascend(heap: &Heap, value: i64, waiting: &mut OpenOperations) -> Result<Step, EvalFault>
     requires own { All (IsOfHeap heap.now.now) waiting.old }
     ensures { (names : List Name) (sets : List (List ℕ)) → TellsAscent names heap.now.now sets
         waiting.old value result waiting.new }
@@ -372,7 +381,7 @@ fn eval_nested<V: View>(
     ensures { (name : Naming) → IsNamedBy pool.now.names name → Tells result
         (value_of (seen_term name heap.now.now (V.sets view.now) c)) }
 {
-    let mut waiting = Waiters::new(alloc);
+    let mut waiting = OpenOperations::new(alloc);
     let mut at = c;
     'steps: loop {
         let value = descend(heap, pool, view, at, &mut waiting)?;

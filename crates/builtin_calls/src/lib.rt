@@ -5,9 +5,9 @@
 
 mod evaluation;
 mod identity;
+mod operations;
 mod reading;
 mod type_tests;
-mod waiting;
 
 pub use evaluation::{EvalFault, eval};
 pub use identity::same;

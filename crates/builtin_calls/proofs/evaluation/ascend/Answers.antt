@@ -3,7 +3,7 @@ use Rattle.std.specs.Prelude.{All, Ok}
 use Rattle.std.proofs.lemmas.Result.{err_from_is_err_and}
 use Rattle.heap_cells.proofs.Lemmas.{all_front}
 use Rattle.builtin_calls.specs.declared.evaluation.Step.TheVariants.{Enter, Leave}
-use Rattle.builtin_calls.specs.declared.waiting.Waiting.{Waiting}
+use Rattle.builtin_calls.specs.declared.operations.OpenOperation.{OpenOperation}
 use Rattle.builtin_calls.specs.Outcomes.{IsFault}
 use Rattle.builtin_calls.specs.SeenTerms.{seen_term}
 use Rattle.builtin_calls.specs.Evaluations.{IsOfHeap, Leads, resumed}
@@ -48,4 +48,4 @@ returns c names sets =
     let h = c.args.heap.now.now in
     let none : c.loop-waits.waiting ≡ [] = search rules in
     subst (λ z. Leads names h sets c.args.waiting.now (Leave z) [] (Leave (to_z w64 c.loop-waits.current-bits))) (read_back c.args.value c.ranges.value)
-    (subst (λ (ws : List Waiting). Leads names h sets c.args.waiting.now (Leave (to_z w64 (of_z w64 c.args.value))) ws (Leave (to_z w64 c.loop-waits.current-bits))) none (c.loop-waits.invariant.leads names sets))
+    (subst (λ (ws : List OpenOperation). Leads names h sets c.args.waiting.now (Leave (to_z w64 (of_z w64 c.args.value))) ws (Leave (to_z w64 c.loop-waits.current-bits))) none (c.loop-waits.invariant.leads names sets))

@@ -1,6 +1,6 @@
 use Rattle.std.proofs.Common.{◌++◌, [], ◌∷◌, FitsSigned, refl, ap, sym, ◌∙◌, inr, get_or, w64, rules}
 use Rattle.heap_cells.specs.declared.Cell.TheVariants as cell
-use Rattle.builtin_calls.specs.declared.waiting.Waiting.TheVariants.{Right}
+use Rattle.builtin_calls.specs.declared.operations.OpenOperation.TheVariants.{Right}
 use Rattle.builtin_calls.proofs.Remainders.{read_back}
 use Rattle.builtin_calls.proofs.Evaluating.{two_of}
 use Rattle.builtin_calls.proofs.evaluation.enter_compound.Goals as goal

@@ -8,7 +8,7 @@ use Rattle.fd_model.specs.Arithmetic.{value_of}
 use Rattle.builtin_calls.specs.SeenTerms.{seen_term}
 use Rattle.builtin_calls.specs.Outcomes.{IsMeaning, IsNamedBy, Tells, meaning}
 use Rattle.builtin_calls.specs.declared.evaluation.EvalFault.{EvalFault}
-use Rattle.builtin_calls.specs.declared.waiting.Operation.{Operation}
+use Rattle.builtin_calls.specs.declared.operations.Operation.{Operation}
 use Rattle.builtin_calls.proofs.Remainders.{read_back}
 use Rattle.builtin_calls.proofs.Showing.{shown_else, held_seen}
 use Rattle.builtin_calls.proofs.Evaluating.{both_valued, held_name, operation_at}

@@ -2,7 +2,7 @@ use Rattle.std.proofs.Common.{◌≡◌, ◌++◌, [], ◌∷◌, neg_ℤ, FitsS
 use Rattle.std.specs.Prelude.{Ok, All}
 use Rattle.heap_cells.proofs.Lemmas.{all_push}
 use Rattle.std.proofs.lemmas.Result.{err_from_is_err_and}
-use Rattle.builtin_calls.specs.declared.waiting.Waiting.TheVariants.{Right}
+use Rattle.builtin_calls.specs.declared.operations.OpenOperation.TheVariants.{Right}
 use Rattle.fd_model.specs.Arithmetic.{opposite_of, of_both}
 use Rattle.builtin_calls.specs.Outcomes.{IsFault, meaning}
 use Rattle.builtin_calls.specs.SeenTerms.{seen_term}

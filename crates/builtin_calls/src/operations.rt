@@ -19,7 +19,7 @@ pub(crate) enum Operation {
 
 /// What waits for the value of an operand.
 #[derive(Clone, Copy)]
-pub(crate) enum Waiting {
+pub(crate) enum OpenOperation {
     /// An operation that waits for its left operand. The right one is to be entered then.
     Left(Operation, Cell),
     /// An operation with its left operand that waits for its right one.
@@ -36,27 +36,27 @@ const MORE: usize = 56;
 
 /// All that waits, of which the last is the next: the first eight here, and those behind them in memory of their own.
 #[derive(Drop)]
-pub(crate) struct Waiters {
-    near: [Waiting; ROOM],
+pub(crate) struct OpenOperations {
+    near: [OpenOperation; ROOM],
     count: usize,
-    far: Vec<Waiting>,
+    far: Vec<OpenOperation>,
 }
 
-impl Model for Waiters {
+impl Model for OpenOperations {
     ghost use Rattle.std.specs.Prelude.{List};
-    ghost use Rattle.builtin_calls.specs.declared.waiting.Waiting.{Waiting};
-    ghost use Rattle.builtin_calls.specs.Waiters.{all_waiting, IsFilled};
+    ghost use Rattle.builtin_calls.specs.declared.operations.OpenOperation.{OpenOperation};
+    ghost use Rattle.builtin_calls.specs.OpenOperations.{all_open, IsFilled};
 
-    ghost Value = { List Waiting };
+    ghost Value = { List OpenOperation };
 
-    ghost view = { λ w. all_waiting w.near w.count w.far.items };
+    ghost view = { λ w. all_open w.near w.count w.far.items };
 
     ghost invariant = { λ w. IsFilled w.near w.count w.far.items };
 }
 
 /// Makes room for more. The error is want of memory.
 #[inline(never)]
-fn make_room(far: &mut Vec<Waiting>) -> Result<(), AllocError>
+fn make_room(far: &mut Vec<OpenOperation>) -> Result<(), AllocError>
     ensures items { far.new.items ≡ far.old.items }
     ensures room { OnOk result (vec_len far.new < vec_capacity far.new) }
 {
@@ -65,7 +65,7 @@ fn make_room(far: &mut Vec<Waiting>) -> Result<(), AllocError>
 
 /// Puts what waits behind the others. The error is want of memory.
 #[inline(always)]
-fn push_far(far: &mut Vec<Waiting>, waits: Waiting) -> Result<(), AllocError>
+fn push_far(far: &mut Vec<OpenOperation>, waits: OpenOperation) -> Result<(), AllocError>
     ensures { OnOk result (far.new.items ≡ far.old.items ++ waits ∷ []) }
 {
     if far.len() == far.capacity() {
@@ -75,14 +75,14 @@ fn push_far(far: &mut Vec<Waiting>, waits: Waiting) -> Result<(), AllocError>
     Ok(())
 }
 
-impl Waiters {
+impl OpenOperations {
     /// Nothing waits.
     #[inline]
-    pub(crate) fn new(alloc: Global) -> Waiters
+    pub(crate) fn new(alloc: Global) -> OpenOperations
         ensures { result ≡ [] }
     {
-        Waiters {
-            near: [Waiting::Opposite; ROOM],
+        OpenOperations {
+            near: [OpenOperation::Opposite; ROOM],
             count: 0,
             far: Vec::new(alloc),
         }
@@ -90,7 +90,7 @@ impl Waiters {
 
     /// Puts what waits behind the others. The error is want of memory.
     #[inline(always)]
-    pub(crate) fn push(&mut self, waits: Waiting) -> Result<(), AllocError>
+    pub(crate) fn push(&mut self, waits: OpenOperation) -> Result<(), AllocError>
         ensures { OnOk result (self.new ≡ self.old ++ waits ∷ []) }
     {
         if self.count < ROOM {
@@ -104,7 +104,7 @@ impl Waiters {
 
     /// Takes the last of what waits away.
     #[inline(always)]
-    pub(crate) fn pop(&mut self) -> Option<Waiting>
+    pub(crate) fn pop(&mut self) -> Option<OpenOperation>
         ensures { MatchOption result (self.old ≡ []) (λ w. self.old ≡ self.new ++ w ∷ []) }
     {
         if let Some(waits) = self.far.pop() {
