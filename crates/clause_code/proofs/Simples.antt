@@ -6,10 +6,6 @@ use Rattle.fd_language.specs.Places.{Place, range_places}
 use Rattle.fd_language.specs.Needs.{once}
 use Rattle.fd_language.specs.Range.{Range}
 use Rattle.fd_language.specs.Term.{Name, Term, Terms, Var, Int, Atom, Comp, no_terms, term}
-use Rattle.fd_model.specs.declared.kinds.ConstraintKind.{ConstraintKind}
-use Rattle.fd_model.specs.declared.kinds.ConstraintKind.TheVariants.{Compare, AllDifferent, Element, Atmost}
-use Rattle.fd_model.specs.declared.kinds.BuiltinKind.{BuiltinKind}
-use Rattle.fd_model.specs.declared.kinds.BuiltinKind.TheVariants as kind
 use Rattle.fd_model.specs.Goal as goal
 use Rattle.fd_model.specs.Constraining.{arguments}
 use Rattle.fd_model.specs.Sound.{GoalBelow, RangeBelow}
@@ -78,16 +74,6 @@ is_writable p valid v n (flat.Builtin k t) o b c = (o.0, term_suits p.pool valid
 
 -- ---- what it does
 
-constraint_same : (k : ConstraintKind) → check.constraint_arity k ≡ constraint_arity k
-constraint_same (Compare r) = refl
-constraint_same AllDifferent = refl
-constraint_same Element = refl
-constraint_same Atmost = refl
-
-builtin_same : (k : BuiltinKind) → check.builtin_arity k ≡ builtin_arity k
-builtin_same kind.True = refl
-builtin_same _ = refl
-
 same_count : (ts : Terms) → check.count ts ≡ count ts
 same_count no_terms = refl
 same_count (term t ts) = ap suc (same_count ts)
@@ -136,10 +122,10 @@ module _ (p : FlatProgram) (ps : List Predicate) (homes : List Register) (apart 
       (goal_post b homes apart true made_now (suc (count ts)) at (λ x l. all x) long (term_of p.pool t) r w.1 (fine ts (w.0.1, variables_suit p.pool (length homes) (slots_of (range_at p r)) w.2)))
   simple_goal n (flat.Constrain k t) is o w c e =
       let u : Term = term_of p.pool t in
-      let d = named (check.constraint_arity k) u o.1 c in
+      let d = named (constraint_arity k) u o.1 c in
       subst (λ l. IsGoalsCode b homes true at l (goal.Constrain k u ∷ [])) (sym e)
       (subst (λ v. IsGoalsCode b homes true at (loads p.pool homes made_now (arguments u) (Constrain k)) (goal.Constrain k v ∷ [])) d.is
-      (goal_constrain b homes apart true made_now (suc (count (arguments u))) at (λ x l. all x) long k d.name (arguments u) (d.many ∙ constraint_same k) (fine (arguments u) (arguments_suit p.pool (length homes) u w.1))))
+      (goal_constrain b homes apart true made_now (suc (count (arguments u))) at (λ x l. all x) long k d.name (arguments u) d.many (fine (arguments u) (arguments_suit p.pool (length homes) u w.1))))
   simple_goal n (flat.Label k t) is o w c e =
       let u : Term = term_of p.pool t in
       subst (λ l. IsGoalsCode b homes true at l (goal.Label k u ∷ [])) (sym e) (goal_label b homes apart true made_now 2 at (λ x l. all x) long k u (fine (term u no_terms) (w.1, tt)))
@@ -151,8 +137,8 @@ module _ (p : FlatProgram) (ps : List Predicate) (homes : List Register) (apart 
       (goal_call b homes apart made_now (suc (count (arguments u))) at (λ x l. all x) long only e.0 s (arguments u) e.2 e.3.arity (slice_get_within ps e.0 s e.2) (fine (arguments u) (arguments_suit p.pool (length homes) u w.1))))
   simple_goal n (flat.Builtin k t) is o w c e =
       let u : Term = term_of p.pool t in
-      let d = named (check.builtin_arity k) u o.1 c.1 in
+      let d = named (builtin_arity k) u o.1 c.1 in
       subst (λ l. IsGoalsCode b homes true at l (goal.Builtin k u ∷ [])) (sym e)
       (subst (λ v. IsGoalsCode b homes true at (loads p.pool homes made_now (arguments u) (Builtin k)) (goal.Builtin k v ∷ [])) d.is
-      (goal_builtin b homes apart true made_now (suc (count (arguments u))) at (λ x l. all x) long k d.name (arguments u) c.0 (d.many ∙ builtin_same k) (fine (arguments u) (arguments_suit p.pool (length homes) u w.1))))
+      (goal_builtin b homes apart true made_now (suc (count (arguments u))) at (λ x l. all x) long k d.name (arguments u) c.0 d.many (fine (arguments u) (arguments_suit p.pool (length homes) u w.1))))
   simple_goal n (flat.Either x y) is o w c e = absurd e
