@@ -11,7 +11,7 @@ use Rattle.fd_language.specs.Range.{greatest as greatest_of}
 use Rattle.fd_language.specs.Term.{Term, Terms, Var, Int, Atom, Comp, no_terms, term}
 use Rattle.fd_language.proofs.Lemmas.{two}
 use Rattle.fd_model.specs.Arithmetic.{Value, value_of}
-use Rattle.fd_model.specs.Builtins.{decided, equated, evaluated, by_value, compared, found, is_same, are_same, is_integer, is_atom, is_atomic, those, numbers_of, equals_number, equals_value, greatest_number, last_of, set_numbers}
+use Rattle.fd_model.specs.Builtins.{decided, equated, evaluated, checked_value, compared, found, is_same, are_same, is_integer, is_atom, is_atomic, those, numbers_of, equals_number, equals_value, greatest_number, last_of, set_numbers}
 use Rattle.fd_model.specs.Levels.{Levels}
 use Rattle.fd_model.specs.declared.kinds.BuiltinKind.{BuiltinKind}
 use Rattle.fd_model.specs.declared.kinds.BuiltinKind.TheVariants as kind
@@ -29,9 +29,9 @@ use Rattle.builtin_calls.specs.declared.evaluation.EvalFault.{EvalFault}
 use Rattle.builtin_calls.specs.declared.evaluation.EvalFault.TheVariants as eval
 use Rattle.builtin_calls.specs.Identical.{TellsIdentical}
 use Rattle.builtin_calls.specs.SeenTerms as calls
-use Rattle.machine_relation.specs.Held.{value_in, value_at, link_at}
-use Rattle.machine_relation.specs.Held as held
-use Rattle.machine_relation.specs.Shown.{cell_set}
+use Rattle.machine_relation.specs.HeldBranches.{value_in, value_at, link_at}
+use Rattle.machine_relation.specs.HeldBranches as held
+use Rattle.machine_relation.specs.AnswerTexts.{cell_set}
 use Rattle.machine_frames.specs.Frames.{link_of, link_in}
 use Rattle.branch_state.specs.States.{State, IsCell, IsSound}
 use Rattle.branch_goals.specs.declared.finding.Found.TheVariants.{Fault, Decided, Equal}
@@ -69,18 +69,18 @@ value_by name s hs ls e f c P p =
     subst (λ (l : Levels). P (value_of (calls.seen_term name s.heaps.now l.current.sets c))) f (subst (λ (h : Heaps). P (value_of (calls.seen_term name h.now ls.current.sets c))) e p)
 
 pub value_told : (name : Naming) (s : State) (c : Cell) (z : ℤ) → value_of (calls.seen_term name s.heaps.now s.levels.current.sets c) ≡ Ok z → IsValueAt name s c (Ok z)
-value_told name s c z e = ap (λ t. by_value (value_of t)) (sym (same_term name s.heaps.now s.levels.current.sets c)) ∙ ap by_value e
+value_told name s c z e = ap (λ t. checked_value (value_of t)) (sym (same_term name s.heaps.now s.levels.current.sets c)) ∙ ap checked_value e
 
-fault_value : (e : EvalFault) (v : Value) (f : QueryFault) → IsFault e v → fault_is e f → by_value v ≡ Err f
-fault_value eval.Unbound v f i g = ap by_value i ∙ ap Err (sym g)
-fault_value eval.NotANumber v f i g = ap by_value i ∙ ap Err (sym g)
-fault_value eval.Overflow v f i g = ap by_value i ∙ ap Err (sym g)
-fault_value eval.ZeroDivisor v f i g = ap by_value i ∙ ap Err (sym g)
+fault_value : (e : EvalFault) (v : Value) (f : QueryFault) → IsFault e v → fault_is e f → checked_value v ≡ Err f
+fault_value eval.Unbound v f i g = ap checked_value i ∙ ap Err (sym g)
+fault_value eval.NotANumber v f i g = ap checked_value i ∙ ap Err (sym g)
+fault_value eval.Overflow v f i g = ap checked_value i ∙ ap Err (sym g)
+fault_value eval.ZeroDivisor v f i g = ap checked_value i ∙ ap Err (sym g)
 fault_value eval.NoMemory v f i g = absurd g
 
 pub fault_told : (name : Naming) (s : State) (c : Cell) (e : EvalFault) (f : QueryFault) → IsFault e (value_of (calls.seen_term name s.heaps.now s.levels.current.sets c)) → fault_is e f → IsValueAt name s c (Err f)
 fault_told name s c e f i g =
-    ap (λ t. by_value (value_of t)) (sym (same_term name s.heaps.now s.levels.current.sets c))
+    ap (λ t. checked_value (value_of t)) (sym (same_term name s.heaps.now s.levels.current.sets c))
     ∙ fault_value e (value_of (calls.seen_term name s.heaps.now s.levels.current.sets c)) f i g
 
 found_compared : (k : BuiltinKind) → IsComparison k → (sets : ℕ → Option (List ℕ)) (a b u v : Term) → found k sets a b u v ≡ compared (holds_by k) (evaluated u) (evaluated v)
@@ -139,9 +139,9 @@ module _ (name : Naming) (h : Cells) (valid : IsHeap h) (all : List (List ℕ)) 
   numbers_free i e s = ap (numbers_of given) (shown_free name h valid all c i e s) ∙ ap (λ o. set_numbers (cell_set G (link_at o G))) (ap link_of e)
 
   in_set : (xs : List ℕ) (k i : ℕ) → G k ≡ xs → link_in h i ≡ Some k → numbers_of given (value_in xs i) ≡ Ok (numbers_in_set xs)
-  in_set [] k i g e = ap (λ o. set_numbers (cell_set G (link_at o G))) e ∙ ap (λ ys. set_numbers (cell_set G (held.link_in ys k))) g ∙ ap (λ ys. Ok (those ys)) g
+  in_set [] k i g e = ap (λ o. set_numbers (cell_set G (link_at o G))) e ∙ ap (λ ys. set_numbers (cell_set G (held.open_link ys k))) g ∙ ap (λ ys. Ok (those ys)) g
   in_set (w ∷ []) k i g e = refl
-  in_set (x ∷ y ∷ ys) k i g e = ap (λ o. set_numbers (cell_set G (link_at o G))) e ∙ ap (λ zs. set_numbers (cell_set G (held.link_in zs k))) g ∙ ap (λ zs. Ok (those zs)) g
+  in_set (x ∷ y ∷ ys) k i g e = ap (λ o. set_numbers (cell_set G (link_at o G))) e ∙ ap (λ zs. set_numbers (cell_set G (held.open_link zs k))) g ∙ ap (λ zs. Ok (those zs)) g
 
   pub numbers_linked : (i k : ℕ) (n : Held) → slot_at h i ≡ linked k → Same h c (cell.Ref i) → the_numbers n ≡ numbers_in_set (G k) → AreNumbersAt name h all c (Ok n)
   numbers_linked i k n e s g = ap (numbers_of given) (shown_linked name h valid all c i k e s) ∙ in_set (G k) k i refl (ap link_of e) ∙ ap Ok (sym g)

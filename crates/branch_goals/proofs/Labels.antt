@@ -13,17 +13,17 @@ use Rattle.fd_model.specs.Members.{as_member}
 use Rattle.heap_cells.specs.declared.Cell.{Cell}
 use Rattle.heap_cells.specs.declared.Cell.TheVariants as cell
 use Rattle.heap_cells.specs.Cells.{Cells, Heaps, is_bound, slot_at, compound_at, IsOf}
-use Rattle.heap_cells.specs.Seen.{IsSeen}
+use Rattle.heap_cells.specs.SeenCells.{IsSeen}
 use Rattle.heap_cells.specs.declared.Seen.{Seen}
 use Rattle.heap_cells.specs.declared.Seen.TheVariants as looks
 use Rattle.heap_cells.specs.Terms.{Naming, Same, term_of, terms_by}
 use Rattle.heap_cells.specs.Valid.{IsHeap}
 use Rattle.heap_cells.proofs.Lemmas.{unbound_term, term-Int, term-Atom, term-Struct}
 use Rattle.range_code.specs.Frames.{family_of}
-use Rattle.machine_relation.specs.Held.{link_at, fixed_frame}
-use Rattle.machine_relation.specs.Held as held
+use Rattle.machine_relation.specs.HeldBranches.{link_at, fixed_frame}
+use Rattle.machine_relation.specs.HeldBranches as held
 use Rattle.machine_relation.specs.Labelling.{labels, done, by_listing, by_picked}
-use Rattle.machine_relation.specs.Shown.{cell_set}
+use Rattle.machine_relation.specs.AnswerTexts.{cell_set}
 use Rattle.machine_frames.specs.Frames.{frame_of, link_in}
 use Rattle.machine_frames.proofs.Lemmas.{unsettled}
 use Rattle.label_search.specs.declared.Member.{Member}
@@ -74,7 +74,7 @@ module _ (name : Naming) (s : State) (o : Order) (c : Cell) where
   abbrev values : ℕ → List ℕ
   values d = values_by INFINITY (cell_set G ((fixed_frame (frame_of name h s.levels.current.posted) G).link d))
 
-  kept_link : (xs : List ℕ) (k : ℕ) → 1 < length xs → held.link_in xs k ≡ Some k
+  kept_link : (xs : List ℕ) (k : ℕ) → 1 < length xs → held.open_link xs k ≡ Some k
   kept_link [] k l = absurd (omega (arith, l))
   kept_link (x ∷ []) k l = absurd (omega (arith, l))
   kept_link (x ∷ y ∷ ys) k l = refl

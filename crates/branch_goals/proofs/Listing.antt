@@ -19,7 +19,7 @@ use Rattle.term_pool.specs.declared.TheConstants.{NIL, CONS}
 use Rattle.heap_cells.specs.declared.Cell.{Cell}
 use Rattle.heap_cells.specs.declared.Cell.TheVariants as cell
 use Rattle.heap_cells.specs.Cells.{Cells, Compound, free, linked, is_bound, slot_at, compound_at, IsOf}
-use Rattle.heap_cells.specs.Seen.{IsSeen}
+use Rattle.heap_cells.specs.SeenCells.{IsSeen}
 use Rattle.heap_cells.specs.declared.Seen.{Seen}
 use Rattle.heap_cells.specs.declared.Seen.TheVariants as looks
 use Rattle.heap_cells.specs.Terms.{Naming, Same, term_of, terms_by}
@@ -27,7 +27,7 @@ use Rattle.heap_cells.specs.Valid.{IsHeap}
 use Rattle.heap_cells.proofs.Lemmas.{unbound_term, term-Int, term-Atom, term-Struct, none_at_all, both_of}
 use Rattle.heap_terms.specs.Values.{only}
 use Rattle.range_code.specs.Frames.{family_of}
-use Rattle.machine_relation.specs.Held.{value_in, value_at}
+use Rattle.machine_relation.specs.HeldBranches.{value_in, value_at}
 use Rattle.machine_frames.specs.Frames.{link_of, link_in}
 use Rattle.machine_frames.specs.Naming.{full}
 use Rattle.machine_frames.proofs.Lemmas.{full_one}

@@ -3,7 +3,7 @@ use Rattle.std.specs.Prelude.{◌≡◌, ℕ, Bool, not, ℤ, pos, int_le, List,
 use Rattle.std.specs.Ordering.{int_eq}
 use Rattle.fd_language.specs.Term.{Name, Term}
 use Rattle.fd_model.specs.Arithmetic.{query_fault, unbound, not_a_number, overflow, zero_divisor}
-use Rattle.fd_model.specs.Builtins.{Finding, faulted, decided, equated, evaluated, compared, Numbers, one, those, numbers_of, least_number, greatest_number, count, is_open, is_integer, is_atom, is_atomic, is_compound}
+use Rattle.fd_model.specs.Builtins.{Finding, faulted, decided, equated, evaluated, compared, Numbers, one, those, numbers_of, least_number, greatest_number, number_count, is_open, is_integer, is_atom, is_atomic, is_compound}
 use Rattle.fd_model.specs.declared.kinds.BuiltinKind.{BuiltinKind}
 use Rattle.fd_model.specs.declared.kinds.BuiltinKind.TheVariants as kind
 use Rattle.fd_model.specs.declared.kinds.QueryFault.{QueryFault}
@@ -14,8 +14,8 @@ use Rattle.builtin_calls.specs.declared.evaluation.EvalFault.{EvalFault}
 use Rattle.builtin_calls.specs.declared.evaluation.EvalFault.TheVariants as eval
 use Rattle.builtin_calls.specs.Outcomes.{IsNamedBy}
 use Rattle.range_code.specs.Frames.{family_of}
-use Rattle.machine_relation.specs.Held.{link_at}
-use Rattle.machine_relation.specs.Shown.{cell_set}
+use Rattle.machine_relation.specs.HeldBranches.{link_at}
+use Rattle.machine_relation.specs.AnswerTexts.{cell_set}
 use Rattle.machine_frames.specs.Frames.{link_in}
 use Rattle.machine_frames.specs.SeenHeap.{heap_finding}
 use Rattle.branch_state.specs.States.{State, IsCell}
@@ -96,7 +96,7 @@ the_numbers (Those d) = those d.now
 abbrev pub told_by : BuiltinKind → Numbers → ℤ
 told_by kind.FdMin ns = least_number ns
 told_by kind.FdMax ns = greatest_number ns
-told_by _ ns = count ns
+told_by _ ns = number_count ns
 
 -- the only number of a set, or all of it
 abbrev pub numbers_in_set : List ℕ → Numbers

@@ -9,7 +9,7 @@ use Rattle.heap_cells.specs.declared.Cell.TheVariants as cell
 use Rattle.heap_cells.specs.Cells.{Cells}
 use Rattle.heap_cells.specs.Terms.{Naming, term_of}
 use Rattle.machine_relation.specs.Labelling.{Labelled, labels, done, faults}
-use Rattle.machine_relation.specs.Shown.{cell_set}
+use Rattle.machine_relation.specs.AnswerTexts.{cell_set}
 use Rattle.range_code.specs.Frames.{family_of}
 use Rattle.machine_frames.specs.Frames.{link_in}
 use Rattle.machine_frames.specs.SeenHeap.{read_term, heap_label}

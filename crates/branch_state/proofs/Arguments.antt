@@ -8,59 +8,44 @@ use Rattle.fd_model.specs.declared.kinds.QueryFault.TheVariants.{Parameter}
 use Rattle.fd_language.specs.declared.range_node.Need.{Need}
 use Rattle.fd_language.specs.Family.{has}
 use Rattle.fd_language.specs.Lists.{Each}
-use Rattle.fd_language.specs.Range.{Range, Span, One, Dom, Union, Inter, Outside, Plus, Minus, Times, Over, Expr, Number, Infinity, Param, Min, Max, Val, Add, Sub, Mul, DivDown, DivUp, params}
-use Rattle.fd_language.specs.RangeRenaming.{rename_expr, rename_range}
-use Rattle.fd_language.specs.Check.{fill, fill_range}
+use Rattle.fd_language.specs.Range.{Range, Number, Min, Max, Val, Role, a_parameter, a_min, a_max, a_val, a_dom, is_parameter_role, params}
+use Rattle.fd_language.specs.RangeRenaming.{renaming, rename_range}
+use Rattle.fd_language.specs.Check.{filling, fill_range}
 use Rattle.fd_language.specs.Term.{Substitution}
 use Rattle.fd_language.specs.Needs.{meets, need_of}
-use Rattle.fd_language.specs.Places.{Place, expr_places, range_places}
-use Rattle.fd_language.proofs.Lemmas.{each_before, each_after, two}
+use Rattle.fd_language.specs.Occurrences.{Occurrence, range_occurrences}
+use Rattle.fd_language.proofs.Lemmas.{Agree, both_new, new_twice, occurrences_agree}
 use Rattle.range_code.specs.declared.frame.Arg.{Arg}
 use Rattle.range_code.specs.Slots.{slots_of, slot_of, slot_needs, need_at}
-use Rattle.range_code.specs.Frames.{IsArg, AreArgs, arg_at, variable_of, integer_of, slot_variable, slot_integer, posted}
+use Rattle.range_code.specs.Frames.{IsArg, AreArgs, arg_at, variable_of, arg_integer, slot_variable, slot_integer, posted}
 use Rattle.range_code.proofs.Lemmas.{has_once}
 use Rattle.fd_model.specs.Posting.{or_later}
 use Rattle.fd_model.specs.Posting as seen
 use Rattle.branch_state.specs.CellNaming.{slots_open}
 use Rattle.branch_state.specs.Naming.{offence, first_in, StandsIn, AllStand}
-use Rattle.branch_state.proofs.Places.{AreSettled, variables}
+use Rattle.branch_state.proofs.Occurrences.{AreSettled, variables}
 
 pub none_both : (a b : Option QueryFault) → or_later a b ≡ None → (a ≡ None) × (b ≡ None)
 none_both (Some x) b h = absurd (cc)
 none_both None b h = (refl, h)
 
--- two ways to fill and rename a range, which agree at its places
+-- two ways to fill and rename a range, which agree at its occurrences
 module _ (f g : ℕ → ℕ) (p q : ℕ → ℤ) where
-  abbrev pub Agrees : Place → Type 0
+  abbrev pub Agrees : Occurrence → Type 0
   Agrees x = (x.parameter ≡ true → p x.variable ≡ q x.variable) × (x.parameter ≡ false → f x.variable ≡ g x.variable)
 
-  both : {A B C : Type 0} (op : A → B → C) {a a' : A} {b b' : B} (xs ys : List Place) → (Each Agrees xs → a ≡ a') → (Each Agrees ys → b ≡ b') → Each Agrees (xs ++ ys) → op a b ≡ op a' b'
-  both op xs ys i j h = two op (i (each_before Agrees xs ys h)) (j (each_after Agrees xs ys h))
-
-  expr_same : (e : Expr) → Each Agrees (expr_places e) → rename_expr f (fill p e) ≡ rename_expr g (fill q e)
-  expr_same (Number z) h = refl
-  expr_same Infinity h = refl
-  expr_same (Param x) h = ap Number (h.0.0 refl)
-  expr_same (Min y) h = ap Min (h.0.1 refl)
-  expr_same (Max y) h = ap Max (h.0.1 refl)
-  expr_same (Val y) h = ap Val (h.0.1 refl)
-  expr_same (Add a b) h = both Add (expr_places a) (expr_places b) (expr_same a) (expr_same b) h
-  expr_same (Sub a b) h = both Sub (expr_places a) (expr_places b) (expr_same a) (expr_same b) h
-  expr_same (Mul a b) h = both Mul (expr_places a) (expr_places b) (expr_same a) (expr_same b) h
-  expr_same (DivDown a b) h = both DivDown (expr_places a) (expr_places b) (expr_same a) (expr_same b) h
-  expr_same (DivUp a b) h = both DivUp (expr_places a) (expr_places b) (expr_same a) (expr_same b) h
-
-  pub range_same : (r : Range) → Each Agrees (range_places r) → rename_range f (fill_range p r) ≡ rename_range g (fill_range q r)
-  range_same (Span a b) h = both Span (expr_places a) (expr_places b) (expr_same a) (expr_same b) h
-  range_same (One t) h = ap One (expr_same t h)
-  range_same (Dom y) h = ap Dom (h.0.1 refl)
-  range_same (Union r s) h = both Union (range_places r) (range_places s) (range_same r) (range_same s) h
-  range_same (Inter r s) h = both Inter (range_places r) (range_places s) (range_same r) (range_same s) h
-  range_same (Outside r) h = ap Outside (range_same r h)
-  range_same (Plus r c) h = both Plus (range_places r) (expr_places c) (range_same r) (expr_same c) h
-  range_same (Minus r c) h = both Minus (range_places r) (expr_places c) (range_same r) (expr_same c) h
-  range_same (Times r c) h = both Times (range_places r) (expr_places c) (range_same r) (expr_same c) h
-  range_same (Over r c) h = both Over (range_places r) (expr_places c) (range_same r) (expr_same c) h
+  pub range_same : (r : Range) → Each Agrees (range_occurrences r) → rename_range f (fill_range p r) ≡ rename_range g (fill_range q r)
+  range_same r h =
+      new_twice (renaming f) (filling p) r
+      ∙ occurrences_agree (both_new (renaming f) (filling p)) (both_new (renaming g) (filling q)) Agrees by_role r h
+      ∙ sym (new_twice (renaming g) (filling q) r)
+    where
+      by_role : (k : Role) (y : ℕ) → Agrees (record { variable = y; parameter = is_parameter_role k }) → Agree (both_new (renaming f) (filling p)) (both_new (renaming g) (filling q)) k y
+      by_role a_parameter y e = ap Number (e.0 refl)
+      by_role a_min y e = ap Min (e.1 refl)
+      by_role a_max y e = ap Max (e.1 refl)
+      by_role a_val y e = ap Val (e.1 refl)
+      by_role a_dom y e = e.1 refl
 
 -- the place of a member
 first_place : (xs : List ℕ) (y : ℕ) (d : ℕ) → has xs y ≡ true → (position_or_len (nat_eq y) xs < length xs) × (get_or xs (position_or_len (nat_eq y) xs) d ≡ y)
@@ -92,14 +77,14 @@ module _ (s : Substitution) (of : ℕ → ℕ) (r : Range) (as' : List Arg) (sta
   by_parameter : (y : ℕ) → has (params r) y ≡ true → StandsIn s of y (need_at r y) (arg_at as' (slot_of r y)) → slot_integer as' (slot_of r y) ≡ seen.integer_of (s y)
   by_parameter y h t =
       let k : StandsIn s of y (Some (need_of r y)) (arg_at as' (slot_of r y)) = subst (λ n. StandsIn s of y n (arg_at as' (slot_of r y))) (ap (λ b. cond b (Some (need_of r y)) None) h) t in
-      ap integer_of k.2 ∙ sym (ap seen.integer_of k.1)
+      ap arg_integer k.2 ∙ sym (ap seen.integer_of k.1)
 
   by_cell : (y : ℕ) → has (params r) y ≡ false → StandsIn s of y (need_at r y) (arg_at as' (slot_of r y)) → slot_variable as' (slot_of r y) ≡ of y
   by_cell y h t =
       let k : StandsIn s of y None (arg_at as' (slot_of r y)) = subst (λ n. StandsIn s of y n (arg_at as' (slot_of r y))) (ap (λ b. cond b (Some (need_of r y)) None) h) t in
       ap variable_of k
 
-  each_agrees : (qs : List Place) → AreSettled (params r) qs → ((y : ℕ) → has (variables qs) y ≡ true → has (slots_of r) y ≡ true) → Each (Agrees (λ y. slot_variable as' (slot_of r y)) of (λ y. slot_integer as' (slot_of r y)) (λ y. seen.integer_of (s y))) qs
+  each_agrees : (qs : List Occurrence) → AreSettled (params r) qs → ((y : ℕ) → has (variables qs) y ≡ true → has (slots_of r) y ≡ true) → Each (Agrees (λ y. slot_variable as' (slot_of r y)) of (λ y. slot_integer as' (slot_of r y)) (λ y. seen.integer_of (s y))) qs
   each_agrees [] h k = tt
   each_agrees (x ∷ qs) h k = (
     (
@@ -112,8 +97,8 @@ module _ (s : Substitution) (of : ℕ → ℕ) (r : Range) (as' : List Arg) (sta
     here x xs = or_left (x == x) (has xs x) (eq-eqb x x refl)
 
   -- the range that these arguments make
-  pub posted_is : AreSettled (params r) (range_places r) → posted r as' ≡ rename_range of (fill_range (λ y. seen.integer_of (s y)) r)
-  posted_is h = range_same (λ y. slot_variable as' (slot_of r y)) of (λ y. slot_integer as' (slot_of r y)) (λ y. seen.integer_of (s y)) r (each_agrees (range_places r) h (λ y k. has_once (variables (range_places r)) y ∙ k))
+  pub posted_is : AreSettled (params r) (range_occurrences r) → posted r as' ≡ rename_range of (fill_range (λ y. seen.integer_of (s y)) r)
+  posted_is h = range_same (λ y. slot_variable as' (slot_of r y)) of (λ y. slot_integer as' (slot_of r y)) (λ y. seen.integer_of (s y)) r (each_agrees (range_occurrences r) h (λ y k. has_once (variables (range_occurrences r)) y ∙ k))
 
 -- they are arguments of the range, where no parameter offends
 pub are_args : (count : ℕ) (s : Substitution) (of : ℕ → ℕ) (ys : List ℕ) (ns : List (Option Need)) (as' : List Arg) → AllStand s of ys ns as' → first_in s ys ns ≡ None → ((y : ℕ) → has (slots_open ys ns) y ≡ true → offence None (s y) ≡ None → of y < count) → AreArgs count ns as'

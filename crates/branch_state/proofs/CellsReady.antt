@@ -4,7 +4,7 @@ use Rattle.std.proofs.lemmas.Bool.{or_left, or_right, true≢false}
 use Rattle.std.proofs.lemmas.List.{length-map}
 use Rattle.fd_language.specs.declared.range_node.Need.{Need}
 use Rattle.fd_language.specs.Family.{Family, has}
-use Rattle.fd_language.specs.Places.{range_places}
+use Rattle.fd_language.specs.Occurrences.{range_occurrences}
 use Rattle.fd_language.specs.Range.{Range}
 use Rattle.fd_language.specs.Term.{Term, Var, Int, Atom, Comp, Substitution}
 use Rattle.fd_language.proofs.Lemmas.{has_either, in_left, in_right, only_member}
@@ -24,7 +24,7 @@ use Rattle.branch_state.specs.CellNaming.{shown_as, shown_slots, slots_open, Nam
 use Rattle.branch_state.specs.Naming.{LooksAs, IsKind, IsInteger, offence, first_in, Apart, StandsIn, AllStand, OwnLinks}
 use Rattle.branch_state.proofs.Gathering.{apart_once}
 use Rattle.branch_state.proofs.Looking.{look_kind, number_is}
-use Rattle.branch_state.proofs.Places.{variables}
+use Rattle.branch_state.proofs.Occurrences.{variables}
 use Rattle.branch_state.proofs.Preparing.{fine_at, take_lengths, take_next, stand_more}
 use Rattle.branch_state.proofs.TermNaming.{IsNextTerm, terms_start, terms_same, term_next}
 
@@ -46,7 +46,7 @@ slot_shown name h G (y ∷ ys) (c ∷ ds) d a e (suc i) l =
 
 -- and so is each slot of a range
 pub cell_shown : (name : Naming) (h : Cells) (sets : List (List ℕ)) (r : Range) (ds : List Cell) (d : Cell) → length ds ≡ length (slots_of r) → (i : ℕ) → i < length (slots_of r) → shown_slots name h sets r ds (get_or (slots_of r) i 0) ≡ shown_as name h sets (get_or ds i d)
-cell_shown name h sets r ds d e i l = slot_shown name h (family_of sets) (slots_of r) ds d (apart_once (variables (range_places r))) e i l
+cell_shown name h sets r ds d e i l = slot_shown name h (family_of sets) (slots_of r) ds d (apart_once (variables (range_occurrences r))) e i l
 
 -- the offence of a slot, by what its cell looks as
 pub cell_offence : (name : Naming) (h : Cells) (sets : List (List ℕ)) (r : Range) (ds : List Cell) (d : Cell) → length ds ≡ length (slots_of r) → (i : ℕ) → i < length (slots_of r) → (k : Look) → LooksAs h (shown_as name h sets (get_or ds i d)) k → (need : Option Need) (o : Option QueryFault) → ((t : Term) → IsKind t k → o ≡ offence need t)

@@ -16,7 +16,7 @@ use Rattle.machine_frames.specs.Frames.{link_of}
 use Rattle.unify_core.specs.declared.Touch.{Touch}
 use Rattle.unify_core.specs.Occurs.{IsAbsentAmong}
 use Rattle.unify_core.specs.Outcome.{IfTrue, IfFalse}
-use Rattle.unify_core.specs.Unified.{CannotUnify, IsEqualled}
+use Rattle.unify_core.specs.Unifications.{CannotUnify, IsEqualled}
 use Rattle.machine_frames.proofs.Lemmas.{of_grown}
 use Rattle.unify_core.proofs.Lemmas.{IsBehind, left_bound}
 use Rattle.branch_state.specs.Compounds.{IsMade, IsCompoundOf, BindsCompound}

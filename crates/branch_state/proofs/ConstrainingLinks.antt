@@ -13,7 +13,7 @@ use Rattle.heap_cells.specs.declared.Cell.TheVariants as cell
 use Rattle.heap_cells.specs.declared.Seen.{Seen}
 use Rattle.heap_cells.specs.declared.Seen.TheVariants as seen
 use Rattle.heap_cells.specs.Cells.{Cells, Compound, free, linked, is_bound, slot_at, with_slot}
-use Rattle.heap_cells.specs.Seen.{IsSeen}
+use Rattle.heap_cells.specs.SeenCells.{IsSeen}
 use Rattle.heap_cells.specs.Terms.{Naming, term_of, terms_by, Same}
 use Rattle.heap_cells.specs.Valid.{IsHeap}
 use Rattle.heap_cells.proofs.Lemmas.{unbound_term, term-Int, term-Atom, term-Struct}
@@ -24,7 +24,7 @@ use Rattle.branch_state.specs.declared.look.Look.{Look}
 use Rattle.branch_state.specs.declared.look.Look.TheVariants.{Open, Linked}
 use Rattle.branch_state.specs.Naming.{LooksAs, integers, IsNaming, NameStep, OwnLinks}
 use Rattle.branch_state.proofs.ConstrainingHeaps.{unbound_kept}
-use Rattle.branch_state.proofs.Named.{naming_start, naming_next}
+use Rattle.branch_state.proofs.StoreVariables.{naming_start, naming_next}
 
 no_name : Naming
 no_name a = []

@@ -8,11 +8,11 @@ use Rattle.fd_language.specs.declared.range_node.Need.{Need}
 use Rattle.fd_language.specs.Family.{has}
 use Rattle.fd_language.specs.Lists.{Each}
 use Rattle.fd_language.specs.Needs.{need_of}
-use Rattle.fd_language.specs.Places.{Place, range_places}
+use Rattle.fd_language.specs.Occurrences.{Occurrence, range_occurrences}
 use Rattle.fd_language.specs.Range.{Range, Indexical, reads, params}
 use Rattle.fd_language.specs.RangeRenaming.{rename_range, rename_indexical}
 use Rattle.fd_language.specs.Term.{Var, apply}
-use Rattle.fd_language.proofs.Lemmas.{filled_as_is, has_either, in_left, in_right, two, map_has, reads_map, none_placed, free_places_read}
+use Rattle.fd_language.proofs.Lemmas.{filled_as_is, has_either, in_left, in_right, two, map_has, reads_map, none_parameter, free_occurrences_read}
 use Rattle.fd_model.specs.Closed.{constrained, AllPosted}
 use Rattle.fd_model.specs.ConstraintLaws.{AllFresh}
 use Rattle.fd_model.specs.Constraining.{equations}
@@ -43,7 +43,7 @@ use Rattle.propagate_queue.specs.Postings.{ranged}
 use Rattle.unify_core.specs.declared.Touch.{Touch}
 use Rattle.unify_core.specs.declared.Touch.TheVariants.{Value}
 use Rattle.branch_state.specs.Constraints.{variables_in, store_variable, row_posting, row_touches, with_variables, AreFrom, AreOpen, AreLinked, firsts, IsUnbound, AreUnbound, IsRowOf}
-use Rattle.branch_state.specs.Ready.{IsRowReady}
+use Rattle.branch_state.specs.LinkedRows.{IsRowReady}
 use Rattle.branch_state.specs.Naming.{or_zero, IsNaming, StandsIn, AllStand, OwnLinks}
 use Rattle.branch_state.specs.States.{IsPair, IsSettled}
 use Rattle.branch_state.specs.Steps.{IsTouchBelow, AreTouchesBelow}
@@ -51,15 +51,15 @@ use Rattle.branch_state.proofs.Arguments.{posted_is}
 use Rattle.branch_state.proofs.Constraining.{all_joined}
 use Rattle.branch_state.proofs.ConstrainingHeaps.{added_valid, added_grown, added_size, added_parts, added_atoms, bound_size, bound_parts, bound_valid, bound_terms, bound_links, bound_atoms, unbound_by, unbound_kept}
 use Rattle.branch_state.proofs.ConstrainingSteps.{linked_slot}
-use Rattle.branch_state.proofs.Listed.{same_ranged, same_instances}
-use Rattle.branch_state.proofs.Places.{AreSettled}
+use Rattle.branch_state.proofs.PostingLists.{same_ranged, same_instances}
+use Rattle.branch_state.proofs.Occurrences.{AreSettled}
 use Rattle.branch_state.proofs.Touches.{map_twice, EachPosting, touch_names}
 
 -- ---- ranges without parameters
 
 -- the slots are what is read
 slots_read : (r : Range) → params r ≡ [] → (x : ℕ) → has (slots_of r) x ≡ has (reads r) x
-slots_read r e x = has_once (map (λ (p : Place). p.variable) (range_places r)) x ∙ ap (λ xs. has xs x) (free_places_read r (none_placed r e))
+slots_read r e x = has_once (map (λ (p : Occurrence). p.variable) (range_occurrences r)) x ∙ ap (λ xs. has xs x) (free_occurrences_read r (none_parameter r e))
 
 needs_none : (r : Range) → params r ≡ [] → (x : ℕ) → need_at r x ≡ None
 needs_none r e x = ap (λ ys. cond (has ys x) (Some (need_of r x)) None) e
@@ -69,13 +69,13 @@ stand_plain : (of : ℕ → ℕ) (need : ℕ → Option Need) → ((x : ℕ) →
 stand_plain of need none [] = tt
 stand_plain of need none (y ∷ ys) = (subst (λ n. StandsIn Var of y n (arg.Var (of y))) (sym (none y)) refl, stand_plain of need none ys)
 
-settled_plain : (xs : List ℕ) → xs ≡ [] → (ps : List Place) → Each (λ p. p.parameter ≡ false) ps → AreSettled xs ps
+settled_plain : (xs : List ℕ) → xs ≡ [] → (ps : List Occurrence) → Each (λ p. p.parameter ≡ false) ps → AreSettled xs ps
 settled_plain xs e [] h = tt
 settled_plain xs e (p ∷ ps) h = (h.0 ∙ sym (ap (λ ys. has ys p.variable) e), settled_plain xs e ps h.1)
 
 posted_plain : (of : ℕ → ℕ) (r : Range) → params r ≡ [] → posted r (map (λ y. arg.Var (of y)) (slots_of r)) ≡ rename_range of r
 posted_plain of r e =
-    posted_is Var of r (map (λ y. arg.Var (of y)) (slots_of r)) (stand_plain of (need_at r) (needs_none r e) (slots_of r)) (settled_plain (params r) e (range_places r) (none_placed r e))
+    posted_is Var of r (map (λ y. arg.Var (of y)) (slots_of r)) (stand_plain of (need_at r) (needs_none r e) (slots_of r)) (settled_plain (params r) e (range_occurrences r) (none_parameter r e))
     ∙ ap (rename_range of) (filled_as_is (λ y. integer_of (Var y)) r e)
 
 args_plain : (count : ℕ) (of : ℕ → ℕ) (need : ℕ → Option Need) → ((x : ℕ) → need x ≡ None) → (ys : List ℕ) → ((y : ℕ) → has ys y ≡ true → of y < count) → AreArgs count (map need ys) (map (λ y. arg.Var (of y)) ys)

@@ -32,8 +32,8 @@ use Rattle.propagate_queue.specs.Instances.{posted_by, IsInstance}
 use Rattle.unify_core.specs.declared.Touch.{Touch}
 use Rattle.unify_core.specs.Outcome.{IfTrue, IfFalse}
 use Rattle.branch_state.specs.Constraints.{row_of, IsConstrained, Constrains, IsRowOf}
-use Rattle.branch_state.specs.Ready.{IsRowReady}
-use Rattle.branch_state.specs.Naming.{OwnLinks, with_sets}
+use Rattle.branch_state.specs.LinkedRows.{IsRowReady}
+use Rattle.branch_state.specs.Naming.{OwnLinks, with_level_sets}
 use Rattle.branch_state.specs.Ranges.{kept_step}
 use Rattle.branch_state.specs.States.{State, IsPair, ArePairs, IsSound, IsSettled, HasNoModel, IsCell}
 use Rattle.branch_state.specs.Steps.{AreTouchesBelow}
@@ -65,7 +65,7 @@ module _ (names : List Name) (old : State) (o : IsSound old) (kind : ConstraintK
   fixed_fits = touches_fit old.heaps.now old.levels.current.sets (own_links old o) qs o.now.posted y row now S list fixed r
 
   -- whether all has a model then
-  pub constraint_step : (hs : Heaps) → hs.now ≡ now → hs.below ≡ old.heaps.below → (st ls : Levels) → st ≡ with_sets old.levels S → ls.below ≡ st.below → ls.spent ≡ false → length ls.current.sets ≡ length S → (kept : Bool)
+  pub constraint_step : (hs : Heaps) → hs.now ≡ now → hs.below ≡ old.heaps.below → (st ls : Levels) → st ≡ with_level_sets old.levels S → ls.below ≡ st.below → ls.spent ≡ false → length ls.current.sets ≡ length S → (kept : Bool)
       → IfTrue {E = memory.NoMemory} (Ok kept) (ls.current.posted ≡ (st.current.posted ++ posted_by list) ++ posts (store_touches fixed)) → IfTrue {E = memory.NoMemory} (Ok kept) ((ls.current.failed ≡ false) × IsSettled ls.current) → IfFalse {E = memory.NoMemory} (Ok kept) (HasNoModel ((st.current.posted ++ posted_by list) ++ posts (store_touches fixed)))
       → Constrains names old kind c (record { atoms = old.atoms; heaps = hs; levels = ls }) (kept_step kept)
   constraint_step hs e f st ls g b u len true p v none =

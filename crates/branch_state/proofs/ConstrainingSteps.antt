@@ -9,7 +9,7 @@ use Rattle.fd_language.specs.Range.{Range, Indexical}
 use Rattle.fd_language.proofs.Lemmas.{in_left, only_member}
 use Rattle.heap_cells.specs.declared.Cell.TheVariants as cell
 use Rattle.heap_cells.specs.Cells.{Cells, Heaps, Slot, free, linked, bound, is_bound, slot_at, with_slot, with_now}
-use Rattle.heap_cells.specs.Seen.{IsRoot}
+use Rattle.heap_cells.specs.SeenCells.{IsRoot}
 use Rattle.constraint_expand.specs.Posts.{indexicals}
 use Rattle.range_code.specs.Slots.{slots_of}
 use Rattle.unify_core.specs.declared.Touch.{Touch}

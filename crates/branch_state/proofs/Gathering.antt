@@ -1,4 +1,4 @@
--- What is gathered of a range place by place is what is gathered slot by slot.
+-- What is gathered of a range occurrence by occurrence is what is gathered slot by slot.
 use Rattle.std.proofs.Common.{◌≡◌, ℕ, Bool, true, false, cond, not, ◌&&◌, ◌==◌, List, [], ◌∷◌, map, filter, Option, Some, None, refl, ap, sym, ◌∙◌, eqb-true, eq-eqb}
 use Rattle.std.proofs.lemmas.Bool.{and_left}
 use Rattle.fd_model.specs.declared.kinds.QueryFault.{QueryFault}
@@ -7,7 +7,7 @@ use Rattle.fd_language.specs.Family.{has}
 use Rattle.fd_language.specs.Term.{Term, Var, Int, Atom, Comp, Substitution}
 use Rattle.fd_language.specs.Range.{Range, params}
 use Rattle.fd_language.specs.Needs.{once, need_of}
-use Rattle.fd_language.specs.Places.{Place, range_places}
+use Rattle.fd_language.specs.Occurrences.{Occurrence, range_occurrences}
 use Rattle.fd_language.specs.RangeVerdict.{has_one_use}
 use Rattle.fd_model.specs.Posting.{offence_at, or_later, first_offence}
 use Rattle.fd_language.proofs.Lemmas.{two}
@@ -16,7 +16,7 @@ use Rattle.range_code.proofs.Lemmas.{has_kept}
 use Rattle.range_code.specs.Slots.{slots_of, slot_needs, need_at}
 use Rattle.branch_state.specs.Naming.{offence, first_in, Apart}
 use Rattle.branch_state.proofs.Lists.{filter_agree, once_filter}
-use Rattle.branch_state.proofs.Places.{AreSettled, settled, variables, plain_filter}
+use Rattle.branch_state.proofs.Occurrences.{AreSettled, settled, variables, plain_filter}
 
 abbrev pub is_open : Option Need → Bool
 is_open None = true
@@ -51,7 +51,7 @@ module _ (look : Substitution) (need : ℕ → Need) (ps : List ℕ) where
   abbrev at : ℕ → Option QueryFault
   at y = offence_at need (record { variable = y; parameter = has ps y }) (look y)
 
-  offences : (qs : List Place) → AreSettled ps qs → first_offence need look qs ≡ first_by at (variables qs)
+  offences : (qs : List Occurrence) → AreSettled ps qs → first_offence need look qs ≡ first_by at (variables qs)
   offences [] h = refl
   offences (p ∷ qs) h = two or_later (ap (λ b. offence_at need (record { variable = p.variable; parameter = b }) (look p.variable)) h.0) (offences qs h.1)
 
@@ -71,17 +71,17 @@ module _ (look : Substitution) (need : ℕ → Need) (ps : List ℕ) where
   slot_offences [] = refl
   slot_offences (x ∷ xs) = two or_later (at_slot x) (slot_offences xs)
 
--- the first offence of a range's places is that of its slots
-pub offence_of_range : (look : Substitution) (r : Range) → has_one_use r ≡ true → first_offence (need_of r) look (range_places r) ≡ first_in look (slots_of r) (slot_needs r)
+-- the first offence of a range's occurrences is that of its slots
+pub offence_of_range : (look : Substitution) (r : Range) → has_one_use r ≡ true → first_offence (need_of r) look (range_occurrences r) ≡ first_in look (slots_of r) (slot_needs r)
 offence_of_range look r one =
-    offences look (need_of r) (params r) (range_places r) (settled r one)
-    ∙ first_once (at look (need_of r) (params r)) (variables (range_places r))
+    offences look (need_of r) (params r) (range_occurrences r) (settled r one)
+    ∙ first_once (at look (need_of r) (params r)) (variables (range_occurrences r))
     ∙ slot_offences look (need_of r) (params r) (slots_of r)
 
 -- the slots that are no parameters are what it reads
-pub plain_slots : (r : Range) → has_one_use r ≡ true → once (plain (range_places r)) ≡ filter (λ y. is_open (need_at r y)) (slots_of r)
+pub plain_slots : (r : Range) → has_one_use r ≡ true → once (plain (range_occurrences r)) ≡ filter (λ y. is_open (need_at r y)) (slots_of r)
 plain_slots r one =
-    ap once (plain_filter (params r) (range_places r) (settled r one)) ∙ sym (once_filter (λ y. not (has (params r) y)) (variables (range_places r)))
+    ap once (plain_filter (params r) (range_occurrences r) (settled r one)) ∙ sym (once_filter (λ y. not (has (params r) y)) (variables (range_occurrences r)))
     ∙ filter_agree (λ y. not (has (params r) y)) (λ y. is_open (need_at r y)) (slots_of r) (λ y. sym (open_need Var r y))
 
 apart_filter : (p : ℕ → Bool) (xs : List ℕ) → Apart xs → Apart (filter p xs)

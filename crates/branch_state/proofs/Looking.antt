@@ -11,13 +11,13 @@ use Rattle.heap_cells.specs.declared.Cell.TheVariants as cell
 use Rattle.heap_cells.specs.Cells.{Cells, Compound, free, linked, is_bound, slot_at, compound_at}
 use Rattle.heap_cells.specs.declared.Seen.{Seen}
 use Rattle.heap_cells.specs.declared.Seen.TheVariants as seen
-use Rattle.heap_cells.specs.Seen.{IsSeen}
+use Rattle.heap_cells.specs.SeenCells.{IsSeen}
 use Rattle.heap_cells.specs.Terms.{Naming, term_of, Same, terms_by}
 use Rattle.heap_cells.specs.Valid.{IsHeap}
 use Rattle.heap_cells.proofs.Lemmas.{unbound_term, term-Int, term-Atom, term-Struct}
 use Rattle.term_pool.specs.declared.AtomId.{AtomId}
 use Rattle.unify_core.specs.Touches.{IsSymbolic}
-use Rattle.machine_relation.specs.Held.{value_in, value_at}
+use Rattle.machine_relation.specs.HeldBranches.{value_in, value_at}
 use Rattle.machine_frames.specs.Environments.{cell_at, cell_look}
 use Rattle.machine_frames.specs.Frames.{link_of, link_in}
 use Rattle.machine_frames.specs.SeenHeap.{seen_env}

@@ -19,13 +19,13 @@ use Rattle.unify_core.specs.declared.Touch.TheVariants.{Value, Same}
 use Rattle.unify_core.specs.Effort.{unnamed}
 use Rattle.unify_core.specs.Outcome.{IfTrue, IfFalse}
 use Rattle.unify_core.specs.Touches.{NamesLinked}
-use Rattle.unify_core.specs.Unified.{AreUnified, IsEqualled, KeepsAtoms}
+use Rattle.unify_core.specs.Unifications.{AreUnified, IsEqualled, KeepsAtoms}
 use Rattle.propagate_queue.specs.Running.{AreDomains}
 use Rattle.machine_frames.specs.Frames.{link_in, link_of}
 use Rattle.machine_frames.proofs.Lemmas.{slot_behind, linked_at, link_at}
 use Rattle.branch_state.specs.States.{State, IsPair, ArePairs, IsSound, IsSettled, first_state, no_level, IsCell}
 use Rattle.branch_state.specs.Steps.{IsTouchBelow, AreTouchesBelow, posted_with}
-use Rattle.branch_state.proofs.Settled.{settled}
+use Rattle.branch_state.proofs.LevelModels.{settled}
 use Rattle.branch_state.proofs.Touches.{posted_low}
 
 no_links : (c k : ℕ) → link_in no_cells c ≡ Some k → ⊥

@@ -17,14 +17,14 @@ use Rattle.heap_cells.proofs.Lemmas.{linked_below, of_same, slot_there, slot_els
 use Rattle.range_code.specs.Frames.{family_of}
 use Rattle.unify_core.specs.declared.Touch.{Touch}
 use Rattle.unify_core.specs.declared.Touch.TheVariants.{Value, Same}
-use Rattle.machine_relation.specs.Held.{value_at}
+use Rattle.machine_relation.specs.HeldBranches.{value_at}
 use Rattle.machine_frames.specs.Frames.{link_of, link_in}
 use Rattle.machine_frames.proofs.Lemmas.{linked_none, linked_next}
 use Rattle.branch_state.specs.declared.look.Look.{Look}
 use Rattle.branch_state.specs.declared.look.Look.TheVariants.{Open, Linked, Number, Symbol}
 use Rattle.branch_state.specs.CellNaming.{shown_as, slot_in, AreTold, IsTold, IsTermNaming, IsPut, TermStep}
 use Rattle.branch_state.specs.Naming.{LooksAs, offence, or_zero, OwnLinks}
-use Rattle.branch_state.proofs.Named.{family_more, still_valued}
+use Rattle.branch_state.proofs.StoreVariables.{family_more, still_valued}
 
 -- ---- touches that are told
 

@@ -8,6 +8,6 @@ pub mod Showing
 pub mod Compounds
 pub mod Constraints
 pub mod Listing
-pub mod Ready
+pub mod LinkedRows
 pub mod CellNaming
 pub mod CellPosts

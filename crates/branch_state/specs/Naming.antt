@@ -150,8 +150,8 @@ CanName h (Number z) = Unit {0}
 CanName h Symbol = ⊥
 
 -- the store with other sets on its current level
-abbrev pub with_sets : Levels → List (List ℕ) → Levels
-with_sets ls sets = record ls { current = record ls.current { sets = sets } }
+abbrev pub with_level_sets : Levels → List (List ℕ) → Levels
+with_level_sets ls sets = record ls { current = record ls.current { sets = sets } }
 
 -- the ranges that are posted for a goal
 abbrev pub goal_ranges : Range → ℕ → List Arg → List Touch → List Indexical

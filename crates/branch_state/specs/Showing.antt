@@ -8,8 +8,8 @@ use Rattle.heap_cells.specs.declared.Cell.{Cell}
 use Rattle.heap_cells.specs.Cells.{Cells, IsOf}
 use Rattle.heap_cells.specs.Atoms.{IsAtomBelow}
 use Rattle.heap_cells.specs.Terms.{term_of}
-use Rattle.machine_relation.specs.Held.{link_at}
-use Rattle.machine_relation.specs.Shown.{cell_set}
+use Rattle.machine_relation.specs.HeldBranches.{link_at}
+use Rattle.machine_relation.specs.AnswerTexts.{cell_set}
 use Rattle.range_code.specs.Frames.{family_of}
 use Rattle.term_pool.specs.declared.TermId.{TermId}
 use Rattle.term_pool.specs.Contents.{Contents}

@@ -8,7 +8,7 @@ ghost use Rattle.heap_cells.specs.Terms.{Naming};
 ghost use Rattle.indexmap.specs.IndexMap.{get};
 ghost use Rattle.range_code.specs.Slots.{slots_of};
 ghost use Rattle.branch_state.specs.CellNaming.{shown_as, shown_slots, IsFineGoal, IsFineSlot, TermStep, SlotStep, IsPrepared};
-ghost use Rattle.branch_state.specs.Naming.{LinksBelow, LooksAs, CanName, OwnLinks, with_sets};
+ghost use Rattle.branch_state.specs.Naming.{LinksBelow, LooksAs, CanName, OwnLinks, with_level_sets};
 
 use crate::look::{Look, look_cell};
 use crate::naming::{Prepared, integer_of, name_look, number_arg};
@@ -35,7 +35,7 @@ fn name_term<A: Agenda + Drop>(
     look: Look,
 ) -> Result<usize, NoMemory>
     requires { CanName heap.old.now look }
-    ensures store { OnOk result (store.new ≡ with_sets store.old store.new.current.sets) }
+    ensures store { OnOk result (store.new ≡ with_level_sets store.old store.new.current.sets) }
     ensures below { heap.new.below ≡ heap.old.below }
     ensures named { IfOk result (TermStep look heap.old.now store.old.current.sets
         numbers.old.told.items (get int_eq numbers.old.variables) heap.new.now
@@ -65,7 +65,7 @@ fn slot_argument<A: Agenda + Drop>(
     requires linked { LinksBelow (length store.old.current.sets) heap.old.now }
     requires own { IsOf heap.old.now cell }
     requires fine { IsFineSlot heap.old.now store.old.current.sets need cell }
-    ensures store { OnOk result (store.new ≡ with_sets store.old store.new.current.sets) }
+    ensures store { OnOk result (store.new ≡ with_level_sets store.old store.new.current.sets) }
     ensures below { heap.new.below ≡ heap.old.below }
     ensures step { IfOk result (λ a. (name : Naming) → SlotStep
         (shown_as name heap.old.now store.old.current.sets cell) need heap.old.now
@@ -94,7 +94,7 @@ pub(crate) fn prepare_cells<A: Agenda + Drop>(
     requires counted { length cells.now ≡ length (slots_of code.now) }
     requires looks { (t : Term) × LooksAs heap.old.now t target }
     requires fine { IsFineGoal heap.old.now store.old.current.sets code.now target cells.now }
-    ensures store { OnOk result (store.new ≡ with_sets store.old store.new.current.sets) }
+    ensures store { OnOk result (store.new ≡ with_level_sets store.old store.new.current.sets) }
     ensures below { heap.new.below ≡ heap.old.below }
     ensures ready { IfOk result (λ p. (name : Naming) (t : Term) → LooksAs heap.old.now t target
         → IsPrepared t (shown_slots name heap.old.now store.old.current.sets code.now cells.now)

@@ -12,8 +12,8 @@ ghost use Rattle.term_pool.specs.Valid.{IsPool};
 ghost use Rattle.constraint_expand.specs.Faults.{fault_of as expansion_fault};
 ghost use Rattle.constraint_expand.specs.Views.{Expands};
 ghost use Rattle.branch_state.specs.Constraints.{firsts, store_variable, row_touches, with_variables, with_integers, AreFrom, AreOpen, AreLinked, AreWords, IsRowOf};
-ghost use Rattle.branch_state.specs.Ready.{IsRowReady};
-ghost use Rattle.branch_state.specs.Naming.{OwnLinks, with_sets};
+ghost use Rattle.branch_state.specs.LinkedRows.{IsRowReady};
+ghost use Rattle.branch_state.specs.Naming.{OwnLinks, with_level_sets};
 
 use crate::listing::{list_ranges, variable_of};
 use constraint_expand::{ExpandFault, Expansion, ListCause, expand};
@@ -160,7 +160,7 @@ pub(crate) fn prepare_row<A: Agenda + Drop>(
     requires links { OwnLinks (length store.old.current.sets) heap.old.now }
     requires words { AreWords expansion.equated }
     requires row { IsRowOf heap.old.now expansion }
-    ensures store { OnOk result (store.new ≡ with_sets store.old store.new.current.sets) }
+    ensures store { OnOk result (store.new ≡ with_level_sets store.old store.new.current.sets) }
     ensures below { heap.new.below ≡ heap.old.below }
     ensures ready { IfOk result (λ listed. IsRowReady heap.old.now store.old.current.sets
         expansion heap.new.now store.new.current.sets listed.list.items listed.fixed.items) }

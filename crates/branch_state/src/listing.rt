@@ -7,7 +7,7 @@ ghost use Rattle.constraint_expand.specs.Posts.{indexicals};
 ghost use Rattle.propagate_queue.specs.Instances.{posting};
 ghost use Rattle.branch_state.specs.Constraints.{variables_in, store_variable, row_posting, IsUnbound, AreUnbound, AreLinked};
 ghost use Rattle.branch_state.specs.Listing.{IsAlike, IsSamePosting, AreSamePostings, AreListed, LinksMore};
-ghost use Rattle.branch_state.specs.Naming.{IsNaming, OwnLinks, with_sets};
+ghost use Rattle.branch_state.specs.Naming.{IsNaming, OwnLinks, with_level_sets};
 
 use constraint_expand::Expansion;
 use fd_language::NoMemory;
@@ -65,7 +65,7 @@ pub(crate) struct Listing {
 /// Makes a variable of the heap one of the store, unless it is one.
 fn link<A: Agenda + Drop>(heap: &mut Heap, store: &mut Store<A>, x: u64) -> Result<(), NoMemory>
     requires { IsUnbound heap.old.now x }
-    ensures store { OnOk result (store.new ≡ with_sets store.old store.new.current.sets) }
+    ensures store { OnOk result (store.new ≡ with_level_sets store.old store.new.current.sets) }
     ensures below { heap.new.below ≡ heap.old.below }
     ensures linked { OnOk result (LinksMore heap.old.now store.old.current.sets (x ∷ [])
         heap.new.now store.new.current.sets) }
@@ -85,7 +85,7 @@ fn link_all<A: Agenda + Drop>(
 ) -> Result<(), NoMemory>
     requires unbound { AreUnbound heap.old.now variables.now }
     requires links { OwnLinks (length store.old.current.sets) heap.old.now }
-    ensures store { OnOk result (store.new ≡ with_sets store.old store.new.current.sets) }
+    ensures store { OnOk result (store.new ≡ with_level_sets store.old store.new.current.sets) }
     ensures below { heap.new.below ≡ heap.old.below }
     ensures linked { OnOk result (LinksMore heap.old.now store.old.current.sets variables.now
         heap.new.now store.new.current.sets) }
@@ -154,7 +154,7 @@ fn list_range<A: Agenda + Drop>(
     requires unbound { AreUnbound heap.old.now
         (variables_in (record { target = target; range = range.now } ∷ [])) }
     requires links { OwnLinks (length store.old.current.sets) heap.old.now }
-    ensures store { OnOk result (store.new ≡ with_sets store.old store.new.current.sets) }
+    ensures store { OnOk result (store.new ≡ with_level_sets store.old store.new.current.sets) }
     ensures below { heap.new.below ≡ heap.old.below }
     ensures linked { OnOk result (LinksMore heap.old.now store.old.current.sets
         (variables_in (record { target = target; range = range.now } ∷ []))
@@ -181,7 +181,7 @@ fn list_piece<A: Agenda + Drop>(
 ) -> Result<(), NoMemory>
     requires unbound { AreUnbound heap.old.now (variables_in (indexicals piece.now)) }
     requires links { OwnLinks (length store.old.current.sets) heap.old.now }
-    ensures store { OnOk result (store.new ≡ with_sets store.old store.new.current.sets) }
+    ensures store { OnOk result (store.new ≡ with_level_sets store.old store.new.current.sets) }
     ensures below { heap.new.below ≡ heap.old.below }
     ensures linked { OnOk result (LinksMore heap.old.now store.old.current.sets
         (variables_in (indexicals piece.now)) heap.new.now store.new.current.sets) }
@@ -204,7 +204,7 @@ pub(crate) fn list_ranges<A: Agenda + Drop>(
 ) -> Result<Vec<Instance>, NoMemory>
     requires unbound { AreUnbound heap.old.now (variables_in expansion.old.ranges) }
     requires links { OwnLinks (length store.old.current.sets) heap.old.now }
-    ensures store { OnOk result (store.new ≡ with_sets store.old store.new.current.sets) }
+    ensures store { OnOk result (store.new ≡ with_level_sets store.old store.new.current.sets) }
     ensures below { heap.new.below ≡ heap.old.below }
     ensures equated { expansion.new.equated ≡ expansion.old.equated }
     ensures linked { OnOk result (IsNaming variable heap.old.now store.old.current.sets

@@ -2,7 +2,7 @@
 
 ghost use Rattle.std.specs.Prelude.{◌≡◌, IfOk, OnOk};
 ghost use Rattle.range_code.specs.declared.frame.Arg.TheVariants as arguments;
-ghost use Rattle.branch_state.specs.Naming.{CanName, NameStep, IsInteger, with_sets};
+ghost use Rattle.branch_state.specs.Naming.{CanName, NameStep, IsInteger, with_level_sets};
 
 use crate::look::Look;
 use fd_language::NoMemory;
@@ -27,7 +27,7 @@ pub(crate) fn name_look<A: Agenda + Drop>(
     look: Look,
 ) -> Result<usize, NoMemory>
     requires { CanName heap.old.now look }
-    ensures store { OnOk result (store.new ≡ with_sets store.old store.new.current.sets) }
+    ensures store { OnOk result (store.new ≡ with_level_sets store.old store.new.current.sets) }
     ensures below { heap.new.below ≡ heap.old.below }
     ensures named { IfOk result (NameStep look heap.old.now store.old.current.sets fixed.old.items
         heap.new.now store.new.current.sets fixed.new.items) }

@@ -4,7 +4,7 @@ ghost use Rattle.std.specs.Prelude.{◌≡◌, ◌<◌, ◌≤◌, All, IfOk, On
 ghost use Rattle.heap_cells.specs.declared.Cell.TheVariants as cell;
 ghost use Rattle.heap_cells.specs.Cells.{free, slot_at, with_new_slot};
 ghost use Rattle.unify_core.specs.Outcome.{IfTrue, IfFalse};
-ghost use Rattle.unify_core.specs.Unified.{CannotUnify, IsEqualled};
+ghost use Rattle.unify_core.specs.Unifications.{CannotUnify, IsEqualled};
 ghost use Rattle.branch_state.specs.States.{first_heaps, first_levels, first_state, with_heap, with_pair, HasNoModel, IsSound, IsSoundBelow, IsSameBelow, IsUndone, IsCell};
 ghost use Rattle.branch_state.specs.Steps.{AreTouchesBelow, AreTouchesOf, posted_with};
 ghost use Rattle.branch_state.specs.Compounds.{IsMade, IsCompoundOf, BindsCompound};

@@ -17,7 +17,7 @@ use Rattle.heap_cells.specs.Valid.{IsHeap}
 use Rattle.heap_cells.proofs.Lemmas.{none_at_all, both_of, all_front, last_of, all_reverse, all_push, head_of, tail_of}
 use Rattle.builtin_calls.specs.declared.identity.Pair.{Pair}
 use Rattle.builtin_calls.specs.SeenTerms.{family_of, read_term, seen_term}
-use Rattle.builtin_calls.specs.Shown.{shown, IsHeld}
+use Rattle.builtin_calls.specs.CellTops.{shown, IsHeld}
 use Rattle.builtin_calls.specs.Evaluations.{unnamed}
 use Rattle.builtin_calls.specs.Identical.{TellsIdentical, TellsShown, IsOwnPair, IsEqualPair, weight, paired, IsReduced, IsSettled}
 

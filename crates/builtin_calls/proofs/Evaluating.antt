@@ -23,23 +23,23 @@ use Rattle.builtin_calls.specs.declared.operations.OpenOperation.{OpenOperation}
 use Rattle.builtin_calls.specs.declared.operations.OpenOperation.TheVariants.{Left, Right, Opposite}
 use Rattle.builtin_calls.specs.declared.evaluation.Step.{Step}
 use Rattle.builtin_calls.specs.declared.evaluation.Step.TheVariants.{Enter, Leave}
-use Rattle.fd_model.specs.Arithmetic.{ValueFault, not_a_number, Value, value_of, by_name, of_both, of_one, opposite_of, sum_of, difference_of, product_of, quotient_of, modulo_of}
+use Rattle.fd_model.specs.Arithmetic.{ValueFault, not_a_number, Value, value_of, by_name, value_of_both, value_of_one, opposite_of, integer_sum, integer_difference, integer_product, quotient_of, modulo_of}
 use Rattle.builtin_calls.specs.SeenTerms.{seen_term}
-use Rattle.builtin_calls.specs.Shown.{IsHeld}
+use Rattle.builtin_calls.specs.CellTops.{IsHeld}
 use Rattle.builtin_calls.specs.Outcomes.{IsFault, IsNamedBy, Tells, meaning, operation_of}
 use Rattle.builtin_calls.specs.Evaluations.{after, resumed, step_value, TellsDescent, IsOwn, IsOwnOperation, IsOwnStep, unnamed, burden, GoesOn, Leads, TellsAscent, IsEntered}
 
 -- the operation that a name means
 operation_by : (a b c d e : Bool) (l r : Value) (o : Operation) → cond a (Some Add) (cond b (Some Subtract) (cond c (Some Multiply) (cond d (Some Divide) (cond e (Some Modulo) None)))) ≡ Some o
-    → cond a (of_both sum_of l r) (cond b (of_both difference_of l r) (cond c (of_both product_of l r) (cond d (of_both quotient_of l r) (cond e (of_both modulo_of l r) (Err not_a_number))))) ≡ of_both (meaning o) l r
-operation_by true b c d e l r o h = let f : Add ≡ o = cc in ap (λ x. of_both (meaning x) l r) f
-operation_by false true c d e l r o h = let f : Subtract ≡ o = cc in ap (λ x. of_both (meaning x) l r) f
-operation_by false false true d e l r o h = let f : Multiply ≡ o = cc in ap (λ x. of_both (meaning x) l r) f
-operation_by false false false true e l r o h = let f : Divide ≡ o = cc in ap (λ x. of_both (meaning x) l r) f
-operation_by false false false false true l r o h = let f : Modulo ≡ o = cc in ap (λ x. of_both (meaning x) l r) f
+    → cond a (value_of_both integer_sum l r) (cond b (value_of_both integer_difference l r) (cond c (value_of_both integer_product l r) (cond d (value_of_both quotient_of l r) (cond e (value_of_both modulo_of l r) (Err not_a_number))))) ≡ value_of_both (meaning o) l r
+operation_by true b c d e l r o h = let f : Add ≡ o = cc in ap (λ x. value_of_both (meaning x) l r) f
+operation_by false true c d e l r o h = let f : Subtract ≡ o = cc in ap (λ x. value_of_both (meaning x) l r) f
+operation_by false false true d e l r o h = let f : Multiply ≡ o = cc in ap (λ x. value_of_both (meaning x) l r) f
+operation_by false false false true e l r o h = let f : Divide ≡ o = cc in ap (λ x. value_of_both (meaning x) l r) f
+operation_by false false false false true l r o h = let f : Modulo ≡ o = cc in ap (λ x. value_of_both (meaning x) l r) f
 operation_by false false false false false l r o h = absurd (let f : ⊥ = cc in f)
 
-by_operation : (f : Name) (l r : Value) (o : Operation) → operation_of f ≡ Some o → by_name f l r ≡ of_both (meaning o) l r
+by_operation : (f : Name) (l r : Value) (o : Operation) → operation_of f ≡ Some o → by_name f l r ≡ value_of_both (meaning o) l r
 by_operation f l r o h = operation_by (bytes_eq f (codes "+")) (bytes_eq f (codes "-")) (bytes_eq f (codes "*")) (bytes_eq f (codes "//")) (bytes_eq f (codes "mod")) l r o h
 
 -- an operation of two operands whose values are known
@@ -51,7 +51,7 @@ both_valued names h sets c f (k ∷ l ∷ []) there is p q d text o x m a b u v 
     let by = seen_term name h sets in
     let e : value_of (by c) ≡ meaning o a b =
     ap value_of (is name) ∙ by_operation (name f) (value_of (by k)) (value_of (by l)) o (ap operation_of (n f there ∙ sym x) ∙ m)
-    ∙ ap (λ y. of_both (meaning o) y (value_of (by l))) (u name) ∙ ap (λ y. of_both (meaning o) (Ok a) y) (v name) in
+    ∙ ap (λ y. value_of_both (meaning o) y (value_of (by l))) (u name) ∙ ap (λ y. value_of_both (meaning o) (Ok a) y) (v name) in
     subst (Tells r) (sym e) t
 both_valued names h sets c f (k ∷ l ∷ i ∷ ks) there is p q d text o x m a b u v r t name n = absurd (omega arith)
 
@@ -127,8 +127,8 @@ module _ (names : List Name) (h : Cells) (sets : List (List ℕ)) where
     entered_opposite d new t a m e s = subst (λ x. GoesOn names h sets old (Enter c) new x) (sym s) (subst (λ xs. GoesOn names h sets old (Enter c) xs (Enter d)) (sym e) record {
       value = λ name n.
           let by = seen_term name h sets in
-          let v : value_of (by c) ≡ of_one opposite_of (value_of (by d)) =
-          ap value_of (is name ∙ ap (λ xs. Comp (name f) (terms_by by xs)) a) ∙ ap (λ b. cond b (of_one opposite_of (value_of (by d))) (Err not_a_number)) (ap (λ g. bytes_eq g (codes "-")) (n f there) ∙ m) in
+          let v : value_of (by c) ≡ value_of_one opposite_of (value_of (by d)) =
+          ap value_of (is name ∙ ap (λ xs. Comp (name f) (terms_by by xs)) a) ∙ ap (λ b. cond b (value_of_one opposite_of (value_of (by d))) (Err not_a_number)) (ap (λ g. bytes_eq g (codes "-")) (n f there) ∙ m) in
           ap (resumed by old) v ∙ sym (resumed-append by old Opposite (value_of (by d)));
       own = λ s all. (head_of (IsOwn (length names) h) d [] (subst (All (IsOwn (length names) h)) a own), all_push (IsOwnOperation (length names) h) old Opposite all tt);
       falls =
@@ -142,7 +142,7 @@ module _ (names : List Name) (h : Cells) (sets : List (List ℕ)) where
     entered_both d e o new t a m i s = subst (λ x. GoesOn names h sets old (Enter c) new x) (sym s) (subst (λ xs. GoesOn names h sets old (Enter c) xs (Enter d)) (sym i) record {
       value = λ name n.
           let by = seen_term name h sets in
-          let v : value_of (by c) ≡ of_both (meaning o) (value_of (by d)) (value_of (by e)) =
+          let v : value_of (by c) ≡ value_of_both (meaning o) (value_of (by d)) (value_of (by e)) =
           ap value_of (is name ∙ ap (λ xs. Comp (name f) (terms_by by xs)) a) ∙ by_operation (name f) (value_of (by d)) (value_of (by e)) o (ap operation_of (n f there) ∙ m) in
           ap (resumed by old) v ∙ sym (resumed-append by old (Left o e) (value_of (by d)));
       own = λ s all.
@@ -159,8 +159,8 @@ module _ (names : List Name) (h : Cells) (sets : List (List ℕ)) where
     entered_known d e o z new t a m known i s = subst (λ x. GoesOn names h sets old (Enter c) new x) (sym s) (subst (λ xs. GoesOn names h sets old (Enter c) xs (Enter e)) (sym i) record {
       value = λ name n.
           let by = seen_term name h sets in
-          let v : value_of (by c) ≡ of_both (meaning o) (Ok z) (value_of (by e)) =
-          ap value_of (is name ∙ ap (λ xs. Comp (name f) (terms_by by xs)) a) ∙ by_operation (name f) (value_of (by d)) (value_of (by e)) o (ap operation_of (n f there) ∙ m) ∙ ap (λ y. of_both (meaning o) y (value_of (by e))) (known name) in
+          let v : value_of (by c) ≡ value_of_both (meaning o) (Ok z) (value_of (by e)) =
+          ap value_of (is name ∙ ap (λ xs. Comp (name f) (terms_by by xs)) a) ∙ by_operation (name f) (value_of (by d)) (value_of (by e)) o (ap operation_of (n f there) ∙ m) ∙ ap (λ y. value_of_both (meaning o) y (value_of (by e))) (known name) in
           ap (resumed by old) v ∙ sym (resumed-append by old (Right o z) (value_of (by e)));
       own = λ s all.
           (let both = subst (All (IsOwn (length names) h)) a own in
@@ -266,7 +266,7 @@ operation_at text bytes o e a b m = ap operation_of (sym e ∙ one_of bytes a b)
 -- a compound term with one argument and another name is no operation
 pub no_opposite : (f : Name) (args : List Cell) → 1 ≤ length args → length args < 2 → not (bytes_eq f (codes "-")) ≡ true → (by : Cell → Term) → value_of (Comp f (terms_by by args)) ≡ Err not_a_number
 no_opposite f [] a b e by = absurd (omega arith)
-no_opposite f (c ∷ []) a b e by = ap (λ x. cond x (of_one opposite_of (value_of (by c))) (Err not_a_number)) (not-true (bytes_eq f (codes "-")) e)
+no_opposite f (c ∷ []) a b e by = ap (λ x. cond x (value_of_one opposite_of (value_of (by c))) (Err not_a_number)) (not-true (bytes_eq f (codes "-")) e)
 no_opposite f (c ∷ d ∷ cs) a b e by = absurd (omega arith)
 
 -- nor is one with three or more

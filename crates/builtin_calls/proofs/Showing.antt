@@ -11,11 +11,11 @@ use Rattle.heap_cells.specs.declared.Seen.{Seen}
 use Rattle.heap_cells.specs.declared.Seen.TheVariants as seen
 use Rattle.heap_cells.specs.Cells.{Cells, is_bound, slot_at, Compound}
 use Rattle.heap_cells.specs.Terms.{Naming, terms_by, term_of}
-use Rattle.heap_cells.specs.Seen.{IsSeen}
+use Rattle.heap_cells.specs.SeenCells.{IsSeen}
 use Rattle.heap_cells.specs.Valid.{IsHeap}
 use Rattle.heap_cells.proofs.Lemmas.{unbound_term, term-Int, term-Atom, term-Struct, apply-terms_by}
 use Rattle.builtin_calls.specs.SeenTerms.{family_of, link_of, value_in, value_at, read_term, seen_term}
-use Rattle.builtin_calls.specs.Shown.{only, shown, IsHeld}
+use Rattle.builtin_calls.specs.CellTops.{only, shown, IsHeld}
 
 above : (low M y : ℕ) (ys : List ℕ) → IsRising low M (y ∷ ys) → low ≤ greatest (y ∷ ys)
 above low M y [] r = r.0

@@ -13,15 +13,15 @@ use Rattle.builtin_calls.specs.declared.operations.OpenOperation.{OpenOperation}
 use Rattle.builtin_calls.specs.declared.operations.OpenOperation.TheVariants.{Left, Right, Opposite}
 use Rattle.builtin_calls.specs.declared.evaluation.Step.{Step}
 use Rattle.builtin_calls.specs.declared.evaluation.Step.TheVariants.{Enter, Leave}
-use Rattle.fd_model.specs.Arithmetic.{Value, value_of, of_both, of_one, opposite_of}
+use Rattle.fd_model.specs.Arithmetic.{Value, value_of, value_of_both, value_of_one, opposite_of}
 use Rattle.builtin_calls.specs.SeenTerms.{seen_term}
 use Rattle.builtin_calls.specs.Outcomes.{IsFault, IsNamedBy, meaning, operation_of}
 
 -- the value once the value that is waited for is there, where each cell's term is given
 abbrev pub after : (Cell → Term) → OpenOperation → Value → Value
-after by (Left o c) v = of_both (meaning o) v (value_of (by c))
-after by (Right o z) v = of_both (meaning o) (Ok z) v
-after by Opposite v = of_one opposite_of v
+after by (Left o c) v = value_of_both (meaning o) v (value_of (by c))
+after by (Right o z) v = value_of_both (meaning o) (Ok z) v
+after by Opposite v = value_of_one opposite_of v
 
 abbrev pub resumed : (Cell → Term) → List OpenOperation → Value → Value
 resumed by [] v = v

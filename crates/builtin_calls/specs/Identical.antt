@@ -11,7 +11,7 @@ use Rattle.builtin_calls.specs.declared.identity.Pair.{Pair}
 use Rattle.builtin_calls.specs.declared.identity.Told.{Told}
 use Rattle.builtin_calls.specs.declared.identity.Told.TheVariants.{Apart, Alike, Next}
 use Rattle.builtin_calls.specs.SeenTerms.{seen_term}
-use Rattle.builtin_calls.specs.Shown.{shown}
+use Rattle.builtin_calls.specs.CellTops.{shown}
 use Rattle.builtin_calls.specs.Evaluations.{unnamed}
 
 -- the answer tells whether the terms of two cells are identical, where no two atoms have one name

@@ -1,5 +1,5 @@
 pub mod SeenTerms
-pub mod Shown
+pub mod CellTops
 pub mod Passing
 pub mod Outcomes
 pub mod Evaluations

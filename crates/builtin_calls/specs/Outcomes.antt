@@ -10,7 +10,7 @@ use Rattle.builtin_calls.specs.declared.evaluation.EvalFault.TheVariants.{Unboun
 use Rattle.builtin_calls.specs.declared.evaluation.Named.{Named}
 use Rattle.builtin_calls.specs.declared.operations.Operation.{Operation}
 use Rattle.builtin_calls.specs.declared.operations.Operation.TheVariants.{Add, Subtract, Multiply, Divide, Modulo}
-use Rattle.fd_model.specs.Arithmetic.{unbound, not_a_number, overflow, zero_divisor, Value, sum_of, difference_of, product_of, quotient_of, modulo_of}
+use Rattle.fd_model.specs.Arithmetic.{unbound, not_a_number, overflow, zero_divisor, Value, integer_sum, integer_difference, integer_product, quotient_of, modulo_of}
 
 -- the fault is that of the value; want of memory may come at any
 abbrev pub IsFault : EvalFault → Value → Type 0
@@ -30,9 +30,9 @@ abbrev pub IsNamedBy : List Name → Naming → Type 0
 IsNamedBy names name = (a : AtomId) → a.number < length names → name a ≡ name_in names a
 
 abbrev pub meaning : Operation → ℤ → ℤ → Value
-meaning Add = sum_of
-meaning Subtract = difference_of
-meaning Multiply = product_of
+meaning Add = integer_sum
+meaning Subtract = integer_difference
+meaning Multiply = integer_product
 meaning Divide = quotient_of
 meaning Modulo = modulo_of
 

@@ -14,7 +14,7 @@ ghost use Rattle.builtin_calls.specs.declared.evaluation.Step.TheVariants as ste
 ghost use Rattle.fd_model.specs.Arithmetic.{integer, modulo, value_of};
 ghost use Rattle.builtin_calls.specs.Outcomes.{Tells, IsMeant, IsMeaning, IsNamedBy, meaning, operation_of};
 ghost use Rattle.builtin_calls.specs.SeenTerms.{seen_term, HasLinksBelow};
-ghost use Rattle.builtin_calls.specs.Shown.{IsSimple};
+ghost use Rattle.builtin_calls.specs.CellTops.{IsSimple};
 ghost use Rattle.builtin_calls.specs.Evaluations.{IsEntered, IsOfHeap, IsOwn, IsOwnOperation, TellsStep, TellsDescent, TellsAscent};
 
 use crate::operations::{OpenOperation, OpenOperations, Operation};

@@ -6,7 +6,7 @@ ghost use Rattle.heap_cells.specs.Cells.{IsOf};
 ghost use Rattle.heap_cells.specs.Terms.{Naming};
 ghost use Rattle.heap_cells.specs.Valid.{IsHeap};
 ghost use Rattle.builtin_calls.specs.SeenTerms.{seen_term, HasLinksBelow};
-ghost use Rattle.builtin_calls.specs.Shown.{only, shown, IsHeld};
+ghost use Rattle.builtin_calls.specs.CellTops.{only, shown, IsHeld};
 
 use domain_ranges::{Domain, View};
 use heap_cells::{Cell, Heap, Seen};

@@ -7,7 +7,7 @@ use Rattle.char_tokens.specs.declared.token.Token as declared
 use Rattle.char_tokens.specs.declared.token.TokenFault.{TokenFault}
 use Rattle.char_tokens.specs.declared.token.TokenFault.TheVariants as faults
 use Rattle.char_tokens.specs.Views.{cause_of, lexemes, lexeme_of, IsFaultIn, IsFaultAt}
-use Rattle.char_tokens.specs.Left.{Left}
+use Rattle.char_tokens.specs.UnreadText.{Left}
 use Rattle.char_tokens.specs.Scanning.{AreGaps, no_gap, a_gap, IsNext, IsFaultNext, HasRead, Refuses, IsFirstFault, AreTokens}
 
 -- ---- layout and comments

@@ -6,7 +6,7 @@ use Rattle.char_tokens.specs.declared.token.Token.{Token}
 use Rattle.char_tokens.specs.declared.token.TokenFault.{TokenFault}
 use Rattle.char_tokens.specs.declared.token.TokenFault.TheVariants as faults
 use Rattle.char_tokens.specs.Views.{cause_of, lexeme_of}
-use Rattle.char_tokens.specs.Left.{Left}
+use Rattle.char_tokens.specs.UnreadText.{Left}
 
 -- AreGaps at tight bytes from late rest: the bytes, which begin at the place at, are layout and comments and then the rest, which begins at the place from; late is whether a token there would be tight, where tight is that of one at the beginning
 pub data AreGaps : ℕ → Bool → List ℕ → ℕ → Bool → List ℕ → Type 0 where

@@ -62,7 +62,7 @@ pub struct Scanner<'t> {
 
 impl<'t> Model for Scanner<'t> {
     ghost use Rattle.std.specs.Prelude.{◌+◌, ◌≤◌, length};
-    ghost use Rattle.char_tokens.specs.Left.{Left};
+    ghost use Rattle.char_tokens.specs.UnreadText.{Left};
 
     ghost Value = { Left };
 

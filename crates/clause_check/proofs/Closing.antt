@@ -11,7 +11,7 @@ use Rattle.clause_check.specs.declared.program.Part.{Part}
 use Rattle.clause_check.specs.declared.program.FlatGoal.{FlatGoal}
 use Rattle.clause_check.specs.declared.goals.GoalStore.{GoalStore}
 use Rattle.clause_check.specs.GoalStores.{stored, pending_in, IsStore, IsGrown, IsClosed}
-use Rattle.clause_check.specs.Kept.{AreAccepted}
+use Rattle.clause_check.specs.GoalRecords.{AreAccepted}
 use Rattle.clause_check.specs.Programs.{part_of, tree_of, trees, IsPart, IsGoal, AreGoals}
 use Rattle.clause_check.proofs.FlatGoals.{trees_length, trees_append, goals_append, goals_later, same_trees}
 

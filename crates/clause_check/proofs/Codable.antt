@@ -12,7 +12,7 @@ use Rattle.fd_language.specs.Lists.{Each}
 use Rattle.fd_language.specs.Reading.{Sentence}
 use Rattle.fd_language.specs.Spelling.{least_place}
 use Rattle.fd_model.specs.Forms.{GoalForm, truth, failure, unification, posting, constraint, labelling, builtin, forms, form_in}
-use Rattle.fd_model.specs.Refusals.{Form, query, clause, directive, fact, form_of, Functor, functor_of, second_part, count, most_arguments, wide_places, wide_places_of, too_wide, clause_refusal, sentence_refusal, first_refusal}
+use Rattle.fd_model.specs.Refusals.{Form, query, clause, directive, fact, form_of, Functor, functor_of, second_part, part_count, most_arguments, wide_places, wide_places_of, too_wide, clause_refusal, sentence_refusal, first_refusal}
 use Rattle.fd_model.specs.Queries.{first_part, goal_by_form, goal_named, form_of_functor, goal_of, followed, body_goals, is_shown, shown_from, queries_by, queries_of, clauses_by, clauses_of, program_of}
 use Rattle.fd_model.specs.Goal.{Goals, no_goals, goal, listed, Either, Clause, Query}
 use Rattle.term_reader.specs.GivenParts.{AreSome, HasParts, EachHasParts}
@@ -27,7 +27,7 @@ either P false x y h g = g
 abbrev AsTerm : PlacedTerm → Type 0
 AsTerm t = IsNarrow (plain t)
 
-counted : (ts : PlacedTerms) → arguments_in (all_plain ts) ≡ count ts
+counted : (ts : PlacedTerms) → arguments_in (all_plain ts) ≡ part_count ts
 counted no_parts = refl
 counted (part t ts) = ap suc (counted ts)
 
@@ -45,7 +45,7 @@ mutual
   term_narrow (int z p) e k = tt
   term_narrow (atom a p) e k = tt
   term_narrow (comp f p ts) e k =
-      let h = few (count ts) (nat_lt most_arguments (count ts)) p (wide_places_of ts) refl e in
+      let h = few (part_count ts) (nat_lt most_arguments (part_count ts)) p (wide_places_of ts) refl e in
       (some_given ts k.0, subst (λ n. n ≤ most_arguments) (sym (counted ts)) h.0, terms_narrow ts h.1 k.1)
 
   terms_narrow : (ts : PlacedTerms) → wide_places_of ts ≡ [] → EachHasParts ts → AreNarrow (all_plain ts)

@@ -60,7 +60,7 @@ found n (row ∷ rows) a form h e = pick (bytes_eq a row.0) (found n rows a form
     pick true later k = let same : row.1 ≡ form = cc in ap (has_arity n) (sym same) ∙ (and_parts (has_arity n row.1) (list_all (λ row. has_arity n row.1) rows) h).0
     pick false later k = later k
 
-counted : (ts : PlacedTerms) → count (all_plain ts) ≡ refusals.count ts
+counted : (ts : PlacedTerms) → count (all_plain ts) ≡ refusals.part_count ts
 counted no_parts = refl
 counted (part t ts) = ap suc (counted ts)
 
@@ -69,7 +69,7 @@ pub functor_arguments : (x : PlacedTerm) (f : refusals.Functor) → functor_of x
 functor_arguments (var x p) f e = absurd (cc)
 functor_arguments (int z p) f e = absurd (cc)
 functor_arguments (atom a p) f e = let same : functor a 0 ≡ f = cc in sym (ap (λ (g : refusals.Functor). g.arity) same)
-functor_arguments (comp a p ts) f e = let same : functor a (refusals.count ts) ≡ f = cc in counted ts ∙ ap (λ (g : refusals.Functor). g.arity) same
+functor_arguments (comp a p ts) f e = let same : functor a (refusals.part_count ts) ≡ f = cc in counted ts ∙ ap (λ (g : refusals.Functor). g.arity) same
 
 arity_by : (n : ℕ) (form : Form) (t : Term) → has_arity n (form_seen form) ≡ true → HasArguments n t → HasFormArity form t
 arity_by n Truth t e h = tt

@@ -23,7 +23,7 @@ use Rattle.term_pool.specs.PlacedTerms.{placed_of}
 use Rattle.term_reader.proofs.Lemmas.{plain_placed}
 use Rattle.clause_check.specs.declared.program.FlatGoal.{FlatGoal}
 use Rattle.clause_check.specs.declared.program.FlatGoal.TheVariants.{Unify, Post, Label, Call}
-use Rattle.clause_check.specs.Kept.{AreAccepted, KeepsGoal}
+use Rattle.clause_check.specs.GoalRecords.{AreAccepted, KeepsGoal}
 use Rattle.clause_check.specs.Programs.{tree_of, range_in, HasArguments, IsGoal}
 use Rattle.clause_check.specs.Terms.{IsPartOf}
 use Rattle.clause_check.proofs.FormNames.{functor_arguments}

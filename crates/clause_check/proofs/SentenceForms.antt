@@ -12,7 +12,7 @@ use Rattle.clause_check.specs.declared.faults.Fault.{Fault}
 use Rattle.clause_check.specs.declared.terms.SentenceForm.{SentenceForm}
 use Rattle.clause_check.specs.Causes.{RefusedBy}
 use Rattle.clause_check.specs.Parts.{AddsForm, AddsAs, AddsSentence, names_in}
-use Rattle.clause_check.specs.Refused.{RefusesAs, RefusesSentence}
+use Rattle.clause_check.specs.PartVerdicts.{RefusesAs, RefusesSentence}
 use Rattle.clause_check.specs.Terms.{terms_of, form_in, IsWidePlace}
 
 no_place : (o : Option ℕ) → ((p : ℕ) → o ≡ Some p → ⊥) → o ≡ None

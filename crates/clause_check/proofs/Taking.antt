@@ -26,7 +26,7 @@ use Rattle.clause_check.specs.declared.goals.Task.TheVariants.{Visit, Turn, Join
 use Rattle.clause_check.specs.declared.goals.GoalStore.{GoalStore}
 use Rattle.clause_check.specs.declared.terms.Body.TheVariants as body
 use Rattle.clause_check.specs.GoalStores.{stored, pending_in, IsStore, IsGrown, IsClosed, start_in, IsTask, IsStack, weight, total_weight, IsTaken}
-use Rattle.clause_check.specs.Kept.{AreAccepted, KeepsGoal}
+use Rattle.clause_check.specs.GoalRecords.{AreAccepted, KeepsGoal}
 use Rattle.clause_check.specs.Programs.{unlisted, part_of, tree_of, trees, IsPart, IsGoal, AreGoals}
 use Rattle.clause_check.specs.Terms.{terms_of, IsBody}
 use Rattle.clause_check.proofs.Closing.{closed}

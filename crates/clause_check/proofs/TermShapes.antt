@@ -6,12 +6,12 @@ use Rattle.fd_language.specs.Term.{Name}
 use Rattle.fd_language.specs.PlacedTerm.{PlacedTerm, comp}
 use Rattle.fd_model.specs.Goal.{no_goals, goal}
 use Rattle.fd_model.specs.Queries.{goal_of, body_goals}
-use Rattle.fd_model.specs.Refusals.{fact, form_of, goals_of, count}
+use Rattle.fd_model.specs.Refusals.{fact, form_of, goals_of, part_count}
 use Rattle.term_pool.specs.declared.TermId.{TermId}
 use Rattle.term_pool.specs.PlacedTerms.{parts_by}
 use Rattle.term_pool.proofs.Lemmas.{same_text}
 
-pub count_parts : (by : TermId → PlacedTerm) (ts : List TermId) → count (parts_by by ts) ≡ length ts
+pub count_parts : (by : TermId → PlacedTerm) (ts : List TermId) → part_count (parts_by by ts) ≡ length ts
 count_parts by [] = refl
 count_parts by (t ∷ ts) = ap suc (count_parts by ts)
 

@@ -2,7 +2,7 @@
 use Rattle.std.proofs.Common.{◌≡◌, ℕ, ◌<◌, ◌≤◌, Bool, true, false, cond, nat_lt, min, List, [], ◌∷◌, ◌++◌, Option, Some, None, refl, sym, ap, ◌∙◌, arith, length, Bor}
 use Rattle.fd_language.specs.PlacedTerm.{PlacedTerm, comp}
 use Rattle.fd_language.specs.Spelling.{least_place}
-use Rattle.fd_model.specs.Refusals.{wide_places, wide_places_of, count}
+use Rattle.fd_model.specs.Refusals.{wide_places, wide_places_of, part_count}
 use Rattle.term_pool.specs.declared.TermId.{TermId}
 use Rattle.term_pool.specs.Contents.{Contents}
 use Rattle.term_pool.specs.PlacedTerms.{placed_of, parts_by}
@@ -80,7 +80,7 @@ least_of_term : (c : Contents) (t : TermId) (f : List ℕ) (p : ℕ) (ts : List 
 least_of_term c t f p ts e =
     let ps = parts_by (placed_of c) ts in
     ap (λ (x : PlacedTerm). least_place (wide_places x)) e
-    ∙ least_own (nat_lt 255 (count ps)) p (wide_places_of ps)
+    ∙ least_own (nat_lt 255 (part_count ps)) p (wide_places_of ps)
     ∙ ap (λ (n : ℕ). lower (own_place (nat_lt 255 n) p) (least_place (wide_places_of ps))) (count_parts (placed_of c) ts)
     ∙ ap (lower (own_place (nat_lt 255 (length ts)) p)) (least_of_parts c ts)
 

@@ -16,7 +16,7 @@ use Rattle.clause_check.specs.declared.program.FlatGoal.{FlatGoal}
 use Rattle.clause_check.specs.declared.goals.Task.{Task}
 use Rattle.clause_check.specs.declared.goals.Task.TheVariants.{Visit, Turn, Join}
 use Rattle.clause_check.specs.declared.goals.GoalStore.{GoalStore}
-use Rattle.clause_check.specs.Kept.{AreAccepted}
+use Rattle.clause_check.specs.GoalRecords.{AreAccepted}
 use Rattle.clause_check.specs.Programs.{unlisted, part_of, tree_of, trees, IsPart, IsGoal, AreGoals}
 use Rattle.clause_check.specs.Terms.{terms_of}
 

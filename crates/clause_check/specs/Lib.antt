@@ -3,8 +3,8 @@ pub mod Causes
 pub mod Terms
 pub mod Forms
 pub mod Heads
-pub mod Kept
+pub mod GoalRecords
 pub mod GoalStores
 pub mod Parts
-pub mod Refused
+pub mod PartVerdicts
 pub mod Codable

@@ -5,7 +5,7 @@ use Rattle.fd_language.specs.Term.{Term, Terms, Var, Int, Atom, Comp, no_terms, 
 use Rattle.fd_language.specs.Range.{Range}
 use Rattle.fd_language.specs.RangeVerdict.{is_accepted}
 use Rattle.fd_language.specs.contracts.range_node.RangeNode as node
-use Rattle.fd_language.specs.Flat.{nodes_of, spelled, spelled-nodes}
+use Rattle.fd_language.specs.Flat.{nodes_of, spelled_range, spelled_range-nodes}
 use Rattle.fd_language.specs.Spelling.{empty_range}
 use Rattle.fd_language.specs.declared.TheConstants.{INFINITY}
 use Rattle.fd_model.specs.Arities.{constraint_arity, builtin_arity}
@@ -40,7 +40,7 @@ pub record FlatProgram : Type 0 where
 
 -- a range is stored as the list of its nodes
 abbrev pub range_coded : Coded Range
-range_coded = code_by _ (coded_list node.the_row.coded) nodes_of spelled spelled-nodes
+range_coded = code_by _ (coded_list node.the_row.coded) nodes_of spelled_range spelled_range-nodes
 
 abbrev pub no_part : Part
 no_part = record { from = 0; to = 0 }

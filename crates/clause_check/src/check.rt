@@ -5,7 +5,7 @@ ghost use Rattle.term_reader.specs.Sentences.{AreOwn, IsSentence};
 ghost use Rattle.clause_check.specs.GoalStores.{IsStore};
 ghost use Rattle.clause_check.specs.Heads.{AreHeads};
 ghost use Rattle.clause_check.specs.Parts.{AddsAs, AddsSentence, AreShown, StandsFor};
-ghost use Rattle.clause_check.specs.Refused.{AcceptsText, IsHeadCause, RefusesAs, RefusesSentence, RefusesText};
+ghost use Rattle.clause_check.specs.PartVerdicts.{AcceptsText, IsHeadCause, RefusesAs, RefusesSentence, RefusesText};
 ghost use Rattle.clause_check.specs.declared.terms.SentenceForm.TheVariants.{Query, Clause, Fact};
 
 use crate::arities::wide_place;

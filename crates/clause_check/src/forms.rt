@@ -7,7 +7,7 @@ use fd_model::kinds::{BuiltinKind, ConstraintKind, Order, Relation};
 
 /// What a goal of the language is.
 #[derive(Clone, Copy)]
-pub enum Form {
+pub(crate) enum Form {
     Truth,
     Failure,
     Unification,

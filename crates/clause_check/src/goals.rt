@@ -7,8 +7,8 @@ ghost use Rattle.term_reader.specs.Sentences.{AreOwn};
 ghost use Rattle.clause_check.specs.Forms.{HasFormArity};
 ghost use Rattle.clause_check.specs.GoalStores.{start_in, IsClosed, IsJoined, IsRead, IsStore, IsTaken, IsTask, IsTurned};
 ghost use Rattle.clause_check.specs.Heads.{AreHeads};
-ghost use Rattle.clause_check.specs.Kept.{KeepsForm, KeepsTerm};
-ghost use Rattle.clause_check.specs.Refused.{AcceptsForm, AcceptsGoal, RefusesBody, RefusesForm, RefusesGoal, RefusesTask};
+ghost use Rattle.clause_check.specs.GoalRecords.{KeepsForm, KeepsTerm};
+ghost use Rattle.clause_check.specs.PartVerdicts.{AcceptsForm, AcceptsGoal, RefusesBody, RefusesForm, RefusesGoal, RefusesTask};
 ghost use Rattle.clause_check.specs.declared.goals.Task.TheVariants.{Visit};
 
 use crate::faults::{Cause, Fault, refused};

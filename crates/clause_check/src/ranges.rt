@@ -2,7 +2,7 @@
 ghost use Rattle.std.specs.Prelude.{◌<◌, length};
 ghost use Rattle.term_pool.specs.PlacedTerms.{placed_of};
 ghost use Rattle.clause_check.specs.Causes.{IsOffence, IsUnspelled};
-ghost use Rattle.clause_check.specs.Kept.{IsRangeOf};
+ghost use Rattle.clause_check.specs.GoalRecords.{IsRangeOf};
 
 use crate::faults::{Cause, Fault};
 use monotone_check::{CheckFault, Checked, check};

@@ -11,14 +11,14 @@ use term_pool::{AtomId, Node, Pool, TermId};
 
 /// A name with a number of arguments.
 #[derive(Clone, Copy, PartialEq, Eq, Hash)]
-pub struct Functor {
+pub(crate) struct Functor {
     pub name: AtomId,
     pub arity: usize,
 }
 
 /// What a sentence is.
 #[derive(Clone, Copy)]
-pub enum SentenceForm {
+pub(crate) enum SentenceForm {
     /// `?- B`.
     Query(TermId),
     /// `H :- B`.
@@ -31,7 +31,7 @@ pub enum SentenceForm {
 
 /// What a body is.
 #[derive(Clone, Copy)]
-pub enum Body {
+pub(crate) enum Body {
     /// `A, B`.
     Both(TermId, TermId),
     /// `A ; B`.

@@ -18,7 +18,7 @@ use Rattle.wam_code.specs.declared.instruction.Code.{Code}
 use Rattle.wam_code.specs.declared.instruction.Code.TheVariants.{Allocate, Deallocate, Execute, Proceed, AnswerNow}
 use Rattle.wam_code.specs.Area.{Slot, Unset, State}
 use Rattle.wam_code.specs.Effect.{slot_at, is_cell, is_unset, is_set, is_free, has_frame, no_frame, are_given, effect}
-use Rattle.wam_code.specs.Verified.{goes_on, Covers, IsFirst}
+use Rattle.wam_code.specs.VerifiedCode.{goes_on, Covers, IsFirst}
 use Rattle.wam_code.specs.Places.{Places, read, no_slots, Hold, count, made}
 use Rattle.wam_code.specs.Means.{Caller, Shows, Means}
 use Rattle.wam_code.specs.Tries.{IsBefore}

@@ -8,7 +8,7 @@ use Rattle.wam_code.specs.declared.instruction.Code.{Code}
 use Rattle.wam_code.specs.declared.instruction.Code.TheVariants.{Jump, Either, FailNow, TryMeElse, RetryMeElse, TrustMe, Try, Retry, Trust, SwitchOnTerm, SwitchOnConstant, SwitchOnInteger, SwitchOnStructure}
 use Rattle.wam_code.specs.Area.{State}
 use Rattle.wam_code.specs.Effect.{effect_by, effect}
-use Rattle.wam_code.specs.Verified.{goes_on, Covers}
+use Rattle.wam_code.specs.VerifiedCode.{goes_on, Covers}
 use Rattle.wam_code.proofs.Lemmas.{covers_self}
 use Rattle.clause_code.specs.Pieces.{Base, past}
 use Rattle.clause_code.specs.Laws.{other_side, sides}

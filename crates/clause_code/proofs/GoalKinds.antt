@@ -20,7 +20,7 @@ use Rattle.wam_code.specs.declared.parts.Entry.{Entry}
 use Rattle.wam_code.specs.Area.{State}
 use Rattle.fd_model.specs.Arities.{constraint_arity, builtin_arity}
 use Rattle.wam_code.specs.Effect.{are_set, are_given, has_frame}
-use Rattle.wam_code.specs.Verified.{Covers}
+use Rattle.wam_code.specs.VerifiedCode.{Covers}
 use Rattle.wam_code.specs.Places.{Places, read, no_registers, Hold, count, made}
 use Rattle.wam_code.specs.Means.{NamedRule, BuiltinRule, HoldVars}
 use Rattle.clause_code.specs.Pieces.{Base, Predicate, Does}

@@ -2,7 +2,7 @@
 use Rattle.std.proofs.Common.{◌≡◌, ℕ, zero, suc, ◌<◌, ◌==◌, not, Bool, true, false, if◌then◌else◌, List, [], ◌∷◌, map, filter, All, length, get_or, refl, ap, sym, ◌∙◌, subst, arith}
 use Rattle.std.proofs.lemmas.Option.{slice_get_within}
 use Rattle.fd_language.specs.Lists.{Each}
-use Rattle.fd_language.specs.Places.{Place, range_places}
+use Rattle.fd_language.specs.Occurrences.{Occurrence, range_occurrences}
 use Rattle.fd_language.specs.Needs.{once}
 use Rattle.fd_language.specs.Range.{Range}
 use Rattle.fd_language.specs.Term.{Name, Term, Terms, Var, Int, Atom, Comp, no_terms, term}
@@ -48,9 +48,9 @@ each_once : (P : ℕ → Type 0) (xs : List ℕ) → Each P xs → Each P (once 
 each_once P [] h = tt
 each_once P (x ∷ xs) h = (h.0, each_filter P (λ y. not (y == x)) (once xs) (each_once P xs h.1))
 
-each_place : (v : ℕ) (ps : List Place) → Each (λ p. p.variable < v) ps → Each (λ y. y < v) (map (λ p. p.variable) ps)
-each_place v [] h = tt
-each_place v (p ∷ ps) h = (h.0, each_place v ps h.1)
+each_occurrence : (v : ℕ) (ps : List Occurrence) → Each (λ p. p.variable < v) ps → Each (λ y. y < v) (map (λ p. p.variable) ps)
+each_occurrence v [] h = tt
+each_occurrence v (p ∷ ps) h = (h.0, each_occurrence v ps h.1)
 
 all_each : (v : ℕ) (xs : List ℕ) → Each (λ y. y < v) xs → (k : ℕ) (d : ℕ) → k < length xs → get_or xs k d < v
 all_each v [] h k d l = absurd (omega (arith, l))
@@ -58,7 +58,7 @@ all_each v (x ∷ xs) h zero d l = h.0
 all_each v (x ∷ xs) h (suc k) d l = all_each v xs h.1 k d (omega (arith, l))
 
 slots_below : (v : ℕ) (r : Range) → RangeBelow v r → All (λ y. y < v) (slots_of r)
-slots_below v r h = all_each v (slots_of r) (each_once (λ y. y < v) (map (λ p. p.variable) (range_places r)) (each_place v (range_places r) h))
+slots_below v r h = all_each v (slots_of r) (each_once (λ y. y < v) (map (λ p. p.variable) (range_occurrences r)) (each_occurrence v (range_occurrences r) h))
 
 -- A goal of the program can be written.
 pub is_writable : (p : FlatProgram) → IsPool p.pool → (v n : ℕ) (g : FlatGoal) → IsGoal p.pool (length p.ranges) n g → GoalBelow v (goal_in p g) → IsCodableGoal (goal_in p g) → IsWritable p v g

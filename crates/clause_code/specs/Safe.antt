@@ -10,7 +10,7 @@ use Rattle.wam_code.specs.declared.instruction.Code.TheVariants.{GetConstant, Ge
 use Rattle.wam_code.specs.declared.parts.Entry.{Entry}
 use Rattle.wam_code.specs.Area.{Area, State}
 use Rattle.wam_code.specs.Effect.{slot_at, is_cell, effect}
-use Rattle.wam_code.specs.Verified.{goes_on, Covers, IsFirst}
+use Rattle.wam_code.specs.VerifiedCode.{goes_on, Covers, IsFirst}
 use Rattle.wam_code.specs.Places.{Places, count}
 use Rattle.wam_code.specs.Means.{Means}
 use Rattle.wam_code.specs.Tries.{IsBefore, IsClause}

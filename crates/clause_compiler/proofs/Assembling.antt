@@ -20,7 +20,7 @@ use Rattle.wam_code.specs.declared.instruction.Code.TheVariants.{SwitchOnTerm}
 use Rattle.wam_code.specs.declared.parts.Entry.{Entry}
 use Rattle.wam_code.specs.Area.{Area, Span, Table, Holds, HasEntry, HasQuery, name_of}
 use Rattle.wam_code.specs.Keys.{Rises, HasRisingTables}
-use Rattle.wam_code.specs.Verified.{IsAtom, IsKey}
+use Rattle.wam_code.specs.VerifiedCode.{IsAtom, IsKey}
 use Rattle.wam_code.specs.Places.{count, made}
 use Rattle.wam_code.specs.Tries.{ClashFirst, IsNeedless, Thinned, Tries, IsPredicate}
 use Rattle.clause_code.specs.Pieces.{Predicate, predicate_of, base_of, Stand}
@@ -30,7 +30,7 @@ use Rattle.clause_code.specs.Trying.{list_of}
 use Rattle.clause_code.proofs.Lemmas.{list_tries}
 use Rattle.clause_compiler.specs.Switching.{code_of, AreChoicesBy, AreKeysIn, AreRising}
 use Rattle.clause_compiler.specs.Keys.{key_of, argument_key, is_switched}
-use Rattle.clause_compiler.specs.Switched.{ShowsKind, IsClauseOf, HasSwitches}
+use Rattle.clause_compiler.specs.PredicateSwitches.{ShowsKind, IsClauseOf, HasSwitches}
 use Rattle.clause_compiler.specs.Groups.{head_predicate, is_predicate, numbers_of}
 use Rattle.clause_compiler.specs.Layout.{joined, offset, AreChoicesOf, BeginsClause, IsSpanOf, IsLaidOut}
 use Rattle.clause_compiler.specs.Sections.{ArePut, its_place, IsClausePiece, its_span, IsQueryOf, its_entry, IsChoiceOf, place_in, placed_code, IsNumbered}
@@ -41,7 +41,7 @@ use Rattle.clause_compiler.proofs.Numbering.{placed_list, placed_segment, placed
 use Rattle.clause_compiler.proofs.Rows.{key_within}
 use Rattle.clause_compiler.proofs.Segments.{segment_choices}
 use Rattle.clause_compiler.proofs.Sifting.{sift_both, sift_all}
-use Rattle.clause_compiler.proofs.Switched.{switched_some, switched_by, two_there, fits_itself, made_arguments, shown_some, narrow_head, shown_key}
+use Rattle.clause_compiler.proofs.PredicateSwitches.{switched_some, switched_by, two_there, fits_itself, made_arguments, shown_some, narrow_head, shown_key}
 use Rattle.clause_compiler.proofs.Switches.{each_segment, begins_with, switch_safe, switch_chooses, choices_numbered}
 use Rattle.clause_compiler.proofs.Trying.{Enters, thinned_by, each_tries}
 use Rattle.clause_compiler.proofs.Fitting.{is_number, number_there, fits_predicate, head_arity, head_shape}

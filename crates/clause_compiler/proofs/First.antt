@@ -9,7 +9,7 @@ use Rattle.wam_code.specs.declared.instruction.Code.TheVariants.{Jump, FailNow, 
 use Rattle.wam_code.specs.declared.parts.Entry.{Entry}
 use Rattle.wam_code.specs.Area.{State}
 use Rattle.wam_code.specs.Effect.{when, effect}
-use Rattle.wam_code.specs.Verified.{Covers, IsFirst}
+use Rattle.wam_code.specs.VerifiedCode.{Covers, IsFirst}
 use Rattle.clause_compiler.specs.First.{up_to, given}
 use Rattle.clause_compiler.specs.Layout.{is_switch, is_listing}
 

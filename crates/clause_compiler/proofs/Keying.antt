@@ -12,7 +12,7 @@ use Rattle.wam_code.specs.declared.instruction.Key.{Key}
 use Rattle.wam_code.specs.declared.instruction.Key.TheVariants as key
 use Rattle.clause_compiler.specs.declared.tables.Label.{Label}
 use Rattle.clause_compiler.specs.Keys.{key_of}
-use Rattle.clause_compiler.specs.Keyed.{label, same_key, may_have, key_numbers, AreKeyedBy}
+use Rattle.clause_compiler.specs.ClauseKeys.{label, same_key, may_have, key_numbers, AreKeyedBy}
 use Rattle.clause_compiler.proofs.Grouping.{map_same, map_set}
 use Rattle.clause_compiler.proofs.Lists.{got_map, split_get, get_left, get_right, never, no}
 

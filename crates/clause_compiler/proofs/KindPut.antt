@@ -15,7 +15,7 @@ use Rattle.clause_code.specs.Trying.{list_of}
 use Rattle.clause_compiler.specs.declared.keys.Kind.{Kind}
 use Rattle.clause_compiler.specs.declared.tables.Label.{Label}
 use Rattle.clause_compiler.specs.Keys.{key_of, may_be, kind_numbers, is_tabled}
-use Rattle.clause_compiler.specs.Keyed.{may_have, key_numbers, AreKeyedBy}
+use Rattle.clause_compiler.specs.ClauseKeys.{may_have, key_numbers, AreKeyedBy}
 use Rattle.clause_compiler.specs.Layout.{joined, offset}
 use Rattle.clause_compiler.specs.Sections.{ArePut, IsListIn, its_row}
 use Rattle.clause_compiler.specs.Switching.{Segment, listing, switch, segment_code, code_of, LeadsTo, switch_on, IsTableOf, IsKeySwitch, SwitchesTo, KindAt, IsBehind, AreKeysAmong, AreRising, TablesGrow, PutsKind}

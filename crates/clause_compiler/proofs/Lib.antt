@@ -20,9 +20,9 @@ mod Sorts
 mod Spots
 mod Standing
 mod SwitchPut
-mod Switched
+mod PredicateSwitches
 mod Switches
-mod TablesGrowing
+mod TableGrowth
 mod Trying
 mod Vectors
 mod Verifying

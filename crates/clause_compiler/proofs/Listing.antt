@@ -8,7 +8,7 @@ use Rattle.fd_language.specs.Family.{has}
 use Rattle.wam_code.specs.declared.instruction.Code.{Code}
 use Rattle.wam_code.specs.declared.instruction.Code.TheVariants.{Jump, FailNow, Try, Retry, Trust}
 use Rattle.wam_code.specs.Area.{Area, Holds}
-use Rattle.wam_code.specs.Verified.{named, is_before, is_behind, IsThere}
+use Rattle.wam_code.specs.VerifiedCode.{named, is_before, is_behind, IsThere}
 use Rattle.clause_code.specs.Pieces.{Stand}
 use Rattle.clause_code.specs.Trying.{rest_of_list, list_of}
 use Rattle.clause_compiler.specs.Layout.{is_switch, is_listing, is_first, Passes, AreChoicesOf}

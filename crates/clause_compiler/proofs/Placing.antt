@@ -9,7 +9,7 @@ use Rattle.wam_code.specs.declared.instruction.Code.TheVariants.{Call, Execute, 
 use Rattle.wam_code.specs.declared.parts.Entry.{Entry}
 use Rattle.wam_code.specs.Area.{Area, State, HasState}
 use Rattle.wam_code.specs.Effect.{are_given, has_frame, no_frame, when, plain_effect, effect_by, effect}
-use Rattle.wam_code.specs.Verified.{named, goes_on, Leads, IsThere}
+use Rattle.wam_code.specs.VerifiedCode.{named, goes_on, Leads, IsThere}
 use Rattle.clause_code.specs.Pieces.{Predicate, predicate_of, base_of}
 use Rattle.clause_code.specs.Safe.{unplaced, is_plain, aims, IsThereIn, IsSafePiece}
 use Rattle.clause_compiler.proofs.Lists.{get_there, never}

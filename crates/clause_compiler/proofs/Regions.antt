@@ -5,7 +5,7 @@ use Rattle.fd_language.specs.Family.{has}
 use Rattle.fd_model.specs.Goal.{Program, Query}
 use Rattle.wam_code.specs.declared.instruction.Code.{Code}
 use Rattle.wam_code.specs.Area.{Area, Span, HasQuery}
-use Rattle.wam_code.specs.Verified.{named, goes_on, Names, Falls, IsIn}
+use Rattle.wam_code.specs.VerifiedCode.{named, goes_on, Names, Falls, IsIn}
 use Rattle.clause_compiler.specs.Layout.{joined, offset, is_first, IsSpanOf, Passes, IsLaidOut, BeginsClause}
 use Rattle.clause_compiler.proofs.Lists.{get_there, offset_within, one_list, same_some}
 use Rattle.clause_compiler.proofs.Placing.{piece_some, piece_names, piece_falls}

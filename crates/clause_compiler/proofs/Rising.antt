@@ -20,7 +20,7 @@ use Rattle.clause_compiler.specs.declared.keys.Kind.TheVariants as kind
 use Rattle.clause_compiler.specs.declared.tables.Label.{Label}
 use Rattle.clause_compiler.specs.declared.tables.Label.TheVariants as labels
 use Rattle.clause_compiler.specs.Keys.{key_of, of_kind, may_be, kind_numbers}
-use Rattle.clause_compiler.specs.Keyed.{label, same_key, AreKeyedBy}
+use Rattle.clause_compiler.specs.ClauseKeys.{label, same_key, AreKeyedBy}
 use Rattle.clause_compiler.specs.Sections.{ArePut, IsListIn, its_row}
 use Rattle.clause_compiler.proofs.Lists.{get_there, moved_get, never, no, same_some}
 use Rattle.clause_compiler.proofs.Keying.{same_means, same_itself}

@@ -16,12 +16,12 @@ use Rattle.term_pool.specs.Valid.{IsPool, IsWithin}
 use Rattle.wam_code.specs.declared.instruction.Key.{Key}
 use Rattle.wam_code.specs.declared.instruction.Key.TheVariants as key
 use Rattle.wam_code.specs.Area.{Area, Table, name_of}
-use Rattle.wam_code.specs.Verified.{arms, IsKey}
+use Rattle.wam_code.specs.VerifiedCode.{arms, IsKey}
 use Rattle.wam_code.specs.Tries as tries
 use Rattle.wam_code.specs.Tries.{Clash, IsShape, Rows}
 use Rattle.clause_code.proofs.Lemmas.{count_terms}
 use Rattle.clause_compiler.specs.Keys.{shape_key, some_key, term_key, argument_key}
-use Rattle.clause_compiler.specs.Keyed.{same_key, may_have}
+use Rattle.clause_compiler.specs.ClauseKeys.{same_key, may_have}
 use Rattle.clause_compiler.proofs.Keying.{same_means, same_itself}
 
 -- ---- where a table leads

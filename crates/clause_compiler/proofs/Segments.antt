@@ -7,7 +7,7 @@ use Rattle.fd_language.specs.Family.{has}
 use Rattle.wam_code.specs.declared.instruction.Code.{Code}
 use Rattle.wam_code.specs.declared.instruction.Code.TheVariants.{SwitchOnTerm, SwitchOnConstant, SwitchOnInteger, SwitchOnStructure}
 use Rattle.wam_code.specs.Area.{Area}
-use Rattle.wam_code.specs.Verified.{named, is_before, is_behind, IsThere}
+use Rattle.wam_code.specs.VerifiedCode.{named, is_before, is_behind, IsThere}
 use Rattle.clause_compiler.specs.Layout.{offset, is_switch, is_listing, is_first, Passes, AreChoicesOf}
 use Rattle.clause_compiler.specs.Switching.{Segment, listing, switch, segment_code, code_of, place_of}
 use Rattle.clause_compiler.proofs.Lists.{get_there, get_joined, find_joined, offset_order, got_map, never}

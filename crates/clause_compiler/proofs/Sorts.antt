@@ -4,7 +4,7 @@ use Rattle.std.proofs.lemmas.Bool.{true≢false}
 use Rattle.clause_compiler.proofs.Lists.{never}
 use Rattle.wam_code.specs.declared.instruction.Code.{Code}
 use Rattle.wam_code.specs.declared.instruction.Code.TheVariants.{Jump, FailNow, AnswerNow, TryMeElse, RetryMeElse, TrustMe, Try, Retry, Trust, SwitchOnTerm, SwitchOnConstant, SwitchOnInteger, SwitchOnStructure}
-use Rattle.wam_code.specs.Verified.{goes_on, is_other, is_before, is_behind}
+use Rattle.wam_code.specs.VerifiedCode.{goes_on, is_other, is_before, is_behind}
 use Rattle.clause_code.specs.Safe.{is_plain}
 use Rattle.clause_compiler.specs.Layout.{is_switch, is_listing, is_first}
 

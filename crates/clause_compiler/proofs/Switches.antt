@@ -17,7 +17,7 @@ use Rattle.wam_code.specs.declared.instruction.Key.{Key}
 use Rattle.wam_code.specs.declared.instruction.Code.{Code}
 use Rattle.wam_code.specs.declared.instruction.Code.TheVariants.{SwitchOnTerm}
 use Rattle.wam_code.specs.Area.{Area, Table, Holds, table_at}
-use Rattle.wam_code.specs.Verified.{arms, named, IsKey, IsThere}
+use Rattle.wam_code.specs.VerifiedCode.{arms, named, IsKey, IsThere}
 use Rattle.wam_code.specs.Tries as tries
 use Rattle.wam_code.specs.Tries.{Clash, ClashFirst, IsShape, Rows, TryRule, Tries}
 use Rattle.wam_code.proofs.Lemmas.{try_from_rule}
@@ -28,7 +28,7 @@ use Rattle.clause_code.proofs.Lemmas.{list_tries}
 use Rattle.clause_compiler.specs.declared.keys.Kind.{Kind}
 use Rattle.clause_compiler.specs.declared.keys.Kind.TheVariants as kind
 use Rattle.clause_compiler.specs.Keys.{shape_key, argument_key, key_of, of_kind, may_be, kind_numbers}
-use Rattle.clause_compiler.specs.Keyed.{may_have, key_numbers}
+use Rattle.clause_compiler.specs.ClauseKeys.{may_have, key_numbers}
 use Rattle.clause_compiler.specs.Layout.{offset, is_switch}
 use Rattle.clause_compiler.specs.Sections.{place_in, IsNumbered}
 use Rattle.clause_compiler.specs.Switching.{Segment, listing, switch, segment_code, code_of, place_of, LeadsTo, AreAmong, switch_on, IsTableOf, IsKeySwitch, SwitchesTo, KindAt, IsBehind, IsSwitching, AreChoicesBy}

@@ -9,7 +9,7 @@ use Rattle.wam_code.specs.declared.instruction.Code.TheVariants.{AnswerNow, Proc
 use Rattle.wam_code.specs.declared.parts.Entry.{Entry}
 use Rattle.wam_code.specs.Area.{Area, Span, State, Holds, HasState, HasEntry, HasQuery, name_of}
 use Rattle.wam_code.specs.Effect.{slot_at, is_cell}
-use Rattle.wam_code.specs.Verified.{Names, HandedTo, Leads, BeginsWith, IsIn, IsQuery, is_other, NamesOther, is_before, is_behind, HoldsOne, AreChoices, IsThere, IsVerifiedBy, IsVerified}
+use Rattle.wam_code.specs.VerifiedCode.{Names, HandedTo, Leads, BeginsWith, IsIn, IsQuery, is_other, NamesOther, is_before, is_behind, HoldsOne, AreChoices, IsThere, IsVerifiedBy, IsVerified}
 use Rattle.wam_code.specs.Places.{count}
 use Rattle.wam_code.proofs.Lemmas.{covers_self}
 use Rattle.clause_code.specs.Safe.{is_plain}

@@ -6,7 +6,7 @@ use Rattle.term_pool.specs.Contents.{Contents, Shape, var, int, atom, comp, shap
 use Rattle.clause_check.specs.Programs.{FlatProgram, clause_at}
 use Rattle.wam_code.specs.declared.instruction.Key.{Key}
 use Rattle.wam_code.specs.declared.instruction.Key.TheVariants as key
-use Rattle.wam_code.specs.Verified.{is_atom, is_int, is_struct}
+use Rattle.wam_code.specs.VerifiedCode.{is_atom, is_int, is_struct}
 use Rattle.clause_compiler.specs.declared.keys.Kind.{Kind}
 use Rattle.clause_compiler.specs.declared.keys.Kind.TheVariants as kind
 

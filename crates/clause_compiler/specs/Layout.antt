@@ -7,13 +7,13 @@ use Rattle.wam_code.specs.declared.instruction.Code.{Code}
 use Rattle.wam_code.specs.declared.instruction.Code.TheVariants.{Jump, FailNow, Try, Retry, Trust, SwitchOnTerm, SwitchOnConstant, SwitchOnInteger, SwitchOnStructure}
 use Rattle.wam_code.specs.declared.parts.Entry.{Entry}
 use Rattle.wam_code.specs.Area.{Area, Span, HasEntry, HasQuery, name_of}
-use Rattle.wam_code.specs.Verified.{named, is_before, is_behind, IsAtom, IsKey, IsThere}
+use Rattle.wam_code.specs.VerifiedCode.{named, is_before, is_behind, IsAtom, IsKey, IsThere}
 use Rattle.wam_code.specs.Places.{count}
 use Rattle.wam_code.specs.Tries.{IsPredicate}
 use Rattle.wam_code.specs.Keys.{HasRisingTables}
 use Rattle.clause_code.specs.Pieces.{base_of}
 use Rattle.clause_code.specs.Safe.{IsClauseCode, IsQueryPiece}
-use Rattle.clause_compiler.specs.Switched.{HasSwitches}
+use Rattle.clause_compiler.specs.PredicateSwitches.{HasSwitches}
 
 -- ---- lists, one behind the other
 

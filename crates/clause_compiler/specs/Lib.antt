@@ -1,10 +1,10 @@
 pub mod First
 pub mod Groups
-pub mod Keyed
+pub mod ClauseKeys
 pub mod Keys
 pub mod Layout
 pub mod Listing
 pub mod Parts
 pub mod Sections
-pub mod Switched
+pub mod PredicateSwitches
 pub mod Switching

@@ -10,7 +10,7 @@ use Rattle.clause_code.specs.Trying.{list_of}
 use Rattle.clause_compiler.specs.declared.keys.Kind.{Kind}
 use Rattle.clause_compiler.specs.declared.keys.Kind.TheVariants as kind
 use Rattle.clause_compiler.specs.Keys.{key_of, kind_numbers, is_switched, is_tabled}
-use Rattle.clause_compiler.specs.Keyed.{key_numbers}
+use Rattle.clause_compiler.specs.ClauseKeys.{key_numbers}
 use Rattle.clause_compiler.specs.Layout.{joined, offset}
 
 -- what choices are made of: the choices of a list of clauses, by their numbers, and switches

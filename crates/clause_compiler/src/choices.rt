@@ -7,7 +7,7 @@ ghost use Rattle.clause_compiler.specs.Sections.{ArePut, IsChoiceOf, IsListIn, I
 ghost use Rattle.clause_compiler.specs.Keys.{is_tabled, kind_numbers};
 ghost use Rattle.clause_compiler.specs.Listing.{listed_at};
 ghost use Rattle.clause_check.specs.Programs.{FlatProgram};
-ghost use Rattle.clause_compiler.specs.Keyed.{AreKeyed};
+ghost use Rattle.clause_compiler.specs.ClauseKeys.{AreKeyed};
 ghost use Rattle.clause_compiler.specs.Parts.{tables_in};
 ghost use Rattle.clause_compiler.specs.Switching.{AreChoicesBy, AreKeysIn, AreRising, IsSwitchCode, PutsKind, switch_on, TablesGrow};
 

@@ -4,7 +4,7 @@ ghost use Rattle.clause_check.specs.Programs.{program_in};
 ghost use Rattle.clause_compiler.specs.Layout.{IsLaidOut};
 ghost use Rattle.clause_code.specs.Predicates.{ArePredicates};
 ghost use Rattle.clause_compiler.specs.Parts.{area_laid, area_with, tables_in};
-ghost use Rattle.clause_compiler.specs.Switched.{HasSwitches};
+ghost use Rattle.clause_compiler.specs.PredicateSwitches.{HasSwitches};
 ghost use Rattle.wam_code.specs.Area.{span_of};
 ghost use Rattle.wam_code.specs.Keys.{HasRisingTables};
 ghost use Rattle.wam_code.specs.Tries.{StandsForProgram};

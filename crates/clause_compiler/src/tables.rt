@@ -2,7 +2,7 @@
 ghost use Rattle.std.specs.Prelude.{◌≡◌, ◌++◌, ℕ, ◌<◌, ◌∷◌, [], All, IfOk, IfSome, IsTrue, List, OnOk, Some, is_some, length};
 ghost use Rattle.clause_check.specs.Programs.{FlatProgram};
 ghost use Rattle.clause_compiler.specs.Keys.{have_keys, is_tabled, key_of};
-ghost use Rattle.clause_compiler.specs.Keyed.{AreKeyed, label};
+ghost use Rattle.clause_compiler.specs.ClauseKeys.{AreKeyed, label};
 
 use crate::keys::first_key;
 use clause_check::Program;

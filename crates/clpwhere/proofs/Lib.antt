@@ -1,6 +1,6 @@
 mod ByteParts
 mod PlaceWords
-mod Shown
+mod ShownCharacters
 mod Pieces
 mod LineSteps
 mod Feeding

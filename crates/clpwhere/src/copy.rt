@@ -78,7 +78,7 @@ fn finish<K: Sink>(
 }
 
 /// Reads the input to its end, and writes what becomes of its lines. Tells whether one of them told a refusal.
-pub fn copy_input<S: Source, K: Sink>(
+pub(crate) fn copy_input<S: Source, K: Sink>(
     alloc: Global,
     text: &NamedText,
     source: &mut S,

@@ -137,7 +137,7 @@ fn put<K: Sink>(sink: &mut K, piece: &[u8]) -> Result<(), Fault>
 }
 
 /// Writes what becomes of a line, and tells whether it told a refusal.
-pub fn put_line<K: Sink>(
+pub(crate) fn put_line<K: Sink>(
     alloc: Global,
     text: &NamedText,
     line: &[u8],

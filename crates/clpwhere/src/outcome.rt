@@ -46,7 +46,7 @@ impl Status {
 
 /// Why a run was cut short.
 #[derive(Clone, Copy, Debug, Drop, Error)]
-pub enum Fault {
+pub(crate) enum Fault {
     /// A read failed, and the source counted it.
     #[error("a read failed")]
     ReadFault,

@@ -4,7 +4,7 @@ ghost use Rattle.clpwhere.specs.Reasons.{is_told_by, reason_of, reason_sentence,
 
 /// Why a text is refused.
 #[derive(Clone, Copy, Debug, PartialEq, Eq)]
-pub enum Reason {
+pub(crate) enum Reason {
     /// It has too many bytes.
     TooLarge,
     /// Its bytes are not UTF-8.
@@ -160,7 +160,7 @@ impl Reason {
 }
 
 /// The reason that these words tell.
-pub fn reason_of(words: &[u8]) -> Option<Reason>
+pub(crate) fn reason_of(words: &[u8]) -> Option<Reason>
     ensures { result ≡ reason_of words.now }
 {
     REASONS

@@ -9,7 +9,7 @@ use itoa::Buffer;
 
 /// A refusal that a line tells.
 #[derive(Clone, Copy)]
-pub struct Refusal<'a> {
+pub(crate) struct Refusal<'a> {
     /// The place of a byte, counted from 0.
     pub place: usize,
     /// The words of the reason, as they stand in the line.
@@ -44,7 +44,7 @@ fn behind<'a>(front: &[u8], bytes: &'a [u8]) -> Option<&'a [u8]>
 }
 
 /// The refusal that a line without its newline tells.
-pub fn refusal_of(line: &[u8]) -> Option<Refusal<'_>>
+pub(crate) fn refusal_of(line: &[u8]) -> Option<Refusal<'_>>
     ensures { option_map seen result ≡ refusal_of line.entry.now }
 {
     let rest = behind(b"refused at ", line)?;

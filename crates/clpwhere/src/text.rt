@@ -23,7 +23,7 @@ impl Model for NamedText {
 }
 
 /// What stands before the first byte of this value, or all where there is none.
-pub fn before_byte(bytes: &[u8], byte: u8) -> &[u8]
+pub(crate) fn before_byte(bytes: &[u8], byte: u8) -> &[u8]
     ensures { result.now ≡ before_first (λ b. b == byte) bytes.now }
 {
     match memchr(byte, bytes) {

@@ -5,7 +5,7 @@ use Rattle.std.proofs.Math.Seq.{take-length, take-append_seam, drop-append_seam}
 use Rattle.code_areas.specs.declared.Frame.{Frame}
 use Rattle.code_areas.specs.declared.Mark.{Mark}
 use Rattle.code_areas.specs.Areas.{Places, Contents}
-use Rattle.code_areas.specs.Stored.{no_frame, frame_at, returns_of, points_of, frames_kept}
+use Rattle.code_areas.specs.AreaFields.{no_frame, frame_at, returns_of, points_of, frames_kept}
 use Rattle.code_areas.proofs.Levels.{slice_is}
 use Rattle.code_areas.proofs.Moving.{seen, Holds, slots_hold, slots_seen, call_holds, call_seen, returns_there, copy_holds, copy_seen, cut_holds, cut_seen, push_holds, push_seen}
 

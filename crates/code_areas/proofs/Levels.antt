@@ -4,7 +4,7 @@ use Rattle.std.proofs.lemmas.List.{drop-take, take-take, get_or-take}
 use Rattle.code_areas.specs.declared.Frame.{Frame}
 use Rattle.code_areas.specs.declared.Mark.{Mark}
 use Rattle.code_areas.specs.Areas.{Places, Point}
-use Rattle.code_areas.specs.Stored.{no_frame, frame_at, return_of, within, returns_of, points_of, IsLevel, IsAbove, AreMarks}
+use Rattle.code_areas.specs.AreaFields.{no_frame, frame_at, return_of, within, returns_of, points_of, IsLevel, IsAbove, AreMarks}
 
 pub slice_is : (xs : Places) (a b : ℕ) → a ≤ b → slice_range xs a b ≡ drop a (take b xs)
 slice_is xs a b l = let e : a + (b - a) ≡ b = omega (arith, l) in sym (drop-take a (b - a) xs) ∙ ap (λ n. drop a (take n xs)) e

@@ -6,7 +6,7 @@ use Rattle.std.proofs.Math.Seq.{take-length, take-append_seam, drop-append_seam,
 use Rattle.code_areas.specs.declared.Frame.{Frame}
 use Rattle.code_areas.specs.declared.Mark.{Mark}
 use Rattle.code_areas.specs.Areas.{Places, Point, Contents}
-use Rattle.code_areas.specs.Stored.{no_frame, frame_at, return_of, returns_of, points_of, frames_kept, IsLevel, AreMarks}
+use Rattle.code_areas.specs.AreaFields.{no_frame, frame_at, return_of, returns_of, points_of, frames_kept, IsLevel, AreMarks}
 use Rattle.code_areas.proofs.Levels.{slice_is, AreFrames, returns_same, returns_next, level_frames, SameBelow, AboveNewest, points_same, marks_same, same_below, newest_above}
 
 abbrev pub seen : Places → ℕ → Places → ℕ → List Frame → ℕ → List Mark → Contents

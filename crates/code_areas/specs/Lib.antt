@@ -1,3 +1,3 @@
 pub mod Areas
-pub mod Kept
-pub mod Stored
+pub mod HeldCells
+pub mod AreaFields

@@ -7,7 +7,7 @@
 ghost use Rattle.std.specs.Prelude.{◌≡◌, ◌+◌, ◌-◌, ◌<◌, ◌≤◌, [], ◌∷◌, ◌++◌, length, take, reverse, replicate, slice_range, slice_set, Some, None, IfOk, OnOk, OnErr};
 ghost use Rattle.std.specs.Vec.{vec_len, vec_capacity};
 ghost use Rattle.code_areas.specs.Areas.{cell_at, IsSet, IsPut, nothing};
-ghost use Rattle.code_areas.specs.Stored.{frames_kept};
+ghost use Rattle.code_areas.specs.AreaFields.{frames_kept};
 
 use fd_language::NoMemory;
 use heap_cells::Cell;
@@ -39,7 +39,7 @@ impl Model for Place {
 
     ghost Value = { Option HeapCell };
 
-    ghost use Rattle.code_areas.specs.Kept.{cell_kept, kept_for};
+    ghost use Rattle.code_areas.specs.HeldCells.{cell_kept, kept_for};
 
     ghost view = { λ p. cell_kept p.kept };
 
@@ -89,7 +89,7 @@ impl Model for Areas {
 
     ghost Value = { Contents };
 
-    ghost use Rattle.code_areas.specs.Stored.{contents_of, AreStored};
+    ghost use Rattle.code_areas.specs.AreaFields.{contents_of, AreStored};
 
     ghost view = { λ a. contents_of a.cells.items a.first a.slots.items a.base a.frames.items
         a.newest

@@ -10,7 +10,7 @@ use Rattle.heap_cells.specs.declared.Cell.{Cell}
 use Rattle.heap_cells.specs.declared.Seen.{Seen}
 use Rattle.heap_cells.specs.declared.Seen.TheVariants.{Open, Constrained, Int, Atom, Struct}
 use Rattle.heap_cells.specs.Cells.{Cells, IsOf}
-use Rattle.heap_cells.specs.Seen.{IsSeen}
+use Rattle.heap_cells.specs.SeenCells.{IsSeen}
 use Rattle.heap_cells.specs.Terms.{Naming, term_of, slot_term, compound_term}
 use Rattle.heap_cells.specs.Valid.{IsHeap}
 use Rattle.heap_cells.proofs.Lemmas.{term-Ref, term-Int, term-Atom, term-Struct}
@@ -23,7 +23,7 @@ use Rattle.wam_code.specs.declared.parts.Entry.{Entry}
 use Rattle.wam_code.specs.Area.{Table, Area, Holds, table_at}
 use Rattle.wam_code.specs.Effect.{plain_effect, when}
 use Rattle.wam_code.specs.Tries.{Shape, is_open, is_atom, is_integer, is_structure, shape_of, by_shape, IsShape}
-use Rattle.wam_code.specs.Verified.{arms, named, IsKey}
+use Rattle.wam_code.specs.VerifiedCode.{arms, named, IsKey}
 use Rattle.code_areas.specs.Areas.{cell_at, IsSet, Contents}
 use Rattle.code_steps.specs.Trying.{shape_in, HasNoRow, HasRow, IsTrying, IsChoice}
 use Rattle.code_steps.proofs.Lemmas.{count_terms, step_switch, step_constants, step_integers, step_structures}

@@ -5,7 +5,7 @@ use Rattle.branch_state.specs.States as branch
 use Rattle.wam_code.specs.declared.instruction.Code.{Code}
 use Rattle.wam_code.specs.declared.instruction.Code.TheVariants.{Call, Execute}
 use Rattle.wam_code.specs.Area.{Area, Holds}
-use Rattle.wam_code.specs.Verified.{named, goes_on}
+use Rattle.wam_code.specs.VerifiedCode.{named, goes_on}
 use Rattle.wam_code.proofs.Lemmas.{executes_outside}
 use Rattle.code_areas.specs.Areas.{Places, Return, Contents}
 use Rattle.code_states.specs.Queries.{EndsIn, KeepsQuery}

@@ -18,7 +18,7 @@ use Rattle.wam_code.specs.declared.parts.Entry.{Entry}
 use Rattle.wam_code.specs.Area.{Area, Holds}
 use Rattle.wam_code.specs.Effect.{plain_effect}
 use Rattle.wam_code.specs.Reaching.{distance}
-use Rattle.wam_code.specs.Verified.{named, goes_on}
+use Rattle.wam_code.specs.VerifiedCode.{named, goes_on}
 use Rattle.code_areas.specs.Areas.{Contents}
 use Rattle.code_steps.specs.Registers.{Registers, Saved}
 use Rattle.code_steps.specs.Trying.{TriesBoth}

@@ -14,7 +14,7 @@ use Rattle.wam_code.specs.declared.parts.Entry.{Entry}
 use Rattle.wam_code.specs.Area.{Slot, Unset, Cell, State, Area, Holds, HasEntry}
 use Rattle.wam_code.specs.Effect.{are_given, are_set, has_frame, no_frame, when, plain_effect, effect_by}
 use Rattle.wam_code.specs.Reaching.{IsOutside}
-use Rattle.wam_code.specs.Verified.{named, goes_on, Names, HandedTo, Leads, IsVerifiedBy}
+use Rattle.wam_code.specs.VerifiedCode.{named, goes_on, Names, HandedTo, Leads, IsVerifiedBy}
 use Rattle.wam_code.proofs.Lemmas.{names_outside, entry_outside, returns_outside, executes_outside, entry_covered}
 use Rattle.code_areas.specs.Areas.{Places, cell_at, IsSet, Return, Point, Contents}
 use Rattle.code_states.specs.Safety.{HasSlots, Fits, IsReached, AreReturns, AreBehind, IsThread, ArePoints, IsSafe, IsSafeBack}

@@ -6,7 +6,7 @@ use Rattle.wam_code.specs.declared.instruction.Code.{Code}
 use Rattle.wam_code.specs.Area.{State, Area, Holds}
 use Rattle.wam_code.specs.Ending.{weight, return_work, Thread, work}
 use Rattle.wam_code.specs.Reaching.{distance}
-use Rattle.wam_code.specs.Verified.{named, goes_on, IsVerifiedBy}
+use Rattle.wam_code.specs.VerifiedCode.{named, goes_on, IsVerifiedBy}
 use Rattle.wam_code.proofs.Lemmas.{fork_falls, step_falls, proceed_falls, back_falls, names_nearer, falls_nearer, weight_up, weight_some}
 use Rattle.code_areas.specs.Areas.{Places, Return, Contents}
 use Rattle.code_states.specs.Choices.{point_of}

@@ -25,7 +25,7 @@ use Rattle.code_states.specs.Machine.{slot_cell, registers_of, stack_of}
 use Rattle.code_states.specs.Safety.{IsSafe}
 use Rattle.code_goals.specs.Answers.{AreSlots, IsAsked, ShowsAnswer}
 use Rattle.code_goals.specs.Tasks.{names_of}
-use Rattle.code_goals.specs.Written.{text_at, ShowsWritten}
+use Rattle.code_goals.specs.GoalTexts.{text_at, ShowsWritten}
 use Rattle.code_goals.proofs.Texts.{line_shown, shown_length, written_shown}
 
 -- ---- the cells of slots

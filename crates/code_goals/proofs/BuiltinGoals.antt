@@ -18,7 +18,7 @@ use Rattle.heap_cells.specs.Terms.{Naming, IsOneToOne}
 use Rattle.unify_core.specs.declared.Touch.{Touch}
 use Rattle.unify_core.specs.Reduces.{IsSameSize}
 use Rattle.unify_core.specs.Touches.{IsRefuted}
-use Rattle.unify_core.specs.Unified.{IsUnified, cells_equal}
+use Rattle.unify_core.specs.Unifications.{IsUnified, cells_equal}
 use Rattle.machine_relation.specs.Ahead.{Spends}
 use Rattle.machine_relation.specs.Store.{posts}
 use Rattle.term_pool.specs.Valid.{IsPool}
@@ -50,7 +50,7 @@ use Rattle.code_goals.specs.declared.next.Next.{Next}
 use Rattle.code_goals.specs.declared.next.Next.TheVariants.{On, Back, Fault, Write, Newline}
 use Rattle.code_goals.specs.Builtins.{IsFound, IsSecond, ComesTo}
 use Rattle.code_goals.specs.Tasks.{names_of, task_of}
-use Rattle.code_goals.specs.Written.{text_at}
+use Rattle.code_goals.specs.GoalTexts.{text_at}
 use Rattle.code_goals.specs.Taking.{next_by, IsSafeNext, LeadsNext, RunsNext, Takes}
 use Rattle.code_goals.proofs.Moving.{runs_grown, runs_none}
 use Rattle.code_goals.proofs.Safe.{choices_same, sound_below, same_below, heap_below, grown_cells, arguments_there, moved_safe, on_safe, on_same, goes_back}

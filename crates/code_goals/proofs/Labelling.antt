@@ -1,7 +1,7 @@
 -- Labellings, taken.
 use Rattle.std.proofs.Common.{◌≡◌, ℕ, suc, ◌+◌, ◌*◌, ◌<◌, ◌≤◌, ◌⊎◌, Bool, true, false, pos, nat_le, List, [], ◌∷◌, ◌++◌, length, map, filter, Option, Some, None, refl, sym, ◌∙◌, subst, inl, inr, arith}
 use Rattle.std.proofs.lemmas.Nat.{mul-le}
-use Rattle.unify_core.specs.Unified.{CannotUnify}
+use Rattle.unify_core.specs.Unifications.{CannotUnify}
 use Rattle.fd_language.specs.declared.TheConstants.{INFINITY}
 use Rattle.fd_language.specs.Family.{IsRising}
 use Rattle.fd_language.specs.Range.{Indexical}

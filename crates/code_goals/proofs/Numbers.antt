@@ -10,12 +10,12 @@ use Rattle.heap_cells.specs.declared.Cell.TheVariants as cell
 use Rattle.heap_cells.specs.declared.Seen.{Seen}
 use Rattle.heap_cells.specs.declared.Seen.TheVariants as looks
 use Rattle.heap_cells.specs.Cells.{Cells, slot_at, compound_at, is_bound}
-use Rattle.heap_cells.specs.Seen.{IsSeen}
+use Rattle.heap_cells.specs.SeenCells.{IsSeen}
 use Rattle.heap_cells.specs.Terms.{Naming, IsOneToOne, term_of, terms_by}
 use Rattle.heap_cells.specs.Valid.{IsHeap}
 use Rattle.heap_cells.proofs.Lemmas.{unbound_term, term-Int, term-Atom, term-Struct}
-use Rattle.unify_core.specs.Unified.{CannotUnify}
-use Rattle.machine_relation.specs.Shown.{cell_set}
+use Rattle.unify_core.specs.Unifications.{CannotUnify}
+use Rattle.machine_relation.specs.AnswerTexts.{cell_set}
 use Rattle.machine_frames.specs.Frames.{link_of, link_in}
 use Rattle.range_code.specs.Frames.{family_of}
 use Rattle.branch_state.specs.States.{State}

@@ -12,7 +12,7 @@ use Rattle.wam_code.specs.declared.instruction.Code.{Code}
 use Rattle.wam_code.specs.declared.instruction.Code.TheVariants as step
 use Rattle.wam_code.specs.Area.{State, Span, Area, Holds, HasQuery}
 use Rattle.wam_code.specs.Effect.{are_set, when, plain_effect}
-use Rattle.wam_code.specs.Verified.{goes_on, IsIn}
+use Rattle.wam_code.specs.VerifiedCode.{goes_on, IsIn}
 use Rattle.wam_code.proofs.Lemmas.{shown_are_cells, set_below}
 use Rattle.code_areas.specs.Areas.{Places, Return, Contents}
 use Rattle.code_steps.specs.Running.{Left}

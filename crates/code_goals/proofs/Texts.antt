@@ -14,8 +14,8 @@ use Rattle.heap_cells.specs.Cells.{Cells}
 use Rattle.heap_cells.specs.Terms.{term_of}
 use Rattle.term_pool.specs.Terms.{term_of as pool_term}
 use Rattle.range_code.specs.Frames.{family_of}
-use Rattle.machine_relation.specs.Held.{Frame, fixed_frame}
-use Rattle.machine_relation.specs.Shown.{cell_text}
+use Rattle.machine_relation.specs.HeldBranches.{Frame, fixed_frame}
+use Rattle.machine_relation.specs.AnswerTexts.{cell_text}
 use Rattle.machine_frames.specs.Frames.{frame_of}
 use Rattle.machine_frames.specs.Naming.{full}
 use Rattle.machine_frames.specs.SeenHeap.{read_term}

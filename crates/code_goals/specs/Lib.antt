@@ -1,7 +1,7 @@
 pub mod Tasks
 pub mod Arguments
 pub mod Builtins
-pub mod Written
+pub mod GoalTexts
 pub mod Taking
 pub mod Values
 pub mod Answers

@@ -14,7 +14,7 @@ use Rattle.code_states.specs.Stages.{Task, Future, RunsAt, ReturnsTo}
 use Rattle.code_goals.specs.declared.next.Next.{Next}
 use Rattle.code_goals.specs.declared.next.Next.TheVariants.{On, Back, Fault, Write, Newline}
 use Rattle.code_goals.specs.Tasks.{task_of}
-use Rattle.code_goals.specs.Written.{first_written}
+use Rattle.code_goals.specs.GoalTexts.{first_written}
 
 -- on where a goal holds, and else back
 abbrev pub next_by : ℕ → Bool → Next

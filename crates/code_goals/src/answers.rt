@@ -6,7 +6,7 @@ ghost use Rattle.code_states.specs.Queries.{IsInQuery};
 ghost use Rattle.code_areas.specs.Areas.{IsSet};
 ghost use Rattle.code_states.specs.Safety.{IsSafe};
 ghost use Rattle.code_goals.specs.Answers.{AreSlots, HasFirstSlots, ShowsAnswer};
-ghost use Rattle.code_goals.specs.Written.{ShowsWritten};
+ghost use Rattle.code_goals.specs.GoalTexts.{ShowsWritten};
 
 use crate::next::pool_of;
 use branch_state::BranchState;

@@ -29,7 +29,7 @@ use Rattle.code_goals.specs.declared.next.Next.TheVariants as next
 use Rattle.code_goals.specs.Answers.{IsAsked, ShowsAnswer}
 use Rattle.code_goals.specs.Taking.{IsSafeNext, RunsNext}
 use Rattle.code_goals.specs.Tasks.{task_of}
-use Rattle.code_goals.specs.Written.{first_written}
+use Rattle.code_goals.specs.GoalTexts.{first_written}
 use Rattle.code_goals.specs.Values.{RunsWent}
 use Rattle.code_machine.specs.declared.run.Ending.{Ending}
 use Rattle.code_machine.specs.declared.run.Ending.TheVariants as ending

@@ -8,7 +8,7 @@ use Rattle.term_pool.specs.Valid.{IsPool}
 use Rattle.branch_state.specs.States as branch
 use Rattle.branch_state.specs.States.{IsSound, first_state}
 use Rattle.wam_code.specs.Area.{Area, Span, HasQuery}
-use Rattle.wam_code.specs.Verified.{IsVerified}
+use Rattle.wam_code.specs.VerifiedCode.{IsVerified}
 use Rattle.code_areas.specs.Areas.{Contents, nothing}
 use Rattle.code_states.proofs.Lemmas.{started_safe, started_runs}
 use Rattle.code_goals.proofs.Lemmas.{own_naming}

@@ -7,7 +7,7 @@ use Rattle.branch_state.specs.States.{IsSameBelow, with_pair}
 use Rattle.wam_code.specs.declared.instruction.Code.{Code}
 use Rattle.wam_code.specs.declared.instruction.Code.TheVariants as step
 use Rattle.wam_code.specs.Area.{Area}
-use Rattle.wam_code.specs.Verified.{goes_on}
+use Rattle.wam_code.specs.VerifiedCode.{goes_on}
 use Rattle.code_areas.specs.Areas.{Contents}
 use Rattle.code_steps.specs.Running.{Left, resume}
 use Rattle.code_states.specs.declared.went.Went.{Went}

@@ -29,7 +29,7 @@ use Rattle.code_states.specs.Work.{left_by}
 use Rattle.code_goals.specs.Answers.{IsAsked, ShowsAnswer}
 use Rattle.code_goals.specs.Tasks as tasks
 use Rattle.code_goals.specs.Tasks.{task_of}
-use Rattle.code_goals.specs.Written.{ShowsWritten}
+use Rattle.code_goals.specs.GoalTexts.{ShowsWritten}
 use Rattle.code_machine.specs.declared.run.Ending.{Ending}
 use Rattle.code_machine.specs.declared.run.Ending.TheVariants as ending
 use Rattle.code_machine.specs.declared.run.Label.{Label}

@@ -11,7 +11,7 @@ use Rattle.machine_frames.specs.Frames.{store_touches}
 use Rattle.unify_core.specs.declared.Touch.{Touch}
 use Rattle.unify_core.specs.Outcome.{IfTrue, IfFalse}
 use Rattle.unify_core.specs.Reduces.{IsSameSize}
-use Rattle.unify_core.specs.Unified.{AreUnified, IsEqualled}
+use Rattle.unify_core.specs.Unifications.{AreUnified, IsEqualled}
 use Rattle.branch_state.specs.States.{State, IsCell, IsSound, IsSoundBelow, HasNoModel, with_heap}
 use Rattle.branch_state.specs.Steps.{posted_with}
 use Rattle.code_states.specs.Equating.{AreEquated, HasNoModelFor, Equates}

@@ -2,7 +2,7 @@
 -- Cells of a branch that are made equal.
 pub use Rattle.code_states.proofs.Equal.{equated, same_cells}
 -- What is left to be done falls with each instruction, with each reduction and with each value of a labelling that is tried.
-pub use Rattle.code_states.proofs.Left.{last_value_falls, left_falls, left_spent, left_up, value_falls, one_more}
+pub use Rattle.code_states.proofs.WorkLeft.{last_value_falls, left_falls, left_spent, left_up, value_falls, one_more}
 -- A machine stays in its query's code.
 pub use Rattle.code_states.proofs.Queries.{ends_on, named_inside, next_inside, query_kept}
 -- What is safe stays so.

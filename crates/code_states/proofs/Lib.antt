@@ -4,5 +4,5 @@ mod Standing
 mod Stages
 mod Starting
 mod Queries
-mod Left
+mod WorkLeft
 pub mod Lemmas

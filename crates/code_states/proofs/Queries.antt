@@ -4,7 +4,7 @@ use Rattle.fd_language.specs.Family.{has}
 use Rattle.branch_state.specs.States as branch
 use Rattle.wam_code.specs.declared.instruction.Code.{Code}
 use Rattle.wam_code.specs.Area.{State, Area, Holds}
-use Rattle.wam_code.specs.Verified.{named, goes_on, Names, Falls, IsVerifiedBy}
+use Rattle.wam_code.specs.VerifiedCode.{named, goes_on, Names, Falls, IsVerifiedBy}
 use Rattle.wam_code.proofs.Lemmas.{falls_inside}
 use Rattle.code_areas.specs.Areas.{Return, Contents}
 use Rattle.code_states.specs.Queries.{StaysInside, EndsIn, KeepsQuery}

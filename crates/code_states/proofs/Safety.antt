@@ -14,7 +14,7 @@ use Rattle.wam_code.specs.declared.instruction.Register.TheVariants.{X, Y}
 use Rattle.wam_code.specs.declared.instruction.Code.{Code}
 use Rattle.wam_code.specs.Area.{Slot, Unset, Cell, Level, State, Area, Holds}
 use Rattle.wam_code.specs.Effect.{slot_at, is_unset, is_cell, with_cell, is_set, is_free, with_set, when, effect_by}
-use Rattle.wam_code.specs.Verified.{goes_on, Falls, Covers, HandedTo, IsVerifiedBy}
+use Rattle.wam_code.specs.VerifiedCode.{goes_on, Falls, Covers, HandedTo, IsVerifiedBy}
 use Rattle.wam_code.proofs.Lemmas.{falls_inside, falls_outside}
 use Rattle.code_areas.specs.Areas.{Places, cell_at, Return, Point, Contents}
 use Rattle.code_steps.specs.Registers.{IsPut, IsWritten}

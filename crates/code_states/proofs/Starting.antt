@@ -9,7 +9,7 @@ use Rattle.heap_cells.specs.Cells.{no_cells}
 use Rattle.branch_state.specs.States.{IsSound, first_state}
 use Rattle.wam_code.specs.Area.{State, Span, Area, HasQuery}
 use Rattle.wam_code.specs.Tries.{IsQueryCode}
-use Rattle.wam_code.specs.Verified.{IsVerifiedBy}
+use Rattle.wam_code.specs.VerifiedCode.{IsVerifiedBy}
 use Rattle.code_areas.specs.Areas.{cell_at, nothing}
 use Rattle.code_steps.proofs.Lemmas.{run_starts}
 use Rattle.code_states.specs.Machine.{registers_of}

@@ -4,7 +4,7 @@ use Rattle.heap_cells.specs.declared.Cell.{Cell}
 use Rattle.heap_cells.specs.Cells.{Cells}
 use Rattle.unify_core.specs.declared.Touch.{Touch}
 use Rattle.unify_core.specs.Reduces.{IsSameSize}
-use Rattle.unify_core.specs.Unified.{AreUnified, CannotUnify}
+use Rattle.unify_core.specs.Unifications.{AreUnified, CannotUnify}
 use Rattle.branch_state.specs.States.{State, IsSound, IsSoundBelow, HasNoModel}
 use Rattle.branch_state.specs.Steps.{posted_with}
 

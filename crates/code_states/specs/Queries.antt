@@ -1,7 +1,7 @@
 -- The query whose code a machine is in.
 use Rattle.std.specs.Prelude.{ℕ, List, [], ◌∷◌}
 use Rattle.wam_code.specs.Area.{Span, Area, HasQuery}
-use Rattle.wam_code.specs.Verified.{IsIn}
+use Rattle.wam_code.specs.VerifiedCode.{IsIn}
 use Rattle.code_areas.specs.Areas.{Return, Contents}
 use Rattle.code_states.specs.declared.went.Went.{Went}
 use Rattle.code_states.specs.declared.went.Went.TheVariants.{On, Back}

@@ -6,7 +6,7 @@ use Rattle.branch_state.specs.States as branch
 use Rattle.branch_state.specs.States.{AreCells, IsSound, IsSoundBelow, with_heap}
 use Rattle.wam_code.specs.Area.{Slot, Cell, State, Span, Area, HasState, HasQuery}
 use Rattle.wam_code.specs.Reaching.{IsOutside}
-use Rattle.wam_code.specs.Verified.{IsIn, IsVerifiedBy}
+use Rattle.wam_code.specs.VerifiedCode.{IsIn, IsVerifiedBy}
 use Rattle.code_areas.specs.Areas.{Places, IsSet, Return, Point, Contents}
 use Rattle.code_states.specs.declared.went.Went.{Went}
 use Rattle.code_states.specs.declared.went.Went.TheVariants.{On, Back}

@@ -8,7 +8,7 @@ use Rattle.heap_cells.specs.Terms.{Naming, IsOneToOne}
 use Rattle.term_pool.specs.declared.AtomId.{AtomId}
 use Rattle.branch_state.specs.States as branch
 use Rattle.wam_code.specs.Area.{Area, name_of}
-use Rattle.wam_code.specs.Verified.{IsAtom}
+use Rattle.wam_code.specs.VerifiedCode.{IsAtom}
 use Rattle.code_areas.specs.Areas.{Contents}
 use Rattle.code_steps.specs.Standing.{Stands}
 use Rattle.code_states.specs.Machine.{registers_of, stack_of}

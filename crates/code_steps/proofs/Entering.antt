@@ -27,7 +27,7 @@ use Rattle.wam_code.specs.Places.{Places, put_at, Hold, count, made}
 use Rattle.wam_code.specs.Tries.{IsClause}
 use Rattle.code_steps.specs.Registers.{Registers, Saved, AreSame, IsShown, AreShown, AreHeld}
 use Rattle.code_steps.specs.Standing.{Made, IsOld, Stands, IsCalling}
-use Rattle.code_steps.proofs.Shown.{put_here, put_else, all_moved, shown_same, shown_moved}
+use Rattle.code_steps.proofs.RegisterTerms.{put_here, put_else, all_moved, shown_same, shown_moved}
 
 -- the terms in registers from i on
 abbrev pub args_at : ℕ → Terms → ℕ → Option Term

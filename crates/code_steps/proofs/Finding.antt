@@ -24,12 +24,12 @@ use Rattle.heap_cells.specs.Valid.{IsHeap}
 use Rattle.unify_core.specs.declared.Touch.{Touch}
 use Rattle.unify_core.specs.Reduces.{IsSameSize}
 use Rattle.unify_core.specs.Touches.{IsRefuted}
-use Rattle.unify_core.specs.Unified as core
-use Rattle.unify_core.specs.Unified.{cells_equal}
+use Rattle.unify_core.specs.Unifications as core
+use Rattle.unify_core.specs.Unifications.{cells_equal}
 use Rattle.machine_relation.specs.Ahead.{offered, IsFit, AreFit, Spends}
 use Rattle.machine_relation.specs.Heap.{Of}
-use Rattle.machine_relation.specs.Held.{Frame, value_at, fixed_frame}
-use Rattle.machine_relation.specs.Shown.{cell_set}
+use Rattle.machine_relation.specs.HeldBranches.{Frame, value_at, fixed_frame}
+use Rattle.machine_relation.specs.AnswerTexts.{cell_set}
 use Rattle.machine_relation.specs.Store.{posts}
 use Rattle.machine_relation.proofs.Lemmas.{found_same, after_is, of_below, seen_by_variable, GivesAll}
 use Rattle.machine_frames.specs.Frames.{link_in, store_touches, frame_of, IsKept}

@@ -19,8 +19,8 @@ use Rattle.heap_cells.proofs.Lemmas.{of_same}
 use Rattle.unify_core.specs.declared.Touch.{Touch}
 use Rattle.unify_core.specs.Reduces.{IsSameSize}
 use Rattle.unify_core.specs.Touches.{IsRefuted}
-use Rattle.unify_core.specs.Unified as core
-use Rattle.unify_core.specs.Unified.{cells_equal}
+use Rattle.unify_core.specs.Unifications as core
+use Rattle.unify_core.specs.Unifications.{cells_equal}
 use Rattle.machine_relation.specs.Ahead.{offered, Spends}
 use Rattle.machine_relation.specs.Heap.{after, Below}
 use Rattle.machine_relation.specs.Models.{HasModel}

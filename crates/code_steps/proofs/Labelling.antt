@@ -22,12 +22,12 @@ use Rattle.heap_cells.specs.Valid.{IsHeap}
 use Rattle.heap_cells.proofs.Lemmas.{term-Int}
 use Rattle.unify_core.specs.declared.Touch.{Touch}
 use Rattle.unify_core.specs.Reduces.{IsSameSize}
-use Rattle.unify_core.specs.Unified as core
+use Rattle.unify_core.specs.Unifications as core
 use Rattle.machine_relation.specs.Ahead.{offered, IsFit, AreFit, Ahead, Spends}
 use Rattle.machine_relation.specs.Heap.{Of, Below}
-use Rattle.machine_relation.specs.Held.{Frame, value_at, fixed_frame}
+use Rattle.machine_relation.specs.HeldBranches.{Frame, value_at, fixed_frame}
 use Rattle.machine_relation.specs.Labelling.{Labelled, faults, done, labels, labelled, by_labelled}
-use Rattle.machine_relation.specs.Shown.{cell_set}
+use Rattle.machine_relation.specs.AnswerTexts.{cell_set}
 use Rattle.machine_relation.specs.Store.{posts}
 use Rattle.machine_relation.proofs.Lemmas.{label_there, label_done, label_faults, after_is, row_by, label_in, of_below, seen_of, variables_on, seen_by_variable}
 use Rattle.machine_frames.specs.Frames.{link_in, store_touches, frame_of, IsKept}

@@ -4,7 +4,7 @@ pub use Rattle.code_steps.proofs.Answering.{run_any, run_fewer, run_last}
 -- The unify instructions where a compound term is built.
 pub use Rattle.code_steps.proofs.WriteMode.{build_constant, build_integer, build_value, build_variable, build_void, build_voids}
 -- Where a compound term begins to be built, and where it is built.
-pub use Rattle.code_steps.proofs.Built.{end_get, end_put, start_get, start_put}
+pub use Rattle.code_steps.proofs.BuiltTerms.{end_get, end_put, start_get, start_put}
 -- A goal is called: the branches of the clauses that its predicate's code tries are those that are still to come.
 pub use Rattle.code_steps.proofs.Calling.{run_call, run_execute}
 -- The steps from a constraint: its row by the heap and the store's sets, whose fresh variables are the next variables of the heap.
@@ -24,7 +24,7 @@ pub use Rattle.code_steps.proofs.ReadMode.{read_constant, read_end, read_integer
 -- Steps of the whole state: on in a clause, before a clause, to a choice point and back to it.
 pub use Rattle.code_steps.proofs.Running.{back_resumes, goes_before, runs_gone, runs_jump, runs_on, runs_over, runs_tries, spends_more, stands_no_model, back_ends}
 -- Registers and continuations on a heap that changes.
-pub use Rattle.code_steps.proofs.Shown.{all_moved, shown_moved}
+pub use Rattle.code_steps.proofs.RegisterTerms.{all_moved, shown_moved}
 -- A new machine at a query's code, and a store without a model.
 pub use Rattle.code_steps.proofs.Starting.{run_starts}
 -- The machine's step at each instruction.

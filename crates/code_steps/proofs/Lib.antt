@@ -1,4 +1,4 @@
-mod Shown
+mod RegisterTerms
 mod Making
 mod Settling
 mod Stepping
@@ -10,7 +10,7 @@ mod Ghosts
 mod Opening
 mod ReadMode
 mod WriteMode
-mod Built
+mod BuiltTerms
 mod Running
 mod Readying
 mod Goals

@@ -17,8 +17,8 @@ use Rattle.heap_cells.proofs.Lemmas.{of_same, of_wider, var_kept}
 use Rattle.unify_core.specs.declared.Touch.{Touch}
 use Rattle.unify_core.specs.Reduces.{IsSameSize}
 use Rattle.unify_core.specs.Touches.{IsRefuted}
-use Rattle.unify_core.specs.Unified as core
-use Rattle.unify_core.specs.Unified.{cells_equal}
+use Rattle.unify_core.specs.Unifications as core
+use Rattle.unify_core.specs.Unifications.{cells_equal}
 use Rattle.machine_relation.specs.Heap.{after, Of}
 use Rattle.machine_relation.specs.Says.{SaysSame}
 use Rattle.machine_relation.specs.Store.{posts}
@@ -31,7 +31,7 @@ use Rattle.wam_code.specs.Places.{Places, write, learn, read, IsFresh}
 use Rattle.wam_code.specs.Means.{Return}
 use Rattle.code_steps.specs.Registers.{Registers, Saved, cell_in, IsWritten, IsShown, AreShown, AllShown}
 use Rattle.code_steps.specs.Standing.{Made, IsOld, IsMade}
-use Rattle.code_steps.proofs.Shown.{one_moved, shown_moved, all_moved, shown_same, shown_put}
+use Rattle.code_steps.proofs.RegisterTerms.{one_moved, shown_moved, all_moved, shown_same, shown_put}
 
 -- the first of the equations still to be made is made
 pub moved_over : (P : ℕ → Type 0) (done later es : List Equation) (e : Equation) → SaysSame P (done ++ (e ∷ later)) es → SaysSame P ((e ∷ done) ++ later) es

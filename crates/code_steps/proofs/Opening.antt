@@ -32,7 +32,7 @@ use Rattle.wam_code.specs.Means.{UnifyRule, Owed, Return}
 use Rattle.code_steps.specs.Registers.{Registers, Saved, IsShown, AllShown}
 use Rattle.code_steps.specs.Standing.{Made, IsOld, IsMade, Stands}
 use Rattle.code_steps.specs.ReadMode.{AreCells, IsWider, local, IsPlain, ArePlain, Reads}
-use Rattle.code_steps.proofs.Shown.{put_here, put_else, shown_moved, all_moved}
+use Rattle.code_steps.proofs.RegisterTerms.{put_here, put_else, shown_moved, all_moved}
 use Rattle.code_steps.proofs.Making.{moved_over, learnt_here, learnt_more}
 use Rattle.code_steps.proofs.Stepping.{here}
 use Rattle.code_steps.proofs.Ghosts.{ghosts, assign, assign_below, ghosts_in, ghost_each, ghost_of, assign_ghosts, unify_ghosts, ghosts_unify, same_tail, same_head}

@@ -6,7 +6,7 @@ use Rattle.fd_model.specs.declared.kinds.QueryFault.TheVariants.{BadType}
 use Rattle.fd_language.specs.Check.{fill_range}
 use Rattle.fd_language.specs.Family.{Family, has, IsInside}
 use Rattle.fd_language.specs.Needs.{need_of}
-use Rattle.fd_language.specs.Places.{Place, one_place, range_places}
+use Rattle.fd_language.specs.Occurrences.{Occurrence, one_occurrence, range_occurrences}
 use Rattle.fd_language.specs.declared.range_node.Need.{Need}
 use Rattle.fd_language.specs.Range.{Range, Indexical, reads}
 use Rattle.fd_language.specs.RangeRenaming.{rename_range, rename_indexical}
@@ -29,7 +29,7 @@ use Rattle.heap_cells.specs.Cells.{Cells}
 use Rattle.heap_cells.specs.Terms.{Naming, term_of}
 use Rattle.heap_cells.specs.Valid.{IsHeap}
 use Rattle.machine_relation.specs.Ahead.{offered, Spends}
-use Rattle.machine_relation.specs.Held.{value_at, fixed_frame}
+use Rattle.machine_relation.specs.HeldBranches.{value_at, fixed_frame}
 use Rattle.machine_relation.specs.Rows.{slot_numbers, unless_fault, post_row}
 use Rattle.machine_relation.specs.Store.{Touch, Value, Same, posts, names, IsStored}
 use Rattle.machine_relation.proofs.Lemmas.{after_is, agree, AreConsecutive, post_same, range_filled, range_plain, only_integers, post_as_row, IsRangeRow, range_row, range_twice, view_kind, with_one}
@@ -77,8 +77,8 @@ pub record IsRow (look : Substitution) (n : ℕ) (t : Term) (r : Range) : Type 0
   pub target : (s : Substitution) → ((y : ℕ) → y < n → s y ≡ look y) → numbered row.equated s range.target ≡ apply look t
   pub body : range.range ≡ rename_range place (fill_range (λ y. integer_of (look y)) r)
 
--- what is gathered stands at some place
-integers_low : (look : Substitution) (n : ℕ) (ps : List Place) (ys : List ℕ) → EachAt (λ y. y < n) ps → ((y : ℕ) → has ys y ≡ true → y < n) → (y : ℕ) → has (integers_at look ps ys) y ≡ true → y < n
+-- what is gathered occurs
+integers_low : (look : Substitution) (n : ℕ) (ps : List Occurrence) (ys : List ℕ) → EachAt (λ y. y < n) ps → ((y : ℕ) → has ys y ≡ true → y < n) → (y : ℕ) → has (integers_at look ps ys) y ≡ true → y < n
 integers_low look n [] ys b h y i = h y i
 integers_low look n (p ∷ ps) ys b h y i = elim (cases_Bool (p.parameter || (not (is_integer (look p.variable)) || has ys p.variable))) [
   | inl e ↦ integers_low look n ps ys b.1 h y (sym (ap (λ c. has (cond c (integers_at look ps ys) (integers_at look ps (ys ++ p.variable ∷ []))) y) e) ∙ i)
@@ -88,7 +88,7 @@ integers_low look n (p ∷ ps) ys b h y i = elim (cases_Bool (p.parameter || (no
 ]
 
 module _ (look : Substitution) (n : ℕ) (r : Range) (low : RangeBelow n r) where
-  ints : (ps : List Place) (y : ℕ) → has (integers_at look ps []) y ≡ true → look y ≡ Int (integer_of (look y))
+  ints : (ps : List Occurrence) (y : ℕ) → has (integers_at look ps []) y ≡ true → look y ≡ Int (integer_of (look y))
   ints ps y h = integer_is (look y) (only_integers look ps [] (λ x i. absurd (true≢false (sym i))) y h)
     where
       integer_is : (t : Term) → is_integer t ≡ true → t ≡ Int (integer_of t)
@@ -102,8 +102,8 @@ module _ (look : Substitution) (n : ℕ) (r : Range) (low : RangeBelow n r) wher
   numbers_follow m (y ∷ ys) = (refl, numbers_follow (suc m) ys)
 
   pub post_fault : (t : Term) (e : QueryFault) → cells_offence (apply look t) look r ≡ Some e → post_row look t r n ≡ Err e
-  post_fault (Var v) e i = row_err (first_offence (need_of r) look (one_place v false ++ range_places r)) _ e (ap (λ o. or_later o (first_offence (need_of r) look (range_places r))) (target_offends (need_of r) v (look v)) ∙ i)
-  post_fault (Int z) e i = row_err (first_offence (need_of r) look (range_places r)) _ e i
+  post_fault (Var v) e i = row_err (first_offence (need_of r) look (one_occurrence v false ++ range_occurrences r)) _ e (ap (λ o. or_later o (first_offence (need_of r) look (range_occurrences r))) (target_offends (need_of r) v (look v)) ∙ i)
+  post_fault (Int z) e i = row_err (first_offence (need_of r) look (range_occurrences r)) _ e i
   post_fault (Atom a) e i = let k : BadType ≡ e = cc in ap Err k
   post_fault (Comp f ts) e i = let k : BadType ≡ e = cc in ap Err k
 
@@ -123,11 +123,11 @@ module _ (look : Substitution) (n : ℕ) (r : Range) (low : RangeBelow n r) wher
 
   pub post_ok : (t : Term) → TermBelow n t → cells_offence (apply look t) look r ≡ None → IsRow look n t r
   post_ok (Var v) b i =
-      let ps = one_place v false ++ range_places r in
+      let ps = one_occurrence v false ++ range_occurrences r in
       let ys = integers_at look ps [] in
       record {
         row = record { equated = [] ++ slot_numbers look n ys; ranges = record { target = slot n ys v; range = rename_range (slot n ys) (fill_range (λ y. integer_of (look y)) r) } ∷ []; fresh = n + length ys };
-        is = row_ok (first_offence (need_of r) look ps) _ (ap (λ o. or_later o (first_offence (need_of r) look (range_places r))) (target_offends (need_of r) v (look v)) ∙ i);
+        is = row_ok (first_offence (need_of r) look ps) _ (ap (λ o. or_later o (first_offence (need_of r) look (range_occurrences r))) (target_offends (need_of r) v (look v)) ∙ i);
         range = record { target = slot n ys v; range = rename_range (slot n ys) (fill_range (λ y. integer_of (look y)) r) };
         one = refl;
         place = slot n ys;
@@ -136,7 +136,7 @@ module _ (look : Substitution) (n : ℕ) (r : Range) (low : RangeBelow n r) wher
         body = refl;
       }
   post_ok (Int z) b i =
-      let ps = range_places r in
+      let ps = range_occurrences r in
       let ys = integers_at look ps [] in
       record {
         row = record { equated = (n, z) ∷ slot_numbers look (suc n) ys; ranges = record { target = slot (suc n) ys n; range = rename_range (slot (suc n) ys) (fill_range (λ y. integer_of (look y)) r) } ∷ []; fresh = suc n + length ys };
@@ -151,8 +151,8 @@ module _ (look : Substitution) (n : ℕ) (r : Range) (low : RangeBelow n r) wher
         body = refl;
       }
     where
-      low_integers : (y : ℕ) → has (integers_at look (range_places r) []) y ≡ true → y < n
-      low_integers y h = integers_low look n (range_places r) [] low (λ x i. absurd (true≢false (sym i))) y h
+      low_integers : (y : ℕ) → has (integers_at look (range_occurrences r) []) y ≡ true → y < n
+      low_integers y h = integers_low look n (range_occurrences r) [] low (λ x i. absurd (true≢false (sym i))) y h
 
       none_low : (ys : List ℕ) → ((y : ℕ) → has ys y ≡ true → y < n) → has ys n ≡ false
       none_low ys h = elim (cases_Bool (has ys n)) [ inl t ↦ absurd (let l = h n t in omega (arith, l)) | inr t ↦ t ]
@@ -228,8 +228,8 @@ module _ (M : ℕ) (area : Area) (prog : Program) (q : Query) (name : Naming) (h
           ∙ sym (ap (λ b. cond b (read_term h G (term_of name h w)) (slot_terms name h G xs ws y)) j)
     ]
 
-    each : EachAt (λ y. look (f y) ≡ see y) (range_places R)
-    each = each_at (λ y. look (f y) ≡ see y) (range_places R) (λ y g. slots_seen 2 (slots_of R) ds t.is.4 cells counted y (has_once (map (λ p. p.variable) (range_places R)) y ∙ g))
+    each : EachAt (λ y. look (f y) ≡ see y) (range_occurrences R)
+    each = each_at (λ y. look (f y) ≡ see y) (range_occurrences R) (λ y g. slots_seen 2 (slots_of R) ds t.is.4 cells counted y (has_once (map (λ p. p.variable) (range_occurrences R)) y ∙ g))
 
     offence_is : cells_offence (apply look t0) look R' ≡ cells_offence target_term see R
     offence_is = two or_later (ap target_offence target_is) (range_offence f look see t.is.2 R each)
@@ -272,13 +272,13 @@ module _ (M : ℕ) (area : Area) (prog : Program) (q : Query) (name : Naming) (h
       abbrev inner : ℕ → ℕ
       inner y = row.place (f y)
 
-      inner_seen : EachAt (λ y. seen' (inner y) ≡ see y) (range_places R)
-      inner_seen = each_both (λ y. look (f y) ≡ see y) (λ y. f y < b.fresh) (λ y. seen' (inner y) ≡ see y) (λ y e l. row.seen look (λ z g. refl) (f y) l ∙ e) (range_places R) each (each_renamed (λ y. y < b.fresh) f t.is.2 R low.1)
+      inner_seen : EachAt (λ y. seen' (inner y) ≡ see y) (range_occurrences R)
+      inner_seen = each_both (λ y. look (f y) ≡ see y) (λ y. f y < b.fresh) (λ y. seen' (inner y) ≡ see y) (λ y e l. row.seen look (λ z g. refl) (f y) l ∙ e) (range_occurrences R) each (each_renamed (λ y. y < b.fresh) f t.is.2 R low.1)
 
       body_is : p.range ≡ rename_range inner (filled see R)
       body_is =
           row.body
-          ∙ ap (rename_range row.place) (range_filled f t.is.2 (λ y. integer_of (look y)) R ∙ ap (rename_range f) (filled_agree (λ y. integer_of (look (f y))) (λ y. integer_of (see y)) R (each_both (λ y. look (f y) ≡ see y) (λ y. look (f y) ≡ see y) (λ y. integer_of (look (f y)) ≡ integer_of (see y)) (λ y e g. ap integer_of e) (range_places R) each each)))
+          ∙ ap (rename_range row.place) (range_filled f t.is.2 (λ y. integer_of (look y)) R ∙ ap (rename_range f) (filled_agree (λ y. integer_of (look (f y))) (λ y. integer_of (see y)) R (each_both (λ y. look (f y) ≡ see y) (λ y. look (f y) ≡ see y) (λ y. integer_of (look (f y)) ≡ integer_of (see y)) (λ y e g. ap integer_of e) (range_occurrences R) each each)))
           ∙ range_twice row.place f (filled see R)
 
       abbrev Named : Term → Type 0
@@ -289,7 +289,7 @@ module _ (M : ℕ) (area : Area) (prog : Program) (q : Query) (name : Naming) (h
         | inl j ↦ inl (ap seen' (sym (eqb-true p.target v j)) ∙ target_seen)
         | inr j ↦
             let y = map_has inner (reads (filled see R)) v (subst (λ l. has l v ≡ true) (ap reads body_is ∙ reads_map inner (filled see R)) j) in
-            inr (y.0, y.1, ap seen' (sym y.2) ∙ plain_at (λ y. seen' (inner y) ≡ see y) (range_places R) inner_seen y.0 (subst (λ l. has l y.0 ≡ true) (range_plain (λ y. integer_of (see y)) R) y.1))
+            inr (y.0, y.1, ap seen' (sym y.2) ∙ plain_at (λ y. seen' (inner y) ≡ see y) (range_occurrences R) inner_seen y.0 (subst (λ l. has l y.0 ≡ true) (range_plain (λ y. integer_of (see y)) R) y.1))
       ]
 
       named_back : (u : Term) → Named u → (v : ℕ) × (has (names p) v ≡ true) × (seen' v ≡ u)
@@ -297,7 +297,7 @@ module _ (M : ℕ) (area : Area) (prog : Program) (q : Query) (name : Naming) (h
       named_back u (inr y) = (
         inner y.0,
         or_right (p.target == inner y.0) (has (reads p.range) (inner y.0)) (subst (λ l. has l (inner y.0) ≡ true) (sym (ap reads body_is ∙ reads_map inner (filled see R))) (has_map inner (reads (filled see R)) y.0 y.1)),
-        plain_at (λ y. seen' (inner y) ≡ see y) (range_places R) inner_seen y.0 (subst (λ l. has l y.0 ≡ true) (range_plain (λ y. integer_of (see y)) R) y.1) ∙ sym y.2,
+        plain_at (λ y. seen' (inner y) ≡ see y) (range_occurrences R) inner_seen y.0 (subst (λ l. has l y.0 ≡ true) (range_plain (λ y. integer_of (see y)) R) y.1) ∙ sym y.2,
       )
 
       -- what is named is open, or a fresh variable that is an integer
@@ -324,7 +324,7 @@ module _ (M : ℕ) (area : Area) (prog : Program) (q : Query) (name : Naming) (h
         posted_is = two (λ a q. record { target = a; range = q }) (ap slot_of target_seen) (
             ap (rename_range F) body_is ∙ range_twice F inner (filled see R)
             ∙ renamed_agree (λ y. F (inner y)) (λ y. slot_of (see y)) (filled see R) (each_filled (λ y. F (inner y) ≡ slot_of (see y)) (λ y. integer_of (see y)) R
-            (each_both (λ y. seen' (inner y) ≡ see y) (λ y. seen' (inner y) ≡ see y) (λ y. F (inner y) ≡ slot_of (see y)) (λ y e g. ap slot_of e) (range_places R) inner_seen inner_seen))
+            (each_both (λ y. seen' (inner y) ≡ see y) (λ y. seen' (inner y) ≡ see y) (λ y. F (inner y) ≡ slot_of (see y)) (λ y e g. ap slot_of e) (range_occurrences R) inner_seen inner_seen))
             )
 
         told_here : (us : List Touch) → AreNumbers slot_of (Names target_term see R) us → AreTold p raw' F us

@@ -30,7 +30,7 @@ use Rattle.code_steps.specs.Standing.{Made, IsOld, IsMade, Stands}
 use Rattle.code_steps.specs.Running.{IsReady, Choice, Waits, Runs, Returns, IsTaking}
 use Rattle.code_steps.proofs.Entering.{numbers_wider}
 use Rattle.code_steps.proofs.Settling.{settled_kept, says_itself}
-use Rattle.code_steps.proofs.Shown.{all_moved}
+use Rattle.code_steps.proofs.RegisterTerms.{all_moved}
 use Rattle.code_steps.proofs.Stepping.{here}
 
 module _ (M : ℕ) (area : Area) (shown : List ℕ) (name : Naming) (h : Cells) (qs : List Indexical) (at : ℕ) (c : Registers) (stack : List Saved) (b : Branch) where

@@ -19,7 +19,7 @@ use Rattle.wam_code.specs.Means.{Return, returned}
 use Rattle.wam_code.proofs.Lemmas.{still_says_same}
 use Rattle.code_steps.specs.Registers.{Registers, Saved, AreSame}
 use Rattle.code_steps.specs.Standing.{Made, IsOld, IsMade}
-use Rattle.code_steps.proofs.Shown.{shown_moved, all_moved, shown_same}
+use Rattle.code_steps.proofs.RegisterTerms.{shown_moved, all_moved, shown_same}
 use Rattle.code_steps.proofs.Making.{made_write, made_place}
 
 -- equations with none behind them

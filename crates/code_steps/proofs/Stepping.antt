@@ -28,7 +28,7 @@ use Rattle.wam_code.proofs.Lemmas.{at_place, quietly_keeps}
 use Rattle.code_steps.specs.Registers.{Registers, Saved, cell_in, AreSame, IsWritten, IsShown, AreHeld, AllShown}
 use Rattle.code_steps.specs.Standing.{Made, IsOld, IsMade, Stands, IsCalling}
 use Rattle.code_steps.specs.Steps.{GoesOnEqual}
-use Rattle.code_steps.proofs.Shown.{all_moved}
+use Rattle.code_steps.proofs.RegisterTerms.{all_moved}
 use Rattle.code_steps.proofs.Making.{made_read, made_write, made_place, made_cell, made_unified, made_refuted}
 use Rattle.code_steps.proofs.Settling.{made_no_slots, made_learnt, made_restated, made_returned, settled_kept}
 

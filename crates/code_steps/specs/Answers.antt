@@ -8,8 +8,8 @@ use Rattle.fd_model.specs.Lines.{line_of, as_terms}
 use Rattle.heap_cells.specs.declared.Cell.{Cell}
 use Rattle.heap_cells.specs.Cells.{Cells}
 use Rattle.heap_cells.specs.Terms.{Naming, term_of}
-use Rattle.machine_relation.specs.Held.{fixed_frame}
-use Rattle.machine_relation.specs.Shown.{cell_text}
+use Rattle.machine_relation.specs.HeldBranches.{fixed_frame}
+use Rattle.machine_relation.specs.AnswerTexts.{cell_text}
 use Rattle.machine_frames.specs.Frames.{frame_of}
 use Rattle.machine_frames.specs.SeenHeap.{read_term}
 

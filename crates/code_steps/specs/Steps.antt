@@ -10,8 +10,8 @@ use Rattle.heap_cells.specs.Terms.{Naming}
 use Rattle.unify_core.specs.declared.Touch.{Touch}
 use Rattle.unify_core.specs.Reduces.{IsSameSize}
 use Rattle.unify_core.specs.Touches.{IsRefuted}
-use Rattle.unify_core.specs.Unified as core
-use Rattle.unify_core.specs.Unified.{cells_equal}
+use Rattle.unify_core.specs.Unifications as core
+use Rattle.unify_core.specs.Unifications.{cells_equal}
 use Rattle.machine_relation.specs.Store.{posts}
 use Rattle.machine_frames.specs.Frames.{store_touches}
 use Rattle.wam_code.specs.Area.{Area}

@@ -5,7 +5,7 @@ ghost use Rattle.command_words.specs.Words as form;
 use crate::AgendaName;
 
 /// The number that decimal digits without a sign and without a leading zero write, where it lies in the range.
-pub fn number(text: &str, low: u64, high: u64) -> Option<u64>
+pub(crate) fn number(text: &str, low: u64, high: u64) -> Option<u64>
     ensures { result ≡ form.number_in low high text.now }
 {
     let [b'1'..=b'9', ..] = text.as_bytes() else {
@@ -16,21 +16,21 @@ pub fn number(text: &str, low: u64, high: u64) -> Option<u64>
 }
 
 /// The number of a limit.
-pub fn limit(text: &str) -> Option<u64>
+pub(crate) fn limit(text: &str) -> Option<u64>
     ensures { result ≡ form.limit_in text.now }
 {
     number(text, 1, 1_000_000_000_000)
 }
 
 /// The size of a generated text.
-pub fn size(text: &str) -> Option<u32>
+pub(crate) fn size(text: &str) -> Option<u32>
     ensures { result ≡ form.size_in text.now }
 {
     u32::try_from(number(text, 4, 12)?).ok()
 }
 
 /// The agenda of a name.
-pub fn agenda(text: &str) -> Option<AgendaName>
+pub(crate) fn agenda(text: &str) -> Option<AgendaName>
     ensures { result ≡ form.agenda_in text.now }
 {
     match text {
@@ -67,7 +67,7 @@ fn is_named(name: &str, words: &[String]) -> bool
 }
 
 /// Whether words are pairs of an option's name and a value of it, each option once.
-pub fn has_form(words: &[String]) -> bool
+pub(crate) fn has_form(words: &[String]) -> bool
     ensures { result ≡ form.has_form (map string_bytes words.now) }
 {
     let mut left = words;

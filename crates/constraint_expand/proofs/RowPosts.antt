@@ -7,7 +7,7 @@ use Rattle.std.specs.List.{list_all}
 use Rattle.std.proofs.lemmas.Int.{ints, to_z-of_z, wrapping_neg_is, int_wrap_fits}
 use lib.Signed.{lt_z}
 use Rattle.fd_language.specs.Range.{Range}
-use Rattle.fd_language.specs.Flat.{nodes_of, spelled, spelled-nodes}
+use Rattle.fd_language.specs.Flat.{nodes_of, spelled_range, spelled_range-nodes}
 use Rattle.fd_language.specs.declared.range_node.RangeNode.{RangeNode}
 use Rattle.fd_model.specs.Linear.{in_integers, scaled}
 use Rattle.fd_model.specs.LinearRows.{row_by_sign, rows_behind}
@@ -50,9 +50,9 @@ negated_turns ts now new i z h f e p =
     ∙ ap (λ (us : List (ℕ × ℤ)). now ++ scaled (negsuc 0) us) (sym (drop_more ts i (0, pos 0) h)) ∙ f
 
 -- nodes that spell a range
-pub spelled_back : (ns : List RangeNode) (r : Range) → ns ≡ nodes_of r → (nodes_of (spelled ns) ≡ ns) × (spelled ns ≡ r)
+pub spelled_back : (ns : List RangeNode) (r : Range) → ns ≡ nodes_of r → (nodes_of (spelled_range ns) ≡ ns) × (spelled_range ns ≡ r)
 spelled_back ns r e =
-    let same : spelled ns ≡ r = ap spelled e ∙ spelled-nodes r in
+    let same : spelled_range ns ≡ r = ap spelled_range e ∙ spelled_range-nodes r in
     (ap nodes_of same ∙ sym e, same)
 
 -- a list around its element at i

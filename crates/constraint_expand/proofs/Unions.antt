@@ -5,7 +5,7 @@ use Rattle.fd_language.specs.Flat.{nodes_of, range_nodes}
 use Rattle.fd_language.specs.Range.{Range, Union}
 use Rattle.fd_language.specs.declared.range_node.RangeNode.{RangeNode}
 use Rattle.fd_language.specs.declared.range_node.RangeNode.TheVariants as node
-use Rattle.fd_model.specs.ListRows.{joined, union_of}
+use Rattle.fd_model.specs.ListRows.{union_onto, union_of}
 use Rattle.constraint_expand.specs.declared.elements.Direction.{Direction}
 use Rattle.constraint_expand.specs.declared.elements.Direction.TheVariants as direction
 use Rattle.constraint_expand.specs.Unions.{given_at, given_from, joined_nodes}
@@ -22,10 +22,10 @@ given_none : (d : Direction) (y k : ℕ) → given_from d y k [] ≡ []
 given_none direction.ElementAt y k = refl
 given_none direction.NumberOf y k = refl
 
-joined_spelled : (d : Direction) (y k : ℕ) (zs : List ℤ) (q : Range) (rest : List RangeNode) → range_nodes (joined q (given_from d y k zs)) rest ≡ range_nodes q (joined_nodes (given_from d y k zs) ++ rest)
-joined_spelled d y k [] q rest = ap (λ rs. range_nodes (joined q rs) rest) (given_none d y k) ∙ ap (λ rs. range_nodes q (joined_nodes rs ++ rest)) (sym (given_none d y k))
+joined_spelled : (d : Direction) (y k : ℕ) (zs : List ℤ) (q : Range) (rest : List RangeNode) → range_nodes (union_onto q (given_from d y k zs)) rest ≡ range_nodes q (joined_nodes (given_from d y k zs) ++ rest)
+joined_spelled d y k [] q rest = ap (λ rs. range_nodes (union_onto q rs) rest) (given_none d y k) ∙ ap (λ rs. range_nodes q (joined_nodes rs ++ rest)) (sym (given_none d y k))
 joined_spelled d y k (z ∷ zs) q rest =
-    ap (λ rs. range_nodes (joined q rs) rest) (given_cons d y k z zs)
+    ap (λ rs. range_nodes (union_onto q rs) rest) (given_cons d y k z zs)
     ∙ joined_spelled d y (suc k) zs (Union q (given_at d y k z)) rest
     ∙ ap (range_nodes q) (given_nodes d y k z (node.Union ∷ (joined_nodes (given_from d y (suc k) zs) ++ rest)) ∙ sym (append_assoc (nodes_of (given_at d y k z)) (node.Union ∷ joined_nodes (given_from d y (suc k) zs)) rest))
     ∙ ap (λ rs. range_nodes q (joined_nodes rs ++ rest)) (sym (given_cons d y k z zs))

@@ -11,7 +11,7 @@ use Rattle.fd_language.specs.RangeVerdict.{over_limit, factor_over_limit, range_
 use Rattle.fd_language.specs.declared.TheConstants.{INFINITY}
 use Rattle.fd_model.specs.Linear.{IsAtMost}
 use Rattle.fd_model.specs.LinearRows.{Expansion, linear_rows}
-use Rattle.fd_model.specs.ListRows.{where_is, joined, union_of, elements_at, numbers_of, element_ranges, counts, units, atmost_rows}
+use Rattle.fd_model.specs.ListRows.{where_is, union_onto, union_of, elements_at, index_ranges, element_ranges, counts, units, atmost_rows}
 use Rattle.fd_model.specs.declared.kinds.Relation.{Relation}
 use Rattle.fd_model.specs.declared.kinds.ConstraintKind.TheVariants.{Compare, Atmost}
 use Rattle.fd_model.specs.Members.{Member, placed, fresh_after}
@@ -52,7 +52,7 @@ module _ (M : ℕ) (small : M < 2 ^ 24) where
   both_sound : (r q : Range) → IsSound M r → IsSound M q → IsSound M (Union r q)
   both_sound r q s t = record { within = and_from _ _ s.within t.within; fits = and_from _ _ s.fits t.fits; params = let e = s.params in let f = t.params in rw (e, f) refl }
 
-  joined_sound : (r : Range) (qs : List Range) → IsSound M r → AreSound qs → IsSound M (joined r qs)
+  joined_sound : (r : Range) (qs : List Range) → IsSound M r → AreSound qs → IsSound M (union_onto r qs)
   joined_sound r [] s t = s
   joined_sound r (q ∷ qs) s t = joined_sound (Union r q) qs (both_sound r q s t.0) t.1
 
@@ -66,7 +66,7 @@ module _ (M : ℕ) (small : M < 2 ^ 24) where
       let h = word_size z (w 0) in
       (where_sound (pos k) i z (omega arith) (omega arith), elements_sound i (suc k) zs (λ j. w (suc j)) (omega arith))
 
-  numbers_sound : (x k : ℕ) (zs : List ℤ) → AreWords zs → k + length zs ≤ 2 ^ 64 → AreSound (numbers_of x k zs)
+  numbers_sound : (x k : ℕ) (zs : List ℤ) → AreWords zs → k + length zs ≤ 2 ^ 64 → AreSound (index_ranges x k zs)
   numbers_sound x k [] w l = tt
   numbers_sound x k (z ∷ zs) w l =
       let h = word_size z (w 0) in
@@ -109,7 +109,7 @@ compared_accepted r s t n x e = all_accepted x.ranges (expand_fitting INFINITY (
 pub element_accepted : (i : ℕ) (zs : List ℤ) (x : ℕ) → AreWords zs → length zs < 2 ^ 64 → Accepted (element_ranges i zs x)
 element_accepted i zs x w l = (
   sound_accepted INFINITY (union_of (elements_at i 1 zs)) (union_sound INFINITY small_infinity (elements_at i 1 zs) (elements_sound INFINITY small_infinity i 1 zs w (omega arith))),
-  (sound_accepted INFINITY (union_of (numbers_of x 1 zs)) (union_sound INFINITY small_infinity (numbers_of x 1 zs) (numbers_sound INFINITY small_infinity x 1 zs w (omega arith))), tt),
+  (sound_accepted INFINITY (union_of (index_ranges x 1 zs)) (union_sound INFINITY small_infinity (index_ranges x 1 zs) (numbers_sound INFINITY small_infinity x 1 zs w (omega arith))), tt),
 )
 
 -- The check accepts the rows of the counters' sum.

@@ -4,7 +4,7 @@ use Rattle.fd_language.specs.Flat.{nodes_of}
 use Rattle.fd_language.specs.Range.{Range, Indexical}
 use Rattle.fd_language.specs.declared.range_node.RangeNode.{RangeNode}
 use Rattle.fd_language.specs.declared.range_node.RangeNode.TheVariants as node
-use Rattle.fd_model.specs.ListRows.{where_is, union_of, elements_at, numbers_of}
+use Rattle.fd_model.specs.ListRows.{where_is, union_of, elements_at, index_ranges}
 use Rattle.constraint_expand.specs.declared.elements.Direction.{Direction}
 use Rattle.constraint_expand.specs.declared.elements.Direction.TheVariants as direction
 
@@ -14,7 +14,7 @@ given_at direction.NumberOf y k z = where_is z y (pos k)
 
 abbrev pub given_from : Direction → ℕ → ℕ → List ℤ → List Range
 given_from direction.ElementAt y k zs = elements_at y k zs
-given_from direction.NumberOf y k zs = numbers_of y k zs
+given_from direction.NumberOf y k zs = index_ranges y k zs
 
 -- the row of the target, where the variable y gives it its numbers
 abbrev pub given_row : ℕ → Direction → ℕ → List ℤ → Indexical

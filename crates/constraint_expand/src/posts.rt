@@ -1,7 +1,7 @@
 //! Ranges as they are posted.
 
 ghost use Rattle.std.specs.Prelude.{◌≡◌, ◌++◌, [], ◌∷◌, IsTrue, OnOk};
-ghost use Rattle.fd_language.specs.Flat.{nodes_of, spelled};
+ghost use Rattle.fd_language.specs.Flat.{nodes_of, spelled_range};
 ghost use Rattle.fd_language.specs.RangeVerdict.{is_accepted};
 ghost use Rattle.fd_model.specs.LinearRows.{no_number};
 ghost use Rattle.constraint_expand.specs.Posts.{Posts};
@@ -16,10 +16,10 @@ pub(crate) fn post(
     target: u64,
     nodes: Vec<RangeNode>,
 ) -> Result<(), NoMemory>
-    requires spelled { nodes_of (spelled nodes.items) ≡ nodes.items }
-    requires accepted { IsTrue (is_accepted INFINITY (spelled nodes.items)) }
+    requires spelled { nodes_of (spelled_range nodes.items) ≡ nodes.items }
+    requires accepted { IsTrue (is_accepted INFINITY (spelled_range nodes.items)) }
     ensures { OnOk result
-        (list.new.items ≡ list.old.items ++ (target, spelled nodes.items) ∷ []) }
+        (list.new.items ≡ list.old.items ++ (target, spelled_range nodes.items) ∷ []) }
 {
     let range = FlatRange::from_nodes(nodes).unwrap();
     list.push((target, Checked::from_accepted(range)))?;

@@ -11,7 +11,7 @@ use std::alloc::Global;
 
 /// The interval of the numbers from `lo` to `hi` that are in 0 to `INFINITY`, if there are any.
 #[inline(always)]
-pub fn cut(lo: i128, hi: i128) -> Option<(u32, u32)>
+pub(crate) fn cut(lo: i128, hi: i128) -> Option<(u32, u32)>
     ensures none { IfNone result ((n : ℕ)
         → n ≤ INFINITY → (int_le lo (pos n) && int_le (pos n) hi) ≡ false) }
     ensures order { IfSome result (λ s. s.0 ≤ s.1) }
@@ -29,7 +29,7 @@ pub fn cut(lo: i128, hi: i128) -> Option<(u32, u32)>
 }
 
 /// How many numbers are in the intervals.
-pub fn count(spans: &[(u32, u32)]) -> u32
+pub(crate) fn count(spans: &[(u32, u32)]) -> u32
     requires { IsSpans 0 INFINITY spans.now }
     ensures { result ≡ length (members spans.now) }
 {
@@ -41,7 +41,7 @@ pub fn count(spans: &[(u32, u32)]) -> u32
 }
 
 /// The place of the first interval that doesn't end below `n`, and the number of intervals where each does.
-pub fn place_from(spans: &[(u32, u32)], n: u32) -> usize
+pub(crate) fn place_from(spans: &[(u32, u32)], n: u32) -> usize
     requires { IsSpans 0 INFINITY spans.now }
     ensures place { result ≤ length spans.now }
     ensures before { (k : ℕ) (d : Span) → k < result → (slice_index_or spans.now k d).1 < n }
@@ -53,7 +53,7 @@ pub fn place_from(spans: &[(u32, u32)], n: u32) -> usize
 
 /// Whether the number is in one of the intervals.
 #[inline(never)]
-pub fn contains(spans: &[(u32, u32)], n: u32) -> bool
+pub(crate) fn contains(spans: &[(u32, u32)], n: u32) -> bool
     requires { IsSpans 0 INFINITY spans.now }
     ensures { result ≡ within spans.now n }
 {
@@ -62,7 +62,7 @@ pub fn contains(spans: &[(u32, u32)], n: u32) -> bool
 }
 
 /// Whether each number of the first intervals is in the second ones.
-pub fn is_inside(a: &[(u32, u32)], b: &[(u32, u32)]) -> bool
+pub(crate) fn is_inside(a: &[(u32, u32)], b: &[(u32, u32)]) -> bool
     requires first { IsSpans 0 INFINITY a.now }
     requires second { IsSpans 0 INFINITY b.now }
     ensures inside { IsTrue result
@@ -88,7 +88,7 @@ pub fn is_inside(a: &[(u32, u32)], b: &[(u32, u32)]) -> bool
 }
 
 /// The least and the greatest number of the intervals, and 0 where there is none.
-pub fn ends(spans: &[(u32, u32)]) -> (u32, u32)
+pub(crate) fn ends(spans: &[(u32, u32)]) -> (u32, u32)
     requires { IsSpans 0 INFINITY spans.now }
     ensures { AreWithEnds spans.now result }
 {
@@ -131,7 +131,7 @@ fn push_meet(
 
 /// The numbers in both of two lists of intervals.
 #[inline(never)]
-pub fn meet_all(
+pub(crate) fn meet_all(
     alloc: Global,
     a: &[(u32, u32)],
     b: &[(u32, u32)],
@@ -160,7 +160,7 @@ pub fn meet_all(
 
 /// The numbers of the intervals but `n`.
 #[inline(never)]
-pub fn without(
+pub(crate) fn without(
     alloc: Global,
     spans: &[(u32, u32)],
     n: u32,
@@ -222,7 +222,7 @@ fn part(list: &mut SmallVec<(u32, u32), 4>, place: usize, n: u32) -> Result<(), 
 }
 
 /// Takes a number out of the intervals, one of which has it. After `NoMemory` they are as they were.
-pub fn leave_out(list: &mut SmallVec<(u32, u32), 4>, n: u32) -> Result<(), NoMemory>
+pub(crate) fn leave_out(list: &mut SmallVec<(u32, u32), 4>, n: u32) -> Result<(), NoMemory>
     requires capacity { 2 ≤ list.old.capacity }
     requires spans { IsSpans 0 INFINITY list.old.items }
     requires member { IsTrue (within list.old.items n) }
@@ -292,7 +292,7 @@ fn is_first(a: &[(u32, u32)], i: usize, b: &[(u32, u32)], j: usize) -> bool
 }
 
 /// The numbers in one of two lists of intervals.
-pub fn join_all(
+pub(crate) fn join_all(
     alloc: Global,
     a: &[(u32, u32)],
     b: &[(u32, u32)],
@@ -366,7 +366,7 @@ fn join_rising(alloc: Global, spans: &[(u32, u32)]) -> Result<SmallVec<(u32, u32
 }
 
 /// The numbers of intervals that stand in any order. One pass is made where they begin in rising order.
-pub fn settled(alloc: Global, spans: &[(u32, u32)]) -> Result<SmallVec<(u32, u32), 4>, NoMemory>
+pub(crate) fn settled(alloc: Global, spans: &[(u32, u32)]) -> Result<SmallVec<(u32, u32), 4>, NoMemory>
     requires { AreIntervals spans.now }
     ensures spans { IfOk result (λ list. IsSpans 0 INFINITY list.items) }
     ensures set { IfOk result (λ list. members list.items ≡ numbers spans.now) }
@@ -397,7 +397,7 @@ fn push_gap(list: &mut SmallVec<(u32, u32), 4>, from: u32, to: u32) -> Result<()
 }
 
 /// The numbers from 0 to `INFINITY` that are in none of the intervals.
-pub fn gaps(alloc: Global, spans: &[(u32, u32)]) -> Result<SmallVec<(u32, u32), 4>, NoMemory>
+pub(crate) fn gaps(alloc: Global, spans: &[(u32, u32)]) -> Result<SmallVec<(u32, u32), 4>, NoMemory>
     requires { IsSpans 0 INFINITY spans.now }
     ensures spans { IfOk result (λ list. IsSpans 0 INFINITY list.items) }
     ensures set { IfOk result (λ list. members list.items
@@ -416,7 +416,7 @@ pub fn gaps(alloc: Global, spans: &[(u32, u32)]) -> Result<SmallVec<(u32, u32), 
 }
 
 /// The numbers of the intervals plus `c`.
-pub fn shift_all(
+pub(crate) fn shift_all(
     alloc: Global,
     spans: &[(u32, u32)],
     c: i128,
@@ -440,7 +440,7 @@ pub fn shift_all(
 }
 
 /// The numbers of the intervals times `c`, each an interval of its own.
-pub fn scale_all(
+pub(crate) fn scale_all(
     alloc: Global,
     spans: &[(u32, u32)],
     c: u32,
@@ -472,7 +472,7 @@ pub fn scale_all(
 }
 
 /// The numbers whose product with `c` is in the intervals.
-pub fn divide_all(
+pub(crate) fn divide_all(
     alloc: Global,
     spans: &[(u32, u32)],
     c: u32,
@@ -498,7 +498,7 @@ pub fn divide_all(
 }
 
 /// The least number of the intervals that is at least `n`.
-pub fn next_from(spans: &[(u32, u32)], n: u32) -> Option<u32>
+pub(crate) fn next_from(spans: &[(u32, u32)], n: u32) -> Option<u32>
     requires { IsSpans 0 INFINITY spans.now }
     ensures none { IfNone result ((k : ℕ) → n ≤ k → within spans.now k ≡ false) }
     ensures from { IfSome result (λ m. n ≤ m) }

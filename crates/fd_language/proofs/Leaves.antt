@@ -9,7 +9,7 @@ use mathlib.Core.Path.{fun_ext}
 use Rattle.fd_language.specs.declared.range_node.RangeNode.{RangeNode}
 use Rattle.fd_language.specs.declared.range_node.RangeNode.TheVariants as node
 use Rattle.fd_language.specs.Range.{Range, Span, One, Dom, Union, Inter, Outside, Plus, Minus, Times, Over, Expr, Number, Infinity, Param, Min, Max, Val, Add, Sub, Mul, DivDown, DivUp, Leaf, Role, leaf, a_parameter, a_min, a_max, a_val, a_dom, is_parameter_role, Walk, walk_expr, walk_range, leaf_of, from_leaf, from_node, collecting, from_expr, from_range, expr_leaves, leaves, reads, read_by, read_at, vals, val_by, val_at, params, param_by, param_at}
-use Rattle.fd_language.specs.Places.{Place, place_at, range_places}
+use Rattle.fd_language.specs.Occurrences.{Occurrence, occurrence_at, range_occurrences}
 use Rattle.fd_language.specs.Features.{feature_at}
 use Rattle.fd_language.specs.Lists.{Each}
 use Rattle.fd_language.specs.NewLeaves.{NewLeaves, new_expr, new_range}
@@ -238,16 +238,16 @@ module _ (h g : NewLeaves) where
   range_agrees (Times r c) s = both_agree Times (leaves r) (expr_leaves c) (range_agrees r) (expr_agrees c) s
   range_agrees (Over r c) s = both_agree Over (leaves r) (expr_leaves c) (range_agrees r) (expr_agrees c) s
 
--- Where a fact that makes them agree holds of each place, they give the same range.
-pub places_agree : (h g : NewLeaves) (P : Place → Type 0) → ((k : Role) (y : ℕ) → P (record { variable = y; parameter = is_parameter_role k }) → Agree h g k y) → (r : Range) → Each P (range_places r) → new_range h r ≡ new_range g r
-places_agree h g P by r s = range_agrees h g r (at_leaves (leaves r) (subst (λ ps. Each P ps) (range_leaves place_at r) s)) where
-  at_leaves : (ls : List Leaf) → Each P (flat_map place_at ls) → Each (λ l. Agree h g l.role l.variable) ls
+-- Where a fact that makes them agree holds of each occurrence, they give the same range.
+pub occurrences_agree : (h g : NewLeaves) (P : Occurrence → Type 0) → ((k : Role) (y : ℕ) → P (record { variable = y; parameter = is_parameter_role k }) → Agree h g k y) → (r : Range) → Each P (range_occurrences r) → new_range h r ≡ new_range g r
+occurrences_agree h g P by r s = range_agrees h g r (at_leaves (leaves r) (subst (λ ps. Each P ps) (range_leaves occurrence_at r) s)) where
+  at_leaves : (ls : List Leaf) → Each P (flat_map occurrence_at ls) → Each (λ l. Agree h g l.role l.variable) ls
   at_leaves [] e = tt
   at_leaves (l ∷ ls) e = (by l.role l.variable e.0, at_leaves ls e.1)
 
--- Renamings that agree at each place give the same range.
-pub renamed_agree : (f g : ℕ → ℕ) (r : Range) → Each (λ p. f p.variable ≡ g p.variable) (range_places r) → rename_range f r ≡ rename_range g r
-renamed_agree f g r s = places_agree (renaming f) (renaming g) (λ p. f p.variable ≡ g p.variable) by_role r s where
+-- Renamings that agree at each occurrence give the same range.
+pub renamed_agree : (f g : ℕ → ℕ) (r : Range) → Each (λ p. f p.variable ≡ g p.variable) (range_occurrences r) → rename_range f r ≡ rename_range g r
+renamed_agree f g r s = occurrences_agree (renaming f) (renaming g) (λ p. f p.variable ≡ g p.variable) by_role r s where
   by_role : (k : Role) (y : ℕ) → f y ≡ g y → Agree (renaming f) (renaming g) k y
   by_role a_parameter y e = ap Param e
   by_role a_min y e = ap Min e
@@ -255,9 +255,9 @@ renamed_agree f g r s = places_agree (renaming f) (renaming g) (λ p. f p.variab
   by_role a_val y e = ap Val e
   by_role a_dom y e = e
 
--- And so do parameters that agree at each place.
-pub filled_agree : (p q : ℕ → ℤ) (r : Range) → Each (λ x. p x.variable ≡ q x.variable) (range_places r) → fill_range p r ≡ fill_range q r
-filled_agree p q r s = places_agree (filling p) (filling q) (λ x. p x.variable ≡ q x.variable) by_role r s where
+-- And so do parameters that agree at each occurrence.
+pub filled_agree : (p q : ℕ → ℤ) (r : Range) → Each (λ x. p x.variable ≡ q x.variable) (range_occurrences r) → fill_range p r ≡ fill_range q r
+filled_agree p q r s = occurrences_agree (filling p) (filling q) (λ x. p x.variable ≡ q x.variable) by_role r s where
   by_role : (k : Role) (y : ℕ) → p y ≡ q y → Agree (filling p) (filling q) k y
   by_role a_parameter y e = ap Number e
   by_role a_min y e = refl
@@ -290,6 +290,10 @@ module _ (h g : NewLeaves) where
   new_twice (Minus r c) = two Minus (new_twice r) (expr_twice c)
   new_twice (Times r c) = two Times (new_twice r) (expr_twice c)
   new_twice (Over r c) = two Over (new_twice r) (expr_twice c)
+
+-- Integers may be filled in before or after the variables are renamed.
+pub filled_renamed : (f : ℕ → ℕ) (p : ℕ → ℤ) (r : Range) → fill_range p (rename_range f r) ≡ rename_range f (fill_range (λ y. p (f y)) r)
+filled_renamed f p r = new_twice (filling p) (renaming f) r ∙ sym (new_twice (renaming f) (filling (λ y. p (f y))) r)
 
 -- A range whose variables keep their names is as it was.
 expr_as_is : (e : Expr) → rename_expr (λ y. y) e ≡ e
@@ -344,6 +348,6 @@ vals_read r v h =
 
 pub leaves_tell : LeavesTell
 leaves_tell r = (
-  record { reads_are = range_leaves read_at r; vals_are = range_leaves val_at r; params_are = range_leaves param_at r; places_are = range_leaves place_at r; features_are = range_leaves feature_at r },
+  record { reads_are = range_leaves read_at r; vals_are = range_leaves val_at r; params_are = range_leaves param_at r; occurrences_are = range_leaves occurrence_at r; features_are = range_leaves feature_at r },
   record { node_leaves = listed (nodes_of r) ∙ whole_nodes (λ l. l ∷ []) r; features_are = whole_nodes feature_at r; size = count_nodes r },
 )

@@ -7,8 +7,9 @@ pub use Rattle.fd_language.proofs.GreatestFamily.{IsGreatest, greatest_there, ri
 -- What holds of each element of a list.
 pub use Rattle.fd_language.proofs.Lists.{each_map, each_both, each_before, each_after, each_either}
 -- Walks over ranges: what is collected of their leaves, their nodes, and what becomes of them with other leaves.
-pub use Rattle.fd_language.proofs.Leaves.{operands, exprs_related, ranges_related, range_leaves, nodes_leaves, whole_nodes, expr_append, range_append, count_nodes, from_new, new_leaves, same_leaves, renamed_leaves, filled_leaves, places_agree, renamed_agree, filled_agree, new_twice, range_stays, renamed_as_is, filled_as_is, vals_read, two, first_nil, second_nil}
-pub use Rattle.fd_language.proofs.RangePlaces.{OfParameter, reads_placed, params_placed, none_placed, free_places_read, renamed_places}
+pub use Rattle.fd_language.proofs.Leaves.{operands, exprs_related, ranges_related, range_leaves, nodes_leaves, whole_nodes, expr_append, range_append, count_nodes, from_new, new_leaves, same_leaves, renamed_leaves, filled_leaves, Agree, occurrences_agree, renamed_agree, filled_agree, both_new, new_twice, filled_renamed, range_stays, renamed_as_is, filled_as_is, vals_read, two, first_nil, second_nil}
+pub use Rattle.fd_language.proofs.Collected.{collected_by, variables_collected, reads_of_features, vals_of, vals_of_features, all_nodes}
+pub use Rattle.fd_language.proofs.RangeOccurrences.{OfParameter, reads_occur, params_occur, none_parameter, free_occurrences_read, renamed_occurrences}
 pub use Rattle.fd_language.proofs.SpelledNodes.{spells_back}
 -- The set of a range under other variables, and of one that the table accepts.
 pub use Rattle.fd_language.proofs.RangeRenaming.{reads_map, set_same, set_agree, monotone_renamed}

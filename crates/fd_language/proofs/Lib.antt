@@ -2,7 +2,8 @@ pub mod Lemmas
 mod Sets
 mod Lists
 mod Leaves
-mod RangePlaces
+mod Collected
+mod RangeOccurrences
 mod AskedParameters
 mod GreatestFamily
 mod Arithmetic

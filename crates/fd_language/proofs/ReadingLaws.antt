@@ -6,7 +6,7 @@ use Rattle.std.proofs.lemmas.Bool.{cases_order}
 use Rattle.fd_language.specs.Term.{Name}
 use Rattle.fd_language.specs.PlacedTerm.{PlacedTerm}
 use Rattle.fd_language.specs.GrammarFaults.{IsRead, IsSyntaxFault, IsTooDeep}
-use Rattle.fd_language.specs.Reading.{terminals, place_at, Sentence, IsSentences, IsSyntaxPlace, IsDeepPlace, sentences, token_fault, syntax_fault, too_deep}
+use Rattle.fd_language.specs.Reading.{terminals, lexeme_place, Sentence, IsSentences, IsSyntaxPlace, IsDeepPlace, sentences, token_fault, syntax_fault, too_deep}
 use Rattle.fd_language.specs.GrammarLaws.{OneVerdictOfReading}
 use Rattle.fd_language.proofs.TokenLaws.{one_list, one_fault, not_both}
 use Rattle.fd_language.proofs.ReadingWhole.{one_reading}
@@ -56,7 +56,7 @@ syntax_once text p q a b =
     let b_fault = subst (λ ls. IsSyntaxFault (terminals [] ls) b.number) (sym same) b.fault in
     let ts = terminals [] a.lexemes in
     let number : a.number ≡ b.number = either_way a.number b.number (grammar.one_syntax_place ts a.number b.number a.fault b_fault) (grammar.one_syntax_place ts b.number a.number b_fault a.fault) in
-    a.at ∙ ap (λ k. place_at a.lexemes (length text) k) number ∙ ap (λ ls. place_at ls (length text) b.number) same ∙ sym b.at
+    a.at ∙ ap (λ k. lexeme_place a.lexemes (length text) k) number ∙ ap (λ ls. lexeme_place ls (length text) b.number) same ∙ sym b.at
 
 deep_once : (text : List ℕ) (p q : ℕ) → IsDeepPlace text p → IsDeepPlace text q → p ≡ q
 deep_once text p q a b =
@@ -64,7 +64,7 @@ deep_once text p q a b =
     let b_fault = subst (λ ls. IsTooDeep (terminals [] ls) b.number) (sym same) b.fault in
     let ts = terminals [] a.lexemes in
     let number : a.number ≡ b.number = either_way a.number b.number (grammar.one_deep_place ts a.number b.number a.fault b_fault) (grammar.one_deep_place ts b.number a.number b_fault a.fault) in
-    a.at ∙ ap (λ k. place_at a.lexemes (length text) k) number ∙ ap (λ ls. place_at ls (length text) b.number) same ∙ sym b.at
+    a.at ∙ ap (λ k. lexeme_place a.lexemes (length text) k) number ∙ ap (λ ls. lexeme_place ls (length text) b.number) same ∙ sym b.at
 
 read_or_syntax : (text : List ℕ) (ss : List Sentence) (q : ℕ) → IsSentences text ss → IsSyntaxPlace text q → ⊥
 read_or_syntax text ss q a b =

@@ -4,7 +4,7 @@ use Rattle.std.proofs.lemmas.Bool.{true≢false, not-true, not-false}
 use Rattle.fd_language.specs.declared.range_node.RangeNode.{RangeNode}
 use Rattle.fd_language.specs.declared.range_node.RangeNode.TheVariants as node
 use Rattle.fd_language.specs.Range.{Range, Expr}
-use Rattle.fd_language.specs.Flat.{Shape, term_alone, term_of_terms, range_alone, range_of_term, range_of_terms, range_of_range, range_of_ranges, range_of_both, shape_of, put, built_behind, expr_nodes, range_nodes, nodes_of, built, builds_range, IsSpelled, spelled, spelled-nodes}
+use Rattle.fd_language.specs.Flat.{Shape, term_alone, term_of_terms, range_alone, range_of_term, range_of_terms, range_of_range, range_of_ranges, range_of_both, shape_of, put, built_behind, expr_nodes, range_nodes, nodes_of, built, builds_range, IsSpelled, spelled_range, spelled_range-nodes}
 use Rattle.std.proofs.lemmas.List.{at_drop_more, drop_all}
 use Rattle.fd_language.specs.Counts.{taken, takes, IsReached}
 use Rattle.fd_language.specs.declared.counting.Operands.{Operands}
@@ -153,8 +153,8 @@ pub ends_all : (ns : List RangeNode) (i : ℕ) (ranges terms : ℕ) (b : Bool) �
 ends_all ns i ranges terms b l (rs, ts, h, g, o) f k =
     at_end ns rs ts b (o ∙ ap (λ ms. built ms rs ts) (drop_all i ns l)) (two_tests (length rs) (length ts) ranges terms b h g f) (λ x y. k (sym h ∙ x) (sym g ∙ y))
 
-pub spells_back : (ns : List RangeNode) → IsSpelled ns → nodes_of (spelled ns) ≡ ns
-spells_back ns (r, e) = subst (λ m. nodes_of (spelled m) ≡ m) e (ap nodes_of (spelled-nodes r))
+pub spells_back : (ns : List RangeNode) → IsSpelled ns → nodes_of (spelled_range ns) ≡ ns
+spells_back ns (r, e) = subst (λ m. nodes_of (spelled_range m) ≡ m) e (ap nodes_of (spelled_range-nodes r))
 
 eq_zero : (n : ℕ) → nat_eq n 0 ≡ true → n ≡ 0
 eq_zero n h = grind arith
@@ -171,5 +171,5 @@ not_one n f h = f (grind arith)
 pub ends_other : (ns : List RangeNode) (i : ℕ) (ranges terms : ℕ) → length ns ≤ i → IsReached (built ns [] []) (drop i ns) ranges terms → (ranges ≡ 1 → ⊥) → IsTrue (nat_eq ranges 1) ↔ IsSpelled ns
 ends_other ns i ranges terms l h f = ends_all ns i ranges terms (nat_eq ranges 1) l h (λ k. absurd (not_one ranges f k)) (λ x y. absurd (f x))
 
-pub spells_same : (ms ns : List RangeNode) → ms ≡ ns → IsSpelled ms → nodes_of (spelled ns) ≡ ns
-spells_same ms ns e s = subst (λ m. nodes_of (spelled m) ≡ m) e (spells_back ms s)
+pub spells_same : (ms ns : List RangeNode) → ms ≡ ns → IsSpelled ms → nodes_of (spelled_range ns) ≡ ns
+spells_same ms ns e s = subst (λ m. nodes_of (spelled_range m) ≡ m) e (spells_back ms s)

@@ -34,6 +34,10 @@ is_same_feature feature.Val feature.Val = true
 is_same_feature feature.Dom feature.Dom = true
 is_same_feature f g = false
 
+abbrev pub is_val : Feature → Bool
+is_val feature.Val = true
+is_val f = false
+
 -- the same of the same variable
 abbrev pub is_same_pair : ℕ × Feature → ℕ × Feature → Bool
 is_same_pair d e = (d.0 == e.0) && is_same_feature d.1 e.1

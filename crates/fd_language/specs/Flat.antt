@@ -59,26 +59,26 @@ shape_of node.Times = range_of_both Times
 shape_of node.Over = range_of_both Over
 
 -- The ranges and the terms that wait for their operators, the last one first. Behind a range no term waits.
-pub record Stack : Type 0 where
+pub record RangeStack : Type 0 where
   pub ranges : List Range
   pub terms : List Expr
 
-abbrev pub stack : List Range → List Expr → Option Stack
-stack rs ts = Some (record { ranges = rs; terms = ts })
+abbrev pub range_stack : List Range → List Expr → Option RangeStack
+range_stack rs ts = Some (record { ranges = rs; terms = ts })
 
 -- what waits when a node of the shape has taken its operands, where they are there
-abbrev pub put : Shape → List Range → List Expr → Option Stack
-put (term_alone e) rs ts = stack rs (e ∷ ts)
-put (term_of_terms make) rs (b ∷ a ∷ ts) = stack rs (make a b ∷ ts)
-put (range_alone r) rs [] = stack (r ∷ rs) []
-put (range_of_term make) rs (t ∷ []) = stack (make t ∷ rs) []
-put (range_of_terms make) rs (b ∷ a ∷ []) = stack (make a b ∷ rs) []
-put (range_of_range make) (r ∷ rs) [] = stack (make r ∷ rs) []
-put (range_of_ranges make) (q ∷ r ∷ rs) [] = stack (make r q ∷ rs) []
-put (range_of_both make) (r ∷ rs) (c ∷ []) = stack (make r c ∷ rs) []
+abbrev pub put : Shape → List Range → List Expr → Option RangeStack
+put (term_alone e) rs ts = range_stack rs (e ∷ ts)
+put (term_of_terms make) rs (b ∷ a ∷ ts) = range_stack rs (make a b ∷ ts)
+put (range_alone r) rs [] = range_stack (r ∷ rs) []
+put (range_of_term make) rs (t ∷ []) = range_stack (make t ∷ rs) []
+put (range_of_terms make) rs (b ∷ a ∷ []) = range_stack (make a b ∷ rs) []
+put (range_of_range make) (r ∷ rs) [] = range_stack (make r ∷ rs) []
+put (range_of_ranges make) (q ∷ r ∷ rs) [] = range_stack (make r q ∷ rs) []
+put (range_of_both make) (r ∷ rs) (c ∷ []) = range_stack (make r c ∷ rs) []
 put s rs ts = None
 
-abbrev pub going_on : (List Range → List Expr → Option Range) → Option Stack → Option Range
+abbrev pub going_on : (List Range → List Expr → Option Range) → Option RangeStack → Option Range
 going_on build None = None
 going_on build (Some w) = build w.ranges w.terms
 
@@ -89,7 +89,7 @@ built [] rs ts = None
 built (n ∷ ns) rs ts = going_on (λ us vs. built ns us vs) (put (shape_of n) rs ts)
 
 -- behind a node
-abbrev pub built_behind : List RangeNode → Option Stack → Option Range
+abbrev pub built_behind : List RangeNode → Option RangeStack → Option Range
 built_behind ns w = going_on (λ us vs. built ns us vs) w
 
 abbrev pub or_infinity : Option Range → Range
@@ -97,8 +97,8 @@ or_infinity (Some r) = r
 or_infinity None = One Infinity
 
 -- the range that the list spells, where it spells one
-abbrev pub spelled : List RangeNode → Range
-spelled ns = or_infinity (built ns [] [])
+abbrev pub spelled_range : List RangeNode → Range
+spelled_range ns = or_infinity (built ns [] [])
 
 -- What spells a range builds that range.
 pub builds_expr : (e : Expr) (rest : List RangeNode) (rs : List Range) (ts : List Expr) → built (expr_nodes e rest) rs ts ≡ built rest rs (e ∷ ts)
@@ -126,8 +126,8 @@ builds_range (Minus r c) rest rs = builds_range r (expr_nodes c (node.Minus ∷ 
 builds_range (Times r c) rest rs = builds_range r (expr_nodes c (node.Times ∷ rest)) rs ∙ builds_expr c (node.Times ∷ rest) (r ∷ rs) []
 builds_range (Over r c) rest rs = builds_range r (expr_nodes c (node.Over ∷ rest)) rs ∙ builds_expr c (node.Over ∷ rest) (r ∷ rs) []
 
-pub spelled-nodes : (r : Range) → spelled (nodes_of r) ≡ r
-spelled-nodes r = ap or_infinity (builds_range r [] [])
+pub spelled_range-nodes : (r : Range) → spelled_range (nodes_of r) ≡ r
+spelled_range-nodes r = ap or_infinity (builds_range r [] [])
 
 -- some range is spelled by the list
 abbrev pub IsSpelled : List RangeNode → Type 0

@@ -26,7 +26,7 @@ pub mod Reading
 pub mod ReadingSteps
 pub mod Lists
 pub mod Variables
-pub mod Places
+pub mod Occurrences
 pub mod NewLeaves
 pub mod RangeRenaming
 pub mod RangeLaws

@@ -86,10 +86,10 @@ pub record Sentence : Type 0 where
   pub names : List Name
 
 -- the place of the k-th token, or the size of the text where there is none
-abbrev pub place_at : List Lexeme → ℕ → ℕ → ℕ
-place_at [] size k = size
-place_at (l ∷ ls) size zero = l.place
-place_at (l ∷ ls) size (suc k) = place_at ls size k
+abbrev pub lexeme_place : List Lexeme → ℕ → ℕ → ℕ
+lexeme_place [] size k = size
+lexeme_place (l ∷ ls) size zero = l.place
+lexeme_place (l ∷ ls) size (suc k) = lexeme_place ls size k
 
 -- the text is these sentences
 pub record IsSentences (text : List ℕ) (sentences : List Sentence) : Type 0 where
@@ -104,7 +104,7 @@ pub record IsSyntaxPlace (text : List ℕ) (place : ℕ) : Type 0 where
   pub tokens : TokensOf text lexemes
   pub number : ℕ
   pub fault : IsSyntaxFault (terminals [] lexemes) number
-  pub at : place ≡ place_at lexemes (length text) number
+  pub at : place ≡ lexeme_place lexemes (length text) number
 
 -- The text has tokens, and the place is that of the first bracket at which too many are open.
 pub record IsDeepPlace (text : List ℕ) (place : ℕ) : Type 0 where
@@ -112,7 +112,7 @@ pub record IsDeepPlace (text : List ℕ) (place : ℕ) : Type 0 where
   pub tokens : TokensOf text lexemes
   pub number : ℕ
   pub fault : IsTooDeep (terminals [] lexemes) number
-  pub at : place ≡ place_at lexemes (length text) number
+  pub at : place ≡ lexeme_place lexemes (length text) number
 
 -- what a text is
 pub data Reading : Type 0 where

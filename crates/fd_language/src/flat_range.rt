@@ -18,15 +18,15 @@ impl Model for FlatRange {
     ghost use Rattle.fd_language.specs.Range.{Range};
     ghost use Rattle.std.specs.Coded.{code_by, coded_list};
     ghost use Rattle.fd_language.specs.contracts.range_node.RangeNode as node;
-    ghost use Rattle.fd_language.specs.Flat.{nodes_of, spelled, spelled-nodes};
+    ghost use Rattle.fd_language.specs.Flat.{nodes_of, spelled_range, spelled_range-nodes};
 
     ghost Value = { Range };
 
-    ghost coded = { code_by _ (coded_list node.the_row.coded) nodes_of spelled spelled-nodes };
+    ghost coded = { code_by _ (coded_list node.the_row.coded) nodes_of spelled_range spelled_range-nodes };
 
-    ghost view = { λ f. spelled f.nodes.items };
+    ghost view = { λ f. spelled_range f.nodes.items };
 
-    ghost invariant = { λ f. nodes_of (spelled f.nodes.items) ≡ f.nodes.items };
+    ghost invariant = { λ f. nodes_of (spelled_range f.nodes.items) ≡ f.nodes.items };
 }
 
 impl FlatRange {

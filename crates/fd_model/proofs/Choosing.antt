@@ -14,7 +14,7 @@ use Rattle.fd_language.proofs.Lemmas.{has_high, universe_rising, in_universe, an
 use Rattle.fd_model.specs.LinearRows.{Expansion}
 use Rattle.fd_model.specs.Members.{Member, as_member, as_integer, walk, place_of, after}
 use Rattle.fd_model.specs.Linear.{of_both}
-use Rattle.fd_model.specs.ListRows.{where_is, where_other, joined, union_of, elements_at, numbers_of, element_ranges, element_rows}
+use Rattle.fd_model.specs.ListRows.{where_is, where_other, union_onto, union_of, elements_at, index_ranges, element_ranges, element_rows}
 use Rattle.fd_model.specs.Constraining.{pair, element}
 use Rattle.fd_model.specs.Satisfies.{Assignment, singles, worth, IsNumber, IsElement}
 use Rattle.fd_model.specs.ConstraintLaws.{IsRewritten}
@@ -79,7 +79,7 @@ module _ (M : ℕ) (b : Assignment) (small : (v : ℕ) → b v ≤ M) where
         back p h = grind (arith, ints)
 
   -- a union has a number where some part has it
-  joined_test : (r : Range) (qs : List Range) (v : ℕ) → in_range M (singles b) (joined r qs) v ≡ (in_range M (singles b) r v || list_any (λ q. in_range M (singles b) q v) qs)
+  joined_test : (r : Range) (qs : List Range) (v : ℕ) → in_range M (singles b) (union_onto r qs) v ≡ (in_range M (singles b) r v || list_any (λ q. in_range M (singles b) q v) qs)
   joined_test r [] v = plain (in_range M (singles b) r v) where
     plain : (p : Bool) → p ≡ (p || false)
     plain p = grind arith
@@ -98,7 +98,7 @@ module _ (M : ℕ) (b : Assignment) (small : (v : ℕ) → b v ≤ M) where
   Elements i x k zs = list_any (λ q. in_range M (singles b) q (b x)) (elements_at i k zs)
 
   abbrev Numbers : ℕ → ℕ → ℕ → List ℤ → Bool
-  Numbers i x k zs = list_any (λ q. in_range M (singles b) q (b i)) (numbers_of x k zs)
+  Numbers i x k zs = list_any (λ q. in_range M (singles b) q (b i)) (index_ranges x k zs)
 
   by_pair : (m n : ℤ) (y z : ℤ) → (m ≡ n) × (z ≡ y) → (int_eq n m && int_eq y z) ≡ true
   by_pair m n y z h = let e = h.0 in let f = h.1 in grind (arith, ints)
@@ -135,7 +135,7 @@ module _ (M : ℕ) (b : Assignment) (small : (v : ℕ) → b v ≤ M) where
   element_inside : (i x : ℕ) (zs : List ℤ) → IsElement 1 zs (pos (b i)) (pos (b x)) → Inside M b (element_ranges i zs x)
   element_inside i x zs h = (
     set_singles M b (union_of (elements_at i 1 zs)) (b x) (small x) ∙ (union_test (elements_at i 1 zs) (b x) ∙ elements_from i x 1 zs h),
-    (set_singles M b (union_of (numbers_of x 1 zs)) (b i) (small i) ∙ (union_test (numbers_of x 1 zs) (b i) ∙ numbers_from i x 1 zs h), tt),
+    (set_singles M b (union_of (index_ranges x 1 zs)) (b i) (small i) ∙ (union_test (index_ranges x 1 zs) (b i) ∙ numbers_from i x 1 zs h), tt),
   )
 
   inside_element : (i x : ℕ) (zs : List ℤ) → Inside M b (element_ranges i zs x) → IsElement 1 zs (pos (b i)) (pos (b x))

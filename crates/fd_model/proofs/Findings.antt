@@ -11,8 +11,8 @@ use Rattle.fd_model.proofs.Heeding.{first_member}
 use Rattle.fd_model.specs.declared.kinds.QueryFault.{QueryFault}
 use Rattle.fd_model.specs.declared.kinds.BuiltinKind.{BuiltinKind}
 use Rattle.fd_model.specs.declared.kinds.BuiltinKind.TheVariants as kind
-use Rattle.fd_model.specs.Arithmetic.{Value, not_a_number, of_one, opposite_of, by_name, value_of}
-use Rattle.fd_model.specs.Builtins.{evaluated, by_value, is_same, are_same, is_open, is_integer, is_atom, is_atomic, is_compound, Numbers, one, those, set_numbers, least_number, greatest_number, count, two_terms, interval_term, interval_terms, interval_list, first_argument, second_argument, Finding, faulted, decided, equated, equals_value, equals_number, compared, numbers_of, found, finding}
+use Rattle.fd_model.specs.Arithmetic.{Value, not_a_number, value_of_one, opposite_of, by_name, value_of}
+use Rattle.fd_model.specs.Builtins.{evaluated, checked_value, is_same, are_same, is_open, is_integer, is_atom, is_atomic, is_compound, Numbers, one, those, set_numbers, least_number, greatest_number, number_count, two_terms, interval_term, interval_terms, interval_list, first_argument, second_argument, Finding, faulted, decided, equated, equals_value, equals_number, compared, numbers_of, found, finding}
 use Rattle.fd_model.specs.Lines.{Interval, intervals}
 
 abbrev pub IsFindingBelow : ℕ → Finding → Type 0
@@ -68,7 +68,7 @@ found_below n kind.NumGreater sets a b u v h i = compared_below n _ (evaluated u
 found_below n kind.NumAtLeast sets a b u v h i = compared_below n _ (evaluated u) (evaluated v)
 found_below n kind.FdMin sets a b u v h i = number_below n (λ ns. Int (least_number ns)) (λ ns. tt) b (numbers_of sets u) i
 found_below n kind.FdMax sets a b u v h i = number_below n (λ ns. Int (greatest_number ns)) (λ ns. tt) b (numbers_of sets u) i
-found_below n kind.FdSize sets a b u v h i = number_below n (λ ns. Int (count ns)) (λ ns. tt) b (numbers_of sets u) i
+found_below n kind.FdSize sets a b u v h i = number_below n (λ ns. Int (number_count ns)) (λ ns. tt) b (numbers_of sets u) i
 found_below n kind.FdDom sets a b u v h i = number_below n interval_list (list_below n) b (numbers_of sets u) i
 found_below n _ sets a b u v h i = tt
 
@@ -89,14 +89,14 @@ value_renamed look cell (Int z) h = refl
 value_renamed look cell (Atom a) h = refl
 value_renamed look cell (Comp f no_terms) h = refl
 value_renamed look cell (Comp f (term a no_terms)) h =
-    ap (λ w. cond (bytes_eq f (codes "-")) (of_one opposite_of w) (Err not_a_number)) (value_renamed look cell a (λ y k. h y (in_left (variables_of a) [] y k)))
+    ap (λ w. cond (bytes_eq f (codes "-")) (value_of_one opposite_of w) (Err not_a_number)) (value_renamed look cell a (λ y k. h y (in_left (variables_of a) [] y k)))
 value_renamed look cell (Comp f (term a (term b no_terms))) h =
     named_same f _ _ _ _ (value_renamed look cell a (λ y k. h y (in_left (variables_of a) (variables_of b ++ []) y k)))
     (value_renamed look cell b (λ y k. h y (in_right (variables_of a) (variables_of b ++ []) y (in_left (variables_of b) [] y k))))
 value_renamed look cell (Comp f (term a (term b (term c ts)))) h = refl
 
 evaluated_renamed : (look : Substitution) (cell : ℕ → ℕ) (t : Term) → Named look cell (variables_of t) → evaluated (apply look t) ≡ evaluated t
-evaluated_renamed look cell t h = ap by_value (value_renamed look cell t h)
+evaluated_renamed look cell t h = ap checked_value (value_renamed look cell t h)
 
 -- variables that are told apart
 abbrev pub Apart : (ℕ → ℕ) → List ℕ → List ℕ → Type 0
@@ -218,5 +218,5 @@ module _ (look settled : Substitution) (cell : ℕ → ℕ) (sets sets' : ℕ �
   found_renamed kind.Nl = refl
   found_renamed kind.FdMin = numbers (λ ns. Int (least_number ns)) (λ ns. refl)
   found_renamed kind.FdMax = numbers (λ ns. Int (greatest_number ns)) (λ ns. refl)
-  found_renamed kind.FdSize = numbers (λ ns. Int (count ns)) (λ ns. refl)
+  found_renamed kind.FdSize = numbers (λ ns. Int (number_count ns)) (λ ns. refl)
   found_renamed kind.FdDom = numbers interval_list (list_stays look)

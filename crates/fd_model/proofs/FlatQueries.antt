@@ -9,7 +9,7 @@ use Rattle.fd_model.specs.Goal.{Goal, Post, Constrain, Label, Program, Query, Br
 use Rattle.fd_model.specs.Sound.{GoalBelow, EachBelow}
 use Rattle.fd_model.specs.Lines.{says}
 use Rattle.fd_model.specs.Children.{Gives as GivesBranches, offer}
-use Rattle.fd_language.proofs.Lemmas.{set_agree, has_high, has-filter_back, universe_rising, none_placed, reads_placed}
+use Rattle.fd_language.proofs.Lemmas.{set_agree, has_high, has-filter_back, universe_rising, none_parameter, reads_occur}
 use Rattle.fd_model.specs.Labelling.{open_ones}
 use Rattle.fd_model.specs.Members.{Member}
 use Rattle.fd_model.proofs.GoalRows.{Rewritten, with_ranges, numbers, IsPlain}
@@ -90,8 +90,8 @@ module _ (M : ℕ) (positive : 0 < M) (prog : Program) (vs : List ℕ) (nv : ℕ
 
   range_same : (t : Term) (r : Range) (a e : Assignment) → IsGood (Post t r) → ((y : ℕ) → has vs y ≡ true → a y ≡ e y) → InRange M M a t r → InRange M M e t r
   range_same t r a e good same h =
-      let free = none_placed r good.0.1 in
-      let here : (y : ℕ) → has (reads r) y ≡ true → a y ≡ e y = λ y i. same y (every y (reads_placed (λ z. z < nv) r good.1.1 y i)) in
+      let free = none_parameter r good.0.1 in
+      let here : (y : ℕ) → has (reads r) y ≡ true → a y ≡ e y = λ y i. same y (every y (reads_occur (λ z. z < nv) r good.1.1 y i)) in
       record {
         number = h.number;
         within = h.within;

@@ -5,7 +5,7 @@ pub use Rattle.fd_model.proofs.Closing.{build_one, closed_either, first_passes, 
 pub use Rattle.fd_model.proofs.Constants.{from_span, in_span}
 pub use Rattle.fd_model.proofs.Orders.{all_keep, closed_without}
 pub use Rattle.fd_model.proofs.Determining.{single_from, below_test, test_below}
-pub use Rattle.fd_model.proofs.Unread.{unread}
+pub use Rattle.fd_model.proofs.UnreadVariables.{unread}
 -- What is posted, named and renamed, and the variables below a number.
 pub use Rattle.fd_model.proofs.ListNames.{named_left, named_right, posted_left, posted_right}
 pub use Rattle.fd_model.proofs.RowNames.{AllVars, collected_vars, vars_product, vars_scaled}

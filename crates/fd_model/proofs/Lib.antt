@@ -66,5 +66,5 @@ mod Free
 mod Preceding
 mod Fewest
 mod Examples
-mod Unread
+mod UnreadVariables
 mod Runnable

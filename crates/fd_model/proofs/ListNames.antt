@@ -7,7 +7,7 @@ use Rattle.fd_language.specs.Range.{Range, Indexical, Union, reads}
 use Rattle.fd_model.specs.Closed.{constrained, AllPosted}
 use Rattle.fd_language.proofs.Lemmas.{has_either, in_left, in_right}
 use Rattle.fd_model.specs.Members.{Member, Open, Known, placed, equated_from}
-use Rattle.fd_model.specs.ListRows.{differs, against, pairwise, different_ranges, joined, union_of, elements_at, numbers_of, element_ranges, counter, counted, counts, units}
+use Rattle.fd_model.specs.ListRows.{differs, against, pairwise, different_ranges, union_onto, union_of, elements_at, index_ranges, element_ranges, counter, counted, counts, units}
 use Rattle.fd_model.proofs.Determining.{NamesIn, names_one, AllNamed}
 use Rattle.fd_model.proofs.RowNames.{AllVars}
 
@@ -87,7 +87,7 @@ abbrev pub EachNamed : (ℕ → Type 0) → List Range → Type 0
 EachNamed P [] = Unit {0}
 EachNamed P (r ∷ rs) = Named P (reads r) × EachNamed P rs
 
-joined_named : (P : ℕ → Type 0) (r : Range) (qs : List Range) → Named P (reads r) → EachNamed P qs → Named P (reads (joined r qs))
+joined_named : (P : ℕ → Type 0) (r : Range) (qs : List Range) → Named P (reads r) → EachNamed P qs → Named P (reads (union_onto r qs))
 joined_named P r [] h g = h
 joined_named P r (q ∷ qs) h g = joined_named P (Union r q) qs (named_either P (reads r) (reads q) h g.0) g.1
 
@@ -99,15 +99,15 @@ elements_named : (P : ℕ → Type 0) (i k : ℕ) (zs : List ℤ) → P i → Ea
 elements_named P i k [] h = tt
 elements_named P i k (z ∷ zs) h = (one_named P i h, elements_named P i (suc k) zs h)
 
-numbers_named : (P : ℕ → Type 0) (x k : ℕ) (zs : List ℤ) → P x → EachNamed P (numbers_of x k zs)
+numbers_named : (P : ℕ → Type 0) (x k : ℕ) (zs : List ℤ) → P x → EachNamed P (index_ranges x k zs)
 numbers_named P x k [] h = tt
 numbers_named P x k (z ∷ zs) h = (one_named P x h, numbers_named P x (suc k) zs h)
 
 pub element_names : (P : ℕ → Type 0) (i x : ℕ) (zs : List ℤ) → P i → P x → NamesIn P (element_ranges i zs x)
 element_names P i x zs h g =
-    let q : Indexical = record { target = i; range = union_of (numbers_of x 1 zs) } in
+    let q : Indexical = record { target = i; range = union_of (index_ranges x 1 zs) } in
     names_one P (record { target = x; range = union_of (elements_at i 1 zs) }) (q ∷ []) g (union_named P (elements_at i 1 zs) (elements_named P i 1 zs h))
-    (names_one P q [] h (union_named P (numbers_of x 1 zs) (numbers_named P x 1 zs g)) (none_named P))
+    (names_one P q [] h (union_named P (index_ranges x 1 zs) (numbers_named P x 1 zs g)) (none_named P))
 
 pub named_element : (i x : ℕ) (zs : List ℤ) (v : ℕ) → has (i ∷ x ∷ []) v ≡ true → has (constrained (element_ranges i zs x)) v ≡ true
 named_element i x zs v h = elim (or_cases (i == v) (has (x ∷ []) v) h) [

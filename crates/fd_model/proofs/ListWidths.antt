@@ -12,7 +12,7 @@ use Rattle.fd_language.specs.RangeVerdict.{over_limit, factor_over_limit, range_
 use Rattle.fd_model.specs.Linear.{IsAtMost}
 use Rattle.fd_model.specs.LinearRows.{Expansion, linear_rows}
 use Rattle.fd_model.specs.Members.{Member, as_member, as_integer, prepend, walk, after, placed}
-use Rattle.fd_model.specs.ListRows.{against, pairwise, different_ranges, different_rows, where_is, joined, union_of, elements_at, numbers_of, element_ranges, counted, counts, units}
+use Rattle.fd_model.specs.ListRows.{against, pairwise, different_ranges, different_rows, where_is, union_onto, union_of, elements_at, index_ranges, element_ranges, counted, counts, units}
 use Rattle.fd_model.specs.Constraining.{expand, all_different}
 use Rattle.fd_model.specs.ConstraintLaws.{HasIntegers, HaveIntegers, HasShortLists, cells, AcceptedRows}
 use Rattle.fd_model.proofs.Collecting.{one_ok, both_ok, test_ok}
@@ -56,7 +56,7 @@ module _ (M : ℕ) (small : M < 2 ^ 24) where
   EachWithin [] = Unit {0}
   EachWithin (r ∷ rs) = (range_within M r ≡ true) × EachWithin rs
 
-  joined_within : (r : Range) (qs : List Range) → range_within M r ≡ true → EachWithin qs → range_within M (joined r qs) ≡ true
+  joined_within : (r : Range) (qs : List Range) → range_within M r ≡ true → EachWithin qs → range_within M (union_onto r qs) ≡ true
   joined_within r [] h g = h
   joined_within r (q ∷ qs) h g = joined_within (Union r q) qs (and_from _ _ h g.0) g.1
 
@@ -72,13 +72,13 @@ module _ (M : ℕ) (small : M < 2 ^ 24) where
   elements_within i k [] s l = tt
   elements_within i k (z ∷ zs) s l = (where_within (pos k) i z (omega arith) s.0, elements_within i (suc k) zs s.1 (omega arith))
 
-  numbers_within : (x k : ℕ) (zs : List ℤ) → AllSmall zs → k + length zs < 2 ^ 66 → EachWithin (numbers_of x k zs)
+  numbers_within : (x k : ℕ) (zs : List ℤ) → AllSmall zs → k + length zs < 2 ^ 66 → EachWithin (index_ranges x k zs)
   numbers_within x k [] s l = tt
   numbers_within x k (z ∷ zs) s l = (where_within z x (pos k) s.0 (omega arith), numbers_within x (suc k) zs s.1 (omega arith))
 
   element_within : (i x : ℕ) (zs : List ℤ) → AllSmall zs → length zs ≤ 2 ^ 64 → Within M small (element_ranges i zs x)
   element_within i x zs s l =
-      (union_within (elements_at i 1 zs) (elements_within i 1 zs s (omega arith)), (union_within (numbers_of x 1 zs) (numbers_within x 1 zs s (omega arith)), tt))
+      (union_within (elements_at i 1 zs) (elements_within i 1 zs s (omega arith)), (union_within (index_ranges x 1 zs) (numbers_within x 1 zs s (omega arith)), tt))
 
   square : (M + 1) * (M + 1) ≤ 2 ^ 24 * 2 ^ 24
   square = mul-le-mul at_most at_most where

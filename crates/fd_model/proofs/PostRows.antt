@@ -9,13 +9,13 @@ use Rattle.fd_model.specs.Closed.{constrained}
 use Rattle.fd_language.specs.Check.{fill_range}
 use Rattle.fd_language.specs.Needs.{need_of}
 use Rattle.fd_language.specs.RangeRenaming.{rename_range}
-use Rattle.fd_language.specs.Places.{Place, one_place, range_places}
+use Rattle.fd_language.specs.Occurrences.{Occurrence, one_occurrence, range_occurrences}
 use Rattle.fd_model.specs.Posting.{is_integer, integer_of, integers_at, slot, slot_equations, unless_offence}
 use Rattle.fd_model.specs.Goal.{Goal, Post, Program, Branch}
-use Rattle.fd_model.specs.Sound.{PlacesBelow}
+use Rattle.fd_model.specs.Sound.{OccurrencesBelow}
 use Rattle.fd_model.specs.Children.{Gives as GivesBranches, by_post, offer}
 pub use Rattle.fd_language.proofs.Lemmas.{map_has, has_map}
-use Rattle.fd_language.proofs.Lemmas.{has_high, has_either, universe_rising, has-filter_back, in_left, reads_map, set_same, filled_as_is, none_placed, free_places_read}
+use Rattle.fd_language.proofs.Lemmas.{has_high, has_either, universe_rising, has-filter_back, in_left, reads_map, set_same, filled_as_is, none_parameter, free_occurrences_read}
 use Rattle.fd_model.proofs.GoalRows.{Rewritten, with_ranges, numbers, Gives, FitsRow, IsPlain}
 use Rattle.fd_model.specs.Satisfies.{Assignment, singles}
 use Rattle.fd_model.specs.Answers.{Somewhere}
@@ -38,9 +38,9 @@ integer_is look y (Int z) e h = (z, e)
 integer_is look y (Var x) e h = absurd (true≢false (sym h))
 integer_is look y _ e h = absurd (true≢false (sym h))
 
-pub places_below : (n : ℕ) (ps : List Place) (x : ℕ) → PlacesBelow n ps → has (variables ps) x ≡ true → x < n
-places_below n [] x h i = absurd (true≢false (sym i))
-places_below n (p ∷ ps) x h i = elim (or_cases (p.variable == x) (has (variables ps) x) i) [ inl e ↦ subst (λ y. y < n) (eqb-true p.variable x e) h.0 | inr e ↦ places_below n ps x h.1 e ]
+pub occurrences_below : (n : ℕ) (ps : List Occurrence) (x : ℕ) → OccurrencesBelow n ps → has (variables ps) x ≡ true → x < n
+occurrences_below n [] x h i = absurd (true≢false (sym i))
+occurrences_below n (p ∷ ps) x h i = elim (or_cases (p.variable == x) (has (variables ps) x) i) [ inl e ↦ subst (λ y. y < n) (eqb-true p.variable x e) h.0 | inr e ↦ occurrences_below n ps x h.1 e ]
 
 -- a range with fresh variables in place of those in ys
 module _ (r : Range) (m tv : ℕ) (ys : List ℕ) where
@@ -62,7 +62,7 @@ module _ (r : Range) (m tv : ℕ) (ys : List ℕ) where
     | inr e ↦ or_right (slot m ys tv == slot m ys y) _ (in_left (reads (rename_range (slot m ys) r)) [] (slot m ys y) (subst (λ l. has l (slot m ys y) ≡ true) (sym (reads_map (slot m ys) r)) (has_map (slot m ys) (reads r) y e)))
   ]
 
-module _ (M nv : ℕ) (vs : List ℕ) (every : (x : ℕ) → x < nv → has vs x ≡ true) (look : Substitution) (plain : IsPlain M vs look) (n : ℕ) (low : nv ≤ n) (r : Range) (free : Free (range_places r)) where
+module _ (M nv : ℕ) (vs : List ℕ) (every : (x : ℕ) → x < nv → has vs x ≡ true) (look : Substitution) (plain : IsPlain M vs look) (n : ℕ) (low : nv ≤ n) (r : Range) (free : Free (range_occurrences r)) where
   module _ (xs : List ℕ) (small : (x : ℕ) → has xs x ≡ true → x < nv) where
     abbrev ys : List ℕ
     ys = integers look xs []
@@ -226,46 +226,46 @@ module _ (M nv : ℕ) (vs : List ℕ) (every : (x : ℕ) → x < nv → has vs x
 
 -- what posting gives
 module _ (M : ℕ) (prog : Program) (nv : ℕ) (vs : List ℕ) (every : (x : ℕ) → x < nv → has vs x ≡ true) (b : Branch) (rest : List Goal) (look : Substitution) (sets : ℕ → Option (List ℕ)) (plain : IsPlain M vs look) (low : nv ≤ b.fresh)
-    (r : Range) (none : params r ≡ []) (below : PlacesBelow nv (range_places r)) where
-  free : Free (range_places r)
-  free = none_placed r none
+    (r : Range) (none : params r ≡ []) (below : OccurrencesBelow nv (range_occurrences r)) where
+  free : Free (range_occurrences r)
+  free = none_parameter r none
 
   plain_term : (x : ℕ) → x < nv → IsPlainTerm (look x)
   plain_term x h = elim (plain x (every x h)) [ inl e ↦ inl (x, e) | inr e ↦ inr (e.0, e.2) ]
 
-  small_places : (x : ℕ) → has (variables (range_places r)) x ≡ true → x < nv
-  small_places x h = places_below nv (range_places r) x below h
+  small_occurrences : (x : ℕ) → has (variables (range_occurrences r)) x ≡ true → x < nv
+  small_occurrences x h = occurrences_below nv (range_occurrences r) x below h
 
   small_reads : (x : ℕ) → has (reads r) x ≡ true → x < nv
-  small_reads x h = small_places x (subst (λ l. has l x ≡ true) (sym (free_places_read r free)) h)
+  small_reads x h = small_occurrences x (subst (λ l. has l x ≡ true) (sym (free_occurrences_read r free)) h)
 
   -- the row as posting spells it
-  abbrev spelled : ℕ → ℕ → List Equation → List Place → Rewritten
+  abbrev spelled : ℕ → ℕ → List Equation → List Occurrence → Rewritten
   spelled m tv es ps = row_of M nv vs every look plain b.fresh low r free m tv es (integers_at look ps []) (fill_range (λ y. integer_of (look y)) r)
 
-  same_row : (m tv : ℕ) (es : List Equation) (ps : List Place) (qs : List ℕ) → Free ps → variables ps ≡ qs → spelled m tv es ps ≡ row_of M nv vs every look plain b.fresh low r free m tv es (integers look qs []) r
+  same_row : (m tv : ℕ) (es : List Equation) (ps : List Occurrence) (qs : List ℕ) → Free ps → variables ps ≡ qs → spelled m tv es ps ≡ row_of M nv vs every look plain b.fresh low r free m tv es (integers look qs []) r
   same_row m tv es ps qs h e =
       ap (λ q. row_of M nv vs every look plain b.fresh low r free m tv es (integers_at look ps []) q) (filled_as_is (λ y. integer_of (look y)) r none)
       ∙ ap (λ l. row_of M nv vs every look plain b.fresh low r free m tv es l r) (integers_are look ps [] h ∙ ap (λ l. integers look l []) e)
 
   pub post_variable : (v : ℕ) → v < nv → (w : Rewritten) × (offer M prog look sets b (Post (Var v) r) rest ≡ GivesBranches (with_ranges b rest w ∷ [])) × IsGoalRow M b.fresh vs look (λ a. LiesIn M r a (Var v)) w
   post_variable v h =
-      let ps = one_place v false ++ range_places r in
-      let small : (x : ℕ) → has (v ∷ variables (range_places r)) x ≡ true → x < nv = λ x i. elim (or_cases (v == x) (has (variables (range_places r)) x) i) [ inl e ↦ subst (λ y. y < nv) (eqb-true v x e) h | inr e ↦ small_places x e ] in (
+      let ps = one_occurrence v false ++ range_occurrences r in
+      let small : (x : ℕ) → has (v ∷ variables (range_occurrences r)) x ≡ true → x < nv = λ x i. elim (or_cases (v == x) (has (variables (range_occurrences r)) x) i) [ inl e ↦ subst (λ y. y < nv) (eqb-true v x e) h | inr e ↦ small_occurrences x e ] in (
         _,
         ap (λ f. by_post b rest (unless_offence f (record { target = slot b.fresh (integers_at look ps []) v; range = rename_range (slot b.fresh (integers_at look ps [])) (fill_range (λ y. integer_of (look y)) r) }) (b.fresh + length (integers_at look ps [])) ([] ++ slot_equations look b.fresh (integers_at look ps []))))
             (no_offence (need_of r) look ps (refl, free) (λ x i. plain_term x (small x i)))
-            ∙ ap (λ w. GivesBranches (with_ranges b rest w ∷ [])) (same_row b.fresh v [] ps (v ∷ reads r) (refl, free) (ap (λ l. v ∷ l) (free_places_read r free))),
+            ∙ ap (λ w. GivesBranches (with_ranges b rest w ∷ [])) (same_row b.fresh v [] ps (v ∷ reads r) (refl, free) (ap (λ l. v ∷ l) (free_occurrences_read r free))),
         variable_row M nv vs every look plain b.fresh low r free v h small_reads,
       )
 
   pub post_integer : (z : ℤ) → (w : Rewritten) × (offer M prog look sets b (Post (Int z) r) rest ≡ GivesBranches (with_ranges b rest w ∷ [])) × IsGoalRow M b.fresh vs look (λ a. LiesIn M r a (Int z)) w
   post_integer z =
-      let ps = range_places r in
+      let ps = range_occurrences r in
       let es : List Equation = record { left = Var b.fresh; right = Int z } ∷ [] in (
         _,
         ap (λ f. by_post b rest (unless_offence f (record { target = slot (suc b.fresh) (integers_at look ps []) b.fresh; range = rename_range (slot (suc b.fresh) (integers_at look ps [])) (fill_range (λ y. integer_of (look y)) r) }) (suc b.fresh + length (integers_at look ps [])) (es ++ slot_equations look (suc b.fresh) (integers_at look ps []))))
-            (no_offence (need_of r) look ps free (λ x i. plain_term x (small_places x i)))
-            ∙ ap (λ w. GivesBranches (with_ranges b rest w ∷ [])) (same_row (suc b.fresh) b.fresh es ps (reads r) free (free_places_read r free)),
+            (no_offence (need_of r) look ps free (λ x i. plain_term x (small_occurrences x i)))
+            ∙ ap (λ w. GivesBranches (with_ranges b rest w ∷ [])) (same_row (suc b.fresh) b.fresh es ps (reads r) free (free_occurrences_read r free)),
         integer_row M nv vs every look plain b.fresh low r free z small_reads,
       )

@@ -10,10 +10,10 @@ use Rattle.fd_language.specs.Range.{Range, Indexical, set_of}
 use Rattle.fd_language.specs.Check.{fill_range}
 use Rattle.fd_language.specs.Range.{params}
 use Rattle.fd_language.specs.RangeRenaming.{rename_range}
-use Rattle.fd_language.specs.Places.{Place, one_place, range_places}
+use Rattle.fd_language.specs.Occurrences.{Occurrence, one_occurrence, range_occurrences}
 use Rattle.fd_model.specs.Posting.{is_integer, integers_at, integer_of, slot, slot_equations, posts, unless_offence}
-use Rattle.fd_model.specs.Sound.{PlacesBelow, RangeBelow}
-use Rattle.fd_language.proofs.Lemmas.{set_same, each_both, filled_as_is, reads_placed}
+use Rattle.fd_model.specs.Sound.{OccurrencesBelow, RangeBelow}
+use Rattle.fd_language.proofs.Lemmas.{set_same, each_both, filled_as_is, reads_occur}
 use Rattle.fd_model.specs.Satisfies.{Assignment, singles, worth}
 use Rattle.fd_model.specs.FlatConstraints.{SeesNumbers}
 use Rattle.fd_model.specs.PostingLaws.{Solves, IsPosted, PostedRange}
@@ -31,7 +31,7 @@ module _ (M N n : ℕ) (look : ℕ → Term) (a : Assignment) (sees : SeesNumber
     | inr e ↦ e.2 ∙ ap Int (sym (ap (worth a) e.2) ∙ agree x)
   ]
 
-  slotted_at : (ps : List Place) (ys : List ℕ) → PlacesBelow n ps → Each Slotted ys → Each Slotted (integers_at look ps ys)
+  slotted_at : (ps : List Occurrence) (ys : List ℕ) → OccurrencesBelow n ps → Each Slotted ys → Each Slotted (integers_at look ps ys)
   slotted_at [] ys l h = h
   slotted_at (p ∷ ps) ys l h =
       by_test (p.parameter || (not (is_integer (look p.variable)) || has ys p.variable))
@@ -92,7 +92,7 @@ module _ (M N n : ℕ) (look : ℕ → Term) (a : Assignment) (sees : SeesNumber
       → set_of M (singles b) (rename_range (slot k ys) (fill_range q r)) ≡ set_of M (singles a) r
   posted_set b ys k r q l e s h same =
       ap (λ w. set_of M (singles b) (rename_range (slot k ys) w)) (filled_as_is q r e)
-      ∙ set_same M (slot k ys) (singles b) (singles a) r (λ v i. ap (λ w. w ∷ []) (slot_value b ys k v s h (same v (reads_placed (λ x. x < n) r l v i))))
+      ∙ set_same M (slot k ys) (singles b) (singles a) r (λ v i. ap (λ w. w ∷ []) (slot_value b ys k v s h (same v (reads_occur (λ x. x < n) r l v i))))
 
   slot_other : (ys : List ℕ) (k : ℕ) → Each Slotted ys → slot k ys n ≡ n
   slot_other [] k q = refl
@@ -103,12 +103,12 @@ module _ (M N n : ℕ) (look : ℕ → Term) (a : Assignment) (sees : SeesNumber
 
   -- T is a variable
   variable_posted : (v : ℕ) (r : Range) → v < n → RangeBelow n r → params r ≡ [] →
-      let ys = integers_at look (one_place v false ++ range_places r) [] in
+      let ys = integers_at look (one_occurrence v false ++ range_occurrences r) [] in
       IsPosted M N (Var v) r n (n + length ys) (record { target = slot n ys v; range = rename_range (slot n ys) (fill_range (λ y. integer_of (look y)) r) }) (slot_equations look n ys) a
   variable_posted v r l below none =
-      let ys = integers_at look (one_place v false ++ range_places r) [] in
+      let ys = integers_at look (one_occurrence v false ++ range_occurrences r) [] in
       let q : ℕ → ℤ = λ y. integer_of (look y) in
-      let s = slotted_at (one_place v false ++ range_places r) [] (l, below) tt in
+      let s = slotted_at (one_occurrence v false ++ range_occurrences r) [] (l, below) tt in
       record {
         one = λ h.
             let b = slotted a n ys in
@@ -130,12 +130,12 @@ module _ (M N n : ℕ) (look : ℕ → Term) (a : Assignment) (sees : SeesNumber
 
   -- T is an integer
   integer_posted : (z : ℤ) (r : Range) → RangeBelow n r → params r ≡ [] →
-      let ys = integers_at look (range_places r) [] in
+      let ys = integers_at look (range_occurrences r) [] in
       IsPosted M N (Int z) r n (suc n + length ys) (record { target = slot (suc n) ys n; range = rename_range (slot (suc n) ys) (fill_range (λ y. integer_of (look y)) r) }) (record { left = Var n; right = Int z } ∷ slot_equations look (suc n) ys) a
   integer_posted z r below none =
-      let ys = integers_at look (range_places r) [] in
+      let ys = integers_at look (range_occurrences r) [] in
       let q : ℕ → ℤ = λ y. integer_of (look y) in
-      let s = slotted_at (range_places r) [] below tt in
+      let s = slotted_at (range_occurrences r) [] below tt in
       let target = slot_other ys (suc n) s in
       record {
         one = λ h.

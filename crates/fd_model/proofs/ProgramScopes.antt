@@ -7,7 +7,7 @@ use Rattle.fd_language.specs.Term.{Name, Term, Terms, Var, Int, Atom, Comp, no_t
 use Rattle.fd_language.specs.PlacedTerm.{PlacedTerm, var, int, atom, comp, no_parts, part, plain}
 use Rattle.fd_language.specs.Family.{has}
 use Rattle.fd_language.specs.Range.{Range, One, Outside, Over, Expr, Infinity, Val, DivUp}
-use Rattle.fd_language.specs.Places.{expr_places, range_places}
+use Rattle.fd_language.specs.Occurrences.{expr_occurrences, range_occurrences}
 use Rattle.fd_language.specs.Spelling.{Parsed, read, offends, expr_operator, expr_feature, read_feature, read_operator, read_expr, RangeForm, of_terms, of_ranges, pointwise, no_form, range_form, empty_range, read_form, read_dom, read_one, read_range}
 use Rattle.fd_language.specs.Variables.{variables_of, variables_of_all}
 use Rattle.fd_language.specs.Reading.{Sentence, sentences}
@@ -17,7 +17,7 @@ use Rattle.fd_model.specs.Refusals.{Form, query, clause, directive, fact, form_o
 use Rattle.fd_model.specs.Queries.{first_part, goal_by_form, goal_named, form_of_functor, goal_of, followed, body_goals, is_shown, shown_from, queries_by, queries_of, clauses_by, clauses_of, program_of}
 use Rattle.fd_model.specs.Goal.{Goals, no_goals, goal, listed, Either, Clause, Query, Program}
 use Rattle.fd_language.specs.Variables.{TermBelow, TermsBelow}
-use Rattle.fd_model.specs.Sound.{PlacesBelow, RangeBelow, GoalBelow, GoalsBelow, EachBelow, NumbersBelow, ClausesScoped, QueriesScoped, IsScoped}
+use Rattle.fd_model.specs.Sound.{OccurrencesBelow, RangeBelow, GoalBelow, GoalsBelow, EachBelow, NumbersBelow, ClausesScoped, QueriesScoped, IsScoped}
 use Rattle.fd_model.specs.Verdict.{accepted, refused, sentences_verdict, reading_verdict}
 use Rattle.fd_model.specs.ProgramLaws.{ScopedProgram}
 use Rattle.fd_language.specs.Lists.{Each}
@@ -43,10 +43,10 @@ mutual
 
 module _ (n : ℕ) where
   abbrev Scoped : Expr → Type 0
-  Scoped e = PlacesBelow n (expr_places e)
+  Scoped e = OccurrencesBelow n (expr_occurrences e)
 
   abbrev ScopedRead : Parsed Expr → Type 0
-  ScopedRead e = PlacesBelow n (expr_places e.tree)
+  ScopedRead e = OccurrencesBelow n (expr_occurrences e.tree)
 
   abbrev RangeRead : Parsed Range → Type 0
   RangeRead r = RangeBelow n r.tree
@@ -59,8 +59,8 @@ module _ (n : ℕ) where
   Operator None = Unit {0}
   Operator (Some make) = (a b : Expr) → Scoped a → Scoped b → Scoped (make a b)
 
-  both_scoped : (a b : Expr) → Scoped a → Scoped b → PlacesBelow n (expr_places a ++ expr_places b)
-  both_scoped a b h g = each_both (λ p. p.variable < n) (expr_places a) (expr_places b) h g
+  both_scoped : (a b : Expr) → Scoped a → Scoped b → OccurrencesBelow n (expr_occurrences a ++ expr_occurrences b)
+  both_scoped a b h g = each_both (λ p. p.variable < n) (expr_occurrences a) (expr_occurrences b) h g
 
   feature_is : (f : Name) → Feature (expr_feature f)
   feature_is f =
@@ -96,11 +96,11 @@ module _ (n : ℕ) where
   IsForm (pointwise make) = (r : Range) (c : Expr) → RangeBelow n r → Scoped c → RangeBelow n (make r c)
   IsForm no_form = Unit {0}
 
-  ranges_scoped : (r q : Range) → RangeBelow n r → RangeBelow n q → PlacesBelow n (range_places r ++ range_places q)
-  ranges_scoped r q h g = each_both (λ p. p.variable < n) (range_places r) (range_places q) h g
+  ranges_scoped : (r q : Range) → RangeBelow n r → RangeBelow n q → OccurrencesBelow n (range_occurrences r ++ range_occurrences q)
+  ranges_scoped r q h g = each_both (λ p. p.variable < n) (range_occurrences r) (range_occurrences q) h g
 
-  point_scoped : (r : Range) (c : Expr) → RangeBelow n r → Scoped c → PlacesBelow n (range_places r ++ expr_places c)
-  point_scoped r c h g = each_both (λ p. p.variable < n) (range_places r) (expr_places c) h g
+  point_scoped : (r : Range) (c : Expr) → RangeBelow n r → Scoped c → OccurrencesBelow n (range_occurrences r ++ expr_occurrences c)
+  point_scoped r c h g = each_both (λ p. p.variable < n) (range_occurrences r) (expr_occurrences c) h g
 
   form_is : (f : Name) → IsForm (range_form f)
   form_is f =

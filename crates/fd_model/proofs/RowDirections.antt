@@ -12,7 +12,7 @@ use Rattle.fd_language.specs.Range.{expr_params, params}
 use Rattle.fd_model.specs.Linear.{scaled, Comparison, IsEqual, IsOther, IsAtMost, comparison, normal}
 use Rattle.fd_model.specs.LinearRows.{Expansion, by_sign, minus_products, low, high, exact, row, row_by_sign, rows_behind, linear_rows, compares, no_number}
 use Rattle.fd_model.specs.Members.{as_member, walk, placed}
-use Rattle.fd_model.specs.ListRows.{against, pairwise, different_ranges, different_rows, joined, union_of, elements_at, numbers_of, element_ranges, counts, units}
+use Rattle.fd_model.specs.ListRows.{against, pairwise, different_ranges, different_rows, union_onto, union_of, elements_at, index_ranges, element_ranges, counts, units}
 use Rattle.fd_model.specs.ConstraintLaws.{FittingRows}
 use Rattle.fd_model.specs.Constraining.{compare, expand, all_different}
 use Rattle.fd_model.proofs.Collecting.{one_ok}
@@ -121,7 +121,7 @@ module _ (M : ℕ) where
   EachFitting [] = Unit {0}
   EachFitting (r ∷ rs) = IsFitting r × EachFitting rs
 
-  joined_fitting : (r : Range) (qs : List Range) → IsFitting r → EachFitting qs → IsFitting (joined r qs)
+  joined_fitting : (r : Range) (qs : List Range) → IsFitting r → EachFitting qs → IsFitting (union_onto r qs)
   joined_fitting r [] h g = h
   joined_fitting r (q ∷ qs) h g = joined_fitting (Union r q) qs (record { fits = and_from _ _ h.fits g.0.fits; params = let e = h.params in let f = g.0.params in rw (e, f) refl }) g.1
 
@@ -133,12 +133,12 @@ module _ (M : ℕ) where
   elements_fitting i k [] = tt
   elements_fitting i k (z ∷ zs) = (record { fits = refl; params = refl }, elements_fitting i (suc k) zs)
 
-  numbers_fitting : (x k : ℕ) (zs : List ℤ) → EachFitting (numbers_of x k zs)
+  numbers_fitting : (x k : ℕ) (zs : List ℤ) → EachFitting (index_ranges x k zs)
   numbers_fitting x k [] = tt
   numbers_fitting x k (z ∷ zs) = (record { fits = refl; params = refl }, numbers_fitting x (suc k) zs)
 
   element_fitting : (i x : ℕ) (zs : List ℤ) → Fitting (element_ranges i zs x)
-  element_fitting i x zs = (union_fitting (elements_at i 1 zs) (elements_fitting i 1 zs), (union_fitting (numbers_of x 1 zs) (numbers_fitting x 1 zs), tt))
+  element_fitting i x zs = (union_fitting (elements_at i 1 zs) (elements_fitting i 1 zs), (union_fitting (index_ranges x 1 zs) (numbers_fitting x 1 zs), tt))
 
   counts_fitting : (v : ℤ) (xs : List ℕ) (m : ℕ) → Fitting (counts v xs m)
   counts_fitting v [] m = tt

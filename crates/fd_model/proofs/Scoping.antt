@@ -6,15 +6,15 @@ use Rattle.fd_language.specs.Unifier.{Equation, IsMostGeneral, Unifies}
 use Rattle.fd_language.specs.Family.{Family}
 use Rattle.fd_model.specs.Closed.{constrained}
 use Rattle.fd_model.specs.Renaming.{rename_term, rename_goal, rename_goals}
-use Rattle.fd_language.specs.Places.{Place, range_places}
+use Rattle.fd_language.specs.Occurrences.{Occurrence, range_occurrences}
 use Rattle.fd_model.specs.Goal.{Goal, Goals, no_goals, goal, listed, True, Fail, Unify, Post, Constrain, Label, Call, Either, Builtin, Branch}
 use Rattle.fd_language.specs.Variables.{TermBelow, TermsBelow}
-use Rattle.fd_model.specs.Sound.{PlacesBelow, GoalBelow, GoalsBelow, EachBelow}
+use Rattle.fd_model.specs.Sound.{OccurrencesBelow, GoalBelow, GoalsBelow, EachBelow}
 use Rattle.fd_model.specs.Seen.{by_set, set_at}
 use Rattle.fd_model.specs.Children.{look_in}
 use Rattle.fd_model.proofs.GoalRows.{EquationsBelow}
 use Rattle.fd_model.proofs.Lists.{each_map}
-use Rattle.fd_language.proofs.Lemmas.{after_is, renamed_places}
+use Rattle.fd_language.proofs.Lemmas.{after_is, renamed_occurrences}
 use Rattle.fd_model.proofs.Seeing.{wider}
 
 -- terms under substitutions
@@ -98,15 +98,15 @@ look_below n b s D g e x h = below_under n n (λ y. by_set (set_at s D (constrai
 pub equations_wider : (n m : ℕ) → n ≤ m → (es : List Equation) → EquationsBelow n es → EquationsBelow m es
 equations_wider n m l es h = each_map (λ e. TermBelow n e.left × TermBelow n e.right) (λ e. TermBelow m e.left × TermBelow m e.right) (λ e k. (wider n m l e.left k.0, wider n m l e.right k.1)) es h
 
-pub places_wider : (n m : ℕ) → n ≤ m → (ps : List Place) → PlacesBelow n ps → PlacesBelow m ps
-places_wider n m l ps h = each_map (λ p. p.variable < n) (λ p. p.variable < m) (λ p i. omega arith) ps h
+pub occurrences_wider : (n m : ℕ) → n ≤ m → (ps : List Occurrence) → OccurrencesBelow n ps → OccurrencesBelow m ps
+occurrences_wider n m l ps h = each_map (λ p. p.variable < n) (λ p. p.variable < m) (λ p i. omega arith) ps h
 
 mutual
   goal_wider : (n m : ℕ) → n ≤ m → (g : Goal) → GoalBelow n g → GoalBelow m g
   goal_wider n m l True h = tt
   goal_wider n m l Fail h = tt
   goal_wider n m l (Unify s t) h = (wider n m l s h.0, wider n m l t h.1)
-  goal_wider n m l (Post t r) h = (wider n m l t h.0, places_wider n m l (range_places r) h.1)
+  goal_wider n m l (Post t r) h = (wider n m l t h.0, occurrences_wider n m l (range_occurrences r) h.1)
   goal_wider n m l (Constrain c t) h = wider n m l t h
   goal_wider n m l (Label o t) h = wider n m l t h
   goal_wider n m l (Call t) h = wider n m l t h
@@ -139,7 +139,7 @@ module _ (k m : ℕ) (f : ℕ → ℕ) (h : (x : ℕ) → x < k → f x < m) whe
     goal_renamed True b = tt
     goal_renamed Fail b = tt
     goal_renamed (Unify s t) b = (term_renamed s b.0, term_renamed t b.1)
-    goal_renamed (Post t r) b = (term_renamed t b.0, renamed_places (λ x. x < k) (λ x. x < m) f h r b.1)
+    goal_renamed (Post t r) b = (term_renamed t b.0, renamed_occurrences (λ x. x < k) (λ x. x < m) f h r b.1)
     goal_renamed (Constrain c t) b = term_renamed t b
     goal_renamed (Label o t) b = term_renamed t b
     goal_renamed (Call t) b = term_renamed t b

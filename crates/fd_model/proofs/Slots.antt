@@ -4,7 +4,7 @@ use Rattle.std.proofs.lemmas.Bool.{or_cases, or_left, or_right, cases_Bool, true
 use Rattle.fd_language.specs.Term.{Int, Substitution, apply}
 use Rattle.fd_language.specs.Unifier.{Unifies}
 use Rattle.fd_language.specs.Family.{has}
-use Rattle.fd_language.specs.Places.{Place}
+use Rattle.fd_language.specs.Occurrences.{Occurrence}
 use Rattle.fd_model.specs.Posting.{is_integer, integers_at, slot, slot_equations}
 use Rattle.fd_language.proofs.Lemmas.{has_either}
 use Rattle.fd_model.specs.Satisfies.{Assignment}
@@ -41,7 +41,7 @@ abbrev pub integers : Substitution → List ℕ → List ℕ → List ℕ
 integers look [] ys = ys
 integers look (x ∷ xs) ys = cond (not (is_integer (look x)) || has ys x) (integers look xs ys) (integers look xs (ys ++ x ∷ []))
 
-pub integers_are : (look : Substitution) (ps : List Place) (ys : List ℕ) → Free ps → integers_at look ps ys ≡ integers look (variables ps) ys
+pub integers_are : (look : Substitution) (ps : List Occurrence) (ys : List ℕ) → Free ps → integers_at look ps ys ≡ integers look (variables ps) ys
 integers_are look [] ys h = refl
 integers_are look (p ∷ ps) ys h = rw h.0 (two_ways (not (is_integer (look p.variable)) || has ys p.variable) (integers_are look ps ys h.1) (integers_are look ps (ys ++ p.variable ∷ []) h.1)) where
   two_ways : (b : Bool) {x x' y y' : List ℕ} → x ≡ x' → y ≡ y' → cond b x y ≡ cond b x' y'

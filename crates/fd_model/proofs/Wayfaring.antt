@@ -17,14 +17,14 @@ use Rattle.fd_language.specs.Check.{fill_range}
 use Rattle.fd_language.specs.Needs.{need_of}
 use Rattle.fd_language.specs.RangeRenaming.{rename_range}
 use Rattle.fd_model.specs.Renaming.{rename_term, rename_goal}
-use Rattle.fd_language.specs.Places.{Place, one_place, range_places}
+use Rattle.fd_language.specs.Occurrences.{Occurrence, one_occurrence, range_occurrences}
 use Rattle.fd_model.specs.Posting.{is_integer, integer_of, integers_at, slot, slot_equations, Found, offends, posts, first_offence, unless_offence, post}
 use Rattle.fd_model.specs.Goal.{Goal, Clause, listed, True, Fail, Unify, Post, Constrain, Label, Call, Either, Builtin, Program, Query, Branch}
 use Rattle.fd_language.specs.Variables.{TermBelow, TermsBelow}
-use Rattle.fd_model.specs.Sound.{PlacesBelow, GoalBelow, EachBelow, ClausesScoped}
+use Rattle.fd_model.specs.Sound.{OccurrencesBelow, GoalBelow, EachBelow, ClausesScoped}
 use Rattle.fd_model.specs.Seen.{IsConsistent}
 use Rattle.fd_model.specs.Children.{Offer, Faults, Gives, with_goals, with_equations, fits_head, paired, argument_equations, by_clause, by_clauses, by_post, by_constraint, by_finding, Kept, KeptOffer, look_in, offer, is_number, by_value, by_pick, by_listing, sets_in}
-use Rattle.fd_language.proofs.Lemmas.{has_either, filled_leaves, reads_placed}
+use Rattle.fd_language.proofs.Lemmas.{has_either, filled_leaves, reads_occur}
 use Rattle.fd_model.specs.Labelling.{read_list, values_by, first_open, pick, open_ones}
 use Rattle.fd_model.specs.Members.{Member, Open, Known}
 use Rattle.fd_model.proofs.GoalRows.{Rewritten, with_ranges, rewritten, EquationsBelow, IsFollowing}
@@ -44,7 +44,7 @@ use Rattle.fd_model.proofs.Seeing.{wider, arguments_below as terms_below}
 use Rattle.fd_model.proofs.ExactRows.{following}
 use Rattle.fd_model.specs.LinearRows.{Expansion}
 use Rattle.fd_model.specs.Constraining.{constrain, arguments}
-use Rattle.fd_model.proofs.Scoping.{below_under, look_below, equations_wider, each_wider, each_both_below, listed_below, places_wider, term_renamed, body_renamed}
+use Rattle.fd_model.proofs.Scoping.{below_under, look_below, equations_wider, each_wider, each_both_below, listed_below, occurrences_wider, term_renamed, body_renamed}
 
 abbrev Low : ℕ → List ℕ → Type 0
 Low n xs = (x : ℕ) → has xs x ≡ true → x < n
@@ -63,7 +63,7 @@ module _ (look : Substitution) where
   skipped : (p a b : Bool) → (p || (not a || b)) ≡ false → a ≡ true
   skipped p a b h = grind arith
 
-  ints_at : (ps : List Place) (ys : List ℕ) → Ints ys → Ints (integers_at look ps ys)
+  ints_at : (ps : List Occurrence) (ys : List ℕ) → Ints ys → Ints (integers_at look ps ys)
   ints_at [] ys h = h
   ints_at (p ∷ ps) ys h = elim (cases_Bool (p.parameter || (not (is_integer (look p.variable)) || has ys p.variable))) [
     | inl e ↦ rw e (ints_at ps ys h)
@@ -88,7 +88,7 @@ module _ (look : Substitution) where
   no_posts : (f : QueryFault) (p : Indexical) (m : ℕ) (es : List Equation) → offends f ≡ posts p m es → ⊥
   no_posts f p m es e = cc
 
-  at_below : (ps : List Place) (x : ℕ) (es ds : List Equation) (l n m : ℕ) (r : Range) (p : Indexical) → l ≤ n → x < n → EquationsBelow n es → PlacesBelow n (range_places r) → (o : Option QueryFault)
+  at_below : (ps : List Occurrence) (x : ℕ) (es ds : List Equation) (l n m : ℕ) (r : Range) (p : Indexical) → l ≤ n → x < n → EquationsBelow n es → OccurrencesBelow n (range_occurrences r) → (o : Option QueryFault)
       → unless_offence o (record { target = slot n (integers_at look ps []) x; range = rename_range (slot n (integers_at look ps [])) (fill_range (λ y. integer_of (look y)) r) }) (n + length (integers_at look ps [])) (es ++ slot_equations look n (integers_at look ps [])) ≡ posts p m ds → IsBelow l m p ds
   at_below ps x es ds l n m r p le lx be br (Some f) e = absurd (no_posts f p m ds e)
   at_below ps x es ds l n m r p le lx be br None e =
@@ -97,7 +97,7 @@ module _ (look : Substitution) where
       let same_p : renamed q n x ys ≡ p = cc in
       let same_m : n + length ys ≡ m = cc in
       let same_e : es ++ slot_equations look n ys ≡ ds = cc in
-      let small : Low n (x ∷ reads q) = λ y h. elim (or_cases (x == y) (has (reads q) y) h) [ inl k ↦ subst (λ z. z < n) (eqb-true x y k) lx | inr k ↦ reads_placed (λ z. z < n) r br y (subst (λ s. has s y ≡ true) (filled_leaves read_at (λ z. refl) (λ z. integer_of (look z)) r) k) ] in
+      let small : Low n (x ∷ reads q) = λ y h. elim (or_cases (x == y) (has (reads q) y) h) [ inl k ↦ subst (λ z. z < n) (eqb-true x y k) lx | inr k ↦ reads_occur (λ z. z < n) r br y (subst (λ s. has s y ≡ true) (filled_leaves read_at (λ z. refl) (λ z. integer_of (look z)) r) k) ] in
       let high : (y : ℕ) → y < n → slot n ys y < n + length ys = λ y h. elim (cases_Bool (has ys y)) [ inl k ↦ slot_high n ys y k | inr k ↦ subst (λ z. z < n + length ys) (sym (slot_out n ys y k)) (omega arith) ] in
       subst (λ k. IsBelow l k p ds) same_m (subst (λ d. IsBelow l (n + length ys) p d) same_e (subst (λ k. IsBelow l (n + length ys) k (es ++ slot_equations look n ys)) same_p (record {
         fresh = omega arith;
@@ -106,9 +106,9 @@ module _ (look : Substitution) where
             (slots_below (n + length ys) n ys (omega arith) (ints_at ps [] (λ y h. absurd (true≢false (sym h)))));
       })))
 
-  pub post_below : (t : Term) (r : Range) (n m : ℕ) (p : Indexical) (es : List Equation) → TermBelow n t → PlacesBelow n (range_places r) → post look t r n ≡ posts p m es → IsBelow n m p es
-  post_below (Var v) r n m p es h b e = at_below (one_place v false ++ range_places r) v [] es n n m r p (omega arith) h tt b (first_offence (need_of r) look (one_place v false ++ range_places r)) e
-  post_below (Int z) r n m p es h b e = at_below (range_places r) n (record { left = Var n; right = Int z } ∷ []) es n (suc n) m r p (omega arith) (omega arith) ((omega arith, tt), tt) (places_wider n (suc n) (omega arith) (range_places r) b) (first_offence (need_of r) look (range_places r)) e
+  pub post_below : (t : Term) (r : Range) (n m : ℕ) (p : Indexical) (es : List Equation) → TermBelow n t → OccurrencesBelow n (range_occurrences r) → post look t r n ≡ posts p m es → IsBelow n m p es
+  post_below (Var v) r n m p es h b e = at_below (one_occurrence v false ++ range_occurrences r) v [] es n n m r p (omega arith) h tt b (first_offence (need_of r) look (one_occurrence v false ++ range_occurrences r)) e
+  post_below (Int z) r n m p es h b e = at_below (range_occurrences r) n (record { left = Var n; right = Int z } ∷ []) es n (suc n) m r p (omega arith) (omega arith) ((omega arith, tt), tt) (occurrences_wider n (suc n) (omega arith) (range_occurrences r) b) (first_offence (need_of r) look (range_occurrences r)) e
   post_below (Atom a) r n m p es h b e = absurd (no_posts _ p m es e)
   post_below (Comp f ts) r n m p es h b e = absurd (no_posts _ p m es e)
 

@@ -34,14 +34,14 @@ abbrev pub modulo : ℤ → ℤ → ℤ
 modulo a (pos b) = int_rem_euclid a (pos b)
 modulo a (negsuc b) = neg_ℤ (int_rem_euclid (neg_ℤ a) (pos (suc b)))
 
-abbrev pub sum_of : ℤ → ℤ → Value
-sum_of a b = integer (a +ℤ b)
+abbrev pub integer_sum : ℤ → ℤ → Value
+integer_sum a b = integer (a +ℤ b)
 
-abbrev pub difference_of : ℤ → ℤ → Value
-difference_of a b = integer (a -ℤ b)
+abbrev pub integer_difference : ℤ → ℤ → Value
+integer_difference a b = integer (a -ℤ b)
 
-abbrev pub product_of : ℤ → ℤ → Value
-product_of a b = integer (a *ℤ b)
+abbrev pub integer_product : ℤ → ℤ → Value
+integer_product a b = integer (a *ℤ b)
 
 -- toward zero
 abbrev pub quotient_of : ℤ → ℤ → Value
@@ -54,23 +54,23 @@ abbrev pub opposite_of : ℤ → Value
 opposite_of a = integer (neg_ℤ a)
 
 -- The left operand's fault comes first, then the right one's, then the operation's.
-abbrev pub of_both : (ℤ → ℤ → Value) → Value → Value → Value
-of_both op (Ok a) (Ok b) = op a b
-of_both op (Ok a) (Err f) = Err f
-of_both op (Err f) r = Err f
+abbrev pub value_of_both : (ℤ → ℤ → Value) → Value → Value → Value
+value_of_both op (Ok a) (Ok b) = op a b
+value_of_both op (Ok a) (Err f) = Err f
+value_of_both op (Err f) r = Err f
 
-abbrev pub of_one : (ℤ → Value) → Value → Value
-of_one op (Ok a) = op a
-of_one op (Err f) = Err f
+abbrev pub value_of_one : (ℤ → Value) → Value → Value
+value_of_one op (Ok a) = op a
+value_of_one op (Err f) = Err f
 
 -- the value of a term with this name and two operands, each of them with its value
 abbrev pub by_name : Name → Value → Value → Value
 by_name f l r =
-    if bytes_eq f (codes "+") then of_both sum_of l r else
-    if bytes_eq f (codes "-") then of_both difference_of l r else
-    if bytes_eq f (codes "*") then of_both product_of l r else
-    if bytes_eq f (codes "//") then of_both quotient_of l r else
-    if bytes_eq f (codes "mod") then of_both modulo_of l r else Err not_a_number
+    if bytes_eq f (codes "+") then value_of_both integer_sum l r else
+    if bytes_eq f (codes "-") then value_of_both integer_difference l r else
+    if bytes_eq f (codes "*") then value_of_both integer_product l r else
+    if bytes_eq f (codes "//") then value_of_both quotient_of l r else
+    if bytes_eq f (codes "mod") then value_of_both modulo_of l r else Err not_a_number
 
 -- the value of a term
 abbrev pub value_of : Term → Value
@@ -78,6 +78,6 @@ value_of (Var x) = Err unbound
 value_of (Int z) = integer z
 value_of (Atom a) = Err not_a_number
 value_of (Comp f no_terms) = Err not_a_number
-value_of (Comp f (term a no_terms)) = if bytes_eq f (codes "-") then of_one opposite_of (value_of a) else Err not_a_number
+value_of (Comp f (term a no_terms)) = if bytes_eq f (codes "-") then value_of_one opposite_of (value_of a) else Err not_a_number
 value_of (Comp f (term a (term b no_terms))) = by_name f (value_of a) (value_of b)
 value_of (Comp f (term a (term b (term c ts)))) = Err not_a_number

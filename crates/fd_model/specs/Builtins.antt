@@ -12,13 +12,13 @@ use Rattle.fd_model.specs.Lines.{Interval, intervals}
 
 -- ---- expressions
 
-abbrev pub by_value : Value → Result ℤ QueryFault
-by_value (Ok z) = Ok z
-by_value (Err f) = Err (query_fault f)
+abbrev pub checked_value : Value → Result ℤ QueryFault
+checked_value (Ok z) = Ok z
+checked_value (Err f) = Err (query_fault f)
 
 -- the value of an expression, or its fault
 abbrev pub evaluated : Term → Result ℤ QueryFault
-evaluated t = by_value (value_of t)
+evaluated t = checked_value (value_of t)
 
 -- ---- terms
 
@@ -90,9 +90,9 @@ abbrev pub greatest_number : Numbers → ℤ
 greatest_number (one z) = z
 greatest_number (those ns) = pos (last_of 0 ns)
 
-abbrev pub count : Numbers → ℤ
-count (one z) = pos 1
-count (those ns) = pos (length ns)
+abbrev pub number_count : Numbers → ℤ
+number_count (one z) = pos 1
+number_count (those ns) = pos (length ns)
 
 abbrev pub two_terms : Term → Term → Terms
 two_terms a b = term a (term b no_terms)
@@ -167,7 +167,7 @@ found kind.Write sets a b u v = decided true
 found kind.Nl sets a b u v = decided true
 found kind.FdMin sets a b u v = equals_number (λ ns. Int (least_number ns)) b (numbers_of sets u)
 found kind.FdMax sets a b u v = equals_number (λ ns. Int (greatest_number ns)) b (numbers_of sets u)
-found kind.FdSize sets a b u v = equals_number (λ ns. Int (count ns)) b (numbers_of sets u)
+found kind.FdSize sets a b u v = equals_number (λ ns. Int (number_count ns)) b (numbers_of sets u)
 found kind.FdDom sets a b u v = equals_number interval_list b (numbers_of sets u)
 
 -- What the goal t comes to, where look gives each variable as it is seen.

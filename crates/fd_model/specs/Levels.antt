@@ -3,7 +3,7 @@ use Rattle.std.specs.Prelude.{ℕ, Bool, List, refl}
 use Rattle.std.specs.Coded.{Coded, code_by, coded×, coded_ℕ, coded_bool, coded_list}
 use Rattle.fd_language.specs.contracts.range_node.RangeNode as node
 use Rattle.fd_language.specs.Range.{Range, Indexical}
-use Rattle.fd_language.specs.Flat.{nodes_of, spelled, spelled-nodes}
+use Rattle.fd_language.specs.Flat.{nodes_of, spelled_range, spelled_range-nodes}
 
 -- A level's variables are numbered from 0, and each has a set. The sets of a level that has failed say nothing.
 pub record Level : Type 0 where
@@ -19,7 +19,7 @@ pub record Levels : Type 0 where
 
 -- levels as values that a program may hold
 abbrev pub range_coded : Coded Range
-range_coded = code_by _ (coded_list node.the_row.coded) nodes_of spelled spelled-nodes
+range_coded = code_by _ (coded_list node.the_row.coded) nodes_of spelled_range spelled_range-nodes
 
 abbrev pub indexical_coded : Coded Indexical
 indexical_coded = code_by (ℕ × Range) (coded× coded_ℕ range_coded) (λ p. (p.target, p.range)) (λ d. record { target = d.0; range = d.1 }) (λ _. refl)

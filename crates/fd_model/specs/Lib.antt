@@ -67,6 +67,6 @@ pub use Rattle.fd_language.specs.TokenSlices
 pub use Rattle.fd_language.specs.Reading
 pub use Rattle.fd_language.specs.Lists
 pub use Rattle.fd_language.specs.Variables
-pub use Rattle.fd_language.specs.Places
+pub use Rattle.fd_language.specs.Occurrences
 pub use Rattle.fd_language.specs.RangeRenaming
 pub use Rattle.fd_language.specs.Monotonicity

@@ -34,25 +34,25 @@ where_is a y b = Plus (Times (Inter (One (Number a)) (Dom y)) (Number (pos 0))) 
 abbrev pub where_other : ℤ → ℕ → Range
 where_other a y = Times (Inter (Outside (One (Number a))) (Dom y)) (Number (pos 0))
 
-abbrev pub joined : Range → List Range → Range
-joined r [] = r
-joined r (q ∷ qs) = joined (Union r q) qs
+abbrev pub union_onto : Range → List Range → Range
+union_onto r [] = r
+union_onto r (q ∷ qs) = union_onto (Union r q) qs
 
 abbrev pub union_of : List Range → Range
 union_of [] = no_number
-union_of (r ∷ rs) = joined r rs
+union_of (r ∷ rs) = union_onto r rs
 
 -- the elements from the k-th on where i may be their number, and the numbers of those that x may be
 abbrev pub elements_at : ℕ → ℕ → List ℤ → List Range
 elements_at i k [] = []
 elements_at i k (z ∷ zs) = where_is (pos k) i z ∷ elements_at i (suc k) zs
 
-abbrev pub numbers_of : ℕ → ℕ → List ℤ → List Range
-numbers_of x k [] = []
-numbers_of x k (z ∷ zs) = where_is z x (pos k) ∷ numbers_of x (suc k) zs
+abbrev pub index_ranges : ℕ → ℕ → List ℤ → List Range
+index_ranges x k [] = []
+index_ranges x k (z ∷ zs) = where_is z x (pos k) ∷ index_ranges x (suc k) zs
 
 abbrev pub element_ranges : ℕ → List ℤ → ℕ → List Indexical
-element_ranges i zs x = record { target = x; range = union_of (elements_at i 1 zs) } ∷ record { target = i; range = union_of (numbers_of x 1 zs) } ∷ []
+element_ranges i zs x = record { target = x; range = union_of (elements_at i 1 zs) } ∷ record { target = i; range = union_of (index_ranges x 1 zs) } ∷ []
 
 abbrev pub element_rows : Member → List ℤ → Member → ℕ → Expansion
 element_rows i zs x n =

@@ -3,7 +3,7 @@ use Rattle.std.specs.Prelude.{ℕ, ◌<◌, true, IsTrue, List, [], ◌∷◌}
 use Rattle.fd_language.specs.Lists.{Each}
 use Rattle.fd_language.specs.Range.{Range}
 use Rattle.fd_language.specs.Check.{range_fits}
-use Rattle.fd_language.specs.Places.{Place, range_places}
+use Rattle.fd_language.specs.Occurrences.{Occurrence, range_occurrences}
 use Rattle.fd_model.specs.Goal.{Goal, Goals, no_goals, goal, True, Fail, Unify, Post, Constrain, Label, Call, Either, Builtin, Clause, Query, Program}
 use Rattle.fd_language.specs.Variables.{TermBelow}
 
@@ -41,11 +41,11 @@ pub record IsRunnableProgram (M : ℕ) (prog : Program) : Type 0 where
   pub queries : QueriesRunnable M prog.queries
 
 -- the variables of a range or a goal are below n
-abbrev pub PlacesBelow : ℕ → List Place → Type 0
-PlacesBelow n ps = Each (λ p. p.variable < n) ps
+abbrev pub OccurrencesBelow : ℕ → List Occurrence → Type 0
+OccurrencesBelow n ps = Each (λ p. p.variable < n) ps
 
 abbrev pub RangeBelow : ℕ → Range → Type 0
-RangeBelow n r = PlacesBelow n (range_places r)
+RangeBelow n r = OccurrencesBelow n (range_occurrences r)
 
 abbrev mutual
   pub GoalBelow : ℕ → Goal → Type 0

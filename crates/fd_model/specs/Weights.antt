@@ -1,18 +1,10 @@
 -- How much a change of sets may cost: a bound on the activations of posted ranges that it leads to.
 use Rattle.std.specs.Prelude.{ℕ, ◌+◌, ◌-◌, Bool, true, false, ◌&&◌, not, ◌==◌, if◌then◌else◌, List, [], ◌∷◌, length}
 use Rattle.std.specs.List.{list_any}
-use Rattle.fd_language.specs.declared.range_node.Feature.{Feature}
-use Rattle.fd_language.specs.declared.range_node.Feature.TheVariants as feature
 use Rattle.fd_language.specs.Family.{Family}
 use Rattle.fd_language.specs.Range.{Range, Indexical, reads, is_several}
-use Rattle.fd_language.specs.Features.{range_features}
+use Rattle.fd_language.specs.Features.{is_val, range_features}
 use Rattle.fd_language.specs.Needs.{once}
-
-abbrev pub is_val : Feature → Bool
-is_val feature.Min = false
-is_val feature.Max = false
-is_val feature.Val = true
-is_val feature.Dom = false
 
 -- whether the range reads more of y than its value: its min, max or dom
 abbrev pub reads_more : Range → ℕ → Bool

@@ -11,7 +11,7 @@ use Rattle.heap_cells.specs.declared.Saved.{Saved}
 use Rattle.heap_cells.specs.declared.Mark.{Mark}
 use Rattle.heap_cells.specs.Cells.{Slot, Compound, Cells, Heaps, with_new_slot, with_compound}
 use Rattle.heap_cells.specs.Valid.{IsHeap}
-use Rattle.heap_cells.specs.Stored.{slot_of, compound_of, cells_of, heaps_of, AreStored, restored, IsUpTo, Fall, lengths, marked, HasArgs}
+use Rattle.heap_cells.specs.HeapFields.{slot_of, compound_of, cells_of, heaps_of, AreStored, restored, IsUpTo, Fall, lengths, marked, HasArgs}
 use Rattle.heap_cells.proofs.Marks.{map_same, up_to_itself, fall_more, each_up_to, restored-take}
 use Rattle.heap_cells.proofs.Elements.{both_of, all_push}
 

@@ -8,8 +8,8 @@ use Rattle.heap_cells.specs.declared.Variable.{Variable}
 use Rattle.heap_cells.specs.declared.Variable.TheVariants as variable
 use Rattle.heap_cells.specs.declared.Heap.TheInside.{Inside}
 use Rattle.heap_cells.specs.Cells.{Slot, free, linked, bound, is_bound, Cells, slot_at, compound_at, Heaps, IsOf}
-use Rattle.heap_cells.specs.Stored.{slot_of}
-use Rattle.heap_cells.specs.Seen.{IsRoot, IsNeverOpen, binding_or, one_step}
+use Rattle.heap_cells.specs.HeapFields.{slot_of}
+use Rattle.heap_cells.specs.SeenCells.{IsRoot, IsNeverOpen, binding_or, one_step}
 use Rattle.heap_cells.specs.Terms.{Naming, Same, term_of, terms_by}
 use Rattle.heap_cells.specs.Valid.{IsHeap}
 use Rattle.heap_cells.proofs.Fields.{view_of, slot_is, slots_there}

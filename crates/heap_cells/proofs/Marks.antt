@@ -11,7 +11,7 @@ use Rattle.heap_cells.specs.declared.Saved.{Saved}
 use Rattle.heap_cells.specs.declared.Mark.{Mark}
 use Rattle.heap_cells.specs.Cells.{Slot, Cells, Heaps, with_slot}
 use Rattle.heap_cells.specs.Valid.{IsHeap}
-use Rattle.heap_cells.specs.Stored.{slot_of, compound_of, cells_of, heaps_of, AreStored, restored, saved_at, newest, trailed, IsUpTo, Fall, lengths, marked}
+use Rattle.heap_cells.specs.HeapFields.{slot_of, compound_of, cells_of, heaps_of, AreStored, restored, saved_at, newest, trailed, IsUpTo, Fall, lengths, marked}
 use Rattle.heap_cells.proofs.Elements.{head_of, tail_of, both_of}
 
 pub map_same : {X Y : Type 0} (P : X → Type 0) (f g : X → Y) → ((x : X) → P x → f x ≡ g x) → (xs : List X) → All P xs → map f xs ≡ map g xs

@@ -11,7 +11,7 @@ use Rattle.heap_cells.specs.declared.Saved.{Saved}
 use Rattle.heap_cells.specs.declared.Mark.{Mark}
 use Rattle.heap_cells.specs.Cells.{Compound, Cells, Heaps}
 use Rattle.heap_cells.specs.Valid.{IsHeap}
-use Rattle.heap_cells.specs.Stored.{slot_of, compound_of, cells_of, heaps_of, AreStored, restored, IsUpTo, Fall, lengths, marked, HasArgs}
+use Rattle.heap_cells.specs.HeapFields.{slot_of, compound_of, cells_of, heaps_of, AreStored, restored, IsUpTo, Fall, lengths, marked, HasArgs}
 use Rattle.heap_cells.proofs.Marks.{map_same, fall_more, each_up_to, restored-take, restored-append, length-restored}
 use Rattle.heap_cells.proofs.Levels.{compounds_kept, some_args}
 use Rattle.heap_cells.proofs.Elements.{head_of, tail_of}

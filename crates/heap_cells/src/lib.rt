@@ -11,8 +11,8 @@ ghost use Rattle.heap_cells.specs.declared.Seen.TheVariants as seen;
 ghost use Rattle.heap_cells.specs.Cells.{Cells, free, linked, bound, is_bound, no_cells, slot_at, IsOf, with_slot, with_new_slot, with_now, with_mark, AddsCompound};
 ghost use Rattle.heap_cells.specs.Terms.{KeepsTerms, Same, IsAbsent, Replaces};
 ghost use Rattle.heap_cells.specs.Valid.{IsHeap};
-ghost use Rattle.heap_cells.specs.Stored.{slot_of, trailed, saved_at, restored};
-ghost use Rattle.heap_cells.specs.Seen.{IsSeen, IsTop, IsRoot, IsNeverOpen, IsBoundToVariable, one_step, integer_in};
+ghost use Rattle.heap_cells.specs.HeapFields.{slot_of, trailed, saved_at, restored};
+ghost use Rattle.heap_cells.specs.SeenCells.{IsSeen, IsTop, IsRoot, IsNeverOpen, IsBoundToVariable, one_step, integer_in};
 
 use fd_language::NoMemory;
 use std::alloc::Global;
@@ -93,7 +93,7 @@ impl Model for Heap {
 
     ghost Value = { Heaps };
 
-    ghost use Rattle.heap_cells.specs.Stored.{heaps_of, AreStored};
+    ghost use Rattle.heap_cells.specs.HeapFields.{heaps_of, AreStored};
 
     ghost view = { λ h. heaps_of h.variables.items h.args.items h.structures.items h.trail.items
         h.marks.items };

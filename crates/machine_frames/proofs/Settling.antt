@@ -15,7 +15,7 @@ use Rattle.heap_cells.specs.Cells.{Cells}
 use Rattle.heap_cells.specs.Terms.{Naming}
 use Rattle.heap_cells.specs.Valid.{IsHeap}
 use Rattle.machine_relation.specs.Heap.{after, Below}
-use Rattle.machine_relation.specs.Held.{Frame, IsHeld, IsAtRest, value_in, value_at, link_in, link_at, fixed_frame}
+use Rattle.machine_relation.specs.HeldBranches.{Frame, IsHeld, IsAtRest, value_in, value_at, open_link, link_at, fixed_frame}
 use Rattle.machine_relation.proofs.Lemmas.{held_fix, functions, fixed_rest, sole_value, without_cell}
 use Rattle.machine_frames.specs.Frames.{frame_of, IsKept}
 use Rattle.machine_frames.proofs.Linking.{unused_cell}
@@ -98,7 +98,7 @@ module _ (link : ℕ → Option ℕ) (G : Family) (X : Substitution → (ℕ →
   next_left i k w e g c = elim (cases_eq c i) [
     | inl j ↦
         ap (without_cell i (to left link i)) j ∙ without_here i (to left link i)
-        ∙ sym (ap left j ∙ ap (λ o. link_at o G) e ∙ ap (λ xs. link_in xs k) g)
+        ∙ sym (ap left j ∙ ap (λ o. link_at o G) e ∙ ap (λ xs. open_link xs k) g)
         ∙ sym (to_low left link (suc i) c (omega (arith, j)))
     | inr d ↦ without_else i (to left link i) c d ∙ sym (to_next left link i c d)
   ]
@@ -107,11 +107,11 @@ module _ (link : ℕ → Option ℕ) (G : Family) (X : Substitution → (ℕ →
   same_next i e f x = moved (to value Var i) (to value Var (suc i)) (to left link i) (to left link (suc i)) (λ c. sym (to_same value Var i e c)) (λ c. sym (to_same left link i f c)) x
 
   by_set : (i k : ℕ) → link i ≡ Some k → (xs : List ℕ) → G k ≡ xs → X (to value Var i) (to left link i) → X (to value Var (suc i)) (to left link (suc i))
-  by_set i k e [] g x = same_next i (ap (λ o. value_at o G i) e ∙ ap (λ l. value_in l i) g) (ap (λ o. link_at o G) e ∙ ap (λ l. link_in l k) g ∙ sym e) x
+  by_set i k e [] g x = same_next i (ap (λ o. value_at o G i) e ∙ ap (λ l. value_in l i) g) (ap (λ o. link_at o G) e ∙ ap (λ l. open_link l k) g ∙ sym e) x
   by_set i k e (w ∷ []) g x =
       moved (after (number_for i (pos w)) (to value Var i)) (to value Var (suc i)) (without_cell i (to left link i)) (to left link (suc i)) (next_value i k w e g) (next_left i k w e g)
       (bind (to value Var i) (to left link i) i k w (to_high left link i i (omega arith) ∙ e) g e x)
-  by_set i k e (w ∷ v ∷ ws) g x = same_next i (ap (λ o. value_at o G i) e ∙ ap (λ l. value_in l i) g) (ap (λ o. link_at o G) e ∙ ap (λ l. link_in l k) g ∙ sym e) x
+  by_set i k e (w ∷ v ∷ ws) g x = same_next i (ap (λ o. value_at o G i) e ∙ ap (λ l. value_in l i) g) (ap (λ o. link_at o G) e ∙ ap (λ l. open_link l k) g ∙ sym e) x
 
   by_link : (i : ℕ) (o : Option ℕ) → link i ≡ o → X (to value Var i) (to left link i) → X (to value Var (suc i)) (to left link (suc i))
   by_link i None e x = same_next i (ap (λ o. value_at o G i) e) (ap (λ o. link_at o G) e ∙ sym e) x

@@ -19,8 +19,8 @@ use Rattle.unify_core.specs.declared.Touch.TheVariants as touch
 use Rattle.unify_core.specs.Touches.{IsLinked, NamesLinked, IsPlain, IsSymbolic, IsRefuted}
 use Rattle.unify_core.specs.Touches as core_touches
 use Rattle.unify_core.specs.Reduces.{IsSameSize}
-use Rattle.unify_core.specs.Unified.{cells_equal}
-use Rattle.unify_core.specs.Unified as core
+use Rattle.unify_core.specs.Unifications.{cells_equal}
+use Rattle.unify_core.specs.Unifications as core
 use Rattle.machine_relation.specs.Heap.{after, applied_each, Of}
 use Rattle.machine_relation.specs.Store.{touched, posts, IsUnified, IsStored}
 use Rattle.machine_relation.proofs.Lemmas.{unify_applied, of_below, unified}

@@ -3,7 +3,7 @@ use Rattle.std.specs.Prelude.{◌≡◌, ◌⊎◌, ℕ, true, false, ◌==◌, 
 use Rattle.fd_language.specs.Family.{Family, has}
 use Rattle.fd_language.specs.Check.{fill_range}
 use Rattle.fd_language.specs.Needs.{need_of}
-use Rattle.fd_language.specs.Places.{range_places}
+use Rattle.fd_language.specs.Occurrences.{range_occurrences}
 use Rattle.fd_language.specs.Range.{Range, Indexical, reads}
 use Rattle.fd_language.specs.RangeRenaming.{rename_range}
 use Rattle.fd_language.specs.Term.{Term, Var, Int, Atom, Comp, Substitution}
@@ -34,7 +34,7 @@ target_offence (Comp f ts) = Some BadType
 
 -- the first offence: that of the target t, and then those of the range's variables, which are seen as the terms `see` gives
 abbrev pub cells_offence : Term → Substitution → Range → Option QueryFault
-cells_offence t see r = or_later (target_offence t) (first_offence (need_of r) see (range_places r))
+cells_offence t see r = or_later (target_offence t) (first_offence (need_of r) see (range_occurrences r))
 
 -- the range with its parameters' integers
 abbrev pub filled : Substitution → Range → Range

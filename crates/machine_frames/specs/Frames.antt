@@ -10,7 +10,7 @@ use Rattle.unify_core.specs.declared.Touch.{Touch}
 use Rattle.unify_core.specs.declared.Touch.TheVariants as touch
 use Rattle.machine_relation.specs.Store as store
 use Rattle.machine_relation.specs.Store.{IsStored}
-use Rattle.machine_relation.specs.Held.{Frame}
+use Rattle.machine_relation.specs.HeldBranches.{Frame}
 
 -- the variable of the store that a variable of the heap is
 abbrev pub link_of : Slot → Option ℕ

@@ -8,8 +8,8 @@ use Rattle.heap_cells.specs.declared.Cell.{Cell}
 use Rattle.heap_cells.specs.Cells.{Cells}
 use Rattle.heap_cells.specs.Terms.{Naming, IsOneToOne}
 use Rattle.unify_core.specs.declared.Touch.{Touch}
-use Rattle.unify_core.specs.Unified as core
-use Rattle.unify_core.specs.Unified.{cells_equal}
+use Rattle.unify_core.specs.Unifications as core
+use Rattle.unify_core.specs.Unifications.{cells_equal}
 use Rattle.machine_relation.specs.Store.{IsUnified}
 use Rattle.machine_frames.specs.Frames.{link_in, store_touches}
 use Rattle.machine_frames.specs.Naming.{full}

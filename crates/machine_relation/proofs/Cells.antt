@@ -7,7 +7,7 @@ use Rattle.fd_language.specs.Unifier.{Equation}
 use Rattle.fd_language.specs.Range.{Indexical}
 use Rattle.fd_model.specs.Goal.{Goal, Query, Branch}
 use Rattle.fd_model.proofs.Lemmas.{each_wider}
-use Rattle.machine_relation.specs.Held.{Frame, IsHeld}
+use Rattle.machine_relation.specs.HeldBranches.{Frame, IsHeld}
 use Rattle.machine_relation.specs.Machine.{IsAt}
 use Rattle.machine_relation.proofs.Placing.{Or, with_one}
 use Rattle.machine_relation.proofs.Holding.{held_cell, held_known, held_other}

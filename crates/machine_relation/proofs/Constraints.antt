@@ -23,7 +23,7 @@ use Rattle.machine_relation.specs.Heap.{applied_each, Of, EquationsOf}
 use Rattle.machine_relation.specs.Models.{HasModel, numbers}
 use Rattle.machine_relation.specs.Store.{Touch, posts, IsUnified}
 use Rattle.machine_relation.specs.Ahead.{offered, Spends}
-use Rattle.machine_relation.specs.Held.{Frame, IsAtRest, unified_frame}
+use Rattle.machine_relation.specs.HeldBranches.{Frame, IsAtRest, unified_frame}
 use Rattle.machine_relation.specs.Machine.{IsAt, Choice, Waits, Walks}
 use Rattle.machine_relation.specs.Rows.{rename_products, rename_expansion, rename_row, frame_row, AreJoined, joined_frame}
 use Rattle.machine_relation.proofs.Holding.{below_split}

@@ -16,7 +16,7 @@ use Rattle.fd_model.proofs.Lemmas.{only_member, closed_without}
 use Rattle.fd_language.proofs.Lemmas.{identity, universe_rising, rising_inside}
 use Rattle.machine_relation.specs.Store.{IsUnified}
 use Rattle.machine_relation.specs.Ahead.{Spends}
-use Rattle.machine_relation.specs.Held.{Frame, IsAtRest, unified_frame}
+use Rattle.machine_relation.specs.HeldBranches.{Frame, IsAtRest, unified_frame}
 use Rattle.machine_relation.specs.Machine.{values, Returns, first_frame}
 use Rattle.machine_relation.specs.Labelling.{labels, frame_label}
 use Rattle.machine_relation.specs.Rows.{frame_row, IsJoined, joined_frame}

@@ -20,8 +20,8 @@ use Rattle.fd_model.specs.Constraining.{arguments, expand}
 use Rattle.fd_language.proofs.Lemmas.{two, in_left, in_right}
 use Rattle.fd_model.specs.Labelling.{values_by}
 use Rattle.machine_relation.specs.Heap.{Of, AllOf}
-use Rattle.machine_relation.specs.Held.{Frame, IsHeld, IsAtRest}
-use Rattle.machine_relation.specs.Shown.{cell_set, cell_text}
+use Rattle.machine_relation.specs.HeldBranches.{Frame, IsHeld, IsAtRest}
+use Rattle.machine_relation.specs.AnswerTexts.{cell_set, cell_text}
 use Rattle.machine_relation.specs.Labelling.{Labelled, faults, done, labels, labelled, rename_labelled}
 use Rattle.machine_relation.specs.Rows.{rename_row}
 use Rattle.machine_relation.proofs.Cells.{place_from, place_old, place_above}

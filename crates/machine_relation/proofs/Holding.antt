@@ -12,7 +12,7 @@ use Rattle.fd_model.proofs.Lemmas.{posted_left, posted_right, named_left, named_
 use Rattle.machine_relation.specs.Heap.{after, applied_each, EquationsOf, Below}
 use Rattle.machine_relation.specs.Models.{HasModel, numbers}
 use Rattle.machine_relation.specs.Store.{Touch, posts, IsUnified, IsStored, ArePosted}
-use Rattle.machine_relation.specs.Held.{Frame, IsHeld, unified_frame}
+use Rattle.machine_relation.specs.HeldBranches.{Frame, IsHeld, unified_frame}
 use Rattle.fd_language.proofs.Lemmas.{number_for}
 use Rattle.machine_relation.proofs.Growing.{below_both, more_each}
 use Rattle.machine_relation.proofs.Models.{weaker, sure_grown, with_numbers, without_numbers}

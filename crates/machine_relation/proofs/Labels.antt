@@ -17,9 +17,9 @@ use Rattle.fd_model.specs.Labelling.{read_list, pick, values_by}
 use Rattle.machine_relation.specs.Heap.{Of}
 use Rattle.machine_relation.specs.Models.{numbers}
 use Rattle.machine_relation.specs.Ahead.{offered, Spends}
-use Rattle.machine_relation.specs.Held.{Frame, IsAtRest}
+use Rattle.machine_relation.specs.HeldBranches.{Frame, IsAtRest}
 use Rattle.machine_relation.specs.Machine.{Choice, values, Walks, Returns}
-use Rattle.machine_relation.specs.Shown.{cell_set}
+use Rattle.machine_relation.specs.AnswerTexts.{cell_set}
 use Rattle.machine_relation.specs.Labelling.{by_listing, by_picked, Labelled, labels, labelled, by_labelled, frame_label}
 use Rattle.fd_language.proofs.Lemmas.{after_is}
 use Rattle.machine_relation.proofs.Holding.{below_split}

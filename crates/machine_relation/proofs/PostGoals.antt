@@ -9,14 +9,14 @@ use Rattle.fd_language.specs.Range.{Range}
 use Rattle.fd_language.specs.RangeRenaming.{rename_range}
 use Rattle.fd_language.specs.Check.{fill_range}
 use Rattle.fd_language.specs.Needs.{need_of}
-use Rattle.fd_language.specs.Places.{Place, one_place, range_places}
+use Rattle.fd_language.specs.Occurrences.{Occurrence, one_occurrence, range_occurrences}
 use Rattle.fd_model.specs.Posting.{offence_at, or_later, first_offence, is_integer, integers_at, slot, slot_equations, integer_of, unless_offence, post_at, post}
 use Rattle.fd_language.specs.Variables.{TermBelow}
-use Rattle.fd_model.specs.Sound.{PlacesBelow, RangeBelow}
+use Rattle.fd_model.specs.Sound.{OccurrencesBelow, RangeBelow}
 use Rattle.fd_language.proofs.Lemmas.{two, each_map, filled_agree}
 use Rattle.machine_relation.proofs.Views.{SameKind}
 
-same_offence : (need : ℕ → Need) (p : Place) (t u : Term) → SameKind t u → offence_at need p t ≡ offence_at need p u
+same_offence : (need : ℕ → Need) (p : Occurrence) (t u : Term) → SameKind t u → offence_at need p t ≡ offence_at need p u
 same_offence need p (Var x) (Var y) k = refl
 same_offence need p (Var x) (Int w) k = absurd k
 same_offence need p (Var x) (Atom b) k = absurd k
@@ -54,11 +54,11 @@ same_integer (Comp f ts) (Atom b) k = absurd k
 same_integer (Comp f ts) (Comp g us) k = (refl, refl, λ e. absurd (true≢false (sym e)))
 
 module _ (n : ℕ) (look other : ℕ → Term) (kinds : (v : ℕ) → v < n → SameKind (look v) (other v)) where
-  same_first : (need : ℕ → Need) (ps : List Place) → PlacesBelow n ps → first_offence need look ps ≡ first_offence need other ps
+  same_first : (need : ℕ → Need) (ps : List Occurrence) → OccurrencesBelow n ps → first_offence need look ps ≡ first_offence need other ps
   same_first need [] b = refl
   same_first need (p ∷ ps) b = two or_later (same_offence need p (look p.variable) (other p.variable) (kinds p.variable b.0)) (same_first need ps b.1)
 
-  same_integers : (ps : List Place) (ys : List ℕ) → PlacesBelow n ps → integers_at look ps ys ≡ integers_at other ps ys
+  same_integers : (ps : List Occurrence) (ys : List ℕ) → OccurrencesBelow n ps → integers_at look ps ys ≡ integers_at other ps ys
   same_integers [] ys b = refl
   same_integers (p ∷ ps) ys b =
       ap (λ i. cond (p.parameter || (not i || has ys p.variable)) (integers_at look ps ys) (integers_at look ps (ys ++ p.variable ∷ []))) (same_integer (look p.variable) (other p.variable) (kinds p.variable b.0)).0
@@ -72,7 +72,7 @@ module _ (n : ℕ) (look other : ℕ → Term) (kinds : (v : ℕ) → v < n → 
   agree_one [] y a e = (e, tt)
   agree_one (x ∷ xs) y a e = (a.0, agree_one xs y a.1 e)
 
-  agree_integers : (ps : List Place) (ys : List ℕ) → PlacesBelow n ps → Agree ys → Agree (integers_at look ps ys)
+  agree_integers : (ps : List Occurrence) (ys : List ℕ) → OccurrencesBelow n ps → Agree ys → Agree (integers_at look ps ys)
   agree_integers [] ys b a = a
   agree_integers (p ∷ ps) ys b a = by_test p.parameter (is_integer (look p.variable)) (has ys p.variable) refl (agree_integers ps ys b.1 a) (agree_integers ps (ys ++ p.variable ∷ []) b.1)
     where
@@ -95,10 +95,10 @@ module _ (n : ℕ) (look other : ℕ → Term) (kinds : (v : ℕ) → v < n → 
   abbrev there : ℕ → ℤ
   there y = integer_of (other y)
 
-  same_range : (r : Range) → PlacesBelow n (range_places r) → fill_range here r ≡ fill_range there r
-  same_range r b = filled_agree here there r (each_map (λ (p : Place). p.variable < n) (λ p. here p.variable ≡ there p.variable) (λ p l. same_value p.variable l) (range_places r) b)
+  same_range : (r : Range) → OccurrencesBelow n (range_occurrences r) → fill_range here r ≡ fill_range there r
+  same_range r b = filled_agree here there r (each_map (λ (p : Occurrence). p.variable < n) (λ p. here p.variable ≡ there p.variable) (λ p l. same_value p.variable l) (range_occurrences r) b)
 
-  same_at : (ps : List Place) (x : ℕ) (es : List Equation) (m : ℕ) (r : Range) → PlacesBelow n ps → RangeBelow n r → post_at look ps x es m r ≡ post_at other ps x es m r
+  same_at : (ps : List Occurrence) (x : ℕ) (es : List Equation) (m : ℕ) (r : Range) → OccurrencesBelow n ps → RangeBelow n r → post_at look ps x es m r ≡ post_at other ps x es m r
   same_at ps x es m r b c =
       let ys : integers_at look ps [] ≡ integers_at other ps [] = same_integers ps [] b in
       let es' : slot_equations look m (integers_at look ps []) ≡ slot_equations other m (integers_at look ps []) = same_slots m (integers_at look ps []) (agree_integers ps [] b tt) in
@@ -108,7 +108,7 @@ module _ (n : ℕ) (look other : ℕ → Term) (kinds : (v : ℕ) → v < n → 
 
   -- what `T in r` posts by the heap's terms is what it posts by the seen terms, and its fault is the same
   pub post_same : (t : Term) (r : Range) (m : ℕ) → TermBelow n t → RangeBelow n r → post look t r m ≡ post other t r m
-  post_same (Var v) r m b c = same_at (one_place v false ++ range_places r) v [] m r (b, c) c
-  post_same (Int z) r m b c = same_at (range_places r) m (record { left = Var m; right = Int z } ∷ []) (suc m) r c c
+  post_same (Var v) r m b c = same_at (one_occurrence v false ++ range_occurrences r) v [] m r (b, c) c
+  post_same (Int z) r m b c = same_at (range_occurrences r) m (record { left = Var m; right = Int z } ∷ []) (suc m) r c c
   post_same (Atom a) r m b c = refl
   post_same (Comp f ts) r m b c = refl

@@ -9,7 +9,7 @@ use Rattle.fd_language.specs.Range.{Range, Span, One, Dom, Union, Inter, Outside
 use Rattle.fd_language.specs.RangeRenaming.{rename_expr, rename_range, renaming}
 use Rattle.fd_language.specs.Check.{fill_range, filling}
 use Rattle.fd_language.specs.Needs.{is_literal, quotient_asks, expr_asks, over_asks, asks, stronger, strongest, need_of}
-use Rattle.fd_language.specs.Places.{Place, place_at, range_places}
+use Rattle.fd_language.specs.Occurrences.{Occurrence, occurrence_at, range_occurrences}
 use Rattle.fd_language.proofs.Lemmas.{two, range_leaves, renamed_leaves, new_twice}
 
 -- functions that agree everywhere are one
@@ -19,8 +19,8 @@ functions h = λ i x. h x i
 abbrev rename_ask : (ℕ → ℕ) → ℕ × Need → ℕ × Need
 rename_ask g d = (g d.0, d.1)
 
-abbrev rename_place : (ℕ → ℕ) → Place → Place
-rename_place g p = record { variable = g p.variable; parameter = p.parameter }
+abbrev rename_occurrence : (ℕ → ℕ) → Occurrence → Occurrence
+rename_occurrence g p = record { variable = g p.variable; parameter = p.parameter }
 
 -- g gives different variables different names
 module _ (g : ℕ → ℕ) (apart : (v w : ℕ) → g v ≡ g w → v ≡ w) where
@@ -30,12 +30,12 @@ module _ (g : ℕ → ℕ) (apart : (v w : ℕ) → g v ≡ g w → v ≡ w) whe
     | inr e ↦ elim (cases_Bool (g v == g w)) [ inl k ↦ absurd (true≢false (sym (eq-eqb v w (apart v w (eqb-true (g v) (g w) k))) ∙ e)) | inr k ↦ k ∙ sym e ]
   ]
 
-  -- places
-  pub places_renamed : (r : Range) → range_places (rename_range g r) ≡ map (rename_place g) (range_places r)
-  places_renamed r = renamed_leaves place_at g r ∙ range_leaves (λ l. place_at (leaf l.role (g l.variable))) r ∙ of_leaves (leaves r) ∙ ap (map (rename_place g)) (sym (range_leaves place_at r)) where
-    of_leaves : (ls : List Leaf) → flat_map (λ l. place_at (leaf l.role (g l.variable))) ls ≡ map (rename_place g) (flat_map place_at ls)
+  -- occurrences
+  pub occurrences_renamed : (r : Range) → range_occurrences (rename_range g r) ≡ map (rename_occurrence g) (range_occurrences r)
+  occurrences_renamed r = renamed_leaves occurrence_at g r ∙ range_leaves (λ l. occurrence_at (leaf l.role (g l.variable))) r ∙ of_leaves (leaves r) ∙ ap (map (rename_occurrence g)) (sym (range_leaves occurrence_at r)) where
+    of_leaves : (ls : List Leaf) → flat_map (λ l. occurrence_at (leaf l.role (g l.variable))) ls ≡ map (rename_occurrence g) (flat_map occurrence_at ls)
     of_leaves [] = refl
-    of_leaves (l ∷ ls) = ap (λ ps. place_at (leaf l.role (g l.variable)) ++ ps) (of_leaves ls)
+    of_leaves (l ∷ ls) = ap (λ ps. occurrence_at (leaf l.role (g l.variable)) ++ ps) (of_leaves ls)
 
   -- needs
   literal_renamed : (e : Expr) → is_literal (rename_expr g e) ≡ is_literal e

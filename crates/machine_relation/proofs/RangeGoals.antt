@@ -11,7 +11,7 @@ use Rattle.fd_language.specs.Range.{Range, Indexical, Leaf, Role, leaf, a_parame
 use Rattle.fd_language.specs.RangeRenaming.{rename_range}
 use Rattle.fd_language.specs.Check.{fill_range, filling}
 use Rattle.fd_language.specs.Needs.{need_of}
-use Rattle.fd_language.specs.Places.{Place, one_place, place_at, range_places}
+use Rattle.fd_language.specs.Occurrences.{Occurrence, one_occurrence, occurrence_at, range_occurrences}
 use Rattle.fd_model.specs.Posting.{offence_at, or_later, first_offence, is_integer, integers_at, slot, slot_equations, integer_of, unless_offence, post_at, post, posts}
 use Rattle.fd_model.specs.LinearRows.{Expansion}
 use Rattle.fd_model.specs.Constraining.{equations}
@@ -19,7 +19,7 @@ use Rattle.fd_model.specs.Goal.{Branch, Goal}
 use Rattle.fd_model.specs.Children.{by_post, by_constraint}
 use Rattle.fd_model.specs.Closed.{constrained}
 use Rattle.fd_language.specs.Variables.{TermBelow}
-use Rattle.fd_model.specs.Sound.{PlacesBelow, RangeBelow}
+use Rattle.fd_model.specs.Sound.{OccurrencesBelow, RangeBelow}
 use Rattle.fd_language.proofs.Lemmas.{two, has_either, in_left, in_right, reads_map, range_leaves, from_new, new_leaves, same_leaves}
 use Rattle.fd_model.proofs.Lemmas.{slot_out, slot_low, slot_high, map_has}
 use Rattle.machine_relation.proofs.Numbering.{AreConsecutive}
@@ -30,38 +30,38 @@ equations_both : (xs ys : List (ℕ × ℤ)) → equations xs ++ equations ys �
 equations_both [] ys = refl
 equations_both (x ∷ xs) ys = ap (λ l. record { left = Var x.0; right = Int x.1 } ∷ l) (equations_both xs ys)
 
--- the variables that stand at the places, and not as parameters
-abbrev pub plain : List Place → List ℕ
+-- the variables that occur, and not as parameters
+abbrev pub plain : List Occurrence → List ℕ
 plain [] = []
 plain (p ∷ ps) = cond p.parameter (plain ps) (p.variable ∷ plain ps)
 
-plain_both : (ps qs : List Place) → plain (ps ++ qs) ≡ plain ps ++ plain qs
+plain_both : (ps qs : List Occurrence) → plain (ps ++ qs) ≡ plain ps ++ plain qs
 plain_both [] qs = refl
 plain_both (p ∷ ps) qs = by_test p.parameter (plain_both ps qs) where
   by_test : (b : Bool) → plain (ps ++ qs) ≡ plain ps ++ plain qs → cond b (plain (ps ++ qs)) (p.variable ∷ plain (ps ++ qs)) ≡ cond b (plain ps) (p.variable ∷ plain ps) ++ plain qs
   by_test true e = e
   by_test false e = ap (λ l. p.variable ∷ l) e
 
-plain_first : (p : Place) (ps : List Place) (y : ℕ) → has (plain (p ∷ ps)) y ≡ true → ((p.variable ≡ y) × (p.parameter ≡ false)) ⊎ (has (plain ps) y ≡ true)
+plain_first : (p : Occurrence) (ps : List Occurrence) (y : ℕ) → has (plain (p ∷ ps)) y ≡ true → ((p.variable ≡ y) × (p.parameter ≡ false)) ⊎ (has (plain ps) y ≡ true)
 plain_first p ps y h = by_test p.parameter refl h where
   by_test : (b : Bool) → p.parameter ≡ b → has (cond b (plain ps) (p.variable ∷ plain ps)) y ≡ true → ((p.variable ≡ y) × (p.parameter ≡ false)) ⊎ (has (plain ps) y ≡ true)
   by_test true e h = inr h
   by_test false e h = elim (or_cases (p.variable == y) (has (plain ps) y) h) [ inl i ↦ inl (eqb-true p.variable y i, e) | inr i ↦ inr i ]
 
-plain_leaves : (ls : List Leaf) → plain (flat_map place_at ls) ≡ flat_map (λ l. plain (place_at l)) ls
+plain_leaves : (ls : List Leaf) → plain (flat_map occurrence_at ls) ≡ flat_map (λ l. plain (occurrence_at l)) ls
 plain_leaves [] = refl
-plain_leaves (l ∷ ls) = plain_both (place_at l) (flat_map place_at ls) ∙ ap (λ ys. plain (place_at l) ++ ys) (plain_leaves ls)
+plain_leaves (l ∷ ls) = plain_both (occurrence_at l) (flat_map occurrence_at ls) ∙ ap (λ ys. plain (occurrence_at l) ++ ys) (plain_leaves ls)
 
 -- they are what a filled range reads
-pub range_plain : (f : ℕ → ℤ) (r : Range) → reads (fill_range f r) ≡ plain (range_places r)
+pub range_plain : (f : ℕ → ℤ) (r : Range) → reads (fill_range f r) ≡ plain (range_occurrences r)
 range_plain f r =
     new_leaves read_at (filling f) r
-    ∙ same_leaves (λ l. from_new read_at (filling f) l.role l.variable) (λ l. plain (place_at l)) by_role r
-    ∙ range_leaves (λ l. plain (place_at l)) r
+    ∙ same_leaves (λ l. from_new read_at (filling f) l.role l.variable) (λ l. plain (occurrence_at l)) by_role r
+    ∙ range_leaves (λ l. plain (occurrence_at l)) r
     ∙ sym (plain_leaves (leaves r))
-    ∙ ap plain (sym (range_leaves place_at r))
+    ∙ ap plain (sym (range_leaves occurrence_at r))
   where
-    by_role : (k : Role) (y : ℕ) → from_new read_at (filling f) k y ≡ plain (place_at (leaf k y))
+    by_role : (k : Role) (y : ℕ) → from_new read_at (filling f) k y ≡ plain (occurrence_at (leaf k y))
     by_role a_parameter y = refl
     by_role a_min y = refl
     by_role a_max y = refl
@@ -82,14 +82,14 @@ module _ (look : Substitution) where
   skipped p a b h = grind arith
 
   -- what is gathered are integers
-  pub only_integers : (ps : List Place) (ys : List ℕ) → Integers ys → Integers (integers_at look ps ys)
+  pub only_integers : (ps : List Occurrence) (ys : List ℕ) → Integers ys → Integers (integers_at look ps ys)
   only_integers [] ys h = h
   only_integers (p ∷ ps) ys h = elim (cases_Bool (p.parameter || (not (is_integer (look p.variable)) || has ys p.variable))) [
     | inl e ↦ rw e (only_integers ps ys h)
     | inr e ↦ rw e (only_integers ps (ys ++ p.variable ∷ []) (integers_more ys p.variable h (skipped p.parameter (is_integer (look p.variable)) (has ys p.variable) e)))
   ]
 
-  integers_stay : (ps : List Place) (ys : List ℕ) (y : ℕ) → has ys y ≡ true → has (integers_at look ps ys) y ≡ true
+  integers_stay : (ps : List Occurrence) (ys : List ℕ) (y : ℕ) → has ys y ≡ true → has (integers_at look ps ys) y ≡ true
   integers_stay [] ys y h = h
   integers_stay (p ∷ ps) ys y h = elim (cases_Bool (p.parameter || (not (is_integer (look p.variable)) || has ys p.variable))) [
     | inl e ↦ rw e (integers_stay ps ys y h)
@@ -100,7 +100,7 @@ module _ (look : Substitution) where
   already p i h e a b = grind arith
 
   -- and all integers that stand so are gathered
-  pub all_integers : (ps : List Place) (ys : List ℕ) (y : ℕ) → has (plain ps) y ≡ true → is_integer (look y) ≡ true → has (integers_at look ps ys) y ≡ true
+  pub all_integers : (ps : List Occurrence) (ys : List ℕ) (y : ℕ) → has (plain ps) y ≡ true → is_integer (look y) ≡ true → has (integers_at look ps ys) y ≡ true
   all_integers [] ys y s i = absurd (true≢false (sym s))
   all_integers (p ∷ ps) ys y s i = elim (plain_first p ps y s) [
     | inl s ↦
@@ -135,20 +135,20 @@ module _ (look : Substitution) where
   unless_same b rest (Some f) p j es ds e = refl
   unless_same b rest None p j es ds e = ap (λ l. by_post b rest (posts p j l)) e
 
-  at_row_same : (b : Branch) (rest : List Goal) (ps : List Place) (x : ℕ) (es : List (ℕ × ℤ)) (n : ℕ) (r : Range) → by_post b rest (post_at look ps x (equations es) n r) ≡ by_constraint b rest (post_row_at look ps x es n r)
+  at_row_same : (b : Branch) (rest : List Goal) (ps : List Occurrence) (x : ℕ) (es : List (ℕ × ℤ)) (n : ℕ) (r : Range) → by_post b rest (post_at look ps x (equations es) n r) ≡ by_constraint b rest (post_row_at look ps x es n r)
   at_row_same b rest ps x es n r =
       let ys = integers_at look ps [] in
       unless_same b rest (first_offence (need_of r) look ps) (record { target = slot n ys x; range = rename_range (slot n ys) (fill_range (λ y. integer_of (look y)) r) }) (n + length ys) (equations es ++ slot_equations look n ys) (es ++ slot_numbers look n ys)
       (ap (λ l. equations es ++ l) (slots_numbered n ys (only_integers ps [] no_integers)) ∙ equations_both es (slot_numbers look n ys))
 
   pub post_as_row : (b : Branch) (rest : List Goal) (t : Term) (r : Range) (n : ℕ) → by_post b rest (post look t r n) ≡ by_constraint b rest (post_row look t r n)
-  post_as_row b rest (Var v) r n = at_row_same b rest (one_place v false ++ range_places r) v [] n r
-  post_as_row b rest (Int z) r n = at_row_same b rest (range_places r) n ((n, z) ∷ []) (suc n) r
+  post_as_row b rest (Var v) r n = at_row_same b rest (one_occurrence v false ++ range_occurrences r) v [] n r
+  post_as_row b rest (Int z) r n = at_row_same b rest (range_occurrences r) n ((n, z) ∷ []) (suc n) r
   post_as_row b rest (Atom a) r n = refl
   post_as_row b rest (Comp f ts) r n = refl
 
   -- Where nothing offends, a variable that stands not as a parameter is open or an integer.
-  no_offence : (need : ℕ → Need) (p : Place) (t : Term) → p.parameter ≡ false → offence_at need p t ≡ None → is_integer t ≡ false → (d : ℕ) × (t ≡ Var d)
+  no_offence : (need : ℕ → Need) (p : Occurrence) (t : Term) → p.parameter ≡ false → offence_at need p t ≡ None → is_integer t ≡ false → (d : ℕ) × (t ≡ Var d)
   no_offence need p (Var d) e h i = (d, refl)
   no_offence need p (Int z) e h i = absurd (true≢false i)
   no_offence need p (Atom a) e h i = absurd (cc)
@@ -158,7 +158,7 @@ module _ (look : Substitution) where
   none_both (Some x) b h = absurd (cc)
   none_both None b h = (refl, h)
 
-  pub plain_open : (need : ℕ → Need) (ps : List Place) → first_offence need look ps ≡ None → (y : ℕ) → has (plain ps) y ≡ true → is_integer (look y) ≡ false → (d : ℕ) × (look y ≡ Var d)
+  pub plain_open : (need : ℕ → Need) (ps : List Occurrence) → first_offence need look ps ≡ None → (y : ℕ) → has (plain ps) y ≡ true → is_integer (look y) ≡ false → (d : ℕ) × (look y ≡ Var d)
   plain_open need [] h y s i = absurd (true≢false (sym s))
   plain_open need (p ∷ ps) h y s i =
       let two = none_both (offence_at need p (look p.variable)) (first_offence need look ps) h in
@@ -167,7 +167,7 @@ module _ (look : Substitution) where
         | inr s ↦ plain_open need ps two.1 y s i
       ]
 
-  plain_low : (n : ℕ) (ps : List Place) → PlacesBelow n ps → (y : ℕ) → has (plain ps) y ≡ true → y < n
+  plain_low : (n : ℕ) (ps : List Occurrence) → OccurrencesBelow n ps → (y : ℕ) → has (plain ps) y ≡ true → y < n
   plain_low n [] b y s = absurd (true≢false (sym s))
   plain_low n (p ∷ ps) b y s = elim (plain_first p ps y s) [ inl s ↦ subst (λ v. v < n) s.0 b.0 | inr s ↦ plain_low n ps b.1 y s ]
 
@@ -186,7 +186,7 @@ module _ (look : Substitution) where
   length_numbers n [] = refl
   length_numbers n (y ∷ ys) = ap suc (length_numbers (suc n) ys)
 
-  module _ (n m : ℕ) (l : n ≤ m) (ps : List Place) (below : PlacesBelow n ps) (need : ℕ → Need) (none : first_offence need look ps ≡ None) where
+  module _ (n m : ℕ) (l : n ≤ m) (ps : List Occurrence) (below : OccurrencesBelow n ps) (need : ℕ → Need) (none : first_offence need look ps ≡ None) where
     abbrev gathered : List ℕ
     gathered = integers_at look ps []
 
@@ -201,10 +201,10 @@ module _ (look : Substitution) where
     ]
 
     -- the reads of the range that is posted
-    read_kind : (f : ℕ → ℤ) (r : Range) → ((y : ℕ) → has (plain (range_places r)) y ≡ true → has (plain ps) y ≡ true) → (v : ℕ) → has (reads (rename_range (slot m gathered) (fill_range f r))) v ≡ true
+    read_kind : (f : ℕ → ℤ) (r : Range) → ((y : ℕ) → has (plain (range_occurrences r)) y ≡ true → has (plain ps) y ≡ true) → (v : ℕ) → has (reads (rename_range (slot m gathered) (fill_range f r))) v ≡ true
         → ((v < n) × ((d : ℕ) × (look v ≡ Var d))) ⊎ ((n ≤ v) × (v < m + length gathered))
     read_kind f r sub v h =
-        let y = map_has (slot m gathered) (plain (range_places r)) v (subst (λ l. has l v ≡ true) (reads_map (slot m gathered) (fill_range f r) ∙ ap (map (slot m gathered)) (range_plain f r)) h) in
+        let y = map_has (slot m gathered) (plain (range_occurrences r)) v (subst (λ l. has l v ≡ true) (reads_map (slot m gathered) (fill_range f r) ∙ ap (map (slot m gathered)) (range_plain f r)) h) in
         subst (λ w. ((w < n) × ((d : ℕ) × (look w ≡ Var d))) ⊎ ((n ≤ w) × (w < m + length gathered))) y.2 (slot_kind y.0 (sub y.0 y.1))
 
   no_row : (e : QueryFault) (x : Expansion) → ◌≡◌ {A = Result Expansion QueryFault} (Err e) (Ok x) → ⊥
@@ -219,27 +219,27 @@ module _ (look : Substitution) where
     | inr e ↦ inr (elim (has_either (reads p.range) [] v e) [ inl g ↦ g | inr g ↦ absurd (true≢false (sym g)) ])
   ]
 
-  var_row : (n : ℕ) (v : ℕ) (r : Range) → v < n → RangeBelow n r → (o : Option QueryFault) → first_offence (need_of r) look (one_place v false ++ range_places r) ≡ o → (x : Expansion)
-      → unless_fault o (record { equated = [] ++ slot_numbers look n (integers_at look (one_place v false ++ range_places r) []); ranges = record { target = slot n (integers_at look (one_place v false ++ range_places r) []) v; range = rename_range (slot n (integers_at look (one_place v false ++ range_places r) [])) (fill_range (λ y. integer_of (look y)) r) } ∷ []; fresh = n + length (integers_at look (one_place v false ++ range_places r) []) }) ≡ Ok x → IsRangeRow n x
+  var_row : (n : ℕ) (v : ℕ) (r : Range) → v < n → RangeBelow n r → (o : Option QueryFault) → first_offence (need_of r) look (one_occurrence v false ++ range_occurrences r) ≡ o → (x : Expansion)
+      → unless_fault o (record { equated = [] ++ slot_numbers look n (integers_at look (one_occurrence v false ++ range_occurrences r) []); ranges = record { target = slot n (integers_at look (one_occurrence v false ++ range_occurrences r) []) v; range = rename_range (slot n (integers_at look (one_occurrence v false ++ range_occurrences r) [])) (fill_range (λ y. integer_of (look y)) r) } ∷ []; fresh = n + length (integers_at look (one_occurrence v false ++ range_occurrences r) []) }) ≡ Ok x → IsRangeRow n x
   var_row n v r l b (Some e) is x h = absurd (no_row e x h)
   var_row n v r l b None is x h =
-      let ps = one_place v false ++ range_places r in
+      let ps = one_occurrence v false ++ range_occurrences r in
       let ys = integers_at look ps [] in
       subst (IsRangeRow n) (is_row _ x h) (record {
         grows = omega arith;
         named = λ w k. elim (one_named (record { target = slot n ys v; range = rename_range (slot n ys) (fill_range (λ y. integer_of (look y)) r) }) w k) [
-          | inl e ↦ subst (λ u. ((u < n) × ((d : ℕ) × (look u ≡ Var d))) ⊎ ((n ≤ u) × (u < n + length ys))) e (slot_kind n n (omega arith) ps (l, b) (need_of r) is v (or_left (v == v) (has (plain (range_places r)) v) (eq-eqb v v refl)))
-          | inr e ↦ read_kind n n (omega arith) ps (l, b) (need_of r) is (λ y. integer_of (look y)) r (λ y s. or_right (v == y) (has (plain (range_places r)) y) s) w e
+          | inl e ↦ subst (λ u. ((u < n) × ((d : ℕ) × (look u ≡ Var d))) ⊎ ((n ≤ u) × (u < n + length ys))) e (slot_kind n n (omega arith) ps (l, b) (need_of r) is v (or_left (v == v) (has (plain (range_occurrences r)) v) (eq-eqb v v refl)))
+          | inr e ↦ read_kind n n (omega arith) ps (l, b) (need_of r) is (λ y. integer_of (look y)) r (λ y s. or_right (v == y) (has (plain (range_occurrences r)) y) s) w e
         ];
         equated = consecutive_numbers n ys;
         fresh = ap (λ k. n + k) (sym (length_numbers n ys));
       })
 
-  int_row : (n : ℕ) (z : ℤ) (r : Range) → RangeBelow n r → (o : Option QueryFault) → first_offence (need_of r) look (range_places r) ≡ o → (x : Expansion)
-      → unless_fault o (record { equated = (n, z) ∷ slot_numbers look (suc n) (integers_at look (range_places r) []); ranges = record { target = slot (suc n) (integers_at look (range_places r) []) n; range = rename_range (slot (suc n) (integers_at look (range_places r) [])) (fill_range (λ y. integer_of (look y)) r) } ∷ []; fresh = suc n + length (integers_at look (range_places r) []) }) ≡ Ok x → IsRangeRow n x
+  int_row : (n : ℕ) (z : ℤ) (r : Range) → RangeBelow n r → (o : Option QueryFault) → first_offence (need_of r) look (range_occurrences r) ≡ o → (x : Expansion)
+      → unless_fault o (record { equated = (n, z) ∷ slot_numbers look (suc n) (integers_at look (range_occurrences r) []); ranges = record { target = slot (suc n) (integers_at look (range_occurrences r) []) n; range = rename_range (slot (suc n) (integers_at look (range_occurrences r) [])) (fill_range (λ y. integer_of (look y)) r) } ∷ []; fresh = suc n + length (integers_at look (range_occurrences r) []) }) ≡ Ok x → IsRangeRow n x
   int_row n z r b (Some e) is x h = absurd (no_row e x h)
   int_row n z r b None is x h =
-      let ps = range_places r in
+      let ps = range_occurrences r in
       let ys = integers_at look ps [] in
       subst (IsRangeRow n) (is_row _ x h) (record {
         grows = omega arith;
@@ -256,7 +256,7 @@ module _ (look : Substitution) where
 
   -- what a goal's row is like
   pub range_row : (t : Term) (r : Range) (n : ℕ) → TermBelow n t → RangeBelow n r → (x : Expansion) → post_row look t r n ≡ Ok x → IsRangeRow n x
-  range_row (Var v) r n b c x h = var_row n v r b c (first_offence (need_of r) look (one_place v false ++ range_places r)) refl x h
-  range_row (Int z) r n b c x h = int_row n z r c (first_offence (need_of r) look (range_places r)) refl x h
+  range_row (Var v) r n b c x h = var_row n v r b c (first_offence (need_of r) look (one_occurrence v false ++ range_occurrences r)) refl x h
+  range_row (Int z) r n b c x h = int_row n z r c (first_offence (need_of r) look (range_occurrences r)) refl x h
   range_row (Atom a) r n b c x h = absurd (no_row _ x h)
   range_row (Comp f ts) r n b c x h = absurd (no_row _ x h)

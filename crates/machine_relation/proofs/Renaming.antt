@@ -4,10 +4,10 @@ use Rattle.fd_language.specs.Term.{Term, Terms, Var, Int, Atom, Comp, no_terms, 
 use Rattle.fd_language.specs.Range.{Range}
 use Rattle.fd_language.specs.RangeRenaming.{rename_range, renaming}
 use Rattle.fd_model.specs.Renaming.{rename_term, rename_goal, rename_goals}
-use Rattle.fd_language.specs.Places.{Place, range_places}
+use Rattle.fd_language.specs.Occurrences.{Occurrence, range_occurrences}
 use Rattle.fd_model.specs.Goal.{Goal, Goals, no_goals, goal, True, Fail, Unify, Post, Constrain, Label, Call, Either, Builtin}
 use Rattle.fd_language.specs.Variables.{TermBelow, TermsBelow}
-use Rattle.fd_model.specs.Sound.{PlacesBelow, GoalBelow, GoalsBelow, EachBelow}
+use Rattle.fd_model.specs.Sound.{OccurrencesBelow, GoalBelow, GoalsBelow, EachBelow}
 use Rattle.fd_language.proofs.Lemmas.{two, after_is, each_map, new_twice, renamed_agree}
 use Rattle.machine_relation.specs.Heap.{Of, AllOf}
 use Rattle.machine_relation.proofs.Growing.{agree}
@@ -64,8 +64,8 @@ module _ (n : ℕ) (f g : ℕ → ℕ) (h : (x : ℕ) → x < n → f x ≡ g x)
   pub term_agree : (t : Term) → TermBelow n t → rename_term f t ≡ rename_term g t
   term_agree t b = agree (λ x. x < n) (λ x. Var (f x)) (λ x. Var (g x)) (λ x l. ap Var (h x l)) t (of_below n t b)
 
-  pub range_agree : (r : Range) → PlacesBelow n (range_places r) → rename_range f r ≡ rename_range g r
-  range_agree r b = renamed_agree f g r (each_map (λ (p : Place). p.variable < n) (λ p. f p.variable ≡ g p.variable) (λ p l. h p.variable l) (range_places r) b)
+  pub range_agree : (r : Range) → OccurrencesBelow n (range_occurrences r) → rename_range f r ≡ rename_range g r
+  range_agree r b = renamed_agree f g r (each_map (λ (p : Occurrence). p.variable < n) (λ p. f p.variable ≡ g p.variable) (λ p l. h p.variable l) (range_occurrences r) b)
 
   mutual
     goal_agree : (a : Goal) → GoalBelow n a → rename_goal f a ≡ rename_goal g a

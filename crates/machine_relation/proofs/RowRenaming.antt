@@ -15,7 +15,7 @@ use Rattle.fd_language.specs.RangeRenaming.{rename_expr, rename_range, rename_in
 use Rattle.fd_model.specs.Linear.{Comparison, IsEqual, IsOther, IsAtMost, scaled, of_both, of_one, Linear, collect, normal_form, comparison}
 use Rattle.fd_model.specs.LinearRows.{Expansion, by_sign, minus_products, low, high, exact, row, row_by_sign, rows_behind, compares, no_number, linear_rows}
 use Rattle.fd_model.specs.Members.{Member, Open, Known, as_member, as_integer, walk, place_of, after, placed, fresh_after, equated_from}
-use Rattle.fd_model.specs.ListRows.{differs, against, pairwise, different_ranges, different_rows, elements_at, numbers_of, joined, union_of, element_ranges, element_rows, counts, units, atmost_rows}
+use Rattle.fd_model.specs.ListRows.{differs, against, pairwise, different_ranges, different_rows, elements_at, index_ranges, union_onto, union_of, element_ranges, element_rows, counts, units, atmost_rows}
 use Rattle.fd_model.specs.Constraining.{compare, pair, expand}
 use Rattle.fd_language.proofs.Lemmas.{two, in_left, in_right}
 use Rattle.fd_model.proofs.Lemmas.{first_member}
@@ -111,11 +111,11 @@ module _ (f : ℕ → ℕ) where
   elements_renamed i k [] = refl
   elements_renamed i k (z ∷ zs) = let more = elements_renamed i (suc k) zs in cc
 
-  numbers_renamed : (x k : ℕ) (zs : List ℤ) → numbers_of (f x) k zs ≡ map (rename_range f) (numbers_of x k zs)
+  numbers_renamed : (x k : ℕ) (zs : List ℤ) → index_ranges (f x) k zs ≡ map (rename_range f) (index_ranges x k zs)
   numbers_renamed x k [] = refl
   numbers_renamed x k (z ∷ zs) = let more = numbers_renamed x (suc k) zs in cc
 
-  joined_renamed : (r : Range) (rs : List Range) → joined (rename_range f r) (map (rename_range f) rs) ≡ rename_range f (joined r rs)
+  joined_renamed : (r : Range) (rs : List Range) → union_onto (rename_range f r) (map (rename_range f) rs) ≡ rename_range f (union_onto r rs)
   joined_renamed r [] = refl
   joined_renamed r (q ∷ qs) = joined_renamed (Union r q) qs
 
@@ -127,7 +127,7 @@ module _ (f : ℕ → ℕ) where
   element_ranges_renamed i zs x =
       two (λ a b. record { target = f x; range = a } ∷ record { target = f i; range = b } ∷ [])
       (ap union_of (elements_renamed i 1 zs) ∙ union_renamed (elements_at i 1 zs))
-      (ap union_of (numbers_renamed x 1 zs) ∙ union_renamed (numbers_of x 1 zs))
+      (ap union_of (numbers_renamed x 1 zs) ∙ union_renamed (index_ranges x 1 zs))
 
   -- from here on fresh variables follow one another as they did
   module _ (n : ℕ) (follows : (m : ℕ) → n ≤ m → f (suc m) ≡ suc (f m)) where

@@ -14,7 +14,7 @@ use Rattle.machine_relation.specs.Heap.{applied_each, EquationsOf}
 use Rattle.machine_relation.specs.Models.{HasModel}
 use Rattle.machine_relation.specs.Store.{Touch, IsUnified, ArePosted}
 use Rattle.machine_relation.specs.Ahead.{Spends}
-use Rattle.machine_relation.specs.Held.{Frame, IsAtRest, unified_frame}
+use Rattle.machine_relation.specs.HeldBranches.{Frame, IsAtRest, unified_frame}
 use Rattle.machine_relation.specs.Machine.{IsAt, values, Choice, Waits, Walks, Returns}
 use Rattle.machine_relation.proofs.Cells.{place_from, more_cells, more_fresh, at_more}
 use Rattle.machine_relation.proofs.Steps.{GivesAll, Speaks, live_one, live_choice}

@@ -9,7 +9,7 @@ use Rattle.fd_model.specs.Seen.{IsConsistent, IsView, seen, set_at}
 use Rattle.fd_model.specs.Models.{IsModel}
 use Rattle.fd_model.proofs.Lemmas.{closed_either, split_both}
 use Rattle.machine_relation.specs.Models.{numbers}
-use Rattle.machine_relation.specs.Held.{Frame, IsHeld, IsAtRest}
+use Rattle.machine_relation.specs.HeldBranches.{Frame, IsHeld, IsAtRest}
 use Rattle.machine_relation.proofs.Models.{with_numbers, without_numbers}
 use Rattle.machine_relation.proofs.Storing.{same_sets}
 use Rattle.machine_relation.proofs.Seeing.{seen_from_look, look_from_seen}

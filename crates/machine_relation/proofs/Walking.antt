@@ -13,7 +13,7 @@ use Rattle.machine_relation.specs.Heap.{applied_each, EquationsOf}
 use Rattle.machine_relation.specs.Models.{HasModel}
 use Rattle.machine_relation.specs.Store.{Touch, IsUnified}
 use Rattle.machine_relation.specs.Ahead.{IsFit}
-use Rattle.machine_relation.specs.Held.{Frame, unified_frame}
+use Rattle.machine_relation.specs.HeldBranches.{Frame, unified_frame}
 use Rattle.machine_relation.specs.Machine.{IsAt}
 use Rattle.fd_language.proofs.Lemmas.{after_is}
 use Rattle.machine_relation.proofs.Models.{model_from}

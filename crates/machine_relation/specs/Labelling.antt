@@ -8,8 +8,8 @@ use Rattle.fd_model.specs.Labelling.{read_list, pick, values_by}
 use Rattle.fd_language.specs.Family.{Family}
 use Rattle.fd_model.specs.Goal.{Goal, Branch}
 use Rattle.fd_model.specs.Children.{Offer, Faults, Gives, with_goals, by_value}
-use Rattle.machine_relation.specs.Held.{Frame}
-use Rattle.machine_relation.specs.Shown.{cell_set}
+use Rattle.machine_relation.specs.HeldBranches.{Frame}
+use Rattle.machine_relation.specs.AnswerTexts.{cell_set}
 
 -- the picked variable with its values, none where no member is open, or the list's fault
 pub data Labelled : Type 0 where

@@ -7,7 +7,7 @@ use Rattle.fd_model.specs.Sound.{EachBelow, ClausesScoped}
 use Rattle.fd_model.specs.Children.{by_clauses, by_value}
 use Rattle.machine_relation.specs.Ahead.{IsLive, IsBack}
 use Rattle.machine_relation.specs.Next.{is_final}
-use Rattle.machine_relation.specs.Held.{Frame, IsHeld}
+use Rattle.machine_relation.specs.HeldBranches.{Frame, IsHeld}
 
 -- Goals over cells, with a frame, stand for a branch. place gives each variable of the branch a cell of its own, and those of the query have the first ones.
 pub record IsAt (M : ℕ) (q : Query) (work : List Goal) (f : Frame) (b : Branch) : Type 0 where

@@ -8,13 +8,13 @@ use Rattle.fd_language.specs.Family.{has}
 use Rattle.fd_language.specs.Range.{Range, Indexical}
 use Rattle.fd_language.specs.Check.{fill_range}
 use Rattle.fd_language.specs.Needs.{need_of}
-use Rattle.fd_language.specs.Places.{Place, one_place, range_places}
+use Rattle.fd_language.specs.Occurrences.{Occurrence, one_occurrence, range_occurrences}
 use Rattle.fd_model.specs.Posting.{first_offence, integers_at, slot, integer_of}
 use Rattle.fd_model.specs.Closed.{constrained}
 use Rattle.fd_language.specs.RangeRenaming.{rename_range, rename_indexical}
 use Rattle.fd_model.specs.LinearRows.{Expansion}
 use Rattle.fd_model.specs.Constraining.{constrain}
-use Rattle.machine_relation.specs.Held.{Frame}
+use Rattle.machine_relation.specs.HeldBranches.{Frame}
 use Rattle.machine_relation.specs.Store.{names}
 
 -- products, or variables equated with integers
@@ -42,8 +42,8 @@ abbrev pub unless_fault : Option QueryFault → Expansion → Result Expansion Q
 unless_fault (Some f) x = Err f
 unless_fault None x = Ok x
 
--- x in r as a row, where n is the next fresh number, es are variables already equated, and ps are the places looked at
-abbrev pub post_row_at : Substitution → List Place → ℕ → List (ℕ × ℤ) → ℕ → Range → Result Expansion QueryFault
+-- x in r as a row, where n is the next fresh number, es are variables already equated, and ps are the occurrences looked at
+abbrev pub post_row_at : Substitution → List Occurrence → ℕ → List (ℕ × ℤ) → ℕ → Range → Result Expansion QueryFault
 post_row_at look ps x es n r =
     let ys = integers_at look ps [] in
     unless_fault (first_offence (need_of r) look ps)
@@ -51,8 +51,8 @@ post_row_at look ps x es n r =
 
 -- what `T in r` posts, as a row
 abbrev pub post_row : Substitution → Term → Range → ℕ → Result Expansion QueryFault
-post_row look (Var v) r n = post_row_at look (one_place v false ++ range_places r) v [] n r
-post_row look (Int z) r n = post_row_at look (range_places r) n ((n, z) ∷ []) (suc n) r
+post_row look (Var v) r n = post_row_at look (one_occurrence v false ++ range_occurrences r) v [] n r
+post_row look (Int z) r n = post_row_at look (range_occurrences r) n ((n, z) ∷ []) (suc n) r
 post_row look (Atom a) r n = Err BadType
 post_row look (Comp f ts) r n = Err BadType
 

@@ -1,1 +1,1 @@
-mod Unmeant
+mod CodeWithoutProgram

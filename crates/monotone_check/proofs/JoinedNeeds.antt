@@ -3,7 +3,7 @@ use Rattle.std.proofs.Common.{◌≡◌, ℕ, Bool, true, false, cond, not, ◌|
 use Rattle.std.specs.Prelude.{Result, IfOk}
 use Rattle.std.proofs.lemmas.Result.{IfOk-weaker}
 use Rattle.fd_language.specs.declared.range_node.RangeNode.{RangeNode}
-use Rattle.fd_language.specs.Flat.{nodes_of, spelled, spelled-nodes}
+use Rattle.fd_language.specs.Flat.{nodes_of, spelled_range, spelled_range-nodes}
 use Rattle.std.proofs.lemmas.Bool.{cases_Bool, true≢false, or_from}
 use Rattle.std.proofs.Common.{◌⊎◌, inl, inr}
 use Rattle.std.proofs.lemmas.List.{map_push}
@@ -196,9 +196,9 @@ all_absent (x ∷ l) = ap (λ k. x ∷ k) (all_absent l)
 pub gathers : (r : Range) → put_all [] (asks r) ≡ needs r
 gathers r = put_all_is (asks r) [] tt ∙ ap (map (fresh (asks r))) (all_absent (once (keys (asks r))))
 
-told_asks : (r q : Range) (ps places : List Asked) (ns : List RangeNode) → ps ≡ places → told 0 places ≡ asks (spelled ns) → ns ≡ nodes_of q → q ≡ r → put_all [] (told 0 ps) ≡ needs r
-told_asks r q ps places ns e f g h = ap (λ l. put_all [] (told 0 l)) e ∙ (ap (put_all []) (f ∙ ap asks (ap spelled g ∙ (spelled-nodes q ∙ h))) ∙ gathers r)
+told_asks : (r q : Range) (ps places : List Asked) (ns : List RangeNode) → ps ≡ places → told 0 places ≡ asks (spelled_range ns) → ns ≡ nodes_of q → q ≡ r → put_all [] (told 0 ps) ≡ needs r
+told_asks r q ps places ns e f g h = ap (λ l. put_all [] (told 0 l)) e ∙ (ap (put_all []) (f ∙ ap asks (ap spelled_range g ∙ (spelled_range-nodes q ∙ h))) ∙ gathers r)
 
-pub needs_ok : {X E : Type 0} (res : Result X E) (items : X → List (ℕ × Need)) (r q : Range) (ps places : List Asked) (ns : List RangeNode) → ps ≡ places → told 0 places ≡ asks (spelled ns) → ns ≡ nodes_of q → q ≡ r →
+pub needs_ok : {X E : Type 0} (res : Result X E) (items : X → List (ℕ × Need)) (r q : Range) (ps places : List Asked) (ns : List RangeNode) → ps ≡ places → told 0 places ≡ asks (spelled_range ns) → ns ≡ nodes_of q → q ≡ r →
     IfOk res (λ v. items v ≡ put_all [] (told 0 ps)) → IfOk res (λ v. items v ≡ needs r)
 needs_ok res items r q ps places ns e f g h k = IfOk-weaker res (λ v. items v ≡ put_all [] (told 0 ps)) (λ v. items v ≡ needs r) (λ v i. i ∙ told_asks r q ps places ns e f g h) k

@@ -8,7 +8,7 @@ mod Clashes
 mod Whole
 mod PlaceNeeds
 mod NodeNeeds
-mod Popped
+mod LastItems
 mod JoinedNeeds
 mod NeedLoops
 pub mod Lemmas

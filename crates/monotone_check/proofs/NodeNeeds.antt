@@ -8,7 +8,7 @@ use Rattle.fd_language.specs.declared.range_node.RangeNode.TheVariants as node
 use Rattle.fd_language.specs.Range.{Range, Expr, Number, Infinity, Param, Min, Max, Val, Add, Sub, Mul, DivDown, DivUp}
 use Rattle.fd_language.specs.Needs.{is_literal, quotient_asks, expr_asks, asks}
 use Rattle.fd_language.specs.Check.{is_parameter}
-use Rattle.fd_language.specs.Flat.{term_alone, term_of_terms, put, built, built_behind, spelled, IsSpelled}
+use Rattle.fd_language.specs.Flat.{term_alone, term_of_terms, put, built, built_behind, spelled_range, IsSpelled}
 use Rattle.std.proofs.Common.{get_or, drop}
 use Rattle.std.proofs.lemmas.List.{at_drop_more, drop_all, append-nil, append_assoc}
 use Rattle.std.proofs.lemmas.Option.{same_Some}
@@ -203,8 +203,8 @@ from_follows ns r o q e f = subst (λ p. FollowsAsking ns p q) (sym e) f
 
 pub asks_step : (i : ℕ) (nodes : List RangeNode) (d : RangeNode) (old new : AskReader) → i < length nodes → IsAskedSoFar i nodes old → TakesAsks (get_or nodes i d) old new → IsAskedSoFar (i + 1) nodes new
 asks_step i nodes d old new l (rs, ts, e, p) f =
-    let g : Some (spelled nodes) ≡ built (get_or nodes i d ∷ drop (i + 1) nodes) rs ts = e ∙ at_drop_more (λ ns. built ns rs ts) nodes i d l in
-    from_follows (drop (i + 1) nodes) (spelled nodes) _ new g (f (drop (i + 1) nodes) rs ts p)
+    let g : Some (spelled_range nodes) ≡ built (get_or nodes i d ∷ drop (i + 1) nodes) rs ts = e ∙ at_drop_more (λ ns. built ns rs ts) nodes i d l in
+    from_follows (drop (i + 1) nodes) (spelled_range nodes) _ new g (f (drop (i + 1) nodes) rs ts p)
 
 alone : (r : Range) (rs : List Range) (ts : List Expr) (q : AskReader) → Some r ≡ built [] rs ts → IsAsking rs ts q → asks_now q ≡ asks r
 alone r [] [] q e i = absurd cc
@@ -214,5 +214,5 @@ alone r (p ∷ x ∷ rs) [] q e i = absurd cc
 alone r (p ∷ x ∷ rs) (t ∷ ts) q e i = absurd cc
 alone r (p ∷ []) [] q e i = i.1 ∙ ap asks (sym (same_Some r p e))
 
-pub asks_end : (i : ℕ) (nodes : List RangeNode) (q : AskReader) → length nodes ≤ i → IsAskedSoFar i nodes q → asks_now q ≡ asks (spelled nodes)
-asks_end i nodes q l (rs, ts, e, h) = alone (spelled nodes) rs ts q (e ∙ ap (λ ns. built ns rs ts) (drop_all i nodes l)) h
+pub asks_end : (i : ℕ) (nodes : List RangeNode) (q : AskReader) → length nodes ≤ i → IsAskedSoFar i nodes q → asks_now q ≡ asks (spelled_range nodes)
+asks_end i nodes q l (rs, ts, e, h) = alone (spelled_range nodes) rs ts q (e ∙ ap (λ ns. built ns rs ts) (drop_all i nodes l)) h

@@ -6,14 +6,14 @@ use Rattle.fd_language.specs.declared.range_node.RangeNode.{RangeNode}
 use Rattle.fd_language.specs.declared.range_node.Offence.{Offence}
 use Rattle.fd_language.specs.declared.TheConstants.{INFINITY}
 use Rattle.fd_language.specs.Range.{Range}
-use Rattle.fd_language.specs.Flat.{nodes_of, spelled, spelled-nodes}
+use Rattle.fd_language.specs.Flat.{nodes_of, spelled_range, spelled_range-nodes}
 use Rattle.fd_language.specs.RangeVerdict.{range_size, wide_in_range, range_offences, clashes, earlier, first, width_first, verdict, range_within}
 use Rattle.fd_language.proofs.Lemmas.{nil-first, nil-range, first-append}
 use Rattle.monotone_check.specs.declared.summary.RangeCheck.{RangeCheck}
 use Rattle.monotone_check.specs.Summary.{IsRange}
 
-the_range : (at : ℕ → ℕ) (ns : List RangeNode) (r : Range) (s : RangeCheck) → ns ≡ nodes_of r → IsRange INFINITY at (range_size (spelled ns) - 1) (spelled ns) s → IsRange INFINITY at (range_size r - 1) r s
-the_range at ns r s e i = subst (λ q. IsRange INFINITY at (range_size q - 1) q s) (ap spelled e ∙ spelled-nodes r) i
+the_range : (at : ℕ → ℕ) (ns : List RangeNode) (r : Range) (s : RangeCheck) → ns ≡ nodes_of r → IsRange INFINITY at (range_size (spelled_range ns) - 1) (spelled_range ns) s → IsRange INFINITY at (range_size r - 1) r s
+the_range at ns r s e i = subst (λ q. IsRange INFINITY at (range_size q - 1) q s) (ap spelled_range e ∙ spelled_range-nodes r) i
 
 some_wide : (o p q : Option Offence) → is_some o ≡ true → o ≡ p → o ≡ width_first p q
 some_wide None p q h e = absurd (true≢false (sym h))
@@ -23,12 +23,12 @@ none_wide : (o : Option Offence) → is_some o ≡ false → o ≡ None
 none_wide None h = refl
 none_wide (Some o) h = absurd (true≢false h)
 
-pub whole_wide : (places : List ℕ) (ns : List RangeNode) (r : Range) (s : RangeCheck) → ns ≡ nodes_of r → IsRange INFINITY (λ n. get_or places n 0) (range_size (spelled ns) - 1) (spelled ns) s → is_some s.wide ≡ true → s.wide ≡ verdict INFINITY places r
+pub whole_wide : (places : List ℕ) (ns : List RangeNode) (r : Range) (s : RangeCheck) → ns ≡ nodes_of r → IsRange INFINITY (λ n. get_or places n 0) (range_size (spelled_range ns) - 1) (spelled_range ns) s → is_some s.wide ≡ true → s.wide ≡ verdict INFINITY places r
 whole_wide places ns r s e i h =
     let k = the_range (λ n. get_or places n 0) ns r s e i in
     some_wide s.wide _ _ h k.wide
 
-pub whole_rest : (places : List ℕ) (ns : List RangeNode) (r : Range) (s : RangeCheck) (clash whole : Option Offence) → ns ≡ nodes_of r → IsRange INFINITY (λ n. get_or places n 0) (range_size (spelled ns) - 1) (spelled ns) s → is_some s.wide ≡ false →
+pub whole_rest : (places : List ℕ) (ns : List RangeNode) (r : Range) (s : RangeCheck) (clash whole : Option Offence) → ns ≡ nodes_of r → IsRange INFINITY (λ n. get_or places n 0) (range_size (spelled_range ns) - 1) (spelled_range ns) s → is_some s.wide ≡ false →
     clash ≡ first (clashes (λ n. get_or places n 0) 0 [] [] ns) → whole ≡ earlier s.shrinking clash → whole ≡ verdict INFINITY places r
 whole_rest places ns r s clash whole e i h c w =
     let at : ℕ → ℕ = λ n. get_or places n 0 in

@@ -5,7 +5,7 @@ use Rattle.fd_language.specs.declared.range_node.RangeNode.{RangeNode}
 use Rattle.fd_language.specs.Range.{Range, Expr}
 use Rattle.fd_language.specs.Needs.{is_literal, expr_asks, asks}
 use Rattle.fd_language.specs.Check.{is_parameter}
-use Rattle.fd_language.specs.Flat.{built, spelled}
+use Rattle.fd_language.specs.Flat.{built, spelled_range}
 use Rattle.monotone_check.specs.declared.asks.OpenTerm.{OpenTerm}
 use Rattle.monotone_check.specs.declared.asks.AskReader.{AskReader}
 use Rattle.monotone_check.specs.PlaceNeeds.{asks_now}
@@ -33,4 +33,4 @@ TakesAsks m old new = (ns : List RangeNode) (rs : List Range) (ts : List Expr) �
 
 -- the nodes from the number n on build the range on top of what waits
 abbrev pub IsAskedSoFar : ℕ → List RangeNode → AskReader → Type 0
-IsAskedSoFar n nodes q = (rs : List Range) × (ts : List Expr) × (Some (spelled nodes) ≡ built (drop n nodes) rs ts) × IsAsking rs ts q
+IsAskedSoFar n nodes q = (rs : List Range) × (ts : List Expr) × (Some (spelled_range nodes) ≡ built (drop n nodes) rs ts) × IsAsking rs ts q

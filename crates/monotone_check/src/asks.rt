@@ -2,7 +2,7 @@
 
 ghost use Rattle.std.specs.Prelude.{◌≡◌, ℕ, [], ◌∷◌, ◌++◌, IfOk, OnOk};
 ghost use Rattle.fd_language.specs.Needs.{asks};
-ghost use Rattle.fd_language.specs.Flat.{spelled, IsSpelled};
+ghost use Rattle.fd_language.specs.Flat.{spelled_range, IsSpelled};
 ghost use Rattle.monotone_check.specs.OpenTerms.{TakesAsks};
 ghost use Rattle.monotone_check.specs.PlaceNeeds.{told, AsksOf, joins, Opens, OpensParameter, Operates, Closes, ClosesQuotient};
 
@@ -161,7 +161,7 @@ impl AskReader {
 /// What is asked at each place of a parameter of the range that the nodes spell.
 pub(crate) fn read_asks(alloc: Global, nodes: &[RangeNode]) -> Result<Asking, NoMemory>
     requires { IsSpelled nodes.now }
-    ensures { IfOk result (λ q. told 0 q.places.items ≡ asks (spelled nodes.now)) }
+    ensures { IfOk result (λ q. told 0 q.places.items ≡ asks (spelled_range nodes.now)) }
 {
     let mut reading = AskReader::new(alloc);
     for node in nodes {

@@ -59,11 +59,11 @@ impl Model for Checked {
     ghost use Rattle.std.specs.Coded.{code_by, coded_list};
     ghost use Rattle.fd_language.specs.contracts.range_node.RangeNode as node;
     ghost use Rattle.fd_language.specs.Range.{Range};
-    ghost use Rattle.fd_language.specs.Flat.{nodes_of, spelled, spelled-nodes};
+    ghost use Rattle.fd_language.specs.Flat.{nodes_of, spelled_range, spelled_range-nodes};
 
     ghost Value = { Range };
 
-    ghost coded = { code_by _ (coded_list node.the_row.coded) nodes_of spelled spelled-nodes };
+    ghost coded = { code_by _ (coded_list node.the_row.coded) nodes_of spelled_range spelled_range-nodes };
 
     ghost use Rattle.fd_language.specs.RangeVerdict.{is_accepted};
     ghost use Rattle.fd_language.specs.declared.TheConstants.{INFINITY};

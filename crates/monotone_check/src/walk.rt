@@ -1,7 +1,7 @@
 //! The check of a whole range, node by node.
 
 ghost use Rattle.std.specs.Prelude.{◌≡◌, ℕ, ◌-◌, length, slice_index, IfOk};
-ghost use Rattle.fd_language.specs.Flat.{spelled, IsSpelled};
+ghost use Rattle.fd_language.specs.Flat.{spelled_range, IsSpelled};
 ghost use Rattle.fd_language.specs.RangeVerdict.{range_size};
 ghost use Rattle.monotone_check.specs.Summary.{IsRange};
 
@@ -19,7 +19,7 @@ pub(crate) fn summarize(
     requires spelled { IsSpelled nodes.now }
     requires placed { length places.now ≡ length nodes.now }
     ensures { IfOk result (λ s. IsRange INFINITY (λ n. slice_index places.now n)
-        (range_size (spelled nodes.now) - 1) (spelled nodes.now) s) }
+        (range_size (spelled_range nodes.now) - 1) (spelled_range nodes.now) s) }
 {
     let mut pending = Pending::new(alloc);
     for (number, node) in nodes.iter().enumerate() {

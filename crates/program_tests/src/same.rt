@@ -4,6 +4,6 @@ use std::fmt::Debug;
 use std::process::Abort;
 
 /// Refuses what differs from what is wanted, and says where.
-pub fn same<T: PartialEq + Debug + Copy>(rt: &impl Abort, found: T, want: T, at: &str) {
+pub(crate) fn same<T: PartialEq + Debug + Copy>(rt: &impl Abort, found: T, want: T, at: &str) {
     assert!(rt; found == want, "{found:?} is not {want:?}, at {at}");
 }

@@ -7,19 +7,19 @@ use Rattle.std.specs.List.{list_any}
 use Rattle.fd_language.specs.declared.TheConstants.{INFINITY}
 use Rattle.fd_language.specs.declared.range_node.Feature.{Feature}
 use Rattle.fd_language.specs.declared.range_node.Feature.TheVariants as feature
-use Rattle.fd_language.specs.Features.{feature_at, expr_features, range_features, is_same_feature, is_same_pair, each_once}
-use Rattle.fd_language.specs.Check.{fill, fill_range}
+use Rattle.fd_language.specs.Features.{feature_at, range_features, is_same_feature, is_same_pair, each_once}
+use Rattle.fd_language.specs.Check.{fill_range}
 use Rattle.fd_language.specs.Flat.{nodes_of}
 use Rattle.fd_language.specs.Monotonicity.{IsMonotone}
-use Rattle.fd_language.specs.RangeRenaming.{rename_expr, rename_range}
+use Rattle.fd_language.specs.RangeRenaming.{rename_range}
 use Rattle.fd_language.specs.RangeVerdict.{is_accepted}
-use Rattle.fd_language.specs.Range.{Range, Span, One, Dom, Union, Inter, Outside, Plus, Minus, Times, Over, Expr, Number, Infinity, Param, Min, Max, Val, Add, Sub, Mul, DivDown, DivUp}
+use Rattle.fd_language.specs.Range.{Range, Role, leaf, a_parameter, a_min, a_max, a_val, a_dom}
 use Rattle.range_code.specs.declared.frame.Arg.{Arg}
 use Rattle.range_code.specs.Slots.{slot_of, in_slots, slot_features}
 use Rattle.range_code.specs.Frames.{IsFrame, slot_variable, slot_integer, posted}
 use Rattle.range_code.specs.Nodes.{IsSeen}
 use Rattle.range_code.proofs.Lemmas.{all_readable, one_use, posted_monotone, features_seen, all_once}
-use Rattle.fd_language.proofs.Lemmas.{whole_nodes}
+use Rattle.fd_language.proofs.Lemmas.{whole_nodes, renamed_leaves, filled_leaves, same_leaves, collected_by}
 use Rattle.dependency_chains.specs.declared.Change.{Change}
 use Rattle.dependency_chains.specs.Waking.{wakes, is_woken}
 use Rattle.dependency_chains.proofs.Lemmas.{same_feature}
@@ -30,58 +30,18 @@ Pair = ℕ × Feature
 abbrev named : (ℕ → ℕ) → Pair → Pair
 named f d = (f d.0, d.1)
 
-both : (f : ℕ → ℕ) (ds es xs ys : List Pair) → xs ≡ map (named f) ds → ys ≡ map (named f) es → xs ++ ys ≡ map (named f) (ds ++ es)
-both f ds es xs ys e g = let h = map-append (named f) ds es in cc
-
-expr_named : (p : ℕ → ℤ) (f : ℕ → ℕ) (e : Expr) → expr_features (rename_expr f (fill p e)) ≡ map (named f) (expr_features e)
-expr_named p f (Number n) = refl
-expr_named p f Infinity = refl
-expr_named p f (Param x) = refl
-expr_named p f (Min y) = refl
-expr_named p f (Max y) = refl
-expr_named p f (Val y) = refl
-expr_named p f (Add a b) = both f (expr_features a) (expr_features b) _ _ (expr_named p f a) (expr_named p f b)
-expr_named p f (Sub a b) = both f (expr_features a) (expr_features b) _ _ (expr_named p f a) (expr_named p f b)
-expr_named p f (Mul a b) = both f (expr_features a) (expr_features b) _ _ (expr_named p f a) (expr_named p f b)
-expr_named p f (DivDown a b) = both f (expr_features a) (expr_features b) _ _ (expr_named p f a) (expr_named p f b)
-expr_named p f (DivUp a b) = both f (expr_features a) (expr_features b) _ _ (expr_named p f a) (expr_named p f b)
+-- with other variables a range reads the same of them, whatever its parameters are
+range_slots : (f : ℕ → ℕ) (r : Range) → range_features (rename_range f r) ≡ map (named f) (range_features r)
+range_slots f r = renamed_leaves feature_at f r ∙ same_leaves (λ l. feature_at (leaf l.role (f l.variable))) (λ l. map (named f) (feature_at l)) by_role r ∙ sym (collected_by (map (named f)) refl (map-append (named f)) feature_at r) where
+  by_role : (k : Role) (y : ℕ) → feature_at (leaf k (f y)) ≡ map (named f) (feature_at (leaf k y))
+  by_role a_parameter y = refl
+  by_role a_min y = refl
+  by_role a_max y = refl
+  by_role a_val y = refl
+  by_role a_dom y = refl
 
 range_named : (p : ℕ → ℤ) (f : ℕ → ℕ) (r : Range) → range_features (rename_range f (fill_range p r)) ≡ map (named f) (range_features r)
-range_named p f (Span a b) = both f (expr_features a) (expr_features b) _ _ (expr_named p f a) (expr_named p f b)
-range_named p f (One t) = expr_named p f t
-range_named p f (Dom y) = refl
-range_named p f (Union r q) = both f (range_features r) (range_features q) _ _ (range_named p f r) (range_named p f q)
-range_named p f (Inter r q) = both f (range_features r) (range_features q) _ _ (range_named p f r) (range_named p f q)
-range_named p f (Outside r) = range_named p f r
-range_named p f (Plus r c) = both f (range_features r) (expr_features c) _ _ (range_named p f r) (expr_named p f c)
-range_named p f (Minus r c) = both f (range_features r) (expr_features c) _ _ (range_named p f r) (expr_named p f c)
-range_named p f (Times r c) = both f (range_features r) (expr_features c) _ _ (range_named p f r) (expr_named p f c)
-range_named p f (Over r c) = both f (range_features r) (expr_features c) _ _ (range_named p f r) (expr_named p f c)
-
-expr_slots : (f : ℕ → ℕ) (e : Expr) → expr_features (rename_expr f e) ≡ map (named f) (expr_features e)
-expr_slots f (Number n) = refl
-expr_slots f Infinity = refl
-expr_slots f (Param x) = refl
-expr_slots f (Min y) = refl
-expr_slots f (Max y) = refl
-expr_slots f (Val y) = refl
-expr_slots f (Add a b) = both f (expr_features a) (expr_features b) _ _ (expr_slots f a) (expr_slots f b)
-expr_slots f (Sub a b) = both f (expr_features a) (expr_features b) _ _ (expr_slots f a) (expr_slots f b)
-expr_slots f (Mul a b) = both f (expr_features a) (expr_features b) _ _ (expr_slots f a) (expr_slots f b)
-expr_slots f (DivDown a b) = both f (expr_features a) (expr_features b) _ _ (expr_slots f a) (expr_slots f b)
-expr_slots f (DivUp a b) = both f (expr_features a) (expr_features b) _ _ (expr_slots f a) (expr_slots f b)
-
-range_slots : (f : ℕ → ℕ) (r : Range) → range_features (rename_range f r) ≡ map (named f) (range_features r)
-range_slots f (Span a b) = both f (expr_features a) (expr_features b) _ _ (expr_slots f a) (expr_slots f b)
-range_slots f (One t) = expr_slots f t
-range_slots f (Dom y) = refl
-range_slots f (Union r q) = both f (range_features r) (range_features q) _ _ (range_slots f r) (range_slots f q)
-range_slots f (Inter r q) = both f (range_features r) (range_features q) _ _ (range_slots f r) (range_slots f q)
-range_slots f (Outside r) = range_slots f r
-range_slots f (Plus r c) = both f (range_features r) (expr_features c) _ _ (range_slots f r) (expr_slots f c)
-range_slots f (Minus r c) = both f (range_features r) (expr_features c) _ _ (range_slots f r) (expr_slots f c)
-range_slots f (Times r c) = both f (range_features r) (expr_features c) _ _ (range_slots f r) (expr_slots f c)
-range_slots f (Over r c) = both f (range_features r) (expr_features c) _ _ (range_slots f r) (expr_slots f c)
+range_named p f r = range_slots f (fill_range p r) ∙ ap (map (named f)) (filled_leaves feature_at (λ x. refl) p r)
 
 -- a test of pairs finds the same where each stands once
 same_pair : (d e : Pair) → is_same_pair e d ≡ true → e ≡ d

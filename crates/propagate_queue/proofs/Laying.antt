@@ -8,7 +8,7 @@ use Rattle.propagate_queue.specs.declared.agents.Agent.{Agent}
 use Rattle.fd_language.specs.Range.{Range, Dom}
 use Rattle.range_code.specs.Frames.{posted}
 use Rattle.propagate_queue.specs.Postings.{Posting, posting_at}
-use Rattle.propagate_queue.specs.Laid.{laid, laid_out, AreLaid}
+use Rattle.propagate_queue.specs.AgentArguments.{laid, laid_out, AreLaid}
 
 -- arguments behind an agent's own
 laid_before : (args more : List Arg) (a : Agent) → a.first + a.count ≤ length args → laid (args ++ more) a ≡ laid args a

@@ -34,7 +34,7 @@ use Rattle.propagate_queue.specs.Postings.{Posting, ranged, ranges_of, IsPosting
 use Rattle.propagate_queue.specs.Queues.{times, flag_at, flagged, AreQueued}
 use Rattle.propagate_queue.specs.Running.{IsAtRest, IsRunning, AreDomains, HasNone}
 use Rattle.fd_model.specs.Levels.{Level, Levels}
-use Rattle.propagate_queue.specs.Stored.{levels_below, AreBelow, IsStore}
+use Rattle.propagate_queue.specs.StoreFields.{levels_below, AreBelow, IsStore}
 use Rattle.propagate_queue.proofs.Queueing.{no_flags}
 
 -- nothing posted, and no variables

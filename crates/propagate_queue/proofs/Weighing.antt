@@ -1,52 +1,23 @@
 -- Each agent that wakes adds to the weights.
 use Rattle.std.proofs.Common.{◌≡◌, ℕ, zero, suc, ◌+◌, ◌-◌, ◌<◌, ◌≤◌, Bool, true, false, cond, ◌||◌, ◌&&◌, not, ◌==◌, List, [], ◌∷◌, ◌++◌, map, filter, length, get_or, refl, ap, sym, ◌∙◌, subst, inl, inr, arith, eqb-true}
 use Rattle.std.proofs.lemmas.Bool.{cases_Bool, true≢false, eqb-false, or_cases, or_left, or_right}
-use Rattle.std.proofs.lemmas.List.{map-append}
 use Rattle.std.specs.List.{list_any}
 use Rattle.propagate_queue.proofs.Storing.{sum_whole}
 use Rattle.fd_language.specs.declared.range_node.Feature.{Feature}
 use Rattle.fd_language.specs.declared.range_node.Feature.TheVariants as feature
 use Rattle.fd_language.specs.Family.{Family, has}
-use Rattle.fd_language.specs.Features.{expr_features, range_features}
+use Rattle.fd_language.specs.Features.{is_val, range_features}
 use Rattle.fd_language.specs.Needs.{once}
-use Rattle.fd_language.specs.Range.{Indexical, Range, Span, One, Dom, Union, Inter, Outside, Plus, Minus, Times, Over, Expr, Number, Infinity, Param, Min, Max, Val, Add, Sub, Mul, DivDown, DivUp, reads, expr_reads, is_several}
-use Rattle.fd_language.proofs.Lemmas.{has-filter}
+use Rattle.fd_language.specs.Range.{Indexical, Range, reads, is_several}
+use Rattle.fd_language.proofs.Lemmas.{has-filter, reads_of_features}
 use Rattle.dependency_chains.specs.declared.Change.{Change}
 use Rattle.dependency_chains.specs.Waking.{change_of, wakes, is_woken}
-use Rattle.fd_model.specs.Weights.{is_val, reads_more, weight, sum_over, weights}
+use Rattle.fd_model.specs.Weights.{reads_more, weight, sum_over, weights}
 use Rattle.propagate_queue.specs.Queues.{flag_at, flagged}
 
 -- the variables that are read are those of the features
 abbrev firsts : List (ℕ × Feature) → List ℕ
 firsts ds = map (λ d. d.0) ds
-
-both_reads : (ds es : List (ℕ × Feature)) (xs ys : List ℕ) → xs ≡ firsts ds → ys ≡ firsts es → xs ++ ys ≡ firsts (ds ++ es)
-both_reads ds es xs ys e f = let g = map-append (λ (d : ℕ × Feature). d.0) ds es in cc
-
-expr_reads_is : (e : Expr) → expr_reads e ≡ firsts (expr_features e)
-expr_reads_is (Number n) = refl
-expr_reads_is Infinity = refl
-expr_reads_is (Param x) = refl
-expr_reads_is (Min y) = refl
-expr_reads_is (Max y) = refl
-expr_reads_is (Val y) = refl
-expr_reads_is (Add a b) = both_reads (expr_features a) (expr_features b) (expr_reads a) (expr_reads b) (expr_reads_is a) (expr_reads_is b)
-expr_reads_is (Sub a b) = both_reads (expr_features a) (expr_features b) (expr_reads a) (expr_reads b) (expr_reads_is a) (expr_reads_is b)
-expr_reads_is (Mul a b) = both_reads (expr_features a) (expr_features b) (expr_reads a) (expr_reads b) (expr_reads_is a) (expr_reads_is b)
-expr_reads_is (DivDown a b) = both_reads (expr_features a) (expr_features b) (expr_reads a) (expr_reads b) (expr_reads_is a) (expr_reads_is b)
-expr_reads_is (DivUp a b) = both_reads (expr_features a) (expr_features b) (expr_reads a) (expr_reads b) (expr_reads_is a) (expr_reads_is b)
-
-reads_is : (r : Range) → reads r ≡ firsts (range_features r)
-reads_is (Span a b) = both_reads (expr_features a) (expr_features b) (expr_reads a) (expr_reads b) (expr_reads_is a) (expr_reads_is b)
-reads_is (One t) = expr_reads_is t
-reads_is (Dom y) = refl
-reads_is (Union r q) = both_reads (range_features r) (range_features q) (reads r) (reads q) (reads_is r) (reads_is q)
-reads_is (Inter r q) = both_reads (range_features r) (range_features q) (reads r) (reads q) (reads_is r) (reads_is q)
-reads_is (Outside r) = reads_is r
-reads_is (Plus r c) = both_reads (range_features r) (expr_features c) (reads r) (expr_reads c) (reads_is r) (expr_reads_is c)
-reads_is (Minus r c) = both_reads (range_features r) (expr_features c) (reads r) (expr_reads c) (reads_is r) (expr_reads_is c)
-reads_is (Times r c) = both_reads (range_features r) (expr_features c) (reads r) (expr_reads c) (reads_is r) (expr_reads_is c)
-reads_is (Over r c) = both_reads (range_features r) (expr_features c) (reads r) (expr_reads c) (reads_is r) (expr_reads_is c)
 
 in_once : (xs : List ℕ) (x : ℕ) → has xs x ≡ true → has (once xs) x ≡ true
 in_once [] x h = h
@@ -68,7 +39,7 @@ woken_reads c x (d ∷ ds) h = step (d.0 == x) (wakes c d.1) (is_woken c x ds) (
   step false b e f h g = g h
 
 pub read_once : (c : Change) (x : ℕ) (r : Range) → is_woken c x (range_features r) ≡ true → has (once (reads r)) x ≡ true
-read_once c x r h = in_once (reads r) x (ap (λ l. has l x) (reads_is r) ∙ woken_reads c x (range_features r) h)
+read_once c x r h = in_once (reads r) x (ap (λ l. has l x) (reads_of_features r) ∙ woken_reads c x (range_features r) h)
 
 -- who reads the value alone is woken where one value is left
 by_value : (c : Change) (x : ℕ) (ds : List (ℕ × Feature)) → is_woken c x ds ≡ true → list_any (λ d. (d.0 == x) && not (is_val d.1)) ds ≡ false → c.fixed ≡ true

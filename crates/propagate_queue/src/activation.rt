@@ -16,7 +16,7 @@ use range_code::{Activations, Reach};
 
 /// Intersects the domain of the agent's target with the set of its range. Where numbers tell that set, the range isn't evaluated further.
 #[inline(always)]
-pub fn activate(
+pub(crate) fn activate(
     trail: &mut Trail,
     agents: &mut Agents,
     agent: usize,

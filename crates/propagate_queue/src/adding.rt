@@ -99,7 +99,7 @@ fn add_agent<A: Agenda>(
 }
 
 /// Adds the agents in order.
-pub fn add_agents<A: Agenda>(
+pub(crate) fn add_agents<A: Agenda>(
     agents: &mut Agents,
     queued: &mut Vec<bool>,
     chains: &mut Chains,

@@ -33,7 +33,7 @@ const _: () = prove!(size_of::<Agent>() == 32);
 /// The agents in the order in which they were posted, with the stacks on which their ranges are evaluated.
 /// An agent's number is its place.
 #[derive(Drop)]
-pub struct Agents {
+pub(crate) struct Agents {
     list: Vec<Agent>,
     args: Vec<Arg>,
     stacks: Stacks,
@@ -47,7 +47,7 @@ impl Model for Agents {
 
     ghost coded = { postings_coded };
 
-    ghost use Rattle.propagate_queue.specs.Laid.{laid_out, AreLaid, HaveRoom};
+    ghost use Rattle.propagate_queue.specs.AgentArguments.{laid_out, AreLaid, HaveRoom};
 
     ghost view = { λ a. laid_out a.list.items a.args.items };
 

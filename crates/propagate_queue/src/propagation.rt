@@ -54,7 +54,7 @@ fn wake<A: Agenda>(agenda: &mut A, queued: &mut [bool], agents: &Agents, woken: 
 }
 
 /// Activates the agents on the agenda until none waits, or some domain would be empty. Whether none would be.
-pub fn propagate<A: Agenda>(
+pub(crate) fn propagate<A: Agenda>(
     trail: &mut Trail,
     chains: &Chains,
     agents: &mut Agents,
@@ -101,7 +101,7 @@ pub fn propagate<A: Agenda>(
 }
 
 /// Takes all agents off the agenda.
-pub fn clear<A: Agenda>(agenda: &mut A, queued: &mut [bool])
+pub(crate) fn clear<A: Agenda>(agenda: &mut A, queued: &mut [bool])
     requires { AreQueued queued.old (A.agents agenda.old) (A.spare agenda.old) }
     ensures queued { AreQueued queued.new (A.agents agenda.new) (A.spare agenda.new) }
     ensures empty { A.agents agenda.new ≡ [] }
@@ -112,7 +112,7 @@ pub fn clear<A: Agenda>(agenda: &mut A, queued: &mut [bool])
 }
 
 /// Takes all agents off an agenda that is handed in.
-pub fn empty<A: Agenda>(agenda: &mut A)
+pub(crate) fn empty<A: Agenda>(agenda: &mut A)
     ensures { A.agents agenda.new ≡ [] }
 {
     'emptying: while let Some(_) = agenda.take() {}

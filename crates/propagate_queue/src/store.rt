@@ -58,7 +58,7 @@ impl<A: Agenda + Drop> Model for Store<A> {
 
     ghost use Rattle.std.specs.Prelude.{reverse};
     ghost use Rattle.propagate_queue.specs.Postings.{ranges_of};
-    ghost use Rattle.propagate_queue.specs.Stored.{levels_below, IsStore};
+    ghost use Rattle.propagate_queue.specs.StoreFields.{levels_below, IsStore};
 
     ghost view = { λ s. record {
       current = record { posted = ranges_of s.agents; sets = s.trail.current; failed = s.failed };
@@ -70,7 +70,7 @@ impl<A: Agenda + Drop> Model for Store<A> {
         (A.spare s.agenda) s.chains s.trail (reverse s.marks.items) s.failed s.spent };
 }
 
-ghost use Rattle.propagate_queue.specs.Stored.{no_levels, with_variable, step_weight, whole_weight_of_post, IsPosted};
+ghost use Rattle.propagate_queue.specs.StoreFields.{no_levels, with_variable, step_weight, whole_weight_of_post, IsPosted};
 ghost use Rattle.propagate_queue.specs.declared.store.Posted.TheVariants as Ended;
 
 impl<A: Agenda + Drop> Store<A> {

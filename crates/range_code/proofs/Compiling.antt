@@ -9,7 +9,7 @@ use Rattle.fd_language.specs.declared.range_node.Need.{Need}
 use Rattle.fd_language.specs.declared.range_node.Feature.{Feature}
 use Rattle.fd_language.specs.declared.range_node.RangeNode.{RangeNode}
 use Rattle.fd_language.specs.Range.{Range}
-use Rattle.fd_language.specs.Flat.{nodes_of, spelled, spelled-nodes}
+use Rattle.fd_language.specs.Flat.{nodes_of, spelled_range, spelled_range-nodes}
 use Rattle.fd_language.specs.RangeVerdict.{is_accepted}
 use Rattle.fd_language.specs.Needs.{needs, once}
 use Rattle.fd_language.specs.declared.range_node.Feature.TheVariants as feature
@@ -21,11 +21,11 @@ use Rattle.range_code.specs.Nodes.{node_variables, node_variable, listed, rename
 use Rattle.range_code.specs.Slots.{slots_of, slot_of, slot_needs, in_slots, slot_features}
 use Rattle.range_code.specs.Kinds.{has_pair, all_told, val_slots}
 use Rattle.range_code.specs.Heights.{tallest}
-use Rattle.range_code.specs.Folded.{folded_nodes}
+use Rattle.range_code.specs.FoldedRanges.{folded_nodes}
 use Rattle.range_code.specs.Pieces.{piece_node, taken, literals, FitsAlone}
 use Rattle.range_code.specs.Instructions.{integers}
 use Rattle.range_code.specs.declared.fold.Piece.{Piece}
-use Rattle.range_code.specs.Compiled.{IsCompiled, AreStepsOf}
+use Rattle.range_code.specs.CodeFields.{IsCompiled, AreStepsOf}
 use Rattle.fd_language.specs.declared.range_node.Need.TheVariants as need
 use Rattle.fd_language.specs.Family.{IsFamily}
 use Rattle.fd_language.specs.CheckLaws.{AreBounded}
@@ -46,7 +46,7 @@ use Rattle.range_code.proofs.SlotNeeds.{need_more, needs_found}
 pub copied : (o : Option Range) (x r : Range) (P : Type 0) (items ns : List RangeNode) → o ≡ Some x → MatchOption o P (λ f. nodes_of f ≡ items) → items ≡ ns → ns ≡ nodes_of r → x ≡ r
 copied o x r P items ns e h f g =
     let same : nodes_of x ≡ items = subst (λ q. MatchOption q P (λ f. nodes_of f ≡ items)) e h in
-    sym (spelled-nodes x) ∙ (ap spelled (same ∙ (f ∙ g)) ∙ spelled-nodes r)
+    sym (spelled_range-nodes x) ∙ (ap spelled_range (same ∙ (f ∙ g)) ∙ spelled_range-nodes r)
 
 -- where no element passes, the first place that passes is the length
 pub none_passes : {X : Type 0} (p : X → Bool) (xs : List X) (n : ℕ) → position p xs ≡ None → n ≡ length xs → n ≡ position_or_len p xs

@@ -20,7 +20,7 @@ use Rattle.fd_language.proofs.Lemmas.{two, literal_is, expr_append, range_append
 use Rattle.range_code.specs.declared.frame.Arg.{Arg}
 use Rattle.range_code.specs.declared.fold.Piece.{Piece}
 use Rattle.range_code.specs.declared.fold.Piece.TheVariants.{Literal, Other}
-use Rattle.range_code.specs.Folded.{or_value, folded, folded_range}
+use Rattle.range_code.specs.FoldedRanges.{or_value, folded, folded_range}
 use Rattle.range_code.specs.Pieces.{piece_node, piece_of, combined, joined, taken, literals, top_literal, under_literal, FitsAlone}
 use Rattle.range_code.specs.Instructions.{integers}
 use Rattle.range_code.specs.Nodes.{IsReadable}

@@ -16,7 +16,7 @@ use Rattle.fd_language.specs.Family.{Family, has, universe, IsRising}
 use Rattle.fd_language.specs.Range.{Range, Expr, least, greatest, down_by, Infinity, Min, Max, Val, Add, Sub, Mul, DivDown, DivUp, Span, One, Outside, in_range}
 use Rattle.fd_language.specs.Range.{Number as Literal}
 use Rattle.fd_language.specs.Check.{fill_range}
-use Rattle.fd_language.specs.Flat.{nodes_of, built, built_behind, put, shape_of, term_alone, term_of_terms, builds_range, spelled, spelled-nodes, IsSpelled}
+use Rattle.fd_language.specs.Flat.{nodes_of, built, built_behind, put, shape_of, term_alone, term_of_terms, builds_range, spelled_range, spelled_range-nodes, IsSpelled}
 use Rattle.fd_language.proofs.Lemmas.{two, greatest_in, abs_add, abs_mul, products}
 use Rattle.std.proofs.lemmas.List.{at_drop_more, take_all, nil_from_length}
 use Rattle.std.proofs.lemmas.Option.{same_Some}
@@ -356,11 +356,11 @@ greatest_limit M [] n r e = omega (arith, e)
 greatest_limit M (x ∷ xs) n r e = has_limit M (x ∷ xs) n r (ap (has (x ∷ xs)) e ∙ greatest_in (x ∷ xs) refl)
 
 -- the nodes of a range spell it
-pub form_spells : (nodes : List RangeNode) (r : Range) (form : Form) → nodes ≡ nodes_of r → IsForm r form → IsForm (spelled nodes) form
-form_spells nodes r form e = subst (λ x. IsForm x form) (sym (ap spelled e ∙ spelled-nodes r))
+pub form_spells : (nodes : List RangeNode) (r : Range) (form : Form) → nodes ≡ nodes_of r → IsForm r form → IsForm (spelled_range nodes) form
+form_spells nodes r form e = subst (λ x. IsForm x form) (sym (ap spelled_range e ∙ spelled_range-nodes r))
 
-pub spells_itself : (nodes : List RangeNode) → IsSpelled nodes → nodes ≡ nodes_of (spelled nodes)
-spells_itself nodes (r, e) = sym e ∙ ap nodes_of (sym (spelled-nodes r) ∙ ap spelled e)
+pub spells_itself : (nodes : List RangeNode) → IsSpelled nodes → nodes ≡ nodes_of (spelled_range nodes)
+spells_itself nodes (r, e) = sym e ∙ ap nodes_of (sym (spelled_range-nodes r) ∙ ap spelled_range e)
 
 pub fits_small : (z : ℤ) → nat_abs z ≤ 2 ^ 63 - 1 → SFits w64 z
 fits_small z h = fits_signed_from_abs w64 z (omega arith)
@@ -434,7 +434,7 @@ below_form r a b s z h f e = record { set = λ S p. h.set S p ∙ two between (f
 
 -- all numbers but the value of a variable
 pub differs_form : (ns : List RangeNode) (slot : ℕ) → ns ≡ nodes_of (all_but_val slot) → (r : Range) → ns ≡ nodes_of r → r ≡ all_but_val slot
-differs_form ns slot e r f = sym (spelled-nodes r) ∙ (ap spelled (sym f ∙ e) ∙ spelled-nodes (all_but_val slot))
+differs_form ns slot e r f = sym (spelled_range-nodes r) ∙ (ap spelled_range (sym f ∙ e) ∙ spelled_range-nodes (all_but_val slot))
 
 pub but_val_set : (S : Family) (p : ℕ → ℤ) (slot : ℕ) → filled_set S p (all_but_val slot) ≡ all_but (pos (least (S slot)))
 but_val_set S p slot = let z = pos (least (S slot)) in sym (filter_agree (λ n. not (int_eq (pos n) z)) (λ n. not (int_eq z (pos n))) (other_way z) (universe INFINITY))

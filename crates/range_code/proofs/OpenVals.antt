@@ -9,13 +9,13 @@ use Rattle.fd_language.specs.declared.range_node.Feature.TheVariants as feature
 use Rattle.fd_language.specs.declared.range_node.Need.{Need}
 use Rattle.fd_language.specs.Family.{Family, count_up}
 use Rattle.fd_language.specs.Range.{is_several}
-use Rattle.fd_language.specs.Features.{is_same_pair}
+use Rattle.fd_language.specs.Features.{is_val, is_same_pair}
 use Rattle.fd_language.proofs.Lemmas.{in_count_up, has-filter, any_to}
 use Rattle.range_code.specs.declared.frame.Arg.{Arg}
 use Rattle.range_code.specs.Frames.{AreArgs}
 use Rattle.range_code.specs.Kinds.{has_pair}
 use Rattle.range_code.specs.Nodes.{IsSeen}
-use Rattle.range_code.specs.Standing.{is_val, opens}
+use Rattle.range_code.specs.Standing.{opens}
 use Rattle.range_code.proofs.Standings.{same_is}
 
 -- what holds of each number that passes holds of all that are kept

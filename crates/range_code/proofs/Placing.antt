@@ -19,7 +19,7 @@ use Rattle.fd_language.specs.Range.{Range, Span, One, Dom, Union, Inter, Outside
 use Rattle.fd_language.specs.Flat.{nodes_of, expr_nodes, range_nodes}
 use Rattle.fd_language.proofs.Lemmas.{two}
 use Rattle.range_code.specs.declared.evaluate.Steps.{Steps}
-use Rattle.range_code.specs.Folded.{folded, folded_range}
+use Rattle.range_code.specs.FoldedRanges.{folded, folded_range}
 use Rattle.range_code.specs.Pieces.{literals}
 use Rattle.range_code.specs.declared.fold.Piece.{Piece}
 use Rattle.range_code.specs.declared.fold.Piece.TheVariants.{Literal, Other}
@@ -27,7 +27,7 @@ use Rattle.fd_language.specs.declared.TheConstants.{INFINITY}
 use Rattle.fd_language.specs.Check.{literal_value}
 use Rattle.range_code.proofs.Folding.{folds_to}
 use Rattle.range_code.specs.Instructions.{integers, table_of, tests_for, instr_of, node_of, IsPlaced}
-use Rattle.range_code.specs.Compiled.{AreStepsOf}
+use Rattle.range_code.specs.CodeFields.{AreStepsOf}
 use Rattle.range_code.specs.StepNodes.{all_steps, ArePlaced}
 
 -- an integer that is in a list has a place there

@@ -16,17 +16,17 @@ use Rattle.fd_language.proofs.Lemmas.{accepted_is_monotone, two, reads_map, mono
 use Rattle.range_code.specs.declared.frame.Arg.{Arg}
 use Rattle.range_code.specs.declared.frame.Arg.TheVariants.{Var, Int}
 use Rattle.range_code.specs.Slots.{slot_of}
-use Rattle.range_code.specs.Frames.{IsArg, IsFrame, integer_of, arg_at, slot_variable, slot_integer, posted}
+use Rattle.range_code.specs.Frames.{IsArg, IsFrame, arg_integer, arg_at, slot_variable, slot_integer, posted}
 use Rattle.range_code.proofs.Once.{has_once}
 use Rattle.range_code.proofs.SlotNeeds.{of_asks, range_asked}
-use Rattle.range_code.proofs.Framing.{params_placed, slotted, reads_seen}
+use Rattle.range_code.proofs.Framing.{params_occur, slotted, reads_seen}
 use Rattle.range_code.proofs.Standings.{reads_filled}
 
 all_of : (t : ℕ → Bool) (xs : List ℕ) → ((x : ℕ) → has xs x ≡ true → t x ≡ true) → list_all t xs ≡ true
 all_of t [] h = refl
 all_of t (x ∷ xs) h = two (λ a b. a && b) (h x (or_left (x == x) (has xs x) (eq-eqb x x refl))) (all_of t xs (λ y k. h y (or_right (x == y) (has xs y) k)))
 
-meets_arg : (count : ℕ) (n : Need) (a : Arg) → IsArg count (Some n) a → meets n (integer_of a) ≡ true
+meets_arg : (count : ℕ) (n : Need) (a : Arg) → IsArg count (Some n) a → meets n (arg_integer a) ≡ true
 meets_arg count n (Int z) h = h
 meets_arg count n (Var k) h = absurd h
 
@@ -54,7 +54,7 @@ module _ (count : ℕ) (r : Range) (args : List Arg) (accepted : is_accepted INF
     each : (x : ℕ) → has (parameters r) x ≡ true → meets (need_of r x) (by_variable x) ≡ true
     each x h =
         let p : has (params r) x ≡ true = sym (has_once (of_asks (asks r)) x ∙ ap (λ l. has l x) (range_asked r)) ∙ h in
-        let a = slotted count r args frame (one_use r accepted) x (params_placed r x p) in
+        let a = slotted count r args frame (one_use r accepted) x (params_occur r x p) in
         meets_arg count (need_of r x) (arg_at args (slot_of r x)) (subst (λ n. IsArg count n (arg_at args (slot_of r x))) (ap (λ b. cond b (Some (need_of r x)) None) p) a.fitting)
 
   -- the posted range only shrinks when domains shrink, and names variables below the count

@@ -11,14 +11,14 @@ use Rattle.fd_language.specs.declared.range_node.RangeNode.{RangeNode}
 use Rattle.fd_language.specs.declared.range_node.Feature.TheVariants as feature
 use Rattle.fd_language.specs.declared.range_node.RangeNode.TheVariants as node
 use Rattle.fd_language.specs.Family.{Family, has, universe, IsRising, IsFamily, count_up}
-use Rattle.fd_language.proofs.Lemmas.{bounded_values, needs_met, two, set_same, whole_nodes}
+use Rattle.fd_language.proofs.Lemmas.{bounded_values, filled_renamed, needs_met, two, set_same, whole_nodes}
 use Rattle.fd_language.specs.Range.{Range, Span, One, Dom, Union, Inter, Outside, Plus, Minus, Times, Over, Expr, Number, Infinity, Param, Min, Max, Val, Add, Sub, Mul, DivDown, DivUp, reads, vals, in_range, set_of, least, is_none_left, is_several}
 use Rattle.fd_language.specs.Needs.{meets_needs}
 use Rattle.fd_language.specs.Check.{fill, fill_range}
 use Rattle.fd_language.specs.RangeVerdict.{is_accepted}
 use Rattle.fd_language.specs.RangeRenaming.{rename_expr, rename_range}
 use Rattle.fd_language.specs.Features.{range_features, features_of}
-use Rattle.fd_language.specs.Flat.{nodes_of, spelled, IsSpelled, spelled-nodes}
+use Rattle.fd_language.specs.Flat.{nodes_of, spelled_range, IsSpelled, spelled_range-nodes}
 use Rattle.fd_language.specs.CheckLaws.{AreBounded}
 use Rattle.range_code.specs.declared.frame.Arg.{Arg}
 use Rattle.range_code.specs.declared.frame.Standing.TheVariants.{Empty, Open, Settled}
@@ -30,7 +30,7 @@ use Rattle.range_code.specs.Frames.{IsFrame, slot_variable, slot_integer, family
 use Rattle.range_code.specs.Nodes.{IsSeen, IsReadable}
 use Rattle.range_code.specs.Standing.{opens, standing_of, tested, IsTestSeen, TestRises}
 use Rattle.range_code.specs.declared.instr.RangeInstr.{RangeInstr}
-use Rattle.range_code.specs.Folded.{folded_range, folded_nodes}
+use Rattle.range_code.specs.FoldedRanges.{folded_range, folded_nodes}
 use Rattle.range_code.specs.Instructions.{without_need, tests_of}
 use Rattle.range_code.specs.declared.Reach.{Reach}
 use Rattle.range_code.specs.declared.Reach.TheVariants as reach
@@ -46,32 +46,6 @@ use Rattle.range_code.proofs.Framing.{all_readable}
 use Rattle.range_code.proofs.PostedRanges.{fits_table, one_use, frame_meets}
 use Rattle.range_code.proofs.OpenVals.{all_kept, one_pair, vals_open, all_below}
 use Rattle.range_code.proofs.Standings.{features_seen, all_once, any_read, any_val, reads_filled, vals_filled}
-
--- integers filled in before or after the variables are named anew
-fill_named : (f : ℕ → ℕ) (p : ℕ → ℤ) (e : Expr) → fill p (rename_expr f e) ≡ rename_expr f (fill (λ y. p (f y)) e)
-fill_named f p (Number z) = refl
-fill_named f p Infinity = refl
-fill_named f p (Param x) = refl
-fill_named f p (Min y) = refl
-fill_named f p (Max y) = refl
-fill_named f p (Val y) = refl
-fill_named f p (Add a b) = two Add (fill_named f p a) (fill_named f p b)
-fill_named f p (Sub a b) = two Sub (fill_named f p a) (fill_named f p b)
-fill_named f p (Mul a b) = two Mul (fill_named f p a) (fill_named f p b)
-fill_named f p (DivDown a b) = two DivDown (fill_named f p a) (fill_named f p b)
-fill_named f p (DivUp a b) = two DivUp (fill_named f p a) (fill_named f p b)
-
-pub range_named : (f : ℕ → ℕ) (p : ℕ → ℤ) (r : Range) → fill_range p (rename_range f r) ≡ rename_range f (fill_range (λ y. p (f y)) r)
-range_named f p (Span a b) = two Span (fill_named f p a) (fill_named f p b)
-range_named f p (Union r q) = two Union (range_named f p r) (range_named f p q)
-range_named f p (Inter r q) = two Inter (range_named f p r) (range_named f p q)
-range_named f p (Plus r c) = two Plus (range_named f p r) (fill_named f p c)
-range_named f p (Minus r c) = two Minus (range_named f p r) (fill_named f p c)
-range_named f p (Times r c) = two Times (range_named f p r) (fill_named f p c)
-range_named f p (Over r c) = two Over (range_named f p r) (fill_named f p c)
-range_named f p (One t) = ap One (fill_named f p t)
-range_named f p (Dom y) = refl
-range_named f p (Outside r) = ap Outside (range_named f p r)
 
 empty_rises : (c : Bool) (xs : List ℕ) → (c ≡ true → IsRising 0 INFINITY xs) → IsRising 0 INFINITY (cond c xs [])
 empty_rises true xs h = h refl
@@ -91,7 +65,7 @@ module _ (sets : List (List ℕ)) (r : Range) (args : List Arg) where
   posted_is : set_of INFINITY (family_of sets) (posted r args) ≡ set_of INFINITY Sets (fill_range integers (in_slots r))
   posted_is =
       set_same INFINITY (λ y. slot_variable args (slot_of r y)) (family_of sets) (λ y. Sets (slot_of r y)) (fill_range by_variable r) (λ v h. refl)
-      ∙ sym (ap (set_of INFINITY Sets) (range_named (slot_of r) integers r) ∙ set_same INFINITY (slot_of r) Sets (λ y. Sets (slot_of r y)) (fill_range by_variable r) (λ v h. refl))
+      ∙ sym (ap (set_of INFINITY Sets) (filled_renamed (slot_of r) integers r) ∙ set_same INFINITY (slot_of r) Sets (λ y. Sets (slot_of r y)) (fill_range by_variable r) (λ v h. refl))
 
   abbrev filled : Range
   filled = fill_range integers (in_slots r)
@@ -190,10 +164,10 @@ module _ (sets : List (List ℕ)) (r : Range) (args : List Arg) (accepted : is_a
     pub nodes_spelled : IsSpelled nodes
     nodes_spelled = (folded_range (in_slots r), sym nodes_are)
 
-    spells : spelled nodes ≡ folded_range (in_slots r)
-    spells = ap spelled nodes_are ∙ spelled-nodes (folded_range (in_slots r))
+    spells : spelled_range nodes ≡ folded_range (in_slots r)
+    spells = ap spelled_range nodes_are ∙ spelled_range-nodes (folded_range (in_slots r))
 
-    fits_where : ((y : ℕ) → has (reads r) y ≡ true → IsRising 0 INFINITY (Sets sets r args (slot_of r y))) → RangeFits (Sets sets r args) (integers sets r args) (spelled nodes)
+    fits_where : ((y : ℕ) → has (reads r) y ≡ true → IsRising 0 INFINITY (Sets sets r args (slot_of r y))) → RangeFits (Sets sets r args) (integers sets r args) (spelled_range nodes)
     fits_where rise =
         let family : IsFamily INFINITY Rising = record { rising = λ y. empty_rises (has (reads r) y) (Sets sets r args (slot_of r y)) (rise y) } in
         let b : AreBounded INFINITY Rising (fill_range (by_variable sets r args) r) = bounded_values INFINITY r (by_variable sets r args) Rising accepted met family in
@@ -202,14 +176,14 @@ module _ (sets : List (List ℕ)) (r : Range) (args : List Arg) (accepted : is_a
         (fits (slot_of r) Rising (Sets sets r args) (integers sets r args) r (λ y h. ap (λ c. cond c (Sets sets r args (slot_of r y)) []) h) b.values b.divisors
         (divides Rising (by_variable sets r args) r true (fits_table r accepted) (needs_met (by_variable sets r args) r met))))
 
-    pub nodes_fit : (is : List RangeInstr) → is ≡ tests_of r → All (TestRises (Sets sets r args)) is → RangeFits (Sets sets r args) (integers sets r args) (spelled nodes)
+    pub nodes_fit : (is : List RangeInstr) → is ≡ tests_of r → All (TestRises (Sets sets r args)) is → RangeFits (Sets sets r args) (integers sets r args) (spelled_range nodes)
     nodes_fit is e rises = fits_where (read_rises (subst (All (TestRises (Sets sets r args))) e rises))
 
-    pub nodes_fit_family : IsFamily INFINITY (family_of sets) → RangeFits (Sets sets r args) (integers sets r args) (spelled nodes)
+    pub nodes_fit_family : IsFamily INFINITY (family_of sets) → RangeFits (Sets sets r args) (integers sets r args) (spelled_range nodes)
     nodes_fit_family f = fits_where (λ y h. f.rising (slot_variable args (slot_of r y)))
 
     abbrev table : List ℕ
-    table = filled_set (Sets sets r args) (integers sets r args) (spelled nodes)
+    table = filled_set (Sets sets r args) (integers sets r args) (spelled_range nodes)
 
     unfolds : table ≡ filled_set (Sets sets r args) (integers sets r args) (in_slots r)
     unfolds = ap (filled_set (Sets sets r args) (integers sets r args)) spells ∙ set_folded (Sets sets r args) (integers sets r args) (in_slots r)

@@ -1,5 +1,5 @@
 -- How the variables of a range stand, told from what it reads.
-use Rattle.std.proofs.Common.{◌≡◌, ℕ, zero, suc, ◌≤◌, ◌⊎◌, arith, ℤ, ◌<◌, length, get_or, subst, Bool, true, false, cond, not, ◌||◌, ◌&&◌, ◌==◌, List, [], ◌∷◌, ◌++◌, filter, refl, sym, ◌∙◌, ap, inl, inr, eqb-true}
+use Rattle.std.proofs.Common.{◌≡◌, ℕ, zero, suc, ◌≤◌, ◌⊎◌, arith, ℤ, ◌<◌, length, get_or, subst, Bool, true, false, cond, not, ◌||◌, ◌&&◌, ◌==◌, List, [], ◌∷◌, ◌++◌, map, filter, refl, sym, ◌∙◌, ap, inl, inr, eqb-true}
 use Rattle.std.specs.List.{All, list_any}
 use Rattle.std.proofs.lemmas.Bool.{cases_Bool, true≢false}
 use Rattle.std.proofs.lemmas.List.Elements.{All-nil, All-cons, All-head, All-tail, All-filter}
@@ -9,15 +9,14 @@ use Rattle.fd_language.specs.declared.range_node.Feature.{Feature}
 use Rattle.fd_language.specs.declared.range_node.Feature.TheVariants as feature
 use Rattle.fd_language.specs.declared.range_node.RangeNode.{RangeNode}
 use Rattle.fd_language.specs.declared.range_node.RangeNode.TheVariants as node
-use Rattle.fd_language.specs.Range.{from_node, Range, Span, One, Dom, Union, Inter, Outside, Plus, Minus, Times, Over, Expr, Number, Infinity, Param, Min, Max, Val, Add, Sub, Mul, DivDown, DivUp, reads, expr_reads, vals, expr_vals, is_none_left}
-use Rattle.fd_language.specs.Check.{fill, fill_range}
+use Rattle.fd_language.specs.Range.{from_node, Range, reads, read_at, vals, val_at, is_none_left}
+use Rattle.fd_language.specs.Check.{fill_range}
 use Rattle.fd_language.specs.declared.TheConstants.{INFINITY}
 use Rattle.fd_language.specs.Family.{IsRising, universe}
-use Rattle.fd_language.specs.Features.{expr_features, range_features, is_same_feature, is_same_pair, each_once, features_of, feature_at, node_features}
-use Rattle.fd_language.proofs.Lemmas.{two, universe_rising}
+use Rattle.fd_language.specs.Features.{is_val, range_features, is_same_feature, is_same_pair, each_once, features_of, feature_at, node_features}
+use Rattle.fd_language.proofs.Lemmas.{two, universe_rising, filled_leaves, reads_of_features, vals_of, vals_of_features}
 use Rattle.range_code.specs.declared.frame.Arg.{Arg}
 use Rattle.range_code.specs.Nodes.{IsSeen, IsReadable}
-use Rattle.range_code.specs.Standing.{is_val}
 
 -- what nodes read is there
 module _ (count : ℕ) (args : List Arg) where
@@ -95,115 +94,29 @@ pub any_once : (t : ℕ × Feature → Bool) (ds : List (ℕ × Feature)) → li
 any_once t [] = refl
 any_once t (d ∷ ds) = without t d (each_once ds) ∙ ap (λ b. t d || b) (any_once t ds)
 
-either_list : {A B : Type 0} (s : A → Bool) (t : B → Bool) (xs ys : List A) (us vs : List B) → list_any s xs ≡ list_any t us → list_any s ys ≡ list_any t vs → list_any s (xs ++ ys) ≡ list_any t (us ++ vs)
-either_list s t xs ys us vs h g = list_any-append s xs ys ∙ (two (λ a b. a || b) h g ∙ sym (list_any-append t us vs))
+any_firsts : (t : ℕ → Bool) (ds : List (ℕ × Feature)) → list_any (λ d. t d.0) ds ≡ list_any t (map (λ d. d.0) ds)
+any_firsts t [] = refl
+any_firsts t (d ∷ ds) = ap (λ b. t d.0 || b) (any_firsts t ds)
 
-any_expr_reads : (t : ℕ → Bool) (e : Expr) → list_any (λ d. t d.0) (expr_features e) ≡ list_any t (expr_reads e)
-any_expr_reads t (Number z) = refl
-any_expr_reads t Infinity = refl
-any_expr_reads t (Param x) = refl
-any_expr_reads t (Min y) = refl
-any_expr_reads t (Max y) = refl
-any_expr_reads t (Val y) = refl
-any_expr_reads t (Add a b) = either_list (λ d. t d.0) t (expr_features a) (expr_features b) (expr_reads a) (expr_reads b) (any_expr_reads t a) (any_expr_reads t b)
-any_expr_reads t (Sub a b) = either_list (λ d. t d.0) t (expr_features a) (expr_features b) (expr_reads a) (expr_reads b) (any_expr_reads t a) (any_expr_reads t b)
-any_expr_reads t (Mul a b) = either_list (λ d. t d.0) t (expr_features a) (expr_features b) (expr_reads a) (expr_reads b) (any_expr_reads t a) (any_expr_reads t b)
-any_expr_reads t (DivDown a b) = either_list (λ d. t d.0) t (expr_features a) (expr_features b) (expr_reads a) (expr_reads b) (any_expr_reads t a) (any_expr_reads t b)
-any_expr_reads t (DivUp a b) = either_list (λ d. t d.0) t (expr_features a) (expr_features b) (expr_reads a) (expr_reads b) (any_expr_reads t a) (any_expr_reads t b)
-
-any_reads : (t : ℕ → Bool) (r : Range) → list_any (λ d. t d.0) (range_features r) ≡ list_any t (reads r)
-any_reads t (Span a b) = either_list (λ d. t d.0) t (expr_features a) (expr_features b) (expr_reads a) (expr_reads b) (any_expr_reads t a) (any_expr_reads t b)
-any_reads t (Union r q) = either_list (λ d. t d.0) t (range_features r) (range_features q) (reads r) (reads q) (any_reads t r) (any_reads t q)
-any_reads t (Inter r q) = either_list (λ d. t d.0) t (range_features r) (range_features q) (reads r) (reads q) (any_reads t r) (any_reads t q)
-any_reads t (Plus r c) = either_list (λ d. t d.0) t (range_features r) (expr_features c) (reads r) (expr_reads c) (any_reads t r) (any_expr_reads t c)
-any_reads t (Minus r c) = either_list (λ d. t d.0) t (range_features r) (expr_features c) (reads r) (expr_reads c) (any_reads t r) (any_expr_reads t c)
-any_reads t (Times r c) = either_list (λ d. t d.0) t (range_features r) (expr_features c) (reads r) (expr_reads c) (any_reads t r) (any_expr_reads t c)
-any_reads t (Over r c) = either_list (λ d. t d.0) t (range_features r) (expr_features c) (reads r) (expr_reads c) (any_reads t r) (any_expr_reads t c)
-any_reads t (One a) = any_expr_reads t a
-any_reads t (Dom y) = refl
-any_reads t (Outside r) = any_reads t r
-
-any_expr_vals : (t : ℕ → Bool) (e : Expr) → list_any (λ d. is_val d.1 && t d.0) (expr_features e) ≡ list_any t (expr_vals e)
-any_expr_vals t (Number z) = refl
-any_expr_vals t Infinity = refl
-any_expr_vals t (Param x) = refl
-any_expr_vals t (Min y) = refl
-any_expr_vals t (Max y) = refl
-any_expr_vals t (Val y) = refl
-any_expr_vals t (Add a b) = either_list (λ d. is_val d.1 && t d.0) t (expr_features a) (expr_features b) (expr_vals a) (expr_vals b) (any_expr_vals t a) (any_expr_vals t b)
-any_expr_vals t (Sub a b) = either_list (λ d. is_val d.1 && t d.0) t (expr_features a) (expr_features b) (expr_vals a) (expr_vals b) (any_expr_vals t a) (any_expr_vals t b)
-any_expr_vals t (Mul a b) = either_list (λ d. is_val d.1 && t d.0) t (expr_features a) (expr_features b) (expr_vals a) (expr_vals b) (any_expr_vals t a) (any_expr_vals t b)
-any_expr_vals t (DivDown a b) = either_list (λ d. is_val d.1 && t d.0) t (expr_features a) (expr_features b) (expr_vals a) (expr_vals b) (any_expr_vals t a) (any_expr_vals t b)
-any_expr_vals t (DivUp a b) = either_list (λ d. is_val d.1 && t d.0) t (expr_features a) (expr_features b) (expr_vals a) (expr_vals b) (any_expr_vals t a) (any_expr_vals t b)
-
-any_vals : (t : ℕ → Bool) (r : Range) → list_any (λ d. is_val d.1 && t d.0) (range_features r) ≡ list_any t (vals r)
-any_vals t (Span a b) = either_list (λ d. is_val d.1 && t d.0) t (expr_features a) (expr_features b) (expr_vals a) (expr_vals b) (any_expr_vals t a) (any_expr_vals t b)
-any_vals t (Union r q) = either_list (λ d. is_val d.1 && t d.0) t (range_features r) (range_features q) (vals r) (vals q) (any_vals t r) (any_vals t q)
-any_vals t (Inter r q) = either_list (λ d. is_val d.1 && t d.0) t (range_features r) (range_features q) (vals r) (vals q) (any_vals t r) (any_vals t q)
-any_vals t (Plus r c) = either_list (λ d. is_val d.1 && t d.0) t (range_features r) (expr_features c) (vals r) (expr_vals c) (any_vals t r) (any_expr_vals t c)
-any_vals t (Minus r c) = either_list (λ d. is_val d.1 && t d.0) t (range_features r) (expr_features c) (vals r) (expr_vals c) (any_vals t r) (any_expr_vals t c)
-any_vals t (Times r c) = either_list (λ d. is_val d.1 && t d.0) t (range_features r) (expr_features c) (vals r) (expr_vals c) (any_vals t r) (any_expr_vals t c)
-any_vals t (Over r c) = either_list (λ d. is_val d.1 && t d.0) t (range_features r) (expr_features c) (vals r) (expr_vals c) (any_vals t r) (any_expr_vals t c)
-any_vals t (One a) = any_expr_vals t a
-any_vals t (Dom y) = refl
-any_vals t (Outside r) = any_vals t r
+any_vals : (t : ℕ → Bool) (ds : List (ℕ × Feature)) → list_any (λ d. is_val d.1 && t d.0) ds ≡ list_any t (vals_of ds)
+any_vals t [] = refl
+any_vals t (d ∷ ds) = by_test (is_val d.1) (any_vals t ds) where
+  by_test : (b : Bool) → list_any (λ d. is_val d.1 && t d.0) ds ≡ list_any t (vals_of ds) → ((b && t d.0) || list_any (λ d. is_val d.1 && t d.0) ds) ≡ list_any t (cond b (d.0 ∷ vals_of ds) (vals_of ds))
+  by_test true e = ap (λ c. t d.0 || c) e
+  by_test false e = e
 
 pub any_read : (t : ℕ → Bool) (r : Range) → list_any (λ d. t d.0) (features_of r) ≡ list_any t (reads r)
-any_read t r = any_once (λ d. t d.0) (range_features r) ∙ any_reads t r
+any_read t r = any_once (λ d. t d.0) (range_features r) ∙ any_firsts t (range_features r) ∙ ap (list_any t) (sym (reads_of_features r))
 
 pub any_val : (t : ℕ → Bool) (r : Range) → list_any (λ d. is_val d.1 && t d.0) (features_of r) ≡ list_any t (vals r)
-any_val t r = any_once (λ d. is_val d.1 && t d.0) (range_features r) ∙ any_vals t r
+any_val t r = any_once (λ d. is_val d.1 && t d.0) (range_features r) ∙ any_vals t (range_features r) ∙ ap (list_any t) (sym (vals_of_features r))
 
 -- parameters' integers change nothing of what is read
-expr_reads_filled : (p : ℕ → ℤ) (e : Expr) → expr_reads (fill p e) ≡ expr_reads e
-expr_reads_filled p (Number z) = refl
-expr_reads_filled p Infinity = refl
-expr_reads_filled p (Param x) = refl
-expr_reads_filled p (Min y) = refl
-expr_reads_filled p (Max y) = refl
-expr_reads_filled p (Val y) = refl
-expr_reads_filled p (Add a b) = two (λ x y. x ++ y) (expr_reads_filled p a) (expr_reads_filled p b)
-expr_reads_filled p (Sub a b) = two (λ x y. x ++ y) (expr_reads_filled p a) (expr_reads_filled p b)
-expr_reads_filled p (Mul a b) = two (λ x y. x ++ y) (expr_reads_filled p a) (expr_reads_filled p b)
-expr_reads_filled p (DivDown a b) = two (λ x y. x ++ y) (expr_reads_filled p a) (expr_reads_filled p b)
-expr_reads_filled p (DivUp a b) = two (λ x y. x ++ y) (expr_reads_filled p a) (expr_reads_filled p b)
-
 pub reads_filled : (p : ℕ → ℤ) (r : Range) → reads (fill_range p r) ≡ reads r
-reads_filled p (Span a b) = two (λ x y. x ++ y) (expr_reads_filled p a) (expr_reads_filled p b)
-reads_filled p (Union r q) = two (λ x y. x ++ y) (reads_filled p r) (reads_filled p q)
-reads_filled p (Inter r q) = two (λ x y. x ++ y) (reads_filled p r) (reads_filled p q)
-reads_filled p (Plus r c) = two (λ x y. x ++ y) (reads_filled p r) (expr_reads_filled p c)
-reads_filled p (Minus r c) = two (λ x y. x ++ y) (reads_filled p r) (expr_reads_filled p c)
-reads_filled p (Times r c) = two (λ x y. x ++ y) (reads_filled p r) (expr_reads_filled p c)
-reads_filled p (Over r c) = two (λ x y. x ++ y) (reads_filled p r) (expr_reads_filled p c)
-reads_filled p (One a) = expr_reads_filled p a
-reads_filled p (Dom y) = refl
-reads_filled p (Outside r) = reads_filled p r
-
-expr_vals_filled : (p : ℕ → ℤ) (e : Expr) → expr_vals (fill p e) ≡ expr_vals e
-expr_vals_filled p (Number z) = refl
-expr_vals_filled p Infinity = refl
-expr_vals_filled p (Param x) = refl
-expr_vals_filled p (Min y) = refl
-expr_vals_filled p (Max y) = refl
-expr_vals_filled p (Val y) = refl
-expr_vals_filled p (Add a b) = two (λ x y. x ++ y) (expr_vals_filled p a) (expr_vals_filled p b)
-expr_vals_filled p (Sub a b) = two (λ x y. x ++ y) (expr_vals_filled p a) (expr_vals_filled p b)
-expr_vals_filled p (Mul a b) = two (λ x y. x ++ y) (expr_vals_filled p a) (expr_vals_filled p b)
-expr_vals_filled p (DivDown a b) = two (λ x y. x ++ y) (expr_vals_filled p a) (expr_vals_filled p b)
-expr_vals_filled p (DivUp a b) = two (λ x y. x ++ y) (expr_vals_filled p a) (expr_vals_filled p b)
+reads_filled p r = filled_leaves read_at (λ x. refl) p r
 
 pub vals_filled : (p : ℕ → ℤ) (r : Range) → vals (fill_range p r) ≡ vals r
-vals_filled p (Span a b) = two (λ x y. x ++ y) (expr_vals_filled p a) (expr_vals_filled p b)
-vals_filled p (Union r q) = two (λ x y. x ++ y) (vals_filled p r) (vals_filled p q)
-vals_filled p (Inter r q) = two (λ x y. x ++ y) (vals_filled p r) (vals_filled p q)
-vals_filled p (Plus r c) = two (λ x y. x ++ y) (vals_filled p r) (expr_vals_filled p c)
-vals_filled p (Minus r c) = two (λ x y. x ++ y) (vals_filled p r) (expr_vals_filled p c)
-vals_filled p (Times r c) = two (λ x y. x ++ y) (vals_filled p r) (expr_vals_filled p c)
-vals_filled p (Over r c) = two (λ x y. x ++ y) (vals_filled p r) (expr_vals_filled p c)
-vals_filled p (One a) = expr_vals_filled p a
-vals_filled p (Dom y) = refl
-vals_filled p (Outside r) = vals_filled p r
+vals_filled p r = filled_leaves val_at (λ x. refl) p r
 
 -- no set of a family is empty, where no listed one is
 at_or_past : (domains : List (List ℕ)) (k : ℕ) → (k < length domains) ⊎ (get_or domains k (universe INFINITY) ≡ universe INFINITY)

@@ -8,7 +8,7 @@ use Rattle.fd_language.specs.declared.range_node.Need.{Need}
 use Rattle.fd_language.specs.declared.TheConstants.{INFINITY}
 use Rattle.fd_language.specs.Family.{Family, IsRising, has}
 use Rattle.fd_language.specs.Range.{Range, Leaf, leaves, reads, params, read_at, param_at, is_parameter_role, is_none_left, is_several}
-use Rattle.fd_language.specs.Places.{range_places, place_at}
+use Rattle.fd_language.specs.Occurrences.{range_occurrences, occurrence_at}
 use Rattle.fd_language.specs.Needs.{once, need_of}
 use Rattle.fd_language.specs.RangeVerdict.{has_one_use}
 use Rattle.fd_language.specs.Features.{features_of}
@@ -17,7 +17,7 @@ use Rattle.range_code.specs.Slots.{slots_of, slot_of, slot_needs, need_at, in_sl
 use Rattle.range_code.specs.Kinds.{val_slots}
 use Rattle.range_code.proofs.Once.{has_kept, has_once}
 use Rattle.range_code.proofs.Standings.{any_read}
-use Rattle.range_code.proofs.Framing.{no_parameter, reads_placed}
+use Rattle.range_code.proofs.Framing.{no_parameter, reads_occur}
 use Rattle.range_code.specs.declared.instr.RangeInstr.{RangeInstr}
 use Rattle.range_code.specs.declared.instr.RangeInstr.TheVariants as instr
 use Rattle.range_code.specs.declared.frame.Arg.{Arg}
@@ -151,12 +151,12 @@ split_leaf : (b : Bool) (v y : ℕ) (rs ps : List ℕ) (t : Bool) → (t ≡ tru
 split_leaf true v y rs ps t f h = elim (or_cases (v == y) t h) [ inl e ↦ inr (or_left (v == y) (has ps y) e) | inr e ↦ elim (f e) [ inl k ↦ inl k | inr k ↦ inr (or_right (v == y) (has ps y) k) ] ]
 split_leaf false v y rs ps t f h = elim (or_cases (v == y) t h) [ inl e ↦ inl (or_left (v == y) (has rs y) e) | inr e ↦ elim (f e) [ inl k ↦ inl (or_right (v == y) (has rs y) k) | inr k ↦ inr k ] ]
 
-split_leaves : (ls : List Leaf) (y : ℕ) → has (map (λ q. q.variable) (flat_map place_at ls)) y ≡ true → (has (flat_map read_at ls) y ≡ true) ⊎ (has (flat_map param_at ls) y ≡ true)
+split_leaves : (ls : List Leaf) (y : ℕ) → has (map (λ q. q.variable) (flat_map occurrence_at ls)) y ≡ true → (has (flat_map read_at ls) y ≡ true) ⊎ (has (flat_map param_at ls) y ≡ true)
 split_leaves [] y h = absurd (true≢false (sym h))
-split_leaves (l ∷ ls) y h = split_leaf (is_parameter_role l.role) l.variable y (flat_map read_at ls) (flat_map param_at ls) (has (map (λ q. q.variable) (flat_map place_at ls)) y) (split_leaves ls y) h
+split_leaves (l ∷ ls) y h = split_leaf (is_parameter_role l.role) l.variable y (flat_map read_at ls) (flat_map param_at ls) (has (map (λ q. q.variable) (flat_map occurrence_at ls)) y) (split_leaves ls y) h
 
-read_or_param : (r : Range) (y : ℕ) → has (map (λ q. q.variable) (range_places r)) y ≡ true → (has (reads r) y ≡ true) ⊎ (has (params r) y ≡ true)
-read_or_param r y h = elim (split_leaves (leaves r) y (sym (ap (λ ps. has (map (λ q. q.variable) ps) y) (range_leaves place_at r)) ∙ h)) [
+read_or_param : (r : Range) (y : ℕ) → has (map (λ q. q.variable) (range_occurrences r)) y ≡ true → (has (reads r) y ≡ true) ⊎ (has (params r) y ≡ true)
+read_or_param r y h = elim (split_leaves (leaves r) y (sym (ap (λ ps. has (map (λ q. q.variable) ps) y) (range_leaves occurrence_at r)) ∙ h)) [
   | inl e ↦ inl (ap (λ xs. has xs y) (range_leaves read_at r) ∙ e)
   | inr e ↦ inr (ap (λ xs. has xs y) (range_leaves param_at r) ∙ e)
 ]
@@ -176,12 +176,12 @@ module _ (r : Range) (one : has_one_use r ≡ true) where
 
   -- the slot of a variable that is read is tested
   pub read_tested : (y : ℕ) → has (reads r) y ≡ true → has (without_need 0 (slot_needs r)) (slot_of r y) ≡ true
-  read_tested y h = ap (has some_slots) (let e : slot_of r y ≡ 0 + slot_of r y = omega arith in e) ∙ in_without (need_at r) (slots_of r) y 0 (has_once (map (λ q. q.variable) (range_places r)) y ∙ reads_placed r y h) (free_need y h)
+  read_tested y h = ap (has some_slots) (let e : slot_of r y ≡ 0 + slot_of r y = omega arith in e) ∙ in_without (need_at r) (slots_of r) y 0 (has_once (map (λ q. q.variable) (range_occurrences r)) y ∙ reads_occur r y h) (free_need y h)
 
   tested_read : (s : ℕ) → has (without_need 0 (slot_needs r)) s ≡ true → has (reads (in_slots r)) s ≡ true
   tested_read s h =
-      let k = of_slot (need_at r) (slots_of r) 0 s (apart_once (map (λ q. q.variable) (range_places r))) h in
-      let placed : has (map (λ q. q.variable) (range_places r)) k.variable ≡ true = sym (has_once (map (λ q. q.variable) (range_places r)) k.variable) ∙ k.there in
+      let k = of_slot (need_at r) (slots_of r) 0 s (apart_once (map (λ q. q.variable) (range_occurrences r))) h in
+      let placed : has (map (λ q. q.variable) (range_occurrences r)) k.variable ≡ true = sym (has_once (map (λ q. q.variable) (range_occurrences r)) k.variable) ∙ k.there in
       let same : s ≡ 0 + slot_of r k.variable = k.slot in
       let e : slot_of r k.variable ≡ s = omega arith in
       elim (read_or_param r k.variable placed) [

@@ -1,52 +1,33 @@
--- The variables of a range's nodes are those of its places.
-use Rattle.std.proofs.Common.{◌≡◌, ℕ, List, [], ◌∷◌, ◌++◌, map, refl, ◌∙◌, ap}
+-- The variables of a range's nodes are those that occur in it.
+use Rattle.std.proofs.Common.{◌≡◌, ℕ, List, [], ◌∷◌, ◌++◌, map, refl, sym, ◌∙◌, ap}
+use Rattle.std.specs.Prelude.{flat_map}
 use Rattle.std.proofs.lemmas.List.{append-nil}
 use Rattle.fd_language.specs.declared.range_node.RangeNode.{RangeNode}
 use Rattle.fd_language.specs.declared.range_node.RangeNode.TheVariants as node
-use Rattle.fd_language.specs.Range.{Range, Span, One, Dom, Union, Inter, Outside, Plus, Minus, Times, Over, Expr, Number, Infinity, Param, Min, Max, Val, Add, Sub, Mul, DivDown, DivUp}
-use Rattle.fd_language.specs.Places.{Place, expr_places, range_places}
+use Rattle.fd_language.specs.Range.{Range, Span, One, Dom, Union, Inter, Outside, Plus, Minus, Times, Over, Expr, Number, Infinity, Param, Min, Max, Val, Add, Sub, Mul, DivDown, DivUp, from_node}
+use Rattle.fd_language.specs.Occurrences.{range_occurrences}
 use Rattle.fd_language.specs.Flat.{expr_nodes, range_nodes, nodes_of}
 use Rattle.fd_language.specs.RangeRenaming.{rename_expr, rename_range}
+use Rattle.fd_language.proofs.Lemmas.{two, whole_nodes, variables_collected}
 use Rattle.range_code.specs.Nodes.{listed, node_variable, node_variables, rename_node}
-
-abbrev of_places : List Place → List ℕ
-of_places ps = map (λ q. q.variable) ps
-
-of_both : (ps qs : List Place) (rest : List ℕ) → of_places ps ++ (of_places qs ++ rest) ≡ of_places (ps ++ qs) ++ rest
-of_both [] qs rest = refl
-of_both (q ∷ ps) qs rest = ap (λ l. q.variable ∷ l) (of_both ps qs rest)
 
 pub regroup : {A : Type 0} (xs ys zs : List A) → xs ++ (ys ++ zs) ≡ (xs ++ ys) ++ zs
 regroup [] ys zs = refl
 regroup (x ∷ xs) ys zs = ap (λ l. x ∷ l) (regroup xs ys zs)
 
-expr_variables : (e : Expr) (rest : List RangeNode) → node_variables (expr_nodes e rest) ≡ of_places (expr_places e) ++ node_variables rest
-expr_variables (Number z) rest = refl
-expr_variables Infinity rest = refl
-expr_variables (Param x) rest = refl
-expr_variables (Min y) rest = refl
-expr_variables (Max y) rest = refl
-expr_variables (Val y) rest = refl
-expr_variables (Add a b) rest = expr_variables a (expr_nodes b (node.Add ∷ rest)) ∙ (ap (λ l. of_places (expr_places a) ++ l) (expr_variables b (node.Add ∷ rest)) ∙ of_both (expr_places a) (expr_places b) (node_variables rest))
-expr_variables (Sub a b) rest = expr_variables a (expr_nodes b (node.Sub ∷ rest)) ∙ (ap (λ l. of_places (expr_places a) ++ l) (expr_variables b (node.Sub ∷ rest)) ∙ of_both (expr_places a) (expr_places b) (node_variables rest))
-expr_variables (Mul a b) rest = expr_variables a (expr_nodes b (node.Mul ∷ rest)) ∙ (ap (λ l. of_places (expr_places a) ++ l) (expr_variables b (node.Mul ∷ rest)) ∙ of_both (expr_places a) (expr_places b) (node_variables rest))
-expr_variables (DivDown a b) rest = expr_variables a (expr_nodes b (node.DivDown ∷ rest)) ∙ (ap (λ l. of_places (expr_places a) ++ l) (expr_variables b (node.DivDown ∷ rest)) ∙ of_both (expr_places a) (expr_places b) (node_variables rest))
-expr_variables (DivUp a b) rest = expr_variables a (expr_nodes b (node.DivUp ∷ rest)) ∙ (ap (λ l. of_places (expr_places a) ++ l) (expr_variables b (node.DivUp ∷ rest)) ∙ of_both (expr_places a) (expr_places b) (node_variables rest))
+by_leaves : (ns : List RangeNode) → node_variables ns ≡ flat_map (from_node (λ l. l.variable ∷ [])) ns
+by_leaves [] = refl
+by_leaves (n ∷ ns) = two (λ x y. x ++ y) (here n) (by_leaves ns) where
+  here : (n : RangeNode) → listed (node_variable n) ≡ from_node (λ l. l.variable ∷ []) n
+  here (node.Param x) = refl
+  here (node.Min y) = refl
+  here (node.Max y) = refl
+  here (node.Val y) = refl
+  here (node.Dom y) = refl
+  here n = refl
 
-range_variables : (r : Range) (rest : List RangeNode) → node_variables (range_nodes r rest) ≡ of_places (range_places r) ++ node_variables rest
-range_variables (Span a b) rest = expr_variables a (expr_nodes b (node.Span ∷ rest)) ∙ (ap (λ l. of_places (expr_places a) ++ l) (expr_variables b (node.Span ∷ rest)) ∙ of_both (expr_places a) (expr_places b) (node_variables rest))
-range_variables (Union r q) rest = range_variables r (range_nodes q (node.Union ∷ rest)) ∙ (ap (λ l. of_places (range_places r) ++ l) (range_variables q (node.Union ∷ rest)) ∙ of_both (range_places r) (range_places q) (node_variables rest))
-range_variables (Inter r q) rest = range_variables r (range_nodes q (node.Inter ∷ rest)) ∙ (ap (λ l. of_places (range_places r) ++ l) (range_variables q (node.Inter ∷ rest)) ∙ of_both (range_places r) (range_places q) (node_variables rest))
-range_variables (Plus r c) rest = range_variables r (expr_nodes c (node.Plus ∷ rest)) ∙ (ap (λ l. of_places (range_places r) ++ l) (expr_variables c (node.Plus ∷ rest)) ∙ of_both (range_places r) (expr_places c) (node_variables rest))
-range_variables (Minus r c) rest = range_variables r (expr_nodes c (node.Minus ∷ rest)) ∙ (ap (λ l. of_places (range_places r) ++ l) (expr_variables c (node.Minus ∷ rest)) ∙ of_both (range_places r) (expr_places c) (node_variables rest))
-range_variables (Times r c) rest = range_variables r (expr_nodes c (node.Times ∷ rest)) ∙ (ap (λ l. of_places (range_places r) ++ l) (expr_variables c (node.Times ∷ rest)) ∙ of_both (range_places r) (expr_places c) (node_variables rest))
-range_variables (Over r c) rest = range_variables r (expr_nodes c (node.Over ∷ rest)) ∙ (ap (λ l. of_places (range_places r) ++ l) (expr_variables c (node.Over ∷ rest)) ∙ of_both (range_places r) (expr_places c) (node_variables rest))
-range_variables (One t) rest = expr_variables t (node.One ∷ rest)
-range_variables (Dom y) rest = refl
-range_variables (Outside r) rest = range_variables r (node.Outside ∷ rest)
-
-pub node_variables_of : (r : Range) → node_variables (nodes_of r) ≡ map (λ q. q.variable) (range_places r)
-node_variables_of r = range_variables r [] ∙ append-nil (of_places (range_places r))
+pub node_variables_of : (r : Range) → node_variables (nodes_of r) ≡ map (λ q. q.variable) (range_occurrences r)
+node_variables_of r = by_leaves (nodes_of r) ∙ whole_nodes (λ l. l.variable ∷ []) r ∙ sym (variables_collected r)
 
 -- the variables of one more node
 pub one_more : (ms : List RangeNode) (m : RangeNode) → node_variables (ms ++ m ∷ []) ≡ node_variables ms ++ listed (node_variable m)

@@ -12,7 +12,7 @@ use Rattle.fd_language.specs.declared.range_node.RangeNode.{RangeNode}
 use Rattle.fd_language.specs.declared.range_node.RangeNode.TheVariants as node
 use Rattle.fd_language.specs.Family.{Family}
 use Rattle.fd_language.specs.Range.{Range, Span, One, Dom, Union, Inter, Outside, Plus, Minus, Times, Over, Expr, Number, Infinity, Param, Min, Max, Val, Add, Sub, Mul, DivDown, DivUp}
-use Rattle.fd_language.specs.Flat.{built, spelled, IsSpelled}
+use Rattle.fd_language.specs.Flat.{built, spelled_range, IsSpelled}
 use Rattle.fd_language.specs.declared.TheConstants.{INFINITY}
 use Rattle.fd_language.specs.Check.{fill_range}
 use Rattle.fd_language.specs.Range.{in_range}
@@ -214,15 +214,15 @@ node_at s i d = node_of s.constants.items (get_or s.instrs.items i d)
 next_is : (s : Steps) (i : ℕ) (d : RangeInstr) (rs : List Range) (ts : List Expr) (o : Option Range) → i < length s.instrs.items → o ≡ built (steps_from s i) rs ts → o ≡ built (node_at s i d ∷ steps_from s (i + 1)) rs ts
 next_is s i d rs ts o l e = e ∙ at_drop_more (λ is. built (map (node_of s.constants.items) is) rs ts) s.instrs.items i d l
 
-pub walk_takes : (S : Family) (p : ℕ → ℤ) (i : ℕ) (s : Steps) (d : RangeInstr) (w : Work) → i < length s.instrs.items → RangeFits S p (spelled (all_steps s)) → IsAt S p s i w → CanTake (node_of s.constants.items (get_or s.instrs.items i d)) w
-walk_takes S p i s d w l h (rs, ts, e, k) = can_take S p (node_at s i d) (steps_from s (i + 1)) rs ts (spelled (all_steps s)) w (next_is s i d rs ts (Some (spelled (all_steps s))) l e) h k
+pub walk_takes : (S : Family) (p : ℕ → ℤ) (i : ℕ) (s : Steps) (d : RangeInstr) (w : Work) → i < length s.instrs.items → RangeFits S p (spelled_range (all_steps s)) → IsAt S p s i w → CanTake (node_of s.constants.items (get_or s.instrs.items i d)) w
+walk_takes S p i s d w l h (rs, ts, e, k) = can_take S p (node_at s i d) (steps_from s (i + 1)) rs ts (spelled_range (all_steps s)) w (next_is s i d rs ts (Some (spelled_range (all_steps s))) l e) h k
 
 from_follows : (S : Family) (p : ℕ → ℤ) (ns : List RangeNode) (r : Range) (o : Option Range) (w : Work) → Some r ≡ o → Follows S p ns o w → (rs : List Range) × (ts : List Expr) × (Some r ≡ built ns rs ts) × IsPending S p rs ts w
 from_follows S p ns r o w e f = subst (λ q. Follows S p ns q w) (sym e) f
 
 pub walk_step : (S : Family) (p : ℕ → ℤ) (i : ℕ) (s : Steps) (d : RangeInstr) (old new : Work) → i < length s.instrs.items → IsAt S p s i old → IsTaken S p (node_of s.constants.items (get_or s.instrs.items i d)) old new → IsAt S p s (i + 1) new
 walk_step S p i s d old new l (rs, ts, e, k) f =
-    from_follows S p (steps_from s (i + 1)) (spelled (all_steps s)) _ new (next_is s i d rs ts (Some (spelled (all_steps s))) l e) (f (steps_from s (i + 1)) rs ts k)
+    from_follows S p (steps_from s (i + 1)) (spelled_range (all_steps s)) _ new (next_is s i d rs ts (Some (spelled_range (all_steps s))) l e) (f (steps_from s (i + 1)) rs ts k)
 
 -- the last instruction
 pub record IsLast (s : Steps) (i : ℕ) : Type 0 where
@@ -247,15 +247,15 @@ alone S p r (q ∷ x ∷ rs) (t ∷ ts) w e h = absurd cc
 alone S p r (q ∷ []) [] w e h = h.sets ∙ ap (λ k. filled_set S p k ∷ []) (sym (same_Some r q e))
 
 -- behind the last instruction there is the set of the range alone
-pub set_alone : (S : Family) (p : ℕ → ℤ) (s : Steps) (i : ℕ) (w : Work) → length s.instrs.items ≤ i → IsAt S p s i w → w.sets.sets ≡ filled_set S p (spelled (all_steps s)) ∷ []
-set_alone S p s i w l (rs, ts, e, k) = alone S p (spelled (all_steps s)) rs ts w (e ∙ ap (λ ns. built ns rs ts) (at_end s i l)) k
+pub set_alone : (S : Family) (p : ℕ → ℤ) (s : Steps) (i : ℕ) (w : Work) → length s.instrs.items ≤ i → IsAt S p s i w → w.sets.sets ≡ filled_set S p (spelled_range (all_steps s)) ∷ []
+set_alone S p s i w l (rs, ts, e, k) = alone S p (spelled_range (all_steps s)) rs ts w (e ∙ ap (λ ns. built ns rs ts) (at_end s i l)) k
 
 -- the two ends of an interval wait
 pub record Ends (S : Family) (p : ℕ → ℤ) (s : Steps) (w : Work) : Type 0 where
   pub low : ℤ
   pub high : ℤ
   pub values : w.values.items ≡ ([] ++ low ∷ []) ++ high ∷ []
-  pub set : filled_set S p (spelled (all_steps s)) ≡ between low high
+  pub set : filled_set S p (spelled_range (all_steps s)) ≡ between low high
 
 ends_of : (S : Family) (p : ℕ → ℤ) (r : Range) (rs : List Range) (ts : List Expr) (items : List ℤ) → Some r ≡ built (node.Span ∷ []) rs ts → items ≡ stacked_values S p ts → (low : ℤ) × (high : ℤ) × (items ≡ ([] ++ low ∷ []) ++ high ∷ []) × (filled_set S p r ≡ between low high)
 ends_of S p r rs [] items e h = absurd cc
@@ -266,7 +266,7 @@ ends_of S p r [] (b ∷ a ∷ []) items e h = (filled_value S p a, filled_value 
 
 pub last_ends : (S : Family) (p : ℕ → ℤ) (s : Steps) (i : ℕ) (d : RangeInstr) (w : Work) → IsLast s i → get_or s.instrs.items i d ≡ instr.Span → IsAt S p s i w → Ends S p s w
 last_ends S p s i d w l is (rs, ts, e, k) =
-    let g = ends_of S p (spelled (all_steps s)) rs ts w.values.items (e ∙ (ap (λ ns. built ns rs ts) (at_last s i d l) ∙ ap (λ m. built (node_of s.constants.items m ∷ []) rs ts) is)) k.values in
+    let g = ends_of S p (spelled_range (all_steps s)) rs ts w.values.items (e ∙ (ap (λ ns. built ns rs ts) (at_last s i d l) ∙ ap (λ m. built (node_of s.constants.items m ∷ []) rs ts) is)) k.values in
     record { low = g.0; high = g.1; values = g.2; set = g.3 }
 
 -- the set of which the complement is taken waits
@@ -274,7 +274,7 @@ pub record Inner (S : Family) (p : ℕ → ℤ) (s : Steps) (w : Work) : Type 0 
   pub inner : List ℕ
   pub rest : List (List ℕ)
   pub sets : w.sets.sets ≡ inner ∷ rest
-  pub set : filled_set S p (spelled (all_steps s)) ≡ outside inner
+  pub set : filled_set S p (spelled_range (all_steps s)) ≡ outside inner
 
 inner_of : (S : Family) (p : ℕ → ℤ) (r : Range) (rs : List Range) (ts : List Expr) (sets : List (List ℕ)) → Some r ≡ built (node.Outside ∷ []) rs ts → sets ≡ stacked_sets S p rs → (q : Range) × (rest : List (List ℕ)) × (sets ≡ filled_set S p q ∷ rest) × (filled_set S p r ≡ outside (filled_set S p q))
 inner_of S p r [] [] sets e h = absurd cc
@@ -285,12 +285,12 @@ inner_of S p r (q ∷ []) [] sets e h = (q, [], h, ap (filled_set S p) (same_Som
 
 pub last_inner : (S : Family) (p : ℕ → ℤ) (s : Steps) (i : ℕ) (d : RangeInstr) (w : Work) → IsLast s i → get_or s.instrs.items i d ≡ instr.Outside → IsAt S p s i w → Inner S p s w
 last_inner S p s i d w l is (rs, ts, e, k) =
-    let g = inner_of S p (spelled (all_steps s)) rs ts w.sets.sets (e ∙ (ap (λ ns. built ns rs ts) (at_last s i d l) ∙ ap (λ m. built (node_of s.constants.items m ∷ []) rs ts) is)) k.sets in
+    let g = inner_of S p (spelled_range (all_steps s)) rs ts w.sets.sets (e ∙ (ap (λ ns. built ns rs ts) (at_last s i d l) ∙ ap (λ m. built (node_of s.constants.items m ∷ []) rs ts) is)) k.sets in
     record { inner = filled_set S p g.0; rest = g.1; sets = g.2; set = g.3 }
 
 -- something is behind the tests
 nothing_spelled : (ns : List RangeNode) → IsSpelled ns → ns ≡ [] → ⊥
-nothing_spelled ns h e = let k : Some (spelled ns) ≡ built [] [] [] = builds_all ns h ∙ ap (λ l. built l [] []) e in absurd cc
+nothing_spelled ns h e = let k : Some (spelled_range ns) ≡ built [] [] [] = builds_all ns h ∙ ap (λ l. built l [] []) e in absurd cc
 
 pub some_step : (s : Steps) → IsSpelled (all_steps s) → s.tests < length s.instrs.items
 some_step s h = elim (cases_lt s.tests (length s.instrs.items)) [

@@ -30,9 +30,9 @@ abbrev pub variable_of : Arg → ℕ
 variable_of (Var k) = k
 variable_of (Int z) = 0
 
-abbrev pub integer_of : Arg → ℤ
-integer_of (Var k) = pos 0
-integer_of (Int z) = z
+abbrev pub arg_integer : Arg → ℤ
+arg_integer (Var k) = pos 0
+arg_integer (Int z) = z
 
 -- the argument of a slot
 abbrev pub arg_at : List Arg → ℕ → Arg
@@ -42,7 +42,7 @@ abbrev pub slot_variable : List Arg → ℕ → ℕ
 slot_variable args slot = variable_of (arg_at args slot)
 
 abbrev pub slot_integer : List Arg → ℕ → ℤ
-slot_integer args slot = integer_of (arg_at args slot)
+slot_integer args slot = arg_integer (arg_at args slot)
 
 -- the sets of variables as a family
 abbrev pub family_of : List (List ℕ) → Family

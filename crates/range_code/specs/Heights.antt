@@ -4,7 +4,7 @@ use Rattle.fd_language.specs.declared.range_node.RangeNode.{RangeNode}
 use Rattle.fd_language.specs.declared.range_node.RangeNode.TheVariants as node
 use Rattle.fd_language.specs.Range.{Range}
 use Rattle.range_code.specs.declared.work.Work.{Work}
-use Rattle.range_code.specs.Folded.{folded_nodes}
+use Rattle.range_code.specs.FoldedRanges.{folded_nodes}
 
 -- how many values wait behind a node, where so many wait before it
 abbrev pub values_after : RangeNode → ℕ → ℕ

@@ -12,7 +12,7 @@ use Rattle.range_code.specs.declared.instr.RangeInstr.{RangeInstr}
 use Rattle.range_code.specs.declared.instr.RangeInstr.TheVariants as instr
 use Rattle.range_code.specs.Slots.{slot_needs}
 use Rattle.range_code.specs.Kinds.{val_slots}
-use Rattle.range_code.specs.Folded.{folded_nodes}
+use Rattle.range_code.specs.FoldedRanges.{folded_nodes}
 
 -- the slots from n on that need nothing: those of no parameter
 abbrev pub without_need : ℕ → List (Option Need) → List ℕ

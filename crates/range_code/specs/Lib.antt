@@ -2,7 +2,7 @@ pub mod Slots
 pub mod Frames
 pub mod Nodes
 pub mod Kinds
-pub mod Folded
+pub mod FoldedRanges
 pub mod Instructions
 pub mod Standing
 pub mod Work
@@ -12,7 +12,7 @@ pub mod Heights
 pub mod StepNodes
 pub mod ParameterNeeds
 pub mod SlotNumbering
-pub mod Compiled
+pub mod CodeFields
 pub mod Choices
 pub mod Forms
 pub mod Reaching

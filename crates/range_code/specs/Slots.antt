@@ -5,7 +5,7 @@ use Rattle.fd_language.specs.declared.range_node.Need.{Need}
 use Rattle.fd_language.specs.declared.range_node.Feature.{Feature}
 use Rattle.fd_language.specs.Family.{has}
 use Rattle.fd_language.specs.Range.{Range}
-use Rattle.fd_language.specs.Places.{range_places}
+use Rattle.fd_language.specs.Occurrences.{range_occurrences}
 use Rattle.fd_language.specs.Needs.{once, need_of}
 use Rattle.fd_language.specs.Range.{params}
 use Rattle.fd_language.specs.RangeRenaming.{rename_range}
@@ -13,7 +13,7 @@ use Rattle.fd_language.specs.Features.{features_of}
 
 -- the variable of each slot
 abbrev pub slots_of : Range → List ℕ
-slots_of r = once (map (λ p. p.variable) (range_places r))
+slots_of r = once (map (λ p. p.variable) (range_occurrences r))
 
 -- the slot of a variable
 abbrev pub slot_of : Range → ℕ → ℕ

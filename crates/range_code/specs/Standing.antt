@@ -2,9 +2,9 @@
 use Rattle.std.specs.Prelude.{ℕ, Bool, true, false, ◌&&◌, if◌then◌else◌, List, [], ◌∷◌}
 use Rattle.std.specs.List.{list_any}
 use Rattle.fd_language.specs.declared.range_node.Feature.{Feature}
-use Rattle.fd_language.specs.declared.range_node.Feature.TheVariants as feature
 use Rattle.fd_language.specs.declared.TheConstants.{INFINITY}
 use Rattle.fd_language.specs.Family.{Family, IsRising}
+use Rattle.fd_language.specs.Features.{is_val}
 use Rattle.fd_language.specs.Range.{is_none_left, is_several}
 use Rattle.range_code.specs.declared.frame.Arg.{Arg}
 use Rattle.range_code.specs.declared.frame.Standing.{Standing}
@@ -12,10 +12,6 @@ use Rattle.range_code.specs.declared.frame.Standing.TheVariants.{Empty, Open, Se
 use Rattle.range_code.specs.declared.instr.RangeInstr.{RangeInstr}
 use Rattle.range_code.specs.declared.instr.RangeInstr.TheVariants as instr
 use Rattle.range_code.specs.Nodes.{IsSeen}
-
-abbrev pub is_val : Feature → Bool
-is_val feature.Val = true
-is_val _ = false
 
 -- a val of a set of several members
 abbrev pub opens : Family → ℕ × Feature → Bool

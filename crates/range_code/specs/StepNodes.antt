@@ -4,7 +4,7 @@ use Rattle.std.specs.List.{All}
 use Rattle.fd_language.specs.declared.range_node.RangeNode.{RangeNode}
 use Rattle.fd_language.specs.Family.{Family}
 use Rattle.fd_language.specs.Range.{Range, Expr}
-use Rattle.fd_language.specs.Flat.{built, spelled}
+use Rattle.fd_language.specs.Flat.{built, spelled_range}
 use Rattle.range_code.specs.declared.work.Work.{Work}
 use Rattle.range_code.specs.declared.evaluate.Steps.{Steps}
 use Rattle.range_code.specs.Instructions.{node_of, IsPlaced}
@@ -23,4 +23,4 @@ ArePlaced s = All (IsPlaced (length s.constants.items)) (drop s.tests s.instrs.i
 
 -- what waits are the operands of the instructions from a place on
 abbrev pub IsAt : Family → (ℕ → ℤ) → Steps → ℕ → Work → Type 0
-IsAt S p s i w = (rs : List Range) × (ts : List Expr) × (Some (spelled (all_steps s)) ≡ built (steps_from s i) rs ts) × IsPending S p rs ts w
+IsAt S p s i w = (rs : List Range) × (ts : List Expr) × (Some (spelled_range (all_steps s)) ≡ built (steps_from s i) rs ts) × IsPending S p rs ts w

@@ -3,7 +3,7 @@
 ghost use Rattle.std.specs.Prelude.{◌≡◌, ◌≤◌, ℕ, ℤ, pos, List, [], ◌∷◌, ◌++◌, length, filter, vec_capacity, IfOk, OnOk};
 ghost use Rattle.std.specs.List.{All};
 ghost use Rattle.fd_language.specs.Range.{least as least_of, greatest as greatest_of};
-ghost use Rattle.fd_language.specs.Flat.{spelled, IsSpelled};
+ghost use Rattle.fd_language.specs.Flat.{spelled_range, IsSpelled};
 ghost use Rattle.range_code.specs.Frames.{slot_set, slot_integer};
 ghost use Rattle.range_code.specs.Nodes.{IsReadable};
 ghost use Rattle.range_code.specs.Work.{leaf_value, filled_set, RangeFits, CanTake, IsTaken};
@@ -136,7 +136,7 @@ fn run<V: View>(
     requires end { end ≤ length steps.now.instrs.items }
     requires readable { All (IsReadable (length (V.sets view.now)) args.now) (all_steps steps.now) }
     requires fits { RangeFits (slot_set (V.sets view.now) args.now) (slot_integer args.now)
-        (spelled (all_steps steps.now)) }
+        (spelled_range (all_steps steps.now)) }
     requires values { work.old.values.items ≡ [] }
     requires sets { work.old.sets.sets ≡ [] }
     requires room { HasRoom (all_steps steps.now) work.old }
@@ -162,12 +162,12 @@ pub(crate) fn evaluate<V: View>(
     requires placed { ArePlaced steps.now }
     requires readable { All (IsReadable (length (V.sets view.now)) args.now) (all_steps steps.now) }
     requires fits { RangeFits (slot_set (V.sets view.now) args.now) (slot_integer args.now)
-        (spelled (all_steps steps.now)) }
+        (spelled_range (all_steps steps.now)) }
     requires values { work.old.values.items ≡ [] }
     requires sets { work.old.sets.sets ≡ [] }
     requires room { HasRoom (all_steps steps.now) work.old }
     ensures set { IfOk result (λ d. d ≡ filled_set (slot_set (V.sets view.now) args.now)
-        (slot_integer args.now) (spelled (all_steps steps.now))) }
+        (slot_integer args.now) (spelled_range (all_steps steps.now))) }
     ensures kept { KeepsRoom work.old work.new }
 {
     run(work, steps, steps.instrs.len(), args, view)?;
@@ -231,13 +231,13 @@ fn narrow_by_steps<V: View>(
     requires placed { ArePlaced steps.now }
     requires readable { All (IsReadable (length (V.sets view.now)) args.now) (all_steps steps.now) }
     requires fits { RangeFits (slot_set (V.sets view.now) args.now) (slot_integer args.now)
-        (spelled (all_steps steps.now)) }
+        (spelled_range (all_steps steps.now)) }
     requires values { work.old.values.items ≡ [] }
     requires sets { work.old.sets.sets ≡ [] }
     requires room { HasRoom (all_steps steps.now) work.old }
     ensures narrowed { IfOk result (IsNarrowed target.now
         (filled_set (slot_set (V.sets view.now) args.now) (slot_integer args.now)
-        (spelled (all_steps steps.now)))) }
+        (spelled_range (all_steps steps.now)))) }
     ensures kept { KeepsRoom work.old work.new }
 {
     let last = steps.instrs.len() - 1;
@@ -300,15 +300,15 @@ pub(crate) fn evaluate_narrowing<V: View>(
 ) -> Result<Narrowed, NoMemory>
     requires spelled { IsSpelled (all_steps steps.now) }
     requires placed { ArePlaced steps.now }
-    requires form { IsForm (spelled (all_steps steps.now)) form.now }
+    requires form { IsForm (spelled_range (all_steps steps.now)) form.now }
     requires readable { All (IsReadable (length (V.sets view.now)) args.now) (all_steps steps.now) }
     requires fits { RangeFits (slot_set (V.sets view.now) args.now) (slot_integer args.now)
-        (spelled (all_steps steps.now)) }
+        (spelled_range (all_steps steps.now)) }
     requires values { tallest (all_steps steps.now) ≤ vec_capacity work.old.values }
     requires sets { tallest (all_steps steps.now) ≤ work.old.sets.room }
     ensures narrowed { IfOk result
         (IsNarrowed target.now (filled_set (slot_set (V.sets view.now) args.now)
-        (slot_integer args.now) (spelled (all_steps steps.now)))) }
+        (slot_integer args.now) (spelled_range (all_steps steps.now)))) }
     ensures kept { KeepsRoom work.old work.new }
 {
     match form {

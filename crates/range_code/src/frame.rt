@@ -3,7 +3,7 @@
 ghost use Rattle.std.specs.Prelude.{◌≡◌, ◌<◌, ◌↔◌, ℕ, IsTrue, false, length};
 ghost use Rattle.std.specs.List.{All, list_any};
 ghost use Rattle.fd_language.specs.Family.{IsFamily};
-ghost use Rattle.range_code.specs.Frames.{variable_of, integer_of, slot_integer, slot_set, family_of};
+ghost use Rattle.range_code.specs.Frames.{variable_of, arg_integer, slot_integer, slot_set, family_of};
 ghost use Rattle.range_code.specs.Nodes.{IsSeen};
 ghost use Rattle.range_code.specs.Standing.{tested, IsTestSeen, TestRises};
 ghost use Rattle.fd_language.specs.Range.{is_several, is_none_left};
@@ -44,7 +44,7 @@ fn variable(arg: Arg) -> usize
 /// The integer, and 0 for a variable.
 #[inline(always)]
 fn integer(arg: Arg) -> i64
-    ensures { result ≡ integer_of arg }
+    ensures { result ≡ arg_integer arg }
 {
     match arg {
         Arg::Var(_) => 0,

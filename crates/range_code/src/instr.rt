@@ -6,7 +6,7 @@ ghost use Rattle.std.specs.List.{position_or_len};
 ghost use Rattle.indexmap.specs.IndexSet.{insert_key, insert_all};
 ghost use Rattle.range_code.specs.Pieces.{piece_node, literals};
 ghost use Rattle.range_code.specs.Instructions.{without_need, tests_for, instr_of as instr_of_node};
-ghost use Rattle.range_code.specs.Compiled.{AreStepsOf};
+ghost use Rattle.range_code.specs.CodeFields.{AreStepsOf};
 
 use crate::evaluate::Steps;
 use crate::fold::Piece;

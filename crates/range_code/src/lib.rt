@@ -10,9 +10,9 @@ ghost use Rattle.domain_ranges.specs.Narrowing.{IsNarrowed};
 ghost use Rattle.range_code.specs.Slots.{slots_of, slot_needs, slot_features, in_slots, IsAlike};
 ghost use Rattle.range_code.specs.Kinds.{slot_kinds, val_slots};
 ghost use Rattle.range_code.specs.Heights.{height, tallest};
-ghost use Rattle.range_code.specs.Folded.{folded_nodes};
+ghost use Rattle.range_code.specs.FoldedRanges.{folded_nodes};
 ghost use Rattle.range_code.specs.Pieces.{pieces_of, piece_node, literals};
-ghost use Rattle.range_code.specs.Compiled.{AreStepsOf};
+ghost use Rattle.range_code.specs.CodeFields.{AreStepsOf};
 ghost use Rattle.range_code.specs.Instructions.{instructions_of, tests_of};
 ghost use Rattle.range_code.specs.StepNodes.{all_steps, ArePlaced};
 ghost use Rattle.range_code.specs.Forms.{IsForm, IsShifted};
@@ -70,13 +70,13 @@ impl Model for RangeCode {
     ghost use Rattle.std.specs.Coded.{code_by, coded_list};
     ghost use Rattle.fd_language.specs.contracts.range_node.RangeNode as node;
     ghost use Rattle.fd_language.specs.Range.{Range};
-    ghost use Rattle.fd_language.specs.Flat.{nodes_of, spelled, spelled-nodes};
+    ghost use Rattle.fd_language.specs.Flat.{nodes_of, spelled_range, spelled_range-nodes};
 
     ghost Value = { Range };
 
-    ghost coded = { code_by _ (coded_list node.the_row.coded) nodes_of spelled spelled-nodes };
+    ghost coded = { code_by _ (coded_list node.the_row.coded) nodes_of spelled_range spelled_range-nodes };
 
-    ghost use Rattle.range_code.specs.Compiled.{IsCompiled};
+    ghost use Rattle.range_code.specs.CodeFields.{IsCompiled};
 
     ghost view = { λ c. c.range };
 

@@ -9,7 +9,7 @@ use Rattle.fd_language.specs.declared.range_node.Feature.TheVariants as feature
 use Rattle.fd_language.specs.Range.{from_node}
 use Rattle.fd_language.specs.Features.{feature_at, is_same_pair, each_once, node_features}
 use Rattle.range_features.specs.declared.Seen.{Seen}
-use Rattle.range_features.specs.Seen.{sees, unseen, Meets}
+use Rattle.range_features.specs.MetPairs.{sees, unseen, Meets}
 
 -- a filter behind a filter
 filter_both : (p q r : ℕ × Feature → Bool) → ((e : ℕ × Feature) → r e ≡ (p e && q e)) → (l : List (ℕ × Feature)) → filter r l ≡ filter p (filter q l)

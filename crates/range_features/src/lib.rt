@@ -7,7 +7,7 @@ ghost use Rattle.std.specs.Option.{option_to_list};
 ghost use Rattle.fd_language.specs.declared.range_node.Feature.{Feature as Read};
 ghost use Rattle.fd_language.specs.Range.{from_node};
 ghost use Rattle.fd_language.specs.Features.{feature_at, is_same_pair, each_once, node_features as read_by, features_of};
-ghost use Rattle.range_features.specs.Seen.{sees, Meets};
+ghost use Rattle.range_features.specs.MetPairs.{sees, Meets};
 
 use fd_language::{Feature, FlatRange, NoMemory, RangeNode};
 use std::alloc::Global;

@@ -6,7 +6,7 @@ use Rattle.std.proofs.lemmas.List.{append-nil}
 use Rattle.fd_language.specs.declared.range_node.RangeNode.{RangeNode}
 use Rattle.fd_language.specs.PlacedTerm.{PlacedTerm}
 use Rattle.fd_language.specs.Range.{Range}
-use Rattle.fd_language.specs.Flat.{nodes_of, spelled, spelled-nodes, IsSpelled}
+use Rattle.fd_language.specs.Flat.{nodes_of, spelled_range, spelled_range-nodes, IsSpelled}
 use Rattle.fd_language.specs.Spelling.{read_range, not_a_range, least_place}
 use Rattle.term_pool.specs.Contents.{Contents}
 use Rattle.range_terms.specs.declared.walk.Found.{Found}
@@ -38,7 +38,7 @@ is_spelled c x f i e = ((read_range x).tree, sym (whole_nodes c x f i e))
 
 -- nodes spell one range
 pub same_range : (r q : Range) (ns : List RangeNode) → nodes_of r ≡ ns → ns ≡ nodes_of q → r ≡ q
-same_range r q ns e f = sym (spelled-nodes r) ∙ ap spelled (e ∙ f) ∙ spelled-nodes q
+same_range r q ns e f = sym (spelled_range-nodes r) ∙ ap spelled_range (e ∙ f) ∙ spelled_range-nodes q
 
 pub none_of : (o : Option ℕ) → ((p : ℕ) → o ≡ Some p → ⊥) → o ≡ None
 none_of None h = refl

@@ -1,4 +1,4 @@
 mod Tallies
 mod QueensText
-mod Generated
+mod GeneratedTexts
 pub mod Lemmas

@@ -21,7 +21,7 @@ use Rattle.run_summary.specs.declared.summary.Tally.{Tally}
 use Rattle.run_summary.specs.Summaries.{IsTally}
 use Rattle.text_output.specs.Endings.{IsRunOf}
 use Rattle.text_output.proofs.Lemmas.{final_names, goes_on, queries_from}
-use Rattle.run_summary.proofs.Generated.{OneQuery}
+use Rattle.run_summary.proofs.GeneratedTexts.{OneQuery}
 use Rattle.text_verdict.proofs.Lemmas.{one_verdict}
 
 -- of the events es, those that are still to come, behind others with n answers

@@ -34,7 +34,7 @@ use text_verdict::{Verdict, judge_text};
 
 /// How a run went: its answers, its reductions, whether it was stopped, and its last event.
 #[derive(Drop)]
-pub struct Tally {
+pub(crate) struct Tally {
     answers: u64,
     spent: u64,
     stopped: bool,

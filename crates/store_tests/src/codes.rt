@@ -7,7 +7,7 @@ use std::alloc::Global;
 use std::test::Fail;
 
 /// The code of the range that the nodes spell.
-pub fn code_of(alloc: Global, nodes: &[RangeNode]) -> Result<RangeCode, Fail> {
+pub(crate) fn code_of(alloc: Global, nodes: &[RangeNode]) -> Result<RangeCode, Fail> {
     let Some(range) = FlatRange::from_nodes(nodes.to_vec(alloc)?) else {
         return Err(Fail::new("no range"));
     };

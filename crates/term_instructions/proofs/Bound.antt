@@ -13,13 +13,13 @@ use Rattle.machine_frames.proofs.Lemmas.{grown_both}
 use Rattle.unify_core.specs.declared.Touch.{Touch}
 use Rattle.unify_core.specs.Outcome.{IfTrue, IfFalse}
 use Rattle.unify_core.specs.Touches.{IsRefuted}
-use Rattle.unify_core.specs.Unified.{AreUnified, CannotUnify, IsEqualled}
+use Rattle.unify_core.specs.Unifications.{AreUnified, CannotUnify, IsEqualled}
 use Rattle.branch_state.specs.Compounds.{EqualsOrNot, BindsCompound}
 use Rattle.branch_state.specs.States as branch
 use Rattle.branch_state.specs.States.{IsCell, IsSound, IsSoundBelow, IsSameBelow, with_heap}
 use Rattle.branch_state.specs.Steps.{posted_with}
 use Rattle.wam_code.specs.Area.{Area}
-use Rattle.wam_code.specs.Verified.{IsAtom}
+use Rattle.wam_code.specs.VerifiedCode.{IsAtom}
 use Rattle.code_areas.specs.Areas.{Contents}
 use Rattle.code_states.specs.Standing.{went_to}
 use Rattle.code_states.specs.declared.went.Went.{Went}

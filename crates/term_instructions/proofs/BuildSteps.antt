@@ -24,7 +24,7 @@ use Rattle.wam_code.specs.declared.instruction.Code.{Code}
 use Rattle.wam_code.specs.declared.instruction.Code.TheVariants.{UnifyVariable, UnifyValue, UnifyConstant, UnifyInteger, UnifyVoid}
 use Rattle.wam_code.specs.Area.{State, Area, Holds}
 use Rattle.wam_code.specs.Effect.{is_set, is_free, with_set, with_owed, unify_effect}
-use Rattle.wam_code.specs.Verified.{goes_on}
+use Rattle.wam_code.specs.VerifiedCode.{goes_on}
 use Rattle.code_areas.specs.Areas.{Contents}
 use Rattle.code_steps.specs.Registers.{Registers, Saved, cell_in, IsWritten}
 use Rattle.code_steps.specs.WriteMode.{End, Builds}

@@ -15,7 +15,7 @@ use Rattle.heap_cells.specs.declared.Cell.TheVariants as cell
 use Rattle.heap_cells.specs.declared.Seen.{Seen}
 use Rattle.heap_cells.specs.declared.Seen.TheVariants as seen
 use Rattle.heap_cells.specs.Cells.{Cells, IsOf, is_bound, compound_at}
-use Rattle.heap_cells.specs.Seen.{IsSeen}
+use Rattle.heap_cells.specs.SeenCells.{IsSeen}
 use Rattle.heap_cells.specs.Terms.{Naming, Same, term_of, terms_by, compound_term}
 use Rattle.heap_cells.proofs.Lemmas.{term-Int, term-Atom, term-Struct, unbound_term}
 use Rattle.machine_relation.specs.Store.{posts}
@@ -32,7 +32,7 @@ use Rattle.wam_code.specs.declared.instruction.Code.TheVariants.{GetStructure}
 use Rattle.wam_code.specs.Area.{State, Area, Holds, name_of}
 use Rattle.wam_code.specs.Places.{count}
 use Rattle.wam_code.specs.Effect.{with_owed}
-use Rattle.wam_code.specs.Verified.{IsAtom}
+use Rattle.wam_code.specs.VerifiedCode.{IsAtom}
 use Rattle.code_areas.specs.Areas.{cell_at, IsSet, Contents}
 use Rattle.code_steps.specs.WriteMode.{GetEnd, Builds}
 use Rattle.code_steps.specs.ReadMode.{Reads}

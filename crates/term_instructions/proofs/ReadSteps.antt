@@ -19,7 +19,7 @@ use Rattle.machine_frames.specs.Frames.{store_touches}
 use Rattle.unify_core.specs.declared.Touch.{Touch}
 use Rattle.unify_core.specs.declared.Touch.TheVariants as touch
 use Rattle.unify_core.specs.Outcome.{IfTrue, IfFalse}
-use Rattle.unify_core.specs.Unified.{IsEqualled, CannotUnify}
+use Rattle.unify_core.specs.Unifications.{IsEqualled, CannotUnify}
 use Rattle.unify_core.proofs.Lemmas.{integers_true, integers_false, atoms_true, atoms_false}
 use Rattle.branch_state.specs.States as branch
 use Rattle.branch_state.specs.States.{IsCell, IsSound, IsSoundBelow, with_heap}
@@ -29,7 +29,7 @@ use Rattle.wam_code.specs.declared.instruction.Code.{Code}
 use Rattle.wam_code.specs.declared.instruction.Code.TheVariants.{UnifyVariable, UnifyValue, UnifyConstant, UnifyInteger, UnifyVoid}
 use Rattle.wam_code.specs.Area.{State, Area, Holds}
 use Rattle.wam_code.specs.Effect.{is_set, is_free, with_set, with_owed, unify_effect}
-use Rattle.wam_code.specs.Verified.{goes_on}
+use Rattle.wam_code.specs.VerifiedCode.{goes_on}
 use Rattle.wam_code.specs.Places.{count}
 use Rattle.code_areas.specs.Areas.{Contents}
 use Rattle.code_steps.specs.Registers.{Registers, Saved, cell_in, IsWritten}

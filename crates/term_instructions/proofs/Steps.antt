@@ -14,7 +14,7 @@ use Rattle.wam_code.specs.declared.instruction.Code.{Code}
 use Rattle.wam_code.specs.declared.instruction.Code.TheVariants.{GetVariable, GetValue, GetConstant, GetInteger, PutVariable, PutValue, PutConstant, PutInteger}
 use Rattle.wam_code.specs.Area.{State, Area, Holds}
 use Rattle.wam_code.specs.Effect.{is_set, is_free, with_set, plain_effect}
-use Rattle.wam_code.specs.Verified.{goes_on}
+use Rattle.wam_code.specs.VerifiedCode.{goes_on}
 use Rattle.code_areas.specs.Areas.{cell_at, IsSet, Contents}
 use Rattle.code_steps.specs.Registers.{cell_in, IsWritten}
 use Rattle.code_states.specs.Machine.{registers_of, HasCell, CanHold, IsSameBehind}

@@ -16,7 +16,7 @@ use Rattle.branch_state.specs.States.{IsCell, IsSound, IsSameBelow, with_heap}
 use Rattle.wam_code.specs.declared.instruction.Register.TheVariants.{X}
 use Rattle.wam_code.specs.declared.instruction.Code.TheVariants.{PutStructure}
 use Rattle.wam_code.specs.Area.{State, Area, Holds, name_of}
-use Rattle.wam_code.specs.Verified.{IsAtom}
+use Rattle.wam_code.specs.VerifiedCode.{IsAtom}
 use Rattle.wam_code.specs.Effect.{with_set, with_owed}
 use Rattle.code_areas.specs.Areas.{Contents}
 use Rattle.code_steps.specs.Registers.{IsWritten}

@@ -4,7 +4,7 @@ ghost use Rattle.heap_cells.specs.Cells.{free, slot_at};
 ghost use Rattle.branch_state.specs.States.{IsCell, IsSameBelow, IsSound};
 ghost use Rattle.wam_code.specs.declared.instruction.Code.TheVariants as step;
 ghost use Rattle.wam_code.specs.Area.{Holds};
-ghost use Rattle.wam_code.specs.Verified.{IsAtom};
+ghost use Rattle.wam_code.specs.VerifiedCode.{IsAtom};
 ghost use Rattle.code_areas.specs.Areas.{Contents};
 ghost use Rattle.code_states.specs.Machine.{IsSameBehind};
 ghost use Rattle.code_states.specs.Safety.{IsSafe, IsSafeThen};

@@ -15,7 +15,7 @@ use Rattle.term_pool.specs.declared.Stored.TheVariants as stored
 use Rattle.term_pool.specs.Contents.{first_names, Shape, var, int, atom, comp, Entry, Contents, name_in, shape_at, interned}
 use Rattle.term_pool.specs.Terms.{Extends, term_of, shape_term}
 use Rattle.term_pool.specs.Valid.{IsPool, IsWithin, HasMachineNumbers, AreDistinct}
-use Rattle.term_pool.specs.Stored.{stored_shape, entry_of, entries_of, HasParts, AreStored, Grows}
+use Rattle.term_pool.specs.PoolFields.{stored_shape, entry_of, entries_of, HasParts, AreStored, Grows}
 use Rattle.term_pool.proofs.Names.{pushed_at, slice_get_seam, name_in-append, name_in-Some, named_is_there, slice_get-name_in, interned_grows, distinct_interned, utf8_interned}
 use Rattle.term_pool.proofs.Laws.{term_of_entry, shape_term_kept, extends_refl, extends_push}
 

@@ -7,7 +7,7 @@ use Rattle.fd_language.specs.Term.{Name, Term, Atom, Comp, term}
 use Rattle.term_pool.specs.declared.AtomId.{AtomId}
 use Rattle.term_pool.specs.declared.TermId.{TermId}
 use Rattle.term_pool.specs.Contents.{Shape, var, int, atom, comp, Entry, Contents, atom_name, name_in, shape_at, place_at}
-use Rattle.term_pool.specs.Terms.{terms_by, term_by, numbered, terms_from, term_of, shape_term, KeepsTerms, Extends}
+use Rattle.term_pool.specs.Terms.{terms_by, term_by, term_by_id, terms_from, term_of, shape_term, KeepsTerms, Extends}
 use Rattle.term_pool.specs.Valid.{IsPool, IsWithin, HasMachineNumbers, IsStorable, AreStorable}
 use Rattle.term_pool.proofs.Names.{slice_get-append, slice_get_seam, slice_get_found, name_in-append, utf8_name}
 
@@ -32,44 +32,44 @@ term_by_names names more p n (int z) w = refl
 term_by_names names more p n (atom a) w = ap Atom (name_in-append names more a w)
 term_by_names names more p n (comp f ts) w = ap (λ (m : Name). Comp m (terms_by p ts)) (name_in-append names more f w.0)
 
-numbered-append : (terms more : List Term) (t : TermId) → t.number < length terms → numbered (terms ++ more) t ≡ numbered terms t
+numbered-append : (terms more : List Term) (t : TermId) → t.number < length terms → term_by_id (terms ++ more) t ≡ term_by_id terms t
 numbered-append terms more t h = ap (λ (o : Option Term). unwrap_or o (Atom [])) (slice_get-append terms more t.number h)
 
-numbered_seam : (terms : List Term) (x : Term) (t : TermId) → t.number ≡ length terms → numbered (terms ++ x ∷ []) t ≡ x
+numbered_seam : (terms : List Term) (x : Term) (t : TermId) → t.number ≡ length terms → term_by_id (terms ++ x ∷ []) t ≡ x
 numbered_seam terms x t h = ap (λ (o : Option Term). unwrap_or o (Atom [])) (slice_get_seam terms x t.number h)
 
 terms_from-append : (names : List Name) (terms : List Term) (es fs : List Entry) → terms_from names terms (es ++ fs) ≡ terms_from names (terms_from names terms es) fs
 terms_from-append names terms [] fs = refl
-terms_from-append names terms (e ∷ es) fs = terms_from-append names (terms ++ term_by names (numbered terms) e.shape ∷ []) es fs
+terms_from-append names terms (e ∷ es) fs = terms_from-append names (terms ++ term_by names (term_by_id terms) e.shape ∷ []) es fs
 
 length-terms_from : (names : List Name) (terms : List Term) (es : List Entry) → length (terms_from names terms es) ≡ length terms + length es
 length-terms_from names terms [] = omega arith
 length-terms_from names terms (e ∷ es) =
-    let x = term_by names (numbered terms) e.shape in
+    let x = term_by names (term_by_id terms) e.shape in
     length-terms_from names (terms ++ x ∷ []) es ∙ omega (arith, length-append terms (x ∷ []))
 
 -- the terms that are there stay
-front_kept : (names : List Name) (terms : List Term) (es : List Entry) (t : TermId) → t.number < length terms → numbered (terms_from names terms es) t ≡ numbered terms t
+front_kept : (names : List Name) (terms : List Term) (es : List Entry) (t : TermId) → t.number < length terms → term_by_id (terms_from names terms es) t ≡ term_by_id terms t
 front_kept names terms [] t h = refl
 front_kept names terms (e ∷ es) t h =
-    let x = term_by names (numbered terms) e.shape in
+    let x = term_by names (term_by_id terms) e.shape in
     front_kept names (terms ++ x ∷ []) es t (omega (arith, length-append terms (x ∷ []))) ∙ numbered-append terms (x ∷ []) t h
 
 -- each is made of those before it
 made_at : (names : List Name) (m : ℕ) (terms : List Term) (es : List Entry) (i : ℕ) (e : Entry) (t : TermId) → slice_get es i ≡ Some e → t.number ≡ length terms + i → IsWithin m t.number e.shape
-    → numbered (terms_from names terms es) t ≡ term_by names (numbered (terms_from names terms es)) e.shape
+    → term_by_id (terms_from names terms es) t ≡ term_by names (term_by_id (terms_from names terms es)) e.shape
 made_at names m terms [] i e t s n w = absurd cc
 made_at names m terms (f ∷ es) zero e t s n w =
     let same : f ≡ e = cc in
-    let x = term_by names (numbered terms) f.shape in
+    let x = term_by names (term_by_id terms) f.shape in
     let all = terms_from names (terms ++ x ∷ []) es in
     let at_end : t.number ≡ length terms = omega arith in
-    let mine : numbered all t ≡ x = front_kept names (terms ++ x ∷ []) es t (omega (arith, length-append terms (x ∷ []))) ∙ numbered_seam terms x t at_end in
-    let parts : term_by names (numbered terms) e.shape ≡ term_by names (numbered all) e.shape =
-    term_by_same names (numbered terms) (numbered all) m t.number e.shape w (λ p h. sym (front_kept names terms (f ∷ es) p (omega arith))) in
-    mine ∙ ap (λ (g : Entry). term_by names (numbered terms) g.shape) same ∙ parts
+    let mine : term_by_id all t ≡ x = front_kept names (terms ++ x ∷ []) es t (omega (arith, length-append terms (x ∷ []))) ∙ numbered_seam terms x t at_end in
+    let parts : term_by names (term_by_id terms) e.shape ≡ term_by names (term_by_id all) e.shape =
+    term_by_same names (term_by_id terms) (term_by_id all) m t.number e.shape w (λ p h. sym (front_kept names terms (f ∷ es) p (omega arith))) in
+    mine ∙ ap (λ (g : Entry). term_by names (term_by_id terms) g.shape) same ∙ parts
 made_at names m terms (f ∷ es) (suc i) e t s n w =
-    let x = term_by names (numbered terms) f.shape in
+    let x = term_by names (term_by_id terms) f.shape in
     made_at names m (terms ++ x ∷ []) es i e t s (omega (arith, length-append terms (x ∷ []))) w
 
 -- the terms are the same under more names
@@ -78,8 +78,8 @@ names_kept : (names more : List Name) (terms : List Term) (es : List Entry) → 
 names_kept names more terms [] h = refl
 names_kept names more terms (e ∷ es) h =
     let w = h 0 e refl in
-    ap (λ (x : Term). terms_from (names ++ more) (terms ++ x ∷ []) es) (term_by_names names more (numbered terms) w.0 e.shape w.1)
-    ∙ names_kept names more (terms ++ term_by names (numbered terms) e.shape ∷ []) es (λ i f s. h (suc i) f s)
+    ap (λ (x : Term). terms_from (names ++ more) (terms ++ x ∷ []) es) (term_by_names names more (term_by_id terms) w.0 e.shape w.1)
+    ∙ names_kept names more (terms ++ term_by names (term_by_id terms) e.shape ∷ []) es (λ i f s. h (suc i) f s)
 
 -- The term of an id is that of its shape, with the terms of its parts.
 pub term_of_entry : (c : Contents) → IsPool c → (t : TermId) (e : Entry) → slice_get c.entries t.number ≡ Some e → term_of c t ≡ shape_term c e.shape
@@ -110,7 +110,7 @@ terms_kept old new p x t h =
     let split = terms_from-append (old.names ++ x.names.0) [] old.entries x.entries.0 in
     let same : terms_from (old.names ++ x.names.0) [] old.entries ≡ front = names_kept old.names x.names.0 [] old.entries (λ i e s. (i, p.within i e s)) in
     let whole : terms_from new.names [] new.entries ≡ terms_from (old.names ++ x.names.0) front x.entries.0 = names ∙ split ∙ ap (λ (ts : List Term). terms_from (old.names ++ x.names.0) ts x.entries.0) same in
-    ap (λ (ts : List Term). numbered ts t) whole
+    ap (λ (ts : List Term). term_by_id ts t) whole
     ∙ front_kept (old.names ++ x.names.0) front x.entries.0 t (omega (arith, length-terms_from old.names [] old.entries))
 
 -- A pool that grows keeps the names of its atoms.

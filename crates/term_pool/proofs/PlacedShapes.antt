@@ -9,7 +9,7 @@ use Rattle.term_pool.specs.Contents as pool
 use Rattle.term_pool.specs.Contents.{Shape, Entry, Contents, name_in, shape_at, place_at}
 use Rattle.term_pool.specs.Valid.{IsPool, IsWithin}
 use Rattle.term_pool.proofs.Names.{slice_get-append, slice_get_seam, slice_get_found}
-use Rattle.term_pool.specs.PlacedTerms.{parts_by, placed_by, numbered, placed_from, placed_of}
+use Rattle.term_pool.specs.PlacedTerms.{parts_by, placed_by, placed_by_id, placed_from, placed_of}
 
 -- parts with the same terms make the same term
 pub parts_by_same : (p q : TermId → PlacedTerm) (n : ℕ) (ts : List TermId) → All (λ t. t.number < n) ts → ((t : TermId) → t.number < n → p t ≡ q t) → parts_by p ts ≡ parts_by q ts
@@ -25,34 +25,34 @@ placed_by_same names p q m n at (pool.int z) w same = refl
 placed_by_same names p q m n at (pool.atom a) w same = refl
 placed_by_same names p q m n at (pool.comp f ts) w same = ap (comp (name_in names f) at) (parts_by_same p q n ts w.1 same)
 
-pub numbered-append : (terms more : List PlacedTerm) (t : TermId) → t.number < length terms → numbered (terms ++ more) t ≡ numbered terms t
+pub numbered-append : (terms more : List PlacedTerm) (t : TermId) → t.number < length terms → placed_by_id (terms ++ more) t ≡ placed_by_id terms t
 numbered-append terms more t h = ap (λ (o : Option PlacedTerm). unwrap_or o (atom [] 0)) (slice_get-append terms more t.number h)
 
-pub numbered_seam : (terms : List PlacedTerm) (x : PlacedTerm) (t : TermId) → t.number ≡ length terms → numbered (terms ++ x ∷ []) t ≡ x
+pub numbered_seam : (terms : List PlacedTerm) (x : PlacedTerm) (t : TermId) → t.number ≡ length terms → placed_by_id (terms ++ x ∷ []) t ≡ x
 numbered_seam terms x t h = ap (λ (o : Option PlacedTerm). unwrap_or o (atom [] 0)) (slice_get_seam terms x t.number h)
 
 -- the terms that are there stay
-pub front_kept : (names : List Name) (terms : List PlacedTerm) (es : List Entry) (t : TermId) → t.number < length terms → numbered (placed_from names terms es) t ≡ numbered terms t
+pub front_kept : (names : List Name) (terms : List PlacedTerm) (es : List Entry) (t : TermId) → t.number < length terms → placed_by_id (placed_from names terms es) t ≡ placed_by_id terms t
 front_kept names terms [] t h = refl
 front_kept names terms (e ∷ es) t h =
-    let x = placed_by names (numbered terms) e.place e.shape in
+    let x = placed_by names (placed_by_id terms) e.place e.shape in
     front_kept names (terms ++ x ∷ []) es t (omega (arith, length-append terms (x ∷ []))) ∙ numbered-append terms (x ∷ []) t h
 
 -- each is made of those before it
 made_at : (names : List Name) (m : ℕ) (terms : List PlacedTerm) (es : List Entry) (i : ℕ) (e : Entry) (t : TermId) → slice_get es i ≡ Some e → t.number ≡ length terms + i → IsWithin m t.number e.shape
-    → numbered (placed_from names terms es) t ≡ placed_by names (numbered (placed_from names terms es)) e.place e.shape
+    → placed_by_id (placed_from names terms es) t ≡ placed_by names (placed_by_id (placed_from names terms es)) e.place e.shape
 made_at names m terms [] i e t s n w = absurd cc
 made_at names m terms (f ∷ es) zero e t s n w =
     let same : f ≡ e = cc in
-    let x = placed_by names (numbered terms) f.place f.shape in
+    let x = placed_by names (placed_by_id terms) f.place f.shape in
     let all = placed_from names (terms ++ x ∷ []) es in
     let at_end : t.number ≡ length terms = omega arith in
-    let mine : numbered all t ≡ x = front_kept names (terms ++ x ∷ []) es t (omega (arith, length-append terms (x ∷ []))) ∙ numbered_seam terms x t at_end in
-    let parts : placed_by names (numbered terms) e.place e.shape ≡ placed_by names (numbered all) e.place e.shape =
-    placed_by_same names (numbered terms) (numbered all) m t.number e.place e.shape w (λ p h. sym (front_kept names terms (f ∷ es) p (omega arith))) in
-    mine ∙ ap (λ (g : Entry). placed_by names (numbered terms) g.place g.shape) same ∙ parts
+    let mine : placed_by_id all t ≡ x = front_kept names (terms ++ x ∷ []) es t (omega (arith, length-append terms (x ∷ []))) ∙ numbered_seam terms x t at_end in
+    let parts : placed_by names (placed_by_id terms) e.place e.shape ≡ placed_by names (placed_by_id all) e.place e.shape =
+    placed_by_same names (placed_by_id terms) (placed_by_id all) m t.number e.place e.shape w (λ p h. sym (front_kept names terms (f ∷ es) p (omega arith))) in
+    mine ∙ ap (λ (g : Entry). placed_by names (placed_by_id terms) g.place g.shape) same ∙ parts
 made_at names m terms (f ∷ es) (suc i) e t s n w =
-    let x = placed_by names (numbered terms) f.place f.shape in
+    let x = placed_by names (placed_by_id terms) f.place f.shape in
     made_at names m (terms ++ x ∷ []) es i e t s (omega (arith, length-append terms (x ∷ []))) w
 
 placed_of_entry : (c : Contents) → IsPool c → (t : TermId) (e : Entry) → slice_get c.entries t.number ≡ Some e → placed_of c t ≡ placed_by c.names (placed_of c) e.place e.shape

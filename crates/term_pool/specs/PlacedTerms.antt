@@ -19,14 +19,14 @@ placed_by names by p (pool.atom a) = atom (name_in names a) p
 placed_by names by p (pool.comp f ts) = comp (name_in names f) p (parts_by by ts)
 
 -- the placed term with a number
-abbrev pub numbered : List PlacedTerm → TermId → PlacedTerm
-numbered terms t = unwrap_or (slice_get terms t.number) (atom [] 0)
+abbrev pub placed_by_id : List PlacedTerm → TermId → PlacedTerm
+placed_by_id terms t = unwrap_or (slice_get terms t.number) (atom [] 0)
 
 -- the terms, followed by those of the entries, each of which is made of the terms before it
 abbrev pub placed_from : List Name → List PlacedTerm → List Entry → List PlacedTerm
 placed_from names terms [] = terms
-placed_from names terms (e ∷ es) = placed_from names (terms ++ placed_by names (numbered terms) e.place e.shape ∷ []) es
+placed_from names terms (e ∷ es) = placed_from names (terms ++ placed_by names (placed_by_id terms) e.place e.shape ∷ []) es
 
 -- the term that an id stands for, with its places
 unfoldable pub placed_of : Contents → TermId → PlacedTerm
-placed_of c t = numbered (placed_from c.names [] c.entries) t
+placed_of c t = placed_by_id (placed_from c.names [] c.entries) t

@@ -17,17 +17,17 @@ term_by names part (atom a) = Atom (name_in names a)
 term_by names part (comp f ts) = Comp (name_in names f) (terms_by part ts)
 
 -- the term with a number
-abbrev pub numbered : List Term → TermId → Term
-numbered terms t = unwrap_or (slice_get terms t.number) (Atom [])
+abbrev pub term_by_id : List Term → TermId → Term
+term_by_id terms t = unwrap_or (slice_get terms t.number) (Atom [])
 
 -- the terms, followed by those of the entries, each of which is made of the terms before it
 abbrev pub terms_from : List Name → List Term → List Entry → List Term
 terms_from names terms [] = terms
-terms_from names terms (e ∷ es) = terms_from names (terms ++ term_by names (numbered terms) e.shape ∷ []) es
+terms_from names terms (e ∷ es) = terms_from names (terms ++ term_by names (term_by_id terms) e.shape ∷ []) es
 
 -- the term that an id stands for
 unfoldable pub term_of : Contents → TermId → Term
-term_of c t = numbered (terms_from c.names [] c.entries) t
+term_of c t = term_by_id (terms_from c.names [] c.entries) t
 
 -- the term of a shape whose parts are of the pool
 abbrev pub shape_term : Contents → Shape → Term

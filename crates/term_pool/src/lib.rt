@@ -11,7 +11,7 @@ ghost use Rattle.term_pool.specs.declared.AtomId.{AtomId as AtomNumber};
 ghost use Rattle.term_pool.specs.Contents.{Contents, first_names, atom_name, shape_at, place_at, interned};
 ghost use Rattle.term_pool.specs.Terms.{term_of, shape_term, KeepsTerms, Extends};
 ghost use Rattle.term_pool.specs.Valid.{IsPool, IsWithin, HasMachineNumbers, shape_of};
-ghost use Rattle.term_pool.specs.Stored.{stored_shape, HasParts, Grows};
+ghost use Rattle.term_pool.specs.PoolFields.{stored_shape, HasParts, Grows};
 
 use fd_language::NoMemory;
 use indexmap::IndexSet;
@@ -84,7 +84,7 @@ impl Model for Pool {
     ghost Value = { Contents };
 
     ghost use Rattle.std.specs.Prelude.{map, string_bytes};
-    ghost use Rattle.term_pool.specs.Stored.{entries_of, AreStored};
+    ghost use Rattle.term_pool.specs.PoolFields.{entries_of, AreStored};
 
     ghost view = { λ p. record {
       names = map string_bytes p.atoms.keys;

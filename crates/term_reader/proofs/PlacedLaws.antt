@@ -10,7 +10,7 @@ use Rattle.term_pool.specs.Contents.{Shape, Entry, Contents, atom_name}
 use Rattle.term_pool.specs.Terms.{Extends}
 use Rattle.term_pool.specs.Valid.{IsPool, IsWithin}
 use Rattle.term_pool.proofs.Lemmas.{name_in-append, extends_trans, parts_by_same, numbered_seam, front_kept}
-use Rattle.term_pool.specs.PlacedTerms.{parts_by, placed_by, numbered, placed_from, placed_of}
+use Rattle.term_pool.specs.PlacedTerms.{parts_by, placed_by, placed_by_id, placed_from, placed_of}
 use Rattle.term_reader.specs.PlacedTerms.{parts_of, Adds}
 
 -- more names change no term
@@ -22,12 +22,12 @@ placed_by_names names more p n at (pool.comp f ts) w = ap (λ (m : Name). comp m
 
 placed_from-append : (names : List Name) (terms : List PlacedTerm) (es fs : List Entry) → placed_from names terms (es ++ fs) ≡ placed_from names (placed_from names terms es) fs
 placed_from-append names terms [] fs = refl
-placed_from-append names terms (e ∷ es) fs = placed_from-append names (terms ++ placed_by names (numbered terms) e.place e.shape ∷ []) es fs
+placed_from-append names terms (e ∷ es) fs = placed_from-append names (terms ++ placed_by names (placed_by_id terms) e.place e.shape ∷ []) es fs
 
 length-placed_from : (names : List Name) (terms : List PlacedTerm) (es : List Entry) → length (placed_from names terms es) ≡ length terms + length es
 length-placed_from names terms [] = omega arith
 length-placed_from names terms (e ∷ es) =
-    let x = placed_by names (numbered terms) e.place e.shape in
+    let x = placed_by names (placed_by_id terms) e.place e.shape in
     length-placed_from names (terms ++ x ∷ []) es ∙ omega (arith, length-append terms (x ∷ []))
 
 -- the terms are the same under more names
@@ -36,8 +36,8 @@ names_kept : (names more : List Name) (terms : List PlacedTerm) (es : List Entry
 names_kept names more terms [] h = refl
 names_kept names more terms (e ∷ es) h =
     let w = h 0 e refl in
-    ap (λ (x : PlacedTerm). placed_from (names ++ more) (terms ++ x ∷ []) es) (placed_by_names names more (numbered terms) w.0 e.place e.shape w.1)
-    ∙ names_kept names more (terms ++ placed_by names (numbered terms) e.place e.shape ∷ []) es (λ i f s. h (suc i) f s)
+    ap (λ (x : PlacedTerm). placed_from (names ++ more) (terms ++ x ∷ []) es) (placed_by_names names more (placed_by_id terms) w.0 e.place e.shape w.1)
+    ∙ names_kept names more (terms ++ placed_by names (placed_by_id terms) e.place e.shape ∷ []) es (λ i f s. h (suc i) f s)
 
 -- A pool that grows keeps the terms of its ids, with their places.
 pub placed_kept : (old new : Contents) → IsPool old → Extends old new → (t : TermId) → t.number < length old.entries → placed_of new t ≡ placed_of old t
@@ -48,7 +48,7 @@ placed_kept old new p x t h =
     let split = placed_from-append (old.names ++ x.names.0) [] old.entries x.entries.0 in
     let same : placed_from (old.names ++ x.names.0) [] old.entries ≡ front = names_kept old.names x.names.0 [] old.entries (λ i e s. (i, p.within i e s)) in
     let whole : placed_from new.names [] new.entries ≡ placed_from (old.names ++ x.names.0) front x.entries.0 = names ∙ split ∙ ap (λ (ts : List PlacedTerm). placed_from (old.names ++ x.names.0) ts x.entries.0) same in
-    ap (λ (ts : List PlacedTerm). numbered ts t) whole
+    ap (λ (ts : List PlacedTerm). placed_by_id ts t) whole
     ∙ front_kept (old.names ++ x.names.0) front x.entries.0 t (omega (arith, length-placed_from old.names [] old.entries))
 
 -- and those of several ids
@@ -62,8 +62,8 @@ pub placed_added : (c : Contents) (e : Entry) (t : TermId) → IsPool c → IsWi
 unfolding placed_of
 placed_added c e t p w at =
     let front = placed_from c.names [] c.entries in
-    ap (λ (ts : List PlacedTerm). numbered ts t) (placed_from-append c.names [] c.entries (e ∷ []))
-    ∙ numbered_seam front (placed_by c.names (numbered front) e.place e.shape) t (omega (arith, length-placed_from c.names [] c.entries))
+    ap (λ (ts : List PlacedTerm). placed_by_id ts t) (placed_from-append c.names [] c.entries (e ∷ []))
+    ∙ numbered_seam front (placed_by c.names (placed_by_id front) e.place e.shape) t (omega (arith, length-placed_from c.names [] c.entries))
 
 -- what `Pool::add` gives
 pub adds : (old new : Contents) (e : Entry) (t : TermId) → IsPool old → IsWithin (length old.names) (length old.entries) e.shape

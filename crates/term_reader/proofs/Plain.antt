@@ -10,7 +10,7 @@ use Rattle.term_pool.specs.Contents as pool
 use Rattle.term_pool.specs.Contents.{Shape, Entry, Contents, name_in, place_at}
 use Rattle.term_pool.specs.Terms as terms
 use Rattle.term_pool.specs.Terms.{term_by, terms_by, terms_from, term_of}
-use Rattle.term_pool.specs.PlacedTerms.{parts_by, placed_by, numbered, placed_from, placed_of}
+use Rattle.term_pool.specs.PlacedTerms.{parts_by, placed_by, placed_by_id, placed_from, placed_of}
 
 parts_plain : (p : TermId → PlacedTerm) (q : TermId → Term) (ts : List TermId) → ((t : TermId) → plain (p t) ≡ q t) → all_plain (parts_by p ts) ≡ terms_by q ts
 parts_plain p q [] h = refl
@@ -26,21 +26,21 @@ pick_plain : (o : Option PlacedTerm) → plain (unwrap_or o (atom [] 0)) ≡ unw
 pick_plain None = refl
 pick_plain (Some x) = refl
 
-numbered_plain : (ts : List PlacedTerm) (t : TermId) → plain (numbered ts t) ≡ terms.numbered (map plain ts) t
+numbered_plain : (ts : List PlacedTerm) (t : TermId) → plain (placed_by_id ts t) ≡ terms.term_by_id (map plain ts) t
 numbered_plain ts t = pick_plain (slice_get ts t.number) ∙ ap (λ (o : Option Term). unwrap_or o (Atom [])) (sym (slice_get-map plain ts t.number))
 
 from_plain : (names : List Name) (ts : List PlacedTerm) (es : List Entry) → map plain (placed_from names ts es) ≡ terms_from names (map plain ts) es
 from_plain names ts [] = refl
 from_plain names ts (e ∷ es) =
-    let x = placed_by names (numbered ts) e.place e.shape in
+    let x = placed_by names (placed_by_id ts) e.place e.shape in
     from_plain names (ts ++ x ∷ []) es
     ∙ ap (λ (us : List Term). terms_from names us es) (map-append plain ts (x ∷ []))
-    ∙ ap (λ (u : Term). terms_from names (map plain ts ++ u ∷ []) es) (by_plain names (numbered ts) (terms.numbered (map plain ts)) e.place e.shape (numbered_plain ts))
+    ∙ ap (λ (u : Term). terms_from names (map plain ts ++ u ∷ []) es) (by_plain names (placed_by_id ts) (terms.term_by_id (map plain ts)) e.place e.shape (numbered_plain ts))
 
 -- without its places it is the term that the id stands for
 pub plain_placed : (c : Contents) (t : TermId) → plain (placed_of c t) ≡ term_of c t
 unfolding placed_of term_of
-plain_placed c t = numbered_plain (placed_from c.names [] c.entries) t ∙ ap (λ (us : List Term). terms.numbered us t) (from_plain c.names [] c.entries)
+plain_placed c t = numbered_plain (placed_from c.names [] c.entries) t ∙ ap (λ (us : List Term). terms.term_by_id us t) (from_plain c.names [] c.entries)
 
 by_place : (names : List Name) (p : TermId → PlacedTerm) (at : ℕ) (s : Shape) → place (placed_by names p at s) ≡ at
 by_place names p at (pool.var x) = refl
@@ -51,11 +51,11 @@ by_place names p at (pool.comp f ts) = refl
 from_places : (names : List Name) (ts : List PlacedTerm) (es : List Entry) → map place (placed_from names ts es) ≡ map place ts ++ map (λ e. e.place) es
 from_places names ts [] = sym (append-nil (map place ts))
 from_places names ts (e ∷ es) =
-    let x = placed_by names (numbered ts) e.place e.shape in
+    let x = placed_by names (placed_by_id ts) e.place e.shape in
     from_places names (ts ++ x ∷ []) es
     ∙ ap (λ (ps : List ℕ). ps ++ map (λ e. e.place) es) (map-append place ts (x ∷ []))
     ∙ append_assoc (map place ts) (place x ∷ []) (map (λ e. e.place) es)
-    ∙ ap (λ (p : ℕ). map place ts ++ p ∷ map (λ e. e.place) es) (by_place names (numbered ts) e.place e.shape)
+    ∙ ap (λ (p : ℕ). map place ts ++ p ∷ map (λ e. e.place) es) (by_place names (placed_by_id ts) e.place e.shape)
 
 pick_place : (o : Option PlacedTerm) (p : ℕ) → option_map place o ≡ Some p → place (unwrap_or o (atom [] 0)) ≡ p
 pick_place None p e = absurd cc

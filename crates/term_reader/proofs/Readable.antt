@@ -9,7 +9,7 @@ use Rattle.fd_language.specs.Terminals.{Terminal}
 use Rattle.fd_language.specs.Tokens.{Lexeme, Cause, TokensOf, FaultOf}
 use Rattle.fd_language.specs.Grammar.{IsText, Begins}
 use Rattle.fd_language.specs.GrammarFaults.{deepest, brackets, IsShallow, IsRead, IsSyntaxFault, IsTooDeep}
-use Rattle.fd_language.specs.Reading.{terminals, sentence_names, place_at, Sentence, Reading, sentences, token_fault, syntax_fault, too_deep, IsReading}
+use Rattle.fd_language.specs.Reading.{terminals, sentence_names, lexeme_place, Sentence, Reading, sentences, token_fault, syntax_fault, too_deep, IsReading}
 use Rattle.fd_language.specs.ReadingSteps.{top, paren, args, items, tail, curly, before, between, State, want, at_list, at_curly_bracket, at_operator, after, run}
 use Rattle.fd_language.proofs.Lemmas.{accepts, as_many, one_verdict}
 use Rattle.term_reader.specs.Laws.{EachIsRead}
@@ -133,8 +133,8 @@ with_terms text ls tokens terms r =
 
 with_tokens : (text : List ℕ) (ls : List Lexeme) → TokensOf text ls → Verdict (terminals [] ls) → Readable text
 with_tokens text ls tokens (inl w) = with_terms text ls tokens w.0 w.1
-with_tokens text ls tokens (inr (inl w)) = (syntax_fault (place_at ls (length text) w.0), record { lexemes = ls; tokens = tokens; number = w.0; fault = w.1; at = refl })
-with_tokens text ls tokens (inr (inr w)) = (too_deep (place_at ls (length text) w.0), record { lexemes = ls; tokens = tokens; number = w.0; fault = w.1; at = refl })
+with_tokens text ls tokens (inr (inl w)) = (syntax_fault (lexeme_place ls (length text) w.0), record { lexemes = ls; tokens = tokens; number = w.0; fault = w.1; at = refl })
+with_tokens text ls tokens (inr (inr w)) = (too_deep (lexeme_place ls (length text) w.0), record { lexemes = ls; tokens = tokens; number = w.0; fault = w.1; at = refl })
 
 by_tokens : (text : List ℕ) → ((ls : List Lexeme) × TokensOf text ls) ⊎ ((cause : Cause) × (place : ℕ) × FaultOf text cause place) → Readable text
 by_tokens text (inl w) = with_tokens text w.0 w.1 (verdict (terminals [] w.0))

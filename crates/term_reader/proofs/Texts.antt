@@ -8,7 +8,7 @@ use Rattle.fd_language.specs.Term.{Name}
 use Rattle.fd_language.specs.Terminals.{Terminal}
 use Rattle.fd_language.specs.Tokens.{Lexeme, HasTokens, TokensOf}
 use Rattle.fd_language.specs.Reading as model
-use Rattle.fd_language.specs.Reading.{terminals, terminal_of, names_behind, place_at, IsSentences, IsSyntaxPlace, IsDeepPlace}
+use Rattle.fd_language.specs.Reading.{terminals, terminal_of, names_behind, lexeme_place, IsSentences, IsSyntaxPlace, IsDeepPlace}
 use Rattle.fd_language.specs.Grammar.{IsText, Begins}
 use Rattle.fd_language.specs.GrammarFaults.{deepest, open_behind, brackets, IsShallow, IsRead, IsSyntaxFault, IsTooDeep}
 use Rattle.fd_language.specs.ReadingSteps.{State, want, top, run}
@@ -16,7 +16,7 @@ use Rattle.fd_language.proofs.Lemmas.{accepts}
 use Rattle.char_tokens.specs.declared.token.TokenFault.{TokenFault}
 use Rattle.char_tokens.specs.declared.token.TokenFault.TheVariants as faults
 use Rattle.char_tokens.specs.Views.{cause_of}
-use Rattle.char_tokens.specs.Left.{Left}
+use Rattle.char_tokens.specs.UnreadText.{Left}
 use Rattle.char_tokens.specs.Scanning.{IsNext, Refuses, IsFirstFault, AreTokens}
 use Rattle.char_tokens.proofs.Lemmas.{Completes, completes_more, next_tokens, next_fault, fault_first}
 use Rattle.term_pool.specs.Contents.{Contents}
@@ -42,11 +42,11 @@ take-terminals names [] (suc k) = refl
 take-terminals names (l ∷ ls) (suc k) = ap (λ (ts : List Terminal). terminal_of names l ∷ ts) (take-terminals (names_behind names l) ls k)
 
 -- the place of the token behind those read
-place_behind : (ls more : List Lexeme) (l : Lexeme) (size : ℕ) → place_at (ls ++ l ∷ more) size (length ls) ≡ l.place
+place_behind : (ls more : List Lexeme) (l : Lexeme) (size : ℕ) → lexeme_place (ls ++ l ∷ more) size (length ls) ≡ l.place
 place_behind [] more l size = refl
 place_behind (x ∷ ls) more l size = place_behind ls more l size
 
-place_at_end : (ls : List Lexeme) (size : ℕ) → place_at ls size (length ls) ≡ size
+place_at_end : (ls : List Lexeme) (size : ℕ) → lexeme_place ls size (length ls) ≡ size
 place_at_end [] size = refl
 place_at_end (l ∷ ls) size = place_at_end ls size
 

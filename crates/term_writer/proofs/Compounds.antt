@@ -13,7 +13,7 @@ use Rattle.fd_language.specs.Tokens.{greatest_integer}
 use Rattle.fd_language.specs.Terminals.{Terminal, variable, integer, opens, closes, open_list, close_list, open_curly, close_curly, comma, bar}
 use Rattle.fd_language.specs.Writing.{Quoted, is_empty_name, in_parentheses, TermText, spelled_alone, spelled_atom, spelled_one, spelled_two, spelled_infix, infix_text, call_text, arguments_text, functor_text, atom_text, spelled, spelled_each}
 use Rattle.term_writer.specs.SpelledTerms.{InTokens, called, after_bar, atom_tokens, atom_rest, one_tokens, operands, infix_tokens, two_tokens, two_rest, integer_tokens, tokens_of, further}
-use Rattle.term_writer.specs.Written.{IsVariable, IsFunctor, IsReadable, AllReadable}
+use Rattle.term_writer.specs.TextReadings.{IsVariable, IsFunctor, IsReadable, AllReadable}
 use Rattle.term_writer.proofs.TextTokens.{Lexes, open_bracket, close_bracket, list_opens, list_closes, curly_opens, curly_closes, comma_first, before_close, before_list_end, before_curly_end, before_comma, before_bar}
 use Rattle.term_writer.proofs.Variables.{Parts, variable_parts}
 use Rattle.term_writer.proofs.Leaves.{atom_lexes, functor_lexes, decimal_lexes, decimal_first, negative_lexes, variable_lexes}

@@ -15,7 +15,7 @@ use Rattle.fd_language.specs.Terminals.{Terminal, name, operator_word, variable,
 use Rattle.fd_language.specs.Writing as writing
 use Rattle.fd_language.specs.Writing.{is_letter_word, is_symbol_word, is_bare, quoted_name, starts_with_symbol, ends_with_symbol, atom_text, functor_text}
 use Rattle.term_writer.specs.SpelledTerms.{call_terminal, atom_tokens}
-use Rattle.term_writer.specs.Written.{IsVariable}
+use Rattle.term_writer.specs.TextReadings.{IsVariable}
 use Rattle.term_writer.proofs.QuotedNames.{name_of, token_of}
 use Rattle.term_writer.proofs.Classes.{digit_is}
 use Rattle.term_writer.proofs.Variables.{variable_parts}

@@ -4,7 +4,7 @@ use Rattle.fd_language.specs.Term.{Name}
 use Rattle.fd_language.specs.PlacedTerm.{PlacedTerm, PlacedTerms, var, int, atom, comp, no_parts, part, one, two}
 use Rattle.fd_language.specs.Operators.{Operator, left_limit, right_limit, prefix_of}
 use Rattle.fd_language.specs.Terminals.{Terminal, name, operator_word, variable, integer, opens, closes, open_list, close_list, open_curly, close_curly, comma, bar, stop, infix_operator, is_tight_open, is_negated, may_follow}
-use Rattle.term_writer.specs.Written.{number_among}
+use Rattle.term_writer.specs.TextReadings.{number_among}
 use Rattle.fd_language.specs.Grammar.{nil_name, curly_name, list_of, Reads, an_integer, a_negative, a_variable, an_atom, empty_list, empty_curly, named_call, operator_call, in_parens, operator_in_parens, a_list, a_list_tail, in_curly, a_prefix, an_infix, Arg, a_term, an_operator, Args, last, more}
 
 -- m is the number at which the text of the variable x stands among the names

@@ -17,7 +17,7 @@ use Rattle.fd_language.specs.Grammar.{Reads, an_integer, a_negative, a_variable,
 use Rattle.fd_language.specs.Reading.{terminals}
 use Rattle.fd_language.proofs.Lemmas.{within_infix, has_either, front_empty}
 use Rattle.term_writer.specs.SpelledTerms.{placed, all_placed, tokens_of, HasArguments, AllHaveArguments, Within}
-use Rattle.term_writer.specs.Written.{IsReadable, AllReadable, number_among, Derives, IsSentenceOf, WrittenIsRead}
+use Rattle.term_writer.specs.TextReadings.{IsReadable, AllReadable, number_among, Derives, IsSentenceOf, WrittenIsRead}
 use Rattle.term_writer.proofs.Derivations.{spelled_is_read}
 use Rattle.term_writer.proofs.OtherPlaces.{IsNumbered, and, no_token, like_stop, Stands, same_var, same_int, same_atom, same_comp, AllStand, same_none, same_part, Moved, moved, move}
 use Rattle.term_writer.proofs.TextTokens.{at_end, at_stop, Lexes, LexesAt, ascii_front, space, Follows, before_space}

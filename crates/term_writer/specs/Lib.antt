@@ -2,4 +2,4 @@ pub mod Views
 pub mod Pieces
 pub mod SpelledTerms
 pub mod ReadBack
-pub mod Written
+pub mod TextReadings

@@ -2,7 +2,7 @@
 
 ghost use Rattle.term_writer.specs.ReadBack.{QuotedIsRead};
 ghost use Rattle.term_writer.specs.SpelledTerms.{SpelledIsRead};
-ghost use Rattle.term_writer.specs.Written.{WrittenIsRead};
+ghost use Rattle.term_writer.specs.TextReadings.{WrittenIsRead};
 
 /// The tokens that spell a term derive it again, where each compound has an argument.
 pub fn spelled_is_read()

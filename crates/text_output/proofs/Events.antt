@@ -23,7 +23,7 @@ use Rattle.text_output.specs.declared.fault.Fault.TheVariants as fault
 use Rattle.byte_ports.specs.Ends.{SinkState, WroteAll}
 use Rattle.text_output.specs.Endings.{CutBy, Wrote, IsEnding}
 use Rattle.byte_ports.proofs.Lemmas.{all_then, wrote_nothing}
-use Rattle.text_output.proofs.Written.{wrote_short, wrote_cut, cut_then, cut_longer}
+use Rattle.text_output.proofs.PieceWrites.{wrote_short, wrote_cut, cut_then, cut_longer}
 
 -- of the events es, those that are still to come
 pub record Remain (m : State) (old now : SinkState) (es : List Event) (r : ℕ) : Type 0 where

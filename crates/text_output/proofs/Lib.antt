@@ -1,5 +1,5 @@
-mod Written
-mod Compiled
+mod PieceWrites
+mod ProgramCode
 mod Events
 mod Endings
 pub mod Lemmas

@@ -4,11 +4,11 @@ use std::fmt::Debug;
 use std::process::Abort;
 
 /// Refuses what differs from what is wanted, and says where.
-pub fn same<T: PartialEq + Debug + Copy>(rt: &impl Abort, found: T, want: T, at: &str) {
+pub(crate) fn same<T: PartialEq + Debug + Copy>(rt: &impl Abort, found: T, want: T, at: &str) {
     assert!(rt; found == want, "{found:?} is not {want:?}, at {at}");
 }
 
 /// The first column of a row, and those behind it.
-pub fn columns<'r>(rt: &impl Abort, row: &'r str) -> (&'r str, &'r str) {
+pub(crate) fn columns<'r>(rt: &impl Abort, row: &'r str) -> (&'r str, &'r str) {
     row.split_once(" | ").expect(rt, row)
 }

@@ -11,7 +11,7 @@ use Rattle.heap_cells.specs.Terms.{term_of, Same}
 use Rattle.heap_cells.specs.Valid.{IsHeap}
 use Rattle.unify_core.specs.declared.Touch.{Touch}
 use Rattle.unify_core.specs.Outcome.{IsBinding, IfTrue, IfFalse}
-use Rattle.unify_core.specs.Unified.{CannotUnify, IsEqualled}
+use Rattle.unify_core.specs.Unifications.{CannotUnify, IsEqualled}
 use Rattle.unify_core.proofs.Reducing.{done_same}
 use Rattle.unify_core.proofs.Stepping.{open_done, constant_else}
 use Rattle.unify_core.proofs.Whole.{start, IsBehind, behind_first, behind_further, equalled, under_way_first, none_unified}

@@ -15,7 +15,7 @@ use Rattle.heap_cells.specs.Cells.{Cells, free, is_bound, slot_at, compound_at, 
 use Rattle.heap_cells.specs.Terms.{Naming, terms_by, term_of, occurs, occurs_any, Same}
 use Rattle.heap_cells.specs.declared.Seen.{Seen}
 use Rattle.heap_cells.specs.declared.Seen.TheVariants as seen
-use Rattle.heap_cells.specs.Seen.{IsSeen, IsTop, IsRoot}
+use Rattle.heap_cells.specs.SeenCells.{IsSeen, IsTop, IsRoot}
 use Rattle.heap_cells.specs.Valid.{IsHeap}
 use Rattle.heap_cells.proofs.Lemmas.{unbound_term, term-Int, term-Atom, term-Struct, none_at_all, both_of, all_front}
 use Rattle.unify_core.specs.Effort.{unnamed}

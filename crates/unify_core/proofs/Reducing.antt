@@ -22,7 +22,7 @@ use Rattle.unify_core.specs.declared.Pair.{Pair}
 use Rattle.unify_core.specs.declared.Touch.{Touch}
 use Rattle.unify_core.specs.Touches.{AreTouched, IsRefuted}
 use Rattle.unify_core.specs.Reduces.{equation, equations, Reduces, IsOwn, HasAtoms, IsSameSize}
-use Rattle.unify_core.specs.Unified.{IsUnified, cells_equal}
+use Rattle.unify_core.specs.Unifications.{IsUnified, cells_equal}
 use Rattle.unify_core.specs.Effort.{unnamed, weight}
 use Rattle.unify_core.specs.Outcome.{IsDone, paired}
 use Rattle.unify_core.proofs.Touching.{touched_none, touched_both, one_else}

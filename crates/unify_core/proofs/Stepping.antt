@@ -10,7 +10,7 @@ use Rattle.heap_cells.specs.declared.Seen.{Seen}
 use Rattle.heap_cells.specs.declared.Seen.TheVariants as seen
 use Rattle.heap_cells.specs.Cells.{Cells, free, bound, is_bound, slot_at, IsOf, with_slot}
 use Rattle.heap_cells.specs.Terms.{Naming, IsOneToOne, terms_by, term_of, Same}
-use Rattle.heap_cells.specs.Seen.{IsSeen, IsTop}
+use Rattle.heap_cells.specs.SeenCells.{IsSeen, IsTop}
 use Rattle.heap_cells.specs.Valid.{IsHeap}
 use Rattle.heap_cells.proofs.Lemmas.{unbound_term, term-Int, term-Atom, occurs_check}
 use Rattle.unify_core.specs.declared.Pair.{Pair}

@@ -12,7 +12,7 @@ use Rattle.unify_core.specs.declared.Pair.{Pair}
 use Rattle.unify_core.specs.declared.Touch.{Touch}
 use Rattle.unify_core.specs.Touches.{IsRefuted}
 use Rattle.unify_core.specs.Reduces.{Reduces, IsOwn, HasAtoms, IsSameSize}
-use Rattle.unify_core.specs.Unified.{IsUnified, IsEqualled, KeepsAtoms, cells_equal}
+use Rattle.unify_core.specs.Unifications.{IsUnified, IsEqualled, KeepsAtoms, cells_equal}
 use Rattle.unify_core.specs.Outcome.{IsDone, IsHopeless, IfTrue, IfFalse}
 use Rattle.unify_core.proofs.Reducing.{reduces_none, reduces_both, refuted_both, unified}
 use Rattle.heap_cells.proofs.Lemmas.{none_at_all, both_of}

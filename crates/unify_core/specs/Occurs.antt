@@ -5,7 +5,7 @@ use Rattle.heap_cells.specs.declared.Cell.{Cell}
 use Rattle.heap_cells.specs.declared.Cell.TheVariants as cell
 use Rattle.heap_cells.specs.Cells.{Cells, IsOf}
 use Rattle.heap_cells.specs.Terms.{Naming, Same, term_of, terms_by, occurs_any}
-use Rattle.heap_cells.specs.Seen.{IsRoot, IsBoundToVariable, one_step}
+use Rattle.heap_cells.specs.SeenCells.{IsRoot, IsBoundToVariable, one_step}
 use Rattle.unify_core.specs.Effort.{unnamed}
 
 -- those ahead, and the last one, where there is one

@@ -4,13 +4,13 @@
 ghost use Rattle.std.specs.Prelude.{◌≡◌, ◌↔◌, ℕ, ◌<◌, ◌++◌, [], ◌∷◌, length, reverse, All, IfOk, OnOk, MatchOption, IsTrue};
 ghost use Rattle.heap_cells.specs.declared.Cell.TheVariants as cell;
 ghost use Rattle.heap_cells.specs.Cells.{free, linked, slot_at, IsOf};
-ghost use Rattle.heap_cells.specs.Seen.{IsRoot};
+ghost use Rattle.heap_cells.specs.SeenCells.{IsRoot};
 ghost use Rattle.heap_cells.specs.Terms.{IsAbsent};
 ghost use Rattle.heap_cells.specs.Valid.{IsHeap};
 ghost use Rattle.unify_core.specs.Reduces.{IsOwn, IsSameSize};
 ghost use Rattle.unify_core.specs.Outcome.{IfTrue, IfFalse, IfYes, IfNo, IsDone, IsHopeless, IsBinding, IsInfinite, IsSymbolicCell, TellsOccurs, TellsTouch, paired};
 ghost use Rattle.unify_core.specs.Occurs.{OccursAmong, LeavesAhead, IsOther, ComesToOther, ShowsOther, IsAbsentAmong};
-ghost use Rattle.unify_core.specs.Unified.{AreUnified, CannotUnify, KeepsAtoms, IsEqualled};
+ghost use Rattle.unify_core.specs.Unifications.{AreUnified, CannotUnify, KeepsAtoms, IsEqualled};
 
 use fd_language::NoMemory;
 use heap_cells::{Cell, Heap, Seen};

@@ -15,7 +15,7 @@ use Rattle.wam_code.specs.declared.instruction.Code.TheVariants.{GetConstant, Ge
 use Rattle.wam_code.specs.declared.parts.Entry.{Entry}
 use Rattle.wam_code.specs.Area.{Slot, Unset, Cell, State, Span, Area, Holds, HasState, HasEntry, HasQuery}
 use Rattle.wam_code.specs.Effect.{slot_at, is_cell}
-use Rattle.wam_code.specs.Verified.{named, goes_on, Names, Falls, Covers, Leads, BeginsWith, IsQuery, is_other, is_before, is_behind, NamesOther, HoldsOne, AreChoices, IsAtom, IsThere, IsVerifiedBy, IsVerified}
+use Rattle.wam_code.specs.VerifiedCode.{named, goes_on, Names, Falls, Covers, Leads, BeginsWith, IsQuery, is_other, is_before, is_behind, NamesOther, HoldsOne, AreChoices, IsAtom, IsThere, IsVerifiedBy, IsVerified}
 use Rattle.machine_relation.specs.Heap.{Below}
 use Rattle.wam_code.specs.Places.{Places, put_at, write, learn, no_registers, no_slots, IsWhole, IsSettled, Hold, count, made}
 use Rattle.wam_code.specs.Means.{Caller, Means}

@@ -10,7 +10,7 @@ use Rattle.wam_code.specs.declared.parts.Entry.{Entry}
 use Rattle.wam_code.specs.Area.{State, Area, Holds, HasState}
 use Rattle.fd_model.specs.Arities.{builtin_arity, constraint_arity}
 use Rattle.wam_code.specs.Effect.{slot_at, is_unset, is_cell, with_cell, is_set, is_free, with_set, with_owed, are_set, are_given, has_frame, no_frame, when, plain_effect, unify_effect, effect_by, effect}
-use Rattle.wam_code.specs.Verified.{named, goes_on, Covers, HandedTo, Leads, IsVerifiedBy}
+use Rattle.wam_code.specs.VerifiedCode.{named, goes_on, Covers, HandedTo, Leads, IsVerifiedBy}
 
 -- Each need that the smaller state meets the larger one meets, and the results cover one another.
 abbrev pub Kept : Option State → Option State → Type 0

@@ -9,7 +9,7 @@ use Rattle.wam_code.specs.declared.instruction.Code.TheVariants.{Execute, Procee
 use Rattle.wam_code.specs.declared.parts.Entry.{Entry}
 use Rattle.wam_code.specs.Area.{State, Span, Area, Holds, HasState, HasEntry, HasQuery}
 use Rattle.wam_code.specs.Effect.{are_set, slot_at, is_cell}
-use Rattle.wam_code.specs.Verified.{Names, Falls, Covers, HandedTo, IsIn, IsQuery, IsVerifiedBy, goes_on}
+use Rattle.wam_code.specs.VerifiedCode.{Names, Falls, Covers, HandedTo, IsIn, IsQuery, IsVerifiedBy, goes_on}
 use Rattle.wam_code.specs.Reaching.{IsOutside, distance, begun}
 
 pub same_code : (a : Area) (at : ℕ) (i j : Code) → Holds a at i → Holds a at j → i ≡ j

@@ -4,7 +4,7 @@ use Rattle.std.specs.Coded.{Coded, code_by, coded_list}
 use Rattle.fd_language.specs.Term.{Name}
 use Rattle.fd_language.specs.Range.{Range}
 use Rattle.fd_language.specs.contracts.range_node.RangeNode as node
-use Rattle.fd_language.specs.Flat.{nodes_of, spelled, spelled-nodes}
+use Rattle.fd_language.specs.Flat.{nodes_of, spelled_range, spelled_range-nodes}
 use Rattle.fd_language.specs.Spelling.{empty_range}
 use Rattle.term_pool.specs.declared.AtomId.{AtomId}
 use Rattle.term_pool.specs.Contents.{Contents, atom_name}
@@ -46,7 +46,7 @@ pub record Area : Type 0 where
 
 -- a range is stored as the list of its nodes
 abbrev pub range_coded : Coded Range
-range_coded = code_by _ (coded_list node.the_row.coded) nodes_of spelled spelled-nodes
+range_coded = code_by _ (coded_list node.the_row.coded) nodes_of spelled_range spelled_range-nodes
 
 -- ---- what is there
 

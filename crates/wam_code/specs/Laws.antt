@@ -7,7 +7,7 @@ use Rattle.wam_code.specs.declared.instruction.Code.TheVariants.{Execute, Procee
 use Rattle.wam_code.specs.declared.parts.Entry.{Entry}
 use Rattle.wam_code.specs.Area.{State, Span, Area, Holds, HasState, HasEntry, HasQuery}
 use Rattle.wam_code.specs.Effect.{are_set, slot_at, is_cell}
-use Rattle.wam_code.specs.Verified.{Names, Falls, Covers, HandedTo, Leads, IsIn, IsVerifiedBy}
+use Rattle.wam_code.specs.VerifiedCode.{Names, Falls, Covers, HandedTo, Leads, IsIn, IsVerifiedBy}
 use Rattle.wam_code.specs.Reaching.{IsOutside, distance, begun}
 use Rattle.wam_code.specs.Places.{Places}
 use Rattle.wam_code.specs.Means.{Caller, Rule, Learns, Restates, Quietly, Means}

@@ -3,7 +3,7 @@ pub mod Keys
 pub mod Standing
 pub mod Arities
 pub mod Effect
-pub mod Verified
+pub mod VerifiedCode
 pub mod Places
 pub mod Means
 pub mod Tries

@@ -1,7 +1,7 @@
 -- Where code is, seen from its queries and from its end.
 use Rattle.std.specs.Prelude.{ℕ, ◌-◌, List, length, None}
 use Rattle.wam_code.specs.Area.{State, Span, Area, HasQuery}
-use Rattle.wam_code.specs.Verified.{IsIn}
+use Rattle.wam_code.specs.VerifiedCode.{IsIn}
 
 -- the place belongs to no query
 abbrev pub IsOutside : Area → ℕ → Type 0

@@ -3,7 +3,7 @@ ghost use Rattle.std.specs.Prelude.{◌≡◌, ◌↔◌, ◌<◌, length, IsTru
 ghost use Rattle.wam_code.specs.Area.{area_of, table_at, range_at, Holds};
 ghost use Rattle.wam_code.specs.Keys.{HasRisingTables};
 ghost use Rattle.wam_code.specs.Standing.{StandsAt};
-ghost use Rattle.wam_code.specs.Verified.{IsVerified, IsThere};
+ghost use Rattle.wam_code.specs.VerifiedCode.{IsVerified, IsThere};
 
 use crate::instruction::{Code, Instr, Key};
 use crate::parts::CodeParts;
@@ -25,7 +25,7 @@ impl Model for CodeArea {
     ghost use Rattle.wam_code.specs.Area.{Area, area_of, range_coded};
     ghost use Rattle.std.specs.Prelude.{◌↔◌, IsTrue};
     ghost use Rattle.wam_code.specs.Keys.{HasRisingTables};
-    ghost use Rattle.wam_code.specs.Verified.{IsVerified};
+    ghost use Rattle.wam_code.specs.VerifiedCode.{IsVerified};
 
     ghost Value = { Area };
 

@@ -8,7 +8,7 @@ use Rattle.range_code.specs.ParameterNeeds.{need_in}
 use Rattle.range_code.specs.Heights.{tallest}
 use Rattle.range_code.specs.Kinds.{has_pair}
 use Rattle.range_code.specs.Pieces.{piece_node, pieces_of, taken, literals}
-use Rattle.range_code.specs.Compiled.{AreStepsOf}
+use Rattle.range_code.specs.CodeFields.{AreStepsOf}
 use Rattle.range_code.proofs.Compiling.{compiled, none_there}
 use Rattle.range_code.proofs.compile_range.Goals as goal
 

@@ -8,7 +8,7 @@ use Rattle.range_code.specs.Kinds.{val_slots}
 use Rattle.range_code.proofs.Forms.{narrows_same}
 use Rattle.range_code.proofs.Running.{nodes_readable, nodes_spelled, nodes_fit_family, table_narrows}
 use Rattle.range_code.specs.Slots.{in_slots}
-use Rattle.range_code.specs.Folded.{folded_range}
+use Rattle.range_code.specs.FoldedRanges.{folded_range}
 use Rattle.range_code.proofs.Forms.{form_spells}
 use Rattle.range_code.proofs.Folding.{form_folded}
 use Rattle.range_code.proofs.narrow.Goals as goal

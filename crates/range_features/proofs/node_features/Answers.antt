@@ -3,7 +3,7 @@ use Rattle.std.proofs.lemmas.List.{at_drop_more, at_drop_all}
 use Rattle.fd_language.specs.declared.range_node.RangeNode.{RangeNode}
 use Rattle.fd_language.specs.declared.range_node.Feature.{Feature}
 use Rattle.range_features.specs.declared.Seen.{Seen}
-use Rattle.range_features.specs.Seen.{unseen}
+use Rattle.range_features.specs.MetPairs.{unseen}
 use Rattle.range_features.proofs.MetPairs.{none_met}
 use Rattle.range_features.proofs.node_features.Goals as goal
 

@@ -1,6 +1,6 @@
 use Rattle.std.proofs.Common.{◌≡◌, ◌++◌, drop}
 use Rattle.fd_language.specs.Features.{each_once, node_features}
-use Rattle.range_features.specs.Seen.{unseen}
+use Rattle.range_features.specs.MetPairs.{unseen}
 use Rattle.range_features.proofs.node_features.Given as goal
 
 abbrev pub invariant-loop-node : goal.invariant-loop-node

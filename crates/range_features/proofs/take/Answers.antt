@@ -1,4 +1,4 @@
-use Rattle.range_features.specs.Seen.{sees}
+use Rattle.range_features.specs.MetPairs.{sees}
 use Rattle.range_features.proofs.MetPairs.{met_new, met_again, is_new, is_known}
 use Rattle.range_features.proofs.take.Goals as goal
 

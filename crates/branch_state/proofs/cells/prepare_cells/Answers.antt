@@ -13,7 +13,7 @@ use Rattle.range_code.specs.Slots.{slots_of, slot_needs, need_at}
 use Rattle.unify_core.specs.declared.Touch.{Touch}
 use Rattle.unify_core.specs.Effort.{unnamed}
 use Rattle.branch_state.specs.CellNaming.{shown_as, shown_slots, slots_open, NamedBy, TermStep, SlotStep, AreCellsReady}
-use Rattle.branch_state.specs.Naming.{offence, first_in, with_sets}
+use Rattle.branch_state.specs.Naming.{offence, first_in, with_level_sets}
 use Rattle.branch_state.proofs.CellsReady.{cell_shown, cells_start, cells_more}
 use Rattle.branch_state.proofs.Looking.{can_name}
 use Rattle.branch_state.proofs.Preparing.{fine_at}
@@ -80,7 +80,7 @@ slot_argument-requires-clause-fine g c = λ name.
 
 pub loop-index-preserved : goal.loop-index-preserved
 loop-index-preserved g c = record {
-  store = c.in_ok-arg.ensures.store ∙ ap (λ ls. with_sets ls c.slot_argument.new.store.current.sets) c.loop-index.invariant.store;
+  store = c.in_ok-arg.ensures.store ∙ ap (λ ls. with_level_sets ls c.slot_argument.new.store.current.sets) c.loop-index.invariant.store;
   below = c.in_ok-arg.ensures.below ∙ c.loop-index.invariant.below;
   ready = λ name t looks.
       let i = c.loop-index.index in

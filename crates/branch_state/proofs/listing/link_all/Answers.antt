@@ -1,6 +1,6 @@
 use Rattle.std.proofs.Common.{refl, ◌∙◌, ap}
 use Rattle.fd_model.specs.Levels.{Levels}
-use Rattle.branch_state.specs.Naming.{with_sets}
+use Rattle.branch_state.specs.Naming.{with_level_sets}
 use Rattle.branch_state.proofs.ConstrainingLinks.{links_none, links_unbound, links_step}
 use Rattle.branch_state.proofs.ConstrainingSteps.{has_at}
 use Rattle.branch_state.proofs.listing.link_all.Goals as goal
@@ -15,7 +15,7 @@ link-requires g c =
 
 pub loop-x-preserved : goal.loop-x-preserved
 loop-x-preserved g c = record {
-  store = c.in_ok-link.ensures.store ∙ ap (λ (l : Levels). with_sets l c.link.new.store.current.sets) c.loop-x.invariant.store;
+  store = c.in_ok-link.ensures.store ∙ ap (λ (l : Levels). with_level_sets l c.link.new.store.current.sets) c.loop-x.invariant.store;
   below = c.link.ensures.below ∙ c.loop-x.invariant.below;
   linked = links_step c.args.heap.now.now c.args.store.now.current.sets c.args.variables.now c.loop-x.x-index 0 c.loop-x-test.true c.loop-x.heap.now c.loop-x.store.current.sets c.link.new.heap.now c.link.new.store.current.sets c.loop-x.invariant.linked c.in_ok-link.ensures.linked;
 }

@@ -3,10 +3,10 @@ use Rattle.fd_language.specs.Range.{Indexical}
 use Rattle.fd_model.specs.Levels.{Levels}
 use Rattle.branch_state.specs.Constraints.{AreUnbound, variables_in}
 use Rattle.branch_state.specs.Listing.{AreListed, LinksMore}
-use Rattle.branch_state.specs.Naming.{with_sets}
+use Rattle.branch_state.specs.Naming.{with_level_sets}
 use Rattle.branch_state.proofs.ConstrainingLinks.{links_none, links_own}
 use Rattle.branch_state.proofs.ConstrainingSteps.{of_pair}
-use Rattle.branch_state.proofs.Listed.{none_listed, piece_unbound, piece_links, piece_listed}
+use Rattle.branch_state.proofs.PostingLists.{none_listed, piece_unbound, piece_links, piece_listed}
 use Rattle.branch_state.proofs.listing.list_piece.Goals as goal
 
 pub loop-range-init : goal.loop-range-init
@@ -33,7 +33,7 @@ loop-range-preserved g c =
     let b = subst (λ (p : Indexical). LinksMore middle S (variables_in (p ∷ [])) now T) is c.in_ok-list_range.ensures.linked in
     let y = subst (λ (p : Indexical). AreListed now (p ∷ []) c.loop-range.listing.list.items c.list_range.new.listing.list.items) is c.in_ok-list_range.ensures.listed in
     record {
-      store = c.in_ok-list_range.ensures.store ∙ ap (λ (l : Levels). with_sets l T) c.loop-range.invariant.store;
+      store = c.in_ok-list_range.ensures.store ∙ ap (λ (l : Levels). with_level_sets l T) c.loop-range.invariant.store;
       below = c.list_range.ensures.below ∙ c.loop-range.invariant.below;
       linked = piece_links h sets c.requires.links c.args.piece.now c.loop-range.range-index c.range-item.result c.loop-range-test.true middle S c.loop-range.invariant.linked now T b;
       listed = piece_listed h sets c.requires.links c.args.piece.now c.loop-range.range-index c.range-item.result c.loop-range-test.true middle S c.loop-range.invariant.linked now T b

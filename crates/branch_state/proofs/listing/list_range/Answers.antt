@@ -6,7 +6,7 @@ use Rattle.range_code.specs.Slots.{slots_of}
 use Rattle.branch_state.specs.Constraints.{AreLinked, AreUnbound, variables_in}
 use Rattle.branch_state.specs.Listing.{LinksMore}
 use Rattle.branch_state.proofs.ConstrainingLinks.{links_own}
-use Rattle.branch_state.proofs.Listed.{range_unbound, range_links, range_linked, one_listed, variables_one}
+use Rattle.branch_state.proofs.PostingLists.{range_unbound, range_links, range_linked, one_listed, variables_one}
 use Rattle.branch_state.proofs.listing.list_range.Goals as goal
 
 pub link-requires : goal.link-requires

@@ -4,9 +4,9 @@ use Rattle.constraint_expand.specs.Posts.{indexicals}
 use Rattle.branch_state.specs.Constraints.{AreUnbound, variables_in}
 use Rattle.branch_state.specs.Listing.{AreListed, LinksMore}
 use Rattle.fd_model.specs.Levels.{Levels}
-use Rattle.branch_state.specs.Naming.{with_sets}
+use Rattle.branch_state.specs.Naming.{with_level_sets}
 use Rattle.branch_state.proofs.ConstrainingLinks.{links_own}
-use Rattle.branch_state.proofs.Listed.{none_given, given_unbound, given_more, given_named, given_same}
+use Rattle.branch_state.proofs.PostingLists.{none_given, given_unbound, given_more, given_named, given_same}
 use Rattle.branch_state.proofs.listing.list_ranges.Goals as goal
 
 pub loop-listing-init : goal.loop-listing-init
@@ -32,7 +32,7 @@ loop-listing-preserved g c =
     let b = subst (λ (l : List (ℕ × Range)). LinksMore c.loop-listing.heap.now c.loop-listing.store.current.sets (variables_in (indexicals l)) now T) c.deref.ensures.value c.in_ok-list_piece.ensures.linked in
     let y = subst (λ (l : List (ℕ × Range)). AreListed now (indexicals l) c.loop-listing.listing.list.items c.list_piece.new.listing.list.items) c.deref.ensures.value c.in_ok-list_piece.ensures.listed in
     record {
-      store = c.in_ok-list_piece.ensures.store ∙ ap (λ (l : Levels). with_sets l T) c.loop-listing.invariant.store;
+      store = c.in_ok-list_piece.ensures.store ∙ ap (λ (l : Levels). with_level_sets l T) c.loop-listing.invariant.store;
       below = c.list_piece.ensures.below ∙ c.loop-listing.invariant.below;
       equated = c.next_piece.ensures.rest.equated ∙ c.loop-listing.invariant.equated;
       given = given_more c.args.heap.now.now c.args.store.now.current.sets c.requires.links c.args.expansion.now.ranges c.loop-listing.expansion.ranges c.loop-listing.heap.now c.loop-listing.store.current.sets c.loop-listing.listing.list.items c.loop-listing.invariant.given

@@ -1,11 +1,11 @@
 use Rattle.std.proofs.Common.{◌≡◌, length}
-use Rattle.branch_state.specs.Naming.{with_sets}
-use Rattle.branch_state.proofs.Listed.{AreGiven}
+use Rattle.branch_state.specs.Naming.{with_level_sets}
+use Rattle.branch_state.proofs.PostingLists.{AreGiven}
 use Rattle.branch_state.proofs.listing.list_ranges.Given as goal
 
 abbrev pub invariant-loop-listing : goal.invariant-loop-listing
 invariant-loop-listing g l = record {
-  store : l.store ≡ with_sets l.fn.store l.store.current.sets;
+  store : l.store ≡ with_level_sets l.fn.store l.store.current.sets;
   below : l.heap.below ≡ l.fn.heap.below;
   equated : l.expansion.equated ≡ l.fn.expansion.equated;
   given : AreGiven l.fn.heap.now l.fn.store.current.sets l.fn.expansion.ranges l.expansion.ranges l.heap.now l.store.current.sets l.listing.list.items;

@@ -1,7 +1,7 @@
 use Rattle.std.proofs.Common.{subst}
 use Rattle.propagate_queue.specs.declared.store.Posted.{Posted}
-use Rattle.propagate_queue.specs.Stored.{IsPosted}
-use Rattle.branch_state.proofs.Settled.{kept_settled, failed_no_model}
+use Rattle.propagate_queue.specs.StoreFields.{IsPosted}
+use Rattle.branch_state.proofs.LevelModels.{kept_settled, failed_no_model}
 use Rattle.branch_state.proofs.posting.post_list.Goals as goal
 
 pub returns-in-Kept-clause-kept : goal.returns-in-Kept-clause-kept

@@ -3,7 +3,7 @@ use Rattle.std.specs.Prelude.{Ok, All}
 use Rattle.heap_cells.proofs.Lemmas.{all_push}
 use Rattle.std.proofs.lemmas.Result.{err_from_is_err_and}
 use Rattle.builtin_calls.specs.declared.operations.OpenOperation.TheVariants.{Right}
-use Rattle.fd_model.specs.Arithmetic.{opposite_of, of_both}
+use Rattle.fd_model.specs.Arithmetic.{opposite_of, value_of_both}
 use Rattle.builtin_calls.specs.Outcomes.{IsFault, meaning}
 use Rattle.builtin_calls.specs.SeenTerms.{seen_term}
 use Rattle.builtin_calls.specs.Evaluations.{after, IsOfHeap}
@@ -57,7 +57,7 @@ returns-in-Some-clause-goes c names sets =
     let m : meaning c.in-Left.operation (to_z w64 (of_z w64 c.args.value)) (to_z w64 (of_z w64 c.in-Some.operand)) ≡ meaning c.in-Left.operation c.args.value c.in-Some.operand =
     ap (λ x. meaning c.in-Left.operation x (to_z w64 (of_z w64 c.in-Some.operand))) (read_back c.args.value c.ranges.value) ∙ ap (meaning c.in-Left.operation c.args.value) (read_back c.in-Some.operand fo) in
     value_goes names h sets c.args.waiting.now (c.args.waiting.now ++ c.args.waits ∷ []) c.args.waits c.args.value (to_z w64 (of_z w64 c.in_ok-apply-in-Left.field-0))
-    (λ name. ap (λ w. after (seen_term name h sets) w (Ok c.args.value)) c.in-Left.is ∙ ap (λ v. of_both (meaning c.in-Left.operation) (Ok c.args.value) v) (c.in-Some.ensures name sets) ∙ sym m ∙ c.in_ok-apply-in-Left.ensures ∙ ap Ok (sym (read_back c.in_ok-apply-in-Left.field-0 fy))) refl
+    (λ name. ap (λ w. after (seen_term name h sets) w (Ok c.args.value)) c.in-Left.is ∙ ap (λ v. value_of_both (meaning c.in-Left.operation) (Ok c.args.value) v) (c.in-Some.ensures name sets) ∙ sym m ∙ c.in_ok-apply-in-Left.ensures ∙ ap Ok (sym (read_back c.in_ok-apply-in-Left.field-0 fy))) refl
 
 pub returns-in_err-apply-in-Left-clause-goes : goal.returns-in_err-apply-in-Left-clause-goes
 returns-in_err-apply-in-Left-clause-goes c =
@@ -67,7 +67,7 @@ returns-in_err-apply-in-Left-clause-goes c =
     let m : meaning c.in-Left.operation (to_z w64 (of_z w64 c.args.value)) (to_z w64 (of_z w64 c.in-Some.operand)) ≡ meaning c.in-Left.operation c.args.value c.in-Some.operand =
     ap (λ x. meaning c.in-Left.operation x (to_z w64 (of_z w64 c.in-Some.operand))) (read_back c.args.value c.ranges.value) ∙ ap (meaning c.in-Left.operation c.args.value) (read_back c.in-Some.operand fo) in
     rw (p.1, p.2) (λ names sets name n. value_fails names h sets c.args.waiting.now c.args.waits c.args.value c.in_err-apply-in-Left.field-0.0
-    (λ name. subst (IsFault c.in_err-apply-in-Left.field-0.0) (sym (ap (λ w. after (seen_term name h sets) w (Ok c.args.value)) c.in-Left.is ∙ ap (λ v. of_both (meaning c.in-Left.operation) (Ok c.args.value) v) (c.in-Some.ensures name sets) ∙ sym m)) c.in_err-apply-in-Left.ensures) name)
+    (λ name. subst (IsFault c.in_err-apply-in-Left.field-0.0) (sym (ap (λ w. after (seen_term name h sets) w (Ok c.args.value)) c.in-Left.is ∙ ap (λ v. value_of_both (meaning c.in-Left.operation) (Ok c.args.value) v) (c.in-Some.ensures name sets) ∙ sym m)) c.in_err-apply-in-Left.ensures) name)
 
 pub returns-in_ok-push-in-Left-clause-held : goal.returns-in_ok-push-in-Left-clause-held
 returns-in_ok-push-in-Left-clause-held c a = subst (All (IsOfHeap c.args.heap.now.now)) (sym c.in_ok-push-in-Left.ensures) (all_push (IsOfHeap c.args.heap.now.now) c.args.waiting.now _ a tt)

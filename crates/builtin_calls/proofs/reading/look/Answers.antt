@@ -2,7 +2,7 @@ use Rattle.std.proofs.Common.{◌≡◌, ◌<◌, ◌^◌, pos, to_z, w64, sym, 
 use Rattle.std.specs.Prelude.{Some, None}
 use Rattle.std.proofs.lemmas.Int.{ints}
 use Rattle.fd_language.specs.Term.{Int}
-use Rattle.builtin_calls.specs.Shown.{only}
+use Rattle.builtin_calls.specs.CellTops.{only}
 use Rattle.builtin_calls.specs.SeenTerms.{family_of}
 use Rattle.builtin_calls.proofs.Showing.{number_same, shown_value, shown_else, held_seen}
 use Rattle.builtin_calls.proofs.reading.look.Goals as goal

@@ -8,7 +8,7 @@ use Rattle.clause_check.specs.declared.forms.Form.TheVariants.{Constraint, Built
 use Rattle.clause_check.specs.declared.program.FlatGoal.TheVariants as flat
 use Rattle.term_pool.specs.Terms.{term_of}
 use Rattle.clause_check.specs.Forms.{form_seen, HasFormArity}
-use Rattle.clause_check.specs.Kept.{KeepsGoal}
+use Rattle.clause_check.specs.GoalRecords.{KeepsGoal}
 use Rattle.clause_check.proofs.KeptGoals.{keeps_same, keeps_unify, keeps_label, keeps_post}
 use Rattle.clause_check.proofs.goals.formed_goal.Goals as goal
 

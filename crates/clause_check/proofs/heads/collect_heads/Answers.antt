@@ -2,7 +2,7 @@ use Rattle.std.proofs.Common.{◌≡◌, ◌<◌, ◌+◌, ◌++◌, [], ◌∷�
 use Rattle.fd_language.specs.PlacedTerm.{PlacedTerm}
 use Rattle.term_reader.specs.declared.reader.Sentence.{Sentence}
 use Rattle.indexmap.specs.IndexSet.{insert_key}
-use Rattle.clause_check.specs.Heads.{same_functor, AreHeadsOf}
+use Rattle.clause_check.specs.Heads.{same_numbers, AreHeadsOf}
 use Rattle.clause_check.proofs.HeadSets.{heads_same, heads_more}
 use Rattle.clause_check.proofs.SentenceLists.{front, front_more, term_in}
 use Rattle.clause_check.proofs.heads.collect_heads.Goals as goal
@@ -22,7 +22,7 @@ loop-sentence-preserved c =
     subst (λ (terms : List PlacedTerm). AreHeadsOf s.pool terms new) (sym more)
     (elim c.match-head_functor.branch [
       | in-Some+in_ok-insert w ↦
-          let keys : new ≡ insert_key same_functor old w.in-Some.functor = rw w.heads-is w.in_ok-insert.ensures.keys in
+          let keys : new ≡ insert_key same_numbers old w.in-Some.functor = rw w.heads-is w.in_ok-insert.ensures.keys in
           subst (AreHeadsOf s.pool (front s i ++ term_in s item ∷ [])) (sym keys) (heads_more s.pool (front s i) old (term_in s item) c.loop-sentence.invariant c.requires.own.pool w.in-Some.functor w.in-Some.ensures)
       | in_default w ↦
           let keys : new ≡ old = rw w.heads-is refl in

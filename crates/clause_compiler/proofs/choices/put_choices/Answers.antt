@@ -8,7 +8,7 @@ use Rattle.clause_compiler.specs.Sections.{ArePut, IsChoiceOf, its_entry}
 use Rattle.clause_compiler.specs.Parts.{tables_in}
 use Rattle.clause_compiler.specs.Switching.{AreChoicesBy, TablesGrow}
 use Rattle.clause_compiler.proofs.KindPut.{grown_keeps}
-use Rattle.clause_compiler.proofs.TablesGrowing.{put_lift, choices_keep, keys_grow, keys_none, rising_grow, rising_none}
+use Rattle.clause_compiler.proofs.TableGrowth.{put_lift, choices_keep, keys_grow, keys_none, rising_grow, rising_none}
 use Rattle.clause_compiler.proofs.Fitting.{is_number, numbers_within}
 use Rattle.clause_compiler.proofs.Putting.{put_none, put_one}
 use Rattle.clause_compiler.proofs.Vectors.{same_at}

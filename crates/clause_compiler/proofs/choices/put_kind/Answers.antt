@@ -3,7 +3,7 @@ use Rattle.std.proofs.lemmas.Option.{get_or_from_slice_get, slice_get_within}
 use Rattle.std.proofs.lemmas.Result.{on_ok_weaker}
 use Rattle.clause_code.specs.Trying.{list_of}
 use Rattle.clause_compiler.specs.Keys.{key_of, kind_numbers, is_tabled, may_be}
-use Rattle.clause_compiler.specs.Keyed.{AreKeyed}
+use Rattle.clause_compiler.specs.ClauseKeys.{AreKeyed}
 use Rattle.clause_compiler.specs.Parts.{tables_in}
 use Rattle.clause_compiler.proofs.KindPut.{list_put}
 use Rattle.clause_compiler.proofs.Lists.{get_there}

@@ -2,7 +2,7 @@ use Rattle.std.proofs.Common.{◌≡◌, ◌∙◌, ◌++◌, ◌∷◌, [], ℕ
 use Rattle.std.proofs.lemmas.List.{map_push, length-map}
 use Rattle.std.proofs.lemmas.List.Sorted.{answers_always}
 use Rattle.clause_compiler.specs.contracts.tables.LabelOrd.TheImpl.{cmp-value}
-use Rattle.clause_compiler.specs.Keyed.{label}
+use Rattle.clause_compiler.specs.ClauseKeys.{label}
 use Rattle.clause_compiler.proofs.Rising.{Orders, rows_rise}
 use Rattle.wam_code.specs.declared.instruction.Key.{Key}
 use Rattle.clause_compiler.specs.Sections.{ArePut, IsListIn, its_row}

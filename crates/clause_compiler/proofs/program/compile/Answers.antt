@@ -1,10 +1,10 @@
 use Rattle.std.proofs.Common.{ap, sym, ◌∙◌, subst}
 use Rattle.clause_check.specs.Programs.{program_in}
 use Rattle.wam_code.specs.Keys.{HasRisingTables}
-use Rattle.wam_code.specs.Verified.{IsVerified}
+use Rattle.wam_code.specs.VerifiedCode.{IsVerified}
 use Rattle.wam_code.specs.Tries.{StandsForProgram}
 use Rattle.clause_compiler.specs.Parts.{area_with}
-use Rattle.clause_compiler.specs.Switched.{HasSwitches}
+use Rattle.clause_compiler.specs.PredicateSwitches.{HasSwitches}
 use Rattle.clause_compiler.proofs.Verifying.{laid_out_verified}
 use Rattle.clause_compiler.proofs.Standing.{laid_out_stands}
 use Rattle.clause_compiler.proofs.program.compile.Goals as goal

@@ -1,11 +1,11 @@
 use Rattle.std.proofs.Common.{◌≡◌, ◌∙◌, ap, sym}
 use Rattle.fd_language.specs.Range.{Range}
-use Rattle.fd_language.specs.Flat.{nodes_of, spelled, spelled-nodes}
+use Rattle.fd_language.specs.Flat.{nodes_of, spelled_range, spelled_range-nodes}
 use Rattle.clause_compiler.proofs.ranges.are_same.Goals as goal
 
 -- The nodes tell which range it is.
 same_range : (q r : Range) → nodes_of q ≡ nodes_of r → q ≡ r
-same_range q r e = sym (spelled-nodes q) ∙ ap spelled e ∙ spelled-nodes r
+same_range q r e = sym (spelled_range-nodes q) ∙ ap spelled_range e ∙ spelled_range-nodes r
 
 pub returns : goal.returns
 returns c =

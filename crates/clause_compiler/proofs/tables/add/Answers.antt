@@ -5,7 +5,7 @@ use Rattle.std.proofs.lemmas.Option.{slice_get_within}
 use Rattle.std.proofs.lemmas.List.{map_push, map-set, get_or-map}
 use Rattle.wam_code.specs.declared.instruction.Key.{Key}
 use Rattle.clause_compiler.specs.contracts.tables.LabelPartialEq.TheImpl.{eq-value}
-use Rattle.clause_compiler.specs.Keyed.{label, same_key}
+use Rattle.clause_compiler.specs.ClauseKeys.{label, same_key}
 use Rattle.clause_compiler.proofs.Keying.{each_pair, insert_new, insert_old}
 use Rattle.clause_compiler.proofs.tables.add.Goals as goal
 

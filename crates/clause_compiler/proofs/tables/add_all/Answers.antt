@@ -1,7 +1,7 @@
 use Rattle.std.proofs.Common.{sym, subst, arith}
 use Rattle.std.proofs.lemmas.List.{take_all}
-use Rattle.clause_compiler.specs.Keyed.{AreKeyed}
-use Rattle.clause_compiler.proofs.Switched.{keyed_all}
+use Rattle.clause_compiler.specs.ClauseKeys.{AreKeyed}
+use Rattle.clause_compiler.proofs.PredicateSwitches.{keyed_all}
 use Rattle.clause_compiler.proofs.tables.add_all.Goals as goal
 
 pub returns-clause-each : goal.returns-clause-each

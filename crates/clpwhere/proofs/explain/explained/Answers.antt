@@ -2,7 +2,7 @@ use Rattle.std.proofs.Common.{rules, ◌≡◌, ◌++◌, ◌∙◌, codes}
 use Rattle.clpwhere.specs.MarkedLines.{place_line, shown_lines}
 use Rattle.clpwhere.specs.Reasons.{reason_sentence}
 use Rattle.clpwhere.specs.Refusals.{seen}
-use Rattle.clpwhere.proofs.Shown.{four_joined}
+use Rattle.clpwhere.proofs.ShownCharacters.{four_joined}
 use Rattle.clpwhere.proofs.explain.explained.Goals as goal
 
 pub returns : goal.returns

@@ -1,6 +1,6 @@
 use Rattle.std.proofs.Common.{rules, ◌≡◌, ℕ, List, ◌++◌, ◌∙◌, ap, codes, decimal, string_bytes}
 use Rattle.clpwhere.specs.Places.{line_number, column_number}
-use Rattle.clpwhere.proofs.Shown.{head_joined}
+use Rattle.clpwhere.proofs.ShownCharacters.{head_joined}
 use Rattle.clpwhere.proofs.explain.place_line.Goals as goal
 
 abbrev shape : List ℕ → ℕ → ℕ → List ℕ

@@ -1,5 +1,5 @@
 use Rattle.std.proofs.Common.{rules, string_bytes}
-use Rattle.clpwhere.proofs.Shown.{shown_next}
+use Rattle.clpwhere.proofs.ShownCharacters.{shown_next}
 use Rattle.clpwhere.proofs.explain.put_shown.Goals as goal
 
 pub loop-character-preserved : goal.loop-character-preserved

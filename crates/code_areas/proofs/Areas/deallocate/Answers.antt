@@ -1,6 +1,6 @@
 use Rattle.std.proofs.Common.{◌≡◌, ℕ, ◌+◌, [], length, take, drop, reverse, ap, sym, ◌∙◌, arith, length-take}
 use Rattle.code_areas.specs.Areas.{Places, Contents}
-use Rattle.code_areas.specs.Stored.{contents_of}
+use Rattle.code_areas.specs.AreaFields.{contents_of}
 use Rattle.std.proofs.lemmas.List.{drop-take, take-take}
 use Rattle.code_areas.proofs.Moving.{slots_hold, slots_seen}
 use Rattle.code_areas.proofs.Areas.deallocate.Goals as goal

@@ -1,7 +1,7 @@
 use Rattle.std.proofs.Common.{◌+◌, length, take, drop, reverse, ap, sym, ◌∙◌, arith, length-take}
 use Rattle.std.proofs.lemmas.List.{drop-take, take-take}
 use Rattle.code_areas.specs.Areas.{Contents}
-use Rattle.code_areas.specs.Stored.{contents_of}
+use Rattle.code_areas.specs.AreaFields.{contents_of}
 use Rattle.code_areas.proofs.Moving.{cells_hold, cells_seen}
 use Rattle.code_areas.proofs.Areas.keep_registers.Goals as goal
 

@@ -3,7 +3,7 @@ use Rattle.std.proofs.lemmas.List.{length-reverse}
 use Rattle.code_areas.specs.declared.Frame.{Frame}
 use Rattle.code_areas.specs.declared.Mark.{Mark}
 use Rattle.code_areas.specs.Areas.{Places, Contents}
-use Rattle.code_areas.specs.Stored.{points_of}
+use Rattle.code_areas.specs.AreaFields.{points_of}
 use Rattle.code_areas.proofs.Areas.points.Goals as goal
 
 count : (ms : List Mark) (cells slots : Places) (frames : List Frame) → length (points_of ms cells slots frames) ≡ length ms

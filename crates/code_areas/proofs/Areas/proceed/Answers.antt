@@ -1,7 +1,7 @@
 use Rattle.std.proofs.Common.{◌-◌, ◌<◌, ◌≤◌, List, ◌++◌, length, drop, slice_range, reverse, ap, sym, ◌∙◌, subst, arith}
 use Rattle.code_areas.specs.declared.Mark.{Mark}
 use Rattle.code_areas.specs.Areas.{Places, Contents}
-use Rattle.code_areas.specs.Stored.{returns_of, frames_kept}
+use Rattle.code_areas.specs.AreaFields.{returns_of, frames_kept}
 use Rattle.code_areas.proofs.Fields.{some_newest, frame_read, copy_made, cut_made}
 use Rattle.code_areas.proofs.Areas.proceed.Goals as goal
 

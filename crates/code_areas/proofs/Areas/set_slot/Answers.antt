@@ -1,6 +1,6 @@
 use Rattle.std.proofs.Common.{◌+◌, slice_set, reverse, ap, sym, ◌∙◌, arith}
 use Rattle.code_areas.specs.Areas.{Contents}
-use Rattle.code_areas.specs.Stored.{contents_of}
+use Rattle.code_areas.specs.AreaFields.{contents_of}
 use Rattle.std.proofs.lemmas.List.{length-set, take-set-le, drop-set-add}
 use Rattle.code_areas.proofs.Moving.{slots_hold, slots_seen}
 use Rattle.code_areas.proofs.Areas.set_slot.Goals as goal

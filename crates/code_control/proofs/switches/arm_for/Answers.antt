@@ -1,6 +1,6 @@
 use Rattle.std.proofs.Common.{◌<◌, refl, sym, subst}
 use Rattle.heap_cells.specs.Cells.{Heaps, IsOf}
-use Rattle.heap_cells.specs.Seen.{IsSeen}
+use Rattle.heap_cells.specs.SeenCells.{IsSeen}
 use Rattle.heap_cells.specs.Valid.{IsHeap}
 use Rattle.wam_code.specs.declared.instruction.Code.TheVariants as step
 use Rattle.code_states.specs.Safety.{IsSafe}

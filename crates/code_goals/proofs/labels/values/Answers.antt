@@ -3,7 +3,7 @@ use Rattle.fd_model.specs.Levels.{Levels}
 use Rattle.heap_cells.specs.Cells.{Heaps}
 use Rattle.heap_cells.specs.declared.Cell.TheVariants as cell
 use Rattle.heap_cells.specs.declared.Seen.TheVariants as looks
-use Rattle.heap_cells.specs.Seen.{IsSeen}
+use Rattle.heap_cells.specs.SeenCells.{IsSeen}
 use Rattle.machine_frames.specs.Frames.{link_of}
 use Rattle.range_code.specs.Frames.{family_of}
 use Rattle.code_goals.proofs.Numbers.{own_link, no_link, values_linked, values_all}

@@ -2,7 +2,7 @@ use Rattle.std.proofs.Common.{FitsSigned, ap, sym, subst, rules, w64}
 use Rattle.std.proofs.lemmas.Int.{to_z-of_z}
 use Rattle.heap_cells.specs.declared.Cell.TheVariants as cell
 use Rattle.heap_cells.specs.Terms.{Same}
-use Rattle.heap_cells.specs.Stored.{slot_of}
+use Rattle.heap_cells.specs.HeapFields.{slot_of}
 use Rattle.heap_cells.proofs.Chains.{one_binding}
 use Rattle.heap_cells.proofs.Heap.near_int.Goals as goal
 

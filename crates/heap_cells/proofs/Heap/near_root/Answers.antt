@@ -3,7 +3,7 @@ use Rattle.heap_cells.specs.declared.Cell.{Cell}
 use Rattle.heap_cells.specs.declared.Cell.TheVariants as cell
 use Rattle.heap_cells.specs.Cells.{bound, is_bound, slot_at, IsOf}
 use Rattle.heap_cells.specs.Terms.{Same, term_of}
-use Rattle.heap_cells.specs.Seen.{IsRoot, binding_or, one_step}
+use Rattle.heap_cells.specs.SeenCells.{IsRoot, binding_or, one_step}
 use Rattle.heap_cells.proofs.Fields.{slot_is, slots_there, valid_now}
 use Rattle.heap_cells.proofs.Chains.{no_more, one_binding}
 use Rattle.heap_cells.proofs.Looking.{binding_at, bound_alike, stays_put, unbound_step, unbound_here}

@@ -1,7 +1,7 @@
 use Rattle.std.proofs.Common.{◌≡◌, ◌∙◌, sym, ap, arith}
 use Rattle.heap_cells.specs.declared.Cell.TheVariants as cell
 use Rattle.heap_cells.specs.Cells.{slot_at}
-use Rattle.heap_cells.specs.Stored.{slot_of}
+use Rattle.heap_cells.specs.HeapFields.{slot_of}
 use Rattle.heap_cells.proofs.Fields.{slot_is, slots_there}
 use Rattle.heap_cells.proofs.Looking.{never_open, not_free, number_of}
 use Rattle.heap_cells.proofs.Heap.open_root.Goals as goal

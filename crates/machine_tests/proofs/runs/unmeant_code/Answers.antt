@@ -1,4 +1,4 @@
-use Rattle.machine_tests.proofs.Unmeant.{unmeant_verified}
+use Rattle.machine_tests.proofs.CodeWithoutProgram.{unmeant_verified}
 use Rattle.machine_tests.proofs.runs.unmeant_code.Goals as goal
 
 pub from_verified-requires : goal.from_verified-requires

@@ -1,4 +1,4 @@
-use Rattle.fd_language.specs.Flat.{spelled}
+use Rattle.fd_language.specs.Flat.{spelled_range}
 use Rattle.domain_ranges.specs.Narrowing.{between}
 use Rattle.range_code.specs.Frames.{slot_set, slot_integer}
 use Rattle.range_code.specs.Heights.{HasRoom}
@@ -40,7 +40,7 @@ returns-in-Span-clause-narrowed g c =
     let t = some_step c.args.steps.now c.requires.spelled in
     let l : IsLast c.args.steps.now (c.len-last.result - 1) = record { there = omega (arith, t, c.len-last.ensures, c.args.steps.now.instrs.ok.0); last = omega (arith, t, c.len-last.ensures, c.args.steps.now.instrs.ok.0) } in
     let ends = last_ends (slot_set (g.V.View.sets c.args.view.now) c.args.args.now) (slot_integer c.args.args.now) c.args.steps.now (c.len-last.result - 1) c.index.result.now c.run.new.work l (sym c.index.ensures ∙ c.in-Span.is) c.in_ok-run.ensures.walked in
-    narrows_same c.narrow_to_ends.result c.args.target.now (between ends.low ends.high) (filled_set (slot_set (g.V.View.sets c.args.view.now) c.args.args.now) (slot_integer c.args.args.now) (spelled (all_steps c.args.steps.now)))
+    narrows_same c.narrow_to_ends.result c.args.target.now (between ends.low ends.high) (filled_set (slot_set (g.V.View.sets c.args.view.now) c.args.args.now) (slot_integer c.args.args.now) (spelled_range (all_steps c.args.steps.now)))
     (sym ends.set) (c.narrow_to_ends.ensures.narrowed ends.low ends.high ends.values)
 
 pub returns-in-Outside-clause-narrowed : goal.returns-in-Outside-clause-narrowed
@@ -48,7 +48,7 @@ returns-in-Outside-clause-narrowed g c =
     let t = some_step c.args.steps.now c.requires.spelled in
     let l : IsLast c.args.steps.now (c.len-last.result - 1) = record { there = omega (arith, t, c.len-last.ensures, c.args.steps.now.instrs.ok.0); last = omega (arith, t, c.len-last.ensures, c.args.steps.now.instrs.ok.0) } in
     let inner = last_inner (slot_set (g.V.View.sets c.args.view.now) c.args.args.now) (slot_integer c.args.args.now) c.args.steps.now (c.len-last.result - 1) c.index.result.now c.run.new.work l (sym c.index.ensures ∙ c.in-Outside.is) c.in_ok-run.ensures.walked in
-    narrows_same c.narrow_to_outside.result c.args.target.now (outside inner.inner) (filled_set (slot_set (g.V.View.sets c.args.view.now) c.args.args.now) (slot_integer c.args.args.now) (spelled (all_steps c.args.steps.now)))
+    narrows_same c.narrow_to_outside.result c.args.target.now (outside inner.inner) (filled_set (slot_set (g.V.View.sets c.args.view.now) c.args.args.now) (slot_integer c.args.args.now) (spelled_range (all_steps c.args.steps.now)))
     (sym inner.set) (c.narrow_to_outside.ensures.narrowed inner.inner inner.rest inner.sets)
 
 pub returns-in_ok-take-in_default-clause-narrowed : goal.returns-in_ok-take-in_default-clause-narrowed

@@ -6,7 +6,7 @@ use Rattle.answer_text.specs.Reasons.{reason_text}
 use Rattle.clause_check.specs.Programs.{program_in}
 use Rattle.text_verdict.specs.declared.judge.Verdict.{Verdict}
 use Rattle.text_verdict.specs.Verdicts.{verdict_of}
-use Rattle.run_summary.proofs.Generated.{queens_short, queens_program}
+use Rattle.run_summary.proofs.GeneratedTexts.{queens_short, queens_program}
 use Rattle.run_summary.proofs.Tallies.{run_of_first, verdict_program, found_one, found_refused}
 use Rattle.run_summary.proofs.summary.count_queens.Goals as goal
 

@@ -1,7 +1,7 @@
 use Rattle.std.proofs.Common.{◌≡◌, ◌++◌, ◌-◌, length, ap, sym, ◌∙◌, subst, inl, inr, arith, refl, [], Ok}
 use Rattle.fd_language.specs.declared.NoMemory.{NoMemory}
 use Rattle.heap_cells.specs.Cells.{Heaps, IsOf}
-use Rattle.heap_cells.specs.Seen.{IsSeen}
+use Rattle.heap_cells.specs.SeenCells.{IsSeen}
 use Rattle.heap_cells.specs.declared.Seen.TheVariants as seen
 use Rattle.wam_code.specs.declared.instruction.Code.TheVariants.{GetStructure}
 use Rattle.code_states.specs.Safety.{IsSafe}

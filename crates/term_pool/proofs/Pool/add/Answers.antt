@@ -4,7 +4,7 @@ use Rattle.term_pool.specs.declared.Placed.{Placed}
 use Rattle.term_pool.specs.Contents.{Shape, Entry, Contents}
 use Rattle.term_pool.specs.Terms.{term_of, Extends}
 use Rattle.term_pool.specs.Valid.{IsPool, IsWithin, HasMachineNumbers, shape_of}
-use Rattle.term_pool.specs.Stored.{entries_of, entry_of, AreStored, stored_shape}
+use Rattle.term_pool.specs.PoolFields.{entries_of, entry_of, AreStored, stored_shape}
 use Rattle.term_pool.proofs.Laws.{terms_kept, extends_push}
 use Rattle.term_pool.proofs.Growth.{stored_grown, stored_push, grown_entries, entries_push, length-entries_of, same_extends, term_added, on_err}
 use Rattle.term_pool.proofs.Pool.add.Goals as goal

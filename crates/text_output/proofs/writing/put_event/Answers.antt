@@ -4,7 +4,7 @@ use Rattle.machine_events.specs.Events.{event_of}
 use Rattle.term_pool.specs.Contents.{atom_name}
 use Rattle.byte_ports.specs.Ends.{SinkState, sink_at}
 use Rattle.byte_ports.proofs.Lemmas.{wrote_nothing}
-use Rattle.text_output.proofs.Written.{wrote_short}
+use Rattle.text_output.proofs.PieceWrites.{wrote_short}
 use Rattle.text_output.proofs.writing.put_event.Goals as goal
 
 pub returns-in_err-text-clause-wrote : goal.returns-in_err-text-clause-wrote

@@ -1,7 +1,7 @@
 use Rattle.std.proofs.Common.{rules, ◌++◌, refl, [], List, ℕ, arith}
 use Rattle.byte_ports.specs.Ends.{SinkState, sink_at}
 use Rattle.byte_ports.proofs.Lemmas.{wrote_nothing}
-use Rattle.text_output.proofs.Written.{line_more, line_short, line_last}
+use Rattle.text_output.proofs.PieceWrites.{line_more, line_short, line_last}
 use Rattle.text_output.proofs.writing.put_lines.Goals as goal
 
 pub lines-init : goal.lines-init

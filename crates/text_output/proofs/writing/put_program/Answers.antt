@@ -5,9 +5,9 @@ use Rattle.clause_check.specs.Programs.{program_in, query_at, query_in}
 use Rattle.wam_code.specs.Area.{Area}
 use Rattle.byte_ports.specs.Ends.{SinkState, sink_at, WroteAll}
 use Rattle.text_output.specs.Endings.{IsRunBy}
-use Rattle.text_output.proofs.Compiled.{has_query, run_by}
+use Rattle.text_output.proofs.ProgramCode.{has_query, run_by}
 use Rattle.byte_ports.proofs.Lemmas.{wrote_nothing}
-use Rattle.text_output.proofs.Written.{wrote_short}
+use Rattle.text_output.proofs.PieceWrites.{wrote_short}
 use Rattle.text_output.proofs.Events.{program_next, program_written, line_cut, events_cut, query_written, or_true, or_false}
 use Rattle.text_output.proofs.writing.put_program.Goals as goal
 use Rattle.text_output.proofs.writing.put_program.Goals.{then-branch, else-branch}

@@ -1,8 +1,8 @@
 use Rattle.std.proofs.Common.{rules, ◌≡◌, ◌∙◌, sym, ap, subst, ℕ}
 use Rattle.wam_code.specs.Area.{Area}
-use Rattle.wam_code.specs.Verified.{IsVerified}
+use Rattle.wam_code.specs.VerifiedCode.{IsVerified}
 use Rattle.code_machine.specs.States.{names_in}
-use Rattle.text_output.proofs.Compiled.{names_kept}
+use Rattle.text_output.proofs.ProgramCode.{names_kept}
 use Rattle.text_output.proofs.writing.put_run.Goals as goal
 
 pub put_events-requires-clause-names : goal.put_events-requires-clause-names

@@ -1,7 +1,7 @@
 use Rattle.std.proofs.Common.{◌≡◌, ◌<◌, [], ap, refl, sym, subst, length}
 use Rattle.heap_cells.specs.declared.Cell.TheVariants as cell
 use Rattle.heap_cells.specs.Cells.{Heaps, free, slot_at}
-use Rattle.unify_core.specs.Unified.{IsEqualled}
+use Rattle.unify_core.specs.Unifications.{IsEqualled}
 use Rattle.unify_core.proofs.Lemmas.{IsBehind, equalled, atoms_unified}
 use Rattle.branch_state.specs.Compounds.{IsCompoundOf}
 use Rattle.branch_state.specs.States.{State, IsSound, IsCell}

@@ -5,7 +5,7 @@ use Rattle.heap_terms.specs.Values.{shown_term}
 use Rattle.term_pool.specs.Contents.{name_in}
 use Rattle.machine_frames.specs.Frames.{link_of}
 use Rattle.branch_state.specs.Constraints.{row_of, Constrains, IsRowOf}
-use Rattle.branch_state.specs.Ready.{IsRowReady}
+use Rattle.branch_state.specs.LinkedRows.{IsRowReady}
 use Rattle.branch_state.specs.Naming.{OwnLinks}
 use Rattle.branch_state.specs.States.{State, IsSound, IsCell}
 use Rattle.branch_state.proofs.ConstrainingStates.{own_links, constraint_step, list_fits, fixed_fits, row_of_heap, row_read, fault_read}

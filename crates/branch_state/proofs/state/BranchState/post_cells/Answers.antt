@@ -9,7 +9,7 @@ use Rattle.machine_frames.specs.CellRanges.{cells_offence}
 use Rattle.branch_state.specs.CellNaming.{IsFineGoal, IsPrepared}
 use Rattle.branch_state.specs.CellPosts.{term_in, slots_in, PostsNamed}
 use Rattle.branch_state.specs.States.{State, IsSound, IsCell}
-use Rattle.branch_state.proofs.CellsPosted.{own_cells, goal_fine, goal_fault, cells_target_low, cells_frame, cells_touches_low, cells_step}
+use Rattle.branch_state.proofs.CellPosts.{own_cells, goal_fine, goal_fault, cells_target_low, cells_frame, cells_touches_low, cells_step}
 use Rattle.branch_state.proofs.state.BranchState.post_cells.Goals as goal
 
 pub find_cells_offence-offence-requires-clause-cells : goal.find_cells_offence-offence-requires-clause-cells

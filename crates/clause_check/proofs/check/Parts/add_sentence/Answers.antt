@@ -1,5 +1,5 @@
 use Rattle.std.proofs.lemmas.Result.{on_ok_weaker, IfErr-weaker}
-use Rattle.clause_check.specs.Refused.{RefusesAs, RefusesSentence}
+use Rattle.clause_check.specs.PartVerdicts.{RefusesAs, RefusesSentence}
 use Rattle.clause_check.specs.declared.terms.SentenceForm.TheVariants.{Query, Clause, Fact}
 use Rattle.clause_check.proofs.SentenceForms.{added_as, refused_as}
 use Rattle.clause_check.proofs.check.Parts.add_sentence.Goals as goal

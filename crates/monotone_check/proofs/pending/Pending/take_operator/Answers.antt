@@ -2,7 +2,7 @@ use Rattle.std.proofs.Common.{◌≡◌, [], ◌∷◌, ◌++◌, refl}
 use Rattle.fd_language.specs.declared.TheConstants.{INFINITY}
 use Rattle.monotone_check.specs.declared.summary.TermCheck.{TermCheck}
 use Rattle.monotone_check.specs.Summary.{IsOperated}
-use Rattle.monotone_check.proofs.Popped.{two_popped}
+use Rattle.monotone_check.proofs.LastItems.{two_popped}
 use Rattle.monotone_check.proofs.pending.Pending.take_operator.Goals as goal
 
 pub returns-in_ok-push : goal.returns-in_ok-push

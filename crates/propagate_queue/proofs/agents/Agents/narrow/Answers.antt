@@ -5,7 +5,7 @@ use Rattle.fd_language.specs.declared.TheConstants.{INFINITY}
 use Rattle.fd_language.specs.Range.{Range, set_of}
 use Rattle.domain_ranges.specs.Narrowing.{IsNarrowed}
 use Rattle.range_code.specs.Frames.{family_of}
-use Rattle.propagate_queue.specs.Laid.{laid}
+use Rattle.propagate_queue.specs.AgentArguments.{laid}
 use Rattle.propagate_queue.proofs.Laying.{code_of}
 use Rattle.propagate_queue.proofs.agents.Agents.narrow.Goals as goal
 

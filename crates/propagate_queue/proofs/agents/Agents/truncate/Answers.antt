@@ -1,7 +1,7 @@
 use Rattle.std.proofs.Common.{◌≤◌, arith, sym, subst}
 use Rattle.std.proofs.lemmas.List.Elements.{All-take}
 use Rattle.range_code.specs.Heights.{height}
-use Rattle.propagate_queue.specs.Laid.{HaveRoom}
+use Rattle.propagate_queue.specs.AgentArguments.{HaveRoom}
 use Rattle.propagate_queue.proofs.Laying.{laid_less}
 use Rattle.propagate_queue.proofs.agents.Agents.truncate.Goals as goal
 

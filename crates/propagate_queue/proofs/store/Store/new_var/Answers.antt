@@ -1,5 +1,5 @@
 use Rattle.std.proofs.Common.{Bool, reverse, false, subst}
-use Rattle.propagate_queue.specs.Stored.{IsStore}
+use Rattle.propagate_queue.specs.StoreFields.{IsStore}
 use Rattle.propagate_queue.proofs.Storing.{with_var}
 use Rattle.propagate_queue.proofs.store.Store.new_var.Goals as goal
 

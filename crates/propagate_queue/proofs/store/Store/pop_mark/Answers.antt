@@ -1,7 +1,7 @@
 use Rattle.std.proofs.Common.{◌≡◌, ◌∙◌, ◌++◌, ◌∷◌, List, ℕ, reverse, ap, sym, subst}
 use Rattle.std.specs.Option.{option_to_list}
 use Rattle.propagate_queue.specs.Postings.{ranges_of}
-use Rattle.propagate_queue.specs.Stored.{IsStore, levels_below}
+use Rattle.propagate_queue.specs.StoreFields.{IsStore, levels_below}
 use Rattle.propagate_queue.proofs.Storing.{popped_store, popped_stay, newest}
 use Rattle.propagate_queue.proofs.store.Store.pop_mark.Goals as goal
 

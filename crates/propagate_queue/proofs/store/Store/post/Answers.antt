@@ -7,7 +7,7 @@ use Rattle.propagate_queue.specs.Postings.{ranged, ranges_of}
 use Rattle.propagate_queue.specs.Instances.{posting, posted_by}
 use Rattle.fd_model.specs.Levels.{Levels}
 use Rattle.propagate_queue.specs.Running.{AreDomains, HasNone}
-use Rattle.propagate_queue.specs.Stored.{levels_below}
+use Rattle.propagate_queue.specs.StoreFields.{levels_below}
 use Rattle.fd_model.specs.Weights.{whole_weights}
 use Rattle.propagate_queue.proofs.Storing.{posted_store, levels_added, whole_of_part}
 use Rattle.propagate_queue.proofs.store.Store.post.Goals as goal

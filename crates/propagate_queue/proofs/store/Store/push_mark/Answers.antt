@@ -1,5 +1,5 @@
 use Rattle.std.proofs.Common.{◌≡◌, ◌∙◌, ◌++◌, ◌∷◌, [], List, ℕ, Bool, reverse, false, ap, sym, subst, arith}
-use Rattle.propagate_queue.specs.Stored.{IsStore}
+use Rattle.propagate_queue.specs.StoreFields.{IsStore}
 use Rattle.propagate_queue.proofs.Storing.{pushed, newest}
 use Rattle.propagate_queue.proofs.store.Store.push_mark.Goals as goal
 

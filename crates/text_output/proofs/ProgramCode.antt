@@ -12,7 +12,7 @@ use Rattle.wam_code.specs.declared.parts.QueryEntry.{QueryEntry}
 use Rattle.wam_code.specs.declared.parts.CodeParts.{CodeParts}
 use Rattle.wam_code.specs.Area.{Area, Span, span_of, area_of}
 use Rattle.wam_code.specs.Tries.{IsQueryCode, AreQueries, StandsForProgram}
-use Rattle.wam_code.specs.Verified.{IsAtom, IsVerified}
+use Rattle.wam_code.specs.VerifiedCode.{IsAtom, IsVerified}
 use Rattle.code_machine.specs.States.{MayRun, no_span, names_in}
 use Rattle.text_output.specs.Endings.{IsRunOf, IsRunBy}
 

@@ -38,13 +38,13 @@ value_at None G c = Var c
 value_at (Some k) G c = value_in (G k) c
 
 -- the variable of the store, unless its set has one value
-abbrev pub link_in : List ℕ → ℕ → Option ℕ
-link_in (w ∷ []) k = None
-link_in _ k = Some k
+abbrev pub open_link : List ℕ → ℕ → Option ℕ
+open_link (w ∷ []) k = None
+open_link _ k = Some k
 
 abbrev pub link_at : Option ℕ → Family → Option ℕ
 link_at None G = None
-link_at (Some k) G = link_in (G k) k
+link_at (Some k) G = open_link (G k) k
 
 -- the frame with each linked cell bound whose set has one value
 abbrev pub fixed_frame : Frame → Family → Frame

@@ -8,59 +8,10 @@ use Rattle.fd_language.specs.declared.range_node.Feature.{Feature}
 use Rattle.fd_language.specs.declared.range_node.Feature.TheVariants as feature
 use Rattle.fd_language.specs.Family.{Family, has, universe}
 use Rattle.fd_language.specs.Features.{expr_features, range_features}
-use Rattle.fd_language.specs.Range.{Range, Span, One, Dom, Union, Inter, Outside, Plus, Minus, Times, Over, Expr, Number, Infinity, Param, Min, Max, Val, Add, Sub, Mul, DivDown, DivUp, least, greatest, some_number, value, in_range, set_of, reads, vals, expr_vals, is_none_left, is_several}
+use Rattle.fd_language.specs.Range.{Range, Span, One, Dom, Union, Inter, Outside, Plus, Minus, Times, Over, Expr, Number, Infinity, Param, Min, Max, Val, Add, Sub, Mul, DivDown, DivUp, least, greatest, some_number, value, in_range, set_of, reads, vals, is_none_left, is_several}
+use Rattle.fd_language.specs.Lists.{Each}
+use Rattle.fd_language.proofs.Lemmas.{each_before, each_after, vals_of, vals_of_features}
 use Rattle.fd_model.specs.Changes.{is_changed, sees_change}
-
-abbrev pub Each : (ℕ × Feature → Type 0) → List (ℕ × Feature) → Type 0
-Each P [] = Unit {0}
-Each P (d ∷ ds) = P d × Each P ds
-
-parts : (P : ℕ × Feature → Type 0) (ds es : List (ℕ × Feature)) → Each P (ds ++ es) → Each P ds × Each P es
-parts P [] es h = (tt, h)
-parts P (d ∷ ds) es h = let later = parts P ds es h.1 in ((h.0, later.0), later.1)
-
--- the variables that are read by val
-abbrev pub vals_of : List (ℕ × Feature) → List ℕ
-vals_of [] = []
-vals_of ((y, feature.Val) ∷ ds) = y ∷ vals_of ds
-vals_of ((y, feature.Min) ∷ ds) = vals_of ds
-vals_of ((y, feature.Max) ∷ ds) = vals_of ds
-vals_of ((y, feature.Dom) ∷ ds) = vals_of ds
-
-vals_of-append : (ds es : List (ℕ × Feature)) → vals_of (ds ++ es) ≡ vals_of ds ++ vals_of es
-vals_of-append [] es = refl
-vals_of-append ((y, feature.Val) ∷ ds) es = ap (λ l. y ∷ l) (vals_of-append ds es)
-vals_of-append ((y, feature.Min) ∷ ds) es = vals_of-append ds es
-vals_of-append ((y, feature.Max) ∷ ds) es = vals_of-append ds es
-vals_of-append ((y, feature.Dom) ∷ ds) es = vals_of-append ds es
-
-both_vals : (ds es : List (ℕ × Feature)) (xs ys : List ℕ) → xs ≡ vals_of ds → ys ≡ vals_of es → xs ++ ys ≡ vals_of (ds ++ es)
-both_vals ds es xs ys e f = let g = vals_of-append ds es in cc
-
-expr_vals_is : (e : Expr) → expr_vals e ≡ vals_of (expr_features e)
-expr_vals_is (Number n) = refl
-expr_vals_is Infinity = refl
-expr_vals_is (Param x) = refl
-expr_vals_is (Min y) = refl
-expr_vals_is (Max y) = refl
-expr_vals_is (Val y) = refl
-expr_vals_is (Add a b) = both_vals (expr_features a) (expr_features b) (expr_vals a) (expr_vals b) (expr_vals_is a) (expr_vals_is b)
-expr_vals_is (Sub a b) = both_vals (expr_features a) (expr_features b) (expr_vals a) (expr_vals b) (expr_vals_is a) (expr_vals_is b)
-expr_vals_is (Mul a b) = both_vals (expr_features a) (expr_features b) (expr_vals a) (expr_vals b) (expr_vals_is a) (expr_vals_is b)
-expr_vals_is (DivDown a b) = both_vals (expr_features a) (expr_features b) (expr_vals a) (expr_vals b) (expr_vals_is a) (expr_vals_is b)
-expr_vals_is (DivUp a b) = both_vals (expr_features a) (expr_features b) (expr_vals a) (expr_vals b) (expr_vals_is a) (expr_vals_is b)
-
-pub vals_is : (r : Range) → vals r ≡ vals_of (range_features r)
-vals_is (Span a b) = both_vals (expr_features a) (expr_features b) (expr_vals a) (expr_vals b) (expr_vals_is a) (expr_vals_is b)
-vals_is (One t) = expr_vals_is t
-vals_is (Dom y) = refl
-vals_is (Union r q) = both_vals (range_features r) (range_features q) (vals r) (vals q) (vals_is r) (vals_is q)
-vals_is (Inter r q) = both_vals (range_features r) (range_features q) (vals r) (vals q) (vals_is r) (vals_is q)
-vals_is (Outside r) = vals_is r
-vals_is (Plus r c) = both_vals (range_features r) (expr_features c) (vals r) (expr_vals c) (vals_is r) (expr_vals_is c)
-vals_is (Minus r c) = both_vals (range_features r) (expr_features c) (vals r) (expr_vals c) (vals_is r) (expr_vals_is c)
-vals_is (Times r c) = both_vals (range_features r) (expr_features c) (vals r) (expr_vals c) (vals_is r) (expr_vals_is c)
-vals_is (Over r c) = both_vals (range_features r) (expr_features c) (vals r) (expr_vals c) (vals_is r) (expr_vals_is c)
 
 -- what is read of two sets is the same
 abbrev pub Same : Feature → List ℕ → List ℕ → Type 0
@@ -77,7 +28,7 @@ moved M g p q v w e f = ap (λ (t : ℕ → Bool). some_number M (λ k. t k && g
 
 module _ (M : ℕ) (S T : Family) where
   split : (ds es : List (ℕ × Feature)) → AllSame S T (ds ++ es) → AllSame S T ds × AllSame S T es
-  split ds es h = parts (λ d. Same d.1 (S d.0) (T d.0)) ds es h
+  split ds es h = (each_before (λ d. Same d.1 (S d.0) (T d.0)) ds es h, each_after (λ d. Same d.1 (S d.0) (T d.0)) ds es h)
 
   same_value : (e : Expr) → AllSame S T (expr_features e) → value M S e ≡ value M T e
   same_value (Number n) h = refl
@@ -122,7 +73,7 @@ any_at S x (y ∷ ys) h s = elim (or_cases (y == x) (has ys x) h) [
 pub same_set : (M : ℕ) (S T : Family) (r : Range) → ((y : ℕ) → is_none_left (S y) ≡ is_none_left (T y)) → AllSame S T (range_features r) → set_of M S r ≡ set_of M T r
 same_set M S T r empty h =
     let nones : list_any (λ y. is_none_left (S y)) (reads r) ≡ list_any (λ y. is_none_left (T y)) (reads r) = ap (λ (f : ℕ → Bool). list_any f (reads r)) (fun_ext empty) in
-    let opens : list_any (λ y. is_several (S y)) (vals r) ≡ list_any (λ y. is_several (T y)) (vals r) = subst (λ l. list_any (λ y. is_several (S y)) l ≡ list_any (λ y. is_several (T y)) l) (sym (vals_is r)) (several_same S T (range_features r) h) in
+    let opens : list_any (λ y. is_several (S y)) (vals r) ≡ list_any (λ y. is_several (T y)) (vals r) = subst (λ l. list_any (λ y. is_several (S y)) l ≡ list_any (λ y. is_several (T y)) l) (sym (vals_of_features r)) (several_same S T (range_features r) h) in
     ap (λ (test : ℕ → Bool). filter test (universe M)) (fun_ext (λ n. (let inner = same_range M S T r n h in ap3 nones opens inner)))
   where
     ap3 : {a a' b b' c c' : Bool} → a ≡ a' → b ≡ b' → c ≡ c' → (cond a false (cond b true c)) ≡ (cond a' false (cond b' true c'))
@@ -218,7 +169,7 @@ unread M S T r x others e f l inside h =
     elim (cases_Bool (has (vals_of (range_features r)) x)) [
       | inl v ↦ let fixed = val_sleeps (S x) (T x) x (range_features r) v h in
           elim (cases_Bool (is_several (T x))) [
-            | inl s ↦ open_set M S T r x empty (subst (λ l. has l x ≡ true) (sym (vals_is r)) v) (more (S x) (T x) l s) s
+            | inl s ↦ open_set M S T r x empty (subst (λ l. has l x ≡ true) (sym (vals_of_features r)) v) (more (S x) (T x) l s) s
             | inr s ↦ elim (cases_Bool (is_several (S x))) [
               | inl t ↦ absurd (impossible (is_several (S x)) (is_several (T x)) fixed t s)
               | inr t ↦

@@ -6,7 +6,7 @@ use Rattle.fd_language.specs.Family.{has}
 use Rattle.term_pool.specs.Contents.{Contents}
 use Rattle.wam_code.specs.declared.instruction.Code.TheVariants.{PutInteger, Allocate, Execute, Proceed, AnswerNow, TryMeElse, RetryMeElse, SwitchOnTerm}
 use Rattle.wam_code.specs.Area.{Slot, State, Span, Area, Holds, HasState, HasQuery}
-use Rattle.wam_code.specs.Verified.{named, goes_on, Names, Falls, Covers, Leads, BeginsWith, IsQuery, is_other, is_before, is_behind, NamesOther, HoldsOne, AreChoices, IsAtom, IsThere, IsVerifiedBy, IsVerified}
+use Rattle.wam_code.specs.VerifiedCode.{named, goes_on, Names, Falls, Covers, Leads, BeginsWith, IsQuery, is_other, is_before, is_behind, NamesOther, HoldsOne, AreChoices, IsAtom, IsThere, IsVerifiedBy, IsVerified}
 use Rattle.wam_code.proofs.Lemmas.{covers_self}
 
 abbrev at_state : List ℕ → Option (List Slot) → State

@@ -9,8 +9,8 @@ use Rattle.machine_events.specs.declared.Shown.{Shown}
 use Rattle.machine_events.specs.Events.{written_term, ShowsTerms}
 use Rattle.machine_frames.specs.Frames.{frame_of}
 use Rattle.machine_frames.specs.SeenHeap.{read_term}
-use Rattle.machine_relation.specs.Held.{Frame, fixed_frame}
-use Rattle.machine_relation.specs.Shown.{cell_text}
+use Rattle.machine_relation.specs.HeldBranches.{Frame, fixed_frame}
+use Rattle.machine_relation.specs.AnswerTexts.{cell_text}
 use Rattle.range_code.specs.Frames.{family_of}
 use Rattle.branch_state.specs.States as branch
 use Rattle.wam_code.specs.Area.{Area}

@@ -20,8 +20,8 @@ use Rattle.wam_code.specs.declared.instruction.Key.{Key}
 use Rattle.wam_code.specs.declared.instruction.Key.TheVariants as key
 use Rattle.clause_compiler.specs.declared.tables.Label.{Label}
 use Rattle.clause_compiler.specs.Keys.{have_keys, key_of, shape_key, some_key, argument_key, is_switched}
-use Rattle.clause_compiler.specs.Keyed.{AreKeyedBy}
-use Rattle.clause_compiler.specs.Switched.{ShowsKind}
+use Rattle.clause_compiler.specs.ClauseKeys.{AreKeyedBy}
+use Rattle.clause_compiler.specs.PredicateSwitches.{ShowsKind}
 use Rattle.clause_compiler.proofs.Lists.{get_there}
 
 -- ---- by how many there are

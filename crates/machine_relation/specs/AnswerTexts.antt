@@ -4,7 +4,7 @@ use Rattle.fd_language.specs.Term.{Terms}
 use Rattle.fd_language.specs.Family.{Family}
 use Rattle.fd_language.specs.Variables.{variables_of_all, distinct}
 use Rattle.fd_model.specs.Lines.{place_in, open_part}
-use Rattle.machine_relation.specs.Held.{Frame}
+use Rattle.machine_relation.specs.HeldBranches.{Frame}
 
 -- the set of an open cell, where it is linked
 abbrev pub cell_set : Family → Option ℕ → Option (List ℕ)

@@ -7,7 +7,7 @@ use Rattle.fd_language.specs.declared.TheConstants.{INFINITY}
 use Rattle.fd_language.specs.declared.NoMemory.{NoMemory}
 use Rattle.fd_language.specs.declared.range_node.Need.{Need}
 use Rattle.fd_language.specs.Family.{has}
-use Rattle.fd_language.specs.Places.{range_places}
+use Rattle.fd_language.specs.Occurrences.{range_occurrences}
 use Rattle.fd_language.specs.Range.{Range, Indexical, reads}
 use Rattle.fd_language.specs.RangeVerdict.{is_accepted, has_one_use}
 use Rattle.fd_language.specs.Term.{Term, Var, Int, Atom, Comp, Substitution}
@@ -35,15 +35,14 @@ use Rattle.machine_frames.specs.Frames.{link_in, store_touches}
 use Rattle.branch_state.specs.declared.look.Look.{Look}
 use Rattle.branch_state.specs.CellNaming.{shown_slots, slots_offence, IsFineGoal, slots_open, NamedBy, slot_in, AreTold, IsTold, IsTermNaming, AreCellsReady, IsPrepared}
 use Rattle.branch_state.specs.CellPosts.{term_in, slots_in, IsCellsPosted, PostsNamed}
-use Rattle.branch_state.specs.Naming.{LooksAs, IsKind, offence, first_in, goal_ranges, or_zero, with_sets}
+use Rattle.branch_state.specs.Naming.{LooksAs, IsKind, offence, first_in, goal_ranges, or_zero, with_level_sets}
 use Rattle.branch_state.specs.Ranges.{kept_step}
 use Rattle.branch_state.specs.States.{State, IsPair, ArePairs, IsSound, IsSettled, HasNoModel, IsCell}
 use Rattle.branch_state.specs.Steps.{IsTouchBelow, AreTouchesBelow}
 use Rattle.branch_state.proofs.Arguments.{posted_is, are_args, none_both}
 use Rattle.branch_state.proofs.Gathering.{is_open, plain_slots, offence_of_range}
 use Rattle.branch_state.proofs.Looking.{look_kind}
-use Rattle.branch_state.proofs.Places.{settled}
-use Rattle.branch_state.proofs.Ranged.{is_none}
+use Rattle.branch_state.proofs.Occurrences.{settled}
 use Rattle.branch_state.proofs.Touches.{goal_low}
 
 -- ---- offences
@@ -70,7 +69,7 @@ open_slots need (y ∷ ys) = by_need (need y) (open_slots need ys) where
 -- the slots that are no parameters are what the filled range reads
 reads_open : (see : Substitution) (r : Range) → has_one_use r ≡ true → (y : ℕ) → has (reads (filled see r)) y ≡ has (slots_open (slots_of r) (slot_needs r)) y
 reads_open see r one y =
-    ap (λ l. has l y) (range_plain (λ z. integer_of (see z)) r) ∙ sym (has_once (plain (range_places r)) y)
+    ap (λ l. has l y) (range_plain (λ z. integer_of (see z)) r) ∙ sym (has_once (plain (range_occurrences r)) y)
     ∙ ap (λ l. has l y) (plain_slots r one ∙ sym (open_slots (need_at r) (slots_of r)))
 
 -- ---- touches
@@ -217,7 +216,7 @@ module _ (name : Naming) (old : State) (pair : IsPair old.atoms old.heaps.now ol
     }
 
     -- whether all has a model then
-    pub cells_step : IsSound old → (hs : Heaps) → hs.now ≡ now → hs.below ≡ old.heaps.below → (st ls : Levels) → st ≡ with_sets old.levels S → ls.below ≡ st.below → ls.spent ≡ false → length ls.current.sets ≡ length S → (kept : Bool)
+    pub cells_step : IsSound old → (hs : Heaps) → hs.now ≡ now → hs.below ≡ old.heaps.below → (st ls : Levels) → st ≡ with_level_sets old.levels S → ls.below ≡ st.below → ls.spent ≡ false → length ls.current.sets ≡ length S → (kept : Bool)
         → IfTrue {E = NoMemory} (Ok kept) (ls.current.posted ≡ st.current.posted ++ goal_ranges r k as' fs) → IfTrue {E = NoMemory} (Ok kept) ((ls.current.failed ≡ false) × IsSettled ls.current) → IfFalse {E = NoMemory} (Ok kept) (HasNoModel (st.current.posted ++ goal_ranges r k as' fs))
         → PostsNamed name old target cells r (record { atoms = old.atoms; heaps = hs; levels = ls }) (kept_step kept)
     cells_step o hs e f st ls g b u len true p v none =
@@ -254,6 +253,10 @@ own_cells s cells a i d l = (a i d l).0
 -- what the search for an offence gave: o, for the range by the name q
 abbrev pub IsFound : Cells → List (List ℕ) → Range → Look → List Cell → Option QueryFault → Type 0
 IsFound h sets q l cells o = (name : Naming) (t : Term) → IsKind t l → o ≡ slots_offence t (shown_slots name h sets q cells) q
+
+is_none : (o : Option QueryFault) → ((f : QueryFault) → o ≡ Some f → ⊥) → o ≡ None
+is_none None h = refl
+is_none (Some f) h = absurd (h f refl)
 
 -- there is none
 pub goal_fine : (h : Cells) (sets : List (List ℕ)) (q r : Range) (l : Look) (cells : List Cell) (o : Option QueryFault) → q ≡ r → IsFound h sets q l cells o → ((f : QueryFault) → o ≡ Some f → ⊥) → IsFineGoal h sets r l cells

@@ -23,7 +23,7 @@ use Rattle.code_steps.specs.Standing.{Made, IsOld, IsMade, Stands}
 use Rattle.code_steps.specs.Steps.{GoesOnEqual}
 use Rattle.code_steps.specs.ReadMode.{AreCells}
 use Rattle.code_steps.specs.WriteMode.{joined, End, GetEnd, PutEnd, Builds}
-use Rattle.code_steps.proofs.Shown.{one_moved, shown_moved, all_moved, shown_same}
+use Rattle.code_steps.proofs.RegisterTerms.{one_moved, shown_moved, all_moved, shown_same}
 use Rattle.code_steps.proofs.Making.{made_write, made_unified, made_refuted}
 use Rattle.code_steps.proofs.ReadMode.{cells_keep}
 use Rattle.code_steps.proofs.Stepping.{here}

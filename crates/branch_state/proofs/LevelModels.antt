@@ -14,7 +14,7 @@ use Rattle.machine_relation.proofs.Lemmas.{holds_agree}
 use Rattle.range_code.specs.Frames.{family_of}
 use Rattle.fd_model.specs.Levels.{Level}
 use Rattle.propagate_queue.specs.Running.{AreDomains, HasNone}
-use Rattle.propagate_queue.specs.Stored.{IsPosted}
+use Rattle.propagate_queue.specs.StoreFields.{IsPosted}
 use Rattle.propagate_queue.specs.declared.store.Posted.TheVariants.{Kept, Failed}
 use Rattle.branch_state.specs.States.{IsSettled, HasNoModel}
 

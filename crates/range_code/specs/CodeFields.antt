@@ -14,7 +14,7 @@ use Rattle.range_code.specs.Forms.{IsForm, IsShifted}
 use Rattle.range_code.specs.Slots.{slots_of, slot_needs, slot_features, in_slots}
 use Rattle.range_code.specs.Kinds.{slot_kinds, val_slots}
 use Rattle.range_code.specs.Heights.{height}
-use Rattle.range_code.specs.Folded.{folded_nodes}
+use Rattle.range_code.specs.FoldedRanges.{folded_nodes}
 use Rattle.range_code.specs.Instructions.{tests_for, integers, once_each, instr_of}
 
 -- what is evaluated of nodes with so many constants, where slots have needs and the values of some are read by val
