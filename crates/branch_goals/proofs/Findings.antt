@@ -29,7 +29,8 @@ use Rattle.builtin_calls.specs.declared.evaluation.EvalFault.{EvalFault}
 use Rattle.builtin_calls.specs.declared.evaluation.EvalFault.TheVariants as eval
 use Rattle.builtin_calls.specs.Identical.{TellsIdentical}
 use Rattle.builtin_calls.specs.SeenTerms as calls
-use Rattle.machine_relation.specs.HeldBranches.{value_in, value_at, link_at}
+use Rattle.fd_language.specs.SingleValues.{value_in, value_at}
+use Rattle.machine_relation.specs.HeldBranches.{link_at}
 use Rattle.machine_relation.specs.HeldBranches as held
 use Rattle.machine_relation.specs.AnswerTexts.{cell_set}
 use Rattle.machine_frames.specs.Frames.{link_of, link_in}

@@ -27,7 +27,7 @@ use Rattle.heap_cells.specs.Valid.{IsHeap}
 use Rattle.heap_cells.proofs.Lemmas.{unbound_term, term-Int, term-Atom, term-Struct, none_at_all, both_of}
 use Rattle.heap_terms.specs.Values.{only}
 use Rattle.range_code.specs.Frames.{family_of}
-use Rattle.machine_relation.specs.HeldBranches.{value_in, value_at}
+use Rattle.fd_language.specs.SingleValues.{value_in, value_at}
 use Rattle.machine_frames.specs.Frames.{link_of, link_in}
 use Rattle.machine_frames.specs.Naming.{full}
 use Rattle.machine_frames.proofs.Lemmas.{full_one}

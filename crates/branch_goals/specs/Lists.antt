@@ -13,7 +13,7 @@ use Rattle.heap_cells.specs.declared.Cell.{Cell}
 use Rattle.heap_cells.specs.Cells.{Cells, IsOf}
 use Rattle.heap_cells.specs.Terms.{Naming, IsOneToOne, term_of, terms_by}
 use Rattle.range_code.specs.Frames.{family_of}
-use Rattle.machine_relation.specs.HeldBranches.{value_in}
+use Rattle.fd_language.specs.SingleValues.{value_in}
 use Rattle.machine_frames.specs.Frames.{link_in}
 use Rattle.machine_frames.specs.SeenHeap.{read_term}
 use Rattle.label_search.specs.declared.Member.{Member}

@@ -14,7 +14,7 @@ use Rattle.heap_cells.specs.Cells.{Cells, Slot, free, linked, bound, is_bound, I
 use Rattle.heap_cells.specs.Terms.{Naming, term_of, within, slot_term, terms_by, IsAbsent, occurs, one}
 use Rattle.heap_cells.specs.Valid.{IsHeap}
 use Rattle.heap_cells.proofs.Lemmas.{new_below, bound_below, slot_there, slot_elsewhere, bind_valid, bind_terms, head_of, tail_of, var_valid, term-Int, unbound_term}
-use Rattle.machine_relation.specs.HeldBranches.{value_in, value_at}
+use Rattle.fd_language.specs.SingleValues.{value_in, value_at}
 use Rattle.machine_relation.proofs.Lemmas.{after_is, bindings, without, functions}
 use Rattle.machine_frames.specs.Frames.{link_of, link_in, IsGrown}
 use Rattle.machine_frames.specs.SeenHeap.{read_term}

@@ -17,7 +17,7 @@ use Rattle.heap_cells.specs.Valid.{IsHeap}
 use Rattle.heap_cells.proofs.Lemmas.{unbound_term, term-Int, term-Atom, term-Struct}
 use Rattle.term_pool.specs.declared.AtomId.{AtomId}
 use Rattle.unify_core.specs.Touches.{IsSymbolic}
-use Rattle.machine_relation.specs.HeldBranches.{value_in, value_at}
+use Rattle.fd_language.specs.SingleValues.{value_in, value_at}
 use Rattle.machine_frames.specs.Environments.{cell_at, cell_look}
 use Rattle.machine_frames.specs.Frames.{link_of, link_in}
 use Rattle.machine_frames.specs.SeenHeap.{seen_env}

@@ -28,7 +28,7 @@ use Rattle.term_pool.specs.Terms as pool
 use Rattle.term_pool.specs.Terms.{KeepsTerms, Extends, total_size}
 use Rattle.term_pool.specs.Valid.{shape_of}
 use Rattle.term_pool.proofs.Lemmas.{rest_is_smaller, parts_are_smaller, total_size-append, total_size-cons, total_size-nil}
-use Rattle.machine_relation.specs.HeldBranches.{value_in, value_at}
+use Rattle.fd_language.specs.SingleValues.{value_in, value_at}
 use Rattle.range_code.specs.Frames.{family_of}
 use Rattle.range_code.proofs.Lemmas.{once_more, keys_more, has_once, any_has}
 use Rattle.machine_frames.specs.Frames.{link_of, link_in}

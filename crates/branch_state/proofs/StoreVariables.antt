@@ -16,7 +16,7 @@ use Rattle.range_code.specs.Frames.{family_of}
 use Rattle.range_code.proofs.Lemmas.{has_kept}
 use Rattle.unify_core.specs.declared.Touch.{Touch}
 use Rattle.unify_core.specs.declared.Touch.TheVariants.{Value}
-use Rattle.machine_relation.specs.HeldBranches.{value_in, value_at}
+use Rattle.fd_language.specs.SingleValues.{value_in, value_at}
 use Rattle.machine_frames.specs.Frames.{link_of, link_in}
 use Rattle.machine_frames.specs.Posting.{Listed, IsLinkedMore}
 use Rattle.machine_frames.proofs.Lemmas.{linked_none, linked_next}

@@ -17,7 +17,7 @@ use Rattle.heap_cells.proofs.Lemmas.{linked_below, of_same, slot_there, slot_els
 use Rattle.range_code.specs.Frames.{family_of}
 use Rattle.unify_core.specs.declared.Touch.{Touch}
 use Rattle.unify_core.specs.declared.Touch.TheVariants.{Value, Same}
-use Rattle.machine_relation.specs.HeldBranches.{value_at}
+use Rattle.fd_language.specs.SingleValues.{value_at}
 use Rattle.machine_frames.specs.Frames.{link_of, link_in}
 use Rattle.machine_frames.proofs.Lemmas.{linked_none, linked_next}
 use Rattle.branch_state.specs.declared.look.Look.{Look}

@@ -14,7 +14,7 @@ use Rattle.heap_cells.specs.Atoms.{IsAtomBelow}
 use Rattle.heap_cells.specs.Cells.{Cells, IsOf}
 use Rattle.heap_cells.specs.Terms.{term_of, terms_by}
 use Rattle.machine_relation.specs.Ahead.{Spends}
-use Rattle.machine_relation.specs.HeldBranches.{value_at}
+use Rattle.fd_language.specs.SingleValues.{value_at}
 use Rattle.range_code.specs.Frames.{family_of}
 use Rattle.term_pool.specs.declared.AtomId.{AtomId}
 use Rattle.machine_frames.specs.Frames.{link_in, IsGrown}

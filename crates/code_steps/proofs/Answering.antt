@@ -14,7 +14,8 @@ use Rattle.heap_cells.specs.Cells.{Cells}
 use Rattle.heap_cells.specs.Terms.{Naming, term_of}
 use Rattle.heap_cells.specs.Valid.{IsHeap}
 use Rattle.machine_relation.specs.Ahead.{Ahead}
-use Rattle.machine_relation.specs.HeldBranches.{value_at, fixed_frame}
+use Rattle.fd_language.specs.SingleValues.{value_at}
+use Rattle.machine_relation.specs.HeldBranches.{fixed_frame}
 use Rattle.machine_relation.specs.AnswerTexts.{cell_text}
 use Rattle.machine_relation.proofs.Lemmas.{ahead_last, ahead_fewer, ahead_any, line_same, Known}
 use Rattle.machine_frames.specs.Frames.{link_in, frame_of}

@@ -23,7 +23,8 @@ use Rattle.heap_cells.specs.Terms.{Naming, terms_by, term_of}
 use Rattle.heap_cells.specs.Valid.{IsHeap}
 use Rattle.machine_relation.specs.Ahead.{offered, IsFit, AreFit, Spends}
 use Rattle.machine_relation.specs.Heap.{after, Of}
-use Rattle.machine_relation.specs.HeldBranches.{Frame, value_at, fixed_frame}
+use Rattle.fd_language.specs.SingleValues.{value_at}
+use Rattle.machine_relation.specs.HeldBranches.{Frame, fixed_frame}
 use Rattle.machine_relation.specs.Rows.{rename_expansion, rename_row}
 use Rattle.machine_relation.specs.Store.{Touch, posts}
 use Rattle.machine_relation.proofs.Lemmas.{place_from, cell as cell_number, cell_from, row_same, row_cell, after_is, after_are, agree, of_below, seen_of, variables_on, seen_by_variable, GivesAll, was_row}

@@ -28,7 +28,8 @@ use Rattle.unify_core.specs.Unifications as core
 use Rattle.unify_core.specs.Unifications.{cells_equal}
 use Rattle.machine_relation.specs.Ahead.{offered, IsFit, AreFit, Spends}
 use Rattle.machine_relation.specs.Heap.{Of}
-use Rattle.machine_relation.specs.HeldBranches.{Frame, value_at, fixed_frame}
+use Rattle.fd_language.specs.SingleValues.{value_at}
+use Rattle.machine_relation.specs.HeldBranches.{Frame, fixed_frame}
 use Rattle.machine_relation.specs.AnswerTexts.{cell_set}
 use Rattle.machine_relation.specs.Store.{posts}
 use Rattle.machine_relation.proofs.Lemmas.{found_same, after_is, of_below, seen_by_variable, GivesAll}

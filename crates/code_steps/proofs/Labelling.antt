@@ -25,7 +25,8 @@ use Rattle.unify_core.specs.Reduces.{IsSameSize}
 use Rattle.unify_core.specs.Unifications as core
 use Rattle.machine_relation.specs.Ahead.{offered, IsFit, AreFit, Ahead, Spends}
 use Rattle.machine_relation.specs.Heap.{Of, Below}
-use Rattle.machine_relation.specs.HeldBranches.{Frame, value_at, fixed_frame}
+use Rattle.fd_language.specs.SingleValues.{value_at}
+use Rattle.machine_relation.specs.HeldBranches.{Frame, fixed_frame}
 use Rattle.machine_relation.specs.Labelling.{Labelled, faults, done, labels, labelled, by_labelled}
 use Rattle.machine_relation.specs.AnswerTexts.{cell_set}
 use Rattle.machine_relation.specs.Store.{posts}

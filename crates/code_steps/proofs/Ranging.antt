@@ -29,7 +29,8 @@ use Rattle.heap_cells.specs.Cells.{Cells}
 use Rattle.heap_cells.specs.Terms.{Naming, term_of}
 use Rattle.heap_cells.specs.Valid.{IsHeap}
 use Rattle.machine_relation.specs.Ahead.{offered, Spends}
-use Rattle.machine_relation.specs.HeldBranches.{value_at, fixed_frame}
+use Rattle.fd_language.specs.SingleValues.{value_at}
+use Rattle.machine_relation.specs.HeldBranches.{fixed_frame}
 use Rattle.machine_relation.specs.Rows.{slot_numbers, unless_fault, post_row}
 use Rattle.machine_relation.specs.Store.{Touch, Value, Same, posts, names, IsStored}
 use Rattle.machine_relation.proofs.Lemmas.{after_is, agree, AreConsecutive, post_same, range_filled, range_plain, only_integers, post_as_row, IsRangeRow, range_row, range_twice, view_kind, with_one}

@@ -22,7 +22,8 @@ use Rattle.heap_cells.specs.Terms.{Naming, term_of}
 use Rattle.heap_cells.specs.Valid.{IsHeap}
 use Rattle.machine_relation.specs.Ahead.{Spends}
 use Rattle.machine_relation.specs.Heap.{Of}
-use Rattle.machine_relation.specs.HeldBranches.{Frame, value_at, fixed_frame}
+use Rattle.fd_language.specs.SingleValues.{value_at}
+use Rattle.machine_relation.specs.HeldBranches.{Frame, fixed_frame}
 use Rattle.machine_relation.specs.Models.{HasModel}
 use Rattle.machine_relation.specs.AnswerTexts.{cell_text}
 use Rattle.machine_relation.proofs.Lemmas.{written_same, after_is, of_below}

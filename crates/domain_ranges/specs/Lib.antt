@@ -2,3 +2,4 @@ pub mod Spans
 pub mod Sets
 pub mod Narrowing
 pub mod StackedSets
+pub mod Views

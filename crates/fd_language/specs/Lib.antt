@@ -7,6 +7,7 @@ pub mod GrammarFaults
 pub mod GrammarLaws
 pub mod Unifier
 pub mod Family
+pub mod SingleValues
 pub mod Range
 pub mod Needs
 pub mod Writing

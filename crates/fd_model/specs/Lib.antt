@@ -49,6 +49,7 @@ pub use Rattle.fd_language.specs.GrammarFaults
 pub use Rattle.fd_language.specs.GrammarLaws
 pub use Rattle.fd_language.specs.Unifier
 pub use Rattle.fd_language.specs.Family
+pub use Rattle.fd_language.specs.SingleValues
 pub use Rattle.fd_language.specs.Range
 pub use Rattle.fd_language.specs.Needs
 pub use Rattle.fd_language.specs.Writing

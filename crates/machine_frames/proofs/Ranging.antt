@@ -3,7 +3,7 @@ use Rattle.std.proofs.Common.{◌≡◌, ℕ, List, [], ◌∷◌, Option, Some,
 use Rattle.fd_language.specs.Term.{Term, Var, Int, Atom, Comp, apply}
 use Rattle.fd_language.specs.Family.{Family}
 use Rattle.heap_cells.specs.Cells.{Cells}
-use Rattle.machine_relation.specs.HeldBranches.{value_in, value_at}
+use Rattle.fd_language.specs.SingleValues.{value_in, value_at}
 use Rattle.machine_frames.specs.Frames.{link_in}
 
 -- a variable that is read as open is open

@@ -15,7 +15,8 @@ use Rattle.heap_cells.specs.Cells.{Cells}
 use Rattle.heap_cells.specs.Terms.{Naming}
 use Rattle.heap_cells.specs.Valid.{IsHeap}
 use Rattle.machine_relation.specs.Heap.{after, Below}
-use Rattle.machine_relation.specs.HeldBranches.{Frame, IsHeld, IsAtRest, value_in, value_at, open_link, link_at, fixed_frame}
+use Rattle.fd_language.specs.SingleValues.{value_in, value_at}
+use Rattle.machine_relation.specs.HeldBranches.{Frame, IsHeld, IsAtRest, open_link, link_at, fixed_frame}
 use Rattle.machine_relation.proofs.Lemmas.{held_fix, functions, fixed_rest, sole_value, without_cell}
 use Rattle.machine_frames.specs.Frames.{frame_of, IsKept}
 use Rattle.machine_frames.proofs.Linking.{unused_cell}

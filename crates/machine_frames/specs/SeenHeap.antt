@@ -14,7 +14,8 @@ use Rattle.fd_model.specs.LinearRows.{Expansion}
 use Rattle.heap_cells.specs.declared.Cell.{Cell}
 use Rattle.heap_cells.specs.Cells.{Cells}
 use Rattle.heap_cells.specs.Terms.{Naming}
-use Rattle.machine_relation.specs.HeldBranches.{value_at, fixed_frame}
+use Rattle.fd_language.specs.SingleValues.{value_at}
+use Rattle.machine_relation.specs.HeldBranches.{fixed_frame}
 use Rattle.machine_relation.specs.Labelling.{Labelled, labelled}
 use Rattle.machine_relation.specs.AnswerTexts.{cell_set}
 use Rattle.machine_frames.specs.Environments.{env_look}

@@ -1,6 +1,7 @@
 -- What a machine's heap and store stand for together, whatever holds the goals.
 use Rattle.std.specs.Prelude.{◌≡◌, ℕ, ◌≤◌, pos, List, [], ◌∷◌, ◌++◌, Option, Some, None}
-use Rattle.fd_language.specs.Term.{Term, Var, Int, Substitution}
+use Rattle.fd_language.specs.SingleValues.{value_at}
+use Rattle.fd_language.specs.Term.{Var, Substitution}
 use Rattle.fd_language.specs.Unifier.{Equation}
 use Rattle.fd_language.specs.Family.{Family, IsInside}
 use Rattle.fd_language.specs.Range.{Indexical}
@@ -27,15 +28,6 @@ pub record IsHeld (M : ℕ) (f : Frame) (es : List Equation) (ps : List Indexica
 -- the frame after a unification, with its touches posted
 abbrev pub unified_frame : Frame → Substitution → (ℕ → Option ℕ) → List Touch → Frame
 unified_frame f new link ts = record { heap = after new f.heap; cells = f.cells; link = link; store = f.store ++ posts ts }
-
--- the integer of a cell whose set has one value, and the cell itself otherwise
-abbrev pub value_in : List ℕ → ℕ → Term
-value_in (w ∷ []) c = Int (pos w)
-value_in _ c = Var c
-
-abbrev pub value_at : Option ℕ → Family → ℕ → Term
-value_at None G c = Var c
-value_at (Some k) G c = value_in (G k) c
 
 -- the variable of the store, unless its set has one value
 abbrev pub open_link : List ℕ → ℕ → Option ℕ

@@ -1,12 +1,12 @@
 -- The arguments of a range, one for each slot, and the range that they make of it.
 use Rattle.std.specs.Prelude.{ℕ, ◌<◌, IsTrue, ℤ, pos, List, [], ◌∷◌, slice_index_or, Option, Some, None}
 use Rattle.fd_language.specs.declared.range_node.Need.{Need}
-use Rattle.fd_language.specs.declared.TheConstants.{INFINITY}
-use Rattle.fd_language.specs.Family.{Family, universe}
+use Rattle.fd_language.specs.Family.{Family}
 use Rattle.fd_language.specs.Range.{Range}
 use Rattle.fd_language.specs.Needs.{meets}
 use Rattle.fd_language.specs.Check.{fill_range}
 use Rattle.fd_language.specs.RangeRenaming.{rename_range}
+pub use Rattle.domain_ranges.specs.Views.{family_of}
 use Rattle.range_code.specs.declared.frame.Arg.{Arg}
 use Rattle.range_code.specs.declared.frame.Arg.TheVariants.{Var, Int}
 use Rattle.range_code.specs.Slots.{slot_of, slot_needs}
@@ -43,10 +43,6 @@ slot_variable args slot = variable_of (arg_at args slot)
 
 abbrev pub slot_integer : List Arg → ℕ → ℤ
 slot_integer args slot = arg_integer (arg_at args slot)
-
--- the sets of variables as a family
-abbrev pub family_of : List (List ℕ) → Family
-family_of sets k = slice_index_or sets k (universe INFINITY)
 
 abbrev pub slot_set : List (List ℕ) → List Arg → Family
 slot_set sets args slot = family_of sets (slot_variable args slot)
