@@ -18,13 +18,12 @@ use Rattle.fd_language.specs.Needs.{need_of}
 use Rattle.fd_language.specs.Occurrences.{Occurrence, range_occurrences}
 use Rattle.fd_language.specs.Flat.{nodes_of}
 use Rattle.fd_language.specs.RangeRenaming.{rename_range}
-use Rattle.fd_language.proofs.Lemmas.{in_left, in_right, in_flat, range_leaves, variables_collected, all_nodes}
+use Rattle.fd_language.proofs.Lemmas.{has_once, in_left, in_right, in_flat, range_leaves, variables_collected, all_nodes}
 use Rattle.range_code.specs.declared.frame.Arg.{Arg}
 use Rattle.range_code.specs.declared.frame.Arg.TheVariants.{Var, Int}
 use Rattle.range_code.specs.Slots.{slots_of, slot_of, need_at, in_slots}
 use Rattle.range_code.specs.Frames.{IsArg, AreArgs, IsFrame, variable_of, arg_at}
 use Rattle.range_code.specs.Nodes.{IsSeen, IsReadable, rename_node}
-use Rattle.range_code.proofs.Once.{has_once}
 use Rattle.range_code.proofs.Variables.{names_of}
 
 abbrev pub of_occurrences : List Occurrence → List ℕ

@@ -1,34 +1,33 @@
 -- What is told of slots, one more pair or slot at a time.
 use Rattle.std.proofs.Common.{◌≡◌, ℕ, zero, suc, ◌+◌, ◌<◌, ◌≤◌, Bool, true, false, cond, List, [], ◌∷◌, ◌++◌, length, filter, take, drop, get_or, max, Option, Some, None, refl, sym, ◌∙◌, ap, arith, zero-add, add-zero, map, subst}
-use Rattle.std.proofs.lemmas.List.{take_more, at_drop_more, get_or-map, append-nil, length-map}
+use Rattle.std.proofs.lemmas.List.{take_more, at_drop_more, get_or-map, append-nil, append_assoc, length-map}
 use Rattle.std.proofs.lemmas.List.Elements.{filter-append}
 use Rattle.fd_language.specs.declared.range_node.Feature.{Feature}
 use Rattle.fd_language.specs.declared.range_node.RangeNode.{RangeNode}
 use Rattle.fd_language.specs.declared.range_node.RangeNode.TheVariants as node
 use Rattle.fd_language.specs.Family.{count_up}
 use Rattle.range_code.specs.declared.compile.ReadKind.{ReadKind}
-use Rattle.range_code.specs.Nodes.{listed}
 use Rattle.range_code.specs.Kinds.{told_as, all_told}
 use Rattle.range_code.specs.declared.fold.Piece.{Piece}
 use Rattle.range_code.specs.Pieces.{piece_node}
 use Rattle.range_code.specs.Heights.{values_after, sets_after, peak}
-use Rattle.range_code.proofs.Variables.{regroup}
+use Rattle.std.specs.Option.{option_to_list}
 
 module _ (min most : ℕ → Bool) where
   told_append : (ds es : List (ℕ × Feature)) → all_told min most (ds ++ es) ≡ all_told min most ds ++ all_told min most es
   told_append [] es = refl
-  told_append (d ∷ ds) es = ap (λ l. listed (told_as min most d) ++ l) (told_append ds es) ∙ regroup (listed (told_as min most d)) (all_told min most ds) (all_told min most es)
+  told_append (d ∷ ds) es = ap (λ l. option_to_list (told_as min most d) ++ l) (told_append ds es) ∙ sym (append_assoc (option_to_list (told_as min most d)) (all_told min most ds) (all_told min most es))
 
   -- one more pair
-  pub told_more : (ds : List (ℕ × Feature)) (i : ℕ) (d : ℕ × Feature) (old new : List (ℕ × ReadKind)) → i < length ds → old ≡ all_told min most (take i ds) → new ≡ old ++ listed (told_as min most (get_or ds i d)) → new ≡ all_told min most (take (i + 1) ds)
+  pub told_more : (ds : List (ℕ × Feature)) (i : ℕ) (d : ℕ × Feature) (old new : List (ℕ × ReadKind)) → i < length ds → old ≡ all_told min most (take i ds) → new ≡ old ++ option_to_list (told_as min most (get_or ds i d)) → new ≡ all_told min most (take (i + 1) ds)
   told_more ds i d old new l e f =
-      f ∙ (ap (λ k. k ++ listed (told_as min most (get_or ds i d))) e ∙ sym (ap (all_told min most) (take_more ds i d l) ∙ (told_append (take i ds) (get_or ds i d ∷ []) ∙ ap (λ k. all_told min most (take i ds) ++ k) (append-nil (listed (told_as min most (get_or ds i d)))))))
+      f ∙ (ap (λ k. k ++ option_to_list (told_as min most (get_or ds i d))) e ∙ sym (ap (all_told min most) (take_more ds i d l) ∙ (told_append (take i ds) (get_or ds i d ∷ []) ∙ ap (λ k. all_told min most (take i ds) ++ k) (append-nil (option_to_list (told_as min most (get_or ds i d)))))))
 
 pub told_put : (min most : ℕ → Bool) (ds : List (ℕ × Feature)) (i : ℕ) (d : ℕ × Feature) (old new : List (ℕ × ReadKind)) (o : Option (ℕ × ReadKind)) (k : ℕ × ReadKind) → i < length ds → old ≡ all_told min most (take i ds) → o ≡ told_as min most (get_or ds i d) → o ≡ Some k → new ≡ old ++ k ∷ [] → new ≡ all_told min most (take (i + 1) ds)
-told_put min most ds i d old new o k l e t s f = told_more min most ds i d old new l e (f ∙ ap (λ q. old ++ listed q) (sym s ∙ t))
+told_put min most ds i d old new o k l e t s f = told_more min most ds i d old new l e (f ∙ ap (λ q. old ++ option_to_list q) (sym s ∙ t))
 
 pub told_left : (min most : ℕ → Bool) (ds : List (ℕ × Feature)) (i : ℕ) (d : ℕ × Feature) (old : List (ℕ × ReadKind)) (o : Option (ℕ × ReadKind)) → i < length ds → old ≡ all_told min most (take i ds) → o ≡ told_as min most (get_or ds i d) → o ≡ None → old ≡ all_told min most (take (i + 1) ds)
-told_left min most ds i d old o l e t s = told_more min most ds i d old old l e (sym (append-nil old) ∙ ap (λ q. old ++ listed q) (sym s ∙ t))
+told_left min most ds i d old o l e t s = told_more min most ds i d old old l e (sym (append-nil old) ∙ ap (λ q. old ++ option_to_list q) (sym s ∙ t))
 
 up_append : (low n : ℕ) → count_up low (suc n) ≡ count_up low n ++ (low + n) ∷ []
 up_append low zero = ap (λ k. k ∷ []) (sym (add-zero low))
