@@ -5,6 +5,7 @@ use Rattle.std.proofs.lemmas.List.Elements.{filter-append}
 use Rattle.fd_language.specs.declared.range_node.Feature.{Feature}
 use Rattle.fd_language.specs.declared.range_node.RangeNode.{RangeNode}
 use Rattle.fd_language.specs.declared.range_node.RangeNode.TheVariants as node
+use Rattle.fd_language.specs.Counts.{takes}
 use Rattle.fd_language.specs.Family.{count_up}
 use Rattle.range_code.specs.declared.compile.ReadKind.{ReadKind}
 use Rattle.range_code.specs.Kinds.{told_as, all_told}
@@ -58,51 +59,19 @@ pub low_peak : (f : RangeNode → ℕ → ℕ) (ms : List RangeNode) (n : ℕ) �
 low_peak f [] n = omega arith
 low_peak f (m ∷ ms) n = omega arith
 
+none_or_one : (b : Bool) → cond b 0 1 ≤ 1
+none_or_one true = omega arith
+none_or_one false = omega arith
+
+one_or_none : (b : Bool) → cond b 1 0 ≤ 1
+one_or_none true = omega arith
+one_or_none false = omega arith
+
 one_value : (m : RangeNode) (n : ℕ) → values_after m n ≤ suc n
-one_value (node.Int z) n = omega arith
-one_value node.Infinity n = omega arith
-one_value (node.Param x) n = omega arith
-one_value (node.Min y) n = omega arith
-one_value (node.Max y) n = omega arith
-one_value (node.Val y) n = omega arith
-one_value node.Add n = omega arith
-one_value node.Sub n = omega arith
-one_value node.Mul n = omega arith
-one_value node.DivDown n = omega arith
-one_value node.DivUp n = omega arith
-one_value node.Span n = omega arith
-one_value node.One n = omega arith
-one_value (node.Dom y) n = omega arith
-one_value node.Union n = omega arith
-one_value node.Inter n = omega arith
-one_value node.Outside n = omega arith
-one_value node.Plus n = omega arith
-one_value node.Minus n = omega arith
-one_value node.Times n = omega arith
-one_value node.Over n = omega arith
+one_value m n = omega (arith, none_or_one (takes m).gives_range)
 
 one_set : (m : RangeNode) (n : ℕ) → sets_after m n ≤ suc n
-one_set (node.Int z) n = omega arith
-one_set node.Infinity n = omega arith
-one_set (node.Param x) n = omega arith
-one_set (node.Min y) n = omega arith
-one_set (node.Max y) n = omega arith
-one_set (node.Val y) n = omega arith
-one_set node.Add n = omega arith
-one_set node.Sub n = omega arith
-one_set node.Mul n = omega arith
-one_set node.DivDown n = omega arith
-one_set node.DivUp n = omega arith
-one_set node.Span n = omega arith
-one_set node.One n = omega arith
-one_set (node.Dom y) n = omega arith
-one_set node.Union n = omega arith
-one_set node.Inter n = omega arith
-one_set node.Outside n = omega arith
-one_set node.Plus n = omega arith
-one_set node.Minus n = omega arith
-one_set node.Times n = omega arith
-one_set node.Over n = omega arith
+one_set m n = omega (arith, one_or_none (takes m).gives_range)
 
 pub high_more : (ms : List RangeNode) (i v s h w v' s' h' : ℕ) (d : RangeNode) → i < length ms → IsHigh ms i v s h w → v' ≡ values_after (get_or ms i d) v → s' ≡ sets_after (get_or ms i d) s → h' ≡ max (max h v') s' → IsHigh ms (i + 1) v' s' h' w
 high_more ms i v s h w v' s' h' d l k a b e =
