@@ -1,6 +1,6 @@
 -- Each agent that wakes adds to the weights.
-use Rattle.std.proofs.Common.{◌≡◌, ℕ, zero, suc, ◌+◌, ◌-◌, ◌<◌, ◌≤◌, Bool, true, false, cond, ◌||◌, ◌&&◌, not, ◌==◌, List, [], ◌∷◌, ◌++◌, map, filter, length, get_or, refl, ap, sym, ◌∙◌, subst, inl, inr, arith, eqb-true}
-use Rattle.std.proofs.lemmas.Bool.{cases_Bool, true≢false, eqb-false, or_cases, or_left, or_right}
+use Rattle.std.proofs.Common.{◌≡◌, ℕ, zero, suc, ◌+◌, ◌-◌, ◌<◌, ◌≤◌, Bool, true, false, cond, ◌||◌, ◌&&◌, not, ◌==◌, List, [], ◌∷◌, map, length, get_or, refl, ap, sym, ◌∙◌, subst, inl, inr, arith, eqb-true}
+use Rattle.std.proofs.lemmas.Bool.{true≢false, or_cases}
 use Rattle.std.specs.List.{list_any}
 use Rattle.propagate_queue.proofs.Storing.{sum_whole}
 use Rattle.fd_language.specs.declared.range_node.Feature.{Feature}

@@ -1,13 +1,9 @@
 -- The needs of a range's slots.
-use Rattle.std.proofs.Common.{◌≡◌, ℕ, Bool, true, false, cond, ◌||◌, ◌==◌, List, [], ◌∷◌, ◌++◌, map, Option, Some, None, refl, sym, ◌∙◌, ap, eqb-true, inl, inr}
-use Rattle.std.proofs.lemmas.Bool.{cases_Bool, true≢false, and_parts}
-use Rattle.std.proofs.lemmas.List.{map-append, append-nil}
+use Rattle.std.proofs.Common.{◌≡◌, ℕ, Bool, true, false, cond, ◌||◌, ◌==◌, List, [], ◌∷◌, ◌++◌, map, Option, Some, None, refl, ◌∙◌, ap, eqb-true}
 use Rattle.fd_language.specs.declared.range_node.Need.{Need}
-use Rattle.fd_language.specs.declared.range_node.Need.TheVariants.{Divisor}
 use Rattle.fd_language.specs.Family.{has}
-use Rattle.fd_language.specs.Range.{Range, Span, One, Dom, Union, Inter, Outside, Plus, Minus, Times, Over, Expr, Number, Infinity, Param, Min, Max, Val, Add, Sub, Mul, DivDown, DivUp}
-use Rattle.fd_language.specs.Needs.{is_literal, quotient_asks, expr_asks, over_asks, asks, parameters, need_of, needs}
-use Rattle.fd_language.specs.Range.{params, expr_params}
+use Rattle.fd_language.specs.Range.{Range}
+use Rattle.fd_language.specs.Needs.{asks, parameters, need_of, needs}
 use Rattle.fd_language.proofs.Lemmas.{two, has_once, of_asks, range_asked}
 use Rattle.range_code.specs.ParameterNeeds.{unless_found, need_in}
 use Rattle.range_code.specs.Slots.{slots_of, need_at, slot_needs}

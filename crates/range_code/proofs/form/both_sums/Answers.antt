@@ -1,9 +1,8 @@
-use Rattle.std.proofs.Common.{rules, ◌≡◌, ℕ, List, ◌∙◌, ap, sym, subst, pos, SFits, to_z, to_z-of_z}
+use Rattle.std.proofs.Common.{rules, List, sym, subst, pos, SFits, to_z, to_z-of_z}
 use mir.Syntax.{w64}
 use Rattle.fd_language.specs.Family.{Family}
-use Rattle.range_code.specs.Forms.{end_of, total_of, AreOpposite}
+use Rattle.range_code.specs.Forms.{total_of, AreOpposite}
 use Rattle.range_code.specs.Frames.{slot_set}
-use Rattle.range_code.specs.declared.form.End.{End}
 use Rattle.range_code.specs.declared.form.End.TheVariants.{Least}
 use Rattle.range_code.specs.declared.form.Product.{Product}
 use Rattle.range_code.proofs.Forms.{at_end, low_fits, high_fits, summed, low_done, high_done, low_small, high_small, starts_summing}

@@ -1,8 +1,6 @@
-use Rattle.std.proofs.Common.{rules, ◌≡◌, ℕ, List, ◌∙◌, ap, SFits, to_z, to_z-of_z}
+use Rattle.std.proofs.Common.{rules, SFits, to_z, to_z-of_z}
 use mir.Syntax.{w64}
-use Rattle.range_code.specs.Forms.{end_of}
 use Rattle.range_code.specs.Frames.{slot_set}
-use Rattle.range_code.specs.declared.form.End.{End}
 use Rattle.range_code.proofs.Forms.{at_end, sum_more, width_more}
 use Rattle.range_code.proofs.form.sum.Goals as goal
 
