@@ -11,7 +11,7 @@ returns-in-Some-clause-spelled c = refused c.args.pool.now (placed_of c.args.poo
 
 pub unwrap-range-requires : goal.unwrap-range-requires
 unwrap-range-requires c =
-    some_range c.from_nodes.result c.in-Ok.found.nodes.items c.from_nodes.ensures (is_spelled c.args.pool.now (placed_of c.args.pool.now c.args.t) c.in-Ok.found c.in-Ok.ensures (none_of c.in-Ok.found.offender c.in_default.not-Some))
+    some_range c.from_nodes.result c.in-Ok.found.nodes.items c.from_nodes.ensures (is_spelled c.args.pool.now (placed_of c.args.pool.now c.args.t) c.in-Ok.found c.in-Ok.ensures (is_none c.in-Ok.found.offender c.in_default.not-Some))
 
 pub returns-clause-spelled : goal.returns-clause-spelled
 returns-clause-spelled c =
