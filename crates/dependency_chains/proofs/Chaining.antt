@@ -1,29 +1,12 @@
 -- Steps along a chain.
-use Rattle.std.proofs.Common.{◌≡◌, ℕ, zero, suc, ◌<◌, ◌≤◌, ◌-◌, true, false, cond, ◌&&◌, ◌==◌, List, ◌∷◌, length, refl, ap, sym, ◌∙◌, subst, inl, inr, arith, eqb-true, eq-eqb}
-use Rattle.std.proofs.lemmas.Bool.{cases_Bool, true≢false, and_parts, and_from}
+use Rattle.std.proofs.Common.{◌≡◌, ℕ, zero, suc, ◌<◌, ◌≤◌, ◌-◌, true, false, cond, ◌==◌, List, ◌∷◌, length, refl, ap, sym, ◌∙◌, subst, inl, inr, arith, eqb-true, eq-eqb}
+use Rattle.std.proofs.lemmas.Bool.{cases_Bool, and_parts, and_from}
 use Rattle.fd_language.specs.declared.range_node.Feature.{Feature}
 use Rattle.fd_language.specs.declared.range_node.Feature.TheVariants as feature
 use Rattle.fd_language.specs.Features.{is_same_feature}
+use Rattle.fd_language.proofs.Lemmas.{same_feature}
 use Rattle.dependency_chains.specs.declared.Link.{Link}
 use Rattle.dependency_chains.specs.Links.{link_at, is_in, latest, agents_in, agents_from, AreLinked}
-
-pub same_feature : (f g : Feature) → is_same_feature f g ≡ true → f ≡ g
-same_feature feature.Min feature.Min h = refl
-same_feature feature.Min feature.Max h = absurd (true≢false (sym h))
-same_feature feature.Min feature.Val h = absurd (true≢false (sym h))
-same_feature feature.Min feature.Dom h = absurd (true≢false (sym h))
-same_feature feature.Max feature.Min h = absurd (true≢false (sym h))
-same_feature feature.Max feature.Max h = refl
-same_feature feature.Max feature.Val h = absurd (true≢false (sym h))
-same_feature feature.Max feature.Dom h = absurd (true≢false (sym h))
-same_feature feature.Val feature.Min h = absurd (true≢false (sym h))
-same_feature feature.Val feature.Max h = absurd (true≢false (sym h))
-same_feature feature.Val feature.Val h = refl
-same_feature feature.Val feature.Dom h = absurd (true≢false (sym h))
-same_feature feature.Dom feature.Min h = absurd (true≢false (sym h))
-same_feature feature.Dom feature.Max h = absurd (true≢false (sym h))
-same_feature feature.Dom feature.Val h = absurd (true≢false (sym h))
-same_feature feature.Dom feature.Dom h = refl
 
 pub feature_itself : (f : Feature) → is_same_feature f f ≡ true
 feature_itself feature.Min = refl

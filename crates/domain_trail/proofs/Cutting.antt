@@ -7,7 +7,6 @@ use Rattle.fd_language.specs.Family.{has, universe, IsRising}
 use Rattle.fd_language.proofs.Lemmas.{has_high}
 use Rattle.domain_ranges.specs.Spans.{members}
 use Rattle.domain_ranges.specs.Narrowing.{all_but, AreEnds, IsInterval, IsPart, IsMembership}
-use Rattle.domain_ranges.specs.declared.Narrowed.TheVariants as left
 use Rattle.domain_ranges.specs.declared.Part.TheVariants.{Within}
 use Rattle.domain_ranges.specs.declared.Membership.TheVariants.{Among}
 use Rattle.domain_ranges.proofs.Lemmas.{fewer_left, least_is, members_rising, own_ends}

@@ -1,11 +1,13 @@
 -- Public lemmas: what is collected of a range's leaves, put in relation.
-use Rattle.std.proofs.Common.{◌≡◌, ℕ, Bool, true, false, cond, ◌&&◌, List, [], ◌∷◌, ◌++◌, map, filter, Option, Some, None, refl, ap, sym, ◌∙◌, subst}
+use Rattle.std.proofs.Common.{◌≡◌, ℕ, Bool, true, false, cond, List, [], ◌∷◌, ◌++◌, map, Option, Some, None, refl, ap, sym, ◌∙◌, subst}
 use Rattle.std.specs.Prelude.{All, filter_map}
+use Rattle.std.proofs.lemmas.Bool.{true≢false}
 use Rattle.std.proofs.lemmas.List.{map-append}
 use Rattle.std.proofs.lemmas.List.Elements.{All-nil, All-cons}
 use Rattle.fd_language.specs.declared.range_node.Feature.{Feature}
+use Rattle.fd_language.specs.declared.range_node.Feature.TheVariants as feature
 use Rattle.fd_language.specs.declared.range_node.RangeNode.{RangeNode}
-use Rattle.fd_language.specs.Features.{is_val, feature_at, range_features}
+use Rattle.fd_language.specs.Features.{is_val, is_same_feature, feature_at, range_features}
 use Rattle.fd_language.specs.Flat.{nodes_of}
 use Rattle.fd_language.specs.Lists.{Each}
 use Rattle.fd_language.specs.Occurrences.{occurrence_at, range_occurrences}
@@ -36,6 +38,14 @@ reads_of_features r = same_leaves read_at (λ l. map (λ d. d.0) (feature_at l))
   by_role a_max y = refl
   by_role a_val y = refl
   by_role a_dom y = refl
+
+-- features that pass as the same are the same
+pub same_feature : (f g : Feature) → is_same_feature f g ≡ true → f ≡ g
+same_feature feature.Min feature.Min h = refl
+same_feature feature.Max feature.Max h = refl
+same_feature feature.Val feature.Val h = refl
+same_feature feature.Dom feature.Dom h = refl
+same_feature f g h = absurd (true≢false (sym h))
 
 -- the variables that features name by val
 abbrev pub vals_of : List (ℕ × Feature) → List ℕ

@@ -10,7 +10,7 @@ use Rattle.fd_language.specs.Range.{Expr, Number, Infinity, Param, Min, Max, Val
 use Rattle.fd_language.specs.Needs.{is_literal}
 use Rattle.fd_language.specs.Check.{Wish, Rising, Falling, Constant, turn, is_rising, is_falling, literal_value, by_sign, is_natural, quotient_fits, expr_fits, fill}
 use Rattle.fd_language.proofs.Lists.{each_before, each_after}
-use Rattle.fd_language.proofs.PartNeeds.{divisor_meets, expr_meets}
+use Rattle.fd_language.proofs.PartNeeds.{divisor_meets, expr_meets, above_zero}
 use Rattle.fd_language.proofs.Arithmetic.{add_keeps, sub_keeps, mul_keeps, mul_turns, natural_product, product_natural, down_keeps, up_keeps, down_natural, up_natural, down_positive, up_positive}
 
 -- from the value in a family to that in a family inside it
@@ -77,9 +77,6 @@ if_no c x y h e = grind arith
 
 pub int_le_true : (a b : ℤ) → int_le a b ≡ true → a ≤ℤ b
 int_le_true a b h = grind (arith, ints)
-
-positive_natural : (z : ℤ) → int_le (pos 1) z ≡ true → int_le (pos 0) z ≡ true
-positive_natural z h = grind (arith, ints)
 
 natural_number : (n : ℕ) → pos 0 ≤ℤ pos n
 natural_number n = omega (arith, ints)
@@ -151,7 +148,7 @@ module _ (M : ℕ) (p : ℕ → ℤ) where
   ]
 
   divided_meets : (b : Expr) (A : Bool) → divisor_meets p b A (A && expr_meets p b true) ≡ true → (A ≡ true) × (expr_meets p b true ≡ true)
-  divided_meets (Param x) A h = ((and_parts (int_le (pos 1) (p x)) A h).1, positive_natural (p x) ((and_parts (int_le (pos 1) (p x)) A h).0))
+  divided_meets (Param x) A h = ((and_parts (int_le (pos 1) (p x)) A h).1, above_zero (p x) ((and_parts (int_le (pos 1) (p x)) A h).0))
   divided_meets e A h = plain_divided e A h
 
   as_literal : (S : Family) (e : Expr) → is_literal e ≡ true → int_le (pos 0) (literal_value M e) ≡ true → pos 0 ≤ℤ value M S (fill p e)

@@ -15,6 +15,7 @@ use Rattle.fd_language.specs.Lists.{Each}
 use Rattle.fd_language.specs.NewLeaves.{NewLeaves, new_expr, new_range}
 use Rattle.fd_language.specs.RangeRenaming.{rename_expr, rename_range, renaming}
 use Rattle.fd_language.specs.Check.{fill_range, filling}
+use Rattle.fd_language.specs.Counts.{takes}
 use Rattle.fd_language.specs.Flat.{InFront, postfix, expr_nodes, range_nodes, nodes_of}
 use Rattle.fd_language.specs.RangeVerdict.{counting, range_size}
 use Rattle.fd_language.specs.RangeLaws.{LeavesTell}
@@ -24,16 +25,7 @@ use Rattle.fd_language.proofs.Lists.{each_before, each_after}
 
 -- how many operands a node has
 abbrev pub operands : RangeNode → ℕ
-operands (node.Int z) = 0
-operands node.Infinity = 0
-operands (node.Param x) = 0
-operands (node.Min y) = 0
-operands (node.Max y) = 0
-operands (node.Val y) = 0
-operands (node.Dom y) = 0
-operands node.One = 1
-operands node.Outside = 1
-operands n = 2
+operands n = (takes n).ranges + (takes n).terms
 
 -- Two walks that are related at each leaf, and at each node where they are related at its operands, are related.
 module _ {X Y : Type 0} (R : X → Y → Type 0) (v : Walk X) (w : Walk Y)
@@ -290,6 +282,10 @@ module _ (h g : NewLeaves) where
   new_twice (Minus r c) = two Minus (new_twice r) (expr_twice c)
   new_twice (Times r c) = two Times (new_twice r) (expr_twice c)
   new_twice (Over r c) = two Over (new_twice r) (expr_twice c)
+
+-- variables that are named anew twice
+pub renamed_twice : (f g : ℕ → ℕ) (r : Range) → rename_range f (rename_range g r) ≡ rename_range (λ y. f (g y)) r
+renamed_twice f g r = new_twice (renaming f) (renaming g) r
 
 -- Integers may be filled in before or after the variables are renamed.
 pub filled_renamed : (f : ℕ → ℕ) (p : ℕ → ℤ) (r : Range) → fill_range p (rename_range f r) ≡ rename_range f (fill_range (λ y. p (f y)) r)

@@ -1,5 +1,5 @@
--- Public lemmas: what holds of each element of a list.
-use Rattle.std.proofs.Common.{Bool, true, false, cond, List, [], ◌∷◌, ◌++◌}
+-- Public lemmas: what holds of each element of a list, and of an option.
+use Rattle.std.proofs.Common.{◌≡◌, Bool, true, false, cond, List, [], ◌∷◌, ◌++◌, map, Option, Some, None, refl}
 use Rattle.fd_language.specs.Lists.{Each}
 
 module _ {X : Type 0} where
@@ -25,3 +25,13 @@ module _ {X : Type 0} where
   pub each_either : (H : X → Type 0) (b : Bool) (xs ys : List X) → Each H xs → Each H ys → Each H (cond b xs ys)
   each_either H true xs ys h g = h
   each_either H false xs ys h g = g
+
+  -- what f gives of each
+  pub each_of_map : {Y : Type 0} (f : Y → X) (H : X → Type 0) (ys : List Y) → Each H (map f ys) → Each (λ y. H (f y)) ys
+  each_of_map f H [] h = tt
+  each_of_map f H (y ∷ ys) h = (h.0, each_of_map f H ys h.1)
+
+  -- an option that is nothing in particular is none
+  pub is_none : (o : Option X) → ((x : X) → o ≡ Some x → ⊥) → o ≡ None
+  is_none None h = refl
+  is_none (Some x) h = absurd (h x refl)

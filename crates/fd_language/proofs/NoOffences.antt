@@ -8,6 +8,7 @@ use Rattle.fd_language.specs.Range.{Range, Span, One, Dom, Union, Inter, Outside
 use Rattle.fd_language.specs.Needs.{is_literal}
 use Rattle.fd_language.specs.Check.{Wish, Rising, Falling, Constant, turn, is_rising, is_falling, literal_value, by_sign, is_parameter, is_natural, expr_fits, range_fits}
 use Rattle.fd_language.specs.RangeVerdict.{expr_size, range_size, bound, over_limit, factor_over_limit, where_too_wide, wide_in_expr, wide_in_range, where_below_zero, unless_fits, where_natural, unless_divides, scaled, expr_offences, range_offences, is_before, earlier, first, expr_within, range_within}
+use Rattle.fd_language.proofs.PartNeeds.{above_zero}
 
 abbrev pub nil : List Offence → Bool
 nil [] = true
@@ -165,9 +166,6 @@ module _ (M : ℕ) (at : ℕ → ℕ) where
   quotient_part false false k fa ft na nb d p q s e f g h i = g ∙ mixed k fa ft na nb where
     mixed : (k fa ft na nb : Bool) → ((fa && na) && (ft && nb)) ≡ (((na && nb) && (fa && ft)) && (not k || (na && nb)))
     mixed k fa ft na nb = grind arith
-
-  above_zero : (z : ℤ) → int_le (pos 1) z ≡ true → int_le (pos 0) z ≡ true
-  above_zero z h = grind (arith, ints)
 
   divisor_natural : (b : Expr) → is_literal b ≡ true → int_le (pos 1) (literal_value M b) ≡ true → is_natural M b ≡ true
   divisor_natural b l h = literal_natural b l ∙ above_zero (literal_value M b) h

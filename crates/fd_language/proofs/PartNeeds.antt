@@ -10,7 +10,8 @@ use Rattle.fd_language.specs.declared.range_node.Need.TheVariants.{Whole, Natura
 use Rattle.fd_language.specs.Range.{Range, Span, One, Dom, Union, Inter, Outside, Plus, Minus, Times, Over, Expr, Number, Infinity, Param, Add, Sub, Mul, DivDown, DivUp}
 use Rattle.fd_language.specs.Needs.{meets, is_literal, by_place, quotient_asks, expr_asks, over_asks, asks, stronger, strongest, once, parameters, need_of, meets_needs}
 
-above_zero : (z : ℤ) → int_le (pos 1) z ≡ true → int_le (pos 0) z ≡ true
+-- at least 1 is natural
+pub above_zero : (z : ℤ) → int_le (pos 1) z ≡ true → int_le (pos 0) z ≡ true
 above_zero z h = grind (arith, ints)
 
 -- at each place: natural inside a natural term, at least 1 as a divisor

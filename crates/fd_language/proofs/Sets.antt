@@ -1,24 +1,36 @@
 -- Public lemmas on lists of numbers as sets.
-use Rattle.std.proofs.Common.{◌≡◌, ℕ, zero, suc, ◌+◌, ◌<◌, ◌≤◌, Bool, true, false, ◌==◌, List, [], ◌∷◌, ◌++◌, ◌⊎◌, filter, map, refl, sym, ap, subst, inl, inr, arith, eqb-true, eq-eqb}
+use Rattle.std.proofs.Common.{◌≡◌, ℕ, zero, suc, ◌+◌, ◌<◌, ◌≤◌, Bool, true, false, not, ◌||◌, ◌&&◌, ◌==◌, List, [], ◌∷◌, ◌++◌, ◌⊎◌, filter, map, refl, sym, ap, ◌∙◌, subst, inl, inr, arith, eqb-true, eq-eqb}
 use Rattle.std.specs.Prelude.{flat_map}
 use Rattle.std.specs.List.{list_any}
-use Rattle.std.proofs.lemmas.Bool.{or_cases, or_left, or_right, cases_Bool, true≢false}
+use Rattle.std.proofs.lemmas.Bool.{or_cases, or_left, or_right, and_from, and_parts, cases_Bool, true≢false}
 use Rattle.fd_language.specs.Family.{has, IsSubset, IsRising, count_up, universe}
+use Rattle.fd_language.specs.Needs.{once}
 
--- one element of a filter
-keeps : (p : ℕ → Bool) (x n : ℕ) (xs : List ℕ) → ((has xs n ≡ true) → has (filter p xs) n ≡ true) → has (x ∷ xs) n ≡ true → p n ≡ true → has (filter p (x ∷ xs)) n ≡ true
-keeps p x n xs later h t = grind (arith, later, eqb-true)
+-- an equality may be turned round
+pub eq_sym : (x y : ℕ) → (x == y) ≡ (y == x)
+eq_sym x y = grind arith
+
+-- a filter has the numbers that pass
+kept : (p : ℕ → Bool) (x n : ℕ) (xs : List ℕ) → has (filter p xs) n ≡ (has xs n && p n) → has (filter p (x ∷ xs)) n ≡ (has (x ∷ xs) n && p n)
+kept p x n xs later = grind (arith, later, eqb-true)
+
+pub has_kept : (p : ℕ → Bool) (xs : List ℕ) (n : ℕ) → has (filter p xs) n ≡ (has xs n && p n)
+has_kept p [] n = refl
+has_kept p (x ∷ xs) n = kept p x n xs (has_kept p xs n)
 
 pub has-filter : (p : ℕ → Bool) (xs : List ℕ) (n : ℕ) → has xs n ≡ true → p n ≡ true → has (filter p xs) n ≡ true
-has-filter p [] n h t = h
-has-filter p (x ∷ xs) n h t = keeps p x n xs (λ i. has-filter p xs n i t) h t
-
-kept : (p : ℕ → Bool) (x n : ℕ) (xs : List ℕ) → (has (filter p xs) n ≡ true → (has xs n ≡ true) × (p n ≡ true)) → has (filter p (x ∷ xs)) n ≡ true → (has (x ∷ xs) n ≡ true) × (p n ≡ true)
-kept p x n xs later h = grind (arith, later, eqb-true)
+has-filter p xs n h t = has_kept p xs n ∙ and_from (has xs n) (p n) h t
 
 pub has-filter_back : (p : ℕ → Bool) (xs : List ℕ) (n : ℕ) → has (filter p xs) n ≡ true → (has xs n ≡ true) × (p n ≡ true)
-has-filter_back p [] n h = grind arith
-has-filter_back p (x ∷ xs) n h = kept p x n xs (has-filter_back p xs n) h
+has-filter_back p xs n h = and_parts (has xs n) (p n) (sym (has_kept p xs n) ∙ h)
+
+-- numbers once each are the same numbers
+others : (c d h : Bool) → c ≡ d → (c || (h && not d)) ≡ (c || h)
+others c d h e = grind (arith, e)
+
+pub has_once : (xs : List ℕ) (n : ℕ) → has (once xs) n ≡ has xs n
+has_once [] n = refl
+has_once (x ∷ xs) n = ap (λ b. (x == n) || b) (has_kept (λ z. not (z == x)) (once xs) n ∙ ap (λ b. b && not (n == x)) (has_once xs n)) ∙ others (x == n) (n == x) (has xs n) (eq_sym x n)
 
 pub has_low : (low high : ℕ) (xs : List ℕ) (n : ℕ) → IsRising low high xs → has xs n ≡ true → low ≤ n
 has_low low high [] n r h = grind arith

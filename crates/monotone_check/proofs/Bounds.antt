@@ -2,10 +2,8 @@
 use Rattle.std.proofs.Common.{◌≡◌, ℕ, zero, suc, ◌-◌, ◌*◌, ◌^◌, ◌≤◌, min, sym, ◌∙◌, ap, inl, inr, arith, mul-le-mul}
 use Rattle.std.proofs.Math.Nat.{mul_comm, min-eq_right, min-eq_left}
 use Rattle.std.proofs.lemmas.Bool.{cases_lt}
+use Rattle.fd_language.proofs.Lemmas.{two}
 use Rattle.monotone_check.specs.Summary.{capped}
-
-ap2 : {A B C : Type 0} (f : A → B → C) {a b : A} {c d : B} → a ≡ b → c ≡ d → f a c ≡ f b d
-ap2 f {a} {b} {c} {d} e g = ap (λ x. f x c) e ∙ ap (λ y. f b y) g
 
 reached : (C B n : ℕ) → C ≤ B → C ≤ n → min (min n B) C ≡ C
 reached C B n h g = omega arith
@@ -37,9 +35,9 @@ capped_product_at C B x y h o = elim (cases_lt x C) [
   | inr l ↦ over_left C B x y h o l
   | inl l ↦ elim (cases_lt y C) [
     | inr k ↦ ap (λ n. min (min n B) C) (mul_comm (min x C) (min y C)) ∙ (over_left C B y x h o k ∙ ap (λ n. min n C) (mul_comm y x))
-    | inl k ↦ below C B (min x C * min y C) h ∙ ap2 (λ a b. min (a * b) C) (min-eq_left (omega arith)) (min-eq_left (omega arith))
+    | inl k ↦ below C B (min x C * min y C) h ∙ two (λ a b. min (a * b) C) (min-eq_left (omega arith)) (min-eq_left (omega arith))
   ]
 ]
 
 pub capped_product : (a b x y p m : ℕ) → p ≡ min (a * b) 340282366920938463463374607431768211455 → m ≡ min p 85070591730234615865843651857942052864 → a ≡ capped x → b ≡ capped y → m ≡ capped (x * y)
-capped_product a b x y p m h g e f = g ∙ (ap (λ n. min n (2 ^ 126)) h ∙ (ap2 (λ k l. min (min (k * l) (2 ^ 128 - 1)) (2 ^ 126)) e f ∙ capped_product_at (2 ^ 126) (2 ^ 128 - 1) x y (omega arith) (omega arith)))
+capped_product a b x y p m h g e f = g ∙ (ap (λ n. min n (2 ^ 126)) h ∙ (two (λ k l. min (min (k * l) (2 ^ 128 - 1)) (2 ^ 126)) e f ∙ capped_product_at (2 ^ 126) (2 ^ 128 - 1) x y (omega arith) (omega arith)))

@@ -15,13 +15,11 @@ use Rattle.fd_language.specs.Range.{Range}
 use Rattle.fd_language.specs.Needs.{stronger, strongest, once, asks, needs}
 use Rattle.monotone_check.specs.declared.parameter_places.Asked.{Asked}
 use Rattle.monotone_check.specs.PlaceNeeds.{told}
+use Rattle.fd_language.proofs.Lemmas.{eq_sym}
 use Rattle.monotone_check.specs.JoinedNeeds.{put, put_all}
 
 abbrev keys : List (ℕ × Need) → List ℕ
 keys es = map (λ d. d.0) es
-
-pub eq_sym : (x y : ℕ) → (x == y) ≡ (y == x)
-eq_sym x y = grind arith
 
 stronger_assoc : (a b c : Need) → stronger (stronger a b) c ≡ stronger a (stronger b c)
 stronger_assoc Whole b c = refl

@@ -8,7 +8,7 @@ use Rattle.std.proofs.Math.Numerals.{add-one}
 use Rattle.fd_language.specs.declared.range_node.Need.{Need}
 use Rattle.fd_language.specs.Needs.{stronger}
 use Rattle.monotone_check.specs.JoinedNeeds.{put, put_all}
-use Rattle.monotone_check.proofs.JoinedNeeds.{eq_sym}
+use Rattle.fd_language.proofs.Lemmas.{eq_sym}
 
 abbrev keys : List (ℕ × Need) → List ℕ
 keys es = map (λ d. d.0) es

@@ -1,6 +1,6 @@
 -- The rows of the table, found by bisection.
 use Rattle.std.proofs.Common.{◌≡◌, ◌∙◌, sym, ap, subst, ℕ, zero, suc, ◌<◌, ◌≤◌, List, [], ◌∷◌, length, get_or, Option, Some, None, Bool, true, false, cond, refl, arith, add-one, Ordering, Less, Equal, Greater, Err}
-use Rattle.std.specs.Prelude.{find, map, option_map, ◌||◌}
+use Rattle.std.specs.Prelude.{find, map, option_map}
 use Rattle.std.specs.Cmp.Lexicographic.{slice_cmp}
 use Rattle.std.specs.List.{list_any, HoldsAt}
 use Rattle.std.specs.List.Sorted.{IsBinarySearchResult, IsNonDecreasingBy}
@@ -18,7 +18,6 @@ use Rattle.std.proofs.lemmas.Slice.Eq.{bytes_eq-Decides}
 use Rattle.fd_language.specs.Term.{Name}
 use Rattle.fd_language.specs.Operators as language
 use Rattle.fd_language.specs.Operators.{infix_of, prefix_of, infix_operators, prefix_operators}
-use Rattle.name_syntax.specs.declared.operators.Operator.{Operator}
 use Rattle.name_syntax.specs.declared.operators.Row.{Row}
 use Rattle.name_syntax.specs.Operators.{operator_of, name_of, is_named, rise, have_all, AreRows}
 

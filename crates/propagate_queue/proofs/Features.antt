@@ -19,10 +19,9 @@ use Rattle.range_code.specs.Slots.{slot_of, in_slots, slot_features}
 use Rattle.range_code.specs.Frames.{IsFrame, slot_variable, slot_integer, posted}
 use Rattle.range_code.specs.Nodes.{IsSeen}
 use Rattle.range_code.proofs.Lemmas.{all_readable, one_use, posted_monotone, features_seen, all_once}
-use Rattle.fd_language.proofs.Lemmas.{whole_nodes, renamed_leaves, filled_leaves, same_leaves, collected_by}
+use Rattle.fd_language.proofs.Lemmas.{same_feature, whole_nodes, renamed_leaves, filled_leaves, same_leaves, collected_by}
 use Rattle.dependency_chains.specs.declared.Change.{Change}
 use Rattle.dependency_chains.specs.Waking.{wakes, is_woken}
-use Rattle.dependency_chains.proofs.Lemmas.{same_feature}
 
 abbrev Pair : Type 0
 Pair = ℕ × Feature

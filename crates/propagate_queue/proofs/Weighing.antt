@@ -1,6 +1,6 @@
 -- Each agent that wakes adds to the weights.
-use Rattle.std.proofs.Common.{◌≡◌, ℕ, zero, suc, ◌+◌, ◌-◌, ◌<◌, ◌≤◌, Bool, true, false, cond, ◌||◌, ◌&&◌, not, ◌==◌, List, [], ◌∷◌, ◌++◌, map, filter, length, get_or, refl, ap, sym, ◌∙◌, subst, inl, inr, arith, eqb-true}
-use Rattle.std.proofs.lemmas.Bool.{cases_Bool, true≢false, eqb-false, or_cases, or_left, or_right}
+use Rattle.std.proofs.Common.{◌≡◌, ℕ, zero, suc, ◌+◌, ◌-◌, ◌<◌, ◌≤◌, Bool, true, false, cond, ◌||◌, ◌&&◌, not, ◌==◌, List, [], ◌∷◌, map, length, get_or, refl, ap, sym, ◌∙◌, subst, inl, inr, arith, eqb-true}
+use Rattle.std.proofs.lemmas.Bool.{true≢false, or_cases}
 use Rattle.std.specs.List.{list_any}
 use Rattle.propagate_queue.proofs.Storing.{sum_whole}
 use Rattle.fd_language.specs.declared.range_node.Feature.{Feature}
@@ -9,7 +9,7 @@ use Rattle.fd_language.specs.Family.{Family, has}
 use Rattle.fd_language.specs.Features.{is_val, range_features}
 use Rattle.fd_language.specs.Needs.{once}
 use Rattle.fd_language.specs.Range.{Indexical, Range, reads, is_several}
-use Rattle.fd_language.proofs.Lemmas.{has-filter, reads_of_features}
+use Rattle.fd_language.proofs.Lemmas.{has_once, reads_of_features}
 use Rattle.dependency_chains.specs.declared.Change.{Change}
 use Rattle.dependency_chains.specs.Waking.{change_of, wakes, is_woken}
 use Rattle.fd_model.specs.Weights.{reads_more, weight, sum_over, weights}
@@ -19,18 +19,6 @@ use Rattle.propagate_queue.specs.Queues.{flag_at, flagged}
 abbrev firsts : List (ℕ × Feature) → List ℕ
 firsts ds = map (λ d. d.0) ds
 
-in_once : (xs : List ℕ) (x : ℕ) → has xs x ≡ true → has (once xs) x ≡ true
-in_once [] x h = h
-in_once (y ∷ ys) x h = elim (cases_Bool (y == x)) [
-  | inl e ↦ or_left (y == x) (has (filter (λ z. not (z == y)) (once ys)) x) e
-  | inr e ↦ or_right (y == x) (has (filter (λ z. not (z == y)) (once ys)) x) (has-filter (λ z. not (z == y)) (once ys) x (in_once ys x (rest (y == x) (has ys x) h e)) (other x y e))
-] where
-  rest : (a b : Bool) → (a || b) ≡ true → a ≡ false → b ≡ true
-  rest a b h e = grind arith
-
-  other : (x y : ℕ) → (y == x) ≡ false → not (x == y) ≡ true
-  other x y e = elim (cases_Bool (x == y)) [ inl q ↦ absurd (eqb-false y x e (sym (eqb-true x y q))) | inr q ↦ ap not q ]
-
 woken_reads : (c : Change) (x : ℕ) (ds : List (ℕ × Feature)) → is_woken c x ds ≡ true → has (firsts ds) x ≡ true
 woken_reads c x [] h = h
 woken_reads c x (d ∷ ds) h = step (d.0 == x) (wakes c d.1) (is_woken c x ds) (has (firsts ds) x) h (woken_reads c x ds) where
@@ -39,7 +27,7 @@ woken_reads c x (d ∷ ds) h = step (d.0 == x) (wakes c d.1) (is_woken c x ds) (
   step false b e f h g = g h
 
 pub read_once : (c : Change) (x : ℕ) (r : Range) → is_woken c x (range_features r) ≡ true → has (once (reads r)) x ≡ true
-read_once c x r h = in_once (reads r) x (ap (λ l. has l x) (reads_of_features r) ∙ woken_reads c x (range_features r) h)
+read_once c x r h = has_once (reads r) x ∙ (ap (λ l. has l x) (reads_of_features r) ∙ woken_reads c x (range_features r) h)
 
 -- who reads the value alone is woken where one value is left
 by_value : (c : Change) (x : ℕ) (ds : List (ℕ × Feature)) → is_woken c x ds ≡ true → list_any (λ d. (d.0 == x) && not (is_val d.1)) ds ≡ false → c.fixed ≡ true

@@ -4,11 +4,10 @@ use Rattle.std.proofs.lemmas.Bool.{true≢false, or_cases, and_parts, cases_Bool
 use Rattle.std.proofs.lemmas.List.{get_or-take, get_or_default, length-append, length-take-le}
 use Rattle.std.proofs.lemmas.List.Folds.{list_any_more}
 use Rattle.std.proofs.Math.Bool.{or-false, and-false}
-use Rattle.monotone_check.proofs.Lemmas.{eq_sym}
 use Rattle.fd_language.specs.declared.TheConstants.{INFINITY}
 use Rattle.fd_language.specs.Family.{has, universe, IsRising, IsSubset}
 use Rattle.fd_language.specs.Range.{is_none_left}
-use Rattle.fd_language.proofs.Lemmas.{shorter_or_same}
+use Rattle.fd_language.proofs.Lemmas.{eq_sym, shorter_or_same}
 use Rattle.domain_ranges.specs.Spans.{Span, within, IsSpans, members}
 use Rattle.domain_ranges.proofs.Lemmas.{has_set, set_same, set_is, set_rising, filter_inside, has_within, loses, below_first}
 use Rattle.range_code.specs.Choices.{is_chosen, left_chosen, AreRising, IsFromNumber}

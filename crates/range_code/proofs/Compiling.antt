@@ -17,7 +17,7 @@ use Rattle.fd_language.specs.Family.{count_up}
 use Rattle.fd_language.specs.Features.{each_once, is_same_pair, feature_at, node_features}
 use Rattle.fd_language.proofs.Lemmas.{two, whole_nodes, bounded_values, needs_met}
 use Rattle.range_code.specs.ParameterNeeds.{need_in}
-use Rattle.range_code.specs.Nodes.{node_variables, node_variable, listed, rename_node}
+use Rattle.range_code.specs.Nodes.{node_variables, node_variable, rename_node}
 use Rattle.range_code.specs.Slots.{slots_of, slot_of, slot_needs, in_slots, slot_features}
 use Rattle.range_code.specs.Kinds.{has_pair, all_told, val_slots}
 use Rattle.range_code.specs.Heights.{tallest}
@@ -42,6 +42,7 @@ use Rattle.range_code.specs.SlotNumbering.{IsNumbered}
 use Rattle.range_code.specs.declared.compile.Numbered.{Numbered}
 use Rattle.range_code.proofs.Variables.{node_variables_of, names_of, one_more}
 use Rattle.range_code.proofs.SlotNeeds.{need_more, needs_found}
+use Rattle.std.specs.Option.{option_to_list}
 
 pub copied : (o : Option Range) (x r : Range) (P : Type 0) (items ns : List RangeNode) → o ≡ Some x → MatchOption o P (λ f. nodes_of f ≡ items) → items ≡ ns → ns ≡ nodes_of r → x ≡ r
 copied o x r P items ns e h f g =
@@ -84,7 +85,7 @@ mapped_twice front f g xs i d old new z l h e s =
 
 -- one more node
 pub numbered_more : (nodes : List RangeNode) (i : ℕ) (d : RangeNode) (old new : Numbered) → i < length nodes → IsNumbered (node_variables (take i nodes)) old →
-    ((xs : List ℕ) → IsNumbered xs old → IsNumbered (xs ++ listed (node_variable (get_or nodes i d))) new) → IsNumbered (node_variables (take (i + 1) nodes)) new
+    ((xs : List ℕ) → IsNumbered xs old → IsNumbered (xs ++ option_to_list (node_variable (get_or nodes i d))) new) → IsNumbered (node_variables (take (i + 1) nodes)) new
 numbered_more nodes i d old new l h f = subst (λ xs. IsNumbered xs new) (sym (ap node_variables (take_more nodes i d l) ∙ one_more (take i nodes) (get_or nodes i d))) (f (node_variables (take i nodes)) h)
 
 pub needs_more : (ds : List (ℕ × Need)) (i : ℕ) (d : ℕ × Need) (old new : Option Need) (y : ℕ) → i < length ds → new ≡ cond ((get_or ds i d).0 == y) (Some (get_or ds i d).1) old → old ≡ need_in (take i ds) y → new ≡ need_in (take (i + 1) ds) y

@@ -1,5 +1,5 @@
 -- There is room for what waits, node by node.
-use Rattle.std.proofs.Common.{ℕ, suc, ◌+◌, ◌<◌, ◌≤◌, List, [], ◌∷◌, length, map, get_or, sym, ◌∙◌, subst, arith, vec_len, vec_capacity}
+use Rattle.std.proofs.Common.{◌≡◌, ℕ, suc, ◌+◌, ◌<◌, ◌≤◌, List, [], ◌∷◌, length, map, get_or, sym, ap, ◌∙◌, subst, arith, vec_len, vec_capacity}
 use Rattle.std.proofs.lemmas.List.{at_drop_more}
 use Rattle.fd_language.specs.declared.range_node.RangeNode.{RangeNode}
 use Rattle.fd_language.specs.declared.range_node.RangeNode.TheVariants as node
@@ -18,50 +18,10 @@ abbrev Grows : (RangeNode → ℕ → ℕ) → Type 0
 Grows f = (m : RangeNode) (a b : ℕ) → a ≤ b → f m a ≤ f m b
 
 values_grow : Grows values_after
-values_grow (node.Int z) a b h = omega arith
-values_grow node.Infinity a b h = omega arith
-values_grow (node.Param x) a b h = omega arith
-values_grow (node.Min y) a b h = omega arith
-values_grow (node.Max y) a b h = omega arith
-values_grow (node.Val y) a b h = omega arith
-values_grow node.Add a b h = omega arith
-values_grow node.Sub a b h = omega arith
-values_grow node.Mul a b h = omega arith
-values_grow node.DivDown a b h = omega arith
-values_grow node.DivUp a b h = omega arith
-values_grow node.Span a b h = omega arith
-values_grow node.One a b h = omega arith
-values_grow (node.Dom y) a b h = h
-values_grow node.Union a b h = h
-values_grow node.Inter a b h = h
-values_grow node.Outside a b h = h
-values_grow node.Plus a b h = omega arith
-values_grow node.Minus a b h = omega arith
-values_grow node.Times a b h = omega arith
-values_grow node.Over a b h = omega arith
+values_grow m a b h = omega (arith, h)
 
 sets_grow : Grows sets_after
-sets_grow (node.Int z) a b h = h
-sets_grow node.Infinity a b h = h
-sets_grow (node.Param x) a b h = h
-sets_grow (node.Min y) a b h = h
-sets_grow (node.Max y) a b h = h
-sets_grow (node.Val y) a b h = h
-sets_grow node.Add a b h = h
-sets_grow node.Sub a b h = h
-sets_grow node.Mul a b h = h
-sets_grow node.DivDown a b h = h
-sets_grow node.DivUp a b h = h
-sets_grow node.Span a b h = omega arith
-sets_grow node.One a b h = omega arith
-sets_grow (node.Dom y) a b h = omega arith
-sets_grow node.Union a b h = omega arith
-sets_grow node.Inter a b h = omega arith
-sets_grow node.Outside a b h = h
-sets_grow node.Plus a b h = h
-sets_grow node.Minus a b h = h
-sets_grow node.Times a b h = h
-sets_grow node.Over a b h = h
+sets_grow m a b h = omega (arith, h)
 
 module _ (f : RangeNode → ℕ → ℕ) (grows : Grows f) where
   pub peak_low : (ms : List RangeNode) (n : ℕ) → n ≤ peak f ms n
@@ -105,23 +65,26 @@ pub keeps_on : (a b c : Work) → KeepsRoom a b → KeepsRoom b c → KeepsRoom 
 keeps_on a b c h g = record { values = g.values ∙ h.values; sets = g.sets ∙ h.sets }
 
 -- some set waits while a range is evaluated
+node_keeps : (m : RangeNode) (rest : List RangeNode) (n : ℕ) → sets_after m n ≡ n → peak sets_after rest n ≤ peak sets_after (m ∷ rest) n
+node_keeps m rest n e = let h = ap (peak sets_after rest) e in omega (arith, h)
+
 expr_keeps : (e : Expr) (rest : List RangeNode) (n : ℕ) → peak sets_after rest n ≤ peak sets_after (expr_nodes e rest) n
-expr_keeps (Number z) rest n = omega arith
-expr_keeps Infinity rest n = omega arith
-expr_keeps (Param x) rest n = omega arith
-expr_keeps (Min y) rest n = omega arith
-expr_keeps (Max y) rest n = omega arith
-expr_keeps (Val y) rest n = omega arith
-expr_keeps (Add a b) rest n = let h = expr_keeps a (expr_nodes b (node.Add ∷ rest)) n in let k = expr_keeps b (node.Add ∷ rest) n in omega (arith, h, k)
-expr_keeps (Sub a b) rest n = let h = expr_keeps a (expr_nodes b (node.Sub ∷ rest)) n in let k = expr_keeps b (node.Sub ∷ rest) n in omega (arith, h, k)
-expr_keeps (Mul a b) rest n = let h = expr_keeps a (expr_nodes b (node.Mul ∷ rest)) n in let k = expr_keeps b (node.Mul ∷ rest) n in omega (arith, h, k)
-expr_keeps (DivDown a b) rest n = let h = expr_keeps a (expr_nodes b (node.DivDown ∷ rest)) n in let k = expr_keeps b (node.DivDown ∷ rest) n in omega (arith, h, k)
-expr_keeps (DivUp a b) rest n = let h = expr_keeps a (expr_nodes b (node.DivUp ∷ rest)) n in let k = expr_keeps b (node.DivUp ∷ rest) n in omega (arith, h, k)
+expr_keeps (Number z) rest n = node_keeps (node.Int z) rest n (omega arith)
+expr_keeps Infinity rest n = node_keeps node.Infinity rest n (omega arith)
+expr_keeps (Param x) rest n = node_keeps (node.Param x) rest n (omega arith)
+expr_keeps (Min y) rest n = node_keeps (node.Min y) rest n (omega arith)
+expr_keeps (Max y) rest n = node_keeps (node.Max y) rest n (omega arith)
+expr_keeps (Val y) rest n = node_keeps (node.Val y) rest n (omega arith)
+expr_keeps (Add a b) rest n = let h = expr_keeps a (expr_nodes b (node.Add ∷ rest)) n in let k = expr_keeps b (node.Add ∷ rest) n in let l = node_keeps node.Add rest n (omega arith) in omega (arith, h, k, l)
+expr_keeps (Sub a b) rest n = let h = expr_keeps a (expr_nodes b (node.Sub ∷ rest)) n in let k = expr_keeps b (node.Sub ∷ rest) n in let l = node_keeps node.Sub rest n (omega arith) in omega (arith, h, k, l)
+expr_keeps (Mul a b) rest n = let h = expr_keeps a (expr_nodes b (node.Mul ∷ rest)) n in let k = expr_keeps b (node.Mul ∷ rest) n in let l = node_keeps node.Mul rest n (omega arith) in omega (arith, h, k, l)
+expr_keeps (DivDown a b) rest n = let h = expr_keeps a (expr_nodes b (node.DivDown ∷ rest)) n in let k = expr_keeps b (node.DivDown ∷ rest) n in let l = node_keeps node.DivDown rest n (omega arith) in omega (arith, h, k, l)
+expr_keeps (DivUp a b) rest n = let h = expr_keeps a (expr_nodes b (node.DivUp ∷ rest)) n in let k = expr_keeps b (node.DivUp ∷ rest) n in let l = node_keeps node.DivUp rest n (omega arith) in omega (arith, h, k, l)
 
 range_waits : (r : Range) (rest : List RangeNode) (n : ℕ) → suc n ≤ peak sets_after (range_nodes r rest) n
-range_waits (Span a b) rest n = let h = expr_keeps a (expr_nodes b (node.Span ∷ rest)) n in let k = expr_keeps b (node.Span ∷ rest) n in let l = low_peak sets_after rest (suc n) in omega (arith, h, k, l)
-range_waits (One t) rest n = let h = expr_keeps t (node.One ∷ rest) n in let l = low_peak sets_after rest (suc n) in omega (arith, h, l)
-range_waits (Dom y) rest n = let l = low_peak sets_after rest (suc n) in omega (arith, l)
+range_waits (Span a b) rest n = let h = expr_keeps a (expr_nodes b (node.Span ∷ rest)) n in let k = expr_keeps b (node.Span ∷ rest) n in let l = low_peak sets_after rest (sets_after node.Span n) in omega (arith, h, k, l)
+range_waits (One t) rest n = let h = expr_keeps t (node.One ∷ rest) n in let l = low_peak sets_after rest (sets_after node.One n) in omega (arith, h, l)
+range_waits (Dom y) rest n = let l = low_peak sets_after rest (sets_after (node.Dom y) n) in omega (arith, l)
 range_waits (Union r q) rest n = range_waits r (range_nodes q (node.Union ∷ rest)) n
 range_waits (Inter r q) rest n = range_waits r (range_nodes q (node.Inter ∷ rest)) n
 range_waits (Outside r) rest n = range_waits r (node.Outside ∷ rest) n

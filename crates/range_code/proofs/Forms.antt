@@ -1,5 +1,5 @@
 -- How the nodes of a range are read as a form.
-use Rattle.std.proofs.Common.{SFits, drop_of_length-le, ◌≡◌, ℕ, zero, suc, ◌+◌, ◌*◌, ◌-◌, ◌^◌, ◌<◌, ◌≤◌, length, take, drop, get_or, true, not, ◌||◌, ◌==◌, IsTrue, eqb-true, ℤ, pos, negsuc, neg_ℤ, nat_abs, ◌+ℤ◌, ◌-ℤ◌, ◌*ℤ◌, ◌≤ℤ◌, List, [], ◌∷◌, ◌++◌, Some, refl, sym, ◌∙◌, ap, subst, ◌⊎◌, inl, inr, arith}
+use Rattle.std.proofs.Common.{SFits, drop_of_length-le, ◌≡◌, ℕ, zero, suc, ◌+◌, ◌*◌, ◌-◌, ◌^◌, ◌<◌, ◌≤◌, length, take, drop, get_or, not, ℤ, pos, negsuc, neg_ℤ, nat_abs, ◌+ℤ◌, ◌-ℤ◌, ◌*ℤ◌, ◌≤ℤ◌, List, [], ◌∷◌, ◌++◌, Some, refl, sym, ◌∙◌, ap, subst, ◌⊎◌, inl, inr, arith}
 use Rattle.std.proofs.Math.Nat.{div-one}
 use Rattle.std.proofs.Math.IntN.{+ℤ_assoc, +ℤ_comm, +ℤ_idl, neg_ℤ-neg_ℤ}
 use Rattle.std.proofs.lemmas.Int.{ints, fits_signed_from_abs}
@@ -7,7 +7,6 @@ use mir.Syntax.{w64, w128}
 use Rattle.std.specs.List.{All}
 use Rattle.std.specs.Prelude.{IfOk, Result}
 use Rattle.std.specs.Ordering.{int_eq}
-use Rattle.std.proofs.lemmas.Bool.{cases_Bool}
 use Rattle.std.proofs.lemmas.List.Elements.{All-head, All-tail, All-append, filter_agree}
 use Rattle.fd_language.specs.declared.TheConstants.{INFINITY}
 use Rattle.fd_language.specs.declared.range_node.RangeNode.{RangeNode}
@@ -17,7 +16,7 @@ use Rattle.fd_language.specs.Range.{Range, Expr, least, greatest, down_by, Infin
 use Rattle.fd_language.specs.Range.{Number as Literal}
 use Rattle.fd_language.specs.Check.{fill_range}
 use Rattle.fd_language.specs.Flat.{nodes_of, built, built_behind, put, shape_of, term_alone, term_of_terms, builds_range, spelled_range, spelled_range-nodes, IsSpelled}
-use Rattle.fd_language.proofs.Lemmas.{two, greatest_in, abs_add, abs_mul, products}
+use Rattle.fd_language.proofs.Lemmas.{has_high, two, greatest_in, abs_add, abs_mul, products}
 use Rattle.std.proofs.lemmas.List.{at_drop_more, take_all, nil_from_length}
 use Rattle.std.proofs.lemmas.Option.{same_Some}
 use Rattle.domain_ranges.specs.Narrowing.{between, all_but, IsNarrowed}
@@ -239,14 +238,9 @@ module _ (S : Family) (ms ks : List Product) (i : ℕ) (a b low high : ℤ) (opp
     pub high_small : nat_abs b ≤ 2 ^ 63 - 1
     high_small = let g = h.high_width in omega (arith, g)
 
-pub has_limit : (M : ℕ) (xs : List ℕ) (n : ℕ) → IsRising 0 M xs → IsTrue (has xs n) → n ≤ M
-has_limit M xs n r h = within 0 M xs n r h where
-  within : (low M : ℕ) (xs : List ℕ) (n : ℕ) → IsRising low M xs → has xs n ≡ true → n ≤ M
-  within low M [] n r h = absurd cc
-  within low M (x ∷ xs) n r h = elim (cases_Bool (x == n)) [
-    | inl e ↦ subst (λ k. k ≤ M) (eqb-true x n e) r.1
-    | inr e ↦ within (suc x) M xs n r.2 (ap (λ b. b || has xs n) (sym e) ∙ h)
-  ]
+-- the end of a set that is the same
+pub at_end : (r : ℕ) (s t : List ℕ) (x : End) → r ≡ end_of s x → s ≡ t → r ≡ end_of t x
+at_end r s t x e h = e ∙ ap (λ l. end_of l x) h
 
 -- a bound from the first leaf on
 pub bound_first : (n : RangeNode) (rest : List RangeNode) (l : Leaf) (empty b : Bound) → IsLeaf n l → ((S : Family) → total_of S empty ≡ pos 0) → empty.products.items ≡ [] → empty.division ≡ Whole → IsAdded empty (record { weight = pos 1; leaf = l }) b → IsBound (n ∷ rest) b rest
@@ -353,7 +347,7 @@ module _ (ns : List RangeNode) (r : Range) (are : ns ≡ nodes_of r) where
 -- the greatest member is in U
 pub greatest_limit : (M : ℕ) (xs : List ℕ) (n : ℕ) → IsRising 0 M xs → n ≡ greatest xs → n ≤ M
 greatest_limit M [] n r e = omega (arith, e)
-greatest_limit M (x ∷ xs) n r e = has_limit M (x ∷ xs) n r (ap (has (x ∷ xs)) e ∙ greatest_in (x ∷ xs) refl)
+greatest_limit M (x ∷ xs) n r e = has_high 0 M (x ∷ xs) n r (ap (has (x ∷ xs)) e ∙ greatest_in (x ∷ xs) refl)
 
 -- the nodes of a range spell it
 pub form_spells : (nodes : List RangeNode) (r : Range) (form : Form) → nodes ≡ nodes_of r → IsForm r form → IsForm (spelled_range nodes) form

@@ -1,5 +1,5 @@
 -- Each node of a range finds its argument.
-use Rattle.std.proofs.Common.{◌≡◌, ℕ, suc, ◌+◌, ◌<◌, Bool, true, false, cond, not, ◌||◌, ◌==◌, nat_eq, List, [], ◌∷◌, ◌++◌, map, length, Option, Some, None, refl, sym, ◌∙◌, ap, subst, ◌⊎◌, inl, inr, arith, eqb-true, eq-eqb}
+use Rattle.std.proofs.Common.{◌≡◌, ℕ, suc, ◌+◌, ◌<◌, Bool, true, false, cond, not, ◌||◌, ◌==◌, nat_eq, List, [], ◌∷◌, map, length, Option, Some, None, refl, sym, ◌∙◌, ap, subst, ◌⊎◌, inl, inr, arith, eqb-true, eq-eqb}
 use Rattle.std.specs.List.{All, list_all, position_or_len}
 use Rattle.std.specs.Prelude.{flat_map}
 use Rattle.std.proofs.lemmas.Option.{none-some, same_Some}
@@ -18,13 +18,12 @@ use Rattle.fd_language.specs.Needs.{need_of}
 use Rattle.fd_language.specs.Occurrences.{Occurrence, range_occurrences}
 use Rattle.fd_language.specs.Flat.{nodes_of}
 use Rattle.fd_language.specs.RangeRenaming.{rename_range}
-use Rattle.fd_language.proofs.Lemmas.{in_left, in_right, in_flat, range_leaves, variables_collected, all_nodes}
+use Rattle.fd_language.proofs.Lemmas.{has_once, in_left, in_right, in_flat, range_leaves, variables_collected, all_nodes}
 use Rattle.range_code.specs.declared.frame.Arg.{Arg}
 use Rattle.range_code.specs.declared.frame.Arg.TheVariants.{Var, Int}
 use Rattle.range_code.specs.Slots.{slots_of, slot_of, need_at, in_slots}
 use Rattle.range_code.specs.Frames.{IsArg, AreArgs, IsFrame, variable_of, arg_at}
 use Rattle.range_code.specs.Nodes.{IsSeen, IsReadable, rename_node}
-use Rattle.range_code.proofs.Once.{has_once}
 use Rattle.range_code.proofs.Variables.{names_of}
 
 abbrev pub of_occurrences : List Occurrence → List ℕ

@@ -2,7 +2,9 @@
 -- Each node of a range finds its argument.
 pub use Rattle.range_code.proofs.Framing.{all_readable, no_parameter}
 -- Lists with each element once, as they grow.
-pub use Rattle.range_code.proofs.Once.{any_has, has_kept, has_once, keys_more, once_more}
+pub use Rattle.range_code.proofs.Once.{any_has, keys_more, once_more}
+-- Given on from the language: what is in a filter, and in a list with each number once.
+pub use Rattle.fd_language.proofs.Lemmas.{has_kept, has_once}
 -- The range that is posted, where its arguments fit.
 pub use Rattle.range_code.proofs.PostedRanges.{one_use, posted_below, posted_monotone}
 -- How the variables of a range stand, told from what it reads.

@@ -1,35 +1,13 @@
 -- Lists with each element once, as they grow.
-use Rattle.std.proofs.Common.{◌≡◌, ℕ, Bool, true, false, cond, not, ◌||◌, ◌&&◌, ◌==◌, nat_eq, List, [], ◌∷◌, ◌++◌, filter, refl, sym, ◌∙◌, ap, eqb-true, inl, inr}
+use Rattle.std.proofs.Common.{◌≡◌, ℕ, Bool, true, false, cond, not, ◌||◌, ◌==◌, nat_eq, List, [], ◌∷◌, ◌++◌, filter, refl, sym, ◌∙◌, ap, inl, inr}
 use Rattle.std.specs.List.{list_any}
 use Rattle.std.proofs.lemmas.Bool.{cases_Bool}
 use Rattle.std.proofs.lemmas.List.Elements.{filter-append}
-use Rattle.std.proofs.Math.Bool.{or-false, and-false, or-true, and-true}
+use Rattle.std.proofs.Math.Bool.{or-false, or-true}
 use Rattle.std.proofs.lemmas.List.{append-nil}
-use Rattle.monotone_check.proofs.Lemmas.{eq_sym}
 use Rattle.fd_language.specs.Family.{has}
 use Rattle.fd_language.specs.Needs.{once}
-
-keeps_here : (c k h b : Bool) → (c ≡ true → b ≡ true) → k ≡ (h && b) → (c || k) ≡ ((c || h) && b)
-keeps_here true k h b f e = sym (f refl)
-keeps_here false k h b f e = e
-
-drops_here : (c k h b : Bool) → (c ≡ true → b ≡ false) → k ≡ (h && b) → k ≡ ((c || h) && b)
-drops_here true k h b f e = e ∙ (ap (λ x. h && x) (f refl) ∙ (and-false h ∙ sym (f refl)))
-drops_here false k h b f e = e
-
-pub has_kept : (q : ℕ → Bool) (xs : List ℕ) (y : ℕ) → has (filter q xs) y ≡ (has xs y && q y)
-has_kept q [] y = refl
-has_kept q (x ∷ xs) y = elim (cases_Bool (q x)) [
-  | inl i ↦ ap (λ c. has (cond c (x ∷ filter q xs) (filter q xs)) y) i ∙ keeps_here (x == y) (has (filter q xs) y) (has xs y) (q y) (λ e. ap q (sym (eqb-true x y e)) ∙ i) (has_kept q xs y)
-  | inr i ↦ ap (λ c. has (cond c (x ∷ filter q xs) (filter q xs)) y) i ∙ drops_here (x == y) (has (filter q xs) y) (has xs y) (q y) (λ e. ap q (sym (eqb-true x y e)) ∙ i) (has_kept q xs y)
-]
-
-pub has_once : (xs : List ℕ) (y : ℕ) → has (once xs) y ≡ has xs y
-has_once [] y = refl
-has_once (x ∷ xs) y = ap (λ b. (x == y) || b) (has_kept (λ z. not (z == x)) (once xs) y ∙ ap (λ b. b && not (y == x)) (has_once xs y)) ∙ others (x == y) (y == x) (has xs y) (eq_sym y x) where
-  others : (c d h : Bool) → d ≡ c → (c || (h && not d)) ≡ (c || h)
-  others true d h e = refl
-  others false d h e = ap (λ x. h && not x) e ∙ and-true h
+use Rattle.fd_language.proofs.Lemmas.{eq_sym, has_once}
 
 -- one more element
 pub once_more : (xs : List ℕ) (x : ℕ) → once (xs ++ x ∷ []) ≡ cond (has xs x) (once xs) (once xs ++ x ∷ [])

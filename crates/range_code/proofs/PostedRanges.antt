@@ -12,13 +12,11 @@ use Rattle.fd_language.specs.Check.{fill_range, range_fits}
 use Rattle.fd_language.specs.Range.{params}
 use Rattle.fd_language.specs.RangeVerdict.{range_within, is_accepted, has_one_use}
 use Rattle.fd_language.specs.Monotonicity.{IsMonotone}
-use Rattle.fd_language.proofs.Lemmas.{accepted_is_monotone, two, reads_map, monotone_renamed}
+use Rattle.fd_language.proofs.Lemmas.{of_asks, range_asked, has_once, accepted_is_monotone, two, reads_map, monotone_renamed}
 use Rattle.range_code.specs.declared.frame.Arg.{Arg}
 use Rattle.range_code.specs.declared.frame.Arg.TheVariants.{Var, Int}
 use Rattle.range_code.specs.Slots.{slot_of}
 use Rattle.range_code.specs.Frames.{IsArg, IsFrame, arg_integer, arg_at, slot_variable, slot_integer, posted}
-use Rattle.range_code.proofs.Once.{has_once}
-use Rattle.range_code.proofs.SlotNeeds.{of_asks, range_asked}
 use Rattle.range_code.proofs.Framing.{params_occur, slotted, reads_seen}
 use Rattle.range_code.proofs.Standings.{reads_filled}
 

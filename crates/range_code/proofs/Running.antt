@@ -12,11 +12,10 @@ use Rattle.fd_language.specs.declared.range_node.Feature.TheVariants as feature
 use Rattle.fd_language.specs.declared.range_node.RangeNode.TheVariants as node
 use Rattle.fd_language.specs.Family.{Family, has, universe, IsRising, IsFamily, count_up}
 use Rattle.fd_language.proofs.Lemmas.{bounded_values, filled_renamed, needs_met, two, set_same, whole_nodes}
-use Rattle.fd_language.specs.Range.{Range, Span, One, Dom, Union, Inter, Outside, Plus, Minus, Times, Over, Expr, Number, Infinity, Param, Min, Max, Val, Add, Sub, Mul, DivDown, DivUp, reads, vals, in_range, set_of, least, is_none_left, is_several}
+use Rattle.fd_language.specs.Range.{Range, reads, vals, in_range, set_of, least, is_none_left, is_several}
 use Rattle.fd_language.specs.Needs.{meets_needs}
-use Rattle.fd_language.specs.Check.{fill, fill_range}
+use Rattle.fd_language.specs.Check.{fill_range}
 use Rattle.fd_language.specs.RangeVerdict.{is_accepted}
-use Rattle.fd_language.specs.RangeRenaming.{rename_expr, rename_range}
 use Rattle.fd_language.specs.Features.{range_features, features_of}
 use Rattle.fd_language.specs.Flat.{nodes_of, spelled_range, IsSpelled, spelled_range-nodes}
 use Rattle.fd_language.specs.CheckLaws.{AreBounded}

@@ -1,9 +1,8 @@
 -- How the variables of a range stand, told from what it reads.
 use Rattle.std.proofs.Common.{◌≡◌, ℕ, zero, suc, ◌≤◌, ◌⊎◌, arith, ℤ, ◌<◌, length, get_or, subst, Bool, true, false, cond, not, ◌||◌, ◌&&◌, ◌==◌, List, [], ◌∷◌, ◌++◌, map, filter, refl, sym, ◌∙◌, ap, inl, inr, eqb-true}
 use Rattle.std.specs.List.{All, list_any}
-use Rattle.std.proofs.lemmas.Bool.{cases_Bool, true≢false}
+use Rattle.std.proofs.lemmas.Bool.{cases_Bool}
 use Rattle.std.proofs.lemmas.List.Elements.{All-nil, All-cons, All-head, All-tail, All-filter}
-use Rattle.std.proofs.lemmas.List.Folds.{list_any-append}
 use Rattle.std.specs.Cmp.{second_so, first_so}
 use Rattle.fd_language.specs.declared.range_node.Feature.{Feature}
 use Rattle.fd_language.specs.declared.range_node.Feature.TheVariants as feature
@@ -14,7 +13,7 @@ use Rattle.fd_language.specs.Check.{fill_range}
 use Rattle.fd_language.specs.declared.TheConstants.{INFINITY}
 use Rattle.fd_language.specs.Family.{IsRising, universe}
 use Rattle.fd_language.specs.Features.{is_val, range_features, is_same_feature, is_same_pair, each_once, features_of, feature_at, node_features}
-use Rattle.fd_language.proofs.Lemmas.{two, universe_rising, filled_leaves, reads_of_features, vals_of, vals_of_features}
+use Rattle.fd_language.proofs.Lemmas.{same_feature, two, universe_rising, filled_leaves, reads_of_features, vals_of, vals_of_features}
 use Rattle.range_code.specs.declared.frame.Arg.{Arg}
 use Rattle.range_code.specs.Nodes.{IsSeen, IsReadable}
 
@@ -55,26 +54,8 @@ pub all_once : (P : ℕ × Feature → Type 0) (ds : List (ℕ × Feature)) → 
 all_once P [] h = All-nil P
 all_once P (d ∷ ds) h = All-cons P d (filter (λ e. not (is_same_pair e d)) (each_once ds)) (All-head P d ds h) (All-filter (λ e. not (is_same_pair e d)) P (each_once ds) (all_once P ds (All-tail P d ds h)))
 
-same_name : (f g : Feature) → is_same_feature f g ≡ true → f ≡ g
-same_name feature.Min feature.Min h = refl
-same_name feature.Min feature.Max h = absurd (true≢false (sym h))
-same_name feature.Min feature.Val h = absurd (true≢false (sym h))
-same_name feature.Min feature.Dom h = absurd (true≢false (sym h))
-same_name feature.Max feature.Min h = absurd (true≢false (sym h))
-same_name feature.Max feature.Max h = refl
-same_name feature.Max feature.Val h = absurd (true≢false (sym h))
-same_name feature.Max feature.Dom h = absurd (true≢false (sym h))
-same_name feature.Val feature.Min h = absurd (true≢false (sym h))
-same_name feature.Val feature.Max h = absurd (true≢false (sym h))
-same_name feature.Val feature.Val h = refl
-same_name feature.Val feature.Dom h = absurd (true≢false (sym h))
-same_name feature.Dom feature.Min h = absurd (true≢false (sym h))
-same_name feature.Dom feature.Max h = absurd (true≢false (sym h))
-same_name feature.Dom feature.Val h = absurd (true≢false (sym h))
-same_name feature.Dom feature.Dom h = refl
-
 pub same_is : (d e : ℕ × Feature) → is_same_pair d e ≡ true → d ≡ e
-same_is d e h = two (λ x f. (x, f)) (eqb-true d.0 e.0 (first_so (d.0 == e.0) (is_same_feature d.1 e.1) h)) (same_name d.1 e.1 (second_so (d.0 == e.0) (is_same_feature d.1 e.1) h))
+same_is d e h = two (λ x f. (x, f)) (eqb-true d.0 e.0 (first_so (d.0 == e.0) (is_same_feature d.1 e.1) h)) (same_feature d.1 e.1 (second_so (d.0 == e.0) (is_same_feature d.1 e.1) h))
 
 without : (t : ℕ × Feature → Bool) (d : ℕ × Feature) (l : List (ℕ × Feature)) → (t d || list_any t (filter (λ e. not (is_same_pair e d)) l)) ≡ (t d || list_any t l)
 without t d [] = refl

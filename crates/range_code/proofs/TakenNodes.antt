@@ -1,5 +1,5 @@
 -- Each node that is read leaves the values and sets that wait those of the terms and ranges that wait.
-use Rattle.std.proofs.Common.{◌≡◌, ℕ, suc, ◌-◌, ℤ, pos, get_or, List, [], ◌∷◌, ◌++◌, filter, Option, Some, None, refl, sym, ◌∙◌, ap, subst, ◌⊎◌, inl, inr}
+use Rattle.std.proofs.Common.{◌≡◌, ℕ, suc, ◌+◌, ◌-◌, ℤ, pos, get_or, List, [], ◌∷◌, ◌++◌, filter, Option, Some, None, refl, sym, ◌∙◌, ap, subst, ◌⊎◌, inl, inr, arith}
 use Rattle.fd_language.specs.declared.TheConstants.{INFINITY}
 use Rattle.fd_language.specs.declared.range_node.RangeNode.{RangeNode}
 use Rattle.fd_language.specs.declared.range_node.RangeNode.TheVariants as node
@@ -223,13 +223,19 @@ move_case P i is h f g u = elim is [
 -- how many wait behind it, and what it needs
 module _ (k : List ℤ) (old new : Work) (i : RangeInstr) where
   pub push_counted : IsPush i → Counts suc (λ n. n) old new → IsCounted (node_of k i) old new
-  push_counted is h = push_case (λ j. IsCounted (node_of k j) old new) i is (λ c. h) (λ x. h) (λ y. h) (λ y. h) (λ y. h)
+  push_counted is h = push_case (λ j. IsCounted (node_of k j) old new) i is (λ c. now) (λ x. now) (λ y. now) (λ y. now) (λ y. now) where
+    now : Counts (λ n. n + 1 - 0) (λ n. n + 0 - 0) old new
+    now = record { values = omega (arith, h.values); sets = omega (arith, h.sets) }
 
   pub terms_counted : IsTermOperator i → Counts (λ n. n - 1) (λ n. n) old new → IsCounted (node_of k i) old new
-  terms_counted is h = term_case (λ j. IsCounted (node_of k j) old new) i is h h h h h
+  terms_counted is h = term_case (λ j. IsCounted (node_of k j) old new) i is now now now now now where
+    now : Counts (λ n. n + 1 - 2) (λ n. n + 0 - 0) old new
+    now = record { values = omega (arith, h.values); sets = omega (arith, h.sets) }
 
   pub move_counted : IsMove i → Counts (λ n. n - 1) (λ n. n) old new → IsCounted (node_of k i) old new
-  move_counted is h = move_case (λ j. IsCounted (node_of k j) old new) i is h h h h
+  move_counted is h = move_case (λ j. IsCounted (node_of k j) old new) i is now now now now where
+    now : Counts (λ n. n + 0 - 1) (λ n. n + 1 - 1) old new
+    now = record { values = omega (arith, h.values); sets = omega (arith, h.sets) }
 
   pub terms_there : IsTermOperator i → CanTake (node_of k i) old → CanTakeTerms (operator_of i) old
   terms_there is h = term_case (λ j. CanTake (node_of k j) old → CanTakeTerms (operator_of j) old) i is (λ t. t.0) (λ t. t.0) (λ t. t.0) (λ t. t.0) (λ t. t.0) h

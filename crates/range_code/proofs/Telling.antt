@@ -1,34 +1,34 @@
 -- What is told of slots, one more pair or slot at a time.
 use Rattle.std.proofs.Common.{◌≡◌, ℕ, zero, suc, ◌+◌, ◌<◌, ◌≤◌, Bool, true, false, cond, List, [], ◌∷◌, ◌++◌, length, filter, take, drop, get_or, max, Option, Some, None, refl, sym, ◌∙◌, ap, arith, zero-add, add-zero, map, subst}
-use Rattle.std.proofs.lemmas.List.{take_more, at_drop_more, get_or-map, append-nil, length-map}
+use Rattle.std.proofs.lemmas.List.{take_more, at_drop_more, get_or-map, append-nil, append_assoc, length-map}
 use Rattle.std.proofs.lemmas.List.Elements.{filter-append}
 use Rattle.fd_language.specs.declared.range_node.Feature.{Feature}
 use Rattle.fd_language.specs.declared.range_node.RangeNode.{RangeNode}
 use Rattle.fd_language.specs.declared.range_node.RangeNode.TheVariants as node
+use Rattle.fd_language.specs.Counts.{takes}
 use Rattle.fd_language.specs.Family.{count_up}
 use Rattle.range_code.specs.declared.compile.ReadKind.{ReadKind}
-use Rattle.range_code.specs.Nodes.{listed}
 use Rattle.range_code.specs.Kinds.{told_as, all_told}
 use Rattle.range_code.specs.declared.fold.Piece.{Piece}
 use Rattle.range_code.specs.Pieces.{piece_node}
 use Rattle.range_code.specs.Heights.{values_after, sets_after, peak}
-use Rattle.range_code.proofs.Variables.{regroup}
+use Rattle.std.specs.Option.{option_to_list}
 
 module _ (min most : ℕ → Bool) where
   told_append : (ds es : List (ℕ × Feature)) → all_told min most (ds ++ es) ≡ all_told min most ds ++ all_told min most es
   told_append [] es = refl
-  told_append (d ∷ ds) es = ap (λ l. listed (told_as min most d) ++ l) (told_append ds es) ∙ regroup (listed (told_as min most d)) (all_told min most ds) (all_told min most es)
+  told_append (d ∷ ds) es = ap (λ l. option_to_list (told_as min most d) ++ l) (told_append ds es) ∙ sym (append_assoc (option_to_list (told_as min most d)) (all_told min most ds) (all_told min most es))
 
   -- one more pair
-  pub told_more : (ds : List (ℕ × Feature)) (i : ℕ) (d : ℕ × Feature) (old new : List (ℕ × ReadKind)) → i < length ds → old ≡ all_told min most (take i ds) → new ≡ old ++ listed (told_as min most (get_or ds i d)) → new ≡ all_told min most (take (i + 1) ds)
+  pub told_more : (ds : List (ℕ × Feature)) (i : ℕ) (d : ℕ × Feature) (old new : List (ℕ × ReadKind)) → i < length ds → old ≡ all_told min most (take i ds) → new ≡ old ++ option_to_list (told_as min most (get_or ds i d)) → new ≡ all_told min most (take (i + 1) ds)
   told_more ds i d old new l e f =
-      f ∙ (ap (λ k. k ++ listed (told_as min most (get_or ds i d))) e ∙ sym (ap (all_told min most) (take_more ds i d l) ∙ (told_append (take i ds) (get_or ds i d ∷ []) ∙ ap (λ k. all_told min most (take i ds) ++ k) (append-nil (listed (told_as min most (get_or ds i d)))))))
+      f ∙ (ap (λ k. k ++ option_to_list (told_as min most (get_or ds i d))) e ∙ sym (ap (all_told min most) (take_more ds i d l) ∙ (told_append (take i ds) (get_or ds i d ∷ []) ∙ ap (λ k. all_told min most (take i ds) ++ k) (append-nil (option_to_list (told_as min most (get_or ds i d)))))))
 
 pub told_put : (min most : ℕ → Bool) (ds : List (ℕ × Feature)) (i : ℕ) (d : ℕ × Feature) (old new : List (ℕ × ReadKind)) (o : Option (ℕ × ReadKind)) (k : ℕ × ReadKind) → i < length ds → old ≡ all_told min most (take i ds) → o ≡ told_as min most (get_or ds i d) → o ≡ Some k → new ≡ old ++ k ∷ [] → new ≡ all_told min most (take (i + 1) ds)
-told_put min most ds i d old new o k l e t s f = told_more min most ds i d old new l e (f ∙ ap (λ q. old ++ listed q) (sym s ∙ t))
+told_put min most ds i d old new o k l e t s f = told_more min most ds i d old new l e (f ∙ ap (λ q. old ++ option_to_list q) (sym s ∙ t))
 
 pub told_left : (min most : ℕ → Bool) (ds : List (ℕ × Feature)) (i : ℕ) (d : ℕ × Feature) (old : List (ℕ × ReadKind)) (o : Option (ℕ × ReadKind)) → i < length ds → old ≡ all_told min most (take i ds) → o ≡ told_as min most (get_or ds i d) → o ≡ None → old ≡ all_told min most (take (i + 1) ds)
-told_left min most ds i d old o l e t s = told_more min most ds i d old old l e (sym (append-nil old) ∙ ap (λ q. old ++ listed q) (sym s ∙ t))
+told_left min most ds i d old o l e t s = told_more min most ds i d old old l e (sym (append-nil old) ∙ ap (λ q. old ++ option_to_list q) (sym s ∙ t))
 
 up_append : (low n : ℕ) → count_up low (suc n) ≡ count_up low n ++ (low + n) ∷ []
 up_append low zero = ap (λ k. k ∷ []) (sym (add-zero low))
@@ -59,51 +59,19 @@ pub low_peak : (f : RangeNode → ℕ → ℕ) (ms : List RangeNode) (n : ℕ) �
 low_peak f [] n = omega arith
 low_peak f (m ∷ ms) n = omega arith
 
+none_or_one : (b : Bool) → cond b 0 1 ≤ 1
+none_or_one true = omega arith
+none_or_one false = omega arith
+
+one_or_none : (b : Bool) → cond b 1 0 ≤ 1
+one_or_none true = omega arith
+one_or_none false = omega arith
+
 one_value : (m : RangeNode) (n : ℕ) → values_after m n ≤ suc n
-one_value (node.Int z) n = omega arith
-one_value node.Infinity n = omega arith
-one_value (node.Param x) n = omega arith
-one_value (node.Min y) n = omega arith
-one_value (node.Max y) n = omega arith
-one_value (node.Val y) n = omega arith
-one_value node.Add n = omega arith
-one_value node.Sub n = omega arith
-one_value node.Mul n = omega arith
-one_value node.DivDown n = omega arith
-one_value node.DivUp n = omega arith
-one_value node.Span n = omega arith
-one_value node.One n = omega arith
-one_value (node.Dom y) n = omega arith
-one_value node.Union n = omega arith
-one_value node.Inter n = omega arith
-one_value node.Outside n = omega arith
-one_value node.Plus n = omega arith
-one_value node.Minus n = omega arith
-one_value node.Times n = omega arith
-one_value node.Over n = omega arith
+one_value m n = omega (arith, none_or_one (takes m).gives_range)
 
 one_set : (m : RangeNode) (n : ℕ) → sets_after m n ≤ suc n
-one_set (node.Int z) n = omega arith
-one_set node.Infinity n = omega arith
-one_set (node.Param x) n = omega arith
-one_set (node.Min y) n = omega arith
-one_set (node.Max y) n = omega arith
-one_set (node.Val y) n = omega arith
-one_set node.Add n = omega arith
-one_set node.Sub n = omega arith
-one_set node.Mul n = omega arith
-one_set node.DivDown n = omega arith
-one_set node.DivUp n = omega arith
-one_set node.Span n = omega arith
-one_set node.One n = omega arith
-one_set (node.Dom y) n = omega arith
-one_set node.Union n = omega arith
-one_set node.Inter n = omega arith
-one_set node.Outside n = omega arith
-one_set node.Plus n = omega arith
-one_set node.Minus n = omega arith
-one_set node.Times n = omega arith
-one_set node.Over n = omega arith
+one_set m n = omega (arith, one_or_none (takes m).gives_range)
 
 pub high_more : (ms : List RangeNode) (i v s h w v' s' h' : ℕ) (d : RangeNode) → i < length ms → IsHigh ms i v s h w → v' ≡ values_after (get_or ms i d) v → s' ≡ sets_after (get_or ms i d) s → h' ≡ max (max h v') s' → IsHigh ms (i + 1) v' s' h' w
 high_more ms i v s h w v' s' h' d l k a b e =

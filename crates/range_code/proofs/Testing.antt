@@ -12,10 +12,9 @@ use Rattle.fd_language.specs.Occurrences.{range_occurrences, occurrence_at}
 use Rattle.fd_language.specs.Needs.{once, need_of}
 use Rattle.fd_language.specs.RangeVerdict.{has_one_use}
 use Rattle.fd_language.specs.Features.{features_of}
-use Rattle.fd_language.proofs.Lemmas.{any_from, any_to, map_has, has_map, reads_map, range_leaves}
+use Rattle.fd_language.proofs.Lemmas.{has_kept, has_once, any_from, any_to, map_has, has_map, reads_map, range_leaves}
 use Rattle.range_code.specs.Slots.{slots_of, slot_of, slot_needs, need_at, in_slots}
 use Rattle.range_code.specs.Kinds.{val_slots}
-use Rattle.range_code.proofs.Once.{has_kept, has_once}
 use Rattle.range_code.proofs.Standings.{any_read}
 use Rattle.range_code.proofs.Framing.{no_parameter, reads_occur}
 use Rattle.range_code.specs.declared.instr.RangeInstr.{RangeInstr}

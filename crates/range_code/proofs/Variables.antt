@@ -1,38 +1,27 @@
 -- The variables of a range's nodes are those that occur in it.
-use Rattle.std.proofs.Common.{◌≡◌, ℕ, List, [], ◌∷◌, ◌++◌, map, refl, sym, ◌∙◌, ap}
-use Rattle.std.specs.Prelude.{flat_map}
+use Rattle.std.proofs.Common.{◌≡◌, ℕ, List, [], ◌∷◌, ◌++◌, map, refl, sym, ◌∙◌, ap, Option, Some, None}
+use Rattle.std.specs.Prelude.{option_map}
+use Rattle.std.specs.Option.{option_to_list}
+use Rattle.std.proofs.lemmas.List.Concat.{flat_map-append}
 use Rattle.std.proofs.lemmas.List.{append-nil}
 use Rattle.fd_language.specs.declared.range_node.RangeNode.{RangeNode}
 use Rattle.fd_language.specs.declared.range_node.RangeNode.TheVariants as node
-use Rattle.fd_language.specs.Range.{Range, Span, One, Dom, Union, Inter, Outside, Plus, Minus, Times, Over, Expr, Number, Infinity, Param, Min, Max, Val, Add, Sub, Mul, DivDown, DivUp, from_node}
+use Rattle.fd_language.specs.Range.{Range, Span, One, Dom, Union, Inter, Outside, Plus, Minus, Times, Over, Expr, Number, Infinity, Param, Min, Max, Val, Add, Sub, Mul, DivDown, DivUp, Leaf, leaf_of, from_leaf, from_node}
 use Rattle.fd_language.specs.Occurrences.{range_occurrences}
 use Rattle.fd_language.specs.Flat.{expr_nodes, range_nodes, nodes_of}
 use Rattle.fd_language.specs.RangeRenaming.{rename_expr, rename_range}
-use Rattle.fd_language.proofs.Lemmas.{two, whole_nodes, variables_collected}
-use Rattle.range_code.specs.Nodes.{listed, node_variable, node_variables, rename_node}
-
-pub regroup : {A : Type 0} (xs ys zs : List A) → xs ++ (ys ++ zs) ≡ (xs ++ ys) ++ zs
-regroup [] ys zs = refl
-regroup (x ∷ xs) ys zs = ap (λ l. x ∷ l) (regroup xs ys zs)
-
-by_leaves : (ns : List RangeNode) → node_variables ns ≡ flat_map (from_node (λ l. l.variable ∷ [])) ns
-by_leaves [] = refl
-by_leaves (n ∷ ns) = two (λ x y. x ++ y) (here n) (by_leaves ns) where
-  here : (n : RangeNode) → listed (node_variable n) ≡ from_node (λ l. l.variable ∷ []) n
-  here (node.Param x) = refl
-  here (node.Min y) = refl
-  here (node.Max y) = refl
-  here (node.Val y) = refl
-  here (node.Dom y) = refl
-  here n = refl
+use Rattle.fd_language.proofs.Lemmas.{whole_nodes, variables_collected}
+use Rattle.range_code.specs.Nodes.{node_variable, node_variables, rename_node}
 
 pub node_variables_of : (r : Range) → node_variables (nodes_of r) ≡ map (λ q. q.variable) (range_occurrences r)
-node_variables_of r = by_leaves (nodes_of r) ∙ whole_nodes (λ l. l.variable ∷ []) r ∙ sym (variables_collected r)
+node_variables_of r = whole_nodes (λ l. l.variable ∷ []) r ∙ sym (variables_collected r)
 
 -- the variables of one more node
-pub one_more : (ms : List RangeNode) (m : RangeNode) → node_variables (ms ++ m ∷ []) ≡ node_variables ms ++ listed (node_variable m)
-one_more [] m = append-nil (listed (node_variable m))
-one_more (n ∷ ms) m = ap (λ l. listed (node_variable n) ++ l) (one_more ms m) ∙ regroup (listed (node_variable n)) (node_variables ms) (listed (node_variable m))
+pub one_more : (ms : List RangeNode) (m : RangeNode) → node_variables (ms ++ m ∷ []) ≡ node_variables ms ++ option_to_list (node_variable m)
+one_more ms m = flat_map-append (from_node (λ l. l.variable ∷ [])) ms (m ∷ []) ∙ ap (λ l. node_variables ms ++ l) (append-nil (from_node (λ l. l.variable ∷ []) m) ∙ alone (leaf_of m)) where
+  alone : (o : Option Leaf) → from_leaf (λ l. l.variable ∷ []) o ≡ option_to_list (option_map (λ l. l.variable) o)
+  alone None = refl
+  alone (Some l) = refl
 
 expr_names : (f : ℕ → ℕ) (e : Expr) (rest : List RangeNode) → map (rename_node f) (expr_nodes e rest) ≡ expr_nodes (rename_expr f e) (map (rename_node f) rest)
 expr_names f (Number z) rest = refl

@@ -1,43 +1,18 @@
 -- How many values and sets wait at most while a range is evaluated.
-use Rattle.std.specs.Prelude.{◌≡◌, ℕ, suc, ◌-◌, ◌≤◌, max, List, [], ◌∷◌, length, vec_len, vec_capacity}
+use Rattle.std.specs.Prelude.{◌≡◌, ℕ, ◌+◌, ◌-◌, ◌≤◌, if◌then◌else◌, max, List, [], ◌∷◌, length, vec_len, vec_capacity}
 use Rattle.fd_language.specs.declared.range_node.RangeNode.{RangeNode}
-use Rattle.fd_language.specs.declared.range_node.RangeNode.TheVariants as node
+use Rattle.fd_language.specs.Counts.{takes}
 use Rattle.fd_language.specs.Range.{Range}
 use Rattle.range_code.specs.declared.work.Work.{Work}
 use Rattle.range_code.specs.FoldedRanges.{folded_nodes}
 
 -- how many values wait behind a node, where so many wait before it
 abbrev pub values_after : RangeNode → ℕ → ℕ
-values_after (node.Int z) n = suc n
-values_after node.Infinity n = suc n
-values_after (node.Param x) n = suc n
-values_after (node.Min y) n = suc n
-values_after (node.Max y) n = suc n
-values_after (node.Val y) n = suc n
-values_after node.Add n = n - 1
-values_after node.Sub n = n - 1
-values_after node.Mul n = n - 1
-values_after node.DivDown n = n - 1
-values_after node.DivUp n = n - 1
-values_after node.Span n = n - 2
-values_after node.One n = n - 1
-values_after (node.Dom y) n = n
-values_after node.Union n = n
-values_after node.Inter n = n
-values_after node.Outside n = n
-values_after node.Plus n = n - 1
-values_after node.Minus n = n - 1
-values_after node.Times n = n - 1
-values_after node.Over n = n - 1
+values_after m n = n + (if (takes m).gives_range then 0 else 1) - (takes m).terms
 
 -- and how many sets
 abbrev pub sets_after : RangeNode → ℕ → ℕ
-sets_after node.Span n = suc n
-sets_after node.One n = suc n
-sets_after (node.Dom y) n = suc n
-sets_after node.Union n = n - 1
-sets_after node.Inter n = n - 1
-sets_after m n = n
+sets_after m n = n + (if (takes m).gives_range then 1 else 0) - (takes m).ranges
 
 -- the greatest number that waits before a node or at the end
 abbrev pub peak : (RangeNode → ℕ → ℕ) → List RangeNode → ℕ → ℕ

@@ -1,6 +1,7 @@
 -- What a range reads of its slots, the least and the greatest member of one slot together, and which slots it reads by val.
 use Rattle.std.specs.Prelude.{ℕ, Bool, if◌then◌else◌, List, [], ◌∷◌, ◌++◌, length, filter, Option, Some, None}
 use Rattle.std.specs.List.{list_any}
+use Rattle.std.specs.Option.{option_to_list}
 use Rattle.fd_language.specs.declared.range_node.Feature.{Feature}
 use Rattle.fd_language.specs.declared.range_node.Feature.TheVariants as feature
 use Rattle.fd_language.specs.Family.{count_up}
@@ -8,7 +9,6 @@ use Rattle.fd_language.specs.Range.{Range}
 use Rattle.fd_language.specs.Features.{is_same_pair}
 use Rattle.range_code.specs.declared.compile.ReadKind.{ReadKind}
 use Rattle.range_code.specs.declared.compile.ReadKind.TheVariants as kind
-use Rattle.range_code.specs.Nodes.{listed}
 use Rattle.range_code.specs.Slots.{slots_of, slot_features}
 
 abbrev pub has_pair : List (ℕ × Feature) → ℕ × Feature → Bool
@@ -23,7 +23,7 @@ told_as min max (s, feature.Dom) = Some (s, kind.Dom)
 
 abbrev pub all_told : (ℕ → Bool) → (ℕ → Bool) → List (ℕ × Feature) → List (ℕ × ReadKind)
 all_told min max [] = []
-all_told min max (d ∷ ds) = listed (told_as min max d) ++ all_told min max ds
+all_told min max (d ∷ ds) = option_to_list (told_as min max d) ++ all_told min max ds
 
 -- The pairs that the range reads, in their order. Where a slot is read by min and by max, the pair of min tells both and that of max is left out.
 abbrev pub slot_kinds : Range → List (ℕ × ReadKind)

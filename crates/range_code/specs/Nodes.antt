@@ -1,27 +1,18 @@
 -- The variables of nodes, and what nodes read of them.
-use Rattle.std.specs.Prelude.{◌≡◌, ℕ, ◌<◌, List, [], ◌∷◌, ◌++◌, length, Option, Some, None}
+use Rattle.std.specs.Prelude.{◌≡◌, ℕ, ◌<◌, List, [], ◌∷◌, length, flat_map, Option, option_map}
 use Rattle.fd_language.specs.declared.range_node.RangeNode.{RangeNode}
 use Rattle.fd_language.specs.declared.range_node.RangeNode.TheVariants as node
+use Rattle.fd_language.specs.Range.{leaf_of, from_node}
 use Rattle.range_code.specs.declared.frame.Arg.{Arg}
 use Rattle.range_code.specs.declared.frame.Arg.TheVariants.{Var}
 use Rattle.range_code.specs.Frames.{arg_at, slot_variable}
 
 -- the variable of a node
 abbrev pub node_variable : RangeNode → Option ℕ
-node_variable (node.Param x) = Some x
-node_variable (node.Min y) = Some y
-node_variable (node.Max y) = Some y
-node_variable (node.Val y) = Some y
-node_variable (node.Dom y) = Some y
-node_variable _ = None
-
-abbrev pub listed : {A : Type 0} → Option A → List A
-listed None = []
-listed (Some x) = x ∷ []
+node_variable n = option_map (λ l. l.variable) (leaf_of n)
 
 abbrev pub node_variables : List RangeNode → List ℕ
-node_variables [] = []
-node_variables (n ∷ ns) = listed (node_variable n) ++ node_variables ns
+node_variables ns = flat_map (from_node (λ l. l.variable ∷ [])) ns
 
 -- the node with another variable
 abbrev pub rename_node : (ℕ → ℕ) → RangeNode → RangeNode

@@ -2,10 +2,11 @@
 
 ghost use Rattle.std.specs.Prelude.{◌≡◌, ◌<◌, ◌-◌, ◌^◌, ◌||◌, ℕ, nat_eq, List, [], ◌∷◌, ◌++◌, map, filter, IfOk, OnOk};
 ghost use Rattle.std.specs.List.{list_any, position_or_len};
+ghost use Rattle.std.specs.Option.{option_to_list};
 ghost use Rattle.indexmap.specs.IndexMap.{get};
 ghost use Rattle.fd_language.specs.declared.range_node.Feature.TheVariants as Told;
 ghost use Rattle.fd_language.specs.Features.{each_once, is_same_feature, is_same_pair, node_features as read_by};
-ghost use Rattle.range_code.specs.Nodes.{node_variable, listed, node_variables, rename_node};
+ghost use Rattle.range_code.specs.Nodes.{node_variable, node_variables, rename_node};
 ghost use Rattle.range_code.specs.ParameterNeeds.{need_in};
 ghost use Rattle.fd_language.specs.Family.{count_up};
 ghost use Rattle.range_code.specs.Kinds.{has_pair, told_as as told_by, all_told};
@@ -89,7 +90,7 @@ impl Numbered {
     /// Gives the node's variable a slot.
     fn add_node(&mut self, node: RangeNode) -> Result<(), NoMemory>
         ensures { OnOk result ((xs : List ℕ) → IsNumbered xs self.old → IsNumbered
-            (xs ++ listed (node_variable node)) self.new) }
+            (xs ++ option_to_list (node_variable node)) self.new) }
     {
         match variable_of(node) {
             Some(variable) => self.add(variable),

@@ -1,5 +1,5 @@
 -- What is wanted of each kind of term in each position.
-use Rattle.std.proofs.Common.{◌≡◌, ℕ, ◌<◌, ◌≤◌, Bool, true, false, cond, List, [], ◌∷◌, length, get_or, Option, Some, None, refl, sym, ap, subst, ◌∙◌, arith}
+use Rattle.std.proofs.Common.{◌≡◌, ℕ, ◌<◌, ◌≤◌, Bool, true, false, cond, List, [], ◌∷◌, length, Option, Some, None, refl, sym, ap, subst, ◌∙◌, arith}
 use Rattle.std.specs.Prelude.{codes, ℤ}
 use Rattle.std.specs.Str.{bytes_eq}
 use Rattle.fd_language.specs.Term.{Name}
@@ -180,18 +180,6 @@ pub constant_of_one : (by : TermId → PlacedTerm) (f : Name) (p : ℕ) (ts : Li
 constant_of_one by f p [] h k = absurd (omega arith)
 constant_of_one by f p (t ∷ []) h k = no_constant f (by t) p
 constant_of_one by f p (t ∷ u ∷ ts) h k = absurd (omega arith)
-
--- the parts as they are matched
-pub one_part : (ts : List TermId) (d : TermId) → 1 ≤ length ts → length ts < 2 → ts ≡ get_or ts 0 d ∷ []
-one_part [] d l h = absurd (omega arith)
-one_part (t ∷ []) d l h = refl
-one_part (t ∷ u ∷ ts) d l h = absurd (omega arith)
-
-pub two_parts : (ts : List TermId) (d e : TermId) → 2 ≤ length ts → length ts < 3 → ts ≡ get_or ts 0 d ∷ get_or ts 1 e ∷ []
-two_parts [] d e l h = absurd (omega arith)
-two_parts (t ∷ []) d e l h = absurd (omega arith)
-two_parts (t ∷ u ∷ []) d e l h = refl
-two_parts (t ∷ u ∷ v ∷ ts) d e l h = absurd (omega arith)
 
 -- numbers
 pub a_parameter : (l : Position) (x p : ℕ) → IsNumber l (node.Param x) p (wanted l (var x p))

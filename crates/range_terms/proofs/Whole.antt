@@ -40,10 +40,6 @@ is_spelled c x f i e = ((read_range x).tree, sym (whole_nodes c x f i e))
 pub same_range : (r q : Range) (ns : List RangeNode) → nodes_of r ≡ ns → ns ≡ nodes_of q → r ≡ q
 same_range r q ns e f = sym (spelled_range-nodes r) ∙ ap spelled_range (e ∙ f) ∙ spelled_range-nodes q
 
-pub none_of : (o : Option ℕ) → ((p : ℕ) → o ≡ Some p → ⊥) → o ≡ None
-none_of None h = refl
-none_of (Some p) h = absurd (h p refl)
-
 pub some_range : (o : Option Range) (ns : List RangeNode) → MatchOption o (IsSpelled ns → ⊥) (λ r. nodes_of r ≡ ns) → IsSpelled ns → IsSome o
 some_range None ns h s = absurd (h s)
 some_range (Some r) ns h s = refl

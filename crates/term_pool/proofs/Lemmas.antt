@@ -3,6 +3,8 @@
 pub use Rattle.term_pool.proofs.Laws.{term_is_storable, term_of_shape, shape_within, name_kept, extends_refl, extends_trans, place_kept, term_of_entry, terms_by_same}
 -- Names by their numbers.
 pub use Rattle.term_pool.proofs.Names.{slice_get-append, pushed_at, name_in-append, same_text, slice_get_found, slice_get_seam}
+-- The parts of a compound, where there are one or two.
+pub use Rattle.term_pool.proofs.Parts.{one_part, two_parts}
 -- The placed term of an id is that of its entry.
 pub use Rattle.term_pool.proofs.PlacedShapes.{entry_of, parts_by_same, numbered_seam, front_kept, placed_of_shape}
 -- Why a walk over the terms of a pool ends. It keeps a list of the ids that it has still to look at, and replaces an id by those of its parts.

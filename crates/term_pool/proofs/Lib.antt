@@ -4,3 +4,4 @@ mod Walks
 mod Growth
 mod PlacedShapes
 pub mod Lemmas
+mod Parts

@@ -13,8 +13,8 @@ use Rattle.fd_language.specs.Term.{Name}
 use Rattle.fd_language.specs.Characters.{starts_with, tail}
 use Rattle.fd_language.specs.Tokens.{Token, Quoted, Between, quoted_spells, front_of, front_by, unquoted}
 use Rattle.fd_language.specs.Writing.{quoted_byte, quoted_bytes, quoted_name}
-use Rattle.term_writer.proofs.Quoting.{size, size-append, stands, all_front, all_spells}
-use Rattle.fd_language.proofs.Lemmas.{ends_here, quote_front}
+use Rattle.term_writer.proofs.Quoting.{stands, all_front, all_spells}
+use Rattle.fd_language.proofs.Lemmas.{size, size-append, ends_here, quote_front}
 
 is_low : ℕ → Bool
 is_low b = nat_lt b 128

@@ -6,15 +6,7 @@ use Rattle.std.specs.Fmt.{digits}
 use Rattle.std.proofs.lemmas.Bool.{eqb-true, or_cases, ltb-true}
 use Rattle.fd_language.specs.Tokens.{Between, quoted_front, quoted_spells}
 use Rattle.fd_language.specs.Writing.{quoted_byte, quoted_bytes}
-
--- the bytes of characters
-abbrev pub size : List ℕ → ℕ
-size [] = 0
-size (c ∷ cs) = len_utf8 c + size cs
-
-pub size-append : (cs ds : List ℕ) → size (cs ++ ds) ≡ size cs + size ds
-size-append [] ds = omega arith
-size-append (c ∷ cs) ds = omega (arith, size-append cs ds)
+use Rattle.fd_language.proofs.Lemmas.{size, size-append}
 
 -- a character's text inside quotes is passed, and spells the character
 pub record IsReadBack (c : ℕ) : Type 0 where

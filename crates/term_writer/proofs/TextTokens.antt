@@ -16,10 +16,10 @@ use Rattle.fd_language.specs.Tokens.{Kind, Word, Quoted, Variable, Integer, Punc
 use Rattle.fd_language.specs.Terminals.{Terminal, name, operator_word, variable, integer, opens, closes, open_list, close_list, open_curly, close_curly, comma, bar, stop}
 use Rattle.fd_language.specs.Reading.{terminal_of, names_behind, ended_by, is_anonymous}
 use Rattle.fd_language.specs.Writing.{starts_with_symbol}
-use Rattle.term_writer.proofs.Quoting.{size}
 use Rattle.term_writer.proofs.QuotedNames.{sizes}
 use Rattle.term_writer.proofs.Fronts as fronts
 use Rattle.term_writer.proofs.OtherPlaces.{Alike, like_name, like_word, like_integer, like_open, like_close, like_open_list, like_close_list, like_open_curly, like_close_curly, like_comma, like_bar}
+use Rattle.fd_language.proofs.Lemmas.{size}
 
 -- a token that is no variable and no stop is y to the grammar, up to its place
 pub record Other (l : Lexeme) (y : Terminal) : Type 0 where

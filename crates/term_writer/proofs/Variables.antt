@@ -9,8 +9,8 @@ use Rattle.unicode_ident.specs.Ident.{is_xid_start, is_xid_continue}
 use Rattle.fd_language.specs.Characters.{is_layout, is_symbol, is_solo, is_punct, begins_variable, not_newline, is_digit_of, starts_with, tail, run_size, past_run, digits_value}
 use Rattle.fd_language.specs.Tokens.{BadCharacter, StringOut, FloatOut, IntegerTooWide, Front, Gap, Token, Offends, Word, Variable, Integer, Punct, Stop, greatest_integer, number_front, has_base, base_at, has_fraction, based_front, decimal_front, integer_front, comment_front, Inside, Between, AfterQuote, AfterBackslash, AfterDigits, Past, Broken, inside, quoted_end, quoted_front, ends_stop, front_of, front_by, front_at}
 use Rattle.term_writer.specs.TextReadings.{IsVariable}
-use Rattle.term_writer.proofs.Quoting.{size}
 use Rattle.term_writer.proofs.QuotedNames.{sizes}
+use Rattle.fd_language.proofs.Lemmas.{size}
 
 number_no : (v m n : ℕ) → number_front v m ≡ Token Variable n → ⊥
 number_no v m n = go (nat_le v greatest_integer)

@@ -1,16 +1,12 @@
-use Rattle.std.proofs.Common.{rules, ◌≡◌, ℕ, List, ◌∙◌, ap, sym, subst, pos, SFits, to_z, to_z-of_z}
+use Rattle.std.proofs.Common.{rules, List, sym, subst, pos, SFits, to_z, to_z-of_z}
 use mir.Syntax.{w64}
 use Rattle.fd_language.specs.Family.{Family}
-use Rattle.range_code.specs.Forms.{end_of, total_of, AreOpposite}
+use Rattle.range_code.specs.Forms.{total_of, AreOpposite}
 use Rattle.range_code.specs.Frames.{slot_set}
-use Rattle.range_code.specs.declared.form.End.{End}
 use Rattle.range_code.specs.declared.form.End.TheVariants.{Least}
 use Rattle.range_code.specs.declared.form.Product.{Product}
-use Rattle.range_code.proofs.Forms.{low_fits, high_fits, summed, low_done, high_done, low_small, high_small, starts_summing}
+use Rattle.range_code.proofs.Forms.{at_end, low_fits, high_fits, summed, low_done, high_done, low_small, high_small, starts_summing}
 use Rattle.range_code.proofs.form.both_sums.Goals as goal
-
-at_end : (r : ℕ) (s t : List ℕ) (x : End) → r ≡ end_of s x → s ≡ t → r ≡ end_of t x
-at_end r s t x e h = e ∙ ap (λ l. end_of l x) h
 
 abbrev default : Product
 default = record { weight = pos 0; slot = 0; end = Least }

@@ -1,13 +1,8 @@
-use Rattle.std.proofs.Common.{rules, ◌≡◌, ℕ, List, ◌∙◌, ap, SFits, to_z, to_z-of_z}
+use Rattle.std.proofs.Common.{rules, SFits, to_z, to_z-of_z}
 use mir.Syntax.{w64}
-use Rattle.range_code.specs.Forms.{end_of}
 use Rattle.range_code.specs.Frames.{slot_set}
-use Rattle.range_code.specs.declared.form.End.{End}
-use Rattle.range_code.proofs.Forms.{sum_more, width_more}
+use Rattle.range_code.proofs.Forms.{at_end, sum_more, width_more}
 use Rattle.range_code.proofs.form.sum.Goals as goal
-
-at_end : (r : ℕ) (s t : List ℕ) (x : End) → r ≡ end_of s x → s ≡ t → r ≡ end_of t x
-at_end r s t x e h = e ∙ ap (λ l. end_of l x) h
 
 pub slot_domain-requires : goal.slot_domain-requires
 slot_domain-requires g c = c.requires.seen c.loop-product.product-index _ c.loop-product-test.true

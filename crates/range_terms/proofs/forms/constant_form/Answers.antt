@@ -5,7 +5,8 @@ use Rattle.term_pool.specs.PlacedTerms.{placed_of, parts_by}
 use Rattle.range_terms.specs.TermNodes.{wanted}
 use Rattle.range_terms.specs.Forms.{IsForm}
 use Rattle.range_terms.specs.declared.forms.Position.TheVariants as place_in
-use Rattle.range_terms.proofs.Positions.{two_parts, empty_nowhere, several_nowhere, constant_of_one}
+use Rattle.range_terms.proofs.Positions.{empty_nowhere, several_nowhere, constant_of_one}
+use Rattle.term_pool.proofs.Lemmas.{two_parts}
 use Rattle.range_terms.proofs.forms.constant_form.Goals as goal
 
 pub returns-in-len2 : goal.returns-in-len2

@@ -5,7 +5,8 @@ use Rattle.term_pool.specs.PlacedTerms.{placed_of, parts_by}
 use Rattle.range_terms.specs.TermNodes.{wanted}
 use Rattle.range_terms.specs.Forms.{IsForm}
 use Rattle.range_terms.specs.declared.forms.Position.TheVariants as place_in
-use Rattle.range_terms.proofs.Positions.{one_part, two_parts, empty_nowhere, several_nowhere}
+use Rattle.range_terms.proofs.Positions.{empty_nowhere, several_nowhere}
+use Rattle.term_pool.proofs.Lemmas.{one_part, two_parts}
 use Rattle.range_terms.proofs.forms.term_form.Goals as goal
 
 pub returns-in-len1 : goal.returns-in-len1

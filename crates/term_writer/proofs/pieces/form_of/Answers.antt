@@ -2,7 +2,8 @@ use Rattle.std.proofs.Common.{List, sym, subst}
 use Rattle.std.proofs.Common.{◌∙◌}
 use Rattle.term_pool.specs.declared.TermId.{TermId}
 use Rattle.term_writer.specs.Pieces.{IsForm}
-use Rattle.term_writer.proofs.Forms.{two_parts, call_none, call_one, call_more}
+use Rattle.term_pool.proofs.Lemmas.{two_parts}
+use Rattle.term_writer.proofs.Forms.{call_none, call_one, call_more}
 use Rattle.term_writer.proofs.pieces.form_of.Goals as goal
 
 pub returns-else-eq : goal.returns-else-eq

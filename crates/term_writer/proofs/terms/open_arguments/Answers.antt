@@ -6,7 +6,8 @@ use Rattle.fd_language.specs.Writing.{arguments_text, spelled_each}
 use Rattle.term_pool.specs.declared.TermId.{TermId}
 use Rattle.term_pool.specs.Terms.{terms_by, term_of}
 use Rattle.term_writer.specs.Pieces.{piece_text, piece_weight, weights}
-use Rattle.term_writer.proofs.Forms.{no_parts, one_part, more_parts, tail_parts}
+use Rattle.term_pool.proofs.Lemmas.{one_part}
+use Rattle.term_writer.proofs.Forms.{no_parts, more_parts, tail_parts}
 use Rattle.term_writer.proofs.Steps.{no_arguments, one_argument, more_arguments}
 use Rattle.term_writer.proofs.terms.open_arguments.Goals as goal
 
