@@ -1,4 +1,5 @@
 //! The laws of the grammar of terms.
+
 ghost use Rattle.fd_language.specs.GrammarLaws.{OneReading, OneVerdictOfReading};
 
 /// A list of tokens is at most one list of terms.

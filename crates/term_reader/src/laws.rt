@@ -1,4 +1,5 @@
 //! The laws of the reader.
+
 ghost use Rattle.term_reader.specs.Laws.{EachIsRead};
 
 /// Each text is sentences, or has a first fault.
