@@ -29,7 +29,7 @@ pub use Rattle.machine_relation.proofs.Placing.{Or, other, stored_cell, stored_p
 -- `T in r` on a machine: what is posted, or the fault, depends on the kinds of terms alone.
 pub use Rattle.machine_relation.proofs.PostGoals.{post_same}
 -- Rows of goals `T in r` under other names of their variables.
-pub use Rattle.machine_relation.proofs.PostRenaming.{functions, need_renamed, occurrences_renamed, range_filled}
+pub use Rattle.machine_relation.proofs.PostRenaming.{functions, need_renamed, occurrences_renamed}
 -- One more range on a branch and on the store.
 pub use Rattle.machine_relation.proofs.Posting.{by_shown, holds_agree, pick, pick_named, pick_other, pick_rising, new_or_old, one_left, one_back, slot_there, slot_back}
 -- The steps of goals `T in r` over cells: the machine reads its own terms, links the range's cells, and binds the fresh cells to their integers.
