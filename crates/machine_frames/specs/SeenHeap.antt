@@ -13,6 +13,7 @@ use Rattle.fd_model.specs.Labelling.{values_by}
 use Rattle.fd_model.specs.LinearRows.{Expansion}
 use Rattle.heap_cells.specs.declared.Cell.{Cell}
 use Rattle.heap_cells.specs.Cells.{Cells}
+pub use Rattle.heap_cells.specs.SeenTerms.{read_term}
 use Rattle.heap_cells.specs.Terms.{Naming}
 use Rattle.fd_language.specs.SingleValues.{value_at}
 use Rattle.machine_relation.specs.HeldBranches.{fixed_frame}
@@ -20,10 +21,6 @@ use Rattle.machine_relation.specs.Labelling.{Labelled, labelled}
 use Rattle.machine_relation.specs.AnswerTexts.{cell_set}
 use Rattle.machine_frames.specs.Environments.{env_look}
 use Rattle.machine_frames.specs.Frames.{link_in, frame_of}
-
--- A term of the heap, as the store's sets show it.
-abbrev pub read_term : Cells → Family → Term → Term
-read_term h G t = apply (λ c. value_at (link_in h c) G c) t
 
 -- each variable of the clause as it is read by the store's sets: a variable of the store whose set has one value is that integer
 abbrev pub seen_env : Naming → Cells → List (Option Cell) → Family → Substitution

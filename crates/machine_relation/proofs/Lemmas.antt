@@ -25,7 +25,7 @@ pub use Rattle.machine_relation.proofs.Next.{behind_other}
 -- Linked cells that take integers, as one unification.
 pub use Rattle.machine_relation.proofs.Numbering.{AreConsecutive, bindings, each_found, number_touches, numbered, without, same_var, int_no_var}
 -- A variable takes a term that the heap has already: no cell is made and nothing is posted.
-pub use Rattle.machine_relation.proofs.Placing.{Or, other, stored_cell, stored_place, with_one}
+pub use Rattle.machine_relation.proofs.Placing.{Or, one_else, one_here, other, stored_cell, stored_place, with_one}
 -- `T in r` on a machine: what is posted, or the fault, depends on the kinds of terms alone.
 pub use Rattle.machine_relation.proofs.PostGoals.{post_same}
 -- Rows of goals `T in r` under other names of their variables.
