@@ -20,7 +20,8 @@ use Rattle.unify_core.specs.declared.Touch.{Touch}
 use Rattle.machine_frames.specs.CellRanges.{slot_terms}
 use Rattle.machine_frames.specs.SeenHeap.{read_term}
 use Rattle.branch_state.specs.declared.look.Look.{Look}
-use Rattle.branch_state.specs.CellNaming.{shown_as, shown_slots, slots_open, NamedBy, slot_in, IsTermNaming, TermStep, SlotStep, AreCellsReady}
+use Rattle.heap_cells.specs.SeenTerms.{seen_term}
+use Rattle.branch_state.specs.CellNaming.{shown_slots, slots_open, NamedBy, slot_in, IsTermNaming, TermStep, SlotStep, AreCellsReady}
 use Rattle.branch_state.specs.Naming.{LooksAs, IsKind, IsInteger, offence, first_in, Apart, StandsIn, AllStand, OwnLinks}
 use Rattle.branch_state.proofs.Gathering.{apart_once}
 use Rattle.branch_state.proofs.Looking.{look_kind, number_is}
@@ -45,11 +46,11 @@ slot_shown name h G (y ∷ ys) (c ∷ ds) d a e (suc i) l =
     ap (λ b. cond b (read_term h G (term_of name h c)) (slot_terms name h G ys ds (get_or ys i 0))) other ∙ slot_shown name h G ys ds d a.1 (omega (arith, e)) i (omega (arith, l))
 
 -- and so is each slot of a range
-pub cell_shown : (name : Naming) (h : Cells) (sets : List (List ℕ)) (r : Range) (ds : List Cell) (d : Cell) → length ds ≡ length (slots_of r) → (i : ℕ) → i < length (slots_of r) → shown_slots name h sets r ds (get_or (slots_of r) i 0) ≡ shown_as name h sets (get_or ds i d)
+pub cell_shown : (name : Naming) (h : Cells) (sets : List (List ℕ)) (r : Range) (ds : List Cell) (d : Cell) → length ds ≡ length (slots_of r) → (i : ℕ) → i < length (slots_of r) → shown_slots name h sets r ds (get_or (slots_of r) i 0) ≡ seen_term name h (family_of sets) (get_or ds i d)
 cell_shown name h sets r ds d e i l = slot_shown name h (family_of sets) (slots_of r) ds d (apart_once (variables (range_occurrences r))) e i l
 
 -- the offence of a slot, by what its cell looks as
-pub cell_offence : (name : Naming) (h : Cells) (sets : List (List ℕ)) (r : Range) (ds : List Cell) (d : Cell) → length ds ≡ length (slots_of r) → (i : ℕ) → i < length (slots_of r) → (k : Look) → LooksAs h (shown_as name h sets (get_or ds i d)) k → (need : Option Need) (o : Option QueryFault) → ((t : Term) → IsKind t k → o ≡ offence need t)
+pub cell_offence : (name : Naming) (h : Cells) (sets : List (List ℕ)) (r : Range) (ds : List Cell) (d : Cell) → length ds ≡ length (slots_of r) → (i : ℕ) → i < length (slots_of r) → (k : Look) → LooksAs h (seen_term name h (family_of sets) (get_or ds i d)) k → (need : Option Need) (o : Option QueryFault) → ((t : Term) → IsKind t k → o ≡ offence need t)
     → o ≡ offence need (shown_slots name h sets r ds (get_or (slots_of r) i 0))
 cell_offence name h sets r ds d e i l k looks need o is =
     let see = shown_slots name h sets r ds (get_or (slots_of r) i 0) in

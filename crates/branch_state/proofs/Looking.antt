@@ -17,26 +17,14 @@ use Rattle.heap_cells.specs.Valid.{IsHeap}
 use Rattle.heap_cells.proofs.Lemmas.{unbound_term, term-Int, term-Atom, term-Struct}
 use Rattle.term_pool.specs.declared.AtomId.{AtomId}
 use Rattle.unify_core.specs.Touches.{IsSymbolic}
-use Rattle.fd_language.specs.SingleValues.{value_in, value_at}
+use Rattle.fd_language.specs.SingleValues.{only, value_at}
+use Rattle.domain_ranges.proofs.Lemmas.{one_value, no_value}
 use Rattle.machine_frames.specs.Environments.{cell_at, cell_look}
 use Rattle.machine_frames.specs.Frames.{link_of, link_in}
 use Rattle.machine_frames.specs.SeenHeap.{seen_env}
-use Rattle.heap_terms.specs.Values.{only}
 use Rattle.branch_state.specs.declared.look.Look.{Look}
 use Rattle.branch_state.specs.declared.look.Look.TheVariants as look
 use Rattle.branch_state.specs.Naming.{LooksAs, IsKind, offence, first_in, CanName, IsInteger}
-
--- ---- the only value of a domain
-
-pub one_value : (xs : List ℕ) (w c : ℕ) → only xs ≡ Some w → value_in xs c ≡ Int (pos w)
-one_value [] w c e = absurd (cc)
-one_value (v ∷ []) w c e = let f : v ≡ w = cc in ap (λ n. Int (pos n)) f
-one_value (x ∷ y ∷ ys) w c e = absurd (cc)
-
-pub no_value : (xs : List ℕ) (c : ℕ) → only xs ≡ None → value_in xs c ≡ Var c
-no_value [] c e = refl
-no_value (v ∷ []) c e = absurd (cc)
-no_value (x ∷ y ∷ ys) c e = refl
 
 -- ---- a cell
 
