@@ -4,7 +4,7 @@ use Rattle.std.specs.Prelude.{All}
 use Rattle.std.specs.List.{list_any}
 use Rattle.std.proofs.lemmas.Bool.{true≢false}
 use Rattle.std.proofs.lemmas.List.{reverse-append, map_push, reverse-reverse}
-use Rattle.std.proofs.lemmas.List.Elements.{All-append}
+use Rattle.std.proofs.lemmas.List.Elements.{All-append, filter_agree}
 use Rattle.branch_state.proofs.Preparing.{take_next}
 use Rattle.monotone_check.proofs.Lemmas.{eq_sym}
 use Rattle.fd_language.specs.Family.{has}
@@ -33,7 +33,6 @@ use Rattle.range_code.proofs.Lemmas.{once_more, keys_more, has_once, any_has}
 use Rattle.machine_frames.specs.Naming.{full}
 use Rattle.machine_frames.proofs.Lemmas.{full_term}
 use Rattle.branch_state.specs.Showing.{terms_read, with_set, with_sets, variables_at, AreShowable, AreGathered}
-use Rattle.branch_state.proofs.Lists.{filter_agree}
 
 -- ---- a cell as it is read
 
@@ -132,7 +131,7 @@ finding_last p all found ahead e w = sym (w.rest ∙ ap (λ l. found ++ variable
 
 distinct_once : (xs : List ℕ) → distinct xs ≡ once xs
 distinct_once [] = refl
-distinct_once (x ∷ xs) = ap (λ l. x ∷ l) (ap (filter (λ y. not (x == y))) (distinct_once xs) ∙ filter_agree (λ y. not (x == y)) (λ y. not (y == x)) (once xs) (λ y. ap not (eq_sym x y)))
+distinct_once (x ∷ xs) = ap (λ l. x ∷ l) (ap (filter (λ y. not (x == y))) (distinct_once xs) ∙ filter_agree (λ y. not (x == y)) (λ y. not (y == x)) (λ y. ap not (eq_sym x y)) (once xs))
 
 sets_more : (set : ℕ → Option (List ℕ)) (xs : List ℕ) (x : ℕ) → with_sets set (xs ++ x ∷ []) ≡ with_sets set xs ++ with_set x (set x) []
 sets_more set [] x = refl

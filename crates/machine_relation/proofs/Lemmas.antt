@@ -6,7 +6,7 @@ pub use Rattle.machine_relation.proofs.Cells.{place_above, place_from}
 -- Variables that are forgotten: other equations that say the same of those that stay.
 pub use Rattle.machine_relation.proofs.Forgetting.{same_model, stored_forget, stored_more}
 -- The texts, labellings and rows of constraints by a frame whose store is at rest are those by the branch's view.
-pub use Rattle.machine_relation.proofs.FrameTexts.{Known, cell, cell_from, found_same, label_done, label_faults, label_there, line_same, row_cell, row_same, written_same}
+pub use Rattle.machine_relation.proofs.FrameTexts.{Known, cell, cell_from, found_same, label_done, label_faults, label_there, line_same, of_arguments, row_cell, row_same, written_same}
 -- One more equation, and one more variable, on a heap.
 pub use Rattle.fd_language.proofs.Lemmas.{after_are, after_is}
 pub use Rattle.machine_relation.proofs.Growing.{agree, agree_all, agree_each, below_both, more_all, more_each, more_of, still_of, unify_applied}
