@@ -1,9 +1,9 @@
 -- Domains as lists of intervals.
-use Rattle.std.proofs.Common.{◌≡◌, ℕ, ◌+◌, ◌<◌, ◌≤◌, ℤ, pos, List, [], ◌∷◌, ◌++◌, map, refl, ap, sym, ◌∙◌, arith}
+use Rattle.std.proofs.Common.{◌≡◌, ℕ, ◌<◌, ℤ, pos, List, [], ◌∷◌, ◌++◌, map, refl, ap, sym, ◌∙◌, arith}
 use Rattle.fd_language.specs.declared.TheConstants.{INFINITY}
 use Rattle.domain_ranges.specs.Spans.{IsSpans, members}
 use Rattle.machine_events.proofs.Lemmas.{span_intervals}
-use Rattle.fd_language.specs.Term.{Int, Atom, Comp, term}
+use Rattle.fd_language.specs.Term.{Int, Atom, Comp}
 use Rattle.fd_language.proofs.Lemmas.{two}
 use Rattle.fd_model.specs.Builtins.{those, two_terms, interval_terms}
 use Rattle.fd_model.specs.Lines.{Interval, intervals}

@@ -1,5 +1,5 @@
 -- What built-in goals come to.
-use Rattle.std.proofs.Common.{◌≡◌, ℕ, ◌<◌, Bool, true, false, ◌&&◌, ◌||◌, eq-eqb, eqb-true, ℤ, pos, List, [], ◌∷◌, length, Option, Some, None, Ok, Err, inl, inr, refl, ap, sym, ◌∙◌, subst}
+use Rattle.std.proofs.Common.{◌≡◌, ℕ, Bool, true, false, ◌&&◌, ◌||◌, eq-eqb, eqb-true, ℤ, pos, List, [], ◌∷◌, length, Option, Some, None, Ok, Err, inl, inr, refl, ap, sym, ◌∙◌, subst}
 use Rattle.std.specs.Prelude.{MatchOption}
 use Rattle.std.specs.Option.{unwrap_or}
 use Rattle.std.specs.Str.{bytes_eq}
@@ -19,17 +19,16 @@ use Rattle.fd_model.specs.declared.kinds.QueryFault.{QueryFault}
 use Rattle.fd_model.specs.declared.kinds.QueryFault.TheVariants.{Instantiation, BadType}
 use Rattle.heap_cells.specs.declared.Cell.{Cell}
 use Rattle.heap_cells.specs.declared.Cell.TheVariants as cell
-use Rattle.heap_cells.specs.Cells.{Cells, Heaps, Slot, free, linked, bound, slot_at, compound_at}
+use Rattle.heap_cells.specs.Cells.{Cells, Heaps, free, linked, slot_at, compound_at}
 use Rattle.heap_cells.specs.Terms.{Naming, IsOneToOne, Same, term_of}
 use Rattle.heap_cells.specs.Valid.{IsHeap}
-use Rattle.heap_cells.proofs.Lemmas.{term-Int, same_apply}
+use Rattle.heap_cells.proofs.Lemmas.{shown_atom, shown_compound, shown_free, shown_int, shown_linked, term-Int}
 use Rattle.range_code.specs.Frames.{family_of}
 use Rattle.builtin_calls.specs.Outcomes.{IsFault}
 use Rattle.builtin_calls.specs.declared.evaluation.EvalFault.{EvalFault}
 use Rattle.builtin_calls.specs.declared.evaluation.EvalFault.TheVariants as eval
 use Rattle.builtin_calls.specs.Identical.{TellsIdentical}
-use Rattle.builtin_calls.specs.SeenTerms as calls
-use Rattle.fd_language.specs.SingleValues.{value_in, value_at}
+use Rattle.fd_language.specs.SingleValues.{value_in}
 use Rattle.machine_relation.specs.HeldBranches.{link_at}
 use Rattle.machine_relation.specs.HeldBranches as held
 use Rattle.machine_relation.specs.AnswerTexts.{cell_set}
@@ -38,51 +37,25 @@ use Rattle.branch_state.specs.States.{State, IsCell, IsSound}
 use Rattle.branch_goals.specs.declared.finding.Found.TheVariants.{Fault, Decided, Equal}
 use Rattle.branch_goals.specs.declared.finding.Numbers.{Numbers as Held}
 use Rattle.branch_goals.specs.declared.finding.Numbers.TheVariants.{One}
-use Rattle.branch_goals.specs.Lists.{shown_at}
-use Rattle.branch_goals.specs.Findings.{Finds, IsValueAt, AreValuesAt, AreNumbersAt, IsComparison, IsQuestion, fault_is, holds_by, seen_at, the_numbers, told_by, numbers_in_set, passes_by}
-use Rattle.branch_goals.proofs.Listing.{shown_free, shown_linked, shown_int, shown_atom, shown_compound}
+use Rattle.heap_cells.specs.SeenTerms.{HasLinksBelow, seen_term}
+use Rattle.branch_goals.specs.Findings.{Finds, IsValueAt, AreValuesAt, AreNumbersAt, IsComparison, IsQuestion, fault_is, holds_by, seen_at, the_numbers, told_by, numbers_in_set}
 use Rattle.term_pool.specs.declared.AtomId.{AtomId}
 
--- ---- a cell, by the two ways to read it
-
-same_set : (xs : List ℕ) (c : ℕ) → calls.value_in xs c ≡ value_in xs c
-same_set [] c = refl
-same_set (w ∷ []) c = refl
-same_set (w ∷ v ∷ ws) c = refl
-
-same_slot : (s : Slot) (G : Family) (c : ℕ) → calls.value_at (calls.link_of s) G c ≡ value_at (link_of s) G c
-same_slot free G c = refl
-same_slot (linked k) G c = same_set (G k) c
-same_slot (bound d) G c = refl
-
-pub same_term : (name : Naming) (h : Cells) (sets : List (List ℕ)) (c : Cell) → calls.seen_term name h sets c ≡ shown_at name h sets c
-same_term name h sets c =
-    same_apply (λ d. calls.value_at (calls.link_of (slot_at h d)) (calls.family_of sets) d) (λ d. value_at (link_in h d) (family_of sets) d) (λ d. same_slot (slot_at h d) (family_of sets) d) (term_of name h c)
-
-pub links_below : (s : State) → IsSound s → (hs : Heaps) (ls : Levels) → hs ≡ s.heaps → ls ≡ s.levels → (i k : ℕ) → slot_at hs.now i ≡ linked k → k < length ls.current.sets
-links_below s sound hs ls e f i k at =
-    subst (λ (l : Levels). k < length l.current.sets) (sym f) (sound.now.linked i k (ap link_of (subst (λ (h : Heaps). slot_at h.now i ≡ linked k) e at)))
+pub links_below : (s : State) → IsSound s → (hs : Heaps) (ls : Levels) → hs ≡ s.heaps → ls ≡ s.levels → HasLinksBelow (length ls.current.sets) hs.now
+links_below s sound hs ls e f = subst (λ (l : Levels). HasLinksBelow (length l.current.sets) hs.now) (sym f) (subst (λ (h : Heaps). HasLinksBelow (length s.levels.current.sets) h.now) (sym e) sound.now.linked)
 
 -- ---- values
 
-pub value_by : (name : Naming) (s : State) (hs : Heaps) (ls : Levels) → hs ≡ s.heaps → ls ≡ s.levels → (c : Cell) (P : Value → Type 0) → P (value_of (calls.seen_term name hs.now ls.current.sets c)) → P (value_of (calls.seen_term name s.heaps.now s.levels.current.sets c))
+pub value_by : (name : Naming) (s : State) (hs : Heaps) (ls : Levels) → hs ≡ s.heaps → ls ≡ s.levels → (c : Cell) (P : Value → Type 0) → P (value_of (seen_term name hs.now (family_of ls.current.sets) c)) → P (value_of (seen_at name s c))
 value_by name s hs ls e f c P p =
-    subst (λ (l : Levels). P (value_of (calls.seen_term name s.heaps.now l.current.sets c))) f (subst (λ (h : Heaps). P (value_of (calls.seen_term name h.now ls.current.sets c))) e p)
+    subst (λ (l : Levels). P (value_of (seen_term name s.heaps.now (family_of l.current.sets) c))) f (subst (λ (h : Heaps). P (value_of (seen_term name h.now (family_of ls.current.sets) c))) e p)
 
-pub value_told : (name : Naming) (s : State) (c : Cell) (z : ℤ) → value_of (calls.seen_term name s.heaps.now s.levels.current.sets c) ≡ Ok z → IsValueAt name s c (Ok z)
-value_told name s c z e = ap (λ t. checked_value (value_of t)) (sym (same_term name s.heaps.now s.levels.current.sets c)) ∙ ap checked_value e
-
-fault_value : (e : EvalFault) (v : Value) (f : QueryFault) → IsFault e v → fault_is e f → checked_value v ≡ Err f
+pub fault_value : (e : EvalFault) (v : Value) (f : QueryFault) → IsFault e v → fault_is e f → checked_value v ≡ Err f
 fault_value eval.Unbound v f i g = ap checked_value i ∙ ap Err (sym g)
 fault_value eval.NotANumber v f i g = ap checked_value i ∙ ap Err (sym g)
 fault_value eval.Overflow v f i g = ap checked_value i ∙ ap Err (sym g)
 fault_value eval.ZeroDivisor v f i g = ap checked_value i ∙ ap Err (sym g)
 fault_value eval.NoMemory v f i g = absurd g
-
-pub fault_told : (name : Naming) (s : State) (c : Cell) (e : EvalFault) (f : QueryFault) → IsFault e (value_of (calls.seen_term name s.heaps.now s.levels.current.sets c)) → fault_is e f → IsValueAt name s c (Err f)
-fault_told name s c e f i g =
-    ap (λ t. checked_value (value_of t)) (sym (same_term name s.heaps.now s.levels.current.sets c))
-    ∙ fault_value e (value_of (calls.seen_term name s.heaps.now s.levels.current.sets c)) f i g
 
 found_compared : (k : BuiltinKind) → IsComparison k → (sets : ℕ → Option (List ℕ)) (a b u v : Term) → found k sets a b u v ≡ compared (holds_by k) (evaluated u) (evaluated v)
 found_compared kind.True i sets a b u v = absurd i
@@ -137,7 +110,7 @@ module _ (name : Naming) (h : Cells) (valid : IsHeap h) (all : List (List ℕ)) 
   given d = cell_set G (link_at (link_in h d) G)
 
   pub numbers_free : (i : ℕ) → slot_at h i ≡ free → Same h c (cell.Ref i) → AreNumbersAt name h all c (Err Instantiation)
-  numbers_free i e s = ap (numbers_of given) (shown_free name h valid all c i e s) ∙ ap (λ o. set_numbers (cell_set G (link_at o G))) (ap link_of e)
+  numbers_free i e s = ap (numbers_of given) (shown_free name h valid G c i e s) ∙ ap (λ o. set_numbers (cell_set G (link_at o G))) (ap link_of e)
 
   in_set : (xs : List ℕ) (k i : ℕ) → G k ≡ xs → link_in h i ≡ Some k → numbers_of given (value_in xs i) ≡ Ok (numbers_in_set xs)
   in_set [] k i g e = ap (λ o. set_numbers (cell_set G (link_at o G))) e ∙ ap (λ ys. set_numbers (cell_set G (held.open_link ys k))) g ∙ ap (λ ys. Ok (those ys)) g
@@ -145,16 +118,16 @@ module _ (name : Naming) (h : Cells) (valid : IsHeap h) (all : List (List ℕ)) 
   in_set (x ∷ y ∷ ys) k i g e = ap (λ o. set_numbers (cell_set G (link_at o G))) e ∙ ap (λ zs. set_numbers (cell_set G (held.open_link zs k))) g ∙ ap (λ zs. Ok (those zs)) g
 
   pub numbers_linked : (i k : ℕ) (n : Held) → slot_at h i ≡ linked k → Same h c (cell.Ref i) → the_numbers n ≡ numbers_in_set (G k) → AreNumbersAt name h all c (Ok n)
-  numbers_linked i k n e s g = ap (numbers_of given) (shown_linked name h valid all c i k e s) ∙ in_set (G k) k i refl (ap link_of e) ∙ ap Ok (sym g)
+  numbers_linked i k n e s g = ap (numbers_of given) (shown_linked name h valid G c i k e s) ∙ in_set (G k) k i refl (ap link_of e) ∙ ap Ok (sym g)
 
   pub numbers_int : (z : ℤ) → Same h c (cell.Int z) → AreNumbersAt name h all c (Ok (One z))
-  numbers_int z s = ap (numbers_of given) (shown_int name h valid all c z s)
+  numbers_int z s = ap (numbers_of given) (shown_int name h valid G c z s)
 
   pub numbers_atom : (a : AtomId) → Same h c (cell.Atom a) → AreNumbersAt name h all c (Err BadType)
-  numbers_atom a s = ap (numbers_of given) (shown_atom name h valid all c a s)
+  numbers_atom a s = ap (numbers_of given) (shown_atom name h valid G c a s)
 
   pub numbers_compound : (f : AtomId) (args : List Cell) (j : ℕ) → compound_at h j ≡ record { name = f; args = args } → Same h c (cell.Struct j) → AreNumbersAt name h all c (Err BadType)
-  numbers_compound f args j e s = ap (numbers_of given) (shown_compound name h valid all c f args j e s)
+  numbers_compound f args j e s = ap (numbers_of given) (shown_compound name h valid G c f args j e s)
 
 asked : (k : BuiltinKind) → IsQuestion k → (sets : ℕ → Option (List ℕ)) (a b u v : Term) → found k sets a b u v ≡ equals_number (λ ns. Int (told_by k ns)) b (numbers_of sets u)
 asked kind.FdMin i sets a b u v = refl
@@ -231,18 +204,15 @@ mutual
   are_one no_terms (term u us) e = absurd (cc)
   are_one (term t ts) no_terms e = absurd (cc)
 
-pub told_identical : (name : Naming) → IsOneToOne name → (s : State) (a b : Cell) (r : Bool) → TellsIdentical s.heaps.now s.levels.current.sets a b r → r ≡ is_same (seen_at name s a) (seen_at name s b)
+pub told_identical : (name : Naming) → IsOneToOne name → (s : State) (a b : Cell) (r : Bool) → TellsIdentical s.heaps.now (family_of s.levels.current.sets) a b r → r ≡ is_same (seen_at name s a) (seen_at name s b)
 told_identical name n s a b true t =
-    sym (ap (is_same (seen_at name s a)) (sym (same_term name s.heaps.now s.levels.current.sets b) ∙ sym (t name) ∙ same_term name s.heaps.now s.levels.current.sets a) ∙ same_self (seen_at name s a))
+    sym (ap (is_same (seen_at name s a)) (sym (t name)) ∙ same_self (seen_at name s a))
 told_identical name n s a b false t = elim (cases_Bool (is_same (seen_at name s a) (seen_at name s b))) [
-  | inl y ↦ absurd (t name n (same_term name s.heaps.now s.levels.current.sets a ∙ is_one (seen_at name s a) (seen_at name s b) y ∙ sym (same_term name s.heaps.now s.levels.current.sets b)))
+  | inl y ↦ absurd (t name n (is_one (seen_at name s a) (seen_at name s b) y))
   | inr y ↦ sym y
 ]
 
 -- ---- tests of types
-
-pub is_passed : (k : BuiltinKind) (name : Naming) (s : State) (c : Cell) (p : Term → Bool) (r : Bool) → r ≡ p (calls.seen_term name s.heaps.now s.levels.current.sets c) → ((t : Term) → p t ≡ passes_by k t) → r ≡ passes_by k (seen_at name s c)
-is_passed k name s c p r e same = e ∙ ap p (same_term name s.heaps.now s.levels.current.sets c) ∙ same (seen_at name s c)
 
 pub atomic_is : (t : Term) → (is_integer t || is_atom t) ≡ is_atomic t
 atomic_is (Var x) = refl

@@ -33,7 +33,8 @@ use Rattle.label_search.proofs.Lemmas.{length-universe}
 use Rattle.branch_state.specs.States.{State}
 use Rattle.branch_goals.specs.declared.labelling.Labelling.TheVariants.{Done, Takes, Fault}
 use Rattle.branch_goals.specs.declared.lists.Members.{Members}
-use Rattle.branch_goals.specs.Lists.{IsListNaming, IsSeenMember, IsMemberAt, AreMembersAt, IsListRead, shown_at}
+use Rattle.heap_cells.specs.SeenTerms.{seen_term}
+use Rattle.branch_goals.specs.Lists.{IsListNaming, IsSeenMember, IsMemberAt, AreMembersAt, IsListRead}
 use Rattle.branch_goals.specs.Labels.{Labels, IsVariableOf, labelled_in, values_of}
 
 -- the variable of a cell that comes to one
@@ -130,7 +131,7 @@ module _ (name : Naming) (s : State) (o : Order) (c : Cell) where
       let v = values_free e.0 e.2 in
       subst (λ y. values y ≡ values_of s y) f (v.0 ∙ sym v.1)
 
-  pub label_fault : (f : QueryFault) → read_list (shown_at name h sets c) ≡ Err f → Labels name s o c (Fault f)
+  pub label_fault : (f : QueryFault) → read_list (seen_term name h (family_of sets) c) ≡ Err f → Labels name s o c (Fault f)
   label_fault f e = ap (by_listing o values) e
 
   module _ (r : Members) (l : IsListRead name h sets c (Ok r)) where
@@ -162,7 +163,7 @@ module _ (name : Naming) (s : State) (o : Order) (c : Cell) where
     label_takes p d i k v =
         let a = a_place (pick o values ss) p (k values ss are_seen) in
         let m = at_place r.cells.items r.members.items ss l.2 p d (seen.Open a.0) a.2 in
-        let t = unsettled h G (term_of name h (get_or r.cells.items p d)) a.0 (variable_member (shown_at name h sets (get_or r.cells.items p d)) a.0 m.3.0) in
+        let t = unsettled h G (term_of name h (get_or r.cells.items p d)) a.0 (variable_member (seen_term name h (family_of sets) (get_or r.cells.items p d)) a.0 m.3.0) in
         let found = v a.0 t in
         let is : labelled_in name s o c ≡ labels a.0 (values_of s a.0) =
         ap (by_listing o values) l.1 ∙ ap (by_picked values) a.1 ∙ ap (labels a.0) (same_values m.0 a.0 m.3.1) in

@@ -6,7 +6,7 @@ use Rattle.std.proofs.lemmas.Option.{unwrap_or-slice_get}
 use Rattle.std.proofs.lemmas.Slice.Eq.{bytes_eq-Decides}
 use Rattle.fd_language.specs.Family.{Family}
 use Rattle.fd_language.specs.Range.{is_none_left}
-use Rattle.fd_language.specs.Term.{Term, Var, Int, Atom, Comp, no_terms, term, apply_all}
+use Rattle.fd_language.specs.Term.{Term, Atom, Comp, no_terms, term}
 use Rattle.fd_model.specs.declared.kinds.QueryFault.{QueryFault}
 use Rattle.fd_model.specs.declared.kinds.QueryFault.TheVariants.{Instantiation, BadType}
 use Rattle.fd_model.specs.Labelling.{read_list}
@@ -18,26 +18,27 @@ use Rattle.term_pool.specs.declared.AtomId.{AtomId}
 use Rattle.term_pool.specs.declared.TheConstants.{NIL, CONS}
 use Rattle.heap_cells.specs.declared.Cell.{Cell}
 use Rattle.heap_cells.specs.declared.Cell.TheVariants as cell
-use Rattle.heap_cells.specs.Cells.{Cells, Compound, free, linked, is_bound, slot_at, compound_at, IsOf}
+use Rattle.heap_cells.specs.Cells.{Cells, Compound, free, linked, slot_at, compound_at, IsOf}
 use Rattle.heap_cells.specs.SeenCells.{IsSeen}
 use Rattle.heap_cells.specs.declared.Seen.{Seen}
 use Rattle.heap_cells.specs.declared.Seen.TheVariants as looks
-use Rattle.heap_cells.specs.Terms.{Naming, Same, term_of, terms_by}
+use Rattle.heap_cells.specs.Terms.{Naming, Same, terms_by}
 use Rattle.heap_cells.specs.Valid.{IsHeap}
-use Rattle.heap_cells.proofs.Lemmas.{unbound_term, term-Int, term-Atom, term-Struct, none_at_all, both_of}
-use Rattle.heap_terms.specs.Values.{only}
+use Rattle.domain_ranges.proofs.Lemmas.{one_value}
+use Rattle.heap_cells.proofs.Lemmas.{none_at_all, both_of, shown_atom, shown_compound, shown_free, shown_int, shown_linked}
+use Rattle.fd_language.specs.SingleValues.{only}
 use Rattle.range_code.specs.Frames.{family_of}
-use Rattle.fd_language.specs.SingleValues.{value_in, value_at}
-use Rattle.machine_frames.specs.Frames.{link_of, link_in}
+use Rattle.fd_language.specs.SingleValues.{value_in}
+use Rattle.machine_frames.specs.Frames.{link_of}
 use Rattle.machine_frames.specs.Naming.{full}
 use Rattle.machine_frames.proofs.Lemmas.{full_one}
-use Rattle.machine_frames.specs.SeenHeap.{read_term}
 use Rattle.label_search.specs.declared.Member.{Member}
 use Rattle.label_search.specs.declared.Member.TheVariants as member
 use Rattle.label_search.specs.Picks.{IsThere, AreThere}
 use Rattle.branch_goals.specs.declared.lists.ListNode.{ListNode}
 use Rattle.branch_goals.specs.declared.lists.ListNode.TheVariants.{Pair, Empty, Broken}
-use Rattle.branch_goals.specs.Lists.{IsListNaming, HasNoEmpty, IsNode, IsVariableNode, IsAtomNode, IsCompoundNode, IsSeenMember, IsMemberAt, IsMemberOf, AreMembersAt, shown_at}
+use Rattle.heap_cells.specs.SeenTerms.{seen_term}
+use Rattle.branch_goals.specs.Lists.{IsListNaming, HasNoEmpty, IsNode, IsVariableNode, IsAtomNode, IsCompoundNode, IsSeenMember, IsMemberAt, IsMemberOf, AreMembersAt}
 use Rattle.std.proofs.lemmas.List.{append-nil, append_assoc}
 
 -- ---- some names
@@ -103,66 +104,37 @@ module _ (name : Naming) (h : Cells) (valid : IsHeap h) (sets : List (List ℕ))
   abbrev G : Family
   G = family_of sets
 
-  pub shown_variable : (i : ℕ) → is_bound (slot_at h i) ≡ false → Same h c (cell.Ref i) → shown_at name h sets c ≡ value_at (link_in h i) G i
-  shown_variable i e s = ap (read_term h G) (s name ∙ unbound_term name h valid i e)
-
-  pub shown_free : (i : ℕ) → slot_at h i ≡ free → Same h c (cell.Ref i) → shown_at name h sets c ≡ Var i
-  shown_free i e s = shown_variable i (ap is_bound e) s ∙ ap (λ o. value_at o G i) (ap link_of e)
-
-  pub shown_linked : (i k : ℕ) → slot_at h i ≡ linked k → Same h c (cell.Ref i) → shown_at name h sets c ≡ value_in (G k) i
-  shown_linked i k e s = shown_variable i (ap is_bound e) s ∙ ap (λ o. value_at o G i) (ap link_of e)
-
-  pub shown_int : (z : ℤ) → Same h c (cell.Int z) → shown_at name h sets c ≡ Int z
-  shown_int z s = ap (read_term h G) (s name ∙ term-Int name h valid z)
-
-  pub shown_atom : (a : AtomId) → Same h c (cell.Atom a) → shown_at name h sets c ≡ Atom (name a)
-  shown_atom a s = ap (read_term h G) (s name ∙ term-Atom name h valid a)
-
-  each_read : (cs : List Cell) → apply_all (λ d. value_at (link_in h d) G d) (terms_by (term_of name h) cs) ≡ terms_by (shown_at name h sets) cs
-  each_read [] = refl
-  each_read (d ∷ ds) = ap (term (shown_at name h sets d)) (each_read ds)
-
-  pub shown_compound : (f : AtomId) (args : List Cell) (j : ℕ) → compound_at h j ≡ record { name = f; args = args } → Same h c (cell.Struct j) → shown_at name h sets c ≡ Comp (name f) (terms_by (shown_at name h sets) args)
-  shown_compound f args j e s =
-      ap (read_term h G) (s name ∙ term-Struct name h valid j ∙ ap (λ (k : Compound). Comp (name k.name) (terms_by (term_of name h) k.args)) e)
-      ∙ ap (Comp (name f)) (each_read args)
-
   -- the nodes by what is seen
   pub node_variable : (i k : ℕ) (n : ListNode) → slot_at h i ≡ linked k → Same h c (cell.Ref i) → IsVariableNode (G k) n → IsNode name h sets c n
   node_variable i k (Pair a b) e s v = absurd v
   node_variable i k Empty e s v = absurd v
-  node_variable i k (Broken f) e s v = ap read_list (shown_linked i k e s) ∙ v i
+  node_variable i k (Broken f) e s v = ap read_list (shown_linked name h valid G c i k e s) ∙ v i
 
   pub node_free : (i : ℕ) → slot_at h i ≡ free → Same h c (cell.Ref i) → IsNode name h sets c (Broken Instantiation)
-  node_free i e s = ap read_list (shown_free i e s)
+  node_free i e s = ap read_list (shown_free name h valid G c i e s)
 
   pub node_int : (z : ℤ) → Same h c (cell.Int z) → IsNode name h sets c (Broken BadType)
-  node_int z s = ap read_list (shown_int z s)
+  node_int z s = ap read_list (shown_int name h valid G c z s)
 
   pub node_atom : IsListNaming name → (a : AtomId) (n : ListNode) → Same h c (cell.Atom a) → IsAtomNode a n → IsNode name h sets c n
   node_atom names a (Pair x y) s v = absurd v
-  node_atom names a Empty s v = shown_atom a s ∙ ap (λ b. Atom (name b)) v
-  node_atom names a (Broken f) s v = ap read_list (shown_atom a s) ∙ v name names
+  node_atom names a Empty s v = shown_atom name h valid G c a s ∙ ap (λ b. Atom (name b)) v
+  node_atom names a (Broken f) s v = ap read_list (shown_atom name h valid G c a s) ∙ v name names
 
   pub node_compound : IsListNaming name → (f : AtomId) (args : List Cell) (j : ℕ) (n : ListNode) → compound_at h j ≡ record { name = f; args = args } → Same h c (cell.Struct j) → IsCompoundNode f args n → IsNode name h sets c n
   node_compound names f args j (Pair a b) e s v =
       let own : All (IsOf h) args = subst (λ (k : Compound). All (IsOf h) k.args) e (valid.parts j) in
       let two : All (IsOf h) (a ∷ b ∷ []) = subst (All (IsOf h)) v.1 own in
-      (two 0 a (omega arith), two 1 a (omega arith), shown_compound f args j e s ∙ ap (λ g. Comp (name g) (terms_by (shown_at name h sets) args)) v.0 ∙ ap (λ cs. Comp (name CONS) (terms_by (shown_at name h sets) cs)) v.1)
+      (two 0 a (omega arith), two 1 a (omega arith), shown_compound name h valid G c f args j e s ∙ ap (λ g. Comp (name g) (terms_by (seen_term name h G) args)) v.0 ∙ ap (λ cs. Comp (name CONS) (terms_by (seen_term name h G) cs)) v.1)
   node_compound names f args j Empty e s v = absurd v
-  node_compound names f args j (Broken g) e s v = ap read_list (shown_compound f args j e s) ∙ v name names (shown_at name h sets)
+  node_compound names f args j (Broken g) e s v = ap read_list (shown_compound name h valid G c f args j e s) ∙ v name names (seen_term name h G)
 
   -- the members by what is seen
   pub member_free : (i : ℕ) → slot_at h i ≡ free → Same h c (cell.Ref i) → IsMemberOf name h sets c (Some member.Free)
-  member_free i e s = (seen.Open i, (ap as_member (shown_free i e s), (i, refl, ap link_of e)))
+  member_free i e s = (seen.Open i, (ap as_member (shown_free name h valid G c i e s), (i, refl, ap link_of e)))
 
   pub member_int : (z : ℤ) → Same h c (cell.Int z) → IsMemberOf name h sets c (Some (member.Fixed z))
-  member_int z s = (seen.Known z, (ap as_member (shown_int z s), refl))
-
-  only_member : (xs : List ℕ) (w i : ℕ) → only xs ≡ Some w → as_member (value_in xs i) ≡ Ok (seen.Known (pos w))
-  only_member [] w i e = absurd (cc)
-  only_member (v ∷ []) w i e = let f : v ≡ w = cc in ap (λ n. Ok (seen.Known (pos n))) f
-  only_member (x ∷ y ∷ ys) w i e = absurd (cc)
+  member_int z s = (seen.Known z, (ap as_member (shown_int name h valid G c z s), refl))
 
   open_member : (xs : List ℕ) (i : ℕ) → only xs ≡ None → is_none_left xs ≡ false → (as_member (value_in xs i) ≡ Ok (seen.Open i)) × (1 < length xs)
   open_member [] i e s = absurd (cc)
@@ -170,18 +142,18 @@ module _ (name : Naming) (h : Cells) (valid : IsHeap h) (sets : List (List ℕ))
   open_member (x ∷ y ∷ ys) i e s = (refl, omega arith)
 
   pub member_fixed : (i k w : ℕ) → slot_at h i ≡ linked k → Same h c (cell.Ref i) → only (G k) ≡ Some w → IsMemberOf name h sets c (Some (member.Fixed (pos w)))
-  member_fixed i k w e s o = (seen.Known (pos w), (ap as_member (shown_linked i k e s) ∙ only_member (G k) w i o, refl))
+  member_fixed i k w e s o = (seen.Known (pos w), (ap as_member (shown_linked name h valid G c i k e s ∙ one_value (G k) w i o), refl))
 
   pub member_variable : (i k : ℕ) → slot_at h i ≡ linked k → Same h c (cell.Ref i) → k < length sets → HasNoEmpty sets → only (G k) ≡ None → IsMemberOf name h sets c (Some (member.Var k))
   member_variable i k e s low some o =
       let both = open_member (G k) i o (some k) in
-      (seen.Open i, (ap as_member (shown_linked i k e s) ∙ both.0, (i, refl, ap link_of e, low, both.1)))
+      (seen.Open i, (ap as_member (shown_linked name h valid G c i k e s) ∙ both.0, (i, refl, ap link_of e, low, both.1)))
 
   pub member_atom : (a : AtomId) → Same h c (cell.Atom a) → IsMemberOf name h sets c None
-  member_atom a s = ap as_member (shown_atom a s)
+  member_atom a s = ap as_member (shown_atom name h valid G c a s)
 
   pub member_compound : (f : AtomId) (args : List Cell) (j : ℕ) → compound_at h j ≡ record { name = f; args = args } → Same h c (cell.Struct j) → IsMemberOf name h sets c None
-  member_compound f args j e s = ap as_member (shown_compound f args j e s)
+  member_compound f args j e s = ap as_member (shown_compound name h valid G c f args j e s)
 
   pub member_default : (v : Seen) → IsSeen h c v → ((i : ℕ) → v ≡ looks.Open i → ⊥) → ((i k : ℕ) → v ≡ looks.Constrained i k → ⊥) → ((z : ℤ) → v ≡ looks.Int z → ⊥) → IsMemberOf name h sets c None
   member_default (looks.Open i) s a b z = absurd (a i refl)
@@ -210,10 +182,10 @@ pub record IsWalked (name : Naming) (h : Cells) (sets : List (List ℕ)) (list :
   pub own : IsOf h at
   pub front : List seen.Member
   pub are : AreMembersAt name h sets cells members front
-  pub rest : read_list (shown_at name h sets list) ≡ joined front (read_list (shown_at name h sets at))
+  pub rest : read_list (seen_term name h (family_of sets) list) ≡ joined front (read_list (seen_term name h (family_of sets) at))
 
 pub walk_start : (name : Naming) (h : Cells) (sets : List (List ℕ)) (list : Cell) → IsOf h list → IsWalked name h sets list [] [] list
-walk_start name h sets list own = record { own = own; front = []; are = tt; rest = no_front (read_list (shown_at name h sets list)) }
+walk_start name h sets list own = record { own = own; front = []; are = tt; rest = no_front (read_list (seen_term name h (family_of sets) list)) }
   where
     no_front : (r : Result (List seen.Member) QueryFault) → r ≡ joined [] r
     no_front (Err f) = refl
@@ -236,9 +208,9 @@ walk_more name h sets list cells members at a b m names w n i = record {
   rest =
       w.rest
       ∙ ap (λ t. joined w.front (read_list t)) n.2
-      ∙ ap (joined w.front) (read_pair name names (shown_at name h sets a) (shown_at name h sets b))
-      ∙ ap (λ r. joined w.front (of_both prepend r (read_list (shown_at name h sets b)))) i.1.0
-      ∙ joined_more w.front i.0 (read_list (shown_at name h sets b));
+      ∙ ap (joined w.front) (read_pair name names (seen_term name h (family_of sets) a) (seen_term name h (family_of sets) b))
+      ∙ ap (λ r. joined w.front (of_both prepend r (read_list (seen_term name h (family_of sets) b)))) i.1.0
+      ∙ joined_more w.front i.0 (read_list (seen_term name h (family_of sets) b));
 }
 
 -- the same with what two pushes give
@@ -248,23 +220,23 @@ walk_pushed name h sets list cells cells' members members' at a b m e f names w 
     subst (λ xs. IsWalked name h sets list xs members' b) (sym e) (subst (λ ys. IsWalked name h sets list (cells ++ a ∷ []) ys b) (sym f) (walk_more name h sets list cells members at a b m names w n i))
 
 -- what is left is smaller
-pub walk_falls : (h : Cells) (sets : List (List ℕ)) (at a b : Cell) → IsNode list_naming h sets at (Pair a b) → size (shown_at list_naming h sets b) < size (shown_at list_naming h sets at)
+pub walk_falls : (h : Cells) (sets : List (List ℕ)) (at a b : Cell) → IsNode list_naming h sets at (Pair a b) → size (seen_term list_naming h (family_of sets) b) < size (seen_term list_naming h (family_of sets) at)
 walk_falls h sets at a b n = let e = ap size n.2 in omega (arith, e)
 
-pub walk_broken : (name : Naming) (h : Cells) (sets : List (List ℕ)) (list : Cell) (cells : List Cell) (members : List Member) (at : Cell) (f : QueryFault) → IsWalked name h sets list cells members at → IsNode name h sets at (Broken f) → read_list (shown_at name h sets list) ≡ Err f
+pub walk_broken : (name : Naming) (h : Cells) (sets : List (List ℕ)) (list : Cell) (cells : List Cell) (members : List Member) (at : Cell) (f : QueryFault) → IsWalked name h sets list cells members at → IsNode name h sets at (Broken f) → read_list (seen_term name h (family_of sets) list) ≡ Err f
 walk_broken name h sets list cells members at f w n = w.rest ∙ ap (joined w.front) n
 
 bad_first : (r : Result (List seen.Member) QueryFault) → of_both prepend (Err BadType) r ≡ Err BadType
 bad_first (Err f) = refl
 bad_first (Ok ms) = refl
 
-pub walk_bad : (name : Naming) (h : Cells) (sets : List (List ℕ)) (list : Cell) (cells : List Cell) (members : List Member) (at a b : Cell) → IsListNaming name → IsWalked name h sets list cells members at → IsNode name h sets at (Pair a b) → IsMemberOf name h sets a None → read_list (shown_at name h sets list) ≡ Err BadType
+pub walk_bad : (name : Naming) (h : Cells) (sets : List (List ℕ)) (list : Cell) (cells : List Cell) (members : List Member) (at a b : Cell) → IsListNaming name → IsWalked name h sets list cells members at → IsNode name h sets at (Pair a b) → IsMemberOf name h sets a None → read_list (seen_term name h (family_of sets) list) ≡ Err BadType
 walk_bad name h sets list cells members at a b names w n i =
     w.rest
     ∙ ap (λ t. joined w.front (read_list t)) n.2
-    ∙ ap (joined w.front) (read_pair name names (shown_at name h sets a) (shown_at name h sets b) ∙ ap (λ r. of_both prepend r (read_list (shown_at name h sets b))) i ∙ bad_first (read_list (shown_at name h sets b)))
+    ∙ ap (joined w.front) (read_pair name names (seen_term name h (family_of sets) a) (seen_term name h (family_of sets) b) ∙ ap (λ r. of_both prepend r (read_list (seen_term name h (family_of sets) b))) i ∙ bad_first (read_list (seen_term name h (family_of sets) b)))
 
-pub walk_end : (name : Naming) (h : Cells) (sets : List (List ℕ)) (list : Cell) (cells : List Cell) (members : List Member) (at : Cell) → IsListNaming name → (w : IsWalked name h sets list cells members at) → IsNode name h sets at Empty → read_list (shown_at name h sets list) ≡ Ok w.front
+pub walk_end : (name : Naming) (h : Cells) (sets : List (List ℕ)) (list : Cell) (cells : List Cell) (members : List Member) (at : Cell) → IsListNaming name → (w : IsWalked name h sets list cells members at) → IsNode name h sets at Empty → read_list (seen_term name h (family_of sets) list) ≡ Ok w.front
 walk_end name h sets list cells members at names w n =
     w.rest ∙ ap (λ t. joined w.front (read_list t)) n ∙ ap (joined w.front) (read_empty name names) ∙ ap Ok (append-nil w.front)
 

@@ -23,7 +23,7 @@ use Rattle.branch_goals.specs.declared.finding.Found.{Found}
 use Rattle.branch_goals.specs.declared.finding.Found.TheVariants.{Fault, Decided, Equal}
 use Rattle.branch_goals.specs.declared.finding.Numbers.{Numbers as Held}
 use Rattle.branch_goals.specs.declared.finding.Numbers.TheVariants.{One, Those}
-use Rattle.branch_goals.specs.Lists.{shown_at}
+use Rattle.heap_cells.specs.SeenTerms.{seen_term}
 
 -- the pool's names, and no two atoms have one name
 abbrev pub IsNaming : List Name → Naming → Type 0
@@ -31,7 +31,7 @@ IsNaming names name = IsNamedBy names name × IsOneToOne name
 
 -- the term of a cell of the branch, as its sets show it
 abbrev pub seen_at : Naming → State → Cell → Term
-seen_at name s c = shown_at name s.heaps.now s.levels.current.sets c
+seen_at name s c = seen_term name s.heaps.now (family_of s.levels.current.sets) c
 
 -- what a goal comes to whose arguments are in the cells a and b
 abbrev pub found_in : Naming → State → BuiltinKind → Cell → Cell → Finding
@@ -107,7 +107,7 @@ numbers_in_set xs = those xs
 abbrev pub numbers_at : Naming → Cells → List (List ℕ) → Cell → Result Numbers QueryFault
 numbers_at name h sets c =
     let G = family_of sets in
-    numbers_of (λ d. cell_set G (link_at (link_in h d) G)) (shown_at name h sets c)
+    numbers_of (λ d. cell_set G (link_at (link_in h d) G)) (seen_term name h (family_of sets) c)
 
 abbrev pub AreNumbersAt : Naming → Cells → List (List ℕ) → Cell → Result Held QueryFault → Type 0
 AreNumbersAt name h sets c (Ok n) = numbers_at name h sets c ≡ Ok (the_numbers n)

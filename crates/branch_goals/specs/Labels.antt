@@ -12,7 +12,8 @@ use Rattle.machine_relation.specs.Labelling.{Labelled, labels, done, faults}
 use Rattle.machine_relation.specs.AnswerTexts.{cell_set}
 use Rattle.range_code.specs.Frames.{family_of}
 use Rattle.machine_frames.specs.Frames.{link_in}
-use Rattle.machine_frames.specs.SeenHeap.{read_term, heap_label}
+use Rattle.heap_cells.specs.SeenTerms.{seen_term}
+use Rattle.machine_frames.specs.SeenHeap.{heap_label}
 use Rattle.branch_goals.specs.declared.labelling.Labelling.{Labelling}
 use Rattle.branch_goals.specs.declared.labelling.Labelling.TheVariants.{Done, Takes, Fault}
 use Rattle.branch_state.specs.States.{State}
@@ -22,7 +23,7 @@ abbrev pub labelled_in : Naming → State → Order → Cell → Labelled
 labelled_in name s o c =
     let G = family_of s.levels.current.sets in
     heap_label INFINITY name s.heaps.now s.levels.current.posted G o
-    (read_term s.heaps.now G (term_of name s.heaps.now c))
+    (seen_term name s.heaps.now G c)
 
 -- the values of a variable of the heap: those of its set, and all where the store doesn't have it
 abbrev pub values_of : State → ℕ → List ℕ

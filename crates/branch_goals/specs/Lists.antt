@@ -11,11 +11,11 @@ use Rattle.term_pool.specs.declared.AtomId.{AtomId}
 use Rattle.term_pool.specs.declared.TheConstants.{NIL, CONS}
 use Rattle.heap_cells.specs.declared.Cell.{Cell}
 use Rattle.heap_cells.specs.Cells.{Cells, IsOf}
-use Rattle.heap_cells.specs.Terms.{Naming, IsOneToOne, term_of, terms_by}
+use Rattle.heap_cells.specs.Terms.{Naming, IsOneToOne, terms_by}
 use Rattle.range_code.specs.Frames.{family_of}
 use Rattle.fd_language.specs.SingleValues.{value_in}
+use Rattle.heap_cells.specs.SeenTerms.{seen_term}
 use Rattle.machine_frames.specs.Frames.{link_in}
-use Rattle.machine_frames.specs.SeenHeap.{read_term}
 use Rattle.label_search.specs.declared.Member.{Member}
 use Rattle.label_search.specs.declared.Member.TheVariants.{Fixed, Var, Free}
 use Rattle.label_search.specs.Picks.{AreThere}
@@ -33,17 +33,13 @@ pub record IsListNaming (name : Naming) : Type 0 where
 abbrev pub HasNoEmpty : List (List ℕ) → Type 0
 HasNoEmpty sets = (k : ℕ) → is_none_left (family_of sets k) ≡ false
 
--- the term of a cell, as the sets show it
-abbrev pub shown_at : Naming → Cells → List (List ℕ) → Cell → Term
-shown_at name h sets c = read_term h (family_of sets) (term_of name h c)
-
 -- a cell as a node of a list
 abbrev pub IsNode : Naming → Cells → List (List ℕ) → Cell → ListNode → Type 0
 IsNode name h sets at (Pair a b) =
-    IsOf h a × IsOf h b × (shown_at name h sets at
-    ≡ Comp (name CONS) (term (shown_at name h sets a) (term (shown_at name h sets b) no_terms)))
-IsNode name h sets at Empty = shown_at name h sets at ≡ Atom (name NIL)
-IsNode name h sets at (Broken f) = read_list (shown_at name h sets at) ≡ Err f
+    IsOf h a × IsOf h b × (seen_term name h (family_of sets) at
+    ≡ Comp (name CONS) (term (seen_term name h (family_of sets) a) (term (seen_term name h (family_of sets) b) no_terms)))
+IsNode name h sets at Empty = seen_term name h (family_of sets) at ≡ Atom (name NIL)
+IsNode name h sets at (Broken f) = read_list (seen_term name h (family_of sets) at) ≡ Err f
 
 -- the same of a variable by its set, of an atom, and of a compound term
 abbrev pub IsVariableNode : List ℕ → ListNode → Type 0
@@ -69,11 +65,11 @@ IsSeenMember h sets (Var k) s = (i : ℕ) × (s ≡ seen.Open i) × (link_in h i
 IsSeenMember h sets Free s = (i : ℕ) × (s ≡ seen.Open i) × (link_in h i ≡ None)
 
 abbrev pub IsMemberAt : Naming → Cells → List (List ℕ) → Cell → Member → seen.Member → Type 0
-IsMemberAt name h sets c m s = (as_member (shown_at name h sets c) ≡ Ok s) × IsSeenMember h sets m s
+IsMemberAt name h sets c m s = (as_member (seen_term name h (family_of sets) c) ≡ Ok s) × IsSeenMember h sets m s
 
 -- a cell as a member of a list
 abbrev pub IsMemberOf : Naming → Cells → List (List ℕ) → Cell → Option Member → Type 0
-IsMemberOf name h sets c None = as_member (shown_at name h sets c) ≡ Err BadType
+IsMemberOf name h sets c None = as_member (seen_term name h (family_of sets) c) ≡ Err BadType
 IsMemberOf name h sets c (Some m) = (s : seen.Member) × IsMemberAt name h sets c m s
 
 -- the cells are members, each as it is seen
@@ -86,8 +82,8 @@ AreMembersAt name h sets _ _ _ = ⊥
 
 -- the list in a cell: its members with their cells, or its fault
 abbrev pub IsListRead : Naming → Cells → List (List ℕ) → Cell → Result Members QueryFault → Type 0
-IsListRead name h sets c (Err f) = read_list (shown_at name h sets c) ≡ Err f
+IsListRead name h sets c (Err f) = read_list (seen_term name h (family_of sets) c) ≡ Err f
 IsListRead name h sets c (Ok r) =
-    (ss : List seen.Member) × (read_list (shown_at name h sets c) ≡ Ok ss)
+    (ss : List seen.Member) × (read_list (seen_term name h (family_of sets) c) ≡ Ok ss)
     × AreMembersAt name h sets r.cells.items r.members.items ss
     × AreThere (length sets) r.members.items

@@ -7,7 +7,7 @@ ghost use Rattle.builtin_calls.specs.Passing.{passes as is_passed};
 ghost use Rattle.fd_language.specs.Term.{Term};
 ghost use Rattle.fd_model.specs.Builtins.{is_same};
 ghost use Rattle.fd_model.specs.declared.kinds.BuiltinKind.TheVariants.{FdDom};
-ghost use Rattle.branch_state.specs.Naming.{LinksBelow};
+ghost use Rattle.heap_cells.specs.SeenTerms.{HasLinksBelow};
 ghost use Rattle.branch_state.specs.States.{IsSound, IsCell};
 ghost use Rattle.branch_goals.specs.Findings.{AreNumbersAt, AreValuesAt, Finds, IsComparison, IsNaming, IsQuestion, IsValueAt, fault_is, holds_by, numbers_in_set, passes_by, seen_at, the_numbers, told_by};
 
@@ -17,7 +17,6 @@ use domain_ranges::{Domain, View};
 use fd_language::NoMemory;
 use fd_model::kinds::{BuiltinKind, QueryFault};
 use heap_cells::{Cell, Heap, Seen};
-use heap_terms::only_value;
 use propagate_queue::Agenda;
 use std::alloc::Global;
 use term_pool::Pool;
@@ -138,7 +137,7 @@ pub(crate) enum Numbers<'s> {
 fn numbers_in(domain: &Domain) -> Numbers<'_>
     ensures { the_numbers result ≡ numbers_in_set domain.now }
 {
-    match only_value(domain) {
+    match domain.only_value() {
         Some(value) => Numbers::One(i64::from(value)),
         None => Numbers::Those(domain),
     }
@@ -151,7 +150,7 @@ pub(crate) fn numbers_at<'s, V: View>(
     c: Cell,
 ) -> Result<Numbers<'s>, QueryFault>
     requires own { IsOf heap.now.now c }
-    requires linked { LinksBelow (length (V.sets view.now)) heap.now.now }
+    requires linked { HasLinksBelow (length (V.sets view.now)) heap.now.now }
     ensures { (name : Naming) → AreNumbersAt name heap.now.now (V.sets view.now) c result }
 {
     match heap.deref(c) {

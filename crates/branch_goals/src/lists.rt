@@ -3,14 +3,13 @@
 ghost use Rattle.std.specs.Prelude.{◌≡◌, ◌<◌, length, IfOk};
 ghost use Rattle.heap_cells.specs.Cells.{IsOf};
 ghost use Rattle.heap_cells.specs.Terms.{Naming};
-ghost use Rattle.branch_state.specs.Naming.{LinksBelow};
+ghost use Rattle.heap_cells.specs.SeenTerms.{HasLinksBelow};
 ghost use Rattle.branch_goals.specs.Lists.{IsListNaming, IsNode, IsVariableNode, IsAtomNode, IsCompoundNode, IsMemberOf, IsListRead, HasNoEmpty};
 
 use domain_ranges::{Domain, View};
 use fd_language::NoMemory;
 use fd_model::kinds::QueryFault;
 use heap_cells::{Cell, Heap, Seen};
-use heap_terms::only_value;
 use label_search::Member;
 use std::alloc::Global;
 use term_pool::{AtomId, CONS, NIL};
@@ -36,7 +35,7 @@ pub(crate) struct Members {
 /// What a cell is as a node of a list.
 fn node_at<V: View>(heap: &Heap, view: &V, at: Cell) -> ListNode
     requires own { IsOf heap.now.now at }
-    requires linked { LinksBelow (length (V.sets view.now)) heap.now.now }
+    requires linked { HasLinksBelow (length (V.sets view.now)) heap.now.now }
     ensures { (name : Naming) → IsListNaming name
         → IsNode name heap.now.now (V.sets view.now) at result }
 {
@@ -53,7 +52,7 @@ fn node_at<V: View>(heap: &Heap, view: &V, at: Cell) -> ListNode
 fn variable_node(domain: &Domain) -> ListNode
     ensures { IsVariableNode domain.now result }
 {
-    match only_value(domain) {
+    match domain.only_value() {
         Some(_) => ListNode::Broken(QueryFault::BadType),
         None => ListNode::Broken(QueryFault::Instantiation),
     }
@@ -84,13 +83,13 @@ fn compound_node(f: AtomId, args: &[Cell]) -> ListNode
 /// What a cell is as a member of a list: `None` for an atom or a compound term.
 fn member_at<V: View>(heap: &Heap, view: &V, at: Cell) -> Option<Member>
     requires own { IsOf heap.now.now at }
-    requires linked { LinksBelow (length (V.sets view.now)) heap.now.now }
+    requires linked { HasLinksBelow (length (V.sets view.now)) heap.now.now }
     requires some { HasNoEmpty (V.sets view.now) }
     ensures { (name : Naming) → IsMemberOf name heap.now.now (V.sets view.now) at result }
 {
     match heap.deref(at) {
         Seen::Open(_) => Some(Member::Free),
-        Seen::Constrained(_, k) => match only_value(view.domain(k)) {
+        Seen::Constrained(_, k) => match view.domain(k).only_value() {
             Some(value) => Some(Member::Fixed(i64::from(value))),
             None => Some(Member::Var(k)),
         },
@@ -110,7 +109,7 @@ pub(crate) fn read_members<V: View>(
     list: Cell,
 ) -> Result<Result<Members, QueryFault>, NoMemory>
     requires own { IsOf heap.now.now list }
-    requires linked { LinksBelow (length (V.sets view.now)) heap.now.now }
+    requires linked { HasLinksBelow (length (V.sets view.now)) heap.now.now }
     requires some { HasNoEmpty (V.sets view.now) }
     ensures { IfOk result (λ r. (name : Naming) → IsListNaming name
         → IsListRead name heap.now.now (V.sets view.now) list r) }

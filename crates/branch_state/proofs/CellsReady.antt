@@ -11,16 +11,17 @@ use Rattle.fd_language.proofs.Lemmas.{has_either, in_left, in_right, only_member
 use Rattle.fd_model.specs.declared.kinds.QueryFault.{QueryFault}
 use Rattle.heap_cells.specs.declared.Cell.{Cell}
 use Rattle.heap_cells.specs.Cells.{Cells}
-use Rattle.heap_cells.specs.Terms.{Naming, term_of}
+use Rattle.heap_cells.specs.Terms.{Naming}
 use Rattle.range_code.specs.declared.frame.Arg.{Arg}
 use Rattle.range_code.specs.declared.frame.Arg.TheVariants as arg
 use Rattle.range_code.specs.Frames.{family_of}
 use Rattle.range_code.specs.Slots.{slots_of}
 use Rattle.unify_core.specs.declared.Touch.{Touch}
 use Rattle.machine_frames.specs.CellRanges.{slot_terms}
-use Rattle.machine_frames.specs.SeenHeap.{read_term}
+use Rattle.heap_cells.specs.SeenTerms.{seen_term}
 use Rattle.branch_state.specs.declared.look.Look.{Look}
-use Rattle.branch_state.specs.CellNaming.{shown_as, shown_slots, slots_open, NamedBy, slot_in, IsTermNaming, TermStep, SlotStep, AreCellsReady}
+use Rattle.heap_cells.specs.SeenTerms.{seen_term}
+use Rattle.branch_state.specs.CellNaming.{shown_slots, slots_open, NamedBy, slot_in, IsTermNaming, TermStep, SlotStep, AreCellsReady}
 use Rattle.branch_state.specs.Naming.{LooksAs, IsKind, IsInteger, offence, first_in, Apart, StandsIn, AllStand, OwnLinks}
 use Rattle.branch_state.proofs.Gathering.{apart_once}
 use Rattle.branch_state.proofs.Looking.{look_kind, number_is}
@@ -36,20 +37,20 @@ has_at (y ∷ ys) zero l = or_left (y == y) (has ys y) (eq-eqb y y refl)
 has_at (y ∷ ys) (suc i) l = or_right (y == get_or ys i 0) (has ys (get_or ys i 0)) (has_at ys i (omega (arith, l)))
 
 -- each of different variables is seen as its own cell
-pub slot_shown : (name : Naming) (h : Cells) (G : Family) (ys : List ℕ) (ds : List Cell) (d : Cell) → Apart ys → length ds ≡ length ys → (i : ℕ) → i < length ys → slot_terms name h G ys ds (get_or ys i 0) ≡ read_term h G (term_of name h (get_or ds i d))
+pub slot_shown : (name : Naming) (h : Cells) (G : Family) (ys : List ℕ) (ds : List Cell) (d : Cell) → Apart ys → length ds ≡ length ys → (i : ℕ) → i < length ys → slot_terms name h G ys ds (get_or ys i 0) ≡ seen_term name h G (get_or ds i d)
 slot_shown name h G [] ds d a e i l = absurd (omega (arith, l))
 slot_shown name h G (y ∷ ys) [] d a e i l = absurd (omega (arith, e))
-slot_shown name h G (y ∷ ys) (c ∷ ds) d a e zero l = ap (λ b. cond b (read_term h G (term_of name h c)) (slot_terms name h G ys ds y)) (eq-eqb y y refl)
+slot_shown name h G (y ∷ ys) (c ∷ ds) d a e zero l = ap (λ b. cond b (seen_term name h G c) (slot_terms name h G ys ds y)) (eq-eqb y y refl)
 slot_shown name h G (y ∷ ys) (c ∷ ds) d a e (suc i) l =
     let other : (y == get_or ys i 0) ≡ false = ne_eqb y (get_or ys i 0) (λ k. true≢false (sym (has_at ys i (omega (arith, l))) ∙ ap (has ys) (sym k) ∙ a.0)) in
-    ap (λ b. cond b (read_term h G (term_of name h c)) (slot_terms name h G ys ds (get_or ys i 0))) other ∙ slot_shown name h G ys ds d a.1 (omega (arith, e)) i (omega (arith, l))
+    ap (λ b. cond b (seen_term name h G c) (slot_terms name h G ys ds (get_or ys i 0))) other ∙ slot_shown name h G ys ds d a.1 (omega (arith, e)) i (omega (arith, l))
 
 -- and so is each slot of a range
-pub cell_shown : (name : Naming) (h : Cells) (sets : List (List ℕ)) (r : Range) (ds : List Cell) (d : Cell) → length ds ≡ length (slots_of r) → (i : ℕ) → i < length (slots_of r) → shown_slots name h sets r ds (get_or (slots_of r) i 0) ≡ shown_as name h sets (get_or ds i d)
+pub cell_shown : (name : Naming) (h : Cells) (sets : List (List ℕ)) (r : Range) (ds : List Cell) (d : Cell) → length ds ≡ length (slots_of r) → (i : ℕ) → i < length (slots_of r) → shown_slots name h sets r ds (get_or (slots_of r) i 0) ≡ seen_term name h (family_of sets) (get_or ds i d)
 cell_shown name h sets r ds d e i l = slot_shown name h (family_of sets) (slots_of r) ds d (apart_once (variables (range_occurrences r))) e i l
 
 -- the offence of a slot, by what its cell looks as
-pub cell_offence : (name : Naming) (h : Cells) (sets : List (List ℕ)) (r : Range) (ds : List Cell) (d : Cell) → length ds ≡ length (slots_of r) → (i : ℕ) → i < length (slots_of r) → (k : Look) → LooksAs h (shown_as name h sets (get_or ds i d)) k → (need : Option Need) (o : Option QueryFault) → ((t : Term) → IsKind t k → o ≡ offence need t)
+pub cell_offence : (name : Naming) (h : Cells) (sets : List (List ℕ)) (r : Range) (ds : List Cell) (d : Cell) → length ds ≡ length (slots_of r) → (i : ℕ) → i < length (slots_of r) → (k : Look) → LooksAs h (seen_term name h (family_of sets) (get_or ds i d)) k → (need : Option Need) (o : Option QueryFault) → ((t : Term) → IsKind t k → o ≡ offence need t)
     → o ≡ offence need (shown_slots name h sets r ds (get_or (slots_of r) i 0))
 cell_offence name h sets r ds d e i l k looks need o is =
     let see = shown_slots name h sets r ds (get_or (slots_of r) i 0) in

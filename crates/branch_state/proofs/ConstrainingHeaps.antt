@@ -15,9 +15,9 @@ use Rattle.heap_cells.specs.Terms.{Naming, term_of, within, slot_term, terms_by,
 use Rattle.heap_cells.specs.Valid.{IsHeap}
 use Rattle.heap_cells.proofs.Lemmas.{new_below, bound_below, slot_there, slot_elsewhere, bind_valid, bind_terms, head_of, tail_of, var_valid, term-Int, unbound_term}
 use Rattle.fd_language.specs.SingleValues.{value_in, value_at}
-use Rattle.machine_relation.proofs.Lemmas.{after_is, bindings, without, functions}
+use Rattle.machine_relation.proofs.Lemmas.{after_is, bindings, without, functions, of_arguments}
 use Rattle.machine_frames.specs.Frames.{link_of, link_in, IsGrown}
-use Rattle.machine_frames.specs.SeenHeap.{read_term}
+use Rattle.heap_cells.specs.SeenTerms.{read_term, seen_term}
 use Rattle.machine_frames.proofs.Lemmas.{grown_same, grown_both, grown_var}
 use Rattle.branch_state.specs.Constraints.{with_variables, with_integers, AreFrom, AreOpen, IsUnbound}
 
@@ -97,20 +97,14 @@ mutual
     right : has (variables_of_all ts) x ≡ true → has (variables_of t ++ variables_of_all ts) x ≡ true
     right i = in_right (variables_of t) (variables_of_all ts) x i
 
-argument_open : (t : Term) (x : ℕ) → has (variables_of_all (arguments t)) x ≡ true → has (variables_of t) x ≡ true
-argument_open (Var y) x e = absurd (true≢false (sym e))
-argument_open (Int z) x e = absurd (true≢false (sym e))
-argument_open (Atom a) x e = absurd (true≢false (sym e))
-argument_open (Comp f ts) x e = e
-
 pub unbound_by : (h : Cells) → IsHeap h → (x : ℕ) → x < length h.slots → is_bound (slot_at h x) ≡ false → IsUnbound h x
 unbound_by h valid x l e = record { own = l; term = λ name. unbound_term name h valid x e }
 
 -- The variables of a goal's arguments, as they are read, are unbound.
-pub arguments_unbound : (name : Naming) (h : Cells) → IsHeap h → (G : Family) (c : Cell) → IsOf h c → (x : ℕ) → has (variables_of_all (arguments (read_term h G (term_of name h c)))) x ≡ true → IsUnbound h x
+pub arguments_unbound : (name : Naming) (h : Cells) → IsHeap h → (G : Family) (c : Cell) → IsOf h c → (x : ℕ) → has (variables_of_all (arguments (seen_term name h G c))) x ≡ true → IsUnbound h x
 unfolding term_of
 arguments_unbound name h valid G c o x e =
-    let u = term_open name h valid _ c o x (read_open h G (term_of name h c) x (argument_open (read_term h G (term_of name h c)) x e)) in
+    let u = term_open name h valid _ c o x (read_open h G (term_of name h c) x (of_arguments (seen_term name h G c) x e)) in
     unbound_by h valid x u.0 u.1
 
 -- an unbound variable stays one where the terms stay

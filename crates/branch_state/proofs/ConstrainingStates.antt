@@ -14,8 +14,7 @@ use Rattle.fd_model.specs.LinearRows.{Expansion}
 use Rattle.fd_model.proofs.Lemmas.{scoped_rows, Fitting, expand_fitting}
 use Rattle.heap_cells.specs.declared.Cell.{Cell}
 use Rattle.heap_cells.specs.Atoms.{IsAtomBelow, HasAtomsBelow}
-use Rattle.heap_cells.specs.Terms.{term_of}
-use Rattle.heap_terms.specs.Values.{shown_term}
+use Rattle.heap_cells.specs.SeenTerms.{seen_term}
 use Rattle.term_pool.specs.Contents.{name_in}
 use Rattle.constraint_expand.specs.declared.faults.ExpandFault.{ExpandFault}
 use Rattle.constraint_expand.specs.declared.faults.ExpandFault.TheVariants.{NoMemory}
@@ -25,7 +24,7 @@ use Rattle.machine_relation.specs.Store.{posts}
 use Rattle.machine_relation.proofs.Lemmas.{bindings}
 use Rattle.machine_frames.specs.Frames.{store_touches}
 use Rattle.machine_frames.specs.Naming.{full}
-use Rattle.machine_frames.specs.SeenHeap.{read_term}
+use Rattle.heap_cells.specs.SeenTerms.{seen_term}
 use Rattle.range_code.specs.Frames.{family_of}
 use Rattle.propagate_queue.specs.declared.instance.Instance.{Instance}
 use Rattle.propagate_queue.specs.Instances.{posted_by, IsInstance}
@@ -103,7 +102,7 @@ plain_rows (p ∷ ps) f = (f.0.params, plain_rows ps f.1)
 pub row_of_heap : (names : List Name) (s : State) → IsSound s → (kind : ConstraintKind) (c : Cell) → IsCell s c → (y : Expansion) → row_of names s kind c ≡ Ok y → IsRowOf s.heaps.now y
 row_of_heap names s o kind c own y is =
     let h = s.heaps.now in
-    let ts = arguments (read_term h (family_of s.levels.current.sets) (term_of (full names) h c)) in
+    let ts = arguments (seen_term (full names) h (family_of s.levels.current.sets) c) in
     let scoped = scoped_rows kind ts (length h.slots) y is in
     record {
       grows = scoped.grows;
@@ -114,9 +113,9 @@ row_of_heap names s o kind c own y is =
     }
 
 -- what is expanded is that row
-pub row_read : (names : List Name) (s : State) → IsSound s → length names ≡ s.atoms → (kind : ConstraintKind) (c : Cell) → IsCell s c → (n : ℕ) → n ≡ length s.heaps.now.slots → expand kind (arguments (shown_term (name_in names) s.heaps.now s.levels.current.sets c)) n ≡ row_of names s kind c
+pub row_read : (names : List Name) (s : State) → IsSound s → length names ≡ s.atoms → (kind : ConstraintKind) (c : Cell) → IsCell s c → (n : ℕ) → n ≡ length s.heaps.now.slots → expand kind (arguments (seen_term (name_in names) s.heaps.now (family_of s.levels.current.sets) c)) n ≡ row_of names s kind c
 row_read names s o same kind c own n e =
-    ap (λ m. expand kind (arguments (shown_term (name_in names) s.heaps.now s.levels.current.sets c)) m) e
+    ap (λ m. expand kind (arguments (seen_term (name_in names) s.heaps.now (family_of s.levels.current.sets) c)) m) e
     ∙ ap (λ t. expand kind (arguments t) (length s.heaps.now.slots)) (term_read names s.heaps.now s.levels.current.sets o.now.valid (subst (λ m. HasAtomsBelow m s.heaps.now) (sym same) o.now.names) c own.0 (subst (λ m. IsAtomBelow m c) (sym same) own.1))
 
 pub fault_read : (d : Result Expansion QueryFault) (f : ExpandFault) (q : QueryFault) → IsFaultOf d f → fault_of f ≡ Some q → d ≡ Err q

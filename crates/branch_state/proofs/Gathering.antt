@@ -2,6 +2,7 @@
 use Rattle.std.proofs.Common.{◌≡◌, ℕ, Bool, true, false, cond, not, ◌&&◌, ◌==◌, List, [], ◌∷◌, map, filter, Option, Some, None, refl, ap, sym, ◌∙◌, eqb-true, eq-eqb}
 use Rattle.std.proofs.lemmas.Bool.{and_left}
 use Rattle.fd_model.specs.declared.kinds.QueryFault.{QueryFault}
+use Rattle.std.proofs.lemmas.List.Elements.{filter_agree}
 use Rattle.fd_language.specs.declared.range_node.Need.{Need}
 use Rattle.fd_language.specs.Family.{has}
 use Rattle.fd_language.specs.Term.{Term, Var, Int, Atom, Comp, Substitution}
@@ -15,7 +16,7 @@ use Rattle.machine_relation.proofs.Lemmas.{plain}
 use Rattle.range_code.proofs.Lemmas.{has_kept}
 use Rattle.range_code.specs.Slots.{slots_of, slot_needs, need_at}
 use Rattle.branch_state.specs.Naming.{offence, first_in, Apart}
-use Rattle.branch_state.proofs.Lists.{filter_agree, once_filter}
+use Rattle.branch_state.proofs.Lists.{once_filter}
 use Rattle.branch_state.proofs.Occurrences.{AreSettled, settled, variables, plain_filter}
 
 abbrev pub is_open : Option Need → Bool
@@ -82,7 +83,7 @@ offence_of_range look r one =
 pub plain_slots : (r : Range) → has_one_use r ≡ true → once (plain (range_occurrences r)) ≡ filter (λ y. is_open (need_at r y)) (slots_of r)
 plain_slots r one =
     ap once (plain_filter (params r) (range_occurrences r) (settled r one)) ∙ sym (once_filter (λ y. not (has (params r) y)) (variables (range_occurrences r)))
-    ∙ filter_agree (λ y. not (has (params r) y)) (λ y. is_open (need_at r y)) (slots_of r) (λ y. sym (open_need Var r y))
+    ∙ filter_agree (λ y. not (has (params r) y)) (λ y. is_open (need_at r y)) (λ y. sym (open_need Var r y)) (slots_of r)
 
 apart_filter : (p : ℕ → Bool) (xs : List ℕ) → Apart xs → Apart (filter p xs)
 apart_filter p [] h = tt

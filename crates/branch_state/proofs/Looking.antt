@@ -1,84 +1,57 @@
--- What a variable of a clause looks as, by its cell.
+-- What a cell looks as.
 use Rattle.std.proofs.Common.{◌≡◌, ℕ, zero, suc, ◌<◌, true, false, ℤ, pos, List, [], ◌∷◌, length, take, get_or, Option, Some, None, is_some, refl, ap, sym, ◌∙◌, subst, arith}
 use Rattle.std.proofs.lemmas.Bool.{true≢false}
 use Rattle.fd_language.specs.declared.range_node.Need.{Need}
 use Rattle.fd_language.specs.Family.{Family}
-use Rattle.fd_language.specs.Term.{Term, Var, Int, Atom, Comp, Substitution, apply}
+use Rattle.fd_language.specs.Term.{Term, Var, Int, Atom, Comp, Substitution}
 use Rattle.fd_model.specs.declared.kinds.QueryFault.{QueryFault}
 use Rattle.fd_model.specs.Posting.{or_later}
 use Rattle.heap_cells.specs.declared.Cell.{Cell}
 use Rattle.heap_cells.specs.declared.Cell.TheVariants as cell
-use Rattle.heap_cells.specs.Cells.{Cells, Compound, free, linked, is_bound, slot_at, compound_at}
+use Rattle.heap_cells.specs.Cells.{Cells, free, linked, slot_at, compound_at}
 use Rattle.heap_cells.specs.declared.Seen.{Seen}
 use Rattle.heap_cells.specs.declared.Seen.TheVariants as seen
 use Rattle.heap_cells.specs.SeenCells.{IsSeen}
-use Rattle.heap_cells.specs.Terms.{Naming, term_of, Same, terms_by}
+use Rattle.heap_cells.specs.Terms.{Naming, Same}
 use Rattle.heap_cells.specs.Valid.{IsHeap}
-use Rattle.heap_cells.proofs.Lemmas.{unbound_term, term-Int, term-Atom, term-Struct}
+use Rattle.heap_cells.proofs.Lemmas.{shown_atom, shown_compound, shown_free, shown_int, shown_linked}
 use Rattle.term_pool.specs.declared.AtomId.{AtomId}
 use Rattle.unify_core.specs.Touches.{IsSymbolic}
-use Rattle.fd_language.specs.SingleValues.{value_in, value_at}
-use Rattle.machine_frames.specs.Environments.{cell_at, cell_look}
-use Rattle.machine_frames.specs.Frames.{link_of, link_in}
-use Rattle.machine_frames.specs.SeenHeap.{seen_env}
-use Rattle.heap_terms.specs.Values.{only}
+use Rattle.fd_language.specs.SingleValues.{only}
+use Rattle.domain_ranges.proofs.Lemmas.{one_value, no_value}
+use Rattle.heap_cells.specs.SeenTerms.{link_of, seen_term}
 use Rattle.branch_state.specs.declared.look.Look.{Look}
 use Rattle.branch_state.specs.declared.look.Look.TheVariants as look
 use Rattle.branch_state.specs.Naming.{LooksAs, IsKind, offence, first_in, CanName, IsInteger}
 
--- ---- the only value of a domain
-
-pub one_value : (xs : List ℕ) (w c : ℕ) → only xs ≡ Some w → value_in xs c ≡ Int (pos w)
-one_value [] w c e = absurd (cc)
-one_value (v ∷ []) w c e = let f : v ≡ w = cc in ap (λ n. Int (pos n)) f
-one_value (x ∷ y ∷ ys) w c e = absurd (cc)
-
-pub no_value : (xs : List ℕ) (c : ℕ) → only xs ≡ None → value_in xs c ≡ Var c
-no_value [] c e = refl
-no_value (v ∷ []) c e = absurd (cc)
-no_value (x ∷ y ∷ ys) c e = refl
-
 -- ---- a cell
 
-module _ (name : Naming) (h : Cells) (valid : IsHeap h) (env : List (Option Cell)) (G : Family) (y : ℕ) (c : Cell) (at : cell_at env y ≡ Some c) where
-  abbrev value : Substitution
-  value d = value_at (link_in h d) G d
+module _ (name : Naming) (h : Cells) (valid : IsHeap h) (G : Family) (c : Cell) where
+  pub looks_open : (i : ℕ) → i < length h.slots → slot_at h i ≡ free → Same h c (cell.Ref i) → LooksAs h (seen_term name h G c) (look.Open i)
+  looks_open i l e s = (shown_free name h valid G c i e s, l, e)
 
-  seen_at : (t : Term) → term_of name h c ≡ t → seen_env name h env G y ≡ apply value t
-  seen_at t e = ap (apply value) (ap (cell_look name h y) at ∙ e)
+  pub looks_number : (i k w : ℕ) → slot_at h i ≡ linked k → Same h c (cell.Ref i) → only (G k) ≡ Some w → LooksAs h (seen_term name h G c) (look.Number (pos w))
+  looks_number i k w e s o = shown_linked name h valid G c i k e s ∙ one_value (G k) w i o
 
-  pub looks_open : (i : ℕ) → i < length h.slots → slot_at h i ≡ free → Same h c (cell.Ref i) → LooksAs h (seen_env name h env G y) (look.Open i)
-  looks_open i l e s = (seen_at (Var i) (s name ∙ unbound_term name h valid i (ap is_bound e)) ∙ ap (λ o. value_at o G i) (ap link_of e), l, e)
+  pub looks_linked : (i k : ℕ) → slot_at h i ≡ linked k → Same h c (cell.Ref i) → only (G k) ≡ None → LooksAs h (seen_term name h G c) (look.Linked k)
+  looks_linked i k e s o = (i, shown_linked name h valid G c i k e s ∙ no_value (G k) i o, ap link_of e)
 
-  pub looks_number : (i k w : ℕ) → slot_at h i ≡ linked k → Same h c (cell.Ref i) → only (G k) ≡ Some w → LooksAs h (seen_env name h env G y) (look.Number (pos w))
-  looks_number i k w e s o = seen_at (Var i) (s name ∙ unbound_term name h valid i (ap is_bound e)) ∙ ap (λ o. value_at o G i) (ap link_of e) ∙ one_value (G k) w i o
+  pub looks_int : (z : ℤ) → Same h c (cell.Int z) → LooksAs h (seen_term name h G c) (look.Number z)
+  looks_int z s = shown_int name h valid G c z s
 
-  pub looks_linked : (i k : ℕ) → slot_at h i ≡ linked k → Same h c (cell.Ref i) → only (G k) ≡ None → LooksAs h (seen_env name h env G y) (look.Linked k)
-  looks_linked i k e s o = (i, seen_at (Var i) (s name ∙ unbound_term name h valid i (ap is_bound e)) ∙ ap (λ o. value_at o G i) (ap link_of e) ∙ no_value (G k) i o, ap link_of e)
+  pub looks_atom : (a : AtomId) → Same h c (cell.Atom a) → LooksAs h (seen_term name h G c) look.Symbol
+  looks_atom a s = subst (λ t. LooksAs h t look.Symbol) (sym (shown_atom name h valid G c a s)) tt
 
-  pub looks_int : (z : ℤ) → Same h c (cell.Int z) → LooksAs h (seen_env name h env G y) (look.Number z)
-  looks_int z s = seen_at (Int z) (s name ∙ term-Int name h valid z)
-
-  pub looks_atom : (a : AtomId) → Same h c (cell.Atom a) → LooksAs h (seen_env name h env G y) look.Symbol
-  looks_atom a s = subst (λ t. LooksAs h t look.Symbol) (sym (seen_at (Atom (name a)) (s name ∙ term-Atom name h valid a))) tt
-
-  pub looks_compound : (f : AtomId) (args : List Cell) (j : ℕ) → compound_at h j ≡ record { name = f; args = args } → Same h c (cell.Struct j) → LooksAs h (seen_env name h env G y) look.Symbol
-  looks_compound f args j e s =
-      subst (λ t. LooksAs h t look.Symbol) (sym (seen_at (Comp (name f) (terms_by (term_of name h) args)) (s name ∙ term-Struct name h valid j ∙ ap (λ (k : Compound). Comp (name k.name) (terms_by (term_of name h) k.args)) e))) tt
+  pub looks_compound : (f : AtomId) (args : List Cell) (j : ℕ) → compound_at h j ≡ record { name = f; args = args } → Same h c (cell.Struct j) → LooksAs h (seen_term name h G c) look.Symbol
+  looks_compound f args j e s = subst (λ t. LooksAs h t look.Symbol) (sym (shown_compound name h valid G c f args j e s)) tt
 
   -- what is no variable and no integer
-  pub looks_symbol : (v : Seen) → IsSeen h c v → ((i : ℕ) → v ≡ seen.Open i → ⊥) → ((i k : ℕ) → v ≡ seen.Constrained i k → ⊥) → ((z : ℤ) → v ≡ seen.Int z → ⊥) → LooksAs h (seen_env name h env G y) look.Symbol
+  pub looks_symbol : (v : Seen) → IsSeen h c v → ((i : ℕ) → v ≡ seen.Open i → ⊥) → ((i k : ℕ) → v ≡ seen.Constrained i k → ⊥) → ((z : ℤ) → v ≡ seen.Int z → ⊥) → LooksAs h (seen_term name h G c) look.Symbol
   looks_symbol (seen.Open i) s a b z = absurd (a i refl)
   looks_symbol (seen.Constrained i k) s a b z = absurd (b i k refl)
   looks_symbol (seen.Int i) s a b z = absurd (z i refl)
   looks_symbol (seen.Atom i) s a b z = looks_atom i s
   looks_symbol (seen.Struct f args) s a b z = looks_compound f args.now s.0 s.2 s.3
-
--- ---- a target
-
-module _ (h : Cells) (sets : List (List ℕ)) (env : List (Option Cell)) (name : Naming) where
-  abbrev n : ℕ
-  n = length env
 
 pub look_kind : (h : Cells) (t : Term) (l : Look) → LooksAs h t l → IsKind t l
 look_kind h t (look.Open i) k = k.0

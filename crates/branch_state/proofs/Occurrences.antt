@@ -1,5 +1,5 @@
 -- The occurrences of variables in an accepted range: each variable is a parameter everywhere or nowhere.
-use Rattle.std.proofs.Common.{◌≡◌, ℕ, Bool, true, false, cond, not, ◌||◌, ◌&&◌, ◌==◌, List, [], ◌∷◌, ◌++◌, map, filter, refl, ap, sym, ◌∙◌, subst, eq-eqb, pos, ◌⊎◌}
+use Rattle.std.proofs.Common.{◌≡◌, ℕ, Bool, true, false, cond, not, ◌==◌, List, [], ◌∷◌, ◌++◌, map, filter, refl, ap, sym, ◌∙◌, subst, eq-eqb, pos}
 use Rattle.std.proofs.lemmas.Bool.{or_left, or_right}
 use Rattle.fd_language.specs.Family.{has}
 use Rattle.fd_language.specs.Lists.{Each}
@@ -15,7 +15,14 @@ abbrev pub as_parameters : List Occurrence → List ℕ
 as_parameters [] = []
 as_parameters (p ∷ ps) = cond p.parameter (p.variable ∷ as_parameters ps) (as_parameters ps)
 
-parameters_range_parameters : (r : Range) → params r ≡ as_parameters (range_occurrences r)
+parameters_both : (ps qs : List Occurrence) → as_parameters (ps ++ qs) ≡ as_parameters ps ++ as_parameters qs
+parameters_both [] qs = refl
+parameters_both (p ∷ ps) qs = by_test p.parameter (parameters_both ps qs) where
+  by_test : (b : Bool) → as_parameters (ps ++ qs) ≡ as_parameters ps ++ as_parameters qs → cond b (p.variable ∷ as_parameters (ps ++ qs)) (as_parameters (ps ++ qs)) ≡ cond b (p.variable ∷ as_parameters ps) (as_parameters ps) ++ as_parameters qs
+  by_test true e = ap (λ l. p.variable ∷ l) e
+  by_test false e = e
+
+range_parameters : (r : Range) → params r ≡ as_parameters (range_occurrences r)
 range_parameters r = same_leaves param_at (λ l. as_parameters (occurrence_at l)) by_role r ∙ sym (collected_by as_parameters refl parameters_both occurrence_at r) where
   by_role : (k : Role) (y : ℕ) → param_at (leaf k y) ≡ as_parameters (occurrence_at (leaf k y))
   by_role a_parameter y = refl

@@ -1,24 +1,23 @@
 -- What is shown of cells.
-use Rattle.std.proofs.Common.{◌≡◌, ℕ, suc, ◌+◌, ◌<◌, ◌≤◌, ◌==◌, nat_eq, Bool, true, false, cond, not, List, [], ◌∷◌, ◌++◌, length, length-append, filter, map, reverse, take, get_or, Option, Some, None, MatchOption, refl, ap, sym, ◌∙◌, subst, arith, append-nil, append_assoc}
+use Rattle.std.proofs.Common.{◌≡◌, ℕ, suc, ◌+◌, ◌<◌, ◌==◌, nat_eq, Bool, true, false, cond, not, List, [], ◌∷◌, ◌++◌, length, length-append, filter, map, reverse, take, get_or, Option, Some, None, MatchOption, refl, ap, sym, ◌∙◌, subst, arith, append-nil, append_assoc}
 use Rattle.std.specs.Prelude.{All}
 use Rattle.std.specs.List.{list_any}
 use Rattle.std.proofs.lemmas.Bool.{true≢false}
 use Rattle.std.proofs.lemmas.List.{reverse-append, map_push, reverse-reverse}
-use Rattle.std.proofs.lemmas.List.Elements.{All-append}
+use Rattle.std.proofs.lemmas.List.Elements.{All-append, filter_agree}
 use Rattle.branch_state.proofs.Preparing.{take_next}
 use Rattle.monotone_check.proofs.Lemmas.{eq_sym}
 use Rattle.fd_language.specs.Family.{has}
 use Rattle.fd_language.specs.Needs.{once}
-use Rattle.fd_language.specs.Term.{Name, Term, Terms, Var, term, apply}
+use Rattle.fd_language.specs.Term.{Name, Term, Terms, Var, term}
 use Rattle.fd_language.specs.Variables.{variables_of, variables_of_all, distinct}
 use Rattle.fd_model.specs.Lines.{as_terms}
 use Rattle.heap_cells.specs.declared.Cell.{Cell}
 use Rattle.heap_cells.specs.Atoms.{IsAtomBelow, HasAtomsBelow}
-use Rattle.heap_cells.specs.Cells.{Cells, Slot, free, linked, bound, slot_at, IsOf}
-use Rattle.heap_cells.specs.Terms.{term_of}
+use Rattle.heap_cells.specs.Cells.{Cells, IsOf}
 use Rattle.heap_cells.specs.Valid.{IsHeap}
-use Rattle.heap_cells.proofs.Lemmas.{head_of, tail_of, none_at_all, both_of, all_front, last_of, all_reverse, same_apply}
-use Rattle.heap_terms.specs.Values.{only, set_in, value_of, shown_slot, shown, shown_term}
+use Rattle.heap_cells.proofs.Lemmas.{head_of, tail_of, none_at_all, both_of, all_front, last_of, all_reverse}
+use Rattle.heap_cells.specs.SeenTerms.{read_term, seen_term}
 use Rattle.term_pool.specs.declared.AtomId.{AtomId}
 use Rattle.term_pool.specs.declared.TermId.{TermId}
 use Rattle.term_pool.specs.declared.Node.{Node}
@@ -28,38 +27,23 @@ use Rattle.term_pool.specs.Terms as pool
 use Rattle.term_pool.specs.Terms.{KeepsTerms, Extends, total_size}
 use Rattle.term_pool.specs.Valid.{shape_of}
 use Rattle.term_pool.proofs.Lemmas.{rest_is_smaller, parts_are_smaller, total_size-append, total_size-cons, total_size-nil}
-use Rattle.fd_language.specs.SingleValues.{value_in, value_at}
+use Rattle.fd_language.proofs.Lemmas.{two}
 use Rattle.range_code.specs.Frames.{family_of}
 use Rattle.range_code.proofs.Lemmas.{once_more, keys_more, has_once, any_has}
-use Rattle.machine_frames.specs.Frames.{link_of, link_in}
 use Rattle.machine_frames.specs.Naming.{full}
-use Rattle.machine_frames.specs.SeenHeap.{read_term}
 use Rattle.machine_frames.proofs.Lemmas.{full_term}
 use Rattle.branch_state.specs.Showing.{terms_read, with_set, with_sets, variables_at, AreShowable, AreGathered}
-use Rattle.branch_state.proofs.Lists.{filter_agree}
 
 -- ---- a cell as it is read
 
-value_is : (xs : List ℕ) (i : ℕ) → value_of (only xs) i ≡ value_in xs i
-value_is [] i = refl
-value_is (w ∷ []) i = refl
-value_is (x ∷ y ∷ ys) i = refl
+pub term_read : (names : List Name) (h : Cells) (sets : List (List ℕ)) → IsHeap h → HasAtomsBelow (length names) h → (c : Cell) → IsOf h c → IsAtomBelow (length names) c → seen_term (name_in names) h (family_of sets) c ≡ seen_term (full names) h (family_of sets) c
+term_read names h sets valid atoms c own low = ap (read_term h (family_of sets)) (sym (full_term names h valid atoms c own low))
 
-slot_is : (sets : List (List ℕ)) (i : ℕ) (t : Slot) → shown_slot sets i t ≡ value_at (link_of t) (family_of sets) i
-slot_is sets i free = refl
-slot_is sets i (linked k) = value_is (set_in sets k) i
-slot_is sets i (bound c) = refl
-
-pub term_read : (names : List Name) (h : Cells) (sets : List (List ℕ)) → IsHeap h → HasAtomsBelow (length names) h → (c : Cell) → IsOf h c → IsAtomBelow (length names) c → shown_term (name_in names) h sets c ≡ read_term h (family_of sets) (term_of (full names) h c)
-term_read names h sets valid atoms c own low =
-    ap (apply (shown h sets)) (sym (full_term names h valid atoms c own low)) ∙ same_apply (shown h sets) (λ i. value_at (link_in h i) (family_of sets) i) (λ i. slot_is sets i (slot_at h i)) (term_of (full names) h c)
-
-pub all_read : (names : List Name) (h : Cells) (sets : List (List ℕ)) → IsHeap h → HasAtomsBelow (length names) h → (cs : List Cell) → AreShowable (length names) h cs → map (shown_term (name_in names) h sets) cs ≡ terms_read names h sets cs
+pub all_read : (names : List Name) (h : Cells) (sets : List (List ℕ)) → IsHeap h → HasAtomsBelow (length names) h → (cs : List Cell) → AreShowable (length names) h cs → map (seen_term (name_in names) h (family_of sets)) cs ≡ terms_read names h sets cs
 all_read names h sets valid atoms [] a = refl
 all_read names h sets valid atoms (c ∷ cs) a =
     let one = head_of (λ c. IsOf h c × IsAtomBelow (length names) c) c cs a in
-    ap (λ (t : Term). t ∷ map (shown_term (name_in names) h sets) cs) (term_read names h sets valid atoms c one.0 one.1)
-    ∙ ap (λ (l : List Term). read_term h (family_of sets) (term_of (full names) h c) ∷ l) (all_read names h sets valid atoms cs (tail_of (λ c. IsOf h c × IsAtomBelow (length names) c) c cs a))
+    two (λ (t : Term) (l : List Term). t ∷ l) (term_read names h sets valid atoms c one.0 one.1) (all_read names h sets valid atoms cs (tail_of (λ c. IsOf h c × IsAtomBelow (length names) c) c cs a))
 
 -- one cell more
 abbrev Own : Contents → TermId → Type 0
@@ -147,7 +131,7 @@ finding_last p all found ahead e w = sym (w.rest ∙ ap (λ l. found ++ variable
 
 distinct_once : (xs : List ℕ) → distinct xs ≡ once xs
 distinct_once [] = refl
-distinct_once (x ∷ xs) = ap (λ l. x ∷ l) (ap (filter (λ y. not (x == y))) (distinct_once xs) ∙ filter_agree (λ y. not (x == y)) (λ y. not (y == x)) (once xs) (λ y. ap not (eq_sym x y)))
+distinct_once (x ∷ xs) = ap (λ l. x ∷ l) (ap (filter (λ y. not (x == y))) (distinct_once xs) ∙ filter_agree (λ y. not (x == y)) (λ y. not (y == x)) (λ y. ap not (eq_sym x y)) (once xs))
 
 sets_more : (set : ℕ → Option (List ℕ)) (xs : List ℕ) (x : ℕ) → with_sets set (xs ++ x ∷ []) ≡ with_sets set xs ++ with_set x (set x) []
 sets_more set [] x = refl

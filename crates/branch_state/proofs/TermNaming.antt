@@ -1,8 +1,6 @@
 -- Terms that are named by variables of the store, one after the other.
 use Rattle.std.proofs.Common.{◌≡◌, ℕ, suc, ◌+◌, ◌<◌, ◌≢◌, ℤ, List, [], ◌∷◌, ◌++◌, length, Option, Some, None, refl, ap, sym, ◌∙◌, subst, inl, inr, ◌⊎◌, arith, length-append}
-use Rattle.std.specs.Ordering.{int_eq}
-use Rattle.std.proofs.lemmas.Bool.{cases_Bool, cases_eq, true≢false}
-use Rattle.std.proofs.lemmas.Bool.Decides.{Decides-int_eq}
+use Rattle.std.proofs.lemmas.Bool.{cases_eq}
 use Rattle.std.proofs.lemmas.Option.{none-some, same_Some}
 use Rattle.fd_language.proofs.Lemmas.{decide_int}
 use Rattle.branch_state.proofs.Looking.{same_int}
@@ -22,7 +20,8 @@ use Rattle.machine_frames.specs.Frames.{link_of, link_in}
 use Rattle.machine_frames.proofs.Lemmas.{linked_none, linked_next}
 use Rattle.branch_state.specs.declared.look.Look.{Look}
 use Rattle.branch_state.specs.declared.look.Look.TheVariants.{Open, Linked, Number, Symbol}
-use Rattle.branch_state.specs.CellNaming.{shown_as, slot_in, AreTold, IsTold, IsTermNaming, IsPut, TermStep}
+use Rattle.heap_cells.specs.SeenTerms.{seen_term}
+use Rattle.branch_state.specs.CellNaming.{slot_in, AreTold, IsTold, IsTermNaming, IsPut, TermStep}
 use Rattle.branch_state.specs.Naming.{LooksAs, offence, or_zero, OwnLinks}
 use Rattle.branch_state.proofs.StoreVariables.{family_more, still_valued}
 
@@ -294,7 +293,7 @@ module _ (h : Cells) (sets : List (List ℕ)) (N : Term → Type 0) (now : Cells
   still_of = of_same h now c (sym w.links.size) (sym (ap length w.links.parts)) own
 
   -- and is seen as before
-  pub still_shown : (name : Naming) → shown_as name now S c ≡ shown_as name h sets c
+  pub still_shown : (name : Naming) → seen_term name now (family_of S) c ≡ seen_term name h (family_of sets) c
   still_shown name =
       ap (apply (λ d. value_at (link_in now d) (family_of S) d)) (w.links.terms name c own)
       ∙ same_apply (λ d. value_at (link_in now d) (family_of S) d) (λ d. value_at (link_in h d) (family_of sets) d) (still_valued h sets now S w.more w.links (λ d k i. (w.listed d k i).1) w.same) (term_of name h c)

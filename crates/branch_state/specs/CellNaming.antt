@@ -9,7 +9,8 @@ use Rattle.fd_model.specs.Posting.{or_later}
 use Rattle.heap_cells.specs.declared.Cell.{Cell}
 use Rattle.heap_cells.specs.Atoms.{HasAtomsBelow}
 use Rattle.heap_cells.specs.Cells.{Cells}
-use Rattle.heap_cells.specs.Terms.{Naming, term_of}
+use Rattle.heap_cells.specs.SeenTerms.{seen_term}
+use Rattle.heap_cells.specs.Terms.{Naming}
 use Rattle.range_code.specs.declared.frame.Arg.{Arg}
 use Rattle.range_code.specs.declared.frame.Arg.TheVariants as arg
 use Rattle.range_code.specs.Frames.{family_of}
@@ -19,14 +20,9 @@ use Rattle.unify_core.specs.declared.Touch.TheVariants.{Value, Same}
 use Rattle.machine_frames.specs.CellRanges.{slot_terms}
 use Rattle.machine_frames.specs.Frames.{link_in}
 use Rattle.machine_frames.specs.Posting.{Listed, IsLinkedMore}
-use Rattle.machine_frames.specs.SeenHeap.{read_term}
 use Rattle.branch_state.specs.declared.look.Look.{Look}
 use Rattle.branch_state.specs.declared.look.Look.TheVariants.{Number}
 use Rattle.branch_state.specs.Naming.{offence, first_in, or_zero, LooksAs, NameStep, AllStand}
-
--- what a cell is seen as
-abbrev pub shown_as : Naming → Cells → List (List ℕ) → Cell → Term
-shown_as name h sets c = read_term h (family_of sets) (term_of name h c)
 
 -- what the variables of a range are seen as, by the cells of its slots
 abbrev pub shown_slots : Naming → Cells → List (List ℕ) → Range → List Cell → Substitution
@@ -43,7 +39,7 @@ IsFineGoal h sets r l cells = (name : Naming) (t : Term) → LooksAs h t l
 
 -- what a slot is seen as has no offence
 abbrev pub IsFineSlot : Cells → List (List ℕ) → Option Need → Cell → Type 0
-IsFineSlot h sets need c = (name : Naming) → offence need (shown_as name h sets c) ≡ None
+IsFineSlot h sets need c = (name : Naming) → offence need (seen_term name h (family_of sets) c) ≡ None
 
 -- the slots that are no parameters
 abbrev pub slots_open : List ℕ → List (Option Need) → List ℕ

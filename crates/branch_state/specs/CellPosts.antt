@@ -7,14 +7,16 @@ use Rattle.heap_cells.specs.Cells.{Cells}
 use Rattle.heap_cells.specs.Terms.{Naming}
 use Rattle.machine_relation.specs.Store.{Touch, posts}
 use Rattle.machine_frames.specs.CellRanges.{cells_offence, cells_range, Names, IsTermsLinked}
-use Rattle.branch_state.specs.CellNaming.{shown_as, shown_slots}
+use Rattle.heap_cells.specs.SeenTerms.{seen_term}
+use Rattle.range_code.specs.Frames.{family_of}
+use Rattle.branch_state.specs.CellNaming.{shown_slots}
 use Rattle.branch_state.specs.States.{State, HasNoModel, IsSound, IsSoundBelow}
 use Rattle.branch_state.specs.declared.step.Step.{Step}
 use Rattle.branch_state.specs.declared.step.Step.TheVariants.{Kept, Failed, Fault}
 
 -- what a cell of the branch is seen as
 abbrev pub term_in : Naming → State → Cell → Term
-term_in name s c = shown_as name s.heaps.now s.levels.current.sets c
+term_in name s c = seen_term name s.heaps.now (family_of s.levels.current.sets) c
 
 -- and what the range's variables are
 abbrev pub slots_in : Naming → State → Range → List Cell → Substitution

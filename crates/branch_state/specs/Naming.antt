@@ -12,6 +12,7 @@ use Rattle.fd_model.specs.Levels.{Levels}
 use Rattle.fd_model.specs.Posting.{is_integer, integer_of, or_later, slot}
 use Rattle.heap_cells.specs.Atoms.{HasAtomsBelow}
 use Rattle.heap_cells.specs.Cells.{Cells, free, linked, slot_at, with_slot}
+use Rattle.heap_cells.specs.SeenTerms.{HasLinksBelow}
 use Rattle.heap_cells.specs.Valid.{IsHeap}
 use Rattle.range_code.specs.declared.frame.Arg.{Arg}
 use Rattle.range_code.specs.declared.frame.Arg.TheVariants as arg
@@ -138,10 +139,6 @@ pub record IsReady (s : Substitution) (n : ℕ) (h : Cells) (sets : List (List �
   pub stand : AllStand s (λ y. variable_of s n now ks
       (slot n (integers s (x ∷ named_behind x ys ns)) y)) ys ns as'
 
--- the links of a heap go to variables of the store, of which there are so many
-abbrev pub LinksBelow : ℕ → Cells → Type 0
-LinksBelow n h = (c k : ℕ) → link_in h c ≡ Some k → k < n
-
 -- what can be named: an open variable of the heap, one of the store, or an integer
 abbrev pub CanName : Cells → Look → Type 0
 CanName h (Open i) = (i < length h.slots) × (slot_at h i ≡ free)
@@ -166,5 +163,5 @@ IsInteger l w = Unit {0}
 -- a heap whose links go to variables of the store, each one's own
 pub record OwnLinks (n : ℕ) (h : Cells) : Type 0 where
   pub valid : IsHeap h
-  pub below : LinksBelow n h
+  pub below : HasLinksBelow n h
   pub one : (c d k : ℕ) → link_in h c ≡ Some k → link_in h d ≡ Some k → c ≡ d

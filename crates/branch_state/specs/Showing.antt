@@ -7,7 +7,7 @@ use Rattle.fd_model.specs.Lines.{as_terms}
 use Rattle.heap_cells.specs.declared.Cell.{Cell}
 use Rattle.heap_cells.specs.Cells.{Cells, IsOf}
 use Rattle.heap_cells.specs.Atoms.{IsAtomBelow}
-use Rattle.heap_cells.specs.Terms.{term_of}
+use Rattle.heap_cells.specs.SeenTerms.{seen_term}
 use Rattle.machine_relation.specs.HeldBranches.{link_at}
 use Rattle.machine_relation.specs.AnswerTexts.{cell_set}
 use Rattle.range_code.specs.Frames.{family_of}
@@ -16,12 +16,11 @@ use Rattle.term_pool.specs.Contents.{Contents}
 use Rattle.term_pool.specs.Terms.{term_of as pool_term}
 use Rattle.machine_frames.specs.Frames.{link_in}
 use Rattle.machine_frames.specs.Naming.{full}
-use Rattle.machine_frames.specs.SeenHeap.{read_term}
 use Rattle.machine_events.specs.declared.Shown.{Shown}
 
 -- the cells as they are read
 abbrev pub terms_read : List Name → Cells → List (List ℕ) → List Cell → List Term
-terms_read names h sets cs = map (λ c. read_term h (family_of sets) (term_of (full names) h c)) cs
+terms_read names h sets cs = map (seen_term (full names) h (family_of sets)) cs
 
 -- the set of a variable of the heap that is the store's and has several values
 abbrev pub open_set : Cells → List (List ℕ) → ℕ → Option (List ℕ)

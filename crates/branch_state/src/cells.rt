@@ -7,8 +7,11 @@ ghost use Rattle.heap_cells.specs.Cells.{IsOf};
 ghost use Rattle.heap_cells.specs.Terms.{Naming};
 ghost use Rattle.indexmap.specs.IndexMap.{get};
 ghost use Rattle.range_code.specs.Slots.{slots_of};
-ghost use Rattle.branch_state.specs.CellNaming.{shown_as, shown_slots, IsFineGoal, IsFineSlot, TermStep, SlotStep, IsPrepared};
-ghost use Rattle.branch_state.specs.Naming.{LinksBelow, LooksAs, CanName, OwnLinks, with_level_sets};
+ghost use Rattle.heap_cells.specs.SeenTerms.{seen_term};
+ghost use Rattle.branch_state.specs.CellNaming.{shown_slots, IsFineGoal, IsFineSlot, TermStep, SlotStep, IsPrepared};
+ghost use Rattle.heap_cells.specs.SeenTerms.{HasLinksBelow};
+ghost use Rattle.range_code.specs.Frames.{family_of};
+ghost use Rattle.branch_state.specs.Naming.{LooksAs, CanName, OwnLinks, with_level_sets};
 
 use crate::look::{Look, look_cell};
 use crate::naming::{Prepared, integer_of, name_look, number_arg};
@@ -62,13 +65,13 @@ fn slot_argument<A: Agenda + Drop>(
     need: Option<Need>,
     cell: Cell,
 ) -> Result<Arg, NoMemory>
-    requires linked { LinksBelow (length store.old.current.sets) heap.old.now }
+    requires linked { HasLinksBelow (length store.old.current.sets) heap.old.now }
     requires own { IsOf heap.old.now cell }
     requires fine { IsFineSlot heap.old.now store.old.current.sets need cell }
     ensures store { OnOk result (store.new ≡ with_level_sets store.old store.new.current.sets) }
     ensures below { heap.new.below ≡ heap.old.below }
     ensures step { IfOk result (λ a. (name : Naming) → SlotStep
-        (shown_as name heap.old.now store.old.current.sets cell) need heap.old.now
+        (seen_term name heap.old.now (family_of store.old.current.sets) cell) need heap.old.now
         store.old.current.sets numbers.old.told.items (get int_eq numbers.old.variables)
         heap.new.now store.new.current.sets numbers.new.told.items
         (get int_eq numbers.new.variables) a) }

@@ -5,7 +5,8 @@ ghost use Rattle.fd_model.specs.Constraining.{expand as expanded, arguments as a
 ghost use Rattle.heap_cells.specs.Cells.{IsOf, with_now};
 ghost use Rattle.heap_cells.specs.Atoms.{IsAtomBelow, HasAtomsBelow};
 ghost use Rattle.heap_cells.specs.Valid.{IsHeap};
-ghost use Rattle.heap_terms.specs.Values.{shown_term, LinksBelow};
+ghost use Rattle.heap_cells.specs.SeenTerms.{seen_term, HasLinksBelow};
+ghost use Rattle.range_code.specs.Frames.{family_of};
 ghost use Rattle.term_pool.specs.Contents.{name_in};
 ghost use Rattle.term_pool.specs.Terms.{term_of as pool_term, terms_by};
 ghost use Rattle.term_pool.specs.Valid.{IsPool};
@@ -93,9 +94,9 @@ pub(crate) fn expand_goal<A: Agenda + Drop>(
     requires own { IsOf heap.now.now goal }
     requires atoms { HasAtomsBelow (length from.now.names) heap.now.now }
     requires atom { IsAtomBelow (length from.now.names) goal }
-    requires linked { LinksBelow (length store.now.current.sets) heap.now.now }
-    ensures row { Expands (expanded kind (arguments_of (shown_term (name_in from.now.names)
-        heap.now.now store.now.current.sets goal)) fresh) result }
+    requires linked { HasLinksBelow (length store.now.current.sets) heap.now.now }
+    ensures row { Expands (expanded kind (arguments_of (seen_term (name_in from.now.names)
+        heap.now.now (family_of store.now.current.sets) goal)) fresh) result }
     ensures words { IfOk result (λ x. AreWords x.equated) }
 {
     let mut terms = Pool::new(alloc)?;

@@ -7,13 +7,15 @@ ghost use Rattle.heap_cells.specs.Cells.{IsOf};
 ghost use Rattle.heap_cells.specs.Terms.{Naming};
 ghost use Rattle.range_code.specs.Slots.{slots_of};
 ghost use Rattle.branch_state.specs.declared.look.Look.TheVariants as looks;
-ghost use Rattle.branch_state.specs.CellNaming.{shown_as, shown_slots, slots_offence};
-ghost use Rattle.branch_state.specs.Naming.{LinksBelow, LooksAs, IsKind, offence};
+ghost use Rattle.heap_cells.specs.SeenTerms.{seen_term};
+ghost use Rattle.branch_state.specs.CellNaming.{shown_slots, slots_offence};
+ghost use Rattle.heap_cells.specs.SeenTerms.{HasLinksBelow};
+ghost use Rattle.range_code.specs.Frames.{family_of};
+ghost use Rattle.branch_state.specs.Naming.{LooksAs, IsKind, offence};
 
 use fd_language::Need;
 use fd_model::kinds::QueryFault;
 use heap_cells::{Cell, Heap, Seen};
-use heap_terms::only_value;
 use propagate_queue::{Agenda, Store};
 use range_code::RangeCode;
 
@@ -39,14 +41,14 @@ fn number(value: i64) -> Look
 
 /// What a cell is seen as.
 pub(crate) fn look_cell<A: Agenda + Drop>(heap: &Heap, store: &Store<A>, cell: Cell) -> Look
-    requires linked { LinksBelow (length store.now.current.sets) heap.now.now }
+    requires linked { HasLinksBelow (length store.now.current.sets) heap.now.now }
     requires own { IsOf heap.now.now cell }
     ensures { (name : Naming) → LooksAs heap.now.now
-        (shown_as name heap.now.now store.now.current.sets cell) result }
+        (seen_term name heap.now.now (family_of store.now.current.sets) cell) result }
 {
     match heap.deref(cell) {
         Seen::Open(i) => Look::Open(i),
-        Seen::Constrained(_, k) => match only_value(store.domain(k)) {
+        Seen::Constrained(_, k) => match store.domain(k).only_value() {
             Some(value) => number(i64::from(value)),
             None => Look::Linked(k),
         },
@@ -92,7 +94,7 @@ pub(crate) fn find_cells_offence<A: Agenda + Drop>(
     target: Look,
     cells: &[Cell],
 ) -> Option<QueryFault>
-    requires linked { LinksBelow (length store.now.current.sets) heap.now.now }
+    requires linked { HasLinksBelow (length store.now.current.sets) heap.now.now }
     requires cells { All (IsOf heap.now.now) cells.now }
     requires counted { length cells.now ≡ length (slots_of code.now) }
     ensures { (name : Naming) (t : Term) → IsKind t target → result ≡ slots_offence t

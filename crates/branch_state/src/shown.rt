@@ -3,7 +3,8 @@
 ghost use Rattle.std.specs.Prelude.{◌≡◌, ◌<◌, ◌++◌, ◌∷◌, [], ℕ, List, length, map, reverse, All, MatchOption, IfOk, OnOk};
 ghost use Rattle.fd_language.specs.Variables.{distinct};
 ghost use Rattle.heap_cells.specs.Atoms.{HasAtomsBelow};
-ghost use Rattle.heap_terms.specs.Values.{shown_term, LinksBelow};
+ghost use Rattle.heap_cells.specs.SeenTerms.{seen_term, HasLinksBelow};
+ghost use Rattle.range_code.specs.Frames.{family_of};
 ghost use Rattle.term_pool.specs.Contents.{name_in};
 ghost use Rattle.term_pool.specs.Terms.{term_of as pool_term};
 ghost use Rattle.branch_state.specs.Showing.{open_set, with_sets, variables_at, IsShown, AreShowable, AreGathered};
@@ -12,7 +13,7 @@ use crate::heap_facts::know;
 use domain_ranges::Domain;
 use fd_language::NoMemory;
 use heap_cells::{Cell, Heap, Seen};
-use heap_terms::{only_value, read_back};
+use heap_terms::read_back;
 use indexmap::IndexSet;
 use machine_events::Shown;
 use propagate_queue::{Agenda, Store};
@@ -30,10 +31,10 @@ fn read_cells<A: Agenda + Drop>(
 ) -> Result<Vec<TermId>, NoMemory>
     requires atoms { HasAtomsBelow (length from.now.names) heap.now.now }
     requires cells { AreShowable (length from.now.names) heap.now.now cells.now }
-    requires linked { LinksBelow (length store.now.current.sets) heap.now.now }
+    requires linked { HasLinksBelow (length store.now.current.sets) heap.now.now }
     ensures own { IfOk result (λ v. All (λ t. t.number < length pool.new.entries) v.items) }
     ensures terms { IfOk result (λ v. map (pool_term pool.new) v.items
-        ≡ map (shown_term (name_in from.now.names) heap.now.now store.now.current.sets) cells.now) }
+        ≡ map (seen_term (name_in from.now.names) heap.now.now (family_of store.now.current.sets)) cells.now) }
 {
     let mut terms = Vec::with_capacity(alloc, cells.len())?;
     for cell in cells {
@@ -76,7 +77,7 @@ fn open_domain<'s, A: Agenda + Drop>(
     store: &'s Store<A>,
     i: usize,
 ) -> Option<&'s Domain>
-    requires { LinksBelow (length store.now.current.sets) heap.now.now }
+    requires { HasLinksBelow (length store.now.current.sets) heap.now.now }
     ensures { MatchOption result (open_set heap.now.now store.now.current.sets i ≡ None)
         (λ d. open_set heap.now.now store.now.current.sets i ≡ Some d.now) }
 {
@@ -90,7 +91,7 @@ fn open_domain<'s, A: Agenda + Drop>(
         return None;
     }
     let domain = store.domain(k);
-    if only_value(domain).is_some() {
+    if domain.only_value().is_some() {
         return None;
     }
     Some(domain)
@@ -104,7 +105,7 @@ fn add_set<A: Agenda + Drop>(
     seen: &mut IndexSet<u64>,
     sets: &mut Vec<(u64, Domain)>,
 ) -> Result<(), NoMemory>
-    requires { LinksBelow (length store.now.current.sets) heap.now.now }
+    requires { HasLinksBelow (length store.now.current.sets) heap.now.now }
     ensures { OnOk result ((xs : List ℕ) → AreGathered (open_set heap.now.now
         store.now.current.sets) xs seen.old.keys sets.old.items → AreGathered
         (open_set heap.now.now store.now.current.sets) (xs ++ variable ∷ []) seen.new.keys
@@ -125,7 +126,7 @@ fn sets_of<A: Agenda + Drop>(
     store: &Store<A>,
     variables: &[u64],
 ) -> Result<Vec<(u64, Domain)>, NoMemory>
-    requires { LinksBelow (length store.now.current.sets) heap.now.now }
+    requires { HasLinksBelow (length store.now.current.sets) heap.now.now }
     ensures { IfOk result (λ v. v.items ≡ with_sets (open_set heap.now.now
         store.now.current.sets) (distinct variables.now)) }
 {
@@ -147,7 +148,7 @@ pub(crate) fn show_cells<A: Agenda + Drop>(
 ) -> Result<Shown, NoMemory>
     requires atoms { HasAtomsBelow (length from.now.names) heap.now.now }
     requires cells { AreShowable (length from.now.names) heap.now.now cells.now }
-    requires linked { LinksBelow (length store.now.current.sets) heap.now.now }
+    requires linked { HasLinksBelow (length store.now.current.sets) heap.now.now }
     ensures { IfOk result (IsShown from.now.names heap.now.now store.now.current.sets cells.now) }
 {
     know(heap);

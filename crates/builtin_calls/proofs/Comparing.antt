@@ -4,6 +4,7 @@ use Rattle.std.specs.Prelude.{All, reverse}
 use Rattle.std.proofs.lemmas.Bool.{false≢true, not-false}
 use Rattle.std.proofs.lemmas.List.{reverse-append, reverse-reverse}
 use Rattle.std.proofs.lemmas.List.Elements.{All-append}
+use Rattle.fd_language.specs.Family.{Family}
 use Rattle.term_pool.proofs.Lemmas.{size_above_zero}
 use Rattle.term_pool.specs.declared.AtomId.{AtomId}
 use Rattle.term_pool.specs.Terms.{size, sizes}
@@ -16,14 +17,14 @@ use Rattle.heap_cells.specs.Terms.{Naming, terms_by, Same}
 use Rattle.heap_cells.specs.Valid.{IsHeap}
 use Rattle.heap_cells.proofs.Lemmas.{none_at_all, both_of, all_front, last_of, all_reverse, all_push, head_of, tail_of}
 use Rattle.builtin_calls.specs.declared.identity.Pair.{Pair}
-use Rattle.builtin_calls.specs.SeenTerms.{family_of, read_term, seen_term}
+use Rattle.heap_cells.specs.SeenTerms.{read_term, seen_term}
 use Rattle.builtin_calls.specs.CellTops.{shown, IsHeld}
 use Rattle.builtin_calls.specs.Evaluations.{unnamed}
 use Rattle.builtin_calls.specs.Identical.{TellsIdentical, TellsShown, IsOwnPair, IsEqualPair, weight, paired, IsReduced, IsSettled}
 
 -- cells with one term have one term as the sets show it
-pub same_seen : (h : Cells) (sets : List (List ℕ)) (c d : Cell) → Same h c d → (name : Naming) → seen_term name h sets c ≡ seen_term name h sets d
-same_seen h sets c d s name = ap (read_term h (family_of sets)) (s name)
+pub same_seen : (h : Cells) (G : Family) (c d : Cell) → Same h c d → (name : Naming) → seen_term name h G c ≡ seen_term name h G d
+same_seen h G c d s name = ap (read_term h G) (s name)
 
 -- whether two atoms are one, as a comparison of them tells
 pub atom_same : (f g : AtomId) (b : Bool) → b ≡ not (f.number == g.number) → b ≡ false → f ≡ g
@@ -80,85 +81,85 @@ first_pair (suc i) [] rs d l m = absurd (omega arith)
 first_pair (suc i) (c ∷ ls) [] d l m = absurd (omega arith)
 first_pair (suc i) (c ∷ ls) (e ∷ rs) d l m = first_pair i ls rs d (omega arith) (omega arith)
 
-module _ (h : Cells) (sets : List (List ℕ)) where
-  paired_equal : (name : Naming) (cs ds : List Cell) → terms_by (seen_term name h sets) cs ≡ terms_by (seen_term name h sets) ds → All (IsEqualPair name h sets) (paired cs ds)
-  paired_equal name [] ds e = none_at_all (IsEqualPair name h sets)
-  paired_equal name (c ∷ cs) [] e = none_at_all (IsEqualPair name h sets)
+module _ (h : Cells) (G : Family) where
+  paired_equal : (name : Naming) (cs ds : List Cell) → terms_by (seen_term name h G) cs ≡ terms_by (seen_term name h G) ds → All (IsEqualPair name h G) (paired cs ds)
+  paired_equal name [] ds e = none_at_all (IsEqualPair name h G)
+  paired_equal name (c ∷ cs) [] e = none_at_all (IsEqualPair name h G)
   paired_equal name (c ∷ cs) (d ∷ ds) e =
-      both_of (IsEqualPair name h sets) (record { left = c; right = d }) (paired cs ds) (let f : seen_term name h sets c ≡ seen_term name h sets d = cc in f)
-      (paired_equal name cs ds (let f : terms_by (seen_term name h sets) cs ≡ terms_by (seen_term name h sets) ds = cc in f))
+      both_of (IsEqualPair name h G) (record { left = c; right = d }) (paired cs ds) (let f : seen_term name h G c ≡ seen_term name h G d = cc in f)
+      (paired_equal name cs ds (let f : terms_by (seen_term name h G) cs ≡ terms_by (seen_term name h G) ds = cc in f))
 
-  equal_paired : (name : Naming) (cs ds : List Cell) → length cs ≡ length ds → All (IsEqualPair name h sets) (paired cs ds) → terms_by (seen_term name h sets) cs ≡ terms_by (seen_term name h sets) ds
+  equal_paired : (name : Naming) (cs ds : List Cell) → length cs ≡ length ds → All (IsEqualPair name h G) (paired cs ds) → terms_by (seen_term name h G) cs ≡ terms_by (seen_term name h G) ds
   equal_paired name [] [] l a = refl
   equal_paired name [] (d ∷ ds) l a = absurd (omega arith)
   equal_paired name (c ∷ cs) [] l a = absurd (omega arith)
   equal_paired name (c ∷ cs) (d ∷ ds) l a =
       let p : Pair = record { left = c; right = d } in
-      let f : seen_term name h sets c ≡ seen_term name h sets d = head_of (IsEqualPair name h sets) p (paired cs ds) a in
-      let g = equal_paired name cs ds (let e : length cs ≡ length ds = omega arith in e) (tail_of (IsEqualPair name h sets) p (paired cs ds) a) in
+      let f : seen_term name h G c ≡ seen_term name h G d = head_of (IsEqualPair name h G) p (paired cs ds) a in
+      let g = equal_paired name cs ds (let e : length cs ≡ length ds = omega arith in e) (tail_of (IsEqualPair name h G) p (paired cs ds) a) in
       cc
 
   -- two cells with one term
-  pub reduced_same : (ps : List Pair) (p : Pair) → ((name : Naming) → IsEqualPair name h sets p) → IsReduced h sets (ps ++ p ∷ []) ps
+  pub reduced_same : (ps : List Pair) (p : Pair) → ((name : Naming) → IsEqualPair name h G p) → IsReduced h G (ps ++ p ∷ []) ps
   reduced_same ps p e = record {
-    forth = λ name a. all_front (IsEqualPair name h sets) ps (p ∷ []) a;
-    back = λ name a. all_push (IsEqualPair name h sets) ps p a (e name);
+    forth = λ name a. all_front (IsEqualPair name h G) ps (p ∷ []) a;
+    back = λ name a. all_push (IsEqualPair name h G) ps p a (e name);
     own = λ a. all_front (IsOwnPair h) ps (p ∷ []) a;
-    falls = let q = weight-append (seen_term unnamed h sets) ps (p ∷ []) in let r = size_above_zero (seen_term unnamed h sets p.left) in omega arith;
+    falls = let q = weight-append (seen_term unnamed h G) ps (p ∷ []) in let r = size_above_zero (seen_term unnamed h G p.left) in omega arith;
   }
 
   -- pairs that are settled one by one
-  settled_same : (os new : List Pair) (p : Pair) → IsSettled h sets os new → ((name : Naming) → IsEqualPair name h sets p) → IsSettled h sets (os ++ p ∷ []) new
+  settled_same : (os new : List Pair) (p : Pair) → IsSettled h G os new → ((name : Naming) → IsEqualPair name h G p) → IsSettled h G (os ++ p ∷ []) new
   settled_same os new p s e = record {
-    forth = λ name a. s.forth name (all_front (IsEqualPair name h sets) os (p ∷ []) a);
-    back = λ name a. all_push (IsEqualPair name h sets) os p (s.back name a) (e name);
+    forth = λ name a. s.forth name (all_front (IsEqualPair name h G) os (p ∷ []) a);
+    back = λ name a. all_push (IsEqualPair name h G) os p (s.back name a) (e name);
     own = λ a. s.own (all_front (IsOwnPair h) os (p ∷ []) a);
-    lighter = let w = weight-append (seen_term unnamed h sets) os (p ∷ []) in let l = s.lighter in omega arith;
+    lighter = let w = weight-append (seen_term unnamed h G) os (p ∷ []) in let l = s.lighter in omega arith;
   }
 
-  settled_push : (os new : List Pair) (p q : Pair) → IsSettled h sets os new → ((name : Naming) → seen_term name h sets p.left ≡ seen_term name h sets q.left) → ((name : Naming) → seen_term name h sets p.right ≡ seen_term name h sets q.right) → IsOwnPair h q → IsSettled h sets (os ++ p ∷ []) (new ++ q ∷ [])
+  settled_push : (os new : List Pair) (p q : Pair) → IsSettled h G os new → ((name : Naming) → seen_term name h G p.left ≡ seen_term name h G q.left) → ((name : Naming) → seen_term name h G p.right ≡ seen_term name h G q.right) → IsOwnPair h q → IsSettled h G (os ++ p ∷ []) (new ++ q ∷ [])
   settled_push os new p q s l r o = record {
-    forth = λ name a. all_push (IsEqualPair name h sets) new q (s.forth name (all_front (IsEqualPair name h sets) os (p ∷ []) a)) (sym (l name) ∙ last_of (IsEqualPair name h sets) os p a ∙ r name);
-    back = λ name a. all_push (IsEqualPair name h sets) os p (s.back name (all_front (IsEqualPair name h sets) new (q ∷ []) a)) (l name ∙ last_of (IsEqualPair name h sets) new q a ∙ sym (r name));
+    forth = λ name a. all_push (IsEqualPair name h G) new q (s.forth name (all_front (IsEqualPair name h G) os (p ∷ []) a)) (sym (l name) ∙ last_of (IsEqualPair name h G) os p a ∙ r name);
+    back = λ name a. all_push (IsEqualPair name h G) os p (s.back name (all_front (IsEqualPair name h G) new (q ∷ []) a)) (l name ∙ last_of (IsEqualPair name h G) new q a ∙ sym (r name));
     own = λ a. all_push (IsOwnPair h) new q (s.own (all_front (IsOwnPair h) os (p ∷ []) a)) o;
     lighter =
-        let w = weight-append (seen_term unnamed h sets) os (p ∷ []) in
-        let v = weight-append (seen_term unnamed h sets) new (q ∷ []) in
-        let e : size (seen_term unnamed h sets p.left) ≡ size (seen_term unnamed h sets q.left) = ap size (l unnamed) in
+        let w = weight-append (seen_term unnamed h G) os (p ∷ []) in
+        let v = weight-append (seen_term unnamed h G) new (q ∷ []) in
+        let e : size (seen_term unnamed h G p.left) ≡ size (seen_term unnamed h G q.left) = ap size (l unnamed) in
         let m = s.lighter in
         omega arith;
   }
 
   -- the pairs from one place on
-  pub settled_none : (old : List Pair) (ls rs : List Cell) (n : ℕ) → length ls ≤ n → IsSettled h sets (old ++ reverse (paired (drop n ls) (drop n rs))) old
-  settled_none old ls rs n l = subst (λ ps. IsSettled h sets ps old) (sym (ap (λ ps. old ++ reverse ps) (no_pairs n ls rs l) ∙ append-nil old)) record {
+  pub settled_none : (old : List Pair) (ls rs : List Cell) (n : ℕ) → length ls ≤ n → IsSettled h G (old ++ reverse (paired (drop n ls) (drop n rs))) old
+  settled_none old ls rs n l = subst (λ ps. IsSettled h G ps old) (sym (ap (λ ps. old ++ reverse ps) (no_pairs n ls rs l) ∙ append-nil old)) record {
     forth = λ name a. a;
     back = λ name a. a;
     own = λ a. a;
     lighter = omega arith;
   }
 
-  settled_at : (old new : List Pair) (ls rs : List Cell) (i j : ℕ) (d : Cell) → suc i ≡ j → i < length ls → i < length rs → IsSettled h sets ((old ++ reverse (paired (drop j ls) (drop j rs))) ++ record { left = get_or ls i d; right = get_or rs i d } ∷ []) new → IsSettled h sets (old ++ reverse (paired (drop i ls) (drop i rs))) new
+  settled_at : (old new : List Pair) (ls rs : List Cell) (i j : ℕ) (d : Cell) → suc i ≡ j → i < length ls → i < length rs → IsSettled h G ((old ++ reverse (paired (drop j ls) (drop j rs))) ++ record { left = get_or ls i d; right = get_or rs i d } ∷ []) new → IsSettled h G (old ++ reverse (paired (drop i ls) (drop i rs))) new
   settled_at old new ls rs i j d n l m s =
       let p : Pair = record { left = get_or ls i d; right = get_or rs i d } in
       let qs = paired (drop j ls) (drop j rs) in
-      subst (λ ps. IsSettled h sets ps new)
+      subst (λ ps. IsSettled h G ps new)
       (append_assoc old (reverse qs) (p ∷ []) ∙ ap (λ ps. old ++ ps) (sym (reverse-append (p ∷ []) qs)) ∙ ap (λ ps. old ++ reverse ps) (sym (first_pair i ls rs d l m ∙ ap (λ k. p ∷ paired (drop k ls) (drop k rs)) n))) s
 
-  pub settled_skip : (old new : List Pair) (ls rs : List Cell) (i j : ℕ) (d x y : Cell) → suc i ≡ j → i < length ls → i < length rs → IsSettled h sets (old ++ reverse (paired (drop j ls) (drop j rs))) new → Same h (get_or ls i d) x → Same h (get_or rs i d) y → x ≡ y
-      → IsSettled h sets (old ++ reverse (paired (drop i ls) (drop i rs))) new
+  pub settled_skip : (old new : List Pair) (ls rs : List Cell) (i j : ℕ) (d x y : Cell) → suc i ≡ j → i < length ls → i < length rs → IsSettled h G (old ++ reverse (paired (drop j ls) (drop j rs))) new → Same h (get_or ls i d) x → Same h (get_or rs i d) y → x ≡ y
+      → IsSettled h G (old ++ reverse (paired (drop i ls) (drop i rs))) new
   settled_skip old new ls rs i j d x y n l m s a b e =
       settled_at old new ls rs i j d n l m (settled_same (old ++ reverse (paired (drop j ls) (drop j rs))) new (record { left = get_or ls i d; right = get_or rs i d }) s
-      (λ name. same_seen h sets (get_or ls i d) x a name ∙ ap (seen_term name h sets) e ∙ sym (same_seen h sets (get_or rs i d) y b name)))
+      (λ name. same_seen h G (get_or ls i d) x a name ∙ ap (seen_term name h G) e ∙ sym (same_seen h G (get_or rs i d) y b name)))
 
-  pub settled_put : (old new : List Pair) (ls rs : List Cell) (i j : ℕ) (d x y : Cell) → suc i ≡ j → i < length ls → i < length rs → IsSettled h sets (old ++ reverse (paired (drop j ls) (drop j rs))) new → Same h (get_or ls i d) x → Same h (get_or rs i d) y → IsOf h x → IsOf h y
-      → IsSettled h sets (old ++ reverse (paired (drop i ls) (drop i rs))) (new ++ record { left = x; right = y } ∷ [])
+  pub settled_put : (old new : List Pair) (ls rs : List Cell) (i j : ℕ) (d x y : Cell) → suc i ≡ j → i < length ls → i < length rs → IsSettled h G (old ++ reverse (paired (drop j ls) (drop j rs))) new → Same h (get_or ls i d) x → Same h (get_or rs i d) y → IsOf h x → IsOf h y
+      → IsSettled h G (old ++ reverse (paired (drop i ls) (drop i rs))) (new ++ record { left = x; right = y } ∷ [])
   settled_put old new ls rs i j d x y n l m s a b o k =
       settled_at old (new ++ record { left = x; right = y } ∷ []) ls rs i j d n l m
       (settled_push (old ++ reverse (paired (drop j ls) (drop j rs))) new (record { left = get_or ls i d; right = get_or rs i d }) (record { left = x; right = y }) s
-      (λ name. same_seen h sets (get_or ls i d) x a name) (λ name. same_seen h sets (get_or rs i d) y b name) (o, k))
+      (λ name. same_seen h G (get_or ls i d) x a name) (λ name. same_seen h G (get_or rs i d) y b name) (o, k))
 
-  reduced_settled : (old mid new : List Pair) → IsReduced h sets old mid → IsSettled h sets mid new → IsReduced h sets old new
+  reduced_settled : (old mid new : List Pair) → IsReduced h G old mid → IsSettled h G mid new → IsReduced h G old new
   reduced_settled old mid new r s = record {
     forth = λ name a. s.forth name (r.forth name a);
     back = λ name a. r.back name (s.back name a);
@@ -167,21 +168,21 @@ module _ (h : Cells) (sets : List (List ℕ)) where
   }
 
   -- two compound terms with one name and as many arguments
-  reduced_parts : (ps new : List Pair) (p : Pair) (f : AtomId) (cs ds : List Cell) → ((name : Naming) → seen_term name h sets p.left ≡ Comp (name f) (terms_by (seen_term name h sets) cs)) → ((name : Naming) → seen_term name h sets p.right ≡ Comp (name f) (terms_by (seen_term name h sets) ds))
-      → All (IsOf h) cs → All (IsOf h) ds → length cs ≡ length ds → new ≡ ps ++ reverse (paired cs ds) → IsReduced h sets (ps ++ p ∷ []) new
-  reduced_parts ps new p f cs ds a b x y l e = subst (λ qs. IsReduced h sets (ps ++ p ∷ []) qs) (sym e) record {
+  reduced_parts : (ps new : List Pair) (p : Pair) (f : AtomId) (cs ds : List Cell) → ((name : Naming) → seen_term name h G p.left ≡ Comp (name f) (terms_by (seen_term name h G) cs)) → ((name : Naming) → seen_term name h G p.right ≡ Comp (name f) (terms_by (seen_term name h G) ds))
+      → All (IsOf h) cs → All (IsOf h) ds → length cs ≡ length ds → new ≡ ps ++ reverse (paired cs ds) → IsReduced h G (ps ++ p ∷ []) new
+  reduced_parts ps new p f cs ds a b x y l e = subst (λ qs. IsReduced h G (ps ++ p ∷ []) qs) (sym e) record {
     forth = λ name g.
-        let i : seen_term name h sets p.left ≡ seen_term name h sets p.right = last_of (IsEqualPair name h sets) ps p g in
+        let i : seen_term name h G p.left ≡ seen_term name h G p.right = last_of (IsEqualPair name h G) ps p g in
         let j = sym (a name) ∙ i ∙ b name in
-        All-append (IsEqualPair name h sets) ps (reverse (paired cs ds)) (all_front (IsEqualPair name h sets) ps (p ∷ []) g)
-        (all_reverse (IsEqualPair name h sets) (paired cs ds) (paired_equal name cs ds (let k : terms_by (seen_term name h sets) cs ≡ terms_by (seen_term name h sets) ds = cc in k)));
+        All-append (IsEqualPair name h G) ps (reverse (paired cs ds)) (all_front (IsEqualPair name h G) ps (p ∷ []) g)
+        (all_reverse (IsEqualPair name h G) (paired cs ds) (paired_equal name cs ds (let k : terms_by (seen_term name h G) cs ≡ terms_by (seen_term name h G) ds = cc in k)));
     back = λ name g.
-        let k = all_reverse (IsEqualPair name h sets) (reverse (paired cs ds)) (all_behind (IsEqualPair name h sets) ps (reverse (paired cs ds)) g) in
-        let m = subst (All (IsEqualPair name h sets)) (reverse-reverse (paired cs ds)) k in
-        all_push (IsEqualPair name h sets) ps p (all_front (IsEqualPair name h sets) ps (reverse (paired cs ds)) g) (a name ∙ ap (Comp (name f)) (equal_paired name cs ds l m) ∙ sym (b name));
+        let k = all_reverse (IsEqualPair name h G) (reverse (paired cs ds)) (all_behind (IsEqualPair name h G) ps (reverse (paired cs ds)) g) in
+        let m = subst (All (IsEqualPair name h G)) (reverse-reverse (paired cs ds)) k in
+        all_push (IsEqualPair name h G) ps p (all_front (IsEqualPair name h G) ps (reverse (paired cs ds)) g) (a name ∙ ap (Comp (name f)) (equal_paired name cs ds l m) ∙ sym (b name));
     own = λ g. All-append (IsOwnPair h) ps (reverse (paired cs ds)) (all_front (IsOwnPair h) ps (p ∷ []) g) (all_reverse (IsOwnPair h) (paired cs ds) (own_paired h cs ds x y));
     falls =
-        let by = seen_term unnamed h sets in
+        let by = seen_term unnamed h G in
         let q = weight-append by ps (p ∷ []) in
         let r = weight-append by ps (reverse (paired cs ds)) in
         let s = weight-reverse by (paired cs ds) in
@@ -191,36 +192,36 @@ module _ (h : Cells) (sets : List (List ℕ)) where
   }
 
   -- the same, where the pairs of their arguments are settled
-  pub parts_settled : (ps new : List Pair) (p : Pair) (f g : AtomId) (cs ds : List Cell) → f ≡ g → ((name : Naming) → seen_term name h sets p.left ≡ Comp (name f) (terms_by (seen_term name h sets) cs)) → ((name : Naming) → seen_term name h sets p.right ≡ Comp (name g) (terms_by (seen_term name h sets) ds))
-      → All (IsOf h) cs → All (IsOf h) ds → length cs ≡ length ds → IsSettled h sets (ps ++ reverse (paired cs ds)) new → IsReduced h sets (ps ++ p ∷ []) new
+  pub parts_settled : (ps new : List Pair) (p : Pair) (f g : AtomId) (cs ds : List Cell) → f ≡ g → ((name : Naming) → seen_term name h G p.left ≡ Comp (name f) (terms_by (seen_term name h G) cs)) → ((name : Naming) → seen_term name h G p.right ≡ Comp (name g) (terms_by (seen_term name h G) ds))
+      → All (IsOf h) cs → All (IsOf h) ds → length cs ≡ length ds → IsSettled h G (ps ++ reverse (paired cs ds)) new → IsReduced h G (ps ++ p ∷ []) new
   parts_settled ps new p f g cs ds e a b x y l s =
       reduced_settled (ps ++ p ∷ []) (ps ++ reverse (paired cs ds)) new
-      (reduced_parts ps (ps ++ reverse (paired cs ds)) p f cs ds a (λ name. b name ∙ ap (λ i. Comp (name i) (terms_by (seen_term name h sets) ds)) (sym e)) x y l refl) s
+      (reduced_parts ps (ps ++ reverse (paired cs ds)) p f cs ds a (λ name. b name ∙ ap (λ i. Comp (name i) (terms_by (seen_term name h G) ds)) (sym e)) x y l refl) s
 
   -- two compound terms with other names, or with other numbers of arguments
-  pub parts_apart : (p : Pair) (f g : AtomId) (cs ds : List Cell) → ((name : Naming) → seen_term name h sets p.left ≡ Comp (name f) (terms_by (seen_term name h sets) cs)) → ((name : Naming) → seen_term name h sets p.right ≡ Comp (name g) (terms_by (seen_term name h sets) ds))
-      → (f ≡ g → length cs ≡ length ds → ⊥) → TellsIdentical h sets p.left p.right false
+  pub parts_apart : (p : Pair) (f g : AtomId) (cs ds : List Cell) → ((name : Naming) → seen_term name h G p.left ≡ Comp (name f) (terms_by (seen_term name h G) cs)) → ((name : Naming) → seen_term name h G p.right ≡ Comp (name g) (terms_by (seen_term name h G) ds))
+      → (f ≡ g → length cs ≡ length ds → ⊥) → TellsIdentical h G p.left p.right false
   parts_apart p f g cs ds a b n name o e =
       let j = sym (a name) ∙ e ∙ b name in
-      n (o f g (let k : name f ≡ name g = cc in k)) (same_count (seen_term name h sets) cs ds (let k : terms_by (seen_term name h sets) cs ≡ terms_by (seen_term name h sets) ds = cc in k))
+      n (o f g (let k : name f ≡ name g = cc in k)) (same_count (seen_term name h G) cs ds (let k : terms_by (seen_term name h G) cs ≡ terms_by (seen_term name h G) ds = cc in k))
 
   -- a term that is no compound term, and another one
-  pub flat_alike : (ps : List Pair) (p : Pair) (x y : Seen) (b : Bool) → b ≡ true → ((name : Naming) → seen_term name h sets p.left ≡ shown name (seen_term name h sets) x) → ((name : Naming) → seen_term name h sets p.right ≡ shown name (seen_term name h sets) y) → TellsShown x y b → IsReduced h sets (ps ++ p ∷ []) ps
-  flat_alike ps p x y true e l r t = reduced_same ps p (λ name. l name ∙ t name (seen_term name h sets) ∙ sym (r name))
+  pub flat_alike : (ps : List Pair) (p : Pair) (x y : Seen) (b : Bool) → b ≡ true → ((name : Naming) → seen_term name h G p.left ≡ shown name (seen_term name h G) x) → ((name : Naming) → seen_term name h G p.right ≡ shown name (seen_term name h G) y) → TellsShown x y b → IsReduced h G (ps ++ p ∷ []) ps
+  flat_alike ps p x y true e l r t = reduced_same ps p (λ name. l name ∙ t name (seen_term name h G) ∙ sym (r name))
   flat_alike ps p x y false e l r t = absurd (false≢true e)
 
   -- so far
   pub record IsComparing (a b : Cell) (work : List Pair) : Type 0 where
-    pub forth : (name : Naming) → seen_term name h sets a ≡ seen_term name h sets b → All (IsEqualPair name h sets) work
-    pub back : (name : Naming) → All (IsEqualPair name h sets) work → seen_term name h sets a ≡ seen_term name h sets b
+    pub forth : (name : Naming) → seen_term name h G a ≡ seen_term name h G b → All (IsEqualPair name h G) work
+    pub back : (name : Naming) → All (IsEqualPair name h G) work → seen_term name h G a ≡ seen_term name h G b
     pub own : All (IsOwnPair h) work
 
   comparing_first : (a b : Cell) (work : List Pair) → IsOf h a → IsOf h b → work ≡ record { left = a; right = b } ∷ [] → IsComparing a b work
   comparing_first a b work x y e = subst (IsComparing a b) (sym e) (
       let p : Pair = record { left = a; right = b } in
       record {
-        forth = λ name i. both_of (IsEqualPair name h sets) p [] i (none_at_all (IsEqualPair name h sets));
-        back = λ name i. head_of (IsEqualPair name h sets) p [] i;
+        forth = λ name i. both_of (IsEqualPair name h G) p [] i (none_at_all (IsEqualPair name h G));
+        back = λ name i. head_of (IsEqualPair name h G) p [] i;
         own = both_of (IsOwnPair h) p [] (x, y) (none_at_all (IsOwnPair h));
       })
 
@@ -228,8 +229,8 @@ module _ (h : Cells) (sets : List (List ℕ)) where
   comparing_roots a b x y work i j o k e =
       let c = comparing_first x y work o k e in
       record {
-        forth = λ name q. c.forth name (sym (same_seen h sets a x i name) ∙ q ∙ same_seen h sets b y j name);
-        back = λ name w. same_seen h sets a x i name ∙ c.back name w ∙ sym (same_seen h sets b y j name);
+        forth = λ name q. c.forth name (sym (same_seen h G a x i name) ∙ q ∙ same_seen h G b y j name);
+        back = λ name w. same_seen h G a x i name ∙ c.back name w ∙ sym (same_seen h G b y j name);
         own = c.own;
       }
 

@@ -3,6 +3,7 @@ use Rattle.std.proofs.Common.{◌≡◌, ℕ, ◌+◌, ◌<◌, ◌≤◌, ℤ, 
 use Rattle.std.specs.Prelude.{All, Result, Ok, Err, codes}
 use Rattle.std.specs.Str.{bytes_eq}
 use Rattle.std.proofs.lemmas.Bool.{not-true}
+use Rattle.fd_language.specs.Family.{Family}
 use Rattle.term_pool.proofs.Lemmas.{size_above_zero}
 use Rattle.term_pool.specs.declared.AtomId.{AtomId}
 use Rattle.term_pool.specs.Contents.{name_in}
@@ -24,7 +25,7 @@ use Rattle.builtin_calls.specs.declared.operations.OpenOperation.TheVariants.{Le
 use Rattle.builtin_calls.specs.declared.evaluation.Step.{Step}
 use Rattle.builtin_calls.specs.declared.evaluation.Step.TheVariants.{Enter, Leave}
 use Rattle.fd_model.specs.Arithmetic.{ValueFault, not_a_number, Value, value_of, by_name, value_of_both, value_of_one, opposite_of, integer_sum, integer_difference, integer_product, quotient_of, modulo_of}
-use Rattle.builtin_calls.specs.SeenTerms.{seen_term}
+use Rattle.heap_cells.specs.SeenTerms.{seen_term}
 use Rattle.builtin_calls.specs.CellTops.{IsHeld}
 use Rattle.builtin_calls.specs.Outcomes.{IsFault, IsNamedBy, Tells, meaning, operation_of}
 use Rattle.builtin_calls.specs.Evaluations.{after, resumed, step_value, TellsDescent, IsOwn, IsOwnOperation, IsOwnStep, unnamed, burden, GoesOn, Leads, TellsAscent, IsEntered}
@@ -43,17 +44,17 @@ by_operation : (f : Name) (l r : Value) (o : Operation) → operation_of f ≡ S
 by_operation f l r o h = operation_by (bytes_eq f (codes "+")) (bytes_eq f (codes "-")) (bytes_eq f (codes "*")) (bytes_eq f (codes "//")) (bytes_eq f (codes "mod")) l r o h
 
 -- an operation of two operands whose values are known
-pub both_valued : (names : List Name) (h : Cells) (sets : List (List ℕ)) (c : Cell) (f : AtomId) (args : List Cell) → f.number < length names → ((name : Naming) → seen_term name h sets c ≡ Comp (name f) (terms_by (seen_term name h sets) args)) → 2 ≤ length args → length args < 3 → (d : Cell) (text : Name) (o : Operation) → text ≡ name_in names f → operation_of text ≡ Some o
-    → (a b : ℤ) → ((name : Naming) → value_of (seen_term name h sets (get_or args 0 d)) ≡ Ok a) → ((name : Naming) → value_of (seen_term name h sets (get_or args 1 d)) ≡ Ok b) → (r : Result ℤ EvalFault) → Tells r (meaning o a b) → (name : Naming) → IsNamedBy names name → Tells r (value_of (seen_term name h sets c))
-both_valued names h sets c f [] there is p q d text o x m a b u v r t name n = absurd (omega arith)
-both_valued names h sets c f (k ∷ []) there is p q d text o x m a b u v r t name n = absurd (omega arith)
-both_valued names h sets c f (k ∷ l ∷ []) there is p q d text o x m a b u v r t name n =
-    let by = seen_term name h sets in
+pub both_valued : (names : List Name) (h : Cells) (G : Family) (c : Cell) (f : AtomId) (args : List Cell) → f.number < length names → ((name : Naming) → seen_term name h G c ≡ Comp (name f) (terms_by (seen_term name h G) args)) → 2 ≤ length args → length args < 3 → (d : Cell) (text : Name) (o : Operation) → text ≡ name_in names f → operation_of text ≡ Some o
+    → (a b : ℤ) → ((name : Naming) → value_of (seen_term name h G (get_or args 0 d)) ≡ Ok a) → ((name : Naming) → value_of (seen_term name h G (get_or args 1 d)) ≡ Ok b) → (r : Result ℤ EvalFault) → Tells r (meaning o a b) → (name : Naming) → IsNamedBy names name → Tells r (value_of (seen_term name h G c))
+both_valued names h G c f [] there is p q d text o x m a b u v r t name n = absurd (omega arith)
+both_valued names h G c f (k ∷ []) there is p q d text o x m a b u v r t name n = absurd (omega arith)
+both_valued names h G c f (k ∷ l ∷ []) there is p q d text o x m a b u v r t name n =
+    let by = seen_term name h G in
     let e : value_of (by c) ≡ meaning o a b =
     ap value_of (is name) ∙ by_operation (name f) (value_of (by k)) (value_of (by l)) o (ap operation_of (n f there ∙ sym x) ∙ m)
     ∙ ap (λ y. value_of_both (meaning o) y (value_of (by l))) (u name) ∙ ap (λ y. value_of_both (meaning o) (Ok a) y) (v name) in
     subst (Tells r) (sym e) t
-both_valued names h sets c f (k ∷ l ∷ i ∷ ks) there is p q d text o x m a b u v r t name n = absurd (omega arith)
+both_valued names h G c f (k ∷ l ∷ i ∷ ks) there is p q d text o x m a b u v r t name n = absurd (omega arith)
 
 -- what waits
 resumed-append : (by : Cell → Term) (ws : List OpenOperation) (w : OpenOperation) (v : Value) → resumed by (ws ++ w ∷ []) v ≡ resumed by ws (after by w v)
@@ -88,60 +89,60 @@ burden_some by (Left o c) = omega arith
 burden_some by (Right o z) = omega arith
 burden_some by Opposite = omega arith
 
-module _ (names : List Name) (h : Cells) (sets : List (List ℕ)) where
+module _ (names : List Name) (h : Cells) (G : Family) where
   -- the right operand of an operation is entered
-  pub left_goes : (ws old new : List OpenOperation) (w : OpenOperation) (o : Operation) (c : Cell) (z : ℤ) → w ≡ Left o c → old ≡ ws ++ w ∷ [] → new ≡ ws ++ Right o z ∷ [] → GoesOn names h sets old (Leave z) new (Enter c)
-  left_goes ws old new w o c z i e f = subst (λ xs. GoesOn names h sets xs (Leave z) new (Enter c)) (sym (e ∙ ap (λ x. ws ++ x ∷ []) i)) (subst (λ xs. GoesOn names h sets (ws ++ Left o c ∷ []) (Leave z) xs (Enter c)) (sym f) record {
-    value = λ name n. resumed-append (seen_term name h sets) ws (Left o c) (Ok z) ∙ sym (resumed-append (seen_term name h sets) ws (Right o z) (value_of (seen_term name h sets c)));
+  pub left_goes : (ws old new : List OpenOperation) (w : OpenOperation) (o : Operation) (c : Cell) (z : ℤ) → w ≡ Left o c → old ≡ ws ++ w ∷ [] → new ≡ ws ++ Right o z ∷ [] → GoesOn names h G old (Leave z) new (Enter c)
+  left_goes ws old new w o c z i e f = subst (λ xs. GoesOn names h G xs (Leave z) new (Enter c)) (sym (e ∙ ap (λ x. ws ++ x ∷ []) i)) (subst (λ xs. GoesOn names h G (ws ++ Left o c ∷ []) (Leave z) xs (Enter c)) (sym f) record {
+    value = λ name n. resumed-append (seen_term name h G) ws (Left o c) (Ok z) ∙ sym (resumed-append (seen_term name h G) ws (Right o z) (value_of (seen_term name h G c)));
     own = λ s a. (last_of (IsOwnOperation (length names) h) ws (Left o c) a, all_push (IsOwnOperation (length names) h) ws (Right o z) (all_front (IsOwnOperation (length names) h) ws (Left o c ∷ []) a) tt);
-    falls = let p = burden-append (seen_term unnamed h sets) ws (Left o c) in let q = burden-append (seen_term unnamed h sets) ws (Right o z) in omega arith;
+    falls = let p = burden-append (seen_term unnamed h G) ws (Left o c) in let q = burden-append (seen_term unnamed h G) ws (Right o z) in omega arith;
   })
 
   -- what waited has its value
-  pub value_goes : (ws old : List OpenOperation) (w : OpenOperation) (z y : ℤ) → ((name : Naming) → after (seen_term name h sets) w (Ok z) ≡ Ok y) → old ≡ ws ++ w ∷ [] → GoesOn names h sets old (Leave z) ws (Leave y)
-  value_goes ws old w z y v e = subst (λ xs. GoesOn names h sets xs (Leave z) ws (Leave y)) (sym e) record {
-    value = λ name n. resumed-append (seen_term name h sets) ws w (Ok z) ∙ ap (resumed (seen_term name h sets) ws) (v name);
+  pub value_goes : (ws old : List OpenOperation) (w : OpenOperation) (z y : ℤ) → ((name : Naming) → after (seen_term name h G) w (Ok z) ≡ Ok y) → old ≡ ws ++ w ∷ [] → GoesOn names h G old (Leave z) ws (Leave y)
+  value_goes ws old w z y v e = subst (λ xs. GoesOn names h G xs (Leave z) ws (Leave y)) (sym e) record {
+    value = λ name n. resumed-append (seen_term name h G) ws w (Ok z) ∙ ap (resumed (seen_term name h G) ws) (v name);
     own = λ s a. (tt, all_front (IsOwnOperation (length names) h) ws (w ∷ []) a);
-    falls = let p = burden-append (seen_term unnamed h sets) ws w in let q = burden_some (seen_term unnamed h sets) w in omega arith;
+    falls = let p = burden-append (seen_term unnamed h G) ws w in let q = burden_some (seen_term unnamed h G) w in omega arith;
   }
 
   -- what waited has a fault
-  pub value_fails : (ws : List OpenOperation) (w : OpenOperation) (z : ℤ) (e : EvalFault) → ((name : Naming) → IsFault e (after (seen_term name h sets) w (Ok z))) → (name : Naming) → IsFault e (resumed (seen_term name h sets) (ws ++ w ∷ []) (Ok z))
-  value_fails ws w z e f name = subst (IsFault e) (sym (resumed-append (seen_term name h sets) ws w (Ok z))) (fault_through (seen_term name h sets) ws e (after (seen_term name h sets) w (Ok z)) (f name))
+  pub value_fails : (ws : List OpenOperation) (w : OpenOperation) (z : ℤ) (e : EvalFault) → ((name : Naming) → IsFault e (after (seen_term name h G) w (Ok z))) → (name : Naming) → IsFault e (resumed (seen_term name h G) (ws ++ w ∷ []) (Ok z))
+  value_fails ws w z e f name = subst (IsFault e) (sym (resumed-append (seen_term name h G) ws w (Ok z))) (fault_through (seen_term name h G) ws e (after (seen_term name h G) w (Ok z)) (f name))
 
   -- a term whose value is known
-  pub integer_goes : (ws : List OpenOperation) (c : Cell) (y : ℤ) → ((name : Naming) → value_of (seen_term name h sets c) ≡ Ok y) → GoesOn names h sets ws (Enter c) ws (Leave y)
+  pub integer_goes : (ws : List OpenOperation) (c : Cell) (y : ℤ) → ((name : Naming) → value_of (seen_term name h G c) ≡ Ok y) → GoesOn names h G ws (Enter c) ws (Leave y)
   integer_goes ws c y v = record {
-    value = λ name n. ap (resumed (seen_term name h sets) ws) (v name);
+    value = λ name n. ap (resumed (seen_term name h G) ws) (v name);
     own = λ s a. (tt, a);
-    falls = let p = size_above_zero (seen_term unnamed h sets c) in omega arith;
+    falls = let p = size_above_zero (seen_term unnamed h G c) in omega arith;
   }
 
   -- a term that has a fault
-  pub term_fails : (ws : List OpenOperation) (c : Cell) (e : EvalFault) → ((name : Naming) → IsFault e (value_of (seen_term name h sets c))) → (name : Naming) → IsFault e (resumed (seen_term name h sets) ws (value_of (seen_term name h sets c)))
-  term_fails ws c e v name = fault_through (seen_term name h sets) ws e (value_of (seen_term name h sets c)) (v name)
+  pub term_fails : (ws : List OpenOperation) (c : Cell) (e : EvalFault) → ((name : Naming) → IsFault e (value_of (seen_term name h G c))) → (name : Naming) → IsFault e (resumed (seen_term name h G) ws (value_of (seen_term name h G c)))
+  term_fails ws c e v name = fault_through (seen_term name h G) ws e (value_of (seen_term name h G c)) (v name)
 
   -- a compound term
-  module _ (c : Cell) (f : AtomId) (args : List Cell) (there : f.number < length names) (own : All (IsOwn (length names) h) args) (is : (name : Naming) → seen_term name h sets c ≡ Comp (name f) (terms_by (seen_term name h sets) args)) (old : List OpenOperation) where
-    entered_opposite : (d : Cell) (new : List OpenOperation) (t : Step) → args ≡ d ∷ [] → bytes_eq (name_in names f) (codes "-") ≡ true → new ≡ old ++ Opposite ∷ [] → t ≡ Enter d → GoesOn names h sets old (Enter c) new t
-    entered_opposite d new t a m e s = subst (λ x. GoesOn names h sets old (Enter c) new x) (sym s) (subst (λ xs. GoesOn names h sets old (Enter c) xs (Enter d)) (sym e) record {
+  module _ (c : Cell) (f : AtomId) (args : List Cell) (there : f.number < length names) (own : All (IsOwn (length names) h) args) (is : (name : Naming) → seen_term name h G c ≡ Comp (name f) (terms_by (seen_term name h G) args)) (old : List OpenOperation) where
+    entered_opposite : (d : Cell) (new : List OpenOperation) (t : Step) → args ≡ d ∷ [] → bytes_eq (name_in names f) (codes "-") ≡ true → new ≡ old ++ Opposite ∷ [] → t ≡ Enter d → GoesOn names h G old (Enter c) new t
+    entered_opposite d new t a m e s = subst (λ x. GoesOn names h G old (Enter c) new x) (sym s) (subst (λ xs. GoesOn names h G old (Enter c) xs (Enter d)) (sym e) record {
       value = λ name n.
-          let by = seen_term name h sets in
+          let by = seen_term name h G in
           let v : value_of (by c) ≡ value_of_one opposite_of (value_of (by d)) =
           ap value_of (is name ∙ ap (λ xs. Comp (name f) (terms_by by xs)) a) ∙ ap (λ b. cond b (value_of_one opposite_of (value_of (by d))) (Err not_a_number)) (ap (λ g. bytes_eq g (codes "-")) (n f there) ∙ m) in
           ap (resumed by old) v ∙ sym (resumed-append by old Opposite (value_of (by d)));
       own = λ s all. (head_of (IsOwn (length names) h) d [] (subst (All (IsOwn (length names) h)) a own), all_push (IsOwnOperation (length names) h) old Opposite all tt);
       falls =
-          let by = seen_term unnamed h sets in
+          let by = seen_term unnamed h G in
           let p = burden-append by old Opposite in
           let q : size (by c) ≡ 1 + (size (by d) + 0) = ap size (is unnamed ∙ ap (λ xs. Comp (unnamed f) (terms_by by xs)) a) in
           omega arith;
     })
 
-    entered_both : (d e : Cell) (o : Operation) (new : List OpenOperation) (t : Step) → args ≡ d ∷ e ∷ [] → operation_of (name_in names f) ≡ Some o → new ≡ old ++ Left o e ∷ [] → t ≡ Enter d → GoesOn names h sets old (Enter c) new t
-    entered_both d e o new t a m i s = subst (λ x. GoesOn names h sets old (Enter c) new x) (sym s) (subst (λ xs. GoesOn names h sets old (Enter c) xs (Enter d)) (sym i) record {
+    entered_both : (d e : Cell) (o : Operation) (new : List OpenOperation) (t : Step) → args ≡ d ∷ e ∷ [] → operation_of (name_in names f) ≡ Some o → new ≡ old ++ Left o e ∷ [] → t ≡ Enter d → GoesOn names h G old (Enter c) new t
+    entered_both d e o new t a m i s = subst (λ x. GoesOn names h G old (Enter c) new x) (sym s) (subst (λ xs. GoesOn names h G old (Enter c) xs (Enter d)) (sym i) record {
       value = λ name n.
-          let by = seen_term name h sets in
+          let by = seen_term name h G in
           let v : value_of (by c) ≡ value_of_both (meaning o) (value_of (by d)) (value_of (by e)) =
           ap value_of (is name ∙ ap (λ xs. Comp (name f) (terms_by by xs)) a) ∙ by_operation (name f) (value_of (by d)) (value_of (by e)) o (ap operation_of (n f there) ∙ m) in
           ap (resumed by old) v ∙ sym (resumed-append by old (Left o e) (value_of (by d)));
@@ -149,16 +150,16 @@ module _ (names : List Name) (h : Cells) (sets : List (List ℕ)) where
           (let both = subst (All (IsOwn (length names) h)) a own in
           (head_of (IsOwn (length names) h) d (e ∷ []) both, all_push (IsOwnOperation (length names) h) old (Left o e) all (head_of (IsOwn (length names) h) e [] (tail_of (IsOwn (length names) h) d (e ∷ []) both))));
       falls =
-          let by = seen_term unnamed h sets in
+          let by = seen_term unnamed h G in
           let p = burden-append by old (Left o e) in
           let q : size (by c) ≡ 1 + (size (by d) + (size (by e) + 0)) = ap size (is unnamed ∙ ap (λ xs. Comp (unnamed f) (terms_by by xs)) a) in
           omega arith;
     })
 
-    entered_known : (d e : Cell) (o : Operation) (z : ℤ) (new : List OpenOperation) (t : Step) → args ≡ d ∷ e ∷ [] → operation_of (name_in names f) ≡ Some o → ((name : Naming) → value_of (seen_term name h sets d) ≡ Ok z) → new ≡ old ++ Right o z ∷ [] → t ≡ Enter e → GoesOn names h sets old (Enter c) new t
-    entered_known d e o z new t a m known i s = subst (λ x. GoesOn names h sets old (Enter c) new x) (sym s) (subst (λ xs. GoesOn names h sets old (Enter c) xs (Enter e)) (sym i) record {
+    entered_known : (d e : Cell) (o : Operation) (z : ℤ) (new : List OpenOperation) (t : Step) → args ≡ d ∷ e ∷ [] → operation_of (name_in names f) ≡ Some o → ((name : Naming) → value_of (seen_term name h G d) ≡ Ok z) → new ≡ old ++ Right o z ∷ [] → t ≡ Enter e → GoesOn names h G old (Enter c) new t
+    entered_known d e o z new t a m known i s = subst (λ x. GoesOn names h G old (Enter c) new x) (sym s) (subst (λ xs. GoesOn names h G old (Enter c) xs (Enter e)) (sym i) record {
       value = λ name n.
-          let by = seen_term name h sets in
+          let by = seen_term name h G in
           let v : value_of (by c) ≡ value_of_both (meaning o) (Ok z) (value_of (by e)) =
           ap value_of (is name ∙ ap (λ xs. Comp (name f) (terms_by by xs)) a) ∙ by_operation (name f) (value_of (by d)) (value_of (by e)) o (ap operation_of (n f there) ∙ m) ∙ ap (λ y. value_of_both (meaning o) y (value_of (by e))) (known name) in
           ap (resumed by old) v ∙ sym (resumed-append by old (Right o z) (value_of (by e)));
@@ -166,39 +167,39 @@ module _ (names : List Name) (h : Cells) (sets : List (List ℕ)) where
           (let both = subst (All (IsOwn (length names) h)) a own in
           (head_of (IsOwn (length names) h) e [] (tail_of (IsOwn (length names) h) d (e ∷ []) both), all_push (IsOwnOperation (length names) h) old (Right o z) all tt));
       falls =
-          let by = seen_term unnamed h sets in
+          let by = seen_term unnamed h G in
           let p = burden-append by old (Right o z) in
           let q : size (by c) ≡ 1 + (size (by d) + (size (by e) + 0)) = ap size (is unnamed ∙ ap (λ xs. Comp (unnamed f) (terms_by by xs)) a) in
           omega arith;
     })
 
     -- a compound term is entered
-    pub entered : (d : Cell) (new : List OpenOperation) → IsEntered h sets (name_in names f) args old (Ok d) new → GoesOn names h sets old (Enter c) new (Enter d)
+    pub entered : (d : Cell) (new : List OpenOperation) → IsEntered h G (name_in names f) args old (Ok d) new → GoesOn names h G old (Enter c) new (Enter d)
     entered d new (inl k) = entered_opposite k.0 new (Enter d) k.1 k.2 k.3 (ap Enter k.4)
     entered d new (inr (inl k)) = entered_both k.0 k.1 k.2 new (Enter d) k.3 k.4 k.5 (ap Enter k.6)
     entered d new (inr (inr k)) = entered_known k.0 k.1 k.2 k.3 new (Enter d) k.4 k.5 k.6 k.7 (ap Enter k.8)
 
     -- or its fault is told
-    pub enter_fails : (e : EvalFault) (new : List OpenOperation) → IsEntered h sets (name_in names f) args old (Err e) new → (name : Naming) → IsNamedBy names name → IsFault e (resumed (seen_term name h sets) old (value_of (seen_term name h sets c)))
+    pub enter_fails : (e : EvalFault) (new : List OpenOperation) → IsEntered h G (name_in names f) args old (Err e) new → (name : Naming) → IsNamedBy names name → IsFault e (resumed (seen_term name h G) old (value_of (seen_term name h G c)))
     enter_fails e new k name n =
-        fault_through (seen_term name h sets) old e (value_of (seen_term name h sets c))
-        (subst (λ y. IsFault e (value_of y)) (sym (is name ∙ ap (λ g. Comp g (terms_by (seen_term name h sets) args)) (n f there))) (k (seen_term name h sets)))
+        fault_through (seen_term name h G) old e (value_of (seen_term name h G c))
+        (subst (λ y. IsFault e (value_of y)) (sym (is name ∙ ap (λ g. Comp g (terms_by (seen_term name h G) args)) (n f there))) (k (seen_term name h G)))
 
-  pub leads_further : (old mid new : List OpenOperation) (s t u : Step) → Leads names h sets old s mid t → GoesOn names h sets mid t new u → Leads names h sets old s new u
+  pub leads_further : (old mid new : List OpenOperation) (s t u : Step) → Leads names h G old s mid t → GoesOn names h G mid t new u → Leads names h G old s new u
   leads_further old mid new s t u l g = record {
     value = λ name n. l.value name n ∙ g.value name n;
     own = λ o a. let b = l.own o a in g.own b.0 b.1;
     lighter = let m = l.lighter in let n = g.falls in omega arith;
   }
 
-  pub leads_on : (old mid new : List OpenOperation) (s t u : Step) → Leads names h sets old s mid t → GoesOn names h sets mid t new u → GoesOn names h sets old s new u
+  pub leads_on : (old mid new : List OpenOperation) (s t u : Step) → Leads names h G old s mid t → GoesOn names h G mid t new u → GoesOn names h G old s new u
   leads_on old mid new s t u l g = record {
     value = λ name n. l.value name n ∙ g.value name n;
     own = λ o a. let b = l.own o a in g.own b.0 b.1;
     falls = let m = l.lighter in let n = g.falls in omega arith;
   }
 
-  pub goes_leading : (old mid new : List OpenOperation) (s t u : Step) → GoesOn names h sets old s mid t → Leads names h sets mid t new u → GoesOn names h sets old s new u
+  pub goes_leading : (old mid new : List OpenOperation) (s t u : Step) → GoesOn names h G old s mid t → Leads names h G mid t new u → GoesOn names h G old s new u
   goes_leading old mid new s t u g l = record {
     value = λ name n. g.value name n ∙ l.value name n;
     own = λ o a. let b = g.own o a in l.own b.0 b.1;
@@ -206,35 +207,35 @@ module _ (names : List Name) (h : Cells) (sets : List (List ℕ)) where
   }
 
   -- the way down ends at a term that is no compound term
-  pub descended : (old mid : List OpenOperation) (c at : Cell) (r : Result ℤ EvalFault) → Leads names h sets old (Enter c) mid (Enter at) → ((name : Naming) → Tells r (value_of (seen_term name h sets at))) → TellsDescent names h sets old c r mid
+  pub descended : (old mid : List OpenOperation) (c at : Cell) (r : Result ℤ EvalFault) → Leads names h G old (Enter c) mid (Enter at) → ((name : Naming) → Tells r (value_of (seen_term name h G at))) → TellsDescent names h G old c r mid
   descended old mid c at (Ok z) l v = leads_on old mid mid (Enter c) (Enter at) (Leave z) l (integer_goes mid at z v)
   descended old mid c at (Err e) l v = λ name n. subst (IsFault e) (sym (l.value name n)) (term_fails mid at e v name)
 
   -- or at one that can't be entered
-  pub descent_fails : (old mid : List OpenOperation) (c at : Cell) (e : EvalFault) → Leads names h sets old (Enter c) mid (Enter at) → ((name : Naming) → IsNamedBy names name → IsFault e (resumed (seen_term name h sets) mid (value_of (seen_term name h sets at)))) → (name : Naming) → IsNamedBy names name → IsFault e (resumed (seen_term name h sets) old (value_of (seen_term name h sets c)))
+  pub descent_fails : (old mid : List OpenOperation) (c at : Cell) (e : EvalFault) → Leads names h G old (Enter c) mid (Enter at) → ((name : Naming) → IsNamedBy names name → IsFault e (resumed (seen_term name h G) mid (value_of (seen_term name h G at)))) → (name : Naming) → IsNamedBy names name → IsFault e (resumed (seen_term name h G) old (value_of (seen_term name h G c)))
   descent_fails old mid c at e l f name n = subst (IsFault e) (sym (l.value name n)) (f name n)
 
   -- what waited last was taken away
-  pub leads_popped : (old mid ws new : List OpenOperation) (w : OpenOperation) (s : Step) (y x : ℤ) (t : Step) → y ≡ x → mid ≡ ws ++ w ∷ [] → Leads names h sets old s mid (Leave y) → GoesOn names h sets (ws ++ w ∷ []) (Leave x) new t → Leads names h sets old s new t
-  leads_popped old mid ws new w s y x t e m l g = leads_further old mid new s (Leave y) t l (subst (λ z. GoesOn names h sets mid (Leave z) new t) (sym e) (subst (λ (xs : List OpenOperation). GoesOn names h sets xs (Leave x) new t) (sym m) g))
+  pub leads_popped : (old mid ws new : List OpenOperation) (w : OpenOperation) (s : Step) (y x : ℤ) (t : Step) → y ≡ x → mid ≡ ws ++ w ∷ [] → Leads names h G old s mid (Leave y) → GoesOn names h G (ws ++ w ∷ []) (Leave x) new t → Leads names h G old s new t
+  leads_popped old mid ws new w s y x t e m l g = leads_further old mid new s (Leave y) t l (subst (λ z. GoesOn names h G mid (Leave z) new t) (sym e) (subst (λ (xs : List OpenOperation). GoesOn names h G xs (Leave x) new t) (sym m) g))
 
-  pub popped_falls : (mid ws new : List OpenOperation) (w : OpenOperation) (x z : ℤ) (t : Step) → mid ≡ ws ++ w ∷ [] → GoesOn names h sets (ws ++ w ∷ []) (Leave x) new t → t ≡ Leave z → 1 + burden (seen_term unnamed h sets) new < 1 + burden (seen_term unnamed h sets) mid
-  popped_falls mid ws new w x z t m g e = (subst (λ (xs : List OpenOperation). GoesOn names h sets xs (Leave x) new (Leave z)) (sym m) (subst (GoesOn names h sets (ws ++ w ∷ []) (Leave x) new) e g)).falls
+  pub popped_falls : (mid ws new : List OpenOperation) (w : OpenOperation) (x z : ℤ) (t : Step) → mid ≡ ws ++ w ∷ [] → GoesOn names h G (ws ++ w ∷ []) (Leave x) new t → t ≡ Leave z → 1 + burden (seen_term unnamed h G) new < 1 + burden (seen_term unnamed h G) mid
+  popped_falls mid ws new w x z t m g e = (subst (λ (xs : List OpenOperation). GoesOn names h G xs (Leave x) new (Leave z)) (sym m) (subst (GoesOn names h G (ws ++ w ∷ []) (Leave x) new) e g)).falls
 
-  pub popped_fails : (old mid ws : List OpenOperation) (w : OpenOperation) (s : Step) (y x : ℤ) (e : EvalFault) → y ≡ x → mid ≡ ws ++ w ∷ [] → Leads names h sets old s mid (Leave y) → ((name : Naming) → IsNamedBy names name → IsFault e (resumed (seen_term name h sets) (ws ++ w ∷ []) (Ok x)))
-      → (name : Naming) → IsNamedBy names name → IsFault e (resumed (seen_term name h sets) old (step_value (seen_term name h sets) s))
-  popped_fails old mid ws w s y x e q m l f name n = subst (IsFault e) (sym (l.value name n ∙ ap (resumed (seen_term name h sets) mid) (ap Ok q) ∙ ap (λ (xs : List OpenOperation). resumed (seen_term name h sets) xs (Ok x)) m)) (f name n)
+  pub popped_fails : (old mid ws : List OpenOperation) (w : OpenOperation) (s : Step) (y x : ℤ) (e : EvalFault) → y ≡ x → mid ≡ ws ++ w ∷ [] → Leads names h G old s mid (Leave y) → ((name : Naming) → IsNamedBy names name → IsFault e (resumed (seen_term name h G) (ws ++ w ∷ []) (Ok x)))
+      → (name : Naming) → IsNamedBy names name → IsFault e (resumed (seen_term name h G) old (step_value (seen_term name h G) s))
+  popped_fails old mid ws w s y x e q m l f name n = subst (IsFault e) (sym (l.value name n ∙ ap (resumed (seen_term name h G) mid) (ap Ok q) ∙ ap (λ (xs : List OpenOperation). resumed (seen_term name h G) xs (Ok x)) m)) (f name n)
 
   -- the way down to an integer, and the way up from there
-  pub climbed : (old mid new : List OpenOperation) (at next : Cell) (z y : ℤ) (t : Step) → GoesOn names h sets old (Enter at) mid (Leave z) → y ≡ z → TellsAscent names h sets mid y (Ok t) new → t ≡ Enter next → GoesOn names h sets old (Enter at) new (Enter next)
-  climbed old mid new at next z y t g e a i = goes_leading old mid new (Enter at) (Leave z) (Enter next) g (subst (λ x. Leads names h sets mid (Leave x) new (Enter next)) e (subst (λ s. TellsAscent names h sets mid y (Ok s) new) i a))
+  pub climbed : (old mid new : List OpenOperation) (at next : Cell) (z y : ℤ) (t : Step) → GoesOn names h G old (Enter at) mid (Leave z) → y ≡ z → TellsAscent names h G mid y (Ok t) new → t ≡ Enter next → GoesOn names h G old (Enter at) new (Enter next)
+  climbed old mid new at next z y t g e a i = goes_leading old mid new (Enter at) (Leave z) (Enter next) g (subst (λ x. Leads names h G mid (Leave x) new (Enter next)) e (subst (λ s. TellsAscent names h G mid y (Ok s) new) i a))
 
-  pub climbed_out : (old mid new : List OpenOperation) (at : Cell) (z y x : ℤ) (t : Step) → GoesOn names h sets old (Enter at) mid (Leave z) → y ≡ z → TellsAscent names h sets mid y (Ok t) new → t ≡ Leave x → GoesOn names h sets old (Enter at) [] (Leave x)
-  climbed_out old mid new at z y x t g e a i = goes_leading old mid [] (Enter at) (Leave z) (Leave x) g (subst (λ v. Leads names h sets mid (Leave v) [] (Leave x)) e (subst (λ s. TellsAscent names h sets mid y (Ok s) new) i a))
+  pub climbed_out : (old mid new : List OpenOperation) (at : Cell) (z y x : ℤ) (t : Step) → GoesOn names h G old (Enter at) mid (Leave z) → y ≡ z → TellsAscent names h G mid y (Ok t) new → t ≡ Leave x → GoesOn names h G old (Enter at) [] (Leave x)
+  climbed_out old mid new at z y x t g e a i = goes_leading old mid [] (Enter at) (Leave z) (Leave x) g (subst (λ v. Leads names h G mid (Leave v) [] (Leave x)) e (subst (λ s. TellsAscent names h G mid y (Ok s) new) i a))
 
-  pub climbed_fails : (old mid : List OpenOperation) (at : Cell) (z y : ℤ) (e : EvalFault) → GoesOn names h sets old (Enter at) mid (Leave z) → y ≡ z → ((name : Naming) → IsNamedBy names name → IsFault e (resumed (seen_term name h sets) mid (Ok y)))
-      → (name : Naming) → IsNamedBy names name → IsFault e (resumed (seen_term name h sets) old (value_of (seen_term name h sets at)))
-  climbed_fails old mid at z y e g q f name n = subst (IsFault e) (sym (g.value name n ∙ ap (resumed (seen_term name h sets) mid) (ap Ok (sym q)))) (f name n)
+  pub climbed_fails : (old mid : List OpenOperation) (at : Cell) (z y : ℤ) (e : EvalFault) → GoesOn names h G old (Enter at) mid (Leave z) → y ≡ z → ((name : Naming) → IsNamedBy names name → IsFault e (resumed (seen_term name h G) mid (Ok y)))
+      → (name : Naming) → IsNamedBy names name → IsFault e (resumed (seen_term name h G) old (value_of (seen_term name h G at)))
+  climbed_fails old mid at z y e g q f name n = subst (IsFault e) (sym (g.value name n ∙ ap (resumed (seen_term name h G) mid) (ap Ok (sym q)))) (f name n)
 
 -- the arguments of a compound term of the heap
 pub held_own : (n : ℕ) (h : Cells) → IsHeap h → HasAtomsBelow n h → (f : AtomId) (args : Bor (List Cell)) → IsHeld h (seen.Struct f args) → All (IsOwn n h) args.now
@@ -277,21 +278,21 @@ too_many f (c ∷ d ∷ []) a by = absurd (omega arith)
 too_many f (c ∷ d ∷ e ∷ cs) a by = refl
 
 -- an evaluation so far
-pub record IsUnderWay (names : List Name) (h : Cells) (sets : List (List ℕ)) (top : Cell) (ws : List OpenOperation) (s : Step) : Type 0 where
-  pub value : (name : Naming) → IsNamedBy names name → value_of (seen_term name h sets top) ≡ resumed (seen_term name h sets) ws (step_value (seen_term name h sets) s)
+pub record IsUnderWay (names : List Name) (h : Cells) (G : Family) (top : Cell) (ws : List OpenOperation) (s : Step) : Type 0 where
+  pub value : (name : Naming) → IsNamedBy names name → value_of (seen_term name h G top) ≡ resumed (seen_term name h G) ws (step_value (seen_term name h G) s)
   pub own : IsOwnStep (length names) h s
   pub waiting : All (IsOwnOperation (length names) h) ws
 
-pub under_way_further : (names : List Name) (h : Cells) (sets : List (List ℕ)) (top : Cell) (old new : List OpenOperation) (s t : Step) → IsUnderWay names h sets top old s → GoesOn names h sets old s new t → IsUnderWay names h sets top new t
-under_way_further names h sets top old new s t w g =
+pub under_way_further : (names : List Name) (h : Cells) (G : Family) (top : Cell) (old new : List OpenOperation) (s t : Step) → IsUnderWay names h G top old s → GoesOn names h G old s new t → IsUnderWay names h G top new t
+under_way_further names h G top old new s t w g =
     let o = g.own w.own w.waiting in
     record { value = λ name n. w.value name n ∙ g.value name n; own = o.0; waiting = o.1 }
 
 -- a fault on the way is that of the whole
-pub way_fails : (names : List Name) (h : Cells) (sets : List (List ℕ)) (top : Cell) (ws : List OpenOperation) (s : Step) (e : EvalFault) → IsUnderWay names h sets top ws s → ((name : Naming) → IsNamedBy names name → IsFault e (resumed (seen_term name h sets) ws (step_value (seen_term name h sets) s)))
-    → (name : Naming) → IsNamedBy names name → IsFault e (value_of (seen_term name h sets top))
-way_fails names h sets top ws s e w f name n = subst (IsFault e) (sym (w.value name n)) (f name n)
+pub way_fails : (names : List Name) (h : Cells) (G : Family) (top : Cell) (ws : List OpenOperation) (s : Step) (e : EvalFault) → IsUnderWay names h G top ws s → ((name : Naming) → IsNamedBy names name → IsFault e (resumed (seen_term name h G) ws (step_value (seen_term name h G) s)))
+    → (name : Naming) → IsNamedBy names name → IsFault e (value_of (seen_term name h G top))
+way_fails names h G top ws s e w f name n = subst (IsFault e) (sym (w.value name n)) (f name n)
 
 -- the last value is that of the whole
-pub way_ends : (names : List Name) (h : Cells) (sets : List (List ℕ)) (top : Cell) (ws : List OpenOperation) (s : Step) (z : ℤ) → IsUnderWay names h sets top ws s → ws ≡ [] → s ≡ Leave z → (name : Naming) → IsNamedBy names name → value_of (seen_term name h sets top) ≡ Ok z
-way_ends names h sets top ws s z w e f name n = w.value name n ∙ ap (λ xs. resumed (seen_term name h sets) xs (step_value (seen_term name h sets) s)) e ∙ ap (step_value (seen_term name h sets)) f
+pub way_ends : (names : List Name) (h : Cells) (G : Family) (top : Cell) (ws : List OpenOperation) (s : Step) (z : ℤ) → IsUnderWay names h G top ws s → ws ≡ [] → s ≡ Leave z → (name : Naming) → IsNamedBy names name → value_of (seen_term name h G top) ≡ Ok z
+way_ends names h G top ws s z w e f name n = w.value name n ∙ ap (λ xs. resumed (seen_term name h G) xs (step_value (seen_term name h G) s)) e ∙ ap (step_value (seen_term name h G)) f

@@ -1,18 +1,13 @@
 -- What a cell shows at its top.
-use Rattle.std.specs.Prelude.{◌≡◌, ℕ, ◌<◌, List, [], ◌∷◌, length, Option, Some, None}
+use Rattle.std.specs.Prelude.{◌≡◌, ℕ, ◌<◌, length}
+use Rattle.fd_language.specs.Family.{Family}
 use Rattle.fd_language.specs.Term.{Name, Terms, Term, Var, Int, Atom, Comp}
 use Rattle.heap_cells.specs.declared.Cell.{Cell}
 use Rattle.heap_cells.specs.declared.Seen.{Seen}
 use Rattle.heap_cells.specs.declared.Seen.TheVariants as seen
 use Rattle.heap_cells.specs.Cells.{Cells, compound_at}
 use Rattle.heap_cells.specs.Terms.{Naming, terms_by}
-use Rattle.builtin_calls.specs.SeenTerms.{seen_term}
-
--- the only member
-abbrev pub only : List ℕ → Option ℕ
-only [] = None
-only (w ∷ []) = Some w
-only (w ∷ v ∷ ws) = None
+use Rattle.heap_cells.specs.SeenTerms.{seen_term}
 
 -- the term of what is seen, where each cell's term is given
 abbrev pub shown : Naming → (Cell → Term) → Seen → Term
@@ -31,5 +26,5 @@ IsHeld h (seen.Atom a) = Unit {0}
 IsHeld h (seen.Struct f args) = (j : ℕ) × (j < length h.compounds) × (compound_at h j ≡ record { name = f; args = args.now })
 
 -- the term of a cell is no compound term
-abbrev pub IsSimple : Cells → List (List ℕ) → Cell → Type 0
-IsSimple h sets c = (name : Naming) (f : Name) (ts : Terms) → seen_term name h sets c ≡ Comp f ts → ⊥
+abbrev pub IsSimple : Cells → Family → Cell → Type 0
+IsSimple h G c = (name : Naming) (f : Name) (ts : Terms) → seen_term name h G c ≡ Comp f ts → ⊥

@@ -1,6 +1,7 @@
 -- An evaluation under way: where it stands, and what waits for the value there, of which the last is the next.
 use Rattle.std.specs.Prelude.{◌≡◌, ℕ, ◌+◌, ◌*◌, ◌<◌, ◌≤◌, ℤ, List, [], ◌∷◌, ◌++◌, ◌⊎◌, true, length, Some, codes, All, Result, Ok, Err}
 use Rattle.std.specs.Str.{bytes_eq}
+use Rattle.fd_language.specs.Family.{Family}
 use Rattle.fd_language.specs.Term.{Name, Term, Comp}
 use Rattle.term_pool.specs.Terms.{size}
 use Rattle.heap_cells.specs.declared.Cell.{Cell}
@@ -14,7 +15,7 @@ use Rattle.builtin_calls.specs.declared.operations.OpenOperation.TheVariants.{Le
 use Rattle.builtin_calls.specs.declared.evaluation.Step.{Step}
 use Rattle.builtin_calls.specs.declared.evaluation.Step.TheVariants.{Enter, Leave}
 use Rattle.fd_model.specs.Arithmetic.{Value, value_of, value_of_both, value_of_one, opposite_of}
-use Rattle.builtin_calls.specs.SeenTerms.{seen_term}
+use Rattle.heap_cells.specs.SeenTerms.{seen_term}
 use Rattle.builtin_calls.specs.Outcomes.{IsFault, IsNamedBy, meaning, operation_of}
 
 -- the value once the value that is waited for is there, where each cell's term is given
@@ -67,37 +68,37 @@ load by ws (Enter c) = 2 * size (by c) + burden by ws
 load by ws (Leave z) = 1 + burden by ws
 
 -- one evaluation goes on as the other, and has less left to do
-pub record GoesOn (names : List Name) (h : Cells) (sets : List (List ℕ)) (old : List OpenOperation) (s : Step) (new : List OpenOperation) (t : Step) : Type 0 where
-  pub value : (name : Naming) → IsNamedBy names name → resumed (seen_term name h sets) old (step_value (seen_term name h sets) s) ≡ resumed (seen_term name h sets) new (step_value (seen_term name h sets) t)
+pub record GoesOn (names : List Name) (h : Cells) (G : Family) (old : List OpenOperation) (s : Step) (new : List OpenOperation) (t : Step) : Type 0 where
+  pub value : (name : Naming) → IsNamedBy names name → resumed (seen_term name h G) old (step_value (seen_term name h G) s) ≡ resumed (seen_term name h G) new (step_value (seen_term name h G) t)
   pub own : IsOwnStep (length names) h s → All (IsOwnOperation (length names) h) old → IsOwnStep (length names) h t × All (IsOwnOperation (length names) h) new
-  pub falls : load (seen_term unnamed h sets) new t < load (seen_term unnamed h sets) old s
+  pub falls : load (seen_term unnamed h G) new t < load (seen_term unnamed h G) old s
 
 -- an evaluation goes on, or its fault is told
-abbrev pub TellsStep : List Name → Cells → List (List ℕ) → List OpenOperation → Step → Result Step EvalFault → List OpenOperation → Type 0
-TellsStep names h sets old s (Ok t) new = GoesOn names h sets old s new t
-TellsStep names h sets old s (Err e) new = (name : Naming) → IsNamedBy names name → IsFault e (resumed (seen_term name h sets) old (step_value (seen_term name h sets) s))
+abbrev pub TellsStep : List Name → Cells → Family → List OpenOperation → Step → Result Step EvalFault → List OpenOperation → Type 0
+TellsStep names h G old s (Ok t) new = GoesOn names h G old s new t
+TellsStep names h G old s (Err e) new = (name : Naming) → IsNamedBy names name → IsFault e (resumed (seen_term name h G) old (step_value (seen_term name h G) s))
 
 -- one evaluation goes on as the other, or is the other
-pub record Leads (names : List Name) (h : Cells) (sets : List (List ℕ)) (old : List OpenOperation) (s : Step) (new : List OpenOperation) (t : Step) : Type 0 where
-  pub value : (name : Naming) → IsNamedBy names name → resumed (seen_term name h sets) old (step_value (seen_term name h sets) s) ≡ resumed (seen_term name h sets) new (step_value (seen_term name h sets) t)
+pub record Leads (names : List Name) (h : Cells) (G : Family) (old : List OpenOperation) (s : Step) (new : List OpenOperation) (t : Step) : Type 0 where
+  pub value : (name : Naming) → IsNamedBy names name → resumed (seen_term name h G) old (step_value (seen_term name h G) s) ≡ resumed (seen_term name h G) new (step_value (seen_term name h G) t)
   pub own : IsOwnStep (length names) h s → All (IsOwnOperation (length names) h) old → IsOwnStep (length names) h t × All (IsOwnOperation (length names) h) new
-  pub lighter : load (seen_term unnamed h sets) new t ≤ load (seen_term unnamed h sets) old s
+  pub lighter : load (seen_term unnamed h G) new t ≤ load (seen_term unnamed h G) old s
 
 -- the way down to an integer, or its fault
-abbrev pub TellsDescent : List Name → Cells → List (List ℕ) → List OpenOperation → Cell → Result ℤ EvalFault → List OpenOperation → Type 0
-TellsDescent names h sets old c (Ok z) new = GoesOn names h sets old (Enter c) new (Leave z)
-TellsDescent names h sets old c (Err e) new = (name : Naming) → IsNamedBy names name → IsFault e (resumed (seen_term name h sets) old (value_of (seen_term name h sets c)))
+abbrev pub TellsDescent : List Name → Cells → Family → List OpenOperation → Cell → Result ℤ EvalFault → List OpenOperation → Type 0
+TellsDescent names h G old c (Ok z) new = GoesOn names h G old (Enter c) new (Leave z)
+TellsDescent names h G old c (Err e) new = (name : Naming) → IsNamedBy names name → IsFault e (resumed (seen_term name h G) old (value_of (seen_term name h G c)))
 
 -- the way up with a value: to an operand, or to the end, where nothing waits; or its fault
-abbrev pub TellsAscent : List Name → Cells → List (List ℕ) → List OpenOperation → ℤ → Result Step EvalFault → List OpenOperation → Type 0
-TellsAscent names h sets old z (Ok (Enter c)) new = Leads names h sets old (Leave z) new (Enter c)
-TellsAscent names h sets old z (Ok (Leave y)) new = Leads names h sets old (Leave z) [] (Leave y)
-TellsAscent names h sets old z (Err e) new = (name : Naming) → IsNamedBy names name → IsFault e (resumed (seen_term name h sets) old (Ok z))
+abbrev pub TellsAscent : List Name → Cells → Family → List OpenOperation → ℤ → Result Step EvalFault → List OpenOperation → Type 0
+TellsAscent names h G old z (Ok (Enter c)) new = Leads names h G old (Leave z) new (Enter c)
+TellsAscent names h G old z (Ok (Leave y)) new = Leads names h G old (Leave z) [] (Leave y)
+TellsAscent names h G old z (Err e) new = (name : Naming) → IsNamedBy names name → IsFault e (resumed (seen_term name h G) old (Ok z))
 
 -- a compound term is entered at its first operand, or at the second one where the first has a value; or its fault is told
-abbrev pub IsEntered : Cells → List (List ℕ) → Name → List Cell → List OpenOperation → Result Cell EvalFault → List OpenOperation → Type 0
-IsEntered h sets f args old (Ok t) new =
+abbrev pub IsEntered : Cells → Family → Name → List Cell → List OpenOperation → Result Cell EvalFault → List OpenOperation → Type 0
+IsEntered h G f args old (Ok t) new =
     ((c : Cell) × (args ≡ c ∷ []) × (bytes_eq f (codes "-") ≡ true) × (new ≡ old ++ Opposite ∷ []) × (t ≡ c))
     ⊎ (((c : Cell) × (d : Cell) × (o : Operation) × (args ≡ c ∷ d ∷ []) × (operation_of f ≡ Some o) × (new ≡ old ++ Left o d ∷ []) × (t ≡ c))
-    ⊎ ((c : Cell) × (d : Cell) × (o : Operation) × (z : ℤ) × (args ≡ c ∷ d ∷ []) × (operation_of f ≡ Some o) × ((name : Naming) → value_of (seen_term name h sets c) ≡ Ok z) × (new ≡ old ++ Right o z ∷ []) × (t ≡ d)))
-IsEntered h sets f args old (Err e) new = (by : Cell → Term) → IsFault e (value_of (Comp f (terms_by by args)))
+    ⊎ ((c : Cell) × (d : Cell) × (o : Operation) × (z : ℤ) × (args ≡ c ∷ d ∷ []) × (operation_of f ≡ Some o) × ((name : Naming) → value_of (seen_term name h G c) ≡ Ok z) × (new ≡ old ++ Right o z ∷ []) × (t ≡ d)))
+IsEntered h G f args old (Err e) new = (by : Cell → Term) → IsFault e (value_of (Comp f (terms_by by args)))

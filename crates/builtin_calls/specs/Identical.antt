@@ -1,6 +1,7 @@
 -- Whether two terms are identical, and pairs of cells that are still to be compared.
 use Rattle.std.specs.Prelude.{◌≡◌, ℕ, ◌+◌, ◌<◌, ◌≤◌, Bool, true, false, List, [], ◌∷◌, ◌++◌, All}
 use Rattle.term_pool.specs.Terms.{size}
+use Rattle.fd_language.specs.Family.{Family}
 use Rattle.fd_language.specs.Term.{Term}
 use Rattle.heap_cells.specs.declared.Cell.{Cell}
 use Rattle.heap_cells.specs.declared.Seen.{Seen}
@@ -10,14 +11,14 @@ use Rattle.heap_cells.specs.Terms.{Naming, IsOneToOne}
 use Rattle.builtin_calls.specs.declared.identity.Pair.{Pair}
 use Rattle.builtin_calls.specs.declared.identity.Told.{Told}
 use Rattle.builtin_calls.specs.declared.identity.Told.TheVariants.{Apart, Alike, Next}
-use Rattle.builtin_calls.specs.SeenTerms.{seen_term}
+use Rattle.heap_cells.specs.SeenTerms.{seen_term}
 use Rattle.builtin_calls.specs.CellTops.{shown}
 use Rattle.builtin_calls.specs.Evaluations.{unnamed}
 
 -- the answer tells whether the terms of two cells are identical, where no two atoms have one name
-abbrev pub TellsIdentical : Cells → List (List ℕ) → Cell → Cell → Bool → Type 0
-TellsIdentical h sets a b true = (name : Naming) → seen_term name h sets a ≡ seen_term name h sets b
-TellsIdentical h sets a b false = (name : Naming) → IsOneToOne name → seen_term name h sets a ≡ seen_term name h sets b → ⊥
+abbrev pub TellsIdentical : Cells → Family → Cell → Cell → Bool → Type 0
+TellsIdentical h G a b true = (name : Naming) → seen_term name h G a ≡ seen_term name h G b
+TellsIdentical h G a b false = (name : Naming) → IsOneToOne name → seen_term name h G a ≡ seen_term name h G b → ⊥
 
 -- the same of what is seen at two cells, whatever the terms of cells are
 abbrev pub TellsShown : Seen → Seen → Bool → Type 0
@@ -35,8 +36,8 @@ IsFlat (seen.Struct f args) = ⊥
 abbrev pub IsOwnPair : Cells → Pair → Type 0
 IsOwnPair h p = IsOf h p.left × IsOf h p.right
 
-abbrev pub IsEqualPair : Naming → Cells → List (List ℕ) → Pair → Type 0
-IsEqualPair name h sets p = seen_term name h sets p.left ≡ seen_term name h sets p.right
+abbrev pub IsEqualPair : Naming → Cells → Family → Pair → Type 0
+IsEqualPair name h G p = seen_term name h G p.left ≡ seen_term name h G p.right
 
 -- the sizes of the terms on the left together
 abbrev pub weight : (Cell → Term) → List Pair → ℕ
@@ -50,21 +51,21 @@ paired (c ∷ cs) [] = []
 paired (c ∷ cs) (d ∷ ds) = record { left = c; right = d } ∷ paired cs ds
 
 -- the pairs of the one list are equal exactly where those of the other are, and there is less to compare
-pub record IsReduced (h : Cells) (sets : List (List ℕ)) (old new : List Pair) : Type 0 where
-  pub forth : (name : Naming) → All (IsEqualPair name h sets) old → All (IsEqualPair name h sets) new
-  pub back : (name : Naming) → All (IsEqualPair name h sets) new → All (IsEqualPair name h sets) old
+pub record IsReduced (h : Cells) (G : Family) (old new : List Pair) : Type 0 where
+  pub forth : (name : Naming) → All (IsEqualPair name h G) old → All (IsEqualPair name h G) new
+  pub back : (name : Naming) → All (IsEqualPair name h G) new → All (IsEqualPair name h G) old
   pub own : All (IsOwnPair h) old → All (IsOwnPair h) new
-  pub falls : weight (seen_term unnamed h sets) new < weight (seen_term unnamed h sets) old
+  pub falls : weight (seen_term unnamed h G) new < weight (seen_term unnamed h G) old
 
 -- the pairs of the one list are equal exactly where those of the other are, and there is no more to compare
-pub record IsSettled (h : Cells) (sets : List (List ℕ)) (old new : List Pair) : Type 0 where
-  pub forth : (name : Naming) → All (IsEqualPair name h sets) old → All (IsEqualPair name h sets) new
-  pub back : (name : Naming) → All (IsEqualPair name h sets) new → All (IsEqualPair name h sets) old
+pub record IsSettled (h : Cells) (G : Family) (old new : List Pair) : Type 0 where
+  pub forth : (name : Naming) → All (IsEqualPair name h G) old → All (IsEqualPair name h G) new
+  pub back : (name : Naming) → All (IsEqualPair name h G) new → All (IsEqualPair name h G) old
   pub own : All (IsOwnPair h) old → All (IsOwnPair h) new
-  pub lighter : weight (seen_term unnamed h sets) new ≤ weight (seen_term unnamed h sets) old
+  pub lighter : weight (seen_term unnamed h G) new ≤ weight (seen_term unnamed h G) old
 
 -- the pair's terms are identical if those of the new pairs are, or they are not
-abbrev pub TellsPair : Cells → List (List ℕ) → List Pair → Pair → List Pair → Told → Type 0
-TellsPair h sets old p new Apart = TellsIdentical h sets p.left p.right false
-TellsPair h sets old p new Alike = IsReduced h sets (old ++ p ∷ []) new
-TellsPair h sets old p new (Next q) = IsReduced h sets (old ++ p ∷ []) (new ++ q ∷ [])
+abbrev pub TellsPair : Cells → Family → List Pair → Pair → List Pair → Told → Type 0
+TellsPair h G old p new Apart = TellsIdentical h G p.left p.right false
+TellsPair h G old p new Alike = IsReduced h G (old ++ p ∷ []) new
+TellsPair h G old p new (Next q) = IsReduced h G (old ++ p ∷ []) (new ++ q ∷ [])

@@ -1,4 +1,3 @@
-pub mod SeenTerms
 pub mod CellTops
 pub mod Passing
 pub mod Outcomes

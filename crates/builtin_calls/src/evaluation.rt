@@ -4,6 +4,8 @@ ghost use Rattle.std.specs.Prelude.{◌≡◌, ℕ, ◌<◌, ◌++◌, [], ◌�
 ghost use Rattle.std.specs.Str.{bytes_eq};
 ghost use Rattle.std.specs.Option.{SomeIff};
 ghost use Rattle.std.specs.Int.{w64};
+ghost use Rattle.domain_ranges.specs.Views.{family_of};
+ghost use Rattle.fd_language.specs.Family.{Family};
 ghost use Rattle.fd_language.specs.Term.{Name};
 ghost use Rattle.heap_cells.specs.Atoms.{HasAtomsBelow, IsAtomBelow};
 ghost use Rattle.term_pool.specs.Contents.{name_in};
@@ -13,7 +15,7 @@ ghost use Rattle.builtin_calls.specs.declared.evaluation.EvalFault.TheVariants a
 ghost use Rattle.builtin_calls.specs.declared.evaluation.Step.TheVariants as step;
 ghost use Rattle.fd_model.specs.Arithmetic.{integer, modulo, value_of};
 ghost use Rattle.builtin_calls.specs.Outcomes.{Tells, IsMeant, IsMeaning, IsNamedBy, meaning, operation_of};
-ghost use Rattle.builtin_calls.specs.SeenTerms.{seen_term, HasLinksBelow};
+ghost use Rattle.heap_cells.specs.SeenTerms.{seen_term, HasLinksBelow};
 ghost use Rattle.builtin_calls.specs.CellTops.{IsSimple};
 ghost use Rattle.builtin_calls.specs.Evaluations.{IsEntered, IsOfHeap, IsOwn, IsOwnOperation, TellsStep, TellsDescent, TellsAscent};
 
@@ -166,8 +168,8 @@ fn apply(operation: Operation, left: i64, right: i64) -> Result<i64, EvalFault>
 #[inline(always)]
 fn constant(heap: &Heap, c: Cell) -> Option<i64>
     requires { IsOf heap.now.now c }
-    ensures { IfSome result (λ z. (name : Naming) (sets : List (List ℕ)) → value_of
-        (seen_term name heap.now.now sets c) ≡ Ok z) }
+    ensures { IfSome result (λ z. (name : Naming) (G : Family) → value_of
+        (seen_term name heap.now.now G c) ≡ Ok z) }
 {
     match glance(heap, c) {
         Some(z) if z != i64::MIN => Some(z),
@@ -179,10 +181,10 @@ fn constant(heap: &Heap, c: Cell) -> Option<i64>
 #[inline(never)]
 fn value_of_simple<V: View>(heap: &Heap, view: &V, c: Cell) -> Result<i64, EvalFault>
     requires own { IsOf heap.now.now c }
-    requires simple { IsSimple heap.now.now (V.sets view.now) c }
+    requires simple { IsSimple heap.now.now (family_of (V.sets view.now)) c }
     requires links { HasLinksBelow (length (V.sets view.now)) heap.now.now }
     ensures { (name : Naming) → Tells result
-        (value_of (seen_term name heap.now.now (V.sets view.now) c)) }
+        (value_of (seen_term name heap.now.now (family_of (V.sets view.now)) c)) }
 {
     match look(heap, view, c) {
         Seen::Int(z) => checked(Some(z)),
@@ -200,7 +202,7 @@ fn enter_opposite(
     waiting: &mut OpenOperations,
 ) -> Result<Cell, EvalFault>
     requires { length args.now ≡ 2 → ⊥ }
-    ensures { (h : Cells) (sets : List (List ℕ)) → IsEntered h sets name.now args.now waiting.old
+    ensures { (h : Cells) (G : Family) → IsEntered h G name.now args.now waiting.old
         result waiting.new }
 {
     match args {
@@ -229,7 +231,7 @@ fn enter_compound(
     requires own { name.number < length pool.now.names }
     requires args { All (IsOf heap.now.now) args.now }
     requires latest { IfSome latest.old (IsMeant pool.now.names) }
-    ensures entered { (sets : List (List ℕ)) → IsEntered heap.now.now sets
+    ensures entered { (G : Family) → IsEntered heap.now.now G
         (name_in pool.now.names name) args.now waiting.old result waiting.new }
     ensures latest { IfSome latest.new (IsMeant pool.now.names) }
 {
@@ -256,7 +258,7 @@ fn resume(
     waiting: &mut OpenOperations,
 ) -> Result<Step, EvalFault>
     requires own { IsOfHeap heap.now.now waits }
-    ensures goes { (names : List Name) (sets : List (List ℕ)) → TellsStep names heap.now.now sets
+    ensures goes { (names : List Name) (G : Family) → TellsStep names heap.now.now G
         (waiting.old ++ waits ∷ []) (step.Leave value) result waiting.new }
     ensures held { OnOk result (All (IsOfHeap heap.now.now) waiting.old
         → All (IsOfHeap heap.now.now) waiting.new) }
@@ -292,8 +294,8 @@ fn value_by_sign(sign: u8, left: i64, right: i64) -> Option<i64>
 fn near_operation(heap: &Heap, pool: &Pool, c: Cell) -> Option<i64>
     requires own { IsOf heap.now.now c }
     requires atoms { HasAtomsBelow (length pool.now.names) heap.now.now }
-    ensures { IfSome result (λ z. (name : Naming) (sets : List (List ℕ)) → IsNamedBy pool.now.names
-        name → value_of (seen_term name heap.now.now sets c) ≡ Ok z) }
+    ensures { IfSome result (λ z. (name : Naming) (G : Family) → IsNamedBy pool.now.names
+        name → value_of (seen_term name heap.now.now G c) ≡ Ok z) }
 {
     let Seen::Struct(f, &[left, right]) = heap.deref(c) else {
         return None;
@@ -312,8 +314,8 @@ fn near_operation(heap: &Heap, pool: &Pool, c: Cell) -> Option<i64>
 fn near_value(heap: &Heap, pool: &Pool, c: Cell) -> Option<i64>
     requires own { IsOf heap.now.now c }
     requires atoms { HasAtomsBelow (length pool.now.names) heap.now.now }
-    ensures { IfSome result (λ z. (name : Naming) (sets : List (List ℕ)) → IsNamedBy pool.now.names
-        name → value_of (seen_term name heap.now.now sets c) ≡ Ok z) }
+    ensures { IfSome result (λ z. (name : Naming) (G : Family) → IsNamedBy pool.now.names
+        name → value_of (seen_term name heap.now.now G c) ≡ Ok z) }
 {
     let root = heap.near_root(c)?;
     match root {
@@ -335,7 +337,7 @@ fn descend<V: View>(
     requires waiting { All (IsOwnOperation (length pool.now.names) heap.now.now) waiting.old }
     requires atoms { HasAtomsBelow (length pool.now.names) heap.now.now }
     requires links { HasLinksBelow (length (V.sets view.now)) heap.now.now }
-    ensures { TellsDescent pool.now.names heap.now.now (V.sets view.now) waiting.old c result
+    ensures { TellsDescent pool.now.names heap.now.now (family_of (V.sets view.now)) waiting.old c result
         waiting.new }
 {
     let mut at = c;
@@ -352,7 +354,7 @@ fn descend<V: View>(
 #[inline(always)]
 fn ascend(heap: &Heap, value: i64, waiting: &mut OpenOperations) -> Result<Step, EvalFault>
     requires own { All (IsOfHeap heap.now.now) waiting.old }
-    ensures { (names : List Name) (sets : List (List ℕ)) → TellsAscent names heap.now.now sets
+    ensures { (names : List Name) (G : Family) → TellsAscent names heap.now.now G
         waiting.old value result waiting.new }
 {
     let mut current = value;
@@ -379,7 +381,7 @@ fn eval_nested<V: View>(
     requires atoms { HasAtomsBelow (length pool.now.names) heap.now.now }
     requires links { HasLinksBelow (length (V.sets view.now)) heap.now.now }
     ensures { (name : Naming) → IsNamedBy pool.now.names name → Tells result
-        (value_of (seen_term name heap.now.now (V.sets view.now) c)) }
+        (value_of (seen_term name heap.now.now (family_of (V.sets view.now)) c)) }
 {
     let mut waiting = OpenOperations::new(alloc);
     let mut at = c;
@@ -410,7 +412,7 @@ pub fn eval<V: View>(
     requires atoms { HasAtomsBelow (length pool.now.names) heap.now.now }
     requires links { HasLinksBelow (length (V.sets view.now)) heap.now.now }
     ensures { (name : Naming) → IsNamedBy pool.now.names name → Tells result
-        (value_of (seen_term name heap.now.now (V.sets view.now) c)) }
+        (value_of (seen_term name heap.now.now (family_of (V.sets view.now)) c)) }
 {
     if let Some(value) = near_value(heap, pool, c) {
         return Ok(value);

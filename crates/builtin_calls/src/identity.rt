@@ -1,8 +1,10 @@
 //! Identity of terms.
 
 ghost use Rattle.std.specs.Prelude.{◌≡◌, ◌++◌, ℕ, List, length, reverse, option_to_list, All, IfOk, OnOk};
+ghost use Rattle.domain_ranges.specs.Views.{family_of};
+ghost use Rattle.fd_language.specs.Family.{Family};
 ghost use Rattle.heap_cells.specs.Cells.{IsOf};
-ghost use Rattle.builtin_calls.specs.SeenTerms.{HasLinksBelow};
+ghost use Rattle.heap_cells.specs.SeenTerms.{HasLinksBelow};
 ghost use Rattle.builtin_calls.specs.Identical.{TellsIdentical, TellsShown, TellsPair, IsFlat, IsOwnPair, IsSettled, paired};
 
 use crate::reading::look;
@@ -39,7 +41,7 @@ fn pair_up(
     requires count { length left.now ≡ length right.now }
     requires own_left { All (IsOf heap.now.now) left.now }
     requires own_right { All (IsOf heap.now.now) right.now }
-    ensures { IfOk result (λ next. (sets : List (List ℕ)) → IsSettled heap.now.now sets
+    ensures { IfOk result (λ next. (G : Family) → IsSettled heap.now.now G
         (work.old.items ++ reverse (paired left.now right.now))
         (work.new.items ++ option_to_list next)) }
 {
@@ -93,7 +95,7 @@ enum Told {
 fn step<V: View>(heap: &Heap, view: &V, pair: Pair, work: &mut Vec<Pair>) -> Result<Told, NoMemory>
     requires own { IsOwnPair heap.now.now pair }
     requires links { HasLinksBelow (length (V.sets view.now)) heap.now.now }
-    ensures { IfOk result (TellsPair heap.now.now (V.sets view.now) work.old.items pair
+    ensures { IfOk result (TellsPair heap.now.now (family_of (V.sets view.now)) work.old.items pair
         work.new.items) }
 {
     match look(heap, view, pair.left) {
@@ -131,7 +133,7 @@ pub fn same<V: View>(
     requires own_a { IsOf heap.now.now a }
     requires own_b { IsOf heap.now.now b }
     requires links { HasLinksBelow (length (V.sets view.now)) heap.now.now }
-    ensures { IfOk result (TellsIdentical heap.now.now (V.sets view.now) a b) }
+    ensures { IfOk result (TellsIdentical heap.now.now (family_of (V.sets view.now)) a b) }
 {
     let left = heap.root(a);
     let right = heap.root(b);

@@ -1,9 +1,10 @@
 //! Tests of types.
 
 ghost use Rattle.std.specs.Prelude.{◌≡◌, length};
+ghost use Rattle.domain_ranges.specs.Views.{family_of};
 ghost use Rattle.heap_cells.specs.Cells.{IsOf};
 ghost use Rattle.heap_cells.specs.Terms.{Naming};
-ghost use Rattle.builtin_calls.specs.SeenTerms.{seen_term, HasLinksBelow};
+ghost use Rattle.heap_cells.specs.SeenTerms.{seen_term, HasLinksBelow};
 ghost use Rattle.builtin_calls.specs.Passing.{passes};
 
 use crate::reading::look;
@@ -29,7 +30,7 @@ pub fn type_test<V: View>(test: TypeTest, heap: &Heap, view: &V, c: Cell) -> boo
     requires own { IsOf heap.now.now c }
     requires links { HasLinksBelow (length (V.sets view.now)) heap.now.now }
     ensures { (name : Naming) → result
-        ≡ passes test (seen_term name heap.now.now (V.sets view.now) c) }
+        ≡ passes test (seen_term name heap.now.now (family_of (V.sets view.now)) c) }
 {
     let seen = look(heap, view, c);
     match test {

@@ -12,7 +12,7 @@ use Rattle.fd_language.specs.Range.{Range, Indexical, reads}
 use Rattle.fd_language.specs.RangeRenaming.{rename_range, rename_indexical}
 use Rattle.fd_language.specs.Term.{Term, Var, Int, Atom, Comp, Substitution, apply}
 use Rattle.fd_language.specs.Variables.{TermBelow}
-use Rattle.fd_language.proofs.Lemmas.{two, reads_map, has_either, in_left, renamed_agree, filled_agree}
+use Rattle.fd_language.proofs.Lemmas.{two, reads_map, has_either, in_left, renamed_agree, filled_agree, filled_renamed}
 use Rattle.fd_model.specs.Children.{by_post, by_constraint, look_in, with_expansion}
 use Rattle.fd_model.specs.Closed.{constrained}
 use Rattle.fd_model.specs.Constraining.{equations}
@@ -33,7 +33,7 @@ use Rattle.fd_language.specs.SingleValues.{value_at}
 use Rattle.machine_relation.specs.HeldBranches.{fixed_frame}
 use Rattle.machine_relation.specs.Rows.{slot_numbers, unless_fault, post_row}
 use Rattle.machine_relation.specs.Store.{Touch, Value, Same, posts, names, IsStored}
-use Rattle.machine_relation.proofs.Lemmas.{after_is, agree, AreConsecutive, post_same, range_filled, range_plain, only_integers, post_as_row, IsRangeRow, range_row, range_twice, view_kind, with_one}
+use Rattle.machine_relation.proofs.Lemmas.{after_is, agree, AreConsecutive, post_same, range_plain, only_integers, post_as_row, IsRangeRow, range_row, range_twice, view_kind, with_one}
 use Rattle.machine_frames.proofs.Lemmas.{one_here, one_else, unsettled, settled_look, settled_held, settled_rest}
 use Rattle.machine_frames.specs.Frames.{link_in, frame_of, IsKept}
 use Rattle.machine_frames.specs.SeenHeap.{read_term}
@@ -279,7 +279,7 @@ module _ (M : ℕ) (area : Area) (prog : Program) (q : Query) (name : Naming) (h
       body_is : p.range ≡ rename_range inner (filled see R)
       body_is =
           row.body
-          ∙ ap (rename_range row.place) (range_filled f t.is.2 (λ y. integer_of (look y)) R ∙ ap (rename_range f) (filled_agree (λ y. integer_of (look (f y))) (λ y. integer_of (see y)) R (each_both (λ y. look (f y) ≡ see y) (λ y. look (f y) ≡ see y) (λ y. integer_of (look (f y)) ≡ integer_of (see y)) (λ y e g. ap integer_of e) (range_occurrences R) each each)))
+          ∙ ap (rename_range row.place) (filled_renamed f (λ y. integer_of (look y)) R ∙ ap (rename_range f) (filled_agree (λ y. integer_of (look (f y))) (λ y. integer_of (see y)) R (each_both (λ y. look (f y) ≡ see y) (λ y. look (f y) ≡ see y) (λ y. integer_of (look (f y)) ≡ integer_of (see y)) (λ y e g. ap integer_of e) (range_occurrences R) each each)))
           ∙ range_twice row.place f (filled see R)
 
       abbrev Named : Term → Type 0

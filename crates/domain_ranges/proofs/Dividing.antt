@@ -1,5 +1,5 @@
 -- The loop of the quotient of a list of intervals.
-use Rattle.std.proofs.Common.{◌≡◌, ℕ, suc, ◌+◌, ◌*◌, ◌/◌, ◌<◌, ◌≤◌, Bool, false, ◌||◌, ◌&&◌, leb, List, ◌∷◌, ap, sym, ◌∙◌, subst, arith, length, get_or, drop, drop_of_length-le, Option, inl, inr, ◌⊎◌}
+use Rattle.std.proofs.Common.{◌≡◌, ℕ, suc, ◌+◌, ◌*◌, ◌/◌, ◌<◌, ◌≤◌, Bool, false, ◌||◌, ◌&&◌, leb, List, ◌∷◌, ap, sym, ◌∙◌, subst, arith, length, get_or, drop, drop_of_length-le, Option, inl, inr}
 use Rattle.std.specs.Int.{div_ceil}
 use Rattle.std.proofs.lemmas.Bool.Decides.{nat_tests}
 use Rattle.std.proofs.lemmas.Grind.{div_ceil_times}

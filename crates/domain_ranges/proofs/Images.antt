@@ -65,12 +65,9 @@ shifted_from (s ∷ ss) c n h = elim (or_cases (comes s c n) (shifted ss c n) h)
 comes_of : (s : Span) (c : ℤ) (e n : ℕ) → s.0 ≤ e → e ≤ s.1 → pos e +ℤ c ≡ pos n → comes s c n ≡ true
 comes_of s c e n h g f = grind (arith, ints)
 
-in_part : (s : Span) (ss : List Span) (e : ℕ) → within (s ∷ ss) e ≡ true → ((s.0 ≤ e) × (e ≤ s.1)) ⊎ (within ss e ≡ true)
-in_part s ss e h = head_or_later s ss e h
-
 shifted_of : (ss : List Span) (c : ℤ) (e n : ℕ) → within ss e ≡ true → pos e +ℤ c ≡ pos n → shifted ss c n ≡ true
 shifted_of [] c e n h f = absurd (true≢false (sym h))
-shifted_of (s ∷ ss) c e n h f = elim (in_part s ss e h) [
+shifted_of (s ∷ ss) c e n h f = elim (head_or_later s ss e h) [
   | inl a ↦ or_left (comes s c n) (shifted ss c n) (comes_of s c e n a.0 a.1 f)
   | inr a ↦ or_right (comes s c n) (shifted ss c n) (shifted_of ss c e n a f)
 ]

@@ -5,6 +5,7 @@ use Rattle.std.proofs.lemmas.Bool.Decides.{nat_tests}
 use Rattle.fd_language.specs.Family.{universe}
 use Rattle.domain_ranges.specs.Spans.{Span, within, IsSpans, members, interval_count, listed, written, joined}
 use Rattle.domain_ranges.proofs.Made.{Made, IsNext, made_push, made_all, made_many, out_high, out_low}
+use Rattle.domain_ranges.proofs.Spans.{or_step}
 
 -- the least number of the open interval, or else the end of what is made
 abbrev pub front : Option Span → ℕ → ℕ
@@ -39,9 +40,6 @@ not_yet : (n k : ℕ) (b : Bool) → (b ≡ true → k ≤ n) → n < k → b �
 not_yet n k false f h = refl
 not_yet n k true f h = absurd (omega (arith, f refl))
 
-assoc_or : (o x r l : Bool) → l ≡ (x || r) → (o || l) ≡ ((o || x) || r)
-assoc_or o x r l e = grind arith
-
 pub either_false : (a b c : Bool) → c ≡ (a || b) → a ≡ false → b ≡ false → c ≡ false
 either_false a b c e h g = grind arith
 
@@ -74,7 +72,7 @@ join_longer M p out rest rest' s x j f t =
       made = j.made;
       open_span = (open_.0, omega (arith, open_.1), omega (arith, open_.2, f.high), tt);
       start = λ n h. omega (arith, f.later n h);
-      same = λ n g h. j.same n g h ∙ assoc_or (within (s ∷ []) n) (leb x.0 n && leb n x.1) (rest' n) (rest n) (f.same n g)
+      same = λ n g h. j.same n g h ∙ or_step (within (s ∷ []) n) (leb x.0 n && leb n x.1) (rest' n) (rest n) (f.same n g)
           ∙ ap (λ b. b || rest' n) (longer_bits s.0 s.1 x.0 x.1 n open_.1 f.order past t);
     }
 

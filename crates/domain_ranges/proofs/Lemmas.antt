@@ -14,5 +14,6 @@ pub use Rattle.domain_ranges.proofs.Leaving.{none_but}
 pub use Rattle.domain_ranges.proofs.Meeting.{below_first}
 -- The numbers of a list of intervals.
 pub use Rattle.domain_ranges.proofs.Members.{filter_inside, has_within, least_is, members_rising, has_append, up_append, length_up}
-
 -- The loop of a list of intervals that are moved by an integer.
+-- The only member of a set, and the term of a variable that has it.
+pub use Rattle.domain_ranges.proofs.SingleValues.{one_value, no_value}

@@ -20,4 +20,5 @@ mod Images
 mod Union
 mod Inside
 mod Stacking
+mod SingleValues
 pub mod Lemmas

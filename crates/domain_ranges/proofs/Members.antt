@@ -4,6 +4,7 @@ use Rattle.std.proofs.lemmas.Bool.{and_parts, and_from, true≢false, cases_lt}
 use Rattle.std.proofs.lemmas.Bool.Decides.{nat_tests}
 use Rattle.std.proofs.lemmas.Int.{ints}
 use Rattle.std.proofs.Math.Bool.{or-false}
+use Rattle.std.proofs.lemmas.List.Elements.{filter_agree}
 use Rattle.fd_language.specs.Family.{has, universe, IsRising, count_up}
 use Rattle.fd_language.specs.Range.{least, greatest, is_none_left}
 use Rattle.fd_language.proofs.Lemmas.{rising_same, has-filter, has-filter_back, universe_rising, in_universe, has_high, has_low, rising-filter, least_low, least_in, greatest_in, greatest_high, not_empty, rising_later as rising_from, later_in}
@@ -152,14 +153,11 @@ three_spans M (s ∷ t ∷ u ∷ us) xs r e h =
     (to u.0 ∙ past_first s (t ∷ u ∷ us) u.0 (omega arith) ∙ past_first t (u ∷ us) u.0 (omega arith) ∙ in_head u us u.0 (omega arith) r.3.3.1)
     (omega arith) (omega arith)
 
-pub filter_same : (p q : ℕ → Bool) (xs : List ℕ) → ((n : ℕ) → p n ≡ q n) → filter p xs ≡ filter q xs
-filter_same p q xs h = ap (λ f. filter f xs) (λ i n. h n i)
-
 -- the numbers of two lists of intervals, as the sets that they are
 pub meet_is : (M : ℕ) (a b : List Span) (xs ys : List ℕ) → IsSpans 0 M a → IsSpans 0 M b → members a ≡ xs → members b ≡ ys → filter (λ n. within a n && within b n) (universe M) ≡ filter (has ys) xs
 meet_is M a b xs ys r q e f =
-    filter_same (λ n. within a n && within b n) (λ n. has xs n && has ys n) (universe M)
-    (λ n. ap (λ t. t && within b n) (sym (has_members 0 M a n r) ∙ ap (λ l. has l n) e) ∙ ap (λ t. has xs n && t) (sym (has_members 0 M b n q) ∙ ap (λ l. has l n) f))
+    filter_agree (λ n. within a n && within b n) (λ n. has xs n && has ys n)
+    (λ n. ap (λ t. t && within b n) (sym (has_members 0 M a n r) ∙ ap (λ l. has l n) e) ∙ ap (λ t. has xs n && t) (sym (has_members 0 M b n q) ∙ ap (λ l. has l n) f)) (universe M)
     ∙ filter_inside M xs ys (subst (IsRising 0 M) e (members_rising 0 M a r))
 
 -- the least, the greatest member of a set with a member is in it

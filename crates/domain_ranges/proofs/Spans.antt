@@ -94,7 +94,8 @@ count_bound : (low high : ℕ) (ss : List Span) → IsSpans low high ss → low 
 count_bound low high [] r h = omega arith
 count_bound low high (s ∷ ss) r h = elim (first_gap s.1 high ss r.3) [ inl e ↦ no_more s ss low high r.0 r.1 r.2 e | inr g ↦ omega (arith, r.0, r.1, r.2, count_bound (s.1 + 2) high ss r.3 g) ]
 
-or_step : (p a b c : Bool) → c ≡ (a || b) → (p || c) ≡ ((p || a) || b)
+-- a choice of three, by the last two
+pub or_step : (p a b c : Bool) → c ≡ (a || b) → (p || c) ≡ ((p || a) || b)
 or_step p a b c e = grind arith
 
 pub within_append : (ss ts : List Span) (n : ℕ) → within (ss ++ ts) n ≡ (within ss n || within ts n)

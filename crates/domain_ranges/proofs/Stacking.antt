@@ -7,7 +7,7 @@ use Rattle.std.proofs.lemmas.Bool.{true≢false}
 use Rattle.std.proofs.lemmas.Bool.Decides.{nat_tests}
 use Rattle.std.proofs.Math.Seq.{take-append_seam, drop-append_seam}
 use Rattle.std.proofs.lemmas.List.{reverse-append, length-reverse, take-append-le, drop-append-le, take-append-drop, length-take-le, length-drop, take_all, drop_more}
-use Rattle.std.proofs.lemmas.List.Elements.{All-nil, All-cons, All-head, All-tail, All-append, All-take}
+use Rattle.std.proofs.lemmas.List.Elements.{All-nil, All-cons, All-head, All-tail, All-append, All-take, filter_agree}
 use Rattle.std.proofs.lemmas.List.Sorted.{list_any-IsPermutation, All-permutation}
 use Rattle.std.proofs.Math.Bool.{or-false}
 use Rattle.fd_language.specs.declared.TheConstants.{INFINITY}
@@ -16,7 +16,7 @@ use Rattle.domain_ranges.specs.Spans.{Span, within, IsSpans, members}
 use Rattle.domain_ranges.specs.Narrowing.{between}
 use Rattle.domain_ranges.specs.StackedSets.{numbers, stacked, AreStarts, AreIntervals, AreRising}
 use Rattle.domain_ranges.proofs.Spans.{within_append, head_or_later}
-use Rattle.domain_ranges.proofs.Members.{members_is, filter_same}
+use Rattle.domain_ranges.proofs.Members.{members_is}
 use Rattle.domain_ranges.proofs.Images.{has_set, set_same}
 use Rattle.domain_ranges.proofs.Joining.{IsFirst}
 
@@ -198,7 +198,7 @@ pub sorted_rises : (ss : List Span) → IsNonDecreasingBy (λ s. s.0) ss → Are
 sorted_rises ss h = rises ss 0 (λ d l. omega arith) h
 
 pub permuted_numbers : (ss ts : List Span) → IsPermutation ss ts → numbers ts ≡ numbers ss
-permuted_numbers ss ts h = sym (filter_same (within ss) (within ts) (universe INFINITY) (λ n. list_any-IsPermutation (λ s. leb s.0 n && leb n s.1) ss ts h))
+permuted_numbers ss ts h = sym (filter_agree (within ss) (within ts) (λ n. list_any-IsPermutation (λ s. leb s.0 n && leb n s.1) ss ts h) (universe INFINITY))
 
 pub permuted_intervals : (ss ts : List Span) → IsPermutation ss ts → AreIntervals ss → AreIntervals ts
 permuted_intervals ss ts h a = All-permutation (λ t. (t.0 ≤ t.1) × (t.1 ≤ INFINITY)) ss ts h a

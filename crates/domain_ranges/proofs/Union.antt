@@ -1,5 +1,5 @@
 -- The loop of the union of two lists of intervals.
-use Rattle.std.proofs.Common.{◌≡◌, ℕ, ◌+◌, ◌<◌, ◌≤◌, Bool, true, false, ◌||◌, ◌&&◌, leb, List, [], ◌∷◌, refl, ap, sym, ◌∙◌, subst, inl, inr, ◌⊎◌, arith, length, get_or, drop, drop_of_length-le}
+use Rattle.std.proofs.Common.{◌≡◌, ℕ, ◌+◌, ◌<◌, ◌≤◌, Bool, true, false, ◌||◌, ◌&&◌, leb, List, [], ◌∷◌, refl, ap, sym, ◌∙◌, subst, inl, inr, arith, length, get_or, drop, drop_of_length-le}
 use Rattle.std.proofs.lemmas.Bool.{true≢false, or_cases, cases_lt}
 use Rattle.std.proofs.Math.Bool.{or_comm}
 use Rattle.std.proofs.lemmas.List.{drop_more}

@@ -366,7 +366,10 @@ fn join_rising(alloc: Global, spans: &[(u32, u32)]) -> Result<SmallVec<(u32, u32
 }
 
 /// The numbers of intervals that stand in any order. One pass is made where they begin in rising order.
-pub(crate) fn settled(alloc: Global, spans: &[(u32, u32)]) -> Result<SmallVec<(u32, u32), 4>, NoMemory>
+pub(crate) fn settled(
+    alloc: Global,
+    spans: &[(u32, u32)],
+) -> Result<SmallVec<(u32, u32), 4>, NoMemory>
     requires { AreIntervals spans.now }
     ensures spans { IfOk result (λ list. IsSpans 0 INFINITY list.items) }
     ensures set { IfOk result (λ list. members list.items ≡ numbers spans.now) }

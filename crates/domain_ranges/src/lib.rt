@@ -7,6 +7,7 @@ ghost use Rattle.domain_ranges.specs.Sets.{is_shifted, is_scaled, is_quotient};
 ghost use Rattle.domain_ranges.specs.Narrowing.{between, all_but, IsNarrowed, IsLeft, IsInterval, IsPart, IsMembership};
 ghost use Rattle.fd_language.specs.Family.{has, universe, IsRising, IsSubset};
 ghost use Rattle.fd_language.specs.Range.{least, greatest, is_none_left};
+ghost use Rattle.fd_language.specs.SingleValues.{only};
 
 mod intervals;
 mod set_stack;
@@ -515,6 +516,14 @@ impl Domain {
             [] => None,
             [first, ..] => Some((first.0, spans[spans.len() - 1].1)),
         }
+    }
+
+    /// The only member, and `None` where there is none or there are several.
+    pub fn only_value(&self) -> Option<u32>
+        ensures { result ≡ only self.now }
+    {
+        let least = self.min();
+        if least == self.max() { least } else { None }
     }
 
     /// How many members the set has.

@@ -16,3 +16,5 @@ pub use Rattle.heap_cells.proofs.Substitutions.{occurs_check, one_other, one_sel
 pub use Rattle.heap_cells.proofs.Looking.{number_of}
 -- The heaps at the marks stay as they are while the current one changes.
 pub use Rattle.heap_cells.proofs.Marks.{map_same}
+-- The term that a cell is seen as, by its end.
+pub use Rattle.heap_cells.proofs.SeenTerms.{shown_atom, shown_compound, shown_free, shown_int, shown_linked}

@@ -12,4 +12,5 @@ mod Levels
 mod Adding
 mod Undoing
 mod Atoms
+mod SeenTerms
 pub mod Lemmas

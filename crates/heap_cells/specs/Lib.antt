@@ -4,3 +4,4 @@ pub mod Valid
 pub mod HeapFields
 pub mod SeenCells
 pub mod Atoms
+pub mod SeenTerms

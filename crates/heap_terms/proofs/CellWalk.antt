@@ -15,10 +15,11 @@ use Rattle.heap_cells.specs.declared.Cell.{Cell}
 use Rattle.heap_cells.specs.Cells.{Cells, IsOf}
 use Rattle.heap_cells.specs.Terms.{terms_by}
 use Rattle.heap_cells.specs.Atoms.{IsAtomBelow}
+use Rattle.heap_cells.specs.SeenTerms.{seen_term}
+use Rattle.domain_ranges.specs.Views.{family_of}
 use Rattle.heap_cells.proofs.Lemmas.{head_of, tail_of, none_at_all, both_of, all_front, all_push, all_reverse, map_same}
 use Rattle.heap_terms.specs.declared.ReadTask.{ReadTask}
 use Rattle.heap_terms.specs.declared.ReadTask.TheVariants.{Visit, Make}
-use Rattle.heap_terms.specs.Values.{shown_term}
 use Rattle.heap_terms.specs.Tasks.{visit, make, to_terms, Leaves}
 use Rattle.heap_terms.specs.ReadBack.{PlacesAtZero, CanRead, VisitsCell, MakesTerm, task_of}
 use Rattle.heap_terms.proofs.Stacks.{Walks, effort, walks_result, result_smaller, walks_parts, parts_smaller, walks_made}
@@ -47,14 +48,14 @@ Own p t = t.number < length p.entries
 pub record IsReading (names : List Name) (h : Cells) (sets : List (List ℕ)) (c : Cell) (before p : Contents) (ks : List ReadTask) (ds : List TermId) : Type 0 where
   pub tasks : All (CanRead names h) ks
   pub own : All (Own p) ds
-  pub leaves : Walks ReadTask TermId (task_of names h sets) (pool.term_of p) (shown_term (name_in names) h sets c) ks ds
+  pub leaves : Walks ReadTask TermId (task_of names h sets) (pool.term_of p) (seen_term (name_in names) h (family_of sets) c) ks ds
   pub extends : Extends before p
   pub kept : KeepsTerms before p
   pub places : PlacesAtZero before p
 
 module _ (names : List Name) (h : Cells) (sets : List (List ℕ)) (c : Cell) (before : Contents) where
   abbrev pub ahead_of : List ReadTask → ℕ
-  ahead_of ks = effort ReadTask TermId (task_of names h sets) (pool.term_of before) (shown_term (name_in names) h sets c) ks
+  ahead_of ks = effort ReadTask TermId (task_of names h sets) (pool.term_of before) (seen_term (name_in names) h (family_of sets) c) ks
 
   more_ids : (p q : Contents) → Extends p q → length p.entries ≤ length q.entries
   more_ids p q x = omega (arith, ap (λ es. length es) x.entries.1, length-append p.entries x.entries.0)
@@ -67,7 +68,7 @@ module _ (names : List Name) (h : Cells) (sets : List (List ℕ)) (c : Cell) (be
   grown p q ks ds x k z w = record {
     tasks = w.tasks;
     own = wider p q x ds w.own;
-    leaves = subst (λ ts. Leaves (map (task_of names h sets) (reverse ks)) ts (shown_term (name_in names) h sets c)) (map_same (Own p) (pool.term_of p) (pool.term_of q) (λ t o. sym (k t o)) ds w.own) w.leaves;
+    leaves = subst (λ ts. Leaves (map (task_of names h sets) (reverse ks)) ts (seen_term (name_in names) h (family_of sets) c)) (map_same (Own p) (pool.term_of p) (pool.term_of q) (λ t o. sym (k t o)) ds w.own) w.leaves;
     extends = extends_trans before p q w.extends x;
     kept = λ t l. k t (let m = more_ids before p w.extends in omega arith) ∙ w.kept t l;
     places = places_both before p q w.places z x;
@@ -86,17 +87,17 @@ module _ (names : List Name) (h : Cells) (sets : List (List ℕ)) (c : Cell) (be
       record {
         tasks = subst (All (CanRead names h)) (sym e) before_it;
         own = subst (All (Own q)) (sym f) (all_push (Own q) ds t now.own o);
-        leaves = subst (λ js. Walks ReadTask TermId (task_of names h sets) (pool.term_of q) (shown_term (name_in names) h sets c) js es) (sym e)
-            (walks_result ReadTask TermId (task_of names h sets) (pool.term_of q) (shown_term (name_in names) h sets c) ks rest (Visit d) (shown_term (name_in names) h sets d) split refl ds es t is f now.leaves);
+        leaves = subst (λ js. Walks ReadTask TermId (task_of names h sets) (pool.term_of q) (seen_term (name_in names) h (family_of sets) c) js es) (sym e)
+            (walks_result ReadTask TermId (task_of names h sets) (pool.term_of q) (seen_term (name_in names) h (family_of sets) c) ks rest (Visit d) (seen_term (name_in names) h (family_of sets) d) split refl ds es t is f now.leaves);
         extends = now.extends;
         kept = now.kept;
         places = now.places;
       },
-      subst (λ js. ahead_of js < ahead_of ks) (sym e) (result_smaller ReadTask TermId (task_of names h sets) (pool.term_of before) (shown_term (name_in names) h sets c) ks rest (Visit d) (shown_term (name_in names) h sets d) split refl),
+      subst (λ js. ahead_of js < ahead_of ks) (sym e) (result_smaller ReadTask TermId (task_of names h sets) (pool.term_of before) (seen_term (name_in names) h (family_of sets) c) ks rest (Visit d) (seen_term (name_in names) h (family_of sets) d) split refl),
     )
     visited (inr (f, args, is, below, o, a, more, e)) =
         let name = name_in names in
-        let T = shown_term name h sets in
+        let T = seen_term name h (family_of sets) in
         let ts = map T args in
         let top : task_of names h sets (Visit d) ≡ visit (Comp (name f) (to_terms ts)) = ap visit (is ∙ ap (Comp (name f)) (sym (to_terms-cells T args))) in
         let long : task_of names h sets (Make f (length args)) ≡ make (name f) (length ts) = ap (make (name f)) (sym (length-map args T)) in
@@ -132,7 +133,7 @@ module _ (names : List Name) (h : Cells) (sets : List (List ℕ)) (c : Cell) (be
         record {
           tasks = all_front (CanRead names h) rest (Make f n ∷ []) (subst (All (CanRead names h)) split w.tasks);
           own = subst (All (Own q)) (sym e) (all_push (Own q) (take (length ds - n) ds) t (All-take (Own q) (length ds - n) ds now.own) o);
-          leaves = walks_made ReadTask TermId (task_of names h sets) (pool.term_of q) (shown_term (name_in names) h sets c) ks rest (Make f n) (name_in names f) n split refl ds es t (is ∙ ap (Comp (name_in names f)) same) e now.leaves;
+          leaves = walks_made ReadTask TermId (task_of names h sets) (pool.term_of q) (seen_term (name_in names) h (family_of sets) c) ks rest (Make f n) (name_in names f) n split refl ds es t (is ∙ ap (Comp (name_in names f)) same) e now.leaves;
           extends = now.extends;
           kept = now.kept;
           places = now.places;

@@ -3,4 +3,3 @@ mod Stacks
 mod Pools
 mod CellReads
 mod CellWalk
-mod Values

@@ -9,9 +9,10 @@ use Rattle.heap_cells.specs.declared.Cell.{Cell}
 use Rattle.heap_cells.specs.Cells.{Cells, IsOf}
 use Rattle.heap_cells.specs.Terms.{terms_by}
 use Rattle.heap_cells.specs.Atoms.{IsAtomBelow}
+use Rattle.heap_cells.specs.SeenTerms.{seen_term}
+use Rattle.domain_ranges.specs.Views.{family_of}
 use Rattle.heap_terms.specs.declared.ReadTask.{ReadTask}
 use Rattle.heap_terms.specs.declared.ReadTask.TheVariants.{Visit, Make}
-use Rattle.heap_terms.specs.Values.{shown_term}
 use Rattle.heap_terms.specs.Tasks.{Task, visit, make}
 
 -- the new terms have the place 0
@@ -29,11 +30,11 @@ AddsTerm x ds p es = (t : TermId) × (t.number < length p.entries) × (pool_term
 
 -- a cell becomes its term, or the visits of its arguments and a task that makes it
 abbrev pub VisitsLeaf : List Name → Cells → List (List ℕ) → Cell → List ReadTask → List TermId → Contents → List ReadTask → List TermId → Type 0
-VisitsLeaf names h sets c ks ds p ms es = (ms ≡ ks) × AddsTerm (shown_term (name_in names) h sets c) ds p es
+VisitsLeaf names h sets c ks ds p ms es = (ms ≡ ks) × AddsTerm (seen_term (name_in names) h (family_of sets) c) ds p es
 
 abbrev pub VisitsCompound : List Name → Cells → List (List ℕ) → Cell → List ReadTask → List TermId → List ReadTask → List TermId → Type 0
 VisitsCompound names h sets c ks ds ms es = (f : AtomId) × (args : List Cell)
-    × (shown_term (name_in names) h sets c ≡ Comp (name_in names f) (terms_by (shown_term (name_in names) h sets) args))
+    × (seen_term (name_in names) h (family_of sets) c ≡ Comp (name_in names f) (terms_by (seen_term (name_in names) h (family_of sets)) args))
     × (f.number < length names) × All (IsOf h) args × All (IsAtomBelow (length names)) args
     × (ms ≡ (ks ++ Make f (length args) ∷ []) ++ reverse (map Visit args)) × (es ≡ ds)
 
@@ -45,5 +46,5 @@ abbrev pub MakesTerm : List Name → AtomId → ℕ → Contents → List TermId
 MakesTerm names f n p ds q es = AddsTerm (Comp (name_in names f) (pool_terms (pool_term p) (drop (length ds - n) ds))) (take (length ds - n) ds) q es
 
 abbrev pub task_of : List Name → Cells → List (List ℕ) → ReadTask → Task
-task_of names h sets (Visit c) = visit (shown_term (name_in names) h sets c)
+task_of names h sets (Visit c) = visit (seen_term (name_in names) h (family_of sets) c)
 task_of names h sets (Make f n) = make (name_in names f) n

@@ -8,10 +8,12 @@ ghost use Rattle.std.specs.Prelude.{◌≡◌, ◌<◌, ◌≤◌, ◌++◌, len
 ghost use Rattle.term_pool.specs.Contents.{name_in};
 ghost use Rattle.term_pool.specs.Terms.{term_of as pool_term, shape_term, Extends, KeepsTerms as KeepsPoolTerms};
 ghost use Rattle.term_pool.specs.Valid.{IsWithin, shape_of};
+ghost use Rattle.domain_ranges.specs.Views.{family_of};
+ghost use Rattle.fd_language.specs.SingleValues.{value_in};
 ghost use Rattle.heap_cells.specs.Cells.{IsOf};
 ghost use Rattle.heap_cells.specs.Atoms.{HasAtomsBelow, IsAtomBelow};
+ghost use Rattle.heap_cells.specs.SeenTerms.{seen_term, HasLinksBelow};
 ghost use Rattle.heap_terms.specs.declared.ReadTask.TheVariants as reading;
-ghost use Rattle.heap_terms.specs.Values.{only, value_of, shown_term, LinksBelow};
 ghost use Rattle.heap_terms.specs.ReadBack.{VisitsCell, AddsTerm, MakesTerm, PlacesAtZero};
 
 use domain_ranges::{Domain, View};
@@ -52,14 +54,6 @@ fn add_leaf(pool: &mut Pool, node: Node<'_>, done: &mut Vec<TermId>) -> Result<(
     Ok(())
 }
 
-/// The only member of a domain.
-pub fn only_value(domain: &Domain) -> Option<u32>
-    ensures { result ≡ only domain.now }
-{
-    let least = domain.min();
-    if least == domain.max() { least } else { None }
-}
-
 /// Adds the term of a variable of the store, whose number in the heap is `i`, to the pool and to those that are done. The error is
 /// want of memory.
 fn add_linked(
@@ -68,13 +62,13 @@ fn add_linked(
     pool: &mut Pool,
     done: &mut Vec<TermId>,
 ) -> Result<(), NoMemory>
-    ensures added { OnOk result (AddsTerm (value_of (only domain.now) i) done.old.items pool.new
+    ensures added { OnOk result (AddsTerm (value_in domain.now i) done.old.items pool.new
         done.new.items) }
     ensures extends { Extends pool.old pool.new }
     ensures kept { KeepsPoolTerms pool.old pool.new }
     ensures places { PlacesAtZero pool.old pool.new }
 {
-    match only_value(domain) {
+    match domain.only_value() {
         Some(value) => add_leaf(pool, Node::Int(i64::from(value)), done),
         None => add_leaf(pool, Node::Var(i as u64), done),
     }
@@ -93,7 +87,7 @@ fn visit_cell<V: View>(
     requires own { IsOf heap.now.now c }
     requires atoms { HasAtomsBelow (length from.now.names) heap.now.now }
     requires atom { IsAtomBelow (length from.now.names) c }
-    requires linked { LinksBelow (length (V.sets view.now)) heap.now.now }
+    requires linked { HasLinksBelow (length (V.sets view.now)) heap.now.now }
     ensures read { OnOk result (VisitsCell from.now.names heap.now.now (V.sets view.now) c
         tasks.old.items done.old.items pool.new tasks.new.items done.new.items) }
     ensures extends { Extends pool.old pool.new }
@@ -156,10 +150,10 @@ pub fn read_back<V: View>(
     requires own { IsOf heap.now.now c }
     requires atoms { HasAtomsBelow (length from.now.names) heap.now.now }
     requires atom { IsAtomBelow (length from.now.names) c }
-    requires linked { LinksBelow (length (V.sets view.now)) heap.now.now }
+    requires linked { HasLinksBelow (length (V.sets view.now)) heap.now.now }
     ensures own { IfOk result (λ t. t.number < length pool.new.entries) }
     ensures term { IfOk result (λ t. pool_term pool.new t
-        ≡ shown_term (name_in from.now.names) heap.now.now (V.sets view.now) c) }
+        ≡ seen_term (name_in from.now.names) heap.now.now (family_of (V.sets view.now)) c) }
     ensures extends { Extends pool.old pool.new }
     ensures kept { KeepsPoolTerms pool.old pool.new }
     ensures places { PlacesAtZero pool.old pool.new }

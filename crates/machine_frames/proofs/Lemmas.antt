@@ -12,7 +12,7 @@ pub use Rattle.machine_frames.proofs.Keeping.{kept_cell, kept_consistent, kept_f
 -- Heaps that grow, and variables behind the last one.
 pub use Rattle.machine_frames.proofs.Linking.{new_open, slot_behind}
 -- A variable that gets a value.
-pub use Rattle.machine_frames.proofs.Matching.{one_else, one_here}
+pub use Rattle.machine_relation.proofs.Lemmas.{one_else, one_here}
 -- The names of a pool, with others for the atoms that aren't there, are one to one; and a heap with atoms of the pool alone has the same terms by both.
 pub use Rattle.machine_frames.proofs.Naming.{full_one, full_own, full_term}
 -- A term that is read as an open variable is one.

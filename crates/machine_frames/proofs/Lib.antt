@@ -3,7 +3,6 @@ mod Unifying
 mod Settling
 mod Keeping
 mod Continuing
-mod Matching
 mod Entering
 mod Building
 mod Ranging

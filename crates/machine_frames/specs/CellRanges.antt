@@ -14,16 +14,16 @@ use Rattle.fd_model.specs.declared.kinds.QueryFault.{QueryFault}
 use Rattle.fd_model.specs.declared.kinds.QueryFault.TheVariants.{BadType}
 use Rattle.heap_cells.specs.declared.Cell.{Cell}
 use Rattle.heap_cells.specs.Cells.{Cells, IsOf}
+use Rattle.heap_cells.specs.SeenTerms.{seen_term}
 use Rattle.heap_cells.specs.Terms.{Naming, term_of}
 use Rattle.machine_relation.specs.Store.{Touch, Value, Same, touched}
 use Rattle.machine_frames.specs.Frames.{link_in}
-use Rattle.machine_frames.specs.SeenHeap.{read_term}
 
 -- each variable of the list as its cell shows it by the store's sets
 abbrev pub slot_terms : Naming → Cells → Family → List ℕ → List Cell → Substitution
 slot_terms name h G [] ds y = Var y
 slot_terms name h G (x ∷ xs) [] y = Var y
-slot_terms name h G (x ∷ xs) (d ∷ ds) y = if x == y then read_term h G (term_of name h d)
+slot_terms name h G (x ∷ xs) (d ∷ ds) y = if x == y then seen_term name h G d
     else slot_terms name h G xs ds y
 
 abbrev pub target_offence : Term → Option QueryFault

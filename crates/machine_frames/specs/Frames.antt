@@ -1,25 +1,17 @@
 -- The frame of a heap and a store's ranges, and what is kept of a branch in it.
-use Rattle.std.specs.Prelude.{◌≡◌, ℕ, ◌≤◌, List, length, map, Option, Some, None}
+use Rattle.std.specs.Prelude.{◌≡◌, ℕ, ◌≤◌, List, length, map}
 use Rattle.fd_language.specs.Term.{Substitution}
 use Rattle.fd_language.specs.Unifier.{Equation}
 use Rattle.fd_language.specs.Range.{Indexical}
 use Rattle.heap_cells.specs.declared.Cell.TheVariants as cell
-use Rattle.heap_cells.specs.Cells.{Slot, free, linked, bound, Cells, slot_at}
+use Rattle.heap_cells.specs.Cells.{Cells, slot_at}
+pub use Rattle.heap_cells.specs.SeenTerms.{link_of, link_in}
 use Rattle.heap_cells.specs.Terms.{Naming, term_of, KeepsTerms}
 use Rattle.unify_core.specs.declared.Touch.{Touch}
 use Rattle.unify_core.specs.declared.Touch.TheVariants as touch
 use Rattle.machine_relation.specs.Store as store
 use Rattle.machine_relation.specs.Store.{IsStored}
 use Rattle.machine_relation.specs.HeldBranches.{Frame}
-
--- the variable of the store that a variable of the heap is
-abbrev pub link_of : Slot → Option ℕ
-link_of free = None
-link_of (linked k) = Some k
-link_of (bound c) = None
-
-abbrev pub link_in : Cells → ℕ → Option ℕ
-link_in h c = link_of (slot_at h c)
 
 -- the frame of the heap h and a store with the ranges qs
 abbrev pub frame_of : Naming → Cells → List Indexical → Frame

@@ -4,7 +4,7 @@ use Rattle.fd_model.specs.declared.kinds.BuiltinKind.{BuiltinKind}
 use Rattle.fd_model.specs.declared.kinds.ConstraintKind.{ConstraintKind}
 use Rattle.fd_model.specs.declared.kinds.Order.{Order}
 use Rattle.fd_model.specs.declared.kinds.QueryFault.{QueryFault}
-use Rattle.fd_language.specs.Term.{Term, Substitution, apply}
+use Rattle.fd_language.specs.Term.{Term, Substitution}
 use Rattle.fd_language.specs.Family.{Family}
 use Rattle.fd_language.specs.Range.{Indexical}
 use Rattle.fd_model.specs.Builtins.{Finding, found}
@@ -13,21 +13,17 @@ use Rattle.fd_model.specs.Labelling.{values_by}
 use Rattle.fd_model.specs.LinearRows.{Expansion}
 use Rattle.heap_cells.specs.declared.Cell.{Cell}
 use Rattle.heap_cells.specs.Cells.{Cells}
+pub use Rattle.heap_cells.specs.SeenTerms.{read_term}
 use Rattle.heap_cells.specs.Terms.{Naming}
-use Rattle.fd_language.specs.SingleValues.{value_at}
 use Rattle.machine_relation.specs.HeldBranches.{fixed_frame}
 use Rattle.machine_relation.specs.Labelling.{Labelled, labelled}
 use Rattle.machine_relation.specs.AnswerTexts.{cell_set}
 use Rattle.machine_frames.specs.Environments.{env_look}
-use Rattle.machine_frames.specs.Frames.{link_in, frame_of}
-
--- A term of the heap, as the store's sets show it.
-abbrev pub read_term : Cells → Family → Term → Term
-read_term h G t = apply (λ c. value_at (link_in h c) G c) t
+use Rattle.machine_frames.specs.Frames.{frame_of}
 
 -- each variable of the clause as it is read by the store's sets: a variable of the store whose set has one value is that integer
 abbrev pub seen_env : Naming → Cells → List (Option Cell) → Family → Substitution
-seen_env name h env G x = apply (λ c. value_at (link_in h c) G c) (env_look name h env x)
+seen_env name h env G x = read_term h G (env_look name h env x)
 
 -- the row of a constraint on the term x of the heap
 abbrev pub heap_row : Cells → Family → ConstraintKind → Term → Result Expansion QueryFault

@@ -28,13 +28,13 @@ use Rattle.machine_relation.specs.Machine.{IsAt, Choice, Waits, Walks}
 use Rattle.machine_relation.specs.Rows.{rename_products, rename_expansion, rename_row, frame_row, AreJoined, joined_frame}
 use Rattle.machine_relation.proofs.Holding.{below_split}
 use Rattle.machine_relation.proofs.Renaming.{of_below, list_agree}
-use Rattle.machine_relation.proofs.Cells.{place_from, place_old, place_above}
+use Rattle.machine_relation.proofs.Cells.{place_from, place_old, place_above, at_more}
 use Rattle.machine_relation.proofs.Scoping.{seen_of, variables_on, seen_by_variable}
 use Rattle.machine_relation.proofs.FrameTexts.{cell_from, row_same, row_cell}
 use Rattle.machine_relation.proofs.Joining.{posted_each}
 use Rattle.machine_relation.proofs.Steps.{GivesAll}
 use Rattle.machine_relation.proofs.Walking.{IsFront, renamed_each}
-use Rattle.machine_relation.proofs.Taking.{wide, at_row, front, walk_kid}
+use Rattle.machine_relation.proofs.Taking.{at_row, front, walk_kid}
 
 is_constrain : (f : ℕ → ℕ) (g : Goal) (c : ConstraintKind) (l : Term) → Constrain c l ≡ rename_goal f g → (t : Term) × (g ≡ Constrain c t) × (l ≡ rename_term f t)
 is_constrain f True c l e = absurd (cc)
@@ -74,7 +74,7 @@ module _ (M : ℕ) (q : Query) (work : List Goal) (f : Frame) (b : Branch) (s : 
   on_cells = place_from b.fresh f.cells cell
 
   abbrev next : (new : IsAt M q work (record { heap = f.heap; cells = f.cells + more; link = f.link; store = f.store }) (record { goals = b.goals; equations = b.equations; posted = b.posted; fresh = b.fresh + more })) × (new.place ≡ place_from b.fresh f.cells s.place)
-  next = wide M q work f b s more
+  next = at_more M q work f b s more
 
   top : b.fresh + more ≡ x.fresh
   top = omega (arith, grows)
@@ -103,7 +103,7 @@ module _ (M : ℕ) (q : Query) (work : List Goal) (f : Frame) (b : Branch) (s : 
       subst (λ ds. IsUnified (f.cells + more) link' (applied_each f.heap ds) new link'' ts) (sym (equated_placed b.fresh x.fresh next.0.place on_cells new_place x.equated fresh))
       (subst (λ h. IsUnified h link' (applied_each f.heap (equations (rename_products on_cells x.equated))) new link'' ts) (sym end) u) in
       let below : EquationsOf (λ v. v < b.fresh + more) (equations x.equated) = subst (λ m. EquationsOf (λ v. v < m) (equations x.equated)) (sym top) (equated_below b.fresh x.fresh x.equated fresh) in
-      let there = at_row M q work f b s more x.ranges link' p.0 qs' p.1 gs (each_wider b.fresh (b.fresh + more) (omega arith) gs scoped) (equations x.equated) below new link'' ts u' (λ c l. outside c (subst (λ h. h ≤ c) end l)) in
+      let there = at_row M q work f b more next.0 x.ranges link' p.0 qs' p.1 gs (each_wider b.fresh (b.fresh + more) (omega arith) gs scoped) (equations x.equated) below new link'' ts u' (λ c l. outside c (subst (λ h. h ≤ c) end l)) in
       let one = subst (λ w. IsAt M q w (unified_frame (record { heap = f.heap; cells = f.cells + more; link = link'; store = qs' }) new link'' ts) (record { goals = gs; equations = equations x.equated ++ b.equations; posted = x.ranges ++ b.posted; fresh = b.fresh + more })) (list_agree b.fresh next.0.place s.place old_place gs scoped) there in
       let two = subst (λ h. IsAt M q (map (rename_goal s.place) gs) (unified_frame (record { heap = f.heap; cells = h; link = link'; store = qs' }) new link'' ts) (record { goals = gs; equations = equations x.equated ++ b.equations; posted = x.ranges ++ b.posted; fresh = b.fresh + more })) end one in
       subst (λ m. IsAt M q (map (rename_goal s.place) gs) (unified_frame (record { heap = f.heap; cells = on_cells x.fresh; link = link'; store = qs' }) new link'' ts) (record { goals = gs; equations = equations x.equated ++ b.equations; posted = x.ranges ++ b.posted; fresh = m })) top two

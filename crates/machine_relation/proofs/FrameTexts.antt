@@ -34,6 +34,13 @@ abbrev pub Known : (ℕ → Type 0) → List ℕ → Type 0
 Known P [] = Unit {0}
 Known P (x ∷ xs) = P x × Known P xs
 
+-- the variables of a term's arguments are the term's
+pub of_arguments : (w : Term) (y : ℕ) → has (variables_of_all (arguments w)) y ≡ true → has (variables_of w) y ≡ true
+of_arguments (Var x) y e = absurd (true≢false (sym e))
+of_arguments (Int z) y e = e
+of_arguments (Atom a) y e = e
+of_arguments (Comp g ts) y e = e
+
 module _ (M : ℕ) (f : Frame) (es : List Equation) (ps : List Indexical) (P : ℕ → Type 0) (look : Substitution) (h : IsHeld M f es ps P look) (T : Family) (rest : IsAtRest M f T)
     (s : Substitution) (D : Family) (v : IsView M es ps s D) (c : IsConsistent M es ps) where
   abbrev pub sees : Term → Term
@@ -185,12 +192,6 @@ module _ (M : ℕ) (f : Frame) (es : List Equation) (ps : List Indexical) (P : �
   arguments_kept (Int z) i = refl
   arguments_kept (Atom a) i = refl
   arguments_kept (Comp g ts) i = refl
-
-  of_arguments : (w : Term) (y : ℕ) → has (variables_of_all (arguments w)) y ≡ true → has (variables_of w) y ≡ true
-  of_arguments (Var x) y e = absurd (true≢false (sym e))
-  of_arguments (Int z) y e = e
-  of_arguments (Atom a) y e = e
-  of_arguments (Comp g ts) y e = e
 
   module _ (n : ℕ) (t : Term) (o : Of P t) (low : (y : ℕ) → has (variables_of (sees t)) y ≡ true → y < n) where
     comes : apply_all back (apply_all look (term (sees t) no_terms)) ≡ term (sees t) no_terms

@@ -6,7 +6,7 @@ pub use Rattle.machine_relation.proofs.Cells.{place_above, place_from}
 -- Variables that are forgotten: other equations that say the same of those that stay.
 pub use Rattle.machine_relation.proofs.Forgetting.{same_model, stored_forget, stored_more}
 -- The texts, labellings and rows of constraints by a frame whose store is at rest are those by the branch's view.
-pub use Rattle.machine_relation.proofs.FrameTexts.{Known, cell, cell_from, found_same, label_done, label_faults, label_there, line_same, row_cell, row_same, written_same}
+pub use Rattle.machine_relation.proofs.FrameTexts.{Known, cell, cell_from, found_same, label_done, label_faults, label_there, line_same, of_arguments, row_cell, row_same, written_same}
 -- One more equation, and one more variable, on a heap.
 pub use Rattle.fd_language.proofs.Lemmas.{after_are, after_is}
 pub use Rattle.machine_relation.proofs.Growing.{agree, agree_all, agree_each, below_both, more_all, more_each, more_of, still_of, unify_applied}
@@ -25,11 +25,11 @@ pub use Rattle.machine_relation.proofs.Next.{behind_other}
 -- Linked cells that take integers, as one unification.
 pub use Rattle.machine_relation.proofs.Numbering.{AreConsecutive, bindings, each_found, number_touches, numbered, without, same_var, int_no_var}
 -- A variable takes a term that the heap has already: no cell is made and nothing is posted.
-pub use Rattle.machine_relation.proofs.Placing.{Or, other, stored_cell, stored_place, with_one}
+pub use Rattle.machine_relation.proofs.Placing.{Or, one_else, one_here, other, stored_cell, stored_place, with_one}
 -- `T in r` on a machine: what is posted, or the fault, depends on the kinds of terms alone.
 pub use Rattle.machine_relation.proofs.PostGoals.{post_same}
 -- Rows of goals `T in r` under other names of their variables.
-pub use Rattle.machine_relation.proofs.PostRenaming.{functions, need_renamed, occurrences_renamed, range_filled}
+pub use Rattle.machine_relation.proofs.PostRenaming.{functions, need_renamed, occurrences_renamed}
 -- One more range on a branch and on the store.
 pub use Rattle.machine_relation.proofs.Posting.{by_shown, holds_agree, pick, pick_named, pick_other, pick_rising, new_or_old, one_left, one_back, slot_there, slot_back}
 -- The steps of goals `T in r` over cells: the machine reads its own terms, links the range's cells, and binds the fresh cells to their integers.

@@ -16,11 +16,12 @@ Or P v x = (x ≡ v) ⊎ P x
 abbrev pub with_one : ℕ → Term → Substitution → Substitution
 with_one v t s x = cond (x == v) t (s x)
 
-here : (v : ℕ) (t : Term) (s : Substitution) → with_one v t s v ≡ t
-here v t s = ap (λ b. cond b t (s v)) (eq-eqb v v refl)
+-- a variable that gets a value has it, and the others stay
+pub one_here : (v : ℕ) (t : Term) (s : Substitution) → with_one v t s v ≡ t
+one_here v t s = ap (λ b. cond b t (s v)) (eq-eqb v v refl)
 
-else : (v : ℕ) (t : Term) (s : Substitution) (x : ℕ) → (x ≡ v → ⊥) → with_one v t s x ≡ s x
-else v t s x d = ap (λ b. cond b t (s x)) (ne_eqb x v d)
+pub one_else : (v : ℕ) (t : Term) (s : Substitution) (x : ℕ) → (x ≡ v → ⊥) → with_one v t s x ≡ s x
+one_else v t s x d = ap (λ b. cond b t (s x)) (ne_eqb x v d)
 
 module _ (M : ℕ) (es : List Equation) (ps : List Indexical) (P : ℕ → Type 0) (h : ℕ) (look : Substitution) (link : ℕ → Option ℕ) (slot : ℕ → ℕ) (qs : List Indexical) (st : IsStored M es ps P h look link slot qs) where
   -- another look that agrees, over other cells
@@ -46,7 +47,7 @@ module _ (M : ℕ) (es : List Equation) (ps : List Indexical) (P : ℕ → Type 
 
   module _ (v : ℕ) (new_one : P v → ⊥) where
     other_old : (x : ℕ) → P x → look x ≡ with_one v (Var h) look x
-    other_old x p = sym (else v (Var h) look x (λ e. new_one (subst P e p)))
+    other_old x p = sym (one_else v (Var h) look x (λ e. new_one (subst P e p)))
 
     -- one more variable and one more cell
     pub stored_cell : IsStored M es ps (Or P v) (suc h) (with_one v (Var h) look) link slot qs
@@ -58,12 +59,12 @@ module _ (M : ℕ) (es : List Equation) (ps : List Indexical) (P : ℕ → Type 
             let b = st.heap.through u g in (
               with_one h (u v) b.0,
               λ x c. elim c [
-                | inl e ↦ ap (λ y. apply (with_one h (u v) b.0) (with_one v (Var h) look y)) e ∙ ap (apply (with_one h (u v) b.0)) (here v (Var h) look) ∙ here h (u v) b.0 ∙ ap u (sym e)
-                | inr p ↦ ap (apply (with_one h (u v) b.0)) (sym (other_old x p)) ∙ sym (agree (λ c. c < h) b.0 (with_one h (u v) b.0) (λ c l. sym (else h (u v) b.0 c (λ e. omega (arith, e, l)))) (look x) (st.heap.cells x p)) ∙ b.1 x p
+                | inl e ↦ ap (λ y. apply (with_one h (u v) b.0) (with_one v (Var h) look y)) e ∙ ap (apply (with_one h (u v) b.0)) (one_here v (Var h) look) ∙ one_here h (u v) b.0 ∙ ap u (sym e)
+                | inr p ↦ ap (apply (with_one h (u v) b.0)) (sym (other_old x p)) ∙ sym (agree (λ c. c < h) b.0 (with_one h (u v) b.0) (λ c l. sym (one_else h (u v) b.0 c (λ e. omega (arith, e, l)))) (look x) (st.heap.cells x p)) ∙ b.1 x p
               ],
             );
         cells = λ x c. elim c [
-          | inl e ↦ subst (Of (λ c. c < suc h)) (sym (here v (Var h) look) ∙ ap (with_one v (Var h) look) (sym e)) (omega arith)
+          | inl e ↦ subst (Of (λ c. c < suc h)) (sym (one_here v (Var h) look) ∙ ap (with_one v (Var h) look) (sym e)) (omega arith)
           | inr p ↦ more_of (λ c. c < h) (λ c. c < suc h) (λ c l. omega (arith, l)) (with_one v (Var h) look x) (subst (Of (λ c. c < h)) (other_old x p) (st.heap.cells x p))
         ];
       };
@@ -84,7 +85,7 @@ module _ (M : ℕ) (es : List Equation) (ps : List Indexical) (P : ℕ → Type 
       new = with_one h (apply look t) Var
 
       kept : apply new (apply look t) ≡ apply look t
-      kept = sym (agree (λ c. c < h) Var new (λ c l. sym (else h (apply look t) Var c (λ e. omega (arith, e, l)))) (apply look t) low) ∙ apply_vars (apply look t)
+      kept = sym (agree (λ c. c < h) Var new (λ c l. sym (one_else h (apply look t) Var c (λ e. omega (arith, e, l)))) (apply look t) low) ∙ apply_vars (apply look t)
 
       abbrev cell_look : Substitution
       cell_look = with_one v (Var h) look
@@ -96,20 +97,20 @@ module _ (M : ℕ) (es : List Equation) (ps : List Indexical) (P : ℕ → Type 
       left_is = sym (agree P look cell_look other_old t o)
 
       at_link : (c k : ℕ) → link c ≡ Some k → new c ≡ Var c
-      at_link c k e = else h (apply look t) Var c (λ i. let l = linked_low c k e in omega (arith, i, l))
+      at_link c k e = one_else h (apply look t) Var c (λ i. let l = linked_low c k e in omega (arith, i, l))
 
       unify_cell : IsUnified (suc h) link (applied_each cell_look ds) new link []
       unify_cell = record {
         general = record {
-          unifies = (ap (apply new) left_is ∙ kept ∙ sym (here h (apply look t) Var) ∙ ap (apply new) (sym (here v (Var h) look)), tt);
+          unifies = (ap (apply new) left_is ∙ kept ∙ sym (one_here h (apply look t) Var) ∙ ap (apply new) (sym (one_here v (Var h) look)), tt);
           general = λ u x g. elim (cases_eq x h) [
-            | inl e ↦ ap (λ y. apply u (new y)) e ∙ ap (apply u) (here h (apply look t) Var) ∙ ap (apply u) (sym left_is) ∙ g.0 ∙ ap (apply u) (here v (Var h) look) ∙ ap u (sym e)
-            | inr d ↦ ap (apply u) (else h (apply look t) Var x d)
+            | inl e ↦ ap (λ y. apply u (new y)) e ∙ ap (apply u) (one_here h (apply look t) Var) ∙ ap (apply u) (sym left_is) ∙ g.0 ∙ ap (apply u) (one_here v (Var h) look) ∙ ap u (sym e)
+            | inr d ↦ ap (apply u) (one_else h (apply look t) Var x d)
           ];
         };
         cells = λ c l. elim (cases_eq c h) [
-          | inl e ↦ subst (Of (λ d. d < suc h)) (sym (here h (apply look t) Var) ∙ ap new (sym e)) (more_of (λ d. d < h) (λ d. d < suc h) (λ d k. omega (arith, k)) (apply look t) low)
-          | inr d ↦ subst (Of (λ d. d < suc h)) (sym (else h (apply look t) Var c d)) l
+          | inl e ↦ subst (Of (λ d. d < suc h)) (sym (one_here h (apply look t) Var) ∙ ap new (sym e)) (more_of (λ d. d < h) (λ d. d < suc h) (λ d k. omega (arith, k)) (apply look t) low)
+          | inr d ↦ subst (Of (λ d. d < suc h)) (sym (one_else h (apply look t) Var c d)) l
         ];
         still = λ c k e. (e, at_link c k e);
         plain = λ c k e. inr (c, k, at_link c k e, e);
@@ -123,12 +124,12 @@ module _ (M : ℕ) (es : List Equation) (ps : List Indexical) (P : ℕ → Type 
       both = unified M es ps (Or P v) (suc h) cell_look link slot qs stored_cell ds ((more_of P (Or P v) (λ x p. inr p) t o, inl refl), tt) new link [] unify_cell
 
       final : (x : ℕ) → Or P v x → after new cell_look x ≡ with_one v (apply look t) look x
-      final x (inl e) = ap (λ y. apply new (cell_look y)) e ∙ ap (apply new) (here v (Var h) look) ∙ here h (apply look t) Var ∙ sym (here v (apply look t) look) ∙ ap (with_one v (apply look t) look) (sym e)
-      final x (inr p) = ap (apply new) (sym (other_old x p)) ∙ sym (agree (λ c. c < h) Var new (λ c l. sym (else h (apply look t) Var c (λ e. omega (arith, e, l)))) (look x) (st.heap.cells x p)) ∙ apply_vars (look x) ∙ sym (else v (apply look t) look x (λ e. new_one (subst P e p)))
+      final x (inl e) = ap (λ y. apply new (cell_look y)) e ∙ ap (apply new) (one_here v (Var h) look) ∙ one_here h (apply look t) Var ∙ sym (one_here v (apply look t) look) ∙ ap (with_one v (apply look t) look) (sym e)
+      final x (inr p) = ap (apply new) (sym (other_old x p)) ∙ sym (agree (λ c. c < h) Var new (λ c l. sym (one_else h (apply look t) Var c (λ e. omega (arith, e, l)))) (look x) (st.heap.cells x p)) ∙ apply_vars (look x) ∙ sym (one_else v (apply look t) look x (λ e. new_one (subst P e p)))
 
       cells_now : (x : ℕ) → Or P v x → Of (λ c. c < h) (with_one v (apply look t) look x)
-      cells_now x (inl e) = subst (Of (λ c. c < h)) (sym (here v (apply look t) look) ∙ ap (with_one v (apply look t) look) (sym e)) low
-      cells_now x (inr p) = subst (Of (λ c. c < h)) (sym (else v (apply look t) look x (λ e. new_one (subst P e p)))) (st.heap.cells x p)
+      cells_now x (inl e) = subst (Of (λ c. c < h)) (sym (one_here v (apply look t) look) ∙ ap (with_one v (apply look t) look) (sym e)) low
+      cells_now x (inr p) = subst (Of (λ c. c < h)) (sym (one_else v (apply look t) look x (λ e. new_one (subst P e p)))) (st.heap.cells x p)
 
 -- GetVariable, and UnifyVariable on a structure that is there
 pub stored_place : (M : ℕ) (es : List Equation) (ps : List Indexical) (P : ℕ → Type 0) (h : ℕ) (look : Substitution) (link : ℕ → Option ℕ) (slot : ℕ → ℕ) (qs : List Indexical) → IsStored M es ps P h look link slot qs → (v : ℕ) → (P v → ⊥) → (t : Term) → Of P t

@@ -1,16 +1,14 @@
 -- Rows of goals `T in r` under other names of their variables.
-use Rattle.std.proofs.Common.{◌≡◌, ℕ, Bool, true, false, cond, ◌||◌, ◌&&◌, ◌==◌, ℤ, List, [], ◌∷◌, ◌++◌, map, refl, ap, sym, ◌∙◌, inl, inr, eqb-true, eq-eqb}
-use Rattle.std.specs.Prelude.{flat_map}
+use Rattle.std.proofs.Common.{◌≡◌, ℕ, Bool, true, false, cond, ◌||◌, ◌&&◌, ◌==◌, List, [], ◌∷◌, ◌++◌, map, refl, ap, sym, ◌∙◌, inl, inr, eqb-true, eq-eqb}
 use Rattle.std.proofs.lemmas.Bool.{cases_Bool, true≢false}
 use Rattle.std.proofs.lemmas.List.{map-append}
 use Rattle.fd_language.specs.declared.range_node.Need.{Need}
 use Rattle.fd_language.specs.declared.range_node.Need.TheVariants.{Divisor}
-use Rattle.fd_language.specs.Range.{Range, Span, One, Dom, Union, Inter, Outside, Plus, Minus, Times, Over, Expr, Number, Infinity, Param, Min, Max, Val, Add, Sub, Mul, DivDown, DivUp, Leaf, leaf, leaves}
-use Rattle.fd_language.specs.RangeRenaming.{rename_expr, rename_range, renaming}
-use Rattle.fd_language.specs.Check.{fill_range, filling}
+use Rattle.fd_language.specs.Range.{Range, Span, One, Dom, Union, Inter, Outside, Plus, Minus, Times, Over, Expr, Number, Infinity, Param, Min, Max, Val, Add, Sub, Mul, DivDown, DivUp}
+use Rattle.fd_language.specs.RangeRenaming.{rename_expr, rename_range}
 use Rattle.fd_language.specs.Needs.{is_literal, quotient_asks, expr_asks, over_asks, asks, stronger, strongest, need_of}
 use Rattle.fd_language.specs.Occurrences.{Occurrence, occurrence_at, range_occurrences}
-use Rattle.fd_language.proofs.Lemmas.{two, range_leaves, renamed_leaves, new_twice}
+use Rattle.fd_language.proofs.Lemmas.{two, collected_by, renamed_leaves}
 
 -- functions that agree everywhere are one
 pub functions : {A B : Type 0} {f g : A → B} → ((x : A) → f x ≡ g x) → f ≡ g
@@ -32,10 +30,7 @@ module _ (g : ℕ → ℕ) (apart : (v w : ℕ) → g v ≡ g w → v ≡ w) whe
 
   -- occurrences
   pub occurrences_renamed : (r : Range) → range_occurrences (rename_range g r) ≡ map (rename_occurrence g) (range_occurrences r)
-  occurrences_renamed r = renamed_leaves occurrence_at g r ∙ range_leaves (λ l. occurrence_at (leaf l.role (g l.variable))) r ∙ of_leaves (leaves r) ∙ ap (map (rename_occurrence g)) (sym (range_leaves occurrence_at r)) where
-    of_leaves : (ls : List Leaf) → flat_map (λ l. occurrence_at (leaf l.role (g l.variable))) ls ≡ map (rename_occurrence g) (flat_map occurrence_at ls)
-    of_leaves [] = refl
-    of_leaves (l ∷ ls) = ap (λ ps. occurrence_at (leaf l.role (g l.variable)) ++ ps) (of_leaves ls)
+  occurrences_renamed r = renamed_leaves occurrence_at g r ∙ sym (collected_by (map (rename_occurrence g)) refl (map-append (rename_occurrence g)) occurrence_at r)
 
   -- needs
   literal_renamed : (e : Expr) → is_literal (rename_expr g e) ≡ is_literal e
@@ -125,8 +120,3 @@ module _ (g : ℕ → ℕ) (apart : (v w : ℕ) → g v ≡ g w → v ≡ w) whe
 
   pub need_renamed : (r : Range) (x : ℕ) → need_of (rename_range g r) (g x) ≡ need_of r x
   need_renamed r x = ap (λ l. strongest l (g x)) (asks_renamed r) ∙ strongest_renamed (asks r) x
-
-  -- parameters
-  module _ (p : ℕ → ℤ) where
-    pub range_filled : (r : Range) → fill_range p (rename_range g r) ≡ rename_range g (fill_range (λ y. p (g y)) r)
-    range_filled r = new_twice (filling p) (renaming g) r ∙ sym (new_twice (renaming g) (filling (λ y. p (g y))) r)

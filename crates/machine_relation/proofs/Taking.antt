@@ -16,34 +16,30 @@ use Rattle.machine_relation.specs.Store.{Touch, IsUnified, ArePosted}
 use Rattle.machine_relation.specs.Ahead.{Spends}
 use Rattle.machine_relation.specs.HeldBranches.{Frame, IsAtRest, unified_frame}
 use Rattle.machine_relation.specs.Machine.{IsAt, values, Choice, Waits, Walks, Returns}
-use Rattle.machine_relation.proofs.Cells.{place_from, more_cells, more_fresh, at_more}
+use Rattle.machine_relation.proofs.Cells.{more_cells, more_fresh}
 use Rattle.machine_relation.proofs.Steps.{GivesAll, Speaks, live_one, live_choice}
 use Rattle.machine_relation.proofs.Holding.{held_posts, held_unify}
 use Rattle.machine_relation.proofs.Walking.{renamed_each, applied_renamed, at_consistent, at_unify, IsFront, front_goal}
 
 -- More ranges with fresh variables: new cells for these, the ranges on open cells, and then the equations that give fresh variables their integers.
-module _ (M : ℕ) (q : Query) (work : List Goal) (f : Frame) (b : Branch) (s : IsAt M q work f b) (j : ℕ) where
-  pub wide : (new : IsAt M q work (more_cells f j) (more_fresh b j)) × (new.place ≡ place_from b.fresh f.cells s.place)
-  wide = at_more M q work f b s j
+module _ (M : ℕ) (q : Query) (work : List Goal) (f : Frame) (b : Branch) (j : ℕ) (wide : IsAt M q work (more_cells f j) (more_fresh b j)) (ws : List Indexical) (link' : ℕ → Option ℕ) (slot' : ℕ → ℕ) (qs' : List Indexical) (a : ArePosted b.posted (λ v. v < b.fresh + j) (λ v. f.heap (wide.place v)) f.link wide.held.slot f.store ws link' slot' qs') where
+  abbrev pub row_frame : Frame
+  row_frame = record { heap = f.heap; cells = f.cells + j; link = link'; store = qs' }
 
-  module _ (ws : List Indexical) (link' : ℕ → Option ℕ) (slot' : ℕ → ℕ) (qs' : List Indexical) (a : ArePosted b.posted (λ v. v < b.fresh + j) (λ v. f.heap (wide.0.place v)) f.link wide.0.held.slot f.store ws link' slot' qs') where
-    abbrev pub row_frame : Frame
-    row_frame = record { heap = f.heap; cells = f.cells + j; link = link'; store = qs' }
-
-    pub at_row : (gs : List Goal) → EachBelow (b.fresh + j) gs → (es : List Equation) → EquationsOf (λ v. v < b.fresh + j) es → (new : Substitution) (link'' : ℕ → Option ℕ) (ts : List Touch) → IsUnified (f.cells + j) link' (applied_each f.heap (renamed_each wide.0.place es)) new link'' ts → ((c : ℕ) → f.cells + j ≤ c → new c ≡ Var c)
-        → IsAt M q (map (rename_goal wide.0.place) gs) (unified_frame row_frame new link'' ts) (record { goals = gs; equations = es ++ b.equations; posted = ws ++ b.posted; fresh = b.fresh + j })
-    at_row gs scoped es below new link'' ts u outside =
-        let held = held_posts M (more_cells f j) b.equations b.posted (λ v. v < b.fresh + j) (λ v. f.heap (wide.0.place v)) wide.0.held ws link' slot' qs' a in
-        record {
-          place = wide.0.place;
-          goals = refl;
-          scoped = scoped;
-          placed = wide.0.placed;
-          apart = wide.0.apart;
-          begun = wide.0.begun;
-          first = wide.0.first;
-          held = held_unify M row_frame b.equations (ws ++ b.posted) (λ v. v < b.fresh + j) (λ v. f.heap (wide.0.place v)) held es below new link'' ts (subst (λ l. IsUnified (f.cells + j) link' l new link'' ts) (sym (applied_renamed f.heap wide.0.place es)) u) outside;
-        }
+  pub at_row : (gs : List Goal) → EachBelow (b.fresh + j) gs → (es : List Equation) → EquationsOf (λ v. v < b.fresh + j) es → (new : Substitution) (link'' : ℕ → Option ℕ) (ts : List Touch) → IsUnified (f.cells + j) link' (applied_each f.heap (renamed_each wide.place es)) new link'' ts → ((c : ℕ) → f.cells + j ≤ c → new c ≡ Var c)
+      → IsAt M q (map (rename_goal wide.place) gs) (unified_frame row_frame new link'' ts) (record { goals = gs; equations = es ++ b.equations; posted = ws ++ b.posted; fresh = b.fresh + j })
+  at_row gs scoped es below new link'' ts u outside =
+      let held = held_posts M (more_cells f j) b.equations b.posted (λ v. v < b.fresh + j) (λ v. f.heap (wide.place v)) wide.held ws link' slot' qs' a in
+      record {
+        place = wide.place;
+        goals = refl;
+        scoped = scoped;
+        placed = wide.placed;
+        apart = wide.apart;
+        begun = wide.begun;
+        first = wide.first;
+        held = held_unify M row_frame b.equations (ws ++ b.posted) (λ v. v < b.fresh + j) (λ v. f.heap (wide.place v)) held es below new link'' ts (subst (λ l. IsUnified (f.cells + j) link' l new link'' ts) (sym (applied_renamed f.heap wide.place es)) u) outside;
+      }
 
 is_post : (f : ℕ → ℕ) (g : Goal) (l : Term) (x : Range) → Post l x ≡ rename_goal f g → (t : Term) × (r : Range) × (g ≡ Post t r) × (l ≡ rename_term f t) × (x ≡ rename_range f r)
 is_post f True l x e = absurd (cc)

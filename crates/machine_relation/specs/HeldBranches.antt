@@ -1,5 +1,5 @@
 -- What a machine's heap and store stand for together, whatever holds the goals.
-use Rattle.std.specs.Prelude.{◌≡◌, ℕ, ◌≤◌, pos, List, [], ◌∷◌, ◌++◌, Option, Some, None}
+use Rattle.std.specs.Prelude.{◌≡◌, ℕ, ◌≤◌, List, [], ◌∷◌, ◌++◌, Option, Some, None}
 use Rattle.fd_language.specs.SingleValues.{value_at}
 use Rattle.fd_language.specs.Term.{Var, Substitution}
 use Rattle.fd_language.specs.Unifier.{Equation}

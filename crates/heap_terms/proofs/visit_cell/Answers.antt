@@ -6,8 +6,8 @@ use Rattle.std.proofs.lemmas.Result.{on_ok_weaker}
 use borrow.Author.Rules.{sfits_of}
 use Rattle.fd_language.specs.Term.{Int}
 use Rattle.term_pool.specs.Contents.{name_in}
+use Rattle.heap_cells.specs.SeenTerms.{link_of}
 use Rattle.heap_cells.proofs.Lemmas.{seen_atom}
-use Rattle.heap_terms.specs.Values.{only}
 use Rattle.heap_terms.proofs.CellReads.{read_var, read_linked, read_int, read_atom, read_compound}
 use Rattle.heap_terms.proofs.visit_cell.Goals as goal
 
@@ -20,12 +20,12 @@ returns-in-Open-clause-read g c =
     on_ok_weaker c.add_leaf.result (read_var c.args.from.now.names c.args.heap.now.now c.deref.ensures.valid (g.V.View.sets c.args.view.now) c.args.c c.args.tasks.now.items c.args.done.now.items c.add_leaf.new.pool c.add_leaf.new.done.items c.in-Open.i s.1 s.2) c.add_leaf.ensures.added
 
 pub domain-requires : goal.domain-requires
-domain-requires g c = let s = c.in-Constrained.ensures.seen in c.requires.linked c.in-Constrained.i c.in-Constrained.k s.1
+domain-requires g c = let s = c.in-Constrained.ensures.seen in c.requires.linked c.in-Constrained.i c.in-Constrained.k (ap link_of s.1)
 
 pub returns-in-Constrained-clause-read : goal.returns-in-Constrained-clause-read
 returns-in-Constrained-clause-read g c =
     let s = c.in-Constrained.ensures.seen in
-    on_ok_weaker c.add_linked.result (read_linked c.args.from.now.names c.args.heap.now.now c.deref.ensures.valid (g.V.View.sets c.args.view.now) c.args.c c.args.tasks.now.items c.args.done.now.items c.add_linked.new.pool c.add_linked.new.done.items c.in-Constrained.i c.in-Constrained.k (only c.domain.result.now) s.1 s.2 (ap only c.domain.ensures)) c.add_linked.ensures.added
+    on_ok_weaker c.add_linked.result (read_linked c.args.from.now.names c.args.heap.now.now c.deref.ensures.valid (g.V.View.sets c.args.view.now) c.args.c c.args.tasks.now.items c.args.done.now.items c.add_linked.new.pool c.add_linked.new.done.items c.in-Constrained.i c.in-Constrained.k c.domain.result.now s.1 s.2 c.domain.ensures) c.add_linked.ensures.added
 
 pub returns-in-Int-clause-read : goal.returns-in-Int-clause-read
 returns-in-Int-clause-read g c =

@@ -1,4 +1,4 @@
-use Rattle.std.proofs.Common.{◌≡◌, ◌∷◌, [], ◌++◌, FitsSigned, ℤ, to_z, of_z, subst, rules, w64}
+use Rattle.std.proofs.Common.{◌≡◌, ◌∷◌, [], ◌++◌, FitsSigned, to_z, of_z, subst, rules, w64}
 use Rattle.std.proofs.lemmas.Int.{to_z-of_z}
 use Rattle.term_pool.specs.declared.TheConstants.{SPAN}
 use Rattle.heap_cells.specs.declared.Cell.TheVariants as cell

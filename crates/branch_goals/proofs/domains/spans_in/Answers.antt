@@ -1,4 +1,4 @@
-use Rattle.std.proofs.Common.{◌≡◌, ◌∙◌, ◌≤◌, map, take, ap, ℕ, rules}
+use Rattle.std.proofs.Common.{◌≡◌, ◌∙◌, map, take, ap, rules}
 use Rattle.std.proofs.lemmas.List.{take_all}
 use Rattle.branch_goals.proofs.DomainLists.{spans_are, whole_numbers}
 use Rattle.branch_goals.proofs.domains.spans_in.Goals as goal

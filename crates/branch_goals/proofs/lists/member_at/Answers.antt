@@ -3,7 +3,7 @@ use Rattle.std.proofs.lemmas.Int.{to_z-of_z}
 use borrow.Author.Rules.{sfits_of}
 use Rattle.range_code.specs.Frames.{family_of}
 use Rattle.machine_frames.specs.Frames.{link_of}
-use Rattle.heap_terms.specs.Values.{only}
+use Rattle.fd_language.specs.SingleValues.{only}
 use Rattle.label_search.specs.declared.Member.TheVariants.{Fixed}
 use Rattle.branch_goals.specs.Lists.{IsMemberOf}
 use Rattle.branch_goals.proofs.Listing.{member_free, member_fixed, member_variable, member_int, member_default}

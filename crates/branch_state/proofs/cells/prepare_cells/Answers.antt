@@ -12,7 +12,9 @@ use Rattle.range_code.specs.declared.frame.Arg.{Arg}
 use Rattle.range_code.specs.Slots.{slots_of, slot_needs, need_at}
 use Rattle.unify_core.specs.declared.Touch.{Touch}
 use Rattle.unify_core.specs.Effort.{unnamed}
-use Rattle.branch_state.specs.CellNaming.{shown_as, shown_slots, slots_open, NamedBy, TermStep, SlotStep, AreCellsReady}
+use Rattle.heap_cells.specs.SeenTerms.{seen_term}
+use Rattle.range_code.specs.Frames.{family_of}
+use Rattle.branch_state.specs.CellNaming.{shown_slots, slots_open, NamedBy, TermStep, SlotStep, AreCellsReady}
 use Rattle.branch_state.specs.Naming.{offence, first_in, with_level_sets}
 use Rattle.branch_state.proofs.CellsReady.{cell_shown, cells_start, cells_more}
 use Rattle.branch_state.proofs.Looking.{can_name}
@@ -75,7 +77,7 @@ slot_argument-requires-clause-fine g c = λ name.
     let r = c.loop-index.invariant.ready name t c.requires.looks.1 in
     let fine = none_both (offence None t) (first_in see slots needs) (c.requires.fine name t c.requires.looks.1) in
     let shown = still_shown h S (NamedBy t (shown_slots name h S c.args.code.now c.args.cells.now) (slots_open (take i slots) (take i needs))) c.loop-index.heap.now c.loop-index.store.current.sets c.loop-index.numbers.told.items (get int_eq c.loop-index.numbers.variables) r.naming cell there name ∙ sym (cell_shown name h S c.args.code.now c.args.cells.now (Ref 0) c.requires.counted i k) in
-    subst (λ (xs : List (Option Need)). offence (get_or xs i None) (shown_as name c.loop-index.heap.now c.loop-index.store.current.sets cell) ≡ None) (sym c.needs-needs.ensures)
+    subst (λ (xs : List (Option Need)). offence (get_or xs i None) (seen_term name c.loop-index.heap.now (family_of c.loop-index.store.current.sets) cell) ≡ None) (sym c.needs-needs.ensures)
     (ap (offence (get_or needs i None)) shown ∙ fine_at see slots needs i 0 None k l fine.1)
 
 pub loop-index-preserved : goal.loop-index-preserved
@@ -96,7 +98,7 @@ loop-index-preserved g c = record {
       let r = c.loop-index.invariant.ready name t looks in
       let fine = none_both (offence None t) (first_in see slots needs) (c.requires.fine name t looks) in
       let shown = still_shown h S (NamedBy t (shown_slots name h S c.args.code.now c.args.cells.now) (slots_open (take i slots) (take i needs))) c.loop-index.heap.now c.loop-index.store.current.sets c.loop-index.numbers.told.items (get int_eq c.loop-index.numbers.variables) r.naming cell there name ∙ sym (cell_shown name h S c.args.code.now c.args.cells.now (Ref 0) c.requires.counted i k) in
-      let first = subst (λ (xs : List (Option Need)). SlotStep (shown_as name c.loop-index.heap.now c.loop-index.store.current.sets cell) (get_or xs i None) c.loop-index.heap.now c.loop-index.store.current.sets c.loop-index.numbers.told.items (get int_eq c.loop-index.numbers.variables) c.slot_argument.new.heap.now c.slot_argument.new.store.current.sets c.slot_argument.new.numbers.told.items (get int_eq c.slot_argument.new.numbers.variables) c.in_ok-arg.arg) c.needs-needs.ensures (c.in_ok-arg.ensures.step name) in
+      let first = subst (λ (xs : List (Option Need)). SlotStep (seen_term name c.loop-index.heap.now (family_of c.loop-index.store.current.sets) cell) (get_or xs i None) c.loop-index.heap.now c.loop-index.store.current.sets c.loop-index.numbers.told.items (get int_eq c.loop-index.numbers.variables) c.slot_argument.new.heap.now c.slot_argument.new.store.current.sets c.slot_argument.new.numbers.told.items (get int_eq c.slot_argument.new.numbers.variables) c.in_ok-arg.arg) c.needs-needs.ensures (c.in_ok-arg.ensures.step name) in
       let step = subst (λ u. SlotStep u (get_or needs i None) c.loop-index.heap.now c.loop-index.store.current.sets c.loop-index.numbers.told.items (get int_eq c.loop-index.numbers.variables) c.slot_argument.new.heap.now c.slot_argument.new.store.current.sets c.slot_argument.new.numbers.told.items (get int_eq c.slot_argument.new.numbers.variables) c.in_ok-arg.arg) shown first in
       cells_more t see h S slots (need_at c.args.code.now) fine.1 i k c.loop-index.heap.now c.loop-index.store.current.sets c.loop-index.numbers.told.items (get int_eq c.loop-index.numbers.variables) c.in_ok-target.target c.loop-index.args.items r
       c.slot_argument.new.heap.now c.slot_argument.new.store.current.sets c.slot_argument.new.numbers.told.items (get int_eq c.slot_argument.new.numbers.variables) c.in_ok-arg.arg step c.push.new.self.items c.in_ok-push.ensures.items;

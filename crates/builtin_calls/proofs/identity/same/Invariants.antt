@@ -1,12 +1,13 @@
 use Rattle.std.proofs.Common.{◌++◌, [], ◌∷◌}
+use Rattle.domain_ranges.specs.Views.{family_of}
 use Rattle.builtin_calls.specs.Identical.{weight}
-use Rattle.builtin_calls.specs.SeenTerms.{seen_term}
+use Rattle.heap_cells.specs.SeenTerms.{seen_term}
 use Rattle.builtin_calls.specs.Evaluations.{unnamed}
 use Rattle.builtin_calls.proofs.Comparing.{IsComparing}
 use Rattle.builtin_calls.proofs.identity.same.Given as goal
 
 abbrev pub invariant-pairs : goal.invariant-pairs
-invariant-pairs g l = IsComparing l.heap.now (g.V.View.sets l.view) l.fn.a l.fn.b (l.work.items ++ l.pair ∷ [])
+invariant-pairs g l = IsComparing l.heap.now (family_of (g.V.View.sets l.view)) l.fn.a l.fn.b (l.work.items ++ l.pair ∷ [])
 
 abbrev pub decreases-pairs : goal.decreases-pairs
-decreases-pairs g l = weight (seen_term unnamed l.heap.now (g.V.View.sets l.view)) (l.work.items ++ l.pair ∷ [])
+decreases-pairs g l = weight (seen_term unnamed l.heap.now (family_of (g.V.View.sets l.view))) (l.work.items ++ l.pair ∷ [])

@@ -1,9 +1,10 @@
 use Rattle.std.proofs.Common.{◌≡◌, ◌∙◌, ap, sym, subst, length, Ok, Err, refl}
 use Rattle.fd_model.specs.Constraining.{arguments, expand}
-use Rattle.heap_cells.specs.Cells.{Heaps, slot_at}
-use Rattle.heap_terms.specs.Values.{shown_term}
+use Rattle.heap_cells.specs.Cells.{Heaps}
+use Rattle.heap_cells.specs.SeenTerms.{seen_term}
+use Rattle.range_code.specs.Frames.{family_of}
 use Rattle.term_pool.specs.Contents.{name_in}
-use Rattle.machine_frames.specs.Frames.{link_of}
+use Rattle.machine_frames.specs.Frames.{link_in}
 use Rattle.branch_state.specs.Constraints.{row_of, Constrains, IsRowOf}
 use Rattle.branch_state.specs.LinkedRows.{IsRowReady}
 use Rattle.branch_state.specs.Naming.{OwnLinks}
@@ -15,7 +16,7 @@ pub expand_goal-expanded-requires-clause-linked : goal.expand_goal-expanded-requ
 expand_goal-expanded-requires-clause-linked g c =
     let now : State = record { atoms = c.self.inside.atoms; heaps = c.self.inside.heap; levels = c.self.inside.store } in
     let o : IsSound now = subst IsSound (sym c.self.view_is) c.requires.sound in
-    λ i k e. o.now.linked i k (ap link_of (ap (λ (x : Heaps). slot_at x.now i) (sym c.in_ok-fresh.ensures.same) ∙ e))
+    λ i k e. o.now.linked i k (ap (λ (x : Heaps). link_in x.now i) (sym c.in_ok-fresh.ensures.same) ∙ e)
 
 pub returns-in-Err-clause-step : goal.returns-in-Err-clause-step
 returns-in-Err-clause-step g c =
@@ -29,7 +30,7 @@ returns-in-Err-clause-step g c =
     let same : c.count_variables.new.heap ≡ now.heaps = c.in_ok-fresh.ensures.same in
     let fresh = c.in_ok-fresh.fresh in
     let read = row_read names now o atoms kind cell own fresh c.in_ok-fresh.ensures.count in
-    let moved = ap (λ (x : Heaps). expand kind (arguments (shown_term (name_in names) x.now now.levels.current.sets cell)) fresh) (sym same) in
+    let moved = ap (λ (x : Heaps). expand kind (arguments (seen_term (name_in names) x.now (family_of now.levels.current.sets) cell)) fresh) (sym same) in
     let fault : row_of names now kind cell ≡ Err c.in_ok-fault_of-in-Err.field-0 = sym read ∙ moved ∙ fault_read _ c.in-Err.fault c.in_ok-fault_of-in-Err.field-0 c.in-Err.ensures.row c.in_ok-fault_of-in-Err.ensures in
     let unmoved : record { atoms = now.atoms; heaps = c.count_variables.new.heap; levels = now.levels } ≡ now = ap (λ (x : Heaps). record { atoms = now.atoms; heaps = x; levels = now.levels }) same in
     (subst (λ (v : State). row_of names v kind cell ≡ Err c.in_ok-fault_of-in-Err.field-0) c.self.view_is fault, unmoved ∙ c.self.view_is)
@@ -52,7 +53,7 @@ prepare_row-requires-clause-row g c =
     let same : c.count_variables.new.heap ≡ now.heaps = c.in_ok-fresh.ensures.same in
     let fresh = c.in_ok-fresh.fresh in
     let read = row_read names now o atoms kind cell own fresh c.in_ok-fresh.ensures.count in
-    let moved = ap (λ (x : Heaps). expand kind (arguments (shown_term (name_in names) x.now now.levels.current.sets cell)) fresh) (sym same) in
+    let moved = ap (λ (x : Heaps). expand kind (arguments (seen_term (name_in names) x.now (family_of now.levels.current.sets) cell)) fresh) (sym same) in
     let y = c.in-Ok.expansion in
     let is : row_of names now kind cell ≡ Ok y = sym read ∙ moved ∙ c.in-Ok.ensures.row in
     let row : IsRowOf now.heaps.now y = row_of_heap names now o kind cell own y is in
@@ -70,7 +71,7 @@ post_rows-requires-clause-list g c =
     let same : c.count_variables.new.heap ≡ now.heaps = c.in_ok-fresh.ensures.same in
     let fresh = c.in_ok-fresh.fresh in
     let read = row_read names now o atoms kind cell own fresh c.in_ok-fresh.ensures.count in
-    let moved = ap (λ (x : Heaps). expand kind (arguments (shown_term (name_in names) x.now now.levels.current.sets cell)) fresh) (sym same) in
+    let moved = ap (λ (x : Heaps). expand kind (arguments (seen_term (name_in names) x.now (family_of now.levels.current.sets) cell)) fresh) (sym same) in
     let y = c.in-Ok.expansion in
     let is : row_of names now kind cell ≡ Ok y = sym read ∙ moved ∙ c.in-Ok.ensures.row in
     let row : IsRowOf now.heaps.now y = row_of_heap names now o kind cell own y is in
@@ -92,7 +93,7 @@ post_rows-requires-clause-fixed g c =
     let same : c.count_variables.new.heap ≡ now.heaps = c.in_ok-fresh.ensures.same in
     let fresh = c.in_ok-fresh.fresh in
     let read = row_read names now o atoms kind cell own fresh c.in_ok-fresh.ensures.count in
-    let moved = ap (λ (x : Heaps). expand kind (arguments (shown_term (name_in names) x.now now.levels.current.sets cell)) fresh) (sym same) in
+    let moved = ap (λ (x : Heaps). expand kind (arguments (seen_term (name_in names) x.now (family_of now.levels.current.sets) cell)) fresh) (sym same) in
     let y = c.in-Ok.expansion in
     let is : row_of names now kind cell ≡ Ok y = sym read ∙ moved ∙ c.in-Ok.ensures.row in
     let row : IsRowOf now.heaps.now y = row_of_heap names now o kind cell own y is in
@@ -114,7 +115,7 @@ returns-clause-step g c =
     let same : c.count_variables.new.heap ≡ now.heaps = c.in_ok-fresh.ensures.same in
     let fresh = c.in_ok-fresh.fresh in
     let read = row_read names now o atoms kind cell own fresh c.in_ok-fresh.ensures.count in
-    let moved = ap (λ (x : Heaps). expand kind (arguments (shown_term (name_in names) x.now now.levels.current.sets cell)) fresh) (sym same) in
+    let moved = ap (λ (x : Heaps). expand kind (arguments (seen_term (name_in names) x.now (family_of now.levels.current.sets) cell)) fresh) (sym same) in
     let y = c.in-Ok.expansion in
     let is : row_of names now kind cell ≡ Ok y = sym read ∙ moved ∙ c.in-Ok.ensures.row in
     let row : IsRowOf now.heaps.now y = row_of_heap names now o kind cell own y is in

@@ -1,6 +1,5 @@
 use Rattle.std.proofs.Common.{◌∙◌, ap, sym, subst, IfOk}
 use Rattle.heap_cells.specs.Atoms.{HasAtomsBelow}
-use Rattle.machine_frames.specs.Frames.{link_of}
 use Rattle.branch_state.specs.Showing.{IsShown, AreShowable}
 use Rattle.branch_state.specs.States.{State, IsSound}
 use Rattle.branch_state.proofs.state.BranchState.show.Goals as goal
@@ -20,7 +19,7 @@ pub show_cells-requires-clause-linked : goal.show_cells-requires-clause-linked
 show_cells-requires-clause-linked g c =
     let now : State = record { atoms = c.self.inside.atoms; heaps = c.self.inside.heap; levels = c.self.inside.store } in
     let o : IsSound now = subst IsSound (sym c.self.view_is) c.requires.sound in
-    λ i k e. o.now.linked i k (ap link_of e)
+    o.now.linked
 
 pub returns : goal.returns
 returns g c = subst (λ (s : State). IfOk c.show_cells.result (IsShown c.args.pool.now.names s.heaps.now s.levels.current.sets c.args.cells.now)) c.self.view_is c.show_cells.ensures
