@@ -61,8 +61,12 @@ module _ (ss : List Span) (xs set : List ℕ) (ends b : Span) (low high : ℕ) (
   to : high ≡ min (greatest xs) b.1
   to = subst (λ k. high ≡ min k b.1) last f
 
-  pub held_within : low ≤ high → ((b.0 ≤ ends.0) × (b.1 < ends.1)) ⊎ (ends.0 < b.0) → IsPart xs set (Within low high)
-  held_within l k = subst (λ q. IsPart xs q (Within low high)) is (
+  -- what the ends of what is left say
+  abbrev Part : List ℕ → Type 0
+  Part q = (low ≤ high) × (high ≤ INFINITY) × (length (filter (has q) xs) < length xs) × (IsInterval xs → filter (has q) xs ≡ members ((low, high) ∷ []))
+
+  pub held_within : low ≤ high → ((b.0 ≤ ends.0) × (b.1 < ends.1)) ⊎ (ends.0 < b.0) → Part set
+  held_within l k = subst Part is (
     l,
     omega (arith, f, limit),
     less_left xs b rises some order limit (elim k [ inl h ↦ inr (omega (arith, h.1, last)) | inr h ↦ inl (omega (arith, h, first)) ]),
@@ -115,7 +119,7 @@ module _ (ss : List Span) (xs : List ℕ) (ends : Span) (lo hi : ℤ) (held : Ar
         let part = held_within ss xs (members ((a, b) ∷ [])) ends (a, b) a b held same some l (omega arith) refl (omega arith) (omega arith) l moved in
         let agree = filter_on xs (members ((a, b) ∷ [])) (between lo hi) (λ n m. let w = in_ends n m in
         has_members 0 INFINITY ((a, b) ∷ []) n (omega arith, l, omega arith, tt) ∙ in_both a b n e f w.0 w.1 ∙ sym (between_is n w.2)) in
-        (part.0, part.1, subst (λ q. length q < length xs) agree part.2, λ i. sym agree ∙ part.3 i)
+        (part.0, part.1, subst (λ q. length q < length xs) agree part.2, λ i. sym agree ∙ part.3 i, sym agree)
 
   -- by where the bounds lie
   pub cut_below : pos ends.0 <ℤ lo → (high : ℤ) → high ≡ int_min hi (pos ends.1) → (a b : ℕ) → lo ≡ pos a → high ≡ pos b → a ≤ b → is_none_left xs ≡ false → IsPart xs (between lo hi) (Within a b)

@@ -43,7 +43,7 @@ pub record AreEnds (ends : ℕ × ℕ) (ns : List ℕ) : Type 0 where
 abbrev pub IsInterval : List ℕ → Type 0
 IsInterval ns = ns ≡ members ((least ns, greatest ns) ∷ [])
 
--- The set `old`, intersected with another one: all of it is left, nothing is, or not all is, and of an interval an interval.
+-- The set `old`, intersected with another one: all of it is left, nothing is, or not all is but the members between two numbers, which are those of an interval.
 abbrev pub IsPart : List ℕ → List ℕ → Part → Type 0
 IsPart old set All = IsSubset old set
 IsPart old set Nothing = filter (has set) old ≡ []
@@ -52,6 +52,7 @@ IsPart old set (Within low high) =
     × (high ≤ INFINITY)
     × (length (filter (has set) old) < length old)
     × (IsInterval old → filter (has set) old ≡ members ((low, high) ∷ []))
+    × (filter (has set) old ≡ filter (has (members ((low, high) ∷ []))) old)
 
 -- how an integer stands to a set: it is no member, the only one, or one of several
 abbrev pub IsMembership : List ℕ → ℤ → Membership → Type 0

@@ -58,7 +58,7 @@ pub enum Part {
     All,
     /// Nothing.
     Nothing,
-    /// Not all of it. Of an interval the numbers from the first to the second one are left.
+    /// Not all of it: its members from the first to the second number are left. Of an interval these are all numbers between the two.
     Within(u32, u32),
 }
 
