@@ -90,11 +90,11 @@ module _ (area : Area) (s : branch.State) (at : ℕ) (c : Contents) (safe : IsSa
 
 module _ (area : Area) (s : branch.State) (at : ℕ) (c : Contents) (safe : IsSafe area s at 0 c) (out : IsRuledOut area s at c) where
   none_by : Asks area at out.argument out.wanted → (shown : List ℕ) (name : Naming) (b : Branch) → IsNaming area name → StandsFor area shown name s at c b → HasNoModel b
-  none_by (inl f) shown name b naming m = asked_none area s at c safe out.cell out.shown out.is_seen shown name b naming m out.argument out.wanted f out.there out.so
+  none_by (inl f) shown name b naming m = asked_none area s at c safe out.so.cell out.so.shown out.so.is_seen shown name b naming m out.argument out.wanted f out.so.there out.so.so
   none_by (inr k) shown name b naming m =
       let framed : Contents = record c { slots = replicate k.0 None } in
-      asked_none area s (suc at) framed (allocate_safe area s at c safe k.0 k.1) out.cell out.shown out.is_seen shown name b naming
-      (step_allocate INFINITY area shown name s.heaps.now s.levels.current.posted at (registers_of c) (stack_of c) b m k.0 k.1 (registers_of framed) (λ n. refl)) out.argument out.wanted k.2 out.there out.so
+      asked_none area s (suc at) framed (allocate_safe area s at c safe k.0 k.1) out.so.cell out.so.shown out.so.is_seen shown name b naming
+      (step_allocate INFINITY area shown name s.heaps.now s.levels.current.posted at (registers_of c) (stack_of c) b m k.0 k.1 (registers_of framed) (λ n. refl)) out.argument out.wanted k.2 out.so.there out.so.so
 
   -- Each branch of the clause has no model.
   first_of : (a : ℕ) (k : Key) → AsksHere area at a k → (i : Code) × IsFirst i × Holds area at i

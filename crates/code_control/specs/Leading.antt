@@ -22,10 +22,10 @@ past_jump i at = at
 abbrev pub IsPastJump : Area → ℕ → ℕ → Type 0
 IsPastJump area at to = (i : Code) × Holds area at i × (past_jump i at ≡ to)
 
--- What the first argument shows is such.
-pub record FirstShows (s : branch.State) (c : Contents) (such : Seen → Type 0) : Type 0 where
+-- What the argument with this number shows is such.
+pub record ArgumentShows (s : branch.State) (c : Contents) (n : ℕ) (such : Seen → Type 0) : Type 0 where
   pub cell : Cell
-  pub there : cell_at c.registers 1 ≡ Some cell
+  pub there : cell_at c.registers n ≡ Some cell
   pub shown : Seen
   pub is_seen : IsSeen s.heaps.now cell shown
   pub so : such shown

@@ -4,7 +4,7 @@ ghost use Rattle.wam_code.specs.declared.instruction.Code.TheVariants as step;
 ghost use Rattle.wam_code.specs.Area.{Holds, table_at};
 ghost use Rattle.code_states.specs.Queries.{KeepsQuery, KeepsQueryThen};
 ghost use Rattle.code_states.specs.Safety.{IsSafe, IsSafeThen};
-ghost use Rattle.code_control.specs.Leading.{IsPastJump, FirstShows};
+ghost use Rattle.code_control.specs.Leading.{IsPastJump, ArgumentShows};
 ghost use Rattle.code_control.specs.Rows.{Finds, place_for};
 ghost use Rattle.code_states.specs.Stages.{KeepsRunning, RunsThen};
 ghost use Rattle.code_states.specs.Work.{work_at, work_then};
@@ -36,7 +36,7 @@ fn arm_for<A: Agenda + Drop>(
     ensures runs { KeepsRunning code.now branch.now at areas.now branch.now result areas.now }
     ensures falls { work_at code.now result areas.now < work_at code.now at areas.now }
     ensures query { KeepsQuery code.now at areas.now result areas.now }
-    ensures place { FirstShows branch.now areas.now (λ x. place_for x v c i s ≡ result) }
+    ensures place { ArgumentShows branch.now areas.now 1 (λ x. place_for x v c i s ≡ result) }
 {
     place_for(branch.heap().deref(areas.register(1)), v, c, i, s)
 }
@@ -81,7 +81,7 @@ pub fn switch_on_term<A: Agenda + Drop>(
     ensures runs { KeepsRunning code.now branch.now at areas.now branch.now result areas.now }
     ensures falls { work_at code.now result areas.now < work_at code.now at areas.now }
     ensures query { KeepsQuery code.now at areas.now result areas.now }
-    ensures place { FirstShows branch.now areas.now
+    ensures place { ArgumentShows branch.now areas.now 1
         (λ x. IsPastJump code.now (place_for x v c i s) result) }
 {
     let arm = arm_for(code, at, v, c, i, s, branch, areas);
@@ -116,7 +116,7 @@ pub fn switch_on_constant<A: Agenda + Drop>(
     ensures runs { RunsThen code.now branch.now at areas.now branch.now areas.now result }
     ensures falls { work_then code.now areas.now result < work_at code.now at areas.now }
     ensures query { KeepsQueryThen code.now at areas.now areas.now result }
-    ensures row { FirstShows branch.now areas.now
+    ensures row { ArgumentShows branch.now areas.now 1
         (λ x. Finds x (table_at code.now table) result) }
 {
     find_row(code, table, branch.heap().deref(areas.register(1)))
@@ -137,7 +137,7 @@ pub fn switch_on_integer<A: Agenda + Drop>(
     ensures runs { RunsThen code.now branch.now at areas.now branch.now areas.now result }
     ensures falls { work_then code.now areas.now result < work_at code.now at areas.now }
     ensures query { KeepsQueryThen code.now at areas.now areas.now result }
-    ensures row { FirstShows branch.now areas.now
+    ensures row { ArgumentShows branch.now areas.now 1
         (λ x. Finds x (table_at code.now table) result) }
 {
     find_row(code, table, branch.heap().deref(areas.register(1)))
@@ -158,7 +158,7 @@ pub fn switch_on_structure<A: Agenda + Drop>(
     ensures runs { RunsThen code.now branch.now at areas.now branch.now areas.now result }
     ensures falls { work_then code.now areas.now result < work_at code.now at areas.now }
     ensures query { KeepsQueryThen code.now at areas.now areas.now result }
-    ensures row { FirstShows branch.now areas.now
+    ensures row { ArgumentShows branch.now areas.now 1
         (λ x. Finds x (table_at code.now table) result) }
 {
     find_row(code, table, branch.heap().deref(areas.register(1)))
