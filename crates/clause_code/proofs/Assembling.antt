@@ -2,7 +2,7 @@
 use Rattle.std.proofs.Common.{◌≡◌, ℕ, zero, suc, ◌<◌, ◌≤◌, true, List, [], ◌∷◌, ◌++◌, map, length, get_or, refl, ap, sym, ◌∙◌, subst, arith, append_assoc, append-nil}
 use Rattle.std.proofs.lemmas.Bool.{true≢false}
 use Rattle.std.proofs.lemmas.List.{get_or-map, length-map}
-use Rattle.fd_language.specs.Term.{Terms, Atom}
+use Rattle.fd_language.specs.Term.{Terms, Atom, term_count}
 use Rattle.fd_language.specs.Variables.{TermBelow}
 use Rattle.fd_model.specs.Goal as model
 use Rattle.fd_model.specs.Constraining.{arguments}
@@ -13,7 +13,6 @@ use Rattle.clause_check.proofs.Lemmas.{between_first}
 use Rattle.wam_code.specs.declared.instruction.Register.{Register}
 use Rattle.wam_code.specs.declared.instruction.Register.TheVariants.{Y}
 use Rattle.wam_code.specs.declared.instruction.Code.{Code}
-use Rattle.wam_code.specs.Places.{count}
 use Rattle.clause_code.specs.Pieces.{Base, Predicate, past}
 use Rattle.clause_code.specs.Codable.{IsNarrow, IsCodableGoal, EachCodable, ClausesCodable, IsCodable}
 use Rattle.clause_code.specs.Predicates.{base_in}
@@ -109,11 +108,11 @@ in_order_housed homes v k o =
 -- A frame, the head, the goals but the last one, and the end.
 pub assembled : (p : FlatProgram) (ps : List Predicate) (homes : List Register) (at c : ℕ) (js ks : List Code) (i : Code) (gs hs : List model.Goal) → InOrder homes (clause_at p c).variables → Known p c → (clause_in p (clause_at p c)).body ≡ gs ++ hs
     → let ts = arguments (term_of p.pool (clause_at p c).head) in
-    let is = front true (clause_at p c).variables ++ head_code p.pool homes (suc (count ts)) ts in
+    let is = front true (clause_at p c).variables ++ head_code p.pool homes (suc (term_count ts)) ts in
     IsGoalsCode (base_in p ps) homes true (past at is) js gs → Tail (base_in p ps) homes true (past at (is ++ js)) ks i hs → IsClauseCode (base_in p ps) at ((is ++ js) ++ (ks ++ (i ∷ []))) (clause_in p (clause_at p c))
 assembled p ps homes at c js ks i gs hs order known body goals tail =
     let ts : Terms = arguments (term_of p.pool (clause_at p c).head) in
     let v : ℕ = (clause_at p c).variables in
     let suit : AllSuit p.pool (length homes) ts = subst (λ n. AllSuit p.pool n ts) (sym order.long) known.head in
-    let is : List Code = front true v ++ head_code p.pool homes (suc (count ts)) ts in
-    whole_clause (base_in p ps) homes true at (clause_in p (clause_at p c)) is js ks i gs hs (sym order.long) body (start_code (base_in p ps) homes true v (count ts) (suc (count ts)) at ts (in_order_housed homes v (count ts) order) suit (omega arith) (slots_wait homes (in_order_only homes v order) 1 (count ts) ts)) goals tail
+    let is : List Code = front true v ++ head_code p.pool homes (suc (term_count ts)) ts in
+    whole_clause (base_in p ps) homes true at (clause_in p (clause_at p c)) is js ks i gs hs (sym order.long) body (start_code (base_in p ps) homes true v (term_count ts) (suc (term_count ts)) at ts (in_order_housed homes v (term_count ts) order) suit (omega arith) (slots_wait homes (in_order_only homes v order) 1 (term_count ts) ts)) goals tail

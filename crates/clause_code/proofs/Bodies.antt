@@ -3,7 +3,7 @@ use Rattle.std.proofs.Common.{◌≡◌, ℕ, zero, suc, ◌+◌, ◌<◌, ◌�
 use Rattle.std.proofs.lemmas.Bool.{true≢false}
 use Rattle.std.proofs.lemmas.Bool.Decides.{nat_tests}
 use Rattle.fd_language.specs.Family.{has}
-use Rattle.fd_language.specs.Term.{Term, Terms, Var}
+use Rattle.fd_language.specs.Term.{Term, Terms, Var, term_count}
 use Rattle.fd_model.specs.Goal as goal
 use Rattle.fd_model.specs.Goal.{Goal, Goals, listed}
 use Rattle.fd_model.specs.Renaming.{rename_goal, rename_goals}
@@ -15,7 +15,7 @@ use Rattle.wam_code.specs.declared.instruction.Code.TheVariants.{Jump, Either, G
 use Rattle.wam_code.specs.Area.{State}
 use Rattle.wam_code.specs.Effect.{effect}
 use Rattle.wam_code.specs.VerifiedCode.{Covers}
-use Rattle.wam_code.specs.Places.{Places, read, IsSettled, Hold, count}
+use Rattle.wam_code.specs.Places.{Places, read, IsSettled, Hold}
 use Rattle.clause_code.specs.Pieces.{Base, past, Does}
 use Rattle.clause_code.specs.Laws.{other_side, sides}
 use Rattle.clause_code.specs.Safe.{unplaced, IsThereIn, may_enter}
@@ -150,7 +150,7 @@ steps_enter homes made (s ∷ ss) = enters_both (instructions homes made s) (cod
 -- the arguments of a goal can be put into the first registers, by way of those from `free` on
 pub record Fine (b : Base) (homes : List Register) (free : ℕ) (ts : Terms) : Type 0 where
   pub suit : AllSuit b.pool (length homes) ts
-  pub below : suc (count ts) ≤ free
+  pub below : suc (term_count ts) ≤ free
   pub lands : AllLand homes 1 ts
   pub clear : (j : ℕ) → free ≤ j → Clear homes j
 
@@ -168,7 +168,7 @@ abbrev pub Effective : Base → List Register → Bool → Code → ℕ → Type
 Effective b homes framed i k = (s t : State) → IsRest homes framed s → Loaded s t k → (u : State) × (effect (unplaced b) i t ≡ Some u) × Covers u s
 
 pub one_goal : (b : Base) (homes : List Register) (apart : AreApart homes) (framed : Bool) (made : List Bool) (free at : ℕ) (ts : Terms) (i : Code) (g : Goal) → AllMade homes made → length made ≡ length homes → Fine b homes free ts → IsTrue (is_simple i) → IsThereIn b i
-    → Taken b homes i g ts → Effective b homes framed i (count ts) → IsGoalsCode b homes framed at (code_of homes made (puts b.pool 1 free ts) ++ (i ∷ [])) (g ∷ [])
+    → Taken b homes i g ts → Effective b homes framed i (term_count ts) → IsGoalsCode b homes framed at (code_of homes made (puts b.pool 1 free ts) ++ (i ∷ [])) (g ∷ [])
 one_goal b homes apart framed made free at ts i g all long f simple there takes effects =
     record {
       does = λ s r n p later h.
@@ -194,7 +194,7 @@ one_goal b homes apart framed made free at ts i g all long f simple there takes 
     put : (n : ℕ) (p : Places) (s : State) → IsRest homes framed s → InBody n homes p → PutAllBy b n homes apart 1 made at p s [] (puts b.pool 1 free ts) ts
     put n p s r h = puts_put b n homes apart made at 1 free ts p s [] (at_body n homes apart framed made p s all long h r) r.owed f.suit (let l = f.below in omega (arith, l)) all f.lands f.clear
 
-    loaded : (s : State) (p : Places) → IsRest homes framed s → (w : PutAllBy b 0 homes apart 1 made at p s [] (puts b.pool 1 free ts) ts) → Loaded s w.went.t (count ts)
+    loaded : (s : State) (p : Places) → IsRest homes framed s → (w : PutAllBy b 0 homes apart 1 made at p s [] (puts b.pool 1 free ts) ts) → Loaded s w.went.t (term_count ts)
     loaded s p r w = record { frame = w.went.keeps.frame all; owed = w.went.owed; set = λ j m k. w.set j m (omega (arith, k)); regs = w.went.keeps.regs }
 
 -- ---- goals, one behind the other

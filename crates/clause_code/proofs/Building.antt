@@ -3,7 +3,7 @@ use Rattle.std.proofs.Common.{◌≡◌, ℕ, suc, ◌+◌, ◌<◌, ◌≤◌, 
 use Rattle.std.proofs.lemmas.Bool.{cases_eq}
 use Rattle.fd_language.proofs.Lemmas.{first_member}
 use Rattle.fd_language.specs.Family.{has}
-use Rattle.fd_language.specs.Term.{Name, Term, Terms, Var, Int, Atom, Comp, no_terms, term}
+use Rattle.fd_language.specs.Term.{Name, Term, Terms, Var, Int, Atom, Comp, no_terms, term, term_count}
 use Rattle.fd_language.specs.Unifier.{Equation}
 use Rattle.fd_model.specs.Children.{paired}
 use Rattle.term_pool.specs.declared.AtomId.{AtomId}
@@ -14,11 +14,11 @@ use Rattle.wam_code.specs.declared.instruction.Code.{Code}
 use Rattle.wam_code.specs.declared.instruction.Code.TheVariants.{GetStructure, PutStructure}
 use Rattle.wam_code.specs.Area.{State}
 use Rattle.wam_code.specs.Effect.{with_set, with_owed}
-use Rattle.wam_code.specs.Places.{Places, write, without, Hold, count}
+use Rattle.wam_code.specs.Places.{Places, write, without, Hold}
 use Rattle.clause_code.specs.Pieces.{Base, past, Does}
 use Rattle.clause_code.specs.Steps.{Step, put_structure, get_structure, marked_by_all, code_of, atom_of, compounds, parts, build, builds, put, puts, get, gets, HasAtom, Suits, AllSuit}
 use Rattle.clause_code.specs.ArgumentHomes.{Waits, AllWait, Lands, AllLand}
-use Rattle.clause_code.proofs.Homes.{put_here, put_else}
+use Rattle.wam_code.proofs.Lemmas.{put_here, put_else}
 use Rattle.clause_code.proofs.Pieces.{equation, does_get_structure, does_put_structure}
 use Rattle.clause_code.proofs.Making.{drop_else, has_more, Clear, Spared, clear_spared, AreApart}
 use Rattle.clause_code.proofs.Going.{when_true, plain_of, moved, moved_all, count_moved, AllMade, At, Went, WentBy, went_nothing, went_steps}
@@ -37,14 +37,14 @@ module _ (b : Base) (n : ℕ) (homes : List Register) (apart : AreApart homes) w
 
   -- a structure is put, whose compound arguments are there
   close : (made : List Bool) (at r free : ℕ) (f : Name) (us : Terms) (p : Places) (s : State) (es : List Equation) → At n homes made p s → s.owed ≡ 0 → HasAtom b.pool f → AllSuit b.pool (length homes) us → Clear homes r → r < free → ((i : ℕ) → free ≤ i → Clear homes i)
-      → InRegisters b n homes apart p s free us → PutBy r free made at p s es (put_structure (atom_of b.pool f) (count us) r ∷ parts b.pool free us) (Comp f (moved_all n us))
+      → InRegisters b n homes apart p s free us → PutBy r free made at p s es (put_structure (atom_of b.pool f) (term_count us) r ∷ parts b.pool free us) (Comp f (moved_all n us))
   close made at r free f us p s es w o h su c l cs g =
       let a : AtomId = atom_of b.pool f in
-      let u : State = with_owed (with_set s (X r)) (count us) in
+      let u : State = with_owed (with_set s (X r)) (term_count us) in
       let wr : At n homes made (write p (X r) (Atom f)) (with_set s (X r)) = at_wrote b n homes apart made p s w r (Atom f) c in
       let dropped : At n homes made (without p r) s = at_without b n homes apart made p s w r c in
       let w0 : At n homes made (without p r) (with_set s (X r)) = record { fits = dropped.fits; tracks = wr.tracks; long = w.long } in
-      let w1 : At n homes made (without p r) u = at_owed b n homes apart made (without p r) (with_set s (X r)) w0 (count us) in
+      let w1 : At n homes made (without p r) u = at_owed b n homes apart made (without p r) (with_set s (X r)) w0 (term_count us) in
       let g1 : InRegisters b n homes apart (without p r) u free us = registers_kept b n homes apart p (without p r) s u free us (λ i m k. drop_else r p.x i (λ e. omega (arith, e, m, l))) (λ i e. has_more r i s.regs e) g in
       let v = parts_gave b n homes apart made (suc at) free us (without p r) u w1 su refl g1 cs in
       let t : Term = Comp (atom_name b.pool a) (moved_all n us) in
@@ -53,8 +53,8 @@ module _ (b : Base) (n : ℕ) (homes : List Register) (apart : AreApart homes) w
         went = record {
           q = write v.q (X r) t;
           t = v.t;
-          does = λ gs. does_put_structure b at a (count us) r is (moved_all n us) p v.q es gs (count_moved n us) v.parts;
-          runs = (u, plain_of b (PutStructure a (count us) r) s o, refl, h.within, v.runs);
+          does = λ gs. does_put_structure b at a (term_count us) r is (moved_all n us) p v.q es gs (count_moved n us) v.parts;
+          runs = (u, plain_of b (PutStructure a (term_count us) r) s o, refl, h.within, v.runs);
           there = record { fits = end.fits; tracks = v.there.tracks; long = v.there.long };
           owed = v.owed;
           keeps = record {
@@ -74,7 +74,7 @@ module _ (b : Base) (n : ℕ) (homes : List Register) (apart : AreApart homes) w
       → BuiltBy free made at p s es (builds b.pool free (free + compounds us) us) us → PutBy r free made at p s es (build b.pool r free (Comp f us)) (Comp f (moved_all n us))
   closed made at r free f us p s es h su c l cs a =
       let inner : List Step = builds b.pool free (free + compounds us) us in
-      let one : List Step = put_structure (atom_of b.pool f) (count us) r ∷ parts b.pool free us in
+      let one : List Step = put_structure (atom_of b.pool f) (term_count us) r ∷ parts b.pool free us in
       let z = close (marked_by_all made inner) (past at (code_of homes made inner)) r free f us a.went.q a.went.t es a.went.there a.went.owed h su c l cs a.there in
       let v = went_steps b n homes r free free free r free made at inner one p s es es es (omega arith) (inr (omega arith)) (omega arith) (inl refl) a.went z.went in
       record { went = v.0; here = ap (λ (x : Places). x.x r) v.1 ∙ z.here; set = ap (λ (x : State). has x.regs r) v.2 ∙ z.set }
@@ -122,9 +122,9 @@ module _ (b : Base) (n : ℕ) (homes : List Register) (apart : AreApart homes) w
   pub record PutAllBy (i : ℕ) (made : List Bool) (at : ℕ) (p : Places) (s : State) (es : List Equation) (ss : List Step) (ts : Terms) : Type 0 where
     pub went : WentBy b n homes i i made at p s es ss es
     pub hold : Hold went.q i (moved_all n ts)
-    pub set : (j : ℕ) → i ≤ j → j < i + count ts → has went.t.regs j ≡ true
+    pub set : (j : ℕ) → i ≤ j → j < i + term_count ts → has went.t.regs j ≡ true
 
-  pub puts_put : (made : List Bool) (at i free : ℕ) (ts : Terms) (p : Places) (s : State) (es : List Equation) → At n homes made p s → s.owed ≡ 0 → AllSuit b.pool (length homes) ts → i + count ts ≤ free
+  pub puts_put : (made : List Bool) (at i free : ℕ) (ts : Terms) (p : Places) (s : State) (es : List Equation) → At n homes made p s → s.owed ≡ 0 → AllSuit b.pool (length homes) ts → i + term_count ts ≤ free
       → AllMade homes made → AllLand homes i ts → ((j : ℕ) → free ≤ j → Clear homes j) → PutAllBy i made at p s es (puts b.pool i free ts) ts
   puts_put made at i free no_terms p s es w o su l all ca cs = record { went = went_nothing b n homes i i made at p s es w o; hold = tt; set = λ j m k. absurd (omega (arith, m, k)) }
   puts_put made at i free (term t ts) p s es w o su l all ca cs =
@@ -138,7 +138,7 @@ module _ (b : Base) (n : ℕ) (homes : List Register) (apart : AreApart homes) w
       record {
         went = v.0;
         hold = subst (λ x. Hold x i (moved_all n (term t ts))) (sym v.1) (here, z.hold);
-        set = subst (λ (x : State). (j : ℕ) → i ≤ j → j < i + count (term t ts) → has x.regs j ≡ true) (sym v.2) (λ j m k. elim (cases_eq j i) [
+        set = subst (λ (x : State). (j : ℕ) → i ≤ j → j < i + term_count (term t ts) → has x.regs j ≡ true) (sym v.2) (λ j m k. elim (cases_eq j i) [
           | inl e ↦ subst (λ y. has z.went.t.regs y ≡ true) (sym e) (z.went.keeps.regs i a.set)
           | inr d ↦ z.set j (omega (arith, m, d)) (omega (arith, k))
         ]);
@@ -148,30 +148,30 @@ module _ (b : Base) (n : ℕ) (homes : List Register) (apart : AreApart homes) w
 
   -- the argument registers from i on are cells
   abbrev pub AreCells : State → ℕ → Terms → Type 0
-  AreCells s i ts = (j : ℕ) → i ≤ j → j < i + count ts → has s.regs j ≡ true
+  AreCells s i ts = (j : ℕ) → i ≤ j → j < i + term_count ts → has s.regs j ≡ true
 
   get_structure_went : (made : List Bool) (at i free : ℕ) (f : Name) (us : Terms) (a : Term) (p : Places) (s : State) (es : List Equation) → At n homes made p s → s.owed ≡ 0 → HasAtom b.pool f → AllSuit b.pool (length homes) us → i < free → Spared homes made (marked_by_all made (builds b.pool free (free + compounds us) us)) i → ((j : ℕ) → free ≤ j → Clear homes j)
       → p.x i ≡ Some a → has s.regs i ≡ true → WentBy b n homes free free made at p s (equation a (Comp f (moved_all n us)) ∷ es) (get b.pool i free (Comp f us)) es
   get_structure_went made at i free f us a p s es w o h su l c cs e g =
       let inner : List Step = builds b.pool free (free + compounds us) us in
       let k : AtomId = atom_of b.pool f in
-      let one : List Step = get_structure k (count us) i ∷ parts b.pool free us in
+      let one : List Step = get_structure k (term_count us) i ∷ parts b.pool free us in
       let mid : List Bool = marked_by_all made inner in
       let from : ℕ = past at (code_of homes made inner) in
       let d = builds_put made at free (free + compounds us) us p s (equation a (Comp f (moved_all n us)) ∷ es) w o su (omega arith) cs in
       let q : Places = d.went.q in
       let t : State = d.went.t in
-      let u : State = with_owed t (count us) in
-      let w1 : At n homes mid q u = at_owed b n homes apart mid q t d.went.there (count us) in
+      let u : State = with_owed t (term_count us) in
+      let w1 : At n homes mid q u = at_owed b n homes apart mid q t d.went.there (term_count us) in
       let g1 : InRegisters b n homes apart q u free us = registers_kept b n homes apart q q t u free us (λ i m k. refl) (λ i e. e) d.there in
       let v = parts_gave b n homes apart mid (suc from) free us q u w1 su refl g1 cs in
       let is : List Code = code_of homes mid (parts b.pool free us) in
       let here : q.x i ≡ Some a = d.went.keeps.xs i c l (λ x. omega (arith, x, l)) ∙ e in
-      let taken : Went b n homes free free mid from (GetStructure k (count us) i ∷ is) q t (equation a (Comp f (moved_all n us)) ∷ es) (marked_by_all mid (parts b.pool free us)) es = record {
+      let taken : Went b n homes free free mid from (GetStructure k (term_count us) i ∷ is) q t (equation a (Comp f (moved_all n us)) ∷ es) (marked_by_all mid (parts b.pool free us)) es = record {
         q = v.q;
         t = v.t;
-        does = λ gs. subst (λ x. Does b from (GetStructure k (count us) i ∷ is) q (equation a (Comp x (moved_all n us)) ∷ es) gs v.q es gs) h.name (does_get_structure b from k (count us) i is a (moved_all n us) q v.q es gs here (count_moved n us) v.parts);
-        runs = (u, plain_of b (GetStructure k (count us) i) t d.went.owed ∙ when_true _ u (d.went.keeps.regs i g), refl, h.within, v.runs);
+        does = λ gs. subst (λ x. Does b from (GetStructure k (term_count us) i ∷ is) q (equation a (Comp x (moved_all n us)) ∷ es) gs v.q es gs) h.name (does_get_structure b from k (term_count us) i is a (moved_all n us) q v.q es gs here (count_moved n us) v.parts);
+        runs = (u, plain_of b (GetStructure k (term_count us) i) t d.went.owed ∙ when_true _ u (d.went.keeps.regs i g), refl, h.within, v.runs);
         there = v.there;
         owed = v.owed;
         keeps = record { xs = λ j y m x. v.xs j y; regs = v.regs; frame = v.frame; shape = v.shape; more = v.more };
@@ -187,12 +187,12 @@ module _ (b : Base) (n : ℕ) (homes : List Register) (apart : AreApart homes) w
       subst (λ x. Went b n homes free free made at (code_of homes made (get b.pool i free (Atom k))) p s (equation a (Atom x) ∷ es) made es) h.name (went_get_constant b n homes apart made at (atom_of b.pool k) i a p s es w o h.within e g free)
   get_went made at i free (Comp f us) a p s es w o su l k m c cs e g = get_structure_went made at i free f us a p s es w o su.0 su.3 l (inner_spared homes b.pool made i k free (free + compounds us) us m c) cs e g
 
-  hold_kept : (p q : Places) (i : ℕ) (ts : Terms) → ((j : ℕ) → i ≤ j → j < i + count ts → q.x j ≡ p.x j) → Hold p i ts → Hold q i ts
+  hold_kept : (p q : Places) (i : ℕ) (ts : Terms) → ((j : ℕ) → i ≤ j → j < i + term_count ts → q.x j ≡ p.x j) → Hold p i ts → Hold q i ts
   hold_kept p q i no_terms h g = tt
   hold_kept p q i (term t ts) h g = (h i (omega arith) (omega arith) ∙ g.0, hold_kept p q (suc i) ts (λ j l m. h j (omega (arith, l)) (omega (arith, m))) g.1)
 
-  pub gets_went : (made : List Bool) (at i free : ℕ) (ts as' : Terms) (p : Places) (s : State) (es : List Equation) → At n homes made p s → s.owed ≡ 0 → AllSuit b.pool (length homes) ts → count as' ≡ count ts → i + count ts ≤ free
-      → (last : ℕ) → i + count ts ≤ suc last → AllWait homes i last ts → ((j : ℕ) → free ≤ j → Clear homes j) → Hold p i as' → AreCells s i ts
+  pub gets_went : (made : List Bool) (at i free : ℕ) (ts as' : Terms) (p : Places) (s : State) (es : List Equation) → At n homes made p s → s.owed ≡ 0 → AllSuit b.pool (length homes) ts → term_count as' ≡ term_count ts → i + term_count ts ≤ free
+      → (last : ℕ) → i + term_count ts ≤ suc last → AllWait homes i last ts → ((j : ℕ) → free ≤ j → Clear homes j) → Hold p i as' → AreCells s i ts
       → WentBy b n homes free free made at p s (paired as' (moved_all n ts) ++ es) (gets b.pool i free ts) es
   gets_went made at i free no_terms no_terms p s es w o su k l last up ca cs h g = went_nothing b n homes free free made at p s es w o
   gets_went made at i free no_terms (term a as') p s es w o su k l last up ca cs h g = absurd (omega (arith, k))

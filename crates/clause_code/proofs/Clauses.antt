@@ -1,10 +1,10 @@
 -- The code of a whole clause, and of a whole query.
-use Rattle.std.proofs.Common.{◌≡◌, ◌⊎◌, ℕ, zero, suc, ◌+◌, ◌<◌, ◌≤◌, Bool, true, false, ◌==◌, ◌||◌, IsTrue, List, [], ◌∷◌, ◌++◌, map, Option, Some, None, length, slice_get, replicate, refl, ap, sym, ◌∙◌, subst, arith, inl, inr, append-nil, append_assoc, eq-eqb, ne_eqb}
+use Rattle.std.proofs.Common.{◌≡◌, ◌⊎◌, ℕ, zero, suc, ◌+◌, ◌<◌, ◌≤◌, Bool, true, false, ◌||◌, IsTrue, List, [], ◌∷◌, ◌++◌, map, Option, Some, None, length, slice_get, replicate, refl, ap, sym, ◌∙◌, subst, arith, inl, inr, append-nil, append_assoc, eq-eqb, ne_eqb}
 use Rattle.std.proofs.lemmas.Bool.{cases_eq, true≢false}
 use Rattle.std.proofs.lemmas.List.{get_or-replicate, length-replicate, length-append}
 use Rattle.std.proofs.lemmas.Option.{slice_get-get_or}
 use Rattle.fd_language.specs.Family.{has}
-use Rattle.fd_language.specs.Term.{Terms, Var, Atom, no_terms, term}
+use Rattle.fd_language.specs.Term.{Terms, Var, Atom, no_terms, term, term_count}
 use Rattle.fd_language.specs.Unifier.{Equation}
 use Rattle.fd_model.specs.Goal as goal
 use Rattle.fd_model.specs.Goal.{Goal, Clause, Query}
@@ -19,7 +19,7 @@ use Rattle.wam_code.specs.declared.instruction.Code.TheVariants.{Allocate, Deall
 use Rattle.wam_code.specs.Area.{Slot, Unset, State}
 use Rattle.wam_code.specs.Effect.{slot_at, is_cell, is_unset, is_set, is_free, has_frame, no_frame, are_given, effect}
 use Rattle.wam_code.specs.VerifiedCode.{goes_on, Covers, IsFirst}
-use Rattle.wam_code.specs.Places.{Places, read, no_slots, Hold, count, made}
+use Rattle.wam_code.specs.Places.{Places, read, no_slots, Hold, made}
 use Rattle.wam_code.specs.Means.{Caller, Shows, Means}
 use Rattle.wam_code.specs.Tries.{IsBefore}
 use Rattle.wam_code.proofs.Lemmas.{covers_self}
@@ -36,7 +36,7 @@ use Rattle.clause_code.proofs.Making.{AreApart, has_more}
 use Rattle.clause_code.proofs.Going.{when_true, both, plain_of, moved, moved_all, count_moved, AllMade, At, Went, went_both}
 use Rattle.clause_code.proofs.Building.{gets_went, PutAllBy, puts_put}
 use Rattle.clause_code.proofs.Filling.{filled_made, fills_went}
-use Rattle.clause_code.proofs.Flowing.{flows_both, flows_runs, flows_simple, flows_runs_less, enters_runs, enters_both, safe_ends, get_both}
+use Rattle.clause_code.proofs.Flowing.{flows_both, flows_runs, flows_simple, flows_runs_less, enters_runs, enters_both, safe_ends, get_last, get_only, get_both}
 use Rattle.clause_code.proofs.Bodies.{between_in, at_body, body_at, Fine, single_enters, steps_enter, renamed_both}
 use Rattle.clause_code.proofs.GoalKinds.{given_cells, moved_made}
 use Rattle.clause_code.proofs.SameGoals.{goals_identity}
@@ -100,31 +100,31 @@ pub record Begun (b : Base) (homes : List Register) (at : ℕ) (is : List Code) 
 pub record Start (b : Base) (homes : List Register) (framed : Bool) (at : ℕ) (is : List Code) (ts : Terms) : Type 0 where
   pub first : State
   pub rest : State
-  pub begins : IsFirst (count ts) first
+  pub begins : IsFirst (term_count ts) first
   pub rested : IsRest homes framed rest
   pub flows : Flows b at is first rest
   pub enters : MayEnter is
-  pub does : (n : ℕ) (as' : Terms) (p : Places) → count as' ≡ count ts → Hold p 1 as' → IsBefore p n (length homes) → Begun b homes at is ts n as' p
+  pub does : (n : ℕ) (as' : Terms) (p : Places) → term_count as' ≡ term_count ts → Hold p 1 as' → IsBefore p n (length homes) → Begun b homes at is ts n as' p
 
 is_unmade : (homes : List Register) (x : ℕ) → x < length homes → is_made (unmade homes) x ≡ false
 is_unmade homes x l = get_or-replicate (length homes) x false true l
 
-module _ (b : Base) (homes : List Register) (framed : Bool) (slots k free : ℕ) (housed : IsHoused homes framed slots k free) (ts : Terms) (suit : AllSuit b.pool (length homes) ts) (few : count ts ≤ k) (waits : AllWait homes 1 (count ts) ts) where
-  free_home : (x : ℕ) → x < length homes → is_free (first_state framed slots (count ts)) (home homes x) ≡ true
+module _ (b : Base) (homes : List Register) (framed : Bool) (slots k free : ℕ) (housed : IsHoused homes framed slots k free) (ts : Terms) (suit : AllSuit b.pool (length homes) ts) (few : term_count ts ≤ k) (waits : AllWait homes 1 (term_count ts) ts) where
+  free_home : (x : ℕ) → x < length homes → is_free (first_state framed slots (term_count ts)) (home homes x) ≡ true
   free_home x l = by framed refl
     where
-      by : (f : Bool) → framed ≡ f → is_free (first_state f slots (count ts)) (home homes x) ≡ true
+      by : (f : Bool) → framed ≡ f → is_free (first_state f slots (term_count ts)) (home homes x) ≡ true
       by true e =
           let w = housed.in_frame e x l in
-          let s : State = first_state true slots (count ts) in
+          let s : State = first_state true slots (term_count ts) in
           let there : slice_get (replicate slots Unset) w.0 ≡ Some Unset =
           let m = w.2 in
           let long = length-replicate slots Unset in
           slice_get-get_or (replicate slots Unset) w.0 Unset (omega (arith, m, long)) ∙ ap Some (get_or-replicate slots w.0 Unset Unset m) in
           subst (λ r. is_free s r ≡ true) (sym w.1) (ap is_unset there)
-      by false e = let w = housed.in_registers e x l in subst (λ r. is_free (first_state false slots (count ts)) r ≡ true) (sym w.1) refl
+      by false e = let w = housed.in_registers e x l in subst (λ r. is_free (first_state false slots (term_count ts)) r ≡ true) (sym w.1) refl
 
-  at_first : (n : ℕ) (p : Places) → IsBefore p n (length homes) → At n homes (unmade homes) p (first_state framed slots (count ts))
+  at_first : (n : ℕ) (p : Places) → IsBefore p n (length homes) → At n homes (unmade homes) p (first_state framed slots (term_count ts))
   at_first n p before = record {
     fits = record {
       held = λ x l e. absurd (true≢false (sym e ∙ is_unmade homes x l));
@@ -149,21 +149,21 @@ module _ (b : Base) (homes : List Register) (framed : Bool) (slots k free : ℕ)
     q : Places
     t : State
     does : (gs : List Goal) → Does b at (head_code b.pool homes free ts) p (paired as' (moved_all n ts)) gs q [] gs
-    runs : Runs b (first_state framed slots (count ts)) (head_code b.pool homes free ts) t
+    runs : Runs b (first_state framed slots (term_count ts)) (head_code b.pool homes free ts) t
     there : InBody n homes q
     set : (x : ℕ) → x < length homes → is_set t (home homes x) ≡ true
     owed : t.owed ≡ 0
     shape : has_frame t.frame ≡ has_frame (first_frame framed slots)
 
-  headed : (n at : ℕ) (as' : Terms) (p : Places) → count as' ≡ count ts → Hold p 1 as' → IsBefore p n (length homes) → Headed n at as' p
+  headed : (n at : ℕ) (as' : Terms) (p : Places) → term_count as' ≡ term_count ts → Hold p 1 as' → IsBefore p n (length homes) → Headed n at as' p
   headed n at as' p size hold before =
       let made0 : List Bool = unmade homes in
-      let s0 : State = first_state framed slots (count ts) in
+      let s0 : State = first_state framed slots (term_count ts) in
       let heads : List Code = code_of homes made0 (gets b.pool 1 free ts) in
       let mid : List Bool = marked_by_all made0 (gets b.pool 1 free ts) in
       let es : List Equation = paired as' (moved_all n ts) in
       let above : k < free = housed.above in
-      let a0 = gets_went b n homes housed.apart made0 at 1 free ts as' p s0 [] (at_first n p before) refl suit size (omega (arith, above, few)) (count ts) (omega arith) waits housed.clear hold (λ j l m. firsts_have (count ts) j l (omega (arith, m))) in
+      let a0 = gets_went b n homes housed.apart made0 at 1 free ts as' p s0 [] (at_first n p before) refl suit size (omega (arith, above, few)) (term_count ts) (omega arith) waits housed.clear hold (λ j l m. firsts_have (term_count ts) j l (omega (arith, m))) in
       let a : Went b n homes free free made0 at heads p s0 es mid [] = subst (λ e. Went b n homes free free made0 at heads p s0 e mid []) (append-nil es) a0 in
       let f = fills_went b n homes housed.apart mid (past at heads) free free (length homes) a.q a.t [] a.there a.owed (omega arith) (housed.clear free (omega arith)) (omega arith) in
       let w = went_both b n homes free free free free free free made0 mid (filled mid (length homes)) at heads (fills homes free mid (length homes)) p s0 es [] [] (omega arith) (inl refl) (omega arith) (inl refl) a f in
@@ -185,7 +185,7 @@ atoms : Terms → Terms
 atoms no_terms = no_terms
 atoms (term t ts) = term (Atom []) (atoms ts)
 
-atoms_count : (ts : Terms) → count (atoms ts) ≡ count ts
+atoms_count : (ts : Terms) → term_count (atoms ts) ≡ term_count ts
 unfolding atoms
 atoms_count no_terms = refl
 atoms_count (term t ts) = ap suc (atoms_count ts)
@@ -207,35 +207,35 @@ runs_less b at i [] s t u r c = flows_simple b at i s r.0 u r.1 (subst (λ x. Co
 runs_less b at i (j ∷ js) s t u r c = flows_both b at (i ∷ []) (j ∷ js) s r.0 u (flows_simple b at i s r.0 r.0 r.1 (covers_self r.0) r.2 r.3) (runs_less b (suc at) j js r.0 t u r.4 c)
 
 -- The code of a head, with or without a frame.
-pub start_code : (b : Base) (homes : List Register) (framed : Bool) (slots k free at : ℕ) (ts : Terms) → IsHoused homes framed slots k free → AllSuit b.pool (length homes) ts → count ts ≤ k → AllWait homes 1 (count ts) ts → Start b homes framed at (front framed slots ++ head_code b.pool homes free ts) ts
+pub start_code : (b : Base) (homes : List Register) (framed : Bool) (slots k free at : ℕ) (ts : Terms) → IsHoused homes framed slots k free → AllSuit b.pool (length homes) ts → term_count ts ≤ k → AllWait homes 1 (term_count ts) ts → Start b homes framed at (front framed slots ++ head_code b.pool homes free ts) ts
 start_code b homes false slots k free at ts housed suit few waits =
     let h = headed b homes false slots k free housed ts suit few waits 0 at (atoms ts) (some_place (length homes)) (atoms_count ts) (atoms_hold (length homes) 1 ts) (some_before (length homes)) in
     record {
-      first = before_frame (count ts);
+      first = before_frame (term_count ts);
       rest = h.t;
-      begins = first_is (count ts);
+      begins = first_is (term_count ts);
       rested = record { set = h.set; owed = h.owed; frame = h.shape; regs = λ e. absurd (true≢false (sym e)) };
-      flows = flows_runs b at (head_code b.pool homes free ts) (before_frame (count ts)) h.t h.runs;
-      enters = enters_runs b (head_code b.pool homes free ts) (before_frame (count ts)) h.t h.runs;
+      flows = flows_runs b at (head_code b.pool homes free ts) (before_frame (term_count ts)) h.t h.runs;
+      enters = enters_runs b (head_code b.pool homes free ts) (before_frame (term_count ts)) h.t h.runs;
       does = λ n as' p size hold before. let g = headed b homes false slots k free housed ts suit few waits n at as' p size hold before in record { q = g.q; there = g.there; does = g.does };
     }
 start_code b homes true slots k free at ts housed suit few waits =
     let h = headed b homes true slots k free housed ts suit few waits 0 (suc at) (atoms ts) (some_place (length homes)) (atoms_count ts) (atoms_hold (length homes) 1 ts) (some_before (length homes)) in
     let rest : State = record h.t { regs = [] } in
     let cover : Covers h.t rest = record { frame = refl; owed = refl; regs = λ n e. absurd (true≢false (sym e)) } in
-    let runs : Runs b (before_frame (count ts)) (Allocate slots ∷ head_code b.pool homes free ts) h.t = (first_state true slots (count ts), refl, refl, tt, h.runs) in
+    let runs : Runs b (before_frame (term_count ts)) (Allocate slots ∷ head_code b.pool homes free ts) h.t = (first_state true slots (term_count ts), refl, refl, tt, h.runs) in
     record {
-      first = before_frame (count ts);
+      first = before_frame (term_count ts);
       rest = rest;
-      begins = first_is (count ts);
+      begins = first_is (term_count ts);
       rested = record {
         set = λ x l. let w = housed.in_frame refl x l in subst (λ r. is_set rest r ≡ true) (sym w.1) (subst (λ r. is_set h.t r ≡ true) w.1 (h.set x l));
         owed = h.owed;
         frame = h.shape;
         regs = λ e. refl;
       };
-      flows = runs_less b at (Allocate slots) (head_code b.pool homes free ts) (before_frame (count ts)) h.t rest runs cover;
-      enters = enters_runs b (Allocate slots ∷ head_code b.pool homes free ts) (before_frame (count ts)) h.t runs;
+      flows = runs_less b at (Allocate slots) (head_code b.pool homes free ts) (before_frame (term_count ts)) h.t rest runs cover;
+      enters = enters_runs b (Allocate slots ∷ head_code b.pool homes free ts) (before_frame (term_count ts)) h.t runs;
       does = λ n as' p size hold before.
           let before' : IsBefore (no_slots p) n (length homes) = record { known = before.known; fresh = before.fresh; own = before.own; top = before.top } in
           let g = headed b homes true slots k free housed ts suit few waits n (suc at) as' (no_slots p) size (hold_slots p 1 as' hold) before' in
@@ -290,7 +290,7 @@ tail_proceed b homes true at = record {
 
 -- The last goal is a user goal.
 pub tail_execute : (b : Base) (homes : List Register) (apart : AreApart homes) (framed : Bool) (made_now : List Bool) (free at : ℕ) → AllMade homes made_now → length made_now ≡ length homes → (e : ℕ) (s : Predicate) (us : Terms)
-    → slice_get b.predicates e ≡ Some s → count us ≡ s.arity → e < length b.predicates → Fine b homes free us → Tail b homes framed at (code_of homes made_now (puts b.pool 1 free us) ++ back framed) (Execute e) (goal.Call (made (atom_name b.pool s.name) us) ∷ [])
+    → slice_get b.predicates e ≡ Some s → term_count us ≡ s.arity → e < length b.predicates → Fine b homes free us → Tail b homes framed at (code_of homes made_now (puts b.pool 1 free us) ++ back framed) (Execute e) (goal.Call (made (atom_name b.pool s.name) us) ∷ [])
 tail_execute b homes apart framed made_now free at all long e s us h ar le fine = record {
   ends = λ d r n p w body. ends framed d r n p w body;
   flows = λ d r. flow framed d r;
@@ -330,7 +330,7 @@ tail_execute b homes apart framed made_now free at all long e s us h ar le fine 
         subst (λ l. Ends b w at l p [] gs) (sym (append_assoc is (back f) (Execute e ∷ [])))
         (ends_behind b w at is (back f ++ (Execute e ∷ [])) p c.went.q [] [] gs gs (c.went.does gs) (last_ends f n (past at is) w c.went.q after c.hold))
 
-    given : (t : State) → ((j : ℕ) → 1 ≤ j → j < suc (count us) → has t.regs j ≡ true) → are_given t (slice_get (unplaced b) e) ≡ true
+    given : (t : State) → ((j : ℕ) → 1 ≤ j → j < suc (term_count us) → has t.regs j ≡ true) → are_given t (slice_get (unplaced b) e) ≡ true
     given t set = given_cells b e s t h (λ j l m. set j l (omega (arith, m, ar)))
 
     flow : (f : Bool) (d : State) → IsRest homes f d → (t : State) × (u : State) × Flows b at (code_of homes made_now (puts b.pool 1 free us) ++ back f) d t × (effect (unplaced b) (Execute e) t ≡ Some u)
@@ -379,7 +379,7 @@ whole_clause b homes framed at c is js ks i gs hs size body start goals tail =
       enters = enters_both (is ++ js) (ks ++ (i ∷ [])) (enters_both is js start.enters goals.enters) tail.enters;
       no_answer = λ n e. elim (get_both ((is ++ js) ++ ks) (i ∷ []) n AnswerNow (subst (λ l. slice_get l n ≡ Some AnswerNow) same e)) [
         | inl h ↦ inner_answers AnswerNow (two.inner n AnswerNow h) refl
-        | inr h ↦ tail.no_answer (only h.0 i AnswerNow h.2)
+        | inr h ↦ tail.no_answer (get_only h.0 i AnswerNow h.2).1
       ];
       means = λ area base stand n as' after shown p count' below hold before.
           let w : Caller = record { goals = after; shown = shown } in
@@ -395,10 +395,6 @@ whole_clause b homes framed at c is js ks i gs hs size body start goals tail =
           let named : map (rename_goal (λ x. n + x)) c.body ++ after ≡ all = ap (λ l. map (rename_goal (λ x. n + x)) l ++ after) body ∙ renamed_both (λ x. n + x) gs hs after in
           subst (λ l. Means area w at p es l) (sym named) (ended area base stand);
     }
-  where
-    only : (m : ℕ) (i j : Code) → slice_get (i ∷ []) m ≡ Some j → i ≡ j
-    only zero i j e = cc
-    only (suc m) i j e = absurd (cc)
 
 -- ---- a whole query
 
@@ -449,11 +445,11 @@ whole_query b homes at q is js size slots start goals =
           subst (λ t. IsTrue (is_cell (slot_at t.frame k))) same (cells homes rest start.rested 1 q.shown slots k l (omega (arith, m)));
       no_proceed = λ n e. elim (get_both (is ++ js) (AnswerNow ∷ []) n Proceed e) [
         | inl h ↦ true≢false (sym (one.inner n Proceed h))
-        | inr h ↦ let w = only h.0 AnswerNow Proceed h.2 in absurd (cc)
+        | inr h ↦ let w = (get_only h.0 AnswerNow Proceed h.2).1 in absurd (cc)
       ];
       no_execute = λ n k e. elim (get_both (is ++ js) (AnswerNow ∷ []) n (Execute k) e) [
         | inl h ↦ true≢false (sym (one.inner n (Execute k) h))
-        | inr h ↦ let w = only h.0 AnswerNow (Execute k) h.2 in absurd (cc)
+        | inr h ↦ let w = (get_only h.0 AnswerNow (Execute k) h.2).1 in absurd (cc)
       ];
       means = λ area base stand p before.
           let w : Caller = record { goals = []; shown = q.shown } in
@@ -467,14 +463,6 @@ whole_query b homes at q is js size slots start goals =
           subst (λ l. Means area w at p [] l) (same_goals q.goals) (ended area base stand);
     }
   where
-    only : (m : ℕ) (i j : Code) → slice_get (i ∷ []) m ≡ Some j → i ≡ j
-    only zero i j e = cc
-    only (suc m) i j e = absurd (cc)
-
     at_zero : (m : ℕ) (i j : Code) → slice_get (i ∷ []) m ≡ Some j → m ≡ 0
     at_zero zero i j e = refl
     at_zero (suc m) i j e = absurd (cc)
-
-    get_last : {A : Type 0} (xs : List A) (y : A) → slice_get (xs ++ (y ∷ [])) (length xs) ≡ Some y
-    get_last [] y = refl
-    get_last (x ∷ xs) y = let e : length (x ∷ xs) ≡ suc (length xs) = omega arith in subst (λ n. slice_get (x ∷ (xs ++ (y ∷ []))) n ≡ Some y) (sym e) (get_last xs y)

@@ -3,7 +3,7 @@ use Rattle.std.proofs.Common.{◌≡◌, ℕ, suc, ◌+◌, ◌-◌, ◌<◌, �
 use Rattle.std.proofs.lemmas.Bool.{cases_lt}
 use Rattle.std.proofs.lemmas.List.{get_or_past, length-append, length-replicate}
 use Rattle.std.proofs.lemmas.Option.{slice_get_within}
-use Rattle.fd_language.specs.Term.{Term, Terms}
+use Rattle.fd_language.specs.Term.{Term, Terms, term_count}
 use Rattle.fd_model.specs.Goal as model
 use Rattle.fd_model.specs.Constraining.{arguments}
 use Rattle.fd_model.specs.Sound.{EachBelow}
@@ -18,7 +18,7 @@ use Rattle.wam_code.specs.declared.instruction.Register.{Register}
 use Rattle.wam_code.specs.declared.instruction.Register.TheVariants.{Y}
 use Rattle.wam_code.specs.declared.instruction.Code.{Code}
 use Rattle.wam_code.specs.declared.instruction.Code.TheVariants.{Deallocate, Execute, Proceed}
-use Rattle.wam_code.specs.Places.{count, made}
+use Rattle.wam_code.specs.Places.{made}
 use Rattle.clause_code.specs.Pieces.{Base, Predicate, past}
 use Rattle.clause_code.specs.Codable.{EachCodable}
 use Rattle.clause_code.proofs.GoalKinds.{OnlySlots}
@@ -183,11 +183,11 @@ module _ (p : FlatProgram) (ps : List Predicate) (homes : List Register) (c : �
       let us : Terms = arguments (term_of p.pool u) in
       let s : Predicate = x.of.0 in
       let only = in_order_only homes (clause_at p c).variables order in
-      let fine : Fine b homes (suc (count us)) us = record { suit = arguments_suit p.pool (length homes) (term_of p.pool u) suits; below = omega arith; lands = slots_land homes only 1 us; clear = λ j l y k i. only y k j i } in
+      let fine : Fine b homes (suc (term_count us)) us = record { suit = arguments_suit p.pool (length homes) (term_of p.pool u) suits; below = omega arith; lands = slots_land homes only 1 us; clear = λ j l y k i. only y k j i } in
       let apart : AreApart homes = (in_order_housed homes (clause_at p c).variables 0 order).apart in
-      let ks : List Code = code_of homes made_now (puts p.pool 1 (suc (count us)) us) ++ back true in
+      let ks : List Code = code_of homes made_now (puts p.pool 1 (suc (term_count us)) us) ++ back true in
       let tail : Tail b homes true (past at (begun ++ w.0)) ks (Execute x.number) (model.Call (made (atom_name p.pool s.name) us) ∷ []) =
-      tail_execute b homes apart true made_now (suc (count us)) (past at (begun ++ w.0)) (λ y k. all y) long x.number s us x.of.1 x.of.2.arity (slice_get_within ps x.number s x.of.1) fine in
+      tail_execute b homes apart true made_now (suc (term_count us)) (past at (begun ++ w.0)) (λ y k. all y) long x.number s us x.of.1 x.of.2.arity (slice_get_within ps x.number s x.of.1) fine in
       let same : goal_in p (goal_at p (to - 1)) ≡ model.Call (made (atom_name p.pool s.name) us) = ap (goal_in p) last ∙ ap (λ v. model.Call v) x.of.2.name in (
         (begun ++ w.0) ++ (ks ++ (Execute x.number ∷ [])),
         joined w.0 ks (Execute x.number) e w.1 x.code,

@@ -1,8 +1,8 @@
 -- Two clauses by short code without a frame: append([H|T],L,[H|R]) :- append(T,L,R) with seven instructions, and skip([X,Y|T]) :- skip(T), whose inner list is read in place.
-use Rattle.std.proofs.Common.{◌≡◌, ℕ, suc, ◌+◌, ◌<◌, Bool, true, false, ◌==◌, if◌then◌else◌, List, [], ◌∷◌, ◌++◌, Some, slice_get, refl, ap, sym, ◌∙◌, subst, arith, eq-eqb, ne_eqb, inl, inr}
+use Rattle.std.proofs.Common.{◌≡◌, ℕ, suc, ◌+◌, ◌<◌, Bool, true, false, ◌==◌, if◌then◌else◌, List, [], ◌∷◌, ◌++◌, Some, slice_get, refl, sym, ◌∙◌, subst, arith, inl, inr}
 use Rattle.std.proofs.lemmas.Bool.{cases_eq}
 use Rattle.clause_code.proofs.Homes.{learnt_here, learnt_else}
-use Rattle.fd_language.specs.Term.{Term, Terms, Var, Comp, no_terms, term}
+use Rattle.fd_language.specs.Term.{Term, Terms, Var, Comp, no_terms, term, term_count}
 use Rattle.fd_language.specs.Unifier.{Equation}
 use Rattle.fd_model.specs.Goal as goal
 use Rattle.fd_model.specs.Goal.{Goal, Clause}
@@ -15,7 +15,7 @@ use Rattle.wam_code.specs.declared.instruction.Register.TheVariants.{X}
 use Rattle.wam_code.specs.declared.instruction.Code.{Code}
 use Rattle.wam_code.specs.declared.instruction.Code.TheVariants.{GetStructure, UnifyVariable, UnifyValue, UnifyVoid, Execute}
 use Rattle.wam_code.specs.Area.{Area}
-use Rattle.wam_code.specs.Places.{Places, learnt, learn, write, IsFresh, Has, IsWhole, Hold, count}
+use Rattle.wam_code.specs.Places.{Places, learnt, learn, write, IsFresh, Has, IsWhole, Hold}
 use Rattle.wam_code.specs.Means.{Caller, Means}
 use Rattle.wam_code.specs.Tries.{IsBefore, IsClause}
 use Rattle.clause_code.specs.Pieces.{Base, base_of, Stand, past, Does, Ends}
@@ -126,7 +126,7 @@ module _ (b : Base) (cons name : AtomId) (k : ℕ) (there : slice_get b.predicat
   pub append_is_clause : (area : Area) (at : ℕ) → base_of area ≡ b → Stand area at append_code → IsClause area at append_clause
   append_is_clause area at same stand = λ n as' after shown p size below hold before. by n as' after shown p size hold before
     where
-      by : (n : ℕ) (as' : Terms) (after : List Goal) (shown : List ℕ) (p : Places) → count as' ≡ 3 → Hold p 1 as' → IsBefore p n 4
+      by : (n : ℕ) (as' : Terms) (after : List Goal) (shown : List ℕ) (p : Places) → term_count as' ≡ 3 → Hold p 1 as' → IsBefore p n 4
           → Means area (record { goals = after; shown = shown }) at p (paired as' (three (pair (Var (n + 0)) (Var (n + 1))) (Var (n + 2)) (pair (Var (n + 0)) (Var (n + 3))))) (goal.Call (Comp (atom_name b.pool name) (three (Var (n + 1)) (Var (n + 2)) (Var (n + 3)))) ∷ after)
       by n (term t1 (term t2 (term t3 no_terms))) after shown p size hold before = append_ends n t1 t2 t3 (record { goals = after; shown = shown }) p at hold before area same stand
       by n no_terms after shown p size hold before = absurd (omega (arith, size))
@@ -235,7 +235,7 @@ module _ (b : Base) (cons name : AtomId) (k : ℕ) (there : slice_get b.predicat
   pub skip_is_clause : (area : Area) (at : ℕ) → base_of area ≡ b → Stand area at skip_code → IsClause area at skip_clause
   skip_is_clause area at same stand = λ n as' after shown p size below hold before. by n as' after shown p size below hold before
     where
-      by : (n : ℕ) (as' : Terms) (after : List Goal) (shown : List ℕ) (p : Places) → count as' ≡ 1 → AllOf (λ v. v < n) as' → Hold p 1 as' → IsBefore p n 3
+      by : (n : ℕ) (as' : Terms) (after : List Goal) (shown : List ℕ) (p : Places) → term_count as' ≡ 1 → AllOf (λ v. v < n) as' → Hold p 1 as' → IsBefore p n 3
           → Means area (record { goals = after; shown = shown }) at p (paired as' (term (two (Var (n + 0)) (two (Var (n + 1)) (Var (n + 2)))) no_terms)) (goal.Call (Comp (atom_name b.pool name) (term (Var (n + 2)) no_terms)) ∷ after)
       by n (term t no_terms) after shown p size below hold before = skip_ends n t (record { goals = after; shown = shown }) p at hold.0 below.0 before area same stand
       by n no_terms after shown p size below hold before = absurd (omega (arith, size))

@@ -2,7 +2,7 @@
 use Rattle.std.proofs.Common.{◌≡◌, ◌⊎◌, ℕ, zero, suc, ◌+◌, ◌<◌, ◌≤◌, List, [], ◌∷◌, ◌++◌, Some, All, get_or, length, refl, ap, sym, ◌∙◌, subst, arith, inl, inr, length-set, get_or-set_same, get_or-set_other}
 use Rattle.std.proofs.lemmas.Bool.{cases_eq}
 use Rattle.std.proofs.lemmas.List.Elements.{All-append}
-use Rattle.fd_language.specs.Term.{Name, Term, Terms, Var, Comp, no_terms, term}
+use Rattle.fd_language.specs.Term.{Name, Term, Terms, Var, Comp, no_terms, term, term_count}
 use Rattle.machine_relation.specs.Heap.{Of, AllOf}
 use Rattle.machine_relation.proofs.Lemmas.{more_all}
 use Rattle.term_pool.specs.declared.TermId.{TermId}
@@ -11,7 +11,6 @@ use Rattle.term_pool.specs.Terms.{term_of, terms_by, shape_term, total_size}
 use Rattle.term_pool.proofs.Lemmas.{rest_is_smaller, parts_are_smaller}
 use Rattle.wam_code.specs.declared.instruction.Register.{Register}
 use Rattle.wam_code.specs.declared.instruction.Register.TheVariants.{X}
-use Rattle.wam_code.specs.Places.{count}
 use Rattle.clause_code.specs.Short.{InRegisters}
 use Rattle.clause_code.specs.Simple.{IsOwn}
 use Rattle.clause_code.specs.Steps.{home, Suits, AllSuit}
@@ -147,7 +146,7 @@ head_next c last first ids before homes new register next i d b l e m p w = reco
 
 -- ---- homes that stay
 
-pub nth_within : (ts : Terms) (n : ℕ) (t : Term) → nth ts n ≡ Some t → n < count ts
+pub nth_within : (ts : Terms) (n : ℕ) (t : Term) → nth ts n ≡ Some t → n < term_count ts
 nth_within no_terms n t e = absurd (cc)
 nth_within (term u us) zero t e = omega arith
 nth_within (term u us) (suc n) t e = let l = nth_within us n t e in omega (arith, l)
@@ -176,7 +175,7 @@ stayed_next before old new ts from i x l n low (inr e) s =
 
 -- the variable x may stay in the register of the place n: the goal has it there, or the head where the goal has nothing
 abbrev MayBe : Terms → Terms → ℕ → ℕ → Type 0
-MayBe us ts n x = (nth us n ≡ Some (Var x)) ⊎ ((count us ≤ n) × (nth ts n ≡ Some (Var x)))
+MayBe us ts n x = (nth us n ≡ Some (Var x)) ⊎ ((term_count us ≤ n) × (nth ts n ≡ Some (Var x)))
 
 may_be_one : (us ts : Terms) (n x y : ℕ) → MayBe us ts n x → MayBe us ts n y → x ≡ y
 may_be_one us ts n x y (inl a) (inl b) = let e : Some (Var x) ≡ Some (Var y) = sym a ∙ b in cc
@@ -196,14 +195,14 @@ placed_apart homes first us ts x y e (inr a) (inr b) =
     let z : a.0 ≡ b.0 = cc in
     may_be_one us ts b.0 x y (subst (λ n. MayBe us ts n x) z a.3) b.3
 
-lands_by : (homes : List Register) (r : ℕ) (us : Terms) → ((n x : ℕ) → n < count us → x < length homes → home homes x ≡ X (r + n) → nth us n ≡ Some (Var x)) → AllLand homes r us
+lands_by : (homes : List Register) (r : ℕ) (us : Terms) → ((n x : ℕ) → n < term_count us → x < length homes → home homes x ≡ X (r + n) → nth us n ≡ Some (Var x)) → AllLand homes r us
 lands_by homes r no_terms h = tt
 lands_by homes r (term u us) h =
     let here : Lands homes r u = λ x l e. let z : r ≡ r + 0 = omega arith in let s : Some u ≡ Some (Var x) = h 0 x (omega arith) l (e ∙ ap X z) in cc in
     (here, lands_by homes (suc r) us (λ n x l m e. let z : suc r + n ≡ r + suc n = omega arith in h (suc n) x (omega (arith, l)) m (e ∙ ap X z)))
 
 -- The homes that are found suit the head and the goal.
-pub homes_found : (h0 h1 h2 h3 : List Register) (first free : ℕ) (ts us : Terms) → InRegisters h0 first free → Stayed h0 h1 us 0 → Stayed h1 h2 ts (count us) → MovedBack h2 h3 first → AllWait h3 1 (count ts) ts → count us < first → count ts < first → AreHomes h3 free ts us
+pub homes_found : (h0 h1 h2 h3 : List Register) (first free : ℕ) (ts us : Terms) → InRegisters h0 first free → Stayed h0 h1 us 0 → Stayed h1 h2 ts (term_count us) → MovedBack h2 h3 first → AllWait h3 1 (term_count ts) ts → term_count us < first → term_count ts < first → AreHomes h3 free ts us
 homes_found h0 h1 h2 h3 first free ts us r a b m waits lu lt =
     let n0 = r.long in
     let n1 = a.long in

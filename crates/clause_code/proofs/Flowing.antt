@@ -29,6 +29,16 @@ into_left [] ys n y e = absurd (cc)
 into_left (x ∷ xs) ys zero y e = e
 into_left (x ∷ xs) ys (suc n) y e = into_left xs ys n y e
 
+-- the element behind a list
+pub get_last : {A : Type 0} (xs : List A) (x : A) → slice_get (xs ++ (x ∷ [])) (length xs) ≡ Some x
+get_last [] x = refl
+get_last (y ∷ xs) x = get_last xs x
+
+-- a list of one has that one alone
+pub get_only : {A : Type 0} (n : ℕ) (x y : A) → slice_get (x ∷ []) n ≡ Some y → (n ≡ 0) × (x ≡ y)
+get_only zero x y e = (refl, cc)
+get_only (suc n) x y e = absurd (cc)
+
 -- the n-th element is of the first list, or one of the second
 pub get_both : {A : Type 0} (xs ys : List A) (n : ℕ) (y : A) → slice_get (xs ++ ys) n ≡ Some y → (slice_get xs n ≡ Some y) ⊎ ((m : ℕ) × (n ≡ length xs + m) × (slice_get ys m ≡ Some y))
 get_both [] ys n y e = inr (n, omega arith, e)
@@ -62,8 +72,8 @@ flows_wide b at is s t behind e f =
     let wide : (m : ℕ) (x : State) → slice_get (f.states ++ (t ∷ [])) m ≡ Some x → slice_get (f.states ++ behind) (0 + m) ≡ Some x = λ m x g. elim (get_both f.states (t ∷ []) m x g) [
       | inl h ↦ let z : 0 + m ≡ m = omega arith in ap (slice_get (f.states ++ behind)) z ∙ into_left f.states behind m x h
       | inr h ↦
-          let k : h.0 ≡ 0 = only h.0 t x h.2 in
-          let same : t ≡ x = let y : Some t ≡ Some x = subst (λ z. slice_get (t ∷ []) z ≡ Some x) k h.2 in cc in
+          let k = (get_only h.0 t x h.2).0 in
+          let same = (get_only h.0 t x h.2).1 in
           let z : 0 + m ≡ length f.states + 0 = let w = h.1 in omega (arith, w, k) in
           ap (slice_get (f.states ++ behind)) z ∙ into_right f.states behind 0 ∙ e ∙ ap Some same
     ] in record {
@@ -77,10 +87,6 @@ flows_wide b at is s t behind e f =
       inner = f.inner;
       there = f.there;
     }
-  where
-    only : (m : ℕ) (t x : State) → slice_get (t ∷ []) m ≡ Some x → m ≡ 0
-    only zero t x g = refl
-    only (suc m) t x g = absurd (cc)
 
 -- Two pieces, of which the first one leads into the states of the second one.
 pub flows_behind : (b : Base) (at : ℕ) (is js : List Code) (s t : State) (behind : List State) → (g : FlowsInto b (past at is) js t behind) → FlowsInto b at is s (g.states ++ behind) → FlowsInto b at (is ++ js) s behind

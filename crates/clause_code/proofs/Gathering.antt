@@ -4,7 +4,7 @@ use Rattle.std.specs.Prelude.{Result, Ok, Err, OnOk}
 use Rattle.std.specs.List.{list_any}
 use Rattle.std.proofs.lemmas.Bool.{true≢false, cases_eq}
 use Rattle.std.proofs.lemmas.Option.{slice_get-map}
-use Rattle.fd_language.specs.Term.{Name, Term, Terms, Comp, no_terms, term}
+use Rattle.fd_language.specs.Term.{Name, Term, Terms, Comp, no_terms, term, term_count}
 use Rattle.fd_model.specs.Constraining.{arguments}
 use Rattle.term_pool.specs.declared.AtomId.{AtomId}
 use Rattle.term_pool.specs.declared.TermId.{TermId}
@@ -13,17 +13,17 @@ use Rattle.term_pool.specs.Terms.{term_of, terms_by}
 use Rattle.indexmap.specs.IndexSet.{insert_key}
 use Rattle.clause_check.specs.declared.program.FlatGoal.TheVariants.{Call}
 use Rattle.clause_check.specs.Programs.{FlatProgram, clause_at, goal_at}
-use Rattle.wam_code.specs.Places.{count, made}
+use Rattle.wam_code.specs.Places.{made}
 use Rattle.clause_code.specs.Pieces.{Predicate}
 use Rattle.clause_code.specs.Predicates.{predicate_in, IsOfOne, ArePredicates, HasFunctor, HasOne, AreFunctors, Gathers, Gathered}
 use Rattle.clause_code.specs.declared.predicates.Functor.{Functor}
 use Rattle.clause_code.proofs.Numbers.{same_functor, same_means, functor_itself}
-use Rattle.clause_code.proofs.Flowing.{get_both, into_left}
+use Rattle.clause_code.proofs.Flowing.{get_last, get_only, get_both, into_left}
 use Rattle.clause_code.proofs.Rests.{count_terms}
 
 -- ---- the functor of a term
 
-compound_made : (f : Name) (ts : Terms) → 1 ≤ count ts → Comp f ts ≡ made f ts
+compound_made : (f : Name) (ts : Terms) → 1 ≤ term_count ts → Comp f ts ≡ made f ts
 compound_made f no_terms l = absurd (omega (arith, l))
 compound_made f (term t ts) l = refl
 
@@ -31,20 +31,12 @@ pub compound_functor : (c : Contents) (t : Term) (a : AtomId) (ids : List TermId
 compound_functor c t a ids n e l k low high =
     let ts : Terms = terms_by (term_of c) ids in
     let m = count_terms (term_of c) ids in record {
-      of = record { name = e ∙ compound_made (atom_name c a) ts (omega (arith, m, k, low)) ∙ ap (made (atom_name c a)) (sym (ap arguments e)); arity = ap (λ u. count (arguments u)) e ∙ m ∙ sym k };
+      of = record { name = e ∙ compound_made (atom_name c a) ts (omega (arith, m, k, low)) ∙ ap (made (atom_name c a)) (sym (ap arguments e)); arity = ap (λ u. term_count (arguments u)) e ∙ m ∙ sym k };
       own = l;
       few = high;
     }
 
 -- ---- one more functor
-
-at_end : {A : Type 0} (xs : List A) (x : A) → slice_get (xs ++ (x ∷ [])) (length xs) ≡ Some x
-at_end [] x = refl
-at_end (y ∷ xs) x = at_end xs x
-
-only : {A : Type 0} (m : ℕ) (x y : A) → slice_get (x ∷ []) m ≡ Some y → (m ≡ 0) × (x ≡ y)
-only zero x y e = (refl, cc)
-only (suc m) x y e = absurd (cc)
 
 none_same : (f : Functor) (fs : List Functor) → list_any (same_functor f) fs ≡ false → (n : ℕ) → slice_get fs n ≡ Some f → ⊥
 none_same f [] e n h = cc
@@ -75,20 +67,20 @@ with_last c t f fs h e w = record {
   apart = λ n m g a b. elim (get_both fs (f ∷ []) n g a) [
     | inl x ↦ elim (get_both fs (f ∷ []) m g b) [
       | inl y ↦ w.apart n m g x y
-      | inr y ↦ absurd (none_same f fs e n (x ∙ ap Some (sym (only y.0 f g y.2).1)))
+      | inr y ↦ absurd (none_same f fs e n (x ∙ ap Some (sym (get_only y.0 f g y.2).1)))
     ]
     | inr x ↦ elim (get_both fs (f ∷ []) m g b) [
-      | inl y ↦ absurd (none_same f fs e m (y ∙ ap Some (sym (only x.0 f g x.2).1)))
-      | inr y ↦ let j = x.1 in let k = y.1 in let p = (only x.0 f g x.2).0 in let q = (only y.0 f g y.2).0 in omega (arith, j, k, p, q)
+      | inl y ↦ absurd (none_same f fs e m (y ∙ ap Some (sym (get_only x.0 f g x.2).1)))
+      | inr y ↦ let j = x.1 in let k = y.1 in let p = (get_only x.0 f g x.2).0 in let q = (get_only y.0 f g y.2).0 in omega (arith, j, k, p, q)
     ]
   ];
   own = λ n g a. elim (get_both fs (f ∷ []) n g a) [
     | inl x ↦ w.own n g x
-    | inr x ↦ subst (λ (k : Functor). k.name.number < length c.names) (only x.0 f g x.2).1 h.own
+    | inr x ↦ subst (λ (k : Functor). k.name.number < length c.names) (get_only x.0 f g x.2).1 h.own
   ];
   few = λ n g a. elim (get_both fs (f ∷ []) n g a) [
     | inl x ↦ w.few n g x
-    | inr x ↦ subst (λ (k : Functor). k.arity ≤ 255) (only x.0 f g x.2).1 h.few
+    | inr x ↦ subst (λ (k : Functor). k.arity ≤ 255) (get_only x.0 f g x.2).1 h.few
   ];
 }
 
@@ -101,7 +93,7 @@ gathers c t f old new h e = by (list_any (same_functor f) old) refl e
         subst (Gathers c t old) (sym g) (record { kept = λ n x y. y; one = (w.0, f, w.1, h); functors = λ x. x })
     by false k g = subst (Gathers c t old) (sym g) (record {
       kept = λ n x y. into_left old (f ∷ []) n x y;
-      one = (length old, f, at_end old f, h);
+      one = (length old, f, get_last old f, h);
       functors = λ x. with_last c t f old h k x;
     })
 

@@ -3,7 +3,7 @@ use Rattle.std.proofs.Common.{◌≡◌, ℕ, zero, suc, ◌+◌, ◌<◌, ◌�
 use Rattle.std.proofs.lemmas.Bool.{true≢false}
 use Rattle.std.proofs.lemmas.Option.{slice_get-map}
 use Rattle.fd_language.specs.Family.{has}
-use Rattle.fd_language.specs.Term.{Name, Term, Terms, Var, no_terms, term}
+use Rattle.fd_language.specs.Term.{Name, Term, Terms, Var, no_terms, term, term_count}
 use Rattle.fd_model.specs.declared.kinds.ConstraintKind.{ConstraintKind}
 use Rattle.fd_model.specs.declared.kinds.BuiltinKind.{BuiltinKind}
 use Rattle.fd_model.specs.declared.kinds.BuiltinKind.TheVariants as kind
@@ -21,7 +21,7 @@ use Rattle.wam_code.specs.Area.{State}
 use Rattle.fd_model.specs.Arities.{constraint_arity, builtin_arity}
 use Rattle.wam_code.specs.Effect.{are_set, are_given, has_frame}
 use Rattle.wam_code.specs.VerifiedCode.{Covers}
-use Rattle.wam_code.specs.Places.{Places, read, no_registers, Hold, count, made}
+use Rattle.wam_code.specs.Places.{Places, read, no_registers, Hold, made}
 use Rattle.wam_code.specs.Means.{NamedRule, BuiltinRule, HoldVars}
 use Rattle.clause_code.specs.Pieces.{Base, Predicate, Does}
 use Rattle.clause_code.specs.Codable.{is_named}
@@ -54,7 +54,7 @@ named_rule kind.False h p g r = absurd (true≢false (sym h))
 named_rule kind.Unify h p g r = absurd (true≢false (sym h))
 named_rule _ h p g r = r
 
-pub count_variables : (ys : List ℕ) → count (variables ys) ≡ length ys
+pub count_variables : (ys : List ℕ) → term_count (variables ys) ≡ length ys
 count_variables [] = refl
 count_variables (y ∷ ys) = let e = count_variables ys in omega (arith, e)
 
@@ -98,21 +98,21 @@ module _ (b : Base) (homes : List Register) (apart : AreApart homes) (framed : B
       (λ n at later q h hold. does_builtin b at kind.Unify (goal.Unify (moved n x) (moved n y)) q (between_goals n homes) later (moved n x, moved n y, hold.0, hold.1.0, refl) (between_settled n homes apart q h))
       (λ s t r l. (t, plain_of b (Builtin kind.Unify) t l.owed ∙ when_true _ t (cells_set t.regs 2 l.set), loaded_covers homes framed s t 2 r l))
 
-  pub goal_builtin : (k : BuiltinKind) (f : Name) (us : Terms) → IsTrue (is_named k) → count us ≡ builtin_arity k → Fine b homes free us → IsGoalsCode b homes framed at (Loads us (Builtin k)) (goal.Builtin k (made f us) ∷ [])
+  pub goal_builtin : (k : BuiltinKind) (f : Name) (us : Terms) → IsTrue (is_named k) → term_count us ≡ builtin_arity k → Fine b homes free us → IsGoalsCode b homes framed at (Loads us (Builtin k)) (goal.Builtin k (made f us) ∷ [])
   goal_builtin k f us named ar fine =
       one_goal b homes apart framed made_now free at us (Builtin k) (goal.Builtin k (made f us)) all long fine refl tt
       (λ n at later q h hold.
       does_builtin b at k (goal.Builtin k (moved n (made f us))) q (between_goals n homes) later
       (named_rule k named q (goal.Builtin k (moved n (made f us))) (f, moved_all n us, count_moved n us ∙ ar, hold, ap (goal.Builtin k) (moved_made n f us))) (between_settled n homes apart q h))
-      (λ s t r l. (t, plain_of b (Builtin k) t l.owed ∙ when_true _ t (subst (λ m. are_set t.regs m ≡ true) ar (cells_set t.regs (count us) l.set)), loaded_covers homes framed s t (count us) r l))
+      (λ s t r l. (t, plain_of b (Builtin k) t l.owed ∙ when_true _ t (subst (λ m. are_set t.regs m ≡ true) ar (cells_set t.regs (term_count us) l.set)), loaded_covers homes framed s t (term_count us) r l))
 
-  pub goal_constrain : (k : ConstraintKind) (f : Name) (us : Terms) → count us ≡ constraint_arity k → Fine b homes free us → IsGoalsCode b homes framed at (Loads us (Constrain k)) (goal.Constrain k (made f us) ∷ [])
+  pub goal_constrain : (k : ConstraintKind) (f : Name) (us : Terms) → term_count us ≡ constraint_arity k → Fine b homes free us → IsGoalsCode b homes framed at (Loads us (Constrain k)) (goal.Constrain k (made f us) ∷ [])
   goal_constrain k f us ar fine =
       one_goal b homes apart framed made_now free at us (Constrain k) (goal.Constrain k (made f us)) all long fine refl tt
       (λ n at later q h hold.
       does_constrain b at k (goal.Constrain k (moved n (made f us))) q (between_goals n homes) later
       (f, moved_all n us, count_moved n us ∙ ar, hold, ap (goal.Constrain k) (moved_made n f us)) (between_settled n homes apart q h))
-      (λ s t r l. (t, plain_of b (Constrain k) t l.owed ∙ when_true _ t (subst (λ m. are_set t.regs m ≡ true) ar (cells_set t.regs (count us) l.set)), loaded_covers homes framed s t (count us) r l))
+      (λ s t r l. (t, plain_of b (Constrain k) t l.owed ∙ when_true _ t (subst (λ m. are_set t.regs m ≡ true) ar (cells_set t.regs (term_count us) l.set)), loaded_covers homes framed s t (term_count us) r l))
 
   pub goal_label : (o : Order) (x : Term) → Fine b homes free (term x no_terms) → IsGoalsCode b homes framed at (Loads (term x no_terms) (Label o)) (goal.Label o x ∷ [])
   goal_label o x f =
@@ -125,10 +125,10 @@ module _ (b : Base) (homes : List Register) (apart : AreApart homes) (framed : B
   goal_post x r l f =
       let ys : List ℕ = slots_of (range_in b r) in
       let k : ℕ = suc (length ys) in
-      let c : count (term x (variables ys)) ≡ k = let e = count_variables ys in omega (arith, e) in
+      let c : term_count (term x (variables ys)) ≡ k = let e = count_variables ys in omega (arith, e) in
       one_goal b homes apart framed made_now free at (term x (variables ys)) (PostRange r k) (goal.Post x (range_in b r)) all long f refl (l, refl)
       (λ n at later q h hold. does_post b at r k (moved n x) (λ z. n + z) q (between_goals n homes) later (λ z y e. omega (arith, e)) hold.0 (hold_variables n q 2 ys hold.1) (between_settled n homes apart q h))
-      (λ s t d w. (t, plain_of b (PostRange r k) t w.owed ∙ when_true _ t (subst (λ m. are_set t.regs m ≡ true) c (cells_set t.regs (count (term x (variables ys))) w.set)), loaded_covers homes framed s t (count (term x (variables ys))) d w))
+      (λ s t d w. (t, plain_of b (PostRange r k) t w.owed ∙ when_true _ t (subst (λ m. are_set t.regs m ≡ true) c (cells_set t.regs (term_count (term x (variables ys))) w.set)), loaded_covers homes framed s t (term_count (term x (variables ys))) d w))
 
 -- the entry of a predicate before it has its place
 pub entry_of : (b : Base) (n : ℕ) (s : Predicate) → slice_get b.predicates n ≡ Some s → (e : Entry) × (slice_get (unplaced b) n ≡ Some e) × (e.arity ≡ s.arity)
@@ -142,7 +142,7 @@ given_cells b n s t h set =
 
 -- A user goal that isn't the last one, with a frame.
 pub goal_call : (b : Base) (homes : List Register) (apart : AreApart homes) (made_now : List Bool) (free at : ℕ) → AllMade homes made_now → length made_now ≡ length homes → OnlySlots homes → (e : ℕ) (s : Predicate) (us : Terms)
-    → slice_get b.predicates e ≡ Some s → count us ≡ s.arity → e < length b.predicates → Fine b homes free us → IsGoalsCode b homes true at (code_of homes made_now (puts b.pool 1 free us) ++ (Call e ∷ [])) (goal.Call (made (atom_name b.pool s.name) us) ∷ [])
+    → slice_get b.predicates e ≡ Some s → term_count us ≡ s.arity → e < length b.predicates → Fine b homes free us → IsGoalsCode b homes true at (code_of homes made_now (puts b.pool 1 free us) ++ (Call e ∷ [])) (goal.Call (made (atom_name b.pool s.name) us) ∷ [])
 goal_call b homes apart made_now free at all long only e s us h ar le fine =
     one_goal b homes apart true made_now free at us (Call e) (goal.Call (made (atom_name b.pool s.name) us)) all long fine refl le
     (λ n at later q body hold.

@@ -1,7 +1,7 @@
 -- What the steps of a clause's terms do, and how the states go through them.
 use Rattle.std.proofs.Common.{◌≡◌, ◌⊎◌, ℕ, suc, ◌+◌, ◌<◌, ◌≤◌, Bool, true, ◌&&◌, List, [], ◌∷◌, ◌++◌, Some, length, refl, ap, sym, ◌∙◌, subst, arith, inl, inr, append_assoc}
 use Rattle.fd_language.specs.Family.{has}
-use Rattle.fd_language.specs.Term.{Term, Terms, Var, no_terms, term, apply, apply_all}
+use Rattle.fd_language.specs.Term.{Term, Terms, Var, no_terms, term, apply, apply_all, term_count}
 use Rattle.fd_language.specs.Unifier.{Equation}
 use Rattle.fd_model.specs.Goal.{Goal}
 use Rattle.wam_code.specs.declared.instruction.Register.{Register}
@@ -9,12 +9,12 @@ use Rattle.wam_code.specs.declared.instruction.Register.TheVariants.{X, Y}
 use Rattle.wam_code.specs.declared.instruction.Code.{Code}
 use Rattle.wam_code.specs.Area.{State}
 use Rattle.wam_code.specs.Effect.{has_frame, with_set, when, plain_effect, unify_effect, effect_by, effect}
-use Rattle.wam_code.specs.Places.{Places, write, count}
+use Rattle.wam_code.specs.Places.{Places, write}
 use Rattle.clause_code.specs.Pieces.{Base, past, Does, Parts}
 use Rattle.clause_code.specs.Safe.{unplaced}
 use Rattle.clause_code.specs.Flowing.{Runs}
 use Rattle.clause_code.specs.Steps.{Step, is_made, marked_by, marked_by_all, instructions, code_of}
-use Rattle.clause_code.proofs.Homes.{put_else}
+use Rattle.wam_code.proofs.Lemmas.{put_else}
 use Rattle.clause_code.proofs.Pieces.{does_nothing, does_both}
 use Rattle.clause_code.proofs.Making.{Spared, Grows, Fits, Tracks}
 
@@ -62,7 +62,7 @@ moved n t = apply (λ x. Var (n + x)) t
 abbrev pub moved_all : ℕ → Terms → Terms
 moved_all n ts = apply_all (λ x. Var (n + x)) ts
 
-pub count_moved : (n : ℕ) (ts : Terms) → count (moved_all n ts) ≡ count ts
+pub count_moved : (n : ℕ) (ts : Terms) → term_count (moved_all n ts) ≡ term_count ts
 count_moved n no_terms = refl
 count_moved n (term t ts) = ap suc (count_moved n ts)
 

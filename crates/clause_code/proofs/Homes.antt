@@ -1,21 +1,16 @@
 -- The registers of a clause's variables, one instruction after the other.
-use Rattle.std.proofs.Common.{◌≡◌, ℕ, ◌+◌, ◌-◌, ◌<◌, ◌≤◌, Bool, true, false, ◌&&◌, if◌then◌else◌, Option, Some, refl, ap, sym, ◌∙◌, eq-eqb, ne_eqb}
+use Rattle.std.proofs.Common.{◌≡◌, ℕ, ◌<◌, Bool, true, false, ◌&&◌, if◌then◌else◌, Some, refl, ap, sym, eq-eqb, ne_eqb}
 use Rattle.std.proofs.lemmas.Bool.{true≢false}
 use Rattle.fd_model.proofs.Lemmas.{below_test}
 use Rattle.fd_language.specs.Term.{Term, Terms, Var, Int, Atom, Comp, no_terms, term}
 use Rattle.machine_relation.specs.Heap.{Of, AllOf}
 use Rattle.wam_code.specs.declared.instruction.Register.{Register}
 use Rattle.wam_code.specs.declared.instruction.Register.TheVariants.{X, Y}
-use Rattle.wam_code.specs.Places.{Places, put_at, read, write, learnt}
+use Rattle.wam_code.specs.Places.{Places, read, write, learnt}
+use Rattle.wam_code.proofs.Lemmas.{put_here, put_else}
 use Rattle.clause_code.specs.Homes.{is_below, are_below}
 
 -- ---- one register
-
-pub put_here : (i : ℕ) (t : Term) (r : ℕ → Option Term) → put_at i t r i ≡ Some t
-put_here i t r = ap (λ c. if c then Some t else r i) (eq-eqb i i refl)
-
-pub put_else : (i : ℕ) (t : Term) (r : ℕ → Option Term) (j : ℕ) → (j ≡ i → ⊥) → put_at i t r j ≡ r j
-put_else i t r j h = ap (λ c. if c then Some t else r j) (ne_eqb j i h)
 
 -- What is written is read.
 pub read_written : (p : Places) (r : Register) (t : Term) → read (write p r t) r ≡ Some t

@@ -1,5 +1,5 @@
 -- From a list that is appended to the places in it.
-use Rattle.std.proofs.Common.{◌≡◌, ℕ, suc, ◌+◌, List, [], ◌∷◌, ◌++◌, length, ◌∙◌, arith}
+use Rattle.std.proofs.Common.{◌≡◌, ℕ, suc, ◌+◌, List, [], ◌∷◌, length, arith}
 use Rattle.wam_code.specs.declared.instruction.Code.{Code}
 use Rattle.clause_code.specs.Pieces.{past}
 

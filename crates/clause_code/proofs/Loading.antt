@@ -1,12 +1,11 @@
 -- The arguments of goals, and one instruction behind them.
 use Rattle.std.proofs.Common.{◌≡◌, ℕ, suc, ◌+◌, ◌<◌, Bool, List, [], ◌∷◌, ◌++◌, drop, get_or, length, ap, sym, ◌∙◌, subst, arith, add-one, drop-cons, append_assoc}
-use Rattle.fd_language.specs.Term.{Terms, term}
+use Rattle.fd_language.specs.Term.{Terms, term, term_count}
 use Rattle.term_pool.specs.declared.TermId.{TermId}
 use Rattle.term_pool.specs.Contents.{Contents}
 use Rattle.term_pool.specs.Terms.{term_of, terms_by}
 use Rattle.wam_code.specs.declared.instruction.Register.{Register}
 use Rattle.wam_code.specs.declared.instruction.Code.{Code}
-use Rattle.wam_code.specs.Places.{count}
 use Rattle.clause_code.specs.Steps.{Step, put_variable, code_of, marked_by_all, put, puts}
 use Rattle.clause_code.specs.Works.{Writes}
 use Rattle.clause_code.specs.Simple.{variables, loads, AreMade}
@@ -21,7 +20,7 @@ pub loaded : (c : Contents) (homes : List Register) (code mid new : List Code) (
 loaded c homes code mid new made later ids n last e w f =
     let ts : Terms = terms_by (term_of c) ids in
     let k = count_terms (term_of c) ids in
-    let m : n ≡ suc (count ts) = omega (arith, e, k) in
+    let m : n ≡ suc (term_count ts) = omega (arith, e, k) in
     f
     ∙ ap (λ l. l ++ (last ∷ [])) w.codes
     ∙ append_assoc code (code_of homes made (puts c 1 n ts)) (last ∷ [])
@@ -43,7 +42,7 @@ posted c slots homes code one two new made mid later t r count' free n f g h =
     let us : Terms = term (term_of c t) (variables slots) in
     let w = writes_both homes code one two made mid later (put c 1 free (term_of c t)) (puts c 2 free (variables slots)) f g in
     let k = count_variables slots in
-    let z : free ≡ suc (count us) = omega (arith, n, k) in
+    let z : free ≡ suc (term_count us) = omega (arith, n, k) in
     h
     ∙ ap (λ l. l ++ (PostRange r count' ∷ [])) w.codes
     ∙ append_assoc code (code_of homes made (puts c 1 free us)) (PostRange r count' ∷ [])

@@ -1,7 +1,7 @@
 -- What pieces of code do, one instruction after the other.
 use Rattle.std.proofs.Common.{◌≡◌, ℕ, suc, ℤ, List, [], ◌∷◌, ◌++◌, Some, slice_get, slice_index_or, option_map, refl, ap, sym, ◌∙◌, subst, Option, None}
 use Rattle.std.proofs.lemmas.Option.{slice_get-map}
-use Rattle.fd_language.specs.Term.{Term, Terms, Var, Int, Atom, Comp, no_terms, term}
+use Rattle.fd_language.specs.Term.{Term, Terms, Var, Int, Atom, Comp, no_terms, term, term_count}
 use Rattle.fd_language.specs.Unifier.{Equation}
 use Rattle.fd_language.specs.Range.{Range}
 use Rattle.fd_language.specs.RangeRenaming.{rename_range}
@@ -20,7 +20,7 @@ use Rattle.wam_code.specs.declared.instruction.Code.{Code}
 use Rattle.wam_code.specs.declared.instruction.Code.TheVariants.{GetVariable, GetValue, GetConstant, GetInteger, GetStructure, UnifyVariable, UnifyValue, UnifyConstant, UnifyInteger, UnifyVoid, PutVariable, PutValue, PutConstant, PutInteger, PutStructure, Allocate, Deallocate, Call, Execute, Proceed, Jump, AnswerNow, Either, Builtin, Constrain, Label, PostRange}
 use Rattle.wam_code.specs.declared.parts.Entry.{Entry}
 use Rattle.wam_code.specs.Area.{Area, HasEntry, name_of, range_at}
-use Rattle.wam_code.specs.Places.{Places, read, write, learn, without, no_registers, no_slots, IsFresh, IsWhole, IsSettled, Hold, count, made}
+use Rattle.wam_code.specs.Places.{Places, read, write, learn, without, no_registers, no_slots, IsFresh, IsWhole, IsSettled, Hold, made}
 use Rattle.wam_code.specs.Means.{Caller, UnifyRule, BuiltinRule, ConstrainRule, LabelRule, CallRule, HoldVars, Shows, Rule, Restates, Means}
 use Rattle.wam_code.proofs.Lemmas.{from_rule, from_learning, from_restating}
 use Rattle.clause_code.specs.Pieces.{Predicate, predicate_of, Base, base_of, Stand, past, Does, Parts, Ends}
@@ -107,7 +107,7 @@ pub part_void : (b : Base) (at v : ℕ) (is : List Code) (ts : Terms) (p q : Pla
 part_void b at v is ts p q f g = part_by b at (UnifyVoid 1) is (Var v) ts p _ q (λ area e. (v, f, refl, refl, refl)) g
 
 -- The structure is equated with what a register holds.
-pub does_get_structure : (b : Base) (at : ℕ) (c : AtomId) (n a : ℕ) (is : List Code) (t : Term) (us : Terms) (p q : Places) (es : List Equation) (gs : List Goal) → p.x a ≡ Some t → count us ≡ n → Parts b (suc at) is p us q
+pub does_get_structure : (b : Base) (at : ℕ) (c : AtomId) (n a : ℕ) (is : List Code) (t : Term) (us : Terms) (p q : Places) (es : List Equation) (gs : List Goal) → p.x a ≡ Some t → term_count us ≡ n → Parts b (suc at) is p us q
     → Does b at (GetStructure c n a ∷ is) p (equation t (Comp (atom_name b.pool c) us) ∷ es) gs q es gs
 does_get_structure b at c n a is t us p q es gs h k f = λ area w e s m.
     from_rule area w at p _ gs (GetStructure c n a) s.0 (us, past (suc at) is, q, (k, f area e s.1), (t, es, h, ap (λ x. equation t (Comp x us) ∷ es) (named b area c e), m))
@@ -126,7 +126,7 @@ does_put_constant b at c a p es gs = one b at (PutConstant c a) p _ es es gs gs 
 pub does_put_integer : (b : Base) (at : ℕ) (z : ℤ) (a : ℕ) (p : Places) (es : List Equation) (gs : List Goal) → Does b at (PutInteger z a ∷ []) p es gs (write p (X a) (Int z)) es gs
 does_put_integer b at z a p es gs = one b at (PutInteger z a) p _ es es gs gs (λ area w e m. m)
 
-pub does_put_structure : (b : Base) (at : ℕ) (c : AtomId) (n a : ℕ) (is : List Code) (us : Terms) (p q : Places) (es : List Equation) (gs : List Goal) → count us ≡ n → Parts b (suc at) is (without p a) us q
+pub does_put_structure : (b : Base) (at : ℕ) (c : AtomId) (n a : ℕ) (is : List Code) (us : Terms) (p q : Places) (es : List Equation) (gs : List Goal) → term_count us ≡ n → Parts b (suc at) is (without p a) us q
     → Does b at (PutStructure c n a ∷ is) p es gs (write q (X a) (Comp (atom_name b.pool c) us)) es gs
 does_put_structure b at c n a is us p q es gs k f = λ area w e s m.
     from_rule area w at p es gs (PutStructure c n a) s.0 (us, past (suc at) is, q, (k, f area e s.1), subst (λ x. Means area w (past (suc at) is) (write q (X a) (Comp x us)) es gs) (named b area c e) m)
@@ -172,12 +172,12 @@ entry_there b area n s e h = found area.entries n (slice_get area.entries n) s r
 abbrev pub call_of : Base → Predicate → Terms → Goal
 call_of b s ts = goal.Call (made (atom_name b.pool s.name) ts)
 
-call_rule : (b : Base) (area : Area) (n : ℕ) (s : Predicate) (ts : Terms) (p : Places) → base_of area ≡ b → slice_get b.predicates n ≡ Some s → count ts ≡ s.arity → Hold p 1 ts → CallRule area n p (call_of b s ts)
+call_rule : (b : Base) (area : Area) (n : ℕ) (s : Predicate) (ts : Terms) (p : Places) → base_of area ≡ b → slice_get b.predicates n ≡ Some s → term_count ts ≡ s.arity → Hold p 1 ts → CallRule area n p (call_of b s ts)
 call_rule b area n s ts p e h k l =
     let w = entry_there b area n s e h in
     (w.0, ts, w.1, k ∙ sym (ap (λ x. x.arity) w.2), l, ap (λ x. goal.Call (made x ts)) (ap (λ c. atom_name b.pool c) (sym (ap (λ x. x.name) w.2)) ∙ named b area w.0.name e))
 
-pub does_call : (b : Base) (at n : ℕ) (s : Predicate) (ts : Terms) (p q : Places) (gs : List Goal) → slice_get b.predicates n ≡ Some s → count ts ≡ s.arity → Hold p 1 ts → IsSettled (no_registers p) q
+pub does_call : (b : Base) (at n : ℕ) (s : Predicate) (ts : Terms) (p q : Places) (gs : List Goal) → slice_get b.predicates n ≡ Some s → term_count ts ≡ s.arity → Hold p 1 ts → IsSettled (no_registers p) q
     → Does b at (Call n ∷ []) p [] (call_of b s ts ∷ gs) q [] gs
 does_call b at n s ts p q gs h k l f = one b at (Call n) p q [] [] (call_of b s ts ∷ gs) gs (λ area w e m. (call_of b s ts, gs, q, call_rule b area n s ts p e h k l, f, refl, refl, m))
 
@@ -192,7 +192,7 @@ does_post b at r n t f p q gs apart h k l = one b at (PostRange r n) p q [] [] _
 
 -- ---- ends
 
-pub ends_execute : (b : Base) (w : Caller) (at n : ℕ) (s : Predicate) (ts : Terms) (p : Places) → slice_get b.predicates n ≡ Some s → count ts ≡ s.arity → Hold p 1 ts → IsWhole p
+pub ends_execute : (b : Base) (w : Caller) (at n : ℕ) (s : Predicate) (ts : Terms) (p : Places) → slice_get b.predicates n ≡ Some s → term_count ts ≡ s.arity → Hold p 1 ts → IsWhole p
     → Ends b w at (Execute n ∷ []) p [] (call_of b s ts ∷ w.goals)
 ends_execute b w at n s ts p h k l f = λ area e stand. from_rule area w at p [] _ (Execute n) stand.0 (call_of b s ts, call_rule b area n s ts p e h k l, f, refl, refl)
 

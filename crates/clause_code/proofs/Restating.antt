@@ -1,36 +1,34 @@
 -- Equations that may be restated: a part of a structure taken out, and an equation moved to the front.
-use Rattle.std.proofs.Common.{◌≡◌, ℕ, suc, true, false, cond, ◌==◌, List, [], ◌∷◌, ◌++◌, refl, ap, sym, ◌∙◌, subst, arith, eq-eqb, ne_eqb, inl, inr}
+use Rattle.std.proofs.Common.{◌≡◌, ℕ, suc, true, false, cond, List, [], ◌∷◌, ◌++◌, refl, ap, sym, ◌∙◌, subst, arith, eq-eqb, ne_eqb, inl, inr}
 use Rattle.std.proofs.lemmas.Bool.{true≢false}
-use Rattle.fd_language.specs.Term.{Name, Term, Terms, Var, Comp, no_terms, term, Substitution, apply, apply_all}
+use Rattle.fd_language.specs.Term.{Name, Term, Terms, Var, Comp, no_terms, term, Substitution, apply, apply_all, joined_terms}
 use Rattle.fd_language.specs.Unifier.{Equation, Unifies}
 use Rattle.fd_model.specs.Goal.{Goal}
 use Rattle.machine_relation.specs.Heap.{AllOf, EquationsOf}
 use Rattle.machine_relation.specs.Says.{SaysSame}
-use Rattle.machine_relation.proofs.Lemmas.{agree, agree_each, more_of, more_all, more_each}
+use Rattle.machine_relation.proofs.Lemmas.{agree, agree_each, more_of, more_all, more_each, with_one}
 use Rattle.wam_code.specs.Places.{Places, Has}
 use Rattle.clause_code.specs.Pieces.{Base, Does}
-use Rattle.clause_code.specs.Splitting.{joined, whole, apart}
+use Rattle.clause_code.specs.Splitting.{whole, apart}
 use Rattle.clause_code.proofs.Pieces.{does_restate}
 
-apply_joined : (s : Substitution) (xs ys : Terms) → apply_all s (joined xs ys) ≡ joined (apply_all s xs) (apply_all s ys)
+apply_joined : (s : Substitution) (xs ys : Terms) → apply_all s (joined_terms xs ys) ≡ joined_terms (apply_all s xs) (apply_all s ys)
 apply_joined s no_terms ys = refl
 apply_joined s (term x xs) ys = ap (term (apply s x)) (apply_joined s xs ys)
 
-all_first : (P : ℕ → Type 0) (xs ys : Terms) → AllOf P (joined xs ys) → AllOf P xs
+all_first : (P : ℕ → Type 0) (xs ys : Terms) → AllOf P (joined_terms xs ys) → AllOf P xs
 all_first P no_terms ys h = tt
 all_first P (term x xs) ys h = (h.0, all_first P xs ys h.1)
 
-all_last : (P : ℕ → Type 0) (xs ys : Terms) → AllOf P (joined xs ys) → AllOf P ys
+all_last : (P : ℕ → Type 0) (xs ys : Terms) → AllOf P (joined_terms xs ys) → AllOf P ys
 all_last P no_terms ys h = h
 all_last P (term x xs) ys h = all_last P xs ys h.1
 
-all_joined : (P : ℕ → Type 0) (xs ys : Terms) → AllOf P xs → AllOf P ys → AllOf P (joined xs ys)
+all_joined : (P : ℕ → Type 0) (xs ys : Terms) → AllOf P xs → AllOf P ys → AllOf P (joined_terms xs ys)
 all_joined P no_terms ys h g = g
 all_joined P (term x xs) ys h g = (h.0, all_joined P xs ys h.1 g)
 
--- the substitution with another term for n
-abbrev with_one : ℕ → Term → Substitution → Substitution
-with_one n t s x = cond (x == n) t (s x)
+-- ---- the substitution with another term for n
 
 with_else : (n : ℕ) (t : Term) (s : Substitution) (x : ℕ) → (x ≡ n → ⊥) → s x ≡ with_one n t s x
 with_else n t s x l = sym (ap (λ c. cond c t (s x)) (ne_eqb x n l))
@@ -46,11 +44,11 @@ module _ (t : Term) (f : Name) (xs : Terms) (u : Term) (ys : Terms) (later : Lis
   other v (inl h) e = true≢false (sym (subst (λ x. p.known x ≡ true) e h) ∙ new)
   other v (inr h) e = omega (arith, h, e)
 
-  same_structure : (w : Substitution) → w n ≡ apply w u → apply_all w (joined xs (term (Var n) ys)) ≡ apply_all w (joined xs (term u ys))
+  same_structure : (w : Substitution) → w n ≡ apply w u → apply_all w (joined_terms xs (term (Var n) ys)) ≡ apply_all w (joined_terms xs (term u ys))
   same_structure w e =
       let a = apply_joined w xs (term (Var n) ys) in
       let b = apply_joined w xs (term u ys) in
-      a ∙ ap (λ x. joined (apply_all w xs) (term x (apply_all w ys))) e ∙ sym b
+      a ∙ ap (λ x. joined_terms (apply_all w xs) (term x (apply_all w ys))) e ∙ sym b
 
   says_same : SaysSame (Has p) (apart n t f xs u ys later) (whole t f xs u ys later)
   says_same = record {

@@ -6,11 +6,10 @@ use Rattle.term_pool.specs.Valid.{IsPool}
 use Rattle.wam_code.specs.declared.instruction.Register.{Register}
 use Rattle.wam_code.specs.declared.instruction.Code.{Code}
 use Rattle.wam_code.specs.declared.instruction.Code.TheVariants.{PutStructure, GetStructure}
-use Rattle.fd_language.specs.Term.{Name, Term, Terms, Var, Int, Atom, Comp, no_terms, term}
+use Rattle.fd_language.specs.Term.{Name, Term, Terms, Var, Int, Atom, Comp, no_terms, term, term_count}
 use Rattle.term_pool.specs.declared.TermId.{TermId}
 use Rattle.term_pool.specs.Contents.{Contents, atom_name}
 use Rattle.term_pool.specs.Terms.{term_of, terms_by, size, sizes}
-use Rattle.wam_code.specs.Places.{count}
 use Rattle.clause_code.specs.declared.terms.Work.{Work}
 use Rattle.clause_code.specs.declared.terms.Work.TheVariants.{Build, Close}
 use Rattle.clause_code.specs.Steps.{Step, put_structure, get_structure, atom_of, marked, marked_by_all, code_of, fill, filled, fills, behind, part, parts, build, builds, put, puts, get, gets, compounds, Suits, AllSuit}
@@ -126,7 +125,7 @@ pub opens : (c : Contents) (t : TermId) (r free : ℕ) (f : Name) (ids : List Te
     → mid ≡ old ++ (Close t r free ∷ []) → Pushes c free next ids mid new → Opens c t r free old new
 opens c t r free f ids next old mid new own e n m p =
     let us : Terms = terms_by (term_of c) ids in
-    let last : List Step = put_structure (atom_of c f) (count us) r ∷ parts c free us in
+    let last : List Step = put_structure (atom_of c f) (term_count us) r ∷ parts c free us in
     let below : stack_steps c mid ≡ last ++ stack_steps c old = ap (stack_steps c) m ∙ stack_both c old (Close t r free ∷ []) ∙ ap (λ u. closing c r free u ++ stack_steps c old) e in
     record {
       steps =
@@ -145,7 +144,7 @@ opens c t r free f ids next old mid new own e n m p =
           p.works v su.3 (subst (All (IsWork c v)) (sym m) (All-push (IsWork c v) old (Close t r free) a (own, s)));
     }
 
-pub count_terms : (g : TermId → Term) (ids : List TermId) → count (terms_by g ids) ≡ length ids
+pub count_terms : (g : TermId → Term) (ids : List TermId) → term_count (terms_by g ids) ≡ length ids
 count_terms g [] = refl
 count_terms g (t ∷ ts) = let e = count_terms g ts in omega (arith, e)
 
@@ -154,11 +153,11 @@ few_parts c v t f ids e s = let su : Suits c v (Comp f (terms_by (term_of c) ids
 
 -- a structure's instruction, and its arguments
 pub writes_put : (c : Contents) (homes : List Register) (code mid new : List Code) (made later : List Bool) (name : AtomId) (ids : List TermId) (n r free : ℕ) → IsPool c → name.number < length c.names → n ≡ length ids → mid ≡ code ++ (PutStructure name n r ∷ [])
-    → Writes homes mid made (parts c free (terms_by (term_of c) ids)) new later → Writes homes code made (put_structure (atom_of c (atom_name c name)) (count (terms_by (term_of c) ids)) r ∷ parts c free (terms_by (term_of c) ids)) new later
+    → Writes homes mid made (parts c free (terms_by (term_of c) ids)) new later → Writes homes code made (put_structure (atom_of c (atom_name c name)) (term_count (terms_by (term_of c) ids)) r ∷ parts c free (terms_by (term_of c) ids)) new later
 writes_put c homes code mid new made later name ids n r free valid l k e w =
     let us : Terms = terms_by (term_of c) ids in
     let a : name ≡ atom_of c (atom_name c name) = sym (atom_known c name valid l) in
-    let d : n ≡ count us = k ∙ sym (count_terms (term_of c) ids) in
+    let d : n ≡ term_count us = k ∙ sym (count_terms (term_of c) ids) in
     record {
       codes =
           w.codes
@@ -170,11 +169,11 @@ writes_put c homes code mid new made later name ids n r free valid l k e w =
     }
 
 writes_get : (c : Contents) (homes : List Register) (code mid new : List Code) (made later : List Bool) (name : AtomId) (ids : List TermId) (n r free : ℕ) → IsPool c → name.number < length c.names → n ≡ length ids → mid ≡ code ++ (GetStructure name n r ∷ [])
-    → Writes homes mid made (parts c free (terms_by (term_of c) ids)) new later → Writes homes code made (get_structure (atom_of c (atom_name c name)) (count (terms_by (term_of c) ids)) r ∷ parts c free (terms_by (term_of c) ids)) new later
+    → Writes homes mid made (parts c free (terms_by (term_of c) ids)) new later → Writes homes code made (get_structure (atom_of c (atom_name c name)) (term_count (terms_by (term_of c) ids)) r ∷ parts c free (terms_by (term_of c) ids)) new later
 writes_get c homes code mid new made later name ids n r free valid l k e w =
     let us : Terms = terms_by (term_of c) ids in
     let a : name ≡ atom_of c (atom_name c name) = sym (atom_known c name valid l) in
-    let d : n ≡ count us = k ∙ sym (count_terms (term_of c) ids) in
+    let d : n ≡ term_count us = k ∙ sym (count_terms (term_of c) ids) in
     record {
       codes =
           w.codes
@@ -203,7 +202,7 @@ pub writes_structure : (c : Contents) (homes : List Register) (code built mid ne
 writes_structure c homes code built mid new made now later works pushed name ids n r free next valid l k none x p b e w =
     let us : Terms = terms_by (term_of c) ids in
     let inner : stack_steps c pushed ≡ builds c free (free + compounds us) us = p.steps ∙ ap (λ ws. builds c free next us ++ stack_steps c ws) none ∙ append-nil (builds c free next us) ∙ ap (λ y. builds c free y us) x in
-    writes_both homes code built new made now later (builds c free (free + compounds us) us) (get_structure (atom_of c (atom_name c name)) (count us) r ∷ parts c free us)
+    writes_both homes code built new made now later (builds c free (free + compounds us) us) (get_structure (atom_of c (atom_name c name)) (term_count us) r ∷ parts c free us)
     (subst (λ ss. Writes homes code made ss built now) inner b) (writes_get c homes built mid new now later name ids n r free valid l k e w)
 
 pub no_works : (c : Contents) (v : ℕ) (ws : List Work) → ws ≡ [] → All (IsWork c v) ws

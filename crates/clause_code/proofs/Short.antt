@@ -2,7 +2,7 @@
 use Rattle.std.proofs.Common.{◌≡◌, ℕ, suc, ◌+◌, ◌-◌, ◌<◌, ◌≤◌, false, List, [], ◌∷◌, ◌++◌, Option, Some, None, IfSome, length, ap, sym, ◌∙◌, subst, arith, append_assoc, append-nil}
 use Rattle.std.proofs.lemmas.Bool.{true≢false}
 use Rattle.std.proofs.lemmas.Option.{slice_get_within}
-use Rattle.fd_language.specs.Term.{Term, Terms, Var, Int, Atom, Comp}
+use Rattle.fd_language.specs.Term.{Term, Terms, Var, Int, Atom, Comp, term_count}
 use Rattle.fd_model.specs.Goal as model
 use Rattle.fd_model.specs.Constraining.{arguments}
 use Rattle.term_pool.specs.declared.TermId.{TermId}
@@ -15,7 +15,7 @@ use Rattle.wam_code.specs.declared.instruction.Register.{Register}
 use Rattle.wam_code.specs.declared.instruction.Register.TheVariants.{X}
 use Rattle.wam_code.specs.declared.instruction.Code.{Code}
 use Rattle.wam_code.specs.declared.instruction.Code.TheVariants.{Execute, Proceed}
-use Rattle.wam_code.specs.Places.{count, made}
+use Rattle.wam_code.specs.Places.{made}
 use Rattle.clause_code.specs.Pieces.{Base, Predicate, past}
 use Rattle.clause_code.specs.Predicates.{Appends, base_in}
 use Rattle.clause_code.specs.Safe.{IsClauseCode}
@@ -78,7 +78,7 @@ module _ (p : FlatProgram) (valid : IsProgram p) (ps : List Predicate) (homes : 
   abbrev known : Known p c
   known = known_of p valid c low
 
-  module _ (k free : ℕ) (housed : IsHoused homes false 0 k free) (few : count ts ≤ k) (waits : AllWait homes 1 (count ts) ts) (start : ℕ) (old new : List Code) where
+  module _ (k free : ℕ) (housed : IsHoused homes false 0 k free) (few : term_count ts ≤ k) (waits : AllWait homes 1 (term_count ts) ts) (start : ℕ) (old new : List Code) where
     abbrev at : ℕ
     at = start + length old
 
@@ -100,7 +100,7 @@ module _ (p : FlatProgram) (valid : IsProgram p) (ps : List Predicate) (homes : 
               (whole_clause b homes false at (clause_in p (clause_at p c)) is [] [] Proceed [] [] (sym long) empty begins (goals_nothing b homes false (past at is)) (tail_proceed b homes false (past at (is ++ [])))),
         )
 
-    call_written : (u : TermId) → IsShortBody p body (Some u) → count (arguments (term_of p.pool u)) ≤ k → AllLand homes 1 (arguments (term_of p.pool u)) → ShortCall p.pool ps homes free (clause_at p c).head u old new → Written
+    call_written : (u : TermId) → IsShortBody p body (Some u) → term_count (arguments (term_of p.pool u)) ≤ k → AllLand homes 1 (arguments (term_of p.pool u)) → ShortCall p.pool ps homes free (clause_at p c).head u old new → Written
     call_written u s fewer lands w =
         let us : Terms = arguments (term_of p.pool u) in
         let g = w.goes in
@@ -132,14 +132,14 @@ module _ (p : FlatProgram) (valid : IsProgram p) (ps : List Predicate) (homes : 
               (subst (λ l. IsClauseCode b at (l ++ ((ks ++ []) ++ (Execute e ∷ []))) (clause_in p (clause_at p c))) (append-nil is) all),
         )
 
-    pub short_written : (goal : Option TermId) → IsShortBody p body goal → IfSome goal (λ u. count (arguments (term_of p.pool u)) ≤ k) → AllLand homes 1 (last_arguments p.pool goal) → IsShort p.pool ps homes free (clause_at p c).head goal old new → Written
+    pub short_written : (goal : Option TermId) → IsShortBody p body goal → IfSome goal (λ u. term_count (arguments (term_of p.pool u)) ≤ k) → AllLand homes 1 (last_arguments p.pool goal) → IsShort p.pool ps homes free (clause_at p c).head goal old new → Written
     short_written None s fewer lands w = fact_written s w
     short_written (Some u) s fewer lands w = call_written u s fewer lands w
 
 -- ---- the arguments of the head and of the goal
 
 -- a head or a goal has not too many arguments
-pub few_arguments : (c : Contents) (v : ℕ) (t : Term) → Suits c v t → count (arguments t) ≤ 255
+pub few_arguments : (c : Contents) (v : ℕ) (t : Term) → Suits c v t → term_count (arguments t) ≤ 255
 few_arguments c v (Var x) s = omega arith
 few_arguments c v (Int z) s = omega arith
 few_arguments c v (Atom a) s = omega arith
@@ -149,7 +149,7 @@ pub goal_suits : (c : Contents) (v : ℕ) (goal : Option TermId) → IfSome goal
 goal_suits c v None o = tt
 goal_suits c v (Some u) o = arguments_suit c v (term_of c u) o.1
 
-pub goal_fewer : (c : Contents) (k : ℕ) (goal : Option TermId) → count (last_arguments c goal) ≤ k → IfSome goal (λ u. count (arguments (term_of c u)) ≤ k)
+pub goal_fewer : (c : Contents) (k : ℕ) (goal : Option TermId) → term_count (last_arguments c goal) ≤ k → IfSome goal (λ u. term_count (arguments (term_of c u)) ≤ k)
 goal_fewer c k None l = tt
 goal_fewer c k (Some u) l = l
 

@@ -5,7 +5,7 @@ use Rattle.fd_language.specs.Lists.{Each}
 use Rattle.fd_language.specs.Occurrences.{Occurrence, range_occurrences}
 use Rattle.fd_language.specs.Needs.{once}
 use Rattle.fd_language.specs.Range.{Range}
-use Rattle.fd_language.specs.Term.{Name, Term, Terms, Var, Int, Atom, Comp, no_terms, term}
+use Rattle.fd_language.specs.Term.{Name, Term, Terms, Var, Int, Atom, Comp, no_terms, term, term_count}
 use Rattle.fd_model.specs.Goal as goal
 use Rattle.fd_model.specs.Constraining.{arguments}
 use Rattle.fd_model.specs.Sound.{GoalBelow, RangeBelow}
@@ -21,7 +21,7 @@ use Rattle.wam_code.specs.declared.instruction.Register.{Register}
 use Rattle.wam_code.specs.declared.instruction.Code.{Code}
 use Rattle.wam_code.specs.declared.instruction.Code.TheVariants.{Call, Builtin, Constrain}
 use Rattle.fd_model.specs.Arities.{constraint_arity, builtin_arity}
-use Rattle.wam_code.specs.Places.{count, made}
+use Rattle.wam_code.specs.Places.{made}
 use Rattle.clause_code.specs.Pieces.{Base, Predicate}
 use Rattle.clause_code.specs.Codable.{IsNarrow, IsCodableGoal}
 use Rattle.clause_code.specs.Predicates.{base_in}
@@ -74,7 +74,7 @@ is_writable p valid v n (flat.Builtin k t) o b c = (o.0, term_suits p.pool valid
 
 -- ---- what it does
 
-same_count : (ts : Terms) → check.count ts ≡ count ts
+same_count : (ts : Terms) → check.count ts ≡ term_count ts
 same_count no_terms = refl
 same_count (term t ts) = ap suc (same_count ts)
 
@@ -82,7 +82,7 @@ same_count (term t ts) = ap suc (same_count ts)
 record Named (k : ℕ) (t : Term) : Type 0 where
   name : Name
   is : made name (arguments t) ≡ t
-  many : count (arguments t) ≡ k
+  many : term_count (arguments t) ≡ k
 
 named : (k : ℕ) (t : Term) → HasArguments k t → IsNarrow t → Named k t
 named k (Var x) h w = absurd h
@@ -105,7 +105,7 @@ module _ (p : FlatProgram) (ps : List Predicate) (homes : List Register) (apart 
   abbrev b : Base
   b = base_in p ps
 
-  fine : (ts : Terms) → AllSuit p.pool (length homes) ts → Fine b homes (suc (count ts)) ts
+  fine : (ts : Terms) → AllSuit p.pool (length homes) ts → Fine b homes (suc (term_count ts)) ts
   fine ts s = record { suit = s; below = omega arith; lands = slots_land homes only 1 ts; clear = λ j l x k e. only x k j e }
 
   pub simple_goal : (n : ℕ) (g : FlatGoal) (is : List Code) → IsGoal p.pool (length p.ranges) n g → IsWritable p (length homes) g → IsCodableGoal (goal_in p g) → IsSimpleCode p ps homes made_now g is → IsGoalsCode b homes true at is (goal_in p g ∷ [])
@@ -115,17 +115,17 @@ module _ (p : FlatProgram) (ps : List Predicate) (homes : List Register) (apart 
       let x : Term = term_of p.pool s in
       let y : Term = term_of p.pool t in
       let ts : Terms = term x (term y no_terms) in
-      subst (λ l. IsGoalsCode b homes true at l (goal.Unify x y ∷ [])) (sym e) (goal_unify b homes apart true made_now (suc (count ts)) at (λ x l. all x) long x y (fine ts (w.0.1, (w.1.1, tt))))
+      subst (λ l. IsGoalsCode b homes true at l (goal.Unify x y ∷ [])) (sym e) (goal_unify b homes apart true made_now (suc (term_count ts)) at (λ x l. all x) long x y (fine ts (w.0.1, (w.1.1, tt))))
   simple_goal n (flat.Post t r) is o w c e =
       let ts : Terms = posted_terms p t r in
       subst (λ l. IsGoalsCode b homes true at l (goal.Post (term_of p.pool t) (range_at p r) ∷ [])) (sym e)
-      (goal_post b homes apart true made_now (suc (count ts)) at (λ x l. all x) long (term_of p.pool t) r w.1 (fine ts (w.0.1, variables_suit p.pool (length homes) (slots_of (range_at p r)) w.2)))
+      (goal_post b homes apart true made_now (suc (term_count ts)) at (λ x l. all x) long (term_of p.pool t) r w.1 (fine ts (w.0.1, variables_suit p.pool (length homes) (slots_of (range_at p r)) w.2)))
   simple_goal n (flat.Constrain k t) is o w c e =
       let u : Term = term_of p.pool t in
       let d = named (constraint_arity k) u o.1 c in
       subst (λ l. IsGoalsCode b homes true at l (goal.Constrain k u ∷ [])) (sym e)
       (subst (λ v. IsGoalsCode b homes true at (loads p.pool homes made_now (arguments u) (Constrain k)) (goal.Constrain k v ∷ [])) d.is
-      (goal_constrain b homes apart true made_now (suc (count (arguments u))) at (λ x l. all x) long k d.name (arguments u) d.many (fine (arguments u) (arguments_suit p.pool (length homes) u w.1))))
+      (goal_constrain b homes apart true made_now (suc (term_count (arguments u))) at (λ x l. all x) long k d.name (arguments u) d.many (fine (arguments u) (arguments_suit p.pool (length homes) u w.1))))
   simple_goal n (flat.Label k t) is o w c e =
       let u : Term = term_of p.pool t in
       subst (λ l. IsGoalsCode b homes true at l (goal.Label k u ∷ [])) (sym e) (goal_label b homes apart true made_now 2 at (λ x l. all x) long k u (fine (term u no_terms) (w.1, tt)))
@@ -134,11 +134,11 @@ module _ (p : FlatProgram) (ps : List Predicate) (homes : List Register) (apart 
       let s : Predicate = e.1 in
       subst (λ l. IsGoalsCode b homes true at l (goal.Call u ∷ [])) (sym e.4)
       (subst (λ v. IsGoalsCode b homes true at (loads p.pool homes made_now (arguments u) (Call e.0)) (goal.Call v ∷ [])) (sym e.3.name)
-      (goal_call b homes apart made_now (suc (count (arguments u))) at (λ x l. all x) long only e.0 s (arguments u) e.2 e.3.arity (slice_get_within ps e.0 s e.2) (fine (arguments u) (arguments_suit p.pool (length homes) u w.1))))
+      (goal_call b homes apart made_now (suc (term_count (arguments u))) at (λ x l. all x) long only e.0 s (arguments u) e.2 e.3.arity (slice_get_within ps e.0 s e.2) (fine (arguments u) (arguments_suit p.pool (length homes) u w.1))))
   simple_goal n (flat.Builtin k t) is o w c e =
       let u : Term = term_of p.pool t in
       let d = named (builtin_arity k) u o.1 c.1 in
       subst (λ l. IsGoalsCode b homes true at l (goal.Builtin k u ∷ [])) (sym e)
       (subst (λ v. IsGoalsCode b homes true at (loads p.pool homes made_now (arguments u) (Builtin k)) (goal.Builtin k v ∷ [])) d.is
-      (goal_builtin b homes apart true made_now (suc (count (arguments u))) at (λ x l. all x) long k d.name (arguments u) c.0 d.many (fine (arguments u) (arguments_suit p.pool (length homes) u w.1))))
+      (goal_builtin b homes apart true made_now (suc (term_count (arguments u))) at (λ x l. all x) long k d.name (arguments u) c.0 d.many (fine (arguments u) (arguments_suit p.pool (length homes) u w.1))))
   simple_goal n (flat.Either x y) is o w c e = absurd e

@@ -1,13 +1,12 @@
 -- Which registers a head's steps and a goal's steps leave as they are.
 use Rattle.std.proofs.Common.{◌≡◌, ℕ, suc, ◌+◌, ◌<◌, ◌≤◌, Bool, true, false, if◌then◌else◌, List, ◌∷◌, ◌++◌, length, slice_set, sym, ◌∙◌, subst, arith, inl, inr}
 use Rattle.std.proofs.lemmas.Bool.{cases_eq}
-use Rattle.fd_language.specs.Term.{Term, Terms, Var, Int, Atom, Comp, no_terms, term}
+use Rattle.fd_language.specs.Term.{Term, Terms, Var, Int, Atom, Comp, no_terms, term, term_count}
 use Rattle.machine_relation.specs.Heap.{Of, AllOf}
 use Rattle.machine_relation.proofs.Lemmas.{more_all}
 use Rattle.term_pool.specs.Contents.{Contents}
 use Rattle.wam_code.specs.declared.instruction.Register.{Register}
 use Rattle.wam_code.specs.declared.instruction.Register.TheVariants.{X}
-use Rattle.wam_code.specs.Places.{count}
 use Rattle.clause_code.specs.Steps.{Step, put_structure, get_structure, home, is_made, marked, marked_by_all, atom_of, compounds, parts, build, builds, get}
 use Rattle.clause_code.specs.ArgumentHomes.{IsOutside, PartsWait, Waits, AllWait, AllLand}
 use Rattle.clause_code.proofs.Making.{Spared, spared_both, made_else}
@@ -75,7 +74,7 @@ module _ (homes : List Register) (c : Contents) (i : ℕ) where
       let inner : List Step = builds c free (free + compounds us) us in
       let mid : List Bool = marked_by_all made others in
       both_spared made others (build c next free (Comp f us)) (builds_spared made (suc next) free ts h.1)
-      (both_spared mid inner (put_structure (atom_of c f) (count us) next ∷ parts c free us) (builds_spared mid free (free + compounds us) us (inner_of Elsewhere us h.0)) (parts_spared (marked_by_all mid inner) free us h.0))
+      (both_spared mid inner (put_structure (atom_of c f) (term_count us) next ∷ parts c free us) (builds_spared mid free (free + compounds us) us (inner_of Elsewhere us h.0)) (parts_spared (marked_by_all mid inner) free us h.0))
 
   parts_elsewhere : (j k : ℕ) → j < i → i ≤ k → (ts : Terms) → PartsWait homes j k ts → AllOf Elsewhere ts
   parts_elsewhere j k l m no_terms h = tt
@@ -92,7 +91,7 @@ module _ (homes : List Register) (c : Contents) (i : ℕ) where
   get_spared made j k free (Comp f us) l m h =
       let inner : List Step = builds c free (free + compounds us) us in
       let o : AllOf Elsewhere us = parts_elsewhere j k l m us h in
-      both_spared made inner (get_structure (atom_of c f) (count us) j ∷ parts c free us) (builds_spared made free (free + compounds us) us (inner_of Elsewhere us o)) (parts_spared (marked_by_all made inner) free us o)
+      both_spared made inner (get_structure (atom_of c f) (term_count us) j ∷ parts c free us) (builds_spared made free (free + compounds us) us (inner_of Elsewhere us o)) (parts_spared (marked_by_all made inner) free us o)
 
 inner_elsewhere : (homes : List Register) (c : Contents) (j k : ℕ) → j ≤ k → (ts : Terms) → PartsWait homes j k ts → InnerOf (Elsewhere homes c j) ts
 inner_elsewhere homes c j k m no_terms h = tt

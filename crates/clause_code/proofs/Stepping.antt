@@ -4,7 +4,7 @@ use Rattle.std.proofs.lemmas.Bool.{true≢false}
 use Rattle.std.proofs.lemmas.Bool.Decides.{nat_tests}
 use Rattle.fd_language.proofs.Lemmas.{first_member}
 use Rattle.fd_language.specs.Family.{has}
-use Rattle.fd_language.specs.Term.{Term, Terms, Var, Int, Atom, Comp, no_terms, term}
+use Rattle.fd_language.specs.Term.{Term, Terms, Var, Int, Atom, Comp, no_terms, term, term_count}
 use Rattle.fd_language.specs.Unifier.{Equation}
 use Rattle.term_pool.specs.declared.AtomId.{AtomId}
 use Rattle.term_pool.specs.Contents.{atom_name}
@@ -14,13 +14,13 @@ use Rattle.wam_code.specs.declared.instruction.Code.{Code}
 use Rattle.wam_code.specs.declared.instruction.Code.TheVariants.{GetVariable, GetValue, GetConstant, GetInteger, UnifyVariable, UnifyValue, UnifyConstant, UnifyInteger, PutVariable, PutValue, PutConstant, PutInteger}
 use Rattle.wam_code.specs.Area.{Slot, State}
 use Rattle.wam_code.specs.Effect.{has_frame, with_cell, is_set, is_free, with_set, with_owed, effect}
-use Rattle.wam_code.specs.Places.{Places, read, write, learn, without, count}
+use Rattle.wam_code.specs.Places.{Places, read, write, learn, without}
 use Rattle.clause_code.specs.Pieces.{Base, Does, Parts}
 use Rattle.clause_code.specs.Safe.{unplaced, IsThereIn}
 use Rattle.clause_code.specs.Flowing.{is_simple}
 use Rattle.clause_code.specs.Steps.{Step, get_variable, unify_variable, put_variable, home, is_made, marked, marked_by_all, is_register, move_in, move_out, code_of, atom_of, compounds, parts, HasAtom, AllSuit}
 use Rattle.clause_code.specs.ArgumentHomes.{Lands}
-use Rattle.clause_code.proofs.Homes.{put_here, put_else}
+use Rattle.wam_code.proofs.Lemmas.{put_here, put_else}
 use Rattle.clause_code.proofs.Pieces.{equation, does_nothing, does_learn, does_get_variable, does_get_value, does_get_constant, does_get_integer, no_parts, part_variable, part_value, part_constant, part_integer, does_put_variable, does_put_value, does_put_constant, does_put_integer}
 use Rattle.clause_code.proofs.Making.{has_more, regs_more, made_here, made_still, Clear, Spared, Grows, clear_spared, AreApart, fits_made, fits_wrote, fits_without, tracks_made, tracks_stays, tracks_set, tracks_owed}
 use Rattle.clause_code.proofs.Going.{when_true, both, plain_of, owing_of, owed_of_set, x_of_written, moved_all, AllMade, At, Keeps, Went, Gave}
@@ -320,33 +320,33 @@ module _ (b : Base) (n : ℕ) (homes : List Register) (apart : AreApart homes) w
           (owing_of b (UnifyVariable (home homes x)) s k o ∙ when_true _ u (w.tracks.free x l e)) refl tt (rest mid q u step)
           (λ v g. part_variable b at (home homes x) (n + x) (code_of homes mid ss) ts p v (w.fits.fresh x l e) g)
 
-  pub parts_gave : (made : List Bool) (at j : ℕ) (ts : Terms) (p : Places) (s : State) → At n homes made p s → AllSuit b.pool (length homes) ts → s.owed ≡ count ts → InRegisters p s j ts → ((i : ℕ) → j ≤ i → Clear homes i)
+  pub parts_gave : (made : List Bool) (at j : ℕ) (ts : Terms) (p : Places) (s : State) → At n homes made p s → AllSuit b.pool (length homes) ts → s.owed ≡ term_count ts → InRegisters p s j ts → ((i : ℕ) → j ≤ i → Clear homes i)
       → Gave b n homes made at (code_of homes made (parts b.pool j ts)) p s (moved_all n ts) (marked_by_all made (parts b.pool j ts))
   parts_gave made at j no_terms p s w o e g c = record { q = p; t = s; parts = no_parts b at p; runs = refl; there = w; owed = e; xs = λ i c. refl; regs = λ i h. h; frame = λ a. refl; shape = refl; more = λ y m h. h }
-  parts_gave made at j (term (Var x) ts) p s w o e g c = variable_part made at x (parts b.pool j ts) (moved_all n ts) p s (count ts) w o.0 e (λ mid q u k.
+  parts_gave made at j (term (Var x) ts) p s w o e g c = variable_part made at x (parts b.pool j ts) (moved_all n ts) p s (term_count ts) w o.0 e (λ mid q u k.
       parts_gave mid (suc at) j ts q u k.there o.1 (k.owed ∙ omega (arith, e)) (registers_kept p q s u j ts (λ i l m. k.xs i (clear_spared homes made mid i (c i l))) k.regs g) c)
   parts_gave made at j (term (Int z) ts) p s w o e g c =
       let u : State = with_owed s (s.owed - 1) in
       let k : Unified made p s made p u = unified_same made p s w in
-      let m : u.owed ≡ count ts = omega (arith, e) in
+      let m : u.owed ≡ term_count ts = omega (arith, e) in
       let is : List Code = code_of homes made (parts b.pool j ts) in
-      behind made made (marked_by_all made (parts b.pool j ts)) at (UnifyInteger z) is (Int z) (moved_all n ts) p p s u k (owing_of b (UnifyInteger z) s (count ts) e) refl tt
+      behind made made (marked_by_all made (parts b.pool j ts)) at (UnifyInteger z) is (Int z) (moved_all n ts) p p s u k (owing_of b (UnifyInteger z) s (term_count ts) e) refl tt
       (parts_gave made (suc at) j ts p u k.there o.1 m (registers_kept p p s u j ts (λ i l m. refl) k.regs g) c)
       (λ v g. part_integer b at z is (moved_all n ts) p v g)
   parts_gave made at j (term (Atom a) ts) p s w o e g c =
       let u : State = with_owed s (s.owed - 1) in
       let k : Unified made p s made p u = unified_same made p s w in
-      let m : u.owed ≡ count ts = omega (arith, e) in
+      let m : u.owed ≡ term_count ts = omega (arith, e) in
       let is : List Code = code_of homes made (parts b.pool j ts) in
       let h : HasAtom b.pool a = o.0 in
-      behind made made (marked_by_all made (parts b.pool j ts)) at (UnifyConstant (atom_of b.pool a)) is (Atom a) (moved_all n ts) p p s u k (owing_of b (UnifyConstant (atom_of b.pool a)) s (count ts) e) refl h.within
+      behind made made (marked_by_all made (parts b.pool j ts)) at (UnifyConstant (atom_of b.pool a)) is (Atom a) (moved_all n ts) p p s u k (owing_of b (UnifyConstant (atom_of b.pool a)) s (term_count ts) e) refl h.within
       (parts_gave made (suc at) j ts p u k.there o.1 m (registers_kept p p s u j ts (λ i l m. refl) k.regs g) c)
       (λ v g. subst (λ x. Parts b at (UnifyConstant (atom_of b.pool a) ∷ is) p (term (Atom x) (moved_all n ts)) v) h.name (part_constant b at (atom_of b.pool a) is (moved_all n ts) p v g))
   parts_gave made at j (term (Comp f us) ts) p s w o e g c =
       let u : State = with_owed s (s.owed - 1) in
       let k : Unified made p s made p u = unified_same made p s w in
-      let m : u.owed ≡ count ts = omega (arith, e) in
+      let m : u.owed ≡ term_count ts = omega (arith, e) in
       let is : List Code = code_of homes made (parts b.pool (suc j) ts) in
-      behind made made (marked_by_all made (parts b.pool (suc j) ts)) at (UnifyValue (X j)) is (Comp f (moved_all n us)) (moved_all n ts) p p s u k (owing_of b (UnifyValue (X j)) s (count ts) e ∙ when_true _ u g.1) refl tt
+      behind made made (marked_by_all made (parts b.pool (suc j) ts)) at (UnifyValue (X j)) is (Comp f (moved_all n us)) (moved_all n ts) p p s u k (owing_of b (UnifyValue (X j)) s (term_count ts) e ∙ when_true _ u g.1) refl tt
       (parts_gave made (suc at) (suc j) ts p u k.there o.1 m (registers_kept p p s u (suc j) ts (λ i l m. refl) k.regs g.2) (λ i l. c i (omega (arith, l))))
       (λ v g'. part_value b at (X j) (Comp f (moved_all n us)) is (moved_all n ts) p v g.0 g')

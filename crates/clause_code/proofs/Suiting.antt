@@ -1,7 +1,7 @@
 -- The terms of a program are such that code can be written for them.
 use Rattle.std.proofs.Common.{◌≡◌, ℕ, zero, suc, ◌<◌, Bool, true, if◌then◌else◌, List, [], ◌∷◌, Some, length, slice_get, slice_set, get_or, refl, ap, sym, ◌∙◌, subst, arith}
 use Rattle.std.proofs.lemmas.Option.{slice_get-get_or}
-use Rattle.fd_language.specs.Term.{Term, Terms, Var, Int, Atom, Comp, no_terms, term}
+use Rattle.fd_language.specs.Term.{Term, Terms, Var, Int, Atom, Comp, no_terms, term, term_count}
 use Rattle.fd_language.specs.Variables.{TermBelow, TermsBelow}
 use Rattle.term_pool.specs.declared.AtomId.{AtomId}
 use Rattle.term_pool.specs.declared.TermId.{TermId}
@@ -10,7 +10,6 @@ use Rattle.term_pool.specs.Terms.{term_of, terms_by, shape_term}
 use Rattle.term_pool.specs.Valid.{IsPool, IsWithin}
 use Rattle.term_pool.proofs.Lemmas.{term_of_entry}
 use Rattle.clause_check.specs.Codable.{arguments_in}
-use Rattle.wam_code.specs.Places.{count}
 use Rattle.clause_code.specs.Codable.{IsNarrow, AreNarrow}
 use Rattle.clause_code.specs.Steps.{Step, get_variable, unify_variable, put_variable, marked, marked_by, marked_by_all, HasAtom, Suits, AllSuit}
 use Rattle.clause_code.specs.Simple.{AreMade}
@@ -49,7 +48,7 @@ named_below c valid (suc n) t l m =
     let there : slice_get c.entries t.number ≡ Some e = slice_get-get_or c.entries t.number d m in
     subst (IsNamed c) (sym (term_of_entry c valid t e there)) (shape_named c valid t.number e.shape (valid.within t.number e there) (λ u k. named_below c valid n u (omega (arith, k, l)) (omega (arith, k, m))))
 
-same_arguments : (ts : Terms) → arguments_in ts ≡ count ts
+same_arguments : (ts : Terms) → arguments_in ts ≡ term_count ts
 same_arguments no_terms = refl
 same_arguments (term t ts) = ap suc (same_arguments ts)
 

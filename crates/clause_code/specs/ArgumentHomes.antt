@@ -1,13 +1,12 @@
 -- Variables that stay in argument registers: which homes suit a head, and which suit a goal.
 use Rattle.std.specs.Prelude.{◌≡◌, ◌⊎◌, ℕ, zero, suc, ◌+◌, ◌<◌, ◌≤◌, List, [], ◌∷◌, ◌++◌, Option, Some, None, All, length, slice_set}
-use Rattle.fd_language.specs.Term.{Term, Terms, Var, Int, Atom, Comp, no_terms, term}
+use Rattle.fd_language.specs.Term.{Term, Terms, Var, Int, Atom, Comp, no_terms, term, term_count}
 use Rattle.machine_relation.specs.Heap.{AllOf}
 use Rattle.term_pool.specs.declared.TermId.{TermId}
 use Rattle.term_pool.specs.Contents.{Contents}
 use Rattle.term_pool.specs.Terms.{term_of, terms_by, total_size}
 use Rattle.wam_code.specs.declared.instruction.Register.{Register}
 use Rattle.wam_code.specs.declared.instruction.Register.TheVariants.{X}
-use Rattle.wam_code.specs.Places.{count}
 use Rattle.clause_code.specs.Simple.{IsOwn}
 use Rattle.clause_code.specs.Steps.{home}
 
@@ -84,5 +83,5 @@ pub record Leaves (c : Contents) (t : TermId) (least last first : ℕ) (homes : 
 pub record AreHomes (homes : List Register) (free : ℕ) (ts us : Terms) : Type 0 where
   pub apart : (x y : ℕ) → x < length homes → y < length homes → home homes x ≡ home homes y → x ≡ y
   pub registers : (x : ℕ) → x < length homes → (i : ℕ) × (home homes x ≡ X i) × (i < free)
-  pub waits : AllWait homes 1 (count ts) ts
+  pub waits : AllWait homes 1 (term_count ts) ts
   pub lands : AllLand homes 1 us

@@ -1,6 +1,6 @@
 -- The predicates that a program names, each with its number.
 use Rattle.std.specs.Prelude.{◌≡◌, ℕ, ◌<◌, ◌≤◌, List, ◌++◌, length, Some, slice_get, slice_index_or}
-use Rattle.fd_language.specs.Term.{Term}
+use Rattle.fd_language.specs.Term.{Term, term_count}
 use Rattle.fd_model.specs.Constraining.{arguments}
 use Rattle.term_pool.specs.declared.TermId.{TermId}
 use Rattle.term_pool.specs.Contents.{Contents, atom_name}
@@ -8,14 +8,14 @@ use Rattle.term_pool.specs.Terms.{term_of}
 use Rattle.clause_check.specs.declared.program.FlatGoal.TheVariants.{Call}
 use Rattle.clause_check.specs.Programs.{FlatProgram, clause_at, goal_at}
 use Rattle.wam_code.specs.declared.instruction.Code.{Code}
-use Rattle.wam_code.specs.Places.{count, made}
+use Rattle.wam_code.specs.Places.{made}
 use Rattle.clause_code.specs.Pieces.{Base, Predicate}
 use Rattle.clause_code.specs.declared.predicates.Functor.{Functor}
 
 -- the term is a goal or a head of the predicate
 pub record IsOf (c : Contents) (t : Term) (s : Predicate) : Type 0 where
   pub name : t ≡ made (atom_name c s.name) (arguments t)
-  pub arity : count (arguments t) ≡ s.arity
+  pub arity : term_count (arguments t) ≡ s.arity
 
 -- and of one of these
 abbrev pub IsOfOne : Contents → List Predicate → Term → Type 0

@@ -11,7 +11,8 @@ use Rattle.wam_code.specs.declared.parts.Entry.{Entry}
 use Rattle.wam_code.specs.Area.{Area, State}
 use Rattle.wam_code.specs.Effect.{slot_at, is_cell, effect}
 use Rattle.wam_code.specs.VerifiedCode.{goes_on, Covers, IsFirst}
-use Rattle.wam_code.specs.Places.{Places, count}
+use Rattle.fd_language.specs.Term.{term_count}
+use Rattle.wam_code.specs.Places.{Places}
 use Rattle.wam_code.specs.Means.{Means}
 use Rattle.wam_code.specs.Tries.{IsBefore, IsClause}
 use Rattle.clause_code.specs.Pieces.{Base, base_of, Stand}
@@ -82,7 +83,7 @@ may_enter i = is_plain i
 pub record IsClauseCode (b : Base) (at : ℕ) (is : List Code) (c : Clause) : Type 0 where
   pub first : State
   pub states : List State
-  pub begins : IsFirst (count (arguments c.head)) first
+  pub begins : IsFirst (term_count (arguments c.head)) first
   pub safe : IsSafePiece b at is states first
   pub enters : (i : Code) → slice_get is 0 ≡ Some i → IsTrue (may_enter i)
   pub no_answer : (n : ℕ) → slice_get is n ≡ Some AnswerNow → ⊥

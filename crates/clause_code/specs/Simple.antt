@@ -1,6 +1,6 @@
 -- The code of a goal that is no A ; B.
 use Rattle.std.specs.Prelude.{◌≡◌, ℕ, suc, ◌<◌, Bool, true, List, [], ◌∷◌, ◌++◌, Some, length, slice_get, All}
-use Rattle.fd_language.specs.Term.{Terms, Var, no_terms, term}
+use Rattle.fd_language.specs.Term.{Terms, Var, no_terms, term, term_count}
 use Rattle.fd_model.specs.declared.kinds.BuiltinKind.TheVariants as kind
 use Rattle.fd_model.specs.Constraining.{arguments}
 use Rattle.range_code.specs.Slots.{slots_of}
@@ -13,7 +13,6 @@ use Rattle.clause_check.specs.Programs.{FlatProgram, range_at}
 use Rattle.wam_code.specs.declared.instruction.Register.{Register}
 use Rattle.wam_code.specs.declared.instruction.Code.{Code}
 use Rattle.wam_code.specs.declared.instruction.Code.TheVariants.{Call, Builtin, Constrain, Label, PostRange, Either}
-use Rattle.wam_code.specs.Places.{count}
 use Rattle.clause_code.specs.Pieces.{Predicate}
 use Rattle.clause_code.specs.Predicates.{IsOf, IsNumberOf}
 use Rattle.clause_code.specs.Steps.{is_made, code_of, puts, Suits}
@@ -29,7 +28,7 @@ AreMade made = (x : ℕ) → is_made made x ≡ true
 
 -- the arguments into the first registers, and then one instruction
 abbrev pub loads : Contents → List Register → List Bool → Terms → Code → List Code
-loads c homes made ts i = code_of homes made (puts c 1 (suc (count ts)) ts) ++ (i ∷ [])
+loads c homes made ts i = code_of homes made (puts c 1 (suc (term_count ts)) ts) ++ (i ∷ [])
 
 -- the target of a range, and the range's variables by their slots
 abbrev pub posted_terms : FlatProgram → TermId → ℕ → Terms

@@ -1,14 +1,13 @@
 -- What the code of a clause does for its terms, step by step. A variable's first step makes it, in its home.
 use Rattle.std.specs.Prelude.{◌≡◌, ℕ, zero, suc, ℤ, ◌+◌, ◌<◌, ◌≤◌, ◌==◌, Bool, true, false, if◌then◌else◌, List, [], ◌∷◌, ◌++◌, length, slice_index_or, slice_set}
 use Rattle.std.specs.Str.{bytes_eq}
-use Rattle.fd_language.specs.Term.{Name, Term, Terms, Var, Int, Atom, Comp, no_terms, term}
+use Rattle.fd_language.specs.Term.{Name, Term, Terms, Var, Int, Atom, Comp, no_terms, term, term_count}
 use Rattle.term_pool.specs.declared.AtomId.{AtomId}
 use Rattle.term_pool.specs.Contents.{Contents, atom_name}
 use Rattle.wam_code.specs.declared.instruction.Register.{Register}
 use Rattle.wam_code.specs.declared.instruction.Register.TheVariants.{X, Y}
 use Rattle.wam_code.specs.declared.instruction.Code.{Code}
 use Rattle.wam_code.specs.declared.instruction.Code.TheVariants.{GetVariable, GetValue, GetConstant, GetInteger, GetStructure, UnifyVariable, UnifyValue, UnifyConstant, UnifyInteger, PutVariable, PutValue, PutConstant, PutInteger, PutStructure}
-use Rattle.wam_code.specs.Places.{count}
 
 -- ---- steps
 
@@ -121,7 +120,7 @@ abbrev mutual
   build c r free (Var x) = []
   build c r free (Int z) = []
   build c r free (Atom a) = []
-  build c r free (Comp f us) = builds c free (free + compounds us) us ++ (put_structure (atom_of c f) (count us) r ∷ parts c free us)
+  build c r free (Comp f us) = builds c free (free + compounds us) us ++ (put_structure (atom_of c f) (term_count us) r ∷ parts c free us)
 
   -- the compound ones of the terms into the registers from next on, the last one first
   pub builds : Contents → ℕ → ℕ → Terms → List Step
@@ -148,7 +147,7 @@ abbrev pub get : Contents → ℕ → ℕ → Term → List Step
 get c i free (Var x) = get_variable x i ∷ []
 get c i free (Int z) = get_integer z i ∷ []
 get c i free (Atom a) = get_constant (atom_of c a) i ∷ []
-get c i free (Comp f us) = builds c free (free + compounds us) us ++ (get_structure (atom_of c f) (count us) i ∷ parts c free us)
+get c i free (Comp f us) = builds c free (free + compounds us) us ++ (get_structure (atom_of c f) (term_count us) i ∷ parts c free us)
 
 -- the arguments of a head, from the register i on
 abbrev pub gets : Contents → ℕ → ℕ → Terms → List Step
@@ -166,7 +165,7 @@ abbrev mutual
   Suits c v (Var x) = x < v
   Suits c v (Int z) = Unit {0}
   Suits c v (Atom a) = HasAtom c a
-  Suits c v (Comp f ts) = HasAtom c f × (1 ≤ count ts) × (count ts ≤ 255) × AllSuit c v ts
+  Suits c v (Comp f ts) = HasAtom c f × (1 ≤ term_count ts) × (term_count ts ≤ 255) × AllSuit c v ts
 
   pub AllSuit : Contents → ℕ → Terms → Type 0
   AllSuit c v no_terms = Unit {0}

@@ -1,13 +1,12 @@
 -- The parts of a clause's code beside its goals.
 use Rattle.std.specs.Prelude.{◌≡◌, ℕ, suc, ◌<◌, ◌≤◌, Bool, true, false, List, [], ◌∷◌, ◌++◌, length, replicate}
-use Rattle.fd_language.specs.Term.{Term, Terms}
+use Rattle.fd_language.specs.Term.{Term, Terms, term_count}
 use Rattle.fd_model.specs.Constraining.{arguments}
 use Rattle.term_pool.specs.Contents.{Contents}
 use Rattle.wam_code.specs.declared.instruction.Register.{Register}
 use Rattle.wam_code.specs.declared.instruction.Register.TheVariants.{X, Y}
 use Rattle.wam_code.specs.declared.instruction.Code.{Code}
 use Rattle.wam_code.specs.declared.instruction.Code.TheVariants.{Allocate, Deallocate, Execute}
-use Rattle.wam_code.specs.Places.{count}
 use Rattle.term_pool.specs.declared.TermId.{TermId}
 use Rattle.term_pool.specs.Terms.{term_of}
 use Rattle.clause_code.specs.Pieces.{Predicate}
@@ -52,10 +51,10 @@ pub record AreSlots (homes : List Register) : Type 0 where
 
 -- a frame, and the head t
 abbrev pub begin_code : Contents → List Register → ℕ → Term → List Code
-begin_code c homes slots t = front true slots ++ head_code c homes (suc (count (arguments t))) (arguments t)
+begin_code c homes slots t = front true slots ++ head_code c homes (suc (term_count (arguments t))) (arguments t)
 
 -- the arguments of a last user goal, the end of the frame, and what goes on at the goal's predicate
 pub record Executes (c : Contents) (ps : List Predicate) (homes : List Register) (made : List Bool) (t : TermId) (old new : List Code) : Type 0 where
   pub number : ℕ
   pub of : IsNumberOf c ps (term_of c t) number
-  pub code : new ≡ old ++ ((code_of homes made (puts c 1 (suc (count (arguments (term_of c t)))) (arguments (term_of c t))) ++ back true) ++ (Execute number ∷ []))
+  pub code : new ≡ old ++ ((code_of homes made (puts c 1 (suc (term_count (arguments (term_of c t)))) (arguments (term_of c t))) ++ back true) ++ (Execute number ∷ []))

@@ -1,12 +1,11 @@
 -- What is written, and what is still to be built.
 use Rattle.std.specs.Prelude.{◌≡◌, ℕ, ◌+◌, ◌<◌, ◌≤◌, Bool, List, [], ◌∷◌, ◌++◌, length, All}
-use Rattle.fd_language.specs.Term.{Term, Var, Int, Atom, Comp}
+use Rattle.fd_language.specs.Term.{Term, Var, Int, Atom, Comp, term_count}
 use Rattle.term_pool.specs.declared.TermId.{TermId}
 use Rattle.term_pool.specs.Contents.{Contents}
 use Rattle.term_pool.specs.Terms.{term_of, terms_by, size, sizes}
 use Rattle.wam_code.specs.declared.instruction.Register.{Register}
 use Rattle.wam_code.specs.declared.instruction.Code.{Code}
-use Rattle.wam_code.specs.Places.{count}
 use Rattle.clause_code.specs.declared.terms.Work.{Work}
 use Rattle.clause_code.specs.declared.terms.Work.TheVariants.{Build, Close}
 use Rattle.clause_code.specs.Steps.{Step, put_structure, marked_by_all, code_of, atom_of, parts, build, builds, Suits, AllSuit}
@@ -21,7 +20,7 @@ abbrev pub closing : Contents → ℕ → ℕ → Term → List Step
 closing c r free (Var x) = []
 closing c r free (Int z) = []
 closing c r free (Atom a) = []
-closing c r free (Comp f us) = put_structure (atom_of c f) (count us) r ∷ parts c free us
+closing c r free (Comp f us) = put_structure (atom_of c f) (term_count us) r ∷ parts c free us
 
 abbrev pub work_steps : Contents → Work → List Step
 work_steps c (Build t r free) = build c r free (term_of c t)

@@ -2,7 +2,7 @@
 ghost use Rattle.std.specs.Prelude.{◌≡◌, suc, ◌<◌, ◌≤◌, [], ◌++◌, length, All, OnOk};
 ghost use Rattle.fd_model.specs.Constraining.{arguments};
 ghost use Rattle.term_pool.specs.Terms.{term_of, terms_by};
-ghost use Rattle.wam_code.specs.Places.{count};
+ghost use Rattle.fd_language.specs.Term.{term_count};
 ghost use Rattle.clause_code.specs.Simple.{AreMade, IsOwn};
 ghost use Rattle.clause_code.specs.Steps.{AllSuit};
 ghost use Rattle.clause_code.specs.Whole.{begin_code, head_code, unmade};
@@ -53,7 +53,7 @@ pub(crate) fn read_arguments(
     requires made { made.old.items ≡ unmade homes.now }
     requires works { works.old.items ≡ [] }
     ensures code { OnOk result (code.new.items ≡ code.old.items
-        ++ head_code pool.now homes.now (suc (count (terms_by (term_of pool.now) ids.now)))
+        ++ head_code pool.now homes.now (suc (term_count (terms_by (term_of pool.now) ids.now)))
         (terms_by (term_of pool.now) ids.now)) }
     ensures made { OnOk result (AreMade made.new.items) }
     ensures long { OnOk result (length made.new.items ≡ length homes.now) }

@@ -12,7 +12,7 @@ use Rattle.fd_model.specs.Goal.{Clause, Query, Program}
 use Rattle.fd_model.specs.Children.{fits_head}
 use Rattle.term_pool.specs.Contents.{atom_name, shape_at}
 use Rattle.term_pool.specs.Terms.{term_of}
-use Rattle.fd_language.specs.Term.{Terms}
+use Rattle.fd_language.specs.Term.{Terms, term_count}
 use Rattle.clause_check.specs.Codable.{IsNarrow}
 use Rattle.clause_check.specs.Programs.{FlatProgram, clause_at, query_at, clause_in, query_in, program_in, no_clause, no_query, IsProgram}
 use Rattle.wam_code.specs.declared.instruction.Code.{Code}
@@ -21,7 +21,7 @@ use Rattle.wam_code.specs.declared.parts.Entry.{Entry}
 use Rattle.wam_code.specs.Area.{Area, Span, Table, Holds, HasEntry, HasQuery, name_of}
 use Rattle.wam_code.specs.Keys.{Rises, HasRisingTables}
 use Rattle.wam_code.specs.VerifiedCode.{IsAtom, IsKey}
-use Rattle.wam_code.specs.Places.{count, made}
+use Rattle.wam_code.specs.Places.{made}
 use Rattle.wam_code.specs.Tries.{ClashFirst, IsNeedless, Thinned, Tries, IsPredicate}
 use Rattle.clause_code.specs.Pieces.{Predicate, predicate_of, base_of, Stand}
 use Rattle.clause_code.specs.Predicates.{ArePredicates, base_in, predicate_at, no_predicate}
@@ -402,9 +402,9 @@ module _ (p : FlatProgram) (v : IsProgram p) (ps : List Predicate) (w : ArePredi
   whole_long = hq.code ∙ ap (λ l. l ++ joined hq.pieces) hl.code ∙ append_assoc raw (joined hl.pieces) (joined hq.pieces)
 
   -- the choices name clauses that are there
-  pub raw_numbered : (count many : ℕ) → count ≡ length raw → many ≡ length places → All (IsNumbered many) (take count whole)
-  raw_numbered count many e f k d l =
-      let is : take count whole ≡ raw = ap₂ take e whole_long ∙ take-append_seam raw (joined hl.pieces ++ joined hq.pieces) in
+  pub raw_numbered : (term_count many : ℕ) → term_count ≡ length raw → many ≡ length places → All (IsNumbered many) (take term_count whole)
+  raw_numbered term_count many e f k d l =
+      let is : take term_count whole ≡ raw = ap₂ take e whole_long ∙ take-append_seam raw (joined hl.pieces ++ joined hq.pieces) in
       let inside : k < length raw = subst (λ x. k < length x) is l in
       let i = get_there raw k inside in
       let code : raw ≡ joined hc.pieces = hc.code ∙ ap (λ l. l ++ joined hc.pieces) none in
@@ -413,9 +413,9 @@ module _ (p : FlatProgram) (v : IsProgram p) (ps : List Predicate) (w : ArePredi
       let one : IsNumbered many i.0 = choices_numbered p tables many (numbers_of p (length p.clauses) pred) pred.arity (length start + offset hc.pieces g.list) g.elements (λ j n h. let a = is_number p (length p.clauses) j n pred h in let b = a.0 in let s = hl.size in omega (arith, b, s, f)) (hc.piece g.list g.elements g.at_list) g.index i.0 g.at_index in
       subst (IsNumbered many) (sym (ap (λ x. get_or x k d) is ∙ get_or_from_slice_get raw k i.0 d i.1)) one
 
-  pub laid_out_as : (code' : List Code) (ranges : List Range) (count : ℕ) (placed : List ℕ) → count ≡ length raw → placed ≡ places → code' ≡ map (placed_code placed) (take count whole) ++ drop count whole → ranges ≡ p.ranges
+  pub laid_out_as : (code' : List Code) (ranges : List Range) (term_count : ℕ) (placed : List ℕ) → term_count ≡ length raw → placed ≡ places → code' ≡ map (placed_code placed) (take term_count whole) ++ drop term_count whole → ranges ≡ p.ranges
       → IsLaidOut (record { pool = p.pool; code = code'; tables = tables; ranges = ranges; entries = entries; queries = spans }) (program_in p)
-  laid_out_as code' ranges count placed e f g h =
+  laid_out_as code' ranges term_count placed e f g h =
       let own = subst (λ s. ArePut (its_entry ps) (IsChoiceOf p tables ps) (length ps) s raw entries) none hc in
       let is : code' ≡ map (placed_code places) (take (length raw) whole) ++ drop (length raw) whole = g ∙ ap (λ n. map (placed_code placed) (take n whole) ++ drop n whole) e ∙ ap (λ q. map (placed_code q) (take (length raw) whole) ++ drop (length raw) whole) f in
       subst (λ c. IsLaidOut (record { pool = p.pool; code = c; tables = tables; ranges = ranges; entries = entries; queries = spans }) (program_in p)) (sym is)

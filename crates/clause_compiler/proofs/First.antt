@@ -1,6 +1,5 @@
 -- The state in which a predicate begins.
 use Rattle.std.proofs.Common.{◌≡◌, ◌≢◌, ℕ, zero, suc, ◌≤◌, Bool, true, false, ◌||◌, ◌==◌, IsTrue, List, Some, refl, ap, sym, inl, inr, ◌⊎◌, arith}
-use Rattle.std.proofs.lemmas.Bool.{true≢false}
 use Rattle.std.proofs.lemmas.Bool.Decides.{nat_tests}
 use Rattle.clause_compiler.proofs.Lists.{never}
 use Rattle.fd_language.specs.Family.{has}

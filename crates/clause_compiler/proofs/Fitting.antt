@@ -6,7 +6,7 @@ use Rattle.std.proofs.lemmas.Bool.Decides.{nat_tests}
 use Rattle.std.proofs.lemmas.Slice.Eq.{bytes_eq-Decides}
 use Rattle.std.proofs.lemmas.List.FromFn.{get_or-range_with_len, length-range_with_len}
 use Rattle.std.proofs.lemmas.Option.{slice_get-get_or, get_or_from_slice_get}
-use Rattle.fd_language.specs.Term.{Term, Terms, Atom, Comp, no_terms, term}
+use Rattle.fd_language.specs.Term.{Term, Terms, Atom, Comp, no_terms, term, term_count}
 use Rattle.fd_model.specs.Children.{same_count, fits_head}
 use Rattle.fd_model.specs.Constraining.{arguments}
 use Rattle.term_pool.specs.declared.AtomId.{AtomId}
@@ -16,7 +16,7 @@ use Rattle.term_pool.specs.Terms.{term_of, shape_term, terms_by}
 use Rattle.term_pool.specs.Valid.{IsPool, IsWithin}
 use Rattle.term_pool.proofs.Lemmas.{term_of_shape}
 use Rattle.clause_check.specs.Programs.{FlatProgram, clause_at, no_clause, IsProgram}
-use Rattle.wam_code.specs.Places.{count, made}
+use Rattle.wam_code.specs.Places.{made}
 use Rattle.clause_code.specs.Pieces.{Predicate}
 use Rattle.clause_code.specs.Predicates.{ArePredicates}
 use Rattle.clause_compiler.specs.Groups.{shape_predicate, some_predicate, head_predicate, is_predicate, numbers_of}
@@ -59,7 +59,7 @@ module _ (c : Contents) (v : IsPool c) where
           absurd (true≢false (sym ((bytes_eq-Decides (atom_name c a) (atom_name c b)).1 (ap (λ (m : ℕ). atom_name c (record { number = m })) n)) ∙ p))
       by false false p q = refl
 
-  same_counts : (ts : Terms) (part : TermId → Term) (us : List TermId) → same_count ts (terms_by part us) ≡ (count ts == length us)
+  same_counts : (ts : Terms) (part : TermId → Term) (us : List TermId) → same_count ts (terms_by part us) ≡ (term_count ts == length us)
   same_counts no_terms part [] = refl
   same_counts no_terms part (u ∷ us) = grind (arith, nat_tests)
   same_counts (term t ts) part [] = grind (arith, nat_tests)
@@ -76,7 +76,7 @@ module _ (c : Contents) (v : IsPool c) where
   IsFull (atom a) = Unit {0}
   IsFull (comp f us) = 0 < length us
 
-  fits_shape : (s : Predicate) (ts : Terms) → s.name.number < length c.names → count ts ≡ s.arity → (m : ℕ) (r : Shape) → IsWithin (length c.names) m r → IsFull r → fits_head (made (atom_name c s.name) ts) (shape_term c r) ≡ is_predicate s (shape_predicate r)
+  fits_shape : (s : Predicate) (ts : Terms) → s.name.number < length c.names → term_count ts ≡ s.arity → (m : ℕ) (r : Shape) → IsWithin (length c.names) m r → IsFull r → fits_head (made (atom_name c s.name) ts) (shape_term c r) ≡ is_predicate s (shape_predicate r)
   unfolding IsFull
   fits_shape s no_terms h size m (var x) w full = refl
   fits_shape s (term t ts) h size m (var x) w full = refl
@@ -87,11 +87,11 @@ module _ (c : Contents) (v : IsPool c) where
   fits_shape s no_terms h size m (comp g us) w full = sym (and_right (s.name.number == g.number) (s.arity == length us) (grind (arith, nat_tests)))
   fits_shape s (term t ts) h size m (comp g us) w full = ap₂ (λ (x y : Bool). x && y) (same_names s.name g h w.0) (same_counts (term t ts) (term_of c) us ∙ ap (λ n. n == length us) size)
 
-  counted : (part : TermId → Term) (us : List TermId) → count (terms_by part us) ≡ length us
+  counted : (part : TermId → Term) (us : List TermId) → term_count (terms_by part us) ≡ length us
   counted part [] = refl
   counted part (u ∷ us) = ap suc (counted part us)
 
-  shape_arity : (s : Predicate) (r : Shape) → is_predicate s (shape_predicate r) ≡ true → count (arguments (shape_term c r)) ≡ s.arity
+  shape_arity : (s : Predicate) (r : Shape) → is_predicate s (shape_predicate r) ≡ true → term_count (arguments (shape_term c r)) ≡ s.arity
   shape_arity s (var x) e = never e
   shape_arity s (int z) e = never e
   shape_arity s (atom a) e = sym (eqb-true s.arity 0 (and_parts (s.name.number == a.number) (s.arity == 0) e).1)
@@ -124,14 +124,14 @@ module _ (p : FlatProgram) (v : IsProgram p) (ps : List Predicate) (q : ArePredi
   is_shape = ap (λ o. some_predicate (option_map (λ (e : Entry). e.shape) o)) the_head.1
 
   -- A goal of the predicate fits the heads of the predicate's clauses, and no others.
-  pub fits_predicate : (s : Predicate) (ts : Terms) → s.name.number < length p.pool.names → count ts ≡ s.arity → fits_head (made (atom_name p.pool s.name) ts) (term_of p.pool (clause_at p n).head) ≡ is_predicate s (head_predicate p n)
+  pub fits_predicate : (s : Predicate) (ts : Terms) → s.name.number < length p.pool.names → term_count ts ≡ s.arity → fits_head (made (atom_name p.pool s.name) ts) (term_of p.pool (clause_at p n).head) ≡ is_predicate s (head_predicate p n)
   fits_predicate s ts h size =
       ap (fits_head (made (atom_name p.pool s.name) ts)) is_term
       ∙ fits_shape p.pool v.pool s ts h size ((clause_at p n).head).number (the_head.0).shape (v.pool.within ((clause_at p n).head).number the_head.0 the_head.1) (full_head (the_head.0).shape is_term)
       ∙ ap (is_predicate s) (sym is_shape)
 
-  pub head_arity : (s : Predicate) → is_predicate s (head_predicate p n) ≡ true → count (arguments (term_of p.pool (clause_at p n).head)) ≡ s.arity
-  head_arity s e = ap (λ t. count (arguments t)) is_term ∙ shape_arity p.pool v.pool s (the_head.0).shape (ap (is_predicate s) (sym is_shape) ∙ e)
+  pub head_arity : (s : Predicate) → is_predicate s (head_predicate p n) ≡ true → term_count (arguments (term_of p.pool (clause_at p n).head)) ≡ s.arity
+  head_arity s e = ap (λ t. term_count (arguments t)) is_term ∙ shape_arity p.pool v.pool s (the_head.0).shape (ap (is_predicate s) (sym is_shape) ∙ e)
 
   -- The head is a term of this shape.
   pub head_shape : (r : Shape) × (shape_at p.pool (clause_at p n).head ≡ Some r) × (term_of p.pool (clause_at p n).head ≡ shape_term p.pool r)

@@ -80,8 +80,8 @@ module _ (p : FlatProgram) (ps : List Predicate) (n : ℕ) where
               test false i = refl
 
 -- ---- as vectors
-pub no_groups : (p : FlatProgram) (ps : List Predicate) (gs : List (List ℕ)) (n : ℕ) → n < length ps → gs ≡ map (numbers_of p 0) (take n ps) → gs ++ [] ∷ [] ≡ map (numbers_of p 0) (take (n + 1) ps)
-no_groups p ps gs n l e =
+pub no_groups : (ps : List Predicate) (gs : List (List ℕ)) (n : ℕ) → n < length ps → gs ≡ map (λ s. []) (take n ps) → gs ++ [] ∷ [] ≡ map (λ s. []) (take (n + 1) ps)
+no_groups ps gs n l e =
     let s : Predicate = record { name = record { number = 0 }; arity = 0 } in
-    let more = take_more ps n s l in
-    ap (λ xs. xs ++ [] ∷ []) e ∙ sym (ap (map (numbers_of p 0)) more ∙ map_push (numbers_of p 0) (take n ps) (get_or ps n s))
+    let none : Predicate → List ℕ = λ s. [] in
+    ap (λ xs. xs ++ [] ∷ []) e ∙ sym (ap (map none) (take_more ps n s l) ∙ map_push none (take n ps) (get_or ps n s))

@@ -1,6 +1,5 @@
 -- First arguments that clash with what a key shows.
 use Rattle.std.proofs.Common.{◌≡◌, ℕ, ℤ, Bool, true, false, leb, if◌then◌else◌, [], ◌∷◌, length, Option, Some, None, refl, sym, ◌∙◌, subst}
-use Rattle.std.proofs.lemmas.Bool.{true≢false}
 use Rattle.clause_compiler.proofs.Lists.{no}
 use Rattle.fd_language.specs.Term.{Name}
 use Rattle.fd_model.specs.Constraining.{arguments}

@@ -1,7 +1,5 @@
 -- A list of places is safe as the choices of a predicate.
-use Rattle.std.proofs.Common.{◌≡◌, ℕ, zero, suc, ◌+◌, map, Bool, true, false, ◌||◌, ◌==◌, IsTrue, List, [], ◌∷◌, Some, slice_get, refl, sym, subst, inl, inr, arith}
-use Rattle.std.proofs.lemmas.Bool.{true≢false}
-use Rattle.std.proofs.lemmas.Bool.Decides.{nat_tests}
+use Rattle.std.proofs.Common.{◌≡◌, ℕ, zero, suc, ◌+◌, map, IsTrue, List, [], ◌∷◌, Some, slice_get, refl, sym, subst, inl, inr, arith}
 use Rattle.clause_code.proofs.Lemmas.{one_aim}
 use Rattle.clause_compiler.proofs.Lists.{never}
 use Rattle.fd_language.specs.Family.{has}

@@ -4,7 +4,7 @@ use Rattle.std.specs.List.{list_any, list_all}
 use Rattle.std.proofs.lemmas.Bool.{and_parts}
 use Rattle.std.proofs.lemmas.Bool.Decides.{nat_tests}
 use Rattle.std.proofs.lemmas.Slice.Eq.{bytes_eq-Decides}
-use Rattle.fd_language.specs.Term.{Name, Term, Terms, no_terms, term}
+use Rattle.fd_language.specs.Term.{Name, Term, Terms, no_terms, term, term_count}
 use Rattle.fd_model.specs.Goal.{Clause}
 use Rattle.fd_model.specs.Children.{same_count, fits_head}
 use Rattle.fd_model.specs.Constraining.{arguments}
@@ -15,7 +15,7 @@ use Rattle.term_pool.specs.Valid.{IsPool}
 use Rattle.term_pool.proofs.Lemmas.{term_of_shape, shape_within}
 use Rattle.clause_check.specs.Codable.{IsNarrow, ClausesCodable, arguments_in}
 use Rattle.clause_check.specs.Programs.{FlatProgram}
-use Rattle.wam_code.specs.Places.{count, made}
+use Rattle.wam_code.specs.Places.{made}
 use Rattle.wam_code.specs.declared.instruction.Key.{Key}
 use Rattle.wam_code.specs.declared.instruction.Key.TheVariants as key
 use Rattle.clause_compiler.specs.declared.tables.Label.{Label}
@@ -61,7 +61,7 @@ made_arguments n no_terms = refl
 made_arguments n (term t ts) = refl
 
 -- What shows a kind is there.
-pub shown_some : (ts : Terms) → ShowsKind ts → 1 ≤ count ts
+pub shown_some : (ts : Terms) → ShowsKind ts → 1 ≤ term_count ts
 shown_some no_terms h = absurd h
 shown_some (term t ts) h = omega arith
 

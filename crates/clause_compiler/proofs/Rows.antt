@@ -1,13 +1,9 @@
 -- Rows of a table: the first one whose key is a shape, and the terms that clash with it.
-use Rattle.std.proofs.Common.{◌≡◌, ◌⊎◌, ℕ, ℤ, zero, suc, ◌<◌, Bool, true, false, not, ◌||◌, ◌==◌, leb, if◌then◌else◌, IsTrue, List, [], ◌∷◌, option_map, Option, Some, None, length, slice_get, refl, ap, ap₂, sym, ◌∙◌, subst, inl, inr, bytes_eq}
-use Rattle.std.proofs.lemmas.Bool.{true≢false, eqb-true, cases_eq, not-false}
-use Rattle.std.proofs.lemmas.Bool.Decides.{Decides-int_eq}
-use Rattle.std.proofs.lemmas.Slice.Eq.{bytes_eq-Decides}
-use Rattle.std.specs.Ordering.{int_eq}
+use Rattle.std.proofs.Common.{◌≡◌, ◌⊎◌, ℕ, zero, suc, ◌<◌, Bool, true, false, not, ◌||◌, ◌==◌, leb, if◌then◌else◌, IsTrue, List, [], ◌∷◌, option_map, Option, Some, None, length, slice_get, refl, ap, ap₂, sym, ◌∙◌, subst, inl, inr}
+use Rattle.std.proofs.lemmas.Bool.{eqb-true, cases_eq, not-false}
 use Rattle.fd_language.proofs.Lemmas.{decide_name, decide_int}
 use Rattle.clause_compiler.proofs.Lists.{never, no}
 use Rattle.fd_language.specs.Family.{has}
-use Rattle.fd_language.specs.Term.{Name}
 use Rattle.fd_model.specs.Goal.{Clause}
 use Rattle.term_pool.specs.declared.TermId.{TermId}
 use Rattle.term_pool.specs.Contents.{Entry, Shape, var, int, atom, comp, shape_at}

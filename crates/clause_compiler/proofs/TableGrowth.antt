@@ -1,5 +1,5 @@
 -- Choices, where more tables come behind theirs.
-use Rattle.std.proofs.Common.{◌≡◌, ◌⊎◌, ℕ, suc, ◌+◌, ◌<◌, List, [], ◌∷◌, ◌++◌, Some, length, slice_get, subst, inl, inr}
+use Rattle.std.proofs.Common.{◌≡◌, ◌⊎◌, ℕ, suc, ◌+◌, ◌<◌, List, [], Some, length, slice_get, subst, inl, inr}
 use Rattle.std.proofs.lemmas.List.{append-nil}
 use Rattle.clause_check.specs.Programs.{FlatProgram}
 use Rattle.wam_code.specs.declared.instruction.Code.{Code}

@@ -1,6 +1,5 @@
 -- What the choices of a predicate try.
 use Rattle.std.proofs.Common.{◌≡◌, ℕ, suc, ◌+◌, Bool, true, false, cond, IsTrue, List, [], ◌∷◌, Some, map, filter, length, slice_get, refl, ap, sym, ◌∙◌, inl, inr, arith}
-use Rattle.std.proofs.lemmas.Bool.{true≢false}
 use Rattle.std.specs.List.{range_with_len}
 use Rattle.clause_compiler.proofs.Lists.{never}
 use Rattle.fd_language.specs.Term.{Term}

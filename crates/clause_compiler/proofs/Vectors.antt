@@ -1,6 +1,14 @@
 -- What is read and written by an index.
-use Rattle.std.proofs.Common.{◌≡◌, ℕ, zero, suc, ◌+◌, ◌<◌, List, [], ◌∷◌, ◌++◌, map, set, take, drop, get_or, slice_set, length, refl, ap, ap₂, sym, ◌∙◌, arith}
+use Rattle.std.proofs.Common.{◌≡◌, ℕ, zero, suc, ◌+◌, ◌<◌, List, [], ◌∷◌, ◌++◌, map, set, take, drop, get_or, slice_set, length, Vec, Global, refl, ap, ap₂, sym, ◌∙◌, arith}
 use Rattle.std.proofs.lemmas.List.{length-map, get_or-map}
+
+-- the elements of a vector
+abbrev pub items : Vec ℕ Global → List ℕ
+items v = v.items
+
+-- One number more in one of many vectors.
+pub list_put : (vs : List (Vec ℕ Global)) (i n : ℕ) (found : Vec ℕ Global) (x : List ℕ) → x ≡ found.items ++ n ∷ [] → found ≡ get_or vs i found → i < length vs → x ≡ get_or (map items vs) i [] ++ n ∷ []
+list_put vs i n found x e h l = e ∙ ap (λ (ys : List ℕ). ys ++ n ∷ []) (ap items h ∙ sym (get_or-map items vs i found [] l))
 
 -- Two lists have the same images: so have their elements with one index.
 pub same_at : {A B C : Type 0} (f : A → B) (g : C → B) (xs : List A) (ys : List C) (n : ℕ) (x : A) (y : C) → map f xs ≡ map g ys → n < length ys → x ≡ get_or xs n x → f x ≡ g (get_or ys n y)

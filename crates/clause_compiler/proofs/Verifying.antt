@@ -10,7 +10,7 @@ use Rattle.wam_code.specs.declared.parts.Entry.{Entry}
 use Rattle.wam_code.specs.Area.{Area, Span, State, Holds, HasState, HasEntry, HasQuery, name_of}
 use Rattle.wam_code.specs.Effect.{slot_at, is_cell}
 use Rattle.wam_code.specs.VerifiedCode.{Names, HandedTo, Leads, BeginsWith, IsIn, IsQuery, is_other, NamesOther, is_before, is_behind, HoldsOne, AreChoices, IsThere, IsVerifiedBy, IsVerified}
-use Rattle.wam_code.specs.Places.{count}
+use Rattle.fd_language.specs.Term.{term_count}
 use Rattle.wam_code.proofs.Lemmas.{covers_self}
 use Rattle.clause_code.specs.Safe.{is_plain}
 use Rattle.clause_compiler.specs.First.{given}
@@ -78,7 +78,7 @@ module _ (a : Area) (prog : Program) (l : IsLaidOut a prog) where
       let there : HasState ss ((from_clauses a prog l + offset l.clauses h.0) + 0) it.code.first = state_clause a prog l h.0 0 st.0 it.code.first st.1 (ap (λ x. slice_get x 0) it.states ∙ begins) in
       let place : (from_clauses a prog l + offset l.clauses h.0) + 0 ≡ to = (let e = h.4 in omega (arith, e)) in
       let c = same_some prog.clauses h.0 it.c h.1 it.clause h.2 in
-      (it.code.first, subst (λ o. HasState ss o it.code.first) place there, given_covers arity (count (arguments (it.c).head)) it.code.first (ap (λ x. count (arguments x.head)) c ∙ h.3) it.code.begins)
+      (it.code.first, subst (λ o. HasState ss o it.code.first) place there, given_covers arity (term_count (arguments (it.c).head)) it.code.first (ap (λ x. term_count (arguments x.head)) c ∙ h.3) it.code.begins)
 
   choice_leads : (at : ℕ) (i : Code) (w : InChoice a prog l at i) (s : State) → HasState ss at s → Leads a ss at i s
   choice_leads at i w s h =

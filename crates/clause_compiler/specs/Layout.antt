@@ -8,7 +8,7 @@ use Rattle.wam_code.specs.declared.instruction.Code.TheVariants.{Jump, FailNow, 
 use Rattle.wam_code.specs.declared.parts.Entry.{Entry}
 use Rattle.wam_code.specs.Area.{Area, Span, HasEntry, HasQuery, name_of}
 use Rattle.wam_code.specs.VerifiedCode.{named, is_before, is_behind, IsAtom, IsKey, IsThere}
-use Rattle.wam_code.specs.Places.{count}
+use Rattle.fd_language.specs.Term.{term_count}
 use Rattle.wam_code.specs.Tries.{IsPredicate}
 use Rattle.wam_code.specs.Keys.{HasRisingTables}
 use Rattle.clause_code.specs.Pieces.{base_of}
@@ -69,7 +69,7 @@ pub record AreChoicesOf (a : Area) (begins : ℕ → Type 0) (at arity : ℕ) (i
 
 -- a clause of so many arguments begins at the place, where the code of the clauses follows from `from` on
 abbrev pub BeginsClause : List Clause → ℕ → List (List Code) → ℕ → ℕ → Type 0
-BeginsClause cs from pieces arity at = (k : ℕ) × (c : Clause) × (slice_get cs k ≡ Some c) × (count (arguments c.head) ≡ arity) × (at ≡ from + offset pieces k)
+BeginsClause cs from pieces arity at = (k : ℕ) × (c : Clause) × (slice_get cs k ≡ Some c) × (term_count (arguments c.head) ≡ arity) × (at ≡ from + offset pieces k)
 
 -- the query's code is all of its span, which begins at the place and has its names
 pub record IsSpanOf (a : Area) (at : ℕ) (q : Query) (s : Span) (is : List Code) : Type 0 where

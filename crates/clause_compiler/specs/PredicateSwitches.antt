@@ -1,11 +1,11 @@
 -- Which predicates begin with a switch by the first argument.
 use Rattle.std.specs.Prelude.{◌≡◌, ◌≢◌, ℕ, Some, slice_get}
-use Rattle.fd_language.specs.Term.{Terms, Var, no_terms, term}
+use Rattle.fd_language.specs.Term.{Terms, Var, no_terms, term, term_count}
 use Rattle.fd_model.specs.Goal.{Clause, Program}
 use Rattle.wam_code.specs.declared.instruction.Code.TheVariants.{SwitchOnTerm}
 use Rattle.wam_code.specs.declared.parts.Entry.{Entry}
 use Rattle.wam_code.specs.Area.{Area, Holds, HasEntry, name_of}
-use Rattle.wam_code.specs.Places.{count, made}
+use Rattle.wam_code.specs.Places.{made}
 
 -- there is a first argument, and it is no variable
 abbrev pub ShowsKind : Terms → Type 0
@@ -18,7 +18,7 @@ pub record IsClauseOf (a : Area) (prog : Program) (e : Entry) (n : ℕ) (ts : Te
   pub clause : Clause
   pub there : slice_get prog.clauses n ≡ Some clause
   pub head : clause.head ≡ made (name_of a e.name) ts
-  pub arity : count ts ≡ e.arity
+  pub arity : term_count ts ≡ e.arity
 
 -- The predicate has two clauses, and the first argument of one of them is no variable.
 pub record AreToldApart (a : Area) (prog : Program) (e : Entry) : Type 0 where

@@ -1,5 +1,5 @@
 //! The clauses of each predicate.
-ghost use Rattle.std.specs.Prelude.{◌≡◌, ◌<◌, ◌+◌, ℕ, false, length, map, IfOk, IfSome, IfNone, Some, slice_get};
+ghost use Rattle.std.specs.Prelude.{◌≡◌, ◌<◌, ◌+◌, ℕ, false, [], length, map, IfOk, IfSome, IfNone, Some, slice_get};
 ghost use Rattle.clause_code.specs.Pieces.{Predicate};
 ghost use Rattle.clause_code.specs.Predicates.{ArePredicates};
 ghost use Rattle.clause_compiler.specs.Groups.{head_predicate, is_predicate, AreGroups};
@@ -26,6 +26,17 @@ fn number_of_head(program: &Program, predicates: &Predicates, clause: usize) -> 
     }
 }
 
+/// For each predicate a group with no clause. The error is want of memory.
+fn empty_groups(alloc: Global, predicates: &Predicates) -> Result<Vec<Vec<usize>>, NoMemory>
+    ensures { IfOk result (λ v. map (λ g. g.items) v.items ≡ map (λ s. []) predicates.now) }
+{
+    let mut groups = Vec::with_capacity(alloc, predicates.len())?;
+    for _predicate in 0..predicates.len() {
+        groups.push(Vec::new(alloc))?;
+    }
+    Ok(groups)
+}
+
 /// For each predicate, by its number, the numbers of its clauses in text order. The error is want
 /// of memory.
 pub(crate) fn groups_of(
@@ -37,10 +48,7 @@ pub(crate) fn groups_of(
     ensures { IfOk result (λ v. AreGroups program.now predicates.now (length program.now.clauses)
         (map (λ g. g.items) v.items)) }
 {
-    let mut groups = Vec::with_capacity(alloc, predicates.len())?;
-    for _predicate in 0..predicates.len() {
-        groups.push(Vec::new(alloc))?;
-    }
+    let mut groups = empty_groups(alloc, predicates)?;
     for clause in 0..program.clauses() {
         if let Some(n) = number_of_head(program, predicates, clause) {
             groups[n].push(clause)?;

@@ -9,7 +9,7 @@ use Rattle.fd_model.specs.Goal.{Branch}
 use Rattle.heap_cells.specs.declared.Cell.{Cell}
 use Rattle.heap_cells.specs.declared.Seen.{Seen}
 use Rattle.heap_cells.specs.declared.Seen.TheVariants.{Open, Constrained, Int, Atom, Struct}
-use Rattle.heap_cells.specs.Cells.{Cells, IsOf}
+use Rattle.heap_cells.specs.Cells.{Cells, Heaps, IsOf}
 use Rattle.heap_cells.specs.SeenCells.{IsSeen}
 use Rattle.heap_cells.specs.Terms.{Naming, term_of, slot_term, compound_term}
 use Rattle.heap_cells.specs.Valid.{IsHeap}
@@ -33,6 +33,7 @@ use Rattle.code_states.specs.Safety.{IsSafe, IsSafeThen}
 use Rattle.code_states.specs.Standing.{IsNaming}
 use Rattle.code_states.specs.declared.went.Went.{Went}
 use Rattle.code_states.specs.declared.went.Went.TheVariants.{On, Back}
+use Rattle.code_control.specs.Leading.{ArgumentShows}
 use Rattle.code_control.specs.Rows.{IsKeyOf, IsFirstRow, HasNoKey, Finds, place_for}
 use Rattle.code_states.specs.Stages.{Task, KeepsRunning, RunsThen}
 use Rattle.code_states.specs.Work.{work_at, work_then}
@@ -40,6 +41,12 @@ use Rattle.code_control.proofs.Queries.{named_query}
 use Rattle.code_control.proofs.Stages.{tries, over}
 use Rattle.code_control.proofs.Threads.{first_set, switch_thread, moved_safe, back_safe}
 use Rattle.code_control.proofs.Working.{named_near, moved_falls, back_less}
+
+-- ---- what is seen
+
+-- what is seen of the first argument's cell is what the argument shows
+pub first_shows : (s : branch.State) (c : Contents) (hs : Heaps) → hs ≡ s.heaps → (d : Cell) → cell_at c.registers 1 ≡ Some d → (x : Seen) → IsSeen hs.now d x → (such : Seen → Type 0) → such x → ArgumentShows s c 1 such
+first_shows s c hs same d there x seen such so = record { cell = d; there = there; shown = x; is_seen = subst (λ (y : Heaps). IsSeen y.now d x) same seen; so = so }
 
 -- ---- shapes
 

@@ -2,7 +2,7 @@
 use Rattle.std.proofs.Common.{◌≡◌, ℕ, suc, false, List, ℤ, Some, None, replicate, Bor, refl, ap, sym, ◌∙◌, subst, inl, inr}
 use Rattle.std.proofs.lemmas.Option.{same_Some}
 use Rattle.fd_language.specs.declared.TheConstants.{INFINITY}
-use Rattle.fd_language.specs.Term.{Term, Terms, Int, Atom, Comp, Substitution, apply, apply_all}
+use Rattle.fd_language.specs.Term.{Term, Terms, Int, Atom, Comp, Substitution, apply, apply_all, term_count}
 use Rattle.fd_model.specs.Goal.{Branch}
 use Rattle.term_pool.specs.declared.AtomId.{AtomId}
 use Rattle.heap_cells.specs.declared.Cell.{Cell}
@@ -20,7 +20,6 @@ use Rattle.wam_code.specs.declared.instruction.Key.{Key}
 use Rattle.wam_code.specs.declared.instruction.Key.TheVariants as key
 use Rattle.wam_code.specs.declared.parts.Entry.{Entry}
 use Rattle.wam_code.specs.Area.{Area, Holds, name_of}
-use Rattle.wam_code.specs.Places.{count}
 use Rattle.code_areas.specs.Areas.{cell_at, Contents}
 use Rattle.code_steps.specs.Trying.{IsFirst}
 use Rattle.code_steps.proofs.Lemmas.{count_terms, step_get_structure, step_allocate, step_enter, count_applied}
@@ -60,7 +59,7 @@ module _ (name : Naming) (apart : IsOneToOne name) (h : Cells) (valid : IsHeap h
   no_integer y (seen.Atom a) e un q = let w : Atom (name a) ≡ Int y = sym (there_atom a e) ∙ q in absurd (cc)
   no_integer y (seen.Struct g args) e un q = let w : Comp (name g) (apply_all u (terms_by (term_of name h) args.now)) ≡ Int y = sym (there_structure g args e) ∙ q in absurd (cc)
 
-  no_structure : (f : AtomId) (n : ℕ) (us : Terms) → count us ≡ n → (x : Seen) → IsSeen h d x → (Meets x (key.Struct f n) → ⊥) → apply u t ≡ Comp (name f) us → ⊥
+  no_structure : (f : AtomId) (n : ℕ) (us : Terms) → term_count us ≡ n → (x : Seen) → IsSeen h d x → (Meets x (key.Struct f n) → ⊥) → apply u t ≡ Comp (name f) us → ⊥
   no_structure f n us size (seen.Open v) e un q = un tt
   no_structure f n us size (seen.Constrained v j) e un q = un tt
   no_structure f n us size (seen.Int z) e un q = let w : Int z ≡ Comp (name f) us = sym (there_integer z e) ∙ q in absurd (cc)
@@ -68,7 +67,7 @@ module _ (name : Naming) (apart : IsOneToOne name) (h : Cells) (valid : IsHeap h
   no_structure f n us size (seen.Struct g args) e un q =
       let w : Comp (name g) (apply_all u (terms_by (term_of name h) args.now)) ≡ Comp (name f) us = sym (there_structure g args e) ∙ q in
       let parts : apply_all u (terms_by (term_of name h) args.now) ≡ us = cc in
-      un (apart f g (let k : name f ≡ name g = cc in k), sym size ∙ sym (ap count parts) ∙ count_applied u (terms_by (term_of name h) args.now) ∙ count_terms (term_of name h) args.now)
+      un (apart f g (let k : name f ≡ name g = cc in k), sym size ∙ sym (ap term_count parts) ∙ count_applied u (terms_by (term_of name h) args.now) ∙ count_terms (term_of name h) args.now)
 
 -- ---- a clause's branch
 
@@ -91,11 +90,11 @@ module _ (area : Area) (s : branch.State) (at : ℕ) (c : Contents) (safe : IsSa
 
 module _ (area : Area) (s : branch.State) (at : ℕ) (c : Contents) (safe : IsSafe area s at 0 c) (out : IsRuledOut area s at c) where
   none_by : Asks area at out.argument out.wanted → (shown : List ℕ) (name : Naming) (b : Branch) → IsNaming area name → StandsFor area shown name s at c b → HasNoModel b
-  none_by (inl f) shown name b naming m = asked_none area s at c safe out.cell out.shown out.is_seen shown name b naming m out.argument out.wanted f out.there out.so
+  none_by (inl f) shown name b naming m = asked_none area s at c safe out.so.cell out.so.shown out.so.is_seen shown name b naming m out.argument out.wanted f out.so.there out.so.so
   none_by (inr k) shown name b naming m =
       let framed : Contents = record c { slots = replicate k.0 None } in
-      asked_none area s (suc at) framed (allocate_safe area s at c safe k.0 k.1) out.cell out.shown out.is_seen shown name b naming
-      (step_allocate INFINITY area shown name s.heaps.now s.levels.current.posted at (registers_of c) (stack_of c) b m k.0 k.1 (registers_of framed) (λ n. refl)) out.argument out.wanted k.2 out.there out.so
+      asked_none area s (suc at) framed (allocate_safe area s at c safe k.0 k.1) out.so.cell out.so.shown out.so.is_seen shown name b naming
+      (step_allocate INFINITY area shown name s.heaps.now s.levels.current.posted at (registers_of c) (stack_of c) b m k.0 k.1 (registers_of framed) (λ n. refl)) out.argument out.wanted k.2 out.so.there out.so.so
 
   -- Each branch of the clause has no model.
   first_of : (a : ℕ) (k : Key) → AsksHere area at a k → (i : Code) × IsFirst i × Holds area at i

@@ -2,10 +2,8 @@
 use Rattle.std.specs.Prelude.{◌≡◌, ◌⊎◌, ℕ, suc, ◌≤◌, List, [], ◌∷◌, ◌++◌, Option, Some, None}
 use Rattle.fd_language.specs.declared.TheConstants.{INFINITY}
 use Rattle.fd_model.specs.Goal.{Branch}
-use Rattle.heap_cells.specs.declared.Cell.{Cell}
 use Rattle.heap_cells.specs.declared.Seen.{Seen}
 use Rattle.heap_cells.specs.declared.Seen.TheVariants as seen
-use Rattle.heap_cells.specs.SeenCells.{IsSeen}
 use Rattle.heap_cells.specs.Terms.{Naming}
 use Rattle.branch_state.specs.States as branch
 use Rattle.branch_state.specs.States.{with_pair}
@@ -16,7 +14,7 @@ use Rattle.wam_code.specs.declared.instruction.Key.TheVariants as key
 use Rattle.wam_code.specs.declared.parts.Entry.{Entry}
 use Rattle.wam_code.specs.Area.{Area, Holds}
 use Rattle.wam_code.specs.Reaching.{distance}
-use Rattle.code_areas.specs.Areas.{cell_at, Contents}
+use Rattle.code_areas.specs.Areas.{Contents}
 use Rattle.code_steps.specs.Trying.{IsTrying}
 use Rattle.code_states.specs.Choices.{point_of}
 use Rattle.code_states.specs.Machine.{registers_of, stack_of}
@@ -28,6 +26,7 @@ use Rattle.code_states.specs.declared.went.Went.{Went}
 use Rattle.code_states.specs.declared.went.Went.TheVariants.{On, Back}
 use Rattle.code_control.specs.declared.choosing.Tried.{Tried}
 use Rattle.code_control.specs.declared.choosing.Tried.TheVariants as tried
+use Rattle.code_control.specs.Leading.{ArgumentShows}
 use Rattle.code_control.specs.Rows.{IsKeyOf}
 
 -- ---- choices
@@ -82,11 +81,7 @@ pub record Shows (area : Area) (s : branch.State) (at : ℕ) (c : Contents) (are
   pub argument : ℕ
   pub wanted : Key
   pub asks : Asks area at argument wanted
-  pub cell : Cell
-  pub there : cell_at c.registers argument ≡ Some cell
-  pub shown : Seen
-  pub is_seen : IsSeen s.heaps.now cell shown
-  pub so : are shown wanted
+  pub so : ArgumentShows s c argument (λ x. are x wanted)
 
 -- the clause that begins at a place can't match
 abbrev pub IsRuledOut : Area → branch.State → ℕ → Contents → Type 0

@@ -7,6 +7,7 @@ ghost use Rattle.code_states.specs.Queries.{KeepsQuery};
 ghost use Rattle.code_states.specs.Safety.{IsSafe};
 ghost use Rattle.code_states.specs.Stages.{KeepsRunning, Calls};
 ghost use Rattle.code_states.specs.Work.{work_at, most_work};
+ghost use Rattle.code_control.specs.Leading.{BeginsAt};
 
 use crate::places::entry_of;
 use branch_state::BranchState;
@@ -35,6 +36,7 @@ pub fn call<A: Agenda + Drop>(
         ≤ most_work code.now (work_at code.now at areas.old)) }
     ensures query { IfOk result (λ to. KeepsQuery code.now at areas.old to areas.new) }
     ensures same { OnOk result (areas.new.points ≡ areas.old.points) }
+    ensures place { IfOk result (BeginsAt code.now e) }
 {
     areas.call(behind(code, at))?;
     let entry = entry_of(code, e);
@@ -60,6 +62,7 @@ pub fn execute<A: Agenda + Drop>(
         ≤ most_work code.now (work_at code.now at areas.old) }
     ensures query { KeepsQuery code.now at areas.old result areas.new }
     ensures same { IsSameBehind areas.old areas.new }
+    ensures place { BeginsAt code.now e result }
 {
     let entry = entry_of(code, e);
     areas.keep_registers(entry.arity as usize + 1);

@@ -72,6 +72,7 @@ pub fn jump<A: Agenda + Drop>(
     ensures runs { KeepsRunning code.now branch.now at areas.now branch.now result areas.now }
     ensures falls { work_at code.now result areas.now < work_at code.now at areas.now }
     ensures query { KeepsQuery code.now at areas.now result areas.now }
+    ensures place { result ≡ to }
 {
     to
 }

@@ -1,10 +1,11 @@
 //! Switches: what the first argument shows decides which clauses are tried.
 ghost use Rattle.std.specs.Prelude.{◌≡◌, ◌<◌, ◌≤◌};
 ghost use Rattle.wam_code.specs.declared.instruction.Code.TheVariants as step;
-ghost use Rattle.wam_code.specs.Area.{Holds};
+ghost use Rattle.wam_code.specs.Area.{Holds, table_at};
 ghost use Rattle.code_states.specs.Queries.{KeepsQuery, KeepsQueryThen};
 ghost use Rattle.code_states.specs.Safety.{IsSafe, IsSafeThen};
-ghost use Rattle.code_control.specs.Rows.{place_for};
+ghost use Rattle.code_control.specs.Leading.{IsPastJump, ArgumentShows};
+ghost use Rattle.code_control.specs.Rows.{Finds, place_for};
 ghost use Rattle.code_states.specs.Stages.{KeepsRunning, RunsThen};
 ghost use Rattle.code_states.specs.Work.{work_at, work_then};
 
@@ -35,6 +36,7 @@ fn arm_for<A: Agenda + Drop>(
     ensures runs { KeepsRunning code.now branch.now at areas.now branch.now result areas.now }
     ensures falls { work_at code.now result areas.now < work_at code.now at areas.now }
     ensures query { KeepsQuery code.now at areas.now result areas.now }
+    ensures place { ArgumentShows branch.now areas.now 1 (λ x. place_for x v c i s ≡ result) }
 {
     place_for(branch.heap().deref(areas.register(1)), v, c, i, s)
 }
@@ -52,6 +54,7 @@ fn past_jump<A: Agenda + Drop>(
     ensures runs { KeepsRunning code.now branch.now at areas.now branch.now result areas.now }
     ensures stays { work_at code.now result areas.now ≤ work_at code.now at areas.now }
     ensures query { KeepsQuery code.now at areas.now result areas.now }
+    ensures place { IsPastJump code.now at result }
 {
     match code.code_at(at) {
         Code::Jump(to) => jump(code, at, to, branch, areas),
@@ -78,6 +81,8 @@ pub fn switch_on_term<A: Agenda + Drop>(
     ensures runs { KeepsRunning code.now branch.now at areas.now branch.now result areas.now }
     ensures falls { work_at code.now result areas.now < work_at code.now at areas.now }
     ensures query { KeepsQuery code.now at areas.now result areas.now }
+    ensures place { ArgumentShows branch.now areas.now 1
+        (λ x. IsPastJump code.now (place_for x v c i s) result) }
 {
     let arm = arm_for(code, at, v, c, i, s, branch, areas);
     past_jump(code, arm, branch, areas)
@@ -111,6 +116,8 @@ pub fn switch_on_constant<A: Agenda + Drop>(
     ensures runs { RunsThen code.now branch.now at areas.now branch.now areas.now result }
     ensures falls { work_then code.now areas.now result < work_at code.now at areas.now }
     ensures query { KeepsQueryThen code.now at areas.now areas.now result }
+    ensures row { ArgumentShows branch.now areas.now 1
+        (λ x. Finds x (table_at code.now table) result) }
 {
     find_row(code, table, branch.heap().deref(areas.register(1)))
 }
@@ -130,6 +137,8 @@ pub fn switch_on_integer<A: Agenda + Drop>(
     ensures runs { RunsThen code.now branch.now at areas.now branch.now areas.now result }
     ensures falls { work_then code.now areas.now result < work_at code.now at areas.now }
     ensures query { KeepsQueryThen code.now at areas.now areas.now result }
+    ensures row { ArgumentShows branch.now areas.now 1
+        (λ x. Finds x (table_at code.now table) result) }
 {
     find_row(code, table, branch.heap().deref(areas.register(1)))
 }
@@ -149,6 +158,8 @@ pub fn switch_on_structure<A: Agenda + Drop>(
     ensures runs { RunsThen code.now branch.now at areas.now branch.now areas.now result }
     ensures falls { work_then code.now areas.now result < work_at code.now at areas.now }
     ensures query { KeepsQueryThen code.now at areas.now areas.now result }
+    ensures row { ArgumentShows branch.now areas.now 1
+        (λ x. Finds x (table_at code.now table) result) }
 {
     find_row(code, table, branch.heap().deref(areas.register(1)))
 }

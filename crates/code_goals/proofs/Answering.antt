@@ -34,7 +34,7 @@ pub put_last : (cells : ℕ → Option Cell) (i : ℕ) (ds : List Cell) (d : Cel
 put_last cells i [] d e k = (subst (λ n. cells n ≡ Some d) (omega arith) k, tt)
 put_last cells i (x ∷ ds) d e k = (e.0, put_last cells (suc i) ds d e.1 (subst (λ n. cells n ≡ Some d) (omega arith) k))
 
-longer : (cells : List Cell) (d : Cell) (n : ℕ) → length cells ≡ n → length (cells ++ d ∷ []) ≡ n + 1
+pub longer : (cells : List Cell) (d : Cell) (n : ℕ) → length cells ≡ n → length (cells ++ d ∷ []) ≡ n + 1
 longer [] d n e = omega (arith, e)
 longer (x ∷ cells) d n e = (let l = longer cells d (length cells) refl in omega (arith, l, e))
 

@@ -45,7 +45,7 @@ use Rattle.code_states.specs.Choices.{choices_in}
 use Rattle.code_states.specs.Machine.{registers_of, stack_of}
 use Rattle.code_states.specs.Safety.{IsSafe}
 use Rattle.code_states.specs.Equating.{Equates}
-use Rattle.code_states.proofs.Lemmas.{same_cells}
+use Rattle.code_states.proofs.Lemmas.{same_cells, same_below, below_heap}
 use Rattle.code_goals.specs.declared.next.Next.{Next}
 use Rattle.code_goals.specs.declared.next.Next.TheVariants.{On, Back, Fault, Write, Newline}
 use Rattle.code_goals.specs.Builtins.{IsFound, IsSecond, ComesTo}
@@ -53,7 +53,7 @@ use Rattle.code_goals.specs.Tasks.{names_of, task_of}
 use Rattle.code_goals.specs.GoalTexts.{text_at}
 use Rattle.code_goals.specs.Taking.{next_by, IsSafeNext, LeadsNext, RunsNext, Takes}
 use Rattle.code_goals.proofs.Moving.{runs_grown, runs_none}
-use Rattle.code_goals.proofs.Safe.{choices_same, sound_below, same_below, heap_below, grown_cells, arguments_there, moved_safe, on_safe, on_same, goes_back}
+use Rattle.code_goals.proofs.Safe.{choices_same, sound_below, grown_cells, arguments_there, moved_safe, on_safe, on_same, goes_back}
 
 -- no two atoms have one name
 pub one_name : (area : Area) → IsPool area.pool → IsOneToOne (names_of area)
@@ -235,7 +235,7 @@ module _ (area : Area) (pool : IsPool area.pool) (s : branch.State) (at : ℕ) (
 pub grown_taken : (area : Area) (s s1 : branch.State) (at : ℕ) (c : Contents) (i : Code) → IsFirst i → Holds area at i → IsGrown s.heaps.now s1.heaps.now → s1 ≡ with_heap s s1.heaps.now → (s' : branch.State) (x : Next) → Takes area s1 at c s' x → Takes area s at c s' x
 grown_taken area s s1 at c i first f g e s' x t prog q ls n k es r runnable m =
     t prog q ls n k es r runnable
-    (subst (λ cs. Runs INFINITY area prog q (names_of area) s1.heaps.now s1.levels.current.posted at (registers_of c) (stack_of c) cs (suc n) k es r) (choices_same s s1 c ls (heap_below s s1 e))
+    (subst (λ cs. Runs INFINITY area prog q (names_of area) s1.heaps.now s1.levels.current.posted at (registers_of c) (stack_of c) cs (suc n) k es r) (choices_same s s1 c ls (below_heap s s1 e))
     (subst (λ (l : Levels). Runs INFINITY area prog q (names_of area) s1.heaps.now l.current.posted at (registers_of c) (stack_of c) (choices_in s c ls) (suc n) k es r) (sym (ap (λ (y : branch.State). y.levels) e))
     (runs_grown INFINITY area prog q (names_of area) (suc n) k es r s.heaps.now s1.heaps.now g s.levels.current.posted at (registers_of c) (stack_of c) (choices_in s c ls) i first f m)))
 
@@ -259,7 +259,7 @@ comes_to area pool names e s1 c k d x at_d at_x (Err y) t = tt
 
 -- safe on a heap that has grown
 pub found_safe : {A E : Type 0} (area : Area) (s s1 : branch.State) (at : ℕ) (c : Contents) → IsSafe area s at 0 c → (r : Result A E) → OnOk r (IsGrown s.heaps.now s1.heaps.now) → OnOk r (s1 ≡ with_heap s s1.heaps.now) → OnOk r (IsSound s1) → OnOk r (IsSafe area s1 at 0 c)
-found_safe area s s1 at c safe (Ok x) g h sound = let below = heap_below s s1 h in moved_safe area s at c safe s1 below sound (grown_cells s s1 below.atoms g)
+found_safe area s s1 at c safe (Ok x) g h sound = let below = below_heap s s1 h in moved_safe area s at c safe s1 below sound (grown_cells s s1 below.atoms g)
 found_safe area s s1 at c safe (Err x) g h sound = tt
 
 -- a fact of what is given leads to another

@@ -1,6 +1,6 @@
 -- Constraints, taken.
 use Rattle.std.proofs.Common.{◌≡◌, ℕ, suc, ◌+◌, zero, List, [], ◌∷◌, ◌++◌, length, All, Some, Result, Ok, Err, IfOk, OnOk, refl, ap, sym, ◌∙◌, subst, arith}
-use Rattle.code_goals.proofs.Answering.{put_last}
+use Rattle.code_goals.proofs.Answering.{put_last, longer}
 use Rattle.fd_language.specs.declared.TheConstants.{INFINITY}
 use Rattle.fd_language.specs.Family.{Family}
 use Rattle.fd_language.specs.Range.{Indexical}
@@ -54,10 +54,6 @@ gathered_more c n cells d new g e i =
       longer cells d n size,
       put_last (cell_at c.registers) 1 cells d g.1 (subst (λ m. cell_at c.registers m ≡ Some d) place e),
     )
-  where
-    longer : (cells : List Cell) (d : Cell) (n : ℕ) → length cells ≡ n → length (cells ++ d ∷ []) ≡ n + 1
-    longer [] d n e = omega (arith, e)
-    longer (x ∷ cells) d n e = (let l = longer cells d (length cells) refl in omega (arith, l, e))
 
 -- they are the branch's
 pub gathered_own : (s : branch.State) (c : Contents) → ((n : ℕ) (d : Cell) → cell_at c.registers n ≡ Some d → IsCell s d) → (i : ℕ) (ds : List Cell) → AreIn (cell_at c.registers) i ds → All (IsCell s) ds

@@ -39,7 +39,7 @@ use Rattle.code_states.specs.Standing.{went_to}
 use Rattle.code_states.specs.Work.{thread_of, point_threads, work_at, work_back, values_work}
 use Rattle.code_states.specs.declared.went.Went.{Went}
 use Rattle.code_states.specs.declared.went.Went.TheVariants as went
-use Rattle.code_states.proofs.Lemmas.{same_cells, value_falls, last_value_falls, one_more}
+use Rattle.code_states.proofs.Lemmas.{same_cells, value_falls, last_value_falls, one_more, same_below}
 use Rattle.code_goals.specs.declared.labels.ValuesLeft.{ValuesLeft}
 use Rattle.code_goals.specs.declared.labels.Tried.{Tried}
 use Rattle.code_goals.specs.declared.labels.Labelled.TheVariants.{Took, Tries}
@@ -48,7 +48,7 @@ use Rattle.code_goals.specs.Tasks.{names_of, task_of}
 use Rattle.code_goals.specs.Values.{numbers_left, HasValues, IsOpen, left_of, lefts_of, pointed, with_point, with_mark, IsKept, KeepsValues, RunsWent, StaysAt, work_left, IsTried, Labels, BringsMost}
 use Rattle.code_goals.proofs.Moving.{runs_none, runs_over}
 use Rattle.code_goals.proofs.Numbers.{filter_from_low, rising_length, can_be}
-use Rattle.code_goals.proofs.Safe.{choices_same, same_below, sound_below, moved_safe, marked_safe, goes_back}
+use Rattle.code_goals.proofs.Safe.{choices_same, sound_below, moved_safe, marked_safe, goes_back}
 
 -- the names of the code's pool
 pub list_naming : (area : Area) → IsPool area.pool → IsListNaming (names_of area)

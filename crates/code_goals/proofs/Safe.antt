@@ -1,6 +1,5 @@
 -- What is safe stays so where a goal is taken.
-use Rattle.std.proofs.Common.{◌≡◌, ℕ, suc, ◌≤◌, true, IsTrue, List, length, refl, ap, sym, ◌∙◌, subst, arith}
-use Rattle.fd_language.specs.Family.{has}
+use Rattle.std.proofs.Common.{◌≡◌, ℕ, suc, true, IsTrue, List, length, refl, ap, sym, ◌∙◌, subst, arith}
 use Rattle.heap_cells.specs.declared.Cell.{Cell}
 use Rattle.heap_cells.specs.Atoms.{IsAtomBelow}
 use Rattle.machine_frames.specs.Frames.{IsGrown}
@@ -17,34 +16,17 @@ use Rattle.wam_code.proofs.Lemmas.{shown_are_cells, set_below}
 use Rattle.code_areas.specs.Areas.{Places, Return, Contents}
 use Rattle.code_steps.specs.Running.{Left}
 use Rattle.code_states.specs.Choices.{choices_in}
-use Rattle.code_states.specs.Machine.{IsSameBehind}
 use Rattle.code_states.specs.Safety.{Fits, IsThread, ArePoints, IsSafe, IsSafeBack}
-use Rattle.code_states.proofs.Lemmas.{Finds, found, when_parts, set_holds, next_safe, back_safe, cells_kept, returns_kept, points_kept, choices_kept}
+use Rattle.code_states.proofs.Lemmas.{Finds, found, when_parts, set_holds, next_safe, back_safe, cells_kept, returns_kept, points_kept, choices_kept, same_behind, same_below}
 use Rattle.code_goals.specs.Arguments.{HasArguments}
 use Rattle.code_goals.specs.Answers.{HasFirstSlots}
 use Rattle.code_goals.specs.Values.{pointed}
-
--- what stays the same is the same below
-pub same_below : (s : branch.State) → IsSameBelow s s
-same_below s = record { atoms = refl; heaps = refl; levels = refl }
-
--- and behind
-pub same_behind : (c : Contents) → IsSameBehind c c
-same_behind c = record { returns = refl; points = refl }
 
 -- what is sound can be given back
 pub sound_below : (s : branch.State) → IsSound s → IsSoundBelow s
 sound_below s k = record { unspent = k.unspent; marked = k.marked; below = k.below }
 
--- another heap alone
-pub heap_below : (s s' : branch.State) → s' ≡ with_heap s s'.heaps.now → IsSameBelow s s'
-heap_below s s' e = record { atoms = ap (λ (y : branch.State). y.atoms) e; heaps = ap (λ (y : branch.State). y.heaps.below) e; levels = ap (λ (y : branch.State). y.levels.below) e }
-
--- one after the other
-pub below_both : (s t u : branch.State) → IsSameBelow s t → IsSameBelow t u → IsSameBelow s u
-below_both s t u a b = record { atoms = b.atoms ∙ a.atoms; heaps = b.heaps ∙ a.heaps; levels = b.levels ∙ a.levels }
-
--- and so do the choice points
+-- The choice points stay as they are.
 pub choices_same : (s s' : branch.State) (c : Contents) (ls : List Left) → IsSameBelow s s' → choices_in s c ls ≡ choices_in s' c ls
 choices_same s s' c ls below = choices_kept s s' c c below (same_behind c) ls
 

@@ -1,5 +1,5 @@
 -- Instructions that spend nothing.
-use Rattle.std.proofs.Common.{◌≡◌, ℕ, ◌<◌, ◌∷◌, refl, sym, subst, inl}
+use Rattle.std.proofs.Common.{ℕ, refl, sym, subst, inl}
 use Rattle.branch_state.specs.States as branch
 use Rattle.branch_state.specs.States.{IsSameBelow}
 use Rattle.wam_code.specs.declared.instruction.Code.{Code}

@@ -2,6 +2,7 @@
 use Rattle.std.proofs.Common.{◌≡◌, ℕ, zero, suc, ◌+◌, ◌*◌, ◌<◌, ◌≤◌, Bool, true, false, cond, List, [], ◌∷◌, length, map, slice_get, slice_index_or, Option, Some, None, Result, Ok, Err, IfOk, refl, ap, sym, ◌∙◌, subst, inl, inr, arith, ne_eqb}
 use Rattle.std.proofs.lemmas.Bool.{true≢false}
 use Rattle.std.proofs.lemmas.Option.{same_Some}
+use Rattle.fd_language.proofs.Lemmas.{two}
 use Rattle.fd_model.specs.Goal as model
 use Rattle.fd_model.specs.Goal.{Program, Query, Event}
 use Rattle.fd_model.specs.Run.{IsLimit}
@@ -511,9 +512,6 @@ run_on_from old s new k h = record {
   paced = h.paced ∙ k.paced;
   limit = h.limit ∙ k.limit;
 }
-
-two : {A B C : Type 0} (f : A → B → C) {a b : A} {c d : B} → a ≡ b → c ≡ d → f a c ≡ f b d
-two f {a} {b} {c} {d} e g = ap (λ x. f x c) e ∙ ap (f b) g
 
 -- what is said after quiet steps is said of their start
 pub says_from : (old s new : State) (e : MachineEvent) → StillRuns old s → Says s e new → Says old e new

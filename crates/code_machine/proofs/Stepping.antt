@@ -1,5 +1,5 @@
 -- The steps by the stages that they begin and end at.
-use Rattle.std.proofs.Common.{◌≡◌, ℕ, zero, suc, ◌+◌, ◌-◌, ◌<◌, List, [], ◌∷◌, length, Option, refl, sym, subst, arith}
+use Rattle.std.proofs.Common.{◌≡◌, ℕ, zero, suc, ◌+◌, ◌-◌, List, [], ◌∷◌, length, Option, refl, sym, subst, arith}
 use Rattle.std.proofs.lemmas.List.{nil_from_length}
 use Rattle.term_pool.proofs.Lemmas.{slice_get_found}
 use Rattle.machine_events.specs.declared.MachineEvent.TheVariants as event

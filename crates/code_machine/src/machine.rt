@@ -49,9 +49,8 @@ impl<A: Agenda + Drop> Model for Machine<A> {
     ghost Value = { State };
 
     ghost use Rattle.std.specs.Coded.{codes};
-    ghost use Rattle.fd_model.specs.Levels.{levels_coded};
+    ghost use Rattle.fd_model.specs.Levels.{levels_coded, range_coded};
     ghost use Rattle.heap_cells.specs.contracts.Cell as cells;
-    ghost use Rattle.wam_code.specs.Area.{range_coded};
     ghost use Rattle.code_machine.specs.contracts.run.Label as label;
     ghost use Rattle.code_machine.specs.contracts.run.Stage as stage;
 

@@ -5,6 +5,8 @@ pub use Rattle.code_states.proofs.Equal.{equated, same_cells}
 pub use Rattle.code_states.proofs.WorkLeft.{last_value_falls, left_falls, left_spent, left_up, value_falls, one_more}
 -- A machine stays in its query's code.
 pub use Rattle.code_states.proofs.Queries.{ends_on, named_inside, next_inside, query_kept}
+-- What an instruction leaves as it was, behind the current registers and below the current pair of the branch.
+pub use Rattle.code_states.proofs.Same.{same_behind, behind_both, same_below, below_heap, below_both}
 -- What is safe stays so.
 pub use Rattle.code_states.proofs.Safety.{Finds, back_safe, behind_on, cells_kept, fits_less, found, free_holds, next_safe, place_within, points_kept, points_then, returns_kept, same_atoms, set_holds, some_is, thread_kept, when_parts, within_code, written_fits, written_own}
 -- What is still to come for a machine, and the work that is left, where an instruction keeps what the machine stands for.

@@ -1,4 +1,5 @@
 mod Equal
+mod Same
 mod Safety
 mod Standing
 mod Stages

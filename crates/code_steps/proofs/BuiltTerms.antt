@@ -2,7 +2,7 @@
 use Rattle.std.proofs.Common.{◌≡◌, ℕ, suc, List, [], ◌∷◌, Option, Some, None, cond, refl, ap, sym, ◌∙◌, subst, inl, inr, arith, eq-eqb, ne_eqb}
 use Rattle.std.proofs.lemmas.Bool.{cases_eq}
 use Rattle.std.proofs.lemmas.Option.{none-some}
-use Rattle.fd_language.specs.Term.{Name, Term, Terms, Comp, no_terms, term, Substitution, apply, apply_all}
+use Rattle.fd_language.specs.Term.{Name, Term, Terms, Comp, no_terms, term, Substitution, apply, apply_all, term_count, joined_terms}
 use Rattle.fd_language.specs.Unifier.{Equation}
 use Rattle.fd_language.specs.Range.{Indexical}
 use Rattle.fd_model.specs.Goal.{Branch}
@@ -16,13 +16,13 @@ use Rattle.term_pool.specs.declared.AtomId.{AtomId}
 use Rattle.wam_code.specs.declared.instruction.Register.TheVariants.{X}
 use Rattle.wam_code.specs.declared.instruction.Code.TheVariants.{GetStructure, PutStructure}
 use Rattle.wam_code.specs.Area.{Area, Holds, name_of}
-use Rattle.wam_code.specs.Places.{Places, drop_at, write, without, count}
+use Rattle.wam_code.specs.Places.{Places, drop_at, write, without}
 use Rattle.wam_code.specs.Means.{Means, Owed, Return}
 use Rattle.code_steps.specs.Registers.{Registers, Saved, AreSame, IsWritten, IsShown}
 use Rattle.code_steps.specs.Standing.{Made, IsOld, IsMade, Stands}
 use Rattle.code_steps.specs.Steps.{GoesOnEqual}
 use Rattle.code_steps.specs.ReadMode.{AreCells}
-use Rattle.code_steps.specs.WriteMode.{joined, End, GetEnd, PutEnd, Builds}
+use Rattle.code_steps.specs.WriteMode.{End, GetEnd, PutEnd, Builds}
 use Rattle.code_steps.proofs.RegisterTerms.{one_moved, shown_moved, all_moved, shown_same}
 use Rattle.code_steps.proofs.Making.{made_write, made_unified, made_refuted}
 use Rattle.code_steps.proofs.ReadMode.{cells_keep}
@@ -34,7 +34,7 @@ drop_here i r = ap (λ b. cond b None (r i)) (eq-eqb i i refl)
 drop_else : (i : ℕ) (r : ℕ → Option Term) (n : ℕ) → (n ≡ i → ⊥) → drop_at i r n ≡ r n
 drop_else i r n d = ap (λ b. cond b None (r n)) (ne_eqb n i d)
 
-joined_none : (ts : Terms) → joined ts no_terms ≡ ts
+joined_none : (ts : Terms) → joined_terms ts no_terms ≡ ts
 joined_none no_terms = refl
 joined_none (term t ts) = ap (term t) (joined_none ts)
 
@@ -165,7 +165,7 @@ module _ (M : ℕ) (area : Area) (shown : List ℕ) (name : Naming) (h : Cells) 
     at_end : (cells : List Cell) (Ends : End) (m : Builds M area shown name h qs 0 at c cells 0 stack b Ends) → (m.next ≡ at) × (m.q ≡ m.p) × Ends m.gathered m.next m.q m.todo m.after
     at_end cells Ends m = go m.ts m.counted m.owed m.ends
       where
-        go : (ts : Terms) → count ts ≡ 0 → Owed area 0 at m.p ts m.next m.q → Ends (joined m.gathered ts) m.next m.q m.todo m.after → (m.next ≡ at) × (m.q ≡ m.p) × Ends m.gathered m.next m.q m.todo m.after
+        go : (ts : Terms) → term_count ts ≡ 0 → Owed area 0 at m.p ts m.next m.q → Ends (joined_terms m.gathered ts) m.next m.q m.todo m.after → (m.next ≡ at) × (m.q ≡ m.p) × Ends m.gathered m.next m.q m.todo m.after
         go no_terms n o e = (o.1, o.2, subst (λ l. Ends l m.next m.q m.todo m.after) (joined_none m.gathered) e)
         go (term t ts) n o e = absurd (omega (arith, n))
 

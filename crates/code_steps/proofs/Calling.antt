@@ -2,7 +2,7 @@
 use Rattle.std.proofs.Common.{◌≡◌, ℕ, suc, ◌+◌, ◌<◌, ◌≤◌, Bool, true, false, cond, List, [], ◌∷◌, ◌++◌, map, Option, refl, ap, sym, ◌∙◌, subst, inl, inr, arith}
 use Rattle.std.proofs.lemmas.Bool.{true≢false}
 use Rattle.std.proofs.lemmas.Option.{same_Some}
-use Rattle.fd_language.specs.Term.{Term, Terms, no_terms, term, Substitution}
+use Rattle.fd_language.specs.Term.{Term, Terms, no_terms, term, Substitution, term_count}
 use Rattle.fd_language.specs.Range.{Indexical}
 use Rattle.fd_model.specs.Children.{by_clause, by_clauses, fits_head, Kept}
 use Rattle.fd_model.specs.Constraining.{arguments}
@@ -20,7 +20,7 @@ use Rattle.machine_frames.proofs.Lemmas.{kept_consistent}
 use Rattle.wam_code.specs.declared.instruction.Code.TheVariants as code
 use Rattle.wam_code.specs.declared.parts.Entry.{Entry}
 use Rattle.wam_code.specs.Area.{Area, Holds, HasEntry, name_of}
-use Rattle.wam_code.specs.Places.{count, made}
+use Rattle.wam_code.specs.Places.{made}
 use Rattle.wam_code.specs.Tries.{Shape, ClashFirst, IsNeedless, Thinned, StandsForProgram}
 use Rattle.code_steps.specs.Registers.{Registers, Saved, AreSame, AreSameTo, AreHeld}
 use Rattle.code_steps.specs.Standing.{IsCalling}
@@ -80,7 +80,7 @@ module _ (s : Shape) (t : Term) where
   thinned_scoped (c ∷ cs) (d ∷ ds) (inr e) k = thinned_scoped cs (d ∷ ds) e.1 k.1
 
 -- the registers from i on hold the same terms where they have the same cells
-held_moved : (name : Naming) (h : Cells) (look : Substitution) (P : ℕ → Type 0) (i : ℕ) (old new : ℕ → Option Cell) (ts : Terms) → ((n : ℕ) → i ≤ n → n < i + count ts → new n ≡ old n) → AreHeld name h look P i old ts → AreHeld name h look P i new ts
+held_moved : (name : Naming) (h : Cells) (look : Substitution) (P : ℕ → Type 0) (i : ℕ) (old new : ℕ → Option Cell) (ts : Terms) → ((n : ℕ) → i ≤ n → n < i + term_count ts → new n ≡ old n) → AreHeld name h look P i old ts → AreHeld name h look P i new ts
 held_moved name h look P i old new no_terms same a = tt
 held_moved name h look P i old new (term t ts) same a = ((a.0.0, same i (omega arith) (omega arith) ∙ a.0.1, a.0.2), held_moved name h look P (suc i) old new ts (λ n l u. same n (omega (arith, l)) (omega (arith, u))) a.1)
 

@@ -1,5 +1,5 @@
 -- The steps of choices and switches, by the whole state.
-use Rattle.std.proofs.Common.{◌≡◌, ℕ, suc, List, [], ◌∷◌, Option, Some, ◌∙◌}
+use Rattle.std.proofs.Common.{◌≡◌, ℕ, suc, List, ◌∷◌, Option, Some}
 use Rattle.fd_language.specs.Range.{Indexical}
 use Rattle.fd_model.specs.Goal.{Program, Query, Event}
 use Rattle.heap_cells.specs.declared.Cell.{Cell}

@@ -4,7 +4,7 @@ use Rattle.std.proofs.lemmas.Bool.{cases_eq, true≢false, and_parts}
 use Rattle.std.proofs.lemmas.Bool.Decides.{nat_tests}
 use Rattle.std.specs.Str.{bytes_eq}
 use Rattle.std.proofs.lemmas.Option.{none-some, same_Some}
-use Rattle.fd_language.specs.Term.{Name, Term, Terms, Var, Int, Atom, Comp, no_terms, term, Substitution, apply_all}
+use Rattle.fd_language.specs.Term.{Name, Term, Terms, Var, Int, Atom, Comp, no_terms, term, Substitution, apply_all, term_count}
 use Rattle.fd_language.specs.Unifier.{Equation}
 use Rattle.fd_language.specs.Range.{Indexical}
 use Rattle.fd_language.specs.Variables.{TermBelow, TermsBelow}
@@ -23,11 +23,12 @@ use Rattle.machine_relation.proofs.Lemmas.{more_all, more_each, below_both}
 use Rattle.machine_frames.proofs.Lemmas.{renamed_all, kept_known}
 use Rattle.wam_code.specs.declared.parts.Entry.{Entry}
 use Rattle.wam_code.specs.Area.{Area, name_of}
-use Rattle.wam_code.specs.Places.{Places, put_at, Hold, count, made}
+use Rattle.wam_code.specs.Places.{Places, put_at, Hold, made}
 use Rattle.wam_code.specs.Tries.{IsClause}
 use Rattle.code_steps.specs.Registers.{Registers, Saved, AreSame, IsShown, AreShown, AreHeld}
 use Rattle.code_steps.specs.Standing.{Made, IsOld, Stands, IsCalling}
-use Rattle.code_steps.proofs.RegisterTerms.{put_here, put_else, all_moved, shown_same, shown_moved}
+use Rattle.wam_code.proofs.Lemmas.{put_here, put_else}
+use Rattle.code_steps.proofs.RegisterTerms.{all_moved, shown_same, shown_moved}
 
 -- the terms in registers from i on
 abbrev pub args_at : ℕ → Terms → ℕ → Option Term
@@ -47,13 +48,13 @@ shown_args name h look P i cells (term s ts) a n t e = elim (cases_eq n i) [
   | inr k ↦ shown_args name h look P (suc i) cells ts a.1 n t (sym (put_else i s (args_at (suc i) ts) n k) ∙ e)
 ]
 
-same_counts : (ts us : Terms) → same_count ts us ≡ true → count ts ≡ count us
+same_counts : (ts us : Terms) → same_count ts us ≡ true → term_count ts ≡ term_count us
 same_counts no_terms no_terms e = refl
 same_counts no_terms (term u us) e = absurd (true≢false (sym e))
 same_counts (term t ts) no_terms e = absurd (true≢false (sym e))
 same_counts (term t ts) (term u us) e = ap suc (same_counts ts us e)
 
-pub fits_count : (f : Name) (ts : Terms) (h : Term) → fits_head (made f ts) h ≡ true → count ts ≡ count (arguments h)
+pub fits_count : (f : Name) (ts : Terms) (h : Term) → fits_head (made f ts) h ≡ true → term_count ts ≡ term_count (arguments h)
 fits_count f no_terms (Var x) e = absurd (true≢false (sym e))
 fits_count f no_terms (Int x) e = absurd (true≢false (sym e))
 fits_count f no_terms (Atom b) e = refl

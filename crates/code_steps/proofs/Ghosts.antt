@@ -1,13 +1,12 @@
 -- A variable for each argument of a compound term, which only the proof knows.
 use Rattle.std.proofs.Common.{◌≡◌, ℕ, suc, ◌+◌, ◌<◌, ◌≤◌, refl, ap, sym, ◌∙◌, subst, inl, inr, arith}
 use Rattle.std.proofs.lemmas.Bool.{cases_eq}
-use Rattle.fd_language.specs.Term.{Term, Terms, Var, no_terms, term, Substitution, apply, apply_all}
+use Rattle.fd_language.specs.Term.{Term, Terms, Var, no_terms, term, Substitution, apply, apply_all, term_count}
 use Rattle.fd_language.specs.Unifier.{Unifies}
 use Rattle.fd_model.specs.Children.{paired}
 use Rattle.machine_relation.specs.Heap.{Of, AllOf}
 use Rattle.machine_relation.proofs.Lemmas.{agree_all, with_one}
 use Rattle.machine_frames.proofs.Lemmas.{one_here, one_else}
-use Rattle.wam_code.specs.Places.{count}
 
 abbrev pub ghosts : ℕ → Terms → Terms
 ghosts n no_terms = no_terms
@@ -22,7 +21,7 @@ pub assign_below : (w : Substitution) (n : ℕ) (ts : Terms) (v : ℕ) → v < n
 assign_below w n no_terms v l = refl
 assign_below w n (term t ts) v l = one_else n t (assign w (suc n) ts) v (λ e. omega (arith, e, l)) ∙ assign_below w (suc n) ts v (omega (arith, l))
 
-pub ghosts_in : (P : ℕ → Type 0) (n : ℕ) (ss : Terms) → ((v : ℕ) → n ≤ v → v < n + count ss → P v) → AllOf P (ghosts n ss)
+pub ghosts_in : (P : ℕ → Type 0) (n : ℕ) (ss : Terms) → ((v : ℕ) → n ≤ v → v < n + term_count ss → P v) → AllOf P (ghosts n ss)
 ghosts_in P n no_terms h = tt
 ghosts_in P n (term s ss) h = (h n (omega arith) (omega arith), ghosts_in P (suc n) ss (λ v l k. h v (omega (arith, l)) (omega (arith, k))))
 
@@ -32,21 +31,21 @@ same_tail a b as' bs e = cc
 pub same_head : (a b : Term) (as' bs : Terms) → term a as' ≡ term b bs → a ≡ b
 same_head a b as' bs e = cc
 
-pub ghost_each : (w u : Substitution) (n : ℕ) (ss : Terms) → apply_all w (ghosts n ss) ≡ apply_all u (ghosts n ss) → (v : ℕ) → n ≤ v → v < n + count ss → w v ≡ u v
+pub ghost_each : (w u : Substitution) (n : ℕ) (ss : Terms) → apply_all w (ghosts n ss) ≡ apply_all u (ghosts n ss) → (v : ℕ) → n ≤ v → v < n + term_count ss → w v ≡ u v
 ghost_each w u n no_terms e v l k = absurd (omega (arith, l, k))
 ghost_each w u n (term s ss) e v l k = elim (cases_eq v n) [
   | inl i ↦ ap w i ∙ same_head (w n) (u n) (apply_all w (ghosts (suc n) ss)) (apply_all u (ghosts (suc n) ss)) e ∙ ap u (sym i)
   | inr i ↦ ghost_each w u (suc n) ss (same_tail (w n) (u n) (apply_all w (ghosts (suc n) ss)) (apply_all u (ghosts (suc n) ss)) e) v (omega (arith, l, i)) (omega (arith, k))
 ]
 
-pub ghost_of : (R : ℕ → Type 0) (w : Substitution) (n : ℕ) (ss : Terms) → AllOf R (apply_all w (ghosts n ss)) → (v : ℕ) → n ≤ v → v < n + count ss → Of R (w v)
+pub ghost_of : (R : ℕ → Type 0) (w : Substitution) (n : ℕ) (ss : Terms) → AllOf R (apply_all w (ghosts n ss)) → (v : ℕ) → n ≤ v → v < n + term_count ss → Of R (w v)
 ghost_of R w n no_terms o v l k = absurd (omega (arith, l, k))
 ghost_of R w n (term s ss) o v l k = elim (cases_eq v n) [
   | inl i ↦ subst (λ x. Of R (w x)) (sym i) o.0
   | inr i ↦ ghost_of R w (suc n) ss o.1 v (omega (arith, l, i)) (omega (arith, k))
 ]
 
-pub assign_ghosts : (w : Substitution) (n : ℕ) (ss ts : Terms) → count ss ≡ count ts → apply_all (assign w n ts) (ghosts n ss) ≡ ts
+pub assign_ghosts : (w : Substitution) (n : ℕ) (ss ts : Terms) → term_count ss ≡ term_count ts → apply_all (assign w n ts) (ghosts n ss) ≡ ts
 assign_ghosts w n no_terms no_terms e = refl
 assign_ghosts w n no_terms (term t ts) e = absurd (omega (arith, e))
 assign_ghosts w n (term s ss) no_terms e = absurd (omega (arith, e))
@@ -57,7 +56,7 @@ assign_ghosts w n (term s ss) (term t ts) e =
     ∙ assign_ghosts w (suc n) ss ts (omega (arith, e)) in
     cc
 
-pub unify_ghosts : (u : Substitution) (n : ℕ) (ss us : Terms) → count ss ≡ count us → Unifies u (paired (ghosts n ss) us) → apply_all u (ghosts n ss) ≡ apply_all u us
+pub unify_ghosts : (u : Substitution) (n : ℕ) (ss us : Terms) → term_count ss ≡ term_count us → Unifies u (paired (ghosts n ss) us) → apply_all u (ghosts n ss) ≡ apply_all u us
 unify_ghosts u n no_terms no_terms e k = refl
 unify_ghosts u n no_terms (term t us) e k = absurd (omega (arith, e))
 unify_ghosts u n (term s ss) no_terms e k = absurd (omega (arith, e))

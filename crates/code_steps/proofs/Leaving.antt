@@ -1,6 +1,6 @@
 -- A clause whose first argument clashes with what the goal's first cell shows may be left out: its branch has no model.
 use Rattle.std.proofs.Common.{◌≡◌, ℕ, suc, ◌+◌, ◌<◌, true, List, ◌∷◌, ◌++◌, refl, ap, sym, ◌∙◌, subst, inl, inr, arith}
-use Rattle.fd_language.specs.Term.{Term, Terms, Var, Int, Atom, Comp, no_terms, term, Substitution, apply, apply_all}
+use Rattle.fd_language.specs.Term.{Term, Terms, Var, Int, Atom, Comp, no_terms, term, Substitution, apply, apply_all, term_count}
 use Rattle.fd_language.specs.Family.{Family}
 use Rattle.fd_language.specs.Range.{Indexical}
 use Rattle.fd_model.specs.Children.{by_clause, fits_head, paired}
@@ -16,14 +16,14 @@ use Rattle.machine_relation.proofs.Lemmas.{after_is, agree}
 use Rattle.machine_frames.proofs.Lemmas.{kept_barred}
 use Rattle.wam_code.specs.declared.parts.Entry.{Entry}
 use Rattle.wam_code.specs.Area.{Area, name_of}
-use Rattle.wam_code.specs.Places.{count, made}
+use Rattle.wam_code.specs.Places.{made}
 use Rattle.wam_code.specs.Tries.{Shape, shape_of, Clash, ClashFirst}
 use Rattle.code_steps.specs.Registers.{Registers, Saved, AreHeld}
 use Rattle.code_steps.specs.Standing.{IsCalling}
 use Rattle.code_steps.specs.Trying.{shape_in, ShowsFirst}
 use Rattle.code_steps.proofs.Entering.{fits_count, fits_equations}
 
-pub count_applied : (s : Substitution) (ts : Terms) → count (apply_all s ts) ≡ count ts
+pub count_applied : (s : Substitution) (ts : Terms) → term_count (apply_all s ts) ≡ term_count ts
 count_applied s no_terms = refl
 count_applied s (term t ts) = ap suc (count_applied s ts)
 
@@ -44,7 +44,7 @@ clash_none (Comp f ts) (Var x) r v k e = k
 clash_none (Comp f ts) (Int z) r v k e = absurd (cc)
 clash_none (Comp f ts) (Atom a) r v k e = absurd (cc)
 clash_none (Comp f ts) (Comp g us) r v (inl k) e = k (cc)
-clash_none (Comp f ts) (Comp g us) r v (inr k) e = let parts : apply_all r ts ≡ apply_all v us = cc in k (sym (count_applied r ts) ∙ ap count parts ∙ count_applied v us)
+clash_none (Comp f ts) (Comp g us) r v (inr k) e = let parts : apply_all r ts ≡ apply_all v us = cc in k (sym (count_applied r ts) ∙ ap term_count parts ∙ count_applied v us)
 
 module _ (M : ℕ) (area : Area) (shown : List ℕ) (name : Naming) (h : Cells) (qs : List Indexical) (e : Entry) (c : Registers) (stack : List Saved) (b : Branch) (m : IsCalling M area shown name h qs e c stack b) (s : Shape) (shows : ShowsFirst name h c.x s) where
   pub clash_gone : (k : Clause) → fits_head (made (name_of area e.name) m.ts) k.head ≡ true → ClashFirst s (arguments k.head) → (S : Family) → IsModel M (by_clause b (made (name_of area e.name) m.ts) m.rest k).equations b.posted S → ⊥
@@ -52,7 +52,7 @@ module _ (M : ℕ) (area : Area) (shown : List ℕ) (name : Naming) (h : Cells) 
       go m.ts (arguments k.head) (fits_count (name_of area e.name) m.ts k.head fits) m.held clash
       (subst (λ l. IsModel M (l ++ b.equations) b.posted S) (fits_equations (λ x. b.fresh + x) (name_of area e.name) m.ts k.head fits) g)
     where
-      go : (ts us : Terms) → count ts ≡ count us → AreHeld name h m.look (λ v. v < b.fresh) 1 c.x ts → ClashFirst s us → IsModel M (paired ts (apply_all (λ x. Var (b.fresh + x)) us) ++ b.equations) b.posted S → ⊥
+      go : (ts us : Terms) → term_count ts ≡ term_count us → AreHeld name h m.look (λ v. v < b.fresh) 1 c.x ts → ClashFirst s us → IsModel M (paired ts (apply_all (λ x. Var (b.fresh + x)) us) ++ b.equations) b.posted S → ⊥
       go ts no_terms w a n i = n
       go no_terms (term u us) w a n i = absurd (omega (arith, w))
       go (term t ts) (term u us) w a n i =

@@ -4,7 +4,7 @@ use Rattle.std.proofs.lemmas.Bool.{cases_Bool, cases_eq, true≢false, and_parts
 use Rattle.std.proofs.lemmas.Bool.Decides.{nat_tests}
 use Rattle.std.proofs.lemmas.Option.{same_Some}
 use Rattle.code_steps.proofs.Leaving.{count_applied}
-use Rattle.fd_language.specs.Term.{Name, Term, Terms, Var, Comp, no_terms, term, Substitution, apply, apply_all}
+use Rattle.fd_language.specs.Term.{Name, Term, Terms, Var, Comp, no_terms, term, Substitution, apply, apply_all, term_count}
 use Rattle.fd_language.specs.Unifier.{Equation}
 use Rattle.fd_language.specs.Family.{Family}
 use Rattle.fd_language.specs.Range.{Indexical}
@@ -27,12 +27,13 @@ use Rattle.wam_code.specs.declared.instruction.Register.TheVariants.{X, Y}
 use Rattle.wam_code.specs.declared.instruction.Code.{Code}
 use Rattle.wam_code.specs.declared.instruction.Code.TheVariants.{GetStructure, UnifyVariable, UnifyValue, UnifyConstant, UnifyInteger, UnifyVoid}
 use Rattle.wam_code.specs.Area.{Area, Holds, name_of}
-use Rattle.wam_code.specs.Places.{Places, put_at, write, learn, read, IsFresh, count}
+use Rattle.wam_code.specs.Places.{Places, put_at, write, learn, read, IsFresh}
 use Rattle.wam_code.specs.Means.{UnifyRule, Owed, Return}
 use Rattle.code_steps.specs.Registers.{Registers, Saved, IsShown, AllShown}
 use Rattle.code_steps.specs.Standing.{Made, IsOld, IsMade, Stands}
 use Rattle.code_steps.specs.ReadMode.{AreCells, IsWider, local, IsPlain, ArePlain, Reads}
-use Rattle.code_steps.proofs.RegisterTerms.{put_here, put_else, shown_moved, all_moved}
+use Rattle.wam_code.proofs.Lemmas.{put_here, put_else}
+use Rattle.code_steps.proofs.RegisterTerms.{shown_moved, all_moved}
 use Rattle.code_steps.proofs.Making.{moved_over, learnt_here, learnt_more}
 use Rattle.code_steps.proofs.Stepping.{here}
 use Rattle.code_steps.proofs.Ghosts.{ghosts, assign, assign_below, ghosts_in, ghost_each, ghost_of, assign_ghosts, unify_ghosts, ghosts_unify, same_tail, same_head}
@@ -119,11 +120,11 @@ or_true false y (inl e) = absurd (true≢false (sym e))
 or_true false y (inr e) = e
 
 -- as many terms as cells
-pub count_terms : (by : Cell → Term) (cs : List Cell) → count (terms_by by cs) ≡ length cs
+pub count_terms : (by : Cell → Term) (cs : List Cell) → term_count (terms_by by cs) ≡ length cs
 count_terms by [] = refl
 count_terms by (c ∷ cs) = ap suc (count_terms by cs)
 
-count_ghosts : (n : ℕ) (ss : Terms) → count (ghosts n ss) ≡ count ss
+count_ghosts : (n : ℕ) (ss : Terms) → term_count (ghosts n ss) ≡ term_count ss
 count_ghosts n no_terms = refl
 count_ghosts n (term s ss) = ap suc (count_ghosts (suc n) ss)
 
@@ -145,7 +146,7 @@ all_plain name h look P Q more fresh (r ∷ rs) (s ∷ ss) a = (a.1, (λ n t e. 
 
 module _ (M : ℕ) (name : Naming) (h : Cells) (qs : List Indexical) (returns : List Return) (stack : List Saved) (b : Branch) (c : Registers) (p : Places) (todo : List Equation) (m : IsMade M name h qs c returns stack b p todo)
     (a : Term) (d : Cell) (at_a : IsShown name h m.look (Made p b.fresh) a d) (f : Name) (cells : List Cell) (there : term_of name h d ≡ Comp f (terms_by (term_of name h) cells)) (own : AllOwn h cells)
-    (us : Terms) (counted : count us ≡ length cells) (low_us : AllOf (λ v. v < b.fresh + p.top) us) where
+    (us : Terms) (counted : term_count us ≡ length cells) (low_us : AllOf (λ v. v < b.fresh + p.top) us) where
   abbrev P : ℕ → Type 0
   P = Made p b.fresh
 
@@ -159,7 +160,7 @@ module _ (M : ℕ) (name : Naming) (h : Cells) (qs : List Indexical) (returns : 
   inner v = p.known v && (nat_lt v b.fresh || nat_lt v p.top)
 
   abbrev wide : Places
-  wide = record { x = p.x; y = p.y; known = λ v. cond (nat_lt v base) (inner v) true; own = p.own; top = base + count values }
+  wide = record { x = p.x; y = p.y; known = λ v. cond (nat_lt v base) (inner v) true; own = p.own; top = base + term_count values }
 
   abbrev Q : ℕ → Type 0
   Q = Made wide base
@@ -196,10 +197,10 @@ module _ (M : ℕ) (name : Naming) (h : Cells) (qs : List Indexical) (returns : 
   wider : (v : ℕ) → P v → Q v
   wider v k = (known_low v (low v k) ∙ inner_true v k, inl (low v k))
 
-  ghost_known : (v : ℕ) → base ≤ v → v < base + count values → Q v
+  ghost_known : (v : ℕ) → base ≤ v → v < base + term_count values → Q v
   ghost_known v l k = (let e : nat_lt v base ≡ false = grind (arith, nat_tests) in ap (λ k. cond k (inner v) true) e, inr k)
 
-  by_known : (v : ℕ) → Q v → P v ⊎ ((base ≤ v) × (v < base + count values))
+  by_known : (v : ℕ) → Q v → P v ⊎ ((base ≤ v) × (v < base + term_count values))
   by_known v k = elim (cases_Bool (nat_lt v base)) [
     | inl e ↦ let l : v < base = grind (arith, nat_tests) in inl (inner_back v (sym (known_low v l) ∙ k.0))
     | inr e ↦ let l : base ≤ v = grind (arith, nat_tests) in inr (l, elim k.1 [ inl i ↦ absurd (omega (arith, i, l)) | inr i ↦ i ])
@@ -252,7 +253,7 @@ module _ (M : ℕ) (name : Naming) (h : Cells) (qs : List Indexical) (returns : 
     ];
   }
 
-  same_count : count values ≡ count us
+  same_count : term_count values ≡ term_count us
   same_count = count_terms (term_of name h) cells ∙ sym counted
 
   -- the ghosts and the arguments say what the whole terms do
@@ -298,7 +299,7 @@ module _ (M : ℕ) (name : Naming) (h : Cells) (qs : List Indexical) (returns : 
 module _ (M : ℕ) (area : Area) (shown : List ℕ) (name : Naming) (h : Cells) (qs : List Indexical) (at : ℕ) (c : Registers) (stack : List Saved) (b : Branch) (m : Stands M area shown name h qs at c stack b) where
   -- Whatever would make the cell such a term makes a variable of the store an atom or a compound term.
   abbrev pub IsNone : Cell → Name → ℕ → Type 0
-  IsNone d f n = (back : Substitution) (us : Terms) → count us ≡ n → apply back (term_of name h d) ≡ Comp f us → (e : ℕ) × (k : ℕ) × IsLinked h e k × IsSymbolic (back e)
+  IsNone d f n = (back : Substitution) (us : Terms) → term_count us ≡ n → apply back (term_of name h d) ≡ Comp f us → (e : ℕ) × (k : ℕ) × IsLinked h e k × IsSymbolic (back e)
 
   pub step_get_structure : (f : AtomId) (n a : ℕ) → Holds area at (GetStructure f n a) → (d : Cell) × (c.x a ≡ Some d) × IsOf h d
       × ((cells : List Cell) → length cells ≡ n → term_of name h d ≡ Comp (name_of area f) (terms_by (term_of name h) cells) → AllOwn h cells → Reads M area shown name h qs 0 (suc at) c cells stack b)
@@ -324,7 +325,7 @@ module _ (M : ℕ) (area : Area) (shown : List ℕ) (name : Naming) (h : Cells) 
         one.1,
         one.2.own,
         (λ cells size there own.
-            let counted : count us ≡ length cells = k.3.3.0 ∙ sym size in
+            let counted : term_count us ≡ length cells = k.3.3.0 ∙ sym size in
             let o = opened_made M name h qs m.returns stack b c p k.1 g e.0 one.0 one.2 name' cells there own us counted low_us in
             record {
               p = p;

@@ -1,7 +1,7 @@
 -- The unify instructions on a compound term that is there.
 use Rattle.std.proofs.Common.{◌≡◌, ℕ, suc, ◌<◌, ◌==◌, ℤ, Bool, true, false, cond, List, [], ◌∷◌, ◌++◌, Some, refl, ap, sym, ◌∙◌, subst, inl, inr, arith}
 use Rattle.std.proofs.lemmas.Bool.{cases_eq, true≢false}
-use Rattle.fd_language.specs.Term.{Term, Terms, Var, Int, Atom, no_terms, term, Substitution}
+use Rattle.fd_language.specs.Term.{Term, Terms, Var, Int, Atom, no_terms, term, Substitution, term_count}
 use Rattle.fd_language.specs.Unifier.{Equation}
 use Rattle.fd_language.specs.Family.{has}
 use Rattle.fd_language.specs.Range.{Indexical}
@@ -25,7 +25,7 @@ use Rattle.wam_code.specs.declared.instruction.Register.{Register}
 use Rattle.wam_code.specs.declared.instruction.Register.TheVariants.{X, Y}
 use Rattle.wam_code.specs.declared.instruction.Code.TheVariants.{UnifyVariable, UnifyValue, UnifyConstant, UnifyInteger, UnifyVoid}
 use Rattle.wam_code.specs.Area.{Area, Holds, name_of}
-use Rattle.wam_code.specs.Places.{Places, write, learn, read, IsFresh, count}
+use Rattle.wam_code.specs.Places.{Places, write, learn, read, IsFresh}
 use Rattle.wam_code.specs.Means.{Owed, Means, Return}
 use Rattle.wam_code.proofs.Lemmas.{at_unify}
 use Rattle.code_steps.specs.Registers.{Registers, Saved, cell_in, IsWritten, IsShown, AllShown}
@@ -92,7 +92,7 @@ all_again name h look P Q fresh base (r ∷ rs) (s ∷ ss) a k = (
 
 module _ (M : ℕ) (area : Area) (shown : List ℕ) (name : Naming) (h : Cells) (qs : List Indexical) (c : Registers) (d : Cell) (left : List Cell) (stack : List Saved) (b : Branch) where
   -- the variable v takes the cell, and then the places are mid
-  take : (at voids : ℕ) (m : Reads M area shown name h qs voids at c (d ∷ left) stack b) (s : Term) (ss : Terms) (t : Term) (us : Terms) (made : IsMade M name h qs c m.returns stack (local b m.whole m.base) m.wide (paired (term s ss) (term t us))) → AreCells name h made.look (Made m.wide m.base) (d ∷ left) (term s ss) → count (term t us) ≡ count (term s ss)
+  take : (at voids : ℕ) (m : Reads M area shown name h qs voids at c (d ∷ left) stack b) (s : Term) (ss : Terms) (t : Term) (us : Terms) (made : IsMade M name h qs c m.returns stack (local b m.whole m.base) m.wide (paired (term s ss) (term t us))) → AreCells name h made.look (Made m.wide m.base) (d ∷ left) (term s ss) → term_count (term t us) ≡ term_count (term s ss)
       → (v : ℕ) → IsFresh m.p v → t ≡ Var v
       → (now : IsMade M name h qs c m.returns stack (local b m.whole m.base) (learn m.wide v) (paired ss us)) × IsShown name h now.look (Made (learn m.wide v) m.base) (Var v) d × AreCells name h now.look (Made (learn m.wide v) m.base) left ss × IsWider (learn m.p v) (learn m.wide v) b.fresh m.base
   take at voids m s ss t us g cells counted v f is =
@@ -100,7 +100,7 @@ module _ (M : ℕ) (area : Area) (shown : List ℕ) (name : Naming) (h : Cells) 
       (k.0, k.1, cells_keep name h h g.look k.0.look (Made m.wide m.base) (Made (learn m.wide v) m.base) k.2 left ss cells.1, wider_learn m.p m.wide b.fresh m.base v f.1 m.wider)
 
   -- the rest of what is read
-  reads : (at voids : ℕ) (m : Reads M area shown name h qs voids at c (d ∷ left) stack b) (now : Cells) (qs' : List Indexical) (voids' at' : ℕ) (c' : Registers) (p wide : Places) (ss us : Terms) (made : IsMade M name now qs' c' m.returns stack (local b m.whole m.base) wide (paired ss us)) → AreCells name now made.look (Made wide m.base) left ss → count us ≡ count ss
+  reads : (at voids : ℕ) (m : Reads M area shown name h qs voids at c (d ∷ left) stack b) (now : Cells) (qs' : List Indexical) (voids' at' : ℕ) (c' : Registers) (p wide : Places) (ss us : Terms) (made : IsMade M name now qs' c' m.returns stack (local b m.whole m.base) wide (paired ss us)) → AreCells name now made.look (Made wide m.base) left ss → term_count us ≡ term_count ss
       → IsWider p wide b.fresh m.base → Owed area voids' at' p us m.next m.q → Reads M area shown name now qs' voids' at' c' left stack b
   reads at voids m now qs' voids' at' c' p wide ss us g cells counted wider owed = record {
     p = p;
@@ -128,12 +128,12 @@ module _ (M : ℕ) (area : Area) (shown : List ℕ) (name : Naming) (h : Cells) 
 
   -- the terms of the first cell
   abbrev First : (at voids : ℕ) → Reads M area shown name h qs voids at c (d ∷ left) stack b → Type 0
-  First at voids m = (s : Term) × (ss : Terms) × (t : Term) × (us : Terms) × (made : IsMade M name h qs c m.returns stack (local b m.whole m.base) m.wide (paired (term s ss) (term t us))) × AreCells name h made.look (Made m.wide m.base) (d ∷ left) (term s ss) × (suc (count us) ≡ suc (count ss)) × Owed area voids at m.p (term t us) m.next m.q
+  First at voids m = (s : Term) × (ss : Terms) × (t : Term) × (us : Terms) × (made : IsMade M name h qs c m.returns stack (local b m.whole m.base) m.wide (paired (term s ss) (term t us))) × AreCells name h made.look (Made m.wide m.base) (d ∷ left) (term s ss) × (suc (term_count us) ≡ suc (term_count ss)) × Owed area voids at m.p (term t us) m.next m.q
 
   first : (at voids : ℕ) (m : Reads M area shown name h qs voids at c (d ∷ left) stack b) → First at voids m
   first at voids m = go m.sides m.ts m.made m.cells m.counted m.owed
     where
-      go : (ss us : Terms) (made : IsMade M name h qs c m.returns stack (local b m.whole m.base) m.wide (paired ss us)) → AreCells name h made.look (Made m.wide m.base) (d ∷ left) ss → count us ≡ count ss → Owed area voids at m.p us m.next m.q → First at voids m
+      go : (ss us : Terms) (made : IsMade M name h qs c m.returns stack (local b m.whole m.base) m.wide (paired ss us)) → AreCells name h made.look (Made m.wide m.base) (d ∷ left) ss → term_count us ≡ term_count ss → Owed area voids at m.p us m.next m.q → First at voids m
       go no_terms us g a n o = absurd a
       go (term s ss) no_terms g a n o = absurd (omega (arith, n))
       go (term s ss) (term t us) g a n o = (s, ss, t, us, g, a, n, o)
@@ -152,7 +152,7 @@ module _ (M : ℕ) (area : Area) (shown : List ℕ) (name : Naming) (h : Cells) 
       let owed : Owed area 0 (suc at) (write (learn m.p v) r (Var v)) k.3 m.next m.q = subst (λ p. Owed area 0 (suc at) p k.3 m.next m.q) o.2.4 (subst (λ n. Owed area n (suc at) o.1 k.3 m.next m.q) o.2.3 o.3) in
       reads at 0 m h qs 0 (suc at) c' (write (learn m.p v) r (Var v)) (write (learn m.wide v) r (Var v)) k.1 k.3 two.0
       (cells_keep name h h one.0.look two.0.look (Made (learn m.wide v) m.base) (Made (write (learn m.wide v) r (Var v)) m.base) two.2 left k.1 one.2)
-      (tail_count (count k.3) (count k.1) k.6) (wider_write (learn m.p v) (learn m.wide v) b.fresh m.base r (Var v) one.3) owed
+      (tail_count (term_count k.3) (term_count k.1) k.6) (wider_write (learn m.p v) (learn m.wide v) b.fresh m.base r (Var v) one.3) owed
 
   -- UnifyVoid: the cell is passed over
   pub read_void : (at n : ℕ) (m : Reads M area shown name h qs 0 at c (d ∷ left) stack b) → Holds area at (UnifyVoid (suc n)) → Reads M area shown name h qs n (suc at) c left stack b
@@ -162,14 +162,14 @@ module _ (M : ℕ) (area : Area) (shown : List ℕ) (name : Naming) (h : Cells) 
       let v = o.2.0 in
       let one = take at 0 m k.0 k.1 k.2 k.3 k.4 k.5 k.6 v o.2.1 o.2.2 in
       let owed : Owed area n (suc at) (learn m.p v) k.3 m.next m.q = subst (λ p. Owed area n (suc at) p k.3 m.next m.q) o.2.4 (subst (λ n. Owed area n (suc at) o.1 k.3 m.next m.q) o.2.3 o.3) in
-      reads at 0 m h qs n (suc at) c (learn m.p v) (learn m.wide v) k.1 k.3 one.0 one.2 (tail_count (count k.3) (count k.1) k.6) one.3 owed
+      reads at 0 m h qs n (suc at) c (learn m.p v) (learn m.wide v) k.1 k.3 one.0 one.2 (tail_count (term_count k.3) (term_count k.1) k.6) one.3 owed
 
   -- and those behind it
   pub read_voids : (at n : ℕ) (m : Reads M area shown name h qs (suc n) at c (d ∷ left) stack b) → Reads M area shown name h qs n at c left stack b
   read_voids at n m =
       let k = first at (suc n) m in
       let one = take at (suc n) m k.0 k.1 k.2 k.3 k.4 k.5 k.6 k.7.0 k.7.1 k.7.2 in
-      reads at (suc n) m h qs n at c (learn m.p k.7.0) (learn m.wide k.7.0) k.1 k.3 one.0 one.2 (tail_count (count k.3) (count k.1) k.6) one.3 k.7.3
+      reads at (suc n) m h qs n at c (learn m.p k.7.0) (learn m.wide k.7.0) k.1 k.3 one.0 one.2 (tail_count (term_count k.3) (term_count k.1) k.6) one.3 k.7.3
 
   -- a term whose cell is known
   equal : (at : ℕ) (m : Reads M area shown name h qs 0 at c (d ∷ left) stack b) (k : First at 0 m) (t : Term) (e : Cell) → k.2 ≡ t → IsShown name h k.4.look (Made m.wide m.base) t e → Owed area 0 (suc at) m.p k.3 m.next m.q → ReadsOnEqual M area shown name h qs (suc at) c left stack b d e
@@ -182,7 +182,7 @@ module _ (M : ℕ) (area : Area) (shown : List ℕ) (name : Naming) (h : Cells) 
             let g = made_unified M name qs m.returns stack bl h c m.wide todo k.4 k.0 t d e k.5.0 at_e (paired k.1 k.3) same now ts u size in
             reads at 0 m now (qs ++ posts (store_touches ts)) 0 (suc at) c m.p m.wide k.1 k.3 g
             (cells_keep name h now k.4.look g.look (Made m.wide m.base) (Made m.wide m.base) (unified_keeps M name qs m.returns stack bl h c m.wide todo k.4 k.0 t d e k.5.0 at_e (paired k.1 k.3) same now ts u size) left k.1 k.5.1)
-            (tail_count (count k.3) (count k.1) k.6) m.wider owed;
+            (tail_count (term_count k.3) (term_count k.1) k.6) m.wider owed;
         refuted = λ no_one S g.
             made_refuted M name qs m.returns stack bl h c m.wide todo k.4 k.0 t d e k.5.0 at_e (paired k.1 k.3) same no_one S
             (weaker M (m.whole ++ m.todo) m.whole b.posted S (λ u j. (split_both u m.whole m.todo j).0) (same_model M (λ v. v < b.fresh) (m.whole ++ m.todo) b.equations b.posted S m.ahead.same m.ahead.used g));
@@ -215,7 +215,7 @@ module _ (M : ℕ) (area : Area) (shown : List ℕ) (name : Naming) (h : Cells) 
 pub read_end : (M : ℕ) (area : Area) (shown : List ℕ) (name : Naming) (h : Cells) (qs : List Indexical) (at : ℕ) (c : Registers) (stack : List Saved) (b : Branch) → Reads M area shown name h qs 0 at c [] stack b → Stands M area shown name h qs at c stack b
 read_end M area shown name h qs at c stack b m = go m.sides m.ts m.made m.cells m.counted m.owed
   where
-    go : (ss us : Terms) (made : IsMade M name h qs c m.returns stack (local b m.whole m.base) m.wide (paired ss us)) → AreCells name h made.look (Made m.wide m.base) [] ss → count us ≡ count ss → Owed area 0 at m.p us m.next m.q → Stands M area shown name h qs at c stack b
+    go : (ss us : Terms) (made : IsMade M name h qs c m.returns stack (local b m.whole m.base) m.wide (paired ss us)) → AreCells name h made.look (Made m.wide m.base) [] ss → term_count us ≡ term_count ss → Owed area 0 at m.p us m.next m.q → Stands M area shown name h qs at c stack b
     go (term s ss) us g a n o = absurd a
     go no_terms (term t us) g a n o = absurd (omega (arith, n))
     go no_terms no_terms g a n o =

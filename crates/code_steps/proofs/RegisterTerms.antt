@@ -1,5 +1,5 @@
 -- Registers and continuations on a heap that changes.
-use Rattle.std.proofs.Common.{◌≡◌, ℕ, ◌≤◌, cond, List, [], ◌∷◌, Option, Some, refl, ap, sym, ◌∙◌, subst, inl, inr, arith, eq-eqb, ne_eqb}
+use Rattle.std.proofs.Common.{◌≡◌, ℕ, ◌≤◌, List, [], ◌∷◌, Option, ap, sym, ◌∙◌, subst, inl, inr, arith}
 use Rattle.std.proofs.lemmas.Bool.{cases_eq}
 use Rattle.std.proofs.lemmas.Option.{same_Some}
 use Rattle.fd_language.specs.Term.{Term, Substitution, apply}
@@ -10,13 +10,8 @@ use Rattle.machine_relation.specs.Heap.{Of}
 use Rattle.machine_relation.proofs.Lemmas.{more_of}
 use Rattle.wam_code.specs.Places.{put_at}
 use Rattle.wam_code.specs.Means.{Return}
+use Rattle.wam_code.proofs.Lemmas.{put_here, put_else}
 use Rattle.code_steps.specs.Registers.{Saved, IsPut, AreSame, IsShown, AreShown, AllShown}
-
-pub put_here : (i : ℕ) (t : Term) (r : ℕ → Option Term) → put_at i t r i ≡ Some t
-put_here i t r = ap (λ b. cond b (Some t) (r i)) (eq-eqb i i refl)
-
-pub put_else : (i : ℕ) (t : Term) (r : ℕ → Option Term) (n : ℕ) → (n ≡ i → ⊥) → put_at i t r n ≡ r n
-put_else i t r n d = ap (λ b. cond b (Some t) (r n)) (ne_eqb n i d)
 
 -- the cells of known terms stay, or move with the heap
 module _ (name : Naming) (h now : Cells) (look look' : Substitution) (P Q : ℕ → Type 0) (wider : (x : ℕ) → P x → Q x)

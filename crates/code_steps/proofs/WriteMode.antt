@@ -1,6 +1,6 @@
 -- The unify instructions where a compound term is built.
 use Rattle.std.proofs.Common.{◌≡◌, ℕ, suc, ℤ, List, [], ◌∷◌, ◌++◌, length, Some, refl, ap, sym, ◌∙◌, subst, arith}
-use Rattle.fd_language.specs.Term.{Term, Terms, Var, Int, Atom, no_terms, term, Substitution}
+use Rattle.fd_language.specs.Term.{Term, Terms, Var, Int, Atom, no_terms, term, Substitution, term_count, joined_terms}
 use Rattle.fd_language.specs.Range.{Indexical}
 use Rattle.fd_model.specs.Goal.{Branch}
 use Rattle.heap_cells.specs.declared.Cell.{Cell}
@@ -13,21 +13,21 @@ use Rattle.term_pool.specs.declared.AtomId.{AtomId}
 use Rattle.wam_code.specs.declared.instruction.Register.{Register}
 use Rattle.wam_code.specs.declared.instruction.Code.TheVariants.{UnifyVariable, UnifyValue, UnifyConstant, UnifyInteger, UnifyVoid}
 use Rattle.wam_code.specs.Area.{Area, Holds, name_of}
-use Rattle.wam_code.specs.Places.{Places, write, learn, count}
+use Rattle.wam_code.specs.Places.{Places, write, learn}
 use Rattle.wam_code.specs.Means.{Owed}
 use Rattle.wam_code.proofs.Lemmas.{at_unify}
 use Rattle.code_steps.specs.Registers.{Registers, Saved, cell_in, IsWritten, IsShown}
 use Rattle.code_steps.specs.Standing.{Made, IsMade}
 use Rattle.code_steps.specs.ReadMode.{AreCells}
-use Rattle.code_steps.specs.WriteMode.{joined, End, Builds}
+use Rattle.code_steps.specs.WriteMode.{End, Builds}
 use Rattle.code_steps.proofs.Making.{made_read, made_write, made_cell}
 use Rattle.code_steps.proofs.ReadMode.{cells_keep}
 
-joined_next : (ss : Terms) (t : Term) (ts : Terms) → joined (joined ss (term t no_terms)) ts ≡ joined ss (term t ts)
+joined_next : (ss : Terms) (t : Term) (ts : Terms) → joined_terms (joined_terms ss (term t no_terms)) ts ≡ joined_terms ss (term t ts)
 joined_next no_terms t ts = refl
 joined_next (term s ss) t ts = ap (term s) (joined_next ss t ts)
 
-cells_next : (name : Naming) (h : Cells) (look : Substitution) (P : ℕ → Type 0) (ds : List Cell) (ss : Terms) (e : Cell) (t : Term) → AreCells name h look P ds ss → IsShown name h look P t e → AreCells name h look P (ds ++ e ∷ []) (joined ss (term t no_terms))
+cells_next : (name : Naming) (h : Cells) (look : Substitution) (P : ℕ → Type 0) (ds : List Cell) (ss : Terms) (e : Cell) (t : Term) → AreCells name h look P ds ss → IsShown name h look P t e → AreCells name h look P (ds ++ e ∷ []) (joined_terms ss (term t no_terms))
 cells_next name h look P [] no_terms e t a s = (s, tt)
 cells_next name h look P [] (term u us) e t a s = absurd a
 cells_next name h look P (d ∷ ds) no_terms e t a s = absurd a
@@ -42,12 +42,12 @@ module _ (M : ℕ) (area : Area) (shown : List ℕ) (name : Naming) (h : Cells) 
 
   -- one more argument
   gathers : (voids at : ℕ) (m : Now voids at (suc left)) (now : Cells) (voids' at' : ℕ) (c' : Registers) (p : Places) (t : Term) (us : Terms) (e : Cell) (g : IsMade M name now qs c' m.returns stack b p m.todo) → AreCells name now g.look (Made p b.fresh) cells m.gathered → IsShown name now g.look (Made p b.fresh) t e
-      → count us ≡ left → m.ts ≡ term t us → Owed area voids' at' p us m.next m.q → Then now voids' at' c' e
+      → term_count us ≡ left → m.ts ≡ term t us → Owed area voids' at' p us m.next m.q → Then now voids' at' c' e
   gathers voids at m now voids' at' c' p t us e g are s counted is owed = record {
     p = p;
     q = m.q;
     next = m.next;
-    gathered = joined m.gathered (term t no_terms);
+    gathered = joined_terms m.gathered (term t no_terms);
     ts = us;
     todo = m.todo;
     returns = m.returns;
@@ -56,16 +56,16 @@ module _ (M : ℕ) (area : Area) (shown : List ℕ) (name : Naming) (h : Cells) 
     are = cells_next name now g.look (Made p b.fresh) cells m.gathered e t are s;
     counted = counted;
     owed = owed;
-    ends = subst (λ l. Ends l m.next m.q m.todo m.after) (ap (joined m.gathered) is ∙ sym (joined_next m.gathered t us)) m.ends;
+    ends = subst (λ l. Ends l m.next m.q m.todo m.after) (ap (joined_terms m.gathered) is ∙ sym (joined_next m.gathered t us)) m.ends;
     continues = m.continues;
     below = m.below;
     asked = m.asked;
   }
 
-  first : (voids at : ℕ) (m : Now voids at (suc left)) → (t : Term) × (us : Terms) × (m.ts ≡ term t us) × (count us ≡ left) × Owed area voids at m.p (term t us) m.next m.q
+  first : (voids at : ℕ) (m : Now voids at (suc left)) → (t : Term) × (us : Terms) × (m.ts ≡ term t us) × (term_count us ≡ left) × Owed area voids at m.p (term t us) m.next m.q
   first voids at m = go m.ts refl m.counted m.owed
     where
-      go : (ts : Terms) → m.ts ≡ ts → count ts ≡ suc left → Owed area voids at m.p ts m.next m.q → (t : Term) × (us : Terms) × (m.ts ≡ term t us) × (count us ≡ left) × Owed area voids at m.p (term t us) m.next m.q
+      go : (ts : Terms) → m.ts ≡ ts → term_count ts ≡ suc left → Owed area voids at m.p ts m.next m.q → (t : Term) × (us : Terms) × (m.ts ≡ term t us) × (term_count us ≡ left) × Owed area voids at m.p (term t us) m.next m.q
       go no_terms e n o = absurd (omega (arith, n))
       go (term t us) e n o = (t, us, e, omega (arith, n), o)
 

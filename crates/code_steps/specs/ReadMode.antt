@@ -1,6 +1,6 @@
 -- What a machine stands for between two unify instructions on a compound term that is there.
 use Rattle.std.specs.Prelude.{◌≡◌, ℕ, ◌<◌, ◌≤◌, true, List, [], ◌∷◌, ◌++◌, Some}
-use Rattle.fd_language.specs.Term.{Term, Terms, no_terms, term, Substitution}
+use Rattle.fd_language.specs.Term.{Term, Terms, no_terms, term, Substitution, term_count}
 use Rattle.fd_language.specs.Unifier.{Equation}
 use Rattle.fd_language.specs.Range.{Indexical}
 use Rattle.fd_language.specs.Family.{Family, has}
@@ -22,7 +22,7 @@ use Rattle.unify_core.specs.Unifications as core
 use Rattle.unify_core.specs.Unifications.{cells_equal}
 use Rattle.fd_model.specs.Models.{IsModel}
 use Rattle.wam_code.specs.Area.{Area}
-use Rattle.wam_code.specs.Places.{Places, count}
+use Rattle.wam_code.specs.Places.{Places}
 use Rattle.wam_code.specs.Means.{Owed, Means, Return, Continues}
 use Rattle.code_steps.specs.Registers.{Registers, Saved, IsShown}
 use Rattle.code_steps.specs.Standing.{Made, IsOld, IsMade}
@@ -84,7 +84,7 @@ pub record Reads (M : ℕ) (area : Area) (shown : List ℕ) (name : Naming) (h :
   pub after : List Goal
   pub made : IsMade M name h qs c returns stack (local b whole base) wide (paired sides ts)
   pub cells : AreCells name h made.look (Made wide base) left sides
-  pub counted : count ts ≡ count sides
+  pub counted : term_count ts ≡ term_count sides
   pub wider : IsWider p wide b.fresh base
   pub owed : Owed area voids at p ts next q
   pub ahead : IsRead b returns q whole todo

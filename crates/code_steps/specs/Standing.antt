@@ -1,6 +1,6 @@
 -- What the state of a machine over code stands for, between two instructions.
 use Rattle.std.specs.Prelude.{◌≡◌, ℕ, ◌<◌, ◌≤◌, ◌⊎◌, true, List, ◌∷◌, ◌++◌}
-use Rattle.fd_language.specs.Term.{Terms, Substitution}
+use Rattle.fd_language.specs.Term.{Terms, Substitution, term_count}
 use Rattle.fd_language.specs.Unifier.{Equation}
 use Rattle.fd_language.specs.Range.{Indexical}
 use Rattle.fd_language.specs.Family.{has}
@@ -13,7 +13,7 @@ use Rattle.machine_relation.specs.Heap.{EquationsOf}
 use Rattle.machine_relation.specs.Says.{SaysSame}
 use Rattle.machine_frames.specs.Frames.{IsKept}
 use Rattle.wam_code.specs.Area.{Area, name_of}
-use Rattle.wam_code.specs.Places.{Places, count, made}
+use Rattle.wam_code.specs.Places.{Places, made}
 use Rattle.wam_code.specs.declared.parts.Entry.{Entry}
 use Rattle.wam_code.specs.Means.{Means, Return, Continues}
 use Rattle.code_steps.specs.Registers.{Registers, Saved, AreShown, AllShown, AreHeld}
@@ -59,7 +59,7 @@ pub record IsCalling (M : ℕ) (area : Area) (shown : List ℕ) (name : Naming) 
   pub ts : Terms
   pub rest : List Goal
   pub returns : List Return
-  pub counted : count ts ≡ e.arity
+  pub counted : term_count ts ≡ e.arity
   pub goals : b.goals ≡ Call (made (name_of area e.name) ts) ∷ rest
   pub below : EachBelow b.fresh b.goals
   pub asked : NumbersBelow b.fresh shown

@@ -1,6 +1,6 @@
 -- What a machine stands for between two unify instructions where a compound term is built.
 use Rattle.std.specs.Prelude.{◌≡◌, ℕ, List, ◌∷◌}
-use Rattle.fd_language.specs.Term.{Name, Term, Terms, Comp, no_terms, term}
+use Rattle.fd_language.specs.Term.{Name, Term, Terms, Comp, term, joined_terms, term_count}
 use Rattle.fd_language.specs.Unifier.{Equation}
 use Rattle.fd_language.specs.Range.{Indexical}
 use Rattle.fd_model.specs.Goal.{Goal, Branch}
@@ -10,16 +10,11 @@ use Rattle.heap_cells.specs.Cells.{Cells}
 use Rattle.heap_cells.specs.Terms.{Naming}
 use Rattle.wam_code.specs.declared.instruction.Register.TheVariants.{X}
 use Rattle.wam_code.specs.Area.{Area}
-use Rattle.wam_code.specs.Places.{Places, write, count}
+use Rattle.wam_code.specs.Places.{Places, write}
 use Rattle.wam_code.specs.Means.{Owed, Means, Return, Continues}
 use Rattle.code_steps.specs.Registers.{Registers, Saved}
 use Rattle.code_steps.specs.Standing.{Made, IsMade}
 use Rattle.code_steps.specs.ReadMode.{AreCells}
-
--- the terms of the one list before those of the other
-abbrev pub joined : Terms → Terms → Terms
-joined no_terms us = us
-joined (term t ts) us = term t (joined ts us)
 
 -- what is to be done with all the terms, at the place next with the places q
 abbrev pub End : Type 1
@@ -46,9 +41,9 @@ pub record Builds (M : ℕ) (area : Area) (shown : List ℕ) (name : Naming) (h 
   pub after : List Goal
   pub made : IsMade M name h qs c returns stack b p todo
   pub are : AreCells name h made.look (Made p b.fresh) cells gathered
-  pub counted : count ts ≡ left
+  pub counted : term_count ts ≡ left
   pub owed : Owed area voids at p ts next q
-  pub ends : Ends (joined gathered ts) next q todo after
+  pub ends : Ends (joined_terms gathered ts) next q todo after
   pub continues : Continues area shown returns after
   pub below : EachBelow b.fresh b.goals
   pub asked : NumbersBelow b.fresh shown

@@ -24,9 +24,8 @@ use Rattle.code_areas.specs.Areas.{Contents}
 use Rattle.code_states.specs.Standing.{went_to}
 use Rattle.code_states.specs.declared.went.Went.{Went}
 use Rattle.code_states.specs.declared.went.Went.TheVariants.{Back}
-use Rattle.code_states.proofs.Lemmas.{equated}
+use Rattle.code_states.proofs.Lemmas.{equated, below_heap, below_both}
 use Rattle.term_instructions.specs.WriteMode.{IsGatheredTo, BuildsFor, BuildsOn}
-use Rattle.term_instructions.proofs.Steps.{below_heap, below_both}
 use Rattle.term_instructions.proofs.Head.{built_then}
 use Rattle.term_instructions.proofs.BuildSteps.{gathered_both}
 

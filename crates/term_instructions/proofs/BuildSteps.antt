@@ -33,8 +33,8 @@ use Rattle.code_states.specs.Machine.{saved_of, registers_of, stack_of, IsSameBe
 use Rattle.code_states.specs.Safety.{Fits, IsSafe}
 use Rattle.code_states.specs.Standing.{IsNaming}
 use Rattle.term_instructions.specs.WriteMode.{Purpose, for_head, for_goal, end_of, gathered, IsGatheredTo, AddsVariables, AreVariablesAdded, GivesOne}
-use Rattle.code_states.proofs.Lemmas.{found, when_parts, some_is, written_fits, written_own, cells_kept, next_safe}
-use Rattle.term_instructions.proofs.Steps.{next_among, among_both, among_none, same_behind, behind_both, same_below, below_heap, below_both, owed_set, held_own, new_slot_own}
+use Rattle.code_states.proofs.Lemmas.{found, when_parts, some_is, written_fits, written_own, cells_kept, next_safe, same_behind, behind_both, same_below, below_heap, below_both}
+use Rattle.term_instructions.proofs.Steps.{next_among, among_both, among_none, owed_set, held_own, new_slot_own}
 use Rattle.term_instructions.proofs.Unify.{fits_owed, effect_owed, no_void}
 use Rattle.term_instructions.proofs.ReadSteps.{own_all}
 

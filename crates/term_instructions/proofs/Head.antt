@@ -7,7 +7,7 @@ use Rattle.std.proofs.Math.Seq.{drop-length}
 use Rattle.fd_language.specs.declared.NoMemory.{NoMemory}
 use Rattle.fd_language.specs.declared.TheConstants.{INFINITY}
 use Rattle.fd_language.specs.Family.{has}
-use Rattle.fd_language.specs.Term.{Term, Terms, Var, Int, Atom, Comp, Substitution, apply, apply_all}
+use Rattle.fd_language.specs.Term.{Term, Terms, Var, Int, Atom, Comp, Substitution, apply, apply_all, term_count}
 use Rattle.fd_model.specs.Goal.{Branch}
 use Rattle.term_pool.specs.declared.AtomId.{AtomId}
 use Rattle.heap_cells.specs.declared.Cell.{Cell}
@@ -30,7 +30,6 @@ use Rattle.branch_state.specs.States.{IsCell, IsSound, IsSoundBelow, IsSameBelow
 use Rattle.branch_state.specs.Steps.{posted_with}
 use Rattle.wam_code.specs.declared.instruction.Code.TheVariants.{GetStructure}
 use Rattle.wam_code.specs.Area.{State, Area, Holds, name_of}
-use Rattle.wam_code.specs.Places.{count}
 use Rattle.wam_code.specs.Effect.{with_owed}
 use Rattle.wam_code.specs.VerifiedCode.{IsAtom}
 use Rattle.code_areas.specs.Areas.{cell_at, IsSet, Contents}
@@ -50,8 +49,8 @@ use Rattle.term_instructions.specs.WriteMode.{for_head, BuildsAt, IsGatheredTo, 
 use Rattle.term_instructions.specs.ReadMode.{ReadsAt, IsReadTo, IsRefused, ReadsThen}
 use Rattle.code_states.specs.declared.went.Went.{Went}
 use Rattle.code_states.specs.declared.went.Went.TheVariants.{On, Back}
-use Rattle.code_states.proofs.Lemmas.{same_cells, found, when_parts, back_safe, next_safe}
-use Rattle.term_instructions.proofs.Steps.{among_both, led_from, same_behind, behind_both, same_below, below_heap, below_both}
+use Rattle.code_states.proofs.Lemmas.{same_cells, found, when_parts, back_safe, next_safe, same_behind, behind_both, same_below, below_heap, below_both}
+use Rattle.term_instructions.proofs.Steps.{among_both, led_from}
 use Rattle.term_instructions.proofs.Unify.{fits_owed}
 use Rattle.term_instructions.proofs.ReadSteps.{read_all}
 use Rattle.term_instructions.proofs.Structure.{grown_safe, sound_safe, equated_safe, made_keeps}
@@ -164,7 +163,7 @@ own_list : (h : Cells) (cells : List Cell) → All (IsOf h) cells → AllOwn h c
 own_list h [] a = tt
 own_list h (c ∷ cs) a = (a 0 c (omega arith), own_list h cs (λ k d l. a (suc k) d (omega (arith, l))))
 
-count_made : (back : Substitution) (by : Cell → Term) (cells : List Cell) → count (apply_all back (terms_by by cells)) ≡ length cells
+count_made : (back : Substitution) (by : Cell → Term) (cells : List Cell) → term_count (apply_all back (terms_by by cells)) ≡ length cells
 count_made back by [] = refl
 count_made back by (d ∷ cells) = ap suc (count_made back by cells)
 
@@ -219,9 +218,9 @@ module _ (area : Area) (s : branch.State) (at : ℕ) (c : Contents) (safe : IsSa
           let mine : k.0 ≡ d = same_Some k.0 d (sym k.1 ∙ here) in
           k.4 (λ back us size e. absurd (clash back us size (ap (apply back) (sym (ap (term_of name h) mine ∙ term_there name g args j is same)) ∙ e) differ))
         where
-          clash : (back : Substitution) (us : Terms) → count us ≡ n → Comp (name g) (apply_all back (terms_by (term_of name h) args)) ≡ Comp (name_of area f) us → ((g ≡ f → ⊥) ⊎ (length args ≡ n → ⊥)) → ⊥
+          clash : (back : Substitution) (us : Terms) → term_count us ≡ n → Comp (name g) (apply_all back (terms_by (term_of name h) args)) ≡ Comp (name_of area f) us → ((g ≡ f → ⊥) ⊎ (length args ≡ n → ⊥)) → ⊥
           clash back us size e (inl no_name) = no_name (m.apart g f ((let i : name g ≡ name_of area f = cc in i) ∙ sym (m.same f get_atom)))
-          clash back us size e (inr no_size) = no_size (sym (count_made back (term_of name h) args) ∙ ap count (let i : apply_all back (terms_by (term_of name h) args) ≡ us = cc in i) ∙ size)
+          clash back us size e (inr no_size) = no_size (sym (count_made back (term_of name h) args) ∙ ap term_count (let i : apply_all back (terms_by (term_of name h) args) ≡ us = cc in i) ∙ size)
 
     pub get_constant_seen : (v : Seen) → IsSeen h d v → ((i : ℕ) → v ≡ seen.Open i → ⊥) → ((g : AtomId) (args : Bor (List Cell)) → v ≡ seen.Struct g args → ⊥) → KeepsStanding area s at c s c Back
     get_constant_seen v k not_open not_struct shown name b m st =
@@ -229,7 +228,7 @@ module _ (area : Area) (s : branch.State) (at : ℕ) (c : Contents) (safe : IsSa
         let mine : e.0 ≡ d = same_Some e.0 d (sym e.1 ∙ here) in
         e.4 (subst (λ x. IsNone INFINITY area shown name h s.levels.current.posted at (registers_of c) (stack_of c) b st x (name_of area f) n) (sym mine) (go v k not_open not_struct))
       where
-        go : (v : Seen) → IsSeen h d v → ((i : ℕ) → v ≡ seen.Open i → ⊥) → ((g : AtomId) (args : Bor (List Cell)) → v ≡ seen.Struct g args → ⊥) → (back : Substitution) (us : Terms) → count us ≡ n → apply back (term_of name h d) ≡ Comp (name_of area f) us → (e : ℕ) × (k : ℕ) × IsLinked h e k × IsSymbolic (back e)
+        go : (v : Seen) → IsSeen h d v → ((i : ℕ) → v ≡ seen.Open i → ⊥) → ((g : AtomId) (args : Bor (List Cell)) → v ≡ seen.Struct g args → ⊥) → (back : Substitution) (us : Terms) → term_count us ≡ n → apply back (term_of name h d) ≡ Comp (name_of area f) us → (e : ℕ) × (k : ℕ) × IsLinked h e k × IsSymbolic (back e)
         go (seen.Open i) k not_open not_struct back us size e = absurd (not_open i refl)
         go (seen.Constrained i j) k not_open not_struct back us size e =
             let at_i : term_of name h d ≡ Var i = k.2 name ∙ unbound_term name h safe.sound.now.valid i (ap is_bound k.1) in

@@ -5,7 +5,7 @@ use Rattle.std.proofs.lemmas.List.Elements.{All-nil}
 use Rattle.std.proofs.lemmas.Option.{same_Some}
 use Rattle.fd_language.specs.declared.NoMemory.{NoMemory}
 use Rattle.fd_language.specs.declared.TheConstants.{INFINITY}
-use Rattle.fd_language.specs.Term.{Terms, no_terms, term, Substitution}
+use Rattle.fd_language.specs.Term.{Terms, no_terms, term, Substitution, term_count}
 use Rattle.fd_language.specs.Range.{Indexical}
 use Rattle.fd_model.specs.Goal.{Branch}
 use Rattle.fd_model.specs.Levels.{Levels}
@@ -23,14 +23,13 @@ use Rattle.unify_core.specs.Unifications.{IsEqualled, CannotUnify}
 use Rattle.unify_core.proofs.Lemmas.{integers_true, integers_false, atoms_true, atoms_false}
 use Rattle.branch_state.specs.States as branch
 use Rattle.branch_state.specs.States.{IsCell, IsSound, IsSoundBelow, with_heap}
-use Rattle.branch_state.specs.Steps.{IsTouchBelow, posted_with}
+use Rattle.branch_state.specs.Steps.{IsTouchBelow, posted_with, AreTouchesOf}
 use Rattle.wam_code.specs.declared.instruction.Register.{Register}
 use Rattle.wam_code.specs.declared.instruction.Code.{Code}
 use Rattle.wam_code.specs.declared.instruction.Code.TheVariants.{UnifyVariable, UnifyValue, UnifyConstant, UnifyInteger, UnifyVoid}
 use Rattle.wam_code.specs.Area.{State, Area, Holds}
 use Rattle.wam_code.specs.Effect.{is_set, is_free, with_set, with_owed, unify_effect}
 use Rattle.wam_code.specs.VerifiedCode.{goes_on}
-use Rattle.wam_code.specs.Places.{count}
 use Rattle.code_areas.specs.Areas.{Contents}
 use Rattle.code_steps.specs.Registers.{Registers, Saved, cell_in, IsWritten}
 use Rattle.code_steps.specs.Standing.{Made}
@@ -39,12 +38,12 @@ use Rattle.code_steps.proofs.Lemmas.{read_variable, read_value, read_constant, r
 use Rattle.code_states.specs.Machine.{saved_of, registers_of, stack_of, IsSameBehind}
 use Rattle.code_states.specs.Safety.{Fits, IsSafe}
 use Rattle.code_states.specs.Standing.{IsNaming}
-use Rattle.term_instructions.specs.ReadMode.{ReadsAt, AreTold, IsReadTo, IsRefused, ReadsOn, IsNextPlace, TellsEqual, LooksOn}
+use Rattle.term_instructions.specs.ReadMode.{ReadsAt, IsReadTo, IsRefused, ReadsOn, IsNextPlace, TellsEqual, LooksOn}
 use Rattle.term_instructions.specs.declared.reading.ReadPosition.{ReadPosition}
 use Rattle.term_instructions.specs.declared.reading.Look.{Look}
 use Rattle.term_instructions.specs.declared.reading.Look.TheVariants.{Read, Refused, Unclear}
-use Rattle.code_states.proofs.Lemmas.{same_cells, found, when_parts, some_is, written_fits, written_own, cells_kept, back_safe, next_safe}
-use Rattle.term_instructions.proofs.Steps.{next_among, among_both, among_none, same_behind, behind_both, same_below, below_heap, below_both, owed_set}
+use Rattle.code_states.proofs.Lemmas.{same_cells, found, when_parts, some_is, written_fits, written_own, cells_kept, back_safe, next_safe, same_behind, behind_both, same_below, below_heap, below_both}
+use Rattle.term_instructions.proofs.Steps.{next_among, among_both, among_none, owed_set}
 use Rattle.term_instructions.proofs.Unify.{fits_owed, effect_owed, no_void}
 
 posts_both : (ts us : List Touch) → posts (store_touches (ts ++ us)) ≡ posts (store_touches ts) ++ posts (store_touches us)
@@ -58,7 +57,7 @@ posts_behind ps ts us after e = append_assoc ps (posts (store_touches ts)) (post
 pub own_all : (s s' : branch.State) → ((d : Cell) → IsCell s d → IsCell s' d) → (cells : List Cell) → All (IsCell s) cells → All (IsCell s') cells
 own_all s s' keep cells own = λ k d l. keep (get_or cells k d) (own k d l)
 
-shown_count : (name : Naming) (h : Cells) (look : Substitution) (P : ℕ → Type 0) (ds : List Cell) (ts : Terms) → CellsShown name h look P ds ts → count ts ≡ length ds
+shown_count : (name : Naming) (h : Cells) (look : Substitution) (P : ℕ → Type 0) (ds : List Cell) (ts : Terms) → CellsShown name h look P ds ts → term_count ts ≡ length ds
 shown_count name h look P [] no_terms a = refl
 shown_count name h look P [] (term t ts) a = absurd a
 shown_count name h look P (d ∷ ds) no_terms a = absurd a
@@ -71,7 +70,7 @@ pass_over M area shown name h qs c stack b at (suc n) [] l m = absurd (omega (ar
 pass_over M area shown name h qs c stack b at (suc n) (d ∷ cells) l m =
     pass_over M area shown name h qs c stack b at n cells (omega (arith, l)) (read_voids M area shown name h qs c d cells stack b at n m)
 
-module _ (area : Area) (cells : List Cell) (s : branch.State) (told : List Touch) (at i : ℕ) (c : Contents) (safe : IsSafe area s at (length cells - i) c) (more : i < length cells) (own : All (IsCell s) cells) (are_told : AreTold s told) (d : Cell) (first : drop i cells ≡ d ∷ drop (suc i) cells) where
+module _ (area : Area) (cells : List Cell) (s : branch.State) (told : List Touch) (at i : ℕ) (c : Contents) (safe : IsSafe area s at (length cells - i) c) (more : i < length cells) (own : All (IsCell s) cells) (are_told : AreTouchesOf s told) (d : Cell) (first : drop i cells ≡ d ∷ drop (suc i) cells) where
   abbrev h : Cells
   h = s.heaps.now
 
@@ -143,7 +142,7 @@ module _ (area : Area) (cells : List Cell) (s : branch.State) (told : List Touch
   -- the argument is made equal to another cell
   pub reads_equal : (step : Code) → Holds area at step → goes_on step ≡ true → ((t u : State) → unify_effect step t ≡ Some u → u ≡ with_owed t (t.owed - 1)) → (e : Cell)
       → ((shown : List ℕ) (name : Naming) (b : Branch) → IsNaming area name → Reads INFINITY area shown name h qs 0 at (registers_of c) (d ∷ left) (stack_of c) b → ReadsOnEqual INFINITY area shown name h qs (suc at) (registers_of c) left (stack_of c) b d e)
-      → (E : Type 0) → (s' : branch.State) (told' : List Touch) (equal : Bool) → IfTrue {E = E} (Ok equal) (IsEqualled h d e s'.heaps.now told told') → IfFalse {E = E} (Ok equal) (CannotUnify h d e) → (AreTold s told → IfTrue {E = E} (Ok equal) (AreTold s' told')) → s' ≡ with_heap s s'.heaps.now
+      → (E : Type 0) → (s' : branch.State) (told' : List Touch) (equal : Bool) → IfTrue {E = E} (Ok equal) (IsEqualled h d e s'.heaps.now told told') → IfFalse {E = E} (Ok equal) (CannotUnify h d e) → (AreTouchesOf s told → IfTrue {E = E} (Ok equal) (AreTouchesOf s' told')) → s' ≡ with_heap s s'.heaps.now
       → IfTrue {E = E} (Ok equal) (IsSound s') → IfFalse {E = E} (Ok equal) (IsSoundBelow s') → (to : ReadPosition) → to.at ≡ suc at → to.next ≡ suc i → ReadsOn area cells s told from c s' told' c (if equal then Some to else None)
   reads_equal step holds on stays e ons E s' told' true done un told_then heap sound back to at_is next_is =
       let f = found area s at (length cells - i) c step safe holds in
@@ -209,7 +208,7 @@ next_place false at to e = tt
 -- ---- one argument is looked at
 
 module _ (area : Area) (cells : List Cell) (s : branch.State) (at i : ℕ) (c : Contents) (safe : IsSafe area s at (length cells - i) c) (more : i < length cells) (own : All (IsCell s) cells) (d : Cell) (d_own : IsOf s.heaps.now d) (first : drop i cells ≡ d ∷ drop (suc i) cells) where
-  untold : AreTold s []
+  untold : AreTouchesOf s []
   untold = All-nil (IsTouchBelow (length s.levels.current.sets))
 
   -- The code gives a cell that the argument is equal to.
@@ -259,7 +258,7 @@ module _ (area : Area) (cells : List Cell) (s : branch.State) (at i : ℕ) (c : 
 
 -- ---- many arguments
 
-pub read_start : (area : Area) (cells : List Cell) (s : branch.State) (told : List Touch) (from : ReadPosition) (c : Contents) → IsSafe area s from.at (length cells - from.next) c → from.next ≤ length cells → All (IsCell s) cells → AreTold s told → IsReadTo area cells s told from c s told from c
+pub read_start : (area : Area) (cells : List Cell) (s : branch.State) (told : List Touch) (from : ReadPosition) (c : Contents) → IsSafe area s from.at (length cells - from.next) c → from.next ≤ length cells → All (IsCell s) cells → AreTouchesOf s told → IsReadTo area cells s told from c s told from c
 read_start area cells s told from c safe within own are = record { safe = safe; within = within; leads = among_none area from.at; own = own; are_told = are; behind = same_behind c; below = same_below s; keeps = λ shown name b n m. m }
 
 module _ (area : Area) (cells : List Cell) (s : branch.State) (told : List Touch) (from : ReadPosition) (c : Contents) (s1 : branch.State) (told1 : List Touch) (to : ReadPosition) (c1 : Contents) (g : IsReadTo area cells s told from c s1 told1 to c1) where

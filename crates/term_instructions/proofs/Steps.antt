@@ -26,22 +26,7 @@ use Rattle.code_states.specs.declared.went.Went.{Went}
 use Rattle.code_states.specs.declared.went.Went.TheVariants.{On, Back}
 use Rattle.code_states.specs.Equating.{Equates}
 use Rattle.term_instructions.specs.Arguments.{LeadsAmong, LeadsFrom}
-use Rattle.code_states.proofs.Lemmas.{same_cells, next_inside, found, when_parts, some_is, free_holds, set_holds, written_fits, written_own, cells_kept, back_safe, next_safe}
-
-pub same_behind : (c : Contents) → IsSameBehind c c
-same_behind c = record { returns = refl; points = refl }
-
-pub behind_both : (a b c : Contents) → IsSameBehind a b → IsSameBehind b c → IsSameBehind a c
-behind_both a b c s t = record { returns = t.returns ∙ s.returns; points = t.points ∙ s.points }
-
-pub same_below : (s : branch.State) → IsSameBelow s s
-same_below s = record { atoms = refl; heaps = refl; levels = refl }
-
-pub below_heap : (a b : branch.State) → b ≡ with_heap a b.heaps.now → IsSameBelow a b
-below_heap a b e = record { atoms = ap (λ (s : branch.State). s.atoms) e; heaps = ap (λ (s : branch.State). s.heaps.below) e; levels = ap (λ (s : branch.State). s.levels.below) e }
-
-pub below_both : (a b c : branch.State) → IsSameBelow a b → IsSameBelow b c → IsSameBelow a c
-below_both a b c s t = record { atoms = t.atoms ∙ s.atoms; heaps = t.heaps ∙ s.heaps; levels = t.levels ∙ s.levels }
+use Rattle.code_states.proofs.Lemmas.{same_cells, next_inside, found, when_parts, some_is, free_holds, set_holds, written_fits, written_own, cells_kept, back_safe, next_safe, same_behind, behind_both, same_below, below_heap}
 
 pub owed_set : (t : State) (r : Register) → (with_set t r).owed ≡ t.owed
 owed_set t (X n) = refl

@@ -30,8 +30,8 @@ use Rattle.code_states.specs.Work.{LeadsOn}
 use Rattle.term_instructions.specs.WriteMode.{for_goal, BuildsAt, IsGatheredTo, IsPutAt, PutsOn}
 use Rattle.code_states.specs.declared.went.Went.{Went}
 use Rattle.code_states.specs.declared.went.Went.TheVariants.{On}
-use Rattle.code_states.proofs.Lemmas.{found, some_is, written_fits, written_own, cells_kept, returns_kept, points_then, next_safe}
-use Rattle.term_instructions.proofs.Steps.{same_behind, behind_both, same_below, below_heap, below_both, led_from}
+use Rattle.code_states.proofs.Lemmas.{found, some_is, written_fits, written_own, cells_kept, returns_kept, points_then, next_safe, same_behind, behind_both, same_below, below_heap, below_both}
+use Rattle.term_instructions.proofs.Steps.{led_from}
 use Rattle.term_instructions.proofs.Unify.{fits_owed}
 use Rattle.term_instructions.proofs.BuildSteps.{gathered_both}
 

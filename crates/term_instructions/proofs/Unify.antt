@@ -4,9 +4,9 @@ use Rattle.std.proofs.lemmas.Option.{slice_get_within, none-some}
 use Rattle.term_pool.proofs.Lemmas.{slice_get_found}
 use Rattle.std.proofs.lemmas.Bool.Decides.{nat_tests}
 use Rattle.term_pool.specs.declared.AtomId.{AtomId}
-use Rattle.fd_language.specs.Term.{Terms, no_terms, term}
+use Rattle.fd_language.specs.Term.{Terms, no_terms, term, term_count}
 use Rattle.branch_state.specs.States as branch
-use Rattle.wam_code.specs.Places.{Places as CodePlaces, count}
+use Rattle.wam_code.specs.Places.{Places as CodePlaces}
 use Rattle.wam_code.specs.Means.{Owed}
 use Rattle.wam_code.proofs.Lemmas.{at_unify, same_code}
 use Rattle.wam_code.specs.declared.instruction.Register.{Register}
@@ -69,7 +69,7 @@ module _ (area : Area) (s : branch.State) (at k : ℕ) (c : Contents) (safe : Is
         omega (arith, l, owes)
 
 -- an instruction that gives none stands for nothing
-pub no_void : (area : Area) (at : ℕ) (p : CodePlaces) (ts : Terms) (next : ℕ) (q : CodePlaces) → 0 < count ts → Holds area at (UnifyVoid 0) → Owed area 0 at p ts next q → ⊥
+pub no_void : (area : Area) (at : ℕ) (p : CodePlaces) (ts : Terms) (next : ℕ) (q : CodePlaces) → 0 < term_count ts → Holds area at (UnifyVoid 0) → Owed area 0 at p ts next q → ⊥
 no_void area at p no_terms next q some f o = absurd (omega (arith, some))
 no_void area at p (term t ts) next q some f o = (at_unify area at p t ts next q (UnifyVoid 0) f o).2
 

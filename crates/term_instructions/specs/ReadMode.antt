@@ -8,7 +8,7 @@ use Rattle.heap_cells.specs.Terms.{Naming}
 use Rattle.unify_core.specs.declared.Touch.{Touch}
 use Rattle.branch_state.specs.States as branch
 use Rattle.branch_state.specs.States.{IsCell, IsSameBelow}
-use Rattle.branch_state.specs.Steps.{AreTouchesBelow, posted_with}
+use Rattle.branch_state.specs.Steps.{AreTouchesOf, posted_with}
 use Rattle.wam_code.specs.Area.{Area}
 use Rattle.code_areas.specs.Areas.{Contents}
 use Rattle.code_steps.specs.ReadMode.{Reads}
@@ -26,17 +26,13 @@ use Rattle.term_instructions.specs.Arguments.{LeadsAmong, LeadsFrom}
 abbrev pub ReadsAt : Area → List ℕ → Naming → branch.State → List Touch → ℕ → Contents → List Cell → Branch → Type 0
 ReadsAt area shown name s told at c left b = Reads INFINITY area shown name s.heaps.now (posted_with s told) 0 at (registers_of c) left (stack_of c) b
 
--- what was told has its variables
-abbrev pub AreTold : branch.State → List Touch → Type 0
-AreTold s told = AreTouchesBelow (length s.levels.current.sets) told
-
 -- It is safe to read on, and the machine stands for the same branches.
 pub record IsReadTo (area : Area) (cells : List Cell) (s : branch.State) (told : List Touch) (from : ReadPosition) (c : Contents) (s' : branch.State) (told' : List Touch) (to : ReadPosition) (c' : Contents) : Type 0 where
   pub safe : IsSafe area s' to.at (length cells - to.next) c'
   pub within : to.next ≤ length cells
   pub leads : LeadsAmong area from.at to.at
   pub own : All (IsCell s') cells
-  pub are_told : AreTold s' told'
+  pub are_told : AreTouchesOf s' told'
   pub behind : IsSameBehind c c'
   pub below : IsSameBelow s s'
   pub keeps : (shown : List ℕ) (name : Naming) (b : Branch) → IsNaming area name → ReadsAt area shown name s told from.at c (drop from.next cells) b → ReadsAt area shown name s' told' to.at c' (drop to.next cells) b

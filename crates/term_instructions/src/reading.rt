@@ -4,7 +4,8 @@ ghost use Rattle.heap_cells.specs.declared.Cell.TheVariants as cell;
 ghost use Rattle.branch_state.specs.States.{IsCell};
 ghost use Rattle.code_states.specs.Safety.{IsSafe};
 ghost use Rattle.term_instructions.specs.declared.reading.Look.TheVariants as look;
-ghost use Rattle.term_instructions.specs.ReadMode.{AreTold, IsNextPlace, ReadsOn, ReadsAll, TellsEqual, LooksOn, IsNextLook};
+ghost use Rattle.branch_state.specs.Steps.{AreTouchesOf};
+ghost use Rattle.term_instructions.specs.ReadMode.{IsNextPlace, ReadsOn, ReadsAll, TellsEqual, LooksOn, IsNextLook};
 
 use crate::arguments::{Argument, argument_at};
 use crate::registers::{read, write};
@@ -148,7 +149,7 @@ fn read_argument<A: Agenda + Drop>(
     requires safe { IsSafe code.now branch.old from.at (length cells.now - from.next) areas.old }
     requires more { from.next < length cells.now }
     requires own { All (IsCell branch.old) cells.now }
-    requires told { AreTold branch.old touches.old.items }
+    requires told { AreTouchesOf branch.old touches.old.items }
     ensures reads { IfOk result (ReadsOn code.now cells.now branch.old touches.old.items from
         areas.old branch.new touches.new.items areas.new) }
     ensures place { IfOk result (IsNextPlace from.at) }
@@ -197,7 +198,7 @@ pub(crate) fn read_arguments<A: Agenda + Drop>(
     requires safe { IsSafe code.now branch.old from.at (length cells.now - from.next) areas.old }
     requires within { from.next ≤ length cells.now }
     requires own { All (IsCell branch.old) cells.now }
-    requires told { AreTold branch.old touches.old.items }
+    requires told { AreTouchesOf branch.old touches.old.items }
     ensures { IfOk result (ReadsAll code.now cells.now branch.old touches.old.items from areas.old
         branch.new touches.new.items areas.new) }
 {

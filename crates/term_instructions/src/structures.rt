@@ -10,7 +10,8 @@ ghost use Rattle.code_states.specs.Machine.{IsSameBehind};
 ghost use Rattle.code_states.specs.Safety.{IsSafe, IsSafeThen};
 ghost use Rattle.code_states.specs.Standing.{KeepsStanding};
 ghost use Rattle.code_states.specs.Work.{LeadsOn};
-ghost use Rattle.term_instructions.specs.ReadMode.{AreTold, ReadsThen};
+ghost use Rattle.branch_state.specs.Steps.{AreTouchesOf};
+ghost use Rattle.term_instructions.specs.ReadMode.{ReadsThen};
 ghost use Rattle.term_instructions.specs.WriteMode.{BuildsFor, BuildsOn, IsPutAt, PutsOn};
 
 use crate::building::{Gathered, gather_arguments, gather_two};
@@ -73,7 +74,7 @@ fn match_arguments<A: Agenda + Drop>(
     requires safe { IsSafe code.now branch.old from.at (length cells.now - from.next) areas.old }
     requires within { from.next ≤ length cells.now }
     requires own { All (IsCell branch.old) cells.now }
-    requires told { AreTold branch.old touches.old.items }
+    requires told { AreTouchesOf branch.old touches.old.items }
     ensures { IfOk result (ReadsThen code.now (drop from.next cells.now) branch.old
         touches.old.items from.at areas.old branch.new areas.new) }
 {

@@ -3,7 +3,7 @@ use Rattle.std.proofs.Common.{◌≡◌, ◌≢◌, ℕ, zero, suc, ◌<◌, Boo
 use Rattle.std.proofs.lemmas.Bool.{true≢false}
 use Rattle.std.proofs.lemmas.Bool.Decides.{nat_tests}
 use Rattle.fd_language.specs.Family.{has}
-use Rattle.fd_language.specs.Term.{Name, Term, Terms, Var, Int, Atom, Comp, no_terms, term}
+use Rattle.fd_language.specs.Term.{Name, Term, Terms, Var, Int, Atom, Comp, no_terms, term, term_count}
 use Rattle.fd_model.specs.Goal as goal
 use Rattle.fd_model.specs.Goal.{Goal, Clause, Query, Program}
 use Rattle.fd_model.specs.Children.{paired, fits_head}
@@ -17,7 +17,7 @@ use Rattle.wam_code.specs.Area.{Slot, Unset, Cell, State, Span, Area, Holds, Has
 use Rattle.wam_code.specs.Effect.{slot_at, is_cell}
 use Rattle.wam_code.specs.VerifiedCode.{named, goes_on, Names, Falls, Covers, Leads, BeginsWith, IsQuery, is_other, is_before, is_behind, NamesOther, HoldsOne, AreChoices, IsAtom, IsThere, IsVerifiedBy, IsVerified}
 use Rattle.machine_relation.specs.Heap.{Below}
-use Rattle.wam_code.specs.Places.{Places, put_at, write, learn, no_registers, no_slots, IsWhole, IsSettled, Hold, count, made}
+use Rattle.wam_code.specs.Places.{Places, put_at, write, learn, no_registers, no_slots, IsWhole, IsSettled, Hold, made}
 use Rattle.wam_code.specs.Means.{Caller, Means}
 use Rattle.wam_code.specs.Tries.{Shape, IsBefore, IsClause, Tries, IsPredicate, StandsForProgram}
 use Rattle.wam_code.proofs.Keeping.{covers_self}
@@ -260,7 +260,7 @@ module _ (c : Contents) (p : AtomId) (own : p.number < length c.names) where
   first_clause : IsClause a 1 (fact (Atom name))
   first_clause = λ n as' after shown q size below hold before. by n as' after shown q size hold before
     where
-      by : (n : ℕ) (as' : Terms) (after : List Goal) (shown : List ℕ) (q : Places) → count as' ≡ 1 → Hold q 1 as' → IsBefore q n 0 → Means a (record { goals = after; shown = shown }) 1 q (paired as' (term (Atom name) no_terms)) after
+      by : (n : ℕ) (as' : Terms) (after : List Goal) (shown : List ℕ) (q : Places) → term_count as' ≡ 1 → Hold q 1 as' → IsBefore q n 0 → Means a (record { goals = after; shown = shown }) 1 q (paired as' (term (Atom name) no_terms)) after
       by n no_terms after shown q size hold before = absurd (omega (arith, size))
       by n (term s no_terms) after shown q size hold before =
           from_rule a (record { goals = after; shown = shown }) 1 q _ after (GetConstant p 1) refl
@@ -270,7 +270,7 @@ module _ (c : Contents) (p : AtomId) (own : p.number < length c.names) where
   second_clause : IsClause a 4 (fact (Int (pos 1)))
   second_clause = λ n as' after shown q size below hold before. by n as' after shown q size hold before
     where
-      by : (n : ℕ) (as' : Terms) (after : List Goal) (shown : List ℕ) (q : Places) → count as' ≡ 1 → Hold q 1 as' → IsBefore q n 0 → Means a (record { goals = after; shown = shown }) 4 q (paired as' (term (Int (pos 1)) no_terms)) after
+      by : (n : ℕ) (as' : Terms) (after : List Goal) (shown : List ℕ) (q : Places) → term_count as' ≡ 1 → Hold q 1 as' → IsBefore q n 0 → Means a (record { goals = after; shown = shown }) 4 q (paired as' (term (Int (pos 1)) no_terms)) after
       by n no_terms after shown q size hold before = absurd (omega (arith, size))
       by n (term s no_terms) after shown q size hold before =
           from_rule a (record { goals = after; shown = shown }) 4 q _ after (GetInteger (pos 1) 1) refl
@@ -346,7 +346,7 @@ module _ (c : Contents) (p : AtomId) (own : p.number < length c.names) where
         ))
 
   -- a goal of one argument fits the head of each clause
-  fits : (ts : Terms) → count ts ≡ 1 → (t : Term) → fits_head (made name ts) (Comp name (term t no_terms)) ≡ true
+  fits : (ts : Terms) → term_count ts ≡ 1 → (t : Term) → fits_head (made name ts) (Comp name (term t no_terms)) ≡ true
   fits no_terms size t = absurd (omega (arith, size))
   fits (term s no_terms) size t = ap (λ b. b && true) ((bytes_eq-Decides name name).1 refl)
   fits (term s (term u us)) size t = absurd (omega (arith, size))

@@ -5,6 +5,8 @@ pub use Rattle.wam_code.proofs.Ending.{back_falls, fork_falls, proceed_falls, st
 pub use Rattle.wam_code.proofs.Keeping.{covers_self}
 -- Where code is reached from: queries keep to themselves, and places lie ahead.
 pub use Rattle.wam_code.proofs.Reaching.{entry_covered, entry_outside, executes_outside, falls_inside, falls_nearer, falls_outside, names_nearer, names_outside, no_answer_outside, returns_outside, shown_are_cells, set_below, same_code}
+-- Registers that are written hold what was put, and the others what they held.
+pub use Rattle.wam_code.proofs.Places.{put_here, put_else}
 -- Equations that are restated, beside those that are made already.
 pub use Rattle.wam_code.proofs.Restating.{still_says_same}
 -- Places and rules without the bound.

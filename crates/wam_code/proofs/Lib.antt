@@ -1,4 +1,5 @@
 mod Steps
+mod Places
 mod Trying
 mod Unifying
 mod Restating

@@ -1,10 +1,7 @@
 -- Code as contracts see it.
 use Rattle.std.specs.Prelude.{◌≡◌, ℕ, List, [], map, Option, Some, slice_get, slice_index_or}
-use Rattle.std.specs.Coded.{Coded, code_by, coded_list}
 use Rattle.fd_language.specs.Term.{Name}
 use Rattle.fd_language.specs.Range.{Range}
-use Rattle.fd_language.specs.contracts.range_node.RangeNode as node
-use Rattle.fd_language.specs.Flat.{nodes_of, spelled_range, spelled_range-nodes}
 use Rattle.fd_language.specs.Spelling.{empty_range}
 use Rattle.term_pool.specs.declared.AtomId.{AtomId}
 use Rattle.term_pool.specs.Contents.{Contents, atom_name}
@@ -43,10 +40,6 @@ pub record Area : Type 0 where
   pub ranges : List Range
   pub entries : List Entry
   pub queries : List Span
-
--- a range is stored as the list of its nodes
-abbrev pub range_coded : Coded Range
-range_coded = code_by _ (coded_list node.the_row.coded) nodes_of spelled_range spelled_range-nodes
 
 -- ---- what is there
 

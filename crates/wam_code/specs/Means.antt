@@ -1,6 +1,6 @@
 -- What a place of the code, with its registers and its frame, stands for: the equations still to be made and the goals still to be taken.
 use Rattle.std.specs.Prelude.{◌≡◌, ◌⊎◌, ℕ, zero, suc, ◌<◌, ◌≤◌, true, false, List, [], ◌∷◌, ◌++◌, Option, Some, None}
-use Rattle.fd_language.specs.Term.{Name, Term, Terms, Var, Int, Atom, Comp, no_terms, term}
+use Rattle.fd_language.specs.Term.{Name, Term, Terms, Var, Int, Atom, Comp, no_terms, term, term_count}
 use Rattle.fd_language.specs.Unifier.{Equation}
 use Rattle.fd_language.specs.RangeRenaming.{rename_range}
 use Rattle.fd_model.specs.declared.kinds.ConstraintKind.{ConstraintKind}
@@ -17,7 +17,7 @@ use Rattle.wam_code.specs.declared.instruction.Code.TheVariants as code
 use Rattle.wam_code.specs.declared.parts.Entry.{Entry}
 use Rattle.fd_model.specs.Arities.{constraint_arity, builtin_arity}
 use Rattle.wam_code.specs.Area.{Area, Holds, HasEntry, name_of, range_at}
-use Rattle.wam_code.specs.Places.{Places, read, write, without, learn, no_registers, no_slots, IsFresh, Has, IsWhole, IsSettled, Hold, count, made}
+use Rattle.wam_code.specs.Places.{Places, read, write, without, learn, no_registers, no_slots, IsFresh, Has, IsWhole, IsSettled, Hold, made}
 
 -- what later places stand for
 abbrev pub Rest : Type 1
@@ -47,17 +47,17 @@ Owed area (suc n) at p (term t ts) next q = (v : ℕ) × IsFresh p v × (t ≡ V
 
 -- the terms, n of them, that the unify instructions behind a place give
 abbrev pub Gives : Area → ℕ → ℕ → Places → Terms → ℕ → Places → Type 0
-Gives area n at p ts next q = (count ts ≡ n) × Owed area 0 (suc at) p ts next q
+Gives area n at p ts next q = (term_count ts ≡ n) × Owed area 0 (suc at) p ts next q
 
 -- ---- goals
 
 -- the goal that a predicate is called for
 abbrev pub CallRule : Area → ℕ → Places → Goal → Type 0
-CallRule area e p g = (entry : Entry) × (ts : Terms) × HasEntry area e entry × (count ts ≡ entry.arity) × Hold p 1 ts × (g ≡ Call (made (name_of area entry.name) ts))
+CallRule area e p g = (entry : Entry) × (ts : Terms) × HasEntry area e entry × (term_count ts ≡ entry.arity) × Hold p 1 ts × (g ≡ Call (made (name_of area entry.name) ts))
 
 -- a goal of the language with its arguments in the first registers, whatever its name is
 abbrev pub NamedRule : ℕ → (Term → Goal) → Places → Goal → Type 0
-NamedRule arity goal p g = (f : Name) × (ts : Terms) × (count ts ≡ arity) × Hold p 1 ts × (g ≡ goal (made f ts))
+NamedRule arity goal p g = (f : Name) × (ts : Terms) × (term_count ts ≡ arity) × Hold p 1 ts × (g ≡ goal (made f ts))
 
 abbrev pub BuiltinRule : BuiltinKind → Places → Goal → Type 0
 BuiltinRule kind.True p g = g ≡ True

@@ -70,10 +70,6 @@ abbrev pub Hold : Places → ℕ → Terms → Type 0
 Hold p i no_terms = Unit {0}
 Hold p i (term t ts) = (p.x i ≡ Some t) × Hold p (suc i) ts
 
-abbrev pub count : Terms → ℕ
-count no_terms = 0
-count (term t ts) = suc (count ts)
-
 -- a name with these arguments
 abbrev pub made : Name → Terms → Term
 made f no_terms = Atom f

@@ -1,6 +1,6 @@
 -- What a place before a clause stands for: clauses in text order, of which those may be left out whose first argument clashes with the goal's.
 use Rattle.std.specs.Prelude.{◌≡◌, ◌≢◌, ◌⊎◌, ℕ, zero, suc, ◌+◌, ◌<◌, ◌≤◌, ℤ, true, false, List, [], ◌∷◌, ◌++◌, map, length}
-use Rattle.fd_language.specs.Term.{Name, Term, Terms, Var, Int, Atom, Comp, no_terms, term, apply_all}
+use Rattle.fd_language.specs.Term.{Name, Term, Terms, Var, Int, Atom, Comp, no_terms, term, apply_all, term_count}
 use Rattle.fd_model.specs.Goal.{Goal, Clause, Query, Program}
 use Rattle.fd_model.specs.Children.{paired, fits_head}
 use Rattle.fd_model.specs.Constraining.{arguments}
@@ -12,7 +12,7 @@ use Rattle.wam_code.specs.declared.instruction.Code.{Code}
 use Rattle.wam_code.specs.declared.instruction.Code.TheVariants.{Jump, FailNow, TryMeElse, RetryMeElse, TrustMe, Try, Retry, Trust, SwitchOnTerm, SwitchOnConstant, SwitchOnInteger, SwitchOnStructure}
 use Rattle.wam_code.specs.declared.parts.Entry.{Entry}
 use Rattle.wam_code.specs.Area.{Area, Span, Table, Holds, HasEntry, name_of, table_at}
-use Rattle.wam_code.specs.Places.{Places, Hold, count, made}
+use Rattle.wam_code.specs.Places.{Places, Hold, made}
 use Rattle.wam_code.specs.Means.{Means}
 
 -- ---- what the first argument shows
@@ -28,7 +28,7 @@ abbrev pub shape_of : Term → Shape
 shape_of (Var c) = is_open
 shape_of (Int z) = is_integer z
 shape_of (Atom a) = is_atom a
-shape_of (Comp f ts) = is_structure f (count ts)
+shape_of (Comp f ts) = is_structure f (term_count ts)
 
 -- no term of this shape is made equal to the other one, whatever its variables are
 abbrev pub Clash : Shape → Term → Type 0
@@ -42,7 +42,7 @@ Clash (is_integer y) (Atom b) = Unit {0}
 Clash (is_integer y) (Comp f ts) = Unit {0}
 Clash (is_structure f n) (Int z) = Unit {0}
 Clash (is_structure f n) (Atom b) = Unit {0}
-Clash (is_structure f n) (Comp g ts) = (f ≢ g) ⊎ (n ≢ count ts)
+Clash (is_structure f n) (Comp g ts) = (f ≢ g) ⊎ (n ≢ term_count ts)
 
 abbrev pub ClashFirst : Shape → Terms → Type 0
 ClashFirst s no_terms = ⊥
@@ -69,7 +69,7 @@ pub record IsBefore (p : Places) (n variables : ℕ) : Type 0 where
 
 -- From this place a clause's equations and goals follow, whatever the next fresh number, the arguments with variables below it, and the caller are.
 abbrev pub IsClause : Area → ℕ → Clause → Type 0
-IsClause area at c = (n : ℕ) (as' : Terms) (after : List Goal) (shown : List ℕ) (p : Places) → count as' ≡ count (arguments c.head) → AllOf (λ v. v < n) as' → Hold p 1 as' → IsBefore p n c.variables
+IsClause area at c = (n : ℕ) (as' : Terms) (after : List Goal) (shown : List ℕ) (p : Places) → term_count as' ≡ term_count (arguments c.head) → AllOf (λ v. v < n) as' → Hold p 1 as' → IsBefore p n c.variables
     → Means area (record { goals = after; shown = shown }) at p (paired as' (apply_all (λ x. Var (n + x)) (arguments c.head))) (map (rename_goal (λ x. n + x)) c.body ++ after)
 
 -- ---- choices and switches
@@ -125,7 +125,7 @@ Tries area s at cs = (n : ℕ) × TriesWithin area s n at cs
 
 -- a goal of this predicate tries its clauses, but for some that it needn't try
 abbrev pub IsPredicate : Area → Program → Entry → Type 0
-IsPredicate area prog e = (ts : Terms) (s : Shape) → count ts ≡ e.arity → (cs : List Clause) × Thinned s (made (name_of area e.name) ts) prog.clauses cs × Tries area s e.at cs
+IsPredicate area prog e = (ts : Terms) (s : Shape) → term_count ts ≡ e.arity → (cs : List Clause) × Thinned s (made (name_of area e.name) ts) prog.clauses cs × Tries area s e.at cs
 
 -- the query's names and goals follow, with none behind them
 pub record IsQueryCode (area : Area) (q : Query) (c : Span) : Type 0 where

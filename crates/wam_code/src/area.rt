@@ -22,7 +22,8 @@ pub struct CodeArea {
 
 impl Model for CodeArea {
     ghost use Rattle.std.specs.Coded.{codes};
-    ghost use Rattle.wam_code.specs.Area.{Area, area_of, range_coded};
+    ghost use Rattle.fd_model.specs.Levels.{range_coded};
+    ghost use Rattle.wam_code.specs.Area.{Area, area_of};
     ghost use Rattle.std.specs.Prelude.{◌↔◌, IsTrue};
     ghost use Rattle.wam_code.specs.Keys.{HasRisingTables};
     ghost use Rattle.wam_code.specs.VerifiedCode.{IsVerified};

@@ -4,7 +4,7 @@ use Rattle.term_pool.specs.declared.TermId.{TermId}
 use Rattle.term_pool.specs.Contents.{Contents}
 use Rattle.term_pool.specs.Terms.{term_of, terms_by}
 use Rattle.clause_check.specs.Programs.{clause_at}
-use Rattle.wam_code.specs.Places.{count}
+use Rattle.fd_language.specs.Term.{term_count}
 use Rattle.clause_code.specs.Short.{last_arguments, IsShort}
 use Rattle.clause_code.specs.Simple.{IsOwn}
 use Rattle.clause_code.specs.ArgumentHomes.{AreHomes}
@@ -28,7 +28,7 @@ find_homes-requires-clause-head_few c =
     let own = head_here c.args.program.now c.known.ensures c.args.c c.requires.clause q c.pool-pool.ensures n c.variables_of_clause-variables.ensures c.head-head.result c.head-head.ensures.head in
     let few = few_arguments q n (term_of q c.head-head.result) own.1 in
     let long = count_terms (term_of q) c.arguments_of-given.result.now in
-    let same = ap count c.arguments_of-given.ensures.terms in
+    let same = ap term_count c.arguments_of-given.ensures.terms in
     omega (arith, few, long, same)
 
 pub find_homes-requires-clause-goal_suits : goal.find_homes-requires-clause-goal_suits
@@ -75,10 +75,10 @@ returns c =
     subst (λ h. AreHomes h free ts us) (sym c.deref.ensures.value) (subst (λ x. AreHomes found free x us) head_is (subst (λ x. AreHomes found free (terms_by (term_of q) head) x) goal_is c.in_ok-homes.ensures.homes)) in
     let long : length homes ≡ (clause_at p c.args.c).variables = ap length c.deref.ensures.value ∙ c.in_ok-homes.ensures.long ∙ c.variables_of_clause-variables.ensures in
     let head_long = count_terms (term_of q) head in
-    let head_same = ap count head_is in
-    let few : count ts ≤ k = omega (arith, m, head_long, head_same) in
+    let head_same = ap term_count head_is in
+    let few : term_count ts ≤ k = omega (arith, m, head_long, head_same) in
     let goal_long = count_terms (term_of q) goal in
-    let goal_same = ap count goal_is in
+    let goal_same = ap term_count goal_is in
     let fewer = goal_fewer p.pool k c.args.goal (omega (arith, m, goal_long, goal_same)) in
     let f = c.in_ok-free.ensures in
     let o = c.in_ok-first.ensures in

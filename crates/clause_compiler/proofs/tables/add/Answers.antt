@@ -1,23 +1,17 @@
-use Rattle.std.proofs.Common.{◌≡◌, ◌∙◌, ◌++◌, ◌∷◌, [], ◌<◌, ℕ, List, Vec, Global, ap, map, get_or, set, sym, refl, length, not, Bool, true, false, if◌then◌else◌, arith}
+use Rattle.std.proofs.Common.{◌≡◌, ◌∙◌, ◌++◌, ◌∷◌, [], ◌<◌, ap, map, set, sym, refl, length, not, Bool, true, false, if◌then◌else◌, arith}
 use Rattle.std.specs.List.{list_any}
 use Rattle.std.proofs.lemmas.Bool.{true≢false}
 use Rattle.std.proofs.lemmas.Option.{slice_get_within}
-use Rattle.std.proofs.lemmas.List.{map_push, map-set, get_or-map}
+use Rattle.std.proofs.lemmas.List.{map_push, map-set}
 use Rattle.wam_code.specs.declared.instruction.Key.{Key}
 use Rattle.clause_compiler.specs.contracts.tables.LabelPartialEq.TheImpl.{eq-value}
 use Rattle.clause_compiler.specs.ClauseKeys.{label, same_key}
+use Rattle.clause_compiler.proofs.Vectors.{items, list_put}
 use Rattle.clause_compiler.proofs.Keying.{each_pair, insert_new, insert_old}
 use Rattle.clause_compiler.proofs.tables.add.Goals as goal
 
 alike : (a b : Key) → eq-value.it (label a) (label b) ≡ same_key a b
 alike = each_pair (λ a b. eq-value.it (label a) (label b) ≡ same_key a b) (λ a b. refl) (λ a z. refl) (λ a g m. refl) (λ y b. refl) (λ y z. refl) (λ y g m. refl) (λ f n b. refl) (λ f n z. refl) (λ f n g m. refl)
-
-abbrev items : Vec ℕ Global → List ℕ
-items v = v.items
-
--- what is put to a list
-put : (vs : List (Vec ℕ Global)) (i n : ℕ) (found : Vec ℕ Global) (x : List ℕ) → x ≡ found.items ++ n ∷ [] → found ≡ get_or vs i found → i < length vs → x ≡ get_or (map items vs) i [] ++ n ∷ []
-put vs i n found x e h l = e ∙ ap (λ (ys : List ℕ). ys ++ n ∷ []) (ap items h ∙ sym (get_or-map items vs i found [] l))
 
 not_false : (b : Bool) → not b ≡ false → b ≡ true
 not_false true k = refl
@@ -39,4 +33,4 @@ returns-in_ok-push-4 c p ns own w =
     in
     insert_old p ns c.args.clause c.args.key own c.args.keyed.now.labels.keys c.args.keyed.now.keys.items (map items c.args.keyed.now.lists.items) w eq-value.it alike c.label_of.result c.insert_full.new.self.keys (map items (set c.args.keyed.now.lists.items c.in_ok-n.n c.push-else-is_new.new.self)) c.in_ok-n.n c.label_of.ensures
     (sym c.in_ok-n.ensures.added ∙ c.if-is_new.false) c.in_ok-n.ensures.keys c.in_ok-n.ensures.stored
-    (map-set items c.args.keyed.now.lists.items c.in_ok-n.n c.push-else-is_new.new.self ∙ ap (set (map items c.args.keyed.now.lists.items) c.in_ok-n.n) (put c.args.keyed.now.lists.items c.in_ok-n.n c.args.clause c.index_mut.result.now c.push-else-is_new.new.self.items c.in_ok-push-4.ensures.items c.index_mut.ensures.value inside))
+    (map-set items c.args.keyed.now.lists.items c.in_ok-n.n c.push-else-is_new.new.self ∙ ap (set (map items c.args.keyed.now.lists.items) c.in_ok-n.n) (list_put c.args.keyed.now.lists.items c.in_ok-n.n c.args.clause c.index_mut.result.now c.push-else-is_new.new.self.items c.in_ok-push-4.ensures.items c.index_mut.ensures.value inside))

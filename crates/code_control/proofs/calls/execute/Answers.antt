@@ -38,3 +38,6 @@ pub returns-clause-query : goal.returns-clause-query
 returns-clause-query g c =
     moved_to (λ to a. KeepsQuery c.args.code.now c.args.at c.args.areas.now to a) c.entry_of-entry.result.at c.entry_of-entry.result.at (record c.args.areas.now { registers = take (c.entry_of-entry.result.arity + 1) c.args.areas.now.registers }) c.keep_registers.new.self refl c.keep_registers.ensures
     (execute_query c.args.code.now c.args.branch.now c.args.at c.args.areas.now c.requires.safe c.args.e c.requires.holds c.entry_of-entry.result.at (take (c.entry_of-entry.result.arity + 1) c.args.areas.now.registers))
+
+pub returns-clause-place : goal.returns-clause-place
+returns-clause-place g c = (c.entry_of-entry.result, c.entry_of-entry.ensures, refl)

@@ -1,4 +1,4 @@
-use Rattle.std.proofs.Common.{◌<◌, refl, sym, subst}
+use Rattle.std.proofs.Common.{◌≡◌, ◌<◌, refl, sym, subst}
 use Rattle.heap_cells.specs.Cells.{Heaps, IsOf}
 use Rattle.heap_cells.specs.SeenCells.{IsSeen}
 use Rattle.heap_cells.specs.Valid.{IsHeap}
@@ -6,7 +6,8 @@ use Rattle.wam_code.specs.declared.instruction.Code.TheVariants as step
 use Rattle.code_states.specs.Safety.{IsSafe}
 use Rattle.code_states.specs.Stages.{KeepsRunning}
 use Rattle.code_states.specs.Work.{work_at}
-use Rattle.code_control.proofs.Deciding.{first_there, first_own, term_safe, term_falls, term_runs, term_query}
+use Rattle.code_control.specs.Rows.{place_for}
+use Rattle.code_control.proofs.Deciding.{first_there, first_own, first_shows, term_safe, term_falls, term_runs, term_query}
 use Rattle.code_states.specs.Queries.{KeepsQuery}
 use Rattle.code_control.proofs.switches.arm_for.Goals as goal
 
@@ -37,3 +38,7 @@ pub returns-clause-query : goal.returns-clause-query
 returns-clause-query g c =
     subst (λ to. KeepsQuery c.args.code.now c.args.at c.args.areas.now to c.args.areas.now) (sym c.place_for.ensures)
     (term_query c.args.code.now c.args.branch.now c.args.at c.args.areas.now c.requires.safe c.register.result c.register.ensures c.deref.result (subst (λ (hs : Heaps). IsSeen hs.now c.register.result c.deref.result) c.heap.ensures c.deref.ensures.seen) (subst (λ (hs : Heaps). IsHeap hs.now) c.heap.ensures c.deref.ensures.valid) c.args.v c.args.c c.args.i c.args.s c.requires.holds)
+
+pub returns-clause-place : goal.returns-clause-place
+returns-clause-place g c =
+    first_shows c.args.branch.now c.args.areas.now c.heap.result.now c.heap.ensures c.register.result c.register.ensures c.deref.result c.deref.ensures.seen (λ x. place_for x c.args.v c.args.c c.args.i c.args.s ≡ c.place_for.result) (sym c.place_for.ensures)

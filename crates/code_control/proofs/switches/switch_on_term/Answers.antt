@@ -1,4 +1,5 @@
-use Rattle.std.proofs.Common.{arith}
+use Rattle.std.proofs.Common.{sym, subst, arith}
+use Rattle.code_control.specs.Leading.{IsPastJump}
 use Rattle.code_control.proofs.switches.switch_on_term.Goals as goal
 
 pub returns-clause-runs : goal.returns-clause-runs
@@ -12,3 +13,8 @@ returns-clause-falls g c =
 
 pub returns-clause-query : goal.returns-clause-query
 returns-clause-query g c = λ number ends. c.past_jump.ensures.query number (c.arm_for-arm.ensures.query number ends)
+
+pub returns-clause-place : goal.returns-clause-place
+returns-clause-place g c =
+    let arm = c.arm_for-arm.ensures.place in
+    record { cell = arm.cell; there = arm.there; shown = arm.shown; is_seen = arm.is_seen; so = subst (λ k. IsPastJump c.args.code.now k c.past_jump.result) (sym arm.so) c.past_jump.ensures.place }

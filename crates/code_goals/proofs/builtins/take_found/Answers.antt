@@ -2,7 +2,7 @@ use Rattle.branch_state.specs.States.{IsSameBelow}
 use Rattle.wam_code.specs.declared.instruction.Code.TheVariants as step
 use Rattle.code_goals.specs.Taking.{Takes}
 use Rattle.code_goals.proofs.BuiltinGoals.{grown_taken, ok_then, on_then}
-use Rattle.code_goals.proofs.Safe.{heap_below, below_both}
+use Rattle.code_states.proofs.Lemmas.{below_heap, below_both}
 use Rattle.code_goals.proofs.builtins.take_found.Goals as goal
 
 pub returns-clause-takes : goal.returns-clause-takes
@@ -15,4 +15,4 @@ returns-clause-takes g c =
 pub returns-clause-same : goal.returns-clause-same
 returns-clause-same g c =
     on_then (IsSameBelow c.find_goal.new.branch c.act_on.new.branch) (IsSameBelow c.args.branch.now c.act_on.new.branch) c.act_on.result
-    (below_both c.args.branch.now c.find_goal.new.branch c.act_on.new.branch (heap_below c.args.branch.now c.find_goal.new.branch c.in_ok-found.ensures.heap)) c.act_on.ensures.same
+    (below_both c.args.branch.now c.find_goal.new.branch c.act_on.new.branch (below_heap c.args.branch.now c.find_goal.new.branch c.in_ok-found.ensures.heap)) c.act_on.ensures.same

@@ -2,12 +2,11 @@ use Rattle.std.proofs.Common.{length, ap, sym, subst, ◌∙◌}
 use Rattle.term_pool.specs.Contents.{Contents}
 use Rattle.branch_state.specs.Constraints.{Constrains}
 use Rattle.wam_code.specs.declared.instruction.Code.TheVariants as step
-use Rattle.code_states.proofs.Lemmas.{within_code}
+use Rattle.code_states.proofs.Lemmas.{within_code, below_heap, below_both}
 use Rattle.code_goals.specs.Taking.{Takes, IsSafeNext}
 use Rattle.code_goals.specs.declared.next.Next.TheVariants.{On, Back, Fault}
 use Rattle.code_goals.proofs.BuiltinGoals.{grown_taken}
 use Rattle.code_goals.proofs.Constraining.{constraint_fault, constraint_kept, constraint_failed, kept_safe, failed_safe}
-use Rattle.code_goals.proofs.Safe.{heap_below, below_both}
 use Rattle.code_goals.proofs.constraints.take_constraint.Goals as goal
 
 pub constrain-requires-clause-sound : goal.constrain-requires-clause-sound
@@ -39,7 +38,7 @@ returns-in-Kept-clause-takes g c =
     (subst (Constrains c.args.code.now.pool.names s1 c.args.kind c.in_ok-goal.goal c.constrain.new.self) c.in-Kept.is told)))
 
 pub returns-in-Kept-clause-same : goal.returns-in-Kept-clause-same
-returns-in-Kept-clause-same g c = below_both c.args.branch.now c.goal_of.new.branch c.constrain.new.self (heap_below c.args.branch.now c.goal_of.new.branch c.in_ok-goal.ensures.heap) c.in_ok-constrain.ensures.same
+returns-in-Kept-clause-same g c = below_both c.args.branch.now c.goal_of.new.branch c.constrain.new.self (below_heap c.args.branch.now c.goal_of.new.branch c.in_ok-goal.ensures.heap) c.in_ok-constrain.ensures.same
 
 pub returns-in-Failed-clause-safe : goal.returns-in-Failed-clause-safe
 returns-in-Failed-clause-safe g c =
@@ -59,7 +58,7 @@ returns-in-Failed-clause-takes g c =
     (subst (Constrains c.args.code.now.pool.names s1 c.args.kind c.in_ok-goal.goal c.constrain.new.self) c.in-Failed.is told))
 
 pub returns-in-Failed-clause-same : goal.returns-in-Failed-clause-same
-returns-in-Failed-clause-same g c = below_both c.args.branch.now c.goal_of.new.branch c.constrain.new.self (heap_below c.args.branch.now c.goal_of.new.branch c.in_ok-goal.ensures.heap) c.in_ok-constrain.ensures.same
+returns-in-Failed-clause-same g c = below_both c.args.branch.now c.goal_of.new.branch c.constrain.new.self (below_heap c.args.branch.now c.goal_of.new.branch c.in_ok-goal.ensures.heap) c.in_ok-constrain.ensures.same
 
 pub returns-in-Fault-clause-takes : goal.returns-in-Fault-clause-takes
 returns-in-Fault-clause-takes g c =
@@ -71,4 +70,4 @@ returns-in-Fault-clause-takes g c =
     (subst (Constrains c.args.code.now.pool.names s1 c.args.kind c.in_ok-goal.goal c.constrain.new.self) c.in-Fault.is told))
 
 pub returns-in-Fault-clause-same : goal.returns-in-Fault-clause-same
-returns-in-Fault-clause-same g c = below_both c.args.branch.now c.goal_of.new.branch c.constrain.new.self (heap_below c.args.branch.now c.goal_of.new.branch c.in_ok-goal.ensures.heap) c.in_ok-constrain.ensures.same
+returns-in-Fault-clause-same g c = below_both c.args.branch.now c.goal_of.new.branch c.constrain.new.self (below_heap c.args.branch.now c.goal_of.new.branch c.in_ok-goal.ensures.heap) c.in_ok-constrain.ensures.same

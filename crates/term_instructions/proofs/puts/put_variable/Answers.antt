@@ -5,8 +5,8 @@ use Rattle.wam_code.specs.declared.instruction.Code.TheVariants.{PutVariable}
 use Rattle.code_states.specs.Safety.{IsSafeThen}
 use Rattle.code_states.specs.Standing.{KeepsStanding}
 use Rattle.code_states.specs.declared.went.Went.TheVariants.{On}
-use Rattle.code_states.proofs.Lemmas.{within_code, put_variable_stands}
-use Rattle.term_instructions.proofs.Steps.{led_on, behind_both, below_heap, put_variable_needs, put_variable_safe}
+use Rattle.code_states.proofs.Lemmas.{within_code, put_variable_stands, behind_both, below_heap}
+use Rattle.term_instructions.proofs.Steps.{led_on, put_variable_needs, put_variable_safe}
 use Rattle.term_instructions.proofs.puts.put_variable.Goals as goal
 
 pub new_var-requires : goal.new_var-requires

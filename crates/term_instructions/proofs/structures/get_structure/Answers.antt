@@ -5,11 +5,10 @@ use Rattle.heap_cells.specs.SeenCells.{IsSeen}
 use Rattle.heap_cells.specs.declared.Seen.TheVariants as seen
 use Rattle.wam_code.specs.declared.instruction.Code.TheVariants.{GetStructure}
 use Rattle.code_states.specs.Safety.{IsSafe}
-use Rattle.code_states.proofs.Lemmas.{within_code}
+use Rattle.code_states.proofs.Lemmas.{within_code, same_behind, same_below}
 use Rattle.code_states.specs.declared.went.Went.TheVariants.{On, Back}
 use Rattle.term_instructions.specs.ReadMode.{ReadsOn}
 use Rattle.term_instructions.specs.declared.reading.ReadPosition.{ReadPosition}
-use Rattle.term_instructions.proofs.Steps.{same_behind, same_below}
 use Rattle.term_instructions.proofs.Head.{if_ok_at, get_needs, get_started, get_atom, get_back_safe, args_own, get_other, get_constant_seen, get_built, get_read, refused_then, looked_all, looked_first, other_atom, same_atom}
 use Rattle.term_instructions.proofs.structures.get_structure.Goals as goal
 use Rattle.term_instructions.proofs.structures.get_structure.Goals.{then-ne-via-then-ne, then-ne-via-else-ne+then-args-functor}

@@ -1,7 +1,8 @@
 use Rattle.std.proofs.Common.{drop, subst, sym}
 use Rattle.fd_language.specs.declared.NoMemory.{NoMemory}
 use Rattle.code_states.specs.declared.went.Went.{Went}
-use Rattle.term_instructions.specs.ReadMode.{AreTold, IsReadTo, ReadsAll, ReadsThen}
+use Rattle.branch_state.specs.Steps.{AreTouchesOf}
+use Rattle.term_instructions.specs.ReadMode.{IsReadTo, ReadsAll, ReadsThen}
 use Rattle.term_instructions.proofs.Head.{read_then, refused_then}
 use Rattle.term_instructions.proofs.structures.match_arguments.Goals as goal
 
@@ -15,7 +16,7 @@ pub post_touches-requires-clause-touches : goal.post_touches-requires-clause-tou
 post_touches-requires-clause-touches g c =
     let r : IsReadTo c.args.code.now c.args.cells.now c.args.branch.now c.args.touches.now.items c.args.from c.args.areas.now c.read_arguments.new.branch c.read_arguments.new.touches.items _ c.read_arguments.new.areas =
     subst (ReadsAll c.args.code.now c.args.cells.now c.args.branch.now c.args.touches.now.items c.args.from c.args.areas.now c.read_arguments.new.branch c.read_arguments.new.touches.items c.read_arguments.new.areas) c.in-Some.is c.in_ok-at.ensures in
-    subst (AreTold c.read_arguments.new.branch) (sym c.deref.ensures.value) r.are_told
+    subst (AreTouchesOf c.read_arguments.new.branch) (sym c.deref.ensures.value) r.are_told
 
 pub returns-in_default : goal.returns-in_default
 returns-in_default g c =
