@@ -4,9 +4,9 @@ use Rattle.std.specs.Prelude.{not, ◌≢◌}
 use Rattle.std.specs.List.{list_any, position_or_len}
 use Rattle.std.proofs.lemmas.Bool.Decides.{eqb_tells}
 use Rattle.std.proofs.lemmas.List.{append-nil, take-append-drop}
-use Rattle.fd_language.specs.Term.{Term}
+use Rattle.fd_language.specs.Term.{Term, as_terms}
 use Rattle.fd_language.specs.Variables.{variables_of, variables_of_all, distinct}
-use Rattle.fd_model.specs.Lines.{place_in, as_terms}
+use Rattle.fd_model.specs.Lines.{place_in}
 use Rattle.fd_language.specs.Family.{has}
 use Rattle.answer_text.specs.Pieces.{with_number, inserted}
 

@@ -1,6 +1,7 @@
 //! The line of an answer, and the text of a written term.
 ghost use Rattle.std.specs.Prelude.{◌≡◌, ◌<◌, ◌++◌, ℕ, List, [], length, map, codes, All, IfOk, OnOk};
-ghost use Rattle.fd_model.specs.Lines.{as_terms, equals_text, joined, line};
+ghost use Rattle.fd_language.specs.Term.{as_terms};
+ghost use Rattle.fd_model.specs.Lines.{equals_text, joined, line};
 ghost use Rattle.machine_events.specs.Events.{ShowsTerms, shown_line, terms_in, variable_text, written_term};
 ghost use Rattle.fd_language.specs.Variables.{variables_of, distinct};
 ghost use Rattle.fd_language.specs.Writing.{Plain, Quoted, term_text};

@@ -1,10 +1,10 @@
 -- There is code for the program of accepted sentences.
 use Rattle.std.proofs.Common.{◌≡◌, ℕ, zero, suc, ◌≤◌, Bool, true, false, cond, nat_lt, List, [], ◌∷◌, map, Option, Some, None, refl, sym, ap, subst, arith}
-use Rattle.fd_language.specs.Term.{Name}
+use Rattle.fd_language.specs.Term.{Name, term_count}
 use Rattle.std.proofs.lemmas.Bool.{ltb-false}
 use Rattle.std.specs.Str.{bytes_eq}
 use Rattle.std.specs.Prelude.{codes, IsTrue, slice_get}
-use Rattle.fd_model.proofs.Lemmas.{first_none, later_none}
+use Rattle.fd_model.proofs.Lemmas.{either, first_none, later_none}
 use Rattle.range_terms.proofs.Lemmas.{least_none}
 use Rattle.fd_language.proofs.Lemmas.{first_nil, second_nil}
 use Rattle.fd_language.specs.PlacedTerm.{PlacedTerm, PlacedTerms, var, int, atom, comp, no_parts, part, plain, all_plain}
@@ -16,22 +16,15 @@ use Rattle.fd_model.specs.Refusals.{Form, query, clause, directive, fact, form_o
 use Rattle.fd_model.specs.Queries.{first_part, goal_by_form, goal_named, form_of_functor, goal_of, followed, body_goals, is_shown, shown_from, queries_by, queries_of, clauses_by, clauses_of, program_of}
 use Rattle.fd_model.specs.Goal.{Goals, no_goals, goal, listed, Either, Clause, Query}
 use Rattle.term_reader.specs.GivenParts.{AreSome, HasParts, EachHasParts}
-use Rattle.clause_check.specs.Codable.{arguments_in, IsNarrow, AreNarrow, is_named, IsCodableGoal, AreCodableGoals, EachCodable, ClausesCodable, AreOnce, QueriesCodable, IsCodable}
-
-either : {A : Type 0} (P : A → Type 0) (b : Bool) (x y : A) → P x → P y → P (cond b x y)
-either P true x y h g = h
-either P false x y h g = g
+use Rattle.clause_check.proofs.FormNames.{counted}
+use Rattle.clause_check.specs.Codable.{IsNarrow, AreNarrow, is_named, IsCodableGoal, AreCodableGoals, EachCodable, ClausesCodable, AreOnce, QueriesCodable, IsCodable}
 
 -- ---- terms
 
 abbrev AsTerm : PlacedTerm → Type 0
 AsTerm t = IsNarrow (plain t)
 
-counted : (ts : PlacedTerms) → arguments_in (all_plain ts) ≡ part_count ts
-counted no_parts = refl
-counted (part t ts) = ap suc (counted ts)
-
-some_given : (ts : PlacedTerms) → AreSome ts → 1 ≤ arguments_in (all_plain ts)
+some_given : (ts : PlacedTerms) → AreSome ts → 1 ≤ term_count (all_plain ts)
 some_given no_parts h = absurd h
 some_given (part t ts) h = omega arith
 

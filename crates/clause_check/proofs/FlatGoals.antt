@@ -218,7 +218,7 @@ module _ (c : Contents) where
 -- ---- of a program
 
 -- The goal with a number stands for what the flat one says, whose parts are of the same program.
-pub goal_tree_is : (p : FlatProgram) → IsProgram p → (i : ℕ) → i < length p.goals → goal_tree p i ≡ goal_in p (goal_at p i)
+goal_tree_is : (p : FlatProgram) → IsProgram p → (i : ℕ) → i < length p.goals → goal_tree p i ≡ goal_in p (goal_at p i)
 goal_tree_is p h i l = tree_at p.pool p.ranges p.goals h.goals i l
 
 -- There is none between two numbers of which the second isn't greater.
@@ -226,7 +226,7 @@ pub between_none : (p : FlatProgram) (i j : ℕ) → j ≤ i → goals_between p
 between_none p i j l = part_none (trees p.pool p.ranges p.goals) i j l
 
 -- The first of the goals between two numbers.
-pub between_next : (p : FlatProgram) (i j : ℕ) → i < j → j ≤ length p.goals → goals_between p i j ≡ goal_tree p i ∷ goals_between p (suc i) j
+between_next : (p : FlatProgram) (i j : ℕ) → i < j → j ≤ length p.goals → goals_between p i j ≡ goal_tree p i ∷ goals_between p (suc i) j
 between_next p i j l u = part_next (trees p.pool p.ranges p.goals) i j l (omega (arith, u, trees_length p.pool p.ranges p.goals))
 
 -- The same, read from the flat goal.

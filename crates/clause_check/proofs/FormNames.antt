@@ -14,7 +14,8 @@ use Rattle.fd_model.specs.Refusals.{functor, functor_of}
 use Rattle.clause_check.specs.declared.forms.Form.{Form}
 use Rattle.clause_check.specs.declared.forms.Form.TheVariants.{Truth, Failure, Unification, Posting, Constraint, Labelling, Builtin}
 use Rattle.fd_model.specs.Arities.{constraint_arity, builtin_arity}
-use Rattle.clause_check.specs.Programs.{count, HasArguments}
+use Rattle.fd_language.specs.Term.{term_count}
+use Rattle.clause_check.specs.Programs.{HasArguments}
 use Rattle.clause_check.specs.Forms.{form_seen, HasFormArity}
 
 -- ---- the names of a table
@@ -60,7 +61,8 @@ found n (row ∷ rows) a form h e = pick (bytes_eq a row.0) (found n rows a form
     pick true later k = let same : row.1 ≡ form = cc in ap (has_arity n) (sym same) ∙ (and_parts (has_arity n row.1) (list_all (λ row. has_arity n row.1) rows) h).0
     pick false later k = later k
 
-counted : (ts : PlacedTerms) → count (all_plain ts) ≡ refusals.part_count ts
+-- a plain term has as many arguments
+pub counted : (ts : PlacedTerms) → term_count (all_plain ts) ≡ refusals.part_count ts
 counted no_parts = refl
 counted (part t ts) = ap suc (counted ts)
 

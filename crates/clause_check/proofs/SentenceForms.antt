@@ -3,7 +3,7 @@ use Rattle.std.proofs.Common.{◌≡◌, ℕ, Option, Some, None, refl, sym, ap,
 use Rattle.fd_language.specs.PlacedTerm.{PlacedTerm}
 use Rattle.fd_language.specs.declared.TheConstants.{INFINITY}
 use Rattle.fd_model.specs.Refusals as model
-use Rattle.fd_model.specs.Refusals.{or_later, too_wide, form_of, clause_refusal, sentence_refusal, wide_places}
+use Rattle.fd_model.specs.Refusals.{or_later, too_wide, form_of, clause_refusal, sentence_refusal}
 use Rattle.term_pool.specs.PlacedTerms.{placed_of}
 use Rattle.term_reader.specs.declared.reader.Sentence.{Sentence}
 use Rattle.term_reader.specs.declared.reader.Sentences.{Sentences}

@@ -1,14 +1,11 @@
 -- What the terms, the goals and the queries of a text's program are like, so that there is code for them.
-use Rattle.std.specs.Prelude.{◌≡◌, ℕ, suc, ◌≤◌, Bool, true, false, IsTrue, List, [], ◌∷◌, Some, slice_get}
-use Rattle.fd_language.specs.Term.{Term, Terms, Var, Int, Atom, Comp, no_terms, term}
+use Rattle.std.specs.Prelude.{◌≡◌, ℕ, ◌≤◌, Bool, true, false, IsTrue, List, [], ◌∷◌, Some, slice_get}
+use Rattle.fd_language.specs.Term.{Term, Terms, Var, Int, Atom, Comp, no_terms, term, term_count}
+pub use Rattle.fd_language.specs.Term.{term_count as arguments_in}
 use Rattle.fd_model.specs.declared.kinds.BuiltinKind.{BuiltinKind}
 use Rattle.fd_model.specs.declared.kinds.BuiltinKind.TheVariants as kind
 use Rattle.fd_model.specs.Goal.{Goal, Goals, no_goals, goal, True, Fail, Unify, Post, Constrain, Label, Call, Either, Builtin, Clause, Query, Program}
 use Rattle.fd_model.specs.Refusals.{most_arguments}
-
-abbrev pub arguments_in : Terms → ℕ
-arguments_in no_terms = 0
-arguments_in (term t ts) = suc (arguments_in ts)
 
 -- each compound term has an argument, and 255 at most
 abbrev mutual
@@ -16,7 +13,7 @@ abbrev mutual
   IsNarrow (Var x) = Unit {0}
   IsNarrow (Int z) = Unit {0}
   IsNarrow (Atom a) = Unit {0}
-  IsNarrow (Comp f ts) = (1 ≤ arguments_in ts) × (arguments_in ts ≤ most_arguments) × AreNarrow ts
+  IsNarrow (Comp f ts) = (1 ≤ term_count ts) × (term_count ts ≤ most_arguments) × AreNarrow ts
 
   pub AreNarrow : Terms → Type 0
   AreNarrow no_terms = Unit {0}

@@ -1,11 +1,8 @@
 -- Programs as they are kept: terms of a pool, ranges and goals by their numbers, and clauses and queries over these.
-use Rattle.std.specs.Prelude.{◌≡◌, ℕ, suc, ◌<◌, ◌≤◌, List, [], ◌∷◌, ◌++◌, length, map, take, drop, slice_index_or, All, IsTrue}
-use Rattle.std.specs.Coded.{Coded, code_by, coded_list}
-use Rattle.fd_language.specs.Term.{Term, Terms, Var, Int, Atom, Comp, no_terms, term}
+use Rattle.std.specs.Prelude.{◌≡◌, ℕ, ◌<◌, ◌≤◌, List, [], ◌∷◌, ◌++◌, length, map, take, drop, slice_index_or, All, IsTrue}
+use Rattle.fd_language.specs.Term.{Term, Var, Int, Atom, Comp, term_count}
 use Rattle.fd_language.specs.Range.{Range}
 use Rattle.fd_language.specs.RangeVerdict.{is_accepted}
-use Rattle.fd_language.specs.contracts.range_node.RangeNode as node
-use Rattle.fd_language.specs.Flat.{nodes_of, spelled_range, spelled_range-nodes}
 use Rattle.fd_language.specs.Spelling.{empty_range}
 use Rattle.fd_language.specs.declared.TheConstants.{INFINITY}
 use Rattle.fd_model.specs.Arities.{constraint_arity, builtin_arity}
@@ -37,10 +34,6 @@ pub record FlatProgram : Type 0 where
   pub goals : List FlatGoal
   pub clauses : List FlatClause
   pub queries : List FlatQuery
-
--- a range is stored as the list of its nodes
-abbrev pub range_coded : Coded Range
-range_coded = code_by _ (coded_list node.the_row.coded) nodes_of spelled_range spelled_range-nodes
 
 abbrev pub no_part : Part
 no_part = record { from = 0; to = 0 }
@@ -136,16 +129,12 @@ program_in p = record { clauses = map (clause_in p) p.clauses; queries = map (qu
 
 -- ---- what holds of every program
 
-abbrev pub count : Terms → ℕ
-count no_terms = 0
-count (term t ts) = suc (count ts)
-
 -- an atom, for 0, or a compound term with so many arguments
 abbrev pub HasArguments : ℕ → Term → Type 0
 HasArguments n (Var x) = ⊥
 HasArguments n (Int z) = ⊥
 HasArguments n (Atom a) = n ≡ 0
-HasArguments n (Comp f ts) = count ts ≡ n
+HasArguments n (Comp f ts) = term_count ts ≡ n
 
 -- an atom or a compound term
 abbrev pub IsNamed : Term → Type 0

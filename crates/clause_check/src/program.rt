@@ -68,7 +68,8 @@ pub struct Program {
 
 impl Model for Program {
     ghost use Rattle.std.specs.Coded.{codes};
-    ghost use Rattle.clause_check.specs.Programs.{FlatProgram, program_of_parts, range_coded, IsProgram};
+    ghost use Rattle.fd_model.specs.Levels.{range_coded};
+    ghost use Rattle.clause_check.specs.Programs.{FlatProgram, program_of_parts, IsProgram};
 
     ghost Value = { FlatProgram };
 

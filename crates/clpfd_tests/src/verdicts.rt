@@ -92,7 +92,10 @@ fn cause_and_place(fault: CheckFault) -> (&'static str, usize) {
 }
 
 /// What the check of a range is told to have found.
-pub(crate) fn told(alloc: Global, checked: Result<Checked, CheckFault>) -> Result<String, AllocError> {
+pub(crate) fn told(
+    alloc: Global,
+    checked: Result<Checked, CheckFault>,
+) -> Result<String, AllocError> {
     match checked {
         Ok(_) => String::from_str(alloc, "accepted"),
         Err(fault) => {

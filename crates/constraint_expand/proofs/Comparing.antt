@@ -11,7 +11,7 @@ use Rattle.fd_model.specs.Linear as linear
 use Rattle.fd_model.specs.Linear.{in_integers, scaled, of_one, collect, normal, normal_form, turned, comparison}
 use Rattle.fd_model.specs.LinearRows as rows
 use Rattle.fd_model.specs.Constraining.{compare}
-use Rattle.linear_forms.proofs.Lemmas.{neg_one, one_inside}
+use Rattle.linear_forms.proofs.Lemmas.{one_inside, neg_inside}
 use Rattle.constraint_expand.specs.Nodes.{AreIntegers, IsInside}
 use Rattle.constraint_expand.proofs.Different.{made}
 
@@ -20,7 +20,7 @@ scaled_integers [] = refl
 scaled_integers (t ∷ ts) = λ i. one_inside t.1 i && scaled_integers ts i
 
 pub turned_inside : (l : linear.Linear) → IsInside l → IsInside (turned l)
-turned_inside l h = (scaled_integers l.products ∙ h.0, ap in_integers (sym (neg_one l.constant)) ∙ one_inside l.constant ∙ h.1)
+turned_inside l h = (scaled_integers l.products ∙ h.0, neg_inside l.constant h.1)
 
 products_inside : (r : Relation) (l : linear.Linear) → IsInside l → AreIntegers (normal r l).products
 products_inside relation.Equal l h = h.0

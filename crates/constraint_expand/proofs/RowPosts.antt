@@ -11,7 +11,7 @@ use Rattle.fd_language.specs.Flat.{nodes_of, spelled_range, spelled_range-nodes}
 use Rattle.fd_language.specs.declared.range_node.RangeNode.{RangeNode}
 use Rattle.fd_model.specs.Linear.{in_integers, scaled}
 use Rattle.fd_model.specs.LinearRows.{row_by_sign, rows_behind}
-use Rattle.linear_forms.proofs.Lemmas.{neg_one, integer_fits, one_inside}
+use Rattle.linear_forms.proofs.Lemmas.{neg_one, integer_fits, neg_inside}
 use Rattle.constraint_expand.specs.declared.rows.Comparison.{Comparison}
 use Rattle.constraint_expand.specs.declared.rows.Form.{Form}
 use Rattle.std.proofs.lemmas.List.{take-append-drop, length-take-le, drop_more}
@@ -29,9 +29,6 @@ integer_at (t ∷ ts) (suc i) d h l = integer_at ts i d (by (in_integers t.1) h)
   by : (b : Bool) → (b && list_all (λ (t : ℕ × ℤ). in_integers t.1) ts) ≡ true → AreIntegers ts
   by true g = g
   by false g = absurd (cc)
-
-pub neg_inside : (z : ℤ) → in_integers z ≡ true → in_integers (neg_ℤ z) ≡ true
-neg_inside z h = ap in_integers (sym (neg_one z)) ∙ one_inside z ∙ h
 
 pub negation_fits : (z : ℤ) → in_integers z ≡ true → FitsSigned w64 (neg_ℤ z)
 negation_fits z h = integer_fits (neg_ℤ z) (neg_inside z h)

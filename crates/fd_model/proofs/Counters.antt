@@ -6,7 +6,7 @@ use Rattle.std.proofs.lemmas.Int.{ints}
 use Rattle.std.proofs.lemmas.Bool.{cases_Bool}
 use Rattle.fd_language.proofs.Lemmas.{int_le_true}
 use Rattle.fd_language.specs.Family.{has}
-use Rattle.fd_language.specs.Term.{Term, Int, no_terms, term}
+use Rattle.fd_language.specs.Term.{Term, no_terms, term}
 use Rattle.fd_language.specs.Variables.{TermBelow}
 use Rattle.fd_model.specs.declared.kinds.ConstraintKind.TheVariants.{Atmost}
 use Rattle.fd_language.specs.Range.{Union, set_of}
@@ -21,7 +21,7 @@ use Rattle.fd_model.proofs.Collecting.{both_ok}
 use Rattle.fd_model.proofs.Singles.{up_to, set_singles, Inside, inside_append, inside_left, inside_right}
 use Rattle.fd_model.proofs.LinearForms.{NoneZero}
 use Rattle.fd_model.proofs.Comparing.{form_fits, form_holds}
-use Rattle.fd_model.proofs.Placing.{values_at, members_read, MembersBelow, known_numbers, placed_worths, changed, changed_here, changed_other, changed_small, filled, filled_below, filled_small, filled_equated, equated_agree, fresh_grows}
+use Rattle.fd_model.proofs.Placing.{integer_read, values_at, members_read, MembersBelow, known_numbers, placed_worths, changed, changed_here, changed_other, changed_small, filled, filled_below, filled_small, filled_equated, equated_agree, fresh_grows}
 use Rattle.fd_model.proofs.Differing.{are_numbers}
 use Rattle.fd_model.proofs.Choosing.{where_is_test, other_is}
 
@@ -236,10 +236,6 @@ equated_same [] k b c s e = tt
 equated_same (Open x ∷ ms) k b c s e = equated_same ms k b c s e
 equated_same (Known z ∷ ms) k b c s e = (let f = s k (let g = fresh_grows ms (suc k) in omega arith) in let h = e.0 in omega (arith, ints), equated_same ms (suc k) b c s e.1)
 
-integer_worth : (a : Assignment) (t : Term) (z : ℤ) → as_integer t ≡ Ok z → worth a t ≡ z
-integer_worth a (Int y) z h = cc
-integer_worth a _ z h = absurd (cc)
-
 to_le : (a b : ℤ) → a ≤ℤ b → int_le a b ≡ true
 to_le a b h = grind (arith, ints)
 
@@ -250,8 +246,8 @@ at_most M N up m l v n x a p bl small h =
     let xs = placed n ms in
     let k = fresh_after n ms in
     let r = members_read n a l ms g.from_list in
-    let wm = integer_worth a m g.limit g.from_limit in
-    let wv = integer_worth a v g.value g.from_value in
+    let wm = integer_read a m g.limit g.from_limit in
+    let wv = integer_read a v g.value g.from_value in
     let less = placed_below n ms n (omega arith) (r.below bl) in
     subst (λ y. IsRewritten M N Atmost (term m (term l (term v no_terms))) n y a) g.rows (record {
       one = λ sat.

@@ -79,7 +79,7 @@ runnable_both : (M : ℕ) (gs hs : List Goal) → AreRunnable M gs → AreRunnab
 runnable_both M [] hs h g = g
 runnable_both M (x ∷ gs) hs h g = (h.0, runnable_both M gs hs h.1 g)
 
-runnable_listed : (M : ℕ) (gs : Goals) → AllRunnable M gs → AreRunnable M (listed gs)
+pub runnable_listed : (M : ℕ) (gs : Goals) → AllRunnable M gs → AreRunnable M (listed gs)
 runnable_listed M no_goals h = tt
 runnable_listed M (goal g gs) h = (h.0, runnable_listed M gs h.1)
 

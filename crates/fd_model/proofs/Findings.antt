@@ -11,7 +11,8 @@ use Rattle.fd_model.proofs.Heeding.{first_member}
 use Rattle.fd_model.specs.declared.kinds.QueryFault.{QueryFault}
 use Rattle.fd_model.specs.declared.kinds.BuiltinKind.{BuiltinKind}
 use Rattle.fd_model.specs.declared.kinds.BuiltinKind.TheVariants as kind
-use Rattle.fd_model.specs.Arithmetic.{Value, not_a_number, value_of_one, opposite_of, by_name, value_of}
+use Rattle.fd_model.specs.Arithmetic.{Value, not_a_number, opposite_of, by_name, value_of}
+use Rattle.fd_model.specs.Linear.{of_one}
 use Rattle.fd_model.specs.Builtins.{evaluated, checked_value, is_same, are_same, is_open, is_integer, is_atom, is_atomic, is_compound, Numbers, one, those, set_numbers, least_number, greatest_number, number_count, two_terms, interval_term, interval_terms, interval_list, first_argument, second_argument, Finding, faulted, decided, equated, equals_value, equals_number, compared, numbers_of, found, finding}
 use Rattle.fd_model.specs.Lines.{Interval, intervals}
 
@@ -89,7 +90,7 @@ value_renamed look cell (Int z) h = refl
 value_renamed look cell (Atom a) h = refl
 value_renamed look cell (Comp f no_terms) h = refl
 value_renamed look cell (Comp f (term a no_terms)) h =
-    ap (λ w. cond (bytes_eq f (codes "-")) (value_of_one opposite_of w) (Err not_a_number)) (value_renamed look cell a (λ y k. h y (in_left (variables_of a) [] y k)))
+    ap (λ w. cond (bytes_eq f (codes "-")) (of_one opposite_of w) (Err not_a_number)) (value_renamed look cell a (λ y k. h y (in_left (variables_of a) [] y k)))
 value_renamed look cell (Comp f (term a (term b no_terms))) h =
     named_same f _ _ _ _ (value_renamed look cell a (λ y k. h y (in_left (variables_of a) (variables_of b ++ []) y k)))
     (value_renamed look cell b (λ y k. h y (in_right (variables_of a) (variables_of b ++ []) y (in_left (variables_of b) [] y k))))

@@ -10,17 +10,15 @@ use Rattle.fd_model.specs.declared.kinds.ConstraintKind.TheVariants.{Compare, Al
 use Rattle.fd_language.specs.Variables.{variables_of}
 use Rattle.fd_language.specs.Term.{Term, Var, Int, Atom, Comp, no_terms, term, apply}
 use Rattle.fd_model.specs.Linear.{of_both}
+use Rattle.fd_model.specs.Builtins.{is_integer}
 use Rattle.fd_model.specs.LinearRows.{Expansion}
 use Rattle.fd_model.specs.Members.{Member, Open, Known, as_member, as_integer, prepend, walk}
 use Rattle.fd_model.specs.ListRows.{different_rows, element_rows, atmost_rows}
 use Rattle.fd_model.specs.Constraining.{compare}
 use Rattle.fd_model.specs.Satisfies.{Assignment, worth, worths}
-use Rattle.fd_model.specs.FlatConstraints.{width, is_narrow, is_flat, is_flat_comparison, is_place, is_whole, is_list_of, SeesNumbers, FlatExpands, SeenSatisfies}
+use Rattle.fd_model.specs.FlatConstraints.{width, is_narrow, is_flat, is_flat_comparison, is_place, is_list_of, SeesNumbers, FlatExpands, SeenSatisfies}
 use Rattle.fd_model.proofs.FlatSums.{flat_compares}
-use Rattle.fd_model.proofs.FlatSeen.{flat_seen}
-
-narrower_too : (m n : ℕ) → m ≤ n → is_narrow n ≡ true → is_narrow m ≡ true
-narrower_too m n h e = grind arith
+use Rattle.fd_model.proofs.FlatSeen.{narrower_too, flat_seen}
 
 if_true : {A : Type 0} (c : Bool) (r q u : Result A QueryFault) → c ≡ true → r ≡ u → cond c r q ≡ u
 if_true true r q u e h = h
@@ -34,7 +32,7 @@ module _ (M : ℕ) (look : ℕ → Term) (sees : SeesNumbers M look) where
   place_seen (Atom a) h = absurd (cc)
   place_seen (Comp f ts) h = absurd (cc)
 
-  whole_seen : (t : Term) → is_whole t ≡ true → (z : ℤ) × (as_integer (apply look t) ≡ Ok z)
+  whole_seen : (t : Term) → is_integer t ≡ true → (z : ℤ) × (as_integer (apply look t) ≡ Ok z)
   whole_seen (Int z) h = (z, refl)
   whole_seen _ h = absurd (cc)
 
@@ -69,16 +67,16 @@ pub flat_expands : FlatExpands
 flat_expands M look (Compare r) (term s (term t no_terms)) n some sees h few = compare_expands M look sees r s t n some h few
 flat_expands M look AllDifferent (term l no_terms) n some sees h few = let k = list_seen M look sees is_place as_member (place_seen M look sees) l h in (different_rows k.0 n, rw k.1 refl)
 flat_expands M look Element (term i (term l (term x no_terms))) n some sees h few =
-    let rest = (and_parts (is_place i) (is_list_of is_whole l && is_place x) h).1 in
-    let p = place_seen M look sees i ((and_parts (is_place i) (is_list_of is_whole l && is_place x) h).0) in
-    let q = list_seen M look sees is_whole as_integer (whole_seen M look sees) l ((and_parts (is_list_of is_whole l) (is_place x) rest).0) in
-    let r = place_seen M look sees x ((and_parts (is_list_of is_whole l) (is_place x) rest).1) in
+    let rest = (and_parts (is_place i) (is_list_of is_integer l && is_place x) h).1 in
+    let p = place_seen M look sees i ((and_parts (is_place i) (is_list_of is_integer l && is_place x) h).0) in
+    let q = list_seen M look sees is_integer as_integer (whole_seen M look sees) l ((and_parts (is_list_of is_integer l) (is_place x) rest).0) in
+    let r = place_seen M look sees x ((and_parts (is_list_of is_integer l) (is_place x) rest).1) in
     (element_rows p.0 q.0 r.0 n, rw (p.1, q.1, r.1) refl)
 flat_expands M look Atmost (term m (term l (term v no_terms))) n some sees h few =
-    let rest = (and_parts (is_whole m) (is_list_of is_place l && is_whole v) h).1 in
-    let p = whole_seen M look sees m ((and_parts (is_whole m) (is_list_of is_place l && is_whole v) h).0) in
-    let q = list_seen M look sees is_place as_member (place_seen M look sees) l ((and_parts (is_list_of is_place l) (is_whole v) rest).0) in
-    let r = whole_seen M look sees v ((and_parts (is_list_of is_place l) (is_whole v) rest).1) in
+    let rest = (and_parts (is_integer m) (is_list_of is_place l && is_integer v) h).1 in
+    let p = whole_seen M look sees m ((and_parts (is_integer m) (is_list_of is_place l && is_integer v) h).0) in
+    let q = list_seen M look sees is_place as_member (place_seen M look sees) l ((and_parts (is_list_of is_place l) (is_integer v) rest).0) in
+    let r = whole_seen M look sees v ((and_parts (is_list_of is_place l) (is_integer v) rest).1) in
     (atmost_rows p.0 q.0 r.0 n, rw (p.1, q.1, r.1) refl)
 flat_expands _ look _ _ n some sees h few = absurd (cc)
 

@@ -8,7 +8,7 @@ use Rattle.fd_language.specs.Range.{is_none_left}
 use Rattle.fd_language.specs.Term.{Term, Var, Int, Comp, no_terms, term, apply}
 use Rattle.fd_model.specs.FlatConstraints.{width, is_narrow, is_ground, is_operator, is_flat, SeesNumbers, IsSeenFlat, FlatSeen}
 
-narrower_too : (m n : ℕ) → m ≤ n → is_narrow n ≡ true → is_narrow m ≡ true
+pub narrower_too : (m n : ℕ) → m ≤ n → is_narrow n ≡ true → is_narrow m ≡ true
 narrower_too m n h e = grind arith
 
 ground_too : (t u : Term) → length (variables_of u) ≤ length (variables_of t) → is_ground t ≡ true → is_ground u ≡ true

@@ -1,7 +1,7 @@
 -- The lemmas that other crates may cite, by their subjects. All else in proofs/ is this crate's own.
 
 -- Closed families: their numbers, sets, orders and constants.
-pub use Rattle.fd_model.proofs.Closing.{build_one, closed_either, first_passes, later_passes, outside_one, greatest_for, var_from, not_in_empty}
+pub use Rattle.fd_model.proofs.Closing.{closed_either, greatest_for, var_from, not_in_empty}
 pub use Rattle.fd_model.proofs.Constants.{from_span, in_span}
 pub use Rattle.fd_model.proofs.Orders.{all_keep, closed_without}
 pub use Rattle.fd_model.proofs.Determining.{single_from, below_test, test_below}
@@ -11,10 +11,9 @@ pub use Rattle.fd_model.proofs.ListNames.{named_left, named_right, posted_left, 
 pub use Rattle.fd_model.proofs.RowNames.{AllVars, collected_vars, vars_product, vars_scaled}
 pub use Rattle.fd_model.proofs.RowScopes.{scoped_rows}
 pub use Rattle.fd_model.proofs.PostRows.{has_map, map_has}
-pub use Rattle.fd_model.proofs.Slots.{Apart, slot_high, slot_low, slot_out}
+pub use Rattle.fd_model.proofs.Slots.{slot_high, slot_low, slot_out}
 pub use Rattle.fd_model.proofs.Scoping.{term_renamed, body_renamed, each_wider, each_both_below, listed_below, unifier_below}
-pub use Rattle.fd_model.proofs.Seeing.{wider}
-pub use Rattle.fd_model.proofs.ProgramScopes.{queries_scoped, clauses_scoped}
+pub use Rattle.fd_model.proofs.ProgramScopes.{either, queries_scoped, clauses_scoped}
 -- Branches: what is seen of them, their models, and one run of a program.
 pub use Rattle.fd_model.proofs.Existence.{AllSound, has_view, offer_sound, one_run}
 pub use Rattle.fd_language.proofs.Lemmas.{join_both, split_both}
@@ -27,14 +26,14 @@ pub use Rattle.fd_model.proofs.Runnable.{accepted_runnable, first_none, later_no
 pub use Rattle.fd_model.proofs.Collecting.{both_ok, one_ok, test_ok}
 pub use Rattle.fd_model.proofs.CompareWidths.{Within, compare_within, form_within, integer_size}
 pub use Rattle.fd_model.proofs.RowWidths.{AreNarrow, under, weight}
-pub use Rattle.fd_model.proofs.RowDirections.{Fitting, IsFitting, expand_fitting}
+pub use Rattle.fd_model.proofs.RowDirections.{Fitting, IsFitting, element_fitting, expand_fitting}
 pub use Rattle.fd_model.proofs.Choosing.{element_ok}
 pub use Rattle.fd_model.proofs.Counters.{atmost_ok, units_nonzero}
 pub use Rattle.fd_model.proofs.Findings.{IsFindingBelow, SameFinding, first_below, found_below, found_renamed, second_below}
 -- Texts: the lines and values of a query.
 pub use Rattle.fd_model.proofs.Texts.{place_same, same_test, spelled_same, variables_apply_all}
--- The rows of the constraints on lists keep the limit of width, and all rows are accepted.
-pub use Rattle.fd_model.proofs.ListWidths.{members_count}
+-- The rows of the constraints on lists keep the limit of width.
+pub use Rattle.fd_model.proofs.ListWidths.{AllSmall, all_accepted, element_within, members_count, sum_within}
 -- Each solvable list of equations has the most general unifier that takes equal variables to the least of them.
 pub use Rattle.fd_model.proofs.Canonical.{is_variable_true}
 -- Products of integers, and quotients that are exact.

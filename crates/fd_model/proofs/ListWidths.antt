@@ -22,6 +22,11 @@ use Rattle.fd_model.proofs.RowWidths.{under, weight, AreNarrow}
 use Rattle.fd_model.proofs.CompareWidths.{Within, form_within, compare_within}
 use Rattle.fd_model.proofs.RowDirections.{Fitting, expand_fitting}
 
+-- integers far below the limit
+abbrev pub AllSmall : List ℤ → Type 0
+AllSmall [] = Unit {0}
+AllSmall (z ∷ zs) = (nat_abs z < 2 ^ 66) × AllSmall zs
+
 module _ (M : ℕ) (small : M < 2 ^ 24) where
   limit : not (over_limit M) ≡ true
   limit = under M (omega arith)
@@ -64,10 +69,6 @@ module _ (M : ℕ) (small : M < 2 ^ 24) where
   union_within [] h = refl
   union_within (r ∷ rs) h = joined_within r rs h.0 h.1
 
-  abbrev AllSmall : List ℤ → Type 0
-  AllSmall [] = Unit {0}
-  AllSmall (z ∷ zs) = (nat_abs z < 2 ^ 66) × AllSmall zs
-
   elements_within : (i k : ℕ) (zs : List ℤ) → AllSmall zs → k + length zs < 2 ^ 66 → EachWithin (elements_at i k zs)
   elements_within i k [] s l = tt
   elements_within i k (z ∷ zs) s l = (where_within (pos k) i z (omega arith) s.0, elements_within i (suc k) zs s.1 (omega arith))
@@ -76,7 +77,8 @@ module _ (M : ℕ) (small : M < 2 ^ 24) where
   numbers_within x k [] s l = tt
   numbers_within x k (z ∷ zs) s l = (where_within z x (pos k) s.0 (omega arith), numbers_within x (suc k) zs s.1 (omega arith))
 
-  element_within : (i x : ℕ) (zs : List ℤ) → AllSmall zs → length zs ≤ 2 ^ 64 → Within M small (element_ranges i zs x)
+  -- the rows of an element of small integers
+  pub element_within : (i x : ℕ) (zs : List ℤ) → AllSmall zs → length zs ≤ 2 ^ 64 → Within M small (element_ranges i zs x)
   element_within i x zs s l =
       (union_within (elements_at i 1 zs) (elements_within i 1 zs s (omega arith)), (union_within (index_ranges x 1 zs) (numbers_within x 1 zs s (omega arith)), tt))
 
@@ -124,7 +126,8 @@ module _ (M : ℕ) (small : M < 2 ^ 24) where
   units_weight [] m = omega arith
   units_weight (x ∷ xs) m = let e = units_weight xs (suc m) in omega arith
 
-  sum_within : (xs : List ℕ) (z : ℤ) (m n : ℕ) → length xs ≤ 2 ^ 64 → nat_abs z < 2 ^ 63 → Within M small (linear_rows IsAtMost (units xs m) z n).ranges
+  -- and the row of their sum
+  pub sum_within : (xs : List ℕ) (z : ℤ) (m n : ℕ) → length xs ≤ 2 ^ 64 → nat_abs z ≤ 2 ^ 63 → Within M small (linear_rows IsAtMost (units xs m) z n).ranges
   sum_within xs z m n l h =
       form_within M small IsAtMost (units xs m) z n (units_nonzero xs m) (units_narrow xs m)
       (together (nat_abs z) (weight M (units xs m)) (length xs * M) h (units_weight xs m) (most (length xs) l)) where
@@ -133,7 +136,7 @@ module _ (M : ℕ) (small : M < 2 ^ 24) where
           less : M ≤ 2 ^ 24
           less = omega arith
 
-        together : (a b c : ℕ) → a < 2 ^ 63 → b ≡ c → c ≤ 2 ^ 64 * 2 ^ 24 → a + b < 2 ^ 126
+        together : (a b c : ℕ) → a ≤ 2 ^ 63 → b ≡ c → c ≤ 2 ^ 64 * 2 ^ 24 → a + b < 2 ^ 126
         together a b c h e g = omega arith
 
 -- the integers that are read
@@ -142,23 +145,23 @@ integer_small (Int y) z i h = let e : y ≡ z = cc in subst (λ w. nat_abs w < 2
 integer_small _ z i h = absurd (cc)
 
 -- the elements of a list of integers, and how many there are
-record AreElements (M : ℕ) (small : M < 2 ^ 24) (t : Term) (zs : List ℤ) : Type 0 where
-  pub all_small : AllSmall M small zs
+record AreElements (t : Term) (zs : List ℤ) : Type 0 where
+  pub all_small : AllSmall zs
   pub count : length zs ≡ cells t
 
-elements_small : (M : ℕ) (small : M < 2 ^ 24) (t : Term) (zs : List ℤ) → HasIntegers t → walk as_integer t ≡ Ok zs → AreElements M small t zs
-elements_small M small (Atom f) zs i h =
-    test_ok (bytes_eq f (codes "[]")) (Ok []) (Err _) zs (AreElements M small (Atom f) zs) h (λ c e. let k : [] ≡ zs = cc in subst (AreElements M small (Atom f)) k (record { all_small = tt; count = refl })) (λ c e. absurd (cc))
-elements_small M small (Comp f (term x (term t no_terms))) zs i h =
-    test_ok (bytes_eq f (codes ".")) _ (Err _) zs (AreElements M small (Comp f (term x (term t no_terms))) zs) h
+elements_small : (t : Term) (zs : List ℤ) → HasIntegers t → walk as_integer t ≡ Ok zs → AreElements t zs
+elements_small (Atom f) zs i h =
+    test_ok (bytes_eq f (codes "[]")) (Ok []) (Err _) zs (AreElements (Atom f) zs) h (λ c e. let k : [] ≡ zs = cc in subst (AreElements (Atom f)) k (record { all_small = tt; count = refl })) (λ c e. absurd (cc))
+elements_small (Comp f (term x (term t no_terms))) zs i h =
+    test_ok (bytes_eq f (codes ".")) _ (Err _) zs (AreElements (Comp f (term x (term t no_terms))) zs) h
     (λ c e.
     let k = both_ok prepend (as_integer x) (walk as_integer t) zs e in
-    let j = elements_small M small t k.right i.1.0 k.from_right in
+    let j = elements_small t k.right i.1.0 k.from_right in
     let g : k.left ∷ k.right ≡ zs = cc (k.both) in
     let s = integer_small x k.left i.0 k.from_left in
-    subst (AreElements M small (Comp f (term x (term t no_terms)))) g (record { all_small = (omega arith, j.all_small); count = ap suc j.count }))
+    subst (AreElements (Comp f (term x (term t no_terms)))) g (record { all_small = (omega arith, j.all_small); count = ap suc j.count }))
     (λ c e. absurd (cc))
-elements_small _ small _ zs i h = absurd (cc)
+elements_small _ zs i h = absurd (cc)
 
 pub members_count : (t : Term) (ms : List Member) → walk as_member t ≡ Ok ms → length ms ≡ cells t
 members_count (Atom f) ms h = test_ok (bytes_eq f (codes "[]")) (Ok []) (Err _) ms (length ms ≡ 0) h (λ c e. let k : [] ≡ ms = cc in ap length (sym k)) (λ c e. absurd (cc))
@@ -187,19 +190,21 @@ module _ (M : ℕ) (small : M < 2 ^ 24) where
   expand_within AllDifferent (term l no_terms) n x i s h = all_different_within l n x h
   expand_within Element (term a (term l (term v no_terms))) n x i s h =
       let k = element_ok a l v n x h in
-      let e = elements_small M small l k.elements i.1.0 k.from_list in
+      let e = elements_small l k.elements i.1.0 k.from_list in
       subst (λ y. Within M small y.ranges) k.rows (element_within M small _ _ k.elements e.all_small (let f = e.count in omega arith))
   expand_within Atmost (term m (term l (term v no_terms))) n x i s h =
       let k = atmost_ok m l v n x h in
       let xs = placed n k.members in
       let c = members_count l k.members k.from_list in
       let d = length-placed k.members n in
+      let u = integer_small m k.limit i.0 k.from_limit in
       let w = integer_small v k.value i.1.1.0 k.from_value in
       subst (λ y. Within M small y.ranges) k.rows
-      (append_within M small (counts k.value xs _) _ (counts_within M small k.value xs _ (omega arith)) (sum_within M small xs k.limit _ _ (omega arith) (integer_small m k.limit i.0 k.from_limit)))
+      (append_within M small (counts k.value xs _) _ (counts_within M small k.value xs _ (omega arith)) (sum_within M small xs k.limit _ _ (omega arith) (omega arith)))
   expand_within _ _ n x i s h = absurd (cc)
 
-  all_accepted : (ps : List Indexical) → Fitting M ps → Within M small ps → AllPosted (λ p. is_accepted M p.range ≡ true) ps
+  -- rows that fit the table and the width are accepted
+  pub all_accepted : (ps : List Indexical) → Fitting M ps → Within M small ps → AllPosted (λ p. is_accepted M p.range ≡ true) ps
   all_accepted [] f w = tt
   all_accepted (p ∷ ps) f w = (let a = f.0.fits in let b = f.0.params in let c = w.0 in rw (c, a, b) refl, all_accepted ps f.1 w.1)
 

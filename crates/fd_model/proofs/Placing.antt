@@ -57,6 +57,10 @@ members_read n a (Comp f (term x (term t no_terms))) ms h =
     (λ c e. absurd (cc))
 members_read n a _ ms h = absurd (cc)
 
+pub integer_read : (a : Assignment) (t : Term) (z : ℤ) → as_integer t ≡ Ok z → worth a t ≡ z
+integer_read a (Int y) z h = cc
+integer_read a _ z h = absurd (cc)
+
 pub integers_read : (a : Assignment) (t : Term) (zs : List ℤ) → walk as_integer t ≡ Ok zs → worths a t ≡ zs
 integers_read a (Var x) ms h = absurd (cc)
 integers_read a (Int z) ms h = absurd (cc)
@@ -71,12 +75,7 @@ integers_read a (Comp f (term x (term t no_terms))) ms h =
     let j = integers_read a t k.right k.from_right in
     let g : k.left ∷ k.right ≡ ms = cc (k.both) in
     cc)
-    (λ c e. absurd (cc)) where
-      integer_read : (a : Assignment) (t : Term) (z : ℤ) → as_integer t ≡ Ok z → worth a t ≡ z
-      integer_read a (Var x) z h = absurd (cc)
-      integer_read a (Int y) z h = cc
-      integer_read a (Atom f) z h = absurd (cc)
-      integer_read a (Comp f ts) z h = absurd (cc)
+    (λ c e. absurd (cc))
 integers_read a (Comp f (term x (term t (term u us)))) ms h = absurd (cc)
 
 -- the numbers of variables

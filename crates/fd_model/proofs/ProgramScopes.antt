@@ -24,7 +24,8 @@ use Rattle.fd_language.specs.Lists.{Each}
 use Rattle.fd_language.proofs.Lemmas.{in_left, in_right, each_below}
 use Rattle.fd_model.proofs.Lists.{each_both}
 
-either : {A : Type 0} (P : A → Type 0) (b : Bool) (x y : A) → P x → P y → P (cond b x y)
+-- a property of both ways
+pub either : {A : Type 0} (P : A → Type 0) (b : Bool) (x y : A) → P x → P y → P (cond b x y)
 either P true x y h g = h
 either P false x y h g = g
 

@@ -137,7 +137,8 @@ module _ (M : ℕ) where
   numbers_fitting x k [] = tt
   numbers_fitting x k (z ∷ zs) = (record { fits = refl; params = refl }, numbers_fitting x (suc k) zs)
 
-  element_fitting : (i x : ℕ) (zs : List ℤ) → Fitting (element_ranges i zs x)
+  -- the rows of an element fit the table
+  pub element_fitting : (i x : ℕ) (zs : List ℤ) → Fitting (element_ranges i zs x)
   element_fitting i x zs = (union_fitting (elements_at i 1 zs) (elements_fitting i 1 zs), (union_fitting (index_ranges x 1 zs) (numbers_fitting x 1 zs), tt))
 
   counts_fitting : (v : ℤ) (xs : List ℕ) (m : ℕ) → Fitting (counts v xs m)

@@ -11,10 +11,11 @@ use Rattle.fd_language.specs.declared.range_node.Offence.{Offence}
 use Rattle.fd_language.specs.declared.range_node.Offence.TheVariants.{NotMonotone, NotNatural, BadDivisor, TooWide}
 use Rattle.fd_language.proofs.Lemmas.{verdict_agrees}
 use Rattle.fd_model.specs.Forms.{GoalForm, truth, failure, unification, posting, constraint, labelling, builtin, form_named, is_named, reserved_names, not_yet_names}
-use Rattle.fd_model.specs.Goal.{Goals, no_goals, goal, listed, Either, Clause, Query}
+use Rattle.fd_model.specs.Goal.{Goals, no_goals, goal, Either, Clause, Query}
 use Rattle.fd_model.specs.Queries.{goal_by_form, goal_named, form_of_functor, goal_of, followed, body_goals, queries_by, queries_of, clauses_by, clauses_of, program_of}
 use Rattle.fd_model.specs.Refusals.{Refusal, Functor, Form, query, clause, directive, fact, form_of, functor_of, goals_of, second_part, or_later, unspelled, offence_refusal, range_refusal, form_refusal, by_form, by_functor, goal_refusal, goals_refusal, head_refusal, wide_places, too_wide, clause_refusal, sentence_refusal, first_refusal}
-use Rattle.fd_model.specs.Sound.{IsRunnable, AllRunnable, AreRunnable, ClausesRunnable, QueriesRunnable, IsRunnableProgram}
+use Rattle.fd_model.specs.Sound.{IsRunnable, AllRunnable, ClausesRunnable, QueriesRunnable, IsRunnableProgram}
+use Rattle.fd_model.proofs.Existence.{runnable_listed}
 
 pub first_none : (a b : Option Refusal) → or_later a b ≡ None → a ≡ None
 first_none None b e = refl
@@ -102,19 +103,15 @@ body_runs M all (var x p) h = one_runs M all (var x p) h
 body_runs M all (int z p) h = one_runs M all (int z p) h
 body_runs M all (atom a p) h = one_runs M all (atom a p) h
 
-listed_runs : (M : ℕ) (gs : Goals) → AllRunnable M gs → AreRunnable M (listed gs)
-listed_runs M no_goals h = tt
-listed_runs M (goal g gs) h = (h.0, listed_runs M gs h.1)
-
 query_runs : (M : ℕ) (all : List PlacedTerm) (s : Sentence) (f : Form) (later : List Query) → clause_refusal M all s.term f ≡ None → QueriesRunnable M later → QueriesRunnable M (queries_by s.names f later)
-query_runs M all s (query b) later h g = (listed_runs M (body_goals b) (body_runs M all b h), g)
+query_runs M all s (query b) later h g = (runnable_listed M (body_goals b) (body_runs M all b h), g)
 query_runs M all s (clause a b) later h g = g
 query_runs M all s directive later h g = g
 query_runs M all s (fact t) later h g = g
 
 clause_runs : (M : ℕ) (all : List PlacedTerm) (s : Sentence) (f : Form) (later : List Clause) → clause_refusal M all s.term f ≡ None → ClausesRunnable M later → ClausesRunnable M (clauses_by s.names f later)
 clause_runs M all s (query b) later h g = g
-clause_runs M all s (clause a b) later h g = (listed_runs M (body_goals b) (body_runs M all b (later_none (head_refusal a) (goals_refusal M all (goals_of b)) h)), g)
+clause_runs M all s (clause a b) later h g = (runnable_listed M (body_goals b) (body_runs M all b (later_none (head_refusal a) (goals_refusal M all (goals_of b)) h)), g)
 clause_runs M all s directive later h g = g
 clause_runs M all s (fact t) later h g = (tt, g)
 

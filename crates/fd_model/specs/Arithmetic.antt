@@ -5,7 +5,8 @@ use Rattle.std.specs.Ordering.{int_eq}
 use Rattle.std.specs.Str.{bytes_eq}
 use Rattle.fd_model.specs.declared.kinds.QueryFault.{QueryFault}
 use Rattle.fd_model.specs.declared.kinds.QueryFault.TheVariants.{Instantiation, BadType, Evaluation}
-use Rattle.fd_model.specs.Linear.{in_integers}
+use Rattle.fd_model.specs.Linear.{in_integers, of_both, of_one}
+pub use Rattle.fd_model.specs.Linear.{of_both as value_of_both, of_one as value_of_one}
 use Rattle.fd_language.specs.Term.{Name, Term, Var, Int, Atom, Comp, no_terms, term}
 
 -- why a term has no value
@@ -53,24 +54,14 @@ modulo_of a b = if int_eq b (pos 0) then Err zero_divisor else integer (modulo a
 abbrev pub opposite_of : ℤ → Value
 opposite_of a = integer (neg_ℤ a)
 
--- The left operand's fault comes first, then the right one's, then the operation's.
-abbrev pub value_of_both : (ℤ → ℤ → Value) → Value → Value → Value
-value_of_both op (Ok a) (Ok b) = op a b
-value_of_both op (Ok a) (Err f) = Err f
-value_of_both op (Err f) r = Err f
-
-abbrev pub value_of_one : (ℤ → Value) → Value → Value
-value_of_one op (Ok a) = op a
-value_of_one op (Err f) = Err f
-
 -- the value of a term with this name and two operands, each of them with its value
 abbrev pub by_name : Name → Value → Value → Value
 by_name f l r =
-    if bytes_eq f (codes "+") then value_of_both integer_sum l r else
-    if bytes_eq f (codes "-") then value_of_both integer_difference l r else
-    if bytes_eq f (codes "*") then value_of_both integer_product l r else
-    if bytes_eq f (codes "//") then value_of_both quotient_of l r else
-    if bytes_eq f (codes "mod") then value_of_both modulo_of l r else Err not_a_number
+    if bytes_eq f (codes "+") then of_both integer_sum l r else
+    if bytes_eq f (codes "-") then of_both integer_difference l r else
+    if bytes_eq f (codes "*") then of_both integer_product l r else
+    if bytes_eq f (codes "//") then of_both quotient_of l r else
+    if bytes_eq f (codes "mod") then of_both modulo_of l r else Err not_a_number
 
 -- the value of a term
 abbrev pub value_of : Term → Value
@@ -78,6 +69,6 @@ value_of (Var x) = Err unbound
 value_of (Int z) = integer z
 value_of (Atom a) = Err not_a_number
 value_of (Comp f no_terms) = Err not_a_number
-value_of (Comp f (term a no_terms)) = if bytes_eq f (codes "-") then value_of_one opposite_of (value_of a) else Err not_a_number
+value_of (Comp f (term a no_terms)) = if bytes_eq f (codes "-") then of_one opposite_of (value_of a) else Err not_a_number
 value_of (Comp f (term a (term b no_terms))) = by_name f (value_of a) (value_of b)
 value_of (Comp f (term a (term b (term c ts)))) = Err not_a_number

@@ -8,6 +8,7 @@ use Rattle.fd_model.specs.declared.kinds.QueryFault.TheVariants.{Instantiation, 
 use Rattle.fd_model.specs.declared.kinds.BuiltinKind.{BuiltinKind}
 use Rattle.fd_model.specs.declared.kinds.BuiltinKind.TheVariants as kind
 use Rattle.fd_model.specs.Arithmetic.{Value, query_fault, value_of}
+pub use Rattle.fd_model.specs.Goal.{first_argument}
 use Rattle.fd_model.specs.Lines.{Interval, intervals}
 
 -- ---- expressions
@@ -111,11 +112,7 @@ interval_list (those ns) = interval_terms (intervals ns)
 
 -- ---- goals
 
-abbrev pub first_argument : Term → Term
-first_argument (Comp f (term t ts)) = t
-first_argument t = t
-
--- and of a goal with one argument this one
+-- the second argument, and of a goal with one argument this one
 abbrev pub second_argument : Term → Term
 second_argument (Comp f (term t no_terms)) = t
 second_argument (Comp f (term t (term u us))) = u

@@ -7,6 +7,7 @@ use Rattle.fd_model.specs.declared.kinds.ConstraintKind.TheVariants.{Compare, Al
 use Rattle.fd_language.specs.Variables.{variables_of, variables_of_all}
 use Rattle.fd_language.specs.Range.{is_none_left}
 use Rattle.fd_language.specs.Term.{Term, Terms, Var, Int, Atom, Comp, no_terms, term, Name, apply, apply_all}
+use Rattle.fd_model.specs.Builtins.{is_integer}
 use Rattle.fd_model.specs.LinearRows.{Expansion}
 use Rattle.fd_model.specs.Constraining.{compare, expand}
 use Rattle.fd_model.specs.Satisfies.{Assignment, worth, Satisfies}
@@ -56,10 +57,6 @@ is_place (Var x) = true
 is_place (Int z) = true
 is_place _ = false
 
-abbrev pub is_whole : Term → Bool
-is_whole (Int z) = true
-is_whole _ = false
-
 abbrev pub is_list_of : (Term → Bool) → Term → Bool
 is_list_of test (Atom a) = bytes_eq a (codes "[]")
 is_list_of test (Comp f (term h (term t no_terms))) = bytes_eq f (codes ".") && (test h && is_list_of test t)
@@ -69,8 +66,8 @@ is_list_of test _ = false
 abbrev pub is_flat_constraint : ℕ → ConstraintKind → Terms → Bool
 is_flat_constraint M (Compare r) (term s (term t no_terms)) = is_flat_comparison M s t
 is_flat_constraint M AllDifferent (term l no_terms) = is_list_of is_place l
-is_flat_constraint M Element (term i (term l (term x no_terms))) = is_place i && (is_list_of is_whole l && is_place x)
-is_flat_constraint M Atmost (term m (term l (term v no_terms))) = is_whole m && (is_list_of is_place l && is_whole v)
+is_flat_constraint M Element (term i (term l (term x no_terms))) = is_place i && (is_list_of is_integer l && is_place x)
+is_flat_constraint M Atmost (term m (term l (term v no_terms))) = is_integer m && (is_list_of is_place l && is_integer v)
 is_flat_constraint M _ _ = false
 
 -- each variable is seen as an open one, or as an integer of the universe

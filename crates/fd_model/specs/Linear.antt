@@ -56,13 +56,13 @@ is_within s = in_integers s.constant && (list_all (λ t. in_integers t.1) s.prod
 abbrev pub checked : Sum → Result Sum QueryFault
 checked s = if is_within s then Ok s else Err Evaluation
 
--- The operands are collected before the term itself, the left one first.
-abbrev pub of_both : {A B C : Type 0} → (A → B → Result C QueryFault) → Result A QueryFault → Result B QueryFault → Result C QueryFault
+-- The left operand's fault comes first, then the right one's, then the operation's.
+abbrev pub of_both : {A B C F : Type 0} → (A → B → Result C F) → Result A F → Result B F → Result C F
 of_both op (Ok s) (Ok t) = op s t
 of_both op (Ok s) (Err f) = Err f
 of_both op (Err f) t = Err f
 
-abbrev pub of_one : {A B : Type 0} → (A → Result B QueryFault) → Result A QueryFault → Result B QueryFault
+abbrev pub of_one : {A B F : Type 0} → (A → Result B F) → Result A F → Result B F
 of_one op (Ok s) = op s
 of_one op (Err f) = Err f
 

@@ -7,4 +7,5 @@ mod Alone
 mod Ordering
 mod Stacks
 mod Steps
+mod Collected
 pub mod Lemmas

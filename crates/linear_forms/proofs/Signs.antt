@@ -13,6 +13,7 @@ use Rattle.fd_language.specs.Term.{Term, Var, Int, Atom, Comp, no_terms, term, N
 use Rattle.fd_model.specs.Linear.{Sum, with_product, with_products, scaled, nonzero, plus, times, is_constant, in_integers, is_within, checked, of_both, of_one, sum_of, difference_of, product_of, collect_term}
 use Rattle.linear_forms.specs.Sums.{signed}
 
+-- the product by -1 is the negation
 pub neg_one : (z : ℤ) → negsuc 0 *ℤ z ≡ neg_ℤ z
 neg_one (pos n) = ap (λ k. neg_ℤ (pos k)) (omega arith)
 neg_one (negsuc n) = ap pos (omega arith)
@@ -54,8 +55,13 @@ one_factor k z = ap (λ y. k *ℤ y) (neg_one z) ∙ neg_factor k z ∙ sym (neg
 pub one_scales : (k z : ℤ) → (negsuc 0 *ℤ k) *ℤ z ≡ negsuc 0 *ℤ (k *ℤ z)
 one_scales k z = *ℤ_comm (negsuc 0 *ℤ k) z ∙ one_factor z k ∙ ap (λ y. negsuc 0 *ℤ y) (*ℤ_comm z k)
 
+-- and of the language like its factor
 pub one_inside : (z : ℤ) → in_integers (negsuc 0 *ℤ z) ≡ in_integers z
 one_inside z = ap in_integers (neg_one z) ∙ ap (λ n. nat_lt n (2 ^ 63)) (neg_abs z)
+
+-- the negation of an integer of the language
+pub neg_inside : (z : ℤ) → in_integers z ≡ true → in_integers (neg_ℤ z) ≡ true
+neg_inside z h = ap in_integers (sym (neg_one z)) ∙ one_inside z ∙ h
 
 -- the negated sum
 abbrev pub negated : Sum → Sum

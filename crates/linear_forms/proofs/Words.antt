@@ -1,12 +1,13 @@
 -- Integers of the language have 64 bits.
-use Rattle.std.proofs.Common.{◌≡◌, subst, ◌<◌, ◌^◌, Bool, true, false, not, ap, refl, ◌+ℤ◌, ◌*ℤ◌, ℤ, pos, negsuc, neg_ℤ, ◌-ℤ◌, sym, ◌∙◌, arith, FitsSigned, to_z, of_z}
+use Rattle.std.proofs.Common.{◌≡◌, subst, Bool, true, false, not, ap, refl, ◌+ℤ◌, ◌*ℤ◌, ℤ, pos, negsuc, neg_ℤ, ◌-ℤ◌, sym, ◌∙◌, arith, FitsSigned, to_z, of_z}
 use Rattle.std.specs.Int.{w64}
 use Rattle.std.proofs.lemmas.Int.{ints, to_z-of_z, fits_signed_from_abs}
 use Rattle.fd_model.proofs.Lemmas.{integer_size}
 use Rattle.fd_model.specs.Linear.{in_integers}
 use Rattle.linear_forms.specs.Shares.{sign_of}
-use Rattle.linear_forms.proofs.Signs.{neg_one, one_inside}
+use Rattle.linear_forms.proofs.Signs.{neg_inside}
 
+-- they fit the width
 pub integer_fits : (z : ℤ) → in_integers z ≡ true → FitsSigned w64 z
 integer_fits (pos n) h = let k = integer_size (pos n) h in fits_signed_from_abs w64 (pos n) (omega arith)
 integer_fits (negsuc n) h = let k = integer_size (negsuc n) h in fits_signed_from_abs w64 (negsuc n) (omega arith)
@@ -52,4 +53,4 @@ passed_sign n z e = to_z-of_z w64 z (sign_fits n z e) ∙ e
 pub passed_negation : (z : ℤ) → in_integers z ≡ true → to_z w64 (of_z w64 (pos 0 -ℤ to_z w64 (of_z w64 z))) ≡ neg_ℤ z
 passed_negation z h =
     let same : pos 0 -ℤ to_z w64 (of_z w64 z) ≡ neg_ℤ z = let e = to_z-of_z w64 z (integer_fits z h) in omega (arith, ints) in
-    (λ i. to_z w64 (of_z w64 (same i))) ∙ to_z-of_z w64 (neg_ℤ z) (integer_fits (neg_ℤ z) (ap in_integers (sym (neg_one z)) ∙ one_inside z ∙ h))
+    (λ i. to_z w64 (of_z w64 (same i))) ∙ to_z-of_z w64 (neg_ℤ z) (integer_fits (neg_ℤ z) (neg_inside z h))

@@ -14,7 +14,6 @@ use Rattle.clause_check.specs.Programs.{FlatProgram, program_in, query_at, query
 use Rattle.machine_relation.specs.Next.{is_final, IsNext}
 use Rattle.machine_relation.proofs.Lemmas.{behind_other}
 use Rattle.machine_events.specs.declared.MachineEvent.{MachineEvent}
-use Rattle.machine_events.specs.declared.MachineEvent.TheVariants as events
 use Rattle.machine_events.specs.Events.{event_of}
 use Rattle.code_machine.specs.States.{State, StandsFor}
 use Rattle.run_summary.specs.declared.summary.Tally.{Tally}

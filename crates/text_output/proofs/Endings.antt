@@ -1,10 +1,8 @@
 -- How the writing of an output ends, from what its last call says.
-use Rattle.std.proofs.Common.{◌≡◌, ℕ, inr, List, refl, ◌∙◌}
+use Rattle.std.proofs.Common.{ℕ, inr, List, refl}
 use Rattle.fd_model.specs.declared.Status.{Status}
 use Rattle.fd_model.specs.declared.Status.TheVariants.{NoMemory}
-use Rattle.fd_model.specs.Verdict as model
 use Rattle.byte_ports.proofs.Lemmas.{wrote_no_part}
-use Rattle.text_output.specs.declared.fault.Fault.TheVariants as fault
 use Rattle.byte_ports.specs.Ends.{SinkState}
 use Rattle.text_output.specs.Endings.{Ending}
 

@@ -1,5 +1,5 @@
 -- What accepted words ask for.
-use Rattle.std.proofs.Common.{◌≡◌, ◌≤◌, ℕ, Bool, true, false, cond, List, ◌∷◌, Option, Some, None, refl, sym, subst, arith}
+use Rattle.std.proofs.Common.{◌≤◌, ℕ, Bool, true, false, cond, List, ◌∷◌, Option, Some, None, refl, sym, subst, arith}
 use Rattle.std.specs.Prelude.{IfSome, zero, suc}
 use Rattle.fd_model.specs.Output.{Options}
 use Rattle.fd_model.specs.Run.{IsLimit}

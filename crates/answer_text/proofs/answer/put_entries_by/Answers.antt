@@ -1,9 +1,9 @@
 use Rattle.std.proofs.Common.{rules, ◌≡◌, ◌+◌, ◌<◌, ◌≤◌, ◌++◌, ◌∙◌, ℕ, List, length, map, take, codes, append_assoc, refl, sym, ap, subst, arith, slice_index_or}
 use Rattle.std.proofs.lemmas.List.{length-map, take_all}
-use Rattle.fd_language.specs.Term.{Name, Term}
+use Rattle.fd_language.specs.Term.{Name, Term, as_terms}
 use Rattle.fd_language.specs.Variables.{variables_of, distinct}
 use Rattle.fd_language.specs.Writing.{Quoted, term_text}
-use Rattle.fd_model.specs.Lines.{as_terms, equals_text, joined}
+use Rattle.fd_model.specs.Lines.{equals_text, joined}
 use Rattle.machine_events.specs.Events.{set_in, terms_in, variable_text}
 use Rattle.term_pool.specs.declared.AtomId.{AtomId}
 use Rattle.term_pool.specs.declared.TermId.{TermId}

@@ -1,6 +1,7 @@
 use Rattle.std.proofs.Common.{◌≡◌, ◌++◌, take, map, codes}
 use Rattle.fd_language.specs.Variables.{distinct}
-use Rattle.fd_model.specs.Lines.{as_terms, equals_text, joined}
+use Rattle.fd_language.specs.Term.{as_terms}
+use Rattle.fd_model.specs.Lines.{equals_text, joined}
 use Rattle.machine_events.specs.Events.{terms_in, variable_text}
 use Rattle.term_pool.specs.Contents.{atom_name}
 use Rattle.answer_text.proofs.Numbering.{variables_in}

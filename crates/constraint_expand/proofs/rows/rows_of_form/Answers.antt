@@ -2,9 +2,9 @@ use Rattle.std.proofs.Common.{◌≡◌, true, ap, ◌∙◌, ℤ, false, neg_�
 use Rattle.std.specs.Int.{w64}
 use Rattle.std.proofs.lemmas.Int.{to_z-of_z}
 use Rattle.fd_model.specs.Linear.{in_integers}
-use Rattle.linear_forms.proofs.Lemmas.{passed}
+use Rattle.linear_forms.proofs.Lemmas.{passed, neg_inside}
 use Rattle.constraint_expand.specs.Posts.{Accepted}
-use Rattle.constraint_expand.proofs.RowPosts.{neg_inside, sides_of, rows_same, made_form}
+use Rattle.constraint_expand.proofs.RowPosts.{sides_of, rows_same, made_form}
 use Rattle.constraint_expand.proofs.rows.rows_of_form.Goals as goal
 
 pub returns-clause-rows : goal.returns-clause-rows
