@@ -1,4 +1,5 @@
 //! The line of an answer, and the text of a written term.
+
 ghost use Rattle.std.specs.Prelude.{◌≡◌, ◌<◌, ◌++◌, ℕ, List, [], length, map, codes, All, IfOk, OnOk};
 ghost use Rattle.fd_language.specs.Term.{as_terms};
 ghost use Rattle.fd_model.specs.Lines.{equals_text, joined, line};

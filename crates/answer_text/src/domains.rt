@@ -1,4 +1,5 @@
 //! Domains as intervals.
+
 ghost use Rattle.std.specs.Prelude.{◌≡◌, ◌++◌, codes, OnOk};
 ghost use Rattle.fd_model.specs.Lines.{domain_text, interval_text};
 ghost use Rattle.answer_text.specs.Pieces.{interval_of_span, separator_at, spans_text};

@@ -1,4 +1,5 @@
 //! Numbers in decimal.
+
 ghost use Rattle.std.specs.Prelude.{◌≡◌, ◌++◌, decimal, OnOk};
 ghost use Rattle.fd_model.specs.Lines.{line};
 

@@ -1,4 +1,5 @@
 //! Why a text is refused.
+
 ghost use Rattle.std.specs.Prelude.{◌≡◌, ◌++◌, ◌<◌, length, OnOk};
 ghost use Rattle.fd_model.specs.Refusals.{functor, functor_name};
 ghost use Rattle.term_pool.specs.Contents.{atom_name};

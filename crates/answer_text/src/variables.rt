@@ -1,4 +1,5 @@
 //! The open variables of a text: their numbers, their sets and their texts.
+
 ghost use Rattle.std.specs.Prelude.{◌≡◌, ◌<◌, ◌++◌, ℕ, List, length, reverse, Option, option_copied, IfOk, OnOk};
 ghost use Rattle.fd_language.specs.Variables.{variables_of};
 ghost use Rattle.fd_model.specs.Lines.{open_part};

@@ -1,4 +1,5 @@
 //! Std's readers and writers as sources and sinks.
+
 ghost use Rattle.std.specs.Prelude.{◌≡◌, ◌<◌, ◌≤◌, None, length, IfOk, OnOk, OnErr};
 ghost use Rattle.std.specs.Io.KnownBytes.{ReadConsumes, WriteAppends};
 ghost use Rattle.byte_ports.specs.Parts.{AdapterParts};

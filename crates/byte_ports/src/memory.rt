@@ -1,4 +1,5 @@
 //! A source and a sink in memory, with calls that are to fail.
+
 ghost use Rattle.std.specs.Prelude.{◌≡◌, ◌↔◌, ◌⊎◌, ◌-◌, ◌<◌, ◌≤◌, [], ◌++◌, Some, length, take, drop, min, IfOk, IsErr, OnOk, OnErr};
 ghost use Rattle.byte_ports.specs.Parts.{MemorySourceParts, MemorySinkParts, FailsNext, unused, called, failed};
 ghost use Rattle.byte_ports.specs.Ports.{Rose};

@@ -1,4 +1,5 @@
 //! Which calls of a source or a sink are to fail, and how many did.
+
 ghost use Rattle.std.specs.Prelude.{◌≡◌, ◌≤◌, ◌↔◌, IsTrue};
 ghost use Rattle.byte_ports.specs.Parts.{FailsNext, unused, called};
 ghost use Rattle.byte_ports.specs.Ports.{raised};

@@ -1,4 +1,5 @@
 //! Sources and sinks, and the loops that read a whole text and write a whole piece.
+
 ghost use Rattle.std.specs.Prelude.{◌≡◌, ◌+◌, ◌<◌, ◌≤◌, ℕ, List, [], Option, length, take, IfOk, IsOk, OnOk, OnErr, IsErr, IsErrOf};
 ghost use Rattle.byte_ports.specs.Ports.{Took, IsAtEnd, ReadJust, ReadWithin, Put, PutPart, Rose};
 ghost use Rattle.byte_ports.specs.declared.ports.ReadTextFault.TheVariants.{NoMemory};

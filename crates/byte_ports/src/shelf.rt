@@ -1,4 +1,5 @@
 //! Bytes with room for a given number more.
+
 ghost use Rattle.std.specs.Prelude.{◌≡◌, ◌+◌, ◌-◌, ◌≤◌, [], ◌++◌, length, IfOk};
 
 use fd_language::NoMemory;

@@ -1,4 +1,5 @@
 //! A source and a sink that never fail.
+
 ghost use Rattle.std.specs.Prelude.{◌≡◌, ◌-◌, ◌≤◌, ◌<◌, [], ◌++◌, Some, None, Ok, length, take, drop, min, IfOk, MatchOption, IfSome};
 ghost use Rattle.byte_ports.specs.Parts.{SureSinkParts};
 

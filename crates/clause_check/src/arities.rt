@@ -1,4 +1,5 @@
 //! Compound terms with too many arguments.
+
 ghost use Rattle.std.specs.Prelude.{◌≡◌, ◌<◌, Some, length, IfOk};
 ghost use Rattle.term_pool.specs.PlacedTerms.{placed_of};
 ghost use Rattle.clause_check.specs.Terms.{lesser, IsWidePlace};

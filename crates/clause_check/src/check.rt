@@ -1,4 +1,5 @@
 //! The sentences of a text, checked from the first to the last.
+
 ghost use Rattle.std.specs.Prelude.{◌≡◌, ◌<◌, [], length, All, IfOk, IfErr, OnOk};
 ghost use Rattle.term_pool.specs.Contents.{Contents};
 ghost use Rattle.term_reader.specs.Sentences.{AreOwn, IsSentence};

@@ -1,4 +1,5 @@
 //! Why the sentences of a text have no program.
+
 ghost use Rattle.std.specs.Prelude.{◌≡◌, ◌<◌, Some, length};
 ghost use Rattle.fd_language.specs.PlacedTerm.{place};
 ghost use Rattle.fd_model.specs.Refusals.{refused_at};

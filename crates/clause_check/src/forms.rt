@@ -1,4 +1,5 @@
 //! The names of the goals that belong to the language.
+
 ghost use Rattle.std.specs.Prelude.{◌≡◌, option_map};
 ghost use Rattle.fd_model.specs.Forms.{built_in_names, form_named as form_of_name, is_named, joining_names, not_yet_names, reserved_names};
 ghost use Rattle.clause_check.specs.Forms.{binary_from, form_seen};

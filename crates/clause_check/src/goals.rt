@@ -1,4 +1,5 @@
 //! The goals of bodies, read from left to right into one vector.
+
 ghost use Rattle.std.specs.Prelude.{◌<◌, ◌≤◌, length, IfOk, IfErr, OnOk};
 ghost use Rattle.term_pool.specs.Contents.{Contents};
 ghost use Rattle.term_pool.specs.Terms.{term_of};

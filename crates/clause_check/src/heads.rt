@@ -1,4 +1,5 @@
 //! The functors that the heads of a text have.
+
 ghost use Rattle.std.specs.Prelude.{◌≡◌, ◌<◌, [], length, OnOk};
 ghost use Rattle.fd_model.specs.Refusals.{form_of, head_in};
 ghost use Rattle.term_pool.specs.PlacedTerms.{placed_of};

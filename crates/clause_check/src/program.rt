@@ -1,4 +1,5 @@
 //! The program of a text: its goals, clauses and queries over one pool of terms.
+
 ghost use Rattle.std.specs.Prelude.{◌≡◌, ◌<◌, length, All, IsTrue};
 ghost use Rattle.fd_language.specs.RangeVerdict.{is_accepted};
 ghost use Rattle.clause_check.specs.Programs.{clause_at, goal_at, program_of_parts, query_at, range_at, IsGoal, IsPart, IsProgram};

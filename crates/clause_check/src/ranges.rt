@@ -1,4 +1,5 @@
 //! The ranges of `in` goals.
+
 ghost use Rattle.std.specs.Prelude.{◌<◌, length};
 ghost use Rattle.term_pool.specs.PlacedTerms.{placed_of};
 ghost use Rattle.clause_check.specs.Causes.{IsOffence, IsUnspelled};

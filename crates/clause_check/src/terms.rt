@@ -1,4 +1,5 @@
 //! What the terms of a text are: sentences, bodies, goals.
+
 ghost use Rattle.std.specs.Prelude.{◌≡◌, ◌<◌, length};
 ghost use Rattle.fd_model.specs.Queries.{first_part as first_of};
 ghost use Rattle.fd_model.specs.Refusals.{second_part as second_of};

@@ -1,4 +1,5 @@
 //! The code of one clause.
+
 ghost use Rattle.std.specs.Prelude.{◌≡◌, ◌<◌, ◌+◌, ◌-◌, [], length, map, IfOk, IfSome, OnOk};
 ghost use Rattle.clause_check.specs.declared.program.FlatGoal.TheVariants.{Call};
 ghost use Rattle.clause_check.specs.Programs.{IsPart, goal_at, clause_at, clause_in, program_in};

@@ -1,4 +1,5 @@
 //! The open sides of `A ; B` while a body is written.
+
 ghost use Rattle.std.specs.Prelude.{◌<◌, length, IfOk};
 ghost use Rattle.clause_code.specs.Sides.{place_of, Enters, Leaves};
 

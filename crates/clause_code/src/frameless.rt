@@ -1,4 +1,5 @@
 //! The code of clauses that need no frame: no goal stands in their bodies but a last user goal.
+
 ghost use Rattle.std.specs.Prelude.{◌≡◌, ◌+◌, ◌<◌, [], ◌++◌, length, All, IfSome, OnOk};
 ghost use Rattle.fd_model.specs.Constraining.{arguments};
 ghost use Rattle.term_pool.specs.Terms.{term_of, terms_by};

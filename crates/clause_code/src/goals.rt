@@ -1,4 +1,5 @@
 //! The code of goals.
+
 ghost use Rattle.std.specs.Prelude.{◌≡◌, ◌+◌, ◌<◌, ◌≤◌, true, [], ◌++◌, length, map, All, OnOk};
 ghost use Rattle.fd_model.specs.Sound.{EachBelow};
 ghost use Rattle.fd_language.specs.Term.{term};

@@ -1,4 +1,5 @@
 //! The heads of clauses.
+
 ghost use Rattle.std.specs.Prelude.{◌≡◌, suc, ◌<◌, ◌≤◌, [], ◌++◌, length, All, OnOk};
 ghost use Rattle.fd_model.specs.Constraining.{arguments};
 ghost use Rattle.term_pool.specs.Terms.{term_of, terms_by};

@@ -1,4 +1,5 @@
 //! The laws of pieces of code, each the contract of a function that does nothing.
+
 ghost use Rattle.clause_code.specs.Laws.{MoreRegisters, PartsApart, AnyOrder, BothWays, ListsInOrder};
 
 /// What a place stands for, it stands for with more registers too.

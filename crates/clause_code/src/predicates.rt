@@ -1,4 +1,5 @@
 //! The predicates of a program, by their numbers.
+
 ghost use Rattle.std.specs.Prelude.{◌≡◌, ◌+◌, ◌<◌, ℕ, Some, length, slice_get, IfOk, IfSome, IfNone, OnOk};
 ghost use Rattle.term_pool.specs.Terms.{term_of};
 ghost use Rattle.clause_check.specs.Programs.{program_in};

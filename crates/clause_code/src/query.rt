@@ -1,4 +1,5 @@
 //! The code of one query.
+
 ghost use Rattle.std.specs.Prelude.{◌≡◌, ℕ, ◌<◌, ◌+◌, [], length, map, All, IfOk, OnOk};
 ghost use Rattle.clause_check.specs.Programs.{query_at, query_in, program_in};
 ghost use Rattle.wam_code.specs.declared.instruction.Register.TheVariants.{Y};

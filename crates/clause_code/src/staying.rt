@@ -1,4 +1,5 @@
 //! Which variables of a clause without a frame stay in argument registers.
+
 ghost use Rattle.std.specs.Prelude.{◌≡◌, ◌+◌, ◌<◌, ◌≤◌, [], length, All, IfOk, OnOk};
 ghost use Rattle.fd_model.specs.Constraining.{arguments};
 ghost use Rattle.machine_relation.specs.Heap.{AllOf};

@@ -1,4 +1,5 @@
 //! The code of terms: arguments of heads and of goals.
+
 ghost use Rattle.std.specs.Prelude.{◌≡◌, ◌+◌, ◌<◌, ◌≤◌, [], ◌∷◌, ◌++◌, length, All, IfOk, OnOk};
 ghost use Rattle.fd_language.specs.Term.{Comp};
 ghost use Rattle.term_pool.specs.Contents.{atom_name};

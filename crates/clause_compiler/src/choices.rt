@@ -1,4 +1,5 @@
 //! The choices before the clauses of a predicate.
+
 ghost use Rattle.std.specs.Prelude.{◌≡◌, ℕ, true, List, [], ◌<◌, ◌≤◌, ◌++◌, length, map, take, drop, IfOk, OnOk, All};
 ghost use Rattle.clause_code.specs.Predicates.{Appends, ArePredicates};
 ghost use Rattle.clause_code.specs.Trying.{list_of};

@@ -1,4 +1,5 @@
 //! The clauses of each predicate.
+
 ghost use Rattle.std.specs.Prelude.{◌≡◌, ◌<◌, ◌+◌, ℕ, false, [], length, map, IfOk, IfSome, IfNone, Some, slice_get};
 ghost use Rattle.clause_code.specs.Pieces.{Predicate};
 ghost use Rattle.clause_code.specs.Predicates.{ArePredicates};

@@ -1,4 +1,5 @@
 //! What the first argument of a clause's head shows.
+
 ghost use Rattle.std.specs.Prelude.{◌≡◌, ◌<◌, All, IfOk, is_some, length};
 ghost use Rattle.std.specs.List.{list_any};
 ghost use Rattle.clause_compiler.specs.Keys.{is_switched, key_of, kind_numbers, may_be, term_key};

@@ -1,4 +1,5 @@
 //! The code of a program.
+
 ghost use Rattle.std.specs.Prelude.{◌≡◌, [], IfOk, map};
 ghost use Rattle.clause_check.specs.Programs.{program_in};
 ghost use Rattle.clause_compiler.specs.Layout.{IsLaidOut};

@@ -1,4 +1,5 @@
 //! The ranges of a program, compiled: equal ones have one code.
+
 ghost use Rattle.std.specs.Prelude.{◌≡◌, ◌↔◌, IsTrue, map, nat_eq, option_map, IfOk, OnOk, Some};
 ghost use Rattle.indexmap.specs.IndexMap.{get};
 

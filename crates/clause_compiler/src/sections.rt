@@ -1,4 +1,5 @@
 //! The clauses and the queries of a program, each put behind what is there.
+
 ghost use Rattle.std.specs.Prelude.{◌≡◌, length, map, IfOk};
 ghost use Rattle.clause_check.specs.Programs.{program_in};
 ghost use Rattle.clause_code.specs.Codable.{IsCodable};

@@ -1,4 +1,5 @@
 //! Clauses by the keys of their first arguments.
+
 ghost use Rattle.std.specs.Prelude.{◌≡◌, ◌++◌, ℕ, ◌<◌, ◌∷◌, [], All, IfOk, IfSome, IsTrue, List, OnOk, Some, is_some, length};
 ghost use Rattle.clause_check.specs.Programs.{FlatProgram};
 ghost use Rattle.clause_compiler.specs.Keys.{have_keys, is_tabled, key_of};

@@ -1,4 +1,5 @@
 //! What no clause says: that the calls succeed with ample memory, and how std's readers and writers are used.
+
 ghost use Rattle.std.specs.Prelude.{None};
 
 use crate::same::same;

@@ -1,4 +1,5 @@
 //! What the words of the command line ask for.
+
 ghost use Rattle.std.specs.Prelude.{◌≡◌, map, string_bytes, option_map, IfOk};
 ghost use Rattle.clpwhere.specs.Words.{file_word, IsAskedBy};
 

@@ -1,4 +1,5 @@
 //! The whole input, line by line.
+
 ghost use Rattle.std.specs.Prelude.{◌≡◌, ◌<◌, [], ◌∷◌, ◌++◌, length, IfOk};
 ghost use Rattle.byte_ports.specs.Ends.{ends, sink_at};
 ghost use Rattle.clpwhere.specs.Endings.{CopyEnds, Fed, IsOpen, Wrote};

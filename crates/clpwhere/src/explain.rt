@@ -1,4 +1,5 @@
 //! What is written of a line.
+
 ghost use Rattle.std.specs.Prelude.{◌≡◌, ◌++◌, IfOk, OnOk, string_bytes};
 ghost use Rattle.byte_ports.specs.Ends.{sink_at};
 ghost use Rattle.clpwhere.specs.Endings.{Wrote};

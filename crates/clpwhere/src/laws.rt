@@ -1,4 +1,5 @@
 //! The law of lines that tell a refusal.
+
 ghost use Rattle.std.specs.Prelude.{◌≡◌, ◌↔◌, ℕ, List, Some};
 ghost use Rattle.clpwhere.specs.Refusals.{refusal_of, Refusal, Tells};
 

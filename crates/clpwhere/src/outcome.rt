@@ -1,4 +1,5 @@
 //! How a run ends, and what cuts it short.
+
 ghost use Rattle.std.specs.Prelude.{◌≡◌};
 ghost use Rattle.clpwhere.specs.Endings.{fault_status, status_number};
 ghost use Rattle.clpwhere.specs.declared.outcome.Fault.TheVariants as fault;

@@ -1,4 +1,5 @@
 //! The reasons of refusals.
+
 ghost use Rattle.std.specs.Prelude.{◌≡◌};
 ghost use Rattle.clpwhere.specs.Reasons.{is_told_by, reason_of, reason_sentence, reason_words};
 

@@ -1,4 +1,5 @@
 //! The lines that tell a refusal.
+
 ghost use Rattle.std.specs.Prelude.{◌≡◌, option_map};
 ghost use Rattle.std.specs.Option.{option_copied};
 ghost use Rattle.clpwhere.specs.Refusals.{behind, place_in, refusal_of, seen};

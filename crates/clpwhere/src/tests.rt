@@ -1,4 +1,5 @@
 //! What runs write, over ends in memory.
+
 use crate::{Asked, NamedText, Status, run};
 use byte_ports::{MemorySink, MemorySource};
 use std::alloc::Global;

@@ -1,4 +1,5 @@
 //! A text, and the places in it.
+
 ghost use Rattle.std.specs.Prelude.{◌≡◌, ◌==◌, take, string_bytes};
 ghost use Rattle.std.specs.List.{after_last, before_first};
 ghost use Rattle.clpwhere.specs.Places.{line_number, before_place, from_place};

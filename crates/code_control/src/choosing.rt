@@ -1,4 +1,5 @@
 //! What a choice tries: clauses that can't match are left out, and so is the choice point before none but such clauses.
+
 ghost use Rattle.std.specs.Prelude.{◌≡◌, ◌↔◌, ◌<◌, length, true, false, IsTrue, IfOk, IfSome};
 ghost use Rattle.wam_code.specs.Area.{Holds};
 ghost use Rattle.code_states.specs.Safety.{IsSafe, IsSafeThen};

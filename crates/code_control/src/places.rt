@@ -1,4 +1,5 @@
 //! Places of code.
+
 ghost use Rattle.std.specs.Prelude.{◌<◌, length};
 ghost use Rattle.wam_code.specs.Area.{HasEntry};
 

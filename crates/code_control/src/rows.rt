@@ -1,4 +1,5 @@
 //! Rows of a switch's table.
+
 ghost use Rattle.std.specs.Prelude.{◌≡◌, ◌↔◌, ◌<◌, length, IsTrue};
 ghost use Rattle.wam_code.specs.Area.{table_at};
 ghost use Rattle.wam_code.specs.Keys.{Rises};

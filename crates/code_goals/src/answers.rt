@@ -1,4 +1,5 @@
 //! What an answer shows, and what a goal writes.
+
 ghost use Rattle.std.specs.Prelude.{◌≡◌, ◌<◌, length, IfOk};
 ghost use Rattle.wam_code.specs.declared.instruction.Code.TheVariants as step;
 ghost use Rattle.wam_code.specs.Area.{Span, Holds, HasQuery};

@@ -1,4 +1,5 @@
 //! Built-in goals.
+
 ghost use Rattle.std.specs.Prelude.{◌≡◌, IfOk, OnOk};
 ghost use Rattle.fd_model.specs.declared.kinds.BuiltinKind.TheVariants as kinds;
 ghost use Rattle.machine_frames.specs.Frames.{IsGrown};

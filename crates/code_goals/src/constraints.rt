@@ -1,4 +1,5 @@
 //! Constraints.
+
 ghost use Rattle.std.specs.Prelude.{◌≡◌, IfOk, OnOk};
 ghost use Rattle.machine_frames.specs.Frames.{IsGrown};
 ghost use Rattle.branch_state.specs.States.{IsCell, IsSameBelow, with_heap};

@@ -1,4 +1,5 @@
 //! What a machine does next, where it has taken a goal.
+
 ghost use Rattle.std.specs.Prelude.{◌≡◌, ◌<◌, length};
 ghost use Rattle.term_pool.specs.Valid.{IsPool};
 ghost use Rattle.code_goals.specs.Taking.{next_by};

@@ -1,4 +1,5 @@
 //! Ranges.
+
 ghost use Rattle.std.specs.Prelude.{◌≡◌, ◌≤◌, length, drop, IfOk, OnOk};
 ghost use Rattle.branch_state.specs.States.{IsSameBelow};
 ghost use Rattle.code_states.specs.Safety.{IsSafe};

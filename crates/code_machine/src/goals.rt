@@ -1,4 +1,5 @@
 //! Goals, each of which spends a reduction.
+
 ghost use Rattle.std.specs.Prelude.{◌≡◌, reverse, IfOk, OnOk};
 ghost use Rattle.wam_code.specs.declared.instruction.Code.TheVariants as step;
 ghost use Rattle.branch_state.specs.States.{IsSameBelow};

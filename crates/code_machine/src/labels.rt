@@ -1,4 +1,5 @@
 //! The values that labellings are still to try, by their choice points.
+
 ghost use Rattle.std.specs.Prelude.{◌≡◌, reverse, OnOk};
 ghost use Rattle.code_machine.specs.Steps.{labelled, TakesValues};
 

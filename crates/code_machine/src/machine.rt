@@ -1,4 +1,5 @@
 //! The machine.
+
 ghost use Rattle.std.specs.Prelude.{◌≡◌, ◌<◌, ◌∷◌, [], ℕ, List, Some, true, false, length, IfOk, OnOk, OnErr, IsErr};
 ghost use Rattle.fd_language.specs.declared.TheConstants.{INFINITY as TOP};
 ghost use Rattle.fd_model.specs.Goal.{Program, Query, Event, start_of};

@@ -1,4 +1,5 @@
 //! Instructions that spend no reduction.
+
 ghost use Rattle.std.specs.Prelude.{IfOk};
 ghost use Rattle.wam_code.specs.Area.{Holds};
 ghost use Rattle.code_states.specs.Safety.{IsSafe};

@@ -1,4 +1,5 @@
 //! A run of a query: where it stands, and what it may still spend.
+
 use code_areas::Areas;
 use code_goals::ValuesLeft;
 use fd_model::kinds::QueryFault;

@@ -1,4 +1,5 @@
 //! The steps of a run, up to the next event.
+
 ghost use Rattle.std.specs.Prelude.{◌≡◌, length, false, IfOk, OnOk};
 ghost use Rattle.wam_code.specs.Area.{Holds};
 ghost use Rattle.wam_code.specs.declared.instruction.Code.TheVariants as code_step;

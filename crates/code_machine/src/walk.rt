@@ -1,4 +1,5 @@
 //! Steps that say nothing.
+
 ghost use Rattle.std.specs.Prelude.{◌≡◌, ◌<◌, reverse, length, true, false, IfOk, OnOk};
 ghost use Rattle.wam_code.specs.Area.{Holds};
 ghost use Rattle.code_states.specs.Safety.{IsSafeBack};

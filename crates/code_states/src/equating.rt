@@ -1,4 +1,5 @@
 //! Cells made equal.
+
 ghost use Rattle.std.specs.Prelude.{◌≡◌, IfOk, OnOk};
 ghost use Rattle.branch_state.specs.States.{IsCell, IsSameBelow, IsSound};
 ghost use Rattle.code_states.specs.Equating.{Equates};

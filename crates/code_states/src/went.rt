@@ -1,4 +1,5 @@
 //! Where instructions lead.
+
 ghost use Rattle.std.specs.Prelude.{◌≡◌, suc, ◌<◌, length};
 ghost use Rattle.code_states.specs.Standing.{went_by, went_to};
 

@@ -1,4 +1,5 @@
 //! The laws of a machine's steps, each the contract of a function that does nothing.
+
 ghost use Rattle.code_steps.specs.Laws.{HeadsAreMatched, CallsReturn, ClausesAreEntered, CallsTryClauses, ChoicesComeBack, AnswersAreTold, QueriesStart, RangesArePosted, StoresFail};
 
 /// What the get group makes of a clause's head keeps what the machine stands for.

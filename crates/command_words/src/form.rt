@@ -1,4 +1,5 @@
 //! The form of words that are accepted.
+
 ghost use Rattle.std.specs.Prelude.{◌≡◌, is_some, map, string_bytes};
 ghost use Rattle.command_words.specs.Words as form;
 

@@ -1,4 +1,5 @@
 //! The laws of families, ranges and runs, each the contract of a function that does nothing.
+
 ghost use Rattle.fd_model.specs.Laws.{GreatestFamily, EveryOrder, Intervals, OneRun, SameTexts};
 ghost use Rattle.fd_model.specs.ProgramLaws.{ScopedProgram};
 

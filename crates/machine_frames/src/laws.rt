@@ -1,4 +1,5 @@
 //! The laws of the frames, each the contract of a function that does nothing.
+
 ghost use Rattle.machine_frames.specs.Laws.{UnifiedIsGeneral, FullNames};
 
 /// What a unification of two cells leaves is what the machine relation asks of a unification.

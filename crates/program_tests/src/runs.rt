@@ -1,4 +1,5 @@
 //! What runs write, over ends in memory.
+
 use crate::same::same;
 use byte_ports::{MemorySink, MemorySource, SmallSink, SmallSource};
 use fd_model::Status;

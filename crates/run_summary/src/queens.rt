@@ -1,4 +1,5 @@
 //! The text of the generator.
+
 ghost use Rattle.std.specs.Prelude.{◌≡◌, ◌≤◌, IfOk, string_bytes};
 ghost use Rattle.fd_model.specs.Generator.{queens_text as queens_bytes};
 

@@ -1,4 +1,5 @@
 //! The summary of a generated text's run.
+
 ghost use Rattle.std.specs.Prelude.{◌≡◌, ◌<◌, ◌≤◌, ◌∷◌, [], ℕ, true, List, length, IfOk};
 ghost use Rattle.fd_language.specs.Term.{Name};
 ghost use Rattle.fd_language.specs.declared.TheConstants.{INFINITY as TOP};

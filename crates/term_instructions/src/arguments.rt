@@ -1,4 +1,5 @@
 //! The arguments of a structure in code.
+
 ghost use Rattle.std.specs.Prelude.{◌↔◌, ◌<◌, length, IsTrue};
 ghost use Rattle.wam_code.specs.Area.{Holds};
 ghost use Rattle.term_instructions.specs.Arguments.{code_of, IsOne, IsUnifyAt};

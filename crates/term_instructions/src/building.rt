@@ -1,4 +1,5 @@
 //! Arguments of a structure that is built.
+
 ghost use Rattle.std.specs.Prelude.{◌≡◌, ◌-◌, ◌<◌, ◌≤◌, [], suc, length, All, IfOk, OnOk};
 ghost use Rattle.branch_state.specs.States.{IsCell, IsSound};
 ghost use Rattle.wam_code.specs.Area.{Holds};

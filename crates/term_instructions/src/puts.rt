@@ -1,4 +1,5 @@
 //! The put group: a goal's arguments are put into the registers.
+
 ghost use Rattle.std.specs.Prelude.{◌≡◌, IfOk, OnOk};
 ghost use Rattle.branch_state.specs.States.{IsSameBelow};
 ghost use Rattle.wam_code.specs.declared.instruction.Code.TheVariants as step;

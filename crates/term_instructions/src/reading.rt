@@ -1,4 +1,5 @@
 //! Arguments of a structure that is there.
+
 ghost use Rattle.std.specs.Prelude.{◌≡◌, ◌-◌, ◌<◌, ◌≤◌, length, [], All, IfOk, Some, None, if◌then◌else◌};
 ghost use Rattle.heap_cells.specs.declared.Cell.TheVariants as cell;
 ghost use Rattle.branch_state.specs.States.{IsCell};

@@ -1,4 +1,5 @@
 //! Registers of code in a machine's areas.
+
 ghost use Rattle.std.specs.Prelude.{◌≡◌, ◌<◌, ◌≤◌, length, Some, OnOk};
 ghost use Rattle.code_steps.specs.Registers.{cell_in, IsWritten};
 ghost use Rattle.code_states.specs.Machine.{registers_of, HasCell, CanHold, IsSameBehind};

@@ -1,4 +1,5 @@
 //! Structures of a clause, with the unify group behind them.
+
 ghost use Rattle.std.specs.Prelude.{◌≡◌, ◌-◌, ◌<◌, ◌≤◌, ◌++◌, [], length, drop, All, IfOk, OnOk};
 ghost use Rattle.heap_cells.specs.Cells.{free, slot_at};
 ghost use Rattle.branch_state.specs.States.{IsCell, IsSameBelow, IsSound};

@@ -1,4 +1,5 @@
 //! What cuts the writing of an output short.
+
 ghost use Rattle.text_output.specs.declared.fault.Fault.TheVariants.{WriteFault, NoMemory};
 ghost use Rattle.std.specs.Prelude.{◌≡◌};
 ghost use Rattle.text_output.specs.Endings.{fault_status};

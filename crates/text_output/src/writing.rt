@@ -1,4 +1,5 @@
 //! The output of a text, written line by line: its refusal, or the events of its queries.
+
 ghost use Rattle.std.specs.Prelude.{◌≡◌, ◌<◌, ℕ, Bool, List, length, map, All, IfOk};
 ghost use Rattle.fd_model.specs.Goal.{Event};
 ghost use Rattle.fd_model.specs.Run.{IsLimit};

@@ -1,4 +1,5 @@
 //! Texts with their sentences or their fault, as the grammar states them.
+
 ghost use Rattle.std.specs.Prelude.{◌<◌, length, All, OnOk};
 ghost use Rattle.term_reader.specs.Sentences.{AreOwn};
 

@@ -1,4 +1,5 @@
 //! Texts with their tokens or their fault, as the format states them.
+
 use crate::same::{columns, same};
 use char_tokens::{Kind, Scanner, Token, TokenFault, tokens, unquote};
 use std::alloc::{AllocError, Global};

@@ -1,4 +1,5 @@
 //! What a text is: a program, or refused at a place for a reason.
+
 ghost use Rattle.std.specs.Prelude.{◌≡◌, ◌≤◌, ℕ, length, IfOk};
 ghost use Rattle.fd_language.specs.Reading as Reading;
 ghost use Rattle.fd_model.specs.Verdict as Verdicts;

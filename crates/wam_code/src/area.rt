@@ -1,4 +1,5 @@
 //! Code that is safe to run.
+
 ghost use Rattle.std.specs.Prelude.{◌≡◌, ◌↔◌, ◌<◌, length, IsTrue};
 ghost use Rattle.wam_code.specs.Area.{area_of, table_at, range_at, Holds};
 ghost use Rattle.wam_code.specs.Keys.{HasRisingTables};

@@ -1,4 +1,5 @@
 //! The instructions.
+
 ghost use Rattle.std.specs.Prelude.{◌↔◌, IsTrue};
 ghost use Rattle.wam_code.specs.Keys.{IsBelow};
 

@@ -1,4 +1,5 @@
 //! The laws of code, each the contract of a function that does nothing.
+
 ghost use Rattle.wam_code.specs.Laws.{PlacesFollowRules, ChoicesFollowRules, StepsAreSafe, WorkFalls, QueriesAreApart};
 
 /// A place stands for what the rule of its instruction says, and for nothing else.

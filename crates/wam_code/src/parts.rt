@@ -1,4 +1,5 @@
 //! What code is made of.
+
 use crate::instruction::{Code, Key};
 use range_code::RangeCode;
 use std::rc::Rc;

@@ -1,4 +1,5 @@
 //! Whether tables can be searched by halves.
+
 ghost use Rattle.std.specs.Prelude.{◌↔◌, IsTrue};
 ghost use Rattle.wam_code.specs.Area.{area_of};
 ghost use Rattle.wam_code.specs.Keys.{Rises, HasRisingTables};
