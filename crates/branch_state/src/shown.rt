@@ -34,7 +34,8 @@ fn read_cells<A: Agenda + Drop>(
     requires linked { HasLinksBelow (length store.now.current.sets) heap.now.now }
     ensures own { IfOk result (λ v. All (λ t. t.number < length pool.new.entries) v.items) }
     ensures terms { IfOk result (λ v. map (pool_term pool.new) v.items
-        ≡ map (seen_term (name_in from.now.names) heap.now.now (family_of store.now.current.sets)) cells.now) }
+        ≡ map (seen_term (name_in from.now.names) heap.now.now
+            (family_of store.now.current.sets)) cells.now) }
 {
     let mut terms = Vec::with_capacity(alloc, cells.len())?;
     for cell in cells {

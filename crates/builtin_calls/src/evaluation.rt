@@ -337,8 +337,8 @@ fn descend<V: View>(
     requires waiting { All (IsOwnOperation (length pool.now.names) heap.now.now) waiting.old }
     requires atoms { HasAtomsBelow (length pool.now.names) heap.now.now }
     requires links { HasLinksBelow (length (V.sets view.now)) heap.now.now }
-    ensures { TellsDescent pool.now.names heap.now.now (family_of (V.sets view.now)) waiting.old c result
-        waiting.new }
+    ensures { TellsDescent pool.now.names heap.now.now (family_of (V.sets view.now)) waiting.old c
+        result waiting.new }
 {
     let mut at = c;
     let mut latest = None;
