@@ -15,7 +15,6 @@ use Rattle.term_pool.specs.Terms.{term_of}
 use Rattle.term_pool.specs.Valid.{IsPool}
 use Rattle.clause_check.specs.declared.program.FlatGoal.{FlatGoal}
 use Rattle.clause_check.specs.declared.program.FlatGoal.TheVariants as flat
-use Rattle.clause_check.specs.Programs as check
 use Rattle.clause_check.specs.Programs.{FlatProgram, range_at, goal_in, HasArguments, IsGoal}
 use Rattle.wam_code.specs.declared.instruction.Register.{Register}
 use Rattle.wam_code.specs.declared.instruction.Code.{Code}
@@ -74,10 +73,6 @@ is_writable p valid v n (flat.Builtin k t) o b c = (o.0, term_suits p.pool valid
 
 -- ---- what it does
 
-same_count : (ts : Terms) → check.count ts ≡ term_count ts
-same_count no_terms = refl
-same_count (term t ts) = ap suc (same_count ts)
-
 -- a goal with so many arguments
 record Named (k : ℕ) (t : Term) : Type 0 where
   name : Name
@@ -89,7 +84,7 @@ named k (Var x) h w = absurd h
 named k (Int z) h w = absurd h
 named k (Atom a) h w = record { name = a; is = refl; many = sym h }
 named k (Comp f no_terms) h w = let l = w.0 in absurd (omega (arith, l))
-named k (Comp f (term t ts)) h w = record { name = f; is = refl; many = sym (same_count (term t ts)) ∙ h }
+named k (Comp f (term t ts)) h w = record { name = f; is = refl; many = h }
 
 pub arguments_suit : (c : Contents) (v : ℕ) (t : Term) → Suits c v t → AllSuit c v (arguments t)
 arguments_suit c v (Var x) s = tt

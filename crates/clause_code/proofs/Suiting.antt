@@ -9,7 +9,6 @@ use Rattle.term_pool.specs.Contents.{Contents, Shape, var, int, atom, comp, Entr
 use Rattle.term_pool.specs.Terms.{term_of, terms_by, shape_term}
 use Rattle.term_pool.specs.Valid.{IsPool, IsWithin}
 use Rattle.term_pool.proofs.Lemmas.{term_of_entry}
-use Rattle.clause_check.specs.Codable.{arguments_in}
 use Rattle.clause_code.specs.Codable.{IsNarrow, AreNarrow}
 use Rattle.clause_code.specs.Steps.{Step, get_variable, unify_variable, put_variable, marked, marked_by, marked_by_all, HasAtom, Suits, AllSuit}
 use Rattle.clause_code.specs.Simple.{AreMade}
@@ -48,16 +47,12 @@ named_below c valid (suc n) t l m =
     let there : slice_get c.entries t.number ≡ Some e = slice_get-get_or c.entries t.number d m in
     subst (IsNamed c) (sym (term_of_entry c valid t e there)) (shape_named c valid t.number e.shape (valid.within t.number e there) (λ u k. named_below c valid n u (omega (arith, k, l)) (omega (arith, k, m))))
 
-same_arguments : (ts : Terms) → arguments_in ts ≡ term_count ts
-same_arguments no_terms = refl
-same_arguments (term t ts) = ap suc (same_arguments ts)
-
 mutual
   suits_by : (c : Contents) (v : ℕ) (t : Term) → IsNamed c t → TermBelow v t → IsNarrow t → Suits c v t
   suits_by c v (Var x) n b w = b
   suits_by c v (Int z) n b w = tt
   suits_by c v (Atom a) n b w = n
-  suits_by c v (Comp f ts) n b w = let k = same_arguments ts in let few = w.0 in let many = w.1 in (n.0, omega (arith, k, few), omega (arith, k, many), all_suit_by c v ts n.1 b w.2)
+  suits_by c v (Comp f ts) n b w = (n.0, w.0, w.1, all_suit_by c v ts n.1 b w.2)
 
   all_suit_by : (c : Contents) (v : ℕ) (ts : Terms) → AreNamed c ts → TermsBelow v ts → AreNarrow ts → AllSuit c v ts
   all_suit_by c v no_terms n b w = tt

@@ -13,7 +13,7 @@ use Rattle.term_pool.specs.Contents.{Contents, Entry, Shape, var, int, atom, com
 use Rattle.term_pool.specs.Terms.{term_of, terms_by, shape_term}
 use Rattle.term_pool.specs.Valid.{IsPool}
 use Rattle.term_pool.proofs.Lemmas.{term_of_shape, shape_within}
-use Rattle.clause_check.specs.Codable.{IsNarrow, ClausesCodable, arguments_in}
+use Rattle.clause_check.specs.Codable.{IsNarrow, ClausesCodable}
 use Rattle.clause_check.specs.Programs.{FlatProgram}
 use Rattle.wam_code.specs.Places.{made}
 use Rattle.wam_code.specs.declared.instruction.Key.{Key}
@@ -72,7 +72,7 @@ narrow_head (d ∷ cs) zero c h e = let same : d ≡ c = cc in subst (λ (x : Cl
 narrow_head (d ∷ cs) (suc n) c h e = narrow_head cs n c h.1 e
 
 module _ (c : Contents) (v : IsPool c) where
-  counted : (part : TermId → Term) (us : List TermId) → arguments_in (terms_by part us) ≡ length us
+  counted : (part : TermId → Term) (us : List TermId) → term_count (terms_by part us) ≡ length us
   counted part [] = refl
   counted part (u ∷ us) = ap suc (counted part us)
 
