@@ -35,7 +35,7 @@ fn read_cells<A: Agenda + Drop>(
     ensures own { IfOk result (λ v. All (λ t. t.number < length pool.new.entries) v.items) }
     ensures terms { IfOk result (λ v. map (pool_term pool.new) v.items
         ≡ map (seen_term (name_in from.now.names) heap.now.now
-            (family_of store.now.current.sets)) cells.now) }
+        (family_of store.now.current.sets)) cells.now) }
 {
     let mut terms = Vec::with_capacity(alloc, cells.len())?;
     for cell in cells {
