@@ -1,5 +1,5 @@
--- The range that a term spells, with a place for each node, or what fits nowhere in it.
-use Rattle.std.specs.Prelude.{ℕ, min, Bool, true, false, if◌then◌else◌, List, [], ◌∷◌, ◌++◌, Option, Some, None, codes}
+-- The range that a term spells, with a place for each node, or what fits nowhere in it. The word `infinity` of a text is a number N, the greatest that a variable may have.
+use Rattle.std.specs.Prelude.{ℕ, pos, min, Bool, true, false, if◌then◌else◌, List, [], ◌∷◌, ◌++◌, Option, Some, None, codes}
 use Rattle.std.specs.Str.{bytes_eq}
 use Rattle.fd_language.specs.Term.{Name}
 use Rattle.fd_language.specs.PlacedTerm.{PlacedTerm, var, int, atom, comp, no_parts, part}
@@ -49,16 +49,16 @@ abbrev pub read_operator : Option (Expr → Expr → Expr) → ℕ → Parsed Ex
 read_operator (Some make) p a b = read_both make p a b
 read_operator None p a b = offends Infinity p
 
--- in term position: at true, min, max and val may stand in it, at false they fit nowhere
-abbrev pub read_expr : Bool → PlacedTerm → Parsed Expr
-read_expr features (var x p) = read (Param x) p
-read_expr features (int z p) = read (Number z) p
-read_expr features (atom a p) = if bytes_eq a (codes "infinity") then read Infinity p else offends Infinity p
-read_expr features (comp f p no_parts) = offends Infinity p
-read_expr features (comp f p (part (var y q) no_parts)) = read_feature (expr_feature f) features p y
-read_expr features (comp f p (part a no_parts)) = offends Infinity p
-read_expr features (comp f p (part a (part b no_parts))) = read_operator (expr_operator f) p (read_expr features a) (read_expr features b)
-read_expr features (comp f p (part a (part b (part c ts)))) = offends Infinity p
+-- in term position, where `infinity` is the number N: at true, min, max and val may stand in it, at false they fit nowhere
+abbrev pub read_expr : ℕ → Bool → PlacedTerm → Parsed Expr
+read_expr N features (var x p) = read (Param x) p
+read_expr N features (int z p) = read (Number z) p
+read_expr N features (atom a p) = if bytes_eq a (codes "infinity") then read (Number (pos N)) p else offends Infinity p
+read_expr N features (comp f p no_parts) = offends Infinity p
+read_expr N features (comp f p (part (var y q) no_parts)) = read_feature (expr_feature f) features p y
+read_expr N features (comp f p (part a no_parts)) = offends Infinity p
+read_expr N features (comp f p (part a (part b no_parts))) = read_operator (expr_operator f) p (read_expr N features a) (read_expr N features b)
+read_expr N features (comp f p (part a (part b (part c ts)))) = offends Infinity p
 
 -- Set operators take two ranges, pointwise operators a range and a term.
 pub data RangeForm : Type 0 where
@@ -97,14 +97,14 @@ read_single f t p r e =
     if bytes_eq f (codes "dom") then read_dom t p else offends empty_range p
 
 -- in range position
-abbrev pub read_range : PlacedTerm → Parsed Range
-read_range (var x p) = offends empty_range p
-read_range (int z p) = offends empty_range p
-read_range (atom a p) = offends empty_range p
-read_range (comp f p no_parts) = offends empty_range p
-read_range (comp f p (part t no_parts)) = read_single f t p (read_range t) (read_expr true t)
-read_range (comp f p (part a (part b no_parts))) = read_form (range_form f) p (read_range a) (read_range b) (read_expr true a) (read_expr true b) (read_expr false b)
-read_range (comp f p (part a (part b (part c ts)))) = offends empty_range p
+abbrev pub read_range : ℕ → PlacedTerm → Parsed Range
+read_range N (var x p) = offends empty_range p
+read_range N (int z p) = offends empty_range p
+read_range N (atom a p) = offends empty_range p
+read_range N (comp f p no_parts) = offends empty_range p
+read_range N (comp f p (part t no_parts)) = read_single f t p (read_range N t) (read_expr N true t)
+read_range N (comp f p (part a (part b no_parts))) = read_form (range_form f) p (read_range N a) (read_range N b) (read_expr N true a) (read_expr N true b) (read_expr N false b)
+read_range N (comp f p (part a (part b (part c ts)))) = offends empty_range p
 
 -- the smallest place decides
 abbrev pub least_place : List ℕ → Option ℕ
@@ -113,5 +113,5 @@ least_place (p ∷ []) = Some p
 least_place (p ∷ q ∷ ps) = least_place (min p q ∷ ps)
 
 -- the place at which the term is refused, and none where it spells a range
-abbrev pub not_a_range : PlacedTerm → Option ℕ
-not_a_range t = least_place (read_range t).offenders
+abbrev pub not_a_range : ℕ → PlacedTerm → Option ℕ
+not_a_range N t = least_place (read_range N t).offenders

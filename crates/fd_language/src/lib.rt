@@ -14,7 +14,7 @@ use std::alloc::{AllocError, AllocFailed};
 use thiserror::Error;
 
 /// The greatest number of the universe, and the value of `infinity` in ranges.
-pub const INFINITY: u32 = 16_777_215;
+pub const INFINITY: u32 = 268_435_455;
 
 /// Memory was wanting. The error of a call that has no other.
 #[derive(Clone, Copy, Debug, PartialEq, Eq, Drop, Error)]

@@ -26,7 +26,7 @@ AreIntegers (t ∷ ts) = (nat_abs t.1 < 2 ^ 63) × AreIntegers ts
 pub integer_size : (z : ℤ) → in_integers z ≡ true → nat_abs z < 2 ^ 63
 integer_size z h = grind arith
 
-nonzero_integers : (ts : List (ℕ × ℤ)) → list_all (λ t. in_integers t.1) ts ≡ true → AreIntegers (nonzero ts)
+pub nonzero_integers : (ts : List (ℕ × ℤ)) → list_all (λ t. in_integers t.1) ts ≡ true → AreIntegers (nonzero ts)
 nonzero_integers [] h = tt
 nonzero_integers (t ∷ ts) h = by_test (int_eq t.1 (pos 0)) t (nonzero ts) (integer_size t.1 (first_so (in_integers t.1) _ h)) (nonzero_integers ts (second_so (in_integers t.1) _ h)) where
   by_test : (c : Bool) (t : ℕ × ℤ) (us : List (ℕ × ℤ)) → nat_abs t.1 < 2 ^ 63 → AreIntegers us → AreIntegers (cond c us (t ∷ us))
@@ -41,11 +41,11 @@ length-scaled : (k : ℤ) (ts : List (ℕ × ℤ)) → length (scaled k ts) ≡ 
 length-scaled k [] = refl
 length-scaled k (t ∷ ts) = ap suc (length-scaled k ts)
 
-integers_narrow : (ts : List (ℕ × ℤ)) → AreIntegers ts → AreNarrow ts
+pub integers_narrow : (ts : List (ℕ × ℤ)) → AreIntegers ts → AreNarrow ts
 integers_narrow [] h = tt
 integers_narrow (t ∷ ts) h = (omega arith, integers_narrow ts h.1)
 
-weight_most : (M : ℕ) (ts : List (ℕ × ℤ)) → AreIntegers ts → weight M ts ≤ length ts * (2 ^ 63 * M)
+pub weight_most : (M : ℕ) (ts : List (ℕ × ℤ)) → AreIntegers ts → weight M ts ≤ length ts * (2 ^ 63 * M)
 weight_most M [] h = omega arith
 weight_most M (t ∷ ts) h = more (nat_abs t.1 * M) (2 ^ 63 * M) (weight M ts) (length ts) (mul-le-mul (below (nat_abs t.1) h.0) (same M)) (weight_most M ts h.1) where
   below : (n : ℕ) → n < 2 ^ 63 → n ≤ 2 ^ 63
@@ -58,9 +58,9 @@ weight_most M (t ∷ ts) h = more (nat_abs t.1 * M) (2 ^ 63 * M) (weight M ts) (
   more a b c n h g = omega arith
 
 -- at most 2^31 products of coefficients below 2^63
-most : (M n : ℕ) → M < 2 ^ 24 → n ≤ 2 ^ 31 → n * (2 ^ 63 * M) ≤ 2 ^ 118
+pub most : (M n : ℕ) → M < 2 ^ 28 → n ≤ 2 ^ 31 → n * (2 ^ 63 * M) ≤ 2 ^ 122
 most M n h g = mul-le-mul g (mul-le-mul_left (2 ^ 63) (smaller M h)) where
-  smaller : (M : ℕ) → M < 2 ^ 24 → M ≤ 2 ^ 24
+  smaller : (M : ℕ) → M < 2 ^ 28 → M ≤ 2 ^ 28
   smaller M h = omega arith
 
 few : (ts : List (ℕ × ℤ)) → are_few ts ≡ true → length (nonzero ts) ≤ 2 ^ 31
@@ -72,7 +72,7 @@ pub record AreRows (ts : List (ℕ × ℤ)) : Type 0 where
   pub integers : AreIntegers ts
   pub few : length ts ≤ 2 ^ 31
 
-collect_sizes : (s t : Term) (l : Linear) → collect s t ≡ Ok l → AreRows l.products
+pub collect_sizes : (s t : Term) (l : Linear) → collect s t ≡ Ok l → AreRows l.products
 collect_sizes s t l h =
     let j = one_ok linear_of (of_both difference_of (collect_term s) (collect_term t)) l h in
     let g : record { products = nonzero j.0.products; constant = neg_ℤ j.0.constant } ≡ l = cc (j.2) in
@@ -92,13 +92,13 @@ collect_sizes s t l h =
 turned_rows : (ts : List (ℕ × ℤ)) → AreRows ts → AreRows (scaled (negsuc 0) ts)
 turned_rows ts h = record { integers = integers_scaled ts h.integers; few = let e = length-scaled (negsuc 0) ts in let f = h.few in omega arith }
 
-normal_sizes : (r : Relation) (l : Linear) → AreRows l.products → AreRows (normal r l).products
+pub normal_sizes : (r : Relation) (l : Linear) → AreRows l.products → AreRows (normal r l).products
 normal_sizes Greater l h = turned_rows l.products h
 normal_sizes AtLeast l h = turned_rows l.products h
 normal_sizes _ l h = h
 
-module _ (M : ℕ) (small : M < 2 ^ 24) where
-  within : M < 2 ^ 126
+module _ (M : ℕ) (small : M < 2 ^ 28) where
+  pub within : M < 2 ^ 126
   within = omega arith
 
   abbrev pub Within : List Indexical → Type 0
@@ -123,5 +123,5 @@ module _ (M : ℕ) (small : M < 2 ^ 24) where
       let v = most M (length m.products) small a.few in
       subst (λ y. Within y.ranges) f.rows (form_within (comparison r) m.products m.constant n (normal_nonzero r f.linear (collect_nonzero s t f.linear f.collected)) (integers_narrow m.products a.integers)
       (together (nat_abs m.constant) (weight M m.products) (length m.products * (2 ^ 63 * M)) c w v)) where
-        together : (a b c : ℕ) → a < 2 ^ 63 → b ≤ c → c ≤ 2 ^ 118 → a + b < 2 ^ 126
+        together : (a b c : ℕ) → a < 2 ^ 63 → b ≤ c → c ≤ 2 ^ 122 → a + b < 2 ^ 126
         together a b c h g k = omega arith

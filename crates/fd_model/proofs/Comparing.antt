@@ -1,5 +1,5 @@
 -- The comparisons and their rows.
-use Rattle.std.proofs.Common.{◌≡◌, ℕ, suc, ◌≤◌, ◌<◌, Bool, true, false, cond, ℤ, pos, neg_ℤ, List, [], ◌∷◌, refl, ap, sym, subst, Ok}
+use Rattle.std.proofs.Common.{◌≡◌, ℕ, suc, ◌≤◌, ◌<◌, Bool, true, false, cond, ℤ, pos, neg_ℤ, List, [], ◌∷◌, None, refl, ap, sym, subst, Ok}
 use Rattle.fd_model.specs.declared.kinds.Relation.{Relation}
 use Rattle.fd_model.specs.declared.kinds.Relation.TheVariants.{Greater, AtLeast}
 use Rattle.fd_model.specs.declared.kinds.ConstraintKind.TheVariants.{Compare}
@@ -9,7 +9,8 @@ use Rattle.fd_language.specs.Range.{Indexical}
 use Rattle.fd_model.specs.Linear.{nonzero, Comparison, comparison, Linear, linear_of, of_one, of_both, difference_of, collect_term, collect, normal, normal_form}
 use Rattle.fd_model.specs.LinearRows.{Expansion, linear_rows, compares, no_number}
 use Rattle.fd_model.specs.Constraining.{compare}
-use Rattle.fd_model.specs.Satisfies.{Assignment, worth, Holds}
+use Rattle.fd_model.specs.Satisfies.{Assignment, worth, Holds, HasResult}
+use Rattle.fd_model.specs.ProductRows.{product_form}
 use Rattle.fd_model.specs.ConstraintLaws.{total, Fits, OneFits, IsRewritten}
 use Rattle.fd_model.proofs.Collecting.{one_ok, collect_is}
 use Rattle.fd_model.proofs.NormalForms.{normal_is, normal_ok}
@@ -84,16 +85,16 @@ form_of r s t n x h =
     let f : linear_rows (comparison r) j.0.products j.0.constant n ≡ x = cc (j.2) in
     record { linear = k.0; collected = k.1; normal_is = (j.0, k.2); rows = subst (λ w. linear_rows (comparison r) w.products w.constant n ≡ x) (sym e) f }
 
-pub compared : (M N : ℕ) → N ≤ M → (r : Relation) (s t : Term) (n : ℕ) (x : Expansion) (a : Assignment) → TermBelow n s → TermBelow n t → ((v : ℕ) → a v ≤ N) → compare r s t n ≡ Ok x → IsRewritten M N (Compare r) (term s (term t no_terms)) n x a
-compared M N l r s t n x a ks kt small h =
+pub compared : (M N : ℕ) → N ≤ M → (r : Relation) (s t : Term) (n : ℕ) (x : Expansion) (a : Assignment) → TermBelow n s → TermBelow n t → ((v : ℕ) → a v ≤ N) → product_form r s t ≡ None → compare r s t n ≡ Ok x → IsRewritten M N (Compare r) (term s (term t no_terms)) n x a
+compared M N l r s t n x a ks kt small none h =
     let f = form_of r s t n x h in
     let m = normal r f.linear in
     let z = normal_nonzero r f.linear (collect_nonzero s t f.linear f.collected) in
     record {
       one = λ sat. subst (λ y. OneFits M N n y a) f.rows (form_one M n N l (comparison r) m.products m.constant a small z
-          ((normal_is a r f.linear (worth a s) (worth a t) (collect_is a s t f.linear f.collected)).0 sat));
+          ((normal_is a r f.linear (worth a s) (worth a t) (collect_is a s t f.linear f.collected)).0 sat.1));
       satisfied = λ b e fits.
           let back = (normal_is b r f.linear (worth b s) (worth b t) (collect_is b s t f.linear f.collected)).1
           (form_back M n (comparison r) m.products m.constant b (up_to M N l b e.within) z (subst (λ y. Fits M y b) (sym f.rows) fits)) in
-          subst (λ y. Holds r y (worth a t)) (worth_same n a b e.same s ks) (subst (λ y. Holds r (worth b s) y) (worth_same n a b e.same t kt) back);
+          (subst (HasResult N) (sym none) tt, subst (λ y. Holds r y (worth a t)) (worth_same n a b e.same s ks) (subst (λ y. Holds r (worth b s) y) (worth_same n a b e.same t kt) back));
     }

@@ -1,8 +1,8 @@
 -- What a flat constraint becomes, as it is seen.
-use Rattle.std.proofs.Common.{◌≡◌, ℕ, ◌<◌, ◌≤◌, true, false, cond, pos, List, [], ◌∷◌, Option, refl, ap, sym, ◌∙◌, subst, inl, inr, Ok}
+use Rattle.std.proofs.Common.{◌≡◌, ℕ, ◌<◌, ◌≤◌, true, false, cond, ℤ, pos, List, [], ◌∷◌, Option, refl, ap, sym, ◌∙◌, subst, inl, inr, arith, Ok}
 use Rattle.std.proofs.lemmas.Bool.{cases_Bool, true≢false}
 use Rattle.fd_model.specs.declared.kinds.ConstraintKind.{ConstraintKind}
-use Rattle.fd_model.specs.declared.kinds.ConstraintKind.TheVariants.{Compare, AllDifferent, Element, Atmost}
+use Rattle.fd_model.specs.declared.kinds.ConstraintKind.TheVariants.{Compare, AllDifferent, Element, Atmost, And, Or, Not, Reified}
 use Rattle.fd_language.specs.Term.{Term, Terms, Var, Int, Atom, Comp, Substitution, apply, apply_all, no_terms, term}
 use Rattle.fd_language.specs.Family.{has}
 use Rattle.fd_language.specs.Variables.{variables_of, variables_of_all}
@@ -10,7 +10,7 @@ use Rattle.fd_language.specs.Variables.{TermBelow, TermsBelow}
 use Rattle.fd_model.specs.Goal.{Goal, Constrain, Program, Branch}
 use Rattle.fd_model.specs.Children.{Gives as GivesBranches, offer, by_constraint}
 use Rattle.fd_model.specs.Constraining.{arguments, expand}
-use Rattle.fd_model.specs.Satisfies.{Assignment, worth, worths, Satisfies}
+use Rattle.fd_model.specs.Satisfies.{Assignment, worth, worths, TellsTerm, Satisfies}
 use Rattle.fd_model.specs.FlatConstraints.{is_flat_constraint, SeesNumbers}
 use Rattle.fd_model.specs.FlatQueries.{IsFlatGoal}
 use Rattle.fd_language.proofs.Lemmas.{in_left, in_right}
@@ -68,50 +68,66 @@ module _ (n : ℕ) (a e : Assignment) (same : (v : ℕ) → v < n → e v ≡ a 
   worths_same (Comp f (term s (term t no_terms))) h = let i = worth_same n a e same s h.0 in let j = worths_same t h.1.0 in cc
   worths_same _ h = refl
 
+  tells_same : (k : Term) (z : ℤ) → TermBelow n k → TellsTerm a k z → TellsTerm e k z
+  tells_same (Comp f (term s (term t no_terms))) z h g = rw (worth_same n a e same s h.0, worth_same n a e same t h.1.0) g
+  tells_same _ z h g = g
+
   pub satisfies_same : (M : ℕ) (kind : ConstraintKind) (ts : Terms) → TermsBelow n ts → Satisfies M kind ts a → Satisfies M kind ts e
   satisfies_same M (Compare r) (term t (term u no_terms)) h s = rw (worth_same n a e same t h.0, worth_same n a e same u h.1.0) s
   satisfies_same M AllDifferent (term l no_terms) h s = rw (worths_same l h.0) s
   satisfies_same M Element (term i (term l (term v no_terms))) h s = rw (worth_same n a e same i h.0, worths_same l h.1.0, worth_same n a e same v h.1.1.0) s
   satisfies_same M Atmost (term m (term l (term v no_terms))) h s = rw (worth_same n a e same m h.0, worths_same l h.1.0, worth_same n a e same v h.1.1.0) s
+  satisfies_same M And (term x (term y (term z no_terms))) h s = rw (worth_same n a e same x h.0, worth_same n a e same y h.1.0, worth_same n a e same z h.1.1.0) s
+  satisfies_same M Or (term x (term y (term z no_terms))) h s = rw (worth_same n a e same x h.0, worth_same n a e same y h.1.0, worth_same n a e same z h.1.1.0) s
+  satisfies_same M Not (term x (term y no_terms)) h s = rw (worth_same n a e same x h.0, worth_same n a e same y h.1.0) s
+  satisfies_same M Reified (term b (term k no_terms)) h s = rw (worth_same n a e same b h.0) (tells_same k (worth a b) h.1.0 s)
   satisfies_same _ _ _ h s = s
 
 -- without arguments no constraint is flat
-none_flat : (M : ℕ) (kind : ConstraintKind) → is_flat_constraint M kind no_terms ≡ true → ⊥
-none_flat M (Compare r) h = true≢false (sym h)
-none_flat M AllDifferent h = true≢false (sym h)
-none_flat M Element h = true≢false (sym h)
-none_flat M Atmost h = true≢false (sym h)
+none_flat : (M N : ℕ) (kind : ConstraintKind) → is_flat_constraint M N kind no_terms ≡ true → ⊥
+none_flat M N (Compare r) h = true≢false (sym h)
+none_flat M N AllDifferent h = true≢false (sym h)
+none_flat M N Element h = true≢false (sym h)
+none_flat M N Atmost h = true≢false (sym h)
+none_flat M N And h = true≢false (sym h)
+none_flat M N Or h = true≢false (sym h)
+none_flat M N Not h = true≢false (sym h)
+none_flat M N Reified h = true≢false (sym h)
 
-module _ (M : ℕ) (positive : 0 < M) (prog : Program) (vs : List ℕ) (nv : ℕ) (every : (x : ℕ) → x < nv → has vs x ≡ true) (b : Branch) (kind : ConstraintKind) (rest : List Goal) (look : Substitution) (sets : ℕ → Option (List ℕ))
-    (low : nv ≤ b.fresh) (plain : IsPlain M vs look) where
+module _ (M N m : ℕ) (positive : 0 < N) (within : N ≤ M) (prog : Program) (vs : List ℕ) (nv : ℕ) (every : (x : ℕ) → x < nv → has vs x ≡ true) (b : Branch) (kind : ConstraintKind) (rest : List Goal) (look : Substitution) (sets : ℕ → Option (List ℕ))
+    (low : nv ≤ b.fresh) (plain : IsPlain N vs look) where
   abbrev IsRowOf : Term → Type 0
-  IsRowOf t = (w : Rewritten) × (offer M prog look sets b (Constrain kind t) rest ≡ GivesBranches (with_ranges b rest w ∷ [])) × IsGoalRow M b.fresh vs look (λ a. Satisfies M kind (arguments t) a) w
+  IsRowOf t = (w : Rewritten) × (offer M N m prog look sets b (Constrain kind t) rest ≡ GivesBranches (with_ranges b rest w ∷ [])) × IsGoalRow M N b.fresh vs look (λ a. Satisfies N kind (arguments t) a) w
 
-  comp_row : (f : List ℕ) (ts : Terms) → IsFlatGoal M (Constrain kind (Comp f ts)) → TermsBelow nv ts → IsRowOf (Comp f ts)
+  -- numbers up to N are numbers of the universe
+  wider : SeesNumbers M (only vs look)
+  wider x = elim (only_sees vs look N plain x) [ inl h ↦ inl h | inr h ↦ inr (h.0, omega (arith, h.1), h.2) ]
+
+  comp_row : (f : List ℕ) (ts : Terms) → IsFlatGoal M N (Constrain kind (Comp f ts)) → TermsBelow nv ts → IsRowOf (Comp f ts)
   comp_row f ts flat below =
       let listed : (x : ℕ) → has (variables_of_all ts) x ≡ true → has vs x ≡ true = λ x i. every x (all_below_has nv ts x below i) in
-      let own : IsPlain M (variables_of_all ts) look = λ x i. plain x (listed x i) in
-      let higher : TermsBelow b.fresh (apply_all look ts) = all_plain_below M b.fresh look ts (all_wider nv b.fresh low ts below) own in
+      let own : IsPlain N (variables_of_all ts) look = λ x i. plain x (listed x i) in
+      let higher : TermsBelow b.fresh (apply_all look ts) = all_plain_below N b.fresh look ts (all_wider nv b.fresh low ts below) own in
       let here : apply_all (only vs look) ts ≡ apply_all look ts = all_only vs look ts listed in
-      let r = flat_expands M (only vs look) kind ts b.fresh positive (only_sees vs look M plain) flat.0 flat.1 in
-      let e : expand kind (apply_all look ts) b.fresh ≡ Ok r.0 = subst (λ us. expand kind us b.fresh ≡ Ok r.0) here r.1 in
+      let r = flat_expands M N (only vs look) kind ts b.fresh (omega arith) within wider flat.0 flat.1 in
+      let e : expand M kind (apply_all look ts) b.fresh ≡ Ok r.0 = subst (λ us. expand M kind us b.fresh ≡ Ok r.0) here r.1 in
       let follows = following M kind (apply_all look ts) b.fresh r.0 higher e in
-      let same : (a : Assignment) → ((y : ℕ) → has vs y ≡ true → apply (numbers a) (look y) ≡ Int (pos (a y))) → (Satisfies M kind (apply_all look ts) a → Satisfies M kind ts a) × (Satisfies M kind ts a → Satisfies M kind (apply_all look ts) a) =
-      λ a g. subst (λ us. (Satisfies M kind us a → Satisfies M kind ts a) × (Satisfies M kind ts a → Satisfies M kind us a)) here (seen_satisfies M (only vs look) kind ts a (only_sees vs look M plain) (only_worth vs look M plain a g)) in (
+      let same : (a : Assignment) → ((y : ℕ) → has vs y ≡ true → apply (numbers a) (look y) ≡ Int (pos (a y))) → (Satisfies N kind (apply_all look ts) a → Satisfies N kind ts a) × (Satisfies N kind ts a → Satisfies N kind (apply_all look ts) a) =
+      λ a g. subst (λ us. (Satisfies N kind us a → Satisfies N kind ts a) × (Satisfies N kind ts a → Satisfies N kind us a)) here (seen_satisfies M N (only vs look) kind ts a (only_sees vs look N plain) (only_worth vs look N plain a g) flat.0) in (
         rewritten b.fresh r.0,
         ap (by_constraint b rest) e,
         record {
           fresh = follows.fresh;
           below = follows.below;
-          kinds = λ x i. elim (given_or_added M kind (apply_all look ts) b.fresh r.0 higher e x i) [ inl k ↦ inl (listed x (all_plain_has M b.fresh look ts x own k)) | inr k ↦ inr k ];
+          kinds = λ x i. elim (given_or_added M kind (apply_all look ts) b.fresh r.0 higher e x i) [ inl k ↦ inl (listed x (all_plain_has N b.fresh look ts x own k)) | inr k ↦ inr k ];
           equated = each_equated M kind (apply_all look ts) b.fresh r.0 higher e;
           added = follows.added;
           settles = follows.settles;
-          into = λ a bound g h. row_into M kind (apply_all look ts) b.fresh r.0 higher e positive a bound ((same a g).1 h);
-          out = λ c g f. (same c g).0 (row_out M kind (apply_all look ts) b.fresh r.0 higher e positive c f);
+          into = λ a bound g h. row_into M kind (apply_all look ts) b.fresh r.0 higher e N positive within a bound ((same a g).1 h);
+          out = λ c g f. (same c g).0 (row_out M kind (apply_all look ts) b.fresh r.0 higher e N positive within c f);
         },
       )
 
-  pub constrain_row : (t : Term) → IsFlatGoal M (Constrain kind t) → TermBelow nv t → IsRowOf t
+  pub constrain_row : (t : Term) → IsFlatGoal M N (Constrain kind t) → TermBelow nv t → IsRowOf t
   constrain_row (Comp f ts) flat below = comp_row f ts flat below
-  constrain_row _ flat below = absurd (none_flat M kind flat.0)
+  constrain_row _ flat below = absurd (none_flat M N kind flat.0)

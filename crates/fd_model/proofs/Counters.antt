@@ -231,7 +231,7 @@ values_same : (m : ℕ) (b c : Assignment) → ((w : ℕ) → w < m → b w ≡ 
 values_same m b c s [] l = refl
 values_same m b c s (x ∷ xs) l = let e = s x l.0 in let f = values_same m b c s xs l.1 in cc
 
-equated_same : (ms : List Member) (k : ℕ) (b c : Assignment) → ((w : ℕ) → w < fresh_after k ms → b w ≡ c w) → AllEquated b (equated_from k ms) → AllEquated c (equated_from k ms)
+pub equated_same : (ms : List Member) (k : ℕ) (b c : Assignment) → ((w : ℕ) → w < fresh_after k ms → b w ≡ c w) → AllEquated b (equated_from k ms) → AllEquated c (equated_from k ms)
 equated_same [] k b c s e = tt
 equated_same (Open x ∷ ms) k b c s e = equated_same ms k b c s e
 equated_same (Known z ∷ ms) k b c s e = (let f = s k (let g = fresh_grows ms (suc k) in omega arith) in let h = e.0 in omega (arith, ints), equated_same ms (suc k) b c s e.1)

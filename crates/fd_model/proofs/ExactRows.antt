@@ -16,8 +16,9 @@ use Rattle.fd_language.specs.Lists.{Each}
 use Rattle.fd_model.specs.Answers.{Somewhere}
 use Rattle.fd_model.specs.Ways.{is_equated, added}
 use Rattle.fd_language.proofs.Lemmas.{has-filter, has-filter_back}
-use Rattle.fd_model.proofs.OneValues.{IsOld, expand_one}
-use Rattle.fd_model.proofs.RowScopes.{scoped_rows}
+use Rattle.fd_model.proofs.OneValues.{IsOld}
+use Rattle.fd_model.proofs.SplitValues.{expand_one}
+use Rattle.fd_model.proofs.SplitScopes.{scoped_rows}
 use Rattle.fd_model.proofs.RewritingLaw.{rewriting}
 use Rattle.fd_model.proofs.Seeing.{all_below_has}
 use Rattle.fd_model.proofs.GoalRows.{Gives, EquationsBelow, FitsRow, IsFollowing, numbers, rewritten}
@@ -32,9 +33,9 @@ old_not_new w n c (inr l) g = grind arith
 is_new : (w n : ℕ) (c : Bool) → n ≤ w → c ≡ false → not (nat_lt w n || c) ≡ true
 is_new w n c l g = grind arith
 
-module _ (M : ℕ) (kind : ConstraintKind) (ts : Terms) (n : ℕ) (x : Expansion) (below : TermsBelow n ts) (h : expand kind ts n ≡ Ok x) where
+module _ (M : ℕ) (kind : ConstraintKind) (ts : Terms) (n : ℕ) (x : Expansion) (below : TermsBelow n ts) (h : expand M kind ts n ≡ Ok x) where
   scoped : IsScoped ts n x
-  scoped = scoped_rows kind ts n x h
+  scoped = scoped_rows M kind ts n x h
 
   named_below : (v : ℕ) → has (constrained x.ranges) v ≡ true → v < x.fresh
   named_below v e = elim (scoped.named v e) [ inl i ↦ (let l = all_below_has n ts v below i in let g = scoped.grows in omega arith) | inr l ↦ l.1 ]
@@ -79,7 +80,7 @@ module _ (M : ℕ) (kind : ConstraintKind) (ts : Terms) (n : ℕ) (x : Expansion
     settles = λ S family closed full others v e. expand_one M n S family kind ts x below h closed full (λ w i old. others w i (not_added w old)) v e;
   }
 
-  module _ (positive : 0 < M) where
+  module _ (N : ℕ) (positive : 0 < N) (within : N ≤ M) where
     unified : (b : Assignment) (es : List (ℕ × ℤ)) → AllEquated b es → Unifies (numbers b) (equations es)
     unified b [] g = tt
     unified b (e ∷ es) g = (ap Int g.0, unified b es g.1)
@@ -89,12 +90,12 @@ module _ (M : ℕ) (kind : ConstraintKind) (ts : Terms) (n : ℕ) (x : Expansion
     from_unified b (e ∷ es) g = ((let i = g.0 in let j : pos (b e.0) ≡ e.1 = cc in j), from_unified b es g.1)
 
     -- what satisfies the constraint has an extension that fits
-    pub row_into : (a : Assignment) → ((v : ℕ) → a v ≤ M) → Satisfies M kind ts a → (b : Assignment) × FitsRow M (rewritten n x) b × ((v : ℕ) → v < n → b v ≡ a v)
+    pub row_into : (a : Assignment) → ((v : ℕ) → a v ≤ N) → Satisfies N kind ts a → (b : Assignment) × FitsRow M N (rewritten n x) b × ((v : ℕ) → v < n → b v ≡ a v)
     row_into a small s =
-        let o = (rewriting M M kind ts n x a positive (omega arith) below small h).one s in
+        let o = (rewriting M N kind ts n x a positive within below small h).one s in
         (o.extension, record { bounded = o.extends.within; equations = unified o.extension x.equated o.fits.equated; posted = o.fits.inside }, o.extends.same)
 
     -- and what fits satisfies it
-    pub row_out : (b : Assignment) → FitsRow M (rewritten n x) b → Satisfies M kind ts b
+    pub row_out : (b : Assignment) → FitsRow M N (rewritten n x) b → Satisfies N kind ts b
     row_out b f =
-        (rewriting M M kind ts n x b positive (omega arith) below f.bounded h).satisfied b (record { within = f.bounded; same = λ v l. refl }) (record { equated = from_unified b x.equated f.equations; inside = f.posted })
+        (rewriting M N kind ts n x b positive within below f.bounded h).satisfied b (record { within = f.bounded; same = λ v l. refl }) (record { equated = from_unified b x.equated f.equations; inside = f.posted })

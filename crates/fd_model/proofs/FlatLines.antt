@@ -41,22 +41,22 @@ numbers_below n [] x h i = absurd (true≢false (sym i))
 numbers_below n (y ∷ xs) x h i = elim (or_cases (y == x) (has xs x) i) [ inl e ↦ subst (λ z. z < n) (eqb-true y x e) h.0 | inr e ↦ numbers_below n xs x h.1 e ]
 
 -- the assignments of lists of values
-assigned : (M : ℕ) (gs : List Goal) (vs : List ℕ) (nss : List (List ℕ)) → Each (IsAssigned M gs vs) nss → (found : List Assignment) × (map (λ a. map a vs) found ≡ nss) × Each (IsSatisfying M gs) found
-assigned M gs vs [] h = ([], refl, tt)
-assigned M gs vs (ns ∷ nss) h =
-    let later = assigned M gs vs nss h.1 in
+assigned : (M N : ℕ) (gs : List Goal) (vs : List ℕ) (nss : List (List ℕ)) → Each (IsAssigned M N gs vs) nss → (found : List Assignment) × (map (λ a. map a vs) found ≡ nss) × Each (IsSatisfying M N gs) found
+assigned M N gs vs [] h = ([], refl, tt)
+assigned M N gs vs (ns ∷ nss) h =
+    let later = assigned M N gs vs nss h.1 in
     let one = h.0 in
     (one.0 ∷ later.0, let e = sym one.3 in let more = later.1 in cc, (record { bounded = one.1; each = one.2 }, later.2))
 
 pub flat_events : FlatEvents
-flat_events M prog q n k es r gs o ms positive scoped shown_below f run =
+flat_events M N prog q n k es r gs o ms positive within scoped shown_below f run =
     let vs = open_ones ms in
     let values : Assignment → List ℕ = λ a. map a vs in
-    let a = answers_of M positive prog q gs o ms f scoped n k es r run in
-    let l = lines M positive prog q gs o ms f scoped n k es r run in
-    let c = assigned M gs vs a.values a.allowed in
-    let shown : EachShows M vs (answers run) (map values c.0) = subst (EachShows M vs (answers run)) (sym c.1) a.shown in
-    let texts : l.lines ≡ map (assigned_line q) c.0 = lines_shown M q vs (λ v h. f.every v (numbers_below q.variables q.shown v shown_below h)) (answers run) l.lines c.0 l.each shown in
+    let a = answers_of M N positive within prog q gs o ms f scoped n k es r run in
+    let l = lines M N positive within prog q gs o ms f scoped n k es r run in
+    let c = assigned M N gs vs a.values a.allowed in
+    let shown : EachShows M N vs (answers run) (map values c.0) = subst (EachShows M N vs (answers run)) (sym c.1) a.shown in
+    let texts : l.lines ≡ map (assigned_line q) c.0 = lines_shown M N q vs (λ v h. f.every v (numbers_below q.variables q.shown v shown_below h)) (answers run) l.lines c.0 l.each shown in
     let sorted : InOrder (Comes o) (map values c.0) = subst (InOrder (Comes o)) (sym c.1) a.order in
     record {
       found = c.0;

@@ -19,26 +19,13 @@ use Rattle.fd_model.specs.Linear.{Sum, with_product, with_products, scaled, nonz
 use Rattle.fd_model.specs.LinearRows.{Expansion, linear_rows}
 use Rattle.fd_model.specs.Constraining.{compare}
 use Rattle.fd_model.specs.FlatConstraints.{width, is_narrow, is_ground, is_operator, is_flat, is_flat_comparison, FlatCompares}
-use Rattle.fd_model.proofs.RowWidths.{weight}
+use Rattle.fd_model.proofs.RowWidths.{weight, weight_product, weight_nonzero}
 
 module _ (M : ℕ) (some : 0 < M) where
   -- adding up
-  weight_one : (c : Bool) (x y : ℕ) (z a : ℤ) (ts us : List (ℕ × ℤ)) → weight M us ≤ nat_abs a * M + weight M ts
-      → weight M (cond c ((x, z +ℤ a) ∷ ts) ((y, z) ∷ us)) ≤ nat_abs a * M + (nat_abs z * M + weight M ts)
-  weight_one true x y z a ts us h = more (nat_abs (z +ℤ a)) (nat_abs z) (nat_abs a) (weight M ts) (abs_add z a) where
-    more : (p q r w : ℕ) → p ≤ q + r → p * M + w ≤ r * M + (q * M + w)
-    more p q r w h = let e = mul-le-mul h (same M) in omega arith where
-      same : (n : ℕ) → n ≤ n
-      same n = omega arith
-  weight_one false x y z a ts us h = omega arith
-
-  weight_product : (ts : List (ℕ × ℤ)) (x : ℕ) (a : ℤ) → weight M (with_product ts x a) ≤ nat_abs a * M + weight M ts
-  weight_product [] x a = omega arith
-  weight_product (t ∷ ts) x a = weight_one (t.0 == x) x t.0 t.1 a ts (with_product ts x a) (weight_product ts x a)
-
   weight_products : (ts us : List (ℕ × ℤ)) → weight M (with_products ts us) ≤ weight M ts + weight M us
   weight_products ts [] = omega arith
-  weight_products ts (u ∷ us) = let e = weight_products (with_product ts u.0 u.1) us in let f = weight_product ts u.0 u.1 in omega arith
+  weight_products ts (u ∷ us) = let e = weight_products (with_product ts u.0 u.1) us in let f = weight_product M ts u.0 u.1 in omega arith
 
   weight_scaled : (k : ℤ) (ts : List (ℕ × ℤ)) → weight M (scaled k ts) ≤ nat_abs k * weight M ts
   weight_scaled k [] = omega arith
@@ -74,7 +61,7 @@ module _ (M : ℕ) (some : 0 < M) where
   in_limit : (n : ℕ) → n < 2 ^ 63 → nat_lt n (2 ^ 63) ≡ true
   in_limit n h = grind arith
 
-  light_integers : (ts : List (ℕ × ℤ)) → weight M ts < 2 ^ 63 → list_all (λ t. in_integers t.1) ts ≡ true
+  pub light_integers : (ts : List (ℕ × ℤ)) → weight M ts < 2 ^ 63 → list_all (λ t. in_integers t.1) ts ≡ true
   light_integers [] h = refl
   light_integers (t ∷ ts) h =
       let e = in_limit (nat_abs t.1) (least (nat_abs t.1) (weight M ts) h) in
@@ -258,8 +245,15 @@ module _ (M : ℕ) (some : 0 < M) where
     small Greater = turned_less l.constant h
     small AtLeast = turned_small l.constant h
 
-  flat_compared : (r : Relation) (s t : Term) (n : ℕ) → is_flat_comparison M s t ≡ true → length (variables_of s) + length (variables_of t) ≤ 2 ^ 31 → (x : Expansion) × (compare r s t n ≡ Ok x)
-  flat_compared r s t n h few =
+  -- what a flat comparison is collected to
+  pub record IsFlatForm (r : Relation) (s t : Term) : Type 0 where
+    pub linear : Linear
+    pub collected : collect s t ≡ Ok linear
+    pub normal_is : normal_form r linear ≡ Ok (normal r linear)
+    pub light : weight M linear.products + nat_abs linear.constant ≤ width M s + width M t
+
+  pub flat_form : (r : Relation) (s t : Term) → is_flat_comparison M s t ≡ true → length (variables_of s) + length (variables_of t) ≤ 2 ^ 31 → IsFlatForm r s t
+  flat_form r s t h few =
       let both = (and_parts (is_flat M s && is_flat M t) (is_narrow (width M s + width M t)) h).0 in
       let size = narrow_strict (width M s + width M t) ((and_parts (is_flat M s && is_flat M t) (is_narrow (width M s + width M t)) h).1) in
       let k = flat_collected s ((and_parts (is_flat M s) (is_flat M t) both).0) (omega arith) in
@@ -269,15 +263,24 @@ module _ (M : ℕ) (some : 0 < M) where
       let u = plus k.0 (times (negsuc 0) j.0) in
       let c = light_checked u (omega (arith, sum.0)) (omega (arith, sum.1)) in
       let l : Linear = record { products = nonzero u.products; constant = neg_ℤ u.constant } in
-      let collected : collect s t ≡ Ok l = rw (k.1, j.1, c) refl in
       let small : nat_abs l.constant < 2 ^ 63 - 1 = let e = turned_size u.constant in omega (arith, sum.0) in
-      let m = normal r l in
-      (linear_rows (comparison r) m.products m.constant n, rw (collected, normal_within r l small) refl) where
+      record {
+        linear = l;
+        collected = rw (k.1, j.1, c) refl;
+        normal_is = normal_within r l small;
+        light = let e = turned_size u.constant in let f = weight_nonzero M u.products in omega (arith, sum.0);
+      } where
         narrow_strict : (n : ℕ) → is_narrow n ≡ true → n < 2 ^ 63 - 1
         narrow_strict n h = grind arith
 
         turned_size : (z : ℤ) → nat_abs (neg_ℤ z) ≡ nat_abs z
         turned_size z = omega (arith, ints)
+
+  flat_compared : (r : Relation) (s t : Term) (n : ℕ) → is_flat_comparison M s t ≡ true → length (variables_of s) + length (variables_of t) ≤ 2 ^ 31 → (x : Expansion) × (compare r s t n ≡ Ok x)
+  flat_compared r s t n h few =
+      let f = flat_form r s t h few in
+      let m = normal r f.linear in
+      (linear_rows (comparison r) m.products m.constant n, let e = f.collected in let g = f.normal_is in rw (e, g) refl)
 
 pub flat_compares : FlatCompares
 flat_compares M r s t n some h few = flat_compared M some r s t n h few

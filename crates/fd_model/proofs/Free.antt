@@ -43,7 +43,7 @@ module _ (y n : ℕ) where
   unfolding put
   put_low M a h g x = elim (cases_Bool (x == y)) [ inl e ↦ rw e h | inr e ↦ rw e (g x) ]
 
-module _ (M : ℕ) (b : Branch) (o : Order) (ms : List Member) (ws : List ℕ) (l : IsLabelled M b o ms ws) (a : Assignment) (f : IsSolution M b.equations b.posted (open_ones ms) a) (y n : ℕ)
+module _ (M N : ℕ) (within : N ≤ M) (b : Branch) (o : Order) (ms : List Member) (ws : List ℕ) (l : IsLabelled M N b o ms ws) (a : Assignment) (f : IsSolution M N b.equations b.posted (open_ones ms) a) (y n : ℕ)
     (free : (w : ℕ) → has (constrained b.posted) w ≡ true → l.unifier w ≡ Var y → ⊥) (fixed : (x : ℕ) → has (open_ones ms) x ≡ true → l.unifier x ≡ Var x) (listed : has (open_ones ms) y ≡ true) where
   abbrev vs : List ℕ
   vs = open_ones ms
@@ -71,22 +71,22 @@ module _ (M : ℕ) (b : Branch) (o : Order) (ms : List Member) (ws : List ℕ) (
     | inl e ↦ given_here x (eqb-true x y e)
     | inr e ↦
         let d : x ≢ y = λ k. true≢false (sym (eq-eqb x y k) ∙ e) in
-        given_by x (l.unifier x) refl (given_listed M b.equations b.posted vs a f x h) d (λ k. d (let i = sym (fixed x h) ∙ k in let j : x ≡ y = cc in j))
+        given_by x (l.unifier x) refl (given_listed M N within b.equations b.posted vs a f x h) d (λ k. d (let i = sym (fixed x h) ∙ k in let j : x ≡ y = cc in j))
   ]
 
-  put_solution : n ≤ M → IsSolution M b.equations b.posted vs (put y n a)
+  put_solution : n ≤ N → IsSolution M N b.equations b.posted vs (put y n a)
   put_solution low = record {
-    bounded = put_low y n M a low f.bounded;
+    bounded = put_low y n N a low f.bounded;
     unifier = after (put_term y n f.unifier) l.unifier;
     unifies = still_unifies (put_term y n f.unifier) l.unifier b.equations l.view.general.unifies;
     given = λ x h. elim (has_either vs (constrained b.posted) x h) [
       | inl k ↦ given_listed_at x k
-      | inr k ↦ given_by x (l.unifier x) refl (given_constrained M b.equations b.posted vs a f x k) (apart x k) (λ e. free x k e)
+      | inr k ↦ given_by x (l.unifier x) refl (given_constrained M N within b.equations b.posted vs a f x k) (apart x k) (λ e. free x k e)
     ];
     posted = posted_moved M a (put y n a) b.posted (λ x c. put_other y n a x (apart x c)) f.posted;
   }
 
 pub free_members : FreeMembers
-free_members M b o ms ws l a f y n h free low =
-    let fixed = open_var M b o ms ws (solution_consistent M b.equations b.posted (open_ones ms) a f) l in
-    (put y n a, put_solution M b o ms ws l a f y n free fixed h low, put_here y n a, λ x d. put_other y n a x d)
+free_members M N within b o ms ws l a f y n h free low =
+    let fixed = open_var M N b o ms ws (solution_consistent M N within b.equations b.posted (open_ones ms) a f) l in
+    (put y n a, put_solution M N within b o ms ws l a f y n free fixed h low, put_here y n a, λ x d. put_other y n a x d)

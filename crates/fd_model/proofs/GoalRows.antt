@@ -43,9 +43,9 @@ EquationsBelow n es = Each (λ e. TermBelow n e.left × TermBelow n e.right) es
 abbrev pub IsPlain : ℕ → List ℕ → Substitution → Type 0
 IsPlain M xs look = (x : ℕ) → has xs x ≡ true → (look x ≡ Var x) ⊎ ((n : ℕ) × (n ≤ M) × (look x ≡ Int (pos n)))
 
--- an assignment under which the equated variables have their integers, and each target lies in its range
-pub record FitsRow (M : ℕ) (w : Rewritten) (e : Assignment) : Type 0 where
-  pub bounded : (x : ℕ) → e x ≤ M
+-- an assignment of numbers up to N under which the equated variables have their integers, and each target lies in its range
+pub record FitsRow (M N : ℕ) (w : Rewritten) (e : Assignment) : Type 0 where
+  pub bounded : (x : ℕ) → e x ≤ N
   pub equations : Unifies (numbers e) w.equations
   pub posted : AllPosted (λ p. has (set_of M (singles e) p.range) (e p.target) ≡ true) w.ranges
 

@@ -61,17 +61,17 @@ by_set_var (Some (n ∷ [])) y x e = absurd (cc)
 by_set_var _ y x e = cc
 
 -- u unifies, and gives n to each constrained variable that is n in each model
-pub record Heeds (M : ℕ) (es : List Equation) (ps : List Indexical) (u : Substitution) : Type 0 where
+pub record Heeds (M N : ℕ) (es : List Equation) (ps : List Indexical) (u : Substitution) : Type 0 where
   pub unifies : Unifies u es
-  pub sure : (w n : ℕ) → has (constrained ps) w ≡ true → ((S : Family) → IsModel M es ps S → (k : ℕ) → has (S w) k ≡ true → k ≡ n) → u w ≡ Int (pos n)
+  pub sure : (w n : ℕ) → has (constrained ps) w ≡ true → ((S : Family) → IsModel M N es ps S → (k : ℕ) → has (S w) k ≡ true → k ≡ n) → u w ≡ Int (pos n)
 
-pub heeds_weaker : (M : ℕ) (es ds : List Equation) (ps : List Indexical) (u : Substitution) → ((r : Substitution) → Unifies r es → Unifies r ds) → Heeds M es ps u → Heeds M ds ps u
-heeds_weaker M es ds ps u weak h = record {
+pub heeds_weaker : (M N : ℕ) (es ds : List Equation) (ps : List Indexical) (u : Substitution) → ((r : Substitution) → Unifies r es → Unifies r ds) → Heeds M N es ps u → Heeds M N ds ps u
+heeds_weaker M N es ds ps u weak h = record {
   unifies = weak u h.unifies;
-  sure = λ w n c only. h.sure w n c (λ S m. only S (weaker M es ds ps S weak m));
+  sure = λ w n c only. h.sure w n c (λ S m. only S (weaker M N es ds ps S weak m));
 }
 
-module _ (M : ℕ) (es : List Equation) (ps : List Indexical) (vs : List ℕ) (a : Assignment) (l : IsSolution M es ps vs a) where
+module _ (M N : ℕ) (low : N ≤ M) (es : List Equation) (ps : List Indexical) (vs : List ℕ) (a : Assignment) (l : IsSolution M N es ps vs a) where
   pub given_constrained : (x : ℕ) → has (constrained ps) x ≡ true → l.unifier x ≡ Int (pos (a x))
   given_constrained x c = l.given x (in_right vs (constrained ps) x c)
 
@@ -89,41 +89,42 @@ module _ (M : ℕ) (es : List Equation) (ps : List Indexical) (vs : List ℕ) (a
   no_int v s t g c e = sym (given_constrained v c) ∙ sym (g.general l.unifier v l.unifies) ∙ ap (apply l.unifier) e
 
   -- a solution is a closed family of single values
-  pub solution_closed : (s : Substitution) → IsMostGeneral es s → IsClosed M s ps (singles a)
+  pub solution_closed : (s : Substitution) → IsMostGeneral es s → IsClosed M N s ps (singles a)
   solution_closed s g = record {
-    family = record { rising = λ x. (omega arith, l.bounded x, tt) };
+    family = record { rising = λ x. (omega arith, (let here = l.bounded x in omega arith), tt) };
     posted = posted_inside ps l.posted;
     values = λ v z n c e h. subst (λ k. pos k ≡ z) (only_member (a v) n h) (int_of v s z g c e);
     same = λ v w x c d e f. ap (λ n. n ∷ []) (pos_same (a v) (a w) (let k = no_int v s (Var x) g c e ∙ sym (no_int w s (Var x) g d f) in let j : pos (a v) ≡ pos (a w) = cc in j));
     atoms = λ v b c e. absurd (let k = no_int v s (Atom b) g c e in cc);
     compounds = λ v f ts c e. absurd (let k = no_int v s (Comp f ts) g c e in cc);
+    within = λ v n c h. subst (λ k. k ≤ N) (only_member (a v) n h) (l.bounded v);
   }
 
-  pub solution_model : IsModel M es ps (singles a)
+  pub solution_model : IsModel M N es ps (singles a)
   solution_model = let g = has_general es l.unifier l.unifies (solved es) in record { unifier = g.0; general = g.1; closed = solution_closed g.0 g.1; full = λ x c. (a x, first_member (a x) []) }
 
-  pub solution_consistent : IsConsistent M es ps
-  solution_consistent = consistent_from M es ps (singles a) solution_model
+  pub solution_consistent : IsConsistent M N es ps
+  solution_consistent = consistent_from M N es ps (singles a) solution_model
 
-  pub solution_inside : (s : Substitution) (D : Family) → IsView M es ps s D → (x : ℕ) → has (D x) (a x) ≡ true
-  solution_inside s D v x = in_view M es ps s D (singles a) v solution_model x (a x) (first_member (a x) [])
+  pub solution_inside : (s : Substitution) (D : Family) → IsView M N es ps s D → (x : ℕ) → has (D x) (a x) ≡ true
+  solution_inside s D v x = in_view M N es ps s D (singles a) v solution_model x (a x) (first_member (a x) [])
 
-  pub solution_heeds : Heeds M es ps l.unifier
+  pub solution_heeds : Heeds M N es ps l.unifier
   solution_heeds = record {
     unifies = l.unifies;
     sure = λ w n c only. given_constrained w c ∙ ap (λ k. Int (pos k)) (only (singles a) solution_model (a w) (first_member (a w) []));
   }
 
 -- what is seen in a branch
-module _ (M : ℕ) (b : Branch) (s : Substitution) (D : Family) (v : IsView M b.equations b.posted s D) (ok : IsConsistent M b.equations b.posted) where
+module _ (M N : ℕ) (b : Branch) (s : Substitution) (D : Family) (v : IsView M N b.equations b.posted s D) (ok : IsConsistent M N b.equations b.posted) where
   abbrev ws : List ℕ
   ws = constrained b.posted
 
   abbrev single : Substitution
   single y = by_set (set_at s D ws y) y
 
-  model : IsModel M b.equations b.posted D
-  model = view_model M b.equations b.posted s D v ok
+  model : IsModel M N b.equations b.posted D
+  model = view_model M N b.equations b.posted s D v ok
 
   pub look_unifies : Unifies (look_in b s D) b.equations
   look_unifies = still_unifies single s b.equations v.general.unifies
@@ -147,8 +148,8 @@ module _ (M : ℕ) (b : Branch) (s : Substitution) (D : Family) (v : IsView M b.
       let same : h.0 ≡ n ∷ [] = sym (found_set w y h.0 c e h.1) ∙ d in
       ap (λ o. by_set o y) (h.1 ∙ ap Some same)
   single_by w n (Int z) c d e = ap Int (sym (v.closed.values w z n c e (subst (λ l. has l n ≡ true) (sym d) (first_member n []))))
-  single_by w n (Atom a) c d e = absurd (not_empty M b.equations b.posted D model (n ∷ []) n (sym d ∙ v.closed.atoms w a c e) (first_member n []))
-  single_by w n (Comp f ts) c d e = absurd (not_empty M b.equations b.posted D model (n ∷ []) n (sym d ∙ v.closed.compounds w f ts c e) (first_member n []))
+  single_by w n (Atom a) c d e = absurd (not_empty M N b.equations b.posted D model (n ∷ []) n (sym d ∙ v.closed.atoms w a c e) (first_member n []))
+  single_by w n (Comp f ts) c d e = absurd (not_empty M N b.equations b.posted D model (n ∷ []) n (sym d ∙ v.closed.compounds w f ts c e) (first_member n []))
 
   -- a constrained variable with one value is seen as that integer
   pub look_single : (w n : ℕ) → has ws w ≡ true → D w ≡ n ∷ [] → look_in b s D w ≡ Int (pos n)
@@ -166,14 +167,14 @@ module _ (M : ℕ) (b : Branch) (s : Substitution) (D : Family) (v : IsView M b.
   pub look_only : (w : ℕ) (z : ℤ) (k : ℕ) → has ws w ≡ true → look_in b s D w ≡ Int z → has (D w) k ≡ true → pos k ≡ z
   look_only w z k c h i = only_by w (s w) z k c refl h i
 
-  pub look_heeds : Heeds M b.equations b.posted (look_in b s D)
+  pub look_heeds : Heeds M N b.equations b.posted (look_in b s D)
   look_heeds = record { unifies = look_unifies; sure = λ w n c only. look_single w n c (single_set w n c (only D model)) }
 
-  module _ (u : Substitution) (h : Heeds M b.equations b.posted u) where
+  module _ (u : Substitution) (h : Heeds M N b.equations b.posted u) where
     by_option : (x : ℕ) (o : Option (List ℕ)) → set_at s D ws x ≡ o → apply u (by_set o x) ≡ u x
     by_option x (Some (n ∷ [])) e =
         let f = set_found s D x ws (n ∷ []) e in
-        let k : u f.variable ≡ Int (pos n) = h.sure f.variable n f.listed (λ S m j i. sym (only_member n j (subst (λ l. has l j ≡ true) f.set (in_view M b.equations b.posted s D S v m f.variable j i)))) in
+        let k : u f.variable ≡ Int (pos n) = h.sure f.variable n f.listed (λ S m j i. sym (only_member n j (subst (λ l. has l j ≡ true) f.set (in_view M N b.equations b.posted s D S v m f.variable j i)))) in
         sym k ∙ sym (v.general.general u f.variable h.unifies) ∙ ap (apply u) f.term
     by_option x _ e = refl
 

@@ -1,5 +1,5 @@
 -- The branches of a labelling: each leaf shows its only solution, and the children of a branch part its solutions.
-use Rattle.std.proofs.Common.{◌≡◌, ℕ, ◌<◌, ◌≤◌, true, false, cond, ◌==◌, ℤ, pos, IsTrue, List, [], ◌∷◌, ◌++◌, map, Option, Some, None, ◌⊎◌, refl, ap, sym, ◌∙◌, subst, inl, inr, arith, eqb-true, eq-eqb, Result, Err, Ok}
+use Rattle.std.proofs.Common.{◌≡◌, ℕ, ◌<◌, ◌≤◌, true, false, cond, ◌==◌, ℤ, pos, IsTrue, List, [], ◌∷◌, ◌++◌, map, Option, Some, None, ◌⊎◌, refl, ap, sym, ◌∙◌, subst, inl, inr, arith, eqb-true, Result, Err, Ok}
 use Rattle.fd_model.proofs.Slots.{int_number}
 use Rattle.std.proofs.lemmas.Bool.{or_cases, or_right, cases_Bool, true≢false}
 use Rattle.fd_model.specs.declared.kinds.QueryFault.{QueryFault}
@@ -12,23 +12,20 @@ use Rattle.fd_language.specs.Range.{Indexical, set_of, reads}
 use Rattle.fd_model.specs.Closed.{AllPosted, constrained}
 use Rattle.fd_model.specs.Goal.{Goal, Label, Program, Branch}
 use Rattle.fd_model.specs.Seen.{IsConsistent, IsView, set_at, by_set}
-use Rattle.fd_model.specs.Children.{Gives, Faults, with_goals, Kept, KeptOffer, look_in, Children, offer, by_value, by_pick, by_listing, sets_in}
-use Rattle.fd_language.proofs.Lemmas.{has_high, has_either, in_universe, universe_rising, in_left, in_right, set_agree, still_unifies, through_term, number_for, number_at, number_back}
-use Rattle.fd_model.proofs.Unique.{one_view}
+use Rattle.fd_model.specs.Children.{Gives, Faults, with_goals, Kept, KeptOffer, look_in, Children, kept_by, offer, by_value, by_pick, by_listing, sets_in}
+use Rattle.fd_language.proofs.Lemmas.{has_high, has_either, in_universe, universe_rising, in_left, in_right, set_agree, still_unifies, number_for, number_at, number_back}
+use Rattle.fd_model.proofs.OneView.{one_view}
 use Rattle.fd_model.specs.Labelling.{read_list, values_by, pick, open_ones}
 use Rattle.fd_model.specs.Members.{Member}
 use Rattle.fd_model.specs.Satisfies.{Assignment, singles}
 use Rattle.fd_model.specs.Answers.{IsSolution, Somewhere, Precedes, Comes, OneValue, Settles}
 use Rattle.fd_model.proofs.Models.{view_model}
-use Rattle.fd_model.proofs.Heeding.{Heeds, heeds_weaker, solution_heeds, solution_consistent, solution_inside, given_constrained, given_listed, set_found, look_heeds, look_only, look_single, single_set, by_set_int, look_open, open_fixed, through_look, first_member, pos_same}
-use Rattle.fd_model.proofs.Listing.{read_members, list_under, plain_members}
+use Rattle.fd_model.proofs.Heeding.{Heeds, heeds_weaker, solution_heeds, solution_consistent, solution_inside, given_constrained, given_listed, set_found, look_heeds, look_only, look_single, single_set, by_set_int, through_look, first_member, pos_same}
+use Rattle.fd_model.proofs.Listing.{read_members}
 use Rattle.fd_model.proofs.Picking.{IsInt, AllInts, First, Among, Picked, picked_among, pick_none, pick_some}
-use Rattle.fd_model.proofs.Keeping.{kept_each, kept_there, kept_order}
+use Rattle.fd_model.proofs.Keeping.{rising_within, kept_each, kept_there, kept_order}
+use Rattle.fd_model.proofs.Grounded.{Follows, IsGrounded, child_ground, is_read, list_read as read_as, open_self as self_open}
 use Rattle.fd_model.proofs.Searching.{IsParted, IsLeaf, Before}
-
--- u goes through base
-abbrev pub Follows : Substitution → Substitution → Type 0
-Follows base u = (y : ℕ) → apply u (base y) ≡ u y
 
 pub natural : Term → ℕ
 natural (Int (pos n)) = n
@@ -57,47 +54,50 @@ map_at a c (x ∷ ys) y e h = elim (or_cases (x == y) (has ys y) h) [
 int_same : (n : ℕ) (z : ℤ) → Int (pos n) ≡ Int z → z ≡ pos n
 int_same n z e = cc
 
-module _ (M : ℕ) (prog : Program) (o : Order) (t : Term) (ms : List Member) (base : Substitution) (ws : List ℕ) (listed : read_list (apply base t) ≡ Ok ms) where
+module _ (M N : ℕ) (low : N ≤ M) (prog : Program) (o : Order) (t : Term) (ms : List Member) (base : Substitution) (ws : List ℕ) (listed : read_list (apply base t) ≡ Ok ms) where
   abbrev vs : List ℕ
   vs = open_ones ms
 
   -- a branch of the labelling
   pub record IsReady (b : Branch) : Type 0 where
     pub goals : (b.goals ≡ []) ⊎ (b.goals ≡ Label o t ∷ [])
-    pub consistent : IsConsistent M b.equations b.posted
-    pub follows : (u : Substitution) → Heeds M b.equations b.posted u → Follows base u
+    pub consistent : IsConsistent M N b.equations b.posted
+    pub follows : (u : Substitution) → Heeds M N b.equations b.posted u → Follows base u
     pub settles : Settles M b.posted ws
-    pub covered : (w : ℕ) → has (constrained b.posted) w ≡ true → (has ws w ≡ true) ⊎ ((u : Substitution) → Heeds M b.equations b.posted u → AllInts u vs → IsInt (u w))
-    pub inside : (y : ℕ) (z : ℤ) → has vs y ≡ true → ((u : Substitution) → Unifies u b.equations → u y ≡ Int z) → (n : ℕ) × (n ≤ M) × (z ≡ pos n)
+    pub covered : (w : ℕ) → has (constrained b.posted) w ≡ true → (has ws w ≡ true) ⊎ ((u : Substitution) → Heeds M N b.equations b.posted u → AllInts u vs → IsInt (u w))
+    pub inside : (y : ℕ) (z : ℤ) → has vs y ≡ true → ((u : Substitution) → Unifies u b.equations → u y ≡ Int z) → (n : ℕ) × (n ≤ N) × (z ≡ pos n)
     pub ground : (u : Substitution) × Unifies u b.equations × AllInts u vs
-    pub finished : b.goals ≡ [] → (s : Substitution) (D : Family) → IsView M b.equations b.posted s D → AllInts (look_in b s D) vs
+    pub finished : b.goals ≡ [] → (s : Substitution) (D : Family) → IsView M N b.equations b.posted s D → AllInts (look_in b s D) vs
+
+  as_grounded : (b : Branch) → IsReady b → IsGrounded M N t ms base listed b
+  as_grounded b ready = record { consistent = ready.consistent; follows = ready.follows; ground = ready.ground }
 
   abbrev pub Allows : Branch → List ℕ → Type 0
-  Allows b ns = (a : Assignment) × IsSolution M b.equations b.posted vs a × (ns ≡ map a vs)
+  Allows b ns = (a : Assignment) × IsSolution M N b.equations b.posted vs a × (ns ≡ map a vs)
 
   abbrev pub Parted : Branch → List Branch → Type 0
-  Parted b cs = IsParted M prog vs (Comes o) IsReady Allows b cs
+  Parted b cs = IsParted M N prog vs (Comes o) IsReady Allows b cs
 
-  module _ (b : Branch) (s : Substitution) (D : Family) (ready : IsReady b) (v : IsView M b.equations b.posted s D) where
+  module _ (b : Branch) (s : Substitution) (D : Family) (ready : IsReady b) (v : IsView M N b.equations b.posted s D) where
     abbrev look : Substitution
     look = look_in b s D
 
-    heeds : Heeds M b.equations b.posted look
-    heeds = look_heeds M b s D v ready.consistent
+    heeds : Heeds M N b.equations b.posted look
+    heeds = look_heeds M N b s D v ready.consistent
 
     -- what a solution gives is what is seen
-    seen_value : (a : Assignment) (l : IsSolution M b.equations b.posted vs a) (y : ℕ) (z : ℤ) → has vs y ≡ true → look y ≡ Int z → z ≡ pos (a y)
+    seen_value : (a : Assignment) (l : IsSolution M N b.equations b.posted vs a) (y : ℕ) (z : ℤ) → has vs y ≡ true → look y ≡ Int z → z ≡ pos (a y)
     seen_value a l y z h e =
-        let k = sym (given_listed M b.equations b.posted vs a l y h) ∙ sym (through_look M b s D v ready.consistent l.unifier (solution_heeds M b.equations b.posted vs a l) y) ∙ ap (apply l.unifier) e in
+        let k = sym (given_listed M N low b.equations b.posted vs a l y h) ∙ sym (through_look M N b s D v ready.consistent l.unifier (solution_heeds M N low b.equations b.posted vs a l) y) ∙ ap (apply l.unifier) e in
         int_same (a y) z k
 
     full : (x : ℕ) → has (constrained b.posted) x ≡ true → (n : ℕ) × (has (D x) n ≡ true)
-    full x c = (view_model M b.equations b.posted s D v ready.consistent).full x c
+    full x c = (view_model M N b.equations b.posted s D v ready.consistent).full x c
 
     seen_one : (w : ℕ) → has (constrained b.posted) w ≡ true → IsInt (look w) → OneValue (D w)
     seen_one w c i =
         let f = full w c in
-        (f.0, single_set M b s D v ready.consistent w f.0 c (λ k h. pos_same k f.0 (look_only M b s D v ready.consistent w i.0 k c i.1 h ∙ sym (look_only M b s D v ready.consistent w i.0 f.0 c i.1 f.1))))
+        (f.0, single_set M N b s D v ready.consistent w f.0 c (λ k h. pos_same k f.0 (look_only M N b s D v ready.consistent w i.0 k c i.1 h ∙ sym (look_only M N b s D v ready.consistent w i.0 f.0 c i.1 f.1))))
 
     module _ (ints : AllInts look vs) where
       unsettled : (w : ℕ) → has (constrained b.posted) w ≡ true → has ws w ≡ false → OneValue (D w)
@@ -106,17 +106,17 @@ module _ (M : ℕ) (prog : Program) (o : Order) (t : Term) (ms : List Member) (b
       one_value : (x : ℕ) → has (constrained b.posted) x ≡ true → OneValue (D x)
       one_value x c = ready.settles D v.closed.family v.closed.posted full unsettled x c
 
-      seen_constrained : (x : ℕ) → has (constrained b.posted) x ≡ true → (n : ℕ) × (n ≤ M) × (look x ≡ Int (pos n)) × (D x ≡ n ∷ [])
+      seen_constrained : (x : ℕ) → has (constrained b.posted) x ≡ true → (n : ℕ) × (n ≤ N) × (look x ≡ Int (pos n)) × (D x ≡ n ∷ [])
       seen_constrained x c =
           let d = one_value x c in
-          (d.0, has_high 0 M (D x) d.0 (v.closed.family.rising x) (subst (λ l. has l d.0 ≡ true) (sym d.1) (first_member d.0 [])), look_single M b s D v ready.consistent x d.0 c d.1, d.1)
+          (d.0, v.closed.within x d.0 c (subst (λ l. has l d.0 ≡ true) (sym d.1) (first_member d.0 [])), look_single M N b s D v ready.consistent x d.0 c d.1, d.1)
 
-      by_option : (y x n : ℕ) → s y ≡ Var x → set_at s D (constrained b.posted) x ≡ Some (n ∷ []) → n ≤ M
+      by_option : (y x n : ℕ) → s y ≡ Var x → set_at s D (constrained b.posted) x ≡ Some (n ∷ []) → n ≤ N
       by_option y x n e h =
           let f = set_found s D x (constrained b.posted) (n ∷ []) h in
-          has_high 0 M (D f.variable) n (v.closed.family.rising f.variable) (subst (λ l. has l n ≡ true) (sym f.set) (first_member n []))
+          v.closed.within f.variable n f.listed (subst (λ l. has l n ≡ true) (sym f.set) (first_member n []))
 
-      listed_by : (y : ℕ) (z : ℤ) (r : Term) → has vs y ≡ true → s y ≡ r → look y ≡ Int z → (n : ℕ) × (n ≤ M) × (z ≡ pos n)
+      listed_by : (y : ℕ) (z : ℤ) (r : Term) → has vs y ≡ true → s y ≡ r → look y ≡ Int z → (n : ℕ) × (n ≤ N) × (z ≡ pos n)
       listed_by y z (Var x) h e i =
           let g = by_set_int (set_at s D (constrained b.posted) x) x z (sym (ap (apply (λ w. by_set (set_at s D (constrained b.posted) w) w)) e) ∙ i) in
           (g.0, by_option y x g.0 e g.1, g.2)
@@ -126,22 +126,22 @@ module _ (M : ℕ) (prog : Program) (o : Order) (t : Term) (ms : List Member) (b
       listed_by y z (Atom a) h e i = absurd (let same : Atom a ≡ Int z = sym (ap (apply (λ w. by_set (set_at s D (constrained b.posted) w) w)) e) ∙ i in cc)
       listed_by y z (Comp f ts) h e i = absurd (let same = sym (ap (apply (λ w. by_set (set_at s D (constrained b.posted) w) w)) e) ∙ i in cc)
 
-      seen_listed : (y : ℕ) → has vs y ≡ true → (n : ℕ) × (n ≤ M) × (look y ≡ Int (pos n))
+      seen_listed : (y : ℕ) → has vs y ≡ true → (n : ℕ) × (n ≤ N) × (look y ≡ Int (pos n))
       seen_listed y h = let i = ints y h in let g = listed_by y i.0 (s y) h refl i.1 in (g.0, g.1, i.1 ∙ ap Int g.2)
 
       -- the assignment that is seen
       abbrev seen_number : Assignment
       seen_number x = cond (has (vs ++ constrained b.posted) x) (natural (look x)) 0
 
-      seen_all : (x : ℕ) → has (vs ++ constrained b.posted) x ≡ true → (n : ℕ) × (n ≤ M) × (look x ≡ Int (pos n))
+      seen_all : (x : ℕ) → has (vs ++ constrained b.posted) x ≡ true → (n : ℕ) × (n ≤ N) × (look x ≡ Int (pos n))
       seen_all x h = elim (has_either vs (constrained b.posted) x h) [ inl k ↦ seen_listed x k | inr k ↦ let c = seen_constrained x k in (c.0, c.1, c.2) ]
 
       number_is : (x n : ℕ) → has (vs ++ constrained b.posted) x ≡ true → look x ≡ Int (pos n) → seen_number x ≡ n
       number_is x n h e = rw h (natural_of n (look x) e)
 
-      number_low : (x : ℕ) → seen_number x ≤ M
+      number_low : (x : ℕ) → seen_number x ≤ N
       number_low x = elim (cases_Bool (has (vs ++ constrained b.posted) x)) [
-        | inl h ↦ let k = seen_all x h in subst (λ n. n ≤ M) (sym (number_is x k.0 h k.2)) k.1
+        | inl h ↦ let k = seen_all x h in subst (λ n. n ≤ N) (sym (number_is x k.0 h k.2)) k.1
         | inr h ↦ rw h (omega arith)
       ]
 
@@ -160,11 +160,11 @@ module _ (M : ℕ) (prog : Program) (o : Order) (t : Term) (ms : List Member) (b
         put_inside qs (λ x i. same x (or_right (q.target == x) _ (in_right (reads q.range) (constrained qs) x i))) h.1,
       )
 
-      seen_solution : IsSolution M b.equations b.posted vs seen_number
+      seen_solution : IsSolution M N b.equations b.posted vs seen_number
       seen_solution = record { bounded = number_low; unifier = look; unifies = heeds.unifies; given = number_given; posted = put_inside b.posted family_is v.closed.posted }
 
       -- a leaf shows its one solution
-      leaf_of : IsLeaf M prog vs (Comes o) IsReady Allows b
+      leaf_of : IsLeaf M N prog vs (Comes o) IsReady Allows b
       leaf_of = record {
         values = map seen_number vs;
         shown = record { unifier = s; family = D; view = v; values = map_shown look seen_number vs (λ y h. number_given y (in_left vs (constrained b.posted) y h)) };
@@ -172,15 +172,18 @@ module _ (M : ℕ) (prog : Program) (o : Order) (t : Term) (ms : List Member) (b
         only = λ ns h. h.2 ∙ map_same h.0 seen_number vs (λ y k. let e = seen_value h.0 h.1 y (pos (seen_number y)) k (number_given y (in_left vs (constrained b.posted) y k)) in pos_same (h.0 y) (seen_number y) (sym e));
       }
 
+    grounded : IsGrounded M N t ms base listed b
+    grounded = as_grounded b ready
+
     -- the list as it is read in the branch
     list_read : read_list (apply look t) ≡ read_members look ms
-    list_read = sym (ap read_list (through_term base look (ready.follows look heeds) t)) ∙ list_under look (apply base t) ms listed
+    list_read = read_as M N t ms base listed b s D grounded v
 
     -- nothing is picked: the rest of the goals
     module _ (ints : AllInts look vs) where
-      done_view : (s' : Substitution) (D' : Family) → IsView M b.equations b.posted s' D' → AllInts (look_in b s' D') vs
+      done_view : (s' : Substitution) (D' : Family) → IsView M N b.equations b.posted s' D' → AllInts (look_in b s' D') vs
       done_view s' D' v' =
-          let one = one_view M b.equations b.posted s s' D D' v v' in
+          let one = one_view M N b.equations b.posted s s' D D' v v' in
           subst (λ r. AllInts (look_in b r D') vs) one.0 (subst (λ E. AllInts (look_in b s E) vs) one.1 ints)
 
       done_ready : IsReady (with_goals b [])
@@ -195,7 +198,7 @@ module _ (M : ℕ) (prog : Program) (o : Order) (t : Term) (ms : List Member) (b
         finished = λ e. done_view;
       }
 
-      done_part : (cs : List Branch) → Kept M (with_goals b [] ∷ []) cs → Parted b cs
+      done_part : (cs : List Branch) → Kept M N (with_goals b [] ∷ []) cs → Parted b cs
       done_part cs (inl k) = subst (Parted b) (sym (k.1.1 ∙ ap (λ l. with_goals b [] ∷ l) k.1.2)) (record {
         good = (done_ready, tt);
         into = λ ns h. inl h;
@@ -207,90 +210,65 @@ module _ (M : ℕ) (prog : Program) (o : Order) (t : Term) (ms : List Member) (b
     -- x is picked: a child for each of its values
     module _ (x : ℕ) (picked : Picked o look vs x) where
       abbrev values : List ℕ
-      values = values_by M (set_at s D (constrained b.posted) x)
+      values = values_by N (set_at s D (constrained b.posted) x)
 
       abbrev child : ℕ → Branch
       child n = by_value b (Label o t ∷ []) x n
 
       open_self : s x ≡ Var x
-      open_self = let m = picked_among o look vs x picked in open_fixed M b s D v ready.consistent m.0 x (look_open M b s D v ready.consistent m.0 x m.2)
+      open_self = self_open M N t ms base listed b s D grounded v x (picked_among o look vs x picked)
 
-      values_of : (r : Option (List ℕ)) → set_at s D (constrained b.posted) x ≡ r → IsRising 0 M (values_by M r)
-      values_of None e = universe_rising M
-      values_of (Some xs) e = let f = set_found s D x (constrained b.posted) xs e in subst (IsRising 0 M) f.set (v.closed.family.rising f.variable)
+      values_of : (r : Option (List ℕ)) → set_at s D (constrained b.posted) x ≡ r → IsRising 0 N (values_by N r)
+      values_of None e = universe_rising N
+      values_of (Some xs) e = let f = set_found s D x (constrained b.posted) xs e in subst (IsRising 0 N) f.set (rising_within 0 M N (D f.variable) (v.closed.family.rising f.variable) (λ n h. v.closed.within f.variable n f.listed h))
 
-      rising : IsRising 0 M values
+      rising : IsRising 0 N values
       rising = values_of (set_at s D (constrained b.posted) x) refl
 
       -- a solution gives x the number of each variable that is seen as x
-      module _ (a : Assignment) (l : IsSolution M b.equations b.posted vs a) where
+      module _ (a : Assignment) (l : IsSolution M N b.equations b.posted vs a) where
         open_number : (y : ℕ) → has vs y ≡ true → look y ≡ Var x → l.unifier x ≡ Int (pos (a y))
         open_number y h e =
-            sym (ap (apply l.unifier) e) ∙ through_look M b s D v ready.consistent l.unifier (solution_heeds M b.equations b.posted vs a l) y ∙ given_listed M b.equations b.posted vs a l y h
+            sym (ap (apply l.unifier) e) ∙ through_look M N b s D v ready.consistent l.unifier (solution_heeds M N low b.equations b.posted vs a l) y ∙ given_listed M N low b.equations b.posted vs a l y h
 
-        value_by : (n : ℕ) (r : Option (List ℕ)) → n ≤ M → l.unifier x ≡ Int (pos n) → set_at s D (constrained b.posted) x ≡ r → has (values_by M r) n ≡ true
-        value_by n None h e i = in_universe M n h
+        value_by : (n : ℕ) (r : Option (List ℕ)) → n ≤ N → l.unifier x ≡ Int (pos n) → set_at s D (constrained b.posted) x ≡ r → has (values_by N r) n ≡ true
+        value_by n None h e i = in_universe N n h
         value_by n (Some xs) h e i =
             let f = set_found s D x (constrained b.posted) xs i in
-            let same : a f.variable ≡ n = int_number (a f.variable) n (sym (given_constrained M b.equations b.posted vs a l f.variable f.listed) ∙ sym (v.general.general l.unifier f.variable l.unifies) ∙ ap (apply l.unifier) f.term ∙ e) in
-            subst (λ k. has xs k ≡ true) same (subst (λ k. has k (a f.variable) ≡ true) f.set (solution_inside M b.equations b.posted vs a l s D v f.variable))
+            let same : a f.variable ≡ n = int_number (a f.variable) n (sym (given_constrained M N low b.equations b.posted vs a l f.variable f.listed) ∙ sym (v.general.general l.unifier f.variable l.unifies) ∙ ap (apply l.unifier) f.term ∙ e) in
+            subst (λ k. has xs k ≡ true) same (subst (λ k. has k (a f.variable) ≡ true) f.set (solution_inside M N low b.equations b.posted vs a l s D v f.variable))
 
-        more_solution : (n : ℕ) → l.unifier x ≡ Int (pos n) → IsSolution M (child n).equations (child n).posted vs a
+        more_solution : (n : ℕ) → l.unifier x ≡ Int (pos n) → IsSolution M N (child n).equations (child n).posted vs a
         more_solution n e = record { bounded = l.bounded; unifier = l.unifier; unifies = (e, l.unifies); given = l.given; posted = l.posted }
 
-      less_solution : (n : ℕ) (a : Assignment) → IsSolution M (child n).equations (child n).posted vs a → IsSolution M b.equations b.posted vs a
+      less_solution : (n : ℕ) (a : Assignment) → IsSolution M N (child n).equations (child n).posted vs a → IsSolution M N b.equations b.posted vs a
       less_solution n a l = record { bounded = l.bounded; unifier = l.unifier; unifies = l.unifies.1; given = l.given; posted = l.posted }
 
-      child_into : (cs : List Branch) → Kept M (map child values) cs → (ns : List ℕ) → Allows b ns → Somewhere (λ c. Allows c ns) cs
+      child_into : (cs : List Branch) → Kept M N (map child values) cs → (ns : List ℕ) → Allows b ns → Somewhere (λ c. Allows c ns) cs
       child_into cs k ns h =
           let m = picked_among o look vs x picked in
           let e = open_number h.0 h.1 m.0 m.1 m.2 in
           let l = more_solution h.0 h.1 (h.0 m.0) e in
-          kept_there M child (λ c. Allows c ns) values cs (h.0 m.0) (value_by h.0 h.1 (h.0 m.0) (set_at s D (constrained b.posted) x) (h.1.bounded m.0) e refl)
-          (solution_consistent M (child (h.0 m.0)).equations b.posted vs h.0 l) (h.0, l, h.2) k
+          kept_there M N child (λ c. Allows c ns) values cs (h.0 m.0) (value_by h.0 h.1 (h.0 m.0) (set_at s D (constrained b.posted) x) (h.1.bounded m.0) e refl)
+          (solution_consistent M N low (child (h.0 m.0)).equations b.posted vs h.0 l) (h.0, l, h.2) k
 
       weak : (n : ℕ) (u : Substitution) → Unifies u (child n).equations → Unifies u b.equations
       weak n u h = h.1
 
-      heeds_less : (n : ℕ) (u : Substitution) → Heeds M (child n).equations b.posted u → Heeds M b.equations b.posted u
-      heeds_less n u h = heeds_weaker M (child n).equations b.equations b.posted u (weak n) h
+      heeds_less : (n : ℕ) (u : Substitution) → Heeds M N (child n).equations b.posted u → Heeds M N b.equations b.posted u
+      heeds_less n u h = heeds_weaker M N (child n).equations b.equations b.posted u (weak n) h
 
       -- the unifier that gives x the number
-      inside_by : (n : ℕ) (y : ℕ) (z : ℤ) → has values n ≡ true → has vs y ≡ true → ((u : Substitution) → Unifies u (child n).equations → u y ≡ Int z) → (m : ℕ) × (m ≤ M) × (z ≡ pos m)
+      inside_by : (n : ℕ) (y : ℕ) (z : ℤ) → has values n ≡ true → has vs y ≡ true → ((u : Substitution) → Unifies u (child n).equations → u y ≡ Int z) → (m : ℕ) × (m ≤ N) × (z ≡ pos m)
       inside_by n y z i h all =
           let u = after (number_for x (pos n)) s in
           let e : apply (number_for x (pos n)) (s y) ≡ Int z = all u (ap (apply (number_for x (pos n))) open_self ∙ number_at x (pos n), still_unifies (number_for x (pos n)) s b.equations v.general.unifies) in
           elim (number_back x (pos n) z (s y) e) [
-            | inl k ↦ (n, has_high 0 M values n rising i, sym k.1)
+            | inl k ↦ (n, has_high 0 N values n rising i, sym k.1)
             | inr k ↦ ready.inside y z h (λ r j. sym (v.general.general r y j) ∙ ap (apply r) k)
           ]
 
-      -- some unifier of the child gives integers to all of them
-      unfoldable ground_at : ℕ → Substitution
-      ground_at n w = cond (w == x) (Int (pos n)) (ready.ground.0 w)
-
-      ground_here : (n : ℕ) → ground_at n x ≡ Int (pos n)
-      unfolding ground_at
-      ground_here n = rw (eq-eqb x x refl) refl
-
-      ground_var : (n w : ℕ) → IsInt (ready.ground.0 w) → IsInt (ground_at n w)
-      unfolding ground_at
-      ground_var n w h = elim (cases_Bool (w == x)) [ inl e ↦ (pos n, rw e refl) | inr e ↦ (h.0, rw e h.1) ]
-
-      ground_term : (n : ℕ) (r : Term) → IsInt (apply ready.ground.0 r) → IsInt (apply (ground_at n) r)
-      ground_term n (Var w) h = ground_var n w h
-      ground_term n (Int z) h = (z, refl)
-      ground_term n (Atom a) h = absurd (let e = h.1 in cc)
-      ground_term n (Comp f ts) h = absurd (let e = h.1 in cc)
-
-      child_ground : (n : ℕ) → (u : Substitution) × Unifies u (child n).equations × AllInts u vs
-      child_ground n = (
-        after (ground_at n) s,
-        (ap (apply (ground_at n)) open_self ∙ ground_here n, still_unifies (ground_at n) s b.equations v.general.unifies),
-        λ y h. ground_term n (s y) (let k = ready.ground.2 y h in (k.0, v.general.general ready.ground.0 y ready.ground.1 ∙ k.1)),
-      )
-
-      child_ready : (n : ℕ) → has values n ≡ true → IsConsistent M (child n).equations (child n).posted → IsReady (child n)
+      child_ready : (n : ℕ) → has values n ≡ true → IsConsistent M N (child n).equations (child n).posted → IsReady (child n)
       child_ready n i c = record {
         goals = inr refl;
         consistent = c;
@@ -298,16 +276,16 @@ module _ (M : ℕ) (prog : Program) (o : Order) (t : Term) (ms : List Member) (b
         settles = ready.settles;
         covered = λ w d. elim (ready.covered w d) [ inl h ↦ inl h | inr h ↦ inr (λ u j. h u (heeds_less n u j)) ];
         inside = λ y z h all. inside_by n y z i h all;
-        ground = child_ground n;
+        ground = child_ground M N t ms base listed b s D grounded v x (picked_among o look vs x picked) n;
         finished = λ e. absurd (cc);
       }
 
       -- a solution of the child for n gives n
-      child_number : (n : ℕ) (a : Assignment) → IsSolution M (child n).equations (child n).posted vs a → (y : ℕ) → has vs y ≡ true → look y ≡ Var x → a y ≡ n
+      child_number : (n : ℕ) (a : Assignment) → IsSolution M N (child n).equations (child n).posted vs a → (y : ℕ) → has vs y ≡ true → look y ≡ Var x → a y ≡ n
       unfolding less_solution
       child_number n a l y h e = int_number (a y) n (sym (open_number a (less_solution n a l) y h e) ∙ l.unifies.0)
 
-      module _ (m n : ℕ) (less : m < n) (a c : Assignment) (k : IsSolution M (child m).equations (child m).posted vs a) (l : IsSolution M (child n).equations (child n).posted vs c) where
+      module _ (m n : ℕ) (less : m < n) (a c : Assignment) (k : IsSolution M N (child m).equations (child m).posted vs a) (l : IsSolution M N (child n).equations (child n).posted vs c) where
         first_precedes : (ys : List ℕ) → ((y : ℕ) → has ys y ≡ true → has vs y ≡ true) → First look ys x → Precedes (map a ys) (map c ys)
         first_precedes [] inside h = h
         first_precedes (y ∷ ys) inside (inl e) =
@@ -330,78 +308,66 @@ module _ (M : ℕ) (prog : Program) (o : Order) (t : Term) (ms : List Member) (b
         comes Leftmost h = first_precedes vs (λ y i. i) h
         comes FirstFail h = differ h
 
-      children_order : (m n : ℕ) → m < n → Before M prog vs (Comes o) IsReady Allows (child m) (child n)
+      children_order : (m n : ℕ) → m < n → Before M N prog vs (Comes o) IsReady Allows (child m) (child n)
       children_order m n less is js h g = subst (λ l. Comes o l js) (sym h.2) (subst (Comes o (map h.0 vs)) (sym g.2) (comes m n less h.0 g.0 h.1 g.1 o picked))
 
-      picked_part : (cs : List Branch) → Kept M (map child values) cs → Parted b cs
+      picked_part : (cs : List Branch) → Kept M N (map child values) cs → Parted b cs
       picked_part cs k = record {
-        good = kept_each M child IsReady values cs child_ready k;
+        good = kept_each M N child IsReady values cs child_ready k;
         into = child_into cs k;
-        out = kept_each M child (λ c. (ns : List ℕ) → Allows c ns → Allows b ns) values cs (λ n i c ns h. (h.0, less_solution n h.0 h.1, h.2)) k;
-        order = kept_order M child (Before M prog vs (Comes o) IsReady Allows) 0 M values cs children_order rising k;
+        out = kept_each M N child (λ c. (ns : List ℕ) → Allows c ns → Allows b ns) values cs (λ n i c ns h. (h.0, less_solution n h.0 h.1, h.2)) k;
+        order = kept_order M N child (Before M N prog vs (Comes o) IsReady Allows) 0 N values cs children_order rising k;
       }
 
-    by_picked : (r : Option ℕ) (new : List Member) → read_members look ms ≡ Ok new → pick o (λ x. values_by M (set_at s D (constrained b.posted) x)) new ≡ r
-        → (cs : List Branch) → KeptOffer M (by_pick (λ x. values_by M (set_at s D (constrained b.posted) x)) b (Label o t) [] r) (Gives cs) → Parted b cs
+    by_picked : (r : Option ℕ) (new : List Member) → read_members look ms ≡ Ok new → pick o (λ x. values_by N (set_at s D (constrained b.posted) x)) new ≡ r
+        → (cs : List Branch) → KeptOffer M N (by_pick (λ x. values_by N (set_at s D (constrained b.posted) x)) b (Label o t) [] r) (Gives cs) → Parted b cs
     by_picked None new e h cs k = done_part (pick_none o _ look ms new e h) cs k
     by_picked (Some x) new e h cs k = picked_part x (pick_some o _ look ms new x e h) cs k
 
-    by_listed : (r : Result (List Member) QueryFault) → read_list (apply look t) ≡ r → (cs : List Branch) → KeptOffer M (by_listing (λ x. values_by M (set_at s D (constrained b.posted) x)) b o (Label o t) [] r) (Gives cs) → Parted b cs
+    by_listed : (r : Result (List Member) QueryFault) → read_list (apply look t) ≡ r → (cs : List Branch) → KeptOffer M N (by_listing (λ x. values_by N (set_at s D (constrained b.posted) x)) b o (Label o t) [] r) (Gives cs) → Parted b cs
     by_listed (Err f) e cs k = absurd k
-    by_listed (Ok new) e cs k = by_picked (pick o (λ x. values_by M (set_at s D (constrained b.posted) x)) new) new (sym list_read ∙ e) refl cs k
+    by_listed (Ok new) e cs k = by_picked (pick o (λ x. values_by N (set_at s D (constrained b.posted) x)) new) new (sym list_read ∙ e) refl cs k
 
-  pub leaf : (b : Branch) (s : Substitution) (D : Family) → IsReady b → b.goals ≡ [] → IsView M b.equations b.posted s D → IsLeaf M prog vs (Comes o) IsReady Allows b
+  pub leaf : (b : Branch) (s : Substitution) (D : Family) → IsReady b → b.goals ≡ [] → IsView M N b.equations b.posted s D → IsLeaf M N prog vs (Comes o) IsReady Allows b
   leaf b s D ready e v = leaf_of b s D ready v (ready.finished e s D v)
 
-  pub part : (b : Branch) (g : Goal) (rest : List Goal) (s : Substitution) (D : Family) (cs : List Branch) → IsReady b → b.goals ≡ g ∷ rest → Children M prog b g rest s D (Gives cs) → Parted b cs
-  part b g rest s D cs ready e c = elim ready.goals [
+  pub part : (m : ℕ) (b : Branch) (g : Goal) (rest : List Goal) (s : Substitution) (D : Family) (cs : List Branch) → IsReady b → b.goals ≡ g ∷ rest → Children M N prog m b g rest s D (Gives cs) → Parted b cs
+  part m b g rest s D cs ready e c = elim ready.goals [
     | inl h ↦ absurd (let k = sym e ∙ h in cc)
     | inr h ↦
         let heads : g ∷ rest ≡ Label o t ∷ [] = sym e ∙ h in
         let one : g ≡ Label o t = cc in
         let others : rest ≡ [] = cc in
-        let kept : KeptOffer M (offer M prog (look_in b s D) (sets_in b s D) b (Label o t) []) (Gives cs) =
-        subst (λ r. KeptOffer M (offer M prog (look_in b s D) (sets_in b s D) b (Label o t) r) (Gives cs)) others (subst (λ f. KeptOffer M (offer M prog (look_in b s D) (sets_in b s D) b f rest) (Gives cs)) one c.kept) in
+        let kept : KeptOffer M N (offer M N m prog (look_in b s D) (sets_in b s D) b (Label o t) []) (Gives cs) =
+        subst (λ r. KeptOffer M N (offer M N m prog (look_in b s D) (sets_in b s D) b (Label o t) r) (Gives cs)) others (subst (λ f. KeptOffer M N (offer M N m prog (look_in b s D) (sets_in b s D) b f rest) (Gives cs)) one c.kept) in
         by_listed b s D ready c.view (read_list (apply (look_in b s D) t)) refl cs kept
   ]
 
   -- the list of a branch of the labelling is read without fault
-  plain_term : (u : Substitution) (r : Term) → IsInt (apply u r) → ((w : ℕ) × (r ≡ Var w)) ⊎ IsInt r
-  plain_term u (Var w) h = inl (w, refl)
-  plain_term u (Int z) h = inr (z, refl)
-  plain_term u (Atom a) h = absurd (let e = h.1 in cc)
-  plain_term u (Comp f ts) h = absurd (let e = h.1 in cc)
-
-  plain_option : (w : ℕ) (r : Option (List ℕ)) → ((y : ℕ) × (by_set r w ≡ Var y)) ⊎ IsInt (by_set r w)
-  plain_option w (Some (n ∷ [])) = inr (pos n, refl)
-  plain_option w _ = inl (w, refl)
-
-  module _ (b : Branch) (s : Substitution) (D : Family) (ready : IsReady b) (v : IsView M b.equations b.posted s D) where
-    seen_plain : (y : ℕ) → has vs y ≡ true → ((w : ℕ) × (look_in b s D y ≡ Var w)) ⊎ IsInt (look_in b s D y)
-    seen_plain y h =
-        let k = ready.ground.2 y h in
-        let single : Substitution = λ w. by_set (set_at s D (constrained b.posted) w) w in
-        elim (plain_term ready.ground.0 (s y) (k.0, v.general.general ready.ground.0 y ready.ground.1 ∙ k.1)) [
-          | inl e ↦ elim (plain_option e.0 (set_at s D (constrained b.posted) e.0)) [ inl g ↦ inl (g.0, ap (apply single) e.1 ∙ g.1) | inr g ↦ inr (g.0, ap (apply single) e.1 ∙ g.1) ]
-          | inr e ↦ inr (e.0, ap (apply single) e.1)
-        ]
-
-    no_listing : (r : Result (List Member) QueryFault) (f : QueryFault) → read_list (apply (look_in b s D) t) ≡ r → KeptOffer M (by_listing (λ x. values_by M (set_at s D (constrained b.posted) x)) b o (Label o t) [] r) (Faults f) → ⊥
-    no_listing (Err g) f e k = let n = plain_members (look_in b s D) ms seen_plain in let same : Err g ≡ Ok n.0 = sym e ∙ list_read b s D ready v ∙ n.1 in cc
-    no_listing (Ok new) f e k = no_pick (pick o (λ x. values_by M (set_at s D (constrained b.posted) x)) new) k
+  module _ (b : Branch) (s : Substitution) (D : Family) (ready : IsReady b) (v : IsView M N b.equations b.posted s D) where
+    no_listing : (r : Result (List Member) QueryFault) (f : QueryFault) → read_list (apply (look_in b s D) t) ≡ r → KeptOffer M N (by_listing (λ x. values_by N (set_at s D (constrained b.posted) x)) b o (Label o t) [] r) (Faults f) → ⊥
+    no_listing (Err g) f e k = let n = is_read M N t ms base listed b s D (as_grounded b ready) v in let same : Err g ≡ Ok n.0 = sym e ∙ list_read b s D ready v ∙ n.1 in cc
+    no_listing (Ok new) f e k = no_pick (pick o (λ x. values_by N (set_at s D (constrained b.posted) x)) new) k
       where
-        no_pick : (r : Option ℕ) → KeptOffer M (by_pick (λ x. values_by M (set_at s D (constrained b.posted) x)) b (Label o t) [] r) (Faults f) → ⊥
+        no_pick : (r : Option ℕ) → KeptOffer M N (by_pick (λ x. values_by N (set_at s D (constrained b.posted) x)) b (Label o t) [] r) (Faults f) → ⊥
         no_pick None h = h
         no_pick (Some x) h = h
 
-  pub no_fault : (b : Branch) (g : Goal) (rest : List Goal) (s : Substitution) (D : Family) (f : QueryFault) → IsReady b → b.goals ≡ g ∷ rest → Children M prog b g rest s D (Faults f) → ⊥
-  no_fault b g rest s D f ready e c = elim ready.goals [
+  pub no_fault : (m : ℕ) (b : Branch) (g : Goal) (rest : List Goal) (s : Substitution) (D : Family) (f : QueryFault) → IsReady b → b.goals ≡ g ∷ rest → Children M N prog m b g rest s D (Faults f) → ⊥
+  no_fault m b g rest s D f ready e c = elim ready.goals [
     | inl h ↦ let k = sym e ∙ h in cc
     | inr h ↦
         let heads : g ∷ rest ≡ Label o t ∷ [] = sym e ∙ h in
         let one : g ≡ Label o t = cc in
         let others : rest ≡ [] = cc in
-        let kept : KeptOffer M (offer M prog (look_in b s D) (sets_in b s D) b (Label o t) []) (Faults f) =
-        subst (λ r. KeptOffer M (offer M prog (look_in b s D) (sets_in b s D) b (Label o t) r) (Faults f)) others (subst (λ i. KeptOffer M (offer M prog (look_in b s D) (sets_in b s D) b i rest) (Faults f)) one c.kept) in
+        let kept : KeptOffer M N (offer M N m prog (look_in b s D) (sets_in b s D) b (Label o t) []) (Faults f) =
+        subst (λ r. KeptOffer M N (offer M N m prog (look_in b s D) (sets_in b s D) b (Label o t) r) (Faults f)) others (subst (λ i. KeptOffer M N (offer M N m prog (look_in b s D) (sets_in b s D) b i rest) (Faults f)) one c.kept) in
         no_listing b s D ready c.view (read_list (apply (look_in b s D) t)) f refl kept
+  ]
+
+  -- a labelling keeps the other branches
+  pub whole : (b : Branch) (g : Goal) (rest : List Goal) → IsReady b → b.goals ≡ g ∷ rest → (m : ℕ) → kept_by m g ≡ m
+  whole b g rest ready e m = elim ready.goals [
+    | inl h ↦ absurd (let k = sym e ∙ h in cc)
+    | inr h ↦ let heads : g ∷ rest ≡ Label o t ∷ [] = sym e ∙ h in let one : g ≡ Label o t = cc in ap (kept_by m) one
   ]

@@ -13,25 +13,25 @@ use Rattle.fd_model.specs.Linear.{IsAtMost}
 use Rattle.fd_model.specs.LinearRows.{Expansion, linear_rows}
 use Rattle.fd_model.specs.Members.{Member, as_member, as_integer, prepend, walk, after, placed}
 use Rattle.fd_model.specs.ListRows.{against, pairwise, different_ranges, different_rows, where_is, union_onto, union_of, elements_at, index_ranges, element_ranges, counted, counts, units}
-use Rattle.fd_model.specs.Constraining.{expand, all_different}
-use Rattle.fd_model.specs.ConstraintLaws.{HasIntegers, HaveIntegers, HasShortLists, cells, AcceptedRows}
+use Rattle.fd_model.specs.Constraining.{basic, all_different}
+use Rattle.fd_model.specs.ConstraintLaws.{HasIntegers, HaveIntegers, HasShortLists, cells}
 use Rattle.fd_model.proofs.Collecting.{one_ok, both_ok, test_ok}
 use Rattle.fd_model.proofs.Choosing.{element_ok}
 use Rattle.fd_model.proofs.Counters.{atmost_ok, units_nonzero}
 use Rattle.fd_model.proofs.RowWidths.{under, weight, AreNarrow}
 use Rattle.fd_model.proofs.CompareWidths.{Within, form_within, compare_within}
-use Rattle.fd_model.proofs.RowDirections.{Fitting, expand_fitting}
+use Rattle.fd_model.proofs.RowDirections.{Fitting}
 
 -- integers far below the limit
 abbrev pub AllSmall : List ℤ → Type 0
 AllSmall [] = Unit {0}
 AllSmall (z ∷ zs) = (nat_abs z < 2 ^ 66) × AllSmall zs
 
-module _ (M : ℕ) (small : M < 2 ^ 24) where
-  limit : not (over_limit M) ≡ true
+module _ (M : ℕ) (small : M < 2 ^ 28) where
+  pub limit : not (over_limit M) ≡ true
   limit = under M (omega arith)
 
-  append_within : (ps qs : List Indexical) → Within M small ps → Within M small qs → Within M small (ps ++ qs)
+  pub append_within : (ps qs : List Indexical) → Within M small ps → Within M small qs → Within M small (ps ++ qs)
   append_within [] qs h g = g
   append_within (p ∷ ps) qs h g = (h.0, append_within ps qs h.1 g)
 
@@ -82,17 +82,17 @@ module _ (M : ℕ) (small : M < 2 ^ 24) where
   element_within i x zs s l =
       (union_within (elements_at i 1 zs) (elements_within i 1 zs s (omega arith)), (union_within (index_ranges x 1 zs) (numbers_within x 1 zs s (omega arith)), tt))
 
-  square : (M + 1) * (M + 1) ≤ 2 ^ 24 * 2 ^ 24
+  square : (M + 1) * (M + 1) ≤ 2 ^ 28 * 2 ^ 28
   square = mul-le-mul at_most at_most where
-    at_most : M + 1 ≤ 2 ^ 24
+    at_most : M + 1 ≤ 2 ^ 28
     at_most = omega arith
 
-  times_beyond : M * (M + 1) ≤ 2 ^ 24 * 2 ^ 24
+  times_beyond : M * (M + 1) ≤ 2 ^ 28 * 2 ^ 28
   times_beyond = mul-le-mul less at_most where
-    less : M ≤ 2 ^ 24
+    less : M ≤ 2 ^ 28
     less = omega arith
 
-    at_most : M + 1 ≤ 2 ^ 24
+    at_most : M + 1 ≤ 2 ^ 28
     at_most = omega arith
 
   counted_within : (v : ℤ) (x c : ℕ) → nat_abs v < 2 ^ 66 → range_within M (counted v x c).range ≡ true
@@ -131,12 +131,12 @@ module _ (M : ℕ) (small : M < 2 ^ 24) where
   sum_within xs z m n l h =
       form_within M small IsAtMost (units xs m) z n (units_nonzero xs m) (units_narrow xs m)
       (together (nat_abs z) (weight M (units xs m)) (length xs * M) h (units_weight xs m) (most (length xs) l)) where
-        most : (k : ℕ) → k ≤ 2 ^ 64 → k * M ≤ 2 ^ 64 * 2 ^ 24
+        most : (k : ℕ) → k ≤ 2 ^ 64 → k * M ≤ 2 ^ 64 * 2 ^ 28
         most k l = mul-le-mul l less where
-          less : M ≤ 2 ^ 24
+          less : M ≤ 2 ^ 28
           less = omega arith
 
-        together : (a b c : ℕ) → a ≤ 2 ^ 63 → b ≡ c → c ≤ 2 ^ 64 * 2 ^ 24 → a + b < 2 ^ 126
+        together : (a b c : ℕ) → a ≤ 2 ^ 63 → b ≡ c → c ≤ 2 ^ 64 * 2 ^ 28 → a + b < 2 ^ 126
         together a b c h e g = omega arith
 
 -- the integers that are read
@@ -178,21 +178,21 @@ length-placed : (ms : List Member) (n : ℕ) → length (placed n ms) ≡ length
 length-placed [] n = refl
 length-placed (m ∷ ms) n = ap suc (length-placed ms (after n m))
 
-module _ (M : ℕ) (small : M < 2 ^ 24) where
+module _ (M : ℕ) (small : M < 2 ^ 28) where
   all_different_within : (l : Term) (n : ℕ) (x : Expansion) → all_different l n ≡ Ok x → Within M small x.ranges
   all_different_within l n x h =
       let k = one_ok (λ ms. Ok (different_rows ms n)) (walk as_member l) x h in
       let e : different_rows k.0 n ≡ x = cc (k.2) in
       subst (λ y. Within M small y.ranges) e (different_within M small (placed n k.0))
 
-  pub expand_within : (kind : ConstraintKind) (ts : Terms) (n : ℕ) (x : Expansion) → HaveIntegers ts → HasShortLists kind ts → expand kind ts n ≡ Ok x → Within M small x.ranges
-  expand_within (Compare r) (term a (term b no_terms)) n x i s h = compare_within M small r a b n x h
-  expand_within AllDifferent (term l no_terms) n x i s h = all_different_within l n x h
-  expand_within Element (term a (term l (term v no_terms))) n x i s h =
+  pub basic_within : (kind : ConstraintKind) (ts : Terms) (n : ℕ) (x : Expansion) → HaveIntegers ts → HasShortLists kind ts → basic kind ts n ≡ Ok x → Within M small x.ranges
+  basic_within (Compare r) (term a (term b no_terms)) n x i s h = compare_within M small r a b n x h
+  basic_within AllDifferent (term l no_terms) n x i s h = all_different_within l n x h
+  basic_within Element (term a (term l (term v no_terms))) n x i s h =
       let k = element_ok a l v n x h in
       let e = elements_small l k.elements i.1.0 k.from_list in
       subst (λ y. Within M small y.ranges) k.rows (element_within M small _ _ k.elements e.all_small (let f = e.count in omega arith))
-  expand_within Atmost (term m (term l (term v no_terms))) n x i s h =
+  basic_within Atmost (term m (term l (term v no_terms))) n x i s h =
       let k = atmost_ok m l v n x h in
       let xs = placed n k.members in
       let c = members_count l k.members k.from_list in
@@ -201,12 +201,9 @@ module _ (M : ℕ) (small : M < 2 ^ 24) where
       let w = integer_small v k.value i.1.1.0 k.from_value in
       subst (λ y. Within M small y.ranges) k.rows
       (append_within M small (counts k.value xs _) _ (counts_within M small k.value xs _ (omega arith)) (sum_within M small xs k.limit _ _ (omega arith) (omega arith)))
-  expand_within _ _ n x i s h = absurd (cc)
+  basic_within _ _ n x i s h = absurd (cc)
 
   -- rows that fit the table and the width are accepted
   pub all_accepted : (ps : List Indexical) → Fitting M ps → Within M small ps → AllPosted (λ p. is_accepted M p.range ≡ true) ps
   all_accepted [] f w = tt
   all_accepted (p ∷ ps) f w = (let a = f.0.fits in let b = f.0.params in let c = w.0 in rw (c, a, b) refl, all_accepted ps f.1 w.1)
-
-pub accepted_rows : AcceptedRows
-accepted_rows M kind ts n x small i s h = all_accepted M small x.ranges (expand_fitting M kind ts n x h) (expand_within M small kind ts n x i s h)

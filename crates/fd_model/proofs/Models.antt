@@ -11,27 +11,27 @@ use Rattle.fd_model.specs.Models.{IsModel}
 use Rattle.fd_language.proofs.Lemmas.{rising_same, solved, Solved}
 use Rattle.fd_model.proofs.Closing.{closed_either}
 
-pub consistent_from : (M : ℕ) (es : List Equation) (ps : List Indexical) (S : Family) → IsModel M es ps S → IsConsistent M es ps
-consistent_from M es ps S m = record {
+pub consistent_from : (M N : ℕ) (es : List Equation) (ps : List Indexical) (S : Family) → IsModel M N es ps S → IsConsistent M N es ps
+consistent_from M N es ps S m = record {
   unifier = m.unifier;
   general = m.general;
   some = λ x c. (let f = m.full x c in (f.0, record { unifier = m.unifier; general = m.general; family = S; closed = m.closed; member = f.1 }));
 }
 
 -- the family of a consistent branch's view is a model, and contains each
-pub view_model : (M : ℕ) (es : List Equation) (ps : List Indexical) (s : Substitution) (D : Family) → IsView M es ps s D → IsConsistent M es ps → IsModel M es ps D
-view_model M es ps s D v c = record {
+pub view_model : (M N : ℕ) (es : List Equation) (ps : List Indexical) (s : Substitution) (D : Family) → IsView M N es ps s D → IsConsistent M N es ps → IsModel M N es ps D
+view_model M N es ps s D v c = record {
   unifier = s;
   general = v.general;
   closed = v.closed;
-  full = λ x k. (let f = c.some x k in (f.0, ((v.contains f.1.family (closed_either M es s f.1.unifier ps f.1.family v.general f.1.general f.1.closed)).at x).each f.0 f.1.member));
+  full = λ x k. (let f = c.some x k in (f.0, ((v.contains f.1.family (closed_either M N es s f.1.unifier ps f.1.family v.general f.1.general f.1.closed)).at x).each f.0 f.1.member));
 }
 
-pub in_view : (M : ℕ) (es : List Equation) (ps : List Indexical) (s : Substitution) (D S : Family) → IsView M es ps s D → IsModel M es ps S → (x n : ℕ) → has (S x) n ≡ true → has (D x) n ≡ true
-in_view M es ps s D S v m x n h = ((v.contains S (closed_either M es s m.unifier ps S v.general m.general m.closed)).at x).each n h
+pub in_view : (M N : ℕ) (es : List Equation) (ps : List Indexical) (s : Substitution) (D S : Family) → IsView M N es ps s D → IsModel M N es ps S → (x n : ℕ) → has (S x) n ≡ true → has (D x) n ≡ true
+in_view M N es ps s D S v m x n h = ((v.contains S (closed_either M N es s m.unifier ps S v.general m.general m.closed)).at x).each n h
 
 -- variables with one term have one set
-module _ (M : ℕ) (es : List Equation) (ps : List Indexical) (S : Family) (m : IsModel M es ps S) where
+module _ (M N : ℕ) (es : List Equation) (ps : List Indexical) (S : Family) (m : IsModel M N es ps S) where
   pos_same : (n k : ℕ) → pos n ≡ pos k → n ≡ k
   pos_same n k e = cc
 
@@ -60,8 +60,8 @@ has_general es u h (inl g) = g
 has_general es u h (inr n) = absurd (n u h)
 
 -- with weaker equations a model stays one
-pub weaker : (M : ℕ) (es ds : List Equation) (ps : List Indexical) (S : Family) → ((u : Substitution) → Unifies u es → Unifies u ds) → IsModel M es ps S → IsModel M ds ps S
-weaker M es ds ps S weak m =
+pub weaker : (M N : ℕ) (es ds : List Equation) (ps : List Indexical) (S : Family) → ((u : Substitution) → Unifies u es → Unifies u ds) → IsModel M N es ps S → IsModel M N ds ps S
+weaker M N es ds ps S weak m =
     let found = has_general ds m.unifier (weak m.unifier m.general.unifies) (solved ds) in
     let through : (v : ℕ) (t : Term) → found.0 v ≡ t → m.unifier v ≡ apply m.unifier t = λ v t e. sym (found.1.general m.unifier v (weak m.unifier m.general.unifies)) ∙ ap (apply m.unifier) e in
     record {
@@ -71,9 +71,10 @@ weaker M es ds ps S weak m =
         family = m.closed.family;
         posted = m.closed.posted;
         values = λ v z n c e h. m.closed.values v z n c (through v (Int z) e) h;
-        same = λ v w x c d e f. one_term M es ps S m v w (m.unifier x) c d (through v (Var x) e) (through w (Var x) f);
+        same = λ v w x c d e f. one_term M N es ps S m v w (m.unifier x) c d (through v (Var x) e) (through w (Var x) f);
         atoms = λ v a c e. m.closed.atoms v a c (through v (Atom a) e);
         compounds = λ v f ts c e. m.closed.compounds v f (apply_all m.unifier ts) c (through v (Comp f ts) e);
+        within = m.closed.within;
       };
       full = m.full;
     }

@@ -1,7 +1,7 @@
 -- Where what is not added has one value, so have all the variables that a constraint's ranges name.
-use Rattle.std.proofs.Common.{◌≡◌, ℕ, suc, ◌+◌, ◌≤◌, ◌<◌, Bool, true, false, cond, ◌||◌, ◌==◌, ℤ, pos, List, [], ◌∷◌, length, refl, sym, ◌∙◌, subst, inl, inr, ◌⊎◌, arith, eqb-true, eq-eqb, Ok}
+use Rattle.std.proofs.Common.{◌≡◌, ℕ, suc, ◌+◌, ◌≤◌, ◌<◌, Bool, true, false, cond, ◌||◌, ◌==◌, ℤ, pos, List, [], ◌∷◌, length, refl, sym, ◌∙◌, subst, inl, inr, ◌⊎◌, arith, eq-eqb, Ok}
 use Rattle.std.proofs.lemmas.Int.{ints}
-use Rattle.std.proofs.lemmas.Bool.{or_cases, or_left, or_right, true≢false}
+use Rattle.std.proofs.lemmas.Bool.{or_left, or_right}
 use Rattle.fd_model.specs.declared.kinds.Relation.{Relation}
 use Rattle.fd_model.specs.declared.kinds.ConstraintKind.{ConstraintKind}
 use Rattle.fd_model.specs.declared.kinds.ConstraintKind.TheVariants.{Compare, AllDifferent, Element, Atmost}
@@ -15,9 +15,9 @@ use Rattle.fd_model.specs.Linear.{Comparison, IsAtMost, comparison, normal}
 use Rattle.fd_model.specs.LinearRows.{Expansion, linear_rows, compares, no_number}
 use Rattle.fd_model.specs.Members.{Member, Open, Known, as_member, walk, place_of, after, placed, fresh_after, equated_from}
 use Rattle.fd_model.specs.ListRows.{different_rows, element_rows, counter, counted, counts, units, atmost_rows}
-use Rattle.fd_model.specs.Constraining.{compare, all_different, element, atmost, expand}
+use Rattle.fd_model.specs.Constraining.{compare, all_different, element, atmost, basic}
 use Rattle.fd_model.specs.Satisfies.{Assignment, singles}
-use Rattle.fd_model.specs.ConstraintLaws.{AllEquatedIn, AllFresh, IsSettled, Determined}
+use Rattle.fd_model.specs.ConstraintLaws.{IsSettled}
 use Rattle.fd_model.specs.Ways.{is_equated}
 use Rattle.fd_language.proofs.Lemmas.{has_high, has-filter_back, set_agree, each_map}
 use Rattle.fd_model.proofs.Collecting.{one_ok}
@@ -26,10 +26,9 @@ use Rattle.fd_model.proofs.Singles.{set_singles}
 use Rattle.fd_model.proofs.Placing.{MembersBelow, member_read, members_read}
 use Rattle.fd_model.proofs.Choosing.{element_ok, where_is_test, other_is}
 use Rattle.fd_model.proofs.Counters.{atmost_ok, unit, test_count}
-use Rattle.fd_model.proofs.Determining.{NamesIn, single_from, IsOne, AllNamed, determined_by}
+use Rattle.fd_model.proofs.Determining.{NamesIn, single_from, IsOne}
 use Rattle.fd_model.proofs.RowNames.{AllVars, rows_names, each_below, collect_vars, normal_vars}
 use Rattle.fd_model.proofs.ListNames.{posted_left, posted_right, named_left, named_right, names_append, none_named, one_named, different_names, named_either, element_names, AllAdded, counts_names, named_counts, units_vars}
-use Rattle.fd_model.proofs.RowScopes.{scoped_rows}
 
 none_empty : (M n : ℕ) (S : Family) (ps : List Indexical) → IsSettled M (record { equated = []; ranges = record { target = n; range = no_number } ∷ ps; fresh = suc n }) S → ⊥
 none_empty M n S ps s =
@@ -45,7 +44,7 @@ vars_below n P f (t ∷ ts) h = (f t.0 h.0, vars_below n P f ts h.1)
 -- added variables
 module _ (M : ℕ) (S : Family) (family : IsFamily M S) where
   -- an equated variable has its integer alone
-  one_integer : (v : ℕ) (z : ℤ) → ((k : ℕ) → has (S v) k ≡ true → pos k ≡ z) → (j : ℕ) → has (S v) j ≡ true → IsOne S v
+  pub one_integer : (v : ℕ) (z : ℤ) → ((k : ℕ) → has (S v) k ≡ true → pos k ≡ z) → (j : ℕ) → has (S v) j ≡ true → IsOne S v
   one_integer v z f j h = (j, single_from 0 M j (S v) (family.rising v) h (λ i g. let d = f i g in let e = f j h in omega (arith, ints)))
 
   -- a counter has one value where its variable has
@@ -103,10 +102,10 @@ module _ (M n : ℕ) (S : Family) (family : IsFamily M S) where
       → ((v : ℕ) → has (constrained x.ranges) v ≡ true → IsOld n x.equated v → IsOne S v) → NamesIn (IsOne S) x.ranges
 
   -- one value, if the ranges name it
-  abbrev IfNamed : Expansion → ℕ → Type 0
+  abbrev pub IfNamed : Expansion → ℕ → Type 0
   IfNamed x v = has (constrained x.ranges) v ≡ true → IsOne S v
 
-  names_all : (x : Expansion) → NamesIn (IfNamed x) x.ranges → NamesIn (IsOne S) x.ranges
+  pub names_all : (x : Expansion) → NamesIn (IfNamed x) x.ranges → NamesIn (IsOne S) x.ranges
   names_all x h v e = h v e e
 
   form_one : (k : Comparison) (ts : List (ℕ × ℤ)) (c : ℤ) (m : ℕ) → AllVars (λ v. v < n) ts → HasOne (linear_rows k ts c m)
@@ -121,7 +120,7 @@ module _ (M n : ℕ) (S : Family) (family : IsFamily M S) where
       let m = normal r g.linear in
       subst HasOne g.rows (form_one (comparison r) m.products m.constant n (normal_vars (λ v. v < n) r g.linear (collect_vars (λ v. v < n) s t g.linear (each_below n s ks) (each_below n t kt) g.collected)))
 
-  placed_one : (ms : List Member) (x : Expansion) → x.equated ≡ equated_from n ms → MembersBelow n ms → ((v : ℕ) → has (constrained x.ranges) v ≡ true → IsOld n x.equated v → IsOne S v) → Each (IfNamed x) (placed n ms)
+  pub placed_one : (ms : List Member) (x : Expansion) → x.equated ≡ equated_from n ms → MembersBelow n ms → ((v : ℕ) → has (constrained x.ranges) v ≡ true → IsOld n x.equated v → IsOne S v) → Each (IfNamed x) (placed n ms)
   placed_one ms x e b old = each_map (IsOld n (equated_from n ms)) (IfNamed x) (λ v h i. old v i (subst (λ es. IsOld n es v) (sym e) h)) (placed n ms) (placed_old n ms n b)
 
   different_one : (l : Term) (x : Expansion) → TermBelow n l → all_different l n ≡ Ok x → HasOne x
@@ -160,31 +159,9 @@ module _ (M n : ℕ) (S : Family) (family : IsFamily M S) where
       names_append (IsOne S) ps qs (counts_names (IsOne S) g.value xs k ones counters)
       (sum_names M S family (IsOne S) xs k g.limit (k + length xs) counters (posted_right H ps qs posted) (λ u e. some u (named_right ps qs u e))))
 
-  pub expand_one : (kind : ConstraintKind) (ts : Terms) (x : Expansion) → TermsBelow n ts → expand kind ts n ≡ Ok x → HasOne x
-  expand_one (Compare r) (term s (term t no_terms)) x b h = compare_one r s t x b.0 b.1.0 h
-  expand_one AllDifferent (term l no_terms) x b h = different_one l x b.0 h
-  expand_one Element (term i (term l (term v no_terms))) x b h = element_one i l v x b.0 b.1.1.0 h
-  expand_one Atmost (term m (term l (term v no_terms))) x b h = atmost_one m l v x b.1.0 h
-  expand_one _ _ x b h = absurd (cc)
-
--- ---- the law
-
-equated_value : (S : Family) (es : List (ℕ × ℤ)) (v : ℕ) → AllEquatedIn S es → is_equated es v ≡ true → (z : ℤ) × ((k : ℕ) → has (S v) k ≡ true → pos k ≡ z)
-equated_value S [] v h c = absurd (true≢false (sym c))
-equated_value S (e ∷ es) v h c = elim (or_cases (e.0 == v) (is_equated es v) c) [
-  | inl i ↦ (e.1, subst (λ w. (k : ℕ) → has (S w) k ≡ true → pos k ≡ e.1) (eqb-true e.0 v i) h.0)
-  | inr i ↦ equated_value S es v h.1 i
-]
-
-fresh_named : (n m : ℕ) (x : Expansion) (es : List (ℕ × ℤ)) → AllFresh n m x.ranges es → AllNamed es x.ranges
-fresh_named n m x [] h = tt
-fresh_named n m x (e ∷ es) h = (h.0.2, fresh_named n m x es h.1)
-
-pub determined : Determined
-determined M kind ts n x S a below small h settled single =
-    let old : (v : ℕ) → has (constrained x.ranges) v ≡ true → IsOld n x.equated v → IsOne S v = λ v e o. elim o [
-      | inl l ↦ (a v, single v l e)
-      | inr c ↦ let g = equated_value S x.equated v settled.values c in let j = settled.some v e in one_integer M S settled.family v g.0 g.1 j.0 j.1
-    ] in
-    let one = expand_one M n S settled.family kind ts x below h settled.posted settled.some old in
-    determined_by M n a S small settled.family x settled (λ v e l. single v l e) (λ v e l. one v e) (fresh_named n x.fresh x x.equated (scoped_rows kind ts n x h).equated)
+  pub basic_one : (kind : ConstraintKind) (ts : Terms) (x : Expansion) → TermsBelow n ts → basic kind ts n ≡ Ok x → HasOne x
+  basic_one (Compare r) (term s (term t no_terms)) x b h = compare_one r s t x b.0 b.1.0 h
+  basic_one AllDifferent (term l no_terms) x b h = different_one l x b.0 h
+  basic_one Element (term i (term l (term v no_terms))) x b h = element_one i l v x b.0 b.1.1.0 h
+  basic_one Atmost (term m (term l (term v no_terms))) x b h = atmost_one m l v x b.1.0 h
+  basic_one _ _ x b h = absurd (cc)

@@ -3,8 +3,8 @@ use Rattle.std.proofs.Common.{◌≡◌, ℕ, suc, ◌+◌, ◌<◌, ◌≤◌, 
 use Rattle.std.proofs.lemmas.Bool.{or_cases, or_left, or_right, cases_Bool, true≢false}
 use Rattle.fd_language.specs.Term.{Term, Var, Int, Atom, Comp, Substitution, apply}
 use Rattle.fd_language.specs.Unifier.{Equation}
-use Rattle.fd_language.specs.Family.{has, universe}
-use Rattle.fd_language.specs.Range.{Range, Indexical, reads, set_of, in_set}
+use Rattle.fd_language.specs.Family.{has}
+use Rattle.fd_language.specs.Range.{Range, Indexical, reads, set_of}
 use Rattle.fd_model.specs.Closed.{constrained}
 use Rattle.fd_language.specs.Check.{fill_range}
 use Rattle.fd_language.specs.Needs.{need_of}
@@ -15,7 +15,7 @@ use Rattle.fd_model.specs.Goal.{Goal, Post, Program, Branch}
 use Rattle.fd_model.specs.Sound.{OccurrencesBelow}
 use Rattle.fd_model.specs.Children.{Gives as GivesBranches, by_post, offer}
 pub use Rattle.fd_language.proofs.Lemmas.{map_has, has_map}
-use Rattle.fd_language.proofs.Lemmas.{has_high, has_either, universe_rising, has-filter_back, in_left, reads_map, set_same, filled_as_is, none_parameter, free_occurrences_read}
+use Rattle.fd_language.proofs.Lemmas.{has_either, in_left, reads_map, set_same, filled_as_is, none_parameter, free_occurrences_read}
 use Rattle.fd_model.proofs.GoalRows.{Rewritten, with_ranges, numbers, Gives, FitsRow, IsPlain}
 use Rattle.fd_model.specs.Satisfies.{Assignment, singles}
 use Rattle.fd_model.specs.Answers.{Somewhere}
@@ -26,12 +26,12 @@ use Rattle.fd_model.proofs.Staging.{IsGoalRow}
 use Rattle.fd_model.proofs.FlatPosting.{Free, variables, IsPlainTerm, no_offence}
 use Rattle.fd_language.specs.Range.{params}
 
--- a variable lies in a range, or an integer does
-abbrev pub LiesIn : ℕ → Range → Assignment → Term → Type 0
-LiesIn M r a (Var v) = has (set_of M (singles a) r) (a v) ≡ true
-LiesIn M r a (Int z) = (n : ℕ) × (z ≡ pos n) × (has (set_of M (singles a) r) n ≡ true)
-LiesIn M r a (Atom b) = ⊥
-LiesIn M r a (Comp f ts) = ⊥
+-- a variable lies in a range, or an integer does, and is at most N
+abbrev pub LiesIn : ℕ → ℕ → Range → Assignment → Term → Type 0
+LiesIn M N r a (Var v) = (a v ≤ N) × (has (set_of M (singles a) r) (a v) ≡ true)
+LiesIn M N r a (Int z) = (n : ℕ) × (z ≡ pos n) × (n ≤ N) × (has (set_of M (singles a) r) n ≡ true)
+LiesIn M N r a (Atom b) = ⊥
+LiesIn M N r a (Comp f ts) = ⊥
 
 integer_is : (look : Substitution) (y : ℕ) (t : Term) → look y ≡ t → is_integer t ≡ true → IsInteger look y
 integer_is look y (Int z) e h = (z, e)
@@ -62,7 +62,7 @@ module _ (r : Range) (m tv : ℕ) (ys : List ℕ) where
     | inr e ↦ or_right (slot m ys tv == slot m ys y) _ (in_left (reads (rename_range (slot m ys) r)) [] (slot m ys y) (subst (λ l. has l (slot m ys y) ≡ true) (sym (reads_map (slot m ys) r)) (has_map (slot m ys) (reads r) y e)))
   ]
 
-module _ (M nv : ℕ) (vs : List ℕ) (every : (x : ℕ) → x < nv → has vs x ≡ true) (look : Substitution) (plain : IsPlain M vs look) (n : ℕ) (low : nv ≤ n) (r : Range) (free : Free (range_occurrences r)) where
+module _ (M N nv : ℕ) (vs : List ℕ) (every : (x : ℕ) → x < nv → has vs x ≡ true) (look : Substitution) (plain : IsPlain N vs look) (n : ℕ) (low : nv ≤ n) (r : Range) (free : Free (range_occurrences r)) where
   module _ (xs : List ℕ) (small : (x : ℕ) → has xs x ≡ true → x < nv) where
     abbrev ys : List ℕ
     ys = integers look xs []
@@ -103,7 +103,7 @@ module _ (M nv : ℕ) (vs : List ℕ) (every : (x : ℕ) → x < nv → has vs x
     moved : (a e : Assignment) → ((y : ℕ) → y < nv → e (slot n zs y) ≡ a y) → set_of M (singles e) (rename_range (slot n zs) r) ≡ set_of M (singles a) r
     moved a e h = set_same M (slot n zs) (singles e) (singles a) r (λ y i. ap (λ k. k ∷ []) (h y (small y i)))
 
-    pub variable_row : IsGoalRow M n vs look (λ a. LiesIn M r a (Var v)) (row_of n v [] zs r)
+    pub variable_row : IsGoalRow M N n vs look (λ a. LiesIn M N r a (Var v)) (row_of n v [] zs r)
     variable_row = record {
       fresh = omega arith;
       below = λ x h. (let g = renamed_from r n v zs x h in (by_slot x g.0 g.1 g.2).0);
@@ -118,16 +118,16 @@ module _ (M nv : ℕ) (vs : List ℕ) (every : (x : ℕ) → x < nv → has vs x
           let there : (y : ℕ) → y < nv → e (slot n zs y) ≡ a y = slot_number xs small_all n a e (omega arith) (λ y k. extend_slot n zs a y k) (λ y l. extend_low n zs a y (omega arith)) in (
             e,
             record {
-              bounded = extend_bounded M n zs a bound;
+              bounded = extend_bounded N n zs a bound;
               equations = slots_unify look n zs a e (apart xs small_all) (seen_number xs small_all a same) (λ y k. extend_slot n zs a y k);
-              posted = (subst (λ l. has l (e (slot n zs v)) ≡ true) (sym (moved a e there)) (subst (λ k. has (set_of M (singles a) r) k ≡ true) (sym (there v target)) h), tt);
+              posted = (subst (λ l. has l (e (slot n zs v)) ≡ true) (sym (moved a e there)) (subst (λ k. has (set_of M (singles a) r) k ≡ true) (sym (there v target)) h.1), tt);
             },
             λ x l. extend_low n zs a x l,
           )
           );
       out = λ e same f. (
           let there : (y : ℕ) → y < nv → e (slot n zs y) ≡ e y = slot_number xs small_all n e e (omega arith) (slots_back look n zs e e (seen_number xs small_all e same) f.equations) (λ y l. refl) in
-          subst (λ k. has (set_of M (singles e) r) k ≡ true) (there v target) (subst (λ l. has l (e (slot n zs v)) ≡ true) (moved e e there) f.posted.0)
+          (f.bounded v, subst (λ k. has (set_of M (singles e) r) k ≡ true) (there v target) (subst (λ l. has l (e (slot n zs v)) ≡ true) (moved e e there) f.posted.0))
           );
     }
 
@@ -165,44 +165,42 @@ module _ (M nv : ℕ) (vs : List ℕ) (every : (x : ℕ) → x < nv → has vs x
     unfolding put
     put_low k a x h = elim (cases_Bool (x == n)) [ inl e ↦ absurd (let i = eqb-true x n e in omega arith) | inr e ↦ rw e refl ]
 
-    put_bounded : (k : ℕ) (a : Assignment) → k ≤ M → ((x : ℕ) → a x ≤ M) → (x : ℕ) → put k a x ≤ M
+    put_bounded : (k : ℕ) (a : Assignment) → k ≤ N → ((x : ℕ) → a x ≤ N) → (x : ℕ) → put k a x ≤ N
     unfolding put
     put_bounded k a h g x = elim (cases_Bool (x == n)) [ inl e ↦ rw e h | inr e ↦ rw e (g x) ]
 
     integer_moved : (a e : Assignment) → ((y : ℕ) → y < nv → e (slot (suc n) ws y) ≡ a y) → set_of M (singles e) (rename_range (slot (suc n) ws) r) ≡ set_of M (singles a) r
     integer_moved a e h = set_same M (slot (suc n) ws) (singles e) (singles a) r (λ y i. ap (λ k. k ∷ []) (h y (small y i)))
 
-    in_set_low : (a : Assignment) (k : ℕ) → has (set_of M (singles a) r) k ≡ true → k ≤ M
-    in_set_low a k h = has_high 0 M (universe M) k (universe_rising M) (has-filter_back (in_set M (singles a) r) (universe M) k h).0
-
-    into_integer : (a : Assignment) → ((x : ℕ) → a x ≤ M) → ((y : ℕ) → has vs y ≡ true → apply (numbers a) (look y) ≡ Int (pos (a y))) → LiesIn M r a (Int z)
-        → (e : Assignment) × FitsRow M (row_of (suc n) n (first ∷ []) ws r) e × ((x : ℕ) → x < n → e x ≡ a x)
-    into_integer a bound same (k, i, h) =
+    into_integer : (a : Assignment) → ((x : ℕ) → a x ≤ N) → ((y : ℕ) → has vs y ≡ true → apply (numbers a) (look y) ≡ Int (pos (a y))) → LiesIn M N r a (Int z)
+        → (e : Assignment) × FitsRow M N (row_of (suc n) n (first ∷ []) ws r) e × ((x : ℕ) → x < n → e x ≡ a x)
+    into_integer a bound same (k, i, g, h) =
         let c = put k a in
         let e = extend (suc n) ws c in
         let low_same : (y : ℕ) → y < nv → c y ≡ a y = λ y l. put_low k a y (omega arith) in
-        let ints : (y : ℕ) → has ws y ≡ true → look y ≡ Int (pos (c y)) = λ y g. seen_number (reads r) small a same y g ∙ ap (λ j. Int (pos j)) (sym (low_same y (small y (inside (reads r) small y g).0))) in
+        let ints : (y : ℕ) → has ws y ≡ true → look y ≡ Int (pos (c y)) = λ y j. seen_number (reads r) small a same y j ∙ ap (λ i. Int (pos i)) (sym (low_same y (small y (inside (reads r) small y j).0))) in
         let there : (y : ℕ) → y < nv → e (slot (suc n) ws y) ≡ a y =
-        slot_number (reads r) small (suc n) a e (omega arith) (λ y g. extend_slot (suc n) ws c y g ∙ low_same y (small y (inside (reads r) small y g).0)) (λ y l. extend_low (suc n) ws c y (omega arith) ∙ low_same y l) in
+        slot_number (reads r) small (suc n) a e (omega arith) (λ y j. extend_slot (suc n) ws c y j ∙ low_same y (small y (inside (reads r) small y j).0)) (λ y l. extend_low (suc n) ws c y (omega arith) ∙ low_same y l) in
         let own : e n ≡ k = extend_low (suc n) ws c n (omega arith) ∙ put_here k a in (
           e,
           record {
-            bounded = extend_bounded M (suc n) ws c (put_bounded k a (in_set_low a k h) bound);
+            bounded = extend_bounded N (suc n) ws c (put_bounded k a g bound);
             equations = (ap (λ j. Int (pos j)) own ∙ ap Int (sym i), slots_unify look (suc n) ws c e (apart (reads r) small) ints (λ y g. extend_slot (suc n) ws c y g));
             posted = (subst (λ l. has l (e (slot (suc n) ws n)) ≡ true) (sym (integer_moved a e there)) (subst (λ j. has (set_of M (singles a) r) j ≡ true) (sym (ap e own_slot ∙ own)) h), tt);
           },
           λ x l. extend_low (suc n) ws c x (omega arith) ∙ put_low k a x l,
         )
 
-    out_integer : (e : Assignment) → ((y : ℕ) → has vs y ≡ true → apply (numbers e) (look y) ≡ Int (pos (e y))) → FitsRow M (row_of (suc n) n (first ∷ []) ws r) e → LiesIn M r e (Int z)
+    out_integer : (e : Assignment) → ((y : ℕ) → has vs y ≡ true → apply (numbers e) (look y) ≡ Int (pos (e y))) → FitsRow M N (row_of (suc n) n (first ∷ []) ws r) e → LiesIn M N r e (Int z)
     out_integer e same f =
         let there : (y : ℕ) → y < nv → e (slot (suc n) ws y) ≡ e y = slot_number (reads r) small (suc n) e e (omega arith) (slots_back look (suc n) ws e e (seen_number (reads r) small e same) f.equations.1) (λ y l. refl) in (
           e n,
           (let g = f.equations.0 in let i : z ≡ pos (e n) = cc in i),
+          f.bounded n,
           subst (λ k. has (set_of M (singles e) r) k ≡ true) (ap e own_slot) (subst (λ l. has l (e (slot (suc n) ws n)) ≡ true) (integer_moved e e there) f.posted.0),
         )
 
-    pub integer_row : IsGoalRow M n vs look (λ a. LiesIn M r a (Int z)) (row_of (suc n) n (first ∷ []) ws r)
+    pub integer_row : IsGoalRow M N n vs look (λ a. LiesIn M N r a (Int z)) (row_of (suc n) n (first ∷ []) ws r)
     integer_row = record {
       fresh = omega arith;
       below = λ x h. (let g = renamed_from r (suc n) n ws x h in (by_slot_or_own x g.0 g.1 g.2).0);
@@ -225,7 +223,7 @@ module _ (M nv : ℕ) (vs : List ℕ) (every : (x : ℕ) → x < nv → has vs x
     }
 
 -- what posting gives
-module _ (M : ℕ) (prog : Program) (nv : ℕ) (vs : List ℕ) (every : (x : ℕ) → x < nv → has vs x ≡ true) (b : Branch) (rest : List Goal) (look : Substitution) (sets : ℕ → Option (List ℕ)) (plain : IsPlain M vs look) (low : nv ≤ b.fresh)
+module _ (M N m : ℕ) (prog : Program) (nv : ℕ) (vs : List ℕ) (every : (x : ℕ) → x < nv → has vs x ≡ true) (b : Branch) (rest : List Goal) (look : Substitution) (sets : ℕ → Option (List ℕ)) (plain : IsPlain N vs look) (low : nv ≤ b.fresh)
     (r : Range) (none : params r ≡ []) (below : OccurrencesBelow nv (range_occurrences r)) where
   free : Free (range_occurrences r)
   free = none_parameter r none
@@ -241,14 +239,14 @@ module _ (M : ℕ) (prog : Program) (nv : ℕ) (vs : List ℕ) (every : (x : ℕ
 
   -- the row as posting spells it
   abbrev spelled : ℕ → ℕ → List Equation → List Occurrence → Rewritten
-  spelled m tv es ps = row_of M nv vs every look plain b.fresh low r free m tv es (integers_at look ps []) (fill_range (λ y. integer_of (look y)) r)
+  spelled m tv es ps = row_of M N nv vs every look plain b.fresh low r free m tv es (integers_at look ps []) (fill_range (λ y. integer_of (look y)) r)
 
-  same_row : (m tv : ℕ) (es : List Equation) (ps : List Occurrence) (qs : List ℕ) → Free ps → variables ps ≡ qs → spelled m tv es ps ≡ row_of M nv vs every look plain b.fresh low r free m tv es (integers look qs []) r
+  same_row : (m tv : ℕ) (es : List Equation) (ps : List Occurrence) (qs : List ℕ) → Free ps → variables ps ≡ qs → spelled m tv es ps ≡ row_of M N nv vs every look plain b.fresh low r free m tv es (integers look qs []) r
   same_row m tv es ps qs h e =
-      ap (λ q. row_of M nv vs every look plain b.fresh low r free m tv es (integers_at look ps []) q) (filled_as_is (λ y. integer_of (look y)) r none)
-      ∙ ap (λ l. row_of M nv vs every look plain b.fresh low r free m tv es l r) (integers_are look ps [] h ∙ ap (λ l. integers look l []) e)
+      ap (λ q. row_of M N nv vs every look plain b.fresh low r free m tv es (integers_at look ps []) q) (filled_as_is (λ y. integer_of (look y)) r none)
+      ∙ ap (λ l. row_of M N nv vs every look plain b.fresh low r free m tv es l r) (integers_are look ps [] h ∙ ap (λ l. integers look l []) e)
 
-  pub post_variable : (v : ℕ) → v < nv → (w : Rewritten) × (offer M prog look sets b (Post (Var v) r) rest ≡ GivesBranches (with_ranges b rest w ∷ [])) × IsGoalRow M b.fresh vs look (λ a. LiesIn M r a (Var v)) w
+  pub post_variable : (v : ℕ) → v < nv → (w : Rewritten) × (offer M N m prog look sets b (Post (Var v) r) rest ≡ GivesBranches (with_ranges b rest w ∷ [])) × IsGoalRow M N b.fresh vs look (λ a. LiesIn M N r a (Var v)) w
   post_variable v h =
       let ps = one_occurrence v false ++ range_occurrences r in
       let small : (x : ℕ) → has (v ∷ variables (range_occurrences r)) x ≡ true → x < nv = λ x i. elim (or_cases (v == x) (has (variables (range_occurrences r)) x) i) [ inl e ↦ subst (λ y. y < nv) (eqb-true v x e) h | inr e ↦ small_occurrences x e ] in (
@@ -256,10 +254,10 @@ module _ (M : ℕ) (prog : Program) (nv : ℕ) (vs : List ℕ) (every : (x : ℕ
         ap (λ f. by_post b rest (unless_offence f (record { target = slot b.fresh (integers_at look ps []) v; range = rename_range (slot b.fresh (integers_at look ps [])) (fill_range (λ y. integer_of (look y)) r) }) (b.fresh + length (integers_at look ps [])) ([] ++ slot_equations look b.fresh (integers_at look ps []))))
             (no_offence (need_of r) look ps (refl, free) (λ x i. plain_term x (small x i)))
             ∙ ap (λ w. GivesBranches (with_ranges b rest w ∷ [])) (same_row b.fresh v [] ps (v ∷ reads r) (refl, free) (ap (λ l. v ∷ l) (free_occurrences_read r free))),
-        variable_row M nv vs every look plain b.fresh low r free v h small_reads,
+        variable_row M N nv vs every look plain b.fresh low r free v h small_reads,
       )
 
-  pub post_integer : (z : ℤ) → (w : Rewritten) × (offer M prog look sets b (Post (Int z) r) rest ≡ GivesBranches (with_ranges b rest w ∷ [])) × IsGoalRow M b.fresh vs look (λ a. LiesIn M r a (Int z)) w
+  pub post_integer : (z : ℤ) → (w : Rewritten) × (offer M N m prog look sets b (Post (Int z) r) rest ≡ GivesBranches (with_ranges b rest w ∷ [])) × IsGoalRow M N b.fresh vs look (λ a. LiesIn M N r a (Int z)) w
   post_integer z =
       let ps = range_occurrences r in
       let es : List Equation = record { left = Var b.fresh; right = Int z } ∷ [] in (
@@ -267,5 +265,5 @@ module _ (M : ℕ) (prog : Program) (nv : ℕ) (vs : List ℕ) (every : (x : ℕ
         ap (λ f. by_post b rest (unless_offence f (record { target = slot (suc b.fresh) (integers_at look ps []) b.fresh; range = rename_range (slot (suc b.fresh) (integers_at look ps [])) (fill_range (λ y. integer_of (look y)) r) }) (suc b.fresh + length (integers_at look ps [])) (es ++ slot_equations look (suc b.fresh) (integers_at look ps []))))
             (no_offence (need_of r) look ps free (λ x i. plain_term x (small_occurrences x i)))
             ∙ ap (λ w. GivesBranches (with_ranges b rest w ∷ [])) (same_row (suc b.fresh) b.fresh es ps (reads r) free (free_occurrences_read r free)),
-        integer_row M nv vs every look plain b.fresh low r free z small_reads,
+        integer_row M N nv vs every look plain b.fresh low r free z small_reads,
       )

@@ -1,27 +1,28 @@
 -- The program of accepted sentences names no variable beyond those of each sentence.
-use Rattle.std.proofs.Common.{◌≡◌, ℕ, suc, ◌+◌, ◌<◌, ◌≤◌, Bool, true, false, cond, ◌==◌, List, [], ◌∷◌, ◌++◌, map, length, Option, Some, None, refl, subst, inl, inr, arith, eq-eqb}
+use Rattle.std.proofs.Common.{◌≡◌, ℕ, suc, ◌+◌, ◌<◌, ◌≤◌, Bool, true, false, cond, ◌==◌, List, [], ◌∷◌, ◌++◌, map, length, Option, Some, None, pos, refl, sym, subst, inl, inr, arith, eq-eqb}
 use Rattle.std.proofs.lemmas.Bool.{or_left}
 use Rattle.std.specs.Str.{bytes_eq}
 use Rattle.std.specs.Prelude.{codes}
 use Rattle.fd_language.specs.Term.{Name, Term, Terms, Var, Int, Atom, Comp, no_terms, term}
 use Rattle.fd_language.specs.PlacedTerm.{PlacedTerm, var, int, atom, comp, no_parts, part, plain}
 use Rattle.fd_language.specs.Family.{has}
-use Rattle.fd_language.specs.Range.{Range, One, Outside, Over, Expr, Infinity, Val, DivUp}
+use Rattle.fd_language.specs.Range.{Range, One, Outside, Over, Expr, Number, Infinity, Val, DivUp}
 use Rattle.fd_language.specs.Occurrences.{expr_occurrences, range_occurrences}
 use Rattle.fd_language.specs.Spelling.{Parsed, read, offends, expr_operator, expr_feature, read_feature, read_operator, read_expr, RangeForm, of_terms, of_ranges, pointwise, no_form, range_form, empty_range, read_form, read_dom, read_one, read_range}
 use Rattle.fd_language.specs.Variables.{variables_of, variables_of_all}
 use Rattle.fd_language.specs.Reading.{Sentence, sentences}
 use Rattle.fd_language.specs.Reading as reading
-use Rattle.fd_model.specs.Forms.{GoalForm, truth, failure, unification, posting, constraint, labelling, builtin}
+use Rattle.fd_model.specs.Forms.{GoalForm, truth, failure, unification, posting, cutting, constraint, labelling, optimum, builtin}
 use Rattle.fd_model.specs.Refusals.{Form, query, clause, directive, fact, form_of, functor_of, second_part, Refusal, first_refusal}
-use Rattle.fd_model.specs.Queries.{first_part, goal_by_form, goal_named, form_of_functor, goal_of, followed, body_goals, is_shown, shown_from, queries_by, queries_of, clauses_by, clauses_of, program_of}
-use Rattle.fd_model.specs.Goal.{Goals, no_goals, goal, listed, Either, Clause, Query, Program}
+use Rattle.fd_model.specs.Queries.{either_way, best_of, first_part, goal_by_form, goal_named, form_of_functor, goal_of, followed, body_goals, is_shown, shown_from, queries_by, queries_of, clauses_by, clauses_of, program_of}
+use Rattle.fd_model.specs.Goal.{Goals, no_goals, goal, listed, If, Not, Clause, Query, Program}
 use Rattle.fd_language.specs.Variables.{TermBelow, TermsBelow}
 use Rattle.fd_model.specs.Sound.{OccurrencesBelow, RangeBelow, GoalBelow, GoalsBelow, EachBelow, NumbersBelow, ClausesScoped, QueriesScoped, IsScoped}
 use Rattle.fd_model.specs.Verdict.{accepted, refused, sentences_verdict, reading_verdict}
 use Rattle.fd_model.specs.ProgramLaws.{ScopedProgram}
 use Rattle.fd_language.specs.Lists.{Each}
 use Rattle.fd_language.proofs.Lemmas.{in_left, in_right, each_below}
+use Rattle.fd_model.proofs.Bodies.{either_is}
 use Rattle.fd_model.proofs.Lists.{each_both}
 
 -- a property of both ways
@@ -84,12 +85,12 @@ module _ (n : ℕ) where
   read_operator_scoped None p a b h i j = tt
   read_operator_scoped (Some make) p a b h i j = h a.tree b.tree i j
 
-  expr_scoped : (features : Bool) (t : PlacedTerm) → TermBelow n (plain t) → ScopedRead (read_expr features t)
-  expr_scoped features (var x p) h = (h, tt)
-  expr_scoped features (atom a p) h = either ScopedRead (bytes_eq a (codes "infinity")) (read Infinity p) (offends Infinity p) tt tt
-  expr_scoped features (comp f p (part (var y q) no_parts)) h = read_feature_scoped (expr_feature f) features p y (feature_is f) h.0
-  expr_scoped features (comp f p (part a (part b no_parts))) h = read_operator_scoped (expr_operator f) p (read_expr features a) (read_expr features b) (operator_is f) (expr_scoped features a h.0) (expr_scoped features b h.1.0)
-  expr_scoped features _ h = tt
+  expr_scoped : (N : ℕ) (features : Bool) (t : PlacedTerm) → TermBelow n (plain t) → ScopedRead (read_expr N features t)
+  expr_scoped N features (var x p) h = (h, tt)
+  expr_scoped N features (atom a p) h = either ScopedRead (bytes_eq a (codes "infinity")) (read (Number (pos N)) p) (offends Infinity p) tt tt
+  expr_scoped N features (comp f p (part (var y q) no_parts)) h = read_feature_scoped (expr_feature f) features p y (feature_is f) h.0
+  expr_scoped N features (comp f p (part a (part b no_parts))) h = read_operator_scoped (expr_operator f) p (read_expr N features a) (read_expr N features b) (operator_is f) (expr_scoped N features a h.0) (expr_scoped N features b h.1.0)
+  expr_scoped N features _ h = tt
 
   abbrev IsForm : RangeForm → Type 0
   IsForm (of_terms make) = (a b : Expr) → Scoped a → Scoped b → RangeBelow n (make a b)
@@ -122,15 +123,15 @@ module _ (n : ℕ) where
   dom_scoped (var y q) p h = (h, tt)
   dom_scoped _ p h = tt
 
-  range_scoped : (t : PlacedTerm) → TermBelow n (plain t) → RangeRead (read_range t)
-  range_scoped (comp f p (part t no_parts)) h =
-      either RangeRead (bytes_eq f (codes "{}")) (read_one One p (read_expr true t)) _ (expr_scoped true t h.0)
-      (either RangeRead (bytes_eq f (codes "-")) (read_one Outside p (read_range t)) _ (range_scoped t h.0)
+  range_scoped : (N : ℕ) (t : PlacedTerm) → TermBelow n (plain t) → RangeRead (read_range N t)
+  range_scoped N (comp f p (part t no_parts)) h =
+      either RangeRead (bytes_eq f (codes "{}")) (read_one One p (read_expr N true t)) _ (expr_scoped N true t h.0)
+      (either RangeRead (bytes_eq f (codes "-")) (read_one Outside p (read_range N t)) _ (range_scoped N t h.0)
       (either RangeRead (bytes_eq f (codes "dom")) (read_dom t p) (offends empty_range p) (dom_scoped t p h.0) tt))
-  range_scoped (comp f p (part a (part b no_parts))) h =
-      read_form_scoped (range_form f) p (read_range a) (read_range b) (read_expr true a) (read_expr true b) (read_expr false b) (form_is f)
-      (range_scoped a h.0) (range_scoped b h.1.0) (expr_scoped true a h.0) (expr_scoped true b h.1.0) (expr_scoped false b h.1.0)
-  range_scoped _ h = tt
+  range_scoped N (comp f p (part a (part b no_parts))) h =
+      read_form_scoped (range_form f) p (read_range N a) (read_range N b) (read_expr N true a) (read_expr N true b) (read_expr N false b) (form_is f)
+      (range_scoped N a h.0) (range_scoped N b h.1.0) (expr_scoped N true a h.0) (expr_scoped N true b h.1.0) (expr_scoped N false b h.1.0)
+  range_scoped _ _ h = tt
 
   -- ---- goals
 
@@ -152,38 +153,60 @@ module _ (n : ℕ) where
   first_below (int z p) h = h
   first_below (atom a p) h = h
 
-  form_scoped : (form : GoalForm) (t : PlacedTerm) → IsBelow t → GoalBelow n (goal_by_form form t)
-  form_scoped truth t h = tt
-  form_scoped failure t h = tt
-  form_scoped unification t h = (first_below t h, second_below t h)
-  form_scoped posting t h = (first_below t h, range_scoped (second_part t) (second_below t h))
-  form_scoped (constraint k) t h = h
-  form_scoped (labelling o) t h = first_below t h
-  form_scoped (builtin k) t h = h
+  best_scoped : (least : Bool) (o : Option GoalForm) (g c : PlacedTerm) → IsBelow g → IsBelow c → GoalBelow n (best_of least o g c)
+  best_scoped least None g c h k = tt
+  best_scoped least (Some truth) g c h k = tt
+  best_scoped least (Some failure) g c h k = tt
+  best_scoped least (Some cutting) g c h k = tt
+  best_scoped least (Some unification) g c h k = tt
+  best_scoped least (Some posting) g c h k = tt
+  best_scoped least (Some (constraint i)) g c h k = tt
+  best_scoped least (Some (labelling o)) g c h k = (first_below g h, k)
+  best_scoped least (Some (optimum l)) g c h k = tt
+  best_scoped least (Some (builtin i)) g c h k = tt
 
-  named_scoped : (o : Option GoalForm) (t : PlacedTerm) → IsBelow t → GoalBelow n (goal_named o t)
-  named_scoped (Some form) t h = form_scoped form t h
-  named_scoped None t h = h
+  form_scoped : (N : ℕ) (form : GoalForm) (t : PlacedTerm) → IsBelow t → GoalBelow n (goal_by_form N form t)
+  form_scoped N truth t h = tt
+  form_scoped N failure t h = tt
+  form_scoped N unification t h = (first_below t h, second_below t h)
+  form_scoped N posting t h = (first_below t h, range_scoped N (second_part t) (second_below t h))
+  form_scoped N cutting t h = tt
+  form_scoped N (optimum least) t h = best_scoped least (form_of_functor (functor_of (first_part t))) (first_part t) (second_part t) (first_below t h) (second_below t h)
+  form_scoped N (constraint k) t h = h
+  form_scoped N (labelling o) t h = first_below t h
+  form_scoped N (builtin k) t h = h
 
-  goal_scoped : (t : PlacedTerm) → IsBelow t → GoalBelow n (goal_of t)
-  goal_scoped t h = named_scoped (form_of_functor (functor_of t)) t h
+  named_scoped : (N : ℕ) (o : Option GoalForm) (t : PlacedTerm) → IsBelow t → GoalBelow n (goal_named N o t)
+  named_scoped N (Some form) t h = form_scoped N form t h
+  named_scoped N None t h = h
+
+  goal_scoped : (N : ℕ) (t : PlacedTerm) → IsBelow t → GoalBelow n (goal_of N t)
+  goal_scoped N t h = named_scoped N (form_of_functor (functor_of t)) t h
 
   followed_scoped : (gs hs : Goals) → GoalsBelow n gs → GoalsBelow n hs → GoalsBelow n (followed gs hs)
   followed_scoped no_goals hs h k = k
   followed_scoped (goal g gs) hs h k = (h.0, followed_scoped gs hs h.1 k)
 
-  body_scoped : (t : PlacedTerm) → IsBelow t → GoalsBelow n (body_goals t)
-  body_scoped (comp f p (part a (part b no_parts))) h =
-      let left = body_scoped a h.0 in
-      let right = body_scoped b h.1.0 in
-      either (GoalsBelow n) (bytes_eq f (codes ",")) (followed (body_goals a) (body_goals b)) _ (followed_scoped (body_goals a) (body_goals b) left right)
-      (either (GoalsBelow n) (bytes_eq f (codes ";")) (goal (Either (body_goals a) (body_goals b)) no_goals) _ ((left, right), tt) (goal_scoped (comp f p (part a (part b no_parts))) h, tt))
-  body_scoped (comp f p (part a (part b (part c ts)))) h = (goal_scoped (comp f p (part a (part b (part c ts)))) h, tt)
-  body_scoped (comp f p (part a no_parts)) h = (goal_scoped (comp f p (part a no_parts)) h, tt)
-  body_scoped (comp f p no_parts) h = (goal_scoped (comp f p no_parts) h, tt)
-  body_scoped (var x p) h = (goal_scoped (var x p) h, tt)
-  body_scoped (int z p) h = (goal_scoped (int z p) h, tt)
-  body_scoped (atom a p) h = (goal_scoped (atom a p) h, tt)
+  either_scoped : (gs hs : Goals) → GoalsBelow n gs → GoalsBelow n hs → GoalBelow n (either_way gs hs)
+  either_scoped gs hs h k = elim (either_is gs hs) [
+    | inl e ↦ subst (GoalBelow n) (sym e.3) (let own = (subst (GoalsBelow n) e.2 h).0 in (own.0, own.1, k))
+    | inr e ↦ subst (GoalBelow n) (sym e) (h, k)
+  ]
+
+  body_scoped : (N : ℕ) (t : PlacedTerm) → IsBelow t → GoalsBelow n (body_goals N t)
+  body_scoped N (comp f p (part a (part b no_parts))) h =
+      let left = body_scoped N a h.0 in
+      let right = body_scoped N b h.1.0 in
+      either (GoalsBelow n) (bytes_eq f (codes ",")) (followed (body_goals N a) (body_goals N b)) _ (followed_scoped (body_goals N a) (body_goals N b) left right)
+      (either (GoalsBelow n) (bytes_eq f (codes ";")) (goal (either_way (body_goals N a) (body_goals N b)) no_goals) _ (either_scoped (body_goals N a) (body_goals N b) left right, tt)
+      (either (GoalsBelow n) (bytes_eq f (codes "->")) (goal (If (body_goals N a) (body_goals N b)) no_goals) _ ((left, right), tt) (goal_scoped N (comp f p (part a (part b no_parts))) h, tt)))
+  body_scoped N (comp f p (part a (part b (part c ts)))) h = (goal_scoped N (comp f p (part a (part b (part c ts)))) h, tt)
+  body_scoped N (comp f p (part a no_parts)) h =
+      either (GoalsBelow n) (bytes_eq f (codes "\\+")) (goal (Not (body_goals N a)) no_goals) _ (body_scoped N a h.0, tt) (goal_scoped N (comp f p (part a no_parts)) h, tt)
+  body_scoped N (comp f p no_parts) h = (goal_scoped N (comp f p no_parts) h, tt)
+  body_scoped N (var x p) h = (goal_scoped N (var x p) h, tt)
+  body_scoped N (int z p) h = (goal_scoped N (int z p) h, tt)
+  body_scoped N (atom a p) h = (goal_scoped N (atom a p) h, tt)
 
   listed_scoped : (gs : Goals) → GoalsBelow n gs → EachBelow n (listed gs)
   listed_scoped no_goals h = tt
@@ -209,43 +232,43 @@ module _ (n : ℕ) where
       let later = shown_below (suc k) names (omega arith) in
       either (NumbersBelow n) (is_shown name) (k ∷ shown_from (suc k) names) (shown_from (suc k) names) (omega arith, later) later
 
-query_scoped : (names : List Name) (form : Form) (later : List Query) → IsFormBelow (length names) form → QueriesScoped later → QueriesScoped (queries_by names form later)
-query_scoped names (query b) later h g = ((shown_below (length names) 0 names (omega arith), listed_scoped (length names) (body_goals b) (body_scoped (length names) b h)), g)
-query_scoped names _ later h g = g
+query_scoped : (N : ℕ) (names : List Name) (form : Form) (later : List Query) → IsFormBelow (length names) form → QueriesScoped later → QueriesScoped (queries_by N names form later)
+query_scoped N names (query b) later h g = ((shown_below (length names) 0 names (omega arith), listed_scoped (length names) (body_goals N b) (body_scoped (length names) N b h)), g)
+query_scoped N names _ later h g = g
 
 -- each query names no variable beyond those of its sentence
-pub queries_scoped : (ss : List Sentence) → Each (λ s. TermBelow (length s.names) (plain s.term)) ss → QueriesScoped (queries_of ss)
-queries_scoped [] h = tt
-queries_scoped (s ∷ ss) h = query_scoped s.names (form_of s.term) (queries_of ss) (form_below (length s.names) s.term h.0) (queries_scoped ss h.1)
+pub queries_scoped : (N : ℕ) (ss : List Sentence) → Each (λ s. TermBelow (length s.names) (plain s.term)) ss → QueriesScoped (queries_of N ss)
+queries_scoped N [] h = tt
+queries_scoped N (s ∷ ss) h = query_scoped N s.names (form_of s.term) (queries_of N ss) (form_below (length s.names) s.term h.0) (queries_scoped N ss h.1)
 
-clause_scoped : (names : List Name) (form : Form) (later : List Clause) → IsFormBelow (length names) form → ClausesScoped later → ClausesScoped (clauses_by names form later)
-clause_scoped names (query b) later h g = g
-clause_scoped names (clause t b) later h g = ((h.0, listed_scoped (length names) (body_goals b) (body_scoped (length names) b h.1)), g)
-clause_scoped names directive later h g = g
-clause_scoped names (fact t) later h g = ((h, tt), g)
+clause_scoped : (N : ℕ) (names : List Name) (form : Form) (later : List Clause) → IsFormBelow (length names) form → ClausesScoped later → ClausesScoped (clauses_by N names form later)
+clause_scoped N names (query b) later h g = g
+clause_scoped N names (clause t b) later h g = ((h.0, listed_scoped (length names) (body_goals N b) (body_scoped (length names) N b h.1)), g)
+clause_scoped N names directive later h g = g
+clause_scoped N names (fact t) later h g = ((h, tt), g)
 
 -- each clause names no variable beyond those of its sentence
-pub clauses_scoped : (ss : List Sentence) → Each (λ s. TermBelow (length s.names) (plain s.term)) ss → ClausesScoped (clauses_of ss)
-clauses_scoped [] h = tt
-clauses_scoped (s ∷ ss) h = clause_scoped s.names (form_of s.term) (clauses_of ss) (form_below (length s.names) s.term h.0) (clauses_scoped ss h.1)
+pub clauses_scoped : (N : ℕ) (ss : List Sentence) → Each (λ s. TermBelow (length s.names) (plain s.term)) ss → ClausesScoped (clauses_of N ss)
+clauses_scoped N [] h = tt
+clauses_scoped N (s ∷ ss) h = clause_scoped N s.names (form_of s.term) (clauses_of N ss) (form_below (length s.names) s.term h.0) (clauses_scoped N ss h.1)
 
 terms_below_names : (ss : List Sentence) → Each (λ s. (x : ℕ) → has (variables_of (plain s.term)) x ≡ true → x < length s.names) ss → Each (λ s. TermBelow (length s.names) (plain s.term)) ss
 terms_below_names [] h = tt
 terms_below_names (s ∷ ss) h = (term_below (length s.names) (plain s.term) h.0, terms_below_names ss h.1)
 
-accepted_scoped : (ss : List Sentence) (o : Option Refusal) (prog : Program) → accepted prog ≡ sentences_verdict ss o → IsScoped (program_of ss) → IsScoped prog
-accepted_scoped ss None prog e h = let k : program_of ss ≡ prog = cc in subst IsScoped k h
-accepted_scoped ss (Some r) prog e h = absurd (cc)
+accepted_scoped : (N : ℕ) (ss : List Sentence) (o : Option Refusal) (prog : Program) → accepted prog ≡ sentences_verdict N ss o → IsScoped (program_of N ss) → IsScoped prog
+accepted_scoped N ss None prog e h = let k : program_of N ss ≡ prog = cc in subst IsScoped k h
+accepted_scoped N ss (Some r) prog e h = absurd (cc)
 
-read_scoped : (M : ℕ) (text : List ℕ) (prog : Program) (r : reading.Reading) → reading.IsReading text r → accepted prog ≡ reading_verdict M r → IsScoped prog
-read_scoped M text prog (sentences ss) h e =
-    accepted_scoped ss (first_refusal M (map (λ s. s.term) ss) (map (λ s. s.term) ss)) prog e (record { clauses = clauses_scoped ss (terms_below_names ss (each_below text ss h)); queries = queries_scoped ss (terms_below_names ss (each_below text ss h)) })
-read_scoped _ text prog _ h e = absurd (cc)
+read_scoped : (M N : ℕ) (text : List ℕ) (prog : Program) (r : reading.Reading) → reading.IsReading text r → accepted prog ≡ reading_verdict M N r → IsScoped prog
+read_scoped M N text prog (sentences ss) h e =
+    accepted_scoped N ss (first_refusal M N (map (λ s. s.term) ss) (map (λ s. s.term) ss)) prog e (record { clauses = clauses_scoped N ss (terms_below_names ss (each_below text ss h)); queries = queries_scoped N ss (terms_below_names ss (each_below text ss h)) })
+read_scoped _ _ text prog _ h e = absurd (cc)
 
 not_accepted : (p : ℕ) (reason : List ℕ) (prog : Program) → accepted prog ≡ refused p reason → ⊥
 not_accepted p reason prog e = cc
 
 pub scoped_program : ScopedProgram
-scoped_program M text prog (inl h) = absurd (not_accepted _ _ prog h.1)
-scoped_program M text prog (inr (inl h)) = absurd (not_accepted _ _ prog h.2)
-scoped_program M text prog (inr (inr h)) = read_scoped M text prog h.2.0 h.2.1 h.2.2
+scoped_program M N text prog (inl h) = absurd (not_accepted _ _ prog h.1)
+scoped_program M N text prog (inr (inl h)) = absurd (not_accepted _ _ prog h.2)
+scoped_program M N text prog (inr (inr h)) = read_scoped M N text prog h.2.0 h.2.1 h.2.2

@@ -13,8 +13,7 @@ use Rattle.fd_model.specs.Linear.{scaled, Comparison, IsEqual, IsOther, IsAtMost
 use Rattle.fd_model.specs.LinearRows.{Expansion, by_sign, minus_products, low, high, exact, row, row_by_sign, rows_behind, linear_rows, compares, no_number}
 use Rattle.fd_model.specs.Members.{as_member, walk, placed}
 use Rattle.fd_model.specs.ListRows.{against, pairwise, different_ranges, different_rows, union_onto, union_of, elements_at, index_ranges, element_ranges, counts, units}
-use Rattle.fd_model.specs.ConstraintLaws.{FittingRows}
-use Rattle.fd_model.specs.Constraining.{compare, expand, all_different}
+use Rattle.fd_model.specs.Constraining.{compare, basic, all_different}
 use Rattle.fd_model.proofs.Collecting.{one_ok}
 use Rattle.fd_model.proofs.LinearForms.{NoneZero}
 use Rattle.fd_model.proofs.Comparing.{form_of, collect_nonzero, normal_nonzero}
@@ -88,7 +87,7 @@ module _ (M : ℕ) where
   abbrev pub Fitting : List Indexical → Type 0
   Fitting ps = AllPosted (λ p. IsFitting p.range) ps
 
-  rows_fitting : (k : Comparison) (c : ℤ) (before ts : List (ℕ × ℤ)) → NoneZero ts → Fitting (rows_behind k c before ts)
+  pub rows_fitting : (k : Comparison) (c : ℤ) (before ts : List (ℕ × ℤ)) → NoneZero ts → Fitting (rows_behind k c before ts)
   rows_fitting k c before [] z = tt
   rows_fitting k c before (t ∷ ts) z = (signed_fitting k c (before ++ ts) t.1 z.0, rows_fitting k c (before ++ t ∷ []) ts z.1)
 
@@ -100,7 +99,7 @@ module _ (M : ℕ) where
   form_fitting k [] c n z = none_fitting (compares k (pos 0) c) n
   form_fitting k (t ∷ ts) c n z = rows_fitting k c [] (t ∷ ts) z
 
-  append_fitting : (ps qs : List Indexical) → Fitting ps → Fitting qs → Fitting (ps ++ qs)
+  pub append_fitting : (ps qs : List Indexical) → Fitting ps → Fitting qs → Fitting (ps ++ qs)
   append_fitting [] qs h g = g
   append_fitting (p ∷ ps) qs h g = (h.0, append_fitting ps qs h.1 g)
 
@@ -156,18 +155,11 @@ module _ (M : ℕ) where
       let e : different_rows k.0 n ≡ x = cc (k.2) in
       subst (λ y. Fitting y.ranges) e (different_fitting (placed n k.0))
 
-  pub expand_fitting : (kind : ConstraintKind) (ts : Terms) (n : ℕ) (x : Expansion) → expand kind ts n ≡ Ok x → Fitting x.ranges
-  expand_fitting (Compare r) (term s (term t no_terms)) n x h = compare_fitting r s t n x h
-  expand_fitting AllDifferent (term l no_terms) n x h = all_different_fitting l n x h
-  expand_fitting Element (term i (term l (term v no_terms))) n x h = let k = element_ok i l v n x h in subst (λ y. Fitting y.ranges) k.rows (element_fitting _ _ k.elements)
-  expand_fitting Atmost (term m (term l (term v no_terms))) n x h =
+  pub basic_fitting : (kind : ConstraintKind) (ts : Terms) (n : ℕ) (x : Expansion) → basic kind ts n ≡ Ok x → Fitting x.ranges
+  basic_fitting (Compare r) (term s (term t no_terms)) n x h = compare_fitting r s t n x h
+  basic_fitting AllDifferent (term l no_terms) n x h = all_different_fitting l n x h
+  basic_fitting Element (term i (term l (term v no_terms))) n x h = let k = element_ok i l v n x h in subst (λ y. Fitting y.ranges) k.rows (element_fitting _ _ k.elements)
+  basic_fitting Atmost (term m (term l (term v no_terms))) n x h =
       let k = atmost_ok m l v n x h in
       subst (λ y. Fitting y.ranges) k.rows (append_fitting (counts k.value (placed n k.members) _) _ (counts_fitting k.value (placed n k.members) _) (form_fitting IsAtMost (units (placed n k.members) _) k.limit _ (units_nonzero (placed n k.members) _)))
-  expand_fitting _ _ n x h = absurd (cc)
-
-fitting_tests : (M : ℕ) (ps : List Indexical) → Fitting M ps → AllPosted (λ p. range_fits M p.range true ≡ true) ps
-fitting_tests M [] h = tt
-fitting_tests M (p ∷ ps) h = (h.0.fits, fitting_tests M ps h.1)
-
-pub fitting_rows : FittingRows
-fitting_rows M kind ts n x h = fitting_tests M x.ranges (expand_fitting M kind ts n x h)
+  basic_fitting _ _ n x h = absurd (cc)

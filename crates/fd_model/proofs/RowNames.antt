@@ -56,7 +56,7 @@ module _ (P : ℕ → Type 0) where
   vars_scaled k [] h = tt
   vars_scaled k (t ∷ ts) h = (h.0, vars_scaled k ts h.1)
 
-  vars_nonzero : (ts : List (ℕ × ℤ)) → AllVars ts → AllVars (nonzero ts)
+  pub vars_nonzero : (ts : List (ℕ × ℤ)) → AllVars ts → AllVars (nonzero ts)
   vars_nonzero [] h = tt
   vars_nonzero (t ∷ ts) h = by_test (int_eq t.1 (pos 0)) (vars_nonzero ts h.1) where
     by_test : (c : Bool) → AllVars (nonzero ts) → AllVars (cond c (nonzero ts) (t ∷ nonzero ts))
@@ -160,7 +160,7 @@ module _ (P : ℕ → Type 0) where
     by_kind IsAtMost false = j
     by_kind IsAtMost true = named_either (expr_reads (low c ts) ++ []) [] i named_none
 
-  signed_names : (k : Comparison) (c : ℤ) (ts : List (ℕ × ℤ)) (z : ℤ) → AllVars ts → Named (reads (row_by_sign k c ts z))
+  pub signed_names : (k : Comparison) (c : ℤ) (ts : List (ℕ × ℤ)) (z : ℤ) → AllVars ts → Named (reads (row_by_sign k c ts z))
   signed_names k c ts (pos a) h = row_names k false c ts a h
   signed_names k c ts (negsuc a) h = row_names k true (neg_ℤ c) (scaled (negsuc 0) ts) (suc a) (vars_scaled (negsuc 0) ts h)
 

@@ -16,8 +16,8 @@ use Rattle.fd_model.specs.Linear.{Comparison, IsAtMost, comparison, normal}
 use Rattle.fd_model.specs.LinearRows.{Expansion, linear_rows, compares, no_number}
 use Rattle.fd_model.specs.Members.{Member, Open, Known, as_member, prepend, walk, place_of, after, placed, fresh_after, equated_from}
 use Rattle.fd_model.specs.ListRows.{different_ranges, different_rows, element_ranges, counts, units}
-use Rattle.fd_model.specs.Constraining.{compare, all_different, element, atmost, expand}
-use Rattle.fd_model.specs.ConstraintLaws.{AllFresh, IsScoped, ScopedRows}
+use Rattle.fd_model.specs.Constraining.{compare, all_different, element, atmost, basic}
+use Rattle.fd_model.specs.ConstraintLaws.{AllFresh, IsScoped}
 use Rattle.fd_model.proofs.Collecting.{one_ok, both_ok, test_ok}
 use Rattle.fd_model.proofs.Comparing.{form_of}
 use Rattle.fd_model.proofs.Choosing.{element_ok}
@@ -27,7 +27,7 @@ use Rattle.fd_model.proofs.Determining.{NamesIn, AllNamed}
 use Rattle.fd_model.proofs.RowNames.{EachVariable, AllVars, rows_names, collect_vars, normal_vars}
 use Rattle.fd_model.proofs.ListNames.{names_append, named_left, different_names, named_different, element_names, named_element, AllAdded, counts_names, named_counts, units_vars, equated_named}
 
-all_vars : (Q P : ℕ → Type 0) → ((v : ℕ) → Q v → P v) → (ts : List (ℕ × ℤ)) → AllVars Q ts → AllVars P ts
+pub all_vars : (Q P : ℕ → Type 0) → ((v : ℕ) → Q v → P v) → (ts : List (ℕ × ℤ)) → AllVars Q ts → AllVars P ts
 all_vars Q P f [] h = tt
 all_vars Q P f (t ∷ ts) h = (f t.0 h.0, all_vars Q P f ts h.1)
 
@@ -41,12 +41,12 @@ module _ (Q : ℕ → Type 0) where
   form_scoped k [] c n h = none_scoped (compares k (pos 0) c) n
   form_scoped k (t ∷ ts) c n h = (rows_names (λ v. Q v ⊎ ((n ≤ v) × (v < n))) k c [] (t ∷ ts) tt (all_vars Q (λ v. Q v ⊎ ((n ≤ v) × (v < n))) (λ v q. inl q) (t ∷ ts) h), omega arith)
 
-  abbrev MembersIn : List Member → Type 0
+  abbrev pub MembersIn : List Member → Type 0
   MembersIn [] = Unit {0}
   MembersIn (Open x ∷ ms) = Q x × MembersIn ms
   MembersIn (Known z ∷ ms) = MembersIn ms
 
-  member_in : (t : Term) (m : Member) (ms : List Member) → EachVariable Q t → as_member t ≡ Ok m → MembersIn ms → MembersIn (m ∷ ms)
+  pub member_in : (t : Term) (m : Member) (ms : List Member) → EachVariable Q t → as_member t ≡ Ok m → MembersIn ms → MembersIn (m ∷ ms)
   member_in (Var x) m ms q h l = let e : Open x ≡ m = cc in subst (λ w. MembersIn (w ∷ ms)) e (q x (or_left _ _ (eq-eqb x x refl)), l)
   member_in (Int z) m ms q h l = let e : Known z ≡ m = cc in subst (λ w. MembersIn (w ∷ ms)) e l
   member_in (Atom f) m ms q h l = absurd (cc)
@@ -64,7 +64,7 @@ module _ (Q : ℕ → Type 0) where
       (λ c e. absurd (cc))
   members_in _ ms q h = absurd (cc)
 
-  placed_scoped : (n : ℕ) (ms : List Member) (k : ℕ) → n ≤ k → MembersIn ms → Each (λ v. Q v ⊎ ((n ≤ v) × (v < fresh_after k ms))) (placed k ms)
+  pub placed_scoped : (n : ℕ) (ms : List Member) (k : ℕ) → n ≤ k → MembersIn ms → Each (λ v. Q v ⊎ ((n ≤ v) × (v < fresh_after k ms))) (placed k ms)
   placed_scoped n [] k l h = tt
   placed_scoped n (Open x ∷ ms) k l h = (inl h.0, placed_scoped n ms k l h.1)
   placed_scoped n (Known z ∷ ms) k l h = (inr (l, let g = fresh_grows ms (suc k) in omega arith), placed_scoped n ms (suc k) (omega arith) h)
@@ -73,12 +73,12 @@ module _ (Q : ℕ → Type 0) where
   added_scoped n m [] k l h = tt
   added_scoped n m (x ∷ xs) k l h = (inr (l, omega arith), added_scoped n m xs (suc k) (omega arith) (omega arith))
 
-equated_scoped : (n m : ℕ) (ps : List Indexical) (ms : List Member) (k : ℕ) → n ≤ k → fresh_after k ms ≤ m → AllNamed (equated_from k ms) ps → AllFresh n m ps (equated_from k ms)
+pub equated_scoped : (n m : ℕ) (ps : List Indexical) (ms : List Member) (k : ℕ) → n ≤ k → fresh_after k ms ≤ m → AllNamed (equated_from k ms) ps → AllFresh n m ps (equated_from k ms)
 equated_scoped n m ps [] k l h a = tt
 equated_scoped n m ps (Open x ∷ ms) k l h a = equated_scoped n m ps ms k l h a
 equated_scoped n m ps (Known z ∷ ms) k l h a = ((l, let g = fresh_grows ms (suc k) in omega arith, a.0), equated_scoped n m ps ms (suc k) (omega arith) h a.1)
 
-wider : (Q : ℕ → Type 0) (n m k : ℕ) → m ≤ k → (v : ℕ) → Q v ⊎ ((n ≤ v) × (v < m)) → Q v ⊎ ((n ≤ v) × (v < k))
+pub wider : (Q : ℕ → Type 0) (n m k : ℕ) → m ≤ k → (v : ℕ) → Q v ⊎ ((n ≤ v) × (v < m)) → Q v ⊎ ((n ≤ v) × (v < k))
 wider Q n m k h v (inl q) = inl q
 wider Q n m k h v (inr l) = inr (l.0, omega (arith, l.1))
 
@@ -158,12 +158,9 @@ atmost_scoped m l v n x h =
       grows = omega arith;
     })
 
-expand_scoped : (kind : ConstraintKind) (ts : Terms) (n : ℕ) (x : Expansion) → expand kind ts n ≡ Ok x → IsScoped ts n x
-expand_scoped (Compare r) (term s (term t no_terms)) n x h = compare_scoped r s t n x h
-expand_scoped AllDifferent (term l no_terms) n x h = different_scoped l n x h
-expand_scoped Element (term i (term l (term v no_terms))) n x h = element_scoped i l v n x h
-expand_scoped Atmost (term m (term l (term v no_terms))) n x h = atmost_scoped m l v n x h
-expand_scoped _ _ n x h = absurd (cc)
-
-pub scoped_rows : ScopedRows
-scoped_rows kind ts n x h = expand_scoped kind ts n x h
+pub basic_scoped : (kind : ConstraintKind) (ts : Terms) (n : ℕ) (x : Expansion) → basic kind ts n ≡ Ok x → IsScoped ts n x
+basic_scoped (Compare r) (term s (term t no_terms)) n x h = compare_scoped r s t n x h
+basic_scoped AllDifferent (term l no_terms) n x h = different_scoped l n x h
+basic_scoped Element (term i (term l (term v no_terms))) n x h = element_scoped i l v n x h
+basic_scoped Atmost (term m (term l (term v no_terms))) n x h = atmost_scoped m l v n x h
+basic_scoped _ _ n x h = absurd (cc)

@@ -1,11 +1,13 @@
 -- The linear rows keep the limit of width.
-use Rattle.std.proofs.Common.{◌≡◌, ℕ, zero, suc, ◌+◌, ◌*◌, ◌^◌, ◌<◌, max, Bool, true, false, not, ℤ, pos, negsuc, ◌*ℤ◌, neg_ℤ, nat_abs, List, [], ◌∷◌, ◌++◌, refl, ap, arith}
+use Rattle.std.proofs.Common.{◌≡◌, ℕ, zero, suc, ◌+◌, ◌*◌, ◌^◌, ◌≤◌, ◌<◌, max, Bool, true, false, cond, not, ◌==◌, ℤ, pos, negsuc, ◌+ℤ◌, ◌*ℤ◌, neg_ℤ, nat_abs, List, [], ◌∷◌, ◌++◌, refl, ap, arith, mul-le-mul}
 use Rattle.std.proofs.lemmas.Bool.{and_from}
+use Rattle.std.specs.Ordering.{int_eq}
 use Rattle.std.proofs.lemmas.Int.{ints}
+use Rattle.fd_language.proofs.Lemmas.{abs_add}
 use Rattle.fd_language.specs.Range.{Expr, Number, Min, Max, Val, Sub, Mul, DivDown, DivUp}
 use Rattle.fd_model.specs.Closed.{AllPosted}
 use Rattle.fd_language.specs.RangeVerdict.{bound, over_limit, expr_within, range_within}
-use Rattle.fd_model.specs.Linear.{scaled, Comparison, IsEqual, IsOther, IsAtMost}
+use Rattle.fd_model.specs.Linear.{with_product, scaled, nonzero, Comparison, IsEqual, IsOther, IsAtMost}
 use Rattle.fd_model.specs.LinearRows.{by_sign, minus_products, low, high, exact, row, row_by_sign, rows_behind}
 use Rattle.fd_model.proofs.Integers.{turned_once}
 use Rattle.fd_model.proofs.LinearForms.{NoneZero}
@@ -17,6 +19,27 @@ under n h = grind arith
 abbrev pub weight : ℕ → List (ℕ × ℤ) → ℕ
 weight M [] = 0
 weight M (t ∷ ts) = nat_abs t.1 * M + weight M ts
+
+-- adding up
+weight_one : (M : ℕ) (c : Bool) (x y : ℕ) (z a : ℤ) (ts us : List (ℕ × ℤ)) → weight M us ≤ nat_abs a * M + weight M ts
+    → weight M (cond c ((x, z +ℤ a) ∷ ts) ((y, z) ∷ us)) ≤ nat_abs a * M + (nat_abs z * M + weight M ts)
+weight_one M true x y z a ts us h = more (nat_abs (z +ℤ a)) (nat_abs z) (nat_abs a) (weight M ts) (abs_add z a) where
+  more : (p q r w : ℕ) → p ≤ q + r → p * M + w ≤ r * M + (q * M + w)
+  more p q r w h = let e = mul-le-mul h (same M) in omega arith where
+    same : (n : ℕ) → n ≤ n
+    same n = omega arith
+weight_one M false x y z a ts us h = omega arith
+
+pub weight_product : (M : ℕ) (ts : List (ℕ × ℤ)) (x : ℕ) (a : ℤ) → weight M (with_product ts x a) ≤ nat_abs a * M + weight M ts
+weight_product M [] x a = omega arith
+weight_product M (t ∷ ts) x a = weight_one M (t.0 == x) x t.0 t.1 a ts (with_product ts x a) (weight_product M ts x a)
+
+pub weight_nonzero : (M : ℕ) (ts : List (ℕ × ℤ)) → weight M (nonzero ts) ≤ weight M ts
+weight_nonzero M [] = omega arith
+weight_nonzero M (t ∷ ts) = by_test (int_eq t.1 (pos 0)) (weight_nonzero M ts) where
+  by_test : (c : Bool) → weight M (nonzero ts) ≤ weight M ts → weight M (cond c (nonzero ts) (t ∷ nonzero ts)) ≤ nat_abs t.1 * M + weight M ts
+  by_test true h = omega arith
+  by_test false h = omega arith
 
 abbrev pub AreNarrow : List (ℕ × ℤ) → Type 0
 AreNarrow [] = Unit {0}
@@ -33,7 +56,7 @@ narrow_append (t ∷ ts) us h g = (h.0, narrow_append ts us h.1 g)
 pub turned_size : (z : ℤ) → nat_abs (negsuc 0 *ℤ z) ≡ nat_abs z
 turned_size z = let e = turned_once z in omega (arith, ints)
 
-weight-scaled : (M : ℕ) (ts : List (ℕ × ℤ)) → weight M (scaled (negsuc 0) ts) ≡ weight M ts
+pub weight-scaled : (M : ℕ) (ts : List (ℕ × ℤ)) → weight M (scaled (negsuc 0) ts) ≡ weight M ts
 weight-scaled M [] = refl
 weight-scaled M (t ∷ ts) = let e = ap (λ n. n * M) (turned_size t.1) in let f = weight-scaled M ts in omega arith
 

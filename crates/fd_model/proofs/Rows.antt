@@ -69,7 +69,7 @@ down_test : (v : ℤ) (n k : ℕ) → int_le (pos n) (down_by v k) ≡ int_le (p
 down_test (pos m) n k = same_le (pos n) (pos (m / suc k)) (pos (suc k * n)) (pos m) (λ h. let e = nat_down n m k (omega (arith, ints)) in omega (arith, ints)) (λ h. let e = nat_down_back n m k (omega (arith, ints)) in omega (arith, ints))
 down_test (negsuc m) n k = same_le (pos n) (negsuc (m / suc k)) (pos (suc k * n)) (negsuc m) (λ h. absurd (omega (arith, ints))) (λ h. absurd (omega (arith, ints)))
 
-up_test : (v : ℤ) (n k : ℕ) → int_le (neg_ℤ (down_by (neg_ℤ v) k)) (pos n) ≡ int_le v (pos (suc k * n))
+pub up_test : (v : ℤ) (n k : ℕ) → int_le (neg_ℤ (down_by (neg_ℤ v) k)) (pos n) ≡ int_le v (pos (suc k * n))
 up_test (pos zero) n k = same_le (neg_ℤ (pos (0 / suc k))) (pos n) (pos 0) (pos (suc k * n)) (λ h. omega (arith, ints)) (λ h. omega (arith, ints))
 up_test (pos (suc m)) n k = same_le (pos (suc (m / suc k))) (pos n) (pos (suc m)) (pos (suc k * n)) (λ h. let e = nat_up n m k (omega (arith, ints)) in omega (arith, ints)) (λ h. let e = nat_up_back n m k (omega (arith, ints)) in omega (arith, ints))
 up_test (negsuc m) n k = same_le (neg_ℤ (pos (suc m / suc k))) (pos n) (negsuc m) (pos (suc k * n)) (λ h. omega (arith, ints)) (λ h. omega (arith, ints))

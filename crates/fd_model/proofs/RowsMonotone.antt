@@ -8,7 +8,8 @@ use Rattle.fd_model.specs.Closed.{AllPosted}
 use Rattle.fd_language.specs.Monotonicity.{IsMonotone}
 use Rattle.fd_language.proofs.Lemmas.{accepted_is_monotone, filled_as_is, nothing_asked}
 use Rattle.fd_model.specs.ConstraintLaws.{MonotoneRows}
-use Rattle.fd_model.proofs.RowDirections.{IsFitting, Fitting, expand_fitting}
+use Rattle.fd_model.proofs.RowDirections.{IsFitting, Fitting}
+use Rattle.fd_model.proofs.SplitDirections.{expand_fitting}
 
 -- the needs, of the places where something is asked
 needs_of : (ℕ → ℤ) → List (ℕ × Need) → Bool

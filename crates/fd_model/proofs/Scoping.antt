@@ -1,5 +1,5 @@
 -- The variables of a branch stay below its next fresh number.
-use Rattle.std.proofs.Common.{◌≡◌, ℕ, ◌<◌, ◌≤◌, cond, ltb, pos, List, [], ◌∷◌, ◌++◌, map, Option, Some, refl, ap, sym, ◌∙◌, inl, inr, arith, ltb-true, ltb-false, lt-ltb, le-ltb}
+use Rattle.std.proofs.Common.{◌≡◌, ℕ, ◌<◌, ◌≤◌, cond, ltb, pos, List, [], ◌∷◌, ◌++◌, map, Option, Some, None, refl, ap, sym, ◌∙◌, inl, inr, arith, ltb-true, ltb-false, lt-ltb, le-ltb}
 use Rattle.std.proofs.lemmas.Bool.{cases_Bool}
 use Rattle.fd_language.specs.Term.{Term, Terms, Var, Int, Atom, Comp, Substitution, apply, apply_all, no_terms, term, after}
 use Rattle.fd_language.specs.Unifier.{Equation, IsMostGeneral, Unifies}
@@ -7,7 +7,7 @@ use Rattle.fd_language.specs.Family.{Family}
 use Rattle.fd_model.specs.Closed.{constrained}
 use Rattle.fd_model.specs.Renaming.{rename_term, rename_goal, rename_goals}
 use Rattle.fd_language.specs.Occurrences.{Occurrence, range_occurrences}
-use Rattle.fd_model.specs.Goal.{Goal, Goals, no_goals, goal, listed, True, Fail, Unify, Post, Constrain, Label, Call, Either, Builtin, Branch}
+use Rattle.fd_model.specs.Goal.{Goal, Goals, no_goals, goal, listed, True, Fail, Unify, Post, Constrain, Label, Call, Either, Builtin, Cut, If, IfElse, Not, Best, marked, marked_goals, marked_all, Branch}
 use Rattle.fd_language.specs.Variables.{TermBelow, TermsBelow}
 use Rattle.fd_model.specs.Sound.{OccurrencesBelow, GoalBelow, GoalsBelow, EachBelow}
 use Rattle.fd_model.specs.Seen.{by_set, set_at}
@@ -112,6 +112,11 @@ mutual
   goal_wider n m l (Call t) h = wider n m l t h
   goal_wider n m l (Either g k) h = (goals_wider n m l g h.0, goals_wider n m l k h.1)
   goal_wider n m l (Builtin k t) h = wider n m l t h
+  goal_wider n m l (Cut c) h = tt
+  goal_wider n m l (If test holds) h = (goals_wider n m l test h.0, goals_wider n m l holds h.1)
+  goal_wider n m l (IfElse test holds other) h = (goals_wider n m l test h.0, goals_wider n m l holds h.1, goals_wider n m l other h.2)
+  goal_wider n m l (Not gs) h = goals_wider n m l gs h
+  goal_wider n m l (Best o least t c) h = (wider n m l t h.0, wider n m l c h.1)
 
   goals_wider : (n m : ℕ) → n ≤ m → (gs : Goals) → GoalsBelow n gs → GoalsBelow m gs
   goals_wider n m l no_goals h = tt
@@ -129,6 +134,33 @@ pub listed_below : (n : ℕ) (gs : Goals) → GoalsBelow n gs → EachBelow n (l
 listed_below n no_goals h = tt
 listed_below n (goal g gs) h = (h.0, listed_below n gs h.1)
 
+-- marking
+mutual
+  goal_marked : (n m : ℕ) (g : Goal) → GoalBelow n g → GoalBelow n (marked m g)
+  goal_marked n m True h = h
+  goal_marked n m Fail h = h
+  goal_marked n m (Unify s t) h = h
+  goal_marked n m (Post t r) h = h
+  goal_marked n m (Constrain c t) h = h
+  goal_marked n m (Label o t) h = h
+  goal_marked n m (Call t) h = h
+  goal_marked n m (Either g k) h = (goals_marked n m g h.0, goals_marked n m k h.1)
+  goal_marked n m (Builtin k t) h = h
+  goal_marked n m (Cut None) h = h
+  goal_marked n m (Cut (Some c)) h = h
+  goal_marked n m (If test holds) h = (h.0, goals_marked n m holds h.1)
+  goal_marked n m (IfElse test holds other) h = (h.0, goals_marked n m holds h.1, goals_marked n m other h.2)
+  goal_marked n m (Not gs) h = h
+  goal_marked n m (Best o least t c) h = h
+
+  goals_marked : (n m : ℕ) (gs : Goals) → GoalsBelow n gs → GoalsBelow n (marked_goals m gs)
+  goals_marked n m no_goals h = tt
+  goals_marked n m (goal g gs) h = (goal_marked n m g h.0, goals_marked n m gs h.1)
+
+pub each_marked : (n m : ℕ) (gs : List Goal) → EachBelow n gs → EachBelow n (marked_all m gs)
+each_marked n m [] h = tt
+each_marked n m (g ∷ gs) h = (goal_marked n m g h.0, each_marked n m gs h.1)
+
 -- renaming
 module _ (k m : ℕ) (f : ℕ → ℕ) (h : (x : ℕ) → x < k → f x < m) where
   pub term_renamed : (t : Term) → TermBelow k t → TermBelow m (rename_term f t)
@@ -145,6 +177,11 @@ module _ (k m : ℕ) (f : ℕ → ℕ) (h : (x : ℕ) → x < k → f x < m) whe
     goal_renamed (Call t) b = term_renamed t b
     goal_renamed (Either x y) b = (goals_renamed x b.0, goals_renamed y b.1)
     goal_renamed (Builtin i t) b = term_renamed t b
+    goal_renamed (Cut c) b = tt
+    goal_renamed (If test holds) b = (goals_renamed test b.0, goals_renamed holds b.1)
+    goal_renamed (IfElse test holds other) b = (goals_renamed test b.0, goals_renamed holds b.1, goals_renamed other b.2)
+    goal_renamed (Not gs) b = goals_renamed gs b
+    goal_renamed (Best o least t c) b = (term_renamed t b.0, term_renamed c b.1)
 
     goals_renamed : (gs : Goals) → GoalsBelow k gs → GoalsBelow m (rename_goals f gs)
     goals_renamed no_goals b = tt

@@ -1,16 +1,15 @@
 -- The branches of a flat query before its labelling: each constraint in turn is written as ranges.
 use Rattle.std.proofs.Common.{◌≡◌, ℕ, ◌<◌, ◌≤◌, true, false, cond, ltb, pos, IsTrue, List, [], ◌∷◌, ◌++◌, map, Option, Some, ◌⊎◌, refl, ap, sym, ◌∙◌, subst, inl, inr, arith, ltb-true, ltb-false, lt-ltb, le-ltb}
 use Rattle.std.proofs.lemmas.Bool.{cases_Bool}
-use Rattle.fd_model.specs.declared.kinds.Order.{Order}
 use Rattle.fd_language.specs.Term.{Term, Var, Int, Substitution, apply}
 use Rattle.fd_language.specs.Unifier.{Equation, Unifies}
 use Rattle.fd_language.specs.Family.{Family, has}
 use Rattle.fd_language.specs.Range.{Indexical, set_of}
 use Rattle.fd_model.specs.Closed.{constrained}
-use Rattle.fd_model.specs.Goal.{Goal, Label, Program, Branch}
+use Rattle.fd_model.specs.Goal.{Goal, Program, Branch}
 use Rattle.fd_model.specs.Seen.{IsConsistent, IsView, set_at, by_set}
 use Rattle.fd_model.specs.Children.{look_in}
-use Rattle.fd_language.proofs.Lemmas.{has_high, has_either, in_left, in_right, join_both, split_both}
+use Rattle.fd_language.proofs.Lemmas.{has_either, in_left, in_right, join_both, split_both}
 use Rattle.fd_model.proofs.GoalRows.{Rewritten, with_ranges, numbers, Gives, FitsRow, IsPlain}
 use Rattle.fd_model.specs.Satisfies.{Assignment, singles}
 use Rattle.fd_language.specs.Lists.{Each}
@@ -22,26 +21,26 @@ use Rattle.fd_model.proofs.Growing.{posted_both, constrained_either, settles_bot
 use Rattle.fd_model.proofs.ListNames.{posted_left, posted_right, named_left, named_right}
 
 -- What a goal of a flat query became, where its variables are seen by look.
-pub record IsGoalRow (M n : ℕ) (vs : List ℕ) (look : Substitution) (Holds : Assignment → Type 0) (w : Rewritten) : Type 0 where
+pub record IsGoalRow (M N n : ℕ) (vs : List ℕ) (look : Substitution) (Holds : Assignment → Type 0) (w : Rewritten) : Type 0 where
   pub fresh : n ≤ w.fresh
   pub below : (x : ℕ) → has (constrained w.ranges) x ≡ true → x < w.fresh
   pub kinds : (x : ℕ) → has (constrained w.ranges) x ≡ true → (has vs x ≡ true) ⊎ ((has w.added x ≡ true) ⊎ Somewhere (Gives x) w.equations)
   pub equated : Each (λ e. (x : ℕ) × Gives x e × (n ≤ x) × (has (constrained w.ranges) x ≡ true)) w.equations
   pub added : (x : ℕ) → has w.added x ≡ true → (n ≤ x) × (has (constrained w.ranges) x ≡ true)
   pub settles : Settles M w.ranges w.added
-  pub into : (a : Assignment) → ((x : ℕ) → a x ≤ M) → ((y : ℕ) → has vs y ≡ true → apply (numbers a) (look y) ≡ Int (pos (a y))) → Holds a → (e : Assignment) × FitsRow M w e × ((x : ℕ) → x < n → e x ≡ a x)
-  pub out : (e : Assignment) → ((y : ℕ) → has vs y ≡ true → apply (numbers e) (look y) ≡ Int (pos (e y))) → FitsRow M w e → Holds e
+  pub into : (a : Assignment) → ((x : ℕ) → a x ≤ N) → ((y : ℕ) → has vs y ≡ true → apply (numbers a) (look y) ≡ Int (pos (a y))) → Holds a → (e : Assignment) × FitsRow M N w e × ((x : ℕ) → x < n → e x ≡ a x)
+  pub out : (e : Assignment) → ((y : ℕ) → has vs y ≡ true → apply (numbers e) (look y) ≡ Int (pos (e y))) → FitsRow M N w e → Holds e
 
-module _ (M : ℕ) (prog : Program) (o : Order) (t : Term) (vs : List ℕ) (nv : ℕ) (Holds : Assignment → Goal → Type 0) (IsGood : Goal → Type 0)
+module _ (M N : ℕ) (within : N ≤ M) (prog : Program) (final : Goal) (vs : List ℕ) (nv : ℕ) (Holds : Assignment → Goal → Type 0) (IsGood : Goal → Type 0)
     (every : (x : ℕ) → x < nv → has vs x ≡ true) (none : (x : ℕ) → has vs x ≡ true → x < nv) where
   abbrev pub IsEquated : List Indexical → Equation → Type 0
   IsEquated ps e = (x : ℕ) × Gives x e × (nv ≤ x) × (has (constrained ps) x ≡ true)
 
   pub record IsStage (b : Branch) (gs : List Goal) : Type 0 where
     pub new : List ℕ
-    pub goals : b.goals ≡ gs ++ Label o t ∷ []
+    pub goals : b.goals ≡ gs ++ final ∷ []
     pub good : Each IsGood gs
-    pub consistent : IsConsistent M b.equations b.posted
+    pub consistent : IsConsistent M N b.equations b.posted
     pub equated : Each (IsEquated b.posted) b.equations
     pub low : nv ≤ b.fresh
     pub below : (x : ℕ) → has (constrained b.posted) x ≡ true → x < b.fresh
@@ -51,7 +50,7 @@ module _ (M : ℕ) (prog : Program) (o : Order) (t : Term) (vs : List ℕ) (nv :
 
   -- the values of vs that the branch and the constraints that are left allow
   abbrev pub Assigned : Branch → List Goal → List ℕ → Type 0
-  Assigned b gs ns = (a : Assignment) × IsSolution M b.equations b.posted vs a × Each (Holds a) gs × (ns ≡ map a vs)
+  Assigned b gs ns = (a : Assignment) × IsSolution M N b.equations b.posted vs a × Each (Holds a) gs × (ns ≡ map a vs)
 
   -- an equation that gives an integer asks nothing of other variables
   equation_kept : (u s : Substitution) (x : ℕ) (e : Equation) → Gives x e → u x ≡ s x → apply s e.left ≡ apply s e.right → apply u e.left ≡ apply u e.right
@@ -79,10 +78,10 @@ module _ (M : ℕ) (prog : Program) (o : Order) (t : Term) (vs : List ℕ) (nv :
     unifies_leave s h = kept_equations b.posted (leave s) s (λ x l c. leave_high s x l) b.equations stage.equated h
 
     -- a solution as a substitution of all variables
-    pub as_numbers : (a : Assignment) → IsSolution M b.equations b.posted vs a → Unifies (numbers a) b.equations
-    as_numbers a l = kept_equations b.posted (numbers a) l.unifier (λ x k c. sym (given_constrained M b.equations b.posted vs a l x c)) b.equations stage.equated l.unifies
+    pub as_numbers : (a : Assignment) → IsSolution M N b.equations b.posted vs a → Unifies (numbers a) b.equations
+    as_numbers a l = kept_equations b.posted (numbers a) l.unifier (λ x k c. sym (given_constrained M N within b.equations b.posted vs a l x c)) b.equations stage.equated l.unifies
 
-    module _ (s : Substitution) (D : Family) (v : IsView M b.equations b.posted s D) where
+    module _ (s : Substitution) (D : Family) (v : IsView M N b.equations b.posted s D) where
       plain_term : (y : ℕ) (r : Term) → y < nv → apply (leave s) r ≡ Var y → s y ≡ r → s y ≡ Var y
       plain_term y (Var x) h e f = elim (cases_Bool (ltb x nv)) [
         | inl k ↦ f ∙ sym (leave_low s x (ltb-true x nv k)) ∙ e
@@ -98,36 +97,36 @@ module _ (M : ℕ) (prog : Program) (o : Order) (t : Term) (vs : List ℕ) (nv :
       pub plain_unifier : (y : ℕ) → y < nv → s y ≡ Var y
       plain_unifier y h = plain_term y (s y) h (v.general.general (leave s) y (unifies_leave s v.general.unifies) ∙ leave_low s y h) refl
 
-      plain_by : (y : ℕ) (r : Option (List ℕ)) → set_at s D (constrained b.posted) y ≡ r → (by_set r y ≡ Var y) ⊎ ((n : ℕ) × (n ≤ M) × (by_set r y ≡ Int (pos n)))
+      plain_by : (y : ℕ) (r : Option (List ℕ)) → set_at s D (constrained b.posted) y ≡ r → (by_set r y ≡ Var y) ⊎ ((n : ℕ) × (n ≤ N) × (by_set r y ≡ Int (pos n)))
       plain_by y (Some (n ∷ [])) e =
           let f = set_found s D y (constrained b.posted) (n ∷ []) e in
-          inr (n, has_high 0 M (D f.variable) n (v.closed.family.rising f.variable) (subst (λ l. has l n ≡ true) (sym f.set) (first_member n [])), refl)
+          inr (n, v.closed.within f.variable n f.listed (subst (λ l. has l n ≡ true) (sym f.set) (first_member n [])), refl)
       plain_by y _ e = inl refl
 
-      pub plain : IsPlain M vs (look_in b s D)
+      pub plain : IsPlain N vs (look_in b s D)
       plain y h =
           let e : look_in b s D y ≡ by_set (set_at s D (constrained b.posted) y) y = ap (apply (λ w. by_set (set_at s D (constrained b.posted) w) w)) (plain_unifier y (none y h)) in
           elim (plain_by y (set_at s D (constrained b.posted) y) refl) [ inl k ↦ inl (e ∙ k) | inr k ↦ inr (k.0, k.1, e ∙ k.2) ]
 
-      same_by : (a : Assignment) (u : Substitution) (y : ℕ) → u y ≡ Int (pos (a y)) → apply u (look_in b s D y) ≡ u y → (look_in b s D y ≡ Var y) ⊎ ((n : ℕ) × (n ≤ M) × (look_in b s D y ≡ Int (pos n))) → apply (numbers a) (look_in b s D y) ≡ Int (pos (a y))
+      same_by : (a : Assignment) (u : Substitution) (y : ℕ) → u y ≡ Int (pos (a y)) → apply u (look_in b s D y) ≡ u y → (look_in b s D y ≡ Var y) ⊎ ((n : ℕ) × (n ≤ N) × (look_in b s D y ≡ Int (pos n))) → apply (numbers a) (look_in b s D y) ≡ Int (pos (a y))
       same_by a u y e f (inl h) = ap (apply (numbers a)) h
       same_by a u y e f (inr h) = ap (apply (numbers a)) h.2 ∙ sym (ap (apply u) h.2) ∙ f ∙ e
 
       -- a solution agrees with what is seen
-      pub seen_same : (a : Assignment) → IsSolution M b.equations b.posted vs a → (y : ℕ) → has vs y ≡ true → apply (numbers a) (look_in b s D y) ≡ Int (pos (a y))
-      seen_same a l y h = same_by a l.unifier y (given_listed M b.equations b.posted vs a l y h) (through_look M b s D v stage.consistent l.unifier (solution_heeds M b.equations b.posted vs a l) y) (plain y h)
+      pub seen_same : (a : Assignment) → IsSolution M N b.equations b.posted vs a → (y : ℕ) → has vs y ≡ true → apply (numbers a) (look_in b s D y) ≡ Int (pos (a y))
+      seen_same a l y h = same_by a l.unifier y (given_listed M N within b.equations b.posted vs a l y h) (through_look M N b s D v stage.consistent l.unifier (solution_heeds M N within b.equations b.posted vs a l) y) (plain y h)
 
   -- one constraint is written as ranges
-  module _ (b : Branch) (g : Goal) (gs : List Goal) (stage : IsStage b (g ∷ gs)) (s : Substitution) (D : Family) (v : IsView M b.equations b.posted s D) (w : Rewritten) (row : IsGoalRow M b.fresh vs (look_in b s D) (λ a. Holds a g) w) where
+  module _ (b : Branch) (g : Goal) (gs : List Goal) (stage : IsStage b (g ∷ gs)) (s : Substitution) (D : Family) (v : IsView M N b.equations b.posted s D) (w : Rewritten) (row : IsGoalRow M N b.fresh vs (look_in b s D) (λ a. Holds a g) w) where
     abbrev pub child : Branch
-    child = with_ranges b (gs ++ Label o t ∷ []) w
+    child = with_ranges b (gs ++ final ∷ []) w
 
     child_equated : Each (IsEquated child.posted) child.equations
     child_equated = each_both (IsEquated child.posted) w.equations b.equations
         (each_map (λ e. (x : ℕ) × Gives x e × (b.fresh ≤ x) × (has (constrained w.ranges) x ≡ true)) (IsEquated child.posted) (λ e h. (h.0, h.1, (let l = stage.low in let m = h.2 in omega arith), named_left w.ranges b.posted h.0 h.3)) w.equations row.equated)
         (each_map (IsEquated b.posted) (IsEquated child.posted) (λ e h. (h.0, h.1, h.2, named_right w.ranges b.posted h.0 h.3)) b.equations stage.equated)
 
-    extended : (a : Assignment) → IsSolution M b.equations b.posted vs a → (e : Assignment) → FitsRow M w e → ((x : ℕ) → x < b.fresh → e x ≡ a x) → IsSolution M child.equations child.posted vs e
+    extended : (a : Assignment) → IsSolution M N b.equations b.posted vs a → (e : Assignment) → FitsRow M N w e → ((x : ℕ) → x < b.fresh → e x ≡ a x) → IsSolution M N child.equations child.posted vs e
     extended a l e f same = record {
       bounded = f.bounded;
       unifier = numbers e;
@@ -137,7 +136,7 @@ module _ (M : ℕ) (prog : Program) (o : Order) (t : Term) (vs : List ℕ) (nv :
       posted = posted_both (λ p. IsTrue (has (set_of M (singles e) p.range) (e p.target))) w.ranges b.posted f.posted (posted_moved M a e b.posted (λ x c. same x (stage.below x c)) l.posted);
     }
 
-    less_solution : (e : Assignment) → IsSolution M child.equations child.posted vs e → IsSolution M b.equations b.posted vs e
+    less_solution : (e : Assignment) → IsSolution M N child.equations child.posted vs e → IsSolution M N b.equations b.posted vs e
     less_solution e l = record {
       bounded = l.bounded;
       unifier = l.unifier;
@@ -146,11 +145,11 @@ module _ (M : ℕ) (prog : Program) (o : Order) (t : Term) (vs : List ℕ) (nv :
       posted = posted_right (λ p. IsTrue (has (set_of M (singles e) p.range) (e p.target))) w.ranges b.posted l.posted;
     }
 
-    child_fits : (e : Assignment) → IsSolution M child.equations child.posted vs e → FitsRow M w e
+    child_fits : (e : Assignment) → IsSolution M N child.equations child.posted vs e → FitsRow M N w e
     child_fits e l = record {
       bounded = l.bounded;
       equations = (split_both (numbers e) w.equations b.equations
-          (kept_equations child.posted (numbers e) l.unifier (λ x k c. sym (given_constrained M child.equations child.posted vs e l x c)) child.equations child_equated l.unifies)).0;
+          (kept_equations child.posted (numbers e) l.unifier (λ x k c. sym (given_constrained M N within child.equations child.posted vs e l x c)) child.equations child_equated l.unifies)).0;
       posted = posted_left (λ p. IsTrue (has (set_of M (singles e) p.range) (e p.target))) w.ranges b.posted l.posted;
     }
 
@@ -172,7 +171,7 @@ module _ (M : ℕ) (prog : Program) (o : Order) (t : Term) (vs : List ℕ) (nv :
       ]
     ]
 
-    pub child_stage : IsConsistent M child.equations child.posted → IsStage child gs
+    pub child_stage : IsConsistent M N child.equations child.posted → IsStage child gs
     child_stage c = record {
       new = w.added ++ stage.new;
       goals = refl;
@@ -202,5 +201,5 @@ module _ (M : ℕ) (prog : Program) (o : Order) (t : Term) (vs : List ℕ) (nv :
         let k = less_solution a l in
         (a, k, (row.out a (seen_same b (g ∷ gs) stage s D v a k) (child_fits a l), h), e)
 
-    pub child_live : (ns : List ℕ) → Assigned child gs ns → IsConsistent M child.equations child.posted
-    child_live ns h = solution_consistent M child.equations child.posted vs h.0 h.1
+    pub child_live : (ns : List ℕ) → Assigned child gs ns → IsConsistent M N child.equations child.posted
+    child_live ns h = solution_consistent M N within child.equations child.posted vs h.0 h.1

@@ -19,11 +19,11 @@ use Rattle.fd_language.specs.RangeRenaming.{rename_range}
 use Rattle.fd_model.specs.Renaming.{rename_term, rename_goal}
 use Rattle.fd_language.specs.Occurrences.{Occurrence, one_occurrence, range_occurrences}
 use Rattle.fd_model.specs.Posting.{is_integer, integer_of, integers_at, slot, slot_equations, Found, offends, posts, first_offence, unless_offence, post}
-use Rattle.fd_model.specs.Goal.{Goal, Clause, listed, True, Fail, Unify, Post, Constrain, Label, Call, Either, Builtin, Program, Query, Branch}
+use Rattle.fd_model.specs.Goal.{Goal, Clause, listed, True, Fail, Unify, Post, Constrain, Label, Call, Either, Builtin, Cut, If, IfElse, Not, Best, Goals, marked_all, Program, Query, Branch}
 use Rattle.fd_language.specs.Variables.{TermBelow, TermsBelow}
-use Rattle.fd_model.specs.Sound.{OccurrencesBelow, GoalBelow, EachBelow, ClausesScoped}
+use Rattle.fd_model.specs.Sound.{OccurrencesBelow, GoalBelow, GoalsBelow, EachBelow, ClausesScoped}
 use Rattle.fd_model.specs.Seen.{IsConsistent}
-use Rattle.fd_model.specs.Children.{Offer, Faults, Gives, with_goals, with_equations, fits_head, paired, argument_equations, by_clause, by_clauses, by_post, by_constraint, by_finding, Kept, KeptOffer, look_in, offer, is_number, by_value, by_pick, by_listing, sets_in}
+use Rattle.fd_model.specs.Children.{Offer, Faults, Gives, Seeks, by_test, by_cost, cost_fault, unless_fault, with_goals, with_equations, fits_head, paired, argument_equations, by_clause, by_clauses, by_post, by_constraint, by_finding, Kept, KeptOffer, look_in, offer, is_number, by_value, by_pick, by_listing, sets_in}
 use Rattle.fd_language.proofs.Lemmas.{has_either, filled_leaves, reads_occur}
 use Rattle.fd_model.specs.Labelling.{read_list, values_by, first_open, pick, open_ones}
 use Rattle.fd_model.specs.Members.{Member, Open, Known}
@@ -32,6 +32,8 @@ use Rattle.fd_language.specs.Lists.{Each}
 use Rattle.fd_model.specs.Answers.{Settles}
 use Rattle.fd_model.specs.Ways.{Way, begins, goes, added_in, added_by, WayAnswers}
 use Rattle.fd_model.proofs.Lists.{each_both, each_at}
+use Rattle.fd_model.specs.Leaves.{SoughtLeaf}
+use Rattle.fd_model.proofs.Leaves.{Passes, sought_each}
 use Rattle.fd_model.proofs.Completing.{labelling_answers}
 use Rattle.fd_model.proofs.Heeding.{first_member}
 use Rattle.fd_model.proofs.Listing.{Cell, cell_of, variable, integer, with_element}
@@ -44,7 +46,7 @@ use Rattle.fd_model.proofs.Seeing.{wider, arguments_below as terms_below}
 use Rattle.fd_model.proofs.ExactRows.{following}
 use Rattle.fd_model.specs.LinearRows.{Expansion}
 use Rattle.fd_model.specs.Constraining.{constrain, arguments}
-use Rattle.fd_model.proofs.Scoping.{below_under, look_below, equations_wider, each_wider, each_both_below, listed_below, occurrences_wider, term_renamed, body_renamed}
+use Rattle.fd_model.proofs.Scoping.{each_marked, below_under, look_below, equations_wider, each_wider, each_both_below, listed_below, occurrences_wider, term_renamed, body_renamed}
 
 abbrev Low : ℕ → List ℕ → Type 0
 Low n xs = (x : ℕ) → has xs x ≡ true → x < n
@@ -143,14 +145,14 @@ pub record IsSmall (b : Branch) : Type 0 where
   pub equations : EquationsBelow b.fresh b.equations
   pub posted : Low b.fresh (constrained b.posted)
 
-module _ (M : ℕ) (prog : Program) (scoped : ClausesScoped prog.clauses) where
+module _ (M N : ℕ) (prog : Program) (scoped : ClausesScoped prog.clauses) where
   -- what a way keeps
   pub record IsTracked (b : Branch) (ws : List ℕ) : Type 0 where
     pub small : IsSmall b
     pub settles : Settles M b.posted ws
     pub inside : (x : ℕ) → has ws x ≡ true → has (constrained b.posted) x ≡ true
 
-  module _ (b : Branch) (ws : List ℕ) (tracked : IsTracked b ws) (g : Goal) (rest : List Goal) (head : GoalBelow b.fresh g) (others : EachBelow b.fresh rest) (look : Substitution) (seen : (x : ℕ) → x < b.fresh → TermBelow b.fresh (look x)) where
+  module _ (m : ℕ) (b : Branch) (ws : List ℕ) (tracked : IsTracked b ws) (g : Goal) (rest : List Goal) (head : GoalBelow b.fresh g) (others : EachBelow b.fresh rest) (look : Substitution) (seen : (x : ℕ) → x < b.fresh → TermBelow b.fresh (look x)) where
     -- the ranges are as they were
     same_posted : (c : Branch) → c.posted ≡ b.posted → IsSmall c → IsTracked c ws
     same_posted c e small = record {
@@ -185,6 +187,7 @@ module _ (M : ℕ) (prog : Program) (scoped : ClausesScoped prog.clauses) where
     abbrev Tracks : List ℕ → Offer → Type 0
     Tracks us (Faults f) = Unit {0}
     Tracks us (Gives cs) = Each (λ c. IsTracked c us) cs
+    Tracks us (Seeks d r o least t c) = (d ≡ b) × (r ≡ rest) × TermBelow b.fresh t × (us ≡ ws)
 
     by_posting : (f : Found) → ((p : Indexical) (m : ℕ) (es : List Equation) → f ≡ posts p m es → IsBelow look b.fresh m p es) → Tracks ws (by_post b rest f)
     by_posting (offends f) h = tt
@@ -219,20 +222,20 @@ module _ (M : ℕ) (prog : Program) (scoped : ClausesScoped prog.clauses) where
     arguments_below n (Comp f ts) (Comp h us) i k = paired_below n ts us i k
     arguments_below n _ _ i k = tt
 
-    clause_tracked : (t : Term) (c : Clause) → TermBelow b.fresh t → TermBelow c.variables c.head → EachBelow c.variables c.body → IsTracked (by_clause b t rest c) ws
+    clause_tracked : (t : Term) (c : Clause) → TermBelow b.fresh t → TermBelow c.variables c.head → EachBelow c.variables c.body → IsTracked (by_clause m b t rest c) ws
     clause_tracked t c h i k =
         let shift : (x : ℕ) → x < c.variables → b.fresh + x < b.fresh + c.variables = λ x l. omega arith in
         more_equations _ _ (b.fresh + c.variables) (omega arith)
-        (each_both_below (b.fresh + c.variables) (map (rename_goal (λ x. b.fresh + x)) c.body) rest (body_renamed c.variables (b.fresh + c.variables) (λ x. b.fresh + x) shift c.body k) (each_wider b.fresh (b.fresh + c.variables) (omega arith) rest others))
+        (each_both_below (b.fresh + c.variables) (marked_all m (map (rename_goal (λ x. b.fresh + x)) c.body)) rest (each_marked (b.fresh + c.variables) m (map (rename_goal (λ x. b.fresh + x)) c.body) (body_renamed c.variables (b.fresh + c.variables) (λ x. b.fresh + x) shift c.body k)) (each_wider b.fresh (b.fresh + c.variables) (omega arith) rest others))
         (arguments_below (b.fresh + c.variables) t (rename_term (λ x. b.fresh + x) c.head) (wider b.fresh (b.fresh + c.variables) (omega arith) t h) (term_renamed c.variables (b.fresh + c.variables) (λ x. b.fresh + x) shift c.head i))
 
     by_head : (fits : Bool) (c : Branch) (cs : List Branch) → IsTracked c ws → Each (λ d. IsTracked d ws) cs → Each (λ d. IsTracked d ws) (cond fits (c ∷ cs) cs)
     by_head true c cs h k = (h, k)
     by_head false c cs h k = k
 
-    clauses_tracked : (t : Term) (cs : List Clause) → TermBelow b.fresh t → ClausesScoped cs → Each (λ d. IsTracked d ws) (by_clauses cs b t rest)
+    clauses_tracked : (t : Term) (cs : List Clause) → TermBelow b.fresh t → ClausesScoped cs → Each (λ d. IsTracked d ws) (by_clauses m cs b t rest)
     clauses_tracked t [] h k = tt
-    clauses_tracked t (c ∷ cs) h k = by_head (fits_head t c.head) (by_clause b t rest c) (by_clauses cs b t rest) (clause_tracked t c h k.0.0 k.0.1) (clauses_tracked t cs h k.1)
+    clauses_tracked t (c ∷ cs) h k = by_head (fits_head t c.head) (by_clause m b t rest c) (by_clauses m cs b t rest) (clause_tracked t c h k.0.0 k.0.1) (clauses_tracked t cs h k.1)
 
     finding_tracked : (f : Finding) → IsFindingBelow b.fresh f → Tracks ws (by_finding b rest f)
     finding_tracked (faulted f) h = tt
@@ -243,51 +246,92 @@ module _ (M : ℕ) (prog : Program) (scoped : ClausesScoped prog.clauses) where
     seen_below : (t : Term) → TermBelow b.fresh t → TermBelow b.fresh (apply look t)
     seen_below t h = below_under b.fresh b.fresh look seen t h
 
-    offer_tracked : (sets : ℕ → Option (List ℕ)) (h : Goal) → GoalBelow b.fresh h → g ≡ h → Tracks (added_by look b.fresh h ++ ws) (offer M prog look sets b h rest)
+    -- a test, a cut, and what comes then
+    tested : (k : ℕ) (test : Goals) (gs : List Goal) → GoalsBelow b.fresh test → EachBelow b.fresh gs → IsTracked (by_test k m b test gs) ws
+    tested k test gs h others = same_goals (marked_all k (listed test) ++ Cut (Some m) ∷ gs) (each_both_below b.fresh (marked_all k (listed test)) (Cut (Some m) ∷ gs) (each_marked b.fresh k (listed test) (listed_below b.fresh test h)) (tt, others))
+
+    by_costs : (o : Order) (least : Bool) (t c : Term) → TermBelow b.fresh t → (l : Result (List Member) QueryFault) → Tracks ws (by_cost (apply look c) (Seeks b rest o least t c) l)
+    by_costs o least t c h (Err f) = tt
+    by_costs o least t c h (Ok ms) = unless (cost_fault ms (apply look c))
+      where
+        unless : (f : Option QueryFault) → Tracks ws (unless_fault f (Seeks b rest o least t c))
+        unless (Some f) = tt
+        unless None = (refl, refl, h, refl)
+
+    offer_tracked : (sets : ℕ → Option (List ℕ)) (h : Goal) → GoalBelow b.fresh h → g ≡ h → Tracks (added_by M look b.fresh h ++ ws) (offer M N m prog look sets b h rest)
     offer_tracked sets True i e = (same_goals rest others, tt)
     offer_tracked sets Fail i e = tt
     offer_tracked sets (Unify s t) i e = (more_equations rest (record { left = s; right = t } ∷ []) b.fresh (omega arith) others (i, tt), tt)
     offer_tracked sets (Post t r) i e = by_posting (post look t r b.fresh) (λ p m es f. post_below look t r b.fresh m p es i.0 i.1 f)
-    offer_tracked sets (Constrain c t) i e = by_row (constrain look c t b.fresh) (λ x f. following M c (arguments (apply look t)) b.fresh x (terms_below b.fresh (apply look t) (seen_below t i)) f)
+    offer_tracked sets (Constrain c t) i e = by_row (constrain M look c t b.fresh) (λ x f. following M c (arguments (apply look t)) b.fresh x (terms_below b.fresh (apply look t) (seen_below t i)) f)
     offer_tracked sets (Label o t) i e =
-        subst (λ k. Tracks ws (by_listing (λ x. values_by M (sets x)) b o k rest (read_list (apply look t)))) e
-        (by_listed (λ x. values_by M (sets x)) o (read_list (apply look t)) (λ ms f. list_below b.fresh (apply look t) ms (seen_below t i) f))
+        subst (λ k. Tracks ws (by_listing (λ x. values_by N (sets x)) b o k rest (read_list (apply look t)))) e
+        (by_listed (λ x. values_by N (sets x)) o (read_list (apply look t)) (λ ms f. list_below b.fresh (apply look t) ms (seen_below t i) f))
     offer_tracked sets (Call t) i e = clauses_tracked t prog.clauses i scoped
     offer_tracked sets (Either x y) i e = (same_goals (listed x ++ rest) (each_both_below b.fresh (listed x) rest (listed_below b.fresh x i.0) others), (same_goals (listed y ++ rest) (each_both_below b.fresh (listed y) rest (listed_below b.fresh y i.1) others), tt))
     offer_tracked sets (Builtin k t) i e = finding_tracked (finding k look sets t) (finding_below b.fresh k look sets t i)
+    offer_tracked sets (Cut c) i e = (same_goals rest others, tt)
+    offer_tracked sets (If test holds) i e = (tested m test (listed holds ++ rest) i.0 (each_both_below b.fresh (listed holds) rest (listed_below b.fresh holds i.1) others), tt)
+    offer_tracked sets (IfElse test holds other) i e = (
+      tested (suc m) test (listed holds ++ rest) i.0 (each_both_below b.fresh (listed holds) rest (listed_below b.fresh holds i.1) others),
+      (same_goals (listed other ++ rest) (each_both_below b.fresh (listed other) rest (listed_below b.fresh other i.2) others), tt),
+    )
+    offer_tracked sets (Not gs) i e = (tested (suc m) gs (Fail ∷ rest) i (tt, others), (same_goals rest others, tt))
+    offer_tracked sets (Best o least t c) i e = by_costs o least t c i.0 (read_list (apply look t))
 
-    kept_tracked : (us : List ℕ) (bs cs : List Branch) → Each (λ c. IsTracked c us) bs → Kept M bs cs → Each (λ c. IsTracked c us × IsConsistent M c.equations c.posted) cs
-    kept_tracked us [] cs h k = subst (Each (λ c. IsTracked c us × IsConsistent M c.equations c.posted)) (sym k) tt
-    kept_tracked us (c ∷ bs) cs h (inl k) = subst (Each (λ c. IsTracked c us × IsConsistent M c.equations c.posted)) (sym k.1.1) ((h.0, k.0), kept_tracked us bs k.1.0 h.1 k.1.2)
+    kept_tracked : (us : List ℕ) (bs cs : List Branch) → Each (λ c. IsTracked c us) bs → Kept M N bs cs → Each (λ c. IsTracked c us × IsConsistent M N c.equations c.posted) cs
+    kept_tracked us [] cs h k = subst (Each (λ c. IsTracked c us × IsConsistent M N c.equations c.posted)) (sym k) tt
+    kept_tracked us (c ∷ bs) cs h (inl k) = subst (Each (λ c. IsTracked c us × IsConsistent M N c.equations c.posted)) (sym k.1.1) ((h.0, k.0), kept_tracked us bs k.1.0 h.1 k.1.2)
     kept_tracked us (c ∷ bs) cs h (inr k) = kept_tracked us bs cs h.1 k.1
-
-    children_tracked : (us : List ℕ) (o : Offer) (cs : List Branch) → Tracks us o → KeptOffer M o (Gives cs) → Each (λ c. IsTracked c us × IsConsistent M c.equations c.posted) cs
-    children_tracked us (Faults f) cs h k = absurd k
-    children_tracked us (Gives bs) cs h k = kept_tracked us bs cs h k
 
   heads_below : (n : ℕ) (gs : List Goal) (g : Goal) (rest : List Goal) → gs ≡ g ∷ rest → EachBelow n gs → GoalBelow n g × EachBelow n rest
   heads_below n gs g rest e h = subst (EachBelow n) e h
 
+  -- a branch on the way to a best leaf
+  abbrev IsSought : Branch → List ℕ → Order → Term → Branch → Type 0
+  IsSought b ws o t c = IsTracked c ws × IsConsistent M N c.equations c.posted × (c.goals ≡ Label o t ∷ []) × (c.fresh ≡ b.fresh)
+
+  sought_passes : (b : Branch) (ws : List ℕ) (o : Order) (t : Term) → Passes M N o t (IsSought b ws o t)
+  sought_passes b ws o t c s D ms x n h v e p i ok =
+      let g : GoalBelow c.fresh (Label o t) = (subst (EachBelow c.fresh) h.2 h.0.small.goals).0 in
+      let seen : (y : ℕ) → y < c.fresh → TermBelow c.fresh (look_in c s D y) = look_below c.fresh c s D v.general h.0.small.equations in
+      let low : x < c.fresh = list_below c.fresh (apply (look_in c s D) t) ms (seen_below 0 c ws h.0 (Label o t) [] g tt (look_in c s D) seen t g) e x (pick_there o _ ms x p) in
+      let one = by_numbers 0 c ws h.0 (Label o t) [] g tt (look_in c s D) seen x low (n ∷ []) in
+      (subst (λ gs. IsTracked (by_value c gs x n) ws) (sym h.2) one.0, ok, h.2, h.3)
+
+  -- the children of an offer that tracks
+  children_tracked : (m : ℕ) (b : Branch) (ws : List ℕ) (tracked : IsTracked b ws) → IsConsistent M N b.equations b.posted → (g : Goal) (rest : List Goal) (head : GoalBelow b.fresh g) (others : EachBelow b.fresh rest) (look : Substitution)
+      (seen : (x : ℕ) → x < b.fresh → TermBelow b.fresh (look x)) (us : List ℕ) (o : Offer) (cs : List Branch) → Tracks m b ws tracked g rest head others look seen us o → KeptOffer M N o (Gives cs)
+      → Each (λ c. IsTracked c us × IsConsistent M N c.equations c.posted) cs
+  children_tracked m b ws tracked ok g rest head others look seen us (Faults f) cs h k = absurd k
+  children_tracked m b ws tracked ok g rest head others look seen us (Gives bs) cs h k = kept_tracked m b ws tracked g rest head others look seen us bs cs h k
+  children_tracked m b ws tracked ok g rest head others look seen us (Seeks d r o least t c) cs h k =
+      let found : SoughtLeaf M N b rest o least t c cs = subst (λ gs. SoughtLeaf M N b gs o least t c cs) h.1 (subst (λ a. SoughtLeaf M N a r o least t c cs) h.0 k) in
+      let start : IsTracked (with_goals b (Label o t ∷ [])) ws = same_goals m b ws tracked g rest head others look seen (Label o t ∷ []) (h.2, tt) in
+      subst (λ vs. Each (λ e. IsTracked e vs × IsConsistent M N e.equations e.posted) cs) (sym h.3)
+      (sought_each M N b rest o least t c cs (IsSought b ws o t) (λ e. IsTracked e ws × IsConsistent M N e.equations e.posted) (sought_passes b ws o t) (start, ok, refl, refl)
+      (λ e i. (record { small = record { goals = subst (λ n. EachBelow n rest) (sym i.3) others; equations = i.0.small.equations; posted = i.0.small.posted }; settles = i.0.settles; inside = i.0.inside }, i.1)) found)
+
   module _ (q : Query) (goals : EachBelow q.variables q.goals) where
-    pub way_tracked : {b : Branch} {ws : List ℕ} → Way M prog q b ws → IsTracked b ws × IsConsistent M b.equations b.posted
+    pub way_tracked : {b : Branch} {ws : List ℕ} → Way M N prog q b ws → IsTracked b ws × IsConsistent M N b.equations b.posted
     way_tracked begins = (
       record {
-        small = record { goals = goals; equations = tt; posted = λ x h. absurd (true≢false (sym h)) };
+        small = record { goals = each_marked q.variables 0 q.goals goals; equations = tt; posted = λ x h. absurd (true≢false (sym h)) };
         settles = λ S family closed full others x h. absurd (true≢false (sym h));
         inside = λ x h. h;
       },
       record { unifier = λ x. Var x; general = record { unifies = tt; general = λ u x h. refl }; some = λ x h. absurd (true≢false (sym h)) },
     )
-    way_tracked (goes {b = b} {c = c} {ws = ws} g rest s D cs way e k i) =
+    way_tracked (goes {b = b} {c = c} {ws = ws} m g rest s D cs way e k i) =
         let before = way_tracked way in
         let both = heads_below b.fresh b.goals g rest e before.0.small.goals in
         let look = look_in b s D in
         let seen : (x : ℕ) → x < b.fresh → TermBelow b.fresh (look x) = look_below b.fresh b s D k.view.general before.0.small.equations in
-        let us = added_by look b.fresh g ++ ws in
-        let after = children_tracked b ws before.0 g rest both.0 both.1 look seen us (offer M prog look (sets_in b s D) b g rest) cs (offer_tracked b ws before.0 g rest both.0 both.1 look seen (sets_in b s D) g both.0 refl) k.kept in
-        each_at (λ d. IsTracked d us × IsConsistent M d.equations d.posted) cs (λ d. d ≡ c) (IsTracked c us × IsConsistent M c.equations c.posted) after i (λ d h f. subst (λ d. IsTracked d us × IsConsistent M d.equations d.posted) f h)
+        let us = added_by M look b.fresh g ++ ws in
+        let after = children_tracked m b ws before.0 before.1 g rest both.0 both.1 look seen us (offer M N m prog look (sets_in b s D) b g rest) cs (offer_tracked m b ws before.0 g rest both.0 both.1 look seen (sets_in b s D) g both.0 refl) k.kept in
+        each_at (λ d. IsTracked d us × IsConsistent M N d.equations d.posted) cs (λ d. d ≡ c) (IsTracked c us × IsConsistent M N c.equations c.posted) after i (λ d h f. subst (λ d. IsTracked d us × IsConsistent M N d.equations d.posted) f h)
 
 pub way_answers : WayAnswers
-way_answers M prog q scoped goals b ws o ms way l n k es r run =
-    let h = way_tracked M prog scoped q goals way in
-    labelling_answers M prog q n k b es r o ms ws h.1 h.0.settles l run
+way_answers M N prog q low scoped goals b ws o ms way l n k es r run =
+    let h = way_tracked M N prog scoped q goals way in
+    labelling_answers M N prog q n k b es r o ms ws low h.1 h.0.settles l run

@@ -15,7 +15,7 @@ use Rattle.fd_model.specs.Run.{Run, over, last, fewer, any, spent, faulty, taken
 use Rattle.fd_language.specs.Lists.{Each}
 
 -- the branches that a run answers with, in order
-abbrev pub answers : {M : ℕ} {prog : Program} {q : Query} {n : ℕ} {k : Option ℕ} {bs : List Branch} {es : List Event} {r : ℕ} → Run M prog q n k bs es r → List Branch
+abbrev pub answers : {M N : ℕ} {prog : Program} {q : Query} {n : ℕ} {k : Option ℕ} {bs : List Branch} {es : List Event} {r : ℕ} → Run M N prog q n k bs es r → List Branch
 answers over = []
 answers (last {b = b} s D e v) = b ∷ []
 answers (fewer {b = b} s D e v more) = b ∷ answers more
@@ -30,27 +30,27 @@ EndsWith e [] = ⊥
 EndsWith e (d ∷ []) = d ≡ e
 EndsWith e (d ∷ c ∷ cs) = EndsWith e (c ∷ cs)
 
--- An assignment that agrees with the equations on the constrained variables and on those in vs, and puts each target inside each posted range.
-pub record IsSolution (M : ℕ) (es : List Equation) (ps : List Indexical) (vs : List ℕ) (a : Assignment) : Type 0 where
-  pub bounded : (x : ℕ) → a x ≤ M
+-- An assignment of numbers up to N that agrees with the equations on the constrained variables and on those in vs, and puts each target inside each posted range.
+pub record IsSolution (M N : ℕ) (es : List Equation) (ps : List Indexical) (vs : List ℕ) (a : Assignment) : Type 0 where
+  pub bounded : (x : ℕ) → a x ≤ N
   pub unifier : Substitution
   pub unifies : Unifies unifier es
   pub given : (x : ℕ) → IsTrue (has (vs ++ constrained ps) x) → unifier x ≡ Int (pos (a x))
   pub posted : AllPosted (λ p. IsTrue (has (set_of M (singles a) p.range) (a p.target))) ps
 
 -- the variables vs are seen as the numbers ns in the branch
-pub record Shows (M : ℕ) (vs : List ℕ) (b : Branch) (ns : List ℕ) : Type 0 where
+pub record Shows (M N : ℕ) (vs : List ℕ) (b : Branch) (ns : List ℕ) : Type 0 where
   pub unifier : Substitution
   pub family : Family
-  pub view : IsView M b.equations b.posted unifier family
+  pub view : IsView M N b.equations b.posted unifier family
   pub values : map (look_in b unifier family) vs ≡ map (λ n. Int (pos n)) ns
 
 -- each branch shows its numbers
-abbrev pub EachShows : ℕ → List ℕ → List Branch → List (List ℕ) → Type 0
-EachShows M vs [] [] = Unit {0}
-EachShows M vs [] (ns ∷ nss) = ⊥
-EachShows M vs (b ∷ bs) [] = ⊥
-EachShows M vs (b ∷ bs) (ns ∷ nss) = Shows M vs b ns × EachShows M vs bs nss
+abbrev pub EachShows : ℕ → ℕ → List ℕ → List Branch → List (List ℕ) → Type 0
+EachShows M N vs [] [] = Unit {0}
+EachShows M N vs [] (ns ∷ nss) = ⊥
+EachShows M N vs (b ∷ bs) [] = ⊥
+EachShows M N vs (b ∷ bs) (ns ∷ nss) = Shows M N vs b ns × EachShows M N vs bs nss
 
 abbrev pub Somewhere : {X : Type 0} → (X → Type 0) → List X → Type 0
 Somewhere H [] = ⊥
@@ -73,9 +73,9 @@ Comes Leftmost ms ns = Precedes ms ns
 Comes FirstFail ms ns = ms ≡ ns → ⊥
 
 -- What answers show of vs: only what is allowed, in order; what is allowed and not shown comes after all that is shown, and there is none where the answers are whole.
-pub record AreAnswers (M : ℕ) (o : Order) (vs : List ℕ) (Allowed : List ℕ → Type 0) (bs : List Branch) (AreWhole : Type 0) : Type 0 where
+pub record AreAnswers (M N : ℕ) (o : Order) (vs : List ℕ) (Allowed : List ℕ → Type 0) (bs : List Branch) (AreWhole : Type 0) : Type 0 where
   pub values : List (List ℕ)
-  pub shown : EachShows M vs bs values
+  pub shown : EachShows M N vs bs values
   pub allowed : Each Allowed values
   pub order : InOrder (Comes o) values
   pub missing : (ns : List ℕ) → Allowed ns → Somewhere (λ ms. ms ≡ ns) values ⊎ Each (λ ms. Comes o ms ns) values

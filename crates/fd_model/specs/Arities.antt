@@ -1,7 +1,7 @@
 -- How many arguments the goals of the language take.
 use Rattle.std.specs.Prelude.{ℕ}
 use Rattle.fd_model.specs.declared.kinds.ConstraintKind.{ConstraintKind}
-use Rattle.fd_model.specs.declared.kinds.ConstraintKind.TheVariants.{Compare, AllDifferent, Element, Atmost}
+use Rattle.fd_model.specs.declared.kinds.ConstraintKind.TheVariants.{Compare, AllDifferent, Element, Atmost, And, Or, Not, Reified}
 use Rattle.fd_model.specs.declared.kinds.BuiltinKind.{BuiltinKind}
 use Rattle.fd_model.specs.declared.kinds.BuiltinKind.TheVariants.{True, Fail, False, Var, Nonvar, Integer, Atom, Atomic, Compound, Write, Nl}
 
@@ -11,6 +11,10 @@ constraint_arity (Compare r) = 2
 constraint_arity AllDifferent = 1
 constraint_arity Element = 3
 constraint_arity Atmost = 3
+constraint_arity And = 3
+constraint_arity Or = 3
+constraint_arity Not = 2
+constraint_arity Reified = 2
 
 -- of a built-in goal
 abbrev pub builtin_arity : BuiltinKind → ℕ

@@ -57,7 +57,7 @@ pub record IsRewritten (M N : ℕ) (kind : ConstraintKind) (ts : Terms) (n : ℕ
 abbrev pub Rewriting : Type 0
 Rewriting =
     (M N : ℕ) (kind : ConstraintKind) (ts : Terms) (n : ℕ) (x : Expansion) (a : Assignment) → 0 < N → N ≤ M → TermsBelow n ts → ((v : ℕ) → a v ≤ N)
-    → expand kind ts n ≡ Ok x → IsRewritten M N kind ts n x a
+    → expand M kind ts n ≡ Ok x → IsRewritten M N kind ts n x a
 
 -- the sets of the equated variables have no other numbers
 abbrev pub AllEquatedIn : Family → List (ℕ × ℤ) → Type 0
@@ -75,7 +75,7 @@ pub record IsSettled (M : ℕ) (x : Expansion) (S : Family) : Type 0 where
 abbrev pub Determined : Type 0
 Determined =
     (M : ℕ) (kind : ConstraintKind) (ts : Terms) (n : ℕ) (x : Expansion) (S : Family) (a : Assignment) → TermsBelow n ts → ((v : ℕ) → a v ≤ M)
-    → expand kind ts n ≡ Ok x → IsSettled M x S
+    → expand M kind ts n ≡ Ok x → IsSettled M x S
     → ((v : ℕ) → v < n → IsTrue (has (constrained x.ranges) v) → S v ≡ a v ∷ [])
     → (b : Assignment) × ((v : ℕ) → IsTrue (has (constrained x.ranges) v) → S v ≡ b v ∷ []) × Extends M n a b × Fits M x b
 
@@ -102,20 +102,20 @@ HasShortLists Element (term i (term l (term x no_terms))) = cells l ≤ 2 ^ 64
 HasShortLists Atmost (term n (term l (term v no_terms))) = cells l ≤ 2 ^ 64
 HasShortLists _ _ = Unit {0}
 
--- Every posted range is one that the check accepts, for each greatest number of the universe up to 2^24 - 1.
+-- Every posted range is one that the check accepts, for each greatest number of the universe up to 2^28 - 1.
 abbrev pub AcceptedRows : Type 0
 AcceptedRows =
-    (M : ℕ) (kind : ConstraintKind) (ts : Terms) (n : ℕ) (x : Expansion) → M < 2 ^ 24 → HaveIntegers ts → HasShortLists kind ts
-    → expand kind ts n ≡ Ok x → AllPosted (λ p. IsTrue (is_accepted M p.range)) x.ranges
+    (M : ℕ) (kind : ConstraintKind) (ts : Terms) (n : ℕ) (x : Expansion) → M < 2 ^ 28 → HaveIntegers ts → HasShortLists kind ts
+    → expand M kind ts n ≡ Ok x → AllPosted (λ p. IsTrue (is_accepted M p.range)) x.ranges
 
 -- Every posted range fits the direction table, whatever the greatest number and however long the lists.
 abbrev pub FittingRows : Type 0
 FittingRows =
-    (M : ℕ) (kind : ConstraintKind) (ts : Terms) (n : ℕ) (x : Expansion) → expand kind ts n ≡ Ok x → AllPosted (λ p. IsTrue (range_fits M p.range true)) x.ranges
+    (M : ℕ) (kind : ConstraintKind) (ts : Terms) (n : ℕ) (x : Expansion) → expand M kind ts n ≡ Ok x → AllPosted (λ p. IsTrue (range_fits M p.range true)) x.ranges
 
 -- Every posted range only shrinks when domains shrink.
 abbrev pub MonotoneRows : Type 0
-MonotoneRows = (M : ℕ) (kind : ConstraintKind) (ts : Terms) (n : ℕ) (x : Expansion) → expand kind ts n ≡ Ok x → AllPosted (λ p. IsMonotone M p.range) x.ranges
+MonotoneRows = (M : ℕ) (kind : ConstraintKind) (ts : Terms) (n : ℕ) (x : Expansion) → expand M kind ts n ≡ Ok x → AllPosted (λ p. IsMonotone M p.range) x.ranges
 
 -- The equated variables are fresh, and named.
 abbrev pub AllFresh : ℕ → ℕ → List Indexical → List (ℕ × ℤ) → Type 0
@@ -129,11 +129,11 @@ pub record IsScoped (ts : Terms) (n : ℕ) (x : Expansion) : Type 0 where
   pub grows : n ≤ x.fresh
 
 abbrev pub ScopedRows : Type 0
-ScopedRows = (kind : ConstraintKind) (ts : Terms) (n : ℕ) (x : Expansion) → expand kind ts n ≡ Ok x → IsScoped ts n x
+ScopedRows = (M : ℕ) (kind : ConstraintKind) (ts : Terms) (n : ℕ) (x : Expansion) → expand M kind ts n ≡ Ok x → IsScoped ts n x
 
 -- A closed family without empty sets is settled for each expansion whose equations and ranges are among those that it is closed under.
 abbrev pub SettledWhereClosed : Type 0
 SettledWhereClosed =
-    (M : ℕ) (kind : ConstraintKind) (ts : Terms) (n : ℕ) (x : Expansion) (s : Substitution) (before after : List Indexical) (S : Family) → expand kind ts n ≡ Ok x
-    → Unifies s (equations x.equated) → IsClosed M s (before ++ (x.ranges ++ after)) S
+    (M N : ℕ) (kind : ConstraintKind) (ts : Terms) (n : ℕ) (x : Expansion) (s : Substitution) (before after : List Indexical) (S : Family) → expand M kind ts n ≡ Ok x
+    → Unifies s (equations x.equated) → IsClosed M N s (before ++ (x.ranges ++ after)) S
     → ((v : ℕ) → IsTrue (has (constrained (before ++ (x.ranges ++ after))) v) → (k : ℕ) × IsTrue (has (S v) k)) → IsSettled M x S

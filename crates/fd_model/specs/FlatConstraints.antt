@@ -1,14 +1,17 @@
 -- Flat constraints: those that meet no fault.
-use Rattle.std.specs.Prelude.{◌≡◌, ℕ, ◌+◌, ◌*◌, ◌-◌, ◌^◌, ◌≤◌, ◌<◌, Bool, true, false, ◌&&◌, ◌||◌, if◌then◌else◌, IsTrue, nat_lt, nat_abs, length, codes, Ok, pos, ◌⊎◌, ◌↔◌}
+use Rattle.std.specs.Prelude.{◌≡◌, ℕ, ◌+◌, ◌*◌, ◌-◌, ◌^◌, ◌≤◌, ◌<◌, Bool, true, false, ◌&&◌, ◌||◌, if◌then◌else◌, IsTrue, nat_lt, int_le, nat_abs, length, codes, Option, Some, None, Ok, pos, ◌⊎◌, ◌↔◌}
 use Rattle.std.specs.Str.{bytes_eq}
 use Rattle.fd_model.specs.declared.kinds.Relation.{Relation}
 use Rattle.fd_model.specs.declared.kinds.ConstraintKind.{ConstraintKind}
-use Rattle.fd_model.specs.declared.kinds.ConstraintKind.TheVariants.{Compare, AllDifferent, Element, Atmost}
+use Rattle.fd_model.specs.declared.kinds.ConstraintKind.TheVariants.{Compare, AllDifferent, Element, Atmost, And, Or, Not, Reified}
 use Rattle.fd_language.specs.Variables.{variables_of, variables_of_all}
 use Rattle.fd_language.specs.Range.{is_none_left}
 use Rattle.fd_language.specs.Term.{Term, Terms, Var, Int, Atom, Comp, no_terms, term, Name, apply, apply_all}
 use Rattle.fd_model.specs.Builtins.{is_integer}
 use Rattle.fd_model.specs.LinearRows.{Expansion}
+use Rattle.fd_model.specs.Members.{Member, Open, Known}
+use Rattle.fd_model.specs.ProductRows.{Product, product_form}
+use Rattle.fd_model.specs.ReifiedRows.{relation_named}
 use Rattle.fd_model.specs.Constraining.{compare, expand}
 use Rattle.fd_model.specs.Satisfies.{Assignment, worth, Satisfies}
 
@@ -62,13 +65,40 @@ is_list_of test (Atom a) = bytes_eq a (codes "[]")
 is_list_of test (Comp f (term h (term t no_terms))) = bytes_eq f (codes ".") && (test h && is_list_of test t)
 is_list_of test _ = false
 
--- a flat constraint of the arguments
-abbrev pub is_flat_constraint : ℕ → ConstraintKind → Terms → Bool
-is_flat_constraint M (Compare r) (term s (term t no_terms)) = is_flat_comparison M s t
-is_flat_constraint M AllDifferent (term l no_terms) = is_list_of is_place l
-is_flat_constraint M Element (term i (term l (term x no_terms))) = is_place i && (is_list_of is_integer l && is_place x)
-is_flat_constraint M Atmost (term m (term l (term v no_terms))) = is_integer m && (is_list_of is_place l && is_integer v)
-is_flat_constraint M _ _ = false
+-- an integer in the place of a variable is at most the greatest value N of a variable
+abbrev pub is_known_number : ℕ → Member → Bool
+is_known_number N (Open x) = true
+is_known_number N (Known z) = int_le (pos 0) z && int_le z (pos N)
+
+-- the product of two variables is a variable or an integer up to N
+abbrev pub is_flat_product : ℕ → ℕ → Option Product → Bool
+is_flat_product M N None = false
+is_flat_product M N (Some p) = is_known_number N p.result && is_narrow (M * M + M)
+
+-- Without the product form the sides are flat.
+abbrev pub is_flat_compare : ℕ → ℕ → Relation → Term → Term → Bool
+is_flat_compare M N r s t = is_flat_product M N (product_form r s t) || is_flat_comparison M s t
+
+-- The sums of a comparison that is told by a variable are narrow too.
+abbrev pub is_told : ℕ → Option Relation → Term → Term → Bool
+is_told M None s t = false
+is_told M (Some r) s t = is_flat_comparison M s t && nat_lt (2 * (width M s + width M t) + 4) (2 ^ 63)
+
+abbrev pub is_flat_told : ℕ → Term → Bool
+is_flat_told M (Comp f (term s (term t no_terms))) = is_told M (relation_named f) s t
+is_flat_told M _ = false
+
+-- a flat constraint of the arguments, where N is the greatest value of a variable
+abbrev pub is_flat_constraint : ℕ → ℕ → ConstraintKind → Terms → Bool
+is_flat_constraint M N (Compare r) (term s (term t no_terms)) = is_flat_compare M N r s t
+is_flat_constraint M N AllDifferent (term l no_terms) = is_list_of is_place l
+is_flat_constraint M N Element (term i (term l (term x no_terms))) = is_place i && (is_list_of is_integer l && is_place x)
+is_flat_constraint M N Atmost (term m (term l (term v no_terms))) = is_integer m && (is_list_of is_place l && is_integer v)
+is_flat_constraint M N And (term x (term y (term z no_terms))) = is_place x && (is_place y && is_place z)
+is_flat_constraint M N Or (term x (term y (term z no_terms))) = is_place x && (is_place y && is_place z)
+is_flat_constraint M N Not (term x (term y no_terms)) = is_place x && is_place y
+is_flat_constraint M N Reified (term b (term k no_terms)) = is_place b && is_flat_told M k
+is_flat_constraint M N _ _ = false
 
 -- each variable is seen as an open one, or as an integer of the universe
 abbrev pub SeesNumbers : ℕ → (ℕ → Term) → Type 0
@@ -86,11 +116,11 @@ FlatSeen = (M : ℕ) (look : ℕ → Term) (t : Term) → SeesNumbers M look →
 -- Whatever numbers its variables are seen as, a flat constraint of at most 2^31 variables meets no fault.
 abbrev pub FlatExpands : Type 0
 FlatExpands =
-    (M : ℕ) (look : ℕ → Term) (kind : ConstraintKind) (ts : Terms) (n : ℕ) → 0 < M → SeesNumbers M look → IsTrue (is_flat_constraint M kind ts) → length (variables_of_all ts) ≤ 2 ^ 31
-    → (x : Expansion) × (expand kind (apply_all look ts) n ≡ Ok x)
+    (M N : ℕ) (look : ℕ → Term) (kind : ConstraintKind) (ts : Terms) (n : ℕ) → 0 < M → N ≤ M → SeesNumbers M look → IsTrue (is_flat_constraint M N kind ts) → length (variables_of_all ts) ≤ 2 ^ 31
+    → (x : Expansion) × (expand M kind (apply_all look ts) n ≡ Ok x)
 
 -- The seen constraint says the same of an assignment that has the numbers which are seen.
 abbrev pub SeenSatisfies : Type 0
 SeenSatisfies =
-    (M : ℕ) (look : ℕ → Term) (kind : ConstraintKind) (ts : Terms) (a : Assignment) → SeesNumbers M look → ((x : ℕ) → worth a (look x) ≡ pos (a x))
-    → Satisfies M kind (apply_all look ts) a ↔ Satisfies M kind ts a
+    (M N : ℕ) (look : ℕ → Term) (kind : ConstraintKind) (ts : Terms) (a : Assignment) → SeesNumbers N look → ((x : ℕ) → worth a (look x) ≡ pos (a x)) → IsTrue (is_flat_constraint M N kind ts)
+    → Satisfies N kind (apply_all look ts) a ↔ Satisfies N kind ts a

@@ -11,10 +11,10 @@ use Rattle.fd_model.specs.Members.{Member, Open, Known, as_member, walk}
 abbrev pub read_list : Term → Result (List Member) QueryFault
 read_list t = walk as_member t
 
--- a variable's values: those of its set where it is constrained, and else all from 0 to M
+-- a variable's values: those of its set where it is constrained, and else all from 0 to N
 abbrev pub values_by : ℕ → Option (List ℕ) → List ℕ
-values_by M None = universe M
-values_by M (Some xs) = xs
+values_by N None = universe N
+values_by N (Some xs) = xs
 
 abbrev pub first_open : List Member → Option ℕ
 first_open [] = None

@@ -7,8 +7,8 @@ use Rattle.fd_language.specs.Range.{Indexical}
 use Rattle.fd_model.specs.Closed.{IsClosed, constrained}
 
 -- a closed family in which no constrained variable is without a value
-pub record IsModel (M : ℕ) (es : List Equation) (ps : List Indexical) (S : Family) : Type 0 where
+pub record IsModel (M N : ℕ) (es : List Equation) (ps : List Indexical) (S : Family) : Type 0 where
   pub unifier : Substitution
   pub general : IsMostGeneral es unifier
-  pub closed : IsClosed M unifier ps S
+  pub closed : IsClosed M N unifier ps S
   pub full : (x : ℕ) → IsTrue (has (constrained ps) x) → (n : ℕ) × IsTrue (has (S x) n)

@@ -4,7 +4,7 @@ use Rattle.fd_language.specs.Lists.{Each}
 use Rattle.fd_language.specs.Range.{Range}
 use Rattle.fd_language.specs.Check.{range_fits}
 use Rattle.fd_language.specs.Occurrences.{Occurrence, range_occurrences}
-use Rattle.fd_model.specs.Goal.{Goal, Goals, no_goals, goal, True, Fail, Unify, Post, Constrain, Label, Call, Either, Builtin, Clause, Query, Program}
+use Rattle.fd_model.specs.Goal.{Goal, Goals, no_goals, goal, True, Fail, Unify, Post, Constrain, Label, Call, Either, Builtin, Cut, If, IfElse, Not, Best, Clause, Query, Program}
 use Rattle.fd_language.specs.Variables.{TermBelow}
 
 -- its ranges are accepted
@@ -19,6 +19,11 @@ abbrev mutual
   IsRunnable M (Call t) = Unit {0}
   IsRunnable M (Either g h) = AllRunnable M g × AllRunnable M h
   IsRunnable M (Builtin k t) = Unit {0}
+  IsRunnable M (Cut c) = Unit {0}
+  IsRunnable M (If test holds) = AllRunnable M test × AllRunnable M holds
+  IsRunnable M (IfElse test holds other) = AllRunnable M test × AllRunnable M holds × AllRunnable M other
+  IsRunnable M (Not gs) = AllRunnable M gs
+  IsRunnable M (Best o least t c) = Unit {0}
 
   pub AllRunnable : ℕ → Goals → Type 0
   AllRunnable M no_goals = Unit {0}
@@ -58,6 +63,11 @@ abbrev mutual
   GoalBelow n (Call t) = TermBelow n t
   GoalBelow n (Either g h) = GoalsBelow n g × GoalsBelow n h
   GoalBelow n (Builtin k t) = TermBelow n t
+  GoalBelow n (Cut c) = Unit {0}
+  GoalBelow n (If test holds) = GoalsBelow n test × GoalsBelow n holds
+  GoalBelow n (IfElse test holds other) = GoalsBelow n test × GoalsBelow n holds × GoalsBelow n other
+  GoalBelow n (Not gs) = GoalsBelow n gs
+  GoalBelow n (Best o least t c) = TermBelow n t × TermBelow n c
 
   pub GoalsBelow : ℕ → Goals → Type 0
   GoalsBelow n no_goals = Unit {0}

@@ -1,5 +1,5 @@
 -- Ways to a branch, and the variables that the rows of constraints added on them.
-use Rattle.std.specs.Prelude.{◌≡◌, ℕ, Bool, false, not, ◌||◌, ◌==◌, nat_lt, ℤ, List, [], ◌∷◌, ◌++◌, filter, Option, Result, Ok, Err}
+use Rattle.std.specs.Prelude.{◌≡◌, ℕ, ◌≤◌, Bool, false, not, ◌||◌, ◌==◌, nat_lt, ℤ, List, [], ◌∷◌, ◌++◌, filter, Option, Result, Ok, Err}
 use Rattle.fd_model.specs.declared.kinds.QueryFault.{QueryFault}
 use Rattle.fd_model.specs.declared.kinds.Order.{Order}
 use Rattle.fd_language.specs.Term.{Term, Substitution}
@@ -29,19 +29,19 @@ added_in n (Err f) = []
 added_in n (Ok x) = added n x
 
 -- the variables that a goal's row added
-abbrev pub added_by : (ℕ → Term) → ℕ → Goal → List ℕ
-added_by look n (Constrain c t) = added_in n (constrain look c t n)
-added_by look n _ = []
+abbrev pub added_by : ℕ → (ℕ → Term) → ℕ → Goal → List ℕ
+added_by M look n (Constrain c t) = added_in n (constrain M look c t n)
+added_by M look n _ = []
 
--- From the query's first branch by children to a branch, and the variables that were added on the way.
-pub data Way (M : ℕ) (prog : Program) (q : Query) : Branch → List ℕ → Type 0 where
-  begins : Way M prog q (start_of q) []
-  goes : {b c : Branch} {ws : List ℕ} (g : Goal) (rest : List Goal) (s : Substitution) (D : Family) (cs : List Branch) → Way M prog q b ws → b.goals ≡ g ∷ rest
-      → Children M prog b g rest s D (Gives cs) → Somewhere (λ d. d ≡ c) cs → Way M prog q c (added_by (look_in b s D) b.fresh g ++ ws)
+-- From the query's first branch by children, for some numbers of other branches, to a branch, and the variables that were added on the way.
+pub data Way (M N : ℕ) (prog : Program) (q : Query) : Branch → List ℕ → Type 0 where
+  begins : Way M N prog q (start_of q) []
+  goes : {b c : Branch} {ws : List ℕ} (m : ℕ) (g : Goal) (rest : List Goal) (s : Substitution) (D : Family) (cs : List Branch) → Way M N prog q b ws → b.goals ≡ g ∷ rest
+      → Children M N prog m b g rest s D (Gives cs) → Somewhere (λ d. d ≡ c) cs → Way M N prog q c (added_by M (look_in b s D) b.fresh g ++ ws)
 
 -- The answers of a labelling at the end of a way are the values of the open members that its branch allows.
 abbrev pub WayAnswers : Type 0
 WayAnswers =
-    (M : ℕ) (prog : Program) (q : Query) → ClausesScoped prog.clauses → EachBelow q.variables q.goals
-    → (b : Branch) (ws : List ℕ) (o : Order) (ms : List Member) → Way M prog q b ws → IsLabelled M b o ms ws
-    → (n : ℕ) (k : Option ℕ) (es : List Event) (r : ℕ) (run : Run M prog q n k (b ∷ []) es r) → AreAnswers M o (open_ones ms) (IsSolved M (open_ones ms) b) (answers run) (EndsWith End es)
+    (M N : ℕ) (prog : Program) (q : Query) → N ≤ M → ClausesScoped prog.clauses → EachBelow q.variables q.goals
+    → (b : Branch) (ws : List ℕ) (o : Order) (ms : List Member) → Way M N prog q b ws → IsLabelled M N b o ms ws
+    → (n : ℕ) (k : Option ℕ) (es : List Event) (r : ℕ) (run : Run M N prog q n k (b ∷ []) es r) → AreAnswers M N o (open_ones ms) (IsSolved M N (open_ones ms) b) (answers run) (EndsWith End es)

@@ -7,6 +7,7 @@ ghost use Rattle.fd_model.specs.Output.{status_number};
 pub mod kinds;
 pub mod labelling_laws;
 pub mod laws;
+pub mod posted_laws;
 pub mod rewriting_laws;
 
 pub use fd_language::{Feature, FlatRange, INFINITY, Need, NoMemory, Offence, RangeNode};

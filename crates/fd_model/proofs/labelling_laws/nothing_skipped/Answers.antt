@@ -1,0 +1,5 @@
+use Rattle.fd_model.proofs.Preceding.{nothing_skipped}
+use Rattle.fd_model.proofs.labelling_laws.nothing_skipped.Goals as goal
+
+pub returns : goal.returns
+returns c = nothing_skipped
