@@ -19,9 +19,9 @@ back_new : (n : ℕ) (seek : ℕ → ℕ) (b u : Substitution) (c : ℕ) → n �
 back_new n seek b u c l = let t : nat_lt c n ≡ false = grind (arith, nat_tests) in ap (λ x. cond x (b c) (u (seek c))) t
 
 -- Variables that weren't known get new cells, each its own; seek finds the variable of each of these.
-pub stored_spread : (M : ℕ) (es : List Equation) (ps : List Indexical) (P : ℕ → Type 0) (h : ℕ) (look : Substitution) (link : ℕ → Option ℕ) (slot : ℕ → ℕ) (qs : List Indexical) → IsStored M es ps P h look link slot qs → (h' : ℕ) → h ≤ h' → (Q : ℕ → Type 0) (look' : Substitution) (seek : ℕ → ℕ)
-    → ((v : ℕ) → P v → Q v) → ((v : ℕ) → P v → look v ≡ look' v) → ((v : ℕ) → Q v → P v ⊎ ((i : ℕ) × (look' v ≡ Var i) × (h ≤ i) × (i < h') × (seek i ≡ v))) → IsStored M es ps Q h' look' link slot qs
-stored_spread M es ps P h look link slot qs st h' longer Q look' seek wider same cases = record {
+pub stored_spread : (M N : ℕ) (es : List Equation) (ps : List Indexical) (P : ℕ → Type 0) (h : ℕ) (look : Substitution) (link : ℕ → Option ℕ) (slot : ℕ → ℕ) (qs : List Indexical) → IsStored M N es ps P h look link slot qs → (h' : ℕ) → h ≤ h' → (Q : ℕ → Type 0) (look' : Substitution) (seek : ℕ → ℕ)
+    → ((v : ℕ) → P v → Q v) → ((v : ℕ) → P v → look v ≡ look' v) → ((v : ℕ) → Q v → P v ⊎ ((i : ℕ) × (look' v ≡ Var i) × (h ≤ i) × (i < h') × (seek i ≡ v))) → IsStored M N es ps Q h' look' link slot qs
+stored_spread M N es ps P h look link slot qs st h' longer Q look' seek wider same cases = record {
   heap = record {
     scoped = more_each P Q wider es st.heap.scoped;
     unifies = agree_each P look look' same es st.heap.scoped st.heap.unifies;

@@ -20,7 +20,7 @@ use Rattle.machine_frames.specs.Frames.{link_in, IsKept}
 use Rattle.machine_frames.proofs.Building.{stored_spread}
 use Rattle.machine_frames.specs.Posting.{IsRowLinked}
 
-module _ (M : ℕ) (h now : Cells) (qs : List Indexical) (es : List Equation) (ps : List Indexical) (fresh : ℕ) (look : Substitution) (s : IsKept M h qs es ps (λ x. x < fresh) look) (cell : ℕ → ℕ) (x : Expansion) (grows : fresh ≤ x.fresh) (all_fresh : AllFresh fresh x.fresh x.ranges x.equated)
+module _ (M N : ℕ) (h now : Cells) (qs : List Indexical) (es : List Equation) (ps : List Indexical) (fresh : ℕ) (look : Substitution) (s : IsKept M N h qs es ps (λ x. x < fresh) look) (cell : ℕ → ℕ) (x : Expansion) (grows : fresh ≤ x.fresh) (all_fresh : AllFresh fresh x.fresh x.ranges x.equated)
     (named : (v : ℕ) → has (constrained x.ranges) v ≡ true → ((v < fresh) × (look v ≡ Var (place_from fresh (length h.slots) cell v))) ⊎ ((fresh ≤ v) × (v < x.fresh)))
     (link' : ℕ → Option ℕ) (qs' : List Indexical) (new : Substitution) (ts : List Touch) (l : IsRowLinked h now qs (rename_expansion (place_from fresh (length h.slots) cell) x) link' qs' new ts) where
   abbrev H : ℕ
@@ -47,8 +47,8 @@ module _ (M : ℕ) (h now : Cells) (qs : List Indexical) (es : List Equation) (p
   abbrev P : ℕ → Type 0
   P v = v < x.fresh
 
-  wide : IsStored M es ps P top look1 (link_in h) s.slot qs
-  wide = stored_spread M es ps (λ v. v < fresh) H look (link_in h) s.slot qs s.stored top (let e = top_is in omega (arith, e)) P look1 (λ i. fresh + (i - H)) (λ v k. omega (arith, k, grows)) (λ v k. sym (look_old v k)) (λ v k. elim (cases_Bool (nat_lt v fresh)) [
+  wide : IsStored M N es ps P top look1 (link_in h) s.slot qs
+  wide = stored_spread M N es ps (λ v. v < fresh) H look (link_in h) s.slot qs s.stored top (let e = top_is in omega (arith, e)) P look1 (λ i. fresh + (i - H)) (λ v k. omega (arith, k, grows)) (λ v k. sym (look_old v k)) (λ v k. elim (cases_Bool (nat_lt v fresh)) [
     | inl t ↦ inl (grind (arith, nat_tests))
     | inr t ↦
         let i : fresh ≤ v = grind (arith, nat_tests) in
@@ -75,13 +75,13 @@ module _ (M : ℕ) (h now : Cells) (qs : List Indexical) (es : List Equation) (p
   row_look = after new look1
 
   -- The row's ranges and equations are the branch's.
-  pub kept_row : IsKept M now (qs' ++ posts ts) (equations x.equated ++ es) (x.ranges ++ ps) P row_look
+  pub kept_row : IsKept M N now (qs' ++ posts ts) (equations x.equated ++ es) (x.ranges ++ ps) P row_look
   kept_row =
-      let p = posted_each M es P top look1 on_heap x.ranges placed ps (link_in h) s.slot qs wide link' qs' l.joined in
-      let ranged = stored_posts M es P top look1 link' p.0 qs' x.ranges ps (link_in h) s.slot qs wide p.1 in
-      let one = unified M es (x.ranges ++ ps) P top look1 link' p.0 qs' ranged (equations x.equated) (equations_low x.equated all_fresh) new (link_in now) ts
+      let p = posted_each M N es P top look1 on_heap x.ranges placed ps (link_in h) s.slot qs wide link' qs' l.joined in
+      let ranged = stored_posts M N es P top look1 link' p.0 qs' x.ranges ps (link_in h) s.slot qs wide p.1 in
+      let one = unified M N es (x.ranges ++ ps) P top look1 link' p.0 qs' ranged (equations x.equated) (equations_low x.equated all_fresh) new (link_in now) ts
       (subst (λ e. IsUnified top link' e new (link_in now) ts) (sym (applied_are x.equated all_fresh)) l.unified) in
       record {
         slot = p.0;
-        stored = subst (λ n. IsStored M (equations x.equated ++ es) (x.ranges ++ ps) P n row_look (link_in now) p.0 (qs' ++ posts ts)) (sym l.size) one;
+        stored = subst (λ n. IsStored M N (equations x.equated ++ es) (x.ranges ++ ps) P n row_look (link_in now) p.0 (qs' ++ posts ts)) (sym l.size) one;
       }

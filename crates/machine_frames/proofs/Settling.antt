@@ -139,15 +139,15 @@ no_link : (o : Option ℕ) → ((k : ℕ) → o ≡ Some k → ⊥) → o ≡ No
 no_link None h = refl
 no_link (Some k) h = absurd (h k refl)
 
-module _ (M : ℕ) (name : Naming) (h : Cells) (valid : IsHeap h) (qs : List Indexical) (es : List Equation) (ps : List Indexical) (P : ℕ → Type 0) (look : Substitution) (s : IsKept M h qs es ps P look) where
+module _ (M N : ℕ) (name : Naming) (h : Cells) (valid : IsHeap h) (qs : List Indexical) (es : List Equation) (ps : List Indexical) (P : ℕ → Type 0) (look : Substitution) (s : IsKept M N h qs es ps P look) where
   abbrev f : Frame
   f = frame_of name h qs
 
   -- a kept frame is one of the machine relation, where nothing is fixed
-  pub kept_held : IsHeld M f es ps P look
+  pub kept_held : IsHeld M N f es ps P look
   kept_held = record { slot = s.slot; fixed = []; unused = unused_cell name h valid; stored = s.stored; sure = tt }
 
-  module _ (G : Family) (most : (R : Family) → IsModel M [] qs R → IsInside R G) where
+  module _ (G : Family) (most : (R : Family) → IsModel M N [] qs R → IsInside R G) where
     -- each variable's integer where its set has one value
     abbrev pub settled_look : Substitution
     settled_look = after (λ c. value_at (f.link c) G c) look
@@ -156,31 +156,31 @@ module _ (M : ℕ) (name : Naming) (h : Cells) (valid : IsHeap h) (qs : List Ind
     at t l = record { heap = after t f.heap; cells = f.cells; link = l; store = f.store }
 
     abbrev Holds : Substitution → (ℕ → Option ℕ) → Type 0
-    Holds t l = IsHeld M (at t l) es ps P (after t look)
+    Holds t l = IsHeld M N (at t l) es ps P (after t look)
 
-    sole : (c k w : ℕ) → f.link c ≡ Some k → G k ≡ w ∷ [] → (T : Family) → IsModel M [] qs T → T k ≡ w ∷ []
-    sole c k w e g T m = let v = s.stored.from c k e in sole_value M qs G most k w (subst (λ j. has (constrained qs) j ≡ true) v.3 (s.stored.slots v.0 v.1)) g T m
+    sole : (c k w : ℕ) → f.link c ≡ Some k → G k ≡ w ∷ [] → (T : Family) → IsModel M N [] qs T → T k ≡ w ∷ []
+    sole c k w e g T m = let v = s.stored.from c k e in sole_value M N qs G most k w (subst (λ j. has (constrained qs) j ≡ true) v.3 (s.stored.slots v.0 v.1)) g T m
 
     bind : (t : Substitution) (l : ℕ → Option ℕ) (c k w : ℕ) → l c ≡ Some k → G k ≡ w ∷ [] → f.link c ≡ Some k → Holds t l → Holds (after (number_for c (pos w)) t) (without_cell c l)
     bind t l c k w e g i x =
         let n = number_for c (pos w) in
-        let one = held_fix M (at t l) es ps P (after t look) x c k w e (sole c k w i g) in
+        let one = held_fix M N (at t l) es ps P (after t look) x c k w e (sole c k w i g) in
         let heaps : after n (after t f.heap) ≡ after (after n t) f.heap = functions (λ d. sym (after_is n t (f.heap d))) in
         let looks : after n (after t look) ≡ after (after n t) look = functions (λ v. sym (after_is n t (look v))) in
-        subst (λ u. IsHeld M (record { heap = u; cells = f.cells; link = without_cell c l; store = f.store }) es ps P (after (after n t) look)) heaps
-        (subst (IsHeld M (record { heap = after n (after t f.heap); cells = f.cells; link = without_cell c l; store = f.store }) es ps P) looks one)
+        subst (λ u. IsHeld M N (record { heap = u; cells = f.cells; link = without_cell c l; store = f.store }) es ps P (after (after n t) look)) heaps
+        (subst (IsHeld M N (record { heap = after n (after t f.heap); cells = f.cells; link = without_cell c l; store = f.store }) es ps P) looks one)
 
     none_behind : (c : ℕ) → f.cells ≤ c → f.link c ≡ None
     none_behind c l = no_link (f.link c) (λ k e. (let v = s.stored.from c k e in let low : c < f.cells = subst (Below f.cells) v.2 (s.stored.heap.cells v.0 (s.stored.used v.0 v.1)) in omega (arith, l, low)))
 
     start : Holds Var f.link
-    start = subst (λ u. IsHeld M (record { heap = u; cells = f.cells; link = f.link; store = f.store }) es ps P (after Var look)) (functions (λ c. sym (apply_vars (f.heap c))))
-        (subst (IsHeld M f es ps P) (functions (λ v. sym (apply_vars (look v)))) kept_held)
+    start = subst (λ u. IsHeld M N (record { heap = u; cells = f.cells; link = f.link; store = f.store }) es ps P (after Var look)) (functions (λ c. sym (apply_vars (f.heap c))))
+        (subst (IsHeld M N f es ps P) (functions (λ v. sym (apply_vars (look v)))) kept_held)
 
     -- The frame with these variables bound stands for the same branch.
-    pub settled_held : IsHeld M (fixed_frame f G) es ps P settled_look
+    pub settled_held : IsHeld M N (fixed_frame f G) es ps P settled_look
     settled_held = all_bound f.link G Holds bind f.cells none_behind start
 
     -- and its store is at rest
-    pub settled_rest : (q : Query) → IsModel M [] qs G → IsAtRest M (fixed_frame f G) G
-    settled_rest q = fixed_rest M q f G most
+    pub settled_rest : (q : Query) → IsModel M N [] qs G → IsAtRest M N (fixed_frame f G) G
+    settled_rest q = fixed_rest M N q f G most

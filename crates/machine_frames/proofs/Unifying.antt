@@ -86,9 +86,9 @@ unified_is_general name old now a b ts u = record {
 }
 
 -- Two known terms, which each way to make them equal can make equal only where a variable of the store becomes an atom or a compound term: no family is a model with their equation.
-pub kept_barred : (M : ℕ) (h : Cells) (qs : List Indexical) (es : List Equation) (ps : List Indexical) (P : ℕ → Type 0) (look : Substitution) → IsKept M h qs es ps P look → (l r : Term)
-    → ((back v : Substitution) → ((x : ℕ) → P x → apply back (look x) ≡ v x) → apply v l ≡ apply v r → (c : ℕ) × (k : ℕ) × IsLinked h c k × IsSymbolic (back c)) → (S : Family) → IsModel M (record { left = l; right = r } ∷ es) ps S → ⊥
-kept_barred M h qs es ps P look s l r no_one S m =
+pub kept_barred : (M N : ℕ) (h : Cells) (qs : List Indexical) (es : List Equation) (ps : List Indexical) (P : ℕ → Type 0) (look : Substitution) → IsKept M N h qs es ps P look → (l r : Term)
+    → ((back v : Substitution) → ((x : ℕ) → P x → apply back (look x) ≡ v x) → apply v l ≡ apply v r → (c : ℕ) × (k : ℕ) × IsLinked h c k × IsSymbolic (back c)) → (S : Family) → IsModel M N (record { left = l; right = r } ∷ es) ps S → ⊥
+kept_barred M N h qs es ps P look s l r no_one S m =
     let t = s.stored.heap.through m.unifier m.general.unifies.1 in
     let bad = no_one t.0 m.unifier t.1 m.general.unifies.0 in
     let v = s.stored.from bad.0 bad.1 (link_at h bad.0 bad.1 bad.2) in
@@ -101,7 +101,7 @@ kept_barred M h qs es ps P look s l r no_one S m =
     by_term v c (Comp f us) k e = let w = m.full v c in not_in_empty (S v) w.0 (m.closed.compounds v f us c e) w.1
 
 -- Two known terms, whose cells a and b are.
-module _ (M : ℕ) (name : Naming) (h : Cells) (qs : List Indexical) (es : List Equation) (ps : List Indexical) (P : ℕ → Type 0) (look : Substitution) (s : IsKept M h qs es ps P look)
+module _ (M N : ℕ) (name : Naming) (h : Cells) (qs : List Indexical) (es : List Equation) (ps : List Indexical) (P : ℕ → Type 0) (look : Substitution) (s : IsKept M N h qs es ps P look)
     (l r : Term) (a b : Cell) (known : Of P l × Of P r) (at_l : apply look l ≡ term_of name h a) (at_r : apply look r ≡ term_of name h b) where
   abbrev pub asked : Equation
   asked = record { left = l; right = r }
@@ -110,16 +110,16 @@ module _ (M : ℕ) (name : Naming) (h : Cells) (qs : List Indexical) (es : List 
   on_cells = two (λ t u. record { left = t; right = u } ∷ []) at_l at_r
 
   -- They are equal now, and what was touched is to be posted.
-  pub kept_unified : (now : Cells) (ts : List Touch) (u : core.IsUnified name h a b now ts) → IsSameSize h now → IsKept M now (qs ++ posts (store_touches ts)) (asked ∷ es) ps P (after u.unifier look)
+  pub kept_unified : (now : Cells) (ts : List Touch) (u : core.IsUnified name h a b now ts) → IsSameSize h now → IsKept M N now (qs ++ posts (store_touches ts)) (asked ∷ es) ps P (after u.unifier look)
   kept_unified now ts u size =
       let g : IsUnified (length h.slots) (link_in h) (applied_each look (asked ∷ [])) u.unifier (link_in now) (store_touches ts) =
       subst (λ eqs. IsUnified (length h.slots) (link_in h) eqs u.unifier (link_in now) (store_touches ts)) (sym on_cells) (unified_is_general name h now a b ts u) in
-      let st = unified M es ps P (length h.slots) look (link_in h) s.slot qs s.stored (asked ∷ []) (known, tt) u.unifier (link_in now) (store_touches ts) g in
+      let st = unified M N es ps P (length h.slots) look (link_in h) s.slot qs s.stored (asked ∷ []) (known, tt) u.unifier (link_in now) (store_touches ts) g in
       record {
         slot = s.slot;
-        stored = subst (λ n. IsStored M (asked ∷ es) ps P n (after u.unifier look) (link_in now) s.slot (qs ++ posts (store_touches ts))) (sym size.slots) st;
+        stored = subst (λ n. IsStored M N (asked ∷ es) ps P n (after u.unifier look) (link_in now) s.slot (qs ++ posts (store_touches ts))) (sym size.slots) st;
       }
 
   -- They can't be equal: no family is a model with the equation.
-  pub kept_refuted : IsRefuted h (cells_equal name h a b) → (S : Family) → IsModel M (asked ∷ es) ps S → ⊥
-  kept_refuted no_one = kept_barred M h qs es ps P look s l r (λ back v t e. no_one back (subst (Unifies back) on_cells (unify_applied back look v P (asked ∷ []) t (known, tt) (e, tt))))
+  pub kept_refuted : IsRefuted h (cells_equal name h a b) → (S : Family) → IsModel M N (asked ∷ es) ps S → ⊥
+  kept_refuted no_one = kept_barred M N h qs es ps P look s l r (λ back v t e. no_one back (subst (Unifies back) on_cells (unify_applied back look v P (asked ∷ []) t (known, tt) (e, tt))))

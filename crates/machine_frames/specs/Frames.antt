@@ -31,10 +31,10 @@ abbrev pub store_touches : List Touch → List store.Touch
 store_touches ts = map store_touch ts
 
 -- The heap h and the ranges qs stand for the equations es and the ranges ps. look takes each known variable, that is each of P, to its term over the heap's variables. No variable of the heap is bound for having one value.
-pub record IsKept (M : ℕ) (h : Cells) (qs : List Indexical) (es : List Equation)
+pub record IsKept (M N : ℕ) (h : Cells) (qs : List Indexical) (es : List Equation)
     (ps : List Indexical) (P : ℕ → Type 0) (look : Substitution) : Type 0 where
   pub slot : ℕ → ℕ
-  pub stored : IsStored M es ps P (length h.slots) look (link_in h) slot qs
+  pub stored : IsStored M N es ps P (length h.slots) look (link_in h) slot qs
 
 -- the heap with more open variables and compound terms
 pub record IsGrown (old now : Cells) : Type 0 where

@@ -26,13 +26,13 @@ abbrev pub seen_env : Naming → Cells → List (Option Cell) → Family → Sub
 seen_env name h env G x = read_term h G (env_look name h env x)
 
 -- the row of a constraint on the term x of the heap
-abbrev pub heap_row : Cells → Family → ConstraintKind → Term → Result Expansion QueryFault
-heap_row h G kind x = expand kind (arguments (read_term h G x)) (length h.slots)
+abbrev pub heap_row : ℕ → Cells → Family → ConstraintKind → Term → Result Expansion QueryFault
+heap_row M h G kind x = expand M kind (arguments (read_term h G x)) (length h.slots)
 
 -- what a labelling of the list x does, by the heap and the store's sets
-abbrev pub heap_label : ℕ → Naming → Cells → List Indexical → Family → Order → Term → Labelled
-heap_label M name h qs G o x = labelled o
-    (λ c. values_by M (cell_set G ((fixed_frame (frame_of name h qs) G).link c))) x
+abbrev pub heap_label : ℕ → ℕ → Naming → Cells → List Indexical → Family → Order → Term → Labelled
+heap_label M N name h qs G o x = labelled o
+    (λ c. values_by N (cell_set G ((fixed_frame (frame_of name h qs) G).link c))) x
 
 -- what a built-in goal comes to whose arguments are the terms a and b of the heap
 abbrev pub heap_finding : Naming → Cells → List Indexical → Family → BuiltinKind → Term → Term

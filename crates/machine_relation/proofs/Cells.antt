@@ -54,36 +54,36 @@ abbrev pub more_cells : Frame → ℕ → Frame
 more_cells f j = record { heap = f.heap; cells = f.cells + j; link = f.link; store = f.store }
 
 -- one more
-held_next : (M : ℕ) (f : Frame) (es : List Equation) (ps : List Indexical) (n : ℕ) (look : Substitution) → IsHeld M f es ps (λ v. v < n) look → (look' : Substitution) → ((v : ℕ) → v < n → look v ≡ look' v) → look' n ≡ Var f.cells
-    → IsHeld M (record { heap = f.heap; cells = suc f.cells; link = f.link; store = f.store }) es ps (λ v. v < suc n) look'
-held_next M f es ps n look s look' same new =
+held_next : (M N : ℕ) (f : Frame) (es : List Equation) (ps : List Indexical) (n : ℕ) (look : Substitution) → IsHeld M N f es ps (λ v. v < n) look → (look' : Substitution) → ((v : ℕ) → v < n → look v ≡ look' v) → look' n ≡ Var f.cells
+    → IsHeld M N (record { heap = f.heap; cells = suc f.cells; link = f.link; store = f.store }) es ps (λ v. v < suc n) look'
+held_next M N f es ps n look s look' same new =
     let wide : Frame = record { heap = f.heap; cells = suc f.cells; link = f.link; store = f.store } in
-    let one = held_cell M f es ps (λ v. v < n) look s n (λ l. omega (arith, l)) in
-    let two = held_known M wide es ps (Or (λ v. v < n) n) (with_one n (Var f.cells) look) one (λ v. v < suc n) (λ v o. elim o [ inl e ↦ omega (arith, e) | inr l ↦ omega (arith, l) ]) (λ v l. elim (cases_eq v n) [ inl e ↦ inl e | inr d ↦ inr (omega (arith, l, d)) ]) in
-    held_other M wide es ps (λ v. v < suc n) (with_one n (Var f.cells) look) two look' (λ v l. elim (cases_eq v n) [
+    let one = held_cell M N f es ps (λ v. v < n) look s n (λ l. omega (arith, l)) in
+    let two = held_known M N wide es ps (Or (λ v. v < n) n) (with_one n (Var f.cells) look) one (λ v. v < suc n) (λ v o. elim o [ inl e ↦ omega (arith, e) | inr l ↦ omega (arith, l) ]) (λ v l. elim (cases_eq v n) [ inl e ↦ inl e | inr d ↦ inr (omega (arith, l, d)) ]) in
+    held_other M N wide es ps (λ v. v < suc n) (with_one n (Var f.cells) look) two look' (λ v l. elim (cases_eq v n) [
       | inl e ↦ ap (with_one n (Var f.cells) look) e ∙ ap (λ c. cond c (Var f.cells) (look n)) (eq-eqb n n refl) ∙ sym new ∙ sym (ap look' e)
       | inr d ↦ ap (λ c. cond c (Var f.cells) (look v)) (ne_eqb v n d) ∙ same v (omega (arith, l, d))
     ])
 
 -- as many more as are wanted
-held_cells : (M : ℕ) (f : Frame) (es : List Equation) (ps : List Indexical) (n : ℕ) (look : Substitution) (j : ℕ) → IsHeld M f es ps (λ v. v < n) look → (look' : Substitution) → ((v : ℕ) → v < n → look v ≡ look' v) → ((i : ℕ) → i < j → look' (n + i) ≡ Var (f.cells + i)) → IsHeld M (more_cells f j) es ps (λ v. v < n + j) look'
-held_cells M f es ps n look zero s look' same new =
+held_cells : (M N : ℕ) (f : Frame) (es : List Equation) (ps : List Indexical) (n : ℕ) (look : Substitution) (j : ℕ) → IsHeld M N f es ps (λ v. v < n) look → (look' : Substitution) → ((v : ℕ) → v < n → look v ≡ look' v) → ((i : ℕ) → i < j → look' (n + i) ≡ Var (f.cells + i)) → IsHeld M N (more_cells f j) es ps (λ v. v < n + j) look'
+held_cells M N f es ps n look zero s look' same new =
     let a : n ≡ n + 0 = omega arith in let b : f.cells ≡ f.cells + 0 = omega arith in
-    subst (λ c. IsHeld M (record { heap = f.heap; cells = c; link = f.link; store = f.store }) es ps (λ v. v < n + 0) look') b
-    (subst (λ k. IsHeld M f es ps (λ v. v < k) look') a (held_other M f es ps (λ v. v < n) look s look' same))
-held_cells M f es ps n look (suc j) s look' same new =
-    let before = held_cells M f es ps n look j s look' same (λ i l. new i (omega (arith, l))) in
-    let next = held_next M (more_cells f j) es ps (n + j) look' before look' (λ v l. refl) (new j (omega arith)) in
+    subst (λ c. IsHeld M N (record { heap = f.heap; cells = c; link = f.link; store = f.store }) es ps (λ v. v < n + 0) look') b
+    (subst (λ k. IsHeld M N f es ps (λ v. v < k) look') a (held_other M N f es ps (λ v. v < n) look s look' same))
+held_cells M N f es ps n look (suc j) s look' same new =
+    let before = held_cells M N f es ps n look j s look' same (λ i l. new i (omega (arith, l))) in
+    let next = held_next M N (more_cells f j) es ps (n + j) look' before look' (λ v l. refl) (new j (omega arith)) in
     let a : suc (n + j) ≡ n + suc j = omega arith in let b : suc (f.cells + j) ≡ f.cells + suc j = omega arith in
-    subst (λ c. IsHeld M (record { heap = f.heap; cells = c; link = f.link; store = f.store }) es ps (λ v. v < n + suc j) look') b
-    (subst (λ k. IsHeld M (record { heap = f.heap; cells = suc (f.cells + j); link = f.link; store = f.store }) es ps (λ v. v < k) look') a next)
+    subst (λ c. IsHeld M N (record { heap = f.heap; cells = c; link = f.link; store = f.store }) es ps (λ v. v < n + suc j) look') b
+    (subst (λ k. IsHeld M N (record { heap = f.heap; cells = suc (f.cells + j); link = f.link; store = f.store }) es ps (λ v. v < k) look') a next)
 
 abbrev pub more_fresh : Branch → ℕ → Branch
 more_fresh b j = record { goals = b.goals; equations = b.equations; posted = b.posted; fresh = b.fresh + j }
 
 -- j new variables of the branch, with as many new cells
-pub at_more : (M : ℕ) (q : Query) (work : List Goal) (f : Frame) (b : Branch) (s : IsAt M q work f b) (j : ℕ) → (new : IsAt M q work (more_cells f j) (more_fresh b j)) × (new.place ≡ place_from b.fresh f.cells s.place)
-at_more M q work f b s j =
+pub at_more : (M N : ℕ) (q : Query) (work : List Goal) (f : Frame) (b : Branch) (s : IsAt M N q work f b) (j : ℕ) → (new : IsAt M N q work (more_cells f j) (more_fresh b j)) × (new.place ≡ place_from b.fresh f.cells s.place)
+at_more M N q work f b s j =
     let there : ℕ → ℕ = place_from b.fresh f.cells s.place in (
       record {
         place = there;
@@ -96,7 +96,7 @@ at_more M q work f b s j =
         apart = λ v w l k e. apart_from b.fresh f.cells s.place s.placed s.apart v w e;
         begun = (let l = s.begun in omega (arith, l));
         first = λ v l. (let i = s.begun in place_old b.fresh f.cells s.place v (omega (arith, l, i)) ∙ s.first v l);
-        held = held_cells M f b.equations b.posted b.fresh (λ v. f.heap (s.place v)) j s.held (λ v. f.heap (there v)) (λ v l. ap f.heap (sym (place_old b.fresh f.cells s.place v l))) (λ i l. ap f.heap (place_new b.fresh f.cells s.place i) ∙ s.held.unused (f.cells + i) (omega arith));
+        held = held_cells M N f b.equations b.posted b.fresh (λ v. f.heap (s.place v)) j s.held (λ v. f.heap (there v)) (λ v l. ap f.heap (sym (place_old b.fresh f.cells s.place v l))) (λ i l. ap f.heap (place_new b.fresh f.cells s.place i) ∙ s.held.unused (f.cells + i) (omega arith));
       },
       refl,
     )

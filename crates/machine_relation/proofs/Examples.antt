@@ -13,7 +13,7 @@ use Rattle.fd_model.specs.Run.{Run}
 use Rattle.fd_model.specs.Sound.{IsRunnableProgram}
 use Rattle.fd_model.specs.Models.{IsModel}
 use Rattle.fd_model.proofs.Lemmas.{only_member, closed_without}
-use Rattle.fd_language.proofs.Lemmas.{identity, universe_rising, rising_inside}
+use Rattle.fd_language.proofs.Lemmas.{has_high, identity, universe_rising, rising_inside}
 use Rattle.machine_relation.specs.Store.{IsUnified}
 use Rattle.machine_relation.specs.Ahead.{Spends}
 use Rattle.machine_relation.specs.HeldBranches.{Frame, IsAtRest, unified_frame}
@@ -43,7 +43,7 @@ whole = record { target = 0; range = Span (Number (pos 0)) Infinity }
 abbrev row : Expansion
 row = record { equated = []; ranges = whole ∷ []; fresh = 1 }
 
-its_row : frame_row (first_frame query) AllDifferent different ≡ Ok row
+its_row : frame_row 1 (first_frame query) AllDifferent different ≡ Ok row
 its_row = refl
 
 abbrev links : ℕ → Option ℕ
@@ -90,25 +90,25 @@ two_values : (n : ℕ) → universe 1 ≡ n ∷ [] → ⊥
 unfolding universe
 two_values n e = cc
 
-all_model : (ps : List Indexical) → AllPosted (λ p. IsSubset (all p.target) (set_of 1 all p.range)) ps → IsModel 1 [] ps all
-all_model ps h = record { unifier = Var; general = identity; closed = closed_without 1 ps all (record { rising = λ x. universe_rising 1 }) h; full = λ x c. (0, some_member) }
+all_model : (ps : List Indexical) → AllPosted (λ p. IsSubset (all p.target) (set_of 1 all p.range)) ps → IsModel 1 1 [] ps all
+all_model ps h = record { unifier = Var; general = identity; closed = closed_without 1 1 ps all (record { rising = λ x. universe_rising 1 }) h (λ v n c m. has_high 0 1 (all v) n (universe_rising 1) m); full = λ x c. (0, some_member) }
 
 in_whole : AllPosted (λ p. IsSubset (all p.target) (set_of 1 all p.range)) (whole ∷ [])
 in_whole = (record { each = λ n h. ap (λ l. has l n) everywhere ∙ h }, tt)
 
-first_rest : IsAtRest 1 (first_frame query) all
+first_rest : IsAtRest 1 1 (first_frame query) all
 first_rest = record { model = all_model [] tt; most = λ R m. record { at = λ x. rising_inside 1 (R x) (m.closed.family.rising x) }; several = λ c k n e g. two_values n g }
 
-row_rest : IsAtRest 1 after_row all
+row_rest : IsAtRest 1 1 after_row all
 row_rest = record { model = all_model (whole ∷ []) in_whole; most = λ R m. record { at = λ x. rising_inside 1 (R x) (m.closed.family.rising x) }; several = λ c k n e g. two_values n g }
 
-its_values : frame_label 1 after_row all Leftmost one_list ≡ labels 0 (universe 1)
+its_values : frame_label 1 1 after_row all Leftmost one_list ≡ labels 0 (universe 1)
 its_values = refl
 
 -- Its run spends a reduction on each, says nothing, and then goes on with the values of X.
-two_steps : (prog : Program) → IsRunnableProgram 1 prog → (n : ℕ) (k : Option ℕ) (es : List Event) (r : ℕ) → Run 1 prog query (suc (suc n)) k (start_of query ∷ []) es r
-    → Spends (λ later j. Spends (Returns 1 prog query (record { left = values (universe 1) 0 (Label Leftmost one_list ∷ []); saved = after_row } ∷ []) n k) [] later j) [] es r
+two_steps : (prog : Program) → IsRunnableProgram 1 prog → (n : ℕ) (k : Option ℕ) (es : List Event) (r : ℕ) → Run 1 1 prog query (suc (suc n)) k (start_of query ∷ []) es r
+    → Spends (λ later j. Spends (Returns 1 1 prog query (record { left = values (universe 1) 0 (Label Leftmost one_list ∷ []); saved = after_row } ∷ []) n k) [] later j) [] es r
 two_steps prog runnable n k es r run =
-    let begun = start 1 prog query (((omega arith, (tt, tt)), tt), ((omega arith, (tt, tt)), tt)) (tt, (tt, tt)) (suc (suc n)) k es r run in
-    let first = walk_constraint 1 prog query (first_frame query) [] es r all first_rest runnable (suc n) k AllDifferent different (Label Leftmost one_list ∷ []) begun row its_row links (whole ∷ []) ((λ c. 0), links, its_link, (refl, refl)) Var links [] nothing_met (λ c l. refl) (all, all_model (whole ∷ []) in_whole) in
-    (first.0, first.1, first.2, first.3, walk_label 1 prog query after_row [] first.0 first.1 all row_rest runnable n k Leftmost one_list [] first.4 0 (universe 1) its_values)
+    let begun = start 1 1 prog query (((omega arith, (tt, tt)), tt), ((omega arith, (tt, tt)), tt)) (tt, (tt, tt)) (suc (suc n)) k es r run in
+    let first = walk_constraint 1 1 prog query (first_frame query) [] es r all first_rest runnable (suc n) k AllDifferent different (Label Leftmost one_list ∷ []) begun row its_row links (whole ∷ []) ((λ c. 0), links, its_link, (refl, refl)) Var links [] nothing_met (λ c l. refl) (all, all_model (whole ∷ []) in_whole) in
+    (first.0, first.1, first.2, first.3, walk_label 1 1 prog query after_row [] first.0 first.1 all row_rest runnable n k Leftmost one_list [] first.4 0 (universe 1) its_values)

@@ -25,7 +25,9 @@ use Rattle.machine_relation.specs.AnswerTexts.{cell_set, cell_text}
 use Rattle.machine_relation.specs.Labelling.{Labelled, faults, done, labels, labelled, rename_labelled}
 use Rattle.machine_relation.specs.Rows.{rename_row}
 use Rattle.machine_relation.proofs.Cells.{place_from, place_old, place_above}
-use Rattle.machine_relation.proofs.RowRenaming.{expand_renamed}
+use Rattle.machine_relation.proofs.SplitRenaming.{expand_renamed}
+use Rattle.machine_relation.proofs.Growing.{still_of}
+use Rattle.machine_relation.proofs.Scoping.{at_variable}
 use Rattle.machine_relation.proofs.Listing.{labelled_renamed, label_in}
 use Rattle.machine_relation.proofs.Showing.{one_for_all}
 use Rattle.machine_relation.proofs.Views.{view_back, view_look, view_set_there, view_set_back}
@@ -41,18 +43,18 @@ of_arguments (Int z) y e = e
 of_arguments (Atom a) y e = e
 of_arguments (Comp g ts) y e = e
 
-module _ (M : ℕ) (f : Frame) (es : List Equation) (ps : List Indexical) (P : ℕ → Type 0) (look : Substitution) (h : IsHeld M f es ps P look) (T : Family) (rest : IsAtRest M f T)
-    (s : Substitution) (D : Family) (v : IsView M es ps s D) (c : IsConsistent M es ps) where
+module _ (M N : ℕ) (f : Frame) (es : List Equation) (ps : List Indexical) (P : ℕ → Type 0) (look : Substitution) (h : IsHeld M N f es ps P look) (T : Family) (rest : IsAtRest M N f T)
+    (s : Substitution) (D : Family) (v : IsView M N es ps s D) (c : IsConsistent M N es ps) where
   abbrev pub sees : Term → Term
   sees t = seen s D (constrained ps) t
 
   pub back : Substitution
-  back = (view_back M f es ps P look h T rest s D v c).0
+  back = (view_back M N f es ps P look h T rest s D v c).0
 
   -- the heap's terms and the seen terms come from one another
   mutual
     look_seen : (t : Term) → apply look (sees t) ≡ apply look t
-    look_seen (Var x) = view_look M f es ps P look h T rest s D v c x
+    look_seen (Var x) = view_look M N f es ps P look h T rest s D v c x
     look_seen (Int z) = refl
     look_seen (Atom a) = refl
     look_seen (Comp g ts) = ap (Comp g) (look_seen_all ts)
@@ -65,7 +67,7 @@ module _ (M : ℕ) (f : Frame) (es : List Equation) (ps : List Indexical) (P : �
     unfolding back
 
     back_look : (t : Term) → Of P t → apply back (apply look t) ≡ sees t
-    back_look (Var x) o = (view_back M f es ps P look h T rest s D v c).1 x o
+    back_look (Var x) o = (view_back M N f es ps P look h T rest s D v c).1 x o
     back_look (Int z) o = refl
     back_look (Atom a) o = refl
     back_look (Comp g ts) o = ap (Comp g) (back_look_all ts o)
@@ -84,9 +86,9 @@ module _ (M : ℕ) (f : Frame) (es : List Equation) (ps : List Indexical) (P : �
     where
       by_sets : (o : Option (List ℕ)) (k : Option ℕ) → set_at s D (constrained ps) y ≡ o → f.link d ≡ k → o ≡ cell_set T k
       by_sets None None a b = refl
-      by_sets None (Some k) a b = absurd (let w = view_set_back M f es ps P look h T rest s D v c d y k i b in let g : None ≡ Some (T k) = sym a ∙ w in cc)
-      by_sets (Some xs) None a b = absurd (let w = view_set_there M f es ps P look h T rest s D v c d y xs e a in let g : None ≡ Some w.0 = sym b ∙ w.1 in cc)
-      by_sets (Some xs) (Some k) a b = let w = view_set_there M f es ps P look h T rest s D v c d y xs e a in let g : Some k ≡ Some w.0 = sym b ∙ w.1 in let j : k ≡ w.0 = cc in ap Some (sym w.2 ∙ ap T (sym j))
+      by_sets None (Some k) a b = absurd (let w = view_set_back M N f es ps P look h T rest s D v c d y k i b in let g : None ≡ Some (T k) = sym a ∙ w in cc)
+      by_sets (Some xs) None a b = absurd (let w = view_set_there M N f es ps P look h T rest s D v c d y xs e a in let g : None ≡ Some w.0 = sym b ∙ w.1 in cc)
+      by_sets (Some xs) (Some k) a b = let w = view_set_there M N f es ps P look h T rest s D v c d y xs e a in let g : Some k ≡ Some w.0 = sym b ∙ w.1 in let j : k ≡ w.0 = cc in ap Some (sym w.2 ∙ ap T (sym j))
 
   abbrev pub number : Term → ℕ
   number (Var z) = z
@@ -147,36 +149,36 @@ module _ (M : ℕ) (f : Frame) (es : List Equation) (ps : List Indexical) (P : �
   line_same (n ∷ names) all k = ap (joined (codes ", ")) (equals_same all k (n ∷ names) all (λ y j. j))
 
   -- a labelling: on the heap it takes the cell of the variable that it takes in the branch, with the same values
-  pub labelled_same : (o : Order) (t : Term) → Of P t → labelled o (λ d. values_by M (cell_set T (f.link d))) (apply look t) ≡ rename_labelled cell (labelled o (λ x. values_by M (set_at s D (constrained ps) x)) (sees t))
+  pub labelled_same : (o : Order) (t : Term) → Of P t → labelled o (λ d. values_by N (cell_set T (f.link d))) (apply look t) ≡ rename_labelled cell (labelled o (λ x. values_by N (set_at s D (constrained ps) x)) (sees t))
   labelled_same o t k =
       let comes : apply_all back (apply_all look (term (sees t) no_terms)) ≡ term (sees t) no_terms = ap (λ x. term x no_terms) (round t k) in
       let two_of : (y : ℕ) → has (variables_of (sees t)) y ≡ true → (look y ≡ Var (cell y)) × (back (cell y) ≡ Var y) = λ y i. pair (term (sees t) no_terms) comes y (in_left (variables_of (sees t)) [] y i) in
-      ap (labelled o (λ d. values_by M (cell_set T (f.link d)))) (sym (look_seen t))
-      ∙ labelled_renamed look cell (λ x. values_by M (set_at s D (constrained ps) x)) (λ d. values_by M (cell_set T (f.link d))) o (sees t) (λ y i. (two_of y i).0) (λ y i. ap (values_by M) (sym (same_set y (cell y) (two_of y i).0 (two_of y i).1)))
+      ap (labelled o (λ d. values_by N (cell_set T (f.link d)))) (sym (look_seen t))
+      ∙ labelled_renamed look cell (λ x. values_by N (set_at s D (constrained ps) x)) (λ d. values_by N (cell_set T (f.link d))) o (sees t) (λ y i. (two_of y i).0) (λ y i. ap (values_by N) (sym (same_set y (cell y) (two_of y i).0 (two_of y i).1)))
 
   -- the cell that is taken is the variable's
-  pub label_there : (o : Order) (t : Term) → Of P t → (d : ℕ) (ns : List ℕ) → labelled o (λ e. values_by M (cell_set T (f.link e))) (apply look t) ≡ labels d ns → (x : ℕ) × (labelled o (λ y. values_by M (set_at s D (constrained ps) y)) (sees t) ≡ labels x ns) × (look x ≡ Var d)
+  pub label_there : (o : Order) (t : Term) → Of P t → (d : ℕ) (ns : List ℕ) → labelled o (λ e. values_by N (cell_set T (f.link e))) (apply look t) ≡ labels d ns → (x : ℕ) × (labelled o (λ y. values_by N (set_at s D (constrained ps) y)) (sees t) ≡ labels x ns) × (look x ≡ Var d)
   label_there o t k d ns e =
       let comes : apply_all back (apply_all look (term (sees t) no_terms)) ≡ term (sees t) no_terms = ap (λ x. term x no_terms) (round t k) in
-      by_label (labelled o (λ y. values_by M (set_at s D (constrained ps) y)) (sees t)) refl (sym (labelled_same o t k) ∙ e)
-      (λ x ms i. (pair (term (sees t) no_terms) comes x (in_left (variables_of (sees t)) [] x (label_in o (λ y. values_by M (set_at s D (constrained ps) y)) (sees t) x ms i))).0)
+      by_label (labelled o (λ y. values_by N (set_at s D (constrained ps) y)) (sees t)) refl (sym (labelled_same o t k) ∙ e)
+      (λ x ms i. (pair (term (sees t) no_terms) comes x (in_left (variables_of (sees t)) [] x (label_in o (λ y. values_by N (set_at s D (constrained ps) y)) (sees t) x ms i))).0)
     where
-      by_label : (l : Labelled) → labelled o (λ y. values_by M (set_at s D (constrained ps) y)) (sees t) ≡ l → rename_labelled cell l ≡ labels d ns → ((x : ℕ) (ms : List ℕ) → labelled o (λ y. values_by M (set_at s D (constrained ps) y)) (sees t) ≡ labels x ms → look x ≡ Var (cell x)) → (x : ℕ) × (labelled o (λ y. values_by M (set_at s D (constrained ps) y)) (sees t) ≡ labels x ns) × (look x ≡ Var d)
+      by_label : (l : Labelled) → labelled o (λ y. values_by N (set_at s D (constrained ps) y)) (sees t) ≡ l → rename_labelled cell l ≡ labels d ns → ((x : ℕ) (ms : List ℕ) → labelled o (λ y. values_by N (set_at s D (constrained ps) y)) (sees t) ≡ labels x ms → look x ≡ Var (cell x)) → (x : ℕ) × (labelled o (λ y. values_by N (set_at s D (constrained ps) y)) (sees t) ≡ labels x ns) × (look x ≡ Var d)
       by_label (faults q) a b h = absurd (cc)
       by_label done a b h = absurd (cc)
       by_label (labels x ms) a b h = let g : ms ≡ ns = cc in let j : cell x ≡ d = cc in (x, a ∙ ap (labels x) g, h x ms a ∙ ap Var j)
 
   -- the other outcomes
-  pub label_done : (o : Order) (t : Term) → Of P t → labelled o (λ e. values_by M (cell_set T (f.link e))) (apply look t) ≡ done → labelled o (λ y. values_by M (set_at s D (constrained ps) y)) (sees t) ≡ done
-  label_done o t k e = by_label (labelled o (λ y. values_by M (set_at s D (constrained ps) y)) (sees t)) (sym (labelled_same o t k) ∙ e)
+  pub label_done : (o : Order) (t : Term) → Of P t → labelled o (λ e. values_by N (cell_set T (f.link e))) (apply look t) ≡ done → labelled o (λ y. values_by N (set_at s D (constrained ps) y)) (sees t) ≡ done
+  label_done o t k e = by_label (labelled o (λ y. values_by N (set_at s D (constrained ps) y)) (sees t)) (sym (labelled_same o t k) ∙ e)
     where
       by_label : (l : Labelled) → rename_labelled cell l ≡ done → l ≡ done
       by_label (faults q) b = absurd (cc)
       by_label done b = refl
       by_label (labels x ms) b = absurd (cc)
 
-  pub label_faults : (o : Order) (t : Term) → Of P t → (q : QueryFault) → labelled o (λ e. values_by M (cell_set T (f.link e))) (apply look t) ≡ faults q → labelled o (λ y. values_by M (set_at s D (constrained ps) y)) (sees t) ≡ faults q
-  label_faults o t k q e = by_label (labelled o (λ y. values_by M (set_at s D (constrained ps) y)) (sees t)) (sym (labelled_same o t k) ∙ e)
+  pub label_faults : (o : Order) (t : Term) → Of P t → (q : QueryFault) → labelled o (λ e. values_by N (cell_set T (f.link e))) (apply look t) ≡ faults q → labelled o (λ y. values_by N (set_at s D (constrained ps) y)) (sees t) ≡ faults q
+  label_faults o t k q e = by_label (labelled o (λ y. values_by N (set_at s D (constrained ps) y)) (sees t)) (sym (labelled_same o t k) ∙ e)
     where
       by_label : (l : Labelled) → rename_labelled cell l ≡ faults q → l ≡ faults q
       by_label (faults x) b = let g : x ≡ q = cc in ap faults g
@@ -215,11 +217,20 @@ module _ (M : ℕ) (f : Frame) (es : List Equation) (ps : List Indexical) (P : �
     first_cell : cell_from n n ≡ f.cells
     first_cell = let a = place_above n f.cells cell n (omega arith) in omega (arith, a)
 
-    pub row_same : (kind : ConstraintKind) → expand kind (arguments (apply look t)) f.cells ≡ rename_row (cell_from n) (expand kind (arguments (sees t)) n)
+    low_cell : (y : ℕ) → has (variables_of (sees t)) y ≡ true → cell y < f.cells
+    low_cell y i =
+        subst (Of (λ x. x < f.cells)) (pair (term (sees t) no_terms) comes y (in_term y i)).0
+        (at_variable (λ x. x < f.cells) look (sees t) (subst (Of (λ x. x < f.cells)) (sym (look_seen t)) (still_of P (λ x. x < f.cells) look h.stored.heap.cells t o)) y i)
+
+    -- the next cells are others
+    new_cells : (y k : ℕ) → has (variables_of (sees t)) y ≡ true → n ≤ k → cell_from n y ≡ cell_from n k → ⊥
+    new_cells y k i l e = let a = place_above n f.cells cell k l in let b = old_cell y i in let c = low_cell y i in omega (arith, a, b, c, e, l)
+
+    pub row_same : (kind : ConstraintKind) → expand M kind (arguments (apply look t)) f.cells ≡ rename_row (cell_from n) (expand M kind (arguments (sees t)) n)
     row_same kind =
-        ap (λ w. expand kind (arguments w) f.cells) (sym (look_seen t))
-        ∙ two (expand kind) (arguments_kept (sees t) (λ y i. (pair (term (sees t) no_terms) comes y (in_term y i)).0)) (sym first_cell)
-        ∙ expand_renamed (cell_from n) n follows look (variables_of (sees t)) apart_cells named_cell kind (arguments (sees t)) (of_arguments (sees t))
+        ap (λ w. expand M kind (arguments w) f.cells) (sym (look_seen t))
+        ∙ two (expand M kind) (arguments_kept (sees t) (λ y i. (pair (term (sees t) no_terms) comes y (in_term y i)).0)) (sym first_cell)
+        ∙ expand_renamed (cell_from n) n follows M (variables_of (sees t)) apart_cells new_cells look named_cell kind (arguments (sees t)) (of_arguments (sees t))
 
     -- the cells of the variables that it names
     pub row_cell : (y : ℕ) → has (variables_of_all (arguments (sees t))) y ≡ true → (y < n) × (look y ≡ Var (cell_from n y))

@@ -13,7 +13,7 @@ use Rattle.machine_relation.specs.Rows.{IsJoined, AreJoined}
 use Rattle.machine_relation.proofs.Renaming.{range_twice}
 use Rattle.machine_relation.proofs.Posting.{posted, posted_by, names_renamed}
 
-module _ (M : ℕ) (es : List Equation) (P : ℕ → Type 0) (h : ℕ) (look : Substitution) (f : ℕ → ℕ) where
+module _ (M N : ℕ) (es : List Equation) (P : ℕ → Type 0) (h : ℕ) (look : Substitution) (f : ℕ → ℕ) where
   abbrev Placed : List ℕ → Type 0
   Placed vs = (v : ℕ) → has vs v ≡ true → P v × (look v ≡ Var (f v))
 
@@ -30,14 +30,14 @@ module _ (M : ℕ) (es : List Equation) (P : ℕ → Type 0) (h : ℕ) (look : S
   }
 
   -- each known variable that the ranges name is the cell that f gives it
-  pub posted_each : (ws : List Indexical) → Placed (constrained ws) → (ps : List Indexical) (link : ℕ → Option ℕ) (slot : ℕ → ℕ) (qs : List Indexical) → IsStored M es ps P h look link slot qs
+  pub posted_each : (ws : List Indexical) → Placed (constrained ws) → (ps : List Indexical) (link : ℕ → Option ℕ) (slot : ℕ → ℕ) (qs : List Indexical) → IsStored M N es ps P h look link slot qs
       → (link' : ℕ → Option ℕ) (qs' : List Indexical) → AreJoined link qs (map (rename_indexical f) ws) link' qs' → (slot' : ℕ → ℕ) × ArePosted ps P look link slot qs ws link' slot' qs'
   posted_each [] i ps link slot qs st link' qs' a = (slot, (a.0, refl, a.1))
   posted_each (w ∷ ws) i ps link slot qs st link' qs' a =
       let of : ℕ → ℕ = λ v. a.0 (f v) in
-      let po = posted_by M es ps P h look link slot qs st w of a.1 (linked_by w (λ v c. i v (in_left (names w) (constrained ws) v c)) link qs a.0 a.1 a.2) in
+      let po = posted_by M N es ps P h look link slot qs st w of a.1 (linked_by w (λ v c. i v (in_left (names w) (constrained ws) v c)) link qs a.0 a.1 a.2) in
       let next = next_slot ps slot of in
-      let st' = posted M es ps P h look link slot qs st w of a.1 next po in
+      let st' = posted M N es ps P h look link slot qs st w of a.1 next po in
       let twice : rename_indexical a.0 (rename_indexical f w) ≡ rename_indexical of w = ap (λ r. record { target = of w.target; range = r }) (range_twice a.0 f w.range) in
       let later = posted_each ws (λ v c. i v (in_right (names w) (constrained ws) v c)) (w ∷ ps) a.1 next (qs ++ rename_indexical of w ∷ []) st' link' qs'
       (subst (λ p. AreJoined a.1 (qs ++ p ∷ []) (map (rename_indexical f) ws) link' qs') twice a.3) in

@@ -1,6 +1,6 @@
 -- The lemmas that other crates may cite, by their subjects. All else in proofs/ is this crate's own.
 -- What is ahead of branches of which some may not be consistent, goal by goal.
-pub use Rattle.machine_relation.proofs.Ahead.{ahead_any, ahead_drop, ahead_fault, ahead_fewer, ahead_last, ahead_taken, ahead_none, ahead_spent}
+pub use Rattle.machine_relation.proofs.Ahead.{ahead_any, ahead_drop, ahead_fault, ahead_fewer, ahead_last, ahead_taken, ahead_none, ahead_sought, ahead_spent, last_behind}
 -- New cells for new variables, and a clause's instance on them.
 pub use Rattle.machine_relation.proofs.Cells.{place_above, place_from}
 -- Variables that are forgotten: other equations that say the same of those that stay.
@@ -43,7 +43,9 @@ pub use Rattle.machine_relation.proofs.SingleValues.{fixed_rest}
 -- A new machine stands for the run of its query.
 pub use Rattle.machine_relation.proofs.Starting.{first_model, nothing_stored}
 -- The steps of any machine over what is still to come: from a goal, from an answer, and back to a choice point.
-pub use Rattle.machine_relation.proofs.Steps.{GivesAll, Speaks}
+pub use Rattle.machine_relation.proofs.Steps.{Back, Live, GivesAll, KeepsAll, Speaks, live_one, live_none, live_choice, live_two, live_cut, live_sought, live_fault, back_empty, back_gone, back_last, back_next, behind_level, either_gives, if_gives, negation_gives, old_level, test_level}
+-- Choice points and the branches for which they stand, level by level.
+pub use Rattle.machine_relation.proofs.Levels.{IsBelow, level_above, level_stays, level_top, oldest_all, oldest_fewer, wait_below, wait_length, wait_top}
 -- What follows for a heap and a store that stand for a branch.
 unfoldable pub use Rattle.machine_relation.proofs.Storing.{without_cell}
 pub use Rattle.machine_relation.proofs.Storing.{extended, sole_value}

@@ -16,23 +16,23 @@ use Rattle.machine_relation.specs.Models.{Fix, numbers, Sure}
 use Rattle.machine_relation.proofs.Growing.{applied_back}
 
 -- consistent branches have models, and the greatest of them
-pub model_from : (M : ℕ) (es : List Equation) (ps : List Indexical) → AllPosted (λ p. IsMonotone M p.range) ps → IsConsistent M es ps → (S : Family) × IsModel M es ps S × ((T : Family) → IsModel M es ps T → IsInside T S)
-model_from M es ps mono c =
-    let d = greatest_for M c.unifier ps mono in (
+pub model_from : (M N : ℕ) (es : List Equation) (ps : List Indexical) → AllPosted (λ p. IsMonotone M p.range) ps → IsConsistent M N es ps → (S : Family) × IsModel M N es ps S × ((T : Family) → IsModel M N es ps T → IsInside T S)
+model_from M N es ps mono c =
+    let d = greatest_for M N c.unifier ps mono in (
       d.0,
       record {
         unifier = c.unifier;
         general = c.general;
         closed = d.1;
-        full = λ x k. (let f = c.some x k in (f.0, ((d.2 f.1.family (closed_either M es c.unifier f.1.unifier ps f.1.family c.general f.1.general f.1.closed)).at x).each f.0 f.1.member));
+        full = λ x k. (let f = c.some x k in (f.0, ((d.2 f.1.family (closed_either M N es c.unifier f.1.unifier ps f.1.family c.general f.1.general f.1.closed)).at x).each f.0 f.1.member));
       },
-      λ T m. d.2 T (closed_either M es c.unifier m.unifier ps T c.general m.general m.closed),
+      λ T m. d.2 T (closed_either M N es c.unifier m.unifier ps T c.general m.general m.closed),
     )
 
 -- with weaker equations and fewer ranges a model stays one
-pub weaker : (M : ℕ) (es ds : List Equation) (ps qs : List Indexical) (S : Family) → ((u : Substitution) → Unifies u es → Unifies u ds)
-    → (AllPosted (λ p. IsSubset (S p.target) (set_of M S p.range)) ps → AllPosted (λ p. IsSubset (S p.target) (set_of M S p.range)) qs) → ((x : ℕ) → has (constrained qs) x ≡ true → has (constrained ps) x ≡ true) → IsModel M es ps S → IsModel M ds qs S
-weaker M es ds ps qs S weak fewer inside m =
+pub weaker : (M N : ℕ) (es ds : List Equation) (ps qs : List Indexical) (S : Family) → ((u : Substitution) → Unifies u es → Unifies u ds)
+    → (AllPosted (λ p. IsSubset (S p.target) (set_of M S p.range)) ps → AllPosted (λ p. IsSubset (S p.target) (set_of M S p.range)) qs) → ((x : ℕ) → has (constrained qs) x ≡ true → has (constrained ps) x ≡ true) → IsModel M N es ps S → IsModel M N ds qs S
+weaker M N es ds ps qs S weak fewer inside m =
     let found = has_general ds m.unifier (weak m.unifier m.general.unifies) (solved ds) in
     let through : (v : ℕ) (t : Term) → found.0 v ≡ t → m.unifier v ≡ apply m.unifier t = λ v t e. sym (found.1.general m.unifier v (weak m.unifier m.general.unifies)) ∙ ap (apply m.unifier) e in
     record {
@@ -42,20 +42,21 @@ weaker M es ds ps qs S weak fewer inside m =
         family = m.closed.family;
         posted = fewer m.closed.posted;
         values = λ v z n c e h. m.closed.values v z n (inside v c) (through v (Int z) e) h;
-        same = λ v w x c d e f. one_term M es ps S m v w (m.unifier x) (inside v c) (inside w d) (through v (Var x) e) (through w (Var x) f);
+        same = λ v w x c d e f. one_term M N es ps S m v w (m.unifier x) (inside v c) (inside w d) (through v (Var x) e) (through w (Var x) f);
         atoms = λ v a c e. m.closed.atoms v a (inside v c) (through v (Atom a) e);
         compounds = λ v f ts c e. m.closed.compounds v f (apply_all m.unifier ts) (inside v c) (through v (Comp f ts) e);
+        within = λ v n c h. m.closed.within v n (inside v c) h;
       };
       full = λ x c. m.full x (inside x c);
     }
 
 -- what a branch was before it grew
-pub ungrown : (M : ℕ) (ds es : List Equation) (qs ps : List Indexical) (S : Family) → IsModel M (ds ++ es) (qs ++ ps) S → IsModel M es ps S
-ungrown M ds es qs ps S m = weaker M (ds ++ es) es (qs ++ ps) ps S (λ u h. (split_both u ds es h).1) (posted_right (λ p. IsSubset (S p.target) (set_of M S p.range)) qs ps) (named_right qs ps) m
+pub ungrown : (M N : ℕ) (ds es : List Equation) (qs ps : List Indexical) (S : Family) → IsModel M N (ds ++ es) (qs ++ ps) S → IsModel M N es ps S
+ungrown M N ds es qs ps S m = weaker M N (ds ++ es) es (qs ++ ps) ps S (λ u h. (split_both u ds es h).1) (posted_right (λ p. IsSubset (S p.target) (set_of M S p.range)) qs ps) (named_right qs ps) m
 
 -- and a store, which grows behind
-pub front : (M : ℕ) (qs rs : List Indexical) (T : Family) → IsModel M [] (qs ++ rs) T → IsModel M [] qs T
-front M qs rs T m = weaker M [] [] (qs ++ rs) qs T (λ u h. h) (posted_left (λ p. IsSubset (T p.target) (set_of M T p.range)) qs rs) (named_left qs rs) m
+pub front : (M N : ℕ) (qs rs : List Indexical) (T : Family) → IsModel M N [] (qs ++ rs) T → IsModel M N [] qs T
+front M N qs rs T m = weaker M N [] [] (qs ++ rs) qs T (λ u h. h) (posted_left (λ p. IsSubset (T p.target) (set_of M T p.range)) qs rs) (named_left qs rs) m
 
 pub apply_general : (es ds : List Equation) (s u : Substitution) → IsMostGeneral es s → Unifies u es → Unifies u ds → Unifies u (applied_each s ds)
 apply_general es [] s u g h k = tt
@@ -102,9 +103,9 @@ comp_back y z f ts (Int j) e = absurd (cc)
 comp_back y z f ts (Atom b) e = absurd (cc)
 comp_back y z f ts (Comp g us) e = (us, let h : g ≡ f = cc in cc)
 
-module _ (M : ℕ) (es : List Equation) (ps : List Indexical) (S : Family) (m : IsModel M es ps S) (x n : ℕ) (c : has (constrained ps) x ≡ true) (only : (k : ℕ) → has (S x) k ≡ true → k ≡ n) where
+module _ (M N : ℕ) (es : List Equation) (ps : List Indexical) (S : Family) (m : IsModel M N es ps S) (x n : ℕ) (c : has (constrained ps) x ≡ true) (only : (k : ℕ) → has (S x) k ≡ true → k ≡ n) where
   -- an integer already
-  as_int : (z : ℤ) → m.unifier x ≡ Int z → IsModel M (is_number x n ∷ es) ps S
+  as_int : (z : ℤ) → m.unifier x ≡ Int z → IsModel M N (is_number x n ∷ es) ps S
   as_int z e =
       let f = m.full x c in
       let g : z ≡ pos n = sym (m.closed.values x z f.0 c e f.1) ∙ ap pos (only f.0 f.1) in
@@ -118,7 +119,7 @@ module _ (M : ℕ) (es : List Equation) (ps : List Indexical) (S : Family) (m : 
         full = m.full;
       }
 
-  as_var : (y : ℕ) → m.unifier x ≡ Var y → IsModel M (is_number x n ∷ es) ps S
+  as_var : (y : ℕ) → m.unifier x ≡ Var y → IsModel M N (is_number x n ∷ es) ps S
   as_var y e =
       let g : IsMostGeneral (applied_each m.unifier (is_number x n ∷ [])) (number_for y (pos n)) =
       subst (λ t. IsMostGeneral (record { left = t; right = Int (pos n) } ∷ []) (number_for y (pos n))) (sym e) (number_general y (pos n)) in
@@ -135,29 +136,30 @@ module _ (M : ℕ) (es : List Equation) (ps : List Indexical) (S : Family) (m : 
           same = λ v w t d f h i. m.closed.same v w t d f (var_back y (pos n) t (m.unifier v) h) (var_back y (pos n) t (m.unifier w) i);
           atoms = λ v a d h. m.closed.atoms v a d (atom_back y (pos n) a (m.unifier v) h);
           compounds = λ v f ts d h. (let b = comp_back y (pos n) f ts (m.unifier v) h in m.closed.compounds v f b.0 d b.1);
+          within = m.closed.within;
         };
         full = m.full;
       }
 
-  by_term : (t : Term) → m.unifier x ≡ t → IsModel M (is_number x n ∷ es) ps S
+  by_term : (t : Term) → m.unifier x ≡ t → IsModel M N (is_number x n ∷ es) ps S
   by_term (Var y) e = as_var y e
   by_term (Int z) e = as_int z e
-  by_term (Atom a) e = absurd (let f = m.full x c in not_empty M es ps S m (S x) f.0 (m.closed.atoms x a c e) f.1)
-  by_term (Comp g ts) e = absurd (let f = m.full x c in not_empty M es ps S m (S x) f.0 (m.closed.compounds x g ts c e) f.1)
+  by_term (Atom a) e = absurd (let f = m.full x c in not_empty M N es ps S m (S x) f.0 (m.closed.atoms x a c e) f.1)
+  by_term (Comp g ts) e = absurd (let f = m.full x c in not_empty M N es ps S m (S x) f.0 (m.closed.compounds x g ts c e) f.1)
 
   -- a constrained variable of one value may as well be equated with it
-  pub numbered : IsModel M (is_number x n ∷ es) ps S
+  pub numbered : IsModel M N (is_number x n ∷ es) ps S
   numbered = by_term (m.unifier x) refl
 
 -- What is sure stays so when the branch grows.
-pub sure_grown : (M : ℕ) (ds es : List Equation) (qs ps : List Indexical) (fs : List Fix) → Sure M es ps fs → Sure M (ds ++ es) (qs ++ ps) fs
-sure_grown M ds es qs ps [] h = tt
-sure_grown M ds es qs ps (f ∷ fs) h = ((named_right qs ps f.variable h.0.0, λ S m. h.0.1 S (ungrown M ds es qs ps S m)), sure_grown M ds es qs ps fs h.1)
+pub sure_grown : (M N : ℕ) (ds es : List Equation) (qs ps : List Indexical) (fs : List Fix) → Sure M N es ps fs → Sure M N (ds ++ es) (qs ++ ps) fs
+sure_grown M N ds es qs ps [] h = tt
+sure_grown M N ds es qs ps (f ∷ fs) h = ((named_right qs ps f.variable h.0.0, λ S m. h.0.1 S (ungrown M N ds es qs ps S m)), sure_grown M N ds es qs ps fs h.1)
 
 -- the models of a branch are those with its sure integers
-pub with_numbers : (M : ℕ) (es : List Equation) (ps : List Indexical) (fs : List Fix) (S : Family) → Sure M es ps fs → IsModel M es ps S → IsModel M (numbers fs ++ es) ps S
-with_numbers M es ps [] S h m = m
-with_numbers M es ps (f ∷ fs) S h m = numbered M (numbers fs ++ es) ps S (with_numbers M es ps fs S h.1 m) f.variable f.number h.0.0 (h.0.1 S m)
+pub with_numbers : (M N : ℕ) (es : List Equation) (ps : List Indexical) (fs : List Fix) (S : Family) → Sure M N es ps fs → IsModel M N es ps S → IsModel M N (numbers fs ++ es) ps S
+with_numbers M N es ps [] S h m = m
+with_numbers M N es ps (f ∷ fs) S h m = numbered M N (numbers fs ++ es) ps S (with_numbers M N es ps fs S h.1 m) f.variable f.number h.0.0 (h.0.1 S m)
 
-pub without_numbers : (M : ℕ) (es : List Equation) (ps : List Indexical) (fs : List Fix) (S : Family) → IsModel M (numbers fs ++ es) ps S → IsModel M es ps S
-without_numbers M es ps fs S m = ungrown M (numbers fs) es [] ps S m
+pub without_numbers : (M N : ℕ) (es : List Equation) (ps : List Indexical) (fs : List Fix) (S : Family) → IsModel M N (numbers fs ++ es) ps S → IsModel M N es ps S
+without_numbers M N es ps fs S m = ungrown M N (numbers fs) es [] ps S m

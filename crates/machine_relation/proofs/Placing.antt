@@ -23,9 +23,9 @@ one_here v t s = ap (λ b. cond b t (s v)) (eq-eqb v v refl)
 pub one_else : (v : ℕ) (t : Term) (s : Substitution) (x : ℕ) → (x ≡ v → ⊥) → with_one v t s x ≡ s x
 one_else v t s x d = ap (λ b. cond b t (s x)) (ne_eqb x v d)
 
-module _ (M : ℕ) (es : List Equation) (ps : List Indexical) (P : ℕ → Type 0) (h : ℕ) (look : Substitution) (link : ℕ → Option ℕ) (slot : ℕ → ℕ) (qs : List Indexical) (st : IsStored M es ps P h look link slot qs) where
+module _ (M N : ℕ) (es : List Equation) (ps : List Indexical) (P : ℕ → Type 0) (h : ℕ) (look : Substitution) (link : ℕ → Option ℕ) (slot : ℕ → ℕ) (qs : List Indexical) (st : IsStored M N es ps P h look link slot qs) where
   -- another look that agrees, over other cells
-  pub other : (look' : Substitution) (h' : ℕ) → ((x : ℕ) → P x → look x ≡ look' x) → ((x : ℕ) → P x → Of (λ c. c < h') (look' x)) → IsStored M es ps P h' look' link slot qs
+  pub other : (look' : Substitution) (h' : ℕ) → ((x : ℕ) → P x → look x ≡ look' x) → ((x : ℕ) → P x → Of (λ c. c < h') (look' x)) → IsStored M N es ps P h' look' link slot qs
   other look' h' same cells = record {
     heap = record {
       scoped = st.heap.scoped;
@@ -50,7 +50,7 @@ module _ (M : ℕ) (es : List Equation) (ps : List Indexical) (P : ℕ → Type 
     other_old x p = sym (one_else v (Var h) look x (λ e. new_one (subst P e p)))
 
     -- one more variable and one more cell
-    pub stored_cell : IsStored M es ps (Or P v) (suc h) (with_one v (Var h) look) link slot qs
+    pub stored_cell : IsStored M N es ps (Or P v) (suc h) (with_one v (Var h) look) link slot qs
     stored_cell = record {
       heap = record {
         scoped = more_each P (Or P v) (λ x p. inr p) es st.heap.scoped;
@@ -120,8 +120,8 @@ module _ (M : ℕ) (es : List Equation) (ps : List Indexical) (P : ℕ → Type 
         pairs = λ a u c d k j e g w. (let f : Var c ≡ Var d = sym (at_link c k e) ∙ w in let i : c ≡ d = cc in let same : Some k ≡ Some j = sym e ∙ ap link i ∙ g in let q : k ≡ j = cc in ap a q);
       }
 
-      both : IsStored M (ds ++ es) ps (Or P v) (suc h) (after new cell_look) link slot (qs ++ [])
-      both = unified M es ps (Or P v) (suc h) cell_look link slot qs stored_cell ds ((more_of P (Or P v) (λ x p. inr p) t o, inl refl), tt) new link [] unify_cell
+      both : IsStored M N (ds ++ es) ps (Or P v) (suc h) (after new cell_look) link slot (qs ++ [])
+      both = unified M N es ps (Or P v) (suc h) cell_look link slot qs stored_cell ds ((more_of P (Or P v) (λ x p. inr p) t o, inl refl), tt) new link [] unify_cell
 
       final : (x : ℕ) → Or P v x → after new cell_look x ≡ with_one v (apply look t) look x
       final x (inl e) = ap (λ y. apply new (cell_look y)) e ∙ ap (apply new) (one_here v (Var h) look) ∙ one_here h (apply look t) Var ∙ sym (one_here v (apply look t) look) ∙ ap (with_one v (apply look t) look) (sym e)
@@ -132,10 +132,10 @@ module _ (M : ℕ) (es : List Equation) (ps : List Indexical) (P : ℕ → Type 
       cells_now x (inr p) = subst (Of (λ c. c < h)) (sym (one_else v (apply look t) look x (λ e. new_one (subst P e p)))) (st.heap.cells x p)
 
 -- GetVariable, and UnifyVariable on a structure that is there
-pub stored_place : (M : ℕ) (es : List Equation) (ps : List Indexical) (P : ℕ → Type 0) (h : ℕ) (look : Substitution) (link : ℕ → Option ℕ) (slot : ℕ → ℕ) (qs : List Indexical) → IsStored M es ps P h look link slot qs → (v : ℕ) → (P v → ⊥) → (t : Term) → Of P t
-    → IsStored M (record { left = t; right = Var v } ∷ es) ps (Or P v) h (with_one v (apply look t) look) link slot qs
-stored_place M es ps P h look link slot qs st v new_one t o =
-    subst (λ l. IsStored M (record { left = t; right = Var v } ∷ es) ps (Or P v) h (with_one v (apply look t) look) link slot l) (append-nil qs)
-    (other M (record { left = t; right = Var v } ∷ es) ps (Or P v) (suc h) (after (with_one h (apply look t) Var) (with_one v (Var h) look)) link slot (qs ++ [])
-    (both M es ps P h look link slot qs st v new_one t o) (with_one v (apply look t) look) h
-    (final M es ps P h look link slot qs st v new_one t o) (cells_now M es ps P h look link slot qs st v new_one t o))
+pub stored_place : (M N : ℕ) (es : List Equation) (ps : List Indexical) (P : ℕ → Type 0) (h : ℕ) (look : Substitution) (link : ℕ → Option ℕ) (slot : ℕ → ℕ) (qs : List Indexical) → IsStored M N es ps P h look link slot qs → (v : ℕ) → (P v → ⊥) → (t : Term) → Of P t
+    → IsStored M N (record { left = t; right = Var v } ∷ es) ps (Or P v) h (with_one v (apply look t) look) link slot qs
+stored_place M N es ps P h look link slot qs st v new_one t o =
+    subst (λ l. IsStored M N (record { left = t; right = Var v } ∷ es) ps (Or P v) h (with_one v (apply look t) look) link slot l) (append-nil qs)
+    (other M N (record { left = t; right = Var v } ∷ es) ps (Or P v) (suc h) (after (with_one h (apply look t) Var) (with_one v (Var h) look)) link slot (qs ++ [])
+    (both M N es ps P h look link slot qs st v new_one t o) (with_one v (apply look t) look) h
+    (final M N es ps P h look link slot qs st v new_one t o) (cells_now M N es ps P h look link slot qs st v new_one t o))

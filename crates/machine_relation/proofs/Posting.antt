@@ -1,5 +1,5 @@
 -- One more range on a branch and on the store.
-use Rattle.std.proofs.Common.{◌≡◌, ℕ, Bool, true, false, cond, ◌==◌, ℤ, pos, negsuc, List, [], ◌∷◌, ◌++◌, Option, Some, map, refl, ap, sym, ◌∙◌, subst, inl, inr, ◌⊎◌, eqb-true, eq-eqb}
+use Rattle.std.proofs.Common.{◌≤◌, ◌≡◌, ℕ, Bool, true, false, cond, ◌==◌, ℤ, pos, negsuc, List, [], ◌∷◌, ◌++◌, Option, Some, map, refl, ap, sym, ◌∙◌, subst, inl, inr, ◌⊎◌, eqb-true, eq-eqb}
 use Rattle.std.proofs.lemmas.Bool.{cases_Bool, or_cases, or_left, or_right, true≢false}
 use Rattle.std.proofs.lemmas.Option.{same_Some}
 use Rattle.fd_language.specs.Term.{Term, Var, Int, Atom, Comp, Substitution, apply}
@@ -18,9 +18,9 @@ use Rattle.machine_relation.proofs.Touching.{Holds}
 use Rattle.machine_relation.proofs.Storing.{extended}
 
 -- a family that the heap shows is closed under the equations
-pub by_shown : (M : ℕ) (es : List Equation) (ps : List Indexical) (P : ℕ → Type 0) (h : ℕ) (look : Substitution) (link : ℕ → Option ℕ) (T S : Family) → StandsFor es P h look → IsFamily M S → Holds M S ps
-    → ((v : ℕ) → has (constrained ps) v ≡ true → shown_set link T (look v) ≡ S v) → ((v : ℕ) → has (constrained ps) v ≡ true → (i : ℕ) × (has (S v) i ≡ true)) → IsModel M es ps S
-by_shown M es ps P h look link T S heap f holds agrees full =
+pub by_shown : (M N : ℕ) (es : List Equation) (ps : List Indexical) (P : ℕ → Type 0) (h : ℕ) (look : Substitution) (link : ℕ → Option ℕ) (T S : Family) → StandsFor es P h look → IsFamily M S → Holds M S ps
+    → ((v : ℕ) → has (constrained ps) v ≡ true → shown_set link T (look v) ≡ S v) → ((v n : ℕ) → has (constrained ps) v ≡ true → has (S v) n ≡ true → n ≤ N) → ((v : ℕ) → has (constrained ps) v ≡ true → (i : ℕ) × (has (S v) i ≡ true)) → IsModel M N es ps S
+by_shown M N es ps P h look link T S heap f holds agrees low full =
     let s = has_general es look heap.unifies (solved es) in
     let shows : (v : ℕ) (t : Term) → has (constrained ps) v ≡ true → s.0 v ≡ t → shown_set link T (apply look t) ≡ S v =
     λ v t c e. subst (λ r. shown_set link T r ≡ S v) (sym (s.1.general look v heap.unifies) ∙ ap (apply look) e) (agrees v c) in
@@ -34,6 +34,7 @@ by_shown M es ps P h look link T S heap f holds agrees full =
         same = λ v w x c d e g. sym (shows v (Var x) c e) ∙ shows w (Var x) d g;
         atoms = λ v a c e. sym (shows v (Atom a) c e);
         compounds = λ v g rs c e. sym (shows v (Comp g rs) c e);
+        within = low;
       };
       full = full;
     }
@@ -106,11 +107,11 @@ slot_there f p v h = one_left (rename_indexical f p) (f v) (subst (λ l. has l (
 pub slot_back : (f : ℕ → ℕ) (p : Indexical) (k : ℕ) → has (constrained (rename_indexical f p ∷ [])) k ≡ true → (v : ℕ) × (has (names p) v ≡ true) × (f v ≡ k)
 slot_back f p k h = map_has f (names p) k (subst (λ l. has l k ≡ true) (names_renamed f p) (one_back (rename_indexical f p) k h))
 
-module _ (M : ℕ) (es : List Equation) (ps : List Indexical) (P : ℕ → Type 0) (h : ℕ) (look : Substitution) (link : ℕ → Option ℕ) (slot : ℕ → ℕ) (qs : List Indexical) (st : IsStored M es ps P h look link slot qs)
+module _ (M N : ℕ) (es : List Equation) (ps : List Indexical) (P : ℕ → Type 0) (h : ℕ) (look : Substitution) (link : ℕ → Option ℕ) (slot : ℕ → ℕ) (qs : List Indexical) (st : IsStored M N es ps P h look link slot qs)
     (p : Indexical) (f : ℕ → ℕ) (link' : ℕ → Option ℕ) (slot' : ℕ → ℕ) (po : IsPosted ps P look link slot qs p f link' slot') where
-  module _ (T : Family) (m : IsModel M [] (qs ++ rename_indexical f p ∷ []) T) where
-    before : IsModel M [] qs T
-    before = front M qs (rename_indexical f p ∷ []) T m
+  module _ (T : Family) (m : IsModel M N [] (qs ++ rename_indexical f p ∷ []) T) where
+    before : IsModel M N [] qs T
+    before = front M N qs (rename_indexical f p ∷ []) T m
 
     at_named : (v : ℕ) → has (names p) v ≡ true → T (slot' v) ≡ T (f v)
     at_named v c = elim (cases_Bool (has (constrained ps) v)) [
@@ -135,35 +136,39 @@ module _ (M : ℕ) (es : List Equation) (ps : List Indexical) (P : ℕ → Type 
       | inr d ↦ let w = po.cell v (one_back p v d) in ap (shown_set link' T) w.1 ∙ ap (λ o. linked_set o T) w.2 ∙ sym (at_named v (one_back p v d))
     ]
 
-    down_posted : IsModel M es (p ∷ ps) (λ v. T (slot' v))
+    down_posted : IsModel M N es (p ∷ ps) (λ v. T (slot' v))
     down_posted =
         let base = st.down T before in
         let last = posted_right (λ q. IsSubset (T q.target) (set_of M T q.range)) qs (rename_indexical f p ∷ []) m.closed.posted in
-        by_shown M es (p ∷ ps) P h look link' T (λ v. T (slot' v)) st.heap (record { rising = λ v. m.closed.family.rising (slot' v) }) (
+        by_shown M N es (p ∷ ps) P h look link' T (λ v. T (slot' v)) st.heap (record { rising = λ v. m.closed.family.rising (slot' v) }) (
           subst (λ l. IsSubset l (set_of M (λ v. T (slot' v)) p.range)) (sym (at_named p.target (or_left (p.target == p.target) (has (reads p.range) p.target) (eq-eqb p.target p.target refl))))
               (subst (IsSubset (T (f p.target))) (set_same M f T (λ v. T (slot' v)) p.range (λ v c. sym (at_named v (or_right (p.target == v) (has (reads p.range) v) c)))) last.0),
           holds_agree M (λ v. T (slot' v)) (λ v. T (slot v)) ps (λ v c. ap T (po.old v c)) base.closed.posted,
         )
         agrees_posted
+        (λ v i c h. elim (new_or_old p ps v c) [
+          | inl d ↦ base.closed.within v i d (subst (λ k. has (T k) i ≡ true) (po.old v d) h)
+          | inr d ↦ m.closed.within (f v) i (named_right qs (rename_indexical f p ∷ []) (f v) (slot_there f p v (one_back p v d))) (subst (λ l. has l i ≡ true) (at_named v (one_back p v d)) h)
+        ])
         (λ v c. elim (new_or_old p ps v c) [
           | inl d ↦ let g = base.full v d in (g.0, subst (λ k. has (T k) g.0 ≡ true) (sym (po.old v d)) g.1)
           | inr d ↦ let g = m.full (f v) (named_right qs (rename_indexical f p ∷ []) (f v) (slot_there f p v (one_back p v d))) in (g.0, subst (λ l. has l g.0 ≡ true) (sym (at_named v (one_back p v d))) g.1)
         ])
 
-  module _ (S : Family) (m : IsModel M es (p ∷ ps) S) where
-    first : IsModel M es ps S
-    first = ungrown M [] es (p ∷ []) ps S m
+  module _ (S : Family) (m : IsModel M N es (p ∷ ps) S) where
+    first : IsModel M N es ps S
+    first = ungrown M N [] es (p ∷ []) ps S m
 
     -- variables that the heap shows as one term have one set
     shown_one : (v w : ℕ) → has (constrained (p ∷ ps)) v ≡ true → has (constrained (p ∷ ps)) w ≡ true → P v → P w → look v ≡ look w → S v ≡ S w
     shown_one v w c d a b e =
         let back = st.heap.through m.unifier m.general.unifies in
-        one_term M es (p ∷ ps) S m v w (m.unifier w) c d (sym (back.1 v a) ∙ ap (apply back.0) e ∙ back.1 w b) refl
+        one_term M N es (p ∷ ps) S m v w (m.unifier w) c d (sym (back.1 v a) ∙ ap (apply back.0) e ∙ back.1 w b) refl
 
     named_in : (v : ℕ) → has (names p) v ≡ true → has (constrained (p ∷ ps)) v ≡ true
     named_in v c = named_left (p ∷ []) ps v (one_left p v c)
 
-    module _ (T : Family) (t : IsModel M [] qs T) (equal : (v : ℕ) → has (constrained ps) v ≡ true → T (slot v) ≡ S v) where
+    module _ (T : Family) (t : IsModel M N [] qs T) (equal : (v : ℕ) → has (constrained ps) v ≡ true → T (slot v) ≡ S v) where
       abbrev new_sets : Family
       new_sets = pick f S T (names p)
 
@@ -193,25 +198,26 @@ module _ (M : ℕ) (es : List Equation) (ps : List Indexical) (P : ℕ → Type 
         ]
       ]
 
-      up_posted : IsModel M [] (qs ++ rename_indexical f p ∷ []) new_sets
+      up_posted : IsModel M N [] (qs ++ rename_indexical f p ∷ []) new_sets
       up_posted =
           let fam : IsFamily M new_sets = pick_rising M f S T (names p) m.closed.family t.closed.family in
           let last = m.closed.posted in
-          extended M qs (rename_indexical f p ∷ []) new_sets
+          extended M N qs (rename_indexical f p ∷ []) new_sets
           (record {
             unifier = Var;
             general = identity;
-            closed = closed_without M qs new_sets fam (holds_agree M new_sets T qs at_old t.closed.posted);
+            closed = closed_without M N qs new_sets fam (holds_agree M new_sets T qs at_old t.closed.posted) (λ k i c h. t.closed.within k i c (subst (λ l. has l i ≡ true) (at_old k c) h));
             full = λ k c. (let g = t.full k c in (g.0, subst (λ l. has l g.0 ≡ true) (sym (at_old k c)) g.1));
           }) (
             subst (λ l. IsSubset l (set_of M new_sets (rename_range f p.range))) (sym (at_slot p.target (or_left (p.target == p.target) (has (reads p.range) p.target) (eq-eqb p.target p.target refl))))
                 (subst (IsSubset (S p.target)) (sym (set_same M f new_sets S p.range (λ v c. at_slot v (or_right (p.target == v) (has (reads p.range) v) c)))) last.0),
             tt,
           )
+          (λ k i c h. (let v = slot_back f p k c in m.closed.within v.0 i (named_in v.0 v.1) (subst (λ l. has l i ≡ true) (at_slot v.0 v.1) (subst (λ j. has (new_sets j) i ≡ true) (sym v.2) h))))
           (λ k c. (let v = slot_back f p k c in let g = m.full v.0 (named_in v.0 v.1) in (g.0, subst (λ j. has (new_sets j) g.0 ≡ true) v.2 (subst (λ l. has l g.0 ≡ true) (sym (at_slot v.0 v.1)) g.1))))
 
   -- One posted range: heap and store stand for the branch with that range.
-  pub posted : IsStored M es (p ∷ ps) P h look link' slot' (qs ++ rename_indexical f p ∷ [])
+  pub posted : IsStored M N es (p ∷ ps) P h look link' slot' (qs ++ rename_indexical f p ∷ [])
   posted = record {
     heap = st.heap;
     used = λ v c. elim (new_or_old p ps v c) [ inl d ↦ st.used v d | inr d ↦ po.used v (one_back p v d) ];
@@ -241,9 +247,9 @@ module _ (M : ℕ) (es : List Equation) (ps : List Indexical) (P : ℕ → Type 
   }
 
 -- what a heap and a store supply is enough
-pub posted_by : (M : ℕ) (es : List Equation) (ps : List Indexical) (P : ℕ → Type 0) (h : ℕ) (look : Substitution) (link : ℕ → Option ℕ) (slot : ℕ → ℕ) (qs : List Indexical) → IsStored M es ps P h look link slot qs
+pub posted_by : (M N : ℕ) (es : List Equation) (ps : List Indexical) (P : ℕ → Type 0) (h : ℕ) (look : Substitution) (link : ℕ → Option ℕ) (slot : ℕ → ℕ) (qs : List Indexical) → IsStored M N es ps P h look link slot qs
     → (p : Indexical) (f : ℕ → ℕ) (link' : ℕ → Option ℕ) → IsLinked P look link qs p f link' → IsPosted ps P look link slot qs p f link' (next_slot ps slot f)
-posted_by M es ps P h look link slot qs st p f link' l = record {
+posted_by M N es ps P h look link slot qs st p f link' l = record {
   used = l.used;
   old = λ v c. ap (λ b. cond b (slot v) (f v)) c;
   new = λ v c d. ap (λ b. cond b (slot v) (f v)) d;

@@ -5,7 +5,7 @@ use Rattle.fd_language.specs.Range.{Range}
 use Rattle.fd_language.specs.RangeRenaming.{rename_range, renaming}
 use Rattle.fd_model.specs.Renaming.{rename_term, rename_goal, rename_goals}
 use Rattle.fd_language.specs.Occurrences.{Occurrence, range_occurrences}
-use Rattle.fd_model.specs.Goal.{Goal, Goals, no_goals, goal, True, Fail, Unify, Post, Constrain, Label, Call, Either, Builtin}
+use Rattle.fd_model.specs.Goal.{Goal, Goals, no_goals, goal, True, Fail, Unify, Post, Constrain, Label, Call, Either, Builtin, Cut, If, IfElse, Not, Best}
 use Rattle.fd_language.specs.Variables.{TermBelow, TermsBelow}
 use Rattle.fd_model.specs.Sound.{OccurrencesBelow, GoalBelow, GoalsBelow, EachBelow}
 use Rattle.fd_language.proofs.Lemmas.{two, after_is, each_map, new_twice, renamed_agree}
@@ -54,6 +54,11 @@ module _ (f g : ℕ → ℕ) where
     goal_twice (Call t) = ap Call (term_twice t)
     goal_twice (Either a b) = two Either (goals_twice a) (goals_twice b)
     goal_twice (Builtin b t) = ap (Builtin b) (term_twice t)
+    goal_twice (Cut c) = refl
+    goal_twice (If a b) = two If (goals_twice a) (goals_twice b)
+    goal_twice (IfElse a b c) = let i = goals_twice a in let j = goals_twice b in let k = goals_twice c in cc
+    goal_twice (Not a) = ap Not (goals_twice a)
+    goal_twice (Best o least t c) = two (Best o least) (term_twice t) (term_twice c)
 
     goals_twice : (as' : Goals) → rename_goals f (rename_goals g as') ≡ rename_goals (λ x. f (g x)) as'
     goals_twice no_goals = refl
@@ -78,6 +83,11 @@ module _ (n : ℕ) (f g : ℕ → ℕ) (h : (x : ℕ) → x < n → f x ≡ g x)
     goal_agree (Call t) b = ap Call (term_agree t b)
     goal_agree (Either s t) b = two Either (goals_agree s b.0) (goals_agree t b.1)
     goal_agree (Builtin c t) b = ap (Builtin c) (term_agree t b)
+    goal_agree (Cut c) b = refl
+    goal_agree (If s t) b = two If (goals_agree s b.0) (goals_agree t b.1)
+    goal_agree (IfElse s t u) b = let i = goals_agree s b.0 in let j = goals_agree t b.1 in let k = goals_agree u b.2 in cc
+    goal_agree (Not s) b = ap Not (goals_agree s b)
+    goal_agree (Best o least t c) b = two (Best o least) (term_agree t b.0) (term_agree c b.1)
 
     goals_agree : (as' : Goals) → GoalsBelow n as' → rename_goals f as' ≡ rename_goals g as'
     goals_agree no_goals b = refl

@@ -6,7 +6,7 @@ use Rattle.fd_model.specs.declared.kinds.QueryFault.{QueryFault}
 use Rattle.fd_model.specs.declared.kinds.QueryFault.TheVariants.{BadType}
 use Rattle.fd_model.specs.declared.kinds.Relation.{Relation}
 use Rattle.fd_model.specs.declared.kinds.ConstraintKind.{ConstraintKind}
-use Rattle.fd_model.specs.declared.kinds.ConstraintKind.TheVariants.{Compare, AllDifferent, Element, Atmost}
+use Rattle.fd_model.specs.declared.kinds.ConstraintKind.TheVariants.{Compare, AllDifferent, Element, Atmost, And, Or, Not, Reified}
 use Rattle.fd_language.specs.Term.{Term, Terms, Var, Int, Atom, Comp, no_terms, term, Substitution, apply, apply_all}
 use Rattle.fd_language.specs.Family.{has}
 use Rattle.fd_language.specs.Variables.{variables_of, variables_of_all}
@@ -16,7 +16,7 @@ use Rattle.fd_model.specs.Linear.{Comparison, IsEqual, IsOther, IsAtMost, scaled
 use Rattle.fd_model.specs.LinearRows.{Expansion, by_sign, minus_products, low, high, exact, row, row_by_sign, rows_behind, compares, no_number, linear_rows}
 use Rattle.fd_model.specs.Members.{Member, Open, Known, as_member, as_integer, walk, place_of, after, placed, fresh_after, equated_from}
 use Rattle.fd_model.specs.ListRows.{differs, against, pairwise, different_ranges, different_rows, elements_at, index_ranges, union_onto, union_of, element_ranges, element_rows, counts, units, atmost_rows}
-use Rattle.fd_model.specs.Constraining.{compare, pair, expand}
+use Rattle.fd_model.specs.Constraining.{compare, pair, basic}
 use Rattle.fd_language.proofs.Lemmas.{two, in_left, in_right}
 use Rattle.fd_model.proofs.Lemmas.{first_member}
 use Rattle.machine_relation.specs.Rows.{rename_products, rename_expansion, rename_row}
@@ -43,7 +43,7 @@ integers_renamed u f (Comp g (term t (term r no_terms))) h =
 integers_renamed u f (Comp g (term t (term r (term x xs)))) h = refl
 
 module _ (f : ℕ → ℕ) where
-  abbrev ranges_renamed : List Indexical → List Indexical
+  abbrev pub ranges_renamed : List Indexical → List Indexical
   ranges_renamed ps = map (rename_indexical f) ps
 
   -- the rows of a linear form
@@ -78,7 +78,7 @@ module _ (f : ℕ → ℕ) where
   products_both [] us = refl
   products_both (t ∷ ts) us = ap (λ l. (f t.0, t.1) ∷ l) (products_both ts us)
 
-  behind_renamed : (k : Comparison) (c : ℤ) (before ts : List (ℕ × ℤ)) → rows_behind k c (rename_products f before) (rename_products f ts) ≡ ranges_renamed (rows_behind k c before ts)
+  pub behind_renamed : (k : Comparison) (c : ℤ) (before ts : List (ℕ × ℤ)) → rows_behind k c (rename_products f before) (rename_products f ts) ≡ ranges_renamed (rows_behind k c before ts)
   behind_renamed k c before [] = refl
   behind_renamed k c before (t ∷ ts) =
       two (λ r l. record { target = f t.0; range = r } ∷ l)
@@ -131,15 +131,15 @@ module _ (f : ℕ → ℕ) where
 
   -- from here on fresh variables follow one another as they did
   module _ (n : ℕ) (follows : (m : ℕ) → n ≤ m → f (suc m) ≡ suc (f m)) where
-    place_renamed : (k : ℕ) (m : Member) → place_of (f k) (rename_member f m) ≡ f (place_of k m)
+    pub place_renamed : (k : ℕ) (m : Member) → place_of (f k) (rename_member f m) ≡ f (place_of k m)
     place_renamed k (Open x) = refl
     place_renamed k (Known z) = refl
 
-    after_renamed : (k : ℕ) (m : Member) → n ≤ k → after (f k) (rename_member f m) ≡ f (after k m)
+    pub after_renamed : (k : ℕ) (m : Member) → n ≤ k → after (f k) (rename_member f m) ≡ f (after k m)
     after_renamed k (Open x) l = refl
     after_renamed k (Known z) l = sym (follows k l)
 
-    after_grows : (k : ℕ) (m : Member) → n ≤ k → n ≤ after k m
+    pub after_grows : (k : ℕ) (m : Member) → n ≤ k → n ≤ after k m
     after_grows k (Open x) l = l
     after_grows k (Known z) l = omega (arith, l)
 
@@ -147,7 +147,7 @@ module _ (f : ℕ → ℕ) where
     placed_renamed k [] l = refl
     placed_renamed k (m ∷ ms) l = two (λ x xs. x ∷ xs) (place_renamed k m) (ap (λ j. placed j (rename_members f ms)) (after_renamed k m l) ∙ placed_renamed (after k m) ms (after_grows k m l))
 
-    fresh_renamed : (k : ℕ) (ms : List Member) → n ≤ k → fresh_after (f k) (rename_members f ms) ≡ f (fresh_after k ms)
+    pub fresh_renamed : (k : ℕ) (ms : List Member) → n ≤ k → fresh_after (f k) (rename_members f ms) ≡ f (fresh_after k ms)
     fresh_renamed k [] l = refl
     fresh_renamed k (m ∷ ms) l = ap (λ j. fresh_after j (rename_members f ms)) (after_renamed k m l) ∙ fresh_renamed (after k m) ms (after_grows k m l)
 
@@ -155,7 +155,7 @@ module _ (f : ℕ → ℕ) where
     fresh_up k [] l = l
     fresh_up k (m ∷ ms) l = fresh_up (after k m) ms (after_grows k m l)
 
-    equated_renamed : (k : ℕ) (ms : List Member) → n ≤ k → equated_from (f k) (rename_members f ms) ≡ rename_products f (equated_from k ms)
+    pub equated_renamed : (k : ℕ) (ms : List Member) → n ≤ k → equated_from (f k) (rename_members f ms) ≡ rename_products f (equated_from k ms)
     equated_renamed k [] l = refl
     equated_renamed k (Open x ∷ ms) l = equated_renamed k ms l
     equated_renamed k (Known z ∷ ms) l = ap (λ es. (f k, z) ∷ es) (ap (λ j. equated_from j (rename_members f ms)) (sym (follows k l)) ∙ equated_renamed (suc k) ms (omega (arith, l)))
@@ -238,32 +238,36 @@ module _ (f : ℕ → ℕ) where
           ∙ ap (of_one (λ l. Ok (linear_rows (comparison r) l.products l.constant (f n)))) (form_renamed f r (collect s t))
           ∙ by_form r (of_one (normal_form r) (collect s t))
 
-      pub expand_renamed : (kind : ConstraintKind) (ts : Terms) → ((y : ℕ) → has (variables_of_all ts) y ≡ true → has vs y ≡ true) → expand kind (apply_all u ts) (f n) ≡ rename_row f (expand kind ts n)
-      expand_renamed (Compare r) no_terms i = refl
-      expand_renamed (Compare r) (term s no_terms) i = refl
-      expand_renamed (Compare r) (term s (term t no_terms)) i =
+      pub basic_renamed : (kind : ConstraintKind) (ts : Terms) → ((y : ℕ) → has (variables_of_all ts) y ≡ true → has vs y ≡ true) → basic kind (apply_all u ts) (f n) ≡ rename_row f (basic kind ts n)
+      basic_renamed (Compare r) no_terms i = refl
+      basic_renamed (Compare r) (term s no_terms) i = refl
+      basic_renamed (Compare r) (term s (term t no_terms)) i =
           compare_renamed r s t (λ y c. i y (in_left (variables_of s) (variables_of_all (term t no_terms)) y c)) (λ y c. i y (in_right (variables_of s) (variables_of_all (term t no_terms)) y (in_left (variables_of t) [] y c)))
-      expand_renamed (Compare r) (term s (term t (term w ws))) i = refl
-      expand_renamed AllDifferent no_terms i = refl
-      expand_renamed AllDifferent (term l no_terms) i = ap (of_one (λ ms. Ok (different_rows ms (f n)))) (list_renamed u f l (λ y c. named y (i y (in_left (variables_of l) [] y c)))) ∙ by_different (walk as_member l)
-      expand_renamed AllDifferent (term l (term w ws)) i = refl
-      expand_renamed Element no_terms i = refl
-      expand_renamed Element (term a no_terms) i = refl
-      expand_renamed Element (term a (term l no_terms)) i = refl
-      expand_renamed Element (term a (term l (term x no_terms))) i =
+      basic_renamed (Compare r) (term s (term t (term w ws))) i = refl
+      basic_renamed AllDifferent no_terms i = refl
+      basic_renamed AllDifferent (term l no_terms) i = ap (of_one (λ ms. Ok (different_rows ms (f n)))) (list_renamed u f l (λ y c. named y (i y (in_left (variables_of l) [] y c)))) ∙ by_different (walk as_member l)
+      basic_renamed AllDifferent (term l (term w ws)) i = refl
+      basic_renamed Element no_terms i = refl
+      basic_renamed Element (term a no_terms) i = refl
+      basic_renamed Element (term a (term l no_terms)) i = refl
+      basic_renamed Element (term a (term l (term x no_terms))) i =
           let at_a : (y : ℕ) → has (variables_of a) y ≡ true → u y ≡ Var (f y) = λ y c. named y (i y (in_left (variables_of a) (variables_of_all (term l (term x no_terms))) y c)) in
           let at_l : (y : ℕ) → has (variables_of l) y ≡ true → u y ≡ Var (f y) = λ y c. named y (i y (in_right (variables_of a) (variables_of_all (term l (term x no_terms))) y (in_left (variables_of l) (variables_of_all (term x no_terms)) y c))) in
           let at_x : (y : ℕ) → has (variables_of x) y ≡ true → u y ≡ Var (f y) = λ y c. named y (i y (in_right (variables_of a) (variables_of_all (term l (term x no_terms))) y (in_right (variables_of l) (variables_of_all (term x no_terms)) y (in_left (variables_of x) [] y c)))) in
           two (of_both (λ p y. Ok (element_rows p.0 p.1 y (f n)))) (two (of_both pair) (one_renamed u f a at_a) (integers_renamed u f l at_l)) (one_renamed u f x at_x)
           ∙ by_element (as_member a) (walk as_integer l) (as_member x)
-      expand_renamed Element (term a (term l (term x (term w ws)))) i = refl
-      expand_renamed Atmost no_terms i = refl
-      expand_renamed Atmost (term m no_terms) i = refl
-      expand_renamed Atmost (term m (term l no_terms)) i = refl
-      expand_renamed Atmost (term m (term l (term v no_terms))) i =
+      basic_renamed Element (term a (term l (term x (term w ws)))) i = refl
+      basic_renamed Atmost no_terms i = refl
+      basic_renamed Atmost (term m no_terms) i = refl
+      basic_renamed Atmost (term m (term l no_terms)) i = refl
+      basic_renamed Atmost (term m (term l (term v no_terms))) i =
           let at_m : (y : ℕ) → has (variables_of m) y ≡ true → u y ≡ Var (f y) = λ y c. named y (i y (in_left (variables_of m) (variables_of_all (term l (term v no_terms))) y c)) in
           let at_l : (y : ℕ) → has (variables_of l) y ≡ true → u y ≡ Var (f y) = λ y c. named y (i y (in_right (variables_of m) (variables_of_all (term l (term v no_terms))) y (in_left (variables_of l) (variables_of_all (term v no_terms)) y c))) in
           let at_v : (y : ℕ) → has (variables_of v) y ≡ true → u y ≡ Var (f y) = λ y c. named y (i y (in_right (variables_of m) (variables_of_all (term l (term v no_terms))) y (in_right (variables_of l) (variables_of_all (term v no_terms)) y (in_left (variables_of v) [] y c)))) in
           two (of_both (λ p w. Ok (atmost_rows p.0 p.1 w (f n)))) (two (of_both pair) (integer_renamed u f m at_m) (list_renamed u f l at_l)) (integer_renamed u f v at_v)
           ∙ by_atmost (as_integer m) (walk as_member l) (as_integer v)
-      expand_renamed Atmost (term m (term l (term v (term w ws)))) i = refl
+      basic_renamed Atmost (term m (term l (term v (term w ws)))) i = refl
+      basic_renamed And ts i = refl
+      basic_renamed Or ts i = refl
+      basic_renamed Not ts i = refl
+      basic_renamed Reified ts i = refl

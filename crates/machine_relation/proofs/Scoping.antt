@@ -1,7 +1,7 @@
 -- What is seen of known variables has known variables alone.
 use Rattle.std.proofs.Common.{◌≡◌, ℕ, ◌<◌, true, false, ◌==◌, List, [], ◌∷◌, Option, Some, None, sym, subst, inl, inr, eqb-true}
 use Rattle.std.proofs.lemmas.Bool.{or_cases, true≢false}
-use Rattle.fd_language.specs.Term.{Term, Terms, Var, Int, Atom, Comp, Substitution, apply, no_terms, term}
+use Rattle.fd_language.specs.Term.{Term, Terms, Var, Int, Atom, Comp, Substitution, apply, apply_all, no_terms, term}
 use Rattle.fd_language.specs.Unifier.{Equation, IsMostGeneral}
 use Rattle.fd_language.specs.Family.{Family, has}
 use Rattle.fd_model.specs.Seen.{seen, by_set, set_at}
@@ -43,6 +43,18 @@ mutual
   all_variables_on : (P : ℕ → Type 0) (ts : Terms) → AllOf P ts → (y : ℕ) → has (variables_of_all ts) y ≡ true → P y
   all_variables_on P no_terms b y h = absurd (true≢false (sym h))
   all_variables_on P (term t ts) b y h = elim (has_either (variables_of t) (variables_of_all ts) y h) [ inl e ↦ variables_on P t b.0 y e | inr e ↦ all_variables_on P ts b.1 y e ]
+
+-- what holds of a term under a substitution holds of what its variables become
+mutual
+  pub at_variable : (Q : ℕ → Type 0) (s : Substitution) (t : Term) → Of Q (apply s t) → (y : ℕ) → has (variables_of t) y ≡ true → Of Q (s y)
+  at_variable Q s (Var x) b y h = elim (or_cases (x == y) false h) [ inl e ↦ subst (λ z. Of Q (s z)) (eqb-true x y e) b | inr e ↦ absurd (true≢false (sym e)) ]
+  at_variable Q s (Int z) b y h = absurd (true≢false (sym h))
+  at_variable Q s (Atom a) b y h = absurd (true≢false (sym h))
+  at_variable Q s (Comp f ts) b y h = at_variables Q s ts b y h
+
+  at_variables : (Q : ℕ → Type 0) (s : Substitution) (ts : Terms) → AllOf Q (apply_all s ts) → (y : ℕ) → has (variables_of_all ts) y ≡ true → Of Q (s y)
+  at_variables Q s no_terms b y h = absurd (true≢false (sym h))
+  at_variables Q s (term t ts) b y h = elim (has_either (variables_of t) (variables_of_all ts) y h) [ inl e ↦ at_variable Q s t b.0 y e | inr e ↦ at_variables Q s ts b.1 y e ]
 
 -- a term seen variable by variable
 pub seen_by_variable : (s : Substitution) (D : Family) (ws : List ℕ) (t : Term) → apply (λ v. seen s D ws (Var v)) t ≡ seen s D ws t

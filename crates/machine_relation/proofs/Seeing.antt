@@ -43,11 +43,11 @@ some_found s D (w ∷ ws) y xs e = by_test (is_variable (s w) y) refl e (some_fo
     by_test true h g later = record { variable = w; there = or_left (w == w) (has ws w) (eq-eqb w w refl); goes = is_variable_true (s w) y h; is = sym g }
     by_test false h g later = further s D w ws y (Some xs) (later g)
 
-module _ (M : ℕ) (es : List Equation) (ps : List Indexical) (s : Substitution) (D : Family) (v : IsView M es ps s D) (full : (x : ℕ) → has (constrained ps) x ≡ true → (n : ℕ) × (has (D x) n ≡ true)) where
+module _ (M N : ℕ) (es : List Equation) (ps : List Indexical) (s : Substitution) (D : Family) (v : IsView M N es ps s D) (full : (x : ℕ) → has (constrained ps) x ≡ true → (n : ℕ) × (has (D x) n ≡ true)) where
   abbrev at : Substitution
   at y = by_set (set_at s D (constrained ps) y) y
 
-  model : IsModel M es ps D
+  model : IsModel M N es ps D
   model = record { unifier = s; general = v.general; closed = v.closed; full = full }
 
   one_value : (x n : ℕ) → has (constrained ps) x ≡ true → ((k : ℕ) → has (D x) k ≡ true → k ≡ n) → D x ≡ n ∷ []
@@ -62,16 +62,16 @@ module _ (M : ℕ) (es : List Equation) (ps : List Indexical) (s : Substitution)
   fixed_term x n (Atom a) c e g = absurd (let h : n ∷ [] ≡ [] = sym e ∙ v.closed.atoms x a c g in cc)
   fixed_term x n (Comp f ts) c e g = absurd (let h : n ∷ [] ≡ [] = sym e ∙ v.closed.compounds x f ts c g in cc)
 
-  seen_fixes : (fs : List Fix) → Sure M es ps fs → Unifies (after at s) (numbers fs)
+  seen_fixes : (fs : List Fix) → Sure M N es ps fs → Unifies (after at s) (numbers fs)
   seen_fixes [] h = tt
   seen_fixes (f ∷ fs) h = (fixed_term f.variable f.number (s f.variable) h.0.0 (one_value f.variable f.number h.0.0 (h.0.1 D model)) refl, seen_fixes fs h.1)
 
   -- the seen terms unify what the machine bound, so they come from the heap's terms
-  pub seen_from_look : (fs : List Fix) → Sure M es ps fs → (P : ℕ → Type 0) (h : ℕ) (look : Substitution) → StandsFor (numbers fs ++ es) P h look → (back : Substitution) × ((x : ℕ) → P x → apply back (look x) ≡ seen s D (constrained ps) (Var x))
+  pub seen_from_look : (fs : List Fix) → Sure M N es ps fs → (P : ℕ → Type 0) (h : ℕ) (look : Substitution) → StandsFor (numbers fs ++ es) P h look → (back : Substitution) × ((x : ℕ) → P x → apply back (look x) ≡ seen s D (constrained ps) (Var x))
   seen_from_look fs sure P h look st = st.through (after at s) (join_both (after at s) (numbers fs) es (seen_fixes fs sure) (still_unifies at s es v.general.unifies))
 
   -- and the other way, once each cell whose set has one value was bound
-  module _ (ds : List Equation) (P : ℕ → Type 0) (h : ℕ) (look : Substitution) (link : ℕ → Option ℕ) (slot : ℕ → ℕ) (qs : List Indexical) (st : IsStored M (ds ++ es) ps P h look link slot qs) (T : Family) (t : IsModel M [] qs T)
+  module _ (ds : List Equation) (P : ℕ → Type 0) (h : ℕ) (look : Substitution) (link : ℕ → Option ℕ) (slot : ℕ → ℕ) (qs : List Indexical) (st : IsStored M N (ds ++ es) ps P h look link slot qs) (T : Family) (t : IsModel M N [] qs T)
       (sets : (x : ℕ) → has (constrained ps) x ≡ true → D x ≡ T (slot x)) (none_left : (c k i : ℕ) → link c ≡ Some k → T k ≡ i ∷ [] → ⊥) where
     look_at_s : (x : ℕ) → apply look (s x) ≡ look x
     look_at_s x = v.general.general look x (split_both look ds es st.heap.unifies).1

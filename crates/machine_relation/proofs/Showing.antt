@@ -35,8 +35,8 @@ mutual
     | inr g ↦ one_for_all look back ts (let k : apply_all back (apply_all look ts) ≡ ts = cc in k) y g
   ]
 
-module _ (M : ℕ) (es ds : List Equation) (ps : List Indexical) (s : Substitution) (D : Family) (v : IsView M es ps s D)
-    (P : ℕ → Type 0) (h : ℕ) (look : Substitution) (link : ℕ → Option ℕ) (slot : ℕ → ℕ) (qs : List Indexical) (st : IsStored M (ds ++ es) ps P h look link slot qs) (T : Family) (t : IsModel M [] qs T)
+module _ (M N : ℕ) (es ds : List Equation) (ps : List Indexical) (s : Substitution) (D : Family) (v : IsView M N es ps s D)
+    (P : ℕ → Type 0) (h : ℕ) (look : Substitution) (link : ℕ → Option ℕ) (slot : ℕ → ℕ) (qs : List Indexical) (st : IsStored M N (ds ++ es) ps P h look link slot qs) (T : Family) (t : IsModel M N [] qs T)
     (sets : (x : ℕ) → has (constrained ps) x ≡ true → D x ≡ T (slot x))
     (look_s : (x : ℕ) → apply look (s x) ≡ look x) (back : Substitution) (back_look : (x : ℕ) → P x → apply back (look x) ≡ seen s D (constrained ps) (Var x)) where
   -- a constrained open variable is a linked cell with the same set

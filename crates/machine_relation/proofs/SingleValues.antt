@@ -6,8 +6,8 @@ use Rattle.fd_model.specs.Models.{IsModel}
 use Rattle.fd_model.specs.Goal.{Query}
 use Rattle.machine_relation.specs.HeldBranches.{Frame, IsAtRest, open_link, link_at, fixed_frame}
 
-module _ (M : ℕ) (q : Query) (f : Frame) (G : Family) (most : (R : Family) → IsModel M [] f.store R → IsInside R G) where
-  pub fixed_rest : IsModel M [] f.store G → IsAtRest M (fixed_frame f G) G
+module _ (M N : ℕ) (q : Query) (f : Frame) (G : Family) (most : (R : Family) → IsModel M N [] f.store R → IsInside R G) where
+  pub fixed_rest : IsModel M N [] f.store G → IsAtRest M N (fixed_frame f G) G
   fixed_rest model = record {
     model = model;
     most = most;

@@ -1,5 +1,5 @@
 -- What follows for a heap and a store that stand for a branch.
-use Rattle.std.proofs.Common.{◌≡◌, ◌≢◌, ℕ, Bool, true, false, cond, ◌==◌, ℤ, pos, List, [], ◌∷◌, ◌++◌, Option, Some, None, refl, ap, sym, ◌∙◌, subst, inl, inr, eqb-true, eq-eqb, ne_eqb}
+use Rattle.std.proofs.Common.{◌≤◌, ◌≡◌, ◌≢◌, ℕ, Bool, true, false, cond, ◌==◌, ℤ, pos, List, [], ◌∷◌, ◌++◌, Option, Some, None, refl, ap, sym, ◌∙◌, subst, inl, inr, eqb-true, eq-eqb, ne_eqb}
 use Rattle.std.proofs.lemmas.Bool.{cases_eq, or_cases, or_left, true≢false}
 use Rattle.fd_language.specs.Term.{Var, Int, Substitution}
 use Rattle.fd_language.specs.Unifier.{Equation, IsMostGeneral}
@@ -16,9 +16,9 @@ use Rattle.machine_relation.specs.Store.{Value, posts, IsUnified, IsStored}
 use Rattle.machine_relation.proofs.Models.{front, number_general}
 use Rattle.machine_relation.proofs.Touching.{unified, Holds, as_posts, set_term}
 
-module _ (M : ℕ) (es : List Equation) (ps : List Indexical) (P : ℕ → Type 0) (h : ℕ) (look : Substitution) (link : ℕ → Option ℕ) (slot : ℕ → ℕ) (qs : List Indexical) (st : IsStored M es ps P h look link slot qs) where
+module _ (M N : ℕ) (es : List Equation) (ps : List Indexical) (P : ℕ → Type 0) (h : ℕ) (look : Substitution) (link : ℕ → Option ℕ) (slot : ℕ → ℕ) (qs : List Indexical) (st : IsStored M N es ps P h look link slot qs) where
   -- the greatest families of both have the same sets
-  pub same_sets : (S T : Family) → IsModel M es ps S → ((R : Family) → IsModel M es ps R → IsInside R S) → IsModel M [] qs T → ((R : Family) → IsModel M [] qs R → IsInside R T) → (v : ℕ) → has (constrained ps) v ≡ true → S v ≡ T (slot v)
+  pub same_sets : (S T : Family) → IsModel M N es ps S → ((R : Family) → IsModel M N es ps R → IsInside R S) → IsModel M N [] qs T → ((R : Family) → IsModel M N [] qs R → IsInside R T) → (v : ℕ) → has (constrained ps) v ≡ true → S v ≡ T (slot v)
   same_sets S T a most b largest v c =
       let up = st.up S a in
       rising_same 0 M (S v) (T (slot v)) (a.closed.family.rising v) (b.closed.family.rising (slot v))
@@ -26,7 +26,7 @@ module _ (M : ℕ) (es : List Equation) (ps : List Indexical) (P : ℕ → Type 
       ((most (λ w. T (slot w)) (st.down T b)).at v)
 
   -- other ranges with the same models
-  pub same_store : (rs : List Indexical) → ((k : ℕ) → has (constrained qs) k ≡ true → has (constrained rs) k ≡ true) → ((T : Family) → IsModel M [] qs T → IsModel M [] rs T) → ((T : Family) → IsModel M [] rs T → IsModel M [] qs T) → IsStored M es ps P h look link slot rs
+  pub same_store : (rs : List Indexical) → ((k : ℕ) → has (constrained qs) k ≡ true → has (constrained rs) k ≡ true) → ((T : Family) → IsModel M N [] qs T → IsModel M N [] rs T) → ((T : Family) → IsModel M N [] rs T → IsModel M N [] qs T) → IsStored M N es ps P h look link slot rs
   same_store rs more there back = record {
     heap = st.heap;
     used = st.used;
@@ -39,17 +39,17 @@ module _ (M : ℕ) (es : List Equation) (ps : List Indexical) (P : ℕ → Type 
   }
 
 -- a model of the store that meets more ranges
-pub extended : (M : ℕ) (qs rs : List Indexical) (T : Family) → IsModel M [] qs T → Holds M T rs → ((k : ℕ) → has (constrained rs) k ≡ true → (i : ℕ) × (has (T k) i ≡ true)) → IsModel M [] (qs ++ rs) T
-extended M qs rs T m holds full = record {
+pub extended : (M N : ℕ) (qs rs : List Indexical) (T : Family) → IsModel M N [] qs T → Holds M T rs → ((k i : ℕ) → has (constrained rs) k ≡ true → has (T k) i ≡ true → i ≤ N) → ((k : ℕ) → has (constrained rs) k ≡ true → (i : ℕ) × (has (T k) i ≡ true)) → IsModel M N [] (qs ++ rs) T
+extended M N qs rs T m holds low full = record {
   unifier = Var;
   general = identity;
-  closed = closed_without M (qs ++ rs) T m.closed.family (posted_both (λ p. IsSubset (T p.target) (set_of M T p.range)) qs rs m.closed.posted holds);
+  closed = closed_without M N (qs ++ rs) T m.closed.family (posted_both (λ p. IsSubset (T p.target) (set_of M T p.range)) qs rs m.closed.posted holds) (λ k i c h. elim (constrained_either qs rs k c) [ inl a ↦ m.closed.within k i a h | inr a ↦ low k i a h ]);
   full = λ k c. elim (constrained_either qs rs k c) [ inl a ↦ m.full k a | inr a ↦ full k a ];
 }
 
 -- where the store's greatest model gives k one value, each model does
-pub sole_value : (M : ℕ) (qs : List Indexical) (G : Family) → ((R : Family) → IsModel M [] qs R → IsInside R G) → (k w : ℕ) → has (constrained qs) k ≡ true → G k ≡ w ∷ [] → (T : Family) → IsModel M [] qs T → T k ≡ w ∷ []
-sole_value M qs G most k w c e T m =
+pub sole_value : (M N : ℕ) (qs : List Indexical) (G : Family) → ((R : Family) → IsModel M N [] qs R → IsInside R G) → (k w : ℕ) → has (constrained qs) k ≡ true → G k ≡ w ∷ [] → (T : Family) → IsModel M N [] qs T → T k ≡ w ∷ []
+sole_value M N qs G most k w c e T m =
     let only : (i : ℕ) → has (T k) i ≡ true → i ≡ w = λ i j. sym (only_member w i (subst (λ l. has l i ≡ true) e (((most T m).at k).each i j))) in
     let some = m.full k c in
     single_from 0 M w (T k) (m.closed.family.rising k) (subst (λ i. has (T k) i ≡ true) (only some.0 some.1) some.1) only
@@ -63,8 +63,8 @@ without_case true o j e = absurd (cc)
 without_case false o j e = (refl, e)
 
 -- the machine binds a variable whose set has one value
-module _ (M : ℕ) (es : List Equation) (ps : List Indexical) (P : ℕ → Type 0) (h : ℕ) (look : Substitution) (link : ℕ → Option ℕ) (slot : ℕ → ℕ) (qs : List Indexical) (st : IsStored M es ps P h look link slot qs)
-    (c k w : ℕ) (linked : link c ≡ Some k) (one : (T : Family) → IsModel M [] qs T → T k ≡ w ∷ []) where
+module _ (M N : ℕ) (es : List Equation) (ps : List Indexical) (P : ℕ → Type 0) (h : ℕ) (look : Substitution) (link : ℕ → Option ℕ) (slot : ℕ → ℕ) (qs : List Indexical) (st : IsStored M N es ps P h look link slot qs)
+    (c k w : ℕ) (linked : link c ≡ Some k) (one : (T : Family) → IsModel M N [] qs T → T k ≡ w ∷ []) where
   pub number_other : (d : ℕ) → d ≢ c → number_for c (pos w) d ≡ Var d
   unfolding number_for
   number_other d e = let f : (d == c) ≡ false = ne_eqb d c e in rw f refl
@@ -111,27 +111,29 @@ module _ (M : ℕ) (es : List Equation) (ps : List Indexical) (P : ℕ → Type 
   }
 
   -- The heap's terms are then the seen terms: the machine binds a variable whose set has one value, and nothing is posted.
-  pub bound : (x : ℕ) × (has (constrained ps) x ≡ true) × IsStored M (is_number x w ∷ es) ps P h (after (number_for c (pos w)) look) (without_cell c link) slot qs × Sure M es ps (record { variable = x; number = w } ∷ [])
+  pub bound : (x : ℕ) × (has (constrained ps) x ≡ true) × IsStored M N (is_number x w ∷ es) ps P h (after (number_for c (pos w)) look) (without_cell c link) slot qs × Sure M N es ps (record { variable = x; number = w } ∷ [])
   bound =
       let v = st.from c k linked in
       let u = by_number v.0 v.2 in
       let below : EquationsOf P (is_number v.0 w ∷ []) = ((st.used v.0 v.1, tt), tt) in
-      let new = unified M es ps P h look link slot qs st (is_number v.0 w ∷ []) below (number_for c (pos w)) (without_cell c link) (Value k (pos w) ∷ []) u in
-      let some : (T : Family) → IsModel M [] qs T → (j : ℕ) → has (constrained (posts (Value k (pos w) ∷ []))) j ≡ true → (i : ℕ) × (has (T j) i ≡ true) = λ T m j e. (w, subst (λ i. has (T i) w ≡ true) (only_one j e) (subst (λ l. has l w ≡ true) (sym (one T m)) (or_left (w == w) false (eq-eqb w w refl)))) in
-      let here : (T : Family) → IsModel M [] qs T → Holds M T (posts (Value k (pos w) ∷ [])) = λ T m. as_posts M T m.closed.family (Value k (pos w) ∷ []) (ap set_term (one T m), tt) in (
+      let new = unified M N es ps P h look link slot qs st (is_number v.0 w ∷ []) below (number_for c (pos w)) (without_cell c link) (Value k (pos w) ∷ []) u in
+      let some : (T : Family) → IsModel M N [] qs T → (j : ℕ) → has (constrained (posts (Value k (pos w) ∷ []))) j ≡ true → (i : ℕ) × (has (T j) i ≡ true) = λ T m j e. (w, subst (λ i. has (T i) w ≡ true) (only_one j e) (subst (λ l. has l w ≡ true) (sym (one T m)) (or_left (w == w) false (eq-eqb w w refl)))) in
+      let low : (T : Family) → IsModel M N [] qs T → (j i : ℕ) → has (constrained (posts (Value k (pos w) ∷ []))) j ≡ true → has (T j) i ≡ true → i ≤ N =
+      λ T m j i e h. (st.down T m).closed.within v.0 i v.1 (subst (λ a. has (T a) i ≡ true) (sym (v.3 ∙ only_one j e)) h) in
+      let here : (T : Family) → IsModel M N [] qs T → Holds M T (posts (Value k (pos w) ∷ [])) = λ T m. as_posts M T m.closed.family (Value k (pos w) ∷ []) (ap set_term (one T m), tt) in (
         v.0,
         v.1,
-        same_store M (is_number v.0 w ∷ es) ps P h (after (number_for c (pos w)) look) (without_cell c link) slot (qs ++ posts (Value k (pos w) ∷ [])) new qs
+        same_store M N (is_number v.0 w ∷ es) ps P h (after (number_for c (pos w)) look) (without_cell c link) slot (qs ++ posts (Value k (pos w) ∷ [])) new qs
             (λ j e. elim (constrained_either qs (posts (Value k (pos w) ∷ [])) j e) [ inl a ↦ a | inr a ↦ subst (λ i. has (constrained qs) i ≡ true) (v.3 ∙ only_one j a) (st.slots v.0 v.1) ])
-            (λ T m. front M qs (posts (Value k (pos w) ∷ [])) T m)
-            (λ T m. extended M qs (posts (Value k (pos w) ∷ [])) T m (here T m) (some T m)),
+            (λ T m. front M N qs (posts (Value k (pos w) ∷ [])) T m)
+            (λ T m. extended M N qs (posts (Value k (pos w) ∷ [])) T m (here T m) (low T m) (some T m)),
         ((v.1, λ S m i e. sets S m v.0 v.1 v.3 i e), tt),
       )
     where
       only_one : (j : ℕ) → has (k ∷ []) j ≡ true → k ≡ j
       only_one j e = only_member k j e
 
-      sets : (S : Family) → IsModel M es ps S → (x : ℕ) → has (constrained ps) x ≡ true → slot x ≡ k → (i : ℕ) → has (S x) i ≡ true → i ≡ w
+      sets : (S : Family) → IsModel M N es ps S → (x : ℕ) → has (constrained ps) x ≡ true → slot x ≡ k → (i : ℕ) → has (S x) i ≡ true → i ≡ w
       sets S m x con same i e =
           let t = st.up S m in
           let is : S x ≡ w ∷ [] = sym (t.2 x con) ∙ ap t.0 same ∙ one t.0 t.1 in

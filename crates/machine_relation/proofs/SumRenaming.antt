@@ -32,7 +32,7 @@ module _ (f : ℕ → ℕ) where
   scaled_renamed k [] = refl
   scaled_renamed k (t ∷ ts) = ap (λ l. (f t.0, k *ℤ t.1) ∷ l) (scaled_renamed k ts)
 
-  nonzero_renamed : (ts : List (ℕ × ℤ)) → nonzero (rename_products f ts) ≡ rename_products f (nonzero ts)
+  pub nonzero_renamed : (ts : List (ℕ × ℤ)) → nonzero (rename_products f ts) ≡ rename_products f (nonzero ts)
   nonzero_renamed [] = refl
   nonzero_renamed (t ∷ ts) = by_test (int_eq t.1 (pos 0)) (nonzero_renamed ts) where
     by_test : (c : Bool) → nonzero (rename_products f ts) ≡ rename_products f (nonzero ts) → cond c (nonzero (rename_products f ts)) ((f t.0, t.1) ∷ nonzero (rename_products f ts)) ≡ rename_products f (cond c (nonzero ts) (t ∷ nonzero ts))
@@ -43,7 +43,7 @@ module _ (f : ℕ → ℕ) where
   as_many [] = refl
   as_many (t ∷ ts) = ap suc (as_many ts)
 
-  all_renamed : (p : ℤ → Bool) (ts : List (ℕ × ℤ)) → list_all (λ t. p t.1) (rename_products f ts) ≡ list_all (λ t. p t.1) ts
+  pub all_renamed : (p : ℤ → Bool) (ts : List (ℕ × ℤ)) → list_all (λ t. p t.1) (rename_products f ts) ≡ list_all (λ t. p t.1) ts
   all_renamed p [] = refl
   all_renamed p (t ∷ ts) = ap (λ b. p t.1 && b) (all_renamed p ts)
 

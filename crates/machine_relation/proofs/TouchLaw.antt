@@ -42,10 +42,10 @@ wrapped_touches T [] h = tt
 wrapped_touches T (Value k z ∷ ts) h = (wrapped_int (T k) z h.0, wrapped_touches T ts h.1)
 wrapped_touches T (Same k j ∷ ts) h = (ap wrapped (set_term_same (T k) (T j) h.0), wrapped_touches T ts h.1)
 
-module _ (M : ℕ) (qs : List Indexical) (ts : List Touch) (inside : (k : ℕ) → has (constrained (posts ts)) k ≡ true → has (constrained qs) k ≡ true) (T : Family) where
-  to_equations : IsModel M [] (qs ++ posts ts) T → IsModel M (touched ts) qs T
+module _ (M N : ℕ) (qs : List Indexical) (ts : List Touch) (inside : (k : ℕ) → has (constrained (posts ts)) k ≡ true → has (constrained qs) k ≡ true) (T : Family) where
+  to_equations : IsModel M N [] (qs ++ posts ts) T → IsModel M N (touched ts) qs T
   to_equations m =
-      let base = front M qs (posts ts) T m in
+      let base = front M N qs (posts ts) T m in
       let full : Full T (constrained (posts ts)) = λ k c. base.full k (inside k c) in
       let says = as_equations M T m.closed.family ts full (posted_right (λ p. IsSubset (T p.target) (set_of M T p.range)) qs (posts ts) m.closed.posted) in
       let s = has_general (touched ts) (λ k. set_term (T k)) says (solved (touched ts)) in
@@ -61,6 +61,7 @@ module _ (M : ℕ) (qs : List Indexical) (ts : List Touch) (inside : (k : ℕ) �
           same = λ v w x c d e f. set_term_same (T v) (T w) (sym (through v (Var x) e) ∙ through w (Var x) f);
           atoms = λ v a c e. absurd (wrapped_no_atom (T v) a (sym (around v (Atom a) e)));
           compounds = λ v f us c e. absurd (set_no_compound (T v) f (apply_all (λ k. set_term (T k)) us) (sym (through v (Comp f us) e)));
+          within = base.closed.within;
         };
         full = base.full;
       }
@@ -69,7 +70,7 @@ module _ (M : ℕ) (qs : List Indexical) (ts : List Touch) (inside : (k : ℕ) �
       value xs n z e h = let one = set_term_int xs z e in ap pos (sym (only_member one.0 n (subst (λ l. has l n ≡ true) one.1 h))) ∙ one.2
 
   -- each touch of a model's family
-  agrees : (m : IsModel M (touched ts) qs T) (us : List Touch) → ((k : ℕ) → has (constrained (posts us)) k ≡ true → has (constrained qs) k ≡ true) → Unifies m.unifier (touched us) → Unifies (λ k. set_term (T k)) (touched us)
+  agrees : (m : IsModel M N (touched ts) qs T) (us : List Touch) → ((k : ℕ) → has (constrained (posts us)) k ≡ true → has (constrained qs) k ≡ true) → Unifies m.unifier (touched us) → Unifies (λ k. set_term (T k)) (touched us)
   agrees m [] low h = tt
   agrees m (Value k z ∷ us) low h =
       let c = low k (or_left (k == k) (has (constrained (posts us)) k) (eq-eqb k k refl)) in
@@ -78,7 +79,7 @@ module _ (M : ℕ) (qs : List Indexical) (ts : List Touch) (inside : (k : ℕ) �
       let one : T k ≡ f.0 ∷ [] = single_from 0 M f.0 (T k) (m.closed.family.rising k) f.1 (λ i g. let a : pos i ≡ pos f.0 = m.closed.values k z i c h.0 g ∙ sym is in cc) in
       (ap set_term one ∙ ap Int is, agrees m us (λ i g. low i (or_right (k == i) (has (constrained (posts us)) i) g)) h.1)
   agrees m (Same k j ∷ us) low h = (
-    ap set_term (one_term M (touched ts) qs T m k j (m.unifier j) (low k (front_of k j)) (low j (second_of k j)) h.0 refl),
+    ap set_term (one_term M N (touched ts) qs T m k j (m.unifier j) (low k (front_of k j)) (low j (second_of k j)) h.0 refl),
     agrees m us (λ i g. low i (deep (k == i) (j == i) (has (constrained (posts us)) i) g)) h.1,
   )
     where
@@ -91,13 +92,13 @@ module _ (M : ℕ) (qs : List Indexical) (ts : List Touch) (inside : (k : ℕ) �
       second_of : (x y : ℕ) → ((x == y) || ((y == y) || ((y == y) || ((x == y) || has (constrained (posts us)) y)))) ≡ true
       second_of x y = or_right (x == y) _ (or_left (y == y) _ (eq-eqb y y refl))
 
-  to_posts : IsModel M (touched ts) qs T → IsModel M [] (qs ++ posts ts) T
+  to_posts : IsModel M N (touched ts) qs T → IsModel M N [] (qs ++ posts ts) T
   to_posts m = record {
     unifier = Var;
     general = identity;
-    closed = closed_without M (qs ++ posts ts) T m.closed.family (posted_both (λ p. IsSubset (T p.target) (set_of M T p.range)) qs (posts ts) m.closed.posted (as_posts M T m.closed.family ts (agrees m ts inside m.general.unifies)));
+    closed = closed_without M N (qs ++ posts ts) T m.closed.family (posted_both (λ p. IsSubset (T p.target) (set_of M T p.range)) qs (posts ts) m.closed.posted (as_posts M T m.closed.family ts (agrees m ts inside m.general.unifies))) (λ k i c h. elim (constrained_either qs (posts ts) k c) [ inl a ↦ m.closed.within k i a h | inr a ↦ m.closed.within k i (inside k a) h ]);
     full = λ k c. elim (constrained_either qs (posts ts) k c) [ inl a ↦ m.full k a | inr a ↦ m.full k (inside k a) ];
   }
 
 pub posts_are_equations : PostsAreEquations
-posts_are_equations M qs ts inside T = (to_equations M qs ts inside T, to_posts M qs ts inside T)
+posts_are_equations M N qs ts inside T = (to_equations M N qs ts inside T, to_posts M N qs ts inside T)

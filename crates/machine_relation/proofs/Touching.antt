@@ -1,5 +1,5 @@
 -- The law on touched values and pairs.
-use Rattle.std.proofs.Common.{◌≡◌, ℕ, Bool, true, false, cond, ◌==◌, ◌||◌, ℤ, pos, negsuc, ◌≤ℤ◌, List, [], ◌∷◌, ◌++◌, Option, Some, None, refl, ap, sym, ◌∙◌, subst, inl, inr, ◌⊎◌, arith, eq-eqb}
+use Rattle.std.proofs.Common.{◌≤◌, ◌≡◌, ℕ, Bool, true, false, cond, ◌==◌, ◌||◌, ℤ, pos, negsuc, ◌≤ℤ◌, List, [], ◌∷◌, ◌++◌, Option, Some, None, refl, ap, sym, ◌∙◌, subst, inl, inr, ◌⊎◌, arith, eq-eqb}
 use Rattle.std.proofs.lemmas.Bool.{or_left, or_right, true≢false}
 use Rattle.std.proofs.lemmas.Int.{ints}
 use Rattle.fd_language.specs.Term.{Term, Var, Int, Atom, Comp, Substitution, apply}
@@ -97,24 +97,31 @@ module _ (M : ℕ) (T : Family) (f : IsFamily M T) where
       )
 
 -- what the new terms say
-module _ (M : ℕ) (es : List Equation) (ps : List Indexical) (P : ℕ → Type 0) (h : ℕ) (look : Substitution) (link : ℕ → Option ℕ) (slot : ℕ → ℕ) (qs : List Indexical)
-    (st : IsStored M es ps P h look link slot qs) (ds : List Equation) (below : EquationsOf P ds) (new : Substitution) (link' : ℕ → Option ℕ) (ts : List Touch) (u : IsUnified h link (applied_each look ds) new link' ts) where
+module _ (M N : ℕ) (es : List Equation) (ps : List Indexical) (P : ℕ → Type 0) (h : ℕ) (look : Substitution) (link : ℕ → Option ℕ) (slot : ℕ → ℕ) (qs : List Indexical)
+    (st : IsStored M N es ps P h look link slot qs) (ds : List Equation) (below : EquationsOf P ds) (new : Substitution) (link' : ℕ → Option ℕ) (ts : List Touch) (u : IsUnified h link (applied_each look ds) new link' ts) where
   heap_more : StandsFor (ds ++ es) P h (after new look)
   heap_more = more es ds P h look new st.heap below u.general u.cells
 
   -- a linked cell's variable of the store has a value in each model
-  some_value : (T : Family) → IsModel M [] qs T → (c k : ℕ) → link c ≡ Some k → (m : ℕ) × (has (T k) m ≡ true)
+  some_value : (T : Family) → IsModel M N [] qs T → (c k : ℕ) → link c ≡ Some k → (m : ℕ) × (has (T k) m ≡ true)
   some_value T m c k e =
       let v = st.from c k e in
       let f = (st.down T m).full v.0 v.1 in
       (f.0, subst (λ j. has (T j) f.0 ≡ true) v.3 f.1)
 
-  touched_full : (T : Family) → IsModel M [] qs T → Full T (constrained (posts ts))
+  touched_full : (T : Family) → IsModel M N [] qs T → Full T (constrained (posts ts))
   touched_full T m k c = let l = u.named k c in some_value T m l.0 k l.1
 
-  module _ (T : Family) (m : IsModel M [] (qs ++ posts ts) T) where
-    before : IsModel M [] qs T
-    before = front M qs (posts ts) T m
+  -- and none beyond the greatest number of a variable
+  touched_low : (T : Family) → IsModel M N [] qs T → (k : ℕ) → has (constrained (posts ts)) k ≡ true → (i : ℕ) → has (T k) i ≡ true → i ≤ N
+  touched_low T m k c i h =
+      let l = u.named k c in
+      let v = st.from l.0 k l.1 in
+      (st.down T m).closed.within v.0 i v.1 (subst (λ j. has (T j) i ≡ true) (sym v.3) h)
+
+  module _ (T : Family) (m : IsModel M N [] (qs ++ posts ts) T) where
+    before : IsModel M N [] qs T
+    before = front M N qs (posts ts) T m
 
     says : Unifies (λ k. set_term (T k)) (touched ts)
     says = as_equations M T m.closed.family ts (touched_full T before) (posted_right (λ p. IsSubset (T p.target) (set_of M T p.range)) qs (posts ts) m.closed.posted)
@@ -145,7 +152,7 @@ module _ (M : ℕ) (es : List Equation) (ps : List Indexical) (P : ℕ → Type 
     shown_value (negsuc w) k e = absurd (true≢false (sym e))
 
     -- by the new terms the family is closed under the new equations
-    pub down_more : IsModel M (ds ++ es) ps (λ v. T (slot v))
+    pub down_more : IsModel M N (ds ++ es) ps (λ v. T (slot v))
     down_more =
         let old = st.down T before in
         let s = has_general (ds ++ es) (after new look) heap_more.unifies (solved (ds ++ es)) in
@@ -161,18 +168,19 @@ module _ (M : ℕ) (es : List Equation) (ps : List Indexical) (P : ℕ → Type 
             same = λ v w x c d e g. sym (set_of_term v (Var x) c e) ∙ set_of_term w (Var x) d g;
             atoms = λ v a c e. sym (set_of_term v (Atom a) c e);
             compounds = λ v g rs c e. sym (set_of_term v (Comp g rs) c e);
+            within = old.closed.within;
           };
           full = old.full;
         }
 
-  module _ (S : Family) (m : IsModel M (ds ++ es) ps S) where
-    first : IsModel M es ps S
-    first = ungrown M ds es [] ps S m
+  module _ (S : Family) (m : IsModel M N (ds ++ es) ps S) where
+    first : IsModel M N es ps S
+    first = ungrown M N ds es [] ps S m
 
     back : (r : Substitution) × ((x : ℕ) → P x → apply r (after new look x) ≡ m.unifier x)
     back = heap_more.through m.unifier m.general.unifies
 
-    module _ (T : Family) (t : IsModel M [] qs T) (equal : (v : ℕ) → has (constrained ps) v ≡ true → T (slot v) ≡ S v) where
+    module _ (T : Family) (t : IsModel M N [] qs T) (equal : (v : ℕ) → has (constrained ps) v ≡ true → T (slot v) ≡ S v) where
       int_follows : (c k : ℕ) (z : ℤ) → link c ≡ Some k → new c ≡ Int z → set_term (T k) ≡ Int z
       int_follows c k z e g =
           let v = st.from c k e in
@@ -188,7 +196,7 @@ module _ (M : ℕ) (es : List Equation) (ps : List Indexical) (P : ℕ → Type 
           let w = st.from d j g in
           let here : m.unifier v.0 ≡ apply back.0 (new d) = sym (back.1 v.0 (st.used v.0 v.1)) ∙ ap (λ r. apply back.0 (apply new r)) v.2 ∙ ap (apply back.0) same in
           let there : m.unifier w.0 ≡ apply back.0 (new d) = sym (back.1 w.0 (st.used w.0 w.1)) ∙ ap (λ r. apply back.0 (apply new r)) w.2 in
-          let sets : S v.0 ≡ S w.0 = one_term M (ds ++ es) ps S m v.0 w.0 (apply back.0 (new d)) v.1 w.1 here there in
+          let sets : S v.0 ≡ S w.0 = one_term M N (ds ++ es) ps S m v.0 w.0 (apply back.0 (new d)) v.1 w.1 here there in
           ap (λ i. set_term (T i)) (sym v.3) ∙ ap set_term (equal v.0 v.1 ∙ sets ∙ sym (equal w.0 w.1)) ∙ ap (λ i. set_term (T i)) w.3
 
       posts_hold : Holds M T (posts ts)
@@ -197,11 +205,14 @@ module _ (M : ℕ) (es : List Equation) (ps : List Indexical) (P : ℕ → Type 
       full_more : (k : ℕ) → has (constrained (qs ++ posts ts)) k ≡ true → (i : ℕ) × (has (T k) i ≡ true)
       full_more k c = elim (constrained_either qs (posts ts) k c) [ inl a ↦ t.full k a | inr a ↦ touched_full T t k a ]
 
-      pub up_more : IsModel M [] (qs ++ posts ts) T
+      low_more : (k i : ℕ) → has (constrained (qs ++ posts ts)) k ≡ true → has (T k) i ≡ true → i ≤ N
+      low_more k i c h = elim (constrained_either qs (posts ts) k c) [ inl a ↦ t.closed.within k i a h | inr a ↦ touched_low T t k a i h ]
+
+      pub up_more : IsModel M N [] (qs ++ posts ts) T
       up_more = record {
         unifier = Var;
         general = identity;
-        closed = closed_without M (qs ++ posts ts) T t.closed.family (posted_both (λ p. IsSubset (T p.target) (set_of M T p.range)) qs (posts ts) t.closed.posted posts_hold);
+        closed = closed_without M N (qs ++ posts ts) T t.closed.family (posted_both (λ p. IsSubset (T p.target) (set_of M T p.range)) qs (posts ts) t.closed.posted posts_hold) low_more;
         full = full_more;
       }
 
@@ -210,7 +221,7 @@ module _ (M : ℕ) (es : List Equation) (ps : List Indexical) (P : ℕ → Type 
   still_linked c k d e (inr a) = (a.1, let f : Var a.0 ≡ Var d = sym a.2 ∙ e in let g : a.0 ≡ d = cc in subst (λ i. link' i ≡ Some a.1) g a.3)
 
   -- One unification: the heap with the new terms and the store with the posts stand for the branch with the new equations.
-  pub unified : IsStored M (ds ++ es) ps P h (after new look) link' slot (qs ++ posts ts)
+  pub unified : IsStored M N (ds ++ es) ps P h (after new look) link' slot (qs ++ posts ts)
   unified = record {
     heap = heap_more;
     used = st.used;

@@ -41,26 +41,26 @@ kind_both look back (Comp g ts) (Int w) e f = absurd (cc)
 kind_both look back (Comp g ts) (Atom b) e f = absurd (cc)
 kind_both look back (Comp g ts) (Comp h us) e f = tt
 
-module _ (M : ℕ) (f : Frame) (es : List Equation) (ps : List Indexical) (P : ℕ → Type 0) (look : Substitution) (h : IsHeld M f es ps P look) (T : Family) (rest : IsAtRest M f T)
-    (s : Substitution) (D : Family) (v : IsView M es ps s D) (c : IsConsistent M es ps) where
+module _ (M N : ℕ) (f : Frame) (es : List Equation) (ps : List Indexical) (P : ℕ → Type 0) (look : Substitution) (h : IsHeld M N f es ps P look) (T : Family) (rest : IsAtRest M N f T)
+    (s : Substitution) (D : Family) (v : IsView M N es ps s D) (c : IsConsistent M N es ps) where
   full : (x : ℕ) → has (constrained ps) x ≡ true → (n : ℕ) × (has (D x) n ≡ true)
-  full x k = let g = c.some x k in (g.0, ((v.contains g.1.family (closed_either M es s g.1.unifier ps g.1.family v.general g.1.general g.1.closed)).at x).each g.0 g.1.member)
+  full x k = let g = c.some x k in (g.0, ((v.contains g.1.family (closed_either M N es s g.1.unifier ps g.1.family v.general g.1.general g.1.closed)).at x).each g.0 g.1.member)
 
-  model : IsModel M es ps D
+  model : IsModel M N es ps D
   model = record { unifier = s; general = v.general; closed = v.closed; full = full }
 
   -- a constrained variable's set is that of its variable of the store
   pub view_sets : (x : ℕ) → has (constrained ps) x ≡ true → D x ≡ T (h.slot x)
-  view_sets = same_sets M (numbers h.fixed ++ es) ps P f.cells look f.link h.slot f.store h.stored D T (with_numbers M es ps h.fixed D h.sure model)
-      (λ R m. let w = without_numbers M es ps h.fixed R m in v.contains R (closed_either M es s w.unifier ps R v.general w.general w.closed)) rest.model rest.most
+  view_sets = same_sets M N (numbers h.fixed ++ es) ps P f.cells look f.link h.slot f.store h.stored D T (with_numbers M N es ps h.fixed D h.sure model)
+      (λ R m. let w = without_numbers M N es ps h.fixed R m in v.contains R (closed_either M N es s w.unifier ps R v.general w.general w.closed)) rest.model rest.most
 
   -- what is seen comes from the heap's terms
   pub view_back : (back : Substitution) × ((x : ℕ) → P x → apply back (look x) ≡ seen s D (constrained ps) (Var x))
-  view_back = seen_from_look M es ps s D v full h.fixed h.sure P f.cells look h.stored.heap
+  view_back = seen_from_look M N es ps s D v full h.fixed h.sure P f.cells look h.stored.heap
 
   -- and they from what is seen
   pub view_look : (x : ℕ) → apply look (seen s D (constrained ps) (Var x)) ≡ look x
-  view_look = look_from_seen M es ps s D v full (numbers h.fixed) P f.cells look f.link h.slot f.store h.stored T rest.model view_sets rest.several
+  view_look = look_from_seen M N es ps s D v full (numbers h.fixed) P f.cells look f.link h.slot f.store h.stored T rest.model view_sets rest.several
 
   look_s : (x : ℕ) → apply look (s x) ≡ look x
   look_s x = v.general.general look x (split_both look (numbers h.fixed) es h.stored.heap.unifies).1
@@ -70,7 +70,7 @@ module _ (M : ℕ) (f : Frame) (es : List Equation) (ps : List Indexical) (P : �
 
   -- an open variable's set is that of its cell, and it has none exactly where its cell isn't linked
   pub view_set_there : (d y : ℕ) (xs : List ℕ) → look y ≡ Var d → set_at s D (constrained ps) y ≡ Some xs → (k : ℕ) × (f.link d ≡ Some k) × (T k ≡ xs)
-  view_set_there = set_there M es (numbers h.fixed) ps s D v P f.cells look f.link h.slot f.store h.stored T rest.model view_sets look_s view_back.0 view_back.1
+  view_set_there = set_there M N es (numbers h.fixed) ps s D v P f.cells look f.link h.slot f.store h.stored T rest.model view_sets look_s view_back.0 view_back.1
 
   pub view_set_back : (d y k : ℕ) → view_back.0 d ≡ Var y → f.link d ≡ Some k → set_at s D (constrained ps) y ≡ Some (T k)
-  view_set_back = set_back M es (numbers h.fixed) ps s D v P f.cells look f.link h.slot f.store h.stored T rest.model view_sets look_s view_back.0 view_back.1
+  view_set_back = set_back M N es (numbers h.fixed) ps s D v P f.cells look f.link h.slot f.store h.stored T rest.model view_sets look_s view_back.0 view_back.1

@@ -33,19 +33,19 @@ applied_renamed heap place (e ∷ ds) =
     cc
 
 -- a fit branch without a model is not consistent
-pub gone_by : (M : ℕ) (b : Branch) → ((S : Family) → IsModel M b.equations b.posted S → ⊥) → IsFit M b → IsConsistent M b.equations b.posted → ⊥
-gone_by M b none fit c = let m = model_from M b.equations b.posted fit.1 c in none m.0 m.1
+pub gone_by : (M N : ℕ) (b : Branch) → ((S : Family) → IsModel M N b.equations b.posted S → ⊥) → IsFit M b → IsConsistent M N b.equations b.posted → ⊥
+gone_by M N b none fit c = let m = model_from M N b.equations b.posted fit.1 c in none m.0 m.1
 
-module _ (M : ℕ) (q : Query) (work : List Goal) (f : Frame) (b : Branch) (s : IsAt M q work f b) where
-  pub at_consistent : HasModel M f.store → IsConsistent M b.equations b.posted
-  at_consistent m = held_consistent M f b.equations b.posted (λ v. v < b.fresh) (λ v. f.heap (s.place v)) s.held m
+module _ (M N : ℕ) (q : Query) (work : List Goal) (f : Frame) (b : Branch) (s : IsAt M N q work f b) where
+  pub at_consistent : HasModel M N f.store → IsConsistent M N b.equations b.posted
+  at_consistent m = held_consistent M N f b.equations b.posted (λ v. v < b.fresh) (λ v. f.heap (s.place v)) s.held m
 
   -- new equations, and the goals gs
   module _ (gs : List Goal) (scoped : EachBelow b.fresh gs) (ds : List Equation) (below : EquationsOf (λ v. v < b.fresh) ds) where
     abbrev on_heap : List Equation
     on_heap = applied_each f.heap (renamed_each s.place ds)
 
-    pub at_unify : (new : Substitution) (link' : ℕ → Option ℕ) (ts : List Touch) → IsUnified f.cells f.link on_heap new link' ts → ((c : ℕ) → f.cells ≤ c → new c ≡ Var c) → IsAt M q (map (rename_goal s.place) gs) (unified_frame f new link' ts) (with_equations b gs ds b.fresh)
+    pub at_unify : (new : Substitution) (link' : ℕ → Option ℕ) (ts : List Touch) → IsUnified f.cells f.link on_heap new link' ts → ((c : ℕ) → f.cells ≤ c → new c ≡ Var c) → IsAt M N q (map (rename_goal s.place) gs) (unified_frame f new link' ts) (with_equations b gs ds b.fresh)
     at_unify new link' ts u outside = record {
       place = s.place;
       goals = refl;
@@ -54,7 +54,7 @@ module _ (M : ℕ) (q : Query) (work : List Goal) (f : Frame) (b : Branch) (s : 
       apart = s.apart;
       begun = s.begun;
       first = s.first;
-      held = held_unify M f b.equations b.posted (λ v. v < b.fresh) (λ v. f.heap (s.place v)) s.held ds below new link' ts (subst (λ es. IsUnified f.cells f.link es new link' ts) (sym (applied_renamed f.heap s.place ds)) u) outside;
+      held = held_unify M N f b.equations b.posted (λ v. v < b.fresh) (λ v. f.heap (s.place v)) s.held ds below new link' ts (subst (λ es. IsUnified f.cells f.link es new link' ts) (sym (applied_renamed f.heap s.place ds)) u) outside;
     }
 
 -- the goal in front
@@ -70,7 +70,7 @@ map_cons : (f : Goal → Goal) (gs : List Goal) (g : Goal) (work : List Goal) �
 map_cons f [] g work e = absurd (cc)
 map_cons f (h ∷ rest) g work e = (h, rest, refl, (cc), (cc))
 
-pub front_goal : (M : ℕ) (q : Query) (g : Goal) (work : List Goal) (f : Frame) (b : Branch) (s : IsAt M q (g ∷ work) f b) → IsFront g work s.place b
-front_goal M q g work f b s =
+pub front_goal : (M N : ℕ) (q : Query) (g : Goal) (work : List Goal) (f : Frame) (b : Branch) (s : IsAt M N q (g ∷ work) f b) → IsFront g work s.place b
+front_goal M N q g work f b s =
     let h = map_cons (rename_goal s.place) b.goals g work s.goals in
     record { head = h.0; rest = h.1; goals = h.2; is = h.3; others = h.4; below = subst (EachBelow b.fresh) h.2 s.scoped }

@@ -18,12 +18,12 @@ pub record Frame : Type 0 where
   pub store : List Indexical
 
 -- The frame stands for the equations es and the ranges ps. look takes each known variable, that is each of P, to its term over cells, slot gives each constrained one its variable of the store, and fixed are those that were bound because their set has one value.
-pub record IsHeld (M : ℕ) (f : Frame) (es : List Equation) (ps : List Indexical) (P : ℕ → Type 0) (look : Substitution) : Type 0 where
+pub record IsHeld (M N : ℕ) (f : Frame) (es : List Equation) (ps : List Indexical) (P : ℕ → Type 0) (look : Substitution) : Type 0 where
   pub slot : ℕ → ℕ
   pub fixed : List Fix
   pub unused : (c : ℕ) → f.cells ≤ c → f.heap c ≡ Var c
-  pub stored : IsStored M (numbers fixed ++ es) ps P f.cells look f.link slot f.store
-  pub sure : Sure M es ps fixed
+  pub stored : IsStored M N (numbers fixed ++ es) ps P f.cells look f.link slot f.store
+  pub sure : Sure M N es ps fixed
 
 -- the frame after a unification, with its touches posted
 abbrev pub unified_frame : Frame → Substitution → (ℕ → Option ℕ) → List Touch → Frame
@@ -43,7 +43,7 @@ abbrev pub fixed_frame : Frame → Family → Frame
 fixed_frame f G = record { heap = after (λ c. value_at (f.link c) G c) f.heap; cells = f.cells; link = λ c. link_at (f.link c) G; store = f.store }
 
 -- The store is at rest: T has its sets, and no open cell's set has one value.
-pub record IsAtRest (M : ℕ) (f : Frame) (T : Family) : Type 0 where
-  pub model : IsModel M [] f.store T
-  pub most : (R : Family) → IsModel M [] f.store R → IsInside R T
+pub record IsAtRest (M N : ℕ) (f : Frame) (T : Family) : Type 0 where
+  pub model : IsModel M N [] f.store T
+  pub most : (R : Family) → IsModel M N [] f.store R → IsInside R T
   pub several : (c k n : ℕ) → f.link c ≡ Some k → T k ≡ n ∷ [] → ⊥

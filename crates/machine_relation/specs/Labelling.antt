@@ -41,5 +41,5 @@ by_labelled b g rest done = Gives (with_goals b rest ∷ [])
 by_labelled b g rest (labels x ns) = Gives (map (by_value b (g ∷ rest) x) ns)
 
 -- a labelling of the term t over cells, by a heap and a store with the sets T
-abbrev pub frame_label : ℕ → Frame → Family → Order → Term → Labelled
-frame_label M f T o t = labelled o (λ d. values_by M (cell_set T (f.link d))) (apply f.heap t)
+abbrev pub frame_label : ℕ → ℕ → Frame → Family → Order → Term → Labelled
+frame_label M N f T o t = labelled o (λ d. values_by N (cell_set T (f.link d))) (apply f.heap t)

@@ -8,8 +8,8 @@ use Rattle.fd_model.specs.Closed.{constrained}
 use Rattle.fd_model.specs.Models.{IsModel}
 
 -- the list has some model
-abbrev pub HasModel : ℕ → List Indexical → Type 0
-HasModel M ps = (T : Family) × IsModel M [] ps T
+abbrev pub HasModel : ℕ → ℕ → List Indexical → Type 0
+HasModel M N ps = (T : Family) × IsModel M N [] ps T
 
 -- a variable with its integer
 pub record Fix : Type 0 where
@@ -21,6 +21,6 @@ numbers [] = []
 numbers (f ∷ fs) = is_number f.variable f.number ∷ numbers fs
 
 -- each of them is constrained, and each model gives it no other integer
-abbrev pub Sure : ℕ → List Equation → List Indexical → List Fix → Type 0
-Sure M es ps [] = Unit {0}
-Sure M es ps (f ∷ fs) = (IsTrue (has (constrained ps) f.variable) × ((S : Family) → IsModel M es ps S → (k : ℕ) → IsTrue (has (S f.variable) k) → k ≡ f.number)) × Sure M es ps fs
+abbrev pub Sure : ℕ → ℕ → List Equation → List Indexical → List Fix → Type 0
+Sure M N es ps [] = Unit {0}
+Sure M N es ps (f ∷ fs) = (IsTrue (has (constrained ps) f.variable) × ((S : Family) → IsModel M N es ps S → (k : ℕ) → IsTrue (has (S f.variable) k) → k ≡ f.number)) × Sure M N es ps fs

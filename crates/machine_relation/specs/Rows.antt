@@ -29,9 +29,9 @@ abbrev pub rename_row : (ℕ → ℕ) → Result Expansion QueryFault → Result
 rename_row f (Err e) = Err e
 rename_row f (Ok x) = Ok (rename_expansion f x)
 
--- the row of a constraint on the term t over cells, by a heap: the fresh variables are the next cells
-abbrev pub frame_row : Frame → ConstraintKind → Term → Result Expansion QueryFault
-frame_row f c t = constrain f.heap c t f.cells
+-- the row of a constraint on the term t over cells, by a heap, in the universe up to M: the fresh variables are the next cells
+abbrev pub frame_row : ℕ → Frame → ConstraintKind → Term → Result Expansion QueryFault
+frame_row M f c t = constrain M f.heap c t f.cells
 
 -- the fresh variables of a posted range, from n on, with their integers
 abbrev pub slot_numbers : Substitution → ℕ → List ℕ → List (ℕ × ℤ)

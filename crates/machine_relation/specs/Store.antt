@@ -50,12 +50,12 @@ shown_set link T (Atom a) = []
 shown_set link T (Comp f ts) = []
 
 -- A heap of h cells and a store with the ranges qs stand for the equations es and the ranges ps of a branch whose known variables are those of P. slot gives each constrained variable a variable of the store.
-pub record IsStored (M : ℕ) (es : List Equation) (ps : List Indexical) (P : ℕ → Type 0) (h : ℕ) (look : Substitution) (link : ℕ → Option ℕ) (slot : ℕ → ℕ) (qs : List Indexical) : Type 0 where
+pub record IsStored (M N : ℕ) (es : List Equation) (ps : List Indexical) (P : ℕ → Type 0) (h : ℕ) (look : Substitution) (link : ℕ → Option ℕ) (slot : ℕ → ℕ) (qs : List Indexical) : Type 0 where
   pub heap : StandsFor es P h look
   pub used : (v : ℕ) → IsTrue (has (constrained ps) v) → P v
-  pub down : (T : Family) → IsModel M [] qs T → IsModel M es ps (λ v. T (slot v))
-  pub up : (S : Family) → IsModel M es ps S → (T : Family) × IsModel M [] qs T × ((v : ℕ) → IsTrue (has (constrained ps) v) → T (slot v) ≡ S v)
-  pub agrees : (T : Family) → IsModel M [] qs T → (v : ℕ) → IsTrue (has (constrained ps) v) → shown_set link T (look v) ≡ T (slot v)
+  pub down : (T : Family) → IsModel M N [] qs T → IsModel M N es ps (λ v. T (slot v))
+  pub up : (S : Family) → IsModel M N es ps S → (T : Family) × IsModel M N [] qs T × ((v : ℕ) → IsTrue (has (constrained ps) v) → T (slot v) ≡ S v)
+  pub agrees : (T : Family) → IsModel M N [] qs T → (v : ℕ) → IsTrue (has (constrained ps) v) → shown_set link T (look v) ≡ T (slot v)
   pub slots : (v : ℕ) → IsTrue (has (constrained ps) v) → IsTrue (has (constrained qs) (slot v))
   pub linked : (v c : ℕ) → IsTrue (has (constrained ps) v) → look v ≡ Var c → (k : ℕ) × (link c ≡ Some k)
   pub from : (c k : ℕ) → link c ≡ Some k → (v : ℕ) × IsTrue (has (constrained ps) v) × (look v ≡ Var c) × (slot v ≡ k)

@@ -1,0 +1,5 @@
+use Rattle.sought_leaves.proofs.Searching.{searches_agree}
+use Rattle.sought_leaves.proofs.laws.searches_agree.Goals as goal
+
+pub returns : goal.returns
+returns c = searches_agree
