@@ -12,7 +12,8 @@ use Rattle.fd_model.specs.ListRows.{counts, units, atmost_rows}
 use Rattle.fd_model.specs.Constraining.{pair, atmost}
 use Rattle.constraint_expand.specs.declared.members.Placed.{Placed}
 use Rattle.constraint_expand.specs.Lists.{AllPlaced}
-use Rattle.constraint_expand.specs.Nodes.{AreIntegers, CanTurn}
+use Rattle.constraint_expand.specs.Nodes.{CanTurn}
+use Rattle.linear_forms.specs.Inside.{AreIntegers}
 use Rattle.constraint_expand.proofs.Different.{made}
 
 -- a counter more in the sum

@@ -9,3 +9,5 @@ mod Widths
 mod Counting
 mod Pieces
 mod Arguments
+mod Splitting
+mod Loading

@@ -1,5 +1,6 @@
 -- Ranges that are given in pieces.
-use Rattle.std.proofs.Common.{◌≡◌, ℕ, zero, suc, ◌+◌, ◌-◌, ◌<◌, ◌≤◌, List, [], ◌∷◌, ◌++◌, length, take, drop, get_or, refl, sym, ap, subst, ◌∙◌, arith, append-nil, length-append}
+use Rattle.std.proofs.Common.{◌≡◌, ℕ, zero, suc, ◌+◌, ◌-◌, ◌<◌, ◌≤◌, List, [], ◌∷◌, ◌++◌, length, take, drop, get_or, refl, sym, ap, subst, ◌∙◌, arith, length-append}
+use Rattle.std.specs.Prelude.{Option, Some, None, MatchOption, Result, Ok, Err, IfOk}
 use Rattle.std.proofs.lemmas.List.{take_rest, drop_more, get_or_default}
 use Rattle.fd_language.specs.Range.{Range, Indexical}
 use Rattle.fd_model.specs.ListRows.{against, pairwise}
@@ -43,15 +44,43 @@ some_left : (rest : List (ℕ × Range)) → 0 < length rest → 0 < length (ind
 some_left [] l = l
 some_left (p ∷ ps) l = omega arith
 
-pub last_piece : (a a' b b' d d' : List Indexical) (rest now list : List (ℕ × Range)) (all : List Indexical) → IsOver a a' → IsOver b b' → IsOver d d' → a ++ (b ++ (d ++ indexicals rest)) ≡ all → list ≡ rest → now ≡ [] → 0 < length rest → IsPiece all (a' ++ (b' ++ (d' ++ indexicals now))) list
-last_piece a a' b b' d d' rest now list all u v w e f g l =
-    let before : a ++ (b ++ (d ++ indexicals rest)) ≡ indexicals rest = λ i. u.0 i ++ (v.0 i ++ (w.0 i ++ indexicals rest)) in
-    let after : a' ++ (b' ++ (d' ++ indexicals now)) ≡ [] = λ i. u.1 i ++ (v.1 i ++ (w.1 i ++ indexicals (g i))) in
-    let is : all ≡ indexicals rest = sym e ∙ before in
+pub last_piece : (a a' b b' d d' e : List Indexical) (rest now list : List (ℕ × Range)) (all : List Indexical) → IsOver a a' → IsOver b b' → IsOver d d' → a ++ (b ++ (d ++ (indexicals rest ++ e))) ≡ all → list ≡ rest → now ≡ [] → 0 < length rest → IsPiece all (a' ++ (b' ++ (d' ++ (indexicals now ++ e)))) list
+last_piece a a' b b' d d' e rest now list all u v w h f g l =
+    let before : a ++ (b ++ (d ++ (indexicals rest ++ e))) ≡ indexicals rest ++ e = λ i. u.0 i ++ (v.0 i ++ (w.0 i ++ (indexicals rest ++ e))) in
+    let after : a' ++ (b' ++ (d' ++ (indexicals now ++ e))) ≡ e = λ i. u.1 i ++ (v.1 i ++ (w.1 i ++ (indexicals (g i) ++ e))) in
+    let is : all ≡ indexicals rest ++ e = sym h ∙ before in
     record {
-      ranges = is ∙ ap indexicals (sym f) ∙ sym (append-nil (indexicals list)) ∙ ap (λ ps. indexicals list ++ ps) (sym after);
-      some = let m = some_left rest l in let n : length all ≡ length (indexicals rest) = ap length is in let k : length (a' ++ (b' ++ (d' ++ indexicals now))) ≡ 0 = ap length after in omega (arith, m, n, k);
+      ranges = is ∙ (λ i. indexicals (sym f i) ++ sym after i);
+      some = let m = some_left rest l in let n : length all ≡ length (indexicals rest) + length e = ap length is ∙ length-append (indexicals rest) e in let k : length (a' ++ (b' ++ (d' ++ (indexicals now ++ e)))) ≡ length e = ap length after in omega (arith, m, n, k);
     }
+
+-- ---- the rows of sums behind them
+
+pub none_left : (rest : List (ℕ × Range)) → length rest ≡ 0 → rest ≡ []
+none_left [] e = refl
+none_left (p ∷ ps) e = absurd (omega arith)
+
+module _ (a a' b b' d d' e e' : List Indexical) (rest : List (ℕ × Range)) (all : List Indexical) (u : IsOver a a') (v : IsOver b b') (w : IsOver d d') (g : rest ≡ []) (h : a ++ (b ++ (d ++ (indexicals rest ++ e))) ≡ all) where
+  only : all ≡ e
+  only = sym h ∙ (λ i. u.0 i ++ (v.0 i ++ (w.0 i ++ (indexicals (g i) ++ e))))
+
+  left : a' ++ (b' ++ (d' ++ (indexicals rest ++ e'))) ≡ e'
+  left = λ i. u.1 i ++ (v.1 i ++ (w.1 i ++ (indexicals (g i) ++ e')))
+
+  sums_piece : (list : List (ℕ × Range)) → IsPiece e e' list → IsPiece all (a' ++ (b' ++ (d' ++ (indexicals rest ++ e')))) list
+  sums_piece list p = record {
+    ranges = only ∙ (p.ranges ∙ ap (λ qs. indexicals list ++ qs) (sym left));
+    some = let m : length all ≡ length e = ap length only in let n : length (a' ++ (b' ++ (d' ++ (indexicals rest ++ e')))) ≡ length e' = ap length left in omega (arith, m, n, p.some);
+  }
+
+  sums_over : IsOver e e' → IsOver all (a' ++ (b' ++ (d' ++ (indexicals rest ++ e'))))
+  sums_over p = (only ∙ p.0, left ∙ p.1)
+
+  pub sums_given : {V E : Type 0} (items : V → List (ℕ × Range)) (r : Result (Option V) E) → IfOk r (λ o. MatchOption o (IsOver e e') (λ v. IsPiece e e' (items v)))
+      → IfOk r (λ o. MatchOption o (IsOver all (a' ++ (b' ++ (d' ++ (indexicals rest ++ e'))))) (λ v. IsPiece all (a' ++ (b' ++ (d' ++ (indexicals rest ++ e')))) (items v)))
+  sums_given items (Ok None) h = sums_over h
+  sums_given items (Ok (Some v)) h = sums_piece (items v) h
+  sums_given items (Err f) h = h
 
 pub against_posts : (xs slice : List ℕ) (i j v : ℕ) (start list : List (ℕ × Range)) → slice ≡ xs → i < length xs → v ≡ get_or xs i v → start ≡ [] → Posts (against v (take (length slice - j) (drop j slice))) start list → Posts (against (get_or xs i 0) (drop j xs)) [] list
 against_posts xs slice i j v start list s l e n p =

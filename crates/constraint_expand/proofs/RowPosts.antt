@@ -1,9 +1,8 @@
 -- The rows of a form, one by one.
-use Rattle.std.proofs.Common.{◌≡◌, ℕ, zero, suc, ◌+◌, ◌*◌, ◌<◌, Bool, true, false, ℤ, pos, negsuc, neg_ℤ, ◌*ℤ◌, ◌<ℤ◌, ◌≤ℤ◌, List, [], ◌∷◌, ◌++◌, length, take, drop, get_or, refl, sym, ap, subst, ◌∙◌, arith, append_assoc}
-use Rattle.std.specs.Prelude.{◌&&◌, FitsSigned}
+use Rattle.std.proofs.Common.{◌≡◌, ℕ, ◌+◌, ◌*◌, ◌<◌, Bool, true, false, ℤ, pos, negsuc, neg_ℤ, ◌<ℤ◌, ◌≤ℤ◌, List, [], ◌∷◌, ◌++◌, length, take, drop, get_or, refl, sym, ap, subst, ◌∙◌, arith}
+use Rattle.std.specs.Prelude.{FitsSigned}
 use Rattle.std.proofs.Common.{to_z, of_z}
 use Rattle.std.specs.Int.{w64, int_wrapping_neg}
-use Rattle.std.specs.List.{list_all}
 use Rattle.std.proofs.lemmas.Int.{ints, to_z-of_z, wrapping_neg_is, int_wrap_fits}
 use lib.Signed.{lt_z}
 use Rattle.fd_language.specs.Range.{Range}
@@ -11,40 +10,19 @@ use Rattle.fd_language.specs.Flat.{nodes_of, spelled_range, spelled_range-nodes}
 use Rattle.fd_language.specs.declared.range_node.RangeNode.{RangeNode}
 use Rattle.fd_model.specs.Linear.{in_integers, scaled}
 use Rattle.fd_model.specs.LinearRows.{row_by_sign, rows_behind}
-use Rattle.linear_forms.proofs.Lemmas.{neg_one, integer_fits, neg_inside}
+use Rattle.linear_forms.proofs.Lemmas.{integer_fits, neg_inside}
 use Rattle.constraint_expand.specs.declared.rows.Comparison.{Comparison}
 use Rattle.constraint_expand.specs.declared.rows.Form.{Form}
 use Rattle.std.proofs.lemmas.List.{take-append-drop, length-take-le, drop_more}
-use Rattle.constraint_expand.specs.Nodes.{AreIntegers, CanTurn, comparison_of, lower_reading, upper_reading, product_nodes, row_list, HasProduct, IsForm, AreSides, product_at, row_at, form_rows}
+use Rattle.constraint_expand.specs.Nodes.{CanTurn, comparison_of, lower_reading, upper_reading, product_nodes, row_list, HasProduct, IsForm, AreSides, product_at, row_at, form_rows}
 use Rattle.constraint_expand.proofs.RowNodes.{straight_row, turned_row, products_length, scaled_length}
 
--- each coefficient is an integer of the language, and so is its negation
-pub integer_at : (ts : List (ℕ × ℤ)) (i : ℕ) (d : ℕ × ℤ) → AreIntegers ts → i < length ts → in_integers (get_or ts i d).1 ≡ true
-integer_at [] i d h l = absurd (omega arith)
-integer_at (t ∷ ts) zero d h l = by (in_integers t.1) refl h where
-  by : (b : Bool) → in_integers t.1 ≡ b → (b && list_all (λ (t : ℕ × ℤ). in_integers t.1) ts) ≡ true → in_integers t.1 ≡ true
-  by true e g = e
-  by false e g = absurd (cc)
-integer_at (t ∷ ts) (suc i) d h l = integer_at ts i d (by (in_integers t.1) h) (omega arith) where
-  by : (b : Bool) → (b && list_all (λ (t : ℕ × ℤ). in_integers t.1) ts) ≡ true → AreIntegers ts
-  by true g = g
-  by false g = absurd (cc)
-
+-- the negation of an integer of the language
 pub negation_fits : (z : ℤ) → in_integers z ≡ true → FitsSigned w64 (neg_ℤ z)
 negation_fits z h = integer_fits (neg_ℤ z) (neg_inside z h)
 
 pub wrapped_negation : (z : ℤ) → FitsSigned w64 z → in_integers z ≡ true → int_wrapping_neg w64 z ≡ neg_ℤ z
 wrapped_negation z f h = wrapping_neg_is w64 z f ∙ int_wrap_fits w64 (neg_ℤ z) (negation_fits z h)
-
--- a negated coefficient more
-pub negated_turns : (ts now new : List (ℕ × ℤ)) (i : ℕ) (z : ℤ) → i < length ts → now ++ scaled (negsuc 0) (drop i ts) ≡ scaled (negsuc 0) ts → z ≡ neg_ℤ (get_or ts i (0, pos 0)).1 → new ≡ now ++ ((get_or ts i (0, pos 0)).0, z) ∷ []
-    → new ++ scaled (negsuc 0) (drop (i + 1) ts) ≡ scaled (negsuc 0) ts
-negated_turns ts now new i z h f e p =
-    let t : ℕ × ℤ = get_or ts i (0, pos 0) in
-    let rest : List (ℕ × ℤ) = scaled (negsuc 0) (drop (i + 1) ts) in
-    let same : z ≡ negsuc 0 *ℤ t.1 = e ∙ sym (neg_one t.1) in
-    ap (λ (us : List (ℕ × ℤ)). us ++ rest) p ∙ append_assoc now ((t.0, z) ∷ []) rest ∙ (λ j. now ++ (t.0, same j) ∷ rest)
-    ∙ ap (λ (us : List (ℕ × ℤ)). now ++ scaled (negsuc 0) us) (sym (drop_more ts i (0, pos 0) h)) ∙ f
 
 -- nodes that spell a range
 pub spelled_back : (ns : List RangeNode) (r : Range) → ns ≡ nodes_of r → (nodes_of (spelled_range ns) ≡ ns) × (spelled_range ns ≡ r)

@@ -1,18 +1,14 @@
 -- How a fault is seen.
 use Rattle.std.specs.Prelude.{◌≡◌, Option, Some, None, MatchOption, MatchResult, Result, Ok, Err}
 use Rattle.fd_model.specs.declared.kinds.QueryFault.{QueryFault}
-use Rattle.fd_model.specs.declared.kinds.QueryFault.TheVariants.{Instantiation, BadType}
 use Rattle.linear_forms.specs.declared.LinearFault.{LinearFault}
 use Rattle.linear_forms.specs.declared.LinearFault.TheVariants as linear
 use Rattle.linear_forms.specs.Form as form
-use Rattle.constraint_expand.specs.declared.faults.ListCause.{ListCause}
-use Rattle.constraint_expand.specs.declared.faults.ListCause.TheVariants as cause
+pub use Rattle.product_bool.specs.Faults.{cause_of}
+use Rattle.product_bool.specs.declared.faults.SplitFault.{SplitFault}
+use Rattle.product_bool.specs.declared.faults.SplitFault.TheVariants as split
 use Rattle.constraint_expand.specs.declared.faults.ExpandFault.{ExpandFault}
 use Rattle.constraint_expand.specs.declared.faults.ExpandFault.TheVariants as fault
-
-abbrev pub cause_of : ListCause → QueryFault
-cause_of cause.Unbound = Instantiation
-cause_of cause.Wrong = BadType
 
 -- the fault of the definition. Want of memory is none.
 abbrev pub fault_of : ExpandFault → Option QueryFault
@@ -34,3 +30,9 @@ outer linear.Nonlinear = fault.Linear linear.Nonlinear
 outer linear.NotANumber = fault.Linear linear.NotANumber
 outer linear.Overflow = fault.Linear linear.Overflow
 outer linear.NoMemory = fault.NoMemory
+
+-- the fault of a product or a Boolean constraint
+abbrev pub from_split : SplitFault → ExpandFault
+from_split (split.Linear f) = outer f
+from_split (split.BadArgument c) = fault.BadList c
+from_split split.NoMemory = fault.NoMemory

@@ -5,3 +5,4 @@ pub mod Views
 pub mod Nodes
 pub mod Unions
 pub mod Pieces
+pub mod Sums

@@ -11,7 +11,7 @@ use Rattle.fd_model.specs.Linear.{of_one}
 use Rattle.term_pool.specs.declared.TermId.{TermId}
 use Rattle.term_pool.specs.Contents.{Contents}
 use Rattle.term_pool.specs.Terms.{term_of, size}
-use Rattle.constraint_expand.specs.declared.faults.ListCause.{ListCause}
+use Rattle.fd_model.specs.declared.kinds.ListCause.{ListCause}
 use Rattle.constraint_expand.specs.declared.members.Member.{Member}
 use Rattle.constraint_expand.specs.declared.members.Member.TheVariants as member
 use Rattle.constraint_expand.specs.declared.members.Placed.{Placed}

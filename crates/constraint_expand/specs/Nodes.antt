@@ -1,8 +1,5 @@
 -- The nodes of rows.
-use Rattle.std.specs.Prelude.{◌≡◌, ℕ, ◌+◌, ◌*◌, ◌<◌, ◌≤◌, Bool, true, false, ℤ, pos, negsuc, neg_ℤ, ◌<ℤ◌, if◌then◌else◌, List, [], ◌∷◌, ◌++◌, length, take, drop, slice_index_or, Result, Ok, Err}
-use Rattle.fd_model.specs.declared.kinds.QueryFault.{QueryFault}
-use Rattle.fd_model.specs.declared.kinds.QueryFault.TheVariants.{Evaluation}
-use Rattle.std.specs.List.{list_all}
+use Rattle.std.specs.Prelude.{◌≡◌, ℕ, ◌+◌, ◌*◌, ◌<◌, ◌≤◌, Bool, true, false, ℤ, pos, negsuc, neg_ℤ, ◌<ℤ◌, if◌then◌else◌, List, [], ◌∷◌, ◌++◌, length, take, drop, slice_index_or}
 use Rattle.fd_language.specs.declared.range_node.RangeNode.{RangeNode}
 use Rattle.fd_language.specs.declared.range_node.RangeNode.TheVariants as node
 use Rattle.fd_language.specs.Range.{Indexical}
@@ -15,21 +12,9 @@ use Rattle.constraint_expand.specs.declared.rows.BoundReading.{BoundReading}
 use Rattle.constraint_expand.specs.declared.rows.BoundReading.TheVariants as reading
 use Rattle.constraint_expand.specs.declared.rows.Form.{Form}
 
--- the coefficients are integers of the language
-abbrev pub AreIntegers : List (ℕ × ℤ) → Type 0
-AreIntegers ts = list_all (λ t. in_integers t.1) ts ≡ true
-
 -- Where a coefficient is below 0, the constant is an integer of the language, so that it can be negated.
 abbrev pub CanTurn : List (ℕ × ℤ) → ℤ → Type 0
 CanTurn ts c = (i : ℕ) → (slice_index_or ts i (0, pos 0)).1 <ℤ pos 0 → in_integers c ≡ true
-
--- the coefficients and the constant are integers of the language
-abbrev pub IsInside : linear.Linear → Type 0
-IsInside l = AreIntegers l.products × (in_integers l.constant ≡ true)
-
--- the form, where its constant is an integer of the language
-abbrev pub checked_form : linear.Linear → Result linear.Linear QueryFault
-checked_form l = if in_integers l.constant then Ok l else Err Evaluation
 
 abbrev pub comparison_of : Comparison → linear.Comparison
 comparison_of comparison.Equal = linear.IsEqual

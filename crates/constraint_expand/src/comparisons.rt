@@ -2,19 +2,16 @@
 
 ghost use Rattle.std.specs.Prelude.{◌≡◌, ◌^◌, ◌<◌, length, IfOk};
 ghost use Rattle.fd_model.specs.Constraining.{compare as compared};
-ghost use Rattle.fd_model.specs.Linear.{comparison, turned, below, normal_form as normal_of};
-ghost use Rattle.linear_forms.specs.Form.{form_of};
+ghost use Rattle.fd_model.specs.Linear.{comparison};
 ghost use Rattle.term_pool.specs.Terms.{term_of};
-ghost use Rattle.constraint_expand.specs.Faults.{Answers};
-ghost use Rattle.constraint_expand.specs.Nodes.{IsInside, checked_form, comparison_of};
+ghost use Rattle.constraint_expand.specs.Nodes.{comparison_of};
 ghost use Rattle.constraint_expand.specs.Views.{Expands};
 
 use crate::expansion::Expansion;
 use crate::faults::ExpandFault;
-use crate::rows::{Comparison, linear_rows, negated};
-use fd_language::NoMemory;
+use crate::rows::{Comparison, linear_rows};
 use fd_model::kinds::Relation;
-use linear_forms::{Linear, LinearFault, collect};
+use linear_forms::{collect, normal_form};
 use std::alloc::Global;
 use term_pool::{Pool, TermId};
 
@@ -28,53 +25,6 @@ fn comparison_for(relation: Relation) -> Comparison
         Relation::AtMost => Comparison::AtMost,
         Relation::Greater => Comparison::AtMost,
         Relation::AtLeast => Comparison::AtMost,
-    }
-}
-
-/// The form with all coefficients and the constant negated.
-fn turn(alloc: Global, linear: &Linear) -> Result<Linear, NoMemory>
-    requires { IsInside (form_of linear.now) }
-    ensures { IfOk result (λ l. form_of l ≡ turned (form_of linear.now)) }
-{
-    Ok(Linear {
-        terms: negated(alloc, &linear.terms)?,
-        constant: -linear.constant,
-    })
-}
-
-/// The form with its constant one less, where that is an integer of the language.
-fn lessen(linear: Linear) -> Result<Linear, ExpandFault>
-    requires { IsInside (form_of linear) }
-    ensures { Answers form_of (checked_form (below (form_of linear))) result }
-{
-    let Linear { terms, constant } = linear;
-    if constant == -i64::MAX {
-        return Err(ExpandFault::Linear(LinearFault::Overflow));
-    }
-    Ok(Linear {
-        terms,
-        constant: constant - 1,
-    })
-}
-
-/// The normal form of left minus right.
-fn normal_form(alloc: Global, relation: Relation, linear: Linear) -> Result<Linear, ExpandFault>
-    requires { IsInside (form_of linear) }
-    ensures { Answers form_of (normal_of relation (form_of linear)) result }
-{
-    match relation {
-        Relation::Equal => Ok(linear),
-        Relation::Differ => Ok(linear),
-        Relation::AtMost => Ok(linear),
-        Relation::Less => lessen(linear),
-        Relation::AtLeast => {
-            let side = turn(alloc, &linear)?;
-            Ok(side)
-        }
-        Relation::Greater => {
-            let side = turn(alloc, &linear)?;
-            lessen(side)
-        }
     }
 }
 

@@ -1,17 +1,24 @@
 //! What a constraint becomes: variables with integers, and ranges that are made piece by piece.
 
-ghost use Rattle.std.specs.Prelude.{◌≡◌, ◌<◌, ◌+◌, ◌^◌, ◌++◌, [], length, MatchOption, IfOk, OnErr};
+ghost use Rattle.std.specs.Prelude.{◌≡◌, ◌<◌, ◌+◌, ◌^◌, ◌++◌, [], length, map, MatchOption, IfOk, OnErr};
+ghost use Rattle.fd_language.specs.Lists.{Each};
+ghost use Rattle.fd_model.specs.Splitting.{joined, sum_rows};
+ghost use Rattle.linear_forms.specs.Form.{form_of};
+ghost use Rattle.linear_forms.specs.Inside.{IsInside};
+ghost use Rattle.product_bool.specs.Views.{parts_of};
 ghost use Rattle.fd_model.specs.ListRows.{counts, pairwise};
 ghost use Rattle.constraint_expand.specs.Pieces.{IsPiece, IsOver, rows_ahead, AreReady};
-ghost use Rattle.constraint_expand.specs.Posts.{indexicals};
+ghost use Rattle.constraint_expand.specs.Posts.{indexicals, Accepted};
 ghost use Rattle.constraint_expand.specs.Views.{IsRest};
 
 use crate::counts::Counters;
 use crate::differences::Pairs;
 use crate::members::Placed;
 use crate::rows::{LinearRanges, Rows};
+use crate::sums::Sums;
 use fd_language::NoMemory;
 use monotone_check::Checked;
+use product_bool::Split;
 use std::alloc::Global;
 use std::marker::Model;
 use std::mem::replace;
@@ -26,6 +33,7 @@ pub struct Expansion {
     counters: Counters,
     rows: Rows,
     rest: Vec<(u64, Checked)>,
+    sums: Sums,
 }
 
 impl Model for Expansion {
@@ -40,15 +48,16 @@ impl Model for Expansion {
     ghost use Rattle.std.specs.Prelude.{◌++◌};
     ghost use Rattle.constraint_expand.specs.Pieces.{pairs_ahead, counts_ahead, rows_ahead, AreNumbers, AreReady};
     ghost use Rattle.constraint_expand.specs.Posts.{indexicals};
+    ghost use Rattle.constraint_expand.specs.Sums.{sums_ahead, AreReadySums};
 
     ghost view = { λ x. record {
       equated = x.equated.items;
       ranges = pairs_ahead x.pairs ++ (counts_ahead x.counters
-          ++ (rows_ahead x.rows ++ indexicals x.rest.items));
+          ++ (rows_ahead x.rows ++ (indexicals x.rest.items ++ sums_ahead x.sums)));
       fresh = x.added;
     } };
 
-    ghost invariant = { λ x. AreNumbers x.counters × AreReady x.rows };
+    ghost invariant = { λ x. AreNumbers x.counters × AreReady x.rows × AreReadySums x.sums };
 }
 
 impl Expansion {
@@ -85,10 +94,10 @@ impl Expansion {
         if let Some(piece) = self.rows.next_piece(alloc)? {
             return Ok(Some(piece));
         }
-        if self.rest.is_empty() {
-            return Ok(None);
+        if !self.rest.is_empty() {
+            return Ok(Some(replace(&mut self.rest, Vec::new(alloc))));
         }
-        Ok(Some(replace(&mut self.rest, Vec::new(alloc))))
+        self.sums.next_piece(alloc)
     }
 
     /// The ranges of a comparison.
@@ -108,6 +117,7 @@ impl Expansion {
             counters: Counters::none(alloc),
             rows,
             rest,
+            sums: Sums::none(alloc),
         }
     }
 
@@ -131,6 +141,7 @@ impl Expansion {
             counters: Counters::none(alloc),
             rows: Rows::none(alloc),
             rest,
+            sums: Sums::none(alloc),
         }
     }
 
@@ -148,6 +159,7 @@ impl Expansion {
             counters: Counters::none(alloc),
             rows: Rows::none(alloc),
             rest: list,
+            sums: Sums::none(alloc),
         }
     }
 
@@ -184,6 +196,35 @@ impl Expansion {
             },
             rows,
             rest,
+            sums: Sums::none(alloc),
+        }
+    }
+
+    /// The ranges of a product or a Boolean constraint, and the rows of its sums behind them.
+    pub(crate) fn splitting(alloc: Global, parts: Split) -> Expansion
+        requires inside { Each IsInside (map form_of parts.sums.items) }
+        requires accepted { Accepted (sum_rows (map form_of parts.sums.items)) }
+        ensures { result ≡ joined (parts_of parts) }
+    {
+        let Split {
+            equated,
+            added,
+            list,
+            sums,
+        } = parts;
+        Expansion {
+            alloc,
+            equated,
+            added,
+            pairs: Pairs::none(alloc),
+            counters: Counters::none(alloc),
+            rows: Rows::none(alloc),
+            rest: list,
+            sums: Sums {
+                current: Rows::none(alloc),
+                forms: sums,
+                next: 0,
+            },
         }
     }
 }

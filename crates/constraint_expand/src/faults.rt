@@ -2,21 +2,14 @@
 
 ghost use Rattle.std.specs.Prelude.{◌≡◌};
 ghost use Rattle.constraint_expand.specs.declared.faults.ExpandFault.TheVariants.{BadList, NoMemory};
-ghost use Rattle.constraint_expand.specs.Faults.{outer};
+ghost use Rattle.constraint_expand.specs.Faults.{outer, from_split};
 
 use fd_language::NoMemory;
+pub use fd_model::kinds::ListCause;
 use linear_forms::LinearFault;
+use product_bool::SplitFault;
 use std::alloc::{AllocError, AllocFailed};
 use thiserror::Error;
-
-/// What is wrong with a list or a member.
-#[derive(Clone, Copy, Debug, Drop)]
-pub enum ListCause {
-    /// It is still open where an integer or the end of a list is needed.
-    Unbound,
-    /// It is an atom or a compound that fits nowhere there.
-    Wrong,
-}
 
 /// Why a constraint has no ranges.
 #[derive(Debug, Drop, Error)]
@@ -73,6 +66,18 @@ impl From<LinearFault> for ExpandFault {
             LinearFault::Nonlinear => ExpandFault::Linear(LinearFault::Nonlinear),
             LinearFault::NotANumber => ExpandFault::Linear(LinearFault::NotANumber),
             LinearFault::Overflow => ExpandFault::Linear(LinearFault::Overflow),
+        }
+    }
+}
+
+impl From<SplitFault> for ExpandFault {
+    ghost from_gives = { λ fault own. own ≡ from_split fault };
+
+    fn from(fault: SplitFault) -> ExpandFault {
+        match fault {
+            SplitFault::Linear(linear) => ExpandFault::from(linear),
+            SplitFault::BadArgument(cause) => ExpandFault::BadList(cause),
+            SplitFault::NoMemory => ExpandFault::NoMemory,
         }
     }
 }

@@ -1,9 +1,10 @@
 //! Constraints as ranges: comparisons of linear terms, lists of different members, elements of
-//! lists, and members that are counted.
+//! lists, members that are counted, products and Boolean constraints.
 #![tactic(auto)]
 
 ghost use Rattle.std.specs.Prelude.{◌^◌, ◌<◌, length, All, IfOk};
-ghost use Rattle.fd_model.specs.Constraining.{expand as expanded};
+ghost use Rattle.fd_language.specs.declared.TheConstants.{INFINITY};
+ghost use Rattle.fd_model.specs.Constraining.{expand as expanded, basic as basic_of};
 ghost use Rattle.term_pool.specs.Terms.{term_of, terms_by};
 ghost use Rattle.constraint_expand.specs.Views.{Expands};
 
@@ -16,6 +17,7 @@ mod faults;
 mod members;
 mod posts;
 mod rows;
+mod sums;
 
 use crate::comparisons::compare;
 use crate::counts::atmost;
@@ -24,12 +26,12 @@ use crate::elements::element;
 pub use crate::expansion::Expansion;
 pub use crate::faults::{ExpandFault, ListCause};
 use fd_model::kinds::ConstraintKind;
+use product_bool::split;
 use std::alloc::Global;
 use term_pool::{Pool, TermId};
 
-/// The ranges of a constraint, where `fresh` is the next fresh number. The arguments are terms of
-/// the pool, seen as a whole. They are looked at from left to right, and the first fault is told.
-pub fn expand(
+/// The ranges of a comparison or of a constraint on a list.
+fn basic(
     alloc: Global,
     pool: &Pool,
     kind: ConstraintKind,
@@ -37,9 +39,9 @@ pub fn expand(
     fresh: u64,
 ) -> Result<Expansion, ExpandFault>
     requires args { All (λ t. t.number < length pool.now.entries) args.now }
-    requires ends { IfOk (expanded kind (terms_by (term_of pool.now) args.now) fresh)
+    requires ends { IfOk (basic_of kind (terms_by (term_of pool.now) args.now) fresh)
         (λ x. x.fresh < 2 ^ 64) }
-    ensures { Expands (expanded kind (terms_by (term_of pool.now) args.now) fresh) result }
+    ensures { Expands (basic_of kind (terms_by (term_of pool.now) args.now) fresh) result }
 {
     match (kind, args) {
         (ConstraintKind::Compare(relation), [left, right]) => {
@@ -53,5 +55,26 @@ pub fn expand(
             atmost(alloc, pool, *most, *list, *value, fresh)
         }
         _ => Err(ExpandFault::BadList(ListCause::Wrong)),
+    }
+}
+
+/// The ranges of a constraint, where `fresh` is the next fresh number. The arguments are terms of
+/// the pool, seen as a whole. They are looked at from left to right, and the first fault is told.
+pub fn expand(
+    alloc: Global,
+    pool: &Pool,
+    kind: ConstraintKind,
+    args: &[TermId],
+    fresh: u64,
+) -> Result<Expansion, ExpandFault>
+    requires args { All (λ t. t.number < length pool.now.entries) args.now }
+    requires ends { IfOk (expanded INFINITY kind (terms_by (term_of pool.now) args.now) fresh)
+        (λ x. x.fresh < 2 ^ 64) }
+    ensures { Expands (expanded INFINITY kind (terms_by (term_of pool.now) args.now) fresh)
+        result }
+{
+    match split(alloc, pool, kind, args, fresh)? {
+        Some(parts) => Ok(Expansion::splitting(alloc, parts)),
+        None => basic(alloc, pool, kind, args, fresh),
     }
 }

@@ -5,10 +5,12 @@ ghost use Rattle.fd_model.specs.Linear.{in_integers, scaled};
 ghost use Rattle.fd_model.specs.LinearRows.{rows_behind, compares, linear_rows as rows_of};
 ghost use Rattle.constraint_expand.specs.Pieces.{IsPiece, IsOver, rows_ahead, AreReady};
 ghost use Rattle.constraint_expand.specs.Posts.{Posts, Accepted, indexicals};
-ghost use Rattle.constraint_expand.specs.Nodes.{AreIntegers, CanTurn, comparison_of, lower_reading, upper_reading, feature_of, product_nodes, bound_nodes, lower_nodes, upper_nodes, row_list, HasProduct, IsForm, AreSides, row_at};
+ghost use Rattle.linear_forms.specs.Inside.{AreIntegers};
+ghost use Rattle.constraint_expand.specs.Nodes.{CanTurn, comparison_of, lower_reading, upper_reading, feature_of, product_nodes, bound_nodes, lower_nodes, upper_nodes, row_list, HasProduct, IsForm, AreSides, row_at};
 
 use crate::posts::{post, post_none};
 use fd_language::{NoMemory, RangeNode};
+use linear_forms::negated;
 use monotone_check::Checked;
 use std::alloc::Global;
 
@@ -90,18 +92,6 @@ fn write_products(
         write_product(&mut nodes, reading, *term)?;
     }
     Ok(nodes)
-}
-
-/// The products with their coefficients negated.
-pub(crate) fn negated(alloc: Global, terms: &[(u64, i64)]) -> Result<Vec<(u64, i64)>, NoMemory>
-    requires { AreIntegers terms.now }
-    ensures { IfOk result (λ turned. turned.items ≡ scaled (negsuc 0) terms.now) }
-{
-    let mut turned = Vec::with_capacity(alloc, terms.len())?;
-    for (variable, coefficient) in terms {
-        turned.push((*variable, -*coefficient))?;
-    }
-    Ok(turned)
 }
 
 /// How the lower ends of rows are read.
@@ -337,7 +327,7 @@ fn turned_constant(constant: i64) -> i64
 }
 
 /// The rows of a form.
-fn rows_of_form(
+pub(crate) fn rows_of_form(
     alloc: Global,
     comparison: Comparison,
     terms: &[(u64, i64)],

@@ -8,4 +8,5 @@ mod Ordering
 mod Stacks
 mod Steps
 mod Collected
+mod Negating
 pub mod Lemmas

@@ -3,3 +3,4 @@ pub mod Shares
 pub mod Sums
 pub mod Tasks
 pub mod Loops
+pub mod Inside

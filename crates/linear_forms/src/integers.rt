@@ -15,15 +15,15 @@ fn within(value: i128) -> Option<i64>
     }
 }
 
-/// The sum of two integers.
-pub(crate) fn sum(left: i64, right: i64) -> Option<i64>
+/// The sum of two integers, where that is an integer of the language.
+pub fn sum(left: i64, right: i64) -> Option<i64>
     ensures { IsWithin (left +ℤ right) result }
 {
     within(left as i128 + right as i128)
 }
 
-/// The product of two integers.
-pub(crate) fn product(left: i64, right: i64) -> Option<i64>
+/// The product of two integers, where that is an integer of the language.
+pub fn product(left: i64, right: i64) -> Option<i64>
     ensures { IsWithin (left *ℤ right) result }
 {
     within(left as i128 * right as i128)

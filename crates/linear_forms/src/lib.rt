@@ -8,11 +8,15 @@ ghost use Rattle.term_pool.specs.Terms.{term_of};
 ghost use Rattle.linear_forms.specs.Form.{Answers};
 
 mod integers;
+mod normal;
 mod sums;
 mod walk;
 
+pub use crate::integers::{product, sum};
+pub use crate::normal::{negated, normal_form, turn};
 use crate::sums::{Sum, linear_of};
 use crate::walk::collect_difference;
+use fd_language::NoMemory as Wanting;
 use std::alloc::{AllocError, AllocFailed, Global};
 use term_pool::{Pool, TermId};
 use thiserror::Error;
@@ -41,6 +45,14 @@ pub enum LinearFault {
     /// Memory was wanting.
     #[error("out of memory")]
     NoMemory,
+}
+
+impl From<Wanting> for LinearFault {
+    ghost from_gives = { λ _ fault. fault ≡ NoMemory };
+
+    fn from(_error: Wanting) -> LinearFault {
+        LinearFault::NoMemory
+    }
 }
 
 impl From<AllocError> for LinearFault {

@@ -15,6 +15,6 @@ pub param_is : (at : ℕ → ℕ) (n x place : ℕ) (s : TermCheck) → at n ≡
     ((w : Wish) → by_wish s.plain w ≡ None) → ((w : Wish) → by_wish s.natural w ≡ None) → IsTerm INFINITY at n (Param x) s
 param_is at n x place s e p b w l q f g = record { place = p ∙ sym e; size = b; wide = w; parameter = q; literal = λ h. l; offences = λ h. nowhere s f g }
 
-pub val_is : (at : ℕ → ℕ) (n x place : ℕ) (s : TermCheck) → at n ≡ place → s.place ≡ place → s.bound ≡ 16777215 → s.wide ≡ None → s.literal ≡ None → s.parameter ≡ false →
+pub val_is : (at : ℕ → ℕ) (n x place : ℕ) (s : TermCheck) → at n ≡ place → s.place ≡ place → s.bound ≡ 268435455 → s.wide ≡ None → s.literal ≡ None → s.parameter ≡ false →
     ((w : Wish) → by_wish s.plain w ≡ None) → ((w : Wish) → by_wish s.natural w ≡ None) → IsTerm INFINITY at n (Val x) s
 val_is at n x place s e p b w l q f g = record { place = p ∙ sym e; size = b; wide = w; parameter = q; literal = λ h. l; offences = λ h. nowhere s f g }

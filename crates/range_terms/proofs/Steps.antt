@@ -24,12 +24,12 @@ use Rattle.range_terms.specs.Walk.{IsOf, Replaces}
 use Rattle.range_terms.proofs.Walks.{load_two, load_three, step_open}
 
 -- the form of a term is that of its shape
-pub at_shape : (c : Contents) → IsPool c → (o : Operand) (s u : Shape) (p : ℕ) (f : Form) → shape_at c o.term ≡ Some u → shape_at c o.term ≡ Some s → place_at c o.term ≡ Some p
-    → IsForm c (wanted o.position (placed_by c.names (placed_of c) p u)) p (parts_of u) f → IsForm c (of_operand c o) p (parts_of s) f
-at_shape c v o s u p f hu hs hp h =
+pub at_shape : (N : ℕ) (c : Contents) → IsPool c → (o : Operand) (s u : Shape) (p : ℕ) (f : Form) → shape_at c o.term ≡ Some u → shape_at c o.term ≡ Some s → place_at c o.term ≡ Some p
+    → IsForm N c (wanted N o.position (placed_by c.names (placed_of c) p u)) p (parts_of u) f → IsForm N c (of_operand N c o) p (parts_of s) f
+at_shape N c v o s u p f hu hs hp h =
     let same : u ≡ s = same_Some u s (sym hu ∙ hs) in
     let placed : placed_of c o.term ≡ placed_by c.names (placed_of c) p u = placed_of_shape c v o.term u p hu hp in
-    subst (λ (x : PlacedTerm). IsForm c (wanted o.position x) p (parts_of s) f) (sym placed) (subst (λ (r : Shape). IsForm c (wanted o.position (placed_by c.names (placed_of c) p u)) p (parts_of r) f) same h)
+    subst (λ (x : PlacedTerm). IsForm N c (wanted N o.position x) p (parts_of s) f) (sym placed) (subst (λ (r : Shape). IsForm N c (wanted N o.position (placed_by c.names (placed_of c) p u)) p (parts_of r) f) same h)
 
 -- whether a term is a variable
 pub a_variable : (c : Contents) → IsPool c → (t : TermId) (x : ℕ) → t.number < length c.entries → shape_at c t ≡ Some (pool.var x) → (q : ℕ) × (placed_of c t ≡ var x q)
@@ -55,26 +55,26 @@ pub has_weight : (c : Contents) → IsPool c → (t : TermId) (s : Shape) → sh
 has_weight c v t s h = omega (arith, size_of c v t s h)
 
 -- a node behind its operand
-pub step_unary : (c : Contents) → IsPool c → (t : TermId) (s : Shape) (p : ℕ) (w : Wanted) (n : RangeNode) (a : Operand) (found : Found) (ahead next : List Task) → t.number < length c.entries → shape_at c t ≡ Some s
-    → IsForm c w p (parts_of s) (form.Unary n a) → next ≡ ahead ++ (task.Put n p ∷ task.Read a ∷ []) → Replaces c w (2 * size (term_of c t)) found ahead found next
-step_unary c v t s p w n a found ahead next l h f e =
+pub step_unary : (N : ℕ) (c : Contents) → IsPool c → (t : TermId) (s : Shape) (p : ℕ) (w : Wanted) (n : RangeNode) (a : Operand) (found : Found) (ahead next : List Task) → t.number < length c.entries → shape_at c t ≡ Some s
+    → IsForm N c w p (parts_of s) (form.Unary n a) → next ≡ ahead ++ (task.Put n p ∷ task.Read a ∷ []) → Replaces N c w (2 * size (term_of c t)) found ahead found next
+step_unary N c v t s p w n a found ahead next l h f e =
     let within : All (λ u. u.number < length c.entries) (a.term ∷ []) = subst (All (λ u. u.number < length c.entries)) f.0 (parts_within c v t s l h) in
     let first : IsOf c (task.Read a) = All-head (λ u. u.number < length c.entries) a.term [] within in
     let sizes : total_size c (parts_of s) ≡ size (term_of c a.term) + 0 = ap (total_size c) f.0 ∙ total_size-cons c a.term [] ∙ ap (λ (k : ℕ). size (term_of c a.term) + k) (total_size-nil c) in
-    step_open c w (2 * size (term_of c t)) found ahead next (task.Put n p ∷ task.Read a ∷ []) e f.1
+    step_open N c w (2 * size (term_of c t)) found ahead next (task.Put n p ∷ task.Read a ∷ []) e f.1
     (omega (arith, load_two c (task.Put n p) (task.Read a), size_of c v t s h, sizes))
     (All-cons (IsOf c) (task.Put n p) (task.Read a ∷ []) tt (All-cons (IsOf c) (task.Read a) [] first (All-nil (IsOf c))))
 
 -- a node behind its two operands
-pub step_binary : (c : Contents) → IsPool c → (t : TermId) (s : Shape) (p : ℕ) (w : Wanted) (n : RangeNode) (a b : Operand) (found : Found) (ahead next : List Task) → t.number < length c.entries → shape_at c t ≡ Some s
-    → IsForm c w p (parts_of s) (form.Binary n a b) → next ≡ ahead ++ (task.Put n p ∷ task.Read b ∷ task.Read a ∷ []) → Replaces c w (2 * size (term_of c t)) found ahead found next
-step_binary c v t s p w n a b found ahead next l h f e =
+pub step_binary : (N : ℕ) (c : Contents) → IsPool c → (t : TermId) (s : Shape) (p : ℕ) (w : Wanted) (n : RangeNode) (a b : Operand) (found : Found) (ahead next : List Task) → t.number < length c.entries → shape_at c t ≡ Some s
+    → IsForm N c w p (parts_of s) (form.Binary n a b) → next ≡ ahead ++ (task.Put n p ∷ task.Read b ∷ task.Read a ∷ []) → Replaces N c w (2 * size (term_of c t)) found ahead found next
+step_binary N c v t s p w n a b found ahead next l h f e =
     let inside : TermId → Type 0 = λ u. u.number < length c.entries in
     let within : All inside (a.term ∷ b.term ∷ []) = subst (All inside) f.0 (parts_within c v t s l h) in
     let first : IsOf c (task.Read a) = All-head inside a.term (b.term ∷ []) within in
     let second : IsOf c (task.Read b) = All-head inside b.term [] (All-tail inside a.term (b.term ∷ []) within) in
     let sizes : total_size c (parts_of s) ≡ size (term_of c a.term) + (size (term_of c b.term) + 0) =
     ap (total_size c) f.0 ∙ total_size-cons c a.term (b.term ∷ []) ∙ ap (λ (k : ℕ). size (term_of c a.term) + k) (total_size-cons c b.term [] ∙ ap (λ (k : ℕ). size (term_of c b.term) + k) (total_size-nil c)) in
-    step_open c w (2 * size (term_of c t)) found ahead next (task.Put n p ∷ task.Read b ∷ task.Read a ∷ []) e f.1
+    step_open N c w (2 * size (term_of c t)) found ahead next (task.Put n p ∷ task.Read b ∷ task.Read a ∷ []) e f.1
     (omega (arith, load_three c (task.Put n p) (task.Read b) (task.Read a), size_of c v t s h, sizes))
     (All-cons (IsOf c) (task.Put n p) (task.Read b ∷ task.Read a ∷ []) tt (All-cons (IsOf c) (task.Read b) (task.Read a ∷ []) second (All-cons (IsOf c) (task.Read a) [] first (All-nil (IsOf c)))))

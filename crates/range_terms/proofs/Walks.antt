@@ -14,9 +14,9 @@ use Rattle.range_terms.specs.TermNodes.{Wanted, one_node, joined}
 use Rattle.range_terms.specs.Walk.{of_task, left, task_weight, load, IsOf, Puts, Refuses, Replaces, IsLeft}
 use Rattle.range_terms.proofs.TermNodes.{joined-nil, joined_assoc}
 
-pub left_append : (c : Contents) (ps qs : List Task) → left c (ps ++ qs) ≡ joined (left c qs) (left c ps)
-left_append c [] qs = sym (joined-nil (left c qs))
-left_append c (p ∷ ps) qs = ap (λ (u : Wanted). joined u (of_task c p)) (left_append c ps qs) ∙ joined_assoc (left c qs) (left c ps) (of_task c p)
+pub left_append : (N : ℕ) (c : Contents) (ps qs : List Task) → left N c (ps ++ qs) ≡ joined (left N c qs) (left N c ps)
+left_append N c [] qs = sym (joined-nil (left N c qs))
+left_append N c (p ∷ ps) qs = ap (λ (u : Wanted). joined u (of_task N c p)) (left_append N c ps qs) ∙ joined_assoc (left N c qs) (left N c ps) (of_task N c p)
 
 load-append : (c : Contents) (ps qs : List Task) → load c (ps ++ qs) ≡ load c ps + load c qs
 unfolding load
@@ -40,8 +40,8 @@ unfolding load
 load-nil c = refl
 
 -- a node more
-pub step_put : (c : Contents) (w : Wanted) (heavy : ℕ) (n : RangeNode) (p : ℕ) (old new : Found) (ahead : List Task) → w ≡ one_node n p → 0 < heavy → Puts n p old new → Replaces c w heavy old ahead new ahead
-step_put c w heavy n p old new ahead e h s = record {
+pub step_put : (N : ℕ) (c : Contents) (w : Wanted) (heavy : ℕ) (n : RangeNode) (p : ℕ) (old new : Found) (ahead : List Task) → w ≡ one_node n p → 0 < heavy → Puts n p old new → Replaces N c w heavy old ahead new ahead
+step_put N c w heavy n p old new ahead e h s = record {
   more = [];
   pushed = sym (append-nil ahead);
   nodes = λ none. append-nil new.nodes.items ∙ s.nodes ∙ ap (λ (u : Wanted). old.nodes.items ++ u.nodes) (sym e);
@@ -56,8 +56,8 @@ step_put c w heavy n p old new ahead e h s = record {
     one_more ns ps l = omega (arith, length-append ns (n ∷ []), length-append ps (p ∷ []))
 
 -- it fits nowhere
-pub step_refuse : (c : Contents) (w : Wanted) (heavy p : ℕ) (old new : Found) (ahead : List Task) → (w.places ≡ []) × (w.offenders ≡ p ∷ []) → 0 < heavy → Refuses p old new → Replaces c w heavy old ahead new ahead
-step_refuse c w heavy p old new ahead e h s = record {
+pub step_refuse : (N : ℕ) (c : Contents) (w : Wanted) (heavy p : ℕ) (old new : Found) (ahead : List Task) → (w.places ≡ []) × (w.offenders ≡ p ∷ []) → 0 < heavy → Refuses p old new → Replaces N c w heavy old ahead new ahead
+step_refuse N c w heavy p old new ahead e h s = record {
   more = [];
   pushed = sym (append-nil ahead);
   nodes = λ none. let wrong : p ∷ [] ≡ [] = sym e.1 ∙ none in absurd cc;
@@ -69,8 +69,8 @@ step_refuse c w heavy p old new ahead e h s = record {
 }
 
 -- all is left to tasks
-pub step_open : (c : Contents) (w : Wanted) (heavy : ℕ) (found : Found) (ahead next more : List Task) → next ≡ ahead ++ more → w ≡ left c more → load c more < heavy → All (IsOf c) more → Replaces c w heavy found ahead found next
-step_open c w heavy found ahead next more e l h a = record {
+pub step_open : (N : ℕ) (c : Contents) (w : Wanted) (heavy : ℕ) (found : Found) (ahead next more : List Task) → next ≡ ahead ++ more → w ≡ left N c more → load c more < heavy → All (IsOf c) more → Replaces N c w heavy found ahead found next
+step_open N c w heavy found ahead next more e l h a = record {
   more = more;
   pushed = e;
   nodes = λ none. ap (λ (u : Wanted). found.nodes.items ++ u.nodes) (sym l);
@@ -91,27 +91,27 @@ least_none [] h = refl
 least_none (p ∷ ps) h = let s = some_least p ps in let wrong : Some s.0 ≡ None = sym s.1 ∙ h in absurd cc
 
 -- the step keeps what is found and what is left
-pub still_left : (c : Contents) (w : Wanted) (t : Task) (old new : Found) (rest next : List Task) → Replaces c (of_task c t) (task_weight c t) old rest new next → IsLeft c w old (rest ++ t ∷ []) → All (IsOf c) rest → IsLeft c w new next
-still_left c w t old new rest next s i a =
-    let u : Wanted = of_task c t in
-    let before : left c (rest ++ t ∷ []) ≡ joined u (left c rest) = left_append c rest (t ∷ []) in
-    let after : left c next ≡ joined (left c s.more) (left c rest) = ap (left c) s.pushed ∙ left_append c rest s.more in
-    let offenders : least_place (option_to_list old.offender ++ (u.offenders ++ (left c rest).offenders)) ≡ least_place w.offenders = ap (λ (v : Wanted). least_place (option_to_list old.offender ++ v.offenders)) (sym before) ∙ i.offenders in
+pub still_left : (N : ℕ) (c : Contents) (w : Wanted) (t : Task) (old new : Found) (rest next : List Task) → Replaces N c (of_task N c t) (task_weight c t) old rest new next → IsLeft N c w old (rest ++ t ∷ []) → All (IsOf c) rest → IsLeft N c w new next
+still_left N c w t old new rest next s i a =
+    let u : Wanted = of_task N c t in
+    let before : left N c (rest ++ t ∷ []) ≡ joined u (left N c rest) = left_append N c rest (t ∷ []) in
+    let after : left N c next ≡ joined (left N c s.more) (left N c rest) = ap (left N c) s.pushed ∙ left_append N c rest s.more in
+    let offenders : least_place (option_to_list old.offender ++ (u.offenders ++ (left N c rest).offenders)) ≡ least_place w.offenders = ap (λ (v : Wanted). least_place (option_to_list old.offender ++ v.offenders)) (sym before) ∙ i.offenders in
     record {
       nodes = λ none.
-          let nil : option_to_list old.offender ++ (u.offenders ++ (left c rest).offenders) ≡ [] = least_none (option_to_list old.offender ++ (u.offenders ++ (left c rest).offenders)) (offenders ∙ ap least_place none) in
-          let mine : u.offenders ≡ [] = first_nil u.offenders (left c rest).offenders (second_nil (option_to_list old.offender) (u.offenders ++ (left c rest).offenders) nil) in
-          ap (λ (v : Wanted). new.nodes.items ++ v.nodes) after ∙ sym (append_assoc new.nodes.items (left c s.more).nodes (left c rest).nodes)
-          ∙ ap (λ (ns : List RangeNode). ns ++ (left c rest).nodes) (s.nodes mine) ∙ append_assoc old.nodes.items u.nodes (left c rest).nodes ∙ ap (λ (v : Wanted). old.nodes.items ++ v.nodes) (sym before) ∙ i.nodes none;
+          let nil : option_to_list old.offender ++ (u.offenders ++ (left N c rest).offenders) ≡ [] = least_none (option_to_list old.offender ++ (u.offenders ++ (left N c rest).offenders)) (offenders ∙ ap least_place none) in
+          let mine : u.offenders ≡ [] = first_nil u.offenders (left N c rest).offenders (second_nil (option_to_list old.offender) (u.offenders ++ (left N c rest).offenders) nil) in
+          ap (λ (v : Wanted). new.nodes.items ++ v.nodes) after ∙ sym (append_assoc new.nodes.items (left N c s.more).nodes (left N c rest).nodes)
+          ∙ ap (λ (ns : List RangeNode). ns ++ (left N c rest).nodes) (s.nodes mine) ∙ append_assoc old.nodes.items u.nodes (left N c rest).nodes ∙ ap (λ (v : Wanted). old.nodes.items ++ v.nodes) (sym before) ∙ i.nodes none;
       places =
-          ap (λ (v : Wanted). new.places.items ++ v.places) after ∙ sym (append_assoc new.places.items (left c s.more).places (left c rest).places)
-          ∙ ap (λ (ps : List ℕ). ps ++ (left c rest).places) s.places ∙ append_assoc old.places.items u.places (left c rest).places ∙ ap (λ (v : Wanted). old.places.items ++ v.places) (sym before) ∙ i.places;
-      offenders = ap (λ (v : Wanted). least_place (option_to_list new.offender ++ v.offenders)) after ∙ s.offenders (left c rest).offenders ∙ offenders;
+          ap (λ (v : Wanted). new.places.items ++ v.places) after ∙ sym (append_assoc new.places.items (left N c s.more).places (left N c rest).places)
+          ∙ ap (λ (ps : List ℕ). ps ++ (left N c rest).places) s.places ∙ append_assoc old.places.items u.places (left N c rest).places ∙ ap (λ (v : Wanted). old.places.items ++ v.places) (sym before) ∙ i.places;
+      offenders = ap (λ (v : Wanted). least_place (option_to_list new.offender ++ v.offenders)) after ∙ s.offenders (left N c rest).offenders ∙ offenders;
       level = s.level i.level;
       within = subst (All (IsOf c)) (sym s.pushed) (All-append (IsOf c) rest s.more a s.within);
     }
 
-pub smaller_load : (c : Contents) (t : Task) (old new : Found) (rest next : List Task) → Replaces c (of_task c t) (task_weight c t) old rest new next → load c next < load c (rest ++ t ∷ [])
-smaller_load c t old new rest next s =
+pub smaller_load : (N : ℕ) (c : Contents) (t : Task) (old new : Found) (rest next : List Task) → Replaces N c (of_task N c t) (task_weight c t) old rest new next → load c next < load c (rest ++ t ∷ [])
+smaller_load N c t old new rest next s =
     subst (λ (ps : List Task). load c ps < load c (rest ++ t ∷ [])) (sym s.pushed)
     (omega (arith, load-append c rest s.more, load-append c rest (t ∷ []), load-one c t, s.lighter))

@@ -15,26 +15,26 @@ use Rattle.range_terms.specs.TermNodes.{wanted}
 use Rattle.range_terms.specs.Walk.{IsLeft}
 use Rattle.range_terms.proofs.Walks.{least_none}
 
-decided : (c : Contents) (x : PlacedTerm) (f : Found) → IsLeft c (wanted position.Range x) f [] → (o : Option ℕ) → f.offender ≡ o → not_a_range x ≡ least_place (option_to_list o ++ [])
+decided : (N : ℕ) (c : Contents) (x : PlacedTerm) (f : Found) → IsLeft N c (wanted N position.Range x) f [] → (o : Option ℕ) → f.offender ≡ o → not_a_range N x ≡ least_place (option_to_list o ++ [])
 unfolding wanted
-decided c x f i o e = sym i.offenders ∙ ap (λ (q : Option ℕ). least_place (option_to_list q ++ [])) e
+decided N c x f i o e = sym i.offenders ∙ ap (λ (q : Option ℕ). least_place (option_to_list q ++ [])) e
 
-pub refused : (c : Contents) (x : PlacedTerm) (f : Found) (p : ℕ) → IsLeft c (wanted position.Range x) f [] → f.offender ≡ Some p → not_a_range x ≡ Some p
-refused c x f p i e = decided c x f i (Some p) e
+pub refused : (N : ℕ) (c : Contents) (x : PlacedTerm) (f : Found) (p : ℕ) → IsLeft N c (wanted N position.Range x) f [] → f.offender ≡ Some p → not_a_range N x ≡ Some p
+refused N c x f p i e = decided N c x f i (Some p) e
 
-pub not_refused : (c : Contents) (x : PlacedTerm) (f : Found) → IsLeft c (wanted position.Range x) f [] → f.offender ≡ None → not_a_range x ≡ None
-not_refused c x f i e = decided c x f i None e
+pub not_refused : (N : ℕ) (c : Contents) (x : PlacedTerm) (f : Found) → IsLeft N c (wanted N position.Range x) f [] → f.offender ≡ None → not_a_range N x ≡ None
+not_refused N c x f i e = decided N c x f i None e
 
-pub whole_nodes : (c : Contents) (x : PlacedTerm) (f : Found) → IsLeft c (wanted position.Range x) f [] → f.offender ≡ None → f.nodes.items ≡ nodes_of (read_range x).tree
+pub whole_nodes : (N : ℕ) (c : Contents) (x : PlacedTerm) (f : Found) → IsLeft N c (wanted N position.Range x) f [] → f.offender ≡ None → f.nodes.items ≡ nodes_of (read_range N x).tree
 unfolding wanted
-whole_nodes c x f i e = sym (append-nil f.nodes.items) ∙ i.nodes (least_none (read_range x).offenders (not_refused c x f i e))
+whole_nodes N c x f i e = sym (append-nil f.nodes.items) ∙ i.nodes (least_none (read_range N x).offenders (not_refused N c x f i e))
 
-pub whole_places : (c : Contents) (x : PlacedTerm) (f : Found) → IsLeft c (wanted position.Range x) f [] → f.places.items ≡ (read_range x).places
+pub whole_places : (N : ℕ) (c : Contents) (x : PlacedTerm) (f : Found) → IsLeft N c (wanted N position.Range x) f [] → f.places.items ≡ (read_range N x).places
 unfolding wanted
-whole_places c x f i = sym (append-nil f.places.items) ∙ i.places
+whole_places N c x f i = sym (append-nil f.places.items) ∙ i.places
 
-pub is_spelled : (c : Contents) (x : PlacedTerm) (f : Found) → IsLeft c (wanted position.Range x) f [] → f.offender ≡ None → IsSpelled f.nodes.items
-is_spelled c x f i e = ((read_range x).tree, sym (whole_nodes c x f i e))
+pub is_spelled : (N : ℕ) (c : Contents) (x : PlacedTerm) (f : Found) → IsLeft N c (wanted N position.Range x) f [] → f.offender ≡ None → IsSpelled f.nodes.items
+is_spelled N c x f i e = ((read_range N x).tree, sym (whole_nodes N c x f i e))
 
 -- nodes spell one range
 pub same_range : (r q : Range) (ns : List RangeNode) → nodes_of r ≡ ns → ns ≡ nodes_of q → r ≡ q

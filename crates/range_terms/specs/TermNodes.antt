@@ -29,7 +29,7 @@ of_expr r = record { nodes = expr_nodes r.tree []; places = r.places; offenders 
 abbrev pub of_range : Parsed fd.Range → Wanted
 of_range r = record { nodes = nodes_of r.tree; places = r.places; offenders = r.offenders }
 
-unfoldable pub wanted : Position → PlacedTerm → Wanted
-wanted position.Range t = of_range (read_range t)
-wanted position.Term t = of_expr (read_expr true t)
-wanted position.Constant t = of_expr (read_expr false t)
+unfoldable pub wanted : ℕ → Position → PlacedTerm → Wanted
+wanted N position.Range t = of_range (read_range N t)
+wanted N position.Term t = of_expr (read_expr N true t)
+wanted N position.Constant t = of_expr (read_expr N false t)

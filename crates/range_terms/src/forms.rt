@@ -61,7 +61,7 @@ fn variable_of(pool: &Pool, t: TermId) -> Option<u64>
 /// `dom` of a variable.
 fn domain_form(pool: &Pool, only: TermId) -> Form
     requires { only.number < length pool.now.entries }
-    ensures { (p : ℕ) → IsForm pool.now (of_range (read_dom (placed_of pool.now only) p)) p
+    ensures { (N p : ℕ) → IsForm N pool.now (of_range (read_dom (placed_of pool.now only) p)) p
         (only ∷ []) result }
 {
     match variable_of(pool, only) {
@@ -73,8 +73,8 @@ fn domain_form(pool: &Pool, only: TermId) -> Form
 /// A range with one part.
 fn single_range_form(pool: &Pool, name: &str, only: TermId) -> Form
     requires { only.number < length pool.now.entries }
-    ensures { (p : ℕ) → IsForm pool.now
-        (wanted place_in.Range (comp name.now p (one (placed_of pool.now only)))) p
+    ensures { (N p : ℕ) → IsForm N pool.now
+        (wanted N place_in.Range (comp name.now p (one (placed_of pool.now only)))) p
         (only ∷ []) result }
 {
     if name == "{}" {
@@ -98,8 +98,8 @@ fn single_range_form(pool: &Pool, name: &str, only: TermId) -> Form
 
 /// A range with two parts.
 fn double_range_form(pool: &Pool, name: &str, first: TermId, second: TermId) -> Form
-    ensures { (p : ℕ) → IsForm pool.now
-        (wanted place_in.Range (comp name.now p (two (placed_of pool.now first)
+    ensures { (N p : ℕ) → IsForm N pool.now
+        (wanted N place_in.Range (comp name.now p (two (placed_of pool.now first)
         (placed_of pool.now second)))) p (first ∷ second ∷ []) result }
 {
     match range_operator(name) {
@@ -121,8 +121,8 @@ fn double_range_form(pool: &Pool, name: &str, first: TermId, second: TermId) -> 
 /// `min`, `max` or `val` of a variable.
 fn feature_form(pool: &Pool, name: &str, only: TermId) -> Form
     requires { only.number < length pool.now.entries }
-    ensures { (p : ℕ) → IsForm pool.now
-        (wanted place_in.Term (comp name.now p (one (placed_of pool.now only)))) p
+    ensures { (N p : ℕ) → IsForm N pool.now
+        (wanted N place_in.Term (comp name.now p (one (placed_of pool.now only)))) p
         (only ∷ []) result }
 {
     match variable_of(pool, only) {
@@ -143,8 +143,8 @@ fn operation_form(
     position: Position,
 ) -> Form
     requires { IsOfTerms position }
-    ensures { (p : ℕ) → IsForm pool.now
-        (wanted position (comp name.now p (two (placed_of pool.now first)
+    ensures { (N p : ℕ) → IsForm N pool.now
+        (wanted N position (comp name.now p (two (placed_of pool.now first)
         (placed_of pool.now second)))) p (first ∷ second ∷ []) result }
 {
     match term_operator(name) {
@@ -166,8 +166,8 @@ fn operation_form(
 /// A compound where a range is wanted.
 fn range_form(pool: &Pool, name: &str, parts: &[TermId]) -> Form
     requires { All (λ t. t.number < length pool.now.entries) parts.now }
-    ensures { (p : ℕ) → IsForm pool.now
-        (wanted place_in.Range (comp name.now p (parts_by (placed_of pool.now) parts.now))) p
+    ensures { (N p : ℕ) → IsForm N pool.now
+        (wanted N place_in.Range (comp name.now p (parts_by (placed_of pool.now) parts.now))) p
         parts.now result }
 {
     match parts {
@@ -181,8 +181,8 @@ fn range_form(pool: &Pool, name: &str, parts: &[TermId]) -> Form
 /// A compound where a number is wanted.
 fn term_form(pool: &Pool, name: &str, parts: &[TermId]) -> Form
     requires { All (λ t. t.number < length pool.now.entries) parts.now }
-    ensures { (p : ℕ) → IsForm pool.now
-        (wanted place_in.Term (comp name.now p (parts_by (placed_of pool.now) parts.now))) p
+    ensures { (N p : ℕ) → IsForm N pool.now
+        (wanted N place_in.Term (comp name.now p (parts_by (placed_of pool.now) parts.now))) p
         parts.now result }
 {
     match parts {
@@ -195,7 +195,7 @@ fn term_form(pool: &Pool, name: &str, parts: &[TermId]) -> Form
 
 /// A compound where a number is wanted that no domain changes.
 fn constant_form(pool: &Pool, name: &str, parts: &[TermId]) -> Form
-    ensures { (p : ℕ) → IsForm pool.now (wanted place_in.Constant
+    ensures { (N p : ℕ) → IsForm N pool.now (wanted N place_in.Constant
         (comp name.now p (parts_by (placed_of pool.now) parts.now))) p parts.now result }
 {
     match parts {
@@ -209,8 +209,8 @@ fn constant_form(pool: &Pool, name: &str, parts: &[TermId]) -> Form
 /// A compound in its position.
 fn compound_form(pool: &Pool, name: &str, parts: &[TermId], position: Position) -> Form
     requires { All (λ t. t.number < length pool.now.entries) parts.now }
-    ensures { (p : ℕ) → IsForm pool.now
-        (wanted position (comp name.now p (parts_by (placed_of pool.now) parts.now))) p parts.now
+    ensures { (N p : ℕ) → IsForm N pool.now
+        (wanted N position (comp name.now p (parts_by (placed_of pool.now) parts.now))) p parts.now
         result }
 {
     match position {
@@ -222,8 +222,8 @@ fn compound_form(pool: &Pool, name: &str, parts: &[TermId], position: Position) 
 
 /// A number, which fits where one is wanted.
 fn number_form(node: RangeNode, position: Position) -> Form
-    ensures { (c : Contents) (w : Wanted) (p : ℕ) → IsNumber position node p w
-        → IsForm c w p [] result }
+    ensures { (N : ℕ) (c : Contents) (w : Wanted) (p : ℕ) → IsNumber position node p w
+        → IsForm N c w p [] result }
 {
     match position {
         Position::Range => Form::Misfit,
@@ -232,17 +232,17 @@ fn number_form(node: RangeNode, position: Position) -> Form
 }
 
 /// What the operand is read as.
-pub(crate) fn form_of(pool: &Pool, operand: Operand) -> Form
+pub(crate) fn form_of(pool: &Pool, operand: Operand, infinity: u32) -> Form
     requires { operand.term.number < length pool.now.entries }
     ensures { (s : Shape) (p : ℕ) → shape_at pool.now operand.term ≡ Some s
-        → place_at pool.now operand.term ≡ Some p → IsForm pool.now (of_operand pool.now operand) p
-        (parts_of s) result }
+        → place_at pool.now operand.term ≡ Some p
+        → IsForm infinity pool.now (of_operand infinity pool.now operand) p (parts_of s) result }
 {
     match pool.view(operand.term) {
         Node::Var(variable) => number_form(RangeNode::Param(variable), operand.position),
         Node::Int(integer) => number_form(RangeNode::Int(integer), operand.position),
         Node::Atom(atom) => if pool.name_of(atom) == "infinity" {
-            number_form(RangeNode::Infinity, operand.position)
+            number_form(RangeNode::Int(i64::from(infinity)), operand.position)
         } else {
             Form::Misfit
         },

@@ -38,20 +38,25 @@ pub enum RangeFault {
     NoMemory,
 }
 
-/// The range that a term of the pool spells, with the place of each of its nodes.
-pub fn read_range(alloc: Global, pool: &Pool, t: TermId) -> Result<SourceRange, RangeFault>
+/// The range that a term of the pool spells, with the place of each of its nodes. The word `infinity` is this number.
+pub fn read_range(
+    alloc: Global,
+    pool: &Pool,
+    t: TermId,
+    infinity: u32,
+) -> Result<SourceRange, RangeFault>
     requires { t.number < length pool.now.entries }
-    ensures spelled { MatchResult result (λ s. (not_a_range (placed_of pool.now t) ≡ None)
-        × (s.range ≡ (reading_of (placed_of pool.now t)).tree)
-        × (s.places.items ≡ (reading_of (placed_of pool.now t)).places))
-        (IsFaultOf (not_a_range (placed_of pool.now t))) }
+    ensures spelled { MatchResult result (λ s. (not_a_range infinity (placed_of pool.now t) ≡ None)
+        × (s.range ≡ (reading_of infinity (placed_of pool.now t)).tree)
+        × (s.places.items ≡ (reading_of infinity (placed_of pool.now t)).places))
+        (IsFaultOf (not_a_range infinity (placed_of pool.now t))) }
     ensures placed { IfOk result (λ s. length s.places.items ≡ length (nodes_of s.range)) }
 {
     let Found {
         nodes,
         places,
         offender,
-    } = match read_term(alloc, pool, t) {
+    } = match read_term(alloc, pool, t, infinity) {
         Ok(found) => found,
         Err(NoMemory) => return Err(RangeFault::NoMemory),
     };

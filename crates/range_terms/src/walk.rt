@@ -49,14 +49,20 @@ impl Found {
     }
 
     /// Reads a part, and leaves its operands to tasks.
-    fn read(&mut self, pool: &Pool, operand: Operand, ahead: &mut Vec<Task>) -> Result<(), NoMemory>
+    fn read(
+        &mut self,
+        pool: &Pool,
+        operand: Operand,
+        infinity: u32,
+        ahead: &mut Vec<Task>,
+    ) -> Result<(), NoMemory>
         requires { operand.term.number < length pool.now.entries }
-        ensures { OnOk result (Replaces pool.now (of_operand pool.now operand)
+        ensures { OnOk result (Replaces infinity pool.now (of_operand infinity pool.now operand)
             (2 * size (term_of pool.now operand.term)) self.old ahead.old.items self.new
             ahead.new.items) }
     {
         let place = pool.place(operand.term);
-        match form_of(pool, operand) {
+        match form_of(pool, operand, infinity) {
             Form::Leaf(node) => self.put(node, place)?,
             Form::Unary(node, only) => {
                 ahead.extend_from_slice(&[Task::Put(node, place), Task::Read(only)])?;
@@ -73,23 +79,34 @@ impl Found {
         Ok(())
     }
 
-    fn take(&mut self, pool: &Pool, task: Task, ahead: &mut Vec<Task>) -> Result<(), NoMemory>
+    fn take(
+        &mut self,
+        pool: &Pool,
+        task: Task,
+        infinity: u32,
+        ahead: &mut Vec<Task>,
+    ) -> Result<(), NoMemory>
         requires { IsOf pool.now task }
-        ensures { OnOk result (Replaces pool.now (of_task pool.now task)
+        ensures { OnOk result (Replaces infinity pool.now (of_task infinity pool.now task)
             (task_weight pool.now task) self.old ahead.old.items self.new ahead.new.items) }
     {
         match task {
-            Task::Read(operand) => self.read(pool, operand, ahead),
+            Task::Read(operand) => self.read(pool, operand, infinity, ahead),
             Task::Put(node, place) => self.put(node, place),
         }
     }
 }
 
-/// All that is found of a term where a range is wanted.
-pub(crate) fn read_term(alloc: Global, pool: &Pool, t: TermId) -> Result<Found, NoMemory>
+/// All that is found of a term where a range is wanted. `infinity` is the number of the word.
+pub(crate) fn read_term(
+    alloc: Global,
+    pool: &Pool,
+    t: TermId,
+    infinity: u32,
+) -> Result<Found, NoMemory>
     requires { t.number < length pool.now.entries }
-    ensures { IfOk result (λ f. IsLeft pool.now (wanted place_in.Range (placed_of pool.now t)) f
-        []) }
+    ensures { IfOk result (λ f. IsLeft infinity pool.now
+        (wanted infinity place_in.Range (placed_of pool.now t)) f []) }
 {
     let mut found = Found {
         nodes: Vec::new(alloc),
@@ -102,7 +119,7 @@ pub(crate) fn read_term(alloc: Global, pool: &Pool, t: TermId) -> Result<Found, 
         position: Position::Range,
     }))?;
     while let Some(task) = ahead.pop() {
-        found.take(pool, task, &mut ahead)?;
+        found.take(pool, task, infinity, &mut ahead)?;
     }
     Ok(found)
 }

@@ -1,17 +1,11 @@
-use Rattle.std.proofs.Common.{rules}
-use Rattle.constraint_expand.proofs.Arguments.{compare_few, compare_many, different_few, different_many, element_few, element_many, atmost_few, atmost_many}
-use Rattle.constraint_expand.proofs.expand.Goals.{in_default-via-in-Compare+then-args-lt2, in_default-via-in-Compare+else-args-lt2+else-this-lt3, in_default-via-in-AllDifferent+then-this-lt1, in_default-via-in-AllDifferent+else-this-lt1+else-this-lt2, in_default-via-in-Element+then-this-lt3-2, in_default-via-in-Element+else-this-lt3-2+else-this-lt4, in_default-via-in-Atmost+then-this-lt3-3, in_default-via-in-Atmost+else-this-lt3-3+else-this-lt4-2}
+use Rattle.fd_language.specs.declared.TheConstants.{INFINITY}
+use Rattle.term_pool.specs.Terms.{term_of, terms_by}
+use Rattle.product_bool.specs.Views.{parts_of}
+use Rattle.constraint_expand.proofs.Splitting.{split_inside, split_accepted}
 use Rattle.constraint_expand.proofs.expand.Goals as goal
 
-pub returns-in_default : goal.returns-in_default
-returns-in_default c =
-    elim c.in_default.branch [
-      | in_default-via-in-Compare+then-args-lt2 w ↦ search (rules, compare_few)
-      | in_default-via-in-Compare+else-args-lt2+else-this-lt3 w ↦ search (rules, compare_many)
-      | in_default-via-in-AllDifferent+then-this-lt1 w ↦ search (rules, different_few)
-      | in_default-via-in-AllDifferent+else-this-lt1+else-this-lt2 w ↦ search (rules, different_many)
-      | in_default-via-in-Element+then-this-lt3-2 w ↦ search (rules, element_few)
-      | in_default-via-in-Element+else-this-lt3-2+else-this-lt4 w ↦ search (rules, element_many)
-      | in_default-via-in-Atmost+then-this-lt3-3 w ↦ search (rules, atmost_few)
-      | in_default-via-in-Atmost+else-this-lt3-3+else-this-lt4-2 w ↦ search (rules, atmost_many)
-    ]
+pub splitting-requires-clause-inside : goal.splitting-requires-clause-inside
+splitting-requires-clause-inside c = split_inside INFINITY c.args.kind (terms_by (term_of c.args.pool.now) c.args.args.now) c.args.fresh (parts_of c.in-Some.parts) (rw c.in-Some.is at c.in_ok-parts.ensures)
+
+pub splitting-requires-clause-accepted : goal.splitting-requires-clause-accepted
+splitting-requires-clause-accepted c = split_accepted c.args.kind (terms_by (term_of c.args.pool.now) c.args.args.now) c.args.fresh (parts_of c.in-Some.parts) (rw c.in-Some.is at c.in_ok-parts.ensures)

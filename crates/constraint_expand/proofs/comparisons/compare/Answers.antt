@@ -5,11 +5,12 @@ use Rattle.fd_model.specs.Linear.{comparison}
 use Rattle.fd_model.specs.LinearRows as rows
 use Rattle.fd_model.specs.Constraining.{compare}
 use Rattle.linear_forms.specs.Form.{form_of}
-use Rattle.linear_forms.proofs.Lemmas.{collected_inside}
+use Rattle.linear_forms.specs.Inside.{AreIntegers}
+use Rattle.linear_forms.proofs.Lemmas.{collected_inside, normal_inside}
 use Rattle.term_pool.specs.Terms.{term_of}
-use Rattle.constraint_expand.specs.Nodes.{AreIntegers, comparison_of}
+use Rattle.constraint_expand.specs.Nodes.{comparison_of}
 use Rattle.constraint_expand.specs.Posts.{Accepted}
-use Rattle.constraint_expand.proofs.Comparing.{normal_inside, compared_is, compared_expands, equated_none}
+use Rattle.constraint_expand.proofs.Comparing.{compared_is, compared_expands, equated_none}
 use Rattle.constraint_expand.proofs.Widths.{compared_accepted}
 use Rattle.constraint_expand.proofs.comparisons.compare.Goals as goal
 

@@ -8,7 +8,8 @@ use Rattle.fd_model.specs.ListRows.{units}
 use Rattle.term_pool.specs.Terms.{term_of}
 use Rattle.constraint_expand.specs.declared.members.Member.{Member}
 use Rattle.constraint_expand.specs.Lists.{member_of, AllPlaced}
-use Rattle.constraint_expand.specs.Nodes.{AreIntegers, CanTurn}
+use Rattle.constraint_expand.specs.Nodes.{CanTurn}
+use Rattle.linear_forms.specs.Inside.{AreIntegers}
 use Rattle.constraint_expand.specs.Posts.{indexicals, Accepted}
 use Rattle.constraint_expand.specs.Pieces.{rows_ahead}
 use Rattle.constraint_expand.proofs.Counting.{counters_fit, Summing, sum_terms, sum_next, units_integers, units_turn, atmost_is, atmost_ends, rows_end, atmost_expands}

@@ -7,15 +7,15 @@ use Rattle.range_terms.proofs.Positions.{single_one, single_outside, single_dom,
 use Rattle.range_terms.proofs.forms.single_range_form.Goals as goal
 
 pub returns-then-eq : goal.returns-then-eq
-returns-then-eq c = λ p. (refl, single_one c.args.name.now (placed_of c.args.pool.now c.args.only) p (sym c.eq.ensures ∙ c.if-eq.true))
+returns-then-eq c = λ N p. (refl, single_one N c.args.name.now (placed_of c.args.pool.now c.args.only) p (sym c.eq.ensures ∙ c.if-eq.true))
 
 pub returns-then-eq-2 : goal.returns-then-eq-2
-returns-then-eq-2 c = λ p. (refl, single_outside c.args.name.now (placed_of c.args.pool.now c.args.only) p (sym c.eq.ensures ∙ c.if-eq.false) (sym c.eq-else-eq.ensures ∙ c.if-eq-2.true))
+returns-then-eq-2 c = λ N p. (refl, single_outside N c.args.name.now (placed_of c.args.pool.now c.args.only) p (sym c.eq.ensures ∙ c.if-eq.false) (sym c.eq-else-eq.ensures ∙ c.if-eq-2.true))
 
 pub returns-then-eq-3 : goal.returns-then-eq-3
-returns-then-eq-3 c = λ p.
-    subst (λ (w : Wanted). IsForm c.args.pool.now w p (c.args.only ∷ []) c.domain_form.result)
-    (sym (single_dom c.args.name.now (placed_of c.args.pool.now c.args.only) p (sym c.eq.ensures ∙ c.if-eq.false) (sym c.eq-else-eq.ensures ∙ c.if-eq-2.false) (sym c.eq-else-eq-2.ensures ∙ c.if-eq-3.true))) (c.domain_form.ensures p)
+returns-then-eq-3 c = λ N p.
+    subst (λ (w : Wanted). IsForm N c.args.pool.now w p (c.args.only ∷ []) c.domain_form.result)
+    (sym (single_dom N c.args.name.now (placed_of c.args.pool.now c.args.only) p (sym c.eq.ensures ∙ c.if-eq.false) (sym c.eq-else-eq.ensures ∙ c.if-eq-2.false) (sym c.eq-else-eq-2.ensures ∙ c.if-eq-3.true))) (c.domain_form.ensures N p)
 
 pub returns-else-eq-3 : goal.returns-else-eq-3
-returns-else-eq-3 c = λ p. no_single c.args.name.now (placed_of c.args.pool.now c.args.only) p (sym c.eq.ensures ∙ c.if-eq.false) (sym c.eq-else-eq.ensures ∙ c.if-eq-2.false) (sym c.eq-else-eq-2.ensures ∙ c.if-eq-3.false)
+returns-else-eq-3 c = λ N p. no_single N c.args.name.now (placed_of c.args.pool.now c.args.only) p (sym c.eq.ensures ∙ c.if-eq.false) (sym c.eq-else-eq.ensures ∙ c.if-eq-2.false) (sym c.eq-else-eq-2.ensures ∙ c.if-eq-3.false)

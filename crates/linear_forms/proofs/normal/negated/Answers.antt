@@ -1,7 +1,7 @@
 use Rattle.std.proofs.Common.{pos, get_or}
-use Rattle.linear_forms.proofs.Lemmas.{passed_negation}
-use Rattle.constraint_expand.proofs.RowPosts.{integer_at, negated_turns}
-use Rattle.constraint_expand.proofs.rows.negated.Goals as goal
+use Rattle.linear_forms.proofs.Words.{passed_negation}
+use Rattle.linear_forms.proofs.Negating.{integer_at, negated_turns}
+use Rattle.linear_forms.proofs.normal.negated.Goals as goal
 
 pub loop-variable-preserved : goal.loop-variable-preserved
 loop-variable-preserved c =

@@ -1,0 +1,6 @@
+mod Adding
+mod Arguments
+mod Factors
+mod Gates
+mod Telling
+mod Told
