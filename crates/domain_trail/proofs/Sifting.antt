@@ -1,8 +1,8 @@
 -- Saved cells that are forgotten when marks are dropped, since an older one of the same variable stays.
 use Rattle.std.proofs.Common.{◌≡◌, ℕ, ◌+◌, ◌<◌, ◌≤◌, ◌-◌, ◌^◌, true, false, ◌||◌, ◌==◌, cond, List, [], ◌∷◌, ◌++◌, length, get_or, set, take, drop, refl, ap, sym, ◌∙◌, subst, inl, inr, ◌⊎◌, arith, eqb-true, All, append_assoc, append-nil}
 use Rattle.std.specs.Prelude.{filter, nat_lt}
-use Rattle.std.proofs.lemmas.Bool.{or_cases, or_left, or_right, cases_Bool, eqb-false, ltb-false, true≢false, lt-ltb, le-ltb, cases_lt}
-use Rattle.std.proofs.lemmas.List.{length-set, length-append, length-take-le, take-set-le, take-append-le, drop-append-le, take-append-drop, drop-drop, get_or-set_other, get_or-set_same, get_or-take, get_or-drop, set-set, take_more_set, drop-set-lt, length-drop}
+use Rattle.std.proofs.lemmas.Bool.{or_cases, or_left, or_right, cases_Bool, eqb-false, ltb-false, lt-ltb, le-ltb, cases_lt}
+use Rattle.std.proofs.lemmas.List.{length-set, length-append, length-take-le, take-set-le, take-append-le, drop-append-le, take-append-drop, drop-drop, get_or-set_same, get_or-take, get_or-drop, set-set, take_more_set, drop-set-lt, length-drop}
 use Rattle.std.specs.List.{SwappedAt}
 use Rattle.std.proofs.Math.Seq.{take-add}
 use Rattle.std.proofs.lemmas.List.Elements.{All-take, All-drop, All-filter, All-append, filter_more}
@@ -11,15 +11,13 @@ use Rattle.domain_trail.specs.declared.Cell.{Cell}
 use Rattle.domain_trail.specs.declared.Saved.{Saved}
 use Rattle.domain_trail.specs.declared.Mark.{Mark}
 use Rattle.domain_trail.specs.Trails.{sets_of, undo, sift, at_mark, stores_below, is_saved, IsSince, IsTrail}
+use Rattle.domain_trail.proofs.Keeping.{since_before, since_other}
 use Rattle.domain_trail.proofs.Undoing.{undo-append, length-undo, take-undo, undo_over, is_saved-append}
 
 pub all_sifted : (P : Saved → Type 0) (from stamp : ℕ) (es : List Saved) → All P es → All P (sift from stamp es)
 all_sifted P from stamp es h =
     All-append P (take from es) (filter (λ e. nat_lt e.cell.stamp stamp) (drop from es)) (All-take P from es h)
     (All-filter (λ e. nat_lt e.cell.stamp stamp) P (drop from es) (All-drop P from es h))
-
-since_other : (cs : List Cell) (j k s : ℕ) (c : Cell) → (k ≡ j → ⊥) → IsSince cs k s → IsSince (set cs j c) k s
-since_other cs j k s c n h d = subst (λ x. s ≤ x.stamp) (sym (get_or-set_other cs j k c d n)) (h d)
 
 -- each older variable whose cell was written since the stamp, before what is saved in G, is saved in P
 abbrev IsCovered : ℕ → ℕ → List Saved → List Saved → List Cell → Type 0
@@ -74,17 +72,6 @@ thinned vars s P (e ∷ G) cs le c = elim (cases_Bool (nat_lt e.cell.stamp s)) [
       ]) in
       subst (λ b. IsThinned vars (P ++ e ∷ G) (P ++ cond b (e ∷ filter (λ x. nat_lt x.cell.stamp s) G) (filter (λ x. nat_lt x.cell.stamp s) G)) cs) (sym n)
       (thinned_trans vars (P ++ e ∷ G) (P ++ G) (P ++ filter (λ x. nat_lt x.cell.stamp s) G) cs (forgotten vars s P G e cs here) rest)
-]
-
--- what is put back of other variables
-since_before : (es : List Saved) (cs : List Cell) (k s : ℕ) → is_saved k es ≡ false → IsSince cs k s → IsSince (undo es cs) k s
-since_before [] cs k s n h = h
-since_before (e ∷ es) cs k s n h = elim (cases_Bool (e.var == k)) [
-  | inl f ↦ absurd (true≢false (sym (or_left (e.var == k) (is_saved k es) f) ∙ n))
-  | inr f ↦ elim (cases_Bool (is_saved k es)) [
-    | inl g ↦ absurd (true≢false (sym (or_right (e.var == k) (is_saved k es) g) ∙ n))
-    | inr g ↦ since_other (undo es cs) e.var k s e.cell (λ q. eqb-false e.var k f (sym q)) (since_before es cs k s g h)
-  ]
 ]
 
 -- The newest mark m goes, and what was saved from a place above it on and written since the stamp that m gives back.
@@ -159,10 +146,10 @@ sifted_one m n ms es cs stamp from low le stamp' t u = (
   same : at_mark n (sift from m.stamp es) cs ≡ at_mark n es cs
   same = ap (λ q. take n.vars (undo q cs)) after ∙ thin.undone ∙ ap (λ q. take n.vars (undo q cs)) (sym before)
 
-pub sifted : (m : Mark) (rest : List Mark) (es : List Saved) (cs : List Cell) (stamp from : ℕ) → m.stamp < 2 ^ 64 - 1 → m.saved ≤ from → IsTrail (m ∷ rest) es cs stamp → IsTrail rest es cs stamp
-    → IsTrail rest (sift from m.stamp es) cs stamp × (stores_below rest (sift from m.stamp es) cs ≡ stores_below rest es cs)
+pub sifted : (m : Mark) (rest : List Mark) (es : List Saved) (cs : List Cell) (stamp from : ℕ) → m.stamp < 2 ^ 64 - 1 → m.saved ≤ from → IsTrail (m ∷ rest) es cs stamp → IsTrail rest es cs m.stamp
+    → IsTrail rest (sift from m.stamp es) cs m.stamp × (stores_below rest (sift from m.stamp es) cs ≡ stores_below rest es cs)
 sifted m [] es cs stamp from low le t u = (all_sifted (λ e. e.var < length cs) from m.stamp es u, refl)
-sifted m (n ∷ ms) es cs stamp from low le t u = sifted_one m n ms es cs stamp from low le stamp t u
+sifted m (n ∷ ms) es cs stamp from low le t u = sifted_one m n ms es cs m.stamp from low le stamp t u
 
 -- the loop that forgets, where `now` was `old`: what stays stands in the first k places
 pub record IsSifting (from stamp : ℕ) (old now : List Saved) (k i : ℕ) : Type 0 where

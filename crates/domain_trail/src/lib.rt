@@ -75,8 +75,11 @@ pub enum Cut {
 /// The domains of variables, as a list of stores of which the first is the current one.
 ///
 /// A domain changes in place. Between two marks the old one is saved at most once, unless marks were dropped there:
-/// a variable's stamp tells whether it was. A stamp is never handed out twice, and at the last one every change is saved.
-/// Cells that were written after the stamp `settled` change unsaved.
+/// a variable's stamp tells whether it was. A stamp is never handed out twice, and at the last one every change is saved;
+/// a mark that goes gives back the stamp before it. Cells that were written after the stamp `settled` change unsaved.
+///
+/// Where marks were dropped, what was saved twice is forgotten: of the newest saved cells at once, and of all above a mark as
+/// soon as they are more than twice as many as the variables.
 ///
 /// A call that answers `NoMemory` leaves the trail as it was, and may be tried again.
 #[derive(Drop)]
@@ -349,13 +352,21 @@ impl Trail {
             return;
         }
         let left = self.marks.len() - n;
-        let mark = self.marks[left];
+        let oldest = self.marks[left];
         self.marks.truncate(left);
+        self.stamp = oldest.stamp;
         if left == 0 {
             self.saved.clear();
             self.settled = 0;
-        } else if mark.stamp < u64::MAX {
-            forget(&mut self.saved, self.sifted.max(mark.saved), mark.stamp);
+        } else {
+            let from = place_to_sift(
+                self.saved.len(),
+                self.cells.len(),
+                oldest.saved,
+                self.sifted,
+            );
+            forget_since(&mut self.saved, from, oldest.stamp);
+            self.settled = settled_at(oldest.stamp);
         }
         self.sifted = self.saved.len();
     }
@@ -403,9 +414,31 @@ fn set_interval(cells: &mut Vec<Cell>, k: usize, span: (u32, u32), stamp: u64)
     cell.domain.set_interval(span.0, span.1);
 }
 
-ghost use Rattle.std.specs.Prelude.{All};
+ghost use Rattle.std.specs.Prelude.{◌^◌, ◌-◌, All};
 ghost use Rattle.domain_trail.specs.Trails.{undo, sift, AreUnsettled};
 ghost use Rattle.domain_trail.specs.declared.Mark.{Mark};
+
+/// From which saved cell on those are looked for that were saved twice, where the marks from that at place `at` on go: from the
+/// first that wasn't looked at, or from `at` on where there are more than twice as many as variables.
+fn place_to_sift(saved: usize, vars: usize, at: usize, sifted: usize) -> usize
+    ensures { at ≤ result }
+{
+    if saved.saturating_sub(at) / 2 > vars {
+        at
+    } else {
+        sifted.max(at)
+    }
+}
+
+/// Forgets the saved cells from `from` on that were written at the stamp or later, unless it is the last one.
+fn forget_since(saved: &mut Vec<Saved>, from: usize, stamp: u64)
+    ensures last { 2 ^ 64 - 1 ≤ stamp → saved.new.items ≡ saved.old.items }
+    ensures sifted { stamp < 2 ^ 64 - 1 → saved.new.items ≡ sift from stamp saved.old.items }
+{
+    if stamp < u64::MAX {
+        forget(saved, from, stamp);
+    }
+}
 
 /// Forgets the saved cells from `from` on that were written at the stamp or later.
 fn forget(saved: &mut Vec<Saved>, from: usize, stamp: u64)

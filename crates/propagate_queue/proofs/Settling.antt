@@ -15,7 +15,7 @@ use Rattle.fd_model.specs.Activation.{activate}
 use Rattle.fd_model.specs.Laws.{ContainsDomains}
 use Rattle.fd_language.specs.Monotonicity.{IsMonotone}
 use Rattle.fd_language.proofs.Lemmas.{has-filter_back, identity}
-use Rattle.fd_model.proofs.Lemmas.{all_keep, closed_without, unread}
+use Rattle.fd_model.proofs.Lemmas.{all_keep, whole as closed_whole, unread}
 use Rattle.range_code.specs.Frames.{family_of}
 use Rattle.dependency_chains.specs.AgentReads.{AgentRead}
 use Rattle.dependency_chains.specs.Waking.{change_of, is_woken}
@@ -121,7 +121,7 @@ pub ended : (ps : List Indexical) (sets : List (List ℕ)) (flags : List Bool) �
 ended ps sets flags f r = record {
   family = r.family;
   domains = λ x n. (
-    (λ m. record { unifier = Var; general = identity; family = family_of sets; closed = closed_without INFINITY ps (family_of sets) r.family (all_rest ps sets (λ a d l. r.rest a d l (f a))); member = m }),
+    (λ m. record { unifier = Var; general = identity; family = family_of sets; closed = closed_whole INFINITY ps (family_of sets) r.family (all_rest ps sets (λ a d l. r.rest a d l (f a))); member = m }),
     (λ d. r.contains x n d),
   );
   closed = all_rest ps sets (λ a d l. r.rest a d l (f a));

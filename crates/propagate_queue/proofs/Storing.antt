@@ -23,7 +23,7 @@ use Rattle.fd_model.specs.Closed.{AllPosted}
 use Rattle.fd_model.specs.Domains.{Domains}
 use Rattle.fd_language.specs.Monotonicity.{IsMonotone}
 use Rattle.fd_language.proofs.Lemmas.{universe_rising, rising_inside, identity}
-use Rattle.fd_model.proofs.Lemmas.{closed_without}
+use Rattle.fd_model.proofs.Lemmas.{whole as closed_whole}
 use Rattle.range_code.specs.Frames.{family_of}
 use Rattle.dependency_chains.specs.AgentReads.{AgentRead, AgentReads}
 use Rattle.dependency_chains.specs.Waking.{wakes, is_woken}
@@ -42,7 +42,7 @@ pub no_domains : AreDomains [] []
 no_domains = record {
   family = everything;
   domains = λ x n. (
-    (λ m. record { unifier = Var; general = identity; family = family_of []; closed = closed_without INFINITY [] (family_of []) everything tt; member = m }),
+    (λ m. record { unifier = Var; general = identity; family = family_of []; closed = closed_whole INFINITY [] (family_of []) everything tt; member = m }),
     (λ d. (rising_inside INFINITY (d.family x) (d.closed.family.rising x)).each n d.member),
   );
   closed = tt;
@@ -344,7 +344,7 @@ domains_more ps sets d =
     let same : family_of sets ≡ family_of (sets ++ universe INFINITY ∷ []) = fun_ext (λ x. sym (one_more sets (universe INFINITY) x)) in
     record {
       family = subst (λ (S : Family). IsFamily INFINITY S) same d.family;
-      domains = subst (λ (S : Family). (x n : ℕ) → IsTrue (has (S x) n) ↔ Domains INFINITY [] ps x n) same d.domains;
+      domains = subst (λ (S : Family). (x n : ℕ) → IsTrue (has (S x) n) ↔ Domains INFINITY INFINITY [] ps x n) same d.domains;
       closed = subst (λ (S : Family). AllPosted (λ p. IsSubset (S p.target) (set_of INFINITY S p.range)) ps) same d.closed;
       some = subst (λ (S : Family). (x : ℕ) → is_none_left (S x) ≡ false) same d.some;
     }
@@ -370,8 +370,8 @@ with_var is flags agenda spare readings readings' trail trail' ms lost s e f =
     }))
 
 -- more is posted
-domains_fewer : (ps qs : List Indexical) (x n : ℕ) → Domains INFINITY [] (ps ++ qs) x n → Domains INFINITY [] ps x n
-domains_fewer ps qs x n d = record { unifier = Var; general = identity; family = d.family; closed = closed_without INFINITY ps d.family d.closed.family (front ps d.closed.posted); member = d.member } where
+domains_fewer : (ps qs : List Indexical) (x n : ℕ) → Domains INFINITY INFINITY [] (ps ++ qs) x n → Domains INFINITY INFINITY [] ps x n
+domains_fewer ps qs x n d = record { unifier = Var; general = identity; family = d.family; closed = closed_whole INFINITY ps d.family d.closed.family (front ps d.closed.posted); member = d.member } where
   front : (rs : List Indexical) → AllPosted (λ p. IsSubset (d.family p.target) (set_of INFINITY d.family p.range)) (rs ++ qs) → AllPosted (λ p. IsSubset (d.family p.target) (set_of INFINITY d.family p.range)) rs
   front [] h = tt
   front (p ∷ rs) h = (h.0, front rs h.1)

@@ -33,10 +33,10 @@ pub record IsRunning (ps : List Indexical) (sets : List (List ℕ)) (flags : Lis
 -- the family is the greatest one that is closed under what is posted, and no set is empty
 pub record AreDomains (ps : List Indexical) (sets : List (List ℕ)) : Type 0 where
   pub family : IsFamily INFINITY (family_of sets)
-  pub domains : (x n : ℕ) → IsTrue (has (family_of sets x) n) ↔ Domains INFINITY [] ps x n
+  pub domains : (x n : ℕ) → IsTrue (has (family_of sets x) n) ↔ Domains INFINITY INFINITY [] ps x n
   pub closed : AllPosted (IsAtRest sets) ps
   pub some : (x : ℕ) → is_none_left (family_of sets x) ≡ false
 
 -- what is posted leaves some variable no value
 abbrev pub HasNone : List Indexical → ℕ → Type 0
-HasNone ps count = (x : ℕ) × (x < count) × ((n : ℕ) → Domains INFINITY [] ps x n → ⊥)
+HasNone ps count = (x : ℕ) × (x < count) × ((n : ℕ) → Domains INFINITY INFINITY [] ps x n → ⊥)

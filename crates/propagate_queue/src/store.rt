@@ -176,12 +176,21 @@ impl<A: Agenda + Drop> Store<A> {
 
     /// What holds of the current level.
     pub fn known(&self)
+        ensures monotone { AllPosted (λ p. IsMonotone TOP p.range) self.now.current.posted }
         ensures kept { self.now.spent ≡ false → self.now.current.failed ≡ false
             → AreDomains self.now.current.posted self.now.current.sets }
         ensures failed { self.now.spent ≡ false → self.now.current.failed ≡ true
             → HasNone self.now.current.posted (length self.now.current.sets) }
     {
         let _ = &self.agents;
+    }
+
+    /// From now on every call that answers a Result answers `NoMemory`, as after want of memory of the store's own: for a caller whose
+    /// own memory was wanting before it gave the levels back.
+    pub fn give_up(&mut self)
+        ensures { self.new ≡ record self.old { spent = true } }
+    {
+        self.spent = true;
     }
 
     /// Puts an equal level below the current one, which hasn't failed. `NoMemory`: there is no room for the mark, or memory

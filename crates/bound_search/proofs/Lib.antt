@@ -1,0 +1,9 @@
+mod Numbers
+mod PostedValues
+mod Nodes
+mod Picking
+mod Values
+mod Steps
+mod Falling
+mod Walking
+mod FittingMembers

@@ -1,0 +1,5 @@
+pub mod Members
+pub mod Posting
+pub mod Searching
+pub mod Work
+pub mod Wants

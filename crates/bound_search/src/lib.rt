@@ -1,0 +1,62 @@
+//! The first best leaf of a labelling, by branch and bound over a store.
+#![tactic(auto)]
+
+ghost use Rattle.std.specs.Prelude.{◌≡◌, false, true, length, None, Some, IfOk, OnOk, OnErr, MatchOption};
+ghost use Rattle.fd_language.specs.declared.TheConstants.{INFINITY};
+ghost use Rattle.fd_model.specs.BestPosted.{IsCostOf, SoughtValues};
+ghost use Rattle.bound_search.specs.Members.{AreOwn, member_of, members_of};
+
+mod fitting;
+mod posting;
+mod search;
+mod so_far;
+
+pub use crate::fitting::may_search;
+use crate::search::{Aim, search};
+use fd_language::NoMemory;
+use fd_model::kinds::Order;
+use label_search::Member;
+use propagate_queue::{Agenda, Store};
+use range_code::Activations;
+use std::alloc::Global;
+
+/// The values of the list's variables, in order, in the first best leaf of its labelling: of the leaves in which the cost is least (or
+/// greatest, where `least` is false) the first in the order of the labelling. `None` comes exactly where there is no leaf. All levels of
+/// the store are then as before. After `NoMemory` the store answers `NoMemory` from then on.
+///
+/// The store hasn't failed. The members are integers and variables of the store, and the cost is an integer or one of them. `n` goes up
+/// by the activations that the search takes.
+///
+/// A node is dropped where the best value that its own domains leave to the cost is no better than the best cost so far. The bound isn't
+/// posted, since that would change what `FirstFail` picks. The search takes one mark and one small entry for each member that it has
+/// given a value; no list of values is made, and no domain is copied.
+pub fn best<A: Agenda + Drop>(
+    alloc: Global,
+    store: &mut Store<A>,
+    order: Order,
+    list: &[Member],
+    cost: Member,
+    least: bool,
+    n: &mut Activations,
+) -> Result<Option<Vec<u32>>, NoMemory>
+    requires level { store.old.current.failed ≡ false }
+    requires list { AreOwn (length store.old.current.sets) list.now }
+    requires cost { IsCostOf (members_of list.now) (member_of cost) }
+    ensures found { IfOk result (λ found. MatchOption found
+        (SoughtValues INFINITY order (members_of list.now) (member_of cost) least
+        store.old.current.posted None)
+        (λ values. SoughtValues INFINITY order (members_of list.now) (member_of cost) least
+        store.old.current.posted (Some values.items))) }
+    ensures levels { OnOk result (store.new ≡ store.old) }
+    ensures unspent { OnOk result (store.old.spent ≡ false) }
+    ensures spent { OnErr result (store.new.spent ≡ true) }
+{
+    let aim = Aim { order, cost, least };
+    match search(alloc, store, list, aim, n) {
+        Ok(found) => Ok(found),
+        Err(NoMemory) => {
+            store.give_up();
+            Err(NoMemory)
+        }
+    }
+}

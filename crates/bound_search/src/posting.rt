@@ -1,0 +1,58 @@
+//! What is posted for a value.
+
+ghost use Rattle.std.specs.Prelude.{◌≡◌, ◌<◌, [], true, false, length, IfOk, OnOk};
+ghost use Rattle.fd_language.specs.declared.TheConstants.{INFINITY};
+ghost use Rattle.fd_model.specs.PostedLeaves.{with_value};
+ghost use Rattle.fd_model.specs.Seen.{IsConsistent};
+ghost use Rattle.bound_search.specs.Posting.{exact_range};
+ghost use Rattle.bound_search.specs.Searching.{IsNode};
+
+use fd_language::{FlatRange, NoMemory, RangeNode};
+use monotone_check::Checked;
+use propagate_queue::{Agenda, Instance, Posted, Store};
+use range_code::{Activations, Arg, RangeCode, compile_range};
+use std::alloc::Global;
+use std::rc::Rc;
+
+/// The code of the range `P..P`, by which a variable gets an integer.
+pub(crate) fn exact_code(alloc: Global) -> Result<Rc<RangeCode>, NoMemory>
+    ensures { IfOk result (λ code. code.value ≡ exact_range) }
+{
+    let nodes = vec![in alloc; RangeNode::Param(0), RangeNode::Param(0), RangeNode::Span]?;
+    let range = FlatRange::from_nodes(nodes).unwrap();
+    let checked = Checked::from_accepted(range);
+    Ok(Rc::new(alloc, compile_range(alloc, &checked)?)?)
+}
+
+/// Posts that the variable has the value. Whether no domain is empty then.
+pub(crate) fn post_value<A: Agenda + Drop>(
+    alloc: Global,
+    exact: &Rc<RangeCode>,
+    store: &mut Store<A>,
+    variable: usize,
+    value: u32,
+    n: &mut Activations,
+) -> Result<bool, NoMemory>
+    requires exact { exact.now.value ≡ exact_range }
+    requires variable { variable < length store.old.current.sets }
+    ensures posted { OnOk result (store.new.current.posted
+        ≡ with_value store.old.current.posted variable value) }
+    ensures kept { IfOk result (λ kept. kept ≡ true
+        → IsNode (length store.old.current.sets) store.new.current) }
+    ensures failed { IfOk result (λ kept. kept ≡ false
+        → IsConsistent INFINITY INFINITY [] store.new.current.posted → ⊥) }
+    ensures below { store.new.below ≡ store.old.below }
+    ensures unspent { OnOk result (store.new.spent ≡ false) }
+{
+    let instance = Instance {
+        code: Rc::clone(exact)?,
+        target: variable,
+        args: vec![in alloc; Arg::Int(i64::from(value))]?,
+    };
+    let posted = store.post(vec![in alloc; instance]?, n)?;
+    store.known();
+    match posted {
+        Posted::Kept => Ok(true),
+        Posted::Failed => Ok(false),
+    }
+}
