@@ -53,9 +53,11 @@ mark_stored vs args ss trail marks k =
 
 -- one more variable
 module _ (vs : List Variable) (args : List Cell) (ss : List Structure) (trail : List Saved) (ms : List Mark) (v : Variable) (falls : Fall (lengths vs args ss trail) ms) where
+  pub var_at_mark : (m : Mark) → IsUpTo (lengths vs args ss trail) m → take m.variables (restored (drop m.trail trail) (vs ++ v ∷ [])) ≡ take m.variables (restored (drop m.trail trail) vs)
+  var_at_mark m u = restored-take m.variables (drop m.trail trail) (vs ++ v ∷ []) ∙ ap (restored (drop m.trail trail)) (take-append-le m.variables vs (v ∷ []) u.variables) ∙ sym (restored-take m.variables (drop m.trail trail) vs)
+
   var_marked : (m : Mark) → IsUpTo (lengths vs args ss trail) m → marked (vs ++ v ∷ []) args ss trail m ≡ marked vs args ss trail m
-  var_marked m u = ap (λ (l : List Variable). cells_of l args (take m.structures ss))
-      (restored-take m.variables (drop m.trail trail) (vs ++ v ∷ []) ∙ ap (restored (drop m.trail trail)) (take-append-le m.variables vs (v ∷ []) u.variables) ∙ sym (restored-take m.variables (drop m.trail trail) vs))
+  var_marked m u = ap (λ (l : List Variable). cells_of l args (take m.structures ss)) (var_at_mark m u)
 
   pub var_each : All (λ m. marked (vs ++ v ∷ []) args ss trail m ≡ marked vs args ss trail m) ms
   var_each = λ k d l. var_marked (get_or ms k d) (each_up_to (lengths vs args ss trail) ms falls k d l)
@@ -63,22 +65,22 @@ module _ (vs : List Variable) (args : List Cell) (ss : List Structure) (trail : 
   pub var_below : map (marked (vs ++ v ∷ []) args ss trail) ms ≡ map (marked vs args ss trail) ms
   var_below = map_same (λ m. marked (vs ++ v ∷ []) args ss trail m ≡ marked vs args ss trail m) (marked (vs ++ v ∷ []) args ss trail) (marked vs args ss trail) (λ m e. e) ms var_each
 
-pub var_now : (vs : List Variable) (args : List Cell) (ss : List Structure) → cells_of (vs ++ variable.Open ∷ []) args ss ≡ with_new_slot (cells_of vs args ss)
-var_now vs args ss = ap (λ (l : List Slot). let h : Cells = record { slots = l; compounds = map (compound_of args) ss } in h) (map-append slot_of vs (variable.Open ∷ []))
+pub var_now : (vs : List Variable) (args : List Cell) (ss : List Structure) → cells_of (vs ++ variable.Loose ∷ []) args ss ≡ with_new_slot (cells_of vs args ss)
+var_now vs args ss = ap (λ (l : List Slot). let h : Cells = record { slots = l; compounds = map (compound_of args) ss } in h) (map-append slot_of vs (variable.Loose ∷ []))
 
 pub var_view : (vs : List Variable) (args : List Cell) (ss : List Structure) (trail : List Saved) (marks : List Mark) → AreStored vs args ss trail marks
-    → heaps_of (vs ++ variable.Open ∷ []) args ss trail marks ≡ record (heaps_of vs args ss trail marks) { now = with_new_slot (cells_of vs args ss) }
+    → heaps_of (vs ++ variable.Loose ∷ []) args ss trail marks ≡ record (heaps_of vs args ss trail marks) { now = with_new_slot (cells_of vs args ss) }
 var_view vs args ss trail marks k =
-    ap (λ (h : Cells). let r : Heaps = record { now = h; below = map (marked (vs ++ variable.Open ∷ []) args ss trail) (reverse marks) } in r) (var_now vs args ss)
-    ∙ ap (λ (l : List Cells). let r : Heaps = record { now = with_new_slot (cells_of vs args ss); below = l } in r) (var_below vs args ss trail (reverse marks) variable.Open k.falls)
+    ap (λ (h : Cells). let r : Heaps = record { now = h; below = map (marked (vs ++ variable.Loose ∷ []) args ss trail) (reverse marks) } in r) (var_now vs args ss)
+    ∙ ap (λ (l : List Cells). let r : Heaps = record { now = with_new_slot (cells_of vs args ss); below = l } in r) (var_below vs args ss trail (reverse marks) variable.Loose k.falls)
 
-pub var_stored : (vs : List Variable) (args : List Cell) (ss : List Structure) (trail : List Saved) (marks : List Mark) → AreStored vs args ss trail marks → IsHeap (with_new_slot (cells_of vs args ss)) → AreStored (vs ++ variable.Open ∷ []) args ss trail marks
+pub var_stored : (vs : List Variable) (args : List Cell) (ss : List Structure) (trail : List Saved) (marks : List Mark) → AreStored vs args ss trail marks → IsHeap (with_new_slot (cells_of vs args ss)) → AreStored (vs ++ variable.Loose ∷ []) args ss trail marks
 var_stored vs args ss trail marks k v = record {
   now = subst IsHeap (sym (var_now vs args ss)) v;
-  below = λ n d l. subst IsHeap (sym (var_each vs args ss trail (reverse marks) variable.Open k.falls n d l)) (k.below n d l);
+  below = λ n d l. subst IsHeap (sym (var_each vs args ss trail (reverse marks) variable.Loose k.falls n d l)) (k.below n d l);
   held = k.held;
   held_below = k.held_below;
-  falls = fall_more (lengths (vs ++ variable.Open ∷ []) args ss trail) (lengths vs args ss trail) (reverse marks) (record { variables = omega (arith, length-append vs (variable.Open ∷ [])); args = omega arith; structures = omega arith; trail = omega arith }) k.falls;
+  falls = fall_more (lengths (vs ++ variable.Loose ∷ []) args ss trail) (lengths vs args ss trail) (reverse marks) (record { variables = omega (arith, length-append vs (variable.Loose ∷ [])); args = omega arith; structures = omega arith; trail = omega arith }) k.falls;
 }
 
 -- more arguments

@@ -11,6 +11,8 @@ mod Growing
 mod Levels
 mod Adding
 mod Undoing
+mod Loose
+mod Sound
 mod Atoms
 mod SeenTerms
 pub mod Lemmas

@@ -42,13 +42,14 @@ stays_put h (cell.Atom a) n = refl
 stays_put h (cell.Struct j) n = refl
 
 -- a slot that isn't open isn't free
-pub not_free : (v : Variable) → (v ≡ variable.Open → ⊥) → slot_of v ≡ free → ⊥
-not_free variable.Open n e = n refl
-not_free (variable.Constrained k) n e = cc
-not_free (variable.Ref i) n e = cc
-not_free (variable.Int z) n e = cc
-not_free (variable.Atom a) n e = cc
-not_free (variable.Struct j) n e = cc
+pub not_free : (v : Variable) → (v ≡ variable.Open → ⊥) → (v ≡ variable.Loose → ⊥) → slot_of v ≡ free → ⊥
+not_free variable.Open n m e = n refl
+not_free variable.Loose n m e = m refl
+not_free (variable.Constrained k) n m e = cc
+not_free (variable.Ref i) n m e = cc
+not_free (variable.Int z) n m e = cc
+not_free (variable.Atom a) n m e = cc
+not_free (variable.Struct j) n m e = cc
 
 -- cells of variables are told apart by their numbers
 pub number_of : (i j : ℕ) → cell.Ref i ≡ cell.Ref j → i ≡ j

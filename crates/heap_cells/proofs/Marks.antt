@@ -79,8 +79,11 @@ module _ (vs : List Variable) (args : List Cell) (ss : List Structure) (trail : 
   older true e m t v = marked_saved m t
   older false e m t v = marked_younger m (let l : newest ms ≤ i = grind (arith, nat_tests) in omega arith)
 
+  pub at_mark_same : (m : Mark) → m.trail ≤ length trail → m.variables ≤ newest ms → take m.variables (restored (drop m.trail (trailed ms trail (saved_at vs i))) (set vs i to)) ≡ take m.variables (restored (drop m.trail trail) vs)
+  at_mark_same m t v = older (nat_lt i (newest ms)) refl m t v
+
   pub marked_same : (m : Mark) → m.trail ≤ length trail → m.variables ≤ newest ms → marked (set vs i to) args ss (trailed ms trail (saved_at vs i)) m ≡ marked vs args ss trail m
-  marked_same m t v = ap (λ (l : List Variable). cells_of l args (take m.structures ss)) (older (nat_lt i (newest ms)) refl m t v)
+  marked_same m t v = ap (λ (l : List Variable). cells_of l args (take m.structures ss)) (at_mark_same m t v)
 
   pub each_same : All (λ m. marked (set vs i to) args ss (trailed ms trail (saved_at vs i)) m ≡ marked vs args ss trail m) ms
   each_same = λ k d l. marked_same (get_or ms k d) (each_up_to (lengths vs args ss trail) ms falls k d l).trail (below_newest (lengths vs args ss trail) ms falls k d l)

@@ -76,7 +76,7 @@ module _ (vs : List Variable) (args : List Cell) (ss : List Structure) (trail : 
   pub now_undone : cells_of vs' args' ss' ≡ marked vs args ss trail m
   now_undone = ap (λ (l : List Compound). let h : Cells = record { slots = map slot_of vs'; compounds = l } in h) (fewer_args ss' held)
 
-  vars_undone : (k : Mark) → IsUpTo m k → take k.variables (restored (drop k.trail trail') vs') ≡ take k.variables (restored (drop k.trail trail) vs)
+  pub vars_undone : (k : Mark) → IsUpTo m k → take k.variables (restored (drop k.trail trail') vs') ≡ take k.variables (restored (drop k.trail trail) vs)
   vars_undone k u =
       let a = drop k.trail trail' in
       let b = drop m.trail trail in
@@ -85,7 +85,7 @@ module _ (vs : List Variable) (args : List Cell) (ss : List Structure) (trail : 
       ∙ sym (restored-take k.variables a (restored b vs))
       ∙ ap (take k.variables) (sym (restored-append a b vs) ∙ ap (λ es. restored es vs) (drop_rest k.trail m.trail trail u.trail))
 
-  mark_undone : (k : Mark) → IsUpTo m k → All (HasArgs k.args) (take k.structures ss) → marked vs' args' ss' trail' k ≡ marked vs args ss trail k
+  pub mark_undone : (k : Mark) → IsUpTo m k → All (HasArgs k.args) (take k.structures ss) → marked vs' args' ss' trail' k ≡ marked vs args ss trail k
   mark_undone k u h =
       ap (λ (l : List Variable). cells_of l args' (take k.structures ss')) (vars_undone k u)
       ∙ ap (cells_of (take k.variables (restored (drop k.trail trail) vs)) args') (take-take k.structures m.structures ss u.structures)
@@ -117,13 +117,13 @@ module _ (vs : List Variable) (args : List Cell) (ss : List Structure) (trail : 
 
 -- the same of all fields: marks are front and then m
 module _ (vs : List Variable) (args : List Cell) (ss : List Structure) (trail : List Saved) (marks front : List Mark) (m : Mark) (marks_are : marks ≡ front ++ m ∷ []) (k : AreStored vs args ss trail marks) where
-  order : reverse marks ≡ m ∷ reverse front
+  pub order : reverse marks ≡ m ∷ reverse front
   order = ap reverse marks_are ∙ reverse-append front (m ∷ [])
 
-  all_falls : Fall (lengths vs args ss trail) (m ∷ reverse front)
+  pub all_falls : Fall (lengths vs args ss trail) (m ∷ reverse front)
   all_falls = subst (Fall (lengths vs args ss trail)) order k.falls
 
-  all_held : All (λ (n : Mark). All (HasArgs n.args) (take n.structures ss)) (m ∷ reverse front)
+  pub all_held : All (λ (n : Mark). All (HasArgs n.args) (take n.structures ss)) (m ∷ reverse front)
   all_held = subst (All (λ (n : Mark). All (HasArgs n.args) (take n.structures ss))) order k.held_below
 
   all_valid : All (λ n. IsHeap (marked vs args ss trail n)) (m ∷ reverse front)

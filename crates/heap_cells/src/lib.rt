@@ -11,7 +11,7 @@ ghost use Rattle.heap_cells.specs.declared.Seen.TheVariants as seen;
 ghost use Rattle.heap_cells.specs.Cells.{Cells, free, linked, bound, is_bound, no_cells, slot_at, IsOf, with_slot, with_new_slot, with_now, with_mark, AddsCompound};
 ghost use Rattle.heap_cells.specs.Terms.{KeepsTerms, Same, IsAbsent, Replaces};
 ghost use Rattle.heap_cells.specs.Valid.{IsHeap};
-ghost use Rattle.heap_cells.specs.HeapFields.{slot_of, trailed, saved_at, restored};
+ghost use Rattle.heap_cells.specs.HeapFields.{slot_of, trailed, saved_at, restored, held, held_all};
 ghost use Rattle.heap_cells.specs.SeenCells.{IsSeen, IsTop, IsRoot, IsNeverOpen, IsBoundToVariable, one_step, integer_in};
 
 use fd_language::NoMemory;
@@ -47,6 +47,8 @@ pub enum Seen<'h> {
 #[derive(Clone, Copy)]
 enum Variable {
     Open,
+    /// Open, no argument of a compound term, and no variable is bound to it.
+    Loose,
     Constrained(usize),
     Ref(usize),
     Int(i64),
@@ -93,12 +95,12 @@ impl Model for Heap {
 
     ghost Value = { Heaps };
 
-    ghost use Rattle.heap_cells.specs.HeapFields.{heaps_of, AreStored};
+    ghost use Rattle.heap_cells.specs.HeapFields.{heaps_of, AreSound};
 
     ghost view = { λ h. heaps_of h.variables.items h.args.items h.structures.items h.trail.items
         h.marks.items };
 
-    ghost invariant = { λ h. AreStored h.variables.items h.args.items h.structures.items
+    ghost invariant = { λ h. AreSound h.variables.items h.args.items h.structures.items
         h.trail.items h.marks.items };
 }
 
@@ -121,7 +123,7 @@ fn binding_of(v: Variable) -> Option<Cell>
     ensures { MatchOption result (is_bound (slot_of v) ≡ false) (λ c. slot_of v ≡ bound c) }
 {
     match v {
-        Variable::Open | Variable::Constrained(_) => None,
+        Variable::Open | Variable::Loose | Variable::Constrained(_) => None,
         Variable::Ref(i) => Some(Cell::Ref(i)),
         Variable::Int(z) => Some(Cell::Int(z)),
         Variable::Atom(a) => Some(Cell::Atom(a)),
@@ -177,6 +179,30 @@ fn change(
     }
     variables[at] = to;
     Ok(())
+}
+
+/// A cell becomes an argument, or a variable is bound to it: where it is a loose variable, it is loose no more.
+#[inline(always)]
+fn hold(variables: &mut Vec<Variable>, c: Cell)
+    ensures { variables.new.items ≡ held variables.old.items c }
+{
+    if let Cell::Ref(i) = c {
+        if i < variables.len() {
+            if let Variable::Loose = variables[i] {
+                variables[i] = Variable::Open;
+            }
+        }
+    }
+}
+
+/// The same of each of the cells.
+#[inline(always)]
+fn hold_all(variables: &mut Vec<Variable>, cells: &[Cell])
+    ensures { variables.new.items ≡ held_all variables.old.items cells.now }
+{
+    for c in cells {
+        hold(variables, *c);
+    }
 }
 
 /// Makes room for so many more behind a list. The error is want of memory.
@@ -331,11 +357,22 @@ impl Heap {
     {
         match self.root(c) {
             Cell::Ref(i) => match self.variables[i] {
-                Variable::Open => Some(i),
+                Variable::Open | Variable::Loose => Some(i),
                 _ => None,
             },
             _ => None,
         }
+    }
+
+    /// Whether a variable is known to be in no compound term, so that no look is needed for where it occurs. `false` may come at others too.
+    /// No memory.
+    #[inline(always)]
+    pub fn is_loose(&self, var: usize) -> bool
+        requires { var < length self.now.now.slots }
+        ensures absent { IsTrue result → (j : ℕ) → IsAbsent self.now.now var (cell.Struct j) }
+        ensures valid { IsHeap self.now.now }
+    {
+        matches!(&self.variables[var], Variable::Loose)
     }
 
     /// What a cell of this heap comes to. No memory.
@@ -370,7 +407,7 @@ impl Heap {
         ensures valid { IsHeap self.new.now }
     {
         let i = self.variables.len();
-        append(&mut self.variables, Variable::Open)?;
+        append(&mut self.variables, Variable::Loose)?;
         Ok(Cell::Ref(i))
     }
 
@@ -393,6 +430,7 @@ impl Heap {
             count: args.len(),
         };
         append(&mut self.structures, structure)?;
+        hold_all(&mut self.variables, args);
         Ok(Cell::Struct(j))
     }
 
@@ -416,7 +454,9 @@ impl Heap {
             &self.marks,
             var,
             bound_to(to),
-        )
+        )?;
+        hold(&mut self.variables, to);
+        Ok(())
     }
 
     /// Makes an open variable one of the store. The error is want of memory, and the heap is then as before.

@@ -137,6 +137,19 @@ fn occurs_in(heap: &Heap, alloc: Global, var: usize, top: usize) -> Result<bool,
     }
 }
 
+/// The same, without a look where the variable is known to be in no compound term. The error is want of memory.
+#[inline]
+fn is_inside(heap: &Heap, alloc: Global, var: usize, top: usize) -> Result<bool, NoMemory>
+    requires there { var < length heap.now.now.slots }
+    requires own { IsOf heap.now.now (cell.Struct top) }
+    ensures { IfOk result (TellsOccurs heap.now.now var (cell.Struct top)) }
+{
+    if heap.is_loose(var) {
+        return Ok(false);
+    }
+    occurs_in(heap, alloc, var, top)
+}
+
 /// Whether the end of a cell's bindings is a constant, or a variable other than this one.
 #[inline(always)]
 fn is_other(var: usize, root: Cell) -> bool
@@ -179,9 +192,21 @@ pub fn are_others(heap: &Heap, var: usize, cells: &[Cell]) -> bool
     true
 }
 
+/// Whether a root is a compound term, and a variable is known to be in none.
+#[inline(always)]
+fn is_beyond(heap: &Heap, var: usize, root: Cell) -> bool
+    requires { var < length heap.now.now.slots }
+    ensures { IsTrue result → IsAbsent heap.now.now var root }
+{
+    match root {
+        Cell::Struct(_) => heap.is_loose(var),
+        _ => false,
+    }
+}
+
 /// Whether a look at a cell and at its arguments shows that a variable doesn't occur in it.
 #[inline(always)]
-fn is_apart(heap: &Heap, var: usize, root: Cell) -> bool
+fn is_soon_apart(heap: &Heap, var: usize, root: Cell) -> bool
     requires own { IsOf heap.now.now root }
     requires root { IsRoot heap.now.now root }
     ensures { IsTrue result → IsAbsent heap.now.now var root }
@@ -190,6 +215,17 @@ fn is_apart(heap: &Heap, var: usize, root: Cell) -> bool
         Seen::Struct(_, args) => are_others(heap, var, args),
         _ => is_other(var, root),
     }
+}
+
+/// Whether few looks show that a variable doesn't occur in a cell.
+#[inline(always)]
+fn is_apart(heap: &Heap, var: usize, root: Cell) -> bool
+    requires there { var < length heap.now.now.slots }
+    requires own { IsOf heap.now.now root }
+    requires root { IsRoot heap.now.now root }
+    ensures { IsTrue result → IsAbsent heap.now.now var root }
+{
+    is_beyond(heap, var, root) || is_soon_apart(heap, var, root)
 }
 
 /// Binds an open variable to another root, unless it occurs there. The error is want of memory.
@@ -206,7 +242,7 @@ fn bind_open(heap: &mut Heap, alloc: Global, var: usize, to: Cell) -> Result<boo
     ensures below { heap.new.below ≡ heap.old.below }
 {
     if let Cell::Struct(j) = to {
-        if occurs_in(heap, alloc, var, j)? {
+        if is_inside(heap, alloc, var, j)? {
             return Ok(false);
         }
     }

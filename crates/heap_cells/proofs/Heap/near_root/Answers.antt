@@ -16,7 +16,7 @@ returns-in_default c = record {
   own = c.requires;
   near = stays_put c.args.self.now.now c.args.c c.in_default.not-Ref;
   none = (λ e. absurd (let f : ⊥ = cc in f), λ w. absurd (c.in_default.not-Ref w.0 w.2));
-  valid = valid_now c.self.inside c.args.self.now c.self.view_is c.self.invariant;
+  valid = valid_now c.self.inside c.args.self.now c.self.view_is c.self.invariant.stored;
 }
 
 pub returns-in-Some-clause-root : goal.returns-in-Some-clause-root
@@ -30,14 +30,14 @@ pub returns-in-Some-clause-same : goal.returns-in-Some-clause-same
 returns-in-Some-clause-same c = go c.no_variable.result (c.no_variable.ensures.root c.args.self.now.now)
   where
     go : (o : Option Cell) → IfSome o (λ r. (r ≡ c.in-Some.next) × IsRoot c.args.self.now.now r) → IfSome o (Same c.args.self.now.now c.args.c)
-    go (Some r) k = one_binding c.self.inside c.args.self.now c.self.view_is c.self.invariant c.args.c c.in-Ref.i c.index.result.now r c.in-Ref.is c.requires c.index.ensures (c.in-Some.ensures ∙ ap bound (sym k.0))
+    go (Some r) k = one_binding c.self.inside c.args.self.now c.self.view_is c.self.invariant.stored c.args.c c.in-Ref.i c.index.result.now r c.in-Ref.is c.requires c.index.ensures (c.in-Some.ensures ∙ ap bound (sym k.0))
     go None k = tt
 
 pub returns-in-Some-clause-own : goal.returns-in-Some-clause-own
 returns-in-Some-clause-own c = go c.no_variable.result (c.no_variable.ensures.root c.args.self.now.now)
   where
     go : (o : Option Cell) → IfSome o (λ r. (r ≡ c.in-Some.next) × IsRoot c.args.self.now.now r) → IfSome o (IsOf c.args.self.now.now)
-    go (Some r) k = (valid_now c.self.inside c.args.self.now c.self.view_is c.self.invariant).slots c.in-Ref.i r (binding_at c.self.inside c.args.self.now c.self.view_is c.args.c c.in-Ref.i c.index.result.now c.in-Some.next c.in-Ref.is c.requires c.index.ensures c.in-Some.ensures ∙ ap bound (sym k.0))
+    go (Some r) k = (valid_now c.self.inside c.args.self.now c.self.view_is c.self.invariant.stored).slots c.in-Ref.i r (binding_at c.self.inside c.args.self.now c.self.view_is c.args.c c.in-Ref.i c.index.result.now c.in-Some.next c.in-Ref.is c.requires c.index.ensures c.in-Some.ensures ∙ ap bound (sym k.0))
     go None k = tt
 
 pub returns-in-Some-clause-near : goal.returns-in-Some-clause-near
@@ -63,7 +63,7 @@ returns-in-None c = record {
   own = own;
   near = sym (ap (one_step c.args.self.now.now) c.in-Ref.is ∙ unbound_step c.args.self.now.now c.in-Ref.i open_here);
   none = (λ e. absurd (let f : ⊥ = cc in f), λ w. absurd (unbound_here c.args.self.now.now c.args.c c.in-Ref.i c.in-Ref.is open_here w.0 w.1 w.2 w.3));
-  valid = valid_now c.self.inside c.args.self.now c.self.view_is c.self.invariant;
+  valid = valid_now c.self.inside c.args.self.now c.self.view_is c.self.invariant.stored;
 }
   where
     own : c.in-Ref.i < length c.args.self.now.now.slots

@@ -14,7 +14,7 @@ returns-in_default-index c =
     let e : slot_at h.now c.in-Ref.i ≡ slot_of c.index.result.now = slot_is c.self.inside h c.self.view_is c.in-Ref.i c.index.result.now c.index.result.now (omega (arith, r.own)) c.index.ensures in
     record {
       «open» = tt;
-      none = λ _. never_open h.now r.valid c.args.c (cell.Ref c.in-Ref.i) r.same r.root (λ i is empty. not_free c.index.result.now c.in_default-index.not-Open (sym e ∙ ap (slot_at h.now) (number_of c.in-Ref.i i is) ∙ empty));
+      none = λ _. never_open h.now r.valid c.args.c (cell.Ref c.in-Ref.i) r.same r.root (λ i is empty. not_free c.index.result.now c.in_default-index.not-Open c.in_default-index.not-Loose (sym e ∙ ap (slot_at h.now) (number_of c.in-Ref.i i is) ∙ empty));
       valid = r.valid;
     }
 

@@ -1,5 +1,5 @@
 use Rattle.unify_core.proofs.Occurring.{args_absent, root_other}
-use Rattle.unify_core.proofs.is_apart.Goals as goal
+use Rattle.unify_core.proofs.is_soon_apart.Goals as goal
 
 pub returns-in-Struct : goal.returns-in-Struct
 returns-in-Struct c = λ t.
