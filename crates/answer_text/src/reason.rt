@@ -44,10 +44,8 @@ pub enum Reason {
     ArityOver255,
     /// The name of a goal is neither built in nor that of a head.
     Unknown { name: AtomId, arity: usize },
-    /// A head has the name of a control or built-in form, or of one that the language doesn't have yet.
+    /// A head has the name of a control or built-in form.
     Redefines { name: AtomId, arity: usize },
-    /// A form that the language doesn't have yet.
-    NotYet { name: AtomId, arity: usize },
     /// The term on the right of `in` spells no range.
     NotARange,
     /// The range can grow when domains shrink.
@@ -81,7 +79,6 @@ fn reason_name(reason: &Reason) -> &'static str
         Reason::ArityOver255 => "arity over 255",
         Reason::Unknown { .. } => "unknown ",
         Reason::Redefines { .. } => "redefines ",
-        Reason::NotYet { .. } => "not yet ",
         Reason::NotARange => "not a range",
         Reason::NotMonotone => "not monotone",
         Reason::NotNatural => "not natural",
@@ -119,10 +116,7 @@ pub(crate) fn put_reason(
     ensures { OnOk result (text.new.items ≡ text.old.items ++ reason_text pool.now reason.now) }
 {
     text.extend_from_slice(reason_name(reason).as_bytes())?;
-    if let Reason::Unknown { name, arity }
-    | Reason::Redefines { name, arity }
-    | Reason::NotYet { name, arity } = reason
-    {
+    if let Reason::Unknown { name, arity } | Reason::Redefines { name, arity } = reason {
         put_functor(alloc, text, pool, *name, *arity)?;
     }
     Ok(())

@@ -52,7 +52,7 @@ same_query n m as' bs xs ys gs hs d e f g =
     ∙ ap (λ (l : List ℕ). let q : model.Query = record { variables = m; names = bs; shown = l; goals = gs } in q) f
     ∙ ap (λ (l : List model.Goal). let q : model.Query = record { variables = m; names = bs; shown = ys; goals = l } in q) g
 
-module _ (s : Sentences) (old new : Parts) (x : Sentence) (grown : IsGrown old.store new.store) (store : IsStore s.pool new.store) where
+module _ (N : ℕ) (s : Sentences) (old new : Parts) (x : Sentence) (grown : IsGrown old.store new.store) (store : IsStore s.pool new.store) where
   abbrev c : Contents
   c = s.pool
 
@@ -69,10 +69,10 @@ module _ (s : Sentences) (old new : Parts) (x : Sentence) (grown : IsGrown old.s
   counted n e = e ∙ sym (length-map x.names.items (atom_name c))
 
   -- of a clause with this head, whose goals are these
-  clause_added : (form : refusals.Form) (h : TermId) (k : FlatClause) (body : List model.Goal) → clause_refusal INFINITY (terms_of s) (placed_of c x.term) form ≡ None → head_refusal (placed_of c h) ≡ None
+  clause_added : (form : refusals.Form) (h : TermId) (k : FlatClause) (body : List model.Goal) → clause_refusal INFINITY N (terms_of s) (placed_of c x.term) form ≡ None → head_refusal (placed_of c h) ≡ None
       → h.number < length c.entries → k.head ≡ h → k.variables ≡ length x.names.items → IsPart size k.body → part_of trees k.body ≡ body
-      → clauses_by names form [] ≡ clause_of names (placed_of c h) body ∷ [] → queries_by names form [] ≡ []
-      → new.clauses.items ≡ old.clauses.items ++ k ∷ [] → new.queries.items ≡ old.queries.items → AddsForm s old new names (placed_of c x.term) form
+      → clauses_by N names form [] ≡ clause_of names (placed_of c h) body ∷ [] → queries_by N names form [] ≡ []
+      → new.clauses.items ≡ old.clauses.items ++ k ∷ [] → new.queries.items ≡ old.queries.items → AddsForm N s old new names (placed_of c x.term) form
   clause_added form h k body a n l head count part goals clauses queries added same =
       let mine : IsClause c size k = record { head = subst (λ (t : TermId). t.number < length c.entries) (sym head) l; named = subst (λ (t : TermId). IsNamed (term_of c t)) (sym head) (head_named c h n); body = part } in
       record {
@@ -92,17 +92,17 @@ module _ (s : Sentences) (old new : Parts) (x : Sentence) (grown : IsGrown old.s
       }
 
   pub fact_added : (h : TermId) (k : FlatClause) → head_refusal (placed_of c h) ≡ None → h.number < length c.entries → k.head ≡ h → k.variables ≡ length x.names.items → IsPart size k.body → part_of trees k.body ≡ []
-      → new.clauses.items ≡ old.clauses.items ++ k ∷ [] → new.queries.items ≡ old.queries.items → AddsForm s old new names (placed_of c x.term) (refusals.fact (placed_of c h))
+      → new.clauses.items ≡ old.clauses.items ++ k ∷ [] → new.queries.items ≡ old.queries.items → AddsForm N s old new names (placed_of c x.term) (refusals.fact (placed_of c h))
   fact_added h k n l head count part goals added same = clause_added (refusals.fact (placed_of c h)) h k [] n n l head count part goals refl refl added same
 
-  pub rule_added : (h b : TermId) (k : FlatClause) → head_refusal (placed_of c h) ≡ None → h.number < length c.entries → k.head ≡ h → k.variables ≡ length x.names.items → IsRead s old.store new.store (placed_of c b) k.body
-      → new.clauses.items ≡ old.clauses.items ++ k ∷ [] → new.queries.items ≡ old.queries.items → AddsForm s old new names (placed_of c x.term) (refusals.clause (placed_of c h) (placed_of c b))
+  pub rule_added : (h b : TermId) (k : FlatClause) → head_refusal (placed_of c h) ≡ None → h.number < length c.entries → k.head ≡ h → k.variables ≡ length x.names.items → IsRead N s old.store new.store (placed_of c b) k.body
+      → new.clauses.items ≡ old.clauses.items ++ k ∷ [] → new.queries.items ≡ old.queries.items → AddsForm N s old new names (placed_of c x.term) (refusals.clause (placed_of c h) (placed_of c b))
   rule_added h b k n l head count read added same =
-      clause_added (refusals.clause (placed_of c h) (placed_of c b)) h k (body_of (placed_of c b))
-      (ap (λ (o : Option refusals.Refusal). or_later o (goals_refusal INFINITY (terms_of s) (goals_of (placed_of c b)))) n ∙ read.accepted) n l head count read.part read.goals refl refl added same
+      clause_added (refusals.clause (placed_of c h) (placed_of c b)) h k (body_of N (placed_of c b))
+      (ap (λ (o : Option refusals.Refusal). or_later o (goals_refusal INFINITY N (terms_of s) (goals_of (placed_of c b)))) n ∙ read.accepted) n l head count read.part read.goals refl refl added same
 
-  pub query_added : (b : TermId) (q : QueryParts) → AreShown c x.names.items q.names.items q.shown.items → q.variables ≡ length x.names.items → IsRead s old.store new.store (placed_of c b) q.goals
-      → new.clauses.items ≡ old.clauses.items → new.queries.items ≡ old.queries.items ++ q ∷ [] → AddsForm s old new names (placed_of c x.term) (refusals.query (placed_of c b))
+  pub query_added : (b : TermId) (q : QueryParts) → AreShown c x.names.items q.names.items q.shown.items → q.variables ≡ length x.names.items → IsRead N s old.store new.store (placed_of c b) q.goals
+      → new.clauses.items ≡ old.clauses.items → new.queries.items ≡ old.queries.items ++ q ∷ [] → AddsForm N s old new names (placed_of c x.term) (refusals.query (placed_of c b))
   query_added b q shown count read same added = record {
     accepted = read.accepted;
     grown = grown;
@@ -115,6 +115,6 @@ module _ (s : Sentences) (old new : Parts) (x : Sentence) (grown : IsGrown old.s
     queries = All-cons (IsQueryWithin c size) (query_kept q) [] (record { names = shown.within; goals = read.part }) (All-nil (IsQueryWithin c size));
     clauses_are = refl;
     queries_are = ap (λ (y : model.Query). y ∷ [])
-        (same_query q.variables (length names) (map (atom_name c) q.names.items) (filter is_shown names) q.shown.items (shown_from 0 names) (part_of trees q.goals) (body_of (placed_of c b))
+        (same_query q.variables (length names) (map (atom_name c) q.names.items) (filter is_shown names) q.shown.items (shown_from 0 names) (part_of trees q.goals) (body_of N (placed_of c b))
         (counted q.variables count) shown.names_are shown.numbers_are read.goals);
   }

@@ -1,11 +1,11 @@
 -- The goals of a program by their numbers.
-use Rattle.std.proofs.Common.{◌≡◌, ℕ, suc, ◌+◌, ◌<◌, ◌≤◌, ◌-◌, ◌⊎◌, inl, inr, List, [], ◌∷◌, ◌++◌, length, map, take, drop, refl, sym, ap, ◌∙◌, subst, arith, get_or, length-append, append-nil}
+use Rattle.std.proofs.Common.{◌≡◌, ℕ, suc, ◌+◌, ◌<◌, ◌≤◌, ◌-◌, ◌⊎◌, inl, inr, List, [], ◌∷◌, ◌++◌, length, map, take, drop, refl, sym, ap, ◌∙◌, subst, arith, get_or, length-append, append-nil, Option, Some, None}
 use Rattle.std.specs.Prelude.{All}
 use Rattle.std.specs.List.{AllByRecursion}
 use Rattle.std.proofs.lemmas.Bool.{cases_lt}
 use Rattle.std.proofs.lemmas.List.Elements.{All-weaker, All-from_get_or, recursion_from_All}
 use Rattle.fd_language.proofs.Lemmas.{two}
-use Rattle.std.proofs.lemmas.List.{length-take-le, drop_all, drop-take, drop-drop, take-take, take-append-drop, get_or-take, append_assoc, get_or_append_left, take-append-le, length-take}
+use Rattle.std.proofs.lemmas.List.{ext_get_or, get_or-map, length-map, take-map, drop-map, length-take-le, drop_all, drop-take, drop-drop, take-take, take-append-drop, get_or-take, append_assoc, get_or_append_left, take-append-le, length-take}
 use Rattle.std.proofs.Math.Seq.{get_or-append_seam, get_or-append_right, drop-cons}
 use Rattle.fd_language.specs.Range.{Range}
 use Rattle.fd_language.specs.Spelling.{empty_range}
@@ -15,8 +15,8 @@ use Rattle.term_pool.specs.Contents.{Contents}
 use Rattle.term_pool.specs.Terms.{term_of}
 use Rattle.clause_check.specs.declared.program.Part.{Part}
 use Rattle.clause_check.specs.declared.program.FlatGoal.{FlatGoal}
-use Rattle.clause_check.specs.declared.program.FlatGoal.TheVariants.{True, Fail, Unify, Post, Constrain, Label, Call, Either, Builtin}
-use Rattle.clause_check.specs.Programs.{FlatProgram, unlisted, between, part_of, tree_of, trees_from, trees, goal_tree, goals_between, goal_in, goal_at, IsGoal, AreGoals, IsPart, IsProgram}
+use Rattle.clause_check.specs.declared.program.FlatGoal.TheVariants.{True, Fail, Unify, Post, Constrain, Label, Call, Either, Builtin, Cut, If, Not, Best}
+use Rattle.clause_check.specs.Programs.{FlatProgram, unlisted, between, part_of, tree_of, trees_from, trees, goal_tree, goals_between, goal_in, goal_at, IsGoal, AreGoals, IsPart, IsOtherPart, IsProgram}
 
 -- A list made goals is that list again.
 pub listed_unlisted : (gs : List model.Goal) → listed (unlisted gs) ≡ gs
@@ -51,6 +51,9 @@ part_split goals i k j l u =
 pub part_more : (goals more : List model.Goal) (i j : ℕ) → j ≤ length goals → between (goals ++ more) i j ≡ between goals i j
 part_more goals more i j u = ap (drop i) (take-append-le j goals more u)
 
+same_part : (goals more : List model.Goal) (n : ℕ) (a : Part) → IsPart n a → n ≤ length goals → unlisted (part_of (goals ++ more) a) ≡ unlisted (part_of goals a)
+same_part goals more n a h l = let u = h.within in ap unlisted (part_more goals more a.from a.to (omega (arith, u, l)))
+
 -- ---- trees
 
 module _ (c : Contents) where
@@ -67,6 +70,13 @@ module _ (c : Contents) where
       let second = part_more goals more b.from b.to (let u = h.1.within in omega (arith, u, l)) in
       ap (λ (gs : List model.Goal). model.Either (unlisted gs) (unlisted (part_of (goals ++ more) b))) first ∙ ap (λ (gs : List model.Goal). model.Either (unlisted (part_of goals a)) (unlisted gs)) second
   tree_more ranges goals more n (Builtin k t) h l = refl
+  tree_more ranges goals more n Cut h l = refl
+  tree_more ranges goals more n (If a b None) h l = two model.If (same_part goals more n a h.0 l) (same_part goals more n b h.1 l)
+  tree_more ranges goals more n (If a b (Some o)) h l =
+      let rest : Goals = unlisted (part_of (goals ++ more) o) in
+      two (λ x y. model.IfElse x y rest) (same_part goals more n a h.0 l) (same_part goals more n b h.1 l) ∙ ap (model.IfElse (unlisted (part_of goals a)) (unlisted (part_of goals b))) (same_part goals more n o h.2 l)
+  tree_more ranges goals more n (Not a) h l = ap model.Not (same_part goals more n a h l)
+  tree_more ranges goals more n (Best o least t u) h l = refl
 
   tree_ranges : (ranges more : List Range) (goals : List model.Goal) (n : ℕ) (g : FlatGoal) → IsGoal c (length ranges) n g → tree_of c (ranges ++ more) goals g ≡ tree_of c ranges goals g
   tree_ranges ranges more goals n True h = refl
@@ -78,6 +88,11 @@ module _ (c : Contents) where
   tree_ranges ranges more goals n (Call t) h = refl
   tree_ranges ranges more goals n (Either a b) h = refl
   tree_ranges ranges more goals n (Builtin k t) h = refl
+  tree_ranges ranges more goals n Cut h = refl
+  tree_ranges ranges more goals n (If a b None) h = refl
+  tree_ranges ranges more goals n (If a b (Some o)) h = refl
+  tree_ranges ranges more goals n (Not a) h = refl
+  tree_ranges ranges more goals n (Best o least t u) h = refl
 
   from_split : (ranges : List Range) (done : List model.Goal) (xs ys : List FlatGoal) → trees_from c ranges done (xs ++ ys) ≡ trees_from c ranges (trees_from c ranges done xs) ys
   from_split ranges done [] ys = refl
@@ -128,10 +143,27 @@ module _ (c : Contents) where
       ∙ sym (tree_more ranges before (tree_of c ranges before x ∷ more.0) i x (h i l) (omega (arith, size)))
       ∙ ap (λ (gs : List model.Goal). tree_of c ranges gs x) (sym all)
 
+  all_trees : (ranges : List Range) (goals : List FlatGoal) → AreGoals c (length ranges) goals → trees c ranges goals ≡ map (tree_of c ranges (trees c ranges goals)) goals
+  all_trees ranges goals h =
+      let base = trees c ranges goals in
+      let long = trees_length ranges goals in
+      ext_get_or model.True base (map (tree_of c ranges base) goals) (long ∙ sym (length-map goals (tree_of c ranges base)))
+      (λ i l. let k : i < length goals = omega (arith, l, long) in tree_at ranges goals h i k ∙ sym (get_or-map (tree_of c ranges base) goals i True model.True k))
+
+  -- what the goals of a part stand for
+  pub part_trees : (ranges : List Range) (goals : List FlatGoal) (a : Part) → AreGoals c (length ranges) goals → part_of (trees c ranges goals) a ≡ map (tree_of c ranges (trees c ranges goals)) (drop a.from (take a.to goals))
+  part_trees ranges goals a h =
+      let f = tree_of c ranges (trees c ranges goals) in
+      ap (λ (gs : List model.Goal). part_of gs a) (all_trees ranges goals h) ∙ ap (drop a.from) (take-map f a.to goals) ∙ drop-map f a.from (take a.to goals)
+
   -- ---- more goals and ranges
 
   pub part_later : (n m : ℕ) (a : Part) → n ≤ m → IsPart n a → IsPart m a
   part_later n m a l h = record { ordered = h.ordered; within = (let u = h.within in omega (arith, u, l)) }
+
+  other_later : (n m : ℕ) (o : Option Part) → n ≤ m → IsOtherPart n o → IsOtherPart m o
+  other_later n m None l h = tt
+  other_later n m (Some a) l h = part_later n m a l h
 
   pub goal_later : (r s n m : ℕ) (g : FlatGoal) → r ≤ s → n ≤ m → IsGoal c r n g → IsGoal c s m g
   goal_later r s n m True k l h = tt
@@ -143,6 +175,10 @@ module _ (c : Contents) where
   goal_later r s n m (Call t) k l h = h
   goal_later r s n m (Either a b) k l h = (part_later n m a l h.0, part_later n m b l h.1)
   goal_later r s n m (Builtin kind t) k l h = h
+  goal_later r s n m Cut k l h = tt
+  goal_later r s n m (If a b o) k l h = (part_later n m a l h.0, part_later n m b l h.1, other_later n m o l h.2)
+  goal_later r s n m (Not a) k l h = part_later n m a l h
+  goal_later r s n m (Best o least t u) k l h = h
 
   pub goals_later : (r s n m : ℕ) (gs : List FlatGoal) → r ≤ s → n ≤ m → All (IsGoal c r n) gs → All (IsGoal c s m) gs
   goals_later r s n m gs k l h = All-weaker (IsGoal c r n) (IsGoal c s m) (λ g. goal_later r s n m g k l) gs h

@@ -12,7 +12,7 @@ use Rattle.fd_model.specs.Forms.{GoalForm, constraint, builtin, forms, form_in, 
 use Rattle.fd_model.specs.Refusals as refusals
 use Rattle.fd_model.specs.Refusals.{functor, functor_of}
 use Rattle.clause_check.specs.declared.forms.Form.{Form}
-use Rattle.clause_check.specs.declared.forms.Form.TheVariants.{Truth, Failure, Unification, Posting, Constraint, Labelling, Builtin}
+use Rattle.clause_check.specs.declared.forms.Form.TheVariants.{Truth, Failure, Cut, Unification, Posting, Constraint, Labelling, Optimum, Builtin}
 use Rattle.fd_model.specs.Arities.{constraint_arity, builtin_arity}
 use Rattle.fd_language.specs.Term.{term_count}
 use Rattle.clause_check.specs.Programs.{HasArguments}
@@ -76,10 +76,12 @@ functor_arguments (comp a p ts) f e = let same : functor a (refusals.part_count 
 arity_by : (n : ℕ) (form : Form) (t : Term) → has_arity n (form_seen form) ≡ true → HasArguments n t → HasFormArity form t
 arity_by n Truth t e h = tt
 arity_by n Failure t e h = tt
+arity_by n Cut t e h = tt
 arity_by n Unification t e h = tt
 arity_by n Posting t e h = tt
 arity_by n (Constraint k) t e h = let same : n ≡ constraint_arity k = grind (arith, nat_tests) in subst (λ (m : ℕ). HasArguments m t) same h
 arity_by n (Labelling o) t e h = tt
+arity_by n (Optimum least) t e h = tt
 arity_by n (Builtin k) t e h = let same : n ≡ builtin_arity k = grind (arith, nat_tests) in subst (λ (m : ℕ). HasArguments m t) same h
 
 -- a goal of the language has as many arguments as its form

@@ -26,22 +26,22 @@ use Rattle.clause_check.proofs.SentenceLists.{sentences_more}
 
 -- ---- the definition's clauses and queries
 
-clauses_append : (xs : List reading.Sentence) (x : reading.Sentence) → clauses_of (xs ++ x ∷ []) ≡ clauses_of xs ++ clauses_by x.names (form_of x.term) []
-clauses_append [] x = refl
-clauses_append (y ∷ ys) x = by_form (form_of y.term) (clauses_append ys x)
+clauses_append : (N : ℕ) (xs : List reading.Sentence) (x : reading.Sentence) → clauses_of N (xs ++ x ∷ []) ≡ clauses_of N xs ++ clauses_by N x.names (form_of x.term) []
+clauses_append N [] x = refl
+clauses_append N (y ∷ ys) x = by_form (form_of y.term) (clauses_append N ys x)
   where
-    by_form : (f : Form) → clauses_of (ys ++ x ∷ []) ≡ clauses_of ys ++ clauses_by x.names (form_of x.term) [] → clauses_by y.names f (clauses_of (ys ++ x ∷ [])) ≡ clauses_by y.names f (clauses_of ys) ++ clauses_by x.names (form_of x.term) []
+    by_form : (f : Form) → clauses_of N (ys ++ x ∷ []) ≡ clauses_of N ys ++ clauses_by N x.names (form_of x.term) [] → clauses_by N y.names f (clauses_of N (ys ++ x ∷ [])) ≡ clauses_by N y.names f (clauses_of N ys) ++ clauses_by N x.names (form_of x.term) []
     by_form (query b) h = h
-    by_form (clause a b) h = ap (λ (ks : List model.Clause). clause_of y.names a (body_of b) ∷ ks) h
+    by_form (clause a b) h = ap (λ (ks : List model.Clause). clause_of y.names a (body_of N b) ∷ ks) h
     by_form directive h = h
     by_form (fact t) h = ap (λ (ks : List model.Clause). clause_of y.names t [] ∷ ks) h
 
-queries_append : (xs : List reading.Sentence) (x : reading.Sentence) → queries_of (xs ++ x ∷ []) ≡ queries_of xs ++ queries_by x.names (form_of x.term) []
-queries_append [] x = refl
-queries_append (y ∷ ys) x = by_form (form_of y.term) (queries_append ys x)
+queries_append : (N : ℕ) (xs : List reading.Sentence) (x : reading.Sentence) → queries_of N (xs ++ x ∷ []) ≡ queries_of N xs ++ queries_by N x.names (form_of x.term) []
+queries_append N [] x = refl
+queries_append N (y ∷ ys) x = by_form (form_of y.term) (queries_append N ys x)
   where
-    by_form : (f : Form) → queries_of (ys ++ x ∷ []) ≡ queries_of ys ++ queries_by x.names (form_of x.term) [] → queries_by y.names f (queries_of (ys ++ x ∷ [])) ≡ queries_by y.names f (queries_of ys) ++ queries_by x.names (form_of x.term) []
-    by_form (query b) h = ap (λ (qs : List model.Query). query_of y.names b ∷ qs) h
+    by_form : (f : Form) → queries_of N (ys ++ x ∷ []) ≡ queries_of N ys ++ queries_by N x.names (form_of x.term) [] → queries_by N y.names f (queries_of N (ys ++ x ∷ [])) ≡ queries_by N y.names f (queries_of N ys) ++ queries_by N x.names (form_of x.term) []
+    by_form (query b) h = ap (λ (qs : List model.Query). query_of N y.names b ∷ qs) h
     by_form (clause a b) h = h
     by_form directive h = h
     by_form (fact t) h = h
@@ -72,9 +72,9 @@ module _ (c : Contents) (goals more : List model.Goal) (n : ℕ) (l : n ≤ leng
 
 -- ---- one sentence more
 
-pub stands_more : (s : Sentences) (old new : Parts) (i : ℕ) (d : Sentence) → i < length s.list.items → d ≡ get_or s.list.items i d → StandsFor s.pool old (take i s.list.items) → AddsSentence s old new d
-    → StandsFor s.pool new (take (i + 1) s.list.items)
-stands_more s old new i d h e k added =
+pub stands_more : (N : ℕ) (s : Sentences) (old new : Parts) (i : ℕ) (d : Sentence) → i < length s.list.items → d ≡ get_or s.list.items i d → StandsFor N s.pool old (take i s.list.items) → AddsSentence N s old new d
+    → StandsFor N s.pool new (take (i + 1) s.list.items)
+stands_more N s old new i d h e k added =
     let c = s.pool in
     let a = added.adds in
     let n = length old.store.goals.items in
@@ -89,9 +89,9 @@ stands_more s old new i d h e k added =
     let x = sentence_of c d in
     let after = sentences_more s i d h e in
     let kept : queries_kept new ≡ qs ++ map query_kept a.more_queries = ap (map query_kept) a.added_queries ∙ map-append query_kept old.queries.items a.more_queries in
-    let old_clauses : map (clause_by c (stored c new.store)) ks ≡ clauses_of before =
+    let old_clauses : map (clause_by c (stored c new.store)) ks ≡ clauses_of N before =
     ap (λ (gs : List model.Goal). map (clause_by c gs) ks) more.1 ∙ clauses_same c trees more.0 n size ks (recursion_from_All (IsClause c n) ks k.clauses) ∙ k.clauses_are in
-    let old_queries : map (query_by c (stored c new.store)) qs ≡ queries_of before =
+    let old_queries : map (query_by c (stored c new.store)) qs ≡ queries_of N before =
     ap (λ (gs : List model.Goal). map (query_by c gs) qs) more.1 ∙ queries_same c trees more.0 n size qs (recursion_from_All (IsQueryWithin c n) qs k.queries) ∙ k.queries_are in
     record {
       store = a.store;
@@ -99,7 +99,7 @@ stands_more s old new i d h e k added =
       queries = subst (All (IsQueryWithin c m)) (sym kept)
           (All-append (IsQueryWithin c m) qs (map query_kept a.more_queries) (All-weaker (IsQueryWithin c n) (IsQueryWithin c m) (query_later c n m l) qs k.queries) a.queries);
       clauses_are = ap (map (clause_by c (stored c new.store))) a.added_clauses ∙ map-append (clause_by c (stored c new.store)) ks a.more_clauses
-          ∙ two (λ (xs ys : List model.Clause). xs ++ ys) old_clauses a.clauses_are ∙ sym (clauses_append before x) ∙ ap clauses_of (sym after);
+          ∙ two (λ (xs ys : List model.Clause). xs ++ ys) old_clauses a.clauses_are ∙ sym (clauses_append N before x) ∙ ap (clauses_of N) (sym after);
       queries_are = ap (map (query_by c (stored c new.store))) kept ∙ map-append (query_by c (stored c new.store)) qs (map query_kept a.more_queries)
-          ∙ two (λ (xs ys : List model.Query). xs ++ ys) old_queries a.queries_are ∙ sym (queries_append before x) ∙ ap queries_of (sym after);
+          ∙ two (λ (xs ys : List model.Query). xs ++ ys) old_queries a.queries_are ∙ sym (queries_append N before x) ∙ ap (queries_of N) (sym after);
     }

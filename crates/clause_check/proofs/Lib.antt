@@ -2,6 +2,7 @@ pub mod Lemmas
 mod FlatGoals
 mod AddedForms
 mod Closing
+mod Joining
 mod FormNames
 mod HeadSets
 mod KeptGoals

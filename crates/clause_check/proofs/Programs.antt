@@ -81,15 +81,15 @@ shown_count n (name ∷ names) = pick (is_shown name) (shown_count (suc n) names
     pick true e = ap suc e
     pick false e = e
 
-form_many : (names : List Name) (f : Form) (later : List model.Query) → Each (λ q. length q.names ≡ length q.shown) later → Each (λ q. length q.names ≡ length q.shown) (queries_by names f later)
-form_many names (query b) later h = (shown_count 0 names, h)
-form_many names (clause a b) later h = h
-form_many names directive later h = h
-form_many names (fact t) later h = h
+form_many : (N : ℕ) (names : List Name) (f : Form) (later : List model.Query) → Each (λ q. length q.names ≡ length q.shown) later → Each (λ q. length q.names ≡ length q.shown) (queries_by N names f later)
+form_many N names (query b) later h = (shown_count 0 names, h)
+form_many N names (clause a b) later h = h
+form_many N names directive later h = h
+form_many N names (fact t) later h = h
 
-sentences_many : (ss : List reading.Sentence) → Each (λ q. length q.names ≡ length q.shown) (queries_of ss)
-sentences_many [] = tt
-sentences_many (s ∷ ss) = form_many s.names (form_of s.term) (queries_of ss) (sentences_many ss)
+sentences_many : (N : ℕ) (ss : List reading.Sentence) → Each (λ q. length q.names ≡ length q.shown) (queries_of N ss)
+sentences_many N [] = tt
+sentences_many N (s ∷ ss) = form_many N s.names (form_of s.term) (queries_of N ss) (sentences_many N ss)
 
 -- ---- the program
 
@@ -97,8 +97,8 @@ abbrev pub program_kept : Contents → Parts → FlatProgram
 program_kept c p = record { pool = c; ranges = p.store.ranges.items; goals = p.store.goals.items; clauses = p.clauses.items; queries = queries_kept p }
 
 -- it is that of the sentences
-pub program_is : (s : Sentences) (p : Parts) → StandsFor s.pool p s.list.items → program_in (program_kept s.pool p) ≡ program_of (sentences_of s)
-program_is s p k = two (λ (ks : List model.Clause) (qs : List model.Query). let made : model.Program = record { clauses = ks; queries = qs } in made) k.clauses_are k.queries_are
+pub program_is : (N : ℕ) (s : Sentences) (p : Parts) → StandsFor N s.pool p s.list.items → program_in (program_kept s.pool p) ≡ program_of N (sentences_of s)
+program_is N s p k = two (λ (ks : List model.Clause) (qs : List model.Query). let made : model.Program = record { clauses = ks; queries = qs } in made) k.clauses_are k.queries_are
 
 terms_are : (c : Contents) (ss : List Sentence) → map (λ x. x.term) (map (sentence_of c) ss) ≡ map (λ x. placed_of c x.term) ss
 terms_are c [] = refl
@@ -109,16 +109,16 @@ each_parts c [] h = tt
 each_parts c (s ∷ ss) h = (h.0, each_parts c ss h.1)
 
 -- what is kept of all sentences is a program
-pub kept_program : (s : Sentences) (p : Parts) → AreOwn s → HaveNames s → HaveParts s → first_refusal INFINITY (terms_of s) (terms_of s) ≡ None → StandsFor s.pool p s.list.items → IsProgram (program_kept s.pool p)
-kept_program s p own named parts a k =
+pub kept_program : (N : ℕ) (s : Sentences) (p : Parts) → AreOwn s → HaveNames s → HaveParts s → first_refusal INFINITY N (terms_of s) (terms_of s) ≡ None → StandsFor N s.pool p s.list.items → IsProgram (program_kept s.pool p)
+kept_program N s p own named parts a k =
     let c = s.pool in
     let ss = sentences_of s in
     let n = length p.store.goals.items in
     let below = each_below c s.list.items (recursion_from_All (HasNames c) s.list.items named) in
-    let is : program_of ss ≡ program_in (program_kept c p) = sym (program_is s p k) in
-    let scoped : QueriesScoped (queries_of ss) = queries_scoped ss below in
-    let many = sentences_many ss in
-    let first : first_refusal INFINITY (terms_of s) (map (λ x. x.term) ss) ≡ None = ap (first_refusal INFINITY (terms_of s)) (terms_are c s.list.items) ∙ a in
+    let is : program_of N ss ≡ program_in (program_kept c p) = sym (program_is N s p k) in
+    let scoped : QueriesScoped (queries_of N ss) = queries_scoped N ss below in
+    let many = sentences_many N ss in
+    let first : first_refusal INFINITY N (terms_of s) (map (λ x. x.term) ss) ≡ None = ap (first_refusal INFINITY N (terms_of s)) (terms_are c s.list.items) ∙ a in
     record {
       pool = own.pool;
       ranges = k.store.ranges;
@@ -127,7 +127,7 @@ kept_program s p own named parts a k =
       queries = All-from_recursion (IsQuery c n) (queries_kept p)
           (queries_known c n (stored c p.store) (queries_kept p) (recursion_from_All (IsQueryWithin c n) (queries_kept p) k.queries) (subst QueriesScoped (sym k.queries_are) scoped)
           (subst (λ (qs : List model.Query). Each (λ q. length q.names ≡ length q.shown) qs) (sym k.queries_are) many));
-      scoped = subst IsScoped is (record { clauses = clauses_scoped ss below; queries = scoped });
-      runnable = subst (IsRunnableProgram INFINITY) is (accepted_runnable INFINITY (terms_of s) ss first);
-      codable = subst IsCodable is (accepted_codable INFINITY (terms_of s) ss first (each_parts s.pool s.list.items (recursion_from_All (λ x. HasParts (placed_of c x.term)) s.list.items parts)));
+      scoped = subst IsScoped is (record { clauses = clauses_scoped N ss below; queries = scoped });
+      runnable = subst (IsRunnableProgram INFINITY) is (accepted_runnable INFINITY N (terms_of s) ss first);
+      codable = subst IsCodable is (accepted_codable INFINITY N (terms_of s) ss first (each_parts s.pool s.list.items (recursion_from_All (λ x. HasParts (placed_of c x.term)) s.list.items parts)));
     }

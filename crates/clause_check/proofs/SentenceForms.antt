@@ -19,7 +19,7 @@ no_place : (o : Option ℕ) → ((p : ℕ) → o ≡ Some p → ⊥) → o ≡ N
 no_place None h = refl
 no_place (Some p) h = absurd (h p refl)
 
-module _ (s : Sentences) (x : Sentence) (o : Option ℕ) (found form : SentenceForm) (wide : IsWidePlace (placed_of s.pool x.term) o) (none : (p : ℕ) → o ≡ Some p → ⊥) (is : form_of (placed_of s.pool x.term) ≡ form_in s.pool found) (same : found ≡ form) where
+module _ (N : ℕ) (s : Sentences) (x : Sentence) (o : Option ℕ) (found form : SentenceForm) (wide : IsWidePlace (placed_of s.pool x.term) o) (none : (p : ℕ) → o ≡ Some p → ⊥) (is : form_of (placed_of s.pool x.term) ≡ form_in s.pool found) (same : found ≡ form) where
   abbrev t : PlacedTerm
   t = placed_of s.pool x.term
 
@@ -27,16 +27,16 @@ module _ (s : Sentences) (x : Sentence) (o : Option ℕ) (found form : SentenceF
   formed = is ∙ ap (form_in s.pool) same
 
   -- its form decides
-  by_form : sentence_refusal INFINITY (terms_of s) t ≡ clause_refusal INFINITY (terms_of s) t (form_in s.pool form)
+  by_form : sentence_refusal INFINITY N (terms_of s) t ≡ clause_refusal INFINITY N (terms_of s) t (form_in s.pool form)
   by_form =
-      ap (λ (p : Option ℕ). or_later (too_wide p) (clause_refusal INFINITY (terms_of s) t (form_of t))) (sym wide ∙ no_place o none)
-      ∙ ap (clause_refusal INFINITY (terms_of s) t) formed
+      ap (λ (p : Option ℕ). or_later (too_wide p) (clause_refusal INFINITY N (terms_of s) t (form_of t))) (sym wide ∙ no_place o none)
+      ∙ ap (clause_refusal INFINITY N (terms_of s) t) formed
 
-  pub added_as : (old new : Parts) → AddsAs s old new x form → AddsSentence s old new x
+  pub added_as : (old new : Parts) → AddsAs N s old new x form → AddsSentence N s old new x
   added_as old new h = record {
     accepted = by_form ∙ h.accepted;
-    adds = subst (AddsForm s old new (names_in s.pool x) t) (sym formed) h;
+    adds = subst (AddsForm N s old new (names_in s.pool x) t) (sym formed) h;
   }
 
-  pub refused_as : (e : Fault) → RefusesAs s x form e → RefusesSentence s x e
+  pub refused_as : (e : Fault) → RefusesAs N s x form e → RefusesSentence N s x e
   refused_as e h = subst (λ (r : Option model.Refusal). RefusedBy s.pool r e) (sym by_form) h

@@ -42,32 +42,32 @@ all_split s i d h e =
     ap (map (term_in s)) (split_at s.list.items i d h) ∙ map-append (term_in s) (take i s.list.items) (get_or s.list.items i d ∷ drop (suc i) s.list.items)
     ∙ ap (λ (x : Sentence). front s i ++ term_in s x ∷ map (term_in s) (drop (suc i) s.list.items)) (sym e)
 
-first_append : (all xs ys : List PlacedTerm) → first_refusal INFINITY all (xs ++ ys) ≡ or_later (first_refusal INFINITY all xs) (first_refusal INFINITY all ys)
-first_append all [] ys = refl
-first_append all (x ∷ xs) ys =
-    ap (or_later (sentence_refusal INFINITY all x)) (first_append all xs ys) ∙ sym (or_later-assoc (sentence_refusal INFINITY all x) (first_refusal INFINITY all xs) (first_refusal INFINITY all ys))
+first_append : (N : ℕ) (all xs ys : List PlacedTerm) → first_refusal INFINITY N all (xs ++ ys) ≡ or_later (first_refusal INFINITY N all xs) (first_refusal INFINITY N all ys)
+first_append N all [] ys = refl
+first_append N all (x ∷ xs) ys =
+    ap (or_later (sentence_refusal INFINITY N all x)) (first_append N all xs ys) ∙ sym (or_later-assoc (sentence_refusal INFINITY N all x) (first_refusal INFINITY N all xs) (first_refusal INFINITY N all ys))
 
-refused_first : (c : Contents) (all before later : List PlacedTerm) (x : PlacedTerm) (e : Fault) → first_refusal INFINITY all before ≡ None → RefusedBy c (sentence_refusal INFINITY all x) e
-    → RefusedBy c (first_refusal INFINITY all (before ++ x ∷ later)) e
-refused_first c all before later x e n h =
-    let rest = or_later (sentence_refusal INFINITY all x) (first_refusal INFINITY all later) in
-    subst (λ (o : Option model.Refusal). RefusedBy c o e) (sym (first_append all before (x ∷ later) ∙ ap (λ (o : Option model.Refusal). or_later o rest) n))
-    (refused_by_first c (sentence_refusal INFINITY all x) (first_refusal INFINITY all later) e h)
+refused_first : (N : ℕ) (c : Contents) (all before later : List PlacedTerm) (x : PlacedTerm) (e : Fault) → first_refusal INFINITY N all before ≡ None → RefusedBy c (sentence_refusal INFINITY N all x) e
+    → RefusedBy c (first_refusal INFINITY N all (before ++ x ∷ later)) e
+refused_first N c all before later x e n h =
+    let rest = or_later (sentence_refusal INFINITY N all x) (first_refusal INFINITY N all later) in
+    subst (λ (o : Option model.Refusal). RefusedBy c o e) (sym (first_append N all before (x ∷ later) ∙ ap (λ (o : Option model.Refusal). or_later o rest) n))
+    (refused_by_first c (sentence_refusal INFINITY N all x) (first_refusal INFINITY N all later) e h)
 
 -- the first sentence that offends decides
-pub refused_at_sentence : (s : Sentences) (i : ℕ) (d : Sentence) (e : Fault) → i < length s.list.items → d ≡ get_or s.list.items i d → first_refusal INFINITY (terms_of s) (front s i) ≡ None
-    → RefusedBy s.pool (sentence_refusal INFINITY (terms_of s) (term_in s d)) e → RefusedBy s.pool (first_refusal INFINITY (terms_of s) (terms_of s)) e
-refused_at_sentence s i d e h is n r =
-    subst (λ (xs : List PlacedTerm). RefusedBy s.pool (first_refusal INFINITY (terms_of s) xs) e) (sym (all_split s i d h is))
-    (refused_first s.pool (terms_of s) (front s i) (map (term_in s) (drop (suc i) s.list.items)) (term_in s d) e n r)
+pub refused_at_sentence : (N : ℕ) (s : Sentences) (i : ℕ) (d : Sentence) (e : Fault) → i < length s.list.items → d ≡ get_or s.list.items i d → first_refusal INFINITY N (terms_of s) (front s i) ≡ None
+    → RefusedBy s.pool (sentence_refusal INFINITY N (terms_of s) (term_in s d)) e → RefusedBy s.pool (first_refusal INFINITY N (terms_of s) (terms_of s)) e
+refused_at_sentence N s i d e h is n r =
+    subst (λ (xs : List PlacedTerm). RefusedBy s.pool (first_refusal INFINITY N (terms_of s) xs) e) (sym (all_split s i d h is))
+    (refused_first N s.pool (terms_of s) (front s i) (map (term_in s) (drop (suc i) s.list.items)) (term_in s d) e n r)
 
 -- one sentence more that is accepted
-pub accepted_more : (s : Sentences) (i : ℕ) (d : Sentence) → i < length s.list.items → d ≡ get_or s.list.items i d → first_refusal INFINITY (terms_of s) (front s i) ≡ None → sentence_refusal INFINITY (terms_of s) (term_in s d) ≡ None
-    → first_refusal INFINITY (terms_of s) (front s (i + 1)) ≡ None
-accepted_more s i d h is n a =
+pub accepted_more : (N : ℕ) (s : Sentences) (i : ℕ) (d : Sentence) → i < length s.list.items → d ≡ get_or s.list.items i d → first_refusal INFINITY N (terms_of s) (front s i) ≡ None → sentence_refusal INFINITY N (terms_of s) (term_in s d) ≡ None
+    → first_refusal INFINITY N (terms_of s) (front s (i + 1)) ≡ None
+accepted_more N s i d h is n a =
     let all = terms_of s in
-    ap (first_refusal INFINITY all) (front_more s i d h is) ∙ first_append all (front s i) (term_in s d ∷ [])
-    ∙ ap (λ (o : Option model.Refusal). or_later o (or_later (sentence_refusal INFINITY all (term_in s d)) None)) n ∙ ap (λ (o : Option model.Refusal). or_later o None) a
+    ap (first_refusal INFINITY N all) (front_more s i d h is) ∙ first_append N all (front s i) (term_in s d ∷ [])
+    ∙ ap (λ (o : Option model.Refusal). or_later o (or_later (sentence_refusal INFINITY N all (term_in s d)) None)) n ∙ ap (λ (o : Option model.Refusal). or_later o None) a
 
 pub sentences_more : (s : Sentences) (i : ℕ) (d : Sentence) → i < length s.list.items → d ≡ get_or s.list.items i d
     → map (sentence_of s.pool) (take (i + 1) s.list.items) ≡ map (sentence_of s.pool) (take i s.list.items) ++ sentence_of s.pool d ∷ []

@@ -26,35 +26,45 @@ other_name f g h = go (bytes_eq f g) refl
 
 -- are one goal
 abbrev pub IsOneGoal : PlacedTerm → Type 0
-IsOneGoal x = (goals_of x ≡ x ∷ []) × (body_goals x ≡ goal (goal_of x) no_goals)
+IsOneGoal x = (goals_of x ≡ x ∷ []) × ((N : ℕ) → body_goals N x ≡ goal (goal_of N x) no_goals)
 
 one_of_three : (f : Name) (p : ℕ) (by : TermId → PlacedTerm) (ts : List TermId) → 3 ≤ length ts → IsOneGoal (comp f p (parts_by by ts))
 one_of_three f p by [] h = absurd (omega arith)
 one_of_three f p by (a ∷ []) h = absurd (omega arith)
 one_of_three f p by (a ∷ b ∷ []) h = absurd (omega arith)
-one_of_three f p by (a ∷ b ∷ d ∷ ts) h = (refl, refl)
+one_of_three f p by (a ∷ b ∷ d ∷ ts) h = (refl, λ N. refl)
 
 pub many_joined : (x : PlacedTerm) (f : Name) (p : ℕ) (by : TermId → PlacedTerm) (ts : List TermId) → x ≡ comp f p (parts_by by ts) → 3 ≤ length ts → IsOneGoal x
 many_joined x f p by ts e h = subst IsOneGoal (sym e) (one_of_three f p by ts h)
 
--- as are those of two parts with another name than `,` and `;`
-one_of_two : (f : Name) (p : ℕ) (by : TermId → PlacedTerm) (ts : List TermId) → 2 ≤ length ts → length ts < 3 → bytes_eq f (codes ",") ≡ false → bytes_eq f (codes ";") ≡ false → IsOneGoal (comp f p (parts_by by ts))
-one_of_two f p by [] h k e g = absurd (omega arith)
-one_of_two f p by (a ∷ []) h k e g = absurd (omega arith)
-one_of_two f p by (a ∷ b ∷ []) h k e g = (rw (e, g), rw (e, g))
-one_of_two f p by (a ∷ b ∷ d ∷ ts) h k e g = absurd (omega arith)
+-- as are those of two parts with another name than `,`, `;` and `->`
+one_of_two : (f : Name) (p : ℕ) (by : TermId → PlacedTerm) (ts : List TermId) → 2 ≤ length ts → length ts < 3 → bytes_eq f (codes ",") ≡ false
+    → bytes_eq f (codes ";") ≡ false → bytes_eq f (codes "->") ≡ false → IsOneGoal (comp f p (parts_by by ts))
+one_of_two f p by [] h k e g m = absurd (omega arith)
+one_of_two f p by (a ∷ []) h k e g m = absurd (omega arith)
+one_of_two f p by (a ∷ b ∷ []) h k e g m = (rw (e, g, m), λ N. rw (e, g, m))
+one_of_two f p by (a ∷ b ∷ d ∷ ts) h k e g m = absurd (omega arith)
 
-pub two_joined : (x : PlacedTerm) (f : Name) (p : ℕ) (by : TermId → PlacedTerm) (ts : List TermId) → x ≡ comp f p (parts_by by ts) → 2 ≤ length ts → length ts < 3 → (f ≡ codes "," → ⊥) → (f ≡ codes ";" → ⊥) → IsOneGoal x
-two_joined x f p by ts e h k m n = subst IsOneGoal (sym e) (one_of_two f p by ts h k (other_name f (codes ",") m) (other_name f (codes ";") n))
+pub two_joined : (x : PlacedTerm) (f : Name) (p : ℕ) (by : TermId → PlacedTerm) (ts : List TermId) → x ≡ comp f p (parts_by by ts) → 2 ≤ length ts → length ts < 3
+    → (f ≡ codes "," → ⊥) → (f ≡ codes ";" → ⊥) → (f ≡ codes "->" → ⊥) → IsOneGoal x
+two_joined x f p by ts e h k m n o = subst IsOneGoal (sym e) (one_of_two f p by ts h k (other_name f (codes ",") m) (other_name f (codes ";") n) (other_name f (codes "->") o))
 
--- and those of fewer
-one_of_few : (f : Name) (p : ℕ) (by : TermId → PlacedTerm) (ts : List TermId) → length ts < 2 → IsOneGoal (comp f p (parts_by by ts))
-one_of_few f p by [] h = (refl, refl)
-one_of_few f p by (a ∷ []) h = (refl, refl)
-one_of_few f p by (a ∷ b ∷ ts) h = absurd (omega arith)
+-- and those of one part with another name than `\+`
+one_of_one : (f : Name) (p : ℕ) (by : TermId → PlacedTerm) (ts : List TermId) → 1 ≤ length ts → length ts < 2 → bytes_eq f (codes "\\+") ≡ false → IsOneGoal (comp f p (parts_by by ts))
+one_of_one f p by [] h k e = absurd (omega arith)
+one_of_one f p by (a ∷ []) h k e = (rw e, λ N. rw e)
+one_of_one f p by (a ∷ b ∷ ts) h k e = absurd (omega arith)
 
-pub few_joined : (x : PlacedTerm) (f : Name) (p : ℕ) (by : TermId → PlacedTerm) (ts : List TermId) → x ≡ comp f p (parts_by by ts) → length ts < 2 → IsOneGoal x
-few_joined x f p by ts e h = subst IsOneGoal (sym e) (one_of_few f p by ts h)
+pub one_joined : (x : PlacedTerm) (f : Name) (p : ℕ) (by : TermId → PlacedTerm) (ts : List TermId) → x ≡ comp f p (parts_by by ts) → 1 ≤ length ts → length ts < 2 → (f ≡ codes "\\+" → ⊥) → IsOneGoal x
+one_joined x f p by ts e h k m = subst IsOneGoal (sym e) (one_of_one f p by ts h k (other_name f (codes "\\+") m))
+
+-- and those of none
+one_of_none : (f : Name) (p : ℕ) (by : TermId → PlacedTerm) (ts : List TermId) → length ts < 1 → IsOneGoal (comp f p (parts_by by ts))
+one_of_none f p by [] h = (refl, λ N. refl)
+one_of_none f p by (a ∷ ts) h = absurd (omega arith)
+
+pub bare_joined : (x : PlacedTerm) (f : Name) (p : ℕ) (by : TermId → PlacedTerm) (ts : List TermId) → x ≡ comp f p (parts_by by ts) → length ts < 1 → IsOneGoal x
+bare_joined x f p by ts e h = subst IsOneGoal (sym e) (one_of_none f p by ts h)
 
 -- those of three parts and more are facts
 fact_of_three : (f : Name) (p : ℕ) (by : TermId → PlacedTerm) (ts : List TermId) → 3 ≤ length ts → form_of (comp f p (parts_by by ts)) ≡ fact (comp f p (parts_by by ts))

@@ -9,7 +9,7 @@ use Rattle.monotone_check.specs.declared.CheckFault.{CheckFault}
 use Rattle.monotone_check.specs.declared.CheckFault.TheVariants as check
 use Rattle.term_pool.specs.declared.AtomId.{AtomId}
 use Rattle.clause_check.specs.declared.faults.Cause.{Cause}
-use Rattle.clause_check.specs.declared.faults.Cause.TheVariants.{BadHead, BadGoal, Unknown, Redefines, ArityOver255, Range, Check, NotYet}
+use Rattle.clause_check.specs.declared.faults.Cause.TheVariants.{BadHead, BadGoal, Unknown, Redefines, ArityOver255, Range, Check}
 use Rattle.clause_check.specs.declared.faults.Fault.{Fault}
 use Rattle.clause_check.specs.declared.faults.Fault.TheVariants as fault
 use Rattle.clause_check.specs.declared.faults.ProgramFault.{ProgramFault}
@@ -34,7 +34,6 @@ cause_text c (Redefines name arity) = codes "redefines " ++ functor_name (functo
 cause_text c ArityOver255 = codes "arity over 255"
 cause_text c (Range f) = codes "not a range"
 cause_text c (Check f) = check_text f
-cause_text c (NotYet name arity) = codes "not yet " ++ functor_name (functor_at c name arity)
 
 -- a fault at this place, and no want of memory
 abbrev pub IsSpelledAt : ℕ → RangeFault → Type 0
@@ -57,7 +56,6 @@ IsCauseAt c p (Redefines name arity) = name.number < length c.names
 IsCauseAt c p ArityOver255 = Unit {0}
 IsCauseAt c p (Range f) = IsSpelledAt p f
 IsCauseAt c p (Check f) = IsCheckedAt p f
-IsCauseAt c p (NotYet name arity) = name.number < length c.names
 
 -- the refusal is this one, or memory was wanting
 abbrev pub RefusedBy : Contents → Option model.Refusal → Fault → Type 0

@@ -1,9 +1,9 @@
 -- What the terms, the goals and the queries of a text's program are like, so that there is code for them.
-use Rattle.std.specs.Prelude.{◌≡◌, ℕ, ◌≤◌, Bool, true, false, IsTrue, List, [], ◌∷◌, Some, slice_get}
+use Rattle.std.specs.Prelude.{◌≡◌, ℕ, ◌≤◌, Bool, true, false, IsTrue, List, [], ◌∷◌, Some, None, slice_get}
 use Rattle.fd_language.specs.Term.{Term, Terms, Var, Int, Atom, Comp, no_terms, term, term_count}
 use Rattle.fd_model.specs.declared.kinds.BuiltinKind.{BuiltinKind}
 use Rattle.fd_model.specs.declared.kinds.BuiltinKind.TheVariants as kind
-use Rattle.fd_model.specs.Goal.{Goal, Goals, no_goals, goal, True, Fail, Unify, Post, Constrain, Label, Call, Either, Builtin, Clause, Query, Program}
+use Rattle.fd_model.specs.Goal.{Goal, Goals, no_goals, goal, True, Fail, Unify, Post, Constrain, Label, Call, Either, Builtin, Cut, If, IfElse, Not, Best, Clause, Query, Program}
 use Rattle.fd_model.specs.Refusals.{most_arguments}
 
 -- each compound term has an argument, and 255 at most
@@ -37,6 +37,13 @@ abbrev mutual
   IsCodableGoal (Call t) = IsNarrow t
   IsCodableGoal (Either g h) = AreCodableGoals g × AreCodableGoals h
   IsCodableGoal (Builtin k t) = IsTrue (is_named k) × IsNarrow t
+  -- a cut has no number before it is taken
+  IsCodableGoal (Cut None) = Unit {0}
+  IsCodableGoal (Cut (Some m)) = ⊥
+  IsCodableGoal (If test holds) = AreCodableGoals test × AreCodableGoals holds
+  IsCodableGoal (IfElse test holds other) = AreCodableGoals test × AreCodableGoals holds × AreCodableGoals other
+  IsCodableGoal (Not gs) = AreCodableGoals gs
+  IsCodableGoal (Best o least t c) = IsNarrow t × IsNarrow c
 
   pub AreCodableGoals : Goals → Type 0
   AreCodableGoals no_goals = Unit {0}

@@ -1,4 +1,4 @@
--- What is kept of ranges and goals.
+-- What is kept of ranges and goals. N is the greatest number that a variable may have.
 use Rattle.std.specs.Prelude.{◌≡◌, ℕ, List, ◌++◌, length, None, Result, MatchResult, All, IsTrue}
 use Rattle.fd_language.specs.Range.{Range}
 use Rattle.fd_language.specs.RangeVerdict.{is_accepted}
@@ -19,8 +19,8 @@ use Rattle.clause_check.specs.Forms.{form_seen}
 use Rattle.clause_check.specs.Programs.{tree_of, IsGoal}
 
 -- the range that a term spells, where it is accepted, or why it is refused
-abbrev pub IsRangeOf : Contents → PlacedTerm → Result Range Fault → Type 0
-IsRangeOf c r result = MatchResult result (λ range. (range_refusal INFINITY r ≡ None) × (range ≡ (read_range r).tree)) (RefusedBy c (range_refusal INFINITY r))
+abbrev pub IsRangeOf : ℕ → Contents → PlacedTerm → Result Range Fault → Type 0
+IsRangeOf N c r result = MatchResult result (λ range. (range_refusal INFINITY N r ≡ None) × (range ≡ (read_range N r).tree)) (RefusedBy c (range_refusal INFINITY N r))
 
 -- each range is accepted
 abbrev pub AreAccepted : List Range → Type 0
@@ -34,8 +34,8 @@ pub record KeepsGoal (c : Contents) (old new : List Range) (x : model.Goal) (g :
   pub is : (goals : List model.Goal) → tree_of c new goals g ≡ x
 
 -- a goal of the language with this form, and any goal
-abbrev pub KeepsForm : Contents → TermId → Form → List Range → List Range → FlatGoal → Type 0
-KeepsForm c t form old new g = KeepsGoal c old new (goal_by_form (form_seen form) (placed_of c t)) g
+abbrev pub KeepsForm : ℕ → Contents → TermId → Form → List Range → List Range → FlatGoal → Type 0
+KeepsForm N c t form old new g = KeepsGoal c old new (goal_by_form N (form_seen form) (placed_of c t)) g
 
-abbrev pub KeepsTerm : Contents → TermId → List Range → List Range → FlatGoal → Type 0
-KeepsTerm c t old new g = KeepsGoal c old new (goal_of (placed_of c t)) g
+abbrev pub KeepsTerm : ℕ → Contents → TermId → List Range → List Range → FlatGoal → Type 0
+KeepsTerm N c t old new g = KeepsGoal c old new (goal_of N (placed_of c t)) g

@@ -1,4 +1,4 @@
--- What is kept of sentences.
+-- What is kept of sentences. N is the greatest number that a variable may have.
 use Rattle.std.specs.Prelude.{◌≡◌, ℕ, ◌<◌, List, [], ◌++◌, length, map, filter, None, All}
 use Rattle.fd_language.specs.Term.{Name}
 use Rattle.fd_language.specs.PlacedTerm.{PlacedTerm}
@@ -35,16 +35,16 @@ abbrev pub queries_kept : Parts → List FlatQuery
 queries_kept p = map query_kept p.queries.items
 
 -- what is kept of these sentences
-pub record StandsFor (c : Contents) (p : Parts) (sentences : List Sentence) : Type 0 where
+pub record StandsFor (N : ℕ) (c : Contents) (p : Parts) (sentences : List Sentence) : Type 0 where
   pub store : IsStore c p.store
   pub clauses : All (IsClause c (length p.store.goals.items)) p.clauses.items
   pub queries : All (IsQueryWithin c (length p.store.goals.items)) (queries_kept p)
-  pub clauses_are : map (clause_by c (stored c p.store)) p.clauses.items ≡ clauses_of (map (sentence_of c) sentences)
-  pub queries_are : map (query_by c (stored c p.store)) (queries_kept p) ≡ queries_of (map (sentence_of c) sentences)
+  pub clauses_are : map (clause_by c (stored c p.store)) p.clauses.items ≡ clauses_of N (map (sentence_of c) sentences)
+  pub queries_are : map (query_by c (stored c p.store)) (queries_kept p) ≡ queries_of N (map (sentence_of c) sentences)
 
 -- what is kept of a sentence of this form, whose variables have these names
-pub record AddsForm (s : Sentences) (old new : Parts) (names : List Name) (t : PlacedTerm) (form : refusals.Form) : Type 0 where
-  pub accepted : clause_refusal INFINITY (terms_of s) t form ≡ None
+pub record AddsForm (N : ℕ) (s : Sentences) (old new : Parts) (names : List Name) (t : PlacedTerm) (form : refusals.Form) : Type 0 where
+  pub accepted : clause_refusal INFINITY N (terms_of s) t form ≡ None
   pub grown : IsGrown old.store new.store
   pub store : IsStore s.pool new.store
   pub more_clauses : List FlatClause
@@ -53,16 +53,16 @@ pub record AddsForm (s : Sentences) (old new : Parts) (names : List Name) (t : P
   pub added_queries : new.queries.items ≡ old.queries.items ++ more_queries
   pub clauses : All (IsClause s.pool (length new.store.goals.items)) more_clauses
   pub queries : All (IsQueryWithin s.pool (length new.store.goals.items)) (map query_kept more_queries)
-  pub clauses_are : map (clause_by s.pool (stored s.pool new.store)) more_clauses ≡ clauses_by names form []
-  pub queries_are : map (query_by s.pool (stored s.pool new.store)) (map query_kept more_queries) ≡ queries_by names form []
+  pub clauses_are : map (clause_by s.pool (stored s.pool new.store)) more_clauses ≡ clauses_by N names form []
+  pub queries_are : map (query_by s.pool (stored s.pool new.store)) (map query_kept more_queries) ≡ queries_by N names form []
 
 abbrev pub names_in : Contents → Sentence → List Name
 names_in c x = map (atom_name c) x.names.items
 
-abbrev pub AddsAs : Sentences → Parts → Parts → Sentence → SentenceForm → Type 0
-AddsAs s old new x form = AddsForm s old new (names_in s.pool x) (placed_of s.pool x.term) (form_in s.pool form)
+abbrev pub AddsAs : ℕ → Sentences → Parts → Parts → Sentence → SentenceForm → Type 0
+AddsAs N s old new x form = AddsForm N s old new (names_in s.pool x) (placed_of s.pool x.term) (form_in s.pool form)
 
 -- a sentence that isn't refused, and what is kept of it
-pub record AddsSentence (s : Sentences) (old new : Parts) (x : Sentence) : Type 0 where
-  pub accepted : sentence_refusal INFINITY (terms_of s) (placed_of s.pool x.term) ≡ None
-  pub adds : AddsForm s old new (names_in s.pool x) (placed_of s.pool x.term) (form_of (placed_of s.pool x.term))
+pub record AddsSentence (N : ℕ) (s : Sentences) (old new : Parts) (x : Sentence) : Type 0 where
+  pub accepted : sentence_refusal INFINITY N (terms_of s) (placed_of s.pool x.term) ≡ None
+  pub adds : AddsForm N s old new (names_in s.pool x) (placed_of s.pool x.term) (form_of (placed_of s.pool x.term))

@@ -1,5 +1,5 @@
 -- Programs as they are kept: terms of a pool, ranges and goals by their numbers, and clauses and queries over these.
-use Rattle.std.specs.Prelude.{◌≡◌, ℕ, ◌<◌, ◌≤◌, List, [], ◌∷◌, ◌++◌, length, map, take, drop, slice_index_or, All, IsTrue}
+use Rattle.std.specs.Prelude.{◌≡◌, ℕ, ◌<◌, ◌≤◌, List, [], ◌∷◌, ◌++◌, Option, Some, None, length, map, take, drop, slice_index_or, All, IsTrue}
 use Rattle.fd_language.specs.Term.{Term, Var, Int, Atom, Comp, term_count}
 use Rattle.fd_language.specs.Range.{Range}
 use Rattle.fd_language.specs.RangeVerdict.{is_accepted}
@@ -16,7 +16,7 @@ use Rattle.term_pool.specs.Valid.{IsPool}
 use Rattle.clause_check.specs.Codable.{IsCodable}
 use Rattle.clause_check.specs.declared.program.Part.{Part}
 use Rattle.clause_check.specs.declared.program.FlatGoal.{FlatGoal}
-use Rattle.clause_check.specs.declared.program.FlatGoal.TheVariants.{True, Fail, Unify, Post, Constrain, Label, Call, Either, Builtin}
+use Rattle.clause_check.specs.declared.program.FlatGoal.TheVariants.{True, Fail, Unify, Post, Constrain, Label, Call, Either, Builtin, Cut, If, Not, Best}
 use Rattle.clause_check.specs.declared.program.FlatClause.{FlatClause}
 use Rattle.clause_check.specs.declared.program.QueryParts.{QueryParts}
 
@@ -85,6 +85,11 @@ tree_of c ranges goals (Label o t) = model.Label o (term_of c t)
 tree_of c ranges goals (Call t) = model.Call (term_of c t)
 tree_of c ranges goals (Either a b) = model.Either (unlisted (part_of goals a)) (unlisted (part_of goals b))
 tree_of c ranges goals (Builtin k t) = model.Builtin k (term_of c t)
+tree_of c ranges goals Cut = model.Cut None
+tree_of c ranges goals (If a b None) = model.If (unlisted (part_of goals a)) (unlisted (part_of goals b))
+tree_of c ranges goals (If a b (Some o)) = model.IfElse (unlisted (part_of goals a)) (unlisted (part_of goals b)) (unlisted (part_of goals o))
+tree_of c ranges goals (Not a) = model.Not (unlisted (part_of goals a))
+tree_of c ranges goals (Best o least t u) = model.Best o least (term_of c t) (term_of c u)
 
 -- the goals, followed by what the flat ones stand for, each of which names parts of those before it
 abbrev pub trees_from : Contents → List Range → List model.Goal → List FlatGoal → List model.Goal
@@ -145,6 +150,11 @@ pub record IsPart (n : ℕ) (a : Part) : Type 0 where
   pub ordered : a.from ≤ a.to
   pub within : a.to ≤ n
 
+-- where there is one
+abbrev pub IsOtherPart : ℕ → Option Part → Type 0
+IsOtherPart n None = Unit {0}
+IsOtherPart n (Some a) = IsPart n a
+
 -- of the pool and the first so many ranges, and its parts of the first n goals
 abbrev pub IsGoal : Contents → ℕ → ℕ → FlatGoal → Type 0
 IsGoal c ranges n True = Unit {0}
@@ -156,6 +166,10 @@ IsGoal c ranges n (Label o t) = t.number < length c.entries
 IsGoal c ranges n (Call t) = (t.number < length c.entries) × IsNamed (term_of c t)
 IsGoal c ranges n (Either a b) = IsPart n a × IsPart n b
 IsGoal c ranges n (Builtin k t) = (t.number < length c.entries) × HasArguments (builtin_arity k) (term_of c t)
+IsGoal c ranges n Cut = Unit {0}
+IsGoal c ranges n (If a b o) = IsPart n a × IsPart n b × IsOtherPart n o
+IsGoal c ranges n (Not a) = IsPart n a
+IsGoal c ranges n (Best o least t u) = (t.number < length c.entries) × (u.number < length c.entries)
 
 -- the parts that a goal names stand before it
 abbrev pub AreGoals : Contents → ℕ → List FlatGoal → Type 0

@@ -4,7 +4,7 @@ use Rattle.fd_language.specs.PlacedTerm.{PlacedTerm, place}
 use Rattle.fd_language.specs.Spelling.{least_place}
 use Rattle.fd_model.specs.Goal.{no_goals, goal}
 use Rattle.fd_model.specs.Goal as model
-use Rattle.fd_model.specs.Queries.{goal_of, body_goals, followed}
+use Rattle.fd_model.specs.Queries.{goal_of, body_goals, followed, either_way}
 use Rattle.fd_model.specs.Refusals as refusals
 use Rattle.fd_model.specs.Refusals.{form_of, goals_of, wide_places}
 use Rattle.term_pool.specs.declared.TermId.{TermId}
@@ -16,7 +16,9 @@ use Rattle.clause_check.specs.declared.terms.Functor.{Functor}
 use Rattle.clause_check.specs.declared.terms.SentenceForm.{SentenceForm}
 use Rattle.clause_check.specs.declared.terms.SentenceForm.TheVariants.{Query, Clause, Directive, Fact}
 use Rattle.clause_check.specs.declared.terms.Body.{Body}
-use Rattle.clause_check.specs.declared.terms.Body.TheVariants.{Both, Either, Goal}
+use Rattle.clause_check.specs.declared.terms.Body.TheVariants.{Both, Joined, Denied, Goal}
+use Rattle.clause_check.specs.declared.terms.Joint.{Joint}
+use Rattle.clause_check.specs.declared.terms.Joint.TheVariants.{Semicolon, Arrow}
 
 -- the terms of the sentences, in the order of the text
 abbrev pub terms_of : Sentences → List PlacedTerm
@@ -56,17 +58,28 @@ IsFormWithin c (Fact t) = t.number < length c.entries
 abbrev pub IsSentenceForm : Contents → TermId → SentenceForm → Type 0
 IsSentenceForm c t f = IsFormWithin c f × (form_of (placed_of c t) ≡ form_in c f)
 
--- the two bodies that a term joins, whose goals stand one behind the other
+-- the goal that is made of two bodies
+abbrev pub joined_goals : Joint → model.Goals → model.Goals → model.Goal
+joined_goals Semicolon gs hs = either_way gs hs
+joined_goals Arrow gs hs = model.If gs hs
+
+-- the two bodies of which a term is made, whose goals stand one behind the other
 abbrev pub AreSides : Contents → TermId → TermId → TermId → Type 0
 AreSides c t a b =
     (a.number < length c.entries) × (b.number < length c.entries)
     × (goals_of (placed_of c t) ≡ goals_of (placed_of c a) ++ goals_of (placed_of c b))
     × (size (term_of c a) + size (term_of c b) < size (term_of c t))
 
+-- the only one
+abbrev pub IsInner : Contents → TermId → TermId → Type 0
+IsInner c t a = (a.number < length c.entries) × (goals_of (placed_of c t) ≡ goals_of (placed_of c a)) × (size (term_of c a) < size (term_of c t))
+
+-- whatever the greatest number that a variable may have
 abbrev pub IsBody : Contents → TermId → Body → Type 0
-IsBody c t (Both a b) = AreSides c t a b × (body_goals (placed_of c t) ≡ followed (body_goals (placed_of c a)) (body_goals (placed_of c b)))
-IsBody c t (Either a b) = AreSides c t a b × (body_goals (placed_of c t) ≡ goal (model.Either (body_goals (placed_of c a)) (body_goals (placed_of c b))) no_goals)
-IsBody c t Goal = (goals_of (placed_of c t) ≡ placed_of c t ∷ []) × (body_goals (placed_of c t) ≡ goal (goal_of (placed_of c t)) no_goals)
+IsBody c t (Both a b) = AreSides c t a b × ((N : ℕ) → body_goals N (placed_of c t) ≡ followed (body_goals N (placed_of c a)) (body_goals N (placed_of c b)))
+IsBody c t (Joined j a b) = AreSides c t a b × ((N : ℕ) → body_goals N (placed_of c t) ≡ goal (joined_goals j (body_goals N (placed_of c a)) (body_goals N (placed_of c b))) no_goals)
+IsBody c t (Denied a) = IsInner c t a × ((N : ℕ) → body_goals N (placed_of c t) ≡ goal (model.Not (body_goals N (placed_of c a))) no_goals)
+IsBody c t Goal = (goals_of (placed_of c t) ≡ placed_of c t ∷ []) × ((N : ℕ) → body_goals N (placed_of c t) ≡ goal (goal_of N (placed_of c t)) no_goals)
 
 -- the smallest place among those of the compound terms with too many arguments
 abbrev pub IsWidePlace : PlacedTerm → Option ℕ → Type 0

@@ -1,6 +1,6 @@
 //! The sentences of a text, checked from the first to the last.
 
-ghost use Rattle.std.specs.Prelude.{◌≡◌, ◌<◌, [], length, All, IfOk, IfErr, OnOk};
+ghost use Rattle.std.specs.Prelude.{◌≡◌, ℕ, ◌<◌, [], length, All, IfOk, IfErr, OnOk};
 ghost use Rattle.term_pool.specs.Contents.{Contents};
 ghost use Rattle.term_reader.specs.Sentences.{AreOwn, IsSentence};
 ghost use Rattle.clause_check.specs.GoalStores.{IsStore};
@@ -11,7 +11,7 @@ ghost use Rattle.clause_check.specs.declared.terms.SentenceForm.TheVariants.{Que
 
 use crate::arities::wide_place;
 use crate::faults::{Cause, Fault, refused};
-use crate::forms::{is_built_in, is_not_yet, is_reserved};
+use crate::forms::{is_built_in, is_reserved};
 use crate::goals::GoalStore;
 use crate::heads::collect_heads;
 use crate::program::{FlatClause, Part, QueryParts};
@@ -49,7 +49,7 @@ fn head_cause(pool: &Pool, head: TermId) -> Option<Cause>
     if is_reserved(text) {
         return Some(Cause::BadHead);
     }
-    if is_built_in(text, arity) || is_not_yet(text, arity) {
+    if is_built_in(text, arity) {
         return Some(Cause::Redefines { name, arity });
     }
     None
@@ -76,7 +76,7 @@ fn shown_variables(alloc: Global, pool: &Pool, names: &[AtomId]) -> Result<Shown
 
 impl Parts {
     fn new(alloc: Global) -> Parts
-        ensures { (c : Contents) → StandsFor c result [] }
+        ensures { (N : ℕ) (c : Contents) → StandsFor N c result [] }
     {
         Parts {
             store: GoalStore::new(alloc),
@@ -91,6 +91,7 @@ impl Parts {
         alloc: Global,
         sentences: &Sentences,
         heads: &IndexSet<Functor>,
+        infinity: u32,
         sentence: &Sentence,
         body: TermId,
     ) -> Result<(), Fault>
@@ -99,11 +100,13 @@ impl Parts {
         requires store { IsStore sentences.now.pool self.old.store }
         requires sentence { IsSentence sentences.now.pool sentence.now }
         requires body { body.number < length sentences.now.pool.entries }
-        ensures added { OnOk result (AddsAs sentences.now self.old self.new sentence.now
+        ensures added { OnOk result (AddsAs infinity sentences.now self.old self.new sentence.now
             (Query body)) }
-        ensures fault { IfErr result (RefusesAs sentences.now sentence.now (Query body)) }
+        ensures fault { IfErr result (RefusesAs infinity sentences.now sentence.now (Query body)) }
     {
-        let goals = self.store.read_body(alloc, sentences, heads, body)?;
+        let goals = self
+            .store
+            .read_body(alloc, sentences, heads, infinity, body)?;
         let shown = shown_variables(alloc, &sentences.pool, &sentence.names)?;
         self.queries.push(QueryParts {
             variables: sentence.names.len(),
@@ -120,6 +123,7 @@ impl Parts {
         alloc: Global,
         sentences: &Sentences,
         heads: &IndexSet<Functor>,
+        infinity: u32,
         sentence: &Sentence,
         head: TermId,
         body: TermId,
@@ -129,14 +133,16 @@ impl Parts {
         requires store { IsStore sentences.now.pool self.old.store }
         requires head { head.number < length sentences.now.pool.entries }
         requires body { body.number < length sentences.now.pool.entries }
-        ensures added { OnOk result (AddsAs sentences.now self.old self.new sentence.now
+        ensures added { OnOk result (AddsAs infinity sentences.now self.old self.new sentence.now
             (Clause head body)) }
-        ensures fault { IfErr result (RefusesAs sentences.now sentence.now (Clause head body)) }
+        ensures fault { IfErr result (RefusesAs infinity sentences.now sentence.now (Clause head body)) }
     {
         if let Some(cause) = head_cause(&sentences.pool, head) {
             return Err(refused(&sentences.pool, head, cause));
         }
-        let body = self.store.read_body(alloc, sentences, heads, body)?;
+        let body = self
+            .store
+            .read_body(alloc, sentences, heads, infinity, body)?;
         self.clauses.push(FlatClause {
             variables: sentence.names.len(),
             head,
@@ -154,9 +160,10 @@ impl Parts {
     ) -> Result<(), Fault>
         requires store { IsStore sentences.now.pool self.old.store }
         requires head { head.number < length sentences.now.pool.entries }
-        ensures added { OnOk result (AddsAs sentences.now self.old self.new sentence.now
-            (Fact head)) }
-        ensures fault { IfErr result (RefusesAs sentences.now sentence.now (Fact head)) }
+        ensures added { OnOk result ((N : ℕ) → AddsAs N sentences.now self.old self.new
+            sentence.now (Fact head)) }
+        ensures fault { IfErr result (λ e. (N : ℕ) → RefusesAs N sentences.now sentence.now
+            (Fact head) e) }
     {
         if let Some(cause) = head_cause(&sentences.pool, head) {
             return Err(refused(&sentences.pool, head, cause));
@@ -176,18 +183,19 @@ impl Parts {
         alloc: Global,
         sentences: &Sentences,
         heads: &IndexSet<Functor>,
+        infinity: u32,
         ahead: &mut Vec<TermId>,
     ) -> Result<(), Fault>
         requires own { AreOwn sentences.now }
         requires heads { AreHeads sentences.now heads.now.keys }
-        requires nothing { StandsFor sentences.now.pool self.old [] }
-        ensures accepted { OnOk result (AcceptsText sentences.now) }
+        requires nothing { StandsFor infinity sentences.now.pool self.old [] }
+        ensures accepted { OnOk result (AcceptsText infinity sentences.now) }
         ensures stands { OnOk result
-            (StandsFor sentences.now.pool self.new sentences.now.list.items) }
-        ensures fault { IfErr result (RefusesText sentences.now) }
+            (StandsFor infinity sentences.now.pool self.new sentences.now.list.items) }
+        ensures fault { IfErr result (RefusesText infinity sentences.now) }
     {
         for sentence in &sentences.list {
-            self.add_sentence(alloc, sentences, heads, sentence, ahead)?;
+            self.add_sentence(alloc, sentences, heads, infinity, sentence, ahead)?;
         }
         Ok(())
     }
@@ -198,6 +206,7 @@ impl Parts {
         alloc: Global,
         sentences: &Sentences,
         heads: &IndexSet<Functor>,
+        infinity: u32,
         sentence: &Sentence,
         ahead: &mut Vec<TermId>,
     ) -> Result<(), Fault>
@@ -205,8 +214,8 @@ impl Parts {
         requires heads { AreHeads sentences.now heads.now.keys }
         requires store { IsStore sentences.now.pool self.old.store }
         requires sentence { IsSentence sentences.now.pool sentence.now }
-        ensures added { OnOk result (AddsSentence sentences.now self.old self.new sentence.now) }
-        ensures fault { IfErr result (RefusesSentence sentences.now sentence.now) }
+        ensures added { OnOk result (AddsSentence infinity sentences.now self.old self.new sentence.now) }
+        ensures fault { IfErr result (RefusesSentence infinity sentences.now sentence.now) }
     {
         let pool = &sentences.pool;
         if let Some(place) = wide_place(pool, sentence.term, ahead)? {
@@ -214,9 +223,11 @@ impl Parts {
             return Err(Fault::Refused { place, cause });
         }
         match sentence_form(pool, sentence.term) {
-            SentenceForm::Query(body) => self.add_query(alloc, sentences, heads, sentence, body),
+            SentenceForm::Query(body) => {
+                self.add_query(alloc, sentences, heads, infinity, sentence, body)
+            }
             SentenceForm::Clause(head, body) => {
-                self.add_clause(alloc, sentences, heads, sentence, head, body)
+                self.add_clause(alloc, sentences, heads, infinity, sentence, head, body)
             }
             SentenceForm::Directive => Err(refused(pool, sentence.term, Cause::BadHead)),
             SentenceForm::Fact(head) => self.add_fact(sentences, sentence, head),
@@ -229,27 +240,32 @@ fn check_by(
     alloc: Global,
     sentences: &Sentences,
     heads: &mut IndexSet<Functor>,
+    infinity: u32,
 ) -> Result<Parts, Fault>
     requires own { AreOwn sentences.now }
     requires none { heads.now.keys ≡ [] }
-    ensures accepted { IfOk result (λ p. AcceptsText sentences.now) }
-    ensures stands { IfOk result (λ p. StandsFor sentences.now.pool p sentences.now.list.items) }
-    ensures fault { IfErr result (RefusesText sentences.now) }
+    ensures accepted { IfOk result (λ p. AcceptsText infinity sentences.now) }
+    ensures stands { IfOk result (λ p. StandsFor infinity sentences.now.pool p sentences.now.list.items) }
+    ensures fault { IfErr result (RefusesText infinity sentences.now) }
 {
     collect_heads(sentences, heads)?;
     let mut parts = Parts::new(alloc);
     let mut ahead = Vec::new(alloc);
-    parts.add_sentences(alloc, sentences, heads, &mut ahead)?;
+    parts.add_sentences(alloc, sentences, heads, infinity, &mut ahead)?;
     Ok(parts)
 }
 
 /// The clauses and the queries of a text, or the first refusal in it.
-pub(crate) fn check_sentences(alloc: Global, sentences: &Sentences) -> Result<Parts, Fault>
+pub(crate) fn check_sentences(
+    alloc: Global,
+    sentences: &Sentences,
+    infinity: u32,
+) -> Result<Parts, Fault>
     requires { AreOwn sentences.now }
-    ensures accepted { IfOk result (λ p. AcceptsText sentences.now) }
-    ensures stands { IfOk result (λ p. StandsFor sentences.now.pool p sentences.now.list.items) }
-    ensures fault { IfErr result (RefusesText sentences.now) }
+    ensures accepted { IfOk result (λ p. AcceptsText infinity sentences.now) }
+    ensures stands { IfOk result (λ p. StandsFor infinity sentences.now.pool p sentences.now.list.items) }
+    ensures fault { IfErr result (RefusesText infinity sentences.now) }
 {
     let mut heads = IndexSet::new(alloc);
-    check_by(alloc, sentences, &mut heads)
+    check_by(alloc, sentences, &mut heads, infinity)
 }

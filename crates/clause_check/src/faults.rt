@@ -22,7 +22,7 @@ pub enum Cause {
     BadGoal,
     /// The name of a goal is neither built in nor that of a head in the text.
     Unknown { name: AtomId, arity: usize },
-    /// A head has the name of a control or built-in form, or of one that the language doesn't have yet.
+    /// A head has the name of a control or built-in form.
     Redefines { name: AtomId, arity: usize },
     /// A compound term has more than 255 arguments.
     ArityOver255,
@@ -30,8 +30,6 @@ pub enum Cause {
     Range(RangeFault),
     /// The range is not accepted.
     Check(CheckFault),
-    /// A form that the language doesn't have yet.
-    NotYet { name: AtomId, arity: usize },
 }
 
 /// Why a text has no program.

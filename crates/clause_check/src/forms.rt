@@ -1,7 +1,7 @@
 //! The names of the goals that belong to the language.
 
 ghost use Rattle.std.specs.Prelude.{◌≡◌, option_map};
-ghost use Rattle.fd_model.specs.Forms.{built_in_names, form_named as form_of_name, is_named, joining_names, not_yet_names, reserved_names};
+ghost use Rattle.fd_model.specs.Forms.{built_in_names, form_named as form_of_name, is_named, joining_names, reserved_names};
 ghost use Rattle.clause_check.specs.Forms.{binary_from, form_seen};
 
 use fd_model::kinds::{BuiltinKind, ConstraintKind, Order, Relation};
@@ -11,10 +11,13 @@ use fd_model::kinds::{BuiltinKind, ConstraintKind, Order, Relation};
 pub(crate) enum Form {
     Truth,
     Failure,
+    Cut,
     Unification,
     Posting,
     Constraint(ConstraintKind),
     Labelling(Order),
+    /// The least cost of a labelling, or the greatest.
+    Optimum(bool),
     Builtin(BuiltinKind),
 }
 
@@ -25,28 +28,13 @@ pub(crate) fn is_reserved(name: &str) -> bool
     matches!(name, "[]" | "{}" | ".")
 }
 
-/// Whether the name with so many arguments is that of a form that the language doesn't have yet.
-pub(crate) fn is_not_yet(name: &str, arity: usize) -> bool
-    ensures { result ≡ is_named (not_yet_names arity) name.now }
-{
-    match arity {
-        0 => name == "!",
-        1 => name == "\\+",
-        2 => matches!(
-            name,
-            "->" | "#<=>" | "fd_not" | "fd_minimize" | "fd_maximize"
-        ),
-        3 => matches!(name, "fd_and" | "fd_or"),
-        _ => false,
-    }
-}
-
-/// Whether the name with so many arguments joins two bodies to one.
+/// Whether the goals with the name and so many arguments are made of bodies.
 fn is_joining(name: &str, arity: usize) -> bool
     ensures { result ≡ is_named (joining_names arity) name.now }
 {
     match arity {
-        2 => matches!(name, "," | ";"),
+        1 => name == "\\+",
+        2 => matches!(name, "," | ";" | "->"),
         _ => false,
     }
 }
@@ -77,6 +65,7 @@ fn nullary(name: &str) -> Option<Form>
     match name {
         "true" => Some(Form::Truth),
         "fail" | "false" => Some(Form::Failure),
+        "!" => Some(Form::Cut),
         "nl" => Some(Form::Builtin(BuiltinKind::Nl)),
         _ => None,
     }
@@ -139,19 +128,23 @@ fn binary_from_constraints(name: &str) -> Option<Form>
         "#=<" => Some(Form::Constraint(ConstraintKind::Compare(Relation::AtMost))),
         "#>" => Some(Form::Constraint(ConstraintKind::Compare(Relation::Greater))),
         "#>=" => Some(Form::Constraint(ConstraintKind::Compare(Relation::AtLeast))),
+        "#<=>" => Some(Form::Constraint(ConstraintKind::Reified)),
+        "fd_not" => Some(Form::Constraint(ConstraintKind::Not)),
         _ => domain_reader(name),
     }
 }
 
-/// The form of the goals with the name and two arguments that read a domain, by the last rows.
+/// The form of the goals with the name and two arguments that read a domain or ask for a cost, by the last rows.
 fn domain_reader(name: &str) -> Option<Form>
-    ensures { option_map form_seen result ≡ binary_from 17 name.now }
+    ensures { option_map form_seen result ≡ binary_from 19 name.now }
 {
     match name {
         "fd_min" => Some(Form::Builtin(BuiltinKind::FdMin)),
         "fd_max" => Some(Form::Builtin(BuiltinKind::FdMax)),
         "fd_size" => Some(Form::Builtin(BuiltinKind::FdSize)),
         "fd_dom" => Some(Form::Builtin(BuiltinKind::FdDom)),
+        "fd_minimize" => Some(Form::Optimum(true)),
+        "fd_maximize" => Some(Form::Optimum(false)),
         _ => None,
     }
 }
@@ -162,6 +155,8 @@ fn ternary(name: &str) -> Option<Form>
     match name {
         "fd_element" => Some(Form::Constraint(ConstraintKind::Element)),
         "fd_atmost" => Some(Form::Constraint(ConstraintKind::Atmost)),
+        "fd_and" => Some(Form::Constraint(ConstraintKind::And)),
+        "fd_or" => Some(Form::Constraint(ConstraintKind::Or)),
         _ => None,
     }
 }

@@ -38,6 +38,14 @@ pub enum FlatGoal {
     Either(Part, Part),
     /// A built-in predicate: the whole goal.
     Builtin(BuiltinKind, TermId),
+    /// `!`.
+    Cut,
+    /// `C -> A` or `C -> A ; B`: the goals of the test, those behind it, and those of the other way where there is one.
+    If(Part, Part, Option<Part>),
+    /// `\+ C`: the goals of the test.
+    Not(Part),
+    /// The best leaf of a labelling: its order, whether the least cost is wanted, the list and the cost.
+    Best(Order, bool, TermId, TermId),
 }
 
 /// A clause: how many variables it has, its head, and the goals of its body.

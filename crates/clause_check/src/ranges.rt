@@ -41,12 +41,17 @@ fn offence(fault: CheckFault) -> Fault
     }
 }
 
-/// The range that a term spells, where the check accepts it.
-pub(crate) fn accepted_range(alloc: Global, pool: &Pool, t: TermId) -> Result<Checked, Fault>
+/// The range that a term spells, where the check accepts it. `infinity` is the number that the word is read as.
+pub(crate) fn accepted_range(
+    alloc: Global,
+    pool: &Pool,
+    t: TermId,
+    infinity: u32,
+) -> Result<Checked, Fault>
     requires { t.number < length pool.now.entries }
-    ensures { IsRangeOf pool.now (placed_of pool.now t) result }
+    ensures { IsRangeOf infinity pool.now (placed_of pool.now t) result }
 {
-    let source = match read_range(alloc, pool, t) {
+    let source = match read_range(alloc, pool, t, infinity) {
         Ok(source) => source,
         Err(fault) => return Err(unspelled(fault)),
     };

@@ -30,13 +30,24 @@ pub(crate) enum SentenceForm {
     Fact(TermId),
 }
 
+/// What makes one goal of two bodies.
+#[derive(Clone, Copy)]
+pub(crate) enum Joint {
+    /// `;`.
+    Semicolon,
+    /// `->`.
+    Arrow,
+}
+
 /// What a body is.
 #[derive(Clone, Copy)]
 pub(crate) enum Body {
     /// `A, B`.
     Both(TermId, TermId),
-    /// `A ; B`.
-    Either(TermId, TermId),
+    /// `A ; B` or `A -> B`.
+    Joined(Joint, TermId, TermId),
+    /// `\+ A`.
+    Denied(TermId),
     /// One goal.
     Goal,
 }
@@ -93,9 +104,14 @@ pub(crate) fn body_form(pool: &Pool, t: TermId) -> Body
     ensures { IsBody pool.now t result }
 {
     match look(pool, t) {
+        Node::Comp(name, &[inner]) => match pool.name_of(name) {
+            "\\+" => Body::Denied(inner),
+            _ => Body::Goal,
+        },
         Node::Comp(name, &[left, right]) => match pool.name_of(name) {
             "," => Body::Both(left, right),
-            ";" => Body::Either(left, right),
+            ";" => Body::Joined(Joint::Semicolon, left, right),
+            "->" => Body::Joined(Joint::Arrow, left, right),
             _ => Body::Goal,
         },
         _ => Body::Goal,

@@ -3,9 +3,9 @@ use Rattle.std.specs.Prelude.{ℕ, Bool, List, [], ◌∷◌, Option, find, nat_
 use Rattle.std.specs.List.{starts_with}
 use Rattle.std.specs.Str.{bytes_eq}
 use Rattle.clpwhere.specs.declared.reason.Reason.{Reason}
-use Rattle.clpwhere.specs.declared.reason.Reason.TheVariants.{TooLarge, NotUtf8, BadCharacter, OpenQuote, OpenComment, BadEscape, IntegerTooWide, FloatOut, StringOut, Syntax, TooDeep, ArityOver255, BadHead, Redefines, BadGoal, NotYet, Unknown, NotARange, TooWide, NotMonotone, NotNatural, BadDivisor}
+use Rattle.clpwhere.specs.declared.reason.Reason.TheVariants.{TooLarge, NotUtf8, BadCharacter, OpenQuote, OpenComment, BadEscape, IntegerTooWide, FloatOut, StringOut, Syntax, TooDeep, ArityOver255, BadHead, Redefines, BadGoal, Unknown, NotARange, TooWide, NotMonotone, NotNatural, BadDivisor}
 
--- how the reason is told; those of `Redefines`, `NotYet` and `Unknown` have a name and a number of arguments behind these words
+-- how the reason is told; those of `Redefines` and `Unknown` have a name and a number of arguments behind these words
 abbrev pub reason_words : Reason → List ℕ
 reason_words TooLarge = codes "too large"
 reason_words NotUtf8 = codes "not UTF-8"
@@ -22,7 +22,6 @@ reason_words ArityOver255 = codes "arity over 255"
 reason_words BadHead = codes "bad head"
 reason_words Redefines = codes "redefines "
 reason_words BadGoal = codes "bad goal"
-reason_words NotYet = codes "not yet "
 reason_words Unknown = codes "unknown "
 reason_words NotARange = codes "not a range"
 reason_words TooWide = codes "too wide"
@@ -41,13 +40,12 @@ reason_sentence BadEscape = codes "This backslash starts no escape that a quoted
 reason_sentence IntegerTooWide = codes "The greatest integer is 9223372036854775807."
 reason_sentence FloatOut = codes "Numbers are integers: none has a fraction."
 reason_sentence StringOut = codes "Texts in double quotes aren't part of the language; a name may stand in single quotes."
-reason_sentence Syntax = codes "With this token the text begins no list of sentences, each ended by a full stop."
+reason_sentence Syntax = codes "Behind a term this place wants an operator, a comma, a closing bracket or the full stop, and elsewhere a term."
 reason_sentence TooDeep = codes "At most 1000 brackets may be open at once."
 reason_sentence ArityOver255 = codes "A compound term has at most 255 arguments."
-reason_sentence BadHead = codes "The head of a clause is a name or a name with arguments, and a directive has none."
+reason_sentence BadHead = codes "The head of a clause is a name or a name with arguments; a sentence that begins with :- is a directive, and there are none."
 reason_sentence Redefines = codes "A clause can't redefine a form of the language."
-reason_sentence BadGoal = codes "A goal is a name or a name with arguments, and no variable, number or list."
-reason_sentence NotYet = codes "The language doesn't have this form yet."
+reason_sentence BadGoal = codes "A goal is a name or a name with arguments, and no variable, number or list; that of fd_minimize and fd_maximize is a labelling."
 reason_sentence Unknown = codes "No clause of the text has this name with this number of arguments, and the language has no such form."
 reason_sentence NotARange = codes "This part fits nowhere in a range."
 reason_sentence TooWide = codes "A value could become wider than 126 bits here."
@@ -57,12 +55,11 @@ reason_sentence BadDivisor = codes "A literal divisor is at least 1, and that of
 
 abbrev pub all_reasons : List Reason
 all_reasons = TooLarge ∷ NotUtf8 ∷ BadCharacter ∷ OpenQuote ∷ OpenComment ∷ BadEscape ∷ IntegerTooWide ∷ FloatOut ∷ StringOut ∷ Syntax ∷ TooDeep
-    ∷ ArityOver255 ∷ BadHead ∷ Redefines ∷ BadGoal ∷ NotYet ∷ Unknown ∷ NotARange ∷ TooWide ∷ NotMonotone ∷ NotNatural ∷ BadDivisor ∷ []
+    ∷ ArityOver255 ∷ BadHead ∷ Redefines ∷ BadGoal ∷ Unknown ∷ NotARange ∷ TooWide ∷ NotMonotone ∷ NotNatural ∷ BadDivisor ∷ []
 
 -- the words tell the reason
 abbrev pub is_told_by : List ℕ → Reason → Bool
 is_told_by words Redefines = starts_with nat_eq words (reason_words Redefines)
-is_told_by words NotYet = starts_with nat_eq words (reason_words NotYet)
 is_told_by words Unknown = starts_with nat_eq words (reason_words Unknown)
 is_told_by words r = bytes_eq words (reason_words r)
 

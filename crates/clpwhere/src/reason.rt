@@ -36,8 +36,6 @@ pub(crate) enum Reason {
     Redefines,
     /// A goal is none that a body may have.
     BadGoal,
-    /// The language doesn't have the form yet.
-    NotYet,
     /// Nothing has the name of a goal.
     Unknown,
     /// A part fits nowhere in a range.
@@ -53,7 +51,7 @@ pub(crate) enum Reason {
 }
 
 /// All reasons.
-const REASONS: [Reason; 22] = [
+const REASONS: [Reason; 21] = [
     Reason::TooLarge,
     Reason::NotUtf8,
     Reason::BadCharacter,
@@ -69,7 +67,6 @@ const REASONS: [Reason; 22] = [
     Reason::BadHead,
     Reason::Redefines,
     Reason::BadGoal,
-    Reason::NotYet,
     Reason::Unknown,
     Reason::NotARange,
     Reason::TooWide,
@@ -99,7 +96,6 @@ impl Reason {
             Reason::BadHead => "bad head",
             Reason::Redefines => "redefines ",
             Reason::BadGoal => "bad goal",
-            Reason::NotYet => "not yet ",
             Reason::Unknown => "unknown ",
             Reason::NotARange => "not a range",
             Reason::TooWide => "too wide",
@@ -125,15 +121,14 @@ impl Reason {
             Reason::StringOut =>
                 "Texts in double quotes aren't part of the language; a name may stand in single quotes.",
             Reason::Syntax =>
-                "With this token the text begins no list of sentences, each ended by a full stop.",
+                "Behind a term this place wants an operator, a comma, a closing bracket or the full stop, and elsewhere a term.",
             Reason::TooDeep => "At most 1000 brackets may be open at once.",
             Reason::ArityOver255 => "A compound term has at most 255 arguments.",
             Reason::BadHead =>
-                "The head of a clause is a name or a name with arguments, and a directive has none.",
+                "The head of a clause is a name or a name with arguments; a sentence that begins with :- is a directive, and there are none.",
             Reason::Redefines => "A clause can't redefine a form of the language.",
             Reason::BadGoal =>
-                "A goal is a name or a name with arguments, and no variable, number or list.",
-            Reason::NotYet => "The language doesn't have this form yet.",
+                "A goal is a name or a name with arguments, and no variable, number or list; that of fd_minimize and fd_maximize is a labelling.",
             Reason::Unknown =>
                 "No clause of the text has this name with this number of arguments, and the language has no such form.",
             Reason::NotARange => "This part fits nowhere in a range.",
@@ -152,9 +147,7 @@ impl Reason {
         ensures { result ≡ is_told_by words.now self }
     {
         match self {
-            Reason::Redefines | Reason::NotYet | Reason::Unknown => {
-                words.starts_with(self.words().as_bytes())
-            }
+            Reason::Redefines | Reason::Unknown => words.starts_with(self.words().as_bytes()),
             _ => words == self.words().as_bytes(),
         }
     }

@@ -21,7 +21,7 @@ HasNames (Refused place reason pool) = IsReasonIn pool reason
 -- the verdict on a text
 pub record IsVerdictOn (text : List ℕ) (v : Verdict) : Type 0 where
   pub names : HasNames v
-  pub verdict : IsVerdict INFINITY text (verdict_of v)
+  pub verdict : IsVerdict INFINITY INFINITY text (verdict_of v)
 
 -- the verdict is this one
 pub record Is (w : model.Verdict) (v : Verdict) : Type 0 where

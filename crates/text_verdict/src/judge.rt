@@ -73,7 +73,7 @@ fn judge_characters(alloc: Global, text: &str) -> Result<Verdict, NoMemory>
 /// What a text is that has no sentences.
 fn judge_fault(alloc: Global, fault: ReaderFault) -> Result<Verdict, NoMemory>
     ensures { (r : Reading.Reading) → IsFaultFor r fault → IfOk result (Is (reading_verdict INFINITY
-        r)) }
+        INFINITY r)) }
 {
     match fault {
         ReaderFault::Token(TokenFault::At { place, cause }) => {
@@ -106,10 +106,10 @@ fn judge_sentences(alloc: Global, sentences: Sentences) -> Result<Verdict, NoMem
     requires own { AreOwn sentences }
     requires names { HaveNames sentences }
     requires parts { HaveParts sentences }
-    ensures { IfOk result (Is (reading_verdict INFINITY (Reading.sentences (sentences_of
-        sentences)))) }
+    ensures { IfOk result (Is (reading_verdict INFINITY INFINITY (Reading.sentences
+        (sentences_of sentences)))) }
 {
-    match check_program(alloc, sentences) {
+    match check_program(alloc, sentences, INFINITY) {
         Ok(program) => Ok(Verdict::Accepted(program)),
         Err(ProgramFault::At { place, cause, pool }) => Ok(Verdict::Refused {
             place,
@@ -139,10 +139,6 @@ fn sentence_reason(cause: &Cause) -> Reason
         Cause::ArityOver255 => Reason::ArityOver255,
         Cause::Range(_) => Reason::NotARange,
         Cause::Check(fault) => range_reason(fault),
-        Cause::NotYet { name, arity } => Reason::NotYet {
-            name: *name,
-            arity: *arity,
-        },
     }
 }
 

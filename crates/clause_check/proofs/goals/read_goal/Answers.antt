@@ -21,4 +21,4 @@ returns-then-contains-clause-kept c =
     let pool = c.args.sentences.now.pool in
     let f = functor_in pool c.in-Some.functor in
     let named : form_named f.name f.arity ≡ None = ap (λ (a : Name). form_named a f.arity) (sym c.name_of-text.ensures.name) ∙ sym c.in_default-form_named.ensures in
-    keeps_call pool c.args.ranges.now.items c.args.t f c.requires.term c.in-Some.ensures.functor.1 named
+    keeps_call c.args.infinity pool c.args.ranges.now.items c.args.t f c.requires.term c.in-Some.ensures.functor.1 named

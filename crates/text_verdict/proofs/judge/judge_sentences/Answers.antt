@@ -18,7 +18,7 @@ returns-in-Err-At c =
     let place = c.in-Err-At.place in
     let cause = c.in-Err-At.cause in
     let pool = c.in-Err-At.pool in
-    let refused = subst (Refuses s.pool (first_refusal INFINITY (terms_of s) (terms_of s))) c.in-Err-At.field-0-is c.in-Err-At.ensures.refused in
+    let refused = subst (Refuses s.pool (first_refusal INFINITY INFINITY (terms_of s) (terms_of s))) c.in-Err-At.field-0-is c.in-Err-At.ensures.refused in
     let told = c.sentence_reason.ensures pool place (subst (λ (k : Contents). IsCauseAt k place cause) (sym refused.0) refused.1) in
     record {
       names = told.0;

@@ -23,13 +23,13 @@ pub returns-clause-accepted : goal.returns-clause-accepted
 returns-clause-accepted c =
     let s = c.args.sentences.now in
     let all = all_done s.list.items _ c.loop-sentence.sentence-index c.deref-sentence-items.ensures.value c.loop-sentence-test.false in
-    subst (λ (xs : List Sentence). first_refusal INFINITY (terms_of s) (map (term_in s) xs) ≡ None) all c.loop-sentence.invariant.accepted
+    subst (λ (xs : List Sentence). first_refusal INFINITY c.args.infinity (terms_of s) (map (term_in s) xs) ≡ None) all c.loop-sentence.invariant.accepted
 
 pub returns-clause-stands : goal.returns-clause-stands
 returns-clause-stands c =
     let s = c.args.sentences.now in
     let all = all_done s.list.items _ c.loop-sentence.sentence-index c.deref-sentence-items.ensures.value c.loop-sentence-test.false in
-    subst (StandsFor s.pool c.loop-sentence.self) all c.loop-sentence.invariant.stands
+    subst (StandsFor c.args.infinity s.pool c.loop-sentence.self) all c.loop-sentence.invariant.stands
 
 pub add_sentence-requires-clause-sentence : goal.add_sentence-requires-clause-sentence
 add_sentence-requires-clause-sentence c =
@@ -49,7 +49,7 @@ returns-in_err-add_sentence-clause-fault c =
     let item = c.sentence-item.result in
     let at = at_place s.list.items _ i item c.deref-sentence-items.ensures.value c.loop-sentence-test.true c.sentence-item.is in
     let p = err_from_is_err_and c.from_residual.result c.from_residual.ensures.1 in
-    rw (p.1, p.2) (refused_at_sentence s i item c.in_err-add_sentence.field-0.0 at.0 at.1 c.loop-sentence.invariant.accepted c.in_err-add_sentence.ensures.fault)
+    rw (p.1, p.2) (refused_at_sentence c.args.infinity s i item c.in_err-add_sentence.field-0.0 at.0 at.1 c.loop-sentence.invariant.accepted c.in_err-add_sentence.ensures.fault)
 
 pub loop-sentence-init : goal.loop-sentence-init
 loop-sentence-init c = record { accepted = refl; stands = c.requires.nothing }
@@ -62,6 +62,6 @@ loop-sentence-preserved c =
     let at = at_place s.list.items _ i item c.deref-sentence-items.ensures.value c.loop-sentence-test.true c.sentence-item.is in
     let added = c.in_ok-add_sentence.ensures.added in
     record {
-      accepted = accepted_more s i item at.0 at.1 c.loop-sentence.invariant.accepted added.accepted;
-      stands = stands_more s c.loop-sentence.self c.add_sentence.new.self i item at.0 at.1 c.loop-sentence.invariant.stands added;
+      accepted = accepted_more c.args.infinity s i item at.0 at.1 c.loop-sentence.invariant.accepted added.accepted;
+      stands = stands_more c.args.infinity s c.loop-sentence.self c.add_sentence.new.self i item at.0 at.1 c.loop-sentence.invariant.stands added;
     }

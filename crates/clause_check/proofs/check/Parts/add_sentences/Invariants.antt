@@ -9,6 +9,6 @@ use Rattle.clause_check.proofs.check.Parts.add_sentences.Given as goal
 abbrev pub invariant-loop-sentence : goal.invariant-loop-sentence
 invariant-loop-sentence l =
     record {
-      accepted : first_refusal INFINITY (terms_of l.sentences) (front l.sentences l.sentence-index) ≡ None;
-      stands : StandsFor l.sentences.pool l.self (take l.sentence-index l.sentences.list.items);
+      accepted : first_refusal INFINITY l.fn.infinity (terms_of l.sentences) (front l.sentences l.sentence-index) ≡ None;
+      stands : StandsFor l.fn.infinity l.sentences.pool l.self (take l.sentence-index l.sentences.list.items);
     }

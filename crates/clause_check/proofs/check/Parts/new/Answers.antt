@@ -8,7 +8,7 @@ use Rattle.clause_check.specs.Programs.{clause_by, query_by, query_kept, IsClaus
 use Rattle.clause_check.proofs.check.Parts.new.Goals as goal
 
 pub returns : goal.returns
-returns c = λ p. record {
+returns c = λ N p. record {
   store = c.new.ensures p;
   clauses = subst (All (IsClause p (length c.new.result.goals.items))) (sym c.new-2.ensures.items) (All-nil (IsClause p (length c.new.result.goals.items)));
   queries = subst (λ (qs : List QueryParts). All (IsQueryWithin p (length c.new.result.goals.items)) (map query_kept qs)) (sym c.new-3.ensures.items) (All-nil (IsQueryWithin p (length c.new.result.goals.items)));
