@@ -1,5 +1,5 @@
 -- The slots of a query's variables, and its code once all its parts are written.
-use Rattle.std.proofs.Common.{◌≡◌, ◌≢◌, ℕ, zero, suc, ◌+◌, ◌-◌, ◌<◌, true, List, [], ◌∷◌, ◌++◌, map, Some, length, get_or, set, All, ap, sym, ◌∙◌, subst, arith, inl, inr, append_assoc, length-set, get_or-set_same, get_or-set_other}
+use Rattle.std.proofs.Common.{◌≡◌, ◌≢◌, ℕ, zero, suc, ◌+◌, ◌-◌, ◌<◌, ◌≤◌, true, List, [], ◌∷◌, ◌++◌, map, Some, length, get_or, set, All, ap, sym, ◌∙◌, subst, arith, inl, inr, append_assoc, length-set, get_or-set_same, get_or-set_other}
 use Rattle.std.proofs.lemmas.Bool.{cases_eq, true≢false}
 use Rattle.std.proofs.lemmas.List.{get_or-map, length-map}
 use Rattle.std.proofs.lemmas.Option.{slice_get-get_or}
@@ -17,9 +17,9 @@ use Rattle.clause_code.specs.Predicates.{Appends, base_in}
 use Rattle.clause_code.specs.Safe.{IsQueryPiece}
 use Rattle.clause_code.specs.Slots.{slot, AreGiven, AreShown, AreAll, IsFrame}
 use Rattle.clause_code.specs.Steps.{home}
-use Rattle.clause_code.specs.Bodies.{IsGoalsCode}
-use Rattle.clause_code.specs.Whole.{front, head_code, IsHoused, AreSlots}
-use Rattle.clause_code.proofs.Clauses.{InSlots, start_code, whole_query}
+use Rattle.clause_code.specs.Bodies.{Levels, AreFree, IsGoalsCode}
+use Rattle.clause_code.specs.Whole.{front, head_code, IsHoused, AreSlots, levels_code, levels_behind}
+use Rattle.clause_code.proofs.Clauses.{InSlots, start_framed, whole_query}
 use Rattle.clause_code.proofs.Ending.{place_behind}
 
 -- ---- what is known of a query
@@ -112,11 +112,11 @@ frame_slots v shown homes slots f =
       slots = λ x l. let w = f.in_frame x (omega (arith, l, n)) in (w.0, w.1);
     }
 
-frame_housed : (v : ℕ) (shown : List ℕ) (homes : List Register) (slots : ℕ) → IsFrame v shown homes slots → IsHoused homes true slots 0 1
-frame_housed v shown homes slots f =
+frame_housed : (v : ℕ) (shown : List ℕ) (homes : List Register) (slots size : ℕ) → slots ≤ size → IsFrame v shown homes slots → IsHoused homes true size 0 1
+frame_housed v shown homes slots size room f =
     let n = f.long in record {
       apart = λ x y l m e. f.apart x y (omega (arith, l, n)) (omega (arith, m, n)) e;
-      in_frame = λ e x l. f.in_frame x (omega (arith, l, n));
+      in_frame = λ e x l. let w = f.in_frame x (omega (arith, l, n)) in let m = w.2 in (w.0, w.1, omega (arith, m, room));
       in_registers = λ e. absurd (true≢false e);
       clear = λ i h x l e. let w = f.in_frame x (omega (arith, l, n)) in let y : home homes x ≡ Y (suc w.0) = w.1 in absurd (cc);
       above = omega arith;
@@ -131,22 +131,37 @@ in_slots homes k (x ∷ shown) own first =
       in_slots homes (suc k) shown (λ j l. own (suc j) (omega (arith, l))) (λ j l. let up : k + suc j ≡ suc k + j = omega arith in first (suc j) (omega (arith, l)) ∙ ap Y up),
     )
 
-pub query_written : (p : FlatProgram) (ps : List Predicate) (homes : List Register) (slots q start : ℕ) (old one head goals new : List Code) → IsFrame (query_at p q).variables (query_at p q).shown homes slots → Asked p q
-    → one ≡ old ++ (Allocate slots ∷ []) → head ≡ one ++ head_code p.pool homes 1 no_terms → Appends head goals (λ js. IsGoalsCode (base_in p ps) homes true (start + length head) js (query_in p (query_at p q)).goals) → new ≡ goals ++ (AnswerNow ∷ [])
+-- the level slots are behind those of the variables
+pub frame_free : (v : ℕ) (shown : List ℕ) (homes : List Register) (slots count : ℕ) → IsFrame v shown homes slots → AreFree homes (levels_behind slots count)
+frame_free v shown homes slots count f = record { clear = λ k a z x l e. by count k a x l e; within = inside count }
+  where
+    by : (n k : ℕ) → (levels_behind slots n).first ≤ k → (x : ℕ) → x < length homes → home homes x ≡ Y k → ⊥
+    by zero k a x l e = let n = f.long in let w = f.in_frame x (omega (arith, l, n)) in let m = w.2 in let same : Y (suc w.0) ≡ Y k = sym w.1 ∙ e in let is : suc w.0 ≡ k = cc in omega (arith, is, a, m)
+    by (suc j) k a x l e = let n = f.long in let w = f.in_frame x (omega (arith, l, n)) in let m = w.2 in let same : Y (suc w.0) ≡ Y k = sym w.1 ∙ e in let is : suc w.0 ≡ k = cc in omega (arith, is, a, m)
+
+    inside : (n : ℕ) → (levels_behind slots n).next ≤ (levels_behind slots n).end
+    inside zero = omega arith
+    inside (suc n) = omega arith
+
+pub query_written : (p : FlatProgram) (ps : List Predicate) (homes : List Register) (slots count q start : ℕ) (old one head goals new : List Code) → IsFrame (query_at p q).variables (query_at p q).shown homes slots → Asked p q
+    → one ≡ old ++ (Allocate (slots + count) ∷ []) → head ≡ one ++ (head_code p.pool homes 1 no_terms ++ levels_code (levels_behind slots count))
+    → Appends head goals (λ js. IsGoalsCode (base_in p ps) homes true (levels_behind slots count) (start + length head) js (query_in p (query_at p q)).goals) → new ≡ goals ++ (AnswerNow ∷ [])
     → Appends old new (λ is. IsQueryPiece (base_in p ps) (start + length old) is (query_in p (query_at p q)))
-query_written p ps homes slots q start old one head goals new frame asked d e f g =
+query_written p ps homes slots count q start old one head goals new frame asked d e f g =
     let b : Base = base_in p ps in
     let at : ℕ = start + length old in
-    let hs : List Code = head_code p.pool homes 1 no_terms in
-    let is : List Code = front true slots ++ hs in
-    let stands : head ≡ old ++ is = e ∙ ap (λ l. l ++ hs) d ∙ append_assoc old (Allocate slots ∷ []) hs in
-    let w = subst (λ k. Appends head goals (λ js. IsGoalsCode b homes true k js (query_in p (query_at p q)).goals)) (place_behind start old is head stands) f in
+    let l : Levels = levels_behind slots count in
+    let hs : List Code = head_code p.pool homes 1 no_terms ++ levels_code l in
+    let is : List Code = front true (slots + count) ++ hs in
+    let stands : head ≡ old ++ is = e ∙ ap (λ x. x ++ hs) d ∙ append_assoc old (Allocate (slots + count) ∷ []) hs in
+    let w = subst (λ k. Appends head goals (λ js. IsGoalsCode b homes true l k js (query_in p (query_at p q)).goals)) (place_behind start old is head stands) f in
     let n = frame.long in
     let shown : List ℕ = (query_at p q).shown in
-    let placed = in_slots homes 1 shown (λ j l. let o = asked.own j 0 l in omega (arith, o, n)) (λ j l. let up : suc j ≡ 1 + j = omega arith in frame.first j l ∙ ap Y up) in (
+    let placed = in_slots homes 1 shown (λ j m. let o = asked.own j 0 m in omega (arith, o, n)) (λ j m. let up : suc j ≡ 1 + j = omega arith in frame.first j m ∙ ap Y up) in (
       (is ++ w.0) ++ (AnswerNow ∷ []),
       g
-          ∙ ap (λ l. l ++ (AnswerNow ∷ [])) (w.1 ∙ ap (λ l. l ++ w.0) stands ∙ append_assoc old is w.0)
+          ∙ ap (λ x. x ++ (AnswerNow ∷ [])) (w.1 ∙ ap (λ x. x ++ w.0) stands ∙ append_assoc old is w.0)
           ∙ append_assoc old (is ++ w.0) (AnswerNow ∷ []),
-      whole_query b homes at (query_in p (query_at p q)) is w.0 (sym frame.long) placed (start_code b homes true slots 0 1 at no_terms (frame_housed (query_at p q).variables shown homes slots frame) tt (omega arith) tt) w.2,
+      whole_query b homes l at (query_in p (query_at p q)) is w.0 (sym frame.long) placed
+          (start_framed b homes (slots + count) 0 1 at no_terms (frame_housed (query_at p q).variables shown homes slots (slots + count) (omega arith) frame) tt (omega arith) tt slots count (frame_free (query_at p q).variables shown homes slots count frame) (omega arith)) w.2,
     )

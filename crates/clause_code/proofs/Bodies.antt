@@ -1,11 +1,11 @@
 -- What the code of goals does, and how states flow through it.
-use Rattle.std.proofs.Common.{◌≡◌, ℕ, zero, suc, ◌+◌, ◌<◌, ◌≤◌, Bool, true, false, if◌then◌else◌, IsTrue, List, [], ◌∷◌, ◌++◌, map, Some, length, slice_get, refl, ap, sym, ◌∙◌, subst, arith, eq-eqb}
+use Rattle.std.proofs.Common.{◌≡◌, ℕ, zero, suc, ◌+◌, ◌<◌, ◌≤◌, Bool, true, false, if◌then◌else◌, IsTrue, List, [], ◌∷◌, ◌++◌, map, Option, Some, None, length, slice_get, refl, ap, sym, ◌∙◌, subst, arith, eq-eqb}
 use Rattle.std.proofs.lemmas.Bool.{true≢false}
 use Rattle.std.proofs.lemmas.Bool.Decides.{nat_tests}
 use Rattle.fd_language.specs.Family.{has}
 use Rattle.fd_language.specs.Term.{Term, Terms, Var, term_count}
 use Rattle.fd_model.specs.Goal as goal
-use Rattle.fd_model.specs.Goal.{Goal, Goals, listed}
+use Rattle.fd_model.specs.Goal.{Goal, Goals, listed, marked, marked_goals, marked_all}
 use Rattle.fd_model.specs.Renaming.{rename_goal, rename_goals}
 use Rattle.machine_relation.specs.Heap.{Below}
 use Rattle.wam_code.specs.declared.instruction.Register.{Register}
@@ -15,23 +15,23 @@ use Rattle.wam_code.specs.declared.instruction.Code.TheVariants.{Jump, Either, G
 use Rattle.wam_code.specs.Area.{State}
 use Rattle.wam_code.specs.Effect.{effect}
 use Rattle.wam_code.specs.VerifiedCode.{Covers}
-use Rattle.wam_code.specs.Places.{Places, read, IsSettled, Hold}
+use Rattle.wam_code.specs.Places.{Depth, Places, read, IsSettled, Hold}
 use Rattle.clause_code.specs.Pieces.{Base, past, Does}
 use Rattle.clause_code.specs.Laws.{other_side, sides}
 use Rattle.clause_code.specs.Safe.{unplaced, IsThereIn, may_enter}
 use Rattle.clause_code.specs.Flowing.{is_simple, MayEnter}
 use Rattle.clause_code.specs.Steps.{Step, get_variable, get_constant, get_integer, get_structure, unify_variable, unify_register, unify_constant, unify_integer, put_variable, put_constant, put_integer, put_structure, home, is_made, is_register, marked_by, marked_by_all, instructions, code_of, puts, AllSuit}
 use Rattle.clause_code.specs.ArgumentHomes.{AllLand}
-use Rattle.clause_code.specs.Bodies.{is_x, is_y, found_home, between_goals, InBody, IsRest, IsGoalsCode}
+use Rattle.clause_code.specs.Bodies.{is_x, is_y, found_home, Levels, HasDepths, IsNoHome, AreFree, between_goals, InBody, IsRest, IsGoalsCode}
 use Rattle.clause_code.proofs.Pieces.{does_nothing, does_both, does_either}
-use Rattle.clause_code.proofs.Making.{Clear, AreApart, fits_whole}
+use Rattle.clause_code.proofs.Making.{Clear, KeepsDepths, AreApart, fits_whole}
 use Rattle.clause_code.proofs.Going.{moved_all, AllMade, At}
 use Rattle.clause_code.proofs.Building.{PutAllBy, puts_put}
 use Rattle.clause_code.proofs.Flowing.{flows_both, flows_nothing, flows_runs_less, flows_sides, enters_both, simple_enters}
 
 -- ---- places between goals
 
-found_is : (test : Register → Bool) (u : ℕ) (rs : List Register) (t : Term) → found_home test u rs ≡ Some t → (x : ℕ) × (x < length rs) × (test (home rs x) ≡ true) × (t ≡ Var (u + x))
+pub found_is : (test : Register → Bool) (u : ℕ) (rs : List Register) (t : Term) → found_home test u rs ≡ Some t → (x : ℕ) × (x < length rs) × (test (home rs x) ≡ true) × (t ≡ Var (u + x))
 found_is test u [] t e = absurd (cc)
 found_is test u (r ∷ rs) t e = by (found_is test (suc u) rs t) (test r) refl e
   where
@@ -61,21 +61,21 @@ x_is : (i : ℕ) (r : Register) → is_x i r ≡ true → r ≡ X i
 x_is i (X j) h = let e : i ≡ j = grind (arith, nat_tests) in ap X (sym e)
 x_is i (Y j) h = absurd (true≢false (sym h))
 
-y_is : (i : ℕ) (r : Register) → is_y i r ≡ true → r ≡ Y i
+pub y_is : (i : ℕ) (r : Register) → is_y i r ≡ true → r ≡ Y i
 y_is i (X j) h = absurd (true≢false (sym h))
 y_is i (Y j) h = let e : i ≡ j = grind (arith, nat_tests) in ap Y (sym e)
 
-module _ (n : ℕ) (homes : List Register) (apart : AreApart homes) where
-  between_read : (x : ℕ) → x < length homes → (r : Register) → home homes x ≡ r → read (between_goals n homes) r ≡ Some (Var (n + x))
+module _ (n : ℕ) (homes : List Register) (depths : ℕ → Option Depth) (apart : AreApart homes) where
+  between_read : (x : ℕ) → x < length homes → (r : Register) → home homes x ≡ r → read (between_goals n homes depths) r ≡ Some (Var (n + x))
   between_read x l (X i) e = found_at (is_x i) n homes x l (ap (is_x i) e ∙ eq-eqb i i refl) (λ y m h. apart y x m l (x_is i (home homes y) h ∙ sym e))
   between_read x l (Y i) e = found_at (is_y i) n homes x l (ap (is_y i) e ∙ eq-eqb i i refl) (λ y m h. apart y x m l (y_is i (home homes y) h ∙ sym e))
 
   -- Each variable is in its home.
-  pub between_in : InBody n homes (between_goals n homes)
-  between_in = record { held = λ x l. between_read x l (home homes x) refl; whole = λ v l. absurd (omega (arith, l)); own = refl }
+  pub between_in : InBody n homes depths (between_goals n homes depths)
+  between_in = record { held = λ x l. between_read x l (home homes x) refl; levels = λ k e h. h; whole = λ v l. absurd (omega (arith, l)); own = refl }
 
   -- After a goal no more than that is counted on.
-  pub between_settled : (p : Places) → InBody n homes p → IsSettled p (between_goals n homes)
+  pub between_settled : (p : Places) → InBody n homes depths p → IsSettled p (between_goals n homes depths)
   between_settled p b = record {
     whole = b.whole;
     xs = λ i t e.
@@ -92,20 +92,22 @@ module _ (n : ℕ) (homes : List Register) (apart : AreApart homes) where
         let less : n + w.0 < p.own = omega (arith, l, own) in
         let read' : p.y i ≡ Some (Var (n + w.0)) = subst (λ r. read p r ≡ Some (Var (n + w.0))) (y_is i (home homes w.0) w.2) (b.held w.0 l) in
         (read' ∙ ap Some (sym w.3), subst (Below p.own) (sym w.3) less);
+    levels = b.levels;
+    noted = λ d h. absurd (cc);
     known = λ v. refl;
     own = sym b.own;
     top = refl;
   }
 
-  pub at_body : (framed : Bool) (made : List Bool) (p : Places) (s : State) → AllMade homes made → length made ≡ length homes → InBody n homes p → IsRest homes framed s → At n homes made p s
-  at_body framed made p s all long b r = record {
+  pub at_body : (framed : Bool) (l : Levels) (made : List Bool) (p : Places) (s : State) → AllMade homes made → length made ≡ length homes → InBody n homes depths p → IsRest homes framed l s → At n homes made p s
+  at_body framed l made p s all long b r = record {
     fits = record { held = λ x l e. b.held x l; fresh = λ x l e. absurd (true≢false (sym (all x l) ∙ e)); whole = λ i l h. b.whole i l; own = b.own };
     tracks = record { set = λ x l e. r.set x l; free = λ x l e. absurd (true≢false (sym (all x l) ∙ e)) };
     long = long;
   }
 
-  pub body_at : (made : List Bool) (p : Places) (s : State) → AllMade homes made → At n homes made p s → InBody n homes p
-  body_at made p s all a = record { held = λ x l. a.fits.held x l (all x l); whole = fits_whole n homes made p a.fits all; own = a.fits.own }
+  pub body_at : (made : List Bool) (p q : Places) (s : State) → AllMade homes made → At n homes made q s → ((k : ℕ) (e : Depth) → depths k ≡ Some e → p.levels k ≡ Some e) → ((k : ℕ) (e : Depth) → depths k ≡ Some e → IsNoHome homes k) → KeepsDepths homes p q → InBody n homes depths q
+  body_at made p q s all a levels clear kept = record { held = λ x l. a.fits.held x l (all x l); levels = λ k e h. kept.levels k (clear k e h) ∙ levels k e h; whole = fits_whole n homes made q a.fits all; own = a.fits.own }
 
 -- ---- one goal
 
@@ -162,92 +164,118 @@ pub record Loaded (s t : State) (k : ℕ) : Type 0 where
   pub regs : (j : ℕ) → has s.regs j ≡ true → has t.regs j ≡ true
 
 abbrev pub Taken : Base → List Register → Code → Goal → Terms → Type 0
-Taken b homes i g ts = (n at : ℕ) (later : List Goal) (q : Places) → InBody n homes q → Hold q 1 (moved_all n ts) → Does b at (i ∷ []) q [] (rename_goal (λ x. n + x) g ∷ later) (between_goals n homes) [] later
+Taken b homes i g ts =
+    (n at : ℕ) (depths : ℕ → Option Depth) (d : Depth) (later : List Goal) (q : Places) → InBody n homes depths q → Hold q 1 (moved_all n ts) → Does b at (i ∷ []) q [] (marked d.branches (rename_goal (λ x. n + x) g) ∷ later) (between_goals n homes depths) [] later
 
-abbrev pub Effective : Base → List Register → Bool → Code → ℕ → Type 0
-Effective b homes framed i k = (s t : State) → IsRest homes framed s → Loaded s t k → (u : State) × (effect (unplaced b) i t ≡ Some u) × Covers u s
+abbrev pub Effective : Base → List Register → Bool → Levels → Code → ℕ → Type 0
+Effective b homes framed l i k = (s t : State) → IsRest homes framed l s → Loaded s t k → (u : State) × (effect (unplaced b) i t ≡ Some u) × Covers u s
 
-pub one_goal : (b : Base) (homes : List Register) (apart : AreApart homes) (framed : Bool) (made : List Bool) (free at : ℕ) (ts : Terms) (i : Code) (g : Goal) → AllMade homes made → length made ≡ length homes → Fine b homes free ts → IsTrue (is_simple i) → IsThereIn b i
-    → Taken b homes i g ts → Effective b homes framed i (term_count ts) → IsGoalsCode b homes framed at (code_of homes made (puts b.pool 1 free ts) ++ (i ∷ [])) (g ∷ [])
-one_goal b homes apart framed made free at ts i g all long f simple there takes effects =
+-- a slot that has a depth is no variable's
+pub no_home : (homes : List Register) (l : Levels) → AreFree homes l → (depths : ℕ → Option Depth) (d : Depth) → HasDepths l depths d → (k : ℕ) (e : Depth) → depths k ≡ Some e → IsNoHome homes k
+no_home homes l fits depths d h k e g =
+    let o = h.others k e g in
+    let a = o.1 in
+    let w = fits.within in
+    fits.clear k o.0 (omega (arith, a, w))
+
+abbrev pub nothing_held : ℕ → Option Depth
+nothing_held k = None
+
+pub one_goal : (b : Base) (homes : List Register) (apart : AreApart homes) (l : Levels) → AreFree homes l → (framed : Bool) (made : List Bool) (free at : ℕ) (ts : Terms) (i : Code) (g : Goal) → AllMade homes made → length made ≡ length homes → Fine b homes free ts → IsTrue (is_simple i) → IsThereIn b i
+    → Taken b homes i g ts → Effective b homes framed l i (term_count ts) → IsGoalsCode b homes framed l at (code_of homes made (puts b.pool 1 free ts) ++ (i ∷ [])) (g ∷ [])
+one_goal b homes apart l fits framed made free at ts i g all long f simple there takes effects =
     record {
-      does = λ s r n p later h.
-          let w = put n p s r h in
+      does = λ s r n depths d hd p later h.
+          let w = put n depths p s r h in
           let q : Places = w.went.q in
-          let mid : InBody n homes q = body_at n homes apart (marked_by_all made (puts b.pool 1 free ts)) q w.went.t (λ x l. w.went.keeps.more x l (all x l)) w.went.there in
+          let mid : InBody n homes depths q = body_at n homes depths apart (marked_by_all made (puts b.pool 1 free ts)) p q w.went.t (λ x m. w.went.keeps.more x m (all x m)) w.went.there h.levels (no_home homes l fits depths d hd) w.went.keeps.depths in
           let js : List Code = code_of homes made (puts b.pool 1 free ts) in
-          let goals : List Goal = rename_goal (λ x. n + x) g ∷ later in
+          let goals : List Goal = marked d.branches (rename_goal (λ x. n + x) g) ∷ later in
           record {
-            q = between_goals n homes;
-            there = between_in n homes apart;
+            q = between_goals n homes depths;
+            there = between_in n homes depths apart;
             same = λ e. refl;
-            does = does_both b at js (i ∷ []) p q (between_goals n homes) [] [] [] goals goals later (w.went.does goals) (takes n (past at js) later q mid w.hold);
+            does = does_both b at js (i ∷ []) p q (between_goals n homes depths) [] [] [] goals goals later (w.went.does goals) (takes n (past at js) depths d later q mid w.hold);
           };
       flows = λ s r.
-          let w = put 0 (between_goals 0 homes) s r (between_in 0 homes apart) in
+          let w = put 0 nothing_held (between_goals 0 homes nothing_held) s r (between_in 0 homes nothing_held apart) in
           let t : State = w.went.t in
-          let e = effects s t r (loaded s (between_goals 0 homes) r w) in
+          let e = effects s t r (loaded s (between_goals 0 homes nothing_held) r w) in
           flows_runs_less b at (code_of homes made (puts b.pool 1 free ts)) i s t e.0 s w.went.runs e.1 e.2 simple there;
       enters = enters_both (code_of homes made (puts b.pool 1 free ts)) (i ∷ []) (steps_enter homes made (puts b.pool 1 free ts)) (single_enters i (simple_enters i simple));
     }
   where
-    put : (n : ℕ) (p : Places) (s : State) → IsRest homes framed s → InBody n homes p → PutAllBy b n homes apart 1 made at p s [] (puts b.pool 1 free ts) ts
-    put n p s r h = puts_put b n homes apart made at 1 free ts p s [] (at_body n homes apart framed made p s all long h r) r.owed f.suit (let l = f.below in omega (arith, l)) all f.lands f.clear
+    put : (n : ℕ) (depths : ℕ → Option Depth) (p : Places) (s : State) → IsRest homes framed l s → InBody n homes depths p → PutAllBy b n homes apart 1 made at p s [] (puts b.pool 1 free ts) ts
+    put n depths p s r h = puts_put b n homes apart made at 1 free ts p s [] (at_body n homes depths apart framed l made p s all long h r) r.owed f.suit (let m = f.below in omega (arith, m)) all f.lands f.clear
 
-    loaded : (s : State) (p : Places) → IsRest homes framed s → (w : PutAllBy b 0 homes apart 1 made at p s [] (puts b.pool 1 free ts) ts) → Loaded s w.went.t (term_count ts)
+    loaded : (s : State) (p : Places) → IsRest homes framed l s → (w : PutAllBy b 0 homes apart 1 made at p s [] (puts b.pool 1 free ts) ts) → Loaded s w.went.t (term_count ts)
     loaded s p r w = record { frame = w.went.keeps.frame all; owed = w.went.owed; set = λ j m k. w.set j m (omega (arith, k)); regs = w.went.keeps.regs }
 
 -- ---- goals, one behind the other
 
-pub renamed_both : (f : ℕ → ℕ) (gs hs : List Goal) (later : List Goal) → map (rename_goal f) (gs ++ hs) ++ later ≡ map (rename_goal f) gs ++ (map (rename_goal f) hs ++ later)
-renamed_both f [] hs later = refl
-renamed_both f (g ∷ gs) hs later = ap (λ l. rename_goal f g ∷ l) (renamed_both f gs hs later)
+pub renamed_both : (m : ℕ) (f : ℕ → ℕ) (gs hs : List Goal) (later : List Goal) → marked_all m (map (rename_goal f) (gs ++ hs)) ++ later ≡ marked_all m (map (rename_goal f) gs) ++ (marked_all m (map (rename_goal f) hs) ++ later)
+renamed_both m f [] hs later = refl
+renamed_both m f (g ∷ gs) hs later = ap (λ l. marked m (rename_goal f g) ∷ l) (renamed_both m f gs hs later)
 
-pub goals_nothing : (b : Base) (homes : List Register) (framed : Bool) (at : ℕ) → IsGoalsCode b homes framed at [] []
-goals_nothing b homes framed at = record {
-  does = λ s r n p later h. record { q = p; there = h; same = λ e. e; does = does_nothing b at p [] later };
+pub goals_nothing : (b : Base) (homes : List Register) (framed : Bool) (l : Levels) (at : ℕ) → IsGoalsCode b homes framed l at [] []
+goals_nothing b homes framed l at = record {
+  does = λ s r n depths d hd p later h. record { q = p; there = h; same = λ e. e; does = does_nothing b at p [] later };
   flows = λ s r. flows_nothing b at s;
   enters = λ i e. absurd (cc);
 }
 
-pub goals_both : (b : Base) (homes : List Register) (framed : Bool) (at : ℕ) (is js : List Code) (gs hs : List Goal) → IsGoalsCode b homes framed at is gs → IsGoalsCode b homes framed (past at is) js hs → IsGoalsCode b homes framed at (is ++ js) (gs ++ hs)
-goals_both b homes framed at is js gs hs f g = record {
-  does = λ s r n p later h.
-      let rest : List Goal = map (rename_goal (λ x. n + x)) hs ++ later in
-      let a = f.does s r n p rest h in
-      let c = g.does s r n a.q later a.there in
+pub goals_both : (b : Base) (homes : List Register) (framed : Bool) (l : Levels) (at : ℕ) (is js : List Code) (gs hs : List Goal) → IsGoalsCode b homes framed l at is gs → IsGoalsCode b homes framed l (past at is) js hs → IsGoalsCode b homes framed l at (is ++ js) (gs ++ hs)
+goals_both b homes framed l at is js gs hs f g = record {
+  does = λ s r n depths d hd p later h.
+      let rest : List Goal = marked_all d.branches (map (rename_goal (λ x. n + x)) hs) ++ later in
+      let a = f.does s r n depths d hd p rest h in
+      let c = g.does s r n depths d hd a.q later a.there in
       record {
         q = c.q;
         there = c.there;
         same = λ e. c.same (a.same e);
-        does = subst (λ l. Does b at (is ++ js) p [] l c.q [] later) (sym (renamed_both (λ x. n + x) gs hs later)) (does_both b at is js p a.q c.q [] [] [] (map (rename_goal (λ x. n + x)) gs ++ rest) rest later a.does c.does);
+        does = subst (λ x. Does b at (is ++ js) p [] x c.q [] later) (sym (renamed_both d.branches (λ x. n + x) gs hs later)) (does_both b at is js p a.q c.q [] [] [] (marked_all d.branches (map (rename_goal (λ x. n + x)) gs) ++ rest) rest later a.does c.does);
       };
   flows = λ s r. flows_both b at is js s s s (f.flows s r) (g.flows s r);
   enters = enters_both is js f.enters g.enters;
 }
 
-listed_renamed : (f : ℕ → ℕ) (gs : Goals) → listed (rename_goals f gs) ≡ map (rename_goal f) (listed gs)
+pub listed_renamed : (f : ℕ → ℕ) (gs : Goals) → listed (rename_goals f gs) ≡ map (rename_goal f) (listed gs)
 listed_renamed f goal.no_goals = refl
 listed_renamed f (goal.goal g gs) = ap (λ l. rename_goal f g ∷ l) (listed_renamed f gs)
 
+-- the goals of a way, as they stand in the goal
+pub listed_marked : (m : ℕ) (f : ℕ → ℕ) (gs : Goals) → listed (marked_goals m (rename_goals f gs)) ≡ marked_all m (map (rename_goal f) (listed gs))
+listed_marked m f goal.no_goals = refl
+listed_marked m f (goal.goal g gs) = ap (λ l. marked m (rename_goal f g) ∷ l) (listed_marked m f gs)
+
+-- The code of goals leads from the places between goals to the same.
+pub does_between : (b : Base) (homes : List Register) (apart : AreApart homes) (framed : Bool) (l : Levels) (at : ℕ) (is : List Code) (gs : List Goal) → IsGoalsCode b homes framed l at is gs → (s : State) → IsRest homes framed l s → (n : ℕ) (depths : ℕ → Option Depth) (d : Depth) → HasDepths l depths d → (later : List Goal)
+    → Does b at is (between_goals n homes depths) [] (marked_all d.branches (map (rename_goal (λ x. n + x)) gs) ++ later) (between_goals n homes depths) [] later
+does_between b homes apart framed l at is gs f s r n depths d hd later =
+    let q : Places = between_goals n homes depths in
+    let a = f.does s r n depths d hd q later (between_in n homes depths apart) in
+    subst (λ w. Does b at is q [] (marked_all d.branches (map (rename_goal (λ x. n + x)) gs) ++ later) w [] later) (a.same refl) a.does
+
 -- Both ways of A ; B.
-pub goals_either : (b : Base) (homes : List Register) (apart : AreApart homes) (framed : Bool) (at : ℕ) (is js : List Code) (x y : Goals) → IsGoalsCode b homes framed (suc at) is (listed x) → IsGoalsCode b homes framed (other_side at is js) js (listed y)
-    → IsGoalsCode b homes framed at (sides at is js) (goal.Either x y ∷ [])
-goals_either b homes apart framed at is js x y f g = record {
-  does = λ s r n p later h.
-      let q : Places = between_goals n homes in
-      let in' : InBody n homes q = between_in n homes apart in
-      let a = f.does s r n q later in' in
-      let c = g.does s r n q later in' in
-      let one : Does b (suc at) is q [] (listed (rename_goals (λ x. n + x) x) ++ later) q [] later =
-      subst (λ w. Does b (suc at) is q [] (listed (rename_goals (λ x. n + x) x) ++ later) w [] later) (a.same refl) (subst (λ l. Does b (suc at) is q [] (l ++ later) a.q [] later) (sym (listed_renamed (λ x. n + x) x)) a.does) in
-      let two : Does b (other_side at is js) js q [] (listed (rename_goals (λ x. n + x) y) ++ later) q [] later =
-      subst (λ w. Does b (other_side at is js) js q [] (listed (rename_goals (λ x. n + x) y) ++ later) w [] later) (c.same refl) (subst (λ l. Does b (other_side at is js) js q [] (l ++ later) c.q [] later) (sym (listed_renamed (λ x. n + x) y)) c.does) in
+pub goals_either : (b : Base) (homes : List Register) (apart : AreApart homes) (framed : Bool) (l : Levels) (at : ℕ) (is js : List Code) (x y : Goals) → IsGoalsCode b homes framed l (suc at) is (listed x) → IsGoalsCode b homes framed l (other_side at is js) js (listed y)
+    → IsGoalsCode b homes framed l at (sides at is js) (goal.Either x y ∷ [])
+goals_either b homes apart framed l at is js x y f g = record {
+  does = λ s r n depths d hd p later h.
+      let q : Places = between_goals n homes depths in
+      let in' : InBody n homes depths q = between_in n homes depths apart in
+      let m : ℕ = d.branches in
+      let u : Goals = marked_goals m (rename_goals (λ x. n + x) x) in
+      let v : Goals = marked_goals m (rename_goals (λ x. n + x) y) in
+      let one : Does b (suc at) is q [] (listed u ++ later) q [] later =
+      subst (λ w. Does b (suc at) is q [] (w ++ later) q [] later) (sym (listed_marked m (λ x. n + x) x)) (does_between b homes apart framed l (suc at) is (listed x) f s r n depths d hd later) in
+      let two : Does b (other_side at is js) js q [] (listed v ++ later) q [] later =
+      subst (λ w. Does b (other_side at is js) js q [] (w ++ later) q [] later) (sym (listed_marked m (λ x. n + x) y)) (does_between b homes apart framed l (other_side at is js) js (listed y) g s r n depths d hd later) in
       record {
         q = q;
         there = in';
         same = λ e. refl;
-        does = does_either b at is js (rename_goals (λ x. n + x) x) (rename_goals (λ x. n + x) y) p q q later (between_settled n homes apart p h) one two;
+        does = does_either b at is js u v p q q later (between_settled n homes depths apart p h) one two;
       };
   flows = λ s r. flows_sides b at is js s r.owed (f.flows s r) (g.flows s r);
   enters = λ i e. subst (λ x. IsTrue (may_enter x)) (first (other_side at is js) (is ++ (Jump (past (suc (past (suc at) is)) js) ∷ js)) i e) refl;

@@ -63,6 +63,8 @@ module _ (b : Base) (n : ℕ) (homes : List Register) (apart : AreApart homes) w
             frame = v.frame;
             shape = v.shape;
             more = v.more;
+            depths = record { levels = v.depths.levels; noted = v.depths.noted };
+            slots = v.slots;
           };
         };
         here = put_here r t v.q.x ∙ ap (λ x. Some (Comp x (moved_all n us))) h.name;
@@ -174,7 +176,7 @@ module _ (b : Base) (n : ℕ) (homes : List Register) (apart : AreApart homes) w
         runs = (u, plain_of b (GetStructure k (term_count us) i) t d.went.owed ∙ when_true _ u (d.went.keeps.regs i g), refl, h.within, v.runs);
         there = v.there;
         owed = v.owed;
-        keeps = record { xs = λ j y m x. v.xs j y; regs = v.regs; frame = v.frame; shape = v.shape; more = v.more };
+        keeps = record { xs = λ j y m x. v.xs j y; regs = v.regs; frame = v.frame; shape = v.shape; more = v.more; depths = v.depths; slots = v.slots };
       } in
       (went_steps b n homes free free free free free free made at inner one p s (equation a (Comp f (moved_all n us)) ∷ es) (equation a (Comp f (moved_all n us)) ∷ es) es (omega arith) (inl refl) (omega arith) (inl refl) d.went taken).0
 

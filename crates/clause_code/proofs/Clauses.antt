@@ -1,13 +1,13 @@
 -- The code of a whole clause, and of a whole query.
-use Rattle.std.proofs.Common.{◌≡◌, ◌⊎◌, ℕ, zero, suc, ◌+◌, ◌<◌, ◌≤◌, Bool, true, false, ◌||◌, IsTrue, List, [], ◌∷◌, ◌++◌, map, Option, Some, None, length, slice_get, replicate, refl, ap, sym, ◌∙◌, subst, arith, inl, inr, append-nil, append_assoc, eq-eqb, ne_eqb}
-use Rattle.std.proofs.lemmas.Bool.{cases_eq, true≢false}
+use Rattle.std.proofs.Common.{◌≡◌, ◌⊎◌, ℕ, zero, suc, ◌+◌, ◌-◌, ◌<◌, ◌≤◌, Bool, true, false, ◌||◌, IsTrue, List, [], ◌∷◌, ◌++◌, map, Option, Some, None, length, slice_get, replicate, refl, ap, sym, ◌∙◌, subst, arith, inl, inr, append-nil, append_assoc, eq-eqb, ne_eqb}
+use Rattle.std.proofs.lemmas.Bool.{cases_eq, cases_lt, true≢false}
 use Rattle.std.proofs.lemmas.List.{get_or-replicate, length-replicate, length-append}
 use Rattle.std.proofs.lemmas.Option.{slice_get-get_or}
 use Rattle.fd_language.specs.Family.{has}
 use Rattle.fd_language.specs.Term.{Terms, Var, Atom, no_terms, term, term_count}
 use Rattle.fd_language.specs.Unifier.{Equation}
 use Rattle.fd_model.specs.Goal as goal
-use Rattle.fd_model.specs.Goal.{Goal, Clause, Query}
+use Rattle.fd_model.specs.Goal.{Goal, Clause, Query, marked_all}
 use Rattle.fd_model.specs.Renaming.{rename_goal}
 use Rattle.fd_model.specs.Constraining.{arguments}
 use Rattle.fd_model.specs.Children.{paired}
@@ -17,27 +17,28 @@ use Rattle.wam_code.specs.declared.instruction.Register.TheVariants.{Y}
 use Rattle.wam_code.specs.declared.instruction.Code.{Code}
 use Rattle.wam_code.specs.declared.instruction.Code.TheVariants.{Allocate, Deallocate, Execute, Proceed, AnswerNow}
 use Rattle.wam_code.specs.Area.{Slot, Unset, State}
-use Rattle.wam_code.specs.Effect.{slot_at, is_cell, is_unset, is_set, is_free, has_frame, no_frame, are_given, effect}
+use Rattle.wam_code.specs.Effect.{slot_at, is_cell, may_be_level, is_unset, is_set, is_free, has_frame, no_frame, are_given, effect}
 use Rattle.wam_code.specs.VerifiedCode.{goes_on, Covers, IsFirst}
-use Rattle.wam_code.specs.Places.{Places, read, no_slots, Hold, made}
+use Rattle.wam_code.specs.Places.{Depth, no_depth, Places, put_at, read, no_slots, Hold, made}
 use Rattle.wam_code.specs.Means.{Caller, Shows, Means}
 use Rattle.wam_code.specs.Tries.{IsBefore}
-use Rattle.wam_code.proofs.Lemmas.{covers_self}
+use Rattle.wam_code.proofs.Lemmas.{covers_self, put_here, put_else}
 use Rattle.machine_relation.proofs.Lemmas.{functions}
 use Rattle.clause_code.specs.Pieces.{Base, Predicate, past, Does, Ends}
 use Rattle.clause_code.specs.Safe.{unplaced, aims, is_plain, IsThereIn, IsSafePiece, IsClauseCode, IsQueryPiece}
 use Rattle.clause_code.specs.Flowing.{is_inner, Runs, Flows, MayEnter}
 use Rattle.clause_code.specs.Steps.{home, is_made, marked_by_all, code_of, gets, puts, fills, filled, AllSuit}
-use Rattle.clause_code.specs.Bodies.{between_goals, InBody, IsRest, IsGoalsCode}
-use Rattle.clause_code.specs.Whole.{front, back, unmade, head_code, IsHoused}
+use Rattle.clause_code.specs.Bodies.{Levels, HasDepths, AreFree, between_goals, InBody, IsRest, IsGoalsCode}
+use Rattle.clause_code.specs.Whole.{front, back, unmade, head_code, level_codes, levels_code, levels_behind, no_levels, IsHoused}
 use Rattle.clause_code.specs.ArgumentHomes.{AllWait}
 use Rattle.clause_code.proofs.Pieces.{does_both, does_allocate, ends_behind, ends_proceed, ends_execute, ends_answer, does_deallocate}
-use Rattle.clause_code.proofs.Making.{AreApart, has_more}
-use Rattle.clause_code.proofs.Going.{when_true, both, plain_of, moved, moved_all, count_moved, AllMade, At, Went, went_both}
+use Rattle.clause_code.proofs.Making.{AreApart, KeepsSlots, has_more}
+use Rattle.clause_code.proofs.Leveling.{levels_done, levels_run}
+use Rattle.clause_code.proofs.Going.{when_true, both, plain_of, moved, moved_all, count_moved, AllMade, At, Went, went_both, runs_both}
 use Rattle.clause_code.proofs.Building.{gets_went, PutAllBy, puts_put}
 use Rattle.clause_code.proofs.Filling.{filled_made, fills_went}
 use Rattle.clause_code.proofs.Flowing.{flows_both, flows_runs, flows_simple, flows_runs_less, enters_runs, enters_both, safe_ends, get_last, get_only, get_both}
-use Rattle.clause_code.proofs.Bodies.{between_in, at_body, body_at, Fine, single_enters, steps_enter, renamed_both}
+use Rattle.clause_code.proofs.Bodies.{nothing_held, no_home, between_in, at_body, body_at, Fine, single_enters, steps_enter, renamed_both}
 use Rattle.clause_code.proofs.GoalKinds.{given_cells, moved_made}
 use Rattle.clause_code.proofs.SameGoals.{goals_identity}
 
@@ -91,20 +92,22 @@ hold_slots p i (term a as') h = (h.0, hold_slots p (suc i) as' h.1)
 
 -- ---- the head
 
--- What stands before the goals: it begins with the arguments of the head, and leaves each variable in its home.
-pub record Begun (b : Base) (homes : List Register) (at : ℕ) (is : List Code) (ts : Terms) (n : ℕ) (as' : Terms) (p : Places) : Type 0 where
+-- What stands before the goals: it begins with the arguments of the head and the depth that was noted, and leaves each variable in its home, and the depth in the slot that cuts go to.
+pub record Begun (b : Base) (homes : List Register) (l : Levels) (at : ℕ) (is : List Code) (ts : Terms) (n : ℕ) (as' : Terms) (d : Depth) (p : Places) : Type 0 where
   pub q : Places
-  pub there : InBody n homes q
+  pub depths : ℕ → Option Depth
+  pub has : HasDepths l depths d
+  pub there : InBody n homes depths q
   pub does : (gs : List Goal) → Does b at is p (paired as' (moved_all n ts)) gs q [] gs
 
-pub record Start (b : Base) (homes : List Register) (framed : Bool) (at : ℕ) (is : List Code) (ts : Terms) : Type 0 where
+pub record Start (b : Base) (homes : List Register) (framed : Bool) (l : Levels) (at : ℕ) (is : List Code) (ts : Terms) : Type 0 where
   pub first : State
   pub rest : State
   pub begins : IsFirst (term_count ts) first
-  pub rested : IsRest homes framed rest
+  pub rested : IsRest homes framed l rest
   pub flows : Flows b at is first rest
   pub enters : MayEnter is
-  pub does : (n : ℕ) (as' : Terms) (p : Places) → term_count as' ≡ term_count ts → Hold p 1 as' → IsBefore p n (length homes) → Begun b homes at is ts n as' p
+  pub does : (n : ℕ) (as' : Terms) (d : Depth) (p : Places) → term_count as' ≡ term_count ts → Hold p 1 as' → p.noted ≡ Some d → IsBefore p n (length homes) → Begun b homes l at is ts n as' d p
 
 is_unmade : (homes : List Register) (x : ℕ) → x < length homes → is_made (unmade homes) x ≡ false
 is_unmade homes x l = get_or-replicate (length homes) x false true l
@@ -150,8 +153,10 @@ module _ (b : Base) (homes : List Register) (framed : Bool) (slots k free : ℕ)
     t : State
     does : (gs : List Goal) → Does b at (head_code b.pool homes free ts) p (paired as' (moved_all n ts)) gs q [] gs
     runs : Runs b (first_state framed slots (term_count ts)) (head_code b.pool homes free ts) t
-    there : InBody n homes q
+    there : InBody n homes nothing_held q
+    noted : q.noted ≡ p.noted
     set : (x : ℕ) → x < length homes → is_set t (home homes x) ≡ true
+    slots_kept : KeepsSlots homes (first_state framed slots (term_count ts)) t
     owed : t.owed ≡ 0
     shape : has_frame t.frame ≡ has_frame (first_frame framed slots)
 
@@ -174,8 +179,10 @@ module _ (b : Base) (homes : List Register) (framed : Bool) (slots k free : ℕ)
         t = w.t;
         does = w.does;
         runs = w.runs;
-        there = body_at n homes housed.apart (filled mid (length homes)) w.q w.t all w.there;
+        there = body_at n homes nothing_held housed.apart (filled mid (length homes)) p w.q w.t all w.there (λ k e h. absurd (cc)) (λ k e h. absurd (cc)) w.keeps.depths;
+        noted = w.keeps.depths.noted;
         set = λ x l. w.there.tracks.set x l (all x l);
+        slots_kept = w.keeps.slots;
         owed = w.owed;
         shape = w.keeps.shape;
       }
@@ -191,7 +198,7 @@ atoms_count no_terms = refl
 atoms_count (term t ts) = ap suc (atoms_count ts)
 
 abbrev some_place : ℕ → Places
-some_place v = record { x = λ i. Some (Atom []); y = λ i. None; known = λ x. false; own = v; top = v }
+some_place v = record { x = λ i. Some (Atom []); y = λ i. None; levels = nothing_held; noted = None; known = λ x. false; own = v; top = v }
 
 atoms_hold : (v i : ℕ) (ts : Terms) → Hold (some_place v) i (atoms ts)
 unfolding atoms
@@ -206,52 +213,160 @@ runs_less : (b : Base) (at : ℕ) (i : Code) (is : List Code) (s t u : State) �
 runs_less b at i [] s t u r c = flows_simple b at i s r.0 u r.1 (subst (λ x. Covers x u) (sym r.4) c) r.2 r.3
 runs_less b at i (j ∷ js) s t u r c = flows_both b at (i ∷ []) (j ∷ js) s r.0 u (flows_simple b at i s r.0 r.0 r.1 (covers_self r.0) r.2 r.3) (runs_less b (suc at) j js r.0 t u r.4 c)
 
--- The code of a head, with or without a frame.
-pub start_code : (b : Base) (homes : List Register) (framed : Bool) (slots k free at : ℕ) (ts : Terms) → IsHoused homes framed slots k free → AllSuit b.pool (length homes) ts → term_count ts ≤ k → AllWait homes 1 (term_count ts) ts → Start b homes framed at (front framed slots ++ head_code b.pool homes free ts) ts
-start_code b homes false slots k free at ts housed suit few waits =
+-- ---- depths at first
+
+-- of so many level slots the first one has the depth that was noted
+abbrev first_depths : ℕ → ℕ → Depth → ℕ → Option Depth
+first_depths v zero d = nothing_held
+first_depths v (suc n) d = put_at (suc v) d nothing_held
+
+first_has : (v n : ℕ) (d : Depth) → HasDepths (levels_behind v n) (first_depths v n d) d
+first_has v zero d = record { cut = λ c. absurd (let z = c.1 in omega (arith, z)); others = λ k e h. absurd (cc) }
+first_has v (suc n) d = record { cut = λ c. put_here (suc v) d nothing_held; others = λ k e h. by k e h (cases_eq k (suc v)) }
+  where
+    by : (k : ℕ) (e : Depth) → put_at (suc v) d nothing_held k ≡ Some e → (k ≡ suc v) ⊎ (k ≡ suc v → ⊥) → (suc v ≤ k) × (k < suc (suc v)) × (e.points ≤ d.points)
+    by k e h (inl o) =
+        let same : Some d ≡ Some e = sym (put_here (suc v) d nothing_held) ∙ ap (put_at (suc v) d nothing_held) (sym o) ∙ h in
+        let is : d ≡ e = cc in
+        let m : d.points ≡ e.points = ap (λ y. y.points) is in
+        (omega (arith, o), omega (arith, o), omega (arith, m))
+    by k e h (inr o) = absurd (let none : None ≡ Some e = sym (put_else (suc v) d nothing_held k o) ∙ h in cc)
+
+no_depths : (d : Depth) → HasDepths no_levels nothing_held d
+no_depths d = record { cut = λ c. absurd (let z = c.1 in omega (arith, z)); others = λ k e h. absurd (cc) }
+
+-- The code of a head without a frame.
+pub start_short : (b : Base) (homes : List Register) (slots k free at : ℕ) (ts : Terms) → IsHoused homes false slots k free → AllSuit b.pool (length homes) ts → term_count ts ≤ k → AllWait homes 1 (term_count ts) ts → Start b homes false no_levels at (head_code b.pool homes free ts) ts
+start_short b homes slots k free at ts housed suit few waits =
     let h = headed b homes false slots k free housed ts suit few waits 0 at (atoms ts) (some_place (length homes)) (atoms_count ts) (atoms_hold (length homes) 1 ts) (some_before (length homes)) in
     record {
       first = before_frame (term_count ts);
       rest = h.t;
       begins = first_is (term_count ts);
-      rested = record { set = h.set; owed = h.owed; frame = h.shape; regs = λ e. absurd (true≢false (sym e)) };
+      rested = record { set = h.set; levels = λ j a z. absurd (omega (arith, z)); owed = h.owed; frame = h.shape; regs = λ e. absurd (true≢false (sym e)) };
       flows = flows_runs b at (head_code b.pool homes free ts) (before_frame (term_count ts)) h.t h.runs;
       enters = enters_runs b (head_code b.pool homes free ts) (before_frame (term_count ts)) h.t h.runs;
-      does = λ n as' p size hold before. let g = headed b homes false slots k free housed ts suit few waits n at as' p size hold before in record { q = g.q; there = g.there; does = g.does };
+      does = λ n as' d p size hold noted before. let g = headed b homes false slots k free housed ts suit few waits n at as' p size hold before in record { q = g.q; depths = nothing_held; has = no_depths d; there = g.there; does = g.does };
     }
-start_code b homes true slots k free at ts housed suit few waits =
-    let h = headed b homes true slots k free housed ts suit few waits 0 (suc at) (atoms ts) (some_place (length homes)) (atoms_count ts) (atoms_hold (length homes) 1 ts) (some_before (length homes)) in
-    let rest : State = record h.t { regs = [] } in
-    let cover : Covers h.t rest = record { frame = refl; owed = refl; regs = λ n e. absurd (true≢false (sym e)) } in
-    let runs : Runs b (before_frame (term_count ts)) (Allocate slots ∷ head_code b.pool homes free ts) h.t = (first_state true slots (term_count ts), refl, refl, tt, h.runs) in
-    record {
-      first = before_frame (term_count ts);
-      rest = rest;
-      begins = first_is (term_count ts);
-      rested = record {
-        set = λ x l. let w = housed.in_frame refl x l in subst (λ r. is_set rest r ≡ true) (sym w.1) (subst (λ r. is_set h.t r ≡ true) w.1 (h.set x l));
-        owed = h.owed;
-        frame = h.shape;
-        regs = λ e. refl;
-      };
-      flows = runs_less b at (Allocate slots) (head_code b.pool homes free ts) (before_frame (term_count ts)) h.t rest runs cover;
-      enters = enters_runs b (Allocate slots ∷ head_code b.pool homes free ts) (before_frame (term_count ts)) h.t runs;
-      does = λ n as' p size hold before.
+
+-- The code of a head with a frame, and then its level slots, so many, are set.
+module _ (b : Base) (homes : List Register) (slots k free at : ℕ) (ts : Terms) (housed : IsHoused homes true slots k free) (suit : AllSuit b.pool (length homes) ts) (few : term_count ts ≤ k) (waits : AllWait homes 1 (term_count ts) ts)
+    (v count : ℕ) (fits : AreFree homes (levels_behind v count)) (room : v + count ≤ slots) where
+  abbrev l : Levels
+  l = levels_behind v count
+
+  abbrev heads : List Code
+  heads = head_code b.pool homes free ts
+
+  abbrev many : ℕ
+  many = l.end - l.first
+
+  first_is_v : l.first ≡ suc v
+  first_is_v = by count
+    where
+      by : (n : ℕ) → (levels_behind v n).first ≡ suc v
+      by zero = refl
+      by (suc n) = refl
+
+  end_is : l.first + many ≡ l.end
+  end_is = by count
+    where
+      by : (n : ℕ) → (levels_behind v n).first + ((levels_behind v n).end - (levels_behind v n).first) ≡ (levels_behind v n).end
+      by zero = omega arith
+      by (suc n) = omega arith
+
+  end_low : l.end ≤ suc slots
+  end_low = by count room
+    where
+      by : (n : ℕ) → v + n ≤ slots → (levels_behind v n).end ≤ suc slots
+      by zero h = omega (arith, h)
+      by (suc n) h = omega (arith, h)
+
+  -- a variable's slot is no level slot
+  apart_slot : (x : ℕ) → x < length homes → (i : ℕ) → home homes x ≡ Y i → (i < l.first) ⊎ (l.first + many ≤ i)
+  apart_slot x m i e = elim (cases_lt i l.first) [
+    | inl a ↦ inl a
+    | inr a ↦ elim (cases_lt i l.end) [ inl z ↦ absurd (fits.clear i a z x m e) | inr z ↦ let w = end_is in inr (omega (arith, z, w)) ]
+  ]
+
+  -- the level slots are unset before
+  free_slot : (t : State) → KeepsSlots homes (first_state true slots (term_count ts)) t → (j : ℕ) → l.first ≤ j → j < l.first + many → may_be_level (slot_at t.frame j) ≡ true
+  free_slot t kept zero a z = let f = first_is_v in absurd (omega (arith, a, f))
+  free_slot t kept (suc j) a z =
+      let e = end_is in
+      let w = end_low in
+      let low : j < slots = omega (arith, z, e, w) in
+      let long = length-replicate slots Unset in
+      let there : slice_get (replicate slots Unset) j ≡ Some Unset = slice_get-get_or (replicate slots Unset) j Unset (omega (arith, low, long)) ∙ ap Some (get_or-replicate slots j Unset Unset low) in
+      ap may_be_level (kept (suc j) (fits.clear (suc j) a (omega (arith, z, e))) ∙ there)
+
+  pub start_framed : Start b homes true l at (front true slots ++ (heads ++ levels_code l)) ts
+  start_framed =
+      let h = headed b homes true slots k free housed ts suit few waits 0 (suc at) (atoms ts) (some_place (length homes)) (atoms_count ts) (atoms_hold (length homes) 1 ts) (some_before (length homes)) in
+      let r = levels_run b many l.first h.t h.owed (free_slot h.t h.slots_kept) in
+      let rest : State = record r.t { regs = [] } in
+      let cover : Covers r.t rest = record { frame = refl; owed = refl; regs = λ n e. absurd (true≢false (sym e)) } in
+      let runs : Runs b (before_frame (term_count ts)) (Allocate slots ∷ (heads ++ levels_code l)) r.t =
+      (first_state true slots (term_count ts), refl, refl, tt, runs_both b (first_state true slots (term_count ts)) h.t r.t heads (levels_code l) h.runs r.runs) in
+      record {
+        first = before_frame (term_count ts);
+        rest = rest;
+        begins = first_is (term_count ts);
+        rested = record {
+          set = λ x m.
+              let w = housed.in_frame refl x m in
+              let cell : is_set h.t (Y (suc w.0)) ≡ true = subst (λ i. is_set h.t i ≡ true) w.1 (h.set x m) in
+              subst (λ i. is_set rest i ≡ true) (sym w.1) (ap is_cell (r.others (suc w.0) (apart_slot x m (suc w.0) w.1)) ∙ cell);
+          levels = λ j a z. r.here j a (let e = end_is in omega (arith, z, e));
+          owed = r.owed ∙ h.owed;
+          frame = r.shape ∙ h.shape;
+          regs = λ e. refl;
+        };
+        flows = runs_less b at (Allocate slots) (heads ++ levels_code l) (before_frame (term_count ts)) r.t rest runs cover;
+        enters = enters_runs b (Allocate slots ∷ (heads ++ levels_code l)) (before_frame (term_count ts)) r.t runs;
+        does = λ n as' d p size hold noted before. begun n as' d p size hold noted before;
+      }
+    where
+      begun : (n : ℕ) (as' : Terms) (d : Depth) (p : Places) → term_count as' ≡ term_count ts → Hold p 1 as' → p.noted ≡ Some d → IsBefore p n (length homes) → Begun b homes l at (front true slots ++ (heads ++ levels_code l)) ts n as' d p
+      begun n as' d p size hold noted before =
           let before' : IsBefore (no_slots p) n (length homes) = record { known = before.known; fresh = before.fresh; own = before.own; top = before.top } in
           let g = headed b homes true slots k free housed ts suit few waits n (suc at) as' (no_slots p) size (hold_slots p 1 as' hold) before' in
+          let w = levels_done b (past (suc at) heads) many l.first d g.q (g.noted ∙ noted) in
+          let es : List Equation = paired as' (moved_all n ts) in
           record {
-            q = g.q;
-            there = g.there;
-            does = λ gs. does_both b at (Allocate slots ∷ []) (head_code b.pool homes free ts) p (no_slots p) g.q (paired as' (moved_all n ts)) (paired as' (moved_all n ts)) [] gs gs gs (does_allocate b at slots p (paired as' (moved_all n ts)) gs) (g.does gs);
-          };
-    }
+            q = w.q;
+            depths = first_depths v count d;
+            has = first_has v count d;
+            there = record {
+              held = λ x m.
+                  let o = housed.in_frame refl x m in
+                  subst (λ i. read w.q i ≡ Some (Var (n + x))) (sym o.1) (w.ys (suc o.0) (apart_slot x m (suc o.0) o.1) ∙ subst (λ i. read g.q i ≡ Some (Var (n + x))) o.1 (g.there.held x m));
+              levels = λ j e f.
+                  let o = (first_has v count d).others j e f in
+                  let there = w.here j o.0 (let z = o.1 in let y = fits.within in let x = end_is in omega (arith, z, y, x)) in
+                  there ∙ same_depth count j e f;
+              whole = λ i m. ap (λ u. u i) w.known ∙ g.there.whole i (subst (λ u. i < u) w.top m);
+              own = w.own ∙ g.there.own;
+            };
+            does = λ gs.
+                does_both b at (Allocate slots ∷ []) (heads ++ levels_code l) p (no_slots p) w.q es es [] gs gs gs (does_allocate b at slots p es gs)
+                (does_both b (suc at) heads (levels_code l) (no_slots p) g.q w.q es [] [] gs gs gs (g.does gs) (w.does [] gs));
+          }
+        where
+          same_depth : (c : ℕ) (j : ℕ) (e : Depth) → first_depths v c d j ≡ Some e → Some d ≡ Some e
+          same_depth zero j e f = absurd (cc)
+          same_depth (suc c) j e f = by (cases_eq j (suc v))
+            where
+              by : (j ≡ suc v) ⊎ (j ≡ suc v → ⊥) → Some d ≡ Some e
+              by (inl o) = sym (put_here (suc v) d nothing_held) ∙ ap (put_at (suc v) d nothing_held) (sym o) ∙ f
+              by (inr o) = absurd (let none : None ≡ Some e = sym (put_else (suc v) d nothing_held j o) ∙ f in cc)
 
 -- ---- the end
 
 -- What stands behind the goals: the last goals hs, and an instruction that hands its state to no place.
-pub record Tail (b : Base) (homes : List Register) (framed : Bool) (at : ℕ) (ks : List Code) (i : Code) (hs : List Goal) : Type 0 where
-  pub ends : (s : State) → IsRest homes framed s → (n : ℕ) (p : Places) (w : Caller) → InBody n homes p → Ends b w at (ks ++ (i ∷ [])) p [] (map (rename_goal (λ x. n + x)) hs ++ w.goals)
-  pub flows : (s : State) → IsRest homes framed s → (t : State) × (u : State) × Flows b at ks s t × (effect (unplaced b) i t ≡ Some u)
+pub record Tail (b : Base) (homes : List Register) (framed : Bool) (l : Levels) (at : ℕ) (ks : List Code) (i : Code) (hs : List Goal) : Type 0 where
+  pub ends : (s : State) → IsRest homes framed l s → (n : ℕ) (depths : ℕ → Option Depth) (d : Depth) → HasDepths l depths d → (p : Places) (w : Caller) → InBody n homes depths p → Ends b w at (ks ++ (i ∷ [])) p [] (marked_all d.branches (map (rename_goal (λ x. n + x)) hs) ++ w.goals)
+  pub flows : (s : State) → IsRest homes framed l s → (t : State) × (u : State) × Flows b at ks s t × (effect (unplaced b) i t ≡ Some u)
   pub there : IsThereIn b i
   pub aims : aims i ≡ []
   pub last : goes_on i ≡ false
@@ -264,9 +379,9 @@ no_frame_of None e = refl
 no_frame_of (Some ss) e = absurd (true≢false e)
 
 -- No goal is left.
-pub tail_proceed : (b : Base) (homes : List Register) (framed : Bool) (at : ℕ) → Tail b homes framed at (back framed) Proceed []
-tail_proceed b homes false at = record {
-  ends = λ s r n p w h. ends_proceed b w at p h.whole;
+pub tail_proceed : (b : Base) (homes : List Register) (framed : Bool) (l : Levels) (at : ℕ) → Tail b homes framed l at (back framed) Proceed []
+tail_proceed b homes false l at = record {
+  ends = λ s r n depths d hd p w h. ends_proceed b w at p h.whole;
   flows = λ s r. (s, s, flows_runs b at [] s s refl, plain_of b Proceed s r.owed ∙ when_true _ s (no_frame_of s.frame r.frame));
   there = tt;
   aims = refl;
@@ -275,8 +390,8 @@ tail_proceed b homes false at = record {
   enters = single_enters Proceed refl;
   no_answer = λ e. absurd (cc);
 }
-tail_proceed b homes true at = record {
-  ends = λ s r n p w h. ends_behind b w at (Deallocate ∷ []) (Proceed ∷ []) p (no_slots p) [] [] w.goals w.goals (does_deallocate b at p [] w.goals) (ends_proceed b w (suc at) (no_slots p) h.whole);
+tail_proceed b homes true l at = record {
+  ends = λ s r n depths d hd p w h. ends_behind b w at (Deallocate ∷ []) (Proceed ∷ []) p (no_slots p) [] [] w.goals w.goals (does_deallocate b at p [] w.goals) (ends_proceed b w (suc at) (no_slots p) h.whole);
   flows = λ s r.
       let t : State = record s { frame = None } in
       (t, t, flows_simple b at Deallocate s t t (plain_of b Deallocate s r.owed ∙ when_true _ t r.frame) (covers_self t) refl tt, plain_of b Proceed t r.owed);
@@ -289,10 +404,10 @@ tail_proceed b homes true at = record {
 }
 
 -- The last goal is a user goal.
-pub tail_execute : (b : Base) (homes : List Register) (apart : AreApart homes) (framed : Bool) (made_now : List Bool) (free at : ℕ) → AllMade homes made_now → length made_now ≡ length homes → (e : ℕ) (s : Predicate) (us : Terms)
-    → slice_get b.predicates e ≡ Some s → term_count us ≡ s.arity → e < length b.predicates → Fine b homes free us → Tail b homes framed at (code_of homes made_now (puts b.pool 1 free us) ++ back framed) (Execute e) (goal.Call (made (atom_name b.pool s.name) us) ∷ [])
-tail_execute b homes apart framed made_now free at all long e s us h ar le fine = record {
-  ends = λ d r n p w body. ends framed d r n p w body;
+pub tail_execute : (b : Base) (homes : List Register) (apart : AreApart homes) (l : Levels) (fits : AreFree homes l) (framed : Bool) (made_now : List Bool) (free at : ℕ) → AllMade homes made_now → length made_now ≡ length homes → (e : ℕ) (s : Predicate) (us : Terms)
+    → slice_get b.predicates e ≡ Some s → term_count us ≡ s.arity → e < length b.predicates → Fine b homes free us → Tail b homes framed l at (code_of homes made_now (puts b.pool 1 free us) ++ back framed) (Execute e) (goal.Call (made (atom_name b.pool s.name) us) ∷ [])
+tail_execute b homes apart l fits framed made_now free at all long e s us h ar le fine = record {
+  ends = λ c r n depths d hd p w body. ends framed c r n depths d hd p w body;
   flows = λ d r. flow framed d r;
   there = le;
   aims = refl;
@@ -305,38 +420,39 @@ tail_execute b homes apart framed made_now free at all long e s us h ar le fine 
     js : List Code
     js = code_of homes made_now (puts b.pool 1 free us)
 
-    put : (f : Bool) (n at : ℕ) (p : Places) (d : State) → IsRest homes f d → InBody n homes p → PutAllBy b n homes apart 1 made_now at p d [] (puts b.pool 1 free us) us
-    put f n at p d r body = puts_put b n homes apart made_now at 1 free us p d [] (at_body n homes apart f made_now p d all long body r) r.owed fine.suit (let l = fine.below in omega (arith, l)) all fine.lands fine.clear
+    put : (f : Bool) (n : ℕ) (depths : ℕ → Option Depth) (at : ℕ) (p : Places) (d : State) → IsRest homes f l d → InBody n homes depths p → PutAllBy b n homes apart 1 made_now at p d [] (puts b.pool 1 free us) us
+    put f n depths at p d r body = puts_put b n homes apart made_now at 1 free us p d [] (at_body n homes depths apart f l made_now p d all long body r) r.owed fine.suit (let m = fine.below in omega (arith, m)) all fine.lands fine.clear
 
     goals : ℕ → Caller → List Goal
     goals n w = goal.Call (moved n (made (atom_name b.pool s.name) us)) ∷ w.goals
 
-    execute : (n at : ℕ) (w : Caller) (q : Places) → InBody n homes q → Hold q 1 (moved_all n us) → Ends b w at (Execute e ∷ []) q [] (goal.Call (moved n (made (atom_name b.pool s.name) us)) ∷ w.goals)
-    execute n at w q body hold = subst (λ t. Ends b w at (Execute e ∷ []) q [] (goal.Call t ∷ w.goals)) (sym (moved_made n (atom_name b.pool s.name) us)) (ends_execute b w at e s (moved_all n us) q h (count_moved n us ∙ ar) hold body.whole)
+    execute : (n : ℕ) (depths : ℕ → Option Depth) (at : ℕ) (w : Caller) (q : Places) → InBody n homes depths q → Hold q 1 (moved_all n us) → Ends b w at (Execute e ∷ []) q [] (goal.Call (moved n (made (atom_name b.pool s.name) us)) ∷ w.goals)
+    execute n depths at w q body hold = subst (λ t. Ends b w at (Execute e ∷ []) q [] (goal.Call t ∷ w.goals)) (sym (moved_made n (atom_name b.pool s.name) us)) (ends_execute b w at e s (moved_all n us) q h (count_moved n us ∙ ar) hold body.whole)
 
-    last_ends : (f : Bool) (n at : ℕ) (w : Caller) (q : Places) → InBody n homes q → Hold q 1 (moved_all n us) → Ends b w at (back f ++ (Execute e ∷ [])) q [] (goal.Call (moved n (made (atom_name b.pool s.name) us)) ∷ w.goals)
-    last_ends false n at w q body hold = execute n at w q body hold
-    last_ends true n at w q body hold =
+    last_ends : (f : Bool) (n : ℕ) (depths : ℕ → Option Depth) (at : ℕ) (w : Caller) (q : Places) → InBody n homes depths q → Hold q 1 (moved_all n us) → Ends b w at (back f ++ (Execute e ∷ [])) q [] (goal.Call (moved n (made (atom_name b.pool s.name) us)) ∷ w.goals)
+    last_ends false n depths at w q body hold = execute n depths at w q body hold
+    last_ends true n depths at w q body hold =
         let gs : List Goal = goal.Call (moved n (made (atom_name b.pool s.name) us)) ∷ w.goals in
         ends_behind b w at (Deallocate ∷ []) (Execute e ∷ []) q (no_slots q) [] [] gs gs (does_deallocate b at q [] gs)
         (subst (λ t. Ends b w (suc at) (Execute e ∷ []) (no_slots q) [] (goal.Call t ∷ w.goals)) (sym (moved_made n (atom_name b.pool s.name) us)) (ends_execute b w (suc at) e s (moved_all n us) (no_slots q) h (count_moved n us ∙ ar) (hold_slots q 1 (moved_all n us) hold) body.whole))
 
-    ends : (f : Bool) (d : State) → IsRest homes f d → (n : ℕ) (p : Places) (w : Caller) → InBody n homes p → Ends b w at ((code_of homes made_now (puts b.pool 1 free us) ++ back f) ++ (Execute e ∷ [])) p [] (goal.Call (moved n (made (atom_name b.pool s.name) us)) ∷ w.goals)
-    ends f d r n p w body =
+    ends : (f : Bool) (c : State) → IsRest homes f l c → (n : ℕ) (depths : ℕ → Option Depth) (d : Depth) → HasDepths l depths d → (p : Places) (w : Caller) → InBody n homes depths p → Ends b w at ((code_of homes made_now (puts b.pool 1 free us) ++ back f) ++ (Execute e ∷ [])) p [] (goal.Call (moved n (made (atom_name b.pool s.name) us)) ∷ w.goals)
+    ends f x r n depths d hd p w body =
         let is : List Code = code_of homes made_now (puts b.pool 1 free us) in
         let gs : List Goal = goal.Call (moved n (made (atom_name b.pool s.name) us)) ∷ w.goals in
-        let c = put f n at p d r body in
-        let after : InBody n homes c.went.q = body_at n homes apart (marked_by_all made_now (puts b.pool 1 free us)) c.went.q c.went.t (λ x l. c.went.keeps.more x l (all x l)) c.went.there in
+        let c = put f n depths at p x r body in
+        let after : InBody n homes depths c.went.q =
+        body_at n homes depths apart (marked_by_all made_now (puts b.pool 1 free us)) p c.went.q c.went.t (λ y m. c.went.keeps.more y m (all y m)) c.went.there body.levels (no_home homes l fits depths d hd) c.went.keeps.depths in
         subst (λ l. Ends b w at l p [] gs) (sym (append_assoc is (back f) (Execute e ∷ [])))
-        (ends_behind b w at is (back f ++ (Execute e ∷ [])) p c.went.q [] [] gs gs (c.went.does gs) (last_ends f n (past at is) w c.went.q after c.hold))
+        (ends_behind b w at is (back f ++ (Execute e ∷ [])) p c.went.q [] [] gs gs (c.went.does gs) (last_ends f n depths (past at is) w c.went.q after c.hold))
 
     given : (t : State) → ((j : ℕ) → 1 ≤ j → j < suc (term_count us) → has t.regs j ≡ true) → are_given t (slice_get (unplaced b) e) ≡ true
     given t set = given_cells b e s t h (λ j l m. set j l (omega (arith, m, ar)))
 
-    flow : (f : Bool) (d : State) → IsRest homes f d → (t : State) × (u : State) × Flows b at (code_of homes made_now (puts b.pool 1 free us) ++ back f) d t × (effect (unplaced b) (Execute e) t ≡ Some u)
+    flow : (f : Bool) (d : State) → IsRest homes f l d → (t : State) × (u : State) × Flows b at (code_of homes made_now (puts b.pool 1 free us) ++ back f) d t × (effect (unplaced b) (Execute e) t ≡ Some u)
     flow false d r =
         let is : List Code = code_of homes made_now (puts b.pool 1 free us) in
-        let c = put false 0 at (between_goals 0 homes) d r (between_in 0 homes apart) in
+        let c = put false 0 nothing_held at (between_goals 0 homes nothing_held) d r (between_in 0 homes nothing_held apart) in
         let t : State = c.went.t in (
           t,
           t,
@@ -345,7 +461,7 @@ tail_execute b homes apart framed made_now free at all long e s us h ar le fine 
         )
     flow true d r =
         let is : List Code = code_of homes made_now (puts b.pool 1 free us) in
-        let c = put true 0 at (between_goals 0 homes) d r (between_in 0 homes apart) in
+        let c = put true 0 nothing_held at (between_goals 0 homes nothing_held) d r (between_in 0 homes nothing_held apart) in
         let t : State = c.went.t in
         let u : State = record t { frame = None } in (
           u,
@@ -364,9 +480,9 @@ inner_answers : (i : Code) → IsTrue (is_inner i) → i ≡ AnswerNow → ⊥
 inner_answers i h e = true≢false (sym h ∙ ap is_inner e)
 
 -- Its head, its goals and its end are its code.
-pub whole_clause : (b : Base) (homes : List Register) (framed : Bool) (at : ℕ) (c : Clause) (is js ks : List Code) (i : Code) (gs hs : List Goal) → c.variables ≡ length homes → c.body ≡ gs ++ hs → Start b homes framed at is (arguments c.head) → IsGoalsCode b homes framed (past at is) js gs
-    → Tail b homes framed (past at (is ++ js)) ks i hs → IsClauseCode b at ((is ++ js) ++ (ks ++ (i ∷ []))) c
-whole_clause b homes framed at c is js ks i gs hs size body start goals tail =
+pub whole_clause : (b : Base) (homes : List Register) (framed : Bool) (l : Levels) (at : ℕ) (c : Clause) (is js ks : List Code) (i : Code) (gs hs : List Goal) → c.variables ≡ length homes → c.body ≡ gs ++ hs → Start b homes framed l at is (arguments c.head) → IsGoalsCode b homes framed l (past at is) js gs
+    → Tail b homes framed l (past at (is ++ js)) ks i hs → IsClauseCode b at ((is ++ js) ++ (ks ++ (i ∷ []))) c
+whole_clause b homes framed l at c is js ks i gs hs size body start goals tail =
     let w = tail.flows start.rest start.rested in
     let one : Flows b at (is ++ js) start.first start.rest = flows_both b at is js start.first start.rest start.rest start.flows (goals.flows start.rest start.rested) in
     let two : Flows b at ((is ++ js) ++ ks) start.first w.0 = flows_both b at (is ++ js) ks start.first start.rest w.0 one w.2 in
@@ -381,18 +497,18 @@ whole_clause b homes framed at c is js ks i gs hs size body start goals tail =
         | inl h ↦ inner_answers AnswerNow (two.inner n AnswerNow h) refl
         | inr h ↦ tail.no_answer (get_only h.0 i AnswerNow h.2).1
       ];
-      means = λ area base stand n as' after shown p count' below hold before.
+      means = λ area base stand n as' d after shown p count' below hold noted before.
           let w : Caller = record { goals = after; shown = shown } in
           let before' : IsBefore p n (length homes) = subst (IsBefore p n) size before in
-          let begun = start.does n as' p count' hold before' in
-          let rest : List Goal = map (rename_goal (λ x. n + x)) hs ++ after in
-          let all : List Goal = map (rename_goal (λ x. n + x)) gs ++ rest in
-          let done = goals.does start.rest start.rested n begun.q rest begun.there in
+          let begun = start.does n as' d p count' hold noted before' in
+          let rest : List Goal = marked_all d.branches (map (rename_goal (λ x. n + x)) hs) ++ after in
+          let all : List Goal = marked_all d.branches (map (rename_goal (λ x. n + x)) gs) ++ rest in
+          let done = goals.does start.rest start.rested n begun.depths d begun.has begun.q rest begun.there in
           let es : List Equation = paired as' (moved_all n (arguments c.head)) in
           let run : Does b at (is ++ js) p es all done.q [] rest = does_both b at is js p begun.q done.q es [] [] all all rest (begun.does all) done.does in
-          let end : Ends b w (past at (is ++ js)) (ks ++ (i ∷ [])) done.q [] rest = tail.ends start.rest start.rested n done.q w done.there in
+          let end : Ends b w (past at (is ++ js)) (ks ++ (i ∷ [])) done.q [] rest = tail.ends start.rest start.rested n begun.depths d begun.has done.q w done.there in
           let ended : Ends b w at ((is ++ js) ++ (ks ++ (i ∷ []))) p es all = ends_behind b w at (is ++ js) (ks ++ (i ∷ [])) p done.q es [] all rest run end in
-          let named : map (rename_goal (λ x. n + x)) c.body ++ after ≡ all = ap (λ l. map (rename_goal (λ x. n + x)) l ++ after) body ∙ renamed_both (λ x. n + x) gs hs after in
+          let named : marked_all d.branches (map (rename_goal (λ x. n + x)) c.body) ++ after ≡ all = ap (λ hs. marked_all d.branches (map (rename_goal (λ x. n + x)) hs) ++ after) body ∙ renamed_both d.branches (λ x. n + x) gs hs after in
           subst (λ l. Means area w at p es l) (sym named) (ended area base stand);
     }
 
@@ -403,27 +519,27 @@ abbrev pub InSlots : List Register → ℕ → List ℕ → Type 0
 InSlots homes k [] = Unit {0}
 InSlots homes k (x ∷ xs) = (x < length homes) × (home homes x ≡ Y k) × InSlots homes (suc k) xs
 
-shows : (homes : List Register) (p : Places) → InBody 0 homes p → (k : ℕ) (xs : List ℕ) → InSlots homes k xs → Shows p k xs
-shows homes p h k [] o = tt
-shows homes p h k (x ∷ xs) o = let z : 0 + x ≡ x = omega arith in (subst (λ r. read p r ≡ Some (Var (0 + x))) o.1 (h.held x o.0) ∙ ap (λ y. Some (Var y)) z, shows homes p h (suc k) xs o.2)
+shows : (homes : List Register) (depths : ℕ → Option Depth) (p : Places) → InBody 0 homes depths p → (k : ℕ) (xs : List ℕ) → InSlots homes k xs → Shows p k xs
+shows homes depths p h k [] o = tt
+shows homes depths p h k (x ∷ xs) o = let z : 0 + x ≡ x = omega arith in (subst (λ r. read p r ≡ Some (Var (0 + x))) o.1 (h.held x o.0) ∙ ap (λ y. Some (Var y)) z, shows homes depths p h (suc k) xs o.2)
 
-cells : (homes : List Register) (s : State) → IsRest homes true s → (k : ℕ) (xs : List ℕ) → InSlots homes k xs → (j : ℕ) → k ≤ j → j < k + length xs → IsTrue (is_cell (slot_at s.frame j))
-cells homes s r k [] o j l m = absurd (omega (arith, l, m))
-cells homes s r k (x ∷ xs) o j l m = elim (cases_eq j k) [
+cells : (homes : List Register) (l : Levels) (s : State) → IsRest homes true l s → (k : ℕ) (xs : List ℕ) → InSlots homes k xs → (j : ℕ) → k ≤ j → j < k + length xs → IsTrue (is_cell (slot_at s.frame j))
+cells homes l s r k [] o j i m = absurd (omega (arith, i, m))
+cells homes l s r k (x ∷ xs) o j i m = elim (cases_eq j k) [
   | inl e ↦ subst (λ z. is_cell (slot_at s.frame z) ≡ true) (sym e) (subst (λ z. is_set s z ≡ true) o.1 (r.set x o.0))
-  | inr d ↦ cells homes s r (suc k) xs o.2 j (omega (arith, l, d)) (omega (arith, m))
+  | inr d ↦ cells homes l s r (suc k) xs o.2 j (omega (arith, i, d)) (omega (arith, m))
 ]
 
-same_goals : (gs : List Goal) → map (rename_goal (λ x. 0 + x)) gs ++ [] ≡ gs
-same_goals gs = append-nil (map (rename_goal (λ x. 0 + x)) gs) ∙ ap (λ f. map (rename_goal f) gs) (functions plus_zero) ∙ goals_identity gs
+same_goals : (gs : List Goal) → marked_all 0 (map (rename_goal (λ x. 0 + x)) gs) ++ [] ≡ marked_all 0 gs
+same_goals gs = append-nil (marked_all 0 (map (rename_goal (λ x. 0 + x)) gs)) ∙ ap (marked_all 0) (ap (λ f. map (rename_goal f) gs) (functions plus_zero) ∙ goals_identity gs)
   where
     plus_zero : (x : ℕ) → 0 + x ≡ x
     plus_zero x = omega arith
 
 -- Its goals, and the answer behind them, are its code.
-pub whole_query : (b : Base) (homes : List Register) (at : ℕ) (q : Query) (is js : List Code) → q.variables ≡ length homes → InSlots homes 1 q.shown → Start b homes true at is no_terms → IsGoalsCode b homes true (past at is) js q.goals
+pub whole_query : (b : Base) (homes : List Register) (l : Levels) (at : ℕ) (q : Query) (is js : List Code) → q.variables ≡ length homes → InSlots homes 1 q.shown → Start b homes true l at is no_terms → IsGoalsCode b homes true l (past at is) js q.goals
     → IsQueryPiece b at ((is ++ js) ++ (AnswerNow ∷ [])) q
-whole_query b homes at q is js size slots start goals =
+whole_query b homes l at q is js size slots start goals =
     let rest : State = start.rest in
     let one : Flows b at (is ++ js) start.first rest = flows_both b at is js start.first rest rest start.flows (goals.flows rest start.rested) in
     let long = one.long in
@@ -439,10 +555,10 @@ whole_query b homes at q is js size slots start goals =
         | inr h ↦ let k = h.1 in let z = at_zero h.0 AnswerNow AnswerNow h.2 in omega (arith, k, z, total, last1)
       ];
       last = λ n e. let z : n ≡ length (is ++ js) = omega (arith, e, total, last1) in subst (λ k. slice_get ((is ++ js) ++ (AnswerNow ∷ [])) k ≡ Some AnswerNow) (sym z) (get_last (is ++ js) AnswerNow);
-      shown = λ n s e h k l m.
+      shown = λ n s e h k i m.
           let z : n ≡ length one.states = omega (arith, e, total, last1, long) in
           let same : rest ≡ s = let y : Some rest ≡ Some s = sym (get_last one.states rest) ∙ subst (λ i. slice_get (one.states ++ (rest ∷ [])) i ≡ Some s) z h in cc in
-          subst (λ t. IsTrue (is_cell (slot_at t.frame k))) same (cells homes rest start.rested 1 q.shown slots k l (omega (arith, m)));
+          subst (λ t. IsTrue (is_cell (slot_at t.frame k))) same (cells homes l rest start.rested 1 q.shown slots k i (omega (arith, m)));
       no_proceed = λ n e. elim (get_both (is ++ js) (AnswerNow ∷ []) n Proceed e) [
         | inl h ↦ true≢false (sym (one.inner n Proceed h))
         | inr h ↦ let w = (get_only h.0 AnswerNow Proceed h.2).1 in absurd (cc)
@@ -451,14 +567,14 @@ whole_query b homes at q is js size slots start goals =
         | inl h ↦ true≢false (sym (one.inner n (Execute k) h))
         | inr h ↦ let w = (get_only h.0 AnswerNow (Execute k) h.2).1 in absurd (cc)
       ];
-      means = λ area base stand p before.
+      means = λ area base stand p noted before.
           let w : Caller = record { goals = []; shown = q.shown } in
           let before' : IsBefore p 0 (length homes) = subst (IsBefore p 0) size before in
-          let begun = start.does 0 no_terms p refl tt before' in
-          let all : List Goal = map (rename_goal (λ x. 0 + x)) q.goals ++ [] in
-          let done = goals.does rest start.rested 0 begun.q [] begun.there in
+          let begun = start.does 0 no_terms no_depth p refl tt noted before' in
+          let all : List Goal = marked_all 0 (map (rename_goal (λ x. 0 + x)) q.goals) ++ [] in
+          let done = goals.does rest start.rested 0 begun.depths no_depth begun.has begun.q [] begun.there in
           let run : Does b at (is ++ js) p [] all done.q [] [] = does_both b at is js p begun.q done.q [] [] [] all all [] (begun.does all) done.does in
-          let end : Ends b w (past at (is ++ js)) (AnswerNow ∷ []) done.q [] [] = ends_answer b w (past at (is ++ js)) done.q done.there.whole (shows homes done.q done.there 1 q.shown slots) in
+          let end : Ends b w (past at (is ++ js)) (AnswerNow ∷ []) done.q [] [] = ends_answer b w (past at (is ++ js)) done.q done.there.whole (shows homes begun.depths done.q done.there 1 q.shown slots) in
           let ended : Ends b w at ((is ++ js) ++ (AnswerNow ∷ [])) p [] all = ends_behind b w at (is ++ js) (AnswerNow ∷ []) p done.q [] [] all [] run end in
           subst (λ l. Means area w at p [] l) (same_goals q.goals) (ended area base stand);
     }

@@ -13,7 +13,7 @@ use Rattle.term_pool.specs.Terms.{term_of, terms_by}
 use Rattle.clause_check.specs.declared.program.Part.{Part}
 use Rattle.clause_check.specs.declared.program.FlatGoal.TheVariants as flat
 use Rattle.clause_check.specs.Programs.{FlatProgram, clause_at, clause_in, goal_at, goal_in, goals_in, goals_between, no_clause, IsProgram}
-use Rattle.clause_check.proofs.Lemmas.{between_first, between_none, between_split}
+use Rattle.clause_check.proofs.Lemmas.{between_none}
 use Rattle.wam_code.specs.declared.instruction.Register.{Register}
 use Rattle.wam_code.specs.declared.instruction.Register.TheVariants.{Y}
 use Rattle.wam_code.specs.declared.instruction.Code.{Code}
@@ -25,17 +25,19 @@ use Rattle.clause_code.proofs.GoalKinds.{OnlySlots}
 use Rattle.clause_code.specs.Predicates.{Appends, base_in}
 use Rattle.clause_code.specs.Safe.{IsClauseCode}
 use Rattle.clause_code.specs.Steps.{home, Suits, filled, code_of, puts, gets, fills, marked_by_all}
-use Rattle.clause_code.specs.Bodies.{IsGoalsCode}
+use Rattle.clause_code.specs.Bodies.{Levels, AreFree, IsGoalsCode}
+use Rattle.clause_code.specs.Fitting.{EachFits, each_need}
 use Rattle.clause_code.specs.Sides.{Written}
 use Rattle.clause_code.specs.Simple.{AreMade, IsOwn, IsWritable}
-use Rattle.clause_code.specs.Whole.{back, unmade, head_code, begin_code, InOrder, AreSlots, Executes}
+use Rattle.clause_code.specs.Whole.{back, unmade, head_code, levels_behind, begin_code, InOrder, AreSlots, Executes}
 use Rattle.clause_code.specs.Works.{Writes}
 use Rattle.clause_code.proofs.Filling.{filled_long, filled_made}
 use Rattle.clause_code.proofs.Making.{AreApart}
 use Rattle.clause_code.proofs.Bodies.{Fine}
 use Rattle.clause_code.proofs.Clauses.{Tail, tail_proceed, tail_execute}
+use Rattle.clause_code.proofs.Fitting.{behind_fits, fits_split}
 use Rattle.clause_code.proofs.Laying.{past_is}
-use Rattle.clause_code.proofs.Assembling.{Known, clause_known, in_order_only, in_order_housed, assembled}
+use Rattle.clause_code.proofs.Assembling.{Known, clause_known, last_goal, in_order_only, in_order_free, in_order_housed, assembled}
 use Rattle.clause_code.proofs.Simples.{arguments_suit, is_writable}
 use Rattle.clause_code.proofs.Sparing.{slots_land}
 
@@ -78,14 +80,6 @@ pub each_codable_split : (gs hs : List model.Goal) → EachCodable (gs ++ hs) �
 each_codable_split [] hs h = (tt, h)
 each_codable_split (g ∷ gs) hs h = let w = each_codable_split gs hs h.1 in ((h.0, w.0), w.1)
 
-pub last_goal : (p : FlatProgram) → IsProgram p → (from to : ℕ) → from < to → to ≤ length p.goals → goals_between p from to ≡ goals_between p from (to - 1) ++ (goal_in p (goal_at p (to - 1)) ∷ [])
-last_goal p known from to l m =
-    let k : ℕ = to - 1 in
-    let up : suc k ≡ to = omega (arith, l) in
-    between_split p from k to (omega (arith, l)) (omega arith)
-    ∙ ap (λ gs. goals_between p from k ++ gs) (between_first p known k to (omega (arith, l)) m)
-    ∙ ap (λ gs. goals_between p from k ++ (goal_in p (goal_at p k) ∷ gs)) (between_none p (suc k) to (omega (arith, up)))
-
 -- what is known of the goals before a last user goal, and of that goal
 pub record BeforeLast (p : FlatProgram) (v from to : ℕ) (u : TermId) : Type 0 where
   pub below : EachBelow v (goals_between p from (to - 1))
@@ -108,12 +102,12 @@ pub slots_only : (homes : List Register) → AreSlots homes → OnlySlots homes
 slots_only homes s x l i e = let w = s.slots x l in let y : home homes x ≡ Y (suc w.0) = w.1 in absurd (cc)
 
 pub in_order_slots : (homes : List Register) (v : ℕ) → InOrder homes v → AreSlots homes
-in_order_slots homes v o = let h = in_order_housed homes v 0 o in record { apart = h.apart; slots = λ x l. let w = h.in_frame refl x l in (w.0, w.1) }
+in_order_slots homes v o = let h = in_order_housed homes v v 0 (omega arith) o in record { apart = h.apart; slots = λ x l. let w = h.in_frame refl x l in (w.0, w.1) }
 
-pub all_written : (p : FlatProgram) (b : Base) (homes : List Register) (at : ℕ) (old now : List Code) (from i to : ℕ) → to ≤ i → Written p b homes at old now from i to → Appends old now (λ is. IsGoalsCode b homes true at is (goals_between p from to))
-all_written p b homes at old now from i to l w =
-    let e : w.done ≡ goals_between p from to = sym (append-nil w.done) ∙ ap (λ gs. w.done ++ gs) (sym (between_none p i to l)) ∙ sym w.whole in
-    (w.js, w.code, subst (IsGoalsCode b homes true at w.js) e w.goals)
+pub all_written : (p : FlatProgram) (b : Base) (homes : List Register) (l : Levels) (at : ℕ) (old now : List Code) (from i to : ℕ) → to ≤ i → Written p b homes l at old now from i to → Appends old now (λ is. IsGoalsCode b homes true l at is (goals_between p from to))
+all_written p b homes l at old now from i to high w =
+    let e : w.done ≡ goals_between p from to = sym (append-nil w.done) ∙ ap (λ gs. w.done ++ gs) (sym (between_none p i to high)) ∙ sym w.whole in
+    (w.js, w.code, subst (IsGoalsCode b homes true l at w.js) e w.goals)
 
 -- ---- a clause
 
@@ -135,26 +129,42 @@ head_own p valid homes c l order q h e f own =
     let there : IsOwn p.pool (length homes) h = (own, subst (λ (t : TermId). Suits p.pool (length homes) (term_of p.pool t)) (sym f) suits) in
     subst (λ (c : Contents). IsOwn c (length homes) h) (sym e) there
 
-pub head_begun : (p : FlatProgram) (homes : List Register) (c : ℕ) → InOrder homes (clause_at p c).variables → (q : Contents) (h : TermId) → q ≡ p.pool → h ≡ (clause_at p c).head → (old new : List Code) → new ≡ old ++ begin_code q homes (length homes) (term_of q h)
-    → new ≡ old ++ begin_code p.pool homes (clause_at p c).variables (term_of p.pool (clause_at p c).head)
-head_begun p homes c order q h e f old new w =
+pub head_begun : (p : FlatProgram) (homes : List Register) (c count slots : ℕ) (l : Levels) → slots ≡ (clause_at p c).variables + count → l ≡ levels_behind (clause_at p c).variables count → (q : Contents) (h : TermId) → q ≡ p.pool → h ≡ (clause_at p c).head → (old new : List Code) → new ≡ old ++ begin_code q homes slots l (term_of q h)
+    → new ≡ old ++ begin_code p.pool homes ((clause_at p c).variables + count) (levels_behind (clause_at p c).variables count) (term_of p.pool (clause_at p c).head)
+head_begun p homes c count slots l i j q h e f old new w =
     w
-    ∙ ap (λ v. old ++ begin_code q homes v (term_of q h)) order.long
-    ∙ ap (λ (d : Contents). old ++ begin_code d homes (clause_at p c).variables (term_of d h)) e
-    ∙ ap (λ (t : TermId). old ++ begin_code p.pool homes (clause_at p c).variables (term_of p.pool t)) f
+    ∙ ap (λ n. old ++ begin_code q homes n l (term_of q h)) i
+    ∙ ap (λ (k : Levels). old ++ begin_code q homes ((clause_at p c).variables + count) k (term_of q h)) j
+    ∙ ap (λ (d : Contents). old ++ begin_code d homes ((clause_at p c).variables + count) (levels_behind (clause_at p c).variables count) (term_of d h)) e
+    ∙ ap (λ (t : TermId). old ++ begin_code p.pool homes ((clause_at p c).variables + count) (levels_behind (clause_at p c).variables count) (term_of p.pool t)) f
 
-module _ (p : FlatProgram) (ps : List Predicate) (homes : List Register) (c : ℕ) (order : InOrder homes (clause_at p c).variables) (known : Known p c) (start : ℕ) (old head goals new : List Code) where
+-- There are as many level slots as its goals need.
+pub body_fits : (p : FlatProgram) (c : ℕ) (l : Levels) → l ≡ levels_behind (clause_at p c).variables (each_need (clause_in p (clause_at p c)).body) → (body : Part) → body ≡ (clause_at p c).body → EachFits l (goals_in p body)
+body_fits p c l e body f =
+    subst (λ (k : Levels). EachFits k (goals_in p body)) (sym e) (subst (λ (a : Part). EachFits (levels_behind (clause_at p c).variables (each_need (clause_in p (clause_at p c)).body)) (goals_in p a)) (sym f) (behind_fits (clause_at p c).variables (clause_in p (clause_at p c)).body))
+
+pub before_fits : (p : FlatProgram) → IsProgram p → (l : Levels) (from to : ℕ) → from < to → to ≤ length p.goals → EachFits l (goals_between p from to) → EachFits l (goals_between p from (to - 1))
+before_fits p known l from to low m h = (fits_split l (goals_between p from (to - 1)) (goal_in p (goal_at p (to - 1)) ∷ []) (subst (EachFits l) (last_goal p known from to low m) h)).0
+
+-- and they are behind those of its variables
+pub body_free : (p : FlatProgram) (homes : List Register) (c count : ℕ) (l : Levels) → InOrder homes (clause_at p c).variables → l ≡ levels_behind (clause_at p c).variables count → AreFree homes l
+body_free p homes c count l order e = subst (AreFree homes) (sym e) (in_order_free homes (clause_at p c).variables count order)
+
+module _ (p : FlatProgram) (ps : List Predicate) (homes : List Register) (count c : ℕ) (order : InOrder homes (clause_at p c).variables) (known : Known p c) (start : ℕ) (old head goals new : List Code) where
   abbrev t : Term
   t = term_of p.pool (clause_at p c).head
 
+  abbrev l : Levels
+  l = levels_behind (clause_at p c).variables count
+
   abbrev begun : List Code
-  begun = begin_code p.pool homes (clause_at p c).variables t
+  begun = begin_code p.pool homes ((clause_at p c).variables + count) l t
 
   abbrev Goals : ℕ → ℕ → Type 0
-  Goals from to = Appends head goals (λ js. IsGoalsCode (base_in p ps) homes true (start + length head) js (goals_between p from to))
+  Goals from to = Appends head goals (λ js. IsGoalsCode (base_in p ps) homes true l (start + length head) js (goals_between p from to))
 
-  placed : (from to : ℕ) → head ≡ old ++ begun → Goals from to → Appends head goals (λ js. IsGoalsCode (base_in p ps) homes true (past (start + length old) begun) js (goals_between p from to))
-  placed from to e f = subst (λ k. Appends head goals (λ js. IsGoalsCode (base_in p ps) homes true k js (goals_between p from to))) (place_behind start old begun head e) f
+  placed : (from to : ℕ) → head ≡ old ++ begun → Goals from to → Appends head goals (λ js. IsGoalsCode (base_in p ps) homes true l (past (start + length old) begun) js (goals_between p from to))
+  placed from to e f = subst (λ k. Appends head goals (λ js. IsGoalsCode (base_in p ps) homes true l k js (goals_between p from to))) (place_behind start old begun head e) f
 
   joined : (js ks : List Code) (i : Code) → head ≡ old ++ begun → goals ≡ head ++ js → new ≡ goals ++ (ks ++ (i ∷ [])) → new ≡ old ++ ((begun ++ js) ++ (ks ++ (i ∷ [])))
   joined js ks i e f g =
@@ -170,27 +180,27 @@ module _ (p : FlatProgram) (ps : List Predicate) (homes : List Register) (c : �
       let b : Base = base_in p ps in (
         (begun ++ w.0) ++ (back true ++ (Proceed ∷ [])),
         joined w.0 (back true) Proceed e w.1 g,
-        assembled p ps homes at c w.0 (back true) Proceed (goals_between p from to) [] order known (sym body ∙ sym (append-nil (goals_between p from to))) w.2 (tail_proceed b homes true (past at (begun ++ w.0))),
+        assembled p ps homes count at c w.0 (back true) Proceed (goals_between p from to) [] order known (sym body ∙ sym (append-nil (goals_between p from to))) w.2 (tail_proceed b homes true l (past at (begun ++ w.0))),
       )
 
   pub clause_executes : (from to : ℕ) (u : TermId) (made_now : List Bool) → IsProgram p → from < to → to ≤ length p.goals → goal_at p (to - 1) ≡ flat.Call u → Suits p.pool (length homes) (term_of p.pool u) → AreMade made_now → length made_now ≡ length homes
       → goals_between p from to ≡ (clause_in p (clause_at p c)).body → head ≡ old ++ begun → Goals from (to - 1) → Executes p.pool ps homes made_now u goals new
       → Appends old new (λ is. IsClauseCode (base_in p ps) (start + length old) is (clause_in p (clause_at p c)))
-  clause_executes from to u made_now valid l m last suits all long body e f x =
+  clause_executes from to u made_now valid low m last suits all long body e f x =
       let at : ℕ = start + length old in
       let w = placed from (to - 1) e f in
       let b : Base = base_in p ps in
       let us : Terms = arguments (term_of p.pool u) in
       let s : Predicate = x.of.0 in
       let only = in_order_only homes (clause_at p c).variables order in
-      let fine : Fine b homes (suc (term_count us)) us = record { suit = arguments_suit p.pool (length homes) (term_of p.pool u) suits; below = omega arith; lands = slots_land homes only 1 us; clear = λ j l y k i. only y k j i } in
-      let apart : AreApart homes = (in_order_housed homes (clause_at p c).variables 0 order).apart in
+      let fine : Fine b homes (suc (term_count us)) us = record { suit = arguments_suit p.pool (length homes) (term_of p.pool u) suits; below = omega arith; lands = slots_land homes only 1 us; clear = λ j z y k i. only y k j i } in
+      let apart : AreApart homes = (in_order_housed homes (clause_at p c).variables (clause_at p c).variables 0 (omega arith) order).apart in
       let ks : List Code = code_of homes made_now (puts p.pool 1 (suc (term_count us)) us) ++ back true in
-      let tail : Tail b homes true (past at (begun ++ w.0)) ks (Execute x.number) (model.Call (made (atom_name p.pool s.name) us) ∷ []) =
-      tail_execute b homes apart true made_now (suc (term_count us)) (past at (begun ++ w.0)) (λ y k. all y) long x.number s us x.of.1 x.of.2.arity (slice_get_within ps x.number s x.of.1) fine in
+      let tail : Tail b homes true l (past at (begun ++ w.0)) ks (Execute x.number) (model.Call (made (atom_name p.pool s.name) us) ∷ []) =
+      tail_execute b homes apart l (in_order_free homes (clause_at p c).variables count order) true made_now (suc (term_count us)) (past at (begun ++ w.0)) (λ y k. all y) long x.number s us x.of.1 x.of.2.arity (slice_get_within ps x.number s x.of.1) fine in
       let same : goal_in p (goal_at p (to - 1)) ≡ model.Call (made (atom_name p.pool s.name) us) = ap (goal_in p) last ∙ ap (λ v. model.Call v) x.of.2.name in (
         (begun ++ w.0) ++ (ks ++ (Execute x.number ∷ [])),
         joined w.0 ks (Execute x.number) e w.1 x.code,
-        assembled p ps homes at c w.0 ks (Execute x.number) (goals_between p from (to - 1)) (model.Call (made (atom_name p.pool s.name) us) ∷ []) order known
-            (sym body ∙ last_goal p valid from to l m ∙ ap (λ g. goals_between p from (to - 1) ++ (g ∷ [])) same) w.2 tail,
+        assembled p ps homes count at c w.0 ks (Execute x.number) (goals_between p from (to - 1)) (model.Call (made (atom_name p.pool s.name) us) ∷ []) order known
+            (sym body ∙ last_goal p valid from to low m ∙ ap (λ g. goals_between p from (to - 1) ++ (g ∷ [])) same) w.2 tail,
       )

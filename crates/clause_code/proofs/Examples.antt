@@ -124,7 +124,7 @@ module _ (b : Base) (cons name : AtomId) (k : ℕ) (there : slice_get b.predicat
 
   -- It stands for the clause.
   pub append_is_clause : (area : Area) (at : ℕ) → base_of area ≡ b → Stand area at append_code → IsClause area at append_clause
-  append_is_clause area at same stand = λ n as' after shown p size below hold before. by n as' after shown p size hold before
+  append_is_clause area at same stand = λ n as' d after shown p size below hold noted before. by n as' after shown p size hold before
     where
       by : (n : ℕ) (as' : Terms) (after : List Goal) (shown : List ℕ) (p : Places) → term_count as' ≡ 3 → Hold p 1 as' → IsBefore p n 4
           → Means area (record { goals = after; shown = shown }) at p (paired as' (three (pair (Var (n + 0)) (Var (n + 1))) (Var (n + 2)) (pair (Var (n + 0)) (Var (n + 3))))) (goal.Call (Comp (atom_name b.pool name) (three (Var (n + 1)) (Var (n + 2)) (Var (n + 3)))) ∷ after)
@@ -233,7 +233,7 @@ module _ (b : Base) (cons name : AtomId) (k : ℕ) (there : slice_get b.predicat
 
   -- It stands for the clause.
   pub skip_is_clause : (area : Area) (at : ℕ) → base_of area ≡ b → Stand area at skip_code → IsClause area at skip_clause
-  skip_is_clause area at same stand = λ n as' after shown p size below hold before. by n as' after shown p size below hold before
+  skip_is_clause area at same stand = λ n as' d after shown p size below hold noted before. by n as' after shown p size below hold before
     where
       by : (n : ℕ) (as' : Terms) (after : List Goal) (shown : List ℕ) (p : Places) → term_count as' ≡ 1 → AllOf (λ v. v < n) as' → Hold p 1 as' → IsBefore p n 3
           → Means area (record { goals = after; shown = shown }) at p (paired as' (term (two (Var (n + 0)) (two (Var (n + 1)) (Var (n + 2)))) no_terms)) (goal.Call (Comp (atom_name b.pool name) (term (Var (n + 2)) no_terms)) ∷ after)

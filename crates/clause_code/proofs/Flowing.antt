@@ -5,13 +5,13 @@ use Rattle.std.proofs.lemmas.Option.{slice_get_within}
 use Rattle.std.proofs.lemmas.Bool.{cases_eq, true≢false}
 use Rattle.fd_language.specs.Family.{has}
 use Rattle.wam_code.specs.declared.instruction.Code.{Code}
-use Rattle.wam_code.specs.declared.instruction.Code.TheVariants.{Jump, Either, FailNow, TryMeElse, RetryMeElse, TrustMe, Try, Retry, Trust, SwitchOnTerm, SwitchOnConstant, SwitchOnInteger, SwitchOnStructure}
+use Rattle.wam_code.specs.declared.instruction.Code.TheVariants.{Jump, Either, EnterTest, FailNow, TryMeElse, RetryMeElse, TrustMe, Try, Retry, Trust, SwitchOnTerm, SwitchOnConstant, SwitchOnInteger, SwitchOnStructure}
 use Rattle.wam_code.specs.Area.{State}
 use Rattle.wam_code.specs.Effect.{effect_by, effect}
 use Rattle.wam_code.specs.VerifiedCode.{goes_on, Covers}
 use Rattle.wam_code.proofs.Lemmas.{covers_self}
 use Rattle.clause_code.specs.Pieces.{Base, past}
-use Rattle.clause_code.specs.Laws.{other_side, sides}
+use Rattle.clause_code.specs.Laws.{other_side, ways, sides}
 use Rattle.clause_code.specs.Safe.{unplaced, aims, is_plain, HandedIn, LeadsIn, IsThereIn, IsSafePiece, may_enter}
 use Rattle.clause_code.specs.Flowing.{is_simple, is_inner, Runs, FlowsInto, Flows, MayEnter}
 use Rattle.clause_code.proofs.Laying.{past_is}
@@ -124,11 +124,13 @@ flows_nothing b at s = record { states = []; long = refl; begins = refl; leads =
 no_aims : (i : Code) → IsTrue (is_simple i) → aims i ≡ []
 no_aims (Jump to) h = absurd (true≢false (sym h))
 no_aims (Either to) h = absurd (true≢false (sym h))
+no_aims (EnterTest n m to) h = absurd (true≢false (sym h))
 no_aims _ h = refl
 
 pub simple_inner : (i : Code) → IsTrue (is_simple i) → IsTrue (is_inner i)
 simple_inner (Jump to) h = refl
 simple_inner (Either to) h = refl
+simple_inner (EnterTest n m to) h = refl
 simple_inner _ h = h
 
 pub simple_enters : (i : Code) → IsTrue (is_simple i) → IsTrue (may_enter i)
@@ -253,10 +255,11 @@ flows_jump b m js s o g =
     ) in
     (flows_behind b m (Jump e ∷ []) js s s (s ∷ []) g (flows_one b m (Jump e) s behind lead refl tt), refl)
 
--- Both ways lead to the place behind them.
-pub flows_sides : (b : Base) (at : ℕ) (is js : List Code) (s : State) → s.owed ≡ 0 → Flows b (suc at) is s s → Flows b (other_side at is js) js s s → Flows b at (sides at is js) s s
+-- Both ways lead to the place behind them. The instruction in front names the second one.
+pub flows_ways : (b : Base) (at : ℕ) (i : Code) (is js : List Code) (s : State) → effect (unplaced b) i s ≡ Some s → aims i ≡ other_side at is js ∷ [] → IsTrue (is_inner i) → IsThereIn b i → s.owed ≡ 0 → Flows b (suc at) is s s → Flows b (other_side at is js) js s s
+    → Flows b at (ways i at is js) s s
 unfolding flows_behind flows_wide
-flows_sides b at is js s o fa fb =
+flows_ways b at i is js s eff aim inner there o fa fb =
     let m : ℕ = past (suc at) is in
     let e : ℕ = past (suc m) js in
     let target : other_side at is js ≡ suc m = past_both (suc at) is (Jump e ∷ []) in
@@ -270,10 +273,27 @@ flows_sides b at is js s o fa fb =
     let z : suc (length is) ≡ length fa.states + 1 = omega (arith, long) in
     ap (λ l. slice_get l (suc (length is))) whole ∙ ap (slice_get (fa.states ++ (s ∷ (g.states ++ (s ∷ []))))) z ∙ into_right fa.states (s ∷ (g.states ++ (s ∷ []))) 1 ∙ g.begins in
     let far : other_side at is js ≡ at + suc (suc (length is)) = let p = past_is (suc at) is in omega (arith, p, target) in
-    let lead : LeadsIn b at (s ∷ behind) 0 (Either (other_side at is js)) s = (
+    let lead : LeadsIn b at (s ∷ behind) 0 i s = (
       s,
-      ap (λ n. effect_by n (unplaced b) (Either (other_side at is js)) s) o,
-      (λ to h. let same = one_aim (other_side at is js) to h in (omega (arith, same, far), (suc (suc (length is)), same ∙ far, s, other, covers_self s))),
+      eff,
+      (λ to h. let same = one_aim (other_side at is js) to (subst (λ l. IsTrue (has l to)) aim h) in (omega (arith, same, far), (suc (suc (length is)), same ∙ far, s, other, covers_self s))),
       (λ h. (1, omega arith, s, rest.begins, covers_self s)),
     ) in
-    flows_behind b at (Either (other_side at is js) ∷ []) (is ++ (Jump e ∷ js)) s s (s ∷ []) rest (flows_one b at (Either (other_side at is js)) s behind lead refl tt)
+    flows_behind b at (i ∷ []) (is ++ (Jump e ∷ js)) s s (s ∷ []) rest (flows_one b at i s behind lead inner there)
+
+pub flows_sides : (b : Base) (at : ℕ) (is js : List Code) (s : State) → s.owed ≡ 0 → Flows b (suc at) is s s → Flows b (other_side at is js) js s s → Flows b at (sides at is js) s s
+flows_sides b at is js s o fa fb = flows_ways b at (Either (other_side at is js)) is js s (ap (λ n. effect_by n (unplaced b) (Either (other_side at is js)) s) o) refl refl tt o fa fb
+
+-- An instruction that names the place behind the piece.
+pub flows_over : (b : Base) (at : ℕ) (i : Code) (is : List Code) (s : State) → effect (unplaced b) i s ≡ Some s → aims i ≡ past (suc at) is ∷ [] → IsTrue (is_inner i) → IsThereIn b i → Flows b (suc at) is s s → Flows b at (i ∷ is) s s
+flows_over b at i is s eff aim inner there f =
+    let long : length f.states ≡ length is = f.long in
+    let end : slice_get (f.states ++ (s ∷ [])) (length is) ≡ Some s = ap (slice_get (f.states ++ (s ∷ []))) (sym long) ∙ get_last f.states s in
+    let far : past (suc at) is ≡ at + suc (length is) = let p = past_is (suc at) is in omega (arith, p) in
+    let lead : LeadsIn b at (s ∷ (f.states ++ (s ∷ []))) 0 i s = (
+      s,
+      eff,
+      (λ to h. let same = one_aim (past (suc at) is) to (subst (λ l. IsTrue (has l to)) aim h) in (omega (arith, same, far), (suc (length is), same ∙ far, s, end, covers_self s))),
+      (λ h. (1, omega arith, s, f.begins, covers_self s)),
+    ) in
+    flows_behind b at (i ∷ []) is s s (s ∷ []) f (flows_one b at i s (f.states ++ (s ∷ [])) lead inner there)

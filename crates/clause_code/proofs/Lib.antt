@@ -16,6 +16,8 @@ mod Filling
 mod Bodies
 mod GoalKinds
 mod SameGoals
+mod Tests
+mod Leveling
 mod Clauses
 mod Writing
 mod Rests
@@ -23,6 +25,7 @@ mod Suiting
 mod Loading
 mod Simples
 mod Assembling
+mod Fitting
 mod Gathering
 mod Ending
 mod Asking

@@ -10,15 +10,16 @@ use Rattle.wam_code.specs.declared.instruction.Register.TheVariants.{X, Y}
 use Rattle.wam_code.specs.Area.{Slot, Cell, State}
 use Rattle.wam_code.specs.Effect.{slot_at, is_unset, is_cell, with_cell, is_set, is_free, with_set, with_owed}
 use Rattle.wam_code.specs.Places.{Places, drop_at, learnt, read, write, without, learn, IsFresh, IsWhole}
+use Rattle.clause_code.specs.Bodies.{IsNoHome}
 use Rattle.clause_code.specs.Steps.{home, is_made}
 use Rattle.clause_code.proofs.Homes.{read_written, read_else, learnt_here, learnt_else, write_known, write_own, write_top}
 
 -- ---- lists
 
-get_set_same : {A : Type 0} (xs : List A) (i : ℕ) (y : A) → i < length xs → slice_get (slice_set xs i y) i ≡ Some y
+pub get_set_same : {A : Type 0} (xs : List A) (i : ℕ) (y : A) → i < length xs → slice_get (slice_set xs i y) i ≡ Some y
 get_set_same xs i y l = let m : i < length (slice_set xs i y) = subst (λ k. i < k) (sym (length-set xs i y)) l in slice_get-get_or (slice_set xs i y) i y m ∙ ap Some (get_or-set_same xs i y y l)
 
-get_set_else : {A : Type 0} (xs : List A) (i j : ℕ) (y : A) → (j ≡ i → ⊥) → slice_get (slice_set xs i y) j ≡ slice_get xs j
+pub get_set_else : {A : Type 0} (xs : List A) (i j : ℕ) (y : A) → (j ≡ i → ⊥) → slice_get (slice_set xs i y) j ≡ slice_get xs j
 get_set_else [] i j y h = refl
 get_set_else (x ∷ xs) zero zero y h = absurd (h refl)
 get_set_else (x ∷ xs) zero (suc j) y h = refl
@@ -49,7 +50,7 @@ slot_else (Some ss) n zero h = refl
 slot_else (Some ss) zero (suc m) h = refl
 slot_else (Some ss) (suc n) (suc m) h = get_set_else ss n m Cell (λ e. h (ap suc e))
 
-pub drop_else : (i : ℕ) (r : ℕ → Option Term) (j : ℕ) → (j ≡ i → ⊥) → drop_at i r j ≡ r j
+pub drop_else : {A : Type 0} → (i : ℕ) (r : ℕ → Option A) (j : ℕ) → (j ≡ i → ⊥) → drop_at i r j ≡ r j
 drop_else i r j h = ap (λ c. if c then None else r j) (ne_eqb j i h)
 
 -- What becomes a cell is one.
@@ -108,6 +109,36 @@ clear_spared homes made later i c = λ x l h e. absurd (c x l h)
 
 pub spared_both : (homes : List Register) (made mid later : List Bool) (i : ℕ) → Spared homes made mid i → Spared homes mid later i → Spared homes made later i
 spared_both homes made mid later i f g = λ x l h e. f x l h (g x l h e)
+
+-- The depths are kept in each slot that is no variable's, and so is what was noted.
+pub record KeepsDepths (homes : List Register) (p q : Places) : Type 0 where
+  pub levels : (k : ℕ) → IsNoHome homes k → q.levels k ≡ p.levels k
+  pub noted : q.noted ≡ p.noted
+
+pub depths_same : (homes : List Register) (p : Places) → KeepsDepths homes p p
+depths_same homes p = record { levels = λ k c. refl; noted = refl }
+
+pub depths_both : (homes : List Register) (p q w : Places) → KeepsDepths homes p q → KeepsDepths homes q w → KeepsDepths homes p w
+depths_both homes p q w f g = record { levels = λ k c. g.levels k c ∙ f.levels k c; noted = g.noted ∙ f.noted }
+
+-- a variable's home is written
+pub depths_written : (homes : List Register) (p : Places) (x : ℕ) (t : Term) → x < length homes → KeepsDepths homes p (write p (home homes x) t)
+depths_written homes p x t l = by (home homes x) refl
+  where
+    by : (r : Register) → home homes x ≡ r → KeepsDepths homes p (write p r t)
+    by (X j) e = record { levels = λ k c. refl; noted = refl }
+    by (Y j) e = record { levels = λ k c. drop_else j p.levels k (λ d. c x l (e ∙ ap Y (sym d))); noted = refl }
+
+-- Slots that are no variable's stay as they are.
+abbrev pub KeepsSlots : List Register → State → State → Type 0
+KeepsSlots homes s t = (k : ℕ) → IsNoHome homes k → slot_at t.frame k ≡ slot_at s.frame k
+
+pub slots_set : (homes : List Register) (s : State) (x : ℕ) → x < length homes → KeepsSlots homes s (with_set s (home homes x))
+slots_set homes s x l = by (home homes x) refl
+  where
+    by : (r : Register) → home homes x ≡ r → KeepsSlots homes s (with_set s r)
+    by (X j) e = λ k c. refl
+    by (Y j) e = λ k c. slot_else s.frame j k (λ d. c x l (e ∙ ap Y (sym d)))
 
 -- no two variables have one register
 abbrev pub AreApart : List Register → Type 0

@@ -1,5 +1,5 @@
 -- What pieces of code do, one instruction after the other.
-use Rattle.std.proofs.Common.{◌≡◌, ℕ, suc, ℤ, List, [], ◌∷◌, ◌++◌, Some, slice_get, slice_index_or, option_map, refl, ap, sym, ◌∙◌, subst, Option, None}
+use Rattle.std.proofs.Common.{◌≡◌, ℕ, suc, ℤ, List, [], ◌∷◌, ◌++◌, Some, slice_get, slice_index_or, option_map, refl, ap, sym, ◌∙◌, subst, Option, None, Bool}
 use Rattle.std.proofs.lemmas.Option.{slice_get-map}
 use Rattle.fd_language.specs.Term.{Term, Terms, Var, Int, Atom, Comp, no_terms, term, term_count}
 use Rattle.fd_language.specs.Unifier.{Equation}
@@ -17,11 +17,11 @@ use Rattle.term_pool.specs.Contents.{atom_name}
 use Rattle.wam_code.specs.declared.instruction.Register.{Register}
 use Rattle.wam_code.specs.declared.instruction.Register.TheVariants.{X}
 use Rattle.wam_code.specs.declared.instruction.Code.{Code}
-use Rattle.wam_code.specs.declared.instruction.Code.TheVariants.{GetVariable, GetValue, GetConstant, GetInteger, GetStructure, UnifyVariable, UnifyValue, UnifyConstant, UnifyInteger, UnifyVoid, PutVariable, PutValue, PutConstant, PutInteger, PutStructure, Allocate, Deallocate, Call, Execute, Proceed, Jump, AnswerNow, Either, Builtin, Constrain, Label, PostRange}
+use Rattle.wam_code.specs.declared.instruction.Code.TheVariants.{GetVariable, GetValue, GetConstant, GetInteger, GetStructure, UnifyVariable, UnifyValue, UnifyConstant, UnifyInteger, UnifyVoid, PutVariable, PutValue, PutConstant, PutInteger, PutStructure, Allocate, Deallocate, Call, Execute, Proceed, Jump, AnswerNow, Either, Builtin, Constrain, Label, Best, PostRange, Level, TestOnly, EnterTest, CutTo}
 use Rattle.wam_code.specs.declared.parts.Entry.{Entry}
 use Rattle.wam_code.specs.Area.{Area, HasEntry, name_of, range_at}
-use Rattle.wam_code.specs.Places.{Places, read, write, learn, without, no_registers, no_slots, IsFresh, IsWhole, IsSettled, Hold, made}
-use Rattle.wam_code.specs.Means.{Caller, UnifyRule, BuiltinRule, ConstrainRule, LabelRule, CallRule, HoldVars, Shows, Rule, Restates, Means}
+use Rattle.wam_code.specs.Places.{Depth, deeper, one_deeper, Places, read, write, learn, without, put_level, drop_level, no_registers, no_slots, IsFresh, IsWhole, IsSettled, AreWithin, IsDeepest, Hold, made}
+use Rattle.wam_code.specs.Means.{Caller, UnifyRule, BuiltinRule, ConstrainRule, LabelRule, BestRule, CallRule, tested, HasTest, HoldVars, Shows, Rule, Restates, Means}
 use Rattle.wam_code.proofs.Lemmas.{from_rule, from_learning, from_restating}
 use Rattle.clause_code.specs.Pieces.{Predicate, predicate_of, Base, base_of, Stand, past, Does, Parts, Ends}
 
@@ -161,6 +161,9 @@ does_constrain b at k g p q gs h f = one b at (Constrain k) p q [] [] (g ∷ gs)
 pub does_label : (b : Base) (at : ℕ) (o : Order) (g : Goal) (p q : Places) (gs : List Goal) → LabelRule o p g → IsSettled p q → Does b at (Label o ∷ []) p [] (g ∷ gs) q [] gs
 does_label b at o g p q gs h f = one b at (Label o) p q [] [] (g ∷ gs) gs (λ area w e m. (g, gs, q, h, f, refl, refl, m))
 
+pub does_best : (b : Base) (at : ℕ) (o : Order) (least : Bool) (g : Goal) (p q : Places) (gs : List Goal) → BestRule o least p g → IsSettled p q → Does b at (Best o least ∷ []) p [] (g ∷ gs) q [] gs
+does_best b at o least g p q gs h f = one b at (Best o least) p q [] [] (g ∷ gs) gs (λ area w e m. (g, gs, q, h, f, refl, refl, m))
+
 found : (es : List Entry) (n : ℕ) (o : Option Entry) (s : Predicate) → slice_get es n ≡ o → option_map predicate_of o ≡ Some s → (e : Entry) × (slice_get es n ≡ Some e) × (predicate_of e ≡ s)
 found es n None s f h = absurd (cc)
 found es n (Some e) s f h = (e, f, (let same : predicate_of e ≡ s = cc in same))
@@ -202,7 +205,50 @@ ends_proceed b w at p f = λ area e s. from_rule area w at p [] w.goals Proceed 
 pub ends_answer : (b : Base) (w : Caller) (at : ℕ) (p : Places) → IsWhole p → Shows p 1 w.shown → Ends b w at (AnswerNow ∷ []) p [] []
 ends_answer b w at p f g = λ area e s. from_rule area w at p [] [] AnswerNow s.0 (f, g, refl, refl)
 
+-- ---- cuts
+
+-- A slot takes the depth that the call has noted.
+pub does_level : (b : Base) (at n : ℕ) (d : Depth) (p : Places) (es : List Equation) (gs : List Goal) → p.noted ≡ Some d → Does b at (Level n ∷ []) p es gs (put_level p n d) es gs
+does_level b at n d p es gs h = one b at (Level n) p _ es es gs gs (λ area w e m. (d, h, m))
+
+-- A cut to a slot's depth.
+pub does_cut : (b : Base) (at n : ℕ) (d : Depth) (p q : Places) (gs : List Goal) → p.levels n ≡ Some d → IsSettled p q → AreWithin q d → Does b at (CutTo n ∷ []) p [] (goal.Cut (Some d.branches) ∷ gs) q [] gs
+does_cut b at n d p q gs h f g = one b at (CutTo n) p q [] [] _ gs (λ area w e m. (d, gs, q, h, f, g, refl, refl, m))
+
+-- ---- tests
+
+-- A test, and what follows where it holds: the code behind the instruction does both, whatever the depth is.
+pub does_test_only : (b : Base) (at n : ℕ) (is : List Code) (test holds : Goals) (p q r : Places) (kept : Depth) (gs : List Goal) → IsSettled p q → IsDeepest q kept
+    → ((more : Depth) → Does b (suc at) is (put_level q n (deeper kept more)) [] (tested (deeper kept more).branches (deeper kept more).branches test (listed holds ++ gs)) r [] gs)
+    → Does b at (TestOnly n ∷ is) p [] (goal.If test holds ∷ gs) r [] gs
+does_test_only b at n is test holds p q r kept gs f k h = λ area w e s m. from_rule area w at p [] _ (TestOnly n) s.0 (test, holds, gs, q, kept, f, k, refl, refl, λ more. h more area w e s.1 m)
+
+-- A test with another way, which is behind the code of the first one.
+pub does_enter_test : (b : Base) (at n m to : ℕ) (is : List Code) (g : Goal) (test : Goals) (holds other : List Goal) (p q r : Places) (kept : Depth) (gs : List Goal) → IsSettled p q → IsDeepest q kept → HasTest g test holds other
+    → ((more : Depth) → Does b (suc at) is (put_level (put_level q n (deeper kept more)) m (one_deeper (deeper kept more))) [] (tested (suc (deeper kept more).branches) (deeper kept more).branches test (holds ++ gs)) r [] gs)
+    → ((more : Depth) → (area : Area) (w : Caller) → base_of area ≡ b → Stand area (suc at) is → Means area w (past (suc at) is) r [] gs → Means area w to (drop_level (put_level q n (deeper kept more)) m) [] (other ++ gs))
+    → Does b at (EnterTest n m to ∷ is) p [] (g ∷ gs) r [] gs
+does_enter_test b at n m to is g test holds other p q r kept gs f k t h o = λ area w e s x.
+    from_rule area w at p [] (g ∷ gs) (EnterTest n m to) s.0 (g, test, holds, other, gs, q, kept, f, k, refl, refl, t, λ more. (h more area w e s.1 x, o more area w e s.1 x))
+
 -- ---- both ways of A ; B
+
+-- The first of two codes jumps behind the second.
+pub does_ways : (b : Base) (at : ℕ) (is js : List Code) (p r : Places) (gs ks : List Goal) → Does b at is p [] gs r [] ks → Does b at (is ++ (Jump (past (suc (past at is)) js) ∷ js)) p [] gs r [] ks
+does_ways b at is js p r gs ks f = λ area w e s m.
+    let mid : ℕ = past at is in
+    let last : past at (is ++ (Jump (past (suc mid) js) ∷ js)) ≡ past (suc mid) js = past_both at is (Jump (past (suc mid) js) ∷ js) in
+    let rest : Stand area mid (Jump (past (suc mid) js) ∷ js) = stand_rest area at is (Jump (past (suc mid) js) ∷ js) s in
+    f area w e (stand_first area at is (Jump (past (suc mid) js) ∷ js) s) (from_rule area w mid r [] ks (Jump (past (suc mid) js)) rest.0 (subst (λ n. Means area w n r [] ks) last m))
+
+-- And the second stands behind the jump.
+pub other_way : (b : Base) (at : ℕ) (is js : List Code) (q r : Places) (hs ks : List Goal) → Does b (suc (past at is)) js q [] hs r [] ks
+    → (area : Area) (w : Caller) → base_of area ≡ b → Stand area at (is ++ (Jump (past (suc (past at is)) js) ∷ js)) → Means area w (past at (is ++ (Jump (past (suc (past at is)) js) ∷ js))) r [] ks → Means area w (suc (past at is)) q [] hs
+other_way b at is js q r hs ks g = λ area w e s m.
+    let mid : ℕ = past at is in
+    let last : past at (is ++ (Jump (past (suc mid) js) ∷ js)) ≡ past (suc mid) js = past_both at is (Jump (past (suc mid) js) ∷ js) in
+    let rest : Stand area mid (Jump (past (suc mid) js) ∷ js) = stand_rest area at is (Jump (past (suc mid) js) ∷ js) s in
+    g area w e rest.1 (subst (λ n. Means area w n r [] ks) last m)
 
 -- The code of A jumps to the place behind that of B.
 pub does_either : (b : Base) (at : ℕ) (is js : List Code) (x y : Goals) (p q r : Places) (gs : List Goal) → IsSettled p q

@@ -23,10 +23,11 @@ use Rattle.clause_code.specs.Short.{IsShortBody, last_arguments, ShortCall, IsSh
 use Rattle.clause_code.specs.Simple.{IsOwn}
 use Rattle.clause_code.specs.Steps.{code_of, puts, AllSuit, Suits}
 use Rattle.clause_code.specs.ArgumentHomes.{AllWait, AllLand, AreHomes}
-use Rattle.clause_code.specs.Whole.{head_code, IsHoused}
+use Rattle.clause_code.specs.Whole.{head_code, IsHoused, no_levels}
+use Rattle.clause_code.specs.Bodies.{AreFree}
 use Rattle.clause_code.proofs.Assembling.{Known}
 use Rattle.clause_code.proofs.Bodies.{Fine, goals_nothing}
-use Rattle.clause_code.proofs.Clauses.{Start, Tail, start_code, tail_proceed, tail_execute, whole_clause}
+use Rattle.clause_code.proofs.Clauses.{Start, Tail, start_short, tail_proceed, tail_execute, whole_clause}
 use Rattle.clause_code.proofs.Ending.{known_of, before_last}
 use Rattle.clause_code.proofs.Simples.{arguments_suit}
 
@@ -85,8 +86,11 @@ module _ (p : FlatProgram) (valid : IsProgram p) (ps : List Predicate) (homes : 
     abbrev is : List Code
     is = head_code p.pool homes free ts
 
-    begins : Start b homes false at is ts
-    begins = start_code b homes false 0 k free at ts housed (subst (λ v. AllSuit p.pool v ts) (sym long) known.head) few waits
+    none_free : AreFree homes no_levels
+    none_free = record { clear = λ j a z x m e. omega (arith, z); within = omega arith }
+
+    begins : Start b homes false no_levels at is ts
+    begins = start_short b homes 0 k free at ts housed (subst (λ v. AllSuit p.pool v ts) (sym long) known.head) few waits
 
     abbrev Written : Type 0
     Written = Appends old new (λ js. IsClauseCode b at js (clause_in p (clause_at p c)))
@@ -97,7 +101,7 @@ module _ (p : FlatProgram) (valid : IsProgram p) (ps : List Predicate) (homes : 
           is ++ (Proceed ∷ []),
           e ∙ append_assoc old is (Proceed ∷ []),
           subst (λ l. IsClauseCode b at (l ++ (Proceed ∷ [])) (clause_in p (clause_at p c))) (append-nil is)
-              (whole_clause b homes false at (clause_in p (clause_at p c)) is [] [] Proceed [] [] (sym long) empty begins (goals_nothing b homes false (past at is)) (tail_proceed b homes false (past at (is ++ [])))),
+              (whole_clause b homes false no_levels at (clause_in p (clause_at p c)) is [] [] Proceed [] [] (sym long) empty begins (goals_nothing b homes false no_levels (past at is)) (tail_proceed b homes false no_levels (past at (is ++ [])))),
         )
 
     call_written : (u : TermId) → IsShortBody p body (Some u) → term_count (arguments (term_of p.pool u)) ≤ k → AllLand homes 1 (arguments (term_of p.pool u)) → ShortCall p.pool ps homes free (clause_at p c).head u old new → Written
@@ -116,8 +120,8 @@ module _ (p : FlatProgram) (valid : IsProgram p) (ps : List Predicate) (homes : 
         } in
         let ks : List Code = code_of homes w.made (puts p.pool 1 free us) in
         let call : model.Goal = model.Call (made (atom_name p.pool f.name) us) in
-        let tail : Tail b homes false (past at (is ++ [])) (ks ++ []) (Execute e) (call ∷ []) =
-        tail_execute b homes housed.apart false w.made free (past at (is ++ [])) (λ y n. w.all y) w.long e f us g.of.1 g.of.2.arity (slice_get_within ps e f g.of.1) fine in
+        let tail : Tail b homes false no_levels (past at (is ++ [])) (ks ++ []) (Execute e) (call ∷ []) =
+        tail_execute b homes housed.apart no_levels none_free false w.made free (past at (is ++ [])) (λ y n. w.all y) w.long e f us g.of.1 g.of.2.arity (slice_get_within ps e f g.of.1) fine in
         let size = s.0 in
         let same : goal_in p (goal_at p body.from) ≡ call = ap (goal_in p) s.1 ∙ ap (λ v. model.Call v) g.of.2.name in
         let one : goals_in p body ≡ call ∷ [] =
@@ -125,7 +129,7 @@ module _ (p : FlatProgram) (valid : IsProgram p) (ps : List Predicate) (homes : 
         ∙ ap (λ h. h ∷ goals_between p (suc body.from) body.to) same
         ∙ ap (λ hs. call ∷ hs) (between_none p (suc body.from) body.to (omega (arith, size))) in
         let all : IsClauseCode b at ((is ++ []) ++ ((ks ++ []) ++ (Execute e ∷ []))) (clause_in p (clause_at p c)) =
-        whole_clause b homes false at (clause_in p (clause_at p c)) is [] (ks ++ []) (Execute e) [] (call ∷ []) (sym long) one begins (goals_nothing b homes false (past at is)) tail in (
+        whole_clause b homes false no_levels at (clause_in p (clause_at p c)) is [] (ks ++ []) (Execute e) [] (call ∷ []) (sym long) one begins (goals_nothing b homes false no_levels (past at is)) tail in (
           is ++ (ks ++ (Execute e ∷ [])),
           g.code ∙ append_assoc old is (ks ++ (Execute e ∷ [])),
           subst (λ l. IsClauseCode b at (is ++ (l ++ (Execute e ∷ []))) (clause_in p (clause_at p c))) (append-nil ks)

@@ -25,11 +25,11 @@ use Rattle.clause_code.specs.Pieces.{Base, Predicate}
 use Rattle.clause_code.specs.Codable.{IsNarrow, IsCodableGoal}
 use Rattle.clause_code.specs.Predicates.{base_in}
 use Rattle.clause_code.specs.Steps.{Suits, AllSuit}
-use Rattle.clause_code.specs.Bodies.{IsGoalsCode}
+use Rattle.clause_code.specs.Bodies.{Levels, AreFree, IsGoalsCode}
 use Rattle.clause_code.specs.Simple.{variables, AreMade, loads, posted_terms, IsSimpleCode, IsWritable}
 use Rattle.clause_code.proofs.Making.{AreApart}
 use Rattle.clause_code.proofs.Bodies.{Fine}
-use Rattle.clause_code.proofs.GoalKinds.{OnlySlots, goal_true, goal_fail, goal_unify, goal_builtin, goal_constrain, goal_label, goal_post, goal_call}
+use Rattle.clause_code.proofs.GoalKinds.{OnlySlots, goal_true, goal_fail, goal_unify, goal_builtin, goal_constrain, goal_label, goal_post, goal_call, goal_best}
 use Rattle.clause_code.proofs.Sparing.{slots_land}
 use Rattle.clause_code.proofs.Suiting.{term_suits}
 
@@ -68,8 +68,9 @@ is_writable p valid v n (flat.Post t r) o b c = ((o.0, term_suits p.pool valid v
 is_writable p valid v n (flat.Constrain k t) o b c = (o.0, term_suits p.pool valid v t o.0 b c)
 is_writable p valid v n (flat.Label k t) o b c = (o, term_suits p.pool valid v t o b c)
 is_writable p valid v n (flat.Call t) o b c = (o.0, term_suits p.pool valid v t o.0 b c)
-is_writable p valid v n (flat.Either x y) o b c = tt
 is_writable p valid v n (flat.Builtin k t) o b c = (o.0, term_suits p.pool valid v t o.0 b c.1)
+is_writable p valid v n (flat.Best k least t u) o b c = ((o.0, term_suits p.pool valid v t o.0 b.0 c.0), (o.1, term_suits p.pool valid v u o.1 b.1 c.1))
+is_writable p valid v n _ o b c = tt
 
 -- ---- what it does
 
@@ -96,44 +97,49 @@ variables_suit : (c : Contents) (v : ℕ) (ys : List ℕ) → ((k d : ℕ) → k
 variables_suit c v [] h = tt
 variables_suit c v (y ∷ ys) h = (h 0 0 (omega arith), variables_suit c v ys (λ k d l. h (suc k) d (omega (arith, l))))
 
-module _ (p : FlatProgram) (ps : List Predicate) (homes : List Register) (apart : AreApart homes) (only : OnlySlots homes) (made_now : List Bool) (all : AreMade made_now) (long : length made_now ≡ length homes) (at : ℕ) where
+module _ (p : FlatProgram) (ps : List Predicate) (homes : List Register) (apart : AreApart homes) (l : Levels) (fits : AreFree homes l) (only : OnlySlots homes) (made_now : List Bool) (all : AreMade made_now) (long : length made_now ≡ length homes) (at : ℕ) where
   abbrev b : Base
   b = base_in p ps
 
   fine : (ts : Terms) → AllSuit p.pool (length homes) ts → Fine b homes (suc (term_count ts)) ts
   fine ts s = record { suit = s; below = omega arith; lands = slots_land homes only 1 ts; clear = λ j l x k e. only x k j e }
 
-  pub simple_goal : (n : ℕ) (g : FlatGoal) (is : List Code) → IsGoal p.pool (length p.ranges) n g → IsWritable p (length homes) g → IsCodableGoal (goal_in p g) → IsSimpleCode p ps homes made_now g is → IsGoalsCode b homes true at is (goal_in p g ∷ [])
-  simple_goal n flat.True is o w c e = subst (λ l. IsGoalsCode b homes true at l (goal.True ∷ [])) (sym e) (goal_true b homes apart true made_now 1 at (λ x l. all x) long (fine no_terms tt))
-  simple_goal n flat.Fail is o w c e = subst (λ l. IsGoalsCode b homes true at l (goal.Fail ∷ [])) (sym e) (goal_fail b homes apart true made_now 1 at (λ x l. all x) long (fine no_terms tt))
+  pub simple_goal : (n : ℕ) (g : FlatGoal) (is : List Code) → IsGoal p.pool (length p.ranges) n g → IsWritable p (length homes) g → IsCodableGoal (goal_in p g) → IsSimpleCode p ps homes made_now g is → IsGoalsCode b homes true l at is (goal_in p g ∷ [])
+  simple_goal n flat.True is o w c e = subst (λ j. IsGoalsCode b homes true l at j (goal.True ∷ [])) (sym e) (goal_true b homes apart l fits true made_now 1 at (λ x l. all x) long (fine no_terms tt))
+  simple_goal n flat.Fail is o w c e = subst (λ j. IsGoalsCode b homes true l at j (goal.Fail ∷ [])) (sym e) (goal_fail b homes apart l fits true made_now 1 at (λ x l. all x) long (fine no_terms tt))
   simple_goal n (flat.Unify s t) is o w c e =
       let x : Term = term_of p.pool s in
       let y : Term = term_of p.pool t in
       let ts : Terms = term x (term y no_terms) in
-      subst (λ l. IsGoalsCode b homes true at l (goal.Unify x y ∷ [])) (sym e) (goal_unify b homes apart true made_now (suc (term_count ts)) at (λ x l. all x) long x y (fine ts (w.0.1, (w.1.1, tt))))
+      subst (λ j. IsGoalsCode b homes true l at j (goal.Unify x y ∷ [])) (sym e) (goal_unify b homes apart l fits true made_now (suc (term_count ts)) at (λ x l. all x) long x y (fine ts (w.0.1, (w.1.1, tt))))
   simple_goal n (flat.Post t r) is o w c e =
       let ts : Terms = posted_terms p t r in
-      subst (λ l. IsGoalsCode b homes true at l (goal.Post (term_of p.pool t) (range_at p r) ∷ [])) (sym e)
-      (goal_post b homes apart true made_now (suc (term_count ts)) at (λ x l. all x) long (term_of p.pool t) r w.1 (fine ts (w.0.1, variables_suit p.pool (length homes) (slots_of (range_at p r)) w.2)))
+      subst (λ j. IsGoalsCode b homes true l at j (goal.Post (term_of p.pool t) (range_at p r) ∷ [])) (sym e)
+      (goal_post b homes apart l fits true made_now (suc (term_count ts)) at (λ x l. all x) long (term_of p.pool t) r w.1 (fine ts (w.0.1, variables_suit p.pool (length homes) (slots_of (range_at p r)) w.2)))
   simple_goal n (flat.Constrain k t) is o w c e =
       let u : Term = term_of p.pool t in
       let d = named (constraint_arity k) u o.1 c in
-      subst (λ l. IsGoalsCode b homes true at l (goal.Constrain k u ∷ [])) (sym e)
-      (subst (λ v. IsGoalsCode b homes true at (loads p.pool homes made_now (arguments u) (Constrain k)) (goal.Constrain k v ∷ [])) d.is
-      (goal_constrain b homes apart true made_now (suc (term_count (arguments u))) at (λ x l. all x) long k d.name (arguments u) d.many (fine (arguments u) (arguments_suit p.pool (length homes) u w.1))))
+      subst (λ j. IsGoalsCode b homes true l at j (goal.Constrain k u ∷ [])) (sym e)
+      (subst (λ v. IsGoalsCode b homes true l at (loads p.pool homes made_now (arguments u) (Constrain k)) (goal.Constrain k v ∷ [])) d.is
+      (goal_constrain b homes apart l fits true made_now (suc (term_count (arguments u))) at (λ x l. all x) long k d.name (arguments u) d.many (fine (arguments u) (arguments_suit p.pool (length homes) u w.1))))
   simple_goal n (flat.Label k t) is o w c e =
       let u : Term = term_of p.pool t in
-      subst (λ l. IsGoalsCode b homes true at l (goal.Label k u ∷ [])) (sym e) (goal_label b homes apart true made_now 2 at (λ x l. all x) long k u (fine (term u no_terms) (w.1, tt)))
+      subst (λ j. IsGoalsCode b homes true l at j (goal.Label k u ∷ [])) (sym e) (goal_label b homes apart l fits true made_now 2 at (λ x l. all x) long k u (fine (term u no_terms) (w.1, tt)))
   simple_goal n (flat.Call t) is o w c e =
       let u : Term = term_of p.pool t in
       let s : Predicate = e.1 in
-      subst (λ l. IsGoalsCode b homes true at l (goal.Call u ∷ [])) (sym e.4)
-      (subst (λ v. IsGoalsCode b homes true at (loads p.pool homes made_now (arguments u) (Call e.0)) (goal.Call v ∷ [])) (sym e.3.name)
-      (goal_call b homes apart made_now (suc (term_count (arguments u))) at (λ x l. all x) long only e.0 s (arguments u) e.2 e.3.arity (slice_get_within ps e.0 s e.2) (fine (arguments u) (arguments_suit p.pool (length homes) u w.1))))
+      subst (λ j. IsGoalsCode b homes true l at j (goal.Call u ∷ [])) (sym e.4)
+      (subst (λ v. IsGoalsCode b homes true l at (loads p.pool homes made_now (arguments u) (Call e.0)) (goal.Call v ∷ [])) (sym e.3.name)
+      (goal_call b homes apart l fits made_now (suc (term_count (arguments u))) at (λ x l. all x) long only e.0 s (arguments u) e.2 e.3.arity (slice_get_within ps e.0 s e.2) (fine (arguments u) (arguments_suit p.pool (length homes) u w.1))))
   simple_goal n (flat.Builtin k t) is o w c e =
       let u : Term = term_of p.pool t in
       let d = named (builtin_arity k) u o.1 c.1 in
-      subst (λ l. IsGoalsCode b homes true at l (goal.Builtin k u ∷ [])) (sym e)
-      (subst (λ v. IsGoalsCode b homes true at (loads p.pool homes made_now (arguments u) (Builtin k)) (goal.Builtin k v ∷ [])) d.is
-      (goal_builtin b homes apart true made_now (suc (term_count (arguments u))) at (λ x l. all x) long k d.name (arguments u) c.0 d.many (fine (arguments u) (arguments_suit p.pool (length homes) u w.1))))
-  simple_goal n (flat.Either x y) is o w c e = absurd e
+      subst (λ j. IsGoalsCode b homes true l at j (goal.Builtin k u ∷ [])) (sym e)
+      (subst (λ v. IsGoalsCode b homes true l at (loads p.pool homes made_now (arguments u) (Builtin k)) (goal.Builtin k v ∷ [])) d.is
+      (goal_builtin b homes apart l fits true made_now (suc (term_count (arguments u))) at (λ x l. all x) long k d.name (arguments u) c.0 d.many (fine (arguments u) (arguments_suit p.pool (length homes) u w.1))))
+  simple_goal n (flat.Best k least t u) is o w c e =
+      let x : Term = term_of p.pool t in
+      let y : Term = term_of p.pool u in
+      let ts : Terms = term x (term y no_terms) in
+      subst (λ j. IsGoalsCode b homes true l at j (goal.Best k least x y ∷ [])) (sym e) (goal_best b homes apart l fits true made_now (suc (term_count ts)) at (λ x l. all x) long k least x y (fine ts (w.0.1, (w.1.1, tt))))
+  simple_goal n _ is o w c e = absurd e

@@ -22,7 +22,7 @@ use Rattle.clause_code.specs.Steps.{Step, get_variable, unify_variable, put_vari
 use Rattle.clause_code.specs.ArgumentHomes.{Lands}
 use Rattle.wam_code.proofs.Lemmas.{put_here, put_else}
 use Rattle.clause_code.proofs.Pieces.{equation, does_nothing, does_learn, does_get_variable, does_get_value, does_get_constant, does_get_integer, no_parts, part_variable, part_value, part_constant, part_integer, does_put_variable, does_put_value, does_put_constant, does_put_integer}
-use Rattle.clause_code.proofs.Making.{has_more, regs_more, made_here, made_still, Clear, Spared, Grows, clear_spared, AreApart, fits_made, fits_wrote, fits_without, tracks_made, tracks_stays, tracks_set, tracks_owed}
+use Rattle.clause_code.proofs.Making.{has_more, regs_more, made_here, made_still, Clear, Spared, Grows, clear_spared, AreApart, fits_made, fits_wrote, fits_without, tracks_made, tracks_stays, tracks_set, tracks_owed, KeepsDepths, depths_same, depths_both, depths_written, KeepsSlots, slots_set}
 use Rattle.clause_code.proofs.Going.{when_true, both, plain_of, owing_of, owed_of_set, x_of_written, moved_all, AllMade, At, Keeps, Went, Gave}
 
 pub register_is : (r : Register) (a : ℕ) → is_register r a ≡ true → r ≡ X a
@@ -59,6 +59,10 @@ module _ (b : Base) (n : ℕ) (homes : List Register) (apart : AreApart homes) w
   more_made : (made : List Bool) (x : ℕ) → x < length homes → length made ≡ length homes → Grows homes made (slice_set made x true)
   more_made made x l e y m h = made_still made x y (subst (λ k. x < k) (sym e) l) h
 
+  -- the depths are kept where a variable is made
+  made_depths : (p : Places) (x : ℕ) → x < length homes → KeepsDepths homes p (write (learn p (n + x)) (home homes x) (Var (n + x)))
+  made_depths p x l = let k = depths_written homes (learn p (n + x)) x (Var (n + x)) l in record { levels = k.levels; noted = k.noted }
+
   -- a spared register is not the home of a variable that is made now
   other_home : (made : List Bool) (x i : ℕ) → x < length homes → length made ≡ length homes → is_made made x ≡ false → Spared homes made (slice_set made x true) i → home homes x ≡ X i → ⊥
   other_home made x i l long e c h = true≢false (sym (c x l h (made_here made x (subst (λ k. x < k) (sym long) l))) ∙ e)
@@ -88,6 +92,8 @@ module _ (b : Base) (n : ℕ) (homes : List Register) (apart : AreApart homes) w
               frame = λ f. absurd (true≢false (sym (f x l) ∙ e));
               shape = refl;
               more = more_made made x l w.long;
+              depths = made_depths p x l;
+              slots = λ k c. refl;
             };
           }
       first false f e = record {
@@ -103,6 +109,8 @@ module _ (b : Base) (n : ℕ) (homes : List Register) (apart : AreApart homes) w
           frame = λ f. absurd (true≢false (sym (f x l) ∙ e));
           shape = shape_of_set s (home homes x);
           more = more_made made x l w.long;
+          depths = made_depths p x l;
+          slots = slots_set homes s x l;
         };
       }
 
@@ -114,7 +122,7 @@ module _ (b : Base) (n : ℕ) (homes : List Register) (apart : AreApart homes) w
         runs = (s, plain_of b (GetValue (home homes x) a) s o ∙ when_true _ s (both (has s.regs a) (is_set s (home homes x)) g (w.tracks.set x l e)), refl, tt, refl);
         there = w;
         owed = o;
-        keeps = record { xs = λ i c m d. refl; regs = λ i f. f; frame = λ f. refl; shape = refl; more = λ y m h. h };
+        keeps = record { xs = λ i c m d. refl; regs = λ i f. f; frame = λ f. refl; shape = refl; more = λ y m h. h; depths = depths_same homes p; slots = λ k c. refl };
       }
       by false e = first (is_register r a) refl e
 
@@ -127,7 +135,7 @@ module _ (b : Base) (n : ℕ) (homes : List Register) (apart : AreApart homes) w
     runs = (s, plain_of b (GetConstant c a) s o ∙ when_true _ s g, refl, l, refl);
     there = w;
     owed = o;
-    keeps = record { xs = λ i c m d. refl; regs = λ i f. f; frame = λ f. refl; shape = refl; more = λ y m h. h };
+    keeps = record { xs = λ i c m d. refl; regs = λ i f. f; frame = λ f. refl; shape = refl; more = λ y m h. h; depths = depths_same homes p; slots = λ k c. refl };
   }
 
   pub went_get_integer : (made : List Bool) (at : ℕ) (z : ℤ) (a : ℕ) (t : Term) (p : Places) (s : State) (es : List Equation) → At n homes made p s → s.owed ≡ 0 → p.x a ≡ Some t → has s.regs a ≡ true → (free : ℕ)
@@ -139,13 +147,13 @@ module _ (b : Base) (n : ℕ) (homes : List Register) (apart : AreApart homes) w
     runs = (s, plain_of b (GetInteger z a) s o ∙ when_true _ s g, refl, tt, refl);
     there = w;
     owed = o;
-    keeps = record { xs = λ i c m d. refl; regs = λ i f. f; frame = λ f. refl; shape = refl; more = λ y m h. h };
+    keeps = record { xs = λ i c m d. refl; regs = λ i f. f; frame = λ f. refl; shape = refl; more = λ y m h. h; depths = depths_same homes p; slots = λ k c. refl };
   }
 
   -- ---- a goal's argument
 
   wrote_keeps : (made : List Bool) (p : Places) (s : State) (r free : ℕ) (t : Term) → Keeps homes r free made made p (write p (X r) t) s (with_set s (X r))
-  wrote_keeps made p s r free t = record { xs = λ i c m d. put_else r t p.x i d; regs = λ i f. has_more r i s.regs f; frame = λ f. refl; shape = refl; more = λ y m h. h }
+  wrote_keeps made p s r free t = record { xs = λ i c m d. put_else r t p.x i d; regs = λ i f. has_more r i s.regs f; frame = λ f. refl; shape = refl; more = λ y m h. h; depths = record { levels = λ k c. refl; noted = refl }; slots = λ k c. refl }
 
   -- what a goal's argument leaves in its register
   pub record Put (r free : ℕ) (made : List Bool) (at : ℕ) (is : List Code) (p : Places) (s : State) (es : List Equation) (later : List Bool) (t : Term) : Type 0 where
@@ -169,7 +177,7 @@ module _ (b : Base) (n : ℕ) (homes : List Register) (apart : AreApart homes) w
       by : (d : Bool) → is_register (home homes x) r ≡ d → Put r free made at ((if d then [] else PutValue (home homes x) r ∷ []) ++ []) p s es made (Var (n + x))
       by true f =
           let same : home homes x ≡ X r = register_is (home homes x) r f in record {
-            went = record { q = p; t = s; does = λ gs. does_nothing b at p es gs; runs = refl; there = w; owed = o; keeps = record { xs = λ i c m d. refl; regs = λ i f. f; frame = λ f. refl; shape = refl; more = λ y m h. h } };
+            went = record { q = p; t = s; does = λ gs. does_nothing b at p es gs; runs = refl; there = w; owed = o; keeps = record { xs = λ i c m d. refl; regs = λ i f. f; frame = λ f. refl; shape = refl; more = λ y m h. h; depths = depths_same homes p; slots = λ k c. refl } };
             here = subst (λ z. read p z ≡ Some (Var (n + x))) same (w.fits.held x l e);
             set = subst (λ z. is_set s z ≡ true) same (w.tracks.set x l e);
           }
@@ -206,6 +214,8 @@ module _ (b : Base) (n : ℕ) (homes : List Register) (apart : AreApart homes) w
             frame = λ f. absurd (true≢false (sym (f x l) ∙ e));
             shape = shape_of_set s (home homes x);
             more = more_made made x l w.long;
+            depths = record { levels = (made_depths p x l).levels; noted = (made_depths p x l).noted };
+            slots = slots_set homes s x l;
           };
         };
         here = put_here r (Var (n + x)) mid.x;
@@ -270,9 +280,11 @@ module _ (b : Base) (n : ℕ) (homes : List Register) (apart : AreApart homes) w
     frame : AllMade homes made → t.frame ≡ s.frame
     shape : has_frame t.frame ≡ has_frame s.frame
     more : Grows homes made later
+    depths : KeepsDepths homes p q
+    slots : KeepsSlots homes s t
 
   unified_same : (made : List Bool) (p : Places) (s : State) → At n homes made p s → Unified made p s made p (with_owed s (s.owed - 1))
-  unified_same made p s w = record { there = at_owed made p s w (s.owed - 1); owed = refl; xs = λ i c. refl; regs = λ i e. e; frame = λ f. refl; shape = refl; more = λ y m h. h }
+  unified_same made p s w = record { there = at_owed made p s w (s.owed - 1); owed = refl; xs = λ i c. refl; regs = λ i e. e; frame = λ f. refl; shape = refl; more = λ y m h. h; depths = depths_same homes p; slots = λ k c. refl }
 
   -- the rest of the arguments behind one
   behind : (made mid later : List Bool) (at : ℕ) (i : Code) (is : List Code) (t : Term) (ts : Terms) (p q : Places) (s u : State) → Unified made p s mid q u → effect (unplaced b) i s ≡ Some u → IsTrue (is_simple i) → IsThereIn b i
@@ -289,6 +301,8 @@ module _ (b : Base) (n : ℕ) (homes : List Register) (apart : AreApart homes) w
     frame = λ a. g.frame (λ x l. k.more x l (a x l)) ∙ k.frame a;
     shape = g.shape ∙ k.shape;
     more = λ x l e. g.more x l (k.more x l e);
+    depths = depths_both homes p q g.q k.depths g.depths;
+    slots = λ i c. g.slots i c ∙ k.slots i c;
   }
 
   variable_part : (made : List Bool) (at x : ℕ) (ss : List Step) (ts : Terms) (p : Places) (s : State) (k : ℕ) → At n homes made p s → x < length homes → s.owed ≡ suc k
@@ -315,6 +329,8 @@ module _ (b : Base) (n : ℕ) (homes : List Register) (apart : AreApart homes) w
             frame = λ a. absurd (true≢false (sym (a x l) ∙ e));
             shape = shape_of_set (with_owed s (s.owed - 1)) (home homes x);
             more = more_made made x l w.long;
+            depths = made_depths p x l;
+            slots = slots_set homes (with_owed s (s.owed - 1)) x l;
           } in
           behind made mid (marked_by_all mid ss) at (UnifyVariable (home homes x)) (code_of homes mid ss) (Var (n + x)) ts p q s u step
           (owing_of b (UnifyVariable (home homes x)) s k o ∙ when_true _ u (w.tracks.free x l e)) refl tt (rest mid q u step)
@@ -322,7 +338,7 @@ module _ (b : Base) (n : ℕ) (homes : List Register) (apart : AreApart homes) w
 
   pub parts_gave : (made : List Bool) (at j : ℕ) (ts : Terms) (p : Places) (s : State) → At n homes made p s → AllSuit b.pool (length homes) ts → s.owed ≡ term_count ts → InRegisters p s j ts → ((i : ℕ) → j ≤ i → Clear homes i)
       → Gave b n homes made at (code_of homes made (parts b.pool j ts)) p s (moved_all n ts) (marked_by_all made (parts b.pool j ts))
-  parts_gave made at j no_terms p s w o e g c = record { q = p; t = s; parts = no_parts b at p; runs = refl; there = w; owed = e; xs = λ i c. refl; regs = λ i h. h; frame = λ a. refl; shape = refl; more = λ y m h. h }
+  parts_gave made at j no_terms p s w o e g c = record { q = p; t = s; parts = no_parts b at p; runs = refl; there = w; owed = e; xs = λ i c. refl; regs = λ i h. h; frame = λ a. refl; shape = refl; more = λ y m h. h; depths = depths_same homes p; slots = λ k c. refl }
   parts_gave made at j (term (Var x) ts) p s w o e g c = variable_part made at x (parts b.pool j ts) (moved_all n ts) p s (term_count ts) w o.0 e (λ mid q u k.
       parts_gave mid (suc at) j ts q u k.there o.1 (k.owed ∙ omega (arith, e)) (registers_kept p q s u j ts (λ i l m. k.xs i (clear_spared homes made mid i (c i l))) k.regs g) c)
   parts_gave made at j (term (Int z) ts) p s w o e g c =

@@ -1,7 +1,7 @@
 -- How states go through pieces of code.
 use Rattle.std.specs.Prelude.{◌≡◌, ℕ, Bool, true, false, IsTrue, List, [], ◌∷◌, ◌++◌, Some, length, slice_get}
 use Rattle.wam_code.specs.declared.instruction.Code.{Code}
-use Rattle.wam_code.specs.declared.instruction.Code.TheVariants.{Execute, Proceed, Jump, FailNow, AnswerNow, TryMeElse, RetryMeElse, TrustMe, Try, Retry, Trust, SwitchOnTerm, SwitchOnConstant, SwitchOnInteger, SwitchOnStructure, Either}
+use Rattle.wam_code.specs.declared.instruction.Code.TheVariants.{Execute, Proceed, Jump, FailNow, AnswerNow, TryMeElse, RetryMeElse, TrustMe, Try, Retry, Trust, SwitchOnTerm, SwitchOnConstant, SwitchOnInteger, SwitchOnStructure, Either, EnterTest}
 use Rattle.wam_code.specs.Area.{State}
 use Rattle.wam_code.specs.Effect.{effect}
 use Rattle.clause_code.specs.Pieces.{Base}
@@ -25,12 +25,14 @@ is_simple (SwitchOnConstant t) = false
 is_simple (SwitchOnInteger t) = false
 is_simple (SwitchOnStructure t) = false
 is_simple (Either to) = false
+is_simple (EnterTest n m to) = false
 is_simple _ = true
 
 -- an instruction inside a clause or a query, with another one behind it
 abbrev pub is_inner : Code → Bool
 is_inner (Jump to) = true
 is_inner (Either to) = true
+is_inner (EnterTest n m to) = true
 is_inner i = is_simple i
 
 -- These instructions run one after the other, from the state s to the state t.

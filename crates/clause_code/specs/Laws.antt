@@ -36,6 +36,10 @@ other_side at is js = past (suc at) (is ++ (Jump (past (suc (past (suc at) is)) 
 abbrev pub sides : ℕ → List Code → List Code → List Code
 sides at is js = Either (other_side at is js) ∷ (is ++ (Jump (past (suc (past (suc at) is)) js) ∷ js))
 
+-- the same with another instruction in front
+abbrev pub ways : Code → ℕ → List Code → List Code → List Code
+ways i at is js = i ∷ (is ++ (Jump (past (suc (past (suc at) is)) js) ∷ js))
+
 abbrev pub BothWays : Type 0
 BothWays =
     (b : Base) (at : ℕ) (is js : List Code) (x y : Goals) (p q r : Places) (gs : List Goal) → IsSettled p q

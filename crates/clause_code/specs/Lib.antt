@@ -10,6 +10,7 @@ pub mod Predicates
 pub mod Steps
 pub mod Flowing
 pub mod Bodies
+pub mod Fitting
 pub mod Whole
 pub mod Works
 pub mod Simple

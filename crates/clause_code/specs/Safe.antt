@@ -1,18 +1,18 @@
 -- A piece of code that is safe to run wherever it stands, and what the code of a clause and of a query is.
 use Rattle.std.specs.Prelude.{◌≡◌, ℕ, suc, ◌+◌, ◌<◌, ◌≤◌, Bool, true, false, IsTrue, List, [], ◌∷◌, map, Some, length, slice_get, slice_index_or}
 use Rattle.fd_language.specs.Family.{has}
-use Rattle.fd_model.specs.Goal.{Clause, Query}
+use Rattle.fd_model.specs.Goal.{Clause, Query, marked_all}
 use Rattle.fd_model.specs.Constraining.{arguments}
 use Rattle.fd_language.specs.Spelling.{empty_range}
 use Rattle.range_code.specs.Slots.{slots_of}
 use Rattle.wam_code.specs.declared.instruction.Code.{Code}
-use Rattle.wam_code.specs.declared.instruction.Code.TheVariants.{GetConstant, GetStructure, UnifyConstant, PutConstant, PutStructure, Call, Execute, Proceed, Jump, FailNow, AnswerNow, TryMeElse, RetryMeElse, TrustMe, Try, Retry, Trust, SwitchOnTerm, SwitchOnConstant, SwitchOnInteger, SwitchOnStructure, Either, PostRange}
+use Rattle.wam_code.specs.declared.instruction.Code.TheVariants.{GetConstant, GetStructure, UnifyConstant, PutConstant, PutStructure, Call, Execute, Proceed, Jump, FailNow, AnswerNow, TryMeElse, RetryMeElse, TrustMe, Try, Retry, Trust, SwitchOnTerm, SwitchOnConstant, SwitchOnInteger, SwitchOnStructure, Either, PostRange, EnterTest}
 use Rattle.wam_code.specs.declared.parts.Entry.{Entry}
 use Rattle.wam_code.specs.Area.{Area, State}
 use Rattle.wam_code.specs.Effect.{slot_at, is_cell, effect}
 use Rattle.wam_code.specs.VerifiedCode.{goes_on, Covers, IsFirst}
 use Rattle.fd_language.specs.Term.{term_count}
-use Rattle.wam_code.specs.Places.{Places}
+use Rattle.wam_code.specs.Places.{no_depth, Places}
 use Rattle.wam_code.specs.Means.{Means}
 use Rattle.wam_code.specs.Tries.{IsBefore, IsClause}
 use Rattle.clause_code.specs.Pieces.{Base, base_of, Stand}
@@ -41,6 +41,7 @@ is_plain _ = true
 abbrev pub aims : Code → List ℕ
 aims (Jump to) = to ∷ []
 aims (Either to) = to ∷ []
+aims (EnterTest n m to) = to ∷ []
 aims _ = []
 
 -- the state is handed to the place `to` of a piece that begins at the place `at` and has these states
@@ -100,4 +101,4 @@ pub record IsQueryPiece (b : Base) (at : ℕ) (is : List Code) (q : Query) : Typ
   pub shown : (n : ℕ) (s : State) → suc n ≡ length is → slice_get states n ≡ Some s → (k : ℕ) → 1 ≤ k → k ≤ length q.shown → IsTrue (is_cell (slot_at s.frame k))
   pub no_proceed : (n : ℕ) → slice_get is n ≡ Some Proceed → ⊥
   pub no_execute : (n e : ℕ) → slice_get is n ≡ Some (Execute e) → ⊥
-  pub means : (area : Area) → base_of area ≡ b → Stand area at is → (p : Places) → IsBefore p 0 q.variables → Means area (record { goals = []; shown = q.shown }) at p [] q.goals
+  pub means : (area : Area) → base_of area ≡ b → Stand area at is → (p : Places) → p.noted ≡ Some no_depth → IsBefore p 0 q.variables → Means area (record { goals = []; shown = q.shown }) at p [] (marked_all 0 q.goals)

@@ -1,16 +1,19 @@
 //! The code of one clause.
 
-ghost use Rattle.std.specs.Prelude.{◌≡◌, ◌<◌, ◌+◌, ◌-◌, [], length, map, IfOk, IfSome, OnOk};
+ghost use Rattle.std.specs.Prelude.{◌≡◌, ◌<◌, ◌≤◌, ◌+◌, ◌-◌, [], length, map, IfOk, IfSome, OnOk};
 ghost use Rattle.clause_check.specs.declared.program.FlatGoal.TheVariants.{Call};
 ghost use Rattle.clause_check.specs.Programs.{IsPart, goal_at, clause_at, clause_in, program_in};
 ghost use Rattle.clause_code.specs.Codable.{IsCodable};
+ghost use Rattle.clause_code.specs.Fitting.{each_need, AreNeeds};
 ghost use Rattle.clause_code.specs.Predicates.{ArePredicates, Appends, base_in};
 ghost use Rattle.clause_code.specs.Safe.{IsClauseCode};
-ghost use Rattle.clause_code.specs.Whole.{InOrder, unmade};
+ghost use Rattle.clause_code.specs.Whole.{levels_behind, unmade, InOrder};
 
 use crate::frameless::{Body, body_of, compile_short};
 use crate::goals::{execute, write_goals};
 use crate::heads::write_head;
+use crate::levels::Levels;
+use crate::needs::{levels_behind, most_needed};
 use crate::predicates::Predicates;
 use crate::terms::Work;
 use clause_check::{FlatGoal, Part, Program};
@@ -47,7 +50,7 @@ fn last_call(program: &Program, body: Part) -> Option<TermId>
     }
 }
 
-/// The code of the clause c, whose variables have these homes.
+/// The code of the clause c, whose variables have these homes in a frame with so many slots, behind which are its level slots.
 fn write_clause(
     alloc: Global,
     program: &Program,
@@ -59,8 +62,14 @@ fn write_clause(
     works: &mut Vec<Work>,
     c: usize,
     start: usize,
+    slots: usize,
+    levels: Levels,
 ) -> Result<(), NoMemory>
     requires clause { c < length program.now.clauses }
+    requires slots { slots ≡ (clause_at program.now c).variables
+        + each_need (clause_in program.now (clause_at program.now c)).body }
+    requires levels { levels ≡ levels_behind (clause_at program.now c).variables
+        (each_need (clause_in program.now (clause_at program.now c)).body) }
     requires ranges { map (λ r. r.value) ranges.now ≡ program.now.ranges }
     requires homes { InOrder homes.now (clause_at program.now c).variables }
     requires made { made.old.items ≡ unmade homes.now }
@@ -72,7 +81,16 @@ fn write_clause(
     program.known();
     let pool = program.pool();
     let body = program.body(c);
-    write_head(pool, homes, made, code, works, program.head(c))?;
+    write_head(
+        pool,
+        homes,
+        made,
+        code,
+        works,
+        program.head(c),
+        slots,
+        levels,
+    )?;
     match last_call(program, body) {
         Some(t) => {
             let before = Part {
@@ -80,13 +98,13 @@ fn write_clause(
                 to: body.to - 1,
             };
             write_goals(
-                alloc, program, ranges, predicates, homes, made, code, works, start, before,
+                alloc, program, ranges, predicates, homes, made, code, works, start, before, levels,
             )?;
             execute(pool, predicates, homes, made, code, works, t)?;
         }
         None => {
             write_goals(
-                alloc, program, ranges, predicates, homes, made, code, works, start, body,
+                alloc, program, ranges, predicates, homes, made, code, works, start, body, levels,
             )?;
             code.push(Code::Deallocate)?;
             code.push(Code::Proceed)?;
@@ -101,36 +119,47 @@ fn compile_framed(
     program: &Program,
     ranges: &[Rc<RangeCode>],
     predicates: &Predicates,
+    needs: &[usize],
     c: usize,
     start: usize,
     code: &mut Vec<Code>,
 ) -> Result<(), NoMemory>
     requires clause { c < length program.now.clauses }
+    requires needs { AreNeeds program.now (length program.now.goals) needs.now }
     requires ranges { map (λ r. r.value) ranges.now ≡ program.now.ranges }
     ensures { OnOk result (Appends code.old.items code.new.items
         (λ is. IsClauseCode (base_in program.now predicates.now) (start + length code.old.items) is
         (clause_in program.now (clause_at program.now c)))) }
 {
-    let homes = slot_homes(alloc, program.variables_of_clause(c))?;
+    program.known();
+    let variables = program.variables_of_clause(c);
+    let count = most_needed(program, needs, program.body(c));
+    let slots = variables.checked_add(count).ok_or(NoMemory)?;
+    let levels = levels_behind(variables, count)?;
+    let homes = slot_homes(alloc, variables)?;
     let mut made = vec![in alloc; false; homes.len()]?;
     let mut works = Vec::new(alloc);
     write_clause(
-        alloc, program, ranges, predicates, &homes, &mut made, code, &mut works, c, start,
+        alloc, program, ranges, predicates, &homes, &mut made, code, &mut works, c, start, slots,
+        levels,
     )
 }
 
 /// Writes the code of the clause c behind what `code` has, which stands from the place `start` on. `ranges` are the program's, by
-/// their numbers. Where the body is a user goal alone, or empty, there is no frame. The error is want of memory.
+/// their numbers, and `needs` says how many level slots its goals need. Where the body is a user goal alone, or empty, there is no frame. The
+/// error is want of memory.
 pub fn compile_clause(
     alloc: Global,
     program: &Program,
     ranges: &[Rc<RangeCode>],
     predicates: &Predicates,
+    needs: &[usize],
     c: usize,
     start: usize,
     code: &mut Vec<Code>,
 ) -> Result<(), NoMemory>
     requires clause { c < length program.now.clauses }
+    requires needs { AreNeeds program.now (length program.now.goals) needs.now }
     requires codable { IsCodable (program_in program.now) }
     requires ranges { map (λ r. r.value) ranges.now ≡ program.now.ranges }
     requires predicates { ArePredicates program.now predicates.now }
@@ -141,6 +170,6 @@ pub fn compile_clause(
     match body_of(program, program.body(c)) {
         Body::Empty => compile_short(alloc, program, predicates, c, None, start, code),
         Body::Call(t) => compile_short(alloc, program, predicates, c, Some(t), start, code),
-        Body::Longer => compile_framed(alloc, program, ranges, predicates, c, start, code),
+        Body::Longer => compile_framed(alloc, program, ranges, predicates, needs, c, start, code),
     }
 }

@@ -8,15 +8,17 @@ ghost use Rattle.range_code.specs.Slots.{slots_of};
 ghost use Rattle.term_pool.specs.Terms.{term_of, terms_by};
 ghost use Rattle.clause_check.specs.Programs.{goals_in, range_at};
 ghost use Rattle.wam_code.specs.declared.instruction.Code.TheVariants.{PostRange};
-ghost use Rattle.clause_code.specs.Bodies.{IsGoalsCode};
+ghost use Rattle.clause_code.specs.Bodies.{AreFree, IsGoalsCode};
 ghost use Rattle.clause_code.specs.Codable.{EachCodable};
+ghost use Rattle.clause_code.specs.Fitting.{EachFits};
 ghost use Rattle.clause_code.specs.Predicates.{Appends, base_in};
 ghost use Rattle.clause_code.specs.Simple.{variables, loads, AreMade, CallWritten, GoalWritten, IsOwn, IsWritable};
 ghost use Rattle.clause_code.specs.Steps.{puts, AllSuit};
 ghost use Rattle.clause_code.specs.Whole.{AreSlots, Executes};
 ghost use Rattle.clause_code.specs.Works.{Writes};
 
-use crate::either::{enter, leave};
+use crate::either::{Next, enter, leave};
+use crate::levels::Levels;
 use crate::predicates::Predicates;
 use crate::terms::{Work, put, put_all, put_variable};
 use clause_check::{FlatGoal, Part, Program};
@@ -186,7 +188,7 @@ pub(crate) fn execute(
     Ok(())
 }
 
-/// A goal, or of an `A ; B` the instruction before both sides. It gets its place later.
+/// A goal, or of an `A ; B` the instruction before both sides, and of a test that before it. It gets its place later.
 fn write_goal(
     program: &Program,
     ranges: &[Rc<RangeCode>],
@@ -195,6 +197,7 @@ fn write_goal(
     made: &mut Vec<bool>,
     code: &mut Vec<Code>,
     works: &mut Vec<Work>,
+    levels: Levels,
     goal: FlatGoal,
 ) -> Result<(), NoMemory>
     requires writable { IsWritable program.now (length homes.now) goal }
@@ -202,7 +205,9 @@ fn write_goal(
     requires long { length made.old.items ≡ length homes.now }
     requires made { AreMade made.old.items }
     requires works { works.old.items ≡ [] }
-    ensures code { OnOk result (GoalWritten program.now predicates.now homes.now made.old.items goal
+    ensures code { OnOk result (GoalWritten program.now predicates.now homes.now levels
+        made.old.items
+        goal
         code.old.items code.new.items) }
     ensures made { OnOk result (made.new.items ≡ made.old.items) }
     ensures works { OnOk result (works.new.items ≡ []) }
@@ -230,11 +235,19 @@ fn write_goal(
             load_arguments(pool, homes, made, code, works, t, Code::Builtin(kind))?;
         }
         FlatGoal::Either(_, _) => code.push(Code::Either(0))?,
+        FlatGoal::Cut => code.push(Code::CutTo(levels.cut))?,
+        FlatGoal::If(_, _, None) => code.push(Code::TestOnly(levels.next))?,
+        FlatGoal::If(_, _, Some(_)) => code.push(levels.entering(0)?)?,
+        FlatGoal::Not(_) => code.push(levels.entering(0)?)?,
+        FlatGoal::Best(order, least, t, cost) => {
+            let best = Code::Best(order, least);
+            load(pool, homes, made, code, works, &[t, cost], best)?;
+        }
     }
     Ok(())
 }
 
-/// The goals of the part, behind what `code` has, which stands from the place `start` on.
+/// The goals of the part, behind what `code` has, which stands from the place `start` on. Their cuts and tests have these level slots.
 pub(crate) fn write_goals(
     alloc: Global,
     program: &Program,
@@ -246,40 +259,49 @@ pub(crate) fn write_goals(
     works: &mut Vec<Work>,
     start: usize,
     part: Part,
+    levels: Levels,
 ) -> Result<(), NoMemory>
     requires within { part.to ≤ length program.now.goals }
     requires below { EachBelow (length homes.now) (goals_in program.now part) }
     requires codable { EachCodable (goals_in program.now part) }
+    requires fits { EachFits levels (goals_in program.now part) }
+    requires free { AreFree homes.now levels }
     requires ranges { map (λ r. r.value) ranges.now ≡ program.now.ranges }
     requires homes { AreSlots homes.now }
     requires long { length made.old.items ≡ length homes.now }
     requires made { AreMade made.old.items }
     requires works { works.old.items ≡ [] }
     ensures code { OnOk result (Appends code.old.items code.new.items
-        (λ is. IsGoalsCode (base_in program.now predicates.now) homes.now true
+        (λ is. IsGoalsCode (base_in program.now predicates.now) homes.now true levels
         (start + length code.old.items) is (goals_in program.now part))) }
     ensures made { OnOk result (made.new.items ≡ made.old.items) }
     ensures works { OnOk result (works.new.items ≡ []) }
 {
     program.known();
     let mut sides = Vec::new(alloc);
-    let mut next = part;
+    let mut next = Next { part, levels };
     loop {
-        if next.from < next.to {
-            let goal = program.goal(next.from);
+        if next.part.from < next.part.to {
+            let goal = program.goal(next.part.from);
             let at = code.len();
-            write_goal(program, ranges, predicates, homes, made, code, works, goal)?;
-            next = enter(
-                &mut sides,
+            write_goal(
+                program,
+                ranges,
+                predicates,
+                homes,
+                made,
+                code,
+                works,
+                next.levels,
                 goal,
-                at,
-                Part {
-                    from: next.from + 1,
-                    to: next.to,
-                },
             )?;
+            let rest = Part {
+                from: next.part.from + 1,
+                to: next.part.to,
+            };
+            next = enter(&mut sides, goal, at, rest, next.levels)?;
         } else if let Some(side) = sides.pop() {
-            next = leave(start, code, &mut sides, side)?;
+            next = leave(start, code, &mut sides, side, next.levels)?;
         } else {
             return Ok(());
         }

@@ -6,8 +6,9 @@ ghost use Rattle.term_pool.specs.Terms.{term_of, terms_by};
 ghost use Rattle.fd_language.specs.Term.{term_count};
 ghost use Rattle.clause_code.specs.Simple.{AreMade, IsOwn};
 ghost use Rattle.clause_code.specs.Steps.{AllSuit};
-ghost use Rattle.clause_code.specs.Whole.{begin_code, head_code, unmade};
+ghost use Rattle.clause_code.specs.Whole.{begin_code, head_code, levels_code, unmade};
 
+use crate::levels::Levels;
 use crate::terms::{Work, fill_all, get_all};
 use fd_language::NoMemory;
 use term_pool::{Node, Pool, TermId};
@@ -88,7 +89,17 @@ pub(crate) fn read_head(
     }
 }
 
-/// The frame and the head of a clause.
+/// The level slots take the depth that was noted.
+pub(crate) fn write_levels(code: &mut Vec<Code>, levels: Levels) -> Result<(), NoMemory>
+    ensures { OnOk result (code.new.items ≡ code.old.items ++ levels_code levels) }
+{
+    for slot in levels.first..levels.end {
+        code.push(Code::Level(slot))?;
+    }
+    Ok(())
+}
+
+/// The frame with so many slots, the head of a clause, and the level slots.
 pub(crate) fn write_head(
     pool: &Pool,
     homes: &[Register],
@@ -96,19 +107,22 @@ pub(crate) fn write_head(
     code: &mut Vec<Code>,
     works: &mut Vec<Work>,
     head: TermId,
+    slots: usize,
+    levels: Levels,
 ) -> Result<(), NoMemory>
     requires own { IsOwn pool.now (length homes.now) head }
     requires made { made.old.items ≡ unmade homes.now }
     requires works { works.old.items ≡ [] }
     ensures code { OnOk result (code.new.items ≡ code.old.items
-        ++ begin_code pool.now homes.now (length homes.now) (term_of pool.now head)) }
+        ++ begin_code pool.now homes.now slots levels (term_of pool.now head)) }
     ensures made { OnOk result (AreMade made.new.items) }
     ensures long { OnOk result (length made.new.items ≡ length homes.now) }
     ensures works { OnOk result (works.new.items ≡ []) }
 {
-    code.push(Code::Allocate(homes.len()))?;
+    code.push(Code::Allocate(slots))?;
     match pool.view(head) {
-        Node::Comp(_, parts) => read_arguments(pool, homes, made, code, works, parts),
-        _ => read_arguments(pool, homes, made, code, works, &[]),
+        Node::Comp(_, parts) => read_arguments(pool, homes, made, code, works, parts)?,
+        _ => read_arguments(pool, homes, made, code, works, &[])?,
     }
+    write_levels(code, levels)
 }

@@ -7,11 +7,14 @@ mod frameless;
 mod goals;
 mod heads;
 pub mod laws;
+mod levels;
+mod needs;
 mod predicates;
 mod query;
 mod staying;
 mod terms;
 
 pub use crate::clause::compile_clause;
+pub use crate::needs::level_needs;
 pub use crate::predicates::{Predicates, predicates_of};
 pub use crate::query::compile_query;

@@ -4,13 +4,16 @@ ghost use Rattle.std.specs.Prelude.{◌≡◌, ℕ, ◌<◌, ◌+◌, [], length
 ghost use Rattle.clause_check.specs.Programs.{query_at, query_in, program_in};
 ghost use Rattle.wam_code.specs.declared.instruction.Register.TheVariants.{Y};
 ghost use Rattle.clause_code.specs.Codable.{AreOnce, IsCodable};
+ghost use Rattle.clause_code.specs.Fitting.{each_need, AreNeeds};
 ghost use Rattle.clause_code.specs.Predicates.{ArePredicates, Appends, base_in};
 ghost use Rattle.clause_code.specs.Safe.{IsQueryPiece};
 ghost use Rattle.clause_code.specs.Slots.{AreAll, AreGiven, AreShown, IsFrame, slot};
-ghost use Rattle.clause_code.specs.Whole.{unmade};
+ghost use Rattle.clause_code.specs.Whole.{levels_behind, unmade};
 
 use crate::goals::write_goals;
-use crate::heads::read_arguments;
+use crate::heads::{read_arguments, write_levels};
+use crate::levels::Levels;
+use crate::needs::{levels_behind, most_needed};
 use crate::predicates::Predicates;
 use crate::terms::Work;
 use clause_check::Program;
@@ -96,14 +99,17 @@ fn frame_of(alloc: Global, variables: usize, shown: &[u64]) -> Result<Frame, NoM
     })
 }
 
-/// The code of the query q, whose variables have these homes in a frame with so many slots.
+/// The code of the query q, whose variables have these homes in the first slots of a frame with so many, behind which are its level
+/// slots.
 fn write_query(
     alloc: Global,
     program: &Program,
     ranges: &[Rc<RangeCode>],
     predicates: &Predicates,
     homes: &[Register],
+    given: usize,
     slots: usize,
+    levels: Levels,
     made: &mut Vec<bool>,
     code: &mut Vec<Code>,
     works: &mut Vec<Work>,
@@ -111,9 +117,13 @@ fn write_query(
     start: usize,
 ) -> Result<(), NoMemory>
     requires query { q < length program.now.queries }
+    requires slots { slots ≡ given
+        + each_need (query_in program.now (query_at program.now q)).goals }
+    requires levels { levels ≡ levels_behind given
+        (each_need (query_in program.now (query_at program.now q)).goals) }
     requires ranges { map (λ r. r.value) ranges.now ≡ program.now.ranges }
     requires frame { IsFrame (query_at program.now q).variables (query_at program.now q).shown
-        homes.now slots }
+        homes.now given }
     requires made { made.old.items ≡ unmade homes.now }
     requires works { works.old.items ≡ [] }
     ensures { OnOk result (Appends code.old.items code.new.items
@@ -125,25 +135,28 @@ fn write_query(
     let goals = program.goals_of(q);
     code.push(Code::Allocate(slots))?;
     read_arguments(pool, homes, made, code, works, &[])?;
+    write_levels(code, levels)?;
     write_goals(
-        alloc, program, ranges, predicates, homes, made, code, works, start, goals,
+        alloc, program, ranges, predicates, homes, made, code, works, start, goals, levels,
     )?;
     code.push(Code::AnswerNow)?;
     Ok(())
 }
 
 /// Writes the code of the query q behind what `code` has, which stands from the place `start` on. `ranges` are the program's, by
-/// their numbers. The error is want of memory.
+/// their numbers, and `needs` says how many level slots its goals need. The error is want of memory.
 pub fn compile_query(
     alloc: Global,
     program: &Program,
     ranges: &[Rc<RangeCode>],
     predicates: &Predicates,
+    needs: &[usize],
     q: usize,
     start: usize,
     code: &mut Vec<Code>,
 ) -> Result<(), NoMemory>
     requires query { q < length program.now.queries }
+    requires needs { AreNeeds program.now (length program.now.goals) needs.now }
     requires codable { IsCodable (program_in program.now) }
     requires ranges { map (λ r. r.value) ranges.now ≡ program.now.ranges }
     requires predicates { ArePredicates program.now predicates.now }
@@ -154,6 +167,9 @@ pub fn compile_query(
     program.known();
     let frame = frame_of(alloc, program.variables(q), program.shown(q))?;
     let homes = frame.homes.as_slice();
+    let count = most_needed(program, needs, program.goals_of(q));
+    let slots = frame.slots.checked_add(count).ok_or(NoMemory)?;
+    let levels = levels_behind(frame.slots, count)?;
     let mut made = vec![in alloc; false; homes.len()]?;
     let mut works = Vec::new(alloc);
     write_query(
@@ -163,6 +179,8 @@ pub fn compile_query(
         predicates,
         homes,
         frame.slots,
+        slots,
+        levels,
         &mut made,
         code,
         &mut works,

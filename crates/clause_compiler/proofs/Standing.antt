@@ -1,7 +1,7 @@
 -- Laid out code stands for its program.
 use Rattle.std.proofs.Common.{◌≡◌, ℕ, suc, ◌+◌, List, [], ◌∷◌, Some, length, slice_get, refl, sym, subst, arith}
 use Rattle.std.proofs.lemmas.Option.{slice_get_within}
-use Rattle.fd_model.specs.Goal.{Program, Query}
+use Rattle.fd_model.specs.Goal.{Program, Query, marked_all}
 use Rattle.wam_code.specs.Area.{Area, Span, HasQuery}
 use Rattle.wam_code.specs.Means.{Means}
 use Rattle.wam_code.specs.Tries.{IsQueryCode, AreQueries, StandsForProgram}
@@ -29,5 +29,5 @@ laid_out_stands a prog l = record { predicates = l.predicates; queries = all_que
         record {
           names = c.names;
           shown = c.shown;
-          means = λ p before. subst (λ o. Means a (record { goals = []; shown = q.shown }) o p [] q.goals) (sym c.begins) (c.code.means a refl (stand_at a at is.0 (λ n i g. holds_query a prog l k n is.0 i is.1 g)) p before);
+          means = λ p noted before. subst (λ o. Means a (record { goals = []; shown = q.shown }) o p [] (marked_all 0 q.goals)) (sym c.begins) (c.code.means a refl (stand_at a at is.0 (λ n i g. holds_query a prog l k n is.0 i is.1 g)) p noted before);
         }

@@ -15,7 +15,7 @@ use crate::groups::groups_of;
 use crate::ranges::ranges_of;
 use crate::sections::{put_clauses, put_queries};
 use clause_check::Program;
-use clause_code::{Predicates, predicates_of};
+use clause_code::{Predicates, level_needs, predicates_of};
 use fd_language::NoMemory;
 use range_code::RangeCode;
 use std::alloc::Global;
@@ -53,8 +53,9 @@ fn put_program(
     let groups = groups_of(alloc, program, predicates)?;
     let entries = put_choices(alloc, program, predicates, &groups, code, tables)?;
     let choices = code.len();
-    let places = put_clauses(alloc, program, ranges, predicates, code)?;
-    let queries = put_queries(alloc, program, ranges, predicates, code)?;
+    let needs = level_needs(alloc, program)?;
+    let places = put_clauses(alloc, program, ranges, predicates, &needs, code)?;
+    let queries = put_queries(alloc, program, ranges, predicates, &needs, code)?;
     place_choices(code, choices, &places);
     Ok((entries, queries))
 }

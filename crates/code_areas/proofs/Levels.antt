@@ -69,7 +69,7 @@ AboveNewest (m ∷ ms) cells first slots base frames = IsAbove m cells first slo
 pub points_same : (ms : List Mark) (cells slots : Places) (frames : List Frame) (cells' slots' : Places) (frames' : List Frame) → SameBelow ms cells slots frames cells' slots' frames' → points_of ms cells slots frames ≡ points_of ms cells' slots' frames'
 points_same [] cells slots frames cells' slots' frames' e = refl
 points_same (m ∷ ms) cells slots frames cells' slots' frames' e =
-    let all : Places → Places → List Frame → List Point = λ x y z. record { place = m.place; registers = drop m.first x; slots = drop m.base y; returns = returns_of y z m.newest } ∷ points_of ms x y z in
+    let all : Places → Places → List Frame → List Point = λ x y z. record { place = m.place; registers = drop m.first x; slots = drop m.base y; returns = returns_of y z m.newest; noted = m.noted } ∷ points_of ms x y z in
     ap (λ x. all x (take m.slots slots) (take m.frames frames)) e.0 ∙ ap (λ y. all (take m.cells cells') y (take m.frames frames)) e.1 ∙ ap (all (take m.cells cells') (take m.slots slots')) e.2
 
 pub marks_same : (ms : List Mark) (cells : Places) (first : ℕ) (slots : Places) (base : ℕ) (frames : List Frame) (cells' : Places) (first' : ℕ) (slots' : Places) (base' : ℕ) (frames' : List Frame)

@@ -9,8 +9,8 @@ use Rattle.code_areas.specs.Areas.{Places, Point, Contents}
 use Rattle.code_areas.specs.AreaFields.{no_frame, frame_at, return_of, returns_of, points_of, frames_kept, IsLevel, AreMarks}
 use Rattle.code_areas.proofs.Levels.{slice_is, AreFrames, returns_same, returns_next, level_frames, SameBelow, AboveNewest, points_same, marks_same, same_below, newest_above}
 
-abbrev pub seen : Places → ℕ → Places → ℕ → List Frame → ℕ → List Mark → Contents
-seen cells first slots base frames newest ms = record { registers = drop first cells; slots = drop base slots; returns = returns_of slots frames newest; points = points_of ms cells slots frames }
+abbrev pub seen : ℕ → Places → ℕ → Places → ℕ → List Frame → ℕ → List Mark → Contents
+seen noted cells first slots base frames newest ms = record { registers = drop first cells; slots = drop base slots; returns = returns_of slots frames newest; points = points_of ms cells slots frames; noted = noted }
 
 abbrev pub Holds : Places → ℕ → Places → ℕ → List Frame → ℕ → List Mark → Type 0
 Holds cells first slots base frames newest ms = IsLevel cells first slots base frames newest × AreMarks ms cells first slots base frames
@@ -18,7 +18,7 @@ Holds cells first slots base frames newest ms = IsLevel cells first slots base f
 frames_most : (ms : List Mark) (cells : Places) (first : ℕ) (slots : Places) (base : ℕ) (frames : List Frame) → AboveNewest ms cells first slots base frames → (m : Mark) (rest : List Mark) → ms ≡ m ∷ rest → m.frames ≤ length frames
 frames_most ms cells first slots base frames a m rest e = (subst (λ l. AboveNewest l cells first slots base frames) e a).frames_kept
 
-module _ (cells : Places) (first : ℕ) (slots : Places) (base : ℕ) (frames : List Frame) (newest : ℕ) (ms : List Mark) (s : Holds cells first slots base frames newest ms) where
+module _ (noted : ℕ) (cells : Places) (first : ℕ) (slots : Places) (base : ℕ) (frames : List Frame) (newest : ℕ) (ms : List Mark) (s : Holds cells first slots base frames newest ms) where
   abbrev l : IsLevel cells first slots base frames newest
   l = s.0
 
@@ -43,10 +43,10 @@ module _ (cells : Places) (first : ℕ) (slots : Places) (base : ℕ) (frames : 
       marks_same ms cells first slots base frames cells first slots' base frames s.1 below (above' ms above),
     )
 
-    pub slots_seen : seen cells first slots' base frames newest ms ≡ record (seen cells first slots base frames newest ms) { slots = drop base slots' }
+    pub slots_seen : seen noted cells first slots' base frames newest ms ≡ record (seen noted cells first slots base frames newest ms) { slots = drop base slots' }
     slots_seen =
-        ap (λ r. record { registers = drop first cells; slots = drop base slots'; returns = r; points = points_of ms cells slots' frames }) (sym (returns_same slots slots' frames frames base (length frames) fs same refl newest l.newest_in))
-        ∙ ap (λ r. record { registers = drop first cells; slots = drop base slots'; returns = returns_of slots frames newest; points = r }) (sym (points_same ms cells slots frames cells slots' frames below))
+        ap (λ r. record { registers = drop first cells; slots = drop base slots'; returns = r; points = points_of ms cells slots' frames; noted = noted }) (sym (returns_same slots slots' frames frames base (length frames) fs same refl newest l.newest_in))
+        ∙ ap (λ r. record { registers = drop first cells; slots = drop base slots'; returns = returns_of slots frames newest; points = r; noted = noted }) (sym (points_same ms cells slots frames cells slots' frames below))
 
   -- other registers behind those that were saved
   module _ (cells' : Places) (same : take first cells ≡ take first cells') (long : first ≤ length cells') where
@@ -63,8 +63,8 @@ module _ (cells : Places) (first : ℕ) (slots : Places) (base : ℕ) (frames : 
       marks_same ms cells first slots base frames cells' first slots base frames s.1 below' (above'' ms above),
     )
 
-    pub cells_seen : seen cells' first slots base frames newest ms ≡ record (seen cells first slots base frames newest ms) { registers = drop first cells' }
-    cells_seen = ap (λ r. record { registers = drop first cells'; slots = drop base slots; returns = returns_of slots frames newest; points = r }) (sym (points_same ms cells slots frames cells' slots frames below'))
+    pub cells_seen : seen noted cells' first slots base frames newest ms ≡ record (seen noted cells first slots base frames newest ms) { registers = drop first cells' }
+    cells_seen = ap (λ r. record { registers = drop first cells'; slots = drop base slots; returns = returns_of slots frames newest; points = r; noted = noted }) (sym (points_same ms cells slots frames cells' slots frames below'))
 
   -- a call
   module _ (to : ℕ) where
@@ -139,12 +139,12 @@ module _ (cells : Places) (first : ℕ) (slots : Places) (base : ℕ) (frames : 
         ∙ ap (λ x. record { to = to; slots = x } ∷ returns_of slots called newest) (slice_is slots base (length slots) l.base_in ∙ ap (drop base) (take-length slots))
         ∙ ap (λ r. record { to = to; slots = drop base slots } ∷ r) (sym (returns_same slots slots frames called base (length frames) fs refl prefix newest l.newest_in))
 
-    pub call_seen : seen cells first slots (length slots) called (length called) ms
-        ≡ record (seen cells first slots base frames newest ms) { slots = []; returns = record { to = to; slots = drop base slots } ∷ returns_of slots frames newest }
+    pub call_seen : seen noted cells first slots (length slots) called (length called) ms
+        ≡ record (seen noted cells first slots base frames newest ms) { slots = []; returns = record { to = to; slots = drop base slots } ∷ returns_of slots frames newest }
     call_seen =
-        ap (λ x. record { registers = drop first cells; slots = x; returns = returns_of slots called (length called); points = points_of ms cells slots called }) (drop-length slots)
-        ∙ ap (λ r. record { registers = drop first cells; slots = []; returns = r; points = points_of ms cells slots called }) returns_called
-        ∙ ap (λ r. record { registers = drop first cells; slots = []; returns = record { to = to; slots = drop base slots } ∷ returns_of slots frames newest; points = r }) (sym (points_same ms cells slots frames cells slots called below_called))
+        ap (λ x. record { registers = drop first cells; slots = x; returns = returns_of slots called (length called); points = points_of ms cells slots called; noted = noted }) (drop-length slots)
+        ∙ ap (λ r. record { registers = drop first cells; slots = []; returns = r; points = points_of ms cells slots called; noted = noted }) returns_called
+        ∙ ap (λ r. record { registers = drop first cells; slots = []; returns = record { to = to; slots = drop base slots } ∷ returns_of slots frames newest; points = r; noted = noted }) (sym (points_same ms cells slots frames cells slots called below_called))
 
   -- a return from the frame at place k
   module _ (k : ℕ) (is : newest ≡ suc k) where
@@ -188,11 +188,11 @@ module _ (cells : Places) (first : ℕ) (slots : Places) (base : ℕ) (frames : 
       marks_same ms cells first slots base frames cells first copied (length slots) frames s.1 below_copied (above_copied ms above),
     )
 
-    pub copy_seen : seen cells first copied (length slots) frames g.behind ms ≡ record (seen cells first slots base frames newest ms) { slots = slice_range slots g.start g.end; returns = returns_of slots frames g.behind }
+    pub copy_seen : seen noted cells first copied (length slots) frames g.behind ms ≡ record (seen noted cells first slots base frames newest ms) { slots = slice_range slots g.start g.end; returns = returns_of slots frames g.behind }
     copy_seen =
-        ap (λ x. record { registers = drop first cells; slots = x; returns = returns_of copied frames g.behind; points = points_of ms cells copied frames }) (drop-append_seam slots (slice_range slots g.start g.end))
-        ∙ ap (λ r. record { registers = drop first cells; slots = slice_range slots g.start g.end; returns = r; points = points_of ms cells copied frames }) (sym (returns_same slots copied frames frames base (length frames) fs same_copied refl g.behind low))
-        ∙ ap (λ r. record { registers = drop first cells; slots = slice_range slots g.start g.end; returns = returns_of slots frames g.behind; points = r }) (sym (points_same ms cells slots frames cells copied frames below_copied))
+        ap (λ x. record { registers = drop first cells; slots = x; returns = returns_of copied frames g.behind; points = points_of ms cells copied frames; noted = noted }) (drop-append_seam slots (slice_range slots g.start g.end))
+        ∙ ap (λ r. record { registers = drop first cells; slots = slice_range slots g.start g.end; returns = r; points = points_of ms cells copied frames; noted = noted }) (sym (returns_same slots copied frames frames base (length frames) fs same_copied refl g.behind low))
+        ∙ ap (λ r. record { registers = drop first cells; slots = slice_range slots g.start g.end; returns = returns_of slots frames g.behind; points = r; noted = noted }) (sym (points_same ms cells slots frames cells copied frames below_copied))
 
     -- none is: what lies behind the frame is cut off
     module _ (free : frames_kept ms ≤ k) where
@@ -267,16 +267,16 @@ module _ (cells : Places) (first : ℕ) (slots : Places) (base : ℕ) (frames : 
         marks_same ms cells first slots base frames cells first cut g.start fewer s.1 (below_cut ms above free) (above_cut ms above free),
       )
 
-      pub cut_seen : seen cells first cut g.start fewer g.behind ms ≡ record (seen cells first slots base frames newest ms) { slots = slice_range slots g.start g.end; returns = returns_of slots frames g.behind }
+      pub cut_seen : seen noted cells first cut g.start fewer g.behind ms ≡ record (seen noted cells first slots base frames newest ms) { slots = slice_range slots g.start g.end; returns = returns_of slots frames g.behind }
       cut_seen =
-          ap (λ x. record { registers = drop first cells; slots = x; returns = returns_of cut fewer g.behind; points = points_of ms cells cut fewer }) (sym (slice_is slots g.start g.end ordered_here))
-          ∙ ap (λ r. record { registers = drop first cells; slots = slice_range slots g.start g.end; returns = r; points = points_of ms cells cut fewer }) (sym (returns_same slots cut frames fewer g.start k frames_cut same_cut same_fewer g.behind (l.older k in_range)))
-          ∙ ap (λ r. record { registers = drop first cells; slots = slice_range slots g.start g.end; returns = returns_of slots frames g.behind; points = r }) (sym (points_same ms cells slots frames cells cut fewer (below_cut ms above free)))
+          ap (λ x. record { registers = drop first cells; slots = x; returns = returns_of cut fewer g.behind; points = points_of ms cells cut fewer; noted = noted }) (sym (slice_is slots g.start g.end ordered_here))
+          ∙ ap (λ r. record { registers = drop first cells; slots = slice_range slots g.start g.end; returns = r; points = points_of ms cells cut fewer; noted = noted }) (sym (returns_same slots cut frames fewer g.start k frames_cut same_cut same_fewer g.behind (l.older k in_range)))
+          ∙ ap (λ r. record { registers = drop first cells; slots = slice_range slots g.start g.end; returns = returns_of slots frames g.behind; points = r; noted = noted }) (sym (points_same ms cells slots frames cells cut fewer (below_cut ms above free)))
 
   -- a choice point
   module _ (place : ℕ) where
     abbrev mark : Mark
-    mark = record { place = place; first = first; cells = length cells; base = base; slots = length slots; frames = length frames; newest = newest }
+    mark = record { place = place; first = first; cells = length cells; base = base; slots = length slots; frames = length frames; newest = newest; noted = noted }
 
     abbrev cells' : Places
     cells' = cells ++ drop first cells
@@ -312,12 +312,12 @@ module _ (cells : Places) (first : ℕ) (slots : Places) (base : ℕ) (frames : 
             let T : Places → Places → List Frame → Type 0 = λ x y z. IsLevel x first y base z newest × AreMarks ms x first y base z in
             subst (λ x. T x (take (length slots) slots') (take (length frames) frames)) (sym cells_same) (subst (λ y. T cells y (take (length frames) frames)) (sym slots_same) (subst (T cells slots) (sym frames_same) s))
 
-    pub push_seen : seen cells' (length cells) slots' (length slots) frames newest (mark ∷ ms)
-        ≡ record (seen cells first slots base frames newest ms) { points = record { place = place; registers = drop first cells; slots = drop base slots; returns = returns_of slots frames newest } ∷ points_of ms cells slots frames }
+    pub push_seen : seen noted cells' (length cells) slots' (length slots) frames newest (mark ∷ ms)
+        ≡ record (seen noted cells first slots base frames newest ms) { points = record { place = place; registers = drop first cells; slots = drop base slots; returns = returns_of slots frames newest; noted = noted } ∷ points_of ms cells slots frames }
     push_seen =
-        let point : Places → Places → List Frame → List Point = λ x y z. record { place = place; registers = drop first x; slots = drop base y; returns = returns_of y z newest } ∷ points_of ms x y z in
-        ap (λ x. record { registers = x; slots = drop (length slots) slots'; returns = returns_of slots' frames newest; points = points_of (mark ∷ ms) cells' slots' frames }) (drop-append_seam cells (drop first cells))
-        ∙ ap (λ x. record { registers = drop first cells; slots = x; returns = returns_of slots' frames newest; points = points_of (mark ∷ ms) cells' slots' frames }) (drop-append_seam slots (drop base slots))
-        ∙ ap (λ r. record { registers = drop first cells; slots = drop base slots; returns = r; points = points_of (mark ∷ ms) cells' slots' frames }) (sym (returns_same slots slots' frames frames base (length frames) fs (sym (take-append-le base slots (drop base slots) l.base_in)) refl newest l.newest_in))
-        ∙ ap (λ r. record { registers = drop first cells; slots = drop base slots; returns = returns_of slots frames newest; points = r })
+        let point : Places → Places → List Frame → List Point = λ x y z. record { place = place; registers = drop first x; slots = drop base y; returns = returns_of y z newest; noted = noted } ∷ points_of ms x y z in
+        ap (λ x. record { registers = x; slots = drop (length slots) slots'; returns = returns_of slots' frames newest; points = points_of (mark ∷ ms) cells' slots' frames; noted = noted }) (drop-append_seam cells (drop first cells))
+        ∙ ap (λ x. record { registers = drop first cells; slots = x; returns = returns_of slots' frames newest; points = points_of (mark ∷ ms) cells' slots' frames; noted = noted }) (drop-append_seam slots (drop base slots))
+        ∙ ap (λ r. record { registers = drop first cells; slots = drop base slots; returns = r; points = points_of (mark ∷ ms) cells' slots' frames; noted = noted }) (sym (returns_same slots slots' frames frames base (length frames) fs (sym (take-append-le base slots (drop base slots) l.base_in)) refl newest l.newest_in))
+        ∙ ap (λ r. record { registers = drop first cells; slots = drop base slots; returns = returns_of slots frames newest; points = r; noted = noted })
         (ap (λ x. point x (take (length slots) slots') (take (length frames) frames)) cells_same ∙ ap (λ y. point cells y (take (length frames) frames)) slots_same ∙ ap (point cells slots) frames_same)

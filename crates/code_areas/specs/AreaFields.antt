@@ -32,12 +32,13 @@ points_of (m ∷ ms) cells slots frames =
       registers = drop m.first (take m.cells cells);
       slots = drop m.base (take m.slots slots);
       returns = returns_of (take m.slots slots) (take m.frames frames) m.newest;
+      noted = m.noted;
     }
     ∷ points_of ms (take m.cells cells) (take m.slots slots) (take m.frames frames)
 
-abbrev pub contents_of : Places → ℕ → Places → ℕ → List Frame → ℕ → List Mark → Contents
-contents_of cells first slots base frames newest marks =
-    record { registers = drop first cells; slots = drop base slots; returns = returns_of slots frames newest; points = points_of (reverse marks) cells slots frames }
+abbrev pub contents_of : ℕ → Places → ℕ → Places → ℕ → List Frame → ℕ → List Mark → Contents
+contents_of noted cells first slots base frames newest marks =
+    record { registers = drop first cells; slots = drop base slots; returns = returns_of slots frames newest; points = points_of (reverse marks) cells slots frames; noted = noted }
 
 -- The registers stand behind those that were saved, and the current slots behind all frames'. Each
 -- frame has older ones behind it, and its slots stand behind theirs.
@@ -60,6 +61,19 @@ pub record IsAbove (m : Mark) (cells : Places) (first : ℕ) (slots : Places) (b
 abbrev pub frames_kept : List Mark → ℕ
 frames_kept [] = 0
 frames_kept (m ∷ ms) = m.frames
+
+abbrev pub cells_kept : List Mark → ℕ
+cells_kept [] = 0
+cells_kept (m ∷ ms) = m.cells
+
+abbrev pub slots_kept : List Mark → ℕ
+slots_kept [] = 0
+slots_kept (m ∷ ms) = m.slots
+
+-- where the slots of the last frame end; frames the last first
+abbrev pub end_of : List Frame → ℕ
+end_of [] = 0
+end_of (f ∷ fs) = f.end
 
 -- marks, the newest first
 abbrev pub AreMarks : List Mark → Places → ℕ → Places → ℕ → List Frame → Type 0

@@ -4,10 +4,10 @@
 //! choice points and of calls that have not returned, and these are never written.
 #![tactic(auto)]
 
-ghost use Rattle.std.specs.Prelude.{◌≡◌, ◌+◌, ◌-◌, ◌<◌, ◌≤◌, [], ◌∷◌, ◌++◌, length, take, reverse, replicate, slice_range, slice_set, Some, None, IfOk, OnOk, OnErr};
+ghost use Rattle.std.specs.Prelude.{ℕ, ◌≡◌, ◌+◌, ◌-◌, ◌<◌, ◌≤◌, [], ◌∷◌, ◌++◌, length, take, drop, reverse, replicate, slice_range, slice_set, Some, None, IfOk, OnOk, OnErr};
 ghost use Rattle.std.specs.Vec.{vec_len, vec_capacity};
-ghost use Rattle.code_areas.specs.Areas.{cell_at, IsSet, IsPut, nothing};
-ghost use Rattle.code_areas.specs.AreaFields.{frames_kept};
+ghost use Rattle.code_areas.specs.Areas.{cell_at, level_at, holds, level, nothing_held, IsSet, IsLevelSet, IsPut, nothing};
+ghost use Rattle.code_areas.specs.AreaFields.{cells_kept, end_of, frames_kept, slots_kept};
 
 use fd_language::NoMemory;
 use heap_cells::Cell;
@@ -15,13 +15,15 @@ use std::alloc::Global;
 use std::marker::Model;
 use term_pool::AtomId;
 
-/// What a register or a slot holds: a cell, or nothing as long as it is not set.
+/// What a register or a slot holds: a cell, or a level, which is a number of choice points, or
+/// nothing as long as it is not set.
 #[derive(Clone, Copy)]
 enum Kept {
     Ref(usize),
     Int(i64),
     Atom(AtomId),
     Struct(usize),
+    Level(usize),
     Unset,
 }
 
@@ -34,14 +36,13 @@ struct Place {
 const _: () = prove!(size_of::<Place>() == 16);
 
 impl Model for Place {
-    ghost use Rattle.std.specs.Prelude.{Option};
-    ghost use Rattle.heap_cells.specs.declared.Cell.{Cell as HeapCell};
+    ghost use Rattle.code_areas.specs.Areas.{Held};
 
-    ghost Value = { Option HeapCell };
+    ghost Value = { Held };
 
-    ghost use Rattle.code_areas.specs.HeldCells.{cell_kept, kept_for};
+    ghost use Rattle.code_areas.specs.HeldCells.{held_by, kept_for};
 
-    ghost view = { λ p. cell_kept p.kept };
+    ghost view = { λ p. held_by p.kept };
 
     ghost inverse = { λ o. record { kept = kept_for o } };
 }
@@ -56,8 +57,8 @@ struct Frame {
     behind: usize,
 }
 
-/// A choice point: the place to come back to, where its registers and slots begin, and the lengths
-/// and the newest frame of then.
+/// A choice point: the place to come back to, where its registers and slots begin, the lengths and
+/// the newest frame of then, and what was noted.
 #[derive(Clone, Copy)]
 struct Mark {
     place: usize,
@@ -67,9 +68,11 @@ struct Mark {
     slots: usize,
     frames: usize,
     newest: usize,
+    noted: usize,
 }
 
-/// Argument registers, the slots of the current frame, continuations and choice points.
+/// Argument registers, the slots of the current frame, continuations and choice points, and a number
+/// of choice points that was noted.
 ///
 /// Registers and slots are numbered from 0. A number past the registers' end is one that is not
 /// set.
@@ -82,6 +85,7 @@ pub struct Areas {
     frames: Vec<Frame>,
     newest: usize,
     marks: Vec<Mark>,
+    noted: usize,
 }
 
 impl Model for Areas {
@@ -91,9 +95,8 @@ impl Model for Areas {
 
     ghost use Rattle.code_areas.specs.AreaFields.{contents_of, AreStored};
 
-    ghost view = { λ a. contents_of a.cells.items a.first a.slots.items a.base a.frames.items
-        a.newest
-        a.marks.items };
+    ghost view = { λ a. contents_of a.noted a.cells.items a.first a.slots.items a.base
+        a.frames.items a.newest a.marks.items };
 
     ghost invariant = { λ a. AreStored a.cells.items a.first a.slots.items a.base a.frames.items
         a.newest a.marks.items };
@@ -112,6 +115,7 @@ impl Areas {
             frames: Vec::new(alloc),
             newest: 0,
             marks: Vec::new(alloc),
+            noted: 0,
         }
     }
 
@@ -164,17 +168,37 @@ impl Areas {
     pub fn set_slot(&mut self, n: usize, cell: Cell)
         requires { n < length self.old.slots }
         ensures { self.new
-            ≡ record self.old { slots = slice_set self.old.slots n (Some cell) } }
+            ≡ record self.old { slots = slice_set self.old.slots n (holds cell) } }
     {
         let at = self.base + n;
         self.slots[at] = place_of(cell);
+    }
+
+    /// The level in the slot `n`.
+    #[inline]
+    pub fn level(&self, n: usize) -> usize
+        requires { IsLevelSet self.now.slots n }
+        ensures { level_at self.now.slots n ≡ Some result }
+    {
+        set_level_of(&self.slots, self.base + n)
+    }
+
+    /// Puts a level into the slot `n` of the current frame. No memory.
+    #[inline]
+    pub fn set_level(&mut self, n: usize, points: usize)
+        requires { n < length self.old.slots }
+        ensures { self.new
+            ≡ record self.old { slots = slice_set self.old.slots n (level points) } }
+    {
+        let at = self.base + n;
+        self.slots[at] = level_place(points);
     }
 
     /// Begins a frame of `n` slots, of which none is set. The error is want of memory.
     #[inline]
     pub fn allocate(&mut self, n: usize) -> Result<(), NoMemory>
         requires none { length self.old.slots ≡ 0 }
-        ensures slots { OnOk result (self.new ≡ record self.old { slots = replicate n None }) }
+        ensures slots { OnOk result (self.new ≡ record self.old { slots = replicate n nothing_held }) }
         ensures unchanged { OnErr result (self.new ≡ self.old) }
     {
         make_room(&mut self.slots, n)?;
@@ -248,6 +272,62 @@ impl Areas {
         self.marks.len()
     }
 
+    /// Notes how many choice points there are. No memory.
+    #[inline(always)]
+    pub fn note(&mut self)
+        ensures { self.new ≡ record self.old { noted = length self.old.points } }
+    {
+        self.noted = self.marks.len();
+    }
+
+    /// How many choice points there were when it was noted.
+    #[inline]
+    pub fn noted(&self) -> usize
+        ensures { result ≡ self.now.noted }
+    {
+        self.noted
+    }
+
+    /// Moves the registers down to what the newest choice point keeps. No memory.
+    fn lower_registers(&mut self)
+        ensures { self.new ≡ self.old }
+    {
+        let kept = kept_cells(&self.marks);
+        move_down(&mut self.cells, kept, self.first);
+        self.first = kept;
+    }
+
+    /// Gives back the frames that neither a continuation nor a choice point needs. No memory.
+    fn drop_frames(&mut self)
+        ensures { self.new ≡ self.old }
+    {
+        let needed = greater(self.newest, kept_frames(&self.marks));
+        self.frames.truncate(needed);
+    }
+
+    /// Moves the slots of the current frame down to what the newest choice point and the frames
+    /// keep. No memory.
+    fn lower_slots(&mut self)
+        ensures { self.new ≡ self.old }
+    {
+        let kept = greater(kept_slots(&self.marks), last_end(&self.frames));
+        move_down(&mut self.slots, kept, self.base);
+        self.base = kept;
+    }
+
+    /// Drops the choice points above the oldest `k`, and gives back what only they kept. What is
+    /// current stays. No memory.
+    pub fn drop_points(&mut self, k: usize)
+        requires { k ≤ length self.old.points }
+        ensures { self.new
+            ≡ record self.old { points = drop (length self.old.points - k) self.old.points } }
+    {
+        self.marks.truncate(k);
+        self.lower_registers();
+        self.drop_frames();
+        self.lower_slots();
+    }
+
     /// Makes a choice point of all that is current, to come back to at `place`. The error is want
     /// of memory.
     pub fn push_point(&mut self, place: usize) -> Result<(), NoMemory>
@@ -257,6 +337,7 @@ impl Areas {
             registers = self.old.registers;
             slots = self.old.slots;
             returns = self.old.returns;
+            noted = self.old.noted;
           } ∷ self.old.points;
         }) }
         ensures unchanged { OnErr result (self.new ≡ self.old) }
@@ -269,6 +350,7 @@ impl Areas {
             slots: self.slots.len(),
             frames: self.frames.len(),
             newest: self.newest,
+            noted: self.noted,
         };
         self.marks.reserve(1)?;
         make_room(&mut self.cells, mark.cells - mark.first)?;
@@ -290,6 +372,7 @@ impl Areas {
           registers = self.new.registers;
           slots = self.new.slots;
           returns = self.new.returns;
+          noted = self.new.noted;
         } ∷ self.new.points }
     {
         let mark = self.marks.pop().unwrap();
@@ -299,6 +382,7 @@ impl Areas {
         self.first = mark.first;
         self.base = mark.base;
         self.newest = mark.newest;
+        self.noted = mark.noted;
         mark.place
     }
 }
@@ -306,7 +390,7 @@ impl Areas {
 /// A place that holds the cell.
 #[inline(always)]
 fn place_of(cell: Cell) -> Place
-    ensures { result ≡ Some cell }
+    ensures { result ≡ holds cell }
 {
     let kept = match cell {
         Cell::Ref(variable) => Kept::Ref(variable),
@@ -317,10 +401,20 @@ fn place_of(cell: Cell) -> Place
     Place { kept }
 }
 
-/// A place where no cell is set.
+/// A place that holds the level.
+#[inline(always)]
+fn level_place(points: usize) -> Place
+    ensures { result ≡ level points }
+{
+    Place {
+        kept: Kept::Level(points),
+    }
+}
+
+/// A place where nothing is set.
 #[inline(always)]
 fn unset() -> Place
-    ensures { result ≡ None }
+    ensures { result ≡ nothing_held }
 {
     Place { kept: Kept::Unset }
 }
@@ -337,7 +431,20 @@ fn set_cell(cells: &[Place], at: usize) -> Cell
         Kept::Int(number) => Cell::Int(number),
         Kept::Atom(atom) => Cell::Atom(atom),
         Kept::Struct(structure) => Cell::Struct(structure),
-        Kept::Unset => unreachable!(),
+        Kept::Level(_) | Kept::Unset => unreachable!(),
+    }
+}
+
+/// The level at a number where one is set.
+#[inline]
+fn set_level_of(cells: &[Place], at: usize) -> usize
+    requires { IsLevelSet cells.now at }
+    ensures { level_at cells.now at ≡ Some result }
+{
+    let place = &cells[at];
+    match place.kept {
+        Kept::Level(points) => points,
+        _ => unreachable!(),
     }
 }
 
@@ -371,7 +478,7 @@ fn put_copies(places: &mut Vec<Place>, start: usize, end: usize)
 #[inline(always)]
 fn put_unset(places: &mut Vec<Place>, count: usize)
     requires { vec_len places.old + count ≤ vec_capacity places.old }
-    ensures items { places.new.items ≡ places.old.items ++ replicate count None }
+    ensures items { places.new.items ≡ places.old.items ++ replicate count nothing_held }
     ensures room { vec_len places.new ≡ vec_len places.old + count }
     ensures same { vec_capacity places.new ≡ vec_capacity places.old }
 {
@@ -441,6 +548,61 @@ fn kept_frames(marks: &[Mark]) -> usize
         Some(mark) => mark.frames,
         None => 0,
     }
+}
+
+/// How many registers the newest choice point keeps.
+fn kept_cells(marks: &[Mark]) -> usize
+    ensures { result ≡ cells_kept (reverse marks.now) }
+{
+    match marks.last() {
+        Some(mark) => mark.cells,
+        None => 0,
+    }
+}
+
+/// How many slots the newest choice point keeps.
+fn kept_slots(marks: &[Mark]) -> usize
+    ensures { result ≡ slots_kept (reverse marks.now) }
+{
+    match marks.last() {
+        Some(mark) => mark.slots,
+        None => 0,
+    }
+}
+
+/// Where the slots of the last frame end.
+fn last_end(frames: &[Frame]) -> usize
+    ensures { result ≡ end_of (reverse frames.now) }
+{
+    match frames.last() {
+        Some(frame) => frame.end,
+        None => 0,
+    }
+}
+
+/// The greater of two numbers.
+#[inline]
+fn greater(a: usize, b: usize) -> usize
+    ensures first { a ≤ result }
+    ensures second { b ≤ result }
+    ensures least { (c : ℕ) → a ≤ c → b ≤ c → result ≤ c }
+{
+    if a < b { b } else { a }
+}
+
+/// Moves the places from the number `from` on down to the number `to`. No memory.
+#[inline]
+fn move_down(places: &mut Vec<Place>, to: usize, from: usize)
+    requires order { to ≤ from }
+    requires there { from ≤ length places.old.items }
+    ensures { places.new.items ≡ take to places.old.items ++ drop from places.old.items }
+{
+    if to == from {
+        return;
+    }
+    let count = places.len() - from;
+    places.copy_within(from.., to);
+    places.truncate(to + count);
 }
 
 #[cfg(test)]

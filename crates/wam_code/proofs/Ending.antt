@@ -1,7 +1,7 @@
 -- Steps without a reduction come to an end.
-use Rattle.std.proofs.Common.{◌≡◌, ℕ, zero, suc, ◌+◌, ◌*◌, ◌<◌, ◌≤◌, List, ◌∷◌, arith}
+use Rattle.std.proofs.Common.{◌≡◌, ℕ, zero, suc, ◌+◌, ◌*◌, ◌<◌, ◌≤◌, List, [], ◌∷◌, drop, arith}
 use Rattle.std.proofs.Math.Nat.{mul-le-mul_right}
-use Rattle.wam_code.specs.Ending.{weight, return_work, Thread, work}
+use Rattle.wam_code.specs.Ending.{weight, return_work, Thread, thread_work, work}
 
 pub weight_up : (d e : ℕ) → d ≤ e → weight d ≤ weight e
 weight_up zero zero l = omega arith
@@ -45,3 +45,12 @@ back_falls d ds ts =
     let a = mul-le-mul_right k (weight_some d) in
     let b : 1 * k ≡ k = omega arith in
     omega (arith, a, b)
+
+-- A cut: choice points that are dropped leave no more work.
+dropped_less : (ts : List Thread) (k : ℕ) → work (drop k ts) ≤ work ts
+dropped_less ts zero = omega arith
+dropped_less [] (suc k) = omega arith
+dropped_less (t ∷ ts) (suc k) = let w = dropped_less ts k in omega (arith, w)
+
+pub cut_less : (t : Thread) (ts : List Thread) (k : ℕ) → work (t ∷ drop k ts) ≤ work (t ∷ ts)
+cut_less t ts k = let w = dropped_less ts k in omega (arith, w)

@@ -258,7 +258,7 @@ module _ (c : Contents) (p : AtomId) (own : p.number < length c.names) where
   all_made n q before v l = let t = before.top in before.known v (omega (arith, l, t))
 
   first_clause : IsClause a 1 (fact (Atom name))
-  first_clause = λ n as' after shown q size below hold before. by n as' after shown q size hold before
+  first_clause = λ n as' d after shown q size below hold noted before. by n as' after shown q size hold before
     where
       by : (n : ℕ) (as' : Terms) (after : List Goal) (shown : List ℕ) (q : Places) → term_count as' ≡ 1 → Hold q 1 as' → IsBefore q n 0 → Means a (record { goals = after; shown = shown }) 1 q (paired as' (term (Atom name) no_terms)) after
       by n no_terms after shown q size hold before = absurd (omega (arith, size))
@@ -268,7 +268,7 @@ module _ (c : Contents) (p : AtomId) (own : p.number < length c.names) where
       by n (term s (term u us)) after shown q size hold before = absurd (omega (arith, size))
 
   second_clause : IsClause a 4 (fact (Int (pos 1)))
-  second_clause = λ n as' after shown q size below hold before. by n as' after shown q size hold before
+  second_clause = λ n as' d after shown q size below hold noted before. by n as' after shown q size hold before
     where
       by : (n : ℕ) (as' : Terms) (after : List Goal) (shown : List ℕ) (q : Places) → term_count as' ≡ 1 → Hold q 1 as' → IsBefore q n 0 → Means a (record { goals = after; shown = shown }) 4 q (paired as' (term (Int (pos 1)) no_terms)) after
       by n no_terms after shown q size hold before = absurd (omega (arith, size))
@@ -312,7 +312,7 @@ module _ (c : Contents) (p : AtomId) (own : p.number < length c.names) where
     held = write (write (learn (no_slots q) 0) (Y 1) (Var 0)) (X 1) (Var 0)
 
     abbrev left : Places
-    left = record { x = λ n. None; y = slots; known = λ v. true; own = q.own; top = 0 }
+    left = record { x = λ n. None; y = slots; levels = λ n. None; noted = None; known = λ v. true; own = q.own; top = 0 }
 
     held_known : (v : ℕ) → v < q.top → held.known v ≡ true
     held_known v l = let one : v ≡ 0 = omega (arith, before.top, l) in subst (λ n. held.known n ≡ true) (sym one) refl
@@ -322,6 +322,8 @@ module _ (c : Contents) (p : AtomId) (own : p.number < length c.names) where
       whole = held_known;
       xs = λ n t e. absurd (cc);
       ys = λ n t e. (e, subst (Below q.own) (sym (only_slot n t e)) (omega (arith, before.own)));
+      levels = λ n d e. absurd (cc);
+      noted = λ d e. absurd (cc);
       known = λ v. refl;
       own = refl;
       top = refl;
@@ -355,5 +357,5 @@ module _ (c : Contents) (p : AtomId) (own : p.number < length c.names) where
   pub stands : StandsForProgram a program
   stands = record {
     predicates = λ n e h. subst (IsPredicate a program) (sym (one_entry n e h).1) (λ ts s size. (program.clauses, inl (refl, fits ts size _, inl (refl, fits ts size _, refl)), both_tried s));
-    queries = (record { names = refl; shown = refl; means = query_means }, tt);
+    queries = (record { names = refl; shown = refl; means = λ p noted before. query_means p before }, tt);
   }

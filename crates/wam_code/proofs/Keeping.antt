@@ -5,11 +5,12 @@ use Rattle.fd_language.specs.Family.{has}
 use Rattle.wam_code.specs.declared.instruction.Register.{Register}
 use Rattle.wam_code.specs.declared.instruction.Register.TheVariants.{X, Y}
 use Rattle.wam_code.specs.declared.instruction.Code.{Code}
-use Rattle.wam_code.specs.declared.instruction.Code.TheVariants.{GetVariable, GetValue, GetConstant, GetInteger, GetStructure, UnifyVariable, UnifyValue, UnifyConstant, UnifyInteger, UnifyVoid, PutVariable, PutValue, PutConstant, PutInteger, PutStructure, Allocate, Deallocate, Call, Execute, Proceed, SwitchOnTerm, SwitchOnConstant, SwitchOnInteger, SwitchOnStructure, Builtin, Constrain, Label, PostRange}
+use Rattle.wam_code.specs.declared.instruction.Code.TheVariants as code
+use Rattle.wam_code.specs.declared.instruction.Code.TheVariants.{GetVariable, GetValue, GetConstant, GetInteger, GetStructure, UnifyVariable, UnifyValue, UnifyConstant, UnifyInteger, UnifyVoid, PutVariable, PutValue, PutConstant, PutInteger, PutStructure, Allocate, Deallocate, Call, Execute, Proceed, SwitchOnTerm, SwitchOnConstant, SwitchOnInteger, SwitchOnStructure, Builtin, Constrain, Label, Best, PostRange, TestOnly, EnterTest, CutTo}
 use Rattle.wam_code.specs.declared.parts.Entry.{Entry}
 use Rattle.wam_code.specs.Area.{State, Area, Holds, HasState}
 use Rattle.fd_model.specs.Arities.{builtin_arity, constraint_arity}
-use Rattle.wam_code.specs.Effect.{slot_at, is_unset, is_cell, with_cell, is_set, is_free, with_set, with_owed, are_set, are_given, has_frame, no_frame, when, plain_effect, unify_effect, effect_by, effect}
+use Rattle.wam_code.specs.Effect.{slot_at, is_unset, is_cell, is_level, may_be_level, with_cell, with_mark, is_set, is_free, with_set, with_level, with_owed, are_set, are_given, has_frame, no_frame, when, plain_effect, unify_effect, effect_by, effect}
 use Rattle.wam_code.specs.VerifiedCode.{named, goes_on, Covers, HandedTo, Leads, IsVerifiedBy}
 
 -- Each need that the smaller state meets the larger one meets, and the results cover one another.
@@ -36,6 +37,15 @@ module _ (s t : State) (c : Covers t s) where
   free_kept : (r : Register) → is_free s r ≡ true → is_free t r ≡ true
   free_kept (X n) e = refl
   free_kept (Y n) e = ap (λ f. is_unset (slot_at f n)) c.frame ∙ e
+
+  level_kept : (n : ℕ) → is_level (slot_at s.frame n) ≡ true → is_level (slot_at t.frame n) ≡ true
+  level_kept n e = ap (λ f. is_level (slot_at f n)) c.frame ∙ e
+
+  leveled_kept : (n : ℕ) → may_be_level (slot_at s.frame n) ≡ true → may_be_level (slot_at t.frame n) ≡ true
+  leveled_kept n e = ap (λ f. may_be_level (slot_at f n)) c.frame ∙ e
+
+  mark_kept : (n : ℕ) → Covers (with_level t n) (with_level s n)
+  mark_kept n = record { frame = ap (option_map (with_mark n)) c.frame; owed = c.owed; regs = c.regs }
 
   all_kept : (k : ℕ) → are_set s.regs k ≡ true → are_set t.regs k ≡ true
   all_kept zero e = refl
@@ -91,6 +101,14 @@ plain_kept es (Builtin k) s t c = when_kept _ _ s t (all_kept s t c (builtin_ari
 plain_kept es (Constrain k) s t c = when_kept _ _ s t (all_kept s t c (constraint_arity k)) c
 plain_kept es (Label o) s t c = when_kept _ _ s t (all_kept s t c 1) c
 plain_kept es (PostRange r n) s t c = when_kept _ _ s t (all_kept s t c n) c
+plain_kept es (Best o least) s t c = when_kept _ _ s t (all_kept s t c 2) c
+plain_kept es (code.Level n) s t c = when_kept _ _ (with_level s n) (with_level t n) (leveled_kept s t c n) (mark_kept s t c n)
+plain_kept es (TestOnly n) s t c = when_kept _ _ (with_level s n) (with_level t n) (leveled_kept s t c n) (mark_kept s t c n)
+plain_kept es (EnterTest n m to) s t c =
+    when_kept _ _ (with_level (with_level s n) m) (with_level (with_level t n) m)
+    (both_kept (may_be_level (slot_at s.frame n)) (may_be_level (slot_at s.frame m)) (may_be_level (slot_at t.frame n)) (may_be_level (slot_at t.frame m)) (leveled_kept s t c n) (leveled_kept s t c m))
+    (mark_kept (with_level s n) (with_level t n) (mark_kept s t c n) m)
+plain_kept es (CutTo n) s t c = when_kept _ _ s t (level_kept s t c n) c
 plain_kept es _ s t c = c
 
 unify_kept : (i : Code) (s t : State) → Covers t s → Kept (unify_effect i s) (unify_effect i t)

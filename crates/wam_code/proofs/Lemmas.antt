@@ -1,6 +1,6 @@
 -- The lemmas that other crates may cite, by their subjects. All else in proofs/ is this crate's own.
 -- Steps without a reduction come to an end.
-pub use Rattle.wam_code.proofs.Ending.{back_falls, fork_falls, proceed_falls, step_falls, weight_up, weight_some}
+pub use Rattle.wam_code.proofs.Ending.{back_falls, cut_less, fork_falls, proceed_falls, step_falls, weight_up, weight_some}
 -- What a place needs is there, and what it hands on covers the next place's state.
 pub use Rattle.wam_code.proofs.Keeping.{covers_self}
 -- Where code is reached from: queries keep to themselves, and places lie ahead.

@@ -4,9 +4,10 @@ use Rattle.fd_language.specs.Family.{has}
 use Rattle.wam_code.specs.declared.instruction.Register.{Register}
 use Rattle.wam_code.specs.declared.instruction.Register.TheVariants.{X, Y}
 use Rattle.wam_code.specs.declared.instruction.Code.{Code}
-use Rattle.wam_code.specs.declared.instruction.Code.TheVariants.{GetVariable, GetValue, GetConstant, GetInteger, GetStructure, UnifyVariable, UnifyValue, UnifyConstant, UnifyInteger, UnifyVoid, PutVariable, PutValue, PutConstant, PutInteger, PutStructure, Allocate, Deallocate, Call, Execute, Proceed, SwitchOnTerm, SwitchOnConstant, SwitchOnInteger, SwitchOnStructure, Builtin, Constrain, Label, PostRange}
+use Rattle.wam_code.specs.declared.instruction.Code.TheVariants as code
+use Rattle.wam_code.specs.declared.instruction.Code.TheVariants.{GetVariable, GetValue, GetConstant, GetInteger, GetStructure, UnifyVariable, UnifyValue, UnifyConstant, UnifyInteger, UnifyVoid, PutVariable, PutValue, PutConstant, PutInteger, PutStructure, Allocate, Deallocate, Call, Execute, Proceed, SwitchOnTerm, SwitchOnConstant, SwitchOnInteger, SwitchOnStructure, Builtin, Constrain, Label, Best, PostRange, TestOnly, EnterTest, CutTo}
 use Rattle.wam_code.specs.declared.parts.Entry.{Entry}
-use Rattle.wam_code.specs.Area.{Slot, Unset, Cell, State}
+use Rattle.wam_code.specs.Area.{Slot, Unset, Cell, Level, State}
 use Rattle.fd_model.specs.Arities.{constraint_arity, builtin_arity}
 
 -- ---- registers and frames
@@ -25,10 +26,25 @@ abbrev pub is_cell : Option Slot → Bool
 is_cell (Some Cell) = true
 is_cell _ = false
 
+abbrev pub is_level : Option Slot → Bool
+is_level (Some Level) = true
+is_level _ = false
+
+-- it may become a level
+abbrev pub may_be_level : Option Slot → Bool
+may_be_level (Some Unset) = true
+may_be_level (Some Level) = true
+may_be_level _ = false
+
 -- the slots with a cell in that with a number
 abbrev pub with_cell : ℕ → List Slot → List Slot
 with_cell zero ss = ss
 with_cell (suc n) ss = slice_set ss n Cell
+
+-- and with a level
+abbrev pub with_mark : ℕ → List Slot → List Slot
+with_mark zero ss = ss
+with_mark (suc n) ss = slice_set ss n Level
 
 -- R is a cell
 abbrev pub is_set : State → Register → Bool
@@ -44,6 +60,10 @@ is_free s (Y n) = is_unset (slot_at s.frame n)
 abbrev pub with_set : State → Register → State
 with_set s (X n) = record s { regs = n ∷ s.regs }
 with_set s (Y n) = record s { frame = option_map (with_cell n) s.frame }
+
+-- the slot becomes a level
+abbrev pub with_level : State → ℕ → State
+with_level s n = record s { frame = option_map (with_mark n) s.frame }
 
 abbrev pub with_owed : State → ℕ → State
 with_owed s n = record s { owed = n }
@@ -97,6 +117,11 @@ plain_effect es (Builtin k) s = when (are_set s.regs (builtin_arity k)) s
 plain_effect es (Constrain k) s = when (are_set s.regs (constraint_arity k)) s
 plain_effect es (Label o) s = when (are_set s.regs 1) s
 plain_effect es (PostRange r n) s = when (are_set s.regs n) s
+plain_effect es (Best o least) s = when (are_set s.regs 2) s
+plain_effect es (code.Level n) s = when (may_be_level (slot_at s.frame n)) (with_level s n)
+plain_effect es (TestOnly n) s = when (may_be_level (slot_at s.frame n)) (with_level s n)
+plain_effect es (EnterTest n m to) s = when (may_be_level (slot_at s.frame n) && may_be_level (slot_at s.frame m)) (with_level (with_level s n) m)
+plain_effect es (CutTo n) s = when (is_level (slot_at s.frame n)) s
 plain_effect es (UnifyVariable r) s = None
 plain_effect es (UnifyValue r) s = None
 plain_effect es (UnifyConstant c) s = None

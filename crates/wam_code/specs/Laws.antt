@@ -1,5 +1,5 @@
 -- The statements of the laws.
-use Rattle.std.specs.Prelude.{◌≡◌, ℕ, ◌<◌, ◌≤◌, true, IsTrue, List, [], ◌∷◌, length}
+use Rattle.std.specs.Prelude.{◌≡◌, ℕ, ◌<◌, ◌≤◌, true, IsTrue, List, [], ◌∷◌, length, drop}
 use Rattle.fd_language.specs.Unifier.{Equation}
 use Rattle.fd_model.specs.Goal.{Goal, Clause}
 use Rattle.wam_code.specs.declared.instruction.Code.{Code}
@@ -33,12 +33,13 @@ pub record StepsAreSafe : Type 0 where
   pub query : (a : Area) (ss : List State) → IsVerifiedBy a ss → (n : ℕ) (q : Span) → HasQuery a n q → HandedTo ss (begun []) q.at
   pub state : (a : Area) (ss : List State) → IsVerifiedBy a ss → (at : ℕ) (i : Code) → Holds a at i → (s : State) × HasState ss at s
 
--- A number falls with each instruction that goes on, that returns and that fails.
+-- A number falls with each instruction that goes on, that returns and that fails, and a cut makes it no greater.
 pub record WorkFalls : Type 0 where
   pub fork : (d e f : ℕ) (ds : List ℕ) (ts : List Thread) → e < d → f < d → work (record { distance = e; returns = ds } ∷ record { distance = f; returns = ds } ∷ ts) < work (record { distance = d; returns = ds } ∷ ts)
   pub step : (d e : ℕ) (ds : List ℕ) (ts : List Thread) → e < d → work (record { distance = e; returns = ds } ∷ ts) < work (record { distance = d; returns = ds } ∷ ts)
   pub proceed : (d e : ℕ) (ds : List ℕ) (ts : List Thread) → work (record { distance = e; returns = ds } ∷ ts) < work (record { distance = d; returns = e ∷ ds } ∷ ts)
   pub back : (d : ℕ) (ds : List ℕ) (ts : List Thread) → work ts < work (record { distance = d; returns = ds } ∷ ts)
+  pub cut : (t : Thread) (ts : List Thread) (k : ℕ) → work (t ∷ drop k ts) ≤ work (t ∷ ts)
   pub names : (a : Area) (ss : List State) → IsVerifiedBy a ss → (at to : ℕ) → Names a at to → distance a to < distance a at
   pub falls : (a : Area) (ss : List State) → IsVerifiedBy a ss → (at to : ℕ) → Falls a at to → distance a to < distance a at
 

@@ -1,5 +1,5 @@
 -- What a place of the code, with its registers and its frame, stands for: the equations still to be made and the goals still to be taken.
-use Rattle.std.specs.Prelude.{◌≡◌, ◌⊎◌, ℕ, zero, suc, ◌<◌, ◌≤◌, true, false, List, [], ◌∷◌, ◌++◌, Option, Some, None}
+use Rattle.std.specs.Prelude.{◌≡◌, ◌⊎◌, ℕ, zero, suc, ◌<◌, ◌≤◌, Bool, true, false, List, [], ◌∷◌, ◌++◌, Option, Some, None}
 use Rattle.fd_language.specs.Term.{Name, Term, Terms, Var, Int, Atom, Comp, no_terms, term, term_count}
 use Rattle.fd_language.specs.Unifier.{Equation}
 use Rattle.fd_language.specs.RangeRenaming.{rename_range}
@@ -7,7 +7,7 @@ use Rattle.fd_model.specs.declared.kinds.ConstraintKind.{ConstraintKind}
 use Rattle.fd_model.specs.declared.kinds.BuiltinKind.{BuiltinKind}
 use Rattle.fd_model.specs.declared.kinds.BuiltinKind.TheVariants as kind
 use Rattle.fd_model.specs.declared.kinds.Order.{Order}
-use Rattle.fd_model.specs.Goal.{Goal, Goals, listed, True, Fail, Unify, Post, Constrain, Label, Call, Either, Builtin}
+use Rattle.fd_model.specs.Goal.{Goal, Goals, listed, True, Fail, Unify, Post, Constrain, Label, Call, Either, Builtin, Cut, If, IfElse, Not, Best, marked_all}
 use Rattle.machine_relation.specs.Heap.{EquationsOf}
 use Rattle.machine_relation.specs.Says.{SaysSame}
 use Rattle.range_code.specs.Slots.{slots_of}
@@ -17,11 +17,15 @@ use Rattle.wam_code.specs.declared.instruction.Code.TheVariants as code
 use Rattle.wam_code.specs.declared.parts.Entry.{Entry}
 use Rattle.fd_model.specs.Arities.{constraint_arity, builtin_arity}
 use Rattle.wam_code.specs.Area.{Area, Holds, HasEntry, name_of, range_at}
-use Rattle.wam_code.specs.Places.{Places, read, write, without, learn, no_registers, no_slots, IsFresh, Has, IsWhole, IsSettled, Hold, made}
+use Rattle.wam_code.specs.Places.{Depth, deeper, one_deeper, Places, read, write, without, learn, put_level, drop_level, no_registers, no_slots, IsFresh, Has, IsWhole, IsSettled, AreWithin, IsDeepest, Hold, made}
 
 -- what later places stand for
 abbrev pub Rest : Type 1
 Rest = ℕ → Places → List Equation → List Goal → Type 0
+
+-- the same behind a test, by how much deeper it is there than what is kept
+abbrev pub Rests : Type 1
+Rests = Depth → Rest
 
 -- the goals that come behind the clause, and the variables that answers show
 pub record Caller : Type 0 where
@@ -72,6 +76,10 @@ ConstrainRule k p g = NamedRule (constraint_arity k) (Constrain k) p g
 abbrev pub LabelRule : Order → Places → Goal → Type 0
 LabelRule o p g = (t : Term) × (p.x 1 ≡ Some t) × (g ≡ Label o t)
 
+-- the best leaf of a labelling, by its list and its cost
+abbrev pub BestRule : Order → Bool → Places → Goal → Type 0
+BestRule o least p g = (t : Term) × (c : Term) × (p.x 1 ≡ Some t) × (p.x 2 ≡ Some c) × (g ≡ Best o least t c)
+
 -- the argument registers from i on hold the variables that f gives these
 abbrev pub HoldVars : Places → ℕ → (ℕ → ℕ) → List ℕ → Type 0
 HoldVars p i f [] = Unit {0}
@@ -85,6 +93,18 @@ PostRule area r p g = (t : Term) × (f : ℕ → ℕ) × ((x y : ℕ) → f x �
 abbrev pub Takes : (Goal → Type 0) → Rest → ℕ → Places → List Equation → List Goal → Type 0
 Takes taken rest at p es gs = (g : Goal) × (later : List Goal) × (q : Places) × taken g × IsSettled p q × (es ≡ []) × (gs ≡ g ∷ later) × rest (suc at) q [] later
 
+-- ---- tests
+
+-- The goals of a test whose own cuts keep k branches, then the cut that keeps m, and what follows.
+abbrev pub tested : ℕ → ℕ → Goals → List Goal → List Goal
+tested k m test gs = marked_all k (listed test) ++ Cut (Some m) ∷ gs
+
+-- The goal has this test, these goals behind a test that holds, and those of the other way.
+abbrev pub HasTest : Goal → Goals → List Goal → List Goal → Type 0
+HasTest (IfElse t hs os) test holds other = (t ≡ test) × (holds ≡ listed hs) × (other ≡ listed os)
+HasTest (Not t) test holds other = (t ≡ test) × (holds ≡ Fail ∷ []) × (other ≡ [])
+HasTest _ test holds other = ⊥
+
 -- the slots from i on hold the variables of an answer
 abbrev pub Shows : Places → ℕ → List ℕ → Type 0
 Shows p i [] = Unit {0}
@@ -96,36 +116,55 @@ Shows p i (v ∷ vs) = (p.y i ≡ Some (Var v)) × Shows p (suc i) vs
 abbrev pub Equates : Places → ℕ → Term → List Equation → (List Equation → Type 0) → Type 0
 Equates p a s es then' = (t : Term) × (later : List Equation) × (p.x a ≡ Some t) × (es ≡ record { left = t; right = s } ∷ later) × then' later
 
-abbrev pub Rule : Area → Caller → Rest → Code → ℕ → Places → List Equation → List Goal → Type 0
-Rule area w rest (code.GetVariable r a) at p es gs = (v : ℕ) × IsFresh p v × Equates p a (Var v) es (λ later. rest (suc at) (write (learn p v) r (Var v)) later gs)
-Rule area w rest (code.GetValue r a) at p es gs = (s : Term) × (read p r ≡ Some s) × Equates p a s es (λ later. rest (suc at) p later gs)
-Rule area w rest (code.GetConstant c a) at p es gs = Equates p a (Atom (name_of area c)) es (λ later. rest (suc at) p later gs)
-Rule area w rest (code.GetInteger z a) at p es gs = Equates p a (Int z) es (λ later. rest (suc at) p later gs)
-Rule area w rest (code.GetStructure f n a) at p es gs =
+-- tests is what the places behind a test stand for, and rest what all other places do.
+abbrev pub RuleWith : Area → Caller → Rest → Rests → Code → ℕ → Places → List Equation → List Goal → Type 0
+RuleWith area w rest tests (code.GetVariable r a) at p es gs = (v : ℕ) × IsFresh p v × Equates p a (Var v) es (λ later. rest (suc at) (write (learn p v) r (Var v)) later gs)
+RuleWith area w rest tests (code.GetValue r a) at p es gs = (s : Term) × (read p r ≡ Some s) × Equates p a s es (λ later. rest (suc at) p later gs)
+RuleWith area w rest tests (code.GetConstant c a) at p es gs = Equates p a (Atom (name_of area c)) es (λ later. rest (suc at) p later gs)
+RuleWith area w rest tests (code.GetInteger z a) at p es gs = Equates p a (Int z) es (λ later. rest (suc at) p later gs)
+RuleWith area w rest tests (code.GetStructure f n a) at p es gs =
     (us : Terms) × (next : ℕ) × (q : Places) × Gives area n at p us next q × Equates p a (Comp (name_of area f) us) es (λ later. rest next q later gs)
-Rule area w rest (code.PutVariable r a) at p es gs = (v : ℕ) × IsFresh p v × rest (suc at) (write (write (learn p v) r (Var v)) (X a) (Var v)) es gs
-Rule area w rest (code.PutValue r a) at p es gs = (t : Term) × (read p r ≡ Some t) × rest (suc at) (write p (X a) t) es gs
-Rule area w rest (code.PutConstant c a) at p es gs = rest (suc at) (write p (X a) (Atom (name_of area c))) es gs
-Rule area w rest (code.PutInteger z a) at p es gs = rest (suc at) (write p (X a) (Int z)) es gs
-Rule area w rest (code.PutStructure f n a) at p es gs =
+RuleWith area w rest tests (code.PutVariable r a) at p es gs = (v : ℕ) × IsFresh p v × rest (suc at) (write (write (learn p v) r (Var v)) (X a) (Var v)) es gs
+RuleWith area w rest tests (code.PutValue r a) at p es gs = (t : Term) × (read p r ≡ Some t) × rest (suc at) (write p (X a) t) es gs
+RuleWith area w rest tests (code.PutConstant c a) at p es gs = rest (suc at) (write p (X a) (Atom (name_of area c))) es gs
+RuleWith area w rest tests (code.PutInteger z a) at p es gs = rest (suc at) (write p (X a) (Int z)) es gs
+RuleWith area w rest tests (code.PutStructure f n a) at p es gs =
     (us : Terms) × (next : ℕ) × (q : Places) × Gives area n at (without p a) us next q × rest next (write q (X a) (Comp (name_of area f) us)) es gs
-Rule area w rest (code.Allocate n) at p es gs = rest (suc at) (no_slots p) es gs
-Rule area w rest code.Deallocate at p es gs = rest (suc at) (no_slots p) es gs
-Rule area w rest (code.Call e) at p es gs = Takes (CallRule area e p) rest at (no_registers p) es gs
+RuleWith area w rest tests (code.Allocate n) at p es gs = rest (suc at) (no_slots p) es gs
+RuleWith area w rest tests code.Deallocate at p es gs = rest (suc at) (no_slots p) es gs
+RuleWith area w rest tests (code.Call e) at p es gs = Takes (CallRule area e p) rest at (no_registers p) es gs
 -- The last goal and the end of a clause leave what its caller goes on with.
-Rule area w rest (code.Execute e) at p es gs = (g : Goal) × CallRule area e p g × IsWhole p × (es ≡ []) × (gs ≡ g ∷ w.goals)
-Rule area w rest code.Proceed at p es gs = IsWhole p × (es ≡ []) × (gs ≡ w.goals)
-Rule area w rest (code.Jump to) at p es gs = rest to p es gs
-Rule area w rest code.AnswerNow at p es gs = IsWhole p × Shows p 1 w.shown × (es ≡ []) × (gs ≡ [])
+RuleWith area w rest tests (code.Execute e) at p es gs = (g : Goal) × CallRule area e p g × IsWhole p × (es ≡ []) × (gs ≡ g ∷ w.goals)
+RuleWith area w rest tests code.Proceed at p es gs = IsWhole p × (es ≡ []) × (gs ≡ w.goals)
+RuleWith area w rest tests (code.Jump to) at p es gs = rest to p es gs
+RuleWith area w rest tests code.AnswerNow at p es gs = IsWhole p × Shows p 1 w.shown × (es ≡ []) × (gs ≡ [])
 -- Both ways of A ; B go on with the goals behind it.
-Rule area w rest (code.Either to) at p es gs =
+RuleWith area w rest tests (code.Either to) at p es gs =
     (a : Goals) × (b : Goals) × (later : List Goal) × (q : Places) × IsSettled p q × (es ≡ []) × (gs ≡ Either a b ∷ later) × rest (suc at) q [] (listed a ++ later) × rest to q [] (listed b ++ later)
-Rule area w rest (code.Builtin k) at p es gs = Takes (BuiltinRule k p) rest at p es gs
-Rule area w rest (code.Constrain k) at p es gs = Takes (ConstrainRule k p) rest at p es gs
-Rule area w rest (code.Label o) at p es gs = Takes (LabelRule o p) rest at p es gs
-Rule area w rest (code.PostRange r n) at p es gs = Takes (PostRule area r p) rest at p es gs
+RuleWith area w rest tests (code.Builtin k) at p es gs = Takes (BuiltinRule k p) rest at p es gs
+RuleWith area w rest tests (code.Constrain k) at p es gs = Takes (ConstrainRule k p) rest at p es gs
+RuleWith area w rest tests (code.Label o) at p es gs = Takes (LabelRule o p) rest at p es gs
+RuleWith area w rest tests (code.PostRange r n) at p es gs = Takes (PostRule area r p) rest at p es gs
+RuleWith area w rest tests (code.Best o least) at p es gs = Takes (BestRule o least p) rest at p es gs
+-- The slot takes the depth that was noted.
+RuleWith area w rest tests (code.Level n) at p es gs = (d : Depth) × (p.noted ≡ Some d) × rest (suc at) (put_level p n d) es gs
+-- The slot takes the depth that is found: the deepest one that is kept, or any deeper one.
+RuleWith area w rest tests (code.TestOnly n) at p es gs =
+    (test : Goals) × (holds : Goals) × (later : List Goal) × (q : Places) × (kept : Depth) × IsSettled p q × IsDeepest q kept × (es ≡ []) × (gs ≡ If test holds ∷ later)
+    × ((more : Depth) → (let d = deeper kept more in tests more (suc at) (put_level q n d) [] (tested d.branches d.branches test (listed holds ++ later))))
+-- And the other one takes that with the new choice point, which is there on the way of the test alone.
+RuleWith area w rest tests (code.EnterTest n m to) at p es gs =
+    (g : Goal) × (test : Goals) × (holds : List Goal) × (other : List Goal) × (later : List Goal) × (q : Places) × (kept : Depth) × IsSettled p q × IsDeepest q kept × (es ≡ []) × (gs ≡ g ∷ later) × HasTest g test holds other
+    × ((more : Depth) → (let d = deeper kept more in
+    tests more (suc at) (put_level (put_level q n d) m (one_deeper d)) [] (tested (suc d.branches) d.branches test (holds ++ later)) × tests more to (drop_level (put_level q n d) m) [] (other ++ later)))
+-- Depths above the slot's are given up.
+RuleWith area w rest tests (code.CutTo n) at p es gs =
+    (d : Depth) × (later : List Goal) × (q : Places) × (p.levels n ≡ Some d) × IsSettled p q × AreWithin q d × (es ≡ []) × (gs ≡ Cut (Some d.branches) ∷ later) × rest (suc at) q [] later
 -- choices and switches stand before a clause
-Rule area w rest _ at p es gs = ⊥
+RuleWith area w rest tests _ at p es gs = ⊥
+
+abbrev pub Rule : Area → Caller → Rest → Code → ℕ → Places → List Equation → List Goal → Type 0
+Rule area w rest i at p es gs = RuleWith area w rest (λ more. rest) i at p es gs
 
 -- ---- steps that no instruction takes
 
@@ -148,25 +187,30 @@ Quietly (suc m) G p es = Learns (Quietly m G) p es ⊎ Restates (Quietly m G) p 
 
 -- ---- all of a clause
 
--- with a bound on the steps up to the end of the clause
-abbrev pub Within : Area → Caller → ℕ → Rest
-Within area w zero at p es gs = ⊥
-Within area w (suc n) at p es gs =
-    ((i : Code) × Holds area at i × Rule area w (Within area w n) i at p es gs) ⊎ (Learns (λ q ds. Within area w n at q ds gs) p es ⊎ Restates (λ q ds. Within area w n at q ds gs) p es)
+-- a bound on the steps up to the end of the clause: behind a test it may depend on the depth
+pub data Steps : Type 0 where
+  no_steps : Steps
+  more_steps : Steps → (Depth → Steps) → Steps
+
+abbrev pub Within : Area → Caller → Steps → Rest
+Within area w no_steps at p es gs = ⊥
+Within area w (more_steps n f) at p es gs =
+    ((i : Code) × Holds area at i × RuleWith area w (Within area w n) (λ more. Within area w (f more)) i at p es gs) ⊎ (Learns (λ q ds. Within area w n at q ds gs) p es ⊎ Restates (λ q ds. Within area w n at q ds gs) p es)
 
 -- The place stands for these equations and goals, before the goals of the caller.
 abbrev pub Means : Area → Caller → Rest
-Means area w at p es gs = (n : ℕ) × Within area w n at p es gs
+Means area w at p es gs = (n : Steps) × Within area w n at p es gs
 
 -- a continuation: where to go on, with which slots, on which variables
 pub record Return : Type 0 where
   pub to : ℕ
   pub slots : ℕ → Option Term
+  pub levels : ℕ → Option Depth
   pub own : ℕ
 
 -- the registers and slots with which it goes on
 abbrev pub returned : Return → Places
-returned r = record { x = λ n. None; y = r.slots; known = λ v. true; own = r.own; top = 0 }
+returned r = record { x = λ n. None; y = r.slots; levels = r.levels; noted = None; known = λ v. true; own = r.own; top = 0 }
 
 -- The continuations, the newest first, stand for these goals.
 abbrev pub Continues : Area → List ℕ → List Return → List Goal → Type 0

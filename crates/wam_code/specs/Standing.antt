@@ -2,7 +2,7 @@
 use Rattle.std.specs.Prelude.{◌≡◌, ℕ}
 use Rattle.wam_code.specs.declared.instruction.Code.TheVariants as code
 use Rattle.wam_code.specs.declared.instruction.Instr.{Instr}
-use Rattle.wam_code.specs.declared.instruction.Instr.TheVariants.{GetVariable, GetValue, GetConstant, GetInteger, GetStructure, UnifyVariable, UnifyValue, UnifyConstant, UnifyInteger, UnifyVoid, PutVariable, PutValue, PutConstant, PutInteger, PutStructure, Allocate, Deallocate, Call, Execute, Proceed, Jump, FailNow, AnswerNow, TryMeElse, RetryMeElse, TrustMe, Try, Retry, Trust, SwitchOnTerm, SwitchOnConstant, SwitchOnInteger, SwitchOnStructure, Either, Builtin, Constrain, Label, PostRange}
+use Rattle.wam_code.specs.declared.instruction.Instr.TheVariants.{GetVariable, GetValue, GetConstant, GetInteger, GetStructure, UnifyVariable, UnifyValue, UnifyConstant, UnifyInteger, UnifyVoid, PutVariable, PutValue, PutConstant, PutInteger, PutStructure, Allocate, Deallocate, Call, Execute, Proceed, Jump, FailNow, AnswerNow, TryMeElse, RetryMeElse, TrustMe, Try, Retry, Trust, SwitchOnTerm, SwitchOnConstant, SwitchOnInteger, SwitchOnStructure, Either, Builtin, Constrain, Label, Best, PostRange, Level, TestOnly, EnterTest, CutTo}
 use Rattle.wam_code.specs.Area.{Area, Holds, table_at, range_at}
 
 abbrev pub StandsAt : Area → ℕ → Instr → Type 0
@@ -45,3 +45,8 @@ StandsAt area at (Builtin k) = Holds area at (code.Builtin k)
 StandsAt area at (Constrain k) = Holds area at (code.Constrain k)
 StandsAt area at (Label o) = Holds area at (code.Label o)
 StandsAt area at (PostRange c n) = (r : ℕ) × Holds area at (code.PostRange r n) × (c.now.value ≡ range_at area r)
+StandsAt area at (Best o least) = Holds area at (code.Best o least)
+StandsAt area at (Level n) = Holds area at (code.Level n)
+StandsAt area at (TestOnly n) = Holds area at (code.TestOnly n)
+StandsAt area at (EnterTest n m to) = Holds area at (code.EnterTest n m to)
+StandsAt area at (CutTo n) = Holds area at (code.CutTo n)

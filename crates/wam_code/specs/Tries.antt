@@ -1,7 +1,7 @@
 -- What a place before a clause stands for: clauses in text order, of which those may be left out whose first argument clashes with the goal's.
-use Rattle.std.specs.Prelude.{◌≡◌, ◌≢◌, ◌⊎◌, ℕ, zero, suc, ◌+◌, ◌<◌, ◌≤◌, ℤ, true, false, List, [], ◌∷◌, ◌++◌, map, length}
+use Rattle.std.specs.Prelude.{◌≡◌, ◌≢◌, ◌⊎◌, ℕ, zero, suc, ◌+◌, ◌<◌, ◌≤◌, ℤ, true, false, List, [], ◌∷◌, ◌++◌, map, length, Some}
 use Rattle.fd_language.specs.Term.{Name, Term, Terms, Var, Int, Atom, Comp, no_terms, term, apply_all, term_count}
-use Rattle.fd_model.specs.Goal.{Goal, Clause, Query, Program}
+use Rattle.fd_model.specs.Goal.{Goal, Clause, Query, Program, marked_all}
 use Rattle.fd_model.specs.Children.{paired, fits_head}
 use Rattle.fd_model.specs.Constraining.{arguments}
 use Rattle.fd_model.specs.Renaming.{rename_goal}
@@ -12,7 +12,7 @@ use Rattle.wam_code.specs.declared.instruction.Code.{Code}
 use Rattle.wam_code.specs.declared.instruction.Code.TheVariants.{Jump, FailNow, TryMeElse, RetryMeElse, TrustMe, Try, Retry, Trust, SwitchOnTerm, SwitchOnConstant, SwitchOnInteger, SwitchOnStructure}
 use Rattle.wam_code.specs.declared.parts.Entry.{Entry}
 use Rattle.wam_code.specs.Area.{Area, Span, Table, Holds, HasEntry, name_of, table_at}
-use Rattle.wam_code.specs.Places.{Places, Hold, made}
+use Rattle.wam_code.specs.Places.{Depth, no_depth, Places, Hold, made}
 use Rattle.wam_code.specs.Means.{Means}
 
 -- ---- what the first argument shows
@@ -67,10 +67,11 @@ pub record IsBefore (p : Places) (n variables : ℕ) : Type 0 where
   pub own : p.own ≡ n + variables
   pub top : p.top ≡ n + variables
 
--- From this place a clause's equations and goals follow, whatever the next fresh number, the arguments with variables below it, and the caller are.
+-- From this place a clause's equations and goals follow, whatever the next fresh number, the arguments with variables below it, the depth that was noted, which the cuts keep, and the caller are.
 abbrev pub IsClause : Area → ℕ → Clause → Type 0
-IsClause area at c = (n : ℕ) (as' : Terms) (after : List Goal) (shown : List ℕ) (p : Places) → term_count as' ≡ term_count (arguments c.head) → AllOf (λ v. v < n) as' → Hold p 1 as' → IsBefore p n c.variables
-    → Means area (record { goals = after; shown = shown }) at p (paired as' (apply_all (λ x. Var (n + x)) (arguments c.head))) (map (rename_goal (λ x. n + x)) c.body ++ after)
+IsClause area at c =
+    (n : ℕ) (as' : Terms) (d : Depth) (after : List Goal) (shown : List ℕ) (p : Places) → term_count as' ≡ term_count (arguments c.head) → AllOf (λ v. v < n) as' → Hold p 1 as' → p.noted ≡ Some d → IsBefore p n c.variables
+    → Means area (record { goals = after; shown = shown }) at p (paired as' (apply_all (λ x. Var (n + x)) (arguments c.head))) (marked_all d.branches (map (rename_goal (λ x. n + x)) c.body) ++ after)
 
 -- ---- choices and switches
 
@@ -127,11 +128,11 @@ Tries area s at cs = (n : ℕ) × TriesWithin area s n at cs
 abbrev pub IsPredicate : Area → Program → Entry → Type 0
 IsPredicate area prog e = (ts : Terms) (s : Shape) → term_count ts ≡ e.arity → (cs : List Clause) × Thinned s (made (name_of area e.name) ts) prog.clauses cs × Tries area s e.at cs
 
--- the query's names and goals follow, with none behind them
+-- The query's names and goals follow, with none behind them. Its cuts keep no other branch.
 pub record IsQueryCode (area : Area) (q : Query) (c : Span) : Type 0 where
   pub names : map (name_of area) c.names ≡ q.names
   pub shown : length q.names ≡ length q.shown
-  pub means : (p : Places) → IsBefore p 0 q.variables → Means area (record { goals = []; shown = q.shown }) c.at p [] q.goals
+  pub means : (p : Places) → p.noted ≡ Some no_depth → IsBefore p 0 q.variables → Means area (record { goals = []; shown = q.shown }) c.at p [] (marked_all 0 q.goals)
 
 abbrev pub AreQueries : Area → List Query → List Span → Type 0
 AreQueries area [] [] = Unit {0}

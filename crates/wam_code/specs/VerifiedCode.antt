@@ -6,7 +6,7 @@ use Rattle.term_pool.specs.declared.AtomId.{AtomId}
 use Rattle.wam_code.specs.declared.instruction.Key.{Key}
 use Rattle.wam_code.specs.declared.instruction.Key.TheVariants as key
 use Rattle.wam_code.specs.declared.instruction.Code.{Code}
-use Rattle.wam_code.specs.declared.instruction.Code.TheVariants.{GetConstant, GetStructure, UnifyConstant, PutConstant, PutStructure, Call, Execute, Proceed, Jump, FailNow, AnswerNow, TryMeElse, RetryMeElse, TrustMe, Try, Retry, Trust, SwitchOnTerm, SwitchOnConstant, SwitchOnInteger, SwitchOnStructure, Either, PostRange}
+use Rattle.wam_code.specs.declared.instruction.Code.TheVariants.{GetConstant, GetStructure, UnifyConstant, PutConstant, PutStructure, Call, Execute, Proceed, Jump, FailNow, AnswerNow, TryMeElse, RetryMeElse, TrustMe, Try, Retry, Trust, SwitchOnTerm, SwitchOnConstant, SwitchOnInteger, SwitchOnStructure, Either, PostRange, EnterTest}
 use Rattle.wam_code.specs.declared.parts.Entry.{Entry}
 use Rattle.wam_code.specs.Area.{State, Span, Table, Area, Holds, HasState, HasEntry, HasQuery, table_at, range_at}
 use Rattle.wam_code.specs.Effect.{slot_at, is_cell, effect}
@@ -25,6 +25,7 @@ named a (Try to) = to ∷ []
 named a (Retry to) = to ∷ []
 named a (Trust to) = to ∷ []
 named a (Either to) = to ∷ []
+named a (EnterTest n m to) = to ∷ []
 named a (SwitchOnTerm v c i s) = v ∷ c ∷ i ∷ s ∷ []
 named a (SwitchOnConstant t) = arms (table_at a t)
 named a (SwitchOnInteger t) = arms (table_at a t)

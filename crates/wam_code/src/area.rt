@@ -152,7 +152,12 @@ impl CodeArea {
             Code::Builtin(k) => Instr::Builtin(k),
             Code::Constrain(k) => Instr::Constrain(k),
             Code::Label(o) => Instr::Label(o),
+            Code::Best(o, least) => Instr::Best(o, least),
             Code::PostRange(r, n) => Instr::PostRange(self.range(r), n),
+            Code::Level(n) => Instr::Level(n),
+            Code::TestOnly(n) => Instr::TestOnly(n),
+            Code::EnterTest(n, m, to) => Instr::EnterTest(n, m, to),
+            Code::CutTo(n) => Instr::CutTo(n),
         }
     }
 }

@@ -126,9 +126,20 @@ pub enum Code {
     Constrain(ConstraintKind),
     /// A labelling of a list.
     Label(Order),
+    /// The best leaf of a labelling, by its list and its cost: whether the least is wanted.
+    Best(Order, bool),
     /// A range is posted. So many registers have the target and then the range's variables, by
     /// slots.
     PostRange(usize, usize),
+    /// The slot takes the number of choice points that the call of the predicate has noted.
+    Level(usize),
+    /// A test begins, and the slot takes the number of choice points.
+    TestOnly(usize),
+    /// A test begins. The first slot takes the number of choice points and the second one more;
+    /// then a choice point for the other way, at the place, is made.
+    EnterTest(usize, usize, usize),
+    /// The choice points above the slot's number are dropped.
+    CutTo(usize),
 }
 
 /// An instruction as a machine sees it: `Code` with the table and the range in the place of their
@@ -172,5 +183,10 @@ pub enum Instr<'c> {
     Builtin(BuiltinKind),
     Constrain(ConstraintKind),
     Label(Order),
+    Best(Order, bool),
     PostRange(&'c Rc<RangeCode>, usize),
+    Level(usize),
+    TestOnly(usize),
+    EnterTest(usize, usize, usize),
+    CutTo(usize),
 }

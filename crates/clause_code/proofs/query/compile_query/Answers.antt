@@ -1,7 +1,12 @@
-use Rattle.std.proofs.Common.{sym, subst}
+use Rattle.std.proofs.Common.{◌≡◌, ◌≤◌, ap, sym, subst, ◌∙◌, length, arith}
+use Rattle.clause_check.specs.Programs.{goals_in}
 use Rattle.clause_code.specs.Codable.{AreOnce}
+use Rattle.clause_code.specs.Fitting.{each_need, AreNeeds}
 use Rattle.clause_code.proofs.Asking.{query_known}
 use Rattle.clause_code.proofs.query.compile_query.Goals as goal
 
 pub frame_of-requires-clause-once : goal.frame_of-requires-clause-once
 frame_of-requires-clause-once c = subst AreOnce (sym c.shown.ensures) (query_known c.args.program.now c.known.ensures c.args.q c.requires.query).once
+
+pub most_needed-count-requires-clause-needs : goal.most_needed-count-requires-clause-needs
+most_needed-count-requires-clause-needs c = let k = c.requires.needs in subst (λ n. AreNeeds c.args.program.now n c.args.needs.now) (sym k.long) k

@@ -1,14 +1,17 @@
-use Rattle.std.proofs.Common.{◌+◌, ◌++◌, true, ap, sym, subst, length, ◌∙◌}
+use Rattle.std.proofs.Common.{◌+◌, ◌++◌, [], ◌∷◌, true, ap, sym, subst, length, ◌∙◌, append_assoc}
+use Rattle.wam_code.specs.declared.instruction.Code.TheVariants.{Allocate}
 use Rattle.fd_language.specs.Term.{no_terms}
 use Rattle.fd_model.specs.Sound.{EachBelow}
 use Rattle.term_pool.specs.Contents.{Contents}
 use Rattle.clause_check.specs.declared.program.Part.{Part}
-use Rattle.clause_check.specs.Programs.{goals_in, query_at}
-use Rattle.clause_code.specs.Bodies.{IsGoalsCode}
+use Rattle.clause_check.specs.Programs.{goals_in, query_at, query_in}
+use Rattle.clause_code.specs.Bodies.{Levels, AreFree, IsGoalsCode}
 use Rattle.clause_code.specs.Codable.{EachCodable}
+use Rattle.clause_code.specs.Fitting.{EachFits, each_need}
 use Rattle.clause_code.specs.Predicates.{Appends, base_in}
-use Rattle.clause_code.specs.Whole.{head_code}
-use Rattle.clause_code.proofs.Asking.{query_known, frame_slots, query_written}
+use Rattle.clause_code.specs.Whole.{head_code, levels_behind, levels_code}
+use Rattle.clause_code.proofs.Asking.{query_known, frame_slots, frame_free, query_written}
+use Rattle.clause_code.proofs.Fitting.{behind_fits}
 use Rattle.clause_code.proofs.query.write_query.Goals as goal
 
 pub write_goals-requires-clause-below : goal.write_goals-requires-clause-below
@@ -24,18 +27,38 @@ write_goals-requires-clause-codable c =
     subst (λ (a : Part). EachCodable (goals_in p a)) (sym c.goals_of-goals.ensures.goals) k.codable
 
 pub write_goals-requires-clause-homes : goal.write_goals-requires-clause-homes
-write_goals-requires-clause-homes c = let p = c.args.program.now in frame_slots (query_at p c.args.q).variables (query_at p c.args.q).shown c.args.homes.now c.args.slots c.requires.frame
+write_goals-requires-clause-homes c = let p = c.args.program.now in frame_slots (query_at p c.args.q).variables (query_at p c.args.q).shown c.args.homes.now c.args.given c.requires.frame
+
+pub write_goals-requires-clause-fits : goal.write_goals-requires-clause-fits
+write_goals-requires-clause-fits c =
+    let p = c.args.program.now in
+    let gs = (query_in p (query_at p c.args.q)).goals in
+    subst (λ (a : Part). EachFits c.args.levels (goals_in p a)) (sym c.goals_of-goals.ensures.goals) (subst (λ (l : Levels). EachFits l gs) (sym c.requires.levels) (behind_fits c.args.given gs))
+
+pub write_goals-requires-clause-free : goal.write_goals-requires-clause-free
+write_goals-requires-clause-free c =
+    let p = c.args.program.now in
+    let n = each_need (query_in p (query_at p c.args.q)).goals in
+    subst (AreFree c.args.homes.now) (sym c.requires.levels) (frame_free (query_at p c.args.q).variables (query_at p c.args.q).shown c.args.homes.now c.args.given n c.requires.frame)
 
 pub returns : goal.returns
 returns c =
     let p = c.args.program.now in
     let ps = c.args.predicates.now in
     let homes = c.args.homes.now in
-    let head = c.read_arguments.new.code.items in
+    let n = each_need (query_in p (query_at p c.args.q)).goals in
+    let one = c.push.new.self.items in
+    let read = c.read_arguments.new.code.items in
+    let head = c.write_levels.new.code.items in
     let goals = c.write_goals.new.code.items in
     let h = c.in_ok-read_arguments.ensures in
     let g = c.in_ok-write_goals.ensures in
-    query_written p ps homes c.args.slots c.args.q c.args.start c.args.code.now.items c.push.new.self.items head goals c.push-2.new.self.items c.requires.frame (query_known p c.known.ensures c.args.q c.requires.query) c.in_ok-push.ensures.items
-    (h.code ∙ ap (λ (q : Contents). c.push.new.self.items ++ head_code q homes 1 no_terms) c.pool-pool.ensures)
-    (subst (λ (gs : Part). Appends head goals (λ js. IsGoalsCode (base_in p ps) homes true (c.args.start + length head) js (goals_in p gs))) c.goals_of-goals.ensures.goals g.code)
+    query_written p ps homes c.args.given n c.args.q c.args.start c.args.code.now.items one head goals c.push-2.new.self.items c.requires.frame (query_known p c.known.ensures c.args.q c.requires.query)
+    (c.in_ok-push.ensures.items ∙ ap (λ k. c.args.code.now.items ++ (Allocate k ∷ [])) c.requires.slots)
+    (c.in_ok-write_levels.ensures
+    ∙ ap (λ is. is ++ levels_code c.args.levels) (h.code ∙ ap (λ (q : Contents). one ++ head_code q homes 1 no_terms) c.pool-pool.ensures)
+    ∙ append_assoc one (head_code p.pool homes 1 no_terms) (levels_code c.args.levels)
+    ∙ ap (λ (l : Levels). one ++ (head_code p.pool homes 1 no_terms ++ levels_code l)) c.requires.levels)
+    (subst (λ (l : Levels). Appends head goals (λ js. IsGoalsCode (base_in p ps) homes true l (c.args.start + length head) js (query_in p (query_at p c.args.q)).goals)) c.requires.levels
+    (subst (λ (gs : Part). Appends head goals (λ js. IsGoalsCode (base_in p ps) homes true c.args.levels (c.args.start + length head) js (goals_in p gs))) c.goals_of-goals.ensures.goals g.code))
     c.in_ok-push-2.ensures.items

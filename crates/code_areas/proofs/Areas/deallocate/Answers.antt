@@ -13,7 +13,7 @@ invariant_of-self c =
     let a = c.self.inside in
     let e = c.truncate.ensures.items in
     let b = c.self.invariant.0.base_in in
-    slots_hold a.cells.items a.first a.slots.items a.base a.frames.items a.newest (reverse a.marks.items) c.self.invariant c.truncate.new.self.items
+    slots_hold a.noted a.cells.items a.first a.slots.items a.base a.frames.items a.newest (reverse a.marks.items) c.self.invariant c.truncate.new.self.items
     (sym (ap (take a.base) e ∙ take-take a.base a.base a.slots.items (omega arith)))
     (let k = ap length e in omega (arith, b, k, length-take a.base a.slots.items))
 
@@ -22,8 +22,8 @@ returns c =
     let a = c.self.inside in
     let e = c.truncate.ensures.items in
     let b = c.self.invariant.0.base_in in
-    slots_seen a.cells.items a.first a.slots.items a.base a.frames.items a.newest (reverse a.marks.items) c.self.invariant c.truncate.new.self.items
+    slots_seen a.noted a.cells.items a.first a.slots.items a.base a.frames.items a.newest (reverse a.marks.items) c.self.invariant c.truncate.new.self.items
     (sym (ap (take a.base) e ∙ take-take a.base a.base a.slots.items (omega arith)))
     (let k = ap length e in omega (arith, b, k, length-take a.base a.slots.items))
-    ∙ ap (λ x. record (contents_of a.cells.items a.first a.slots.items a.base a.frames.items a.newest a.marks.items) { slots = x }) (ap (drop a.base) e ∙ cut_none a.base a.slots.items)
+    ∙ ap (λ x. record (contents_of a.noted a.cells.items a.first a.slots.items a.base a.frames.items a.newest a.marks.items) { slots = x }) (ap (drop a.base) e ∙ cut_none a.base a.slots.items)
     ∙ ap (λ (k : Contents). record k { slots = [] }) c.self.view_is

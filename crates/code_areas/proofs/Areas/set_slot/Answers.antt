@@ -9,7 +9,7 @@ pub invariant_of-self : goal.invariant_of-self
 invariant_of-self c =
     let a = c.self.inside in
     let new = slice_set a.slots.items (a.base + c.args.n) c.place_of.result in
-    slots_hold a.cells.items a.first a.slots.items a.base a.frames.items a.newest (reverse a.marks.items) c.self.invariant new
+    slots_hold a.noted a.cells.items a.first a.slots.items a.base a.frames.items a.newest (reverse a.marks.items) c.self.invariant new
     (sym (take-set-le a.base a.slots.items (a.base + c.args.n) c.place_of.result (omega arith)))
     (let l = c.self.invariant.0.base_in in omega (arith, l, length-set a.slots.items (a.base + c.args.n) c.place_of.result))
 
@@ -17,9 +17,9 @@ pub returns : goal.returns
 returns c =
     let a = c.self.inside in
     let new = slice_set a.slots.items (a.base + c.args.n) c.place_of.result in
-    slots_seen a.cells.items a.first a.slots.items a.base a.frames.items a.newest (reverse a.marks.items) c.self.invariant new
+    slots_seen a.noted a.cells.items a.first a.slots.items a.base a.frames.items a.newest (reverse a.marks.items) c.self.invariant new
     (sym (take-set-le a.base a.slots.items (a.base + c.args.n) c.place_of.result (omega arith)))
     (let l = c.self.invariant.0.base_in in omega (arith, l, length-set a.slots.items (a.base + c.args.n) c.place_of.result))
-    ∙ ap (λ x. record (contents_of a.cells.items a.first a.slots.items a.base a.frames.items a.newest a.marks.items) { slots = x }) (drop-set-add a.base a.slots.items c.args.n c.place_of.result)
+    ∙ ap (λ x. record (contents_of a.noted a.cells.items a.first a.slots.items a.base a.frames.items a.newest a.marks.items) { slots = x }) (drop-set-add a.base a.slots.items c.args.n c.place_of.result)
     ∙ ap (λ (k : Contents). record k { slots = slice_set k.slots c.args.n c.place_of.result }) c.self.view_is
     ∙ ap (λ v. record c.args.self.now { slots = slice_set c.args.self.now.slots c.args.n v }) c.place_of.ensures
